@@ -1,0 +1,4 @@
+pub mod Told
+pub mod Parted
+pub mod SegmentLemmas
+pub mod StreamLemmas

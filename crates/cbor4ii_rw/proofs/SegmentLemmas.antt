@@ -1,0 +1,43 @@
+-- What a reader over segments shows of its current one.
+use Rattle.std.proofs.Common.{rules, arith, ◌≡◌, ℕ, ◌+◌, ◌<◌, ◌≤◌, min, List, [], ◌∷◌, ◌++◌, length, take, nat_lt, true, refl, ap, ◌∙◌, length-append, length-take-le}
+use Rattle.std.proofs.lemmas.List.{take-append-le}
+use Rattle.std.proofs.lemmas.Bool.{ltb-true}
+use Rattle.std.specs.Prelude.{IsTrue}
+use Rattle.std.specs.Borrow.{Bor}
+use Rattle.cbor4ii_rw.specs.Reader.{IsFront, IsEnough}
+use Rattle.cbor4ii_rw.specs.Segments.{joined, full, full_count}
+
+nothing_left : (current others : List ℕ) → length current ≡ 0 → others ≡ [] → current ++ others ≡ []
+nothing_left [] others none end = end
+nothing_left (byte ∷ bytes) others none end = absurd (search (none, rules))
+
+pub shown_length : (want n : ℕ) (current : List ℕ) → n ≡ min want (length current) → length (take n current) ≡ n
+shown_length want n current is = length-take-le n current (omega (arith, is))
+
+pub front_of_current : (want n : ℕ) (current others : List ℕ) → n ≡ min want (length current) → (length current ≡ 0 → current ++ others ≡ [])
+    → IsFront want (take n current) (current ++ others)
+front_of_current want n current others is end = record {
+  begins = ap (λ k. take k (current ++ others)) long ∙ take-append-le n current others (omega (arith, is));
+  within = omega (arith, is, long, length-append current others);
+  ends = λ wanted none. let empty : length current ≡ 0 = omega (arith, is, long) in end empty;
+}
+  where
+    long : length (take n current) ≡ n
+    long = shown_length want n current is
+
+full_zero : (bytes : List ℕ) → full bytes ≡ 0 → bytes ≡ []
+full_zero [] none = refl
+full_zero (byte ∷ bytes) none = absurd (search (none, rules))
+
+none_full : (others : List (Bor (List ℕ))) → full_count others ≡ 0 → joined others ≡ []
+none_full [] none = refl
+none_full (segment ∷ others) none = nothing_left segment.now (joined others) (ap length (full_zero segment.now (omega arith))) (none_full others (omega arith))
+
+last_full : (current : List ℕ) (others : List (Bor (List ℕ))) → (length current ≡ 0 → current ++ joined others ≡ []) → full current + full_count others < 2 → joined others ≡ []
+last_full [] others end one = end refl
+last_full (byte ∷ bytes) others end one = none_full others (omega arith)
+
+pub current_is_enough : (want n : ℕ) (current : List ℕ) (others : List (Bor (List ℕ))) → n ≡ min want (length current) → (length current ≡ 0 → current ++ joined others ≡ [])
+    → IsTrue (nat_lt (full current + full_count others) 2) → IsEnough want (take n current) (current ++ joined others)
+current_is_enough want n current others is end one =
+    omega (arith, is, shown_length want n current is, length-append current (joined others), ap length (last_full current others end (ltb-true (full current + full_count others) 2 one)))

@@ -1,0 +1,34 @@
+use Rattle.std.proofs.Common.{arith, ◌≡◌, Some, length, drop, take, nat_lt, refl, sym, ap, subst}
+use Rattle.std.specs.Prelude.{IsTrue}
+use Rattle.cbor4ii_rw.specs.Segments.{joined, rest_of, full_of}
+use Rattle.cbor4ii_rw.specs.Reader.{IsFront, IsEnough}
+use Rattle.cbor4ii_rw.proofs.Told.{told_some}
+use Rattle.cbor4ii_rw.proofs.SegmentLemmas.{front_of_current, current_is_enough, shown_length}
+use Rattle.cbor4ii_rw.proofs.segment_reader.SegmentReaderRead.fill.Goals as goal
+
+pub returns : goal.returns
+returns c =
+    let want = c.args.want in let n = c.min-shown.result in let reader = c.pass_empty.new.self in
+    let current = reader.current.now in let others = drop reader.next reader.segments.now in
+    let shown = take n current in
+    let kept = c.pass_empty.ensures.bytes in
+    let front = subst (λ rest. IsFront want shown rest) kept (front_of_current want n current (joined others) c.min-shown.ensures c.pass_empty.ensures.end) in
+    let long = shown_length want n current c.min-shown.ensures in
+    let one_left : IsTrue (nat_lt (full_of c.args.self.now) 2) → IsTrue (nat_lt (full_of reader) 2) = λ one. subst (λ k. IsTrue (nat_lt k 2)) (sym c.pass_empty.ensures.count) one in
+    let enough : IsTrue (nat_lt (full_of c.args.self.now) 2) → IsEnough want shown (rest_of c.args.self.now) = λ one.
+    subst (λ rest. IsEnough want shown rest) kept (current_is_enough want n current others c.min-shown.ensures c.pass_empty.ensures.end (one_left one)) in (
+      (
+        refl,
+        λ _. tt,
+        record {
+          told = λ xs is. subst (λ rest. Some rest ≡ Some xs) (sym kept) is;
+          bound = omega (arith, ap length kept);
+          advanceable = omega (arith, long, c.min-shown.ensures);
+          budget = ap Some c.pass_empty.ensures.steps;
+          failures = refl;
+          taken = refl;
+          lends_whole = one_left;
+        },
+      ),
+      record { front = told_some (IsFront want shown) _ front; bounded = front.within; enough = λ one. told_some (IsEnough want shown) _ (enough one); long = λ one. tt; after_borrow = tt },
+    )

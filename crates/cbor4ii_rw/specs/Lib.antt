@@ -1,0 +1,10 @@
+-- What a lawful reader and a lawful writer are, and what each of this crate's tells.
+pub mod View
+pub mod Reader
+pub mod Reference
+pub mod Parted
+pub mod Slice
+pub mod Segments
+pub mod Stream
+pub mod Writer
+pub mod Written

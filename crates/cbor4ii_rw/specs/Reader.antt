@@ -1,0 +1,85 @@
+-- What a lawful reader does: how its view moves in each call.
+use Rattle.std.specs.Prelude.{◌≡◌, ℕ, ◌+◌, ◌-◌, ◌^◌, ◌<◌, ◌≤◌, ◌⊎◌, Bool, true, false, nat_lt, if◌then◌else◌, min, List, [], length, drop, None, Some, Option, IsTrue}
+use Rattle.std.specs.Io.{StartsWith}
+use Rattle.cbor4ii_rw.specs.View.{View, Told}
+
+-- the count of failures rose, or stands at its greatest
+abbrev pub Failed : ℕ → ℕ → Type 0
+Failed old new = (old < new) ⊎ (new ≡ 2 ^ 64 - 1)
+
+-- told bytes stay told, and as they were
+abbrev pub Keeps : Option (List ℕ) → Option (List ℕ) → Type 0
+Keeps old new = Told old (λ xs. new ≡ Some xs)
+
+-- told bytes may be told no more; where they are, they stay as they were
+abbrev pub KeepsOrForgets : Option (List ℕ) → Option (List ℕ) → Type 0
+KeepsOrForgets old new = Told old (λ xs. Told new (λ ys. ys ≡ xs))
+
+-- told bytes lose their first n
+abbrev pub Drops : ℕ → Option (List ℕ) → Option (List ℕ) → Type 0
+Drops n old new = Told old (λ xs. new ≡ Some (drop n xs))
+
+-- n more bytes are taken, where they are counted
+abbrev pub counts : ℕ → Option ℕ → Option ℕ
+counts n None = None
+counts n (Some taken) = Some (taken + n)
+
+-- the shown bytes are a front of the bytes xs, empty only where no byte is left or none is wanted
+pub record IsFront (want : ℕ) (shown xs : List ℕ) : Type 0 where
+  pub begins : StartsWith xs shown
+  pub within : length shown ≤ length xs
+  pub ends : 0 < want → length shown ≡ 0 → xs ≡ []
+
+-- as many bytes as are wanted, or all that are left
+abbrev pub IsEnough : ℕ → List ℕ → List ℕ → Type 0
+IsEnough want shown xs = min want (length xs) ≤ length shown
+
+-- What a front that was shown leaves: no byte is taken, and what is shown may be advanced.
+pub record Shows (shown : List ℕ) (old new : View) : Type 0 where
+  pub told : Keeps old.told new.told
+  pub bound : new.bound ≤ old.bound
+  pub advanceable : length shown ≤ new.advanceable
+  pub budget : new.budget ≡ old.budget
+  pub failures : new.failures ≡ old.failures
+  pub taken : new.taken ≡ old.taken
+  pub lends_whole : IsTrue old.lends_whole → IsTrue new.lends_whole
+
+-- What a reader that failed leaves: no byte is taken, but bytes may be told no more.
+pub record Breaks (old new : View) : Type 0 where
+  pub told : KeepsOrForgets old.told new.told
+  pub bound : new.bound ≤ old.bound
+  pub budget : new.budget ≡ old.budget
+  pub failures : Failed old.failures new.failures
+  pub taken : new.taken ≡ old.taken
+  pub lends_whole : IsTrue old.lends_whole → IsTrue new.lends_whole
+
+-- n bytes are taken, and nothing else moves
+pub record Advances (n : ℕ) (old new : View) : Type 0 where
+  pub told : Drops n old.told new.told
+  pub bound : new.bound + n ≤ old.bound
+  pub advanceable : old.advanceable ≤ new.advanceable + n
+  pub budget : new.budget ≡ old.budget
+  pub failures : new.failures ≡ old.failures
+  pub taken : new.taken ≡ counts n old.taken
+  pub lends_whole : IsTrue old.lends_whole → IsTrue new.lends_whole
+
+-- nothing moves but the budget
+pub record KeepsAllButBudget (old new : View) : Type 0 where
+  pub told : new.told ≡ old.told
+  pub bound : new.bound ≡ old.bound
+  pub advanceable : new.advanceable ≡ old.advanceable
+  pub failures : new.failures ≡ old.failures
+  pub taken : new.taken ≡ old.taken
+  pub lends_whole : new.lends_whole ≡ old.lends_whole
+
+-- one step is taken, or none is left; without a budget there is always one
+abbrev pub StepsIn : Option ℕ → Option ℕ → Bool → Type 0
+StepsIn None new true = new ≡ None
+StepsIn None new false = ⊥
+StepsIn (Some left) new true = (0 < left) × (left < 2 ^ 64) × (new ≡ Some (left - 1))
+StepsIn (Some left) new false = (left ≡ 0) × (new ≡ Some 0)
+
+-- one step more, up to usize's greatest number
+abbrev pub step_back : Option ℕ → Option ℕ
+step_back None = None
+step_back (Some left) = Some (if nat_lt left (2 ^ 64 - 1) then left + 1 else left)

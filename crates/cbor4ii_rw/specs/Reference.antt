@@ -1,0 +1,14 @@
+-- What a fill lends.
+use Rattle.std.specs.Prelude.{ℕ, List, ⊤}
+use Rattle.cbor4ii_rw.specs.declared.read.Reference.{Reference}
+use Rattle.cbor4ii_rw.specs.declared.read.Reference.TheVariants.{Long, Short}
+
+-- the bytes behind a reference
+abbrev pub bytes_of : Reference → List ℕ
+bytes_of (Long bytes) = bytes.now
+bytes_of (Short bytes) = bytes.now
+
+-- it lives as long as the reader's input
+abbrev pub IsLong : Reference → Type 0
+IsLong (Long bytes) = ⊤
+IsLong (Short bytes) = ⊥

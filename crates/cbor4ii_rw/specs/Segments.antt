@@ -1,0 +1,32 @@
+-- Borrowed segments, one after another.
+use Rattle.std.specs.Prelude.{ℕ, ◌+◌, List, [], ◌∷◌, ◌++◌, drop, length, None, Some, nat_lt}
+use Rattle.std.specs.Borrow.{Bor}
+use Rattle.cbor4ii_rw.specs.View.{View}
+use Rattle.cbor4ii_rw.specs.declared.segment_reader.SegmentReader.{SegmentReader}
+
+-- the segments' bytes
+abbrev pub joined : List (Bor (List ℕ)) → List ℕ
+joined [] = []
+joined (segment ∷ others) = segment.now ++ joined others
+
+-- 1 for a segment that has bytes
+abbrev pub full : List ℕ → ℕ
+full [] = 0
+full (byte ∷ bytes) = 1
+
+-- how many segments have bytes
+abbrev pub full_count : List (Bor (List ℕ)) → ℕ
+full_count [] = 0
+full_count (segment ∷ others) = full segment.now + full_count others
+
+-- the bytes that a reader has left
+abbrev pub rest_of : SegmentReader → List ℕ
+rest_of reader = reader.current.now ++ joined (drop reader.next reader.segments.now)
+
+-- how many of its segments still have bytes
+abbrev pub full_of : SegmentReader → ℕ
+full_of reader = full reader.current.now + full_count (drop reader.next reader.segments.now)
+
+-- it tells all its bytes and never fails; it lends whole where at most one segment still has bytes
+abbrev pub segment_view : SegmentReader → View
+segment_view reader = record { told = Some (rest_of reader); bound = length (rest_of reader); advanceable = length reader.current.now; budget = Some reader.steps; failures = 0; taken = None; lends_whole = nat_lt (full_of reader) 2 }

@@ -1,0 +1,14 @@
+-- What a lawful writer does: how what it holds moves in a push.
+use Rattle.std.specs.Prelude.{◌≡◌, ℕ, List, ◌++◌, Option, Some}
+use Rattle.cbor4ii_rw.specs.View.{Told}
+
+-- What a writer tells of itself as it stands, for contracts alone.
+pub record Output : Type 0 where
+  -- the bytes that were written, where the writer tells them
+  pub written : Option (List ℕ)
+  -- how often the writer failed; the count stands still at u64's greatest number
+  pub failures : ℕ
+
+-- told bytes stay told, and have these behind them
+abbrev pub Appends : List ℕ → Option (List ℕ) → Option (List ℕ) → Type 0
+Appends bytes old new = Told old (λ xs. new ≡ Some (xs ++ bytes))

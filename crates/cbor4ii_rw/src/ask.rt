@@ -1,0 +1,94 @@
+//! How generic code asks a reader.
+//!
+//! `Source::show` and `Read::fill` lend, and their error may be of any type, so a caller that is
+//! generic over the reader would learn nothing of the reader afterwards. Here the error goes
+//! through a reference of its own, and the caller learns all that the reader keeps.
+ghost use Rattle.std.specs.Prelude.{
+  ◌≡◌,
+  ◌≤◌,
+  length,
+  IsTrue,
+  IfSome,
+  IfNone,
+  OnSome,
+  IsSome,
+  MatchOption,
+};
+ghost use Rattle.std.specs.Borrow.{sem};
+ghost use Rattle.std.specs.Io.BufRead.{Rests};
+ghost use Rattle.cbor4ii_rw.specs.View.{Told};
+ghost use Rattle.cbor4ii_rw.specs.Reader.{IsFront, IsEnough, Shows, Breaks};
+ghost use Rattle.cbor4ii_rw.specs.Reference.{bytes_of, IsLong};
+ghost use Rattle.cbor4ii_rw.specs.Parted.{Parts};
+
+use crate::read::{Read, Reference, Source};
+
+/// A front of what `reader` has left, as `Source::show` shows it. Where the reader fails, none,
+/// and the error goes to `failure`, which is left alone otherwise.
+pub fn look<'s, S: Source>(
+    reader: &'s mut S,
+    want: usize,
+    failure: &mut Option<S::Error>,
+) -> Option<&'s [u8]>
+    ensures front { IfSome result
+        (λ shown. Told (S.view reader.old).told (IsFront want shown.now)) }
+    ensures bounded { IfSome result (λ shown. length shown.now ≤ (S.view reader.old).bound) }
+    ensures enough { IsTrue (S.view reader.old).lends_whole →
+        IfSome result (λ shown. Told (S.view reader.old).told (IsEnough want shown.now)) }
+    ensures shown { OnSome result (failure.new ≡ failure.old) }
+    ensures failed { IfNone result (IsSome failure.new) }
+    ensures* after_borrow { sem 𝓛 (Rests S.row reader.entry (λ new. MatchOption result
+        (Breaks (S.view reader.old) (S.view new))
+        (λ shown. Shows shown.now (S.view reader.old) (S.view new)))) }
+{
+    part_shown(reader.show(want), failure)
+}
+
+/// A front of what `reader` has left, as `Read::fill` lends it. Where the reader fails, none,
+/// and the error goes to `failure`, which is left alone otherwise.
+pub fn lend<'de, 's, R: Read<'de>>(
+    reader: &'s mut R,
+    want: usize,
+    failure: &mut Option<R::Error>,
+) -> Option<Reference<'de, 's>>
+    ensures front { IfSome result
+        (λ shown. Told (R.view reader.old).told (IsFront want (bytes_of shown))) }
+    ensures bounded { IfSome result (λ shown. length (bytes_of shown) ≤ (R.view reader.old).bound) }
+    ensures enough { IsTrue (R.view reader.old).lends_whole →
+        IfSome result (λ shown. Told (R.view reader.old).told (IsEnough want (bytes_of shown))) }
+    ensures long { IsTrue (R.view reader.old).lends_whole → IfSome result IsLong }
+    ensures shown { OnSome result (failure.new ≡ failure.old) }
+    ensures failed { IfNone result (IsSome failure.new) }
+    ensures* after_borrow { sem 𝓛 (Rests R.row reader.entry (λ new. MatchOption result
+        (Breaks (R.view reader.old) (R.view new))
+        (λ shown. Shows (bytes_of shown) (R.view reader.old) (R.view new)))) }
+{
+    part_lent(reader.fill(want), failure)
+}
+
+fn part_shown<'s, E: Drop>(shown: Result<&'s [u8], E>, failure: &mut Option<E>) -> Option<&'s [u8]>
+    ensures { Parts shown.entry failure.old failure.new result }
+{
+    match shown {
+        Ok(bytes) => Some(bytes),
+        Err(error) => {
+            *failure = Some(error);
+            None
+        }
+    }
+}
+
+fn part_lent<'de, 's, E: Drop>(
+    lent: Result<Reference<'de, 's>, E>,
+    failure: &mut Option<E>,
+) -> Option<Reference<'de, 's>>
+    ensures { Parts lent.entry failure.old failure.new result }
+{
+    match lent {
+        Ok(reference) => Some(reference),
+        Err(error) => {
+            *failure = Some(error);
+            None
+        }
+    }
+}

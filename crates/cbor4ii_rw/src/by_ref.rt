@@ -1,0 +1,49 @@
+//! A reader or writer behind a `&mut` is one too.
+use crate::read::{Read, Reference, Source};
+use crate::write::Write;
+
+impl<S: Source> Source for &mut S {
+    type Error = S::Error;
+
+    ghost view = { λ reader. S.view reader.now };
+
+    fn show(&mut self, want: usize) -> Result<&[u8], S::Error> {
+        Source::show(&mut **self, want)
+    }
+
+    fn advance(&mut self, n: usize) {
+        Source::advance(&mut **self, n)
+    }
+
+    fn step_in(&mut self) -> bool {
+        Source::step_in(&mut **self)
+    }
+
+    fn step_out(&mut self) {
+        Source::step_out(&mut **self)
+    }
+
+    ghost told_within_bound = { λ reader. S.told_within_bound reader.now };
+}
+
+impl<'de, R: Read<'de>> Read<'de> for &mut R {
+    fn fill<'short>(&'short mut self, want: usize) -> Result<Reference<'de, 'short>, R::Error> {
+        Read::fill(&mut **self, want)
+    }
+}
+
+impl<W: Write> Write for &mut W {
+    type Error = W::Error;
+
+    ghost whole = { W.whole };
+
+    ghost view = { λ writer. W.view writer.now };
+
+    fn is_whole() -> bool {
+        W::is_whole()
+    }
+
+    fn push(&mut self, input: &[u8]) -> Result<(), W::Error> {
+        Write::push(&mut **self, input)
+    }
+}

@@ -1,0 +1,166 @@
+//! Why a value was not read or written.
+ghost use Rattle.std.specs.Prelude.{◌≡◌, ◌<◌, ◌≤◌};
+ghost use Rattle.cbor4ii_rw.specs.declared.error.DecodeError.TheVariants.{Read};
+ghost use Rattle.cbor4ii_rw.specs.declared.error.EncodeError.TheVariants.{Write};
+
+/// Why a vector could not grow.
+pub use std::collections::TryReserveError;
+/// The error of a reader that never fails.
+pub use std::convert::Infallible as Never;
+use std::error::Error;
+use std::fmt;
+
+/// The name of what was read, in a refusal.
+pub type StaticStr = &'static str;
+
+/// A number of bytes, items or pairs, in a refusal.
+#[derive(Clone, Copy, Debug, PartialEq, Eq)]
+pub enum Len {
+    /// An indefinite length (RFC 8949 section 3.2).
+    Indefinite,
+    /// The number itself.
+    Small(u16),
+    /// A number above 65535.
+    Big,
+}
+
+impl Len {
+    /// `n`, as a refusal tells it: exactly up to 65535, and `Big` above.
+    pub fn new(n: usize) -> Len
+        ensures small { n < 65536 → result ≡ Len.Small n }
+        ensures big { 65536 ≤ n → result ≡ Len.Big }
+    {
+        match u16::try_from(n) {
+            Ok(small) => Len::Small(small),
+            Err(_) => Len::Big,
+        }
+    }
+}
+
+/// How a computation left its range.
+#[derive(Clone, Copy, Debug, PartialEq, Eq)]
+pub enum ArithmeticOverflow {
+    /// It was too great.
+    Overflow,
+    /// It was too small.
+    Underflow,
+}
+
+/// Why a value was not read. `name` says of what: of a type, or of a part of its encoding.
+#[derive(Debug, Drop)]
+pub enum DecodeError<E> {
+    /// The reader failed.
+    Read(E),
+    /// The byte `found` begins something else.
+    Mismatch {
+        /// What was read.
+        name: StaticStr,
+        /// The byte, or the number of a tag.
+        found: u8,
+    },
+    /// The byte `found` begins nothing that is read.
+    Unsupported {
+        /// What was read.
+        name: StaticStr,
+        /// The byte.
+        found: u8,
+    },
+    /// The input ends too early.
+    Eof {
+        /// What was read.
+        name: StaticStr,
+        /// How many bytes were expected, or how many are missing.
+        expect: Len,
+    },
+    /// The length is not one that is read.
+    RequireLength {
+        /// What was read.
+        name: StaticStr,
+        /// The length.
+        found: Len,
+    },
+    /// The reader does not lend the bytes as long as the input lives.
+    RequireBorrowed {
+        /// What was read.
+        name: StaticStr,
+    },
+    /// A text is not UTF-8.
+    RequireUtf8 {
+        /// What was read.
+        name: StaticStr,
+    },
+    /// The length is too great.
+    LengthOverflow {
+        /// What was read.
+        name: StaticStr,
+        /// The length.
+        found: Len,
+    },
+    /// The number does not fit its type.
+    CastOverflow {
+        /// What was read.
+        name: StaticStr,
+    },
+    /// A computation left its range. This codec never answers it.
+    ArithmeticOverflow {
+        /// What was read.
+        name: StaticStr,
+        /// How.
+        ty: ArithmeticOverflow,
+    },
+    /// No step of the reader's budget is left for an item that nests.
+    DepthOverflow {
+        /// What was read.
+        name: StaticStr,
+    },
+    /// For decoders of a user's own. This codec never answers it.
+    Custom {
+        /// What was read.
+        name: StaticStr,
+        /// Whatever the user means by it.
+        num: u32,
+    },
+    /// There was no memory for the value.
+    OutOfMemory,
+}
+
+/// Why a value was not written.
+#[derive(Debug, Drop)]
+pub enum EncodeError<E> {
+    /// The writer failed.
+    Write(E),
+}
+
+impl<E> From<E> for DecodeError<E> {
+    ghost from_gives = { λ error result. result ≡ Read error };
+
+    fn from(error: E) -> DecodeError<E> {
+        DecodeError::Read(error)
+    }
+}
+
+impl<E> From<E> for EncodeError<E> {
+    ghost from_gives = { λ error result. result ≡ Write error };
+
+    fn from(error: E) -> EncodeError<E> {
+        EncodeError::Write(error)
+    }
+}
+
+/// The text of `Debug`.
+impl<E: fmt::Debug> fmt::Display for DecodeError<E> {
+    fn fmt<W: fmt::Write>(&self, f: &mut fmt::Formatter<W>) -> fmt::Result {
+        fmt::Debug::fmt(self, f)
+    }
+}
+
+/// The text of `Debug`.
+impl<E: fmt::Debug> fmt::Display for EncodeError<E> {
+    fn fmt<W: fmt::Write>(&self, f: &mut fmt::Formatter<W>) -> fmt::Result {
+        fmt::Debug::fmt(self, f)
+    }
+}
+
+impl<E: fmt::Debug + Drop> Error for DecodeError<E> {}
+
+impl<E: fmt::Debug + Drop> Error for EncodeError<E> {}

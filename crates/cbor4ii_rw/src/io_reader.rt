@@ -1,0 +1,212 @@
+//! A reader over a stream.
+ghost use Rattle.std.specs.Prelude.{◌≡◌, ◌+◌, ◌-◌, ◌≤◌, [], length, Some, IfSome, IfOk, IsOk, MatchResult};
+ghost use Rattle.std.specs.Borrow.{sem};
+ghost use Rattle.std.specs.Io.{StartsWith};
+ghost use Rattle.std.specs.Io.BufRead.{Rests, FillKeeps};
+ghost use Rattle.cbor4ii_rw.specs.contracts.io_reader.IoReader.{the_row};
+ghost use Rattle.cbor4ii_rw.specs.View.{Told};
+ghost use Rattle.cbor4ii_rw.specs.Reader.{Keeps, IsFront, Shows, Breaks};
+ghost use Rattle.cbor4ii_rw.specs.Stream.{
+  most_bytes,
+  cut_within,
+  cut_known,
+  stream_left,
+  stream_view,
+  TallyMoves,
+};
+
+use crate::read::{Read, Reference, Source};
+use std::io::{self, BufRead};
+
+/// What a reader over a stream counts.
+#[derive(Clone, Copy)]
+struct Tally {
+    // How many bytes the last fill showed, and how many of them were advanced since.
+    shown: usize,
+    used: usize,
+    // How many were advanced in all.
+    taken: u64,
+    failures: u64,
+    steps: usize,
+}
+
+/// A reader over a stream. It shows whatever the stream has ready, always `Short`, and its
+/// errors are the stream's. It takes at most 2^64-1 bytes, and then answers as at the end.
+///
+/// What was advanced leaves the stream at the next look, and when the reader is dropped.
+pub struct IoReader<R: BufRead> {
+    // In this order: the proof of `show_all` takes the struct apart.
+    inner: R,
+    tally: Tally,
+}
+
+impl<R: BufRead + Drop> Drop for IoReader<R> {
+    fn drop(self) {
+        let IoReader { mut inner, tally } = self;
+        inner.consume(tally.used);
+    }
+}
+
+impl<R: BufRead> IoReader<R> {
+    /// A reader over `inner`, with 256 steps, of which nothing was taken yet.
+    pub fn new(inner: R) -> IoReader<R>
+        ensures told { (stream_view R.Read.remaining R.consumable_len result).told
+            ≡ cut_known most_bytes (R.Read.remaining inner) }
+        ensures stream { stream_left R.Read.remaining R.consumable_len result
+            ≡ R.Read.remaining inner }
+        ensures taken { (stream_view R.Read.remaining R.consumable_len result).taken ≡ Some 0 }
+        ensures failures { (stream_view R.Read.remaining R.consumable_len result).failures ≡ 0 }
+        ensures budget { (stream_view R.Read.remaining R.consumable_len result).budget ≡ Some 256 }
+    {
+        IoReader::with_limit(inner, 256)
+    }
+
+    /// A reader over `inner`, with `limit` steps, of which nothing was taken yet.
+    pub fn with_limit(inner: R, limit: usize) -> IoReader<R>
+        ensures told { (stream_view R.Read.remaining R.consumable_len result).told
+            ≡ cut_known most_bytes (R.Read.remaining inner) }
+        ensures stream { stream_left R.Read.remaining R.consumable_len result
+            ≡ R.Read.remaining inner }
+        ensures taken { (stream_view R.Read.remaining R.consumable_len result).taken ≡ Some 0 }
+        ensures failures { (stream_view R.Read.remaining R.consumable_len result).failures ≡ 0 }
+        ensures budget { (stream_view R.Read.remaining R.consumable_len result).budget
+            ≡ Some limit }
+    {
+        IoReader {
+            inner,
+            tally: Tally {
+                shown: 0,
+                used: 0,
+                taken: 0,
+                failures: 0,
+                steps: limit,
+            },
+        }
+    }
+
+    /// The stream, which has lost exactly the bytes that were taken.
+    pub fn into_inner(self) -> R
+        ensures stream { Keeps (stream_left R.Read.remaining R.consumable_len self)
+            (R.Read.remaining result) }
+        ensures told { let view = stream_view R.Read.remaining R.consumable_len self in
+            Keeps view.told (cut_known view.bound (R.Read.remaining result)) }
+    {
+        let IoReader { mut inner, tally } = self;
+        inner.consume(tally.used);
+        inner
+    }
+
+    /// How many bytes were taken. As many more may be taken as 2^64-1 is greater.
+    pub fn taken(&self) -> u64
+        ensures taken { (stream_view R.Read.remaining R.consumable_len self.now).taken
+            ≡ Some result }
+        ensures left { result + (stream_view R.Read.remaining R.consumable_len self.now).bound
+            ≡ most_bytes }
+    {
+        self.tally.taken
+    }
+}
+
+impl<R: BufRead> Source for IoReader<R> {
+    type Error = io::Error;
+
+    ghost view = { stream_view R.Read.remaining R.BufRead.consumable_len };
+
+    // The clauses of the trait, and that it does not fail once as many bytes as can be were taken.
+    fn show(&mut self, want: usize) -> Result<&[u8], io::Error>
+        ensures front { IfOk result (λ shown. Told
+            (stream_view R.Read.remaining R.BufRead.consumable_len self.old).told
+            (IsFront want shown.now)) }
+        ensures bounded { IfOk result (λ shown. length shown.now
+            ≤ (stream_view R.Read.remaining R.BufRead.consumable_len self.old).bound) }
+        ensures ended { (stream_view R.Read.remaining R.BufRead.consumable_len self.old).bound ≡ 0
+            → IsOk result }
+        ensures* after_borrow { sem 𝓛 (Rests (the_row R.row) self.entry (λ new.
+            let before = stream_view R.Read.remaining R.BufRead.consumable_len self.old in
+            let after = stream_view R.Read.remaining R.BufRead.consumable_len new in
+            MatchResult result (λ shown. Shows shown.now before after) (λ _. Breaks before after))) }
+    {
+        let most = u64::MAX - self.tally.taken;
+        if most == 0 {
+            return Ok(&[]);
+        }
+        let used = self.tally.used;
+        self.tally.used = 0;
+        self.tally.shown = 0;
+        self.inner.consume(used);
+        match show_all(self) {
+            Ok(bytes) => {
+                let shown = (bytes.len() as u64).min(most) as usize;
+                Ok(&bytes[..shown])
+            }
+            Err(error) => Err(error),
+        }
+    }
+
+    fn advance(&mut self, n: usize) {
+        let tally = self.tally;
+        let used = if tally.used <= tally.shown {
+            tally.used + n
+        } else {
+            tally.used
+        };
+        self.tally = Tally {
+            used,
+            taken: tally.taken + n as u64,
+            ..tally
+        };
+    }
+
+    fn step_in(&mut self) -> bool {
+        if self.tally.steps == 0 {
+            return false;
+        }
+        self.tally.steps -= 1;
+        true
+    }
+
+    fn step_out(&mut self) {
+        self.tally.steps = self.tally.steps.saturating_add(1);
+    }
+
+    ghost told_within_bound = { λ reader. cut_within (most_bytes - reader.tally.taken)
+        (stream_left R.Read.remaining R.BufRead.consumable_len reader) };
+}
+
+impl<'de, R: BufRead> Read<'de> for IoReader<R> {
+    fn fill<'short>(&'short mut self, want: usize) -> Result<Reference<'de, 'short>, io::Error> {
+        match self.show(want) {
+            Ok(bytes) => Ok(Reference::Short(bytes)),
+            Err(error) => Err(error),
+        }
+    }
+}
+/// Shows all that the stream shows, and counts it.
+fn show_all<'s, R: BufRead>(reader: &'s mut IoReader<R>) -> io::Result<&'s [u8]>
+    ensures front { IfSome (R.Read.remaining reader.old.inner) (λ left. IfOk result (λ shown. StartsWith left shown.now)) }
+    ensures end { IfSome (R.Read.remaining reader.old.inner) (λ left. IfOk result (λ shown. length shown.now ≡ 0 → left ≡ [])) }
+    ensures* after_borrow { sem 𝓛 (Rests (the_row R.row) reader.entry (λ new.
+        FillKeeps (R.Read.remaining reader.old.inner) (R.Read.remaining new.inner) (R.consumable_len new.inner) result
+        × TallyMoves reader.old.tally new.tally result)) }
+{
+    show_inner(&mut reader.inner, &mut reader.tally)
+}
+
+fn show_inner<'s, R: BufRead>(inner: &'s mut R, tally: &mut Tally) -> io::Result<&'s [u8]>
+    ensures front { IfSome (R.Read.remaining inner.old) (λ left. IfOk result (λ shown. StartsWith left shown.now)) }
+    ensures end { IfSome (R.Read.remaining inner.old) (λ left. IfOk result (λ shown. length shown.now ≡ 0 → left ≡ [])) }
+    ensures* after_borrow { sem 𝓛 (Rests R.row inner.entry (λ new.
+        FillKeeps (R.Read.remaining inner.old) (R.Read.remaining new) (R.consumable_len new) result)) }
+    ensures counted { TallyMoves tally.old tally.new result }
+{
+    match inner.fill_buf() {
+        Ok(bytes) => {
+            tally.shown = bytes.len();
+            Ok(bytes)
+        }
+        Err(error) => {
+            tally.failures = tally.failures.saturating_add(1);
+            Err(error)
+        }
+    }
+}

@@ -1,0 +1,127 @@
+//! What a reader is.
+//!
+//! A reader shows a front of what is left, and takes bytes only when it is told to advance. It
+//! also counts the steps that nested items take (RFC 8949 section 5.3.1 leaves the limit to the
+//! decoder), so that hostile input cannot drive a recursion as deep as it likes.
+ghost use Rattle.std.specs.Prelude.{
+  ◌≡◌,
+  ℕ,
+  ◌≤◌,
+  ◌↔◌,
+  List,
+  length,
+  take,
+  IsTrue,
+  IfOk,
+  MatchResult,
+};
+ghost use Rattle.std.specs.Borrow.{sem};
+ghost use Rattle.std.specs.Io.BufRead.{Rests};
+ghost use Rattle.cbor4ii_rw.specs.View.{View, Told};
+ghost use Rattle.cbor4ii_rw.specs.Reader.{
+  IsFront,
+  IsEnough,
+  Shows,
+  Breaks,
+  Advances,
+  KeepsAllButBudget,
+  StepsIn,
+  step_back,
+};
+ghost use Rattle.cbor4ii_rw.specs.Reference.{bytes_of, IsLong};
+
+use std::fmt::Debug;
+
+/// A front of what a reader has left.
+#[derive(Clone, Copy)]
+pub enum Reference<'de, 'short> {
+    /// It lives as long as the input, so decoded values may keep parts of it.
+    Long(&'de [u8]),
+    /// It lives until the reader is used again.
+    Short(&'short [u8]),
+}
+
+impl<'de, 'short> Reference<'de, 'short> {
+    /// The bytes.
+    pub fn as_ref(&self) -> &[u8]
+        ensures { result.now ≡ bytes_of self.now }
+    {
+        match self {
+            Reference::Long(bytes) => bytes,
+            Reference::Short(bytes) => bytes,
+        }
+    }
+
+    /// The first `len` bytes, or all where there are no more, as long-lived as before.
+    pub fn take(self, len: usize) -> Reference<'de, 'short>
+        ensures bytes { bytes_of result ≡ take len (bytes_of self.entry) }
+        ensures kind { IsLong result ↔ IsLong self.entry }
+    {
+        match self {
+            Reference::Long(bytes) => Reference::Long(&bytes[..len.min(bytes.len())]),
+            Reference::Short(bytes) => Reference::Short(&bytes[..len.min(bytes.len())]),
+        }
+    }
+}
+
+/// A reader: its bytes are looked at before they are taken, and it counts steps.
+///
+/// Code that is generic over readers calls `ask::look` in the place of `show`.
+pub trait Source {
+    /// Why the reader failed.
+    type Error: Debug + Drop;
+
+    // What the reader tells of itself as it stands.
+    ghost view: { Self → View };
+
+    /// Shows a front of what is left, perhaps shorter or longer than `want`, and takes nothing.
+    /// It is empty only at the end, or where `want` is 0. An error is counted as a failure, and
+    /// then the bytes that are left may be known no more.
+    fn show(&mut self, want: usize) -> Result<&[u8], Self::Error>
+        ensures front { IfOk result (λ shown. Told (view self.old).told (IsFront want shown.now)) }
+        ensures bounded { IfOk result (λ shown. length shown.now ≤ (view self.old).bound) }
+        ensures enough { IsTrue (view self.old).lends_whole →
+            IfOk result (λ shown. Told (view self.old).told (IsEnough want shown.now)) }
+        ensures* after_borrow { sem 𝓛 (Rests Self.row self.entry (λ new. MatchResult result
+            (λ shown. Shows shown.now (view self.old) (view new))
+            (λ _. Breaks (view self.old) (view new)))) };
+
+    /// Takes the next `n` bytes, at most as many as were shown last and not taken since.
+    fn advance(&mut self, n: usize)
+        requires { n ≤ (view self.old).advanceable }
+        ensures { Advances n (view self.old) (view self.new) };
+
+    /// Takes a step of the budget, or answers false where none is left. A reader without a
+    /// budget always answers true.
+    fn step_in(&mut self) -> bool
+        ensures budget { StepsIn (view self.old).budget (view self.new).budget result }
+        ensures others { KeepsAllButBudget (view self.old) (view self.new) };
+
+    /// Gives one step back. A budget at usize's greatest number stays there.
+    fn step_out(&mut self)
+        ensures budget { (view self.new).budget ≡ step_back (view self.old).budget }
+        ensures others { KeepsAllButBudget (view self.old) (view self.new) };
+
+    // What is told is no more than what can still come.
+    ghost told_within_bound: { (reader : Self) →
+        Told (view reader).told (λ xs. length xs ≤ (view reader).bound) };
+}
+
+/// A reader that may lend parts of its input.
+///
+/// Code that is generic over readers calls `ask::lend` in the place of `fill`.
+pub trait Read<'de>: Source {
+    /// As `show`, and says whether the front lives as long as the input. A reader that lends
+    /// whole answers `Long`, with at least `want` bytes or all that are left.
+    fn fill<'short>(&'short mut self, want: usize) -> Result<Reference<'de, 'short>, Self::Error>
+        ensures front { IfOk result
+            (λ shown. Told (Self.view self.old).told (IsFront want (bytes_of shown))) }
+        ensures bounded { IfOk result
+            (λ shown. length (bytes_of shown) ≤ (Self.view self.old).bound) }
+        ensures enough { IsTrue (Self.view self.old).lends_whole →
+            IfOk result (λ shown. Told (Self.view self.old).told (IsEnough want (bytes_of shown))) }
+        ensures long { IsTrue (Self.view self.old).lends_whole → IfOk result IsLong }
+        ensures* after_borrow { sem 𝓛 (Rests Self.row self.entry (λ new. MatchResult result
+            (λ shown. Shows (bytes_of shown) (Self.view self.old) (Self.view new))
+            (λ _. Breaks (Self.view self.old) (Self.view new)))) };
+}
