@@ -1,6 +1,13 @@
 //! A reader over borrowed segments.
-ghost use Rattle.std.specs.Prelude.{◌≡◌, ◌+◌, ◌++◌, Some, length, drop, [], nat_lt};
+ghost use Rattle.std.specs.Prelude.{◌≡◌, ◌≤◌, ◌+◌, ◌++◌, [], Some, length, drop, nat_lt, IsTrue, IfOk, MatchResult};
 ghost use Rattle.std.proofs.Common.{rules};
+ghost use Rattle.std.specs.Borrow.{sem};
+ghost use Rattle.std.specs.Io.BufRead.{Rests};
+ghost use mir.Syntax.{named};
+ghost use Rattle.cbor4ii_rw.specs.contracts.segment_reader.SegmentReader.{the_row};
+ghost use Rattle.cbor4ii_rw.specs.View.{Told};
+ghost use Rattle.cbor4ii_rw.specs.Reader.{IsFront, IsEnough, Shows, Breaks};
+ghost use Rattle.cbor4ii_rw.specs.Reference.{bytes_of, IsLong};
 ghost use Rattle.cbor4ii_rw.specs.Segments.{
   joined,
   full_count,
@@ -80,7 +87,18 @@ impl Source for SegmentReader<'_> {
 
     ghost view = { segment_view };
 
-    fn show(&mut self, want: usize) -> Result<&[u8], Never> {
+    fn show(&mut self, want: usize) -> Result<&[u8], Never>
+        ensures front { IfOk result
+            (λ shown. Told (segment_view self.old).told (IsFront want shown.now)) }
+        ensures bounded { IfOk result (λ shown. length shown.now ≤ (segment_view self.old).bound) }
+        ensures enough { IsTrue (segment_view self.old).lends_whole →
+            IfOk result (λ shown. Told (segment_view self.old).told (IsEnough want shown.now)) }
+        ensures wanted { IfOk result (λ shown. length shown.now ≤ want) }
+        ensures* after_borrow { sem 𝓛 (Rests (the_row (record { mir = named 1; lft = [] })) self.entry
+            (λ new. MatchResult result
+                (λ shown. Shows shown.now (segment_view self.old) (segment_view new))
+                (λ _. Breaks (segment_view self.old) (segment_view new)))) }
+    {
         self.pass_empty();
         let shown = want.min(self.current.len());
         Ok(&self.current[..shown])
@@ -106,7 +124,19 @@ impl Source for SegmentReader<'_> {
 }
 
 impl<'de> Read<'de> for SegmentReader<'de> {
-    fn fill<'short>(&'short mut self, want: usize) -> Result<Reference<'de, 'short>, Never> {
+    fn fill<'short>(&'short mut self, want: usize) -> Result<Reference<'de, 'short>, Never>
+        ensures front { IfOk result
+            (λ shown. Told (segment_view self.old).told (IsFront want (bytes_of shown))) }
+        ensures bounded { IfOk result (λ shown. length (bytes_of shown) ≤ (segment_view self.old).bound) }
+        ensures enough { IsTrue (segment_view self.old).lends_whole →
+            IfOk result (λ shown. Told (segment_view self.old).told (IsEnough want (bytes_of shown))) }
+        ensures long { IsTrue (segment_view self.old).lends_whole → IfOk result IsLong }
+        ensures wanted { IfOk result (λ shown. length (bytes_of shown) ≤ want) }
+        ensures* after_borrow { sem 𝓛 (Rests (the_row (record { mir = named 1; lft = [] })) self.entry
+            (λ new. MatchResult result
+                (λ shown. Shows (bytes_of shown) (segment_view self.old) (segment_view new))
+                (λ _. Breaks (segment_view self.old) (segment_view new)))) }
+    {
         self.pass_empty();
         let shown = want.min(self.current.len());
         Ok(Reference::Long(&self.current[..shown]))

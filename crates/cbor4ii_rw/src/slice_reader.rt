@@ -1,5 +1,12 @@
 //! A reader over one slice.
-ghost use Rattle.std.specs.Prelude.{◌≡◌, Some, true, length};
+ghost use Rattle.std.specs.Prelude.{◌≡◌, ◌≤◌, [], Some, length, IsTrue, IfOk, MatchResult};
+ghost use Rattle.std.specs.Borrow.{sem};
+ghost use Rattle.std.specs.Io.BufRead.{Rests};
+ghost use mir.Syntax.{named};
+ghost use Rattle.cbor4ii_rw.specs.contracts.slice_reader.SliceReader.{the_row};
+ghost use Rattle.cbor4ii_rw.specs.View.{Told};
+ghost use Rattle.cbor4ii_rw.specs.Reader.{IsFront, IsEnough, Shows, Breaks};
+ghost use Rattle.cbor4ii_rw.specs.Reference.{bytes_of, IsLong};
 ghost use Rattle.cbor4ii_rw.specs.Slice.{slice_view};
 ghost use Rattle.std.proofs.Common.{rules};
 
@@ -46,7 +53,18 @@ impl Source for SliceReader<'_> {
 
     ghost view = { slice_view };
 
-    fn show(&mut self, want: usize) -> Result<&[u8], Never> {
+    fn show(&mut self, want: usize) -> Result<&[u8], Never>
+        ensures front { IfOk result
+            (λ shown. Told (slice_view self.old).told (IsFront want shown.now)) }
+        ensures bounded { IfOk result (λ shown. length shown.now ≤ (slice_view self.old).bound) }
+        ensures enough { IsTrue (slice_view self.old).lends_whole →
+            IfOk result (λ shown. Told (slice_view self.old).told (IsEnough want shown.now)) }
+        ensures wanted { IfOk result (λ shown. length shown.now ≤ want) }
+        ensures* after_borrow { sem 𝓛 (Rests (the_row (record { mir = named 1; lft = [] })) self.entry
+            (λ new. MatchResult result
+                (λ shown. Shows shown.now (slice_view self.old) (slice_view new))
+                (λ _. Breaks (slice_view self.old) (slice_view new)))) }
+    {
         let shown = want.min(self.bytes.len());
         Ok(&self.bytes[..shown])
     }
@@ -71,7 +89,19 @@ impl Source for SliceReader<'_> {
 }
 
 impl<'de> Read<'de> for SliceReader<'de> {
-    fn fill<'short>(&'short mut self, want: usize) -> Result<Reference<'de, 'short>, Never> {
+    fn fill<'short>(&'short mut self, want: usize) -> Result<Reference<'de, 'short>, Never>
+        ensures front { IfOk result
+            (λ shown. Told (slice_view self.old).told (IsFront want (bytes_of shown))) }
+        ensures bounded { IfOk result (λ shown. length (bytes_of shown) ≤ (slice_view self.old).bound) }
+        ensures enough { IsTrue (slice_view self.old).lends_whole →
+            IfOk result (λ shown. Told (slice_view self.old).told (IsEnough want (bytes_of shown))) }
+        ensures long { IsTrue (slice_view self.old).lends_whole → IfOk result IsLong }
+        ensures wanted { IfOk result (λ shown. length (bytes_of shown) ≤ want) }
+        ensures* after_borrow { sem 𝓛 (Rests (the_row (record { mir = named 1; lft = [] })) self.entry
+            (λ new. MatchResult result
+                (λ shown. Shows (bytes_of shown) (slice_view self.old) (slice_view new))
+                (λ _. Breaks (slice_view self.old) (slice_view new)))) }
+    {
         let shown = want.min(self.bytes.len());
         Ok(Reference::Long(&self.bytes[..shown]))
     }

@@ -30,5 +30,5 @@ returns c =
           lends_whole = one_left;
         },
       ),
-      record { front = told_some (IsFront want shown) _ front; bounded = front.within; enough = λ one. told_some (IsEnough want shown) _ (enough one); long = λ one. tt; after_borrow = tt },
+      record { front = told_some (IsFront want shown) _ front; bounded = front.within; enough = λ one. told_some (IsEnough want shown) _ (enough one); long = λ one. tt; wanted = omega (arith, long, c.min-shown.ensures); after_borrow = tt },
     )
