@@ -1,5 +1,5 @@
 -- Borrowed segments, one after another.
-use Rattle.std.specs.Prelude.{ℕ, ◌+◌, List, [], ◌∷◌, ◌++◌, drop, length, None, Some, nat_lt}
+use Rattle.std.specs.Prelude.{ℕ, ◌+◌, List, [], ◌∷◌, ◌++◌, length, None, Some, nat_lt}
 use Rattle.std.specs.Borrow.{Bor}
 use Rattle.cbor4ii_rw.specs.View.{View}
 use Rattle.cbor4ii_rw.specs.declared.segment_reader.SegmentReader.{SegmentReader}
@@ -21,11 +21,11 @@ full_count (segment ∷ others) = full segment.now + full_count others
 
 -- the bytes that a reader has left
 abbrev pub rest_of : SegmentReader → List ℕ
-rest_of reader = reader.current.now ++ joined (drop reader.next reader.segments.now)
+rest_of reader = reader.current.now ++ joined reader.segments.now
 
 -- how many of its segments still have bytes
 abbrev pub full_of : SegmentReader → ℕ
-full_of reader = full reader.current.now + full_count (drop reader.next reader.segments.now)
+full_of reader = full reader.current.now + full_count reader.segments.now
 
 -- it tells all its bytes and never fails; it lends whole where at most one segment still has bytes
 abbrev pub segment_view : SegmentReader → View

@@ -1,5 +1,5 @@
 //! A reader over borrowed segments.
-ghost use Rattle.std.specs.Prelude.{◌≡◌, ◌≤◌, ◌+◌, ◌++◌, [], Some, length, drop, nat_lt, IsTrue, IfOk, MatchResult};
+ghost use Rattle.std.specs.Prelude.{◌≡◌, ◌≤◌, [], Some, length, nat_lt, IsTrue, IfOk, MatchResult};
 ghost use Rattle.std.proofs.Common.{rules};
 ghost use Rattle.std.specs.Borrow.{sem};
 ghost use Rattle.std.specs.Io.BufRead.{Rests};
@@ -8,14 +8,7 @@ ghost use Rattle.cbor4ii_rw.specs.contracts.segment_reader.SegmentReader.{the_ro
 ghost use Rattle.cbor4ii_rw.specs.View.{Told};
 ghost use Rattle.cbor4ii_rw.specs.Reader.{IsFront, IsEnough, Shows, Breaks};
 ghost use Rattle.cbor4ii_rw.specs.Reference.{bytes_of, IsLong};
-ghost use Rattle.cbor4ii_rw.specs.Segments.{
-  joined,
-  full_count,
-  full,
-  rest_of,
-  full_of,
-  segment_view,
-};
+ghost use Rattle.cbor4ii_rw.specs.Segments.{joined, full_count, rest_of, full_of, segment_view};
 
 use crate::error::Never;
 use crate::read::{Read, Reference, Source};
@@ -26,9 +19,8 @@ use crate::read::{Read, Reference, Source};
 #[derive(Drop)]
 pub struct SegmentReader<'de> {
     current: &'de [u8],
-    // All segments, and the number of the one behind the current.
+    // Those behind the current one.
     segments: &'de [&'de [u8]],
-    next: usize,
     steps: usize,
 }
 
@@ -42,44 +34,25 @@ impl<'de> SegmentReader<'de> {
         SegmentReader {
             current: &[],
             segments,
-            next: 0,
             steps: 256,
         }
     }
 
+    /// Goes on to the first segment that has bytes, if there is one.
     fn pass_empty(&mut self)
         ensures end { length self.new.current.now ≡ 0 → rest_of self.new ≡ [] }
         ensures bytes { rest_of self.new ≡ rest_of self.old }
         ensures count { full_of self.new ≡ full_of self.old }
         ensures steps { self.new.steps ≡ self.old.steps }
     {
-        let (current, next) = without_empty(self.current, self.segments, self.next);
-        self.current = current;
-        self.next = next;
-    }
-}
-
-/// The first segment that has bytes, or an empty one at the end, and the number of the one after.
-fn without_empty<'de>(
-    current: &'de [u8],
-    segments: &'de [&'de [u8]],
-    next: usize,
-) -> (&'de [u8], usize)
-    ensures end { length result.0.now ≡ 0 → joined (drop result.1 segments.now) ≡ [] }
-    ensures bytes { result.0.now ++ joined (drop result.1 segments.now)
-        ≡ current.now ++ joined (drop next segments.now) }
-    ensures count { full result.0.now + full_count (drop result.1 segments.now)
-        ≡ full current.now + full_count (drop next segments.now) }
-{
-    if !current.is_empty() {
-        return (current, next);
-    }
-    for i in next..segments.len() {
-        if !segments[i].is_empty() {
-            return (segments[i], i + 1);
+        while self.current.is_empty() {
+            let [first, others @ ..] = self.segments else {
+                return;
+            };
+            self.current = first;
+            self.segments = others;
         }
     }
-    (&[], segments.len())
 }
 
 impl Source for SegmentReader<'_> {
@@ -96,8 +69,8 @@ impl Source for SegmentReader<'_> {
         ensures wanted { IfOk result (λ shown. length shown.now ≤ want) }
         ensures* after_borrow { sem 𝓛 (Rests (the_row (record { mir = named 1; lft = [] })) self.entry
             (λ new. MatchResult result
-                (λ shown. Shows shown.now (segment_view self.old) (segment_view new))
-                (λ _. Breaks (segment_view self.old) (segment_view new)))) }
+            (λ shown. Shows shown.now (segment_view self.old) (segment_view new))
+            (λ _. Breaks (segment_view self.old) (segment_view new)))) }
     {
         self.pass_empty();
         let shown = want.min(self.current.len());
@@ -134,8 +107,8 @@ impl<'de> Read<'de> for SegmentReader<'de> {
         ensures wanted { IfOk result (λ shown. length (bytes_of shown) ≤ want) }
         ensures* after_borrow { sem 𝓛 (Rests (the_row (record { mir = named 1; lft = [] })) self.entry
             (λ new. MatchResult result
-                (λ shown. Shows (bytes_of shown) (segment_view self.old) (segment_view new))
-                (λ _. Breaks (segment_view self.old) (segment_view new)))) }
+            (λ shown. Shows (bytes_of shown) (segment_view self.old) (segment_view new))
+            (λ _. Breaks (segment_view self.old) (segment_view new)))) }
     {
         self.pass_empty();
         let shown = want.min(self.current.len());

@@ -62,8 +62,8 @@ impl Source for SliceReader<'_> {
         ensures wanted { IfOk result (λ shown. length shown.now ≤ want) }
         ensures* after_borrow { sem 𝓛 (Rests (the_row (record { mir = named 1; lft = [] })) self.entry
             (λ new. MatchResult result
-                (λ shown. Shows shown.now (slice_view self.old) (slice_view new))
-                (λ _. Breaks (slice_view self.old) (slice_view new)))) }
+            (λ shown. Shows shown.now (slice_view self.old) (slice_view new))
+            (λ _. Breaks (slice_view self.old) (slice_view new)))) }
     {
         let shown = want.min(self.bytes.len());
         Ok(&self.bytes[..shown])
@@ -99,8 +99,8 @@ impl<'de> Read<'de> for SliceReader<'de> {
         ensures wanted { IfOk result (λ shown. length (bytes_of shown) ≤ want) }
         ensures* after_borrow { sem 𝓛 (Rests (the_row (record { mir = named 1; lft = [] })) self.entry
             (λ new. MatchResult result
-                (λ shown. Shows (bytes_of shown) (slice_view self.old) (slice_view new))
-                (λ _. Breaks (slice_view self.old) (slice_view new)))) }
+            (λ shown. Shows (bytes_of shown) (slice_view self.old) (slice_view new))
+            (λ _. Breaks (slice_view self.old) (slice_view new)))) }
     {
         let shown = want.min(self.bytes.len());
         Ok(Reference::Long(&self.bytes[..shown]))

@@ -1,4 +1,4 @@
-use Rattle.std.proofs.Common.{arith, ◌≡◌, Some, length, drop, take, nat_lt, refl, sym, ap, subst}
+use Rattle.std.proofs.Common.{arith, ◌≡◌, Some, length, take, nat_lt, refl, sym, ap, subst}
 use Rattle.std.specs.Prelude.{IsTrue}
 use Rattle.cbor4ii_rw.specs.Segments.{joined, rest_of, full_of}
 use Rattle.cbor4ii_rw.specs.Reader.{IsFront, IsEnough}
@@ -9,7 +9,7 @@ use Rattle.cbor4ii_rw.proofs.segment_reader.SegmentReaderRead.fill.Goals as goal
 pub returns : goal.returns
 returns c =
     let want = c.args.want in let n = c.min-shown.result in let reader = c.pass_empty.new.self in
-    let current = reader.current.now in let others = drop reader.next reader.segments.now in
+    let current = reader.current.now in let others = reader.segments.now in
     let shown = take n current in
     let kept = c.pass_empty.ensures.bytes in
     let front = subst (λ rest. IsFront want shown rest) kept (front_of_current want n current (joined others) c.min-shown.ensures c.pass_empty.ensures.end) in
