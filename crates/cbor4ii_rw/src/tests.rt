@@ -87,6 +87,32 @@ fn shown_by<S: Source>(
     Ok(front.unwrap_or(&[]).to_vec(alloc)?)
 }
 
+/// The next byte, which is taken; none at the end. The README's example.
+fn next_byte<S: Source>(reader: &mut S) -> Result<Option<u8>, S::Error> {
+    let mut failure = None;
+    let byte = match look(reader, 1, &mut failure) {
+        Some([]) => return Ok(None),
+        Some(shown) => shown[0],
+        None => return Err(failure.unwrap()),
+    };
+    reader.advance(1);
+    Ok(Some(byte))
+}
+
+#[test]
+fn bytes_are_taken_one_by_one(rt: HostRuntime) -> Result<(), Fail> {
+    let parts: [&[u8]; 2] = [b"a", b"b"];
+    let mut slice = SliceReader::new(b"ab");
+    let mut segments = SegmentReader::new(&parts);
+    let mut stream = IoReader::new(b"ab".as_slice());
+    for want in [Some(b'a'), Some(b'b'), None, None] {
+        assert_eq!(rt; next_byte(&mut slice)?, want);
+        assert_eq!(rt; next_byte(&mut segments)?, want);
+        assert_eq!(rt; next_byte(&mut stream)?, want);
+    }
+    Ok(())
+}
+
 #[test]
 fn as_much_is_shown_as_each_reader_says(rt: HostRuntime) -> Result<(), Fail> {
     let alloc = rt.alloc();
