@@ -1,0 +1,19 @@
+use Rattle.std.proofs.Common.{◌≡◌, ℕ, ◌<◌, ◌≤◌, List, [], ◌∷◌, length, get_or, map, string_bytes, String, Global, refl, sym, ap, ◌∙◌, arith}
+use Rattle.std.proofs.lemmas.Slice.Eq.{bytes_eq-Decides}
+use Rattle.cbor4ii_tool.proofs.arguments.command.Goals as goal
+
+-- the texts of a single word
+one_text : (words : List (String Global)) (word : String Global) (text : List ℕ) → 1 ≤ length words → length words < 2 → word ≡ get_or words 0 word → string_bytes word ≡ text
+    → map string_bytes words ≡ text ∷ []
+one_text [] word text least most is e = absurd (omega arith)
+one_text (w ∷ []) word text least most is e = ap (λ bytes. bytes ∷ []) (ap string_bytes (sym is) ∙ e)
+one_text (w ∷ (v ∷ ws)) word text least most is e = absurd (omega arith)
+
+pub returns-in-len1 : goal.returns-in-len1
+returns-in-len1 c = record {
+  ints = (
+    λ _. one_text _ _ _ c.in-len1.len_at_least c.in-len1.len_below c.word-item.is
+        (sym c.as_str.ensures.value ∙ (bytes_eq-Decides _ _).0 (sym c.eq.ensures ∙ c.if-eq.true)),
+    λ _. refl,
+  );
+}

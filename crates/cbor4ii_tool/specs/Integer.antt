@@ -1,0 +1,64 @@
+-- Integers: items of major types 0 and 1 (RFC 8949 section 3.1), each of them a head alone.
+use Rattle.std.specs.Prelude.{◌≡◌, ◌≢◌, ℕ, ◌+◌, ◌*◌, ◌≤◌, List, [], ◌∷◌, ◌++◌, All, nat_lt, ◌==◌, if◌then◌else◌}
+use Rattle.std.specs.List.{flat_map}
+use Rattle.cbor4ii_tool.specs.Head.{Width, in_first, one, two, four, eight, HeadFits, additional, head, shortest}
+
+-- what a head says, and in which width
+pub record IntegerHead : Type 0 where
+  pub major : ℕ
+  pub argument : ℕ
+  pub width : Width
+
+-- it is the head of an integer
+pub record IsInteger (item : IntegerHead) : Type 0 where
+  pub major : item.major ≤ 1
+  pub fits : HeadFits item.width item.argument
+
+-- its bytes
+abbrev pub spelling : IntegerHead → List ℕ
+spelling item = head item.major item.argument item.width
+
+-- the bytes of the least width that its argument has (RFC 8949 section 4.2.1)
+abbrev pub shortest_spelling : IntegerHead → List ℕ
+shortest_spelling item = head item.major item.argument (shortest item.argument)
+
+abbrev pub spellings : List IntegerHead → List ℕ
+spellings items = flat_map spelling items
+
+abbrev pub shortest_spellings : List IntegerHead → List ℕ
+shortest_spellings items = flat_map shortest_spelling items
+
+-- the input is these integers, one after another, and then the rest
+pub record IsRow (items : List IntegerHead) (rest input : List ℕ) : Type 0 where
+  pub integers : All IsInteger items
+  pub joined : input ≡ spellings items ++ rest
+
+-- an integer stands at the front of these bytes
+pub record BeginsInteger (bytes : List ℕ) : Type 0 where
+  pub item : IntegerHead
+  pub integer : IsInteger item
+  pub more : List ℕ
+  pub is : bytes ≡ spelling item ++ more
+
+-- the first byte is one with which no integer begins
+pub record BeginsOther (bytes : List ℕ) : Type 0 where
+  pub first : ℕ
+  pub more : List ℕ
+  pub is : bytes ≡ first ∷ more
+  pub other : (item : IntegerHead) → IsInteger item → first ≢ 32 * item.major + additional item.width item.argument
+
+-- these bytes begin an integer, and end inside it
+pub record IsCutInteger (bytes : List ℕ) : Type 0 where
+  pub item : IntegerHead
+  pub integer : IsInteger item
+  pub missing : List ℕ
+  pub some : missing ≢ []
+  pub joined : spelling item ≡ bytes ++ missing
+
+-- the width that this additional information, below 28, stands for
+abbrev pub width_of : ℕ → Width
+width_of information =
+    if nat_lt information 24 then in_first
+    else (if information == 24 then one
+    else (if information == 25 then two
+    else (if information == 26 then four else eight)))

@@ -1,0 +1,62 @@
+//! Why a run stopped.
+ghost use Rattle.std.specs.Prelude.{◌≡◌, is_ok, if◌then◌else◌};
+
+use std::fmt;
+
+/// Why an item was not read or written, by the names of the codec's errors.
+#[derive(Clone, Copy, Debug, PartialEq, Eq)]
+pub enum Kind {
+    /// The input could not be read.
+    Read,
+    /// A byte begins something else.
+    Mismatch,
+    /// A byte begins nothing that is read.
+    Unsupported,
+    /// The input ends inside an item.
+    Eof,
+    /// A length is not one that is read.
+    RequireLength,
+    /// The input does not live as long as a part of it has to.
+    RequireBorrowed,
+    /// A text is not UTF-8.
+    RequireUtf8,
+    /// A length is too great.
+    LengthOverflow,
+    /// A number does not fit its type.
+    CastOverflow,
+    /// A computation left its range.
+    ArithmeticOverflow,
+    /// Items nest too deeply.
+    DepthOverflow,
+    /// A decoder of a user's own refused.
+    Custom,
+    /// There was no memory for what was read.
+    OutOfMemory,
+    /// There was no memory for what is written, or it could not be written.
+    Write,
+}
+
+/// Where a run stopped, and why. It prints as `fault at 5: Eof`.
+#[derive(Clone, Copy, Debug, PartialEq, Eq)]
+pub struct Fault {
+    /// How many bytes of the input the items before it take.
+    pub at: u64,
+    /// Why the item there was not read or written.
+    pub kind: Kind,
+}
+
+impl fmt::Display for Fault {
+    fn fmt<W: fmt::Write>(&self, f: &mut fmt::Formatter<W>) -> fmt::Result {
+        write!(f, "fault at {}: {:?}", self.at, self.kind)
+    }
+}
+
+/// The exit status: 0 after a run without a fault, 1 after one with.
+pub fn status(outcome: &Result<(), Fault>) -> u8
+    ensures { result ≡ (if is_ok outcome.now then 0 else 1) }
+{
+    match outcome {
+        Ok(()) => 0,
+        Err(_) => 1,
+    }
+}
