@@ -1,7 +1,7 @@
 -- Numbers, by their bytes.
-use Rattle.std.proofs.Common.{◌≡◌, ℕ, zero, suc, ◌+◌, ◌*◌, ◌/◌, ◌%◌, ◌^◌, ◌<◌, ◌≤◌, List, [], ◌∷◌, ◌++◌, length, refl, sym, ap, ap₂, ◌∙◌, arith, pow-suc, mul_comm, append_assoc, append-nil, length-append}
+use Rattle.std.proofs.Common.{◌≡◌, ℕ, zero, suc, ◌+◌, ◌*◌, ◌/◌, ◌%◌, ◌^◌, ◌<◌, List, [], ◌∷◌, ◌++◌, length, refl, sym, ap, ap₂, ◌∙◌, arith, pow-suc, mul_comm, append_assoc, append-nil, length-append}
 use Rattle.std.specs.Int.{byte_at, bytes_high_first}
-use Rattle.std.proofs.Math.Nat.{div-div-eq-div-mul, pow-le-pow_right}
+use Rattle.std.proofs.Math.Nat.{div-div-eq-div-mul}
 
 -- a further byte moves the others up by one
 byte_at-more : (k n b : ℕ) → b < 256 → byte_at (suc k) (n * 256 + b) ≡ byte_at k n
@@ -26,9 +26,6 @@ length-bytes_high_first (suc k) n = ap suc (length-bytes_high_first k n)
 
 pub below_more : (k n b : ℕ) → n < 256 ^ k → b < 256 → n * 256 + b < 256 ^ suc k
 below_more k n b h small = let e : 256 ^ suc k ≡ 256 ^ k * 256 = pow-suc 256 k in omega (arith, e)
-
-pub below_word : (n k : ℕ) → n < 256 ^ k → k ≤ 8 → n < 2 ^ 64
-below_word n k h le = omega (arith, pow-le-pow_right {n = 256} (omega arith) {i = k} {j = 8} le)
 
 -- a number whose first k bytes are those of n, and j more
 pub record IsFilled (k n j : ℕ) : Type 0 where

@@ -2,7 +2,7 @@
 use Rattle.std.proofs.Common.{◌≡◌, ◌≢◌, ℕ, suc, ◌+◌, ◌-◌, ◌*◌, ◌<◌, List, [], ◌∷◌, ◌++◌, length, drop, true, refl, sym, ap, ap₂, ◌∙◌, arith, append_assoc, append-nil, length-append, ltb, lt-ltb}
 use Rattle.std.specs.Prelude.{All}
 use Rattle.std.specs.List.{flat_map}
-use Rattle.std.proofs.lemmas.List.Elements.{All-nil, All-head, All-tail, All-push}
+use Rattle.std.proofs.lemmas.List.Elements.{All-head, All-tail, All-push}
 use Rattle.std.proofs.lemmas.Grind.{flat_map-append}
 use Rattle.std.proofs.Math.Seq.{drop-append_seam}
 use Rattle.cbor4ii_tool.specs.Head.{Width, in_first, one, two, four, eight, byte_count, HeadFits, additional}
@@ -67,9 +67,6 @@ pub some_other : (bytes : List ℕ) → BeginsOther bytes → bytes ≢ []
 some_other bytes begins e = let is = begins.is in cc
 
 -- ---- rows
-
-pub row_none : (input : List ℕ) → IsRow [] input input
-row_none input = record { integers = All-nil IsInteger; joined = refl }
 
 pub flat_map-more : (f : IntegerHead → List ℕ) (items : List IntegerHead) (item : IntegerHead) → flat_map f (items ++ item ∷ []) ≡ flat_map f items ++ f item
 flat_map-more f items item = flat_map-append f items (item ∷ []) ∙ ap (λ xs. flat_map f items ++ xs) (append-nil (f item))

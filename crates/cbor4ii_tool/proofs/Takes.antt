@@ -4,20 +4,15 @@ use Rattle.std.specs.Prelude.{MatchOption, slice_get}
 use Rattle.std.specs.Int.{bytes_high_first}
 use denote.Ref.{Bor}
 use Rattle.cbor4ii_rw.specs.View.{View, Told}
-use Rattle.cbor4ii_rw.specs.Reader.{IsFront, Shows, Breaks, Advances, Failed}
+use Rattle.cbor4ii_rw.specs.Reader.{IsFront, Shows, Breaks, Advances, Failed, counts}
 use Rattle.cbor4ii_tool.specs.Reading.{Takes, IsCutNumber, Lacks}
 use Rattle.cbor4ii_tool.specs.declared.fault.Kind.{Kind}
 use Rattle.cbor4ii_tool.specs.declared.fault.Kind.TheVariants.{Read, Eof}
 use Rattle.cbor4ii_tool.proofs.Numbers.{bytes_high_first-more, filled}
 
-pub takes_none : (view : View) → Takes [] view view
-takes_none view = record {
-  told = λ xs told. (xs, told, refl);
-  bound = omega arith;
-  budget = refl;
-  failures = refl;
-  lends_whole = λ h. h;
-}
+counts_then : (m n : ℕ) (taken : Option ℕ) → counts n (counts m taken) ≡ counts (m + n) taken
+counts_then m n None = refl
+counts_then m n (Some t) = ap Some (omega arith)
 
 pub takes_then : (xs ys : List ℕ) (a b c : View) → Takes xs a b → Takes ys b c → Takes (xs ++ ys) a c
 takes_then xs ys a b c p q = record {
@@ -26,6 +21,8 @@ takes_then xs ys a b c p q = record {
       let next = q.told first.0 first.1 in
       (next.0, next.1, first.2 ∙ (ap (λ left. xs ++ left) next.2 ∙ sym (append_assoc xs ys next.0)));
   bound = omega (arith, p.bound, q.bound, length-append xs ys);
+  taken = q.taken
+      ∙ (ap (counts (length ys)) p.taken ∙ (counts_then (length xs) (length ys) a.taken ∙ ap (λ (n : ℕ). counts n a.taken) (sym (length-append xs ys))));
   budget = q.budget ∙ p.budget;
   failures = q.failures ∙ p.failures;
   lends_whole = λ h. q.lends_whole (p.lends_whole h);
@@ -56,6 +53,7 @@ byte_taken b shown old mid new front e shows advances = record {
   told = λ xs told.
       (drop 1 xs, advances.told xs (shows.told xs told), first_of_front b shown xs (front xs told) e);
   bound = omega (arith, shows.bound, advances.bound);
+  taken = advances.taken ∙ ap (counts 1) shows.taken;
   budget = advances.budget ∙ shows.budget;
   failures = advances.failures ∙ shows.failures;
   lends_whole = λ h. advances.lends_whole (shows.lends_whole h);

@@ -2,7 +2,7 @@
 use Rattle.std.specs.Prelude.{◌≡◌, ◌≢◌, ℕ, ◌+◌, ◌^◌, ◌<◌, ◌≤◌, List, [], ◌++◌, length, Some, IsTrue}
 use Rattle.std.specs.Int.{bytes_high_first}
 use Rattle.cbor4ii_rw.specs.View.{View, Told}
-use Rattle.cbor4ii_rw.specs.Reader.{Failed}
+use Rattle.cbor4ii_rw.specs.Reader.{Failed, counts}
 use Rattle.cbor4ii_tool.specs.Head.{Width}
 use Rattle.cbor4ii_tool.specs.Integer.{IsInteger, spelling, BeginsOther, IsCutInteger}
 use Rattle.cbor4ii_tool.specs.declared.fault.Kind.{Kind}
@@ -13,6 +13,7 @@ use Rattle.cbor4ii_tool.specs.declared.head.Head.{Head}
 pub record Takes (bytes : List ℕ) (old new : View) : Type 0 where
   pub told : Told old.told (λ xs. (left : List ℕ) × (new.told ≡ Some left) × (xs ≡ bytes ++ left))
   pub bound : new.bound + length bytes ≤ old.bound
+  pub taken : new.taken ≡ counts (length bytes) old.taken
   pub budget : new.budget ≡ old.budget
   pub failures : new.failures ≡ old.failures
   pub lends_whole : IsTrue old.lends_whole → IsTrue new.lends_whole

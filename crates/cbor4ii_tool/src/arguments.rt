@@ -5,7 +5,8 @@ use crate::command::Command;
 
 /// The command that the arguments `words` name, without the program's own name.
 pub fn command(words: &[String]) -> Option<Command>
-    ensures ints { (result ≡ Some Command.Ints) ↔ (map string_bytes words.now ≡ codes "ints" ∷ []) }
+    ensures ints { (result ≡ Some Command.Ints) ↔
+        (map string_bytes words.now ≡ codes "ints" ∷ []) }
 {
     match words {
         [word] if word.as_str() == "ints" => Some(Command::Ints),

@@ -42,8 +42,10 @@ pub struct Head {
 /// begins is a `Mismatch`, and an end inside a head is `Eof`; a reader that fails is `Read`. What
 /// was taken before a refusal is lost.
 pub fn read_integer<S: Source>(reader: &mut S) -> Result<Head, Kind>
-    ensures reads { IfOk result (λ read. ReadsInteger read (S.view reader.old) (S.view reader.new)) }
-    ensures refuses { IfErr result (λ kind. RefusesInteger kind (S.view reader.old) (S.view reader.new)) }
+    ensures reads { IfOk result (λ read.
+        ReadsInteger read (S.view reader.old) (S.view reader.new)) }
+    ensures refuses { IfErr result (λ kind.
+        RefusesInteger kind (S.view reader.old) (S.view reader.new)) }
 {
     let first = take_byte(reader)?;
     let major = first / 32;
@@ -136,7 +138,8 @@ fn take_number<S: Source>(reader: &mut S, count: u8) -> Result<u64, Kind>
 }
 
 fn take_byte<S: Source>(reader: &mut S) -> Result<u8, Kind>
-    ensures takes { IfOk result (λ byte. Takes (byte ∷ []) (S.view reader.old) (S.view reader.new)) }
+    ensures takes { IfOk result (λ byte.
+        Takes (byte ∷ []) (S.view reader.old) (S.view reader.new)) }
     ensures byte { IfOk result (λ byte. byte < 256) }
     ensures lacks { IfErr result (λ kind. Lacks 1 kind (S.view reader.old) (S.view reader.new)) }
 {

@@ -79,8 +79,9 @@ fn rewrite<R: Read + Drop, W: Write>(
         (fault.at ≡ 0) × (sink.new ≡ sink.old)) }
     ensures stands { IfErr result (λ fault. IfSome (R.remaining source) (λ input.
         IsUnread fault.kind ⊎ StandsIn fault input)) }
-    ensures complete { IfSome (R.remaining source) (λ input. (items : List IntegerHead) →
-        IsRow items [] input → IfErr result (λ fault. IsUnread fault.kind ⊎ (fault.kind ≡ Kind.Write))) }
+    ensures complete { IfSome (R.remaining source) (λ input.
+        (items : List IntegerHead) → IsRow items [] input →
+        IfErr result (λ fault. IsUnread fault.kind ⊎ (fault.kind ≡ Kind.Write))) }
 {
     let input = whole_input(source, alloc)?;
     let mut writer = BufWriter::new(Vec::new(alloc));
