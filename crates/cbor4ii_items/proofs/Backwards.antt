@@ -1,0 +1,175 @@
+-- Numbers are read back from what is written.
+use Rattle.std.proofs.Common.{◌≡◌, ℕ, zero, suc, ◌^◌, ◌<◌, ◌≤◌, ◌⊎◌, inl, inr, List, [], ◌∷◌, ◌++◌, length, drop, take, Bool, true, false, IsTrue, refl, sym, ap, ◌∙◌, subst, arith, append_assoc, cond, ltb, ltb-true, ltb-false, length-append}
+use Rattle.std.specs.Prelude.{ℤ, pos, negsuc}
+use Rattle.std.specs.Int.{byte_at as number_byte, bytes_high_first}
+use Rattle.std.proofs.Math.Seq.{take-append_seam, drop-append_seam, take-length}
+use Rattle.cbor4ii_items.specs.Head.{Width, in_first, one as w_one, two, four, eight, byte_count, HeadFits, shortest, IsBytes}
+use Rattle.cbor4ii_items.specs.Heads.{ReadsHead}
+use Rattle.cbor4ii_items.specs.HeadLaws.{length-bytes_high_first, number_again}
+use Rattle.cbor4ii_items.specs.ReadHead.{number_on}
+use Rattle.cbor4ii_items.specs.Magnitude.{number_of, without_leading_zeros, magnitude}
+use Rattle.cbor4ii_items.specs.Numbers.{ReadsArgument, ReadsSigned, IsWithin, ReadsMagnitude, ReadsBignum, ReadsU128, ReadsI128, shortest_head, signed_head, string_bytes, bignum_bytes, unsigned_bytes, signed_bytes}
+use Rattle.cbor4ii_items.specs.ReadBack.{ReadsBack, NoneBeginsAnother}
+use Rattle.cbor4ii_items.specs.Outcome.{same_value}
+use Rattle.cbor4ii_items.specs.BigLaws.{number_taken}
+
+-- ---- the shortest head
+
+least_one : (v : ℕ) (wide : Width) → 24 ≤ v → v < 256 ^ byte_count wide → 1 ≤ byte_count wide
+least_one v in_first low h = absurd (omega arith)
+least_one v w_one low h = omega arith
+least_one v two low h = omega arith
+least_one v four low h = omega arith
+least_one v eight low h = omega arith
+
+least_two : (v : ℕ) (wide : Width) → 256 ≤ v → v < 256 ^ byte_count wide → 2 ≤ byte_count wide
+least_two v in_first low h = absurd (omega arith)
+least_two v w_one low h = absurd (omega arith)
+least_two v two low h = omega arith
+least_two v four low h = omega arith
+least_two v eight low h = omega arith
+
+least_four : (v : ℕ) (wide : Width) → 256 ^ 2 ≤ v → v < 256 ^ byte_count wide → 4 ≤ byte_count wide
+least_four v in_first low h = absurd (omega arith)
+least_four v w_one low h = absurd (omega arith)
+least_four v two low h = absurd (omega arith)
+least_four v four low h = omega arith
+least_four v eight low h = omega arith
+
+least_eight : (v : ℕ) (wide : Width) → 256 ^ 4 ≤ v → v < 256 ^ byte_count wide → 8 ≤ byte_count wide
+least_eight v in_first low h = absurd (omega arith)
+least_eight v w_one low h = absurd (omega arith)
+least_eight v two low h = absurd (omega arith)
+least_eight v four low h = absurd (omega arith)
+least_eight v eight low h = omega arith
+
+greatest : (v : ℕ) (wide : Width) → v < 256 ^ byte_count wide → v < 256 ^ 8
+greatest v in_first h = omega arith
+greatest v w_one h = omega arith
+greatest v two h = omega arith
+greatest v four h = omega arith
+greatest v eight h = h
+
+-- the width fits, and no smaller one does
+record IsShortest (v : ℕ) (width wide : Width) : Type 0 where
+  fits : HeadFits width v
+  least : byte_count width ≤ byte_count wide
+
+shortest_by : (a b c d : Bool) (v : ℕ) (wide : Width) → ltb v 24 ≡ a → ltb v 256 ≡ b → ltb v (256 ^ 2) ≡ c → ltb v (256 ^ 4) ≡ d → v < 256 ^ byte_count wide
+    → IsShortest v (cond a in_first (cond b w_one (cond c two (cond d four eight)))) wide
+shortest_by true b c d v wide p q r s h = let small : v < 24 = ltb-true v 24 p in record { fits = omega (arith, small); least = omega arith }
+shortest_by false true c d v wide p q r s h = record { fits = ltb-true v 256 q; least = least_one v wide (ltb-false v 24 p) h }
+shortest_by false false true d v wide p q r s h = record { fits = ltb-true v (256 ^ 2) r; least = least_two v wide (ltb-false v 256 q) h }
+shortest_by false false false true v wide p q r s h = record { fits = ltb-true v (256 ^ 4) s; least = least_four v wide (ltb-false v (256 ^ 2) r) h }
+shortest_by false false false false v wide p q r s h = record { fits = greatest v wide h; least = least_eight v wide (ltb-false v (256 ^ 4) s) h }
+
+pub head_back : (major : ℕ) (wide : Width) (v : ℕ) → v < 256 ^ byte_count wide → (rest : List ℕ) → ReadsHead major (byte_count wide) (shortest_head major v ++ rest) v (length (shortest_head major v))
+head_back major wide v h rest =
+    let s : IsShortest v (shortest v) wide = shortest_by (ltb v 24) (ltb v 256) (ltb v (256 ^ 2)) (ltb v (256 ^ 4)) v wide refl refl refl refl h in
+    record { wide = shortest v; allowed = s.least; fits = s.fits; rest = rest; is = refl; count = ap suc (length-bytes_high_first (byte_count (shortest v)) v) }
+
+pub argument_back : (major : ℕ) (wide : Width) (v : ℕ) → v < 256 ^ byte_count wide → ReadsBack (ReadsArgument major (byte_count wide)) (shortest_head major v) v
+argument_back major wide v h rest = (head_back major wide v h rest, refl)
+
+pub signed_back : (wide : Width) (limit : ℕ) (v : ℤ) → limit ≤ 256 ^ byte_count wide → IsWithin limit v → ReadsBack (ReadsSigned (byte_count wide) limit) (signed_head v) v
+signed_back wide limit (pos k) le h rest = (head_back 0 wide k (omega (arith, le, h)) rest, h, refl)
+signed_back wide limit (negsuc k) le h rest = (head_back 1 wide k (omega (arith, le, h)) rest, h, refl)
+
+-- ---- byte strings without leading zeros
+
+number_kept : (bs : List ℕ) → number_of (without_leading_zeros bs) ≡ number_of bs
+number_kept [] = refl
+number_kept (zero ∷ bs) = number_kept bs
+number_kept (suc b ∷ bs) = refl
+
+no_longer : (bs : List ℕ) → length (without_leading_zeros bs) ≤ length bs
+no_longer [] = omega arith
+no_longer (zero ∷ bs) = omega (arith, no_longer bs)
+no_longer (suc b ∷ bs) = omega arith
+
+still_bytes : (bs : List ℕ) → IsBytes bs → IsBytes (without_leading_zeros bs)
+still_bytes [] h = tt
+still_bytes (zero ∷ bs) h = still_bytes bs h.1
+still_bytes (suc b ∷ bs) h = h
+
+byte_small : (k n : ℕ) → number_byte k n < 256
+byte_small zero n = omega arith
+byte_small (suc k) n = omega arith
+
+all_bytes : (k n : ℕ) → IsBytes (bytes_high_first k n)
+all_bytes zero n = tt
+all_bytes (suc k) n = (byte_small k n, all_bytes k n)
+
+number_of_bytes : (k n : ℕ) → n < 256 ^ k → number_of (bytes_high_first k n) ≡ n
+number_of_bytes k n h =
+    let bs = bytes_high_first k n in
+    let long : length bs ≡ k = length-bytes_high_first k n in
+    let front : take k (bs ++ []) ≡ bs = ap (λ j. take j (bs ++ [])) (sym long) ∙ take-append_seam bs [] in
+    let room : k ≤ length (bs ++ []) = omega (arith, length-append bs [], long) in
+    let same = same_value (number_on [] 0 k 0 (bs ++ [])) (number_again [] 0 k n [] h) (number_taken [] 0 k 0 (bs ++ []) room) in
+    sym (same.0 ∙ ap number_of front)
+
+string_back : (content rest : List ℕ) → length content ≤ 16 → IsBytes content → ReadsMagnitude (string_bytes content ++ rest) (number_of content) (length (string_bytes content))
+string_back content rest short bytes =
+    let start = shortest_head 2 (length content) in
+    let whole : string_bytes content ++ rest ≡ start ++ (content ++ rest) = append_assoc start content rest in
+    let behind : drop (length start) (string_bytes content ++ rest) ≡ content ++ rest = ap (drop (length start)) whole ∙ drop-append_seam start (content ++ rest) in
+    let inner : take (length content) (drop (length start) (string_bytes content ++ rest)) ≡ content = ap (take (length content)) behind ∙ take-append_seam content rest in
+    let small : length content < 256 ^ 8 = omega (arith, short) in
+    record {
+      count = length content;
+      before = length start;
+      counted = subst (λ zs. ReadsHead 2 8 zs (length content) (length start)) (sym whole) (head_back 2 eight (length content) small (content ++ rest));
+      short = short;
+      within = omega (arith, ap length whole, length-append start (content ++ rest), length-append content rest);
+      bytes = subst IsBytes (sym inner) bytes;
+      value = ap number_of (sym inner);
+      size = length-append start content;
+    }
+
+bignum_back : (tag v : ℕ) → tag < 256 → v < 256 ^ 16 → (rest : List ℕ) → ReadsBignum tag (bignum_bytes tag v ++ rest) v (length (bignum_bytes tag v))
+bignum_back tag v small fits rest =
+    let start = shortest_head 6 tag in
+    let content = magnitude v in
+    let whole : bignum_bytes tag v ++ rest ≡ start ++ (string_bytes content ++ rest) = append_assoc start (string_bytes content) rest in
+    let behind : drop (length start) (bignum_bytes tag v ++ rest) ≡ string_bytes content ++ rest = ap (drop (length start)) whole ∙ drop-append_seam start (string_bytes content ++ rest) in
+    let number : number_of content ≡ v = number_kept (bytes_high_first 16 v) ∙ number_of_bytes 16 v fits in
+    let short : length content ≤ 16 = omega (arith, no_longer (bytes_high_first 16 v), length-bytes_high_first 16 v) in
+    let back = string_back content rest short (still_bytes (bytes_high_first 16 v) (all_bytes 16 v)) in
+    record {
+      before = length start;
+      tagged = subst (λ zs. ReadsHead 6 1 zs tag (length start)) (sym whole) (head_back 6 w_one tag small (string_bytes content ++ rest));
+      size = length (string_bytes content);
+      magnitude = subst (λ zs. ReadsMagnitude zs v (length (string_bytes content))) (sym behind) (subst (λ k. ReadsMagnitude (string_bytes content ++ rest) k (length (string_bytes content))) number back);
+      total = length-append start (string_bytes content);
+    }
+
+-- an integer as a head's argument where it fits, else as a bignum
+integer_back : (t : Bool) (major tag v : ℕ) → ltb v (2 ^ 64) ≡ t → tag < 256 → v < 256 ^ 16 → (rest : List ℕ)
+    → let bytes = cond t (shortest_head major v) (bignum_bytes tag v) in ReadsHead major 8 (bytes ++ rest) v (length bytes) ⊎ ReadsBignum tag (bytes ++ rest) v (length bytes)
+integer_back true major tag v e small fits rest = inl (head_back major eight v (ltb-true v (2 ^ 64) e) rest)
+integer_back false major tag v e small fits rest = inr (bignum_back tag v small fits rest)
+
+pub u128_back : (v : ℕ) → v < 2 ^ 128 → ReadsBack ReadsU128 (unsigned_bytes v) v
+u128_back v h rest = (integer_back (ltb v (2 ^ 64)) 0 2 v refl (omega arith) h rest, refl)
+
+in_range : {A B : Type 0} (k : ℕ) → k < 2 ^ 127 → A ⊎ B → A ⊎ (B × (k < 2 ^ 127))
+in_range k h (inl a) = inl a
+in_range k h (inr b) = inr (b, h)
+
+pub i128_back : (v : ℤ) → IsWithin (2 ^ 127) v → ReadsBack ReadsI128 (signed_bytes v) v
+i128_back (pos k) h rest = (in_range k h (integer_back (ltb k (2 ^ 64)) 0 2 k refl (omega arith) (omega (arith, h)) rest), refl)
+i128_back (negsuc k) h rest = (in_range k h (integer_back (ltb k (2 ^ 64)) 1 3 k refl (omega arith) (omega (arith, h)) rest), refl)
+
+-- ---- no spelling begins another
+
+nothing_more : (xs more : List ℕ) → length xs ≡ length (xs ++ more) → more ≡ []
+nothing_more xs [] e = refl
+nothing_more xs (m ∷ more) e = absurd (omega (arith, e, length-append xs (m ∷ more)))
+
+pub none_begins : {V : Type 0} (reads : List ℕ → V → ℕ → ℕ → Type 0) (same : V → V → Type 0) (closed : Bool) → ((xs : List ℕ) (v w : V) (n m c d : ℕ) → reads xs v n c → reads xs w m d → (n ≡ m) × (c ≡ d) × same v w)
+    → (IsTrue closed → (xs ys : List ℕ) (v : V) (n c : ℕ) → reads xs v n c → reads (take n xs ++ ys) v n c) → IsTrue closed → NoneBeginsAnother reads
+none_begins reads same closed one alone e xs more v w c d p q =
+    let whole : take (length xs) xs ≡ xs = take-length xs in
+    let p' = subst (λ zs. reads (zs ++ more) v (length xs) c) whole (alone e xs more v (length xs) c p) in
+    nothing_more xs more (one (xs ++ more) v w (length xs) (length (xs ++ more)) c d p' q).0

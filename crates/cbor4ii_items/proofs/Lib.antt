@@ -1,0 +1,14 @@
+pub mod Steps
+pub mod Running
+pub mod Heads
+pub mod Leaves
+pub mod Stopping
+pub mod Arguments
+pub mod Written
+pub mod Parts
+pub mod SignedLeaf
+pub mod BigRuns
+pub mod SignedRuns
+pub mod BigLeaf
+pub mod Containers
+pub mod Backwards

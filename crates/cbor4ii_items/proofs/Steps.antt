@@ -1,0 +1,93 @@
+-- How one call after another leaves the reader.
+use Rattle.std.proofs.Common.{◌≡◌, ℕ, zero, suc, ◌+◌, List, [], ◌∷◌, length, take, drop, Option, None, Some, Result, Err, Bool, true, false, refl, sym, ap, ◌∙◌, arith}
+use Rattle.std.specs.Prelude.{MatchBool}
+use Rattle.std.proofs.Math.Seq.{drop-nil}
+use Rattle.std.proofs.lemmas.List.{length-drop}
+use Rattle.cbor4ii_rw.specs.View.{View}
+use Rattle.cbor4ii_rw.specs.Reader.{counts}
+use Rattle.cbor4ii_rw.specs.declared.error.DecodeError.{DecodeError}
+use Rattle.cbor4ii_items.specs.Head.{IsBytes}
+use Rattle.cbor4ii_items.specs.Moves.{Took, Ends, Counted, EndsOrForgets, Kept, Broke, Moves, is_failure}
+
+pub drop_more : (m n : ℕ) (xs : List ℕ) → drop m (drop n xs) ≡ drop (n + m) xs
+drop_more m zero xs = let e : 0 + m ≡ m = omega arith in rw e refl
+drop_more m (suc n) [] = drop-nil m ∙ sym (drop-nil (suc n + m))
+drop_more m (suc n) (x ∷ xs) = let e : suc n + m ≡ suc (n + m) = omega arith in rw e (drop_more m n xs)
+
+bytes_more : (n m : ℕ) (xs : List ℕ) → IsBytes (take n xs) → IsBytes (take m (drop n xs)) → IsBytes (take (n + m) xs)
+bytes_more zero m xs p q = let e : 0 + m ≡ m = omega arith in rw e q
+bytes_more (suc n) m [] p q = let e : suc n + m ≡ suc (n + m) = omega arith in rw e tt
+bytes_more (suc n) m (x ∷ xs) p q = let e : suc n + m ≡ suc (n + m) = omega arith in rw e (p.0, bytes_more n m xs p.1 q)
+
+took_more : (xs : List ℕ) (b c : Option (List ℕ)) (n m : ℕ) → Took xs b n → Took (drop n xs) c m → Took xs c (n + m)
+took_more xs b c n m p q = record {
+  left = q.left ∙ ap Some (drop_more m n xs);
+  within = omega (arith, p.within, q.within, length-drop n xs);
+  bytes = bytes_more n m xs p.bytes q.bytes;
+}
+
+ends_then : (a b c : Option (List ℕ)) → Ends a b → Ends b c → Ends a c
+ends_then a b c p q xs told =
+    let u = p xs told in
+    let v = q (drop u.0 xs) u.1.left in
+    (u.0 + v.0, took_more xs b c u.0 v.0 u.1 v.1)
+
+ends_or_then : (a b c : Option (List ℕ)) → Ends a b → EndsOrForgets b c → EndsOrForgets a c
+ends_or_then a b c p q xs told ys left =
+    let u = p xs told in
+    let v = q (drop u.0 xs) u.1.left ys left in
+    (u.0 + v.0, v.1 ∙ drop_more v.0 u.0 xs)
+
+counts_none : (n : ℕ) (taken : Option ℕ) → n ≡ 0 → counts n taken ≡ taken
+counts_none n None none = refl
+counts_none n (Some k) none = let e : k + n ≡ k = omega (arith, none) in ap Some e
+
+pub counts_more : (n m k : ℕ) (taken : Option ℕ) → n + m ≡ k → counts m (counts n taken) ≡ counts k taken
+counts_more n m k None sum = refl
+counts_more n m k (Some t) sum = let e : (t + n) + m ≡ t + k = omega (arith, sum) in ap Some e
+
+-- where no byte is gone, the count stays
+pub counted_none : (a b : View) → ((xs : List ℕ) → a.told ≡ Some xs → b.told ≡ Some xs) → b.taken ≡ a.taken → Counted a b
+counted_none a b same stays xs told ys left n gone =
+    let e : xs ≡ ys = let p = same xs told in cc in
+    stays ∙ sym (counts_none n a.taken (omega (arith, gone, ap length e)))
+
+counted_then : (a b c : View) → Ends a.told b.told → Ends b.told c.told → Counted a b → Counted b c → Counted a c
+counted_then a b c p q first second xs told zs left n gone =
+    let u = p xs told in
+    let v = q (drop u.0 xs) u.1.left in
+    let e : drop v.0 (drop u.0 xs) ≡ zs = let l = v.1.left in cc in
+    let one = first xs told (drop u.0 xs) u.1.left u.0 (omega (arith, length-drop u.0 xs, u.1.within)) in
+    let two = second (drop u.0 xs) u.1.left zs left v.0 (omega (arith, ap length e, length-drop v.0 (drop u.0 xs), v.1.within)) in
+    two ∙ ap (counts v.0) one ∙ counts_more u.0 v.0 n a.taken (omega (arith, gone, ap length e, length-drop u.0 xs, length-drop v.0 (drop u.0 xs), u.1.within, v.1.within))
+
+pub kept_then : {a b c : View} → Kept a b → Kept b c → Kept a c
+kept_then {a = a} {b = b} {c = c} p q = record {
+  rest = ends_then a.told b.told c.told p.rest q.rest;
+  counted = counted_then a b c p.rest q.rest p.counted q.counted;
+  bound = omega (arith, p.bound, q.bound);
+  budget = q.budget ∙ p.budget;
+  failures = q.failures ∙ p.failures;
+  lends_whole = λ h. q.lends_whole (p.lends_whole h);
+}
+
+broke_then : {a b c : View} → Kept a b → Broke b c → Broke a c
+broke_then {a = a} {b = b} {c = c} p q = record {
+  rest = ends_or_then a.told b.told c.told p.rest q.rest;
+  bound = omega (arith, p.bound, q.bound);
+  budget = q.budget ∙ p.budget;
+  failures = rw p.failures at q.failures;
+  lends_whole = λ h. q.lends_whole (p.lends_whole h);
+}
+
+by_failure : (t : Bool) (a b c : View) → Kept a b → MatchBool t (Broke b c) (Kept b c) → MatchBool t (Broke a c) (Kept a c)
+by_failure true a b c p q = broke_then p q
+by_failure false a b c p q = kept_then p q
+
+-- after a call that kept the reader, another one
+pub moves_then : {V E : Type 0} {r : Result V (DecodeError E)} {a b c : View} → Kept a b → Moves b c r → Moves a c r
+moves_then {r = r} {a = a} {b = b} {c = c} p q = record { by = by_failure (is_failure r) a b c p q.by }
+
+-- an error of one call, as that of another
+pub moves_err : {U V E : Type 0} {e : DecodeError E} {a b : View} → Moves {V = U} a b (Err e) → Moves {V = V} a b (Err e)
+moves_err p = record { by = p.by }

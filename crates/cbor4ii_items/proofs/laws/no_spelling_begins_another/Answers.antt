@@ -1,0 +1,5 @@
+use Rattle.cbor4ii_items.proofs.Backwards.{none_begins}
+use Rattle.cbor4ii_items.proofs.laws.no_spelling_begins_another.Goals as goal
+
+pub returns : goal.returns
+returns g c = none_begins _ _ _ g.met.T.Decode.one g.met.T.Decode.alone

@@ -1,0 +1,33 @@
+use Rattle.std.proofs.lemmas.Result.{err_from_is_err_and}
+use Rattle.cbor4ii_items.proofs.Running.{kept_taken}
+use Rattle.cbor4ii_items.proofs.Steps.{moves_then, moves_err, kept_then}
+use Rattle.cbor4ii_items.proofs.Containers.{exact_kept, saw, some_sound, some_refuses, some_stops, end_refuses, end_stops}
+use Rattle.cbor4ii_items.proofs.option.OptionDecode.decode.Goals as goal
+
+pub returns-in_err-first-clause-complete : goal.returns-in_err-first-clause-complete
+returns-in_err-first-clause-complete g c exact =
+    let p = err_from_is_err_and c.from_residual.result c.from_residual.ensures.1 in
+    rw (p.1, p.2) (end_refuses _ _ _ _ c.in_err-first.ensures.runs)
+
+pub returns-in_err-first-clause-stops : goal.returns-in_err-first-clause-stops
+returns-in_err-first-clause-stops g c exact =
+    let p = err_from_is_err_and c.from_residual.result c.from_residual.ensures.1 in
+    rw (p.1, p.2) (end_stops g.T.Spelled.stops _ c.in_err-first.ensures.runs)
+
+pub returns-in-Ok-clause-sound : goal.returns-in-Ok-clause-sound
+returns-in-Ok-clause-sound g c = some_sound _ _ _ _ _ _ (saw _ _ _ c.in_ok-first.ensures.runs) c.if-first.false c.if-first-2.false c.in-Ok.ensures.sound
+
+pub returns-in-Err-clause-complete : goal.returns-in-Err-clause-complete
+returns-in-Err-clause-complete g c exact = some_refuses _ _ _ _ _ (saw _ _ _ c.in_ok-first.ensures.runs) c.if-first.false c.if-first-2.false (c.in-Err.ensures.complete (exact_kept _ _ _ c.in_ok-first.ensures.runs.moves.by exact))
+
+pub returns-in-Err-clause-stops : goal.returns-in-Err-clause-stops
+returns-in-Err-clause-stops g c exact = some_stops _ _ _ _ _ _ (saw _ _ _ c.in_ok-first.ensures.runs) (c.in-Err.ensures.stops (exact_kept _ _ _ c.in_ok-first.ensures.runs.moves.by exact))
+
+pub returns-then-first-clause-moves : goal.returns-then-first-clause-moves
+returns-then-first-clause-moves g c = record { by = kept_taken c.in_ok-first.ensures.runs c.in_ok-first.ensures.byte c.advance.ensures }
+
+pub returns-in-Ok-clause-moves : goal.returns-in-Ok-clause-moves
+returns-in-Ok-clause-moves g c = record { by = kept_then c.in_ok-first.ensures.runs.moves.by c.in-Ok.ensures.moves.by }
+
+pub returns-in-Err-clause-moves : goal.returns-in-Err-clause-moves
+returns-in-Err-clause-moves g c = moves_then c.in_ok-first.ensures.runs.moves.by (moves_err c.in-Err.ensures.moves)

@@ -1,0 +1,29 @@
+use Rattle.std.proofs.lemmas.Result.{err_from_is_err_and}
+use Rattle.cbor4ii_items.proofs.Steps.{moves_then, moves_err, kept_then}
+use Rattle.cbor4ii_items.proofs.Containers.{exact_kept, tag_sound, tag_refuses, tag_no_head, tag_stops, tag_head_stops}
+use Rattle.cbor4ii_items.proofs.tag.TagDecode.decode.Goals as goal
+
+pub returns-in_err-number-clause-complete : goal.returns-in_err-number-clause-complete
+returns-in_err-number-clause-complete g c exact =
+    let p = err_from_is_err_and c.from_residual.result c.from_residual.ensures.1 in
+    rw (p.1, p.2) (tag_no_head _ _ _ c.in_err-number.ensures.complete)
+
+pub returns-in_err-number-clause-stops : goal.returns-in_err-number-clause-stops
+returns-in_err-number-clause-stops g c exact =
+    let p = err_from_is_err_and c.from_residual.result c.from_residual.ensures.1 in
+    rw (p.1, p.2) (tag_head_stops _ _ _ _ c.in_err-number.ensures.stops)
+
+pub returns-in-Ok-clause-moves : goal.returns-in-Ok-clause-moves
+returns-in-Ok-clause-moves g c = record { by = kept_then c.in_ok-number.ensures.runs.moves.by c.in-Ok.ensures.moves.by }
+
+pub returns-in-Ok-clause-sound : goal.returns-in-Ok-clause-sound
+returns-in-Ok-clause-sound g c = tag_sound _ _ _ _ _ c.in_ok-number.ensures.runs.moves.by c.in_ok-number.ensures.sound c.in-Ok.ensures.sound
+
+pub returns-in-Err-clause-moves : goal.returns-in-Err-clause-moves
+returns-in-Err-clause-moves g c = moves_then c.in_ok-number.ensures.runs.moves.by (moves_err c.in-Err.ensures.moves)
+
+pub returns-in-Err-clause-complete : goal.returns-in-Err-clause-complete
+returns-in-Err-clause-complete g c exact = tag_refuses _ _ _ _ _ c.in_ok-number.ensures.runs.moves.by c.in_ok-number.ensures.sound (c.in-Err.ensures.complete (exact_kept _ _ _ c.in_ok-number.ensures.runs.moves.by exact))
+
+pub returns-in-Err-clause-stops : goal.returns-in-Err-clause-stops
+returns-in-Err-clause-stops g c exact = tag_stops _ _ _ _ _ _ c.in_ok-number.ensures.runs.moves.by c.in_ok-number.ensures.sound (c.in-Err.ensures.stops (exact_kept _ _ _ c.in_ok-number.ensures.runs.moves.by exact))

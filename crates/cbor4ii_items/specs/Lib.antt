@@ -1,0 +1,21 @@
+-- What items are, and what reading and writing them answers.
+pub mod Head
+pub mod Refusal
+pub mod Moves
+pub mod Decoding
+pub mod Reading
+pub mod Heads
+pub mod ReadHead
+pub mod Outcome
+pub mod HeadLaws
+pub mod Numbers
+pub mod Laws
+pub mod Writing
+pub mod Magnitude
+pub mod ReadNumber
+pub mod Fronts
+pub mod SignedLaws
+pub mod BigLaws
+pub mod Containers
+pub mod ContainerLaws
+pub mod ReadBack

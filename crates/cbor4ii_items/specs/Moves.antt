@@ -1,0 +1,52 @@
+-- How a decoding call leaves the reader, whatever it answers and whether or not the bytes are told.
+use Rattle.std.specs.Prelude.{◌≡◌, ℕ, ◌+◌, ◌≤◌, Bool, false, List, length, take, drop, Some, Option, Result, Ok, Err, IsTrue, MatchBool}
+use Rattle.cbor4ii_rw.specs.View.{View, Told}
+use Rattle.cbor4ii_rw.specs.Reader.{Failed, counts}
+use Rattle.cbor4ii_rw.specs.declared.error.DecodeError.{DecodeError}
+use Rattle.cbor4ii_items.specs.Head.{IsBytes}
+use Rattle.cbor4ii_items.specs.Refusal.{is_read}
+
+-- the first n of the bytes xs were taken, and what is left is told
+pub record Took (xs : List ℕ) (new : Option (List ℕ)) (n : ℕ) : Type 0 where
+  pub left : new ≡ Some (drop n xs)
+  pub within : n ≤ length xs
+  pub bytes : IsBytes (take n xs)
+
+-- told bytes stay told, and what is left is an end of them
+abbrev pub Ends : Option (List ℕ) → Option (List ℕ) → Type 0
+Ends old new = Told old (λ xs. (n : ℕ) × Took xs new n)
+
+-- told bytes may be told no more; where they are, what is left is an end of them
+abbrev pub EndsOrForgets : Option (List ℕ) → Option (List ℕ) → Type 0
+EndsOrForgets old new = Told old (λ xs. Told new (λ ys. (n : ℕ) × (ys ≡ drop n xs)))
+
+-- where the bytes are told before and after, the count of those that were taken, if there is one, rises by as many as
+-- are gone
+abbrev pub Counted : View → View → Type 0
+Counted old new = Told old.told (λ xs. Told new.told (λ ys. (n : ℕ) → n + length ys ≡ length xs → new.taken ≡ counts n old.taken))
+
+-- The reader did not fail: what is left is an end, and the budget is as before.
+pub record Kept (old new : View) : Type 0 where
+  pub rest : Ends old.told new.told
+  pub counted : Counted old new
+  pub bound : new.bound ≤ old.bound
+  pub budget : new.budget ≡ old.budget
+  pub failures : new.failures ≡ old.failures
+  pub lends_whole : IsTrue old.lends_whole → IsTrue new.lends_whole
+
+-- The reader failed: what is left, where still told, is an end, and the budget is as before.
+pub record Broke (old new : View) : Type 0 where
+  pub rest : EndsOrForgets old.told new.told
+  pub bound : new.bound ≤ old.bound
+  pub budget : new.budget ≡ old.budget
+  pub failures : Failed old.failures new.failures
+  pub lends_whole : IsTrue old.lends_whole → IsTrue new.lends_whole
+
+-- the answer says that the reader failed
+abbrev pub is_failure : {V E : Type 0} → Result V (DecodeError E) → Bool
+is_failure (Ok v) = false
+is_failure (Err e) = is_read e
+
+-- `Read` is answered exactly where the reader failed in the call
+pub record Moves {V E : Type 0} (old new : View) (answer : Result V (DecodeError E)) : Type 0 where
+  pub by : MatchBool (is_failure answer) (Broke old new) (Kept old new)

@@ -1,0 +1,140 @@
+-- What numbers are spelled as, and how they are refused (RFC 8949 sections 3.1 and 3.4.3).
+use Rattle.std.specs.Prelude.{◌≡◌, ◌≢◌, ℕ, ◌+◌, ◌/◌, ◌^◌, ◌<◌, ◌≤◌, ◌⊎◌, ◌++◌, List, [], ◌∷◌, length, take, drop, Option, ℤ, pos, negsuc, codes, nat_lt, if◌then◌else◌}
+use Rattle.cbor4ii_rw.specs.declared.error.Len.TheVariants.{Small, Indefinite}
+use Rattle.cbor4ii_items.specs.declared.types.Negative.{Negative}
+use Rattle.cbor4ii_items.specs.Head.{head, open_head, shortest, IsBytes}
+use Rattle.cbor4ii_items.specs.Refusal.{Refusal, mismatch, eof, require_length, length_overflow, cast_overflow, len_of}
+use Rattle.cbor4ii_items.specs.Heads.{ReadsHead, StopsHead}
+use Rattle.cbor4ii_items.specs.Magnitude.{number_of, magnitude}
+
+-- ---- the argument of a head
+
+-- a head of this major type, of at most so many bytes of argument, whose argument is the number
+abbrev pub ReadsArgument : ℕ → ℕ → List ℕ → ℕ → ℕ → ℕ → Type 0
+ReadsArgument major width xs v n c = ReadsHead major width xs v n × (c ≡ 0)
+
+abbrev pub StopsArgument : List ℕ → ℕ → ℕ → List ℕ → Option ℕ → Refusal → List ℕ → Type 0
+StopsArgument name major width xs budget refusal rest = StopsHead name major width xs refusal rest
+
+-- an unsigned integer of so many bytes
+abbrev pub ReadsUnsigned : ℕ → List ℕ → ℕ → ℕ → ℕ → Type 0
+ReadsUnsigned width = ReadsArgument 0 width
+
+abbrev pub StopsUnsigned : List ℕ → ℕ → List ℕ → Option ℕ → Refusal → List ℕ → Type 0
+StopsUnsigned name width = StopsArgument name 0 width
+
+-- -1 - n for an unsigned integer n of so many bytes
+abbrev pub ReadsNegative : ℕ → List ℕ → Negative ℕ → ℕ → ℕ → Type 0
+ReadsNegative width xs v n c = ReadsArgument 1 width xs v.0 n c
+
+abbrev pub StopsNegative : List ℕ → ℕ → List ℕ → Option ℕ → Refusal → List ℕ → Type 0
+StopsNegative name width = StopsArgument name 1 width
+
+-- ---- signed integers of at most eight bytes
+
+-- from 0 on, or -1 - k, with k below the limit
+abbrev pub ReadsSigned : ℕ → ℕ → List ℕ → ℤ → ℕ → ℕ → Type 0
+ReadsSigned width limit xs (pos k) n c = ReadsHead 0 width xs k n × (k < limit) × (c ≡ 0)
+ReadsSigned width limit xs (negsuc k) n c = ReadsHead 1 width xs k n × (k < limit) × (c ≡ 0)
+
+-- the numbers of a signed type
+abbrev pub IsWithin : ℕ → ℤ → Type 0
+IsWithin limit (pos k) = k < limit
+IsWithin limit (negsuc k) = k < limit
+
+-- a head that is refused, or whose argument is out of range
+pub data StopsHalf (name : List ℕ) (major width limit : ℕ) (xs : List ℕ) (refusal : Refusal) (rest : List ℕ) : Type 0 where
+  head_refused : StopsHead name major width xs refusal rest → StopsHalf name major width limit xs refusal rest
+  argument_too_great : (v n : ℕ) → ReadsHead major width xs v n → limit ≤ v → refusal ≡ cast_overflow name → rest ≡ drop n xs → StopsHalf name major width limit xs refusal rest
+
+-- the first byte by the type's name, numbers from 0 on by a second name, and negative ones by a third
+pub data StopsSigned (name plus minus : List ℕ) (width limit : ℕ) (xs : List ℕ) (refusal : Refusal) (rest : List ℕ) : Type 0 where
+  no_signed_byte : xs ≡ [] → refusal ≡ eof name (Small 1) → rest ≡ [] → StopsSigned name plus minus width limit xs refusal rest
+  no_signed_head : (b : ℕ) (bs : List ℕ) → xs ≡ b ∷ bs → 2 ≤ b / 32 → refusal ≡ mismatch name b → rest ≡ xs → StopsSigned name plus minus width limit xs refusal rest
+  positive_refused : (b : ℕ) (bs : List ℕ) → xs ≡ b ∷ bs → b / 32 ≡ 0 → StopsHalf plus 0 width limit xs refusal rest → StopsSigned name plus minus width limit xs refusal rest
+  negative_refused : (b : ℕ) (bs : List ℕ) → xs ≡ b ∷ bs → b / 32 ≡ 1 → StopsHalf minus 1 width limit xs refusal rest → StopsSigned name plus minus width limit xs refusal rest
+
+-- ---- bignums of at most sixteen bytes
+
+-- a counted byte string, which is the number; n bytes in all
+pub record ReadsMagnitude (xs : List ℕ) (v n : ℕ) : Type 0 where
+  pub count : ℕ
+  pub before : ℕ
+  pub counted : ReadsHead 2 8 xs count before
+  pub short : count ≤ 16
+  pub within : before + count ≤ length xs
+  pub bytes : IsBytes (take count (drop before xs))
+  pub value : v ≡ number_of (take count (drop before xs))
+  pub size : n ≡ before + count
+
+-- the tag, in the first byte or the one after it, and the byte string
+pub record ReadsBignum (tag : ℕ) (xs : List ℕ) (v n : ℕ) : Type 0 where
+  pub before : ℕ
+  pub tagged : ReadsHead 6 1 xs tag before
+  pub size : ℕ
+  pub magnitude : ReadsMagnitude (drop before xs) v size
+  pub total : n ≡ before + size
+
+pub data StopsMagnitude (name : List ℕ) (xs : List ℕ) (refusal : Refusal) (rest : List ℕ) : Type 0 where
+  length_refused : (take 1 xs ≡ open_head 2 ∷ [] → ⊥) → StopsHead name 2 8 xs refusal rest → StopsMagnitude name xs refusal rest
+  length_open : xs ≡ open_head 2 ∷ rest → refusal ≡ require_length name Indefinite → StopsMagnitude name xs refusal rest
+  length_too_great : (count before : ℕ) → ReadsHead 2 8 xs count before → 16 < count → refusal ≡ length_overflow name (len_of count) → rest ≡ drop before xs → StopsMagnitude name xs refusal rest
+  content_cut : (count before : ℕ) → ReadsHead 2 8 xs count before → count ≤ 16 → length xs < before + count → refusal ≡ eof name (Small count) → rest ≡ [] → StopsMagnitude name xs refusal rest
+
+-- ---- u128
+
+abbrev pub ReadsU128 : List ℕ → ℕ → ℕ → ℕ → Type 0
+ReadsU128 xs v n c = (ReadsHead 0 8 xs v n ⊎ ReadsBignum 2 xs v n) × (c ≡ 0)
+
+pub data StopsU128 (xs : List ℕ) (refusal : Refusal) (rest : List ℕ) : Type 0 where
+  no_u128_byte : xs ≡ [] → refusal ≡ eof (codes "u128") (Small 1) → rest ≡ [] → StopsU128 xs refusal rest
+  u128_head_refused : (b : ℕ) (bs : List ℕ) → xs ≡ b ∷ bs → b / 32 ≡ 0 → StopsHead (codes "u64") 0 8 xs refusal rest → StopsU128 xs refusal rest
+  u128_tag_refused : (b : ℕ) (bs : List ℕ) → xs ≡ b ∷ bs → b / 32 ≢ 0 → StopsHead (codes "u128") 6 1 xs refusal rest → StopsU128 xs refusal rest
+  other_u128_tag : (tag before : ℕ) → ReadsHead 6 1 xs tag before → tag ≢ 2 → refusal ≡ mismatch (codes "u128::tag") tag → rest ≡ drop before xs → StopsU128 xs refusal rest
+  u128_bytes_refused : (before : ℕ) → ReadsHead 6 1 xs 2 before → StopsMagnitude (codes "u128::bytes") (drop before xs) refusal rest → StopsU128 xs refusal rest
+
+-- ---- i128
+
+abbrev pub ReadsI128 : List ℕ → ℤ → ℕ → ℕ → Type 0
+ReadsI128 xs (pos k) n c = (ReadsHead 0 8 xs k n ⊎ (ReadsBignum 2 xs k n × (k < 2 ^ 127))) × (c ≡ 0)
+ReadsI128 xs (negsuc k) n c = (ReadsHead 1 8 xs k n ⊎ (ReadsBignum 3 xs k n × (k < 2 ^ 127))) × (c ≡ 0)
+
+pub data StopsI128 (xs : List ℕ) (refusal : Refusal) (rest : List ℕ) : Type 0 where
+  no_i128_byte : xs ≡ [] → refusal ≡ eof (codes "i128") (Small 1) → rest ≡ [] → StopsI128 xs refusal rest
+  i128_head_refused : (b : ℕ) (bs : List ℕ) → xs ≡ b ∷ bs → b / 32 ≡ 0 → StopsHead (codes "u64") 0 8 xs refusal rest → StopsI128 xs refusal rest
+  i128_negative_refused : (b : ℕ) (bs : List ℕ) → xs ≡ b ∷ bs → b / 32 ≡ 1 → StopsHead (codes "i128") 1 8 xs refusal rest → StopsI128 xs refusal rest
+  i128_tag_refused : (b : ℕ) (bs : List ℕ) → xs ≡ b ∷ bs → 2 ≤ b / 32 → StopsHead (codes "i128") 6 1 xs refusal rest → StopsI128 xs refusal rest
+  other_i128_tag : (tag before : ℕ) → ReadsHead 6 1 xs tag before → tag ≢ 2 → tag ≢ 3 → refusal ≡ mismatch (codes "i128::tag") tag → rest ≡ drop before xs → StopsI128 xs refusal rest
+  i128_bytes_refused : (before : ℕ) → ReadsHead 6 1 xs 2 before → StopsMagnitude (codes "+i128::bytes") (drop before xs) refusal rest → StopsI128 xs refusal rest
+  i128_negative_bytes_refused : (before : ℕ) → ReadsHead 6 1 xs 3 before → StopsMagnitude (codes "-i128::bytes") (drop before xs) refusal rest → StopsI128 xs refusal rest
+  i128_too_great : (tag v n : ℕ) → (tag ≡ 2) ⊎ (tag ≡ 3) → ReadsBignum tag xs v n → 2 ^ 127 ≤ v → refusal ≡ cast_overflow (codes "i128") → rest ≡ drop n xs → StopsI128 xs refusal rest
+
+-- ---- what is written
+
+-- the shortest head of this major type with this argument
+abbrev pub shortest_head : ℕ → ℕ → List ℕ
+shortest_head major v = head major v (shortest v)
+
+-- a byte string
+abbrev pub string_bytes : List ℕ → List ℕ
+string_bytes content = shortest_head 2 (length content) ++ content
+
+-- a tag, and the number's bytes without leading zeros as a byte string
+abbrev pub bignum_bytes : ℕ → ℕ → List ℕ
+bignum_bytes tag v = shortest_head 6 tag ++ string_bytes (magnitude v)
+
+-- the argument of a head of this major type where it fits, else a bignum
+abbrev pub integer_bytes : ℕ → ℕ → ℕ → List ℕ
+integer_bytes major tag v = if nat_lt v (2 ^ 64) then shortest_head major v else bignum_bytes tag v
+
+abbrev pub unsigned_bytes : ℕ → List ℕ
+unsigned_bytes v = integer_bytes 0 2 v
+
+abbrev pub signed_head : ℤ → List ℕ
+signed_head (pos n) = shortest_head 0 n
+signed_head (negsuc n) = shortest_head 1 n
+
+-- from 0 on an unsigned integer, and -1 - n as the argument n of major type 1, or as a negative bignum
+abbrev pub signed_bytes : ℤ → List ℕ
+signed_bytes (pos n) = integer_bytes 0 2 n
+signed_bytes (negsuc n) = integer_bytes 1 3 n

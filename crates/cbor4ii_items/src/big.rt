@@ -1,0 +1,246 @@
+//! Integers of sixteen bytes: those that are no argument of a head are bignums.
+ghost use Rattle.std.specs.Prelude.{◌≡◌, ◌+◌, ◌<◌, ◌≤◌, ◌^◌, OnOk, IfOk, true, false, codes, pos, negsuc};
+ghost use Rattle.cbor4ii_items.specs.Reading.{Runs};
+ghost use Rattle.cbor4ii_items.specs.ReadNumber.{
+  magnitude_at,
+  small_magnitude_at,
+  u128_tagged,
+  u128_at,
+  u128_by,
+  i128_tagged,
+  i128_at,
+};
+ghost use Rattle.cbor4ii_items.specs.Numbers.{
+  ReadsU128,
+  StopsU128,
+  ReadsI128,
+  StopsI128,
+  unsigned_bytes,
+  signed_bytes,
+};
+ghost use Rattle.cbor4ii_items.specs.BigLaws.{
+  u128_one,
+  u128_within,
+  u128_positive,
+  u128_alone,
+  i128_one,
+  i128_within,
+  i128_positive,
+  i128_alone,
+};
+
+use crate::decode::{Decode, Spelled};
+use crate::encode::Encode;
+use crate::head::{head, length, number, peek};
+use crate::initial::if_major;
+use crate::major;
+use crate::push::{NEGATIVE_BIGNUM, POSITIVE_BIGNUM, push_signed_integer, push_unsigned_integer};
+use cbor4ii_rw::error::{DecodeError, EncodeError, Len, StaticStr};
+use cbor4ii_rw::read::Source;
+use cbor4ii_rw::write::Write;
+use std::alloc::Global;
+
+/// A counted byte string of at most sixteen bytes, as a number.
+fn magnitude<S: Source>(reader: &mut S, name: StaticStr) -> Result<u128, DecodeError<S::Error>>
+    ensures { Runs (magnitude_at name.now) (S.view reader.old) (S.view reader.new) result }
+{
+    match length(reader, name, major::BYTES)? {
+        Some(count) => {
+            if count > 16 {
+                return Err(DecodeError::LengthOverflow {
+                    name,
+                    found: Len::new(count as usize),
+                });
+            }
+            number(reader, name, count as u8)
+        }
+        None => Err(DecodeError::RequireLength {
+            name,
+            found: Len::Indefinite,
+        }),
+    }
+}
+
+/// A counted byte string of at most sixteen bytes, as a number below 2^127.
+fn small_magnitude<S: Source>(
+    reader: &mut S,
+    name: StaticStr,
+) -> Result<u128, DecodeError<S::Error>>
+    ensures runs { Runs (small_magnitude_at name.now) (S.view reader.old) (S.view reader.new) result }
+    ensures small { IfOk result (λ v. v < 2 ^ 127) }
+{
+    let number = magnitude(reader, name)?;
+    if number > i128::MAX as u128 {
+        return Err(DecodeError::CastOverflow { name: "i128" });
+    }
+    Ok(number)
+}
+
+/// The number of a bignum from 0 on, behind its tag.
+fn unsigned_bignum<S: Source>(reader: &mut S, tag: u8) -> Result<u128, DecodeError<S::Error>>
+    ensures { Runs (u128_tagged tag) (S.view reader.old) (S.view reader.new) result }
+{
+    if tag != POSITIVE_BIGNUM {
+        return Err(DecodeError::Mismatch {
+            name: "u128::tag",
+            found: tag,
+        });
+    }
+    magnitude(reader, "u128::bytes")
+}
+
+/// An unsigned integer, or a bignum from 0 on.
+fn unsigned<S: Source>(reader: &mut S) -> Result<u128, DecodeError<S::Error>>
+    ensures runs { Runs u128_at (S.view reader.old) (S.view reader.new) result }
+    ensures progress { OnOk result ((S.view reader.new).bound + 1 ≤ (S.view reader.old).bound) }
+{
+    if if_major(peek(reader, "u128", 1)?) == major::UNSIGNED {
+        let argument = head(reader, "u64", major::UNSIGNED, 8)?;
+        return Ok(argument as u128);
+    }
+    let tag = head(reader, "u128", major::TAG, 1)?;
+    unsigned_bignum(reader, tag as u8)
+}
+
+/// The number of a bignum of either sign, behind its tag.
+fn signed_bignum<S: Source>(reader: &mut S, tag: u8) -> Result<i128, DecodeError<S::Error>>
+    ensures { Runs (i128_tagged tag) (S.view reader.old) (S.view reader.new) result }
+{
+    if tag == POSITIVE_BIGNUM {
+        let number = small_magnitude(reader, "+i128::bytes")?;
+        return Ok(positive(number));
+    }
+    if tag == NEGATIVE_BIGNUM {
+        let number = small_magnitude(reader, "-i128::bytes")?;
+        return Ok(negative(number));
+    }
+    Err(DecodeError::Mismatch {
+        name: "i128::tag",
+        found: tag,
+    })
+}
+
+/// An integer of either sign, or a bignum.
+fn signed<S: Source>(reader: &mut S) -> Result<i128, DecodeError<S::Error>>
+    ensures runs { Runs i128_at (S.view reader.old) (S.view reader.new) result }
+    ensures progress { OnOk result ((S.view reader.new).bound + 1 ≤ (S.view reader.old).bound) }
+{
+    let major = if_major(peek(reader, "i128", 1)?);
+    if major == major::UNSIGNED {
+        let argument = head(reader, "u64", major::UNSIGNED, 8)?;
+        return Ok(positive(argument as u128));
+    }
+    if major == major::NEGATIVE {
+        let argument = head(reader, "i128", major::NEGATIVE, 8)?;
+        return Ok(negative(argument as u128));
+    }
+    let tag = head(reader, "i128", major::TAG, 1)?;
+    signed_bignum(reader, tag as u8)
+}
+
+fn positive(number: u128) -> i128
+    requires { number < 2 ^ 127 }
+    ensures { result ≡ pos number }
+{
+    number as i128
+}
+
+/// The negative integer -1 - n.
+fn negative(n: u128) -> i128
+    requires { n < 2 ^ 127 }
+    ensures { result ≡ negsuc n }
+{
+    -1 - n as i128
+}
+
+impl Spelled for u128 {
+    ghost reads = { ReadsU128 };
+
+    ghost same = { λ v w. v ≡ w };
+
+    ghost stops = { λ xs budget. StopsU128 xs };
+
+    ghost never_empty = { true };
+
+    ghost owned = { true };
+
+    ghost takes_memory = { false };
+
+    ghost closed = { true };
+
+    fn is_never_empty() -> bool {
+        true
+    }
+
+    fn is_owned() -> bool {
+        true
+    }
+}
+
+impl<S: Source> Decode<S> for u128 {
+    fn decode(alloc: Global, reader: &mut S) -> Result<u128, DecodeError<S::Error>> {
+        unsigned(reader)
+    }
+
+    ghost one = { u128_one };
+
+    ghost within = { u128_within };
+
+    ghost positive = { λ _. u128_positive };
+
+    ghost alone = { λ _. u128_alone };
+}
+
+impl Encode for u128 {
+    ghost bytes = { unsigned_bytes };
+
+    fn encode<W: Write>(&self, writer: &mut W) -> Result<(), EncodeError<W::Error>> {
+        push_unsigned_integer(writer, *self)
+    }
+}
+
+impl Spelled for i128 {
+    ghost reads = { ReadsI128 };
+
+    ghost same = { λ v w. v ≡ w };
+
+    ghost stops = { λ xs budget. StopsI128 xs };
+
+    ghost never_empty = { true };
+
+    ghost owned = { true };
+
+    ghost takes_memory = { false };
+
+    ghost closed = { true };
+
+    fn is_never_empty() -> bool {
+        true
+    }
+
+    fn is_owned() -> bool {
+        true
+    }
+}
+
+impl<S: Source> Decode<S> for i128 {
+    fn decode(alloc: Global, reader: &mut S) -> Result<i128, DecodeError<S::Error>> {
+        signed(reader)
+    }
+
+    ghost one = { i128_one };
+
+    ghost within = { i128_within };
+
+    ghost positive = { λ _. i128_positive };
+
+    ghost alone = { λ _. i128_alone };
+}
+
+impl Encode for i128 {
+    ghost bytes = { signed_bytes };
+
+    fn encode<W: Write>(&self, writer: &mut W) -> Result<(), EncodeError<W::Error>> {
+        push_signed_integer(writer, *self)
+    }
+}

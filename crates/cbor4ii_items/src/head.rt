@@ -1,0 +1,171 @@
+//! Heads, read one byte at a time.
+ghost use Rattle.std.specs.Prelude.{◌≡◌, ℕ, ◌+◌, ◌≤◌, ◌<◌, ◌^◌, OnOk, IfOk, IfErr};
+ghost use Rattle.cbor4ii_items.specs.Decoding.{Sound, Refuses, Stops};
+ghost use Rattle.cbor4ii_items.specs.Numbers.{ReadsArgument, StopsArgument};
+ghost use Rattle.cbor4ii_items.specs.Reading.{Runs, peek_at, byte_at};
+ghost use Rattle.cbor4ii_items.specs.ReadHead.{
+  number_on,
+  argument_at,
+  head_at,
+  length_at,
+  following,
+  allowed,
+};
+
+use cbor4ii_rw::ask::look;
+use cbor4ii_rw::error::{DecodeError, Len, StaticStr};
+use cbor4ii_rw::read::Source;
+
+/// The next byte, which stays. Where there is none, `expect` bytes were expected.
+pub(crate) fn peek<S: Source>(
+    reader: &mut S,
+    name: StaticStr,
+    expect: u16,
+) -> Result<u8, DecodeError<S::Error>>
+    ensures runs { Runs (peek_at name.now expect) (S.view reader.old) (S.view reader.new) result }
+    ensures byte { IfOk result (λ b. b < 256) }
+    ensures can { OnOk result (1 ≤ (S.view reader.new).advanceable) }
+{
+    let mut failure = None;
+    match look(reader, 1, &mut failure) {
+        Some(shown) => {
+            if shown.len() == 0 {
+                return Err(DecodeError::Eof {
+                    name,
+                    expect: Len::Small(expect),
+                });
+            }
+            Ok(shown[0])
+        }
+        None => match failure {
+            Some(error) => Err(DecodeError::Read(error)),
+            None => unreachable!(),
+        },
+    }
+}
+
+/// The next byte, taken. Where there is none, `expect` bytes were expected.
+pub(crate) fn take<S: Source>(
+    reader: &mut S,
+    name: StaticStr,
+    expect: u16,
+) -> Result<u8, DecodeError<S::Error>>
+    ensures runs { Runs (byte_at name.now expect) (S.view reader.old) (S.view reader.new) result }
+    ensures byte { IfOk result (λ b. b < 256) }
+    ensures progress { OnOk result ((S.view reader.new).bound + 1 ≤ (S.view reader.old).bound) }
+{
+    let byte = peek(reader, name, expect)?;
+    reader.advance(1);
+    Ok(byte)
+}
+
+/// So many bytes, most significant first.
+pub(crate) fn number<S: Source>(
+    reader: &mut S,
+    name: StaticStr,
+    bytes: u8,
+) -> Result<u128, DecodeError<S::Error>>
+    requires { bytes ≤ 16 }
+    ensures runs { Runs (number_on name.now bytes bytes 0) (S.view reader.old) (S.view reader.new) result }
+    ensures fits { IfOk result (λ v. v < 256 ^ bytes) }
+{
+    let mut value = 0;
+    for i in 0..bytes {
+        let byte = take(reader, name, bytes as u16)?;
+        value = value * 256 + byte as u128;
+    }
+    Ok(value)
+}
+
+fn following(info: u8) -> u8
+    ensures { result ≡ following info }
+{
+    match info {
+        24 => 1,
+        25 => 2,
+        26 => 4,
+        _ => 8,
+    }
+}
+
+fn allowed(width: u8, info: u8) -> bool
+    ensures { result ≡ allowed width info }
+{
+    info < 28 && following(info) <= width
+}
+
+/// The argument of a head that begins with `first`.
+fn argument<S: Source>(
+    reader: &mut S,
+    name: StaticStr,
+    width: u8,
+    first: u8,
+) -> Result<u64, DecodeError<S::Error>>
+    ensures runs { Runs (argument_at name.now width first) (S.view reader.old) (S.view reader.new) result }
+    ensures fits { 1 ≤ width → IfOk result (λ v. v < 256 ^ width) }
+{
+    let info = first % 32;
+    if info < 24 {
+        return Ok(info as u64);
+    }
+    if !allowed(width, info) {
+        return Err(DecodeError::Mismatch { name, found: first });
+    }
+    Ok(number(reader, name, following(info))? as u64)
+}
+
+/// A head of this major type, with an argument of at most so many bytes.
+pub(crate) fn head<S: Source>(
+    reader: &mut S,
+    name: StaticStr,
+    major: u8,
+    width: u8,
+) -> Result<u64, DecodeError<S::Error>>
+    ensures runs { Runs (head_at name.now major width) (S.view reader.old) (S.view reader.new) result }
+    ensures fits { 1 ≤ width → IfOk result (λ v. v < 256 ^ width) }
+    ensures progress { OnOk result ((S.view reader.new).bound + 1 ≤ (S.view reader.old).bound) }
+{
+    let first = take(reader, name, 1)?;
+    if first / 32 != major {
+        return Err(DecodeError::Mismatch { name, found: first });
+    }
+    argument(reader, name, width, first)
+}
+
+/// A head that is a whole item: what is read, and how it is refused.
+pub(crate) fn lone_head<S: Source>(
+    reader: &mut S,
+    name: StaticStr,
+    major: u8,
+    width: u8,
+) -> Result<u64, DecodeError<S::Error>>
+    requires { major < 8 }
+    ensures runs { Runs (head_at name.now major width) (S.view reader.old) (S.view reader.new) result }
+    ensures fits { 1 ≤ width → IfOk result (λ v. v < 256 ^ width) }
+    ensures progress { OnOk result ((S.view reader.new).bound + 1 ≤ (S.view reader.old).bound) }
+    ensures sound { IfOk result (Sound (ReadsArgument major width) (S.view reader.old) (S.view reader.new)) }
+    ensures complete { IfErr result (Refuses (ReadsArgument major width) (S.view reader.old)) }
+    ensures stops { IfErr result (Stops (StopsArgument name.now major width) (S.view reader.old) (S.view reader.new)) }
+{
+    head(reader, name, major, width)
+}
+
+/// The length that a head of this major type has: none where it is open.
+pub(crate) fn length<S: Source>(
+    reader: &mut S,
+    name: StaticStr,
+    major: u8,
+) -> Result<Option<u64>, DecodeError<S::Error>>
+    requires { major < 8 }
+    ensures runs { Runs (length_at name.now major) (S.view reader.old) (S.view reader.new) result }
+    ensures progress { OnOk result ((S.view reader.new).bound + 1 ≤ (S.view reader.old).bound) }
+{
+    let first = take(reader, name, 1)?;
+    if first == 32 * major + 31 {
+        return Ok(None);
+    }
+    if first / 32 != major {
+        return Err(DecodeError::Mismatch { name, found: first });
+    }
+    Ok(Some(argument(reader, name, 8, first)?))
+}

@@ -1,0 +1,62 @@
+//! Optional items.
+ghost use Rattle.std.specs.Prelude.{◌&&◌};
+ghost use Rattle.cbor4ii_items.specs.Containers.{ReadsOption, SameOption, StopsOption};
+ghost use Rattle.cbor4ii_items.specs.ContainerLaws.{
+  option_one,
+  option_within,
+  option_positive,
+  option_alone,
+};
+
+use crate::decode::{Decode, Spelled};
+use crate::head::peek;
+use crate::marker;
+use cbor4ii_rw::error::DecodeError;
+use cbor4ii_rw::read::Source;
+use std::alloc::Global;
+
+impl<T: Spelled> Spelled for Option<T> {
+    ghost reads = { ReadsOption T.reads };
+
+    ghost same = { SameOption T.same };
+
+    ghost stops = { StopsOption T.stops };
+
+    ghost never_empty = { T.never_empty };
+
+    ghost owned = { T.owned };
+
+    ghost takes_memory = { T.takes_memory };
+
+    ghost closed = { T.closed && T.never_empty };
+
+    fn is_never_empty() -> bool {
+        T::is_never_empty()
+    }
+
+    fn is_owned() -> bool {
+        T::is_owned()
+    }
+}
+
+impl<S: Source, T: Decode<S>> Decode<S> for Option<T> {
+    fn decode(alloc: Global, reader: &mut S) -> Result<Option<T>, DecodeError<S::Error>> {
+        let first = peek(reader, "option", 1)?;
+        if first == marker::NULL || first == marker::UNDEFINED {
+            reader.advance(1);
+            return Ok(None);
+        }
+        match T::decode(alloc, reader) {
+            Ok(value) => Ok(Some(value)),
+            Err(error) => Err(error),
+        }
+    }
+
+    ghost one = { option_one T.reads T.same T.one };
+
+    ghost within = { option_within T.reads T.within };
+
+    ghost positive = { option_positive T.reads T.never_empty T.positive };
+
+    ghost alone = { option_alone T.reads T.closed T.never_empty T.within T.positive T.alone };
+}

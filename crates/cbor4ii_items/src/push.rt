@@ -1,0 +1,174 @@
+//! Heads and numbers, written.
+ghost use Rattle.std.specs.Prelude.{
+  ◌≡◌,
+  ℕ,
+  ◌<◌,
+  ◌≤◌,
+  ◌<ℤ◌,
+  ◌≤ℤ◌,
+  pos,
+  negsuc,
+  take,
+  length,
+};
+ghost use Rattle.cbor4ii_items.specs.Writing.{Writes};
+ghost use Rattle.cbor4ii_items.specs.Magnitude.{without_leading_zeros};
+ghost use Rattle.cbor4ii_items.specs.Numbers.{
+  shortest_head,
+  signed_head,
+  string_bytes,
+  bignum_bytes,
+  integer_bytes,
+  unsigned_bytes,
+  signed_bytes,
+};
+
+use crate::major;
+use cbor4ii_rw::error::EncodeError;
+use cbor4ii_rw::write::Write;
+
+/// The tag of a bignum from 0 on (RFC 8949 section 3.4.3).
+pub(crate) const POSITIVE_BIGNUM: u8 = 2;
+/// The tag of a negative bignum: -1 - n for the number n of its bytes.
+pub(crate) const NEGATIVE_BIGNUM: u8 = 3;
+
+/// Writes these bytes in one push.
+pub(crate) fn push_bytes<W: Write>(
+    writer: &mut W,
+    bytes: &[u8],
+) -> Result<(), EncodeError<W::Error>>
+    ensures { Writes W.whole bytes.now (W.view writer.old) (W.view writer.new) result }
+{
+    match writer.push(bytes) {
+        Ok(()) => Ok(()),
+        Err(error) => Err(EncodeError::Write(error)),
+    }
+}
+
+/// Writes the shortest head of this major type with this argument, in one push.
+pub(crate) fn push_head<W: Write>(
+    writer: &mut W,
+    major: u8,
+    argument: u64,
+) -> Result<(), EncodeError<W::Error>>
+    requires { major < 8 }
+    ensures { Writes W.whole (shortest_head major argument) (W.view writer.old) (W.view writer.new) result }
+{
+    let (bytes, length) = shortest_head(major, argument);
+    push_bytes(writer, &bytes[..length])
+}
+
+/// The shortest head of this major type with this argument, at the front of nine bytes, and its
+/// length.
+fn shortest_head(major: u8, argument: u64) -> ([u8; 9], usize)
+    requires { major < 8 }
+    ensures within { result.1 ≤ 9 }
+    ensures head { take result.1 result.0 ≡ shortest_head major argument }
+{
+    let first = 32 * major;
+    let [a, b, c, d, e, f, g, h] = argument.to_be_bytes();
+    if argument < 24 {
+        ([first + h, 0, 0, 0, 0, 0, 0, 0, 0], 1)
+    } else if argument < 0x100 {
+        ([first + 24, h, 0, 0, 0, 0, 0, 0, 0], 2)
+    } else if argument < 0x1_0000 {
+        ([first + 25, g, h, 0, 0, 0, 0, 0, 0], 3)
+    } else if argument < 0x1_0000_0000 {
+        ([first + 26, e, f, g, h, 0, 0, 0, 0], 5)
+    } else {
+        ([first + 27, a, b, c, d, e, f, g, h], 9)
+    }
+}
+
+/// Writes a number from 0 on, or -1 - n, as a head.
+pub(crate) fn push_signed<W: Write>(writer: &mut W, value: i64) -> Result<(), EncodeError<W::Error>>
+    ensures { Writes W.whole (signed_head value) (W.view writer.old) (W.view writer.new) result }
+{
+    if value >= 0 {
+        push_head(writer, major::UNSIGNED, value as u64)
+    } else {
+        push_head(writer, major::NEGATIVE, (-1 - value) as u64)
+    }
+}
+
+/// Writes a number from 0 on.
+pub(crate) fn push_unsigned_integer<W: Write>(
+    writer: &mut W,
+    value: u128,
+) -> Result<(), EncodeError<W::Error>>
+    ensures { Writes W.whole (unsigned_bytes value) (W.view writer.old) (W.view writer.new) result }
+{
+    push_integer(writer, major::UNSIGNED, POSITIVE_BIGNUM, value)
+}
+
+/// Writes a number from 0 on, or -1 - n.
+pub(crate) fn push_signed_integer<W: Write>(
+    writer: &mut W,
+    value: i128,
+) -> Result<(), EncodeError<W::Error>>
+    ensures { Writes W.whole (signed_bytes value) (W.view writer.old) (W.view writer.new) result }
+{
+    if value >= 0 {
+        push_integer(writer, major::UNSIGNED, POSITIVE_BIGNUM, number(value))
+    } else {
+        push_integer(writer, major::NEGATIVE, NEGATIVE_BIGNUM, beyond(value))
+    }
+}
+
+fn number(value: i128) -> u128
+    requires { pos 0 ≤ℤ value }
+    ensures { value ≡ pos result }
+{
+    value as u128
+}
+
+/// The n of the negative integer -1 - n.
+fn beyond(value: i128) -> u128
+    requires { value <ℤ pos 0 }
+    ensures { value ≡ negsuc result }
+{
+    (-1 - value) as u128
+}
+
+/// Writes a number as the argument of a head of this major type where it fits, else as a bignum
+/// with this tag.
+fn push_integer<W: Write>(
+    writer: &mut W,
+    major: u8,
+    tag: u8,
+    value: u128,
+) -> Result<(), EncodeError<W::Error>>
+    requires { major < 8 }
+    ensures { Writes W.whole (integer_bytes major tag value) (W.view writer.old) (W.view writer.new) result }
+{
+    match u64::try_from(value) {
+        Ok(argument) => push_head(writer, major, argument),
+        Err(_) => push_bignum(writer, tag, value),
+    }
+}
+
+/// Writes a tag, and a number's bytes without leading zeros as a byte string.
+fn push_bignum<W: Write>(writer: &mut W, tag: u8, value: u128) -> Result<(), EncodeError<W::Error>>
+    ensures { Writes W.whole (bignum_bytes tag value) (W.view writer.old) (W.view writer.new) result }
+{
+    push_head(writer, major::TAG, tag as u64)?;
+    push_string(writer, without_leading_zeros(&value.to_be_bytes()))
+}
+
+/// Writes a byte string: its head in one push, and its content in another.
+fn push_string<W: Write>(writer: &mut W, content: &[u8]) -> Result<(), EncodeError<W::Error>>
+    ensures { Writes W.whole (string_bytes content.now) (W.view writer.old) (W.view writer.new) result }
+{
+    push_head(writer, major::BYTES, content.len() as u64)?;
+    push_bytes(writer, content)
+}
+
+fn without_leading_zeros(bytes: &[u8]) -> &[u8]
+    ensures { result.now ≡ without_leading_zeros bytes.now }
+{
+    let mut rest = bytes;
+    while let [0, tail @ ..] = rest {
+        rest = tail;
+    }
+    rest
+}

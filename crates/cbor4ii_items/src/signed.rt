@@ -1,0 +1,298 @@
+//! Signed integers of at most eight bytes.
+ghost use Rattle.std.specs.Prelude.{
+  ◌≡◌,
+  ◌+◌,
+  ◌<◌,
+  ◌≤◌,
+  ◌^◌,
+  OnOk,
+  IfOk,
+  IfErr,
+  true,
+  false,
+  codes,
+  pos,
+  negsuc,
+};
+ghost use Rattle.cbor4ii_items.specs.Reading.{Runs};
+ghost use Rattle.cbor4ii_items.specs.Decoding.{Sound, Refuses, Stops};
+ghost use Rattle.cbor4ii_items.specs.ReadNumber.{half_at, signed_at};
+ghost use Rattle.cbor4ii_items.specs.Numbers.{ReadsSigned, StopsSigned, IsWithin, signed_head};
+ghost use Rattle.cbor4ii_items.specs.SignedLaws.{signed_one, signed_within, signed_positive, signed_alone};
+
+use crate::decode::{Decode, Spelled};
+use crate::encode::Encode;
+use crate::head::{head, peek};
+use crate::initial::if_major;
+use crate::major;
+use crate::push::push_signed;
+use cbor4ii_rw::error::{DecodeError, EncodeError, StaticStr};
+use cbor4ii_rw::read::Source;
+use cbor4ii_rw::write::Write;
+use std::alloc::Global;
+
+/// A head with an argument below `limit`.
+fn head_below<S: Source>(
+    reader: &mut S,
+    name: StaticStr,
+    major: u8,
+    width: u8,
+    limit: u64,
+) -> Result<u64, DecodeError<S::Error>>
+    ensures runs { Runs (half_at name.now major width limit) (S.view reader.old) (S.view reader.new) result }
+    ensures below { IfOk result (λ v. v < limit) }
+    ensures progress { OnOk result ((S.view reader.new).bound + 1 ≤ (S.view reader.old).bound) }
+{
+    let argument = head(reader, name, major, width)?;
+    if argument >= limit {
+        return Err(DecodeError::CastOverflow { name });
+    }
+    Ok(argument)
+}
+
+/// A number from 0 on, or -1 - n, with an argument below `limit`.
+fn signed<S: Source>(
+    reader: &mut S,
+    name: StaticStr,
+    plus: StaticStr,
+    minus: StaticStr,
+    width: u8,
+    limit: u64,
+) -> Result<i64, DecodeError<S::Error>>
+    requires { limit ≤ 2 ^ 63 }
+    ensures runs { Runs (signed_at name.now plus.now minus.now width limit) (S.view reader.old) (S.view reader.new) result }
+    ensures range { IfOk result (IsWithin limit) }
+    ensures progress { OnOk result ((S.view reader.new).bound + 1 ≤ (S.view reader.old).bound) }
+{
+    let first = peek(reader, name, 1)?;
+    match if_major(first) {
+        major::UNSIGNED => {
+            let argument = head_below(reader, plus, major::UNSIGNED, width, limit)?;
+            Ok(positive(argument))
+        }
+        major::NEGATIVE => {
+            let argument = head_below(reader, minus, major::NEGATIVE, width, limit)?;
+            Ok(negative(argument))
+        }
+        _ => Err(DecodeError::Mismatch { name, found: first }),
+    }
+}
+
+fn positive(number: u64) -> i64
+    requires { number < 2 ^ 63 }
+    ensures { result ≡ pos number }
+{
+    number as i64
+}
+
+/// The negative integer -1 - n.
+fn negative(n: u64) -> i64
+    requires { n < 2 ^ 63 }
+    ensures { result ≡ negsuc n }
+{
+    -1 - n as i64
+}
+
+/// A signed number that is a whole item: what is read, and how it is refused.
+fn lone_signed<S: Source>(
+    reader: &mut S,
+    name: StaticStr,
+    plus: StaticStr,
+    minus: StaticStr,
+    width: u8,
+    limit: u64,
+) -> Result<i64, DecodeError<S::Error>>
+    requires { limit ≤ 2 ^ 63 }
+    ensures runs { Runs (signed_at name.now plus.now minus.now width limit) (S.view reader.old) (S.view reader.new) result }
+    ensures range { IfOk result (IsWithin limit) }
+    ensures progress { OnOk result ((S.view reader.new).bound + 1 ≤ (S.view reader.old).bound) }
+    ensures sound { IfOk result (Sound (ReadsSigned width limit) (S.view reader.old) (S.view reader.new)) }
+    ensures complete { IfErr result (Refuses (ReadsSigned width limit) (S.view reader.old)) }
+    ensures stops { IfErr result (Stops (λ xs budget. StopsSigned name.now plus.now minus.now width limit xs) (S.view reader.old) (S.view reader.new)) }
+{
+    signed(reader, name, plus, minus, width, limit)
+}
+
+impl Spelled for i8 {
+    ghost reads = { ReadsSigned 1 (2 ^ 7) };
+
+    ghost same = { λ v w. v ≡ w };
+
+    ghost stops = { λ xs budget. StopsSigned (codes "i8") (codes "+i8") (codes "-i8") 1 (2 ^ 7) xs };
+
+    ghost never_empty = { true };
+
+    ghost owned = { true };
+
+    ghost takes_memory = { false };
+
+    ghost closed = { true };
+
+    fn is_never_empty() -> bool {
+        true
+    }
+
+    fn is_owned() -> bool {
+        true
+    }
+}
+
+impl<S: Source> Decode<S> for i8 {
+    fn decode(alloc: Global, reader: &mut S) -> Result<i8, DecodeError<S::Error>> {
+        Ok(lone_signed(reader, "i8", "+i8", "-i8", 1, 0x80)? as i8)
+    }
+
+    ghost one = { signed_one 1 (2 ^ 7) };
+
+    ghost within = { signed_within 1 (2 ^ 7) };
+
+    ghost positive = { λ _. signed_positive 1 (2 ^ 7) };
+
+    ghost alone = { λ _. signed_alone 1 (2 ^ 7) };
+}
+
+impl Encode for i8 {
+    ghost bytes = { signed_head };
+
+    fn encode<W: Write>(&self, writer: &mut W) -> Result<(), EncodeError<W::Error>> {
+        push_signed(writer, *self as i64)
+    }
+}
+
+impl Spelled for i16 {
+    ghost reads = { ReadsSigned 2 (2 ^ 15) };
+
+    ghost same = { λ v w. v ≡ w };
+
+    ghost stops = { λ xs budget. StopsSigned (codes "i16") (codes "+i16") (codes "-i16") 2 (2 ^ 15) xs };
+
+    ghost never_empty = { true };
+
+    ghost owned = { true };
+
+    ghost takes_memory = { false };
+
+    ghost closed = { true };
+
+    fn is_never_empty() -> bool {
+        true
+    }
+
+    fn is_owned() -> bool {
+        true
+    }
+}
+
+impl<S: Source> Decode<S> for i16 {
+    fn decode(alloc: Global, reader: &mut S) -> Result<i16, DecodeError<S::Error>> {
+        Ok(lone_signed(reader, "i16", "+i16", "-i16", 2, 0x8000)? as i16)
+    }
+
+    ghost one = { signed_one 2 (2 ^ 15) };
+
+    ghost within = { signed_within 2 (2 ^ 15) };
+
+    ghost positive = { λ _. signed_positive 2 (2 ^ 15) };
+
+    ghost alone = { λ _. signed_alone 2 (2 ^ 15) };
+}
+
+impl Encode for i16 {
+    ghost bytes = { signed_head };
+
+    fn encode<W: Write>(&self, writer: &mut W) -> Result<(), EncodeError<W::Error>> {
+        push_signed(writer, *self as i64)
+    }
+}
+
+impl Spelled for i32 {
+    ghost reads = { ReadsSigned 4 (2 ^ 31) };
+
+    ghost same = { λ v w. v ≡ w };
+
+    ghost stops = { λ xs budget. StopsSigned (codes "i32") (codes "+i32") (codes "-i32") 4 (2 ^ 31) xs };
+
+    ghost never_empty = { true };
+
+    ghost owned = { true };
+
+    ghost takes_memory = { false };
+
+    ghost closed = { true };
+
+    fn is_never_empty() -> bool {
+        true
+    }
+
+    fn is_owned() -> bool {
+        true
+    }
+}
+
+impl<S: Source> Decode<S> for i32 {
+    fn decode(alloc: Global, reader: &mut S) -> Result<i32, DecodeError<S::Error>> {
+        Ok(lone_signed(reader, "i32", "+i32", "-i32", 4, 0x8000_0000)? as i32)
+    }
+
+    ghost one = { signed_one 4 (2 ^ 31) };
+
+    ghost within = { signed_within 4 (2 ^ 31) };
+
+    ghost positive = { λ _. signed_positive 4 (2 ^ 31) };
+
+    ghost alone = { λ _. signed_alone 4 (2 ^ 31) };
+}
+
+impl Encode for i32 {
+    ghost bytes = { signed_head };
+
+    fn encode<W: Write>(&self, writer: &mut W) -> Result<(), EncodeError<W::Error>> {
+        push_signed(writer, *self as i64)
+    }
+}
+
+impl Spelled for i64 {
+    ghost reads = { ReadsSigned 8 (2 ^ 63) };
+
+    ghost same = { λ v w. v ≡ w };
+
+    ghost stops = { λ xs budget. StopsSigned (codes "i64") (codes "+i64") (codes "-i64") 8 (2 ^ 63) xs };
+
+    ghost never_empty = { true };
+
+    ghost owned = { true };
+
+    ghost takes_memory = { false };
+
+    ghost closed = { true };
+
+    fn is_never_empty() -> bool {
+        true
+    }
+
+    fn is_owned() -> bool {
+        true
+    }
+}
+
+impl<S: Source> Decode<S> for i64 {
+    fn decode(alloc: Global, reader: &mut S) -> Result<i64, DecodeError<S::Error>> {
+        lone_signed(reader, "i64", "+i64", "-i64", 8, 0x8000_0000_0000_0000)
+    }
+
+    ghost one = { signed_one 8 (2 ^ 63) };
+
+    ghost within = { signed_within 8 (2 ^ 63) };
+
+    ghost positive = { λ _. signed_positive 8 (2 ^ 63) };
+
+    ghost alone = { λ _. signed_alone 8 (2 ^ 63) };
+}
+
+impl Encode for i64 {
+    ghost bytes = { signed_head };
+
+    fn encode<W: Write>(&self, writer: &mut W) -> Result<(), EncodeError<W::Error>> {
+        push_signed(writer, *self)
+    }
+}

@@ -1,0 +1,2 @@
+-- What the test readers tell.
+pub mod Tells

@@ -1,0 +1,12 @@
+//! Rows of bytes as tests, over readers that cut them in every way.
+//!
+//! The rows' values come from RFC 8949 (its Appendix A above all) and from worked examples, never
+//! from this codec's own answers.
+#![tactic(auto)]
+
+#[cfg(test)]
+mod numbers;
+pub mod readers;
+#[cfg(test)]
+mod rows;
+pub mod writers;

@@ -1,0 +1,271 @@
+//! Readers for tests: a decoder has to answer alike over each of them.
+ghost use Rattle.std.specs.Prelude.{◌≡◌, None, Some};
+ghost use Rattle.std.proofs.Common.{rules};
+ghost use Rattle.cbor4ii_vectors.specs.Tells.{short_view, long_view, unlimited_view, failing_view};
+
+use cbor4ii_rw::error::Never;
+use cbor4ii_rw::read::{Read, Reference, Source};
+
+/// Shows one byte at a time, which does not outlive the fill.
+#[derive(Drop)]
+pub struct ShortByByte<'a> {
+    bytes: &'a [u8],
+    steps: usize,
+}
+
+/// Shows one byte at a time, which lives as long as the input.
+#[derive(Drop)]
+pub struct LongByByte<'a> {
+    bytes: &'a [u8],
+    steps: usize,
+}
+
+/// Shows all that is left, whatever is wanted, and lets items nest without a limit.
+#[derive(Drop)]
+pub struct Unlimited<'a> {
+    bytes: &'a [u8],
+}
+
+impl<'a> ShortByByte<'a> {
+    /// A reader over `bytes`, with `limit` steps.
+    pub fn new(bytes: &'a [u8], limit: usize) -> ShortByByte<'a>
+        ensures told { (short_view result).told ≡ Some bytes.now }
+        ensures budget { (short_view result).budget ≡ Some limit }
+    {
+        ShortByByte {
+            bytes,
+            steps: limit,
+        }
+    }
+
+    /// The bytes that are left.
+    pub fn remaining(&self) -> &'a [u8]
+        ensures { (short_view self.now).told ≡ Some result.now }
+    {
+        self.bytes
+    }
+}
+
+impl<'a> LongByByte<'a> {
+    /// A reader over `bytes`, with `limit` steps.
+    pub fn new(bytes: &'a [u8], limit: usize) -> LongByByte<'a>
+        ensures told { (long_view result).told ≡ Some bytes.now }
+        ensures budget { (long_view result).budget ≡ Some limit }
+    {
+        LongByByte {
+            bytes,
+            steps: limit,
+        }
+    }
+
+    /// The bytes that are left.
+    pub fn remaining(&self) -> &'a [u8]
+        ensures { (long_view self.now).told ≡ Some result.now }
+    {
+        self.bytes
+    }
+}
+
+impl<'a> Unlimited<'a> {
+    /// A reader over `bytes`.
+    pub fn new(bytes: &'a [u8]) -> Unlimited<'a>
+        ensures told { (unlimited_view result).told ≡ Some bytes.now }
+    {
+        Unlimited { bytes }
+    }
+
+    /// The bytes that are left.
+    pub fn remaining(&self) -> &'a [u8]
+        ensures { (unlimited_view self.now).told ≡ Some result.now }
+    {
+        self.bytes
+    }
+}
+
+impl Source for ShortByByte<'_> {
+    type Error = Never;
+
+    ghost view = { short_view };
+
+    fn show(&mut self, _want: usize) -> Result<&[u8], Never> {
+        Ok(&self.bytes[..self.bytes.len().min(1)])
+    }
+
+    fn advance(&mut self, n: usize) {
+        self.bytes = &self.bytes[n..];
+    }
+
+    fn step_in(&mut self) -> bool {
+        if self.steps == 0 {
+            return false;
+        }
+        self.steps -= 1;
+        true
+    }
+
+    fn step_out(&mut self) {
+        self.steps = self.steps.saturating_add(1);
+    }
+
+    ghost told_within_bound = { λ reader xs is. Prim.search rules };
+}
+
+impl<'de> Read<'de> for ShortByByte<'de> {
+    fn fill<'short>(&'short mut self, _want: usize) -> Result<Reference<'de, 'short>, Never> {
+        Ok(Reference::Short(&self.bytes[..self.bytes.len().min(1)]))
+    }
+}
+
+impl Source for LongByByte<'_> {
+    type Error = Never;
+
+    ghost view = { long_view };
+
+    fn show(&mut self, _want: usize) -> Result<&[u8], Never> {
+        Ok(&self.bytes[..self.bytes.len().min(1)])
+    }
+
+    fn advance(&mut self, n: usize) {
+        self.bytes = &self.bytes[n..];
+    }
+
+    fn step_in(&mut self) -> bool {
+        if self.steps == 0 {
+            return false;
+        }
+        self.steps -= 1;
+        true
+    }
+
+    fn step_out(&mut self) {
+        self.steps = self.steps.saturating_add(1);
+    }
+
+    ghost told_within_bound = { λ reader xs is. Prim.search rules };
+}
+
+impl<'de> Read<'de> for LongByByte<'de> {
+    fn fill<'short>(&'short mut self, _want: usize) -> Result<Reference<'de, 'short>, Never> {
+        Ok(Reference::Long(&self.bytes[..self.bytes.len().min(1)]))
+    }
+}
+
+impl Source for Unlimited<'_> {
+    type Error = Never;
+
+    ghost view = { unlimited_view };
+
+    fn show(&mut self, _want: usize) -> Result<&[u8], Never> {
+        Ok(self.bytes)
+    }
+
+    fn advance(&mut self, n: usize) {
+        self.bytes = &self.bytes[n..];
+    }
+
+    fn step_in(&mut self) -> bool {
+        true
+    }
+
+    fn step_out(&mut self) {}
+
+    ghost told_within_bound = { λ reader xs is. Prim.search rules };
+}
+
+impl<'de> Read<'de> for Unlimited<'de> {
+    fn fill<'short>(&'short mut self, _want: usize) -> Result<Reference<'de, 'short>, Never> {
+        Ok(Reference::Long(self.bytes))
+    }
+}
+
+/// That a test reader or a test writer failed, as it was told to.
+#[derive(Clone, Copy, Debug, PartialEq, Eq)]
+pub struct Failure;
+
+/// Shows one byte at a time, as `ShortByByte` does, and fails from one show on.
+#[derive(Drop)]
+pub struct FailsInTime<'a> {
+    bytes: &'a [u8],
+    steps: usize,
+    shows: usize,
+    failures: u64,
+}
+
+impl<'a> FailsInTime<'a> {
+    /// A reader over `bytes`, with 256 steps, that shows so many times before it fails.
+    pub fn new(bytes: &'a [u8], shows: usize) -> FailsInTime<'a>
+        ensures told { (failing_view result).told ≡ Some bytes.now }
+        ensures budget { (failing_view result).budget ≡ Some 256 }
+        ensures failures { (failing_view result).failures ≡ 0 }
+    {
+        FailsInTime {
+            bytes,
+            steps: 256,
+            shows,
+            failures: 0,
+        }
+    }
+
+    /// The bytes that are left.
+    pub fn remaining(&self) -> &'a [u8]
+        ensures { (failing_view self.now).told ≡ Some result.now }
+    {
+        self.bytes
+    }
+
+    /// How often it failed.
+    pub fn failures(&self) -> u64
+        ensures { (failing_view self.now).failures ≡ result }
+    {
+        self.failures
+    }
+
+    /// The steps that are left.
+    pub fn steps(&self) -> usize
+        ensures { (failing_view self.now).budget ≡ Some result }
+    {
+        self.steps
+    }
+}
+
+impl Source for FailsInTime<'_> {
+    type Error = Failure;
+
+    ghost view = { failing_view };
+
+    fn show(&mut self, _want: usize) -> Result<&[u8], Failure> {
+        if self.shows == 0 {
+            self.failures = self.failures.saturating_add(1);
+            return Err(Failure);
+        }
+        self.shows -= 1;
+        Ok(&self.bytes[..self.bytes.len().min(1)])
+    }
+
+    fn advance(&mut self, n: usize) {
+        self.bytes = &self.bytes[n..];
+    }
+
+    fn step_in(&mut self) -> bool {
+        if self.steps == 0 {
+            return false;
+        }
+        self.steps -= 1;
+        true
+    }
+
+    fn step_out(&mut self) {
+        self.steps = self.steps.saturating_add(1);
+    }
+
+    ghost told_within_bound = { λ reader xs is. Prim.search rules };
+}
+
+impl<'de> Read<'de> for FailsInTime<'de> {
+    fn fill<'short>(&'short mut self, want: usize) -> Result<Reference<'de, 'short>, Failure> {
+        match self.show(want) {
+            Ok(bytes) => Ok(Reference::Short(bytes)),
+            Err(error) => Err(error),
+        }
+    }
+}
