@@ -1,7 +1,28 @@
 //! Rows of numbers: RFC 8949 Appendix A, the edges of each type, and refusals.
 use crate::rows::{reads, writes};
+use cbor4ii_items::decode::Decode;
+use cbor4ii_items::encode::Encode;
 use cbor4ii_items::types::Negative;
+use cbor4ii_rw::buf_writer::BufWriter;
+use cbor4ii_rw::slice_reader::SliceReader;
 use std::test::Fail;
+
+// The README's example.
+#[test]
+fn numbers_one_after_another(rt: HostRuntime) -> Result<(), Fail> {
+    let alloc = rt.alloc();
+    let bytes = b"\x1a\x00\x0f\x42\x40\x20";
+    let mut reader = SliceReader::new(bytes);
+    let million = u64::decode(alloc, &mut reader)?;
+    let minus_one = i128::decode(alloc, &mut reader)?;
+    assert_eq!(rt; million, 1_000_000);
+    assert_eq!(rt; minus_one, -1);
+    let mut writer = BufWriter::new(Vec::new(alloc));
+    million.encode(&mut writer)?;
+    minus_one.encode(&mut writer)?;
+    assert_eq!(rt; writer.buffer(), bytes.as_slice());
+    Ok(())
+}
 
 #[test]
 fn unsigned_integers(rt: HostRuntime) -> Result<(), Fail> {
