@@ -1,5 +1,6 @@
 -- What items are, and what reading and writing them answers.
 pub mod Head
+pub mod Initial
 pub mod Refusal
 pub mod Moves
 pub mod Decoding

@@ -1,0 +1,120 @@
+-- What the initial byte of an encoded data item says, as the jump table of RFC 8949 appendix B does. The reserved
+-- additional information, and what this codec does not read of major type 7, have rows of their own.
+use Rattle.std.specs.Prelude.{ℕ, zero, suc, ◌/◌, ◌%◌, ◌==◌, nat_lt, if◌then◌else◌}
+use Rattle.cbor4ii_items.specs.Head.{Width, in_first, one, two, four, eight}
+
+-- Integers are of major type 0 or 1, strings of 2 or 3 (section 3.1).
+pub data Sign : Type 0 where
+  unsigned negative : Sign
+
+abbrev pub sign_major : Sign → ℕ
+sign_major unsigned = 0
+sign_major negative = 1
+
+pub data Kind : Type 0 where
+  byte_string text_string : Kind
+
+abbrev pub kind_major : Kind → ℕ
+kind_major byte_string = 2
+kind_major text_string = 3
+
+-- The simple values that have a byte of their own (section 3.3, table 4).
+pub data Simple : Type 0 where
+  simple_false simple_true simple_null simple_undefined : Simple
+
+abbrev pub simple_byte : Simple → ℕ
+simple_byte simple_false = 0xf4
+simple_byte simple_true = 0xf5
+simple_byte simple_null = 0xf6
+simple_byte simple_undefined = 0xf7
+
+-- The floats of IEEE 754: 16, 32 and 64 bits (section 3.3).
+pub data Precision : Type 0 where
+  half single double : Precision
+
+abbrev pub precision_byte : Precision → ℕ
+precision_byte half = 0xf9
+precision_byte single = 0xfa
+precision_byte double = 0xfb
+
+abbrev pub precision_bytes : Precision → ℕ
+precision_bytes half = 2
+precision_bytes single = 4
+precision_bytes double = 8
+
+-- The additional information of major types 0 to 6: a width, 31, or the reserved 28 to 30 (section 3).
+pub data Info : Type 0 where
+  wide : Width → Info
+  open_ended reserved : Info
+
+abbrev pub info_of : ℕ → Info
+info_of i =
+    if nat_lt i 24 then wide in_first
+    else (if i == 24 then wide one
+    else (if i == 25 then wide two
+    else (if i == 26 then wide four
+    else (if i == 27 then wide eight
+    else (if i == 31 then open_ended else reserved)))))
+
+pub data Initial : Type 0 where
+  starts_int : Sign → Width → Initial
+  bad_int : Sign → Initial
+  starts_string : Kind → Width → Initial
+  starts_chunks : Kind → Initial
+  bad_string : Kind → Initial
+  starts_array : Width → Initial
+  starts_open_array bad_array : Initial
+  starts_map : Width → Initial
+  starts_open_map bad_map : Initial
+  starts_tag : Width → Initial
+  bad_tag : Initial
+  starts_simple : Simple → Initial
+  starts_bits : Precision → Initial
+  other_simple : Initial
+
+abbrev pub int_by : Sign → Info → Initial
+int_by s (wide w) = starts_int s w
+int_by s _ = bad_int s
+
+abbrev pub string_by : Kind → Info → Initial
+string_by k (wide w) = starts_string k w
+string_by k open_ended = starts_chunks k
+string_by k reserved = bad_string k
+
+abbrev pub array_by : Info → Initial
+array_by (wide w) = starts_array w
+array_by open_ended = starts_open_array
+array_by reserved = bad_array
+
+abbrev pub map_by : Info → Initial
+map_by (wide w) = starts_map w
+map_by open_ended = starts_open_map
+map_by reserved = bad_map
+
+abbrev pub tag_by : Info → Initial
+tag_by (wide w) = starts_tag w
+tag_by _ = bad_tag
+
+-- Major type 7 (section 3.3): the other simple values and a break that stands where an item should are `other_simple`.
+abbrev pub simple_by : ℕ → Initial
+simple_by i =
+    if i == 20 then starts_simple simple_false
+    else (if i == 21 then starts_simple simple_true
+    else (if i == 22 then starts_simple simple_null
+    else (if i == 23 then starts_simple simple_undefined
+    else (if i == 25 then starts_bits half
+    else (if i == 26 then starts_bits single
+    else (if i == 27 then starts_bits double else other_simple))))))
+
+abbrev pub by_major : ℕ → ℕ → Initial
+by_major zero i = int_by unsigned (info_of i)
+by_major (suc zero) i = int_by negative (info_of i)
+by_major (suc (suc zero)) i = string_by byte_string (info_of i)
+by_major (suc (suc (suc zero))) i = string_by text_string (info_of i)
+by_major (suc (suc (suc (suc zero)))) i = array_by (info_of i)
+by_major (suc (suc (suc (suc (suc zero))))) i = map_by (info_of i)
+by_major (suc (suc (suc (suc (suc (suc zero)))))) i = tag_by (info_of i)
+by_major _ i = simple_by i
+
+unfoldable pub initial : ℕ → Initial
+initial b = by_major (b / 32) (b % 32)

@@ -1,0 +1,14 @@
+pub mod Binds
+pub mod Budgets
+pub mod Costs
+pub mod Canonical
+pub mod Sizes
+pub mod Answers
+pub mod MayStop
+pub mod Views
+pub mod Rows
+pub mod Nesting
+pub mod heads
+pub mod parts
+pub mod skipping
+pub mod reading

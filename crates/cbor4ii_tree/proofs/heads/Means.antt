@@ -1,0 +1,121 @@
+-- What an initial byte says, read backwards.
+use Rattle.std.proofs.Common.{◌≡◌, ℕ, zero, suc, ◌+◌, ◌*◌, ◌/◌, ◌%◌, ◌<◌, List, ◌∷◌, ◌++◌, Ok, refl, ap, ap₂, ◌∙◌, arith, cond, true, false, Bool, ltb, eqb, ltb-true, eqb-true, subst}
+use Rattle.cbor4ii_items.specs.Head.{Width, in_first, one, two, four, eight, HeadFits, additional, byte_count, head, open_head, IsBytes}
+use Rattle.cbor4ii_items.specs.Initial.{Sign, unsigned, negative, sign_major, Kind, byte_string, text_string, kind_major, simple_byte, precision_byte, Info, wide, open_ended, reserved, info_of, Initial, starts_int, starts_string, starts_chunks, starts_array, starts_open_array, starts_map, starts_open_map, starts_tag, starts_simple, starts_bits, initial, int_by, string_by, array_by, map_by, tag_by, simple_by, by_major}
+use Rattle.cbor4ii_tree.specs.Parse.{argument_at}
+use Rattle.cbor4ii_tree.specs.Skip.{whole_argument_at}
+use Rattle.cbor4ii_tree.proofs.Binds.{parts}
+use Rattle.cbor4ii_tree.proofs.heads.Inverse.{Whole, number_inverse, whole_number_inverse}
+
+abbrev pub WidthSays : Width → ℕ → Type 0
+WidthSays in_first i = i < 24
+WidthSays one i = i ≡ 24
+WidthSays two i = i ≡ 25
+WidthSays four i = i ≡ 26
+WidthSays eight i = i ≡ 27
+
+abbrev InfoSays : ℕ → Info → Type 0
+InfoSays i (wide w) = WidthSays w i
+InfoSays i open_ended = i ≡ 31
+InfoSays i reserved = Unit {0}
+
+abbrev pub HeadByte : ℕ → Width → ℕ → Type 0
+HeadByte major w b = (i : ℕ) × (b ≡ 32 * major + i) × WidthSays w i
+
+abbrev pub Means : ℕ → Initial → Type 0
+Means b (starts_int s w) = HeadByte (sign_major s) w b
+Means b (starts_string k w) = HeadByte (kind_major k) w b
+Means b (starts_chunks k) = b ≡ open_head (kind_major k)
+Means b (starts_array w) = HeadByte 4 w b
+Means b starts_open_array = b ≡ open_head 4
+Means b (starts_map w) = HeadByte 5 w b
+Means b starts_open_map = b ≡ open_head 5
+Means b (starts_tag w) = HeadByte 6 w b
+Means b (starts_simple s) = b ≡ simple_byte s
+Means b (starts_bits p) = b ≡ precision_byte p
+Means b _ = Unit {0}
+
+if_cases : {A : Type 0} (P : A → Type 0) (b : Bool) (x y : A) → (b ≡ true → P x) → (b ≡ false → P y) → P (cond b x y)
+if_cases P true x y f g = f refl
+if_cases P false x y f g = g refl
+
+info_says : (i : ℕ) → InfoSays i (info_of i)
+info_says i =
+    let P = InfoSays i in
+    if_cases P (ltb i 24) _ _ (λ h. ltb-true i 24 h) (λ _. if_cases P (eqb i 24) _ _ (λ h. eqb-true i 24 h) (λ _. if_cases P (eqb i 25) _ _ (λ h. eqb-true i 25 h)
+    (λ _. if_cases P (eqb i 26) _ _ (λ h. eqb-true i 26 h) (λ _. if_cases P (eqb i 27) _ _ (λ h. eqb-true i 27 h) (λ _. if_cases P (eqb i 31) _ _ (λ h. eqb-true i 31 h) (λ _. tt))))))
+
+simple_says : (i b : ℕ) → b ≡ 224 + i → Means b (simple_by i)
+simple_says i b e =
+    let P = Means b in
+    if_cases P (eqb i 20) _ _ (λ h. omega (arith, eqb-true i 20 h)) (λ _. if_cases P (eqb i 21) _ _ (λ h. omega (arith, eqb-true i 21 h)) (λ _. if_cases P (eqb i 22) _ _ (λ h. omega (arith, eqb-true i 22 h))
+    (λ _. if_cases P (eqb i 23) _ _ (λ h. omega (arith, eqb-true i 23 h)) (λ _. if_cases P (eqb i 25) _ _ (λ h. omega (arith, eqb-true i 25 h)) (λ _. if_cases P (eqb i 26) _ _ (λ h. omega (arith, eqb-true i 26 h))
+    (λ _. if_cases P (eqb i 27) _ _ (λ h. omega (arith, eqb-true i 27 h)) (λ _. tt)))))))
+
+int_says : (s : Sign) (i b : ℕ) (info : Info) → b ≡ 32 * sign_major s + i → InfoSays i info → Means b (int_by s info)
+int_says s i b (wide w) e h = (i, e, h)
+int_says s i b open_ended e h = tt
+int_says s i b reserved e h = tt
+
+string_says : (k : Kind) (i b : ℕ) (info : Info) → b ≡ 32 * kind_major k + i → InfoSays i info → Means b (string_by k info)
+string_says k i b (wide w) e h = (i, e, h)
+string_says k i b open_ended e h = e ∙ ap (λ j. 32 * kind_major k + j) h
+string_says k i b reserved e h = tt
+
+array_says : (i b : ℕ) (info : Info) → b ≡ 32 * 4 + i → InfoSays i info → Means b (array_by info)
+array_says i b (wide w) e h = (i, e, h)
+array_says i b open_ended e h = omega arith
+array_says i b reserved e h = tt
+
+map_says : (i b : ℕ) (info : Info) → b ≡ 32 * 5 + i → InfoSays i info → Means b (map_by info)
+map_says i b (wide w) e h = (i, e, h)
+map_says i b open_ended e h = omega arith
+map_says i b reserved e h = tt
+
+tag_says : (i b : ℕ) (info : Info) → b ≡ 32 * 6 + i → InfoSays i info → Means b (tag_by info)
+tag_says i b (wide w) e h = (i, e, h)
+tag_says i b open_ended e h = tt
+tag_says i b reserved e h = tt
+
+major_says : (m i b : ℕ) → m < 8 → b ≡ 32 * m + i → Means b (by_major m i)
+major_says zero i b h e = int_says unsigned i b (info_of i) e (info_says i)
+major_says (suc zero) i b h e = int_says negative i b (info_of i) e (info_says i)
+major_says (suc (suc zero)) i b h e = string_says byte_string i b (info_of i) e (info_says i)
+major_says (suc (suc (suc zero))) i b h e = string_says text_string i b (info_of i) e (info_says i)
+major_says (suc (suc (suc (suc zero)))) i b h e = array_says i b (info_of i) e (info_says i)
+major_says (suc (suc (suc (suc (suc zero))))) i b h e = map_says i b (info_of i) e (info_says i)
+major_says (suc (suc (suc (suc (suc (suc zero)))))) i b h e = tag_says i b (info_of i) e (info_says i)
+major_says (suc (suc (suc (suc (suc (suc (suc m))))))) i b h e = simple_says i b (omega arith)
+
+pub means : (b : ℕ) → b < 256 → Means b (initial b)
+unfolding initial
+means b h = major_says (b / 32) (b % 32) b (omega arith) (omega arith)
+
+-- a head that was read
+pub record Headed (major n : ℕ) (w : Width) (b : ℕ) (bs after : List ℕ) : Type 0 where
+  pub is : b ∷ bs ≡ head major n w ++ after
+  pub fits : HeadFits w n
+  pub more : IsBytes after
+
+headed : (major n : ℕ) (w : Width) (b : ℕ) (bs after : List ℕ) → b ≡ 32 * major + additional w n → HeadFits w n → Whole (byte_count w) n bs after → Headed major n w b bs after
+headed major n w b bs after e fits h = record { is = ap₂ ◌∷◌ e h.is; fits = fits; more = h.more }
+
+first_headed : (major n b : ℕ) (bs after : List ℕ) → IsBytes bs → HeadByte major in_first b → (b % 32 ≡ n) × (bs ≡ after) → Headed major n in_first b bs after
+first_headed major n b bs after more h e =
+    record { is = ap₂ ◌∷◌ (omega (arith, h.1, h.2, e.0)) e.1; fits = omega (arith, h.1, h.2, e.0); more = subst IsBytes e.1 more }
+
+pub argument_inverse : (name : List ℕ) (major n : ℕ) (w : Width) (b : ℕ) (bs after : List ℕ) → IsBytes bs → HeadByte major w b → argument_at name w b bs ≡ Ok (n, after) → Headed major n w b bs after
+unfolding argument_at
+argument_inverse name major n in_first b bs after more h e = first_headed major n b bs after more h (parts _ (b % 32) n bs after refl e)
+argument_inverse name major n one b bs after more h e = let whole = number_inverse name 1 n bs after more e in headed major n one b bs after (h.1 ∙ ap (λ j. 32 * major + j) h.2) (omega (arith, whole.below)) whole
+argument_inverse name major n two b bs after more h e = let whole = number_inverse name 2 n bs after more e in headed major n two b bs after (h.1 ∙ ap (λ j. 32 * major + j) h.2) whole.below whole
+argument_inverse name major n four b bs after more h e = let whole = number_inverse name 4 n bs after more e in headed major n four b bs after (h.1 ∙ ap (λ j. 32 * major + j) h.2) whole.below whole
+argument_inverse name major n eight b bs after more h e = let whole = number_inverse name 8 n bs after more e in headed major n eight b bs after (h.1 ∙ ap (λ j. 32 * major + j) h.2) whole.below whole
+
+pub whole_argument_inverse : (name : List ℕ) (major n : ℕ) (w : Width) (b : ℕ) (bs after : List ℕ) → IsBytes bs → HeadByte major w b → whole_argument_at name w b bs ≡ Ok (n, after) → Headed major n w b bs after
+unfolding whole_argument_at
+whole_argument_inverse name major n in_first b bs after more h e = first_headed major n b bs after more h (parts _ (b % 32) n bs after refl e)
+whole_argument_inverse name major n one b bs after more h e = let whole = whole_number_inverse name 1 n bs after more e in headed major n one b bs after (h.1 ∙ ap (λ j. 32 * major + j) h.2) (omega (arith, whole.below)) whole
+whole_argument_inverse name major n two b bs after more h e = let whole = whole_number_inverse name 2 n bs after more e in headed major n two b bs after (h.1 ∙ ap (λ j. 32 * major + j) h.2) whole.below whole
+whole_argument_inverse name major n four b bs after more h e = let whole = whole_number_inverse name 4 n bs after more e in headed major n four b bs after (h.1 ∙ ap (λ j. 32 * major + j) h.2) whole.below whole
+whole_argument_inverse name major n eight b bs after more h e = let whole = whole_number_inverse name 8 n bs after more e in headed major n eight b bs after (h.1 ∙ ap (λ j. 32 * major + j) h.2) whole.below whole

@@ -1,0 +1,21 @@
+use Rattle.cbor4ii_tree.proofs.skipping.Laws as lemmas
+use Rattle.cbor4ii_tree.proofs.MayStop.{skipping_may_stop}
+use Rattle.cbor4ii_tree.proofs.laws.skipping_tells_what_may_come.Goals as goal
+
+pub returns-clause-front : goal.returns-clause-front
+returns-clause-front c = lemmas.front_stops
+
+pub returns-clause-nothing_left : goal.returns-clause-nothing_left
+returns-clause-nothing_left c = lemmas.eof_leaves_nothing
+
+pub returns-clause-only_fronts : goal.returns-clause-only_fronts
+returns-clause-only_fronts c = lemmas.eof_on_front
+
+pub returns-clause-no_steps : goal.returns-clause-no_steps
+returns-clause-no_steps c = lemmas.depth_stays
+
+pub returns-clause-never : goal.returns-clause-never
+returns-clause-never c = lemmas.final_stays
+
+pub returns-clause-no_others : goal.returns-clause-no_others
+returns-clause-no_others c = skipping_may_stop

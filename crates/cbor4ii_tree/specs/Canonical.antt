@@ -1,0 +1,87 @@
+-- The canonical spelling of a value, the one that encoders write: shortest heads, lengths given, null for null and
+-- floats in their own width (preferred serialization, RFC 8949 section 4.1), and bignums for integers beyond 64 bits.
+-- Map keys keep their order, so it is not the whole of section 4.2.
+use Rattle.std.specs.Prelude.{ℕ, zero, suc, ◌^◌, List, [], ◌∷◌, length, Bool, true, false, nat_lt, if◌then◌else◌, pos, negsuc}
+use Rattle.std.specs.Int.{bytes_high_first}
+use Rattle.cbor4ii_items.specs.Head.{shortest}
+use Rattle.cbor4ii_items.specs.Initial.{unsigned, negative, Sign, byte_string, text_string, simple_false, simple_true, simple_null, Simple}
+use Rattle.cbor4ii_tree.specs.Tree.{Tree, int, string, array, map_of, tagged, simple, bits, Trees, no_trees, tree, Pairs, no_pairs, pair, bytes}
+use Rattle.cbor4ii_tree.specs.Cost.{cost}
+use Rattle.cbor4ii_tree.specs.Item.{Item, null, boolean, integer, float, bytes_item, text, sequence, mapping, tag, Items, no_items, item, item_count, Members, no_members, member, member_count}
+
+abbrev pub without_leading_zeros : List ℕ → List ℕ
+without_leading_zeros [] = []
+without_leading_zeros (zero ∷ bs) = without_leading_zeros bs
+without_leading_zeros (suc b ∷ bs) = suc b ∷ bs
+
+-- the bytes of a number below 2 ^ 128, most significant first, without leading zeros (section 3.4.3)
+abbrev pub magnitude : ℕ → List ℕ
+magnitude n = without_leading_zeros (bytes_high_first 16 n)
+
+abbrev pub sign_tag : Sign → ℕ
+sign_tag unsigned = 2
+sign_tag negative = 3
+
+-- a bignum: tag 2 over the bytes of n, or tag 3 over those of n for the integer -1 - n (section 3.4.3)
+abbrev pub bignum : Sign → ℕ → Tree
+bignum s n = tagged (sign_tag s) (shortest (sign_tag s)) (string byte_string (shortest (length (magnitude n))) (magnitude n))
+
+-- the shortest head, where the argument has one
+abbrev pub integer_tree : Sign → ℕ → Tree
+integer_tree s n = if nat_lt n (2 ^ 64) then int s n (shortest n) else bignum s n
+
+abbrev pub boolean_simple : Bool → Simple
+boolean_simple false = simple_false
+boolean_simple true = simple_true
+
+abbrev mutual
+  pub canon_tree : Item → Tree
+  canon_tree null = simple simple_null
+  canon_tree (boolean b) = simple (boolean_simple b)
+  canon_tree (integer (pos n)) = integer_tree unsigned n
+  canon_tree (integer (negsuc n)) = integer_tree negative n
+  canon_tree (float p n) = bits p n
+  canon_tree (bytes_item bs) = string byte_string (shortest (length bs)) bs
+  canon_tree (text bs) = string text_string (shortest (length bs)) bs
+  canon_tree (sequence vs) = array (shortest (item_count vs)) (canon_trees vs)
+  canon_tree (mapping ms) = map_of (shortest (member_count ms)) (canon_pairs ms)
+  canon_tree (tag n v) = tagged n (shortest n) (canon_tree v)
+
+  pub canon_trees : Items → Trees
+  canon_trees no_items = no_trees
+  canon_trees (item v vs) = tree (canon_tree v) (canon_trees vs)
+
+  pub canon_pairs : Members → Pairs
+  canon_pairs no_members = no_pairs
+  canon_pairs (member k v ms) = pair (canon_tree k) (canon_tree v) (canon_pairs ms)
+
+abbrev pub canon : Item → List ℕ
+canon v = bytes (canon_tree v)
+
+abbrev pub canon_cost : Item → ℕ
+canon_cost v = cost (canon_tree v)
+
+-- The value with each integer that has no head as the bignum that it is written as: what reading it back gives.
+abbrev pub tagged_integer : Sign → ℕ → Item → Item
+tagged_integer s n small = if nat_lt n (2 ^ 64) then small else tag (sign_tag s) (bytes_item (magnitude n))
+
+abbrev mutual
+  pub with_bignums : Item → Item
+  with_bignums null = null
+  with_bignums (boolean b) = boolean b
+  with_bignums (integer (pos n)) = tagged_integer unsigned n (integer (pos n))
+  with_bignums (integer (negsuc n)) = tagged_integer negative n (integer (negsuc n))
+  with_bignums (float p n) = float p n
+  with_bignums (bytes_item bs) = bytes_item bs
+  with_bignums (text bs) = text bs
+  with_bignums (sequence vs) = sequence (with_bignums_all vs)
+  with_bignums (mapping ms) = mapping (with_bignums_members ms)
+  with_bignums (tag n v) = tag n (with_bignums v)
+
+  pub with_bignums_all : Items → Items
+  with_bignums_all no_items = no_items
+  with_bignums_all (item v vs) = item (with_bignums v) (with_bignums_all vs)
+
+  pub with_bignums_members : Members → Members
+  with_bignums_members no_members = no_members
+  with_bignums_members (member k v ms) = member (with_bignums k) (with_bignums v) (with_bignums_members ms)

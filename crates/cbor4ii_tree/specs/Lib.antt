@@ -1,0 +1,15 @@
+pub mod Tree
+pub mod Item
+pub mod Meaning
+pub mod Cost
+pub mod Canonical
+pub mod Refusal
+pub mod Spelling
+pub mod Stops
+pub mod StopsSkipping
+pub mod StopsReading
+pub mod Parse
+pub mod Skip
+pub mod Read
+pub mod View
+pub mod ItemEquality

@@ -1,0 +1,67 @@
+-- The parts of the plain programs on lists. They compute, so that a row of bytes can be tried; the laws tie them to trees
+-- and stops.
+use Rattle.std.specs.Prelude.{ℕ, zero, suc, ◌+◌, ◌*◌, ◌-◌, ◌%◌, ◌==◌, List, [], ◌∷◌, length, take, drop, fold, Option, Some, None, Result, Ok, Err, nat_lt, if◌then◌else◌}
+use Rattle.cbor4ii_items.specs.Head.{Width, in_first, one, two, four, eight, break}
+use Rattle.cbor4ii_tree.specs.Tree.{Tree, Trees, no_trees, tree, Pairs, no_pairs, pair}
+use Rattle.cbor4ii_tree.specs.Cost.{Budget}
+use Rattle.cbor4ii_tree.specs.Refusal.{Refusal, eof, depth_overflow, len_of, Small, break_name}
+
+-- what was read and the bytes behind it, or the refusal and the bytes that are left then
+abbrev pub Answer : Type 0 → Type 0
+Answer A = Result (A × List ℕ) (Refusal × List ℕ)
+
+abbrev pub Parser : Type 0 → Type 0
+Parser A = List ℕ → Answer A
+
+infixl 10 ◌>>=◌
+abbrev pub ◌>>=◌ : {A B : Type 0} → Answer A → (A × List ℕ → Answer B) → Answer B
+(Ok x) >>= f = f x
+(Err e) >>= f = Err e
+
+-- the number of bytes that come most significant first
+abbrev pub big_endian : List ℕ → ℕ
+big_endian bs = fold (λ high b. high * 256 + b) 0 bs
+
+-- k bytes; where some are missing, as many are asked for
+abbrev pub front_at : List ℕ → ℕ → Parser (List ℕ)
+front_at name k bs = if nat_lt (length bs) k then Err (eof name (len_of (k - length bs)), []) else Ok (take k bs, drop k bs)
+
+-- the number in k bytes; where some are missing, all are asked for
+abbrev pub number_at : List ℕ → ℕ → Parser ℕ
+number_at name k bs = if nat_lt (length bs) k then Err (eof name (len_of k), []) else Ok (big_endian (take k bs), drop k bs)
+
+-- the argument of a head whose initial byte is b
+unfoldable pub argument_at : List ℕ → Width → ℕ → Parser ℕ
+argument_at name in_first b bs = Ok (b % 32, bs)
+argument_at name one b bs = number_at name 1 bs
+argument_at name two b bs = number_at name 2 bs
+argument_at name four b bs = number_at name 4 bs
+argument_at name eight b bs = number_at name 8 bs
+
+-- under one step more; or none is left, and these bytes are
+abbrev pub stepped : {A : Type 0} → List ℕ → Option Budget → List ℕ → (Budget → Answer A) → Answer A
+stepped name None here next = Err (depth_overflow name, here)
+stepped name (Some inner) here next = next inner
+
+unfoldable pub trees_at : Parser Tree → ℕ → Parser Trees
+trees_at item zero bs = Ok (no_trees, bs)
+trees_at item (suc n) bs = item bs >>= λ p. trees_at item n p.1 >>= λ q. Ok (tree p.0 q.0, q.1)
+
+unfoldable pub pairs_at : Parser Tree → ℕ → Parser Pairs
+pairs_at item zero bs = Ok (no_pairs, bs)
+pairs_at item (suc n) bs = item bs >>= λ k. item k.1 >>= λ v. pairs_at item n v.1 >>= λ q. Ok (pair k.0 v.0 q.0, q.1)
+
+-- Items up to a break. The number bounds the turns: more than the count of the bytes is enough.
+unfoldable pub open_trees_at : Parser Tree → ℕ → Parser Trees
+open_trees_at item n [] = Err (eof break_name (Small 1), [])
+open_trees_at item zero (b ∷ bs) = Err (eof break_name (Small 1), [])
+open_trees_at item (suc n) (b ∷ bs) =
+    if b == break then Ok (no_trees, bs)
+    else (item (b ∷ bs) >>= λ p. open_trees_at item n p.1 >>= λ q. Ok (tree p.0 q.0, q.1))
+
+unfoldable pub open_pairs_at : Parser Tree → ℕ → Parser Pairs
+open_pairs_at item n [] = Err (eof break_name (Small 1), [])
+open_pairs_at item zero (b ∷ bs) = Err (eof break_name (Small 1), [])
+open_pairs_at item (suc n) (b ∷ bs) =
+    if b == break then Ok (no_pairs, bs)
+    else (item (b ∷ bs) >>= λ k. item k.1 >>= λ v. open_pairs_at item n v.1 >>= λ q. Ok (pair k.0 v.0 q.0, q.1))

@@ -1,0 +1,85 @@
+-- The parts of a stop that skipping and reading a value share. A stop is a relation between an input, a refusal and the
+-- rest that it leaves, stated by heads and trees.
+use Rattle.std.specs.Prelude.{◌≡◌, ◌≢◌, ℕ, ◌-◌, ◌<◌, List, [], ◌∷◌, ◌++◌, length, ◌⊎◌, Option, Some, None}
+use Rattle.cbor4ii_items.specs.Head.{Width, byte_count, HeadFits, head, break}
+use Rattle.cbor4ii_tree.specs.Tree.{Tree, Trees, no_trees, tree, Pairs, no_pairs, pair, count, bytes, bytes_all, bytes_pairs}
+use Rattle.cbor4ii_tree.specs.Cost.{Budget}
+use Rattle.cbor4ii_tree.specs.Refusal.{Refusal, eof, depth_overflow, len_of, Small, break_name}
+
+abbrev pub Stopping : Type 1
+Stopping = List ℕ → Refusal → List ℕ → Type 0
+
+-- the refusal is this one, and these bytes are left
+abbrev pub Is : Refusal → List ℕ → Refusal → List ℕ → Type 0
+Is refusal left e rest = (e ≡ refusal) × (rest ≡ left)
+
+-- fewer than k bytes are there, and as many as are missing are asked for
+abbrev pub Missing : List ℕ → ℕ → Stopping
+Missing name k bs e rest = (length bs < k) × Is (eof name (len_of (k - length bs))) [] e rest
+
+-- fewer than k bytes are there, and all k are asked for
+abbrev pub MissingAll : List ℕ → ℕ → Stopping
+MissingAll name k bs e rest = (length bs < k) × Is (eof name (len_of k)) [] e rest
+
+-- A whole head of the major type, whose initial byte is b, and behind it the bytes stop as its argument says (section 3).
+pub record BehindHead (major : ℕ) (w : Width) (b : ℕ) (then : ℕ → Stopping) (bs : List ℕ) (e : Refusal) (rest : List ℕ) : Type 0 where
+  pub argument : ℕ
+  pub after : List ℕ
+  pub fits : HeadFits w argument
+  pub is : b ∷ bs ≡ head major argument w ++ after
+  pub stopped : then argument after e rest
+
+-- a head whose argument is cut, or a whole one and what stops behind it
+abbrev pub AtHead : List ℕ → ℕ → Width → ℕ → (ℕ → Stopping) → Stopping
+AtHead name major w b then bs e rest = MissingAll name (byte_count w) bs e rest ⊎ BehindHead major w b then bs e rest
+
+-- One more step is asked for: none is left, and nothing moves, or the bytes stop under what is left then.
+abbrev pub Stepped : List ℕ → Option Budget → List ℕ → (Budget → Refusal → List ℕ → Type 0) → Refusal → List ℕ → Type 0
+Stepped name None here stops e rest = Is (depth_overflow name) here e rest
+Stepped name (Some inner) here stops e rest = stops inner e rest
+
+abbrev pub Each : (Tree → Type 0) → Trees → Type 0
+Each Whole no_trees = Unit {0}
+Each Whole (tree t ts) = Whole t × Each Whole ts
+
+abbrev pub EachPair : (Tree → Type 0) → Pairs → Type 0
+EachPair Whole no_pairs = Unit {0}
+EachPair Whole (pair k v ps) = Whole k × Whole v × EachPair Whole ps
+
+-- Whole items, fewer than n, and then one that stops. The items of a map are its keys and values in turn (section 3.1).
+pub record Counted (Whole : Tree → Type 0) (stops : Stopping) (n : ℕ) (bs : List ℕ) (e : Refusal) (rest : List ℕ) : Type 0 where
+  pub front : Trees
+  pub after : List ℕ
+  pub few : count front < n
+  pub whole : Each Whole front
+  pub is : bs ≡ bytes_all front ++ after
+  pub stopped : stops after e rest
+
+-- Where an item or the break should come: the end of the input, or no break and an item that stops (section 3.2).
+abbrev pub NoBreak : Stopping → Stopping
+NoBreak stops [] e rest = Is (eof break_name (Small 1)) [] e rest
+NoBreak stops (b ∷ bs) e rest = (b ≢ break) × stops (b ∷ bs) e rest
+
+-- whole items, and then no break (section 3.2.2)
+pub record OpenItems (Whole : Tree → Type 0) (stops : Stopping) (bs : List ℕ) (e : Refusal) (rest : List ℕ) : Type 0 where
+  pub front : Trees
+  pub after : List ℕ
+  pub whole : Each Whole front
+  pub is : bs ≡ bytes_all front ++ after
+  pub stopped : NoBreak stops after e rest
+
+-- A whole key, and a value that stops. No break is looked for between the two (section 3.2.2).
+pub record BehindKey (Whole : Tree → Type 0) (stops : Stopping) (bs : List ℕ) (e : Refusal) (rest : List ℕ) : Type 0 where
+  pub key : Tree
+  pub after : List ℕ
+  pub whole : Whole key
+  pub is : bs ≡ bytes key ++ after
+  pub stopped : stops after e rest
+
+-- whole pairs, and then no break and a key that stops, or a value that does
+pub record OpenPairs (Whole : Tree → Type 0) (stops : Stopping) (bs : List ℕ) (e : Refusal) (rest : List ℕ) : Type 0 where
+  pub front : Pairs
+  pub after : List ℕ
+  pub whole : EachPair Whole front
+  pub is : bs ≡ bytes_pairs front ++ after
+  pub stopped : NoBreak stops after e rest ⊎ BehindKey Whole stops after e rest

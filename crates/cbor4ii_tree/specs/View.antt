@@ -1,0 +1,51 @@
+-- What a `Value` of the program stands for.
+use Rattle.std.specs.Prelude.{List, [], ◌∷◌, Bool, map, string_bytes}
+use Rattle.std.specs.Ordering.{on}
+use Rattle.cbor4ii_items.specs.Initial.{half, single, double}
+use Rattle.cbor4ii_tree.specs.Item.{Item, null, boolean, integer, float, bytes_item, text, sequence, mapping, tag, Items, no_items, item, Members, no_members, member}
+use Rattle.cbor4ii_tree.specs.ItemEquality.{item_eq}
+use Rattle.cbor4ii_tree.specs.declared.value.FloatBits.{FloatBits}
+use Rattle.cbor4ii_tree.specs.declared.value.FloatBits.TheVariants.{F16, F32, F64}
+use Rattle.cbor4ii_tree.specs.declared.value.Value.{Value, fold-Value}
+use Rattle.cbor4ii_tree.specs.declared.value.Value.TheOpen.{Value-F}
+
+abbrev pub items_of : List Item → Items
+items_of [] = no_items
+items_of (v ∷ vs) = item v (items_of vs)
+
+abbrev pub members_of : List (Item × Item) → Members
+members_of [] = no_members
+members_of (m ∷ ms) = member m.0 m.1 (members_of ms)
+
+abbrev pub float_view : FloatBits → Item
+float_view (F16 n) = float half n
+float_view (F32 n) = float single n
+float_view (F64 n) = float double n
+
+-- one level, with each value inside already seen as its item
+abbrev pub view_step : Value-F Item → Item
+view_step Value-F.Null = null
+view_step (Value-F.Bool b) = boolean b
+view_step (Value-F.Integer z) = integer z
+view_step (Value-F.Float f) = float_view f
+view_step (Value-F.Bytes v) = bytes_item v.items
+view_step (Value-F.Text s) = text (string_bytes s)
+view_step (Value-F.Array v) = sequence (items_of v.items)
+view_step (Value-F.Map v) = mapping (members_of v.items)
+view_step (Value-F.Tag n v) = tag n v.value
+
+abbrev pub view : Value → Item
+view = fold-Value Item view_step
+
+abbrev pub items_view : List Value → Items
+items_view vs = items_of (map view vs)
+
+abbrev pub pair_view : Value × Value → Item × Item
+pair_view m = (view m.0, view m.1)
+
+abbrev pub members_view : List (Value × Value) → Members
+members_view ms = members_of (map pair_view ms)
+
+-- what `==` answers
+abbrev pub same_view : Value → Value → Bool
+same_view = on view item_eq
