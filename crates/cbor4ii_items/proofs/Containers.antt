@@ -1,6 +1,7 @@
 -- Optional and tagged items, one part after another.
 use Rattle.std.proofs.Common.{◌≡◌, ◌≢◌, ℕ, ◌+◌, ◌≤◌, ◌⊎◌, inl, inr, List, [], ◌∷◌, length, drop, take, Option, Some, None, Ok, Err, Bool, refl, sym, ap, ◌∙◌, subst, arith, IfSome}
 use Rattle.std.specs.Prelude.{codes}
+use Rattle.std.proofs.lemmas.List.{length-drop}
 use Rattle.cbor4ii_rw.specs.View.{View, Told}
 use Rattle.cbor4ii_rw.specs.declared.error.DecodeError.{DecodeError}
 use Rattle.cbor4ii_items.specs.declared.types.Tag.{Tag}
@@ -17,9 +18,12 @@ use Rattle.cbor4ii_items.specs.Fronts.{drop_more}
 use Rattle.cbor4ii_items.proofs.Running.{peeked}
 use Rattle.cbor4ii_items.proofs.Leaves.{fits_zero}
 
--- what is exact stays so
-pub exact_kept : (owned : Bool) (a b : View) → Kept a b → IsExact owned a → IsExact owned b
-exact_kept owned a b kept h = elim h [ inl e ↦ inl e | inr e ↦ inr (kept.lends_whole e) ]
+-- what is exact stays so, where the bytes are told
+pub exact_kept : (owned : Bool) (a b : View) (xs : List ℕ) → a.told ≡ Some xs → Kept a b → IsExact owned a → IsExact owned b
+exact_kept owned a b xs told kept (inl e) = inl e
+exact_kept owned a b xs told kept (inr e) =
+    let t = kept.rest xs told in
+    inr (kept.lends_whole e.0, λ ys left. (let same : drop t.0 xs ≡ ys = let l = t.1.left in cc in omega (arith, ap length same, length-drop t.0 xs, e.1 xs told)))
 
 if_some : {P Q : Type 0} (o : Option Refusal) → (P → Q) → IfSome o (λ z. P) → IfSome o (λ z. Q)
 if_some None f h = tt
@@ -75,11 +79,11 @@ no_option : {V : Type 0} (reads : List ℕ → V → ℕ → ℕ → Type 0) (xs
 no_option reads xs old new e n h None k c r fits = n r.0
 no_option reads xs old new e n h (Some v) k c r fits = h v k c r.2 (subst (CostFits c) (sym e) fits)
 
-pub some_refuses : {V E : Type 0} (reads : List ℕ → V → ℕ → ℕ → Type 0) (a m : View) (e : DecodeError E) (first : ℕ) → Saw a m first → first ≢ 0xf6 → first ≢ 0xf7 → Refuses reads m e → Refuses (ReadsOption reads) a e
+pub some_refuses : {V E : Type 0} (reads : List ℕ → V → ℕ → ℕ → Type 0) (a m : View) (e : DecodeError E) (first : ℕ) → Saw a m first → first ≢ 0xf6 → first ≢ 0xf7 → ((xs : List ℕ) → a.told ≡ Some xs → Refuses reads m e) → Refuses (ReadsOption reads) a e
 some_refuses reads a m e first s p q h = record {
   at = λ xs told.
       let f = s.first xs told in
-      if_some (refusal_of e) (no_option reads xs m.budget a.budget s.budget (not_null xs first f.1 p q)) (h.at xs f.0);
+      if_some (refusal_of e) (no_option reads xs m.budget a.budget s.budget (not_null xs first f.1 p q)) ((h xs told).at xs f.0);
 }
 
 stops_some : (o : Option Refusal) (stops : List ℕ → Option ℕ → Refusal → List ℕ → Type 0) (xs : List ℕ) (old new : Option ℕ) (left : Option (List ℕ)) → old ≡ new → 1 ≤ length xs
@@ -88,11 +92,11 @@ stops_some None stops xs old new left e n h = tt
 stops_some (Some z) stops [] old new left e n h = absurd (omega arith)
 stops_some (Some z) stops (x ∷ xs) old new left e n h = (h.0, h.1, subst (λ k. stops (x ∷ xs) k z h.0) e h.2)
 
-pub some_stops : {E : Type 0} (stops : List ℕ → Option ℕ → Refusal → List ℕ → Type 0) (a m b : View) (e : DecodeError E) (first : ℕ) → Saw a m first → Stops stops m b e → Stops (StopsOption stops) a b e
+pub some_stops : {E : Type 0} (stops : List ℕ → Option ℕ → Refusal → List ℕ → Type 0) (a m b : View) (e : DecodeError E) (first : ℕ) → Saw a m first → ((xs : List ℕ) → a.told ≡ Some xs → Stops stops m b e) → Stops (StopsOption stops) a b e
 some_stops stops a m b e first s h = record {
   at = λ xs told.
       let f = s.first xs told in
-      stops_some (refusal_of e) stops xs m.budget a.budget b.told s.budget f.2 (h.at xs f.0);
+      stops_some (refusal_of e) stops xs m.budget a.budget b.told s.budget f.2 ((h xs told).at xs f.0);
 }
 
 -- ---- the end of the input
@@ -140,13 +144,13 @@ tag_sound reads a m b t kept h s = record {
       };
 }
 
-pub tag_refuses : {V E : Type 0} (reads : List ℕ → V → ℕ → ℕ → Type 0) (e : DecodeError E) (a m : View) (k : ℕ) → Kept a m → Sound (ReadsArgument 6 8) a m k → Refuses reads m e → Refuses (TagOf reads) a e
+pub tag_refuses : {V E : Type 0} (reads : List ℕ → V → ℕ → ℕ → Type 0) (e : DecodeError E) (a m : View) (k : ℕ) → Kept a m → Sound (ReadsArgument 6 8) a m k → ((xs : List ℕ) → a.told ≡ Some xs → Refuses reads m e) → Refuses (TagOf reads) a e
 tag_refuses reads e a m k kept h r = record {
   at = λ xs told.
       let p = h.at xs told in
       if_some (refusal_of e) (λ none t n c q fits.
       let same = head_one 6 8 xs t.0 k q.before p.count (omega arith) q.head p.read.0 in
-      none t.1 q.count c (subst (λ i. reads (drop i xs) t.1 q.count c) same.0 q.item) (subst (CostFits c) (sym kept.budget) fits)) (r.at (drop p.count xs) p.left);
+      none t.1 q.count c (subst (λ i. reads (drop i xs) t.1 q.count c) same.0 q.item) (subst (CostFits c) (sym kept.budget) fits)) ((r xs told).at (drop p.count xs) p.left);
 }
 
 pub tag_no_head : {V E : Type 0} (reads : List ℕ → V → ℕ → ℕ → Type 0) (e : DecodeError E) (a : View) → Refuses (ReadsArgument 6 8) a e → Refuses (TagOf reads) a e
@@ -157,11 +161,11 @@ stops_item : (o : Option Refusal) (stops : List ℕ → Option ℕ → Refusal �
 stops_item None stops xs k n old mid left e f h = tt
 stops_item (Some z) stops xs k n old mid left e f h = (h.0, h.1, inr (record { number = k; before = n; head = f; item = subst (λ b. stops (drop n xs) b z h.0) e h.2 }))
 
-pub tag_stops : {E : Type 0} (stops : List ℕ → Option ℕ → Refusal → List ℕ → Type 0) (a m b : View) (e : DecodeError E) (k : ℕ) → Kept a m → Sound (ReadsArgument 6 8) a m k → Stops stops m b e → Stops (StopsTag stops) a b e
+pub tag_stops : {E : Type 0} (stops : List ℕ → Option ℕ → Refusal → List ℕ → Type 0) (a m b : View) (e : DecodeError E) (k : ℕ) → Kept a m → Sound (ReadsArgument 6 8) a m k → ((xs : List ℕ) → a.told ≡ Some xs → Stops stops m b e) → Stops (StopsTag stops) a b e
 tag_stops stops a m b e k kept h s = record {
   at = λ xs told.
       let p = h.at xs told in
-      stops_item (refusal_of e) stops xs k p.count a.budget m.budget b.told kept.budget p.read.0 (s.at (drop p.count xs) p.left);
+      stops_item (refusal_of e) stops xs k p.count a.budget m.budget b.told kept.budget p.read.0 ((s xs told).at (drop p.count xs) p.left);
 }
 
 stops_head : (o : Option Refusal) (stops : List ℕ → Option ℕ → Refusal → List ℕ → Type 0) (xs : List ℕ) (budget : Option ℕ) (left : Option (List ℕ))

@@ -1,5 +1,5 @@
 -- What a decoding call answers, where the reader tells its bytes.
-use Rattle.std.specs.Prelude.{◌≡◌, ℕ, ◌≤◌, ◌⊎◌, Bool, List, drop, None, Some, Option, IfSome, IsTrue}
+use Rattle.std.specs.Prelude.{◌^◌, ◌<◌, length, ◌≡◌, ℕ, ◌≤◌, ◌⊎◌, Bool, List, drop, None, Some, Option, IfSome, IsTrue}
 use Rattle.cbor4ii_rw.specs.View.{View, Told}
 use Rattle.cbor4ii_rw.specs.declared.error.DecodeError.{DecodeError}
 use Rattle.cbor4ii_items.specs.Refusal.{Refusal, refusal_of}
@@ -41,6 +41,7 @@ pub record Refuses {V E : Type 0} (reads : List ℕ → V → ℕ → ℕ → Ty
 pub record Stops {E : Type 0} (stops : List ℕ → Option ℕ → Refusal → List ℕ → Type 0) (old new : View) (error : DecodeError E) : Type 0 where
   pub at : Told old.told (λ xs. IfSome (refusal_of error) (λ refusal. (rest : List ℕ) × (new.told ≡ Some rest) × stops xs old.budget refusal rest))
 
--- where acceptance is exact: the type needs no borrowed part, or the reader lends whole
+-- where acceptance is exact: the type needs no borrowed part, or the reader lends whole, and no more bytes are left than
+-- one fill can ask for
 abbrev pub IsExact : Bool → View → Type 0
-IsExact owned view = IsTrue owned ⊎ IsTrue view.lends_whole
+IsExact owned view = IsTrue owned ⊎ (IsTrue view.lends_whole × Told view.told (λ xs. length xs < 2 ^ 64))

@@ -1,5 +1,5 @@
 -- Heads are read off the front of bytes exactly as they are spelled there.
-use Rattle.std.proofs.Common.{◌≡◌, ℕ, zero, suc, ◌+◌, ◌-◌, ◌*◌, ◌/◌, ◌%◌, ◌^◌, ◌<◌, ◌≤◌, List, [], ◌∷◌, ◌++◌, length, drop, take, Ok, Bool, true, false, refl, sym, ap, ap₂, ◌∙◌, subst, arith, pow-suc, mul_comm, mod-eq_of_lt, lt-ltb, le-leb, ltb, leb, eqb, eq-eqb, eqb-true, ltb-true, ltb-false, leb-true, length-append, fold, cond, mul-le-mul_right}
+use Rattle.std.proofs.Common.{◌≡◌, ◌≢◌, ℕ, zero, suc, ◌+◌, ◌-◌, ◌*◌, ◌/◌, ◌%◌, ◌^◌, ◌<◌, ◌≤◌, List, [], ◌∷◌, ◌++◌, length, drop, take, Ok, Bool, true, false, refl, sym, ap, ap₂, ◌∙◌, subst, arith, pow-suc, mul_comm, mod-eq_of_lt, lt-ltb, le-leb, ltb, leb, eqb, eq-eqb, eqb-true, ltb-true, ltb-false, leb-true, length-append, fold, cond, mul-le-mul_right}
 use Rattle.std.specs.Int.{byte_at as number_byte, bytes_high_first}
 use Rattle.std.proofs.lemmas.Nat.{div-mul-add}
 use Rattle.std.proofs.lemmas.List.{length-drop}
@@ -9,7 +9,7 @@ use Rattle.std.proofs.Math.Seq.{drop-append_seam, take-append_seam}
 use Rattle.cbor4ii_items.specs.Head.{Width, in_first, one as w_one, two, four, eight, byte_count, HeadFits, additional, head, IsBytes}
 use Rattle.cbor4ii_items.specs.Refusal.{mismatch}
 use Rattle.cbor4ii_items.specs.Reading.{give, refuse}
-use Rattle.cbor4ii_items.specs.Heads.{ReadsHead}
+use Rattle.cbor4ii_items.specs.Heads.{ReadsHead, Begins}
 use Rattle.cbor4ii_items.specs.ReadHead.{head_at, argument_at, number_on, following, allowed}
 use Rattle.cbor4ii_items.specs.Outcome.{same_value}
 
@@ -63,12 +63,16 @@ behind_head w major v n ys e =
     let long : length (head major v w) ≡ n = ap suc (length-bytes_high_first (byte_count w) v) ∙ sym e in
     (ap (λ j. drop j (head major v w ++ ys)) (sym long) ∙ drop-append_seam (head major v w) ys, omega (arith, length-append (head major v w) ys, long))
 
+-- what stands behind a head that begins the input
+pub after_head : (major width : ℕ) (xs : List ℕ) (v n : ℕ) → (h : ReadsHead major width xs v n) → drop n xs ≡ h.rest
+after_head major width xs v n h = ap (drop n) h.is ∙ (behind_head h.wide major v n h.rest h.count).0
+
 -- a head that begins the input is the one that is read
 pub head_read : (name : List ℕ) (major width : ℕ) (xs : List ℕ) (v n : ℕ) → major < 8 → ReadsHead major width xs v n → (head_at name major width xs ≡ Ok (v, drop n xs)) × (n ≤ length xs) × (1 ≤ n)
 head_read name major width xs v n m h =
     let b = behind_head h.wide major v n h.rest h.count in
     let a : head_at name major width xs ≡ Ok (v, h.rest) = ap (head_at name major width) h.is ∙ head_again name h.wide major v width h.rest h.fits h.allowed in
-    let d : drop n xs ≡ h.rest = ap (drop n) h.is ∙ b.0 in
+    let d : drop n xs ≡ h.rest = after_head major width xs v n h in
     (a ∙ ap (λ (zs : List ℕ). Ok (v, zs)) (sym d), omega (arith, b.1, ap length h.is), omega (arith, h.count))
 
 abbrev pub onto : ℕ → List ℕ → ℕ
@@ -226,3 +230,62 @@ head_alone major width xs ys v n h = record {
   is = ap (λ zs. zs ++ ys) (head_front h.wide major v n h.rest h.count xs h.is);
   count = h.count;
 }
+
+-- ---- cut heads
+
+abbrev zeros : ℕ → List ℕ
+zeros zero = []
+zeros (suc k) = 0 ∷ zeros k
+
+length-zeros : (k : ℕ) → length (zeros k) ≡ k
+length-zeros zero = refl
+length-zeros (suc k) = ap suc (length-zeros k)
+
+some_zeros : (k : ℕ) → 0 < k → zeros k ≢ []
+some_zeros zero some e = omega arith
+some_zeros (suc k) some e = cc
+
+then_zeros : (bs : List ℕ) (k : ℕ) → IsBytes bs → IsBytes (bs ++ zeros k)
+then_zeros [] zero h = tt
+then_zeros [] (suc k) h = (omega arith, then_zeros [] k tt)
+then_zeros (b ∷ bs) k h = (h.0, then_zeros bs k h.1)
+
+fits_below : (wide : Width) (n : ℕ) → 0 < byte_count wide → n < 256 ^ byte_count wide → HeadFits wide n
+fits_below in_first n some h = absurd (omega arith)
+fits_below w_one n some h = omega arith
+fits_below two n some h = h
+fits_below four n some h = h
+fits_below eight n some h = h
+
+same_additional : (wide : Width) (n m : ℕ) → 0 < byte_count wide → additional wide n ≡ additional wide m
+same_additional in_first n m some = absurd (omega arith)
+same_additional w_one n m some = refl
+same_additional two n m some = refl
+same_additional four n m some = refl
+same_additional eight n m some = refl
+
+-- some head of this width begins with these bytes, and has more
+pub record Completes (major : ℕ) (wide : Width) (xs : List ℕ) : Type 0 where
+  pub argument : ℕ
+  pub fits : HeadFits wide argument
+  pub missing : List ℕ
+  pub some : missing ≢ []
+  pub joined : head major argument wide ≡ xs ++ missing
+
+-- a first byte with fewer bytes behind it than the argument has is the beginning of a head
+pub cut_head : (major width b : ℕ) (bs : List ℕ) (wide : Width) → Begins major width b wide → length bs < byte_count wide → IsBytes bs → Completes major wide (b ∷ bs)
+cut_head major width b bs wide begins short bytes =
+    let more = byte_count wide - length bs in
+    let all : List ℕ = bs ++ zeros more in
+    let long : length all ≡ byte_count wide = omega (arith, length-append bs (zeros more), length-zeros more, short) in
+    let every : IsBytes all = then_zeros bs more bytes in
+    let small : onto 0 all < 256 ^ byte_count wide = subst (λ k. onto 0 all < 256 ^ k) long (onto-lt all every) in
+    let some : 0 < byte_count wide = omega (arith, short) in
+    record {
+      argument = onto 0 all;
+      fits = fits_below wide (onto 0 all) some small;
+      missing = zeros more;
+      some = some_zeros more (omega (arith, short));
+      joined = ap₂ ◌∷◌ (ap (λ i. 32 * major + i) (same_additional wide (onto 0 all) begins.argument some) ∙ sym begins.is)
+          (ap (λ k. bytes_high_first k (onto 0 all)) (sym long) ∙ bytes_onto all 0 every);
+    }

@@ -23,7 +23,8 @@ use cbor4ii_rw::error::DecodeError;
 use cbor4ii_rw::read::Source;
 use std::alloc::Global;
 
-/// A type whose values are spelled in bytes. What stands here is the same for every reader.
+/// A type whose values are spelled in bytes. What stands here is the same for every reader, so
+/// that a value means the same over all of them.
 pub trait Spelled: Sized {
     // What is read: the bytes to come, the value, how many of them it takes, and the steps that
     // it costs.
@@ -58,8 +59,26 @@ pub trait Spelled: Sized {
 }
 
 /// A type whose values are read from a reader.
+///
+/// Its laws are asked of every implementation: one input is read in one way, what is read stands
+/// in the input, a type of which no spelling is empty reads a byte, and where the type is closed,
+/// a spelling is read whatever follows it.
 pub trait Decode<S: Source>: Spelled {
-    /// Reads one item off the front of what `reader` has left.
+    /// Reads one item off the front of what `reader` has left. `alloc` gives what memory the
+    /// value needs.
+    ///
+    /// Over any lawful reader, also one that does not tell its bytes, and whatever the answer is:
+    /// the budget is as before, the bytes that are left are an end of those that were there, no
+    /// more can come than before, and a reader that lends whole still does.
+    ///
+    /// # Errors
+    ///
+    /// `Read` where the reader failed in the call, and only there; its bytes may then be told no
+    /// more. `OutOfMemory` only from a type that may take memory, where a growth was refused.
+    /// Every other error speaks of the bytes. If the type needs no borrowed part, or the reader
+    /// lends whole and has fewer than 2^64 bytes left, it comes only where no spelling of the type
+    /// whose steps fit the budget begins the bytes; which error it is then, with which fields, and
+    /// which bytes are left, is what the type's `stops` says.
     fn decode(alloc: Global, reader: &mut S) -> Result<Self, DecodeError<S::Error>>
         ensures moves { Moves (S.view reader.old) (S.view reader.new) result }
         ensures progress { IsTrue Self.never_empty →

@@ -1,6 +1,6 @@
 //! Laws of what is read and written, each the contract of a function that does nothing.
 ghost use Rattle.std.specs.Prelude.{◌<◌, ◌≤◌, ◌^◌, ℕ, ℤ, IsTrue};
-ghost use Rattle.cbor4ii_items.specs.Head.{Width, byte_count};
+ghost use Rattle.cbor4ii_items.specs.Head.{Width, HeadFits, byte_count, shortest};
 ghost use Rattle.cbor4ii_items.specs.Numbers.{
   ReadsArgument,
   ReadsSigned,
@@ -16,6 +16,14 @@ ghost use Rattle.cbor4ii_items.specs.ReadBack.{ReadsBack, NoneBeginsAnother};
 
 use crate::decode::Decode;
 use cbor4ii_rw::read::Source;
+
+/// The shortest width fits its argument wherever any does, and has no more bytes than any that
+/// fits (RFC 8949 section 4.2.1).
+pub fn shortest_is_least()
+    ensures fits { (width : Width) → (n : ℕ) → HeadFits width n → HeadFits (shortest n) n }
+    ensures least { (width : Width) → (n : ℕ) → HeadFits width n →
+        byte_count (shortest n) ≤ byte_count width }
+{}
 
 /// Every integer is read from its own encoding, whatever follows it, and without a step.
 pub fn integers_are_read_back()

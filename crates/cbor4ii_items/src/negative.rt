@@ -1,5 +1,8 @@
 //! Negative integers of at most eight bytes, as -1 - n for the unsigned n.
-ghost use Rattle.std.specs.Prelude.{◌≡◌, true, false, codes};
+ghost use Rattle.std.specs.Prelude.{◌≡◌, true, false, codes, OnOk, OnErr, IsTrue};
+ghost use Rattle.cbor4ii_rw.specs.Reader.{Failed, Keeps};
+ghost use Rattle.cbor4ii_rw.specs.Writer.{Appends};
+ghost use Rattle.cbor4ii_items.specs.Writing.{AppendsFront};
 ghost use Rattle.cbor4ii_items.specs.Numbers.{ReadsNegative, StopsNegative, shortest_head};
 ghost use Rattle.cbor4ii_items.specs.Laws.{
   negative_one,
@@ -198,7 +201,19 @@ impl<S: Source> Decode<S> for Negative<u64> {
 impl Encode for Negative<u64> {
     ghost bytes = { λ v. shortest_head 1 v.0 };
 
-    fn encode<W: Write>(&self, writer: &mut W) -> Result<(), EncodeError<W::Error>> {
+    /// In one push: a whole writer that failed holds what it held before.
+    fn encode<W: Write>(&self, writer: &mut W) -> Result<(), EncodeError<W::Error>>
+        ensures appends { OnOk result
+            (Appends (shortest_head 1 self.now.0) (W.view writer.old).written (W.view writer.new).written) }
+        ensures counts { OnOk result
+            ((W.view writer.new).failures ≡ (W.view writer.old).failures) }
+        ensures failed { OnErr result
+            (Failed (W.view writer.old).failures (W.view writer.new).failures) }
+        ensures front { IsTrue W.whole → OnErr result
+            (AppendsFront (shortest_head 1 self.now.0) (W.view writer.old).written (W.view writer.new).written) }
+        ensures whole { IsTrue W.whole → OnErr result
+            (Keeps (W.view writer.old).written (W.view writer.new).written) }
+    {
         push_head(writer, major::NEGATIVE, self.0)
     }
 }

@@ -10,7 +10,10 @@ ghost use Rattle.std.specs.Prelude.{
   negsuc,
   take,
   length,
+  OnErr,
+  IsTrue,
 };
+ghost use Rattle.cbor4ii_rw.specs.Reader.{Keeps};
 ghost use Rattle.cbor4ii_items.specs.Writing.{Writes};
 ghost use Rattle.cbor4ii_items.specs.Magnitude.{without_leading_zeros};
 ghost use Rattle.cbor4ii_items.specs.Numbers.{
@@ -37,7 +40,9 @@ pub(crate) fn push_bytes<W: Write>(
     writer: &mut W,
     bytes: &[u8],
 ) -> Result<(), EncodeError<W::Error>>
-    ensures { Writes W.whole bytes.now (W.view writer.old) (W.view writer.new) result }
+    ensures writes { Writes W.whole bytes.now (W.view writer.old) (W.view writer.new) result }
+    ensures whole { IsTrue W.whole →
+        OnErr result (Keeps (W.view writer.old).written (W.view writer.new).written) }
 {
     match writer.push(bytes) {
         Ok(()) => Ok(()),
@@ -52,7 +57,9 @@ pub(crate) fn push_head<W: Write>(
     argument: u64,
 ) -> Result<(), EncodeError<W::Error>>
     requires { major < 8 }
-    ensures { Writes W.whole (shortest_head major argument) (W.view writer.old) (W.view writer.new) result }
+    ensures writes { Writes W.whole (shortest_head major argument) (W.view writer.old) (W.view writer.new) result }
+    ensures whole { IsTrue W.whole →
+        OnErr result (Keeps (W.view writer.old).written (W.view writer.new).written) }
 {
     let (bytes, length) = shortest_head(major, argument);
     push_bytes(writer, &bytes[..length])

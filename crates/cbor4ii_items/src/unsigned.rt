@@ -1,5 +1,8 @@
 //! Unsigned integers of at most eight bytes.
-ghost use Rattle.std.specs.Prelude.{◌≡◌, true, false, codes};
+ghost use Rattle.std.specs.Prelude.{◌≡◌, true, false, codes, OnOk, OnErr, IsTrue};
+ghost use Rattle.cbor4ii_rw.specs.Reader.{Failed, Keeps};
+ghost use Rattle.cbor4ii_rw.specs.Writer.{Appends};
+ghost use Rattle.cbor4ii_items.specs.Writing.{AppendsFront};
 ghost use Rattle.cbor4ii_items.specs.Numbers.{ReadsUnsigned, StopsUnsigned, shortest_head};
 ghost use Rattle.cbor4ii_items.specs.Laws.{
   unsigned_one,
@@ -197,7 +200,19 @@ impl<S: Source> Decode<S> for u64 {
 impl Encode for u64 {
     ghost bytes = { shortest_head 0 };
 
-    fn encode<W: Write>(&self, writer: &mut W) -> Result<(), EncodeError<W::Error>> {
+    /// In one push: a whole writer that failed holds what it held before.
+    fn encode<W: Write>(&self, writer: &mut W) -> Result<(), EncodeError<W::Error>>
+        ensures appends { OnOk result
+            (Appends (shortest_head 0 self.now) (W.view writer.old).written (W.view writer.new).written) }
+        ensures counts { OnOk result
+            ((W.view writer.new).failures ≡ (W.view writer.old).failures) }
+        ensures failed { OnErr result
+            (Failed (W.view writer.old).failures (W.view writer.new).failures) }
+        ensures front { IsTrue W.whole → OnErr result
+            (AppendsFront (shortest_head 0 self.now) (W.view writer.old).written (W.view writer.new).written) }
+        ensures whole { IsTrue W.whole → OnErr result
+            (Keeps (W.view writer.old).written (W.view writer.new).written) }
+    {
         push_head(writer, major::UNSIGNED, *self)
     }
 }

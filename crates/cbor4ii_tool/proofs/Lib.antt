@@ -1,8 +1,4 @@
 -- Lemmas.
-pub mod Numbers
-pub mod Takes
-pub mod Widths
-pub mod Spelled
-pub mod Refused
 pub mod Rows
+pub mod Decoded
 pub mod Runs

@@ -1,54 +1,47 @@
 -- Rows of integers.
-use Rattle.std.proofs.Common.{◌≡◌, ◌≢◌, ℕ, suc, ◌+◌, ◌-◌, ◌*◌, ◌<◌, List, [], ◌∷◌, ◌++◌, length, drop, true, refl, sym, ap, ap₂, ◌∙◌, arith, append_assoc, append-nil, length-append, ltb, lt-ltb}
+use Rattle.std.proofs.Common.{◌≡◌, ◌≢◌, ℕ, suc, ◌+◌, ◌-◌, ◌*◌, ◌≤◌, List, [], ◌∷◌, ◌++◌, length, drop, refl, sym, ap, ◌∙◌, subst, arith, append_assoc, append-nil, length-append}
 use Rattle.std.specs.Prelude.{All}
 use Rattle.std.specs.List.{flat_map}
 use Rattle.std.proofs.lemmas.List.Elements.{All-head, All-tail, All-push}
 use Rattle.std.proofs.lemmas.Grind.{flat_map-append}
-use Rattle.std.proofs.Math.Seq.{drop-append_seam}
-use Rattle.cbor4ii_tool.specs.Head.{Width, in_first, one, two, four, eight, byte_count, HeadFits, additional}
-use Rattle.cbor4ii_tool.specs.Integer.{IntegerHead, IsInteger, spelling, spellings, IsRow, BeginsInteger, BeginsOther, IsCutInteger, width_of}
-use Rattle.cbor4ii_tool.proofs.Numbers.{length-bytes_high_first}
+use Rattle.cbor4ii_items.specs.Head.{Width, in_first, one, two, four, eight, byte_count, additional}
+use Rattle.cbor4ii_items.specs.Heads.{ReadsHead}
+use Rattle.cbor4ii_items.specs.HeadLaws.{additional-lt, head_one, after_head}
+use Rattle.cbor4ii_tool.specs.Integer.{IntegerHead, IsInteger, spelling, spellings, IsRow, BeginsInteger, BeginsOther, IsCutInteger}
 
 -- ---- one integer
-
-pub additional-below : (width : Width) (n : ℕ) → HeadFits width n → additional width n < 28
-additional-below in_first n h = omega arith
-additional-below one n h = omega arith
-additional-below two n h = omega arith
-additional-below four n h = omega arith
-additional-below eight n h = omega arith
-
--- the additional information says how long the argument is
-count_of_additional : (width : Width) (n : ℕ) → HeadFits width n → byte_count (width_of (additional width n)) ≡ byte_count width
-count_of_additional in_first n h = let e : ltb n 24 ≡ true = lt-ltb n 24 (omega arith) in rw e refl
-count_of_additional one n h = refl
-count_of_additional two n h = refl
-count_of_additional four n h = refl
-count_of_additional eight n h = refl
-
-length-spelling : (item : IntegerHead) → length (spelling item) ≡ suc (byte_count item.width)
-length-spelling item = ap suc (length-bytes_high_first (byte_count item.width) item.argument)
 
 same_first : {x y : ℕ} {xs ys : List ℕ} → x ∷ xs ≡ y ∷ ys → x ≡ y
 same_first e = cc
 
-same_length : (p q : IntegerHead) → IsInteger p → IsInteger q → 32 * p.major + additional p.width p.argument ≡ 32 * q.major + additional q.width q.argument
-    → length (spelling p) ≡ length (spelling q)
-same_length p q P Q first =
-    let small = additional-below p.width p.argument P.fits in
-    let other = additional-below q.width q.argument Q.fits in
-    let information : additional p.width p.argument ≡ additional q.width q.argument = omega (arith, small, other, first) in
-    let count : byte_count p.width ≡ byte_count q.width =
-    sym (count_of_additional p.width p.argument P.fits)
-    ∙ (ap (λ (i : ℕ). byte_count (width_of i)) information ∙ count_of_additional q.width q.argument Q.fits) in
-    length-spelling p ∙ (ap suc count ∙ sym (length-spelling q))
+same_major : (p q : IntegerHead) → IsInteger p → IsInteger q → 32 * p.major + additional p.width p.argument ≡ 32 * q.major + additional q.width q.argument → p.major ≡ q.major
+same_major p q P Q first =
+    let small = additional-lt p.argument p.width P.fits in
+    let other = additional-lt q.argument q.width Q.fits in
+    omega (arith, small, other, first)
+
+pub at_most_eight : (width : Width) → byte_count width ≤ 8
+at_most_eight in_first = omega arith
+at_most_eight one = omega arith
+at_most_eight two = omega arith
+at_most_eight four = omega arith
+at_most_eight eight = omega arith
+
+-- as the codec reads it
+abbrev as_head : (p : IntegerHead) → IsInteger p → (xs rest : List ℕ) → xs ≡ spelling p ++ rest → ReadsHead p.major 8 xs p.argument (suc (byte_count p.width))
+as_head p P xs rest e = record { wide = p.width; allowed = at_most_eight p.width; fits = P.fits; rest = rest; is = e; count = refl }
 
 -- of two integers at the front of the same bytes neither is longer
 pub prefix_free : (p q : IntegerHead) → IsInteger p → IsInteger q → (xs ys : List ℕ) → spelling p ++ xs ≡ spelling q ++ ys → xs ≡ ys
 prefix_free p q P Q xs ys e =
-    let long : length (spelling p) ≡ length (spelling q) = same_length p q P Q (same_first e) in
-    sym (drop-append_seam (spelling p) xs)
-    ∙ (ap₂ (λ (n : ℕ) (all : List ℕ). drop n all) long e ∙ drop-append_seam (spelling q) ys)
+    let all : List ℕ = spelling p ++ xs in
+    let major = same_major p q P Q (same_first e) in
+    let a = as_head p P all xs refl in
+    let b = as_head q Q all ys e in
+    let c = subst (λ m. ReadsHead m 8 all q.argument (suc (byte_count q.width))) (sym major) b in
+    let same = head_one p.major 8 all p.argument q.argument (suc (byte_count p.width)) (suc (byte_count q.width)) (omega (arith, P.major)) a c in
+    sym (after_head p.major 8 all p.argument (suc (byte_count p.width)) a)
+    ∙ (ap (λ n. drop n all) same.0 ∙ after_head q.major 8 all q.argument (suc (byte_count q.width)) b)
 
 pub none_begins_other : (bytes : List ℕ) → BeginsOther bytes → ¬ BeginsInteger bytes
 none_begins_other bytes begins front = begins.other front.item front.integer (same_first (sym begins.is ∙ front.is))

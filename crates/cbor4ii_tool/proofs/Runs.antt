@@ -1,16 +1,16 @@
 -- A run, one integer after another.
 use Rattle.std.proofs.Common.{◌≡◌, ◌≢◌, ℕ, ◌-◌, ◌⊎◌, inl, inr, List, [], ◌∷◌, ◌++◌, length, Option, Some, Result, Ok, Err, IfErr, IfSome, None, refl, sym, ap, ◌∙◌, subst, arith, append_assoc}
 use Rattle.cbor4ii_rw.specs.View.{View}
+use Rattle.cbor4ii_rw.specs.Reader.{Keeps}
 use Rattle.cbor4ii_rw.specs.Writer.{Output, Appends}
-use Rattle.cbor4ii_tool.specs.Head.{head, shortest}
 use Rattle.cbor4ii_tool.specs.Integer.{IntegerHead, IsRow, spelling, shortest_spelling, shortest_spellings, BeginsInteger}
-use Rattle.cbor4ii_tool.specs.Reading.{ReadsInteger, RefusesInteger}
+use Rattle.cbor4ii_tool.specs.Reading.{in_width, written_bytes, ReadsInteger, RefusesInteger}
 use Rattle.std.specs.Io.KnownBytes.{Appends as Grows}
 use Rattle.cbor4ii_tool.specs.Run.{StopsAt, Rewrites, IsRewritten, IsUnread, StandsIn}
 use Rattle.cbor4ii_tool.specs.declared.fault.Fault.{Fault}
 use Rattle.cbor4ii_tool.specs.declared.fault.Kind.{Kind}
-use Rattle.cbor4ii_tool.specs.declared.fault.Kind.TheVariants.{Read, Mismatch, Eof, Write}
-use Rattle.cbor4ii_tool.specs.declared.head.Head.{Head}
+use Rattle.cbor4ii_tool.specs.declared.fault.Kind.TheVariants.{Read, Mismatch, Eof, OutOfMemory, Write}
+use Rattle.cbor4ii_tool.specs.declared.integer.Integer.{Integer}
 use Rattle.cbor4ii_tool.proofs.Rows.{none_begins_other, none_begins_cut, some_other, row_more, row_length, flat_map-more, rows_clash}
 
 -- what the loop keeps: these items were read and written, and left is still to come
@@ -27,15 +27,15 @@ same_bytes : (xs ys : List ℕ) (told : Option (List ℕ)) → told ≡ Some xs 
 same_bytes xs ys told p q = cc
 
 -- one integer more
-pub more : (read : Head) (input left rest : List ℕ) (old mid new : Output) (a b : View) → a.told ≡ Some left → b.told ≡ Some rest → ReadsInteger read a b → Rewrote input left old mid
-    → Appends (head read.major read.argument (shortest read.argument)) mid.written new.written → new.failures ≡ mid.failures → Rewrote input rest old new
-more read input left rest old mid new a b told after reads before appends kept =
-    let item : IntegerHead = record { major = read.major; argument = read.argument; width = reads.width } in
-    let taken = reads.takes.told left told in
-    let is : left ≡ spelling item ++ rest = taken.2 ∙ ap (λ xs. spelling item ++ xs) (same_bytes taken.0 rest b.told taken.1 after) in
+pub more : (integer : Integer) (input left rest : List ℕ) (old mid new : Output) (a b : View) → a.told ≡ Some left → b.told ≡ Some rest → ReadsInteger integer a b → Rewrote input left old mid
+    → Appends (written_bytes integer) mid.written new.written → new.failures ≡ mid.failures → Rewrote input rest old new
+more integer input left rest old mid new a b told after reads before appends kept =
+    let takes = reads.takes left told in
+    let item : IntegerHead = in_width takes.width integer in
+    let is : left ≡ spelling item ++ rest = takes.joined ∙ ap (λ xs. spelling item ++ xs) (same_bytes takes.rest rest b.told takes.left after) in
     record {
       items = before.items ++ item ∷ [];
-      row = row_more before.items item left rest input before.row reads.integer is;
+      row = row_more before.items item left rest input before.row takes.valid is;
       written = subst (λ bytes. Appends bytes old.written new.written) (sym (flat_map-more shortest_spelling before.items item))
           (appends_then (shortest_spellings before.items) (shortest_spelling item) old.written mid.written new.written before.written appends);
       failures = kept ∙ before.failures;
@@ -48,7 +48,8 @@ stops_at : (kind : Kind) (left : List ℕ) (a b : View) → a.told ≡ Some left
 stops_at Read left a b told p q some refuses = absurd (elim refuses [ inl h ↦ omega arith | inr h ↦ omega arith ])
 stops_at Mismatch left a b told p q some refuses = let other = refuses left told in (other, none_begins_other left other)
 stops_at Eof left a b told p q some refuses = let cut = refuses left told in ((some, cut), none_begins_cut left cut)
-stops_at _ left a b told p q some refuses = absurd refuses
+stops_at OutOfMemory left a b told p q some refuses = absurd refuses
+stops_at _ left a b told p q some refuses = absurd (refuses left told)
 
 pub stopped : (fault : Fault) (input left : List ℕ) (old new : Output) (a b : View) → a.told ≡ Some left → a.failures ≡ 0 → b.failures ≡ 0 → length left ≢ 0 → RefusesInteger fault.kind a b
     → fault.at ≡ length input - length left → Rewrote input left old new → (items : List IntegerHead) × (rest : List ℕ) × Rewrites input old new (Err fault) items rest
@@ -63,6 +64,23 @@ stopped fault input left old new a b told p q some refuses at before =
         at = at ∙ row_length before.items left input before.row;
         kind = stop.0;
         longest = λ _. stop.1;
+      },
+    )
+
+-- where an integer was read and not written
+pub unwritten : (integer : Integer) (at : ℕ) (input left : List ℕ) (old mid new : Output) (a b : View) → a.told ≡ Some left → ReadsInteger integer a b → Keeps mid.written new.written
+    → at ≡ length input - length left → Rewrote input left old mid → (items : List IntegerHead) × (rest : List ℕ) × Rewrites input old new (Err (record { at = at; kind = Write })) items rest
+unwritten integer at input left old mid new a b told reads keeps is before =
+    let takes = reads.takes left told in (
+      before.items,
+      left,
+      record {
+        row = before.row;
+        written = λ xs held. keeps (xs ++ shortest_spellings before.items) (before.written xs held);
+        whole = tt;
+        at = is ∙ row_length before.items left input before.row;
+        kind = record { item = in_width takes.width integer; integer = takes.valid; more = takes.rest; is = takes.joined };
+        longest = λ other. absurd (other refl);
       },
     )
 

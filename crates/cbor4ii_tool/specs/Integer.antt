@@ -1,7 +1,7 @@
 -- Integers: items of major types 0 and 1 (RFC 8949 section 3.1), each of them a head alone.
-use Rattle.std.specs.Prelude.{◌≡◌, ◌≢◌, ℕ, ◌+◌, ◌*◌, ◌≤◌, List, [], ◌∷◌, ◌++◌, All, nat_lt, ◌==◌, if◌then◌else◌}
+use Rattle.std.specs.Prelude.{◌≡◌, ◌≢◌, ℕ, ◌+◌, ◌*◌, ◌≤◌, List, [], ◌∷◌, ◌++◌, All}
 use Rattle.std.specs.List.{flat_map}
-use Rattle.cbor4ii_tool.specs.Head.{Width, in_first, one, two, four, eight, HeadFits, additional, head, shortest}
+use Rattle.cbor4ii_items.specs.Head.{Width, HeadFits, additional, head, shortest}
 
 -- what a head says, and in which width
 pub record IntegerHead : Type 0 where
@@ -54,11 +54,3 @@ pub record IsCutInteger (bytes : List ℕ) : Type 0 where
   pub missing : List ℕ
   pub some : missing ≢ []
   pub joined : spelling item ≡ bytes ++ missing
-
--- the width that this additional information, below 28, stands for
-abbrev pub width_of : ℕ → Width
-width_of information =
-    if nat_lt information 24 then in_first
-    else (if information == 24 then one
-    else (if information == 25 then two
-    else (if information == 26 then four else eight)))

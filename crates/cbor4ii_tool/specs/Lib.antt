@@ -1,5 +1,5 @@
 -- What the program makes of its input.
-pub mod Head
 pub mod Integer
+pub mod Fault
 pub mod Reading
 pub mod Run

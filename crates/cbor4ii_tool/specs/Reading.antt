@@ -1,46 +1,61 @@
--- How a reader stands after bytes were taken off it.
-use Rattle.std.specs.Prelude.{◌≡◌, ◌≢◌, ℕ, ◌+◌, ◌^◌, ◌<◌, ◌≤◌, List, [], ◌++◌, length, Some, IsTrue}
-use Rattle.std.specs.Int.{bytes_high_first}
+-- How an integer is taken off a reader, or refused.
+use Rattle.std.specs.Prelude.{◌≡◌, ℕ, ◌+◌, ◌/◌, ◌≤◌, List, [], ◌∷◌, ◌++◌, Option, Some}
 use Rattle.cbor4ii_rw.specs.View.{View, Told}
-use Rattle.cbor4ii_rw.specs.Reader.{Failed, counts}
-use Rattle.cbor4ii_tool.specs.Head.{Width}
-use Rattle.cbor4ii_tool.specs.Integer.{IsInteger, spelling, BeginsOther, IsCutInteger}
+use Rattle.cbor4ii_rw.specs.Reader.{Failed}
+use Rattle.cbor4ii_items.specs.Head.{Width, head, shortest}
+use Rattle.cbor4ii_tool.specs.Integer.{IntegerHead, IsInteger, spelling, BeginsOther, IsCutInteger}
 use Rattle.cbor4ii_tool.specs.declared.fault.Kind.{Kind}
-use Rattle.cbor4ii_tool.specs.declared.fault.Kind.TheVariants.{Read, Mismatch, Eof}
-use Rattle.cbor4ii_tool.specs.declared.head.Head.{Head}
+use Rattle.cbor4ii_tool.specs.declared.fault.Kind.TheVariants.{Read, Mismatch, Eof, OutOfMemory}
+use Rattle.cbor4ii_tool.specs.declared.integer.Integer.{Integer}
+use Rattle.cbor4ii_tool.specs.declared.integer.Integer.TheVariants.{Unsigned, Negative}
 
--- these bytes were the first of those told, and are taken; nothing else moved
-pub record Takes (bytes : List ℕ) (old new : View) : Type 0 where
-  pub told : Told old.told (λ xs. (left : List ℕ) × (new.told ≡ Some left) × (xs ≡ bytes ++ left))
-  pub bound : new.bound + length bytes ≤ old.bound
-  pub taken : new.taken ≡ counts (length bytes) old.taken
-  pub budget : new.budget ≡ old.budget
-  pub failures : new.failures ≡ old.failures
-  pub lends_whole : IsTrue old.lends_whole → IsTrue new.lends_whole
+-- ---- integers
 
--- these bytes begin a number of count bytes, the most significant first, and end inside it
-pub record IsCutNumber (count : ℕ) (bytes : List ℕ) : Type 0 where
-  pub number : ℕ
-  pub fits : number < 256 ^ count
-  pub missing : List ℕ
-  pub some : missing ≢ []
-  pub joined : bytes_high_first count number ≡ bytes ++ missing
+abbrev pub major_of : Integer → ℕ
+major_of (Unsigned n) = 0
+major_of (Negative n) = 1
 
--- why count bytes did not come: the reader failed, or told fewer
-abbrev pub Lacks : ℕ → Kind → View → View → Type 0
-Lacks count Read old new = Failed old.failures new.failures
-Lacks count Eof old new = Told old.told (IsCutNumber count)
-Lacks count _ old new = ⊥
+abbrev pub argument_of : Integer → ℕ
+argument_of (Unsigned n) = n
+argument_of (Negative n) = n.0
 
--- the bytes of an integer with this major type and argument are taken
-pub record ReadsInteger (read : Head) (old new : View) : Type 0 where
+-- its head in this width
+abbrev pub in_width : Width → Integer → IntegerHead
+in_width width integer = record { major = major_of integer; argument = argument_of integer; width = width }
+
+-- its head in the least width that its argument has
+abbrev pub written_bytes : Integer → List ℕ
+written_bytes integer = head (major_of integer) (argument_of integer) (shortest (argument_of integer))
+
+-- ---- reading
+
+-- the first byte is one of major type 1
+abbrev pub BeginsNegative : List ℕ → Type 0
+BeginsNegative [] = ⊥
+BeginsNegative (b ∷ bs) = b / 32 ≡ 1
+
+-- the integer stands at the front of the bytes xs in some width, and what stands behind it is left
+pub record Takes (integer : Integer) (xs : List ℕ) (new : Option (List ℕ)) : Type 0 where
   pub width : Width
-  pub integer : IsInteger (record { major = read.major; argument = read.argument; width = width })
-  pub takes : Takes (spelling (record { major = read.major; argument = read.argument; width = width })) old new
+  pub valid : IsInteger (in_width width integer)
+  pub rest : List ℕ
+  pub joined : xs ≡ spelling (in_width width integer) ++ rest
+  pub left : new ≡ Some rest
 
--- why no integer came
+-- the integer is taken, and the reader did not fail
+pub record ReadsInteger (integer : Integer) (old new : View) : Type 0 where
+  pub takes : Told old.told (λ xs. Takes integer xs new.told)
+  pub bound : new.bound + 1 ≤ old.bound
+  pub failures : new.failures ≡ old.failures
+
+-- what each kind says of the bytes
+abbrev pub RefusesAt : Kind → List ℕ → Type 0
+RefusesAt Mismatch xs = BeginsOther xs
+RefusesAt Eof xs = IsCutInteger xs
+RefusesAt _ xs = ⊥
+
+-- why no integer came: the reader failed, or its bytes begin none
 abbrev pub RefusesInteger : Kind → View → View → Type 0
 RefusesInteger Read old new = Failed old.failures new.failures
-RefusesInteger Mismatch old new = Told old.told BeginsOther
-RefusesInteger Eof old new = Told old.told IsCutInteger
-RefusesInteger _ old new = ⊥
+RefusesInteger OutOfMemory old new = ⊥
+RefusesInteger kind old new = Told old.told (RefusesAt kind)

@@ -1,6 +1,8 @@
 //! Why a run stopped.
 ghost use Rattle.std.specs.Prelude.{◌≡◌, is_ok, if◌then◌else◌};
+ghost use Rattle.cbor4ii_tool.specs.Fault.{kind_of};
 
+use cbor4ii_rw::error::DecodeError;
 use std::fmt;
 
 /// Why an item was not read or written, by the names of the codec's errors.
@@ -34,6 +36,29 @@ pub enum Kind {
     OutOfMemory,
     /// There was no memory for what is written, or it could not be written.
     Write,
+}
+
+impl Kind {
+    /// The kind of the error's own name.
+    pub fn of<E>(error: &DecodeError<E>) -> Kind
+        ensures { result ≡ kind_of error.now }
+    {
+        match error {
+            DecodeError::Read(_) => Kind::Read,
+            DecodeError::Mismatch { .. } => Kind::Mismatch,
+            DecodeError::Unsupported { .. } => Kind::Unsupported,
+            DecodeError::Eof { .. } => Kind::Eof,
+            DecodeError::RequireLength { .. } => Kind::RequireLength,
+            DecodeError::RequireBorrowed { .. } => Kind::RequireBorrowed,
+            DecodeError::RequireUtf8 { .. } => Kind::RequireUtf8,
+            DecodeError::LengthOverflow { .. } => Kind::LengthOverflow,
+            DecodeError::CastOverflow { .. } => Kind::CastOverflow,
+            DecodeError::ArithmeticOverflow { .. } => Kind::ArithmeticOverflow,
+            DecodeError::DepthOverflow { .. } => Kind::DepthOverflow,
+            DecodeError::Custom { .. } => Kind::Custom,
+            DecodeError::OutOfMemory => Kind::OutOfMemory,
+        }
+    }
 }
 
 /// Where a run stopped, and why. It prints as `fault at 5: Eof`.

@@ -11,8 +11,7 @@ ghost use Rattle.cbor4ii_tool.specs.Run.{IsRewritten, IsUnread, StandsIn};
 mod arguments;
 mod command;
 mod fault;
-mod head;
-mod laws;
+mod integer;
 mod run;
 #[cfg(test)]
 mod tests;
@@ -85,7 +84,7 @@ fn rewrite<R: Read + Drop, W: Write>(
 {
     let input = whole_input(source, alloc)?;
     let mut writer = BufWriter::new(Vec::new(alloc));
-    let outcome = run::run(command, &input, &mut writer);
+    let outcome = run::run(alloc, command, &input, &mut writer);
     let written = sink.write_all(writer.buffer());
     outcome?;
     match written {

@@ -7,9 +7,10 @@ ghost use Rattle.cbor4ii_tool.specs.declared.fault.Kind.TheVariants.{Write};
 
 use crate::command::Command;
 use crate::fault::{Fault, Kind};
-use crate::head;
+use crate::integer;
 use cbor4ii_rw::buf_writer::BufWriter;
 use cbor4ii_rw::slice_reader::SliceReader;
+use std::alloc::Global;
 
 /// Runs `command` over the whole of `input`, and writes behind what `writer` holds.
 ///
@@ -20,7 +21,12 @@ use cbor4ii_rw::slice_reader::SliceReader;
 /// The fault's `at` is the number of bytes that the items before it take, and its `kind` is
 /// `Mismatch` where a byte follows with which no integer begins, `Eof` where the input ends inside
 /// an integer, and `Write` where there was no memory for the integer there. No other kind comes.
-pub fn run(command: Command, input: &[u8], writer: &mut BufWriter) -> Result<(), Fault>
+pub fn run(
+    alloc: Global,
+    command: Command,
+    input: &[u8],
+    writer: &mut BufWriter,
+) -> Result<(), Fault>
     ensures rewrites { (items : List IntegerHead) × (rest : List ℕ) ×
         Rewrites input.now (buffer_output writer.old) (buffer_output writer.new) result items rest }
     ensures complete { (items : List IntegerHead) → IsRow items [] input.now →
@@ -29,11 +35,11 @@ pub fn run(command: Command, input: &[u8], writer: &mut BufWriter) -> Result<(),
         (buffer_output writer.old).failures (buffer_output writer.new).failures }
 {
     match command {
-        Command::Ints => rewrite_integers(input, writer),
+        Command::Ints => rewrite_integers(alloc, input, writer),
     }
 }
 
-fn rewrite_integers(input: &[u8], writer: &mut BufWriter) -> Result<(), Fault>
+fn rewrite_integers(alloc: Global, input: &[u8], writer: &mut BufWriter) -> Result<(), Fault>
     ensures rewrites { (items : List IntegerHead) × (rest : List ℕ) ×
         Rewrites input.now (buffer_output writer.old) (buffer_output writer.new) result items rest }
     ensures failures { MovesFailures result
@@ -42,11 +48,11 @@ fn rewrite_integers(input: &[u8], writer: &mut BufWriter) -> Result<(), Fault>
     let mut reader = SliceReader::new(input);
     while !reader.remaining().is_empty() {
         let at = (input.len() - reader.remaining().len()) as u64;
-        let item = match head::read_integer(&mut reader) {
+        let item = match integer::read(alloc, &mut reader) {
             Ok(item) => item,
             Err(kind) => return Err(Fault { at, kind }),
         };
-        if head::write_shortest(item, writer).is_err() {
+        if integer::write(&item, writer).is_err() {
             return Err(Fault {
                 at,
                 kind: Kind::Write,

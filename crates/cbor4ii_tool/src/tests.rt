@@ -91,7 +91,7 @@ fn check(rt: &(impl Abort + AllocGlobal), row: &Row, before: &[u8]) {
         return;
     };
     let mut writer = BufWriter::new(bytes);
-    let outcome = run(Command::Ints, row.input, &mut writer);
+    let outcome = run(rt.alloc(), Command::Ints, row.input, &mut writer);
     let Some(written) = writer.buffer().strip_prefix(before) else {
         panic!(rt; "what stood in the buffer is gone");
     };

@@ -5,7 +5,7 @@ use Rattle.cbor4ii_items.proofs.push.push_string.Goals as goal
 pub returns-in_err-push_head : goal.returns-in_err-push_head
 returns-in_err-push_head g c =
     let p = err_from_is_err_and c.from_residual.result c.from_residual.ensures.1 in
-    rw (p.1, p.2) (writes_err _ c.in_err-push_head.ensures)
+    rw (p.1, p.2) (writes_err _ c.in_err-push_head.ensures.writes)
 
 pub returns : goal.returns
-returns g c = writes_then c.push_bytes.result c.in_ok-push_head.ensures c.push_bytes.ensures
+returns g c = writes_then c.push_bytes.result c.in_ok-push_head.ensures.writes c.push_bytes.ensures.writes

@@ -18,10 +18,10 @@ pub returns-in-Ok-clause-sound : goal.returns-in-Ok-clause-sound
 returns-in-Ok-clause-sound g c = some_sound _ _ _ _ _ _ (saw _ _ _ c.in_ok-first.ensures.runs) c.if-first.false c.if-first-2.false c.in-Ok.ensures.sound
 
 pub returns-in-Err-clause-complete : goal.returns-in-Err-clause-complete
-returns-in-Err-clause-complete g c exact = some_refuses _ _ _ _ _ (saw _ _ _ c.in_ok-first.ensures.runs) c.if-first.false c.if-first-2.false (c.in-Err.ensures.complete (exact_kept _ _ _ c.in_ok-first.ensures.runs.moves.by exact))
+returns-in-Err-clause-complete g c exact = some_refuses _ _ _ _ _ (saw _ _ _ c.in_ok-first.ensures.runs) c.if-first.false c.if-first-2.false (λ xs told. c.in-Err.ensures.complete (exact_kept _ _ _ xs told c.in_ok-first.ensures.runs.moves.by exact))
 
 pub returns-in-Err-clause-stops : goal.returns-in-Err-clause-stops
-returns-in-Err-clause-stops g c exact = some_stops _ _ _ _ _ _ (saw _ _ _ c.in_ok-first.ensures.runs) (c.in-Err.ensures.stops (exact_kept _ _ _ c.in_ok-first.ensures.runs.moves.by exact))
+returns-in-Err-clause-stops g c exact = some_stops _ _ _ _ _ _ (saw _ _ _ c.in_ok-first.ensures.runs) (λ xs told. c.in-Err.ensures.stops (exact_kept _ _ _ xs told c.in_ok-first.ensures.runs.moves.by exact))
 
 pub returns-then-first-clause-moves : goal.returns-then-first-clause-moves
 returns-then-first-clause-moves g c = record { by = kept_taken c.in_ok-first.ensures.runs c.in_ok-first.ensures.byte c.advance.ensures }

@@ -23,7 +23,7 @@ pub returns-in-Err-clause-moves : goal.returns-in-Err-clause-moves
 returns-in-Err-clause-moves g c = moves_then c.in_ok-number.ensures.runs.moves.by (moves_err c.in-Err.ensures.moves)
 
 pub returns-in-Err-clause-complete : goal.returns-in-Err-clause-complete
-returns-in-Err-clause-complete g c exact = tag_refuses _ _ _ _ _ c.in_ok-number.ensures.runs.moves.by c.in_ok-number.ensures.sound (c.in-Err.ensures.complete (exact_kept _ _ _ c.in_ok-number.ensures.runs.moves.by exact))
+returns-in-Err-clause-complete g c exact = tag_refuses _ _ _ _ _ c.in_ok-number.ensures.runs.moves.by c.in_ok-number.ensures.sound (λ xs told. c.in-Err.ensures.complete (exact_kept _ _ _ xs told c.in_ok-number.ensures.runs.moves.by exact))
 
 pub returns-in-Err-clause-stops : goal.returns-in-Err-clause-stops
-returns-in-Err-clause-stops g c exact = tag_stops _ _ _ _ _ _ c.in_ok-number.ensures.runs.moves.by c.in_ok-number.ensures.sound (c.in-Err.ensures.stops (exact_kept _ _ _ c.in_ok-number.ensures.runs.moves.by exact))
+returns-in-Err-clause-stops g c exact = tag_stops _ _ _ _ _ _ c.in_ok-number.ensures.runs.moves.by c.in_ok-number.ensures.sound (λ xs told. c.in-Err.ensures.stops (exact_kept _ _ _ xs told c.in_ok-number.ensures.runs.moves.by exact))

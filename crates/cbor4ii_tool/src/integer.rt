@@ -1,0 +1,89 @@
+//! Integers: items of major types 0 and 1 (RFC 8949 section 3.1), which are a head alone.
+ghost use Rattle.std.specs.Prelude.{◌≡◌, ◌↔◌, [], OnOk, OnErr, IfOk, IfErr, IsTrue};
+ghost use Rattle.cbor4ii_rw.specs.View.{Told};
+ghost use Rattle.cbor4ii_rw.specs.Reader.{Shows, Failed, Keeps};
+ghost use Rattle.cbor4ii_rw.specs.Writer.{Appends};
+ghost use Rattle.cbor4ii_tool.specs.Reading.{
+  ReadsInteger,
+  RefusesInteger,
+  BeginsNegative,
+  written_bytes,
+};
+ghost use Rattle.cbor4ii_tool.specs.declared.fault.Kind.TheVariants.{Read};
+
+use crate::fault::Kind;
+use cbor4ii_items::decode::Decode;
+use cbor4ii_items::encode::Encode;
+use cbor4ii_items::initial::if_major;
+use cbor4ii_items::major;
+use cbor4ii_items::types::Negative;
+use cbor4ii_rw::ask;
+use cbor4ii_rw::error::EncodeError;
+use cbor4ii_rw::read::Source;
+use cbor4ii_rw::write::Write;
+use std::alloc::Global;
+
+/// An integer that has a head.
+#[derive(Drop)]
+pub enum Integer {
+    /// From 0 on.
+    Unsigned(u64),
+    /// Below 0.
+    Negative(Negative<u64>),
+}
+
+/// Takes an integer, of any width that its argument has. A byte with which no integer begins is a
+/// `Mismatch`, and an end inside an integer is `Eof`; a reader that fails is `Read`. What was
+/// taken before a refusal is lost.
+pub fn read<S: Source>(alloc: Global, reader: &mut S) -> Result<Integer, Kind>
+    ensures reads { IfOk result (λ integer.
+        ReadsInteger integer (S.view reader.old) (S.view reader.new)) }
+    ensures refuses { IfErr result (λ kind.
+        RefusesInteger kind (S.view reader.old) (S.view reader.new)) }
+{
+    if is_negative_next(reader)? {
+        match Negative::<u64>::decode(alloc, reader) {
+            Ok(number) => Ok(Integer::Negative(number)),
+            Err(error) => Err(Kind::of(&error)),
+        }
+    } else {
+        match u64::decode(alloc, reader) {
+            Ok(number) => Ok(Integer::Unsigned(number)),
+            Err(error) => Err(Kind::of(&error)),
+        }
+    }
+}
+
+/// Writes an integer with the shortest argument (RFC 8949 section 4.2.1). It fails only where the
+/// writer failed in the call, and a whole writer then holds what it held before.
+pub fn write<W: Write>(integer: &Integer, writer: &mut W) -> Result<(), EncodeError<W::Error>>
+    ensures appends { OnOk result (Appends (written_bytes integer.now)
+        (W.view writer.old).written (W.view writer.new).written) }
+    ensures counts { OnOk result ((W.view writer.new).failures ≡ (W.view writer.old).failures) }
+    ensures failed { OnErr result
+        (Failed (W.view writer.old).failures (W.view writer.new).failures) }
+    ensures whole { IsTrue W.whole →
+        OnErr result (Keeps (W.view writer.old).written (W.view writer.new).written) }
+{
+    match integer {
+        Integer::Unsigned(number) => number.encode(writer),
+        Integer::Negative(number) => number.encode(writer),
+    }
+}
+
+// Whether the next byte, which stays, is one of major type 1. At the end there is none.
+fn is_negative_next<S: Source>(reader: &mut S) -> Result<bool, Kind>
+    ensures shows { OnOk result (Shows [] (S.view reader.old) (S.view reader.new)) }
+    ensures negative { IfOk result (λ negative.
+        Told (S.view reader.old).told (λ xs. IsTrue negative ↔ BeginsNegative xs)) }
+    ensures kind { IfErr result (λ kind. kind ≡ Read) }
+    ensures failed { OnErr result
+        (Failed (S.view reader.old).failures (S.view reader.new).failures) }
+{
+    let mut failure = None;
+    match ask::look(reader, 1, &mut failure) {
+        Some([first, ..]) => Ok(if_major(*first) == major::NEGATIVE),
+        Some([]) => Ok(false),
+        None => Err(Kind::Read),
+    }
+}
