@@ -15,7 +15,7 @@ pub fits_zero : (budget : Option ℕ) → CostFits 0 budget
 fits_zero None = tt
 fits_zero (Some n) = omega arith
 
-same_some : {A : Type 0} (x y : A) (o : Option A) → o ≡ Some x → o ≡ Some y → x ≡ y
+pub same_some : {A : Type 0} (x y : A) (o : Option A) → o ≡ Some x → o ≡ Some y → x ≡ y
 same_some x y o p q = cc
 
 -- The program reads what the relation says, and refuses what the other relation says. The bytes that it takes are bytes.

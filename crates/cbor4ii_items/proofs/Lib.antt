@@ -12,3 +12,12 @@ pub mod SignedRuns
 pub mod BigLeaf
 pub mod Containers
 pub mod Backwards
+pub mod Following
+pub mod Contents
+pub mod Breaks
+pub mod OpenStrings
+pub mod StringsRead
+pub mod StringAnswers
+pub mod LentAnswers
+pub mod Forward
+pub mod Told

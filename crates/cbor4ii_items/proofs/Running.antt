@@ -15,7 +15,7 @@ use Rattle.cbor4ii_items.proofs.Steps.{moves_then, moves_err, kept_then, counted
 
 -- ---- one program after another
 
-as_of : {V E : Type 0} (p q : Result (V × List ℕ) (Refusal × List ℕ)) (new : Option (List ℕ)) (r : Result V (DecodeError E)) → p ≡ q → AnswersAs q new r → AnswersAs p new r
+pub as_of : {V E : Type 0} (p q : Result (V × List ℕ) (Refusal × List ℕ)) (new : Option (List ℕ)) (r : Result V (DecodeError E)) → p ≡ q → AnswersAs q new r → AnswersAs p new r
 as_of p q new r e h = subst (λ z. AnswersAs z new r) (sym e) h
 
 -- a call is that of an equal program
@@ -32,7 +32,7 @@ runs_then {f = f} g {b = b} {u = u} {r = r} p q = record {
   memory = q.memory;
 }
 
-refused_then : {U V : Type 0} (o : Option Refusal) (outcome : Result (U × List ℕ) (Refusal × List ℕ)) (g : U → Reading V) (new : Option (List ℕ))
+pub refused_then : {U V : Type 0} (o : Option Refusal) (outcome : Result (U × List ℕ) (Refusal × List ℕ)) (g : U → Reading V) (new : Option (List ℕ))
     → IfSome o (λ z. (ys : List ℕ) × (new ≡ Some ys) × (outcome ≡ Err (z, ys)))
     → IfSome o (λ z. (ys : List ℕ) × (new ≡ Some ys) × (go_on outcome g ≡ Err (z, ys)))
 refused_then None outcome g new h = tt
@@ -48,7 +48,7 @@ runs_err {f = f} g {m = m} {e = e} p = record {
 
 -- ---- nothing is read
 
-kept_alike : (a : View) → Kept a a
+pub kept_alike : (a : View) → Kept a a
 kept_alike a = record {
   rest = λ xs told. (0, record { left = told; within = omega arith; bytes = tt });
   counted = counted_none a a (λ xs told. told) refl;
@@ -61,7 +61,7 @@ kept_alike a = record {
 pub runs_give : {V E : Type 0} (v : V) (a : View) → Runs {E = E} (give v) a a (Ok v)
 runs_give v a = record { moves = record { by = kept_alike a }; answers = λ xs told. (xs, told, refl); memory = tt }
 
-unread : (t : Bool) (a b : View) → t ≡ false → Kept a b → MatchBool t (Broke a b) (Kept a b)
+pub unread : (t : Bool) (a b : View) → t ≡ false → Kept a b → MatchBool t (Broke a b) (Kept a b)
 unread true a b e k = cc
 unread false a b e k = k
 
@@ -85,7 +85,7 @@ runs_refuse z a says read memory = runs_refused z says read memory (kept_alike a
 
 -- ---- the next byte
 
-shows_kept : {shown : List ℕ} {a b : View} → Shows shown a b → Kept a b
+pub shows_kept : {shown : List ℕ} {a b : View} → Shows shown a b → Kept a b
 shows_kept {a = a} {b = b} s = record {
   rest = λ xs told. (0, record { left = s.told xs told; within = omega arith; bytes = tt });
   counted = counted_none a b s.told s.taken;

@@ -10,6 +10,15 @@ pub mod ReadHead
 pub mod Outcome
 pub mod HeadLaws
 pub mod Numbers
+pub mod Strings
+pub mod ReadStrings
+pub mod Following
+pub mod ProgramEnds
+pub mod ChunkLaws
+pub mod Contents
+pub mod StringLaws
+pub mod Lent
+pub mod LentLaws
 pub mod Laws
 pub mod Writing
 pub mod Magnitude

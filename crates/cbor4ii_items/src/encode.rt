@@ -26,3 +26,12 @@ pub trait Encode {
         ensures front { IsTrue W.whole → OnErr result
             (AppendsFront (bytes self.now) (W.view writer.old).written (W.view writer.new).written) };
 }
+
+/// A reference to a value, written as the value.
+impl<'a, T: Encode> Encode for &'a T {
+    ghost bytes = { λ v. T.bytes v.now };
+
+    fn encode<W: Write>(&self, writer: &mut W) -> Result<(), EncodeError<W::Error>> {
+        T::encode(self, writer)
+    }
+}

@@ -16,10 +16,10 @@ ghost use Rattle.std.specs.Prelude.{
 ghost use Rattle.cbor4ii_rw.specs.Reader.{Keeps};
 ghost use Rattle.cbor4ii_items.specs.Writing.{Writes};
 ghost use Rattle.cbor4ii_items.specs.Magnitude.{without_leading_zeros};
+ghost use Rattle.cbor4ii_items.specs.Strings.{counted_string};
 ghost use Rattle.cbor4ii_items.specs.Numbers.{
   shortest_head,
   signed_head,
-  string_bytes,
   bignum_bytes,
   integer_bytes,
   unsigned_bytes,
@@ -159,14 +159,23 @@ fn push_bignum<W: Write>(writer: &mut W, tag: u8, value: u128) -> Result<(), Enc
     ensures { Writes W.whole (bignum_bytes tag value) (W.view writer.old) (W.view writer.new) result }
 {
     push_head(writer, major::TAG, tag as u64)?;
-    push_string(writer, without_leading_zeros(&value.to_be_bytes()))
+    push_string(
+        writer,
+        major::BYTES,
+        without_leading_zeros(&value.to_be_bytes()),
+    )
 }
 
-/// Writes a byte string: its head in one push, and its content in another.
-fn push_string<W: Write>(writer: &mut W, content: &[u8]) -> Result<(), EncodeError<W::Error>>
-    ensures { Writes W.whole (string_bytes content.now) (W.view writer.old) (W.view writer.new) result }
+/// Writes a string of this major type: its head in one push, and its content in another.
+pub(crate) fn push_string<W: Write>(
+    writer: &mut W,
+    major: u8,
+    content: &[u8],
+) -> Result<(), EncodeError<W::Error>>
+    requires { major < 8 }
+    ensures { Writes W.whole (counted_string major content.now) (W.view writer.old) (W.view writer.new) result }
 {
-    push_head(writer, major::BYTES, content.len() as u64)?;
+    push_head(writer, major, content.len() as u64)?;
     push_bytes(writer, content)
 }
 

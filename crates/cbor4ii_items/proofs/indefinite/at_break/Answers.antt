@@ -1,0 +1,6 @@
+use Rattle.cbor4ii_items.proofs.Running.{runs_byte}
+use Rattle.cbor4ii_items.proofs.Breaks.{runs_break}
+use Rattle.cbor4ii_items.proofs.indefinite.at_break.Goals as goal
+
+pub returns-then-byte : goal.returns-then-byte
+returns-then-byte g c = record { runs = runs_break c.if-byte.true (runs_byte c.in_ok-byte.ensures.runs c.in_ok-byte.ensures.byte c.advance.ensures) }

@@ -1,0 +1,30 @@
+-- A call that does what a program does where there is memory.
+use Rattle.std.specs.Prelude.{◌≡◌, ℕ, ◌≤◌, ◌++◌, List, length, take, drop, Some, Result, Ok, Err}
+use Rattle.std.specs.declared.vec.Vec.{Vec}
+use Rattle.cbor4ii_rw.specs.View.{View, Told}
+use Rattle.cbor4ii_rw.specs.declared.error.DecodeError.{DecodeError}
+use Rattle.cbor4ii_items.specs.Moves.{Kept, Moves}
+use Rattle.cbor4ii_items.specs.Reading.{Reading, AnswersAs}
+
+-- As `Runs`, but for memory: over any reader it leaves the reader as a decoding call does, and over told bytes it
+-- answers as the program, unless there was no memory.
+pub record Follows {V E : Type 0} (program : Reading V) (old new : View) (answer : Result V (DecodeError E)) : Type 0 where
+  pub moves : Moves old new answer
+  pub answers : Told old.told (λ xs. AnswersAs (program xs) new.told answer)
+
+-- the answer, with a vector's items for the vector
+abbrev pub listed : {Z E : Type 0} → Result (Vec ℕ Z) E → Result (List ℕ) E
+listed (Ok v) = Ok v.items
+listed (Err e) = Err e
+
+-- the answer of a call that leaves these items in a vector
+abbrev pub filled : {T E : Type 0} → List ℕ → Result T E → Result (List ℕ) E
+filled items (Ok t) = Ok items
+filled items (Err e) = Err e
+
+-- n of the missing bytes were taken, at least one, and stand behind the items that were there before
+pub record TakesOnto (missing n : ℕ) (before after : List ℕ) (old new : View) : Type 0 where
+  pub kept : Kept old new
+  pub some : 1 ≤ n
+  pub most : n ≤ missing
+  pub at : Told old.told (λ xs. (n ≤ length xs) × (new.told ≡ Some (drop n xs)) × (after ≡ before ++ take n xs))

@@ -1,0 +1,82 @@
+-- Borrowed strings: parts of the input (RFC 8949 section 3.1).
+use Rattle.std.specs.Prelude.{◌≡◌, ℕ, ◌+◌, ◌<◌, ◌≤◌, Bool, true, false, List, length, take, drop, None, Some, Option, Result, Ok, Err, IsTrue, IsUtf8}
+use Rattle.cbor4ii_rw.specs.View.{View, Told}
+use Rattle.cbor4ii_rw.specs.Reader.{Keeps}
+use Rattle.cbor4ii_rw.specs.declared.error.DecodeError.{DecodeError}
+use Rattle.cbor4ii_items.specs.declared.lent.Lacks.{Lacks}
+use Rattle.cbor4ii_items.specs.declared.lent.Lacks.TheVariants.{Read, Short, Few, NotUtf8}
+use Rattle.cbor4ii_items.specs.Moves.{Kept, Broke}
+use Rattle.cbor4ii_items.specs.Refusal.{Refusal, refusal_of, is_read, is_out_of_memory, require_length, require_borrowed, require_utf8, len_of}
+use Rattle.cbor4ii_items.specs.Heads.{ReadsHead, StopsHead}
+use Rattle.cbor4ii_items.specs.Strings.{ReadsCounted}
+use denote.Ref.{Bor}
+use Rattle.cbor4ii_items.specs.declared.types.Bytes.{Bytes}
+use Rattle.cbor4ii_items.specs.declared.types.UncheckedStr.{UncheckedStr}
+
+-- ---- what is read
+
+-- a string of known length, whose content a value has; a text is UTF-8
+abbrev pub ReadsLent : {V : Type 0} → ℕ → Bool → (V → List ℕ) → List ℕ → V → ℕ → ℕ → Type 0
+ReadsLent major is_text content xs v n c = ReadsCounted major xs (content v) n × (c ≡ 0) × (IsTrue is_text → IsUtf8 (content v))
+
+-- the head; too few bytes, and what is behind the head is left; no UTF-8, and what is behind the item is left
+pub data StopsLent (name : List ℕ) (major : ℕ) (is_text : Bool) (xs : List ℕ) (budget : Option ℕ) (refusal : Refusal) (rest : List ℕ) : Type 0 where
+  lent_head_refused : StopsHead name major 8 xs refusal rest → StopsLent name major is_text xs budget refusal rest
+  too_few : (count before : ℕ) → ReadsHead major 8 xs count before → length xs < before + count → refusal ≡ require_length name (len_of (length (drop before xs))) → rest ≡ drop before xs → StopsLent name major is_text xs budget refusal rest
+  lent_no_utf8 : (content : List ℕ) (n : ℕ) → IsTrue is_text → ReadsCounted major xs content n → (IsUtf8 content → ⊥) → refusal ≡ require_utf8 name → rest ≡ drop n xs → StopsLent name major is_text xs budget refusal rest
+
+-- ---- a content that is lent
+
+-- so many bytes were taken, and are the content
+pub record Lends (count : ℕ) (content : List ℕ) (old new : View) : Type 0 where
+  pub kept : Kept old new
+  pub at : Told old.told (λ xs. (count ≤ length xs) × (new.told ≡ Some (drop count xs)) × (content ≡ take count xs))
+
+-- nothing was taken
+pub record Stays (old new : View) : Type 0 where
+  pub kept : Kept old new
+  pub told : Keeps old.told new.told
+
+-- why so many bytes are not lent: a reader that lends whole has fewer left
+abbrev pub LacksContent : {E : Type 0} → ℕ → Bool → View → View → Lacks E → Type 0
+LacksContent count is_text old new (Read e) = Broke old new
+LacksContent count is_text old new Short = Stays old new × (IsTrue old.lends_whole → ⊥)
+LacksContent count is_text old new (Few n) = Stays old new × (IsTrue old.lends_whole → Told old.told (λ xs. (length xs < count) × (n ≡ length xs)))
+LacksContent count is_text old new NotUtf8 = (content : List ℕ) × IsTrue is_text × Lends count content old new × (IsUtf8 content → ⊥)
+
+-- ---- what is lacking, with its name
+
+abbrev pub lack_refusal : {E : Type 0} → List ℕ → Lacks E → Option Refusal
+lack_refusal name (Read e) = None
+lack_refusal name Short = Some (require_borrowed name)
+lack_refusal name (Few n) = Some (require_length name (len_of n))
+lack_refusal name NotUtf8 = Some (require_utf8 name)
+
+abbrev pub lack_is_read : {E : Type 0} → Lacks E → Bool
+lack_is_read (Read e) = true
+lack_is_read Short = false
+lack_is_read (Few n) = false
+lack_is_read NotUtf8 = false
+
+-- the error says what is lacking
+pub record Says {E : Type 0} (name : List ℕ) (lack : Lacks E) (error : DecodeError E) : Type 0 where
+  pub refusal : refusal_of error ≡ lack_refusal name lack
+  pub read : is_read error ≡ lack_is_read lack
+  pub memory : is_out_of_memory error ≡ false
+
+abbrev pub Named : {V E : Type 0} → List ℕ → Result V (Lacks E) → Result V (DecodeError E) → Type 0
+Named name (Ok v) (Ok w) = v ≡ w
+Named name (Ok v) (Err e) = ⊥
+Named name (Err lack) (Ok w) = ⊥
+Named name (Err lack) (Err e) = Says name lack e
+
+-- ---- the types that a content is lent to
+
+abbrev pub lent_str : Bor (List ℕ) → List ℕ
+lent_str v = v.now
+
+abbrev pub lent_bytes : Bytes (Bor (List ℕ)) → List ℕ
+lent_bytes v = v.0.now
+
+abbrev pub lent_unchecked : UncheckedStr (Bor (List ℕ)) → List ℕ
+lent_unchecked v = v.0.now

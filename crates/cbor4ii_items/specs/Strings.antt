@@ -1,0 +1,136 @@
+-- What strings are spelled as, and how they are refused (RFC 8949 sections 3.1, 3.2.1 and 3.2.3).
+use Rattle.std.specs.Prelude.{◌≡◌, ◌≢◌, ℕ, ◌+◌, ◌-◌, ◌<◌, ◌⊎◌, ◌++◌, List, [], ◌∷◌, length, take, drop, Bool, true, false, Option, Some, codes, IsUtf8}
+use Rattle.cbor4ii_rw.specs.declared.error.Len.TheVariants.{Small, Indefinite}
+use Rattle.cbor4ii_items.specs.Head.{break, open_head}
+use Rattle.cbor4ii_items.specs.Refusal.{Refusal, eof, require_length, require_utf8, depth_overflow, len_of}
+use Rattle.cbor4ii_items.specs.Decoding.{CostFits}
+use Rattle.cbor4ii_items.specs.Heads.{ReadsHead, StopsHead}
+use Rattle.cbor4ii_items.specs.Numbers.{shortest_head}
+use Rattle.cbor4ii_items.specs.declared.types.Bytes.{Bytes}
+use Rattle.cbor4ii_items.specs.declared.types.UncheckedStr.{UncheckedStr}
+use Rattle.std.specs.declared.alloc.Global.{Global}
+use Rattle.std.specs.declared.vec.Vec.{Vec}
+use Rattle.std.specs.declared.string.String.{String}
+use Rattle.std.specs.Prelude.{string_bytes}
+
+-- ---- what is written
+
+-- the shortest head of this major type with the content's length, and the content
+abbrev pub counted_string : ℕ → List ℕ → List ℕ
+counted_string major content = shortest_head major (length content) ++ content
+
+-- the first byte of a string of indefinite length
+abbrev pub opening : ℕ → List ℕ
+opening major = open_head major ∷ []
+
+-- the byte that ends an indefinite length
+abbrev pub closing : List ℕ
+closing = break ∷ []
+
+-- ---- what is read
+
+-- a head of this major type that says the content's length, and the content; n bytes in all
+pub record ReadsCounted (major : ℕ) (xs content : List ℕ) (n : ℕ) : Type 0 where
+  pub before : ℕ
+  pub head : ReadsHead major 8 xs (length content) before
+  pub stands : take (length content) (drop before xs) ≡ content
+  pub size : n ≡ before + length content
+
+-- strings of a known length, one behind another
+abbrev pub ReadsChunks : ℕ → List (List ℕ) → List ℕ → ℕ → Type 0
+ReadsChunks major [] xs n = n ≡ 0
+ReadsChunks major (chunk ∷ chunks) xs n = (k : ℕ) × (m : ℕ) × ReadsCounted major xs chunk k × ReadsChunks major chunks (drop k xs) m × (n ≡ k + m)
+
+-- the contents of the chunks, joined
+abbrev pub joined : List (List ℕ) → List ℕ
+joined [] = []
+joined (chunk ∷ chunks) = chunk ++ joined chunks
+
+-- the steps that the chunks cost: one, or none where there is no chunk
+abbrev pub chunk_cost : List (List ℕ) → ℕ
+chunk_cost [] = 0
+chunk_cost (chunk ∷ chunks) = 1
+
+-- a string of indefinite length: its first byte, chunks, and a break; n bytes in all, at the cost c
+pub record ReadsOpen (major : ℕ) (xs content : List ℕ) (n c : ℕ) : Type 0 where
+  pub begins : take 1 xs ≡ open_head major ∷ []
+  pub chunks : List (List ℕ)
+  pub between : ℕ
+  pub read : ReadsChunks major chunks (drop 1 xs) between
+  pub ends : take 1 (drop (1 + between) xs) ≡ break ∷ []
+  pub value : content ≡ joined chunks
+  pub size : n ≡ 2 + between
+  pub cost : c ≡ chunk_cost chunks
+
+-- a string of this major type, of known or of indefinite length
+abbrev pub ReadsString : ℕ → List ℕ → List ℕ → ℕ → ℕ → Type 0
+ReadsString major xs content n c = (ReadsCounted major xs content n × (c ≡ 0)) ⊎ ReadsOpen major xs content n c
+
+-- a text string that is UTF-8
+abbrev pub ReadsText : List ℕ → List ℕ → ℕ → ℕ → Type 0
+ReadsText xs content n c = ReadsString 3 xs content n c × IsUtf8 content
+
+-- a string whose content a value has
+abbrev pub ReadsAs : {V : Type 0} → ℕ → (V → List ℕ) → List ℕ → V → ℕ → ℕ → Type 0
+ReadsAs major content xs v n c = ReadsString major xs (content v) n c
+
+-- a text string that is UTF-8, whose content a value has
+abbrev pub ReadsTextAs : {V : Type 0} → (V → List ℕ) → List ℕ → V → ℕ → ℕ → Type 0
+ReadsTextAs content xs v n c = ReadsText xs (content v) n c
+
+-- the content of an owned byte string, and of an owned text that is not tested
+abbrev pub bytes_content : Bytes (Vec ℕ Global) → List ℕ
+bytes_content v = v.0.items
+
+abbrev pub unchecked_content : UncheckedStr (Vec ℕ Global) → List ℕ
+unchecked_content v = v.0.items
+
+-- the content of an owned text
+abbrev pub text_content : String Global → List ℕ
+text_content v = string_bytes v
+
+-- ---- how strings are refused
+
+-- fewer bytes follow than the head says, and nothing is left
+pub record CutContent (name : List ℕ) (major : ℕ) (xs : List ℕ) (refusal : Refusal) (rest : List ℕ) : Type 0 where
+  pub count : ℕ
+  pub before : ℕ
+  pub head : ReadsHead major 8 xs count before
+  pub short : length xs < before + count
+  pub answer : refusal ≡ eof name (len_of (before + count - length xs))
+  pub left : rest ≡ []
+
+-- where a chunk or a break should come
+pub data StopsChunk (name : List ℕ) (major : ℕ) (xs : List ℕ) (budget : Option ℕ) (refusal : Refusal) (rest : List ℕ) : Type 0 where
+  no_chunk_byte : xs ≡ [] → refusal ≡ eof (codes "break") (Small 1) → rest ≡ [] → StopsChunk name major xs budget refusal rest
+  no_step : xs ≢ [] → (take 1 xs ≡ break ∷ [] → ⊥) → budget ≡ Some 0 → refusal ≡ depth_overflow name → rest ≡ xs → StopsChunk name major xs budget refusal rest
+  chunk_open : budget ≢ Some 0 → xs ≡ open_head major ∷ rest → refusal ≡ require_length name Indefinite → StopsChunk name major xs budget refusal rest
+  chunk_refused : budget ≢ Some 0 → (take 1 xs ≡ break ∷ [] → ⊥) → (take 1 xs ≡ open_head major ∷ [] → ⊥) → xs ≢ [] → StopsHead name major 8 xs refusal rest → StopsChunk name major xs budget refusal rest
+  chunk_cut : budget ≢ Some 0 → CutContent name major xs refusal rest → StopsChunk name major xs budget refusal rest
+
+-- behind the first byte of a string of indefinite length: some chunks are whole, and then comes the refusal
+pub record StopsOpen (name : List ℕ) (major : ℕ) (xs : List ℕ) (budget : Option ℕ) (refusal : Refusal) (rest : List ℕ) : Type 0 where
+  pub chunks : List (List ℕ)
+  pub between : ℕ
+  pub read : ReadsChunks major chunks xs between
+  pub stop : StopsChunk name major (drop between xs) budget refusal rest
+
+pub data StopsString (name : List ℕ) (major : ℕ) (xs : List ℕ) (budget : Option ℕ) (refusal : Refusal) (rest : List ℕ) : Type 0 where
+  string_head_refused : (take 1 xs ≡ open_head major ∷ [] → ⊥) → StopsHead name major 8 xs refusal rest → StopsString name major xs budget refusal rest
+  string_cut : CutContent name major xs refusal rest → StopsString name major xs budget refusal rest
+  string_open : take 1 xs ≡ open_head major ∷ [] → StopsOpen name major (drop 1 xs) budget refusal rest → StopsString name major xs budget refusal rest
+
+-- a text string whose content is not UTF-8 is taken whole
+pub data StopsText (name : List ℕ) (xs : List ℕ) (budget : Option ℕ) (refusal : Refusal) (rest : List ℕ) : Type 0 where
+  no_string : StopsString name 3 xs budget refusal rest → StopsText name xs budget refusal rest
+  no_utf8 : (content : List ℕ) (n c : ℕ) → ReadsString 3 xs content n c → CostFits c budget → (IsUtf8 content → ⊥) → refusal ≡ require_utf8 name → rest ≡ drop n xs → StopsText name xs budget refusal rest
+
+-- ---- breaks
+
+-- a break is taken, and another byte stays
+abbrev pub ReadsBreak : List ℕ → Bool → ℕ → ℕ → Type 0
+ReadsBreak xs true n c = (take 1 xs ≡ break ∷ []) × (n ≡ 1) × (c ≡ 0)
+ReadsBreak xs false n c = (xs ≢ []) × (take 1 xs ≡ break ∷ [] → ⊥) × (n ≡ 0) × (c ≡ 0)
+
+abbrev pub StopsBreak : List ℕ → Option ℕ → Refusal → List ℕ → Type 0
+StopsBreak xs budget refusal rest = (xs ≡ []) × (refusal ≡ eof (codes "break") (Small 1)) × (rest ≡ [])

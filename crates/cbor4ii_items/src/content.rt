@@ -1,0 +1,68 @@
+//! Content of a known length, taken off a reader.
+ghost use Rattle.std.specs.Prelude.{◌≡◌, ◌≤◌, IfOk, IfErr, Err};
+ghost use Rattle.cbor4ii_items.specs.Following.{Follows, TakesOnto, filled};
+ghost use Rattle.cbor4ii_items.specs.ReadStrings.{content_on};
+
+use cbor4ii_rw::ask::look;
+use cbor4ii_rw::error::{DecodeError, Len, StaticStr};
+use cbor4ii_rw::read::Source;
+
+/// So many bytes are reserved, at most, before any of them came.
+const RESERVED: usize = 16384;
+
+/// Takes so many bytes behind those of `content`. A length alone takes little memory: more is
+/// taken as the bytes come.
+pub(crate) fn take_content<S: Source>(
+    reader: &mut S,
+    name: StaticStr,
+    count: u64,
+    content: &mut Vec<u8>,
+) -> Result<(), DecodeError<S::Error>>
+    ensures { Follows (content_on name.now count content.old.items)
+        (S.view reader.old) (S.view reader.new) (filled content.new.items result) }
+{
+    let mut missing = count as usize;
+    if content.reserve(missing.min(RESERVED)).is_err() {
+        return Err(DecodeError::OutOfMemory);
+    }
+    while missing > 0 {
+        missing -= take_shown(reader, name, missing, content)?;
+    }
+    Ok(())
+}
+
+/// Takes the bytes that the reader shows, at most so many, behind those of `content`.
+fn take_shown<S: Source>(
+    reader: &mut S,
+    name: StaticStr,
+    missing: usize,
+    content: &mut Vec<u8>,
+) -> Result<usize, DecodeError<S::Error>>
+    requires { 1 ≤ missing }
+    ensures taken { IfOk result (λ n. TakesOnto missing n content.old.items content.new.items
+        (S.view reader.old) (S.view reader.new)) }
+    ensures refused { IfErr result (λ error. Follows (content_on name.now missing content.old.items)
+        (S.view reader.old) (S.view reader.new) (Err error)) }
+{
+    let mut failure = None;
+    match look(reader, missing, &mut failure) {
+        Some(shown) => {
+            let count = shown.len().min(missing);
+            if count == 0 {
+                return Err(DecodeError::Eof {
+                    name,
+                    expect: Len::new(missing),
+                });
+            }
+            if content.extend_from_slice(&shown[..count]).is_err() {
+                return Err(DecodeError::OutOfMemory);
+            }
+            reader.advance(count);
+            Ok(count)
+        }
+        None => match failure {
+            Some(error) => Err(DecodeError::Read(error)),
+            None => unreachable!(),
+        },
+    }
+}
