@@ -1,3 +1,4 @@
+-- `decode` names `'static` in its error beside a bound with a lifetime, so it forwards to a function over parameters, and this proof walks the forward by hand.
 use mathlib.Core.Path.{refl}
 use mathlib.Core.List.{[], ◌∷◌}
 use contract.BorrowLft.{⊑_meet, ⊑_refl, ⊑_static}
