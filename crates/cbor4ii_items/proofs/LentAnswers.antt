@@ -4,8 +4,8 @@ use Rattle.std.specs.Prelude.{MatchBool, IsUtf8}
 use Rattle.std.proofs.lemmas.List.{length-drop, length-take, length-take-le}
 use Rattle.cbor4ii_rw.specs.View.{View}
 use Rattle.cbor4ii_rw.specs.declared.error.DecodeError.{DecodeError}
-use Rattle.cbor4ii_items.specs.declared.lent.Lacks.{Lacks}
-use Rattle.cbor4ii_items.specs.declared.lent.Lacks.TheVariants.{Read, Short, Few, NotUtf8}
+use Rattle.cbor4ii_items.specs.declared.strings.lent.Lacks.{Lacks}
+use Rattle.cbor4ii_items.specs.declared.strings.lent.Lacks.TheVariants.{Read, Short, Few, NotUtf8}
 use Rattle.cbor4ii_items.specs.Moves.{Kept, Broke, Moves}
 use Rattle.cbor4ii_items.specs.Refusal.{Refusal, refusal_of, is_out_of_memory, require_length, len_of}
 use Rattle.cbor4ii_items.specs.Decoding.{IsExact, Sound, NoneRead, Refuses, Stops}

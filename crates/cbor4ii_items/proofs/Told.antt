@@ -32,15 +32,15 @@ use Rattle.std.specs.contracts.alloc.Global as Global
 use Rattle.std.specs.contracts.fmt.Debug.TheBound as DebugBound
 use Rattle.std.specs.declared.fmt.Debug as Debug
 use Rattle.cbor4ii_rw.specs.contracts.error.DecodeError as DecodeError
-use Rattle.cbor4ii_items.specs.contracts.lent.Lend.TheBound as LendBound
+use Rattle.cbor4ii_items.specs.contracts.strings.lent.Lend.TheBound as LendBound
 use Rattle.cbor4ii_rw.specs.contracts.read.Source.TheBound as SourceBound
-use Rattle.cbor4ii_items.specs.declared.lent.Lend as Lend
+use Rattle.cbor4ii_items.specs.declared.strings.lent.Lend as Lend
 use Rattle.cbor4ii_rw.specs.declared.read.Source as Source
-use Rattle.cbor4ii_items.specs.contracts.lent.take_lent as g
+use Rattle.cbor4ii_items.specs.contracts.strings.lent.take_lent as g
 use Rattle.cbor4ii_items.proofs.Forward.{lent, lent_fn, result_fit}
 use Rattle.cbor4ii_rw.proofs.error.DecodeError.TheLaws as ErrorLaws
-use Rattle.cbor4ii_items.proofs.lent.take_lent.Met.{met}
-use Rattle.cbor4ii_items.proofs.lent.take_lent.Symbol.{name as #g, code as g_code}
+use Rattle.cbor4ii_items.proofs.strings.lent.take_lent.Met.{met}
+use Rattle.cbor4ii_items.proofs.strings.lent.take_lent.Symbol.{name as #g, code as g_code}
 
 module _ {M : Type 1} (𝓤 : Ura M) (𝓛 : Logic 𝓤) (𝓜 : Model 𝓤 𝓛.H) (𝓡 : Running 𝓤 𝓛.H 𝓜) (wired : Wired 𝓡.env g_code)
     (R E : RattleType) (LR : Laws R) (LE : Laws E) (gS : Source.Ghosts R.Denot E.Denot) (dS : Dict) (gD : Debug.Ghosts E.Denot) (dD dd : Dict) (P : Lfts 4 → Type 0)

@@ -3,8 +3,8 @@ use Rattle.std.specs.Prelude.{◌≡◌, ℕ, ◌+◌, ◌<◌, ◌≤◌, Bool,
 use Rattle.cbor4ii_rw.specs.View.{View, Told}
 use Rattle.cbor4ii_rw.specs.Reader.{Keeps}
 use Rattle.cbor4ii_rw.specs.declared.error.DecodeError.{DecodeError}
-use Rattle.cbor4ii_items.specs.declared.lent.Lacks.{Lacks}
-use Rattle.cbor4ii_items.specs.declared.lent.Lacks.TheVariants.{Read, Short, Few, NotUtf8}
+use Rattle.cbor4ii_items.specs.declared.strings.lent.Lacks.{Lacks}
+use Rattle.cbor4ii_items.specs.declared.strings.lent.Lacks.TheVariants.{Read, Short, Few, NotUtf8}
 use Rattle.cbor4ii_items.specs.Moves.{Kept, Broke}
 use Rattle.cbor4ii_items.specs.Refusal.{Refusal, refusal_of, is_read, is_out_of_memory, require_length, require_borrowed, require_utf8, len_of}
 use Rattle.cbor4ii_items.specs.Heads.{ReadsHead, StopsHead}

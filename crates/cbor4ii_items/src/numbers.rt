@@ -1,0 +1,6 @@
+//! Integers.
+
+mod big;
+mod negative;
+mod signed;
+mod unsigned;

@@ -1,0 +1,237 @@
+//! Borrowed strings, read: parts of the input, with no copy.
+//!
+//! Only a string of known length is read, and only where one fill lends all of its bytes as long
+//! as the input lives. No step is taken and no memory.
+//!
+//! Refusals, in this order, by the name "bytes" or "str":
+//! - the head is not one of a string of known length: `Mismatch` or `Eof`, as for every head
+//! - the bytes do not live as long as the input: `RequireBorrowed`, behind the head
+//! - fewer bytes are lent: `RequireLength` with their number, behind the head
+//! - a `&str` is not UTF-8: `RequireUtf8`, behind the item
+ghost use Rattle.std.specs.Prelude.{◌≡◌, true, false, codes};
+ghost use Rattle.cbor4ii_items.specs.Lent.{
+  ReadsLent,
+  StopsLent,
+  lent_str,
+  lent_bytes,
+  lent_unchecked,
+};
+ghost use Rattle.cbor4ii_items.specs.LentLaws.{
+  lent_one,
+  lent_within,
+  lent_positive,
+  lent_alone,
+};
+ghost use Rattle.cbor4ii_items.specs.StringLaws.{two_small, three_small};
+
+use crate::decode::{Decode, Spelled};
+use crate::major;
+use crate::strings::lent::{Lacks, Lend, lend_content, lend_text, take_lent};
+use crate::types::{Bytes, UncheckedStr};
+use cbor4ii_rw::error::{DecodeError, StaticStr};
+use cbor4ii_rw::read::Read;
+use std::alloc::Global;
+
+/// A text string, as it stands in the input.
+impl<'de> Spelled for &'de str {
+    ghost reads = { ReadsLent 3 true lent_str };
+
+    ghost same = { λ v w. lent_str v ≡ lent_str w };
+
+    ghost stops = { StopsLent (codes "str") 3 true };
+
+    ghost never_empty = { true };
+
+    ghost owned = { false };
+
+    ghost takes_memory = { false };
+
+    ghost closed = { true };
+
+    fn is_never_empty() -> bool
+        ensures { result ≡ true }
+    {
+        true
+    }
+
+    fn is_owned() -> bool
+        ensures { result ≡ false }
+    {
+        false
+    }
+}
+
+impl<'de, R: Read<'de>> Lend<R> for &'de str {
+    ghost content = { lent_str };
+
+    ghost name = { codes "str" };
+
+    ghost major = { 3 };
+
+    ghost is_text = { true };
+
+    fn name() -> StaticStr {
+        "str"
+    }
+
+    fn major() -> u8 {
+        major::STRING
+    }
+
+    fn lend_from(reader: &mut R, count: u64) -> Result<&'de str, Lacks<R::Error>> {
+        lend_text(reader, count)
+    }
+}
+
+impl<'de, R: Read<'de>> Decode<R> for &'de str {
+    fn decode(alloc: Global, reader: &mut R) -> Result<&'de str, DecodeError<R::Error>> {
+        take_lent(alloc, reader)
+    }
+
+    ghost one = { lent_one 3 three_small true lent_str };
+
+    ghost within = { lent_within 3 three_small true lent_str };
+
+    ghost positive = { λ _. lent_positive 3 three_small true lent_str };
+
+    ghost alone = { λ _. lent_alone 3 three_small true lent_str };
+}
+
+/// A byte string, as it stands in the input.
+impl<'de> Spelled for Bytes<&'de [u8]> {
+    ghost reads = { ReadsLent 2 false lent_bytes };
+
+    ghost same = { λ v w. lent_bytes v ≡ lent_bytes w };
+
+    ghost stops = { StopsLent (codes "bytes") 2 false };
+
+    ghost never_empty = { true };
+
+    ghost owned = { false };
+
+    ghost takes_memory = { false };
+
+    ghost closed = { true };
+
+    fn is_never_empty() -> bool
+        ensures { result ≡ true }
+    {
+        true
+    }
+
+    fn is_owned() -> bool
+        ensures { result ≡ false }
+    {
+        false
+    }
+}
+
+impl<'de, R: Read<'de>> Lend<R> for Bytes<&'de [u8]> {
+    ghost content = { lent_bytes };
+
+    ghost name = { codes "bytes" };
+
+    ghost major = { 2 };
+
+    ghost is_text = { false };
+
+    fn name() -> StaticStr {
+        "bytes"
+    }
+
+    fn major() -> u8 {
+        major::BYTES
+    }
+
+    fn lend_from(reader: &mut R, count: u64) -> Result<Bytes<&'de [u8]>, Lacks<R::Error>> {
+        match lend_content(reader, count) {
+            Ok(content) => Ok(Bytes(content)),
+            Err(lack) => Err(lack),
+        }
+    }
+}
+
+impl<'de, R: Read<'de>> Decode<R> for Bytes<&'de [u8]> {
+    fn decode(alloc: Global, reader: &mut R) -> Result<Bytes<&'de [u8]>, DecodeError<R::Error>> {
+        take_lent(alloc, reader)
+    }
+
+    ghost one = { lent_one 2 two_small false lent_bytes };
+
+    ghost within = { lent_within 2 two_small false lent_bytes };
+
+    ghost positive = { λ _. lent_positive 2 two_small false lent_bytes };
+
+    ghost alone = { λ _. lent_alone 2 two_small false lent_bytes };
+}
+
+/// A text string, whatever its bytes, as it stands in the input.
+impl<'de> Spelled for UncheckedStr<&'de [u8]> {
+    ghost reads = { ReadsLent 3 false lent_unchecked };
+
+    ghost same = { λ v w. lent_unchecked v ≡ lent_unchecked w };
+
+    ghost stops = { StopsLent (codes "str") 3 false };
+
+    ghost never_empty = { true };
+
+    ghost owned = { false };
+
+    ghost takes_memory = { false };
+
+    ghost closed = { true };
+
+    fn is_never_empty() -> bool
+        ensures { result ≡ true }
+    {
+        true
+    }
+
+    fn is_owned() -> bool
+        ensures { result ≡ false }
+    {
+        false
+    }
+}
+
+impl<'de, R: Read<'de>> Lend<R> for UncheckedStr<&'de [u8]> {
+    ghost content = { lent_unchecked };
+
+    ghost name = { codes "str" };
+
+    ghost major = { 3 };
+
+    ghost is_text = { false };
+
+    fn name() -> StaticStr {
+        "str"
+    }
+
+    fn major() -> u8 {
+        major::STRING
+    }
+
+    fn lend_from(reader: &mut R, count: u64) -> Result<UncheckedStr<&'de [u8]>, Lacks<R::Error>> {
+        match lend_content(reader, count) {
+            Ok(content) => Ok(UncheckedStr(content)),
+            Err(lack) => Err(lack),
+        }
+    }
+}
+
+impl<'de, R: Read<'de>> Decode<R> for UncheckedStr<&'de [u8]> {
+    fn decode(
+        alloc: Global,
+        reader: &mut R,
+    ) -> Result<UncheckedStr<&'de [u8]>, DecodeError<R::Error>> {
+        take_lent(alloc, reader)
+    }
+
+    ghost one = { lent_one 3 three_small false lent_unchecked };
+
+    ghost within = { lent_within 3 three_small false lent_unchecked };
+
+    ghost positive = { λ _. lent_positive 3 three_small false lent_unchecked };
+
+    ghost alone = { λ _. lent_alone 3 three_small false lent_unchecked };
+}

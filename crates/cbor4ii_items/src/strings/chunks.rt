@@ -1,0 +1,70 @@
+//! Strings of indefinite length: chunks up to a break (RFC 8949 section 3.2.3).
+ghost use Rattle.std.specs.Prelude.{◌≡◌, ◌+◌, ◌≤◌, ◌<◌, OnOk, []};
+ghost use Rattle.cbor4ii_items.specs.Following.{Follows, listed, filled};
+ghost use Rattle.cbor4ii_items.specs.ReadStrings.{chunk_inside, chunk_at, chunks_at};
+
+use crate::head::length;
+use crate::indefinite::at_break;
+use crate::strings::counted::take_content;
+use cbor4ii_rw::error::{DecodeError, Len, StaticStr};
+use cbor4ii_rw::read::Source;
+use std::alloc::Global;
+
+/// The contents of the chunks up to a break, joined.
+pub(crate) fn take_chunks<S: Source>(
+    alloc: Global,
+    reader: &mut S,
+    name: StaticStr,
+    major: u8,
+) -> Result<Vec<u8>, DecodeError<S::Error>>
+    requires { major < 8 }
+    ensures { Follows (chunks_at name.now major (S.view reader.old).budget [])
+        (S.view reader.old) (S.view reader.new) (listed result) }
+{
+    let mut content = Vec::new(alloc);
+    while !at_break(reader)? {
+        take_chunk(reader, name, major, &mut content)?;
+    }
+    Ok(content)
+}
+
+/// Takes a chunk under one step, behind what `content` holds.
+fn take_chunk<S: Source>(
+    reader: &mut S,
+    name: StaticStr,
+    major: u8,
+    content: &mut Vec<u8>,
+) -> Result<(), DecodeError<S::Error>>
+    requires { major < 8 }
+    ensures follows { Follows (chunk_at name.now major (S.view reader.old).budget content.old.items)
+        (S.view reader.old) (S.view reader.new) (filled content.new.items result) }
+    ensures progress { OnOk result ((S.view reader.new).bound + 1 ≤ (S.view reader.old).bound) }
+{
+    if !reader.step_in() {
+        return Err(DecodeError::DepthOverflow { name });
+    }
+    let outcome = take_counted(reader, name, major, content);
+    reader.step_out();
+    outcome
+}
+
+/// Takes the content of a string of known length, behind what `content` holds.
+fn take_counted<S: Source>(
+    reader: &mut S,
+    name: StaticStr,
+    major: u8,
+    content: &mut Vec<u8>,
+) -> Result<(), DecodeError<S::Error>>
+    requires { major < 8 }
+    ensures follows { Follows (chunk_inside name.now major content.old.items)
+        (S.view reader.old) (S.view reader.new) (filled content.new.items result) }
+    ensures progress { OnOk result ((S.view reader.new).bound + 1 ≤ (S.view reader.old).bound) }
+{
+    match length(reader, name, major)? {
+        Some(count) => take_content(reader, name, count, content),
+        None => Err(DecodeError::RequireLength {
+            name,
+            found: Len::Indefinite,
+        }),
+    }
+}

@@ -1,0 +1,93 @@
+//! The content of strings of known or of indefinite length, taken off a reader.
+ghost use Rattle.std.specs.Prelude.{◌≡◌, ◌+◌, ◌≤◌, ◌<◌, OnOk, IfOk, IfErr, []};
+ghost use Rattle.cbor4ii_items.specs.Decoding.{Sound, Refuses, Stops};
+ghost use Rattle.cbor4ii_items.specs.Following.{Follows, listed};
+ghost use Rattle.cbor4ii_items.specs.Moves.{Moves};
+ghost use Rattle.cbor4ii_items.specs.ReadStrings.{content_on, string_at};
+ghost use Rattle.cbor4ii_items.specs.Strings.{
+  ReadsString,
+  StopsString,
+  ReadsTextAs,
+  StopsText,
+  text_content,
+};
+
+use crate::head::length;
+use crate::major;
+use crate::strings::chunks::take_chunks;
+use crate::strings::counted::take_content;
+use cbor4ii_rw::error::{DecodeError, StaticStr};
+use cbor4ii_rw::read::Source;
+use std::alloc::Global;
+
+/// A text string of known or of indefinite length, which is to be UTF-8.
+pub(crate) fn take_text<S: Source>(
+    alloc: Global,
+    reader: &mut S,
+    name: StaticStr,
+) -> Result<String, DecodeError<S::Error>>
+    ensures moves { Moves (S.view reader.old) (S.view reader.new) result }
+    ensures progress { OnOk result ((S.view reader.new).bound + 1 ≤ (S.view reader.old).bound) }
+    ensures sound { IfOk result
+        (Sound (ReadsTextAs text_content) (S.view reader.old) (S.view reader.new)) }
+    ensures complete { IfErr result (Refuses (ReadsTextAs text_content) (S.view reader.old)) }
+    ensures stops { IfErr result
+        (Stops (StopsText name.now) (S.view reader.old) (S.view reader.new)) }
+{
+    match String::from_utf8(take_string(alloc, reader, name, major::STRING)?) {
+        Ok(text) => Ok(text),
+        Err(_) => Err(DecodeError::RequireUtf8 { name }),
+    }
+}
+
+/// The content of a string of this major type, of known or of indefinite length.
+pub(crate) fn take_string<S: Source>(
+    alloc: Global,
+    reader: &mut S,
+    name: StaticStr,
+    major: u8,
+) -> Result<Vec<u8>, DecodeError<S::Error>>
+    requires { major < 8 }
+    ensures moves { Moves (S.view reader.old) (S.view reader.new) result }
+    ensures progress { OnOk result ((S.view reader.new).bound + 1 ≤ (S.view reader.old).bound) }
+    ensures sound { IfOk result (λ content. Sound (ReadsString major)
+        (S.view reader.old) (S.view reader.new) content.items) }
+    ensures complete { IfErr result (Refuses (ReadsString major) (S.view reader.old)) }
+    ensures stops { IfErr result
+        (Stops (StopsString name.now major) (S.view reader.old) (S.view reader.new)) }
+{
+    take_parts(alloc, reader, name, major)
+}
+
+/// As `take_string`, by what a program does.
+fn take_parts<S: Source>(
+    alloc: Global,
+    reader: &mut S,
+    name: StaticStr,
+    major: u8,
+) -> Result<Vec<u8>, DecodeError<S::Error>>
+    requires { major < 8 }
+    ensures follows { Follows (string_at name.now major (S.view reader.old).budget)
+        (S.view reader.old) (S.view reader.new) (listed result) }
+    ensures progress { OnOk result ((S.view reader.new).bound + 1 ≤ (S.view reader.old).bound) }
+{
+    match length(reader, name, major)? {
+        Some(count) => take_known(alloc, reader, name, count),
+        None => take_chunks(alloc, reader, name, major),
+    }
+}
+
+/// So many bytes.
+fn take_known<S: Source>(
+    alloc: Global,
+    reader: &mut S,
+    name: StaticStr,
+    count: u64,
+) -> Result<Vec<u8>, DecodeError<S::Error>>
+    ensures { Follows (content_on name.now count [])
+        (S.view reader.old) (S.view reader.new) (listed result) }
+{
+    let mut content = Vec::new(alloc);
+    take_content(reader, name, count, &mut content)?;
+    Ok(content)
+}

@@ -1,0 +1,164 @@
+//! Owned strings, read.
+//!
+//! Each is read from a string of known or of indefinite length (RFC 8949 section 3.2.3). Chunks
+//! are strings of known length of the same major type. They are joined before a text is tested to
+//! be UTF-8, so a character may stand across two of them. Each chunk is read under one step of the
+//! reader's budget. At most 16384 bytes are reserved before any came.
+//!
+//! Refusals, in this order, by the name "bytes" or "str":
+//! - the head is not one of a string: `Mismatch` or `Eof`, as for every head
+//! - bytes are missing: `Eof` with the number of those that are missing, and nothing is left
+//! - in the place of a chunk or a break there is no byte: `Eof` by "break" with 1
+//! - no step is left for a chunk: `DepthOverflow`, and the chunk is left
+//! - a chunk is of indefinite length: `RequireLength` with `Indefinite`, behind its first byte
+//! - a `String` is not UTF-8: `RequireUtf8`, and the whole item is taken
+ghost use Rattle.std.specs.Prelude.{◌≡◌, true, codes};
+ghost use Rattle.cbor4ii_items.specs.Strings.{
+  ReadsAs,
+  ReadsTextAs,
+  StopsString,
+  StopsText,
+  bytes_content,
+  unchecked_content,
+  text_content,
+};
+ghost use Rattle.cbor4ii_items.specs.StringLaws.{
+  two_small,
+  three_small,
+  as_one,
+  as_within,
+  as_positive,
+  as_alone,
+  text_one,
+  text_within,
+  text_positive,
+  text_alone,
+};
+
+use crate::decode::{Decode, Spelled};
+use crate::major;
+use crate::strings::content::{take_string, take_text};
+use crate::types::{Bytes, UncheckedStr};
+use cbor4ii_rw::error::DecodeError;
+use cbor4ii_rw::read::Source;
+use std::alloc::Global;
+
+/// A byte string.
+impl Spelled for Bytes<Vec<u8>> {
+    ghost reads = { ReadsAs 2 bytes_content };
+
+    ghost same = { λ v w. bytes_content v ≡ bytes_content w };
+
+    ghost stops = { StopsString (codes "bytes") 2 };
+
+    ghost never_empty = { true };
+
+    ghost owned = { true };
+
+    ghost takes_memory = { true };
+
+    ghost closed = { true };
+
+    fn is_never_empty() -> bool {
+        true
+    }
+
+    fn is_owned() -> bool {
+        true
+    }
+}
+
+impl<S: Source> Decode<S> for Bytes<Vec<u8>> {
+    fn decode(alloc: Global, reader: &mut S) -> Result<Bytes<Vec<u8>>, DecodeError<S::Error>> {
+        Ok(Bytes(take_string(alloc, reader, "bytes", major::BYTES)?))
+    }
+
+    ghost one = { as_one 2 two_small bytes_content };
+
+    ghost within = { as_within 2 two_small bytes_content };
+
+    ghost positive = { λ _. as_positive 2 two_small bytes_content };
+
+    ghost alone = { λ _. as_alone 2 two_small bytes_content };
+}
+
+/// A text string, whatever its bytes.
+impl Spelled for UncheckedStr<Vec<u8>> {
+    ghost reads = { ReadsAs 3 unchecked_content };
+
+    ghost same = { λ v w. unchecked_content v ≡ unchecked_content w };
+
+    ghost stops = { StopsString (codes "str") 3 };
+
+    ghost never_empty = { true };
+
+    ghost owned = { true };
+
+    ghost takes_memory = { true };
+
+    ghost closed = { true };
+
+    fn is_never_empty() -> bool {
+        true
+    }
+
+    fn is_owned() -> bool {
+        true
+    }
+}
+
+impl<S: Source> Decode<S> for UncheckedStr<Vec<u8>> {
+    fn decode(
+        alloc: Global,
+        reader: &mut S,
+    ) -> Result<UncheckedStr<Vec<u8>>, DecodeError<S::Error>> {
+        Ok(UncheckedStr(take_string(alloc, reader, "str", major::STRING)?))
+    }
+
+    ghost one = { as_one 3 three_small unchecked_content };
+
+    ghost within = { as_within 3 three_small unchecked_content };
+
+    ghost positive = { λ _. as_positive 3 three_small unchecked_content };
+
+    ghost alone = { λ _. as_alone 3 three_small unchecked_content };
+}
+
+/// A text string that is UTF-8.
+impl Spelled for String {
+    ghost reads = { ReadsTextAs text_content };
+
+    ghost same = { λ v w. text_content v ≡ text_content w };
+
+    ghost stops = { StopsText (codes "str") };
+
+    ghost never_empty = { true };
+
+    ghost owned = { true };
+
+    ghost takes_memory = { true };
+
+    ghost closed = { true };
+
+    fn is_never_empty() -> bool {
+        true
+    }
+
+    fn is_owned() -> bool {
+        true
+    }
+}
+
+impl<S: Source> Decode<S> for String {
+    fn decode(alloc: Global, reader: &mut S) -> Result<String, DecodeError<S::Error>> {
+        take_text(alloc, reader, "str")
+    }
+
+    ghost one = { text_one text_content };
+
+    ghost within = { text_within text_content };
+
+    ghost positive = { λ _. text_positive text_content };
+
+    ghost alone = { λ _. text_alone text_content };
+}
