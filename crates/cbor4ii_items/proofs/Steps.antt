@@ -1,18 +1,13 @@
 -- How one call after another leaves the reader.
 use Rattle.std.proofs.Common.{◌≡◌, ℕ, zero, suc, ◌+◌, List, [], ◌∷◌, length, take, drop, Option, None, Some, Result, Err, Bool, true, false, refl, sym, ap, ◌∙◌, arith}
 use Rattle.std.specs.Prelude.{MatchBool}
-use Rattle.std.proofs.Math.Seq.{drop-nil}
 use Rattle.std.proofs.lemmas.List.{length-drop}
 use Rattle.cbor4ii_rw.specs.View.{View}
 use Rattle.cbor4ii_rw.specs.Reader.{counts}
 use Rattle.cbor4ii_rw.specs.declared.error.DecodeError.{DecodeError}
 use Rattle.cbor4ii_items.specs.Head.{IsBytes}
+use Rattle.cbor4ii_items.specs.Fronts.{drop_more}
 use Rattle.cbor4ii_items.specs.Moves.{Took, Ends, Counted, EndsOrForgets, Kept, Broke, Moves, is_failure}
-
-pub drop_more : (m n : ℕ) (xs : List ℕ) → drop m (drop n xs) ≡ drop (n + m) xs
-drop_more m zero xs = let e : 0 + m ≡ m = omega arith in rw e refl
-drop_more m (suc n) [] = drop-nil m ∙ sym (drop-nil (suc n + m))
-drop_more m (suc n) (x ∷ xs) = let e : suc n + m ≡ suc (n + m) = omega arith in rw e (drop_more m n xs)
 
 bytes_more : (n m : ℕ) (xs : List ℕ) → IsBytes (take n xs) → IsBytes (take m (drop n xs)) → IsBytes (take (n + m) xs)
 bytes_more zero m xs p q = let e : 0 + m ≡ m = omega arith in rw e q
