@@ -5,11 +5,11 @@ use Rattle.cbor4ii_items.specs.Containers.{SameOption}
 use Rattle.cbor4ii_items.specs.Heads.{ReadsHead}
 use Rattle.cbor4ii_items.specs.HeadLaws.{head_one, head_read, head_alone}
 use Rattle.cbor4ii_items.specs.Fronts.{two_fronts, behind_front}
-use Rattle.cbor4ii_items.specs.Maybe.{ReadsOne, ReadsMaybe}
+use Rattle.cbor4ii_items.specs.Maybe.{ReadsMaybe}
 
 -- an array has one count
 pub two_counts : {A : Type 0} (xs : List ℕ) (n m : ℕ) → ReadsHead 4 8 xs 0 n → ReadsHead 4 8 xs 1 m → A
-two_counts xs n m p q = let h = head_one 4 8 xs 0 1 n m (omega arith) p q in let e : 0 ≡ 1 = h.1 in cc
+two_counts xs n m p q = let h = head_one 4 8 xs 0 1 n m (omega arith) p q in absurd (omega (arith, h.1))
 
 module _ {V : Type 0} (reads : List ℕ → V → ℕ → ℕ → Type 0) where
   pub maybe_one : (same : V → V → Type 0) → ((xs : List ℕ) (v w : V) (n m c d : ℕ) → reads xs v n c → reads xs w m d → (n ≡ m) × (c ≡ d) × same v w)

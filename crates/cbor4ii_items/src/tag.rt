@@ -89,3 +89,6 @@ impl<T: Encode> Encode for Tag<T> {
         push_headed_item(writer, major::TAG, self.0, &self.1)
     }
 }
+
+#[cfg(test)]
+mod tests;

@@ -9,7 +9,7 @@ ghost use Rattle.cbor4ii_items.specs.Moves.{Moves};
 ghost use Rattle.cbor4ii_items.specs.Numbers.{shortest_head};
 ghost use Rattle.cbor4ii_items.specs.Refusal.{is_out_of_memory};
 ghost use Rattle.cbor4ii_items.specs.Strings.{opening, closing};
-ghost use Rattle.cbor4ii_items.specs.Writing.{AppendsFront};
+ghost use Rattle.cbor4ii_items.specs.Writing.{AppendsFront, Writes};
 
 use crate::head::lone_length;
 use crate::push::{push_bytes, push_head};
@@ -88,7 +88,7 @@ impl Array<()> {
         ensures front { IsTrue W.whole → OnErr result (AppendsFront
             closing (W.view writer.old).written (W.view writer.new).written) }
     {
-        push_bytes(writer, &[marker::BREAK])
+        push_end(writer)
     }
 }
 
@@ -161,6 +161,12 @@ impl Map<()> {
         ensures front { IsTrue W.whole → OnErr result (AppendsFront
             closing (W.view writer.old).written (W.view writer.new).written) }
     {
-        push_bytes(writer, &[marker::BREAK])
+        push_end(writer)
     }
+}
+
+fn push_end<W: Write>(writer: &mut W) -> Result<(), EncodeError<W::Error>>
+    ensures { Writes W.whole closing (W.view writer.old) (W.view writer.new) result }
+{
+    push_bytes(writer, &[marker::BREAK])
 }
