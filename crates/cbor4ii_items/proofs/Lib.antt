@@ -22,3 +22,6 @@ pub mod StringAnswers
 pub mod LentAnswers
 pub mod Forward
 pub mod Told
+pub mod Lengths
+pub mod SequenceBytes
+pub mod MaybeParts

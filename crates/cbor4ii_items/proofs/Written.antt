@@ -7,7 +7,7 @@ use Rattle.cbor4ii_rw.specs.Reader.{Failed}
 use Rattle.cbor4ii_rw.specs.Writer.{Output, Appends}
 use Rattle.cbor4ii_items.specs.Writing.{AppendsFront, Writes}
 
-appends_then : (xs ys : List ℕ) (a m b : Option (List ℕ)) → Appends xs a m → Appends ys m b → Appends (xs ++ ys) a b
+pub appends_then : (xs ys : List ℕ) (a m b : Option (List ℕ)) → Appends xs a m → Appends ys m b → Appends (xs ++ ys) a b
 appends_then xs ys a m b p q held told = q (held ++ xs) (p held told) ∙ ap Some (append_assoc held xs ys)
 
 starts_then : (xs ys front : List ℕ) → StartsWith ys front → StartsWith (xs ++ ys) (xs ++ front)

@@ -27,6 +27,10 @@ pub mod ReadNumber
 pub mod Fronts
 pub mod SignedLaws
 pub mod BigLaws
+pub mod Lengths
+pub mod SequenceBytes
 pub mod Containers
 pub mod ContainerLaws
+pub mod Maybe
+pub mod MaybeLaws
 pub mod ReadBack

@@ -107,3 +107,8 @@ pub trait Decode<S: Source>: Spelled {
     ghost alone: { IsTrue Self.closed → (xs ys : List ℕ) (v : Self) (n c : ℕ) →
         Self.reads xs v n c → Self.reads (take n xs ++ ys) v n c };
 }
+
+/// The beginning of an array: the number of its items, or none where its length is indefinite and
+/// items follow up to a break (RFC 8949 section 3.2.2).
+#[derive(Clone, Copy, Debug, PartialEq, Eq)]
+pub struct ArrayStart(pub Option<usize>);

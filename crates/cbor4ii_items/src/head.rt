@@ -1,6 +1,7 @@
 //! Heads, read.
 ghost use Rattle.std.specs.Prelude.{◌≡◌, ℕ, ◌+◌, ◌≤◌, ◌<◌, ◌^◌, OnOk, IfOk, IfErr};
 ghost use Rattle.cbor4ii_items.specs.Decoding.{Sound, Refuses, Stops};
+ghost use Rattle.cbor4ii_items.specs.Lengths.{ReadsLength, StopsLength};
 ghost use Rattle.cbor4ii_items.specs.Numbers.{ReadsArgument, StopsArgument};
 ghost use Rattle.cbor4ii_items.specs.Reading.{Runs, peek_at, byte_at};
 ghost use Rattle.cbor4ii_items.specs.ReadHead.{
@@ -204,4 +205,30 @@ fn length_by_bytes<S: Source>(
         return Err(DecodeError::Mismatch { name, found: first });
     }
     Ok(Some(argument(reader, name, 8, first)?))
+}
+
+/// A length that is told alone: none where it is open.
+pub(crate) fn lone_length<S: Source>(
+    reader: &mut S,
+    name: StaticStr,
+    major: u8,
+) -> Result<Option<usize>, DecodeError<S::Error>>
+    requires { major < 8 }
+    ensures runs { Runs (length_at name.now major) (S.view reader.old) (S.view reader.new) result }
+    ensures progress { OnOk result ((S.view reader.new).bound + 1 ≤ (S.view reader.old).bound) }
+    ensures sound { IfOk result (Sound (ReadsLength major) (S.view reader.old) (S.view reader.new)) }
+    ensures complete { IfErr result (Refuses (ReadsLength major) (S.view reader.old)) }
+    ensures stops { IfErr result (Stops (StopsLength name.now major) (S.view reader.old) (S.view reader.new)) }
+{
+    usize_length(length(reader, name, major))
+}
+
+fn usize_length<E>(length: Result<Option<u64>, E>) -> Result<Option<usize>, E>
+    ensures { result ≡ length }
+{
+    match length {
+        Ok(Some(count)) => Ok(Some(count as usize)),
+        Ok(None) => Ok(None),
+        Err(error) => Err(error),
+    }
 }

@@ -10,9 +10,11 @@ pub mod initial;
 pub mod laws;
 pub mod major;
 pub mod marker;
+mod maybe;
 mod numbers;
 mod option;
 mod push;
+mod sequences;
 mod strings;
 mod tag;
 #[cfg(test)]

@@ -6,6 +6,7 @@ ghost use Rattle.std.specs.Prelude.{
   ◌≤◌,
   ◌<ℤ◌,
   ◌≤ℤ◌,
+  ◌++◌,
   pos,
   negsuc,
   take,
@@ -26,6 +27,7 @@ ghost use Rattle.cbor4ii_items.specs.Numbers.{
   signed_bytes,
 };
 
+use crate::encode::Encode;
 use crate::major;
 use cbor4ii_rw::error::EncodeError;
 use cbor4ii_rw::write::Write;
@@ -177,6 +179,30 @@ pub(crate) fn push_string<W: Write>(
 {
     push_head(writer, major, content.len() as u64)?;
     push_bytes(writer, content)
+}
+
+/// Writes the shortest head of this major type with this argument, and an item behind it.
+pub(crate) fn push_headed_item<W: Write, T: Encode>(
+    writer: &mut W,
+    major: u8,
+    argument: u64,
+    item: &T,
+) -> Result<(), EncodeError<W::Error>>
+    requires { major < 8 }
+    ensures { Writes W.whole (shortest_head major argument ++ T.bytes item.now) (W.view writer.old) (W.view writer.new) result }
+{
+    push_head(writer, major, argument)?;
+    push_item(writer, item)
+}
+
+/// Writes an item.
+pub(crate) fn push_item<W: Write, T: Encode>(
+    writer: &mut W,
+    item: &T,
+) -> Result<(), EncodeError<W::Error>>
+    ensures { Writes W.whole (T.bytes item.now) (W.view writer.old) (W.view writer.new) result }
+{
+    item.encode(writer)
 }
 
 fn without_leading_zeros(bytes: &[u8]) -> &[u8]

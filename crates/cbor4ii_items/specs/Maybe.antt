@@ -1,0 +1,61 @@
+-- An optional item as an array of no item or one: what it is spelled as, and how it is refused (RFC 8949 section 3.1).
+use Rattle.std.specs.Prelude.{◌≡◌, ◌≢◌, ℕ, zero, suc, ◌+◌, List, [], ◌∷◌, ◌++◌, take, drop, Bool, true, false, Option, Some, None, codes}
+use Rattle.cbor4ii_rw.specs.declared.error.Len.TheVariants.{Indefinite}
+use Rattle.cbor4ii_items.specs.Head.{open_head}
+use Rattle.cbor4ii_items.specs.Refusal.{Refusal, require_length, len_of}
+use Rattle.cbor4ii_items.specs.Reading.{Reading, give, refuse, ◌>=>◌}
+use Rattle.cbor4ii_items.specs.ReadHead.{length_at}
+use Rattle.cbor4ii_items.specs.Heads.{ReadsHead}
+use Rattle.cbor4ii_items.specs.Lengths.{StopsLength}
+use Rattle.cbor4ii_items.specs.Numbers.{shortest_head}
+
+-- ---- what is read
+
+-- the head of an array of no item, or of one: whether an item is to follow
+abbrev pub ReadsFew : List ℕ → Bool → ℕ → ℕ → Type 0
+ReadsFew xs false n c = ReadsHead 4 8 xs 0 n × (c ≡ 0)
+ReadsFew xs true n c = ReadsHead 4 8 xs 1 n × (c ≡ 0)
+
+-- the head of an array of one item, and what the type reads behind it
+pub record ReadsOne {V : Type 0} (reads : List ℕ → V → ℕ → ℕ → Type 0) (xs : List ℕ) (v : V) (n c : ℕ) : Type 0 where
+  pub before : ℕ
+  pub head : ReadsHead 4 8 xs 1 before
+  pub count : ℕ
+  pub item : reads (drop before xs) v count c
+  pub bytes : n ≡ before + count
+
+-- an array of no item is none, and an array of one item is some
+abbrev pub ReadsMaybe : {V : Type 0} → (List ℕ → V → ℕ → ℕ → Type 0) → List ℕ → Option V → ℕ → ℕ → Type 0
+ReadsMaybe reads xs None n c = ReadsHead 4 8 xs 0 n × (c ≡ 0)
+ReadsMaybe reads xs (Some v) n c = ReadsOne reads xs v n c
+
+-- ---- how it is refused
+
+-- no array's head; an open length, or a count of two and more, behind the head
+pub data StopsFew (xs : List ℕ) (budget : Option ℕ) (refusal : Refusal) (rest : List ℕ) : Type 0 where
+  few_head_refused : StopsLength (codes "array") 4 xs budget refusal rest → StopsFew xs budget refusal rest
+  few_open : take 1 xs ≡ open_head 4 ∷ [] → refusal ≡ require_length (codes "maybe") Indefinite → rest ≡ drop 1 xs → StopsFew xs budget refusal rest
+  few_other : (count before : ℕ) → ReadsHead 4 8 xs count before → count ≢ 0 → count ≢ 1 → refusal ≡ require_length (codes "maybe") (len_of count) → rest ≡ drop before xs → StopsFew xs budget refusal rest
+
+-- the head's refusal, or the item's
+pub data StopsMaybe (stops : List ℕ → Option ℕ → Refusal → List ℕ → Type 0) (xs : List ℕ) (budget : Option ℕ) (refusal : Refusal) (rest : List ℕ) : Type 0 where
+  maybe_head_refused : StopsFew xs budget refusal rest → StopsMaybe stops xs budget refusal rest
+  maybe_item_refused : (before : ℕ) → ReadsHead 4 8 xs 1 before → stops (drop before xs) budget refusal rest → StopsMaybe stops xs budget refusal rest
+
+-- ---- the head, read off the front of bytes
+
+abbrev pub few_by : Option ℕ → Reading Bool
+few_by None = refuse (require_length (codes "maybe") Indefinite)
+few_by (Some zero) = give false
+few_by (Some (suc zero)) = give true
+few_by (Some (suc (suc k))) = refuse (require_length (codes "maybe") (len_of (suc (suc k))))
+
+abbrev pub few_at : Reading Bool
+few_at = length_at (codes "array") 4 >=> few_by
+
+-- ---- what is written
+
+-- an array of no item for none, and an array of the item for some
+abbrev pub maybe_bytes : {V : Type 0} → (V → List ℕ) → Option V → List ℕ
+maybe_bytes bytes None = shortest_head 4 0
+maybe_bytes bytes (Some v) = shortest_head 4 1 ++ bytes v

@@ -1,0 +1,129 @@
+//! Optional items as arrays of no item or one.
+ghost use Rattle.std.specs.Prelude.{◌≡◌, ◌+◌, ◌≤◌, OnOk, IfOk, IfErr, true};
+ghost use Rattle.cbor4ii_items.specs.Containers.{SameOption};
+ghost use Rattle.cbor4ii_items.specs.Decoding.{Sound, Refuses, Stops};
+ghost use Rattle.cbor4ii_items.specs.Maybe.{
+  ReadsFew,
+  ReadsMaybe,
+  StopsFew,
+  StopsMaybe,
+  few_at,
+  maybe_bytes,
+};
+ghost use Rattle.cbor4ii_items.specs.MaybeLaws.{maybe_one, maybe_within, maybe_positive, maybe_alone};
+ghost use Rattle.cbor4ii_items.specs.Reading.{Runs};
+ghost use Rattle.cbor4ii_items.specs.Writing.{Writes};
+
+use crate::decode::{Decode, Spelled};
+use crate::encode::Encode;
+use crate::head::lone_length;
+use crate::major;
+use crate::push::{push_head, push_headed_item};
+use crate::types::Maybe;
+use cbor4ii_rw::error::{DecodeError, EncodeError, Len};
+use cbor4ii_rw::read::Source;
+use cbor4ii_rw::write::Write;
+use std::alloc::Global;
+
+impl<T: Spelled> Spelled for Maybe<Option<T>> {
+    ghost reads = { λ xs v n c. ReadsMaybe T.reads xs v.0 n c };
+
+    ghost same = { λ v w. SameOption T.same v.0 w.0 };
+
+    ghost stops = { StopsMaybe T.stops };
+
+    ghost never_empty = { true };
+
+    ghost owned = { T.owned };
+
+    ghost takes_memory = { T.takes_memory };
+
+    ghost closed = { T.closed };
+
+    fn is_never_empty() -> bool {
+        true
+    }
+
+    fn is_owned() -> bool {
+        T::is_owned()
+    }
+}
+
+/// None is an array of no item, and some item an array of it alone. Another count is refused,
+/// `RequireLength` by the name "maybe" with the count, and an indefinite length with
+/// `Indefinite`; what is left then stands behind the head. What is no head of an array is refused
+/// by the name "array", as `Array::len` refuses it.
+impl<S: Source, T: Decode<S>> Decode<S> for Maybe<Option<T>> {
+    fn decode(alloc: Global, reader: &mut S) -> Result<Maybe<Option<T>>, DecodeError<S::Error>> {
+        if !item_follows(reader)? {
+            return Ok(Maybe(None));
+        }
+        match T::decode(alloc, reader) {
+            Ok(value) => Ok(Maybe(Some(value))),
+            Err(error) => Err(error),
+        }
+    }
+
+    ghost one = { λ xs v w. maybe_one T.reads T.same T.one xs v.0 w.0 };
+
+    ghost within = { λ xs v. maybe_within T.reads T.within xs v.0 };
+
+    ghost positive = { λ _ xs v. maybe_positive T.reads xs v.0 };
+
+    ghost alone = { λ e xs ys v. maybe_alone T.reads T.closed T.alone e xs ys v.0 };
+}
+
+/// Takes the head of an array of no item or one, and answers whether an item is to follow.
+fn item_follows<S: Source>(reader: &mut S) -> Result<bool, DecodeError<S::Error>>
+    ensures runs { Runs few_at (S.view reader.old) (S.view reader.new) result }
+    ensures progress { OnOk result ((S.view reader.new).bound + 1 ≤ (S.view reader.old).bound) }
+    ensures sound { IfOk result (Sound ReadsFew (S.view reader.old) (S.view reader.new)) }
+    ensures complete { IfErr result (Refuses ReadsFew (S.view reader.old)) }
+    ensures stops { IfErr result (Stops StopsFew (S.view reader.old) (S.view reader.new)) }
+{
+    take_few(reader)
+}
+
+/// As `item_follows`, by what a program does.
+fn take_few<S: Source>(reader: &mut S) -> Result<bool, DecodeError<S::Error>>
+    ensures runs { Runs few_at (S.view reader.old) (S.view reader.new) result }
+    ensures progress { OnOk result ((S.view reader.new).bound + 1 ≤ (S.view reader.old).bound) }
+{
+    match lone_length(reader, "array", major::ARRAY)? {
+        Some(0) => Ok(false),
+        Some(1) => Ok(true),
+        Some(count) => Err(DecodeError::RequireLength {
+            name: "maybe",
+            found: Len::new(count),
+        }),
+        None => Err(DecodeError::RequireLength {
+            name: "maybe",
+            found: Len::Indefinite,
+        }),
+    }
+}
+
+/// An array of no item for none, in one push; for some item the head of an array of one, in one
+/// push, and then the item.
+impl<'a, T: Encode> Encode for Maybe<&'a Option<T>> {
+    ghost bytes = { λ v. maybe_bytes T.bytes v.0.now };
+
+    fn encode<W: Write>(&self, writer: &mut W) -> Result<(), EncodeError<W::Error>> {
+        push_maybe(writer, self.0)
+    }
+}
+
+fn push_maybe<W: Write, T: Encode>(
+    writer: &mut W,
+    value: &Option<T>,
+) -> Result<(), EncodeError<W::Error>>
+    ensures { Writes W.whole (maybe_bytes T.bytes value.now) (W.view writer.old) (W.view writer.new) result }
+{
+    match value {
+        None => push_head(writer, major::ARRAY, 0),
+        Some(item) => push_headed_item(writer, major::ARRAY, 1, item),
+    }
+}
+
+#[cfg(test)]
+mod tests;

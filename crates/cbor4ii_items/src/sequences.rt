@@ -1,0 +1,6 @@
+//! Arrays and maps.
+
+mod encode;
+mod heads;
+#[cfg(test)]
+mod tests;

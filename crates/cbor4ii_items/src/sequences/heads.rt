@@ -1,0 +1,172 @@
+//! Arrays and maps that are written in parts, and their lengths alone (RFC 8949 sections 3.1 and
+//! 3.2.2).
+ghost use Rattle.std.specs.Prelude.{◌≡◌, ◌+◌, ◌≤◌, OnOk, OnErr, IfOk, IfErr, IsTrue, codes, false};
+ghost use Rattle.cbor4ii_rw.specs.Reader.{Failed};
+ghost use Rattle.cbor4ii_rw.specs.Writer.{Appends};
+ghost use Rattle.cbor4ii_items.specs.Decoding.{Sound, Refuses, Stops};
+ghost use Rattle.cbor4ii_items.specs.Lengths.{ReadsLength, StopsLength};
+ghost use Rattle.cbor4ii_items.specs.Moves.{Moves};
+ghost use Rattle.cbor4ii_items.specs.Numbers.{shortest_head};
+ghost use Rattle.cbor4ii_items.specs.Refusal.{is_out_of_memory};
+ghost use Rattle.cbor4ii_items.specs.Strings.{opening, closing};
+ghost use Rattle.cbor4ii_items.specs.Writing.{AppendsFront, Writes};
+
+use crate::head::lone_length;
+use crate::push::{push_bytes, push_head};
+use crate::types::{Array, Map};
+use crate::{major, marker};
+use cbor4ii_rw::error::{DecodeError, EncodeError};
+use cbor4ii_rw::read::Source;
+use cbor4ii_rw::write::Write;
+
+impl Array<()> {
+    /// Takes the head of an array and answers how many items are to follow: none where the length
+    /// is indefinite, and then items follow up to a break (RFC 8949 section 3.2.2).
+    ///
+    /// Errors by the name "array": `Eof` with 1 where no byte is left, and with k where the length
+    /// has k bytes and fewer are left, nothing being left then; `Mismatch` with the first byte,
+    /// which is taken, where it begins no array. The budget stays.
+    pub fn len<S: Source>(reader: &mut S) -> Result<Option<usize>, DecodeError<S::Error>>
+        ensures moves { Moves (S.view reader.old) (S.view reader.new) result }
+        ensures memory { IfErr result (λ error. is_out_of_memory error ≡ false) }
+        ensures progress { OnOk result ((S.view reader.new).bound + 1 ≤ (S.view reader.old).bound) }
+        ensures sound { IfOk result
+            (Sound (ReadsLength 4) (S.view reader.old) (S.view reader.new)) }
+        ensures complete { IfErr result (Refuses (ReadsLength 4) (S.view reader.old)) }
+        ensures stops { IfErr result
+            (Stops (StopsLength (codes "array") 4) (S.view reader.old) (S.view reader.new)) }
+    {
+        lone_length(reader, "array", major::ARRAY)
+    }
+
+    /// Writes the shortest head of an array of `len` items, in one push. The items are to follow.
+    ///
+    /// It fails only where the writer failed in the call. A whole writer then holds what it held
+    /// before and a beginning of the head.
+    pub fn bounded<W: Write>(len: usize, writer: &mut W) -> Result<(), EncodeError<W::Error>>
+        ensures appends { OnOk result
+            (Appends (shortest_head 4 len) (W.view writer.old).written (W.view writer.new).written) }
+        ensures counts { OnOk result
+            ((W.view writer.new).failures ≡ (W.view writer.old).failures) }
+        ensures failed { OnErr result
+            (Failed (W.view writer.old).failures (W.view writer.new).failures) }
+        ensures front { IsTrue W.whole → OnErr result (AppendsFront
+            (shortest_head 4 len) (W.view writer.old).written (W.view writer.new).written) }
+    {
+        push_head(writer, major::ARRAY, len as u64)
+    }
+
+    /// Writes the first byte of an array of indefinite length, in one push. Items and an end are
+    /// to follow (RFC 8949 section 3.2.2).
+    ///
+    /// It fails only where the writer failed in the call. A whole writer then holds what it held
+    /// before, or that and the byte.
+    pub fn unbounded<W: Write>(writer: &mut W) -> Result<(), EncodeError<W::Error>>
+        ensures appends { OnOk result
+            (Appends (opening 4) (W.view writer.old).written (W.view writer.new).written) }
+        ensures counts { OnOk result
+            ((W.view writer.new).failures ≡ (W.view writer.old).failures) }
+        ensures failed { OnErr result
+            (Failed (W.view writer.old).failures (W.view writer.new).failures) }
+        ensures front { IsTrue W.whole → OnErr result (AppendsFront
+            (opening 4) (W.view writer.old).written (W.view writer.new).written) }
+    {
+        push_bytes(writer, &[32 * major::ARRAY + marker::START])
+    }
+
+    /// Writes the end of an indefinite length, one byte, in one push.
+    ///
+    /// It fails only where the writer failed in the call. A whole writer then holds what it held
+    /// before, or that and the byte.
+    pub fn end<W: Write>(writer: &mut W) -> Result<(), EncodeError<W::Error>>
+        ensures appends { OnOk result
+            (Appends closing (W.view writer.old).written (W.view writer.new).written) }
+        ensures counts { OnOk result
+            ((W.view writer.new).failures ≡ (W.view writer.old).failures) }
+        ensures failed { OnErr result
+            (Failed (W.view writer.old).failures (W.view writer.new).failures) }
+        ensures front { IsTrue W.whole → OnErr result (AppendsFront
+            closing (W.view writer.old).written (W.view writer.new).written) }
+    {
+        push_end(writer)
+    }
+}
+
+impl Map<()> {
+    /// Takes the head of a map and answers how many pairs are to follow: none where the length is
+    /// indefinite, and then pairs follow up to a break (RFC 8949 section 3.2.2).
+    ///
+    /// Errors by the name "map": `Eof` with 1 where no byte is left, and with k where the length
+    /// has k bytes and fewer are left, nothing being left then; `Mismatch` with the first byte,
+    /// which is taken, where it begins no map. The budget stays.
+    pub fn len<S: Source>(reader: &mut S) -> Result<Option<usize>, DecodeError<S::Error>>
+        ensures moves { Moves (S.view reader.old) (S.view reader.new) result }
+        ensures memory { IfErr result (λ error. is_out_of_memory error ≡ false) }
+        ensures progress { OnOk result ((S.view reader.new).bound + 1 ≤ (S.view reader.old).bound) }
+        ensures sound { IfOk result
+            (Sound (ReadsLength 5) (S.view reader.old) (S.view reader.new)) }
+        ensures complete { IfErr result (Refuses (ReadsLength 5) (S.view reader.old)) }
+        ensures stops { IfErr result
+            (Stops (StopsLength (codes "map") 5) (S.view reader.old) (S.view reader.new)) }
+    {
+        lone_length(reader, "map", major::MAP)
+    }
+
+    /// Writes the shortest head of a map of `len` pairs of items, in one push. The pairs of items are to follow.
+    ///
+    /// It fails only where the writer failed in the call. A whole writer then holds what it held
+    /// before and a beginning of the head.
+    pub fn bounded<W: Write>(len: usize, writer: &mut W) -> Result<(), EncodeError<W::Error>>
+        ensures appends { OnOk result
+            (Appends (shortest_head 5 len) (W.view writer.old).written (W.view writer.new).written) }
+        ensures counts { OnOk result
+            ((W.view writer.new).failures ≡ (W.view writer.old).failures) }
+        ensures failed { OnErr result
+            (Failed (W.view writer.old).failures (W.view writer.new).failures) }
+        ensures front { IsTrue W.whole → OnErr result (AppendsFront
+            (shortest_head 5 len) (W.view writer.old).written (W.view writer.new).written) }
+    {
+        push_head(writer, major::MAP, len as u64)
+    }
+
+    /// Writes the first byte of a map of indefinite length, in one push. Pairs of items and an end are
+    /// to follow (RFC 8949 section 3.2.2).
+    ///
+    /// It fails only where the writer failed in the call. A whole writer then holds what it held
+    /// before, or that and the byte.
+    pub fn unbounded<W: Write>(writer: &mut W) -> Result<(), EncodeError<W::Error>>
+        ensures appends { OnOk result
+            (Appends (opening 5) (W.view writer.old).written (W.view writer.new).written) }
+        ensures counts { OnOk result
+            ((W.view writer.new).failures ≡ (W.view writer.old).failures) }
+        ensures failed { OnErr result
+            (Failed (W.view writer.old).failures (W.view writer.new).failures) }
+        ensures front { IsTrue W.whole → OnErr result (AppendsFront
+            (opening 5) (W.view writer.old).written (W.view writer.new).written) }
+    {
+        push_bytes(writer, &[32 * major::MAP + marker::START])
+    }
+
+    /// Writes the end of an indefinite length, one byte, in one push.
+    ///
+    /// It fails only where the writer failed in the call. A whole writer then holds what it held
+    /// before, or that and the byte.
+    pub fn end<W: Write>(writer: &mut W) -> Result<(), EncodeError<W::Error>>
+        ensures appends { OnOk result
+            (Appends closing (W.view writer.old).written (W.view writer.new).written) }
+        ensures counts { OnOk result
+            ((W.view writer.new).failures ≡ (W.view writer.old).failures) }
+        ensures failed { OnErr result
+            (Failed (W.view writer.old).failures (W.view writer.new).failures) }
+        ensures front { IsTrue W.whole → OnErr result (AppendsFront
+            closing (W.view writer.old).written (W.view writer.new).written) }
+    {
+        push_end(writer)
+    }
+}
+
+fn push_end<W: Write>(writer: &mut W) -> Result<(), EncodeError<W::Error>>
+    ensures { Writes W.whole closing (W.view writer.old) (W.view writer.new) result }
+{
+    push_bytes(writer, &[marker::BREAK])
+}
