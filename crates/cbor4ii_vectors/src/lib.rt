@@ -5,8 +5,12 @@
 #![tactic(auto)]
 
 #[cfg(test)]
+mod memory;
+#[cfg(test)]
 mod numbers;
 pub mod readers;
 #[cfg(test)]
 mod rows;
+#[cfg(test)]
+mod strings;
 pub mod writers;

@@ -1,6 +1,7 @@
 //! Readers for tests: a decoder has to answer alike over each of them.
 ghost use Rattle.std.specs.Prelude.{◌≡◌, None, Some};
 ghost use Rattle.std.proofs.Common.{rules};
+ghost use Rattle.cbor4ii_rw.specs.Reader.{StepsIn};
 ghost use Rattle.cbor4ii_vectors.specs.Tells.{short_view, long_view, unlimited_view, failing_view};
 
 use cbor4ii_rw::error::Never;
@@ -82,6 +83,17 @@ impl<'a> Unlimited<'a> {
     }
 }
 
+/// Takes one of the steps, or answers false where none is left.
+fn take_step(steps: &mut usize) -> bool
+    ensures { StepsIn (Some steps.old) (Some steps.new) result }
+{
+    if *steps == 0 {
+        return false;
+    }
+    *steps -= 1;
+    true
+}
+
 impl Source for ShortByByte<'_> {
     type Error = Never;
 
@@ -96,11 +108,7 @@ impl Source for ShortByByte<'_> {
     }
 
     fn step_in(&mut self) -> bool {
-        if self.steps == 0 {
-            return false;
-        }
-        self.steps -= 1;
-        true
+        take_step(&mut self.steps)
     }
 
     fn step_out(&mut self) {
@@ -130,11 +138,7 @@ impl Source for LongByByte<'_> {
     }
 
     fn step_in(&mut self) -> bool {
-        if self.steps == 0 {
-            return false;
-        }
-        self.steps -= 1;
-        true
+        take_step(&mut self.steps)
     }
 
     fn step_out(&mut self) {
@@ -192,15 +196,15 @@ pub struct FailsInTime<'a> {
 }
 
 impl<'a> FailsInTime<'a> {
-    /// A reader over `bytes`, with 256 steps, that shows so many times before it fails.
-    pub fn new(bytes: &'a [u8], shows: usize) -> FailsInTime<'a>
+    /// A reader over `bytes`, with `limit` steps, that shows so many times before it fails.
+    pub fn new(bytes: &'a [u8], limit: usize, shows: usize) -> FailsInTime<'a>
         ensures told { (failing_view result).told ≡ Some bytes.now }
-        ensures budget { (failing_view result).budget ≡ Some 256 }
+        ensures budget { (failing_view result).budget ≡ Some limit }
         ensures failures { (failing_view result).failures ≡ 0 }
     {
         FailsInTime {
             bytes,
-            steps: 256,
+            steps: limit,
             shows,
             failures: 0,
         }
@@ -247,11 +251,7 @@ impl Source for FailsInTime<'_> {
     }
 
     fn step_in(&mut self) -> bool {
-        if self.steps == 0 {
-            return false;
-        }
-        self.steps -= 1;
-        true
+        take_step(&mut self.steps)
     }
 
     fn step_out(&mut self) {

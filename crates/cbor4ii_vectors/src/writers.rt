@@ -1,10 +1,9 @@
 //! A writer for tests, which fails when it is told to.
-ghost use Rattle.std.specs.Prelude.{◌≡◌, [], Some, true};
+ghost use Rattle.std.specs.Prelude.{◌≡◌, Some, true};
 ghost use Rattle.cbor4ii_vectors.specs.Tells.{failing_output};
 
 use crate::readers::Failure;
 use cbor4ii_rw::write::Write;
-use std::alloc::Global;
 
 /// Writes into memory, and fails from one push on.
 #[derive(Drop)]
@@ -15,13 +14,13 @@ pub struct FailsInTurn {
 }
 
 impl FailsInTurn {
-    /// An empty writer that takes so many pushes before it fails.
-    pub fn new(alloc: Global, pushes: usize) -> FailsInTurn
-        ensures written { (failing_output result).written ≡ Some [] }
+    /// A writer behind what stands in `bytes`, that takes so many pushes before it fails.
+    pub fn new(bytes: Vec<u8>, pushes: usize) -> FailsInTurn
+        ensures written { (failing_output result).written ≡ Some bytes.items }
         ensures failures { (failing_output result).failures ≡ 0 }
     {
         FailsInTurn {
-            bytes: Vec::new(alloc),
+            bytes,
             pushes,
             failures: 0,
         }

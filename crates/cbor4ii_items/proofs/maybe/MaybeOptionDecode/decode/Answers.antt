@@ -1,5 +1,5 @@
 use Rattle.std.proofs.lemmas.Result.{err_from_is_err_and}
-use Rattle.cbor4ii_items.proofs.Steps.{moves_then, moves_err, kept_then}
+use Rattle.cbor4ii_items.proofs.Steps.{moves_then, moves_ok, moves_err}
 use Rattle.cbor4ii_items.proofs.Containers.{exact_kept}
 use Rattle.cbor4ii_items.proofs.MaybeParts.{maybe_none, maybe_some, maybe_refuses, maybe_no_head, maybe_stops, maybe_head_stops}
 use Rattle.cbor4ii_items.proofs.maybe.MaybeOptionDecode.decode.Goals as goal
@@ -18,7 +18,7 @@ pub returns-then-not-branch-clause-sound : goal.returns-then-not-branch-clause-s
 returns-then-not-branch-clause-sound g c = maybe_none _ _ _ _ c.if-not-branch.true c.in_ok-item_follows.ensures.sound
 
 pub returns-in-Ok-clause-moves : goal.returns-in-Ok-clause-moves
-returns-in-Ok-clause-moves g c = record { by = kept_then c.in_ok-item_follows.ensures.runs.moves.by c.in-Ok.ensures.moves.by }
+returns-in-Ok-clause-moves g c = moves_then c.in_ok-item_follows.ensures.runs.moves.by (moves_ok c.in-Ok.ensures.moves)
 
 pub returns-in-Ok-clause-sound : goal.returns-in-Ok-clause-sound
 returns-in-Ok-clause-sound g c = maybe_some _ _ _ _ _ _ c.if-not-branch.false c.in_ok-item_follows.ensures.runs.moves.by c.in_ok-item_follows.ensures.sound c.in-Ok.ensures.sound
