@@ -118,7 +118,7 @@ number_inverse name expect (suc k) high v (b ∷ bs) ys e =
     (ap (λ zs. b ∷ zs) r.0, ap suc r.1, r.2)
 
 -- the argument's bytes, and how great it can be
-number_is : (name : List ℕ) (expect k v : ℕ) (bs ys : List ℕ) → IsBytes (take k bs) → number_on name expect k 0 bs ≡ Ok (v, ys) → (bs ≡ bytes_high_first k v ++ ys) × (v < 256 ^ k)
+pub number_is : (name : List ℕ) (expect k v : ℕ) (bs ys : List ℕ) → IsBytes (take k bs) → number_on name expect k 0 bs ≡ Ok (v, ys) → (bs ≡ bytes_high_first k v ++ ys) × (v < 256 ^ k)
 number_is name expect k v bs ys h e =
     let r = number_inverse name expect k 0 v bs ys e in
     let front : bytes_high_first k v ≡ take k bs = ap₂ bytes_high_first (sym r.1) r.2 ∙ bytes_onto (take k bs) 0 h in

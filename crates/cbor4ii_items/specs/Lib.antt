@@ -29,3 +29,7 @@ pub mod BigLaws
 pub mod Containers
 pub mod ContainerLaws
 pub mod ReadBack
+pub mod Marked
+pub mod Simple
+pub mod Floats
+pub mod Nothing
