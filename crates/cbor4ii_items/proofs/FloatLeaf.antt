@@ -1,13 +1,22 @@
 -- Floats, read as their bits.
-use Rattle.std.proofs.Common.{◌≡◌, ℕ, suc, ◌≤◌, inl, inr, List, ◌∷◌, length, drop, take, Ok, refl, sym, ap₂, ap, ◌∙◌, subst, arith, length-append}
-use Rattle.std.proofs.lemmas.List.{length-drop}
+use Rattle.std.proofs.Common.{◌≡◌, ℕ, suc, ◌^◌, ◌<◌, ◌≤◌, inl, inr, List, [], ◌∷◌, ◌++◌, length, get_or, drop, take, Result, Ok, refl, sym, ap₂, ap, ◌∙◌, subst, arith, length-append}
+use Rattle.std.specs.Int.{bytes_high_first}
+use Rattle.std.proofs.lemmas.List.{length-drop, length-take-le, take-append-drop}
+use Rattle.cbor4ii_rw.specs.View.{View, Told}
+use Rattle.cbor4ii_rw.specs.Reader.{Shows, Advances, IsFront}
+use Rattle.cbor4ii_rw.specs.declared.error.DecodeError.{DecodeError}
 use Rattle.cbor4ii_items.specs.Head.{IsBytes}
 use Rattle.cbor4ii_items.specs.Refusal.{Refusal}
 use Rattle.cbor4ii_items.specs.ReadHead.{number_on}
-use Rattle.cbor4ii_items.specs.HeadLaws.{number_is, number_inverse}
+use Rattle.cbor4ii_items.specs.HeadLaws.{number_is, number_inverse, onto-lt, bytes_onto}
+use Rattle.cbor4ii_items.specs.Magnitude.{number_of}
+use Rattle.cbor4ii_items.specs.Reading.{Reading, Runs}
 use Rattle.cbor4ii_items.specs.Marked.{marked_at}
-use Rattle.cbor4ii_items.specs.Floats.{ReadsFloat, CutFloat, StopsFloat, float_at, float_again}
+use Rattle.cbor4ii_items.specs.Floats.{float_bytes, IsInFront, ReadsFloat, CutFloat, StopsFloat, float_at, float_again}
 use Rattle.cbor4ii_items.proofs.Parts.{ok_parts, err_parts, ErrParts}
+use Rattle.cbor4ii_items.proofs.Steps.{moves_then}
+use Rattle.cbor4ii_items.proofs.Running.{shows_kept}
+use Rattle.cbor4ii_items.proofs.Contents.{lends_front}
 use Rattle.cbor4ii_items.proofs.Leaves.{IsLeaf}
 use Rattle.cbor4ii_items.proofs.Stopping.{number_cut}
 use Rattle.cbor4ii_items.proofs.Marked.{marked_value, marked_stays}
@@ -39,3 +48,42 @@ module _ (name : List ℕ) (marker count : ℕ) where
         elim (err_parts (marked_at name marker marker xs) (λ b. number_on name count count 0) z (drop n xs) e)
         [ inl f ↦ inl (marked_stays name marker marker (λ b. b ≡ marker) (λ b f. (omega (arith, f), omega (arith, f))) xs z (drop n xs) f) | inr h ↦ inr (float_cut xs z (drop n xs) h) ];
   }
+
+-- ---- a front that was shown
+
+-- a marker and a number's bytes behind it
+pub front_is_float : (marker count : ℕ) (front content : List ℕ) → content ≡ take count (drop 1 front) → suc count ≤ length front → get_or front 0 0 ≡ marker → marker < 256 → IsBytes content → IsInFront marker count front (number_of content)
+front_is_float marker count [] content behind long first small bytes = absurd (omega arith)
+front_is_float marker count (b ∷ bs) content behind long first small bytes =
+    let size : length content ≡ count = ap length behind ∙ length-take-le count bs (omega arith) in
+    record {
+      long = long;
+      bytes = (omega (arith, first, small), subst IsBytes behind bytes);
+      fits = subst (λ k. number_of content < 256 ^ k) size (onto-lt content bytes);
+      is = ap₂ ◌∷◌ first (sym behind ∙ (sym (bytes_onto content 0 bytes) ∙ ap (λ k. bytes_high_first k (number_of content)) size));
+    }
+
+float_shown : {marker count bits : ℕ} (n : ℕ) {front xs : List ℕ} → n ≡ suc count → IsInFront marker count front bits → take n front ≡ take n xs → ReadsFloat marker count xs bits n 0
+float_shown {marker = marker} {count = count} {bits = bits} n {front = front} {xs = xs} e f same =
+    let whole : take n xs ≡ float_bytes marker count bits = sym same ∙ (ap (λ k. take k front) e ∙ f.is) in
+    record { fits = f.fits; rest = drop n xs; is = sym (take-append-drop n xs) ∙ ap (λ zs. zs ++ drop n xs) whole; size = e; cost = refl }
+
+pub runs_float : {E : Type 0} (name : List ℕ) {marker count bits n : ℕ} {front : List ℕ} {a m b : View} → n ≡ suc count → Shows front a m → Told a.told (IsFront n front) → IsInFront marker count front bits → Advances n m b
+    → Runs {E = E} (float_at name marker count) a b (Ok bits)
+runs_float name {marker = marker} {count = count} {bits = bits} {n = n} {front = front} e shows told_front f adv =
+    let lends = lends_front shows told_front (omega (arith, f.long)) (subst (λ k. IsBytes (take k front)) (sym e) f.bytes) refl adv in
+    record {
+      moves = record { by = lends.kept };
+      answers = λ xs told.
+          let h = lends.at xs told in
+          (drop n xs, h.1, (float_again name marker count xs bits n 0 (float_shown n e f h.2)).answer);
+      memory = tt;
+    }
+
+-- nothing was taken by the look
+pub runs_looked : {V E : Type 0} {f : Reading V} {shown : List ℕ} {a m b : View} {r : Result V (DecodeError E)} → Shows shown a m → Runs f m b r → Runs f a b r
+runs_looked shows p = record {
+  moves = moves_then (shows_kept shows) p.moves;
+  answers = λ xs told. p.answers xs (shows.told xs told);
+  memory = p.memory;
+}

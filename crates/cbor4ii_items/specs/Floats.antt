@@ -5,6 +5,7 @@ use Rattle.std.specs.Prelude.{◌&&◌, nat_le}
 use Rattle.std.specs.Int.{bytes_high_first}
 use Rattle.std.proofs.Math.Seq.{drop-append_seam, take-append_seam}
 use Rattle.cbor4ii_rw.specs.declared.error.Len.TheVariants.{Small}
+use Rattle.cbor4ii_items.specs.Head.{IsBytes}
 use Rattle.cbor4ii_items.specs.Refusal.{Refusal, eof}
 use Rattle.cbor4ii_items.specs.Reading.{Reading, ◌>=>◌}
 use Rattle.cbor4ii_items.specs.ReadHead.{number_on}
@@ -23,6 +24,13 @@ pub record ReadsFloat (marker count : ℕ) (xs : List ℕ) (bits n c : ℕ) : Ty
   pub is : xs ≡ float_bytes marker count bits ++ rest
   pub size : n ≡ suc count
   pub cost : c ≡ 0
+
+-- the whole float stands in the front
+pub record IsInFront (marker count : ℕ) (front : List ℕ) (bits : ℕ) : Type 0 where
+  pub long : suc count ≤ length front
+  pub bytes : IsBytes (take (suc count) front)
+  pub fits : bits < 256 ^ count
+  pub is : take (suc count) front ≡ float_bytes marker count bits
 
 -- fewer bytes follow the first than the bits have, and nothing is left
 pub record CutFloat (name : List ℕ) (marker count : ℕ) (xs : List ℕ) (refusal : Refusal) (rest : List ℕ) : Type 0 where

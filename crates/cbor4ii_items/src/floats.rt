@@ -1,9 +1,12 @@
 //! Floats, as their bits (RFC 8949 section 3.3).
-ghost use Rattle.std.specs.Prelude.{◌≡◌, ℕ, ◌+◌, ◌≤◌, ◌<◌, ◌^◌, true, false, codes, OnOk, IfOk, IfErr};
+ghost use Rattle.std.specs.Prelude.{◌≡◌, ℕ, ◌+◌, ◌≤◌, ◌<◌, ◌^◌, length, true, false, codes, OnOk, IfOk, IfErr, IfSome};
+ghost use Rattle.cbor4ii_items.specs.Head.{IsBytes};
+ghost use Rattle.cbor4ii_items.specs.Magnitude.{number_of};
 ghost use Rattle.cbor4ii_items.specs.Decoding.{Sound, Refuses, Stops};
 ghost use Rattle.cbor4ii_items.specs.Reading.{Runs};
 ghost use Rattle.cbor4ii_items.specs.Floats.{
   float_bytes,
+  IsInFront,
   ReadsFloat,
   StopsFloat,
   float_at,
@@ -19,6 +22,7 @@ use crate::head::{marked, number};
 use crate::marker;
 use crate::push::push_bytes;
 use crate::types::{F16, F32, F64};
+use cbor4ii_rw::ask::look;
 use cbor4ii_rw::error::{DecodeError, EncodeError, StaticStr};
 use cbor4ii_rw::read::Source;
 use cbor4ii_rw::write::Write;
@@ -42,7 +46,62 @@ fn float<S: Source>(
     bits(reader, name, marker, bytes)
 }
 
+/// Where the reader shows the whole float, with one look and one advance.
 fn bits<S: Source>(
+    reader: &mut S,
+    name: StaticStr,
+    marker: u8,
+    bytes: u8,
+) -> Result<u64, DecodeError<S::Error>>
+    requires { bytes ≤ 8 }
+    ensures runs { Runs (float_at name.now marker bytes) (S.view reader.old) (S.view reader.new) result }
+    ensures fits { IfOk result (λ v. v < 256 ^ bytes) }
+    ensures progress { OnOk result ((S.view reader.new).bound + 1 ≤ (S.view reader.old).bound) }
+{
+    let size = 1 + bytes as usize;
+    let mut failure = None;
+    match look(reader, size, &mut failure) {
+        Some(shown) => match in_front(shown, marker, bytes) {
+            Some(value) => {
+                reader.advance(size);
+                Ok(value)
+            }
+            None => bits_by_byte(reader, name, marker, bytes),
+        },
+        None => match failure {
+            Some(error) => Err(DecodeError::Read(error)),
+            None => unreachable!(),
+        },
+    }
+}
+
+/// The bits of a float that stands whole in front.
+fn in_front(front: &[u8], marker: u8, bytes: u8) -> Option<u64>
+    requires { bytes ≤ 8 }
+    ensures { IfSome result (IsInFront marker bytes front.now) }
+{
+    if front.len() <= bytes as usize || front[0] != marker {
+        return None;
+    }
+    let behind = &front[1..];
+    Some(number_of(&behind[..bytes as usize]))
+}
+
+/// The number that the bytes are, most significant first.
+fn number_of(bytes: &[u8]) -> u64
+    requires { length bytes.now ≤ 8 }
+    ensures value { result ≡ number_of bytes.now }
+    ensures bytes { IsBytes bytes.now }
+{
+    let mut number = 0;
+    for &byte in bytes {
+        number = number * 256 + byte as u64;
+    }
+    number
+}
+
+/// The same, one byte at a time.
+fn bits_by_byte<S: Source>(
     reader: &mut S,
     name: StaticStr,
     marker: u8,
