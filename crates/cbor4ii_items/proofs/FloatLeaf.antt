@@ -1,21 +1,18 @@
 -- Floats, read as their bits.
-use Rattle.std.proofs.Common.{◌≡◌, ℕ, suc, ◌^◌, ◌<◌, ◌≤◌, inl, inr, List, [], ◌∷◌, ◌++◌, length, get_or, drop, take, Result, Ok, refl, sym, ap₂, ap, ◌∙◌, subst, arith, length-append}
+use Rattle.std.proofs.Common.{◌≡◌, ℕ, suc, ◌^◌, ◌<◌, ◌≤◌, inl, inr, List, [], ◌∷◌, ◌++◌, length, get_or, drop, take, Ok, refl, sym, ap₂, ap, ◌∙◌, subst, arith, length-append}
 use Rattle.std.specs.Int.{bytes_high_first}
 use Rattle.std.proofs.lemmas.List.{length-drop, length-take-le, take-append-drop}
 use Rattle.cbor4ii_rw.specs.View.{View, Told}
 use Rattle.cbor4ii_rw.specs.Reader.{Shows, Advances, IsFront}
-use Rattle.cbor4ii_rw.specs.declared.error.DecodeError.{DecodeError}
 use Rattle.cbor4ii_items.specs.Head.{IsBytes}
 use Rattle.cbor4ii_items.specs.Refusal.{Refusal}
 use Rattle.cbor4ii_items.specs.ReadHead.{number_on}
 use Rattle.cbor4ii_items.specs.HeadLaws.{number_is, number_inverse, onto-lt, bytes_onto}
 use Rattle.cbor4ii_items.specs.Magnitude.{number_of}
-use Rattle.cbor4ii_items.specs.Reading.{Reading, Runs}
+use Rattle.cbor4ii_items.specs.Reading.{Runs}
 use Rattle.cbor4ii_items.specs.Marked.{marked_at}
 use Rattle.cbor4ii_items.specs.Floats.{float_bytes, IsInFront, ReadsFloat, CutFloat, StopsFloat, float_at, float_again}
 use Rattle.cbor4ii_items.proofs.Parts.{ok_parts, err_parts, ErrParts}
-use Rattle.cbor4ii_items.proofs.Steps.{moves_then}
-use Rattle.cbor4ii_items.proofs.Running.{shows_kept}
 use Rattle.cbor4ii_items.proofs.Contents.{lends_front}
 use Rattle.cbor4ii_items.proofs.Leaves.{IsLeaf}
 use Rattle.cbor4ii_items.proofs.Stopping.{number_cut}
@@ -79,11 +76,3 @@ runs_float name {marker = marker} {count = count} {bits = bits} {n = n} {front =
           (drop n xs, h.1, (float_again name marker count xs bits n 0 (float_shown n e f h.2)).answer);
       memory = tt;
     }
-
--- nothing was taken by the look
-pub runs_looked : {V E : Type 0} {f : Reading V} {shown : List ℕ} {a m b : View} {r : Result V (DecodeError E)} → Shows shown a m → Runs f m b r → Runs f a b r
-runs_looked shows p = record {
-  moves = moves_then (shows_kept shows) p.moves;
-  answers = λ xs told. p.answers xs (shows.told xs told);
-  memory = p.memory;
-}

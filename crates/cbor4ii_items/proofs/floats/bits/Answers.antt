@@ -1,6 +1,6 @@
 use Rattle.std.proofs.Common.{arith}
 use Rattle.cbor4ii_items.proofs.Running.{looked}
-use Rattle.cbor4ii_items.proofs.FloatLeaf.{runs_float, runs_looked}
+use Rattle.cbor4ii_items.proofs.FloatLeaf.{runs_float}
 use Rattle.cbor4ii_items.proofs.floats.bits.Goals as goal
 
 pub returns-in-Some-in_front-clause-runs : goal.returns-in-Some-in_front-clause-runs
