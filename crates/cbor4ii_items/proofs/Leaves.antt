@@ -1,5 +1,5 @@
 -- A call that does what a program does reads what the program reads.
-use Rattle.std.proofs.Common.{◌≡◌, ℕ, ◌≤◌, List, length, drop, take, Option, Some, None, Result, Ok, Err, ap, ◌∙◌, arith, IfSome, IfOk, IfErr}
+use Rattle.std.proofs.Common.{◌≡◌, ℕ, ◌≤◌, List, length, drop, take, Option, Some, None, Result, Ok, Err, sym, ap, ◌∙◌, subst, arith, IfSome, IfOk, IfErr}
 use Rattle.std.specs.Prelude.{MatchBool}
 use Rattle.cbor4ii_rw.specs.View.{View}
 use Rattle.cbor4ii_rw.specs.declared.error.DecodeError.{DecodeError}
@@ -83,3 +83,8 @@ no_more (Some z) f h = f h
 
 pub refuses_as : {U V E : Type 0} {e : DecodeError E} {a : View} (f : List ℕ → U → ℕ → ℕ → Type 0) (g : List ℕ → V → ℕ → ℕ → Type 0) → ((xs : List ℕ) (budget : Option ℕ) → NoneRead f xs budget → NoneRead g xs budget) → Refuses f a e → Refuses g a e
 refuses_as {e = e} {a = a} f g none p = record { at = λ xs told. no_more (refusal_of e) (none xs a.budget) (p.at xs told) }
+
+pub sound_as : {U V : Type 0} (reads : List ℕ → U → ℕ → ℕ → Type 0) (part : V → U) {u : U} {v : V} {a b : View} → part v ≡ u → Sound reads a b u → Sound (λ xs v. reads xs (part v)) a b v
+sound_as reads part e s = record {
+  at = λ xs told. let t = s.at xs told in record { count = t.count; cost = t.cost; read = subst (λ z. reads xs z t.count t.cost) (sym e) t.read; fits = t.fits; left = t.left };
+}

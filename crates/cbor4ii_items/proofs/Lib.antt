@@ -25,3 +25,5 @@ pub mod Told
 pub mod Lengths
 pub mod SequenceBytes
 pub mod MaybeParts
+pub mod Marked
+pub mod FloatLeaf

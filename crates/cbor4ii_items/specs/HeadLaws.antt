@@ -89,7 +89,7 @@ onto_high (b ∷ bs) high =
     let tail : onto 0 (b ∷ bs) ≡ (0 * 256 + b) * unit + onto 0 bs = onto_high bs (0 * 256 + b) in
     onto_high bs (high * 256 + b) ∙ (one_more high b unit (onto 0 bs) ∙ sym (ap₂ (λ u t. high * u + t) wider tail))
 
-onto-lt : (bs : List ℕ) → IsBytes bs → onto 0 bs < 256 ^ length bs
+pub onto-lt : (bs : List ℕ) → IsBytes bs → onto 0 bs < 256 ^ length bs
 onto-lt [] h = omega arith
 onto-lt (b ∷ bs) h =
     let unit = 256 ^ length bs in
@@ -102,7 +102,7 @@ byte_at_top : (k high low : ℕ) → low < 256 ^ k → number_byte k (high * 256
 byte_at_top zero high low h = let e : high * 1 + low ≡ high = omega arith in rw e refl
 byte_at_top (suc k) high low h = rw (div-mul-add high (256 ^ suc k) low h) refl
 
-bytes_onto : (bs : List ℕ) (high : ℕ) → IsBytes bs → bytes_high_first (length bs) (onto high bs) ≡ bs
+pub bytes_onto : (bs : List ℕ) (high : ℕ) → IsBytes bs → bytes_high_first (length bs) (onto high bs) ≡ bs
 bytes_onto [] high h = refl
 bytes_onto (b ∷ bs) high h =
     let low : (high * 256 + b) % 256 ≡ b = omega arith in
@@ -118,7 +118,7 @@ number_inverse name expect (suc k) high v (b ∷ bs) ys e =
     (ap (λ zs. b ∷ zs) r.0, ap suc r.1, r.2)
 
 -- the argument's bytes, and how great it can be
-number_is : (name : List ℕ) (expect k v : ℕ) (bs ys : List ℕ) → IsBytes (take k bs) → number_on name expect k 0 bs ≡ Ok (v, ys) → (bs ≡ bytes_high_first k v ++ ys) × (v < 256 ^ k)
+pub number_is : (name : List ℕ) (expect k v : ℕ) (bs ys : List ℕ) → IsBytes (take k bs) → number_on name expect k 0 bs ≡ Ok (v, ys) → (bs ≡ bytes_high_first k v ++ ys) × (v < 256 ^ k)
 number_is name expect k v bs ys h e =
     let r = number_inverse name expect k 0 v bs ys e in
     let front : bytes_high_first k v ≡ take k bs = ap₂ bytes_high_first (sym r.1) r.2 ∙ bytes_onto (take k bs) 0 h in

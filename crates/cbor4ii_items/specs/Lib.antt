@@ -34,3 +34,7 @@ pub mod ContainerLaws
 pub mod Maybe
 pub mod MaybeLaws
 pub mod ReadBack
+pub mod Marked
+pub mod Simple
+pub mod Floats
+pub mod Nothing

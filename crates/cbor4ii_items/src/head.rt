@@ -4,6 +4,7 @@ ghost use Rattle.cbor4ii_items.specs.Decoding.{Sound, Refuses, Stops};
 ghost use Rattle.cbor4ii_items.specs.Lengths.{ReadsLength, StopsLength};
 ghost use Rattle.cbor4ii_items.specs.Numbers.{ReadsArgument, StopsArgument};
 ghost use Rattle.cbor4ii_items.specs.Reading.{Runs, peek_at, byte_at};
+ghost use Rattle.cbor4ii_items.specs.Marked.{marked_at};
 ghost use Rattle.cbor4ii_items.specs.ReadHead.{
   number_on,
   argument_at,
@@ -57,6 +58,24 @@ pub(crate) fn take<S: Source>(
     ensures progress { OnOk result ((S.view reader.new).bound + 1 ≤ (S.view reader.old).bound) }
 {
     let byte = peek(reader, name, expect)?;
+    reader.advance(1);
+    Ok(byte)
+}
+
+/// The next byte, taken where it is one from `least` to `greatest`. Another byte stays.
+pub(crate) fn marked<S: Source>(
+    reader: &mut S,
+    name: StaticStr,
+    least: u8,
+    greatest: u8,
+) -> Result<u8, DecodeError<S::Error>>
+    ensures runs { Runs (marked_at name.now least greatest) (S.view reader.old) (S.view reader.new) result }
+    ensures progress { OnOk result ((S.view reader.new).bound + 1 ≤ (S.view reader.old).bound) }
+{
+    let byte = peek(reader, name, 1)?;
+    if byte < least || greatest < byte {
+        return Err(DecodeError::Mismatch { name, found: byte });
+    }
     reader.advance(1);
     Ok(byte)
 }

@@ -1,20 +1,26 @@
-//! Items: what is read and written, the numbers and the strings.
+//! Items: what is read and written, from numbers to arrays and maps.
 #![tactic(auto)]
 
+mod boxed;
 pub mod decode;
 pub mod encode;
+mod floats;
 mod front;
 mod head;
 pub mod indefinite;
 pub mod initial;
 pub mod laws;
+#[cfg(test)]
+mod leaf_tests;
 pub mod major;
 pub mod marker;
 mod maybe;
+mod nothing;
 mod numbers;
 mod option;
 mod push;
 mod sequences;
+mod simple;
 mod strings;
 mod tag;
 #[cfg(test)]

@@ -11,7 +11,7 @@ use std::process::Abort;
 use std::test::Fail;
 
 /// Compares what a type reads off the front of `bytes`, and what it leaves.
-fn reads<'a, T: Decode<SliceReader<'a>> + Debug + Drop, A: Abort>(
+pub(crate) fn reads<'a, T: Decode<SliceReader<'a>> + Debug + Drop, A: Abort>(
     rt: &A,
     alloc: Global,
     bytes: &'a [u8],
@@ -27,7 +27,12 @@ fn reads<'a, T: Decode<SliceReader<'a>> + Debug + Drop, A: Abort>(
 }
 
 /// Compares what is written of a value.
-fn writes<T: Encode, A: Abort>(rt: &A, alloc: Global, value: &T, want: &[u8]) -> Result<(), Fail> {
+pub(crate) fn writes<T: Encode, A: Abort>(
+    rt: &A,
+    alloc: Global,
+    value: &T,
+    want: &[u8],
+) -> Result<(), Fail> {
     let mut writer = BufWriter::new(Vec::new(alloc));
     value.encode(&mut writer)?;
     assert_eq!(rt; writer.buffer(), want);

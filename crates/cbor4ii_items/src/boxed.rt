@@ -1,0 +1,64 @@
+//! Items in a box.
+ghost use Rattle.std.specs.Prelude.{true};
+
+use crate::decode::{Decode, Spelled};
+use crate::encode::Encode;
+use cbor4ii_rw::error::{DecodeError, EncodeError};
+use cbor4ii_rw::read::Source;
+use cbor4ii_rw::write::Write;
+use std::alloc::Global;
+
+/// A box is spelled and refused as what is in it. Where there is no memory for the box, it is
+/// `OutOfMemory`, and the item was taken.
+impl<T: Spelled> Spelled for Box<T> {
+    ghost reads = { λ xs b. T.reads xs b.value };
+
+    ghost same = { λ b c. T.same b.value c.value };
+
+    ghost stops = { T.stops };
+
+    ghost never_empty = { T.never_empty };
+
+    ghost owned = { T.owned };
+
+    ghost takes_memory = { true };
+
+    ghost closed = { T.closed };
+
+    fn is_never_empty() -> bool {
+        T::is_never_empty()
+    }
+
+    fn is_owned() -> bool {
+        T::is_owned()
+    }
+}
+
+impl<S: Source, T: Decode<S> + Drop> Decode<S> for Box<T> {
+    fn decode(alloc: Global, reader: &mut S) -> Result<Box<T>, DecodeError<S::Error>> {
+        let value = match T::decode(alloc, reader) {
+            Ok(value) => value,
+            Err(error) => return Err(error),
+        };
+        match Box::new(alloc, value) {
+            Ok(boxed) => Ok(boxed),
+            Err(_) => Err(DecodeError::OutOfMemory),
+        }
+    }
+
+    ghost one = { λ xs b c. T.one xs b.value c.value };
+
+    ghost within = { λ xs b. T.within xs b.value };
+
+    ghost positive = { λ e xs b. T.positive e xs b.value };
+
+    ghost alone = { λ e xs ys b. T.alone e xs ys b.value };
+}
+
+impl<T: Encode> Encode for Box<T> {
+    ghost bytes = { λ b. T.bytes b.value };
+
+    fn encode<W: Write>(&self, writer: &mut W) -> Result<(), EncodeError<W::Error>> {
+        T::encode(self.as_ref(), writer)
+    }
+}

@@ -1,0 +1,267 @@
+//! Floats, as their bits (RFC 8949 section 3.3).
+ghost use Rattle.std.specs.Prelude.{◌≡◌, ℕ, ◌+◌, ◌≤◌, ◌<◌, ◌^◌, length, true, false, codes, OnOk, IfOk, IfErr, IfSome};
+ghost use Rattle.cbor4ii_items.specs.Head.{IsBytes};
+ghost use Rattle.cbor4ii_items.specs.Magnitude.{number_of};
+ghost use Rattle.cbor4ii_items.specs.Decoding.{Sound, Refuses, Stops};
+ghost use Rattle.cbor4ii_items.specs.Reading.{Runs};
+ghost use Rattle.cbor4ii_items.specs.Floats.{
+  float_bytes,
+  IsInFront,
+  ReadsFloat,
+  StopsFloat,
+  float_at,
+  float_one,
+  float_within,
+  float_positive,
+  float_alone,
+};
+
+use crate::decode::{Decode, Spelled};
+use crate::encode::Encode;
+use crate::head::{marked, number};
+use crate::marker;
+use crate::push::push_bytes;
+use crate::types::{F16, F32, F64};
+use cbor4ii_rw::ask::look;
+use cbor4ii_rw::error::{DecodeError, EncodeError, StaticStr};
+use cbor4ii_rw::read::Source;
+use cbor4ii_rw::write::Write;
+use std::alloc::Global;
+
+/// The bits of a float: its first byte, and so many bytes behind it.
+fn float<S: Source>(
+    reader: &mut S,
+    name: StaticStr,
+    marker: u8,
+    bytes: u8,
+) -> Result<u64, DecodeError<S::Error>>
+    requires { bytes ≤ 8 }
+    ensures runs { Runs (float_at name.now marker bytes) (S.view reader.old) (S.view reader.new) result }
+    ensures fits { IfOk result (λ v. v < 256 ^ bytes) }
+    ensures progress { OnOk result ((S.view reader.new).bound + 1 ≤ (S.view reader.old).bound) }
+    ensures sound { IfOk result (Sound (ReadsFloat marker bytes) (S.view reader.old) (S.view reader.new)) }
+    ensures complete { IfErr result (Refuses (ReadsFloat marker bytes) (S.view reader.old)) }
+    ensures stops { IfErr result (Stops (StopsFloat name.now marker bytes) (S.view reader.old) (S.view reader.new)) }
+{
+    bits(reader, name, marker, bytes)
+}
+
+/// Where the reader shows the whole float, with one look and one advance.
+fn bits<S: Source>(
+    reader: &mut S,
+    name: StaticStr,
+    marker: u8,
+    bytes: u8,
+) -> Result<u64, DecodeError<S::Error>>
+    requires { bytes ≤ 8 }
+    ensures runs { Runs (float_at name.now marker bytes) (S.view reader.old) (S.view reader.new) result }
+    ensures fits { IfOk result (λ v. v < 256 ^ bytes) }
+    ensures progress { OnOk result ((S.view reader.new).bound + 1 ≤ (S.view reader.old).bound) }
+{
+    let size = 1 + bytes as usize;
+    let mut failure = None;
+    match look(reader, size, &mut failure) {
+        Some(shown) => match in_front(shown, marker, bytes) {
+            Some(value) => {
+                reader.advance(size);
+                Ok(value)
+            }
+            None => bits_by_byte(reader, name, marker, bytes),
+        },
+        None => match failure {
+            Some(error) => Err(DecodeError::Read(error)),
+            None => unreachable!(),
+        },
+    }
+}
+
+/// The bits of a float that stands whole in front.
+fn in_front(front: &[u8], marker: u8, bytes: u8) -> Option<u64>
+    requires { bytes ≤ 8 }
+    ensures { IfSome result (IsInFront marker bytes front.now) }
+{
+    if front.len() <= bytes as usize || front[0] != marker {
+        return None;
+    }
+    let behind = &front[1..];
+    Some(number_of(&behind[..bytes as usize]))
+}
+
+/// The number that the bytes are, most significant first.
+fn number_of(bytes: &[u8]) -> u64
+    requires { length bytes.now ≤ 8 }
+    ensures value { result ≡ number_of bytes.now }
+    ensures bytes { IsBytes bytes.now }
+{
+    let mut number = 0;
+    for &byte in bytes {
+        number = number * 256 + byte as u64;
+    }
+    number
+}
+
+/// The same, one byte at a time.
+fn bits_by_byte<S: Source>(
+    reader: &mut S,
+    name: StaticStr,
+    marker: u8,
+    bytes: u8,
+) -> Result<u64, DecodeError<S::Error>>
+    requires { bytes ≤ 8 }
+    ensures runs { Runs (float_at name.now marker bytes) (S.view reader.old) (S.view reader.new) result }
+    ensures fits { IfOk result (λ v. v < 256 ^ bytes) }
+    ensures progress { OnOk result ((S.view reader.new).bound + 1 ≤ (S.view reader.old).bound) }
+{
+    marked(reader, name, marker, marker)?;
+    Ok(number(reader, name, bytes)? as u64)
+}
+
+/// Refused by the name "f16": where no byte is left, `Eof` with 1; where another byte than its
+/// first comes next, `Mismatch`, and the byte stays; where fewer than two bytes follow, `Eof` with
+/// 2, and nothing is left.
+impl Spelled for F16 {
+    ghost reads = { λ xs v. ReadsFloat 0xf9 2 xs v.0 };
+
+    ghost same = { λ v w. v.0 ≡ w.0 };
+
+    ghost stops = { StopsFloat (codes "f16") 0xf9 2 };
+
+    ghost never_empty = { true };
+
+    ghost owned = { true };
+
+    ghost takes_memory = { false };
+
+    ghost closed = { true };
+
+    fn is_never_empty() -> bool {
+        true
+    }
+
+    fn is_owned() -> bool {
+        true
+    }
+}
+
+impl<S: Source> Decode<S> for F16 {
+    fn decode(alloc: Global, reader: &mut S) -> Result<F16, DecodeError<S::Error>> {
+        Ok(F16(float(reader, "f16", marker::F16, 2)? as u16))
+    }
+
+    ghost one = { λ xs v w. float_one 0xf9 2 xs v.0 w.0 };
+
+    ghost within = { λ xs v. float_within 0xf9 2 xs v.0 };
+
+    ghost positive = { λ _ xs v. float_positive 0xf9 2 xs v.0 };
+
+    ghost alone = { λ _ xs ys v. float_alone 0xf9 2 xs ys v.0 };
+}
+
+impl Encode for F16 {
+    ghost bytes = { λ v. float_bytes 0xf9 2 v.0 };
+
+    fn encode<W: Write>(&self, writer: &mut W) -> Result<(), EncodeError<W::Error>> {
+        let [a, b] = self.0.to_be_bytes();
+        push_bytes(writer, &[marker::F16, a, b])
+    }
+}
+
+/// Refused by the name "f32": where no byte is left, `Eof` with 1; where another byte than its
+/// first comes next, `Mismatch`, and the byte stays; where fewer than four bytes follow, `Eof` with
+/// 4, and nothing is left.
+impl Spelled for F32 {
+    ghost reads = { λ xs v. ReadsFloat 0xfa 4 xs v.0 };
+
+    ghost same = { λ v w. v.0 ≡ w.0 };
+
+    ghost stops = { StopsFloat (codes "f32") 0xfa 4 };
+
+    ghost never_empty = { true };
+
+    ghost owned = { true };
+
+    ghost takes_memory = { false };
+
+    ghost closed = { true };
+
+    fn is_never_empty() -> bool {
+        true
+    }
+
+    fn is_owned() -> bool {
+        true
+    }
+}
+
+impl<S: Source> Decode<S> for F32 {
+    fn decode(alloc: Global, reader: &mut S) -> Result<F32, DecodeError<S::Error>> {
+        Ok(F32(float(reader, "f32", marker::F32, 4)? as u32))
+    }
+
+    ghost one = { λ xs v w. float_one 0xfa 4 xs v.0 w.0 };
+
+    ghost within = { λ xs v. float_within 0xfa 4 xs v.0 };
+
+    ghost positive = { λ _ xs v. float_positive 0xfa 4 xs v.0 };
+
+    ghost alone = { λ _ xs ys v. float_alone 0xfa 4 xs ys v.0 };
+}
+
+impl Encode for F32 {
+    ghost bytes = { λ v. float_bytes 0xfa 4 v.0 };
+
+    fn encode<W: Write>(&self, writer: &mut W) -> Result<(), EncodeError<W::Error>> {
+        let [a, b, c, d] = self.0.to_be_bytes();
+        push_bytes(writer, &[marker::F32, a, b, c, d])
+    }
+}
+
+/// Refused by the name "f64": where no byte is left, `Eof` with 1; where another byte than its
+/// first comes next, `Mismatch`, and the byte stays; where fewer than eight bytes follow, `Eof` with
+/// 8, and nothing is left.
+impl Spelled for F64 {
+    ghost reads = { λ xs v. ReadsFloat 0xfb 8 xs v.0 };
+
+    ghost same = { λ v w. v.0 ≡ w.0 };
+
+    ghost stops = { StopsFloat (codes "f64") 0xfb 8 };
+
+    ghost never_empty = { true };
+
+    ghost owned = { true };
+
+    ghost takes_memory = { false };
+
+    ghost closed = { true };
+
+    fn is_never_empty() -> bool {
+        true
+    }
+
+    fn is_owned() -> bool {
+        true
+    }
+}
+
+impl<S: Source> Decode<S> for F64 {
+    fn decode(alloc: Global, reader: &mut S) -> Result<F64, DecodeError<S::Error>> {
+        Ok(F64(float(reader, "f64", marker::F64, 8)?))
+    }
+
+    ghost one = { λ xs v w. float_one 0xfb 8 xs v.0 w.0 };
+
+    ghost within = { λ xs v. float_within 0xfb 8 xs v.0 };
+
+    ghost positive = { λ _ xs v. float_positive 0xfb 8 xs v.0 };
+
+    ghost alone = { λ _ xs ys v. float_alone 0xfb 8 xs ys v.0 };
+}
+
+impl Encode for F64 {
+    ghost bytes = { λ v. float_bytes 0xfb 8 v.0 };
+
+    fn encode<W: Write>(&self, writer: &mut W) -> Result<(), EncodeError<W::Error>> {
+        let [a, b, c, d, e, f, g, h] = self.0.to_be_bytes();
+        push_bytes(writer, &[marker::F64, a, b, c, d, e, f, g, h])
+    }
+}

@@ -1,0 +1,65 @@
+//! No item at all.
+ghost use Rattle.std.specs.Prelude.{◌≡◌, [], true, false};
+ghost use Rattle.cbor4ii_items.specs.Nothing.{
+  ReadsNothing,
+  StopsNothing,
+  nothing_one,
+  nothing_within,
+  nothing_positive,
+  nothing_alone,
+};
+
+use crate::decode::{Decode, Spelled};
+use crate::encode::Encode;
+use crate::types::Nothing;
+use cbor4ii_rw::error::{DecodeError, EncodeError};
+use cbor4ii_rw::read::Source;
+use cbor4ii_rw::write::Write;
+use std::alloc::Global;
+
+/// It takes no byte, and is never refused.
+impl Spelled for Nothing {
+    ghost reads = { ReadsNothing };
+
+    ghost same = { λ v w. v ≡ w };
+
+    ghost stops = { StopsNothing };
+
+    ghost never_empty = { false };
+
+    ghost owned = { true };
+
+    ghost takes_memory = { false };
+
+    ghost closed = { true };
+
+    fn is_never_empty() -> bool {
+        false
+    }
+
+    fn is_owned() -> bool {
+        true
+    }
+}
+
+impl<S: Source> Decode<S> for Nothing {
+    fn decode(alloc: Global, reader: &mut S) -> Result<Nothing, DecodeError<S::Error>> {
+        Ok(Nothing)
+    }
+
+    ghost one = { nothing_one };
+
+    ghost within = { nothing_within };
+
+    ghost positive = { nothing_positive };
+
+    ghost alone = { λ _. nothing_alone };
+}
+
+impl Encode for Nothing {
+    ghost bytes = { λ _. [] };
+
+    fn encode<W: Write>(&self, writer: &mut W) -> Result<(), EncodeError<W::Error>> {
+        Ok(())
+    }
+}

@@ -1,0 +1,156 @@
+//! Simple values (RFC 8949 section 3.3).
+ghost use Rattle.std.specs.Prelude.{◌≡◌, ◌+◌, ◌≤◌, ◌∷◌, [], true, false, OnOk};
+ghost use Rattle.cbor4ii_items.specs.Reading.{Runs};
+ghost use Rattle.cbor4ii_items.specs.Numbers.{shortest_head};
+ghost use Rattle.cbor4ii_items.specs.Initial.{simple_byte, simple_null, simple_undefined};
+ghost use Rattle.cbor4ii_items.specs.Simple.{
+  ReadsSimple,
+  StopsSimple,
+  simple_one,
+  simple_within,
+  simple_positive,
+  simple_alone,
+  ReadsBool,
+  StopsBool,
+  bool_byte,
+  bool_at,
+  bool_one,
+  bool_within,
+  bool_positive,
+  bool_alone,
+};
+
+use crate::decode::{Decode, Spelled};
+use crate::encode::Encode;
+use crate::head::{lone_head, marked};
+use crate::push::{push_bytes, push_head};
+use crate::types::{Null, Simple, Undefined};
+use crate::{major, marker};
+use cbor4ii_rw::error::{DecodeError, EncodeError};
+use cbor4ii_rw::read::Source;
+use cbor4ii_rw::write::Write;
+use std::alloc::Global;
+
+/// A simple value is read by its number, in the first byte or the one after it; 24 to 31 too,
+/// which RFC 8949 section 3.3 keeps free.
+///
+/// It is refused as a head of major type 7 with at most one byte of argument is, by the name
+/// "simple".
+impl Spelled for Simple {
+    ghost reads = { ReadsSimple };
+
+    ghost same = { λ v w. v ≡ w };
+
+    ghost stops = { StopsSimple };
+
+    ghost never_empty = { true };
+
+    ghost owned = { true };
+
+    ghost takes_memory = { false };
+
+    ghost closed = { true };
+
+    fn is_never_empty() -> bool {
+        true
+    }
+
+    fn is_owned() -> bool {
+        true
+    }
+}
+
+impl<S: Source> Decode<S> for Simple {
+    fn decode(alloc: Global, reader: &mut S) -> Result<Simple, DecodeError<S::Error>> {
+        Ok(Simple(lone_head(reader, "simple", major::SIMPLE, 1)? as u8))
+    }
+
+    ghost one = { simple_one };
+
+    ghost within = { simple_within };
+
+    ghost positive = { λ _. simple_positive };
+
+    ghost alone = { λ _. simple_alone };
+}
+
+impl Encode for Simple {
+    ghost bytes = { λ v. shortest_head 7 v.0 };
+
+    fn encode<W: Write>(&self, writer: &mut W) -> Result<(), EncodeError<W::Error>> {
+        push_head(writer, major::SIMPLE, self.0 as u64)
+    }
+}
+
+/// Refused by the name "bool": where no byte is left, `Eof` with 1; where another byte comes next,
+/// `Mismatch`, and the byte stays.
+impl Spelled for bool {
+    ghost reads = { ReadsBool };
+
+    ghost same = { λ v w. v ≡ w };
+
+    ghost stops = { StopsBool };
+
+    ghost never_empty = { true };
+
+    ghost owned = { true };
+
+    ghost takes_memory = { false };
+
+    ghost closed = { true };
+
+    fn is_never_empty() -> bool {
+        true
+    }
+
+    fn is_owned() -> bool {
+        true
+    }
+}
+
+impl<S: Source> Decode<S> for bool {
+    fn decode(alloc: Global, reader: &mut S) -> Result<bool, DecodeError<S::Error>> {
+        flag(reader)
+    }
+
+    ghost one = { bool_one };
+
+    ghost within = { bool_within };
+
+    ghost positive = { λ _. bool_positive };
+
+    ghost alone = { λ _. bool_alone };
+}
+
+fn flag<S: Source>(reader: &mut S) -> Result<bool, DecodeError<S::Error>>
+    ensures runs { Runs bool_at (S.view reader.old) (S.view reader.new) result }
+    ensures progress { OnOk result ((S.view reader.new).bound + 1 ≤ (S.view reader.old).bound) }
+{
+    let byte = marked(reader, "bool", marker::FALSE, marker::TRUE)?;
+    Ok(byte == marker::TRUE)
+}
+
+impl Encode for bool {
+    ghost bytes = { λ v. bool_byte v ∷ [] };
+
+    fn encode<W: Write>(&self, writer: &mut W) -> Result<(), EncodeError<W::Error>> {
+        let byte = if *self { marker::TRUE } else { marker::FALSE };
+        push_bytes(writer, &[byte])
+    }
+}
+
+impl Encode for Null {
+    ghost bytes = { λ _. simple_byte simple_null ∷ [] };
+
+    fn encode<W: Write>(&self, writer: &mut W) -> Result<(), EncodeError<W::Error>> {
+        push_bytes(writer, &[marker::NULL])
+    }
+}
+
+impl Encode for Undefined {
+    ghost bytes = { λ _. simple_byte simple_undefined ∷ [] };
+
+    fn encode<W: Write>(&self, writer: &mut W) -> Result<(), EncodeError<W::Error>> {
+        push_bytes(writer, &[marker::UNDEFINED])
+    }
+}
