@@ -19,6 +19,7 @@ pub mod Contents
 pub mod StringLaws
 pub mod Lent
 pub mod LentLaws
+pub mod Cow
 pub mod Laws
 pub mod Writing
 pub mod Magnitude
