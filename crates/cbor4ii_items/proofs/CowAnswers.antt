@@ -1,12 +1,10 @@
 -- A content that is lent, or copied, as what the owned strings read.
-use Rattle.std.proofs.Common.{◌≡◌, ℕ, ◌<◌, ◌≤◌, List, [], ◌∷◌, length, take, drop, Option, None, Some, Result, Ok, Err, Bool, true, false, IsTrue, refl, sym, ap, ◌∙◌, subst, arith, IfSome, IfOk, IfErr}
-use Rattle.std.specs.Prelude.{IsUtf8}
+use Rattle.std.proofs.Common.{◌≡◌, ℕ, ◌<◌, List, [], length, drop, Option, None, Some, Result, Ok, Err, Bool, true, false, IsTrue, refl, sym, ap, ◌∙◌, subst, arith, IfSome, IfOk}
 use denote.Ref.{Bor}
 use Rattle.cbor4ii_rw.specs.View.{View, Told}
 use Rattle.cbor4ii_rw.specs.declared.error.DecodeError.{DecodeError}
 use Rattle.cbor4ii_rw.specs.declared.error.DecodeError.TheVariants.{RequireUtf8}
 use Rattle.cbor4ii_items.specs.Decoding.{Sound, Refuses, Stops}
-use Rattle.cbor4ii_items.specs.Moves.{Moves}
 use Rattle.cbor4ii_items.specs.Reading.{Reading, Runs}
 use Rattle.cbor4ii_items.specs.ReadHead.{length_at}
 use Rattle.cbor4ii_items.specs.ReadStrings.{content_on, string_at}
@@ -59,10 +57,6 @@ module _ {V E : Type 0} (name : List ℕ) (major : ℕ) (is_text : Bool) (conten
       → Takes (string_at name major a.budget) is_text content a b r
   either_known (Ok value) run is t = record { by = (t.by.0, string_known name major run is t.by.1, t.by.2) }
   either_known (Err e) run is t = record { by = string_known name major run is t.by }
-
-  pub either_moves : {program : Reading (List ℕ)} (r : Result (Option V) (DecodeError E)) → Takes program is_text content a b r → Moves a b r
-  either_moves (Ok value) t = record { by = t.by.1.moves.by }
-  either_moves (Err e) t = record { by = t.by.moves.by }
 
 -- of a text the major type is 3
 pub either_stops : {E : Type 0} (name : List ℕ) {a b : View} (is_text : Bool) (major : ℕ) {e : DecodeError E} → (IsTrue is_text → major ≡ 3) → Follows {V = List ℕ} (string_at name major a.budget) a b (Err e) → Stops (StopsEither is_text name major) a b e

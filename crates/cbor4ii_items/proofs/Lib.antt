@@ -23,3 +23,4 @@ pub mod Forward
 pub mod Told
 pub mod CowAnswers
 pub mod ToldCow
+pub mod CowRows

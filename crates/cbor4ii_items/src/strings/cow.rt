@@ -1,9 +1,17 @@
-//! Strings that are borrowed from the input or owned, read.
+//! Strings that are borrowed from the input or owned, read (RFC 8949 sections 3.1 and 3.2.3).
 //!
-//! What is read and what is refused is as for the owned strings. A string of known length is a
-//! part of the input, with no copy, where one fill lends all of its bytes as long as the input
-//! lives; elsewhere its bytes are copied. A string of indefinite length is always joined in a
-//! copy, of one chunk too (RFC 8949 section 3.2.3).
+//! A string of known length is a part of the input, with no copy, where one fill lends all of its
+//! bytes as long as the input lives; elsewhere they are copied. A string of indefinite length is
+//! always copied, of one chunk too: it is known only behind a chunk whether more follow. The
+//! copies take steps and memory as those of the owned strings do.
+//!
+//! Refusals, in this order, by the name "bytes" or "str", over every reader:
+//! - the head is not one of a string: `Mismatch` or `Eof`, as for every head
+//! - bytes are missing: `Eof` with the number of those that are missing, and nothing is left
+//! - in the place of a chunk or a break there is no byte: `Eof` by "break" with 1
+//! - no step is left for a chunk: `DepthOverflow`, and the chunk is left
+//! - a chunk is of indefinite length: `RequireLength` with `Indefinite`, behind its first byte
+//! - a `CowStr` is not UTF-8: `RequireUtf8`, and the whole item is taken
 ghost use Rattle.std.specs.Prelude.{◌≡◌, ◌+◌, ◌≤◌, true, false, codes, OnOk, IfOk, IfErr, IsTrue};
 ghost use mathlib.Core.Path.{refl};
 ghost use Rattle.std.specs.Cow.{IsBorrowedStr, IsOwnedStr};

@@ -12,7 +12,6 @@ ghost use Rattle.std.specs.Prelude.{
   IfOk,
   IfErr,
   IfSome,
-  IsNone,
   IsTrue,
   IsUtf8,
   true,

@@ -1,5 +1,5 @@
 use Rattle.std.proofs.lemmas.Result.{err_from_is_err_and}
-use Rattle.cbor4ii_items.proofs.CowAnswers.{either_moves, either_sound, either_refuses, either_stops, other_refuses, other_stops}
+use Rattle.cbor4ii_items.proofs.CowAnswers.{either_sound, either_refuses, either_stops, other_refuses, other_stops}
 use Rattle.cbor4ii_items.proofs.strings.lent_or_owned.take_cow.Goals as goal
 
 pub returns-in_err-value-clause-complete : goal.returns-in_err-value-clause-complete
