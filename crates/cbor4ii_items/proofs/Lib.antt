@@ -27,3 +27,6 @@ pub mod SequenceBytes
 pub mod MaybeParts
 pub mod Marked
 pub mod FloatLeaf
+pub mod CowAnswers
+pub mod ToldCow
+pub mod CowRows

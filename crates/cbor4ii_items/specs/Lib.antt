@@ -20,6 +20,7 @@ pub mod StringLaws
 pub mod Lent
 pub mod Front
 pub mod LentLaws
+pub mod Cow
 pub mod Laws
 pub mod Writing
 pub mod Magnitude

@@ -4,9 +4,11 @@ mod borrowed;
 mod chunks;
 mod content;
 mod counted;
+mod cow;
 mod encode;
 mod heads;
 mod lent;
+mod lent_or_owned;
 mod owned;
 #[cfg(test)]
 mod tests;

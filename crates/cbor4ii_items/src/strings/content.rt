@@ -78,7 +78,7 @@ fn take_parts<S: Source>(
 }
 
 /// So many bytes.
-fn take_known<S: Source>(
+pub(crate) fn take_known<S: Source>(
     alloc: Global,
     reader: &mut S,
     name: StaticStr,

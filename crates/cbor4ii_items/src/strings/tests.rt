@@ -5,9 +5,11 @@ use crate::types::{Bytes, UncheckedStr};
 use cbor4ii_rw::buf_writer::BufWriter;
 use cbor4ii_rw::error::{DecodeError, EncodeError, Len, Never};
 use cbor4ii_rw::read::Source;
+use cbor4ii_rw::segment_reader::SegmentReader;
 use cbor4ii_rw::slice_reader::SliceReader;
 use cbor4ii_rw::write::Write;
 use std::alloc::Global;
+use std::borrow::{CowSlice, CowStr};
 use std::test::Fail;
 
 /// Reads by the bounds alone.
@@ -354,5 +356,84 @@ fn byte_strings_are_lent(rt: HostRuntime) -> Result<(), Fail> {
         )
     );
     assert_eq!(rt; reader.remaining(), [0xff].as_slice());
+    Ok(())
+}
+
+/// What is refused where a text is borrowed or owned, and which bytes are left then.
+fn cow_refusal(alloc: Global, bytes: &[u8]) -> (Option<DecodeError<Never>>, &[u8]) {
+    let mut reader = SliceReader::new(bytes);
+    let found: Result<CowStr<'_, Global>, DecodeError<Never>> = read(alloc, &mut reader);
+    (found.err(), reader.remaining())
+}
+
+#[test]
+fn texts_are_borrowed_or_owned(rt: HostRuntime) -> Result<(), Fail> {
+    let alloc = rt.alloc();
+    let mut reader = SliceReader::new(&[0x62, 0x61, 0x61, 0x60, 0x7f, 0x61, 0x61, 0xff, 1]);
+    let found: Result<CowStr<'_, Global>, DecodeError<Never>> = read(alloc, &mut reader);
+    assert!(rt; matches!(found, Ok(CowStr::Borrowed("aa"))));
+    let found: Result<CowStr<'_, Global>, DecodeError<Never>> = read(alloc, &mut reader);
+    assert!(rt; matches!(found, Ok(CowStr::Borrowed(""))));
+    let found: Result<CowStr<'_, Global>, DecodeError<Never>> = read(alloc, &mut reader);
+    assert!(rt; matches!(&found, Ok(CowStr::Owned(s)) if s.as_str() == "a"));
+    assert_eq!(rt; reader.remaining(), [1].as_slice());
+
+    let rows: [(&[u8], &str, &[u8]); 3] = [
+        (&[0x62, 0xff, 0xff], "RequireUtf8 { name: \"str\" }", &[]),
+        (
+            &[0x62, 0xff],
+            "Eof { name: \"str\", expect: Small(1) }",
+            &[],
+        ),
+        (
+            &[0x7f, 0x41, 0x61, 0xff],
+            "Mismatch { name: \"str\", found: 65 }",
+            &[0x61, 0xff],
+        ),
+    ];
+    for (bytes, text, left) in rows {
+        let (refused, rest) = cow_refusal(alloc, bytes);
+        assert!(rt; refused.is_some());
+        if let Some(error) = refused {
+            let shown = format!(in alloc; "{error:?}")?;
+            assert_eq!(rt; shown.as_str(), text);
+        }
+        assert_eq!(rt; rest, left);
+    }
+    Ok(())
+}
+
+#[test]
+fn texts_of_two_segments_are_owned(rt: HostRuntime) -> Result<(), Fail> {
+    let alloc = rt.alloc();
+    let segments: [&[u8]; 2] = [&[0x62, 0x61], &[0x61]];
+    let mut reader = SegmentReader::new(&segments);
+    let found: Result<CowStr<'_, Global>, DecodeError<Never>> = read(alloc, &mut reader);
+    assert!(rt; matches!(&found, Ok(CowStr::Owned(s)) if s.as_str() == "aa"));
+    Ok(())
+}
+
+#[test]
+fn byte_strings_are_borrowed_or_owned(rt: HostRuntime) -> Result<(), Fail> {
+    let alloc = rt.alloc();
+    let mut reader = SliceReader::new(&[0x5f, 0x41, 1, 0xff, 0x7f, 0x61, 0xff, 0xff, 0x61, 0xff]);
+    let found: Result<Bytes<CowSlice<'_, u8, Global>>, DecodeError<Never>> = read(
+        alloc,
+        &mut reader,
+    );
+    assert!(rt; matches!(&found, Ok(Bytes(CowSlice::Owned(v))) if v.as_slice() == [1].as_slice()));
+    let found: Result<UncheckedStr<CowSlice<'_, u8, Global>>, DecodeError<Never>> = read(
+        alloc,
+        &mut reader,
+    );
+    assert!(rt;
+        matches!(&found, Ok(UncheckedStr(CowSlice::Owned(v))) if v.as_slice() == [0xff].as_slice())
+    );
+    let found: Result<UncheckedStr<CowSlice<'_, u8, Global>>, DecodeError<Never>> = read(
+        alloc,
+        &mut reader,
+    );
+    assert!(rt; matches!(found, Ok(UncheckedStr(CowSlice::Borrowed([0xff])))));
+    assert!(rt; reader.remaining().is_empty());
     Ok(())
 }

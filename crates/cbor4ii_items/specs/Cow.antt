@@ -1,0 +1,77 @@
+-- Strings that are borrowed from the input or owned (RFC 8949 sections 3.1 and 3.2.3).
+use Rattle.std.specs.Prelude.{◌≡◌, ℕ, Bool, true, false, List, [], ◌∷◌, take, Option, None, Some, Result, Ok, Err, IsTrue, IsUtf8}
+use Rattle.std.specs.declared.alloc.Global.{Global}
+use Rattle.std.specs.declared.borrow.CowStr.{CowStr}
+use Rattle.std.specs.declared.borrow.CowSlice.{CowSlice}
+use Rattle.std.specs.Cow.{cow_str_bytes, cow_slice_items, IsBorrowedSlice, IsOwnedSlice}
+use Rattle.cbor4ii_rw.specs.View.{View, Told}
+use Rattle.cbor4ii_rw.specs.declared.error.DecodeError.{DecodeError}
+use Rattle.cbor4ii_items.specs.declared.types.Bytes.{Bytes}
+use Rattle.cbor4ii_items.specs.declared.types.UncheckedStr.{UncheckedStr}
+use Rattle.cbor4ii_items.specs.Head.{open_head}
+use Rattle.cbor4ii_items.specs.Refusal.{Refusal}
+use Rattle.cbor4ii_items.specs.Reading.{Reading}
+use Rattle.cbor4ii_items.specs.Following.{Follows}
+use Rattle.cbor4ii_items.specs.Strings.{ReadsAs, ReadsTextAs, StopsString, StopsText}
+
+-- ---- which strings are borrowed
+
+-- A string of indefinite length is owned, over any reader. One of known length is borrowed, where the reader lends whole.
+pub record BorrowsWhereCounted {V : Type 0} (major : ℕ) (IsBorrowed IsOwned : V → Type 0) (old : View) (v : V) : Type 0 where
+  pub indefinite : Told old.told (λ xs. take 1 xs ≡ open_head major ∷ [] → IsOwned v)
+  pub counted : IsTrue old.lends_whole → Told old.told (λ xs. (take 1 xs ≡ open_head major ∷ [] → ⊥) → IsBorrowed v)
+
+-- ---- the types: the content, and whether it is borrowed
+
+abbrev pub cow_text : CowStr Global → List ℕ
+cow_text v = cow_str_bytes v
+
+abbrev pub cow_bytes : Bytes (CowSlice ℕ Global) → List ℕ
+cow_bytes v = cow_slice_items v.0
+
+abbrev pub cow_unchecked : UncheckedStr (CowSlice ℕ Global) → List ℕ
+cow_unchecked v = cow_slice_items v.0
+
+abbrev pub IsBorrowedBytes : Bytes (CowSlice ℕ Global) → Type 0
+IsBorrowedBytes v = IsBorrowedSlice v.0
+
+abbrev pub IsOwnedBytes : Bytes (CowSlice ℕ Global) → Type 0
+IsOwnedBytes v = IsOwnedSlice v.0
+
+abbrev pub IsBorrowedUnchecked : UncheckedStr (CowSlice ℕ Global) → Type 0
+IsBorrowedUnchecked v = IsBorrowedSlice v.0
+
+abbrev pub IsOwnedUnchecked : UncheckedStr (CowSlice ℕ Global) → Type 0
+IsOwnedUnchecked v = IsOwnedSlice v.0
+
+-- ---- a text, or a string that is not tested
+
+abbrev pub ReadsEither : {V : Type 0} → Bool → ℕ → (V → List ℕ) → List ℕ → V → ℕ → ℕ → Type 0
+ReadsEither true major content = ReadsTextAs content
+ReadsEither false major content = ReadsAs major content
+
+abbrev pub StopsEither : Bool → List ℕ → ℕ → List ℕ → Option ℕ → Refusal → List ℕ → Type 0
+StopsEither true name major = StopsText name
+StopsEither false name major = StopsString name major
+
+-- the value has this content, which is UTF-8 where it is to be; or there is none, since it is not
+abbrev pub Holds : {V : Type 0} → Bool → (V → List ℕ) → List ℕ → Option V → Type 0
+Holds is_text content items (Some v) = (content v ≡ items) × (IsTrue is_text → IsUtf8 (content v))
+Holds is_text content items None = IsTrue is_text × (IsUtf8 items → ⊥)
+
+-- the program's content was read, and the answer holds it; or the program was refused
+abbrev pub TakesBy : {V E : Type 0} → Reading (List ℕ) → Bool → (V → List ℕ) → View → View → Result (Option V) (DecodeError E) → Type 0
+TakesBy {E = E} program is_text content old new (Ok value) = (items : List ℕ) × Follows {E = E} program old new (Ok items) × Holds is_text content items value
+TakesBy {E = E} program is_text content old new (Err e) = Follows {E = E} program old new (Err e)
+
+-- a call that does what the program does where there is memory, and then makes a value of the content
+pub record Takes {V E : Type 0} (program : Reading (List ℕ)) (is_text : Bool) (content : V → List ℕ) (old new : View) (answer : Result (Option V) (DecodeError E)) : Type 0 where
+  pub by : TakesBy program is_text content old new answer
+
+-- where the reader lends whole and tells its bytes, the value is borrowed
+abbrev pub IsBorrowedWhereWhole : {V : Type 0} → (V → Type 0) → View → V → Type 0
+IsBorrowedWhereWhole IsBorrowed old v = IsTrue old.lends_whole → Told old.told (λ xs. IsBorrowed v)
+
+-- bytes are no text
+pub no_text : {m n : ℕ} → IsTrue false → m ≡ n
+no_text f = cc

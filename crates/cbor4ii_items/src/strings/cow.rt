@@ -1,0 +1,345 @@
+//! Strings that are borrowed from the input or owned, read (RFC 8949 sections 3.1 and 3.2.3).
+//!
+//! A string of known length is a part of the input, with no copy, where one fill lends all of its
+//! bytes as long as the input lives; elsewhere they are copied. A string of indefinite length is
+//! always copied, of one chunk too: it is known only behind a chunk whether more follow. The
+//! copies take steps and memory as those of the owned strings do.
+//!
+//! Refusals, in this order, by the name "bytes" or "str", over every reader:
+//! - the head is not one of a string: `Mismatch` or `Eof`, as for every head
+//! - bytes are missing: `Eof` with the number of those that are missing, and nothing is left
+//! - in the place of a chunk or a break there is no byte: `Eof` by "break" with 1
+//! - no step is left for a chunk: `DepthOverflow`, and the chunk is left
+//! - a chunk is of indefinite length: `RequireLength` with `Indefinite`, behind its first byte
+//! - a `CowStr` is not UTF-8: `RequireUtf8`, and the whole item is taken
+ghost use Rattle.std.specs.Prelude.{◌≡◌, ◌+◌, ◌≤◌, true, false, codes, OnOk, IfOk, IfErr, IsTrue};
+ghost use mathlib.Core.Path.{refl};
+ghost use Rattle.std.specs.Cow.{IsBorrowedStr, IsOwnedStr};
+ghost use Rattle.cbor4ii_items.specs.Cow.{
+  BorrowsWhereCounted,
+  cow_text,
+  cow_bytes,
+  cow_unchecked,
+  IsBorrowedBytes,
+  IsOwnedBytes,
+  IsBorrowedUnchecked,
+  IsOwnedUnchecked,
+  no_text,
+};
+ghost use Rattle.cbor4ii_items.specs.Decoding.{IsExact, Sound, Refuses, Stops};
+ghost use Rattle.cbor4ii_items.specs.Moves.{Moves};
+ghost use Rattle.cbor4ii_items.specs.Refusal.{is_out_of_memory};
+ghost use Rattle.cbor4ii_items.specs.Strings.{ReadsAs, ReadsTextAs, StopsString, StopsText};
+ghost use Rattle.cbor4ii_items.specs.StringLaws.{
+  two_small,
+  three_small,
+  as_one,
+  as_within,
+  as_positive,
+  as_alone,
+  text_one,
+  text_within,
+  text_positive,
+  text_alone,
+};
+
+use crate::decode::{Decode, Spelled};
+use crate::major;
+use crate::strings::lent::{Lacks, lend_content, lend_text};
+use crate::strings::lent_or_owned::{LendOrOwn, take_cow};
+use crate::types::{Bytes, UncheckedStr};
+use cbor4ii_rw::error::{DecodeError, StaticStr};
+use cbor4ii_rw::read::Read;
+use std::alloc::Global;
+use std::borrow::{CowSlice, CowStr};
+
+/// A text string that is UTF-8.
+impl<'de> Spelled for CowStr<'de, Global> {
+    ghost reads = { ReadsTextAs cow_text };
+
+    ghost same = { λ v w. cow_text v ≡ cow_text w };
+
+    ghost stops = { StopsText (codes "str") };
+
+    ghost never_empty = { true };
+
+    ghost owned = { true };
+
+    ghost takes_memory = { true };
+
+    ghost closed = { true };
+
+    fn is_never_empty() -> bool
+        ensures { result ≡ true }
+    {
+        true
+    }
+
+    fn is_owned() -> bool
+        ensures { result ≡ true }
+    {
+        true
+    }
+}
+
+impl<'de, R: Read<'de>> LendOrOwn<R> for CowStr<'de, Global> {
+    ghost content = { cow_text };
+
+    ghost IsBorrowed = { IsBorrowedStr };
+
+    ghost IsOwned = { IsOwnedStr };
+
+    ghost name = { codes "str" };
+
+    ghost major = { 3 };
+
+    ghost is_text = { true };
+
+    fn name() -> StaticStr {
+        "str"
+    }
+
+    fn major() -> u8 {
+        major::STRING
+    }
+
+    fn lend_from(reader: &mut R, count: u64) -> Result<CowStr<'de, Global>, Lacks<R::Error>> {
+        match lend_text(reader, count) {
+            Ok(content) => Ok(CowStr::Borrowed(content)),
+            Err(lack) => Err(lack),
+        }
+    }
+
+    fn own(copy: Vec<u8>) -> Option<CowStr<'de, Global>> {
+        match String::from_utf8(copy) {
+            Ok(text) => Some(CowStr::Owned(text)),
+            Err(_) => None,
+        }
+    }
+
+    ghost small = { three_small };
+
+    ghost text = { λ _. refl };
+}
+
+impl<'de, R: Read<'de>> Decode<R> for CowStr<'de, Global> {
+    fn decode(alloc: Global, reader: &mut R) -> Result<CowStr<'de, Global>, DecodeError<R::Error>>
+        ensures moves { Moves (R.view reader.old) (R.view reader.new) result }
+        ensures progress { IsTrue true →
+            OnOk result ((R.view reader.new).bound + 1 ≤ (R.view reader.old).bound) }
+        ensures memory { IfErr result (λ error. IsTrue (is_out_of_memory error) → IsTrue true) }
+        ensures sound { IfOk result (Sound (ReadsTextAs cow_text) (R.view reader.old) (R.view reader.new)) }
+        ensures complete { IsExact true (R.view reader.old) →
+            IfErr result (Refuses (ReadsTextAs cow_text) (R.view reader.old)) }
+        ensures stops { IsExact true (R.view reader.old) →
+            IfErr result (Stops (StopsText (codes "str")) (R.view reader.old) (R.view reader.new)) }
+        ensures borrows { IfOk result
+            (BorrowsWhereCounted 3 IsBorrowedStr IsOwnedStr (R.view reader.old)) }
+    {
+        take_cow(alloc, reader)
+    }
+
+    ghost one = { text_one cow_text };
+
+    ghost within = { text_within cow_text };
+
+    ghost positive = { λ _. text_positive cow_text };
+
+    ghost alone = { λ _. text_alone cow_text };
+}
+
+/// A byte string.
+impl<'de> Spelled for Bytes<CowSlice<'de, u8, Global>> {
+    ghost reads = { ReadsAs 2 cow_bytes };
+
+    ghost same = { λ v w. cow_bytes v ≡ cow_bytes w };
+
+    ghost stops = { StopsString (codes "bytes") 2 };
+
+    ghost never_empty = { true };
+
+    ghost owned = { true };
+
+    ghost takes_memory = { true };
+
+    ghost closed = { true };
+
+    fn is_never_empty() -> bool
+        ensures { result ≡ true }
+    {
+        true
+    }
+
+    fn is_owned() -> bool
+        ensures { result ≡ true }
+    {
+        true
+    }
+}
+
+impl<'de, R: Read<'de>> LendOrOwn<R> for Bytes<CowSlice<'de, u8, Global>> {
+    ghost content = { cow_bytes };
+
+    ghost IsBorrowed = { IsBorrowedBytes };
+
+    ghost IsOwned = { IsOwnedBytes };
+
+    ghost name = { codes "bytes" };
+
+    ghost major = { 2 };
+
+    ghost is_text = { false };
+
+    fn name() -> StaticStr {
+        "bytes"
+    }
+
+    fn major() -> u8 {
+        major::BYTES
+    }
+
+    fn lend_from(
+        reader: &mut R,
+        count: u64,
+    ) -> Result<Bytes<CowSlice<'de, u8, Global>>, Lacks<R::Error>> {
+        match lend_content(reader, count) {
+            Ok(content) => Ok(Bytes(CowSlice::Borrowed(content))),
+            Err(lack) => Err(lack),
+        }
+    }
+
+    fn own(copy: Vec<u8>) -> Option<Bytes<CowSlice<'de, u8, Global>>> {
+        Some(Bytes(CowSlice::Owned(copy)))
+    }
+
+    ghost small = { two_small };
+
+    ghost text = { no_text };
+}
+
+impl<'de, R: Read<'de>> Decode<R> for Bytes<CowSlice<'de, u8, Global>> {
+    fn decode(
+        alloc: Global,
+        reader: &mut R,
+    ) -> Result<Bytes<CowSlice<'de, u8, Global>>, DecodeError<R::Error>>
+        ensures moves { Moves (R.view reader.old) (R.view reader.new) result }
+        ensures progress { IsTrue true →
+            OnOk result ((R.view reader.new).bound + 1 ≤ (R.view reader.old).bound) }
+        ensures memory { IfErr result (λ error. IsTrue (is_out_of_memory error) → IsTrue true) }
+        ensures sound { IfOk result (Sound (ReadsAs 2 cow_bytes) (R.view reader.old) (R.view reader.new)) }
+        ensures complete { IsExact true (R.view reader.old) →
+            IfErr result (Refuses (ReadsAs 2 cow_bytes) (R.view reader.old)) }
+        ensures stops { IsExact true (R.view reader.old) →
+            IfErr result (Stops (StopsString (codes "bytes") 2) (R.view reader.old) (R.view reader.new)) }
+        ensures borrows { IfOk result
+            (BorrowsWhereCounted 2 IsBorrowedBytes IsOwnedBytes (R.view reader.old)) }
+    {
+        take_cow(alloc, reader)
+    }
+
+    ghost one = { as_one 2 two_small cow_bytes };
+
+    ghost within = { as_within 2 two_small cow_bytes };
+
+    ghost positive = { λ _. as_positive 2 two_small cow_bytes };
+
+    ghost alone = { λ _. as_alone 2 two_small cow_bytes };
+}
+
+/// A text string, whatever its bytes.
+impl<'de> Spelled for UncheckedStr<CowSlice<'de, u8, Global>> {
+    ghost reads = { ReadsAs 3 cow_unchecked };
+
+    ghost same = { λ v w. cow_unchecked v ≡ cow_unchecked w };
+
+    ghost stops = { StopsString (codes "str") 3 };
+
+    ghost never_empty = { true };
+
+    ghost owned = { true };
+
+    ghost takes_memory = { true };
+
+    ghost closed = { true };
+
+    fn is_never_empty() -> bool
+        ensures { result ≡ true }
+    {
+        true
+    }
+
+    fn is_owned() -> bool
+        ensures { result ≡ true }
+    {
+        true
+    }
+}
+
+impl<'de, R: Read<'de>> LendOrOwn<R> for UncheckedStr<CowSlice<'de, u8, Global>> {
+    ghost content = { cow_unchecked };
+
+    ghost IsBorrowed = { IsBorrowedUnchecked };
+
+    ghost IsOwned = { IsOwnedUnchecked };
+
+    ghost name = { codes "str" };
+
+    ghost major = { 3 };
+
+    ghost is_text = { false };
+
+    fn name() -> StaticStr {
+        "str"
+    }
+
+    fn major() -> u8 {
+        major::STRING
+    }
+
+    fn lend_from(
+        reader: &mut R,
+        count: u64,
+    ) -> Result<UncheckedStr<CowSlice<'de, u8, Global>>, Lacks<R::Error>> {
+        match lend_content(reader, count) {
+            Ok(content) => Ok(UncheckedStr(CowSlice::Borrowed(content))),
+            Err(lack) => Err(lack),
+        }
+    }
+
+    fn own(copy: Vec<u8>) -> Option<UncheckedStr<CowSlice<'de, u8, Global>>> {
+        Some(UncheckedStr(CowSlice::Owned(copy)))
+    }
+
+    ghost small = { three_small };
+
+    ghost text = { λ _. refl };
+}
+
+impl<'de, R: Read<'de>> Decode<R> for UncheckedStr<CowSlice<'de, u8, Global>> {
+    fn decode(
+        alloc: Global,
+        reader: &mut R,
+    ) -> Result<UncheckedStr<CowSlice<'de, u8, Global>>, DecodeError<R::Error>>
+        ensures moves { Moves (R.view reader.old) (R.view reader.new) result }
+        ensures progress { IsTrue true →
+            OnOk result ((R.view reader.new).bound + 1 ≤ (R.view reader.old).bound) }
+        ensures memory { IfErr result (λ error. IsTrue (is_out_of_memory error) → IsTrue true) }
+        ensures sound { IfOk result (Sound (ReadsAs 3 cow_unchecked) (R.view reader.old) (R.view reader.new)) }
+        ensures complete { IsExact true (R.view reader.old) →
+            IfErr result (Refuses (ReadsAs 3 cow_unchecked) (R.view reader.old)) }
+        ensures stops { IsExact true (R.view reader.old) →
+            IfErr result (Stops (StopsString (codes "str") 3) (R.view reader.old) (R.view reader.new)) }
+        ensures borrows { IfOk result
+            (BorrowsWhereCounted 3 IsBorrowedUnchecked IsOwnedUnchecked (R.view reader.old)) }
+    {
+        take_cow(alloc, reader)
+    }
+
+    ghost one = { as_one 3 three_small cow_unchecked };
+
+    ghost within = { as_within 3 three_small cow_unchecked };
+
+    ghost positive = { λ _. as_positive 3 three_small cow_unchecked };
+
+    ghost alone = { λ _. as_alone 3 three_small cow_unchecked };
+}

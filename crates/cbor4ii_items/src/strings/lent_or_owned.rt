@@ -1,0 +1,159 @@
+//! Content that is lent where the reader lends all of it, and copied otherwise.
+ghost use Rattle.std.specs.Prelude.{
+  ◌≡◌,
+  ℕ,
+  ◌+◌,
+  ◌≤◌,
+  ◌<◌,
+  List,
+  [],
+  Bool,
+  OnOk,
+  IfOk,
+  IfErr,
+  IfSome,
+  IsTrue,
+  IsUtf8,
+  true,
+};
+ghost use Rattle.cbor4ii_items.specs.Cow.{
+  ReadsEither,
+  StopsEither,
+  Takes,
+  BorrowsWhereCounted,
+  IsBorrowedWhereWhole,
+  Holds,
+};
+ghost use Rattle.cbor4ii_items.specs.Decoding.{Sound, Refuses, Stops, IsExact};
+ghost use Rattle.cbor4ii_items.specs.Lent.{Lends, LacksContent};
+ghost use Rattle.cbor4ii_items.specs.Moves.{Moves};
+ghost use Rattle.cbor4ii_items.specs.ReadStrings.{content_on, string_at};
+ghost use Rattle.cbor4ii_items.specs.Refusal.{is_out_of_memory};
+
+use crate::head::length;
+use crate::strings::chunks::take_chunks;
+use crate::strings::content::take_known;
+use crate::strings::lent::Lacks;
+use cbor4ii_rw::error::{DecodeError, StaticStr};
+use cbor4ii_rw::read::Source;
+use std::alloc::Global;
+
+/// A value that a content is lent to, or that owns a copy of it.
+///
+/// It stands beside `Lend` for the same reason: what is lent knows its name here.
+pub(crate) trait LendOrOwn<S: Source>: Sized {
+    // The value's content.
+    ghost content: { Self → List ℕ };
+
+    // The value is a part of the input.
+    ghost IsBorrowed: { Self → Type 0 };
+
+    // The value has a content of its own.
+    ghost IsOwned: { Self → Type 0 };
+
+    // The name in refusals.
+    ghost name: { List ℕ };
+
+    // The major type.
+    ghost major: { ℕ };
+
+    // The content is to be UTF-8.
+    ghost is_text: { Bool };
+
+    fn name() -> StaticStr
+        ensures { result.now ≡ name };
+
+    fn major() -> u8
+        ensures { result ≡ major };
+
+    fn lend_from(reader: &mut S, count: u64) -> Result<Self, Lacks<S::Error>>
+        ensures lent { IfOk result (λ v. Lends count (content v) (S.view reader.old) (S.view reader.new)) }
+        ensures utf8 { IfOk result (λ v. IsTrue is_text → IsUtf8 (content v)) }
+        ensures borrowed { IfOk result IsBorrowed }
+        ensures lacks { IfErr result (LacksContent count is_text (S.view reader.old) (S.view reader.new)) };
+
+    /// None where it is to be UTF-8 and is not.
+    fn own(copy: Vec<u8>) -> Option<Self>
+        ensures holds { Holds is_text content copy.items result }
+        ensures owned { IfSome result IsOwned };
+
+    // There are eight major types.
+    ghost small: { major < 8 };
+
+    // A text is of major type 3.
+    ghost text: { IsTrue is_text → major ≡ 3 };
+}
+
+/// Reads a string of known length that is lent whole, or a copy of a string's content.
+pub(crate) fn take_cow<T: LendOrOwn<S>, S: Source>(
+    alloc: Global,
+    reader: &mut S,
+) -> Result<T, DecodeError<S::Error>>
+    ensures moves { Moves (S.view reader.old) (S.view reader.new) result }
+    ensures progress { IsTrue true →
+        OnOk result ((S.view reader.new).bound + 1 ≤ (S.view reader.old).bound) }
+    ensures memory { IfErr result (λ error. IsTrue (is_out_of_memory error) → IsTrue true) }
+    ensures sound { IfOk result (Sound (ReadsEither T.is_text T.major T.content)
+        (S.view reader.old) (S.view reader.new)) }
+    ensures complete { IsExact true (S.view reader.old) →
+        IfErr result (Refuses (ReadsEither T.is_text T.major T.content) (S.view reader.old)) }
+    ensures stops { IsExact true (S.view reader.old) →
+        IfErr result (Stops (StopsEither T.is_text T.name T.major)
+        (S.view reader.old) (S.view reader.new)) }
+    ensures borrows { IfOk result
+        (BorrowsWhereCounted T.major T.IsBorrowed T.IsOwned (S.view reader.old)) }
+{
+    match take_either(alloc, reader)? {
+        Some(value) => Ok(value),
+        None => Err(DecodeError::RequireUtf8 { name: T::name() }),
+    }
+}
+
+/// None where a text is not UTF-8.
+fn take_either<T: LendOrOwn<S>, S: Source>(
+    alloc: Global,
+    reader: &mut S,
+) -> Result<Option<T>, DecodeError<S::Error>>
+    ensures takes { Takes (string_at T.name T.major (S.view reader.old).budget) T.is_text T.content
+        (S.view reader.old) (S.view reader.new) result }
+    ensures progress { OnOk result ((S.view reader.new).bound + 1 ≤ (S.view reader.old).bound) }
+    ensures borrows { IfOk result (λ value. IfSome value
+        (BorrowsWhereCounted T.major T.IsBorrowed T.IsOwned (S.view reader.old))) }
+{
+    match length(reader, T::name(), T::major())? {
+        Some(count) => lend_or_copy(alloc, reader, count),
+        None => Ok(T::own(take_chunks(alloc, reader, T::name(), T::major())?)),
+    }
+}
+
+/// So many bytes, lent by one fill where it lends them all, or copied.
+fn lend_or_copy<T: LendOrOwn<S>, S: Source>(
+    alloc: Global,
+    reader: &mut S,
+    count: u64,
+) -> Result<Option<T>, DecodeError<S::Error>>
+    ensures takes { Takes (content_on T.name count []) T.is_text T.content
+        (S.view reader.old) (S.view reader.new) result }
+    ensures borrows { IfOk result (λ value. IfSome value
+        (IsBorrowedWhereWhole T.IsBorrowed (S.view reader.old))) }
+{
+    match T::lend_from(reader, count) {
+        Ok(value) => Ok(Some(value)),
+        Err(Lacks::NotUtf8) => Ok(None),
+        Err(Lacks::Read(error)) => Err(DecodeError::Read(error)),
+        Err(Lacks::Short) => copy(alloc, reader, count),
+        Err(Lacks::Few(_)) => copy(alloc, reader, count),
+    }
+}
+
+/// So many bytes, copied.
+fn copy<T: LendOrOwn<S>, S: Source>(
+    alloc: Global,
+    reader: &mut S,
+    count: u64,
+) -> Result<Option<T>, DecodeError<S::Error>>
+    ensures takes { Takes (content_on T.name count []) T.is_text T.content
+        (S.view reader.old) (S.view reader.new) result }
+{
+    Ok(T::own(take_known(alloc, reader, T::name(), count)?))
+}
