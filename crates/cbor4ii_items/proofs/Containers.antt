@@ -25,7 +25,7 @@ exact_kept owned a b xs told kept (inr e) =
     let t = kept.rest xs told in
     inr (kept.lends_whole e.0, λ ys left. (let same : drop t.0 xs ≡ ys = let l = t.1.left in cc in omega (arith, ap length same, length-drop t.0 xs, e.1 xs told)))
 
-if_some : {P Q : Type 0} (o : Option Refusal) → (P → Q) → IfSome o (λ z. P) → IfSome o (λ z. Q)
+pub if_some : {P Q : Type 0} (o : Option Refusal) → (P → Q) → IfSome o (λ z. P) → IfSome o (λ z. Q)
 if_some None f h = tt
 if_some (Some z) f h = f h
 

@@ -21,3 +21,5 @@ pub mod StringAnswers
 pub mod LentAnswers
 pub mod Forward
 pub mod Told
+pub mod SequenceParts
+pub mod SequenceAnswers

@@ -195,7 +195,7 @@ length_by_refused true name major b bs z ys h e = cc
 length_by_refused false name major b bs z ys h e =
     (not_first b (open_head major) bs h, elim (go_refused (head_by name major 8 b bs) (λ n. give (Some n)) z ys e) [ inl r ↦ r | inr r ↦ let f = r.3 in cc ])
 
-no_length : (name : List ℕ) (major : ℕ) (xs : List ℕ) (z : Refusal) (ys : List ℕ) → length_at name major xs ≡ Err (z, ys) → (BeginsWith xs (open_head major) → ⊥) × StopsHead name major 8 xs z ys
+pub no_length : (name : List ℕ) (major : ℕ) (xs : List ℕ) (z : Refusal) (ys : List ℕ) → length_at name major xs ≡ Err (z, ys) → (BeginsWith xs (open_head major) → ⊥) × StopsHead name major 8 xs z ys
 no_length name major [] z ys e = let p = same_refusal (length_at name major []) refl e in ((λ h. cc), (sym p.0, sym p.1))
 no_length name major (b ∷ bs) z ys e =
     let p = length_by_refused (eqb b (open_head major)) name major b bs z ys refl e in

@@ -28,4 +28,6 @@ pub mod SignedLaws
 pub mod BigLaws
 pub mod Containers
 pub mod ContainerLaws
+pub mod Sequences
+pub mod SequenceLaws
 pub mod ReadBack

@@ -12,6 +12,7 @@ pub mod marker;
 mod numbers;
 mod option;
 mod push;
+mod sequences;
 mod strings;
 mod tag;
 #[cfg(test)]

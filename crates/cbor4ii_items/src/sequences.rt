@@ -1,0 +1,6 @@
+//! Arrays and maps.
+
+mod array;
+mod parts;
+#[cfg(test)]
+mod tests;
