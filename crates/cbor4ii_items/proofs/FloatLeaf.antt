@@ -70,7 +70,7 @@ pub runs_float : {E : Type 0} (name : List ℕ) {marker count bits n : ℕ} {fro
 runs_float name {marker = marker} {count = count} {bits = bits} {n = n} {front = front} e shows told_front f adv =
     let lends = lends_front shows told_front (omega (arith, f.long)) (subst (λ k. IsBytes (take k front)) (sym e) f.bytes) refl adv in
     record {
-      moves = record { by = lends.kept };
+      moves = record { by = lends.kept; depth = λ e. refl };
       answers = λ xs told.
           let h = lends.at xs told in
           (drop n xs, h.1, (float_again name marker count xs bits n 0 (float_shown n e f h.2)).answer);

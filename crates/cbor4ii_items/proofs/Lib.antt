@@ -30,3 +30,5 @@ pub mod FloatLeaf
 pub mod CowAnswers
 pub mod ToldCow
 pub mod CowRows
+pub mod SequenceParts
+pub mod SequenceAnswers

@@ -23,7 +23,7 @@ marked_byte name least greatest b (x ∷ xs) ys p q e =
 
 pub runs_marked : {E : Type 0} (name : List ℕ) (least greatest : ℕ) {b : ℕ} {a c : View} → least ≤ b → b ≤ greatest → Runs {E = E} (byte_at name 1) a c (Ok b) → Runs {E = E} (marked_at name least greatest) a c (Ok b)
 runs_marked name least greatest {b = b} p q r = record {
-  moves = record { by = r.moves.by };
+  moves = record { by = r.moves.by; depth = λ e. refl };
   answers = λ xs told. let h = r.answers xs told in (h.0, h.1, marked_byte name least greatest b xs h.0 p q h.2);
   memory = tt;
 }

@@ -21,12 +21,12 @@ again left some most =
     let e : left - 1 + 1 ≡ left = omega (arith, some) in
     rw (t, e) refl
 
-step_again : (old new : Option ℕ) → StepsIn old new true → step_back new ≡ old
+pub step_again : (old new : Option ℕ) → StepsIn old new true → step_back new ≡ old
 step_again None new h = ap step_back h
 step_again (Some left) new h = ap step_back h.2 ∙ again left h.0 h.1
 
 -- without a budget a step leaves none
-step_unbound : (old new : Option ℕ) → StepsIn old new true → old ≡ None → new ≡ None
+pub step_unbound : (old new : Option ℕ) → StepsIn old new true → old ≡ None → new ≡ None
 step_unbound None new h e = h
 step_unbound (Some left) new h e = cc
 
@@ -50,7 +50,7 @@ module _ {a b c d : View} (i : KeepsAllButBudget a b) (o : KeepsAllButBudget c d
     lends_whole = λ h. subst IsTrue (sym o.lends_whole) (k.lends_whole (subst IsTrue (sym i.lends_whole) h));
   }
 
-  moves_around : (t : Bool) → (c.budget ≡ b.budget → d.budget ≡ a.budget) → MatchBool t (Broke b c) (Kept b c) → MatchBool t (Broke a d) (Kept a d)
+  pub moves_around : (t : Bool) → (c.budget ≡ b.budget → d.budget ≡ a.budget) → MatchBool t (Broke b c) (Kept b c) → MatchBool t (Broke a d) (Kept a d)
   moves_around true same k = broke_around same k
   moves_around false same k = kept_around same k
 

@@ -31,13 +31,13 @@ pub option_positive : {V : Type 0} (reads : List ℕ → V → ℕ → ℕ → T
 option_positive reads never_empty positive e xs None n c p = omega (arith, p.1)
 option_positive reads never_empty positive e xs (Some v) n c p = positive e xs v n c p.2
 
-both : (a b : Bool) → IsTrue (a && b) → IsTrue a × IsTrue b
+pub both : (a b : Bool) → IsTrue (a && b) → IsTrue a × IsTrue b
 both true true e = (refl, refl)
 both true false e = cc
 both false b e = cc
 
 -- a front with at least one byte has the first byte
-first_kept : (n : ℕ) (xs ys : List ℕ) → 1 ≤ n → n ≤ length xs → take 1 (take n xs ++ ys) ≡ take 1 xs
+pub first_kept : (n : ℕ) (xs ys : List ℕ) → 1 ≤ n → n ≤ length xs → take 1 (take n xs ++ ys) ≡ take 1 xs
 first_kept zero xs ys some within = absurd (omega arith)
 first_kept (suc n) [] ys some within = absurd (omega arith)
 first_kept (suc n) (x ∷ xs) ys some within = refl

@@ -34,6 +34,8 @@ pub mod Containers
 pub mod ContainerLaws
 pub mod Maybe
 pub mod MaybeLaws
+pub mod Sequences
+pub mod SequenceLaws
 pub mod ReadBack
 pub mod Marked
 pub mod Simple

@@ -1,6 +1,10 @@
 //! Arrays and maps.
 
+mod array;
 mod encode;
 mod heads;
+mod parts;
+#[cfg(test)]
+mod reading_tests;
 #[cfg(test)]
 mod tests;

@@ -1,0 +1,229 @@
+-- What a sequence's head, its parts and its step answer together.
+use Rattle.std.proofs.Common.{◌≡◌, ◌≢◌, ℕ, ◌+◌, ◌-◌, ◌<◌, ◌≤◌, inl, inr, List, [], ◌∷◌, length, drop, take, Option, Some, None, Result, Ok, Err, Bool, true, IsTrue, refl, sym, ap, ◌∙◌, subst, arith, IfSome, IfOk, IfErr}
+use Rattle.std.specs.declared.alloc.Global.{Global}
+use Rattle.std.specs.declared.vec.Vec.{Vec}
+use Rattle.cbor4ii_rw.specs.View.{View, Told}
+use Rattle.cbor4ii_rw.specs.Reader.{KeepsAllButBudget, StepsIn, step_back}
+use Rattle.cbor4ii_rw.specs.declared.error.DecodeError.{DecodeError}
+use Rattle.cbor4ii_items.specs.Head.{open_head}
+use Rattle.cbor4ii_items.specs.Heads.{ReadsHead}
+use Rattle.cbor4ii_items.specs.HeadLaws.{head_one, read_head}
+use Rattle.cbor4ii_items.specs.Refusal.{Refusal, refusal_of}
+use Rattle.cbor4ii_items.specs.Moves.{Kept, Moves, is_failure}
+use Rattle.cbor4ii_items.specs.Reading.{Runs}
+use Rattle.cbor4ii_items.specs.ReadHead.{length_at}
+use Rattle.cbor4ii_items.specs.Decoding.{CostFits, IsExact, Sound, NoneRead, Refuses, Stops}
+use Rattle.cbor4ii_items.specs.Fronts.{drop_more}
+use Rattle.cbor4ii_items.specs.ProgramEnds.{length_some, length_none}
+use Rattle.cbor4ii_items.specs.StringLaws.{head_not_open, length_known, length_open}
+use Rattle.cbor4ii_items.specs.Sequences.{ReadsParts, ReadsCount, ReadsUpToBreak, ReadsInside, ReadsSequence, StopsCount, StopsUpToBreak, StopsInside, length_refused, counted_refused, open_refused, after_step, StopsSequence, under_step}
+use Rattle.cbor4ii_items.proofs.Leaves.{same_some}
+use Rattle.cbor4ii_items.proofs.Containers.{if_some}
+use Rattle.cbor4ii_items.proofs.OpenStrings.{step_again, step_unbound, moves_around}
+use Rattle.cbor4ii_items.proofs.StringsRead.{no_length}
+use Rattle.cbor4ii_items.proofs.SequenceParts.{stops_as}
+
+if_ok : {V E : Type 0} (r : Result V E) (F G : V → Type 0) → ((v : V) → F v → G v) → IfOk r F → IfOk r G
+if_ok (Ok v) F G f h = f v h
+if_ok (Err e) F G f h = tt
+
+if_err : {V E : Type 0} (r : Result V E) (F G : E → Type 0) → ((e : E) → F e → G e) → IfErr r F → IfErr r G
+if_err (Ok v) F G f h = tt
+if_err (Err e) F G f h = f e h
+
+-- ---- the head
+
+-- a head that counts
+pub record Counts (major : ℕ) (a m : View) (count : ℕ) : Type 0 where
+  pub at : Told a.told (λ xs. (n : ℕ) × ReadsHead major 8 xs count n × (m.told ≡ Some (drop n xs)))
+  pub kept : Kept a m
+
+pub counts : {E : Type 0} (name : List ℕ) (major : ℕ) {a m : View} {l : Option ℕ} {count : ℕ} → l ≡ Some count → Runs {E = E} (length_at name major) a m (Ok l) → Counts major a m count
+counts name major {m = m} {count = count} is p = record {
+  at = λ xs told.
+      let h = p.answers xs told in
+      let t = p.moves.by.rest xs told in
+      let e : h.0 ≡ drop t.0 xs = same_some _ _ m.told h.1 t.1.left in
+      let f = length_some name major count xs h.0 (h.2 ∙ ap (λ (o : Option ℕ). Ok (o, h.0)) is) ∙ ap (λ (zs : List ℕ). Ok (count, zs)) e in
+      (t.0, read_head name major 8 xs count t.0 f t.1.within t.1.bytes, t.1.left);
+  kept = p.moves.by;
+}
+
+-- the first byte of an indefinite length
+pub record Opens (major : ℕ) (a m : View) : Type 0 where
+  pub at : Told a.told (λ xs. (take 1 xs ≡ open_head major ∷ []) × (m.told ≡ Some (drop 1 xs)))
+  pub kept : Kept a m
+
+pub opens : {E : Type 0} (name : List ℕ) (major : ℕ) {a m : View} {l : Option ℕ} → l ≡ None → Runs {E = E} (length_at name major) a m (Ok l) → Opens major a m
+opens name major is p = record {
+  at = λ xs told.
+      let h = p.answers xs told in
+      let f = length_none name major xs h.0 (h.2 ∙ ap (λ (o : Option ℕ). Ok (o, h.0)) is) in
+      (f.0, h.1 ∙ ap Some f.1);
+  kept = p.moves.by;
+}
+
+module _ {P : Type 0} (major : ℕ) (reads : List ℕ → P → ℕ → ℕ → Type 0) (never_empty : Bool) where
+  no_head : (o : Option Refusal) (name xs : List ℕ) (budget : Option ℕ) (left : Option (List ℕ)) → major < 8 → IfSome o (λ z. (ys : List ℕ) × (left ≡ Some ys) × (length_at name major xs ≡ Err (z, ys))) → IfSome o (λ z. NoneRead (ReadsInside major reads never_empty) xs budget)
+  no_head None name xs budget left small h = tt
+  no_head (Some z) name xs budget left small h = λ ps n c r fits. let g = h.2 in elim r [
+    | inl s ↦ (let f = length_known name major xs (length ps) s.before small s.head in cc)
+    | inr s ↦ (let f = length_open name major xs s.begins in cc)
+  ]
+
+  pub head_refuses : {E : Type 0} (name : List ℕ) {a m : View} {e : DecodeError E} → major < 8 → Runs {V = Option ℕ} (length_at name major) a m (Err e) → Refuses (ReadsInside major reads never_empty) a e
+  head_refuses name {a = a} {m = m} {e = e} small p = record { at = λ xs told. no_head (refusal_of e) name xs a.budget m.told small (p.answers xs told) }
+
+  counted_none : (xs : List ℕ) (count n : ℕ) (old mid : Option ℕ) → major < 8 → ReadsHead major 8 xs count n → mid ≡ old → NoneRead (ReadsCount reads count) (drop n xs) mid → NoneRead (ReadsInside major reads never_empty) xs old
+  counted_none xs count n old mid small h e none ps k c read fits = elim read [
+    | inl s ↦ (let same = head_one major 8 xs (length ps) count s.before n small s.head h in
+        none ps s.between c (same.1, subst (λ i. ReadsParts reads (drop i xs) ps s.between c) same.0 s.parts) (subst (CostFits c) (sym e) fits))
+    | inr s ↦ head_not_open major xs count n small h s.begins
+  ]
+
+  opened_none : (xs : List ℕ) (old mid : Option ℕ) → major < 8 → take 1 xs ≡ open_head major ∷ [] → mid ≡ old → NoneRead (ReadsUpToBreak reads never_empty) (drop 1 xs) mid → NoneRead (ReadsInside major reads never_empty) xs old
+  opened_none xs old mid small h e none ps k c read fits = elim read [
+    | inl s ↦ head_not_open major xs (length ps) s.before small s.head h
+    | inr s ↦ none ps s.between c s.parts (subst (CostFits c) (sym e) fits)
+  ]
+
+  module _ {E : Type 0} (r : Result (Vec P Global) (DecodeError E)) (a m b : View) where
+    pub counted_sound : {count : ℕ} → Counts major a m count → IfOk r (λ v. Sound (ReadsCount reads count) m b v.items) → IfOk r (λ v. Sound (ReadsInside major reads never_empty) a b v.items)
+    counted_sound {count = count} h s = if_ok r (λ v. Sound (ReadsCount reads count) m b v.items) (λ v. Sound (ReadsInside major reads never_empty) a b v.items) (λ v w. record {
+      at = λ xs told.
+          let p = h.at xs told in
+          let t = w.at (drop p.0 xs) p.2 in
+          record {
+            count = p.0 + t.count;
+            cost = t.cost;
+            read = inl (record { before = p.0; head = subst (λ j. ReadsHead major 8 xs j p.0) (sym t.read.0) p.1; between = t.count; parts = t.read.1; size = refl });
+            fits = subst (CostFits t.cost) h.kept.budget t.fits;
+            left = t.left ∙ ap Some (drop_more t.count p.0 xs);
+          };
+    }) s
+
+    pub opened_sound : Opens major a m → IfOk r (λ v. Sound (ReadsUpToBreak reads never_empty) m b v.items) → IfOk r (λ v. Sound (ReadsInside major reads never_empty) a b v.items)
+    opened_sound h s = if_ok r (λ v. Sound (ReadsUpToBreak reads never_empty) m b v.items) (λ v. Sound (ReadsInside major reads never_empty) a b v.items) (λ v w. record {
+      at = λ xs told.
+          let p = h.at xs told in
+          let t = w.at (drop 1 xs) p.1 in
+          record {
+            count = 1 + t.count;
+            cost = t.cost;
+            read = inr (record { begins = p.0; between = t.count; parts = t.read; size = refl });
+            fits = subst (CostFits t.cost) h.kept.budget t.fits;
+            left = t.left ∙ ap Some (drop_more t.count 1 xs);
+          };
+    }) s
+
+  module _ {E : Type 0} (r : Result (Vec P Global) (DecodeError E)) (a m : View) where
+    pub counted_refuses : {count : ℕ} → major < 8 → Counts major a m count → ((xs : List ℕ) → a.told ≡ Some xs → IfErr r (Refuses (ReadsCount reads count) m)) → IfErr r (Refuses (ReadsInside major reads never_empty) a)
+    counted_refuses {count = count} small h s = elim r as (λ t. ((xs : List ℕ) → a.told ≡ Some xs → IfErr t (Refuses (ReadsCount reads count) m)) → IfErr t (Refuses (ReadsInside major reads never_empty) a)) [
+      | Ok v ↦ (λ w. tt)
+      | Err e ↦ (λ w. record {
+        at = λ xs told.
+            let p = h.at xs told in
+            if_some (refusal_of e) (counted_none xs count p.0 a.budget m.budget small p.1 h.kept.budget) ((w xs told).at (drop p.0 xs) p.2);
+      })
+    ] s
+
+    pub opened_refuses : major < 8 → Opens major a m → ((xs : List ℕ) → a.told ≡ Some xs → IfErr r (Refuses (ReadsUpToBreak reads never_empty) m)) → IfErr r (Refuses (ReadsInside major reads never_empty) a)
+    opened_refuses small h s = elim r as (λ t. ((xs : List ℕ) → a.told ≡ Some xs → IfErr t (Refuses (ReadsUpToBreak reads never_empty) m)) → IfErr t (Refuses (ReadsInside major reads never_empty) a)) [
+      | Ok v ↦ (λ w. tt)
+      | Err e ↦ (λ w. record {
+        at = λ xs told.
+            let p = h.at xs told in
+            if_some (refusal_of e) (opened_none xs a.budget m.budget small p.0 h.kept.budget) ((w xs told).at (drop 1 xs) p.1);
+      })
+    ] s
+
+  module _ (name : List ℕ) (stops : List ℕ → Option ℕ → Refusal → List ℕ → Type 0) where
+    pub head_stops : {E : Type 0} {a m : View} {e : DecodeError E} → Runs {V = Option ℕ} (length_at name major) a m (Err e) → Stops (StopsInside name major reads stops never_empty) a m e
+    head_stops {a = a} {m = m} {e = e} p = record {
+      at = λ xs told. stops_as (refusal_of e) m.told (λ z ys. length_at name major xs ≡ Err (z, ys)) (StopsInside name major reads stops never_empty xs a.budget)
+          (λ z ys f. let h = no_length name major xs z ys f in length_refused h.0 h.1) (p.answers xs told);
+    }
+
+    module _ {E : Type 0} (r : Result (Vec P Global) (DecodeError E)) (a m b : View) where
+      pub counted_stops : {count : ℕ} → Counts major a m count → ((xs : List ℕ) → a.told ≡ Some xs → IfErr r (Stops (StopsCount reads stops count) m b)) → IfErr r (Stops (StopsInside name major reads stops never_empty) a b)
+      counted_stops {count = count} h s = elim r as (λ t. ((xs : List ℕ) → a.told ≡ Some xs → IfErr t (Stops (StopsCount reads stops count) m b)) → IfErr t (Stops (StopsInside name major reads stops never_empty) a b)) [
+        | Ok v ↦ (λ w. tt)
+        | Err e ↦ (λ w. record {
+          at = λ xs told.
+              let p = h.at xs told in
+              stops_as (refusal_of e) b.told (StopsCount reads stops count (drop p.0 xs) m.budget) (StopsInside name major reads stops never_empty xs a.budget)
+              (λ z ys t. counted_refused count p.0 p.1 (subst (λ k. StopsCount reads stops count (drop p.0 xs) k z ys) h.kept.budget t)) ((w xs told).at (drop p.0 xs) p.2);
+        })
+      ] s
+
+      pub opened_stops : Opens major a m → ((xs : List ℕ) → a.told ≡ Some xs → IfErr r (Stops (StopsUpToBreak name reads stops never_empty) m b)) → IfErr r (Stops (StopsInside name major reads stops never_empty) a b)
+      opened_stops h s = elim r as (λ t. ((xs : List ℕ) → a.told ≡ Some xs → IfErr t (Stops (StopsUpToBreak name reads stops never_empty) m b)) → IfErr t (Stops (StopsInside name major reads stops never_empty) a b)) [
+        | Ok v ↦ (λ w. tt)
+        | Err e ↦ (λ w. record {
+          at = λ xs told.
+              let p = h.at xs told in
+              stops_as (refusal_of e) b.told (StopsUpToBreak name reads stops never_empty (drop 1 xs) m.budget) (StopsInside name major reads stops never_empty xs a.budget)
+              (λ z ys t. open_refused p.0 (subst (λ k. StopsUpToBreak name reads stops never_empty (drop 1 xs) k z ys) h.kept.budget t)) ((w xs told).at (drop 1 xs) p.1);
+        })
+      ] s
+
+-- ---- the step
+
+fits_step : (old new : Option ℕ) (c : ℕ) → StepsIn old new true → CostFits c new → CostFits (1 + c) old
+fits_step None new c h f = tt
+fits_step (Some left) new c h f = let g : c ≤ left - 1 = subst (CostFits c) h.2 f in omega (arith, h.0, g)
+
+fits_inside : (old new : Option ℕ) (c : ℕ) → StepsIn old new true → CostFits (1 + c) old → CostFits c new
+fits_inside None new c h f = subst (CostFits c) (sym h) tt
+fits_inside (Some left) new c h f = subst (CostFits c) (sym h.2) (omega (arith, f))
+
+stepped : (old new : Option ℕ) → StepsIn old new true → (old ≢ Some 0) × (new ≡ after_step old)
+stepped None new h = ((λ e. cc), h)
+stepped (Some left) new h = ((λ e. let f : left ≡ 0 = cc in omega (arith, h.0, f)), h.2)
+
+pub exact_step : (owned : Bool) (a b : View) → KeepsAllButBudget a b → IsExact owned a → IsExact owned b
+exact_step owned a b k (inl e) = inl e
+exact_step owned a b k (inr e) = inr (subst IsTrue (sym k.lends_whole) e.0, λ xs told. e.1 xs (sym k.told ∙ told))
+
+pub moves_stepped : {V E : Type 0} (r : Result V (DecodeError E)) (a b c d : View) → StepsIn a.budget b.budget true → KeepsAllButBudget a b → Moves b c r → d.budget ≡ step_back c.budget → KeepsAllButBudget c d → Moves a d r
+moves_stepped r a b c d takes inward m gives outward = record { by = moves_around inward outward (is_failure r) (λ same. gives ∙ (ap step_back same ∙ step_again a.budget b.budget takes)) m.by; depth = λ none. m.depth (step_unbound a.budget b.budget takes none) }
+
+module _ {P : Type 0} (major : ℕ) (reads : List ℕ → P → ℕ → ℕ → Type 0) (never_empty : Bool) where
+  module _ {E : Type 0} (r : Result (Vec P Global) (DecodeError E)) (a b : View) (takes : StepsIn a.budget b.budget true) (inward : KeepsAllButBudget a b) where
+    pub stepped_sound : (c d : View) → KeepsAllButBudget c d → IfOk r (λ v. Sound (ReadsInside major reads never_empty) b c v.items) → IfOk r (λ v. Sound (ReadsSequence major reads never_empty) a d v.items)
+    stepped_sound c d outward s = if_ok r (λ v. Sound (ReadsInside major reads never_empty) b c v.items) (λ v. Sound (ReadsSequence major reads never_empty) a d v.items) (λ v w. record {
+      at = λ xs told.
+          let t = w.at xs (inward.told ∙ told) in
+          record { count = t.count; cost = 1 + t.cost; read = (t.cost, t.read, refl); fits = fits_step a.budget b.budget t.cost takes t.fits; left = outward.told ∙ t.left };
+    }) s
+
+    pub stepped_refuses : IfErr r (Refuses (ReadsInside major reads never_empty) b) → IfErr r (Refuses (ReadsSequence major reads never_empty) a)
+    stepped_refuses s = if_err r (Refuses (ReadsInside major reads never_empty) b) (Refuses (ReadsSequence major reads never_empty) a) (λ e w. record {
+      at = λ xs told. if_some (refusal_of e)
+          (λ none ps n c read fits. none ps n read.0 read.1 (fits_inside a.budget b.budget read.0 takes (subst (λ k. CostFits k a.budget) read.2 fits))) (w.at xs (inward.told ∙ told));
+    }) s
+
+    pub stepped_stops : (c d : View) (name : List ℕ) (stops : List ℕ → Option ℕ → Refusal → List ℕ → Type 0) → KeepsAllButBudget c d → IfErr r (Stops (StopsInside name major reads stops never_empty) b c) → IfErr r (Stops (StopsSequence name major reads stops never_empty) a d)
+    stepped_stops c d name stops outward s = if_err r (Stops (StopsInside name major reads stops never_empty) b c) (Stops (StopsSequence name major reads stops never_empty) a d) (λ e w. record {
+      at = λ xs told.
+          let h = stepped a.budget b.budget takes in
+          subst (λ left. IfSome (refusal_of e) (λ z. (ys : List ℕ) × (left ≡ Some ys) × StopsSequence name major reads stops never_empty xs a.budget z ys)) (sym outward.told)
+          (stops_as (refusal_of e) c.told (StopsInside name major reads stops never_empty xs b.budget) (StopsSequence name major reads stops never_empty xs a.budget)
+          (λ z ys t. under_step h.0 (subst (λ k. StopsInside name major reads stops never_empty xs k z ys) h.1 t)) (w.at xs (inward.told ∙ told)));
+    }) s
+
+-- ---- values that have parts
+
+module _ {V P : Type 0} (parts : V → List P) (reads : List ℕ → List P → ℕ → ℕ → Type 0) where
+  pub of_sound : {v : V} {a b : View} → Sound reads a b (parts v) → Sound (λ xs w n c. reads xs (parts w) n c) a b v
+  of_sound s = record { at = λ xs told. let t = s.at xs told in record { count = t.count; cost = t.cost; read = t.read; fits = t.fits; left = t.left } }
+
+  pub of_refuses : {E : Type 0} {e : DecodeError E} {a : View} → Refuses reads a e → Refuses (λ xs (w : V) n c. reads xs (parts w) n c) a e
+  of_refuses {e = e} {a = a} s = record { at = λ xs told. if_some (refusal_of e) (λ none w n c read fits. none (parts w) n c read fits) (s.at xs told) }
+
+module _ {V E : Type 0} (r : Result (Vec V Global) (DecodeError E)) (a : View) (reads : List ℕ → List V → ℕ → ℕ → Type 0) where
+  pub vec_sound : (b : View) → IfOk r (λ v. Sound reads a b v.items) → IfOk r (Sound (λ xs (v : Vec V Global) n c. reads xs v.items n c) a b)
+  vec_sound b s = if_ok r (λ v. Sound reads a b v.items) (Sound (λ xs (v : Vec V Global) n c. reads xs v.items n c) a b) (λ v t. of_sound (λ (v : Vec V Global). v.items) reads t) s
+
+  pub vec_refuses : IfErr r (Refuses reads a) → IfErr r (Refuses (λ xs (v : Vec V Global) n c. reads xs v.items n c) a)
+  vec_refuses s = if_err r (Refuses reads a) (Refuses (λ xs (v : Vec V Global) n c. reads xs v.items n c) a) (λ e t. of_refuses (λ (v : Vec V Global). v.items) reads t) s

@@ -1,0 +1,127 @@
+-- What arrays and maps are spelled as, and how they are refused (RFC 8949 sections 3.1, 3.2.1 and 3.2.2). Both are
+-- sequences of parts: a part of an array is an item, and a part of a map is a key and its value.
+use Rattle.std.specs.Prelude.{◌≡◌, ◌≢◌, ℕ, ◌+◌, ◌-◌, ◌<◌, ◌⊎◌, List, [], ◌∷◌, ◌++◌, length, take, drop, max, Bool, false, Option, None, Some, IsTrue, codes}
+use Rattle.std.specs.declared.alloc.Global.{Global}
+use Rattle.std.specs.declared.vec.Vec.{Vec}
+use Rattle.cbor4ii_rw.specs.declared.error.Len.TheVariants.{Small, Indefinite}
+use Rattle.cbor4ii_rw.specs.View.{View}
+use Rattle.cbor4ii_items.specs.Decoding.{CostFits, Sound}
+use Rattle.cbor4ii_items.specs.Head.{break, open_head}
+use Rattle.cbor4ii_items.specs.Heads.{ReadsHead, StopsHead}
+use Rattle.cbor4ii_items.specs.Refusal.{Refusal, eof, require_length, depth_overflow}
+
+-- ---- what is read
+
+-- parts, one behind another: n bytes in all, at the greatest cost of one
+abbrev pub ReadsParts : {P : Type 0} → (List ℕ → P → ℕ → ℕ → Type 0) → List ℕ → List P → ℕ → ℕ → Type 0
+ReadsParts reads xs [] n c = (n ≡ 0) × (c ≡ 0)
+ReadsParts reads xs (p ∷ ps) n c = (k d m e : ℕ) × reads xs p k d × ReadsParts reads (drop k xs) ps m e × (n ≡ k + m) × (c ≡ max d e)
+
+-- so many parts
+abbrev pub ReadsCount : {P : Type 0} → (List ℕ → P → ℕ → ℕ → Type 0) → ℕ → List ℕ → List P → ℕ → ℕ → Type 0
+ReadsCount reads count xs ps n c = (length ps ≡ count) × ReadsParts reads xs ps n c
+
+-- a part that begins with no break
+abbrev pub Unbroken : {P : Type 0} → (List ℕ → P → ℕ → ℕ → Type 0) → List ℕ → P → ℕ → ℕ → Type 0
+Unbroken reads xs p n c = (take 1 xs ≡ break ∷ [] → ⊥) × reads xs p n c
+
+-- parts up to the first break that stands in a part's place, and the break; no part where one may read nothing
+pub record ReadsUpToBreak {P : Type 0} (reads : List ℕ → P → ℕ → ℕ → Type 0) (never_empty : Bool) (xs : List ℕ) (ps : List P) (n c : ℕ) : Type 0 where
+  pub allowed : IsTrue never_empty ⊎ (ps ≡ [])
+  pub between : ℕ
+  pub parts : ReadsParts (Unbroken reads) xs ps between c
+  pub ends : take 1 (drop between xs) ≡ break ∷ []
+  pub size : n ≡ between + 1
+
+-- a head of this major type that counts the parts, and the parts
+pub record ReadsCounted {P : Type 0} (major : ℕ) (reads : List ℕ → P → ℕ → ℕ → Type 0) (xs : List ℕ) (ps : List P) (n c : ℕ) : Type 0 where
+  pub before : ℕ
+  pub head : ReadsHead major 8 xs (length ps) before
+  pub between : ℕ
+  pub parts : ReadsParts reads (drop before xs) ps between c
+  pub size : n ≡ before + between
+
+-- the first byte of an indefinite length, and parts up to a break
+pub record ReadsOpen {P : Type 0} (major : ℕ) (reads : List ℕ → P → ℕ → ℕ → Type 0) (never_empty : Bool) (xs : List ℕ) (ps : List P) (n c : ℕ) : Type 0 where
+  pub begins : take 1 xs ≡ open_head major ∷ []
+  pub between : ℕ
+  pub parts : ReadsUpToBreak reads never_empty (drop 1 xs) ps between c
+  pub size : n ≡ 1 + between
+
+-- parts that are counted, or that a break ends
+abbrev pub ReadsInside : {P : Type 0} → ℕ → (List ℕ → P → ℕ → ℕ → Type 0) → Bool → List ℕ → List P → ℕ → ℕ → Type 0
+ReadsInside major reads never_empty xs ps n c = ReadsCounted major reads xs ps n c ⊎ ReadsOpen major reads never_empty xs ps n c
+
+-- the same under one step
+abbrev pub ReadsSequence : {P : Type 0} → ℕ → (List ℕ → P → ℕ → ℕ → Type 0) → Bool → List ℕ → List P → ℕ → ℕ → Type 0
+ReadsSequence major reads never_empty xs ps n c = (d : ℕ) × ReadsInside major reads never_empty xs ps n d × (c ≡ 1 + d)
+
+-- the two lists have as many parts, and these are the same one by one
+abbrev pub SameParts : {P : Type 0} → (P → P → Type 0) → List P → List P → Type 0
+SameParts same [] [] = Unit {0}
+SameParts same [] (q ∷ qs) = ⊥
+SameParts same (p ∷ ps) [] = ⊥
+SameParts same (p ∷ ps) (q ∷ qs) = same p q × SameParts same ps qs
+
+-- ---- how it is refused
+
+-- so many parts should come: fewer are whole, and the next one is refused
+pub record StopsCount {P : Type 0} (reads : List ℕ → P → ℕ → ℕ → Type 0) (stops : List ℕ → Option ℕ → Refusal → List ℕ → Type 0) (count : ℕ) (xs : List ℕ) (budget : Option ℕ) (refusal : Refusal) (rest : List ℕ) : Type 0 where
+  pub whole : List P
+  pub fewer : length whole < count
+  pub between : ℕ
+  pub cost : ℕ
+  pub parts : ReadsParts reads xs whole between cost
+  pub fits : CostFits cost budget
+  pub stop : stops (drop between xs) budget refusal rest
+
+-- where a part or a break should come
+pub data StopsPlace (name : List ℕ) (stops : List ℕ → Option ℕ → Refusal → List ℕ → Type 0) (never_empty : Bool) (xs : List ℕ) (budget : Option ℕ) (refusal : Refusal) (rest : List ℕ) : Type 0 where
+  no_byte : xs ≡ [] → refusal ≡ eof (codes "break") (Small 1) → rest ≡ [] → StopsPlace name stops never_empty xs budget refusal rest
+  may_read_nothing : xs ≢ [] → (take 1 xs ≡ break ∷ [] → ⊥) → never_empty ≡ false → refusal ≡ require_length name Indefinite → rest ≡ xs → StopsPlace name stops never_empty xs budget refusal rest
+  part_refused : xs ≢ [] → (take 1 xs ≡ break ∷ [] → ⊥) → IsTrue never_empty → stops xs budget refusal rest → StopsPlace name stops never_empty xs budget refusal rest
+
+-- some parts are whole, and then comes the refusal
+pub record StopsUpToBreak {P : Type 0} (name : List ℕ) (reads : List ℕ → P → ℕ → ℕ → Type 0) (stops : List ℕ → Option ℕ → Refusal → List ℕ → Type 0) (never_empty : Bool) (xs : List ℕ) (budget : Option ℕ) (refusal : Refusal) (rest : List ℕ) : Type 0 where
+  pub whole : List P
+  pub allowed : IsTrue never_empty ⊎ (whole ≡ [])
+  pub between : ℕ
+  pub cost : ℕ
+  pub parts : ReadsParts (Unbroken reads) xs whole between cost
+  pub fits : CostFits cost budget
+  pub stop : StopsPlace name stops never_empty (drop between xs) budget refusal rest
+
+-- the head is refused, or the parts behind it
+pub data StopsInside {P : Type 0} (name : List ℕ) (major : ℕ) (reads : List ℕ → P → ℕ → ℕ → Type 0) (stops : List ℕ → Option ℕ → Refusal → List ℕ → Type 0) (never_empty : Bool) (xs : List ℕ) (budget : Option ℕ) (refusal : Refusal) (rest : List ℕ) : Type 0 where
+  length_refused : (take 1 xs ≡ open_head major ∷ [] → ⊥) → StopsHead name major 8 xs refusal rest → StopsInside name major reads stops never_empty xs budget refusal rest
+  counted_refused : (count before : ℕ) → ReadsHead major 8 xs count before → StopsCount reads stops count (drop before xs) budget refusal rest → StopsInside name major reads stops never_empty xs budget refusal rest
+  open_refused : take 1 xs ≡ open_head major ∷ [] → StopsUpToBreak name reads stops never_empty (drop 1 xs) budget refusal rest → StopsInside name major reads stops never_empty xs budget refusal rest
+
+-- a budget after one step
+abbrev pub after_step : Option ℕ → Option ℕ
+after_step None = None
+after_step (Some left) = Some (left - 1)
+
+-- no step is left and nothing moves, or the sequence is refused under what is left
+pub data StopsSequence {P : Type 0} (name : List ℕ) (major : ℕ) (reads : List ℕ → P → ℕ → ℕ → Type 0) (stops : List ℕ → Option ℕ → Refusal → List ℕ → Type 0) (never_empty : Bool) (xs : List ℕ) (budget : Option ℕ) (refusal : Refusal) (rest : List ℕ) : Type 0 where
+  no_step : budget ≡ Some 0 → refusal ≡ depth_overflow name → rest ≡ xs → StopsSequence name major reads stops never_empty xs budget refusal rest
+  under_step : budget ≢ Some 0 → StopsInside name major reads stops never_empty xs (after_step budget) refusal rest → StopsSequence name major reads stops never_empty xs budget refusal rest
+
+-- ---- what a decoding call adds
+
+-- one part was read, and stands behind those that were there
+pub record AddsPart {P : Type 0} (reads : List ℕ → P → ℕ → ℕ → Type 0) (before after : List P) (old new : View) : Type 0 where
+  pub part : P
+  pub read : Sound reads old new part
+  pub added : after ≡ before ++ part ∷ []
+
+-- ---- arrays
+
+abbrev pub ReadsArray : {V : Type 0} → (List ℕ → V → ℕ → ℕ → Type 0) → Bool → List ℕ → Vec V Global → ℕ → ℕ → Type 0
+ReadsArray reads never_empty xs v n c = ReadsSequence 4 reads never_empty xs v.items n c
+
+abbrev pub SameArray : {V : Type 0} → (V → V → Type 0) → Vec V Global → Vec V Global → Type 0
+SameArray same v w = SameParts same v.items w.items
+
+abbrev pub StopsArray : {V : Type 0} → (List ℕ → V → ℕ → ℕ → Type 0) → (List ℕ → Option ℕ → Refusal → List ℕ → Type 0) → Bool → List ℕ → Option ℕ → Refusal → List ℕ → Type 0
+StopsArray reads stops never_empty = StopsSequence (codes "array") 4 reads stops never_empty

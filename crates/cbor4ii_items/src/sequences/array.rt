@@ -1,0 +1,80 @@
+//! Arrays.
+ghost use Rattle.std.specs.Prelude.{◌≡◌, true};
+ghost use Rattle.cbor4ii_items.specs.Sequences.{ReadsArray, SameArray, StopsArray};
+ghost use Rattle.cbor4ii_items.specs.SequenceLaws.{
+  array_one,
+  array_within,
+  array_positive,
+  array_alone,
+};
+
+use crate::decode::{Decode, Spelled};
+use crate::major;
+use crate::sequences::parts::{Sequence, take_sequence};
+use cbor4ii_rw::error::DecodeError;
+use cbor4ii_rw::read::Source;
+use std::alloc::Global;
+
+impl<T: Spelled> Spelled for Vec<T> {
+    ghost reads = { ReadsArray T.reads T.never_empty };
+
+    ghost same = { SameArray T.same };
+
+    ghost stops = { StopsArray T.reads T.stops T.never_empty };
+
+    ghost never_empty = { true };
+
+    ghost owned = { T.owned };
+
+    ghost takes_memory = { true };
+
+    ghost closed = { T.closed };
+
+    fn is_never_empty() -> bool {
+        true
+    }
+
+    fn is_owned() -> bool {
+        T::is_owned()
+    }
+}
+
+impl<S: Source, T: Decode<S> + Drop> Sequence<S> for Vec<T> {
+    type Part = T;
+
+    ghost reads = { T.reads };
+
+    ghost stops = { T.stops };
+
+    ghost never_empty = { T.never_empty };
+
+    ghost owned = { T.owned };
+
+    fn is_part_never_empty() -> bool {
+        T::is_never_empty()
+    }
+
+    fn take_part(alloc: Global, reader: &mut S) -> Result<T, DecodeError<S::Error>> {
+        T::decode(alloc, reader)
+    }
+
+    ghost one = { λ xs v w n m c d p q. (T.one xs v w n m c d p q).0 };
+
+    ghost within = { T.within };
+
+    ghost positive = { T.positive };
+}
+
+impl<S: Source, T: Decode<S> + Drop> Decode<S> for Vec<T> {
+    fn decode(alloc: Global, reader: &mut S) -> Result<Vec<T>, DecodeError<S::Error>> {
+        take_sequence::<S, Vec<T>>(alloc, reader, "array", major::ARRAY)
+    }
+
+    ghost one = { array_one T.reads T.same T.never_empty T.one };
+
+    ghost within = { array_within T.reads T.never_empty T.within };
+
+    ghost positive = { λ _. array_positive T.reads T.never_empty };
+
+    ghost alone = { array_alone T.reads T.never_empty T.closed T.within T.positive T.alone };
+}
