@@ -24,3 +24,4 @@ pub mod Told
 pub mod Lengths
 pub mod SequenceBytes
 pub mod MaybeParts
+pub mod PartsBack
