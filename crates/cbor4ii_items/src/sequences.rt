@@ -2,5 +2,3 @@
 
 mod encode;
 mod heads;
-#[cfg(test)]
-mod tests;

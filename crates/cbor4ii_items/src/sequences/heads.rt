@@ -170,3 +170,6 @@ fn push_end<W: Write>(writer: &mut W) -> Result<(), EncodeError<W::Error>>
 {
     push_bytes(writer, &[marker::BREAK])
 }
+
+#[cfg(test)]
+mod tests;
