@@ -55,21 +55,22 @@ const ITEMS_TO_25: [u8; 27] = [
 fn arrays_of_25_are_written(rt: HostRuntime) -> Result<(), Fail> {
     let alloc = rt.alloc();
     let numbers = to_25(alloc)?;
+    let mut counted = vec![in alloc; 0x98, 0x19]?;
+    counted.extend_from_slice(&ITEMS_TO_25)?;
     let mut writer = BufWriter::new(Vec::new(alloc));
     assert!(rt; write(&mut writer, &numbers).is_ok());
-    assert_eq!(rt; &writer.buffer()[..2], [0x98, 0x19].as_slice());
-    assert_eq!(rt; &writer.buffer()[2..], ITEMS_TO_25.as_slice());
+    assert_eq!(rt; writer.buffer(), counted.as_slice());
 
-    let mut writer = BufWriter::new(Vec::new(alloc));
+    let mut open = vec![in alloc; 0x9f]?;
+    open.extend_from_slice(&ITEMS_TO_25)?;
+    open.push(0xff)?;
+    writer.clear();
     assert!(rt; Array::unbounded(&mut writer).is_ok());
     for number in &numbers {
         assert!(rt; write(&mut writer, number).is_ok());
     }
     assert!(rt; Array::end(&mut writer).is_ok());
-    assert_eq!(rt; writer.buffer().len(), 29);
-    assert_eq!(rt; writer.buffer()[0], 0x9f);
-    assert_eq!(rt; &writer.buffer()[1..28], ITEMS_TO_25.as_slice());
-    assert_eq!(rt; writer.buffer()[28], 0xff);
+    assert_eq!(rt; writer.buffer(), open.as_slice());
     Ok(())
 }
 
