@@ -5,6 +5,4 @@ mod encode;
 mod heads;
 mod parts;
 #[cfg(test)]
-mod reading_tests;
-#[cfg(test)]
 mod tests;
