@@ -23,3 +23,4 @@ pub mod Forward
 pub mod Told
 pub mod SequenceParts
 pub mod SequenceAnswers
+pub mod Pairs

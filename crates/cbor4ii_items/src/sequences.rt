@@ -1,6 +1,7 @@
 //! Arrays and maps.
 
 mod array;
+mod map;
 mod parts;
 #[cfg(test)]
 mod tests;
