@@ -33,3 +33,4 @@ pub mod CowRows
 pub mod SequenceParts
 pub mod SequenceAnswers
 pub mod PartsBack
+pub mod Pairs

@@ -3,6 +3,7 @@
 mod array;
 mod encode;
 mod heads;
+mod map;
 mod parts;
 #[cfg(test)]
 mod tests;

@@ -1,5 +1,5 @@
-use crate::decode::Decode;
-use crate::types::{Bytes, Tag};
+use crate::decode::{Decode, Spelled};
+use crate::types::{Bytes, Map, Tag};
 use cbor4ii_rw::read::Source;
 use cbor4ii_rw::slice_reader::SliceReader;
 use std::alloc::Global;
@@ -169,5 +169,97 @@ fn arrays_lend_their_items(rt: HostRuntime) -> Result<(), Fail> {
         b"",
     )?;
     reads::<Vec<Bytes<&[u8]>>, _>(&rt, alloc, b"\x9f\x41\x07\xff", 1, "Ok([Bytes([7])])", b"")?;
+    Ok(())
+}
+
+#[test]
+fn maps_are_read(rt: HostRuntime) -> Result<(), Fail> {
+    let alloc = rt.alloc();
+    let pairs = "Ok(Map([(1, 2), (1, 3)]))";
+    reads::<Map<Vec<(u8, u8)>>, _>(&rt, alloc, b"\xa0\x01", 1, "Ok(Map([]))", b"\x01")?;
+    reads::<Map<Vec<(u8, u8)>>, _>(&rt, alloc, b"\xa2\x01\x02\x01\x03", 1, pairs, b"")?;
+    reads::<Map<Vec<(u8, u8)>>, _>(
+        &rt,
+        alloc,
+        b"\xb8\x02\x01\x02\x01\x03\x04",
+        1,
+        pairs,
+        b"\x04",
+    )?;
+    reads::<Map<Vec<(u8, u8)>>, _>(&rt, alloc, b"\xbf\x01\x02\xff", 1, "Ok(Map([(1, 2)]))", b"")?;
+    reads::<Map<Vec<(u8, u8)>>, _>(&rt, alloc, b"\xbf\xff", 1, "Ok(Map([]))", b"")?;
+    reads::<Map<Vec<(&str, Vec<u8>)>>, _>(
+        &rt,
+        alloc,
+        b"\xa1\x61a\x81\x01",
+        2,
+        "Ok(Map([(\"a\", [1])]))",
+        b"",
+    )?;
+    Ok(())
+}
+
+#[test]
+fn maps_are_refused(rt: HostRuntime) -> Result<(), Fail> {
+    let alloc = rt.alloc();
+    let rows: [(&[u8], usize, &str, &[u8]); 9] = [
+        (b"\xa0", 0, "DepthOverflow { name: \"map\" }", b"\xa0"),
+        (b"", 9, "Eof { name: \"map\", expect: Small(1) }", b""),
+        (
+            b"\x80\x01",
+            9,
+            "Mismatch { name: \"map\", found: 128 }",
+            b"\x01",
+        ),
+        (
+            b"\xb9\x01",
+            9,
+            "Eof { name: \"map\", expect: Small(2) }",
+            b"",
+        ),
+        (
+            b"\xa1\x01",
+            9,
+            "Eof { name: \"u8\", expect: Small(1) }",
+            b"",
+        ),
+        (
+            b"\xa1\x61\x02",
+            9,
+            "Mismatch { name: \"u8\", found: 97 }",
+            b"\x02",
+        ),
+        (
+            b"\xbf\x01\xff",
+            9,
+            "Mismatch { name: \"u8\", found: 255 }",
+            b"",
+        ),
+        (
+            b"\xbf\x01\x02",
+            9,
+            "Eof { name: \"break\", expect: Small(1) }",
+            b"",
+        ),
+        (
+            b"\xa1\xff\x02",
+            9,
+            "Mismatch { name: \"u8\", found: 255 }",
+            b"\x02",
+        ),
+    ];
+    for (bytes, steps, text, rest) in rows {
+        let want = format!(in alloc; "Err({text})")?;
+        reads::<Map<Vec<(u8, u8)>>, _>(&rt, alloc, bytes, steps, want.as_str(), rest)?;
+    }
+    Ok(())
+}
+
+#[test]
+fn sequences_say_what_they_need(rt: HostRuntime) -> Result<(), Fail> {
+    assert!(rt; <Vec<u8>>::is_owned() && <Vec<u8>>::is_never_empty());
+    assert!(rt; !<Vec<&str>>::is_owned());
+    assert!(rt; <Map<Vec<(u8, u8)>>>::is_owned() && <Map<Vec<(u8, u8)>>>::is_never_empty());
+    assert!(rt; !<Map<Vec<(u8, &str)>>>::is_owned() && !<Map<Vec<(&str, u8)>>>::is_owned());
     Ok(())
 }
