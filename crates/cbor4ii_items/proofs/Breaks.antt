@@ -16,7 +16,7 @@ broken b (x ∷ xs) ys is e =
 
 pub runs_break : {E : Type 0} {b : ℕ} {a c : View} → b ≡ break → Runs {E = E} (byte_at (codes "break") 1) a c (Ok b) → Runs {E = E} break_at a c (Ok true)
 runs_break {b = b} is p = record {
-  moves = record { by = p.moves.by };
+  moves = record { by = p.moves.by; depth = p.moves.depth };
   answers = λ xs told. let h = p.answers xs told in (h.0, h.1, broken b xs h.0 is h.2);
   memory = tt;
 }

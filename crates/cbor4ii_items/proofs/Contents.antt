@@ -58,7 +58,7 @@ reaches_content name {missing = missing} {n = n} {before = before} {after = afte
 
 pub content_ends : {E : Type 0} {f : Reading (List ℕ)} (name : List ℕ) {missing : ℕ} {content : List ℕ} {a b : View} → missing ≡ 0 → Reaches f (content_on name missing content) a b → Follows {E = E} f a b (Ok content)
 content_ends name {missing = missing} {content = content} none p = record {
-  moves = record { by = p.kept };
+  moves = record { by = p.kept; depth = λ e. refl };
   answers = λ xs told.
       let s = p.leads xs told in
       (s.0, s.1, s.2 ∙ (ap (λ j. content_on name j content s.0) none ∙ content_none name content s.0));

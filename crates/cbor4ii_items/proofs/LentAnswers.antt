@@ -34,10 +34,10 @@ lack_moves count is_text m b NotUtf8 h = h.2.kept
 
 module _ (V E : Type 0) (name : List ℕ) (count : ℕ) (is_text : Bool) (content : V → List ℕ) (a m b : View) where
   pub lent_moves : (o : Result V (Lacks E)) (r : Result V (DecodeError E)) → Named name o r → Kept a m → IfOk o (λ v. Lends count (content v) m b) → IfErr o (LacksContent count is_text m b) → Moves a b r
-  lent_moves (Ok v) (Ok w) n kept lends lacks = moves_then kept (record { by = lends.kept })
+  lent_moves (Ok v) (Ok w) n kept lends lacks = moves_then kept (record { by = lends.kept; depth = λ e. refl })
   lent_moves (Ok v) (Err e) n kept lends lacks = absurd n
   lent_moves (Err lack) (Ok w) n kept lends lacks = absurd n
-  lent_moves (Err lack) (Err e) n kept lends lacks = moves_then kept (record { by = subst (λ t. MatchBool t (Broke m b) (Kept m b)) (sym n.read) (lack_moves count is_text m b lack lacks) })
+  lent_moves (Err lack) (Err e) n kept lends lacks = moves_then kept (record { by = subst (λ t. MatchBool t (Broke m b) (Kept m b)) (sym n.read) (lack_moves count is_text m b lack lacks); depth = λ e. n.depth })
 
   pub lent_progress : (o : Result V (Lacks E)) (r : Result V (DecodeError E)) → Named name o r → m.bound + 1 ≤ a.bound → IfOk o (λ v. Lends count (content v) m b) → OnOk r (b.bound + 1 ≤ a.bound)
   lent_progress (Ok v) (Ok w) n less lends = omega (arith, less, lends.kept.bound)

@@ -1,5 +1,6 @@
 pub mod Steps
 pub mod Running
+pub mod WholeHeads
 pub mod Heads
 pub mod Leaves
 pub mod Stopping

@@ -25,6 +25,11 @@ step_again : (old new : Option ℕ) → StepsIn old new true → step_back new �
 step_again None new h = ap step_back h
 step_again (Some left) new h = ap step_back h.2 ∙ again left h.0 h.1
 
+-- without a budget a step leaves none
+step_unbound : (old new : Option ℕ) → StepsIn old new true → old ≡ None → new ≡ None
+step_unbound None new h e = h
+step_unbound (Some left) new h e = cc
+
 module _ {a b c d : View} (i : KeepsAllButBudget a b) (o : KeepsAllButBudget c d) where
   kept_around : (c.budget ≡ b.budget → d.budget ≡ a.budget) → Kept b c → Kept a d
   kept_around same k = record {
@@ -49,9 +54,9 @@ module _ {a b c d : View} (i : KeepsAllButBudget a b) (o : KeepsAllButBudget c d
   moves_around true same k = broke_around same k
   moves_around false same k = kept_around same k
 
-  follows_around : {V E : Type 0} {p : Reading V} {r : Result V (DecodeError E)} → (c.budget ≡ b.budget → d.budget ≡ a.budget) → Follows p b c r → Follows p a d r
-  follows_around {p = p} {r = r} same f = record {
-    moves = record { by = moves_around (is_failure r) same f.moves.by };
+  follows_around : {V E : Type 0} {p : Reading V} {r : Result V (DecodeError E)} → (a.budget ≡ None → b.budget ≡ None) → (c.budget ≡ b.budget → d.budget ≡ a.budget) → Follows p b c r → Follows p a d r
+  follows_around {p = p} {r = r} inner same f = record {
+    moves = record { by = moves_around (is_failure r) same f.moves.by; depth = λ none. f.moves.depth (inner none) };
     answers = λ xs told. subst (λ new. AnswersAs (p xs) new r) (sym o.told) (f.answers xs (i.told ∙ told));
   }
 
@@ -70,7 +75,7 @@ stepped_in name major content (Some (suc left)) new h = refl
 pub chunk_follows : {E : Type 0} (name : List ℕ) (major : ℕ) (content : List ℕ) {a b c d : View} {r : Result (List ℕ) (DecodeError E)} → StepsIn a.budget b.budget true → KeepsAllButBudget a b
     → Follows (chunk_inside name major content) b c r → d.budget ≡ step_back c.budget → KeepsAllButBudget c d → Follows (chunk_at name major a.budget content) a d r
 chunk_follows name major content {a = a} {b = b} takes inward f gives outward =
-    follows_as (stepped_in name major content a.budget b.budget takes) (follows_around inward outward (λ same. gives ∙ (ap step_back same ∙ step_again a.budget b.budget takes)) f)
+    follows_as (stepped_in name major content a.budget b.budget takes) (follows_around inward outward (λ none. step_unbound a.budget b.budget takes none) (λ same. gives ∙ (ap step_back same ∙ step_again a.budget b.budget takes)) f)
 
 -- ---- chunks up to a break
 

@@ -7,7 +7,7 @@ use Rattle.cbor4ii_rw.specs.Reader.{Shows, Breaks, Advances, IsFront, counts}
 use Rattle.cbor4ii_rw.specs.declared.error.DecodeError.{DecodeError}
 use Rattle.cbor4ii_rw.specs.declared.error.DecodeError.TheVariants.{Eof}
 use Rattle.cbor4ii_rw.specs.declared.error.Len.TheVariants.{Small}
-use Rattle.cbor4ii_items.specs.Refusal.{Refusal, refusal_of, is_read, is_out_of_memory, eof}
+use Rattle.cbor4ii_items.specs.Refusal.{Refusal, refusal_of, is_read, is_out_of_memory, is_depth_overflow, eof}
 use Rattle.cbor4ii_items.specs.Moves.{Took, Kept, Broke}
 use Rattle.cbor4ii_items.specs.Reading.{Reading, give, refuse, go_on, ◌>=>◌, peek_at, byte_at, AnswersAs, Runs, Reaches}
 use Rattle.cbor4ii_items.specs.Outcome.{same_value}
@@ -59,7 +59,7 @@ kept_alike a = record {
 }
 
 pub runs_give : {V E : Type 0} (v : V) (a : View) → Runs {E = E} (give v) a a (Ok v)
-runs_give v a = record { moves = record { by = kept_alike a }; answers = λ xs told. (xs, told, refl); memory = tt }
+runs_give v a = record { moves = record { by = kept_alike a; depth = λ e. refl }; answers = λ xs told. (xs, told, refl); memory = tt }
 
 pub unread : (t : Bool) (a b : View) → t ≡ false → Kept a b → MatchBool t (Broke a b) (Kept a b)
 unread true a b e k = cc
@@ -71,17 +71,17 @@ refused_as None z outcome new e h = cc
 refused_as (Some y) z outcome new e h = let f : z ≡ y = cc in (h.0, h.1, subst (λ x. outcome ≡ Err (x, h.0)) f h.2)
 
 -- an error that says the refusal z, where the reader was kept
-pub runs_refused : {V E : Type 0} {f : Reading V} {a b : View} {e : DecodeError E} (z : Refusal) → refusal_of e ≡ Some z → is_read e ≡ false → is_out_of_memory e ≡ false → Kept a b
+pub runs_refused : {V E : Type 0} {f : Reading V} {a b : View} {e : DecodeError E} (z : Refusal) → refusal_of e ≡ Some z → is_read e ≡ false → is_out_of_memory e ≡ false → is_depth_overflow e ≡ false → Kept a b
     → Told a.told (λ xs. (ys : List ℕ) × (b.told ≡ Some ys) × (f xs ≡ Err (z, ys))) → Runs f a b (Err e)
-runs_refused {f = f} {a = a} {b = b} {e = e} z says read memory kept at = record {
-  moves = record { by = unread (is_read e) a b read kept };
+runs_refused {f = f} {a = a} {b = b} {e = e} z says read memory shallow kept at = record {
+  moves = record { by = unread (is_read e) a b read kept; depth = λ none. shallow };
   answers = λ xs told. refused_as (refusal_of e) z (f xs) b.told says (at xs told);
   memory = memory;
 }
 
 -- the refusal z takes nothing
-pub runs_refuse : {V E : Type 0} {e : DecodeError E} (z : Refusal) (a : View) → refusal_of e ≡ Some z → is_read e ≡ false → is_out_of_memory e ≡ false → Runs {V = V} (refuse z) a a (Err e)
-runs_refuse z a says read memory = runs_refused z says read memory (kept_alike a) (λ xs told. (xs, told, refl))
+pub runs_refuse : {V E : Type 0} {e : DecodeError E} (z : Refusal) (a : View) → refusal_of e ≡ Some z → is_read e ≡ false → is_out_of_memory e ≡ false → is_depth_overflow e ≡ false → Runs {V = V} (refuse z) a a (Err e)
+runs_refuse z a says read memory shallow = runs_refused z says read memory shallow (kept_alike a) (λ xs told. (xs, told, refl))
 
 -- ---- the next byte
 
@@ -101,7 +101,7 @@ looked a b answer shown e h = subst (λ o. MatchOption o (Breaks a b) (λ s. Sho
 -- nothing was shown
 pub runs_end : {E : Type 0} {name : Bor (List ℕ)} {expect : ℕ} {shown : List ℕ} {a b : View} → Shows shown a b → Told a.told (IsFront 1 shown) → length shown ≡ 0
     → Runs {E = E} (peek_at name.now expect) a b (Err (Eof name (Small expect)))
-runs_end {name = name} {expect = expect} s front none = runs_refused (eof name.now (Small expect)) refl refl refl (shows_kept s) (λ xs told.
+runs_end {name = name} {expect = expect} s front none = runs_refused (eof name.now (Small expect)) refl refl refl refl (shows_kept s) (λ xs told.
     let e : xs ≡ [] = (front xs told).ends (omega arith) none in
     ([], s.told xs told ∙ ap Some e, ap (peek_at name.now expect) e))
 
@@ -114,7 +114,7 @@ first_is name expect (s ∷ ss) (x ∷ xs) front some = let h = front.begins in 
 pub runs_peek : {E : Type 0} (name : List ℕ) (expect : ℕ) {shown : List ℕ} {a b : View} → Shows shown a b → Told a.told (IsFront 1 shown) → length shown ≢ 0
     → Runs {E = E} (peek_at name expect) a b (Ok (get_or shown 0 0))
 runs_peek name expect {shown = shown} s front some = record {
-  moves = record { by = shows_kept s };
+  moves = record { by = shows_kept s; depth = λ e. refl };
   answers = λ xs told. (xs, s.told xs told, first_is name expect shown xs (front xs told) some);
   memory = tt;
 }
@@ -181,7 +181,7 @@ kept_taken {name = name} {expect = expect} {b = b} {a = a} {m = m} {c = c} p h a
 
 pub runs_byte : {E : Type 0} {name : List ℕ} {expect b : ℕ} {a m c : View} → Runs {E = E} (peek_at name expect) a m (Ok b) → b < 256 → Advances 1 m c → Runs {E = E} (byte_at name expect) a c (Ok b)
 runs_byte {name = name} {expect = expect} {b = b} {a = a} {m = m} {c = c} p h adv = record {
-  moves = record { by = kept_taken p h adv };
+  moves = record { by = kept_taken p h adv; depth = λ e. refl };
   answers = λ xs told.
       let t = taken name expect b a m c xs p adv told in
       (t.0, t.2, ap (byte_at name expect) t.1);

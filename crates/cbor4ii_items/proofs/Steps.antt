@@ -1,18 +1,13 @@
 -- How one call after another leaves the reader.
-use Rattle.std.proofs.Common.{◌≡◌, ℕ, zero, suc, ◌+◌, List, [], ◌∷◌, length, take, drop, Option, None, Some, Result, Err, Bool, true, false, refl, sym, ap, ◌∙◌, arith}
+use Rattle.std.proofs.Common.{◌≡◌, ℕ, zero, suc, ◌+◌, List, [], ◌∷◌, length, take, drop, Option, None, Some, Result, Ok, Err, Bool, true, false, refl, sym, ap, ◌∙◌, arith}
 use Rattle.std.specs.Prelude.{MatchBool}
-use Rattle.std.proofs.Math.Seq.{drop-nil}
 use Rattle.std.proofs.lemmas.List.{length-drop}
 use Rattle.cbor4ii_rw.specs.View.{View}
 use Rattle.cbor4ii_rw.specs.Reader.{counts}
 use Rattle.cbor4ii_rw.specs.declared.error.DecodeError.{DecodeError}
 use Rattle.cbor4ii_items.specs.Head.{IsBytes}
+use Rattle.cbor4ii_items.specs.Fronts.{drop_more}
 use Rattle.cbor4ii_items.specs.Moves.{Took, Ends, Counted, EndsOrForgets, Kept, Broke, Moves, is_failure}
-
-pub drop_more : (m n : ℕ) (xs : List ℕ) → drop m (drop n xs) ≡ drop (n + m) xs
-drop_more m zero xs = let e : 0 + m ≡ m = omega arith in rw e refl
-drop_more m (suc n) [] = drop-nil m ∙ sym (drop-nil (suc n + m))
-drop_more m (suc n) (x ∷ xs) = let e : suc n + m ≡ suc (n + m) = omega arith in rw e (drop_more m n xs)
 
 bytes_more : (n m : ℕ) (xs : List ℕ) → IsBytes (take n xs) → IsBytes (take m (drop n xs)) → IsBytes (take (n + m) xs)
 bytes_more zero m xs p q = let e : 0 + m ≡ m = omega arith in rw e q
@@ -86,8 +81,12 @@ by_failure false a b c p q = kept_then p q
 
 -- after a call that kept the reader, another one
 pub moves_then : {V E : Type 0} {r : Result V (DecodeError E)} {a b c : View} → Kept a b → Moves b c r → Moves a c r
-moves_then {r = r} {a = a} {b = b} {c = c} p q = record { by = by_failure (is_failure r) a b c p q.by }
+moves_then {r = r} {a = a} {b = b} {c = c} p q = record { by = by_failure (is_failure r) a b c p q.by; depth = λ none. q.depth (p.budget ∙ none) }
+
+-- a value of one call, as that of another
+pub moves_ok : {U V E : Type 0} {u : U} {v : V} {a b : View} → Moves {V = U} {E = E} a b (Ok u) → Moves {V = V} {E = E} a b (Ok v)
+moves_ok p = record { by = p.by; depth = λ e. refl }
 
 -- an error of one call, as that of another
 pub moves_err : {U V E : Type 0} {e : DecodeError E} {a b : View} → Moves {V = U} a b (Err e) → Moves {V = V} a b (Err e)
-moves_err p = record { by = p.by }
+moves_err p = record { by = p.by; depth = p.depth }

@@ -68,8 +68,8 @@ stops_by {program = program} {e = e} {a = a} {b = b} stops means p = record { at
 -- ---- strings
 
 pub listed_moves : {Z E : Type 0} {a b : View} (r : Result (Vec ℕ Z) (DecodeError E)) → Moves a b (listed r) → Moves a b r
-listed_moves (Ok v) p = record { by = p.by }
-listed_moves (Err e) p = record { by = p.by }
+listed_moves (Ok v) p = record { by = p.by; depth = p.depth }
+listed_moves (Err e) p = record { by = p.by; depth = p.depth }
 
 module _ {E : Type 0} (name : List ℕ) (major : ℕ) {a b : View} where
   pub content_sound : {items : List ℕ} → Follows {E = E} (string_at name major a.budget) a b (Ok items) → Sound (ReadsString major) a b items

@@ -6,7 +6,7 @@ use Rattle.cbor4ii_rw.specs.declared.error.DecodeError.{DecodeError}
 use Rattle.cbor4ii_items.specs.declared.strings.lent.Lacks.{Lacks}
 use Rattle.cbor4ii_items.specs.declared.strings.lent.Lacks.TheVariants.{Read, Short, Few, NotUtf8}
 use Rattle.cbor4ii_items.specs.Moves.{Kept, Broke}
-use Rattle.cbor4ii_items.specs.Refusal.{Refusal, refusal_of, is_read, is_out_of_memory, require_length, require_borrowed, require_utf8, len_of}
+use Rattle.cbor4ii_items.specs.Refusal.{Refusal, refusal_of, is_read, is_out_of_memory, is_depth_overflow, require_length, require_borrowed, require_utf8, len_of}
 use Rattle.cbor4ii_items.specs.Heads.{ReadsHead, StopsHead}
 use Rattle.cbor4ii_items.specs.Strings.{ReadsCounted}
 use denote.Ref.{Bor}
@@ -63,6 +63,7 @@ pub record Says {E : Type 0} (name : List ℕ) (lack : Lacks E) (error : DecodeE
   pub refusal : refusal_of error ≡ lack_refusal name lack
   pub read : is_read error ≡ lack_is_read lack
   pub memory : is_out_of_memory error ≡ false
+  pub depth : is_depth_overflow error ≡ false
 
 abbrev pub Named : {V E : Type 0} → List ℕ → Result V (Lacks E) → Result V (DecodeError E) → Type 0
 Named name (Ok v) (Ok w) = v ≡ w

@@ -18,6 +18,7 @@ pub mod ChunkLaws
 pub mod Contents
 pub mod StringLaws
 pub mod Lent
+pub mod Front
 pub mod LentLaws
 pub mod Cow
 pub mod Laws

@@ -1,10 +1,10 @@
 -- How a decoding call leaves the reader, whatever it answers and whether or not the bytes are told.
-use Rattle.std.specs.Prelude.{◌≡◌, ℕ, ◌+◌, ◌≤◌, Bool, false, List, length, take, drop, Some, Option, Result, Ok, Err, IsTrue, MatchBool}
+use Rattle.std.specs.Prelude.{◌≡◌, ℕ, ◌+◌, ◌≤◌, Bool, false, List, length, take, drop, None, Some, Option, Result, Ok, Err, IsTrue, MatchBool}
 use Rattle.cbor4ii_rw.specs.View.{View, Told}
 use Rattle.cbor4ii_rw.specs.Reader.{Failed, counts}
 use Rattle.cbor4ii_rw.specs.declared.error.DecodeError.{DecodeError}
 use Rattle.cbor4ii_items.specs.Head.{IsBytes}
-use Rattle.cbor4ii_items.specs.Refusal.{is_read}
+use Rattle.cbor4ii_items.specs.Refusal.{is_read, is_depth_overflow}
 
 -- the first n of the bytes xs were taken, and what is left is told
 pub record Took (xs : List ℕ) (new : Option (List ℕ)) (n : ℕ) : Type 0 where
@@ -47,6 +47,12 @@ abbrev pub is_failure : {V E : Type 0} → Result V (DecodeError E) → Bool
 is_failure (Ok v) = false
 is_failure (Err e) = is_read e
 
--- `Read` is answered exactly where the reader failed in the call
+-- the answer says that no step was left
+abbrev pub lacks_step : {V E : Type 0} → Result V (DecodeError E) → Bool
+lacks_step (Ok v) = false
+lacks_step (Err e) = is_depth_overflow e
+
+-- `Read` is answered exactly where the reader failed in the call, and a step is lacking only where there is a budget
 pub record Moves {V E : Type 0} (old new : View) (answer : Result V (DecodeError E)) : Type 0 where
   pub by : MatchBool (is_failure answer) (Broke old new) (Kept old new)
+  pub depth : old.budget ≡ None → lacks_step answer ≡ false

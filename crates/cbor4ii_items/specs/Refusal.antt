@@ -69,6 +69,22 @@ is_out_of_memory (DepthOverflow name) = false
 is_out_of_memory (Custom name num) = false
 is_out_of_memory OutOfMemory = true
 
+-- no step was left
+abbrev pub is_depth_overflow : {E : Type 0} → DecodeError E → Bool
+is_depth_overflow (Read e) = false
+is_depth_overflow (Mismatch name found) = false
+is_depth_overflow (Unsupported name found) = false
+is_depth_overflow (Eof name expect) = false
+is_depth_overflow (RequireLength name found) = false
+is_depth_overflow (RequireBorrowed name) = false
+is_depth_overflow (RequireUtf8 name) = false
+is_depth_overflow (LengthOverflow name found) = false
+is_depth_overflow (CastOverflow name) = false
+is_depth_overflow (ArithmeticOverflow name ty) = false
+is_depth_overflow (DepthOverflow name) = true
+is_depth_overflow (Custom name num) = false
+is_depth_overflow OutOfMemory = false
+
 -- a count in a refusal
 abbrev pub len_of : ℕ → Len
 len_of n = if nat_lt n 65536 then Small n else Big

@@ -75,10 +75,11 @@ pub trait Decode<S: Source>: Spelled {
     ///
     /// `Read` where the reader failed in the call, and only there; its bytes may then be told no
     /// more. `OutOfMemory` only from a type that may take memory, where a growth was refused.
-    /// Every other error speaks of the bytes. If the type needs no borrowed part, or the reader
-    /// lends whole and has fewer than 2^64 bytes left, it comes only where no spelling of the type
-    /// whose steps fit the budget begins the bytes; which error it is then, with which fields, and
-    /// which bytes are left, is what the type's `stops` says.
+    /// Every other error speaks of the bytes, and `DepthOverflow` comes only where the reader has a
+    /// budget. If the type needs no borrowed part, or the reader lends whole and has fewer than
+    /// 2^64 bytes left, they come only where no spelling of the type whose steps fit the budget
+    /// begins the bytes; which error it is then, with which fields, and which bytes are left, is
+    /// what the type's `stops` says.
     fn decode(alloc: Global, reader: &mut S) -> Result<Self, DecodeError<S::Error>>
         ensures moves { Moves (S.view reader.old) (S.view reader.new) result }
         ensures progress { IsTrue Self.never_empty →

@@ -1,4 +1,4 @@
-//! Heads, read one byte at a time.
+//! Heads, read.
 ghost use Rattle.std.specs.Prelude.{◌≡◌, ℕ, ◌+◌, ◌≤◌, ◌<◌, ◌^◌, OnOk, IfOk, IfErr};
 ghost use Rattle.cbor4ii_items.specs.Decoding.{Sound, Refuses, Stops};
 ghost use Rattle.cbor4ii_items.specs.Numbers.{ReadsArgument, StopsArgument};
@@ -12,6 +12,7 @@ ghost use Rattle.cbor4ii_items.specs.ReadHead.{
   allowed,
 };
 
+use crate::front::take_head;
 use cbor4ii_rw::ask::look;
 use cbor4ii_rw::error::{DecodeError, Len, StaticStr};
 use cbor4ii_rw::read::Source;
@@ -77,7 +78,7 @@ pub(crate) fn number<S: Source>(
     Ok(value)
 }
 
-fn following(info: u8) -> u8
+pub(crate) fn following(info: u8) -> u8
     ensures { result ≡ following info }
 {
     match info {
@@ -88,7 +89,7 @@ fn following(info: u8) -> u8
     }
 }
 
-fn allowed(width: u8, info: u8) -> bool
+pub(crate) fn allowed(width: u8, info: u8) -> bool
     ensures { result ≡ allowed width info }
 {
     info < 28 && following(info) <= width
@@ -125,6 +126,24 @@ pub(crate) fn head<S: Source>(
     ensures fits { 1 ≤ width → IfOk result (λ v. v < 256 ^ width) }
     ensures progress { OnOk result ((S.view reader.new).bound + 1 ≤ (S.view reader.old).bound) }
 {
+    match take_head(reader, major, width) {
+        Ok(Some(argument)) => Ok(argument),
+        Ok(None) => head_by_bytes(reader, name, major, width),
+        Err(error) => Err(DecodeError::Read(error)),
+    }
+}
+
+/// As `head`, one byte at a time: a head that does not stand whole in what is shown, or is refused.
+fn head_by_bytes<S: Source>(
+    reader: &mut S,
+    name: StaticStr,
+    major: u8,
+    width: u8,
+) -> Result<u64, DecodeError<S::Error>>
+    ensures runs { Runs (head_at name.now major width) (S.view reader.old) (S.view reader.new) result }
+    ensures fits { 1 ≤ width → IfOk result (λ v. v < 256 ^ width) }
+    ensures progress { OnOk result ((S.view reader.new).bound + 1 ≤ (S.view reader.old).bound) }
+{
     let first = take(reader, name, 1)?;
     if first / 32 != major {
         return Err(DecodeError::Mismatch { name, found: first });
@@ -152,6 +171,23 @@ pub(crate) fn lone_head<S: Source>(
 
 /// The length that a head of this major type has: none where it is open.
 pub(crate) fn length<S: Source>(
+    reader: &mut S,
+    name: StaticStr,
+    major: u8,
+) -> Result<Option<u64>, DecodeError<S::Error>>
+    requires { major < 8 }
+    ensures runs { Runs (length_at name.now major) (S.view reader.old) (S.view reader.new) result }
+    ensures progress { OnOk result ((S.view reader.new).bound + 1 ≤ (S.view reader.old).bound) }
+{
+    match take_head(reader, major, 8) {
+        Ok(Some(count)) => Ok(Some(count)),
+        Ok(None) => length_by_bytes(reader, name, major),
+        Err(error) => Err(DecodeError::Read(error)),
+    }
+}
+
+/// As `length`, one byte at a time.
+fn length_by_bytes<S: Source>(
     reader: &mut S,
     name: StaticStr,
     major: u8,

@@ -3,6 +3,7 @@
 
 pub mod decode;
 pub mod encode;
+mod front;
 mod head;
 pub mod indefinite;
 pub mod initial;

@@ -1,5 +1,5 @@
 -- Steps: what a budget bounds, so that hostile nesting ends (RFC 8949 section 10).
-use Rattle.std.specs.Prelude.{ℕ, zero, suc, ◌+◌, ◌≤◌, max, Option, Some, None}
+use Rattle.std.specs.Prelude.{ℕ, zero, suc, ◌+◌, max, Option, Some, None}
 use Rattle.cbor4ii_tree.specs.Tree.{Tree, int, string, chunked, array, array_open, map_of, map_open, tagged, simple, bits, Trees, no_trees, tree, Pairs, no_pairs, pair}
 
 -- how many steps are left; None: as many as it takes
@@ -11,10 +11,6 @@ abbrev pub step_in : Budget → Option Budget
 step_in None = Some None
 step_in (Some zero) = None
 step_in (Some (suc n)) = Some (Some n)
-
-abbrev pub CostFits : ℕ → Budget → Type 0
-CostFits c None = Unit {0}
-CostFits c (Some n) = c ≤ n
 
 -- one step, or two where a chunk is read
 abbrev pub chunks_cost : Trees → ℕ

@@ -3,7 +3,8 @@ use Rattle.std.specs.Prelude.{◌≡◌, ℕ, zero, suc, ◌*◌, List, [], ◌�
 use Rattle.cbor4ii_items.specs.Head.{Width, byte_count, break}
 use Rattle.cbor4ii_items.specs.Initial.{Kind, byte_string, text_string, kind_major, precision_bytes, Initial, starts_int, bad_int, starts_string, starts_chunks, bad_string, starts_array, starts_open_array, bad_array, starts_map, starts_open_map, bad_map, starts_tag, bad_tag, starts_simple, starts_bits, other_simple, initial}
 use Rattle.cbor4ii_tree.specs.Tree.{Tree, Trees, bytes_all, Plain, Loose, IsChunk, joined}
-use Rattle.cbor4ii_tree.specs.Cost.{Budget, step_in, CostFits, cost}
+use Rattle.cbor4ii_items.specs.Decoding.{CostFits}
+use Rattle.cbor4ii_tree.specs.Cost.{Budget, step_in, cost}
 use Rattle.cbor4ii_tree.specs.Refusal.{Refusal, eof, mismatch, unsupported, require_length, require_utf8, Indefinite, Small, sign_name, kind_name, precision_name, array_name, map_name, tag_name, break_name, value_name}
 use Rattle.cbor4ii_tree.specs.Stops.{Stopping, Is, Missing, MissingAll, BehindHead, AtHead, Stepped, Each, Counted, OpenItems, OpenPairs}
 

@@ -3,7 +3,8 @@ use Rattle.std.specs.Prelude.{ℕ, zero, suc, ◌*◌, List, [], ◌∷◌, leng
 use Rattle.cbor4ii_items.specs.Head.{byte_count}
 use Rattle.cbor4ii_items.specs.Initial.{kind_major, precision_bytes, Initial, starts_int, bad_int, starts_string, starts_chunks, bad_string, starts_array, starts_open_array, bad_array, starts_map, starts_open_map, bad_map, starts_tag, bad_tag, starts_simple, starts_bits, other_simple, initial}
 use Rattle.cbor4ii_tree.specs.Tree.{Tree, Loose}
-use Rattle.cbor4ii_tree.specs.Cost.{Budget, step_in, CostFits, skip_cost}
+use Rattle.cbor4ii_items.specs.Decoding.{CostFits}
+use Rattle.cbor4ii_tree.specs.Cost.{Budget, step_in, skip_cost}
 use Rattle.cbor4ii_tree.specs.Refusal.{Refusal, eof, mismatch, unsupported, Small, tag_name, ignored_any}
 use Rattle.cbor4ii_tree.specs.Stops.{Stopping, Is, Missing, AtHead, Stepped, Counted, OpenItems, OpenPairs}
 

@@ -5,7 +5,8 @@ ghost use Rattle.std.specs.Prelude.{◌≡◌, ◌++◌, ◌≤◌, ◌<◌, ◌
 ghost use Rattle.cbor4ii_items.specs.Head.{IsBytes};
 ghost use Rattle.cbor4ii_tree.specs.Tree.{Tree, bytes, Loose, Plain, Joins};
 ghost use Rattle.cbor4ii_tree.specs.Item.{Item, IsItem, size};
-ghost use Rattle.cbor4ii_tree.specs.Cost.{Budget, CostFits, skip_cost, cost};
+ghost use Rattle.cbor4ii_items.specs.Decoding.{CostFits};
+ghost use Rattle.cbor4ii_tree.specs.Cost.{Budget, skip_cost, cost};
 ghost use Rattle.cbor4ii_tree.specs.Canonical.{canon, canon_cost, with_bignums};
 ghost use Rattle.cbor4ii_tree.specs.Refusal.{Refusal, Len, eof, depth_overflow, IsFinal, MayStop};
 ghost use Rattle.cbor4ii_tree.specs.Spelling.{Spells, Reads, Skips, OneAnswer, IsProperFront};

@@ -2,7 +2,8 @@
 use Rattle.std.proofs.Common.{arith}
 use Rattle.cbor4ii_items.specs.Initial.{Kind}
 use Rattle.cbor4ii_tree.specs.Tree.{Trees, no_trees, tree, Pairs, no_pairs, pair, LooseAll, LoosePairs, SoundAll, SoundPairs, AreChunks}
-use Rattle.cbor4ii_tree.specs.Cost.{Budget, CostFits, cost, greatest_cost, greatest_pair_cost, skip_cost, greatest_skip_cost, greatest_pair_skip_cost}
+use Rattle.cbor4ii_items.specs.Decoding.{CostFits}
+use Rattle.cbor4ii_tree.specs.Cost.{Budget, cost, greatest_cost, greatest_pair_cost, skip_cost, greatest_skip_cost, greatest_pair_skip_cost}
 use Rattle.cbor4ii_tree.specs.Stops.{Each, EachPair}
 use Rattle.cbor4ii_tree.specs.StopsSkipping.{Skippable}
 use Rattle.cbor4ii_tree.specs.StopsReading.{Readable, ReadableChunk}

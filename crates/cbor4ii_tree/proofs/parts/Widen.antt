@@ -3,7 +3,8 @@
 use Rattle.std.proofs.Common.{◌≡◌, ℕ, zero, suc, ◌⊎◌, inl, inr, List, [], ◌∷◌, ◌++◌, Some, None, refl, sym, ap, ◌∙◌, arith, subst, append_assoc, append-nil}
 use Rattle.cbor4ii_items.specs.Head.{Width, byte_count, head}
 use Rattle.cbor4ii_tree.specs.Tree.{Tree, Trees, no_trees, tree, Pairs, no_pairs, pair, bytes, bytes_all, bytes_pairs}
-use Rattle.cbor4ii_tree.specs.Cost.{Budget, step_in, CostFits}
+use Rattle.cbor4ii_items.specs.Decoding.{CostFits}
+use Rattle.cbor4ii_tree.specs.Cost.{Budget, step_in}
 use Rattle.cbor4ii_tree.specs.Refusal.{Refusal, eof, Len, IsEof, IsDepthOverflow}
 use Rattle.cbor4ii_tree.specs.Stops.{Stopping, Is, Missing, MissingAll, BehindHead, AtHead, Stepped, Each, EachPair, Counted, NoBreak, OpenItems, BehindKey, OpenPairs}
 

@@ -4,7 +4,8 @@ use Rattle.std.specs.Int.{bytes_high_first}
 use Rattle.cbor4ii_items.specs.Head.{byte_count, break}
 use Rattle.cbor4ii_items.specs.Initial.{sign_major, Kind, precision_bytes, Initial, initial}
 use Rattle.cbor4ii_tree.specs.Tree.{Tree, int, string, chunked, array, array_open, map_of, map_open, tagged, simple, bits, Trees, no_trees, tree, count, pair_count, bytes, bytes_all, bytes_pairs, joined, Loose, Sound, AreChunks}
-use Rattle.cbor4ii_tree.specs.Cost.{Budget, CostFits, cost, chunks_cost, greatest_cost, greatest_pair_cost}
+use Rattle.cbor4ii_items.specs.Decoding.{CostFits}
+use Rattle.cbor4ii_tree.specs.Cost.{Budget, cost, chunks_cost, greatest_cost, greatest_pair_cost}
 use Rattle.cbor4ii_tree.specs.Refusal.{sign_name, precision_name, array_name, map_name, tag_name}
 use Rattle.cbor4ii_tree.specs.Stops.{Each}
 use Rattle.cbor4ii_tree.specs.StopsReading.{Readable, ReadableChunk}

@@ -4,7 +4,8 @@ use Rattle.cbor4ii_items.specs.Head.{IsBytes}
 use Rattle.cbor4ii_tree.specs.Tree.{Tree, bytes}
 use Rattle.cbor4ii_tree.specs.Item.{Item}
 use Rattle.cbor4ii_tree.specs.Meaning.{value}
-use Rattle.cbor4ii_tree.specs.Cost.{Budget, CostFits, cost}
+use Rattle.cbor4ii_items.specs.Decoding.{CostFits}
+use Rattle.cbor4ii_tree.specs.Cost.{Budget, cost}
 use Rattle.cbor4ii_tree.specs.Refusal.{Refusal}
 use Rattle.cbor4ii_tree.specs.Spelling.{Reads, OneAnswer}
 use Rattle.cbor4ii_tree.specs.StopsReading.{Readable, StopsReading}

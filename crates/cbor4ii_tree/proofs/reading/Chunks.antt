@@ -5,7 +5,8 @@ use Rattle.std.specs.Int.{bytes_high_first}
 use Rattle.cbor4ii_items.specs.Head.{Width, HeadFits, additional, byte_count, head, IsBytes}
 use Rattle.cbor4ii_items.specs.Initial.{Kind, byte_string, text_string, kind_major, Initial, starts_string, starts_chunks, initial}
 use Rattle.cbor4ii_tree.specs.Tree.{Tree, int, string, chunked, array, array_open, map_of, map_open, tagged, simple, bits, TextIsUtf8}
-use Rattle.cbor4ii_tree.specs.Cost.{Budget, step_in, CostFits}
+use Rattle.cbor4ii_items.specs.Decoding.{CostFits}
+use Rattle.cbor4ii_tree.specs.Cost.{Budget, step_in}
 use Rattle.cbor4ii_tree.specs.Refusal.{Refusal, kind_name}
 use Rattle.cbor4ii_tree.specs.Stops.{Missing}
 use Rattle.cbor4ii_tree.specs.StopsReading.{ReadableChunk, CutString, ChunkStopsBy, ChunkStops}

@@ -4,7 +4,8 @@ use Rattle.cbor4ii_items.specs.Head.{IsBytes}
 use Rattle.cbor4ii_tree.specs.Tree.{Tree, bytes, Loose, Joins}
 use Rattle.cbor4ii_tree.specs.Item.{Item, IsItem}
 use Rattle.cbor4ii_tree.specs.Meaning.{value}
-use Rattle.cbor4ii_tree.specs.Cost.{Budget, CostFits, skip_cost, cost}
+use Rattle.cbor4ii_items.specs.Decoding.{CostFits}
+use Rattle.cbor4ii_tree.specs.Cost.{Budget, skip_cost, cost}
 use Rattle.cbor4ii_tree.specs.Canonical.{canon, canon_cost, with_bignums}
 use Rattle.cbor4ii_tree.specs.Refusal.{Refusal, eof, mismatch, unsupported, require_length, require_utf8, depth_overflow, Len, IsEof, IsFinal}
 use Rattle.cbor4ii_tree.specs.Spelling.{Spells, Reads, Skips, IsProperFront}

@@ -5,7 +5,8 @@ use Rattle.std.specs.Str.{is_utf8}
 use Rattle.cbor4ii_items.specs.Head.{HeadFits, IsBytes}
 use Rattle.cbor4ii_items.specs.Initial.{sign_major, Kind, byte_string, text_string, precision_bytes, Initial, starts_int, bad_int, starts_string, starts_chunks, bad_string, starts_array, starts_open_array, bad_array, starts_map, starts_open_map, bad_map, starts_tag, bad_tag, starts_simple, starts_bits, other_simple, initial}
 use Rattle.cbor4ii_tree.specs.Tree.{Tree, int, string, chunked, array, array_open, map_of, map_open, tagged, simple, bits, Trees, no_trees, tree, count, pair_count, bytes, bytes_all, bytes_pairs, joined, TextIsUtf8}
-use Rattle.cbor4ii_tree.specs.Cost.{Budget, step_in, CostFits, chunks_cost}
+use Rattle.cbor4ii_items.specs.Decoding.{CostFits}
+use Rattle.cbor4ii_tree.specs.Cost.{Budget, step_in, chunks_cost}
 use Rattle.cbor4ii_tree.specs.Refusal.{sign_name, precision_name, array_name, map_name, tag_name, value_name}
 use Rattle.cbor4ii_tree.specs.Stops.{Each}
 use Rattle.cbor4ii_tree.specs.StopsReading.{Readable, ReadableChunk}

@@ -2,7 +2,8 @@
 use Rattle.std.proofs.Common.{◌≡◌, ℕ, inl, inr, List, [], ◌∷◌, ◌++◌, None, sym, ap, ◌∙◌, subst, append_assoc, append-nil}
 use Rattle.cbor4ii_items.specs.Head.{IsBytes}
 use Rattle.cbor4ii_tree.specs.Tree.{Tree, bytes, Loose}
-use Rattle.cbor4ii_tree.specs.Cost.{Budget, CostFits, skip_cost}
+use Rattle.cbor4ii_items.specs.Decoding.{CostFits}
+use Rattle.cbor4ii_tree.specs.Cost.{Budget, skip_cost}
 use Rattle.cbor4ii_tree.specs.Refusal.{Refusal, eof, mismatch, unsupported, require_length, require_utf8, depth_overflow, Len, IsEof, IsFinal}
 use Rattle.cbor4ii_tree.specs.Spelling.{Skips, IsProperFront}
 use Rattle.cbor4ii_tree.specs.StopsSkipping.{StopsSkipping}

@@ -1,11 +1,15 @@
-use Rattle.std.proofs.lemmas.Result.{err_from_is_err_and}
-use Rattle.cbor4ii_items.proofs.Heads.{runs_length, runs_length_err}
+use Rattle.std.proofs.Common.{[]}
+use Rattle.cbor4ii_items.proofs.WholeHeads.{found_some, found_none, runs_stayed, progress_stayed, runs_broke, runs_counted}
 use Rattle.cbor4ii_items.proofs.head.length.Goals as goal
 
-pub returns-in_err-argument-clause-runs : goal.returns-in_err-argument-clause-runs
-returns-in_err-argument-clause-runs g c =
-    let p = err_from_is_err_and c.from_residual-in_err-argument.result c.from_residual-in_err-argument.ensures.1 in
-    rw (p.1, p.2) (runs_length_err _ _ _ c.if-first-major.false c.if-first-major-2.false c.in_ok-first.ensures.runs c.in_err-argument.ensures.runs)
+pub returns-in-Ok-Some-clause-runs : goal.returns-in-Ok-Some-clause-runs
+returns-in-Ok-Some-clause-runs g c = runs_counted _ _ c.requires (found_some _ _ c.in-Ok-Some.field-0-is (c.in-Ok-Some.ensures.runs c.args.name.now))
 
-pub returns-clause-runs : goal.returns-clause-runs
-returns-clause-runs g c = runs_length _ _ _ _ c.if-first-major.false c.if-first-major-2.false c.in_ok-first.ensures.runs c.in_ok-argument.ensures.runs
+pub returns-in-Ok-None-clause-runs : goal.returns-in-Ok-None-clause-runs
+returns-in-Ok-None-clause-runs g c = runs_stayed (found_none _ _ _ c.in-Ok-None.field-0-is (c.in-Ok-None.ensures.runs [])) c.length_by_bytes.ensures.runs
+
+pub returns-in-Ok-None-clause-progress : goal.returns-in-Ok-None-clause-progress
+returns-in-Ok-None-clause-progress g c = progress_stayed _ _ (found_none _ _ _ c.in-Ok-None.field-0-is (c.in-Ok-None.ensures.runs [])) c.length_by_bytes.ensures.progress
+
+pub returns-in-Err-clause-runs : goal.returns-in-Err-clause-runs
+returns-in-Err-clause-runs g c = runs_broke (c.in-Err.ensures.runs [])

@@ -1,6 +1,7 @@
+use Rattle.std.proofs.Common.{refl}
 use Rattle.std.proofs.lemmas.Result.{err_from_is_err_and}
 use Rattle.cbor4ii_items.proofs.Running.{kept_taken}
-use Rattle.cbor4ii_items.proofs.Steps.{moves_then, moves_err, kept_then}
+use Rattle.cbor4ii_items.proofs.Steps.{moves_then, moves_ok, moves_err}
 use Rattle.cbor4ii_items.proofs.Containers.{exact_kept, saw, some_sound, some_refuses, some_stops, end_refuses, end_stops}
 use Rattle.cbor4ii_items.proofs.option.OptionDecode.decode.Goals as goal
 
@@ -24,10 +25,10 @@ pub returns-in-Err-clause-stops : goal.returns-in-Err-clause-stops
 returns-in-Err-clause-stops g c exact = some_stops _ _ _ _ _ _ (saw _ _ _ c.in_ok-first.ensures.runs) (λ xs told. c.in-Err.ensures.stops (exact_kept _ _ _ xs told c.in_ok-first.ensures.runs.moves.by exact))
 
 pub returns-then-first-clause-moves : goal.returns-then-first-clause-moves
-returns-then-first-clause-moves g c = record { by = kept_taken c.in_ok-first.ensures.runs c.in_ok-first.ensures.byte c.advance.ensures }
+returns-then-first-clause-moves g c = record { by = kept_taken c.in_ok-first.ensures.runs c.in_ok-first.ensures.byte c.advance.ensures; depth = λ e. refl }
 
 pub returns-in-Ok-clause-moves : goal.returns-in-Ok-clause-moves
-returns-in-Ok-clause-moves g c = record { by = kept_then c.in_ok-first.ensures.runs.moves.by c.in-Ok.ensures.moves.by }
+returns-in-Ok-clause-moves g c = moves_then c.in_ok-first.ensures.runs.moves.by (moves_ok c.in-Ok.ensures.moves)
 
 pub returns-in-Err-clause-moves : goal.returns-in-Err-clause-moves
 returns-in-Err-clause-moves g c = moves_then c.in_ok-first.ensures.runs.moves.by (moves_err c.in-Err.ensures.moves)

@@ -1,5 +1,5 @@
 use Rattle.std.proofs.lemmas.Result.{err_from_is_err_and}
-use Rattle.cbor4ii_items.proofs.Steps.{moves_then, moves_err, kept_then}
+use Rattle.cbor4ii_items.proofs.Steps.{moves_then, moves_ok, moves_err}
 use Rattle.cbor4ii_items.proofs.Containers.{exact_kept, tag_sound, tag_refuses, tag_no_head, tag_stops, tag_head_stops}
 use Rattle.cbor4ii_items.proofs.tag.TagDecode.decode.Goals as goal
 
@@ -14,7 +14,7 @@ returns-in_err-number-clause-stops g c exact =
     rw (p.1, p.2) (tag_head_stops _ _ _ _ c.in_err-number.ensures.stops)
 
 pub returns-in-Ok-clause-moves : goal.returns-in-Ok-clause-moves
-returns-in-Ok-clause-moves g c = record { by = kept_then c.in_ok-number.ensures.runs.moves.by c.in-Ok.ensures.moves.by }
+returns-in-Ok-clause-moves g c = moves_then c.in_ok-number.ensures.runs.moves.by (moves_ok c.in-Ok.ensures.moves)
 
 pub returns-in-Ok-clause-sound : goal.returns-in-Ok-clause-sound
 returns-in-Ok-clause-sound g c = tag_sound _ _ _ _ _ c.in_ok-number.ensures.runs.moves.by c.in_ok-number.ensures.sound c.in-Ok.ensures.sound

@@ -1,0 +1,85 @@
+//! Heads that stand whole in the front that a reader shows: one look, and one advance.
+ghost use Rattle.std.specs.Prelude.{◌+◌, ◌≤◌, ◌<◌, ◌^◌, ℕ, List, IfOk, IfSome, OnSome};
+ghost use Rattle.cbor4ii_items.specs.Front.{IsWhole, IsArgument, RunsOrStays};
+ghost use Rattle.cbor4ii_items.specs.ReadHead.{head_at};
+
+use crate::head::{allowed, following};
+use cbor4ii_rw::ask::look;
+use cbor4ii_rw::read::Source;
+
+/// A head has at most so many bytes.
+const LONGEST: usize = 9;
+
+/// Takes a head of this major type, with an argument of at most so many bytes, that stands whole
+/// in the front that is shown. Where there is none, none, and nothing is taken. An error is the
+/// reader's.
+pub(crate) fn take_head<S: Source>(
+    reader: &mut S,
+    major: u8,
+    width: u8,
+) -> Result<Option<u64>, S::Error>
+    ensures runs { (name : List ℕ) → RunsOrStays (head_at name major width)
+        (S.view reader.old) (S.view reader.new) result }
+    ensures fits { 1 ≤ width → IfOk result (λ found. IfSome found (λ v. v < 256 ^ width)) }
+    ensures progress { IfOk result (λ found.
+        OnSome found ((S.view reader.new).bound + 1 ≤ (S.view reader.old).bound)) }
+{
+    let mut failure = None;
+    let head = match look(reader, LONGEST, &mut failure) {
+        Some(shown) => whole_head(shown, major, width),
+        None => {
+            return match failure {
+                Some(error) => Err(error),
+                None => unreachable!(),
+            };
+        }
+    };
+    match head {
+        Some((argument, length)) => {
+            reader.advance(length);
+            Ok(Some(argument))
+        }
+        None => Ok(None),
+    }
+}
+
+/// The argument of the head of this major type that stands whole at the front of `shown`, and the
+/// head's length.
+fn whole_head(shown: &[u8], major: u8, width: u8) -> Option<(u64, usize)>
+    ensures { IfSome result (λ head. IsWhole major width shown.now head.0 head.1) }
+{
+    let [first, rest @ ..] = shown else {
+        return None;
+    };
+    if *first / 32 != major {
+        return None;
+    }
+    let info = *first % 32;
+    if info < 24 {
+        return Some((info as u64, 1));
+    }
+    if !allowed(width, info) {
+        return None;
+    }
+    match shown_argument(info, rest) {
+        Some(argument) => Some((argument, 1 + following(info) as usize)),
+        None => None,
+    }
+}
+
+/// The argument that follows a first byte with this additional information.
+fn shown_argument(info: u8, rest: &[u8]) -> Option<u64>
+    requires from { 24 ≤ info }
+    requires to { info < 28 }
+    ensures { IfSome result (λ argument. IsArgument info rest.now argument) }
+{
+    match (info, rest) {
+        (24, [a, ..]) => Some(*a as u64),
+        (25, [a, b, ..]) => Some(u16::from_be_bytes([*a, *b]) as u64),
+        (26, [a, b, c, d, ..]) => Some(u32::from_be_bytes([*a, *b, *c, *d]) as u64),
+        (27, [a, b, c, d, e, f, g, h, ..]) => {
+            Some(u64::from_be_bytes([*a, *b, *c, *d, *e, *f, *g, *h]))
+        }
+        _ => None,
+    }
+}
