@@ -25,7 +25,7 @@ use Rattle.cbor4ii_items.proofs.StringAnswers.{content_sound, content_refuses, c
 -- what is lent is what the program reads
 pub lends_follow : {E : Type 0} (name : List ℕ) {count : ℕ} {content : List ℕ} {a b : View} → Lends count content a b → Follows {E = E} (content_on name count []) a b (Ok content)
 lends_follow name {count = count} l = record {
-  moves = record { by = l.kept };
+  moves = record { by = l.kept; depth = λ e. refl };
   answers = λ xs told.
       let t = l.at xs told in
       (drop count xs, t.1, content_whole name count [] xs t.0 ∙ ap (λ (z : List ℕ). Ok (z, drop count xs)) (sym t.2));
