@@ -1,5 +1,5 @@
 use Rattle.std.proofs.lemmas.Result.{err_from_is_err_and}
-use Rattle.cbor4ii_items.proofs.Steps.{moves_then, moves_err, kept_then}
+use Rattle.cbor4ii_items.proofs.Steps.{moves_then, moves_ok, moves_err}
 use Rattle.cbor4ii_items.proofs.Containers.{exact_kept}
 use Rattle.cbor4ii_items.proofs.Pairs.{exact_both, pair_sound, key_refuses, value_refuses, key_stops_pair, value_stops_pair}
 use Rattle.cbor4ii_items.proofs.sequences.map.MapVecTuple2Sequence.take_part.Goals as goal
@@ -32,7 +32,7 @@ returns-in_err-value-clause-stops g c exact =
     (λ xs told. c.in_err-value.ensures.stops (exact_kept _ _ _ xs told c.in_ok-key.ensures.moves.by (exact_both _ _ (g.S.Source.view c.args.reader.now) exact).1)))
 
 pub returns-clause-moves : goal.returns-clause-moves
-returns-clause-moves g c = record { by = kept_then c.in_ok-key.ensures.moves.by c.in_ok-value.ensures.moves.by }
+returns-clause-moves g c = moves_then c.in_ok-key.ensures.moves.by (moves_ok c.in_ok-value.ensures.moves)
 
 pub returns-clause-sound : goal.returns-clause-sound
 returns-clause-sound g c = pair_sound _ _ c.in_ok-key.ensures.moves.by c.in_ok-key.ensures.sound c.in_ok-value.ensures.sound
