@@ -29,6 +29,7 @@ use cbor4ii_rw::error::DecodeError;
 use cbor4ii_rw::read::Source;
 use std::alloc::Global;
 
+/// An array, as its items.
 impl<T: Spelled> Spelled for Vec<T> {
     ghost reads = { ReadsArray T.reads T.never_empty };
 

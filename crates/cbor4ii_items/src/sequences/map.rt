@@ -32,6 +32,7 @@ use cbor4ii_rw::error::DecodeError;
 use cbor4ii_rw::read::Source;
 use std::alloc::Global;
 
+/// A map, as its pairs in their order.
 impl<K: Spelled, V: Spelled> Spelled for Map<Vec<(K, V)>> {
     ghost reads = { ReadsMap K.reads V.reads (K.never_empty || V.never_empty) };
 
