@@ -5,6 +5,8 @@
 #![tactic(auto)]
 
 #[cfg(test)]
+mod leaves;
+#[cfg(test)]
 mod memory;
 #[cfg(test)]
 mod numbers;
