@@ -32,3 +32,5 @@ pub mod ToldCow
 pub mod CowRows
 pub mod SequenceParts
 pub mod SequenceAnswers
+pub mod PartsBack
+pub mod Pairs

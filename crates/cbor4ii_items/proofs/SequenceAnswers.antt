@@ -5,6 +5,7 @@ use Rattle.std.specs.declared.vec.Vec.{Vec}
 use Rattle.cbor4ii_rw.specs.View.{View, Told}
 use Rattle.cbor4ii_rw.specs.Reader.{KeepsAllButBudget, StepsIn, step_back}
 use Rattle.cbor4ii_rw.specs.declared.error.DecodeError.{DecodeError}
+use Rattle.cbor4ii_items.specs.declared.types.Map.{Map}
 use Rattle.cbor4ii_items.specs.Head.{open_head}
 use Rattle.cbor4ii_items.specs.Heads.{ReadsHead}
 use Rattle.cbor4ii_items.specs.HeadLaws.{head_one, read_head}
@@ -215,10 +216,10 @@ module _ {P : Type 0} (major : ℕ) (reads : List ℕ → P → ℕ → ℕ → 
 -- ---- values that have parts
 
 module _ {V P : Type 0} (parts : V → List P) (reads : List ℕ → List P → ℕ → ℕ → Type 0) where
-  pub of_sound : {v : V} {a b : View} → Sound reads a b (parts v) → Sound (λ xs w n c. reads xs (parts w) n c) a b v
+  of_sound : {v : V} {a b : View} → Sound reads a b (parts v) → Sound (λ xs w n c. reads xs (parts w) n c) a b v
   of_sound s = record { at = λ xs told. let t = s.at xs told in record { count = t.count; cost = t.cost; read = t.read; fits = t.fits; left = t.left } }
 
-  pub of_refuses : {E : Type 0} {e : DecodeError E} {a : View} → Refuses reads a e → Refuses (λ xs (w : V) n c. reads xs (parts w) n c) a e
+  of_refuses : {E : Type 0} {e : DecodeError E} {a : View} → Refuses reads a e → Refuses (λ xs (w : V) n c. reads xs (parts w) n c) a e
   of_refuses {e = e} {a = a} s = record { at = λ xs told. if_some (refusal_of e) (λ none w n c read fits. none (parts w) n c read fits) (s.at xs told) }
 
 module _ {V E : Type 0} (r : Result (Vec V Global) (DecodeError E)) (a : View) (reads : List ℕ → List V → ℕ → ℕ → Type 0) where
@@ -227,3 +228,10 @@ module _ {V E : Type 0} (r : Result (Vec V Global) (DecodeError E)) (a : View) (
 
   pub vec_refuses : IfErr r (Refuses reads a) → IfErr r (Refuses (λ xs (v : Vec V Global) n c. reads xs v.items n c) a)
   vec_refuses s = if_err r (Refuses reads a) (Refuses (λ xs (v : Vec V Global) n c. reads xs v.items n c) a) (λ e t. of_refuses (λ (v : Vec V Global). v.items) reads t) s
+
+module _ {P : Type 0} (reads : List ℕ → List P → ℕ → ℕ → Type 0) where
+  pub map_sound : (v : Map (Vec P Global)) {a b : View} → Sound reads a b v.0.items → Sound (λ xs (w : Map (Vec P Global)) n c. reads xs w.0.items n c) a b v
+  map_sound v s = of_sound (λ (w : Map (Vec P Global)). w.0.items) reads s
+
+  pub map_refuses : {E : Type 0} {e : DecodeError E} {a : View} → Refuses reads a e → Refuses (λ xs (w : Map (Vec P Global)) n c. reads xs w.0.items n c) a e
+  map_refuses s = of_refuses (λ (w : Map (Vec P Global)). w.0.items) reads s

@@ -24,7 +24,7 @@ pub fits_less : (c d : ℕ) (budget : Option ℕ) → c ≤ d → CostFits d bud
 fits_less c d None le h = tt
 fits_less c d (Some n) le h = omega arith
 
-fits_max : (c d : ℕ) (budget : Option ℕ) → CostFits c budget → CostFits d budget → CostFits (max c d) budget
+pub fits_max : (c d : ℕ) (budget : Option ℕ) → CostFits c budget → CostFits d budget → CostFits (max c d) budget
 fits_max c d None p q = tt
 fits_max c d (Some n) p q = max-le p q
 

@@ -1,4 +1,4 @@
--- A method `decode(alloc, reader)` of an impl of `Decode` whose body is `told(alloc, reader)`, at a type T that names the impl's lifetime: what the callee ensures holds of it.
+-- As `Told`, with the callee `take_cow`, whose bound is `LendOrOwn`: the two differ in the names of what the check generates, and a file cannot take those as parameters.
 use mathlib.Core.Path.{◌≡◌}
 use Prim.Native.Nat.{ℕ}
 use mathlib.Core.List.{List, [], ◌∷◌, ◌++◌}

@@ -1,15 +1,17 @@
 -- Arrays and maps are read as their parts are.
-use Rattle.std.proofs.Common.{◌≡◌, ℕ, ◌<◌, ◌≤◌, ◌⊎◌, inl, inr, List, [], ◌∷◌, ◌++◌, length, drop, take, Bool, IsTrue, sym, ap, ◌∙◌, subst, arith, max}
+use Rattle.std.proofs.Common.{◌≡◌, ℕ, ◌<◌, ◌≤◌, ◌⊎◌, inl, inr, List, [], ◌∷◌, ◌++◌, length, drop, take, Bool, true, false, IsTrue, refl, sym, ap, ◌∙◌, subst, arith, max}
+use Rattle.std.specs.Prelude.{◌&&◌, ◌||◌}
 use Rattle.std.proofs.lemmas.List.{length-drop}
 use Rattle.std.specs.declared.alloc.Global.{Global}
 use Rattle.std.specs.declared.vec.Vec.{Vec}
+use Rattle.cbor4ii_items.specs.declared.types.Map.{Map}
 use Rattle.cbor4ii_items.specs.Head.{break}
 use Rattle.cbor4ii_items.specs.Heads.{ReadsHead}
 use Rattle.cbor4ii_items.specs.HeadLaws.{head_one, head_read, head_alone}
 use Rattle.cbor4ii_items.specs.StringLaws.{BeginsWith, head_not_open}
-use Rattle.cbor4ii_items.specs.ContainerLaws.{first_kept}
+use Rattle.cbor4ii_items.specs.ContainerLaws.{both, first_kept}
 use Rattle.cbor4ii_items.specs.Fronts.{drop_more, two_fronts, behind_front}
-use Rattle.cbor4ii_items.specs.Sequences.{ReadsParts, Unbroken, ReadsUpToBreak, ReadsCounted, ReadsOpen, ReadsInside, ReadsSequence, SameParts, ReadsArray, SameArray}
+use Rattle.cbor4ii_items.specs.Sequences.{ReadsParts, Unbroken, ReadsUpToBreak, ReadsCounted, ReadsOpen, ReadsInside, ReadsSequence, SameParts, ReadsArray, SameArray, ReadsPair, SamePair, ReadsMap, SameMap}
 
 pub not_less : (m n : ℕ) → (n < m → ⊥) → m ≤ n
 not_less m n h = omega arith
@@ -233,3 +235,79 @@ module _ {V : Type 0} (reads : List ℕ → V → ℕ → ℕ → Type 0) where
   pub array_alone : (never_empty closed : Bool) → ((xs : List ℕ) (v : V) (n c : ℕ) → reads xs v n c → n ≤ length xs) → (IsTrue never_empty → (xs : List ℕ) (v : V) (n c : ℕ) → reads xs v n c → 1 ≤ n)
       → (IsTrue closed → (xs ys : List ℕ) (v : V) (n c : ℕ) → reads xs v n c → reads (take n xs ++ ys) v n c) → IsTrue closed → (xs ys : List ℕ) (v : Vec V Global) (n c : ℕ) → ReadsArray reads never_empty xs v n c → ReadsArray reads never_empty (take n xs ++ ys) v n c
   array_alone never_empty closed within positive alone e xs ys v n c h = sequence_alone 4 four_small reads never_empty within (alone e) positive xs ys v.items n c h
+
+-- ---- maps
+
+five_small : 5 < 8
+five_small = omega arith
+
+either : (a b : Bool) → IsTrue (a || b) → IsTrue a ⊎ IsTrue b
+either true b e = inl refl
+either false b e = inr e
+
+module _ {K V : Type 0} (key_reads : List ℕ → K → ℕ → ℕ → Type 0) (value_reads : List ℕ → V → ℕ → ℕ → Type 0) where
+  pair_one : (same_key : K → K → Type 0) (same_value : V → V → Type 0) → ((xs : List ℕ) (v w : K) (n m c d : ℕ) → key_reads xs v n c → key_reads xs w m d → (n ≡ m) × (c ≡ d) × same_key v w)
+      → ((xs : List ℕ) (v w : V) (n m c d : ℕ) → value_reads xs v n c → value_reads xs w m d → (n ≡ m) × (c ≡ d) × same_value v w)
+      → (xs : List ℕ) (p q : K × V) (n m c d : ℕ) → ReadsPair key_reads value_reads xs p n c → ReadsPair key_reads value_reads xs q m d → (n ≡ m) × (c ≡ d) × SamePair same_key same_value p q
+  pair_one same_key same_value one_key one_value xs p q n m c d g h =
+      let k = one_key xs p.0 q.0 g.key_size h.key_size g.key_cost h.key_cost g.key h.key in
+      let v = one_value (drop g.key_size xs) p.1 q.1 g.value_size h.value_size g.value_cost h.value_cost g.value (subst (λ j. value_reads (drop j xs) q.1 h.value_size h.value_cost) (sym k.0) h.value) in
+      (omega (arith, g.size, h.size, k.0, v.0), same_max c d g.key_cost h.key_cost g.value_cost h.value_cost g.cost h.cost k.1 v.1, (k.2, v.2))
+
+  pub pair_size : (same_key : K → K → Type 0) (same_value : V → V → Type 0) → ((xs : List ℕ) (v w : K) (n m c d : ℕ) → key_reads xs v n c → key_reads xs w m d → (n ≡ m) × (c ≡ d) × same_key v w)
+      → ((xs : List ℕ) (v w : V) (n m c d : ℕ) → value_reads xs v n c → value_reads xs w m d → (n ≡ m) × (c ≡ d) × same_value v w)
+      → (xs : List ℕ) (p q : K × V) (n m c d : ℕ) → ReadsPair key_reads value_reads xs p n c → ReadsPair key_reads value_reads xs q m d → n ≡ m
+  pair_size same_key same_value one_key one_value xs p q n m c d g h = (pair_one same_key same_value one_key one_value xs p q n m c d g h).0
+
+  pub pair_within : ((xs : List ℕ) (v : K) (n c : ℕ) → key_reads xs v n c → n ≤ length xs) → ((xs : List ℕ) (v : V) (n c : ℕ) → value_reads xs v n c → n ≤ length xs)
+      → (xs : List ℕ) (p : K × V) (n c : ℕ) → ReadsPair key_reads value_reads xs p n c → n ≤ length xs
+  pair_within key_within value_within xs p n c h =
+      omega (arith, h.size, key_within xs p.0 h.key_size h.key_cost h.key, value_within (drop h.key_size xs) p.1 h.value_size h.value_cost h.value, length-drop h.key_size xs)
+
+  pub pair_positive : (key_some value_some : Bool) → (IsTrue key_some → (xs : List ℕ) (v : K) (n c : ℕ) → key_reads xs v n c → 1 ≤ n) → (IsTrue value_some → (xs : List ℕ) (v : V) (n c : ℕ) → value_reads xs v n c → 1 ≤ n)
+      → IsTrue (key_some || value_some) → (xs : List ℕ) (p : K × V) (n c : ℕ) → ReadsPair key_reads value_reads xs p n c → 1 ≤ n
+  pair_positive key_some value_some key_positive value_positive e xs p n c h = elim (either key_some value_some e) [
+    | inl t ↦ omega (arith, h.size, key_positive t xs p.0 h.key_size h.key_cost h.key)
+    | inr t ↦ omega (arith, h.size, value_positive t (drop h.key_size xs) p.1 h.value_size h.value_cost h.value)
+  ]
+
+  pair_alone : ((xs : List ℕ) (v : K) (n c : ℕ) → key_reads xs v n c → n ≤ length xs) → ((xs ys : List ℕ) (v : K) (n c : ℕ) → key_reads xs v n c → key_reads (take n xs ++ ys) v n c)
+      → ((xs ys : List ℕ) (v : V) (n c : ℕ) → value_reads xs v n c → value_reads (take n xs ++ ys) v n c)
+      → (xs ys : List ℕ) (p : K × V) (n c : ℕ) → ReadsPair key_reads value_reads xs p n c → ReadsPair key_reads value_reads (take n xs ++ ys) p n c
+  pair_alone key_within key_alone value_alone xs ys p n c h =
+      let behind = drop h.key_size xs in
+      let tail = take h.value_size behind ++ ys in
+      let whole : take n xs ++ ys ≡ take h.key_size xs ++ tail = two_fronts h.key_size h.value_size n xs ys h.size in
+      let left : drop h.key_size (take n xs ++ ys) ≡ tail = ap (drop h.key_size) whole ∙ behind_front h.key_size xs tail (key_within xs p.0 h.key_size h.key_cost h.key) in
+      record {
+        key_size = h.key_size;
+        key_cost = h.key_cost;
+        key = subst (λ zs. key_reads zs p.0 h.key_size h.key_cost) (sym whole) (key_alone xs tail p.0 h.key_size h.key_cost h.key);
+        value_size = h.value_size;
+        value_cost = h.value_cost;
+        value = subst (λ zs. value_reads zs p.1 h.value_size h.value_cost) (sym left) (value_alone behind ys p.1 h.value_size h.value_cost h.value);
+        size = h.size;
+        cost = h.cost;
+      }
+
+  pub map_one : (same_key : K → K → Type 0) (same_value : V → V → Type 0) (never_empty : Bool) → ((xs : List ℕ) (v w : K) (n m c d : ℕ) → key_reads xs v n c → key_reads xs w m d → (n ≡ m) × (c ≡ d) × same_key v w)
+      → ((xs : List ℕ) (v w : V) (n m c d : ℕ) → value_reads xs v n c → value_reads xs w m d → (n ≡ m) × (c ≡ d) × same_value v w)
+      → (xs : List ℕ) (v w : Map (Vec (K × V) Global)) (n m c d : ℕ) → ReadsMap key_reads value_reads never_empty xs v n c → ReadsMap key_reads value_reads never_empty xs w m d → (n ≡ m) × (c ≡ d) × SameMap same_key same_value v w
+  map_one same_key same_value never_empty one_key one_value xs v w n m c d g h =
+      sequence_one 5 five_small (ReadsPair key_reads value_reads) never_empty (SamePair same_key same_value) (pair_one same_key same_value one_key one_value) xs v.0.items w.0.items n m c d g h
+
+  pub map_within : (never_empty : Bool) → ((xs : List ℕ) (v : K) (n c : ℕ) → key_reads xs v n c → n ≤ length xs) → ((xs : List ℕ) (v : V) (n c : ℕ) → value_reads xs v n c → n ≤ length xs)
+      → (xs : List ℕ) (v : Map (Vec (K × V) Global)) (n c : ℕ) → ReadsMap key_reads value_reads never_empty xs v n c → n ≤ length xs
+  map_within never_empty key_within value_within xs v n c h = sequence_within 5 five_small (ReadsPair key_reads value_reads) never_empty (pair_within key_within value_within) xs v.0.items n c h
+
+  pub map_positive : (never_empty : Bool) (xs : List ℕ) (v : Map (Vec (K × V) Global)) (n c : ℕ) → ReadsMap key_reads value_reads never_empty xs v n c → 1 ≤ n
+  map_positive never_empty xs v n c h = sequence_positive 5 five_small (ReadsPair key_reads value_reads) never_empty xs v.0.items n c h
+
+  pub map_alone : (key_some value_some key_closed value_closed : Bool) → ((xs : List ℕ) (v : K) (n c : ℕ) → key_reads xs v n c → n ≤ length xs) → ((xs : List ℕ) (v : V) (n c : ℕ) → value_reads xs v n c → n ≤ length xs)
+      → (IsTrue key_some → (xs : List ℕ) (v : K) (n c : ℕ) → key_reads xs v n c → 1 ≤ n) → (IsTrue value_some → (xs : List ℕ) (v : V) (n c : ℕ) → value_reads xs v n c → 1 ≤ n)
+      → (IsTrue key_closed → (xs ys : List ℕ) (v : K) (n c : ℕ) → key_reads xs v n c → key_reads (take n xs ++ ys) v n c) → (IsTrue value_closed → (xs ys : List ℕ) (v : V) (n c : ℕ) → value_reads xs v n c → value_reads (take n xs ++ ys) v n c)
+      → IsTrue (key_closed && value_closed) → (xs ys : List ℕ) (v : Map (Vec (K × V) Global)) (n c : ℕ) → ReadsMap key_reads value_reads (key_some || value_some) xs v n c → ReadsMap key_reads value_reads (key_some || value_some) (take n xs ++ ys) v n c
+  map_alone key_some value_some key_closed value_closed key_within value_within key_positive value_positive key_alone value_alone e xs ys v n c h =
+      let closed = both key_closed value_closed e in
+      sequence_alone 5 five_small (ReadsPair key_reads value_reads) (key_some || value_some) (pair_within key_within value_within) (pair_alone key_within (key_alone closed.0) (value_alone closed.1))
+      (pair_positive key_some value_some key_positive value_positive) xs ys v.0.items n c h

@@ -8,6 +8,7 @@ use Rattle.cbor4ii_rw.specs.View.{View}
 use Rattle.cbor4ii_items.specs.Decoding.{CostFits, Sound}
 use Rattle.cbor4ii_items.specs.Head.{break, open_head}
 use Rattle.cbor4ii_items.specs.Heads.{ReadsHead, StopsHead}
+use Rattle.cbor4ii_items.specs.declared.types.Map.{Map}
 use Rattle.cbor4ii_items.specs.Refusal.{Refusal, eof, require_length, depth_overflow}
 
 -- ---- what is read
@@ -125,3 +126,41 @@ SameArray same v w = SameParts same v.items w.items
 
 abbrev pub StopsArray : {V : Type 0} → (List ℕ → V → ℕ → ℕ → Type 0) → (List ℕ → Option ℕ → Refusal → List ℕ → Type 0) → Bool → List ℕ → Option ℕ → Refusal → List ℕ → Type 0
 StopsArray reads stops never_empty = StopsSequence (codes "array") 4 reads stops never_empty
+
+-- ---- maps
+
+-- a key, and its value behind it, at the greater cost of the two
+pub record ReadsPair {K V : Type 0} (key_reads : List ℕ → K → ℕ → ℕ → Type 0) (value_reads : List ℕ → V → ℕ → ℕ → Type 0) (xs : List ℕ) (pair : K × V) (n c : ℕ) : Type 0 where
+  pub key_size : ℕ
+  pub key_cost : ℕ
+  pub key : key_reads xs pair.0 key_size key_cost
+  pub value_size : ℕ
+  pub value_cost : ℕ
+  pub value : value_reads (drop key_size xs) pair.1 value_size value_cost
+  pub size : n ≡ key_size + value_size
+  pub cost : c ≡ max key_cost value_cost
+
+-- a key is whole, and its value is refused
+pub record StopsBehindKey {K : Type 0} (key_reads : List ℕ → K → ℕ → ℕ → Type 0) (stops : List ℕ → Option ℕ → Refusal → List ℕ → Type 0) (xs : List ℕ) (budget : Option ℕ) (refusal : Refusal) (rest : List ℕ) : Type 0 where
+  pub whole : K
+  pub size : ℕ
+  pub cost : ℕ
+  pub key : key_reads xs whole size cost
+  pub fits : CostFits cost budget
+  pub stop : stops (drop size xs) budget refusal rest
+
+-- the key's refusal, or its value's
+abbrev pub StopsPair : {K : Type 0} → (List ℕ → K → ℕ → ℕ → Type 0) → (List ℕ → Option ℕ → Refusal → List ℕ → Type 0) → (List ℕ → Option ℕ → Refusal → List ℕ → Type 0) → List ℕ → Option ℕ → Refusal → List ℕ → Type 0
+StopsPair key_reads key_stops value_stops xs budget refusal rest = key_stops xs budget refusal rest ⊎ StopsBehindKey key_reads value_stops xs budget refusal rest
+
+abbrev pub SamePair : {K V : Type 0} → (K → K → Type 0) → (V → V → Type 0) → K × V → K × V → Type 0
+SamePair same_key same_value p q = same_key p.0 q.0 × same_value p.1 q.1
+
+abbrev pub ReadsMap : {K V : Type 0} → (List ℕ → K → ℕ → ℕ → Type 0) → (List ℕ → V → ℕ → ℕ → Type 0) → Bool → List ℕ → Map (Vec (K × V) Global) → ℕ → ℕ → Type 0
+ReadsMap key_reads value_reads never_empty xs v n c = ReadsSequence 5 (ReadsPair key_reads value_reads) never_empty xs v.0.items n c
+
+abbrev pub SameMap : {K V : Type 0} → (K → K → Type 0) → (V → V → Type 0) → Map (Vec (K × V) Global) → Map (Vec (K × V) Global) → Type 0
+SameMap same_key same_value v w = SameParts (SamePair same_key same_value) v.0.items w.0.items
+
+abbrev pub StopsMap : {K V : Type 0} → (List ℕ → K → ℕ → ℕ → Type 0) → (List ℕ → V → ℕ → ℕ → Type 0) → (List ℕ → Option ℕ → Refusal → List ℕ → Type 0) → (List ℕ → Option ℕ → Refusal → List ℕ → Type 0) → Bool → List ℕ → Option ℕ → Refusal → List ℕ → Type 0
+StopsMap key_reads value_reads key_stops value_stops never_empty = StopsSequence (codes "map") 5 (ReadsPair key_reads value_reads) (StopsPair key_reads key_stops value_stops) never_empty

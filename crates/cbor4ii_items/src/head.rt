@@ -226,7 +226,8 @@ fn length_by_bytes<S: Source>(
     Ok(Some(argument(reader, name, 8, first)?))
 }
 
-/// A length that is told alone: none where it is open.
+/// The length that an array or a map begins with, none where it is open: what is read, and how it
+/// is refused.
 pub(crate) fn lone_length<S: Source>(
     reader: &mut S,
     name: StaticStr,

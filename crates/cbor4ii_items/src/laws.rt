@@ -1,6 +1,8 @@
 //! Laws of what is read and written, each the contract of a function that does nothing.
-ghost use Rattle.std.specs.Prelude.{◌<◌, ◌≤◌, ◌^◌, ℕ, ℤ, IsTrue};
+ghost use Rattle.std.specs.Prelude.{◌<◌, ◌≤◌, ◌^◌, ◌++◌, ℕ, ℤ, Some, None, IsTrue};
 ghost use Rattle.cbor4ii_items.specs.Head.{Width, HeadFits, byte_count, shortest};
+ghost use Rattle.cbor4ii_items.specs.Lengths.{ReadsLength};
+ghost use Rattle.cbor4ii_items.specs.Maybe.{ReadsMaybe, maybe_bytes};
 ghost use Rattle.cbor4ii_items.specs.Numbers.{
   ReadsArgument,
   ReadsSigned,
@@ -12,9 +14,11 @@ ghost use Rattle.cbor4ii_items.specs.Numbers.{
   unsigned_bytes,
   signed_bytes,
 };
-ghost use Rattle.cbor4ii_items.specs.ReadBack.{ReadsBack, NoneBeginsAnother};
+ghost use Rattle.cbor4ii_items.specs.ReadBack.{ReadsBack, TagReadsBack, NoneBeginsAnother};
+ghost use Rattle.cbor4ii_items.specs.Strings.{opening};
 
-use crate::decode::Decode;
+use crate::decode::{Decode, Spelled};
+use crate::encode::Encode;
 use cbor4ii_rw::read::Source;
 
 /// The shortest width fits its argument wherever any does, and has no more bytes than any that
@@ -34,6 +38,24 @@ pub fn integers_are_read_back()
     ensures unsigned_of_sixteen { (v : ℕ) → v < 2 ^ 128 → ReadsBack ReadsU128 (unsigned_bytes v) v }
     ensures signed_of_sixteen { (v : ℤ) → IsWithin (2 ^ 127) v →
         ReadsBack ReadsI128 (signed_bytes v) v }
+{}
+
+/// The length of an array or a map is read from its own encoding, whatever follows it.
+pub fn lengths_are_read_back()
+    ensures counted { (major : ℕ) (len : ℕ) → len < 2 ^ 64 →
+        ReadsBack (ReadsLength major) (shortest_head major len) (Some len) }
+    ensures open { (major : ℕ) → ReadsBack (ReadsLength major) (opening major) None }
+{}
+
+/// A tagged item, and an optional item as an array, are read from their own encoding wherever the
+/// item is, whatever follows it, and without a step.
+pub fn parts_are_read_back<T: Spelled + Encode>()
+    ensures tagged { (number : ℕ) (item : T) → number < 2 ^ 64 →
+        ReadsBack T.reads (T.bytes item) item →
+        TagReadsBack T.reads (shortest_head 6 number ++ T.bytes item) number item }
+    ensures none { ReadsBack (ReadsMaybe T.reads) (maybe_bytes T.bytes None) None }
+    ensures some { (item : T) → ReadsBack T.reads (T.bytes item) item →
+        ReadsBack (ReadsMaybe T.reads) (maybe_bytes T.bytes (Some item)) (Some item) }
 {}
 
 /// No spelling of a type begins another, where what follows a spelling says nothing of it.

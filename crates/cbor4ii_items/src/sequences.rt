@@ -3,8 +3,7 @@
 mod array;
 mod encode;
 mod heads;
+mod map;
 mod parts;
-#[cfg(test)]
-mod reading_tests;
 #[cfg(test)]
 mod tests;

@@ -22,9 +22,9 @@ impl Tag<()> {
     /// Takes the head of a tag and answers its number. The item that it tags is to follow (RFC
     /// 8949 section 3.4).
     ///
-    /// Errors by the name "tag": `Eof` with 1 where no byte is left, and with k where the number
-    /// has k bytes and fewer are left, nothing being left then; `Mismatch` with the first byte,
-    /// which is taken, where it begins no tag. The budget stays.
+    /// `Read` where the reader failed. By the name "tag": `Eof` with 1 where no byte is left, and
+    /// with k where the number has k bytes and fewer are left, nothing being left then; `Mismatch`
+    /// with the first byte, which is taken, where it begins no tag. The budget stays.
     pub fn tag<S: Source>(reader: &mut S) -> Result<u64, DecodeError<S::Error>>
         ensures moves { Moves (S.view reader.old) (S.view reader.new) result }
         ensures memory { IfErr result (λ error. is_out_of_memory error ≡ false) }

@@ -1,7 +1,9 @@
 use crate::decode::{Decode, Spelled};
 use crate::encode::Encode;
 use crate::initial::{high, if_major, low};
-use crate::laws::{integers_are_read_back, no_spelling_begins_another};
+use crate::laws::{
+    integers_are_read_back, lengths_are_read_back, no_spelling_begins_another, parts_are_read_back,
+};
 use crate::types::{Negative, Tag};
 use cbor4ii_rw::buf_writer::BufWriter;
 use cbor4ii_rw::slice_reader::SliceReader;
@@ -119,5 +121,7 @@ fn types_say_what_they_need(rt: HostRuntime) {
 #[test]
 fn laws_are_called(rt: HostRuntime) {
     integers_are_read_back();
+    lengths_are_read_back();
+    parts_are_read_back::<u8>();
     no_spelling_begins_another::<SliceReader, Tag<u8>>();
 }

@@ -91,3 +91,6 @@ fn push_pair<W: Write, K: Encode, V: Encode>(
     push_item(writer, &pair.0)?;
     push_item(writer, &pair.1)
 }
+
+#[cfg(test)]
+mod tests;

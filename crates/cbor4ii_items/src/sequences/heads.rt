@@ -23,9 +23,9 @@ impl Array<()> {
     /// Takes the head of an array and answers how many items are to follow: none where the length
     /// is indefinite, and then items follow up to a break (RFC 8949 section 3.2.2).
     ///
-    /// Errors by the name "array": `Eof` with 1 where no byte is left, and with k where the length
-    /// has k bytes and fewer are left, nothing being left then; `Mismatch` with the first byte,
-    /// which is taken, where it begins no array. The budget stays.
+    /// `Read` where the reader failed. By the name "array": `Eof` with 1 where no byte is left,
+    /// and with k where the length has k bytes and fewer are left, nothing being left then;
+    /// `Mismatch` with the first byte, which is taken, where it begins no array. The budget stays.
     pub fn len<S: Source>(reader: &mut S) -> Result<Option<usize>, DecodeError<S::Error>>
         ensures moves { Moves (S.view reader.old) (S.view reader.new) result }
         ensures memory { IfErr result (λ error. is_out_of_memory error ≡ false) }
@@ -96,9 +96,9 @@ impl Map<()> {
     /// Takes the head of a map and answers how many pairs are to follow: none where the length is
     /// indefinite, and then pairs follow up to a break (RFC 8949 section 3.2.2).
     ///
-    /// Errors by the name "map": `Eof` with 1 where no byte is left, and with k where the length
-    /// has k bytes and fewer are left, nothing being left then; `Mismatch` with the first byte,
-    /// which is taken, where it begins no map. The budget stays.
+    /// `Read` where the reader failed. By the name "map": `Eof` with 1 where no byte is left, and
+    /// with k where the length has k bytes and fewer are left, nothing being left then; `Mismatch`
+    /// with the first byte, which is taken, where it begins no map. The budget stays.
     pub fn len<S: Source>(reader: &mut S) -> Result<Option<usize>, DecodeError<S::Error>>
         ensures moves { Moves (S.view reader.old) (S.view reader.new) result }
         ensures memory { IfErr result (λ error. is_out_of_memory error ≡ false) }
@@ -170,3 +170,6 @@ fn push_end<W: Write>(writer: &mut W) -> Result<(), EncodeError<W::Error>>
 {
     push_bytes(writer, &[marker::BREAK])
 }
+
+#[cfg(test)]
+mod tests;

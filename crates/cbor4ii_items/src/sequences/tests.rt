@@ -1,188 +1,265 @@
-use crate::decode::ArrayStart;
-use crate::encode::Encode;
-use crate::types::{Array, Map};
-use cbor4ii_rw::buf_writer::BufWriter;
-use cbor4ii_rw::error::{DecodeError, EncodeError, Len};
+use crate::decode::{Decode, Spelled};
+use crate::types::{Bytes, Map, Tag};
+use cbor4ii_rw::read::Source;
 use cbor4ii_rw::slice_reader::SliceReader;
-use cbor4ii_rw::write::Write;
-use std::alloc::{AllocError, Global};
+use std::alloc::Global;
+use std::fmt::Debug;
+use std::process::Abort;
 use std::test::Fail;
 
-/// Writes by the bounds alone.
-fn write<W: Write, T: Encode>(writer: &mut W, value: &T) -> Result<(), EncodeError<W::Error>> {
-    value.encode(writer)
-}
-
-#[test]
-fn lengths_are_read(rt: HostRuntime) -> Result<(), Fail> {
-    let mut reader = SliceReader::new(&[0x86, 1, 0x9f, 0xff]);
-    assert!(rt; matches!(Array::len(&mut reader), Ok(Some(6))));
-    assert_eq!(rt; reader.remaining(), [1, 0x9f, 0xff].as_slice());
-
-    let mut reader = SliceReader::new(&[0x9f, 0xff]);
-    assert!(rt; matches!(Array::len(&mut reader), Ok(None)));
-    assert_eq!(rt; reader.remaining(), [0xff].as_slice());
-
-    let mut reader = SliceReader::new(&[0x98, 0x19]);
-    assert!(rt; matches!(Array::len(&mut reader), Ok(Some(25))));
-
-    let mut reader = SliceReader::new(&[0xbf, 0xa2, 0xb9, 0x03, 0xe8]);
-    assert!(rt; matches!(Map::len(&mut reader), Ok(None)));
-    assert!(rt; matches!(Map::len(&mut reader), Ok(Some(2))));
-    assert!(rt; matches!(Map::len(&mut reader), Ok(Some(1000))));
-    assert!(rt; reader.remaining().is_empty());
-    assert!(rt; ArrayStart(Some(2)) != ArrayStart(None));
+/// Compares what a type reads off the front of `bytes` under so many steps, what it leaves, and
+/// whether the steps are as before.
+fn reads<'a, T: Decode<SliceReader<'a>> + Debug + Drop, A: Abort>(
+    rt: &A,
+    alloc: Global,
+    bytes: &'a [u8],
+    steps: usize,
+    want: &str,
+    rest: &[u8],
+) -> Result<(), Fail> {
+    let mut reader = SliceReader::with_limit(bytes, steps);
+    let answer = T::decode(alloc, &mut reader);
+    let shown = format!(in alloc; "{answer:?}")?;
+    assert_eq!(rt; shown.as_str(), want);
+    assert_eq!(rt; reader.remaining(), rest);
+    for i in 0..steps {
+        assert!(rt; reader.step_in());
+    }
+    assert!(rt; !reader.step_in());
     Ok(())
 }
 
 #[test]
-fn lengths_are_refused(rt: HostRuntime) -> Result<(), Fail> {
+fn arrays_are_read(rt: HostRuntime) -> Result<(), Fail> {
     let alloc = rt.alloc();
-    let rows: [(&[u8], &str, usize); 5] = [
-        (b"", "Eof { name: \"array\", expect: Small(1) }", 0),
-        (&[0x98], "Eof { name: \"array\", expect: Small(1) }", 0),
+    reads::<Vec<u8>, _>(&rt, alloc, b"\x80", 1, "Ok([])", b"")?;
+    reads::<Vec<u8>, _>(
+        &rt,
+        alloc,
+        b"\x83\x01\x02\x03\x04",
+        1,
+        "Ok([1, 2, 3])",
+        b"\x04",
+    )?;
+    reads::<Vec<u8>, _>(&rt, alloc, b"\x98\x02\x05\x06", 1, "Ok([5, 6])", b"")?;
+    reads::<Vec<u8>, _>(
+        &rt,
+        alloc,
+        b"\x9f\x01\x02\xff\xff",
+        1,
+        "Ok([1, 2])",
+        b"\xff",
+    )?;
+    reads::<Vec<u8>, _>(&rt, alloc, b"\x9f\xff", 1, "Ok([])", b"")?;
+    reads::<Vec<i64>, _>(
+        &rt,
+        alloc,
+        b"\x82\x20\x9f",
+        1,
+        "Err(Mismatch { name: \"i64\", found: 159 })",
+        b"\x9f",
+    )?;
+    reads::<Vec<Option<u8>>, _>(
+        &rt,
+        alloc,
+        b"\x9f\x01\xf6\x02\xff",
+        1,
+        "Ok([Some(1), None, Some(2)])",
+        b"",
+    )?;
+    reads::<Tag<Vec<u8>>, _>(&rt, alloc, b"\xc1\x81\x07", 1, "Ok(Tag(1, [7]))", b"")?;
+    Ok(())
+}
+
+#[test]
+fn arrays_nest_as_deep_as_steps_are_left(rt: HostRuntime) -> Result<(), Fail> {
+    let alloc = rt.alloc();
+    let too_deep = "Err(DepthOverflow { name: \"array\" })";
+    reads::<Vec<Vec<u8>>, _>(
+        &rt,
+        alloc,
+        b"\x82\x81\x01\x9f\x02\x03\xff",
+        2,
+        "Ok([[1], [2, 3]])",
+        b"",
+    )?;
+    reads::<Vec<Vec<u8>>, _>(&rt, alloc, b"\x80", 1, "Ok([])", b"")?;
+    reads::<Vec<Vec<u8>>, _>(&rt, alloc, b"\x80", 0, too_deep, b"\x80")?;
+    reads::<Vec<Vec<u8>>, _>(&rt, alloc, b"\x81\x80", 2, "Ok([[]])", b"")?;
+    reads::<Vec<Vec<u8>>, _>(&rt, alloc, b"\x81\x80", 1, too_deep, b"\x80")?;
+    reads::<Vec<Vec<u8>>, _>(&rt, alloc, b"\x9f\x80", 1, too_deep, b"\x80")?;
+    reads::<Vec<Vec<u8>>, _>(&rt, alloc, b"", 0, too_deep, b"")?;
+    Ok(())
+}
+
+#[test]
+fn arrays_are_refused(rt: HostRuntime) -> Result<(), Fail> {
+    let alloc = rt.alloc();
+    let rows: [(&[u8], &str, &[u8]); 12] = [
+        (b"", "Eof { name: \"array\", expect: Small(1) }", b""),
         (
-            &[0x9a, 1, 2],
-            "Eof { name: \"array\", expect: Small(4) }",
-            0,
+            b"\x01\x02",
+            "Mismatch { name: \"array\", found: 1 }",
+            b"\x02",
         ),
-        (&[0x9c, 7], "Mismatch { name: \"array\", found: 156 }", 1),
-        (&[0xa1, 7], "Mismatch { name: \"array\", found: 161 }", 1),
+        (
+            b"\xa0\x02",
+            "Mismatch { name: \"array\", found: 160 }",
+            b"\x02",
+        ),
+        (
+            b"\x9c\x02",
+            "Mismatch { name: \"array\", found: 156 }",
+            b"\x02",
+        ),
+        (
+            b"\xbf\xff",
+            "Mismatch { name: \"array\", found: 191 }",
+            b"\xff",
+        ),
+        (
+            b"\x9a\x00\x01",
+            "Eof { name: \"array\", expect: Small(4) }",
+            b"",
+        ),
+        (b"\x82\x01", "Eof { name: \"u8\", expect: Small(1) }", b""),
+        (b"\x82\x01\x61", "Mismatch { name: \"u8\", found: 97 }", b""),
+        (b"\x9f", "Eof { name: \"break\", expect: Small(1) }", b""),
+        (
+            b"\x9f\x01",
+            "Eof { name: \"break\", expect: Small(1) }",
+            b"",
+        ),
+        (
+            b"\x9f\x01\x61\xff",
+            "Mismatch { name: \"u8\", found: 97 }",
+            b"\xff",
+        ),
+        (
+            b"\x82\x01\xff\x02",
+            "Mismatch { name: \"u8\", found: 255 }",
+            b"\x02",
+        ),
     ];
-    for (bytes, text, left) in rows {
-        let mut reader = SliceReader::new(bytes);
-        let refused = Array::len(&mut reader).err();
-        assert!(rt; refused.is_some());
-        if let Some(error) = refused {
-            let shown = format!(in alloc; "{error:?}")?;
-            assert_eq!(rt; shown.as_str(), text);
-        }
-        assert_eq!(rt; reader.remaining().len(), left);
+    for (bytes, text, rest) in rows {
+        let want = format!(in alloc; "Err({text})")?;
+        reads::<Vec<u8>, _>(&rt, alloc, bytes, 9, want.as_str(), rest)?;
     }
-    let mut reader = SliceReader::new(&[0x9f]);
-    assert!(rt;
-        matches!(
-            Map::len(&mut reader),
-            Err(DecodeError::Mismatch {
-                name: "map",
-                found: 0x9f
-            })
-        )
-    );
-    assert!(rt;
-        matches!(
-            Map::len(&mut reader),
-            Err(DecodeError::Eof {
-                name: "map",
-                expect: Len::Small(1)
-            })
-        )
-    );
     Ok(())
 }
 
 #[test]
-fn heads_are_written(rt: HostRuntime) -> Result<(), Fail> {
+fn a_count_alone_takes_little_memory(rt: HostRuntime) -> Result<(), Fail> {
     let alloc = rt.alloc();
-    let rows: [(usize, &[u8], &[u8]); 4] = [
-        (0, &[0x80], &[0xa0]),
-        (23, &[0x97], &[0xb7]),
-        (24, &[0x98, 0x18], &[0xb8, 0x18]),
-        (1000, &[0x99, 0x03, 0xe8], &[0xb9, 0x03, 0xe8]),
+    let bytes = b"\x9b\xff\xff\xff\xff\xff\xff\xff\xff\x01";
+    let ended = "Err(Eof { name: \"u64\", expect: Small(1) })";
+    reads::<Vec<u64>, _>(&rt, alloc, bytes, 1, ended, b"")?;
+    Ok(())
+}
+
+#[test]
+fn arrays_lend_their_items(rt: HostRuntime) -> Result<(), Fail> {
+    let alloc = rt.alloc();
+    reads::<Vec<&str>, _>(
+        &rt,
+        alloc,
+        b"\x82\x61a\x62bc",
+        1,
+        "Ok([\"a\", \"bc\"])",
+        b"",
+    )?;
+    reads::<Vec<Bytes<&[u8]>>, _>(&rt, alloc, b"\x9f\x41\x07\xff", 1, "Ok([Bytes([7])])", b"")?;
+    Ok(())
+}
+
+#[test]
+fn maps_are_read(rt: HostRuntime) -> Result<(), Fail> {
+    let alloc = rt.alloc();
+    let pairs = "Ok(Map([(1, 2), (1, 3)]))";
+    reads::<Map<Vec<(u8, u8)>>, _>(&rt, alloc, b"\xa0\x01", 1, "Ok(Map([]))", b"\x01")?;
+    reads::<Map<Vec<(u8, u8)>>, _>(&rt, alloc, b"\xa2\x01\x02\x01\x03", 1, pairs, b"")?;
+    reads::<Map<Vec<(u8, u8)>>, _>(
+        &rt,
+        alloc,
+        b"\xb8\x02\x01\x02\x01\x03\x04",
+        1,
+        pairs,
+        b"\x04",
+    )?;
+    reads::<Map<Vec<(u8, u8)>>, _>(&rt, alloc, b"\xbf\x01\x02\xff", 1, "Ok(Map([(1, 2)]))", b"")?;
+    reads::<Map<Vec<(u8, u8)>>, _>(&rt, alloc, b"\xbf\xff", 1, "Ok(Map([]))", b"")?;
+    reads::<Map<Vec<(&str, Vec<u8>)>>, _>(
+        &rt,
+        alloc,
+        b"\xa1\x61a\x81\x01",
+        2,
+        "Ok(Map([(\"a\", [1])]))",
+        b"",
+    )?;
+    Ok(())
+}
+
+#[test]
+fn maps_are_refused(rt: HostRuntime) -> Result<(), Fail> {
+    let alloc = rt.alloc();
+    let rows: [(&[u8], usize, &str, &[u8]); 9] = [
+        (b"\xa0", 0, "DepthOverflow { name: \"map\" }", b"\xa0"),
+        (b"", 9, "Eof { name: \"map\", expect: Small(1) }", b""),
+        (
+            b"\x80\x01",
+            9,
+            "Mismatch { name: \"map\", found: 128 }",
+            b"\x01",
+        ),
+        (
+            b"\xb9\x01",
+            9,
+            "Eof { name: \"map\", expect: Small(2) }",
+            b"",
+        ),
+        (
+            b"\xa1\x01",
+            9,
+            "Eof { name: \"u8\", expect: Small(1) }",
+            b"",
+        ),
+        (
+            b"\xa1\x61\x02",
+            9,
+            "Mismatch { name: \"u8\", found: 97 }",
+            b"\x02",
+        ),
+        (
+            b"\xbf\x01\xff",
+            9,
+            "Mismatch { name: \"u8\", found: 255 }",
+            b"",
+        ),
+        (
+            b"\xbf\x01\x02",
+            9,
+            "Eof { name: \"break\", expect: Small(1) }",
+            b"",
+        ),
+        (
+            b"\xa1\xff\x02",
+            9,
+            "Mismatch { name: \"u8\", found: 255 }",
+            b"\x02",
+        ),
     ];
-    for (len, array, map) in rows {
-        let mut writer = BufWriter::new(Vec::new(alloc));
-        assert!(rt; Array::bounded(len, &mut writer).is_ok());
-        assert_eq!(rt; writer.buffer(), array);
-        writer.clear();
-        assert!(rt; Map::bounded(len, &mut writer).is_ok());
-        assert_eq!(rt; writer.buffer(), map);
+    for (bytes, steps, text, rest) in rows {
+        let want = format!(in alloc; "Err({text})")?;
+        reads::<Map<Vec<(u8, u8)>>, _>(&rt, alloc, bytes, steps, want.as_str(), rest)?;
     }
-    let mut writer = BufWriter::new(Vec::new(alloc));
-    assert!(rt; Array::unbounded(&mut writer).is_ok());
-    assert!(rt; Array::end(&mut writer).is_ok());
-    assert!(rt; Map::unbounded(&mut writer).is_ok());
-    assert!(rt; Map::end(&mut writer).is_ok());
-    assert_eq!(rt; writer.buffer(), [0x9f, 0xff, 0xbf, 0xff].as_slice());
     Ok(())
 }
 
 #[test]
-fn arrays_are_written(rt: HostRuntime) -> Result<(), Fail> {
-    let alloc = rt.alloc();
-    let slice: &[u8] = &[1, 2, 3];
-    let mut writer = BufWriter::new(Vec::new(alloc));
-    assert!(rt; write(&mut writer, &slice).is_ok());
-    assert_eq!(rt; writer.buffer(), [0x83, 1, 2, 3].as_slice());
-
-    let owned: Vec<u8> = vec![in alloc; 1, 2, 3]?;
-    writer.clear();
-    assert!(rt; write(&mut writer, &owned).is_ok());
-    assert_eq!(rt; writer.buffer(), [0x83, 1, 2, 3].as_slice());
-
-    let empty: &[u64] = &[];
-    writer.clear();
-    assert!(rt; write(&mut writer, &empty).is_ok());
-    assert_eq!(rt; writer.buffer(), [0x80].as_slice());
-
-    let nested: [&[u8]; 2] = [&[1], &[2, 3]];
-    writer.clear();
-    assert!(rt; write(&mut writer, &nested.as_slice()).is_ok());
-    assert_eq!(rt; writer.buffer(), [0x82, 0x81, 1, 0x82, 2, 3].as_slice());
-    Ok(())
-}
-
-/// The numbers from 1 to 25.
-fn to_25(alloc: Global) -> Result<Vec<u8>, AllocError> {
-    let mut numbers = Vec::new(alloc);
-    for i in 1..26 {
-        numbers.push(i)?;
-    }
-    Ok(numbers)
-}
-
-/// The items 1 to 25, as they are written.
-const ITEMS_TO_25: [u8; 27] = [
-    1, 2, 3, 4, 5, 6, 7, 8, 9, 10, 11, 12, 13, 14, 15, 16, 17, 18, 19, 20, 21, 22, 23, 0x18, 0x18,
-    0x18, 0x19,
-];
-
-#[test]
-fn arrays_of_25_are_written(rt: HostRuntime) -> Result<(), Fail> {
-    let alloc = rt.alloc();
-    let numbers = to_25(alloc)?;
-    let mut writer = BufWriter::new(Vec::new(alloc));
-    assert!(rt; write(&mut writer, &numbers).is_ok());
-    assert_eq!(rt; &writer.buffer()[..2], [0x98, 0x19].as_slice());
-    assert_eq!(rt; &writer.buffer()[2..], ITEMS_TO_25.as_slice());
-
-    let mut writer = BufWriter::new(Vec::new(alloc));
-    assert!(rt; Array::unbounded(&mut writer).is_ok());
-    for number in &numbers {
-        assert!(rt; write(&mut writer, number).is_ok());
-    }
-    assert!(rt; Array::end(&mut writer).is_ok());
-    assert_eq!(rt; writer.buffer().len(), 29);
-    assert_eq!(rt; writer.buffer()[0], 0x9f);
-    assert_eq!(rt; &writer.buffer()[1..28], ITEMS_TO_25.as_slice());
-    assert_eq!(rt; writer.buffer()[28], 0xff);
-    Ok(())
-}
-
-#[test]
-fn maps_are_written(rt: HostRuntime) -> Result<(), Fail> {
-    let alloc = rt.alloc();
-    let pairs: &[(u8, u8)] = &[(1, 2), (3, 4)];
-    let mut writer = BufWriter::new(Vec::new(alloc));
-    assert!(rt; write(&mut writer, &Map(pairs)).is_ok());
-    assert_eq!(rt; writer.buffer(), [0xa2, 1, 2, 3, 4].as_slice());
-
-    let texts: &[(&str, &str)] = &[("a", "A"), ("b", "B")];
-    writer.clear();
-    assert!(rt; write(&mut writer, &Map(texts)).is_ok());
-    assert_eq!(rt;
-        writer.buffer(),
-        [0xa2, 0x61, 0x61, 0x61, 0x41, 0x61, 0x62, 0x61, 0x42].as_slice()
-    );
+fn sequences_say_what_they_need(rt: HostRuntime) -> Result<(), Fail> {
+    assert!(rt; <Vec<u8>>::is_owned() && <Vec<u8>>::is_never_empty());
+    assert!(rt; !<Vec<&str>>::is_owned());
+    assert!(rt; <Map<Vec<(u8, u8)>>>::is_owned() && <Map<Vec<(u8, u8)>>>::is_never_empty());
+    assert!(rt; !<Map<Vec<(u8, &str)>>>::is_owned() && !<Map<Vec<(&str, u8)>>>::is_owned());
     Ok(())
 }

@@ -60,7 +60,8 @@ fn tagged_items_are_written(rt: HostRuntime) -> Result<(), Fail> {
     );
     writer.clear();
     assert!(rt; write(&mut writer, &Tag(32, "http://www.example.com")).is_ok());
-    assert_eq!(rt; &writer.buffer()[..3], [0xd8, 0x20, 0x76].as_slice());
-    assert_eq!(rt; &writer.buffer()[3..], b"http://www.example.com".as_slice());
+    let mut bytes = vec![in alloc; 0xd8, 0x20, 0x76]?;
+    bytes.extend_from_slice(b"http://www.example.com")?;
+    assert_eq!(rt; writer.buffer(), bytes.as_slice());
     Ok(())
 }

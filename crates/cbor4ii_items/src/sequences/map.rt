@@ -1,0 +1,101 @@
+//! Maps (RFC 8949 sections 3.1 and 3.2.2).
+//!
+//! A `Map` of pairs is read as an array is, each part being a key and its value. The pairs keep
+//! their order, and equal keys are kept. No break is looked for between a key and its value. A pair
+//! may read nothing where both of its types may.
+//!
+//! Refusals are those of arrays, by the name "map": where an item's would be, a key's, or behind a
+//! whole key its value's.
+ghost use Rattle.std.specs.Prelude.{◌≡◌, ◌&&◌, ◌||◌, true};
+ghost use Rattle.cbor4ii_items.specs.Sequences.{
+  ReadsPair,
+  StopsPair,
+  ReadsMap,
+  SameMap,
+  StopsMap,
+};
+ghost use Rattle.cbor4ii_items.specs.SequenceLaws.{
+  pair_size,
+  pair_within,
+  pair_positive,
+  map_one,
+  map_within,
+  map_positive,
+  map_alone,
+};
+
+use crate::decode::{Decode, Spelled};
+use crate::major;
+use crate::sequences::parts::{Sequence, take_sequence};
+use crate::types::Map;
+use cbor4ii_rw::error::DecodeError;
+use cbor4ii_rw::read::Source;
+use std::alloc::Global;
+
+/// A map, as its pairs in their order.
+impl<K: Spelled, V: Spelled> Spelled for Map<Vec<(K, V)>> {
+    ghost reads = { ReadsMap K.reads V.reads (K.never_empty || V.never_empty) };
+
+    ghost same = { SameMap K.same V.same };
+
+    ghost stops = { StopsMap K.reads V.reads K.stops V.stops (K.never_empty || V.never_empty) };
+
+    ghost never_empty = { true };
+
+    ghost owned = { K.owned && V.owned };
+
+    ghost takes_memory = { true };
+
+    ghost closed = { K.closed && V.closed };
+
+    fn is_never_empty() -> bool {
+        true
+    }
+
+    fn is_owned() -> bool {
+        K::is_owned() && V::is_owned()
+    }
+}
+
+impl<S: Source, K: Decode<S> + Drop, V: Decode<S> + Drop> Sequence<S> for Map<Vec<(K, V)>> {
+    type Part = (K, V);
+
+    ghost reads = { ReadsPair K.reads V.reads };
+
+    ghost stops = { StopsPair K.reads K.stops V.stops };
+
+    ghost never_empty = { K.never_empty || V.never_empty };
+
+    ghost owned = { K.owned && V.owned };
+
+    fn is_part_never_empty() -> bool {
+        K::is_never_empty() || V::is_never_empty()
+    }
+
+    fn take_part(alloc: Global, reader: &mut S) -> Result<(K, V), DecodeError<S::Error>> {
+        let key = K::decode(alloc, reader)?;
+        let value = V::decode(alloc, reader)?;
+        Ok((key, value))
+    }
+
+    ghost one = { pair_size K.reads V.reads K.same V.same K.one V.one };
+
+    ghost within = { pair_within K.reads V.reads K.within V.within };
+
+    ghost positive = { pair_positive K.reads V.reads K.never_empty V.never_empty K.positive V.positive };
+}
+
+impl<S: Source, K: Decode<S> + Drop, V: Decode<S> + Drop> Decode<S> for Map<Vec<(K, V)>> {
+    fn decode(alloc: Global, reader: &mut S) -> Result<Map<Vec<(K, V)>>, DecodeError<S::Error>> {
+        Ok(Map(take_sequence::<S, Map<Vec<(K, V)>>>(alloc, reader, "map", major::MAP)?))
+    }
+
+    ghost one = { map_one K.reads V.reads K.same V.same (K.never_empty || V.never_empty) K.one V.one };
+
+    ghost within = { map_within K.reads V.reads (K.never_empty || V.never_empty) K.within V.within };
+
+    ghost positive = { λ _. map_positive K.reads V.reads (K.never_empty || V.never_empty) };
+
+    ghost alone = { map_alone K.reads V.reads K.never_empty V.never_empty K.closed V.closed
+        K.within V.within K.positive V.positive K.alone V.alone };
+}
