@@ -1,9 +1,9 @@
 //! Rows of strings that are borrowed from the input where a reader lends them, and owned otherwise.
-use crate::readers::{FailsInTime, Failure, LongByByte, ShortByByte, Unlimited};
+use crate::readers::{FailsInTime, LongByByte, ShortByByte, Unlimited};
 use crate::rows::{leaves, steps};
 use cbor4ii_items::decode::Decode;
 use cbor4ii_items::types::{Bytes, UncheckedStr};
-use cbor4ii_rw::error::DecodeError;
+use cbor4ii_rw::error::{DecodeError, Never};
 use cbor4ii_rw::io_reader::IoReader;
 use cbor4ii_rw::read::Read;
 use cbor4ii_rw::slice_reader::SliceReader;
@@ -27,18 +27,26 @@ enum Lent {
     ByByte,
 }
 
+// None where it is refused.
 fn decode<'de, R: Read<'de>>(
     kind: Kind,
     alloc: Global,
     reader: &mut R,
-) -> Result<CowSlice<'de, u8, Global>, DecodeError<R::Error>> {
+) -> Option<CowSlice<'de, u8, Global>> {
     match kind {
-        Kind::Bytes => Ok(Bytes::<CowSlice<'de, u8, Global>>::decode(alloc, reader)?.0),
-        Kind::Text => match CowStr::<'de, Global>::decode(alloc, reader)? {
-            CowStr::Borrowed(text) => Ok(CowSlice::Borrowed(text.as_bytes())),
-            CowStr::Owned(text) => Ok(CowSlice::Owned(text.into_bytes())),
+        Kind::Bytes => match Bytes::<CowSlice<'de, u8, Global>>::decode(alloc, reader) {
+            Ok(found) => Some(found.0),
+            Err(_) => None,
         },
-        Kind::Unchecked => Ok(UncheckedStr::<CowSlice<'de, u8, Global>>::decode(alloc, reader)?.0),
+        Kind::Text => match CowStr::<'de, Global>::decode(alloc, reader) {
+            Ok(CowStr::Borrowed(text)) => Some(CowSlice::Borrowed(text.as_bytes())),
+            Ok(CowStr::Owned(text)) => Some(CowSlice::Owned(text.into_bytes())),
+            Err(_) => None,
+        },
+        Kind::Unchecked => match UncheckedStr::<CowSlice<'de, u8, Global>>::decode(alloc, reader) {
+            Ok(found) => Some(found.0),
+            Err(_) => None,
+        },
     }
 }
 
@@ -52,15 +60,16 @@ fn decodes<'de, R: Read<'de>>(
     is_borrowed: bool,
 ) -> Result<(), Fail> {
     let budget = steps(reader);
-    match decode(kind, alloc, reader)? {
-        CowSlice::Borrowed(found) => {
+    match decode(kind, alloc, reader) {
+        Some(CowSlice::Borrowed(found)) => {
             assert!(rt; is_borrowed, "of {bytes:?}");
             assert_eq!(rt; found, content, "of {bytes:?}");
         }
-        CowSlice::Owned(found) => {
+        Some(CowSlice::Owned(found)) => {
             assert!(rt; !is_borrowed, "of {bytes:?}");
             assert_eq!(rt; found.as_slice(), content, "of {bytes:?}");
         }
+        None => return Err(Fail::from(DecodeError::<Never>::OutOfMemory)),
     }
     assert_eq!(rt; steps(reader), budget);
     leaves(rt, reader, bytes, b"");
@@ -74,11 +83,10 @@ fn fails_at_each_show(rt: &impl Abort, alloc: Global, kind: Kind, bytes: &[u8]) 
         let got = decode(kind, alloc, &mut failing);
         assert!(rt; bytes.ends_with(failing.remaining()));
         assert_eq!(rt; failing.steps(), 1);
-        if failing.failures() == 0 {
-            assert!(rt; !matches!(got, Err(DecodeError::Read(_))));
+        assert_eq!(rt; got.is_none(), failing.failures() > 0);
+        if got.is_some() {
             return;
         }
-        assert!(rt; matches!(got, Err(DecodeError::Read(Failure))));
     }
     assert!(rt; false, "a row takes too many shows");
 }
