@@ -6,6 +6,7 @@ use Rattle.cbor4ii_vectors.specs.declared.readers.ShortByByte.{ShortByByte}
 use Rattle.cbor4ii_vectors.specs.declared.readers.LongByByte.{LongByByte}
 use Rattle.cbor4ii_vectors.specs.declared.readers.Unlimited.{Unlimited}
 use Rattle.cbor4ii_vectors.specs.declared.readers.FailsInTime.{FailsInTime}
+use Rattle.cbor4ii_vectors.specs.declared.readers.Counting.{Counting}
 use Rattle.cbor4ii_vectors.specs.declared.writers.FailsInTurn.{FailsInTurn}
 
 -- a reader of these bytes, which tells all of them
@@ -24,6 +25,9 @@ unlimited_view reader = telling reader.bytes.now None true
 -- it counts its failures
 abbrev pub failing_view : FailsInTime → View
 failing_view reader = record { told = Some reader.bytes.now; bound = length reader.bytes.now; advanceable = length reader.bytes.now; budget = Some reader.steps; failures = reader.failures; taken = None; lends_whole = false }
+
+abbrev pub counting_view : Counting → View
+counting_view reader = telling reader.bytes.now None false
 
 abbrev pub failing_output : FailsInTurn → Output
 failing_output writer = record { written = Some writer.bytes.items; failures = writer.failures }

@@ -5,12 +5,26 @@
 #![tactic(auto)]
 
 #[cfg(test)]
+mod cow;
+#[cfg(test)]
+mod heads;
+#[cfg(test)]
+mod leaves;
+#[cfg(test)]
+mod maps;
+#[cfg(test)]
 mod memory;
 #[cfg(test)]
 mod numbers;
 pub mod readers;
 #[cfg(test)]
+mod record;
+#[cfg(test)]
 mod rows;
 #[cfg(test)]
+mod sequences;
+#[cfg(test)]
 mod strings;
+#[cfg(test)]
+mod vectors;
 pub mod writers;

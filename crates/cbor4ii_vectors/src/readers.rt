@@ -2,7 +2,7 @@
 ghost use Rattle.std.specs.Prelude.{◌≡◌, None, Some};
 ghost use Rattle.std.proofs.Common.{rules};
 ghost use Rattle.cbor4ii_rw.specs.Reader.{StepsIn};
-ghost use Rattle.cbor4ii_vectors.specs.Tells.{short_view, long_view, unlimited_view, failing_view};
+ghost use Rattle.cbor4ii_vectors.specs.Tells.{short_view, long_view, unlimited_view, failing_view, counting_view};
 
 use cbor4ii_rw::error::Never;
 use cbor4ii_rw::read::{Read, Reference, Source};
@@ -268,4 +268,48 @@ impl<'de> Read<'de> for FailsInTime<'de> {
             Err(error) => Err(error),
         }
     }
+}
+
+/// Shows at most what is wanted, and counts its shows.
+#[derive(Drop)]
+pub struct Counting<'a> {
+    bytes: &'a [u8],
+    shows: usize,
+}
+
+impl<'a> Counting<'a> {
+    /// A reader over `bytes`, which lets items nest without a limit.
+    pub fn new(bytes: &'a [u8]) -> Counting<'a>
+        ensures told { (counting_view result).told ≡ Some bytes.now }
+    {
+        Counting { bytes, shows: 0 }
+    }
+
+    /// How often it was asked to show bytes.
+    pub fn shows(&self) -> usize {
+        self.shows
+    }
+}
+
+impl Source for Counting<'_> {
+    type Error = Never;
+
+    ghost view = { counting_view };
+
+    fn show(&mut self, want: usize) -> Result<&[u8], Never> {
+        self.shows = self.shows.saturating_add(1);
+        Ok(&self.bytes[..self.bytes.len().min(want)])
+    }
+
+    fn advance(&mut self, n: usize) {
+        self.bytes = &self.bytes[n..];
+    }
+
+    fn step_in(&mut self) -> bool {
+        true
+    }
+
+    fn step_out(&mut self) {}
+
+    ghost told_within_bound = { λ reader xs is. Prim.search rules };
 }

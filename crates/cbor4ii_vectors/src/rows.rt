@@ -251,3 +251,43 @@ pub fn writes<T: Encode>(
     assert!(rt; false, "a row takes too many pushes");
     Ok(MOST_CALLS)
 }
+
+/// Writes the value as `writes` does, in so many pushes.
+pub fn writes_in<T: Encode>(
+    rt: &impl Abort,
+    alloc: Global,
+    value: &T,
+    bytes: &[u8],
+    pushes: usize,
+) -> Result<(), Fail> {
+    assert_eq!(rt;
+        writes(rt, alloc, value, bytes)?,
+        pushes,
+        "the pushes of {bytes:?}"
+    );
+    Ok(())
+}
+
+/// Writes the value in so many pushes, and reads it back from its bytes.
+pub fn goes_both_ways<T>(
+    rt: &impl Abort,
+    alloc: Global,
+    value: T,
+    bytes: &'static [u8],
+    pushes: usize,
+) -> Result<(), Fail>
+where
+    T: Encode
+        + Decode<SliceReader<'static>>
+        + Decode<ShortByByte<'static>>
+        + Decode<LongByByte<'static>>
+        + Decode<IoReader<&'static [u8]>>
+        + Decode<Unlimited<'static>>
+        + Decode<FailsInTime<'static>>
+        + PartialEq
+        + Debug
+        + Drop,
+{
+    writes_in(rt, alloc, &value, bytes, pushes)?;
+    reads(rt, alloc, bytes, Ok(value), b"")
+}
