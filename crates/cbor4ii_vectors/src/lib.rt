@@ -5,6 +5,8 @@
 #![tactic(auto)]
 
 #[cfg(test)]
+mod heads;
+#[cfg(test)]
 mod leaves;
 #[cfg(test)]
 mod memory;
@@ -14,5 +16,9 @@ pub mod readers;
 #[cfg(test)]
 mod rows;
 #[cfg(test)]
+mod sequences;
+#[cfg(test)]
 mod strings;
+#[cfg(test)]
+mod vectors;
 pub mod writers;

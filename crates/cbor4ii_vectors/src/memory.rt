@@ -6,11 +6,12 @@
 use crate::readers::ShortByByte;
 use crate::rows::steps;
 use cbor4ii_items::decode::Decode;
-use cbor4ii_items::types::{Bytes, UncheckedStr};
+use cbor4ii_items::types::{Bytes, Nothing, UncheckedStr};
 use cbor4ii_rw::error::DecodeError;
 use cbor4ii_rw::read::Source;
 use cbor4ii_rw::slice_reader::SliceReader;
 use std::alloc::Global;
+use std::borrow::CowStr;
 use std::process::Abort;
 
 // The value, or none where memory was refused.
@@ -85,4 +86,75 @@ fn long_texts(rt: HostRuntime) {
     let text: Option<String> = decoded(&rt, alloc, &mut slice);
     let content = text.as_ref().map(|text| text.as_bytes());
     is_read(&rt, content, &want, &bytes, slice.remaining());
+}
+
+// An open text of 1024 chunks of 16 bytes, which might be borrowed if it were counted.
+#[test]
+fn texts_that_might_be_borrowed(rt: HostRuntime) {
+    let alloc = rt.alloc();
+    let want = [0x70; 16384];
+    let mut bytes = [0x70; 17410];
+    bytes[0] = 0x7f;
+    bytes[17409] = 0xff;
+    let mut slice = SliceReader::new(&bytes);
+    let text: Option<CowStr<'_, Global>> = decoded(&rt, alloc, &mut slice);
+    let content = text.as_ref().map(|text| text.as_bytes());
+    is_read(&rt, content, &want, &bytes, slice.remaining());
+}
+
+// 300 items, more than are reserved before any came: 0x99 0x01 0x2c is the head of such an array.
+#[test]
+fn arrays(rt: HostRuntime) {
+    let alloc = rt.alloc();
+    let want = [0x05; 300];
+    let mut bytes = [0x05; 303];
+    bytes[..3].copy_from_slice(b"\x99\x01\x2c");
+    let mut slice = SliceReader::new(&bytes);
+    let numbers: Option<Vec<u8>> = decoded(&rt, alloc, &mut slice);
+    is_read(&rt, numbers.as_deref(), &want, &bytes, slice.remaining());
+    let mut short = ShortByByte::new(&bytes, 1);
+    let numbers: Option<Vec<u8>> = decoded(&rt, alloc, &mut short);
+    is_read(&rt, numbers.as_deref(), &want, &bytes, short.remaining());
+}
+
+// An open array of 20 texts of one letter: 0x61 is the head of such a text, and the letter a.
+#[test]
+fn arrays_of_texts(rt: HostRuntime) {
+    let alloc = rt.alloc();
+    let mut bytes = [0x61; 42];
+    bytes[0] = 0x9f;
+    bytes[41] = 0xff;
+    let mut short = ShortByByte::new(&bytes, 256);
+    let texts: Option<Vec<String>> = decoded(&rt, alloc, &mut short);
+    match &texts {
+        Some(texts) => {
+            assert_eq!(rt; texts.len(), 20);
+            assert!(rt; texts.iter().all(|text| text.as_str() == "a"));
+            assert!(rt; short.remaining().is_empty());
+        }
+        None => assert!(rt; bytes.ends_with(short.remaining())),
+    }
+}
+
+#[test]
+fn boxes(rt: HostRuntime) {
+    let alloc = rt.alloc();
+    let mut slice = SliceReader::new(b"\x05");
+    let number: Option<Box<u8>> = decoded(&rt, alloc, &mut slice);
+    if let Some(number) = &number {
+        assert_eq!(rt; *number.as_ref(), 5);
+    }
+    assert!(rt; slice.remaining().is_empty());
+}
+
+#[test]
+fn arrays_of_nothing(rt: HostRuntime) {
+    let alloc = rt.alloc();
+    let bytes = b"\x99\x01\x2c";
+    let mut slice = SliceReader::new(bytes);
+    let none: Option<Vec<Nothing>> = decoded(&rt, alloc, &mut slice);
+    if let Some(none) = &none {
+        assert_eq!(rt; none.len(), 300);
+    }
+    assert!(rt; slice.remaining().is_empty());
 }
