@@ -5,6 +5,8 @@
 #![tactic(auto)]
 
 #[cfg(test)]
+mod cow;
+#[cfg(test)]
 mod heads;
 #[cfg(test)]
 mod leaves;
