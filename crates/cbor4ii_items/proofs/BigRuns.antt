@@ -1,5 +1,5 @@
 -- Integers of sixteen bytes, one part after another.
-use Rattle.std.proofs.Common.{◌≡◌, ◌≢◌, ℕ, ◌/◌, ◌^◌, ◌<◌, ◌≤◌, List, Some, Result, Ok, false, refl, ap, ◌∙◌, arith, eqb, ne_eqb, ltb, le-ltb}
+use Rattle.std.proofs.Common.{◌≡◌, ◌≢◌, ℕ, ◌/◌, ◌^◌, ◌<◌, ◌≤◌, List, [], ◌∷◌, Some, Result, Ok, false, refl, ap, ◌∙◌, arith, eqb, ne_eqb, ltb, le-ltb}
 use Rattle.std.specs.Prelude.{codes, ℤ, pos, negsuc}
 use Rattle.std.proofs.lemmas.Int.{to_z-of_z}
 use mir.Val.{to_z, of_z}
@@ -9,7 +9,8 @@ use Rattle.cbor4ii_rw.specs.declared.error.DecodeError.{DecodeError}
 use Rattle.cbor4ii_items.specs.Reading.{Runs, peek_at, ◌>=>◌}
 use Rattle.cbor4ii_items.specs.ReadHead.{head_at, length_at, number_on}
 use Rattle.cbor4ii_items.specs.ReadNumber.{magnitude_by, magnitude_at, u128_tagged, u128_by, u128_at, i128_tagged, i128_by, i128_at, as_positive, as_negative}
-use Rattle.cbor4ii_items.proofs.Running.{runs_as, runs_then}
+use Rattle.cbor4ii_items.proofs.Running.{runs_as, runs_then, runs_with}
+use Rattle.cbor4ii_items.proofs.SignedRuns.{first_major, runs_where}
 
 short_by : (name : List ℕ) (count : ℕ) → count ≤ 16 → magnitude_by name (Some count) ≡ number_on name count count 0
 short_by name count h = let t : ltb 16 count ≡ false = le-ltb 16 count h in rw t refl
@@ -64,3 +65,26 @@ negative_is r k h e = ap (λ z. to_z w128 (of_z w128 z)) e ∙ to_z-of_z w128 (n
 
 pub small_argument : (v : ℕ) → v < 256 ^ 8 → v < 2 ^ 127
 small_argument v h = omega (arith, h)
+
+-- ---- heads that were taken whole
+
+as_u128 : (v : ℕ) (xs ys : List ℕ) → head_at (codes "u64") 0 8 xs ≡ Ok (v, ys) → u128_at xs ≡ head_at (codes "u64") 0 8 xs
+as_u128 v [] ys e = cc
+as_u128 v (b ∷ bs) ys e = ap (λ f. f (b ∷ bs)) (u128_unsigned b (first_major (codes "u64") 0 8 v b bs ys e))
+
+pub u128_whole : {E : Type 0} {v : ℕ} {a m : View} → Runs {E = E} (head_at (codes "u64") 0 8) a m (Ok v) → Runs {E = E} u128_at a m (Ok v)
+u128_whole {v = v} p = runs_where (λ xs told. let s = p.answers xs told in as_u128 v xs s.0 s.2) p
+
+as_plus : (v : ℕ) (xs ys : List ℕ) → head_at (codes "u64") 0 8 xs ≡ Ok (v, ys) → i128_at xs ≡ (head_at (codes "u64") 0 8 >=> as_positive) xs
+as_plus v [] ys e = cc
+as_plus v (b ∷ bs) ys e = ap (λ f. f (b ∷ bs)) (i128_positive b (first_major (codes "u64") 0 8 v b bs ys e))
+
+as_minus : (v : ℕ) (xs ys : List ℕ) → head_at (codes "i128") 1 8 xs ≡ Ok (v, ys) → i128_at xs ≡ (head_at (codes "i128") 1 8 >=> as_negative) xs
+as_minus v [] ys e = cc
+as_minus v (b ∷ bs) ys e = ap (λ f. f (b ∷ bs)) (i128_negative b (first_major (codes "i128") 1 8 v b bs ys e))
+
+pub plus_whole : {E : Type 0} {v : ℕ} {z : ℤ} {a m : View} → z ≡ pos v → Runs {E = E} (head_at (codes "u64") 0 8) a m (Ok v) → Runs {E = E} i128_at a m (Ok z)
+plus_whole {v = v} e p = runs_where (λ xs told. let s = p.answers xs told in as_plus v xs s.0 s.2) (runs_with pos e p)
+
+pub minus_whole : {E : Type 0} {v : ℕ} {z : ℤ} {a m : View} → z ≡ negsuc v → Runs {E = E} (head_at (codes "i128") 1 8) a m (Ok v) → Runs {E = E} i128_at a m (Ok z)
+minus_whole {v = v} e p = runs_where (λ xs told. let s = p.answers xs told in as_minus v xs s.0 s.2) (runs_with negsuc e p)

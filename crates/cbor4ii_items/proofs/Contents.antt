@@ -111,6 +111,7 @@ takes_front {missing = missing} {n = n} {shown = shown} {before = before} {after
         budget = adv.budget ∙ s.budget;
         failures = adv.failures ∙ s.failures;
         lends_whole = λ h. adv.lends_whole (s.lends_whole h);
+        remembers = λ h. adv.remembers (s.remembers h);
       };
       some = some;
       most = most;
@@ -133,6 +134,7 @@ lends_front {want = want} {n = n} {shown = shown} {a = a} {m = m} {b = b} s fron
     budget = adv.budget ∙ s.budget;
     failures = adv.failures ∙ s.failures;
     lends_whole = λ h. adv.lends_whole (s.lends_whole h);
+    remembers = λ h. adv.remembers (s.remembers h);
   };
   at = λ xs told. (omega (arith, within, (front xs told).within), adv.told xs (s.told xs told), is ∙ front_is want n shown xs (front xs told) within);
 }

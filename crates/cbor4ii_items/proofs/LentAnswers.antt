@@ -14,8 +14,9 @@ use Rattle.cbor4ii_items.specs.HeadLaws.{head_read, head_one}
 use Rattle.cbor4ii_items.specs.Numbers.{ReadsArgument, StopsArgument}
 use Rattle.cbor4ii_items.specs.Fronts.{drop_more}
 use Rattle.cbor4ii_items.specs.Strings.{ReadsCounted}
-use Rattle.cbor4ii_items.specs.Lent.{ReadsLent, StopsLent, lent_head_refused, too_few, lent_no_utf8, Lends, LacksContent, lack_refusal, lack_is_read, Named}
+use Rattle.cbor4ii_items.specs.Lent.{ReadsLent, StopsLent, BeginsLent, begins_refused, none_is_lent, few_are_lent, begins_no_utf8, lent_head_refused, too_few, lent_no_utf8, Lends, LacksContent, lack_refusal, lack_is_read, Named}
 use Rattle.cbor4ii_items.proofs.Leaves.{fits_zero, refuses_as}
+use Rattle.cbor4ii_items.proofs.SequenceParts.{stops_as}
 use Rattle.cbor4ii_items.proofs.Steps.{moves_then}
 
 pub lacks_text : {E : Type 0} (count : ℕ) (a b : View) (lack : Lacks E) → LacksContent count false a b lack → LacksContent count true a b lack
@@ -140,6 +141,25 @@ module _ (V E : Type 0) (name : List ℕ) (count : ℕ) (is_text : Bool) (conten
         (stop_at major lack xs h.count h.read.0 room h.left (kept.lends_whole whole.0) lacks);
   }
 
+  begin_at : (major : ℕ) (lack : Lacks E) (xs : List ℕ) (before : ℕ) → ReadsHead major 8 xs count before → m.told ≡ Some (drop before xs) → LacksContent count is_text m b lack
+      → IfSome (lack_refusal name lack) (λ z. (rest : List ℕ) × (b.told ≡ Some rest) × BeginsLent name major is_text xs a.budget z rest)
+  begin_at major (Read e) xs before h told lacks = tt
+  begin_at major Short xs before h told lacks = (drop before xs, lacks.0.told (drop before xs) told, none_is_lent count before h refl refl)
+  begin_at major (Few k) xs before h told lacks = (drop before xs, lacks.0.told (drop before xs) told, few_are_lent count before k h lacks.2 refl refl)
+  begin_at major NotUtf8 xs before h told lacks =
+      let l = lacks.2.at (drop before xs) told in
+      (drop (before + count) xs, l.1 ∙ ap Some (drop_more count before xs), begins_no_utf8 lacks.0 (before + count) lacks.1 (counted major xs lacks.0 before h l.0 l.2) lacks.3 refl refl)
+
+  pub lent_begins : (major : ℕ) (o : Result V (Lacks E)) (r : Result V (DecodeError E)) → Named name o r → Sound (ReadsArgument major 8) a m count → IfErr o (LacksContent count is_text m b) → IfErr r (Stops (BeginsLent name major is_text) a b)
+  lent_begins major o (Ok w) n s lacks = tt
+  lent_begins major (Ok v) (Err e) n s lacks = absurd n
+  lent_begins major (Err lack) (Err e) n s lacks = record {
+    at = λ xs told.
+        let h = s.at xs told in
+        subst (λ z. IfSome z (λ refusal. (rest : List ℕ) × (b.told ≡ Some rest) × BeginsLent name major is_text xs a.budget refusal rest)) (sym n.refusal)
+        (begin_at major lack xs h.count h.read.0 h.left lacks);
+  }
+
 -- ---- the head is refused
 
 pub head_lends_none : {V E : Type 0} (major : ℕ) (is_text : Bool) (content : V → List ℕ) {e : DecodeError E} {a : View} → Refuses (ReadsArgument major 8) a e → Refuses (ReadsLent major is_text content) a e
@@ -153,3 +173,8 @@ still name major is_text xs budget left (Some z) h = (h.0, h.1, lent_head_refuse
 
 pub head_stops_lent : {E : Type 0} (name : List ℕ) (major : ℕ) (is_text : Bool) {e : DecodeError E} {a b : View} → Stops (StopsArgument name major 8) a b e → Stops (StopsLent name major is_text) a b e
 head_stops_lent name major is_text {e = e} {a = a} {b = b} p = record { at = λ xs told. still name major is_text xs a.budget b.told (refusal_of e) (p.at xs told) }
+
+pub head_begins_lent : {E : Type 0} (name : List ℕ) (major : ℕ) (is_text : Bool) {e : DecodeError E} {a b : View} → Stops (StopsArgument name major 8) a b e → Stops (BeginsLent name major is_text) a b e
+head_begins_lent name major is_text {e = e} {a = a} {b = b} p = record {
+  at = λ xs told. stops_as (refusal_of e) b.told (StopsArgument name major 8 xs a.budget) (BeginsLent name major is_text xs a.budget) (λ z ys h. begins_refused h) (p.at xs told);
+}

@@ -39,15 +39,18 @@ module _ {a b c d : View} (i : KeepsAllButBudget a b) (o : KeepsAllButBudget c d
     budget = same k.budget;
     failures = o.failures ∙ (k.failures ∙ i.failures);
     lends_whole = λ h. subst IsTrue (sym o.lends_whole) (k.lends_whole (subst IsTrue (sym i.lends_whole) h));
+    remembers = λ h. subst IsTrue (sym o.remembers) (k.remembers (subst IsTrue (sym i.remembers) h));
   }
 
   broke_around : (c.budget ≡ b.budget → d.budget ≡ a.budget) → Broke b c → Broke a d
   broke_around same k = record {
     rest = λ xs told ys left. k.rest xs (i.told ∙ told) ys (sym o.told ∙ left);
+    left = λ is xs told. let u = k.left (subst IsTrue (sym i.remembers) is) xs (i.told ∙ told) in (u.0, record { left = o.told ∙ u.1.left; within = u.1.within; bytes = u.1.bytes });
     bound = omega (arith, k.bound, i.bound, o.bound);
     budget = same k.budget;
     failures = subst (λ n. Failed n d.failures) i.failures (subst (λ n. Failed b.failures n) (sym o.failures) k.failures);
     lends_whole = λ h. subst IsTrue (sym o.lends_whole) (k.lends_whole (subst IsTrue (sym i.lends_whole) h));
+    remembers = λ h. subst IsTrue (sym o.remembers) (k.remembers (subst IsTrue (sym i.remembers) h));
   }
 
   pub moves_around : (t : Bool) → (c.budget ≡ b.budget → d.budget ≡ a.budget) → MatchBool t (Broke b c) (Kept b c) → MatchBool t (Broke a d) (Kept a d)

@@ -56,6 +56,7 @@ kept_alike a = record {
   budget = refl;
   failures = refl;
   lends_whole = λ h. h;
+  remembers = λ h. h;
 }
 
 pub runs_give : {V E : Type 0} (v : V) (a : View) → Runs {E = E} (give v) a a (Ok v)
@@ -93,6 +94,7 @@ shows_kept {a = a} {b = b} s = record {
   budget = s.budget;
   failures = s.failures;
   lends_whole = s.lends_whole;
+  remembers = s.remembers;
 }
 
 pub looked : (a b : View) (answer : Option (Bor (List ℕ))) (shown : Bor (List ℕ)) → answer ≡ Some shown → MatchOption answer (Breaks a b) (λ s. Shows s.now a b) → Shows shown.now a b
@@ -177,6 +179,7 @@ kept_taken {name = name} {expect = expect} {b = b} {a = a} {m = m} {c = c} p h a
   budget = adv.budget ∙ p.moves.by.budget;
   failures = adv.failures ∙ p.moves.by.failures;
   lends_whole = λ h. adv.lends_whole (p.moves.by.lends_whole h);
+  remembers = λ h. adv.remembers (p.moves.by.remembers h);
 }
 
 pub runs_byte : {E : Type 0} {name : List ℕ} {expect b : ℕ} {a m c : View} → Runs {E = E} (peek_at name expect) a m (Ok b) → b < 256 → Advances 1 m c → Runs {E = E} (byte_at name expect) a c (Ok b)

@@ -64,15 +64,18 @@ kept_then {a = a} {b = b} {c = c} p q = record {
   budget = q.budget ∙ p.budget;
   failures = q.failures ∙ p.failures;
   lends_whole = λ h. q.lends_whole (p.lends_whole h);
+  remembers = λ h. q.remembers (p.remembers h);
 }
 
 broke_then : {a b c : View} → Kept a b → Broke b c → Broke a c
 broke_then {a = a} {b = b} {c = c} p q = record {
   rest = ends_or_then a.told b.told c.told p.rest q.rest;
+  left = λ is. ends_then a.told b.told c.told p.rest (q.left (p.remembers is));
   bound = omega (arith, p.bound, q.bound);
   budget = q.budget ∙ p.budget;
   failures = rw p.failures at q.failures;
   lends_whole = λ h. q.lends_whole (p.lends_whole h);
+  remembers = λ h. q.remembers (p.remembers h);
 }
 
 by_failure : (t : Bool) (a b c : View) → Kept a b → MatchBool t (Broke b c) (Kept b c) → MatchBool t (Broke a c) (Kept a c)

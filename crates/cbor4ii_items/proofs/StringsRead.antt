@@ -278,6 +278,7 @@ chunk_stopped name before major budget more xs zs z ys e next seen =
       chunks = f.part ∷ r.chunks;
       between = f.size + r.between;
       read = (f.size, r.between, f.read, subst (λ us. ReadsChunks major r.chunks us r.between) f.left r.read, refl);
+      fits = c.1;
       stop = subst (λ us. StopsChunk name major us budget z ys) (ap (drop r.between) f.left ∙ drop_more r.between f.size xs) r.stop;
     }
 
@@ -290,14 +291,14 @@ stops_by name before major budget xs us z ys next h false e f seen =
     let same : us ≡ xs = b.2 in
     let here : go_on (chunk_at name major budget before xs) next ≡ Err (z, ys) = ap (λ ws. go_on (chunk_at name major budget before ws) next) (sym same) ∙ f in
     elim (go_refused (chunk_at name major budget before xs) next z ys here) [
-      | inl r ↦ record { chunks = []; between = 0; read = refl; stop = chunk_stops name before major budget xs z ys b.0 b.1 r seen }
+      | inl r ↦ record { chunks = []; between = 0; read = refl; fits = fits_zero budget; stop = chunk_stops name before major budget xs z ys b.0 b.1 r seen }
       | inr r ↦ chunk_stopped name before major budget r.0 xs r.1 z ys r.2 (h r.0 r.1 (chunk_passed name major budget before xs r.0 r.1 r.2).1 r.3) seen
     ]
 
 chunks_stop : (f : ℕ) (name before : List ℕ) (major : ℕ) (budget : Option ℕ) (xs : List ℕ) (z : Refusal) (ys : List ℕ) → length xs < f → chunks_on f name major budget before xs ≡ Err (z, ys) → Seen xs ys → StopsOpen name major xs budget z ys
 chunks_stop zero name before major budget xs z ys h e seen = absurd (omega (arith, h))
 chunks_stop (suc f) name before major budget xs z ys h e seen = elim (go_refused (break_at xs) (chunks_by name major budget before (chunks_on f name major budget)) z ys e) [
-  | inl r ↦ (let b = break_refused xs ys z r in record { chunks = []; between = 0; read = refl; stop = no_chunk_byte b.0 b.1 b.2 })
+  | inl r ↦ (let b = break_refused xs ys z r in record { chunks = []; between = 0; read = refl; fits = fits_zero budget; stop = no_chunk_byte b.0 b.1 b.2 })
   | inr r ↦ stops_by name before major budget xs r.1 z ys (chunks_on f name major budget) (λ more zs short k there. chunks_stop f name more major budget zs z ys (omega (arith, h, short)) k there) r.0 r.2 r.3 seen
 ]
 

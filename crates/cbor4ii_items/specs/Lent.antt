@@ -25,6 +25,14 @@ pub data StopsLent (name : List ℕ) (major : ℕ) (is_text : Bool) (xs : List �
   too_few : (count before : ℕ) → ReadsHead major 8 xs count before → length xs < before + count → refusal ≡ require_length name (len_of (length (drop before xs))) → rest ≡ drop before xs → StopsLent name major is_text xs budget refusal rest
   lent_no_utf8 : (content : List ℕ) (n : ℕ) → IsTrue is_text → ReadsCounted major xs content n → (IsUtf8 content → ⊥) → refusal ≡ require_utf8 name → rest ≡ drop n xs → StopsLent name major is_text xs budget refusal rest
 
+-- Over any reader: the head; no content is lent, or too little, and what is behind the head is left; no UTF-8, and what is
+-- behind the item is left.
+pub data BeginsLent (name : List ℕ) (major : ℕ) (is_text : Bool) (xs : List ℕ) (budget : Option ℕ) (refusal : Refusal) (rest : List ℕ) : Type 0 where
+  begins_refused : StopsHead name major 8 xs refusal rest → BeginsLent name major is_text xs budget refusal rest
+  none_is_lent : (count before : ℕ) → ReadsHead major 8 xs count before → refusal ≡ require_borrowed name → rest ≡ drop before xs → BeginsLent name major is_text xs budget refusal rest
+  few_are_lent : (count before shown : ℕ) → ReadsHead major 8 xs count before → shown < count → refusal ≡ require_length name (len_of shown) → rest ≡ drop before xs → BeginsLent name major is_text xs budget refusal rest
+  begins_no_utf8 : (content : List ℕ) (n : ℕ) → IsTrue is_text → ReadsCounted major xs content n → (IsUtf8 content → ⊥) → refusal ≡ require_utf8 name → rest ≡ drop n xs → BeginsLent name major is_text xs budget refusal rest
+
 -- ---- a content that is lent
 
 -- so many bytes were taken, and are the content
@@ -41,7 +49,7 @@ pub record Stays (old new : View) : Type 0 where
 abbrev pub LacksContent : {E : Type 0} → ℕ → Bool → View → View → Lacks E → Type 0
 LacksContent count is_text old new (Read e) = Broke old new
 LacksContent count is_text old new Short = Stays old new × (IsTrue old.lends_whole → ⊥)
-LacksContent count is_text old new (Few n) = Stays old new × (IsTrue old.lends_whole → Told old.told (λ xs. (length xs < count) × (n ≡ length xs)))
+LacksContent count is_text old new (Few n) = Stays old new × (IsTrue old.lends_whole → Told old.told (λ xs. (length xs < count) × (n ≡ length xs))) × (n < count)
 LacksContent count is_text old new NotUtf8 = (content : List ℕ) × IsTrue is_text × Lends count content old new × (IsUtf8 content → ⊥)
 
 -- ---- what is lacking, with its name

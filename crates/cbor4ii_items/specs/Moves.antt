@@ -33,14 +33,18 @@ pub record Kept (old new : View) : Type 0 where
   pub budget : new.budget ≡ old.budget
   pub failures : new.failures ≡ old.failures
   pub lends_whole : IsTrue old.lends_whole → IsTrue new.lends_whole
+  pub remembers : IsTrue old.remembers → IsTrue new.remembers
 
--- The reader failed: what is left, where still told, is an end, and the budget is as before.
+-- The reader failed: what is left, where still told, is an end, and a reader that remembers still tells it; the budget is
+-- as before.
 pub record Broke (old new : View) : Type 0 where
   pub rest : EndsOrForgets old.told new.told
+  pub left : IsTrue old.remembers → Ends old.told new.told
   pub bound : new.bound ≤ old.bound
   pub budget : new.budget ≡ old.budget
   pub failures : Failed old.failures new.failures
   pub lends_whole : IsTrue old.lends_whole → IsTrue new.lends_whole
+  pub remembers : IsTrue old.remembers → IsTrue new.remembers
 
 -- the answer says that the reader failed
 abbrev pub is_failure : {V E : Type 0} → Result V (DecodeError E) → Bool

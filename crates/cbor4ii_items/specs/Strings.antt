@@ -108,11 +108,12 @@ pub data StopsChunk (name : List ℕ) (major : ℕ) (xs : List ℕ) (budget : Op
   chunk_refused : budget ≢ Some 0 → (take 1 xs ≡ break ∷ [] → ⊥) → (take 1 xs ≡ open_head major ∷ [] → ⊥) → xs ≢ [] → StopsHead name major 8 xs refusal rest → StopsChunk name major xs budget refusal rest
   chunk_cut : budget ≢ Some 0 → CutContent name major xs refusal rest → StopsChunk name major xs budget refusal rest
 
--- behind the first byte of a string of indefinite length: some chunks are whole, and then comes the refusal
+-- behind the first byte of a string of indefinite length: some chunks are whole and fit the budget, and then comes the refusal
 pub record StopsOpen (name : List ℕ) (major : ℕ) (xs : List ℕ) (budget : Option ℕ) (refusal : Refusal) (rest : List ℕ) : Type 0 where
   pub chunks : List (List ℕ)
   pub between : ℕ
   pub read : ReadsChunks major chunks xs between
+  pub fits : CostFits (chunk_cost chunks) budget
   pub stop : StopsChunk name major (drop between xs) budget refusal rest
 
 pub data StopsString (name : List ℕ) (major : ℕ) (xs : List ℕ) (budget : Option ℕ) (refusal : Refusal) (rest : List ℕ) : Type 0 where

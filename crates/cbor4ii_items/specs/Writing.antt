@@ -2,7 +2,7 @@
 use Rattle.std.specs.Prelude.{◌≡◌, ℕ, List, ◌++◌, Bool, Option, Some, Result, OnOk, OnErr, IsTrue}
 use Rattle.std.specs.Io.{StartsWith}
 use Rattle.cbor4ii_rw.specs.View.{Told}
-use Rattle.cbor4ii_rw.specs.Reader.{Failed}
+use Rattle.cbor4ii_rw.specs.Reader.{Failed, Keeps}
 use Rattle.cbor4ii_rw.specs.Writer.{Output, Appends}
 
 -- told bytes stay told, and have a beginning of these bytes behind them
@@ -15,3 +15,8 @@ pub record Writes {T E : Type 0} (whole : Bool) (bytes : List ℕ) (old new : Ou
   pub counts : OnOk answer (new.failures ≡ old.failures)
   pub failed : OnErr answer (Failed old.failures new.failures)
   pub front : IsTrue whole → OnErr answer (AppendsFront bytes old.written new.written)
+
+-- as `Writes`, in one push: where a whole writer failed, told bytes are as they were
+pub record WritesWhole {T E : Type 0} (whole : Bool) (bytes : List ℕ) (old new : Output) (answer : Result T E) : Type 0 where
+  pub writes : Writes whole bytes old new answer
+  pub kept : IsTrue whole → OnErr answer (Keeps old.written new.written)

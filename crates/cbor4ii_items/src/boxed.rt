@@ -17,6 +17,8 @@ impl<T: Spelled> Spelled for Box<T> {
 
     ghost stops = { T.stops };
 
+    ghost begins = { T.begins };
+
     ghost never_empty = { T.never_empty };
 
     ghost owned = { T.owned };

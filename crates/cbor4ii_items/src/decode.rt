@@ -37,6 +37,10 @@ pub trait Spelled: Sized {
     // left then.
     ghost stops: { List ℕ → Option ℕ → Refusal → List ℕ → Type 0 };
 
+    // As `stops`, over any reader: what a borrowed part is refused by depends on how a reader cuts,
+    // so less is said of it.
+    ghost begins: { List ℕ → Option ℕ → Refusal → List ℕ → Type 0 };
+
     // No spelling is empty.
     ghost never_empty: { Bool };
 
@@ -90,7 +94,8 @@ pub trait Decode<S: Source>: Spelled {
         ensures complete { IsExact Self.owned (S.view reader.old) →
             IfErr result (Refuses Self.reads (S.view reader.old)) }
         ensures stops { IsExact Self.owned (S.view reader.old) →
-            IfErr result (Stops Self.stops (S.view reader.old) (S.view reader.new)) };
+            IfErr result (Stops Self.stops (S.view reader.old) (S.view reader.new)) }
+        ensures begins { IfErr result (Stops Self.begins (S.view reader.old) (S.view reader.new)) };
 
     // One input is read in one way.
     ghost one: { (xs : List ℕ) (v w : Self) (n m c d : ℕ) → Self.reads xs v n c →

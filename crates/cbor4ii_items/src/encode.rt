@@ -1,8 +1,6 @@
 //! What writing an item is.
-ghost use Rattle.std.specs.Prelude.{◌≡◌, ℕ, List, OnOk, OnErr, IsTrue};
-ghost use Rattle.cbor4ii_rw.specs.Reader.{Failed};
-ghost use Rattle.cbor4ii_rw.specs.Writer.{Appends};
-ghost use Rattle.cbor4ii_items.specs.Writing.{AppendsFront};
+ghost use Rattle.std.specs.Prelude.{ℕ, List};
+ghost use Rattle.cbor4ii_items.specs.Writing.{Writes};
 
 use cbor4ii_rw::error::EncodeError;
 use cbor4ii_rw::write::Write;
@@ -17,14 +15,7 @@ pub trait Encode {
     /// It fails only where the writer failed in the call. A whole writer then holds what it held
     /// before and a beginning of the value's bytes; of another one nothing is said.
     fn encode<W: Write>(&self, writer: &mut W) -> Result<(), EncodeError<W::Error>>
-        ensures appends { OnOk result
-            (Appends (bytes self.now) (W.view writer.old).written (W.view writer.new).written) }
-        ensures counts { OnOk result
-            ((W.view writer.new).failures ≡ (W.view writer.old).failures) }
-        ensures failed { OnErr result
-            (Failed (W.view writer.old).failures (W.view writer.new).failures) }
-        ensures front { IsTrue W.whole → OnErr result
-            (AppendsFront (bytes self.now) (W.view writer.old).written (W.view writer.new).written) };
+        ensures { Writes W.whole (bytes self.now) (W.view writer.old) (W.view writer.new) result };
 }
 
 /// A reference to a value, written as the value.

@@ -15,6 +15,7 @@ ghost use Rattle.cbor4ii_items.specs.Floats.{
   float_positive,
   float_alone,
 };
+ghost use Rattle.cbor4ii_items.specs.Writing.{WritesWhole};
 
 use crate::decode::{Decode, Spelled};
 use crate::encode::Encode;
@@ -101,6 +102,8 @@ fn number_of(bytes: &[u8]) -> u64
 }
 
 /// The same, one byte at a time.
+#[cold]
+#[inline(never)]
 fn bits_by_byte<S: Source>(
     reader: &mut S,
     name: StaticStr,
@@ -126,6 +129,8 @@ impl Spelled for F16 {
 
     ghost stops = { StopsFloat (codes "f16") 0xf9 2 };
 
+    ghost begins = { StopsFloat (codes "f16") 0xf9 2 };
+
     ghost never_empty = { true };
 
     ghost owned = { true };
@@ -144,6 +149,7 @@ impl Spelled for F16 {
 }
 
 impl<S: Source> Decode<S> for F16 {
+    #[inline(always)]
     fn decode(alloc: Global, reader: &mut S) -> Result<F16, DecodeError<S::Error>> {
         Ok(F16(float(reader, "f16", marker::F16, 2)? as u16))
     }
@@ -160,7 +166,10 @@ impl<S: Source> Decode<S> for F16 {
 impl Encode for F16 {
     ghost bytes = { λ v. float_bytes 0xf9 2 v.0 };
 
-    fn encode<W: Write>(&self, writer: &mut W) -> Result<(), EncodeError<W::Error>> {
+    #[inline(always)]
+    fn encode<W: Write>(&self, writer: &mut W) -> Result<(), EncodeError<W::Error>>
+        ensures { WritesWhole W.whole (float_bytes 0xf9 2 self.now.0) (W.view writer.old) (W.view writer.new) result }
+    {
         let [a, b] = self.0.to_be_bytes();
         push_bytes(writer, &[marker::F16, a, b])
     }
@@ -175,6 +184,8 @@ impl Spelled for F32 {
     ghost same = { λ v w. v.0 ≡ w.0 };
 
     ghost stops = { StopsFloat (codes "f32") 0xfa 4 };
+
+    ghost begins = { StopsFloat (codes "f32") 0xfa 4 };
 
     ghost never_empty = { true };
 
@@ -194,6 +205,7 @@ impl Spelled for F32 {
 }
 
 impl<S: Source> Decode<S> for F32 {
+    #[inline(always)]
     fn decode(alloc: Global, reader: &mut S) -> Result<F32, DecodeError<S::Error>> {
         Ok(F32(float(reader, "f32", marker::F32, 4)? as u32))
     }
@@ -210,7 +222,10 @@ impl<S: Source> Decode<S> for F32 {
 impl Encode for F32 {
     ghost bytes = { λ v. float_bytes 0xfa 4 v.0 };
 
-    fn encode<W: Write>(&self, writer: &mut W) -> Result<(), EncodeError<W::Error>> {
+    #[inline(always)]
+    fn encode<W: Write>(&self, writer: &mut W) -> Result<(), EncodeError<W::Error>>
+        ensures { WritesWhole W.whole (float_bytes 0xfa 4 self.now.0) (W.view writer.old) (W.view writer.new) result }
+    {
         let [a, b, c, d] = self.0.to_be_bytes();
         push_bytes(writer, &[marker::F32, a, b, c, d])
     }
@@ -225,6 +240,8 @@ impl Spelled for F64 {
     ghost same = { λ v w. v.0 ≡ w.0 };
 
     ghost stops = { StopsFloat (codes "f64") 0xfb 8 };
+
+    ghost begins = { StopsFloat (codes "f64") 0xfb 8 };
 
     ghost never_empty = { true };
 
@@ -244,6 +261,7 @@ impl Spelled for F64 {
 }
 
 impl<S: Source> Decode<S> for F64 {
+    #[inline(always)]
     fn decode(alloc: Global, reader: &mut S) -> Result<F64, DecodeError<S::Error>> {
         Ok(F64(float(reader, "f64", marker::F64, 8)?))
     }
@@ -260,7 +278,10 @@ impl<S: Source> Decode<S> for F64 {
 impl Encode for F64 {
     ghost bytes = { λ v. float_bytes 0xfb 8 v.0 };
 
-    fn encode<W: Write>(&self, writer: &mut W) -> Result<(), EncodeError<W::Error>> {
+    #[inline(always)]
+    fn encode<W: Write>(&self, writer: &mut W) -> Result<(), EncodeError<W::Error>>
+        ensures { WritesWhole W.whole (float_bytes 0xfb 8 self.now.0) (W.view writer.old) (W.view writer.new) result }
+    {
         let [a, b, c, d, e, f, g, h] = self.0.to_be_bytes();
         push_bytes(writer, &[marker::F64, a, b, c, d, e, f, g, h])
     }

@@ -13,6 +13,7 @@ const LONGEST: usize = 9;
 /// Takes a head of this major type, with an argument of at most so many bytes, that stands whole
 /// in the front that is shown. Where there is none, none, and nothing is taken. An error is the
 /// reader's.
+#[inline(always)]
 pub(crate) fn take_head<S: Source>(
     reader: &mut S,
     major: u8,
@@ -45,6 +46,7 @@ pub(crate) fn take_head<S: Source>(
 
 /// The argument of the head of this major type that stands whole at the front of `shown`, and the
 /// head's length.
+#[inline(always)]
 fn whole_head(shown: &[u8], major: u8, width: u8) -> Option<(u64, usize)>
     ensures { IfSome result (λ head. IsWhole major width shown.now head.0 head.1) }
 {
@@ -68,6 +70,7 @@ fn whole_head(shown: &[u8], major: u8, width: u8) -> Option<(u64, usize)>
 }
 
 /// The argument that follows a first byte with this additional information.
+#[inline(always)]
 fn shown_argument(info: u8, rest: &[u8]) -> Option<u64>
     requires from { 24 ≤ info }
     requires to { info < 28 }

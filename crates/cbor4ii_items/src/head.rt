@@ -20,6 +20,7 @@ use cbor4ii_rw::error::{DecodeError, Len, StaticStr};
 use cbor4ii_rw::read::Source;
 
 /// The next byte, which stays. Where there is none, `expect` bytes were expected.
+#[inline(always)]
 pub(crate) fn peek<S: Source>(
     reader: &mut S,
     name: StaticStr,
@@ -48,6 +49,7 @@ pub(crate) fn peek<S: Source>(
 }
 
 /// The next byte, taken. Where there is none, `expect` bytes were expected.
+#[inline(always)]
 pub(crate) fn take<S: Source>(
     reader: &mut S,
     name: StaticStr,
@@ -98,6 +100,7 @@ pub(crate) fn number<S: Source>(
     Ok(value)
 }
 
+#[inline(always)]
 pub(crate) fn following(info: u8) -> u8
     ensures { result ≡ following info }
 {
@@ -109,6 +112,7 @@ pub(crate) fn following(info: u8) -> u8
     }
 }
 
+#[inline(always)]
 pub(crate) fn allowed(width: u8, info: u8) -> bool
     ensures { result ≡ allowed width info }
 {
@@ -116,6 +120,8 @@ pub(crate) fn allowed(width: u8, info: u8) -> bool
 }
 
 /// The argument of a head that begins with `first`.
+#[cold]
+#[inline(never)]
 fn argument<S: Source>(
     reader: &mut S,
     name: StaticStr,
@@ -136,6 +142,7 @@ fn argument<S: Source>(
 }
 
 /// A head of this major type, with an argument of at most so many bytes.
+#[inline(always)]
 pub(crate) fn head<S: Source>(
     reader: &mut S,
     name: StaticStr,
@@ -154,6 +161,8 @@ pub(crate) fn head<S: Source>(
 }
 
 /// As `head`, one byte at a time: a head that does not stand whole in what is shown, or is refused.
+#[cold]
+#[inline(never)]
 fn head_by_bytes<S: Source>(
     reader: &mut S,
     name: StaticStr,
@@ -172,6 +181,7 @@ fn head_by_bytes<S: Source>(
 }
 
 /// A head that is a whole item: what is read, and how it is refused.
+#[inline(always)]
 pub(crate) fn lone_head<S: Source>(
     reader: &mut S,
     name: StaticStr,
@@ -190,6 +200,7 @@ pub(crate) fn lone_head<S: Source>(
 }
 
 /// The length that a head of this major type has: none where it is open.
+#[inline(always)]
 pub(crate) fn length<S: Source>(
     reader: &mut S,
     name: StaticStr,
@@ -207,6 +218,8 @@ pub(crate) fn length<S: Source>(
 }
 
 /// As `length`, one byte at a time.
+#[cold]
+#[inline(never)]
 fn length_by_bytes<S: Source>(
     reader: &mut S,
     name: StaticStr,
@@ -228,6 +241,7 @@ fn length_by_bytes<S: Source>(
 
 /// The length that an array or a map begins with, none where it is open: what is read, and how it
 /// is refused.
+#[inline(always)]
 pub(crate) fn lone_length<S: Source>(
     reader: &mut S,
     name: StaticStr,
@@ -243,6 +257,7 @@ pub(crate) fn lone_length<S: Source>(
     usize_length(length(reader, name, major))
 }
 
+#[inline(always)]
 fn usize_length<E>(length: Result<Option<u64>, E>) -> Result<Option<usize>, E>
     ensures { result ≡ length }
 {

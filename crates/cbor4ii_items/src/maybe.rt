@@ -32,6 +32,8 @@ impl<T: Spelled> Spelled for Maybe<Option<T>> {
 
     ghost stops = { StopsMaybe T.stops };
 
+    ghost begins = { StopsMaybe T.begins };
+
     ghost never_empty = { true };
 
     ghost owned = { T.owned };

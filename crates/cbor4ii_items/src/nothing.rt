@@ -25,6 +25,8 @@ impl Spelled for Nothing {
 
     ghost stops = { StopsNothing };
 
+    ghost begins = { StopsNothing };
+
     ghost never_empty = { false };
 
     ghost owned = { true };

@@ -22,6 +22,8 @@ impl<T: Spelled> Spelled for Option<T> {
 
     ghost stops = { StopsOption T.stops };
 
+    ghost begins = { StopsOption T.begins };
+
     ghost never_empty = { T.never_empty };
 
     ghost owned = { T.owned };

@@ -11,11 +11,8 @@ ghost use Rattle.std.specs.Prelude.{
   negsuc,
   take,
   length,
-  OnErr,
-  IsTrue,
 };
-ghost use Rattle.cbor4ii_rw.specs.Reader.{Keeps};
-ghost use Rattle.cbor4ii_items.specs.Writing.{Writes};
+ghost use Rattle.cbor4ii_items.specs.Writing.{Writes, WritesWhole};
 ghost use Rattle.cbor4ii_items.specs.Magnitude.{without_leading_zeros};
 ghost use Rattle.cbor4ii_items.specs.Strings.{counted_string};
 ghost use Rattle.cbor4ii_items.specs.Numbers.{
@@ -38,13 +35,12 @@ pub(crate) const POSITIVE_BIGNUM: u8 = 2;
 pub(crate) const NEGATIVE_BIGNUM: u8 = 3;
 
 /// Writes these bytes in one push.
+#[inline(always)]
 pub(crate) fn push_bytes<W: Write>(
     writer: &mut W,
     bytes: &[u8],
 ) -> Result<(), EncodeError<W::Error>>
-    ensures writes { Writes W.whole bytes.now (W.view writer.old) (W.view writer.new) result }
-    ensures whole { IsTrue W.whole →
-        OnErr result (Keeps (W.view writer.old).written (W.view writer.new).written) }
+    ensures { WritesWhole W.whole bytes.now (W.view writer.old) (W.view writer.new) result }
 {
     match writer.push(bytes) {
         Ok(()) => Ok(()),
@@ -53,45 +49,34 @@ pub(crate) fn push_bytes<W: Write>(
 }
 
 /// Writes the shortest head of this major type with this argument, in one push.
+#[inline(always)]
 pub(crate) fn push_head<W: Write>(
     writer: &mut W,
     major: u8,
     argument: u64,
 ) -> Result<(), EncodeError<W::Error>>
     requires { major < 8 }
-    ensures writes { Writes W.whole (shortest_head major argument) (W.view writer.old) (W.view writer.new) result }
-    ensures whole { IsTrue W.whole →
-        OnErr result (Keeps (W.view writer.old).written (W.view writer.new).written) }
-{
-    let (bytes, length) = shortest_head(major, argument);
-    push_bytes(writer, &bytes[..length])
-}
-
-/// The shortest head of this major type with this argument, at the front of nine bytes, and its
-/// length.
-fn shortest_head(major: u8, argument: u64) -> ([u8; 9], usize)
-    requires { major < 8 }
-    ensures within { result.1 ≤ 9 }
-    ensures head { take result.1 result.0 ≡ shortest_head major argument }
+    ensures { WritesWhole W.whole (shortest_head major argument) (W.view writer.old) (W.view writer.new) result }
 {
     let first = 32 * major;
     let [a, b, c, d, e, f, g, h] = argument.to_be_bytes();
     if argument < 24 {
-        ([first + h, 0, 0, 0, 0, 0, 0, 0, 0], 1)
+        push_bytes(writer, &[first + h])
     } else if argument < 0x100 {
-        ([first + 24, h, 0, 0, 0, 0, 0, 0, 0], 2)
+        push_bytes(writer, &[first + 24, h])
     } else if argument < 0x1_0000 {
-        ([first + 25, g, h, 0, 0, 0, 0, 0, 0], 3)
+        push_bytes(writer, &[first + 25, g, h])
     } else if argument < 0x1_0000_0000 {
-        ([first + 26, e, f, g, h, 0, 0, 0, 0], 5)
+        push_bytes(writer, &[first + 26, e, f, g, h])
     } else {
-        ([first + 27, a, b, c, d, e, f, g, h], 9)
+        push_bytes(writer, &[first + 27, a, b, c, d, e, f, g, h])
     }
 }
 
 /// Writes a number from 0 on, or -1 - n, as a head.
+#[inline(always)]
 pub(crate) fn push_signed<W: Write>(writer: &mut W, value: i64) -> Result<(), EncodeError<W::Error>>
-    ensures { Writes W.whole (signed_head value) (W.view writer.old) (W.view writer.new) result }
+    ensures { WritesWhole W.whole (signed_head value) (W.view writer.old) (W.view writer.new) result }
 {
     if value >= 0 {
         push_head(writer, major::UNSIGNED, value as u64)
@@ -192,16 +177,6 @@ pub(crate) fn push_headed_item<W: Write, T: Encode>(
     ensures { Writes W.whole (shortest_head major argument ++ T.bytes item.now) (W.view writer.old) (W.view writer.new) result }
 {
     push_head(writer, major, argument)?;
-    push_item(writer, item)
-}
-
-/// Writes an item.
-pub(crate) fn push_item<W: Write, T: Encode>(
-    writer: &mut W,
-    item: &T,
-) -> Result<(), EncodeError<W::Error>>
-    ensures { Writes W.whole (T.bytes item.now) (W.view writer.old) (W.view writer.new) result }
-{
     item.encode(writer)
 }
 

@@ -19,6 +19,7 @@ ghost use Rattle.cbor4ii_items.specs.Simple.{
   bool_positive,
   bool_alone,
 };
+ghost use Rattle.cbor4ii_items.specs.Writing.{WritesWhole};
 
 use crate::decode::{Decode, Spelled};
 use crate::encode::Encode;
@@ -43,6 +44,8 @@ impl Spelled for Simple {
 
     ghost stops = { StopsSimple };
 
+    ghost begins = { StopsSimple };
+
     ghost never_empty = { true };
 
     ghost owned = { true };
@@ -61,6 +64,7 @@ impl Spelled for Simple {
 }
 
 impl<S: Source> Decode<S> for Simple {
+    #[inline(always)]
     fn decode(alloc: Global, reader: &mut S) -> Result<Simple, DecodeError<S::Error>> {
         Ok(Simple(lone_head(reader, "simple", major::SIMPLE, 1)? as u8))
     }
@@ -77,7 +81,10 @@ impl<S: Source> Decode<S> for Simple {
 impl Encode for Simple {
     ghost bytes = { λ v. shortest_head 7 v.0 };
 
-    fn encode<W: Write>(&self, writer: &mut W) -> Result<(), EncodeError<W::Error>> {
+    #[inline(always)]
+    fn encode<W: Write>(&self, writer: &mut W) -> Result<(), EncodeError<W::Error>>
+        ensures { WritesWhole W.whole (shortest_head 7 self.now.0) (W.view writer.old) (W.view writer.new) result }
+    {
         push_head(writer, major::SIMPLE, self.0 as u64)
     }
 }
@@ -90,6 +97,8 @@ impl Spelled for bool {
     ghost same = { λ v w. v ≡ w };
 
     ghost stops = { StopsBool };
+
+    ghost begins = { StopsBool };
 
     ghost never_empty = { true };
 
@@ -109,6 +118,7 @@ impl Spelled for bool {
 }
 
 impl<S: Source> Decode<S> for bool {
+    #[inline(always)]
     fn decode(alloc: Global, reader: &mut S) -> Result<bool, DecodeError<S::Error>> {
         flag(reader)
     }
@@ -133,7 +143,10 @@ fn flag<S: Source>(reader: &mut S) -> Result<bool, DecodeError<S::Error>>
 impl Encode for bool {
     ghost bytes = { λ v. bool_byte v ∷ [] };
 
-    fn encode<W: Write>(&self, writer: &mut W) -> Result<(), EncodeError<W::Error>> {
+    #[inline(always)]
+    fn encode<W: Write>(&self, writer: &mut W) -> Result<(), EncodeError<W::Error>>
+        ensures { WritesWhole W.whole (bool_byte self.now ∷ []) (W.view writer.old) (W.view writer.new) result }
+    {
         let byte = if *self { marker::TRUE } else { marker::FALSE };
         push_bytes(writer, &[byte])
     }
@@ -142,7 +155,10 @@ impl Encode for bool {
 impl Encode for Null {
     ghost bytes = { λ _. simple_byte simple_null ∷ [] };
 
-    fn encode<W: Write>(&self, writer: &mut W) -> Result<(), EncodeError<W::Error>> {
+    #[inline(always)]
+    fn encode<W: Write>(&self, writer: &mut W) -> Result<(), EncodeError<W::Error>>
+        ensures { WritesWhole W.whole (simple_byte simple_null ∷ []) (W.view writer.old) (W.view writer.new) result }
+    {
         push_bytes(writer, &[marker::NULL])
     }
 }
@@ -150,7 +166,10 @@ impl Encode for Null {
 impl Encode for Undefined {
     ghost bytes = { λ _. simple_byte simple_undefined ∷ [] };
 
-    fn encode<W: Write>(&self, writer: &mut W) -> Result<(), EncodeError<W::Error>> {
+    #[inline(always)]
+    fn encode<W: Write>(&self, writer: &mut W) -> Result<(), EncodeError<W::Error>>
+        ensures { WritesWhole W.whole (simple_byte simple_undefined ∷ []) (W.view writer.old) (W.view writer.new) result }
+    {
         push_bytes(writer, &[marker::UNDEFINED])
     }
 }

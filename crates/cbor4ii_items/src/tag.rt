@@ -46,6 +46,8 @@ impl<T: Spelled> Spelled for Tag<T> {
 
     ghost stops = { StopsTag T.stops };
 
+    ghost begins = { StopsTag T.begins };
+
     ghost never_empty = { true };
 
     ghost owned = { T.owned };

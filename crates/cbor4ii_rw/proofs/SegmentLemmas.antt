@@ -1,11 +1,11 @@
 -- What a reader over segments shows of its current one.
-use Rattle.std.proofs.Common.{rules, arith, ◌≡◌, ℕ, ◌+◌, ◌<◌, ◌≤◌, min, List, [], ◌∷◌, ◌++◌, length, take, nat_lt, true, refl, ap, ◌∙◌, length-append, length-take-le}
+use Rattle.std.proofs.Common.{rules, arith, ◌≡◌, ℕ, ◌+◌, ◌<◌, min, List, [], ◌∷◌, ◌++◌, length, take, nat_lt, refl, ap, ◌∙◌, length-append, length-take-le}
 use Rattle.std.proofs.lemmas.List.{take-append-le}
 use Rattle.std.proofs.lemmas.Bool.{ltb-true}
 use Rattle.std.specs.Prelude.{IsTrue}
 use Rattle.std.specs.Borrow.{Bor}
 use Rattle.cbor4ii_rw.specs.Reader.{IsFront, IsEnough}
-use Rattle.cbor4ii_rw.specs.Segments.{joined, full, full_count}
+use Rattle.cbor4ii_rw.specs.Segments.{joined, full, full_count, first_of, first_full}
 
 nothing_left : (current others : List ℕ) → length current ≡ 0 → others ≡ [] → current ++ others ≡ []
 nothing_left [] others none end = end
@@ -41,3 +41,17 @@ pub current_is_enough : (want n : ℕ) (current : List ℕ) (others : List (Bor 
     → IsTrue (nat_lt (full current + full_count others) 2) → IsEnough want (take n current) (current ++ joined others)
 current_is_enough want n current others is end one =
     omega (arith, is, shown_length want n current is, length-append current (joined others), ap length (last_full current others end (ltb-true (full current + full_count others) 2 one)))
+
+nothing_full : (others : List (Bor (List ℕ))) → length (joined others) ≡ 0 → first_full others ≡ []
+nothing_full [] none = refl
+nothing_full (segment ∷ others) none =
+    ap (λ bytes. first_of bytes (first_full others)) (empty segment.now (omega (arith, none, length-append segment.now (joined others)))) ∙ nothing_full others (omega (arith, none, length-append segment.now (joined others)))
+  where
+    empty : (bytes : List ℕ) → length bytes ≡ 0 → bytes ≡ []
+    empty [] none = refl
+    empty (byte ∷ bytes) none = absurd (search (none, rules))
+
+-- once empty segments are passed, the current one is shown
+pub current_is_shown : (current : List ℕ) (others : List (Bor (List ℕ))) → (length current ≡ 0 → current ++ joined others ≡ []) → first_of current (first_full others) ≡ current
+current_is_shown [] others end = nothing_full others (ap length (end refl))
+current_is_shown (byte ∷ bytes) others end = refl

@@ -9,9 +9,9 @@ use Rattle.std.proofs.Transfers.{starts_with_length}
 use Rattle.std.proofs.lemmas.Bool.{ltb-true, lt-ltb}
 use Rattle.cbor4ii_rw.specs.declared.io_reader.Tally.{Tally}
 use Rattle.cbor4ii_rw.specs.View.{Told}
-use Rattle.cbor4ii_rw.specs.Reader.{IsFront, Keeps, Drops}
+use Rattle.cbor4ii_rw.specs.Reader.{IsFront, Keeps, KeepsOrForgets, Drops}
 use Rattle.cbor4ii_rw.specs.Stream.{cut_known, fits, where_known, held_bytes, most_bytes}
-use Rattle.cbor4ii_rw.proofs.Told.{told_some}
+use Rattle.cbor4ii_rw.proofs.Told.{told_some, some_inner}
 
 -- nothing is told
 pub told_none : (P : List ℕ → Type 0) → Told None P
@@ -33,6 +33,14 @@ keeps_cut most most' None new same kept = told_none (λ xs. cut_known most' new 
 keeps_cut most most' (Some bytes) None same kept = absurd kept
 keeps_cut most most' (Some bytes) (Some left) same kept =
     told_some (λ xs. Some (take most' left) ≡ Some xs) (take most bytes) (ap Some (ap (λ k. take k left) same ∙ ap (take most) kept))
+
+-- told bytes that stay told are not forgotten
+pub may_forget : (old new : Option (List ℕ)) → Keeps old new → KeepsOrForgets old new
+may_forget old new kept xs is ys now = some_inner ys xs (sym now ∙ kept xs is)
+
+pub takes_none : (limit : Option ℕ) → IfSome limit (λ most. 0 ≤ most)
+takes_none None = tt
+takes_none (Some most) = omega arith
 
 -- what was shown, cut at the bound, is a front of what is left
 pub cut_front : (want : ℕ) (known : Option (List ℕ)) (shown : List ℕ) (most n : ℕ) → n ≡ min (length shown) most → 0 < most

@@ -1,8 +1,8 @@
 -- Facts of told bytes.
-use Rattle.std.proofs.Common.{rules, ◌≡◌, ℕ, List, Some, None, Option, ap, sym, subst, refl}
+use Rattle.std.proofs.Common.{rules, ◌≡◌, ℕ, List, Some, subst}
 use Rattle.cbor4ii_rw.specs.View.{Told}
 
-some_inner : (bytes xs : List ℕ) → Some bytes ≡ Some xs → bytes ≡ xs
+pub some_inner : (bytes xs : List ℕ) → Some bytes ≡ Some xs → bytes ≡ xs
 some_inner bytes xs is = search (is, rules)
 
 -- told bytes are what the `Some` holds

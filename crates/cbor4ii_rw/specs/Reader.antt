@@ -43,15 +43,18 @@ pub record Shows (shown : List ℕ) (old new : View) : Type 0 where
   pub failures : new.failures ≡ old.failures
   pub taken : new.taken ≡ old.taken
   pub lends_whole : IsTrue old.lends_whole → IsTrue new.lends_whole
+  pub remembers : IsTrue old.remembers → IsTrue new.remembers
 
 -- What a reader that failed leaves: no byte is taken, but bytes may be told no more.
 pub record Breaks (old new : View) : Type 0 where
   pub told : KeepsOrForgets old.told new.told
+  pub kept : IsTrue old.remembers → Keeps old.told new.told
   pub bound : new.bound ≤ old.bound
   pub budget : new.budget ≡ old.budget
   pub failures : Failed old.failures new.failures
   pub taken : new.taken ≡ old.taken
   pub lends_whole : IsTrue old.lends_whole → IsTrue new.lends_whole
+  pub remembers : IsTrue old.remembers → IsTrue new.remembers
 
 -- n bytes are taken, and nothing else moves
 pub record Advances (n : ℕ) (old new : View) : Type 0 where
@@ -62,6 +65,17 @@ pub record Advances (n : ℕ) (old new : View) : Type 0 where
   pub failures : new.failures ≡ old.failures
   pub taken : new.taken ≡ counts n old.taken
   pub lends_whole : IsTrue old.lends_whole → IsTrue new.lends_whole
+  pub remembers : IsTrue old.remembers → IsTrue new.remembers
+
+-- these bytes, with which the told ones begin, are taken, and nothing else moves
+pub record Takes (bytes : List ℕ) (old new : View) : Type 0 where
+  pub told : Told old.told (λ xs. StartsWith xs bytes × (new.told ≡ Some (drop (length bytes) xs)))
+  pub bound : new.bound + length bytes ≤ old.bound
+  pub budget : new.budget ≡ old.budget
+  pub failures : new.failures ≡ old.failures
+  pub taken : new.taken ≡ counts (length bytes) old.taken
+  pub lends_whole : IsTrue old.lends_whole → IsTrue new.lends_whole
+  pub remembers : IsTrue old.remembers → IsTrue new.remembers
 
 -- nothing moves but the budget
 pub record KeepsAllButBudget (old new : View) : Type 0 where
@@ -71,6 +85,7 @@ pub record KeepsAllButBudget (old new : View) : Type 0 where
   pub failures : new.failures ≡ old.failures
   pub taken : new.taken ≡ old.taken
   pub lends_whole : new.lends_whole ≡ old.lends_whole
+  pub remembers : new.remembers ≡ old.remembers
 
 -- one step is taken, or none is left; without a budget there is always one
 abbrev pub StepsIn : Option ℕ → Option ℕ → Bool → Type 0

@@ -1,5 +1,5 @@
 -- Borrowed segments, one after another.
-use Rattle.std.specs.Prelude.{ℕ, ◌+◌, List, [], ◌∷◌, ◌++◌, length, None, Some, nat_lt}
+use Rattle.std.specs.Prelude.{ℕ, ◌+◌, true, List, [], ◌∷◌, ◌++◌, length, None, Some, nat_lt}
 use Rattle.std.specs.Borrow.{Bor}
 use Rattle.cbor4ii_rw.specs.View.{View}
 use Rattle.cbor4ii_rw.specs.declared.segment_reader.SegmentReader.{SegmentReader}
@@ -19,6 +19,20 @@ abbrev pub full_count : List (Bor (List ℕ)) → ℕ
 full_count [] = 0
 full_count (segment ∷ others) = full segment.now + full_count others
 
+-- the first bytes, unless there are none; then the others
+abbrev pub first_of : List ℕ → List ℕ → List ℕ
+first_of [] others = others
+first_of (byte ∷ bytes) others = byte ∷ bytes
+
+-- the first segment that has bytes
+abbrev pub first_full : List (Bor (List ℕ)) → List ℕ
+first_full [] = []
+first_full (segment ∷ others) = first_of segment.now (first_full others)
+
+-- what is left of the segment that a reader stands in, or of the next that has bytes
+abbrev pub shown_segment : SegmentReader → List ℕ
+shown_segment reader = first_of reader.current.now (first_full reader.segments.now)
+
 -- the bytes that a reader has left
 abbrev pub rest_of : SegmentReader → List ℕ
 rest_of reader = reader.current.now ++ joined reader.segments.now
@@ -29,4 +43,4 @@ full_of reader = full reader.current.now + full_count reader.segments.now
 
 -- it tells all its bytes and never fails; it lends whole where at most one segment still has bytes
 abbrev pub segment_view : SegmentReader → View
-segment_view reader = record { told = Some (rest_of reader); bound = length (rest_of reader); advanceable = length reader.current.now; budget = Some reader.steps; failures = 0; taken = None; lends_whole = nat_lt (full_of reader) 2 }
+segment_view reader = record { told = Some (rest_of reader); bound = length (rest_of reader); advanceable = length reader.current.now; budget = Some reader.steps; failures = 0; taken = None; lends_whole = nat_lt (full_of reader) 2; remembers = true }

@@ -50,6 +50,7 @@ stream_view remaining consumable reader = record {
   failures = reader.tally.failures;
   taken = Some reader.tally.taken;
   lends_whole = false;
+  remembers = true;
 }
 
 -- `Ok` notes how many bytes are shown and leaves the count of failures, and `Err` raises it

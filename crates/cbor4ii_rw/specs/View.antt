@@ -16,6 +16,8 @@ pub record View : Type 0 where
   pub taken : Option ℕ
   -- each fill is long, and shows what is wanted or all that is left
   pub lends_whole : Bool
+  -- where it fails, told bytes stay told
+  pub remembers : Bool
 
 -- a fact of the told bytes
 abbrev pub Told : Option (List ℕ) → (List ℕ → Type 0) → Type 0

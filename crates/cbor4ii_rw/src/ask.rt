@@ -6,7 +6,11 @@
 ghost use Rattle.std.specs.Prelude.{
   ◌≡◌,
   ◌≤◌,
+  [],
+  ◌∷◌,
   length,
+  IfOk,
+  IfErr,
   IsTrue,
   IfSome,
   IfNone,
@@ -17,7 +21,7 @@ ghost use Rattle.std.specs.Prelude.{
 ghost use Rattle.std.specs.Borrow.{sem};
 ghost use Rattle.std.specs.Io.BufRead.{Rests};
 ghost use Rattle.cbor4ii_rw.specs.View.{Told};
-ghost use Rattle.cbor4ii_rw.specs.Reader.{IsFront, IsEnough, Shows, Breaks};
+ghost use Rattle.cbor4ii_rw.specs.Reader.{IsFront, IsEnough, Shows, Breaks, Takes};
 ghost use Rattle.cbor4ii_rw.specs.Reference.{bytes_of, IsLong};
 ghost use Rattle.cbor4ii_rw.specs.Parted.{Parts};
 
@@ -41,7 +45,7 @@ pub fn look<'s, S: Source>(
         (Breaks (S.view reader.old) (S.view new))
         (λ shown. Shows shown.now (S.view reader.old) (S.view new)))) }
 {
-    part_shown(reader.show(want), failure)
+    part(reader.show(want), failure)
 }
 
 /// A front of what `reader` has left, as `Read::fill` lends it. Where the reader fails, none,
@@ -63,29 +67,37 @@ pub fn lend<'de, 's, R: Read<'de>>(
         (Breaks (R.view reader.old) (R.view new))
         (λ shown. Shows (bytes_of shown) (R.view reader.old) (R.view new)))) }
 {
-    part_lent(reader.fill(want), failure)
+    part(reader.fill(want), failure)
 }
 
-fn part_shown<'s, E: Drop>(shown: Result<&'s [u8], E>, failure: &mut Option<E>) -> Option<&'s [u8]>
-    ensures { Parts shown.entry failure.old failure.new result }
+/// The next byte, which is taken; none at the end.
+pub fn next_byte<S: Source>(reader: &mut S) -> Result<Option<u8>, S::Error>
+    ensures byte { IfOk result
+        (λ next. IfSome next (λ byte. Takes (byte ∷ []) (S.view reader.old) (S.view reader.new))) }
+    ensures end { IfOk result (λ next. IfNone next (Told (S.view reader.old).told (λ xs. xs ≡ [])
+        × Shows [] (S.view reader.old) (S.view reader.new))) }
+    ensures failed { IfErr result (λ _. Breaks (S.view reader.old) (S.view reader.new)) }
 {
-    match shown {
-        Ok(bytes) => Some(bytes),
-        Err(error) => {
-            *failure = Some(error);
-            None
+    let mut failure = None;
+    let byte = match look(reader, 1, &mut failure) {
+        Some([]) => return Ok(None),
+        Some([byte, ..]) => *byte,
+        None => {
+            return match failure {
+                Some(error) => Err(error),
+                None => unreachable!(),
+            };
         }
-    }
+    };
+    reader.advance(1);
+    Ok(Some(byte))
 }
 
-fn part_lent<'de, 's, E: Drop>(
-    lent: Result<Reference<'de, 's>, E>,
-    failure: &mut Option<E>,
-) -> Option<Reference<'de, 's>>
-    ensures { Parts lent.entry failure.old failure.new result }
+fn part<T, E: Drop>(answer: Result<T, E>, failure: &mut Option<E>) -> Option<T>
+    ensures { Parts answer failure.old failure.new result }
 {
-    match lent {
-        Ok(reference) => Some(reference),
+    match answer {
+        Ok(front) => Some(front),
         Err(error) => {
             *failure = Some(error);
             None

@@ -6,7 +6,7 @@ use crate::error::TryReserveError;
 use crate::write::Write;
 
 /// A writer into a vector. It is whole: a push for which there is no memory appends nothing.
-#[derive(Drop)]
+#[derive(Debug, Drop)]
 pub struct BufWriter {
     bytes: Vec<u8>,
     failures: u64,

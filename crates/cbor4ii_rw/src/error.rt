@@ -47,7 +47,7 @@ pub enum ArithmeticOverflow {
 }
 
 /// Why a value was not read. `name` says of what: of a type, or of a part of its encoding.
-#[derive(Debug, Drop)]
+#[derive(Clone, Debug, PartialEq, Eq, Drop)]
 pub enum DecodeError<E> {
     /// The reader failed.
     Read(E),
@@ -125,7 +125,7 @@ pub enum DecodeError<E> {
 }
 
 /// Why a value was not written.
-#[derive(Debug, Drop)]
+#[derive(Clone, Debug, PartialEq, Eq, Drop)]
 pub enum EncodeError<E> {
     /// The writer failed.
     Write(E),

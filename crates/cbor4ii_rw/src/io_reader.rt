@@ -1,11 +1,12 @@
 //! A reader over a stream.
-ghost use Rattle.std.specs.Prelude.{◌≡◌, ◌+◌, ◌-◌, ◌≤◌, [], length, Some, IfSome, IfOk, IsOk, MatchResult};
+ghost use Rattle.std.specs.Prelude.{◌≡◌, ◌+◌, ◌-◌, ◌≤◌, [], length, Some, IsTrue, IfSome, IfOk, IsOk, MatchResult};
 ghost use Rattle.std.specs.Borrow.{sem};
 ghost use Rattle.std.specs.Io.{StartsWith};
 ghost use Rattle.std.specs.Io.BufRead.{Rests, FillKeeps};
 ghost use Rattle.cbor4ii_rw.specs.contracts.io_reader.IoReader.{the_row};
 ghost use Rattle.cbor4ii_rw.specs.View.{Told};
-ghost use Rattle.cbor4ii_rw.specs.Reader.{Keeps, IsFront, Shows, Breaks};
+ghost use Rattle.cbor4ii_rw.specs.Reader.{Keeps, IsFront, IsEnough, Shows, Breaks};
+ghost use Rattle.cbor4ii_rw.specs.Reference.{bytes_of, IsLong};
 ghost use Rattle.cbor4ii_rw.specs.Stream.{
   most_bytes,
   cut_within,
@@ -19,7 +20,7 @@ use crate::read::{Read, Reference, Source};
 use std::io::{self, BufRead};
 
 /// What a reader over a stream counts.
-#[derive(Clone, Copy)]
+#[derive(Clone, Copy, Debug)]
 struct Tally {
     // How many bytes the last fill showed, and how many of them were advanced since.
     shown: usize,
@@ -34,6 +35,7 @@ struct Tally {
 /// errors are the stream's. It takes at most 2^64-1 bytes, and then answers as at the end.
 ///
 /// What was advanced leaves the stream at the next look, and when the reader is dropped.
+#[derive(Debug)]
 pub struct IoReader<R: BufRead> {
     // In this order: the proof of `show_all` takes the struct apart.
     inner: R,
@@ -174,13 +176,35 @@ impl<R: BufRead> Source for IoReader<R> {
 }
 
 impl<'de, R: BufRead> Read<'de> for IoReader<R> {
-    fn fill<'short>(&'short mut self, want: usize) -> Result<Reference<'de, 'short>, io::Error> {
+    // The clauses of the trait, those of `show`, and that it lends nothing for good.
+    fn fill<'short>(&'short mut self, want: usize) -> Result<Reference<'de, 'short>, io::Error>
+        ensures front { IfOk result (λ shown. Told
+            (stream_view R.Read.remaining R.BufRead.consumable_len self.old).told
+            (IsFront want (bytes_of shown))) }
+        ensures bounded { IfOk result (λ shown. length (bytes_of shown)
+            ≤ (stream_view R.Read.remaining R.BufRead.consumable_len self.old).bound) }
+        ensures enough { IsTrue (stream_view R.Read.remaining R.BufRead.consumable_len self.old).lends_whole
+            → IfOk result (λ shown. Told
+            (stream_view R.Read.remaining R.BufRead.consumable_len self.old).told
+            (IsEnough want (bytes_of shown))) }
+        ensures long { IsTrue (stream_view R.Read.remaining R.BufRead.consumable_len self.old).lends_whole
+            → IfOk result IsLong }
+        ensures short { IfOk result (λ shown. ¬ IsLong shown) }
+        ensures ended { (stream_view R.Read.remaining R.BufRead.consumable_len self.old).bound ≡ 0
+            → IsOk result }
+        ensures* after_borrow { sem 𝓛 (Rests (the_row R.row) self.entry (λ new.
+            let before = stream_view R.Read.remaining R.BufRead.consumable_len self.old in
+            let after = stream_view R.Read.remaining R.BufRead.consumable_len new in
+            MatchResult result (λ shown. Shows (bytes_of shown) before after)
+            (λ _. Breaks before after))) }
+    {
         match self.show(want) {
             Ok(bytes) => Ok(Reference::Short(bytes)),
             Err(error) => Err(error),
         }
     }
 }
+
 /// Shows all that the stream shows, and counts it.
 fn show_all<'s, R: BufRead>(reader: &'s mut IoReader<R>) -> io::Result<&'s [u8]>
     ensures front { IfSome (R.Read.remaining reader.old.inner) (λ left. IfOk result (λ shown. StartsWith left shown.now)) }

@@ -7,7 +7,7 @@ use std::io;
 
 /// A writer into a stream. It is not whole: a push that fails may have written a part of its
 /// input, and after an error nothing is known of the stream.
-#[derive(Drop)]
+#[derive(Debug, Drop)]
 pub struct IoWriter<W: io::Write> {
     inner: W,
     failures: u64,

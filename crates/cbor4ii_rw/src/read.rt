@@ -33,7 +33,7 @@ ghost use Rattle.cbor4ii_rw.specs.Reference.{bytes_of, IsLong};
 use std::fmt::Debug;
 
 /// A front of what a reader has left.
-#[derive(Clone, Copy)]
+#[derive(Clone, Copy, Debug, PartialEq, Eq)]
 pub enum Reference<'de, 'short> {
     /// It lives as long as the input, so decoded values may keep parts of it.
     Long(&'de [u8]),

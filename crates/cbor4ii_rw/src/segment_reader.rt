@@ -1,5 +1,5 @@
 //! A reader over borrowed segments.
-ghost use Rattle.std.specs.Prelude.{◌≡◌, ◌≤◌, [], Some, length, nat_lt, IsTrue, IfOk, MatchResult};
+ghost use Rattle.std.specs.Prelude.{◌≡◌, ◌≤◌, min, [], Some, length, nat_lt, IsTrue, IfOk, MatchResult};
 ghost use Rattle.std.proofs.Common.{rules};
 ghost use Rattle.std.specs.Borrow.{sem};
 ghost use Rattle.std.specs.Io.BufRead.{Rests};
@@ -8,7 +8,7 @@ ghost use Rattle.cbor4ii_rw.specs.contracts.segment_reader.SegmentReader.{the_ro
 ghost use Rattle.cbor4ii_rw.specs.View.{Told};
 ghost use Rattle.cbor4ii_rw.specs.Reader.{IsFront, IsEnough, Shows, Breaks};
 ghost use Rattle.cbor4ii_rw.specs.Reference.{bytes_of, IsLong};
-ghost use Rattle.cbor4ii_rw.specs.Segments.{joined, full_count, rest_of, full_of, segment_view};
+ghost use Rattle.cbor4ii_rw.specs.Segments.{joined, full_count, rest_of, full_of, shown_segment, segment_view};
 
 use crate::error::Never;
 use crate::read::{Read, Reference, Source};
@@ -16,7 +16,7 @@ use crate::read::{Read, Reference, Source};
 /// A reader over borrowed segments, one after another, empty ones among them. It never fails,
 /// and shows at most what is wanted of one segment. With at most one segment left that has
 /// bytes, it lends whole.
-#[derive(Drop)]
+#[derive(Clone, Debug, Drop)]
 pub struct SegmentReader<'de> {
     current: &'de [u8],
     // Those behind the current one.
@@ -31,10 +31,19 @@ impl<'de> SegmentReader<'de> {
         ensures whole { (segment_view result).lends_whole ≡ nat_lt (full_count segments.now) 2 }
         ensures budget { (segment_view result).budget ≡ Some 256 }
     {
+        SegmentReader::with_limit(segments, 256)
+    }
+
+    /// A reader over `segments`, with `limit` steps.
+    pub fn with_limit(segments: &'de [&'de [u8]], limit: usize) -> SegmentReader<'de>
+        ensures told { (segment_view result).told ≡ Some (joined segments.now) }
+        ensures whole { (segment_view result).lends_whole ≡ nat_lt (full_count segments.now) 2 }
+        ensures budget { (segment_view result).budget ≡ Some limit }
+    {
         SegmentReader {
             current: &[],
             segments,
-            steps: 256,
+            steps: limit,
         }
     }
 
@@ -42,6 +51,7 @@ impl<'de> SegmentReader<'de> {
     fn pass_empty(&mut self)
         ensures end { length self.new.current.now ≡ 0 → rest_of self.new ≡ [] }
         ensures bytes { rest_of self.new ≡ rest_of self.old }
+        ensures segment { shown_segment self.new ≡ shown_segment self.old }
         ensures count { full_of self.new ≡ full_of self.old }
         ensures steps { self.new.steps ≡ self.old.steps }
     {
@@ -66,7 +76,8 @@ impl Source for SegmentReader<'_> {
         ensures bounded { IfOk result (λ shown. length shown.now ≤ (segment_view self.old).bound) }
         ensures enough { IsTrue (segment_view self.old).lends_whole →
             IfOk result (λ shown. Told (segment_view self.old).told (IsEnough want shown.now)) }
-        ensures wanted { IfOk result (λ shown. length shown.now ≤ want) }
+        ensures segment { IfOk result
+            (λ shown. length shown.now ≡ min want (length (shown_segment self.old))) }
         ensures* after_borrow { sem 𝓛 (Rests (the_row (record { mir = named 1; lft = [] })) self.entry
             (λ new. MatchResult result
             (λ shown. Shows shown.now (segment_view self.old) (segment_view new))
@@ -103,8 +114,9 @@ impl<'de> Read<'de> for SegmentReader<'de> {
         ensures bounded { IfOk result (λ shown. length (bytes_of shown) ≤ (segment_view self.old).bound) }
         ensures enough { IsTrue (segment_view self.old).lends_whole →
             IfOk result (λ shown. Told (segment_view self.old).told (IsEnough want (bytes_of shown))) }
-        ensures long { IsTrue (segment_view self.old).lends_whole → IfOk result IsLong }
-        ensures wanted { IfOk result (λ shown. length (bytes_of shown) ≤ want) }
+        ensures long { IfOk result IsLong }
+        ensures segment { IfOk result
+            (λ shown. length (bytes_of shown) ≡ min want (length (shown_segment self.old))) }
         ensures* after_borrow { sem 𝓛 (Rests (the_row (record { mir = named 1; lft = [] })) self.entry
             (λ new. MatchResult result
             (λ shown. Shows (bytes_of shown) (segment_view self.old) (segment_view new))

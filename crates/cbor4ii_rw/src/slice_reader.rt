@@ -14,7 +14,7 @@ use crate::error::Never;
 use crate::read::{Read, Reference, Source};
 
 /// A reader over one slice. It never fails, shows at most what is wanted, and lends whole.
-#[derive(Drop)]
+#[derive(Clone, Debug, Drop)]
 pub struct SliceReader<'a> {
     bytes: &'a [u8],
     steps: usize,

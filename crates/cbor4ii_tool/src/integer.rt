@@ -1,8 +1,8 @@
 //! Integers: items of major types 0 and 1 (RFC 8949 section 3.1), which are a head alone.
 ghost use Rattle.std.specs.Prelude.{◌≡◌, ◌↔◌, [], OnOk, OnErr, IfOk, IfErr, IsTrue};
 ghost use Rattle.cbor4ii_rw.specs.View.{Told};
-ghost use Rattle.cbor4ii_rw.specs.Reader.{Shows, Failed, Keeps};
-ghost use Rattle.cbor4ii_rw.specs.Writer.{Appends};
+ghost use Rattle.cbor4ii_rw.specs.Reader.{Shows, Failed};
+ghost use Rattle.cbor4ii_items.specs.Writing.{WritesWhole};
 ghost use Rattle.cbor4ii_tool.specs.Reading.{
   ReadsInteger,
   RefusesInteger,
@@ -57,13 +57,8 @@ pub fn read<S: Source>(alloc: Global, reader: &mut S) -> Result<Integer, Kind>
 /// Writes an integer with the shortest argument (RFC 8949 section 4.2.1). It fails only where the
 /// writer failed in the call, and a whole writer then holds what it held before.
 pub fn write<W: Write>(integer: &Integer, writer: &mut W) -> Result<(), EncodeError<W::Error>>
-    ensures appends { OnOk result (Appends (written_bytes integer.now)
-        (W.view writer.old).written (W.view writer.new).written) }
-    ensures counts { OnOk result ((W.view writer.new).failures ≡ (W.view writer.old).failures) }
-    ensures failed { OnErr result
-        (Failed (W.view writer.old).failures (W.view writer.new).failures) }
-    ensures whole { IsTrue W.whole →
-        OnErr result (Keeps (W.view writer.old).written (W.view writer.new).written) }
+    ensures { WritesWhole W.whole (written_bytes integer.now)
+        (W.view writer.old) (W.view writer.new) result }
 {
     match integer {
         Integer::Unsigned(number) => number.encode(writer),

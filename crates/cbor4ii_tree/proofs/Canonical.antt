@@ -10,7 +10,7 @@ use Rattle.cbor4ii_tree.specs.Cost.{cost}
 use Rattle.cbor4ii_tree.specs.Canonical.{canon, canon_tree, canon_trees, canon_pairs, integer_tree, bignum, magnitude, without_leading_zeros, sign_tag, with_bignums, with_bignums_all, with_bignums_members, tagged_integer}
 use Rattle.cbor4ii_tree.specs.Spelling.{Spells}
 use Rattle.cbor4ii_tree.proofs.Costs.{below_from_HeadFits}
-use Rattle.cbor4ii_tree.proofs.heads.Numbers.{length-bytes_high_first}
+use Rattle.cbor4ii_tree.specs.head_laws.Numbers.{length-bytes_high_first}
 
 if_cases : {A : Type 0} (P : A → Type 0) (b : Bool) (x y : A) → (b ≡ true → P x) → (b ≡ false → P y) → P (cond b x y)
 if_cases P true x y f g = f refl
@@ -37,11 +37,11 @@ loose_integer negative n = if_cases Loose (ltb n (2 ^ 64)) _ _ (λ e. shortest_f
 sound_integer : (s : Sign) (n : ℕ) → Sound (integer_tree s n)
 sound_integer s n = if_cases Sound (ltb n (2 ^ 64)) _ _ (λ e. tt) (λ e. tt)
 
-count-canon : (vs : Items) → count (canon_trees vs) ≡ item_count vs
+pub count-canon : (vs : Items) → count (canon_trees vs) ≡ item_count vs
 count-canon no_items = refl
 count-canon (item v vs) = ap suc (count-canon vs)
 
-count-pairs : (ms : Members) → pair_count (canon_pairs ms) ≡ member_count ms
+pub count-pairs : (ms : Members) → pair_count (canon_pairs ms) ≡ member_count ms
 count-pairs no_members = refl
 count-pairs (member k v ms) = ap suc (count-pairs ms)
 

@@ -8,7 +8,7 @@ use Rattle.cbor4ii_tree.specs.Item.{Item, integer, item_count, member_count, IsI
 use Rattle.cbor4ii_tree.specs.Meaning.{value, values, member_values, content_item, number}
 use Rattle.cbor4ii_tree.specs.Spelling.{Spells}
 use Rattle.cbor4ii_tree.proofs.Costs.{below_from_HeadFits}
-use Rattle.cbor4ii_tree.proofs.heads.Initials.{length-bytes-pos}
+use Rattle.cbor4ii_tree.specs.head_laws.Initials.{length-bytes-pos}
 
 size-content : (k : Kind) (content : List ℕ) → size (content_item k content) ≤ 1 + length content
 size-content byte_string content = omega arith

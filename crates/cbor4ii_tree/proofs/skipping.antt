@@ -1,4 +1,3 @@
-pub mod Again
 pub mod Sound
 pub mod Refuses
 pub mod Stops

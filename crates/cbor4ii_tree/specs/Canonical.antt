@@ -1,22 +1,13 @@
 -- The canonical spelling of a value, the one that encoders write: shortest heads, lengths given, null for null and
 -- floats in their own width (preferred serialization, RFC 8949 section 4.1), and bignums for integers beyond 64 bits.
 -- Map keys keep their order, so it is not the whole of section 4.2.
-use Rattle.std.specs.Prelude.{ℕ, zero, suc, ◌^◌, List, [], ◌∷◌, length, Bool, true, false, nat_lt, if◌then◌else◌, pos, negsuc}
-use Rattle.std.specs.Int.{bytes_high_first}
+use Rattle.std.specs.Prelude.{ℕ, ◌^◌, List, length, Bool, true, false, nat_lt, if◌then◌else◌, pos, negsuc}
 use Rattle.cbor4ii_items.specs.Head.{shortest}
+pub use Rattle.cbor4ii_items.specs.Magnitude.{without_leading_zeros, magnitude}
 use Rattle.cbor4ii_items.specs.Initial.{unsigned, negative, Sign, byte_string, text_string, simple_false, simple_true, simple_null, Simple}
 use Rattle.cbor4ii_tree.specs.Tree.{Tree, int, string, array, map_of, tagged, simple, bits, Trees, no_trees, tree, Pairs, no_pairs, pair, bytes}
 use Rattle.cbor4ii_tree.specs.Cost.{cost}
 use Rattle.cbor4ii_tree.specs.Item.{Item, null, boolean, integer, float, bytes_item, text, sequence, mapping, tag, Items, no_items, item, item_count, Members, no_members, member, member_count}
-
-abbrev pub without_leading_zeros : List ℕ → List ℕ
-without_leading_zeros [] = []
-without_leading_zeros (zero ∷ bs) = without_leading_zeros bs
-without_leading_zeros (suc b ∷ bs) = suc b ∷ bs
-
--- the bytes of a number below 2 ^ 128, most significant first, without leading zeros (section 3.4.3)
-abbrev pub magnitude : ℕ → List ℕ
-magnitude n = without_leading_zeros (bytes_high_first 16 n)
 
 abbrev pub sign_tag : Sign → ℕ
 sign_tag unsigned = 2

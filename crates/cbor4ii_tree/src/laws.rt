@@ -9,11 +9,15 @@ ghost use Rattle.cbor4ii_items.specs.Decoding.{CostFits};
 ghost use Rattle.cbor4ii_tree.specs.Cost.{Budget, skip_cost, cost};
 ghost use Rattle.cbor4ii_tree.specs.Canonical.{canon, canon_cost, with_bignums};
 ghost use Rattle.cbor4ii_tree.specs.Refusal.{Refusal, Len, eof, depth_overflow, IsFinal, MayStop};
-ghost use Rattle.cbor4ii_tree.specs.Spelling.{Spells, Reads, Skips, OneAnswer, IsProperFront};
+ghost use Rattle.cbor4ii_tree.specs.Spelling.{Spells, Reads, Skips, SomeAnswer, AtMostOne, IsProperFront};
 ghost use Rattle.cbor4ii_tree.specs.StopsSkipping.{StopsSkipping, SkippingStopsByParts};
 ghost use Rattle.cbor4ii_tree.specs.StopsReading.{StopsReading, ReadingStopsByParts};
 ghost use Rattle.cbor4ii_tree.specs.Skip.{skip};
 ghost use Rattle.cbor4ii_tree.specs.Read.{read};
+ghost use Rattle.cbor4ii_tree.specs.View.{view};
+
+use crate::range::in_range;
+use crate::value::Value;
 
 /// No spelling begins another: what begins with the bytes of two loose trees begins with those of one, and has one rest.
 /// So an input has one spelling of one value at one cost, at most.
@@ -50,26 +54,39 @@ pub fn value_is_no_larger_than_its_spelling()
         length spelling < 2 ^ 64 → Spells spelling v steps → IsItem v }
 {}
 
-/// Skipping has exactly one answer for each input and budget: the one loose tree that fits and begins the input, or one
-/// refusal with one rest. The plain program computes it.
+/// Skipping has at most one answer for each input and budget: the one loose tree that fits and begins the input, or one
+/// refusal with one rest. The plain program computes it. An input of bytes has an answer, the one that the program computes.
 pub fn skipping_has_one_answer()
-    ensures one { (input : List ℕ) (budget : Budget) →
-        IsBytes input → OneAnswer (Skips input budget) (StopsSkipping input budget) }
+    ensures at_most_one { (input : List ℕ) (budget : Budget) →
+        AtMostOne (Skips input budget) (StopsSkipping input budget) }
+    ensures some { (input : List ℕ) (budget : Budget) →
+        IsBytes input → SomeAnswer (Skips input budget) (StopsSkipping input budget) }
     ensures computes { (input : List ℕ) (budget : Budget) (t : Tree) (rest : List ℕ) →
-        IsBytes input → (skip budget input ≡ Ok (t, rest)) ↔ Skips input budget t rest }
+        Skips input budget t rest → skip budget input ≡ Ok (t, rest) }
     ensures computes_refusal { (input : List ℕ) (budget : Budget) (e : Refusal) (rest : List ℕ) →
-        IsBytes input → (skip budget input ≡ Err (e, rest)) ↔ StopsSkipping input budget e rest }
+        StopsSkipping input budget e rest → skip budget input ≡ Err (e, rest) }
+    ensures means { (input : List ℕ) (budget : Budget) (t : Tree) (rest : List ℕ) →
+        IsBytes input → skip budget input ≡ Ok (t, rest) → Skips input budget t rest }
+    ensures means_refusal { (input : List ℕ) (budget : Budget) (e : Refusal) (rest : List ℕ) →
+        IsBytes input → skip budget input ≡ Err (e, rest) → StopsSkipping input budget e rest }
 {}
 
-/// Reading a value has exactly one answer for each input and budget: the one value of which a spelling that fits begins
-/// the input, or one refusal with one rest. The plain program computes it.
+/// Reading a value has at most one answer for each input and budget: the one value of which a spelling that fits begins
+/// the input, or one refusal with one rest. The plain program computes it. An input of bytes has an answer, the one that the
+/// program computes.
 pub fn reading_has_one_answer()
-    ensures one { (input : List ℕ) (budget : Budget) →
-        IsBytes input → OneAnswer (Reads input budget) (StopsReading input budget) }
+    ensures at_most_one { (input : List ℕ) (budget : Budget) →
+        AtMostOne (Reads input budget) (StopsReading input budget) }
+    ensures some { (input : List ℕ) (budget : Budget) →
+        IsBytes input → SomeAnswer (Reads input budget) (StopsReading input budget) }
     ensures computes { (input : List ℕ) (budget : Budget) (v : Item) (rest : List ℕ) →
-        IsBytes input → (read budget input ≡ Ok (v, rest)) ↔ Reads input budget v rest }
+        Reads input budget v rest → read budget input ≡ Ok (v, rest) }
     ensures computes_refusal { (input : List ℕ) (budget : Budget) (e : Refusal) (rest : List ℕ) →
-        IsBytes input → (read budget input ≡ Err (e, rest)) ↔ StopsReading input budget e rest }
+        StopsReading input budget e rest → read budget input ≡ Err (e, rest) }
+    ensures means { (input : List ℕ) (budget : Budget) (v : Item) (rest : List ℕ) →
+        IsBytes input → read budget input ≡ Ok (v, rest) → Reads input budget v rest }
+    ensures means_refusal { (input : List ℕ) (budget : Budget) (e : Refusal) (rest : List ℕ) →
+        IsBytes input → read budget input ≡ Err (e, rest) → StopsReading input budget e rest }
 {}
 
 /// Where skipping or reading stops goes by where it stops in the parts of the item, however deep these nest.
@@ -88,7 +105,7 @@ pub fn skipping_tells_what_may_come()
         Loose t → CostFits (skip_cost t) budget → IsProperFront front (bytes t) → IsBytes front →
         (name : List ℕ) × (expect : Len) × StopsSkipping front budget (eof name expect) [] }
     ensures nothing_left { (input : List ℕ) (budget : Budget) (name : List ℕ) (expect : Len) (rest : List ℕ) →
-        IsBytes input → StopsSkipping input budget (eof name expect) rest → rest ≡ [] }
+        StopsSkipping input budget (eof name expect) rest → rest ≡ [] }
     ensures only_fronts { (input : List ℕ) (budget : Budget) (name : List ℕ) (expect : Len) (rest : List ℕ) →
         IsBytes input → StopsSkipping input budget (eof name expect) rest →
         (t : Tree) × Loose t × IsBytes (bytes t) × IsProperFront input (bytes t) }
@@ -108,7 +125,7 @@ pub fn reading_tells_what_may_come()
         Spells spelling v steps → CostFits steps budget → IsProperFront front spelling → IsBytes front →
         (name : List ℕ) × (expect : Len) × StopsReading front budget (eof name expect) [] }
     ensures nothing_left { (input : List ℕ) (budget : Budget) (name : List ℕ) (expect : Len) (rest : List ℕ) →
-        IsBytes input → StopsReading input budget (eof name expect) rest → rest ≡ [] }
+        StopsReading input budget (eof name expect) rest → rest ≡ [] }
     ensures only_fronts { (input : List ℕ) (budget : Budget) (name : List ℕ) (expect : Len) (rest : List ℕ) →
         IsBytes input → StopsReading input budget (eof name expect) rest →
         (t : Tree) × Loose t × Joins t × IsBytes (bytes t) × IsProperFront input (bytes t) }
@@ -134,3 +151,11 @@ pub fn skipping_takes_what_reading_takes()
     ensures { (input : List ℕ) (budget : Budget) (v : Item) (rest : List ℕ) →
         Reads input budget v rest → (t : Tree) × Skips input budget t rest }
 {}
+
+/// Every value of the program is one that canonical spellings speak of: its integers, floats, lengths and tags are in
+/// range, and its texts are UTF-8.
+pub fn values_are_items(value: &Value)
+    ensures { IsItem (view value.now) }
+{
+    in_range(value)
+}

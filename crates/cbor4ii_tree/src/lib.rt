@@ -1,9 +1,23 @@
 //! Encoded data items of CBOR (RFC 8949): their definitions, the laws that hold of them, and values.
 #![tactic(auto)]
 
+pub mod boxed_raw;
+pub mod decode_value;
+mod encode_value;
+mod front;
+pub mod ignored;
 pub mod laws;
+mod lend_raw;
+mod range;
+pub mod raw;
+#[cfg(test)]
+mod raw_tests;
+mod skip;
 #[cfg(test)]
 mod tests;
 pub mod value;
 
+pub use boxed_raw::BoxedRawValue;
+pub use ignored::IgnoredAny;
+pub use raw::RawValue;
 pub use value::{FloatBits, NoMemory, Value};

@@ -11,7 +11,7 @@ use Rattle.cbor4ii_vectors.specs.declared.writers.FailsInTurn.{FailsInTurn}
 
 -- a reader of these bytes, which tells all of them
 abbrev pub telling : List ℕ → Option ℕ → Bool → View
-telling bytes budget lends_whole = record { told = Some bytes; bound = length bytes; advanceable = length bytes; budget = budget; failures = 0; taken = None; lends_whole = lends_whole }
+telling bytes budget lends_whole = record { told = Some bytes; bound = length bytes; advanceable = length bytes; budget = budget; failures = 0; taken = None; lends_whole = lends_whole; remembers = true }
 
 abbrev pub short_view : ShortByByte → View
 short_view reader = telling reader.bytes.now (Some reader.steps) false
@@ -24,7 +24,7 @@ unlimited_view reader = telling reader.bytes.now None true
 
 -- it counts its failures
 abbrev pub failing_view : FailsInTime → View
-failing_view reader = record { told = Some reader.bytes.now; bound = length reader.bytes.now; advanceable = length reader.bytes.now; budget = Some reader.steps; failures = reader.failures; taken = None; lends_whole = false }
+failing_view reader = record { told = Some reader.bytes.now; bound = length reader.bytes.now; advanceable = length reader.bytes.now; budget = Some reader.steps; failures = reader.failures; taken = None; lends_whole = false; remembers = true }
 
 abbrev pub counting_view : Counting → View
 counting_view reader = telling reader.bytes.now None false

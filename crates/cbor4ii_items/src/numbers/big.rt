@@ -31,6 +31,7 @@ ghost use Rattle.cbor4ii_items.specs.BigLaws.{
 
 use crate::decode::{Decode, Spelled};
 use crate::encode::Encode;
+use crate::front::take_head;
 use crate::head::{head, length, number, peek};
 use crate::initial::if_major;
 use crate::major;
@@ -90,7 +91,20 @@ fn unsigned_bignum<S: Source>(reader: &mut S, tag: u8) -> Result<u128, DecodeErr
 }
 
 /// An unsigned integer, or a bignum from 0 on.
+#[inline(always)]
 fn unsigned<S: Source>(reader: &mut S) -> Result<u128, DecodeError<S::Error>>
+    ensures runs { Runs u128_at (S.view reader.old) (S.view reader.new) result }
+    ensures progress { OnOk result ((S.view reader.new).bound + 1 ≤ (S.view reader.old).bound) }
+{
+    match take_head(reader, major::UNSIGNED, 8) {
+        Ok(Some(argument)) => Ok(argument as u128),
+        Ok(None) => unsigned_by_bytes(reader),
+        Err(error) => Err(DecodeError::Read(error)),
+    }
+}
+
+/// As `unsigned`, where no unsigned integer stands whole in what is shown.
+fn unsigned_by_bytes<S: Source>(reader: &mut S) -> Result<u128, DecodeError<S::Error>>
     ensures runs { Runs u128_at (S.view reader.old) (S.view reader.new) result }
     ensures progress { OnOk result ((S.view reader.new).bound + 1 ≤ (S.view reader.old).bound) }
 {
@@ -121,7 +135,32 @@ fn signed_bignum<S: Source>(reader: &mut S, tag: u8) -> Result<i128, DecodeError
 }
 
 /// An integer of either sign, or a bignum.
+#[inline(always)]
 fn signed<S: Source>(reader: &mut S) -> Result<i128, DecodeError<S::Error>>
+    ensures runs { Runs i128_at (S.view reader.old) (S.view reader.new) result }
+    ensures progress { OnOk result ((S.view reader.new).bound + 1 ≤ (S.view reader.old).bound) }
+{
+    match take_head(reader, major::UNSIGNED, 8) {
+        Ok(Some(argument)) => Ok(positive(argument as u128)),
+        Ok(None) => signed_below_zero(reader),
+        Err(error) => Err(DecodeError::Read(error)),
+    }
+}
+
+/// As `signed`, where no unsigned integer stands whole in what is shown.
+fn signed_below_zero<S: Source>(reader: &mut S) -> Result<i128, DecodeError<S::Error>>
+    ensures runs { Runs i128_at (S.view reader.old) (S.view reader.new) result }
+    ensures progress { OnOk result ((S.view reader.new).bound + 1 ≤ (S.view reader.old).bound) }
+{
+    match take_head(reader, major::NEGATIVE, 8) {
+        Ok(Some(argument)) => Ok(negative(argument as u128)),
+        Ok(None) => signed_by_bytes(reader),
+        Err(error) => Err(DecodeError::Read(error)),
+    }
+}
+
+/// As `signed`, where no integer stands whole in what is shown.
+fn signed_by_bytes<S: Source>(reader: &mut S) -> Result<i128, DecodeError<S::Error>>
     ensures runs { Runs i128_at (S.view reader.old) (S.view reader.new) result }
     ensures progress { OnOk result ((S.view reader.new).bound + 1 ≤ (S.view reader.old).bound) }
 {
@@ -159,6 +198,8 @@ impl Spelled for u128 {
     ghost same = { λ v w. v ≡ w };
 
     ghost stops = { λ xs budget. StopsU128 xs };
+
+    ghost begins = { λ xs budget. StopsU128 xs };
 
     ghost never_empty = { true };
 
@@ -205,6 +246,8 @@ impl Spelled for i128 {
     ghost same = { λ v w. v ≡ w };
 
     ghost stops = { λ xs budget. StopsI128 xs };
+
+    ghost begins = { λ xs budget. StopsI128 xs };
 
     ghost never_empty = { true };
 

@@ -1,8 +1,6 @@
 //! Negative integers of at most eight bytes, as -1 - n for the unsigned n.
-ghost use Rattle.std.specs.Prelude.{◌≡◌, true, false, codes, OnOk, OnErr, IsTrue};
-ghost use Rattle.cbor4ii_rw.specs.Reader.{Failed, Keeps};
-ghost use Rattle.cbor4ii_rw.specs.Writer.{Appends};
-ghost use Rattle.cbor4ii_items.specs.Writing.{AppendsFront};
+ghost use Rattle.std.specs.Prelude.{◌≡◌, true, false, codes};
+ghost use Rattle.cbor4ii_items.specs.Writing.{WritesWhole};
 ghost use Rattle.cbor4ii_items.specs.Numbers.{ReadsNegative, StopsNegative, shortest_head};
 ghost use Rattle.cbor4ii_items.specs.Laws.{
   negative_one,
@@ -29,6 +27,8 @@ impl Spelled for Negative<u8> {
 
     ghost stops = { StopsNegative (codes "-u8") 1 };
 
+    ghost begins = { StopsNegative (codes "-u8") 1 };
+
     ghost never_empty = { true };
 
     ghost owned = { true };
@@ -47,6 +47,7 @@ impl Spelled for Negative<u8> {
 }
 
 impl<S: Source> Decode<S> for Negative<u8> {
+    #[inline(always)]
     fn decode(alloc: Global, reader: &mut S) -> Result<Negative<u8>, DecodeError<S::Error>> {
         Ok(Negative(lone_head(reader, "-u8", major::NEGATIVE, 1)? as u8))
     }
@@ -63,7 +64,10 @@ impl<S: Source> Decode<S> for Negative<u8> {
 impl Encode for Negative<u8> {
     ghost bytes = { λ v. shortest_head 1 v.0 };
 
-    fn encode<W: Write>(&self, writer: &mut W) -> Result<(), EncodeError<W::Error>> {
+    #[inline(always)]
+    fn encode<W: Write>(&self, writer: &mut W) -> Result<(), EncodeError<W::Error>>
+        ensures { WritesWhole W.whole (shortest_head 1 self.now.0) (W.view writer.old) (W.view writer.new) result }
+    {
         push_head(writer, major::NEGATIVE, self.0 as u64)
     }
 }
@@ -74,6 +78,8 @@ impl Spelled for Negative<u16> {
     ghost same = { λ v w. v ≡ w };
 
     ghost stops = { StopsNegative (codes "-u16") 2 };
+
+    ghost begins = { StopsNegative (codes "-u16") 2 };
 
     ghost never_empty = { true };
 
@@ -93,6 +99,7 @@ impl Spelled for Negative<u16> {
 }
 
 impl<S: Source> Decode<S> for Negative<u16> {
+    #[inline(always)]
     fn decode(alloc: Global, reader: &mut S) -> Result<Negative<u16>, DecodeError<S::Error>> {
         Ok(Negative(lone_head(reader, "-u16", major::NEGATIVE, 2)? as u16))
     }
@@ -109,7 +116,10 @@ impl<S: Source> Decode<S> for Negative<u16> {
 impl Encode for Negative<u16> {
     ghost bytes = { λ v. shortest_head 1 v.0 };
 
-    fn encode<W: Write>(&self, writer: &mut W) -> Result<(), EncodeError<W::Error>> {
+    #[inline(always)]
+    fn encode<W: Write>(&self, writer: &mut W) -> Result<(), EncodeError<W::Error>>
+        ensures { WritesWhole W.whole (shortest_head 1 self.now.0) (W.view writer.old) (W.view writer.new) result }
+    {
         push_head(writer, major::NEGATIVE, self.0 as u64)
     }
 }
@@ -120,6 +130,8 @@ impl Spelled for Negative<u32> {
     ghost same = { λ v w. v ≡ w };
 
     ghost stops = { StopsNegative (codes "-u32") 4 };
+
+    ghost begins = { StopsNegative (codes "-u32") 4 };
 
     ghost never_empty = { true };
 
@@ -139,6 +151,7 @@ impl Spelled for Negative<u32> {
 }
 
 impl<S: Source> Decode<S> for Negative<u32> {
+    #[inline(always)]
     fn decode(alloc: Global, reader: &mut S) -> Result<Negative<u32>, DecodeError<S::Error>> {
         Ok(Negative(lone_head(reader, "-u32", major::NEGATIVE, 4)? as u32))
     }
@@ -155,7 +168,10 @@ impl<S: Source> Decode<S> for Negative<u32> {
 impl Encode for Negative<u32> {
     ghost bytes = { λ v. shortest_head 1 v.0 };
 
-    fn encode<W: Write>(&self, writer: &mut W) -> Result<(), EncodeError<W::Error>> {
+    #[inline(always)]
+    fn encode<W: Write>(&self, writer: &mut W) -> Result<(), EncodeError<W::Error>>
+        ensures { WritesWhole W.whole (shortest_head 1 self.now.0) (W.view writer.old) (W.view writer.new) result }
+    {
         push_head(writer, major::NEGATIVE, self.0 as u64)
     }
 }
@@ -166,6 +182,8 @@ impl Spelled for Negative<u64> {
     ghost same = { λ v w. v ≡ w };
 
     ghost stops = { StopsNegative (codes "-u64") 8 };
+
+    ghost begins = { StopsNegative (codes "-u64") 8 };
 
     ghost never_empty = { true };
 
@@ -185,6 +203,7 @@ impl Spelled for Negative<u64> {
 }
 
 impl<S: Source> Decode<S> for Negative<u64> {
+    #[inline(always)]
     fn decode(alloc: Global, reader: &mut S) -> Result<Negative<u64>, DecodeError<S::Error>> {
         Ok(Negative(lone_head(reader, "-u64", major::NEGATIVE, 8)?))
     }
@@ -202,17 +221,9 @@ impl Encode for Negative<u64> {
     ghost bytes = { λ v. shortest_head 1 v.0 };
 
     /// In one push: a whole writer that failed holds what it held before.
+    #[inline(always)]
     fn encode<W: Write>(&self, writer: &mut W) -> Result<(), EncodeError<W::Error>>
-        ensures appends { OnOk result
-            (Appends (shortest_head 1 self.now.0) (W.view writer.old).written (W.view writer.new).written) }
-        ensures counts { OnOk result
-            ((W.view writer.new).failures ≡ (W.view writer.old).failures) }
-        ensures failed { OnErr result
-            (Failed (W.view writer.old).failures (W.view writer.new).failures) }
-        ensures front { IsTrue W.whole → OnErr result
-            (AppendsFront (shortest_head 1 self.now.0) (W.view writer.old).written (W.view writer.new).written) }
-        ensures whole { IsTrue W.whole → OnErr result
-            (Keeps (W.view writer.old).written (W.view writer.new).written) }
+        ensures { WritesWhole W.whole (shortest_head 1 self.now.0) (W.view writer.old) (W.view writer.new) result }
     {
         push_head(writer, major::NEGATIVE, self.0)
     }

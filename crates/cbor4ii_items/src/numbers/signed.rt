@@ -19,9 +19,11 @@ ghost use Rattle.cbor4ii_items.specs.Decoding.{Sound, Refuses, Stops};
 ghost use Rattle.cbor4ii_items.specs.ReadNumber.{half_at, signed_at};
 ghost use Rattle.cbor4ii_items.specs.Numbers.{ReadsSigned, StopsSigned, IsWithin, signed_head};
 ghost use Rattle.cbor4ii_items.specs.SignedLaws.{signed_one, signed_within, signed_positive, signed_alone};
+ghost use Rattle.cbor4ii_items.specs.Writing.{WritesWhole};
 
 use crate::decode::{Decode, Spelled};
 use crate::encode::Encode;
+use crate::front::take_head;
 use crate::head::{head, peek};
 use crate::initial::if_major;
 use crate::major;
@@ -32,6 +34,7 @@ use cbor4ii_rw::write::Write;
 use std::alloc::Global;
 
 /// A head with an argument below `limit`.
+#[inline(always)]
 fn head_below<S: Source>(
     reader: &mut S,
     name: StaticStr,
@@ -51,7 +54,62 @@ fn head_below<S: Source>(
 }
 
 /// A number from 0 on, or -1 - n, with an argument below `limit`.
+#[inline(always)]
 fn signed<S: Source>(
+    reader: &mut S,
+    name: StaticStr,
+    plus: StaticStr,
+    minus: StaticStr,
+    width: u8,
+    limit: u64,
+) -> Result<i64, DecodeError<S::Error>>
+    requires { limit ≤ 2 ^ 63 }
+    ensures runs { Runs (signed_at name.now plus.now minus.now width limit) (S.view reader.old) (S.view reader.new) result }
+    ensures range { IfOk result (IsWithin limit) }
+    ensures progress { OnOk result ((S.view reader.new).bound + 1 ≤ (S.view reader.old).bound) }
+{
+    match take_head(reader, major::UNSIGNED, width) {
+        Ok(Some(argument)) => {
+            if argument >= limit {
+                return Err(DecodeError::CastOverflow { name: plus });
+            }
+            Ok(positive(argument))
+        }
+        Ok(None) => signed_below_zero(reader, name, plus, minus, width, limit),
+        Err(error) => Err(DecodeError::Read(error)),
+    }
+}
+
+/// As `signed`, where no number from 0 on stands whole in what is shown.
+fn signed_below_zero<S: Source>(
+    reader: &mut S,
+    name: StaticStr,
+    plus: StaticStr,
+    minus: StaticStr,
+    width: u8,
+    limit: u64,
+) -> Result<i64, DecodeError<S::Error>>
+    requires { limit ≤ 2 ^ 63 }
+    ensures runs { Runs (signed_at name.now plus.now minus.now width limit) (S.view reader.old) (S.view reader.new) result }
+    ensures range { IfOk result (IsWithin limit) }
+    ensures progress { OnOk result ((S.view reader.new).bound + 1 ≤ (S.view reader.old).bound) }
+{
+    match take_head(reader, major::NEGATIVE, width) {
+        Ok(Some(argument)) => {
+            if argument >= limit {
+                return Err(DecodeError::CastOverflow { name: minus });
+            }
+            Ok(negative(argument))
+        }
+        Ok(None) => signed_by_bytes(reader, name, plus, minus, width, limit),
+        Err(error) => Err(DecodeError::Read(error)),
+    }
+}
+
+/// As `signed`, one byte at a time.
+#[cold]
+#[inline(never)]
+fn signed_by_bytes<S: Source>(
     reader: &mut S,
     name: StaticStr,
     plus: StaticStr,
@@ -94,6 +152,7 @@ fn negative(n: u64) -> i64
 }
 
 /// A signed number that is a whole item: what is read, and how it is refused.
+#[inline(always)]
 fn lone_signed<S: Source>(
     reader: &mut S,
     name: StaticStr,
@@ -120,6 +179,8 @@ impl Spelled for i8 {
 
     ghost stops = { λ xs budget. StopsSigned (codes "i8") (codes "+i8") (codes "-i8") 1 (2 ^ 7) xs };
 
+    ghost begins = { λ xs budget. StopsSigned (codes "i8") (codes "+i8") (codes "-i8") 1 (2 ^ 7) xs };
+
     ghost never_empty = { true };
 
     ghost owned = { true };
@@ -138,6 +199,7 @@ impl Spelled for i8 {
 }
 
 impl<S: Source> Decode<S> for i8 {
+    #[inline(always)]
     fn decode(alloc: Global, reader: &mut S) -> Result<i8, DecodeError<S::Error>> {
         Ok(lone_signed(reader, "i8", "+i8", "-i8", 1, 0x80)? as i8)
     }
@@ -154,7 +216,10 @@ impl<S: Source> Decode<S> for i8 {
 impl Encode for i8 {
     ghost bytes = { signed_head };
 
-    fn encode<W: Write>(&self, writer: &mut W) -> Result<(), EncodeError<W::Error>> {
+    #[inline(always)]
+    fn encode<W: Write>(&self, writer: &mut W) -> Result<(), EncodeError<W::Error>>
+        ensures { WritesWhole W.whole (signed_head self.now) (W.view writer.old) (W.view writer.new) result }
+    {
         push_signed(writer, *self as i64)
     }
 }
@@ -165,6 +230,8 @@ impl Spelled for i16 {
     ghost same = { λ v w. v ≡ w };
 
     ghost stops = { λ xs budget. StopsSigned (codes "i16") (codes "+i16") (codes "-i16") 2 (2 ^ 15) xs };
+
+    ghost begins = { λ xs budget. StopsSigned (codes "i16") (codes "+i16") (codes "-i16") 2 (2 ^ 15) xs };
 
     ghost never_empty = { true };
 
@@ -184,6 +251,7 @@ impl Spelled for i16 {
 }
 
 impl<S: Source> Decode<S> for i16 {
+    #[inline(always)]
     fn decode(alloc: Global, reader: &mut S) -> Result<i16, DecodeError<S::Error>> {
         Ok(lone_signed(reader, "i16", "+i16", "-i16", 2, 0x8000)? as i16)
     }
@@ -200,7 +268,10 @@ impl<S: Source> Decode<S> for i16 {
 impl Encode for i16 {
     ghost bytes = { signed_head };
 
-    fn encode<W: Write>(&self, writer: &mut W) -> Result<(), EncodeError<W::Error>> {
+    #[inline(always)]
+    fn encode<W: Write>(&self, writer: &mut W) -> Result<(), EncodeError<W::Error>>
+        ensures { WritesWhole W.whole (signed_head self.now) (W.view writer.old) (W.view writer.new) result }
+    {
         push_signed(writer, *self as i64)
     }
 }
@@ -211,6 +282,8 @@ impl Spelled for i32 {
     ghost same = { λ v w. v ≡ w };
 
     ghost stops = { λ xs budget. StopsSigned (codes "i32") (codes "+i32") (codes "-i32") 4 (2 ^ 31) xs };
+
+    ghost begins = { λ xs budget. StopsSigned (codes "i32") (codes "+i32") (codes "-i32") 4 (2 ^ 31) xs };
 
     ghost never_empty = { true };
 
@@ -230,6 +303,7 @@ impl Spelled for i32 {
 }
 
 impl<S: Source> Decode<S> for i32 {
+    #[inline(always)]
     fn decode(alloc: Global, reader: &mut S) -> Result<i32, DecodeError<S::Error>> {
         Ok(lone_signed(reader, "i32", "+i32", "-i32", 4, 0x8000_0000)? as i32)
     }
@@ -246,7 +320,10 @@ impl<S: Source> Decode<S> for i32 {
 impl Encode for i32 {
     ghost bytes = { signed_head };
 
-    fn encode<W: Write>(&self, writer: &mut W) -> Result<(), EncodeError<W::Error>> {
+    #[inline(always)]
+    fn encode<W: Write>(&self, writer: &mut W) -> Result<(), EncodeError<W::Error>>
+        ensures { WritesWhole W.whole (signed_head self.now) (W.view writer.old) (W.view writer.new) result }
+    {
         push_signed(writer, *self as i64)
     }
 }
@@ -257,6 +334,8 @@ impl Spelled for i64 {
     ghost same = { λ v w. v ≡ w };
 
     ghost stops = { λ xs budget. StopsSigned (codes "i64") (codes "+i64") (codes "-i64") 8 (2 ^ 63) xs };
+
+    ghost begins = { λ xs budget. StopsSigned (codes "i64") (codes "+i64") (codes "-i64") 8 (2 ^ 63) xs };
 
     ghost never_empty = { true };
 
@@ -276,6 +355,7 @@ impl Spelled for i64 {
 }
 
 impl<S: Source> Decode<S> for i64 {
+    #[inline(always)]
     fn decode(alloc: Global, reader: &mut S) -> Result<i64, DecodeError<S::Error>> {
         lone_signed(reader, "i64", "+i64", "-i64", 8, 0x8000_0000_0000_0000)
     }
@@ -292,7 +372,10 @@ impl<S: Source> Decode<S> for i64 {
 impl Encode for i64 {
     ghost bytes = { signed_head };
 
-    fn encode<W: Write>(&self, writer: &mut W) -> Result<(), EncodeError<W::Error>> {
+    #[inline(always)]
+    fn encode<W: Write>(&self, writer: &mut W) -> Result<(), EncodeError<W::Error>>
+        ensures { WritesWhole W.whole (signed_head self.now) (W.view writer.old) (W.view writer.new) result }
+    {
         push_signed(writer, *self)
     }
 }

@@ -1,8 +1,6 @@
 //! Unsigned integers of at most eight bytes.
-ghost use Rattle.std.specs.Prelude.{◌≡◌, true, false, codes, OnOk, OnErr, IsTrue};
-ghost use Rattle.cbor4ii_rw.specs.Reader.{Failed, Keeps};
-ghost use Rattle.cbor4ii_rw.specs.Writer.{Appends};
-ghost use Rattle.cbor4ii_items.specs.Writing.{AppendsFront};
+ghost use Rattle.std.specs.Prelude.{◌≡◌, true, false, codes};
+ghost use Rattle.cbor4ii_items.specs.Writing.{WritesWhole};
 ghost use Rattle.cbor4ii_items.specs.Numbers.{ReadsUnsigned, StopsUnsigned, shortest_head};
 ghost use Rattle.cbor4ii_items.specs.Laws.{
   unsigned_one,
@@ -28,6 +26,8 @@ impl Spelled for u8 {
 
     ghost stops = { StopsUnsigned (codes "u8") 1 };
 
+    ghost begins = { StopsUnsigned (codes "u8") 1 };
+
     ghost never_empty = { true };
 
     ghost owned = { true };
@@ -46,6 +46,7 @@ impl Spelled for u8 {
 }
 
 impl<S: Source> Decode<S> for u8 {
+    #[inline(always)]
     fn decode(alloc: Global, reader: &mut S) -> Result<u8, DecodeError<S::Error>> {
         Ok(lone_head(reader, "u8", major::UNSIGNED, 1)? as u8)
     }
@@ -62,7 +63,10 @@ impl<S: Source> Decode<S> for u8 {
 impl Encode for u8 {
     ghost bytes = { shortest_head 0 };
 
-    fn encode<W: Write>(&self, writer: &mut W) -> Result<(), EncodeError<W::Error>> {
+    #[inline(always)]
+    fn encode<W: Write>(&self, writer: &mut W) -> Result<(), EncodeError<W::Error>>
+        ensures { WritesWhole W.whole (shortest_head 0 self.now) (W.view writer.old) (W.view writer.new) result }
+    {
         push_head(writer, major::UNSIGNED, *self as u64)
     }
 }
@@ -73,6 +77,8 @@ impl Spelled for u16 {
     ghost same = { λ v w. v ≡ w };
 
     ghost stops = { StopsUnsigned (codes "u16") 2 };
+
+    ghost begins = { StopsUnsigned (codes "u16") 2 };
 
     ghost never_empty = { true };
 
@@ -92,6 +98,7 @@ impl Spelled for u16 {
 }
 
 impl<S: Source> Decode<S> for u16 {
+    #[inline(always)]
     fn decode(alloc: Global, reader: &mut S) -> Result<u16, DecodeError<S::Error>> {
         Ok(lone_head(reader, "u16", major::UNSIGNED, 2)? as u16)
     }
@@ -108,7 +115,10 @@ impl<S: Source> Decode<S> for u16 {
 impl Encode for u16 {
     ghost bytes = { shortest_head 0 };
 
-    fn encode<W: Write>(&self, writer: &mut W) -> Result<(), EncodeError<W::Error>> {
+    #[inline(always)]
+    fn encode<W: Write>(&self, writer: &mut W) -> Result<(), EncodeError<W::Error>>
+        ensures { WritesWhole W.whole (shortest_head 0 self.now) (W.view writer.old) (W.view writer.new) result }
+    {
         push_head(writer, major::UNSIGNED, *self as u64)
     }
 }
@@ -119,6 +129,8 @@ impl Spelled for u32 {
     ghost same = { λ v w. v ≡ w };
 
     ghost stops = { StopsUnsigned (codes "u32") 4 };
+
+    ghost begins = { StopsUnsigned (codes "u32") 4 };
 
     ghost never_empty = { true };
 
@@ -138,6 +150,7 @@ impl Spelled for u32 {
 }
 
 impl<S: Source> Decode<S> for u32 {
+    #[inline(always)]
     fn decode(alloc: Global, reader: &mut S) -> Result<u32, DecodeError<S::Error>> {
         Ok(lone_head(reader, "u32", major::UNSIGNED, 4)? as u32)
     }
@@ -154,7 +167,10 @@ impl<S: Source> Decode<S> for u32 {
 impl Encode for u32 {
     ghost bytes = { shortest_head 0 };
 
-    fn encode<W: Write>(&self, writer: &mut W) -> Result<(), EncodeError<W::Error>> {
+    #[inline(always)]
+    fn encode<W: Write>(&self, writer: &mut W) -> Result<(), EncodeError<W::Error>>
+        ensures { WritesWhole W.whole (shortest_head 0 self.now) (W.view writer.old) (W.view writer.new) result }
+    {
         push_head(writer, major::UNSIGNED, *self as u64)
     }
 }
@@ -165,6 +181,8 @@ impl Spelled for u64 {
     ghost same = { λ v w. v ≡ w };
 
     ghost stops = { StopsUnsigned (codes "u64") 8 };
+
+    ghost begins = { StopsUnsigned (codes "u64") 8 };
 
     ghost never_empty = { true };
 
@@ -184,6 +202,7 @@ impl Spelled for u64 {
 }
 
 impl<S: Source> Decode<S> for u64 {
+    #[inline(always)]
     fn decode(alloc: Global, reader: &mut S) -> Result<u64, DecodeError<S::Error>> {
         lone_head(reader, "u64", major::UNSIGNED, 8)
     }
@@ -201,17 +220,9 @@ impl Encode for u64 {
     ghost bytes = { shortest_head 0 };
 
     /// In one push: a whole writer that failed holds what it held before.
+    #[inline(always)]
     fn encode<W: Write>(&self, writer: &mut W) -> Result<(), EncodeError<W::Error>>
-        ensures appends { OnOk result
-            (Appends (shortest_head 0 self.now) (W.view writer.old).written (W.view writer.new).written) }
-        ensures counts { OnOk result
-            ((W.view writer.new).failures ≡ (W.view writer.old).failures) }
-        ensures failed { OnErr result
-            (Failed (W.view writer.old).failures (W.view writer.new).failures) }
-        ensures front { IsTrue W.whole → OnErr result
-            (AppendsFront (shortest_head 0 self.now) (W.view writer.old).written (W.view writer.new).written) }
-        ensures whole { IsTrue W.whole → OnErr result
-            (Keeps (W.view writer.old).written (W.view writer.new).written) }
+        ensures { WritesWhole W.whole (shortest_head 0 self.now) (W.view writer.old) (W.view writer.new) result }
     {
         push_head(writer, major::UNSIGNED, *self)
     }

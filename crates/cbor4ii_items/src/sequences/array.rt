@@ -37,6 +37,8 @@ impl<T: Spelled> Spelled for Vec<T> {
 
     ghost stops = { StopsArray T.reads T.stops T.never_empty };
 
+    ghost begins = { StopsArray T.reads T.begins T.never_empty };
+
     ghost never_empty = { true };
 
     ghost owned = { T.owned };
@@ -60,6 +62,8 @@ impl<S: Source, T: Decode<S> + Drop> Sequence<S> for Vec<T> {
     ghost reads = { T.reads };
 
     ghost stops = { T.stops };
+
+    ghost begins = { T.begins };
 
     ghost never_empty = { T.never_empty };
 

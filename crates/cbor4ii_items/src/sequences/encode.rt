@@ -10,7 +10,7 @@ ghost use Rattle.cbor4ii_items.specs.Writing.{Writes};
 
 use crate::encode::Encode;
 use crate::major;
-use crate::push::{push_head, push_item};
+use crate::push::push_head;
 use crate::types::Map;
 use cbor4ii_rw::error::EncodeError;
 use cbor4ii_rw::write::Write;
@@ -64,7 +64,7 @@ fn push_items<W: Write, T: Encode>(writer: &mut W, items: &[T]) -> Result<(), En
     ensures { Writes W.whole (items_bytes T.bytes items.now) (W.view writer.old) (W.view writer.new) result }
 {
     for item in items {
-        push_item(writer, item)?;
+        item.encode(writer)?;
     }
     Ok(())
 }
@@ -88,8 +88,8 @@ fn push_pair<W: Write, K: Encode, V: Encode>(
 ) -> Result<(), EncodeError<W::Error>>
     ensures { Writes W.whole (pair_bytes K.bytes V.bytes pair.now) (W.view writer.old) (W.view writer.new) result }
 {
-    push_item(writer, &pair.0)?;
-    push_item(writer, &pair.1)
+    pair.0.encode(writer)?;
+    pair.1.encode(writer)
 }
 
 #[cfg(test)]

@@ -1,15 +1,13 @@
 //! Arrays and maps that are written in parts, and their lengths alone (RFC 8949 sections 3.1 and
 //! 3.2.2).
-ghost use Rattle.std.specs.Prelude.{◌≡◌, ◌+◌, ◌≤◌, OnOk, OnErr, IfOk, IfErr, IsTrue, codes, false};
-ghost use Rattle.cbor4ii_rw.specs.Reader.{Failed};
-ghost use Rattle.cbor4ii_rw.specs.Writer.{Appends};
+ghost use Rattle.std.specs.Prelude.{◌≡◌, ◌+◌, ◌≤◌, OnOk, IfOk, IfErr, codes, false};
 ghost use Rattle.cbor4ii_items.specs.Decoding.{Sound, Refuses, Stops};
 ghost use Rattle.cbor4ii_items.specs.Lengths.{ReadsLength, StopsLength};
 ghost use Rattle.cbor4ii_items.specs.Moves.{Moves};
 ghost use Rattle.cbor4ii_items.specs.Numbers.{shortest_head};
 ghost use Rattle.cbor4ii_items.specs.Refusal.{is_out_of_memory};
 ghost use Rattle.cbor4ii_items.specs.Strings.{opening, closing};
-ghost use Rattle.cbor4ii_items.specs.Writing.{AppendsFront, Writes};
+ghost use Rattle.cbor4ii_items.specs.Writing.{WritesWhole};
 
 use crate::head::lone_length;
 use crate::push::{push_bytes, push_head};
@@ -42,16 +40,9 @@ impl Array<()> {
     /// Writes the shortest head of an array of `len` items, in one push. The items are to follow.
     ///
     /// It fails only where the writer failed in the call. A whole writer then holds what it held
-    /// before and a beginning of the head.
+    /// before.
     pub fn bounded<W: Write>(len: usize, writer: &mut W) -> Result<(), EncodeError<W::Error>>
-        ensures appends { OnOk result
-            (Appends (shortest_head 4 len) (W.view writer.old).written (W.view writer.new).written) }
-        ensures counts { OnOk result
-            ((W.view writer.new).failures ≡ (W.view writer.old).failures) }
-        ensures failed { OnErr result
-            (Failed (W.view writer.old).failures (W.view writer.new).failures) }
-        ensures front { IsTrue W.whole → OnErr result (AppendsFront
-            (shortest_head 4 len) (W.view writer.old).written (W.view writer.new).written) }
+        ensures { WritesWhole W.whole (shortest_head 4 len) (W.view writer.old) (W.view writer.new) result }
     {
         push_head(writer, major::ARRAY, len as u64)
     }
@@ -60,16 +51,9 @@ impl Array<()> {
     /// to follow (RFC 8949 section 3.2.2).
     ///
     /// It fails only where the writer failed in the call. A whole writer then holds what it held
-    /// before, or that and the byte.
+    /// before.
     pub fn unbounded<W: Write>(writer: &mut W) -> Result<(), EncodeError<W::Error>>
-        ensures appends { OnOk result
-            (Appends (opening 4) (W.view writer.old).written (W.view writer.new).written) }
-        ensures counts { OnOk result
-            ((W.view writer.new).failures ≡ (W.view writer.old).failures) }
-        ensures failed { OnErr result
-            (Failed (W.view writer.old).failures (W.view writer.new).failures) }
-        ensures front { IsTrue W.whole → OnErr result (AppendsFront
-            (opening 4) (W.view writer.old).written (W.view writer.new).written) }
+        ensures { WritesWhole W.whole (opening 4) (W.view writer.old) (W.view writer.new) result }
     {
         push_bytes(writer, &[32 * major::ARRAY + marker::START])
     }
@@ -77,16 +61,9 @@ impl Array<()> {
     /// Writes the end of an indefinite length, one byte, in one push.
     ///
     /// It fails only where the writer failed in the call. A whole writer then holds what it held
-    /// before, or that and the byte.
+    /// before.
     pub fn end<W: Write>(writer: &mut W) -> Result<(), EncodeError<W::Error>>
-        ensures appends { OnOk result
-            (Appends closing (W.view writer.old).written (W.view writer.new).written) }
-        ensures counts { OnOk result
-            ((W.view writer.new).failures ≡ (W.view writer.old).failures) }
-        ensures failed { OnErr result
-            (Failed (W.view writer.old).failures (W.view writer.new).failures) }
-        ensures front { IsTrue W.whole → OnErr result (AppendsFront
-            closing (W.view writer.old).written (W.view writer.new).written) }
+        ensures { WritesWhole W.whole closing (W.view writer.old) (W.view writer.new) result }
     {
         push_end(writer)
     }
@@ -115,16 +92,9 @@ impl Map<()> {
     /// Writes the shortest head of a map of `len` pairs of items, in one push. The pairs of items are to follow.
     ///
     /// It fails only where the writer failed in the call. A whole writer then holds what it held
-    /// before and a beginning of the head.
+    /// before.
     pub fn bounded<W: Write>(len: usize, writer: &mut W) -> Result<(), EncodeError<W::Error>>
-        ensures appends { OnOk result
-            (Appends (shortest_head 5 len) (W.view writer.old).written (W.view writer.new).written) }
-        ensures counts { OnOk result
-            ((W.view writer.new).failures ≡ (W.view writer.old).failures) }
-        ensures failed { OnErr result
-            (Failed (W.view writer.old).failures (W.view writer.new).failures) }
-        ensures front { IsTrue W.whole → OnErr result (AppendsFront
-            (shortest_head 5 len) (W.view writer.old).written (W.view writer.new).written) }
+        ensures { WritesWhole W.whole (shortest_head 5 len) (W.view writer.old) (W.view writer.new) result }
     {
         push_head(writer, major::MAP, len as u64)
     }
@@ -133,16 +103,9 @@ impl Map<()> {
     /// to follow (RFC 8949 section 3.2.2).
     ///
     /// It fails only where the writer failed in the call. A whole writer then holds what it held
-    /// before, or that and the byte.
+    /// before.
     pub fn unbounded<W: Write>(writer: &mut W) -> Result<(), EncodeError<W::Error>>
-        ensures appends { OnOk result
-            (Appends (opening 5) (W.view writer.old).written (W.view writer.new).written) }
-        ensures counts { OnOk result
-            ((W.view writer.new).failures ≡ (W.view writer.old).failures) }
-        ensures failed { OnErr result
-            (Failed (W.view writer.old).failures (W.view writer.new).failures) }
-        ensures front { IsTrue W.whole → OnErr result (AppendsFront
-            (opening 5) (W.view writer.old).written (W.view writer.new).written) }
+        ensures { WritesWhole W.whole (opening 5) (W.view writer.old) (W.view writer.new) result }
     {
         push_bytes(writer, &[32 * major::MAP + marker::START])
     }
@@ -150,23 +113,16 @@ impl Map<()> {
     /// Writes the end of an indefinite length, one byte, in one push.
     ///
     /// It fails only where the writer failed in the call. A whole writer then holds what it held
-    /// before, or that and the byte.
+    /// before.
     pub fn end<W: Write>(writer: &mut W) -> Result<(), EncodeError<W::Error>>
-        ensures appends { OnOk result
-            (Appends closing (W.view writer.old).written (W.view writer.new).written) }
-        ensures counts { OnOk result
-            ((W.view writer.new).failures ≡ (W.view writer.old).failures) }
-        ensures failed { OnErr result
-            (Failed (W.view writer.old).failures (W.view writer.new).failures) }
-        ensures front { IsTrue W.whole → OnErr result (AppendsFront
-            closing (W.view writer.old).written (W.view writer.new).written) }
+        ensures { WritesWhole W.whole closing (W.view writer.old) (W.view writer.new) result }
     {
         push_end(writer)
     }
 }
 
 fn push_end<W: Write>(writer: &mut W) -> Result<(), EncodeError<W::Error>>
-    ensures { Writes W.whole closing (W.view writer.old) (W.view writer.new) result }
+    ensures { WritesWhole W.whole closing (W.view writer.old) (W.view writer.new) result }
 {
     push_bytes(writer, &[marker::BREAK])
 }

@@ -40,6 +40,8 @@ impl<K: Spelled, V: Spelled> Spelled for Map<Vec<(K, V)>> {
 
     ghost stops = { StopsMap K.reads V.reads K.stops V.stops (K.never_empty || V.never_empty) };
 
+    ghost begins = { StopsMap K.reads V.reads K.begins V.begins (K.never_empty || V.never_empty) };
+
     ghost never_empty = { true };
 
     ghost owned = { K.owned && V.owned };
@@ -63,6 +65,8 @@ impl<S: Source, K: Decode<S> + Drop, V: Decode<S> + Drop> Sequence<S> for Map<Ve
     ghost reads = { ReadsPair K.reads V.reads };
 
     ghost stops = { StopsPair K.reads K.stops V.stops };
+
+    ghost begins = { StopsPair K.reads K.begins V.begins };
 
     ghost never_empty = { K.never_empty || V.never_empty };
 

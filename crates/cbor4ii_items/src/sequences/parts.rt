@@ -49,6 +49,9 @@ pub(crate) trait Sequence<S: Source>: Sized {
 
     ghost stops: { List ℕ → Option ℕ → Refusal → List ℕ → Type 0 };
 
+    // As `stops`, over any reader.
+    ghost begins: { List ℕ → Option ℕ → Refusal → List ℕ → Type 0 };
+
     // No part is empty.
     ghost never_empty: { Bool };
 
@@ -68,7 +71,8 @@ pub(crate) trait Sequence<S: Source>: Sized {
         ensures complete { IsExact Self.owned (S.view reader.old) →
             IfErr result (Refuses Self.reads (S.view reader.old)) }
         ensures stops { IsExact Self.owned (S.view reader.old) →
-            IfErr result (Stops Self.stops (S.view reader.old) (S.view reader.new)) };
+            IfErr result (Stops Self.stops (S.view reader.old) (S.view reader.new)) }
+        ensures begins { IfErr result (Stops Self.begins (S.view reader.old) (S.view reader.new)) };
 
     // One input is read in one way.
     ghost one: { (xs : List ℕ) (p q : Self.Part) (n m c d : ℕ) → Self.reads xs p n c →
@@ -99,6 +103,8 @@ pub(crate) fn take_sequence<S: Source, Q: Sequence<S>>(
     ensures stops { IsExact Q.owned (S.view reader.old) →
         IfErr result (Stops (StopsSequence name.now major Q.reads Q.stops Q.never_empty)
         (S.view reader.old) (S.view reader.new)) }
+    ensures begins { IfErr result (Stops (StopsSequence name.now major Q.reads Q.begins Q.never_empty)
+        (S.view reader.old) (S.view reader.new)) }
 {
     if !reader.step_in() {
         return Err(DecodeError::DepthOverflow { name });
@@ -125,6 +131,8 @@ fn take_inside<S: Source, Q: Sequence<S>>(
     ensures stops { IsExact Q.owned (S.view reader.old) →
         IfErr result (Stops (StopsInside name.now major Q.reads Q.stops Q.never_empty)
         (S.view reader.old) (S.view reader.new)) }
+    ensures begins { IfErr result (Stops (StopsInside name.now major Q.reads Q.begins Q.never_empty)
+        (S.view reader.old) (S.view reader.new)) }
 {
     match length(reader, name, major)? {
         Some(count) => take_counted::<S, Q>(alloc, reader, count),
@@ -145,6 +153,8 @@ fn take_counted<S: Source, Q: Sequence<S>>(
         IfErr result (Refuses (ReadsCount Q.reads count) (S.view reader.old)) }
     ensures stops { IsExact Q.owned (S.view reader.old) →
         IfErr result (Stops (StopsCount Q.reads Q.stops count)
+        (S.view reader.old) (S.view reader.new)) }
+    ensures begins { IfErr result (Stops (StopsCount Q.reads Q.begins count)
         (S.view reader.old) (S.view reader.new)) }
 {
     let mut parts = Vec::new(alloc);
@@ -171,6 +181,8 @@ fn take_open<S: Source, Q: Sequence<S>>(
     ensures stops { IsExact Q.owned (S.view reader.old) →
         IfErr result (Stops (StopsUpToBreak name.now Q.reads Q.stops Q.never_empty)
         (S.view reader.old) (S.view reader.new)) }
+    ensures begins { IfErr result (Stops (StopsUpToBreak name.now Q.reads Q.begins Q.never_empty)
+        (S.view reader.old) (S.view reader.new)) }
 {
     let mut parts = Vec::new(alloc);
     while !at_break(reader)? {
@@ -186,6 +198,7 @@ fn take_open<S: Source, Q: Sequence<S>>(
 }
 
 /// Reads one part, behind those that `parts` holds.
+#[inline(always)]
 fn add_part<S: Source, Q: Sequence<S>>(
     alloc: Global,
     reader: &mut S,
@@ -200,6 +213,7 @@ fn add_part<S: Source, Q: Sequence<S>>(
         IfErr result (Refuses Q.reads (S.view reader.old)) }
     ensures stops { IsExact Q.owned (S.view reader.old) →
         IfErr result (Stops Q.stops (S.view reader.old) (S.view reader.new)) }
+    ensures begins { IfErr result (Stops Q.begins (S.view reader.old) (S.view reader.new)) }
 {
     let part = Q::take_part(alloc, reader)?;
     match parts.push(part) {

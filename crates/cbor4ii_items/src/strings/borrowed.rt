@@ -12,6 +12,7 @@ ghost use Rattle.std.specs.Prelude.{◌≡◌, true, false, codes};
 ghost use Rattle.cbor4ii_items.specs.Lent.{
   ReadsLent,
   StopsLent,
+  BeginsLent,
   lent_str,
   lent_bytes,
   lent_unchecked,
@@ -39,6 +40,8 @@ impl<'de> Spelled for &'de str {
     ghost same = { λ v w. lent_str v ≡ lent_str w };
 
     ghost stops = { StopsLent (codes "str") 3 true };
+
+    ghost begins = { BeginsLent (codes "str") 3 true };
 
     ghost never_empty = { true };
 
@@ -104,6 +107,8 @@ impl<'de> Spelled for Bytes<&'de [u8]> {
     ghost same = { λ v w. lent_bytes v ≡ lent_bytes w };
 
     ghost stops = { StopsLent (codes "bytes") 2 false };
+
+    ghost begins = { BeginsLent (codes "bytes") 2 false };
 
     ghost never_empty = { true };
 
@@ -172,6 +177,8 @@ impl<'de> Spelled for UncheckedStr<&'de [u8]> {
     ghost same = { λ v w. lent_unchecked v ≡ lent_unchecked w };
 
     ghost stops = { StopsLent (codes "str") 3 false };
+
+    ghost begins = { BeginsLent (codes "str") 3 false };
 
     ghost never_empty = { true };
 

@@ -61,6 +61,8 @@ impl<'de> Spelled for CowStr<'de, Global> {
 
     ghost stops = { StopsText (codes "str") };
 
+    ghost begins = { StopsText (codes "str") };
+
     ghost never_empty = { true };
 
     ghost owned = { true };
@@ -133,6 +135,7 @@ impl<'de, R: Read<'de>> Decode<R> for CowStr<'de, Global> {
             IfErr result (Refuses (ReadsTextAs cow_text) (R.view reader.old)) }
         ensures stops { IsExact true (R.view reader.old) →
             IfErr result (Stops (StopsText (codes "str")) (R.view reader.old) (R.view reader.new)) }
+        ensures begins { IfErr result (Stops (StopsText (codes "str")) (R.view reader.old) (R.view reader.new)) }
         ensures borrows { IfOk result
             (BorrowsWhereCounted 3 IsBorrowedStr IsOwnedStr (R.view reader.old)) }
     {
@@ -155,6 +158,8 @@ impl<'de> Spelled for Bytes<CowSlice<'de, u8, Global>> {
     ghost same = { λ v w. cow_bytes v ≡ cow_bytes w };
 
     ghost stops = { StopsString (codes "bytes") 2 };
+
+    ghost begins = { StopsString (codes "bytes") 2 };
 
     ghost never_empty = { true };
 
@@ -231,6 +236,7 @@ impl<'de, R: Read<'de>> Decode<R> for Bytes<CowSlice<'de, u8, Global>> {
             IfErr result (Refuses (ReadsAs 2 cow_bytes) (R.view reader.old)) }
         ensures stops { IsExact true (R.view reader.old) →
             IfErr result (Stops (StopsString (codes "bytes") 2) (R.view reader.old) (R.view reader.new)) }
+        ensures begins { IfErr result (Stops (StopsString (codes "bytes") 2) (R.view reader.old) (R.view reader.new)) }
         ensures borrows { IfOk result
             (BorrowsWhereCounted 2 IsBorrowedBytes IsOwnedBytes (R.view reader.old)) }
     {
@@ -253,6 +259,8 @@ impl<'de> Spelled for UncheckedStr<CowSlice<'de, u8, Global>> {
     ghost same = { λ v w. cow_unchecked v ≡ cow_unchecked w };
 
     ghost stops = { StopsString (codes "str") 3 };
+
+    ghost begins = { StopsString (codes "str") 3 };
 
     ghost never_empty = { true };
 
@@ -329,6 +337,7 @@ impl<'de, R: Read<'de>> Decode<R> for UncheckedStr<CowSlice<'de, u8, Global>> {
             IfErr result (Refuses (ReadsAs 3 cow_unchecked) (R.view reader.old)) }
         ensures stops { IsExact true (R.view reader.old) →
             IfErr result (Stops (StopsString (codes "str") 3) (R.view reader.old) (R.view reader.new)) }
+        ensures begins { IfErr result (Stops (StopsString (codes "str") 3) (R.view reader.old) (R.view reader.new)) }
         ensures borrows { IfOk result
             (BorrowsWhereCounted 3 IsBorrowedUnchecked IsOwnedUnchecked (R.view reader.old)) }
     {

@@ -1,8 +1,5 @@
 //! Strings that are written in parts: their heads and their ends (RFC 8949 sections 3.1 and 3.2.3).
-ghost use Rattle.std.specs.Prelude.{◌≡◌, OnOk, OnErr, IsTrue};
-ghost use Rattle.cbor4ii_rw.specs.Reader.{Failed};
-ghost use Rattle.cbor4ii_rw.specs.Writer.{Appends};
-ghost use Rattle.cbor4ii_items.specs.Writing.{AppendsFront};
+ghost use Rattle.cbor4ii_items.specs.Writing.{WritesWhole};
 ghost use Rattle.cbor4ii_items.specs.Numbers.{shortest_head};
 ghost use Rattle.cbor4ii_items.specs.Strings.{opening, closing};
 
@@ -17,16 +14,9 @@ impl Bytes<()> {
     /// follow.
     ///
     /// It fails only where the writer failed in the call. A whole writer then holds what it held
-    /// before and a beginning of the head.
+    /// before.
     pub fn bounded<W: Write>(len: usize, writer: &mut W) -> Result<(), EncodeError<W::Error>>
-        ensures appends { OnOk result
-            (Appends (shortest_head 2 len) (W.view writer.old).written (W.view writer.new).written) }
-        ensures counts { OnOk result
-            ((W.view writer.new).failures ≡ (W.view writer.old).failures) }
-        ensures failed { OnErr result
-            (Failed (W.view writer.old).failures (W.view writer.new).failures) }
-        ensures front { IsTrue W.whole → OnErr result (AppendsFront
-            (shortest_head 2 len) (W.view writer.old).written (W.view writer.new).written) }
+        ensures { WritesWhole W.whole (shortest_head 2 len) (W.view writer.old) (W.view writer.new) result }
     {
         push_head(writer, major::BYTES, len as u64)
     }
@@ -35,16 +25,9 @@ impl Bytes<()> {
     /// a known length and an end are to follow (RFC 8949 section 3.2.3).
     ///
     /// It fails only where the writer failed in the call. A whole writer then holds what it held
-    /// before, or that and the byte.
+    /// before.
     pub fn unbounded<W: Write>(writer: &mut W) -> Result<(), EncodeError<W::Error>>
-        ensures appends { OnOk result
-            (Appends (opening 2) (W.view writer.old).written (W.view writer.new).written) }
-        ensures counts { OnOk result
-            ((W.view writer.new).failures ≡ (W.view writer.old).failures) }
-        ensures failed { OnErr result
-            (Failed (W.view writer.old).failures (W.view writer.new).failures) }
-        ensures front { IsTrue W.whole → OnErr result (AppendsFront
-            (opening 2) (W.view writer.old).written (W.view writer.new).written) }
+        ensures { WritesWhole W.whole (opening 2) (W.view writer.old) (W.view writer.new) result }
     {
         push_bytes(writer, &[32 * major::BYTES + marker::START])
     }
@@ -52,16 +35,9 @@ impl Bytes<()> {
     /// Writes the end of an indefinite length, one byte, in one push.
     ///
     /// It fails only where the writer failed in the call. A whole writer then holds what it held
-    /// before, or that and the byte.
+    /// before.
     pub fn end<W: Write>(writer: &mut W) -> Result<(), EncodeError<W::Error>>
-        ensures appends { OnOk result
-            (Appends closing (W.view writer.old).written (W.view writer.new).written) }
-        ensures counts { OnOk result
-            ((W.view writer.new).failures ≡ (W.view writer.old).failures) }
-        ensures failed { OnErr result
-            (Failed (W.view writer.old).failures (W.view writer.new).failures) }
-        ensures front { IsTrue W.whole → OnErr result (AppendsFront
-            closing (W.view writer.old).written (W.view writer.new).written) }
+        ensures { WritesWhole W.whole closing (W.view writer.old) (W.view writer.new) result }
     {
         push_bytes(writer, &[marker::BREAK])
     }
@@ -72,16 +48,9 @@ impl UncheckedStr<()> {
     /// follow.
     ///
     /// It fails only where the writer failed in the call. A whole writer then holds what it held
-    /// before and a beginning of the head.
+    /// before.
     pub fn bounded<W: Write>(len: usize, writer: &mut W) -> Result<(), EncodeError<W::Error>>
-        ensures appends { OnOk result
-            (Appends (shortest_head 3 len) (W.view writer.old).written (W.view writer.new).written) }
-        ensures counts { OnOk result
-            ((W.view writer.new).failures ≡ (W.view writer.old).failures) }
-        ensures failed { OnErr result
-            (Failed (W.view writer.old).failures (W.view writer.new).failures) }
-        ensures front { IsTrue W.whole → OnErr result (AppendsFront
-            (shortest_head 3 len) (W.view writer.old).written (W.view writer.new).written) }
+        ensures { WritesWhole W.whole (shortest_head 3 len) (W.view writer.old) (W.view writer.new) result }
     {
         push_head(writer, major::STRING, len as u64)
     }
@@ -90,16 +59,9 @@ impl UncheckedStr<()> {
     /// a known length and an end are to follow (RFC 8949 section 3.2.3).
     ///
     /// It fails only where the writer failed in the call. A whole writer then holds what it held
-    /// before, or that and the byte.
+    /// before.
     pub fn unbounded<W: Write>(writer: &mut W) -> Result<(), EncodeError<W::Error>>
-        ensures appends { OnOk result
-            (Appends (opening 3) (W.view writer.old).written (W.view writer.new).written) }
-        ensures counts { OnOk result
-            ((W.view writer.new).failures ≡ (W.view writer.old).failures) }
-        ensures failed { OnErr result
-            (Failed (W.view writer.old).failures (W.view writer.new).failures) }
-        ensures front { IsTrue W.whole → OnErr result (AppendsFront
-            (opening 3) (W.view writer.old).written (W.view writer.new).written) }
+        ensures { WritesWhole W.whole (opening 3) (W.view writer.old) (W.view writer.new) result }
     {
         push_bytes(writer, &[32 * major::STRING + marker::START])
     }
@@ -107,16 +69,9 @@ impl UncheckedStr<()> {
     /// Writes the end of an indefinite length, one byte, in one push.
     ///
     /// It fails only where the writer failed in the call. A whole writer then holds what it held
-    /// before, or that and the byte.
+    /// before.
     pub fn end<W: Write>(writer: &mut W) -> Result<(), EncodeError<W::Error>>
-        ensures appends { OnOk result
-            (Appends closing (W.view writer.old).written (W.view writer.new).written) }
-        ensures counts { OnOk result
-            ((W.view writer.new).failures ≡ (W.view writer.old).failures) }
-        ensures failed { OnErr result
-            (Failed (W.view writer.old).failures (W.view writer.new).failures) }
-        ensures front { IsTrue W.whole → OnErr result (AppendsFront
-            closing (W.view writer.old).written (W.view writer.new).written) }
+        ensures { WritesWhole W.whole closing (W.view writer.old) (W.view writer.new) result }
     {
         push_bytes(writer, &[marker::BREAK])
     }

@@ -21,6 +21,7 @@ ghost use Rattle.cbor4ii_items.specs.Decoding.{IsExact, Sound, Refuses, Stops};
 ghost use Rattle.cbor4ii_items.specs.Lent.{
   ReadsLent,
   StopsLent,
+  BeginsLent,
   Lends,
   LacksContent,
   Named,
@@ -92,6 +93,8 @@ pub(crate) fn take_lent<T: Lend<S>, S: Source>(
         IfErr result (Refuses (ReadsLent T.major T.is_text T.content) (S.view reader.old)) }
     ensures stops { IsExact false (S.view reader.old) →
         IfErr result (Stops (StopsLent T.name T.major T.is_text)
+        (S.view reader.old) (S.view reader.new)) }
+    ensures begins { IfErr result (Stops (BeginsLent T.name T.major T.is_text)
         (S.view reader.old) (S.view reader.new)) }
 {
     let count = lone_head(reader, T::name(), T::major(), 8)?;

@@ -100,6 +100,8 @@ pub(crate) fn take_cow<T: LendOrOwn<S>, S: Source>(
     ensures stops { IsExact true (S.view reader.old) →
         IfErr result (Stops (StopsEither T.is_text T.name T.major)
         (S.view reader.old) (S.view reader.new)) }
+    ensures begins { IfErr result (Stops (StopsEither T.is_text T.name T.major)
+        (S.view reader.old) (S.view reader.new)) }
     ensures borrows { IfOk result
         (BorrowsWhereCounted T.major T.IsBorrowed T.IsOwned (S.view reader.old)) }
 {

@@ -51,6 +51,8 @@ impl Spelled for Bytes<Vec<u8>> {
 
     ghost stops = { StopsString (codes "bytes") 2 };
 
+    ghost begins = { StopsString (codes "bytes") 2 };
+
     ghost never_empty = { true };
 
     ghost owned = { true };
@@ -89,6 +91,8 @@ impl Spelled for UncheckedStr<Vec<u8>> {
     ghost same = { λ v w. unchecked_content v ≡ unchecked_content w };
 
     ghost stops = { StopsString (codes "str") 3 };
+
+    ghost begins = { StopsString (codes "str") 3 };
 
     ghost never_empty = { true };
 
@@ -131,6 +135,8 @@ impl Spelled for String {
     ghost same = { λ v w. text_content v ≡ text_content w };
 
     ghost stops = { StopsText (codes "str") };
+
+    ghost begins = { StopsText (codes "str") };
 
     ghost never_empty = { true };
 

@@ -6,7 +6,7 @@ use Rattle.std.specs.Int.{byte_at, bytes_high_first}
 use Rattle.cbor4ii_items.specs.Head.{IsBytes}
 use Rattle.cbor4ii_tree.specs.Parse.{big_endian, front_at, number_at}
 use Rattle.cbor4ii_tree.specs.Skip.{whole_number_at}
-use Rattle.cbor4ii_tree.proofs.Binds.{bind_ok, guard_ok, same_ok}
+use Rattle.cbor4ii_tree.specs.Binds.{bind_ok, guard_ok, same_ok}
 
 pub IsBytes-take : (k : ℕ) (bs : List ℕ) → IsBytes bs → IsBytes (take k bs)
 IsBytes-take zero bs h = tt

@@ -4,7 +4,7 @@ use Rattle.cbor4ii_items.specs.Head.{Width, in_first, one, two, four, eight, Hea
 use Rattle.cbor4ii_items.specs.Initial.{Sign, unsigned, negative, sign_major, Kind, byte_string, text_string, kind_major, simple_byte, precision_byte, Info, wide, open_ended, reserved, info_of, Initial, starts_int, starts_string, starts_chunks, starts_array, starts_open_array, starts_map, starts_open_map, starts_tag, starts_simple, starts_bits, initial, int_by, string_by, array_by, map_by, tag_by, simple_by, by_major}
 use Rattle.cbor4ii_tree.specs.Parse.{argument_at}
 use Rattle.cbor4ii_tree.specs.Skip.{whole_argument_at}
-use Rattle.cbor4ii_tree.proofs.Binds.{parts}
+use Rattle.cbor4ii_tree.specs.Binds.{parts}
 use Rattle.cbor4ii_tree.proofs.heads.Inverse.{Whole, number_inverse, whole_number_inverse}
 
 abbrev pub WidthSays : Width → ℕ → Type 0
@@ -14,7 +14,7 @@ WidthSays two i = i ≡ 25
 WidthSays four i = i ≡ 26
 WidthSays eight i = i ≡ 27
 
-abbrev InfoSays : ℕ → Info → Type 0
+abbrev pub InfoSays : ℕ → Info → Type 0
 InfoSays i (wide w) = WidthSays w i
 InfoSays i open_ended = i ≡ 31
 InfoSays i reserved = Unit {0}
@@ -39,7 +39,7 @@ if_cases : {A : Type 0} (P : A → Type 0) (b : Bool) (x y : A) → (b ≡ true 
 if_cases P true x y f g = f refl
 if_cases P false x y f g = g refl
 
-info_says : (i : ℕ) → InfoSays i (info_of i)
+pub info_says : (i : ℕ) → InfoSays i (info_of i)
 info_says i =
     let P = InfoSays i in
     if_cases P (ltb i 24) _ _ (λ h. ltb-true i 24 h) (λ _. if_cases P (eqb i 24) _ _ (λ h. eqb-true i 24 h) (λ _. if_cases P (eqb i 25) _ _ (λ h. eqb-true i 25 h)

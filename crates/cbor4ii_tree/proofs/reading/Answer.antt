@@ -7,11 +7,11 @@ use Rattle.cbor4ii_tree.specs.Meaning.{value}
 use Rattle.cbor4ii_items.specs.Decoding.{CostFits}
 use Rattle.cbor4ii_tree.specs.Cost.{Budget, cost}
 use Rattle.cbor4ii_tree.specs.Refusal.{Refusal}
-use Rattle.cbor4ii_tree.specs.Spelling.{Reads, OneAnswer}
+use Rattle.cbor4ii_tree.specs.Spelling.{Reads, SomeAnswer, AtMostOne}
 use Rattle.cbor4ii_tree.specs.StopsReading.{Readable, StopsReading}
 use Rattle.cbor4ii_tree.specs.Read.{read, read_tree}
-use Rattle.cbor4ii_tree.proofs.Answers.{one_answer_of}
-use Rattle.cbor4ii_tree.proofs.Binds.{parts, apart, bind_ok, bind_err, then_err, no_err}
+use Rattle.cbor4ii_tree.proofs.Answers.{some_answer_of, at_most_one_of}
+use Rattle.cbor4ii_tree.specs.Binds.{parts, apart, bind_ok, bind_err, then_err, no_err}
 use Rattle.cbor4ii_tree.proofs.reading.Again.{read_again}
 use Rattle.cbor4ii_tree.proofs.reading.Sound.{read_sound}
 use Rattle.cbor4ii_tree.proofs.reading.Refuses.{read_refuses}
@@ -51,9 +51,12 @@ Stops_from_read input budget e rest h x =
       | inr g ↦ absurd (no_err {A = Item} _ _ g.2)
     ]
 
-pub one_reading : (input : List ℕ) (budget : Budget) → IsBytes input → OneAnswer (Reads input budget) (StopsReading input budget)
-one_reading input budget h =
-    one_answer_of (read budget input) (Reads input budget) (StopsReading input budget) (λ v x. Reads_from_read input budget v x h) (read_from_Reads input budget) (λ e x. Stops_from_read input budget e x h) (read_from_Stops input budget)
+pub some_reading : (input : List ℕ) (budget : Budget) → IsBytes input → SomeAnswer (Reads input budget) (StopsReading input budget)
+some_reading input budget h = some_answer_of (read budget input) (Reads input budget) (StopsReading input budget) (λ v x. Reads_from_read input budget v x h) (λ e x. Stops_from_read input budget e x h)
+
+-- of any numbers
+pub one_reading : (input : List ℕ) (budget : Budget) → AtMostOne (Reads input budget) (StopsReading input budget)
+one_reading input budget = at_most_one_of (read budget input) (Reads input budget) (StopsReading input budget) (read_from_Reads input budget) (read_from_Stops input budget)
 
 -- what is accepted does not stop, of any numbers
 pub not_both : (input : List ℕ) (budget : Budget) (v : Item) (x : List ℕ) (e : Refusal) (y : List ℕ) → Reads input budget v x → StopsReading input budget e y → ⊥

@@ -10,13 +10,13 @@ use Rattle.cbor4ii_tree.specs.Canonical.{canon, canon_cost, with_bignums}
 use Rattle.cbor4ii_tree.specs.Refusal.{Refusal, eof, mismatch, unsupported, require_length, require_utf8, depth_overflow, Len, IsEof, IsFinal}
 use Rattle.cbor4ii_tree.specs.Spelling.{Spells, Reads, Skips, IsProperFront}
 use Rattle.cbor4ii_tree.specs.StopsReading.{StopsReading}
-use Rattle.cbor4ii_tree.proofs.Budgets.{fits_less}
+use Rattle.cbor4ii_tree.specs.Budgets.{fits_less}
 use Rattle.cbor4ii_tree.proofs.Canonical.{canon_spells, with_bignums-value}
 use Rattle.cbor4ii_tree.proofs.Costs.{skip_cost-le, cost-canon}
 use Rattle.cbor4ii_tree.proofs.parts.Fronts.{whole_bytes}
 use Rattle.cbor4ii_tree.proofs.skipping.Answer.{one_spelling}
 use Rattle.cbor4ii_tree.proofs.skipping.Laws.{none_left}
-use Rattle.cbor4ii_tree.proofs.reading.Answer.{one_reading, not_both}
+use Rattle.cbor4ii_tree.proofs.reading.Answer.{some_reading, not_both}
 use Rattle.cbor4ii_tree.proofs.reading.Fronts.{reading_front}
 use Rattle.cbor4ii_tree.proofs.reading.Widen.{reading_persists, reading_unbounded}
 use Rattle.cbor4ii_tree.proofs.Sizes.{IsItem-value}
@@ -25,7 +25,7 @@ abbrev StopsAtEnd : List ℕ → Budget → Type 0
 StopsAtEnd front budget = (name : List ℕ) × (expect : Len) × StopsReading front budget (eof name expect) []
 
 -- nothing that stops goes on as a spelling that fits, unless the input ended
-refused : (front back : List ℕ) (budget : Budget) (v : Item) (e : Refusal) (rest : List ℕ) → ¬ (IsEof e) → Reads (front ++ back) budget v [] → StopsReading front budget e rest → ⊥
+pub refused : (front back : List ℕ) (budget : Budget) (v : Item) (e : Refusal) (rest : List ℕ) → ¬ (IsEof e) → Reads (front ++ back) budget v [] → StopsReading front budget e rest → ⊥
 refused front back budget v e rest h s stops = not_both (front ++ back) budget v [] e (rest ++ back) s (reading_persists front back budget e rest h stops)
 
 by_refusal : (front back : List ℕ) (budget : Budget) (v : Item) (e : Refusal) (rest : List ℕ) → IsBytes front → Reads (front ++ back) budget v [] → StopsReading front budget e rest → StopsAtEnd front budget
@@ -38,7 +38,7 @@ front_stops spelling v steps front budget s f p h =
     let back : List ℕ = p.0 in
     let t : Tree = s.spelled in
     let reads : Reads (front ++ back) budget v [] = record { spelling = spelling; steps = steps; spells = s; fits = f; begins = sym p.2 ∙ sym (append-nil spelling) } in
-    elim (one_reading front budget h).some [
+    elim (some_reading front budget h) [
       | inl x ↦
           let other = x.2.spells in
           let u : Tree = other.spelled in
@@ -47,9 +47,6 @@ front_stops spelling v steps front budget s f p h =
           absurd (p.1 (none_left x.1 back same.1))
       | inr x ↦ by_refusal front back budget v x.0 x.1 h reads x.2
     ]
-
-pub eof_leaves_nothing : (input : List ℕ) (budget : Budget) (name : List ℕ) (expect : Len) (rest : List ℕ) → IsBytes input → StopsReading input budget (eof name expect) rest → rest ≡ []
-eof_leaves_nothing input budget name expect rest h s = (reading_front input budget (eof name expect) rest h tt s).1
 
 pub eof_on_front : (input : List ℕ) (budget : Budget) (name : List ℕ) (expect : Len) (rest : List ℕ) → IsBytes input → StopsReading input budget (eof name expect) rest
     → (t : Tree) × Loose t × Joins t × IsBytes (bytes t) × IsProperFront input (bytes t)

@@ -4,12 +4,12 @@ use Rattle.cbor4ii_items.specs.Head.{IsBytes}
 use Rattle.cbor4ii_tree.specs.Tree.{Tree, bytes, Loose}
 use Rattle.cbor4ii_tree.specs.Cost.{Budget}
 use Rattle.cbor4ii_tree.specs.Refusal.{Refusal}
-use Rattle.cbor4ii_tree.specs.Spelling.{Skips, OneAnswer}
+use Rattle.cbor4ii_tree.specs.Spelling.{Skips, SomeAnswer, AtMostOne}
 use Rattle.cbor4ii_tree.specs.StopsSkipping.{StopsSkipping}
 use Rattle.cbor4ii_tree.specs.Skip.{skip}
-use Rattle.cbor4ii_tree.proofs.Answers.{one_answer_of}
-use Rattle.cbor4ii_tree.proofs.Binds.{parts, apart}
-use Rattle.cbor4ii_tree.proofs.skipping.Again.{skip_again}
+use Rattle.cbor4ii_tree.proofs.Answers.{some_answer_of, at_most_one_of}
+use Rattle.cbor4ii_tree.specs.Binds.{parts, apart}
+use Rattle.cbor4ii_tree.specs.skip_laws.Again.{skip_again}
 use Rattle.cbor4ii_tree.proofs.skipping.Sound.{skip_sound}
 use Rattle.cbor4ii_tree.proofs.skipping.Refuses.{skip_refuses}
 use Rattle.cbor4ii_tree.proofs.skipping.Stops.{skip_stops}
@@ -28,9 +28,12 @@ skip_from_Stops input budget e rest s = skip_stops (suc (length input)) budget i
 pub Stops_from_skip : (input : List ℕ) (budget : Budget) (e : Refusal) (rest : List ℕ) → IsBytes input → skip budget input ≡ Err (e, rest) → StopsSkipping input budget e rest
 Stops_from_skip input budget e rest h x = skip_refuses (suc (length input)) budget input e rest h (omega arith) x
 
-pub one_skipping : (input : List ℕ) (budget : Budget) → IsBytes input → OneAnswer (Skips input budget) (StopsSkipping input budget)
-one_skipping input budget h =
-    one_answer_of (skip budget input) (Skips input budget) (StopsSkipping input budget) (λ t x. Skips_from_skip input budget t x h) (skip_from_Skips input budget) (λ e x. Stops_from_skip input budget e x h) (skip_from_Stops input budget)
+pub some_skipping : (input : List ℕ) (budget : Budget) → IsBytes input → SomeAnswer (Skips input budget) (StopsSkipping input budget)
+some_skipping input budget h = some_answer_of (skip budget input) (Skips input budget) (StopsSkipping input budget) (λ v x. Skips_from_skip input budget v x h) (λ e x. Stops_from_skip input budget e x h)
+
+-- of any numbers
+pub one_skipping : (input : List ℕ) (budget : Budget) → AtMostOne (Skips input budget) (StopsSkipping input budget)
+one_skipping input budget = at_most_one_of (skip budget input) (Skips input budget) (StopsSkipping input budget) (skip_from_Skips input budget) (skip_from_Stops input budget)
 
 -- what is accepted does not stop, of any numbers
 pub not_both : (input : List ℕ) (budget : Budget) (t : Tree) (x : List ℕ) (e : Refusal) (y : List ℕ) → Skips input budget t x → StopsSkipping input budget e y → ⊥

@@ -8,7 +8,7 @@ use Rattle.cbor4ii_tree.specs.Refusal.{Refusal, eof, mismatch, unsupported, requ
 use Rattle.cbor4ii_tree.specs.Spelling.{Skips, IsProperFront}
 use Rattle.cbor4ii_tree.specs.StopsSkipping.{StopsSkipping}
 use Rattle.cbor4ii_tree.proofs.parts.Fronts.{whole_bytes}
-use Rattle.cbor4ii_tree.proofs.skipping.Answer.{one_skipping, not_both, one_spelling}
+use Rattle.cbor4ii_tree.proofs.skipping.Answer.{some_skipping, not_both, one_spelling}
 use Rattle.cbor4ii_tree.proofs.skipping.Fronts.{skipping_front}
 use Rattle.cbor4ii_tree.proofs.skipping.Widen.{skipping_persists, skipping_unbounded}
 
@@ -20,7 +20,7 @@ abbrev StopsAtEnd : List ℕ → Budget → Type 0
 StopsAtEnd front budget = (name : List ℕ) × (expect : Len) × StopsSkipping front budget (eof name expect) []
 
 -- nothing that stops goes on as an item that fits, unless the input ended
-refused : (front back : List ℕ) (budget : Budget) (t : Tree) (e : Refusal) (rest : List ℕ) → ¬ (IsEof e) → Skips (front ++ back) budget t [] → StopsSkipping front budget e rest → ⊥
+pub refused : (front back : List ℕ) (budget : Budget) (t : Tree) (e : Refusal) (rest : List ℕ) → ¬ (IsEof e) → Skips (front ++ back) budget t [] → StopsSkipping front budget e rest → ⊥
 refused front back budget t e rest h s stops = not_both (front ++ back) budget t [] e (rest ++ back) s (skipping_persists front back budget e rest h stops)
 
 by_refusal : (front back : List ℕ) (budget : Budget) (t : Tree) (e : Refusal) (rest : List ℕ) → IsBytes front → Skips (front ++ back) budget t [] → StopsSkipping front budget e rest → StopsAtEnd front budget
@@ -32,16 +32,13 @@ pub front_stops : (t : Tree) (front : List ℕ) (budget : Budget) → Loose t �
 front_stops t front budget l f p h =
     let back : List ℕ = p.0 in
     let skips : Skips (front ++ back) budget t [] = record { loose = l; fits = f; begins = sym p.2 ∙ sym (append-nil (bytes t)) } in
-    elim (one_skipping front budget h).some [
+    elim (some_skipping front budget h) [
       | inl x ↦
           let all : bytes x.0 ++ (x.1 ++ back) ≡ bytes t = sym (append_assoc (bytes x.0) x.1 back) ∙ ap (λ r. r ++ back) (sym x.2.begins) ∙ sym p.2 in
           let same = one_spelling x.0 t (x.1 ++ back) [] x.2.loose l (all ∙ sym (append-nil (bytes t))) in
           absurd (p.1 (none_left x.1 back same.1))
       | inr x ↦ by_refusal front back budget t x.0 x.1 h skips x.2
     ]
-
-pub eof_leaves_nothing : (input : List ℕ) (budget : Budget) (name : List ℕ) (expect : Len) (rest : List ℕ) → IsBytes input → StopsSkipping input budget (eof name expect) rest → rest ≡ []
-eof_leaves_nothing input budget name expect rest h s = (skipping_front input budget (eof name expect) rest h tt s).1
 
 pub eof_on_front : (input : List ℕ) (budget : Budget) (name : List ℕ) (expect : Len) (rest : List ℕ) → IsBytes input → StopsSkipping input budget (eof name expect) rest → (t : Tree) × Loose t × IsBytes (bytes t) × IsProperFront input (bytes t)
 eof_on_front input budget name expect rest h s =

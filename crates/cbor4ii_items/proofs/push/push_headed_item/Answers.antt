@@ -8,4 +8,4 @@ returns-in_err-push_head g c =
     rw (p.1, p.2) (writes_err _ c.in_err-push_head.ensures.writes)
 
 pub returns : goal.returns
-returns g c = writes_then c.push_item.result c.in_ok-push_head.ensures.writes c.push_item.ensures
+returns g c = writes_then c.encode.result c.in_ok-push_head.ensures.writes c.encode.ensures

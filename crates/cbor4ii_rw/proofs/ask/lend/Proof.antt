@@ -1,11 +1,15 @@
 -- `lend` hands its reader to `fill`, whose error may be of any type, so this proof walks the code by hand.
 use mathlib.Core.Path.{◌≡◌, refl, sym, subst}
-use mathlib.Core.List.{[], ◌∷◌}
+use mathlib.Core.List.{[], ◌∷◌, ◌++◌}
 use Prim.Native.Nat.{ℕ, ◌^◌, ◌<◌}
 use seplogic.Ra.Ura.{Ura}
-use base.Logic.{SProp, ent, emp, id⊢}
+use base.Logic.{SProp, ent, emp, id⊢, sep, wand, apply∗}
+use base.FractionLaws.{common}
+use base.Fml.{Share}
+use types.Tokens.{lft-common}
+use mir.Raw.{raw as bare}
 use base.Fml.{Lft, ftrue, flft, fres}
-use mir.Syntax.{Fn, Args, Dict, dcons, dnil, a_type, named, method, w64}
+use mir.Syntax.{Ty, Fn, Args, Dict, dcons, dnil, a_type, named, erased, method, w64}
 use mir.MapTy.{inst_fn}
 use mir.Val.{vptr, vint}
 use prog.Memory.{Memory}
@@ -13,7 +17,7 @@ use prog.Routine.{Routine}
 use prog.Wp.{WpFn, Tables}
 use sound.WpLaws.{WpFn-mono, fm_of}
 use contract.Monad.{Fun, fact, fact_i}
-use contract.BorrowLft.{◌⊑◌}
+use contract.BorrowLft.{◌⊑◌, ⊑_meet, ⊑_refl, ⊑_static, meet_⊑_left, meet_⊑_right}
 use contract.Lifetimes.{Lfts}
 use contract.Running.{tables, tables_of}
 use types.Logic.{Logic}
@@ -50,15 +54,15 @@ use Rattle.cbor4ii_rw.specs.declared.read.Source as Source
 use Rattle.cbor4ii_rw.specs.declared.read.Reference.{Reference}
 use Rattle.cbor4ii_rw.specs.contracts.read.Reference as RF
 use Rattle.cbor4ii_rw.proofs.read.Reference.TheLaws as RFL
-use Rattle.cbor4ii_rw.specs.View.{View, Told}
+use Rattle.cbor4ii_rw.specs.View.{Told}
 use Rattle.cbor4ii_rw.specs.Reader.{IsFront, IsEnough, Shows, Breaks}
 use Rattle.cbor4ii_rw.specs.Reference.{bytes_of, IsLong}
 use Rattle.cbor4ii_rw.specs.Parted.{Parts}
 use Rattle.cbor4ii_rw.proofs.Parted.{is_option, at_option, slot_kept, error_kept, leaves}
 use Rattle.cbor4ii_rw.specs.contracts.read.Read.fill as M
-use Rattle.cbor4ii_rw.specs.contracts.ask.part_lent as G
-use Rattle.cbor4ii_rw.proofs.ask.part_lent.Symbol.{name as #part_lent}
-use Rattle.cbor4ii_rw.proofs.ask.part_lent.Met as G-thm
+use Rattle.cbor4ii_rw.specs.contracts.ask.part as G
+use Rattle.cbor4ii_rw.proofs.ask.part.Symbol.{name as #part}
+use Rattle.cbor4ii_rw.proofs.ask.part.Met as G-thm
 use Rattle.cbor4ii_rw.specs.contracts.ask.lend as F
 use Rattle.cbor4ii_rw.specs.contracts.ask.lend.Key.{name as #self}
 use Rattle.cbor4ii_rw.proofs.ask.lend.Statement as stated
@@ -71,6 +75,25 @@ nm i κ = record { mir = named i; lft = κ }
 -- the shown bytes, with the lifetimes named i and j
 abbrev RR : ℕ → ℕ → Lft → Lft → RattleType
 RR i j κ κ' = RF.the_row (nm i κ) (nm j κ')
+
+-- what is lent, as `part` is called at it
+abbrev er : Lft → NamedLft
+er κ = record { mir = erased; lft = κ }
+
+abbrev ER : Lft → Lft → RattleType
+ER κ κ' = RF.the_row (er κ) (er κ')
+
+abbrev lent_ty : Ty
+lent_ty = bare (layout (ER [] []))
+
+abbrev At : Lft → Lft → RattleType
+At κ κ' = arg lent_ty yes (ER κ κ')
+
+at_laws : (κ κ' : Lft) → Laws (At κ κ')
+at_laws κ κ' = arg_laws lent_ty yes (ER κ κ') (RFL.the_row_laws (er κ) (er κ')) refl
+
+at_lives : (κ κ' : Lft) → (κ ++ κ') ⊑ (At κ κ').lives
+at_lives κ κ' = search (⊑_meet, ⊑_refl, ⊑_static, meet_⊑_left, meet_⊑_right) depth 24
 
 abbrev FR : RattleType → Lft → Lft → RattleType
 FR E κ κ' = RES.the_row (RR 0 1 κ κ') (param 1 E)
@@ -100,7 +123,7 @@ module _ (R E : RattleType) (gR : Read.Ghosts R.Denot E.Denot) (dR : Dict) (gS :
   Q = arg (layout E) yes (param 1 E)
 
   abbrev part_args : Args
-  part_args = bounded (a_type ∷ []) (Q, tt) (dcons dX dnil)
+  part_args = bounded (a_type ∷ a_type ∷ []) (At [] [], (Q, tt)) (dcons dX dnil)
 
   abbrev ended : Ended
   ended = F.ended R E gR dR gS dS gD dD dX Pp
@@ -116,13 +139,13 @@ module _ (R E : RattleType) (gR : Read.Ghosts R.Denot E.Denot) (dR : Dict) (gS :
     abbrev fill_c : Lft → Contract 𝓤
     fill_c κ = triple_of 𝓛 (M.signature R E) (M.spec R E gR dR gS dS gD dD dX (method_P κ) 𝓛 at_mem run)
 
-    abbrev part_c : Contract 𝓤
-    part_c = triple_of 𝓛 (G.signature Q) (G.spec Q dX 𝓛 at_mem run)
+    abbrev part_c : Lft → Lft → Contract 𝓤
+    part_c κ κ' = triple_of 𝓛 (G.signature (At κ κ') Q) (G.spec (At κ κ') Q dX 𝓛 at_mem run)
 
 module _ (R E : RattleType) (gR : Read.Ghosts R.Denot E.Denot) (dR : Dict) (gS : Source.Ghosts R.Denot E.Denot) (dS : Dict) (gD : Debug.Ghosts E.Denot) (dD : Dict) (dX : Dict) (Pp : Lfts 5 → Type 0) (LE : Laws E)
     {M' : Type 1} {𝓤 : Ura M'} (𝓛 : Logic 𝓤) (at_mem : Memory → SProp 𝓤) (run : Routine → Fun 𝓤) (𝓣 : Tables 𝓤 𝓛.H)
     (fills : (κs : Lfts 5) → Pp κs → Triple 𝓤 (𝓣.C (method dR 0 (layouts [] tt))) (fill_c R E gR dR gS dS gD dD dX Pp 𝓛 at_mem run κs.1.1.0))
-    (parts : Triple 𝓤 (𝓣.C (#part_lent (part_args R E gR dR gS dS gD dD dX Pp))) (part_c R E gR dR gS dS gD dD dX Pp 𝓛 at_mem run)) where
+    (parts : (κ κ' : Lft) → Triple 𝓤 (𝓣.C (#part (part_args R E gR dR gS dS gD dD dX Pp))) (part_c R E gR dR gS dS gD dD dX Pp 𝓛 at_mem run κ κ')) where
   open 𝓛 use {H, A}
 
   abbrev held : Clauses 𝓤 (ended R E gR dR gS dS gD dD dX Pp)
@@ -193,15 +216,18 @@ module _ (R E : RattleType) (gR : Read.Ghosts R.Denot E.Denot) (dR : Dict) (gS :
       move ! (2 ∷ []) $ pick ! (λ ws. split ! $ drop ! $ split3 ! $ heard ! (Front want x r) (λ front. heard ! (Bounded x r) (λ bounded. split3 ! $ heard ! (Whole want x r) (λ whole. heard ! (Lasting x r) (λ lasting. fpick ! (λ s.
       -- [resγ; the result; the tokens; κ1; the slot]
       sets ! (addr ! (through ! refl (stop !))) refl (tt, tt) $
-      move ! (2 ∷ []) $ split3 ! $ move ! (2 ∷ []) $ split ! $ move ! (6 ∷ 1 ∷ []) $ join ! $ move ! (3 ∷ 0 ∷ []) $ join ! $ move ! (2 ∷ 0 ∷ []) $ join ! $
+      let met : Lft = κ2 ++ κ0 in let share : Share = (common q2 q0).0 in let Both : SProp 𝓤 = sep 𝓤 (A.lft κ2 q2) (A.lft κ0 q0) in
+      move ! (2 ∷ []) $ split3 ! $ move ! (2 ∷ []) $ split ! $ move ! (2 ∷ 3 ∷ []) $
+      use2 𝓛 (‵ (flft met share) ⊛ raw (wand 𝓤 (A.lft met share) Both)) (lft-common 𝓛 κ2 κ0 q2 q0) $ split ! $
+      move ! (0 ∷ 3 ∷ []) $ join ! $ move ! (5 ∷ 0 ∷ []) $ join ! $ move ! (0 ∷ 2 ∷ 3 ∷ 4 ∷ 5 ∷ []) $
       nothing ! $ move ! (5 ∷ 0 ∷ []) $ join ! $ move ! (4 ∷ 0 ∷ []) $ join ! $ move ! (1 ∷ 0 ∷ []) $ join ! $
-      nothing ! $ use0 𝓛 (raw (fact 𝓤 (κ4 ⊑ E.lives))) (fact_i 𝓤 (κ4 ⊑ E.lives) (emp 𝓤) inE) $ join ! $ move ! (1 ∷ 0 ∷ []) $
-      let c2 = part_c R E gR dR gS dS gD dD dX Pp 𝓛 at_mem run in
-      let z2 : c2.Ghost = (((κ2, (κ0, (κ1, (κ4, tt)))), (q2, (q0, (q1, (q4, tt)))), (y.0.2.1.0, tt), (r, (slot, tt)), (v1 ∷ [], (vs2, tt))), tt) in
+      nothing ! $ use0 𝓛 (raw (fact 𝓤 (κ4 ⊑ E.lives))) (fact_i 𝓤 (κ4 ⊑ E.lives) (emp 𝓤) inE) $ join ! $ use0 𝓛 (raw (fact 𝓤 (met ⊑ (At κ2 κ0).lives))) (fact_i 𝓤 (met ⊑ (At κ2 κ0).lives) (emp 𝓤) (at_lives κ2 κ0)) $ join ! $ move ! (1 ∷ 0 ∷ []) $
+      let c2 = part_c R E gR dR gS dS gD dD dX Pp 𝓛 at_mem run κ2 κ0 in
+      let z2 : c2.Ghost = (((κ1, (met, (κ4, tt))), (q1, (share, (q4, tt))), (y.0.2.1.0, tt), (r, (slot, tt)), (v1 ∷ [], (vs2, tt))), tt) in
       use2 𝓛 (raw (c2.pre z2)) (id⊢ 𝓤 _) $
-      calls_at ! (fm_of 𝓤 H 𝓛.laws 𝓣) c2 parts z2 (and_then ! (get ! refl) (and_then ! (get ! refl) (no_more !))) (λ v2.
-      use1 𝓛 (later (some (λ (t : Option Reference). ((‵ (flft κ2 q2) ⊛ ‵ (flft κ0 q0) ⊛ ‵ (flft κ1 q1) ⊛ ‵ (flft κ4 q4) ⊛ ‵ ftrue) ⊛ ‵ ((OPT.the_row (RR 0 1 κ2 κ0)).own_val t (v2 ∷ []))) ⊛
-      some (λ (ws2 : Lasts (G.ended (Q R E gR dR gS dS gD dD dX Pp) dX) z2.0.0 z2.0.3). ‵ (lasts (G.ended (Q R E gR dR gS dS gD dD dX Pp) dX) z2.0.0 z2.0.3 ws2) ⊛ raw (fact 𝓤 (Parts r slot.now ws2.1.0 t)))))) (id⊢ 𝓤 _) $
+      calls_at ! (fm_of 𝓤 H 𝓛.laws 𝓣) c2 (parts κ2 κ0) z2 (and_then ! (get ! refl) (and_then ! (get ! refl) (no_more !))) (λ v2.
+      use1 𝓛 (later (some (λ (t : Option Reference). ((‵ (flft κ1 q1) ⊛ ‵ (flft met share) ⊛ ‵ (flft κ4 q4) ⊛ ‵ ftrue) ⊛ ‵ ((OPT.the_row (RR 0 1 κ2 κ0)).own_val t (v2 ∷ []))) ⊛
+      some (λ (ws2 : Lasts (G.ended (At κ2 κ0) (Q R E gR dR gS dS gD dD dX Pp) dX) z2.0.0 z2.0.3). ‵ (lasts (G.ended (At κ2 κ0) (Q R E gR dR gS dS gD dD dX Pp) dX) z2.0.0 z2.0.3 ws2) ⊛ raw (fact 𝓤 (Parts r slot.now ws2.1.0 t)))))) (id⊢ 𝓤 _) $
       await ! tt $ pick ! (λ t. split ! $ split ! $ move ! (1 ∷ []) $ peeks ! (OPT.the_row (RR 0 1 κ2 κ0)) _ (shows 𝓛 (OPT.the_row (RR 0 1 κ2 κ0))) t (v2 ∷ []) (λ is2.
       lands_as ! refl refl ((shown_lawful 𝓛 κ2 κ0).typed t (v2 ∷ []) is2).0 $
       move ! (2 ∷ []) $ pick ! (λ ws2. split ! $ move ! (1 ∷ []) $ heard ! (Parts r slot.now ws2.1.0 t) (λ parted.
@@ -212,7 +238,8 @@ module _ (R E : RattleType) (gR : Read.Ghosts R.Denot E.Denot) (dR : Dict) (gS :
       let shown_enough = λ (sh : Reference). Told (gS.view x).told (IsEnough want (bytes_of sh)) in
       let shown_bounded = λ (sh : Reference). length (bytes_of sh) ≤ (gS.view x).bound in
       fsplit3 ! $ move ! (1 ∷ 2 ∷ []) $ fjoin ! $ nothing ! $ fjoin ! $ nothing ! $ fjoin ! $ move ! (0 ∷ 2 ∷ []) $ join ! $
-      move ! (2 ∷ []) $ split3 ! $ move ! (2 ∷ []) $ split ! $ move ! (6 ∷ 1 ∷ []) $ join ! $ move ! (2 ∷ 0 ∷ []) $ join ! $ move ! (1 ∷ 0 ∷ []) $ join ! $ move ! (1 ∷ 0 ∷ []) $ join ! $ join ! $
+      move ! (2 ∷ []) $ split3 ! $ move ! (1 ∷ 7 ∷ []) $ use2 𝓛 (‵ (flft κ2 q2) ⊛ ‵ (flft κ0 q0)) (apply∗ 𝓤 (A.lft met share) Both) $ split ! $ move ! (2 ∷ 3 ∷ []) $
+      move ! (6 ∷ 1 ∷ []) $ join ! $ move ! (2 ∷ 0 ∷ []) $ join ! $ move ! (1 ∷ 0 ∷ []) $ join ! $ move ! (1 ∷ 0 ∷ []) $ join ! $ join ! $
       move ! (2 ∷ []) $
       fpack ! ((u : (P'.Denot → P'.Denot) × P'.Denot) × (P'.Denot → ⊤) × LeftBy x u.1 t) (λ u. fres self.ghost_name (P'.coded.code u.0.1))
       (s.0, (λ _. tt), subst (LeftBy x s.0.1) (sym same) (leaves (Breaks (gS.view x) (gS.view s.0.1)) (λ shown. Shows (bytes_of shown) (gS.view x) (gS.view s.0.1)) r s.2)) $
@@ -230,7 +257,7 @@ pub lend_spec : {M' : Type 1} → stated.statement M'
 unfolding tables_of
 lend_spec 𝓤 𝓛 𝓜 𝓡 wired R E L LE gR dR gS dS gD dD dX Pp mR mS mD mX =
     let 𝓣 : Tables 𝓤 𝓛.H = tables_of 𝓤 𝓛.H 𝓜 (tables 𝓤 𝓛.H 𝓜 𝓡 𝓡.env) in
-    let parts = G-thm.met 𝓤 𝓛 𝓜 𝓡 (code.calls-cbor4ii_rw::ask::part_lent 𝓡.env wired) (Q R E gR dR gS dS gD dD dX Pp) (arg_laws (layout E) yes (param 1 E) (param_laws 1 E LE) refl) dX mX in
+    let parts = λ (κ κ' : Lft). G-thm.met 𝓤 𝓛 𝓜 𝓡 (code.calls-cbor4ii_rw::ask::part 𝓡.env wired) (At κ κ') (Q R E gR dR gS dS gD dD dX Pp) (at_laws κ κ') (arg_laws (layout E) yes (param 1 E) (param_laws 1 E LE) refl) dX mX in
     let fills = λ (κs : Lfts 5) (p : Pp κs). (mR κs p).fill dX in
     let held' = held R E gR dR gS dS gD dD dX Pp LE 𝓛 𝓜.mem 𝓡.returns 𝓣 fills parts in
     let end' = ended R E gR dR gS dS gD dD dX Pp in let stay' = stayed R E gR dR gS dS gD dD dX Pp in let f = fn' R E gR dR gS dS gD dD dX Pp in

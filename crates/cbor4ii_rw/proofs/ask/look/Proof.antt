@@ -5,7 +5,7 @@ use Prim.Native.Nat.{ℕ, ◌^◌, ◌<◌}
 use seplogic.Ra.Ura.{Ura}
 use base.Logic.{SProp, ent, emp, id⊢}
 use base.Fml.{Lft, ftrue, flft, fres}
-use mir.Syntax.{Fn, Args, Dict, dcons, dnil, a_type, named, method, w64}
+use mir.Syntax.{Ty, Fn, Args, Dict, dcons, dnil, a_type, named, erased, method, w64, ty_struct, ty_ptr, ty_int, tcons, tnil}
 use mir.MapTy.{inst_fn}
 use mir.Val.{vptr, vint}
 use prog.Memory.{Memory}
@@ -13,7 +13,7 @@ use prog.Routine.{Routine}
 use prog.Wp.{WpFn, Tables}
 use sound.WpLaws.{WpFn-mono, fm_of}
 use contract.Monad.{Fun, fact, fact_i}
-use contract.BorrowLft.{◌⊑◌}
+use contract.BorrowLft.{◌⊑◌, ⊑_meet, ⊑_refl, ⊑_static}
 use contract.Running.{tables, tables_of}
 use types.Logic.{Logic}
 use types.Kit.{‵, raw, ◌⊛◌, some, later, ◌$◌, ◌∵◌, !, qed, done, move, keep, drop, use0, use1, use2, split, split3, join, fsplit, fsplit3, fjoin, fpick, fpack, pick, await, suffices}
@@ -49,14 +49,14 @@ use Rattle.std.proofs.option.Option.TheLaws as OPTL
 use Rattle.std.specs.declared.fmt.Debug as Debug
 use Rattle.cbor4ii_rw.specs.declared.read.Source as Source
 use Rattle.std.specs.Borrow.{Bor}
-use Rattle.cbor4ii_rw.specs.View.{View, Told}
+use Rattle.cbor4ii_rw.specs.View.{Told}
 use Rattle.cbor4ii_rw.specs.Reader.{IsFront, IsEnough, Shows, Breaks}
 use Rattle.cbor4ii_rw.specs.Parted.{Parts}
 use Rattle.cbor4ii_rw.proofs.Parted.{is_option, at_option, slot_kept, error_kept, leaves}
 use Rattle.cbor4ii_rw.specs.contracts.read.Source.show as M
-use Rattle.cbor4ii_rw.specs.contracts.ask.part_shown as G
-use Rattle.cbor4ii_rw.proofs.ask.part_shown.Symbol.{name as #part_shown}
-use Rattle.cbor4ii_rw.proofs.ask.part_shown.Met as G-thm
+use Rattle.cbor4ii_rw.specs.contracts.ask.part as G
+use Rattle.cbor4ii_rw.proofs.ask.part.Symbol.{name as #part}
+use Rattle.cbor4ii_rw.proofs.ask.part.Met as G-thm
 use Rattle.cbor4ii_rw.specs.contracts.ask.look as F
 use Rattle.cbor4ii_rw.specs.contracts.ask.look.Key.{name as #self}
 use Rattle.cbor4ii_rw.proofs.ask.look.Statement as stated
@@ -73,6 +73,23 @@ SF κ = shr_slice_field (nm 0 κ) u8-field.row tt
 slice_laws : (κ : Lft) → Laws (SF κ).row
 slice_laws κ = of_field (SF κ) (shr_slice_laws (nm 0 κ) u8-field.row tt) refl
     (copy_shared (SF κ) (shr_slice_copy (nm 0 κ) u8-field.row tt (of_field u8-field u8-laws refl (copy_shared u8-field u8-copy)).shr_laws))
+
+-- the shown bytes, as `part` is called at them
+abbrev slice_ty : Ty
+slice_ty = ty_struct [] (tcons ty_ptr (tcons (ty_int w64) tnil))
+
+abbrev EF : Lft → Field
+EF κ = shr_slice_field (record { mir = erased; lft = κ }) u8-field.row tt
+
+abbrev At : Lft → RattleType
+At κ = arg slice_ty yes (EF κ).row
+
+at_laws : (κ : Lft) → Laws (At κ)
+at_laws κ = arg_laws slice_ty yes (EF κ).row (of_field (EF κ) (shr_slice_laws (record { mir = erased; lft = κ }) u8-field.row tt) refl
+    (copy_shared (EF κ) (shr_slice_copy (record { mir = erased; lft = κ }) u8-field.row tt (of_field u8-field u8-laws refl (copy_shared u8-field u8-copy)).shr_laws))) refl
+
+at_lives : (κ : Lft) → κ ⊑ (At κ).lives
+at_lives κ = search (⊑_meet, ⊑_refl, ⊑_static)
 
 abbrev FR : RattleType → Lft → RattleType
 FR E κ = RES.the_row (SF κ).row (param 1 E)
@@ -102,7 +119,7 @@ module _ (R E : RattleType) (gS : Source.Ghosts R.Denot E.Denot) (dS : Dict) (gD
   Q = arg (layout E) yes (param 1 E)
 
   abbrev part_args : Args
-  part_args = bounded (a_type ∷ []) (Q, tt) (dcons dX dnil)
+  part_args = bounded (a_type ∷ a_type ∷ []) (At [], (Q, tt)) (dcons dX dnil)
 
   abbrev ended : Ended
   ended = F.ended R E gS dS gD dD dX
@@ -114,13 +131,13 @@ module _ (R E : RattleType) (gS : Source.Ghosts R.Denot E.Denot) (dS : Dict) (gD
     abbrev show_c : Contract 𝓤
     show_c = triple_of 𝓛 (M.signature R E) (M.spec R E gS dS gD dD dX 𝓛 at_mem run)
 
-    abbrev part_c : Contract 𝓤
-    part_c = triple_of 𝓛 (G.signature Q) (G.spec Q dX 𝓛 at_mem run)
+    abbrev part_c : Lft → Contract 𝓤
+    part_c κ = triple_of 𝓛 (G.signature (At κ) Q) (G.spec (At κ) Q dX 𝓛 at_mem run)
 
 module _ (R E : RattleType) (gS : Source.Ghosts R.Denot E.Denot) (dS : Dict) (gD : Debug.Ghosts E.Denot) (dD : Dict) (dX : Dict) (LE : Laws E)
     {M' : Type 1} {𝓤 : Ura M'} (𝓛 : Logic 𝓤) (at_mem : Memory → SProp 𝓤) (run : Routine → Fun 𝓤) (𝓣 : Tables 𝓤 𝓛.H)
     (shows_it : Triple 𝓤 (𝓣.C (method dS 0 (layouts [] tt))) (show_c R E gS dS gD dD dX 𝓛 at_mem run))
-    (parts : Triple 𝓤 (𝓣.C (#part_shown (part_args R E gS dS gD dD dX))) (part_c R E gS dS gD dD dX 𝓛 at_mem run)) where
+    (parts : (κ : Lft) → Triple 𝓤 (𝓣.C (#part (part_args R E gS dS gD dD dX))) (part_c R E gS dS gD dD dX 𝓛 at_mem run κ)) where
   open 𝓛 use {H, A}
 
   abbrev held : Clauses 𝓤 (ended R E gS dS gD dD dX)
@@ -188,15 +205,15 @@ module _ (R E : RattleType) (gS : Source.Ghosts R.Denot E.Denot) (dS : Dict) (gD
       move ! (2 ∷ []) $ pick ! (λ ws. split ! $ drop ! $ split3 ! $ heard ! (Front want x r) (λ front. heard ! (Bounded x r) (λ bounded. split ! $ heard ! (Whole want x r) (λ whole. fpick ! (λ s.
       -- [resγ; the result; the tokens; κ1; the slot]
       sets ! (addr ! (through ! refl (stop !))) refl (tt, tt) $
-      move ! (2 ∷ []) $ split3 ! $ move ! (5 ∷ 2 ∷ []) $ join ! $ move ! (1 ∷ 0 ∷ []) $ join ! $
+      move ! (2 ∷ []) $ split3 ! $ move ! (0 ∷ 2 ∷ []) $ join ! $ move ! (4 ∷ 0 ∷ []) $ join ! $
       nothing ! $ move ! (5 ∷ 0 ∷ []) $ join ! $ move ! (4 ∷ 0 ∷ []) $ join ! $ move ! (1 ∷ 0 ∷ []) $ join ! $
-      nothing ! $ use0 𝓛 (raw (fact 𝓤 (κ3 ⊑ E.lives))) (fact_i 𝓤 (κ3 ⊑ E.lives) (emp 𝓤) inE) $ join ! $ move ! (1 ∷ 0 ∷ []) $
-      let c2 = part_c R E gS dS gD dD dX 𝓛 at_mem run in
-      let z2 : c2.Ghost = (((κ0, (κ1, (κ3, tt))), (q0, (q1, (q3, tt))), (y.0.2.1.0, tt), (r, (slot, tt)), (v1 ∷ [], (vs2, tt))), tt) in
+      nothing ! $ use0 𝓛 (raw (fact 𝓤 (κ3 ⊑ E.lives))) (fact_i 𝓤 (κ3 ⊑ E.lives) (emp 𝓤) inE) $ join ! $ use0 𝓛 (raw (fact 𝓤 (κ0 ⊑ (At κ0).lives))) (fact_i 𝓤 (κ0 ⊑ (At κ0).lives) (emp 𝓤) (at_lives κ0)) $ join ! $ move ! (1 ∷ 0 ∷ []) $
+      let c2 = part_c R E gS dS gD dD dX 𝓛 at_mem run κ0 in
+      let z2 : c2.Ghost = (((κ1, (κ0, (κ3, tt))), (q1, (q0, (q3, tt))), (y.0.2.1.0, tt), (r, (slot, tt)), (v1 ∷ [], (vs2, tt))), tt) in
       use2 𝓛 (raw (c2.pre z2)) (id⊢ 𝓤 _) $
-      calls_at ! (fm_of 𝓤 H 𝓛.laws 𝓣) c2 parts z2 (and_then ! (get ! refl) (and_then ! (get ! refl) (no_more !))) (λ v2.
-      use1 𝓛 (later (some (λ (t : Option (Bor (List ℕ))). ((‵ (flft κ0 q0) ⊛ ‵ (flft κ1 q1) ⊛ ‵ (flft κ3 q3) ⊛ ‵ ftrue) ⊛ ‵ ((OPT.the_row (SF κ0).row).own_val t (v2 ∷ []))) ⊛
-      some (λ (ws2 : Lasts (G.ended (Q R E gS dS gD dD dX) dX) z2.0.0 z2.0.3). ‵ (lasts (G.ended (Q R E gS dS gD dD dX) dX) z2.0.0 z2.0.3 ws2) ⊛ raw (fact 𝓤 (Parts r slot.now ws2.1.0 t)))))) (id⊢ 𝓤 _) $
+      calls_at ! (fm_of 𝓤 H 𝓛.laws 𝓣) c2 (parts κ0) z2 (and_then ! (get ! refl) (and_then ! (get ! refl) (no_more !))) (λ v2.
+      use1 𝓛 (later (some (λ (t : Option (Bor (List ℕ))). ((‵ (flft κ1 q1) ⊛ ‵ (flft κ0 q0) ⊛ ‵ (flft κ3 q3) ⊛ ‵ ftrue) ⊛ ‵ ((OPT.the_row (SF κ0).row).own_val t (v2 ∷ []))) ⊛
+      some (λ (ws2 : Lasts (G.ended (At κ0) (Q R E gS dS gD dD dX) dX) z2.0.0 z2.0.3). ‵ (lasts (G.ended (At κ0) (Q R E gS dS gD dD dX) dX) z2.0.0 z2.0.3 ws2) ⊛ raw (fact 𝓤 (Parts r slot.now ws2.1.0 t)))))) (id⊢ 𝓤 _) $
       await ! tt $ pick ! (λ t. split ! $ split ! $ move ! (1 ∷ []) $ peeks ! (OPT.the_row (SF κ0).row) _ (shows 𝓛 (OPT.the_row (SF κ0).row)) t (v2 ∷ []) (λ is2.
       lands_as ! refl refl ((shown_lawful 𝓛 κ0).typed t (v2 ∷ []) is2).0 $
       move ! (2 ∷ []) $ pick ! (λ ws2. split ! $ move ! (1 ∷ []) $ heard ! (Parts r slot.now ws2.1.0 t) (λ parted.
@@ -207,7 +224,7 @@ module _ (R E : RattleType) (gS : Source.Ghosts R.Denot E.Denot) (dS : Dict) (gD
       let shown_enough = λ (sh : Bor (List ℕ)). Told (gS.view x).told (IsEnough want sh.now) in
       let shown_bounded = λ (sh : Bor (List ℕ)). length sh.now ≤ (gS.view x).bound in
       fsplit3 ! $ move ! (1 ∷ 2 ∷ []) $ fjoin ! $ nothing ! $ fjoin ! $ nothing ! $ fjoin ! $ move ! (0 ∷ 2 ∷ []) $ join ! $
-      move ! (2 ∷ []) $ split3 ! $ move ! (5 ∷ 2 ∷ []) $ join ! $ move ! (2 ∷ 0 ∷ []) $ join ! $ move ! (1 ∷ 0 ∷ []) $ join ! $ join ! $
+      move ! (2 ∷ []) $ split3 ! $ move ! (1 ∷ 0 ∷ []) $ move ! (5 ∷ 2 ∷ []) $ join ! $ move ! (2 ∷ 0 ∷ []) $ join ! $ move ! (1 ∷ 0 ∷ []) $ join ! $ join ! $
       move ! (2 ∷ []) $
       fpack ! ((u : (P'.Denot → P'.Denot) × P'.Denot) × (P'.Denot → ⊤) × LeftBy x u.1 t) (λ u. fres self.ghost_name (P'.coded.code u.0.1))
       (s.0, (λ _. tt), subst (LeftBy x s.0.1) (sym same) (leaves (Breaks (gS.view x) (gS.view s.0.1)) (λ shown. Shows shown.now (gS.view x) (gS.view s.0.1)) r s.2)) $
@@ -224,7 +241,7 @@ pub look_spec : {M' : Type 1} → stated.statement M'
 unfolding tables_of
 look_spec 𝓤 𝓛 𝓜 𝓡 wired R E L LE gS dS gD dD dX mS mD mX =
     let 𝓣 : Tables 𝓤 𝓛.H = tables_of 𝓤 𝓛.H 𝓜 (tables 𝓤 𝓛.H 𝓜 𝓡 𝓡.env) in
-    let parts = G-thm.met 𝓤 𝓛 𝓜 𝓡 (code.calls-cbor4ii_rw::ask::part_shown 𝓡.env wired) (Q R E gS dS gD dD dX) (arg_laws (layout E) yes (param 1 E) (param_laws 1 E LE) refl) dX mX in
+    let parts = λ (κ : Lft). G-thm.met 𝓤 𝓛 𝓜 𝓡 (code.calls-cbor4ii_rw::ask::part 𝓡.env wired) (At κ) (Q R E gS dS gD dD dX) (at_laws κ) (arg_laws (layout E) yes (param 1 E) (param_laws 1 E LE) refl) dX mX in
     let shows_it = mS.show dX in
     let held' = held R E gS dS gD dD dX LE 𝓛 𝓜.mem 𝓡.returns 𝓣 shows_it parts in
     let end' = ended R E gS dS gD dD dX in let stay' = stayed R E gS dS gD dD dX in let f = fn' R E gS dS gD dD dX in

@@ -1,7 +1,7 @@
 use Rattle.cbor4ii_tool.proofs.integer.write.Goals as goal
 
-pub returns-in-Unsigned-clause-appends : goal.returns-in-Unsigned-clause-appends
-returns-in-Unsigned-clause-appends g c = rw c.in-Unsigned.is c.encode.ensures.appends
+pub returns-in-Unsigned : goal.returns-in-Unsigned
+returns-in-Unsigned g c = rw c.in-Unsigned.is c.encode.ensures
 
-pub returns-in-Negative-clause-appends : goal.returns-in-Negative-clause-appends
-returns-in-Negative-clause-appends g c = rw c.in-Negative.is c.encode-in-Negative.ensures.appends
+pub returns-in-Negative : goal.returns-in-Negative
+returns-in-Negative g c = rw c.in-Negative.is c.encode-in-Negative.ensures

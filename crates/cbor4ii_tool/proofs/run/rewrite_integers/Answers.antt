@@ -19,7 +19,7 @@ pub returns-then-is_err-clause-rewrites : goal.returns-then-is_err-clause-rewrit
 returns-then-is_err-clause-rewrites c =
     let counted : c.remaining-in-loop-reader.result.now ≡ c.loop-reader.reader.bytes.now = cc in
     let failed : is_err c.write.result ≡ true = sym c.is_err.ensures.value ∙ c.if-is_err.true in
-    unwritten _ _ _ _ _ _ _ _ _ refl c.in-Ok.ensures.reads (on_err _ failed (c.write.ensures.whole refl)) (ap (λ xs. length c.args.input.now - length xs) counted) c.loop-reader.invariant
+    unwritten _ _ _ _ _ _ _ _ _ refl c.in-Ok.ensures.reads (on_err _ failed (c.write.ensures.kept refl)) (ap (λ xs. length c.args.input.now - length xs) counted) c.loop-reader.invariant
 
 -- what holds of a result that is no error
 on_ok : {E P : Type 0} (outcome : Result (Unit {0}) E) → is_err outcome ≡ false → OnOk outcome P → P
@@ -28,6 +28,6 @@ on_ok (Err _) e h = cc
 
 pub loop-reader-preserved : goal.loop-reader-preserved
 loop-reader-preserved c =
-    let wrote = c.write.ensures in
+    let wrote = c.write.ensures.writes in
     let ok : is_err c.write.result ≡ false = sym c.is_err.ensures.value ∙ c.if-is_err.false in
     more _ _ _ _ _ _ _ _ _ refl refl c.in-Ok.ensures.reads c.loop-reader.invariant (on_ok _ ok wrote.appends) (on_ok _ ok wrote.counts)

@@ -1,12 +1,13 @@
 use Rattle.cbor4ii_tree.proofs.reading.Laws as lemmas
-use Rattle.cbor4ii_tree.proofs.MayStop.{reading_may_stop}
+use Rattle.cbor4ii_tree.proofs.MayStop.{reading_may_stop, reading_leaves_nothing}
+use Rattle.cbor4ii_tree.specs.Refusal.{eof}
 use Rattle.cbor4ii_tree.proofs.laws.reading_tells_what_may_come.Goals as goal
 
 pub returns-clause-front : goal.returns-clause-front
 returns-clause-front c = lemmas.front_stops
 
 pub returns-clause-nothing_left : goal.returns-clause-nothing_left
-returns-clause-nothing_left c = lemmas.eof_leaves_nothing
+returns-clause-nothing_left c = λ input budget name expect rest. reading_leaves_nothing input budget (eof name expect) rest tt
 
 pub returns-clause-only_fronts : goal.returns-clause-only_fronts
 returns-clause-only_fronts c = lemmas.eof_on_front

@@ -31,3 +31,11 @@ returns-in-Err-clause-complete g c exact = maybe_refuses _ _ _ _ _ c.if-not-bran
 
 pub returns-in-Err-clause-stops : goal.returns-in-Err-clause-stops
 returns-in-Err-clause-stops g c exact = maybe_stops _ _ _ _ _ _ c.if-not-branch.false c.in_ok-item_follows.ensures.runs.moves.by c.in_ok-item_follows.ensures.sound (λ xs told. c.in-Err.ensures.stops (exact_kept _ _ _ xs told c.in_ok-item_follows.ensures.runs.moves.by exact))
+
+pub returns-in_err-item_follows-clause-begins : goal.returns-in_err-item_follows-clause-begins
+returns-in_err-item_follows-clause-begins g c =
+    let p = err_from_is_err_and c.from_residual.result c.from_residual.ensures.1 in
+    rw (p.1, p.2) (maybe_head_stops _ _ _ _ c.in_err-item_follows.ensures.stops)
+
+pub returns-in-Err-clause-begins : goal.returns-in-Err-clause-begins
+returns-in-Err-clause-begins g c = maybe_stops _ _ _ _ _ _ c.if-not-branch.false c.in_ok-item_follows.ensures.runs.moves.by c.in_ok-item_follows.ensures.sound (λ xs told. c.in-Err.ensures.begins)

@@ -1,22 +1,17 @@
-use Rattle.std.proofs.Common.{sym, ◌∙◌}
-use Rattle.std.proofs.lemmas.Result.{err_from_is_err_and}
-use Rattle.cbor4ii_items.specs.ReadNumber.{u128_tagged}
-use Rattle.cbor4ii_items.proofs.Running.{runs_err, runs_then}
-use Rattle.cbor4ii_items.proofs.BigRuns.{runs_u128_unsigned, runs_u128_tag}
+use Rattle.std.proofs.Common.{[]}
+use Rattle.std.specs.Prelude.{codes}
+use Rattle.cbor4ii_items.proofs.WholeHeads.{found_some, found_none, runs_stayed, progress_stayed, runs_broke}
+use Rattle.cbor4ii_items.proofs.BigRuns.{u128_whole}
 use Rattle.cbor4ii_items.proofs.numbers.big.unsigned.Goals as goal
 
-pub returns-in_err-argument-clause-runs : goal.returns-in_err-argument-clause-runs
-returns-in_err-argument-clause-runs g c =
-    let p = err_from_is_err_and c.from_residual-in_err-argument.result c.from_residual-in_err-argument.ensures.1 in
-    rw (p.1, p.2) (runs_u128_unsigned _ (sym c.if_major.ensures ∙ c.if-if_major-eq-UNSIGNED.true) c.in_ok-peek.ensures.runs c.in_err-argument.ensures.runs)
+pub returns-in-Ok-Some-clause-runs : goal.returns-in-Ok-Some-clause-runs
+returns-in-Ok-Some-clause-runs g c = u128_whole (found_some _ _ c.in-Ok-Some.field-0-is (c.in-Ok-Some.ensures.runs (codes "u64")))
 
-pub returns-then-if_major-eq-UNSIGNED-clause-runs : goal.returns-then-if_major-eq-UNSIGNED-clause-runs
-returns-then-if_major-eq-UNSIGNED-clause-runs g c = runs_u128_unsigned _ (sym c.if_major.ensures ∙ c.if-if_major-eq-UNSIGNED.true) c.in_ok-peek.ensures.runs c.in_ok-argument.ensures.runs
+pub returns-in-Ok-None-clause-runs : goal.returns-in-Ok-None-clause-runs
+returns-in-Ok-None-clause-runs g c = runs_stayed (found_none _ _ _ c.in-Ok-None.field-0-is (c.in-Ok-None.ensures.runs [])) c.unsigned_by_bytes.ensures.runs
 
-pub returns-in_err-tag-clause-runs : goal.returns-in_err-tag-clause-runs
-returns-in_err-tag-clause-runs g c =
-    let p = err_from_is_err_and c.from_residual-in_err-tag.result c.from_residual-in_err-tag.ensures.1 in
-    rw (p.1, p.2) (runs_u128_tag _ (λ e. c.if-if_major-eq-UNSIGNED.false (c.if_major.ensures ∙ e)) c.in_ok-peek.ensures.runs (runs_err u128_tagged c.in_err-tag.ensures.runs))
+pub returns-in-Ok-None-clause-progress : goal.returns-in-Ok-None-clause-progress
+returns-in-Ok-None-clause-progress g c = progress_stayed _ _ (found_none _ _ _ c.in-Ok-None.field-0-is (c.in-Ok-None.ensures.runs [])) c.unsigned_by_bytes.ensures.progress
 
-pub returns-clause-runs : goal.returns-clause-runs
-returns-clause-runs g c = runs_u128_tag _ (λ e. c.if-if_major-eq-UNSIGNED.false (c.if_major.ensures ∙ e)) c.in_ok-peek.ensures.runs (runs_then u128_tagged c.in_ok-tag.ensures.runs c.unsigned_bignum.ensures)
+pub returns-in-Err-clause-runs : goal.returns-in-Err-clause-runs
+returns-in-Err-clause-runs g c = runs_broke (c.in-Err.ensures.runs [])

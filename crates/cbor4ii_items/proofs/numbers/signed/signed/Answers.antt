@@ -1,27 +1,21 @@
-use Rattle.std.proofs.Common.{sym, ◌∙◌, arith}
-use Rattle.std.specs.Prelude.{pos, negsuc}
-use Rattle.std.proofs.lemmas.Result.{err_from_is_err_and}
-use Rattle.cbor4ii_items.specs.ReadNumber.{as_positive, as_negative}
-use Rattle.cbor4ii_items.proofs.Running.{runs_err, runs_with}
-use Rattle.cbor4ii_items.proofs.SignedRuns.{runs_positive, runs_negative, positive_is, negative_is}
+use Rattle.std.proofs.Common.{[], arith}
+use Rattle.cbor4ii_items.proofs.WholeHeads.{found_some, found_none, runs_stayed, progress_stayed, runs_broke}
+use Rattle.cbor4ii_items.proofs.SignedRuns.{plus_read, plus_refused, positive_is}
 use Rattle.cbor4ii_items.proofs.numbers.signed.signed.Goals as goal
 
-pub returns-in_err-argument-in-0-clause-runs : goal.returns-in_err-argument-in-0-clause-runs
-returns-in_err-argument-in-0-clause-runs g c =
-    let p = err_from_is_err_and c.from_residual-in_err-argument-in-0.result c.from_residual-in_err-argument-in-0.ensures.1 in
-    rw (p.1, p.2) (runs_positive _ _ _ _ _ _ (sym c.if_major.ensures ∙ c.in-0.is) c.in_ok-first.ensures.runs (runs_err as_positive c.in_err-argument-in-0.ensures.runs))
+pub returns-then-argument-limit-clause-runs : goal.returns-then-argument-limit-clause-runs
+returns-then-argument-limit-clause-runs g c = plus_refused _ _ _ _ _ c.if-argument-limit.true (found_some _ _ c.in-Ok-Some.field-0-is (c.in-Ok-Some.ensures.runs c.args.plus.now))
 
-pub returns-in_err-argument-in-1-clause-runs : goal.returns-in_err-argument-in-1-clause-runs
-returns-in_err-argument-in-1-clause-runs g c =
-    let p = err_from_is_err_and c.from_residual-in_err-argument-in-1.result c.from_residual-in_err-argument-in-1.ensures.1 in
-    rw (p.1, p.2) (runs_negative _ _ _ _ _ _ (sym c.if_major.ensures ∙ c.in-1.is) c.in_ok-first.ensures.runs (runs_err as_negative c.in_err-argument-in-1.ensures.runs))
+pub returns-else-argument-limit-clause-runs : goal.returns-else-argument-limit-clause-runs
+returns-else-argument-limit-clause-runs g c =
+    let e = positive_is c.positive.result c.in-Ok-Some.argument (omega (arith, c.if-argument-limit.false, c.requires)) c.positive.ensures in
+    plus_read c.args.name.now c.args.plus _ _ _ e c.if-argument-limit.false (found_some _ _ c.in-Ok-Some.field-0-is (c.in-Ok-Some.ensures.runs c.args.plus.now))
 
-pub returns-in_ok-argument-in-0-clause-runs : goal.returns-in_ok-argument-in-0-clause-runs
-returns-in_ok-argument-in-0-clause-runs g c =
-    let e = positive_is c.positive.result c.in_ok-argument-in-0.argument (omega (arith, c.in_ok-argument-in-0.ensures.below, c.requires)) c.positive.ensures in
-    runs_positive _ _ _ _ _ _ (sym c.if_major.ensures ∙ c.in-0.is) c.in_ok-first.ensures.runs (runs_with pos e c.in_ok-argument-in-0.ensures.runs)
+pub returns-in-Ok-None-clause-runs : goal.returns-in-Ok-None-clause-runs
+returns-in-Ok-None-clause-runs g c = runs_stayed (found_none _ _ _ c.in-Ok-None.field-0-is (c.in-Ok-None.ensures.runs [])) c.signed_below_zero.ensures.runs
 
-pub returns-in_ok-argument-in-1-clause-runs : goal.returns-in_ok-argument-in-1-clause-runs
-returns-in_ok-argument-in-1-clause-runs g c =
-    let e = negative_is c.negative.result c.in_ok-argument-in-1.argument (omega (arith, c.in_ok-argument-in-1.ensures.below, c.requires)) c.negative.ensures in
-    runs_negative _ _ _ _ _ _ (sym c.if_major.ensures ∙ c.in-1.is) c.in_ok-first.ensures.runs (runs_with negsuc e c.in_ok-argument-in-1.ensures.runs)
+pub returns-in-Ok-None-clause-progress : goal.returns-in-Ok-None-clause-progress
+returns-in-Ok-None-clause-progress g c = progress_stayed _ _ (found_none _ _ _ c.in-Ok-None.field-0-is (c.in-Ok-None.ensures.runs [])) c.signed_below_zero.ensures.progress
+
+pub returns-in-Err-clause-runs : goal.returns-in-Err-clause-runs
+returns-in-Err-clause-runs g c = runs_broke (c.in-Err.ensures.runs [])

@@ -32,3 +32,11 @@ returns-in-Ok-clause-moves g c = moves_then c.in_ok-first.ensures.runs.moves.by 
 
 pub returns-in-Err-clause-moves : goal.returns-in-Err-clause-moves
 returns-in-Err-clause-moves g c = moves_then c.in_ok-first.ensures.runs.moves.by (moves_err c.in-Err.ensures.moves)
+
+pub returns-in_err-first-clause-begins : goal.returns-in_err-first-clause-begins
+returns-in_err-first-clause-begins g c =
+    let p = err_from_is_err_and c.from_residual.result c.from_residual.ensures.1 in
+    rw (p.1, p.2) (end_stops g.T.Spelled.begins _ c.in_err-first.ensures.runs)
+
+pub returns-in-Err-clause-begins : goal.returns-in-Err-clause-begins
+returns-in-Err-clause-begins g c = some_stops _ _ _ _ _ _ (saw _ _ _ c.in_ok-first.ensures.runs) (λ xs told. c.in-Err.ensures.begins)

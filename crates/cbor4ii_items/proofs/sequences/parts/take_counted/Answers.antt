@@ -25,3 +25,8 @@ loop-i-preserved g c = count_more _ c.loop-i.invariant c.in_ok-add_part.ensures.
 
 pub returns-clause-sound : goal.returns-clause-sound
 returns-clause-sound g c = count_done _ c.loop-i.invariant (omega (arith, c.loop-i-test.false, c.loop-i.auto.i-end))
+
+pub returns-in_err-add_part-clause-begins : goal.returns-in_err-add_part-clause-begins
+returns-in_err-add_part-clause-begins g c =
+    let p = err_from_is_err_and c.from_residual.result c.from_residual.ensures.1 in
+    rw (p.1, p.2) (count_stops _ _ c.loop-i.invariant c.loop-i-test.true (λ xs told. c.in_err-add_part.ensures.begins))

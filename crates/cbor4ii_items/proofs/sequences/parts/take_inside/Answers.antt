@@ -41,3 +41,16 @@ returns-in-None-clause-complete g c exact =
 pub returns-in-None-clause-stops : goal.returns-in-None-clause-stops
 returns-in-None-clause-stops g c exact =
     opened_stops _ _ _ _ _ c.take_open.result _ _ _ (opens _ _ c.in-None.is c.in_ok-count.ensures.runs) (λ xs told. c.take_open.ensures.stops (exact_kept _ _ _ xs told c.in_ok-count.ensures.runs.moves.by exact))
+
+pub returns-in_err-count-clause-begins : goal.returns-in_err-count-clause-begins
+returns-in_err-count-clause-begins g c =
+    let p = err_from_is_err_and c.from_residual.result c.from_residual.ensures.1 in
+    rw (p.1, p.2) (head_stops _ _ _ _ _ c.in_err-count.ensures.runs)
+
+pub returns-in-Some-clause-begins : goal.returns-in-Some-clause-begins
+returns-in-Some-clause-begins g c =
+    counted_stops _ _ _ _ _ c.take_counted.result _ _ _ (counts _ _ c.in-Some.is c.in_ok-count.ensures.runs) (λ xs told. c.take_counted.ensures.begins)
+
+pub returns-in-None-clause-begins : goal.returns-in-None-clause-begins
+returns-in-None-clause-begins g c =
+    opened_stops _ _ _ _ _ c.take_open.result _ _ _ (opens _ _ c.in-None.is c.in_ok-count.ensures.runs) (λ xs told. c.take_open.ensures.begins)

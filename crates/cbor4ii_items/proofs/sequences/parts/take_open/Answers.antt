@@ -57,3 +57,18 @@ returns-clause-moves g c = record { by = kept_then c.loop-parts.invariant.kept c
 
 pub returns-clause-sound : goal.returns-clause-sound
 returns-clause-sound g c = open_done _ _ c.if-not-branch.false c.loop-parts.invariant c.in_ok-at_break.ensures.runs
+
+pub returns-in_err-at_break-clause-begins : goal.returns-in_err-at_break-clause-begins
+returns-in_err-at_break-clause-begins g c =
+    let p = err_from_is_err_and c.from_residual.result c.from_residual.ensures.1 in
+    rw (p.1, p.2) (end_stops _ _ _ _ c.loop-parts.invariant c.in_err-at_break.ensures.runs)
+
+pub returns-then-not-is_part_never_empty-clause-begins : goal.returns-then-not-is_part_never_empty-clause-begins
+returns-then-not-is_part_never_empty-clause-begins g c =
+    nothing_stops _ _ c.args.name _ (sym c.if-not-is_part_never_empty.ensures) c.loop-parts.invariant (stands c.if-not-branch.true c.in_ok-at_break.ensures.runs)
+
+pub returns-in_err-add_part-clause-begins : goal.returns-in_err-add_part-clause-begins
+returns-in_err-add_part-clause-begins g c =
+    let p = err_from_is_err_and c.from_residual-in_err-add_part.result c.from_residual-in_err-add_part.ensures.1 in
+    let kept = kept_then c.loop-parts.invariant.kept c.in_ok-at_break.ensures.runs.moves.by in
+    rw (p.1, p.2) (open_stops _ _ _ _ (sym c.if-not-is_part_never_empty.ensures) c.loop-parts.invariant (stands c.if-not-branch.true c.in_ok-at_break.ensures.runs) (λ xs told. c.in_err-add_part.ensures.begins))

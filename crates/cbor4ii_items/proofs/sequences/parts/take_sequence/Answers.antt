@@ -14,3 +14,7 @@ returns-clause-complete g c exact =
 pub returns-clause-stops : goal.returns-clause-stops
 returns-clause-stops g c exact =
     stepped_stops _ _ _ c.take_inside-outcome.result _ _ c.if-not-step_in.ensures.budget c.step_in.ensures.others _ _ _ _ c.step_out.ensures.others (c.take_inside-outcome.ensures.stops (exact_step _ _ _ c.step_in.ensures.others exact))
+
+pub returns-clause-begins : goal.returns-clause-begins
+returns-clause-begins g c =
+    stepped_stops _ _ _ c.take_inside-outcome.result _ _ c.if-not-step_in.ensures.budget c.step_in.ensures.others _ _ _ _ c.step_out.ensures.others (c.take_inside-outcome.ensures.begins)

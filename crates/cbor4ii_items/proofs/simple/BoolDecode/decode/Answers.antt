@@ -10,3 +10,6 @@ returns-clause-complete g c exact = leaf_complete bool_leaf c.flag.result c.flag
 
 pub returns-clause-stops : goal.returns-clause-stops
 returns-clause-stops g c exact = leaf_stops bool_leaf c.flag.result c.flag.ensures.runs
+
+pub returns-clause-begins : goal.returns-clause-begins
+returns-clause-begins g c = leaf_stops bool_leaf c.flag.result c.flag.ensures.runs

@@ -1,5 +1,5 @@
 use Rattle.std.proofs.lemmas.Result.{err_from_is_err_and}
-use Rattle.cbor4ii_items.proofs.LentAnswers.{lent_moves, lent_sound, lent_refuses, lent_stops, head_lends_none, head_stops_lent}
+use Rattle.cbor4ii_items.proofs.LentAnswers.{lent_moves, lent_sound, lent_refuses, lent_stops, lent_begins, head_lends_none, head_stops_lent, head_begins_lent}
 use Rattle.cbor4ii_items.proofs.strings.lent.take_lent.Goals as goal
 
 pub returns-in_err-count-clause-complete : goal.returns-in_err-count-clause-complete
@@ -27,3 +27,12 @@ pub returns-clause-stops : goal.returns-clause-stops
 returns-clause-stops g c exact =
     lent_stops _ _ _ _ _ g.T.Lend.content _ _ _ g.T.Lend.major c.lend_from.result c.named.result (rw c.major.ensures.number at c.major.ensures.small) (rw c.name-2.ensures at c.named.ensures)
     c.in_ok-count.ensures.runs.moves.by (rw c.major.ensures.number at c.in_ok-count.ensures.sound) exact c.lend_from.ensures.lacks
+
+pub returns-in_err-count-clause-begins : goal.returns-in_err-count-clause-begins
+returns-in_err-count-clause-begins g c =
+    let p = err_from_is_err_and c.from_residual.result c.from_residual.ensures.1 in
+    rw (p.1, p.2) (head_begins_lent _ _ _ (rw (c.name.ensures, c.major.ensures.number) at c.in_err-count.ensures.stops))
+
+pub returns-clause-begins : goal.returns-clause-begins
+returns-clause-begins g c =
+    lent_begins _ _ _ _ _ g.T.Lend.content _ _ _ g.T.Lend.major c.lend_from.result c.named.result (rw c.name-2.ensures at c.named.ensures) (rw c.major.ensures.number at c.in_ok-count.ensures.sound) c.lend_from.ensures.lacks

@@ -20,3 +20,11 @@ returns-in-None-clause-complete g c exact = other_refuses _ _ _ _ g.met.T.LendOr
 
 pub returns-in-None-clause-stops : goal.returns-in-None-clause-stops
 returns-in-None-clause-stops g c exact = other_stops _ _ _ _ c.name.ensures g.met.T.LendOrOwn.text (rw c.in-None.is at c.in_ok-value.ensures.takes)
+
+pub returns-in_err-value-clause-begins : goal.returns-in_err-value-clause-begins
+returns-in_err-value-clause-begins g c =
+    let p = err_from_is_err_and c.from_residual.result c.from_residual.ensures.1 in
+    rw (p.1, p.2) (either_stops _ _ _ g.met.T.LendOrOwn.text c.in_err-value.ensures.takes.by)
+
+pub returns-in-None-clause-begins : goal.returns-in-None-clause-begins
+returns-in-None-clause-begins g c = other_stops _ _ _ _ c.name.ensures g.met.T.LendOrOwn.text (rw c.in-None.is at c.in_ok-value.ensures.takes)

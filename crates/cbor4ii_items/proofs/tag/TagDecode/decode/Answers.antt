@@ -27,3 +27,11 @@ returns-in-Err-clause-complete g c exact = tag_refuses _ _ _ _ _ c.in_ok-number.
 
 pub returns-in-Err-clause-stops : goal.returns-in-Err-clause-stops
 returns-in-Err-clause-stops g c exact = tag_stops _ _ _ _ _ _ c.in_ok-number.ensures.runs.moves.by c.in_ok-number.ensures.sound (λ xs told. c.in-Err.ensures.stops (exact_kept _ _ _ xs told c.in_ok-number.ensures.runs.moves.by exact))
+
+pub returns-in_err-number-clause-begins : goal.returns-in_err-number-clause-begins
+returns-in_err-number-clause-begins g c =
+    let p = err_from_is_err_and c.from_residual.result c.from_residual.ensures.1 in
+    rw (p.1, p.2) (tag_head_stops _ _ _ _ c.in_err-number.ensures.stops)
+
+pub returns-in-Err-clause-begins : goal.returns-in-Err-clause-begins
+returns-in-Err-clause-begins g c = tag_stops _ _ _ _ _ _ c.in_ok-number.ensures.runs.moves.by c.in_ok-number.ensures.sound (λ xs told. c.in-Err.ensures.begins)

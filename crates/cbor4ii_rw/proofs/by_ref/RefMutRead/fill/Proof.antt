@@ -51,7 +51,7 @@ use Rattle.cbor4ii_rw.specs.declared.read.Source as Source
 use Rattle.cbor4ii_rw.specs.declared.read.Reference.{Reference}
 use Rattle.cbor4ii_rw.specs.contracts.read.Reference as RF
 use Rattle.cbor4ii_rw.proofs.read.Reference.TheLaws as RFL
-use Rattle.cbor4ii_rw.specs.View.{View, Told}
+use Rattle.cbor4ii_rw.specs.View.{Told}
 use Rattle.cbor4ii_rw.specs.Reader.{IsFront, IsEnough, Shows, Breaks}
 use Rattle.cbor4ii_rw.specs.Reference.{bytes_of, IsLong}
 use Rattle.cbor4ii_rw.specs.contracts.read.Read.fill as M

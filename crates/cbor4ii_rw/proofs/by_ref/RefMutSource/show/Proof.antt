@@ -1,5 +1,5 @@
 -- `show` hands the reader behind the reference to its own `show`, whose error may be of any type, so this proof walks the code by hand.
-use mathlib.Core.Path.{◌≡◌, refl}
+use mathlib.Core.Path.{refl}
 use mathlib.Core.List.{List, [], ◌∷◌}
 use Prim.Native.Nat.{ℕ, ◌^◌, ◌<◌}
 use seplogic.Ra.Ura.{Ura}
@@ -50,7 +50,7 @@ use Rattle.std.proofs.result.Result.TheLaws as RESL
 use Rattle.std.specs.declared.fmt.Debug as Debug
 use Rattle.cbor4ii_rw.specs.declared.read.Source as Source
 use Rattle.std.specs.Borrow.{Bor}
-use Rattle.cbor4ii_rw.specs.View.{View, Told}
+use Rattle.cbor4ii_rw.specs.View.{Told}
 use Rattle.cbor4ii_rw.specs.Reader.{IsFront, IsEnough, Shows, Breaks}
 use Rattle.cbor4ii_rw.specs.contracts.read.Source.show as M
 use Rattle.cbor4ii_rw.specs.contracts.by_ref.RefMutSource.show as F

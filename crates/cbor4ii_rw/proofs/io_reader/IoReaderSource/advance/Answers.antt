@@ -15,4 +15,5 @@ returns g c =
       failures = refl;
       taken = refl;
       lends_whole = λ lent. lent;
+      remembers = λ is. is;
     }

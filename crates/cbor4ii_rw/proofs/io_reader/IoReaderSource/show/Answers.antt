@@ -1,11 +1,11 @@
-use Rattle.std.proofs.Common.{rules, arith, ◌≡◌, ℕ, ◌<◌, ◌≤◌, ◌-◌, le_of_eq, min, List, [], length, take, Some, Ok, IfSome, refl, sym, ap, subst, length-take-le}
+use Rattle.std.proofs.Common.{rules, arith, ◌≡◌, ℕ, ◌<◌, ◌≤◌, ◌-◌, le_of_eq, min, List, [], length, take, Some, Ok, Err, IfSome, refl, sym, ap, subst, length-take-le}
 use Rattle.std.specs.Io.{StartsWith}
 use Rattle.std.specs.declared.io.Error.{Error}
 use Rattle.std.specs.Io.BufRead.{FillKeeps}
 use Rattle.std.specs.Io.KnownBytes.{Keeps}
 use Rattle.cbor4ii_rw.specs.declared.io_reader.Tally.{Tally}
 use Rattle.cbor4ii_rw.specs.Stream.{most_bytes, held_bytes, TallyMoves}
-use Rattle.cbor4ii_rw.proofs.StreamLemmas.{cut_front, held_cases, held_now, keeps_cut}
+use Rattle.cbor4ii_rw.proofs.StreamLemmas.{cut_front, held_cases, held_now, keeps_cut, may_forget, takes_none}
 use Rattle.cbor4ii_rw.proofs.io_reader.IoReaderSource.show.Goals as goal
 
 pub returns-in-Ok : goal.returns-in-Ok
@@ -41,7 +41,42 @@ returns-in-Ok g c =
           failures = counts.3;
           taken = ap Some counts.2;
           lends_whole = λ lent. lent;
+          remembers = λ is. is;
         },
       ),
       record { front = cut_front _ _ shown most n is left front end; bounded = omega (arith, long); ended = λ _. refl; after_borrow = tt },
+    )
+
+pub returns-in-Err : goal.returns-in-Err
+returns-in-Err g c =
+    let v = c.show_all.follows.lender-at-none in
+    let before = c.args.self.now in
+    let most = most_bytes - before.tally.taken in
+    let a = g.R.Read.remaining before.inner in let b = g.R.Read.remaining c.consume.new.self in let w = g.R.Read.remaining v.inner in
+    let limit = g.R.BufRead.consumable_len v.inner in
+    let started : Tally = record { shown = 0; used = 0; taken = before.tally.taken; failures = before.tally.failures; steps = before.tally.steps } in
+    let moved = subst (λ r. FillKeeps b w limit r × TallyMoves started v.tally r) c.in-Err.is c.show_all.follows.holds-at-none in
+    let counts = moved.1 in
+    let held_after = λ (bytes : List ℕ) (e : b ≡ Some bytes).
+    let kept = subst (λ o. FillKeeps {E = Error} o w limit (Err c.in-Err.error)) e moved.0 in
+    held_now w limit v.tally bytes counts.1 kept.0 (subst (λ k. IfSome limit (λ most. k ≤ most)) (sym counts.0) (takes_none limit)) in
+    let keeps = held_cases a b (g.R.BufRead.consumable_len before.inner) before.tally c.consume.ensures.bytes (λ o. Keeps o (held_bytes w limit v.tally)) tt held_after in
+    let left : 0 < most = search rules in
+    let same : most_bytes - v.tally.taken ≡ most = ap (λ k. most_bytes - k) counts.2 in
+    let told = keeps_cut most (most_bytes - v.tally.taken) _ _ same keeps in (
+      (
+        refl,
+        λ _. tt,
+        record {
+          told = may_forget _ _ told;
+          kept = λ is. told;
+          bound = le_of_eq same;
+          budget = ap Some counts.4;
+          failures = counts.3;
+          taken = ap Some counts.2;
+          lends_whole = λ lent. lent;
+          remembers = λ is. is;
+        },
+      ),
+      record { front = tt; bounded = tt; ended = λ none. absurd (omega (arith, left, none)); after_borrow = tt },
     )

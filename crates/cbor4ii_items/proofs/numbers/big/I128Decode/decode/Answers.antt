@@ -10,3 +10,6 @@ returns-clause-complete g c exact = leaf_complete i128_leaf c.signed.result c.si
 
 pub returns-clause-stops : goal.returns-clause-stops
 returns-clause-stops g c exact = leaf_stops i128_leaf c.signed.result c.signed.ensures.runs
+
+pub returns-clause-begins : goal.returns-clause-begins
+returns-clause-begins g c = leaf_stops i128_leaf c.signed.result c.signed.ensures.runs

@@ -10,3 +10,6 @@ returns-clause-complete g c exact = leaf_complete u128_leaf c.unsigned.result c.
 
 pub returns-clause-stops : goal.returns-clause-stops
 returns-clause-stops g c exact = leaf_stops u128_leaf c.unsigned.result c.unsigned.ensures.runs
+
+pub returns-clause-begins : goal.returns-clause-begins
+returns-clause-begins g c = leaf_stops u128_leaf c.unsigned.result c.unsigned.ensures.runs

@@ -36,3 +36,14 @@ returns-clause-moves g c = moves_then c.in_ok-key.ensures.moves.by (moves_ok c.i
 
 pub returns-clause-sound : goal.returns-clause-sound
 returns-clause-sound g c = pair_sound _ _ c.in_ok-key.ensures.moves.by c.in_ok-key.ensures.sound c.in_ok-value.ensures.sound
+
+pub returns-in_err-key-clause-begins : goal.returns-in_err-key-clause-begins
+returns-in_err-key-clause-begins g c =
+    let p = err_from_is_err_and c.from_residual.result c.from_residual.ensures.1 in
+    rw (p.1, p.2) (key_stops_pair _ _ _ (c.in_err-key.ensures.begins))
+
+pub returns-in_err-value-clause-begins : goal.returns-in_err-value-clause-begins
+returns-in_err-value-clause-begins g c =
+    let p = err_from_is_err_and c.from_residual-in_err-value.result c.from_residual-in_err-value.ensures.1 in
+    rw (p.1, p.2) (value_stops_pair _ _ _ c.in_ok-key.ensures.moves.by c.in_ok-key.ensures.sound
+    (λ xs told. c.in_err-value.ensures.begins))

@@ -4,7 +4,7 @@ use Rattle.cbor4ii_items.specs.Head.{break}
 use Rattle.cbor4ii_tree.specs.Tree.{Tree, Trees, no_trees, tree, Pairs, no_pairs, pair, count, pair_count, bytes, bytes_all, bytes_pairs}
 use Rattle.cbor4ii_tree.specs.Stops.{Each, EachPair}
 use Rattle.cbor4ii_tree.specs.Parse.{Parser, ◌>>=◌, trees_at, pairs_at, open_trees_at, open_pairs_at}
-use Rattle.cbor4ii_tree.proofs.heads.Initials.{Begins, length-bytes-pos}
+use Rattle.cbor4ii_tree.specs.head_laws.Initials.{Begins, length-bytes-pos}
 
 -- below so many bytes, whole items are read back
 abbrev pub Again : Parser Tree → (Tree → Type 0) → ℕ → Type 0

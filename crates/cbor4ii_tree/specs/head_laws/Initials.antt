@@ -3,7 +3,7 @@ use Rattle.std.proofs.Common.{◌≡◌, ℕ, ◌+◌, ◌*◌, ◌<◌, ◌≤�
 use Rattle.cbor4ii_items.specs.Head.{Width, HeadFits, additional, open_head}
 use Rattle.cbor4ii_items.specs.Initial.{Sign, unsigned, negative, sign_major, Kind, byte_string, text_string, kind_major, Simple, simple_false, simple_true, simple_null, simple_undefined, simple_byte, Precision, half, single, double, precision_byte, starts_int, starts_string, starts_chunks, starts_array, starts_open_array, starts_map, starts_open_map, starts_tag, starts_simple, starts_bits, initial, int_by, string_by, array_by, map_by, tag_by}
 use Rattle.cbor4ii_tree.specs.Tree.{Tree, int, string, chunked, array, array_open, map_of, map_open, tagged, simple, bits, count, pair_count, bytes, Loose}
-use Rattle.cbor4ii_tree.proofs.heads.Numbers.{additional-lt, info-additional, initial-head}
+use Rattle.cbor4ii_tree.specs.head_laws.Numbers.{additional-lt, info-additional, initial-head}
 
 pub initial_int : (s : Sign) (n : ℕ) (w : Width) → HeadFits w n → initial (32 * sign_major s + additional w n) ≡ starts_int s w
 initial_int unsigned n w h = initial-head 0 n w h ∙ ap (int_by unsigned) (info-additional n w h)

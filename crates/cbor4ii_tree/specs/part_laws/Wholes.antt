@@ -7,7 +7,7 @@ use Rattle.cbor4ii_tree.specs.Cost.{Budget, cost, greatest_cost, greatest_pair_c
 use Rattle.cbor4ii_tree.specs.Stops.{Each, EachPair}
 use Rattle.cbor4ii_tree.specs.StopsSkipping.{Skippable}
 use Rattle.cbor4ii_tree.specs.StopsReading.{Readable, ReadableChunk}
-use Rattle.cbor4ii_tree.proofs.Budgets.{fits_zero, fits_less, fits_max}
+use Rattle.cbor4ii_tree.specs.Budgets.{fits_zero, fits_less, fits_max}
 
 pub each_skippable : (ts : Trees) (b : Budget) → LooseAll ts → CostFits (greatest_skip_cost ts) b → Each (Skippable b) ts
 each_skippable no_trees b l f = tt

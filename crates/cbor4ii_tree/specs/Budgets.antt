@@ -2,7 +2,7 @@
 use Rattle.std.proofs.Common.{ℕ, ◌+◌, ◌≤◌, max, Some, None, arith}
 use Rattle.cbor4ii_items.specs.Decoding.{CostFits}
 use Rattle.cbor4ii_tree.specs.Cost.{Budget}
-use Rattle.cbor4ii_tree.proofs.Binds.{left}
+use Rattle.cbor4ii_tree.specs.Binds.{left}
 
 pub fits_zero : (b : Budget) → CostFits 0 b
 fits_zero None = tt

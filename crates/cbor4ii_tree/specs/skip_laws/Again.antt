@@ -10,12 +10,12 @@ use Rattle.cbor4ii_tree.specs.Refusal.{ignored_any, tag_name}
 use Rattle.cbor4ii_tree.specs.StopsSkipping.{Skippable}
 use Rattle.cbor4ii_tree.specs.Parse.{Parser}
 use Rattle.cbor4ii_tree.specs.Skip.{skip_by, skip_from, skip_within}
-use Rattle.cbor4ii_tree.proofs.Binds.{left, step_left}
-use Rattle.cbor4ii_tree.proofs.Budgets.{fits_left, fits_less}
-use Rattle.cbor4ii_tree.proofs.heads.Initials.{initial_int, initial_string, initial_array, initial_map, initial_tag, initial_chunks, initial_simple, initial_bits, initial_open_array, initial_open_map, begins}
-use Rattle.cbor4ii_tree.proofs.heads.Again.{front_again, argument_again, whole_argument_again, whole_number_again}
-use Rattle.cbor4ii_tree.proofs.parts.Again.{Again, Starts, trees_again, pairs_again, open_trees_again, open_pairs_again}
-use Rattle.cbor4ii_tree.proofs.parts.Wholes.{each_skippable, each_pair_skippable}
+use Rattle.cbor4ii_tree.specs.Binds.{left, step_left}
+use Rattle.cbor4ii_tree.specs.Budgets.{fits_left, fits_less}
+use Rattle.cbor4ii_tree.specs.head_laws.Initials.{initial_int, initial_string, initial_array, initial_map, initial_tag, initial_chunks, initial_simple, initial_bits, initial_open_array, initial_open_map, begins}
+use Rattle.cbor4ii_tree.specs.head_laws.Again.{front_again, argument_again, whole_argument_again, whole_number_again}
+use Rattle.cbor4ii_tree.specs.part_laws.Again.{Again, Starts, trees_again, pairs_again, open_trees_again, open_pairs_again}
+use Rattle.cbor4ii_tree.specs.part_laws.Wholes.{each_skippable, each_pair_skippable}
 
 pub skippable_starts : (b : Budget) → Starts (Skippable b)
 skippable_starts b t w = begins t w.0

@@ -4,7 +4,7 @@ use Rattle.std.specs.Int.{bytes_high_first}
 use Rattle.cbor4ii_items.specs.Head.{Width, in_first, one, two, four, eight, HeadFits, additional, byte_count, head}
 use Rattle.cbor4ii_tree.specs.Parse.{front_at, number_at, argument_at}
 use Rattle.cbor4ii_tree.specs.Skip.{whole_number_at, whole_argument_at}
-use Rattle.cbor4ii_tree.proofs.heads.Numbers.{length-bytes_high_first, low_bytes}
+use Rattle.cbor4ii_tree.specs.head_laws.Numbers.{length-bytes_high_first, low_bytes}
 
 pub front_again : (name : List ℕ) (k : ℕ) (xs x : List ℕ) → length xs ≡ k → front_at name k (xs ++ x) ≡ Ok (xs, x)
 front_again name k xs x e =

@@ -1,0 +1,269 @@
+use Rattle.std.proofs.Common.{inl, refl, ap, subst, ◌∙◌, ◌+◌, ◌*◌, ◌∷◌}
+use Rattle.std.proofs.lemmas.Result.{err_from_is_err_and}
+use Rattle.cbor4ii_tree.specs.Valuing.{ReadsItems, StopsItems, ReadsArray, ReadsMap, StopsMajor, ReadsMembers, ReadsOpen, StopsOpen, ReadsOpenMembers, StopsOpenMembers, ReadsUnder, StopsUnder}
+use Rattle.cbor4ii_tree.specs.declared.value.Value.{Array, Map, Tag, Bytes, Text}
+use Rattle.cbor4ii_tree.specs.Item.{tag}
+use Rattle.cbor4ii_tree.specs.View.{view}
+use Rattle.cbor4ii_tree.specs.Refusal.{array_name, map_name, tag_name, sign_name, kind_name}
+use Rattle.cbor4ii_items.specs.Initial.{negative, byte_string, text_string}
+use Rattle.cbor4ii_items.specs.Numbers.{ReadsNegative, StopsNegative, StopsArgument}
+use Rattle.cbor4ii_items.specs.Strings.{ReadsAs, ReadsTextAs, StopsString, StopsText, bytes_content, text_content}
+use Rattle.cbor4ii_items.proofs.Steps.{kept_then}
+use Rattle.cbor4ii_tree.proofs.Doing.{reached_start, does_ok, does_no_memory, does_no_step}
+use Rattle.cbor4ii_tree.proofs.SkippingCalls.{Before, broke, other, at_end}
+use Rattle.cbor4ii_tree.proofs.ValuingParts.{ReadEach, ReadPairs}
+use Rattle.cbor4ii_tree.proofs.ValuingCalls.{stepped, none, counted_more, counted_stop, unsigned_read, unsigned_stops, int_stops}
+use Rattle.cbor4ii_tree.proofs.ValuingHeads.{arm_ok, arm_err, arm_does, call_ok, call_err, StopsFrom, simple_read, negative_reads, reached_tag, tag_read, tag_stops, tag_stopped, view-Tag}
+use Rattle.cbor4ii_tree.proofs.ValuingSequences.{ReadsStepped, StopsOf, major_stepped, array_no_step, map_no_step, array_length_stops, map_length_stops, length_refused, reached_length, reached_open, array_counted, array_opened, array_reads, map_counted, map_opened, map_reads, each_none, each_more, open_end, open_stop, open_done, members_none, WithKey, members_more, member_key_stop, member_value_stop, pairs_none, pairs_more, members_end, key_stop, value_stop, members_done, more, ends}
+use Rattle.cbor4ii_tree.proofs.ValuingStrings.{string_stops, text_stops, bytes_reads, text_reads}
+use Rattle.cbor4ii_tree.proofs.ValuingItems.{items_none, items_are, members_none_are, members_are, array_item, map_item, text_item}
+use Rattle.cbor4ii_tree.proofs.decode_value.+read.Goals as goal
+
+pub array_inside-returns-in-None-clause-does : goal.array_inside-returns-in-None-clause-does
+array_inside-returns-in-None-clause-does g t c =
+    array_opened (reached_open 4 c.in-None.is c.in_ok-count.ensures.moves c.in_ok-count.ensures.sound) c.open_items.ensures.does
+
+pub array_inside-returns-in-Some-clause-does : goal.array_inside-returns-in-Some-clause-does
+array_inside-returns-in-Some-clause-does g t c =
+    array_counted c.in-Some.count (reached_length 4 c.in-Some.count c.in-Some.is c.in_ok-count.ensures.moves c.in_ok-count.ensures.sound) c.counted_items.ensures.does
+
+pub array_inside-returns-in_err-count-clause-does : goal.array_inside-returns-in_err-count-clause-does
+array_inside-returns-in_err-count-clause-does g t c =
+    let p = err_from_is_err_and c.from_residual.result c.from_residual.ensures.1 in
+    rw (p.1, p.2) (length_refused array_name 4 (λ xs v ys. ReadsArray (g.S.Source.view c.args.reader.now).budget xs v.items ys) (StopsMajor 4 (g.S.Source.view c.args.reader.now).budget) (λ xs z rest. array_length_stops (g.S.Source.view c.args.reader.now).budget xs (g.S.Source.view c.args.reader.now).budget z rest) c.in_err-count.ensures.moves c.in_err-count.ensures.stops)
+
+pub counted_items-loop-i-init : goal.counted_items-loop-i-init
+counted_items-loop-i-init g t c = record {
+  reached = reached_start (λ xs ys. ReadsItems 0 (g.S.Source.view c.args.reader.now).budget xs _ ys) _ (λ xs. none (g.S.Source.view c.args.reader.now).budget xs _ (cc));
+  items = items_none (cc);
+}
+
+pub counted_items-loop-i-preserved : goal.counted_items-loop-i-preserved
+counted_items-loop-i-preserved g t c = record {
+  reached = counted_more c.loop-i.i c.loop-i.items.items c.loop-i.invariant.reached _ c.in_ok-keep.ensures.kept c.in_ok-value.ensures.does;
+  items = items_are _ c.loop-i.items.items c.in_ok-value.value c.in_ok-keep.ensures.kept c.loop-i.invariant.items c.in_ok-value.ensures.item;
+}
+
+pub counted_items-returns-in_err-value-clause-does : goal.counted_items-returns-in_err-value-clause-does
+counted_items-returns-in_err-value-clause-does g t c =
+    let p = err_from_is_err_and c.from_residual.result c.from_residual.ensures.1 in
+    rw (p.1, p.2) (counted_stop c.loop-i.i c.loop-i.items.items c.loop-i.invariant.reached (λ xs v ys. ReadsItems c.args.count (g.S.Source.view c.args.reader.now).budget xs v.items ys) c.args.count c.loop-i-test.true c.in_err-value.ensures.does)
+
+pub counted_members-loop-i-init : goal.counted_members-loop-i-init
+counted_members-loop-i-init g t c = record {
+  reached = reached_start (λ xs ys. ReadsMembers 0 (g.S.Source.view c.args.reader.now).budget xs _ ys) _ (λ xs. members_none (g.S.Source.view c.args.reader.now).budget _ xs (cc));
+  items = members_none_are (cc);
+}
+
+pub counted_members-loop-i-preserved : goal.counted_members-loop-i-preserved
+counted_members-loop-i-preserved g t c = record {
+  reached = more (WithKey (λ xs ys. ReadsMembers c.loop-i.i (g.S.Source.view c.args.reader.now).budget xs c.loop-i.members.items ys) c.in_ok-key.key (g.S.Source.view c.args.reader.now).budget) (more (λ xs ys. ReadsMembers c.loop-i.i (g.S.Source.view c.args.reader.now).budget xs c.loop-i.members.items ys) c.loop-i.invariant.reached (WithKey (λ xs ys. ReadsMembers c.loop-i.i (g.S.Source.view c.args.reader.now).budget xs c.loop-i.members.items ys) c.in_ok-key.key (g.S.Source.view c.args.reader.now).budget) (λ xs ys zs h s. (ys, h, s)) c.in_ok-key.ensures.does) (λ xs ys. ReadsMembers (c.loop-i.i + 1) (g.S.Source.view c.args.reader.now).budget xs _ ys) (λ xs ys zs h s. members_more c.loop-i.i (g.S.Source.view c.args.reader.now).budget c.loop-i.members.items _ c.in_ok-key.key c.in_ok-value.value xs ys zs c.in_ok-keep.ensures.kept h s) c.in_ok-value.ensures.does;
+  items = members_are _ c.loop-i.members.items c.in_ok-key.key c.in_ok-value.value c.in_ok-keep.ensures.kept c.loop-i.invariant.items c.in_ok-key.ensures.item c.in_ok-value.ensures.item;
+}
+
+pub counted_members-returns-in_err-key-clause-does : goal.counted_members-returns-in_err-key-clause-does
+counted_members-returns-in_err-key-clause-does g t c =
+    let p = err_from_is_err_and c.from_residual.result c.from_residual.ensures.1 in
+    rw (p.1, p.2) (ends (λ xs ys. ReadsMembers c.loop-i.i (g.S.Source.view c.args.reader.now).budget xs c.loop-i.members.items ys) c.loop-i.invariant.reached (λ xs v ys. ReadsMembers c.args.count (g.S.Source.view c.args.reader.now).budget xs v.items ys) (StopsItems (2 * c.args.count) (g.S.Source.view c.args.reader.now).budget) (λ xs ys z rest h s. member_key_stop c.loop-i.i c.args.count (g.S.Source.view c.args.reader.now).budget c.loop-i.members.items xs ys z rest c.loop-i-test.true h s) c.in_err-key.ensures.does)
+
+pub counted_members-returns-in_err-value-clause-does : goal.counted_members-returns-in_err-value-clause-does
+counted_members-returns-in_err-value-clause-does g t c =
+    let p = err_from_is_err_and c.from_residual-in_err-value.result c.from_residual-in_err-value.ensures.1 in
+    rw (p.1, p.2) (ends (WithKey (λ xs ys. ReadsMembers c.loop-i.i (g.S.Source.view c.args.reader.now).budget xs c.loop-i.members.items ys) c.in_ok-key.key (g.S.Source.view c.args.reader.now).budget) (more (λ xs ys. ReadsMembers c.loop-i.i (g.S.Source.view c.args.reader.now).budget xs c.loop-i.members.items ys) c.loop-i.invariant.reached (WithKey (λ xs ys. ReadsMembers c.loop-i.i (g.S.Source.view c.args.reader.now).budget xs c.loop-i.members.items ys) c.in_ok-key.key (g.S.Source.view c.args.reader.now).budget) (λ xs ys zs h s. (ys, h, s)) c.in_ok-key.ensures.does) (λ xs v ys. ReadsMembers c.args.count (g.S.Source.view c.args.reader.now).budget xs v.items ys) (StopsItems (2 * c.args.count) (g.S.Source.view c.args.reader.now).budget) (λ xs ys z rest h s. member_value_stop c.loop-i.i c.args.count (g.S.Source.view c.args.reader.now).budget c.loop-i.members.items c.in_ok-key.key xs ys z rest c.loop-i-test.true h s) c.in_err-value.ensures.does)
+
+pub map_inside-returns-in-None-clause-does : goal.map_inside-returns-in-None-clause-does
+map_inside-returns-in-None-clause-does g t c =
+    map_opened (reached_open 5 c.in-None.is c.in_ok-count.ensures.moves c.in_ok-count.ensures.sound) c.open_members.ensures.does
+
+pub map_inside-returns-in-Some-clause-does : goal.map_inside-returns-in-Some-clause-does
+map_inside-returns-in-Some-clause-does g t c =
+    map_counted c.in-Some.count (reached_length 5 c.in-Some.count c.in-Some.is c.in_ok-count.ensures.moves c.in_ok-count.ensures.sound) c.counted_members.ensures.does
+
+pub map_inside-returns-in_err-count-clause-does : goal.map_inside-returns-in_err-count-clause-does
+map_inside-returns-in_err-count-clause-does g t c =
+    let p = err_from_is_err_and c.from_residual.result c.from_residual.ensures.1 in
+    rw (p.1, p.2) (length_refused map_name 5 (λ xs v ys. ReadsMap (g.S.Source.view c.args.reader.now).budget xs v.items ys) (StopsMajor 5 (g.S.Source.view c.args.reader.now).budget) (λ xs z rest. map_length_stops (g.S.Source.view c.args.reader.now).budget xs (g.S.Source.view c.args.reader.now).budget z rest) c.in_err-count.ensures.moves c.in_err-count.ensures.stops)
+
+pub open_items-loop-items-init : goal.open_items-loop-items-init
+open_items-loop-items-init g t c = record {
+  reached = reached_start (ReadEach _ (g.S.Source.view c.args.reader.now).budget) _ (λ xs. each_none (g.S.Source.view c.args.reader.now).budget _ xs (cc));
+  items = items_none (cc);
+}
+
+pub open_items-loop-items-preserved : goal.open_items-loop-items-preserved
+open_items-loop-items-preserved g t c = record {
+  reached = more (Before (ReadEach c.loop-items.items.items) (g.S.Source.view c.args.reader.now).budget) (other (ReadEach c.loop-items.items.items) c.loop-items.invariant.reached c.if-not-branch.true c.in_ok-is_break.ensures.moves c.in_ok-is_break.ensures.sound) (ReadEach _ (g.S.Source.view c.args.reader.now).budget) (λ xs ys zs h s. each_more (g.S.Source.view c.args.reader.now).budget c.loop-items.items.items _ c.in_ok-value.value xs ys zs c.in_ok-keep.ensures.kept h.0 s) c.in_ok-value.ensures.does;
+  items = items_are _ c.loop-items.items.items c.in_ok-value.value c.in_ok-keep.ensures.kept c.loop-items.invariant.items c.in_ok-value.ensures.item;
+}
+
+pub open_items-returns-clause-does : goal.open_items-returns-clause-does
+open_items-returns-clause-does g t c = (does_ok (λ xs v ys. ReadsOpen (g.S.Source.view c.args.reader.now).budget xs v.items ys) (StopsOpen (g.S.Source.view c.args.reader.now).budget) (broke (ReadEach c.loop-items.items.items) c.loop-items.invariant.reached (λ xs ys. ReadsOpen (g.S.Source.view c.args.reader.now).budget xs c.loop-items.items.items ys) (λ xs ys zs h e. open_done (g.S.Source.view c.args.reader.now).budget c.loop-items.items.items xs ys zs h e) c.if-not-branch.false c.in_ok-is_break.ensures.moves c.in_ok-is_break.ensures.sound))
+
+pub open_items-returns-in_err-is_break-clause-does : goal.open_items-returns-in_err-is_break-clause-does
+open_items-returns-in_err-is_break-clause-does g t c =
+    let p = err_from_is_err_and c.from_residual.result c.from_residual.ensures.1 in
+    rw (p.1, p.2) (at_end (ReadEach c.loop-items.items.items) c.loop-items.invariant.reached (λ xs v ys. ReadsOpen (g.S.Source.view c.args.reader.now).budget xs v.items ys) (StopsOpen (g.S.Source.view c.args.reader.now).budget) (λ xs ys h e. open_end (g.S.Source.view c.args.reader.now).budget c.loop-items.items.items xs ys h e) c.in_err-is_break.ensures.moves c.in_err-is_break.ensures.stops)
+
+pub open_items-returns-in_err-value-clause-does : goal.open_items-returns-in_err-value-clause-does
+open_items-returns-in_err-value-clause-does g t c =
+    let p = err_from_is_err_and c.from_residual-in_err-value.result c.from_residual-in_err-value.ensures.1 in
+    rw (p.1, p.2) (ends (Before (ReadEach c.loop-items.items.items) (g.S.Source.view c.args.reader.now).budget) (other (ReadEach c.loop-items.items.items) c.loop-items.invariant.reached c.if-not-branch.true c.in_ok-is_break.ensures.moves c.in_ok-is_break.ensures.sound) (λ xs v ys. ReadsOpen (g.S.Source.view c.args.reader.now).budget xs v.items ys) (StopsOpen (g.S.Source.view c.args.reader.now).budget) (λ xs ys z rest h s. open_stop (g.S.Source.view c.args.reader.now).budget c.loop-items.items.items xs ys z rest h.1 h.2 h.0 s) c.in_err-value.ensures.does)
+
+pub open_members-loop-members-init : goal.open_members-loop-members-init
+open_members-loop-members-init g t c = record {
+  reached = reached_start (ReadPairs _ (g.S.Source.view c.args.reader.now).budget) _ (λ xs. pairs_none (g.S.Source.view c.args.reader.now).budget _ xs (cc));
+  items = members_none_are (cc);
+}
+
+pub open_members-loop-members-preserved : goal.open_members-loop-members-preserved
+open_members-loop-members-preserved g t c = record {
+  reached = more (WithKey (ReadPairs c.loop-members.members.items (g.S.Source.view c.args.reader.now).budget) c.in_ok-key.key (g.S.Source.view c.args.reader.now).budget) (more (Before (ReadPairs c.loop-members.members.items) (g.S.Source.view c.args.reader.now).budget) (other (ReadPairs c.loop-members.members.items) c.loop-members.invariant.reached c.if-not-branch.true c.in_ok-is_break.ensures.moves c.in_ok-is_break.ensures.sound) (WithKey (ReadPairs c.loop-members.members.items (g.S.Source.view c.args.reader.now).budget) c.in_ok-key.key (g.S.Source.view c.args.reader.now).budget) (λ xs ys zs h s. (ys, h.0, s)) c.in_ok-key.ensures.does) (ReadPairs _ (g.S.Source.view c.args.reader.now).budget) (λ xs ys zs h s. pairs_more (g.S.Source.view c.args.reader.now).budget c.loop-members.members.items _ c.in_ok-key.key c.in_ok-value.value xs ys zs c.in_ok-keep.ensures.kept h s) c.in_ok-value.ensures.does;
+  items = members_are _ c.loop-members.members.items c.in_ok-key.key c.in_ok-value.value c.in_ok-keep.ensures.kept c.loop-members.invariant.items c.in_ok-key.ensures.item c.in_ok-value.ensures.item;
+}
+
+pub open_members-returns-clause-does : goal.open_members-returns-clause-does
+open_members-returns-clause-does g t c = (does_ok (λ xs v ys. ReadsOpenMembers (g.S.Source.view c.args.reader.now).budget xs v.items ys) (StopsOpenMembers (g.S.Source.view c.args.reader.now).budget) (broke (ReadPairs c.loop-members.members.items) c.loop-members.invariant.reached (λ xs ys. ReadsOpenMembers (g.S.Source.view c.args.reader.now).budget xs c.loop-members.members.items ys) (λ xs ys zs h e. members_done (g.S.Source.view c.args.reader.now).budget c.loop-members.members.items xs ys zs h e) c.if-not-branch.false c.in_ok-is_break.ensures.moves c.in_ok-is_break.ensures.sound))
+
+pub open_members-returns-in_err-is_break-clause-does : goal.open_members-returns-in_err-is_break-clause-does
+open_members-returns-in_err-is_break-clause-does g t c =
+    let p = err_from_is_err_and c.from_residual.result c.from_residual.ensures.1 in
+    rw (p.1, p.2) (at_end (ReadPairs c.loop-members.members.items) c.loop-members.invariant.reached (λ xs v ys. ReadsOpenMembers (g.S.Source.view c.args.reader.now).budget xs v.items ys) (StopsOpenMembers (g.S.Source.view c.args.reader.now).budget) (λ xs ys h e. members_end (g.S.Source.view c.args.reader.now).budget c.loop-members.members.items xs ys h e) c.in_err-is_break.ensures.moves c.in_err-is_break.ensures.stops)
+
+pub open_members-returns-in_err-key-clause-does : goal.open_members-returns-in_err-key-clause-does
+open_members-returns-in_err-key-clause-does g t c =
+    let p = err_from_is_err_and c.from_residual-in_err-key.result c.from_residual-in_err-key.ensures.1 in
+    rw (p.1, p.2) (ends (Before (ReadPairs c.loop-members.members.items) (g.S.Source.view c.args.reader.now).budget) (other (ReadPairs c.loop-members.members.items) c.loop-members.invariant.reached c.if-not-branch.true c.in_ok-is_break.ensures.moves c.in_ok-is_break.ensures.sound) (λ xs v ys. ReadsOpenMembers (g.S.Source.view c.args.reader.now).budget xs v.items ys) (StopsOpenMembers (g.S.Source.view c.args.reader.now).budget) (λ xs ys z rest h s. key_stop (g.S.Source.view c.args.reader.now).budget c.loop-members.members.items xs ys z rest h.1 h.2 h.0 s) c.in_err-key.ensures.does)
+
+pub open_members-returns-in_err-value-clause-does : goal.open_members-returns-in_err-value-clause-does
+open_members-returns-in_err-value-clause-does g t c =
+    let p = err_from_is_err_and c.from_residual-in_err-value.result c.from_residual-in_err-value.ensures.1 in
+    rw (p.1, p.2) (ends (WithKey (ReadPairs c.loop-members.members.items (g.S.Source.view c.args.reader.now).budget) c.in_ok-key.key (g.S.Source.view c.args.reader.now).budget) (more (Before (ReadPairs c.loop-members.members.items) (g.S.Source.view c.args.reader.now).budget) (other (ReadPairs c.loop-members.members.items) c.loop-members.invariant.reached c.if-not-branch.true c.in_ok-is_break.ensures.moves c.in_ok-is_break.ensures.sound) (WithKey (ReadPairs c.loop-members.members.items (g.S.Source.view c.args.reader.now).budget) c.in_ok-key.key (g.S.Source.view c.args.reader.now).budget) (λ xs ys zs h s. (ys, h.0, s)) c.in_ok-key.ensures.does) (λ xs v ys. ReadsOpenMembers (g.S.Source.view c.args.reader.now).budget xs v.items ys) (StopsOpenMembers (g.S.Source.view c.args.reader.now).budget) (λ xs ys z rest h s. value_stop (g.S.Source.view c.args.reader.now).budget c.loop-members.members.items c.in_ok-key.key xs ys z rest h s) c.in_err-value.ensures.does)
+
+pub read_array-returns-clause-does : goal.read_array-returns-clause-does
+read_array-returns-clause-does g t c =
+    major_stepped (λ o xs v ys. ReadsArray o xs v.items ys) 4 c.if-not-step_in.ensures.budget c.step_in.ensures.others c.array_inside-outcome.ensures.does c.step_out.ensures.budget c.step_out.ensures.others
+
+pub read_array-returns-then-not-step_in-clause-does : goal.read_array-returns-then-not-step_in-clause-does
+read_array-returns-then-not-step_in-clause-does g t c =
+    does_no_step array_name (ReadsStepped (λ o xs v ys. ReadsArray o xs v.items ys) (g.S.Source.view c.args.reader.now).budget) (StopsOf 4 (g.S.Source.view c.args.reader.now).budget) refl refl (λ none xs. array_no_step (g.S.Source.view c.args.reader.now).budget none xs) c.if-not-step_in.ensures.budget c.step_in.ensures.others
+
+pub read_inside-returns-clause-does : goal.read_inside-returns-clause-does
+read_inside-returns-clause-does g t c =
+    arm_does c.in_ok-first.first c.in_ok-first.ensures.runs (λ xs v ys. ReadsUnder (g.S.Source.view c.peek.new.reader).budget xs v ys) (StopsFrom c.in_ok-first.first (g.S.Source.view c.peek.new.reader).budget) (λ bs ys v h. subst (λ o. ReadsUnder o (c.in_ok-first.first ∷ bs) v ys) c.in_ok-first.ensures.runs.moves.by.budget h) (λ bs z rest h. subst (λ o. StopsUnder o (c.in_ok-first.first ∷ bs) z rest) c.in_ok-first.ensures.runs.moves.by.budget (h bs refl)) c.read_float.ensures.does
+
+pub read_inside-returns-in-0-clause-does : goal.read_inside-returns-in-0-clause-does
+read_inside-returns-in-0-clause-does g t c =
+    unsigned_read c.in_ok-first.first c.in_ok-first.ensures.runs c.in_ok-decode-in-0.ensures.moves c.in_ok-decode-in-0.ensures.sound
+
+pub read_inside-returns-in-1-clause-does : goal.read_inside-returns-in-1-clause-does
+read_inside-returns-in-1-clause-does g t c =
+    call_ok c.in_ok-first.first c.in_ok-first.ensures.runs (ReadsNegative 8) _ (λ xs n k _ r. negative_reads (g.S.Source.view c.args.reader.now).budget c.in_ok-number-in-1.number.0 n k xs r) c.in_ok-number-in-1.ensures.moves c.in_ok-number-in-1.ensures.sound
+
+pub read_inside-returns-in-2-clause-does : goal.read_inside-returns-in-2-clause-does
+read_inside-returns-in-2-clause-does g t c =
+    call_ok c.in_ok-first.first c.in_ok-first.ensures.runs (ReadsAs 2 bytes_content) (Bytes c.in_ok-decode-in-2.field-0.0) (λ xs n k fits r. bytes_reads (g.S.Source.view c.args.reader.now).budget c.in_ok-decode-in-2.field-0.0 xs n k fits r) c.in_ok-decode-in-2.ensures.moves c.in_ok-decode-in-2.ensures.sound
+
+pub read_inside-returns-in-3-clause-does : goal.read_inside-returns-in-3-clause-does
+read_inside-returns-in-3-clause-does g t c =
+    call_ok c.in_ok-first.first c.in_ok-first.ensures.runs (ReadsTextAs text_content) (Text c.in_ok-decode-in-3.field-0) (λ xs n k fits r. text_reads (g.S.Source.view c.args.reader.now).budget c.in_ok-decode-in-3.field-0 xs n k fits r.0 r.1) c.in_ok-decode-in-3.ensures.moves c.in_ok-decode-in-3.ensures.sound
+
+pub read_inside-returns-in-4-clause-does : goal.read_inside-returns-in-4-clause-does
+read_inside-returns-in-4-clause-does g t c =
+    arm_ok c.in_ok-first.first c.in_ok-first.ensures.runs (ReadsStepped (λ o xs v ys. ReadsArray o xs v.items ys) (g.S.Source.view c.peek.new.reader).budget) (StopsOf 4 (g.S.Source.view c.peek.new.reader).budget) (Array c.in_ok-read_array-in-4.field-0) (λ bs ys h. array_reads (g.S.Source.view c.args.reader.now).budget c.in_ok-read_array-in-4.field-0 (c.in_ok-first.first ∷ bs) ys (subst (λ o. ReadsStepped (λ o xs v ys. ReadsArray o xs v.items ys) o (c.in_ok-first.first ∷ bs) c.in_ok-read_array-in-4.field-0 ys) c.in_ok-first.ensures.runs.moves.by.budget h)) c.in_ok-read_array-in-4.ensures.does
+
+pub read_inside-returns-in-5-clause-does : goal.read_inside-returns-in-5-clause-does
+read_inside-returns-in-5-clause-does g t c =
+    arm_ok c.in_ok-first.first c.in_ok-first.ensures.runs (ReadsStepped (λ o xs v ys. ReadsMap o xs v.items ys) (g.S.Source.view c.peek.new.reader).budget) (StopsOf 5 (g.S.Source.view c.peek.new.reader).budget) (Map c.in_ok-read_map-in-5.field-0) (λ bs ys h. map_reads (g.S.Source.view c.args.reader.now).budget c.in_ok-read_map-in-5.field-0 (c.in_ok-first.first ∷ bs) ys (subst (λ o. ReadsStepped (λ o xs v ys. ReadsMap o xs v.items ys) o (c.in_ok-first.first ∷ bs) c.in_ok-read_map-in-5.field-0 ys) c.in_ok-first.ensures.runs.moves.by.budget h)) c.in_ok-read_map-in-5.ensures.does
+
+pub read_inside-returns-in-6-clause-does : goal.read_inside-returns-in-6-clause-does
+read_inside-returns-in-6-clause-does g t c =
+    does_no_memory (ReadsUnder (g.S.Source.view c.args.reader.now).budget) (StopsUnder (g.S.Source.view c.args.reader.now).budget) refl (kept_then (reached_tag c.in_ok-first.first c.in_ok-number-in-6.number c.in_ok-first.ensures.runs c.in_ok-number-in-6.ensures.moves c.in_ok-number-in-6.ensures.sound).kept c.in_ok-inner-in-6.ensures.does.moves.by)
+
+pub read_inside-returns-in-Ok-clause-does : goal.read_inside-returns-in-Ok-clause-does
+read_inside-returns-in-Ok-clause-does g t c =
+    tag_read c.in_ok-number-in-6.number (Tag c.in_ok-number-in-6.number c.in-Ok.boxed) (view-Tag c.in_ok-number-in-6.number c.in-Ok.boxed ∙ ap (λ x. tag c.in_ok-number-in-6.number (view x)) c.in-Ok.ensures.ok) (reached_tag c.in_ok-first.first c.in_ok-number-in-6.number c.in_ok-first.ensures.runs c.in_ok-number-in-6.ensures.moves c.in_ok-number-in-6.ensures.sound) c.in_ok-inner-in-6.ensures.does
+
+pub read_inside-returns-in_err-decode-in-0-clause-does : goal.read_inside-returns-in_err-decode-in-0-clause-does
+read_inside-returns-in_err-decode-in-0-clause-does g t c =
+    let p = err_from_is_err_and c.from_residual-in_err-decode-in-0.result c.from_residual-in_err-decode-in-0.ensures.1 in
+    rw (p.1, p.2) (unsigned_stops c.in_ok-first.first (λ xs v ys. Unit {0}) c.in_ok-first.ensures.runs (c.in-0.is) c.in_err-decode-in-0.ensures.moves (c.in_err-decode-in-0.ensures.stops (inl refl)))
+
+pub read_inside-returns-in_err-decode-in-2-clause-does : goal.read_inside-returns-in_err-decode-in-2-clause-does
+read_inside-returns-in_err-decode-in-2-clause-does g t c =
+    let p = err_from_is_err_and c.from_residual-in_err-decode-in-2.result c.from_residual-in_err-decode-in-2.ensures.1 in
+    rw (p.1, p.2) (call_err c.in_ok-first.first c.in_ok-first.ensures.runs (StopsString (kind_name byte_string) 2) (λ bs z rest h. string_stops (g.S.Source.view c.args.reader.now).budget byte_string c.in_ok-first.first bs z rest c.in-2.is h) c.in_err-decode-in-2.ensures.moves (c.in_err-decode-in-2.ensures.stops (inl refl)))
+
+pub read_inside-returns-in_err-decode-in-3-clause-does : goal.read_inside-returns-in_err-decode-in-3-clause-does
+read_inside-returns-in_err-decode-in-3-clause-does g t c =
+    let p = err_from_is_err_and c.from_residual-in_err-decode-in-3.result c.from_residual-in_err-decode-in-3.ensures.1 in
+    rw (p.1, p.2) (call_err c.in_ok-first.first c.in_ok-first.ensures.runs (StopsText (kind_name text_string)) (λ bs z rest h. text_stops (g.S.Source.view c.args.reader.now).budget c.in_ok-first.first bs z rest c.in-3.is h) c.in_err-decode-in-3.ensures.moves (c.in_err-decode-in-3.ensures.stops (inl refl)))
+
+pub read_inside-returns-in_err-inner-in-6-clause-does : goal.read_inside-returns-in_err-inner-in-6-clause-does
+read_inside-returns-in_err-inner-in-6-clause-does g t c =
+    let p = err_from_is_err_and c.from_residual-in_err-inner-in-6.result c.from_residual-in_err-inner-in-6.ensures.1 in
+    rw (p.1, p.2) (tag_stopped c.in_ok-number-in-6.number (reached_tag c.in_ok-first.first c.in_ok-number-in-6.number c.in_ok-first.ensures.runs c.in_ok-number-in-6.ensures.moves c.in_ok-number-in-6.ensures.sound) c.in_err-inner-in-6.ensures.does)
+
+pub read_inside-returns-in_err-number-in-1-clause-does : goal.read_inside-returns-in_err-number-in-1-clause-does
+read_inside-returns-in_err-number-in-1-clause-does g t c =
+    let p = err_from_is_err_and c.from_residual-in_err-number-in-1.result c.from_residual-in_err-number-in-1.ensures.1 in
+    rw (p.1, p.2) (call_err c.in_ok-first.first c.in_ok-first.ensures.runs (StopsNegative (sign_name negative) 8) (λ bs z rest h. int_stops (g.S.Source.view c.args.reader.now).budget negative c.in_ok-first.first bs z rest c.in-1.is h) c.in_err-number-in-1.ensures.moves (c.in_err-number-in-1.ensures.stops (inl refl)))
+
+pub read_inside-returns-in_err-number-in-6-clause-does : goal.read_inside-returns-in_err-number-in-6-clause-does
+read_inside-returns-in_err-number-in-6-clause-does g t c =
+    let p = err_from_is_err_and c.from_residual-in_err-number-in-6.result c.from_residual-in_err-number-in-6.ensures.1 in
+    rw (p.1, p.2) (call_err c.in_ok-first.first c.in_ok-first.ensures.runs (StopsArgument tag_name 6 8) (λ bs z rest h. tag_stops (g.S.Source.view c.args.reader.now).budget c.in_ok-first.first bs z rest c.in-6.is h) c.in_err-number-in-6.ensures.moves c.in_err-number-in-6.ensures.stops)
+
+pub read_inside-returns-in_err-read_array-in-4-clause-does : goal.read_inside-returns-in_err-read_array-in-4-clause-does
+read_inside-returns-in_err-read_array-in-4-clause-does g t c =
+    let p = err_from_is_err_and c.from_residual-in_err-read_array-in-4.result c.from_residual-in_err-read_array-in-4.ensures.1 in
+    rw (p.1, p.2) (arm_err c.in_ok-first.first c.in_ok-first.ensures.runs (ReadsStepped (λ o xs v ys. ReadsArray o xs v.items ys) (g.S.Source.view c.peek.new.reader).budget) (StopsOf 4 (g.S.Source.view c.peek.new.reader).budget) (λ bs z rest h. subst (λ o. StopsUnder o (c.in_ok-first.first ∷ bs) z rest) c.in_ok-first.ensures.runs.moves.by.budget (h c.in_ok-first.first bs refl c.in-4.is)) c.in_err-read_array-in-4.ensures.does)
+
+pub read_inside-returns-in_err-read_map-in-5-clause-does : goal.read_inside-returns-in_err-read_map-in-5-clause-does
+read_inside-returns-in_err-read_map-in-5-clause-does g t c =
+    let p = err_from_is_err_and c.from_residual-in_err-read_map-in-5.result c.from_residual-in_err-read_map-in-5.ensures.1 in
+    rw (p.1, p.2) (arm_err c.in_ok-first.first c.in_ok-first.ensures.runs (ReadsStepped (λ o xs v ys. ReadsMap o xs v.items ys) (g.S.Source.view c.peek.new.reader).budget) (StopsOf 5 (g.S.Source.view c.peek.new.reader).budget) (λ bs z rest h. subst (λ o. StopsUnder o (c.in_ok-first.first ∷ bs) z rest) c.in_ok-first.ensures.runs.moves.by.budget (h c.in_ok-first.first bs refl c.in-5.is)) c.in_err-read_map-in-5.ensures.does)
+
+pub read_map-returns-clause-does : goal.read_map-returns-clause-does
+read_map-returns-clause-does g t c =
+    major_stepped (λ o xs v ys. ReadsMap o xs v.items ys) 5 c.if-not-step_in.ensures.budget c.step_in.ensures.others c.map_inside-outcome.ensures.does c.step_out.ensures.budget c.step_out.ensures.others
+
+pub read_map-returns-then-not-step_in-clause-does : goal.read_map-returns-then-not-step_in-clause-does
+read_map-returns-then-not-step_in-clause-does g t c =
+    does_no_step map_name (ReadsStepped (λ o xs v ys. ReadsMap o xs v.items ys) (g.S.Source.view c.args.reader.now).budget) (StopsOf 5 (g.S.Source.view c.args.reader.now).budget) refl refl (λ none xs. map_no_step (g.S.Source.view c.args.reader.now).budget none xs) c.if-not-step_in.ensures.budget c.step_in.ensures.others
+
+pub read_value-returns-clause-does : goal.read_value-returns-clause-does
+read_value-returns-clause-does g t c =
+    stepped c.if-not-step_in.ensures.budget c.step_in.ensures.others c.read_inside-outcome.ensures.does c.step_out.ensures.budget c.step_out.ensures.others
+
+pub counted_items-returns-in_err-keep-clause-does : goal.counted_items-returns-in_err-keep-clause-does
+counted_items-returns-in_err-keep-clause-does g t c =
+    let p = err_from_is_err_and c.from_residual-in_err-keep.result c.from_residual-in_err-keep.ensures.1 in
+    rw (p.1, p.2) (does_no_memory (λ xs v ys. ReadsItems c.args.count (g.S.Source.view c.args.reader.now).budget xs v.items ys) (StopsItems c.args.count (g.S.Source.view c.args.reader.now).budget) c.in_err-keep.ensures.memory (kept_then c.loop-i.invariant.reached.kept c.in_ok-value.ensures.does.moves.by))
+
+pub counted_members-returns-in_err-keep-clause-does : goal.counted_members-returns-in_err-keep-clause-does
+counted_members-returns-in_err-keep-clause-does g t c =
+    let p = err_from_is_err_and c.from_residual-in_err-keep.result c.from_residual-in_err-keep.ensures.1 in
+    rw (p.1, p.2) (does_no_memory (λ xs v ys. ReadsMembers c.args.count (g.S.Source.view c.args.reader.now).budget xs v.items ys) (StopsItems (2 * c.args.count) (g.S.Source.view c.args.reader.now).budget) c.in_err-keep.ensures.memory (kept_then (kept_then c.loop-i.invariant.reached.kept c.in_ok-key.ensures.does.moves.by) c.in_ok-value.ensures.does.moves.by))
+
+pub open_items-returns-in_err-keep-clause-does : goal.open_items-returns-in_err-keep-clause-does
+open_items-returns-in_err-keep-clause-does g t c =
+    let p = err_from_is_err_and c.from_residual-in_err-keep.result c.from_residual-in_err-keep.ensures.1 in
+    rw (p.1, p.2) (does_no_memory (λ xs v ys. ReadsOpen (g.S.Source.view c.args.reader.now).budget xs v.items ys) (StopsOpen (g.S.Source.view c.args.reader.now).budget) c.in_err-keep.ensures.memory (kept_then (kept_then c.loop-items.invariant.reached.kept c.in_ok-is_break.ensures.moves.by) c.in_ok-value.ensures.does.moves.by))
+
+pub open_members-returns-in_err-keep-clause-does : goal.open_members-returns-in_err-keep-clause-does
+open_members-returns-in_err-keep-clause-does g t c =
+    let p = err_from_is_err_and c.from_residual-in_err-keep.result c.from_residual-in_err-keep.ensures.1 in
+    rw (p.1, p.2) (does_no_memory (λ xs v ys. ReadsOpenMembers (g.S.Source.view c.args.reader.now).budget xs v.items ys) (StopsOpenMembers (g.S.Source.view c.args.reader.now).budget) c.in_err-keep.ensures.memory (kept_then (kept_then (kept_then c.loop-members.invariant.reached.kept c.in_ok-is_break.ensures.moves.by) c.in_ok-key.ensures.does.moves.by) c.in_ok-value.ensures.does.moves.by))
+
+pub read_inside-returns-in-Some-clause-does : goal.read_inside-returns-in-Some-clause-does
+read_inside-returns-in-Some-clause-does g t c =
+    simple_read c.in_ok-first.first c.in_ok-first.ensures.runs c.in_ok-first.ensures.byte c.advance.ensures c.in-Some.ensures
+
+pub read_inside-returns-in-3-clause-item : goal.read_inside-returns-in-3-clause-item
+read_inside-returns-in-3-clause-item g t c = text_item c.in_ok-decode-in-3.field-0
+
+pub read_inside-returns-in-4-clause-item : goal.read_inside-returns-in-4-clause-item
+read_inside-returns-in-4-clause-item g t c = array_item c.in_ok-read_array-in-4.field-0 c.in_ok-read_array-in-4.ensures.items
+
+pub read_inside-returns-in-5-clause-item : goal.read_inside-returns-in-5-clause-item
+read_inside-returns-in-5-clause-item g t c = map_item c.in_ok-read_map-in-5.field-0 c.in_ok-read_map-in-5.ensures.items

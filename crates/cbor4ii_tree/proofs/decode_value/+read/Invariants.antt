@@ -1,0 +1,55 @@
+use Rattle.std.proofs.Common.{◌+◌, ◌*◌}
+use Rattle.cbor4ii_tree.specs.Valuing.{ReadsItems, ReadsMembers}
+use Rattle.cbor4ii_tree.specs.Item.{AreItems, AreMembers}
+use Rattle.cbor4ii_tree.specs.View.{items_view, members_view}
+use Rattle.cbor4ii_tree.proofs.Doing.{Reached}
+use Rattle.cbor4ii_tree.proofs.ValuingParts.{ReadEach, ReadPairs}
+use Rattle.cbor4ii_tree.proofs.decode_value.+read.Given as goal
+
+abbrev pub decreases-read_value : goal.decreases-read_value
+decreases-read_value g l = 5 * (g.S.Source.view l.reader.now).bound + 3
+
+abbrev pub decreases-read_inside : goal.decreases-read_inside
+decreases-read_inside g l = 5 * (g.S.Source.view l.reader.now).bound + 2
+
+abbrev pub decreases-read_array : goal.decreases-read_array
+decreases-read_array g l = 5 * (g.S.Source.view l.reader.now).bound + 1
+
+abbrev pub decreases-read_map : goal.decreases-read_map
+decreases-read_map g l = 5 * (g.S.Source.view l.reader.now).bound + 1
+
+abbrev pub decreases-array_inside : goal.decreases-array_inside
+decreases-array_inside g l = 5 * (g.S.Source.view l.reader.now).bound + 0
+
+abbrev pub decreases-map_inside : goal.decreases-map_inside
+decreases-map_inside g l = 5 * (g.S.Source.view l.reader.now).bound + 0
+
+abbrev pub decreases-counted_items : goal.decreases-counted_items
+decreases-counted_items g l = 5 * (g.S.Source.view l.reader.now).bound + 4
+
+abbrev pub decreases-open_items : goal.decreases-open_items
+decreases-open_items g l = 5 * (g.S.Source.view l.reader.now).bound + 4
+
+abbrev pub decreases-counted_members : goal.decreases-counted_members
+decreases-counted_members g l = 5 * (g.S.Source.view l.reader.now).bound + 4
+
+abbrev pub decreases-open_members : goal.decreases-open_members
+decreases-open_members g l = 5 * (g.S.Source.view l.reader.now).bound + 4
+
+abbrev pub invariant-counted_items-loop-i : goal.invariant-counted_items-loop-i
+invariant-counted_items-loop-i g l = record { reached : Reached (λ xs ys. ReadsItems l.i (g.S.Source.view l.fn.reader).budget xs l.items.items ys) (g.S.Source.view l.fn.reader) (g.S.Source.view l.reader); items : AreItems (items_view l.items.items) }
+
+abbrev pub invariant-counted_members-loop-i : goal.invariant-counted_members-loop-i
+invariant-counted_members-loop-i g l = record { reached : Reached (λ xs ys. ReadsMembers l.i (g.S.Source.view l.fn.reader).budget xs l.members.items ys) (g.S.Source.view l.fn.reader) (g.S.Source.view l.reader); items : AreMembers (members_view l.members.items) }
+
+abbrev pub invariant-open_items-loop-items : goal.invariant-open_items-loop-items
+invariant-open_items-loop-items g l = record { reached : Reached (ReadEach l.items.items (g.S.Source.view l.fn.reader).budget) (g.S.Source.view l.fn.reader) (g.S.Source.view l.reader); items : AreItems (items_view l.items.items) }
+
+abbrev pub decreases-open_items-loop-items : goal.decreases-open_items-loop-items
+decreases-open_items-loop-items g l = (g.S.Source.view l.reader).bound
+
+abbrev pub invariant-open_members-loop-members : goal.invariant-open_members-loop-members
+invariant-open_members-loop-members g l = record { reached : Reached (ReadPairs l.members.items (g.S.Source.view l.fn.reader).budget) (g.S.Source.view l.fn.reader) (g.S.Source.view l.reader); items : AreMembers (members_view l.members.items) }
+
+abbrev pub decreases-open_members-loop-members : goal.decreases-open_members-loop-members
+decreases-open_members-loop-members g l = (g.S.Source.view l.reader).bound

@@ -1,0 +1,9 @@
+use Rattle.std.proofs.Common.{◌%◌}
+use Rattle.std.proofs.lemmas.Result.{err_from_is_err_and}
+use Rattle.cbor4ii_tree.proofs.SkippingBytes.{width_is, argument_cut}
+use Rattle.cbor4ii_tree.proofs.skip.argument.Goals as goal
+
+pub returns-in_err-number-in-Wide-clause-does : goal.returns-in_err-number-in-Wide-clause-does
+returns-in_err-number-in-Wide-clause-does g c = λ w is.
+    let p = err_from_is_err_and c.from_residual.result c.from_residual.ensures.1 in
+    rw (p.1, p.2) (argument_cut _ w c.args.first c.in-Wide.count (width_is w (c.args.first % 32) c.in-Wide.count c.parse_info.result is c.parse_info.ensures c.in-Wide.is) c.in_err-number-in-Wide.ensures.runs)

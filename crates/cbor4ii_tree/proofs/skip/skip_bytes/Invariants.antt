@@ -1,0 +1,13 @@
+use Rattle.std.proofs.Common.{◌≡◌, IsTrue}
+use Rattle.cbor4ii_tree.proofs.Doing.{Reached}
+use Rattle.cbor4ii_tree.proofs.SkippingBytes.{Dropped}
+use Rattle.cbor4ii_tree.proofs.skip.skip_bytes.Given as goal
+
+abbrev pub invariant-loop-missing : goal.invariant-loop-missing
+invariant-loop-missing g l = record {
+  reached : Reached (Dropped l.count l.missing) (g.F.Front.view l.fn.front l.fn.reader) (g.F.Front.view l.front l.reader);
+  stays : IsTrue g.F.Front.apart → g.S.Source.view l.reader ≡ g.S.Source.view l.fn.reader;
+}
+
+abbrev pub decreases-loop-missing : goal.decreases-loop-missing
+decreases-loop-missing g l = l.missing

@@ -1,0 +1,31 @@
+-- Items that are kept as a copy of their bytes.
+use Rattle.std.specs.Prelude.{◌≡◌, ℕ, ◌⊎◌, List, Some, Result, Ok, Err, IsTrue}
+use Rattle.cbor4ii_rw.specs.View.{View}
+use Rattle.cbor4ii_rw.specs.declared.error.DecodeError.{DecodeError}
+use Rattle.cbor4ii_rw.specs.declared.error.DecodeError.TheVariants.{OutOfMemory}
+use Rattle.cbor4ii_items.specs.Refusal.{is_out_of_memory}
+use Rattle.cbor4ii_tree.specs.declared.boxed_raw.BoxedRawValue.{BoxedRawValue}
+use Rattle.cbor4ii_tree.specs.Tree.{Tree}
+use Rattle.cbor4ii_tree.specs.Spelling.{Skips}
+use Rattle.cbor4ii_tree.specs.Raw.{Unmoved, Captured, NotCaptured}
+
+abbrev pub boxed_content : BoxedRawValue → List ℕ
+boxed_content v = v.0.items
+
+-- an item was taken, and there was no memory for its copy
+pub record LacksRoom {E : Type 0} (old new : View) (e : DecodeError E) : Type 0 where
+  pub lacks : e ≡ OutOfMemory
+  pub item : List ℕ
+  pub captured : Captured (λ (bytes : List ℕ). bytes) old new item
+
+abbrev pub CapturesCopy : {E : Type 0} → View → View → Result BoxedRawValue (DecodeError E) → Type 0
+CapturesCopy old new (Ok v) = Captured boxed_content old new v
+CapturesCopy old new (Err e) = NotCaptured old new e ⊎ LacksRoom old new e
+
+-- nothing is taken, but where there was no memory
+abbrev pub UnmovedOrLacks : {E : Type 0} → View → View → DecodeError E → Type 0
+UnmovedOrLacks old new e = IsTrue (is_out_of_memory e) ⊎ Unmoved old new e
+
+-- the item that skipping takes was taken
+abbrev pub SkippedTo : View → View → List ℕ → Type 0
+SkippedTo old new xs = (t : Tree) × (rest : List ℕ) × Skips xs old.budget t rest × (new.told ≡ Some rest)

@@ -1,0 +1,96 @@
+-- What the parts of skipping accept, and where they stop.
+use Rattle.std.specs.Prelude.{◌≡◌, ℕ, List, ◌∷◌, ◌++◌, Some}
+use Rattle.cbor4ii_items.specs.Head.{byte_count, break}
+use Rattle.cbor4ii_items.specs.Initial.{precision_bytes, Info, wide, open_ended, reserved, Initial, starts_int, bad_int, starts_string, starts_chunks, bad_string, starts_array, starts_open_array, bad_array, starts_map, starts_open_map, bad_map, starts_tag, bad_tag, starts_simple, starts_bits, other_simple}
+use Rattle.cbor4ii_tree.specs.Tree.{Tree, Trees, Pairs, count, bytes_all, bytes_pairs}
+use Rattle.cbor4ii_tree.specs.Cost.{Budget, step_in}
+use Rattle.cbor4ii_tree.specs.Refusal.{Refusal}
+use Rattle.cbor4ii_tree.specs.Spelling.{Skips}
+use Rattle.cbor4ii_tree.specs.Stops.{Stopping, Each, EachPair, Counted, OpenItems, OpenPairs}
+use Rattle.cbor4ii_tree.specs.StopsSkipping.{Skippable, StopsSkipping}
+use Rattle.cbor4ii_tree.specs.declared.skip.Behind.{Behind}
+use Rattle.cbor4ii_tree.specs.declared.skip.Behind.TheVariants.{Nothing, Items, Open, OpenMembers}
+use Rattle.cbor4ii_tree.specs.declared.skip.Start.{Start}
+use Rattle.cbor4ii_tree.specs.declared.skip.Start.TheVariants as start
+use Rattle.cbor4ii_tree.specs.declared.skip.Additional.{Additional}
+use Rattle.cbor4ii_tree.specs.declared.skip.Additional.TheVariants as additional
+
+-- ---- the first byte
+
+abbrev pub additional_of : Info → Additional
+additional_of (wide w) = additional.Wide (byte_count w)
+additional_of open_ended = additional.Open
+additional_of reserved = additional.Reserved
+
+abbrev pub start_of : Initial → Start
+start_of (starts_int s w) = start.Bytes (byte_count w)
+start_of (bad_int s) = start.Stays
+start_of (starts_string k w) = start.Content
+start_of (starts_chunks k) = start.Open
+start_of (bad_string k) = start.Taken
+start_of (starts_array w) = start.Items
+start_of starts_open_array = start.Open
+start_of bad_array = start.Taken
+start_of (starts_map w) = start.Members
+start_of starts_open_map = start.OpenMembers
+start_of bad_map = start.Taken
+start_of (starts_tag w) = start.Tag
+start_of bad_tag = start.NoTag
+start_of (starts_simple s) = start.Bytes 0
+start_of (starts_bits p) = start.Bytes (precision_bytes p)
+start_of other_simple = start.Unsupported
+
+-- ---- items
+
+abbrev pub SkipsOne : Budget → List ℕ → List ℕ → Type 0
+SkipsOne budget xs ys = (t : Tree) × Skips xs budget t ys
+
+abbrev pub StopsOne : Budget → Stopping
+StopsOne budget xs = StopsSkipping xs budget
+
+-- so many items
+abbrev pub SkipsItems : ℕ → Budget → List ℕ → List ℕ → Type 0
+SkipsItems n budget xs ys = (ts : Trees) × (count ts ≡ n) × Each (Skippable budget) ts × (xs ≡ bytes_all ts ++ ys)
+
+abbrev pub StopsItems : ℕ → Budget → Stopping
+StopsItems n budget = Counted (Skippable budget) (StopsOne budget) n
+
+-- items up to a break, which is taken
+abbrev pub SkipsOpen : Budget → List ℕ → List ℕ → Type 0
+SkipsOpen budget xs ys = (ts : Trees) × Each (Skippable budget) ts × (xs ≡ bytes_all ts ++ (break ∷ ys))
+
+abbrev pub StopsOpen : Budget → Stopping
+StopsOpen budget = OpenItems (Skippable budget) (StopsOne budget)
+
+abbrev pub SkipsMembers : Budget → List ℕ → List ℕ → Type 0
+SkipsMembers budget xs ys = (ps : Pairs) × EachPair (Skippable budget) ps × (xs ≡ bytes_pairs ps ++ (break ∷ ys))
+
+abbrev pub StopsMembers : Budget → Stopping
+StopsMembers budget = OpenPairs (Skippable budget) (StopsOne budget)
+
+-- ---- behind a head
+
+-- what is still to be skipped of an item under the budget
+abbrev pub SkipsBehind : Behind → Budget → List ℕ → List ℕ → Type 0
+SkipsBehind Nothing budget xs ys = ys ≡ xs
+SkipsBehind (Items n) budget xs ys = SkipsItems n budget xs ys
+SkipsBehind Open budget xs ys = SkipsOpen budget xs ys
+SkipsBehind OpenMembers budget xs ys = SkipsMembers budget xs ys
+
+abbrev pub StopsBehind : Behind → Budget → Stopping
+StopsBehind Nothing budget xs e rest = ⊥
+StopsBehind (Items n) budget xs e rest = StopsItems n budget xs e rest
+StopsBehind Open budget xs e rest = StopsOpen budget xs e rest
+StopsBehind OpenMembers budget xs e rest = StopsMembers budget xs e rest
+
+-- an item under a step that leaves this budget
+abbrev pub SkipsUnder : Budget → List ℕ → List ℕ → Type 0
+SkipsUnder inner xs ys = (budget : Budget) → step_in budget ≡ Some inner → SkipsOne budget xs ys
+
+abbrev pub StopsUnder : Budget → Stopping
+StopsUnder inner xs e rest = (budget : Budget) → step_in budget ≡ Some inner → StopsOne budget xs e rest
+
+-- a head was taken, and what is left of the item goes on behind it
+pub record Leads (inner : Budget) (xs : List ℕ) (behind : Behind) (ys : List ℕ) : Type 0 where
+  pub skips : (rest : List ℕ) → SkipsBehind behind inner ys rest → SkipsUnder inner xs rest
+  pub stops : (e : Refusal) (rest : List ℕ) → StopsBehind behind inner ys e rest → StopsUnder inner xs e rest

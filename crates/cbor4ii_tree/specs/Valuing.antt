@@ -1,0 +1,67 @@
+-- What the parts of reading a value accept, and where they stop.
+use Rattle.std.specs.Prelude.{◌≡◌, ℕ, ◌/◌, List, ◌∷◌, ◌++◌, Option, Some, None, ◌⊎◌}
+use Rattle.cbor4ii_items.specs.Head.{Width, HeadFits, head, open_head, break}
+use Rattle.cbor4ii_items.specs.Initial.{Simple, simple_byte}
+use Rattle.cbor4ii_tree.specs.declared.value.Value.{Value}
+use Rattle.cbor4ii_tree.specs.Tree.{Tree, Trees, Pairs, count, pair_count, bytes, bytes_all, bytes_pairs}
+use Rattle.cbor4ii_tree.specs.Meaning.{value, values, member_values, simple_item}
+use Rattle.cbor4ii_tree.specs.Cost.{Budget, step_in}
+use Rattle.cbor4ii_tree.specs.Stops.{Stopping, Each, EachPair, Counted, OpenItems, OpenPairs}
+use Rattle.cbor4ii_tree.specs.StopsReading.{Readable, ReadingStopsFrom, StopsReading}
+use Rattle.cbor4ii_tree.specs.View.{view, items_view, members_view}
+
+abbrev pub ReadsOne : Budget → List ℕ → Value → List ℕ → Type 0
+ReadsOne budget xs v ys = (t : Tree) × Readable budget t × (value t ≡ view v) × (xs ≡ bytes t ++ ys)
+
+abbrev pub StopsOne : Budget → Stopping
+StopsOne budget xs = StopsReading xs budget
+
+-- a value whose step was taken
+abbrev pub ReadsUnder : Budget → List ℕ → Value → List ℕ → Type 0
+ReadsUnder inner xs v ys = (budget : Budget) → step_in budget ≡ Some inner → ReadsOne budget xs v ys
+
+abbrev pub StopsUnder : Budget → Stopping
+StopsUnder inner xs e rest = ReadingStopsFrom (λ left part. StopsReading part left) inner xs e rest
+
+-- so many values
+abbrev pub ReadsItems : ℕ → Budget → List ℕ → List Value → List ℕ → Type 0
+ReadsItems n budget xs vs ys = (ts : Trees) × (count ts ≡ n) × Each (Readable budget) ts × (values ts ≡ items_view vs) × (xs ≡ bytes_all ts ++ ys)
+
+abbrev pub StopsItems : ℕ → Budget → Stopping
+StopsItems n budget = Counted (Readable budget) (StopsOne budget) n
+
+-- values up to a break, which is taken
+abbrev pub ReadsOpen : Budget → List ℕ → List Value → List ℕ → Type 0
+ReadsOpen budget xs vs ys = (ts : Trees) × Each (Readable budget) ts × (values ts ≡ items_view vs) × (xs ≡ bytes_all ts ++ (break ∷ ys))
+
+abbrev pub StopsOpen : Budget → Stopping
+StopsOpen budget = OpenItems (Readable budget) (StopsOne budget)
+
+abbrev pub ReadsMembers : ℕ → Budget → List ℕ → List (Value × Value) → List ℕ → Type 0
+ReadsMembers n budget xs ms ys = (ps : Pairs) × (pair_count ps ≡ n) × EachPair (Readable budget) ps × (member_values ps ≡ members_view ms) × (xs ≡ bytes_pairs ps ++ ys)
+
+abbrev pub ReadsOpenMembers : Budget → List ℕ → List (Value × Value) → List ℕ → Type 0
+ReadsOpenMembers budget xs ms ys = (ps : Pairs) × EachPair (Readable budget) ps × (member_values ps ≡ members_view ms) × (xs ≡ bytes_pairs ps ++ (break ∷ ys))
+
+abbrev pub StopsOpenMembers : Budget → Stopping
+StopsOpenMembers budget = OpenPairs (Readable budget) (StopsOne budget)
+
+-- an array whose two steps were taken
+abbrev pub ReadsArray : Budget → List ℕ → List Value → List ℕ → Type 0
+ReadsArray budget xs vs ys =
+    ((w : Width) × (n : ℕ) × (between : List ℕ) × HeadFits w n × (xs ≡ head 4 n w ++ between) × ReadsItems n budget between vs ys)
+    ⊎ ((between : List ℕ) × (xs ≡ open_head 4 ∷ between) × ReadsOpen budget between vs ys)
+
+-- what it is for an array to stop is what it is for a value, where its first byte is one of major type 4
+abbrev pub StopsMajor : ℕ → Budget → Stopping
+StopsMajor major inner xs e rest = (b : ℕ) (bs : List ℕ) → xs ≡ b ∷ bs → b / 32 ≡ major → (outer : Budget) → step_in outer ≡ Some inner → ReadingStopsFrom (λ left part. StopsReading part left) outer xs e rest
+
+abbrev pub ReadsMap : Budget → List ℕ → List (Value × Value) → List ℕ → Type 0
+ReadsMap budget xs ms ys =
+    ((w : Width) × (n : ℕ) × (between : List ℕ) × HeadFits w n × (xs ≡ head 5 n w ++ between) × ReadsMembers n budget between ms ys)
+    ⊎ ((between : List ℕ) × (xs ≡ open_head 5 ∷ between) × ReadsOpenMembers budget between ms ys)
+
+-- the value that a byte is by itself
+abbrev pub SimpleOf : ℕ → Option Value → Type 0
+SimpleOf first None = (s : Simple) → first ≡ simple_byte s → ⊥
+SimpleOf first (Some v) = (s : Simple) × (first ≡ simple_byte s) × (simple_item s ≡ view v)

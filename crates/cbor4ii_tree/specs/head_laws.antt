@@ -1,0 +1,3 @@
+pub mod Initials
+pub mod Numbers
+pub mod Again

@@ -1,0 +1,349 @@
+//! Values, read.
+ghost use Rattle.std.specs.Prelude.{◌≡◌, ℕ, ◌+◌, ◌≤◌, List, length, OnOk, IfOk, IfErr, IsTrue, true, false};
+ghost use Rattle.std.specs.Prelude.{[], ◌∷◌, ◌++◌, ◌/◌, ◌*◌, Some};
+ghost use Rattle.cbor4ii_tree.specs.Cost.{Budget, step_in};
+ghost use Rattle.cbor4ii_rw.specs.declared.error.DecodeError.TheVariants.{OutOfMemory};
+ghost use Rattle.cbor4ii_tree.specs.Does.{Does};
+ghost use Rattle.cbor4ii_tree.specs.Valuing.{ReadsOne, StopsOne, ReadsUnder, StopsUnder, ReadsItems, StopsItems, ReadsOpen, StopsOpen, ReadsMembers, ReadsOpenMembers, StopsOpenMembers, ReadsArray, ReadsMap, StopsMajor, SimpleOf};
+ghost use Rattle.cbor4ii_items.specs.Initial.{Simple, simple_byte};
+ghost use Rattle.cbor4ii_items.specs.Decoding.{IsExact, Sound, Refuses, Stops};
+ghost use Rattle.cbor4ii_items.specs.Moves.{Moves};
+ghost use Rattle.cbor4ii_items.specs.Refusal.{is_out_of_memory};
+ghost use Rattle.cbor4ii_tree.specs.Item.{IsItem, AreItems, AreMembers};
+ghost use Rattle.cbor4ii_tree.specs.StopsReading.{StopsReading};
+ghost use Rattle.cbor4ii_tree.specs.View.{view, items_view, members_view};
+ghost use Rattle.cbor4ii_tree.specs.Promises.{
+  ReadsValue,
+  OnlyReads,
+  AllReads,
+  FrontReads,
+  EofReads,
+  DepthReads,
+  FinalReads,
+  Others,
+  SizeReads,
+  ExactReads,
+  SkipsReads,
+  CanonicalReads,
+};
+ghost use Rattle.cbor4ii_tree.specs.ValueLaws.{value_one, value_within, value_positive, value_alone};
+
+use crate::front::Own;
+use crate::skip::peek;
+use crate::value::{FloatBits, Value};
+use cbor4ii_items::decode::{Decode, Spelled};
+use cbor4ii_items::indefinite::is_break;
+use cbor4ii_items::types::{Array, Bytes, F16, F32, F64, Map, Negative, Tag};
+use cbor4ii_rw::error::DecodeError;
+use cbor4ii_rw::read::Source;
+use std::alloc::Global;
+
+impl Spelled for Value {
+    ghost reads = { λ xs v n c. ReadsValue xs (view v) n c };
+
+    ghost same = { λ v w. view v ≡ view w };
+
+    ghost stops = { StopsReading };
+
+    ghost begins = { StopsReading };
+
+    ghost never_empty = { true };
+
+    ghost owned = { true };
+
+    ghost takes_memory = { true };
+
+    ghost closed = { true };
+
+    fn is_never_empty() -> bool {
+        true
+    }
+
+    fn is_owned() -> bool {
+        true
+    }
+}
+
+impl<S: Source> Decode<S> for Value {
+    fn decode(alloc: Global, reader: &mut S) -> Result<Value, DecodeError<S::Error>>
+        ensures moves { Moves (S.view reader.old) (S.view reader.new) result }
+        ensures progress { IsTrue true →
+            OnOk result ((S.view reader.new).bound + 1 ≤ (S.view reader.old).bound) }
+        ensures memory { IfErr result (λ error. IsTrue (is_out_of_memory error) → IsTrue true) }
+        ensures sound { IfOk result (Sound (λ xs v n c. ReadsValue xs (view v) n c) (S.view reader.old) (S.view reader.new)) }
+        ensures complete { IsExact true (S.view reader.old) →
+            IfErr result (Refuses (λ xs v n c. ReadsValue xs (view v) n c) (S.view reader.old)) }
+        ensures stops { IsExact true (S.view reader.old) →
+            IfErr result (Stops StopsReading (S.view reader.old) (S.view reader.new)) }
+        ensures begins { IfErr result (Stops StopsReading (S.view reader.old) (S.view reader.new)) }
+        ensures only { OnlyReads (S.view reader.old) (S.view reader.new) result }
+        ensures all { AllReads (S.view reader.old) (S.view reader.new) result }
+        ensures front { FrontReads (S.view reader.old) result }
+        ensures eof { EofReads (S.view reader.old) (S.view reader.new) result }
+        ensures depth { DepthReads (S.view reader.old) result }
+        ensures never { FinalReads (S.view reader.old) result }
+        ensures others { Others (S.view reader.old) result }
+        ensures size { SizeReads (S.view reader.old) (S.view reader.new) result }
+        ensures exact { ExactReads (S.view reader.old) (S.view reader.new) result }
+        ensures skips { SkipsReads (S.view reader.old) (S.view reader.new) result }
+        // Over any reader.
+        ensures item { IfOk result (λ v. IsItem (view v)) }
+        ensures canonical { CanonicalReads (S.view reader.old) result }
+    {
+        read_value(alloc, reader)
+    }
+
+    ghost one = { value_one };
+
+    ghost within = { value_within };
+
+    ghost positive = { value_positive };
+
+    ghost alone = { value_alone };
+}
+
+/// Reads one value.
+#[cycle(read)]
+fn read_value<S: Source>(alloc: Global, reader: &mut S) -> Result<Value, DecodeError<S::Error>>
+    ensures does { Does (ReadsOne (S.view reader.old).budget) (StopsOne (S.view reader.old).budget)
+        (S.view reader.old) (S.view reader.new) result }
+    ensures item { IfOk result (λ v. IsItem (view v)) }
+    ensures progress { OnOk result ((S.view reader.new).bound + 1 ≤ (S.view reader.old).bound) }
+{
+    if !reader.step_in() {
+        return Err(DecodeError::DepthOverflow { name: "value" });
+    }
+    let outcome = read_inside(alloc, reader);
+    reader.step_out();
+    outcome
+}
+
+/// Reads one value whose step was taken.
+#[cycle(read)]
+fn read_inside<S: Source>(alloc: Global, reader: &mut S) -> Result<Value, DecodeError<S::Error>>
+    ensures does { Does (ReadsUnder (S.view reader.old).budget) (StopsUnder (S.view reader.old).budget)
+        (S.view reader.old) (S.view reader.new) result }
+    ensures item { IfOk result (λ v. IsItem (view v)) }
+    ensures progress { OnOk result ((S.view reader.new).bound + 1 ≤ (S.view reader.old).bound) }
+{
+    let first = peek(&mut Own, reader, "value", 1)?;
+    match first / 32 {
+        0 => Ok(Value::Integer(u64::decode(alloc, reader)? as i128)),
+        1 => {
+            let number = Negative::<u64>::decode(alloc, reader)?;
+            Ok(Value::Integer(-1 - number.0 as i128))
+        }
+        2 => Ok(Value::Bytes(Bytes::<Vec<u8>>::decode(alloc, reader)?.0)),
+        3 => Ok(Value::Text(String::decode(alloc, reader)?)),
+        4 => Ok(Value::Array(read_array(alloc, reader)?)),
+        5 => Ok(Value::Map(read_map(alloc, reader)?)),
+        6 => {
+            let number = Tag::tag(reader)?;
+            let inner = read_value(alloc, reader)?;
+            match Box::new(alloc, inner) {
+                Ok(boxed) => Ok(Value::Tag(number, boxed)),
+                Err(_) => Err(DecodeError::OutOfMemory),
+            }
+        }
+        _ => match simple_of(first) {
+            Some(value) => {
+                reader.advance(1);
+                Ok(value)
+            }
+            None => read_float(alloc, reader, first),
+        },
+    }
+}
+
+/// The simple value that this byte is.
+fn simple_of(first: u8) -> Option<Value>
+    ensures { SimpleOf first result }
+{
+    match first {
+        0xf4 => Some(Value::Bool(false)),
+        0xf5 => Some(Value::Bool(true)),
+        0xf6 => Some(Value::Null),
+        0xf7 => Some(Value::Null),
+        _ => None,
+    }
+}
+
+/// Reads a float, whose first byte is shown.
+fn read_float<S: Source>(
+    alloc: Global,
+    reader: &mut S,
+    first: u8,
+) -> Result<Value, DecodeError<S::Error>>
+    requires major { 224 ≤ first }
+    requires other { (s : Simple) → first ≡ simple_byte s → ⊥ }
+    ensures does { Does (λ xs v ys. ReadsUnder (S.view reader.old).budget xs v ys)
+        (λ xs e rest. (bs : List ℕ) → xs ≡ first ∷ bs → StopsUnder (S.view reader.old).budget xs e rest)
+        (S.view reader.old) (S.view reader.new) result }
+    ensures item { IfOk result (λ v. IsItem (view v)) }
+    ensures progress { OnOk result ((S.view reader.new).bound + 1 ≤ (S.view reader.old).bound) }
+{
+    match first {
+        0xf9 => Ok(Value::Float(FloatBits::F16(F16::decode(alloc, reader)?.0))),
+        0xfa => Ok(Value::Float(FloatBits::F32(F32::decode(alloc, reader)?.0))),
+        0xfb => Ok(Value::Float(FloatBits::F64(F64::decode(alloc, reader)?.0))),
+        _ => Err(DecodeError::Unsupported {
+            name: "value",
+            found: first,
+        }),
+    }
+}
+
+/// Reads an array's values, under one step.
+#[cycle(read)]
+fn read_array<S: Source>(alloc: Global, reader: &mut S) -> Result<Vec<Value>, DecodeError<S::Error>>
+    ensures does { Does (λ xs v ys. (inner : Budget) × (step_in (S.view reader.old).budget ≡ Some inner) × ReadsArray inner xs v.items ys)
+        (λ xs e rest. (b : ℕ) (bs : List ℕ) → xs ≡ b ∷ bs → b / 32 ≡ 4 → StopsUnder (S.view reader.old).budget xs e rest)
+        (S.view reader.old) (S.view reader.new) result }
+    ensures items { IfOk result (λ v. AreItems (items_view v.items)) }
+    ensures progress { OnOk result ((S.view reader.new).bound + 1 ≤ (S.view reader.old).bound) }
+{
+    if !reader.step_in() {
+        return Err(DecodeError::DepthOverflow { name: "array" });
+    }
+    let outcome = array_inside(alloc, reader);
+    reader.step_out();
+    outcome
+}
+
+#[cycle(read)]
+fn array_inside<S: Source>(
+    alloc: Global,
+    reader: &mut S,
+) -> Result<Vec<Value>, DecodeError<S::Error>>
+    ensures does { Does (λ xs v ys. ReadsArray (S.view reader.old).budget xs v.items ys) (StopsMajor 4 (S.view reader.old).budget)
+        (S.view reader.old) (S.view reader.new) result }
+    ensures items { IfOk result (λ v. AreItems (items_view v.items)) }
+    ensures progress { OnOk result ((S.view reader.new).bound + 1 ≤ (S.view reader.old).bound) }
+{
+    match Array::len(reader)? {
+        Some(count) => counted_items(alloc, reader, count),
+        None => open_items(alloc, reader),
+    }
+}
+
+#[cycle(read)]
+fn counted_items<S: Source>(
+    alloc: Global,
+    reader: &mut S,
+    count: usize,
+) -> Result<Vec<Value>, DecodeError<S::Error>>
+    ensures does { Does (λ xs v ys. ReadsItems count (S.view reader.old).budget xs v.items ys) (StopsItems count (S.view reader.old).budget)
+        (S.view reader.old) (S.view reader.new) result }
+    ensures items { IfOk result (λ v. AreItems (items_view v.items)) }
+{
+    let mut items = Vec::new(alloc);
+    if items.reserve(count.min(256)).is_err() {
+        return Err(DecodeError::OutOfMemory);
+    }
+    for i in 0..count {
+        let value = read_value(alloc, reader)?;
+        keep(&mut items, value)?;
+    }
+    Ok(items)
+}
+
+#[cycle(read)]
+fn open_items<S: Source>(alloc: Global, reader: &mut S) -> Result<Vec<Value>, DecodeError<S::Error>>
+    ensures does { Does (λ xs v ys. ReadsOpen (S.view reader.old).budget xs v.items ys) (StopsOpen (S.view reader.old).budget)
+        (S.view reader.old) (S.view reader.new) result }
+    ensures items { IfOk result (λ v. AreItems (items_view v.items)) }
+{
+    let mut items = Vec::new(alloc);
+    while !is_break(reader)? {
+        let value = read_value(alloc, reader)?;
+        keep(&mut items, value)?;
+    }
+    Ok(items)
+}
+
+/// Reads a map's pairs, under one step.
+#[cycle(read)]
+fn read_map<S: Source>(
+    alloc: Global,
+    reader: &mut S,
+) -> Result<Vec<(Value, Value)>, DecodeError<S::Error>>
+    ensures does { Does (λ xs v ys. (inner : Budget) × (step_in (S.view reader.old).budget ≡ Some inner) × ReadsMap inner xs v.items ys)
+        (λ xs e rest. (b : ℕ) (bs : List ℕ) → xs ≡ b ∷ bs → b / 32 ≡ 5 → StopsUnder (S.view reader.old).budget xs e rest)
+        (S.view reader.old) (S.view reader.new) result }
+    ensures items { IfOk result (λ v. AreMembers (members_view v.items)) }
+    ensures progress { OnOk result ((S.view reader.new).bound + 1 ≤ (S.view reader.old).bound) }
+{
+    if !reader.step_in() {
+        return Err(DecodeError::DepthOverflow { name: "map" });
+    }
+    let outcome = map_inside(alloc, reader);
+    reader.step_out();
+    outcome
+}
+
+#[cycle(read)]
+fn map_inside<S: Source>(
+    alloc: Global,
+    reader: &mut S,
+) -> Result<Vec<(Value, Value)>, DecodeError<S::Error>>
+    ensures does { Does (λ xs v ys. ReadsMap (S.view reader.old).budget xs v.items ys) (StopsMajor 5 (S.view reader.old).budget)
+        (S.view reader.old) (S.view reader.new) result }
+    ensures items { IfOk result (λ v. AreMembers (members_view v.items)) }
+    ensures progress { OnOk result ((S.view reader.new).bound + 1 ≤ (S.view reader.old).bound) }
+{
+    match Map::len(reader)? {
+        Some(count) => counted_members(alloc, reader, count),
+        None => open_members(alloc, reader),
+    }
+}
+
+#[cycle(read)]
+fn counted_members<S: Source>(
+    alloc: Global,
+    reader: &mut S,
+    count: usize,
+) -> Result<Vec<(Value, Value)>, DecodeError<S::Error>>
+    ensures does { Does (λ xs v ys. ReadsMembers count (S.view reader.old).budget xs v.items ys) (StopsItems (2 * count) (S.view reader.old).budget)
+        (S.view reader.old) (S.view reader.new) result }
+    ensures items { IfOk result (λ v. AreMembers (members_view v.items)) }
+{
+    let mut members = Vec::new(alloc);
+    if members.reserve(count.min(256)).is_err() {
+        return Err(DecodeError::OutOfMemory);
+    }
+    for i in 0..count {
+        let key = read_value(alloc, reader)?;
+        let value = read_value(alloc, reader)?;
+        keep(&mut members, (key, value))?;
+    }
+    Ok(members)
+}
+
+#[cycle(read)]
+fn open_members<S: Source>(
+    alloc: Global,
+    reader: &mut S,
+) -> Result<Vec<(Value, Value)>, DecodeError<S::Error>>
+    ensures does { Does (λ xs v ys. ReadsOpenMembers (S.view reader.old).budget xs v.items ys) (StopsOpenMembers (S.view reader.old).budget)
+        (S.view reader.old) (S.view reader.new) result }
+    ensures items { IfOk result (λ v. AreMembers (members_view v.items)) }
+{
+    let mut members = Vec::new(alloc);
+    while !is_break(reader)? {
+        let key = read_value(alloc, reader)?;
+        let value = read_value(alloc, reader)?;
+        keep(&mut members, (key, value))?;
+    }
+    Ok(members)
+}
+
+/// Puts an item behind those that are there.
+fn keep<T: Drop, E>(items: &mut Vec<T>, item: T) -> Result<(), DecodeError<E>>
+    ensures kept { OnOk result (items.new.items ≡ items.old.items ++ item ∷ []) }
+    ensures memory { IfErr result (λ error. error ≡ OutOfMemory) }
+{
+    match items.push(item) {
+        Ok(()) => Ok(()),
+        Err(_) => Err(DecodeError::OutOfMemory),
+    }
+}

@@ -1,0 +1,106 @@
+//! Values, written.
+ghost use Rattle.std.specs.Prelude.{◌++◌, ℕ, List, OnOk};
+ghost use Rattle.cbor4ii_items.specs.Writing.{Writes};
+ghost use Rattle.cbor4ii_items.specs.SequenceBytes.{items_bytes};
+ghost use Rattle.cbor4ii_items.specs.Decoding.{CostFits};
+ghost use Rattle.cbor4ii_tree.specs.Cost.{Budget};
+ghost use Rattle.cbor4ii_tree.specs.Canonical.{canon, canon_cost, with_bignums};
+ghost use Rattle.cbor4ii_tree.specs.Spelling.{Spells, Reads};
+ghost use Rattle.cbor4ii_tree.specs.Encoding.{value_bytes, member_bytes};
+ghost use Rattle.cbor4ii_tree.specs.View.{view, items_view, members_view, float_view};
+ghost use Rattle.cbor4ii_tree.specs.Item.{IsItem, AreItems, AreMembers, integer};
+
+use crate::value::{FloatBits, Value};
+use cbor4ii_items::encode::Encode;
+use cbor4ii_items::types::{Array, Bytes, F16, F32, F64, Map, Nothing, Null, Tag};
+use cbor4ii_rw::error::EncodeError;
+use cbor4ii_rw::write::Write;
+
+/// A value is written as its canonical spelling.
+impl Encode for Value {
+    ghost bytes = { λ v. canon (view v) };
+
+    /// Appends the value's canonical spelling to what `writer` holds, and is read back from there with bignums as tags.
+    fn encode<W: Write>(&self, writer: &mut W) -> Result<(), EncodeError<W::Error>>
+        ensures writes { Writes W.whole (canon (view self.now)) (W.view writer.old) (W.view writer.new) result }
+        ensures item { OnOk result (IsItem (view self.now)) }
+        ensures spells { OnOk result (Spells
+            (canon (view self.now)) (with_bignums (view self.now)) (canon_cost (view self.now))) }
+        ensures reads_back { OnOk result ((budget : Budget) (more : List ℕ) →
+            CostFits (canon_cost (view self.now)) budget →
+            Reads (canon (view self.now) ++ more) budget (with_bignums (view self.now)) more) }
+    {
+        put_value(writer, self)
+    }
+}
+
+#[cycle(put)]
+fn put_value<W: Write>(writer: &mut W, value: &Value) -> Result<(), EncodeError<W::Error>>
+    ensures writes { Writes W.whole (value_bytes value.now) (W.view writer.old) (W.view writer.new) result }
+    ensures item { OnOk result (IsItem (view value.now)) }
+{
+    match value {
+        Value::Null => Null.encode(writer),
+        Value::Bool(flag) => flag.encode(writer),
+        Value::Integer(n) => put_integer(writer, *n),
+        Value::Float(bits) => put_float(writer, *bits),
+        Value::Bytes(content) => Bytes(content.as_slice()).encode(writer),
+        Value::Text(text) => text.encode(writer),
+        Value::Array(items) => {
+            Array::bounded(items.len(), writer)?;
+            put_items(writer, items)
+        }
+        Value::Map(members) => {
+            Map::bounded(members.len(), writer)?;
+            put_members(writer, members)
+        }
+        Value::Tag(number, inner) => {
+            Tag(*number, Nothing).encode(writer)?;
+            put_value(writer, inner)
+        }
+    }
+}
+
+fn put_integer<W: Write>(writer: &mut W, number: i128) -> Result<(), EncodeError<W::Error>>
+    ensures writes { Writes W.whole (canon (integer number)) (W.view writer.old) (W.view writer.new) result }
+    ensures item { IsItem (integer number) }
+{
+    number.encode(writer)
+}
+
+fn put_float<W: Write>(writer: &mut W, bits: FloatBits) -> Result<(), EncodeError<W::Error>>
+    ensures writes { Writes W.whole (canon (float_view bits)) (W.view writer.old) (W.view writer.new) result }
+    ensures item { IsItem (float_view bits) }
+{
+    match bits {
+        FloatBits::F16(n) => F16(n).encode(writer),
+        FloatBits::F32(n) => F32(n).encode(writer),
+        FloatBits::F64(n) => F64(n).encode(writer),
+    }
+}
+
+#[cycle(put)]
+fn put_items<W: Write>(writer: &mut W, items: &[Value]) -> Result<(), EncodeError<W::Error>>
+    ensures writes { Writes W.whole (items_bytes value_bytes items.now) (W.view writer.old) (W.view writer.new) result }
+    ensures items { OnOk result (AreItems (items_view items.now)) }
+{
+    for item in items {
+        put_value(writer, item)?;
+    }
+    Ok(())
+}
+
+#[cycle(put)]
+fn put_members<W: Write>(
+    writer: &mut W,
+    members: &[(Value, Value)],
+) -> Result<(), EncodeError<W::Error>>
+    ensures writes { Writes W.whole (items_bytes member_bytes members.now) (W.view writer.old) (W.view writer.new) result }
+    ensures members { OnOk result (AreMembers (members_view members.now)) }
+{
+    for member in members {
+        put_value(writer, &member.0)?;
+        put_value(writer, &member.1)?;
+    }
+    Ok(())
+}

@@ -1,0 +1,152 @@
+//! Where skipped bytes come from: a reader, or bytes that it lent.
+//!
+//! An item that is kept as its bytes is skipped inside the bytes that one `fill` lends, under the
+//! steps of the reader that lent them. So what skips is written over both.
+ghost use Rattle.std.specs.Prelude.{
+  ◌≡◌,
+  ◌≤◌,
+  ◌<◌,
+  ℕ,
+  Bool,
+  take,
+  length,
+  min,
+  IsTrue,
+  IfOk,
+  IfSome,
+  OnErr,
+  true,
+  false,
+};
+ghost use Rattle.cbor4ii_rw.specs.View.{View};
+ghost use Rattle.cbor4ii_rw.specs.Reader.{Breaks, Advances, KeepsAllButBudget};
+ghost use Rattle.cbor4ii_items.specs.Head.{IsBytes};
+ghost use Rattle.cbor4ii_tree.specs.Front.{lent_view, Offers, BeginsWith, Ready};
+ghost use Rattle.cbor4ii_tree.specs.FrontLaws.{own_budget, own_moved, lent_budget, lent_moved};
+
+use cbor4ii_rw::ask::look;
+use cbor4ii_rw::read::Source;
+
+/// Bytes that are looked at before they are taken, under the steps of a reader.
+pub(crate) trait Front<S: Source>: Sized {
+    // What is still to come, with the reader's budget.
+    ghost view: { Self → S → View };
+
+    // The bytes are not the reader's own.
+    ghost apart: { Bool };
+
+    /// The next byte, which stays; none at the end.
+    fn peek(&mut self, reader: &mut S) -> Result<Option<u8>, S::Error>
+        ensures offers { IfOk result (λ found. Offers 1 (BeginsWith found) (view self.old reader.old) (view self.new reader.new)) }
+        ensures byte { IfOk result (λ found. IfSome found (λ b. b < 256)) }
+        ensures breaks { OnErr result (Breaks (view self.old reader.old) (view self.new reader.new)) }
+        ensures stays { IsTrue apart → S.view reader.new ≡ S.view reader.old };
+
+    /// How many bytes may be taken at once, at most so many; none at the end.
+    fn ready(&mut self, reader: &mut S, want: usize) -> Result<usize, S::Error>
+        ensures offers { IfOk result (λ count. Offers want (Ready want count) (view self.old reader.old) (view self.new reader.new)) }
+        ensures breaks { OnErr result (Breaks (view self.old reader.old) (view self.new reader.new)) }
+        ensures stays { IsTrue apart → S.view reader.new ≡ S.view reader.old };
+
+    /// Takes so many bytes.
+    fn advance(&mut self, reader: &mut S, count: usize)
+        requires { count ≤ (view self.old reader.old).advanceable }
+        ensures takes { Advances count (view self.old reader.old) (view self.new reader.new) }
+        ensures stays { IsTrue apart → S.view reader.new ≡ S.view reader.old };
+
+    // The steps are the reader's.
+    ghost same_budget: { (front : Self) (reader : S) →
+        (view front reader).budget ≡ (S.view reader).budget };
+
+    // A step of the reader moves nothing else.
+    ghost moved: { (front : Self) (old new : S) →
+        KeepsAllButBudget (S.view old) (S.view new) →
+        KeepsAllButBudget (view front old) (view front new) };
+}
+
+/// The reader's own bytes.
+#[derive(Drop)]
+pub(crate) struct Own;
+
+impl<S: Source> Front<S> for Own {
+    ghost view = { λ own reader. S.view reader };
+
+    ghost apart = { false };
+
+    fn peek(&mut self, reader: &mut S) -> Result<Option<u8>, S::Error> {
+        let mut failure = None;
+        match look(reader, 1, &mut failure) {
+            Some(shown) => Ok(first_byte(shown)),
+            None => match failure {
+                Some(error) => Err(error),
+                None => unreachable!(),
+            },
+        }
+    }
+
+    fn ready(&mut self, reader: &mut S, want: usize) -> Result<usize, S::Error> {
+        let mut failure = None;
+        match look(reader, want, &mut failure) {
+            Some(shown) => Ok(front_size(shown, want)),
+            None => match failure {
+                Some(error) => Err(error),
+                None => unreachable!(),
+            },
+        }
+    }
+
+    fn advance(&mut self, reader: &mut S, count: usize) {
+        reader.advance(count);
+    }
+
+    ghost same_budget = { λ own reader. own_budget (S.view reader) };
+
+    ghost moved = { λ own old new. own_moved (S.view old) (S.view new) };
+}
+
+/// Bytes that were lent.
+#[derive(Drop)]
+pub(crate) struct Lent<'a> {
+    pub(crate) rest: &'a [u8],
+}
+
+impl<S: Source> Front<S> for Lent<'_> {
+    ghost view = { λ lent reader. lent_view lent.rest.now (S.view reader) };
+
+    ghost apart = { true };
+
+    fn peek(&mut self, reader: &mut S) -> Result<Option<u8>, S::Error> {
+        Ok(first_byte(self.rest))
+    }
+
+    fn ready(&mut self, reader: &mut S, want: usize) -> Result<usize, S::Error> {
+        Ok(front_size(self.rest, want))
+    }
+
+    fn advance(&mut self, reader: &mut S, count: usize) {
+        self.rest = &self.rest[count..];
+    }
+
+    ghost same_budget = { λ lent reader. lent_budget lent.rest.now (S.view reader) };
+
+    ghost moved = { λ lent old new. lent_moved lent.rest.now (S.view old) (S.view new) };
+}
+
+/// The first of the shown bytes.
+fn first_byte(shown: &[u8]) -> Option<u8>
+    ensures begins { BeginsWith result shown.now }
+    ensures byte { IfSome result (λ b. b < 256) }
+{
+    if shown.len() == 0 {
+        return None;
+    }
+    Some(shown[0])
+}
+
+/// How many of the shown bytes are taken, and that these are bytes.
+fn front_size(shown: &[u8], want: usize) -> usize
+    ensures value { result ≡ min want (length shown.now) }
+    ensures bytes { IsBytes (take result shown.now) }
+{
+    want.min(shown.len())
+}

@@ -1,0 +1,136 @@
+//! Items that are lent: the bytes of one item, as they stand in the input.
+ghost use Rattle.std.specs.Prelude.{
+  ◌≡◌,
+  ◌+◌,
+  ◌≤◌,
+  ℕ,
+  List,
+  Some,
+  length,
+  take,
+  true,
+  false,
+  IsTrue,
+  IfOk,
+  IfErr,
+  OnOk,
+};
+ghost use Rattle.cbor4ii_rw.specs.View.{Told};
+ghost use Rattle.cbor4ii_rw.specs.Reader.{KeepsAllButBudget};
+ghost use Rattle.cbor4ii_items.specs.Decoding.{IsExact, Sound, Refuses, Stops};
+ghost use Rattle.cbor4ii_items.specs.Moves.{Moves};
+ghost use Rattle.cbor4ii_items.specs.Refusal.{is_out_of_memory};
+ghost use Rattle.cbor4ii_tree.specs.Raw.{
+  ReadsRaw,
+  StopsRaw,
+  BeginsRaw,
+  Unmoved,
+  RefusesFront,
+  TakesItem,
+  StopsAsSkipping,
+  LendsFront,
+  LacksFront,
+  SkipsFront,
+  StopsFront,
+  Captures,
+};
+
+use crate::front::Lent;
+use crate::skip::skip_item;
+use cbor4ii_rw::error::DecodeError;
+use cbor4ii_rw::read::Source;
+use std::alloc::Global;
+
+/// Why no front is lent, with no name in it.
+pub(crate) enum NoFront<E> {
+    /// The reader failed.
+    Read(E),
+    /// The bytes do not live as long as the input.
+    Short,
+}
+
+/// A value that a front is lent to, and that keeps the item in it.
+///
+/// A function whose signature holds a `'static` name cannot fill a reader that names a lifetime,
+/// so what is lent is refused here without its name.
+pub(crate) trait LendRaw<S: Source>: Sized {
+    // The bytes.
+    ghost content: { Self → List ℕ };
+
+    /// All that one fill lends.
+    fn lend_front(reader: &mut S) -> Result<Self, NoFront<S::Error>>
+        ensures lent { IfOk result (λ v. LendsFront (content v) (S.view reader.old) (S.view reader.new)) }
+        ensures lacks { IfErr result (LacksFront (S.view reader.old) (S.view reader.new)) };
+
+    /// The bytes.
+    fn front(&self) -> &[u8]
+        ensures { result.now ≡ content self.now };
+
+    /// The first bytes alone.
+    fn cut(self, size: usize) -> Self
+        requires { size ≤ length (content self) }
+        ensures { content result ≡ take size (content self) };
+
+    /// Lets the bytes go.
+    fn discard(self);
+}
+
+/// Takes one item that is lent whole.
+pub(crate) fn take_raw<T: LendRaw<S>, S: Source>(
+    alloc: Global,
+    reader: &mut S,
+) -> Result<T, DecodeError<S::Error>>
+    ensures moves { Moves (S.view reader.old) (S.view reader.new) result }
+    ensures progress { IsTrue true →
+        OnOk result ((S.view reader.new).bound + 1 ≤ (S.view reader.old).bound) }
+    ensures memory { IfErr result (λ error. IsTrue (is_out_of_memory error) → IsTrue false) }
+    ensures sound { IfOk result (Sound (ReadsRaw T.content)
+        (S.view reader.old) (S.view reader.new)) }
+    ensures complete { IsExact false (S.view reader.old) →
+        IfErr result (Refuses (ReadsRaw T.content) (S.view reader.old)) }
+    ensures stops { IsExact false (S.view reader.old) →
+        IfErr result (Stops StopsRaw (S.view reader.old) (S.view reader.new)) }
+    ensures begins { IfErr result (Stops BeginsRaw (S.view reader.old) (S.view reader.new)) }
+    ensures whole { IsExact false (S.view reader.old) →
+        TakesItem T.content (S.view reader.old) (S.view reader.new) result }
+    ensures exact { IsExact false (S.view reader.old) →
+        StopsAsSkipping (S.view reader.old) (S.view reader.new) result }
+    ensures unmoved { IfErr result (Unmoved (S.view reader.old) (S.view reader.new)) }
+    ensures refuses { RefusesFront (S.view reader.old) result }
+{
+    capture(reader)
+}
+
+/// As `take_raw`, in one clause.
+pub(crate) fn capture<T: LendRaw<S>, S: Source>(reader: &mut S) -> Result<T, DecodeError<S::Error>>
+    ensures { Captures T.content (S.view reader.old) (S.view reader.new) result }
+{
+    match T::lend_front(reader) {
+        Ok(lent) => match skip_lent(lent.front(), reader) {
+            Ok(size) => {
+                reader.advance(size);
+                Ok(lent.cut(size))
+            }
+            Err(error) => {
+                lent.discard();
+                Err(error)
+            }
+        },
+        Err(NoFront::Short) => Err(DecodeError::RequireBorrowed { name: "raw-value" }),
+        Err(NoFront::Read(error)) => Err(DecodeError::Read(error)),
+    }
+}
+
+/// How many of the shown bytes the item at their front has, skipped under the reader's steps.
+fn skip_lent<S: Source>(shown: &[u8], reader: &mut S) -> Result<usize, DecodeError<S::Error>>
+    ensures skips { IfOk result (SkipsFront shown.now (S.view reader.old).budget) }
+    ensures stops { IfErr result (StopsFront shown.now (S.view reader.old).budget) }
+    ensures stays { KeepsAllButBudget (S.view reader.old) (S.view reader.new) }
+    ensures budget { (S.view reader.new).budget ≡ (S.view reader.old).budget }
+{
+    let mut lent = Lent { rest: shown };
+    match skip_item(&mut lent, reader) {
+        Ok(()) => Ok(shown.len() - lent.rest.len()),
+        Err(error) => Err(error),
+    }
+}

@@ -1,0 +1,156 @@
+//! Items that are kept as their bytes.
+//!
+//! One fill asks for all that is left. Where its bytes live as long as the input, the item at
+//! their front is skipped in place, under the reader's steps, and then taken at once.
+//!
+//! Refusals; nothing is taken:
+//! - some bytes are left, and they do not live as long as the input: `RequireBorrowed` by the
+//!   name "raw-value"
+//! - otherwise those of `IgnoredAny`, in the bytes that were lent
+ghost use Rattle.std.specs.Prelude.{◌≡◌, ◌+◌, ◌≤◌, ℕ, List, Some, true, false, OnOk, IfOk, IfErr, IsTrue};
+ghost use Rattle.cbor4ii_rw.specs.View.{Told};
+ghost use Rattle.cbor4ii_items.specs.Decoding.{IsExact, Sound, Refuses, Stops};
+ghost use Rattle.cbor4ii_items.specs.Moves.{Moves};
+ghost use Rattle.cbor4ii_items.specs.Refusal.{is_out_of_memory};
+ghost use Rattle.cbor4ii_items.specs.Writing.{WritesWhole};
+ghost use Rattle.cbor4ii_tree.specs.Raw.{
+  raw_content,
+  ReadsRaw,
+  StopsRaw,
+  BeginsRaw,
+  Unmoved,
+  RefusesFront,
+  TakesItem,
+  StopsAsSkipping,
+};
+ghost use Rattle.cbor4ii_tree.specs.RawLaws.{raw_one, raw_within, raw_positive, raw_alone};
+
+use crate::lend_raw::{LendRaw, NoFront, take_raw};
+use cbor4ii_items::decode::{Decode, Spelled};
+use cbor4ii_items::encode::Encode;
+use cbor4ii_rw::ask::lend;
+use cbor4ii_rw::error::{DecodeError, EncodeError};
+use cbor4ii_rw::read::{Read, Reference};
+use cbor4ii_rw::write::Write;
+use std::alloc::Global;
+
+/// One item, as its bytes stand in the input.
+#[derive(Clone, Copy, Debug, PartialEq, Eq)]
+pub struct RawValue<'de>(&'de [u8]);
+
+impl<'de> RawValue<'de> {
+    /// The item's bytes.
+    pub fn as_bytes(&self) -> &'de [u8]
+        ensures { result.now ≡ raw_content self.now }
+    {
+        self.0
+    }
+}
+
+/// One item, skipped under a step for each level.
+impl<'de> Spelled for RawValue<'de> {
+    ghost reads = { ReadsRaw raw_content };
+
+    ghost same = { λ v w. raw_content v ≡ raw_content w };
+
+    ghost stops = { StopsRaw };
+
+    ghost begins = { BeginsRaw };
+
+    ghost never_empty = { true };
+
+    ghost owned = { false };
+
+    ghost takes_memory = { false };
+
+    ghost closed = { true };
+
+    fn is_never_empty() -> bool
+        ensures { result ≡ true }
+    {
+        true
+    }
+
+    fn is_owned() -> bool
+        ensures { result ≡ false }
+    {
+        false
+    }
+}
+
+impl<'de, R: Read<'de>> LendRaw<R> for RawValue<'de> {
+    ghost content = { raw_content };
+
+    fn lend_front(reader: &mut R) -> Result<RawValue<'de>, NoFront<R::Error>> {
+        let mut failure = None;
+        match lend(reader, usize::MAX, &mut failure) {
+            Some(Reference::Long(front)) => Ok(RawValue(front)),
+            Some(Reference::Short(front)) => {
+                if front.len() == 0 {
+                    return Ok(RawValue(&[]));
+                }
+                Err(NoFront::Short)
+            }
+            None => match failure {
+                Some(error) => Err(NoFront::Read(error)),
+                None => unreachable!(),
+            },
+        }
+    }
+
+    fn front(&self) -> &[u8] {
+        self.0
+    }
+
+    fn cut(self, size: usize) -> RawValue<'de> {
+        RawValue(&self.0[..size])
+    }
+
+    fn discard(self) {}
+}
+
+impl<'de, R: Read<'de>> Decode<R> for RawValue<'de> {
+    fn decode(alloc: Global, reader: &mut R) -> Result<RawValue<'de>, DecodeError<R::Error>>
+        ensures moves { Moves (R.view reader.old) (R.view reader.new) result }
+        ensures progress { IsTrue true →
+            OnOk result ((R.view reader.new).bound + 1 ≤ (R.view reader.old).bound) }
+        ensures memory { IfErr result (λ error. IsTrue (is_out_of_memory error) → IsTrue false) }
+        ensures sound { IfOk result (Sound (ReadsRaw raw_content)
+            (R.view reader.old) (R.view reader.new)) }
+        ensures complete { IsExact false (R.view reader.old) →
+            IfErr result (Refuses (ReadsRaw raw_content) (R.view reader.old)) }
+        ensures stops { IsExact false (R.view reader.old) →
+            IfErr result (Stops StopsRaw (R.view reader.old) (R.view reader.new)) }
+        ensures begins { IfErr result (Stops BeginsRaw (R.view reader.old) (R.view reader.new)) }
+        ensures whole { IsExact false (R.view reader.old) →
+            TakesItem raw_content (R.view reader.old) (R.view reader.new) result }
+        ensures exact { IsExact false (R.view reader.old) →
+            StopsAsSkipping (R.view reader.old) (R.view reader.new) result }
+        ensures unmoved { IfErr result (Unmoved (R.view reader.old) (R.view reader.new)) }
+        ensures refuses { RefusesFront (R.view reader.old) result }
+    {
+        take_raw(alloc, reader)
+    }
+
+    ghost one = { raw_one raw_content };
+
+    ghost within = { raw_within raw_content };
+
+    ghost positive = { λ _. raw_positive raw_content };
+
+    ghost alone = { λ _. raw_alone raw_content };
+}
+
+/// Written as it stands, in one push.
+impl Encode for RawValue<'_> {
+    ghost bytes = { raw_content };
+
+    fn encode<W: Write>(&self, writer: &mut W) -> Result<(), EncodeError<W::Error>>
+        ensures { WritesWhole W.whole (raw_content self.now) (W.view writer.old) (W.view writer.new) result }
+    {
+        match writer.push(self.0) {
+            Ok(()) => Ok(()),
+            Err(error) => Err(EncodeError::Write(error)),
+        }
+    }
+}

@@ -1,0 +1,457 @@
+//! Items skipped: what the heads of RFC 8949 section 3 say follows is passed over, in any front.
+ghost use Rattle.std.specs.Prelude.{◌≡◌, ◌+◌, ◌*◌, ◌^◌, ◌≤◌, ◌<◌, min, length, OnOk, IfOk, IfErr, IsTrue, codes, ◌%◌, ◌/◌};
+ghost use Rattle.cbor4ii_rw.specs.Reader.{KeepsAllButBudget};
+ghost use Rattle.cbor4ii_items.specs.Decoding.{Sound, Stops};
+ghost use Rattle.cbor4ii_items.specs.Head.{Width, byte_count};
+ghost use Rattle.cbor4ii_items.specs.Initial.{initial, info_of, wide};
+ghost use Rattle.cbor4ii_items.specs.ReadHead.{number_on};
+ghost use Rattle.cbor4ii_items.specs.Reading.{Runs, peek_at, byte_at};
+ghost use Rattle.cbor4ii_items.specs.ReadStrings.{break_at};
+ghost use Rattle.cbor4ii_items.specs.Strings.{ReadsBreak, StopsBreak};
+ghost use Rattle.cbor4ii_tree.specs.Does.{Does, Spares};
+ghost use Rattle.cbor4ii_tree.specs.Skipping.{
+  additional_of,
+  start_of,
+  SkipsOne,
+  StopsOne,
+  SkipsItems,
+  StopsItems,
+  SkipsOpen,
+  StopsOpen,
+  SkipsMembers,
+  StopsMembers,
+  SkipsUnder,
+  StopsUnder,
+  Leads,
+};
+ghost use Rattle.cbor4ii_tree.specs.HeadParts.{ArgumentAt, DropsBytes, DropsSome};
+ghost use Rattle.cbor4ii_tree.specs.Stops.{Missing, MissingAll};
+
+use crate::front::Front;
+use cbor4ii_items::marker;
+use cbor4ii_rw::error::{DecodeError, Len, StaticStr};
+use cbor4ii_rw::read::Source;
+
+/// The additional information of a first byte.
+#[derive(Clone, Copy)]
+pub(crate) enum Additional {
+    /// The argument follows in so many bytes.
+    Wide(u8),
+    /// An indefinite length.
+    Open,
+    /// 28 to 30.
+    Reserved,
+}
+
+/// What begins with a first byte.
+#[derive(Clone, Copy)]
+pub(crate) enum Start {
+    /// So many bytes follow.
+    Bytes(u8),
+    /// A length, and as many bytes.
+    Content,
+    /// A count of items, and these.
+    Items,
+    /// A count of pairs, and these.
+    Members,
+    /// A number, and an item.
+    Tag,
+    /// Items up to a break.
+    Open,
+    /// Pairs up to a break.
+    OpenMembers,
+    /// No item; the byte stays.
+    Stays,
+    /// No item; the byte is taken.
+    Taken,
+    /// No tag; the byte is taken.
+    NoTag,
+    /// No item that is read; the byte stays.
+    Unsupported,
+}
+
+/// What is left of an item behind its head.
+#[derive(Clone, Copy)]
+pub(crate) enum Behind {
+    Nothing,
+    Items(u128),
+    Open,
+    OpenMembers,
+}
+
+/// Skips one item.
+#[cycle(skip)]
+pub(crate) fn skip_item<S: Source, F: Front<S>>(
+    front: &mut F,
+    reader: &mut S,
+) -> Result<(), DecodeError<S::Error>>
+    ensures does { Does (λ xs _ ys. SkipsOne (F.view front.old reader.old).budget xs ys) (StopsOne (F.view front.old reader.old).budget)
+        (F.view front.old reader.old) (F.view front.new reader.new) result }
+    ensures spares { Spares result }
+    ensures progress { OnOk result ((F.view front.new reader.new).bound + 1 ≤ (F.view front.old reader.old).bound) }
+    ensures stays { IsTrue F.apart → KeepsAllButBudget (S.view reader.old) (S.view reader.new) }
+{
+    if !reader.step_in() {
+        return Err(DecodeError::DepthOverflow {
+            name: "ignored-any",
+        });
+    }
+    let outcome = skip_inside(front, reader);
+    reader.step_out();
+    outcome
+}
+
+/// Skips one item whose step was taken.
+#[cycle(skip)]
+fn skip_inside<S: Source, F: Front<S>>(
+    front: &mut F,
+    reader: &mut S,
+) -> Result<(), DecodeError<S::Error>>
+    ensures does { Does (λ xs _ ys. SkipsUnder (F.view front.old reader.old).budget xs ys) (StopsUnder (F.view front.old reader.old).budget)
+        (F.view front.old reader.old) (F.view front.new reader.new) result }
+    ensures spares { Spares result }
+    ensures progress { OnOk result ((F.view front.new reader.new).bound + 1 ≤ (F.view front.old reader.old).bound) }
+    ensures stays { IsTrue F.apart → KeepsAllButBudget (S.view reader.old) (S.view reader.new) }
+{
+    match skip_head(front, reader)? {
+        Behind::Nothing => Ok(()),
+        Behind::Items(count) => skip_items(front, reader, count),
+        Behind::Open => skip_open(front, reader),
+        Behind::OpenMembers => skip_members(front, reader),
+    }
+}
+
+/// Skips so many items.
+#[cycle(skip)]
+fn skip_items<S: Source, F: Front<S>>(
+    front: &mut F,
+    reader: &mut S,
+    count: u128,
+) -> Result<(), DecodeError<S::Error>>
+    ensures does { Does (λ xs _ ys. SkipsItems count (F.view front.old reader.old).budget xs ys) (StopsItems count (F.view front.old reader.old).budget)
+        (F.view front.old reader.old) (F.view front.new reader.new) result }
+    ensures spares { Spares result }
+    ensures stays { IsTrue F.apart → KeepsAllButBudget (S.view reader.old) (S.view reader.new) }
+{
+    for i in 0..count {
+        skip_item(front, reader)?;
+    }
+    Ok(())
+}
+
+/// Skips items up to a break.
+#[cycle(skip)]
+fn skip_open<S: Source, F: Front<S>>(
+    front: &mut F,
+    reader: &mut S,
+) -> Result<(), DecodeError<S::Error>>
+    ensures does { Does (λ xs _ ys. SkipsOpen (F.view front.old reader.old).budget xs ys) (StopsOpen (F.view front.old reader.old).budget)
+        (F.view front.old reader.old) (F.view front.new reader.new) result }
+    ensures spares { Spares result }
+    ensures stays { IsTrue F.apart → KeepsAllButBudget (S.view reader.old) (S.view reader.new) }
+{
+    while !is_break(front, reader)? {
+        skip_item(front, reader)?;
+    }
+    Ok(())
+}
+
+/// Skips pairs up to a break.
+#[cycle(skip)]
+fn skip_members<S: Source, F: Front<S>>(
+    front: &mut F,
+    reader: &mut S,
+) -> Result<(), DecodeError<S::Error>>
+    ensures does { Does (λ xs _ ys. SkipsMembers (F.view front.old reader.old).budget xs ys) (StopsMembers (F.view front.old reader.old).budget)
+        (F.view front.old reader.old) (F.view front.new reader.new) result }
+    ensures spares { Spares result }
+    ensures stays { IsTrue F.apart → KeepsAllButBudget (S.view reader.old) (S.view reader.new) }
+{
+    while !is_break(front, reader)? {
+        skip_item(front, reader)?;
+        skip_item(front, reader)?;
+    }
+    Ok(())
+}
+
+/// Takes the head of an item, and what belongs to it but items.
+fn skip_head<S: Source, F: Front<S>>(
+    front: &mut F,
+    reader: &mut S,
+) -> Result<Behind, DecodeError<S::Error>>
+    ensures does { Does (Leads (F.view front.old reader.old).budget) (StopsUnder (F.view front.old reader.old).budget)
+        (F.view front.old reader.old) (F.view front.new reader.new) result }
+    ensures spares { Spares result }
+    ensures progress { OnOk result ((F.view front.new reader.new).bound + 1 ≤ (F.view front.old reader.old).bound) }
+    ensures stays { IsTrue F.apart → S.view reader.new ≡ S.view reader.old }
+{
+    let first = peek(front, reader, "ignored-any", 1)?;
+    match start_of(first) {
+        Start::Bytes(count) => {
+            front.advance(reader, 1);
+            skip_bytes(front, reader, count as u64)?;
+            Ok(Behind::Nothing)
+        }
+        Start::Content => {
+            front.advance(reader, 1);
+            let length = argument(front, reader, "ignored-any", first)?;
+            skip_bytes(front, reader, length)?;
+            Ok(Behind::Nothing)
+        }
+        Start::Items => {
+            front.advance(reader, 1);
+            Ok(Behind::Items(argument(front, reader, "ignored-any", first)? as u128))
+        }
+        Start::Members => {
+            front.advance(reader, 1);
+            Ok(Behind::Items(2 * argument(front, reader, "ignored-any", first)? as u128))
+        }
+        Start::Tag => {
+            front.advance(reader, 1);
+            argument(front, reader, "tag", first)?;
+            Ok(Behind::Items(1))
+        }
+        Start::Open => {
+            front.advance(reader, 1);
+            Ok(Behind::Open)
+        }
+        Start::OpenMembers => {
+            front.advance(reader, 1);
+            Ok(Behind::OpenMembers)
+        }
+        Start::Stays => Err(DecodeError::Mismatch {
+            name: "ignored-any",
+            found: first,
+        }),
+        Start::Taken => {
+            front.advance(reader, 1);
+            Err(DecodeError::Mismatch {
+                name: "ignored-any",
+                found: first,
+            })
+        }
+        Start::NoTag => {
+            front.advance(reader, 1);
+            Err(DecodeError::Mismatch {
+                name: "tag",
+                found: first,
+            })
+        }
+        Start::Unsupported => Err(DecodeError::Unsupported {
+            name: "ignored-any",
+            found: first,
+        }),
+    }
+}
+
+/// What begins with this first byte.
+#[tactic(auto, unfolding(cbor4ii_items::specs::Initial::initial))]
+fn start_of(first: u8) -> Start
+    ensures { result ≡ start_of (initial first) }
+{
+    let info = parse_info(first % 32);
+    match first / 32 {
+        0 | 1 => match info {
+            Additional::Wide(count) => Start::Bytes(count),
+            _ => Start::Stays,
+        },
+        2 | 3 => match info {
+            Additional::Wide(_) => Start::Content,
+            Additional::Open => Start::Open,
+            Additional::Reserved => Start::Taken,
+        },
+        4 => match info {
+            Additional::Wide(_) => Start::Items,
+            Additional::Open => Start::Open,
+            Additional::Reserved => Start::Taken,
+        },
+        5 => match info {
+            Additional::Wide(_) => Start::Members,
+            Additional::Open => Start::OpenMembers,
+            Additional::Reserved => Start::Taken,
+        },
+        6 => match info {
+            Additional::Wide(_) => Start::Tag,
+            _ => Start::NoTag,
+        },
+        _ => match first % 32 {
+            20 | 21 | 22 | 23 => Start::Bytes(0),
+            25 => Start::Bytes(2),
+            26 => Start::Bytes(4),
+            27 => Start::Bytes(8),
+            _ => {
+                prove!(first / 32 == 7);
+                Start::Unsupported
+            }
+        },
+    }
+}
+
+/// What an additional information says.
+fn parse_info(info: u8) -> Additional
+    ensures { result ≡ additional_of (info_of info) }
+{
+    match info {
+        24 => Additional::Wide(1),
+        25 => Additional::Wide(2),
+        26 => Additional::Wide(4),
+        27 => Additional::Wide(8),
+        31 => Additional::Open,
+        _ => {
+            if info < 24 {
+                Additional::Wide(0)
+            } else {
+                Additional::Reserved
+            }
+        }
+    }
+}
+
+/// Takes a break and answers true, or takes nothing and answers false where another byte comes next.
+fn is_break<S: Source, F: Front<S>>(
+    front: &mut F,
+    reader: &mut S,
+) -> Result<bool, DecodeError<S::Error>>
+    ensures runs { Runs break_at (F.view front.old reader.old) (F.view front.new reader.new) result }
+    ensures sound { IfOk result (Sound ReadsBreak (F.view front.old reader.old) (F.view front.new reader.new)) }
+    ensures stops { IfErr result
+        (Stops StopsBreak (F.view front.old reader.old) (F.view front.new reader.new)) }
+    ensures stays { IsTrue F.apart → S.view reader.new ≡ S.view reader.old }
+{
+    at_break(front, reader)
+}
+
+/// As `is_break`, by what a program does.
+fn at_break<S: Source, F: Front<S>>(
+    front: &mut F,
+    reader: &mut S,
+) -> Result<bool, DecodeError<S::Error>>
+    ensures runs { Runs break_at (F.view front.old reader.old) (F.view front.new reader.new) result }
+    ensures stays { IsTrue F.apart → S.view reader.new ≡ S.view reader.old }
+{
+    let byte = peek(front, reader, "break", 1)?;
+    if byte == marker::BREAK {
+        front.advance(reader, 1);
+        return Ok(true);
+    }
+    Ok(false)
+}
+
+/// The next byte, which stays. Where there is none, `expect` bytes were expected.
+pub(crate) fn peek<S: Source, F: Front<S>>(
+    front: &mut F,
+    reader: &mut S,
+    name: StaticStr,
+    expect: u16,
+) -> Result<u8, DecodeError<S::Error>>
+    ensures runs { Runs (peek_at name.now expect) (F.view front.old reader.old) (F.view front.new reader.new) result }
+    ensures byte { IfOk result (λ b. b < 256) }
+    ensures can { OnOk result (1 ≤ (F.view front.new reader.new).advanceable) }
+    ensures stays { IsTrue F.apart → S.view reader.new ≡ S.view reader.old }
+{
+    match front.peek(reader) {
+        Ok(Some(byte)) => Ok(byte),
+        Ok(None) => Err(DecodeError::Eof {
+            name,
+            expect: Len::Small(expect),
+        }),
+        Err(error) => Err(DecodeError::Read(error)),
+    }
+}
+
+/// The next byte, taken. Where there is none, `expect` bytes were expected.
+fn take<S: Source, F: Front<S>>(
+    front: &mut F,
+    reader: &mut S,
+    name: StaticStr,
+    expect: u16,
+) -> Result<u8, DecodeError<S::Error>>
+    ensures runs { Runs (byte_at name.now expect) (F.view front.old reader.old) (F.view front.new reader.new) result }
+    ensures byte { IfOk result (λ b. b < 256) }
+    ensures stays { IsTrue F.apart → S.view reader.new ≡ S.view reader.old }
+{
+    let byte = peek(front, reader, name, expect)?;
+    front.advance(reader, 1);
+    Ok(byte)
+}
+
+/// So many bytes, most significant first.
+fn number<S: Source, F: Front<S>>(
+    front: &mut F,
+    reader: &mut S,
+    name: StaticStr,
+    bytes: u8,
+) -> Result<u128, DecodeError<S::Error>>
+    requires { bytes ≤ 16 }
+    ensures runs { Runs (number_on name.now bytes bytes 0) (F.view front.old reader.old) (F.view front.new reader.new) result }
+    ensures fits { IfOk result (λ v. v < 256 ^ bytes) }
+    ensures stays { IsTrue F.apart → S.view reader.new ≡ S.view reader.old }
+{
+    let mut value = 0;
+    for i in 0..bytes {
+        let byte = take(front, reader, name, bytes as u16)?;
+        value = value * 256 + byte as u128;
+    }
+    Ok(value)
+}
+
+/// The argument of a head whose first byte, which was taken, is `first`.
+fn argument<S: Source, F: Front<S>>(
+    front: &mut F,
+    reader: &mut S,
+    name: StaticStr,
+    first: u8,
+) -> Result<u64, DecodeError<S::Error>>
+    ensures does { (w : Width) → info_of (first % 32) ≡ wide w → Does (ArgumentAt w first) (MissingAll name.now (byte_count w))
+        (F.view front.old reader.old) (F.view front.new reader.new) result }
+    ensures spares { Spares result }
+    ensures stays { IsTrue F.apart → S.view reader.new ≡ S.view reader.old }
+{
+    match parse_info(first % 32) {
+        Additional::Wide(0) => Ok((first % 32) as u64),
+        Additional::Wide(count) => Ok(number(front, reader, name, count)? as u64),
+        _ => Ok(0),
+    }
+}
+
+/// Takes so many bytes.
+fn skip_bytes<S: Source, F: Front<S>>(
+    front: &mut F,
+    reader: &mut S,
+    count: u64,
+) -> Result<(), DecodeError<S::Error>>
+    ensures does { Does (λ xs _ ys. DropsBytes count xs ys) (Missing (codes "ignored-any") count) (F.view front.old reader.old) (F.view front.new reader.new) result }
+    ensures spares { Spares result }
+    ensures stays { IsTrue F.apart → S.view reader.new ≡ S.view reader.old }
+{
+    let mut missing = count as usize;
+    while missing > 0 {
+        missing -= skip_shown(front, reader, missing)?;
+    }
+    Ok(())
+}
+
+/// Takes the bytes that are shown, at most so many.
+fn skip_shown<S: Source, F: Front<S>>(
+    front: &mut F,
+    reader: &mut S,
+    missing: usize,
+) -> Result<usize, DecodeError<S::Error>>
+    requires { 1 ≤ missing }
+    ensures does { Does (DropsSome missing) (Missing (codes "ignored-any") missing) (F.view front.old reader.old) (F.view front.new reader.new) result }
+    ensures spares { Spares result }
+    ensures some { IfOk result (λ n. (1 ≤ n) × (n ≤ missing)) }
+    ensures stays { IsTrue F.apart → S.view reader.new ≡ S.view reader.old }
+{
+    match front.ready(reader, missing) {
+        Ok(0) => Err(DecodeError::Eof {
+            name: "ignored-any",
+            expect: Len::new(missing),
+        }),
+        Ok(count) => {
+            front.advance(reader, count);
+            Ok(count)
+        }
+        Err(error) => Err(DecodeError::Read(error)),
+    }
+}
