@@ -6,6 +6,7 @@
 
 #[cfg(test)]
 mod cow;
+pub mod examples;
 #[cfg(test)]
 mod heads;
 #[cfg(test)]
