@@ -1,5 +1,5 @@
 -- What a lawful writer does: how what it holds moves in a push.
-use Rattle.std.specs.Prelude.{◌≡◌, ℕ, List, ◌++◌, Option, Some}
+use Rattle.std.specs.Prelude.{◌≡◌, ℕ, ◌+◌, ◌-◌, ◌^◌, min, List, ◌++◌, Option, Some}
 use Rattle.cbor4ii_rw.specs.View.{Told}
 
 -- What a writer tells of itself as it stands, for contracts alone.
@@ -12,3 +12,7 @@ pub record Output : Type 0 where
 -- told bytes stay told, and have these behind them
 abbrev pub Appends : List ℕ → Option (List ℕ) → Option (List ℕ) → Type 0
 Appends bytes old new = Told old (λ xs. new ≡ Some (xs ++ bytes))
+
+-- one failure more, up to u64's greatest number
+abbrev pub one_more : ℕ → ℕ
+one_more failures = min (failures + 1) (2 ^ 64 - 1)

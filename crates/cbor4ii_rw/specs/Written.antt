@@ -1,5 +1,5 @@
 -- What the writers hold.
-use Rattle.std.specs.Prelude.{ℕ, List, Option, Some}
+use Rattle.std.specs.Prelude.{ℕ, Bool, List, Option, Some}
 use Rattle.cbor4ii_rw.specs.Writer.{Output}
 use Rattle.cbor4ii_rw.specs.declared.buf_writer.BufWriter.{BufWriter}
 use Rattle.cbor4ii_rw.specs.declared.io_writer.IoWriter.{IoWriter}
@@ -11,3 +11,7 @@ buffer_output writer = record { written = Some writer.bytes.items; failures = wr
 -- a writer into a stream tells what the stream tells; the first argument is what a stream holds
 abbrev pub stream_output : {W : Type 0} → (W → Option (List ℕ)) → IoWriter W → Output
 stream_output contents writer = record { written = contents writer.inner; failures = writer.failures }
+
+-- the stream was flushed, and nothing was pushed since
+abbrev pub is_flushed : {W : Type 0} → IoWriter W → Bool
+is_flushed writer = writer.flushed

@@ -1,25 +1,66 @@
 //! A writer into a stream.
-ghost use Rattle.std.specs.Prelude.{◌≡◌, false};
-ghost use Rattle.cbor4ii_rw.specs.Written.{stream_output};
+ghost use Rattle.std.specs.Prelude.{◌≡◌, OnOk, OnErr, false, true};
+ghost use Rattle.cbor4ii_rw.specs.Reader.{Failed, Keeps};
+ghost use Rattle.cbor4ii_rw.specs.Writer.{Appends, one_more};
+ghost use Rattle.cbor4ii_rw.specs.Written.{stream_output, is_flushed};
 
 use crate::write::Write;
 use std::io;
 
-/// A writer into a stream. It is not whole: a push that fails may have written a part of its
-/// input, and after an error nothing is known of the stream.
+/// A writer into a stream, which knows whether the stream was flushed since the last push. It is
+/// not whole: a push that fails may have written a part of its input, and after an error nothing
+/// is known of the stream.
 #[derive(Debug, Drop)]
 pub struct IoWriter<W: io::Write> {
     inner: W,
     failures: u64,
+    flushed: bool,
 }
 
 impl<W: io::Write> IoWriter<W> {
-    /// A writer behind what `inner` holds, which has not failed yet.
+    /// A writer behind what `inner` holds, which has not failed yet. It is not flushed, since what
+    /// `inner` holds may not be.
     pub fn new(inner: W) -> IoWriter<W>
         ensures written { (stream_output W.contents result).written ≡ W.contents inner }
         ensures failures { (stream_output W.contents result).failures ≡ 0 }
+        ensures unflushed { is_flushed result ≡ false }
     {
-        IoWriter { inner, failures: 0 }
+        IoWriter {
+            inner,
+            failures: 0,
+            flushed: false,
+        }
+    }
+
+    /// Flushes the stream, which holds what it held before. An error is counted as a failure, and
+    /// then the writer is flushed only if it was before.
+    pub fn flush(&mut self) -> Result<(), io::Error>
+        ensures keeps { Keeps (stream_output W.contents self.old).written
+            (stream_output W.contents self.new).written }
+        ensures flushed { OnOk result (is_flushed self.new ≡ true) }
+        ensures counts { OnOk result ((stream_output W.contents self.new).failures
+            ≡ (stream_output W.contents self.old).failures) }
+        ensures failed { OnErr result ((stream_output W.contents self.new).failures
+            ≡ one_more (stream_output W.contents self.old).failures) }
+        ensures unchanged { OnErr result (is_flushed self.new ≡ is_flushed self.old) }
+    {
+        match self.inner.flush() {
+            Ok(()) => {
+                self.flushed = true;
+                Ok(())
+            }
+            Err(error) => {
+                self.failures = self.failures.saturating_add(1);
+                Err(error)
+            }
+        }
+    }
+
+    /// Whether the stream was flushed, and nothing was pushed since.
+    pub fn is_flushed(&self) -> bool
+        ensures { result ≡ is_flushed self.now }
+    {
+        self.flushed
     }
 
     /// The stream.
@@ -41,7 +82,18 @@ impl<W: io::Write> Write for IoWriter<W> {
         false
     }
 
-    fn push(&mut self, input: &[u8]) -> Result<(), io::Error> {
+    // The clauses of the trait, how far the count rises, and that the writer is flushed no more.
+    fn push(&mut self, input: &[u8]) -> Result<(), io::Error>
+        ensures appends { OnOk result (Appends input.now
+            (stream_output W.contents self.old).written
+            (stream_output W.contents self.new).written) }
+        ensures counts { OnOk result ((stream_output W.contents self.new).failures
+            ≡ (stream_output W.contents self.old).failures) }
+        ensures failed { OnErr result ((stream_output W.contents self.new).failures
+            ≡ one_more (stream_output W.contents self.old).failures) }
+        ensures unflushed { is_flushed self.new ≡ false }
+    {
+        self.flushed = false;
         match self.inner.write_all(input) {
             Ok(()) => Ok(()),
             Err(error) => {
