@@ -1,6 +1,21 @@
 //! A writer into memory.
-ghost use Rattle.std.specs.Prelude.{◌≡◌, [], Some, true};
-ghost use Rattle.cbor4ii_rw.specs.Written.{buffer_output};
+ghost use Rattle.std.specs.Prelude.{
+  ◌≡◌,
+  ◌+◌,
+  ◌≤◌,
+  [],
+  Some,
+  true,
+  length,
+  vec_capacity,
+  OnOk,
+  OnErr,
+  IsOk,
+};
+ghost use Rattle.cbor4ii_rw.specs.View.{Told};
+ghost use Rattle.cbor4ii_rw.specs.Reader.{Keeps};
+ghost use Rattle.cbor4ii_rw.specs.Writer.{Appends, one_more};
+ghost use Rattle.cbor4ii_rw.specs.Written.{buffer_output, buffer_capacity};
 
 use crate::error::TryReserveError;
 use crate::write::Write;
@@ -17,6 +32,7 @@ impl BufWriter {
     pub fn new(bytes: Vec<u8>) -> BufWriter
         ensures written { (buffer_output result).written ≡ Some bytes.items }
         ensures failures { (buffer_output result).failures ≡ 0 }
+        ensures capacity { buffer_capacity result ≡ vec_capacity bytes }
     {
         BufWriter { bytes, failures: 0 }
     }
@@ -30,7 +46,8 @@ impl BufWriter {
 
     /// The vector, with what was written behind what stood in it.
     pub fn into_inner(self) -> Vec<u8>
-        ensures { (buffer_output self).written ≡ Some result.items }
+        ensures written { (buffer_output self).written ≡ Some result.items }
+        ensures capacity { vec_capacity result ≡ buffer_capacity self }
     {
         self.bytes
     }
@@ -39,6 +56,7 @@ impl BufWriter {
     pub fn clear(&mut self)
         ensures written { (buffer_output self.new).written ≡ Some [] }
         ensures failures { (buffer_output self.new).failures ≡ (buffer_output self.old).failures }
+        ensures capacity { buffer_capacity self.new ≡ buffer_capacity self.old }
     {
         self.bytes.clear();
     }
@@ -55,7 +73,20 @@ impl Write for BufWriter {
         true
     }
 
-    fn push(&mut self, input: &[u8]) -> Result<(), TryReserveError> {
+    // The clauses of the trait, how far the count rises, and that memory which is there is used.
+    fn push(&mut self, input: &[u8]) -> Result<(), TryReserveError>
+        ensures appends { OnOk result (Appends input.now
+            (buffer_output self.old).written (buffer_output self.new).written) }
+        ensures counts { OnOk result
+            ((buffer_output self.new).failures ≡ (buffer_output self.old).failures) }
+        ensures failed { OnErr result
+            ((buffer_output self.new).failures ≡ one_more (buffer_output self.old).failures) }
+        ensures whole { OnErr result
+            (Keeps (buffer_output self.old).written (buffer_output self.new).written) }
+        ensures room { Told (buffer_output self.old).written (λ held.
+            length held + length input.now ≤ buffer_capacity self.old → IsOk result) }
+        ensures capacity { buffer_capacity self.old ≤ buffer_capacity self.new }
+    {
         match self.bytes.extend_from_slice(input) {
             Ok(()) => Ok(()),
             Err(error) => {

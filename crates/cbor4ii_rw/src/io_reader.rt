@@ -2,7 +2,7 @@
 ghost use Rattle.std.specs.Prelude.{◌≡◌, ◌+◌, ◌-◌, ◌≤◌, [], length, Some, IsTrue, IfSome, IfOk, IsOk, MatchResult};
 ghost use Rattle.std.specs.Borrow.{sem};
 ghost use Rattle.std.specs.Io.{StartsWith};
-ghost use Rattle.std.specs.Io.BufRead.{Rests, FillKeeps};
+ghost use Rattle.std.specs.Io.BufRead.{Rests, FillKeeps, DropsConsumable};
 ghost use Rattle.cbor4ii_rw.specs.contracts.io_reader.IoReader.{the_row};
 ghost use Rattle.cbor4ii_rw.specs.View.{Told};
 ghost use Rattle.cbor4ii_rw.specs.Reader.{Keeps, IsFront, IsEnough, Shows, Breaks};
@@ -17,6 +17,7 @@ ghost use Rattle.cbor4ii_rw.specs.Stream.{
 };
 
 use crate::read::{Read, Reference, Source};
+use crate::steps;
 use std::io::{self, BufRead};
 
 /// What a reader over a stream counts.
@@ -107,6 +108,20 @@ impl<R: BufRead> IoReader<R> {
     {
         self.tally.taken
     }
+
+    // Takes from the stream what was advanced, and forgets what it showed.
+    fn settle(&mut self)
+        ensures stream { DropsConsumable (R.Read.remaining self.old.inner)
+            (R.Read.remaining self.new.inner) (R.consumable_len self.old.inner)
+            self.old.tally.used }
+        ensures tally { self.new.tally ≡ record self.old.tally { shown = 0; used = 0 } }
+    {
+        if self.tally.used > 0 {
+            self.inner.consume(self.tally.used);
+        }
+        self.tally.shown = 0;
+        self.tally.used = 0;
+    }
 }
 
 impl<R: BufRead> Source for IoReader<R> {
@@ -132,10 +147,7 @@ impl<R: BufRead> Source for IoReader<R> {
         if most == 0 {
             return Ok(&[]);
         }
-        let used = self.tally.used;
-        self.tally.used = 0;
-        self.tally.shown = 0;
-        self.inner.consume(used);
+        self.settle();
         match show_all(self) {
             Ok(bytes) => {
                 let shown = (bytes.len() as u64).min(most) as usize;
@@ -146,29 +158,17 @@ impl<R: BufRead> Source for IoReader<R> {
     }
 
     fn advance(&mut self, n: usize) {
-        let tally = self.tally;
-        let used = if tally.used <= tally.shown {
-            tally.used + n
-        } else {
-            tally.used
-        };
-        self.tally = Tally {
-            used,
-            taken: tally.taken + n as u64,
-            ..tally
-        };
+        prove!(n <= self.tally.shown);
+        self.tally.used += n;
+        self.tally.taken += n as u64;
     }
 
     fn step_in(&mut self) -> bool {
-        if self.tally.steps == 0 {
-            return false;
-        }
-        self.tally.steps -= 1;
-        true
+        steps::step_in(&mut self.tally.steps)
     }
 
     fn step_out(&mut self) {
-        self.tally.steps = self.tally.steps.saturating_add(1);
+        steps::step_out(&mut self.tally.steps);
     }
 
     ghost told_within_bound = { λ reader. cut_within (most_bytes - reader.tally.taken)

@@ -44,16 +44,11 @@ impl<W: io::Write> IoWriter<W> {
             ≡ one_more (stream_output W.contents self.old).failures) }
         ensures unchanged { OnErr result (is_flushed self.new ≡ is_flushed self.old) }
     {
-        match self.inner.flush() {
-            Ok(()) => {
-                self.flushed = true;
-                Ok(())
-            }
-            Err(error) => {
-                self.failures = self.failures.saturating_add(1);
-                Err(error)
-            }
+        let outcome = self.inner.flush();
+        if outcome.is_ok() {
+            self.flushed = true;
         }
+        self.counted(outcome)
     }
 
     /// Whether the stream was flushed, and nothing was pushed since.
@@ -68,6 +63,20 @@ impl<W: io::Write> IoWriter<W> {
         ensures { W.contents result ≡ (stream_output W.contents self).written }
     {
         self.inner
+    }
+
+    // `outcome`, whose error is counted.
+    fn counted(&mut self, outcome: io::Result<()>) -> io::Result<()>
+        ensures outcome { result ≡ outcome }
+        ensures inner { self.new.inner ≡ self.old.inner }
+        ensures flushed { self.new.flushed ≡ self.old.flushed }
+        ensures counts { OnOk result (self.new.failures ≡ self.old.failures) }
+        ensures failed { OnErr result (self.new.failures ≡ one_more self.old.failures) }
+    {
+        if outcome.is_err() {
+            self.failures = self.failures.saturating_add(1);
+        }
+        outcome
     }
 }
 
@@ -94,12 +103,7 @@ impl<W: io::Write> Write for IoWriter<W> {
         ensures unflushed { is_flushed self.new ≡ false }
     {
         self.flushed = false;
-        match self.inner.write_all(input) {
-            Ok(()) => Ok(()),
-            Err(error) => {
-                self.failures = self.failures.saturating_add(1);
-                Err(error)
-            }
-        }
+        let outcome = self.inner.write_all(input);
+        self.counted(outcome)
     }
 }

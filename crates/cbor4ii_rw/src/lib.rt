@@ -14,6 +14,7 @@ pub mod io_writer;
 pub mod read;
 pub mod segment_reader;
 pub mod slice_reader;
+mod steps;
 #[cfg(test)]
 mod tests;
 pub mod write;

@@ -12,6 +12,7 @@ ghost use Rattle.cbor4ii_rw.specs.Segments.{joined, full_count, rest_of, full_of
 
 use crate::error::Never;
 use crate::read::{Read, Reference, Source};
+use crate::steps;
 
 /// A reader over borrowed segments, one after another, empty ones among them. It never fails,
 /// and shows at most what is wanted of one segment. With at most one segment left that has
@@ -93,15 +94,11 @@ impl Source for SegmentReader<'_> {
     }
 
     fn step_in(&mut self) -> bool {
-        if self.steps == 0 {
-            return false;
-        }
-        self.steps -= 1;
-        true
+        steps::step_in(&mut self.steps)
     }
 
     fn step_out(&mut self) {
-        self.steps = self.steps.saturating_add(1);
+        steps::step_out(&mut self.steps);
     }
 
     ghost told_within_bound = { λ reader xs is. Prim.search rules };

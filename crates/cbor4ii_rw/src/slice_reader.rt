@@ -12,6 +12,7 @@ ghost use Rattle.std.proofs.Common.{rules};
 
 use crate::error::Never;
 use crate::read::{Read, Reference, Source};
+use crate::steps;
 
 /// A reader over one slice. It never fails, shows at most what is wanted, and lends whole.
 #[derive(Clone, Debug, Drop)]
@@ -74,15 +75,11 @@ impl Source for SliceReader<'_> {
     }
 
     fn step_in(&mut self) -> bool {
-        if self.steps == 0 {
-            return false;
-        }
-        self.steps -= 1;
-        true
+        steps::step_in(&mut self.steps)
     }
 
     fn step_out(&mut self) {
-        self.steps = self.steps.saturating_add(1);
+        steps::step_out(&mut self.steps);
     }
 
     ghost told_within_bound = { λ reader xs is. Prim.search rules };

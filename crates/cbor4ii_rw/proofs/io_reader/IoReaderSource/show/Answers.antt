@@ -14,12 +14,14 @@ returns-in-Ok g c =
     let shown = c.in-Ok.bytes.now in let n = c.min-shown.result in
     let before = c.args.self.now in
     let most = most_bytes - before.tally.taken in
-    let a = g.R.Read.remaining before.inner in let b = g.R.Read.remaining c.consume.new.self in let w = g.R.Read.remaining v.inner in
+    let a = g.R.Read.remaining before.inner in let b = g.R.Read.remaining c.settle.new.self.inner in let w = g.R.Read.remaining v.inner in
     let limit = g.R.BufRead.consumable_len v.inner in
     let started : Tally = record { shown = 0; used = 0; taken = before.tally.taken; failures = before.tally.failures; steps = before.tally.steps } in
-    let moved = subst (λ r. FillKeeps b w limit r × TallyMoves started v.tally r) c.in-Ok.is c.show_all.follows.holds-at-none in
+    let settled : c.settle.new.self.tally ≡ started = c.settle.ensures.tally in
+    let moved = subst (λ tally. FillKeeps {E = Error} b w limit (Ok c.in-Ok.bytes) × TallyMoves {E = Error} tally v.tally (Ok c.in-Ok.bytes)) settled
+    (subst (λ r. FillKeeps b w limit r × TallyMoves c.settle.new.self.tally v.tally r) c.in-Ok.is c.show_all.follows.holds-at-none) in
     let counts = moved.1 in
-    let cases = held_cases a b (g.R.BufRead.consumable_len before.inner) before.tally c.consume.ensures.bytes in
+    let cases = held_cases a b (g.R.BufRead.consumable_len before.inner) before.tally c.settle.ensures.stream in
     let held_after = λ (bytes : List ℕ) (e : b ≡ Some bytes).
     let kept = subst (λ o. FillKeeps {E = Error} o w limit (Ok c.in-Ok.bytes)) e moved.0 in
     held_now w limit v.tally bytes counts.1 kept.0 (subst (λ k. IfSome limit (λ most. k ≤ most)) (sym counts.0) kept.1) in
@@ -52,15 +54,17 @@ returns-in-Err g c =
     let v = c.show_all.follows.lender-at-none in
     let before = c.args.self.now in
     let most = most_bytes - before.tally.taken in
-    let a = g.R.Read.remaining before.inner in let b = g.R.Read.remaining c.consume.new.self in let w = g.R.Read.remaining v.inner in
+    let a = g.R.Read.remaining before.inner in let b = g.R.Read.remaining c.settle.new.self.inner in let w = g.R.Read.remaining v.inner in
     let limit = g.R.BufRead.consumable_len v.inner in
     let started : Tally = record { shown = 0; used = 0; taken = before.tally.taken; failures = before.tally.failures; steps = before.tally.steps } in
-    let moved = subst (λ r. FillKeeps b w limit r × TallyMoves started v.tally r) c.in-Err.is c.show_all.follows.holds-at-none in
+    let settled : c.settle.new.self.tally ≡ started = c.settle.ensures.tally in
+    let moved = subst (λ tally. FillKeeps {E = Error} b w limit (Err c.in-Err.error) × TallyMoves {E = Error} tally v.tally (Err c.in-Err.error)) settled
+    (subst (λ r. FillKeeps b w limit r × TallyMoves c.settle.new.self.tally v.tally r) c.in-Err.is c.show_all.follows.holds-at-none) in
     let counts = moved.1 in
     let held_after = λ (bytes : List ℕ) (e : b ≡ Some bytes).
     let kept = subst (λ o. FillKeeps {E = Error} o w limit (Err c.in-Err.error)) e moved.0 in
     held_now w limit v.tally bytes counts.1 kept.0 (subst (λ k. IfSome limit (λ most. k ≤ most)) (sym counts.0) (takes_none limit)) in
-    let keeps = held_cases a b (g.R.BufRead.consumable_len before.inner) before.tally c.consume.ensures.bytes (λ o. Keeps o (held_bytes w limit v.tally)) tt held_after in
+    let keeps = held_cases a b (g.R.BufRead.consumable_len before.inner) before.tally c.settle.ensures.stream (λ o. Keeps o (held_bytes w limit v.tally)) tt held_after in
     let left : 0 < most = search rules in
     let same : most_bytes - v.tally.taken ≡ most = ap (λ k. most_bytes - k) counts.2 in
     let told = keeps_cut most (most_bytes - v.tally.taken) _ _ same keeps in (
