@@ -1,5 +1,7 @@
 -- What a lawful reader does: how its view moves in each call.
-use Rattle.std.specs.Prelude.{◌≡◌, ℕ, ◌+◌, ◌-◌, ◌^◌, ◌<◌, ◌≤◌, ◌⊎◌, Bool, true, false, nat_lt, if◌then◌else◌, min, List, [], length, drop, None, Some, Option, IsTrue}
+use Rattle.std.specs.Prelude.{◌≡◌, ℕ, ◌+◌, ◌-◌, ◌^◌, ◌<◌, ◌≤◌, ◌⊎◌, Bool, true, false, nat_lt}
+use Rattle.std.specs.Prelude.{if◌then◌else◌, min, List, [], length, drop, None, Some, Option}
+use Rattle.std.specs.Prelude.{IsTrue}
 use Rattle.std.specs.Io.{StartsWith}
 use Rattle.cbor4ii_rw.specs.View.{View, Told}
 

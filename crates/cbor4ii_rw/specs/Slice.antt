@@ -5,4 +5,13 @@ use Rattle.cbor4ii_rw.specs.declared.slice_reader.SliceReader.{SliceReader}
 
 -- it tells all its bytes, lends them whole, and never fails
 abbrev pub slice_view : SliceReader → View
-slice_view reader = record { told = Some reader.bytes.now; bound = length reader.bytes.now; advanceable = length reader.bytes.now; budget = Some reader.steps; failures = 0; taken = None; lends_whole = true; remembers = true }
+slice_view reader = record {
+  told = Some reader.bytes.now;
+  bound = length reader.bytes.now;
+  advanceable = length reader.bytes.now;
+  budget = Some reader.steps;
+  failures = 0;
+  taken = None;
+  lends_whole = true;
+  remembers = true;
+}

@@ -1,5 +1,7 @@
--- What a reader over a stream has left: the bytes that were advanced are taken from the stream before it is read again.
-use Rattle.std.specs.Prelude.{◌≡◌, ℕ, ◌+◌, ◌-◌, ◌≤◌, ◌^◌, List, length, take, drop, min, Bool, true, false, ◌&&◌, nat_lt, None, Some, Option, Result, Ok, Err}
+-- What a reader over a stream has left: the bytes that were advanced are taken from the stream
+-- before it is read again.
+use Rattle.std.specs.Prelude.{◌≡◌, ℕ, ◌+◌, ◌-◌, ◌≤◌, ◌^◌, List, length, take, drop, min, Bool, true}
+use Rattle.std.specs.Prelude.{false, ◌&&◌, nat_lt, None, Some, Option, Result, Ok, Err}
 use Rattle.std.proofs.Common.{rules, arith, length-take, subst}
 use Rattle.std.specs.Borrow.{Bor}
 use Rattle.cbor4ii_rw.specs.View.{View, Told}
@@ -17,9 +19,12 @@ cut_known n None = None
 cut_known n (Some bytes) = Some (take n bytes)
 
 -- cut bytes are no more than the cut; a trait's law cites it, so it stands here
-pub cut_within : (most : ℕ) (known : Option (List ℕ)) → Told (cut_known most known) (λ xs. length xs ≤ most)
+pub cut_within : (most : ℕ) (known : Option (List ℕ))
+    → Told (cut_known most known) (λ xs. length xs ≤ most)
 cut_within most None xs is = absurd (search (is, rules))
-cut_within most (Some bytes) xs is = let cut : take most bytes ≡ xs = search (is, rules) in subst (λ ys. length ys ≤ most) cut (omega (arith, length-take most bytes))
+cut_within most (Some bytes) xs is =
+    let cut : take most bytes ≡ xs = search (is, rules) in
+    subst (λ ys. length ys ≤ most) cut (omega (arith, length-take most bytes))
 
 -- the stream takes n bytes where it is asked to
 abbrev pub fits : Option ℕ → ℕ → Bool
@@ -33,14 +38,19 @@ where_known false bytes = None
 -- the stream's bytes without those that were advanced
 abbrev pub held_bytes : Option (List ℕ) → Option ℕ → Tally → Option (List ℕ)
 held_bytes None limit tally = None
-held_bytes (Some bytes) limit tally = where_known (fits limit tally.shown && nat_lt tally.used (tally.shown + 1)) (drop tally.used bytes)
+held_bytes (Some bytes) limit tally =
+    where_known (fits limit tally.shown && nat_lt tally.used (tally.shown + 1))
+    (drop tally.used bytes)
 
--- what the stream behind a reader holds, without the bytes that were taken; the first argument is what a stream has
--- left, and the second how many bytes it may be asked to consume
-abbrev pub stream_left : {R : Type 0} → (R → Option (List ℕ)) → (R → Option ℕ) → IoReader R → Option (List ℕ)
-stream_left remaining consumable reader = held_bytes (remaining reader.inner) (consumable reader.inner) reader.tally
+-- what the stream behind a reader holds, without the bytes that were taken; the first argument is
+-- what a stream has left, and the second how many bytes it may be asked to consume
+abbrev pub stream_left : {R : Type 0} → (R → Option (List ℕ)) → (R → Option ℕ) → IoReader R
+    → Option (List ℕ)
+stream_left remaining consumable reader =
+    held_bytes (remaining reader.inner) (consumable reader.inner) reader.tally
 
--- It tells what the stream has left, up to the most that are taken in all, counts what was taken, and never lends whole.
+-- It tells what the stream has left, up to the most that are taken in all, counts what was taken,
+-- and never lends whole.
 abbrev pub stream_view : {R : Type 0} → (R → Option (List ℕ)) → (R → Option ℕ) → IoReader R → View
 stream_view remaining consumable reader = record {
   told = cut_known (most_bytes - reader.tally.taken) (stream_left remaining consumable reader);
@@ -55,5 +65,9 @@ stream_view remaining consumable reader = record {
 
 -- `Ok` notes how many bytes are shown and leaves the count of failures, and `Err` raises it
 abbrev pub TallyMoves : {E : Type 0} → Tally → Tally → Result (Bor (List ℕ)) E → Type 0
-TallyMoves before after (Ok bytes) = (after.shown ≡ length bytes.now) × (after.used ≡ before.used) × (after.taken ≡ before.taken) × (after.failures ≡ before.failures) × (after.steps ≡ before.steps)
-TallyMoves before after (Err error) = (after.shown ≡ before.shown) × (after.used ≡ before.used) × (after.taken ≡ before.taken) × Failed before.failures after.failures × (after.steps ≡ before.steps)
+TallyMoves before after (Ok bytes) = (after.shown ≡ length bytes.now) × (after.used ≡ before.used)
+    × (after.taken ≡ before.taken) × (after.failures ≡ before.failures)
+    × (after.steps ≡ before.steps)
+TallyMoves before after (Err error) = (after.shown ≡ before.shown) × (after.used ≡ before.used)
+    × (after.taken ≡ before.taken) × Failed before.failures after.failures
+    × (after.steps ≡ before.steps)

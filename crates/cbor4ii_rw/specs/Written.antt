@@ -14,7 +14,10 @@ buffer_capacity writer = vec_capacity writer.bytes
 
 -- a writer into a stream tells what the stream tells; the first argument is what a stream holds
 abbrev pub stream_output : {W : Type 0} → (W → Option (List ℕ)) → IoWriter W → Output
-stream_output contents writer = record { written = contents writer.inner; failures = writer.failures }
+stream_output contents writer = record {
+  written = contents writer.inner;
+  failures = writer.failures;
+}
 
 -- the stream was flushed, and nothing was pushed since
 abbrev pub is_flushed : {W : Type 0} → IoWriter W → Bool

@@ -1,5 +1,18 @@
 //! A reader over a stream.
-ghost use Rattle.std.specs.Prelude.{◌≡◌, ◌+◌, ◌-◌, ◌≤◌, [], length, Some, IsTrue, IfSome, IfOk, IsOk, MatchResult};
+ghost use Rattle.std.specs.Prelude.{
+  ◌≡◌,
+  ◌+◌,
+  ◌-◌,
+  ◌≤◌,
+  [],
+  length,
+  Some,
+  IsTrue,
+  IfSome,
+  IfOk,
+  IsOk,
+  MatchResult,
+};
 ghost use Rattle.std.specs.Borrow.{sem};
 ghost use Rattle.std.specs.Io.{StartsWith};
 ghost use Rattle.std.specs.Io.BufRead.{Rests, FillKeeps, DropsConsumable};
@@ -141,7 +154,8 @@ impl<R: BufRead> Source for IoReader<R> {
         ensures* after_borrow { sem 𝓛 (Rests (the_row R.row) self.entry (λ new.
             let before = stream_view R.Read.remaining R.BufRead.consumable_len self.old in
             let after = stream_view R.Read.remaining R.BufRead.consumable_len new in
-            MatchResult result (λ shown. Shows shown.now before after) (λ _. Breaks before after))) }
+            MatchResult result (λ shown. Shows shown.now before after)
+            (λ _. Breaks before after))) }
     {
         let most = u64::MAX - self.tally.taken;
         if most == 0 {
@@ -183,12 +197,11 @@ impl<'de, R: BufRead> Read<'de> for IoReader<R> {
             (IsFront want (bytes_of shown))) }
         ensures bounded { IfOk result (λ shown. length (bytes_of shown)
             ≤ (stream_view R.Read.remaining R.BufRead.consumable_len self.old).bound) }
-        ensures enough { IsTrue (stream_view R.Read.remaining R.BufRead.consumable_len self.old).lends_whole
-            → IfOk result (λ shown. Told
-            (stream_view R.Read.remaining R.BufRead.consumable_len self.old).told
-            (IsEnough want (bytes_of shown))) }
-        ensures long { IsTrue (stream_view R.Read.remaining R.BufRead.consumable_len self.old).lends_whole
-            → IfOk result IsLong }
+        ensures enough { let before = stream_view R.Read.remaining R.BufRead.consumable_len self.old in
+            IsTrue before.lends_whole →
+            IfOk result (λ shown. Told before.told (IsEnough want (bytes_of shown))) }
+        ensures long { let before = stream_view R.Read.remaining R.BufRead.consumable_len self.old in
+            IsTrue before.lends_whole → IfOk result IsLong }
         ensures short { IfOk result (λ shown. ¬ IsLong shown) }
         ensures ended { (stream_view R.Read.remaining R.BufRead.consumable_len self.old).bound ≡ 0
             → IsOk result }
@@ -207,20 +220,26 @@ impl<'de, R: BufRead> Read<'de> for IoReader<R> {
 
 /// Shows all that the stream shows, and counts it.
 fn show_all<'s, R: BufRead>(reader: &'s mut IoReader<R>) -> io::Result<&'s [u8]>
-    ensures front { IfSome (R.Read.remaining reader.old.inner) (λ left. IfOk result (λ shown. StartsWith left shown.now)) }
-    ensures end { IfSome (R.Read.remaining reader.old.inner) (λ left. IfOk result (λ shown. length shown.now ≡ 0 → left ≡ [])) }
+    ensures front { IfSome (R.Read.remaining reader.old.inner)
+        (λ left. IfOk result (λ shown. StartsWith left shown.now)) }
+    ensures end { IfSome (R.Read.remaining reader.old.inner)
+        (λ left. IfOk result (λ shown. length shown.now ≡ 0 → left ≡ [])) }
     ensures* after_borrow { sem 𝓛 (Rests (the_row R.row) reader.entry (λ new.
-        FillKeeps (R.Read.remaining reader.old.inner) (R.Read.remaining new.inner) (R.consumable_len new.inner) result
+        FillKeeps (R.Read.remaining reader.old.inner) (R.Read.remaining new.inner)
+        (R.consumable_len new.inner) result
         × TallyMoves reader.old.tally new.tally result)) }
 {
     show_inner(&mut reader.inner, &mut reader.tally)
 }
 
 fn show_inner<'s, R: BufRead>(inner: &'s mut R, tally: &mut Tally) -> io::Result<&'s [u8]>
-    ensures front { IfSome (R.Read.remaining inner.old) (λ left. IfOk result (λ shown. StartsWith left shown.now)) }
-    ensures end { IfSome (R.Read.remaining inner.old) (λ left. IfOk result (λ shown. length shown.now ≡ 0 → left ≡ [])) }
+    ensures front { IfSome (R.Read.remaining inner.old)
+        (λ left. IfOk result (λ shown. StartsWith left shown.now)) }
+    ensures end { IfSome (R.Read.remaining inner.old)
+        (λ left. IfOk result (λ shown. length shown.now ≡ 0 → left ≡ [])) }
     ensures* after_borrow { sem 𝓛 (Rests R.row inner.entry (λ new.
-        FillKeeps (R.Read.remaining inner.old) (R.Read.remaining new) (R.consumable_len new) result)) }
+        FillKeeps (R.Read.remaining inner.old) (R.Read.remaining new)
+        (R.consumable_len new) result)) }
     ensures counted { TallyMoves tally.old tally.new result }
 {
     match inner.fill_buf() {

@@ -118,8 +118,8 @@ pub trait Read<'de>: Source {
             (λ shown. Told (Self.view self.old).told (IsFront want (bytes_of shown))) }
         ensures bounded { IfOk result
             (λ shown. length (bytes_of shown) ≤ (Self.view self.old).bound) }
-        ensures enough { IsTrue (Self.view self.old).lends_whole →
-            IfOk result (λ shown. Told (Self.view self.old).told (IsEnough want (bytes_of shown))) }
+        ensures enough { IsTrue (Self.view self.old).lends_whole → IfOk result
+            (λ shown. Told (Self.view self.old).told (IsEnough want (bytes_of shown))) }
         ensures long { IsTrue (Self.view self.old).lends_whole → IfOk result IsLong }
         ensures* after_borrow { sem 𝓛 (Rests Self.row self.entry (λ new. MatchResult result
             (λ shown. Shows (bytes_of shown) (Self.view self.old) (Self.view new))

@@ -1,5 +1,16 @@
 //! A reader over borrowed segments.
-ghost use Rattle.std.specs.Prelude.{◌≡◌, ◌≤◌, min, [], Some, length, nat_lt, IsTrue, IfOk, MatchResult};
+ghost use Rattle.std.specs.Prelude.{
+  ◌≡◌,
+  ◌≤◌,
+  min,
+  [],
+  Some,
+  length,
+  nat_lt,
+  IsTrue,
+  IfOk,
+  MatchResult,
+};
 ghost use Rattle.std.proofs.Common.{rules};
 ghost use Rattle.std.specs.Borrow.{sem};
 ghost use Rattle.std.specs.Io.BufRead.{Rests};
@@ -8,7 +19,14 @@ ghost use Rattle.cbor4ii_rw.specs.contracts.segment_reader.SegmentReader.{the_ro
 ghost use Rattle.cbor4ii_rw.specs.View.{Told};
 ghost use Rattle.cbor4ii_rw.specs.Reader.{IsFront, IsEnough, Shows, Breaks};
 ghost use Rattle.cbor4ii_rw.specs.Reference.{bytes_of, IsLong};
-ghost use Rattle.cbor4ii_rw.specs.Segments.{joined, full_count, rest_of, full_of, shown_segment, segment_view};
+ghost use Rattle.cbor4ii_rw.specs.Segments.{
+  joined,
+  full_count,
+  rest_of,
+  full_of,
+  shown_segment,
+  segment_view,
+};
 
 use crate::error::Never;
 use crate::read::{Read, Reference, Source};
@@ -79,7 +97,8 @@ impl Source for SegmentReader<'_> {
             IfOk result (λ shown. Told (segment_view self.old).told (IsEnough want shown.now)) }
         ensures segment { IfOk result
             (λ shown. length shown.now ≡ min want (length (shown_segment self.old))) }
-        ensures* after_borrow { sem 𝓛 (Rests (the_row (record { mir = named 1; lft = [] })) self.entry
+        ensures* after_borrow { sem 𝓛 (Rests
+            (the_row (record { mir = named 1; lft = [] })) self.entry
             (λ new. MatchResult result
             (λ shown. Shows shown.now (segment_view self.old) (segment_view new))
             (λ _. Breaks (segment_view self.old) (segment_view new)))) }
@@ -108,13 +127,15 @@ impl<'de> Read<'de> for SegmentReader<'de> {
     fn fill<'short>(&'short mut self, want: usize) -> Result<Reference<'de, 'short>, Never>
         ensures front { IfOk result
             (λ shown. Told (segment_view self.old).told (IsFront want (bytes_of shown))) }
-        ensures bounded { IfOk result (λ shown. length (bytes_of shown) ≤ (segment_view self.old).bound) }
-        ensures enough { IsTrue (segment_view self.old).lends_whole →
-            IfOk result (λ shown. Told (segment_view self.old).told (IsEnough want (bytes_of shown))) }
+        ensures bounded { IfOk result
+            (λ shown. length (bytes_of shown) ≤ (segment_view self.old).bound) }
+        ensures enough { IsTrue (segment_view self.old).lends_whole → IfOk result
+            (λ shown. Told (segment_view self.old).told (IsEnough want (bytes_of shown))) }
         ensures long { IfOk result IsLong }
         ensures segment { IfOk result
             (λ shown. length (bytes_of shown) ≡ min want (length (shown_segment self.old))) }
-        ensures* after_borrow { sem 𝓛 (Rests (the_row (record { mir = named 1; lft = [] })) self.entry
+        ensures* after_borrow { sem 𝓛 (Rests
+            (the_row (record { mir = named 1; lft = [] })) self.entry
             (λ new. MatchResult result
             (λ shown. Shows (bytes_of shown) (segment_view self.old) (segment_view new))
             (λ _. Breaks (segment_view self.old) (segment_view new)))) }

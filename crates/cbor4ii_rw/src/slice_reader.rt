@@ -61,7 +61,8 @@ impl Source for SliceReader<'_> {
         ensures enough { IsTrue (slice_view self.old).lends_whole →
             IfOk result (λ shown. Told (slice_view self.old).told (IsEnough want shown.now)) }
         ensures wanted { IfOk result (λ shown. length shown.now ≤ want) }
-        ensures* after_borrow { sem 𝓛 (Rests (the_row (record { mir = named 1; lft = [] })) self.entry
+        ensures* after_borrow { sem 𝓛 (Rests
+            (the_row (record { mir = named 1; lft = [] })) self.entry
             (λ new. MatchResult result
             (λ shown. Shows shown.now (slice_view self.old) (slice_view new))
             (λ _. Breaks (slice_view self.old) (slice_view new)))) }
@@ -89,12 +90,14 @@ impl<'de> Read<'de> for SliceReader<'de> {
     fn fill<'short>(&'short mut self, want: usize) -> Result<Reference<'de, 'short>, Never>
         ensures front { IfOk result
             (λ shown. Told (slice_view self.old).told (IsFront want (bytes_of shown))) }
-        ensures bounded { IfOk result (λ shown. length (bytes_of shown) ≤ (slice_view self.old).bound) }
-        ensures enough { IsTrue (slice_view self.old).lends_whole →
-            IfOk result (λ shown. Told (slice_view self.old).told (IsEnough want (bytes_of shown))) }
+        ensures bounded { IfOk result
+            (λ shown. length (bytes_of shown) ≤ (slice_view self.old).bound) }
+        ensures enough { IsTrue (slice_view self.old).lends_whole → IfOk result
+            (λ shown. Told (slice_view self.old).told (IsEnough want (bytes_of shown))) }
         ensures long { IsTrue (slice_view self.old).lends_whole → IfOk result IsLong }
         ensures wanted { IfOk result (λ shown. length (bytes_of shown) ≤ want) }
-        ensures* after_borrow { sem 𝓛 (Rests (the_row (record { mir = named 1; lft = [] })) self.entry
+        ensures* after_borrow { sem 𝓛 (Rests
+            (the_row (record { mir = named 1; lft = [] })) self.entry
             (λ new. MatchResult result
             (λ shown. Shows (bytes_of shown) (slice_view self.old) (slice_view new))
             (λ _. Breaks (slice_view self.old) (slice_view new)))) }
