@@ -140,20 +140,20 @@ impl<R: BufRead> IoReader<R> {
 impl<R: BufRead> Source for IoReader<R> {
     type Error = io::Error;
 
-    ghost view = { stream_view R.Read.remaining R.BufRead.consumable_len };
+    ghost view = { stream_view R.Read.remaining R.consumable_len };
 
     // The clauses of the trait, and that it does not fail once as many bytes as can be were taken.
     fn show(&mut self, want: usize) -> Result<&[u8], io::Error>
         ensures front { IfOk result (λ shown. Told
-            (stream_view R.Read.remaining R.BufRead.consumable_len self.old).told
+            (stream_view R.Read.remaining R.consumable_len self.old).told
             (IsFront want shown.now)) }
         ensures bounded { IfOk result (λ shown. length shown.now
-            ≤ (stream_view R.Read.remaining R.BufRead.consumable_len self.old).bound) }
-        ensures ended { (stream_view R.Read.remaining R.BufRead.consumable_len self.old).bound ≡ 0
+            ≤ (stream_view R.Read.remaining R.consumable_len self.old).bound) }
+        ensures ended { (stream_view R.Read.remaining R.consumable_len self.old).bound ≡ 0
             → IsOk result }
         ensures* after_borrow { sem 𝓛 (Rests (the_row R.row) self.entry (λ new.
-            let before = stream_view R.Read.remaining R.BufRead.consumable_len self.old in
-            let after = stream_view R.Read.remaining R.BufRead.consumable_len new in
+            let before = stream_view R.Read.remaining R.consumable_len self.old in
+            let after = stream_view R.Read.remaining R.consumable_len new in
             MatchResult result (λ shown. Shows shown.now before after)
             (λ _. Breaks before after))) }
     {
@@ -186,28 +186,28 @@ impl<R: BufRead> Source for IoReader<R> {
     }
 
     ghost told_within_bound = { λ reader. cut_within (most_bytes - reader.tally.taken)
-        (stream_left R.Read.remaining R.BufRead.consumable_len reader) };
+        (stream_left R.Read.remaining R.consumable_len reader) };
 }
 
 impl<'de, R: BufRead> Read<'de> for IoReader<R> {
     // The clauses of the trait, those of `show`, and that it lends nothing for good.
     fn fill<'short>(&'short mut self, want: usize) -> Result<Reference<'de, 'short>, io::Error>
         ensures front { IfOk result (λ shown. Told
-            (stream_view R.Read.remaining R.BufRead.consumable_len self.old).told
+            (stream_view R.Read.remaining R.consumable_len self.old).told
             (IsFront want (bytes_of shown))) }
         ensures bounded { IfOk result (λ shown. length (bytes_of shown)
-            ≤ (stream_view R.Read.remaining R.BufRead.consumable_len self.old).bound) }
-        ensures enough { let before = stream_view R.Read.remaining R.BufRead.consumable_len self.old in
+            ≤ (stream_view R.Read.remaining R.consumable_len self.old).bound) }
+        ensures enough { let before = stream_view R.Read.remaining R.consumable_len self.old in
             IsTrue before.lends_whole →
             IfOk result (λ shown. Told before.told (IsEnough want (bytes_of shown))) }
-        ensures long { let before = stream_view R.Read.remaining R.BufRead.consumable_len self.old in
+        ensures long { let before = stream_view R.Read.remaining R.consumable_len self.old in
             IsTrue before.lends_whole → IfOk result IsLong }
         ensures short { IfOk result (λ shown. ¬ IsLong shown) }
-        ensures ended { (stream_view R.Read.remaining R.BufRead.consumable_len self.old).bound ≡ 0
+        ensures ended { (stream_view R.Read.remaining R.consumable_len self.old).bound ≡ 0
             → IsOk result }
         ensures* after_borrow { sem 𝓛 (Rests (the_row R.row) self.entry (λ new.
-            let before = stream_view R.Read.remaining R.BufRead.consumable_len self.old in
-            let after = stream_view R.Read.remaining R.BufRead.consumable_len new in
+            let before = stream_view R.Read.remaining R.consumable_len self.old in
+            let after = stream_view R.Read.remaining R.consumable_len new in
             MatchResult result (λ shown. Shows (bytes_of shown) before after)
             (λ _. Breaks before after))) }
     {
