@@ -2,7 +2,8 @@
 //!
 //! `Source::show` and `Read::fill` lend, and their error may be of any type, so a caller that is
 //! generic over the reader would learn nothing of the reader afterwards. Here the error goes
-//! through a reference of its own, and the caller learns all that the reader keeps.
+//! through a reference of its own, and the caller learns all that the reader keeps. Which error it
+//! is, no clause says.
 ghost use Rattle.std.specs.Prelude.{
   ◌≡◌,
   ◌≤◌,
@@ -70,7 +71,11 @@ pub fn lend<'de, 's, R: Read<'de>>(
     part(reader.fill(want), failure)
 }
 
-/// The next byte, which is taken; none at the end.
+/// The next byte, which is taken; none at the end, where nothing is taken.
+///
+/// # Errors
+///
+/// Why the reader failed, as `Source::show` tells it. Nothing is taken then.
 pub fn next_byte<S: Source>(reader: &mut S) -> Result<Option<u8>, S::Error>
     ensures byte { IfOk result
         (λ next. IfSome next (λ byte. Takes (byte ∷ []) (S.view reader.old) (S.view reader.new))) }

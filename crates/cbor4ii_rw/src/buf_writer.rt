@@ -20,7 +20,8 @@ ghost use Rattle.cbor4ii_rw.specs.Written.{buffer_output, buffer_capacity};
 use crate::error::TryReserveError;
 use crate::write::Write;
 
-/// A writer into a vector. It is whole: a push for which there is no memory appends nothing.
+/// A writer into a vector. It is whole: a push for which there is no memory appends nothing. A
+/// push for which the vector has room never fails.
 #[derive(Debug, Drop)]
 pub struct BufWriter {
     bytes: Vec<u8>,
@@ -52,7 +53,8 @@ impl BufWriter {
         self.bytes
     }
 
-    /// Forgets what it holds, and keeps its memory and its count of failures.
+    /// Forgets what it holds, and keeps its memory and its count of failures. As many bytes can
+    /// then be pushed without a failure as the vector has room for.
     pub fn clear(&mut self)
         ensures written { (buffer_output self.new).written ≡ Some [] }
         ensures failures { (buffer_output self.new).failures ≡ (buffer_output self.old).failures }

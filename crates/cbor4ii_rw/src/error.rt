@@ -46,76 +46,66 @@ pub enum ArithmeticOverflow {
     Underflow,
 }
 
-/// Why a value was not read. `name` says of what: of a type, or of a part of its encoding.
+/// Why a value was not read. `name` says what was read: a type, or a part of its encoding.
 #[derive(Clone, Debug, PartialEq, Eq, Drop)]
 pub enum DecodeError<E> {
     /// The reader failed.
     Read(E),
-    /// The byte `found` begins something else.
+    /// Something else begins here.
     Mismatch {
-        /// What was read.
         name: StaticStr,
-        /// The byte, or the number of a tag.
+        /// Its first byte; where `name` is "u128::tag" or "i128::tag", the number of the tag.
         found: u8,
     },
     /// The byte `found` begins nothing that is read.
     Unsupported {
-        /// What was read.
         name: StaticStr,
         /// The byte.
         found: u8,
     },
     /// The input ends too early.
     Eof {
-        /// What was read.
         name: StaticStr,
-        /// How many bytes were expected, or how many are missing.
+        /// Of a string's content, how many bytes are missing. Of all else, how many were asked
+        /// for, with those that are there.
         expect: Len,
     },
     /// The length is not one that is read.
     RequireLength {
-        /// What was read.
         name: StaticStr,
         /// The length.
         found: Len,
     },
     /// The reader does not lend the bytes as long as the input lives.
     RequireBorrowed {
-        /// What was read.
         name: StaticStr,
     },
     /// A text is not UTF-8.
     RequireUtf8 {
-        /// What was read.
         name: StaticStr,
     },
     /// The length is too great.
     LengthOverflow {
-        /// What was read.
         name: StaticStr,
         /// The length.
         found: Len,
     },
     /// The number does not fit its type.
     CastOverflow {
-        /// What was read.
         name: StaticStr,
     },
     /// A computation left its range. This codec never answers it.
     ArithmeticOverflow {
-        /// What was read.
         name: StaticStr,
         /// How.
         ty: ArithmeticOverflow,
     },
-    /// No step of the reader's budget is left for an item that nests.
+    /// No step of the reader's budget is left for what comes next.
     DepthOverflow {
-        /// What was read.
         name: StaticStr,
     },
     /// For decoders of a user's own. This codec never answers it.
     Custom {
-        /// What was read.
         name: StaticStr,
         /// Whatever the user means by it.
         num: u32,

@@ -45,10 +45,13 @@ struct Tally {
     steps: usize,
 }
 
-/// A reader over a stream. It shows whatever the stream has ready, always `Short`, and its
-/// errors are the stream's. It takes at most 2^64-1 bytes, and then answers as at the end.
+/// A reader over a stream. It shows whatever the stream has ready, always `Short`, and hands on
+/// the stream's errors; how much is ready, and which error it is, no clause says. It takes at most
+/// 2^64-1 bytes, and then answers as at the end.
 ///
-/// What was advanced leaves the stream at the next look, and when the reader is dropped.
+/// What was advanced leaves the stream at the next look, in `into_inner`, and when the reader is
+/// dropped. An error changes none of that: the bytes that are left stay known, so that to look
+/// again, or to take the stream back, loses no byte and repeats none.
 #[derive(Debug)]
 pub struct IoReader<R: BufRead> {
     // In this order: the proof of `show_all` takes the struct apart.
@@ -100,19 +103,22 @@ impl<R: BufRead> IoReader<R> {
         }
     }
 
-    /// The stream, which has lost exactly the bytes that were taken.
+    /// The stream, which has lost exactly the bytes that were taken, after an error too.
     pub fn into_inner(self) -> R
         ensures stream { Keeps (stream_left R.Read.remaining R.consumable_len self)
             (R.Read.remaining result) }
         ensures told { let view = stream_view R.Read.remaining R.consumable_len self in
             Keeps view.told (cut_known view.bound (R.Read.remaining result)) }
     {
-        let IoReader { mut inner, tally } = self;
-        inner.consume(tally.used);
+        let IoReader {
+            mut inner,
+            tally: Tally { used, .. },
+        } = self;
+        inner.consume(used);
         inner
     }
 
-    /// How many bytes were taken. As many more may be taken as 2^64-1 is greater.
+    /// How many bytes were taken. 2^64-1 less this many may still be taken.
     pub fn taken(&self) -> u64
         ensures taken { (stream_view R.Read.remaining R.consumable_len self.now).taken
             ≡ Some result }

@@ -32,8 +32,11 @@ impl<W: io::Write> IoWriter<W> {
         }
     }
 
-    /// Flushes the stream, which holds what it held before. An error is counted as a failure, and
-    /// then the writer is flushed only if it was before.
+    /// Flushes the stream, which holds what it held before.
+    ///
+    /// # Errors
+    ///
+    /// Why the stream failed, which is counted. The writer is flushed then only if it was before.
     pub fn flush(&mut self) -> Result<(), io::Error>
         ensures keeps { Keeps (stream_output W.contents self.old).written
             (stream_output W.contents self.new).written }

@@ -75,8 +75,12 @@ pub trait Source {
     ghost view: { Self → View };
 
     /// Shows a front of what is left, perhaps shorter or longer than `want`, and takes nothing.
-    /// It is empty only at the end, or where `want` is 0. An error is counted as a failure, and
-    /// then the bytes that are left may be known no more.
+    /// It is empty only at the end, or where `want` is 0. What is shown may be advanced.
+    ///
+    /// # Errors
+    ///
+    /// Why the reader failed, which it counts. Nothing is taken then either. The bytes that are
+    /// left stay known where the reader remembers them, and may be known no more otherwise.
     fn show(&mut self, want: usize) -> Result<&[u8], Self::Error>
         ensures front { IfOk result (λ shown. Told (view self.old).told (IsFront want shown.now)) }
         ensures bounded { IfOk result (λ shown. length shown.now ≤ (view self.old).bound) }
@@ -111,8 +115,12 @@ pub trait Source {
 ///
 /// Code that is generic over readers calls `ask::lend` in the place of `fill`.
 pub trait Read<'de>: Source {
-    /// As `show`, and says whether the front lives as long as the input. A reader that lends
-    /// whole answers `Long`, with at least `want` bytes or all that are left.
+    /// Shows a front as `show` does, and says whether it lives as long as the input. A reader
+    /// that lends whole answers `Long`, with at least `want` bytes or all that are left.
+    ///
+    /// # Errors
+    ///
+    /// Why the reader failed; what is left then is told at `show`.
     fn fill<'short>(&'short mut self, want: usize) -> Result<Reference<'de, 'short>, Self::Error>
         ensures front { IfOk result
             (λ shown. Told (Self.view self.old).told (IsFront want (bytes_of shown))) }

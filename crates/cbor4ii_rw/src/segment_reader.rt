@@ -32,9 +32,9 @@ use crate::error::Never;
 use crate::read::{Read, Reference, Source};
 use crate::steps;
 
-/// A reader over borrowed segments, one after another, empty ones among them. It never fails,
-/// and shows at most what is wanted of one segment. With at most one segment left that has
-/// bytes, it lends whole.
+/// A reader over borrowed segments, one after another, empty ones among them. It never fails, and
+/// shows what is wanted of the first segment that has bytes, or all of it, always `Long`. With at
+/// most one segment left that has bytes, it lends whole.
 #[derive(Clone, Debug, Drop)]
 pub struct SegmentReader<'de> {
     current: &'de [u8],

@@ -20,8 +20,12 @@ pub trait Write {
     fn is_whole() -> bool
         ensures { result ≡ whole };
 
-    /// Appends `input`. An error is counted as a failure; a whole writer then holds what it held
-    /// before, and of another one nothing is said.
+    /// Appends `input`.
+    ///
+    /// # Errors
+    ///
+    /// Why the writer failed, which it counts. A whole writer then holds what it held before, and
+    /// of another one nothing is said.
     fn push(&mut self, input: &[u8]) -> Result<(), Self::Error>
         ensures appends { OnOk result
             (Appends input.now (view self.old).written (view self.new).written) }
