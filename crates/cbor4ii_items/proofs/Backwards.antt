@@ -68,10 +68,10 @@ head_back major wide v h rest =
     let s : IsShortest v (shortest v) wide = shortest_by (ltb v 24) (ltb v 256) (ltb v (256 ^ 2)) (ltb v (256 ^ 4)) v wide refl refl refl refl h in
     record { wide = shortest v; allowed = s.least; fits = s.fits; rest = rest; is = refl; count = ap suc (length-bytes_high_first (byte_count (shortest v)) v) }
 
-pub argument_back : (major : ℕ) (wide : Width) (v : ℕ) → v < 256 ^ byte_count wide → ReadsBack (ReadsArgument major (byte_count wide)) (shortest_head major v) v
+pub argument_back : (major : ℕ) (wide : Width) (v : ℕ) → v < 256 ^ byte_count wide → ReadsBack (ReadsArgument major (byte_count wide)) (shortest_head major v) v 0
 argument_back major wide v h rest = (head_back major wide v h rest, refl)
 
-pub signed_back : (wide : Width) (limit : ℕ) (v : ℤ) → limit ≤ 256 ^ byte_count wide → IsWithin limit v → ReadsBack (ReadsSigned (byte_count wide) limit) (signed_head v) v
+pub signed_back : (wide : Width) (limit : ℕ) (v : ℤ) → limit ≤ 256 ^ byte_count wide → IsWithin limit v → ReadsBack (ReadsSigned (byte_count wide) limit) (signed_head v) v 0
 signed_back wide limit (pos k) le h rest = (head_back 0 wide k (omega (arith, le, h)) rest, h, refl)
 signed_back wide limit (negsuc k) le h rest = (head_back 1 wide k (omega (arith, le, h)) rest, h, refl)
 
@@ -150,14 +150,14 @@ integer_back : (t : Bool) (major tag v : ℕ) → ltb v (2 ^ 64) ≡ t → tag <
 integer_back true major tag v e small fits rest = inl (head_back major eight v (ltb-true v (2 ^ 64) e) rest)
 integer_back false major tag v e small fits rest = inr (bignum_back tag v small fits rest)
 
-pub u128_back : (v : ℕ) → v < 2 ^ 128 → ReadsBack ReadsU128 (unsigned_bytes v) v
+pub u128_back : (v : ℕ) → v < 2 ^ 128 → ReadsBack ReadsU128 (unsigned_bytes v) v 0
 u128_back v h rest = (integer_back (ltb v (2 ^ 64)) 0 2 v refl (omega arith) h rest, refl)
 
 in_range : {A B : Type 0} (k : ℕ) → k < 2 ^ 127 → A ⊎ B → A ⊎ (B × (k < 2 ^ 127))
 in_range k h (inl a) = inl a
 in_range k h (inr b) = inr (b, h)
 
-pub i128_back : (v : ℤ) → IsWithin (2 ^ 127) v → ReadsBack ReadsI128 (signed_bytes v) v
+pub i128_back : (v : ℤ) → IsWithin (2 ^ 127) v → ReadsBack ReadsI128 (signed_bytes v) v 0
 i128_back (pos k) h rest = (in_range k h (integer_back (ltb k (2 ^ 64)) 0 2 k refl (omega arith) (omega (arith, h)) rest), refl)
 i128_back (negsuc k) h rest = (in_range k h (integer_back (ltb k (2 ^ 64)) 1 3 k refl (omega arith) (omega (arith, h)) rest), refl)
 

@@ -32,5 +32,6 @@ pub mod ToldCow
 pub mod CowRows
 pub mod SequenceParts
 pub mod SequenceAnswers
+pub mod LeavesBack
 pub mod PartsBack
 pub mod Pairs

@@ -1,46 +1,124 @@
--- Lengths, and items behind a head, are read back from what is written.
-use Rattle.std.proofs.Common.{◌≡◌, ℕ, ◌<◌, ◌^◌, List, ◌++◌, length, drop, Some, None, refl, sym, ap, ◌∙◌, subst, arith, append_assoc, length-append}
+-- Lengths, items behind a head, and sequences are read back from what is written.
+use Rattle.std.proofs.Common.{◌≡◌, ℕ, ◌+◌, ◌<◌, ◌^◌, List, [], ◌∷◌, ◌++◌, length, drop, Bool, Some, None, inl, refl, sym, ap, ◌∙◌, subst, arith, append_assoc, length-append}
+use Rattle.std.specs.Prelude.{All}
+use Rattle.std.proofs.lemmas.List.Elements.{All-head, All-tail}
 use Rattle.std.proofs.Math.Seq.{drop-append_seam}
+use Rattle.cbor4ii_items.specs.Decoding.{Reads}
 use Rattle.cbor4ii_items.specs.Head.{eight}
 use Rattle.cbor4ii_items.specs.Heads.{ReadsHead}
 use Rattle.cbor4ii_items.specs.Lengths.{ReadsLength}
 use Rattle.cbor4ii_items.specs.Maybe.{ReadsMaybe}
+use Rattle.cbor4ii_items.specs.Containers.{ReadsTag}
 use Rattle.cbor4ii_items.specs.Numbers.{shortest_head}
-use Rattle.cbor4ii_items.specs.ReadBack.{ReadsBack, TagReadsBack}
+use Rattle.cbor4ii_items.specs.ReadBack.{ReadsBack, greatest_cost, pair_cost}
+use Rattle.cbor4ii_items.specs.SequenceBytes.{items_bytes, pair_bytes}
+use Rattle.cbor4ii_items.specs.Sequences.{ReadsParts, ReadsCounted, ReadsSequence, ReadsPair}
 use Rattle.cbor4ii_items.specs.Strings.{opening}
 use Rattle.cbor4ii_items.proofs.Backwards.{head_back}
 
-pub length_back : (major len : ℕ) → len < 2 ^ 64 → ReadsBack (ReadsLength major) (shortest_head major len) (Some len)
+pub length_back : (major len : ℕ) → len < 2 ^ 64 → ReadsBack (ReadsLength major) (shortest_head major len) (Some len) 0
 length_back major len h rest = (head_back major eight len h rest, refl)
 
-pub open_back : (major : ℕ) → ReadsBack (ReadsLength major) (opening major) None
+pub open_back : (major : ℕ) → ReadsBack (ReadsLength major) (opening major) None 0
 open_back major rest = (refl, refl, refl)
 
--- a head of eight bytes of argument at most, and an item behind it
-record HeadAndItem {V : Type 0} (reads : List ℕ → V → ℕ → ℕ → Type 0) (major k : ℕ) (bytes rest : List ℕ) (v : V) : Type 0 where
-  head : ReadsHead major 8 ((shortest_head major k ++ bytes) ++ rest) k (length (shortest_head major k))
-  item : reads (drop (length (shortest_head major k)) ((shortest_head major k ++ bytes) ++ rest)) v (length bytes) 0
+-- bytes behind a front, and others behind them
+record Behind (front bytes rest : List ℕ) : Type 0 where
+  whole : (front ++ bytes) ++ rest ≡ front ++ (bytes ++ rest)
+  left : drop (length front) ((front ++ bytes) ++ rest) ≡ bytes ++ rest
 
-behind : {V : Type 0} (reads : List ℕ → V → ℕ → ℕ → Type 0) (major k : ℕ) (bytes rest : List ℕ) (v : V) → k < 2 ^ 64 → ReadsBack reads bytes v → HeadAndItem reads major k bytes rest v
-behind reads major k bytes rest v h back =
+behind : (front bytes rest : List ℕ) → Behind front bytes rest
+behind front bytes rest =
+    let e = append_assoc front bytes rest in
+    record { whole = e; left = ap (drop (length front)) e ∙ drop-append_seam front (bytes ++ rest) }
+
+-- a head of eight bytes of argument at most, whatever stands behind it
+headed : (major k : ℕ) (bytes rest : List ℕ) → k < 2 ^ 64
+    → ReadsHead major 8 ((shortest_head major k ++ bytes) ++ rest) k (length (shortest_head major k))
+headed major k bytes rest h =
     let start = shortest_head major k in
-    let whole : (start ++ bytes) ++ rest ≡ start ++ (bytes ++ rest) = append_assoc start bytes rest in
-    let left : drop (length start) ((start ++ bytes) ++ rest) ≡ bytes ++ rest = ap (drop (length start)) whole ∙ drop-append_seam start (bytes ++ rest) in
-    record {
-      head = subst (λ zs. ReadsHead major 8 zs k (length start)) (sym whole) (head_back major eight k h (bytes ++ rest));
-      item = subst (λ zs. reads zs v (length bytes) 0) (sym left) (back rest);
-    }
+    subst (λ zs. ReadsHead major 8 zs k (length start)) (sym (behind start bytes rest).whole) (head_back major eight k h (bytes ++ rest))
 
-module _ {V : Type 0} (reads : List ℕ → V → ℕ → ℕ → Type 0) (bytes : List ℕ) (v : V) where
-  pub tag_back : (number : ℕ) → number < 2 ^ 64 → ReadsBack reads bytes v → TagReadsBack reads (shortest_head 6 number ++ bytes) number v
-  tag_back number h back rest =
-      let p = behind reads 6 number bytes rest v h back in
-      record { before = length (shortest_head 6 number); head = p.head; count = length bytes; item = p.item; bytes = length-append (shortest_head 6 number) bytes }
+-- what is read back, behind a front
+item_behind : {V : Type 0} (reads : Reads V) (front bytes : List ℕ) (v : V) (cost : ℕ) → ReadsBack reads bytes v cost
+    → (rest : List ℕ) → reads (drop (length front) ((front ++ bytes) ++ rest)) v (length bytes) cost
+item_behind reads front bytes v cost back rest =
+    subst (λ zs. reads zs v (length bytes) cost) (sym (behind front bytes rest).left) (back rest)
 
-  pub some_back : ReadsBack reads bytes v → ReadsBack (ReadsMaybe reads) (shortest_head 4 1 ++ bytes) (Some v)
-  some_back back rest =
-      let p = behind reads 4 1 bytes rest v (omega arith) back in
-      record { before = length (shortest_head 4 1); head = p.head; count = length bytes; item = p.item; bytes = length-append (shortest_head 4 1) bytes }
+-- ---- items behind a head
 
-pub none_back : {V : Type 0} (reads : List ℕ → V → ℕ → ℕ → Type 0) → ReadsBack (ReadsMaybe reads) (shortest_head 4 0) None
+module _ {V : Type 0} (reads : Reads V) (bytes : List ℕ) (v : V) (cost : ℕ) (back : ReadsBack reads bytes v cost) where
+  pub tag_back : (number : ℕ) → number < 2 ^ 64 → (rest : List ℕ)
+      → let tagged = shortest_head 6 number ++ bytes in ReadsTag reads (tagged ++ rest) number v (length tagged) cost
+  tag_back number h rest =
+      let start = shortest_head 6 number in
+      record {
+        before = length start;
+        head = headed 6 number bytes rest h;
+        count = length bytes;
+        item = item_behind reads start bytes v cost back rest;
+        bytes = length-append start bytes;
+      }
+
+  pub some_back : ReadsBack (ReadsMaybe reads) (shortest_head 4 1 ++ bytes) (Some v) cost
+  some_back rest =
+      let start = shortest_head 4 1 in
+      record {
+        before = length start;
+        head = headed 4 1 bytes rest (omega arith);
+        count = length bytes;
+        item = item_behind reads start bytes v cost back rest;
+        bytes = length-append start bytes;
+      }
+
+pub none_back : {V : Type 0} (reads : Reads V) → ReadsBack (ReadsMaybe reads) (shortest_head 4 0) None 0
 none_back reads rest = (head_back 4 eight 0 (omega arith) rest, refl)
+
+-- ---- sequences
+
+module _ {P : Type 0} (reads : Reads P) (bytes : P → List ℕ) (cost : P → ℕ) where
+  parts_back : (ps : List P) → All (λ p. ReadsBack reads (bytes p) p (cost p)) ps → (rest : List ℕ)
+      → ReadsParts reads (items_bytes bytes ps ++ rest) ps (length (items_bytes bytes ps)) (greatest_cost cost ps)
+  parts_back [] back rest = (refl, refl)
+  parts_back (p ∷ ps) back rest =
+      let P : P → Type 0 = λ q. ReadsBack reads (bytes q) q (cost q) in
+      let others = items_bytes bytes ps in
+      let n = length (bytes p) in
+      let b = behind (bytes p) others rest in
+      let tail = parts_back ps (All-tail P p ps back) rest in (
+        n,
+        cost p,
+        length others,
+        greatest_cost cost ps,
+        subst (λ zs. reads zs p n (cost p)) (sym b.whole) (All-head P p ps back (others ++ rest)),
+        subst (λ zs. ReadsParts reads zs ps (length others) (greatest_cost cost ps)) (sym b.left) tail,
+        length-append (bytes p) others,
+        refl,
+      )
+
+  pub sequence_back : (major : ℕ) (never_empty : Bool) (ps : List P) → length ps < 2 ^ 64
+      → All (λ p. ReadsBack reads (bytes p) p (cost p)) ps
+      → ReadsBack (ReadsSequence major reads never_empty) (shortest_head major (length ps) ++ items_bytes bytes ps) ps (1 + greatest_cost cost ps)
+  sequence_back major never_empty ps h back rest =
+      let start = shortest_head major (length ps) in
+      let inside = items_bytes bytes ps in
+      let parts = subst (λ zs. ReadsParts reads zs ps (length inside) (greatest_cost cost ps)) (sym (behind start inside rest).left) (parts_back ps back rest) in
+      let counted : ReadsCounted major reads ((start ++ inside) ++ rest) ps (length (start ++ inside)) (greatest_cost cost ps) = record { before = length start; head = headed major (length ps) inside rest h; between = length inside; parts = parts; size = length-append start inside } in
+      (greatest_cost cost ps, inl counted, refl)
+
+pub pair_back : {K V : Type 0} (key_reads : Reads K) (value_reads : Reads V) (key_bytes : K → List ℕ) (value_bytes : V → List ℕ) (key_cost : K → ℕ) (value_cost : V → ℕ) (p : K × V)
+    → ReadsBack key_reads (key_bytes p.0) p.0 (key_cost p.0) → ReadsBack value_reads (value_bytes p.1) p.1 (value_cost p.1)
+    → ReadsBack (ReadsPair key_reads value_reads) (pair_bytes key_bytes value_bytes p) p (pair_cost key_cost value_cost p)
+pair_back key_reads value_reads key_bytes value_bytes key_cost value_cost p key value rest =
+    let first = key_bytes p.0 in
+    let second = value_bytes p.1 in
+    record {
+      key_size = length first;
+      key_cost = key_cost p.0;
+      key = subst (λ zs. key_reads zs p.0 (length first) (key_cost p.0)) (sym (behind first second rest).whole) (key (second ++ rest));
+      value_size = length second;
+      value_cost = value_cost p.1;
+      value = item_behind value_reads first second p.1 (value_cost p.1) value rest;
+      size = length-append first second;
+      cost = refl;
+    }

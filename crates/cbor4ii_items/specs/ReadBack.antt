@@ -1,15 +1,22 @@
 -- What is written is read back, and no spelling begins another.
-use Rattle.std.specs.Prelude.{◌≡◌, ℕ, List, [], ◌++◌, length}
-use Rattle.cbor4ii_items.specs.Containers.{ReadsTag}
+use Rattle.std.specs.Prelude.{◌≡◌, ℕ, List, [], ◌∷◌, ◌++◌, length, max}
+use Rattle.cbor4ii_items.specs.Decoding.{Reads}
 
--- these bytes, followed by anything, are read as the value without a step
-abbrev pub ReadsBack : {V : Type 0} → (List ℕ → V → ℕ → ℕ → Type 0) → List ℕ → V → Type 0
-ReadsBack reads bytes v = (rest : List ℕ) → reads (bytes ++ rest) v (length bytes) 0
+-- these bytes, followed by anything, are read as the value, at this cost
+abbrev pub ReadsBack : {V : Type 0} → Reads V → List ℕ → V → ℕ → Type 0
+ReadsBack reads bytes v cost = (rest : List ℕ) → reads (bytes ++ rest) v (length bytes) cost
 
--- these bytes, followed by anything, are read as the tag's number and the item without a step
-abbrev pub TagReadsBack : {V : Type 0} → (List ℕ → V → ℕ → ℕ → Type 0) → List ℕ → ℕ → V → Type 0
-TagReadsBack reads bytes number v = (rest : List ℕ) → ReadsTag reads (bytes ++ rest) number v (length bytes) 0
+-- the greatest cost of one part, and 0 where there is none
+abbrev pub greatest_cost : {P : Type 0} → (P → ℕ) → List P → ℕ
+greatest_cost cost [] = 0
+greatest_cost cost (p ∷ ps) = max (cost p) (greatest_cost cost ps)
+
+-- the greater cost of a key and its value
+abbrev pub pair_cost : {K V : Type 0} → (K → ℕ) → (V → ℕ) → K × V → ℕ
+pair_cost key value p = max (key p.0) (value p.1)
 
 -- bytes that are read whole do not begin longer bytes that are
-abbrev pub NoneBeginsAnother : {V : Type 0} → (List ℕ → V → ℕ → ℕ → Type 0) → Type 0
-NoneBeginsAnother {V} reads = (xs more : List ℕ) (v w : V) (c d : ℕ) → reads xs v (length xs) c → reads (xs ++ more) w (length (xs ++ more)) d → more ≡ []
+abbrev pub NoneBeginsAnother : {V : Type 0} → Reads V → Type 0
+NoneBeginsAnother {V} reads =
+    (xs more : List ℕ) (v w : V) (c d : ℕ) → reads xs v (length xs) c
+    → reads (xs ++ more) w (length (xs ++ more)) d → more ≡ []

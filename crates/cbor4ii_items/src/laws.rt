@@ -1,5 +1,38 @@
 //! Laws of what is read and written, each the contract of a function that does nothing.
-ghost use Rattle.std.specs.Prelude.{◌<◌, ◌≤◌, ◌^◌, ◌++◌, ℕ, ℤ, Some, None, IsTrue};
+ghost use Rattle.std.specs.Prelude.{
+  ◌≡◌,
+  ◌+◌,
+  ◌<◌,
+  ◌≤◌,
+  ◌^◌,
+  ◌++◌,
+  ℕ,
+  ℤ,
+  List,
+  Bool,
+  Some,
+  None,
+  All,
+  length,
+  IsTrue,
+  IsUtf8,
+};
+ghost use Rattle.std.specs.Borrow.{Bor};
+ghost use Rattle.std.specs.declared.alloc.Global.{Global};
+ghost use Rattle.std.specs.declared.boxed.Box.{Box};
+ghost use Rattle.std.specs.declared.string.String.{String};
+ghost use Rattle.std.specs.declared.vec.Vec.{Vec};
+ghost use Rattle.cbor4ii_items.specs.declared.types.Bytes.{Bytes};
+ghost use Rattle.cbor4ii_items.specs.declared.types.F16.{F16};
+ghost use Rattle.cbor4ii_items.specs.declared.types.F32.{F32};
+ghost use Rattle.cbor4ii_items.specs.declared.types.F64.{F64};
+ghost use Rattle.cbor4ii_items.specs.declared.types.Map.{Map};
+ghost use Rattle.cbor4ii_items.specs.declared.types.Nothing.{Nothing};
+ghost use Rattle.cbor4ii_items.specs.declared.types.Null.{Null};
+ghost use Rattle.cbor4ii_items.specs.declared.types.Simple.{Simple};
+ghost use Rattle.cbor4ii_items.specs.declared.types.Tag.{Tag};
+ghost use Rattle.cbor4ii_items.specs.declared.types.UncheckedStr.{UncheckedStr};
+ghost use Rattle.cbor4ii_items.specs.declared.types.Undefined.{Undefined};
 ghost use Rattle.cbor4ii_items.specs.Head.{Width, HeadFits, byte_count, shortest};
 ghost use Rattle.cbor4ii_items.specs.Lengths.{ReadsLength};
 ghost use Rattle.cbor4ii_items.specs.Maybe.{ReadsMaybe, maybe_bytes};
@@ -14,11 +47,26 @@ ghost use Rattle.cbor4ii_items.specs.Numbers.{
   unsigned_bytes,
   signed_bytes,
 };
-ghost use Rattle.cbor4ii_items.specs.ReadBack.{ReadsBack, TagReadsBack, NoneBeginsAnother};
-ghost use Rattle.cbor4ii_items.specs.Strings.{opening};
+ghost use Rattle.cbor4ii_items.specs.ReadBack.{
+  ReadsBack,
+  NoneBeginsAnother,
+  greatest_cost,
+  pair_cost,
+};
+ghost use Rattle.cbor4ii_items.specs.SequenceBytes.{map_bytes};
+ghost use Rattle.cbor4ii_items.specs.Strings.{
+  ReadsAs,
+  ReadsTextAs,
+  counted_string,
+  opening,
+  text_content,
+};
 
 use crate::decode::{Decode, Spelled};
 use crate::encode::Encode;
+use crate::types::{
+    Bytes, F16, F32, F64, Map, Nothing, Null, Simple, Tag, UncheckedStr, Undefined,
+};
 use cbor4ii_rw::read::Source;
 
 /// The shortest width fits its argument wherever any does, and has no more bytes than any that
@@ -32,30 +80,97 @@ pub fn shortest_is_least()
 /// Every integer is read from its own encoding, whatever follows it, and without a step.
 pub fn integers_are_read_back()
     ensures heads { (major : ℕ) (wide : Width) (v : ℕ) → v < 256 ^ byte_count wide →
-        ReadsBack (ReadsArgument major (byte_count wide)) (shortest_head major v) v }
+        ReadsBack (ReadsArgument major (byte_count wide)) (shortest_head major v) v 0 }
     ensures signed { (wide : Width) (limit : ℕ) (v : ℤ) → limit ≤ 256 ^ byte_count wide →
-        IsWithin limit v → ReadsBack (ReadsSigned (byte_count wide) limit) (signed_head v) v }
-    ensures unsigned_of_sixteen { (v : ℕ) → v < 2 ^ 128 → ReadsBack ReadsU128 (unsigned_bytes v) v }
+        IsWithin limit v → ReadsBack (ReadsSigned (byte_count wide) limit) (signed_head v) v 0 }
+    ensures unsigned_of_sixteen { (v : ℕ) → v < 2 ^ 128 →
+        ReadsBack ReadsU128 (unsigned_bytes v) v 0 }
     ensures signed_of_sixteen { (v : ℤ) → IsWithin (2 ^ 127) v →
-        ReadsBack ReadsI128 (signed_bytes v) v }
+        ReadsBack ReadsI128 (signed_bytes v) v 0 }
+{}
+
+/// A string is read from its own encoding, whatever follows it, and without a step. What is read
+/// as a value of another type that has the same content, as owned or as borrowed or owned, is read
+/// alike.
+pub fn strings_are_read_back<V>()
+    ensures bytes { (v : Bytes (Bor (List ℕ))) → length v.0.now < 2 ^ 64 →
+        ReadsBack ⟦<Bytes<&'static [u8]> as Spelled>⟧.reads
+        (⟦<Bytes<&'static [u8]> as Encode>⟧.bytes v) v 0 }
+    ensures unchecked { (v : UncheckedStr (Bor (List ℕ))) → length v.0.now < 2 ^ 64 →
+        ReadsBack ⟦<UncheckedStr<&'static [u8]> as Spelled>⟧.reads
+        (⟦<UncheckedStr<&'static [u8]> as Encode>⟧.bytes v) v 0 }
+    ensures text { (v : Bor (List ℕ)) → length v.now < 2 ^ 64 → IsUtf8 v.now →
+        ReadsBack ⟦<&'static str as Spelled>⟧.reads (⟦<&'static str as Encode>⟧.bytes v) v 0 }
+    ensures owned_text { (v : String Global) → length (text_content v) < 2 ^ 64 →
+        IsUtf8 (text_content v) →
+        ReadsBack ⟦<String as Spelled>⟧.reads (⟦<String as Encode>⟧.bytes v) v 0 }
+    ensures content { (major : ℕ) (content : V → List ℕ) (v : V) → length (content v) < 2 ^ 64 →
+        ReadsBack (ReadsAs major content) (counted_string major (content v)) v 0 }
+    ensures utf8_content { (content : V → List ℕ) (v : V) → length (content v) < 2 ^ 64 →
+        IsUtf8 (content v) →
+        ReadsBack (ReadsTextAs content) (counted_string 3 (content v)) v 0 }
+{}
+
+/// A simple value, a float, and nothing at all are read from their own encoding, whatever follows
+/// it, and without a step. Null and undefined are read as no item.
+pub fn simple_values_are_read_back<T: Spelled>()
+    ensures simple { (v : Simple) → v.0 < 256 →
+        ReadsBack ⟦<Simple as Spelled>⟧.reads (⟦<Simple as Encode>⟧.bytes v) v 0 }
+    ensures bool { (v : Bool) →
+        ReadsBack ⟦<bool as Spelled>⟧.reads (⟦<bool as Encode>⟧.bytes v) v 0 }
+    ensures null { (v : Null) →
+        ReadsBack ⟦<Option<T> as Spelled>⟧.reads (⟦<Null as Encode>⟧.bytes v) None 0 }
+    ensures undefined { (v : Undefined) →
+        ReadsBack ⟦<Option<T> as Spelled>⟧.reads (⟦<Undefined as Encode>⟧.bytes v) None 0 }
+    ensures f16 { (v : F16) → v.0 < 2 ^ 16 →
+        ReadsBack ⟦<F16 as Spelled>⟧.reads (⟦<F16 as Encode>⟧.bytes v) v 0 }
+    ensures f32 { (v : F32) → v.0 < 2 ^ 32 →
+        ReadsBack ⟦<F32 as Spelled>⟧.reads (⟦<F32 as Encode>⟧.bytes v) v 0 }
+    ensures f64 { (v : F64) → v.0 < 2 ^ 64 →
+        ReadsBack ⟦<F64 as Spelled>⟧.reads (⟦<F64 as Encode>⟧.bytes v) v 0 }
+    ensures nothing { (v : Nothing) →
+        ReadsBack ⟦<Nothing as Spelled>⟧.reads (⟦<Nothing as Encode>⟧.bytes v) v 0 }
 {}
 
 /// The length of an array or a map is read from its own encoding, whatever follows it.
 pub fn lengths_are_read_back()
     ensures counted { (major : ℕ) (len : ℕ) → len < 2 ^ 64 →
-        ReadsBack (ReadsLength major) (shortest_head major len) (Some len) }
-    ensures open { (major : ℕ) → ReadsBack (ReadsLength major) (opening major) None }
+        ReadsBack (ReadsLength major) (shortest_head major len) (Some len) 0 }
+    ensures open { (major : ℕ) → ReadsBack (ReadsLength major) (opening major) None 0 }
 {}
 
-/// A tagged item, and an optional item as an array, are read from their own encoding wherever the
-/// item is, whatever follows it, and without a step.
+/// A tagged item, an optional item as an array, and an item in a box are read from their own
+/// encoding wherever the item is, whatever follows it, and at the item's cost.
 pub fn parts_are_read_back<T: Spelled + Encode>()
-    ensures tagged { (number : ℕ) (item : T) → number < 2 ^ 64 →
-        ReadsBack T.reads (T.bytes item) item →
-        TagReadsBack T.reads (shortest_head 6 number ++ T.bytes item) number item }
-    ensures none { ReadsBack (ReadsMaybe T.reads) (maybe_bytes T.bytes None) None }
-    ensures some { (item : T) → ReadsBack T.reads (T.bytes item) item →
-        ReadsBack (ReadsMaybe T.reads) (maybe_bytes T.bytes (Some item)) (Some item) }
+    ensures tagged { (v : Tag T) (cost : ℕ) → v.0 < 2 ^ 64 →
+        ReadsBack T.reads (T.bytes v.1) v.1 cost →
+        ReadsBack ⟦<Tag<T> as Spelled>⟧.reads (⟦<Tag<T> as Encode>⟧.bytes v) v cost }
+    ensures none { ReadsBack (ReadsMaybe T.reads) (maybe_bytes T.bytes None) None 0 }
+    ensures some { (item : T) (cost : ℕ) → ReadsBack T.reads (T.bytes item) item cost →
+        ReadsBack (ReadsMaybe T.reads) (maybe_bytes T.bytes (Some item)) (Some item) cost }
+    ensures boxed { (v : Box T Global) (cost : ℕ) →
+        ReadsBack T.reads (T.bytes v.value) v.value cost →
+        ReadsBack ⟦<Box<T> as Spelled>⟧.reads (⟦<Box<T> as Encode>⟧.bytes v) v cost }
+{}
+
+/// An array is read from its own encoding wherever each item is, whatever follows it: at one step
+/// and the greatest cost of an item.
+pub fn arrays_are_read_back<T: Spelled + Encode>()
+    ensures { (v : Vec T Global) (cost : T → ℕ) → length v.items < 2 ^ 64 →
+        All (λ item. ReadsBack T.reads (T.bytes item) item (cost item)) v.items →
+        ReadsBack ⟦<Vec<T> as Spelled>⟧.reads (⟦<Vec<T> as Encode>⟧.bytes v) v
+        (1 + greatest_cost cost v.items) }
+{}
+
+/// A map is read from its own encoding wherever each key and value is, whatever follows it: at
+/// one step and the greatest cost of a key or a value.
+pub fn maps_are_read_back<K: Spelled + Encode, V: Spelled + Encode>()
+    ensures { (v : Map (Vec (K × V) Global)) (key_cost : K → ℕ) (value_cost : V → ℕ) →
+        length v.0.items < 2 ^ 64 →
+        All (λ p. ReadsBack K.reads (K.bytes p.0) p.0 (key_cost p.0)) v.0.items →
+        All (λ p. ReadsBack V.reads (V.bytes p.1) p.1 (value_cost p.1)) v.0.items →
+        ReadsBack ⟦<Map<Vec<(K, V)>> as Spelled>⟧.reads (map_bytes K.bytes V.bytes v.0.items) v
+        (1 + greatest_cost (pair_cost key_cost value_cost) v.0.items) }
 {}
 
 /// No spelling of a type begins another, where what follows a spelling says nothing of it.
