@@ -35,3 +35,4 @@ pub mod SequenceAnswers
 pub mod LeavesBack
 pub mod PartsBack
 pub mod Pairs
+pub mod NextByte

@@ -36,6 +36,7 @@ pub mod Maybe
 pub mod MaybeLaws
 pub mod Sequences
 pub mod SequenceLaws
+pub mod Next
 pub mod ReadBack
 pub mod Marked
 pub mod Simple

@@ -1,7 +1,18 @@
-//! The ends of indefinite lengths (RFC 8949 section 3.2.1).
-ghost use Rattle.std.specs.Prelude.{◌≡◌, IfOk, IfErr, false};
+//! The ends of indefinite lengths, and of arrays and maps (RFC 8949 sections 3.2.1 and 3.2.2).
+ghost use Rattle.std.specs.Prelude.{
+  ◌≡◌,
+  IfOk,
+  IfErr,
+  IfSome,
+  IsSome,
+  OnErr,
+  Ok,
+  false,
+  nat_lt,
+};
 ghost use Rattle.cbor4ii_items.specs.Decoding.{Sound, Refuses, Stops};
 ghost use Rattle.cbor4ii_items.specs.Moves.{Moves};
+ghost use Rattle.cbor4ii_items.specs.Next.{ReadsFollows, left_then};
 ghost use Rattle.cbor4ii_items.specs.Reading.{Runs};
 ghost use Rattle.cbor4ii_items.specs.ReadStrings.{break_at};
 ghost use Rattle.cbor4ii_items.specs.Refusal.{is_out_of_memory};
@@ -25,6 +36,49 @@ pub fn is_break<S: Source>(reader: &mut S) -> Result<bool, DecodeError<S::Error>
         (Stops StopsBreak (S.view reader.old) (S.view reader.new)) }
 {
     at_break(reader)
+}
+
+/// Whether another part of an array or a map follows: `len` is what is left of its length, at
+/// first what `Array::len` or `Map::len` answered.
+///
+/// Where the parts are counted it counts down and asks nothing of the reader. Where the length is
+/// indefinite it takes a break, and `len` is then a count of 0, so that false stays the answer;
+/// before another byte it takes nothing and answers true.
+///
+/// # Errors
+///
+/// Only at an indefinite length, which then stays: `Read` where the reader failed, and `Eof` by the
+/// name "break" with 1 where no byte is left. The budget stays.
+pub fn follows<S: Source>(
+    reader: &mut S,
+    len: &mut Option<usize>,
+) -> Result<bool, DecodeError<S::Error>>
+    ensures moves { Moves (S.view reader.old) (S.view reader.new) result }
+    ensures memory { IfErr result (λ error. is_out_of_memory error ≡ false) }
+    ensures counted { IfSome len.old (λ left. result ≡ Ok (nat_lt 0 left)) }
+    ensures unasked { IsSome len.old → S.view reader.new ≡ S.view reader.old }
+    ensures sound { IfOk result
+        (Sound (ReadsFollows len.old) (S.view reader.old) (S.view reader.new)) }
+    ensures left { IfOk result (λ more. len.new ≡ left_then len.old more) }
+    ensures kept { OnErr result (len.new ≡ len.old) }
+    ensures complete { IfErr result (Refuses (ReadsFollows len.old) (S.view reader.old)) }
+    ensures stops { IfErr result
+        (Stops StopsBreak (S.view reader.old) (S.view reader.new)) }
+{
+    match *len {
+        Some(0) => Ok(false),
+        Some(left) => {
+            *len = Some(left - 1);
+            Ok(true)
+        }
+        None => {
+            if is_break(reader)? {
+                *len = Some(0);
+                return Ok(false);
+            }
+            Ok(true)
+        }
+    }
 }
 
 /// As `is_break`, by what a program does.

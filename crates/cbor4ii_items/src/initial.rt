@@ -1,5 +1,33 @@
 //! The first byte of a head, and its two parts (RFC 8949 section 3).
-ghost use Rattle.std.specs.Prelude.{◌≡◌, ◌+◌, ◌*◌, ◌/◌, ◌%◌};
+ghost use Rattle.std.specs.Prelude.{◌≡◌, ◌+◌, ◌*◌, ◌/◌, ◌%◌, ◌≤◌, OnOk, IfOk, IfErr, false};
+ghost use Rattle.cbor4ii_items.specs.Decoding.{Sound, Refuses, Stops};
+ghost use Rattle.cbor4ii_items.specs.Moves.{Moves};
+ghost use Rattle.cbor4ii_items.specs.Next.{ReadsNext, StopsNext};
+ghost use Rattle.cbor4ii_items.specs.Refusal.{is_out_of_memory};
+
+use crate::head;
+use cbor4ii_rw::error::{DecodeError, StaticStr};
+use cbor4ii_rw::read::Source;
+
+/// The next byte, which stays: with what an item begins, where it stands before one. The reader
+/// may then be advanced over it.
+///
+/// # Errors
+///
+/// `Read` where the reader failed, and `Eof` by this name with 1 where no byte is left. The budget
+/// stays.
+#[inline(always)]
+pub fn peek<S: Source>(reader: &mut S, name: StaticStr) -> Result<u8, DecodeError<S::Error>>
+    ensures moves { Moves (S.view reader.old) (S.view reader.new) result }
+    ensures memory { IfErr result (λ error. is_out_of_memory error ≡ false) }
+    ensures can { OnOk result (1 ≤ (S.view reader.new).advanceable) }
+    ensures sound { IfOk result (Sound ReadsNext (S.view reader.old) (S.view reader.new)) }
+    ensures complete { IfErr result (Refuses ReadsNext (S.view reader.old)) }
+    ensures stops { IfErr result
+        (Stops (StopsNext name.now) (S.view reader.old) (S.view reader.new)) }
+{
+    head::peek(reader, name, 1)
+}
 
 /// The major type that a head's first byte says: its high three bits, as a number below 8.
 pub fn if_major(byte: u8) -> u8

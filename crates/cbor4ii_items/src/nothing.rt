@@ -8,6 +8,7 @@ ghost use Rattle.cbor4ii_items.specs.Nothing.{
   nothing_positive,
   nothing_alone,
 };
+ghost use Rattle.cbor4ii_items.specs.Writing.{WritesWhole};
 
 use crate::decode::{Decode, Spelled};
 use crate::encode::Encode;
@@ -61,7 +62,9 @@ impl<S: Source> Decode<S> for Nothing {
 impl Encode for Nothing {
     ghost bytes = { λ _. [] };
 
-    fn encode<W: Write>(&self, writer: &mut W) -> Result<(), EncodeError<W::Error>> {
+    fn encode<W: Write>(&self, writer: &mut W) -> Result<(), EncodeError<W::Error>>
+        ensures { WritesWhole W.whole [] (W.view writer.old) (W.view writer.new) result }
+    {
         Ok(())
     }
 }

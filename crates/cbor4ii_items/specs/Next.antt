@@ -1,0 +1,30 @@
+-- The next byte, which stays, and whether another part of an array or a map follows (RFC 8949 sections 3 and 3.2.2).
+use Rattle.std.specs.Prelude.{◌≡◌, ℕ, ◌-◌, List, [], ◌∷◌, take, Bool, true, false, not, Option, Some, None, nat_lt}
+use Rattle.cbor4ii_rw.specs.declared.error.Len.TheVariants.{Small}
+use Rattle.cbor4ii_items.specs.Decoding.{Reads, StopsAt}
+use Rattle.cbor4ii_items.specs.Refusal.{eof}
+use Rattle.cbor4ii_items.specs.Strings.{ReadsBreak}
+
+-- ---- the next byte
+
+-- the first byte, and none is taken
+abbrev pub ReadsNext : Reads ℕ
+ReadsNext xs b n c = (take 1 xs ≡ b ∷ []) × (n ≡ 0) × (c ≡ 0)
+
+-- there is no byte
+abbrev pub StopsNext : List ℕ → StopsAt
+StopsNext name xs budget refusal rest = (xs ≡ []) × (refusal ≡ eof name (Small 1)) × (rest ≡ [])
+
+-- ---- whether a part follows
+
+-- Whether a part follows, by what is left of the length. Where parts are counted, one follows while some are left, and no
+-- byte is taken. Else a break is taken, and another byte begins a part and stays.
+abbrev pub ReadsFollows : Option ℕ → Reads Bool
+ReadsFollows (Some left) xs more n c = (more ≡ nat_lt 0 left) × (n ≡ 0) × (c ≡ 0)
+ReadsFollows None xs more n c = ReadsBreak xs (not more) n c
+
+-- what is left of the length then: one part fewer, and none behind a break
+abbrev pub left_then : Option ℕ → Bool → Option ℕ
+left_then (Some left) more = Some (left - 1)
+left_then None true = None
+left_then None false = Some 0
