@@ -7,8 +7,9 @@ use Rattle.cbor4ii_items.specs.Decoding.{Sound, Refuses}
 use Rattle.cbor4ii_items.specs.ReadHead.{head_at}
 use Rattle.cbor4ii_items.specs.HeadLaws.{read_head}
 use Rattle.cbor4ii_items.specs.Numbers.{ReadsNegative, ReadsArgument, StopsArgument}
-use Rattle.cbor4ii_items.specs.Laws.{argument_again}
-use Rattle.cbor4ii_items.proofs.Leaves.{IsLeaf, refuses_as}
+use Rattle.cbor4ii_items.specs.Laws.Arguments.{argument_again}
+use Rattle.cbor4ii_items.specs.Laws.Answering.{refuses_as}
+use Rattle.cbor4ii_items.proofs.Leaves.{IsLeaf}
 use Rattle.cbor4ii_items.proofs.Stopping.{head_stops}
 
 pub argument_leaf : (name : List ℕ) (major width : ℕ) → major < 8 → IsLeaf (head_at name major width) (ReadsArgument major width) (StopsArgument name major width)

@@ -9,7 +9,7 @@ use Rattle.cbor4ii_rw.specs.declared.error.DecodeError.{DecodeError}
 use Rattle.cbor4ii_items.specs.Reading.{Runs, peek_at, ◌>=>◌}
 use Rattle.cbor4ii_items.specs.ReadHead.{head_at, length_at, number_on}
 use Rattle.cbor4ii_items.specs.ReadNumber.{magnitude_by, magnitude_at, u128_tagged, u128_by, u128_at, i128_tagged, i128_by, i128_at, as_positive, as_negative}
-use Rattle.cbor4ii_items.proofs.Running.{runs_as, runs_then, runs_with}
+use Rattle.cbor4ii_items.specs.Laws.Running.{runs_as, runs_then, runs_with}
 use Rattle.cbor4ii_items.proofs.SignedRuns.{first_major, runs_where}
 
 short_by : (name : List ℕ) (count : ℕ) → count ≤ 16 → magnitude_by name (Some count) ≡ number_on name count count 0

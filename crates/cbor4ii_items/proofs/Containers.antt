@@ -15,8 +15,8 @@ use Rattle.cbor4ii_items.specs.Numbers.{ReadsArgument, StopsArgument}
 use Rattle.cbor4ii_items.specs.Containers.{BeginsNull, ReadsOption, StopsOption, ReadsTag, StopsTag}
 use Rattle.cbor4ii_items.specs.Outcome.{same_refusal}
 use Rattle.cbor4ii_items.specs.Fronts.{drop_more}
-use Rattle.cbor4ii_items.proofs.Running.{peeked}
-use Rattle.cbor4ii_items.proofs.Leaves.{fits_zero}
+use Rattle.cbor4ii_items.specs.Laws.Running.{peeked}
+use Rattle.cbor4ii_items.specs.Laws.Answering.{fits_zero}
 
 -- what is exact stays so, where the bytes are told
 pub exact_kept : (owned : Bool) (a b : View) (xs : List ℕ) → a.told ≡ Some xs → Kept a b → IsExact owned a → IsExact owned b

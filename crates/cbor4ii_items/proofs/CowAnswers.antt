@@ -16,7 +16,7 @@ use Rattle.cbor4ii_items.specs.StringLaws.{length_open}
 use Rattle.cbor4ii_items.specs.Strings.{ReadsString, StopsString, StopsText}
 use Rattle.cbor4ii_items.specs.Lent.{Lends, Stays}
 use Rattle.cbor4ii_items.specs.Cow.{ReadsEither, StopsEither, Takes, BorrowsWhereCounted, IsBorrowedWhereWhole}
-use Rattle.cbor4ii_items.proofs.Steps.{moves_then}
+use Rattle.cbor4ii_items.specs.Laws.Steps.{moves_then}
 use Rattle.cbor4ii_items.proofs.OpenStrings.{string_known}
 use Rattle.cbor4ii_items.proofs.StringAnswers.{content_sound, content_refuses, content_stops, as_sound, as_refuses, text_sound, text_refuses, text_stops, utf8_refuses, utf8_stops}
 

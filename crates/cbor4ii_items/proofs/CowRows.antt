@@ -9,7 +9,7 @@ use Rattle.std.specs.contracts.impls.GlobalAllocator.TheImpl.{ghosts}
 use Rattle.std.proofs.alloc.Global.TheLaws as GlobalLaws
 use Rattle.std.specs.contracts.borrow.CowSlice as CowSlice
 use Rattle.std.proofs.borrow.CowSlice.TheLaws as CowSliceLaws
-use Rattle.cbor4ii_items.proofs.Forward.{byte_laws}
+use Rattle.cbor4ii_items.specs.Laws.Forward.{byte_laws}
 
 abbrev pub slice_row : Lft → RattleType
 slice_row κ = CowSlice.the_row (record { mir = erased; lft = κ }) u8 Global.the_row ghosts

@@ -1,5 +1,5 @@
 -- A call that does what a program does reads what the program reads.
-use Rattle.std.proofs.Common.{◌≡◌, ℕ, ◌≤◌, List, length, drop, take, Option, Some, None, Result, Ok, Err, sym, ap, ◌∙◌, subst, arith, IfSome, IfOk, IfErr}
+use Rattle.std.proofs.Common.{◌≡◌, ℕ, ◌≤◌, List, length, drop, take, Option, Some, None, Result, Ok, Err, sym, ap, ◌∙◌, subst, IfSome, IfOk, IfErr}
 use Rattle.std.specs.Prelude.{MatchBool}
 use Rattle.cbor4ii_rw.specs.View.{View}
 use Rattle.cbor4ii_rw.specs.declared.error.DecodeError.{DecodeError}
@@ -8,15 +8,9 @@ use Rattle.cbor4ii_items.specs.Head.{IsBytes}
 use Rattle.cbor4ii_items.specs.Refusal.{Refusal, refusal_of, is_read}
 use Rattle.cbor4ii_items.specs.Moves.{Kept, Broke}
 use Rattle.cbor4ii_items.specs.Reading.{Reading, Runs}
-use Rattle.cbor4ii_items.specs.Decoding.{CostFits, Sound, NoneRead, Refuses, Stops}
-use Rattle.cbor4ii_items.specs.Laws.{ReadBy}
-
-pub fits_zero : (budget : Option ℕ) → CostFits 0 budget
-fits_zero None = tt
-fits_zero (Some n) = omega arith
-
-pub same_some : {A : Type 0} (x y : A) (o : Option A) → o ≡ Some x → o ≡ Some y → x ≡ y
-same_some x y o p q = cc
+use Rattle.cbor4ii_items.specs.Decoding.{Sound, NoneRead, Refuses, Stops}
+use Rattle.cbor4ii_items.specs.Laws.Answering.{fits_zero, same_some}
+use Rattle.cbor4ii_items.specs.Laws.Arguments.{ReadBy}
 
 -- The program reads what the relation says, and refuses what the other relation says. The bytes that it takes are bytes.
 pub record IsLeaf {V : Type 0} (program : Reading V) (reads : List ℕ → V → ℕ → ℕ → Type 0) (stops : List ℕ → Option ℕ → Refusal → List ℕ → Type 0) : Type 0 where
@@ -76,13 +70,6 @@ module _ {V E : Type 0} {program : Reading V} {reads : List ℕ → V → ℕ �
   leaf_stops p = elim r as (λ t. Runs program a b t → IfErr t (Stops stops a b)) [ Ok v ↦ (λ q. tt) | Err e ↦ (λ q. record { at = λ xs told. stopped program stops (refusal_of e) xs a b told (leaf.refuses xs a.budget) (spoken e a b q.moves.by) (q.answers xs told) }) ] p
 
 -- ---- one type as another
-
-no_more : (o : Option Refusal) {P Q : Type 0} → (P → Q) → IfSome o (λ z. P) → IfSome o (λ z. Q)
-no_more None f h = tt
-no_more (Some z) f h = f h
-
-pub refuses_as : {U V E : Type 0} {e : DecodeError E} {a : View} (f : List ℕ → U → ℕ → ℕ → Type 0) (g : List ℕ → V → ℕ → ℕ → Type 0) → ((xs : List ℕ) (budget : Option ℕ) → NoneRead f xs budget → NoneRead g xs budget) → Refuses f a e → Refuses g a e
-refuses_as {e = e} {a = a} f g none p = record { at = λ xs told. no_more (refusal_of e) (none xs a.budget) (p.at xs told) }
 
 pub sound_as : {U V : Type 0} (reads : List ℕ → U → ℕ → ℕ → Type 0) (part : V → U) {u : U} {v : V} {a b : View} → part v ≡ u → Sound reads a b u → Sound (λ xs v. reads xs (part v)) a b v
 sound_as reads part e s = record {

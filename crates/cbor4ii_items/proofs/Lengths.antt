@@ -10,7 +10,7 @@ use Rattle.cbor4ii_items.specs.HeadLaws.{read_head, head_read}
 use Rattle.cbor4ii_items.specs.ProgramEnds.{length_some, length_none}
 use Rattle.cbor4ii_items.specs.StringLaws.{length_known, length_open}
 use Rattle.cbor4ii_items.specs.Lengths.{ReadsLength, StopsLength}
-use Rattle.cbor4ii_items.specs.Laws.{ReadBy}
+use Rattle.cbor4ii_items.specs.Laws.Arguments.{ReadBy}
 use Rattle.cbor4ii_items.proofs.Leaves.{IsLeaf}
 use Rattle.cbor4ii_items.proofs.StringsRead.{no_length}
 

@@ -16,11 +16,12 @@ use Rattle.cbor4ii_items.specs.ReadHead.{length_at}
 use Rattle.cbor4ii_items.specs.ProgramEnds.{go_inverse, go_refused, length_some, length_none}
 use Rattle.cbor4ii_items.specs.StringLaws.{length_known}
 use Rattle.cbor4ii_items.specs.Fronts.{drop_more}
-use Rattle.cbor4ii_items.specs.Laws.{ReadBy}
+use Rattle.cbor4ii_items.specs.Laws.Arguments.{ReadBy}
 use Rattle.cbor4ii_items.specs.Maybe.{ReadsFew, ReadsMaybe, StopsFew, few_head_refused, few_open, few_other, StopsMaybe, maybe_head_refused, maybe_item_refused, few_by, few_at}
 use Rattle.cbor4ii_items.specs.MaybeLaws.{two_counts}
 use Rattle.cbor4ii_items.proofs.Containers.{if_some}
-use Rattle.cbor4ii_items.proofs.Leaves.{IsLeaf, fits_zero, refuses_as}
+use Rattle.cbor4ii_items.specs.Laws.Answering.{fits_zero, refuses_as}
+use Rattle.cbor4ii_items.proofs.Leaves.{IsLeaf}
 use Rattle.cbor4ii_items.proofs.StringsRead.{no_length}
 
 -- ---- the head

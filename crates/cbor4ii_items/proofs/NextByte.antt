@@ -10,10 +10,9 @@ use Rattle.cbor4ii_items.specs.Outcome.{same_refusal}
 use Rattle.cbor4ii_items.specs.Reading.{peek_at, Runs}
 use Rattle.cbor4ii_items.specs.Refusal.{Refusal, eof}
 use Rattle.cbor4ii_items.specs.Strings.{ReadsBreak}
-use Rattle.cbor4ii_items.proofs.Following.{follows_run}
-use Rattle.cbor4ii_items.proofs.Leaves.{fits_zero, refuses_as}
-use Rattle.cbor4ii_items.proofs.Running.{peeked}
-use Rattle.cbor4ii_items.proofs.StringAnswers.{refuses_by, stops_by}
+use Rattle.cbor4ii_items.specs.Laws.Following.{follows_run}
+use Rattle.cbor4ii_items.specs.Laws.Answering.{fits_zero, refuses_as, refuses_by, stops_by}
+use Rattle.cbor4ii_items.specs.Laws.Running.{peeked}
 
 -- ---- the next byte
 

@@ -1,67 +1,16 @@
 -- Steps, chunks and strings.
-use Rattle.std.proofs.Common.{◌≡◌, ℕ, zero, suc, ◌+◌, ◌-◌, ◌<◌, ◌^◌, List, [], Option, None, Some, Result, Ok, Err, Bool, true, false, IsTrue, refl, sym, ap, ◌∙◌, subst, arith, ltb, lt-ltb}
-use Rattle.std.specs.Prelude.{MatchBool}
+use Rattle.std.proofs.Common.{◌≡◌, ℕ, zero, suc, ◌-◌, List, [], Option, None, Some, Result, Ok, Err, Bool, true, false, refl, sym, ap, ◌∙◌, subst, arith}
 use Rattle.cbor4ii_rw.specs.View.{View}
-use Rattle.cbor4ii_rw.specs.Reader.{Failed, KeepsAllButBudget, StepsIn, step_back, counts}
+use Rattle.cbor4ii_rw.specs.Reader.{KeepsAllButBudget, StepsIn, step_back}
 use Rattle.cbor4ii_rw.specs.declared.error.DecodeError.{DecodeError}
-use Rattle.cbor4ii_items.specs.Moves.{Kept, Broke, is_failure}
-use Rattle.cbor4ii_items.specs.Reading.{Reading, ◌>=>◌, AnswersAs, Runs, Reaches}
+use Rattle.cbor4ii_items.specs.Reading.{Reading, ◌>=>◌, Runs, Reaches}
 use Rattle.cbor4ii_items.specs.ReadHead.{length_at}
 use Rattle.cbor4ii_items.specs.ReadStrings.{content_on, break_at, chunk_by, chunk_inside, chunk_at, chunks_at, string_by, string_at}
 use Rattle.cbor4ii_items.specs.ChunkLaws.{chunks_by, chunks_more}
 use Rattle.cbor4ii_items.specs.Following.{Follows}
-use Rattle.cbor4ii_items.proofs.Running.{runs_give, reaches_start, reaches_as, reaches_then}
-use Rattle.cbor4ii_items.proofs.Following.{follows_run, follows_as, follows_then, follows_run_err, follows_err, follows_end, reaches_follow}
-
--- ---- a call under one step
-
-again : (left : ℕ) → 0 < left → left < 2 ^ 64 → step_back (Some (left - 1)) ≡ Some left
-again left some most =
-    let t : ltb (left - 1) (2 ^ 64 - 1) ≡ true = lt-ltb (left - 1) (2 ^ 64 - 1) (omega (arith, some, most)) in
-    let e : left - 1 + 1 ≡ left = omega (arith, some) in
-    rw (t, e) refl
-
-pub step_again : (old new : Option ℕ) → StepsIn old new true → step_back new ≡ old
-step_again None new h = ap step_back h
-step_again (Some left) new h = ap step_back h.2 ∙ again left h.0 h.1
-
--- without a budget a step leaves none
-pub step_unbound : (old new : Option ℕ) → StepsIn old new true → old ≡ None → new ≡ None
-step_unbound None new h e = h
-step_unbound (Some left) new h e = cc
-
-module _ {a b c d : View} (i : KeepsAllButBudget a b) (o : KeepsAllButBudget c d) where
-  kept_around : (c.budget ≡ b.budget → d.budget ≡ a.budget) → Kept b c → Kept a d
-  kept_around same k = record {
-    rest = λ xs told. let u = k.rest xs (i.told ∙ told) in (u.0, record { left = o.told ∙ u.1.left; within = u.1.within; bytes = u.1.bytes });
-    counted = λ xs told ys left n gone. o.taken ∙ (k.counted xs (i.told ∙ told) ys (sym o.told ∙ left) n gone ∙ ap (counts n) i.taken);
-    bound = omega (arith, k.bound, i.bound, o.bound);
-    budget = same k.budget;
-    failures = o.failures ∙ (k.failures ∙ i.failures);
-    lends_whole = λ h. subst IsTrue (sym o.lends_whole) (k.lends_whole (subst IsTrue (sym i.lends_whole) h));
-    remembers = λ h. subst IsTrue (sym o.remembers) (k.remembers (subst IsTrue (sym i.remembers) h));
-  }
-
-  broke_around : (c.budget ≡ b.budget → d.budget ≡ a.budget) → Broke b c → Broke a d
-  broke_around same k = record {
-    rest = λ xs told ys left. k.rest xs (i.told ∙ told) ys (sym o.told ∙ left);
-    left = λ is xs told. let u = k.left (subst IsTrue (sym i.remembers) is) xs (i.told ∙ told) in (u.0, record { left = o.told ∙ u.1.left; within = u.1.within; bytes = u.1.bytes });
-    bound = omega (arith, k.bound, i.bound, o.bound);
-    budget = same k.budget;
-    failures = subst (λ n. Failed n d.failures) i.failures (subst (λ n. Failed b.failures n) (sym o.failures) k.failures);
-    lends_whole = λ h. subst IsTrue (sym o.lends_whole) (k.lends_whole (subst IsTrue (sym i.lends_whole) h));
-    remembers = λ h. subst IsTrue (sym o.remembers) (k.remembers (subst IsTrue (sym i.remembers) h));
-  }
-
-  pub moves_around : (t : Bool) → (c.budget ≡ b.budget → d.budget ≡ a.budget) → MatchBool t (Broke b c) (Kept b c) → MatchBool t (Broke a d) (Kept a d)
-  moves_around true same k = broke_around same k
-  moves_around false same k = kept_around same k
-
-  follows_around : {V E : Type 0} {p : Reading V} {r : Result V (DecodeError E)} → (a.budget ≡ None → b.budget ≡ None) → (c.budget ≡ b.budget → d.budget ≡ a.budget) → Follows p b c r → Follows p a d r
-  follows_around {p = p} {r = r} inner same f = record {
-    moves = record { by = moves_around (is_failure r) same f.moves.by; depth = λ none. f.moves.depth (inner none) };
-    answers = λ xs told. subst (λ new. AnswersAs (p xs) new r) (sym o.told) (f.answers xs (i.told ∙ told));
-  }
+use Rattle.cbor4ii_items.specs.Laws.Running.{runs_give, reaches_start, reaches_as, reaches_then}
+use Rattle.cbor4ii_items.specs.Laws.UnderStep.{step_again, step_unbound, follows_around}
+use Rattle.cbor4ii_items.specs.Laws.Following.{follows_run, follows_as, follows_then, follows_run_err, follows_err, follows_end, reaches_follow}
 
 -- ---- chunks
 

@@ -13,7 +13,7 @@ use Rattle.cbor4ii_items.specs.Refusal.{Refusal, cast_overflow}
 use Rattle.cbor4ii_items.specs.Reading.{Reading, Runs, refuse, peek_at, ◌>=>◌}
 use Rattle.cbor4ii_items.specs.ReadHead.{head_at, argument_at}
 use Rattle.cbor4ii_items.specs.ReadNumber.{below, half_at, signed_by, signed_at, as_positive, as_negative}
-use Rattle.cbor4ii_items.proofs.Running.{as_of, runs_as, runs_then, runs_err, runs_with, runs_give, runs_refuse}
+use Rattle.cbor4ii_items.specs.Laws.Running.{as_of, runs_as, runs_then, runs_err, runs_with, runs_give, runs_refuse}
 
 positive_by : (name plus minus : List ℕ) (width limit b : ℕ) → b / 32 ≡ 0 → signed_by name plus minus width limit b ≡ (half_at plus 0 width limit >=> as_positive)
 positive_by name plus minus width limit b e = let t : b / 32 ≡ 0 = e in rw t refl

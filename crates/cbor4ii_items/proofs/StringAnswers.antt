@@ -1,69 +1,20 @@
 -- What a call that follows a program answers.
-use Rattle.std.proofs.Common.{◌≡◌, ◌≢◌, ℕ, ◌<◌, List, [], ◌∷◌, drop, take, Option, None, Some, Result, Ok, Err, Bool, true, false, refl, sym, ap, ◌∙◌, subst, IfSome, IfOk, IfErr, eqb, ne_eqb}
-use Rattle.std.specs.Prelude.{MatchBool, IsUtf8}
+use Rattle.std.proofs.Common.{◌≡◌, ℕ, ◌<◌, List, drop, Option, None, Some, Result, Ok, Err, refl, subst, IfSome, IfOk, IfErr}
+use Rattle.std.specs.Prelude.{IsUtf8}
 use Rattle.std.specs.declared.vec.Vec.{Vec}
 use Rattle.cbor4ii_rw.specs.View.{View}
 use Rattle.cbor4ii_rw.specs.declared.error.DecodeError.{DecodeError}
-use Rattle.cbor4ii_rw.specs.declared.error.DecodeError.TheVariants.{Read, RequireUtf8}
+use Rattle.cbor4ii_rw.specs.declared.error.DecodeError.TheVariants.{RequireUtf8}
 use denote.Ref.{Bor}
-use Rattle.cbor4ii_items.specs.Head.{break}
-use Rattle.cbor4ii_items.specs.Moves.{Kept, Broke, Moves}
-use Rattle.cbor4ii_items.specs.Refusal.{Refusal, refusal_of, is_read}
-use Rattle.cbor4ii_items.specs.Reading.{Reading, Runs}
-use Rattle.cbor4ii_items.specs.Decoding.{CostFits, Sound, NoneRead, Refuses, Stops}
+use Rattle.cbor4ii_items.specs.Moves.{Moves}
+use Rattle.cbor4ii_items.specs.Refusal.{Refusal, refusal_of}
+use Rattle.cbor4ii_items.specs.Decoding.{Sound, Refuses, Stops}
 use Rattle.cbor4ii_items.specs.Following.{Follows, listed}
-use Rattle.cbor4ii_items.specs.ReadStrings.{break_at, string_at}
-use Rattle.cbor4ii_items.specs.ProgramEnds.{break_yes, break_no, break_refused}
-use Rattle.cbor4ii_items.specs.Strings.{ReadsString, ReadsAs, ReadsTextAs, StopsString, StopsText, no_string, no_utf8, ReadsBreak, StopsBreak}
-use Rattle.cbor4ii_items.specs.StringLaws.{break_again, string_again, string_one, three_small}
-use Rattle.cbor4ii_items.proofs.Leaves.{fits_zero, same_some, refuses_as}
-use Rattle.cbor4ii_items.proofs.Following.{follows_run}
-use Rattle.cbor4ii_items.proofs.StringsRead.{Seen, seen_of, Found, string_read, string_stops}
-
--- ---- a value
-
-pub sound_by : {V E : Type 0} {program : Reading V} {v : V} {a b : View} (reads : List ℕ → V → ℕ → ℕ → Type 0) → ((xs ys : List ℕ) → program xs ≡ Ok (v, ys) → Seen xs ys → Found reads a.budget xs v ys)
-    → Follows {E = E} program a b (Ok v) → Sound reads a b v
-sound_by {b = b} reads means p = record {
-  at = λ xs told.
-      let h = p.answers xs told in
-      let t = p.moves.by.rest xs told in
-      let e : h.0 ≡ drop t.0 xs = same_some _ _ b.told h.1 t.1.left in
-      let f = means xs h.0 h.2 (seen_of xs h.0 t.0 t.1.within t.1.bytes e) in
-      record { count = f.count; cost = f.cost; read = f.read; fits = f.fits; left = h.1 ∙ ap Some f.left };
-}
-
--- ---- a refusal
-
-none_by : {V : Type 0} (program : Reading V) (reads : List ℕ → V → ℕ → ℕ → Type 0) (o : Option Refusal) (xs : List ℕ) (budget : Option ℕ) (left : Option (List ℕ))
-    → ((v : V) (n c : ℕ) → reads xs v n c → CostFits c budget → program xs ≡ Ok (v, drop n xs)) → IfSome o (λ z. (ys : List ℕ) × (left ≡ Some ys) × (program xs ≡ Err (z, ys))) → IfSome o (λ z. NoneRead reads xs budget)
-none_by program reads None xs budget left again h = tt
-none_by program reads (Some z) xs budget left again h = λ v n c r fits. let f = again v n c r fits in let g = h.2 in cc
-
-pub refuses_by : {V E : Type 0} {program : Reading V} {e : DecodeError E} {a b : View} (reads : List ℕ → V → ℕ → ℕ → Type 0) → ((xs : List ℕ) (v : V) (n c : ℕ) → reads xs v n c → CostFits c a.budget → program xs ≡ Ok (v, drop n xs))
-    → Follows program a b (Err e) → Refuses reads a e
-refuses_by {program = program} {e = e} {a = a} {b = b} reads again p = record { at = λ xs told. none_by program reads (refusal_of e) xs a.budget b.told (again xs) (p.answers xs told) }
-
-not_read : {E : Type 0} (e : DecodeError E) (z : Refusal) → refusal_of e ≡ Some z → is_read e ≡ false
-not_read (Read x) z h = cc
-not_read e z h = refl
-
-kept_of : (t : Bool) (a b : View) → t ≡ false → MatchBool t (Broke a b) (Kept a b) → Kept a b
-kept_of true a b e k = cc
-kept_of false a b e k = k
-
-stopped_by : {V E : Type 0} (program : Reading V) (e : DecodeError E) (a b : View) (stops : List ℕ → Option ℕ → Refusal → List ℕ → Type 0) (xs : List ℕ) → a.told ≡ Some xs → ((z : Refusal) (ys : List ℕ) → program xs ≡ Err (z, ys) → Seen xs ys → stops xs a.budget z ys)
-    → Moves {V = V} a b (Err e) → (o : Option Refusal) → refusal_of e ≡ o → IfSome o (λ z. (ys : List ℕ) × (b.told ≡ Some ys) × (program xs ≡ Err (z, ys))) → IfSome o (λ z. (ys : List ℕ) × (b.told ≡ Some ys) × stops xs a.budget z ys)
-stopped_by program e a b stops xs told means moves None says h = tt
-stopped_by program e a b stops xs told means moves (Some z) says h =
-    let k = kept_of (is_read e) a b (not_read e z says) moves.by in
-    let t = k.rest xs told in
-    let f : h.0 ≡ drop t.0 xs = same_some _ _ b.told h.1 t.1.left in
-    (h.0, h.1, means z h.0 h.2 (seen_of xs h.0 t.0 t.1.within t.1.bytes f))
-
-pub stops_by : {V E : Type 0} {program : Reading V} {e : DecodeError E} {a b : View} (stops : List ℕ → Option ℕ → Refusal → List ℕ → Type 0) → ((xs : List ℕ) (z : Refusal) (ys : List ℕ) → program xs ≡ Err (z, ys) → Seen xs ys → stops xs a.budget z ys)
-    → Follows {V = V} program a b (Err e) → Stops stops a b e
-stops_by {program = program} {e = e} {a = a} {b = b} stops means p = record { at = λ xs told. stopped_by program e a b stops xs told (means xs) p.moves (refusal_of e) refl (p.answers xs told) }
+use Rattle.cbor4ii_items.specs.ReadStrings.{string_at}
+use Rattle.cbor4ii_items.specs.Strings.{ReadsString, ReadsAs, ReadsTextAs, StopsString, StopsText, no_string, no_utf8}
+use Rattle.cbor4ii_items.specs.StringLaws.{string_again, string_one, three_small}
+use Rattle.cbor4ii_items.specs.Laws.Answering.{refuses_as, sound_by, refuses_by, stops_by}
+use Rattle.cbor4ii_items.proofs.StringsRead.{string_read, string_stops}
 
 -- ---- strings
 
@@ -134,31 +85,3 @@ utf8_stops {items = items} other s = record {
       let t = s.at xs told in
       (drop t.count xs, t.left, no_utf8 items t.count t.cost t.read t.fits other refl refl);
 }
-
--- ---- breaks
-
-break_found : (budget : Option ℕ) (v : Bool) (xs ys : List ℕ) → break_at xs ≡ Ok (v, ys) → Found ReadsBreak budget xs v ys
-break_found budget true xs ys e = let b = break_yes xs ys e in record { count = 1; cost = 0; read = (b.0, refl, refl); fits = fits_zero budget; left = b.1 }
-break_found budget false xs ys e = let b = break_no xs ys e in record { count = 0; cost = 0; read = (b.0, b.1, refl, refl); fits = fits_zero budget; left = b.2 }
-
-stays : (xs : List ℕ) → xs ≢ [] → (take 1 xs ≡ break ∷ [] → ⊥) → break_at xs ≡ Ok (false, xs)
-stays [] some other = absurd (some refl)
-stays (b ∷ bs) some other =
-    let t : eqb b break ≡ false = ne_eqb b break (λ is. other (ap (λ z. z ∷ []) is)) in
-    rw t refl
-
-break_read : (xs : List ℕ) (v : Bool) (n c : ℕ) → ReadsBreak xs v n c → break_at xs ≡ Ok (v, drop n xs)
-break_read xs true n c h = break_again xs h.0 ∙ ap (λ j. Ok (true, drop j xs)) (sym h.1)
-break_read xs false n c h = stays xs h.0 h.1 ∙ ap (λ j. Ok (false, drop j xs)) (sym h.2)
-
-pub break_sound : {E : Type 0} {a b : View} (r : Result Bool (DecodeError E)) → Runs break_at a b r → IfOk r (Sound ReadsBreak a b)
-break_sound {a = a} (Ok v) p = sound_by ReadsBreak (λ xs ys e seen. break_found a.budget v xs ys e) (follows_run p)
-break_sound (Err e) p = tt
-
-pub break_refuses : {E : Type 0} {a b : View} (r : Result Bool (DecodeError E)) → Runs break_at a b r → IfErr r (Refuses ReadsBreak a)
-break_refuses (Ok v) p = tt
-break_refuses (Err e) p = refuses_by ReadsBreak (λ xs v n c h fits. break_read xs v n c h) (follows_run p)
-
-pub break_stops : {E : Type 0} {a b : View} (r : Result Bool (DecodeError E)) → Runs break_at a b r → IfErr r (Stops StopsBreak a b)
-break_stops (Ok v) p = tt
-break_stops (Err e) p = stops_by StopsBreak (λ xs z ys f seen. break_refused xs ys z f) (follows_run p)

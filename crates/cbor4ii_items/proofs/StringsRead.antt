@@ -9,7 +9,7 @@ use Rattle.cbor4ii_items.specs.Reading.{Reading, give, refuse, go_on, ◌>=>◌}
 use Rattle.cbor4ii_items.specs.Decoding.{CostFits}
 use Rattle.cbor4ii_items.specs.Outcome.{same_value, same_refusal}
 use Rattle.cbor4ii_items.specs.Heads.{ReadsHead, StopsHead}
-use Rattle.cbor4ii_items.specs.HeadLaws.{IsBytes-take, read_head}
+use Rattle.cbor4ii_items.specs.HeadLaws.{read_head}
 use Rattle.cbor4ii_items.specs.ReadHead.{head_at, head_by, length_at}
 use Rattle.cbor4ii_items.specs.ReadStrings.{content_on, break_at, chunk_by, chunk_inside, chunk_at, chunks_on, string_by, string_at}
 use Rattle.cbor4ii_items.specs.ProgramEnds.{go_inverse, go_refused, length_passed, length_some, length_none, content_inverse, break_yes, break_no, break_refused, chunk_passed, not_first}
@@ -17,18 +17,11 @@ use Rattle.cbor4ii_items.specs.ChunkLaws.{chunks_by}
 use Rattle.cbor4ii_items.specs.Fronts.{drop_more}
 use Rattle.cbor4ii_items.specs.Strings.{ReadsCounted, ReadsChunks, joined, chunk_cost, ReadsString, CutContent, StopsChunk, no_chunk_byte, no_step, chunk_open, chunk_refused, chunk_cut, StopsOpen, StopsString, string_head_refused, string_cut, string_open}
 use Rattle.cbor4ii_items.specs.StringLaws.{BeginsWith, HasStep}
-use Rattle.cbor4ii_items.proofs.Contents.{IsBytes-append}
-use Rattle.cbor4ii_items.proofs.Leaves.{fits_zero}
+use Rattle.cbor4ii_items.specs.Laws.Answering.{Seen, Found, fits_zero}
+use Rattle.cbor4ii_items.specs.Laws.Contents.{IsBytes-append}
 use Rattle.cbor4ii_items.proofs.Stopping.{head_stops}
 
 -- ---- the bytes that were passed
-
--- what stands in xs before its end ys are bytes
-abbrev pub Seen : List ℕ → List ℕ → Type 0
-Seen xs ys = (m : ℕ) → m + length ys ≤ length xs → IsBytes (take m xs)
-
-pub seen_of : (xs ys : List ℕ) (n : ℕ) → n ≤ length xs → IsBytes (take n xs) → ys ≡ drop n xs → Seen xs ys
-seen_of xs ys n room bytes e = λ m h. IsBytes-take m n xs (omega (arith, h, room, ap length e, length-drop n xs)) bytes
 
 seen_more : (xs ys zs : List ℕ) → length ys ≤ length zs → Seen xs ys → Seen xs zs
 seen_more xs ys zs h s = λ m k. s m (omega (arith, h, k))
@@ -148,14 +141,6 @@ chunks_read (suc f) name major budget before xs v ys h e seen =
     by_ended name major budget before xs g.1 v ys (chunks_on f name major budget) (λ more zs short k there. chunks_read f name major budget more zs v ys (omega (arith, h, short)) k there) g.0 g.2 g.3 seen
 
 -- ---- strings
-
--- a reading of v that fits, and the bytes behind it
-pub record Found {V : Type 0} (reads : List ℕ → V → ℕ → ℕ → Type 0) (budget : Option ℕ) (xs : List ℕ) (v : V) (ys : List ℕ) : Type 0 where
-  pub count : ℕ
-  pub cost : ℕ
-  pub read : reads xs v count cost
-  pub fits : CostFits cost budget
-  pub left : ys ≡ drop count xs
 
 string_by_read : (name : List ℕ) (major : ℕ) (budget l : Option ℕ) (xs us v ys : List ℕ) → length_at name major xs ≡ Ok (l, us) → string_by name major budget l us ≡ Ok (v, ys) → Seen xs ys → Found (ReadsString major) budget xs v ys
 string_by_read name major budget (Some k) xs us v ys e f seen =

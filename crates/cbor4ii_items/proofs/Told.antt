@@ -37,7 +37,7 @@ use Rattle.cbor4ii_rw.specs.contracts.read.Source.TheBound as SourceBound
 use Rattle.cbor4ii_items.specs.declared.strings.lent.Lend as Lend
 use Rattle.cbor4ii_rw.specs.declared.read.Source as Source
 use Rattle.cbor4ii_items.specs.contracts.strings.lent.take_lent as g
-use Rattle.cbor4ii_items.proofs.Forward.{lent, lent_fn, result_fit}
+use Rattle.cbor4ii_items.specs.Laws.Forward.{lent, lent_fn, result_fit}
 use Rattle.cbor4ii_rw.proofs.error.DecodeError.TheLaws as ErrorLaws
 use Rattle.cbor4ii_items.proofs.strings.lent.take_lent.Met.{met}
 use Rattle.cbor4ii_items.proofs.strings.lent.take_lent.Symbol.{name as #g, code as g_code}

@@ -14,9 +14,9 @@ use Rattle.cbor4ii_items.specs.Refusal.{mismatch}
 use Rattle.cbor4ii_items.specs.Reading.{Reading, go_on, give, Runs}
 use Rattle.cbor4ii_items.specs.ReadHead.{number_on, following, allowed, head_by, head_at, length_at}
 use Rattle.cbor4ii_items.specs.Front.{IsWhole, IsArgument, RunsOrStays}
-use Rattle.cbor4ii_items.proofs.Contents.{lends_front}
-use Rattle.cbor4ii_items.proofs.Steps.{moves_then, moves_ok}
-use Rattle.cbor4ii_items.proofs.Heads.{small_argument, allowed_le, wider}
+use Rattle.cbor4ii_items.specs.Laws.Contents.{lends_front}
+use Rattle.cbor4ii_items.specs.Laws.Steps.{moves_then, moves_ok}
+use Rattle.cbor4ii_items.specs.Laws.ReadingHeads.{small_argument, allowed_le, wider}
 
 -- ---- a head in a list
 

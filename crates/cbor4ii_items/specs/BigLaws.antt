@@ -11,7 +11,7 @@ use Rattle.cbor4ii_items.specs.Magnitude.{number_of}
 use Rattle.cbor4ii_items.specs.Numbers.{ReadsMagnitude, ReadsBignum, ReadsU128, ReadsI128}
 use Rattle.cbor4ii_items.specs.Fronts.{drop_more, two_fronts, behind_front, the_front}
 use Rattle.cbor4ii_items.specs.HeadLaws.{head_read, head_alone, additional-lt}
-use Rattle.cbor4ii_items.specs.Laws.{ReadBy, leaf_one, leaf_within, leaf_positive}
+use Rattle.cbor4ii_items.specs.Laws.Arguments.{ReadBy, leaf_one, leaf_within, leaf_positive}
 use Rattle.cbor4ii_items.specs.SignedLaws.{starts, peek_first, below_again}
 
 -- ---- byte strings as numbers

@@ -8,7 +8,7 @@ use Rattle.cbor4ii_items.specs.Heads.{ReadsHead}
 use Rattle.cbor4ii_items.specs.ReadNumber.{below, half_at, as_positive, as_negative, signed_by, signed_at}
 use Rattle.cbor4ii_items.specs.Numbers.{ReadsSigned}
 use Rattle.cbor4ii_items.specs.HeadLaws.{head_read, head_alone, additional-lt}
-use Rattle.cbor4ii_items.specs.Laws.{ReadBy, leaf_one, leaf_within, leaf_positive}
+use Rattle.cbor4ii_items.specs.Laws.Arguments.{ReadBy, leaf_one, leaf_within, leaf_positive}
 
 -- the first byte of an item says its major type
 pub record Starts (major : ℕ) (xs : List ℕ) : Type 0 where

@@ -7,7 +7,7 @@ use Rattle.cbor4ii_items.specs.Initial.{simple_byte, simple_false, simple_true}
 use Rattle.cbor4ii_items.specs.Reading.{Reading, give, ◌>=>◌}
 use Rattle.cbor4ii_items.specs.Marked.{NoneBegins, marked_at}
 use Rattle.cbor4ii_items.specs.Numbers.{ReadsArgument, StopsArgument}
-use Rattle.cbor4ii_items.specs.Laws.{argument_one, argument_within, argument_positive, argument_alone}
+use Rattle.cbor4ii_items.specs.Laws.Arguments.{argument_one, argument_within, argument_positive, argument_alone}
 
 -- ---- any simple value, by its number
 

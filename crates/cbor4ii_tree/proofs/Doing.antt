@@ -9,9 +9,9 @@ use Rattle.cbor4ii_items.specs.Refusal.{Refusal, refusal_of, is_read, is_depth_o
 use Rattle.cbor4ii_items.specs.Decoding.{CostFits, Sound, Stops}
 use Rattle.cbor4ii_items.specs.Moves.{Kept, Moves, is_failure}
 use Rattle.cbor4ii_items.specs.Reading.{Runs, peek_at}
-use Rattle.cbor4ii_items.proofs.Steps.{moves_then, moves_err, kept_then, counted_none}
-use Rattle.cbor4ii_items.proofs.Running.{kept_alike, unread, peeked, kept_taken}
-use Rattle.cbor4ii_items.proofs.OpenStrings.{step_again, step_unbound, moves_around}
+use Rattle.cbor4ii_items.specs.Laws.Steps.{moves_then, moves_err, kept_then, counted_none}
+use Rattle.cbor4ii_items.specs.Laws.Running.{kept_alike, unread, peeked, kept_taken}
+use Rattle.cbor4ii_items.specs.Laws.UnderStep.{step_again, step_unbound, moves_around}
 use Rattle.cbor4ii_tree.specs.Cost.{step_in}
 use Rattle.cbor4ii_tree.specs.Stops.{Stopping}
 use Rattle.cbor4ii_tree.specs.Does.{Accepting, Does}

@@ -7,7 +7,7 @@ use Rattle.cbor4ii_rw.specs.declared.error.Len.{Len}
 use Rattle.cbor4ii_rw.specs.declared.error.Len.TheVariants.{Small, Big}
 use Rattle.cbor4ii_rw.specs.declared.error.DecodeError.TheVariants.{Eof}
 use Rattle.cbor4ii_items.specs.Reading.{Runs, peek_at}
-use Rattle.cbor4ii_items.proofs.Running.{runs_end, runs_peek}
+use Rattle.cbor4ii_items.specs.Laws.Running.{runs_end, runs_peek}
 use Rattle.cbor4ii_tree.specs.Front.{Offers, BeginsWith, Ready}
 use Rattle.cbor4ii_tree.specs.HeadParts.{DropsSome}
 use Rattle.cbor4ii_tree.specs.Stops.{Missing}

@@ -15,9 +15,9 @@ use Rattle.cbor4ii_items.specs.HeadLaws.{number_is, number_inverse, IsBytes-take
 use Rattle.cbor4ii_items.specs.ReadHead.{number_on}
 use Rattle.cbor4ii_items.specs.Reading.{Runs}
 use Rattle.cbor4ii_items.specs.Refusal.{Refusal, refusal_of, eof, len_of}
-use Rattle.cbor4ii_items.proofs.Contents.{lends_front}
-use Rattle.cbor4ii_items.proofs.Running.{shows_kept}
-use Rattle.cbor4ii_items.proofs.Steps.{moves_err}
+use Rattle.cbor4ii_items.specs.Laws.Contents.{lends_front}
+use Rattle.cbor4ii_items.specs.Laws.Running.{shows_kept}
+use Rattle.cbor4ii_items.specs.Laws.Steps.{moves_err}
 use Rattle.cbor4ii_tree.proofs.heads.Means.{WidthSays, InfoSays, info_says}
 use Rattle.cbor4ii_tree.specs.Skipping.{additional_of}
 use Rattle.cbor4ii_tree.specs.declared.skip.Additional.{Additional}

@@ -37,7 +37,7 @@ use Rattle.cbor4ii_rw.specs.contracts.read.Source.TheBound as SourceBound
 use Rattle.cbor4ii_tree.specs.declared.lend_raw.LendRaw as Lend
 use Rattle.cbor4ii_rw.specs.declared.read.Source as Source
 use Rattle.cbor4ii_tree.specs.contracts.lend_raw.take_raw as g
-use Rattle.cbor4ii_items.proofs.Forward.{lent, lent_fn, result_fit}
+use Rattle.cbor4ii_items.specs.Laws.Forward.{lent, lent_fn, result_fit}
 use Rattle.cbor4ii_rw.proofs.error.DecodeError.TheLaws as ErrorLaws
 use Rattle.cbor4ii_tree.proofs.lend_raw.take_raw.Met.{met}
 use Rattle.cbor4ii_tree.proofs.lend_raw.take_raw.Symbol.{name as #g, code as g_code}

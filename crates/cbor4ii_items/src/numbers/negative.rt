@@ -2,7 +2,7 @@
 ghost use Rattle.std.specs.Prelude.{◌≡◌, true, false, codes};
 ghost use Rattle.cbor4ii_items.specs.Writing.{WritesWhole};
 ghost use Rattle.cbor4ii_items.specs.Numbers.{ReadsNegative, StopsNegative, shortest_head};
-ghost use Rattle.cbor4ii_items.specs.Laws.{
+ghost use Rattle.cbor4ii_items.specs.Laws.Arguments.{
   negative_one,
   negative_within,
   negative_positive,

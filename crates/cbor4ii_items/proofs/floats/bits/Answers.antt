@@ -1,5 +1,5 @@
 use Rattle.std.proofs.Common.{arith}
-use Rattle.cbor4ii_items.proofs.Running.{looked, shows_kept}
+use Rattle.cbor4ii_items.specs.Laws.Running.{looked, shows_kept}
 use Rattle.cbor4ii_items.proofs.FloatLeaf.{runs_float}
 use Rattle.cbor4ii_items.proofs.WholeHeads.{runs_stayed}
 use Rattle.cbor4ii_items.proofs.floats.bits.Goals as goal

@@ -1,8 +1,8 @@
 use Rattle.std.proofs.Common.{◌<◌, ◌^◌, arith}
 use Rattle.std.proofs.lemmas.Result.{err_from_is_err_and}
 use Rattle.cbor4ii_items.specs.ReadHead.{number_on}
-use Rattle.cbor4ii_items.proofs.Running.{runs_then}
-use Rattle.cbor4ii_items.proofs.Heads.{wider}
+use Rattle.cbor4ii_items.specs.Laws.Running.{runs_then}
+use Rattle.cbor4ii_items.specs.Laws.ReadingHeads.{wider}
 use Rattle.cbor4ii_items.proofs.floats.bits_by_byte.Goals as goal
 
 pub returns-in_err-number-clause-runs : goal.returns-in_err-number-clause-runs

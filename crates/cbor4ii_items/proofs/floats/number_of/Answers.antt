@@ -2,8 +2,8 @@ use Rattle.std.proofs.Common.{◌+◌, ◌*◌, ◌<◌, ◌^◌, slice_index_or
 use Rattle.std.proofs.Math.Facts.{Fits-lt-pow}
 use Rattle.std.proofs.Math.Seq.{take-length}
 use Rattle.cbor4ii_items.specs.Head.{IsBytes}
-use Rattle.cbor4ii_items.proofs.Contents.{first_bytes}
-use Rattle.cbor4ii_items.proofs.Heads.{one_more, wider}
+use Rattle.cbor4ii_items.specs.Laws.Contents.{first_bytes}
+use Rattle.cbor4ii_items.specs.Laws.ReadingHeads.{one_more, wider}
 use Rattle.cbor4ii_items.proofs.floats.number_of.Goals as goal
 
 pub overflow_mul-number : goal.overflow_mul-number

@@ -1,5 +1,5 @@
 use Rattle.std.proofs.Common.{arith}
-use Rattle.cbor4ii_items.proofs.Running.{looked}
+use Rattle.cbor4ii_items.specs.Laws.Running.{looked}
 use Rattle.cbor4ii_items.proofs.WholeHeads.{runs_whole}
 use Rattle.cbor4ii_items.proofs.front.take_head.Goals as goal
 

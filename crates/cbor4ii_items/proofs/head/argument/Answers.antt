@@ -1,5 +1,5 @@
 use Rattle.std.proofs.Common.{arith, sym, ◌≤◌}
-use Rattle.cbor4ii_items.proofs.Heads.{small_argument, allowed_le, wider}
+use Rattle.cbor4ii_items.specs.Laws.ReadingHeads.{small_argument, allowed_le, wider}
 use Rattle.cbor4ii_items.proofs.head.argument.Goals as goal
 
 pub returns-then-info-lt24-clause-fits : goal.returns-then-info-lt24-clause-fits

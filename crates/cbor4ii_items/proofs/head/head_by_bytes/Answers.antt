@@ -1,4 +1,4 @@
-use Rattle.cbor4ii_items.proofs.Heads.{runs_head}
+use Rattle.cbor4ii_items.specs.Laws.ReadingHeads.{runs_head}
 use Rattle.cbor4ii_items.proofs.head.head_by_bytes.Goals as goal
 
 pub returns-clause-runs : goal.returns-clause-runs

@@ -1,5 +1,5 @@
 use Rattle.std.proofs.lemmas.Result.{err_from_is_err_and}
-use Rattle.cbor4ii_items.proofs.Heads.{runs_length, runs_length_err}
+use Rattle.cbor4ii_items.specs.Laws.ReadingHeads.{runs_length, runs_length_err}
 use Rattle.cbor4ii_items.proofs.head.length_by_bytes.Goals as goal
 
 pub returns-in_err-argument-clause-runs : goal.returns-in_err-argument-clause-runs

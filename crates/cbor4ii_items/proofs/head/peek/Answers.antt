@@ -1,4 +1,4 @@
-use Rattle.cbor4ii_items.proofs.Running.{looked, runs_end, runs_peek}
+use Rattle.cbor4ii_items.specs.Laws.Running.{looked, runs_end, runs_peek}
 use Rattle.cbor4ii_items.proofs.head.peek.Goals as goal
 
 pub returns-then-shown-eq0-clause-runs : goal.returns-then-shown-eq0-clause-runs

@@ -1,4 +1,4 @@
-use Rattle.cbor4ii_items.proofs.Running.{runs_byte}
+use Rattle.cbor4ii_items.specs.Laws.Running.{runs_byte}
 use Rattle.cbor4ii_items.proofs.head.take.Goals as goal
 
 pub returns-clause-runs : goal.returns-clause-runs

@@ -1,5 +1,5 @@
-use Rattle.cbor4ii_items.proofs.Running.{runs_byte}
-use Rattle.cbor4ii_items.proofs.Breaks.{runs_break}
+use Rattle.cbor4ii_items.specs.Laws.Running.{runs_byte}
+use Rattle.cbor4ii_items.specs.Laws.Breaks.{runs_break}
 use Rattle.cbor4ii_items.proofs.indefinite.at_break.Goals as goal
 
 pub returns-then-byte : goal.returns-then-byte

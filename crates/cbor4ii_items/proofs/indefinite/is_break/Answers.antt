@@ -1,4 +1,4 @@
-use Rattle.cbor4ii_items.proofs.StringAnswers.{break_sound, break_refuses, break_stops}
+use Rattle.cbor4ii_items.specs.Laws.Breaks.{break_sound, break_refuses, break_stops}
 use Rattle.cbor4ii_items.proofs.indefinite.is_break.Goals as goal
 
 pub returns-clause-sound : goal.returns-clause-sound

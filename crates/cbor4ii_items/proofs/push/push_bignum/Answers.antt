@@ -2,7 +2,7 @@ use Rattle.std.proofs.Common.{ap, ◌∙◌}
 use Rattle.std.proofs.lemmas.Result.{err_from_is_err_and}
 use Rattle.cbor4ii_items.specs.Magnitude.{without_leading_zeros}
 use Rattle.cbor4ii_items.specs.Numbers.{string_bytes}
-use Rattle.cbor4ii_items.proofs.Written.{writes_then, writes_err, writes_as}
+use Rattle.cbor4ii_items.specs.Laws.Written.{writes_then, writes_err, writes_as}
 use Rattle.cbor4ii_items.proofs.push.push_bignum.Goals as goal
 
 pub returns-in_err-push_head : goal.returns-in_err-push_head

@@ -2,7 +2,7 @@ use Rattle.std.proofs.Common.{sym, ap, ◌∙◌}
 use Rattle.std.proofs.lemmas.Int.{to_z-of_z}
 use mir.Syntax.{w128}
 use Rattle.cbor4ii_items.specs.Numbers.{signed_bytes}
-use Rattle.cbor4ii_items.proofs.Written.{writes_as}
+use Rattle.cbor4ii_items.specs.Laws.Written.{writes_as}
 use Rattle.cbor4ii_items.proofs.push.push_signed_integer.Goals as goal
 
 pub returns-then-value-ge0 : goal.returns-then-value-ge0

@@ -8,7 +8,7 @@ use Rattle.cbor4ii_tree.specs.Refusal.{array_name, map_name, tag_name, sign_name
 use Rattle.cbor4ii_items.specs.Initial.{negative, byte_string, text_string}
 use Rattle.cbor4ii_items.specs.Numbers.{ReadsNegative, StopsNegative, StopsArgument}
 use Rattle.cbor4ii_items.specs.Strings.{ReadsAs, ReadsTextAs, StopsString, StopsText, bytes_content, text_content}
-use Rattle.cbor4ii_items.proofs.Steps.{kept_then}
+use Rattle.cbor4ii_items.specs.Laws.Steps.{kept_then}
 use Rattle.cbor4ii_tree.proofs.Doing.{reached_start, does_ok, does_no_memory, does_no_step}
 use Rattle.cbor4ii_tree.proofs.SkippingCalls.{Before, broke, other, at_end}
 use Rattle.cbor4ii_tree.proofs.ValuingParts.{ReadEach, ReadPairs}

@@ -1,8 +1,8 @@
 use Rattle.std.specs.Prelude.{string_bytes}
 use Rattle.std.proofs.Common.{◌≡◌, ◌<◌, ◌^◌, length, refl, sym, ap, ◌∙◌, arith, rules}
 use Rattle.std.proofs.lemmas.Result.{err_from_is_err_and}
-use Rattle.cbor4ii_items.proofs.Written.{writes_then, writes_err, writes_as, appends_then}
-use Rattle.cbor4ii_items.proofs.SequenceBytes.{items_then, items_err}
+use Rattle.cbor4ii_items.specs.Laws.Written.{writes_then, writes_err, writes_as, appends_then}
+use Rattle.cbor4ii_items.specs.Laws.SequenceBytes.{items_then, items_err}
 use Rattle.std.proofs.lemmas.Int.{to_z-of_z}
 use mir.Val.{to_z, of_z}
 use mir.Syntax.{w128}

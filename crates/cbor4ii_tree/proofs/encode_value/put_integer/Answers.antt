@@ -2,7 +2,7 @@ use Rattle.std.proofs.Common.{◌≡◌, ap, ◌∙◌}
 use Rattle.std.proofs.lemmas.Int.{to_z-of_z}
 use mir.Val.{to_z, of_z}
 use mir.Syntax.{w128}
-use Rattle.cbor4ii_items.proofs.Written.{writes_as}
+use Rattle.cbor4ii_items.specs.Laws.Written.{writes_as}
 use Rattle.cbor4ii_tree.specs.Item.{integer}
 use Rattle.cbor4ii_tree.specs.Canonical.{canon}
 use Rattle.cbor4ii_tree.proofs.Encoding.{signed-canon}

@@ -1,8 +1,8 @@
 use Rattle.std.proofs.Common.{◌+◌, ◌-◌, ◌*◌, ◌<◌, ◌^◌, refl, ◌∙◌, arith}
 use Rattle.std.proofs.lemmas.Result.{err_from_is_err_and}
 use Rattle.cbor4ii_items.specs.ReadHead.{number_on}
-use Rattle.cbor4ii_items.proofs.Running.{runs_err, reaches_as, reaches_then, reaches_end}
-use Rattle.cbor4ii_items.proofs.Heads.{one_more, small_number, number_more, number_start}
+use Rattle.cbor4ii_items.specs.Laws.Running.{runs_err, reaches_as, reaches_then, reaches_end}
+use Rattle.cbor4ii_items.specs.Laws.ReadingHeads.{one_more, small_number, number_more, number_start}
 use Rattle.cbor4ii_tree.proofs.skip.number.Goals as goal
 
 pub loop-i-init : goal.loop-i-init

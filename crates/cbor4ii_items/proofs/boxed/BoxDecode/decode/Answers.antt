@@ -1,4 +1,5 @@
-use Rattle.cbor4ii_items.proofs.Leaves.{sound_as, refuses_as}
+use Rattle.cbor4ii_items.specs.Laws.Answering.{refuses_as}
+use Rattle.cbor4ii_items.proofs.Leaves.{sound_as}
 use Rattle.cbor4ii_items.proofs.boxed.BoxDecode.decode.Goals as goal
 
 pub returns-in-Err-clause-complete : goal.returns-in-Err-clause-complete

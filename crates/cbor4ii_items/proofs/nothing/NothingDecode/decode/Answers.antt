@@ -1,6 +1,6 @@
 use Rattle.std.proofs.Common.{refl}
-use Rattle.cbor4ii_items.proofs.Running.{kept_alike}
-use Rattle.cbor4ii_items.proofs.Leaves.{fits_zero}
+use Rattle.cbor4ii_items.specs.Laws.Running.{kept_alike}
+use Rattle.cbor4ii_items.specs.Laws.Answering.{fits_zero}
 use Rattle.cbor4ii_items.proofs.nothing.NothingDecode.decode.Goals as goal
 
 pub returns-clause-moves : goal.returns-clause-moves

@@ -1,6 +1,6 @@
 use Rattle.std.proofs.lemmas.Result.{err_from_is_err_and}
 use Rattle.cbor4ii_items.specs.ReadNumber.{as_positive, as_negative}
-use Rattle.cbor4ii_items.proofs.Running.{runs_err}
+use Rattle.cbor4ii_items.specs.Laws.Running.{runs_err}
 use Rattle.cbor4ii_items.proofs.numbers.big.signed_bignum.Goals as goal
 
 pub returns-in_err-number : goal.returns-in_err-number

@@ -2,7 +2,7 @@ use Rattle.std.proofs.Common.{sym, ◌∙◌, arith}
 use Rattle.std.specs.Prelude.{pos, negsuc}
 use Rattle.std.proofs.lemmas.Result.{err_from_is_err_and}
 use Rattle.cbor4ii_items.specs.ReadNumber.{as_positive, as_negative, i128_tagged}
-use Rattle.cbor4ii_items.proofs.Running.{runs_err, runs_then, runs_with}
+use Rattle.cbor4ii_items.specs.Laws.Running.{runs_err, runs_then, runs_with}
 use Rattle.cbor4ii_items.proofs.BigRuns.{runs_i128_positive, runs_i128_negative, runs_i128_tag, positive_is, negative_is, small_argument}
 use Rattle.cbor4ii_items.proofs.numbers.big.signed_by_bytes.Goals as goal
 

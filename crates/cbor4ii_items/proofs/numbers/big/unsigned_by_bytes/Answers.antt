@@ -1,7 +1,7 @@
 use Rattle.std.proofs.Common.{sym, ◌∙◌}
 use Rattle.std.proofs.lemmas.Result.{err_from_is_err_and}
 use Rattle.cbor4ii_items.specs.ReadNumber.{u128_tagged}
-use Rattle.cbor4ii_items.proofs.Running.{runs_err, runs_then}
+use Rattle.cbor4ii_items.specs.Laws.Running.{runs_err, runs_then}
 use Rattle.cbor4ii_items.proofs.BigRuns.{runs_u128_unsigned, runs_u128_tag}
 use Rattle.cbor4ii_items.proofs.numbers.big.unsigned_by_bytes.Goals as goal
 

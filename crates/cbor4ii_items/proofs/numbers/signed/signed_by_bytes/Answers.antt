@@ -2,7 +2,7 @@ use Rattle.std.proofs.Common.{sym, ◌∙◌, arith}
 use Rattle.std.specs.Prelude.{pos, negsuc}
 use Rattle.std.proofs.lemmas.Result.{err_from_is_err_and}
 use Rattle.cbor4ii_items.specs.ReadNumber.{as_positive, as_negative}
-use Rattle.cbor4ii_items.proofs.Running.{runs_err, runs_with}
+use Rattle.cbor4ii_items.specs.Laws.Running.{runs_err, runs_with}
 use Rattle.cbor4ii_items.proofs.SignedRuns.{runs_positive, runs_negative, positive_is, negative_is}
 use Rattle.cbor4ii_items.proofs.numbers.signed.signed_by_bytes.Goals as goal
 

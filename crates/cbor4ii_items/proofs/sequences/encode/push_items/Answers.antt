@@ -1,6 +1,6 @@
 use Rattle.std.proofs.Common.{◌≡◌, length, ◌∙◌, arith}
 use Rattle.std.proofs.lemmas.Result.{err_from_is_err_and}
-use Rattle.cbor4ii_items.proofs.SequenceBytes.{items_then, items_err, items_all}
+use Rattle.cbor4ii_items.specs.Laws.SequenceBytes.{items_then, items_err, items_all}
 use Rattle.cbor4ii_items.proofs.sequences.encode.push_items.Goals as goal
 
 pub returns-in_err-encode : goal.returns-in_err-encode

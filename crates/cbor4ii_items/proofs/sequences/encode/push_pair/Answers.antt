@@ -1,5 +1,5 @@
 use Rattle.std.proofs.lemmas.Result.{err_from_is_err_and}
-use Rattle.cbor4ii_items.proofs.Written.{writes_then, writes_err}
+use Rattle.cbor4ii_items.specs.Laws.Written.{writes_then, writes_err}
 use Rattle.cbor4ii_items.proofs.sequences.encode.push_pair.Goals as goal
 
 pub returns-in_err-encode : goal.returns-in_err-encode

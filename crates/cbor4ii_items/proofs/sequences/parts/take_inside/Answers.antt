@@ -1,5 +1,5 @@
 use Rattle.std.proofs.lemmas.Result.{err_from_is_err_and}
-use Rattle.cbor4ii_items.proofs.Steps.{moves_then}
+use Rattle.cbor4ii_items.specs.Laws.Steps.{moves_then}
 use Rattle.cbor4ii_items.proofs.Containers.{exact_kept}
 use Rattle.cbor4ii_items.proofs.SequenceAnswers.{counts, opens, head_refuses, head_stops, counted_sound, counted_refuses, counted_stops, opened_sound, opened_refuses, opened_stops}
 use Rattle.cbor4ii_items.proofs.sequences.parts.take_inside.Goals as goal

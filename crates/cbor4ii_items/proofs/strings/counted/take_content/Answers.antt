@@ -1,7 +1,7 @@
 use Rattle.std.proofs.Common.{arith}
 use Rattle.std.proofs.lemmas.Result.{err_from_is_err_and}
-use Rattle.cbor4ii_items.proofs.Following.{follows_end}
-use Rattle.cbor4ii_items.proofs.Contents.{reaches_content, content_ends}
+use Rattle.cbor4ii_items.specs.Laws.Following.{follows_end}
+use Rattle.cbor4ii_items.specs.Laws.Contents.{reaches_content, content_ends}
 use Rattle.cbor4ii_items.proofs.strings.counted.take_content.Goals as goal
 
 pub returns-in_err-missing : goal.returns-in_err-missing

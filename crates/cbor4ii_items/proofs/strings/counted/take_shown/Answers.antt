@@ -1,6 +1,6 @@
 use Rattle.std.proofs.Common.{arith}
-use Rattle.cbor4ii_items.proofs.Running.{looked}
-use Rattle.cbor4ii_items.proofs.Contents.{IsBytes-from, takes_front}
+use Rattle.cbor4ii_items.specs.Laws.Running.{looked}
+use Rattle.cbor4ii_items.specs.Laws.Contents.{IsBytes-from, takes_front}
 use Rattle.cbor4ii_items.proofs.strings.counted.take_shown.Goals as goal
 
 pub returns-else-is_err-clause-taken : goal.returns-else-is_err-clause-taken

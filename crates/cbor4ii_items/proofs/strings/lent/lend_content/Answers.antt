@@ -1,5 +1,5 @@
 use Rattle.std.proofs.Common.{arith}
-use Rattle.cbor4ii_items.proofs.Contents.{front_shown, lends_front}
+use Rattle.cbor4ii_items.specs.Laws.Contents.{front_shown, lends_front}
 use Rattle.cbor4ii_items.proofs.strings.lent.lend_content.Goals as goal
 
 pub returns-in-Some-Long-clause-lent : goal.returns-in-Some-Long-clause-lent

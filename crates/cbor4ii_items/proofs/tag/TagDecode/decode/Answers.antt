@@ -1,5 +1,5 @@
 use Rattle.std.proofs.lemmas.Result.{err_from_is_err_and}
-use Rattle.cbor4ii_items.proofs.Steps.{moves_then, moves_ok, moves_err}
+use Rattle.cbor4ii_items.specs.Laws.Steps.{moves_then, moves_ok, moves_err}
 use Rattle.cbor4ii_items.proofs.Containers.{exact_kept, tag_sound, tag_refuses, tag_no_head, tag_stops, tag_head_stops}
 use Rattle.cbor4ii_items.proofs.tag.TagDecode.decode.Goals as goal
 

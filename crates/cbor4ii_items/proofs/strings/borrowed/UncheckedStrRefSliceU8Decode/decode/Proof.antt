@@ -14,7 +14,7 @@ use mir.Syntax.{a_type, dcons, dnil, erased, Args}
 use prog.Wp.{Tables}
 use Rattle.cbor4ii_items.specs.contracts.types.UncheckedStr as UncheckedStr
 use Rattle.cbor4ii_items.proofs.types.UncheckedStr.TheLaws.{the_row_laws}
-use Rattle.cbor4ii_items.proofs.Forward.{bytes_laws}
+use Rattle.cbor4ii_items.specs.Laws.Forward.{bytes_laws}
 use Rattle.cbor4ii_items.proofs.Told.{told}
 use Rattle.cbor4ii_items.specs.contracts.strings.borrowed.UncheckedStrRefSliceU8Lend.TheImpl as lends
 use Rattle.cbor4ii_items.proofs.strings.borrowed.UncheckedStrRefSliceU8Lend.TheImpl.Met.{bound}

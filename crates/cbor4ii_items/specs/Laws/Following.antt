@@ -5,8 +5,8 @@ use Rattle.cbor4ii_rw.specs.declared.error.DecodeError.{DecodeError}
 use Rattle.cbor4ii_items.specs.Refusal.{refusal_of}
 use Rattle.cbor4ii_items.specs.Reading.{Reading, go_on, ◌>=>◌, Runs, Reaches}
 use Rattle.cbor4ii_items.specs.Following.{Follows}
-use Rattle.cbor4ii_items.proofs.Steps.{moves_then, moves_err, kept_then}
-use Rattle.cbor4ii_items.proofs.Running.{runs_err, refused_then, as_of}
+use Rattle.cbor4ii_items.specs.Laws.Steps.{moves_then, moves_err, kept_then}
+use Rattle.cbor4ii_items.specs.Laws.Running.{runs_err, refused_then, as_of}
 
 pub follows_run : {V E : Type 0} {f : Reading V} {a b : View} {r : Result V (DecodeError E)} → Runs f a b r → Follows f a b r
 follows_run p = record { moves = p.moves; answers = p.answers }

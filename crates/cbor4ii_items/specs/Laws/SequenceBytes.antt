@@ -5,7 +5,7 @@ use Rattle.std.proofs.Math.Seq.{take-length}
 use Rattle.cbor4ii_rw.specs.Writer.{Output, Appends}
 use Rattle.cbor4ii_items.specs.Writing.{Writes}
 use Rattle.cbor4ii_items.specs.SequenceBytes.{items_bytes}
-use Rattle.cbor4ii_items.proofs.Written.{appends_then, writes_then, writes_err, writes_as}
+use Rattle.cbor4ii_items.specs.Laws.Written.{appends_then, writes_then, writes_err, writes_as}
 
 -- calls that wrote the bytes
 writes_done : {E : Type 0} {whole : Bool} {xs : List ℕ} {a b : Output} → Appends xs a.written b.written → b.failures ≡ a.failures → Writes {T = Unit {0}} {E = E} whole xs a b (Ok tt)

@@ -19,7 +19,7 @@ use Rattle.cbor4ii_items.specs.ReadStrings.{content_on}
 use Rattle.cbor4ii_items.specs.Contents.{content_short, content_whole}
 use Rattle.cbor4ii_items.specs.Following.{Follows, TakesOnto}
 use Rattle.cbor4ii_items.specs.Fronts.{drop_more}
-use Rattle.cbor4ii_items.proofs.Steps.{kept_then}
+use Rattle.cbor4ii_items.specs.Laws.Steps.{kept_then}
 
 two_parts : (i count : ℕ) (before xs : List ℕ) → i ≤ count → (before ++ take i xs) ++ take (count - i) (drop i xs) ≡ before ++ take count xs
 two_parts i count before xs h =

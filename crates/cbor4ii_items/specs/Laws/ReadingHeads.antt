@@ -7,7 +7,7 @@ use Rattle.cbor4ii_rw.specs.declared.error.DecodeError.{DecodeError}
 use Rattle.cbor4ii_items.specs.Head.{open_head}
 use Rattle.cbor4ii_items.specs.Reading.{give, ◌>=>◌, byte_at, Runs, Reaches}
 use Rattle.cbor4ii_items.specs.ReadHead.{number_on, argument_at, head_by, head_at, length_by, length_at, following, allowed}
-use Rattle.cbor4ii_items.proofs.Running.{runs_give, runs_as, runs_then, runs_err, reaches_start}
+use Rattle.cbor4ii_items.specs.Laws.Running.{runs_give, runs_as, runs_then, runs_err, reaches_start}
 
 -- ---- numbers
 
