@@ -8,10 +8,11 @@ use Rattle.cbor4ii_items.specs.Heads.{ReadsHead}
 use Rattle.cbor4ii_items.specs.HeadLaws.{length-bytes_high_first, number_again}
 use Rattle.cbor4ii_items.specs.ReadHead.{number_on}
 use Rattle.cbor4ii_items.specs.Magnitude.{number_of, without_leading_zeros, magnitude}
-use Rattle.cbor4ii_items.specs.Numbers.{ReadsArgument, ReadsSigned, IsWithin, ReadsMagnitude, ReadsBignum, ReadsU128, ReadsI128, shortest_head, signed_head, string_bytes, bignum_bytes, unsigned_bytes, signed_bytes}
+use Rattle.cbor4ii_items.specs.Numbers.{ReadsArgument, ReadsSigned, IsWithin, ReadsMagnitude, ReadsBignum, ReadsU128, ReadsI128, shortest_head, signed_head, counted_string, bignum_bytes, unsigned_bytes, signed_bytes}
 use Rattle.cbor4ii_items.specs.ReadBack.{ReadsBack, NoneBeginsAnother}
 use Rattle.cbor4ii_items.specs.Outcome.{same_value}
 use Rattle.cbor4ii_items.specs.BigLaws.{number_taken}
+use Rattle.cbor4ii_items.specs.Decoding.{Reads}
 
 -- ---- the shortest head
 
@@ -109,12 +110,12 @@ number_of_bytes k n h =
     let same = same_value (number_on [] 0 k 0 (bs ++ [])) (number_again [] 0 k n [] h) (number_taken [] 0 k 0 (bs ++ []) room) in
     sym (same.0 ∙ ap number_of front)
 
-string_back : (content rest : List ℕ) → length content ≤ 16 → IsBytes content → ReadsMagnitude (string_bytes content ++ rest) (number_of content) (length (string_bytes content))
+string_back : (content rest : List ℕ) → length content ≤ 16 → IsBytes content → ReadsMagnitude (counted_string 2 content ++ rest) (number_of content) (length (counted_string 2 content))
 string_back content rest short bytes =
     let start = shortest_head 2 (length content) in
-    let whole : string_bytes content ++ rest ≡ start ++ (content ++ rest) = append_assoc start content rest in
-    let behind : drop (length start) (string_bytes content ++ rest) ≡ content ++ rest = ap (drop (length start)) whole ∙ drop-append_seam start (content ++ rest) in
-    let inner : take (length content) (drop (length start) (string_bytes content ++ rest)) ≡ content = ap (take (length content)) behind ∙ take-append_seam content rest in
+    let whole : counted_string 2 content ++ rest ≡ start ++ (content ++ rest) = append_assoc start content rest in
+    let behind : drop (length start) (counted_string 2 content ++ rest) ≡ content ++ rest = ap (drop (length start)) whole ∙ drop-append_seam start (content ++ rest) in
+    let inner : take (length content) (drop (length start) (counted_string 2 content ++ rest)) ≡ content = ap (take (length content)) behind ∙ take-append_seam content rest in
     let small : length content < 256 ^ 8 = omega (arith, short) in
     record {
       count = length content;
@@ -131,17 +132,17 @@ bignum_back : (tag v : ℕ) → tag < 256 → v < 256 ^ 16 → (rest : List ℕ)
 bignum_back tag v small fits rest =
     let start = shortest_head 6 tag in
     let content = magnitude v in
-    let whole : bignum_bytes tag v ++ rest ≡ start ++ (string_bytes content ++ rest) = append_assoc start (string_bytes content) rest in
-    let behind : drop (length start) (bignum_bytes tag v ++ rest) ≡ string_bytes content ++ rest = ap (drop (length start)) whole ∙ drop-append_seam start (string_bytes content ++ rest) in
+    let whole : bignum_bytes tag v ++ rest ≡ start ++ (counted_string 2 content ++ rest) = append_assoc start (counted_string 2 content) rest in
+    let behind : drop (length start) (bignum_bytes tag v ++ rest) ≡ counted_string 2 content ++ rest = ap (drop (length start)) whole ∙ drop-append_seam start (counted_string 2 content ++ rest) in
     let number : number_of content ≡ v = number_kept (bytes_high_first 16 v) ∙ number_of_bytes 16 v fits in
     let short : length content ≤ 16 = omega (arith, no_longer (bytes_high_first 16 v), length-bytes_high_first 16 v) in
     let back = string_back content rest short (still_bytes (bytes_high_first 16 v) (all_bytes 16 v)) in
     record {
       before = length start;
-      tagged = subst (λ zs. ReadsHead 6 1 zs tag (length start)) (sym whole) (head_back 6 w_one tag small (string_bytes content ++ rest));
-      size = length (string_bytes content);
-      magnitude = subst (λ zs. ReadsMagnitude zs v (length (string_bytes content))) (sym behind) (subst (λ k. ReadsMagnitude (string_bytes content ++ rest) k (length (string_bytes content))) number back);
-      total = length-append start (string_bytes content);
+      tagged = subst (λ zs. ReadsHead 6 1 zs tag (length start)) (sym whole) (head_back 6 w_one tag small (counted_string 2 content ++ rest));
+      size = length (counted_string 2 content);
+      magnitude = subst (λ zs. ReadsMagnitude zs v (length (counted_string 2 content))) (sym behind) (subst (λ k. ReadsMagnitude (counted_string 2 content ++ rest) k (length (counted_string 2 content))) number back);
+      total = length-append start (counted_string 2 content);
     }
 
 -- an integer as a head's argument where it fits, else as a bignum
@@ -167,7 +168,7 @@ nothing_more : (xs more : List ℕ) → length xs ≡ length (xs ++ more) → mo
 nothing_more xs [] e = refl
 nothing_more xs (m ∷ more) e = absurd (omega (arith, e, length-append xs (m ∷ more)))
 
-pub none_begins : {V : Type 0} (reads : List ℕ → V → ℕ → ℕ → Type 0) (same : V → V → Type 0) (closed : Bool) → ((xs : List ℕ) (v w : V) (n m c d : ℕ) → reads xs v n c → reads xs w m d → (n ≡ m) × (c ≡ d) × same v w)
+pub none_begins : {V : Type 0} (reads : Reads V) (same : V → V → Type 0) (closed : Bool) → ((xs : List ℕ) (v w : V) (n m c d : ℕ) → reads xs v n c → reads xs w m d → (n ≡ m) × (c ≡ d) × same v w)
     → (IsTrue closed → (xs ys : List ℕ) (v : V) (n c : ℕ) → reads xs v n c → reads (take n xs ++ ys) v n c) → IsTrue closed → NoneBeginsAnother reads
 none_begins reads same closed one alone e xs more v w c d p q =
     let whole : take (length xs) xs ≡ xs = take-length xs in

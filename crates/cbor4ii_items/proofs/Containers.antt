@@ -8,7 +8,7 @@ use Rattle.cbor4ii_items.specs.declared.types.Tag.{Tag}
 use Rattle.cbor4ii_items.specs.Refusal.{Refusal, refusal_of}
 use Rattle.cbor4ii_items.specs.Moves.{Kept}
 use Rattle.cbor4ii_items.specs.Reading.{Runs, peek_at}
-use Rattle.cbor4ii_items.specs.Decoding.{CostFits, IsExact, Sound, NoneRead, Refuses, Stops}
+use Rattle.cbor4ii_items.specs.Decoding.{Reads, StopsAt, CostFits, IsExact, Sound, NoneRead, Refuses, Stops}
 use Rattle.cbor4ii_items.specs.Heads.{ReadsHead, StopsHead}
 use Rattle.cbor4ii_items.specs.HeadLaws.{head_one}
 use Rattle.cbor4ii_items.specs.Numbers.{ReadsArgument, StopsArgument}
@@ -58,7 +58,7 @@ is_null xs b e h = elim h [ inl f ↦ inl (e ∙ ap (λ z. z ∷ []) f) | inr f 
 
 -- ---- none
 
-pub none_sound : {V : Type 0} (reads : List ℕ → V → ℕ → ℕ → Type 0) (a m b : View) (first : ℕ) → Saw a m first → (first ≡ 0xf6) ⊎ (first ≡ 0xf7) → Told m.told (λ xs. b.told ≡ Some (drop 1 xs)) → Sound (ReadsOption reads) a b None
+pub none_sound : {V : Type 0} (reads : Reads V) (a m b : View) (first : ℕ) → Saw a m first → (first ≡ 0xf6) ⊎ (first ≡ 0xf7) → Told m.told (λ xs. b.told ≡ Some (drop 1 xs)) → Sound (ReadsOption reads) a b None
 none_sound reads a m b first s h drops = record {
   at = λ xs told.
       let f = s.first xs told in
@@ -67,7 +67,7 @@ none_sound reads a m b first s h drops = record {
 
 -- ---- some item
 
-pub some_sound : {V : Type 0} (reads : List ℕ → V → ℕ → ℕ → Type 0) (a m b : View) (v : V) (first : ℕ) → Saw a m first → first ≢ 0xf6 → first ≢ 0xf7 → Sound reads m b v → Sound (ReadsOption reads) a b (Some v)
+pub some_sound : {V : Type 0} (reads : Reads V) (a m b : View) (v : V) (first : ℕ) → Saw a m first → first ≢ 0xf6 → first ≢ 0xf7 → Sound reads m b v → Sound (ReadsOption reads) a b (Some v)
 some_sound reads a m b v first s p q h = record {
   at = λ xs told.
       let f = s.first xs told in
@@ -75,24 +75,24 @@ some_sound reads a m b v first s p q h = record {
       record { count = t.count; cost = t.cost; read = (not_null xs first f.1 p q, f.2, t.read); fits = subst (CostFits t.cost) s.budget t.fits; left = t.left };
 }
 
-no_option : {V : Type 0} (reads : List ℕ → V → ℕ → ℕ → Type 0) (xs : List ℕ) (old new : Option ℕ) → old ≡ new → (BeginsNull xs → ⊥) → NoneRead reads xs old → (o : Option V) (k c : ℕ) → ReadsOption reads xs o k c → CostFits c new → ⊥
+no_option : {V : Type 0} (reads : Reads V) (xs : List ℕ) (old new : Option ℕ) → old ≡ new → (BeginsNull xs → ⊥) → NoneRead reads xs old → (o : Option V) (k c : ℕ) → ReadsOption reads xs o k c → CostFits c new → ⊥
 no_option reads xs old new e n h None k c r fits = n r.0
 no_option reads xs old new e n h (Some v) k c r fits = h v k c r.2 (subst (CostFits c) (sym e) fits)
 
-pub some_refuses : {V E : Type 0} (reads : List ℕ → V → ℕ → ℕ → Type 0) (a m : View) (e : DecodeError E) (first : ℕ) → Saw a m first → first ≢ 0xf6 → first ≢ 0xf7 → ((xs : List ℕ) → a.told ≡ Some xs → Refuses reads m e) → Refuses (ReadsOption reads) a e
+pub some_refuses : {V E : Type 0} (reads : Reads V) (a m : View) (e : DecodeError E) (first : ℕ) → Saw a m first → first ≢ 0xf6 → first ≢ 0xf7 → ((xs : List ℕ) → a.told ≡ Some xs → Refuses reads m e) → Refuses (ReadsOption reads) a e
 some_refuses reads a m e first s p q h = record {
   at = λ xs told.
       let f = s.first xs told in
       if_some (refusal_of e) (no_option reads xs m.budget a.budget s.budget (not_null xs first f.1 p q)) ((h xs told).at xs f.0);
 }
 
-stops_some : (o : Option Refusal) (stops : List ℕ → Option ℕ → Refusal → List ℕ → Type 0) (xs : List ℕ) (old new : Option ℕ) (left : Option (List ℕ)) → old ≡ new → 1 ≤ length xs
+stops_some : (o : Option Refusal) (stops : StopsAt) (xs : List ℕ) (old new : Option ℕ) (left : Option (List ℕ)) → old ≡ new → 1 ≤ length xs
     → IfSome o (λ z. (ys : List ℕ) × (left ≡ Some ys) × stops xs old z ys) → IfSome o (λ z. (ys : List ℕ) × (left ≡ Some ys) × StopsOption stops xs new z ys)
 stops_some None stops xs old new left e n h = tt
 stops_some (Some z) stops [] old new left e n h = absurd (omega arith)
 stops_some (Some z) stops (x ∷ xs) old new left e n h = (h.0, h.1, subst (λ k. stops (x ∷ xs) k z h.0) e h.2)
 
-pub some_stops : {E : Type 0} (stops : List ℕ → Option ℕ → Refusal → List ℕ → Type 0) (a m b : View) (e : DecodeError E) (first : ℕ) → Saw a m first → ((xs : List ℕ) → a.told ≡ Some xs → Stops stops m b e) → Stops (StopsOption stops) a b e
+pub some_stops : {E : Type 0} (stops : StopsAt) (a m b : View) (e : DecodeError E) (first : ℕ) → Saw a m first → ((xs : List ℕ) → a.told ≡ Some xs → Stops stops m b e) → Stops (StopsOption stops) a b e
 some_stops stops a m b e first s h = record {
   at = λ xs told.
       let f = s.first xs told in
@@ -101,20 +101,20 @@ some_stops stops a m b e first s h = record {
 
 -- ---- the end of the input
 
-no_bytes : {V : Type 0} (reads : List ℕ → V → ℕ → ℕ → Type 0) (budget : Option ℕ) (o : Option V) (n c : ℕ) → ReadsOption reads [] o n c → CostFits c budget → ⊥
+no_bytes : {V : Type 0} (reads : Reads V) (budget : Option ℕ) (o : Option V) (n c : ℕ) → ReadsOption reads [] o n c → CostFits c budget → ⊥
 no_bytes reads budget None n c r fits = elim r.0 [ inl e ↦ cc | inr e ↦ cc ]
 no_bytes reads budget (Some v) n c r fits = absurd (omega (arith, r.1))
 
-end_read : {V : Type 0} (o : Option Refusal) (reads : List ℕ → V → ℕ → ℕ → Type 0) (name : List ℕ) (expect : ℕ) (xs : List ℕ) (budget : Option ℕ) (left : Option (List ℕ))
+end_read : {V : Type 0} (o : Option Refusal) (reads : Reads V) (name : List ℕ) (expect : ℕ) (xs : List ℕ) (budget : Option ℕ) (left : Option (List ℕ))
     → IfSome o (λ z. (ys : List ℕ) × (left ≡ Some ys) × (peek_at name expect xs ≡ Err (z, ys))) → IfSome o (λ z. NoneRead (ReadsOption reads) xs budget)
 end_read None reads name expect xs budget left h = tt
 end_read (Some z) reads name expect (x ∷ xs) budget left h = let e = h.2 in cc
 end_read (Some z) reads name expect [] budget left h = no_bytes reads budget
 
-pub end_refuses : {V E : Type 0} (reads : List ℕ → V → ℕ → ℕ → Type 0) (name : List ℕ) (expect : ℕ) (e : DecodeError E) {a m : View} → Runs {V = ℕ} (peek_at name expect) a m (Err e) → Refuses (ReadsOption reads) a e
+pub end_refuses : {V E : Type 0} (reads : Reads V) (name : List ℕ) (expect : ℕ) (e : DecodeError E) {a m : View} → Runs {V = ℕ} (peek_at name expect) a m (Err e) → Refuses (ReadsOption reads) a e
 end_refuses reads name expect e {a = a} {m = m} p = record { at = λ xs told. end_read (refusal_of e) reads name expect xs a.budget m.told (p.answers xs told) }
 
-stops_end : (o : Option Refusal) (stops : List ℕ → Option ℕ → Refusal → List ℕ → Type 0) (xs : List ℕ) (budget : Option ℕ) (left : Option (List ℕ))
+stops_end : (o : Option Refusal) (stops : StopsAt) (xs : List ℕ) (budget : Option ℕ) (left : Option (List ℕ))
     → IfSome o (λ z. (ys : List ℕ) × (left ≡ Some ys) × (peek_at (codes "option") 1 xs ≡ Err (z, ys))) → IfSome o (λ z. (ys : List ℕ) × (left ≡ Some ys) × StopsOption stops xs budget z ys)
 stops_end None stops xs budget left h = tt
 stops_end (Some z) stops (x ∷ xs) budget left h = let e = h.2 in cc
@@ -122,15 +122,15 @@ stops_end (Some z) stops [] budget left h =
     let r = same_refusal (peek_at (codes "option") 1 []) refl h.2 in
     (h.0, h.1, (sym r.0, sym r.1))
 
-pub end_stops : {E : Type 0} (stops : List ℕ → Option ℕ → Refusal → List ℕ → Type 0) (e : DecodeError E) {a m : View} → Runs {V = ℕ} (peek_at (codes "option") 1) a m (Err e) → Stops (StopsOption stops) a m e
+pub end_stops : {E : Type 0} (stops : StopsAt) (e : DecodeError E) {a m : View} → Runs {V = ℕ} (peek_at (codes "option") 1) a m (Err e) → Stops (StopsOption stops) a m e
 end_stops stops e {a = a} {m = m} p = record { at = λ xs told. stops_end (refusal_of e) stops xs a.budget m.told (p.answers xs told) }
 
 -- ---- tags
 
-abbrev pub TagOf : {V : Type 0} → (List ℕ → V → ℕ → ℕ → Type 0) → List ℕ → Tag V → ℕ → ℕ → Type 0
+abbrev pub TagOf : {V : Type 0} → Reads V → Reads (Tag V)
 TagOf reads xs v n c = ReadsTag reads xs v.0 v.1 n c
 
-pub tag_sound : {V : Type 0} (reads : List ℕ → V → ℕ → ℕ → Type 0) (a m b : View) (t : Tag V) → Kept a m → Sound (ReadsArgument 6 8) a m t.0 → Sound reads m b t.1 → Sound (TagOf reads) a b t
+pub tag_sound : {V : Type 0} (reads : Reads V) (a m b : View) (t : Tag V) → Kept a m → Sound (ReadsArgument 6 8) a m t.0 → Sound reads m b t.1 → Sound (TagOf reads) a b t
 tag_sound reads a m b t kept h s = record {
   at = λ xs told.
       let p = h.at xs told in
@@ -144,7 +144,7 @@ tag_sound reads a m b t kept h s = record {
       };
 }
 
-pub tag_refuses : {V E : Type 0} (reads : List ℕ → V → ℕ → ℕ → Type 0) (e : DecodeError E) (a m : View) (k : ℕ) → Kept a m → Sound (ReadsArgument 6 8) a m k → ((xs : List ℕ) → a.told ≡ Some xs → Refuses reads m e) → Refuses (TagOf reads) a e
+pub tag_refuses : {V E : Type 0} (reads : Reads V) (e : DecodeError E) (a m : View) (k : ℕ) → Kept a m → Sound (ReadsArgument 6 8) a m k → ((xs : List ℕ) → a.told ≡ Some xs → Refuses reads m e) → Refuses (TagOf reads) a e
 tag_refuses reads e a m k kept h r = record {
   at = λ xs told.
       let p = h.at xs told in
@@ -153,25 +153,25 @@ tag_refuses reads e a m k kept h r = record {
       none t.1 q.count c (subst (λ i. reads (drop i xs) t.1 q.count c) same.0 q.item) (subst (CostFits c) (sym kept.budget) fits)) ((r xs told).at (drop p.count xs) p.left);
 }
 
-pub tag_no_head : {V E : Type 0} (reads : List ℕ → V → ℕ → ℕ → Type 0) (e : DecodeError E) (a : View) → Refuses (ReadsArgument 6 8) a e → Refuses (TagOf reads) a e
+pub tag_no_head : {V E : Type 0} (reads : Reads V) (e : DecodeError E) (a : View) → Refuses (ReadsArgument 6 8) a e → Refuses (TagOf reads) a e
 tag_no_head reads e a h = record { at = λ xs told. if_some (refusal_of e) (λ none t n c q fits. none t.0 q.before 0 (q.head, refl) (fits_zero a.budget)) (h.at xs told) }
 
-stops_item : (o : Option Refusal) (stops : List ℕ → Option ℕ → Refusal → List ℕ → Type 0) (xs : List ℕ) (k n : ℕ) (old mid : Option ℕ) (left : Option (List ℕ)) → mid ≡ old → ReadsHead 6 8 xs k n
+stops_item : (o : Option Refusal) (stops : StopsAt) (xs : List ℕ) (k n : ℕ) (old mid : Option ℕ) (left : Option (List ℕ)) → mid ≡ old → ReadsHead 6 8 xs k n
     → IfSome o (λ z. (ys : List ℕ) × (left ≡ Some ys) × stops (drop n xs) mid z ys) → IfSome o (λ z. (ys : List ℕ) × (left ≡ Some ys) × StopsTag stops xs old z ys)
 stops_item None stops xs k n old mid left e f h = tt
 stops_item (Some z) stops xs k n old mid left e f h = (h.0, h.1, inr (record { number = k; before = n; head = f; item = subst (λ b. stops (drop n xs) b z h.0) e h.2 }))
 
-pub tag_stops : {E : Type 0} (stops : List ℕ → Option ℕ → Refusal → List ℕ → Type 0) (a m b : View) (e : DecodeError E) (k : ℕ) → Kept a m → Sound (ReadsArgument 6 8) a m k → ((xs : List ℕ) → a.told ≡ Some xs → Stops stops m b e) → Stops (StopsTag stops) a b e
+pub tag_stops : {E : Type 0} (stops : StopsAt) (a m b : View) (e : DecodeError E) (k : ℕ) → Kept a m → Sound (ReadsArgument 6 8) a m k → ((xs : List ℕ) → a.told ≡ Some xs → Stops stops m b e) → Stops (StopsTag stops) a b e
 tag_stops stops a m b e k kept h s = record {
   at = λ xs told.
       let p = h.at xs told in
       stops_item (refusal_of e) stops xs k p.count a.budget m.budget b.told kept.budget p.read.0 ((s xs told).at (drop p.count xs) p.left);
 }
 
-stops_head : (o : Option Refusal) (stops : List ℕ → Option ℕ → Refusal → List ℕ → Type 0) (xs : List ℕ) (budget : Option ℕ) (left : Option (List ℕ))
+stops_head : (o : Option Refusal) (stops : StopsAt) (xs : List ℕ) (budget : Option ℕ) (left : Option (List ℕ))
     → IfSome o (λ z. (ys : List ℕ) × (left ≡ Some ys) × StopsHead (codes "tag") 6 8 xs z ys) → IfSome o (λ z. (ys : List ℕ) × (left ≡ Some ys) × StopsTag stops xs budget z ys)
 stops_head None stops xs budget left h = tt
 stops_head (Some z) stops xs budget left h = (h.0, h.1, inl h.2)
 
-pub tag_head_stops : {E : Type 0} (stops : List ℕ → Option ℕ → Refusal → List ℕ → Type 0) (a b : View) (e : DecodeError E) → Stops (StopsArgument (codes "tag") 6 8) a b e → Stops (StopsTag stops) a b e
+pub tag_head_stops : {E : Type 0} (stops : StopsAt) (a b : View) (e : DecodeError E) → Stops (StopsArgument (codes "tag") 6 8) a b e → Stops (StopsTag stops) a b e
 tag_head_stops stops a b e h = record { at = λ xs told. stops_head (refusal_of e) stops xs a.budget b.told (h.at xs told) }

@@ -8,17 +8,17 @@ use Rattle.cbor4ii_items.specs.Head.{IsBytes}
 use Rattle.cbor4ii_items.specs.Refusal.{Refusal, refusal_of, is_read}
 use Rattle.cbor4ii_items.specs.Moves.{Kept, Broke}
 use Rattle.cbor4ii_items.specs.Reading.{Reading, Runs}
-use Rattle.cbor4ii_items.specs.Decoding.{Sound, NoneRead, Refuses, Stops}
+use Rattle.cbor4ii_items.specs.Decoding.{Reads, StopsAt, Sound, NoneRead, Refuses, Stops}
 use Rattle.cbor4ii_items.specs.Laws.Answering.{fits_zero, same_some}
 use Rattle.cbor4ii_items.specs.Laws.Arguments.{ReadBy}
 
 -- The program reads what the relation says, and refuses what the other relation says. The bytes that it takes are bytes.
-pub record IsLeaf {V : Type 0} (program : Reading V) (reads : List ℕ → V → ℕ → ℕ → Type 0) (stops : List ℕ → Option ℕ → Refusal → List ℕ → Type 0) : Type 0 where
+pub record IsLeaf {V : Type 0} (program : Reading V) (reads : Reads V) (stops : StopsAt) : Type 0 where
   pub means : (xs : List ℕ) (v : V) (n : ℕ) → program xs ≡ Ok (v, drop n xs) → n ≤ length xs → IsBytes (take n xs) → reads xs v n 0
   pub again : (xs : List ℕ) (v : V) (n c : ℕ) → reads xs v n c → ReadBy program xs v n c
   pub refuses : (xs : List ℕ) (budget : Option ℕ) (z : Refusal) (n : ℕ) → program xs ≡ Err (z, drop n xs) → n ≤ length xs → IsBytes (take n xs) → stops xs budget z (drop n xs)
 
-leaf_read : {V E : Type 0} {program : Reading V} {reads : List ℕ → V → ℕ → ℕ → Type 0} {stops : List ℕ → Option ℕ → Refusal → List ℕ → Type 0} {v : V} {a b : View} → IsLeaf program reads stops → Runs {E = E} program a b (Ok v) → Sound reads a b v
+leaf_read : {V E : Type 0} {program : Reading V} {reads : Reads V} {stops : StopsAt} {v : V} {a b : View} → IsLeaf program reads stops → Runs {E = E} program a b (Ok v) → Sound reads a b v
 leaf_read {v = v} {a = a} {b = b} leaf p = record {
   at = λ xs told.
       let h = p.answers xs told in
@@ -27,7 +27,7 @@ leaf_read {v = v} {a = a} {b = b} leaf p = record {
       record { count = t.0; cost = 0; read = leaf.means xs v t.0 (h.2 ∙ ap (λ (zs : List ℕ). Ok (v, zs)) e) t.1.within t.1.bytes; fits = fits_zero a.budget; left = t.1.left };
 }
 
-none_read : {V : Type 0} (program : Reading V) (reads : List ℕ → V → ℕ → ℕ → Type 0) (o : Option Refusal) (xs : List ℕ) (budget : Option ℕ) (left : Option (List ℕ)) → ((v : V) (n c : ℕ) → reads xs v n c → ReadBy program xs v n c)
+none_read : {V : Type 0} (program : Reading V) (reads : Reads V) (o : Option Refusal) (xs : List ℕ) (budget : Option ℕ) (left : Option (List ℕ)) → ((v : V) (n c : ℕ) → reads xs v n c → ReadBy program xs v n c)
     → IfSome o (λ z. (ys : List ℕ) × (left ≡ Some ys) × (program xs ≡ Err (z, ys))) → IfSome o (λ z. NoneRead reads xs budget)
 none_read program reads None xs budget left again h = tt
 none_read program reads (Some z) xs budget left again h = λ v n c r fits. let f = (again v n c r).answer in let g = h.2 in cc
@@ -48,7 +48,7 @@ spoken (DepthOverflow name) a b h = h
 spoken (Custom name num) a b h = h
 spoken OutOfMemory a b h = tt
 
-stopped : {V : Type 0} (program : Reading V) (stops : List ℕ → Option ℕ → Refusal → List ℕ → Type 0) (o : Option Refusal) (xs : List ℕ) (a b : View) → a.told ≡ Some xs
+stopped : {V : Type 0} (program : Reading V) (stops : StopsAt) (o : Option Refusal) (xs : List ℕ) (a b : View) → a.told ≡ Some xs
     → ((z : Refusal) (n : ℕ) → program xs ≡ Err (z, drop n xs) → n ≤ length xs → IsBytes (take n xs) → stops xs a.budget z (drop n xs))
     → IfSome o (λ z. Kept a b) → IfSome o (λ z. (ys : List ℕ) × (b.told ≡ Some ys) × (program xs ≡ Err (z, ys))) → IfSome o (λ z. (ys : List ℕ) × (b.told ≡ Some ys) × stops xs a.budget z ys)
 stopped program stops None xs a b told refuses kept h = tt
@@ -59,7 +59,7 @@ stopped program stops (Some z) xs a b told refuses kept h =
 
 -- ---- whatever the call answers
 
-module _ {V E : Type 0} {program : Reading V} {reads : List ℕ → V → ℕ → ℕ → Type 0} {stops : List ℕ → Option ℕ → Refusal → List ℕ → Type 0} (leaf : IsLeaf program reads stops) (r : Result V (DecodeError E)) {a b : View} where
+module _ {V E : Type 0} {program : Reading V} {reads : Reads V} {stops : StopsAt} (leaf : IsLeaf program reads stops) (r : Result V (DecodeError E)) {a b : View} where
   pub leaf_sound : Runs program a b r → IfOk r (Sound reads a b)
   leaf_sound p = elim r as (λ t. Runs program a b t → IfOk t (Sound reads a b)) [ Ok v ↦ (λ q. leaf_read leaf q) | Err e ↦ (λ q. tt) ] p
 
@@ -71,7 +71,7 @@ module _ {V E : Type 0} {program : Reading V} {reads : List ℕ → V → ℕ �
 
 -- ---- one type as another
 
-pub sound_as : {U V : Type 0} (reads : List ℕ → U → ℕ → ℕ → Type 0) (part : V → U) {u : U} {v : V} {a b : View} → part v ≡ u → Sound reads a b u → Sound (λ xs v. reads xs (part v)) a b v
+pub sound_as : {U V : Type 0} (reads : Reads U) (part : V → U) {u : U} {v : V} {a b : View} → part v ≡ u → Sound reads a b u → Sound (λ xs v. reads xs (part v)) a b v
 sound_as reads part e s = record {
   at = λ xs told. let t = s.at xs told in record { count = t.count; cost = t.cost; read = subst (λ z. reads xs z t.count t.cost) (sym e) t.read; fits = t.fits; left = t.left };
 }

@@ -8,7 +8,7 @@ use Rattle.cbor4ii_items.specs.Head.{IsBytes}
 use Rattle.cbor4ii_items.specs.Refusal.{Refusal, refusal_of, require_length, len_of}
 use Rattle.cbor4ii_items.specs.Moves.{Kept}
 use Rattle.cbor4ii_items.specs.Reading.{refuse, go_on}
-use Rattle.cbor4ii_items.specs.Decoding.{CostFits, NoneRead, Sound, Refuses, Stops}
+use Rattle.cbor4ii_items.specs.Decoding.{Reads, StopsAt, CostFits, NoneRead, Sound, Refuses, Stops}
 use Rattle.cbor4ii_items.specs.Outcome.{same_value, same_refusal}
 use Rattle.cbor4ii_items.specs.Heads.{ReadsHead}
 use Rattle.cbor4ii_items.specs.HeadLaws.{read_head, head_read, head_one}
@@ -81,17 +81,17 @@ few_leaf = record { means = few_means; again = few_again; refuses = few_refuses 
 
 -- ---- the item
 
-abbrev pub MaybeOf : {V : Type 0} → (List ℕ → V → ℕ → ℕ → Type 0) → List ℕ → Maybe (Option V) → ℕ → ℕ → Type 0
+abbrev pub MaybeOf : {V : Type 0} → Reads V → Reads (Maybe (Option V))
 MaybeOf reads xs v n c = ReadsMaybe reads xs v.0 n c
 
-pub maybe_none : {V : Type 0} (reads : List ℕ → V → ℕ → ℕ → Type 0) (a b : View) (t : Bool) → t ≡ false → Sound ReadsFew a b t → Sound (MaybeOf reads) a b (record { 0 = None })
+pub maybe_none : {V : Type 0} (reads : Reads V) (a b : View) (t : Bool) → t ≡ false → Sound ReadsFew a b t → Sound (MaybeOf reads) a b (record { 0 = None })
 maybe_none reads a b t e s = record {
   at = λ xs told.
       let p = s.at xs told in
       record { count = p.count; cost = p.cost; read = subst (λ v. ReadsFew xs v p.count p.cost) e p.read; fits = p.fits; left = p.left };
 }
 
-pub maybe_some : {V : Type 0} (reads : List ℕ → V → ℕ → ℕ → Type 0) (a m b : View) (t : Bool) (v : V) → t ≡ true → Kept a m → Sound ReadsFew a m t → Sound reads m b v → Sound (MaybeOf reads) a b (record { 0 = Some v })
+pub maybe_some : {V : Type 0} (reads : Reads V) (a m b : View) (t : Bool) (v : V) → t ≡ true → Kept a m → Sound ReadsFew a m t → Sound reads m b v → Sound (MaybeOf reads) a b (record { 0 = Some v })
 maybe_some reads a m b t v e kept h s = record {
   at = λ xs told.
       let p = h.at xs told in
@@ -106,13 +106,13 @@ maybe_some reads a m b t v e kept h s = record {
       };
 }
 
-no_maybe : {V : Type 0} (reads : List ℕ → V → ℕ → ℕ → Type 0) (xs : List ℕ) (i : ℕ) (old new : Option ℕ) → old ≡ new → ReadsHead 4 8 xs 1 i → NoneRead reads (drop i xs) old → (v : Option V) (n c : ℕ) → ReadsMaybe reads xs v n c → CostFits c new → ⊥
+no_maybe : {V : Type 0} (reads : Reads V) (xs : List ℕ) (i : ℕ) (old new : Option ℕ) → old ≡ new → ReadsHead 4 8 xs 1 i → NoneRead reads (drop i xs) old → (v : Option V) (n c : ℕ) → ReadsMaybe reads xs v n c → CostFits c new → ⊥
 no_maybe reads xs i old new e head none None n c r fits = two_counts xs n i r.0 head
 no_maybe reads xs i old new e head none (Some v) n c r fits =
     let same = head_one 4 8 xs 1 1 r.before i (omega arith) r.head head in
     none v r.count c (subst (λ k. reads (drop k xs) v r.count c) same.0 r.item) (subst (CostFits c) (sym e) fits)
 
-pub maybe_refuses : {V E : Type 0} (reads : List ℕ → V → ℕ → ℕ → Type 0) (e : DecodeError E) (a m : View) (t : Bool) → t ≡ true → Kept a m → Sound ReadsFew a m t → ((xs : List ℕ) → a.told ≡ Some xs → Refuses reads m e) → Refuses (MaybeOf reads) a e
+pub maybe_refuses : {V E : Type 0} (reads : Reads V) (e : DecodeError E) (a m : View) (t : Bool) → t ≡ true → Kept a m → Sound ReadsFew a m t → ((xs : List ℕ) → a.told ≡ Some xs → Refuses reads m e) → Refuses (MaybeOf reads) a e
 maybe_refuses reads e a m t is kept h r = record {
   at = λ xs told.
       let p = h.at xs told in
@@ -120,19 +120,19 @@ maybe_refuses reads e a m t is kept h r = record {
       if_some (refusal_of e) (λ none v. no_maybe reads xs p.count m.budget a.budget kept.budget one.0 none v.0) ((r xs told).at (drop p.count xs) p.left);
 }
 
-no_few : {V : Type 0} (reads : List ℕ → V → ℕ → ℕ → Type 0) (xs : List ℕ) (budget : Option ℕ) → NoneRead ReadsFew xs budget → (v : Option V) (n c : ℕ) → ReadsMaybe reads xs v n c → CostFits c budget → ⊥
+no_few : {V : Type 0} (reads : Reads V) (xs : List ℕ) (budget : Option ℕ) → NoneRead ReadsFew xs budget → (v : Option V) (n c : ℕ) → ReadsMaybe reads xs v n c → CostFits c budget → ⊥
 no_few reads xs budget none None n c r fits = none false n c r fits
 no_few reads xs budget none (Some v) n c r fits = none true r.before 0 (r.head, refl) (fits_zero budget)
 
-pub maybe_no_head : {V E : Type 0} (reads : List ℕ → V → ℕ → ℕ → Type 0) (e : DecodeError E) (a : View) → Refuses ReadsFew a e → Refuses (MaybeOf reads) a e
+pub maybe_no_head : {V E : Type 0} (reads : Reads V) (e : DecodeError E) (a : View) → Refuses ReadsFew a e → Refuses (MaybeOf reads) a e
 maybe_no_head reads e a h = refuses_as ReadsFew (MaybeOf reads) (λ xs budget none v. no_few reads xs budget none v.0) h
 
-stops_item : (o : Option Refusal) (stops : List ℕ → Option ℕ → Refusal → List ℕ → Type 0) (xs : List ℕ) (n : ℕ) (old mid : Option ℕ) (left : Option (List ℕ)) → mid ≡ old → ReadsHead 4 8 xs 1 n
+stops_item : (o : Option Refusal) (stops : StopsAt) (xs : List ℕ) (n : ℕ) (old mid : Option ℕ) (left : Option (List ℕ)) → mid ≡ old → ReadsHead 4 8 xs 1 n
     → IfSome o (λ z. (ys : List ℕ) × (left ≡ Some ys) × stops (drop n xs) mid z ys) → IfSome o (λ z. (ys : List ℕ) × (left ≡ Some ys) × StopsMaybe stops xs old z ys)
 stops_item None stops xs n old mid left e f h = tt
 stops_item (Some z) stops xs n old mid left e f h = (h.0, h.1, maybe_item_refused n f (subst (λ b. stops (drop n xs) b z h.0) e h.2))
 
-pub maybe_stops : {E : Type 0} (stops : List ℕ → Option ℕ → Refusal → List ℕ → Type 0) (a m b : View) (e : DecodeError E) (t : Bool) → t ≡ true → Kept a m → Sound ReadsFew a m t → ((xs : List ℕ) → a.told ≡ Some xs → Stops stops m b e) → Stops (StopsMaybe stops) a b e
+pub maybe_stops : {E : Type 0} (stops : StopsAt) (a m b : View) (e : DecodeError E) (t : Bool) → t ≡ true → Kept a m → Sound ReadsFew a m t → ((xs : List ℕ) → a.told ≡ Some xs → Stops stops m b e) → Stops (StopsMaybe stops) a b e
 maybe_stops stops a m b e t is kept h s = record {
   at = λ xs told.
       let p = h.at xs told in
@@ -140,10 +140,10 @@ maybe_stops stops a m b e t is kept h s = record {
       stops_item (refusal_of e) stops xs p.count a.budget m.budget b.told kept.budget one.0 ((s xs told).at (drop p.count xs) p.left);
 }
 
-stops_head : (o : Option Refusal) (stops : List ℕ → Option ℕ → Refusal → List ℕ → Type 0) (xs : List ℕ) (budget : Option ℕ) (left : Option (List ℕ))
+stops_head : (o : Option Refusal) (stops : StopsAt) (xs : List ℕ) (budget : Option ℕ) (left : Option (List ℕ))
     → IfSome o (λ z. (ys : List ℕ) × (left ≡ Some ys) × StopsFew xs budget z ys) → IfSome o (λ z. (ys : List ℕ) × (left ≡ Some ys) × StopsMaybe stops xs budget z ys)
 stops_head None stops xs budget left h = tt
 stops_head (Some z) stops xs budget left h = (h.0, h.1, maybe_head_refused h.2)
 
-pub maybe_head_stops : {E : Type 0} (stops : List ℕ → Option ℕ → Refusal → List ℕ → Type 0) (a b : View) (e : DecodeError E) → Stops StopsFew a b e → Stops (StopsMaybe stops) a b e
+pub maybe_head_stops : {E : Type 0} (stops : StopsAt) (a b : View) (e : DecodeError E) → Stops StopsFew a b e → Stops (StopsMaybe stops) a b e
 maybe_head_stops stops a b e h = record { at = λ xs told. stops_head (refusal_of e) stops xs a.budget b.told (h.at xs told) }

@@ -5,7 +5,7 @@ use Rattle.cbor4ii_rw.specs.View.{View}
 use Rattle.cbor4ii_rw.specs.declared.error.DecodeError.{DecodeError}
 use Rattle.cbor4ii_items.specs.Refusal.{Refusal, refusal_of}
 use Rattle.cbor4ii_items.specs.Moves.{Kept}
-use Rattle.cbor4ii_items.specs.Decoding.{CostFits, IsExact, Sound, NoneRead, Refuses, Stops}
+use Rattle.cbor4ii_items.specs.Decoding.{Reads, StopsAt, CostFits, IsExact, Sound, NoneRead, Refuses, Stops}
 use Rattle.cbor4ii_items.specs.Fronts.{drop_more}
 use Rattle.cbor4ii_items.specs.ContainerLaws.{both}
 use Rattle.cbor4ii_items.specs.Sequences.{ReadsPair, StopsPair}
@@ -22,7 +22,7 @@ less_max_left c d e h = omega arith
 less_max_right : (c d e : ℕ) → c ≡ max d e → e ≤ c
 less_max_right c d e h = omega arith
 
-module _ {K V : Type 0} (key_reads : List ℕ → K → ℕ → ℕ → Type 0) (value_reads : List ℕ → V → ℕ → ℕ → Type 0) where
+module _ {K V : Type 0} (key_reads : Reads K) (value_reads : Reads V) where
   pub pair_sound : {a m b : View} {k : K} {v : V} → Kept a m → Sound key_reads a m k → Sound value_reads m b v → Sound (ReadsPair key_reads value_reads) a b (k, v)
   pair_sound {a = a} kept s t = record {
     at = λ xs told.
@@ -57,7 +57,7 @@ module _ {K V : Type 0} (key_reads : List ℕ → K → ℕ → ℕ → Type 0) 
           if_some (refusal_of e) (no_value xs k p.count p.cost a.budget m.budget p.read kept.budget) ((r xs told).at (drop p.count xs) p.left);
     }
 
-module _ {K : Type 0} (key_reads : List ℕ → K → ℕ → ℕ → Type 0) (key_stops value_stops : List ℕ → Option ℕ → Refusal → List ℕ → Type 0) where
+module _ {K : Type 0} (key_reads : Reads K) (key_stops value_stops : StopsAt) where
   pub key_stops_pair : {E : Type 0} {e : DecodeError E} {a m : View} → Stops key_stops a m e → Stops (StopsPair key_reads key_stops value_stops) a m e
   key_stops_pair {e = e} {a = a} {m = m} s = record {
     at = λ xs told. stops_as (refusal_of e) m.told (key_stops xs a.budget) (StopsPair key_reads key_stops value_stops xs a.budget) (λ z ys h. inl h) (s.at xs told);

@@ -13,7 +13,7 @@ use Rattle.cbor4ii_items.specs.Refusal.{Refusal, refusal_of}
 use Rattle.cbor4ii_items.specs.Moves.{Kept, Moves, is_failure}
 use Rattle.cbor4ii_items.specs.Reading.{Runs}
 use Rattle.cbor4ii_items.specs.ReadHead.{length_at}
-use Rattle.cbor4ii_items.specs.Decoding.{CostFits, IsExact, Sound, NoneRead, Refuses, Stops}
+use Rattle.cbor4ii_items.specs.Decoding.{Reads, StopsAt, CostFits, IsExact, Sound, NoneRead, Refuses, Stops}
 use Rattle.cbor4ii_items.specs.Fronts.{drop_more}
 use Rattle.cbor4ii_items.specs.ProgramEnds.{length_some, length_none}
 use Rattle.cbor4ii_items.specs.StringLaws.{head_not_open, length_known, length_open}
@@ -64,7 +64,7 @@ opens name major is p = record {
   kept = p.moves.by;
 }
 
-module _ {P : Type 0} (major : ℕ) (reads : List ℕ → P → ℕ → ℕ → Type 0) (never_empty : Bool) where
+module _ {P : Type 0} (major : ℕ) (reads : Reads P) (never_empty : Bool) where
   no_head : (o : Option Refusal) (name xs : List ℕ) (budget : Option ℕ) (left : Option (List ℕ)) → major < 8 → IfSome o (λ z. (ys : List ℕ) × (left ≡ Some ys) × (length_at name major xs ≡ Err (z, ys))) → IfSome o (λ z. NoneRead (ReadsInside major reads never_empty) xs budget)
   no_head None name xs budget left small h = tt
   no_head (Some z) name xs budget left small h = λ ps n c r fits. let g = h.2 in elim r [
@@ -138,7 +138,7 @@ module _ {P : Type 0} (major : ℕ) (reads : List ℕ → P → ℕ → ℕ → 
       })
     ] s
 
-  module _ (name : List ℕ) (stops : List ℕ → Option ℕ → Refusal → List ℕ → Type 0) where
+  module _ (name : List ℕ) (stops : StopsAt) where
     pub head_stops : {E : Type 0} {a m : View} {e : DecodeError E} → Runs {V = Option ℕ} (length_at name major) a m (Err e) → Stops (StopsInside name major reads stops never_empty) a m e
     head_stops {a = a} {m = m} {e = e} p = record {
       at = λ xs told. stops_as (refusal_of e) m.told (λ z ys. length_at name major xs ≡ Err (z, ys)) (StopsInside name major reads stops never_empty xs a.budget)
@@ -189,7 +189,7 @@ exact_step owned a b k (inr e) = inr (subst IsTrue (sym k.lends_whole) e.0, λ x
 pub moves_stepped : {V E : Type 0} (r : Result V (DecodeError E)) (a b c d : View) → StepsIn a.budget b.budget true → KeepsAllButBudget a b → Moves b c r → d.budget ≡ step_back c.budget → KeepsAllButBudget c d → Moves a d r
 moves_stepped r a b c d takes inward m gives outward = record { by = moves_around inward outward (is_failure r) (λ same. gives ∙ (ap step_back same ∙ step_again a.budget b.budget takes)) m.by; depth = λ none. m.depth (step_unbound a.budget b.budget takes none) }
 
-module _ {P : Type 0} (major : ℕ) (reads : List ℕ → P → ℕ → ℕ → Type 0) (never_empty : Bool) where
+module _ {P : Type 0} (major : ℕ) (reads : Reads P) (never_empty : Bool) where
   module _ {E : Type 0} (r : Result (Vec P Global) (DecodeError E)) (a b : View) (takes : StepsIn a.budget b.budget true) (inward : KeepsAllButBudget a b) where
     pub stepped_sound : (c d : View) → KeepsAllButBudget c d → IfOk r (λ v. Sound (ReadsInside major reads never_empty) b c v.items) → IfOk r (λ v. Sound (ReadsSequence major reads never_empty) a d v.items)
     stepped_sound c d outward s = if_ok r (λ v. Sound (ReadsInside major reads never_empty) b c v.items) (λ v. Sound (ReadsSequence major reads never_empty) a d v.items) (λ v w. record {
@@ -204,7 +204,7 @@ module _ {P : Type 0} (major : ℕ) (reads : List ℕ → P → ℕ → ℕ → 
           (λ none ps n c read fits. none ps n read.0 read.1 (fits_inside a.budget b.budget read.0 takes (subst (λ k. CostFits k a.budget) read.2 fits))) (w.at xs (inward.told ∙ told));
     }) s
 
-    pub stepped_stops : (c d : View) (name : List ℕ) (stops : List ℕ → Option ℕ → Refusal → List ℕ → Type 0) → KeepsAllButBudget c d → IfErr r (Stops (StopsInside name major reads stops never_empty) b c) → IfErr r (Stops (StopsSequence name major reads stops never_empty) a d)
+    pub stepped_stops : (c d : View) (name : List ℕ) (stops : StopsAt) → KeepsAllButBudget c d → IfErr r (Stops (StopsInside name major reads stops never_empty) b c) → IfErr r (Stops (StopsSequence name major reads stops never_empty) a d)
     stepped_stops c d name stops outward s = if_err r (Stops (StopsInside name major reads stops never_empty) b c) (Stops (StopsSequence name major reads stops never_empty) a d) (λ e w. record {
       at = λ xs told.
           let h = stepped a.budget b.budget takes in
@@ -215,21 +215,21 @@ module _ {P : Type 0} (major : ℕ) (reads : List ℕ → P → ℕ → ℕ → 
 
 -- ---- values that have parts
 
-module _ {V P : Type 0} (parts : V → List P) (reads : List ℕ → List P → ℕ → ℕ → Type 0) where
+module _ {V P : Type 0} (parts : V → List P) (reads : Reads (List P)) where
   of_sound : {v : V} {a b : View} → Sound reads a b (parts v) → Sound (λ xs w n c. reads xs (parts w) n c) a b v
   of_sound s = record { at = λ xs told. let t = s.at xs told in record { count = t.count; cost = t.cost; read = t.read; fits = t.fits; left = t.left } }
 
   of_refuses : {E : Type 0} {e : DecodeError E} {a : View} → Refuses reads a e → Refuses (λ xs (w : V) n c. reads xs (parts w) n c) a e
   of_refuses {e = e} {a = a} s = record { at = λ xs told. if_some (refusal_of e) (λ none w n c read fits. none (parts w) n c read fits) (s.at xs told) }
 
-module _ {V E : Type 0} (r : Result (Vec V Global) (DecodeError E)) (a : View) (reads : List ℕ → List V → ℕ → ℕ → Type 0) where
+module _ {V E : Type 0} (r : Result (Vec V Global) (DecodeError E)) (a : View) (reads : Reads (List V)) where
   pub vec_sound : (b : View) → IfOk r (λ v. Sound reads a b v.items) → IfOk r (Sound (λ xs (v : Vec V Global) n c. reads xs v.items n c) a b)
   vec_sound b s = if_ok r (λ v. Sound reads a b v.items) (Sound (λ xs (v : Vec V Global) n c. reads xs v.items n c) a b) (λ v t. of_sound (λ (v : Vec V Global). v.items) reads t) s
 
   pub vec_refuses : IfErr r (Refuses reads a) → IfErr r (Refuses (λ xs (v : Vec V Global) n c. reads xs v.items n c) a)
   vec_refuses s = if_err r (Refuses reads a) (Refuses (λ xs (v : Vec V Global) n c. reads xs v.items n c) a) (λ e t. of_refuses (λ (v : Vec V Global). v.items) reads t) s
 
-module _ {P : Type 0} (reads : List ℕ → List P → ℕ → ℕ → Type 0) where
+module _ {P : Type 0} (reads : Reads (List P)) where
   pub map_sound : (v : Map (Vec P Global)) {a b : View} → Sound reads a b v.0.items → Sound (λ xs (w : Map (Vec P Global)) n c. reads xs w.0.items n c) a b v
   map_sound v s = of_sound (λ (w : Map (Vec P Global)). w.0.items) reads s
 

@@ -10,7 +10,7 @@ use Rattle.cbor4ii_items.specs.Head.{break}
 use Rattle.cbor4ii_items.specs.Refusal.{Refusal, refusal_of}
 use Rattle.cbor4ii_items.specs.Moves.{Kept, Moves}
 use Rattle.cbor4ii_items.specs.Reading.{Runs}
-use Rattle.cbor4ii_items.specs.Decoding.{CostFits, Sound, NoneRead, Refuses, Stops}
+use Rattle.cbor4ii_items.specs.Decoding.{Reads, StopsAt, CostFits, Sound, NoneRead, Refuses, Stops}
 use Rattle.cbor4ii_items.specs.Fronts.{drop_more}
 use Rattle.cbor4ii_items.specs.ReadStrings.{break_at}
 use Rattle.cbor4ii_items.specs.ProgramEnds.{break_yes, break_no, break_refused}
@@ -36,7 +36,7 @@ stops_as (Some z) left f g means h = (h.0, h.1, means z h.0 h.2)
 
 -- ---- one more part
 
-module _ {P : Type 0} (reads : List ℕ → P → ℕ → ℕ → Type 0) where
+module _ {P : Type 0} (reads : Reads P) where
   parts_more : (xs : List ℕ) (ps : List P) (p : P) (n c k d : ℕ) → ReadsParts reads xs ps n c → reads (drop n xs) p k d → ReadsParts reads xs (ps ++ p ∷ []) (n + k) (max c d)
   parts_more xs [] p n c k d h r = (k, d, 0, 0, subst (λ j. reads (drop j xs) p k d) h.0 r, (refl, refl), omega (arith, h.0), omega (arith, h.1))
   parts_more xs (q ∷ ps) p n c k d h r =
@@ -64,7 +64,7 @@ module _ {P : Type 0} (reads : List ℕ → P → ℕ → ℕ → Type 0) where
 
 -- ---- so many parts
 
-module _ {P : Type 0} (reads : List ℕ → P → ℕ → ℕ → Type 0) where
+module _ {P : Type 0} (reads : Reads P) where
   -- the first so many parts
   pub record Begun (i : ℕ) (a m : View) (ps : List P) : Type 0 where
     pub count : length ps ≡ i
@@ -95,7 +95,7 @@ module _ {P : Type 0} (reads : List ℕ → P → ℕ → ℕ → Type 0) where
         if_some (refusal_of e) (none_more one xs ps t.count t.cost count a.budget m.budget t.read (omega (arith, less, h.count)) h.kept.budget) ((r xs told).at (drop t.count xs) t.left);
   }
 
-  pub count_stops : {E : Type 0} (stops : List ℕ → Option ℕ → Refusal → List ℕ → Type 0) {a m b : View} {ps : List P} {i count : ℕ} {e : DecodeError E} → Begun i a m ps → i < count
+  pub count_stops : {E : Type 0} (stops : StopsAt) {a m b : View} {ps : List P} {i count : ℕ} {e : DecodeError E} → Begun i a m ps → i < count
       → ((xs : List ℕ) → a.told ≡ Some xs → Stops stops m b e) → Stops (StopsCount reads stops count) a b e
   count_stops stops {a = a} {m = m} {b = b} {ps = ps} {count = count} {e = e} h less r = record {
     at = λ xs told.
@@ -136,7 +136,7 @@ none_at_end (Some z) xs left f h = f (break_refused xs h.0 z h.2).0
 some_byte : (n : ℕ) (xs : List ℕ) → xs ≡ [] → n ≤ length xs → 1 ≤ n → ⊥
 some_byte n xs e room some = omega (arith, room, some, ap length e)
 
-module _ {P : Type 0} (reads : List ℕ → P → ℕ → ℕ → Type 0) (never_empty : Bool) where
+module _ {P : Type 0} (reads : Reads P) (never_empty : Bool) where
   -- some parts, none of them with a break in its place
   pub record Opened (a m : View) (ps : List P) : Type 0 where
     pub allowed : IsTrue never_empty ⊎ (ps ≡ [])
@@ -216,7 +216,7 @@ module _ {P : Type 0} (reads : List ℕ → P → ℕ → ℕ → Type 0) (never
           (λ some w k d u fits. some_byte k (drop p.count xs) none (within (drop p.count xs) w k d u.1) (positive some (drop p.count xs) w k d u.1))) (q.answers (drop p.count xs) p.left);
     }
 
-  module _ (name : List ℕ) (stops : List ℕ → Option ℕ → Refusal → List ℕ → Type 0) where
+  module _ (name : List ℕ) (stops : StopsAt) where
     stops_at : {E : Type 0} (a l b : View) (ps : List P) (e : DecodeError E) → Opened a l ps → ((whole xs : List ℕ) → a.told ≡ Some whole → l.told ≡ Some xs → IfSome (refusal_of e) (λ z. (ys : List ℕ) × (b.told ≡ Some ys) × StopsPlace name stops never_empty xs a.budget z ys))
         → Stops (StopsUpToBreak name reads stops never_empty) a b e
     stops_at a l b ps e h r = record {
@@ -237,7 +237,7 @@ module _ {P : Type 0} (reads : List ℕ → P → ℕ → ℕ → Type 0) (never
         stops_as (refusal_of e) m.told (λ z ys. break_at xs ≡ Err (z, ys)) (StopsPlace name stops never_empty xs a.budget)
         (λ z ys t. let b = break_refused xs ys z t in no_byte b.0 b.1 b.2) (q.answers xs told))
 
-  pub nothing_stops : {E : Type 0} (name : Bor (List ℕ)) (stops : List ℕ → Option ℕ → Refusal → List ℕ → Type 0) {a l m : View} {ps : List P} → never_empty ≡ false → Opened a l ps → Stands l m
+  pub nothing_stops : {E : Type 0} (name : Bor (List ℕ)) (stops : StopsAt) {a l m : View} {ps : List P} → never_empty ≡ false → Opened a l ps → Stands l m
       → Stops {E = E} (StopsUpToBreak name.now reads stops never_empty) a m (RequireLength name Indefinite)
   nothing_stops name stops {a = a} {l = l} {m = m} {ps = ps} empty h s = stops_at name.now stops a l m ps (RequireLength name Indefinite) h (λ whole xs all told.
       let f = s.at xs told in

@@ -6,13 +6,14 @@ use Rattle.cbor4ii_items.specs.Containers.{BeginsNull, ReadsOption, SameOption, 
 use Rattle.cbor4ii_items.specs.Heads.{ReadsHead}
 use Rattle.cbor4ii_items.specs.HeadLaws.{head_one, head_read, head_alone}
 use Rattle.cbor4ii_items.specs.Fronts.{two_fronts, behind_front}
+use Rattle.cbor4ii_items.specs.Decoding.{Reads}
 
 -- ---- an item or none
 
 null_or_not : {A : Type 0} (xs : List ℕ) → BeginsNull xs → (BeginsNull xs → ⊥) → A
 null_or_not xs p q = absurd (q p)
 
-pub option_one : {V : Type 0} (reads : List ℕ → V → ℕ → ℕ → Type 0) (same : V → V → Type 0) → ((xs : List ℕ) (v w : V) (n m c d : ℕ) → reads xs v n c → reads xs w m d → (n ≡ m) × (c ≡ d) × same v w)
+pub option_one : {V : Type 0} (reads : Reads V) (same : V → V → Type 0) → ((xs : List ℕ) (v w : V) (n m c d : ℕ) → reads xs v n c → reads xs w m d → (n ≡ m) × (c ≡ d) × same v w)
     → (xs : List ℕ) (v w : Option V) (n m c d : ℕ) → ReadsOption reads xs v n c → ReadsOption reads xs w m d → (n ≡ m) × (c ≡ d) × SameOption same v w
 option_one reads same one xs None None n m c d p q = (p.1 ∙ sym q.1, p.2 ∙ sym q.2, tt)
 option_one reads same one xs None (Some w) n m c d p q = null_or_not xs p.0 q.0
@@ -23,11 +24,11 @@ null_long : (xs : List ℕ) → BeginsNull xs → 1 ≤ length xs
 null_long [] h = elim h [ inl e ↦ cc | inr e ↦ cc ]
 null_long (x ∷ xs) h = omega arith
 
-pub option_within : {V : Type 0} (reads : List ℕ → V → ℕ → ℕ → Type 0) → ((xs : List ℕ) (v : V) (n c : ℕ) → reads xs v n c → n ≤ length xs) → (xs : List ℕ) (v : Option V) (n c : ℕ) → ReadsOption reads xs v n c → n ≤ length xs
+pub option_within : {V : Type 0} (reads : Reads V) → ((xs : List ℕ) (v : V) (n c : ℕ) → reads xs v n c → n ≤ length xs) → (xs : List ℕ) (v : Option V) (n c : ℕ) → ReadsOption reads xs v n c → n ≤ length xs
 option_within reads within xs None n c p = omega (arith, p.1, null_long xs p.0)
 option_within reads within xs (Some v) n c p = within xs v n c p.2
 
-pub option_positive : {V : Type 0} (reads : List ℕ → V → ℕ → ℕ → Type 0) (never_empty : Bool) → (IsTrue never_empty → (xs : List ℕ) (v : V) (n c : ℕ) → reads xs v n c → 1 ≤ n) → IsTrue never_empty → (xs : List ℕ) (v : Option V) (n c : ℕ) → ReadsOption reads xs v n c → 1 ≤ n
+pub option_positive : {V : Type 0} (reads : Reads V) (never_empty : Bool) → (IsTrue never_empty → (xs : List ℕ) (v : V) (n c : ℕ) → reads xs v n c → 1 ≤ n) → IsTrue never_empty → (xs : List ℕ) (v : Option V) (n c : ℕ) → ReadsOption reads xs v n c → 1 ≤ n
 option_positive reads never_empty positive e xs None n c p = omega (arith, p.1)
 option_positive reads never_empty positive e xs (Some v) n c p = positive e xs v n c p.2
 
@@ -50,7 +51,7 @@ some_byte zero xs ys some within = absurd (omega arith)
 some_byte (suc n) [] ys some within = absurd (omega arith)
 some_byte (suc n) (x ∷ xs) ys some within = omega arith
 
-pub option_alone : {V : Type 0} (reads : List ℕ → V → ℕ → ℕ → Type 0) (closed never_empty : Bool) → ((xs : List ℕ) (v : V) (n c : ℕ) → reads xs v n c → n ≤ length xs) → (IsTrue never_empty → (xs : List ℕ) (v : V) (n c : ℕ) → reads xs v n c → 1 ≤ n)
+pub option_alone : {V : Type 0} (reads : Reads V) (closed never_empty : Bool) → ((xs : List ℕ) (v : V) (n c : ℕ) → reads xs v n c → n ≤ length xs) → (IsTrue never_empty → (xs : List ℕ) (v : V) (n c : ℕ) → reads xs v n c → 1 ≤ n)
     → (IsTrue closed → (xs ys : List ℕ) (v : V) (n c : ℕ) → reads xs v n c → reads (take n xs ++ ys) v n c)
     → IsTrue (closed && never_empty) → (xs ys : List ℕ) (v : Option V) (n c : ℕ) → ReadsOption reads xs v n c → ReadsOption reads (take n xs ++ ys) v n c
 option_alone reads closed never_empty within positive alone e xs ys None n c p =
@@ -63,7 +64,7 @@ option_alone reads closed never_empty within positive alone e xs ys (Some v) n c
 
 -- ---- a tagged item
 
-module _ {V : Type 0} (reads : List ℕ → V → ℕ → ℕ → Type 0) where
+module _ {V : Type 0} (reads : Reads V) where
   pub tag_one : (same : V → V → Type 0) → ((xs : List ℕ) (v w : V) (n m c d : ℕ) → reads xs v n c → reads xs w m d → (n ≡ m) × (c ≡ d) × same v w)
       → (xs : List ℕ) (i : ℕ) (v : V) (j : ℕ) (w : V) (n m c d : ℕ) → ReadsTag reads xs i v n c → ReadsTag reads xs j w m d → (n ≡ m) × (c ≡ d) × ((i ≡ j) × same v w)
   tag_one same one xs i v j w n m c d p q =

@@ -3,6 +3,7 @@ use Rattle.std.specs.Prelude.{◌≡◌, ℕ, ◌+◌, ◌≤◌, ◌⊎◌, Lis
 use Rattle.cbor4ii_rw.specs.declared.error.Len.TheVariants.{Small}
 use Rattle.cbor4ii_items.specs.Refusal.{Refusal, eof}
 use Rattle.cbor4ii_items.specs.Heads.{ReadsHead, StopsHead}
+use Rattle.cbor4ii_items.specs.Decoding.{Reads, StopsAt}
 
 -- ---- an item or none
 
@@ -11,11 +12,11 @@ abbrev pub BeginsNull : List ℕ → Type 0
 BeginsNull xs = (take 1 xs ≡ 0xf6 ∷ []) ⊎ (take 1 xs ≡ 0xf7 ∷ [])
 
 -- null and undefined are none, and what another byte begins is the type's
-abbrev pub ReadsOption : {V : Type 0} → (List ℕ → V → ℕ → ℕ → Type 0) → List ℕ → Option V → ℕ → ℕ → Type 0
+abbrev pub ReadsOption : {V : Type 0} → Reads V → Reads (Option V)
 ReadsOption reads xs None n c = BeginsNull xs × (n ≡ 1) × (c ≡ 0)
 ReadsOption reads xs (Some v) n c = (BeginsNull xs → ⊥) × (1 ≤ length xs) × reads xs v n c
 
-abbrev pub StopsOption : (List ℕ → Option ℕ → Refusal → List ℕ → Type 0) → List ℕ → Option ℕ → Refusal → List ℕ → Type 0
+abbrev pub StopsOption : StopsAt → StopsAt
 StopsOption stops [] budget refusal rest = (refusal ≡ eof (codes "option") (Small 1)) × (rest ≡ [])
 StopsOption stops (b ∷ bs) budget refusal rest = stops (b ∷ bs) budget refusal rest
 
@@ -28,7 +29,7 @@ SameOption same (Some v) (Some w) = same v w
 -- ---- a tagged item (RFC 8949 section 3.4)
 
 -- a tag's head, and what the type reads behind it
-pub record ReadsTag {V : Type 0} (reads : List ℕ → V → ℕ → ℕ → Type 0) (xs : List ℕ) (number : ℕ) (v : V) (n c : ℕ) : Type 0 where
+pub record ReadsTag {V : Type 0} (reads : Reads V) (xs : List ℕ) (number : ℕ) (v : V) (n c : ℕ) : Type 0 where
   pub before : ℕ
   pub head : ReadsHead 6 8 xs number before
   pub count : ℕ
@@ -36,12 +37,12 @@ pub record ReadsTag {V : Type 0} (reads : List ℕ → V → ℕ → ℕ → Typ
   pub bytes : n ≡ before + count
 
 -- behind a tag's head the item is refused
-pub record StopsBehindTag (stops : List ℕ → Option ℕ → Refusal → List ℕ → Type 0) (xs : List ℕ) (budget : Option ℕ) (refusal : Refusal) (rest : List ℕ) : Type 0 where
+pub record StopsBehindTag (stops : StopsAt) (xs : List ℕ) (budget : Option ℕ) (refusal : Refusal) (rest : List ℕ) : Type 0 where
   pub number : ℕ
   pub before : ℕ
   pub head : ReadsHead 6 8 xs number before
   pub item : stops (drop before xs) budget refusal rest
 
 -- the head's refusal, or the item's
-abbrev pub StopsTag : (List ℕ → Option ℕ → Refusal → List ℕ → Type 0) → List ℕ → Option ℕ → Refusal → List ℕ → Type 0
+abbrev pub StopsTag : StopsAt → StopsAt
 StopsTag stops xs budget refusal rest = StopsHead (codes "tag") 6 8 xs refusal rest ⊎ StopsBehindTag stops xs budget refusal rest

@@ -13,6 +13,7 @@ use Rattle.cbor4ii_items.specs.Refusal.{Refusal}
 use Rattle.cbor4ii_items.specs.Reading.{Reading}
 use Rattle.cbor4ii_items.specs.Following.{Follows}
 use Rattle.cbor4ii_items.specs.Strings.{ReadsAs, ReadsTextAs, StopsString, StopsText}
+use Rattle.cbor4ii_items.specs.Decoding.{Reads, StopsAt}
 
 -- ---- which strings are borrowed
 
@@ -46,11 +47,11 @@ IsOwnedUnchecked v = IsOwnedSlice v.0
 
 -- ---- a text, or a string that is not tested
 
-abbrev pub ReadsEither : {V : Type 0} → Bool → ℕ → (V → List ℕ) → List ℕ → V → ℕ → ℕ → Type 0
+abbrev pub ReadsEither : {V : Type 0} → Bool → ℕ → (V → List ℕ) → Reads V
 ReadsEither true major content = ReadsTextAs content
 ReadsEither false major content = ReadsAs major content
 
-abbrev pub StopsEither : Bool → List ℕ → ℕ → List ℕ → Option ℕ → Refusal → List ℕ → Type 0
+abbrev pub StopsEither : Bool → List ℕ → ℕ → StopsAt
 StopsEither true name major = StopsText name
 StopsEither false name major = StopsString name major
 

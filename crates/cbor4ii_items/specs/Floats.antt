@@ -12,6 +12,7 @@ use Rattle.cbor4ii_items.specs.ReadHead.{number_on}
 use Rattle.cbor4ii_items.specs.HeadLaws.{number_again, length-bytes_high_first}
 use Rattle.cbor4ii_items.specs.Laws.Arguments.{ReadBy, leaf_one, leaf_within, leaf_positive}
 use Rattle.cbor4ii_items.specs.Marked.{NoneBegins, marked_at, within_marks}
+use Rattle.cbor4ii_items.specs.Decoding.{StopsAt}
 
 -- the first byte, and the bits in so many bytes
 abbrev pub float_bytes : ℕ → ℕ → ℕ → List ℕ
@@ -40,7 +41,7 @@ pub record CutFloat (name : List ℕ) (marker count : ℕ) (xs : List ℕ) (refu
   pub answer : refusal ≡ eof name (Small count)
   pub left : rest ≡ []
 
-abbrev pub StopsFloat : List ℕ → ℕ → ℕ → List ℕ → Option ℕ → Refusal → List ℕ → Type 0
+abbrev pub StopsFloat : List ℕ → ℕ → ℕ → StopsAt
 StopsFloat name marker count xs budget refusal rest = NoneBegins name (λ b. b ≡ marker) xs refusal rest ⊎ CutFloat name marker count xs refusal rest
 
 abbrev pub float_at : List ℕ → ℕ → ℕ → Reading ℕ

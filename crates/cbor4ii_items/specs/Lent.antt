@@ -12,11 +12,12 @@ use Rattle.cbor4ii_items.specs.Strings.{ReadsCounted}
 use denote.Ref.{Bor}
 use Rattle.cbor4ii_items.specs.declared.types.Bytes.{Bytes}
 use Rattle.cbor4ii_items.specs.declared.types.UncheckedStr.{UncheckedStr}
+use Rattle.cbor4ii_items.specs.Decoding.{Reads}
 
 -- ---- what is read
 
 -- a string of known length, whose content a value has; a text is UTF-8
-abbrev pub ReadsLent : {V : Type 0} → ℕ → Bool → (V → List ℕ) → List ℕ → V → ℕ → ℕ → Type 0
+abbrev pub ReadsLent : {V : Type 0} → ℕ → Bool → (V → List ℕ) → Reads V
 ReadsLent major is_text content xs v n c = ReadsCounted major xs (content v) n × (c ≡ 0) × (IsTrue is_text → IsUtf8 (content v))
 
 -- the head; too few bytes, and what is behind the head is left; no UTF-8, and what is behind the item is left

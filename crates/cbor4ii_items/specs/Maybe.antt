@@ -8,16 +8,17 @@ use Rattle.cbor4ii_items.specs.ReadHead.{length_at}
 use Rattle.cbor4ii_items.specs.Heads.{ReadsHead}
 use Rattle.cbor4ii_items.specs.Lengths.{StopsLength}
 use Rattle.cbor4ii_items.specs.Numbers.{shortest_head}
+use Rattle.cbor4ii_items.specs.Decoding.{Reads, StopsAt}
 
 -- ---- what is read
 
 -- the head of an array of no item, or of one: whether an item is to follow
-abbrev pub ReadsFew : List ℕ → Bool → ℕ → ℕ → Type 0
+abbrev pub ReadsFew : Reads Bool
 ReadsFew xs false n c = ReadsHead 4 8 xs 0 n × (c ≡ 0)
 ReadsFew xs true n c = ReadsHead 4 8 xs 1 n × (c ≡ 0)
 
 -- the head of an array of one item, and what the type reads behind it
-pub record ReadsOne {V : Type 0} (reads : List ℕ → V → ℕ → ℕ → Type 0) (xs : List ℕ) (v : V) (n c : ℕ) : Type 0 where
+pub record ReadsOne {V : Type 0} (reads : Reads V) (xs : List ℕ) (v : V) (n c : ℕ) : Type 0 where
   pub before : ℕ
   pub head : ReadsHead 4 8 xs 1 before
   pub count : ℕ
@@ -25,7 +26,7 @@ pub record ReadsOne {V : Type 0} (reads : List ℕ → V → ℕ → ℕ → Typ
   pub bytes : n ≡ before + count
 
 -- an array of no item is none, and an array of one item is some
-abbrev pub ReadsMaybe : {V : Type 0} → (List ℕ → V → ℕ → ℕ → Type 0) → List ℕ → Option V → ℕ → ℕ → Type 0
+abbrev pub ReadsMaybe : {V : Type 0} → Reads V → Reads (Option V)
 ReadsMaybe reads xs None n c = ReadsHead 4 8 xs 0 n × (c ≡ 0)
 ReadsMaybe reads xs (Some v) n c = ReadsOne reads xs v n c
 
@@ -38,7 +39,7 @@ pub data StopsFew (xs : List ℕ) (budget : Option ℕ) (refusal : Refusal) (res
   few_other : (count before : ℕ) → ReadsHead 4 8 xs count before → count ≢ 0 → count ≢ 1 → refusal ≡ require_length (codes "maybe") (len_of count) → rest ≡ drop before xs → StopsFew xs budget refusal rest
 
 -- the head's refusal, or the item's
-pub data StopsMaybe (stops : List ℕ → Option ℕ → Refusal → List ℕ → Type 0) (xs : List ℕ) (budget : Option ℕ) (refusal : Refusal) (rest : List ℕ) : Type 0 where
+pub data StopsMaybe (stops : StopsAt) (xs : List ℕ) (budget : Option ℕ) (refusal : Refusal) (rest : List ℕ) : Type 0 where
   maybe_head_refused : StopsFew xs budget refusal rest → StopsMaybe stops xs budget refusal rest
   maybe_item_refused : (before : ℕ) → ReadsHead 4 8 xs 1 before → stops (drop before xs) budget refusal rest → StopsMaybe stops xs budget refusal rest
 

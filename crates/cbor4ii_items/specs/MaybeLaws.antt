@@ -6,12 +6,13 @@ use Rattle.cbor4ii_items.specs.Heads.{ReadsHead}
 use Rattle.cbor4ii_items.specs.HeadLaws.{head_one, head_read, head_alone}
 use Rattle.cbor4ii_items.specs.Fronts.{two_fronts, behind_front}
 use Rattle.cbor4ii_items.specs.Maybe.{ReadsMaybe}
+use Rattle.cbor4ii_items.specs.Decoding.{Reads}
 
 -- an array has one count
 pub two_counts : {A : Type 0} (xs : List ℕ) (n m : ℕ) → ReadsHead 4 8 xs 0 n → ReadsHead 4 8 xs 1 m → A
 two_counts xs n m p q = let h = head_one 4 8 xs 0 1 n m (omega arith) p q in absurd (omega (arith, h.1))
 
-module _ {V : Type 0} (reads : List ℕ → V → ℕ → ℕ → Type 0) where
+module _ {V : Type 0} (reads : Reads V) where
   pub maybe_one : (same : V → V → Type 0) → ((xs : List ℕ) (v w : V) (n m c d : ℕ) → reads xs v n c → reads xs w m d → (n ≡ m) × (c ≡ d) × same v w)
       → (xs : List ℕ) (v w : Option V) (n m c d : ℕ) → ReadsMaybe reads xs v n c → ReadsMaybe reads xs w m d → (n ≡ m) × (c ≡ d) × SameOption same v w
   maybe_one same one xs None None n m c d p q = let h = head_one 4 8 xs 0 0 n m (omega arith) p.0 q.0 in (h.0, p.1 ∙ sym q.1, tt)

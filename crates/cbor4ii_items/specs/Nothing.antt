@@ -2,13 +2,14 @@
 use Rattle.std.proofs.Common.{◌≡◌, ℕ, ◌≤◌, List, ◌++◌, length, take, Option, false, IsTrue, refl, sym, ◌∙◌, arith}
 use Rattle.cbor4ii_items.specs.declared.types.Nothing.{Nothing}
 use Rattle.cbor4ii_items.specs.Refusal.{Refusal}
+use Rattle.cbor4ii_items.specs.Decoding.{Reads, StopsAt}
 
 -- of any bytes none is taken
-abbrev pub ReadsNothing : List ℕ → Nothing → ℕ → ℕ → Type 0
+abbrev pub ReadsNothing : Reads Nothing
 ReadsNothing xs v n c = (n ≡ 0) × (c ≡ 0)
 
 -- no bytes are refused
-abbrev pub StopsNothing : List ℕ → Option ℕ → Refusal → List ℕ → Type 0
+abbrev pub StopsNothing : StopsAt
 StopsNothing xs budget refusal rest = ⊥
 
 pub nothing_one : (xs : List ℕ) (v w : Nothing) (n m c d : ℕ) → ReadsNothing xs v n c → ReadsNothing xs w m d → (n ≡ m) × (c ≡ d) × (v ≡ w)

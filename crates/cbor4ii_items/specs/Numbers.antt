@@ -6,34 +6,35 @@ use Rattle.cbor4ii_items.specs.Head.{head, open_head, shortest, IsBytes}
 use Rattle.cbor4ii_items.specs.Refusal.{Refusal, mismatch, eof, require_length, length_overflow, cast_overflow, len_of}
 use Rattle.cbor4ii_items.specs.Heads.{ReadsHead, StopsHead}
 use Rattle.cbor4ii_items.specs.Magnitude.{number_of, magnitude}
+use Rattle.cbor4ii_items.specs.Decoding.{Reads, StopsAt}
 
 -- ---- the argument of a head
 
 -- a head of this major type, of at most so many bytes of argument, whose argument is the number
-abbrev pub ReadsArgument : ℕ → ℕ → List ℕ → ℕ → ℕ → ℕ → Type 0
+abbrev pub ReadsArgument : ℕ → ℕ → Reads ℕ
 ReadsArgument major width xs v n c = ReadsHead major width xs v n × (c ≡ 0)
 
-abbrev pub StopsArgument : List ℕ → ℕ → ℕ → List ℕ → Option ℕ → Refusal → List ℕ → Type 0
+abbrev pub StopsArgument : List ℕ → ℕ → ℕ → StopsAt
 StopsArgument name major width xs budget refusal rest = StopsHead name major width xs refusal rest
 
 -- an unsigned integer of so many bytes
-abbrev pub ReadsUnsigned : ℕ → List ℕ → ℕ → ℕ → ℕ → Type 0
+abbrev pub ReadsUnsigned : ℕ → Reads ℕ
 ReadsUnsigned width = ReadsArgument 0 width
 
-abbrev pub StopsUnsigned : List ℕ → ℕ → List ℕ → Option ℕ → Refusal → List ℕ → Type 0
+abbrev pub StopsUnsigned : List ℕ → ℕ → StopsAt
 StopsUnsigned name width = StopsArgument name 0 width
 
 -- -1 - n for an unsigned integer n of so many bytes
-abbrev pub ReadsNegative : ℕ → List ℕ → Negative ℕ → ℕ → ℕ → Type 0
+abbrev pub ReadsNegative : ℕ → Reads (Negative ℕ)
 ReadsNegative width xs v n c = ReadsArgument 1 width xs v.0 n c
 
-abbrev pub StopsNegative : List ℕ → ℕ → List ℕ → Option ℕ → Refusal → List ℕ → Type 0
+abbrev pub StopsNegative : List ℕ → ℕ → StopsAt
 StopsNegative name width = StopsArgument name 1 width
 
 -- ---- signed integers of at most eight bytes
 
 -- from 0 on, or -1 - k, with k below the limit
-abbrev pub ReadsSigned : ℕ → ℕ → List ℕ → ℤ → ℕ → ℕ → Type 0
+abbrev pub ReadsSigned : ℕ → ℕ → Reads ℤ
 ReadsSigned width limit xs (pos k) n c = ReadsHead 0 width xs k n × (k < limit) × (c ≡ 0)
 ReadsSigned width limit xs (negsuc k) n c = ReadsHead 1 width xs k n × (k < limit) × (c ≡ 0)
 
@@ -83,7 +84,7 @@ pub data StopsMagnitude (name : List ℕ) (xs : List ℕ) (refusal : Refusal) (r
 
 -- ---- u128
 
-abbrev pub ReadsU128 : List ℕ → ℕ → ℕ → ℕ → Type 0
+abbrev pub ReadsU128 : Reads ℕ
 ReadsU128 xs v n c = (ReadsHead 0 8 xs v n ⊎ ReadsBignum 2 xs v n) × (c ≡ 0)
 
 pub data StopsU128 (xs : List ℕ) (refusal : Refusal) (rest : List ℕ) : Type 0 where
@@ -95,7 +96,7 @@ pub data StopsU128 (xs : List ℕ) (refusal : Refusal) (rest : List ℕ) : Type 
 
 -- ---- i128
 
-abbrev pub ReadsI128 : List ℕ → ℤ → ℕ → ℕ → Type 0
+abbrev pub ReadsI128 : Reads ℤ
 ReadsI128 xs (pos k) n c = (ReadsHead 0 8 xs k n ⊎ (ReadsBignum 2 xs k n × (k < 2 ^ 127))) × (c ≡ 0)
 ReadsI128 xs (negsuc k) n c = (ReadsHead 1 8 xs k n ⊎ (ReadsBignum 3 xs k n × (k < 2 ^ 127))) × (c ≡ 0)
 
@@ -115,13 +116,13 @@ pub data StopsI128 (xs : List ℕ) (refusal : Refusal) (rest : List ℕ) : Type 
 abbrev pub shortest_head : ℕ → ℕ → List ℕ
 shortest_head major v = head major v (shortest v)
 
--- a byte string
-abbrev pub string_bytes : List ℕ → List ℕ
-string_bytes content = shortest_head 2 (length content) ++ content
+-- the shortest head of this major type with the content's length, and the content
+abbrev pub counted_string : ℕ → List ℕ → List ℕ
+counted_string major content = shortest_head major (length content) ++ content
 
 -- a tag, and the number's bytes without leading zeros as a byte string
 abbrev pub bignum_bytes : ℕ → ℕ → List ℕ
-bignum_bytes tag v = shortest_head 6 tag ++ string_bytes (magnitude v)
+bignum_bytes tag v = shortest_head 6 tag ++ counted_string 2 (magnitude v)
 
 -- the argument of a head of this major type where it fits, else a bignum
 abbrev pub integer_bytes : ℕ → ℕ → ℕ → List ℕ

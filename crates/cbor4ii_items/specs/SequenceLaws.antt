@@ -12,6 +12,7 @@ use Rattle.cbor4ii_items.specs.StringLaws.{BeginsWith, head_not_open}
 use Rattle.cbor4ii_items.specs.ContainerLaws.{both, first_kept}
 use Rattle.cbor4ii_items.specs.Fronts.{drop_more, two_fronts, behind_front}
 use Rattle.cbor4ii_items.specs.Sequences.{ReadsParts, Unbroken, ReadsUpToBreak, ReadsCounted, ReadsOpen, ReadsInside, ReadsSequence, SameParts, ReadsArray, SameArray, ReadsPair, SamePair, ReadsMap, SameMap}
+use Rattle.cbor4ii_items.specs.Decoding.{Reads}
 
 pub not_less : (m n : ℕ) → (n < m → ⊥) → m ≤ n
 not_less m n h = omega arith
@@ -25,7 +26,7 @@ one_byte (x ∷ xs) b e = omega arith
 
 -- ---- parts
 
-module _ {P : Type 0} (reads : List ℕ → P → ℕ → ℕ → Type 0) where
+module _ {P : Type 0} (reads : Reads P) where
   pub parts_within : ((xs : List ℕ) (p : P) (n c : ℕ) → reads xs p n c → n ≤ length xs) → (xs : List ℕ) (ps : List P) (n c : ℕ) → ReadsParts reads xs ps n c → n ≤ length xs
   parts_within within xs [] n c h = omega (arith, h.0)
   parts_within within xs (p ∷ ps) n c h = omega (arith, h.6, within xs p h.0 h.1 h.4, parts_within within (drop h.0 xs) ps h.2 h.3 h.5, length-drop h.0 xs)
@@ -86,7 +87,7 @@ module _ {P : Type 0} (reads : List ℕ → P → ℕ → ℕ → Type 0) where
 
 -- ---- parts up to a break
 
-module _ {P : Type 0} (reads : List ℕ → P → ℕ → ℕ → Type 0) where
+module _ {P : Type 0} (reads : Reads P) where
   pub unbroken_size : ((xs : List ℕ) (p q : P) (n m c d : ℕ) → reads xs p n c → reads xs q m d → n ≡ m) → (xs : List ℕ) (p q : P) (n m c d : ℕ) → Unbroken reads xs p n c → Unbroken reads xs q m d → n ≡ m
   unbroken_size one xs p q n m c d g h = one xs p q n m c d g.1 h.1
 
@@ -142,7 +143,7 @@ module _ {P : Type 0} (reads : List ℕ → P → ℕ → ℕ → Type 0) where
 
 -- ---- sequences
 
-module _ {P : Type 0} (major : ℕ) (small : major < 8) (reads : List ℕ → P → ℕ → ℕ → Type 0) (never_empty : Bool) where
+module _ {P : Type 0} (major : ℕ) (small : major < 8) (reads : Reads P) (never_empty : Bool) where
   counted_one : (same : P → P → Type 0) → ((xs : List ℕ) (p q : P) (n m c d : ℕ) → reads xs p n c → reads xs q m d → (n ≡ m) × (c ≡ d) × same p q)
       → (xs : List ℕ) (ps qs : List P) (n m c d : ℕ) → ReadsCounted major reads xs ps n c → ReadsCounted major reads xs qs m d → (n ≡ m) × (c ≡ d) × SameParts same ps qs
   counted_one same one xs ps qs n m c d g h =
@@ -221,7 +222,7 @@ module _ {P : Type 0} (major : ℕ) (small : major < 8) (reads : List ℕ → P 
 four_small : 4 < 8
 four_small = omega arith
 
-module _ {V : Type 0} (reads : List ℕ → V → ℕ → ℕ → Type 0) where
+module _ {V : Type 0} (reads : Reads V) where
   pub array_one : (same : V → V → Type 0) (never_empty : Bool) → ((xs : List ℕ) (v w : V) (n m c d : ℕ) → reads xs v n c → reads xs w m d → (n ≡ m) × (c ≡ d) × same v w)
       → (xs : List ℕ) (v w : Vec V Global) (n m c d : ℕ) → ReadsArray reads never_empty xs v n c → ReadsArray reads never_empty xs w m d → (n ≡ m) × (c ≡ d) × SameArray same v w
   array_one same never_empty one xs v w n m c d g h = sequence_one 4 four_small reads never_empty same one xs v.items w.items n m c d g h
@@ -245,7 +246,7 @@ either : (a b : Bool) → IsTrue (a || b) → IsTrue a ⊎ IsTrue b
 either true b e = inl refl
 either false b e = inr e
 
-module _ {K V : Type 0} (key_reads : List ℕ → K → ℕ → ℕ → Type 0) (value_reads : List ℕ → V → ℕ → ℕ → Type 0) where
+module _ {K V : Type 0} (key_reads : Reads K) (value_reads : Reads V) where
   pair_one : (same_key : K → K → Type 0) (same_value : V → V → Type 0) → ((xs : List ℕ) (v w : K) (n m c d : ℕ) → key_reads xs v n c → key_reads xs w m d → (n ≡ m) × (c ≡ d) × same_key v w)
       → ((xs : List ℕ) (v w : V) (n m c d : ℕ) → value_reads xs v n c → value_reads xs w m d → (n ≡ m) × (c ≡ d) × same_value v w)
       → (xs : List ℕ) (p q : K × V) (n m c d : ℕ) → ReadsPair key_reads value_reads xs p n c → ReadsPair key_reads value_reads xs q m d → (n ≡ m) × (c ≡ d) × SamePair same_key same_value p q

@@ -5,7 +5,7 @@ use Rattle.std.specs.declared.alloc.Global.{Global}
 use Rattle.std.specs.declared.vec.Vec.{Vec}
 use Rattle.cbor4ii_rw.specs.declared.error.Len.TheVariants.{Small, Indefinite}
 use Rattle.cbor4ii_rw.specs.View.{View}
-use Rattle.cbor4ii_items.specs.Decoding.{CostFits, Sound}
+use Rattle.cbor4ii_items.specs.Decoding.{Reads, StopsAt, CostFits, Sound}
 use Rattle.cbor4ii_items.specs.Head.{break, open_head}
 use Rattle.cbor4ii_items.specs.Heads.{ReadsHead, StopsHead}
 use Rattle.cbor4ii_items.specs.declared.types.Map.{Map}
@@ -14,20 +14,20 @@ use Rattle.cbor4ii_items.specs.Refusal.{Refusal, eof, require_length, depth_over
 -- ---- what is read
 
 -- parts, one behind another: n bytes in all, at the greatest cost of one
-abbrev pub ReadsParts : {P : Type 0} → (List ℕ → P → ℕ → ℕ → Type 0) → List ℕ → List P → ℕ → ℕ → Type 0
+abbrev pub ReadsParts : {P : Type 0} → Reads P → Reads (List P)
 ReadsParts reads xs [] n c = (n ≡ 0) × (c ≡ 0)
 ReadsParts reads xs (p ∷ ps) n c = (k d m e : ℕ) × reads xs p k d × ReadsParts reads (drop k xs) ps m e × (n ≡ k + m) × (c ≡ max d e)
 
 -- so many parts
-abbrev pub ReadsCount : {P : Type 0} → (List ℕ → P → ℕ → ℕ → Type 0) → ℕ → List ℕ → List P → ℕ → ℕ → Type 0
+abbrev pub ReadsCount : {P : Type 0} → Reads P → ℕ → Reads (List P)
 ReadsCount reads count xs ps n c = (length ps ≡ count) × ReadsParts reads xs ps n c
 
 -- a part that begins with no break
-abbrev pub Unbroken : {P : Type 0} → (List ℕ → P → ℕ → ℕ → Type 0) → List ℕ → P → ℕ → ℕ → Type 0
+abbrev pub Unbroken : {P : Type 0} → Reads P → Reads P
 Unbroken reads xs p n c = (take 1 xs ≡ break ∷ [] → ⊥) × reads xs p n c
 
 -- parts up to the first break that stands in a part's place, and the break; no part where one may read nothing
-pub record ReadsUpToBreak {P : Type 0} (reads : List ℕ → P → ℕ → ℕ → Type 0) (never_empty : Bool) (xs : List ℕ) (ps : List P) (n c : ℕ) : Type 0 where
+pub record ReadsUpToBreak {P : Type 0} (reads : Reads P) (never_empty : Bool) (xs : List ℕ) (ps : List P) (n c : ℕ) : Type 0 where
   pub allowed : IsTrue never_empty ⊎ (ps ≡ [])
   pub between : ℕ
   pub parts : ReadsParts (Unbroken reads) xs ps between c
@@ -35,7 +35,7 @@ pub record ReadsUpToBreak {P : Type 0} (reads : List ℕ → P → ℕ → ℕ �
   pub size : n ≡ between + 1
 
 -- a head of this major type that counts the parts, and the parts
-pub record ReadsCounted {P : Type 0} (major : ℕ) (reads : List ℕ → P → ℕ → ℕ → Type 0) (xs : List ℕ) (ps : List P) (n c : ℕ) : Type 0 where
+pub record ReadsCounted {P : Type 0} (major : ℕ) (reads : Reads P) (xs : List ℕ) (ps : List P) (n c : ℕ) : Type 0 where
   pub before : ℕ
   pub head : ReadsHead major 8 xs (length ps) before
   pub between : ℕ
@@ -43,18 +43,18 @@ pub record ReadsCounted {P : Type 0} (major : ℕ) (reads : List ℕ → P → �
   pub size : n ≡ before + between
 
 -- the first byte of an indefinite length, and parts up to a break
-pub record ReadsOpen {P : Type 0} (major : ℕ) (reads : List ℕ → P → ℕ → ℕ → Type 0) (never_empty : Bool) (xs : List ℕ) (ps : List P) (n c : ℕ) : Type 0 where
+pub record ReadsOpen {P : Type 0} (major : ℕ) (reads : Reads P) (never_empty : Bool) (xs : List ℕ) (ps : List P) (n c : ℕ) : Type 0 where
   pub begins : take 1 xs ≡ open_head major ∷ []
   pub between : ℕ
   pub parts : ReadsUpToBreak reads never_empty (drop 1 xs) ps between c
   pub size : n ≡ 1 + between
 
 -- parts that are counted, or that a break ends
-abbrev pub ReadsInside : {P : Type 0} → ℕ → (List ℕ → P → ℕ → ℕ → Type 0) → Bool → List ℕ → List P → ℕ → ℕ → Type 0
+abbrev pub ReadsInside : {P : Type 0} → ℕ → Reads P → Bool → Reads (List P)
 ReadsInside major reads never_empty xs ps n c = ReadsCounted major reads xs ps n c ⊎ ReadsOpen major reads never_empty xs ps n c
 
 -- the same under one step
-abbrev pub ReadsSequence : {P : Type 0} → ℕ → (List ℕ → P → ℕ → ℕ → Type 0) → Bool → List ℕ → List P → ℕ → ℕ → Type 0
+abbrev pub ReadsSequence : {P : Type 0} → ℕ → Reads P → Bool → Reads (List P)
 ReadsSequence major reads never_empty xs ps n c = (d : ℕ) × ReadsInside major reads never_empty xs ps n d × (c ≡ 1 + d)
 
 -- the two lists have as many parts, and these are the same one by one
@@ -67,7 +67,7 @@ SameParts same (p ∷ ps) (q ∷ qs) = same p q × SameParts same ps qs
 -- ---- how it is refused
 
 -- so many parts should come: fewer are whole, and the next one is refused
-pub record StopsCount {P : Type 0} (reads : List ℕ → P → ℕ → ℕ → Type 0) (stops : List ℕ → Option ℕ → Refusal → List ℕ → Type 0) (count : ℕ) (xs : List ℕ) (budget : Option ℕ) (refusal : Refusal) (rest : List ℕ) : Type 0 where
+pub record StopsCount {P : Type 0} (reads : Reads P) (stops : StopsAt) (count : ℕ) (xs : List ℕ) (budget : Option ℕ) (refusal : Refusal) (rest : List ℕ) : Type 0 where
   pub whole : List P
   pub fewer : length whole < count
   pub between : ℕ
@@ -77,13 +77,13 @@ pub record StopsCount {P : Type 0} (reads : List ℕ → P → ℕ → ℕ → T
   pub stop : stops (drop between xs) budget refusal rest
 
 -- where a part or a break should come
-pub data StopsPlace (name : List ℕ) (stops : List ℕ → Option ℕ → Refusal → List ℕ → Type 0) (never_empty : Bool) (xs : List ℕ) (budget : Option ℕ) (refusal : Refusal) (rest : List ℕ) : Type 0 where
+pub data StopsPlace (name : List ℕ) (stops : StopsAt) (never_empty : Bool) (xs : List ℕ) (budget : Option ℕ) (refusal : Refusal) (rest : List ℕ) : Type 0 where
   no_byte : xs ≡ [] → refusal ≡ eof (codes "break") (Small 1) → rest ≡ [] → StopsPlace name stops never_empty xs budget refusal rest
   may_read_nothing : xs ≢ [] → (take 1 xs ≡ break ∷ [] → ⊥) → never_empty ≡ false → refusal ≡ require_length name Indefinite → rest ≡ xs → StopsPlace name stops never_empty xs budget refusal rest
   part_refused : xs ≢ [] → (take 1 xs ≡ break ∷ [] → ⊥) → IsTrue never_empty → stops xs budget refusal rest → StopsPlace name stops never_empty xs budget refusal rest
 
 -- some parts are whole, and then comes the refusal
-pub record StopsUpToBreak {P : Type 0} (name : List ℕ) (reads : List ℕ → P → ℕ → ℕ → Type 0) (stops : List ℕ → Option ℕ → Refusal → List ℕ → Type 0) (never_empty : Bool) (xs : List ℕ) (budget : Option ℕ) (refusal : Refusal) (rest : List ℕ) : Type 0 where
+pub record StopsUpToBreak {P : Type 0} (name : List ℕ) (reads : Reads P) (stops : StopsAt) (never_empty : Bool) (xs : List ℕ) (budget : Option ℕ) (refusal : Refusal) (rest : List ℕ) : Type 0 where
   pub whole : List P
   pub allowed : IsTrue never_empty ⊎ (whole ≡ [])
   pub between : ℕ
@@ -93,7 +93,7 @@ pub record StopsUpToBreak {P : Type 0} (name : List ℕ) (reads : List ℕ → P
   pub stop : StopsPlace name stops never_empty (drop between xs) budget refusal rest
 
 -- the head is refused, or the parts behind it
-pub data StopsInside {P : Type 0} (name : List ℕ) (major : ℕ) (reads : List ℕ → P → ℕ → ℕ → Type 0) (stops : List ℕ → Option ℕ → Refusal → List ℕ → Type 0) (never_empty : Bool) (xs : List ℕ) (budget : Option ℕ) (refusal : Refusal) (rest : List ℕ) : Type 0 where
+pub data StopsInside {P : Type 0} (name : List ℕ) (major : ℕ) (reads : Reads P) (stops : StopsAt) (never_empty : Bool) (xs : List ℕ) (budget : Option ℕ) (refusal : Refusal) (rest : List ℕ) : Type 0 where
   length_refused : (take 1 xs ≡ open_head major ∷ [] → ⊥) → StopsHead name major 8 xs refusal rest → StopsInside name major reads stops never_empty xs budget refusal rest
   counted_refused : (count before : ℕ) → ReadsHead major 8 xs count before → StopsCount reads stops count (drop before xs) budget refusal rest → StopsInside name major reads stops never_empty xs budget refusal rest
   open_refused : take 1 xs ≡ open_head major ∷ [] → StopsUpToBreak name reads stops never_empty (drop 1 xs) budget refusal rest → StopsInside name major reads stops never_empty xs budget refusal rest
@@ -104,33 +104,33 @@ after_step None = None
 after_step (Some left) = Some (left - 1)
 
 -- no step is left and nothing moves, or the sequence is refused under what is left
-pub data StopsSequence {P : Type 0} (name : List ℕ) (major : ℕ) (reads : List ℕ → P → ℕ → ℕ → Type 0) (stops : List ℕ → Option ℕ → Refusal → List ℕ → Type 0) (never_empty : Bool) (xs : List ℕ) (budget : Option ℕ) (refusal : Refusal) (rest : List ℕ) : Type 0 where
+pub data StopsSequence {P : Type 0} (name : List ℕ) (major : ℕ) (reads : Reads P) (stops : StopsAt) (never_empty : Bool) (xs : List ℕ) (budget : Option ℕ) (refusal : Refusal) (rest : List ℕ) : Type 0 where
   no_step : budget ≡ Some 0 → refusal ≡ depth_overflow name → rest ≡ xs → StopsSequence name major reads stops never_empty xs budget refusal rest
   under_step : budget ≢ Some 0 → StopsInside name major reads stops never_empty xs (after_step budget) refusal rest → StopsSequence name major reads stops never_empty xs budget refusal rest
 
 -- ---- what a decoding call adds
 
 -- one part was read, and stands behind those that were there
-pub record AddsPart {P : Type 0} (reads : List ℕ → P → ℕ → ℕ → Type 0) (before after : List P) (old new : View) : Type 0 where
+pub record AddsPart {P : Type 0} (reads : Reads P) (before after : List P) (old new : View) : Type 0 where
   pub part : P
   pub read : Sound reads old new part
   pub added : after ≡ before ++ part ∷ []
 
 -- ---- arrays
 
-abbrev pub ReadsArray : {V : Type 0} → (List ℕ → V → ℕ → ℕ → Type 0) → Bool → List ℕ → Vec V Global → ℕ → ℕ → Type 0
+abbrev pub ReadsArray : {V : Type 0} → Reads V → Bool → Reads (Vec V Global)
 ReadsArray reads never_empty xs v n c = ReadsSequence 4 reads never_empty xs v.items n c
 
 abbrev pub SameArray : {V : Type 0} → (V → V → Type 0) → Vec V Global → Vec V Global → Type 0
 SameArray same v w = SameParts same v.items w.items
 
-abbrev pub StopsArray : {V : Type 0} → (List ℕ → V → ℕ → ℕ → Type 0) → (List ℕ → Option ℕ → Refusal → List ℕ → Type 0) → Bool → List ℕ → Option ℕ → Refusal → List ℕ → Type 0
+abbrev pub StopsArray : {V : Type 0} → Reads V → StopsAt → Bool → StopsAt
 StopsArray reads stops never_empty = StopsSequence (codes "array") 4 reads stops never_empty
 
 -- ---- maps
 
 -- a key, and its value behind it, at the greater cost of the two
-pub record ReadsPair {K V : Type 0} (key_reads : List ℕ → K → ℕ → ℕ → Type 0) (value_reads : List ℕ → V → ℕ → ℕ → Type 0) (xs : List ℕ) (pair : K × V) (n c : ℕ) : Type 0 where
+pub record ReadsPair {K V : Type 0} (key_reads : Reads K) (value_reads : Reads V) (xs : List ℕ) (pair : K × V) (n c : ℕ) : Type 0 where
   pub key_size : ℕ
   pub key_cost : ℕ
   pub key : key_reads xs pair.0 key_size key_cost
@@ -141,7 +141,7 @@ pub record ReadsPair {K V : Type 0} (key_reads : List ℕ → K → ℕ → ℕ 
   pub cost : c ≡ max key_cost value_cost
 
 -- a key is whole, and its value is refused
-pub record StopsBehindKey {K : Type 0} (key_reads : List ℕ → K → ℕ → ℕ → Type 0) (stops : List ℕ → Option ℕ → Refusal → List ℕ → Type 0) (xs : List ℕ) (budget : Option ℕ) (refusal : Refusal) (rest : List ℕ) : Type 0 where
+pub record StopsBehindKey {K : Type 0} (key_reads : Reads K) (stops : StopsAt) (xs : List ℕ) (budget : Option ℕ) (refusal : Refusal) (rest : List ℕ) : Type 0 where
   pub whole : K
   pub size : ℕ
   pub cost : ℕ
@@ -150,17 +150,17 @@ pub record StopsBehindKey {K : Type 0} (key_reads : List ℕ → K → ℕ → �
   pub stop : stops (drop size xs) budget refusal rest
 
 -- the key's refusal, or its value's
-abbrev pub StopsPair : {K : Type 0} → (List ℕ → K → ℕ → ℕ → Type 0) → (List ℕ → Option ℕ → Refusal → List ℕ → Type 0) → (List ℕ → Option ℕ → Refusal → List ℕ → Type 0) → List ℕ → Option ℕ → Refusal → List ℕ → Type 0
+abbrev pub StopsPair : {K : Type 0} → Reads K → StopsAt → StopsAt → StopsAt
 StopsPair key_reads key_stops value_stops xs budget refusal rest = key_stops xs budget refusal rest ⊎ StopsBehindKey key_reads value_stops xs budget refusal rest
 
 abbrev pub SamePair : {K V : Type 0} → (K → K → Type 0) → (V → V → Type 0) → K × V → K × V → Type 0
 SamePair same_key same_value p q = same_key p.0 q.0 × same_value p.1 q.1
 
-abbrev pub ReadsMap : {K V : Type 0} → (List ℕ → K → ℕ → ℕ → Type 0) → (List ℕ → V → ℕ → ℕ → Type 0) → Bool → List ℕ → Map (Vec (K × V) Global) → ℕ → ℕ → Type 0
+abbrev pub ReadsMap : {K V : Type 0} → Reads K → Reads V → Bool → Reads (Map (Vec (K × V) Global))
 ReadsMap key_reads value_reads never_empty xs v n c = ReadsSequence 5 (ReadsPair key_reads value_reads) never_empty xs v.0.items n c
 
 abbrev pub SameMap : {K V : Type 0} → (K → K → Type 0) → (V → V → Type 0) → Map (Vec (K × V) Global) → Map (Vec (K × V) Global) → Type 0
 SameMap same_key same_value v w = SameParts (SamePair same_key same_value) v.0.items w.0.items
 
-abbrev pub StopsMap : {K V : Type 0} → (List ℕ → K → ℕ → ℕ → Type 0) → (List ℕ → V → ℕ → ℕ → Type 0) → (List ℕ → Option ℕ → Refusal → List ℕ → Type 0) → (List ℕ → Option ℕ → Refusal → List ℕ → Type 0) → Bool → List ℕ → Option ℕ → Refusal → List ℕ → Type 0
+abbrev pub StopsMap : {K V : Type 0} → Reads K → Reads V → StopsAt → StopsAt → Bool → StopsAt
 StopsMap key_reads value_reads key_stops value_stops never_empty = StopsSequence (codes "map") 5 (ReadsPair key_reads value_reads) (StopsPair key_reads key_stops value_stops) never_empty

@@ -8,14 +8,15 @@ use Rattle.cbor4ii_items.specs.Reading.{Reading, give, ◌>=>◌}
 use Rattle.cbor4ii_items.specs.Marked.{NoneBegins, marked_at}
 use Rattle.cbor4ii_items.specs.Numbers.{ReadsArgument, StopsArgument}
 use Rattle.cbor4ii_items.specs.Laws.Arguments.{argument_one, argument_within, argument_positive, argument_alone}
+use Rattle.cbor4ii_items.specs.Decoding.{Reads, StopsAt}
 
 -- ---- any simple value, by its number
 
 -- a head of major type 7, with the number in its first byte or in the one after it
-abbrev pub ReadsSimple : List ℕ → Simple → ℕ → ℕ → Type 0
+abbrev pub ReadsSimple : Reads Simple
 ReadsSimple xs v n c = ReadsArgument 7 1 xs v.0 n c
 
-abbrev pub StopsSimple : List ℕ → Option ℕ → Refusal → List ℕ → Type 0
+abbrev pub StopsSimple : StopsAt
 StopsSimple = StopsArgument (codes "simple") 7 1
 
 pub simple_one : (xs : List ℕ) (v w : Simple) (n m c d : ℕ) → ReadsSimple xs v n c → ReadsSimple xs w m d → (n ≡ m) × (c ≡ d) × (v ≡ w)
@@ -38,14 +39,14 @@ abbrev pub bool_byte : Bool → ℕ
 bool_byte false = simple_byte simple_false
 bool_byte true = simple_byte simple_true
 
-abbrev pub ReadsBool : List ℕ → Bool → ℕ → ℕ → Type 0
+abbrev pub ReadsBool : Reads Bool
 ReadsBool xs v n c = (take 1 xs ≡ bool_byte v ∷ []) × (n ≡ 1) × (c ≡ 0)
 
 -- the byte is that of false or of true
 abbrev pub IsBool : ℕ → Type 0
 IsBool b = (v : Bool) × (b ≡ bool_byte v)
 
-abbrev pub StopsBool : List ℕ → Option ℕ → Refusal → List ℕ → Type 0
+abbrev pub StopsBool : StopsAt
 StopsBool xs budget refusal rest = NoneBegins (codes "bool") IsBool xs refusal rest
 
 abbrev pub bool_at : Reading Bool

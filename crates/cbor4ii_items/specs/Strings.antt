@@ -3,9 +3,9 @@ use Rattle.std.specs.Prelude.{◌≡◌, ◌≢◌, ℕ, ◌+◌, ◌-◌, ◌<�
 use Rattle.cbor4ii_rw.specs.declared.error.Len.TheVariants.{Small, Indefinite}
 use Rattle.cbor4ii_items.specs.Head.{break, open_head}
 use Rattle.cbor4ii_items.specs.Refusal.{Refusal, eof, require_length, require_utf8, depth_overflow, len_of}
-use Rattle.cbor4ii_items.specs.Decoding.{CostFits}
+use Rattle.cbor4ii_items.specs.Decoding.{Reads, StopsAt, CostFits}
 use Rattle.cbor4ii_items.specs.Heads.{ReadsHead, StopsHead}
-use Rattle.cbor4ii_items.specs.Numbers.{shortest_head}
+pub use Rattle.cbor4ii_items.specs.Numbers.{counted_string}
 use Rattle.cbor4ii_items.specs.declared.types.Bytes.{Bytes}
 use Rattle.cbor4ii_items.specs.declared.types.UncheckedStr.{UncheckedStr}
 use Rattle.std.specs.declared.alloc.Global.{Global}
@@ -14,10 +14,6 @@ use Rattle.std.specs.declared.string.String.{String}
 use Rattle.std.specs.Prelude.{string_bytes}
 
 -- ---- what is written
-
--- the shortest head of this major type with the content's length, and the content
-abbrev pub counted_string : ℕ → List ℕ → List ℕ
-counted_string major content = shortest_head major (length content) ++ content
 
 -- the first byte of a string of indefinite length
 abbrev pub opening : ℕ → List ℕ
@@ -63,19 +59,19 @@ pub record ReadsOpen (major : ℕ) (xs content : List ℕ) (n c : ℕ) : Type 0 
   pub cost : c ≡ chunk_cost chunks
 
 -- a string of this major type, of known or of indefinite length
-abbrev pub ReadsString : ℕ → List ℕ → List ℕ → ℕ → ℕ → Type 0
+abbrev pub ReadsString : ℕ → Reads (List ℕ)
 ReadsString major xs content n c = (ReadsCounted major xs content n × (c ≡ 0)) ⊎ ReadsOpen major xs content n c
 
 -- a text string that is UTF-8
-abbrev pub ReadsText : List ℕ → List ℕ → ℕ → ℕ → Type 0
+abbrev pub ReadsText : Reads (List ℕ)
 ReadsText xs content n c = ReadsString 3 xs content n c × IsUtf8 content
 
 -- a string whose content a value has
-abbrev pub ReadsAs : {V : Type 0} → ℕ → (V → List ℕ) → List ℕ → V → ℕ → ℕ → Type 0
+abbrev pub ReadsAs : {V : Type 0} → ℕ → (V → List ℕ) → Reads V
 ReadsAs major content xs v n c = ReadsString major xs (content v) n c
 
 -- a text string that is UTF-8, whose content a value has
-abbrev pub ReadsTextAs : {V : Type 0} → (V → List ℕ) → List ℕ → V → ℕ → ℕ → Type 0
+abbrev pub ReadsTextAs : {V : Type 0} → (V → List ℕ) → Reads V
 ReadsTextAs content xs v n c = ReadsText xs (content v) n c
 
 -- the content of an owned byte string, and of an owned text that is not tested
@@ -129,9 +125,9 @@ pub data StopsText (name : List ℕ) (xs : List ℕ) (budget : Option ℕ) (refu
 -- ---- breaks
 
 -- a break is taken, and another byte stays
-abbrev pub ReadsBreak : List ℕ → Bool → ℕ → ℕ → Type 0
+abbrev pub ReadsBreak : Reads Bool
 ReadsBreak xs true n c = (take 1 xs ≡ break ∷ []) × (n ≡ 1) × (c ≡ 0)
 ReadsBreak xs false n c = (xs ≢ []) × (take 1 xs ≡ break ∷ [] → ⊥) × (n ≡ 0) × (c ≡ 0)
 
-abbrev pub StopsBreak : List ℕ → Option ℕ → Refusal → List ℕ → Type 0
+abbrev pub StopsBreak : StopsAt
 StopsBreak xs budget refusal rest = (xs ≡ []) × (refusal ≡ eof (codes "break") (Small 1)) × (rest ≡ [])

@@ -6,7 +6,6 @@ ghost use Rattle.std.specs.Prelude.{
   ◌≤◌,
   List,
   Bool,
-  Option,
   length,
   take,
   ◌++◌,
@@ -16,8 +15,8 @@ ghost use Rattle.std.specs.Prelude.{
   IsTrue,
 };
 ghost use Rattle.cbor4ii_items.specs.Moves.{Moves};
-ghost use Rattle.cbor4ii_items.specs.Refusal.{Refusal, is_out_of_memory};
-ghost use Rattle.cbor4ii_items.specs.Decoding.{IsExact, Sound, Refuses, Stops};
+ghost use Rattle.cbor4ii_items.specs.Refusal.{is_out_of_memory};
+ghost use Rattle.cbor4ii_items.specs.Decoding.{Reads, StopsAt, IsExact, Sound, Refuses, Stops};
 
 use cbor4ii_rw::error::DecodeError;
 use cbor4ii_rw::read::Source;
@@ -28,18 +27,18 @@ use std::alloc::Global;
 pub trait Spelled: Sized {
     // What is read: the bytes to come, the value, how many of them it takes, and the steps that
     // it costs.
-    ghost reads: { List ℕ → Self → ℕ → ℕ → Type 0 };
+    ghost reads: { Reads Self };
 
     // The two values mean the same.
     ghost same: { Self → Self → Type 0 };
 
     // How bytes are refused: the bytes to come, the budget, the refusal, and the bytes that are
     // left then.
-    ghost stops: { List ℕ → Option ℕ → Refusal → List ℕ → Type 0 };
+    ghost stops: { StopsAt };
 
     // As `stops`, over any reader: what a borrowed part is refused by depends on how a reader cuts,
     // so less is said of it.
-    ghost begins: { List ℕ → Option ℕ → Refusal → List ℕ → Type 0 };
+    ghost begins: { StopsAt };
 
     // No spelling is empty.
     ghost never_empty: { Bool };

@@ -69,10 +69,7 @@ fn bits<S: Source>(
             }
             None => bits_by_byte(reader, name, marker, bytes),
         },
-        None => match failure {
-            Some(error) => Err(DecodeError::Read(error)),
-            None => unreachable!(),
-        },
+        None => Err(DecodeError::Read(failure.unwrap())),
     }
 }
 

@@ -3,7 +3,7 @@ ghost use Rattle.std.specs.Prelude.{◌+◌, ◌≤◌, ◌<◌, ◌^◌, ℕ, L
 ghost use Rattle.cbor4ii_items.specs.Front.{IsWhole, IsArgument, RunsOrStays};
 ghost use Rattle.cbor4ii_items.specs.ReadHead.{head_at};
 
-use crate::head::{allowed, following};
+use crate::additional::{allowed, following};
 use cbor4ii_rw::ask::look;
 use cbor4ii_rw::read::Source;
 
@@ -28,12 +28,7 @@ pub(crate) fn take_head<S: Source>(
     let mut failure = None;
     let head = match look(reader, LONGEST, &mut failure) {
         Some(shown) => whole_head(shown, major, width),
-        None => {
-            return match failure {
-                Some(error) => Err(error),
-                None => unreachable!(),
-            };
-        }
+        None => return Err(failure.unwrap()),
     };
     match head {
         Some((argument, length)) => {

@@ -10,10 +10,9 @@ ghost use Rattle.cbor4ii_items.specs.ReadHead.{
   argument_at,
   head_at,
   length_at,
-  following,
-  allowed,
 };
 
+use crate::additional::{allowed, following};
 use crate::front::take_head;
 use cbor4ii_rw::ask::look;
 use cbor4ii_rw::error::{DecodeError, Len, StaticStr};
@@ -41,10 +40,7 @@ pub(crate) fn peek<S: Source>(
             }
             Ok(shown[0])
         }
-        None => match failure {
-            Some(error) => Err(DecodeError::Read(error)),
-            None => unreachable!(),
-        },
+        None => Err(DecodeError::Read(failure.unwrap())),
     }
 }
 
@@ -98,25 +94,6 @@ pub(crate) fn number<S: Source>(
         value = value * 256 + byte as u128;
     }
     Ok(value)
-}
-
-#[inline(always)]
-pub(crate) fn following(info: u8) -> u8
-    ensures { result ≡ following info }
-{
-    match info {
-        24 => 1,
-        25 => 2,
-        26 => 4,
-        _ => 8,
-    }
-}
-
-#[inline(always)]
-pub(crate) fn allowed(width: u8, info: u8) -> bool
-    ensures { result ≡ allowed width info }
-{
-    info < 28 && following(info) <= width
 }
 
 /// The argument of a head that begins with `first`.

@@ -1,6 +1,7 @@
 //! Items: what is read and written, from numbers to arrays and maps.
 #![tactic(auto)]
 
+mod additional;
 mod boxed;
 pub mod decode;
 pub mod encode;

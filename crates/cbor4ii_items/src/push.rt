@@ -14,7 +14,7 @@ ghost use Rattle.std.specs.Prelude.{
 };
 ghost use Rattle.cbor4ii_items.specs.Writing.{Writes, WritesWhole};
 ghost use Rattle.cbor4ii_items.specs.Magnitude.{without_leading_zeros};
-ghost use Rattle.cbor4ii_items.specs.Strings.{counted_string};
+ghost use Rattle.cbor4ii_items.specs.Strings.{closing, counted_string, opening};
 ghost use Rattle.cbor4ii_items.specs.Numbers.{
   shortest_head,
   signed_head,
@@ -25,7 +25,7 @@ ghost use Rattle.cbor4ii_items.specs.Numbers.{
 };
 
 use crate::encode::Encode;
-use crate::major;
+use crate::{major, marker};
 use cbor4ii_rw::error::EncodeError;
 use cbor4ii_rw::write::Write;
 
@@ -71,6 +71,23 @@ pub(crate) fn push_head<W: Write>(
     } else {
         push_bytes(writer, &[first + 27, a, b, c, d, e, f, g, h])
     }
+}
+
+/// Writes the first byte of an indefinite length of this major type, in one push.
+#[inline(always)]
+pub(crate) fn push_open<W: Write>(writer: &mut W, major: u8) -> Result<(), EncodeError<W::Error>>
+    requires { major < 8 }
+    ensures { WritesWhole W.whole (opening major) (W.view writer.old) (W.view writer.new) result }
+{
+    push_bytes(writer, &[32 * major + marker::START])
+}
+
+/// Writes the end of an indefinite length, one byte, in one push.
+#[inline(always)]
+pub(crate) fn push_end<W: Write>(writer: &mut W) -> Result<(), EncodeError<W::Error>>
+    ensures { WritesWhole W.whole closing (W.view writer.old) (W.view writer.new) result }
+{
+    push_bytes(writer, &[marker::BREAK])
 }
 
 /// Writes a number from 0 on, or -1 - n, as a head.

@@ -8,7 +8,7 @@ use Rattle.cbor4ii_items.specs.Head.{IsBytes}
 use Rattle.cbor4ii_items.specs.Moves.{Kept, Broke, Moves}
 use Rattle.cbor4ii_items.specs.Refusal.{Refusal, refusal_of, is_read}
 use Rattle.cbor4ii_items.specs.Reading.{Reading}
-use Rattle.cbor4ii_items.specs.Decoding.{CostFits, Sound, NoneRead, Refuses, Stops}
+use Rattle.cbor4ii_items.specs.Decoding.{Reads, StopsAt, CostFits, Sound, NoneRead, Refuses, Stops}
 use Rattle.cbor4ii_items.specs.Following.{Follows}
 use Rattle.std.proofs.lemmas.List.{length-drop}
 use Rattle.cbor4ii_items.specs.HeadLaws.{IsBytes-take}
@@ -30,7 +30,7 @@ pub seen_of : (xs ys : List ℕ) (n : ℕ) → n ≤ length xs → IsBytes (take
 seen_of xs ys n room bytes e = λ m h. IsBytes-take m n xs (omega (arith, h, room, ap length e, length-drop n xs)) bytes
 
 -- a reading of v that fits, and the bytes behind it
-pub record Found {V : Type 0} (reads : List ℕ → V → ℕ → ℕ → Type 0) (budget : Option ℕ) (xs : List ℕ) (v : V) (ys : List ℕ) : Type 0 where
+pub record Found {V : Type 0} (reads : Reads V) (budget : Option ℕ) (xs : List ℕ) (v : V) (ys : List ℕ) : Type 0 where
   pub count : ℕ
   pub cost : ℕ
   pub read : reads xs v count cost
@@ -39,7 +39,7 @@ pub record Found {V : Type 0} (reads : List ℕ → V → ℕ → ℕ → Type 0
 
 -- ---- a value
 
-pub sound_by : {V E : Type 0} {program : Reading V} {v : V} {a b : View} (reads : List ℕ → V → ℕ → ℕ → Type 0) → ((xs ys : List ℕ) → program xs ≡ Ok (v, ys) → Seen xs ys → Found reads a.budget xs v ys)
+pub sound_by : {V E : Type 0} {program : Reading V} {v : V} {a b : View} (reads : Reads V) → ((xs ys : List ℕ) → program xs ≡ Ok (v, ys) → Seen xs ys → Found reads a.budget xs v ys)
     → Follows {E = E} program a b (Ok v) → Sound reads a b v
 sound_by {b = b} reads means p = record {
   at = λ xs told.
@@ -52,12 +52,12 @@ sound_by {b = b} reads means p = record {
 
 -- ---- a refusal
 
-none_by : {V : Type 0} (program : Reading V) (reads : List ℕ → V → ℕ → ℕ → Type 0) (o : Option Refusal) (xs : List ℕ) (budget : Option ℕ) (left : Option (List ℕ))
+none_by : {V : Type 0} (program : Reading V) (reads : Reads V) (o : Option Refusal) (xs : List ℕ) (budget : Option ℕ) (left : Option (List ℕ))
     → ((v : V) (n c : ℕ) → reads xs v n c → CostFits c budget → program xs ≡ Ok (v, drop n xs)) → IfSome o (λ z. (ys : List ℕ) × (left ≡ Some ys) × (program xs ≡ Err (z, ys))) → IfSome o (λ z. NoneRead reads xs budget)
 none_by program reads None xs budget left again h = tt
 none_by program reads (Some z) xs budget left again h = λ v n c r fits. let f = again v n c r fits in let g = h.2 in cc
 
-pub refuses_by : {V E : Type 0} {program : Reading V} {e : DecodeError E} {a b : View} (reads : List ℕ → V → ℕ → ℕ → Type 0) → ((xs : List ℕ) (v : V) (n c : ℕ) → reads xs v n c → CostFits c a.budget → program xs ≡ Ok (v, drop n xs))
+pub refuses_by : {V E : Type 0} {program : Reading V} {e : DecodeError E} {a b : View} (reads : Reads V) → ((xs : List ℕ) (v : V) (n c : ℕ) → reads xs v n c → CostFits c a.budget → program xs ≡ Ok (v, drop n xs))
     → Follows program a b (Err e) → Refuses reads a e
 refuses_by {program = program} {e = e} {a = a} {b = b} reads again p = record { at = λ xs told. none_by program reads (refusal_of e) xs a.budget b.told (again xs) (p.answers xs told) }
 
@@ -69,7 +69,7 @@ kept_of : (t : Bool) (a b : View) → t ≡ false → MatchBool t (Broke a b) (K
 kept_of true a b e k = cc
 kept_of false a b e k = k
 
-stopped_by : {V E : Type 0} (program : Reading V) (e : DecodeError E) (a b : View) (stops : List ℕ → Option ℕ → Refusal → List ℕ → Type 0) (xs : List ℕ) → a.told ≡ Some xs → ((z : Refusal) (ys : List ℕ) → program xs ≡ Err (z, ys) → Seen xs ys → stops xs a.budget z ys)
+stopped_by : {V E : Type 0} (program : Reading V) (e : DecodeError E) (a b : View) (stops : StopsAt) (xs : List ℕ) → a.told ≡ Some xs → ((z : Refusal) (ys : List ℕ) → program xs ≡ Err (z, ys) → Seen xs ys → stops xs a.budget z ys)
     → Moves {V = V} a b (Err e) → (o : Option Refusal) → refusal_of e ≡ o → IfSome o (λ z. (ys : List ℕ) × (b.told ≡ Some ys) × (program xs ≡ Err (z, ys))) → IfSome o (λ z. (ys : List ℕ) × (b.told ≡ Some ys) × stops xs a.budget z ys)
 stopped_by program e a b stops xs told means moves None says h = tt
 stopped_by program e a b stops xs told means moves (Some z) says h =
@@ -78,7 +78,7 @@ stopped_by program e a b stops xs told means moves (Some z) says h =
     let f : h.0 ≡ drop t.0 xs = same_some _ _ b.told h.1 t.1.left in
     (h.0, h.1, means z h.0 h.2 (seen_of xs h.0 t.0 t.1.within t.1.bytes f))
 
-pub stops_by : {V E : Type 0} {program : Reading V} {e : DecodeError E} {a b : View} (stops : List ℕ → Option ℕ → Refusal → List ℕ → Type 0) → ((xs : List ℕ) (z : Refusal) (ys : List ℕ) → program xs ≡ Err (z, ys) → Seen xs ys → stops xs a.budget z ys)
+pub stops_by : {V E : Type 0} {program : Reading V} {e : DecodeError E} {a b : View} (stops : StopsAt) → ((xs : List ℕ) (z : Refusal) (ys : List ℕ) → program xs ≡ Err (z, ys) → Seen xs ys → stops xs a.budget z ys)
     → Follows {V = V} program a b (Err e) → Stops stops a b e
 stops_by {program = program} {e = e} {a = a} {b = b} stops means p = record { at = λ xs told. stopped_by program e a b stops xs told (means xs) p.moves (refusal_of e) refl (p.answers xs told) }
 
@@ -88,5 +88,5 @@ no_more : (o : Option Refusal) {P Q : Type 0} → (P → Q) → IfSome o (λ z. 
 no_more None f h = tt
 no_more (Some z) f h = f h
 
-pub refuses_as : {U V E : Type 0} {e : DecodeError E} {a : View} (f : List ℕ → U → ℕ → ℕ → Type 0) (g : List ℕ → V → ℕ → ℕ → Type 0) → ((xs : List ℕ) (budget : Option ℕ) → NoneRead f xs budget → NoneRead g xs budget) → Refuses f a e → Refuses g a e
+pub refuses_as : {U V E : Type 0} {e : DecodeError E} {a : View} (f : Reads U) (g : Reads V) → ((xs : List ℕ) (budget : Option ℕ) → NoneRead f xs budget → NoneRead g xs budget) → Refuses f a e → Refuses g a e
 refuses_as {e = e} {a = a} f g none p = record { at = λ xs told. no_more (refusal_of e) (none xs a.budget) (p.at xs told) }

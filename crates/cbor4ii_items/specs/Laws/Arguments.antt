@@ -7,6 +7,7 @@ use Rattle.cbor4ii_items.specs.HeadLaws.{head_read, head_alone}
 use Rattle.cbor4ii_items.specs.ReadHead.{head_at}
 use Rattle.cbor4ii_items.specs.declared.types.Negative.{Negative}
 use Rattle.cbor4ii_items.specs.Numbers.{ReadsArgument, ReadsUnsigned, ReadsNegative}
+use Rattle.cbor4ii_items.specs.Decoding.{Reads}
 
 -- the program reads all that the relation says, at least one byte, and at no cost
 pub record ReadBy {V : Type 0} (program : Reading V) (xs : List ℕ) (v : V) (n c : ℕ) : Type 0 where
@@ -15,7 +16,7 @@ pub record ReadBy {V : Type 0} (program : Reading V) (xs : List ℕ) (v : V) (n 
   pub positive : 1 ≤ n
   pub cost : c ≡ 0
 
-module _ {V : Type 0} (program : Reading V) (reads : List ℕ → V → ℕ → ℕ → Type 0) (again : (xs : List ℕ) (v : V) (n c : ℕ) → reads xs v n c → ReadBy program xs v n c) where
+module _ {V : Type 0} (program : Reading V) (reads : Reads V) (again : (xs : List ℕ) (v : V) (n c : ℕ) → reads xs v n c → ReadBy program xs v n c) where
   pub leaf_one : (xs : List ℕ) (v w : V) (n m c d : ℕ) → reads xs v n c → reads xs w m d → (n ≡ m) × (c ≡ d) × (v ≡ w)
   leaf_one xs v w n m c d p q =
       let a = again xs v n c p in

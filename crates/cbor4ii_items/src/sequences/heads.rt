@@ -10,9 +10,9 @@ ghost use Rattle.cbor4ii_items.specs.Strings.{opening, closing};
 ghost use Rattle.cbor4ii_items.specs.Writing.{WritesWhole};
 
 use crate::head::lone_length;
-use crate::push::{push_bytes, push_head};
+use crate::major;
+use crate::push::{push_end, push_head, push_open};
 use crate::types::{Array, Map};
-use crate::{major, marker};
 use cbor4ii_rw::error::{DecodeError, EncodeError};
 use cbor4ii_rw::read::Source;
 use cbor4ii_rw::write::Write;
@@ -55,7 +55,7 @@ impl Array<()> {
     pub fn unbounded<W: Write>(writer: &mut W) -> Result<(), EncodeError<W::Error>>
         ensures { WritesWhole W.whole (opening 4) (W.view writer.old) (W.view writer.new) result }
     {
-        push_bytes(writer, &[32 * major::ARRAY + marker::START])
+        push_open(writer, major::ARRAY)
     }
 
     /// Writes the end of an indefinite length, one byte, in one push.
@@ -107,7 +107,7 @@ impl Map<()> {
     pub fn unbounded<W: Write>(writer: &mut W) -> Result<(), EncodeError<W::Error>>
         ensures { WritesWhole W.whole (opening 5) (W.view writer.old) (W.view writer.new) result }
     {
-        push_bytes(writer, &[32 * major::MAP + marker::START])
+        push_open(writer, major::MAP)
     }
 
     /// Writes the end of an indefinite length, one byte, in one push.
@@ -119,12 +119,6 @@ impl Map<()> {
     {
         push_end(writer)
     }
-}
-
-fn push_end<W: Write>(writer: &mut W) -> Result<(), EncodeError<W::Error>>
-    ensures { WritesWhole W.whole closing (W.view writer.old) (W.view writer.new) result }
-{
-    push_bytes(writer, &[marker::BREAK])
 }
 
 #[cfg(test)]

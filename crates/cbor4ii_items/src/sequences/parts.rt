@@ -8,7 +8,6 @@ ghost use Rattle.std.specs.Prelude.{
   ◌<◌,
   List,
   Bool,
-  Option,
   length,
   OnOk,
   IfOk,
@@ -16,8 +15,7 @@ ghost use Rattle.std.specs.Prelude.{
   IsTrue,
 };
 ghost use Rattle.cbor4ii_items.specs.Moves.{Moves};
-ghost use Rattle.cbor4ii_items.specs.Refusal.{Refusal};
-ghost use Rattle.cbor4ii_items.specs.Decoding.{IsExact, Sound, Refuses, Stops};
+ghost use Rattle.cbor4ii_items.specs.Decoding.{Reads, StopsAt, IsExact, Sound, Refuses, Stops};
 ghost use Rattle.cbor4ii_items.specs.Sequences.{
   ReadsCount,
   ReadsUpToBreak,
@@ -45,12 +43,12 @@ pub(crate) trait Sequence<S: Source>: Sized {
     type Part: Drop;
 
     // What a part is read as, and how it is refused.
-    ghost reads: { List ℕ → Self.Part → ℕ → ℕ → Type 0 };
+    ghost reads: { Reads Self.Part };
 
-    ghost stops: { List ℕ → Option ℕ → Refusal → List ℕ → Type 0 };
+    ghost stops: { StopsAt };
 
     // As `stops`, over any reader.
-    ghost begins: { List ℕ → Option ℕ → Refusal → List ℕ → Type 0 };
+    ghost begins: { StopsAt };
 
     // No part is empty.
     ghost never_empty: { Bool };

@@ -60,9 +60,6 @@ fn take_shown<S: Source>(
             reader.advance(count);
             Ok(count)
         }
-        None => match failure {
-            Some(error) => Err(DecodeError::Read(error)),
-            None => unreachable!(),
-        },
+        None => Err(DecodeError::Read(failure.unwrap())),
     }
 }

@@ -3,9 +3,9 @@ ghost use Rattle.cbor4ii_items.specs.Writing.{WritesWhole};
 ghost use Rattle.cbor4ii_items.specs.Numbers.{shortest_head};
 ghost use Rattle.cbor4ii_items.specs.Strings.{opening, closing};
 
-use crate::push::{push_bytes, push_head};
+use crate::major;
+use crate::push::{push_end, push_head, push_open};
 use crate::types::{Bytes, UncheckedStr};
-use crate::{major, marker};
 use cbor4ii_rw::error::EncodeError;
 use cbor4ii_rw::write::Write;
 
@@ -29,7 +29,7 @@ impl Bytes<()> {
     pub fn unbounded<W: Write>(writer: &mut W) -> Result<(), EncodeError<W::Error>>
         ensures { WritesWhole W.whole (opening 2) (W.view writer.old) (W.view writer.new) result }
     {
-        push_bytes(writer, &[32 * major::BYTES + marker::START])
+        push_open(writer, major::BYTES)
     }
 
     /// Writes the end of an indefinite length, one byte, in one push.
@@ -39,7 +39,7 @@ impl Bytes<()> {
     pub fn end<W: Write>(writer: &mut W) -> Result<(), EncodeError<W::Error>>
         ensures { WritesWhole W.whole closing (W.view writer.old) (W.view writer.new) result }
     {
-        push_bytes(writer, &[marker::BREAK])
+        push_end(writer)
     }
 }
 
@@ -63,7 +63,7 @@ impl UncheckedStr<()> {
     pub fn unbounded<W: Write>(writer: &mut W) -> Result<(), EncodeError<W::Error>>
         ensures { WritesWhole W.whole (opening 3) (W.view writer.old) (W.view writer.new) result }
     {
-        push_bytes(writer, &[32 * major::STRING + marker::START])
+        push_open(writer, major::STRING)
     }
 
     /// Writes the end of an indefinite length, one byte, in one push.
@@ -73,6 +73,6 @@ impl UncheckedStr<()> {
     pub fn end<W: Write>(writer: &mut W) -> Result<(), EncodeError<W::Error>>
         ensures { WritesWhole W.whole closing (W.view writer.old) (W.view writer.new) result }
     {
-        push_bytes(writer, &[marker::BREAK])
+        push_end(writer)
     }
 }

@@ -135,10 +135,7 @@ pub(crate) fn lend_content<'de, R: Read<'de>>(
             Ok(front(shown, want))
         }
         Some(Reference::Short(_)) => Err(Lacks::Short),
-        None => match failure {
-            Some(error) => Err(Lacks::Read(error)),
-            None => unreachable!(),
-        },
+        None => Err(Lacks::Read(failure.unwrap())),
     }
 }
 
