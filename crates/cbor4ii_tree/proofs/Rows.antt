@@ -1,18 +1,19 @@
 -- Worked rows: what RFC 8949 appendix A and this codec's rules say of bytes, each an equation that the plain programs
 -- compute. The laws tie these programs to the definitions, so that a row is one of the definitions. A text of
 -- hexadecimal digits stands for its bytes; where no budget is given, it is 256 steps.
-use Rattle.std.proofs.Common.{◌≡◌, ℕ, zero, suc, ◌+◌, ◌-◌, ◌*◌, List, [], ◌∷◌, ◌++◌, Ok, Err, Result, Some, refl, pos, negsuc, codes, replicate, true, false}
+use Rattle.std.proofs.Common.{◌≡◌, ℕ, zero, suc, ◌+◌, ◌-◌, ◌*◌, List, [], ◌∷◌, ◌++◌, Ok, Err, Result, None, Some, refl, pos, negsuc, codes, replicate, true, false}
 use Prim.Native.String.{String}
 use Rattle.std.specs.Prelude.{nat_lt, if◌then◌else◌}
 use Rattle.std.specs.Str.{is_utf8, chars}
 use Rattle.cbor4ii_items.specs.Initial.{half, single, double, initial}
 use Rattle.cbor4ii_tree.specs.Tree.{Tree}
-use Rattle.cbor4ii_tree.specs.Item.{Item, null, boolean, integer, float, bytes_item, text, sequence, mapping, tag}
-use Rattle.cbor4ii_tree.specs.Canonical.{canon}
+use Rattle.cbor4ii_tree.specs.Item.{Item, null, boolean, integer, float, bytes_item, text, sequence, mapping, tag, size}
+use Rattle.cbor4ii_tree.specs.Canonical.{canon, canon_cost, with_bignums}
+use Rattle.cbor4ii_tree.specs.Cost.{cost, skip_cost}
 use Rattle.cbor4ii_tree.specs.Refusal.{Refusal, eof, mismatch, unsupported, require_length, require_utf8, depth_overflow, Small, Big, Indefinite}
 use Rattle.cbor4ii_tree.specs.Parse.{Answer, argument_at, trees_at, pairs_at, open_trees_at, open_pairs_at}
 use Rattle.cbor4ii_tree.specs.Skip.{skip, skip_within, whole_argument_at}
-use Rattle.cbor4ii_tree.specs.Read.{read, read_within}
+use Rattle.cbor4ii_tree.specs.Read.{read, read_tree, read_within}
 use Rattle.cbor4ii_tree.specs.View.{items_of, members_of}
 
 -- ---- how rows are written
@@ -57,14 +58,24 @@ Refuses = RefusesUnder 256
 abbrev ReadsUnder : ℕ → String → Item → Type 0
 ReadsUnder steps input v = read (Some steps) (hex input) ≡ Ok (v, [])
 
+-- the same where no budget bounds the steps
+abbrev ReadsAtAnyDepth : String → Item → Type 0
+ReadsAtAnyDepth input v = read None (hex input) ≡ Ok (v, [])
+
 -- what was skipped is left out
 abbrev rest_of : Answer Tree → Result (List ℕ) (Refusal × List ℕ)
 rest_of (Ok p) = Ok p.1
 rest_of (Err z) = Err z
 
 -- one item is skipped, and these bytes are left
+abbrev SkipsUnder : ℕ → String → String → Type 0
+SkipsUnder steps input rest = rest_of (skip (Some steps) (hex input)) ≡ Ok (hex rest)
+
 abbrev SkipsTo : String → String → Type 0
-SkipsTo input rest = rest_of (skip (Some 256) (hex input)) ≡ Ok (hex rest)
+SkipsTo = SkipsUnder 256
+
+abbrev SkipsAtAnyDepth : String → String → Type 0
+SkipsAtAnyDepth input rest = rest_of (skip None (hex input)) ≡ Ok (hex rest)
 
 abbrev SkipRefusesUnder : ℕ → String → Refusal → String → Type 0
 SkipRefusesUnder steps input e rest = skip (Some steps) (hex input) ≡ Err (e, hex rest)
@@ -116,10 +127,13 @@ LongerRows =
     × (Reads "9a 00 00 00 01 00" (sequence (items_of ((number 0) ∷ []))) "81 00")
     × (Reads "b8 01 01 02" (mapping (members_of (((number 1), (number 2)) ∷ []))) "a1 01 02")
     × (Reads "db 00 00 00 00 00 00 00 2a 00" (tag 42 (number 0)) "d8 2a 00")
+    × (Reads "99 00 01 05" (sequence (items_of ((number 5) ∷ []))) "81 05")
+    × (Reads "bb 00 00 00 00 00 00 00 01 01 02" (mapping (members_of (((number 1), (number 2)) ∷ []))) "a1 01 02")
+    × (Reads "59 00 01 61" (bytes_item (hex "61")) "41 61")
 
 pub longer_rows : LongerRows
 unfolding read_within skip_within trees_at pairs_at open_trees_at open_pairs_at argument_at whole_argument_at initial is_utf8 chars lib.Utf8.encode
-longer_rows = ((refl, refl), (refl, refl), (refl, refl), (refl, refl), (refl, refl), (refl, refl), (refl, refl), (refl, refl))
+longer_rows = ((refl, refl), (refl, refl), (refl, refl), (refl, refl), (refl, refl), (refl, refl), (refl, refl), (refl, refl), (refl, refl), (refl, refl), (refl, refl))
 
 -- Simple values and floats, whose bits are kept with their width (section 3.3). Undefined is null.
 abbrev SimplesRows : Type 0
@@ -235,10 +249,29 @@ EndsRows =
     × (Refuses "fa 00" (eof (codes "f32") (Small 4)) "")
     × (Refuses "f9" (eof (codes "f16") (Small 2)) "")
     × (Refuses "fb 00" (eof (codes "f64") (Small 8)) "")
+    × (Refuses "82 01 62 61" (eof (codes "str") (Small 1)) "")
+    × (Refuses "3a" (eof (codes "-u64") (Small 4)) "")
+    × (Refuses "5f" (eof (codes "break") (Small 1)) "")
+    × (Refuses "7f" (eof (codes "break") (Small 1)) "")
+    × (Refuses "bf" (eof (codes "break") (Small 1)) "")
+    × (Refuses "5f 42" (eof (codes "bytes") (Small 2)) "")
+    × (Refuses "5f 42 01" (eof (codes "bytes") (Small 1)) "")
+    × (Refuses "5f 42 01 02" (eof (codes "break") (Small 1)) "")
+    × (Refuses "5f 42 01 02 43" (eof (codes "bytes") (Small 3)) "")
+    × (Refuses "5f 42 01 02 43 03" (eof (codes "bytes") (Small 2)) "")
+    × (Refuses "5f 42 01 02 43 03 04" (eof (codes "bytes") (Small 1)) "")
+    × (Refuses "5f 42 01 02 43 03 04 05" (eof (codes "break") (Small 1)) "")
+    × (Refuses "5f 43 01" (eof (codes "bytes") (Small 2)) "")
+    × (Refuses "5f 44 01" (eof (codes "bytes") (Small 3)) "")
+    × (Refuses "a1" (eof (codes "value") (Small 1)) "")
+    × (Refuses "bf 01" (eof (codes "value") (Small 1)) "")
+    × (Refuses "bf 01 02 03" (eof (codes "value") (Small 1)) "")
+    × (Refuses "59 ff ff" (eof (codes "bytes") (Small 65535)) "")
+    × (Refuses "5a 00 01 00 00" (eof (codes "bytes") Big) "")
 
 pub ends_rows : EndsRows
 unfolding read_within skip_within trees_at pairs_at open_trees_at open_pairs_at argument_at whole_argument_at initial is_utf8 chars lib.Utf8.encode
-ends_rows = (refl, refl, refl, refl, refl, refl, refl, refl, refl, refl, refl, refl, refl, refl, refl, refl, refl, refl, refl, refl, refl, refl)
+ends_rows = (refl, refl, refl, refl, refl, refl, refl, refl, refl, refl, refl, refl, refl, refl, refl, refl, refl, refl, refl, refl, refl, refl, refl, refl, refl, refl, refl, refl, refl, refl, refl, refl, refl, refl, refl, refl, refl, refl, refl, refl, refl)
 
 -- Bytes that no continuation mends, and what they leave.
 abbrev FaultsRows : Type 0
@@ -267,10 +300,26 @@ FaultsRows =
     × (Refuses "63 ed a0 80 00" (require_utf8 (codes "str")) "00")
     × (Refuses "7f 61 c3 61 28 ff 00" (require_utf8 (codes "str")) "00")
     × (Refuses "61 80" (require_utf8 (codes "str")) "")
+    × (Refuses "5f 7f ff ff" (mismatch (codes "bytes") 0x7f) "ff ff")
+    × (Refuses "7f 5f ff ff" (mismatch (codes "str") 0x5f) "ff ff")
+    × (Refuses "5f 9f ff ff" (mismatch (codes "bytes") 0x9f) "ff ff")
+    × (Refuses "5f e0 ff" (mismatch (codes "bytes") 0xe0) "ff")
+    × (Refuses "5f 00 ff" (mismatch (codes "bytes") 0x00) "ff")
+    × (Refuses "5f 78" (mismatch (codes "bytes") 0x78) "")
+    × (Refuses "82 5c 00" (mismatch (codes "bytes") 0x5c) "00")
+    × (Refuses "bf 01 02 03 ff" (unsupported (codes "value") 0xff) "ff")
+    × (Refuses "bf 81 ff ff" (unsupported (codes "value") 0xff) "ff ff")
+    × (Refuses "a1 ff" (unsupported (codes "value") 0xff) "ff")
+    × (Refuses "a1 01 ff" (unsupported (codes "value") 0xff) "ff")
+    × (Refuses "c1 ff" (unsupported (codes "value") 0xff) "ff")
+    × (Refuses "62 c0 80" (require_utf8 (codes "str")) "")
+    × (Refuses "63 ed a0 80" (require_utf8 (codes "str")) "")
+    × (Refuses "64 f4 90 80 80" (require_utf8 (codes "str")) "")
+    × (Refuses "9f 62 ff ff 00 ff" (require_utf8 (codes "str")) "00 ff")
 
 pub faults_rows : FaultsRows
 unfolding read_within skip_within trees_at pairs_at open_trees_at open_pairs_at argument_at whole_argument_at initial is_utf8 chars lib.Utf8.encode
-faults_rows = (refl, refl, refl, refl, refl, refl, refl, refl, refl, refl, refl, refl, refl, refl, refl, refl, refl, refl, refl, refl, refl, refl, refl, refl)
+faults_rows = (refl, refl, refl, refl, refl, refl, refl, refl, refl, refl, refl, refl, refl, refl, refl, refl, refl, refl, refl, refl, refl, refl, refl, refl, refl, refl, refl, refl, refl, refl, refl, refl, refl, refl, refl, refl, refl, refl, refl, refl)
 
 -- What a budget allows: one step a value, one more for an array or a map, one for a chunk.
 abbrev BudgetsRows : Type 0
@@ -290,10 +339,22 @@ BudgetsRows =
     × (ReadsUnder 2 "7f 61 61 ff" (str "a"))
     × (RefusesUnder 1 "c1 00" (depth_overflow (codes "value")) "00")
     × (ReadsUnder 2 "c1 00" (tag 1 (number 0)))
+    × (RefusesUnder 1 "5f" (eof (codes "break") (Small 1)) "")
+    × (RefusesUnder 1 "5f 41 01 ff" (depth_overflow (codes "bytes")) "41 01 ff")
+    × (RefusesUnder 2 "81" (depth_overflow (codes "value")) "")
+    × (RefusesUnder 1 "9f" (depth_overflow (codes "array")) "9f")
+    × (RefusesUnder 2 "9f 00 ff" (depth_overflow (codes "value")) "00 ff")
+    × (ReadsUnder 3 "9f 00 ff" (sequence (items_of ((number 0) ∷ []))))
+    × (RefusesUnder 2 "a1 00 00" (depth_overflow (codes "value")) "00 00")
+    × (ReadsUnder 3 "a1 00 00" (mapping (members_of (((number 0), (number 0)) ∷ []))))
+    × (RefusesUnder 3 "a1 00 81 00" (depth_overflow (codes "array")) "81 00")
+    × (RefusesUnder 1 "bf" (depth_overflow (codes "map")) "bf")
+    × (RefusesUnder 2 "bf 00 00 ff" (depth_overflow (codes "value")) "00 00 ff")
+    × (ReadsAtAnyDepth "c1 c1 00" (tag 1 (tag 1 (number 0))))
 
 pub budgets_rows : BudgetsRows
 unfolding read_within skip_within trees_at pairs_at open_trees_at open_pairs_at argument_at whole_argument_at initial is_utf8 chars lib.Utf8.encode
-budgets_rows = (refl, refl, refl, refl, refl, refl, refl, refl, refl, refl, refl, refl, refl, refl, refl)
+budgets_rows = (refl, refl, refl, refl, refl, refl, refl, refl, refl, refl, refl, refl, refl, refl, refl, refl, refl, refl, refl, refl, refl, refl, refl, refl, refl, refl, refl)
 
 -- Skipping tests no text, and takes any items as chunks. What is missing is told of a number, a float and a content.
 abbrev SkippingRows : Type 0
@@ -328,10 +389,76 @@ SkippingRows =
     × (SkipRefuses "f8 14" (unsupported (codes "ignored-any") 0xf8) "f8 14")
     × (SkipRefusesUnder 0 "00" (depth_overflow (codes "ignored-any")) "00")
     × (SkipRefusesUnder 1 "81 00" (depth_overflow (codes "ignored-any")) "00")
+    × (SkipsTo "84 00 f4 60 a0 00" "00")
+    × (SkipsTo "5f 00 40 ff" "")
+    × (SkipsTo "bf 00 00 00 00 ff 00" "00")
+    × (SkipsTo "5f 41 01 61 62 ff" "")
+    × (SkipsTo "9f 62 ff ff 00 ff" "")
+    × (SkipsUnder 1 "a0" "")
+    × (SkipsUnder 1 "9f ff" "")
+    × (SkipsUnder 1 "bf ff" "")
+    × (SkipsUnder 2 "a1 00 00" "")
+    × (SkipRefusesUnder 1 "a1 00 00" (depth_overflow (codes "ignored-any")) "00 00")
+    × (SkipRefusesUnder 1 "c1 00" (depth_overflow (codes "ignored-any")) "00")
+    × (SkipRefusesUnder 1 "5f 40 ff" (depth_overflow (codes "ignored-any")) "40 ff")
+    × (SkipRefuses "5f" (eof (codes "break") (Small 1)) "")
+    × (SkipRefuses "7f 01" (eof (codes "break") (Small 1)) "")
+    × (SkipRefuses "bf" (eof (codes "break") (Small 1)) "")
+    × (SkipRefuses "bf 00" (eof (codes "ignored-any") (Small 1)) "")
+    × (SkipRefuses "a1 00" (eof (codes "ignored-any") (Small 1)) "")
+    × (SkipRefuses "c1" (eof (codes "ignored-any") (Small 1)) "")
+    × (SkipRefuses "5f 42 01" (eof (codes "ignored-any") (Small 1)) "")
+    × (SkipRefuses "82 01 62 61" (eof (codes "ignored-any") (Small 1)) "")
+    × (SkipRefuses "9a 00" (eof (codes "ignored-any") (Small 4)) "")
+    × (SkipRefuses "9a 00 00 01" (eof (codes "ignored-any") (Small 4)) "")
+    × (SkipRefuses "f9 00" (eof (codes "ignored-any") (Small 1)) "")
+    × (SkipRefuses "3c 00" (mismatch (codes "ignored-any") 0x3c) "3c 00")
+    × (SkipRefuses "7c 00" (mismatch (codes "ignored-any") 0x7c) "00")
+    × (SkipRefuses "82 5c 00" (mismatch (codes "ignored-any") 0x5c) "00")
+    × (SkipRefuses "bf 00 ff" (unsupported (codes "ignored-any") 0xff) "ff")
+    × (SkipRefuses "bf 01 02 03 ff" (unsupported (codes "ignored-any") 0xff) "ff")
+    × (SkipRefuses "c1 ff" (unsupported (codes "ignored-any") 0xff) "ff")
+    × (SkipsAtAnyDepth "c1 c1 00" "")
 
 pub skipping_rows : SkippingRows
 unfolding read_within skip_within trees_at pairs_at open_trees_at open_pairs_at argument_at whole_argument_at initial is_utf8 chars lib.Utf8.encode
-skipping_rows = (refl, refl, refl, refl, refl, refl, refl, refl, refl, refl, refl, refl, refl, refl, refl, refl, refl, refl, refl, refl, refl, refl, refl, refl, refl, refl, refl, refl, refl, refl)
+skipping_rows = (refl, refl, refl, refl, refl, refl, refl, refl, refl, refl, refl, refl, refl, refl, refl, refl, refl, refl, refl, refl, refl, refl, refl, refl, refl, refl, refl, refl, refl, refl, refl, refl, refl, refl, refl, refl, refl, refl, refl, refl, refl, refl, refl, refl, refl, refl, refl, refl, refl, refl, refl, refl, refl, refl, refl, refl, refl, refl, refl, refl)
+
+-- What values and trees measure. The size counts each value once and the bytes of texts and byte strings. Reading takes a
+-- step a value, one more for an array or a map, one for chunks; skipping one a level. A bignum is a tag over bytes.
+abbrev item_at : Answer Tree → (Tree → ℕ) → Result ℕ (Refusal × List ℕ)
+item_at (Ok p) measure = Ok (measure p.0)
+item_at (Err z) measure = Err z
+
+abbrev Costs : String → ℕ → ℕ → Type 0
+Costs input steps levels =
+    (item_at (read_tree (Some 256) (hex input)) cost ≡ Ok steps)
+    × (item_at (skip (Some 256) (hex input)) skip_cost ≡ Ok levels)
+
+abbrev MeasuresRows : Type 0
+MeasuresRows =
+    (Costs "00" 1 1)
+    × (Costs "80" 2 1)
+    × (Costs "82 01 61 61" 3 2)
+    × (Costs "a1 00 81 00" 5 3)
+    × (Costs "9f 9f 00 ff ff" 5 3)
+    × (Costs "c1 00" 2 2)
+    × (Costs "7f ff" 1 1)
+    × (Costs "7f 61 61 ff" 2 2)
+    × (size (sequence (items_of (number 1 ∷ str "a" ∷ []))) ≡ 4)
+    × (size (mapping (members_of ((number 0, tag 1 null) ∷ []))) ≡ 4)
+    × (size (bytes_item (hex "01 02 03")) ≡ 4)
+    × (canon_cost null ≡ 1)
+    × (canon_cost (sequence (items_of (number 1 ∷ str "a" ∷ []))) ≡ 3)
+    × (canon_cost (mapping (members_of ((number 0, sequence (items_of (number 0 ∷ []))) ∷ []))) ≡ 5)
+    × (canon_cost (number 18446744073709551616) ≡ 2)
+    × (with_bignums (number 18446744073709551615) ≡ number 18446744073709551615)
+    × (with_bignums (number 18446744073709551616) ≡ tag 2 (bytes_item (hex "01 00 00 00 00 00 00 00 00")))
+    × (with_bignums (integer (negsuc 18446744073709551616)) ≡ tag 3 (bytes_item (hex "01 00 00 00 00 00 00 00 00")))
+
+pub measures_rows : MeasuresRows
+unfolding read_within skip_within trees_at pairs_at open_trees_at open_pairs_at argument_at whole_argument_at initial is_utf8 chars lib.Utf8.encode
+measures_rows = ((refl, refl), (refl, refl), (refl, refl), (refl, refl), (refl, refl), (refl, refl), (refl, refl), (refl, refl), refl, refl, refl, refl, refl, refl, refl, refl, refl, refl)
 
 -- How deep a budget of 256 steps goes: two steps an array, one step a tag, one a level for skipping.
 abbrev rest_read : Answer Item → Result (List ℕ) (Refusal × List ℕ)
@@ -361,3 +488,15 @@ tags_fit = refl
 pub tags_are_too_deep : read (Some 256) (replicate 255 0xc1 ++ hex "7f 61 61 ff") ≡ Err (depth_overflow (codes "str"), hex "61 61 ff")
 unfolding read_within skip_within trees_at pairs_at open_trees_at open_pairs_at argument_at whole_argument_at initial is_utf8 chars lib.Utf8.encode
 tags_are_too_deep = refl
+
+pub skipped_tags_fit : rest_of (skip (Some 256) (replicate 255 0xc1 ++ hex "80")) ≡ Ok []
+unfolding read_within skip_within trees_at pairs_at open_trees_at open_pairs_at argument_at whole_argument_at initial is_utf8 chars lib.Utf8.encode
+skipped_tags_fit = refl
+
+pub skipped_chunks_are_too_deep : skip (Some 256) (replicate 255 0xc1 ++ hex "7f 61 61 ff") ≡ Err (depth_overflow (codes "ignored-any"), hex "61 61 ff")
+unfolding read_within skip_within trees_at pairs_at open_trees_at open_pairs_at argument_at whole_argument_at initial is_utf8 chars lib.Utf8.encode
+skipped_chunks_are_too_deep = refl
+
+pub array_under_tags_is_too_deep : read (Some 256) (replicate 255 0xc1 ++ hex "80") ≡ Err (depth_overflow (codes "array"), hex "80")
+unfolding read_within skip_within trees_at pairs_at open_trees_at open_pairs_at argument_at whole_argument_at initial is_utf8 chars lib.Utf8.encode
+array_under_tags_is_too_deep = refl
