@@ -25,7 +25,7 @@ use Rattle.cbor4ii_tree.specs.Stops.{Stopping, Is, AtHead, Stepped, Counted, Ope
 use Rattle.cbor4ii_tree.specs.StopsReading.{Readable, ReadingStopsBy, StopsReading}
 use Rattle.cbor4ii_tree.specs.View.{view, items_view, members_view}
 use Rattle.cbor4ii_tree.specs.Does.{Accepting, Does}
-use Rattle.cbor4ii_tree.specs.Valuing.{ReadsOne, StopsOne, ReadsUnder, StopsUnder, ReadsItems, StopsItems, ReadsOpen, StopsOpen, ReadsMembers, ReadsOpenMembers, StopsOpenMembers, ReadsArray, ReadsMap, StopsMajor}
+use Rattle.cbor4ii_tree.specs.Valuing.{ReadsOne, StopsOne, ReadsUnder, StopsUnder, ReadsItems, StopsItems, ReadsOpen, StopsOpen, ReadsMembers, ReadsOpenMembers, StopsOpenMembers, ReadsMember, StopsMember, StopsMembers, ReadsArray, ReadsMap, StopsMajor, StopsOf, ReadsStepped}
 use Rattle.cbor4ii_tree.proofs.Doing.{Reached, reached_start, reached_by, reached_then, does_err, does_after, does_stops, does_stepped, reached_sound, steps_in}
 use Rattle.cbor4ii_tree.proofs.Views.{view-Map}
 use Rattle.cbor4ii_tree.proofs.ValuingParts.{ReadEach, ReadPairs}
@@ -40,13 +40,6 @@ step_taken name here S outer inner e rest step x = subst (λ o. Stepped name o h
 
 no_step_left : (name here : List ℕ) (S : Budget → Refusal → List ℕ → Type 0) (outer : Budget) → outer ≡ Some 0 → Stepped name (step_in outer) here S (depth_overflow name) here
 no_step_left name here S outer none = subst (λ o. Stepped name (step_in o) here S (depth_overflow name) here) (sym none) (refl, refl)
-
--- what stops behind the first byte of this major type
-abbrev pub StopsOf : ℕ → Budget → Stopping
-StopsOf major budget xs e rest = (b : ℕ) (bs : List ℕ) → xs ≡ b ∷ bs → b / 32 ≡ major → StopsUnder budget xs e rest
-
-abbrev pub ReadsStepped : {V : Type 0} → (Budget → Accepting V) → Budget → Accepting V
-ReadsStepped reads budget xs v ys = (inner : Budget) × (step_in budget ≡ Some inner) × reads inner xs v ys
 
 pub major_stepped : {V : Type 0} (reads : Budget → Accepting V) (major : ℕ) {E : Type 0} {r : Result V (DecodeError E)} {a b c d : View} → StepsIn a.budget b.budget true → KeepsAllButBudget a b → Does (reads b.budget) (StopsMajor major b.budget) b c r → d.budget ≡ step_back c.budget → KeepsAllButBudget c d
     → Does (ReadsStepped reads a.budget) (StopsOf major a.budget) a d r
@@ -210,77 +203,64 @@ values-push_pair (pair j u ps) k v (m ∷ ms) x y e f g =
 pub members_none : (budget : Budget) (ms : List (Value × Value)) (xs : List ℕ) → ms ≡ [] → ReadsMembers 0 budget xs ms xs
 members_none budget ms xs e = (no_pairs, refl, tt, sym (ap members_view e), refl)
 
--- pairs, and a key
-abbrev pub WithKey : (List ℕ → List ℕ → Type 0) → Value → Budget → List ℕ → List ℕ → Type 0
-WithKey P key budget xs ys = (before : List ℕ) × P xs before × ReadsOne budget before key ys
-
-pub members_more : (n : ℕ) (budget : Budget) (ms ns : List (Value × Value)) (x y : Value) (xs ys zs : List ℕ) → ns ≡ ms ++ (x, y) ∷ [] → WithKey (λ xs ys. ReadsMembers n budget xs ms ys) x budget xs ys → ReadsOne budget ys y zs → ReadsMembers (n + 1) budget xs ns zs
-members_more n budget ms ns x y xs ys zs is w v =
-    let h = w.1 in
-    let k = w.2 in (
+pub members_more : (n : ℕ) (budget : Budget) (ms ns : List (Value × Value)) (m : Value × Value) (xs ys zs : List ℕ) → ns ≡ ms ++ m ∷ [] → ReadsMembers n budget xs ms ys → ReadsMember budget ys m zs → ReadsMembers (n + 1) budget xs ns zs
+members_more n budget ms ns m xs ys zs is h w =
+    let k = w.1 in
+    let v = w.2 in (
       push_pair h.0 k.0 v.0,
       count-push_pair h.0 k.0 v.0 ∙ ap (λ j. j + 1) h.1,
       each-push_pair (Readable budget) h.0 k.0 v.0 h.2 k.1 v.1,
-      values-push_pair h.0 k.0 v.0 ms x y h.3 k.2 v.2 ∙ sym (ap members_view is),
+      values-push_pair h.0 k.0 v.0 ms m.0 m.1 h.3 k.2 v.2 ∙ sym (ap members_view is),
       h.4 ∙ ap (λ r. bytes_pairs h.0 ++ r) (k.3 ∙ ap (λ r. bytes k.0 ++ r) v.3) ∙ sym (bytes-push_pair h.0 k.0 v.0 zs),
     )
 
-pub member_key_stop : (i n : ℕ) (budget : Budget) (ms : List (Value × Value)) (xs ys : List ℕ) (e : Refusal) (rest : List ℕ) → i < n → ReadsMembers i budget xs ms ys → StopsOne budget ys e rest → StopsItems (2 * n) budget xs e rest
-member_key_stop i n budget ms xs ys e rest lt h s =
+pub member_stop : (i n : ℕ) (budget : Budget) (ms : List (Value × Value)) (xs ys : List ℕ) (e : Refusal) (rest : List ℕ) → i < n → ReadsMembers i budget xs ms ys → StopsMember budget ys e rest → StopsMembers n budget xs e rest
+member_stop i n budget ms xs ys e rest lt h (inl s) =
     record { front = flat h.0; after = ys; few = omega (arith, count-flat h.0, h.1, lt); whole = each-flat (Readable budget) h.0 h.2; is = h.4 ∙ ap (λ r. r ++ ys) (sym (bytes-flat h.0)); stopped = s }
-
-pub member_value_stop : (i n : ℕ) (budget : Budget) (ms : List (Value × Value)) (key : Value) (xs ys : List ℕ) (e : Refusal) (rest : List ℕ) → i < n → WithKey (λ xs ys. ReadsMembers i budget xs ms ys) key budget xs ys → StopsOne budget ys e rest → StopsItems (2 * n) budget xs e rest
-member_value_stop i n budget ms key xs ys e rest lt w s =
-    let h = w.1 in
-    let k = w.2 in
+member_stop i n budget ms xs ys e rest lt h (inr k) =
     record {
-      front = push (flat h.0) k.0;
-      after = ys;
-      few = omega (arith, count-push (flat h.0) k.0, count-flat h.0, h.1, lt);
-      whole = each-push (Readable budget) (flat h.0) k.0 (each-flat (Readable budget) h.0 h.2) k.1;
-      is = h.4 ∙ ap (λ r. r ++ w.0) (sym (bytes-flat h.0)) ∙ ap (λ r. bytes_all (flat h.0) ++ r) k.3 ∙ sym (bytes-push (flat h.0) k.0 ys);
-      stopped = s;
+      front = push (flat h.0) k.key;
+      after = k.after;
+      few = omega (arith, count-push (flat h.0) k.key, count-flat h.0, h.1, lt);
+      whole = each-push (Readable budget) (flat h.0) k.key (each-flat (Readable budget) h.0 h.2) k.whole;
+      is = h.4 ∙ ap (λ r. r ++ ys) (sym (bytes-flat h.0)) ∙ ap (λ r. bytes_all (flat h.0) ++ r) k.is ∙ sym (bytes-push (flat h.0) k.key k.after);
+      stopped = k.stopped;
     }
 
 pub pairs_none : (budget : Budget) (ms : List (Value × Value)) (xs : List ℕ) → ms ≡ [] → ReadPairs ms budget xs xs
 pairs_none budget ms xs e = (no_pairs, tt, sym (ap members_view e), refl)
 
-pub pairs_more : (budget : Budget) (ms ns : List (Value × Value)) (x y : Value) (xs ys zs : List ℕ) → ns ≡ ms ++ (x, y) ∷ [] → WithKey (ReadPairs ms budget) x budget xs ys → ReadsOne budget ys y zs → ReadPairs ns budget xs zs
-pairs_more budget ms ns x y xs ys zs is w v =
-    let h = w.1 in
-    let k = w.2 in (
+pub pairs_more : (budget : Budget) (ms ns : List (Value × Value)) (m : Value × Value) (xs ys zs : List ℕ) → ns ≡ ms ++ m ∷ [] → ReadPairs ms budget xs ys → ReadsMember budget ys m zs → ReadPairs ns budget xs zs
+pairs_more budget ms ns m xs ys zs is h w =
+    let k = w.1 in
+    let v = w.2 in (
       push_pair h.0 k.0 v.0,
       each-push_pair (Readable budget) h.0 k.0 v.0 h.1 k.1 v.1,
-      values-push_pair h.0 k.0 v.0 ms x y h.2 k.2 v.2 ∙ sym (ap members_view is),
+      values-push_pair h.0 k.0 v.0 ms m.0 m.1 h.2 k.2 v.2 ∙ sym (ap members_view is),
       h.3 ∙ ap (λ r. bytes_pairs h.0 ++ r) (k.3 ∙ ap (λ r. bytes k.0 ++ r) v.3) ∙ sym (bytes-push_pair h.0 k.0 v.0 zs),
     )
 
 pub members_end : (budget : Budget) (ms : List (Value × Value)) (xs ys : List ℕ) → ReadPairs ms budget xs ys → ys ≡ [] → StopsOpenMembers budget xs (eof break_name (Small 1)) []
 members_end budget ms xs ys h e = record { front = h.0; after = []; whole = h.1; is = h.3 ∙ ap (λ r. bytes_pairs h.0 ++ r) e; stopped = inl (refl, refl) }
 
-pub key_stop : (budget : Budget) (ms : List (Value × Value)) (xs ys : List ℕ) (e : Refusal) (rest : List ℕ) → ys ≢ [] → ((bs : List ℕ) → ys ≡ break ∷ bs → ⊥) → ReadPairs ms budget xs ys → StopsOne budget ys e rest → StopsOpenMembers budget xs e rest
-key_stop budget ms xs ys e rest some none h s = record { front = h.0; after = ys; whole = h.1; is = h.3; stopped = inl (no_break budget ys e rest some none s) }
-
-pub value_stop : (budget : Budget) (ms : List (Value × Value)) (key : Value) (xs ys : List ℕ) (e : Refusal) (rest : List ℕ) → WithKey (ReadPairs ms budget) key budget xs ys → StopsOne budget ys e rest → StopsOpenMembers budget xs e rest
-value_stop budget ms key xs ys e rest w s =
-    let h = w.1 in
-    let k = w.2 in
-    record { front = h.0; after = w.0; whole = h.1; is = h.3; stopped = inr (record { key = k.0; after = ys; whole = k.1; is = k.3; stopped = s }) }
+pub pair_stop : (budget : Budget) (ms : List (Value × Value)) (xs ys : List ℕ) (e : Refusal) (rest : List ℕ) → ys ≢ [] → ((bs : List ℕ) → ys ≡ break ∷ bs → ⊥) → ReadPairs ms budget xs ys → StopsMember budget ys e rest → StopsOpenMembers budget xs e rest
+pair_stop budget ms xs ys e rest some none h (inl s) = record { front = h.0; after = ys; whole = h.1; is = h.3; stopped = inl (no_break budget ys e rest some none s) }
+pair_stop budget ms xs ys e rest some none h (inr k) = record { front = h.0; after = ys; whole = h.1; is = h.3; stopped = inr k }
 
 pub members_done : (budget : Budget) (ms : List (Value × Value)) (xs ys zs : List ℕ) → ReadPairs ms budget xs ys → ys ≡ break ∷ zs → ReadsOpenMembers budget xs ms zs
 members_done budget ms xs ys zs h e = (h.0, h.1, h.2, h.3 ∙ ap (λ r. bytes_pairs h.0 ++ r) e)
 
 -- ---- maps
 
-pub map_counted : {E : Type 0} (n : ℕ) {r : Result (Vec (Value × Value) Global) (DecodeError E)} {a m b : View} → Reached (HeadAt 5 n) a m → Does (λ xs v ys. ReadsMembers n m.budget xs v.items ys) (StopsItems (2 * n) m.budget) m b r
+pub map_counted : {E : Type 0} (n : ℕ) {r : Result (Vec (Value × Value) Global) (DecodeError E)} {a m b : View} → Reached (HeadAt 5 n) a m → Does (λ xs v ys. ReadsMembers n m.budget xs v.items ys) (StopsMembers n m.budget) m b r
     → Does (λ xs v ys. ReadsMap a.budget xs v.items ys) (StopsMajor 5 a.budget) a b r
 map_counted n {a = a} {m = m} p d =
-    does_after (HeadAt 5 n) (λ xs v ys. ReadsMembers n m.budget xs v.items ys) (λ xs v ys. ReadsMap a.budget xs v.items ys) (StopsItems (2 * n) m.budget) (StopsMajor 5 a.budget)
+    does_after (HeadAt 5 n) (λ xs v ys. ReadsMembers n m.budget xs v.items ys) (λ xs v ys. ReadsMap a.budget xs v.items ys) (StopsMembers n m.budget) (StopsMajor 5 a.budget)
     (λ xs ys zs v h s. inl (h.0, n, ys, h.1, h.2, subst (λ o. ReadsMembers n o ys v.items zs) p.kept.budget s))
     (λ xs ys e rest h s b bs is major outer step. subst (λ x. StopsUnder outer x e rest) (sym h.2)
     (at_row outer (starts_map h.0) (32 * 5 + additional h.0 n) (bytes_high_first (byte_count h.0) n ++ ys) e rest (initial_map n h.0 h.1)
     (step_taken map_name (head 5 n h.0 ++ ys) (λ inner. AtHead map_name 5 h.0 (32 * 5 + additional h.0 n) (λ n. Counted (Readable inner) (λ part. StopsReading part inner) (2 * n)) (bytes_high_first (byte_count h.0) n ++ ys)) outer a.budget e rest step
-    (inr (record { argument = n; after = ys; fits = h.1; is = refl; stopped = subst (λ o. StopsItems (2 * n) o ys e rest) p.kept.budget s }))))) p d
+    (inr (record { argument = n; after = ys; fits = h.1; is = refl; stopped = subst (λ o. StopsMembers n o ys e rest) p.kept.budget s }))))) p d
 
 pub map_opened : {E : Type 0} {r : Result (Vec (Value × Value) Global) (DecodeError E)} {a m b : View} → Reached (OpenAt 5) a m → Does (λ xs v ys. ReadsOpenMembers m.budget xs v.items ys) (StopsOpenMembers m.budget) m b r
     → Does (λ xs v ys. ReadsMap a.budget xs v.items ys) (StopsMajor 5 a.budget) a b r
@@ -314,12 +294,17 @@ map_reads inner v xs ys h budget step =
     let t = map_tree budget inner h.0 v.items xs ys step h.1 h.2 in
     (t.0, t.1, t.2 ∙ sym (view-Map v), t.3)
 
+-- ---- a pair
+
+pub value_stop : (budget : Budget) (key : Value) (xs ys : List ℕ) (e : Refusal) (rest : List ℕ) → ReadsOne budget xs key ys → StopsOne budget ys e rest → StopsMember budget xs e rest
+value_stop budget key xs ys e rest k s = inr (record { key = k.0; after = ys; whole = k.1; is = k.3; stopped = s })
+
 -- ---- calls
 
--- one more value
-module _ (P : List ℕ → List ℕ → Type 0) {a m : View} (p : Reached P a m) where
-  pub more : {E : Type 0} (Q : List ℕ → List ℕ → Type 0) {v : Value} {b : View} → ((xs ys zs : List ℕ) → P xs ys → ReadsOne a.budget ys v zs → Q xs zs) → Does {E = E} (ReadsOne m.budget) (StopsOne m.budget) m b (Ok v) → Reached Q a b
-  more Q {v = v} f d = reached_then P (λ xs ys. ReadsOne m.budget xs v ys) Q (λ xs ys zs h s. f xs ys zs h (subst (λ o. ReadsOne o ys v zs) p.kept.budget s)) p (reached_by d)
+-- one more of what is read so
+module _ {V : Type 0} (reads : Budget → Accepting V) (stops : Budget → Stopping) (P : List ℕ → List ℕ → Type 0) {a m : View} (p : Reached P a m) where
+  pub more : {E : Type 0} (Q : List ℕ → List ℕ → Type 0) {v : V} {b : View} → ((xs ys zs : List ℕ) → P xs ys → reads a.budget ys v zs → Q xs zs) → Does {E = E} (reads m.budget) (stops m.budget) m b (Ok v) → Reached Q a b
+  more Q {v = v} f d = reached_then P (λ xs ys. reads m.budget xs v ys) Q (λ xs ys zs h s. f xs ys zs h (subst (λ o. reads o ys v zs) p.kept.budget s)) p (reached_by d)
 
-  pub ends : {U E : Type 0} (B : Accepting U) (T : Stopping) {e : DecodeError E} {b : View} → ((xs ys : List ℕ) (z : Refusal) (rest : List ℕ) → P xs ys → StopsOne a.budget ys z rest → T xs z rest) → Does {V = Value} (ReadsOne m.budget) (StopsOne m.budget) m b (Err e) → Does {V = U} B T a b (Err e)
-  ends B T f d = does_err P (ReadsOne m.budget) B (StopsOne m.budget) T (λ xs ys z rest h s. f xs ys z rest h (subst (λ o. StopsOne o ys z rest) p.kept.budget s)) p d
+  pub ends : {U E : Type 0} (B : Accepting U) (T : Stopping) {e : DecodeError E} {b : View} → ((xs ys : List ℕ) (z : Refusal) (rest : List ℕ) → P xs ys → stops a.budget ys z rest → T xs z rest) → Does {V = V} (reads m.budget) (stops m.budget) m b (Err e) → Does {V = U} B T a b (Err e)
+  ends B T f d = does_err P (reads m.budget) B (stops m.budget) T (λ xs ys z rest h s. f xs ys z rest h (subst (λ o. stops o ys z rest) p.kept.budget s)) p d

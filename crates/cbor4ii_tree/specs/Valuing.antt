@@ -1,12 +1,15 @@
 -- What the parts of reading a value accept, and where they stop.
-use Rattle.std.specs.Prelude.{◌≡◌, ℕ, ◌/◌, List, ◌∷◌, ◌++◌, Option, Some, None, ◌⊎◌}
+use Rattle.std.specs.Prelude.{◌≡◌, ℕ, ◌*◌, ◌/◌, List, ◌∷◌, ◌++◌, Option, Some, None, ◌⊎◌}
 use Rattle.cbor4ii_items.specs.Head.{Width, HeadFits, head, open_head, break}
 use Rattle.cbor4ii_items.specs.Initial.{Simple, simple_byte}
+use Rattle.std.specs.declared.vec.Vec.{Vec}
+use Rattle.std.specs.declared.alloc.Global.{Global}
+use Rattle.cbor4ii_tree.specs.Does.{Accepting}
 use Rattle.cbor4ii_tree.specs.declared.value.Value.{Value}
 use Rattle.cbor4ii_tree.specs.Tree.{Tree, Trees, Pairs, count, pair_count, bytes, bytes_all, bytes_pairs}
 use Rattle.cbor4ii_tree.specs.Meaning.{value, values, member_values, simple_item}
 use Rattle.cbor4ii_tree.specs.Cost.{Budget, step_in}
-use Rattle.cbor4ii_tree.specs.Stops.{Stopping, Each, EachPair, Counted, OpenItems, OpenPairs}
+use Rattle.cbor4ii_tree.specs.Stops.{Stopping, Each, EachPair, Counted, OpenItems, BehindKey, OpenPairs}
 use Rattle.cbor4ii_tree.specs.StopsReading.{Readable, ReadingStopsFrom, StopsReading}
 use Rattle.cbor4ii_tree.specs.View.{view, items_view, members_view}
 
@@ -37,11 +40,23 @@ ReadsOpen budget xs vs ys = (ts : Trees) × Each (Readable budget) ts × (values
 abbrev pub StopsOpen : Budget → Stopping
 StopsOpen budget = OpenItems (Readable budget) (StopsOne budget)
 
+-- a key, and its value behind it
+abbrev pub ReadsMember : Budget → List ℕ → Value × Value → List ℕ → Type 0
+ReadsMember budget xs m ys = (between : List ℕ) × ReadsOne budget xs m.0 between × ReadsOne budget between m.1 ys
+
+abbrev pub StopsMember : Budget → Stopping
+StopsMember budget xs e rest = StopsOne budget xs e rest ⊎ BehindKey (Readable budget) (StopsOne budget) xs e rest
+
+-- so many pairs
 abbrev pub ReadsMembers : ℕ → Budget → List ℕ → List (Value × Value) → List ℕ → Type 0
 ReadsMembers n budget xs ms ys = (ps : Pairs) × (pair_count ps ≡ n) × EachPair (Readable budget) ps × (member_values ps ≡ members_view ms) × (xs ≡ bytes_pairs ps ++ ys)
 
 abbrev pub ReadsOpenMembers : Budget → List ℕ → List (Value × Value) → List ℕ → Type 0
 ReadsOpenMembers budget xs ms ys = (ps : Pairs) × EachPair (Readable budget) ps × (member_values ps ≡ members_view ms) × (xs ≡ bytes_pairs ps ++ (break ∷ ys))
+
+-- twice as many keys and values
+abbrev pub StopsMembers : ℕ → Budget → Stopping
+StopsMembers n = StopsItems (2 * n)
 
 abbrev pub StopsOpenMembers : Budget → Stopping
 StopsOpenMembers budget = OpenPairs (Readable budget) (StopsOne budget)
@@ -61,7 +76,27 @@ ReadsMap budget xs ms ys =
     ((w : Width) × (n : ℕ) × (between : List ℕ) × HeadFits w n × (xs ≡ head 5 n w ++ between) × ReadsMembers n budget between ms ys)
     ⊎ ((between : List ℕ) × (xs ≡ open_head 5 ∷ between) × ReadsOpenMembers budget between ms ys)
 
+-- behind a first byte of this major type, before the step is taken
+abbrev pub StopsOf : ℕ → Budget → Stopping
+StopsOf major budget xs e rest = (b : ℕ) (bs : List ℕ) → xs ≡ b ∷ bs → b / 32 ≡ major → StopsUnder budget xs e rest
+
+-- a step is taken first
+abbrev pub ReadsStepped : {V : Type 0} → (Budget → Accepting V) → Budget → Accepting V
+ReadsStepped reads budget xs v ys = (inner : Budget) × (step_in budget ≡ Some inner) × reads inner xs v ys
+
+-- a vector of what is read
+abbrev pub ReadsVec : {T : Type 0} → (Budget → Accepting (List T)) → Budget → Accepting (Vec T Global)
+ReadsVec reads budget xs v ys = reads budget xs v.items ys
+
+-- no simple value's byte
+abbrev pub IsNoSimple : ℕ → Type 0
+IsNoSimple first = (s : Simple) → first ≡ simple_byte s → ⊥
+
+-- what stops behind this first byte
+abbrev pub StopsFirst : ℕ → Budget → Stopping
+StopsFirst first budget xs e rest = (bs : List ℕ) → xs ≡ first ∷ bs → StopsUnder budget xs e rest
+
 -- the value that a byte is by itself
 abbrev pub SimpleOf : ℕ → Option Value → Type 0
-SimpleOf first None = (s : Simple) → first ≡ simple_byte s → ⊥
+SimpleOf first None = IsNoSimple first
 SimpleOf first (Some v) = (s : Simple) × (first ≡ simple_byte s) × (simple_item s ≡ view v)

@@ -1,11 +1,33 @@
 //! Values, read.
 ghost use Rattle.std.specs.Prelude.{◌≡◌, ℕ, ◌+◌, ◌≤◌, List, length, OnOk, IfOk, IfErr, IsTrue, true, false};
 ghost use Rattle.std.specs.Prelude.{[], ◌∷◌, ◌++◌, ◌/◌, ◌*◌, Some};
-ghost use Rattle.cbor4ii_tree.specs.Cost.{Budget, step_in};
 ghost use Rattle.cbor4ii_rw.specs.declared.error.DecodeError.TheVariants.{OutOfMemory};
-ghost use Rattle.cbor4ii_tree.specs.Does.{Does};
-ghost use Rattle.cbor4ii_tree.specs.Valuing.{ReadsOne, StopsOne, ReadsUnder, StopsUnder, ReadsItems, StopsItems, ReadsOpen, StopsOpen, ReadsMembers, ReadsOpenMembers, StopsOpenMembers, ReadsArray, ReadsMap, StopsMajor, SimpleOf};
-ghost use Rattle.cbor4ii_items.specs.Initial.{Simple, simple_byte};
+ghost use Rattle.cbor4ii_tree.specs.Does.{DoesUnder};
+ghost use Rattle.cbor4ii_tree.specs.Valuing.{
+  ReadsOne,
+  StopsOne,
+  ReadsUnder,
+  StopsUnder,
+  ReadsStepped,
+  StopsOf,
+  StopsMajor,
+  StopsFirst,
+  ReadsVec,
+  ReadsArray,
+  ReadsItems,
+  StopsItems,
+  ReadsOpen,
+  StopsOpen,
+  ReadsMap,
+  ReadsMembers,
+  StopsMembers,
+  ReadsOpenMembers,
+  StopsOpenMembers,
+  ReadsMember,
+  StopsMember,
+  SimpleOf,
+  IsNoSimple,
+};
 ghost use Rattle.cbor4ii_items.specs.Decoding.{IsExact, Sound, Refuses, Stops};
 ghost use Rattle.cbor4ii_items.specs.Moves.{Moves};
 ghost use Rattle.cbor4ii_items.specs.Refusal.{is_out_of_memory};
@@ -105,8 +127,7 @@ impl<S: Source> Decode<S> for Value {
 /// Reads one value.
 #[cycle(read)]
 fn read_value<S: Source>(alloc: Global, reader: &mut S) -> Result<Value, DecodeError<S::Error>>
-    ensures does { Does (ReadsOne (S.view reader.old).budget) (StopsOne (S.view reader.old).budget)
-        (S.view reader.old) (S.view reader.new) result }
+    ensures does { DoesUnder ReadsOne StopsOne (S.view reader.old) (S.view reader.new) result }
     ensures item { IfOk result (λ v. IsItem (view v)) }
     ensures progress { OnOk result ((S.view reader.new).bound + 1 ≤ (S.view reader.old).bound) }
 {
@@ -121,8 +142,7 @@ fn read_value<S: Source>(alloc: Global, reader: &mut S) -> Result<Value, DecodeE
 /// Reads one value whose step was taken.
 #[cycle(read)]
 fn read_inside<S: Source>(alloc: Global, reader: &mut S) -> Result<Value, DecodeError<S::Error>>
-    ensures does { Does (ReadsUnder (S.view reader.old).budget) (StopsUnder (S.view reader.old).budget)
-        (S.view reader.old) (S.view reader.new) result }
+    ensures does { DoesUnder ReadsUnder StopsUnder (S.view reader.old) (S.view reader.new) result }
     ensures item { IfOk result (λ v. IsItem (view v)) }
     ensures progress { OnOk result ((S.view reader.new).bound + 1 ≤ (S.view reader.old).bound) }
 {
@@ -175,9 +195,8 @@ fn read_float<S: Source>(
     first: u8,
 ) -> Result<Value, DecodeError<S::Error>>
     requires major { 224 ≤ first }
-    requires other { (s : Simple) → first ≡ simple_byte s → ⊥ }
-    ensures does { Does (λ xs v ys. ReadsUnder (S.view reader.old).budget xs v ys)
-        (λ xs e rest. (bs : List ℕ) → xs ≡ first ∷ bs → StopsUnder (S.view reader.old).budget xs e rest)
+    requires other { IsNoSimple first }
+    ensures does { DoesUnder ReadsUnder (StopsFirst first)
         (S.view reader.old) (S.view reader.new) result }
     ensures item { IfOk result (λ v. IsItem (view v)) }
     ensures progress { OnOk result ((S.view reader.new).bound + 1 ≤ (S.view reader.old).bound) }
@@ -196,8 +215,7 @@ fn read_float<S: Source>(
 /// Reads an array's values, under one step.
 #[cycle(read)]
 fn read_array<S: Source>(alloc: Global, reader: &mut S) -> Result<Vec<Value>, DecodeError<S::Error>>
-    ensures does { Does (λ xs v ys. (inner : Budget) × (step_in (S.view reader.old).budget ≡ Some inner) × ReadsArray inner xs v.items ys)
-        (λ xs e rest. (b : ℕ) (bs : List ℕ) → xs ≡ b ∷ bs → b / 32 ≡ 4 → StopsUnder (S.view reader.old).budget xs e rest)
+    ensures does { DoesUnder (ReadsStepped (ReadsVec ReadsArray)) (StopsOf 4)
         (S.view reader.old) (S.view reader.new) result }
     ensures items { IfOk result (λ v. AreItems (items_view v.items)) }
     ensures progress { OnOk result ((S.view reader.new).bound + 1 ≤ (S.view reader.old).bound) }
@@ -215,7 +233,7 @@ fn array_inside<S: Source>(
     alloc: Global,
     reader: &mut S,
 ) -> Result<Vec<Value>, DecodeError<S::Error>>
-    ensures does { Does (λ xs v ys. ReadsArray (S.view reader.old).budget xs v.items ys) (StopsMajor 4 (S.view reader.old).budget)
+    ensures does { DoesUnder (ReadsVec ReadsArray) (StopsMajor 4)
         (S.view reader.old) (S.view reader.new) result }
     ensures items { IfOk result (λ v. AreItems (items_view v.items)) }
     ensures progress { OnOk result ((S.view reader.new).bound + 1 ≤ (S.view reader.old).bound) }
@@ -232,7 +250,7 @@ fn counted_items<S: Source>(
     reader: &mut S,
     count: usize,
 ) -> Result<Vec<Value>, DecodeError<S::Error>>
-    ensures does { Does (λ xs v ys. ReadsItems count (S.view reader.old).budget xs v.items ys) (StopsItems count (S.view reader.old).budget)
+    ensures does { DoesUnder (ReadsVec (ReadsItems count)) (StopsItems count)
         (S.view reader.old) (S.view reader.new) result }
     ensures items { IfOk result (λ v. AreItems (items_view v.items)) }
 {
@@ -249,7 +267,7 @@ fn counted_items<S: Source>(
 
 #[cycle(read)]
 fn open_items<S: Source>(alloc: Global, reader: &mut S) -> Result<Vec<Value>, DecodeError<S::Error>>
-    ensures does { Does (λ xs v ys. ReadsOpen (S.view reader.old).budget xs v.items ys) (StopsOpen (S.view reader.old).budget)
+    ensures does { DoesUnder (ReadsVec ReadsOpen) StopsOpen
         (S.view reader.old) (S.view reader.new) result }
     ensures items { IfOk result (λ v. AreItems (items_view v.items)) }
 {
@@ -267,8 +285,7 @@ fn read_map<S: Source>(
     alloc: Global,
     reader: &mut S,
 ) -> Result<Vec<(Value, Value)>, DecodeError<S::Error>>
-    ensures does { Does (λ xs v ys. (inner : Budget) × (step_in (S.view reader.old).budget ≡ Some inner) × ReadsMap inner xs v.items ys)
-        (λ xs e rest. (b : ℕ) (bs : List ℕ) → xs ≡ b ∷ bs → b / 32 ≡ 5 → StopsUnder (S.view reader.old).budget xs e rest)
+    ensures does { DoesUnder (ReadsStepped (ReadsVec ReadsMap)) (StopsOf 5)
         (S.view reader.old) (S.view reader.new) result }
     ensures items { IfOk result (λ v. AreMembers (members_view v.items)) }
     ensures progress { OnOk result ((S.view reader.new).bound + 1 ≤ (S.view reader.old).bound) }
@@ -286,7 +303,7 @@ fn map_inside<S: Source>(
     alloc: Global,
     reader: &mut S,
 ) -> Result<Vec<(Value, Value)>, DecodeError<S::Error>>
-    ensures does { Does (λ xs v ys. ReadsMap (S.view reader.old).budget xs v.items ys) (StopsMajor 5 (S.view reader.old).budget)
+    ensures does { DoesUnder (ReadsVec ReadsMap) (StopsMajor 5)
         (S.view reader.old) (S.view reader.new) result }
     ensures items { IfOk result (λ v. AreMembers (members_view v.items)) }
     ensures progress { OnOk result ((S.view reader.new).bound + 1 ≤ (S.view reader.old).bound) }
@@ -303,7 +320,7 @@ fn counted_members<S: Source>(
     reader: &mut S,
     count: usize,
 ) -> Result<Vec<(Value, Value)>, DecodeError<S::Error>>
-    ensures does { Does (λ xs v ys. ReadsMembers count (S.view reader.old).budget xs v.items ys) (StopsItems (2 * count) (S.view reader.old).budget)
+    ensures does { DoesUnder (ReadsVec (ReadsMembers count)) (StopsMembers count)
         (S.view reader.old) (S.view reader.new) result }
     ensures items { IfOk result (λ v. AreMembers (members_view v.items)) }
 {
@@ -312,9 +329,8 @@ fn counted_members<S: Source>(
         return Err(DecodeError::OutOfMemory);
     }
     for i in 0..count {
-        let key = read_value(alloc, reader)?;
-        let value = read_value(alloc, reader)?;
-        keep(&mut members, (key, value))?;
+        let member = read_member(alloc, reader)?;
+        keep(&mut members, member)?;
     }
     Ok(members)
 }
@@ -324,17 +340,32 @@ fn open_members<S: Source>(
     alloc: Global,
     reader: &mut S,
 ) -> Result<Vec<(Value, Value)>, DecodeError<S::Error>>
-    ensures does { Does (λ xs v ys. ReadsOpenMembers (S.view reader.old).budget xs v.items ys) (StopsOpenMembers (S.view reader.old).budget)
+    ensures does { DoesUnder (ReadsVec ReadsOpenMembers) StopsOpenMembers
         (S.view reader.old) (S.view reader.new) result }
     ensures items { IfOk result (λ v. AreMembers (members_view v.items)) }
 {
     let mut members = Vec::new(alloc);
     while !is_break(reader)? {
-        let key = read_value(alloc, reader)?;
-        let value = read_value(alloc, reader)?;
-        keep(&mut members, (key, value))?;
+        let member = read_member(alloc, reader)?;
+        keep(&mut members, member)?;
     }
     Ok(members)
+}
+
+/// Reads a key, and the value behind it. No break is looked for between the two.
+#[cycle(read)]
+fn read_member<S: Source>(
+    alloc: Global,
+    reader: &mut S,
+) -> Result<(Value, Value), DecodeError<S::Error>>
+    ensures does { DoesUnder ReadsMember StopsMember (S.view reader.old) (S.view reader.new) result }
+    ensures key { IfOk result (λ member. IsItem (view member.0)) }
+    ensures value { IfOk result (λ member. IsItem (view member.1)) }
+    ensures progress { OnOk result ((S.view reader.new).bound + 1 ≤ (S.view reader.old).bound) }
+{
+    let key = read_value(alloc, reader)?;
+    let value = read_value(alloc, reader)?;
+    Ok((key, value))
 }
 
 /// Puts an item behind those that are there.

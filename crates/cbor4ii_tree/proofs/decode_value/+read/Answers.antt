@@ -1,6 +1,6 @@
-use Rattle.std.proofs.Common.{inl, refl, ap, subst, ◌∙◌, ◌+◌, ◌*◌, ◌∷◌}
+use Rattle.std.proofs.Common.{inl, refl, ap, subst, ◌∙◌, ◌+◌, ◌∷◌, ◌≡◌}
 use Rattle.std.proofs.lemmas.Result.{err_from_is_err_and}
-use Rattle.cbor4ii_tree.specs.Valuing.{ReadsItems, StopsItems, ReadsArray, ReadsMap, StopsMajor, ReadsMembers, ReadsOpen, StopsOpen, ReadsOpenMembers, StopsOpenMembers, ReadsUnder, StopsUnder}
+use Rattle.cbor4ii_tree.specs.Valuing.{ReadsOne, StopsOne, ReadsMember, StopsMember, StopsMembers, ReadsStepped, StopsOf, ReadsItems, StopsItems, ReadsArray, ReadsMap, StopsMajor, ReadsMembers, ReadsOpen, StopsOpen, ReadsOpenMembers, StopsOpenMembers, ReadsUnder, StopsUnder}
 use Rattle.cbor4ii_tree.specs.declared.value.Value.{Array, Map, Tag, Bytes, Text}
 use Rattle.cbor4ii_tree.specs.Item.{tag}
 use Rattle.cbor4ii_tree.specs.View.{view}
@@ -9,12 +9,12 @@ use Rattle.cbor4ii_items.specs.Initial.{negative, byte_string, text_string}
 use Rattle.cbor4ii_items.specs.Numbers.{ReadsNegative, StopsNegative, StopsArgument}
 use Rattle.cbor4ii_items.specs.Strings.{ReadsAs, ReadsTextAs, StopsString, StopsText, bytes_content, text_content}
 use Rattle.cbor4ii_items.specs.Laws.Steps.{kept_then}
-use Rattle.cbor4ii_tree.proofs.Doing.{reached_start, does_ok, does_no_memory, does_no_step}
+use Rattle.cbor4ii_tree.proofs.Doing.{reached_start, reached_by, does_ok, does_no_memory, does_no_step}
 use Rattle.cbor4ii_tree.proofs.SkippingCalls.{Before, broke, other, at_end}
 use Rattle.cbor4ii_tree.proofs.ValuingParts.{ReadEach, ReadPairs}
 use Rattle.cbor4ii_tree.proofs.ValuingCalls.{stepped, none, counted_more, counted_stop, unsigned_read, unsigned_stops, int_stops}
 use Rattle.cbor4ii_tree.proofs.ValuingHeads.{arm_ok, arm_err, arm_does, call_ok, call_err, StopsFrom, simple_read, negative_reads, reached_tag, tag_read, tag_stops, tag_stopped, view-Tag}
-use Rattle.cbor4ii_tree.proofs.ValuingSequences.{ReadsStepped, StopsOf, major_stepped, array_no_step, map_no_step, array_length_stops, map_length_stops, length_refused, reached_length, reached_open, array_counted, array_opened, array_reads, map_counted, map_opened, map_reads, each_none, each_more, open_end, open_stop, open_done, members_none, WithKey, members_more, member_key_stop, member_value_stop, pairs_none, pairs_more, members_end, key_stop, value_stop, members_done, more, ends}
+use Rattle.cbor4ii_tree.proofs.ValuingSequences.{major_stepped, array_no_step, map_no_step, array_length_stops, map_length_stops, length_refused, reached_length, reached_open, array_counted, array_opened, array_reads, map_counted, map_opened, map_reads, each_none, each_more, open_end, open_stop, open_done, members_none, members_more, member_stop, pairs_none, pairs_more, members_end, pair_stop, value_stop, members_done, more, ends}
 use Rattle.cbor4ii_tree.proofs.ValuingStrings.{string_stops, text_stops, bytes_reads, text_reads}
 use Rattle.cbor4ii_tree.proofs.ValuingItems.{items_none, items_are, members_none_are, members_are, array_item, map_item, text_item}
 use Rattle.cbor4ii_tree.proofs.decode_value.+read.Goals as goal
@@ -57,19 +57,14 @@ counted_members-loop-i-init g t c = record {
 
 pub counted_members-loop-i-preserved : goal.counted_members-loop-i-preserved
 counted_members-loop-i-preserved g t c = record {
-  reached = more (WithKey (λ xs ys. ReadsMembers c.loop-i.i (g.S.Source.view c.args.reader.now).budget xs c.loop-i.members.items ys) c.in_ok-key.key (g.S.Source.view c.args.reader.now).budget) (more (λ xs ys. ReadsMembers c.loop-i.i (g.S.Source.view c.args.reader.now).budget xs c.loop-i.members.items ys) c.loop-i.invariant.reached (WithKey (λ xs ys. ReadsMembers c.loop-i.i (g.S.Source.view c.args.reader.now).budget xs c.loop-i.members.items ys) c.in_ok-key.key (g.S.Source.view c.args.reader.now).budget) (λ xs ys zs h s. (ys, h, s)) c.in_ok-key.ensures.does) (λ xs ys. ReadsMembers (c.loop-i.i + 1) (g.S.Source.view c.args.reader.now).budget xs _ ys) (λ xs ys zs h s. members_more c.loop-i.i (g.S.Source.view c.args.reader.now).budget c.loop-i.members.items _ c.in_ok-key.key c.in_ok-value.value xs ys zs c.in_ok-keep.ensures.kept h s) c.in_ok-value.ensures.does;
-  items = members_are _ c.loop-i.members.items c.in_ok-key.key c.in_ok-value.value c.in_ok-keep.ensures.kept c.loop-i.invariant.items c.in_ok-key.ensures.item c.in_ok-value.ensures.item;
+  reached = more ReadsMember StopsMember (λ xs ys. ReadsMembers c.loop-i.i (g.S.Source.view c.args.reader.now).budget xs c.loop-i.members.items ys) c.loop-i.invariant.reached (λ xs ys. ReadsMembers (c.loop-i.i + 1) (g.S.Source.view c.args.reader.now).budget xs _ ys) (λ xs ys zs h s. members_more c.loop-i.i (g.S.Source.view c.args.reader.now).budget c.loop-i.members.items _ c.in_ok-member.member xs ys zs c.in_ok-keep.ensures.kept h s) c.in_ok-member.ensures.does;
+  items = members_are _ c.loop-i.members.items c.in_ok-member.member.0 c.in_ok-member.member.1 c.in_ok-keep.ensures.kept c.loop-i.invariant.items c.in_ok-member.ensures.key c.in_ok-member.ensures.value;
 }
 
-pub counted_members-returns-in_err-key-clause-does : goal.counted_members-returns-in_err-key-clause-does
-counted_members-returns-in_err-key-clause-does g t c =
+pub counted_members-returns-in_err-member-clause-does : goal.counted_members-returns-in_err-member-clause-does
+counted_members-returns-in_err-member-clause-does g t c =
     let p = err_from_is_err_and c.from_residual.result c.from_residual.ensures.1 in
-    rw (p.1, p.2) (ends (λ xs ys. ReadsMembers c.loop-i.i (g.S.Source.view c.args.reader.now).budget xs c.loop-i.members.items ys) c.loop-i.invariant.reached (λ xs v ys. ReadsMembers c.args.count (g.S.Source.view c.args.reader.now).budget xs v.items ys) (StopsItems (2 * c.args.count) (g.S.Source.view c.args.reader.now).budget) (λ xs ys z rest h s. member_key_stop c.loop-i.i c.args.count (g.S.Source.view c.args.reader.now).budget c.loop-i.members.items xs ys z rest c.loop-i-test.true h s) c.in_err-key.ensures.does)
-
-pub counted_members-returns-in_err-value-clause-does : goal.counted_members-returns-in_err-value-clause-does
-counted_members-returns-in_err-value-clause-does g t c =
-    let p = err_from_is_err_and c.from_residual-in_err-value.result c.from_residual-in_err-value.ensures.1 in
-    rw (p.1, p.2) (ends (WithKey (λ xs ys. ReadsMembers c.loop-i.i (g.S.Source.view c.args.reader.now).budget xs c.loop-i.members.items ys) c.in_ok-key.key (g.S.Source.view c.args.reader.now).budget) (more (λ xs ys. ReadsMembers c.loop-i.i (g.S.Source.view c.args.reader.now).budget xs c.loop-i.members.items ys) c.loop-i.invariant.reached (WithKey (λ xs ys. ReadsMembers c.loop-i.i (g.S.Source.view c.args.reader.now).budget xs c.loop-i.members.items ys) c.in_ok-key.key (g.S.Source.view c.args.reader.now).budget) (λ xs ys zs h s. (ys, h, s)) c.in_ok-key.ensures.does) (λ xs v ys. ReadsMembers c.args.count (g.S.Source.view c.args.reader.now).budget xs v.items ys) (StopsItems (2 * c.args.count) (g.S.Source.view c.args.reader.now).budget) (λ xs ys z rest h s. member_value_stop c.loop-i.i c.args.count (g.S.Source.view c.args.reader.now).budget c.loop-i.members.items c.in_ok-key.key xs ys z rest c.loop-i-test.true h s) c.in_err-value.ensures.does)
+    rw (p.1, p.2) (ends ReadsMember StopsMember (λ xs ys. ReadsMembers c.loop-i.i (g.S.Source.view c.args.reader.now).budget xs c.loop-i.members.items ys) c.loop-i.invariant.reached (λ xs v ys. ReadsMembers c.args.count (g.S.Source.view c.args.reader.now).budget xs v.items ys) (StopsMembers c.args.count (g.S.Source.view c.args.reader.now).budget) (λ xs ys z rest h s. member_stop c.loop-i.i c.args.count (g.S.Source.view c.args.reader.now).budget c.loop-i.members.items xs ys z rest c.loop-i-test.true h s) c.in_err-member.ensures.does)
 
 pub map_inside-returns-in-None-clause-does : goal.map_inside-returns-in-None-clause-does
 map_inside-returns-in-None-clause-does g t c =
@@ -92,7 +87,7 @@ open_items-loop-items-init g t c = record {
 
 pub open_items-loop-items-preserved : goal.open_items-loop-items-preserved
 open_items-loop-items-preserved g t c = record {
-  reached = more (Before (ReadEach c.loop-items.items.items) (g.S.Source.view c.args.reader.now).budget) (other (ReadEach c.loop-items.items.items) c.loop-items.invariant.reached c.if-not-branch.true c.in_ok-is_break.ensures.moves c.in_ok-is_break.ensures.sound) (ReadEach _ (g.S.Source.view c.args.reader.now).budget) (λ xs ys zs h s. each_more (g.S.Source.view c.args.reader.now).budget c.loop-items.items.items _ c.in_ok-value.value xs ys zs c.in_ok-keep.ensures.kept h.0 s) c.in_ok-value.ensures.does;
+  reached = more ReadsOne StopsOne (Before (ReadEach c.loop-items.items.items) (g.S.Source.view c.args.reader.now).budget) (other (ReadEach c.loop-items.items.items) c.loop-items.invariant.reached c.if-not-branch.true c.in_ok-is_break.ensures.moves c.in_ok-is_break.ensures.sound) (ReadEach _ (g.S.Source.view c.args.reader.now).budget) (λ xs ys zs h s. each_more (g.S.Source.view c.args.reader.now).budget c.loop-items.items.items _ c.in_ok-value.value xs ys zs c.in_ok-keep.ensures.kept h.0 s) c.in_ok-value.ensures.does;
   items = items_are _ c.loop-items.items.items c.in_ok-value.value c.in_ok-keep.ensures.kept c.loop-items.invariant.items c.in_ok-value.ensures.item;
 }
 
@@ -107,7 +102,7 @@ open_items-returns-in_err-is_break-clause-does g t c =
 pub open_items-returns-in_err-value-clause-does : goal.open_items-returns-in_err-value-clause-does
 open_items-returns-in_err-value-clause-does g t c =
     let p = err_from_is_err_and c.from_residual-in_err-value.result c.from_residual-in_err-value.ensures.1 in
-    rw (p.1, p.2) (ends (Before (ReadEach c.loop-items.items.items) (g.S.Source.view c.args.reader.now).budget) (other (ReadEach c.loop-items.items.items) c.loop-items.invariant.reached c.if-not-branch.true c.in_ok-is_break.ensures.moves c.in_ok-is_break.ensures.sound) (λ xs v ys. ReadsOpen (g.S.Source.view c.args.reader.now).budget xs v.items ys) (StopsOpen (g.S.Source.view c.args.reader.now).budget) (λ xs ys z rest h s. open_stop (g.S.Source.view c.args.reader.now).budget c.loop-items.items.items xs ys z rest h.1 h.2 h.0 s) c.in_err-value.ensures.does)
+    rw (p.1, p.2) (ends ReadsOne StopsOne (Before (ReadEach c.loop-items.items.items) (g.S.Source.view c.args.reader.now).budget) (other (ReadEach c.loop-items.items.items) c.loop-items.invariant.reached c.if-not-branch.true c.in_ok-is_break.ensures.moves c.in_ok-is_break.ensures.sound) (λ xs v ys. ReadsOpen (g.S.Source.view c.args.reader.now).budget xs v.items ys) (StopsOpen (g.S.Source.view c.args.reader.now).budget) (λ xs ys z rest h s. open_stop (g.S.Source.view c.args.reader.now).budget c.loop-items.items.items xs ys z rest h.1 h.2 h.0 s) c.in_err-value.ensures.does)
 
 pub open_members-loop-members-init : goal.open_members-loop-members-init
 open_members-loop-members-init g t c = record {
@@ -117,8 +112,8 @@ open_members-loop-members-init g t c = record {
 
 pub open_members-loop-members-preserved : goal.open_members-loop-members-preserved
 open_members-loop-members-preserved g t c = record {
-  reached = more (WithKey (ReadPairs c.loop-members.members.items (g.S.Source.view c.args.reader.now).budget) c.in_ok-key.key (g.S.Source.view c.args.reader.now).budget) (more (Before (ReadPairs c.loop-members.members.items) (g.S.Source.view c.args.reader.now).budget) (other (ReadPairs c.loop-members.members.items) c.loop-members.invariant.reached c.if-not-branch.true c.in_ok-is_break.ensures.moves c.in_ok-is_break.ensures.sound) (WithKey (ReadPairs c.loop-members.members.items (g.S.Source.view c.args.reader.now).budget) c.in_ok-key.key (g.S.Source.view c.args.reader.now).budget) (λ xs ys zs h s. (ys, h.0, s)) c.in_ok-key.ensures.does) (ReadPairs _ (g.S.Source.view c.args.reader.now).budget) (λ xs ys zs h s. pairs_more (g.S.Source.view c.args.reader.now).budget c.loop-members.members.items _ c.in_ok-key.key c.in_ok-value.value xs ys zs c.in_ok-keep.ensures.kept h s) c.in_ok-value.ensures.does;
-  items = members_are _ c.loop-members.members.items c.in_ok-key.key c.in_ok-value.value c.in_ok-keep.ensures.kept c.loop-members.invariant.items c.in_ok-key.ensures.item c.in_ok-value.ensures.item;
+  reached = more ReadsMember StopsMember (Before (ReadPairs c.loop-members.members.items) (g.S.Source.view c.args.reader.now).budget) (other (ReadPairs c.loop-members.members.items) c.loop-members.invariant.reached c.if-not-branch.true c.in_ok-is_break.ensures.moves c.in_ok-is_break.ensures.sound) (ReadPairs _ (g.S.Source.view c.args.reader.now).budget) (λ xs ys zs h s. pairs_more (g.S.Source.view c.args.reader.now).budget c.loop-members.members.items _ c.in_ok-member.member xs ys zs c.in_ok-keep.ensures.kept h.0 s) c.in_ok-member.ensures.does;
+  items = members_are _ c.loop-members.members.items c.in_ok-member.member.0 c.in_ok-member.member.1 c.in_ok-keep.ensures.kept c.loop-members.invariant.items c.in_ok-member.ensures.key c.in_ok-member.ensures.value;
 }
 
 pub open_members-returns-clause-does : goal.open_members-returns-clause-does
@@ -129,15 +124,24 @@ open_members-returns-in_err-is_break-clause-does g t c =
     let p = err_from_is_err_and c.from_residual.result c.from_residual.ensures.1 in
     rw (p.1, p.2) (at_end (ReadPairs c.loop-members.members.items) c.loop-members.invariant.reached (λ xs v ys. ReadsOpenMembers (g.S.Source.view c.args.reader.now).budget xs v.items ys) (StopsOpenMembers (g.S.Source.view c.args.reader.now).budget) (λ xs ys h e. members_end (g.S.Source.view c.args.reader.now).budget c.loop-members.members.items xs ys h e) c.in_err-is_break.ensures.moves c.in_err-is_break.ensures.stops)
 
-pub open_members-returns-in_err-key-clause-does : goal.open_members-returns-in_err-key-clause-does
-open_members-returns-in_err-key-clause-does g t c =
-    let p = err_from_is_err_and c.from_residual-in_err-key.result c.from_residual-in_err-key.ensures.1 in
-    rw (p.1, p.2) (ends (Before (ReadPairs c.loop-members.members.items) (g.S.Source.view c.args.reader.now).budget) (other (ReadPairs c.loop-members.members.items) c.loop-members.invariant.reached c.if-not-branch.true c.in_ok-is_break.ensures.moves c.in_ok-is_break.ensures.sound) (λ xs v ys. ReadsOpenMembers (g.S.Source.view c.args.reader.now).budget xs v.items ys) (StopsOpenMembers (g.S.Source.view c.args.reader.now).budget) (λ xs ys z rest h s. key_stop (g.S.Source.view c.args.reader.now).budget c.loop-members.members.items xs ys z rest h.1 h.2 h.0 s) c.in_err-key.ensures.does)
+pub open_members-returns-in_err-member-clause-does : goal.open_members-returns-in_err-member-clause-does
+open_members-returns-in_err-member-clause-does g t c =
+    let p = err_from_is_err_and c.from_residual-in_err-member.result c.from_residual-in_err-member.ensures.1 in
+    rw (p.1, p.2) (ends ReadsMember StopsMember (Before (ReadPairs c.loop-members.members.items) (g.S.Source.view c.args.reader.now).budget) (other (ReadPairs c.loop-members.members.items) c.loop-members.invariant.reached c.if-not-branch.true c.in_ok-is_break.ensures.moves c.in_ok-is_break.ensures.sound) (λ xs v ys. ReadsOpenMembers (g.S.Source.view c.args.reader.now).budget xs v.items ys) (StopsOpenMembers (g.S.Source.view c.args.reader.now).budget) (λ xs ys z rest h s. pair_stop (g.S.Source.view c.args.reader.now).budget c.loop-members.members.items xs ys z rest h.1 h.2 h.0 s) c.in_err-member.ensures.does)
 
-pub open_members-returns-in_err-value-clause-does : goal.open_members-returns-in_err-value-clause-does
-open_members-returns-in_err-value-clause-does g t c =
+pub read_member-returns-clause-does : goal.read_member-returns-clause-does
+read_member-returns-clause-does g t c =
+    does_ok (ReadsMember (g.S.Source.view c.args.reader.now).budget) (StopsMember (g.S.Source.view c.args.reader.now).budget) (more ReadsOne StopsOne (λ xs ys. ReadsOne (g.S.Source.view c.args.reader.now).budget xs c.in_ok-key.key ys) (reached_by c.in_ok-key.ensures.does) (λ xs ys. ReadsMember (g.S.Source.view c.args.reader.now).budget xs (c.in_ok-key.key, c.in_ok-value.value) ys) (λ xs ys zs h s. (ys, h, s)) c.in_ok-value.ensures.does)
+
+pub read_member-returns-in_err-key-clause-does : goal.read_member-returns-in_err-key-clause-does
+read_member-returns-in_err-key-clause-does g t c =
+    let p = err_from_is_err_and c.from_residual.result c.from_residual.ensures.1 in
+    rw (p.1, p.2) (ends ReadsOne StopsOne (λ xs ys. ys ≡ xs) (reached_start (λ xs ys. ys ≡ xs) _ (λ xs. refl)) (ReadsMember (g.S.Source.view c.args.reader.now).budget) (StopsMember (g.S.Source.view c.args.reader.now).budget) (λ xs ys z rest h s. inl (subst (λ x. StopsOne (g.S.Source.view c.args.reader.now).budget x z rest) h s)) c.in_err-key.ensures.does)
+
+pub read_member-returns-in_err-value-clause-does : goal.read_member-returns-in_err-value-clause-does
+read_member-returns-in_err-value-clause-does g t c =
     let p = err_from_is_err_and c.from_residual-in_err-value.result c.from_residual-in_err-value.ensures.1 in
-    rw (p.1, p.2) (ends (WithKey (ReadPairs c.loop-members.members.items (g.S.Source.view c.args.reader.now).budget) c.in_ok-key.key (g.S.Source.view c.args.reader.now).budget) (more (Before (ReadPairs c.loop-members.members.items) (g.S.Source.view c.args.reader.now).budget) (other (ReadPairs c.loop-members.members.items) c.loop-members.invariant.reached c.if-not-branch.true c.in_ok-is_break.ensures.moves c.in_ok-is_break.ensures.sound) (WithKey (ReadPairs c.loop-members.members.items (g.S.Source.view c.args.reader.now).budget) c.in_ok-key.key (g.S.Source.view c.args.reader.now).budget) (λ xs ys zs h s. (ys, h.0, s)) c.in_ok-key.ensures.does) (λ xs v ys. ReadsOpenMembers (g.S.Source.view c.args.reader.now).budget xs v.items ys) (StopsOpenMembers (g.S.Source.view c.args.reader.now).budget) (λ xs ys z rest h s. value_stop (g.S.Source.view c.args.reader.now).budget c.loop-members.members.items c.in_ok-key.key xs ys z rest h s) c.in_err-value.ensures.does)
+    rw (p.1, p.2) (ends ReadsOne StopsOne (λ xs ys. ReadsOne (g.S.Source.view c.args.reader.now).budget xs c.in_ok-key.key ys) (reached_by c.in_ok-key.ensures.does) (ReadsMember (g.S.Source.view c.args.reader.now).budget) (StopsMember (g.S.Source.view c.args.reader.now).budget) (λ xs ys z rest h s. value_stop (g.S.Source.view c.args.reader.now).budget c.in_ok-key.key xs ys z rest h s) c.in_err-value.ensures.does)
 
 pub read_array-returns-clause-does : goal.read_array-returns-clause-does
 read_array-returns-clause-does g t c =
@@ -243,7 +247,7 @@ counted_items-returns-in_err-keep-clause-does g t c =
 pub counted_members-returns-in_err-keep-clause-does : goal.counted_members-returns-in_err-keep-clause-does
 counted_members-returns-in_err-keep-clause-does g t c =
     let p = err_from_is_err_and c.from_residual-in_err-keep.result c.from_residual-in_err-keep.ensures.1 in
-    rw (p.1, p.2) (does_no_memory (λ xs v ys. ReadsMembers c.args.count (g.S.Source.view c.args.reader.now).budget xs v.items ys) (StopsItems (2 * c.args.count) (g.S.Source.view c.args.reader.now).budget) c.in_err-keep.ensures.memory (kept_then (kept_then c.loop-i.invariant.reached.kept c.in_ok-key.ensures.does.moves.by) c.in_ok-value.ensures.does.moves.by))
+    rw (p.1, p.2) (does_no_memory (λ xs v ys. ReadsMembers c.args.count (g.S.Source.view c.args.reader.now).budget xs v.items ys) (StopsMembers c.args.count (g.S.Source.view c.args.reader.now).budget) c.in_err-keep.ensures.memory (kept_then c.loop-i.invariant.reached.kept c.in_ok-member.ensures.does.moves.by))
 
 pub open_items-returns-in_err-keep-clause-does : goal.open_items-returns-in_err-keep-clause-does
 open_items-returns-in_err-keep-clause-does g t c =
@@ -253,7 +257,7 @@ open_items-returns-in_err-keep-clause-does g t c =
 pub open_members-returns-in_err-keep-clause-does : goal.open_members-returns-in_err-keep-clause-does
 open_members-returns-in_err-keep-clause-does g t c =
     let p = err_from_is_err_and c.from_residual-in_err-keep.result c.from_residual-in_err-keep.ensures.1 in
-    rw (p.1, p.2) (does_no_memory (λ xs v ys. ReadsOpenMembers (g.S.Source.view c.args.reader.now).budget xs v.items ys) (StopsOpenMembers (g.S.Source.view c.args.reader.now).budget) c.in_err-keep.ensures.memory (kept_then (kept_then (kept_then c.loop-members.invariant.reached.kept c.in_ok-is_break.ensures.moves.by) c.in_ok-key.ensures.does.moves.by) c.in_ok-value.ensures.does.moves.by))
+    rw (p.1, p.2) (does_no_memory (λ xs v ys. ReadsOpenMembers (g.S.Source.view c.args.reader.now).budget xs v.items ys) (StopsOpenMembers (g.S.Source.view c.args.reader.now).budget) c.in_err-keep.ensures.memory (kept_then (kept_then c.loop-members.invariant.reached.kept c.in_ok-is_break.ensures.moves.by) c.in_ok-member.ensures.does.moves.by))
 
 pub read_inside-returns-in-Some-clause-does : goal.read_inside-returns-in-Some-clause-does
 read_inside-returns-in-Some-clause-does g t c =
