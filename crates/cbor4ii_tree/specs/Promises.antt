@@ -20,6 +20,10 @@ pub record ReadsValue (xs : List ℕ) (v : Item) (n c : ℕ) : Type 0 where
   pub within : n ≤ length xs
   pub spells : Spells (take n xs) v c
 
+-- the first n bytes are a spelling of what the value stands for, in c steps
+abbrev pub ReadsSpelling : List ℕ → Value → ℕ → ℕ → Type 0
+ReadsSpelling xs v n c = ReadsValue xs (view v) n c
+
 -- what an answer says of the bytes: a failure of the reader and a want of memory say nothing
 abbrev pub Answered : {V E : Type 0} → (V → Type 0) → (Refusal → Type 0) → Result V (DecodeError E) → Type 0
 Answered accepts refuses (Ok v) = accepts v

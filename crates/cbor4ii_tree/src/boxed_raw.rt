@@ -2,25 +2,16 @@
 //!
 //! They are read and refused as `RawValue` is. Where there is no memory for the copy it is
 //! `OutOfMemory`, and the item was taken.
-ghost use Rattle.std.specs.Prelude.{◌≡◌, ◌+◌, ◌≤◌, ℕ, List, Some, true, false, OnOk, IfOk, IfErr, IsTrue};
-ghost use Rattle.cbor4ii_rw.specs.View.{Told};
+ghost use Rattle.std.specs.Prelude.{◌≡◌, true, false, IfOk};
 ghost use Rattle.cbor4ii_rw.specs.Segments.{segment_view};
 ghost use Rattle.cbor4ii_rw.specs.Slice.{slice_view};
 ghost use Rattle.cbor4ii_rw.specs.Stream.{stream_view};
-ghost use Rattle.cbor4ii_items.specs.Decoding.{IsExact, Sound, Refuses, Stops};
-ghost use Rattle.cbor4ii_items.specs.Moves.{Moves};
-ghost use Rattle.cbor4ii_items.specs.Refusal.{is_out_of_memory};
 ghost use Rattle.cbor4ii_items.specs.Writing.{WritesWhole};
 ghost use Rattle.cbor4ii_tree.specs.Canonical.{canon, canon_cost, with_bignums};
 ghost use Rattle.cbor4ii_tree.specs.Spelling.{Spells};
 ghost use Rattle.cbor4ii_tree.specs.View.{view};
-ghost use Rattle.cbor4ii_tree.specs.Raw.{ReadsRaw, StopsRaw, BeginsRaw, RefusesFront, TakesItem, StopsAsSkipping};
-ghost use Rattle.cbor4ii_tree.specs.BoxedRaw.{
-  boxed_content,
-  CapturesCopy,
-  UnmovedOrLacks,
-  SkippedTo,
-};
+ghost use Rattle.cbor4ii_tree.specs.Raw.{ReadsRaw, StopsRaw, BeginsRaw};
+ghost use Rattle.cbor4ii_tree.specs.BoxedRaw.{boxed_content, CapturesCopy, CopiesItem};
 ghost use Rattle.cbor4ii_tree.specs.RawLaws.{raw_one, raw_within, raw_positive, raw_alone};
 
 use crate::lend_raw::{LendRaw, capture};
@@ -39,6 +30,10 @@ use std::alloc::Global;
 use std::io::{self, BufRead};
 
 /// One item, as a copy of its bytes.
+///
+/// It is decoded over a `SliceReader`, a `SegmentReader` and an `IoReader`, of which the last lends
+/// nothing, so that over it only the refusals of `RawValue` come. For a reader of one's own
+/// `take_boxed` does the same.
 #[derive(Debug, Drop, PartialEq, Eq)]
 pub struct BoxedRawValue(Vec<u8>);
 
@@ -104,25 +99,7 @@ impl<'de> Decode<SliceReader<'de>> for BoxedRawValue {
         alloc: Global,
         reader: &mut SliceReader<'de>,
     ) -> Result<BoxedRawValue, DecodeError<Never>>
-        ensures moves { Moves (slice_view reader.old) (slice_view reader.new) result }
-        ensures progress { IsTrue true →
-            OnOk result ((slice_view reader.new).bound + 1 ≤ (slice_view reader.old).bound) }
-        ensures memory { IfErr result (λ error. IsTrue (is_out_of_memory error) → IsTrue true) }
-        ensures sound { IfOk result (Sound (ReadsRaw boxed_content)
-            (slice_view reader.old) (slice_view reader.new)) }
-        ensures complete { IsExact false (slice_view reader.old) →
-            IfErr result (Refuses (ReadsRaw boxed_content) (slice_view reader.old)) }
-        ensures stops { IsExact false (slice_view reader.old) →
-            IfErr result (Stops StopsRaw (slice_view reader.old) (slice_view reader.new)) }
-        ensures begins { IfErr result (Stops BeginsRaw (slice_view reader.old) (slice_view reader.new)) }
-        ensures whole { IsExact false (slice_view reader.old) →
-            TakesItem boxed_content (slice_view reader.old) (slice_view reader.new) result }
-        ensures exact { IsExact false (slice_view reader.old) →
-            StopsAsSkipping (slice_view reader.old) (slice_view reader.new) result }
-        ensures unmoved { IfErr result (UnmovedOrLacks (slice_view reader.old) (slice_view reader.new)) }
-        ensures refuses { RefusesFront (slice_view reader.old) result }
-        ensures behind { IfErr result (λ error. IsTrue (is_out_of_memory error) →
-            Told (slice_view reader.old).told (SkippedTo (slice_view reader.old) (slice_view reader.new))) }
+        ensures { CopiesItem (slice_view reader.old) (slice_view reader.new) result }
     {
         take_boxed::<RawValue<'de>, SliceReader<'de>>(alloc, reader)
     }
@@ -141,25 +118,7 @@ impl<'de> Decode<SegmentReader<'de>> for BoxedRawValue {
         alloc: Global,
         reader: &mut SegmentReader<'de>,
     ) -> Result<BoxedRawValue, DecodeError<Never>>
-        ensures moves { Moves (segment_view reader.old) (segment_view reader.new) result }
-        ensures progress { IsTrue true →
-            OnOk result ((segment_view reader.new).bound + 1 ≤ (segment_view reader.old).bound) }
-        ensures memory { IfErr result (λ error. IsTrue (is_out_of_memory error) → IsTrue true) }
-        ensures sound { IfOk result (Sound (ReadsRaw boxed_content)
-            (segment_view reader.old) (segment_view reader.new)) }
-        ensures complete { IsExact false (segment_view reader.old) →
-            IfErr result (Refuses (ReadsRaw boxed_content) (segment_view reader.old)) }
-        ensures stops { IsExact false (segment_view reader.old) →
-            IfErr result (Stops StopsRaw (segment_view reader.old) (segment_view reader.new)) }
-        ensures begins { IfErr result (Stops BeginsRaw (segment_view reader.old) (segment_view reader.new)) }
-        ensures whole { IsExact false (segment_view reader.old) →
-            TakesItem boxed_content (segment_view reader.old) (segment_view reader.new) result }
-        ensures exact { IsExact false (segment_view reader.old) →
-            StopsAsSkipping (segment_view reader.old) (segment_view reader.new) result }
-        ensures unmoved { IfErr result (UnmovedOrLacks (segment_view reader.old) (segment_view reader.new)) }
-        ensures refuses { RefusesFront (segment_view reader.old) result }
-        ensures behind { IfErr result (λ error. IsTrue (is_out_of_memory error) →
-            Told (segment_view reader.old).told (SkippedTo (segment_view reader.old) (segment_view reader.new))) }
+        ensures { CopiesItem (segment_view reader.old) (segment_view reader.new) result }
     {
         take_boxed::<RawValue<'de>, SegmentReader<'de>>(alloc, reader)
     }
@@ -178,25 +137,10 @@ impl<B: BufRead> Decode<IoReader<B>> for BoxedRawValue {
         alloc: Global,
         reader: &mut IoReader<B>,
     ) -> Result<BoxedRawValue, DecodeError<io::Error>>
-        ensures moves { Moves (stream_view B.Read.remaining B.BufRead.consumable_len reader.old) (stream_view B.Read.remaining B.BufRead.consumable_len reader.new) result }
-        ensures progress { IsTrue true →
-            OnOk result ((stream_view B.Read.remaining B.BufRead.consumable_len reader.new).bound + 1 ≤ (stream_view B.Read.remaining B.BufRead.consumable_len reader.old).bound) }
-        ensures memory { IfErr result (λ error. IsTrue (is_out_of_memory error) → IsTrue true) }
-        ensures sound { IfOk result (Sound (ReadsRaw boxed_content)
-            (stream_view B.Read.remaining B.BufRead.consumable_len reader.old) (stream_view B.Read.remaining B.BufRead.consumable_len reader.new)) }
-        ensures complete { IsExact false (stream_view B.Read.remaining B.BufRead.consumable_len reader.old) →
-            IfErr result (Refuses (ReadsRaw boxed_content) (stream_view B.Read.remaining B.BufRead.consumable_len reader.old)) }
-        ensures stops { IsExact false (stream_view B.Read.remaining B.BufRead.consumable_len reader.old) →
-            IfErr result (Stops StopsRaw (stream_view B.Read.remaining B.BufRead.consumable_len reader.old) (stream_view B.Read.remaining B.BufRead.consumable_len reader.new)) }
-        ensures begins { IfErr result (Stops BeginsRaw (stream_view B.Read.remaining B.BufRead.consumable_len reader.old) (stream_view B.Read.remaining B.BufRead.consumable_len reader.new)) }
-        ensures whole { IsExact false (stream_view B.Read.remaining B.BufRead.consumable_len reader.old) →
-            TakesItem boxed_content (stream_view B.Read.remaining B.BufRead.consumable_len reader.old) (stream_view B.Read.remaining B.BufRead.consumable_len reader.new) result }
-        ensures exact { IsExact false (stream_view B.Read.remaining B.BufRead.consumable_len reader.old) →
-            StopsAsSkipping (stream_view B.Read.remaining B.BufRead.consumable_len reader.old) (stream_view B.Read.remaining B.BufRead.consumable_len reader.new) result }
-        ensures unmoved { IfErr result (UnmovedOrLacks (stream_view B.Read.remaining B.BufRead.consumable_len reader.old) (stream_view B.Read.remaining B.BufRead.consumable_len reader.new)) }
-        ensures refuses { RefusesFront (stream_view B.Read.remaining B.BufRead.consumable_len reader.old) result }
-        ensures behind { IfErr result (λ error. IsTrue (is_out_of_memory error) →
-            Told (stream_view B.Read.remaining B.BufRead.consumable_len reader.old).told (SkippedTo (stream_view B.Read.remaining B.BufRead.consumable_len reader.old) (stream_view B.Read.remaining B.BufRead.consumable_len reader.new))) }
+        ensures { CopiesItem
+            (stream_view B.Read.remaining B.BufRead.consumable_len reader.old)
+            (stream_view B.Read.remaining B.BufRead.consumable_len reader.new)
+            result }
     {
         take_boxed::<RawValue<'static>, IoReader<B>>(alloc, reader)
     }
@@ -210,30 +154,21 @@ impl<B: BufRead> Decode<IoReader<B>> for BoxedRawValue {
     ghost alone = { λ _. raw_alone boxed_content };
 }
 
-/// Takes one item that is lent whole as T, and copies it.
-pub(crate) fn take_boxed<T: LendRaw<S>, S: Source>(
+/// Reads one item off the front of what `reader` lends as a `T`, and copies its bytes: what
+/// `decode` of `BoxedRawValue` does, for a reader of one's own. For a `reader: MyReader<'de>` that
+/// is a `Read<'de>`:
+///
+/// ```
+/// take_boxed::<RawValue<'de>, MyReader<'de>>(alloc, reader)
+/// ```
+///
+/// Its refusals are those of `RawValue`, and nothing is taken then. `OutOfMemory` where there is no
+/// memory for the copy; the item was taken.
+pub fn take_boxed<T: LendRaw<S>, S: Source>(
     alloc: Global,
     reader: &mut S,
 ) -> Result<BoxedRawValue, DecodeError<S::Error>>
-    ensures moves { Moves (S.view reader.old) (S.view reader.new) result }
-    ensures progress { IsTrue true →
-        OnOk result ((S.view reader.new).bound + 1 ≤ (S.view reader.old).bound) }
-    ensures memory { IfErr result (λ error. IsTrue (is_out_of_memory error) → IsTrue true) }
-    ensures sound { IfOk result (Sound (ReadsRaw boxed_content)
-        (S.view reader.old) (S.view reader.new)) }
-    ensures complete { IsExact false (S.view reader.old) →
-        IfErr result (Refuses (ReadsRaw boxed_content) (S.view reader.old)) }
-    ensures stops { IsExact false (S.view reader.old) →
-        IfErr result (Stops StopsRaw (S.view reader.old) (S.view reader.new)) }
-    ensures begins { IfErr result (Stops BeginsRaw (S.view reader.old) (S.view reader.new)) }
-    ensures whole { IsExact false (S.view reader.old) →
-        TakesItem boxed_content (S.view reader.old) (S.view reader.new) result }
-    ensures exact { IsExact false (S.view reader.old) →
-        StopsAsSkipping (S.view reader.old) (S.view reader.new) result }
-    ensures unmoved { IfErr result (UnmovedOrLacks (S.view reader.old) (S.view reader.new)) }
-    ensures refuses { RefusesFront (S.view reader.old) result }
-    ensures behind { IfErr result (λ error. IsTrue (is_out_of_memory error) →
-        Told (S.view reader.old).told (SkippedTo (S.view reader.old) (S.view reader.new))) }
+    ensures { CopiesItem (S.view reader.old) (S.view reader.new) result }
 {
     copy_captured::<T, S>(alloc, reader)
 }
@@ -263,7 +198,8 @@ impl Encode for BoxedRawValue {
     ghost bytes = { boxed_content };
 
     fn encode<W: Write>(&self, writer: &mut W) -> Result<(), EncodeError<W::Error>>
-        ensures { WritesWhole W.whole (boxed_content self.now) (W.view writer.old) (W.view writer.new) result }
+        ensures { WritesWhole W.whole (boxed_content self.now)
+            (W.view writer.old) (W.view writer.new) result }
     {
         match writer.push(&self.0) {
             Ok(()) => Ok(()),

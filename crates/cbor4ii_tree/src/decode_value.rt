@@ -28,14 +28,13 @@ ghost use Rattle.cbor4ii_tree.specs.Valuing.{
   SimpleOf,
   IsNoSimple,
 };
-ghost use Rattle.cbor4ii_items.specs.Decoding.{IsExact, Sound, Refuses, Stops};
+ghost use Rattle.cbor4ii_items.specs.Decoding.{Sound, Refuses, Stops};
 ghost use Rattle.cbor4ii_items.specs.Moves.{Moves};
-ghost use Rattle.cbor4ii_items.specs.Refusal.{is_out_of_memory};
 ghost use Rattle.cbor4ii_tree.specs.Item.{IsItem, AreItems, AreMembers};
 ghost use Rattle.cbor4ii_tree.specs.StopsReading.{StopsReading};
 ghost use Rattle.cbor4ii_tree.specs.View.{view, items_view, members_view};
 ghost use Rattle.cbor4ii_tree.specs.Promises.{
-  ReadsValue,
+  ReadsSpelling,
   OnlyReads,
   AllReads,
   FrontReads,
@@ -61,7 +60,7 @@ use cbor4ii_rw::read::Source;
 use std::alloc::Global;
 
 impl Spelled for Value {
-    ghost reads = { λ xs v n c. ReadsValue xs (view v) n c };
+    ghost reads = { ReadsSpelling };
 
     ghost same = { λ v w. view v ≡ view w };
 
@@ -86,18 +85,37 @@ impl Spelled for Value {
     }
 }
 
+/// A value is read from each of its spellings whose steps fit the budget: heads of any width,
+/// lengths given or not, the chunks of a string joined. Null is read from `f6` and `f7`, floats
+/// keep their width and bits, pairs their order, and equal keys stay.
+///
+/// Reading takes a step a value, one more for an array or a map, and one for the chunks of a
+/// string. At most 256 items, or so many bytes of a string as are shown, are reserved before they
+/// were read.
+///
+/// Refusals, and what is left then (RFC 8949 appendix F):
+/// - no step is left: `DepthOverflow` by the name "value", nothing taken; "array" or "map", before
+///   its head; "bytes" or "str", before a chunk
+/// - no byte is left: `Eof` "value" with 1, or "break" with 1 where an item or a break should come
+/// - a head is cut: `Eof` by "u64", "-u64", "bytes", "str", "array", "map", "tag", "f16", "f32" or
+///   "f64" with the length of its argument; a string is cut: `Eof` with as many bytes as are
+///   missing. Each `Eof` leaves nothing
+/// - a first byte that begins no head of its major type, or a chunk that is no string of its kind:
+///   `Mismatch` by these names with the byte, which is taken
+/// - a chunk of indefinite length: `RequireLength` "bytes" or "str", behind its first byte
+/// - a text that is no UTF-8, its chunks joined: `RequireUtf8` "str", behind the text
+/// - a break in an item's place, or another byte of major type 7: `Unsupported` "value" with the
+///   byte, which stays
+///
+/// `OutOfMemory` only where a growth was refused, and `Read` only where the reader failed.
 impl<S: Source> Decode<S> for Value {
     fn decode(alloc: Global, reader: &mut S) -> Result<Value, DecodeError<S::Error>>
         ensures moves { Moves (S.view reader.old) (S.view reader.new) result }
-        ensures progress { IsTrue true →
-            OnOk result ((S.view reader.new).bound + 1 ≤ (S.view reader.old).bound) }
-        ensures memory { IfErr result (λ error. IsTrue (is_out_of_memory error) → IsTrue true) }
-        ensures sound { IfOk result (Sound (λ xs v n c. ReadsValue xs (view v) n c) (S.view reader.old) (S.view reader.new)) }
-        ensures complete { IsExact true (S.view reader.old) →
-            IfErr result (Refuses (λ xs v n c. ReadsValue xs (view v) n c) (S.view reader.old)) }
-        ensures stops { IsExact true (S.view reader.old) →
-            IfErr result (Stops StopsReading (S.view reader.old) (S.view reader.new)) }
-        ensures begins { IfErr result (Stops StopsReading (S.view reader.old) (S.view reader.new)) }
+        ensures progress { OnOk result ((S.view reader.new).bound + 1 ≤ (S.view reader.old).bound) }
+        ensures sound { IfOk result (Sound ReadsSpelling (S.view reader.old) (S.view reader.new)) }
+        ensures complete { IfErr result (Refuses ReadsSpelling (S.view reader.old)) }
+        ensures stops { IfErr result (Stops StopsReading (S.view reader.old) (S.view reader.new)) }
+
         ensures only { OnlyReads (S.view reader.old) (S.view reader.new) result }
         ensures all { AllReads (S.view reader.old) (S.view reader.new) result }
         ensures front { FrontReads (S.view reader.old) result }

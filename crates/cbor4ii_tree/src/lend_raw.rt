@@ -41,23 +41,28 @@ use cbor4ii_rw::error::DecodeError;
 use cbor4ii_rw::read::Source;
 use std::alloc::Global;
 
-/// Why no front is lent, with no name in it.
-pub(crate) enum NoFront<E> {
+/// Why no front is lent.
+pub enum NoFront<E> {
     /// The reader failed.
     Read(E),
     /// The bytes do not live as long as the input.
     Short,
 }
 
-/// A value that a front is lent to, and that keeps the item in it.
+/// Bytes that a reader lends, of which an item at their front is kept. `RawValue<'de>` is lent by
+/// every `Read<'de>`.
 ///
-/// A function whose signature holds a `'static` name cannot fill a reader that names a lifetime,
-/// so what is lent is refused here without its name.
-pub(crate) trait LendRaw<S: Source>: Sized {
+/// A function whose signature holds a `'static` name, as each error's, cannot fill a reader that
+/// names a lifetime. So what fills is a trait of what is lent, and a front that is not lent is
+/// refused without its name.
+pub trait LendRaw<S: Source>: Sized {
     // The bytes.
     ghost content: { Self → List ℕ };
 
-    /// All that one fill lends.
+    /// All that one fill lends. The reader's position stays.
+    ///
+    /// `Read` where the reader failed; `Short` where some bytes are left, and they do not live as
+    /// long as the input.
     fn lend_front(reader: &mut S) -> Result<Self, NoFront<S::Error>>
         ensures lent { IfOk result (λ v. LendsFront (content v) (S.view reader.old) (S.view reader.new)) }
         ensures lacks { IfErr result (LacksFront (S.view reader.old) (S.view reader.new)) };
@@ -66,7 +71,7 @@ pub(crate) trait LendRaw<S: Source>: Sized {
     fn front(&self) -> &[u8]
         ensures { result.now ≡ content self.now };
 
-    /// The first bytes alone.
+    /// The first `size` bytes alone.
     fn cut(self, size: usize) -> Self
         requires { size ≤ length (content self) }
         ensures { content result ≡ take size (content self) };

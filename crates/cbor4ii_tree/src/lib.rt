@@ -2,12 +2,12 @@
 #![tactic(auto)]
 
 pub mod boxed_raw;
-pub mod decode_value;
+mod decode_value;
 mod encode_value;
 mod front;
 pub mod ignored;
 pub mod laws;
-mod lend_raw;
+pub mod lend_raw;
 mod range;
 pub mod raw;
 #[cfg(test)]

@@ -146,7 +146,8 @@ impl Encode for RawValue<'_> {
     ghost bytes = { raw_content };
 
     fn encode<W: Write>(&self, writer: &mut W) -> Result<(), EncodeError<W::Error>>
-        ensures { WritesWhole W.whole (raw_content self.now) (W.view writer.old) (W.view writer.new) result }
+        ensures { WritesWhole W.whole (raw_content self.now)
+            (W.view writer.old) (W.view writer.new) result }
     {
         match writer.push(self.0) {
             Ok(()) => Ok(()),

@@ -6,13 +6,10 @@ pub returns-clause-sound : goal.returns-clause-sound
 returns-clause-sound g c = value_sound _ c.read_value.ensures.does
 
 pub returns-clause-complete : goal.returns-clause-complete
-returns-clause-complete g c exact = value_refuses _ c.read_value.ensures.does
+returns-clause-complete g c = value_refuses _ c.read_value.ensures.does
 
 pub returns-clause-stops : goal.returns-clause-stops
-returns-clause-stops g c exact = value_stops _ c.read_value.ensures.does
-
-pub returns-clause-begins : goal.returns-clause-begins
-returns-clause-begins g c = value_stops _ c.read_value.ensures.does
+returns-clause-stops g c = value_stops _ c.read_value.ensures.does
 
 pub returns-clause-only : goal.returns-clause-only
 returns-clause-only g c = only_reads _ c.read_value.ensures.does
