@@ -16,7 +16,7 @@ use Rattle.cbor4ii_tool.specs.Integer.{IntegerHead, IsInteger, BeginsOther, IsCu
 use Rattle.cbor4ii_tool.specs.Reading.{major_of, argument_of, BeginsNegative, Takes, ReadsInteger, RefusesInteger}
 use Rattle.cbor4ii_tool.specs.declared.integer.Integer.{Integer}
 use Rattle.cbor4ii_tool.specs.declared.integer.Integer.TheVariants.{Unsigned, Negative}
-use Rattle.cbor4ii_tool.proofs.Rows.{at_most_eight}
+use Rattle.cbor4ii_tool.proofs.Integers.{at_most_eight}
 
 -- ---- a look at the first byte
 

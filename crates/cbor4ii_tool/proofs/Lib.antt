@@ -1,4 +1,5 @@
 -- Lemmas.
-pub mod Rows
+pub mod Integers
 pub mod Decoded
-pub mod Runs
+pub mod Items
+pub mod Loop

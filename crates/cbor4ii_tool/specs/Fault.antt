@@ -1,4 +1,5 @@
 -- What an error of the codec is called.
+use Rattle.cbor4ii_items.specs.Refusal.{Refusal, mismatch, unsupported, eof, require_length, require_borrowed, require_utf8, length_overflow, cast_overflow, arithmetic_overflow, depth_overflow, custom}
 use Rattle.cbor4ii_rw.specs.declared.error.DecodeError.{DecodeError}
 use Rattle.cbor4ii_rw.specs.declared.error.DecodeError.TheVariants.{Read, Mismatch, Unsupported, Eof, RequireLength, RequireBorrowed, RequireUtf8, LengthOverflow, CastOverflow, ArithmeticOverflow, DepthOverflow, Custom, OutOfMemory}
 use Rattle.cbor4ii_tool.specs.declared.fault.Kind.{Kind}
@@ -19,3 +20,17 @@ kind_of (ArithmeticOverflow name ty) = kind.ArithmeticOverflow
 kind_of (DepthOverflow name) = kind.DepthOverflow
 kind_of (Custom name num) = kind.Custom
 kind_of OutOfMemory = kind.OutOfMemory
+
+-- the kind of the same name, of what an error says of the bytes
+abbrev pub kind_of_refusal : Refusal → Kind
+kind_of_refusal (mismatch name found) = kind.Mismatch
+kind_of_refusal (unsupported name found) = kind.Unsupported
+kind_of_refusal (eof name expect) = kind.Eof
+kind_of_refusal (require_length name found) = kind.RequireLength
+kind_of_refusal (require_borrowed name) = kind.RequireBorrowed
+kind_of_refusal (require_utf8 name) = kind.RequireUtf8
+kind_of_refusal (length_overflow name found) = kind.LengthOverflow
+kind_of_refusal (cast_overflow name) = kind.CastOverflow
+kind_of_refusal (arithmetic_overflow name ty) = kind.ArithmeticOverflow
+kind_of_refusal (depth_overflow name) = kind.DepthOverflow
+kind_of_refusal (custom name num) = kind.Custom

@@ -22,17 +22,6 @@ spelling item = head item.major item.argument item.width
 abbrev pub shortest_spelling : IntegerHead → List ℕ
 shortest_spelling item = head item.major item.argument (shortest item.argument)
 
-abbrev pub spellings : List IntegerHead → List ℕ
-spellings items = flat_map spelling items
-
-abbrev pub shortest_spellings : List IntegerHead → List ℕ
-shortest_spellings items = flat_map shortest_spelling items
-
--- the input is these integers, one after another, and then the rest
-pub record IsRow (items : List IntegerHead) (rest input : List ℕ) : Type 0 where
-  pub integers : All IsInteger items
-  pub joined : input ≡ spellings items ++ rest
-
 -- an integer stands at the front of these bytes
 pub record BeginsInteger (bytes : List ℕ) : Type 0 where
   pub item : IntegerHead

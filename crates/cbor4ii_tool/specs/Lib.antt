@@ -2,4 +2,6 @@
 pub mod Integer
 pub mod Fault
 pub mod Reading
+pub mod Item
 pub mod Run
+pub mod Steps

@@ -1,55 +1,63 @@
 -- What a run makes of its input.
-use Rattle.std.specs.Prelude.{◌≡◌, ◌≢◌, ℕ, List, [], length, Option, Result, Ok, Err, ⊤, MatchResult, IfErr}
-use Rattle.std.specs.Io.KnownBytes.{Appends as Grows}
+use Rattle.std.specs.Prelude.{◌≡◌, ◌≢◌, ℕ, ◌+◌, ◌⊎◌, List, [], length, Bool, true, Option, Result, Ok, Err, OnOk, IfErr, MatchResult}
+use Rattle.cbor4ii_rw.specs.View.{View}
 use Rattle.cbor4ii_rw.specs.Reader.{Failed}
 use Rattle.cbor4ii_rw.specs.Writer.{Output, Appends}
-use Rattle.cbor4ii_tool.specs.Integer.{IntegerHead, IsRow, spellings, shortest_spellings, BeginsInteger, BeginsOther, IsCutInteger}
+use Rattle.cbor4ii_tool.specs.Item.{IsRow, BeginsItem, StopsAs, together}
+use Rattle.cbor4ii_tool.specs.declared.command.Command.{Command}
+use Rattle.cbor4ii_tool.specs.declared.command.Command.TheVariants.{Canon}
 use Rattle.cbor4ii_tool.specs.declared.fault.Fault.{Fault}
 use Rattle.cbor4ii_tool.specs.declared.fault.Kind.{Kind}
-use Rattle.cbor4ii_tool.specs.declared.fault.Kind.TheVariants.{Read, Mismatch, Eof, OutOfMemory, Write}
+use Rattle.cbor4ii_tool.specs.declared.fault.Kind.TheVariants.{Read, OutOfMemory, Write}
 
--- what each kind says of the bytes that it stands before
-abbrev pub StopsAt : Kind → List ℕ → Type 0
-StopsAt Mismatch rest = BeginsOther rest
-StopsAt Eof rest = (rest ≢ []) × IsCutInteger rest
-StopsAt Write rest = BeginsInteger rest
-StopsAt _ rest = ⊥
+-- What a fault says where these texts were to be written and the rest stands behind their items; `old` and `new` are
+-- what the writer held before and after. `Write` comes at an item, or behind the last one, and says nothing of `new`;
+-- before any other fault the texts are written. `Read` and `OutOfMemory` say nothing of the rest, and the other kinds
+-- are those by which it is refused.
+abbrev pub FaultAt : Command → Kind → List (List ℕ) → List ℕ → Option (List ℕ) → Option (List ℕ) → Type 0
+FaultAt command Write texts rest old new = rest ≢ [] → BeginsItem command rest
+FaultAt command Read texts rest old new = Appends (together texts) old new
+FaultAt command OutOfMemory texts rest old new = Appends (together texts) old new
+FaultAt command kind texts rest old new =
+    Appends (together texts) old new × (rest ≢ []) × StopsAs command kind rest × ¬ (BeginsItem command rest)
 
--- The integers at the front of the input are written behind what stood there, each in its shortest spelling.
-pub record Rewrites (input : List ℕ) (old new : Output) (outcome : Result (Unit {0}) Fault) (items : List IntegerHead) (rest : List ℕ) : Type 0 where
-  pub row : IsRow items rest input
-  pub written : Appends (shortest_spellings items) old.written new.written
-  -- without a fault they are the whole input
-  pub whole : MatchResult outcome (λ _. rest ≡ []) (λ _. ⊤)
-  -- a fault stands behind their bytes
-  pub at : IfErr outcome (λ fault. fault.at ≡ length (spellings items))
-  pub kind : IfErr outcome (λ fault. StopsAt fault.kind rest)
-  -- no further integer follows, but where it was not written
-  pub longest : IfErr outcome (λ fault. fault.kind ≢ Write → ¬ BeginsInteger rest)
-
--- the writer failed where the kind is Write, and only there
-abbrev pub FailsAt : Kind → ℕ → ℕ → Type 0
-FailsAt Write old new = Failed old new
-FailsAt _ old new = new ≡ old
-
-abbrev pub MovesFailures : Result (Unit {0}) Fault → ℕ → ℕ → Type 0
-MovesFailures (Ok _) old new = new ≡ old
-MovesFailures (Err fault) old new = FailsAt fault.kind old new
-
--- the input is integers, and known bytes grew by their shortest spellings
-abbrev pub IsRewritten : List ℕ → Option (List ℕ) → Option (List ℕ) → Type 0
-IsRewritten input old new = (items : List IntegerHead) × IsRow items [] input × Grows old new (shortest_spellings items)
-
--- The fault stands behind integers at the front of the input, and but for Write its kind fits what follows them.
-pub record StandsIn (fault : Fault) (input : List ℕ) : Type 0 where
-  pub items : List IntegerHead
+-- The input is a row of items and a rest. Without a fault nothing is left, and the texts of the items are written; a
+-- fault stands behind the items.
+pub record Runs (command : Command) (input : List ℕ) (old new : Option (List ℕ)) (outcome : Result (Unit {0}) Fault) : Type 0 where
+  pub texts : List (List ℕ)
   pub rest : List ℕ
-  pub row : IsRow items rest input
-  pub at : fault.at ≡ length (spellings items)
-  pub kind : fault.kind ≢ Write → StopsAt fault.kind rest
+  pub row : IsRow command texts input rest
+  pub ok : OnOk outcome ((rest ≡ []) × Appends (together texts) old new)
+  pub err : IfErr outcome (λ fault. (fault.at + length rest ≡ length input) × FaultAt command fault.kind texts rest old new)
 
--- the input could not be read, or there was no memory for it
-abbrev pub IsUnread : Kind → Type 0
-IsUnread Read = ⊤
-IsUnread OutOfMemory = ⊤
-IsUnread _ = ⊥
+-- a kind that says nothing of the bytes
+abbrev pub IsExcused : Kind → Type 0
+IsExcused Read = Unit {0}
+IsExcused Write = Unit {0}
+IsExcused OutOfMemory = Unit {0}
+IsExcused _ = ⊥
+
+-- Where the input as a whole is a row of items with these texts, they are written, and no fault of the input comes.
+abbrev pub Completes : Command → List ℕ → Option (List ℕ) → Option (List ℕ) → Result (Unit {0}) Fault → Type 0
+Completes command input old new outcome = (texts : List (List ℕ)) → IsRow command texts input [] → MatchResult outcome (λ _. Appends (together texts) old new) (λ fault. IsExcused fault.kind)
+
+-- memory is wanted by values alone
+abbrev pub WantsMemory : Command → Kind → Type 0
+WantsMemory command OutOfMemory = command ≡ Canon
+WantsMemory command _ = Unit {0}
+
+-- Whom a fault blames: the reader failed where the kind is `Read`, and only there; where it is `Write` the writer failed.
+abbrev pub BlamesAt : Kind → View → View → Output → Output → Type 0
+BlamesAt Read old new held holds = Failed old.failures new.failures
+BlamesAt Write old new held holds = (new.failures ≡ old.failures) × Failed held.failures holds.failures
+BlamesAt _ old new held holds = new.failures ≡ old.failures
+
+-- without a fault nobody failed
+abbrev pub Blames : Result (Unit {0}) Fault → View → View → Output → Output → Type 0
+Blames (Ok _) old new held holds = (new.failures ≡ old.failures) × (holds.failures ≡ held.failures)
+Blames (Err fault) old new held holds = BlamesAt fault.kind old new held holds
+
+-- what was written was handed to the stream; after a fault it was, or the writer failed
+abbrev pub Hands : Result (Unit {0}) Fault → Bool → Output → Output → Type 0
+Hands (Ok _) flushed held holds = flushed ≡ true
+Hands (Err _) flushed held holds = (flushed ≡ true) ⊎ Failed held.failures holds.failures

@@ -2,14 +2,28 @@
 ghost use Rattle.std.specs.Prelude.{◌≡◌, ◌↔◌, [], ◌∷◌, map, codes, string_bytes};
 
 use crate::command::Command;
+use std::rt::Env;
+use std::{env, io};
 
-/// The command that the arguments `words` name, without the program's own name.
+/// The arguments, without the program's own name. An argument that is no text is an error.
+pub fn words(rt: &(impl Env + AllocGlobal)) -> io::Result<Vec<String>> {
+    let words: Vec<String> = env::args(rt)?.skip(1).collect(rt.alloc())?;
+    Ok(words)
+}
+
+/// The command that the arguments `words` name; none where they are not one of its words alone.
 pub fn command(words: &[String]) -> Option<Command>
     ensures ints { (result ≡ Some Command.Ints) ↔
         (map string_bytes words.now ≡ codes "ints" ∷ []) }
+    ensures canon { (result ≡ Some Command.Canon) ↔
+        (map string_bytes words.now ≡ codes "canon" ∷ []) }
+    ensures lens { (result ≡ Some Command.Lens) ↔
+        (map string_bytes words.now ≡ codes "lens" ∷ []) }
 {
     match words {
         [word] if word.as_str() == "ints" => Some(Command::Ints),
+        [word] if word.as_str() == "canon" => Some(Command::Canon),
+        [word] if word.as_str() == "lens" => Some(Command::Lens),
         _ => None,
     }
 }

@@ -5,4 +5,8 @@
 pub enum Command {
     /// Integers are written again, each in its shortest spelling.
     Ints,
+    /// Values are written again, each in its canonical spelling.
+    Canon,
+    /// Of each item its length in bytes is written, in decimal and with a newline.
+    Lens,
 }

@@ -1,7 +1,8 @@
 //! Integers: items of major types 0 and 1 (RFC 8949 section 3.1), which are a head alone.
-ghost use Rattle.std.specs.Prelude.{◌≡◌, ◌↔◌, [], OnOk, OnErr, IfOk, IfErr, IsTrue};
+ghost use Rattle.std.specs.Prelude.{◌≡◌, ◌≢◌, ◌↔◌, [], OnOk, OnErr, IfOk, IfErr, IsTrue};
 ghost use Rattle.cbor4ii_rw.specs.View.{Told};
 ghost use Rattle.cbor4ii_rw.specs.Reader.{Shows, Failed};
+ghost use Rattle.cbor4ii_items.specs.Moves.{Kept};
 ghost use Rattle.cbor4ii_items.specs.Writing.{WritesWhole};
 ghost use Rattle.cbor4ii_tool.specs.Reading.{
   ReadsInteger,
@@ -9,7 +10,7 @@ ghost use Rattle.cbor4ii_tool.specs.Reading.{
   BeginsNegative,
   written_bytes,
 };
-ghost use Rattle.cbor4ii_tool.specs.declared.fault.Kind.TheVariants.{Read};
+ghost use Rattle.cbor4ii_tool.specs.declared.fault.Kind.TheVariants.{Read, Write};
 
 use crate::fault::Kind;
 use cbor4ii_items::decode::Decode;
@@ -40,6 +41,9 @@ pub fn read<S: Source>(alloc: Global, reader: &mut S) -> Result<Integer, Kind>
         ReadsInteger integer (S.view reader.old) (S.view reader.new)) }
     ensures refuses { IfErr result (λ kind.
         RefusesInteger kind (S.view reader.old) (S.view reader.new)) }
+    ensures kept { OnOk result (Kept (S.view reader.old) (S.view reader.new)) }
+    ensures steady { IfErr result (λ kind. (kind ≢ Write) × (kind ≢ Read →
+        (S.view reader.new).failures ≡ (S.view reader.old).failures)) }
 {
     if is_negative_next(reader)? {
         match Negative::<u64>::decode(alloc, reader) {

@@ -1,63 +1,131 @@
 //! What the program does with its input.
-ghost use Rattle.std.specs.Prelude.{◌≡◌, ℕ, List, [], IfErr};
-ghost use Rattle.cbor4ii_rw.specs.Written.{buffer_output};
-ghost use Rattle.cbor4ii_tool.specs.Integer.{IntegerHead, IsRow};
-ghost use Rattle.cbor4ii_tool.specs.Run.{Rewrites, MovesFailures};
-ghost use Rattle.cbor4ii_tool.specs.declared.fault.Kind.TheVariants.{Write};
+ghost use Rattle.std.specs.Prelude.{◌≡◌, ◌↔◌, [], length, Some, IfOk, IfErr, OnOk, OnErr, IsTrue};
+ghost use Rattle.cbor4ii_rw.specs.View.{Told};
+ghost use Rattle.cbor4ii_rw.specs.Reader.{Shows, Failed};
+ghost use Rattle.cbor4ii_rw.specs.Stream.{stream_view};
+ghost use Rattle.cbor4ii_rw.specs.Written.{stream_output, is_flushed};
+ghost use Rattle.cbor4ii_tool.specs.Run.{Runs, Completes, WantsMemory, Blames, Hands};
+ghost use Rattle.cbor4ii_tool.specs.Steps.{MovesFailures, finished};
+ghost use Rattle.cbor4ii_tool.specs.declared.fault.Kind.TheVariants.{Read};
 
 use crate::command::Command;
 use crate::fault::{Fault, Kind};
-use crate::integer;
-use cbor4ii_rw::buf_writer::BufWriter;
-use cbor4ii_rw::slice_reader::SliceReader;
+use crate::item;
+use cbor4ii_rw::ask;
+use cbor4ii_rw::io_reader::IoReader;
+use cbor4ii_rw::io_writer::IoWriter;
+use cbor4ii_rw::read::Source;
+use cbor4ii_rw::write::Write;
 use std::alloc::Global;
+use std::io::{self, BufRead};
 
-/// Runs `command` over the whole of `input`, and writes behind what `writer` holds.
+/// Runs `command` over all that `reader` has left: takes one item after another, writes for each
+/// what stands for it behind what `writer` holds, and flushes the writer.
 ///
-/// `Command::Ints` takes integers (major types 0 and 1 of RFC 8949 section 3.1) of any width, one
-/// after another, and writes each with its shortest argument (section 4.2.1). At a fault the items
-/// before it have been written. The writer's count of failures rises at `Write` alone.
+/// `Command::Ints` takes integers (major types 0 and 1 of RFC 8949 section 3.1) of any width, and
+/// writes each with its shortest argument (section 4.2.1). `Command::Canon` takes values, and
+/// writes each in its canonical spelling. `Command::Lens` skips items, and writes the length of
+/// each in bytes, in decimal and with a newline. Each item may take 256 steps. An input of at most
+/// 2^64-1 bytes is read whole. Memory is taken for values alone, one at a time.
 ///
-/// The fault's `at` is the number of bytes that the items before it take, and its `kind` is
-/// `Mismatch` where a byte follows with which no integer begins, `Eof` where the input ends inside
-/// an integer, and `Write` where there was no memory for the integer there. No other kind comes.
-pub fn run(
+/// # Errors
+///
+/// The fault's `at` is how many bytes the items before it take, and its `kind` the name of the
+/// error that the item there is refused by, `Read` where the reader failed, and `Write` where the
+/// writer did; at a flush that fails, `at` is all that was taken. But for `Write`, the items before
+/// the fault have been written, and the writer was flushed, or failed at that. Of what is written
+/// where the writer fails, nothing is promised.
+pub fn run<R: BufRead, W: io::Write>(
     alloc: Global,
     command: Command,
-    input: &[u8],
-    writer: &mut BufWriter,
+    reader: &mut IoReader<R>,
+    writer: &mut IoWriter<W>,
 ) -> Result<(), Fault>
-    ensures rewrites { (items : List IntegerHead) × (rest : List ℕ) ×
-        Rewrites input.now (buffer_output writer.old) (buffer_output writer.new) result items rest }
-    ensures complete { (items : List IntegerHead) → IsRow items [] input.now →
-        IfErr result (λ fault. fault.kind ≡ Write) }
-    ensures failures { MovesFailures result
-        (buffer_output writer.old).failures (buffer_output writer.new).failures }
+    requires taken { (stream_view R.Read.remaining R.consumable_len reader.old).taken ≡ Some 0 }
+    requires budget { (stream_view R.Read.remaining R.consumable_len reader.old).budget
+        ≡ Some 256 }
+    ensures runs { Told (stream_view R.Read.remaining R.consumable_len reader.old).told (λ input.
+        Runs command input (stream_output W.contents writer.old).written
+        (stream_output W.contents writer.new).written result) }
+    ensures complete { Told (stream_view R.Read.remaining R.consumable_len reader.old).told
+        (λ input. Completes command input (stream_output W.contents writer.old).written
+        (stream_output W.contents writer.new).written result) }
+    ensures memory { IfErr result (λ fault. WantsMemory command fault.kind) }
+    ensures blames { Blames result
+        (stream_view R.Read.remaining R.consumable_len reader.old)
+        (stream_view R.Read.remaining R.consumable_len reader.new)
+        (stream_output W.contents writer.old) (stream_output W.contents writer.new) }
+    ensures flushed { Hands result (is_flushed writer.new)
+        (stream_output W.contents writer.old) (stream_output W.contents writer.new) }
 {
-    match command {
-        Command::Ints => rewrite_integers(alloc, input, writer),
+    let outcome = convert_items(alloc, command, reader, writer);
+    let is_flushed = writer.flush().is_ok();
+    finish(outcome, is_flushed, reader.taken())
+}
+
+// The first fault, if there is one: that of the items, or a flush that failed.
+fn finish(outcome: Result<(), Fault>, is_flushed: bool, at: u64) -> Result<(), Fault>
+    ensures { result ≡ finished outcome is_flushed at }
+{
+    outcome?;
+    if is_flushed {
+        Ok(())
+    } else {
+        Err(Fault {
+            at,
+            kind: Kind::Write,
+        })
     }
 }
 
-fn rewrite_integers(alloc: Global, input: &[u8], writer: &mut BufWriter) -> Result<(), Fault>
-    ensures rewrites { (items : List IntegerHead) × (rest : List ℕ) ×
-        Rewrites input.now (buffer_output writer.old) (buffer_output writer.new) result items rest }
+fn convert_items<R: BufRead, W: Write>(
+    alloc: Global,
+    command: Command,
+    reader: &mut IoReader<R>,
+    writer: &mut W,
+) -> Result<(), Fault>
+    requires taken { (stream_view R.Read.remaining R.consumable_len reader.old).taken ≡ Some 0 }
+    requires budget { (stream_view R.Read.remaining R.consumable_len reader.old).budget
+        ≡ Some 256 }
+    ensures runs { Told (stream_view R.Read.remaining R.consumable_len reader.old).told (λ input.
+        Runs command input (W.view writer.old).written (W.view writer.new).written result) }
+    ensures all { OnOk result (Told (stream_view R.Read.remaining R.consumable_len reader.old).told
+        (λ input. (stream_view R.Read.remaining R.consumable_len reader.new).taken
+        ≡ Some (length input))) }
+    ensures memory { IfErr result (λ fault. WantsMemory command fault.kind) }
     ensures failures { MovesFailures result
-        (buffer_output writer.old).failures (buffer_output writer.new).failures }
+        (stream_view R.Read.remaining R.consumable_len reader.old)
+        (stream_view R.Read.remaining R.consumable_len reader.new)
+        (W.view writer.old) (W.view writer.new) }
 {
-    let mut reader = SliceReader::new(input);
-    while !reader.remaining().is_empty() {
-        let at = (input.len() - reader.remaining().len()) as u64;
-        let item = match integer::read(alloc, &mut reader) {
-            Ok(item) => item,
+    loop {
+        let at = reader.taken();
+        let is_end = match is_at_end(reader) {
+            Ok(is_end) => is_end,
             Err(kind) => return Err(Fault { at, kind }),
         };
-        if integer::write(&item, writer).is_err() {
-            return Err(Fault {
-                at,
-                kind: Kind::Write,
-            });
+        if is_end {
+            return Ok(());
+        }
+        if let Err(kind) = item::convert(alloc, command, reader, writer) {
+            return Err(Fault { at, kind });
         }
     }
-    Ok(())
+}
+
+// Whether no byte is left.
+fn is_at_end<S: Source>(reader: &mut S) -> Result<bool, Kind>
+    ensures shows { OnOk result (Shows [] (S.view reader.old) (S.view reader.new)) }
+    ensures end { IfOk result (λ end.
+        Told (S.view reader.old).told (λ xs. IsTrue end ↔ (xs ≡ []))) }
+    ensures kind { IfErr result (λ kind. kind ≡ Read) }
+    ensures failed { OnErr result
+        (Failed (S.view reader.old).failures (S.view reader.new).failures) }
+{
+    let mut failure = None;
+    match ask::look(reader, 1, &mut failure) {
+        Some([]) => Ok(true),
+        Some(_) => Ok(false),
+        None => Err(Kind::Read),
+    }
 }

@@ -9,11 +9,23 @@ one_text [] word text least most is e = absurd (omega arith)
 one_text (w ∷ []) word text least most is e = ap (λ bytes. bytes ∷ []) (ap string_bytes (sym is) ∙ e)
 one_text (w ∷ (v ∷ ws)) word text least most is e = absurd (omega arith)
 
-pub returns-in-len1 : goal.returns-in-len1
-returns-in-len1 c = record {
-  ints = (
-    λ _. one_text _ _ _ c.in-len1.len_at_least c.in-len1.len_below c.word-item.is
-        (sym c.as_str.ensures.value ∙ (bytes_eq-Decides _ _).0 (sym c.eq.ensures ∙ c.if-eq.true)),
-    λ _. refl,
-  );
-}
+pub returns-in-len1-clause-ints : goal.returns-in-len1-clause-ints
+returns-in-len1-clause-ints c = (
+  λ _. one_text _ _ _ c.in-len1.len_at_least c.in-len1.len_below c.word-item.is
+      (sym c.as_str.ensures.value ∙ (bytes_eq-Decides _ _).0 (sym c.eq.ensures ∙ c.if-eq.true)),
+  λ _. refl,
+)
+
+pub returns-in-len1-2-clause-canon : goal.returns-in-len1-2-clause-canon
+returns-in-len1-2-clause-canon c = (
+  λ _. one_text _ _ _ c.in-len1.len_at_least c.in-len1.len_below c.word-item-then-words-lt2.is
+      (sym c.as_str-then-words-lt2.ensures.value ∙ (bytes_eq-Decides _ _).0 (sym c.eq-then-words-lt2.ensures ∙ c.if-eq-2.true)),
+  λ _. refl,
+)
+
+pub returns-in-len1-3-clause-lens : goal.returns-in-len1-3-clause-lens
+returns-in-len1-3-clause-lens c = (
+  λ _. one_text _ _ _ c.in-len1.len_at_least c.in-len1.len_below c.word-item-then-words-lt2-2.is
+      (sym c.as_str-then-words-lt2-2.ensures.value ∙ (bytes_eq-Decides _ _).0 (sym c.eq-then-words-lt2-2.ensures ∙ c.if-eq-3.true)),
+  λ _. refl,
+)

@@ -1,6 +1,7 @@
 use Rattle.std.proofs.Common.{◌≡◌, true, false, Bool, refl, inl, arith}
 use Rattle.cbor4ii_tool.specs.declared.integer.Integer.TheVariants.{Unsigned, Negative}
 use Rattle.cbor4ii_tool.proofs.Decoded.{only_negative, only_unsigned, accepted, refused}
+use Rattle.cbor4ii_tool.proofs.Items.{shown_kept, is_steady}
 use Rattle.cbor4ii_tool.proofs.integer.read.Goals as goal
 
 pub returns-in-Ok-clause-reads : goal.returns-in-Ok-clause-reads
@@ -25,3 +26,15 @@ pub returns-in-Err-decode-clause-refuses : goal.returns-in-Err-decode-clause-ref
 returns-in-Err-decode-clause-refuses g c =
     rw c.of-in-Err-decode.ensures (refused _ 0 c.in-Err-decode.error _ _ _ _ (omega arith) (λ xs told. only_unsigned xs (λ n. both _ ((c.in_ok-is_negative_next.ensures.negative xs told).1 n) c.if-branch.false))
     c.in_ok-is_negative_next.ensures.shows c.in-Err-decode.ensures.moves c.in-Err-decode.ensures.memory (c.in-Err-decode.ensures.stops (inl refl)))
+
+pub returns-in-Ok-clause-kept : goal.returns-in-Ok-clause-kept
+returns-in-Ok-clause-kept g c = shown_kept _ _ _ _ c.in_ok-is_negative_next.ensures.shows c.in-Ok.ensures.moves.by
+
+pub returns-in-Ok-decode-clause-kept : goal.returns-in-Ok-decode-clause-kept
+returns-in-Ok-decode-clause-kept g c = shown_kept _ _ _ _ c.in_ok-is_negative_next.ensures.shows c.in-Ok-decode.ensures.moves.by
+
+pub returns-in-Err-clause-steady : goal.returns-in-Err-clause-steady
+returns-in-Err-clause-steady g c = rw c.of.ensures (is_steady c.in-Err.error _ _ _ _ c.in_ok-is_negative_next.ensures.shows c.in-Err.ensures.moves)
+
+pub returns-in-Err-decode-clause-steady : goal.returns-in-Err-decode-clause-steady
+returns-in-Err-decode-clause-steady g c = rw c.of-in-Err-decode.ensures (is_steady c.in-Err-decode.error _ _ _ _ c.in_ok-is_negative_next.ensures.shows c.in-Err-decode.ensures.moves)

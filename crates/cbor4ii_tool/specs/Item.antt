@@ -1,0 +1,51 @@
+-- The items of each command: which bytes are one, what is written for it, and how others are refused.
+use Rattle.std.specs.Prelude.{◌≡◌, ℕ, List, [], ◌∷◌, ◌++◌, length, decimal, Option, Some}
+use Rattle.std.specs.List.{flat_map}
+use Rattle.cbor4ii_items.specs.Refusal.{Refusal}
+use Rattle.cbor4ii_tree.specs.Tree.{Tree, bytes}
+use Rattle.cbor4ii_tree.specs.Item.{Item}
+use Rattle.cbor4ii_tree.specs.Canonical.{canon}
+use Rattle.cbor4ii_tree.specs.Spelling.{Reads, Skips}
+use Rattle.cbor4ii_tree.specs.StopsSkipping.{StopsSkipping}
+use Rattle.cbor4ii_tree.specs.StopsReading.{StopsReading}
+use Rattle.cbor4ii_tool.specs.Integer.{IntegerHead, IsInteger, spelling, shortest_spelling}
+use Rattle.cbor4ii_tool.specs.Fault.{kind_of_refusal}
+use Rattle.cbor4ii_tool.specs.Reading.{RefusesAt}
+use Rattle.cbor4ii_tool.specs.declared.command.Command.{Command}
+use Rattle.cbor4ii_tool.specs.declared.command.Command.TheVariants.{Ints, Canon, Lens}
+use Rattle.cbor4ii_tool.specs.declared.fault.Kind.{Kind}
+
+-- the steps that each item may take
+abbrev pub steps : Option ℕ
+steps = Some 256
+
+-- An item of the command begins the input, this text is written for it, and this rest stands behind it: of an integer
+-- the head with the shortest argument, of a value its canonical spelling, and of an item that is skipped its length in
+-- bytes, in decimal and with a newline.
+abbrev pub Converts : Command → List ℕ → List ℕ → List ℕ → Type 0
+Converts Ints input text rest =
+    (item : IntegerHead) × IsInteger item × (input ≡ spelling item ++ rest) × (text ≡ shortest_spelling item)
+Converts Canon input text rest = (v : Item) × Reads input steps v rest × (text ≡ canon v)
+Converts Lens input text rest = (t : Tree) × Skips input steps t rest × (text ≡ decimal (length (bytes t)) ++ 10 ∷ [])
+
+-- an item of the command begins the input
+abbrev pub BeginsItem : Command → List ℕ → Type 0
+BeginsItem command input = (text : List ℕ) × (rest : List ℕ) × Converts command input text rest
+
+-- the input is refused by an error of this kind
+abbrev pub StopsAs : Command → Kind → List ℕ → Type 0
+StopsAs Ints kind input = RefusesAt kind input
+StopsAs Canon kind input =
+    (e : Refusal) × (left : List ℕ) × StopsReading input steps e left × (kind ≡ kind_of_refusal e)
+StopsAs Lens kind input =
+    (e : Refusal) × (left : List ℕ) × StopsSkipping input steps e left × (kind ≡ kind_of_refusal e)
+
+-- the input is items, one after another, for which these texts are written, and then the rest
+abbrev pub IsRow : Command → List (List ℕ) → List ℕ → List ℕ → Type 0
+IsRow command [] input rest = input ≡ rest
+IsRow command (text ∷ texts) input rest =
+    (left : List ℕ) × Converts command input text left × IsRow command texts left rest
+
+-- the texts, one after another
+abbrev pub together : List (List ℕ) → List ℕ
+together texts = flat_map (λ (text : List ℕ). text) texts

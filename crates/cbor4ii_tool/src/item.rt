@@ -1,0 +1,99 @@
+//! One item of a command: taken, and what stands for it written.
+ghost use Rattle.std.specs.Prelude.{◌≡◌, Some, IfErr, OnOk};
+ghost use Rattle.cbor4ii_rw.specs.Stream.{stream_view};
+ghost use Rattle.cbor4ii_tool.specs.Steps.{Done, Fails};
+ghost use Rattle.cbor4ii_tool.specs.declared.command.Command.TheVariants.{Ints, Canon, Lens};
+
+use crate::command::Command;
+use crate::fault::Kind;
+use crate::{decimal, integer};
+use cbor4ii_items::decode::Decode;
+use cbor4ii_items::encode::Encode;
+use cbor4ii_rw::io_reader::IoReader;
+use cbor4ii_rw::read::Source;
+use cbor4ii_rw::write::Write;
+use cbor4ii_tree::{IgnoredAny, Value};
+use std::alloc::Global;
+use std::io::BufRead;
+
+/// Takes the item of `command` that begins what is left, and writes what stands for it.
+pub fn convert<R: BufRead, W: Write>(
+    alloc: Global,
+    command: Command,
+    reader: &mut IoReader<R>,
+    writer: &mut W,
+) -> Result<(), Kind>
+    requires { (stream_view R.Read.remaining R.consumable_len reader.old).budget ≡ Some 256 }
+    ensures done { OnOk result (Done command
+        (stream_view R.Read.remaining R.consumable_len reader.old)
+        (stream_view R.Read.remaining R.consumable_len reader.new)
+        (W.view writer.old) (W.view writer.new)) }
+    ensures fails { IfErr result (λ kind. Fails command kind
+        (stream_view R.Read.remaining R.consumable_len reader.old)
+        (stream_view R.Read.remaining R.consumable_len reader.new)
+        (W.view writer.old) (W.view writer.new)) }
+{
+    match command {
+        Command::Ints => integer(alloc, reader, writer),
+        Command::Canon => value(alloc, reader, writer),
+        Command::Lens => length(alloc, reader, writer),
+    }
+}
+
+// An integer, written with the shortest argument.
+fn integer<S: Source, W: Write>(alloc: Global, reader: &mut S, writer: &mut W) -> Result<(), Kind>
+    ensures done { OnOk result (Done Ints (S.view reader.old) (S.view reader.new)
+        (W.view writer.old) (W.view writer.new)) }
+    ensures fails { IfErr result (λ kind. Fails Ints kind (S.view reader.old) (S.view reader.new)
+        (W.view writer.old) (W.view writer.new)) }
+{
+    let item = integer::read(alloc, reader)?;
+    match integer::write(&item, writer) {
+        Ok(()) => Ok(()),
+        Err(_) => Err(Kind::Write),
+    }
+}
+
+// A value, written in its canonical spelling.
+fn value<S: Source, W: Write>(alloc: Global, reader: &mut S, writer: &mut W) -> Result<(), Kind>
+    requires { (S.view reader.old).budget ≡ Some 256 }
+    ensures done { OnOk result (Done Canon (S.view reader.old) (S.view reader.new)
+        (W.view writer.old) (W.view writer.new)) }
+    ensures fails { IfErr result (λ kind. Fails Canon kind (S.view reader.old) (S.view reader.new)
+        (W.view writer.old) (W.view writer.new)) }
+{
+    let item = match Value::decode(alloc, reader) {
+        Ok(item) => item,
+        Err(error) => return Err(Kind::of(&error)),
+    };
+    match item.encode(writer) {
+        Ok(()) => Ok(()),
+        Err(_) => Err(Kind::Write),
+    }
+}
+
+// An item that is skipped, of which the length in bytes is written.
+fn length<R: BufRead, W: Write>(
+    alloc: Global,
+    reader: &mut IoReader<R>,
+    writer: &mut W,
+) -> Result<(), Kind>
+    requires { (stream_view R.Read.remaining R.consumable_len reader.old).budget ≡ Some 256 }
+    ensures done { OnOk result (Done Lens
+        (stream_view R.Read.remaining R.consumable_len reader.old)
+        (stream_view R.Read.remaining R.consumable_len reader.new)
+        (W.view writer.old) (W.view writer.new)) }
+    ensures fails { IfErr result (λ kind. Fails Lens kind
+        (stream_view R.Read.remaining R.consumable_len reader.old)
+        (stream_view R.Read.remaining R.consumable_len reader.new)
+        (W.view writer.old) (W.view writer.new)) }
+{
+    let before = reader.taken();
+    if let Err(error) = IgnoredAny::decode(alloc, reader) {
+        return Err(Kind::of(&error));
+    }
+    match decimal::write_line(reader.taken() - before, writer) {
+        Ok(()) => Ok(()),
+        Err(_) => Err(Kind::Write),
+    }
+}

@@ -1,0 +1,78 @@
+//! The program, over its arguments and its three streams.
+ghost use Rattle.std.specs.Prelude.{◌≡◌, IfErr};
+
+use crate::arguments::command;
+use crate::command::Command;
+use crate::fault::{Fault, Kind, status};
+use crate::run::run;
+use cbor4ii_rw::io_reader::IoReader;
+use cbor4ii_rw::io_writer::IoWriter;
+use std::alloc::Global;
+use std::io::{self, BufReader, BufWriter, ErrorKind, Read, Write};
+
+/// What standard error gets where the arguments name no command.
+pub const USAGE: &str = "usage: cbor4ii_tool ints|canon|lens|strict";
+
+/// The exit status where the arguments name no command.
+pub const USAGE_STATUS: u8 = 2;
+
+/// Runs the command that `words` name from `input` to `output`, and answers the exit status: 0, or
+/// 1 after a fault, whose line goes to `errors`. Where the words name none, the usage line goes
+/// there, nothing is read or written, and the status is 2. An error of `errors` itself is not told.
+pub fn program<R: Read + Drop, W: Write + Drop, E: Write>(
+    alloc: Global,
+    words: io::Result<Vec<String>>,
+    input: R,
+    output: W,
+    errors: &mut E,
+) -> u8 {
+    let outcome = match chosen(words) {
+        Ok(Some(command)) => stream(alloc, command, input, output),
+        Ok(None) => {
+            let _ = errors.writeln(USAGE);
+            return USAGE_STATUS;
+        }
+        Err(fault) => Err(fault),
+    };
+    if let Err(fault) = outcome {
+        let _ = errors.writeln(fault);
+    }
+    status(&outcome)
+}
+
+// The command that the arguments name, if any. Arguments that are no text name none.
+fn chosen(words: io::Result<Vec<String>>) -> Result<Option<Command>, Fault>
+    ensures at { IfErr result (λ fault. fault.at ≡ 0) }
+    ensures kind { IfErr result (λ fault. fault.kind ≡ Kind.OutOfMemory) }
+{
+    match words {
+        Ok(words) => Ok(command(&words)),
+        Err(error) if error.kind() == ErrorKind::OutOfMemory => Err(Fault {
+            at: 0,
+            kind: Kind::OutOfMemory,
+        }),
+        Err(_) => Ok(None),
+    }
+}
+
+// Runs the command over both streams, each through a buffer.
+fn stream<R: Read + Drop, W: Write + Drop>(
+    alloc: Global,
+    command: Command,
+    input: R,
+    output: W,
+) -> Result<(), Fault> {
+    let (Ok(reader), Ok(writer)) = (BufReader::new(alloc, input), BufWriter::new(alloc, output))
+    else {
+        return Err(Fault {
+            at: 0,
+            kind: Kind::OutOfMemory,
+        });
+    };
+    run(
+        alloc,
+        command,
+        &mut IoReader::new(reader),
+        &mut IoWriter::new(writer),
+    )
+}
