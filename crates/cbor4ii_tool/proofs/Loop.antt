@@ -1,5 +1,5 @@
 -- The loop over the items of a command.
-use Rattle.std.proofs.Common.{◌≡◌, ◌≢◌, ℕ, min, ◌+◌, ◌-◌, ◌≤◌, ◌⊎◌, inl, inr, List, [], ◌∷◌, ◌++◌, length, drop, decimal, Bool, is_ok, IsTrue, ◌^◌, OnOk, OnErr, IfErr, IfSome, Option, Some, None, Result, Ok, Err, true, false, refl, sym, ap, ◌∙◌, subst, arith, append_assoc, append-nil}
+use Rattle.std.proofs.Common.{◌≡◌, ◌≢◌, ℕ, ◌+◌, ◌-◌, ◌≤◌, ◌⊎◌, inl, inr, List, [], ◌∷◌, ◌++◌, length, drop, decimal, Bool, is_ok, IsTrue, ◌^◌, OnOk, OnErr, IfErr, Option, Some, Result, Ok, Err, true, false, refl, sym, ap, ◌∙◌, subst, arith, append_assoc, append-nil}
 use Rattle.cbor4ii_items.specs.Head.{head, shortest}
 use Rattle.cbor4ii_tree.specs.Tree.{Tree, bytes}
 use Rattle.cbor4ii_tree.specs.Meaning.{value}
@@ -10,14 +10,13 @@ use Rattle.cbor4ii_tool.specs.Integer.{IntegerHead, shortest_spelling}
 use Rattle.cbor4ii_tool.proofs.Integers.{one_head}
 use Rattle.std.proofs.lemmas.Bool.{cases_lt}
 use Rattle.std.proofs.lemmas.Grind.{flat_map-append}
-use Rattle.std.proofs.lemmas.List.{length-drop, take_all}
-use Rattle.cbor4ii_rw.specs.Stream.{cut_known, most_bytes}
+use Rattle.std.proofs.lemmas.List.{length-drop}
 use Rattle.cbor4ii_rw.specs.View.{View, Told}
 use Rattle.cbor4ii_rw.specs.Reader.{Shows, Failed, Keeps, counts}
 use Rattle.cbor4ii_rw.specs.Writer.{Output, Appends, one_more}
 use Rattle.cbor4ii_tool.specs.Item.{Converts, BeginsItem, IsRow, together}
 use Rattle.cbor4ii_tool.specs.Run.{FaultAt, Runs, Completes, WantsMemory, Blames, BlamesAt, Hands, IsExcused}
-use Rattle.cbor4ii_tool.specs.Steps.{Done, Fails, MovesFailures, FailsAt, Ran, RanOver, finished}
+use Rattle.cbor4ii_tool.specs.Steps.{Done, Fails, MovesFailures, FailsAt, Ran, finished}
 use Rattle.cbor4ii_tool.specs.declared.command.Command.{Command}
 use Rattle.cbor4ii_tool.specs.declared.command.Command.TheVariants.{Ints, Canon, Lens}
 use Rattle.cbor4ii_tool.specs.declared.fault.Fault.{Fault}

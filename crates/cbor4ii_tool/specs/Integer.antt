@@ -1,6 +1,5 @@
 -- Integers: items of major types 0 and 1 (RFC 8949 section 3.1), each of them a head alone.
-use Rattle.std.specs.Prelude.{◌≡◌, ◌≢◌, ℕ, ◌+◌, ◌*◌, ◌≤◌, List, [], ◌∷◌, ◌++◌, All}
-use Rattle.std.specs.List.{flat_map}
+use Rattle.std.specs.Prelude.{◌≡◌, ◌≢◌, ℕ, ◌+◌, ◌*◌, ◌≤◌, List, [], ◌∷◌, ◌++◌}
 use Rattle.cbor4ii_items.specs.Head.{Width, HeadFits, additional, head, shortest}
 
 -- what a head says, and in which width
