@@ -5,27 +5,42 @@
 #![tactic(auto)]
 
 #[cfg(test)]
+mod borrowed;
+#[cfg(test)]
 mod cow;
 pub mod examples;
+#[cfg(test)]
+mod encodings;
+#[cfg(test)]
+mod error_texts;
+#[cfg(test)]
+mod flags_and_laws;
 #[cfg(test)]
 mod heads;
 #[cfg(test)]
 mod leaves;
+#[cfg(test)]
+mod long_rows;
 #[cfg(test)]
 mod maps;
 #[cfg(test)]
 mod memory;
 #[cfg(test)]
 mod numbers;
+#[cfg(test)]
+mod reader_rows;
 pub mod readers;
 #[cfg(test)]
 mod record;
 #[cfg(test)]
 mod rows;
 #[cfg(test)]
+mod segments;
+#[cfg(test)]
 mod sequences;
+pub mod streams;
 #[cfg(test)]
 mod strings;
 #[cfg(test)]
-mod vectors;
+mod writer_rows;
 pub mod writers;

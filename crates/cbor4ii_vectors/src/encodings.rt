@@ -1,0 +1,337 @@
+//! Encodings of arrays, maps and strings (RFC 8949 Appendix A), whole and in parts.
+use crate::rows::{WriteTo, goes_both_ways, reads, writes_in};
+use cbor4ii_items::encode::Encode;
+use cbor4ii_items::types::{Array, Bytes, Map, UncheckedStr};
+use cbor4ii_rw::error::EncodeError;
+use cbor4ii_rw::write::Write;
+use std::alloc::{AllocError, Global};
+use std::test::Fail;
+
+// 1 to 25, in the length that is given in front.
+const COUNTED: &[u8] =
+    b"\x98\x19\x01\x02\x03\x04\x05\x06\x07\x08\x09\x0a\x0b\x0c\x0d\x0e\x0f\x10\x11\x12\x13\x14\x15\x16\x17\x18\x18\x18\x19";
+// The same, up to a break.
+const OPEN: &[u8] =
+    b"\x9f\x01\x02\x03\x04\x05\x06\x07\x08\x09\x0a\x0b\x0c\x0d\x0e\x0f\x10\x11\x12\x13\x14\x15\x16\x17\x18\x18\x18\x19\xff";
+
+fn one_to_25(alloc: Global) -> Result<Vec<u8>, AllocError> {
+    let mut numbers = Vec::new(alloc);
+    for number in 1..26 {
+        numbers.push(number)?;
+    }
+    Ok(numbers)
+}
+
+#[test]
+fn arrays(rt: HostRuntime) -> Result<(), Fail> {
+    let alloc = rt.alloc();
+    goes_both_ways(&rt, alloc, Vec::<u8>::new(alloc), b"\x80", 1)?;
+    let three = vec![in alloc; 1u8, 2, 3]?;
+    writes_in(&rt, alloc, &three.as_slice(), b"\x83\x01\x02\x03", 4)?;
+    goes_both_ways(&rt, alloc, three, b"\x83\x01\x02\x03", 4)?;
+    let nested: [&[u8]; 2] = [&[1], &[2, 3]];
+    writes_in(
+        &rt,
+        alloc,
+        &nested.as_slice(),
+        b"\x82\x81\x01\x82\x02\x03",
+        6,
+    )?;
+    goes_both_ways(&rt, alloc, one_to_25(alloc)?, COUNTED, 26)
+}
+
+#[test]
+fn maps(rt: HostRuntime) -> Result<(), Fail> {
+    let alloc = rt.alloc();
+    let none: &[(u8, u8)] = &[];
+    writes_in(&rt, alloc, &Map(none), b"\xa0", 1)?;
+    let numbers: &[(u8, u8)] = &[(1, 2), (3, 4)];
+    writes_in(&rt, alloc, &Map(numbers), b"\xa2\x01\x02\x03\x04", 5)?;
+    let letters: &[(&str, &str)] = &[("a", "A"), ("b", "B"), ("c", "C"), ("d", "D"), ("e", "E")];
+    writes_in(
+        &rt,
+        alloc,
+        &Map(letters),
+        b"\xa5\x61a\x61A\x61b\x61B\x61c\x61C\x61d\x61D\x61e\x61E",
+        21,
+    )
+}
+
+// What a caller writes who writes an item in parts.
+#[derive(Clone, Copy)]
+enum Part {
+    Bytes(&'static [u8]),
+    BytesHead(usize),
+    OpenBytes,
+    BytesEnd,
+    Text(&'static str),
+    TextHead(usize),
+    OpenText,
+    TextEnd,
+    Array(usize),
+    OpenArray,
+    ArrayEnd,
+    Map(usize),
+    OpenMap,
+    MapEnd,
+    Number(i8),
+    Flag(bool),
+}
+
+// An item in its parts.
+#[derive(Clone, Copy)]
+struct Parts<'a>(&'a [Part]);
+
+impl WriteTo for Parts<'_> {
+    fn write_to<W: Write>(&self, writer: &mut W) -> Result<(), EncodeError<W::Error>> {
+        for part in self.0 {
+            part.write_to(writer)?;
+        }
+        Ok(())
+    }
+}
+
+impl WriteTo for Part {
+    fn write_to<W: Write>(&self, writer: &mut W) -> Result<(), EncodeError<W::Error>> {
+        match *self {
+            Part::Bytes(content) => Bytes(content).encode(writer),
+            Part::BytesHead(len) => Bytes::bounded(len, writer),
+            Part::OpenBytes => Bytes::unbounded(writer),
+            Part::BytesEnd => Bytes::end(writer),
+            Part::Text(text) => text.encode(writer),
+            Part::TextHead(len) => UncheckedStr::bounded(len, writer),
+            Part::OpenText => UncheckedStr::unbounded(writer),
+            Part::TextEnd => UncheckedStr::end(writer),
+            Part::Array(len) => Array::bounded(len, writer),
+            Part::OpenArray => Array::unbounded(writer),
+            Part::ArrayEnd => Array::end(writer),
+            Part::Map(len) => Map::bounded(len, writer),
+            Part::OpenMap => Map::unbounded(writer),
+            Part::MapEnd => Map::end(writer),
+            Part::Number(number) => number.encode(writer),
+            Part::Flag(flag) => flag.encode(writer),
+        }
+    }
+}
+
+// Heads and ends alone, each in one push.
+#[test]
+fn heads_and_ends(rt: HostRuntime) -> Result<(), Fail> {
+    let alloc = rt.alloc();
+    let rows: [(Part, &[u8]); 18] = [
+        (Part::BytesHead(4), b"\x44"),
+        (Part::BytesHead(1000), b"\x59\x03\xe8"),
+        (Part::OpenBytes, b"\x5f"),
+        (Part::BytesEnd, b"\xff"),
+        (Part::TextHead(4), b"\x64"),
+        (Part::TextHead(1000), b"\x79\x03\xe8"),
+        (Part::OpenText, b"\x7f"),
+        (Part::TextEnd, b"\xff"),
+        (Part::Array(0), b"\x80"),
+        (Part::Array(23), b"\x97"),
+        (Part::Array(24), b"\x98\x18"),
+        (Part::Array(1000), b"\x99\x03\xe8"),
+        (Part::OpenArray, b"\x9f"),
+        (Part::ArrayEnd, b"\xff"),
+        (Part::Map(23), b"\xb7"),
+        (Part::Map(1000), b"\xb9\x03\xe8"),
+        (Part::OpenMap, b"\xbf"),
+        (Part::MapEnd, b"\xff"),
+    ];
+    for (part, bytes) in rows {
+        writes_in(&rt, alloc, &part, bytes, 1)?;
+    }
+    Ok(())
+}
+
+#[test]
+fn counted_items_in_parts(rt: HostRuntime) -> Result<(), Fail> {
+    let alloc = rt.alloc();
+    // ["a", {"b": "c"}]
+    let array = &[
+        Part::Array(2),
+        Part::Text("a"),
+        Part::Map(1),
+        Part::Text("b"),
+        Part::Text("c"),
+    ];
+    writes_in(&rt, alloc, &Parts(array), b"\x82\x61a\xa1\x61b\x61c", 8)?;
+    // {"a": 1, "b": [2, 3]}
+    let map = &[
+        Part::Map(2),
+        Part::Text("a"),
+        Part::Number(1),
+        Part::Text("b"),
+        Part::Array(2),
+        Part::Number(2),
+        Part::Number(3),
+    ];
+    writes_in(
+        &rt,
+        alloc,
+        &Parts(map),
+        b"\xa2\x61a\x01\x61b\x82\x02\x03",
+        9,
+    )
+}
+
+#[test]
+fn open_strings(rt: HostRuntime) -> Result<(), Fail> {
+    let alloc = rt.alloc();
+    let bytes = &[
+        Part::OpenBytes,
+        Part::Bytes(b"\x01\x02"),
+        Part::Bytes(b"\x03\x04\x05"),
+        Part::BytesEnd,
+    ];
+    writes_in(
+        &rt,
+        alloc,
+        &Parts(bytes),
+        b"\x5f\x42\x01\x02\x43\x03\x04\x05\xff",
+        6,
+    )?;
+    let text = &[
+        Part::OpenText,
+        Part::Text("strea"),
+        Part::Text("ming"),
+        Part::TextEnd,
+    ];
+    writes_in(&rt, alloc, &Parts(text), b"\x7f\x65strea\x64ming\xff", 6)
+}
+
+// [1, [2, 3], [4, 5]], with one, two or all three of the arrays of indefinite length.
+#[test]
+fn nested_open_arrays(rt: HostRuntime) -> Result<(), Fail> {
+    let alloc = rt.alloc();
+    writes_in(
+        &rt,
+        alloc,
+        &Parts(&[Part::OpenArray, Part::ArrayEnd]),
+        b"\x9f\xff",
+        2,
+    )?;
+    let all = &[
+        Part::OpenArray,
+        Part::Number(1),
+        Part::Array(2),
+        Part::Number(2),
+        Part::Number(3),
+        Part::OpenArray,
+        Part::Number(4),
+        Part::Number(5),
+        Part::ArrayEnd,
+        Part::ArrayEnd,
+    ];
+    let bytes = b"\x9f\x01\x82\x02\x03\x9f\x04\x05\xff\xff";
+    writes_in(&rt, alloc, &Parts(all), bytes, 10)?;
+    let outer = &[
+        Part::OpenArray,
+        Part::Number(1),
+        Part::Array(2),
+        Part::Number(2),
+        Part::Number(3),
+        Part::Array(2),
+        Part::Number(4),
+        Part::Number(5),
+        Part::ArrayEnd,
+    ];
+    let bytes = b"\x9f\x01\x82\x02\x03\x82\x04\x05\xff";
+    writes_in(&rt, alloc, &Parts(outer), bytes, 9)?;
+    let last = &[
+        Part::Array(3),
+        Part::Number(1),
+        Part::Array(2),
+        Part::Number(2),
+        Part::Number(3),
+        Part::OpenArray,
+        Part::Number(4),
+        Part::Number(5),
+        Part::ArrayEnd,
+    ];
+    let bytes = b"\x83\x01\x82\x02\x03\x9f\x04\x05\xff";
+    writes_in(&rt, alloc, &Parts(last), bytes, 9)?;
+    let inner = &[
+        Part::Array(3),
+        Part::Number(1),
+        Part::OpenArray,
+        Part::Number(2),
+        Part::Number(3),
+        Part::ArrayEnd,
+        Part::Array(2),
+        Part::Number(4),
+        Part::Number(5),
+    ];
+    let bytes = b"\x83\x01\x9f\x02\x03\xff\x82\x04\x05";
+    writes_in(&rt, alloc, &Parts(inner), bytes, 9)
+}
+
+#[test]
+fn open_arrays(rt: HostRuntime) -> Result<(), Fail> {
+    let alloc = rt.alloc();
+    let mut numbers = vec![in alloc; Part::OpenArray]?;
+    for number in 1..26 {
+        numbers.push(Part::Number(number))?;
+    }
+    numbers.push(Part::ArrayEnd)?;
+    writes_in(&rt, alloc, &Parts(&numbers), OPEN, 27)?;
+    reads(&rt, alloc, OPEN, Ok(one_to_25(alloc)?), b"")?;
+    let flags = &[
+        Part::OpenArray,
+        Part::Flag(true),
+        Part::Flag(false),
+        Part::ArrayEnd,
+    ];
+    writes_in(&rt, alloc, &Parts(flags), b"\x9f\xf5\xf4\xff", 4)
+}
+
+#[test]
+fn open_maps(rt: HostRuntime) -> Result<(), Fail> {
+    let alloc = rt.alloc();
+    // {_ "a": 1, "b": [_ 2, 3]}
+    let nested = &[
+        Part::OpenMap,
+        Part::Text("a"),
+        Part::Number(1),
+        Part::Text("b"),
+        Part::OpenArray,
+        Part::Number(2),
+        Part::Number(3),
+        Part::ArrayEnd,
+        Part::MapEnd,
+    ];
+    let bytes = b"\xbf\x61a\x01\x61b\x9f\x02\x03\xff\xff";
+    writes_in(&rt, alloc, &Parts(nested), bytes, 11)?;
+    // ["a", {_ "b": "c"}]
+    let inside = &[
+        Part::Array(2),
+        Part::Text("a"),
+        Part::OpenMap,
+        Part::Text("b"),
+        Part::Text("c"),
+        Part::MapEnd,
+    ];
+    writes_in(
+        &rt,
+        alloc,
+        &Parts(inside),
+        b"\x82\x61a\xbf\x61b\x61c\xff",
+        9,
+    )?;
+    // {_ "Fun": true, "Amt": -2}
+    let flags = &[
+        Part::OpenMap,
+        Part::Text("Fun"),
+        Part::Flag(true),
+        Part::Text("Amt"),
+        Part::Number(-2),
+        Part::MapEnd,
+    ];
+    writes_in(
+        &rt,
+        alloc,
+        &Parts(flags),
+        b"\xbf\x63Fun\xf5\x63Amt\x21\xff",
+        8,
+    )
+}
