@@ -1,5 +1,6 @@
 -- What a reader over segments shows of its current one.
-use Rattle.std.proofs.Common.{rules, arith, ◌≡◌, ℕ, ◌+◌, ◌<◌, min, List, [], ◌∷◌, ◌++◌, length, take, nat_lt, refl, ap, ◌∙◌, length-append, length-take-le}
+use Rattle.std.proofs.Common.{rules, arith, ◌≡◌, ℕ, ◌+◌, ◌<◌, min, List, [], ◌∷◌, ◌++◌, length}
+use Rattle.std.proofs.Common.{take, nat_lt, refl, ap, ◌∙◌, length-append, length-take-le}
 use Rattle.std.proofs.lemmas.List.{take-append-le}
 use Rattle.std.proofs.lemmas.Bool.{ltb-true}
 use Rattle.std.specs.Prelude.{IsTrue}
@@ -11,13 +12,16 @@ nothing_left : (current others : List ℕ) → length current ≡ 0 → others �
 nothing_left [] others none end = end
 nothing_left (byte ∷ bytes) others none end = absurd (search (none, rules))
 
-pub shown_length : (want n : ℕ) (current : List ℕ) → n ≡ min want (length current) → length (take n current) ≡ n
+pub shown_length : (want n : ℕ) (current : List ℕ) → n ≡ min want (length current)
+    → length (take n current) ≡ n
 shown_length want n current is = length-take-le n current (omega (arith, is))
 
-pub front_of_current : (want n : ℕ) (current others : List ℕ) → n ≡ min want (length current) → (length current ≡ 0 → current ++ others ≡ [])
+pub front_of_current : (want n : ℕ) (current others : List ℕ) → n ≡ min want (length current)
+    → (length current ≡ 0 → current ++ others ≡ [])
     → IsFront want (take n current) (current ++ others)
 front_of_current want n current others is end = record {
-  begins = ap (λ k. take k (current ++ others)) long ∙ take-append-le n current others (omega (arith, is));
+  begins = ap (λ k. take k (current ++ others)) long
+      ∙ take-append-le n current others (omega (arith, is));
   within = omega (arith, is, long, length-append current others);
   ends = λ wanted none. let empty : length current ≡ 0 = omega (arith, is, long) in end empty;
 }
@@ -31,27 +35,40 @@ full_zero (byte ∷ bytes) none = absurd (search (none, rules))
 
 none_full : (others : List (Bor (List ℕ))) → full_count others ≡ 0 → joined others ≡ []
 none_full [] none = refl
-none_full (segment ∷ others) none = nothing_left segment.now (joined others) (ap length (full_zero segment.now (omega arith))) (none_full others (omega arith))
+none_full (segment ∷ others) none =
+    nothing_left segment.now (joined others) (ap length (full_zero segment.now (omega arith)))
+    (none_full others (omega arith))
 
-last_full : (current : List ℕ) (others : List (Bor (List ℕ))) → (length current ≡ 0 → current ++ joined others ≡ []) → full current + full_count others < 2 → joined others ≡ []
+last_full : (current : List ℕ) (others : List (Bor (List ℕ)))
+    → (length current ≡ 0 → current ++ joined others ≡ []) → full current + full_count others < 2
+    → joined others ≡ []
 last_full [] others end one = end refl
 last_full (byte ∷ bytes) others end one = none_full others (omega arith)
 
-pub current_is_enough : (want n : ℕ) (current : List ℕ) (others : List (Bor (List ℕ))) → n ≡ min want (length current) → (length current ≡ 0 → current ++ joined others ≡ [])
-    → IsTrue (nat_lt (full current + full_count others) 2) → IsEnough want (take n current) (current ++ joined others)
+pub current_is_enough : (want n : ℕ) (current : List ℕ) (others : List (Bor (List ℕ)))
+    → n ≡ min want (length current) → (length current ≡ 0 → current ++ joined others ≡ [])
+    → IsTrue (nat_lt (full current + full_count others) 2)
+    → IsEnough want (take n current) (current ++ joined others)
 current_is_enough want n current others is end one =
-    omega (arith, is, shown_length want n current is, length-append current (joined others), ap length (last_full current others end (ltb-true (full current + full_count others) 2 one)))
+    let few = ltb-true (full current + full_count others) 2 one in
+    let long = shown_length want n current is in
+    let none_behind : joined others ≡ [] = last_full current others end few in
+    omega (arith, is, long, length-append current (joined others), ap length none_behind)
 
 nothing_full : (others : List (Bor (List ℕ))) → length (joined others) ≡ 0 → first_full others ≡ []
 nothing_full [] none = refl
 nothing_full (segment ∷ others) none =
-    ap (λ bytes. first_of bytes (first_full others)) (empty segment.now (omega (arith, none, length-append segment.now (joined others)))) ∙ nothing_full others (omega (arith, none, length-append segment.now (joined others)))
+    ap (λ bytes. first_of bytes (first_full others))
+    (empty segment.now (omega (arith, none, length-append segment.now (joined others))))
+    ∙ nothing_full others (omega (arith, none, length-append segment.now (joined others)))
   where
     empty : (bytes : List ℕ) → length bytes ≡ 0 → bytes ≡ []
     empty [] none = refl
     empty (byte ∷ bytes) none = absurd (search (none, rules))
 
 -- once empty segments are passed, the current one is shown
-pub current_is_shown : (current : List ℕ) (others : List (Bor (List ℕ))) → (length current ≡ 0 → current ++ joined others ≡ []) → first_of current (first_full others) ≡ current
+pub current_is_shown : (current : List ℕ) (others : List (Bor (List ℕ)))
+    → (length current ≡ 0 → current ++ joined others ≡ [])
+    → first_of current (first_full others) ≡ current
 current_is_shown [] others end = nothing_full others (ap length (end refl))
 current_is_shown (byte ∷ bytes) others end = refl

@@ -1,5 +1,7 @@
 -- What a reader over a stream has left, before and after a call.
-use Rattle.std.proofs.Common.{rules, arith, ◌≡◌, ℕ, ◌+◌, ◌-◌, ◌<◌, ◌≤◌, ◌&&◌, Bool, true, false, nat_lt, min, List, [], length, take, drop, None, Some, IfSome, Option, refl, sym, ap, subst, ◌∙◌, length-take-le, take-take, length-take}
+use Rattle.std.proofs.Common.{rules, arith, ◌≡◌, ℕ, ◌+◌, ◌-◌, ◌<◌, ◌≤◌, ◌&&◌, Bool, true, false}
+use Rattle.std.proofs.Common.{nat_lt, min, List, [], length, take, drop, None, Some, IfSome, Option}
+use Rattle.std.proofs.Common.{refl, sym, ap, subst, ◌∙◌, length-take-le, take-take, length-take}
 use Rattle.std.proofs.Math.Seq.{take-nil}
 use Rattle.std.proofs.lemmas.List.{drop-drop, drop-take}
 use Rattle.std.specs.Io.{StartsWith}
@@ -26,13 +28,16 @@ told_if P (Some bytes) p = told_some P bytes p
 pub keeps_known : (old new : Option (List ℕ)) → KeepsKnown old new → Keeps old new
 keeps_known None new kept = told_none (λ xs. new ≡ Some xs)
 keeps_known (Some bytes) None kept = absurd kept
-keeps_known (Some bytes) (Some left) kept = told_some (λ xs. Some left ≡ Some xs) bytes (ap Some kept)
+keeps_known (Some bytes) (Some left) kept = told_some (λ xs. Some left ≡ Some xs) bytes
+    (ap Some kept)
 
-pub keeps_cut : (most most' : ℕ) (old new : Option (List ℕ)) → most' ≡ most → KeepsKnown old new → Keeps (cut_known most old) (cut_known most' new)
+pub keeps_cut : (most most' : ℕ) (old new : Option (List ℕ)) → most' ≡ most → KeepsKnown old new
+    → Keeps (cut_known most old) (cut_known most' new)
 keeps_cut most most' None new same kept = told_none (λ xs. cut_known most' new ≡ Some xs)
 keeps_cut most most' (Some bytes) None same kept = absurd kept
 keeps_cut most most' (Some bytes) (Some left) same kept =
-    told_some (λ xs. Some (take most' left) ≡ Some xs) (take most bytes) (ap Some (ap (λ k. take k left) same ∙ ap (take most) kept))
+    told_some (λ xs. Some (take most' left) ≡ Some xs) (take most bytes)
+    (ap Some (ap (λ k. take k left) same ∙ ap (take most) kept))
 
 -- told bytes that stay told are not forgotten
 pub may_forget : (old new : Option (List ℕ)) → Keeps old new → KeepsOrForgets old new
@@ -43,14 +48,18 @@ takes_none None = tt
 takes_none (Some most) = omega arith
 
 -- what was shown, cut at the bound, is a front of what is left
-pub cut_front : (want : ℕ) (known : Option (List ℕ)) (shown : List ℕ) (most n : ℕ) → n ≡ min (length shown) most → 0 < most
-    → IfSome known (λ left. StartsWith left shown) → IfSome known (λ left. length shown ≡ 0 → left ≡ []) → Told (cut_known most known) (IsFront want (take n shown))
+pub cut_front : (want : ℕ) (known : Option (List ℕ)) (shown : List ℕ) (most n : ℕ)
+    → n ≡ min (length shown) most → 0 < most → IfSome known (λ left. StartsWith left shown)
+    → IfSome known (λ left. length shown ≡ 0 → left ≡ [])
+    → Told (cut_known most known) (IsFront want (take n shown))
 cut_front want None shown most n is room front end = told_none (IsFront want (take n shown))
-cut_front want (Some left) shown most n is room front end = told_some (IsFront want (take n shown)) (take most left) (record {
-  begins = ap (λ k. take k (take most left)) long ∙ take-take n most left (omega arith) ∙ sym (take-take n (length shown) left (omega arith)) ∙ ap (take n) front;
-  within = omega (arith, long, starts_with_length left shown front, length-take most left);
-  ends = λ wanted none. ap (take most) (end (omega (arith, long))) ∙ take-nil most;
-})
+cut_front want (Some left) shown most n is room front end = told_some (IsFront want (take n shown))
+    (take most left) (record {
+      begins = ap (λ k. take k (take most left)) long ∙ take-take n most left (omega arith)
+          ∙ sym (take-take n (length shown) left (omega arith)) ∙ ap (take n) front;
+      within = omega (arith, long, starts_with_length left shown front, length-take most left);
+      ends = λ wanted none. ap (take most) (end (omega (arith, long))) ∙ take-nil most;
+    })
   where
     long : length (take n shown) ≡ n
     long = length-take-le n shown (omega arith)
@@ -59,54 +68,83 @@ both : (s t : Bool) → (s && t) ≡ true → (s ≡ true) × (t ≡ true)
 both true t e = (refl, e)
 both false t e = absurd (search (e, rules))
 
-by_bool : (t : Bool) (bytes : List ℕ) (Q : Option (List ℕ) → Type 0) → Q None → (t ≡ true → Q (Some bytes)) → Q (where_known t bytes)
+by_bool : (t : Bool) (bytes : List ℕ) (Q : Option (List ℕ) → Type 0) → Q None
+    → (t ≡ true → Q (Some bytes)) → Q (where_known t bytes)
 by_bool true bytes Q q r = r refl
 by_bool false bytes Q q r = q
 
-room : (limit : Option ℕ) (shown used : ℕ) → (fits limit shown && nat_lt used (shown + 1)) ≡ true → IfSome limit (λ n. used ≤ n)
+room : (limit : Option ℕ) (shown used : ℕ) → (fits limit shown && nat_lt used (shown + 1)) ≡ true
+    → IfSome limit (λ n. used ≤ n)
 room None shown used e = tt
-room (Some k) shown used e = omega (arith, ltb-true shown (k + 1) (both _ _ e).0, ltb-true used (shown + 1) (both _ _ e).1)
+room (Some k) shown used e =
+    omega (arith, ltb-true shown (k + 1) (both _ _ e).0, ltb-true used (shown + 1) (both _ _ e).1)
 
 -- where the bytes are held, `consume` drops what was used
-pub held_cases : (a b : Option (List ℕ)) (limit : Option ℕ) (tally : Tally) → DropsConsumable a b limit tally.used
-    → (Q : Option (List ℕ) → Type 0) → Q None → ((bytes : List ℕ) → b ≡ Some bytes → Q (Some bytes)) → Q (held_bytes a limit tally)
+pub held_cases : (a b : Option (List ℕ)) (limit : Option ℕ) (tally : Tally)
+    → DropsConsumable a b limit tally.used → (Q : Option (List ℕ) → Type 0) → Q None
+    → ((bytes : List ℕ) → b ≡ Some bytes → Q (Some bytes)) → Q (held_bytes a limit tally)
 held_cases None b limit tally drops Q q r = q
-held_cases (Some bytes) b limit tally drops Q q r = by_bool _ (drop tally.used bytes) Q q (λ e. r (drop tally.used bytes) (drops (room limit tally.shown tally.used e)))
+held_cases (Some bytes) b limit tally drops Q q r = by_bool _ (drop tally.used bytes) Q q
+    (λ e. r (drop tally.used bytes) (drops (room limit tally.shown tally.used e)))
 
-open_now : (limit : Option ℕ) (n : ℕ) → IfSome limit (λ k. n ≤ k) → (fits limit n && nat_lt 0 (n + 1)) ≡ true
+open_now : (limit : Option ℕ) (n : ℕ) → IfSome limit (λ k. n ≤ k)
+    → (fits limit n && nat_lt 0 (n + 1)) ≡ true
 open_now None n h = lt-ltb 0 (n + 1) (omega arith)
-open_now (Some k) n h = ap (λ t. t && nat_lt 0 (n + 1)) (lt-ltb n (k + 1) (omega arith)) ∙ lt-ltb 0 (n + 1) (omega arith)
+open_now (Some k) n h = ap (λ t. t && nat_lt 0 (n + 1)) (lt-ltb n (k + 1) (omega arith))
+    ∙ lt-ltb 0 (n + 1) (omega arith)
 
 -- what the stream has is held, once nothing of what it showed is used
-pub held_now : (known : Option (List ℕ)) (limit : Option ℕ) (tally : Tally) (bytes : List ℕ) → tally.used ≡ 0 → KeepsKnown (Some bytes) known → IfSome limit (λ k. tally.shown ≤ k) → KeepsKnown (Some bytes) (held_bytes known limit tally)
+pub held_now : (known : Option (List ℕ)) (limit : Option ℕ) (tally : Tally) (bytes : List ℕ)
+    → tally.used ≡ 0 → KeepsKnown (Some bytes) known → IfSome limit (λ k. tally.shown ≤ k)
+    → KeepsKnown (Some bytes) (held_bytes known limit tally)
 held_now None limit tally bytes none kept h = absurd kept
 held_now (Some left) limit tally bytes none kept h =
-    subst (λ used. KeepsKnown (Some bytes) (where_known (fits limit tally.shown && nat_lt used (tally.shown + 1)) (drop used left))) (sym none) (subst (λ t. KeepsKnown (Some bytes) (where_known t left)) (sym (open_now limit tally.shown h)) kept)
+    subst (λ used. KeepsKnown (Some bytes)
+    (where_known (fits limit tally.shown && nat_lt used (tally.shown + 1)) (drop used left)))
+    (sym none) (subst (λ t. KeepsKnown (Some bytes) (where_known t left))
+    (sym (open_now limit tally.shown h)) kept)
 
-drops_held : (n : ℕ) (known : Option (List ℕ)) (limit : Option ℕ) (before after : Tally) → after.shown ≡ before.shown → after.used ≡ before.used + n → n ≤ before.shown - before.used
+drops_held : (n : ℕ) (known : Option (List ℕ)) (limit : Option ℕ) (before after : Tally)
+    → after.shown ≡ before.shown → after.used ≡ before.used + n → n ≤ before.shown - before.used
     → Drops n (held_bytes known limit before) (held_bytes known limit after)
 drops_held n None limit before after shown used few = told_none (λ xs. None ≡ Some (drop n xs))
 drops_held n (Some bytes) limit before after shown used few =
-    by_bool (fits limit before.shown && nat_lt before.used (before.shown + 1)) (drop before.used bytes) (λ o. Drops n o (held_bytes (Some bytes) limit after)) (told_none (λ xs. held_bytes (Some bytes) limit after ≡ Some (drop n xs))) (λ e.
-    let open_after : (fits limit after.shown && nat_lt after.used (after.shown + 1)) ≡ true = still_open n limit before after shown used few e in
-    subst (λ t. Drops n (Some (drop before.used bytes)) (where_known t (drop after.used bytes))) (sym open_after)
-    (told_some (λ xs. Some (drop after.used bytes) ≡ Some (drop n xs)) (drop before.used bytes) (ap Some (ap (λ k. drop k bytes) used ∙ sym (drop-drop n before.used bytes)))))
+    by_bool (fits limit before.shown && nat_lt before.used (before.shown + 1))
+    (drop before.used bytes) (λ o. Drops n o (held_bytes (Some bytes) limit after))
+    (told_none (λ xs. held_bytes (Some bytes) limit after ≡ Some (drop n xs))) (λ e.
+    let open_after : (fits limit after.shown && nat_lt after.used (after.shown + 1)) ≡ true =
+    still_open n limit before after shown used few e in
+    subst (λ t. Drops n (Some (drop before.used bytes)) (where_known t (drop after.used bytes)))
+    (sym open_after)
+    (told_some (λ xs. Some (drop after.used bytes) ≡ Some (drop n xs)) (drop before.used bytes)
+    (ap Some (ap (λ k. drop k bytes) used ∙ sym (drop-drop n before.used bytes)))))
   where
-    still_open : (n : ℕ) (limit : Option ℕ) (before after : Tally) → after.shown ≡ before.shown → after.used ≡ before.used + n → n ≤ before.shown - before.used
-        → (fits limit before.shown && nat_lt before.used (before.shown + 1)) ≡ true → (fits limit after.shown && nat_lt after.used (after.shown + 1)) ≡ true
+    still_open : (n : ℕ) (limit : Option ℕ) (before after : Tally) → after.shown ≡ before.shown
+        → after.used ≡ before.used + n → n ≤ before.shown - before.used
+        → (fits limit before.shown && nat_lt before.used (before.shown + 1)) ≡ true
+        → (fits limit after.shown && nat_lt after.used (after.shown + 1)) ≡ true
     still_open n limit before after shown used few e =
         let parts = both _ _ e in
-        ap (λ k. fits limit k && nat_lt after.used (after.shown + 1)) shown ∙ ap (λ t. t && nat_lt after.used (after.shown + 1)) parts.0
-        ∙ lt-ltb after.used (after.shown + 1) (omega (arith, shown, used, few, ltb-true before.used (before.shown + 1) parts.1))
+        ap (λ k. fits limit k && nat_lt after.used (after.shown + 1)) shown
+        ∙ ap (λ t. t && nat_lt after.used (after.shown + 1)) parts.0
+        ∙ lt-ltb after.used (after.shown + 1)
+        (omega (arith, shown, used, few, ltb-true before.used (before.shown + 1) parts.1))
 
-drops_cut : (n most most' : ℕ) (a b : Option (List ℕ)) → n + most' ≡ most → Drops n a b → Drops n (cut_known most a) (cut_known most' b)
+drops_cut : (n most most' : ℕ) (a b : Option (List ℕ)) → n + most' ≡ most → Drops n a b
+    → Drops n (cut_known most a) (cut_known most' b)
 drops_cut n most most' None b split kept = told_none (λ xs. cut_known most' b ≡ Some (drop n xs))
-drops_cut n most most' (Some bytes) b split kept = told_some (λ xs. cut_known most' b ≡ Some (drop n xs)) (take most bytes)
-    (ap (cut_known most') (kept bytes refl) ∙ ap Some (sym (drop-take n most' bytes) ∙ ap (λ k. drop n (take k bytes)) split))
+drops_cut n most most' (Some bytes) b split kept = told_some
+    (λ xs. cut_known most' b ≡ Some (drop n xs)) (take most bytes)
+    (ap (cut_known most') (kept bytes refl) ∙ ap Some (sym (drop-take n most' bytes)
+    ∙ ap (λ k. drop n (take k bytes)) split))
 
 -- what `advance` leaves
-pub drops_left : (n : ℕ) (known : Option (List ℕ)) (limit : Option ℕ) (before after : Tally) → after.shown ≡ before.shown → after.used ≡ before.used + n → after.taken ≡ before.taken + n
+pub drops_left : (n : ℕ) (known : Option (List ℕ)) (limit : Option ℕ) (before after : Tally)
+    → after.shown ≡ before.shown → after.used ≡ before.used + n → after.taken ≡ before.taken + n
     → n ≤ before.shown - before.used → n ≤ most_bytes - before.taken
-    → Drops n (cut_known (most_bytes - before.taken) (held_bytes known limit before)) (cut_known (most_bytes - after.taken) (held_bytes known limit after))
+    → Drops n (cut_known (most_bytes - before.taken) (held_bytes known limit before))
+    (cut_known (most_bytes - after.taken) (held_bytes known limit after))
 drops_left n known limit before after shown used taken few room =
-    drops_cut n (most_bytes - before.taken) (most_bytes - after.taken) (held_bytes known limit before) (held_bytes known limit after) (omega (arith, taken, room)) (drops_held n known limit before after shown used few)
+    drops_cut n (most_bytes - before.taken) (most_bytes - after.taken)
+    (held_bytes known limit before) (held_bytes known limit after) (omega (arith, taken, room))
+    (drops_held n known limit before after shown used few)

@@ -1,11 +1,13 @@
--- `look` hands its reader to `show`, whose error may be of any type, so this proof walks the code by hand.
+-- `look` hands its reader to `show`, whose error may be of any type, so this proof walks the code
+-- by hand.
 use mathlib.Core.Path.{◌≡◌, refl, sym, subst}
 use mathlib.Core.List.{List, [], ◌∷◌}
 use Prim.Native.Nat.{ℕ, ◌^◌, ◌<◌}
 use seplogic.Ra.Ura.{Ura}
 use base.Logic.{SProp, ent, emp, id⊢}
 use base.Fml.{Lft, ftrue, flft, fres}
-use mir.Syntax.{Ty, Fn, Args, Dict, dcons, dnil, a_type, named, erased, method, w64, ty_struct, ty_ptr, ty_int, tcons, tnil}
+use mir.Syntax.{Ty, Fn, Args, Dict, dcons, dnil, a_type, named, erased, method, w64, ty_struct}
+use mir.Syntax.{ty_ptr, ty_int, tcons, tnil}
 use mir.MapTy.{inst_fn}
 use mir.Val.{vptr, vint}
 use prog.Memory.{Memory}
@@ -16,7 +18,8 @@ use contract.Monad.{Fun, fact, fact_i}
 use contract.BorrowLft.{◌⊑◌, ⊑_meet, ⊑_refl, ⊑_static}
 use contract.Running.{tables, tables_of}
 use types.Logic.{Logic}
-use types.Kit.{‵, raw, ◌⊛◌, some, later, ◌$◌, ◌∵◌, !, qed, done, move, keep, drop, use0, use1, use2, split, split3, join, fsplit, fsplit3, fjoin, fpick, fpack, pick, await, suffices}
+use types.Kit.{‵, raw, ◌⊛◌, some, later, ◌$◌, ◌∵◌, !, qed, done, move, keep, drop, use0, use1, use2}
+use types.Kit.{split, split3, join, fsplit, fsplit3, fjoin, fpick, fpack, pick, await, suffices}
 use types.Run.{enter, addr, stop, no_more, and_then, returns}
 use types.ByLocal.{alloc_all, pass_all, free_all, look_at, get, through, sets, lands_as}
 use denote.Builtin.{usize}
@@ -39,8 +42,10 @@ use denote.Triple.Clauses.{Clauses, Ended, Lasts, lasts}
 use denote.Triple.Spec.{triple_of}
 use denote.Triple.Statement.{Contract, Triple}
 use denote.Triple.Table.{entered}
-use denote.Triple.Walked.{Stays, stay_dropped, gave_ref, walk_of, ends_at, walked, Goes-dropped, Goes-spent_ref, Goes-gave_ref, walk_Meets}
-use Rattle.std.specs.Prelude.{Option, Result, IfSome, OnSome, IfNone, IfOk, IsSome, IsTrue, MatchOption, MatchResult, length, ◌≤◌, ⊤}
+use denote.Triple.Walked.{Stays, stay_dropped, gave_ref, walk_of, ends_at, walked, Goes-dropped}
+use denote.Triple.Walked.{Goes-spent_ref, Goes-gave_ref, walk_Meets}
+use Rattle.std.specs.Prelude.{Option, Result, IfSome, OnSome, IfNone, IfOk, IsSome, IsTrue}
+use Rattle.std.specs.Prelude.{MatchOption, MatchResult, length, ◌≤◌, ⊤}
 use Rattle.std.specs.Io.BufRead.{Rests}
 use Rattle.std.specs.contracts.result.Result as RES
 use Rattle.std.proofs.result.Result.TheLaws as RESL
@@ -72,7 +77,8 @@ SF κ = shr_slice_field (nm 0 κ) u8-field.row tt
 
 slice_laws : (κ : Lft) → Laws (SF κ).row
 slice_laws κ = of_field (SF κ) (shr_slice_laws (nm 0 κ) u8-field.row tt) refl
-    (copy_shared (SF κ) (shr_slice_copy (nm 0 κ) u8-field.row tt (of_field u8-field u8-laws refl (copy_shared u8-field u8-copy)).shr_laws))
+    (copy_shared (SF κ) (shr_slice_copy (nm 0 κ) u8-field.row tt
+    (of_field u8-field u8-laws refl (copy_shared u8-field u8-copy)).shr_laws))
 
 -- the shown bytes, as `part` is called at them
 abbrev slice_ty : Ty
@@ -85,8 +91,10 @@ abbrev At : Lft → RattleType
 At κ = arg slice_ty yes (EF κ).row
 
 at_laws : (κ : Lft) → Laws (At κ)
-at_laws κ = arg_laws slice_ty yes (EF κ).row (of_field (EF κ) (shr_slice_laws (record { mir = erased; lft = κ }) u8-field.row tt) refl
-    (copy_shared (EF κ) (shr_slice_copy (record { mir = erased; lft = κ }) u8-field.row tt (of_field u8-field u8-laws refl (copy_shared u8-field u8-copy)).shr_laws))) refl
+at_laws κ = arg_laws slice_ty yes (EF κ).row
+    (of_field (EF κ) (shr_slice_laws (record { mir = erased; lft = κ }) u8-field.row tt) refl
+    (copy_shared (EF κ) (shr_slice_copy (record { mir = erased; lft = κ }) u8-field.row tt
+    (of_field u8-field u8-laws refl (copy_shared u8-field u8-copy)).shr_laws))) refl
 
 at_lives : (κ : Lft) → κ ⊑ (At κ).lives
 at_lives κ = search (⊑_meet, ⊑_refl, ⊑_static)
@@ -94,13 +102,17 @@ at_lives κ = search (⊑_meet, ⊑_refl, ⊑_static)
 abbrev FR : RattleType → Lft → RattleType
 FR E κ = RES.the_row (SF κ).row (param 1 E)
 
-filled_lawful : (E : RattleType) → Laws E → {M : Type 1} {𝓤 : Ura M} (𝓛 : Logic 𝓤) (κ : Lft) → Lawful 𝓛 (FR E κ)
-filled_lawful E LE 𝓛 κ = loose_lawful (RES.the_type (SF κ).row (param 1 E)) (RESL.the_loose (SF κ).row (param 1 E) (slice_laws κ) (param_laws 1 E LE)) tt 𝓛
+filled_lawful : (E : RattleType) → Laws E → {M : Type 1} {𝓤 : Ura M} (𝓛 : Logic 𝓤) (κ : Lft)
+    → Lawful 𝓛 (FR E κ)
+filled_lawful E LE 𝓛 κ = loose_lawful (RES.the_type (SF κ).row (param 1 E))
+    (RESL.the_loose (SF κ).row (param 1 E) (slice_laws κ) (param_laws 1 E LE)) tt 𝓛
 
 shown_lawful : {M : Type 1} {𝓤 : Ura M} (𝓛 : Logic 𝓤) (κ : Lft) → Lawful 𝓛 (OPT.the_row (SF κ).row)
-shown_lawful 𝓛 κ = loose_lawful (OPT.the_type (SF κ).row) (OPTL.the_loose (SF κ).row (slice_laws κ)) tt 𝓛
+shown_lawful 𝓛 κ = loose_lawful (OPT.the_type (SF κ).row) (OPTL.the_loose (SF κ).row (slice_laws κ))
+    tt 𝓛
 
-module _ (R E : RattleType) (gS : Source.Ghosts R.Denot E.Denot) (dS : Dict) (gD : Debug.Ghosts E.Denot) (dD : Dict) (dX : Dict) where
+module _ (R E : RattleType) (gS : Source.Ghosts R.Denot E.Denot) (dS : Dict)
+    (gD : Debug.Ghosts E.Denot) (dD : Dict) (dX : Dict) where
   abbrev args : Args
   args = bounded (a_type ∷ a_type ∷ []) (R, (E, tt)) (dcons dS (dcons dD (dcons dX dnil)))
 
@@ -125,19 +137,27 @@ module _ (R E : RattleType) (gS : Source.Ghosts R.Denot E.Denot) (dS : Dict) (gD
   ended = F.ended R E gS dS gD dD dX
 
   abbrev stayed : Stays ended.signature.params ended.kept
-  stayed = (stay_dropped (mut_ref_to (0 ∷ []) tt (plain (λ _. P))) no, (stay_dropped (plain (λ _. usize)) yes, (gave_ref (1 ∷ []) tt (plain (λ _. O)), tt)))
+  stayed = (
+    stay_dropped (mut_ref_to (0 ∷ []) tt (plain (λ _. P))) no,
+    (stay_dropped (plain (λ _. usize)) yes, (gave_ref (1 ∷ []) tt (plain (λ _. O)), tt)),
+  )
 
-  module _ {M' : Type 1} {𝓤 : Ura M'} (𝓛 : Logic 𝓤) (at_mem : Memory → SProp 𝓤) (run : Routine → Fun 𝓤) where
+  module _ {M' : Type 1} {𝓤 : Ura M'} (𝓛 : Logic 𝓤) (at_mem : Memory → SProp 𝓤)
+      (run : Routine → Fun 𝓤) where
     abbrev show_c : Contract 𝓤
     show_c = triple_of 𝓛 (M.signature R E) (M.spec R E gS dS gD dD dX 𝓛 at_mem run)
 
     abbrev part_c : Lft → Contract 𝓤
     part_c κ = triple_of 𝓛 (G.signature (At κ) Q) (G.spec (At κ) Q dX 𝓛 at_mem run)
 
-module _ (R E : RattleType) (gS : Source.Ghosts R.Denot E.Denot) (dS : Dict) (gD : Debug.Ghosts E.Denot) (dD : Dict) (dX : Dict) (LE : Laws E)
-    {M' : Type 1} {𝓤 : Ura M'} (𝓛 : Logic 𝓤) (at_mem : Memory → SProp 𝓤) (run : Routine → Fun 𝓤) (𝓣 : Tables 𝓤 𝓛.H)
-    (shows_it : Triple 𝓤 (𝓣.C (method dS 0 (layouts [] tt))) (show_c R E gS dS gD dD dX 𝓛 at_mem run))
-    (parts : (κ : Lft) → Triple 𝓤 (𝓣.C (#part (part_args R E gS dS gD dD dX))) (part_c R E gS dS gD dD dX 𝓛 at_mem run κ)) where
+module _ (R E : RattleType) (gS : Source.Ghosts R.Denot E.Denot) (dS : Dict)
+    (gD : Debug.Ghosts E.Denot) (dD : Dict) (dX : Dict) (LE : Laws E)
+    {M' : Type 1} {𝓤 : Ura M'} (𝓛 : Logic 𝓤) (at_mem : Memory → SProp 𝓤) (run : Routine → Fun 𝓤)
+    (𝓣 : Tables 𝓤 𝓛.H)
+    (shows_it : Triple 𝓤 (𝓣.C (method dS 0 (layouts [] tt))) (show_c R E gS dS gD dD dX 𝓛 at_mem
+    run))
+    (parts : (κ : Lft) → Triple 𝓤 (𝓣.C (#part (part_args R E gS dS gD dD dX)))
+    (part_c R E gS dS gD dD dX 𝓛 at_mem run κ)) where
   open 𝓛 use {H, A}
 
   abbrev held : Clauses 𝓤 (ended R E gS dS gD dD dX)
@@ -153,7 +173,16 @@ module _ (R E : RattleType) (gS : Source.Ghosts R.Denot E.Denot) (dS : Dict) (gD
   Bound = (walk_of 𝓛 (ended R E gS dS gD dD dX) (stayed R E gS dS gD dD dX) held).Ghost
 
   abbrev at : Bound → Bound
-  at y = ((y.0.0, y.0.1, y.0.2, y.0.3, (mut_vals y.0.3.0, (vint w64 y.0.3.1.0 ∷ [], (mut_vals y.0.3.1.1.0, tt)))), y.1)
+  at y = (
+    (
+      y.0.0,
+      y.0.1,
+      y.0.2,
+      y.0.3,
+      (mut_vals y.0.3.0, (vint w64 y.0.3.1.0 ∷ [], (mut_vals y.0.3.1.1.0, tt))),
+    ),
+    y.1,
+  )
 
   abbrev Front : ℕ → R.Denot → Result (Bor (List ℕ)) E.Denot → Type 0
   Front want x r = IfOk r (λ shown. Told (gS.view x).told (IsFront want shown.now))
@@ -162,90 +191,177 @@ module _ (R E : RattleType) (gS : Source.Ghosts R.Denot E.Denot) (dS : Dict) (gD
   Bounded x r = IfOk r (λ shown. length shown.now ≤ (gS.view x).bound)
 
   abbrev Whole : ℕ → R.Denot → Result (Bor (List ℕ)) E.Denot → Type 0
-  Whole want x r = IsTrue (gS.view x).lends_whole → IfOk r (λ shown. Told (gS.view x).told (IsEnough want shown.now))
+  Whole want x r = IsTrue (gS.view x).lends_whole
+      → IfOk r (λ shown. Told (gS.view x).told (IsEnough want shown.now))
 
   abbrev Left : R.Denot → R.Denot → Result (Bor (List ℕ)) E.Denot → Type 0
-  Left x new r = MatchResult r (λ shown. Shows shown.now (gS.view x) (gS.view new)) (λ _. Breaks (gS.view x) (gS.view new))
+  Left x new r = MatchResult r (λ shown. Shows shown.now (gS.view x) (gS.view new))
+      (λ _. Breaks (gS.view x) (gS.view new))
 
   abbrev LeftBy : R.Denot → R.Denot → Option (Bor (List ℕ)) → Type 0
-  LeftBy x new t = MatchOption t (Breaks (gS.view x) (gS.view new)) (λ shown. Shows shown.now (gS.view x) (gS.view new))
+  LeftBy x new t = MatchOption t (Breaks (gS.view x) (gS.view new))
+      (λ shown. Shows shown.now (gS.view x) (gS.view new))
 
   walk : (y : Bound) → y.0.3.1.0 < 2 ^ 64
       → ent 𝓤 ((walk_of 𝓛 (ended R E gS dS gD dD dX) (stayed R E gS dS gD dD dX) held).pre (at y))
-      (WpFn 𝓤 H 𝓣.C 𝓣.Λ (fn' R E gS dS gD dD dX) (vptr y.0.3.0.ref_ptr.0 y.0.3.0.ref_ptr.1 ∷ vint w64 y.0.3.1.0 ∷ vptr y.0.3.1.1.0.ref_ptr.0 y.0.3.1.1.0.ref_ptr.1 ∷ []) ((walk_of 𝓛 (ended R E gS dS gD dD dX) (stayed R E gS dS gD dD dX) held).post (at y)))
+      (WpFn 𝓤 H 𝓣.C 𝓣.Λ (fn' R E gS dS gD dD dX) (vptr y.0.3.0.ref_ptr.0 y.0.3.0.ref_ptr.1 ∷ vint
+      w64 y.0.3.1.0 ∷ vptr y.0.3.1.1.0.ref_ptr.0 y.0.3.1.1.0.ref_ptr.1 ∷ [])
+      ((walk_of 𝓛 (ended R E gS dS gD dD dX) (stayed R E gS dS gD dD dX) held).post (at y)))
   unfolding such_by follows_by
   walk y fits =
-      let κs = y.0.0 in let qs = y.0.1 in let self = y.0.3.0 in let want = y.0.3.1.0 in let slot = y.0.3.1.1.0 in let x = self.now in
+      let κs = y.0.0 in let qs = y.0.1 in let self = y.0.3.0 in let want = y.0.3.1.0 in
+      let slot = y.0.3.1.1.0 in let x = self.now in
       let κ0 = κs.0 in let κ1 = κs.1.0 in let κ2 = κs.1.1.0 in let κ3 = κs.1.1.1.0 in
       let q0 = qs.0 in let q1 = qs.1.0 in let q2 = qs.1.1.0 in let q3 = qs.1.1.1.0 in
-      let vs0 = vptr self.ref_ptr.0 self.ref_ptr.1 ∷ [] in let vs2 = vptr slot.ref_ptr.0 slot.ref_ptr.1 ∷ [] in
+      let vs0 = vptr self.ref_ptr.0 self.ref_ptr.1 ∷ [] in let vs2 = vptr slot.ref_ptr.0
+      slot.ref_ptr.1 ∷ [] in
       qed 𝓛 (((‵ (flft κ0 q0) ⊛ ‵ (flft κ1 q1) ⊛ ‵ (flft κ2 q2) ⊛ ‵ (flft κ3 q3) ⊛ ‵ ftrue)
-      ⊛ ‵ (owns (MutRef (named 0) κ0 P' ∷ usize ∷ MutRef (named 1) κ1 O' ∷ []) (self, (want, (slot, tt))) (vs0, (vint w64 want ∷ [], (vs2, tt)))))
+      ⊛ ‵ (owns (MutRef (named 0) κ0 P' ∷ usize ∷ MutRef (named 1) κ1 O' ∷ [])
+      (self, (want, (slot, tt))) (vs0, (vint w64 want ∷ [], (vs2, tt)))))
       ∷ (raw (fact 𝓤 (κ2 ⊑ R.lives)) ⊛ raw (fact 𝓤 (κ3 ⊑ E.lives)) ⊛ ‵ ftrue) ∷ []) ∵
-      enter ! 𝓣.C 𝓣.Λ (fn' R E gS dS gD dD dX) _ _ $ alloc_all ! (λ ls. pass_all ! refl ((tt, tt), ((tt, record { fits = fits }), ((tt, tt), tt))) $
+      enter ! 𝓣.C 𝓣.Λ (fn' R E gS dS gD dD dX) _ _ $
+      alloc_all ! (λ ls. pass_all ! refl
+      ((tt, tt), ((tt, record { fits = fits }), ((tt, tt), tt))) $
       sets ! (addr ! (through ! refl (stop !))) refl (tt, tt) $
-      split ! $ move ! (2 ∷ []) $ split3 ! $ heard ! (κ2 ⊑ R.lives) (λ inR. heard ! (κ3 ⊑ E.lives) (λ inE. drop ! $
+      split ! $ move ! (2 ∷ []) $ split3 ! $
+      heard ! (κ2 ⊑ R.lives) (λ inR. heard ! (κ3 ⊑ E.lives) (λ inE. drop ! $
       move ! (1 ∷ []) $ fsplit3 ! $ move ! (2 ∷ []) $ fsplit ! $ move ! (1 ∷ []) $ drop ! $
       -- [the slot; the reader; want; the tokens]
       move ! (3 ∷ []) $ split3 ! $ move ! (2 ∷ []) $ split ! $
       -- [κ2; κ3 and true; κ0; κ1; the slot; the reader; want]
       join ! $ move ! (1 ∷ 0 ∷ []) $ join ! $
-      nothing ! $ move ! (5 ∷ 0 ∷ []) $ join ! $ move ! (4 ∷ 0 ∷ []) $ join ! $ move ! (1 ∷ 0 ∷ []) $ join ! $
+      nothing ! $ move ! (5 ∷ 0 ∷ []) $ join ! $ move ! (4 ∷ 0 ∷ []) $ join ! $
+      move ! (1 ∷ 0 ∷ []) $ join ! $
       nothing ! $
-      use0 𝓛 (raw (fact 𝓤 (κ3 ⊑ E.lives))) (fact_i 𝓤 (κ3 ⊑ E.lives) (emp 𝓤) inE) $ join ! $ use0 𝓛 (raw (fact 𝓤 (κ2 ⊑ R.lives))) (fact_i 𝓤 (κ2 ⊑ R.lives) (emp 𝓤) inR) $ join ! $ move ! (1 ∷ 0 ∷ []) $
+      use0 𝓛 (raw (fact 𝓤 (κ3 ⊑ E.lives))) (fact_i 𝓤 (κ3 ⊑ E.lives) (emp 𝓤) inE) $ join ! $
+      use0 𝓛 (raw (fact 𝓤 (κ2 ⊑ R.lives))) (fact_i 𝓤 (κ2 ⊑ R.lives) (emp 𝓤) inR) $ join ! $
+      move ! (1 ∷ 0 ∷ []) $
       let c1 = show_c R E gS dS gD dD dX 𝓛 at_mem run in
-      let z1 : c1.Ghost = (((κ0, (κ2, (κ3, tt))), (q0, (q2, (q3, tt))), (y.0.2.0, tt), (self, (want, tt)), (vs0, (vint w64 want ∷ [], tt))), tt) in
+      let z1 : c1.Ghost = (
+        (
+          (κ0, (κ2, (κ3, tt))),
+          (q0, (q2, (q3, tt))),
+          (y.0.2.0, tt),
+          (self, (want, tt)),
+          (vs0, (vint w64 want ∷ [], tt)),
+        ),
+        tt,
+      ) in
       use2 𝓛 (raw (c1.pre z1)) (id⊢ 𝓤 _) $
-      calls_at ! (fm_of 𝓤 H 𝓛.laws 𝓣) c1 shows_it z1 (and_then ! (get ! refl) (and_then ! (get ! refl) (no_more !))) (λ v1.
-      use1 𝓛 (later (some (λ (r : Result (Bor (List ℕ)) E.Denot). ((‵ (flft κ0 q0) ⊛ ‵ (flft κ2 q2) ⊛ ‵ (flft κ3 q3) ⊛ ‵ ftrue) ⊛ ‵ ((FR E κ0).own_val r (v1 ∷ []))) ⊛
-      some (λ (ws : Lasts (M.ended R E gS dS gD dD dX) z1.0.0 z1.0.3). ‵ (lasts (M.ended R E gS dS gD dD dX) z1.0.0 z1.0.3 ws)
-      ⊛ raw (fact 𝓤 (Front want x r)) ⊛ raw (fact 𝓤 (Bounded x r)) ⊛ raw (fact 𝓤 (Whole want x r)) ⊛ ‵ (Rests P' self (λ new. Left x new r)))))) (id⊢ 𝓤 _) $
-      await ! tt $ pick ! (λ r. split ! $ split ! $ move ! (1 ∷ []) $ peeks ! (FR E κ0) _ (shows 𝓛 (FR E κ0)) r (v1 ∷ []) (λ is.
+      calls_at ! (fm_of 𝓤 H 𝓛.laws 𝓣) c1 shows_it z1
+      (and_then ! (get ! refl) (and_then ! (get ! refl) (no_more !))) (λ v1.
+      use1 𝓛 (later (some (λ (r : Result (Bor (List ℕ)) E.Denot).
+      ((‵ (flft κ0 q0) ⊛ ‵ (flft κ2 q2) ⊛ ‵ (flft κ3 q3) ⊛ ‵ ftrue) ⊛ ‵
+      ((FR E κ0).own_val r (v1 ∷ []))) ⊛
+      some (λ (ws : Lasts (M.ended R E gS dS gD dD dX) z1.0.0 z1.0.3). ‵
+      (lasts (M.ended R E gS dS gD dD dX) z1.0.0 z1.0.3 ws)
+      ⊛ raw (fact 𝓤 (Front want x r)) ⊛ raw (fact 𝓤 (Bounded x r)) ⊛ raw (fact 𝓤 (Whole want x r)) ⊛
+      ‵ (Rests P' self (λ new. Left x new r)))))) (id⊢ 𝓤 _) $
+      await ! tt $ pick ! (λ r. split ! $ split ! $ move ! (1 ∷ []) $
+      peeks ! (FR E κ0) _ (shows 𝓛 (FR E κ0)) r (v1 ∷ []) (λ is.
       lands_as ! refl refl ((filled_lawful E LE 𝓛 κ0).typed r (v1 ∷ []) is).0 $
-      move ! (2 ∷ []) $ pick ! (λ ws. split ! $ drop ! $ split3 ! $ heard ! (Front want x r) (λ front. heard ! (Bounded x r) (λ bounded. split ! $ heard ! (Whole want x r) (λ whole. fpick ! (λ s.
+      move ! (2 ∷ []) $ pick ! (λ ws. split ! $ drop ! $ split3 ! $
+      heard ! (Front want x r) (λ front. heard ! (Bounded x r) (λ bounded. split ! $
+      heard ! (Whole want x r) (λ whole. fpick ! (λ s.
       -- [resγ; the result; the tokens; κ1; the slot]
       sets ! (addr ! (through ! refl (stop !))) refl (tt, tt) $
       move ! (2 ∷ []) $ split3 ! $ move ! (0 ∷ 2 ∷ []) $ join ! $ move ! (4 ∷ 0 ∷ []) $ join ! $
-      nothing ! $ move ! (5 ∷ 0 ∷ []) $ join ! $ move ! (4 ∷ 0 ∷ []) $ join ! $ move ! (1 ∷ 0 ∷ []) $ join ! $
-      nothing ! $ use0 𝓛 (raw (fact 𝓤 (κ3 ⊑ E.lives))) (fact_i 𝓤 (κ3 ⊑ E.lives) (emp 𝓤) inE) $ join ! $ use0 𝓛 (raw (fact 𝓤 (κ0 ⊑ (At κ0).lives))) (fact_i 𝓤 (κ0 ⊑ (At κ0).lives) (emp 𝓤) (at_lives κ0)) $ join ! $ move ! (1 ∷ 0 ∷ []) $
+      nothing ! $ move ! (5 ∷ 0 ∷ []) $ join ! $ move ! (4 ∷ 0 ∷ []) $ join ! $
+      move ! (1 ∷ 0 ∷ []) $ join ! $
+      nothing ! $ use0 𝓛 (raw (fact 𝓤 (κ3 ⊑ E.lives))) (fact_i 𝓤 (κ3 ⊑ E.lives) (emp 𝓤) inE) $
+      join ! $ use0 𝓛 (raw (fact 𝓤 (κ0 ⊑ (At κ0).lives))) (fact_i 𝓤 (κ0 ⊑ (At κ0).lives) (emp 𝓤)
+      (at_lives κ0)) $ join ! $ move ! (1 ∷ 0 ∷ []) $
       let c2 = part_c R E gS dS gD dD dX 𝓛 at_mem run κ0 in
-      let z2 : c2.Ghost = (((κ1, (κ0, (κ3, tt))), (q1, (q0, (q3, tt))), (y.0.2.1.0, tt), (r, (slot, tt)), (v1 ∷ [], (vs2, tt))), tt) in
+      let z2 : c2.Ghost = (
+        (
+          (κ1, (κ0, (κ3, tt))),
+          (q1, (q0, (q3, tt))),
+          (y.0.2.1.0, tt),
+          (r, (slot, tt)),
+          (v1 ∷ [], (vs2, tt)),
+        ),
+        tt,
+      ) in
       use2 𝓛 (raw (c2.pre z2)) (id⊢ 𝓤 _) $
-      calls_at ! (fm_of 𝓤 H 𝓛.laws 𝓣) c2 (parts κ0) z2 (and_then ! (get ! refl) (and_then ! (get ! refl) (no_more !))) (λ v2.
-      use1 𝓛 (later (some (λ (t : Option (Bor (List ℕ))). ((‵ (flft κ1 q1) ⊛ ‵ (flft κ0 q0) ⊛ ‵ (flft κ3 q3) ⊛ ‵ ftrue) ⊛ ‵ ((OPT.the_row (SF κ0).row).own_val t (v2 ∷ []))) ⊛
-      some (λ (ws2 : Lasts (G.ended (At κ0) (Q R E gS dS gD dD dX) dX) z2.0.0 z2.0.3). ‵ (lasts (G.ended (At κ0) (Q R E gS dS gD dD dX) dX) z2.0.0 z2.0.3 ws2) ⊛ raw (fact 𝓤 (Parts r slot.now ws2.1.0 t)))))) (id⊢ 𝓤 _) $
-      await ! tt $ pick ! (λ t. split ! $ split ! $ move ! (1 ∷ []) $ peeks ! (OPT.the_row (SF κ0).row) _ (shows 𝓛 (OPT.the_row (SF κ0).row)) t (v2 ∷ []) (λ is2.
+      calls_at ! (fm_of 𝓤 H 𝓛.laws 𝓣) c2 (parts κ0) z2
+      (and_then ! (get ! refl) (and_then ! (get ! refl) (no_more !))) (λ v2.
+      use1 𝓛 (later (some (λ (t : Option (Bor (List ℕ))).
+      ((‵ (flft κ1 q1) ⊛ ‵ (flft κ0 q0) ⊛ ‵ (flft κ3 q3) ⊛ ‵ ftrue) ⊛ ‵
+      ((OPT.the_row (SF κ0).row).own_val t (v2 ∷ []))) ⊛
+      some (λ (ws2 : Lasts (G.ended (At κ0) (Q R E gS dS gD dD dX) dX) z2.0.0 z2.0.3). ‵
+      (lasts (G.ended (At κ0) (Q R E gS dS gD dD dX) dX) z2.0.0 z2.0.3 ws2) ⊛ raw
+      (fact 𝓤 (Parts r slot.now ws2.1.0 t)))))) (id⊢ 𝓤 _) $
+      await ! tt $ pick ! (λ t. split ! $ split ! $ move ! (1 ∷ []) $
+      peeks ! (OPT.the_row (SF κ0).row) _ (shows 𝓛 (OPT.the_row (SF κ0).row)) t (v2 ∷ [])
+      (λ is2.
       lands_as ! refl refl ((shown_lawful 𝓛 κ0).typed t (v2 ∷ []) is2).0 $
-      move ! (2 ∷ []) $ pick ! (λ ws2. split ! $ move ! (1 ∷ []) $ heard ! (Parts r slot.now ws2.1.0 t) (λ parted.
+      move ! (2 ∷ []) $ pick ! (λ ws2. split ! $ move ! (1 ∷ []) $
+      heard ! (Parts r slot.now ws2.1.0 t) (λ parted.
       -- [last values; the result; the tokens; κ2; resγ]
       returns ! (look_at ! 0 refl) $ free_all ! refl $
       let same = is_option r slot.now ws2.1.0 t parted in
       let shown_front = λ (sh : Bor (List ℕ)). Told (gS.view x).told (IsFront want sh.now) in
       let shown_enough = λ (sh : Bor (List ℕ)). Told (gS.view x).told (IsEnough want sh.now) in
       let shown_bounded = λ (sh : Bor (List ℕ)). length sh.now ≤ (gS.view x).bound in
-      fsplit3 ! $ move ! (1 ∷ 2 ∷ []) $ fjoin ! $ nothing ! $ fjoin ! $ nothing ! $ fjoin ! $ move ! (0 ∷ 2 ∷ []) $ join ! $
-      move ! (2 ∷ []) $ split3 ! $ move ! (1 ∷ 0 ∷ []) $ move ! (5 ∷ 2 ∷ []) $ join ! $ move ! (2 ∷ 0 ∷ []) $ join ! $ move ! (1 ∷ 0 ∷ []) $ join ! $ join ! $
+      fsplit3 ! $ move ! (1 ∷ 2 ∷ []) $ fjoin ! $ nothing ! $ fjoin ! $ nothing ! $ fjoin ! $
+      move ! (0 ∷ 2 ∷ []) $ join ! $
+      move ! (2 ∷ []) $ split3 ! $ move ! (1 ∷ 0 ∷ []) $ move ! (5 ∷ 2 ∷ []) $ join ! $
+      move ! (2 ∷ 0 ∷ []) $ join ! $ move ! (1 ∷ 0 ∷ []) $ join ! $ join ! $
       move ! (2 ∷ []) $
-      fpack ! ((u : (P'.Denot → P'.Denot) × P'.Denot) × (P'.Denot → ⊤) × LeftBy x u.1 t) (λ u. fres self.ghost_name (P'.coded.code u.0.1))
-      (s.0, (λ _. tt), subst (LeftBy x s.0.1) (sym same) (leaves (Breaks (gS.view x) (gS.view s.0.1)) (λ shown. Shows shown.now (gS.view x) (gS.view s.0.1)) r s.2)) $
-      use0 𝓛 (raw (fact 𝓤 (IfNone t (IsSome ws2.1.0)))) (fact_i 𝓤 (IfNone t (IsSome ws2.1.0)) (emp 𝓤) (error_kept r slot.now ws2.1.0 t parted)) $ join ! $
-      use0 𝓛 (raw (fact 𝓤 (OnSome t (ws2.1.0 ≡ slot.now)))) (fact_i 𝓤 (OnSome t (ws2.1.0 ≡ slot.now)) (emp 𝓤) (slot_kept r slot.now ws2.1.0 t parted)) $ join ! $
-      use0 𝓛 (raw (fact 𝓤 (IsTrue (gS.view x).lends_whole → IfSome t shown_enough))) (fact_i 𝓤 (IsTrue (gS.view x).lends_whole → IfSome t shown_enough) (emp 𝓤) (λ l. subst (λ u. IfSome u shown_enough) (sym same) (at_option shown_enough r (whole l)))) $ join ! $
-      use0 𝓛 (raw (fact 𝓤 (IfSome t shown_bounded))) (fact_i 𝓤 (IfSome t shown_bounded) (emp 𝓤) (subst (λ u. IfSome u shown_bounded) (sym same) (at_option shown_bounded r bounded))) $ join ! $
-      use0 𝓛 (raw (fact 𝓤 (IfSome t shown_front))) (fact_i 𝓤 (IfSome t shown_front) (emp 𝓤) (subst (λ u. IfSome u shown_front) (sym same) (at_option shown_front r front))) $ join ! $
+      fpack ! ((u : (P'.Denot → P'.Denot) × P'.Denot) × (P'.Denot → ⊤) × LeftBy x u.1 t)
+      (λ u. fres self.ghost_name (P'.coded.code u.0.1)) (
+        s.0,
+        (λ _. tt),
+        subst (LeftBy x s.0.1) (sym same)
+            (leaves (Breaks (gS.view x) (gS.view s.0.1)) (λ shown. Shows shown.now (gS.view x)
+            (gS.view s.0.1)) r s.2),
+      ) $
+      use0 𝓛 (raw (fact 𝓤 (IfNone t (IsSome ws2.1.0)))) (fact_i 𝓤 (IfNone t (IsSome ws2.1.0))
+      (emp 𝓤) (error_kept r slot.now ws2.1.0 t parted)) $ join ! $
+      use0 𝓛 (raw (fact 𝓤 (OnSome t (ws2.1.0 ≡ slot.now))))
+      (fact_i 𝓤 (OnSome t (ws2.1.0 ≡ slot.now)) (emp 𝓤) (slot_kept r slot.now ws2.1.0 t parted))
+      $ join ! $
+      use0 𝓛 (raw (fact 𝓤 (IsTrue (gS.view x).lends_whole → IfSome t shown_enough)))
+      (fact_i 𝓤 (IsTrue (gS.view x).lends_whole → IfSome t shown_enough) (emp 𝓤)
+      (λ l. subst (λ u. IfSome u shown_enough) (sym same) (at_option shown_enough r (whole l))))
+      $ join ! $
+      use0 𝓛 (raw (fact 𝓤 (IfSome t shown_bounded))) (fact_i 𝓤 (IfSome t shown_bounded) (emp 𝓤)
+      (subst (λ u. IfSome u shown_bounded) (sym same) (at_option shown_bounded r bounded))) $
+      join ! $
+      use0 𝓛 (raw (fact 𝓤 (IfSome t shown_front))) (fact_i 𝓤 (IfSome t shown_front) (emp 𝓤)
+      (subst (λ u. IfSome u shown_front) (sym same) (at_option shown_front r front))) $ join ! $
       keep ! (1 ∷ 0 ∷ []) $
-      suffices ! _ (ends_at 𝓛 (ended R E gS dS gD dD dX) (stayed R E gS dS gD dD dX) held (at y) v2 t (tt, (tt, (ws2.1.0, tt))) (tt, (tt, (tt, tt)))) $
+      suffices ! _ (ends_at 𝓛 (ended R E gS dS gD dD dX) (stayed R E gS dS gD dD dX) held (at y) v2
+      t (tt, (tt, (ws2.1.0, tt))) (tt, (tt, (tt, tt)))) $
       join ! $ done !))))))))))))))))
 
 pub look_spec : {M' : Type 1} → stated.statement M'
 unfolding tables_of
 look_spec 𝓤 𝓛 𝓜 𝓡 wired R E L LE gS dS gD dD dX mS mD mX =
     let 𝓣 : Tables 𝓤 𝓛.H = tables_of 𝓤 𝓛.H 𝓜 (tables 𝓤 𝓛.H 𝓜 𝓡 𝓡.env) in
-    let parts = λ (κ : Lft). G-thm.met 𝓤 𝓛 𝓜 𝓡 (code.calls-cbor4ii_rw::ask::part 𝓡.env wired) (At κ) (Q R E gS dS gD dD dX) (at_laws κ) (arg_laws (layout E) yes (param 1 E) (param_laws 1 E LE) refl) dX mX in
+    let parts = λ (κ : Lft). G-thm.met 𝓤 𝓛 𝓜 𝓡 (code.calls-cbor4ii_rw::ask::part 𝓡.env wired) (At κ)
+    (Q R E gS dS gD dD dX) (at_laws κ) (arg_laws (layout E) yes (param 1 E) (param_laws 1 E LE)
+    refl) dX mX in
     let shows_it = mS.show dX in
     let held' = held R E gS dS gD dD dX LE 𝓛 𝓜.mem 𝓡.returns 𝓣 shows_it parts in
-    let end' = ended R E gS dS gD dD dX in let stay' = stayed R E gS dS gD dD dX in let f = fn' R E gS dS gD dD dX in
-    entered 𝓤 𝓛.H (triple_of 𝓛 end'.signature (F.spec R E gS dS gD dD dX 𝓛 𝓜.mem 𝓡.returns)) 𝓣.C 𝓣.Λ (#self (args R E gS dS gD dD dX)) f (code.unfolded 𝓤 𝓛.H 𝓜 𝓡 wired (R, (E, tt)) dS dD dX)
-    (walk_Meets 𝓛 end' stay' (Goes-spent_ref 𝓛 4 (0 ∷ []) tt (plain (λ κs. P R E gS dS gD dD dX)), (Goes-dropped 𝓛 4 (plain (λ _. usize)) yes (λ κs x f. refl), (Goes-gave_ref 𝓛 4 1 tt (plain (λ κs. O R E gS dS gD dD dX)), tt))) held' (WpFn 𝓤 𝓛.H 𝓣.C 𝓣.Λ f) (WpFn-mono 𝓤 𝓛.H 𝓛.laws 𝓣 f)
-    (walked 𝓛 end' stay' held' (WpFn 𝓤 𝓛.H 𝓣.C 𝓣.Λ f) (λ κs. (mut_vals, (uint_vals w64, (mut_vals, tt)))) (λ κs. (mut_Tells (named 0) κs.0 (P R E gS dS gD dD dX), (uint_Tells w64, (mut_Tells (named 1) κs.1.0 (O R E gS dS gD dD dX), tt))))
-    (λ κs qs bounds a g' are. walk R E gS dS gD dD dX LE 𝓛 𝓜.mem 𝓡.returns 𝓣 shows_it parts ((κs, qs, bounds, a, (mut_vals a.0, (vint w64 a.1.0 ∷ [], (mut_vals a.1.1.0, tt)))), g') are.1.0.1)))
+    let end' = ended R E gS dS gD dD dX in let stay' = stayed R E gS dS gD dD dX in
+    let f = fn' R E gS dS gD dD dX in
+    entered 𝓤 𝓛.H (triple_of 𝓛 end'.signature (F.spec R E gS dS gD dD dX 𝓛 𝓜.mem 𝓡.returns)) 𝓣.C 𝓣.Λ
+    (#self (args R E gS dS gD dD dX)) f (code.unfolded 𝓤 𝓛.H 𝓜 𝓡 wired (R, (E, tt)) dS dD dX)
+    (walk_Meets 𝓛 end' stay' (
+      Goes-spent_ref 𝓛 4 (0 ∷ []) tt (plain (λ κs. P R E gS dS gD dD dX)),
+      (
+        Goes-dropped 𝓛 4 (plain (λ _. usize)) yes (λ κs x f. refl),
+        (Goes-gave_ref 𝓛 4 1 tt (plain (λ κs. O R E gS dS gD dD dX)), tt),
+      ),
+    ) held'
+    (WpFn 𝓤 𝓛.H 𝓣.C 𝓣.Λ f) (WpFn-mono 𝓤 𝓛.H 𝓛.laws 𝓣 f)
+    (walked 𝓛 end' stay' held' (WpFn 𝓤 𝓛.H 𝓣.C 𝓣.Λ f)
+    (λ κs. (mut_vals, (uint_vals w64, (mut_vals, tt))))
+    (λ κs. (
+      mut_Tells (named 0) κs.0 (P R E gS dS gD dD dX),
+      (uint_Tells w64, (mut_Tells (named 1) κs.1.0 (O R E gS dS gD dD dX), tt)),
+    ))
+    (λ κs qs bounds a g' are. walk R E gS dS gD dD dX LE 𝓛 𝓜.mem 𝓡.returns 𝓣 shows_it parts
+    ((κs, qs, bounds, a, (mut_vals a.0, (vint w64 a.1.0 ∷ [], (mut_vals a.1.1.0, tt)))), g')
+    are.1.0.1)))

@@ -1,4 +1,5 @@
--- `show` hands the reader behind the reference to its own `show`, whose error may be of any type, so this proof walks the code by hand.
+-- `show` hands the reader behind the reference to its own `show`, whose error may be of any type,
+-- so this proof walks the code by hand.
 use mathlib.Core.Path.{refl}
 use mathlib.Core.List.{List, [], ◌∷◌}
 use Prim.Native.Nat.{ℕ, ◌^◌, ◌<◌}
@@ -7,7 +8,8 @@ use base.Logic.{SProp, ent, emp, id⊢}
 use base.Fml.{Lft, GName, Incl-trans, ftrue, flft, fat, fres}
 use base.Fraction.{full_share}
 use borrow.Table.OneValue.{retype}
-use mir.Syntax.{Fn, Args, Dict, dcons, dnil, a_type, named, method, w64, erased, mut, ty_ref, ty_param, ty_ptr}
+use mir.Syntax.{Fn, Args, Dict, dcons, dnil, a_type, named, method, w64, erased, mut, ty_ref}
+use mir.Syntax.{ty_param, ty_ptr}
 use mir.MapTy.{inst_fn}
 use mir.Val.{vptr, vint}
 use prog.Memory.{Memory}
@@ -18,7 +20,8 @@ use contract.Monad.{Fun, fact, fact_i}
 use contract.BorrowLft.{◌⊑◌}
 use contract.Running.{tables, tables_of}
 use types.Logic.{Logic}
-use types.Kit.{‵, raw, ◌⊛◌, some, later, ◌$◌, ◌∵◌, !, qed, done, move, keep, drop, use0, use1, use2, split, split3, join, fsplit3, fjoin, fpick, fpack, pick, await, group, suffices}
+use types.Kit.{‵, raw, ◌⊛◌, some, later, ◌$◌, ◌∵◌, !, qed, done, move, keep, drop, use0, use1, use2}
+use types.Kit.{split, split3, join, fsplit3, fjoin, fpick, fpack, pick, await, group, suffices}
 use types.Run.{enter, addr, stop, hop, look, no_more, and_then, returns}
 use types.ByLocal.{alloc_all, pass_all, free_all, look_at, get, through, sets, lands_as}
 use denote.Builtin.{RefMutOf, usize}
@@ -42,7 +45,8 @@ use denote.Triple.Clauses.{Clauses, Ended, Lasts, lasts}
 use denote.Triple.Spec.{triple_of}
 use denote.Triple.Statement.{Contract, Triple}
 use denote.Triple.Table.{entered}
-use denote.Triple.Walked.{Stays, stay_dropped, walk_of, ends_at, walked, Goes-dropped, Goes-spent_ref, walk_Meets}
+use denote.Triple.Walked.{Stays, stay_dropped, walk_of, ends_at, walked, Goes-dropped}
+use denote.Triple.Walked.{Goes-spent_ref, walk_Meets}
 use Rattle.std.specs.Prelude.{Result, IfOk, length, ◌≤◌, ⊤, IsTrue, MatchResult}
 use Rattle.std.specs.Io.BufRead.{Rests}
 use Rattle.std.specs.contracts.result.Result as RES
@@ -68,15 +72,19 @@ SF κ = shr_slice_field (nm 0 κ) u8-field.row tt
 
 slice_laws : (κ : Lft) → Laws (SF κ).row
 slice_laws κ = of_field (SF κ) (shr_slice_laws (nm 0 κ) u8-field.row tt) refl
-    (copy_shared (SF κ) (shr_slice_copy (nm 0 κ) u8-field.row tt (of_field u8-field u8-laws refl (copy_shared u8-field u8-copy)).shr_laws))
+    (copy_shared (SF κ) (shr_slice_copy (nm 0 κ) u8-field.row tt
+    (of_field u8-field u8-laws refl (copy_shared u8-field u8-copy)).shr_laws))
 
 abbrev FR : RattleType → Lft → RattleType
 FR E κ = RES.the_row (SF κ).row (param 1 E)
 
-filled_lawful : (E : RattleType) → Laws E → {M : Type 1} {𝓤 : Ura M} (𝓛 : Logic 𝓤) (κ : Lft) → Lawful 𝓛 (FR E κ)
-filled_lawful E LE 𝓛 κ = loose_lawful (RES.the_type (SF κ).row (param 1 E)) (RESL.the_loose (SF κ).row (param 1 E) (slice_laws κ) (param_laws 1 E LE)) tt 𝓛
+filled_lawful : (E : RattleType) → Laws E → {M : Type 1} {𝓤 : Ura M} (𝓛 : Logic 𝓤) (κ : Lft)
+    → Lawful 𝓛 (FR E κ)
+filled_lawful E LE 𝓛 κ = loose_lawful (RES.the_type (SF κ).row (param 1 E))
+    (RESL.the_loose (SF κ).row (param 1 E) (slice_laws κ) (param_laws 1 E LE)) tt 𝓛
 
-module _ (R E : RattleType) (gS : Source.Ghosts R.Denot E.Denot) (dS : Dict) (gD : Debug.Ghosts E.Denot) (dD : Dict) (dX : Dict) where
+module _ (R E : RattleType) (gS : Source.Ghosts R.Denot E.Denot) (dS : Dict)
+    (gD : Debug.Ghosts E.Denot) (dD : Dict) (dX : Dict) where
   abbrev args : Args
   args = bounded (a_type ∷ a_type ∷ []) (R, (E, tt)) (dcons dS (dcons dD (dcons dX dnil)))
 
@@ -93,14 +101,22 @@ module _ (R E : RattleType) (gS : Source.Ghosts R.Denot E.Denot) (dS : Dict) (gD
   ended = F.ended R E gS dS gD dD dX
 
   abbrev stayed : Stays ended.signature.params ended.kept
-  stayed = (stay_dropped (RefMutOf (0 ∷ []) tt (RefMutOf (1 ∷ []) tt (plain (λ _. P)) (λ _. tt)) (λ _. tt)) no, (stay_dropped (plain (λ _. usize)) yes, tt))
+  stayed = (
+    stay_dropped (RefMutOf (0 ∷ []) tt (RefMutOf (1 ∷ []) tt (plain (λ _. P)) (λ _. tt))
+        (λ _. tt)) no,
+    (stay_dropped (plain (λ _. usize)) yes, tt),
+  )
 
-  abbrev show_c : {M' : Type 1} {𝓤 : Ura M'} (𝓛 : Logic 𝓤) (at_mem : Memory → SProp 𝓤) (run : Routine → Fun 𝓤) → Contract 𝓤
+  abbrev show_c : {M' : Type 1} {𝓤 : Ura M'} (𝓛 : Logic 𝓤) (at_mem : Memory → SProp 𝓤)
+      (run : Routine → Fun 𝓤) → Contract 𝓤
   show_c 𝓛 at_mem run = triple_of 𝓛 (M.signature R E) (M.spec R E gS dS gD dD dX 𝓛 at_mem run)
 
-module _ (R E : RattleType) (gS : Source.Ghosts R.Denot E.Denot) (dS : Dict) (gD : Debug.Ghosts E.Denot) (dD : Dict) (dX : Dict) (LE : Laws E)
-    {M' : Type 1} {𝓤 : Ura M'} (𝓛 : Logic 𝓤) (at_mem : Memory → SProp 𝓤) (run : Routine → Fun 𝓤) (𝓣 : Tables 𝓤 𝓛.H)
-    (shows_it : Triple 𝓤 (𝓣.C (method dS 0 (layouts [] tt))) (show_c R E gS dS gD dD dX 𝓛 at_mem run)) where
+module _ (R E : RattleType) (gS : Source.Ghosts R.Denot E.Denot) (dS : Dict)
+    (gD : Debug.Ghosts E.Denot) (dD : Dict) (dX : Dict) (LE : Laws E)
+    {M' : Type 1} {𝓤 : Ura M'} (𝓛 : Logic 𝓤) (at_mem : Memory → SProp 𝓤) (run : Routine → Fun 𝓤)
+    (𝓣 : Tables 𝓤 𝓛.H)
+    (shows_it : Triple 𝓤 (𝓣.C (method dS 0 (layouts [] tt))) (show_c R E gS dS gD dD dX 𝓛 at_mem
+    run)) where
   open 𝓛 use {H, A}
 
   abbrev held : Clauses 𝓤 (ended R E gS dS gD dD dX)
@@ -125,25 +141,33 @@ module _ (R E : RattleType) (gS : Source.Ghosts R.Denot E.Denot) (dS : Dict) (gD
   Bounded x r = IfOk r (λ shown. length shown.now ≤ (gS.view x).bound)
 
   abbrev Whole : ℕ → R.Denot → Result (Bor (List ℕ)) E.Denot → Type 0
-  Whole want x r = IsTrue (gS.view x).lends_whole → IfOk r (λ shown. Told (gS.view x).told (IsEnough want shown.now))
+  Whole want x r = IsTrue (gS.view x).lends_whole
+      → IfOk r (λ shown. Told (gS.view x).told (IsEnough want shown.now))
 
   abbrev Left : R.Denot → R.Denot → Result (Bor (List ℕ)) E.Denot → Type 0
-  Left x new r = MatchResult r (λ shown. Shows shown.now (gS.view x) (gS.view new)) (λ _. Breaks (gS.view x) (gS.view new))
+  Left x new r = MatchResult r (λ shown. Shows shown.now (gS.view x) (gS.view new))
+      (λ _. Breaks (gS.view x) (gS.view new))
 
   walk : (y : Bound) → y.0.3.1.0 < 2 ^ 64
       → ent 𝓤 ((walk_of 𝓛 (ended R E gS dS gD dD dX) (stayed R E gS dS gD dD dX) held).pre (at y))
-      (WpFn 𝓤 H 𝓣.C 𝓣.Λ (fn' R E gS dS gD dD dX) (vptr y.0.3.0.ref_ptr.0 y.0.3.0.ref_ptr.1 ∷ vint w64 y.0.3.1.0 ∷ []) ((walk_of 𝓛 (ended R E gS dS gD dD dX) (stayed R E gS dS gD dD dX) held).post (at y)))
+      (WpFn 𝓤 H 𝓣.C 𝓣.Λ (fn' R E gS dS gD dD dX) (vptr y.0.3.0.ref_ptr.0 y.0.3.0.ref_ptr.1 ∷ vint
+      w64 y.0.3.1.0 ∷ []) ((walk_of 𝓛 (ended R E gS dS gD dD dX) (stayed R E gS dS gD dD dX)
+      held).post (at y)))
   unfolding such_by follows_by
   walk y fits =
-      let κs = y.0.0 in let qs = y.0.1 in let self = y.0.3.0 in let want = y.0.3.1.0 in let h = self.now in let x = h.now in
+      let κs = y.0.0 in let qs = y.0.1 in let self = y.0.3.0 in let want = y.0.3.1.0 in
+      let h = self.now in let x = h.now in
       let b = self.ref_ptr.0 in let o = self.ref_ptr.1 in let γ = self.ghost_name in
       let κ0 = κs.0 in let κ1 = κs.1.0 in let κ2 = κs.1.1.0 in let κ3 = κs.1.1.1.0 in
       let q0 = qs.0 in let q1 = qs.1.0 in let q2 = qs.1.1.0 in let q3 = qs.1.1.1.0 in
       qed 𝓛 (((‵ (flft κ0 q0) ⊛ ‵ (flft κ1 q1) ⊛ ‵ (flft κ2 q2) ⊛ ‵ (flft κ3 q3) ⊛ ‵ ftrue)
-      ⊛ ‵ (owns (MutRef (named 0) κ0 (In' κ1) ∷ usize ∷ []) (self, (want, tt)) (vptr b o ∷ [], (vint w64 want ∷ [], tt))))
+      ⊛ ‵ (owns (MutRef (named 0) κ0 (In' κ1) ∷ usize ∷ []) (self, (want, tt))
+      (vptr b o ∷ [], (vint w64 want ∷ [], tt))))
       ∷ (raw (fact 𝓤 (κ2 ⊑ R.lives)) ⊛ raw (fact 𝓤 (κ3 ⊑ E.lives)) ⊛ ‵ ftrue) ∷ []) ∵
-      enter ! 𝓣.C 𝓣.Λ (fn' R E gS dS gD dD dX) _ _ $ alloc_all ! (λ ls. pass_all ! refl ((tt, tt), ((tt, record { fits = fits }), tt)) $
-      split ! $ move ! (2 ∷ []) $ split3 ! $ heard ! (κ2 ⊑ R.lives) (λ inR. heard ! (κ3 ⊑ E.lives) (λ inE. drop ! $
+      enter ! 𝓣.C 𝓣.Λ (fn' R E gS dS gD dD dX) _ _ $
+      alloc_all ! (λ ls. pass_all ! refl ((tt, tt), ((tt, record { fits = fits }), tt)) $
+      split ! $ move ! (2 ∷ []) $ split3 ! $
+      heard ! (κ2 ⊑ R.lives) (λ inR. heard ! (κ3 ⊑ E.lives) (λ inE. drop ! $
       move ! (1 ∷ []) $ fsplit3 ! $ move ! (2 ∷ []) $ drop ! $ fsplit3 ! $ drop ! $
       -- [obs; the borrow; want; the tokens]
       move ! (3 ∷ []) $ split ! $ move ! (2 ∷ 3 ∷ 0 ∷ []) $
@@ -154,36 +178,64 @@ module _ (R E : RattleType) (gS : Source.Ghosts R.Denot E.Denot) (dS : Dict) (gD
       use1 𝓛 (‵ (fat full_share ty_ptr b o ptr)) (retype 𝓛 full_share τ ty_ptr refl b o ptr) $
       ties ! full_share (In' κ1).mir (mut_vals h) b o $ closes ! tt (In' κ1) h (mut_vals h) b o $
       -- [obs; the borrow; κ0; the other tokens; want]
-      group ! 3 $ use1 𝓛 (later (some (λ (γ' : GName). ‵ ((MutRef (named 1) κ0 P').own_val (renamed h γ') (mut_vals h)) ⊛ ‵ (flft κ0 q0) ⊛ ‵ (follows (In' κ1) P' γ γ' (at_last h)))))
-      (lends_inner 𝓛 P' (named 1) (named 1) κ0 κ1 self y.0.2.0 q0) $ await ! tt $ pick ! (λ γ'. split3 ! $
+      group ! 3 $ use1 𝓛 (later
+      (some (λ (γ' : GName). ‵ ((MutRef (named 1) κ0 P').own_val (renamed h γ') (mut_vals h)) ⊛
+      ‵ (flft κ0 q0) ⊛ ‵ (follows (In' κ1) P' γ γ' (at_last h)))))
+      (lends_inner 𝓛 P' (named 1) (named 1) κ0 κ1 self y.0.2.0 q0) $ await ! tt $
+      pick ! (λ γ'. split3 ! $
       -- [the loan; κ0; how self follows; the other tokens; want]
       move ! (3 ∷ []) $ split ! $ move ! (3 ∷ 1 ∷ []) $ join ! $
-      nothing ! $ move ! (5 ∷ 0 ∷ []) $ join ! $ move ! (3 ∷ 0 ∷ []) $ join ! $ move ! (1 ∷ 0 ∷ []) $ join ! $
+      nothing ! $ move ! (5 ∷ 0 ∷ []) $ join ! $ move ! (3 ∷ 0 ∷ []) $ join ! $
+      move ! (1 ∷ 0 ∷ []) $ join ! $
       nothing ! $
-      use0 𝓛 (raw (fact 𝓤 (κ3 ⊑ E.lives))) (fact_i 𝓤 (κ3 ⊑ E.lives) (emp 𝓤) inE) $ join ! $ use0 𝓛 (raw (fact 𝓤 (κ2 ⊑ R.lives))) (fact_i 𝓤 (κ2 ⊑ R.lives) (emp 𝓤) inR) $ join ! $ move ! (1 ∷ 0 ∷ []) $
+      use0 𝓛 (raw (fact 𝓤 (κ3 ⊑ E.lives))) (fact_i 𝓤 (κ3 ⊑ E.lives) (emp 𝓤) inE) $ join ! $
+      use0 𝓛 (raw (fact 𝓤 (κ2 ⊑ R.lives))) (fact_i 𝓤 (κ2 ⊑ R.lives) (emp 𝓤) inR) $ join ! $
+      move ! (1 ∷ 0 ∷ []) $
       let c1 = show_c R E gS dS gD dD dX 𝓛 at_mem run in
       let loan : MutBor P'.Denot = renamed h γ' in
-      let z1 : c1.Ghost = (((κ0, (κ2, (κ3, tt))), (q0, (q2, (q3, tt))), (Incl-trans y.0.2.0 y.0.2.1.0, tt), (loan, (want, tt)), (mut_vals h, (vint w64 want ∷ [], tt))), tt) in
+      let z1 : c1.Ghost = (
+        (
+          (κ0, (κ2, (κ3, tt))),
+          (q0, (q2, (q3, tt))),
+          (Incl-trans y.0.2.0 y.0.2.1.0, tt),
+          (loan, (want, tt)),
+          (mut_vals h, (vint w64 want ∷ [], tt)),
+        ),
+        tt,
+      ) in
       use2 𝓛 (raw (c1.pre z1)) (id⊢ 𝓤 _) $
-      calls_at ! (fm_of 𝓤 H 𝓛.laws 𝓣) c1 shows_it z1 (and_then ! (get ! refl) (and_then ! (get ! refl) (no_more !))) (λ v.
-      use1 𝓛 (later (some (λ (r : Result (Bor (List ℕ)) E.Denot). ((‵ (flft κ0 q0) ⊛ ‵ (flft κ2 q2) ⊛ ‵ (flft κ3 q3) ⊛ ‵ ftrue) ⊛ ‵ ((FR E κ0).own_val r (v ∷ []))) ⊛
-      some (λ (ws : Lasts (M.ended R E gS dS gD dD dX) z1.0.0 z1.0.3). ‵ (lasts (M.ended R E gS dS gD dD dX) z1.0.0 z1.0.3 ws)
-      ⊛ raw (fact 𝓤 (Front want x r)) ⊛ raw (fact 𝓤 (Bounded x r)) ⊛ raw (fact 𝓤 (Whole want x r)) ⊛ ‵ (Rests P' loan (λ new. Left x new r)))))) (id⊢ 𝓤 _) $
-      await ! tt $ pick ! (λ r. split ! $ split ! $ move ! (1 ∷ []) $ peeks ! (FR E κ0) _ (shows 𝓛 (FR E κ0)) r (v ∷ []) (λ is.
+      calls_at ! (fm_of 𝓤 H 𝓛.laws 𝓣) c1 shows_it z1
+      (and_then ! (get ! refl) (and_then ! (get ! refl) (no_more !))) (λ v.
+      use1 𝓛 (later (some (λ (r : Result (Bor (List ℕ)) E.Denot).
+      ((‵ (flft κ0 q0) ⊛ ‵ (flft κ2 q2) ⊛ ‵ (flft κ3 q3) ⊛ ‵ ftrue) ⊛ ‵
+      ((FR E κ0).own_val r (v ∷ []))) ⊛
+      some (λ (ws : Lasts (M.ended R E gS dS gD dD dX) z1.0.0 z1.0.3). ‵
+      (lasts (M.ended R E gS dS gD dD dX) z1.0.0 z1.0.3 ws)
+      ⊛ raw (fact 𝓤 (Front want x r)) ⊛ raw (fact 𝓤 (Bounded x r)) ⊛ raw (fact 𝓤 (Whole want x r)) ⊛
+      ‵ (Rests P' loan (λ new. Left x new r)))))) (id⊢ 𝓤 _) $
+      await ! tt $ pick ! (λ r. split ! $ split ! $ move ! (1 ∷ []) $
+      peeks ! (FR E κ0) _ (shows 𝓛 (FR E κ0)) r (v ∷ []) (λ is.
       lands_as ! refl refl ((filled_lawful E LE 𝓛 κ0).typed r (v ∷ []) is).0 $
-      move ! (2 ∷ []) $ pick ! (λ ws. split ! $ drop ! $ split3 ! $ heard ! (Front want x r) (λ front. heard ! (Bounded x r) (λ bounded. split ! $ heard ! (Whole want x r) (λ whole. fpick ! (λ s.
+      move ! (2 ∷ []) $ pick ! (λ ws. split ! $ drop ! $ split3 ! $
+      heard ! (Front want x r) (λ front. heard ! (Bounded x r) (λ bounded. split ! $
+      heard ! (Whole want x r) (λ whole. fpick ! (λ s.
       -- [what is said of the loan; the result; the tokens; κ1; how self follows]
       let new : (In' κ1).Denot = at_last h s.0.1 in
-      move ! (4 ∷ 0 ∷ []) $ use2 𝓛 (‵ (fres γ ((In' κ1).coded.code new))) (followed 𝓛 (In' κ1) P' (at_last h) γ γ' s.0.1) $
+      move ! (4 ∷ 0 ∷ []) $ use2 𝓛 (‵ (fres γ ((In' κ1).coded.code new)))
+      (followed 𝓛 (In' κ1) P' (at_last h) γ γ' s.0.1) $
       returns ! (look_at ! 0 refl) $ free_all ! refl $
       nothing ! $ nothing ! $ fjoin ! $ nothing ! $ fjoin ! $ move ! (0 ∷ 2 ∷ []) $ join ! $
-      move ! (2 ∷ []) $ split ! $ move ! (4 ∷ 1 ∷ []) $ join ! $ move ! (1 ∷ 0 ∷ []) $ join ! $ join ! $ move ! (1 ∷ []) $
-      fpack ! ((u : ((In' κ1).Denot → (In' κ1).Denot) × (In' κ1).Denot) × ((In' κ1).Denot → ⊤) × Left x u.1.now r) (λ u. fres γ ((In' κ1).coded.code u.0.1)) (((λ _. new), new), (λ _. tt), s.2) $
+      move ! (2 ∷ []) $ split ! $ move ! (4 ∷ 1 ∷ []) $ join ! $ move ! (1 ∷ 0 ∷ []) $ join ! $
+      join ! $ move ! (1 ∷ []) $
+      fpack ! ((u : ((In' κ1).Denot → (In' κ1).Denot) × (In' κ1).Denot) × ((In' κ1).Denot → ⊤)
+      × Left x u.1.now r) (λ u. fres γ ((In' κ1).coded.code u.0.1))
+      (((λ _. new), new), (λ _. tt), s.2) $
       use0 𝓛 (raw (fact 𝓤 (Whole want x r))) (fact_i 𝓤 (Whole want x r) (emp 𝓤) whole) $ join ! $
       use0 𝓛 (raw (fact 𝓤 (Bounded x r))) (fact_i 𝓤 (Bounded x r) (emp 𝓤) bounded) $ join ! $
       use0 𝓛 (raw (fact 𝓤 (Front want x r))) (fact_i 𝓤 (Front want x r) (emp 𝓤) front) $ join ! $
       keep ! (1 ∷ 0 ∷ []) $
-      suffices ! _ (ends_at 𝓛 (ended R E gS dS gD dD dX) (stayed R E gS dS gD dD dX) held (at y) v r (tt, (tt, tt)) (tt, (tt, tt))) $
+      suffices ! _ (ends_at 𝓛 (ended R E gS dS gD dD dX) (stayed R E gS dS gD dD dX) held (at y) v r
+      (tt, (tt, tt)) (tt, (tt, tt))) $
       join ! $ done !)))))))))))))
 
 pub show_spec : {M' : Type 1} → stated.statement M'
@@ -192,8 +244,17 @@ show_spec 𝓤 𝓛 𝓜 𝓡 wired R E L LE gS dS gD dD dX mS mD mX =
     let 𝓣 : Tables 𝓤 𝓛.H = tables_of 𝓤 𝓛.H 𝓜 (tables 𝓤 𝓛.H 𝓜 𝓡 𝓡.env) in
     let shows_it = mS.show dX in
     let held' = held R E gS dS gD dD dX LE 𝓛 𝓜.mem 𝓡.returns 𝓣 shows_it in
-    let end' = ended R E gS dS gD dD dX in let stay' = stayed R E gS dS gD dD dX in let f = fn' R E gS dS gD dD dX in
-    entered 𝓤 𝓛.H (triple_of 𝓛 end'.signature (F.spec R E gS dS gD dD dX 𝓛 𝓜.mem 𝓡.returns)) 𝓣.C 𝓣.Λ (#self (args R E gS dS gD dD dX)) f (code.unfolded 𝓤 𝓛.H 𝓜 𝓡 wired (R, (E, tt)) dS dD dX)
-    (walk_Meets 𝓛 end' stay' (Goes-spent_ref 𝓛 4 (0 ∷ []) tt (RefMutOf (1 ∷ []) tt (plain (λ κs. P R E gS dS gD dD dX)) (λ _. tt)), (Goes-dropped 𝓛 4 (plain (λ _. usize)) yes (λ κs x f. refl), tt)) held' (WpFn 𝓤 𝓛.H 𝓣.C 𝓣.Λ f) (WpFn-mono 𝓤 𝓛.H 𝓛.laws 𝓣 f)
-    (walked 𝓛 end' stay' held' (WpFn 𝓤 𝓛.H 𝓣.C 𝓣.Λ f) (λ κs. (mut_vals, (uint_vals w64, tt))) (λ κs. (mut_Tells (named 0) κs.0 (In R E gS dS gD dD dX κs.1.0), (uint_Tells w64, tt)))
-    (λ κs qs bounds a g' are. walk R E gS dS gD dD dX LE 𝓛 𝓜.mem 𝓡.returns 𝓣 shows_it ((κs, qs, bounds, a, (mut_vals a.0, (vint w64 a.1.0 ∷ [], tt))), g') are.1.0.1)))
+    let end' = ended R E gS dS gD dD dX in let stay' = stayed R E gS dS gD dD dX in
+    let f = fn' R E gS dS gD dD dX in
+    entered 𝓤 𝓛.H (triple_of 𝓛 end'.signature (F.spec R E gS dS gD dD dX 𝓛 𝓜.mem 𝓡.returns)) 𝓣.C 𝓣.Λ
+    (#self (args R E gS dS gD dD dX)) f (code.unfolded 𝓤 𝓛.H 𝓜 𝓡 wired (R, (E, tt)) dS dD dX)
+    (walk_Meets 𝓛 end' stay' (
+      Goes-spent_ref 𝓛 4 (0 ∷ []) tt (RefMutOf (1 ∷ []) tt (plain (λ κs. P R E gS dS gD dD dX))
+          (λ _. tt)),
+      (Goes-dropped 𝓛 4 (plain (λ _. usize)) yes (λ κs x f. refl), tt),
+    ) held'
+    (WpFn 𝓤 𝓛.H 𝓣.C 𝓣.Λ f) (WpFn-mono 𝓤 𝓛.H 𝓛.laws 𝓣 f)
+    (walked 𝓛 end' stay' held' (WpFn 𝓤 𝓛.H 𝓣.C 𝓣.Λ f) (λ κs. (mut_vals, (uint_vals w64, tt)))
+    (λ κs. (mut_Tells (named 0) κs.0 (In R E gS dS gD dD dX κs.1.0), (uint_Tells w64, tt)))
+    (λ κs qs bounds a g' are. walk R E gS dS gD dD dX LE 𝓛 𝓜.mem 𝓡.returns 𝓣 shows_it
+    ((κs, qs, bounds, a, (mut_vals a.0, (vint w64 a.1.0 ∷ [], tt))), g') are.1.0.1)))

@@ -4,7 +4,8 @@ use Rattle.cbor4ii_rw.proofs.io_reader.IoReaderSource.advance.Goals as goal
 
 pub returns : goal.returns
 returns g c = record {
-  told = drops_left c.args.n _ _ c.args.self.now.tally _ refl refl refl (omega (arith, c.requires)) (omega (arith, c.requires));
+  told = drops_left c.args.n _ _ c.args.self.now.tally _ refl refl refl (omega (arith, c.requires))
+      (omega (arith, c.requires));
   bound = omega (arith, c.requires);
   advanceable = omega (arith, c.requires);
   budget = refl;

@@ -3,7 +3,8 @@ use Rattle.std.specs.Prelude.{IsTrue}
 use Rattle.cbor4ii_rw.specs.Segments.{joined, rest_of, full_of, shown_segment}
 use Rattle.cbor4ii_rw.specs.Reader.{IsFront, IsEnough}
 use Rattle.cbor4ii_rw.proofs.Told.{told_some}
-use Rattle.cbor4ii_rw.proofs.SegmentLemmas.{front_of_current, current_is_enough, current_is_shown, shown_length}
+use Rattle.cbor4ii_rw.proofs.SegmentLemmas.{front_of_current, current_is_enough, current_is_shown}
+use Rattle.cbor4ii_rw.proofs.SegmentLemmas.{shown_length}
 use Rattle.cbor4ii_rw.proofs.segment_reader.SegmentReaderRead.fill.Goals as goal
 
 pub returns : goal.returns
@@ -12,12 +13,18 @@ returns c =
     let current = reader.current.now in let others = reader.segments.now in
     let shown = take n current in
     let kept = c.pass_empty.ensures.bytes in
-    let front = subst (λ rest. IsFront want shown rest) kept (front_of_current want n current (joined others) c.min-shown.ensures c.pass_empty.ensures.end) in
-    let segment : shown_segment c.args.self.now ≡ current = sym c.pass_empty.ensures.segment ∙ current_is_shown current others c.pass_empty.ensures.end in
+    let front = subst (λ rest. IsFront want shown rest) kept (front_of_current want n current
+    (joined others) c.min-shown.ensures c.pass_empty.ensures.end) in
+    let segment : shown_segment c.args.self.now ≡ current = sym c.pass_empty.ensures.segment
+    ∙ current_is_shown current others c.pass_empty.ensures.end in
     let long = shown_length want n current c.min-shown.ensures in
-    let one_left : IsTrue (nat_lt (full_of c.args.self.now) 2) → IsTrue (nat_lt (full_of reader) 2) = λ one. subst (λ k. IsTrue (nat_lt k 2)) (sym c.pass_empty.ensures.count) one in
-    let enough : IsTrue (nat_lt (full_of c.args.self.now) 2) → IsEnough want shown (rest_of c.args.self.now) = λ one.
-    subst (λ rest. IsEnough want shown rest) kept (current_is_enough want n current others c.min-shown.ensures c.pass_empty.ensures.end (one_left one)) in (
+    let one_left : IsTrue (nat_lt (full_of c.args.self.now) 2)
+    → IsTrue (nat_lt (full_of reader) 2) = λ one.
+    subst (λ k. IsTrue (nat_lt k 2)) (sym c.pass_empty.ensures.count) one in
+    let enough : IsTrue (nat_lt (full_of c.args.self.now) 2)
+    → IsEnough want shown (rest_of c.args.self.now) = λ one.
+    subst (λ rest. IsEnough want shown rest) kept (current_is_enough want n current others
+    c.min-shown.ensures c.pass_empty.ensures.end (one_left one)) in (
       (
         refl,
         λ _. tt,
@@ -32,5 +39,12 @@ returns c =
           remembers = λ is. is;
         },
       ),
-      record { front = told_some (IsFront want shown) _ front; bounded = front.within; enough = λ one. told_some (IsEnough want shown) _ (enough one); long = tt; segment = omega (arith, long, c.min-shown.ensures, ap length segment); after_borrow = tt },
+      record {
+        front = told_some (IsFront want shown) _ front;
+        bounded = front.within;
+        enough = λ one. told_some (IsEnough want shown) _ (enough one);
+        long = tt;
+        segment = omega (arith, long, c.min-shown.ensures, ap length segment);
+        after_borrow = tt;
+      },
     )
