@@ -8,8 +8,6 @@ use cbor4ii_rw::read::Source;
 use cbor4ii_rw::write::Write;
 use std::alloc::Global;
 
-/// A box is spelled and refused as what is in it. Where there is no memory for the box, it is
-/// `OutOfMemory`, and the item was taken.
 impl<T: Spelled> Spelled for Box<T> {
     ghost reads = { λ xs b. T.reads xs b.value };
 
@@ -36,6 +34,8 @@ impl<T: Spelled> Spelled for Box<T> {
     }
 }
 
+/// A box is read and refused as what is in it. Where there is no memory for the box, it is
+/// `OutOfMemory`, and the item was taken.
 impl<S: Source, T: Decode<S> + Drop> Decode<S> for Box<T> {
     fn decode(alloc: Global, reader: &mut S) -> Result<Box<T>, DecodeError<S::Error>> {
         let value = match T::decode(alloc, reader) {

@@ -1,5 +1,20 @@
 //! Floats, as their bits (RFC 8949 section 3.3).
-ghost use Rattle.std.specs.Prelude.{◌≡◌, ℕ, ◌+◌, ◌≤◌, ◌<◌, ◌^◌, length, true, false, codes, OnOk, IfOk, IfErr, IfSome};
+ghost use Rattle.std.specs.Prelude.{
+  ◌≡◌,
+  ℕ,
+  ◌+◌,
+  ◌≤◌,
+  ◌<◌,
+  ◌^◌,
+  length,
+  true,
+  false,
+  codes,
+  OnOk,
+  IfOk,
+  IfErr,
+  IfSome,
+};
 ghost use Rattle.cbor4ii_items.specs.Head.{IsBytes};
 ghost use Rattle.cbor4ii_items.specs.Magnitude.{number_of};
 ghost use Rattle.cbor4ii_items.specs.Decoding.{Sound, Refuses, Stops};
@@ -37,12 +52,15 @@ fn float<S: Source>(
     bytes: u8,
 ) -> Result<u64, DecodeError<S::Error>>
     requires { bytes ≤ 8 }
-    ensures runs { Runs (float_at name.now marker bytes) (S.view reader.old) (S.view reader.new) result }
+    ensures runs { Runs (float_at name.now marker bytes)
+        (S.view reader.old) (S.view reader.new) result }
     ensures fits { IfOk result (λ v. v < 256 ^ bytes) }
     ensures progress { OnOk result ((S.view reader.new).bound + 1 ≤ (S.view reader.old).bound) }
-    ensures sound { IfOk result (Sound (ReadsFloat marker bytes) (S.view reader.old) (S.view reader.new)) }
+    ensures sound { IfOk result
+        (Sound (ReadsFloat marker bytes) (S.view reader.old) (S.view reader.new)) }
     ensures complete { IfErr result (Refuses (ReadsFloat marker bytes) (S.view reader.old)) }
-    ensures stops { IfErr result (Stops (StopsFloat name.now marker bytes) (S.view reader.old) (S.view reader.new)) }
+    ensures stops { IfErr result
+        (Stops (StopsFloat name.now marker bytes) (S.view reader.old) (S.view reader.new)) }
 {
     bits(reader, name, marker, bytes)
 }
@@ -55,7 +73,8 @@ fn bits<S: Source>(
     bytes: u8,
 ) -> Result<u64, DecodeError<S::Error>>
     requires { bytes ≤ 8 }
-    ensures runs { Runs (float_at name.now marker bytes) (S.view reader.old) (S.view reader.new) result }
+    ensures runs { Runs (float_at name.now marker bytes)
+        (S.view reader.old) (S.view reader.new) result }
     ensures fits { IfOk result (λ v. v < 256 ^ bytes) }
     ensures progress { OnOk result ((S.view reader.new).bound + 1 ≤ (S.view reader.old).bound) }
 {
@@ -108,7 +127,8 @@ fn bits_by_byte<S: Source>(
     bytes: u8,
 ) -> Result<u64, DecodeError<S::Error>>
     requires { bytes ≤ 8 }
-    ensures runs { Runs (float_at name.now marker bytes) (S.view reader.old) (S.view reader.new) result }
+    ensures runs { Runs (float_at name.now marker bytes)
+        (S.view reader.old) (S.view reader.new) result }
     ensures fits { IfOk result (λ v. v < 256 ^ bytes) }
     ensures progress { OnOk result ((S.view reader.new).bound + 1 ≤ (S.view reader.old).bound) }
 {
@@ -116,9 +136,6 @@ fn bits_by_byte<S: Source>(
     Ok(number(reader, name, bytes)? as u64)
 }
 
-/// Refused by the name "f16": where no byte is left, `Eof` with 1; where another byte than its
-/// first comes next, `Mismatch`, and the byte stays; where fewer than two bytes follow, `Eof` with
-/// 2, and nothing is left.
 impl Spelled for F16 {
     ghost reads = { λ xs v. ReadsFloat 0xf9 2 xs v.0 };
 
@@ -145,6 +162,11 @@ impl Spelled for F16 {
     }
 }
 
+/// A float of two bytes, as its bits (RFC 8949 section 3.3).
+///
+/// Refused by the name "f16": `Eof` with 1 where no byte is left; `Mismatch` with the next byte,
+/// which stays, where it begins no float of two bytes; `Eof` with 2 where fewer than two bytes
+/// follow it, nothing being left then.
 impl<S: Source> Decode<S> for F16 {
     #[inline(always)]
     fn decode(alloc: Global, reader: &mut S) -> Result<F16, DecodeError<S::Error>> {
@@ -165,16 +187,14 @@ impl Encode for F16 {
 
     #[inline(always)]
     fn encode<W: Write>(&self, writer: &mut W) -> Result<(), EncodeError<W::Error>>
-        ensures { WritesWhole W.whole (float_bytes 0xf9 2 self.now.0) (W.view writer.old) (W.view writer.new) result }
+        ensures { WritesWhole W.whole (float_bytes 0xf9 2 self.now.0)
+            (W.view writer.old) (W.view writer.new) result }
     {
         let [a, b] = self.0.to_be_bytes();
         push_bytes(writer, &[marker::F16, a, b])
     }
 }
 
-/// Refused by the name "f32": where no byte is left, `Eof` with 1; where another byte than its
-/// first comes next, `Mismatch`, and the byte stays; where fewer than four bytes follow, `Eof` with
-/// 4, and nothing is left.
 impl Spelled for F32 {
     ghost reads = { λ xs v. ReadsFloat 0xfa 4 xs v.0 };
 
@@ -201,6 +221,11 @@ impl Spelled for F32 {
     }
 }
 
+/// A float of four bytes, as its bits (RFC 8949 section 3.3).
+///
+/// Refused by the name "f32": `Eof` with 1 where no byte is left; `Mismatch` with the next byte,
+/// which stays, where it begins no float of four bytes; `Eof` with 4 where fewer than four bytes
+/// follow it, nothing being left then.
 impl<S: Source> Decode<S> for F32 {
     #[inline(always)]
     fn decode(alloc: Global, reader: &mut S) -> Result<F32, DecodeError<S::Error>> {
@@ -221,16 +246,14 @@ impl Encode for F32 {
 
     #[inline(always)]
     fn encode<W: Write>(&self, writer: &mut W) -> Result<(), EncodeError<W::Error>>
-        ensures { WritesWhole W.whole (float_bytes 0xfa 4 self.now.0) (W.view writer.old) (W.view writer.new) result }
+        ensures { WritesWhole W.whole (float_bytes 0xfa 4 self.now.0)
+            (W.view writer.old) (W.view writer.new) result }
     {
         let [a, b, c, d] = self.0.to_be_bytes();
         push_bytes(writer, &[marker::F32, a, b, c, d])
     }
 }
 
-/// Refused by the name "f64": where no byte is left, `Eof` with 1; where another byte than its
-/// first comes next, `Mismatch`, and the byte stays; where fewer than eight bytes follow, `Eof` with
-/// 8, and nothing is left.
 impl Spelled for F64 {
     ghost reads = { λ xs v. ReadsFloat 0xfb 8 xs v.0 };
 
@@ -257,6 +280,11 @@ impl Spelled for F64 {
     }
 }
 
+/// A float of eight bytes, as its bits (RFC 8949 section 3.3).
+///
+/// Refused by the name "f64": `Eof` with 1 where no byte is left; `Mismatch` with the next byte,
+/// which stays, where it begins no float of eight bytes; `Eof` with 8 where fewer than eight bytes
+/// follow it, nothing being left then.
 impl<S: Source> Decode<S> for F64 {
     #[inline(always)]
     fn decode(alloc: Global, reader: &mut S) -> Result<F64, DecodeError<S::Error>> {
@@ -277,7 +305,8 @@ impl Encode for F64 {
 
     #[inline(always)]
     fn encode<W: Write>(&self, writer: &mut W) -> Result<(), EncodeError<W::Error>>
-        ensures { WritesWhole W.whole (float_bytes 0xfb 8 self.now.0) (W.view writer.old) (W.view writer.new) result }
+        ensures { WritesWhole W.whole (float_bytes 0xfb 8 self.now.0)
+            (W.view writer.old) (W.view writer.new) result }
     {
         let [a, b, c, d, e, f, g, h] = self.0.to_be_bytes();
         push_bytes(writer, &[marker::F64, a, b, c, d, e, f, g, h])

@@ -67,7 +67,8 @@ pub(crate) fn marked<S: Source>(
     least: u8,
     greatest: u8,
 ) -> Result<u8, DecodeError<S::Error>>
-    ensures runs { Runs (marked_at name.now least greatest) (S.view reader.old) (S.view reader.new) result }
+    ensures runs { Runs (marked_at name.now least greatest)
+        (S.view reader.old) (S.view reader.new) result }
     ensures progress { OnOk result ((S.view reader.new).bound + 1 ≤ (S.view reader.old).bound) }
 {
     let byte = peek(reader, name, 1)?;
@@ -85,7 +86,8 @@ pub(crate) fn number<S: Source>(
     bytes: u8,
 ) -> Result<u128, DecodeError<S::Error>>
     requires { bytes ≤ 16 }
-    ensures runs { Runs (number_on name.now bytes bytes 0) (S.view reader.old) (S.view reader.new) result }
+    ensures runs { Runs (number_on name.now bytes bytes 0)
+        (S.view reader.old) (S.view reader.new) result }
     ensures fits { IfOk result (λ v. v < 256 ^ bytes) }
 {
     let mut value = 0;
@@ -105,7 +107,8 @@ fn argument<S: Source>(
     width: u8,
     first: u8,
 ) -> Result<u64, DecodeError<S::Error>>
-    ensures runs { Runs (argument_at name.now width first) (S.view reader.old) (S.view reader.new) result }
+    ensures runs { Runs (argument_at name.now width first)
+        (S.view reader.old) (S.view reader.new) result }
     ensures fits { 1 ≤ width → IfOk result (λ v. v < 256 ^ width) }
 {
     let info = first % 32;
@@ -126,7 +129,8 @@ pub(crate) fn head<S: Source>(
     major: u8,
     width: u8,
 ) -> Result<u64, DecodeError<S::Error>>
-    ensures runs { Runs (head_at name.now major width) (S.view reader.old) (S.view reader.new) result }
+    ensures runs { Runs (head_at name.now major width)
+        (S.view reader.old) (S.view reader.new) result }
     ensures fits { 1 ≤ width → IfOk result (λ v. v < 256 ^ width) }
     ensures progress { OnOk result ((S.view reader.new).bound + 1 ≤ (S.view reader.old).bound) }
 {
@@ -146,7 +150,8 @@ fn head_by_bytes<S: Source>(
     major: u8,
     width: u8,
 ) -> Result<u64, DecodeError<S::Error>>
-    ensures runs { Runs (head_at name.now major width) (S.view reader.old) (S.view reader.new) result }
+    ensures runs { Runs (head_at name.now major width)
+        (S.view reader.old) (S.view reader.new) result }
     ensures fits { 1 ≤ width → IfOk result (λ v. v < 256 ^ width) }
     ensures progress { OnOk result ((S.view reader.new).bound + 1 ≤ (S.view reader.old).bound) }
 {
@@ -166,12 +171,15 @@ pub(crate) fn lone_head<S: Source>(
     width: u8,
 ) -> Result<u64, DecodeError<S::Error>>
     requires { major < 8 }
-    ensures runs { Runs (head_at name.now major width) (S.view reader.old) (S.view reader.new) result }
+    ensures runs { Runs (head_at name.now major width)
+        (S.view reader.old) (S.view reader.new) result }
     ensures fits { 1 ≤ width → IfOk result (λ v. v < 256 ^ width) }
     ensures progress { OnOk result ((S.view reader.new).bound + 1 ≤ (S.view reader.old).bound) }
-    ensures sound { IfOk result (Sound (ReadsArgument major width) (S.view reader.old) (S.view reader.new)) }
+    ensures sound { IfOk result
+        (Sound (ReadsArgument major width) (S.view reader.old) (S.view reader.new)) }
     ensures complete { IfErr result (Refuses (ReadsArgument major width) (S.view reader.old)) }
-    ensures stops { IfErr result (Stops (StopsArgument name.now major width) (S.view reader.old) (S.view reader.new)) }
+    ensures stops { IfErr result
+        (Stops (StopsArgument name.now major width) (S.view reader.old) (S.view reader.new)) }
 {
     head(reader, name, major, width)
 }
@@ -227,9 +235,11 @@ pub(crate) fn lone_length<S: Source>(
     requires { major < 8 }
     ensures runs { Runs (length_at name.now major) (S.view reader.old) (S.view reader.new) result }
     ensures progress { OnOk result ((S.view reader.new).bound + 1 ≤ (S.view reader.old).bound) }
-    ensures sound { IfOk result (Sound (ReadsLength major) (S.view reader.old) (S.view reader.new)) }
+    ensures sound { IfOk result
+        (Sound (ReadsLength major) (S.view reader.old) (S.view reader.new)) }
     ensures complete { IfErr result (Refuses (ReadsLength major) (S.view reader.old)) }
-    ensures stops { IfErr result (Stops (StopsLength name.now major) (S.view reader.old) (S.view reader.new)) }
+    ensures stops { IfErr result
+        (Stops (StopsLength name.now major) (S.view reader.old) (S.view reader.new)) }
 {
     usize_length(length(reader, name, major))
 }

@@ -10,7 +10,12 @@ ghost use Rattle.cbor4ii_items.specs.Maybe.{
   few_at,
   maybe_bytes,
 };
-ghost use Rattle.cbor4ii_items.specs.MaybeLaws.{maybe_one, maybe_within, maybe_positive, maybe_alone};
+ghost use Rattle.cbor4ii_items.specs.MaybeLaws.{
+  maybe_one,
+  maybe_within,
+  maybe_positive,
+  maybe_alone,
+};
 ghost use Rattle.cbor4ii_items.specs.Reading.{Runs};
 ghost use Rattle.cbor4ii_items.specs.Writing.{Writes};
 
@@ -51,10 +56,15 @@ impl<T: Spelled> Spelled for Maybe<Option<T>> {
     }
 }
 
-/// None is an array of no item, and some item an array of it alone. Another count is refused,
-/// `RequireLength` by the name "maybe" with the count, and an indefinite length with
-/// `Indefinite`; what is left then stands behind the head. What is no head of an array is refused
-/// by the name "array", as `Array::len` refuses it.
+/// None is an array of no item, and some item an array of it alone, of known length (RFC 8949
+/// section 3.1). No step is taken for the array.
+///
+/// Refusals:
+///
+/// - the head is not one of an array: by the name "array", as `Array::len` refuses it
+/// - another count: `RequireLength` by "maybe" with it, behind the head
+/// - an indefinite length: `RequireLength` by "maybe" with `Indefinite`, behind its first byte
+/// - the item is refused: its own refusal, and what it leaves
 impl<S: Source, T: Decode<S>> Decode<S> for Maybe<Option<T>> {
     fn decode(alloc: Global, reader: &mut S) -> Result<Maybe<Option<T>>, DecodeError<S::Error>> {
         if !item_follows(reader)? {
@@ -119,7 +129,8 @@ fn push_maybe<W: Write, T: Encode>(
     writer: &mut W,
     value: &Option<T>,
 ) -> Result<(), EncodeError<W::Error>>
-    ensures { Writes W.whole (maybe_bytes T.bytes value.now) (W.view writer.old) (W.view writer.new) result }
+    ensures { Writes W.whole (maybe_bytes T.bytes value.now)
+        (W.view writer.old) (W.view writer.new) result }
 {
     match value {
         None => push_head(writer, major::ARRAY, 0),

@@ -18,7 +18,6 @@ use cbor4ii_rw::read::Source;
 use cbor4ii_rw::write::Write;
 use std::alloc::Global;
 
-/// It takes no byte, and is never refused.
 impl Spelled for Nothing {
     ghost reads = { ReadsNothing };
 
@@ -45,6 +44,7 @@ impl Spelled for Nothing {
     }
 }
 
+/// It takes no byte, and is never refused.
 impl<S: Source> Decode<S> for Nothing {
     fn decode(alloc: Global, reader: &mut S) -> Result<Nothing, DecodeError<S::Error>> {
         Ok(Nothing)

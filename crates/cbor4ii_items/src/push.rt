@@ -56,7 +56,8 @@ pub(crate) fn push_head<W: Write>(
     argument: u64,
 ) -> Result<(), EncodeError<W::Error>>
     requires { major < 8 }
-    ensures { WritesWhole W.whole (shortest_head major argument) (W.view writer.old) (W.view writer.new) result }
+    ensures { WritesWhole W.whole (shortest_head major argument)
+        (W.view writer.old) (W.view writer.new) result }
 {
     let first = 32 * major;
     let [a, b, c, d, e, f, g, h] = argument.to_be_bytes();
@@ -93,7 +94,8 @@ pub(crate) fn push_end<W: Write>(writer: &mut W) -> Result<(), EncodeError<W::Er
 /// Writes a number from 0 on, or -1 - n, as a head.
 #[inline(always)]
 pub(crate) fn push_signed<W: Write>(writer: &mut W, value: i64) -> Result<(), EncodeError<W::Error>>
-    ensures { WritesWhole W.whole (signed_head value) (W.view writer.old) (W.view writer.new) result }
+    ensures { WritesWhole W.whole (signed_head value)
+        (W.view writer.old) (W.view writer.new) result }
 {
     if value >= 0 {
         push_head(writer, major::UNSIGNED, value as u64)
@@ -150,7 +152,8 @@ fn push_integer<W: Write>(
     value: u128,
 ) -> Result<(), EncodeError<W::Error>>
     requires { major < 8 }
-    ensures { Writes W.whole (integer_bytes major tag value) (W.view writer.old) (W.view writer.new) result }
+    ensures { Writes W.whole (integer_bytes major tag value)
+        (W.view writer.old) (W.view writer.new) result }
 {
     match u64::try_from(value) {
         Ok(argument) => push_head(writer, major, argument),
@@ -160,7 +163,8 @@ fn push_integer<W: Write>(
 
 /// Writes a tag, and a number's bytes without leading zeros as a byte string.
 fn push_bignum<W: Write>(writer: &mut W, tag: u8, value: u128) -> Result<(), EncodeError<W::Error>>
-    ensures { Writes W.whole (bignum_bytes tag value) (W.view writer.old) (W.view writer.new) result }
+    ensures { Writes W.whole (bignum_bytes tag value)
+        (W.view writer.old) (W.view writer.new) result }
 {
     push_head(writer, major::TAG, tag as u64)?;
     push_string(
@@ -177,7 +181,8 @@ pub(crate) fn push_string<W: Write>(
     content: &[u8],
 ) -> Result<(), EncodeError<W::Error>>
     requires { major < 8 }
-    ensures { Writes W.whole (counted_string major content.now) (W.view writer.old) (W.view writer.new) result }
+    ensures { Writes W.whole (counted_string major content.now)
+        (W.view writer.old) (W.view writer.new) result }
 {
     push_head(writer, major, content.len() as u64)?;
     push_bytes(writer, content)
@@ -191,7 +196,8 @@ pub(crate) fn push_headed_item<W: Write, T: Encode>(
     item: &T,
 ) -> Result<(), EncodeError<W::Error>>
     requires { major < 8 }
-    ensures { Writes W.whole (shortest_head major argument ++ T.bytes item.now) (W.view writer.old) (W.view writer.new) result }
+    ensures { Writes W.whole (shortest_head major argument ++ T.bytes item.now)
+        (W.view writer.old) (W.view writer.new) result }
 {
     push_head(writer, major, argument)?;
     item.encode(writer)

@@ -32,11 +32,6 @@ use cbor4ii_rw::read::Source;
 use cbor4ii_rw::write::Write;
 use std::alloc::Global;
 
-/// A simple value is read by its number, in the first byte or the one after it; 24 to 31 too,
-/// which RFC 8949 section 3.3 keeps free.
-///
-/// It is refused as a head of major type 7 with at most one byte of argument is, by the name
-/// "simple".
 impl Spelled for Simple {
     ghost reads = { ReadsSimple };
 
@@ -63,6 +58,12 @@ impl Spelled for Simple {
     }
 }
 
+/// A simple value by its number, in the first byte or the one after it; 24 to 31 too, which RFC
+/// 8949 section 3.3 keeps free.
+///
+/// Refused by the name "simple": `Eof` with 1 where no byte is left, and with k where the argument
+/// has k bytes and fewer are left, nothing being left then; `Mismatch` with the first byte, which
+/// is taken, where it begins no head of major type 7 with at most one byte of argument.
 impl<S: Source> Decode<S> for Simple {
     #[inline(always)]
     fn decode(alloc: Global, reader: &mut S) -> Result<Simple, DecodeError<S::Error>> {
@@ -83,14 +84,13 @@ impl Encode for Simple {
 
     #[inline(always)]
     fn encode<W: Write>(&self, writer: &mut W) -> Result<(), EncodeError<W::Error>>
-        ensures { WritesWhole W.whole (shortest_head 7 self.now.0) (W.view writer.old) (W.view writer.new) result }
+        ensures { WritesWhole W.whole (shortest_head 7 self.now.0)
+            (W.view writer.old) (W.view writer.new) result }
     {
         push_head(writer, major::SIMPLE, self.0 as u64)
     }
 }
 
-/// Refused by the name "bool": where no byte is left, `Eof` with 1; where another byte comes next,
-/// `Mismatch`, and the byte stays.
 impl Spelled for bool {
     ghost reads = { ReadsBool };
 
@@ -117,6 +117,10 @@ impl Spelled for bool {
     }
 }
 
+/// False or true, in one byte (RFC 8949 section 3.3).
+///
+/// Refused by the name "bool": `Eof` with 1 where no byte is left; `Mismatch` with the next byte,
+/// which stays, where it is neither.
 impl<S: Source> Decode<S> for bool {
     #[inline(always)]
     fn decode(alloc: Global, reader: &mut S) -> Result<bool, DecodeError<S::Error>> {
@@ -145,7 +149,8 @@ impl Encode for bool {
 
     #[inline(always)]
     fn encode<W: Write>(&self, writer: &mut W) -> Result<(), EncodeError<W::Error>>
-        ensures { WritesWhole W.whole (bool_byte self.now ∷ []) (W.view writer.old) (W.view writer.new) result }
+        ensures { WritesWhole W.whole (bool_byte self.now ∷ [])
+            (W.view writer.old) (W.view writer.new) result }
     {
         let byte = if *self { marker::TRUE } else { marker::FALSE };
         push_bytes(writer, &[byte])
@@ -157,7 +162,8 @@ impl Encode for Null {
 
     #[inline(always)]
     fn encode<W: Write>(&self, writer: &mut W) -> Result<(), EncodeError<W::Error>>
-        ensures { WritesWhole W.whole (simple_byte simple_null ∷ []) (W.view writer.old) (W.view writer.new) result }
+        ensures { WritesWhole W.whole (simple_byte simple_null ∷ [])
+            (W.view writer.old) (W.view writer.new) result }
     {
         push_bytes(writer, &[marker::NULL])
     }
@@ -168,7 +174,8 @@ impl Encode for Undefined {
 
     #[inline(always)]
     fn encode<W: Write>(&self, writer: &mut W) -> Result<(), EncodeError<W::Error>>
-        ensures { WritesWhole W.whole (simple_byte simple_undefined ∷ []) (W.view writer.old) (W.view writer.new) result }
+        ensures { WritesWhole W.whole (simple_byte simple_undefined ∷ [])
+            (W.view writer.old) (W.view writer.new) result }
     {
         push_bytes(writer, &[marker::UNDEFINED])
     }

@@ -65,6 +65,10 @@ impl<T: Spelled> Spelled for Tag<T> {
     }
 }
 
+/// A tag, its number of any width, and the item that it tags (RFC 8949 section 3.4).
+///
+/// Refused by the name "tag" as `Tag::tag` refuses it; then as the item is, behind the tag, and it
+/// leaves what the item leaves.
 impl<S: Source, T: Decode<S>> Decode<S> for Tag<T> {
     fn decode(alloc: Global, reader: &mut S) -> Result<Tag<T>, DecodeError<S::Error>> {
         let number = lone_head(reader, "tag", major::TAG, 8)?;

@@ -1,5 +1,18 @@
 //! Integers of sixteen bytes: those that are no argument of a head are bignums.
-ghost use Rattle.std.specs.Prelude.{◌≡◌, ◌+◌, ◌<◌, ◌≤◌, ◌^◌, OnOk, IfOk, true, false, codes, pos, negsuc};
+ghost use Rattle.std.specs.Prelude.{
+  ◌≡◌,
+  ◌+◌,
+  ◌<◌,
+  ◌≤◌,
+  ◌^◌,
+  OnOk,
+  IfOk,
+  true,
+  false,
+  codes,
+  pos,
+  negsuc,
+};
 ghost use Rattle.cbor4ii_items.specs.Reading.{Runs};
 ghost use Rattle.cbor4ii_items.specs.ReadNumber.{
   magnitude_at,
@@ -67,7 +80,8 @@ fn small_magnitude<S: Source>(
     reader: &mut S,
     name: StaticStr,
 ) -> Result<u128, DecodeError<S::Error>>
-    ensures runs { Runs (small_magnitude_at name.now) (S.view reader.old) (S.view reader.new) result }
+    ensures runs { Runs (small_magnitude_at name.now)
+        (S.view reader.old) (S.view reader.new) result }
     ensures small { IfOk result (λ v. v < 2 ^ 127) }
 {
     let number = magnitude(reader, name)?;
@@ -218,6 +232,24 @@ impl Spelled for u128 {
     }
 }
 
+/// An unsigned integer of any head, or a bignum of tag 2: a byte string of known length, of at most
+/// 16 bytes, with leading zeros or none (RFC 8949 sections 3.1 and 3.4.3).
+///
+/// Refusals:
+///
+/// - no byte is left: `Eof` by the name "u128" with 1
+/// - a head of major type 0 is cut or reserved: as `u64` refuses it, by "u64"
+/// - no tag with at most one byte of argument comes, or a cut one: `Mismatch` by "u128" with the
+///   first byte, which is taken, or `Eof`
+/// - the tag is not 2: `Mismatch` by "u128::tag" with it, behind the tag
+/// - no head of a byte string comes behind the tag, or a cut one: `Mismatch` or `Eof` by
+///   "u128::bytes", as for every head
+/// - the byte string is of indefinite length: `RequireLength` by "u128::bytes" with `Indefinite`,
+///   behind its first byte
+/// - it has more than 16 bytes: `LengthOverflow` by "u128::bytes" with their number, behind its
+///   head
+/// - fewer bytes are left than it has: `Eof` by "u128::bytes" with the number that it has, and
+///   nothing is left
 impl<S: Source> Decode<S> for u128 {
     fn decode(alloc: Global, reader: &mut S) -> Result<u128, DecodeError<S::Error>> {
         unsigned(reader)
@@ -266,6 +298,21 @@ impl Spelled for i128 {
     }
 }
 
+/// An integer of any head, or a bignum of tag 2, or of tag 3 for a negative one: a byte string of
+/// known length, of at most 16 bytes, whose number is below 2^127 (RFC 8949 sections 3.1 and
+/// 3.4.3).
+///
+/// Refusals:
+///
+/// - no byte is left: `Eof` by the name "i128" with 1
+/// - a head of major type 0 is cut or reserved: as `u64` refuses it, by "u64"
+/// - a head of major type 1 is cut or reserved: `Eof` or `Mismatch` by "i128", as for every head
+/// - no tag with at most one byte of argument comes, or a cut one: `Mismatch` by "i128" with the
+///   first byte, which is taken, or `Eof`
+/// - the tag is neither 2 nor 3: `Mismatch` by "i128::tag" with it, behind the tag
+/// - the byte string is refused: as that of a `u128`, by "+i128::bytes" behind tag 2 and by
+///   "-i128::bytes" behind tag 3
+/// - the number is 2^127 or greater: `CastOverflow` by "i128", behind the item
 impl<S: Source> Decode<S> for i128 {
     fn decode(alloc: Global, reader: &mut S) -> Result<i128, DecodeError<S::Error>> {
         signed(reader)

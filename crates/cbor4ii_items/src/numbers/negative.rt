@@ -46,6 +46,12 @@ impl Spelled for Negative<u8> {
     }
 }
 
+/// A negative integer whose argument has at most one byte, whether or not in its shortest head (RFC
+/// 8949 section 3.1).
+///
+/// Refused by the name "-u8": `Eof` with 1 where no byte is left, and with k where the argument has
+/// k bytes and fewer are left, nothing being left then; `Mismatch` with the first byte, which is
+/// taken, where it begins no head of major type 1 with at most one byte of argument.
 impl<S: Source> Decode<S> for Negative<u8> {
     #[inline(always)]
     fn decode(alloc: Global, reader: &mut S) -> Result<Negative<u8>, DecodeError<S::Error>> {
@@ -66,7 +72,8 @@ impl Encode for Negative<u8> {
 
     #[inline(always)]
     fn encode<W: Write>(&self, writer: &mut W) -> Result<(), EncodeError<W::Error>>
-        ensures { WritesWhole W.whole (shortest_head 1 self.now.0) (W.view writer.old) (W.view writer.new) result }
+        ensures { WritesWhole W.whole (shortest_head 1 self.now.0)
+            (W.view writer.old) (W.view writer.new) result }
     {
         push_head(writer, major::NEGATIVE, self.0 as u64)
     }
@@ -98,6 +105,12 @@ impl Spelled for Negative<u16> {
     }
 }
 
+/// A negative integer whose argument has at most two bytes, whether or not in its shortest head
+/// (RFC 8949 section 3.1).
+///
+/// Refused by the name "-u16": `Eof` with 1 where no byte is left, and with k where the argument
+/// has k bytes and fewer are left, nothing being left then; `Mismatch` with the first byte, which
+/// is taken, where it begins no head of major type 1 with at most two bytes of argument.
 impl<S: Source> Decode<S> for Negative<u16> {
     #[inline(always)]
     fn decode(alloc: Global, reader: &mut S) -> Result<Negative<u16>, DecodeError<S::Error>> {
@@ -118,7 +131,8 @@ impl Encode for Negative<u16> {
 
     #[inline(always)]
     fn encode<W: Write>(&self, writer: &mut W) -> Result<(), EncodeError<W::Error>>
-        ensures { WritesWhole W.whole (shortest_head 1 self.now.0) (W.view writer.old) (W.view writer.new) result }
+        ensures { WritesWhole W.whole (shortest_head 1 self.now.0)
+            (W.view writer.old) (W.view writer.new) result }
     {
         push_head(writer, major::NEGATIVE, self.0 as u64)
     }
@@ -150,6 +164,12 @@ impl Spelled for Negative<u32> {
     }
 }
 
+/// A negative integer whose argument has at most four bytes, whether or not in its shortest head
+/// (RFC 8949 section 3.1).
+///
+/// Refused by the name "-u32": `Eof` with 1 where no byte is left, and with k where the argument
+/// has k bytes and fewer are left, nothing being left then; `Mismatch` with the first byte, which
+/// is taken, where it begins no head of major type 1 with at most four bytes of argument.
 impl<S: Source> Decode<S> for Negative<u32> {
     #[inline(always)]
     fn decode(alloc: Global, reader: &mut S) -> Result<Negative<u32>, DecodeError<S::Error>> {
@@ -170,7 +190,8 @@ impl Encode for Negative<u32> {
 
     #[inline(always)]
     fn encode<W: Write>(&self, writer: &mut W) -> Result<(), EncodeError<W::Error>>
-        ensures { WritesWhole W.whole (shortest_head 1 self.now.0) (W.view writer.old) (W.view writer.new) result }
+        ensures { WritesWhole W.whole (shortest_head 1 self.now.0)
+            (W.view writer.old) (W.view writer.new) result }
     {
         push_head(writer, major::NEGATIVE, self.0 as u64)
     }
@@ -202,6 +223,12 @@ impl Spelled for Negative<u64> {
     }
 }
 
+/// A negative integer whose argument has at most eight bytes, whether or not in its shortest head
+/// (RFC 8949 section 3.1).
+///
+/// Refused by the name "-u64": `Eof` with 1 where no byte is left, and with k where the argument
+/// has k bytes and fewer are left, nothing being left then; `Mismatch` with the first byte, which
+/// is taken, where it begins no head of major type 1 with at most eight bytes of argument.
 impl<S: Source> Decode<S> for Negative<u64> {
     #[inline(always)]
     fn decode(alloc: Global, reader: &mut S) -> Result<Negative<u64>, DecodeError<S::Error>> {
@@ -223,7 +250,8 @@ impl Encode for Negative<u64> {
     /// In one push: a whole writer that failed holds what it held before.
     #[inline(always)]
     fn encode<W: Write>(&self, writer: &mut W) -> Result<(), EncodeError<W::Error>>
-        ensures { WritesWhole W.whole (shortest_head 1 self.now.0) (W.view writer.old) (W.view writer.new) result }
+        ensures { WritesWhole W.whole (shortest_head 1 self.now.0)
+            (W.view writer.old) (W.view writer.new) result }
     {
         push_head(writer, major::NEGATIVE, self.0)
     }

@@ -18,7 +18,12 @@ ghost use Rattle.cbor4ii_items.specs.Reading.{Runs};
 ghost use Rattle.cbor4ii_items.specs.Decoding.{Sound, Refuses, Stops};
 ghost use Rattle.cbor4ii_items.specs.ReadNumber.{half_at, signed_at};
 ghost use Rattle.cbor4ii_items.specs.Numbers.{ReadsSigned, StopsSigned, IsWithin, signed_head};
-ghost use Rattle.cbor4ii_items.specs.SignedLaws.{signed_one, signed_within, signed_positive, signed_alone};
+ghost use Rattle.cbor4ii_items.specs.SignedLaws.{
+  signed_one,
+  signed_within,
+  signed_positive,
+  signed_alone,
+};
 ghost use Rattle.cbor4ii_items.specs.Writing.{WritesWhole};
 
 use crate::decode::{Decode, Spelled};
@@ -42,7 +47,8 @@ fn head_below<S: Source>(
     width: u8,
     limit: u64,
 ) -> Result<u64, DecodeError<S::Error>>
-    ensures runs { Runs (half_at name.now major width limit) (S.view reader.old) (S.view reader.new) result }
+    ensures runs { Runs (half_at name.now major width limit)
+        (S.view reader.old) (S.view reader.new) result }
     ensures below { IfOk result (λ v. v < limit) }
     ensures progress { OnOk result ((S.view reader.new).bound + 1 ≤ (S.view reader.old).bound) }
 {
@@ -64,7 +70,8 @@ fn signed<S: Source>(
     limit: u64,
 ) -> Result<i64, DecodeError<S::Error>>
     requires { limit ≤ 2 ^ 63 }
-    ensures runs { Runs (signed_at name.now plus.now minus.now width limit) (S.view reader.old) (S.view reader.new) result }
+    ensures runs { Runs (signed_at name.now plus.now minus.now width limit)
+        (S.view reader.old) (S.view reader.new) result }
     ensures range { IfOk result (IsWithin limit) }
     ensures progress { OnOk result ((S.view reader.new).bound + 1 ≤ (S.view reader.old).bound) }
 {
@@ -90,7 +97,8 @@ fn signed_below_zero<S: Source>(
     limit: u64,
 ) -> Result<i64, DecodeError<S::Error>>
     requires { limit ≤ 2 ^ 63 }
-    ensures runs { Runs (signed_at name.now plus.now minus.now width limit) (S.view reader.old) (S.view reader.new) result }
+    ensures runs { Runs (signed_at name.now plus.now minus.now width limit)
+        (S.view reader.old) (S.view reader.new) result }
     ensures range { IfOk result (IsWithin limit) }
     ensures progress { OnOk result ((S.view reader.new).bound + 1 ≤ (S.view reader.old).bound) }
 {
@@ -118,7 +126,8 @@ fn signed_by_bytes<S: Source>(
     limit: u64,
 ) -> Result<i64, DecodeError<S::Error>>
     requires { limit ≤ 2 ^ 63 }
-    ensures runs { Runs (signed_at name.now plus.now minus.now width limit) (S.view reader.old) (S.view reader.new) result }
+    ensures runs { Runs (signed_at name.now plus.now minus.now width limit)
+        (S.view reader.old) (S.view reader.new) result }
     ensures range { IfOk result (IsWithin limit) }
     ensures progress { OnOk result ((S.view reader.new).bound + 1 ≤ (S.view reader.old).bound) }
 {
@@ -162,12 +171,16 @@ fn lone_signed<S: Source>(
     limit: u64,
 ) -> Result<i64, DecodeError<S::Error>>
     requires { limit ≤ 2 ^ 63 }
-    ensures runs { Runs (signed_at name.now plus.now minus.now width limit) (S.view reader.old) (S.view reader.new) result }
+    ensures runs { Runs (signed_at name.now plus.now minus.now width limit)
+        (S.view reader.old) (S.view reader.new) result }
     ensures range { IfOk result (IsWithin limit) }
     ensures progress { OnOk result ((S.view reader.new).bound + 1 ≤ (S.view reader.old).bound) }
-    ensures sound { IfOk result (Sound (ReadsSigned width limit) (S.view reader.old) (S.view reader.new)) }
+    ensures sound { IfOk result
+        (Sound (ReadsSigned width limit) (S.view reader.old) (S.view reader.new)) }
     ensures complete { IfErr result (Refuses (ReadsSigned width limit) (S.view reader.old)) }
-    ensures stops { IfErr result (Stops (λ xs budget. StopsSigned name.now plus.now minus.now width limit xs) (S.view reader.old) (S.view reader.new)) }
+    ensures stops { IfErr result (Stops
+        (λ xs budget. StopsSigned name.now plus.now minus.now width limit xs)
+        (S.view reader.old) (S.view reader.new)) }
 {
     signed(reader, name, plus, minus, width, limit)
 }
@@ -177,9 +190,11 @@ impl Spelled for i8 {
 
     ghost same = { λ v w. v ≡ w };
 
-    ghost stops = { λ xs budget. StopsSigned (codes "i8") (codes "+i8") (codes "-i8") 1 (2 ^ 7) xs };
+    ghost stops = { λ xs budget.
+        StopsSigned (codes "i8") (codes "+i8") (codes "-i8") 1 (2 ^ 7) xs };
 
-    ghost begins = { λ xs budget. StopsSigned (codes "i8") (codes "+i8") (codes "-i8") 1 (2 ^ 7) xs };
+    ghost begins = { λ xs budget.
+        StopsSigned (codes "i8") (codes "+i8") (codes "-i8") 1 (2 ^ 7) xs };
 
     ghost never_empty = { true };
 
@@ -198,6 +213,15 @@ impl Spelled for i8 {
     }
 }
 
+/// An integer of major type 0, or a negative one of major type 1, whose argument has at most one
+/// byte and is below 2^7 (RFC 8949 section 3.1).
+///
+/// Refusals:
+///
+/// - no byte is left: `Eof` by the name "i8" with 1
+/// - the next byte is of another major type: `Mismatch` by "i8" with it, and it stays
+/// - the argument is cut, or has more bytes: `Eof` or `Mismatch`, as every head, by "+i8" or "-i8"
+/// - the argument is 2^7 or greater: `CastOverflow` by "+i8" or "-i8", behind the head
 impl<S: Source> Decode<S> for i8 {
     #[inline(always)]
     fn decode(alloc: Global, reader: &mut S) -> Result<i8, DecodeError<S::Error>> {
@@ -218,7 +242,8 @@ impl Encode for i8 {
 
     #[inline(always)]
     fn encode<W: Write>(&self, writer: &mut W) -> Result<(), EncodeError<W::Error>>
-        ensures { WritesWhole W.whole (signed_head self.now) (W.view writer.old) (W.view writer.new) result }
+        ensures { WritesWhole W.whole (signed_head self.now)
+            (W.view writer.old) (W.view writer.new) result }
     {
         push_signed(writer, *self as i64)
     }
@@ -229,9 +254,11 @@ impl Spelled for i16 {
 
     ghost same = { λ v w. v ≡ w };
 
-    ghost stops = { λ xs budget. StopsSigned (codes "i16") (codes "+i16") (codes "-i16") 2 (2 ^ 15) xs };
+    ghost stops = { λ xs budget.
+        StopsSigned (codes "i16") (codes "+i16") (codes "-i16") 2 (2 ^ 15) xs };
 
-    ghost begins = { λ xs budget. StopsSigned (codes "i16") (codes "+i16") (codes "-i16") 2 (2 ^ 15) xs };
+    ghost begins = { λ xs budget.
+        StopsSigned (codes "i16") (codes "+i16") (codes "-i16") 2 (2 ^ 15) xs };
 
     ghost never_empty = { true };
 
@@ -250,6 +277,16 @@ impl Spelled for i16 {
     }
 }
 
+/// An integer of major type 0, or a negative one of major type 1, whose argument has at most two
+/// bytes and is below 2^15 (RFC 8949 section 3.1).
+///
+/// Refusals:
+///
+/// - no byte is left: `Eof` by the name "i16" with 1
+/// - the next byte is of another major type: `Mismatch` by "i16" with it, and it stays
+/// - the argument is cut, or has more bytes: `Eof` or `Mismatch`, as every head, by "+i16" or
+///   "-i16"
+/// - the argument is 2^15 or greater: `CastOverflow` by "+i16" or "-i16", behind the head
 impl<S: Source> Decode<S> for i16 {
     #[inline(always)]
     fn decode(alloc: Global, reader: &mut S) -> Result<i16, DecodeError<S::Error>> {
@@ -270,7 +307,8 @@ impl Encode for i16 {
 
     #[inline(always)]
     fn encode<W: Write>(&self, writer: &mut W) -> Result<(), EncodeError<W::Error>>
-        ensures { WritesWhole W.whole (signed_head self.now) (W.view writer.old) (W.view writer.new) result }
+        ensures { WritesWhole W.whole (signed_head self.now)
+            (W.view writer.old) (W.view writer.new) result }
     {
         push_signed(writer, *self as i64)
     }
@@ -281,9 +319,11 @@ impl Spelled for i32 {
 
     ghost same = { λ v w. v ≡ w };
 
-    ghost stops = { λ xs budget. StopsSigned (codes "i32") (codes "+i32") (codes "-i32") 4 (2 ^ 31) xs };
+    ghost stops = { λ xs budget.
+        StopsSigned (codes "i32") (codes "+i32") (codes "-i32") 4 (2 ^ 31) xs };
 
-    ghost begins = { λ xs budget. StopsSigned (codes "i32") (codes "+i32") (codes "-i32") 4 (2 ^ 31) xs };
+    ghost begins = { λ xs budget.
+        StopsSigned (codes "i32") (codes "+i32") (codes "-i32") 4 (2 ^ 31) xs };
 
     ghost never_empty = { true };
 
@@ -302,6 +342,16 @@ impl Spelled for i32 {
     }
 }
 
+/// An integer of major type 0, or a negative one of major type 1, whose argument has at most four
+/// bytes and is below 2^31 (RFC 8949 section 3.1).
+///
+/// Refusals:
+///
+/// - no byte is left: `Eof` by the name "i32" with 1
+/// - the next byte is of another major type: `Mismatch` by "i32" with it, and it stays
+/// - the argument is cut, or has more bytes: `Eof` or `Mismatch`, as every head, by "+i32" or
+///   "-i32"
+/// - the argument is 2^31 or greater: `CastOverflow` by "+i32" or "-i32", behind the head
 impl<S: Source> Decode<S> for i32 {
     #[inline(always)]
     fn decode(alloc: Global, reader: &mut S) -> Result<i32, DecodeError<S::Error>> {
@@ -322,7 +372,8 @@ impl Encode for i32 {
 
     #[inline(always)]
     fn encode<W: Write>(&self, writer: &mut W) -> Result<(), EncodeError<W::Error>>
-        ensures { WritesWhole W.whole (signed_head self.now) (W.view writer.old) (W.view writer.new) result }
+        ensures { WritesWhole W.whole (signed_head self.now)
+            (W.view writer.old) (W.view writer.new) result }
     {
         push_signed(writer, *self as i64)
     }
@@ -333,9 +384,11 @@ impl Spelled for i64 {
 
     ghost same = { λ v w. v ≡ w };
 
-    ghost stops = { λ xs budget. StopsSigned (codes "i64") (codes "+i64") (codes "-i64") 8 (2 ^ 63) xs };
+    ghost stops = { λ xs budget.
+        StopsSigned (codes "i64") (codes "+i64") (codes "-i64") 8 (2 ^ 63) xs };
 
-    ghost begins = { λ xs budget. StopsSigned (codes "i64") (codes "+i64") (codes "-i64") 8 (2 ^ 63) xs };
+    ghost begins = { λ xs budget.
+        StopsSigned (codes "i64") (codes "+i64") (codes "-i64") 8 (2 ^ 63) xs };
 
     ghost never_empty = { true };
 
@@ -354,6 +407,16 @@ impl Spelled for i64 {
     }
 }
 
+/// An integer of major type 0, or a negative one of major type 1, whose argument has at most eight
+/// bytes and is below 2^63 (RFC 8949 section 3.1).
+///
+/// Refusals:
+///
+/// - no byte is left: `Eof` by the name "i64" with 1
+/// - the next byte is of another major type: `Mismatch` by "i64" with it, and it stays
+/// - the argument is cut, or has more bytes: `Eof` or `Mismatch`, as every head, by "+i64" or
+///   "-i64"
+/// - the argument is 2^63 or greater: `CastOverflow` by "+i64" or "-i64", behind the head
 impl<S: Source> Decode<S> for i64 {
     #[inline(always)]
     fn decode(alloc: Global, reader: &mut S) -> Result<i64, DecodeError<S::Error>> {
@@ -374,7 +437,8 @@ impl Encode for i64 {
 
     #[inline(always)]
     fn encode<W: Write>(&self, writer: &mut W) -> Result<(), EncodeError<W::Error>>
-        ensures { WritesWhole W.whole (signed_head self.now) (W.view writer.old) (W.view writer.new) result }
+        ensures { WritesWhole W.whole (signed_head self.now)
+            (W.view writer.old) (W.view writer.new) result }
     {
         push_signed(writer, *self)
     }

@@ -45,6 +45,12 @@ impl Spelled for u8 {
     }
 }
 
+/// An unsigned integer whose argument has at most one byte, whether or not in its shortest head
+/// (RFC 8949 section 3.1).
+///
+/// Refused by the name "u8": `Eof` with 1 where no byte is left, and with k where the argument has
+/// k bytes and fewer are left, nothing being left then; `Mismatch` with the first byte, which is
+/// taken, where it begins no head of major type 0 with at most one byte of argument.
 impl<S: Source> Decode<S> for u8 {
     #[inline(always)]
     fn decode(alloc: Global, reader: &mut S) -> Result<u8, DecodeError<S::Error>> {
@@ -65,7 +71,8 @@ impl Encode for u8 {
 
     #[inline(always)]
     fn encode<W: Write>(&self, writer: &mut W) -> Result<(), EncodeError<W::Error>>
-        ensures { WritesWhole W.whole (shortest_head 0 self.now) (W.view writer.old) (W.view writer.new) result }
+        ensures { WritesWhole W.whole (shortest_head 0 self.now)
+            (W.view writer.old) (W.view writer.new) result }
     {
         push_head(writer, major::UNSIGNED, *self as u64)
     }
@@ -97,6 +104,12 @@ impl Spelled for u16 {
     }
 }
 
+/// An unsigned integer whose argument has at most two bytes, whether or not in its shortest head
+/// (RFC 8949 section 3.1).
+///
+/// Refused by the name "u16": `Eof` with 1 where no byte is left, and with k where the argument has
+/// k bytes and fewer are left, nothing being left then; `Mismatch` with the first byte, which is
+/// taken, where it begins no head of major type 0 with at most two bytes of argument.
 impl<S: Source> Decode<S> for u16 {
     #[inline(always)]
     fn decode(alloc: Global, reader: &mut S) -> Result<u16, DecodeError<S::Error>> {
@@ -117,7 +130,8 @@ impl Encode for u16 {
 
     #[inline(always)]
     fn encode<W: Write>(&self, writer: &mut W) -> Result<(), EncodeError<W::Error>>
-        ensures { WritesWhole W.whole (shortest_head 0 self.now) (W.view writer.old) (W.view writer.new) result }
+        ensures { WritesWhole W.whole (shortest_head 0 self.now)
+            (W.view writer.old) (W.view writer.new) result }
     {
         push_head(writer, major::UNSIGNED, *self as u64)
     }
@@ -149,6 +163,12 @@ impl Spelled for u32 {
     }
 }
 
+/// An unsigned integer whose argument has at most four bytes, whether or not in its shortest head
+/// (RFC 8949 section 3.1).
+///
+/// Refused by the name "u32": `Eof` with 1 where no byte is left, and with k where the argument has
+/// k bytes and fewer are left, nothing being left then; `Mismatch` with the first byte, which is
+/// taken, where it begins no head of major type 0 with at most four bytes of argument.
 impl<S: Source> Decode<S> for u32 {
     #[inline(always)]
     fn decode(alloc: Global, reader: &mut S) -> Result<u32, DecodeError<S::Error>> {
@@ -169,7 +189,8 @@ impl Encode for u32 {
 
     #[inline(always)]
     fn encode<W: Write>(&self, writer: &mut W) -> Result<(), EncodeError<W::Error>>
-        ensures { WritesWhole W.whole (shortest_head 0 self.now) (W.view writer.old) (W.view writer.new) result }
+        ensures { WritesWhole W.whole (shortest_head 0 self.now)
+            (W.view writer.old) (W.view writer.new) result }
     {
         push_head(writer, major::UNSIGNED, *self as u64)
     }
@@ -201,6 +222,12 @@ impl Spelled for u64 {
     }
 }
 
+/// An unsigned integer whose argument has at most eight bytes, whether or not in its shortest head
+/// (RFC 8949 section 3.1).
+///
+/// Refused by the name "u64": `Eof` with 1 where no byte is left, and with k where the argument has
+/// k bytes and fewer are left, nothing being left then; `Mismatch` with the first byte, which is
+/// taken, where it begins no head of major type 0 with at most eight bytes of argument.
 impl<S: Source> Decode<S> for u64 {
     #[inline(always)]
     fn decode(alloc: Global, reader: &mut S) -> Result<u64, DecodeError<S::Error>> {
@@ -222,7 +249,8 @@ impl Encode for u64 {
     /// In one push: a whole writer that failed holds what it held before.
     #[inline(always)]
     fn encode<W: Write>(&self, writer: &mut W) -> Result<(), EncodeError<W::Error>>
-        ensures { WritesWhole W.whole (shortest_head 0 self.now) (W.view writer.old) (W.view writer.new) result }
+        ensures { WritesWhole W.whole (shortest_head 0 self.now)
+            (W.view writer.old) (W.view writer.new) result }
     {
         push_head(writer, major::UNSIGNED, *self)
     }

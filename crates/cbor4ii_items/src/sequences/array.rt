@@ -1,18 +1,4 @@
-//! Arrays (RFC 8949 sections 3.1 and 3.2.2).
-//!
-//! A `Vec<T>` is read from an array of items, counted or up to a break, under one step of the
-//! reader's budget, which is given back whatever the answer is. At most 256 items have their place
-//! reserved before any of them came. An open array of a type that may read nothing is read only
-//! where its break comes at once, since no reading of it would end. A refused growth is answered by
-//! `OutOfMemory`.
-//!
-//! Refusals, in this order, by the name "array":
-//! - no step is left: `DepthOverflow`, and nothing is taken
-//! - the head is not one of an array: `Mismatch` or `Eof`, as for every head
-//! - in the place of an item or a break there is no byte: `Eof` by "break" with 1
-//! - an open array of a type that may read nothing has no break there: `RequireLength` with
-//!   `Indefinite`, and the byte is left
-//! - an item is refused: its own refusal, and what it leaves
+//! Arrays, read (RFC 8949 sections 3.1 and 3.2.2).
 ghost use Rattle.std.specs.Prelude.{◌≡◌, true};
 ghost use Rattle.cbor4ii_items.specs.Sequences.{ReadsArray, SameArray, StopsArray};
 ghost use Rattle.cbor4ii_items.specs.SequenceLaws.{
@@ -29,7 +15,6 @@ use cbor4ii_rw::error::DecodeError;
 use cbor4ii_rw::read::Source;
 use std::alloc::Global;
 
-/// An array, as its items.
 impl<T: Spelled> Spelled for Vec<T> {
     ghost reads = { ReadsArray T.reads T.never_empty };
 
@@ -84,6 +69,19 @@ impl<S: Source, T: Decode<S> + Drop> Sequence<S> for Vec<T> {
     ghost positive = { T.positive };
 }
 
+/// An array of items, counted or up to a break (RFC 8949 sections 3.1 and 3.2.2), under one step of
+/// the reader's budget, which is given back whatever the answer is. At most 256 items have their
+/// place reserved before any of them came. An array of indefinite length, of a type that may read
+/// nothing, is read only where its break comes at once, since no reading of it would end.
+///
+/// Refusals, in this order, by the name "array" where no other is said:
+///
+/// - no step is left: `DepthOverflow`, and nothing is taken
+/// - the head is not one of an array: `Mismatch` or `Eof`, as for every head
+/// - in the place of an item or a break there is no byte: `Eof` by "break" with 1
+/// - of a type that may read nothing, another byte than a break comes there: `RequireLength` with
+///   `Indefinite`, and the byte is left
+/// - an item is refused: its own refusal, and what it leaves
 impl<S: Source, T: Decode<S> + Drop> Decode<S> for Vec<T> {
     fn decode(alloc: Global, reader: &mut S) -> Result<Vec<T>, DecodeError<S::Error>> {
         take_sequence::<S, Vec<T>>(alloc, reader, "array", major::ARRAY)

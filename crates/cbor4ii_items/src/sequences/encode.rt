@@ -44,7 +44,8 @@ impl<'a, K: Encode, V: Encode> Encode for Map<&'a [(K, V)]> {
 }
 
 fn push_array<W: Write, T: Encode>(writer: &mut W, items: &[T]) -> Result<(), EncodeError<W::Error>>
-    ensures { Writes W.whole (array_bytes T.bytes items.now) (W.view writer.old) (W.view writer.new) result }
+    ensures { Writes W.whole (array_bytes T.bytes items.now)
+        (W.view writer.old) (W.view writer.new) result }
 {
     push_head(writer, major::ARRAY, items.len() as u64)?;
     push_items(writer, items)
@@ -54,14 +55,16 @@ fn push_map<W: Write, K: Encode, V: Encode>(
     writer: &mut W,
     pairs: &[(K, V)],
 ) -> Result<(), EncodeError<W::Error>>
-    ensures { Writes W.whole (map_bytes K.bytes V.bytes pairs.now) (W.view writer.old) (W.view writer.new) result }
+    ensures { Writes W.whole (map_bytes K.bytes V.bytes pairs.now)
+        (W.view writer.old) (W.view writer.new) result }
 {
     push_head(writer, major::MAP, pairs.len() as u64)?;
     push_pairs(writer, pairs)
 }
 
 fn push_items<W: Write, T: Encode>(writer: &mut W, items: &[T]) -> Result<(), EncodeError<W::Error>>
-    ensures { Writes W.whole (items_bytes T.bytes items.now) (W.view writer.old) (W.view writer.new) result }
+    ensures { Writes W.whole (items_bytes T.bytes items.now)
+        (W.view writer.old) (W.view writer.new) result }
 {
     for item in items {
         item.encode(writer)?;
@@ -73,7 +76,8 @@ fn push_pairs<W: Write, K: Encode, V: Encode>(
     writer: &mut W,
     pairs: &[(K, V)],
 ) -> Result<(), EncodeError<W::Error>>
-    ensures { Writes W.whole (items_bytes (pair_bytes K.bytes V.bytes) pairs.now) (W.view writer.old) (W.view writer.new) result }
+    ensures { Writes W.whole (items_bytes (pair_bytes K.bytes V.bytes) pairs.now)
+        (W.view writer.old) (W.view writer.new) result }
 {
     for pair in pairs {
         push_pair(writer, pair)?;
@@ -86,7 +90,8 @@ fn push_pair<W: Write, K: Encode, V: Encode>(
     writer: &mut W,
     pair: &(K, V),
 ) -> Result<(), EncodeError<W::Error>>
-    ensures { Writes W.whole (pair_bytes K.bytes V.bytes pair.now) (W.view writer.old) (W.view writer.new) result }
+    ensures { Writes W.whole (pair_bytes K.bytes V.bytes pair.now)
+        (W.view writer.old) (W.view writer.new) result }
 {
     pair.0.encode(writer)?;
     pair.1.encode(writer)

@@ -42,7 +42,8 @@ impl Array<()> {
     /// It fails only where the writer failed in the call. A whole writer then holds what it held
     /// before.
     pub fn bounded<W: Write>(len: usize, writer: &mut W) -> Result<(), EncodeError<W::Error>>
-        ensures { WritesWhole W.whole (shortest_head 4 len) (W.view writer.old) (W.view writer.new) result }
+        ensures { WritesWhole W.whole (shortest_head 4 len)
+            (W.view writer.old) (W.view writer.new) result }
     {
         push_head(writer, major::ARRAY, len as u64)
     }
@@ -89,18 +90,19 @@ impl Map<()> {
         lone_length(reader, "map", major::MAP)
     }
 
-    /// Writes the shortest head of a map of `len` pairs of items, in one push. The pairs of items are to follow.
+    /// Writes the shortest head of a map of `len` pairs, in one push. The pairs are to follow.
     ///
     /// It fails only where the writer failed in the call. A whole writer then holds what it held
     /// before.
     pub fn bounded<W: Write>(len: usize, writer: &mut W) -> Result<(), EncodeError<W::Error>>
-        ensures { WritesWhole W.whole (shortest_head 5 len) (W.view writer.old) (W.view writer.new) result }
+        ensures { WritesWhole W.whole (shortest_head 5 len)
+            (W.view writer.old) (W.view writer.new) result }
     {
         push_head(writer, major::MAP, len as u64)
     }
 
-    /// Writes the first byte of a map of indefinite length, in one push. Pairs of items and an end are
-    /// to follow (RFC 8949 section 3.2.2).
+    /// Writes the first byte of a map of indefinite length, in one push. Pairs and an end are to
+    /// follow (RFC 8949 section 3.2.2).
     ///
     /// It fails only where the writer failed in the call. A whole writer then holds what it held
     /// before.

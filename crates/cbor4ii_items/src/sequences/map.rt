@@ -1,11 +1,4 @@
-//! Maps (RFC 8949 sections 3.1 and 3.2.2).
-//!
-//! A `Map` of pairs is read as an array is, each part being a key and its value. The pairs keep
-//! their order, and equal keys are kept. No break is looked for between a key and its value. A pair
-//! may read nothing where both of its types may.
-//!
-//! Refusals are those of arrays, by the name "map": where an item's would be, a key's, or behind a
-//! whole key its value's.
+//! Maps, read (RFC 8949 sections 3.1 and 3.2.2).
 ghost use Rattle.std.specs.Prelude.{◌≡◌, ◌&&◌, ◌||◌, true};
 ghost use Rattle.cbor4ii_items.specs.Sequences.{
   ReadsPair,
@@ -32,7 +25,6 @@ use cbor4ii_rw::error::DecodeError;
 use cbor4ii_rw::read::Source;
 use std::alloc::Global;
 
-/// A map, as its pairs in their order.
 impl<K: Spelled, V: Spelled> Spelled for Map<Vec<(K, V)>> {
     ghost reads = { ReadsMap K.reads V.reads (K.never_empty || V.never_empty) };
 
@@ -86,17 +78,26 @@ impl<S: Source, K: Decode<S> + Drop, V: Decode<S> + Drop> Sequence<S> for Map<Ve
 
     ghost within = { pair_within K.reads V.reads K.within V.within };
 
-    ghost positive = { pair_positive K.reads V.reads K.never_empty V.never_empty K.positive V.positive };
+    ghost positive = { pair_positive K.reads V.reads K.never_empty V.never_empty
+        K.positive V.positive };
 }
 
+/// A map of pairs, read as an array is, each part being a key and its value (RFC 8949 sections 3.1
+/// and 3.2.2). The pairs keep their order, and equal keys are kept. No break is looked for between
+/// a key and its value. A pair may read nothing where both of its types may.
+///
+/// Refusals are those of arrays, by the name "map": where an item's would be, a key's, or behind a
+/// whole key its value's.
 impl<S: Source, K: Decode<S> + Drop, V: Decode<S> + Drop> Decode<S> for Map<Vec<(K, V)>> {
     fn decode(alloc: Global, reader: &mut S) -> Result<Map<Vec<(K, V)>>, DecodeError<S::Error>> {
         Ok(Map(take_sequence::<S, Map<Vec<(K, V)>>>(alloc, reader, "map", major::MAP)?))
     }
 
-    ghost one = { map_one K.reads V.reads K.same V.same (K.never_empty || V.never_empty) K.one V.one };
+    ghost one = { map_one K.reads V.reads K.same V.same (K.never_empty || V.never_empty)
+        K.one V.one };
 
-    ghost within = { map_within K.reads V.reads (K.never_empty || V.never_empty) K.within V.within };
+    ghost within = { map_within K.reads V.reads (K.never_empty || V.never_empty)
+        K.within V.within };
 
     ghost positive = { λ _. map_positive K.reads V.reads (K.never_empty || V.never_empty) };
 

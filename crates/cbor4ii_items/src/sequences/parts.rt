@@ -101,7 +101,8 @@ pub(crate) fn take_sequence<S: Source, Q: Sequence<S>>(
     ensures stops { IsExact Q.owned (S.view reader.old) →
         IfErr result (Stops (StopsSequence name.now major Q.reads Q.stops Q.never_empty)
         (S.view reader.old) (S.view reader.new)) }
-    ensures begins { IfErr result (Stops (StopsSequence name.now major Q.reads Q.begins Q.never_empty)
+    ensures begins { IfErr result
+        (Stops (StopsSequence name.now major Q.reads Q.begins Q.never_empty)
         (S.view reader.old) (S.view reader.new)) }
 {
     if !reader.step_in() {

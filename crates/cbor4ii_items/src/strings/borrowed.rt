@@ -1,13 +1,4 @@
-//! Borrowed strings, read: parts of the input, with no copy.
-//!
-//! Only a string of known length is read, and only where one fill lends all of its bytes as long
-//! as the input lives. No step is taken and no memory.
-//!
-//! Refusals, in this order, by the name "bytes" or "str":
-//! - the head is not one of a string of known length: `Mismatch` or `Eof`, as for every head
-//! - the bytes do not live as long as the input: `RequireBorrowed`, behind the head
-//! - fewer bytes are lent: `RequireLength` with their number, behind the head
-//! - a `&str` is not UTF-8: `RequireUtf8`, behind the item
+//! Borrowed strings, read: parts of the input, with no copy (RFC 8949 section 3.1).
 ghost use Rattle.std.specs.Prelude.{◌≡◌, true, false, codes};
 ghost use Rattle.cbor4ii_items.specs.Lent.{
   ReadsLent,
@@ -33,7 +24,6 @@ use cbor4ii_rw::error::{DecodeError, StaticStr};
 use cbor4ii_rw::read::Read;
 use std::alloc::Global;
 
-/// A text string, as it stands in the input.
 impl<'de> Spelled for &'de str {
     ghost reads = { ReadsLent 3 true lent_str };
 
@@ -86,6 +76,17 @@ impl<'de, R: Read<'de>> Lend<R> for &'de str {
     }
 }
 
+/// A text string that is UTF-8, of known length, as it stands in the input, with no copy (RFC 8949
+/// section 3.1). It is read only where one fill lends all of its bytes as long as the input lives.
+/// No step is taken and no memory.
+///
+/// Refusals, in this order, by the name "str":
+///
+/// - the head is not one of a string of this major type and of known length: `Mismatch` or `Eof`,
+///   as for every head
+/// - the bytes do not live as long as the input: `RequireBorrowed`, behind the head
+/// - fewer bytes are lent: `RequireLength` with their number, behind the head
+/// - it is not UTF-8: `RequireUtf8`, behind the item
 impl<'de, R: Read<'de>> Decode<R> for &'de str {
     fn decode(alloc: Global, reader: &mut R) -> Result<&'de str, DecodeError<R::Error>> {
         take_lent(alloc, reader)
@@ -100,7 +101,6 @@ impl<'de, R: Read<'de>> Decode<R> for &'de str {
     ghost alone = { λ _. lent_alone 3 three_small true lent_str };
 }
 
-/// A byte string, as it stands in the input.
 impl<'de> Spelled for Bytes<&'de [u8]> {
     ghost reads = { ReadsLent 2 false lent_bytes };
 
@@ -156,6 +156,16 @@ impl<'de, R: Read<'de>> Lend<R> for Bytes<&'de [u8]> {
     }
 }
 
+/// A byte string, of known length, as it stands in the input, with no copy (RFC 8949 section 3.1).
+/// It is read only where one fill lends all of its bytes as long as the input lives. No step is
+/// taken and no memory.
+///
+/// Refusals, in this order, by the name "bytes":
+///
+/// - the head is not one of a string of this major type and of known length: `Mismatch` or `Eof`,
+///   as for every head
+/// - the bytes do not live as long as the input: `RequireBorrowed`, behind the head
+/// - fewer bytes are lent: `RequireLength` with their number, behind the head
 impl<'de, R: Read<'de>> Decode<R> for Bytes<&'de [u8]> {
     fn decode(alloc: Global, reader: &mut R) -> Result<Bytes<&'de [u8]>, DecodeError<R::Error>> {
         take_lent(alloc, reader)
@@ -170,7 +180,6 @@ impl<'de, R: Read<'de>> Decode<R> for Bytes<&'de [u8]> {
     ghost alone = { λ _. lent_alone 2 two_small false lent_bytes };
 }
 
-/// A text string, whatever its bytes, as it stands in the input.
 impl<'de> Spelled for UncheckedStr<&'de [u8]> {
     ghost reads = { ReadsLent 3 false lent_unchecked };
 
@@ -226,6 +235,16 @@ impl<'de, R: Read<'de>> Lend<R> for UncheckedStr<&'de [u8]> {
     }
 }
 
+/// A text string, whatever its bytes, of known length, as it stands in the input, with no copy (RFC
+/// 8949 section 3.1). It is read only where one fill lends all of its bytes as long as the input
+/// lives. No step is taken and no memory.
+///
+/// Refusals, in this order, by the name "str":
+///
+/// - the head is not one of a string of this major type and of known length: `Mismatch` or `Eof`,
+///   as for every head
+/// - the bytes do not live as long as the input: `RequireBorrowed`, behind the head
+/// - fewer bytes are lent: `RequireLength` with their number, behind the head
 impl<'de, R: Read<'de>> Decode<R> for UncheckedStr<&'de [u8]> {
     fn decode(
         alloc: Global,

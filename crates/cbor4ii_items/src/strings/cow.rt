@@ -1,17 +1,4 @@
 //! Strings that are borrowed from the input or owned, read (RFC 8949 sections 3.1 and 3.2.3).
-//!
-//! A string of known length is a part of the input, with no copy, where one fill lends all of its
-//! bytes as long as the input lives; elsewhere they are copied. A string of indefinite length is
-//! always copied, of one chunk too: it is known only behind a chunk whether more follow. The
-//! copies take steps and memory as those of the owned strings do.
-//!
-//! Refusals, in this order, by the name "bytes" or "str", over every reader:
-//! - the head is not one of a string: `Mismatch` or `Eof`, as for every head
-//! - bytes are missing: `Eof` with the number of those that are missing, and nothing is left
-//! - in the place of a chunk or a break there is no byte: `Eof` by "break" with 1
-//! - no step is left for a chunk: `DepthOverflow`, and the chunk is left
-//! - a chunk is of indefinite length: `RequireLength` with `Indefinite`, behind its first byte
-//! - a `CowStr` is not UTF-8: `RequireUtf8`, and the whole item is taken
 ghost use Rattle.std.specs.Prelude.{◌≡◌, ◌+◌, ◌≤◌, true, false, codes, OnOk, IfOk, IfErr, IsTrue};
 ghost use mathlib.Core.Path.{refl};
 ghost use Rattle.std.specs.Cow.{IsBorrowedStr, IsOwnedStr};
@@ -53,7 +40,6 @@ use cbor4ii_rw::read::Read;
 use std::alloc::Global;
 use std::borrow::{CowSlice, CowStr};
 
-/// A text string that is UTF-8.
 impl<'de> Spelled for CowStr<'de, Global> {
     ghost reads = { ReadsTextAs cow_text };
 
@@ -124,18 +110,34 @@ impl<'de, R: Read<'de>> LendOrOwn<R> for CowStr<'de, Global> {
     ghost text = { λ _. refl };
 }
 
+/// A text string that is UTF-8, of known or of indefinite length (RFC 8949 sections 3.1 and 3.2.3).
+/// One of known length is a part of the input, with no copy, where one fill lends all of its bytes
+/// as long as the input lives; elsewhere they are copied. One of indefinite length is always
+/// copied, of one chunk too: it is known only behind a chunk whether more follow. A copy takes
+/// steps and memory as that of an owned string does.
+///
+/// Refusals, in this order, over every reader, by the name "str" where no other is said:
+///
+/// - the head is not one of a string of this major type: `Mismatch` or `Eof`, as for every head
+/// - bytes are missing: `Eof` with the number of those that are missing, and nothing is left
+/// - in the place of a chunk or a break there is no byte: `Eof` by "break" with 1
+/// - no step is left for a chunk: `DepthOverflow`, and the chunk is left
+/// - a chunk is of indefinite length: `RequireLength` with `Indefinite`, behind its first byte
+/// - it is not UTF-8: `RequireUtf8`, and the whole item is taken
 impl<'de, R: Read<'de>> Decode<R> for CowStr<'de, Global> {
     fn decode(alloc: Global, reader: &mut R) -> Result<CowStr<'de, Global>, DecodeError<R::Error>>
         ensures moves { Moves (R.view reader.old) (R.view reader.new) result }
         ensures progress { IsTrue true →
             OnOk result ((R.view reader.new).bound + 1 ≤ (R.view reader.old).bound) }
         ensures memory { IfErr result (λ error. IsTrue (is_out_of_memory error) → IsTrue true) }
-        ensures sound { IfOk result (Sound (ReadsTextAs cow_text) (R.view reader.old) (R.view reader.new)) }
+        ensures sound { IfOk result
+            (Sound (ReadsTextAs cow_text) (R.view reader.old) (R.view reader.new)) }
         ensures complete { IsExact true (R.view reader.old) →
             IfErr result (Refuses (ReadsTextAs cow_text) (R.view reader.old)) }
         ensures stops { IsExact true (R.view reader.old) →
             IfErr result (Stops (StopsText (codes "str")) (R.view reader.old) (R.view reader.new)) }
-        ensures begins { IfErr result (Stops (StopsText (codes "str")) (R.view reader.old) (R.view reader.new)) }
+        ensures begins { IfErr result
+            (Stops (StopsText (codes "str")) (R.view reader.old) (R.view reader.new)) }
         ensures borrows { IfOk result
             (BorrowsWhereCounted 3 IsBorrowedStr IsOwnedStr (R.view reader.old)) }
     {
@@ -151,7 +153,6 @@ impl<'de, R: Read<'de>> Decode<R> for CowStr<'de, Global> {
     ghost alone = { λ _. text_alone cow_text };
 }
 
-/// A byte string.
 impl<'de> Spelled for Bytes<CowSlice<'de, u8, Global>> {
     ghost reads = { ReadsAs 2 cow_bytes };
 
@@ -222,6 +223,19 @@ impl<'de, R: Read<'de>> LendOrOwn<R> for Bytes<CowSlice<'de, u8, Global>> {
     ghost text = { no_text };
 }
 
+/// A byte string, of known or of indefinite length (RFC 8949 sections 3.1 and 3.2.3). One of known
+/// length is a part of the input, with no copy, where one fill lends all of its bytes as long as
+/// the input lives; elsewhere they are copied. One of indefinite length is always copied, of one
+/// chunk too: it is known only behind a chunk whether more follow. A copy takes steps and memory as
+/// that of an owned string does.
+///
+/// Refusals, in this order, over every reader, by the name "bytes" where no other is said:
+///
+/// - the head is not one of a string of this major type: `Mismatch` or `Eof`, as for every head
+/// - bytes are missing: `Eof` with the number of those that are missing, and nothing is left
+/// - in the place of a chunk or a break there is no byte: `Eof` by "break" with 1
+/// - no step is left for a chunk: `DepthOverflow`, and the chunk is left
+/// - a chunk is of indefinite length: `RequireLength` with `Indefinite`, behind its first byte
 impl<'de, R: Read<'de>> Decode<R> for Bytes<CowSlice<'de, u8, Global>> {
     fn decode(
         alloc: Global,
@@ -231,12 +245,15 @@ impl<'de, R: Read<'de>> Decode<R> for Bytes<CowSlice<'de, u8, Global>> {
         ensures progress { IsTrue true →
             OnOk result ((R.view reader.new).bound + 1 ≤ (R.view reader.old).bound) }
         ensures memory { IfErr result (λ error. IsTrue (is_out_of_memory error) → IsTrue true) }
-        ensures sound { IfOk result (Sound (ReadsAs 2 cow_bytes) (R.view reader.old) (R.view reader.new)) }
+        ensures sound { IfOk result
+            (Sound (ReadsAs 2 cow_bytes) (R.view reader.old) (R.view reader.new)) }
         ensures complete { IsExact true (R.view reader.old) →
             IfErr result (Refuses (ReadsAs 2 cow_bytes) (R.view reader.old)) }
         ensures stops { IsExact true (R.view reader.old) →
-            IfErr result (Stops (StopsString (codes "bytes") 2) (R.view reader.old) (R.view reader.new)) }
-        ensures begins { IfErr result (Stops (StopsString (codes "bytes") 2) (R.view reader.old) (R.view reader.new)) }
+            IfErr result (Stops (StopsString (codes "bytes") 2)
+            (R.view reader.old) (R.view reader.new)) }
+        ensures begins { IfErr result
+            (Stops (StopsString (codes "bytes") 2) (R.view reader.old) (R.view reader.new)) }
         ensures borrows { IfOk result
             (BorrowsWhereCounted 2 IsBorrowedBytes IsOwnedBytes (R.view reader.old)) }
     {
@@ -252,7 +269,6 @@ impl<'de, R: Read<'de>> Decode<R> for Bytes<CowSlice<'de, u8, Global>> {
     ghost alone = { λ _. as_alone 2 two_small cow_bytes };
 }
 
-/// A text string, whatever its bytes.
 impl<'de> Spelled for UncheckedStr<CowSlice<'de, u8, Global>> {
     ghost reads = { ReadsAs 3 cow_unchecked };
 
@@ -323,6 +339,19 @@ impl<'de, R: Read<'de>> LendOrOwn<R> for UncheckedStr<CowSlice<'de, u8, Global>>
     ghost text = { λ _. refl };
 }
 
+/// A text string, whatever its bytes, of known or of indefinite length (RFC 8949 sections 3.1 and
+/// 3.2.3). One of known length is a part of the input, with no copy, where one fill lends all of
+/// its bytes as long as the input lives; elsewhere they are copied. One of indefinite length is
+/// always copied, of one chunk too: it is known only behind a chunk whether more follow. A copy
+/// takes steps and memory as that of an owned string does.
+///
+/// Refusals, in this order, over every reader, by the name "str" where no other is said:
+///
+/// - the head is not one of a string of this major type: `Mismatch` or `Eof`, as for every head
+/// - bytes are missing: `Eof` with the number of those that are missing, and nothing is left
+/// - in the place of a chunk or a break there is no byte: `Eof` by "break" with 1
+/// - no step is left for a chunk: `DepthOverflow`, and the chunk is left
+/// - a chunk is of indefinite length: `RequireLength` with `Indefinite`, behind its first byte
 impl<'de, R: Read<'de>> Decode<R> for UncheckedStr<CowSlice<'de, u8, Global>> {
     fn decode(
         alloc: Global,
@@ -332,12 +361,15 @@ impl<'de, R: Read<'de>> Decode<R> for UncheckedStr<CowSlice<'de, u8, Global>> {
         ensures progress { IsTrue true →
             OnOk result ((R.view reader.new).bound + 1 ≤ (R.view reader.old).bound) }
         ensures memory { IfErr result (λ error. IsTrue (is_out_of_memory error) → IsTrue true) }
-        ensures sound { IfOk result (Sound (ReadsAs 3 cow_unchecked) (R.view reader.old) (R.view reader.new)) }
+        ensures sound { IfOk result
+            (Sound (ReadsAs 3 cow_unchecked) (R.view reader.old) (R.view reader.new)) }
         ensures complete { IsExact true (R.view reader.old) →
             IfErr result (Refuses (ReadsAs 3 cow_unchecked) (R.view reader.old)) }
         ensures stops { IsExact true (R.view reader.old) →
-            IfErr result (Stops (StopsString (codes "str") 3) (R.view reader.old) (R.view reader.new)) }
-        ensures begins { IfErr result (Stops (StopsString (codes "str") 3) (R.view reader.old) (R.view reader.new)) }
+            IfErr result (Stops (StopsString (codes "str") 3)
+            (R.view reader.old) (R.view reader.new)) }
+        ensures begins { IfErr result
+            (Stops (StopsString (codes "str") 3) (R.view reader.old) (R.view reader.new)) }
         ensures borrows { IfOk result
             (BorrowsWhereCounted 3 IsBorrowedUnchecked IsOwnedUnchecked (R.view reader.old)) }
     {

@@ -16,7 +16,8 @@ impl Bytes<()> {
     /// It fails only where the writer failed in the call. A whole writer then holds what it held
     /// before.
     pub fn bounded<W: Write>(len: usize, writer: &mut W) -> Result<(), EncodeError<W::Error>>
-        ensures { WritesWhole W.whole (shortest_head 2 len) (W.view writer.old) (W.view writer.new) result }
+        ensures { WritesWhole W.whole (shortest_head 2 len)
+            (W.view writer.old) (W.view writer.new) result }
     {
         push_head(writer, major::BYTES, len as u64)
     }
@@ -50,7 +51,8 @@ impl UncheckedStr<()> {
     /// It fails only where the writer failed in the call. A whole writer then holds what it held
     /// before.
     pub fn bounded<W: Write>(len: usize, writer: &mut W) -> Result<(), EncodeError<W::Error>>
-        ensures { WritesWhole W.whole (shortest_head 3 len) (W.view writer.old) (W.view writer.new) result }
+        ensures { WritesWhole W.whole (shortest_head 3 len)
+            (W.view writer.old) (W.view writer.new) result }
     {
         push_head(writer, major::STRING, len as u64)
     }

@@ -73,9 +73,11 @@ pub(crate) trait Lend<S: Source>: Sized {
         ensures small { result < 8 };
 
     fn lend_from(reader: &mut S, count: u64) -> Result<Self, Lacks<S::Error>>
-        ensures lent { IfOk result (λ v. Lends count (content v) (S.view reader.old) (S.view reader.new)) }
+        ensures lent { IfOk result
+            (λ v. Lends count (content v) (S.view reader.old) (S.view reader.new)) }
         ensures utf8 { IfOk result (λ v. IsTrue is_text → IsUtf8 (content v)) }
-        ensures lacks { IfErr result (LacksContent count is_text (S.view reader.old) (S.view reader.new)) };
+        ensures lacks { IfErr result
+            (LacksContent count is_text (S.view reader.old) (S.view reader.new)) };
 }
 
 /// Reads a string of known length that is lent whole.
@@ -121,8 +123,10 @@ pub(crate) fn lend_content<'de, R: Read<'de>>(
     reader: &mut R,
     count: u64,
 ) -> Result<&'de [u8], Lacks<R::Error>>
-    ensures lent { IfOk result (λ content. Lends count content.now (R.view reader.old) (R.view reader.new)) }
-    ensures lacks { IfErr result (LacksContent count false (R.view reader.old) (R.view reader.new)) }
+    ensures lent { IfOk result
+        (λ content. Lends count content.now (R.view reader.old) (R.view reader.new)) }
+    ensures lacks { IfErr result
+        (LacksContent count false (R.view reader.old) (R.view reader.new)) }
 {
     let want = count as usize;
     let mut failure = None;
@@ -144,7 +148,8 @@ pub(crate) fn lend_text<'de, R: Read<'de>>(
     reader: &mut R,
     count: u64,
 ) -> Result<&'de str, Lacks<R::Error>>
-    ensures lent { IfOk result (λ content. Lends count content.now (R.view reader.old) (R.view reader.new)) }
+    ensures lent { IfOk result
+        (λ content. Lends count content.now (R.view reader.old) (R.view reader.new)) }
     ensures utf8 { IfOk result (λ content. IsUtf8 content.now) }
     ensures lacks { IfErr result (LacksContent count true (R.view reader.old) (R.view reader.new)) }
 {

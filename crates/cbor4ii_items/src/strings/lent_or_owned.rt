@@ -67,10 +67,12 @@ pub(crate) trait LendOrOwn<S: Source>: Sized {
         ensures { result ≡ major };
 
     fn lend_from(reader: &mut S, count: u64) -> Result<Self, Lacks<S::Error>>
-        ensures lent { IfOk result (λ v. Lends count (content v) (S.view reader.old) (S.view reader.new)) }
+        ensures lent { IfOk result
+            (λ v. Lends count (content v) (S.view reader.old) (S.view reader.new)) }
         ensures utf8 { IfOk result (λ v. IsTrue is_text → IsUtf8 (content v)) }
         ensures borrowed { IfOk result IsBorrowed }
-        ensures lacks { IfErr result (LacksContent count is_text (S.view reader.old) (S.view reader.new)) };
+        ensures lacks { IfErr result
+            (LacksContent count is_text (S.view reader.old) (S.view reader.new)) };
 
     /// None where it is to be UTF-8 and is not.
     fn own(copy: Vec<u8>) -> Option<Self>

@@ -1,17 +1,4 @@
-//! Owned strings, read.
-//!
-//! Each is read from a string of known or of indefinite length (RFC 8949 section 3.2.3). Chunks
-//! are strings of known length of the same major type. They are joined before a text is tested to
-//! be UTF-8, so a character may stand across two of them. Each chunk is read under one step of the
-//! reader's budget. At most 16384 bytes are reserved before any came.
-//!
-//! Refusals, in this order, by the name "bytes" or "str":
-//! - the head is not one of a string: `Mismatch` or `Eof`, as for every head
-//! - bytes are missing: `Eof` with the number of those that are missing, and nothing is left
-//! - in the place of a chunk or a break there is no byte: `Eof` by "break" with 1
-//! - no step is left for a chunk: `DepthOverflow`, and the chunk is left
-//! - a chunk is of indefinite length: `RequireLength` with `Indefinite`, behind its first byte
-//! - a `String` is not UTF-8: `RequireUtf8`, and the whole item is taken
+//! Owned strings, read (RFC 8949 sections 3.1 and 3.2.3).
 ghost use Rattle.std.specs.Prelude.{◌≡◌, true, codes};
 ghost use Rattle.cbor4ii_items.specs.Strings.{
   ReadsAs,
@@ -43,7 +30,6 @@ use cbor4ii_rw::error::DecodeError;
 use cbor4ii_rw::read::Source;
 use std::alloc::Global;
 
-/// A byte string.
 impl Spelled for Bytes<Vec<u8>> {
     ghost reads = { ReadsAs 2 bytes_content };
 
@@ -70,6 +56,17 @@ impl Spelled for Bytes<Vec<u8>> {
     }
 }
 
+/// A byte string, of known or of indefinite length (RFC 8949 sections 3.1 and 3.2.3). Each chunk is
+/// a string of known length of the same major type, read under one step of the reader's budget. At
+/// most 16384 bytes are reserved before any came.
+///
+/// Refusals, in this order, by the name "bytes" where no other is said:
+///
+/// - the head is not one of a string of this major type: `Mismatch` or `Eof`, as for every head
+/// - bytes are missing: `Eof` with the number of those that are missing, and nothing is left
+/// - in the place of a chunk or a break there is no byte: `Eof` by "break" with 1
+/// - no step is left for a chunk: `DepthOverflow`, and the chunk is left
+/// - a chunk is of indefinite length: `RequireLength` with `Indefinite`, behind its first byte
 impl<S: Source> Decode<S> for Bytes<Vec<u8>> {
     fn decode(alloc: Global, reader: &mut S) -> Result<Bytes<Vec<u8>>, DecodeError<S::Error>> {
         Ok(Bytes(take_string(alloc, reader, "bytes", major::BYTES)?))
@@ -84,7 +81,6 @@ impl<S: Source> Decode<S> for Bytes<Vec<u8>> {
     ghost alone = { λ _. as_alone 2 two_small bytes_content };
 }
 
-/// A text string, whatever its bytes.
 impl Spelled for UncheckedStr<Vec<u8>> {
     ghost reads = { ReadsAs 3 unchecked_content };
 
@@ -111,6 +107,17 @@ impl Spelled for UncheckedStr<Vec<u8>> {
     }
 }
 
+/// A text string, whatever its bytes, of known or of indefinite length (RFC 8949 sections 3.1 and
+/// 3.2.3). Each chunk is a string of known length of the same major type, read under one step of
+/// the reader's budget. At most 16384 bytes are reserved before any came.
+///
+/// Refusals, in this order, by the name "str" where no other is said:
+///
+/// - the head is not one of a string of this major type: `Mismatch` or `Eof`, as for every head
+/// - bytes are missing: `Eof` with the number of those that are missing, and nothing is left
+/// - in the place of a chunk or a break there is no byte: `Eof` by "break" with 1
+/// - no step is left for a chunk: `DepthOverflow`, and the chunk is left
+/// - a chunk is of indefinite length: `RequireLength` with `Indefinite`, behind its first byte
 impl<S: Source> Decode<S> for UncheckedStr<Vec<u8>> {
     fn decode(
         alloc: Global,
@@ -128,7 +135,6 @@ impl<S: Source> Decode<S> for UncheckedStr<Vec<u8>> {
     ghost alone = { λ _. as_alone 3 three_small unchecked_content };
 }
 
-/// A text string that is UTF-8.
 impl Spelled for String {
     ghost reads = { ReadsTextAs text_content };
 
@@ -155,6 +161,19 @@ impl Spelled for String {
     }
 }
 
+/// A text string that is UTF-8, of known or of indefinite length (RFC 8949 sections 3.1 and 3.2.3).
+/// Each chunk is a string of known length of the same major type, read under one step of the
+/// reader's budget. The chunks are joined before they are tested to be UTF-8, so a character may
+/// stand across two of them. At most 16384 bytes are reserved before any came.
+///
+/// Refusals, in this order, by the name "str" where no other is said:
+///
+/// - the head is not one of a string of this major type: `Mismatch` or `Eof`, as for every head
+/// - bytes are missing: `Eof` with the number of those that are missing, and nothing is left
+/// - in the place of a chunk or a break there is no byte: `Eof` by "break" with 1
+/// - no step is left for a chunk: `DepthOverflow`, and the chunk is left
+/// - a chunk is of indefinite length: `RequireLength` with `Indefinite`, behind its first byte
+/// - it is not UTF-8: `RequireUtf8`, and the whole item is taken
 impl<S: Source> Decode<S> for String {
     fn decode(alloc: Global, reader: &mut S) -> Result<String, DecodeError<S::Error>> {
         take_text(alloc, reader, "str")
