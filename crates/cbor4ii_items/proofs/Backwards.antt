@@ -1,5 +1,5 @@
 -- Numbers are read back from what is written.
-use Rattle.std.proofs.Common.{◌≡◌, ℕ, zero, suc, ◌^◌, ◌<◌, ◌≤◌, ◌⊎◌, inl, inr, List, [], ◌∷◌, ◌++◌, length, drop, take, Bool, true, false, IsTrue, refl, sym, ap, ◌∙◌, subst, arith, append_assoc, cond, ltb, ltb-true, ltb-false, length-append}
+use Rattle.std.proofs.Common.{◌≡◌, ℕ, zero, suc, ◌^◌, ◌<◌, ◌≤◌, ◌⊎◌, inl, inr, List, [], ◌∷◌, ◌++◌, length, drop, take, Bool, true, false, IsTrue, refl, sym, ap, ◌∙◌, subst, arith, append_assoc, cond, Option, Some, None, IfSome, ltb, ltb-true, ltb-false, length-append}
 use Rattle.std.specs.Prelude.{ℤ, pos, negsuc}
 use Rattle.std.specs.Int.{byte_at as number_byte, bytes_high_first}
 use Rattle.std.proofs.Math.Seq.{take-append_seam, drop-append_seam, take-length}
@@ -11,8 +11,11 @@ use Rattle.cbor4ii_items.specs.Magnitude.{number_of, without_leading_zeros, magn
 use Rattle.cbor4ii_items.specs.Numbers.{ReadsArgument, ReadsSigned, IsWithin, ReadsMagnitude, ReadsBignum, ReadsU128, ReadsI128, shortest_head, signed_head, counted_string, bignum_bytes, unsigned_bytes, signed_bytes}
 use Rattle.cbor4ii_items.specs.ReadBack.{ReadsBack, NoneBeginsAnother}
 use Rattle.cbor4ii_items.specs.Outcome.{same_value}
+use Rattle.cbor4ii_items.specs.Refusal.{Refusal, refusal_of}
+use Rattle.cbor4ii_rw.specs.View.{View}
+use Rattle.cbor4ii_rw.specs.declared.error.DecodeError.{DecodeError}
 use Rattle.cbor4ii_items.specs.BigLaws.{number_taken}
-use Rattle.cbor4ii_items.specs.Decoding.{Reads}
+use Rattle.cbor4ii_items.specs.Decoding.{Reads, CostFits, Sound, NoneRead, Refuses}
 
 -- ---- the shortest head
 
@@ -174,3 +177,21 @@ none_begins reads same closed one alone e xs more v w c d p q =
     let whole : take (length xs) xs ≡ xs = take-length xs in
     let p' = subst (λ zs. reads (zs ++ more) v (length xs) c) whole (alone e xs more v (length xs) c p) in
     nothing_more xs more (one (xs ++ more) v w (length xs) (length (xs ++ more)) c d p' q).0
+
+-- ---- what is written is decoded
+
+module _ {V : Type 0} (reads : Reads V) where
+  pub decoded : (same : V → V → Type 0) → ((xs : List ℕ) (v w : V) (n m c d : ℕ) → reads xs v n c → reads xs w m d → (n ≡ m) × (c ≡ d) × same v w)
+      → (bytes rest : List ℕ) (v w : V) (cost : ℕ) (old new : View) → ReadsBack reads bytes v cost → old.told ≡ Some (bytes ++ rest) → Sound reads old new w → same v w × (new.told ≡ Some rest)
+  decoded same one bytes rest v w cost old new back told sound =
+      let t = sound.at (bytes ++ rest) told in
+      let s = one (bytes ++ rest) v w (length bytes) t.count cost t.cost (back rest) t.read in
+      (s.2, t.left ∙ ap (λ n. Some (drop n (bytes ++ rest))) (sym s.0) ∙ ap Some (drop-append_seam bytes rest))
+
+  refused_none : (o : Option Refusal) (xs : List ℕ) (budget : Option ℕ) (v : V) (n c : ℕ) → reads xs v n c → CostFits c budget → IfSome o (λ z. NoneRead reads xs budget) → o ≡ None
+  refused_none None xs budget v n c r fits none = refl
+  refused_none (Some z) xs budget v n c r fits none = absurd (none v n c r fits)
+
+  pub not_refused : {E : Type 0} (bytes rest : List ℕ) (v : V) (cost : ℕ) (old : View) (error : DecodeError E) → ReadsBack reads bytes v cost → CostFits cost old.budget → old.told ≡ Some (bytes ++ rest) → Refuses reads old error → refusal_of error ≡ None
+  not_refused bytes rest v cost old error back fits told refuses =
+      refused_none (refusal_of error) (bytes ++ rest) old.budget v (length bytes) cost (back rest) fits (refuses.at (bytes ++ rest) told)

@@ -11,13 +11,13 @@ use Rattle.cbor4ii_items.specs.ReadBack.{ReadsBack}
 use Rattle.cbor4ii_items.specs.Simple.{ReadsSimple, ReadsBool, bool_byte}
 use Rattle.cbor4ii_items.specs.declared.types.Simple.{Simple}
 use Rattle.cbor4ii_items.specs.Floats.{ReadsFloat, float_bytes}
-use Rattle.cbor4ii_items.specs.Strings.{counted_string, ReadsCounted, ReadsAs, ReadsTextAs}
+use Rattle.cbor4ii_items.specs.Strings.{counted_string, ReadsCountedString, ReadsAs, ReadsTextAs}
 use Rattle.cbor4ii_items.proofs.Backwards.{head_back, argument_back}
 
 -- ---- strings
 
 counted_back : (major : ℕ) (content rest : List ℕ) → length content < 2 ^ 64
-    → ReadsCounted major (counted_string major content ++ rest) content (length (counted_string major content))
+    → ReadsCountedString major (counted_string major content ++ rest) content (length (counted_string major content))
 counted_back major content rest h =
     let start = shortest_head major (length content) in
     let whole : (start ++ content) ++ rest ≡ start ++ (content ++ rest) = append_assoc start content rest in

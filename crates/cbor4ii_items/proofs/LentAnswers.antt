@@ -13,7 +13,7 @@ use Rattle.cbor4ii_items.specs.Heads.{ReadsHead}
 use Rattle.cbor4ii_items.specs.HeadLaws.{head_read, head_one}
 use Rattle.cbor4ii_items.specs.Numbers.{ReadsArgument, StopsArgument}
 use Rattle.cbor4ii_items.specs.Fronts.{drop_more}
-use Rattle.cbor4ii_items.specs.Strings.{ReadsCounted}
+use Rattle.cbor4ii_items.specs.Strings.{ReadsCountedString}
 use Rattle.cbor4ii_items.specs.Lent.{ReadsLent, StopsLent, BeginsLent, begins_refused, none_is_lent, few_are_lent, begins_no_utf8, lent_head_refused, too_few, lent_no_utf8, Lends, LacksContent, lack_refusal, lack_is_read, Named}
 use Rattle.cbor4ii_items.specs.Laws.Answering.{fits_zero, refuses_as}
 use Rattle.cbor4ii_items.proofs.SequenceParts.{stops_as}
@@ -53,7 +53,7 @@ module _ (V E : Type 0) (name : List ℕ) (count : ℕ) (is_text : Bool) (conten
 
   -- ---- the content behind its head
 
-  counted : (major : ℕ) (xs v : List ℕ) (before : ℕ) → ReadsHead major 8 xs count before → count ≤ length (drop before xs) → v ≡ take count (drop before xs) → ReadsCounted major xs v (before + count)
+  counted : (major : ℕ) (xs v : List ℕ) (before : ℕ) → ReadsHead major 8 xs count before → count ≤ length (drop before xs) → v ≡ take count (drop before xs) → ReadsCountedString major xs v (before + count)
   counted major xs v before h room is =
       let long : length v ≡ count = ap length is ∙ length-take-le count (drop before xs) room in
       record {

@@ -12,7 +12,7 @@ use Rattle.cbor4ii_items.specs.Containers.{ReadsTag}
 use Rattle.cbor4ii_items.specs.Numbers.{shortest_head}
 use Rattle.cbor4ii_items.specs.ReadBack.{ReadsBack, greatest_cost, pair_cost}
 use Rattle.cbor4ii_items.specs.SequenceBytes.{items_bytes, pair_bytes}
-use Rattle.cbor4ii_items.specs.Sequences.{ReadsParts, ReadsCounted, ReadsSequence, ReadsPair}
+use Rattle.cbor4ii_items.specs.Sequences.{ReadsParts, ReadsCountedParts, ReadsSequence, ReadsPair}
 use Rattle.cbor4ii_items.specs.Strings.{opening}
 use Rattle.cbor4ii_items.proofs.Backwards.{head_back}
 
@@ -103,7 +103,7 @@ module _ {P : Type 0} (reads : Reads P) (bytes : P → List ℕ) (cost : P → �
       let start = shortest_head major (length ps) in
       let inside = items_bytes bytes ps in
       let parts = subst (λ zs. ReadsParts reads zs ps (length inside) (greatest_cost cost ps)) (sym (behind start inside rest).left) (parts_back ps back rest) in
-      let counted : ReadsCounted major reads ((start ++ inside) ++ rest) ps (length (start ++ inside)) (greatest_cost cost ps) = record { before = length start; head = headed major (length ps) inside rest h; between = length inside; parts = parts; size = length-append start inside } in
+      let counted : ReadsCountedParts major reads ((start ++ inside) ++ rest) ps (length (start ++ inside)) (greatest_cost cost ps) = record { before = length start; head = headed major (length ps) inside rest h; between = length inside; parts = parts; size = length-append start inside } in
       (greatest_cost cost ps, inl counted, refl)
 
 pub pair_back : {K V : Type 0} (key_reads : Reads K) (value_reads : Reads V) (key_bytes : K → List ℕ) (value_bytes : V → List ℕ) (key_cost : K → ℕ) (value_cost : V → ℕ) (p : K × V)

@@ -15,7 +15,7 @@ use Rattle.cbor4ii_items.specs.ReadStrings.{content_on, break_at, chunk_by, chun
 use Rattle.cbor4ii_items.specs.ProgramEnds.{go_inverse, go_refused, length_passed, length_some, length_none, content_inverse, break_yes, break_no, break_refused, chunk_passed, not_first}
 use Rattle.cbor4ii_items.specs.ChunkLaws.{chunks_by}
 use Rattle.cbor4ii_items.specs.Fronts.{drop_more}
-use Rattle.cbor4ii_items.specs.Strings.{ReadsCounted, ReadsChunks, joined, chunk_cost, ReadsString, CutContent, StopsChunk, no_chunk_byte, no_step, chunk_open, chunk_refused, chunk_cut, StopsOpen, StopsString, string_head_refused, string_cut, string_open}
+use Rattle.cbor4ii_items.specs.Strings.{ReadsCountedString, ReadsChunks, joined, chunk_cost, ReadsString, CutContent, StopsChunk, no_chunk_byte, no_step, chunk_open, chunk_refused, chunk_cut, StopsOpen, StopsString, string_head_refused, string_cut, string_open}
 use Rattle.cbor4ii_items.specs.StringLaws.{BeginsWith, HasStep}
 use Rattle.cbor4ii_items.specs.Laws.Answering.{Seen, Found, fits_zero}
 use Rattle.cbor4ii_items.specs.Laws.Contents.{IsBytes-append}
@@ -54,7 +54,7 @@ known_length name major k xs us ys e short seen =
 record CountedFound (major : ℕ) (before xs v ys : List ℕ) : Type 0 where
   part : List ℕ
   size : ℕ
-  read : ReadsCounted major xs part size
+  read : ReadsCountedString major xs part size
   value : v ≡ before ++ part
   left : ys ≡ drop size xs
 
@@ -145,7 +145,7 @@ chunks_read (suc f) name major budget before xs v ys h e seen =
 string_by_read : (name : List ℕ) (major : ℕ) (budget l : Option ℕ) (xs us v ys : List ℕ) → length_at name major xs ≡ Ok (l, us) → string_by name major budget l us ≡ Ok (v, ys) → Seen xs ys → Found (ReadsString major) budget xs v ys
 string_by_read name major budget (Some k) xs us v ys e f seen =
     let r = known_read name [] major k xs us v ys e f seen in
-    record { count = r.size; cost = 0; read = inl (subst (λ w. ReadsCounted major xs w r.size) (sym r.value) r.read, refl); fits = fits_zero budget; left = r.left }
+    record { count = r.size; cost = 0; read = inl (subst (λ w. ReadsCountedString major xs w r.size) (sym r.value) r.read, refl); fits = fits_zero budget; left = r.left }
 string_by_read name major budget None xs us v ys e f seen =
     let o = length_none name major xs us e in
     let p = (length_passed name major None xs us e).0 in

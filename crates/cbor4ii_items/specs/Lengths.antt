@@ -1,7 +1,6 @@
 -- The length that an array or a map begins with: what is read, and how it is refused (RFC 8949 sections 3 and 3.2.2).
 use Rattle.std.specs.Prelude.{◌≡◌, ℕ, List, [], ◌∷◌, take, Option, Some, None}
 use Rattle.cbor4ii_items.specs.Head.{open_head}
-use Rattle.cbor4ii_items.specs.Refusal.{Refusal}
 use Rattle.cbor4ii_items.specs.Heads.{ReadsHead, StopsHead}
 use Rattle.cbor4ii_items.specs.Decoding.{Reads, StopsAt}
 

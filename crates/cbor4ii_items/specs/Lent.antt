@@ -8,7 +8,7 @@ use Rattle.cbor4ii_items.specs.declared.strings.lent.Lacks.TheVariants.{Read, Sh
 use Rattle.cbor4ii_items.specs.Moves.{Kept, Broke}
 use Rattle.cbor4ii_items.specs.Refusal.{Refusal, refusal_of, is_read, is_out_of_memory, is_depth_overflow, require_length, require_borrowed, require_utf8, len_of}
 use Rattle.cbor4ii_items.specs.Heads.{ReadsHead, StopsHead}
-use Rattle.cbor4ii_items.specs.Strings.{ReadsCounted}
+use Rattle.cbor4ii_items.specs.Strings.{ReadsCountedString}
 use denote.Ref.{Bor}
 use Rattle.cbor4ii_items.specs.declared.types.Bytes.{Bytes}
 use Rattle.cbor4ii_items.specs.declared.types.UncheckedStr.{UncheckedStr}
@@ -18,13 +18,13 @@ use Rattle.cbor4ii_items.specs.Decoding.{Reads}
 
 -- a string of known length, whose content a value has; a text is UTF-8
 abbrev pub ReadsLent : {V : Type 0} → ℕ → Bool → (V → List ℕ) → Reads V
-ReadsLent major is_text content xs v n c = ReadsCounted major xs (content v) n × (c ≡ 0) × (IsTrue is_text → IsUtf8 (content v))
+ReadsLent major is_text content xs v n c = ReadsCountedString major xs (content v) n × (c ≡ 0) × (IsTrue is_text → IsUtf8 (content v))
 
 -- the head; too few bytes, and what is behind the head is left; no UTF-8, and what is behind the item is left
 pub data StopsLent (name : List ℕ) (major : ℕ) (is_text : Bool) (xs : List ℕ) (budget : Option ℕ) (refusal : Refusal) (rest : List ℕ) : Type 0 where
   lent_head_refused : StopsHead name major 8 xs refusal rest → StopsLent name major is_text xs budget refusal rest
   too_few : (count before : ℕ) → ReadsHead major 8 xs count before → length xs < before + count → refusal ≡ require_length name (len_of (length (drop before xs))) → rest ≡ drop before xs → StopsLent name major is_text xs budget refusal rest
-  lent_no_utf8 : (content : List ℕ) (n : ℕ) → IsTrue is_text → ReadsCounted major xs content n → (IsUtf8 content → ⊥) → refusal ≡ require_utf8 name → rest ≡ drop n xs → StopsLent name major is_text xs budget refusal rest
+  lent_no_utf8 : (content : List ℕ) (n : ℕ) → IsTrue is_text → ReadsCountedString major xs content n → (IsUtf8 content → ⊥) → refusal ≡ require_utf8 name → rest ≡ drop n xs → StopsLent name major is_text xs budget refusal rest
 
 -- Over any reader: the head; no content is lent, or too little, and what is behind the head is left; no UTF-8, and what is
 -- behind the item is left.
@@ -32,7 +32,7 @@ pub data BeginsLent (name : List ℕ) (major : ℕ) (is_text : Bool) (xs : List 
   begins_refused : StopsHead name major 8 xs refusal rest → BeginsLent name major is_text xs budget refusal rest
   none_is_lent : (count before : ℕ) → ReadsHead major 8 xs count before → refusal ≡ require_borrowed name → rest ≡ drop before xs → BeginsLent name major is_text xs budget refusal rest
   few_are_lent : (count before shown : ℕ) → ReadsHead major 8 xs count before → shown < count → refusal ≡ require_length name (len_of shown) → rest ≡ drop before xs → BeginsLent name major is_text xs budget refusal rest
-  begins_no_utf8 : (content : List ℕ) (n : ℕ) → IsTrue is_text → ReadsCounted major xs content n → (IsUtf8 content → ⊥) → refusal ≡ require_utf8 name → rest ≡ drop n xs → BeginsLent name major is_text xs budget refusal rest
+  begins_no_utf8 : (content : List ℕ) (n : ℕ) → IsTrue is_text → ReadsCountedString major xs content n → (IsUtf8 content → ⊥) → refusal ≡ require_utf8 name → rest ≡ drop n xs → BeginsLent name major is_text xs budget refusal rest
 
 -- ---- a content that is lent
 

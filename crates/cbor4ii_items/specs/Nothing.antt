@@ -1,7 +1,6 @@
 -- No item at all, and no byte.
-use Rattle.std.proofs.Common.{◌≡◌, ℕ, ◌≤◌, List, ◌++◌, length, take, Option, false, IsTrue, refl, sym, ◌∙◌, arith}
+use Rattle.std.proofs.Common.{◌≡◌, ℕ, ◌≤◌, List, ◌++◌, length, take, false, IsTrue, refl, sym, ◌∙◌, arith}
 use Rattle.cbor4ii_items.specs.declared.types.Nothing.{Nothing}
-use Rattle.cbor4ii_items.specs.Refusal.{Refusal}
 use Rattle.cbor4ii_items.specs.Decoding.{Reads, StopsAt}
 
 -- of any bytes none is taken

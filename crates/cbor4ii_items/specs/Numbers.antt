@@ -1,5 +1,5 @@
 -- What numbers are spelled as, and how they are refused (RFC 8949 sections 3.1 and 3.4.3).
-use Rattle.std.specs.Prelude.{◌≡◌, ◌≢◌, ℕ, ◌+◌, ◌/◌, ◌^◌, ◌<◌, ◌≤◌, ◌⊎◌, ◌++◌, List, [], ◌∷◌, length, take, drop, Option, ℤ, pos, negsuc, codes, nat_lt, if◌then◌else◌}
+use Rattle.std.specs.Prelude.{◌≡◌, ◌≢◌, ℕ, ◌+◌, ◌/◌, ◌^◌, ◌<◌, ◌≤◌, ◌⊎◌, ◌++◌, List, [], ◌∷◌, length, take, drop, ℤ, pos, negsuc, codes, nat_lt, if◌then◌else◌}
 use Rattle.cbor4ii_rw.specs.declared.error.Len.TheVariants.{Small, Indefinite}
 use Rattle.cbor4ii_items.specs.declared.types.Negative.{Negative}
 use Rattle.cbor4ii_items.specs.Head.{head, open_head, shortest, IsBytes}

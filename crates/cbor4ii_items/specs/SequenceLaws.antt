@@ -11,7 +11,7 @@ use Rattle.cbor4ii_items.specs.HeadLaws.{head_one, head_read, head_alone}
 use Rattle.cbor4ii_items.specs.StringLaws.{BeginsWith, head_not_open}
 use Rattle.cbor4ii_items.specs.ContainerLaws.{both, first_kept}
 use Rattle.cbor4ii_items.specs.Fronts.{drop_more, two_fronts, behind_front}
-use Rattle.cbor4ii_items.specs.Sequences.{ReadsParts, Unbroken, ReadsUpToBreak, ReadsCounted, ReadsOpen, ReadsInside, ReadsSequence, SameParts, ReadsArray, SameArray, ReadsPair, SamePair, ReadsMap, SameMap}
+use Rattle.cbor4ii_items.specs.Sequences.{ReadsParts, Unbroken, ReadsUpToBreak, ReadsCountedParts, ReadsOpenParts, ReadsInside, ReadsSequence, SameParts, ReadsArray, SameArray, ReadsPair, SamePair, ReadsMap, SameMap}
 use Rattle.cbor4ii_items.specs.Decoding.{Reads}
 
 pub not_less : (m n : ℕ) → (n < m → ⊥) → m ≤ n
@@ -145,7 +145,7 @@ module _ {P : Type 0} (reads : Reads P) where
 
 module _ {P : Type 0} (major : ℕ) (small : major < 8) (reads : Reads P) (never_empty : Bool) where
   counted_one : (same : P → P → Type 0) → ((xs : List ℕ) (p q : P) (n m c d : ℕ) → reads xs p n c → reads xs q m d → (n ≡ m) × (c ≡ d) × same p q)
-      → (xs : List ℕ) (ps qs : List P) (n m c d : ℕ) → ReadsCounted major reads xs ps n c → ReadsCounted major reads xs qs m d → (n ≡ m) × (c ≡ d) × SameParts same ps qs
+      → (xs : List ℕ) (ps qs : List P) (n m c d : ℕ) → ReadsCountedParts major reads xs ps n c → ReadsCountedParts major reads xs qs m d → (n ≡ m) × (c ≡ d) × SameParts same ps qs
   counted_one same one xs ps qs n m c d g h =
       let e = head_one major 8 xs (length ps) (length qs) g.before h.before small g.head h.head in
       let r = parts_one reads same one (drop g.before xs) ps qs g.between h.between c d g.parts (subst (λ j. ReadsParts reads (drop j xs) qs h.between d) (sym e.0) h.parts) e.1 in
@@ -183,7 +183,7 @@ module _ {P : Type 0} (major : ℕ) (small : major < 8) (reads : Reads P) (never
 
   module _ (within : (xs : List ℕ) (p : P) (n c : ℕ) → reads xs p n c → n ≤ length xs) (alone : (xs ys : List ℕ) (p : P) (n c : ℕ) → reads xs p n c → reads (take n xs ++ ys) p n c)
       (positive : IsTrue never_empty → (xs : List ℕ) (p : P) (n c : ℕ) → reads xs p n c → 1 ≤ n) where
-    counted_alone : (xs ys : List ℕ) (ps : List P) (n c : ℕ) → ReadsCounted major reads xs ps n c → ReadsCounted major reads (take n xs ++ ys) ps n c
+    counted_alone : (xs ys : List ℕ) (ps : List P) (n c : ℕ) → ReadsCountedParts major reads xs ps n c → ReadsCountedParts major reads (take n xs ++ ys) ps n c
     counted_alone xs ys ps n c h =
         let room = (head_read [] major 8 xs (length ps) h.before small h.head).1 in
         let behind = drop h.before xs in
@@ -198,7 +198,7 @@ module _ {P : Type 0} (major : ℕ) (small : major < 8) (reads : Reads P) (never
           size = h.size;
         }
 
-    open_alone : (xs ys : List ℕ) (ps : List P) (n c : ℕ) → ReadsOpen major reads never_empty xs ps n c → ReadsOpen major reads never_empty (take n xs ++ ys) ps n c
+    open_alone : (xs ys : List ℕ) (ps : List P) (n c : ℕ) → ReadsOpenParts major reads never_empty xs ps n c → ReadsOpenParts major reads never_empty (take n xs ++ ys) ps n c
     open_alone xs ys ps n c h =
         let room = inside_within within xs ps n c (inr h) in
         let tail = take h.between (drop 1 xs) ++ ys in

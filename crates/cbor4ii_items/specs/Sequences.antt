@@ -35,7 +35,7 @@ pub record ReadsUpToBreak {P : Type 0} (reads : Reads P) (never_empty : Bool) (x
   pub size : n ≡ between + 1
 
 -- a head of this major type that counts the parts, and the parts
-pub record ReadsCounted {P : Type 0} (major : ℕ) (reads : Reads P) (xs : List ℕ) (ps : List P) (n c : ℕ) : Type 0 where
+pub record ReadsCountedParts {P : Type 0} (major : ℕ) (reads : Reads P) (xs : List ℕ) (ps : List P) (n c : ℕ) : Type 0 where
   pub before : ℕ
   pub head : ReadsHead major 8 xs (length ps) before
   pub between : ℕ
@@ -43,7 +43,7 @@ pub record ReadsCounted {P : Type 0} (major : ℕ) (reads : Reads P) (xs : List 
   pub size : n ≡ before + between
 
 -- the first byte of an indefinite length, and parts up to a break
-pub record ReadsOpen {P : Type 0} (major : ℕ) (reads : Reads P) (never_empty : Bool) (xs : List ℕ) (ps : List P) (n c : ℕ) : Type 0 where
+pub record ReadsOpenParts {P : Type 0} (major : ℕ) (reads : Reads P) (never_empty : Bool) (xs : List ℕ) (ps : List P) (n c : ℕ) : Type 0 where
   pub begins : take 1 xs ≡ open_head major ∷ []
   pub between : ℕ
   pub parts : ReadsUpToBreak reads never_empty (drop 1 xs) ps between c
@@ -51,7 +51,7 @@ pub record ReadsOpen {P : Type 0} (major : ℕ) (reads : Reads P) (never_empty :
 
 -- parts that are counted, or that a break ends
 abbrev pub ReadsInside : {P : Type 0} → ℕ → Reads P → Bool → Reads (List P)
-ReadsInside major reads never_empty xs ps n c = ReadsCounted major reads xs ps n c ⊎ ReadsOpen major reads never_empty xs ps n c
+ReadsInside major reads never_empty xs ps n c = ReadsCountedParts major reads xs ps n c ⊎ ReadsOpenParts major reads never_empty xs ps n c
 
 -- the same under one step
 abbrev pub ReadsSequence : {P : Type 0} → ℕ → Reads P → Bool → Reads (List P)

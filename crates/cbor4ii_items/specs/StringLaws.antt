@@ -13,7 +13,7 @@ use Rattle.cbor4ii_items.specs.ReadStrings.{content_on, break_at, chunk_by, chun
 use Rattle.cbor4ii_items.specs.ChunkLaws.{chunks_by, chunks_more}
 use Rattle.cbor4ii_items.specs.Contents.{content_whole}
 use Rattle.cbor4ii_items.specs.Fronts.{drop_more, two_fronts, behind_front, the_front}
-use Rattle.cbor4ii_items.specs.Strings.{ReadsCounted, ReadsChunks, joined, chunk_cost, ReadsOpen, ReadsString, ReadsAs, ReadsTextAs}
+use Rattle.cbor4ii_items.specs.Strings.{ReadsCountedString, ReadsChunks, joined, chunk_cost, ReadsOpenString, ReadsString, ReadsAs, ReadsTextAs}
 
 -- ---- the first byte
 
@@ -78,25 +78,25 @@ no_break b bs xs is other =
 fits_content : (v ys : List ℕ) → take (length v) ys ≡ v → length v ≤ length ys
 fits_content v ys e = omega (arith, ap length e, length-take (length v) ys)
 
-pub counted_within : (major : ℕ) (xs v : List ℕ) (n : ℕ) → major < 8 → ReadsCounted major xs v n → (n ≤ length xs) × (1 ≤ n)
+pub counted_within : (major : ℕ) (xs v : List ℕ) (n : ℕ) → major < 8 → ReadsCountedString major xs v n → (n ≤ length xs) × (1 ≤ n)
 counted_within major xs v n m h =
     let r = head_read [] major 8 xs (length v) h.before m h.head in
     (omega (arith, h.size, r.1, fits_content v (drop h.before xs) h.stands, length-drop h.before xs), omega (arith, h.size, r.2))
 
 -- the content behind its head
-counted_content : (name before : List ℕ) (major : ℕ) (xs v : List ℕ) (n : ℕ) → (h : ReadsCounted major xs v n) → content_on name (length v) before (drop h.before xs) ≡ Ok (before ++ v, drop n xs)
+counted_content : (name before : List ℕ) (major : ℕ) (xs v : List ℕ) (n : ℕ) → (h : ReadsCountedString major xs v n) → content_on name (length v) before (drop h.before xs) ≡ Ok (before ++ v, drop n xs)
 counted_content name before major xs v n h =
     content_whole name (length v) before (drop h.before xs) (fits_content v (drop h.before xs) h.stands)
     ∙ ap₂ (λ (us ws : List ℕ). Ok (us, ws)) (ap (λ z. before ++ z) h.stands) (drop_more (length v) h.before xs ∙ ap (λ j. drop j xs) (sym h.size))
 
-inside_again : (name before : List ℕ) (major : ℕ) (xs v : List ℕ) (n : ℕ) → major < 8 → ReadsCounted major xs v n → chunk_inside name major before xs ≡ Ok (before ++ v, drop n xs)
+inside_again : (name before : List ℕ) (major : ℕ) (xs v : List ℕ) (n : ℕ) → major < 8 → ReadsCountedString major xs v n → chunk_inside name major before xs ≡ Ok (before ++ v, drop n xs)
 inside_again name before major xs v n m h = ap (λ z. go_on z (chunk_by name before)) (length_known name major xs (length v) h.before m h.head) ∙ counted_content name before major xs v n h
 
-pub counted_again : (name : List ℕ) (major : ℕ) (budget : Option ℕ) (xs v : List ℕ) (n : ℕ) → major < 8 → ReadsCounted major xs v n → string_at name major budget xs ≡ Ok (v, drop n xs)
+pub counted_again : (name : List ℕ) (major : ℕ) (budget : Option ℕ) (xs v : List ℕ) (n : ℕ) → major < 8 → ReadsCountedString major xs v n → string_at name major budget xs ≡ Ok (v, drop n xs)
 counted_again name major budget xs v n m h = ap (λ z. go_on z (string_by name major budget)) (length_known name major xs (length v) h.before m h.head) ∙ counted_content name [] major xs v n h
 
 -- with other bytes behind it
-pub counted_alone : (major : ℕ) (xs ys v : List ℕ) (n : ℕ) → major < 8 → ReadsCounted major xs v n → ReadsCounted major (take n xs ++ ys) v n
+pub counted_alone : (major : ℕ) (xs ys v : List ℕ) (n : ℕ) → major < 8 → ReadsCountedString major xs v n → ReadsCountedString major (take n xs ++ ys) v n
 counted_alone major xs ys v n m h =
     let i = h.before in
     let k = length v in
@@ -116,12 +116,12 @@ counted_alone major xs ys v n m h =
 abbrev pub HasStep : Option ℕ → Type 0
 HasStep budget = CostFits 1 budget
 
-chunk_again : (name before : List ℕ) (major : ℕ) (budget : Option ℕ) (xs v : List ℕ) (n : ℕ) → major < 8 → HasStep budget → ReadsCounted major xs v n → chunk_at name major budget before xs ≡ Ok (before ++ v, drop n xs)
+chunk_again : (name before : List ℕ) (major : ℕ) (budget : Option ℕ) (xs v : List ℕ) (n : ℕ) → major < 8 → HasStep budget → ReadsCountedString major xs v n → chunk_at name major budget before xs ≡ Ok (before ++ v, drop n xs)
 chunk_again name before major None xs v n m s h = inside_again name before major xs v n m h
 chunk_again name before major (Some zero) xs v n m s h = absurd (omega (arith, s))
 chunk_again name before major (Some (suc left)) xs v n m s h = inside_again name before major xs v n m h
 
-chunks_once : (name before : List ℕ) (major : ℕ) (budget : Option ℕ) (xs v : List ℕ) (n : ℕ) → major < 8 → HasStep budget → ReadsCounted major xs v n → chunks_at name major budget before xs ≡ chunks_at name major budget (before ++ v) (drop n xs)
+chunks_once : (name before : List ℕ) (major : ℕ) (budget : Option ℕ) (xs v : List ℕ) (n : ℕ) → major < 8 → HasStep budget → ReadsCountedString major xs v n → chunks_at name major budget before xs ≡ chunks_at name major budget (before ++ v) (drop n xs)
 chunks_once name before major budget xs v n m s h =
     let f = head_first major xs (length v) h.before m h.head in
     ap (λ p. p xs) (chunks_more name major budget before)
@@ -153,7 +153,7 @@ chunks_alone (v ∷ vs) major xs ys n m h =
     let j = h.1 in
     let e : take n xs ++ ys ≡ take i xs ++ (take j (drop i xs) ++ ys) = two_fronts i j n xs ys h.4 in
     let behind : drop i (take n xs ++ ys) ≡ take j (drop i xs) ++ ys = ap (drop i) e ∙ behind_front i xs (take j (drop i xs) ++ ys) (counted_within major xs v i m h.2).0 in
-    (i, j, subst (λ zs. ReadsCounted major zs v i) (sym e) (counted_alone major xs (take j (drop i xs) ++ ys) v i m h.2), subst (λ zs. ReadsChunks major vs zs j) (sym behind) (chunks_alone vs major (drop i xs) ys j m h.3), h.4)
+    (i, j, subst (λ zs. ReadsCountedString major zs v i) (sym e) (counted_alone major xs (take j (drop i xs) ++ ys) v i m h.2), subst (λ zs. ReadsChunks major vs zs j) (sym behind) (chunks_alone vs major (drop i xs) ys j m h.3), h.4)
 
 -- ---- strings of indefinite length
 
@@ -161,10 +161,10 @@ some_byte : (b : ℕ) (ys : List ℕ) → BeginsWith ys b → 1 ≤ length ys
 some_byte b [] h = cc
 some_byte b (y ∷ ys) h = omega arith
 
-pub open_within : (major : ℕ) (xs v : List ℕ) (n c : ℕ) → ReadsOpen major xs v n c → n ≤ length xs
+pub open_within : (major : ℕ) (xs v : List ℕ) (n c : ℕ) → ReadsOpenString major xs v n c → n ≤ length xs
 open_within major xs v n c h = omega (arith, h.size, some_byte break (drop (1 + h.between) xs) h.ends, length-drop (1 + h.between) xs)
 
-pub open_again : (name : List ℕ) (major : ℕ) (budget : Option ℕ) (xs v : List ℕ) (n c : ℕ) → major < 8 → ReadsOpen major xs v n c → CostFits c budget → string_at name major budget xs ≡ Ok (v, drop n xs)
+pub open_again : (name : List ℕ) (major : ℕ) (budget : Option ℕ) (xs v : List ℕ) (n c : ℕ) → major < 8 → ReadsOpenString major xs v n c → CostFits c budget → string_at name major budget xs ≡ Ok (v, drop n xs)
 open_again name major budget xs v n c m h fits =
     let k = h.between in
     let steps : CostFits (chunk_cost h.chunks) budget = subst (λ (j : ℕ). CostFits j budget) h.cost fits in
@@ -177,7 +177,7 @@ open_again name major budget xs v n c m h fits =
     ∙ (ap (λ z. go_on z (chunks_by name major budget (joined h.chunks) (chunks_at name major budget))) ended
     ∙ ap₂ (λ (us ws : List ℕ). Ok (us, ws)) (sym h.value) last)))
 
-open_alone : (major : ℕ) (xs ys v : List ℕ) (n c : ℕ) → major < 8 → ReadsOpen major xs v n c → ReadsOpen major (take n xs ++ ys) v n c
+open_alone : (major : ℕ) (xs ys v : List ℕ) (n c : ℕ) → major < 8 → ReadsOpenString major xs v n c → ReadsOpenString major (take n xs ++ ys) v n c
 open_alone major xs ys v n c m h =
     let k = h.between in
     let tail = take 1 (drop (1 + k) xs) ++ ys in

@@ -26,7 +26,7 @@ closing = break ∷ []
 -- ---- what is read
 
 -- a head of this major type that says the content's length, and the content; n bytes in all
-pub record ReadsCounted (major : ℕ) (xs content : List ℕ) (n : ℕ) : Type 0 where
+pub record ReadsCountedString (major : ℕ) (xs content : List ℕ) (n : ℕ) : Type 0 where
   pub before : ℕ
   pub head : ReadsHead major 8 xs (length content) before
   pub stands : take (length content) (drop before xs) ≡ content
@@ -35,7 +35,7 @@ pub record ReadsCounted (major : ℕ) (xs content : List ℕ) (n : ℕ) : Type 0
 -- strings of a known length, one behind another
 abbrev pub ReadsChunks : ℕ → List (List ℕ) → List ℕ → ℕ → Type 0
 ReadsChunks major [] xs n = n ≡ 0
-ReadsChunks major (chunk ∷ chunks) xs n = (k : ℕ) × (m : ℕ) × ReadsCounted major xs chunk k × ReadsChunks major chunks (drop k xs) m × (n ≡ k + m)
+ReadsChunks major (chunk ∷ chunks) xs n = (k : ℕ) × (m : ℕ) × ReadsCountedString major xs chunk k × ReadsChunks major chunks (drop k xs) m × (n ≡ k + m)
 
 -- the contents of the chunks, joined
 abbrev pub joined : List (List ℕ) → List ℕ
@@ -48,7 +48,7 @@ chunk_cost [] = 0
 chunk_cost (chunk ∷ chunks) = 1
 
 -- a string of indefinite length: its first byte, chunks, and a break; n bytes in all, at the cost c
-pub record ReadsOpen (major : ℕ) (xs content : List ℕ) (n c : ℕ) : Type 0 where
+pub record ReadsOpenString (major : ℕ) (xs content : List ℕ) (n c : ℕ) : Type 0 where
   pub begins : take 1 xs ≡ open_head major ∷ []
   pub chunks : List (List ℕ)
   pub between : ℕ
@@ -60,7 +60,7 @@ pub record ReadsOpen (major : ℕ) (xs content : List ℕ) (n c : ℕ) : Type 0 
 
 -- a string of this major type, of known or of indefinite length
 abbrev pub ReadsString : ℕ → Reads (List ℕ)
-ReadsString major xs content n c = (ReadsCounted major xs content n × (c ≡ 0)) ⊎ ReadsOpen major xs content n c
+ReadsString major xs content n c = (ReadsCountedString major xs content n × (c ≡ 0)) ⊎ ReadsOpenString major xs content n c
 
 -- a text string that is UTF-8
 abbrev pub ReadsText : Reads (List ℕ)

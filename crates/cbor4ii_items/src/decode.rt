@@ -113,6 +113,7 @@ pub trait Decode<S: Source>: Spelled {
 }
 
 /// The beginning of an array: the number of its items, or none where its length is indefinite and
-/// items follow up to a break (RFC 8949 section 3.2.2).
+/// items follow up to a break (RFC 8949 section 3.2.2). It is there for its name: `Array::len`
+/// answers what it holds.
 #[derive(Clone, Copy, Debug, PartialEq, Eq)]
 pub struct ArrayStart(pub Option<usize>);

@@ -33,6 +33,9 @@ ghost use Rattle.cbor4ii_items.specs.declared.types.Simple.{Simple};
 ghost use Rattle.cbor4ii_items.specs.declared.types.Tag.{Tag};
 ghost use Rattle.cbor4ii_items.specs.declared.types.UncheckedStr.{UncheckedStr};
 ghost use Rattle.cbor4ii_items.specs.declared.types.Undefined.{Undefined};
+ghost use Rattle.cbor4ii_rw.specs.View.{View};
+ghost use Rattle.cbor4ii_rw.specs.declared.error.DecodeError.{DecodeError};
+ghost use Rattle.cbor4ii_items.specs.Decoding.{CostFits, Sound, Refuses};
 ghost use Rattle.cbor4ii_items.specs.Head.{Width, HeadFits, byte_count, shortest};
 ghost use Rattle.cbor4ii_items.specs.Lengths.{ReadsLength};
 ghost use Rattle.cbor4ii_items.specs.Maybe.{ReadsMaybe, maybe_bytes};
@@ -53,6 +56,7 @@ ghost use Rattle.cbor4ii_items.specs.ReadBack.{
   greatest_cost,
   pair_cost,
 };
+ghost use Rattle.cbor4ii_items.specs.Refusal.{refusal_of};
 ghost use Rattle.cbor4ii_items.specs.SequenceBytes.{map_bytes};
 ghost use Rattle.cbor4ii_items.specs.Strings.{
   ReadsAs,
@@ -171,6 +175,18 @@ pub fn maps_are_read_back<K: Spelled + Encode, V: Spelled + Encode>()
         All (λ p. ReadsBack V.reads (V.bytes p.1) p.1 (value_cost p.1)) v.0.items →
         ReadsBack ⟦<Map<Vec<(K, V)>> as Spelled>⟧.reads (map_bytes K.bytes V.bytes v.0.items) v
         (1 + greatest_cost (pair_cost key_cost value_cost) v.0.items) }
+{}
+
+/// What is read back is what `decode` answers, over a reader that tells these bytes and something
+/// behind them: a value that means the same, with what stands behind left, and where the budget
+/// has the cost, no refusal of the bytes.
+pub fn what_is_written_is_decoded<S: Source, T: Decode<S>, E>()
+    ensures accepted { (bytes rest : List ℕ) (v w : T) (cost : ℕ) (old new : View) →
+        ReadsBack T.reads bytes v cost → old.told ≡ Some (bytes ++ rest) →
+        Sound T.reads old new w → T.same v w × (new.told ≡ Some rest) }
+    ensures not_refused { (bytes rest : List ℕ) (v : T) (cost : ℕ) (old : View)
+        (error : DecodeError E) → ReadsBack T.reads bytes v cost → CostFits cost old.budget →
+        old.told ≡ Some (bytes ++ rest) → Refuses T.reads old error → refusal_of error ≡ None }
 {}
 
 /// No spelling of a type begins another, where what follows a spelling says nothing of it.

@@ -8,7 +8,7 @@ use Rattle.cbor4ii_items.specs.HeadLaws.{after_head}
 use Rattle.cbor4ii_items.specs.Fronts.{drop_more}
 use Rattle.cbor4ii_items.specs.Decoding.{CostFits}
 use Rattle.cbor4ii_items.specs.Strings as strings
-use Rattle.cbor4ii_items.specs.Strings.{ReadsCounted, ReadsChunks, chunk_cost, ReadsString, CutContent, StopsChunk, no_chunk_byte, no_step, chunk_open, chunk_refused, chunk_cut, StopsString, string_head_refused, string_cut, string_open, StopsText, no_string, no_utf8}
+use Rattle.cbor4ii_items.specs.Strings.{ReadsCountedString, ReadsChunks, chunk_cost, ReadsString, CutContent, StopsChunk, no_chunk_byte, no_step, chunk_open, chunk_refused, chunk_cut, StopsString, string_head_refused, string_cut, string_open, StopsText, no_string, no_utf8}
 use Rattle.cbor4ii_items.specs.Initial.{Initial, Info, wide, open_ended, reserved, info_of, initial, by_major, int_by, string_by, array_by, map_by, tag_by, simple_by, unsigned, negative, Sign, Kind, byte_string, text_string, kind_major, Simple, Precision, starts_string, starts_chunks, bad_string, starts_simple, starts_bits, other_simple, simple_false, simple_true, simple_null, simple_undefined, half, single, double}
 use Rattle.cbor4ii_tree.specs.Refusal.{eof, mismatch, require_length, require_utf8, Indefinite, len_of, kind_name}
 use Rattle.cbor4ii_tree.specs.head_laws.Initials.{initial_string, initial_chunks, head_below, kind_below}
@@ -29,11 +29,11 @@ use Rattle.cbor4ii_tree.proofs.ValuingHeads.{at_row, first_is}
 
 -- ---- strings of known length
 
-content_behind : (major : ℕ) (xs content : List ℕ) (n : ℕ) → (r : ReadsCounted major xs content n) → r.head.rest ≡ content ++ drop n xs
+content_behind : (major : ℕ) (xs content : List ℕ) (n : ℕ) → (r : ReadsCountedString major xs content n) → r.head.rest ≡ content ++ drop n xs
 content_behind major xs content n r =
     sym (after_head major 8 xs (length content) r.before r.head) ∙ sym (take-append-drop (length content) (drop r.before xs)) ∙ ap₂ ◌++◌ r.stands (drop_more (length content) r.before xs ∙ ap (λ j. drop j xs) (sym r.size))
 
-counted_is : (major : ℕ) (xs content : List ℕ) (n : ℕ) → (r : ReadsCounted major xs content n) → xs ≡ (head major (length content) r.head.wide ++ content) ++ drop n xs
+counted_is : (major : ℕ) (xs content : List ℕ) (n : ℕ) → (r : ReadsCountedString major xs content n) → xs ≡ (head major (length content) r.head.wide ++ content) ++ drop n xs
 counted_is major xs content n r =
     let front = head major (length content) r.head.wide in
     r.head.is ∙ ap (λ z. front ++ z) (content_behind major xs content n r) ∙ sym (append_assoc front content (drop n xs))
@@ -80,7 +80,7 @@ record OpenTree (k : Kind) (xs content : List ℕ) (n c : ℕ) : Type 0 where
   costs : chunks_cost trees ≡ 1 + c
   fit : (budget : Budget) → CostFits c budget → Each (ReadableChunk k budget) trees
 
-open_tree : (k : Kind) (xs content : List ℕ) (n c : ℕ) → strings.ReadsOpen (kind_major k) xs content n c → OpenTree k xs content n c
+open_tree : (k : Kind) (xs content : List ℕ) (n c : ℕ) → strings.ReadsOpenString (kind_major k) xs content n c → OpenTree k xs content n c
 open_tree k xs content n c r =
     let t = chunk_trees k r.chunks (drop 1 xs) r.between r.read in
     let whole = first_is (open_head (kind_major k)) xs r.begins in
