@@ -1,6 +1,5 @@
 //! Values, read.
-ghost use Rattle.std.specs.Prelude.{◌≡◌, ℕ, ◌+◌, ◌≤◌, List, length, OnOk, IfOk, IfErr, IsTrue, true, false};
-ghost use Rattle.std.specs.Prelude.{[], ◌∷◌, ◌++◌, ◌/◌, ◌*◌, Some};
+ghost use Rattle.std.specs.Prelude.{◌≡◌, ◌+◌, ◌≤◌, [], ◌∷◌, ◌++◌, OnOk, IfOk, IfErr, true};
 ghost use Rattle.cbor4ii_rw.specs.declared.error.DecodeError.TheVariants.{OutOfMemory};
 ghost use Rattle.cbor4ii_tree.specs.Does.{DoesUnder};
 ghost use Rattle.cbor4ii_tree.specs.Valuing.{
@@ -47,7 +46,12 @@ ghost use Rattle.cbor4ii_tree.specs.Promises.{
   SkipsReads,
   CanonicalReads,
 };
-ghost use Rattle.cbor4ii_tree.specs.ValueLaws.{value_one, value_within, value_positive, value_alone};
+ghost use Rattle.cbor4ii_tree.specs.ValueLaws.{
+  value_one,
+  value_within,
+  value_positive,
+  value_alone,
+};
 
 use crate::front::Own;
 use crate::skip::peek;
@@ -376,7 +380,8 @@ fn read_member<S: Source>(
     alloc: Global,
     reader: &mut S,
 ) -> Result<(Value, Value), DecodeError<S::Error>>
-    ensures does { DoesUnder ReadsMember StopsMember (S.view reader.old) (S.view reader.new) result }
+    ensures does { DoesUnder ReadsMember StopsMember
+        (S.view reader.old) (S.view reader.new) result }
     ensures key { IfOk result (λ member. IsItem (view member.0)) }
     ensures value { IfOk result (λ member. IsItem (view member.1)) }
     ensures progress { OnOk result ((S.view reader.new).bound + 1 ≤ (S.view reader.old).bound) }

@@ -16,13 +16,20 @@ use cbor4ii_items::types::{Array, Bytes, F16, F32, F64, Map, Nothing, Null, Tag}
 use cbor4ii_rw::error::EncodeError;
 use cbor4ii_rw::write::Write;
 
-/// A value is written as its canonical spelling.
+/// A value is written as its canonical spelling (RFC 8949 section 4.1): shortest heads, lengths
+/// given, null as `f6`, floats in their own width, integers beyond 64 bits as bignums without
+/// leading zeros (section 3.4.3). Pairs keep their order.
 impl Encode for Value {
     ghost bytes = { λ v. canon (view v) };
 
-    /// Appends the value's canonical spelling to what `writer` holds, and is read back from there with bignums as tags.
+    /// Appends the value's canonical spelling to what `writer` holds: one push a head, a string's
+    /// content, a float or a simple value. It is read back from there, with bignums as tags.
+    ///
+    /// It fails only where the writer failed in the call. A whole writer then holds what it held
+    /// before and a beginning of the spelling.
     fn encode<W: Write>(&self, writer: &mut W) -> Result<(), EncodeError<W::Error>>
-        ensures writes { Writes W.whole (canon (view self.now)) (W.view writer.old) (W.view writer.new) result }
+        ensures writes { Writes W.whole (canon (view self.now))
+            (W.view writer.old) (W.view writer.new) result }
         ensures item { OnOk result (IsItem (view self.now)) }
         ensures spells { OnOk result (Spells
             (canon (view self.now)) (with_bignums (view self.now)) (canon_cost (view self.now))) }
@@ -36,7 +43,8 @@ impl Encode for Value {
 
 #[cycle(put)]
 fn put_value<W: Write>(writer: &mut W, value: &Value) -> Result<(), EncodeError<W::Error>>
-    ensures writes { Writes W.whole (value_bytes value.now) (W.view writer.old) (W.view writer.new) result }
+    ensures writes { Writes W.whole (value_bytes value.now)
+        (W.view writer.old) (W.view writer.new) result }
     ensures item { OnOk result (IsItem (view value.now)) }
 {
     match value {
@@ -62,14 +70,16 @@ fn put_value<W: Write>(writer: &mut W, value: &Value) -> Result<(), EncodeError<
 }
 
 fn put_integer<W: Write>(writer: &mut W, number: i128) -> Result<(), EncodeError<W::Error>>
-    ensures writes { Writes W.whole (canon (integer number)) (W.view writer.old) (W.view writer.new) result }
+    ensures writes { Writes W.whole (canon (integer number))
+        (W.view writer.old) (W.view writer.new) result }
     ensures item { IsItem (integer number) }
 {
     number.encode(writer)
 }
 
 fn put_float<W: Write>(writer: &mut W, bits: FloatBits) -> Result<(), EncodeError<W::Error>>
-    ensures writes { Writes W.whole (canon (float_view bits)) (W.view writer.old) (W.view writer.new) result }
+    ensures writes { Writes W.whole (canon (float_view bits))
+        (W.view writer.old) (W.view writer.new) result }
     ensures item { IsItem (float_view bits) }
 {
     match bits {
@@ -81,7 +91,8 @@ fn put_float<W: Write>(writer: &mut W, bits: FloatBits) -> Result<(), EncodeErro
 
 #[cycle(put)]
 fn put_items<W: Write>(writer: &mut W, items: &[Value]) -> Result<(), EncodeError<W::Error>>
-    ensures writes { Writes W.whole (items_bytes value_bytes items.now) (W.view writer.old) (W.view writer.new) result }
+    ensures writes { Writes W.whole (items_bytes value_bytes items.now)
+        (W.view writer.old) (W.view writer.new) result }
     ensures items { OnOk result (AreItems (items_view items.now)) }
 {
     for item in items {
@@ -95,7 +106,8 @@ fn put_members<W: Write>(
     writer: &mut W,
     members: &[(Value, Value)],
 ) -> Result<(), EncodeError<W::Error>>
-    ensures writes { Writes W.whole (items_bytes member_bytes members.now) (W.view writer.old) (W.view writer.new) result }
+    ensures writes { Writes W.whole (items_bytes member_bytes members.now)
+        (W.view writer.old) (W.view writer.new) result }
     ensures members { OnOk result (AreMembers (members_view members.now)) }
 {
     for member in members {

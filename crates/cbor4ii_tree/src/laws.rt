@@ -1,5 +1,5 @@
-//! Laws of the definitions in `specs/`, each the contract of a function that does nothing. They hold of every tree,
-//! input and budget.
+//! Laws of the definitions in `specs/`, each the contract of a function that does nothing. They
+//! hold of every tree, input and budget; where an input has to be one of bytes, the law says so.
 
 ghost use Rattle.std.specs.Prelude.{◌≡◌, ◌++◌, ◌≤◌, ◌<◌, ◌^◌, ◌↔◌, ℕ, List, [], length, Ok, Err};
 ghost use Rattle.cbor4ii_items.specs.Head.{IsBytes};
@@ -9,7 +9,14 @@ ghost use Rattle.cbor4ii_items.specs.Decoding.{CostFits};
 ghost use Rattle.cbor4ii_tree.specs.Cost.{Budget, skip_cost, cost};
 ghost use Rattle.cbor4ii_tree.specs.Canonical.{canon, canon_cost, with_bignums};
 ghost use Rattle.cbor4ii_tree.specs.Refusal.{Refusal, Len, eof, depth_overflow, IsFinal, MayStop};
-ghost use Rattle.cbor4ii_tree.specs.Spelling.{Spells, Reads, Skips, SomeAnswer, AtMostOne, IsProperFront};
+ghost use Rattle.cbor4ii_tree.specs.Spelling.{
+  Spells,
+  Reads,
+  Skips,
+  SomeAnswer,
+  AtMostOne,
+  IsProperFront,
+};
 ghost use Rattle.cbor4ii_tree.specs.StopsSkipping.{StopsSkipping, SkippingStopsByParts};
 ghost use Rattle.cbor4ii_tree.specs.StopsReading.{StopsReading, ReadingStopsByParts};
 ghost use Rattle.cbor4ii_tree.specs.Skip.{skip};
@@ -19,8 +26,8 @@ ghost use Rattle.cbor4ii_tree.specs.View.{view};
 use crate::range::in_range;
 use crate::value::Value;
 
-/// No spelling begins another: what begins with the bytes of two loose trees begins with those of one, and has one rest.
-/// So an input has one spelling of one value at one cost, at most.
+/// No spelling begins another: what begins with the bytes of two loose trees begins with those of
+/// one, and has one rest. So an input has one spelling of one value at one cost, at most.
 pub fn no_spelling_begins_another()
     ensures no_front { (t u : Tree) (more : List ℕ) →
         Loose t → Loose u → bytes t ++ more ≡ bytes u → t ≡ u }
@@ -35,8 +42,8 @@ pub fn skipping_costs_no_more()
     ensures { (t : Tree) → Plain t → skip_cost t ≤ cost t }
 {}
 
-/// The canonical spelling of a value spells it, with its bignums as tags, and costs no more than any other spelling. A
-/// value that has a spelling has no bignums but as tags.
+/// The canonical spelling of a value spells it, with its bignums as tags, and costs no more than
+/// any other spelling. A value that has a spelling has no bignums but as tags.
 pub fn canonical_spelling_costs_least()
     ensures spells { (v : Item) → IsItem v → Spells (canon v) (with_bignums v) (canon_cost v) }
     ensures least { (spelling : List ℕ) (v : Item) (steps : ℕ) →
@@ -45,8 +52,8 @@ pub fn canonical_spelling_costs_least()
         Spells spelling v steps → with_bignums v ≡ v }
 {}
 
-/// A value is no larger than its spelling is long, so that a decoder's memory is bounded by its input. What is spelled by
-/// fewer than 2^64 bytes is a value of the program.
+/// A value is no larger than its spelling is long, so that a decoder's memory is bounded by its
+/// input. What is spelled by fewer than 2^64 bytes is a value of the program.
 pub fn value_is_no_larger_than_its_spelling()
     ensures size { (spelling : List ℕ) (v : Item) (steps : ℕ) →
         Spells spelling v steps → size v ≤ length spelling }
@@ -54,8 +61,9 @@ pub fn value_is_no_larger_than_its_spelling()
         length spelling < 2 ^ 64 → Spells spelling v steps → IsItem v }
 {}
 
-/// Skipping has at most one answer for each input and budget: the one loose tree that fits and begins the input, or one
-/// refusal with one rest. The plain program computes it. An input of bytes has an answer, the one that the program computes.
+/// Skipping has at most one answer for each input and budget: the one loose tree that fits and
+/// begins the input, or one refusal with one rest. The plain program computes it. An input of bytes
+/// has an answer, the one that the program computes.
 pub fn skipping_has_one_answer()
     ensures at_most_one { (input : List ℕ) (budget : Budget) →
         AtMostOne (Skips input budget) (StopsSkipping input budget) }
@@ -71,9 +79,9 @@ pub fn skipping_has_one_answer()
         IsBytes input → skip budget input ≡ Err (e, rest) → StopsSkipping input budget e rest }
 {}
 
-/// Reading a value has at most one answer for each input and budget: the one value of which a spelling that fits begins
-/// the input, or one refusal with one rest. The plain program computes it. An input of bytes has an answer, the one that the
-/// program computes.
+/// Reading a value has at most one answer for each input and budget: the one value of which a
+/// spelling that fits begins the input, or one refusal with one rest. The plain program computes
+/// it. An input of bytes has an answer, the one that the program computes.
 pub fn reading_has_one_answer()
     ensures at_most_one { (input : List ℕ) (budget : Budget) →
         AtMostOne (Reads input budget) (StopsReading input budget) }
@@ -89,7 +97,8 @@ pub fn reading_has_one_answer()
         IsBytes input → read budget input ≡ Err (e, rest) → StopsReading input budget e rest }
 {}
 
-/// Where skipping or reading stops goes by where it stops in the parts of the item, however deep these nest.
+/// Where skipping or reading stops goes by where it stops in the parts of the item, however deep
+/// these nest.
 pub fn stops_go_by_parts()
     ensures skipping { (input : List ℕ) (budget : Budget) (e : Refusal) (rest : List ℕ) →
         StopsSkipping input budget e rest ↔ SkippingStopsByParts input budget e rest }
@@ -97,53 +106,70 @@ pub fn stops_go_by_parts()
         StopsReading input budget e rest ↔ ReadingStopsByParts input budget e rest }
 {}
 
-/// What a refusal of skipping says of bytes that may still come: `Eof` stands on every proper front of an item that fits,
-/// and only on a proper front of some item, and leaves nothing; `DepthOverflow` says that no continuation fits the
-/// budget; the others that none is skipped under any budget.
+/// What a refusal of skipping says of bytes that may still come: `Eof` stands on every proper front
+/// of an item that fits, and only on a proper front of some item, and leaves nothing;
+/// `DepthOverflow` says that no continuation fits the budget; the others that none is skipped under
+/// any budget.
 pub fn skipping_tells_what_may_come()
     ensures front { (t : Tree) (front : List ℕ) (budget : Budget) →
         Loose t → CostFits (skip_cost t) budget → IsProperFront front (bytes t) → IsBytes front →
         (name : List ℕ) × (expect : Len) × StopsSkipping front budget (eof name expect) [] }
-    ensures nothing_left { (input : List ℕ) (budget : Budget) (name : List ℕ) (expect : Len) (rest : List ℕ) →
+    ensures nothing_left { (input : List ℕ) (budget : Budget)
+        (name : List ℕ) (expect : Len) (rest : List ℕ) →
         StopsSkipping input budget (eof name expect) rest → rest ≡ [] }
-    ensures only_fronts { (input : List ℕ) (budget : Budget) (name : List ℕ) (expect : Len) (rest : List ℕ) →
+    ensures only_fronts { (input : List ℕ) (budget : Budget)
+        (name : List ℕ) (expect : Len) (rest : List ℕ) →
         IsBytes input → StopsSkipping input budget (eof name expect) rest →
         (t : Tree) × Loose t × IsBytes (bytes t) × IsProperFront input (bytes t) }
-    ensures no_steps { (input more : List ℕ) (budget : Budget) (name rest : List ℕ) (t : Tree) (after : List ℕ) →
-        StopsSkipping input budget (depth_overflow name) rest → ¬ (Skips (input ++ more) budget t after) }
-    ensures never { (input more : List ℕ) (budget other : Budget) (e : Refusal) (rest : List ℕ) (t : Tree) (after : List ℕ) →
+    ensures no_steps { (input more : List ℕ) (budget : Budget)
+        (name rest : List ℕ) (t : Tree) (after : List ℕ) →
+        StopsSkipping input budget (depth_overflow name) rest →
+        ¬ (Skips (input ++ more) budget t after) }
+    ensures never { (input more : List ℕ) (budget other : Budget)
+        (e : Refusal) (rest : List ℕ) (t : Tree) (after : List ℕ) →
         IsFinal e → StopsSkipping input budget e rest → ¬ (Skips (input ++ more) other t after) }
     ensures no_others { (input : List ℕ) (budget : Budget) (e : Refusal) (rest : List ℕ) →
         StopsSkipping input budget e rest → MayStop e }
 {}
 
-/// What a refusal of reading a value says of bytes that may still come: `Eof` stands on every proper front of a spelling
-/// that fits, and only on a proper front of an item whose strings join chunks of their kind, and leaves nothing;
-/// `DepthOverflow` says that no continuation fits the budget; the others that none is read under any budget.
+/// What a refusal of reading a value says of bytes that may still come: `Eof` stands on every
+/// proper front of a spelling that fits, and only on a proper front of an item whose strings join
+/// chunks of their kind, and leaves nothing; `DepthOverflow` says that no continuation fits the
+/// budget; the others that none is read under any budget.
 pub fn reading_tells_what_may_come()
     ensures front { (spelling : List ℕ) (v : Item) (steps : ℕ) (front : List ℕ) (budget : Budget) →
-        Spells spelling v steps → CostFits steps budget → IsProperFront front spelling → IsBytes front →
+        Spells spelling v steps → CostFits steps budget →
+        IsProperFront front spelling → IsBytes front →
         (name : List ℕ) × (expect : Len) × StopsReading front budget (eof name expect) [] }
-    ensures nothing_left { (input : List ℕ) (budget : Budget) (name : List ℕ) (expect : Len) (rest : List ℕ) →
+    ensures nothing_left { (input : List ℕ) (budget : Budget)
+        (name : List ℕ) (expect : Len) (rest : List ℕ) →
         StopsReading input budget (eof name expect) rest → rest ≡ [] }
-    ensures only_fronts { (input : List ℕ) (budget : Budget) (name : List ℕ) (expect : Len) (rest : List ℕ) →
+    ensures only_fronts { (input : List ℕ) (budget : Budget)
+        (name : List ℕ) (expect : Len) (rest : List ℕ) →
         IsBytes input → StopsReading input budget (eof name expect) rest →
         (t : Tree) × Loose t × Joins t × IsBytes (bytes t) × IsProperFront input (bytes t) }
-    ensures no_steps { (input more : List ℕ) (budget : Budget) (name rest : List ℕ) (v : Item) (after : List ℕ) →
-        StopsReading input budget (depth_overflow name) rest → ¬ (Reads (input ++ more) budget v after) }
-    ensures never { (input more : List ℕ) (budget other : Budget) (e : Refusal) (rest : List ℕ) (v : Item) (after : List ℕ) →
+    ensures no_steps { (input more : List ℕ) (budget : Budget)
+        (name rest : List ℕ) (v : Item) (after : List ℕ) →
+        StopsReading input budget (depth_overflow name) rest →
+        ¬ (Reads (input ++ more) budget v after) }
+    ensures never { (input more : List ℕ) (budget other : Budget)
+        (e : Refusal) (rest : List ℕ) (v : Item) (after : List ℕ) →
         IsFinal e → StopsReading input budget e rest → ¬ (Reads (input ++ more) other v after) }
     ensures no_others { (input : List ℕ) (budget : Budget) (e : Refusal) (rest : List ℕ) →
         StopsReading input budget e rest → MayStop e }
 {}
 
-/// Reading back: where some spelling of a value fits a budget, its canonical spelling is read as that value, whatever
-/// follows it. A value of the program whose canonical spelling fits is read back with its bignums as tags.
+/// Reading back: where some spelling of a value fits a budget, its canonical spelling is read as
+/// that value, whatever follows it. A value of the program whose canonical spelling fits is read
+/// back with its bignums as tags.
 pub fn canonical_spelling_reads_back()
-    ensures same_value { (spelling : List ℕ) (v : Item) (steps : ℕ) (budget : Budget) (more : List ℕ) →
-        IsItem v → Spells spelling v steps → CostFits steps budget → Reads (canon v ++ more) budget v more }
+    ensures same_value { (spelling : List ℕ) (v : Item) (steps : ℕ)
+        (budget : Budget) (more : List ℕ) →
+        IsItem v → Spells spelling v steps → CostFits steps budget →
+        Reads (canon v ++ more) budget v more }
     ensures tagged { (v : Item) (budget : Budget) (more : List ℕ) →
-        IsItem v → CostFits (canon_cost v) budget → Reads (canon v ++ more) budget (with_bignums v) more }
+        IsItem v → CostFits (canon_cost v) budget →
+        Reads (canon v ++ more) budget (with_bignums v) more }
 {}
 
 /// Where a value is read, skipping takes the same bytes under the same budget.
@@ -152,8 +178,8 @@ pub fn skipping_takes_what_reading_takes()
         Reads input budget v rest → (t : Tree) × Skips input budget t rest }
 {}
 
-/// Every value of the program is one that canonical spellings speak of: its integers, floats, lengths and tags are in
-/// range, and its texts are UTF-8.
+/// Every value of the program is one that canonical spellings speak of: its integers, floats,
+/// lengths and tags are in range, and its texts are UTF-8.
 pub fn values_are_items(value: &Value)
     ensures { IsItem (view value.now) }
 {

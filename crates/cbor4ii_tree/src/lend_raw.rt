@@ -64,7 +64,8 @@ pub trait LendRaw<S: Source>: Sized {
     /// `Read` where the reader failed; `Short` where some bytes are left, and they do not live as
     /// long as the input.
     fn lend_front(reader: &mut S) -> Result<Self, NoFront<S::Error>>
-        ensures lent { IfOk result (λ v. LendsFront (content v) (S.view reader.old) (S.view reader.new)) }
+        ensures lent { IfOk result
+            (λ v. LendsFront (content v) (S.view reader.old) (S.view reader.new)) }
         ensures lacks { IfErr result (LacksFront (S.view reader.old) (S.view reader.new)) };
 
     /// The bytes.
@@ -86,8 +87,7 @@ pub(crate) fn take_raw<T: LendRaw<S>, S: Source>(
     reader: &mut S,
 ) -> Result<T, DecodeError<S::Error>>
     ensures moves { Moves (S.view reader.old) (S.view reader.new) result }
-    ensures progress { IsTrue true →
-        OnOk result ((S.view reader.new).bound + 1 ≤ (S.view reader.old).bound) }
+    ensures progress { OnOk result ((S.view reader.new).bound + 1 ≤ (S.view reader.old).bound) }
     ensures memory { IfErr result (λ error. IsTrue (is_out_of_memory error) → IsTrue false) }
     ensures sound { IfOk result (Sound (ReadsRaw T.content)
         (S.view reader.old) (S.view reader.new)) }

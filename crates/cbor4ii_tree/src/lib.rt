@@ -1,4 +1,5 @@
-//! Encoded data items of CBOR (RFC 8949): their definitions, the laws that hold of them, and values.
+//! Encoded data items of CBOR (RFC 8949): their definitions, the laws that hold of them, values
+//! that are read and written, items that are skipped, and items that are kept as their bytes.
 #![tactic(auto)]
 
 pub mod boxed_raw;

@@ -1,14 +1,5 @@
 //! Items that are kept as their bytes.
-//!
-//! One fill asks for all that is left. Where its bytes live as long as the input, the item at
-//! their front is skipped in place, under the reader's steps, and then taken at once.
-//!
-//! Refusals; nothing is taken:
-//! - some bytes are left, and they do not live as long as the input: `RequireBorrowed` by the
-//!   name "raw-value"
-//! - otherwise those of `IgnoredAny`, in the bytes that were lent
-ghost use Rattle.std.specs.Prelude.{◌≡◌, ◌+◌, ◌≤◌, ℕ, List, Some, true, false, OnOk, IfOk, IfErr, IsTrue};
-ghost use Rattle.cbor4ii_rw.specs.View.{Told};
+ghost use Rattle.std.specs.Prelude.{◌≡◌, ◌+◌, ◌≤◌, true, false, OnOk, IfOk, IfErr, IsTrue};
 ghost use Rattle.cbor4ii_items.specs.Decoding.{IsExact, Sound, Refuses, Stops};
 ghost use Rattle.cbor4ii_items.specs.Moves.{Moves};
 ghost use Rattle.cbor4ii_items.specs.Refusal.{is_out_of_memory};
@@ -109,11 +100,20 @@ impl<'de, R: Read<'de>> LendRaw<R> for RawValue<'de> {
     fn discard(self) {}
 }
 
+/// One fill asks for all that is left. Where its bytes live as long as the input, the item at
+/// their front is skipped in place, under the reader's steps, and then taken at once. Nothing is
+/// copied, and no memory is taken.
+///
+/// Refusals; nothing is taken:
+/// - some bytes are left, and they do not live as long as the input: `RequireBorrowed` by the
+///   name "raw-value"
+/// - otherwise those of `IgnoredAny`, in the bytes that were lent
+///
+/// `Read` only where the reader failed.
 impl<'de, R: Read<'de>> Decode<R> for RawValue<'de> {
     fn decode(alloc: Global, reader: &mut R) -> Result<RawValue<'de>, DecodeError<R::Error>>
         ensures moves { Moves (R.view reader.old) (R.view reader.new) result }
-        ensures progress { IsTrue true →
-            OnOk result ((R.view reader.new).bound + 1 ≤ (R.view reader.old).bound) }
+        ensures progress { OnOk result ((R.view reader.new).bound + 1 ≤ (R.view reader.old).bound) }
         ensures memory { IfErr result (λ error. IsTrue (is_out_of_memory error) → IsTrue false) }
         ensures sound { IfOk result (Sound (ReadsRaw raw_content)
             (R.view reader.old) (R.view reader.new)) }

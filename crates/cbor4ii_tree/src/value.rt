@@ -7,8 +7,8 @@ ghost use Rattle.cbor4ii_tree.specs.View.{view, items_view, members_view, same_v
 
 use std::alloc::{AllocError, Global};
 
-/// The bits of a float, in its own width (RFC 8949 section 3.3). They are compared as bits with their width, so
-/// `F16(0)` is not `F32(0)`, and a NaN equals itself.
+/// The bits of a float, in its own width (RFC 8949 section 3.3). They are compared as bits with
+/// their width, so `F16(0)` is not `F32(0)`, and a NaN equals itself.
 #[derive(Clone, Copy, Debug, PartialEq, Eq)]
 pub enum FloatBits {
     /// 16 bits, IEEE 754 half precision.
@@ -19,7 +19,8 @@ pub enum FloatBits {
     F64(u64),
 }
 
-/// A value, which stands for `view` of it in the definitions. Two are equal exactly where these are.
+/// A value (RFC 8949 section 2), which stands for `view` of it in the definitions. Two are equal
+/// exactly where these are.
 #[derive(Debug, Drop)]
 pub enum Value {
     /// `null`, and `undefined`, which is read as it.
@@ -53,7 +54,8 @@ impl From<AllocError> for NoMemory {
 }
 
 impl Value {
-    /// A value that equals this one, in memory of its own. `NoMemory` only where a growth was refused.
+    /// A value that equals this one, in memory of its own. `NoMemory` only where a growth was
+    /// refused.
     pub fn try_clone(&self) -> Result<Value, NoMemory>
         ensures equal { IfOk result (λ copy. view copy ≡ view self.now) }
     {

@@ -5,7 +5,7 @@ pub returns-clause-moves : goal.returns-clause-moves
 returns-clause-moves g c = raw_moves g.T.LendRaw.content _ _ c.capture.result c.capture.ensures
 
 pub returns-clause-progress : goal.returns-clause-progress
-returns-clause-progress g c = λ _. raw_progress g.T.LendRaw.content _ _ c.capture.result c.capture.ensures
+returns-clause-progress g c = raw_progress g.T.LendRaw.content _ _ c.capture.result c.capture.ensures
 
 pub returns-clause-memory : goal.returns-clause-memory
 returns-clause-memory g c = raw_memory g.T.LendRaw.content _ _ c.capture.result c.capture.ensures
