@@ -94,8 +94,7 @@ impl Spelled for Value {
 /// keep their width and bits, pairs their order, and equal keys stay.
 ///
 /// Reading takes a step a value, one more for an array or a map, and one for the chunks of a
-/// string. At most 256 items, or so many bytes of a string as are shown, are reserved before they
-/// were read.
+/// string. At most 256 items are reserved before they were read.
 ///
 /// Refusals, and what is left then (RFC 8949 appendix F):
 /// - no step is left: `DepthOverflow` by the name "value", nothing taken; "array" or "map", before
