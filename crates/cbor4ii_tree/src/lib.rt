@@ -11,11 +11,7 @@ pub mod laws;
 pub mod lend_raw;
 mod range;
 pub mod raw;
-#[cfg(test)]
-mod raw_tests;
 mod skip;
-#[cfg(test)]
-mod tests;
 pub mod value;
 
 pub use boxed_raw::BoxedRawValue;

@@ -10,6 +10,8 @@ mod borrowed;
 mod cow;
 pub mod examples;
 #[cfg(test)]
+mod depth;
+#[cfg(test)]
 mod encodings;
 #[cfg(test)]
 mod error_texts;
@@ -18,7 +20,11 @@ mod flags_and_laws;
 #[cfg(test)]
 mod heads;
 #[cfg(test)]
+mod item_rows;
+#[cfg(test)]
 mod leaves;
+#[cfg(test)]
+mod literal;
 #[cfg(test)]
 mod long_rows;
 #[cfg(test)]
@@ -26,21 +32,35 @@ mod maps;
 #[cfg(test)]
 mod memory;
 #[cfg(test)]
+mod memory_of_values;
+#[cfg(test)]
 mod numbers;
+#[cfg(test)]
+mod raw;
 #[cfg(test)]
 mod reader_rows;
 pub mod readers;
 #[cfg(test)]
 mod record;
 #[cfg(test)]
+mod refusal_texts;
+#[cfg(test)]
+mod refusals;
+#[cfg(test)]
 mod rows;
 #[cfg(test)]
 mod segments;
 #[cfg(test)]
 mod sequences;
+#[cfg(test)]
+mod skipping;
 pub mod streams;
 #[cfg(test)]
 mod strings;
+#[cfg(test)]
+mod table;
+#[cfg(test)]
+mod values;
 #[cfg(test)]
 mod writer_rows;
 pub mod writers;
