@@ -1,4 +1,4 @@
-use Rattle.std.proofs.Common.{arith, ◌≡◌, ◌+◌, refl}
+use Rattle.std.proofs.Common.{arith, refl}
 use Rattle.cbor4ii_rw.proofs.StreamLemmas.{drops_left}
 use Rattle.cbor4ii_rw.proofs.io_reader.IoReaderSource.advance.Goals as goal
 
