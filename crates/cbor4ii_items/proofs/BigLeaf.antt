@@ -19,7 +19,8 @@ use Rattle.cbor4ii_items.specs.BigLaws.{u128_again, i128_again}
 use Rattle.cbor4ii_items.proofs.Leaves.{IsLeaf}
 use Rattle.cbor4ii_items.proofs.Stopping.{head_stops, number_cut}
 use Rattle.cbor4ii_items.proofs.SignedLeaf.{sign_given, sign_refused}
-use Rattle.cbor4ii_items.proofs.Parts.{ok_parts, ErrParts, err_parts, below_ok, below_err, IsEnd, LeavesEnd, number_leaves, head_leaves, length_leaves, if_leaves, then_leaves, refuse_leaves}
+use Rattle.cbor4ii_items.specs.ProgramEnds.{ok_parts, ErrParts, err_parts, Passed, LeavesEnd, number_leaves, head_leaves, length_leaves, if_leaves, then_leaves, refuse_leaves}
+use Rattle.cbor4ii_items.proofs.BelowLimit.{below_ok, below_err}
 
 -- ---- lengths
 
@@ -69,8 +70,8 @@ magnitude_leaves : (name : List ℕ) → LeavesEnd (magnitude_at name)
 magnitude_leaves name = then_leaves (length_leaves name 2) (magnitude_by_leaves name)
 
 -- how much was taken before what is left
-ends_after : (i n : ℕ) (xs ys zs : List ℕ) → i ≤ length xs → ys ≡ drop i xs → IsEnd ys zs → zs ≡ drop n xs → n ≤ length xs → i ≤ n
-ends_after i n xs ys zs room e q f within = omega (arith, q.within, ap length q.is, length-drop q.count ys, ap length e, length-drop i xs, ap length f, length-drop n xs)
+ends_after : (i n : ℕ) (xs ys zs : List ℕ) → i ≤ length xs → ys ≡ drop i xs → Passed ys zs → zs ≡ drop n xs → n ≤ length xs → i ≤ n
+ends_after i n xs ys zs room e q f within = omega (arith, q.within, ap length q.left, length-drop q.count ys, ap length e, length-drop i xs, ap length f, length-drop n xs)
 
 IsBytes-behind : (xs ys : List ℕ) → IsBytes (xs ++ ys) → IsBytes ys
 IsBytes-behind [] ys h = h
@@ -97,15 +98,15 @@ magnitude_of : (name : List ℕ) (xs ys : List ℕ) (count v n : ℕ) → head_a
 magnitude_of name xs ys count v n h short e within bytes =
     let p = (head_leaves name 2 8).ok xs count ys h in
     let q = number_inverse name count count 0 v ys (drop n xs) e in
-    let total : n ≡ p.count + count = omega (arith, p.within, ap length p.is, length-drop p.count xs, ap length q.0, length-append (take count ys) (drop n xs), q.1, length-drop n xs) in
+    let total : n ≡ p.count + count = omega (arith, p.within, ap length p.left, length-drop p.count xs, ap length q.0, length-append (take count ys) (drop n xs), q.1, length-drop n xs) in
     record {
       count = count;
       before = p.count;
-      counted = read_head name 2 8 xs count p.count (h ∙ ap (λ (zs : List ℕ). Ok (count, zs)) p.is) p.within (IsBytes-take p.count n xs (omega (arith, total)) bytes);
+      counted = read_head name 2 8 xs count p.count (h ∙ ap (λ (zs : List ℕ). Ok (count, zs)) p.left) p.within (IsBytes-take p.count n xs (omega (arith, total)) bytes);
       short = short;
       within = omega (arith, total);
       bytes = bytes_between p.count count n xs total bytes;
-      value = q.2 ∙ ap (λ zs. number_of (take count zs)) p.is;
+      value = q.2 ∙ ap (λ zs. number_of (take count zs)) p.left;
       size = total;
     }
 
@@ -123,8 +124,8 @@ content_cut_at name xs ys count z n h short e within bytes =
     let p = (head_leaves name 2 8).ok xs count ys h in
     let q = number_cut name count count 0 ys z (drop n xs) e in
     let all : length xs ≤ n = omega (arith, ap length q.2, length-drop n xs) in
-    content_cut count p.count (head_then name 2 8 xs ys count p.count h p.is p.within (IsBytes-take p.count n xs (omega (arith, all, p.within)) bytes)) short
-    (omega (arith, q.0, ap length p.is, length-drop p.count xs, p.within)) q.1 q.2
+    content_cut count p.count (head_then name 2 8 xs ys count p.count h p.left p.within (IsBytes-take p.count n xs (omega (arith, all, p.within)) bytes)) short
+    (omega (arith, q.0, ap length p.left, length-drop p.count xs, p.within)) q.1 q.2
 
 counted_stops : (t : Bool) (name : List ℕ) (xs ys : List ℕ) (count : ℕ) (z : Refusal) (n : ℕ) → ltb 16 count ≡ t → head_at name 2 8 xs ≡ Ok (count, ys) → n ≤ length xs → IsBytes (take n xs)
     → cond t (refuse (length_overflow name (len_of count))) (number_on name count count 0) ys ≡ Err (z, drop n xs) → StopsMagnitude name xs z (drop n xs)
@@ -163,15 +164,15 @@ record TagPart (xs rest : List ℕ) (tag n : ℕ) : Type 0 where
   within : size ≤ length (drop before xs)
   bytes : IsBytes (take size (drop before xs))
 
-tag_part : (name : List ℕ) (xs rest : List ℕ) (tag n : ℕ) → head_at name 6 1 xs ≡ Ok (tag, rest) → IsEnd rest (drop n xs) → n ≤ length xs → IsBytes (take n xs) → TagPart xs rest tag n
+tag_part : (name : List ℕ) (xs rest : List ℕ) (tag n : ℕ) → head_at name 6 1 xs ≡ Ok (tag, rest) → Passed rest (drop n xs) → n ≤ length xs → IsBytes (take n xs) → TagPart xs rest tag n
 tag_part name xs rest tag n e ends within bytes =
     let p = (head_leaves name 6 1).ok xs tag rest e in
-    let le : p.count ≤ n = ends_after p.count n xs rest (drop n xs) p.within p.is ends refl within in
+    let le : p.count ≤ n = ends_after p.count n xs rest (drop n xs) p.within p.left ends refl within in
     let total : n ≡ p.count + (n - p.count) = omega (arith, le) in
     record {
       before = p.count;
-      tagged = head_then name 6 1 xs rest tag p.count e p.is p.within (IsBytes-take p.count n xs le bytes);
-      is = p.is;
+      tagged = head_then name 6 1 xs rest tag p.count e p.left p.within (IsBytes-take p.count n xs le bytes);
+      is = p.left;
       size = n - p.count;
       total = total;
       left = ap (λ j. drop j xs) total ∙ sym (drop_more (n - p.count) p.count xs);

@@ -11,6 +11,7 @@ use Rattle.cbor4ii_items.specs.ReadHead.{head_at, length_at, number_on}
 use Rattle.cbor4ii_items.specs.ReadNumber.{magnitude_by, magnitude_at, u128_tagged, u128_by, u128_at, i128_tagged, i128_by, i128_at, as_positive, as_negative}
 use Rattle.cbor4ii_items.specs.Laws.Running.{runs_as, runs_then, runs_with}
 use Rattle.cbor4ii_items.proofs.SignedRuns.{first_major, runs_where}
+use Rattle.cbor4ii_items.specs.BigLaws.{i128_positive_by, i128_negative_by}
 
 short_by : (name : List ℕ) (count : ℕ) → count ≤ 16 → magnitude_by name (Some count) ≡ number_on name count count 0
 short_by name count h = let t : ltb 16 count ≡ false = le-ltb 16 count h in rw t refl
@@ -34,12 +35,6 @@ runs_u128_tag b e p q = runs_then u128_by p (runs_as (u128_tag b e) q)
 
 -- ---- i128
 
-i128_positive : (b : ℕ) → b / 32 ≡ 0 → i128_by b ≡ (head_at (codes "u64") 0 8 >=> as_positive)
-i128_positive b e = let t : b / 32 ≡ 0 = e in rw t refl
-
-i128_negative : (b : ℕ) → b / 32 ≡ 1 → i128_by b ≡ (head_at (codes "i128") 1 8 >=> as_negative)
-i128_negative b e = let t : b / 32 ≡ 1 = e in rw t refl
-
 i128_tag : (b : ℕ) → b / 32 ≢ 0 → b / 32 ≢ 1 → i128_by b ≡ (head_at (codes "i128") 6 1 >=> i128_tagged)
 i128_tag b p q =
     let s : eqb (b / 32) 0 ≡ false = ne_eqb (b / 32) 0 p in
@@ -47,10 +42,10 @@ i128_tag b p q =
     rw (s, t) refl
 
 pub runs_i128_positive : {E : Type 0} (b : ℕ) {a m c : View} {r : Result ℤ (DecodeError E)} → b / 32 ≡ 0 → Runs {E = E} (peek_at (codes "i128") 1) a m (Ok b) → Runs (head_at (codes "u64") 0 8 >=> as_positive) m c r → Runs i128_at a c r
-runs_i128_positive b e p q = runs_then i128_by p (runs_as (i128_positive b e) q)
+runs_i128_positive b e p q = runs_then i128_by p (runs_as (i128_positive_by b e) q)
 
 pub runs_i128_negative : {E : Type 0} (b : ℕ) {a m c : View} {r : Result ℤ (DecodeError E)} → b / 32 ≡ 1 → Runs {E = E} (peek_at (codes "i128") 1) a m (Ok b) → Runs (head_at (codes "i128") 1 8 >=> as_negative) m c r → Runs i128_at a c r
-runs_i128_negative b e p q = runs_then i128_by p (runs_as (i128_negative b e) q)
+runs_i128_negative b e p q = runs_then i128_by p (runs_as (i128_negative_by b e) q)
 
 pub runs_i128_tag : {E : Type 0} (b : ℕ) {a m c : View} {r : Result ℤ (DecodeError E)} → b / 32 ≢ 0 → b / 32 ≢ 1 → Runs {E = E} (peek_at (codes "i128") 1) a m (Ok b) → Runs (head_at (codes "i128") 6 1 >=> i128_tagged) m c r → Runs i128_at a c r
 runs_i128_tag b s t p q = runs_then i128_by p (runs_as (i128_tag b s t) q)
@@ -77,11 +72,11 @@ u128_whole {v = v} p = runs_where (λ xs told. let s = p.answers xs told in as_u
 
 as_plus : (v : ℕ) (xs ys : List ℕ) → head_at (codes "u64") 0 8 xs ≡ Ok (v, ys) → i128_at xs ≡ (head_at (codes "u64") 0 8 >=> as_positive) xs
 as_plus v [] ys e = cc
-as_plus v (b ∷ bs) ys e = ap (λ f. f (b ∷ bs)) (i128_positive b (first_major (codes "u64") 0 8 v b bs ys e))
+as_plus v (b ∷ bs) ys e = ap (λ f. f (b ∷ bs)) (i128_positive_by b (first_major (codes "u64") 0 8 v b bs ys e))
 
 as_minus : (v : ℕ) (xs ys : List ℕ) → head_at (codes "i128") 1 8 xs ≡ Ok (v, ys) → i128_at xs ≡ (head_at (codes "i128") 1 8 >=> as_negative) xs
 as_minus v [] ys e = cc
-as_minus v (b ∷ bs) ys e = ap (λ f. f (b ∷ bs)) (i128_negative b (first_major (codes "i128") 1 8 v b bs ys e))
+as_minus v (b ∷ bs) ys e = ap (λ f. f (b ∷ bs)) (i128_negative_by b (first_major (codes "i128") 1 8 v b bs ys e))
 
 pub plus_whole : {E : Type 0} {v : ℕ} {z : ℤ} {a m : View} → z ≡ pos v → Runs {E = E} (head_at (codes "u64") 0 8) a m (Ok v) → Runs {E = E} i128_at a m (Ok z)
 plus_whole {v = v} e p = runs_where (λ xs told. let s = p.answers xs told in as_plus v xs s.0 s.2) (runs_with pos e p)

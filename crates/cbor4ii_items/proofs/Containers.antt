@@ -16,7 +16,7 @@ use Rattle.cbor4ii_items.specs.Containers.{BeginsNull, ReadsOption, StopsOption,
 use Rattle.cbor4ii_items.specs.Outcome.{same_refusal}
 use Rattle.cbor4ii_items.specs.Fronts.{drop_more}
 use Rattle.cbor4ii_items.specs.Laws.Running.{peeked}
-use Rattle.cbor4ii_items.specs.Laws.Answering.{fits_zero}
+use Rattle.cbor4ii_items.specs.Laws.Answering.{fits_zero, if_some}
 
 -- what is exact stays so, where the bytes are told
 pub exact_kept : (owned : Bool) (a b : View) (xs : List ℕ) → a.told ≡ Some xs → Kept a b → IsExact owned a → IsExact owned b
@@ -24,10 +24,6 @@ exact_kept owned a b xs told kept (inl e) = inl e
 exact_kept owned a b xs told kept (inr e) =
     let t = kept.rest xs told in
     inr (kept.lends_whole e.0, λ ys left. (let same : drop t.0 xs ≡ ys = let l = t.1.left in cc in omega (arith, ap length same, length-drop t.0 xs, e.1 xs told)))
-
-pub if_some : {P Q : Type 0} (o : Option Refusal) → (P → Q) → IfSome o (λ z. P) → IfSome o (λ z. Q)
-if_some None f h = tt
-if_some (Some z) f h = f h
 
 -- ---- the byte that was looked at
 

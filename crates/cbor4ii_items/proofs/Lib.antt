@@ -2,7 +2,7 @@ pub mod WholeHeads
 pub mod Leaves
 pub mod Stopping
 pub mod Arguments
-pub mod Parts
+pub mod BelowLimit
 pub mod SignedLeaf
 pub mod BigRuns
 pub mod SignedRuns

@@ -13,14 +13,13 @@ use Rattle.cbor4ii_items.specs.Outcome.{same_value, same_refusal}
 use Rattle.cbor4ii_items.specs.Heads.{ReadsHead}
 use Rattle.cbor4ii_items.specs.HeadLaws.{read_head, head_read, head_one}
 use Rattle.cbor4ii_items.specs.ReadHead.{length_at}
-use Rattle.cbor4ii_items.specs.ProgramEnds.{go_inverse, go_refused, length_some, length_none}
+use Rattle.cbor4ii_items.specs.ProgramEnds.{ok_parts, err_parts, length_some, length_none}
 use Rattle.cbor4ii_items.specs.StringLaws.{length_known}
 use Rattle.cbor4ii_items.specs.Fronts.{drop_more}
 use Rattle.cbor4ii_items.specs.Laws.Arguments.{ReadBy}
 use Rattle.cbor4ii_items.specs.Maybe.{ReadsFew, ReadsMaybe, StopsFew, few_head_refused, few_open, few_other, StopsMaybe, maybe_head_refused, maybe_item_refused, few_by, few_at}
 use Rattle.cbor4ii_items.specs.MaybeLaws.{two_counts}
-use Rattle.cbor4ii_items.proofs.Containers.{if_some}
-use Rattle.cbor4ii_items.specs.Laws.Answering.{fits_zero, refuses_as}
+use Rattle.cbor4ii_items.specs.Laws.Answering.{fits_zero, refuses_as, if_some}
 use Rattle.cbor4ii_items.proofs.Leaves.{IsLeaf}
 use Rattle.cbor4ii_items.proofs.StringsRead.{no_length}
 
@@ -47,8 +46,8 @@ few_found xs ys v n (Some (suc (suc k))) e f within bytes = cc
 
 few_means : (xs : List ℕ) (v : Bool) (n : ℕ) → few_at xs ≡ Ok (v, drop n xs) → n ≤ length xs → IsBytes (take n xs) → ReadsFew xs v n 0
 few_means xs v n e within bytes =
-    let g = go_inverse (length_at (codes "array") 4 xs) few_by v (drop n xs) e in
-    few_found xs g.1 v n g.0 g.2 g.3 within bytes
+    let g = ok_parts (length_at (codes "array") 4 xs) few_by v (drop n xs) e in
+    few_found xs g.rest v n g.value g.begun g.ended within bytes
 
 few_known : (xs : List ℕ) (k n : ℕ) → ReadsHead 4 8 xs k n → few_at xs ≡ few_by (Some k) (drop n xs)
 few_known xs k n h = ap (λ z. go_on z few_by) (length_known (codes "array") 4 xs k n (omega arith) h)
@@ -74,7 +73,7 @@ few_stopped xs ys budget z n (Some (suc (suc k))) e f within bytes =
 
 few_refuses : (xs : List ℕ) (budget : Option ℕ) (z : Refusal) (n : ℕ) → few_at xs ≡ Err (z, drop n xs) → n ≤ length xs → IsBytes (take n xs) → StopsFew xs budget z (drop n xs)
 few_refuses xs budget z n e within bytes =
-    elim (go_refused (length_at (codes "array") 4 xs) few_by z (drop n xs) e) [ inl r ↦ few_head_refused (no_length (codes "array") 4 xs z (drop n xs) r) | inr g ↦ few_stopped xs g.1 budget z n g.0 g.2 g.3 within bytes ]
+    elim (err_parts (length_at (codes "array") 4 xs) few_by z (drop n xs) e) [ inl r ↦ few_head_refused (no_length (codes "array") 4 xs z (drop n xs) r) | inr g ↦ few_stopped xs g.rest budget z n g.value g.begun g.ended within bytes ]
 
 pub few_leaf : IsLeaf few_at ReadsFew StopsFew
 few_leaf = record { means = few_means; again = few_again; refuses = few_refuses }

@@ -9,8 +9,8 @@ use Rattle.cbor4ii_items.specs.Decoding.{Reads, StopsAt, CostFits, IsExact, Soun
 use Rattle.cbor4ii_items.specs.Fronts.{drop_more}
 use Rattle.cbor4ii_items.specs.ContainerLaws.{both}
 use Rattle.cbor4ii_items.specs.Sequences.{ReadsPair, StopsPair}
-use Rattle.cbor4ii_items.proofs.Containers.{if_some}
 use Rattle.cbor4ii_items.proofs.SequenceParts.{stops_as, fits_less, fits_max}
+use Rattle.cbor4ii_items.specs.Laws.Answering.{if_some}
 
 pub exact_both : (a b : Bool) (v : View) → IsExact (a && b) v → IsExact a v × IsExact b v
 exact_both a b v (inl e) = let h = both a b e in (inl h.0, inl h.1)

@@ -18,8 +18,7 @@ use Rattle.cbor4ii_items.specs.Fronts.{drop_more}
 use Rattle.cbor4ii_items.specs.ProgramEnds.{length_some, length_none}
 use Rattle.cbor4ii_items.specs.StringLaws.{head_not_open, length_known, length_open}
 use Rattle.cbor4ii_items.specs.Sequences.{ReadsParts, ReadsCount, ReadsUpToBreak, ReadsInside, ReadsSequence, StopsCount, StopsUpToBreak, StopsInside, length_refused, counted_refused, open_refused, after_step, StopsSequence, under_step}
-use Rattle.cbor4ii_items.specs.Laws.Answering.{same_some}
-use Rattle.cbor4ii_items.proofs.Containers.{if_some}
+use Rattle.cbor4ii_items.specs.Laws.Answering.{same_some, if_some}
 use Rattle.cbor4ii_items.specs.Laws.UnderStep.{step_again, step_unbound, moves_around}
 use Rattle.cbor4ii_items.proofs.StringsRead.{no_length}
 use Rattle.cbor4ii_items.proofs.SequenceParts.{stops_as}

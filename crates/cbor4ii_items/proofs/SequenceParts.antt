@@ -16,9 +16,8 @@ use Rattle.cbor4ii_items.specs.ReadStrings.{break_at}
 use Rattle.cbor4ii_items.specs.ProgramEnds.{break_yes, break_no, break_refused}
 use Rattle.cbor4ii_items.specs.Sequences.{ReadsParts, ReadsCount, Unbroken, ReadsUpToBreak, StopsCount, StopsPlace, no_byte, may_read_nothing, part_refused, StopsUpToBreak, AddsPart}
 use Rattle.cbor4ii_items.specs.SequenceLaws.{not_less, next_part, parts_size, unbroken_size, ends_at_break}
-use Rattle.cbor4ii_items.specs.Laws.Answering.{fits_zero}
+use Rattle.cbor4ii_items.specs.Laws.Answering.{fits_zero, if_some}
 use Rattle.cbor4ii_items.specs.Laws.Steps.{kept_then}
-use Rattle.cbor4ii_items.proofs.Containers.{if_some}
 
 pub fits_less : (c d : ℕ) (budget : Option ℕ) → c ≤ d → CostFits d budget → CostFits c budget
 fits_less c d None le h = tt

@@ -14,7 +14,8 @@ use Rattle.cbor4ii_items.specs.Outcome.{same_value, same_refusal}
 use Rattle.cbor4ii_items.specs.SignedLaws.{signed_again}
 use Rattle.cbor4ii_items.proofs.Leaves.{IsLeaf}
 use Rattle.cbor4ii_items.proofs.Stopping.{head_stops}
-use Rattle.cbor4ii_items.proofs.Parts.{ok_parts, err_parts, ErrParts, below_ok, below_err}
+use Rattle.cbor4ii_items.specs.ProgramEnds.{ok_parts, err_parts, ErrParts}
+use Rattle.cbor4ii_items.proofs.BelowLimit.{below_ok, below_err}
 
 half_means : (name : List ℕ) (major width limit : ℕ) (xs : List ℕ) (k n : ℕ) → half_at name major width limit xs ≡ Ok (k, drop n xs) → n ≤ length xs → IsBytes (take n xs) → ReadsHead major width xs k n × (k < limit)
 half_means name major width limit xs k n e within bytes =

@@ -14,18 +14,13 @@ use Rattle.cbor4ii_items.specs.Reading.{Reading, Runs, refuse, peek_at, ◌>=>�
 use Rattle.cbor4ii_items.specs.ReadHead.{head_at, argument_at}
 use Rattle.cbor4ii_items.specs.ReadNumber.{below, half_at, signed_by, signed_at, as_positive, as_negative}
 use Rattle.cbor4ii_items.specs.Laws.Running.{as_of, runs_as, runs_then, runs_err, runs_with, runs_give, runs_refuse}
-
-positive_by : (name plus minus : List ℕ) (width limit b : ℕ) → b / 32 ≡ 0 → signed_by name plus minus width limit b ≡ (half_at plus 0 width limit >=> as_positive)
-positive_by name plus minus width limit b e = let t : b / 32 ≡ 0 = e in rw t refl
-
-negative_by : (name plus minus : List ℕ) (width limit b : ℕ) → b / 32 ≡ 1 → signed_by name plus minus width limit b ≡ (half_at minus 1 width limit >=> as_negative)
-negative_by name plus minus width limit b e = let t : b / 32 ≡ 1 = e in rw t refl
+use Rattle.cbor4ii_items.specs.SignedLaws.{signed_positive_by, signed_negative_by}
 
 pub runs_positive : {E : Type 0} (name plus minus : List ℕ) (width limit b : ℕ) {a m c : View} {r : Result ℤ (DecodeError E)} → b / 32 ≡ 0 → Runs {E = E} (peek_at name 1) a m (Ok b) → Runs (half_at plus 0 width limit >=> as_positive) m c r → Runs (signed_at name plus minus width limit) a c r
-runs_positive name plus minus width limit b e p q = runs_then (signed_by name plus minus width limit) p (runs_as (positive_by name plus minus width limit b e) q)
+runs_positive name plus minus width limit b e p q = runs_then (signed_by name plus minus width limit) p (runs_as (signed_positive_by name plus minus width limit b e) q)
 
 pub runs_negative : {E : Type 0} (name plus minus : List ℕ) (width limit b : ℕ) {a m c : View} {r : Result ℤ (DecodeError E)} → b / 32 ≡ 1 → Runs {E = E} (peek_at name 1) a m (Ok b) → Runs (half_at minus 1 width limit >=> as_negative) m c r → Runs (signed_at name plus minus width limit) a c r
-runs_negative name plus minus width limit b e p q = runs_then (signed_by name plus minus width limit) p (runs_as (negative_by name plus minus width limit b e) q)
+runs_negative name plus minus width limit b e p q = runs_then (signed_by name plus minus width limit) p (runs_as (signed_negative_by name plus minus width limit b e) q)
 
 -- ---- numbers as signed ones
 
@@ -49,12 +44,12 @@ first_major name major width v b bs ys e = eqb-true (b / 32) major (read_where (
 as_plus : (name plus minus : List ℕ) (width limit v : ℕ) (xs ys : List ℕ) → head_at plus 0 width xs ≡ Ok (v, ys) → signed_at name plus minus width limit xs ≡ (half_at plus 0 width limit >=> as_positive) xs
 as_plus name plus minus width limit v [] ys e = cc
 as_plus name plus minus width limit v (b ∷ bs) ys e =
-    ap (λ f. f (b ∷ bs)) (positive_by name plus minus width limit b (first_major plus 0 width v b bs ys e))
+    ap (λ f. f (b ∷ bs)) (signed_positive_by name plus minus width limit b (first_major plus 0 width v b bs ys e))
 
 as_minus : (name plus minus : List ℕ) (width limit v : ℕ) (xs ys : List ℕ) → head_at minus 1 width xs ≡ Ok (v, ys) → signed_at name plus minus width limit xs ≡ (half_at minus 1 width limit >=> as_negative) xs
 as_minus name plus minus width limit v [] ys e = cc
 as_minus name plus minus width limit v (b ∷ bs) ys e =
-    ap (λ f. f (b ∷ bs)) (negative_by name plus minus width limit b (first_major minus 1 width v b bs ys e))
+    ap (λ f. f (b ∷ bs)) (signed_negative_by name plus minus width limit b (first_major minus 1 width v b bs ys e))
 
 pub runs_where : {V E : Type 0} {f g : Reading V} {a b : View} {r : Result V (DecodeError E)} → Told a.told (λ xs. f xs ≡ g xs) → Runs g a b r → Runs f a b r
 runs_where {f = f} {g = g} {b = b} {r = r} same q = record { moves = q.moves; answers = λ xs told. as_of (f xs) (g xs) b.told r (same xs told) (q.answers xs told); memory = q.memory }

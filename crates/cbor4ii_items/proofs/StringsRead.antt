@@ -12,7 +12,7 @@ use Rattle.cbor4ii_items.specs.Heads.{ReadsHead, StopsHead}
 use Rattle.cbor4ii_items.specs.HeadLaws.{read_head}
 use Rattle.cbor4ii_items.specs.ReadHead.{head_at, head_by, length_at}
 use Rattle.cbor4ii_items.specs.ReadStrings.{content_on, break_at, chunk_by, chunk_inside, chunk_at, chunks_on, string_by, string_at}
-use Rattle.cbor4ii_items.specs.ProgramEnds.{go_inverse, go_refused, length_passed, length_some, length_none, content_inverse, break_yes, break_no, break_refused, chunk_passed, not_first}
+use Rattle.cbor4ii_items.specs.ProgramEnds.{ok_parts, err_parts, length_passed, length_some, length_none, content_inverse, break_yes, break_no, break_refused, chunk_passed, not_first}
 use Rattle.cbor4ii_items.specs.ChunkLaws.{chunks_by}
 use Rattle.cbor4ii_items.specs.Fronts.{drop_more}
 use Rattle.cbor4ii_items.specs.Strings.{ReadsCountedString, ReadsChunks, joined, chunk_cost, ReadsString, CutContent, StopsChunk, no_chunk_byte, no_step, chunk_open, chunk_refused, chunk_cut, StopsOpen, StopsString, string_head_refused, string_cut, string_open}
@@ -83,8 +83,8 @@ inside_by name before major (Some k) xs us v ys e f seen = known_read name befor
 
 inside_read : (name before : List ℕ) (major : ℕ) (xs v ys : List ℕ) → chunk_inside name major before xs ≡ Ok (v, ys) → Seen xs ys → CountedFound major before xs v ys
 inside_read name before major xs v ys e seen =
-    let g = go_inverse (length_at name major xs) (chunk_by name before) v ys e in
-    inside_by name before major g.0 xs g.1 v ys g.2 g.3 seen
+    let g = ok_parts (length_at name major xs) (chunk_by name before) v ys e in
+    inside_by name before major g.value xs g.rest v ys g.begun g.ended seen
 
 chunk_read : (name before : List ℕ) (major : ℕ) (budget : Option ℕ) (xs v ys : List ℕ) → chunk_at name major budget before xs ≡ Ok (v, ys) → Seen xs ys → CountedFound major before xs v ys × HasStep budget
 chunk_read name before major None xs v ys e seen = (inside_read name before major xs v ys e seen, tt)
@@ -130,15 +130,15 @@ by_ended : (name : List ℕ) (major : ℕ) (budget : Option ℕ) (before xs us v
 by_ended name major budget before xs us v ys next h true e f seen = ended_found major budget before xs us v ys e f
 by_ended name major budget before xs us v ys next h false e f seen =
     let same : us ≡ xs = (break_no xs us e).2 in
-    let g = go_inverse (chunk_at name major budget before us) next v ys f in
-    let here : chunk_at name major budget before xs ≡ Ok (g.0, g.1) = ap (chunk_at name major budget before) (sym same) ∙ g.2 in
-    chunk_found name major budget before g.0 xs g.1 v ys here (h g.0 g.1 (chunk_passed name major budget before xs g.0 g.1 here).1 g.3) seen
+    let g = ok_parts (chunk_at name major budget before us) next v ys f in
+    let here : chunk_at name major budget before xs ≡ Ok (g.value, g.rest) = ap (chunk_at name major budget before) (sym same) ∙ g.begun in
+    chunk_found name major budget before g.value xs g.rest v ys here (h g.value g.rest (chunk_passed name major budget before xs g.value g.rest here).1 g.ended) seen
 
 chunks_read : (f : ℕ) (name : List ℕ) (major : ℕ) (budget : Option ℕ) (before xs v ys : List ℕ) → length xs < f → chunks_on f name major budget before xs ≡ Ok (v, ys) → Seen xs ys → ChunksFound major budget before xs v ys
 chunks_read zero name major budget before xs v ys h e seen = absurd (omega (arith, h))
 chunks_read (suc f) name major budget before xs v ys h e seen =
-    let g = go_inverse (break_at xs) (chunks_by name major budget before (chunks_on f name major budget)) v ys e in
-    by_ended name major budget before xs g.1 v ys (chunks_on f name major budget) (λ more zs short k there. chunks_read f name major budget more zs v ys (omega (arith, h, short)) k there) g.0 g.2 g.3 seen
+    let g = ok_parts (break_at xs) (chunks_by name major budget before (chunks_on f name major budget)) v ys e in
+    by_ended name major budget before xs g.rest v ys (chunks_on f name major budget) (λ more zs short k there. chunks_read f name major budget more zs v ys (omega (arith, h, short)) k there) g.value g.begun g.ended seen
 
 -- ---- strings
 
@@ -169,8 +169,8 @@ string_by_read name major budget None xs us v ys e f seen =
 
 pub string_read : (name : List ℕ) (major : ℕ) (budget : Option ℕ) (xs v ys : List ℕ) → string_at name major budget xs ≡ Ok (v, ys) → Seen xs ys → Found (ReadsString major) budget xs v ys
 string_read name major budget xs v ys e seen =
-    let g = go_inverse (length_at name major xs) (string_by name major budget) v ys e in
-    string_by_read name major budget g.0 xs g.1 v ys g.2 g.3 seen
+    let g = ok_parts (length_at name major xs) (string_by name major budget) v ys e in
+    string_by_read name major budget g.value xs g.rest v ys g.begun g.ended seen
 
 -- ---- refusals
 
@@ -178,7 +178,7 @@ length_by_refused : (t : Bool) (name : List ℕ) (major b : ℕ) (bs : List ℕ)
     → (BeginsWith (b ∷ bs) (open_head major) → ⊥) × (head_by name major 8 b bs ≡ Err (z, ys))
 length_by_refused true name major b bs z ys h e = cc
 length_by_refused false name major b bs z ys h e =
-    (not_first b (open_head major) bs h, elim (go_refused (head_by name major 8 b bs) (λ n. give (Some n)) z ys e) [ inl r ↦ r | inr r ↦ let f = r.3 in cc ])
+    (not_first b (open_head major) bs h, elim (err_parts (head_by name major 8 b bs) (λ n. give (Some n)) z ys e) [ inl r ↦ r | inr r ↦ let f = r.ended in cc ])
 
 pub no_length : (name : List ℕ) (major : ℕ) (xs : List ℕ) (z : Refusal) (ys : List ℕ) → length_at name major xs ≡ Err (z, ys) → (BeginsWith xs (open_head major) → ⊥) × StopsHead name major 8 xs z ys
 no_length name major [] z ys e = let p = same_refusal (length_at name major []) refl e in ((λ h. cc), (sym p.0, sym p.1))
@@ -224,9 +224,9 @@ inside_stops_by name before major budget None xs us z ys step e f seen =
 inside_stops_by name before major budget (Some k) xs us z ys step e f seen = chunk_cut step (known_cut name before major k xs us z ys e f seen)
 
 inside_stops : (name before : List ℕ) (major : ℕ) (budget : Option ℕ) (xs : List ℕ) (z : Refusal) (ys : List ℕ) → budget ≢ Some 0 → xs ≢ [] → (BeginsWith xs break → ⊥) → chunk_inside name major before xs ≡ Err (z, ys) → Seen xs ys → StopsChunk name major xs budget z ys
-inside_stops name before major budget xs z ys step some other e seen = elim (go_refused (length_at name major xs) (chunk_by name before) z ys e) [
+inside_stops name before major budget xs z ys step some other e seen = elim (err_parts (length_at name major xs) (chunk_by name before) z ys e) [
   | inl r ↦ (let h = no_length name major xs z ys r in chunk_refused step other h.0 some h.1)
-  | inr r ↦ inside_stops_by name before major budget r.0 xs r.1 z ys step r.2 r.3 seen
+  | inr r ↦ inside_stops_by name before major budget r.value xs r.rest z ys step r.begun r.ended seen
 ]
 
 chunk_stops : (name before : List ℕ) (major : ℕ) (budget : Option ℕ) (xs : List ℕ) (z : Refusal) (ys : List ℕ) → xs ≢ [] → (BeginsWith xs break → ⊥) → chunk_at name major budget before xs ≡ Err (z, ys) → Seen xs ys → StopsChunk name major xs budget z ys
@@ -275,16 +275,16 @@ stops_by name before major budget xs us z ys next h false e f seen =
     let b = break_no xs us e in
     let same : us ≡ xs = b.2 in
     let here : go_on (chunk_at name major budget before xs) next ≡ Err (z, ys) = ap (λ ws. go_on (chunk_at name major budget before ws) next) (sym same) ∙ f in
-    elim (go_refused (chunk_at name major budget before xs) next z ys here) [
+    elim (err_parts (chunk_at name major budget before xs) next z ys here) [
       | inl r ↦ record { chunks = []; between = 0; read = refl; fits = fits_zero budget; stop = chunk_stops name before major budget xs z ys b.0 b.1 r seen }
-      | inr r ↦ chunk_stopped name before major budget r.0 xs r.1 z ys r.2 (h r.0 r.1 (chunk_passed name major budget before xs r.0 r.1 r.2).1 r.3) seen
+      | inr r ↦ chunk_stopped name before major budget r.value xs r.rest z ys r.begun (h r.value r.rest (chunk_passed name major budget before xs r.value r.rest r.begun).1 r.ended) seen
     ]
 
 chunks_stop : (f : ℕ) (name before : List ℕ) (major : ℕ) (budget : Option ℕ) (xs : List ℕ) (z : Refusal) (ys : List ℕ) → length xs < f → chunks_on f name major budget before xs ≡ Err (z, ys) → Seen xs ys → StopsOpen name major xs budget z ys
 chunks_stop zero name before major budget xs z ys h e seen = absurd (omega (arith, h))
-chunks_stop (suc f) name before major budget xs z ys h e seen = elim (go_refused (break_at xs) (chunks_by name major budget before (chunks_on f name major budget)) z ys e) [
+chunks_stop (suc f) name before major budget xs z ys h e seen = elim (err_parts (break_at xs) (chunks_by name major budget before (chunks_on f name major budget)) z ys e) [
   | inl r ↦ (let b = break_refused xs ys z r in record { chunks = []; between = 0; read = refl; fits = fits_zero budget; stop = no_chunk_byte b.0 b.1 b.2 })
-  | inr r ↦ stops_by name before major budget xs r.1 z ys (chunks_on f name major budget) (λ more zs short k there. chunks_stop f name more major budget zs z ys (omega (arith, h, short)) k there) r.0 r.2 r.3 seen
+  | inr r ↦ stops_by name before major budget xs r.rest z ys (chunks_on f name major budget) (λ more zs short k there. chunks_stop f name more major budget zs z ys (omega (arith, h, short)) k there) r.value r.begun r.ended seen
 ]
 
 string_by_stops : (name : List ℕ) (major : ℕ) (budget l : Option ℕ) (xs us : List ℕ) (z : Refusal) (ys : List ℕ) → length_at name major xs ≡ Ok (l, us) → string_by name major budget l us ≡ Err (z, ys) → Seen xs ys → StopsString name major xs budget z ys
@@ -296,7 +296,7 @@ string_by_stops name major budget None xs us z ys e f seen =
     string_open o.0 (subst (λ zs. StopsOpen name major zs budget z ys) o.1 r)
 
 pub string_stops : (name : List ℕ) (major : ℕ) (budget : Option ℕ) (xs : List ℕ) (z : Refusal) (ys : List ℕ) → string_at name major budget xs ≡ Err (z, ys) → Seen xs ys → StopsString name major xs budget z ys
-string_stops name major budget xs z ys e seen = elim (go_refused (length_at name major xs) (string_by name major budget) z ys e) [
+string_stops name major budget xs z ys e seen = elim (err_parts (length_at name major xs) (string_by name major budget) z ys e) [
   | inl r ↦ (let h = no_length name major xs z ys r in string_head_refused h.0 h.1)
-  | inr r ↦ string_by_stops name major budget r.0 xs r.1 z ys r.2 r.3 seen
+  | inr r ↦ string_by_stops name major budget r.value xs r.rest z ys r.begun r.ended seen
 ]

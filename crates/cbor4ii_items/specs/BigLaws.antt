@@ -12,6 +12,7 @@ use Rattle.cbor4ii_items.specs.Numbers.{ReadsMagnitude, ReadsBignum, ReadsU128, 
 use Rattle.cbor4ii_items.specs.Fronts.{drop_more, two_fronts, behind_front, the_front}
 use Rattle.cbor4ii_items.specs.HeadLaws.{head_read, head_alone, additional-lt}
 use Rattle.cbor4ii_items.specs.Laws.Arguments.{ReadBy, leaf_one, leaf_within, leaf_positive}
+use Rattle.cbor4ii_items.specs.StringLaws.{length_known}
 use Rattle.cbor4ii_items.specs.SignedLaws.{starts, peek_first, below_again}
 
 -- ---- byte strings as numbers
@@ -28,12 +29,6 @@ length_read : (name : List ℕ) (major : ℕ) (b : ℕ) (bs xs : List ℕ) (v n 
 length_read name major b bs xs v n is other e =
     ap (length_at name major) is ∙ (ap (λ f. f bs) (counted_by name major b other) ∙ ap (λ z. go_on z (λ k. give (Some k))) (ap (head_at name major 8) (sym is) ∙ e))
 
-pub length_again : (name : List ℕ) (major : ℕ) (xs : List ℕ) (v n : ℕ) → major < 8 → ReadsHead major 8 xs v n → length_at name major xs ≡ Ok (Some v, drop n xs)
-length_again name major xs v n m h =
-    let s = starts major 8 xs v n h in
-    let small : additional h.wide v < 28 = additional-lt v h.wide h.fits in
-    length_read name major (32 * major + additional h.wide v) _ xs v n h.is (omega (arith, small)) (head_read name major 8 xs v n m h).0
-
 pub magnitude_again : (name : List ℕ) (xs : List ℕ) (v n : ℕ) → ReadsMagnitude xs v n → ReadBy (magnitude_at name) xs v n 0
 magnitude_again name xs v n p =
     let h = head_read name 2 8 xs p.count p.before (omega arith) p.counted in
@@ -41,7 +36,7 @@ magnitude_again name xs v n p =
     let long : p.count ≤ length (drop p.before xs) = omega (arith, length-drop p.before xs, p.within) in
     let taken : number_on name p.count p.count 0 (drop p.before xs) ≡ Ok (v, drop n xs) = number_taken name p.count p.count 0 (drop p.before xs) long ∙ (ap (λ (k : ℕ). Ok (k, drop p.count (drop p.before xs))) (sym p.value) ∙ ap (λ (zs : List ℕ). Ok (v, zs)) (drop_more p.count p.before xs ∙ ap (λ j. drop j xs) (sym p.size))) in
     record {
-      answer = ap (λ z. go_on z (magnitude_by name)) (length_again name 2 xs p.count p.before (omega arith) p.counted) ∙ rw t taken;
+      answer = ap (λ z. go_on z (magnitude_by name)) (length_known name 2 xs p.count p.before (omega arith) p.counted) ∙ rw t taken;
       within = omega (arith, p.size, p.within);
       positive = omega (arith, p.size, h.2);
       cost = refl;
@@ -145,10 +140,10 @@ u128_alone xs ys v n c (inr p, cost) = (inr (bignum_alone 2 xs ys v n p), cost)
 
 -- ---- i128
 
-i128_positive_by : (b : ℕ) → b / 32 ≡ 0 → i128_by b ≡ (head_at (codes "u64") 0 8 >=> as_positive)
+pub i128_positive_by : (b : ℕ) → b / 32 ≡ 0 → i128_by b ≡ (head_at (codes "u64") 0 8 >=> as_positive)
 i128_positive_by b e = let t : b / 32 ≡ 0 = e in rw t refl
 
-i128_negative_by : (b : ℕ) → b / 32 ≡ 1 → i128_by b ≡ (head_at (codes "i128") 1 8 >=> as_negative)
+pub i128_negative_by : (b : ℕ) → b / 32 ≡ 1 → i128_by b ≡ (head_at (codes "i128") 1 8 >=> as_negative)
 i128_negative_by b e = let t : b / 32 ≡ 1 = e in rw t refl
 
 i128_bignum : (b : ℕ) → b / 32 ≡ 6 → i128_by b ≡ (head_at (codes "i128") 6 1 >=> i128_tagged)

@@ -1,13 +1,13 @@
--- What a program leaves is an end of what it was given.
+-- What a program of two parts answers, and that what it leaves is an end of what it was given.
 use Rattle.std.proofs.Common.{◌≡◌, ◌≢◌, ℕ, zero, suc, ◌+◌, ◌-◌, ◌*◌, ◌/◌, ◌%◌, ◌<◌, ◌≤◌, ◌⊎◌, inl, inr, List, [], ◌∷◌, ◌++◌, length, take, drop, Option, None, Some, Result, Ok, Err, Bool, true, false, refl, sym, ap, ap₂, ◌∙◌, arith, ltb, eqb, eq-eqb, eqb-true, ltb-false, cond}
 use Rattle.std.specs.Prelude.{codes}
 use Rattle.std.proofs.lemmas.List.{length-drop}
 use Rattle.cbor4ii_rw.specs.declared.error.Len.TheVariants.{Small}
 use Rattle.cbor4ii_items.specs.Head.{break, open_head}
 use Rattle.cbor4ii_items.specs.Refusal.{Refusal, mismatch, eof, len_of}
-use Rattle.cbor4ii_items.specs.Reading.{Reading, give, refuse, go_on, ◌>=>◌}
+use Rattle.cbor4ii_items.specs.Reading.{Reading, give, refuse, go_on, ◌>=>◌, byte_at}
 use Rattle.cbor4ii_items.specs.Outcome.{same_value, same_refusal}
-use Rattle.cbor4ii_items.specs.ReadHead.{number_on, argument_at, head_by, head_at, length_at, following, allowed}
+use Rattle.cbor4ii_items.specs.ReadHead.{number_on, argument_at, head_by, head_at, length_by, length_at, following, allowed}
 use Rattle.cbor4ii_items.specs.ReadStrings.{content_on, break_at, chunk_by, chunk_inside, chunk_at}
 use Rattle.cbor4ii_items.specs.Fronts.{drop_more}
 
@@ -33,54 +33,109 @@ passed_then {xs = xs} {ys = ys} {zs = zs} p q = record {
 pub passed_length : {xs ys : List ℕ} → Passed xs ys → length ys ≤ length xs
 passed_length {xs = xs} p = omega (arith, ap length p.left, length-drop p.count xs)
 
--- ---- one program after another
+-- ---- the parts of an answer
 
-pub go_inverse : {U V : Type 0} (r : Result (U × List ℕ) (Refusal × List ℕ)) (next : U → Reading V) (v : V) (zs : List ℕ) → go_on r next ≡ Ok (v, zs) → (u : U) × (ys : List ℕ) × (r ≡ Ok (u, ys)) × (next u ys ≡ Ok (v, zs))
-go_inverse (Ok p) next v zs e = (p.0, p.1, refl, e)
-go_inverse (Err z) next v zs e = cc
+pub record OkParts {U V : Type 0} (first : Result (U × List ℕ) (Refusal × List ℕ)) (next : U → Reading V) (v : V) (zs : List ℕ) : Type 0 where
+  pub value : U
+  pub rest : List ℕ
+  pub begun : first ≡ Ok (value, rest)
+  pub ended : next value rest ≡ Ok (v, zs)
 
-pub go_refused : {U V : Type 0} (r : Result (U × List ℕ) (Refusal × List ℕ)) (next : U → Reading V) (z : Refusal) (zs : List ℕ) → go_on r next ≡ Err (z, zs)
-    → (r ≡ Err (z, zs)) ⊎ ((u : U) × (ys : List ℕ) × (r ≡ Ok (u, ys)) × (next u ys ≡ Err (z, zs)))
-go_refused (Ok p) next z zs e = inr (p.0, p.1, refl, e)
-go_refused (Err w) next z zs e = let f : w ≡ (z, zs) = cc in inl (ap Err f)
+pub ok_parts : {U V : Type 0} (first : Result (U × List ℕ) (Refusal × List ℕ)) (next : U → Reading V) (v : V) (zs : List ℕ) → go_on first next ≡ Ok (v, zs) → OkParts first next v zs
+ok_parts (Ok p) next v zs e = record { value = p.0; rest = p.1; begun = refl; ended = e }
+ok_parts (Err p) next v zs e = cc
+
+pub record ErrParts {U V : Type 0} (first : Result (U × List ℕ) (Refusal × List ℕ)) (next : U → Reading V) (z : Refusal) (zs : List ℕ) : Type 0 where
+  pub value : U
+  pub rest : List ℕ
+  pub begun : first ≡ Ok (value, rest)
+  pub ended : next value rest ≡ Err (z, zs)
+
+pub err_parts : {U V : Type 0} (first : Result (U × List ℕ) (Refusal × List ℕ)) (next : U → Reading V) (z : Refusal) (zs : List ℕ) → go_on first next ≡ Err (z, zs) → (first ≡ Err (z, zs)) ⊎ ErrParts first next z zs
+err_parts (Ok p) next z zs e = inr (record { value = p.0; rest = p.1; begun = refl; ended = e })
+err_parts (Err p) next z zs e = let f : p ≡ (z, zs) = cc in inl (ap (λ (q : Refusal × List ℕ). Err q) f)
+
+-- ---- a program that leaves an end of what it is given
+
+pub record LeavesEnd {V : Type 0} (program : Reading V) : Type 0 where
+  pub ok : (xs : List ℕ) (v : V) (ys : List ℕ) → program xs ≡ Ok (v, ys) → Passed xs ys
+  pub err : (xs : List ℕ) (z : Refusal) (ys : List ℕ) → program xs ≡ Err (z, ys) → Passed xs ys
+
+pub give_leaves : {V : Type 0} (v : V) → LeavesEnd (give v)
+give_leaves v = record {
+  ok = λ xs w ys e. passed_none xs ys (same_value (give v xs) refl e).1;
+  err = λ xs z ys e. cc;
+}
+
+pub refuse_leaves : {V : Type 0} (z : Refusal) → LeavesEnd {V = V} (refuse z)
+refuse_leaves {V} z = record {
+  ok = λ xs w ys e. cc;
+  err = λ xs y ys e. passed_none xs ys (same_refusal (refuse {V = V} z xs) refl e).1;
+}
+
+pub if_leaves : {V : Type 0} (t : Bool) {f g : Reading V} → LeavesEnd f → LeavesEnd g → LeavesEnd (cond t f g)
+if_leaves true p q = p
+if_leaves false p q = q
+
+then_err : {U V : Type 0} {f : Reading U} {g : U → Reading V} (xs zs : List ℕ) (z : Refusal) → LeavesEnd f → ((u : U) → LeavesEnd (g u)) → (f xs ≡ Err (z, zs)) ⊎ ErrParts (f xs) g z zs → Passed xs zs
+then_err xs zs z p q (inl e) = p.err xs z zs e
+then_err xs zs z p q (inr h) = passed_then (p.ok xs h.value h.rest h.begun) ((q h.value).err h.rest z zs h.ended)
+
+pub then_leaves : {U V : Type 0} {f : Reading U} {g : U → Reading V} → LeavesEnd f → ((u : U) → LeavesEnd (g u)) → LeavesEnd (f >=> g)
+then_leaves {f = f} {g = g} p q = record {
+  ok = λ xs v zs e. let h = ok_parts (f xs) g v zs e in passed_then (p.ok xs h.value h.rest h.begun) ((q h.value).ok h.rest v zs h.ended);
+  err = λ xs z zs e. then_err xs zs z p q (err_parts (f xs) g z zs e);
+}
+
+byte_ok : (name : List ℕ) (expect : ℕ) (xs : List ℕ) (v : ℕ) (ys : List ℕ) → byte_at name expect xs ≡ Ok (v, ys) → Passed xs ys
+byte_ok name expect [] v ys e = cc
+byte_ok name expect (b ∷ bs) v ys e = passed_one b bs ys (same_value (byte_at name expect (b ∷ bs)) refl e).1
+
+byte_err : (name : List ℕ) (expect : ℕ) (xs : List ℕ) (z : Refusal) (ys : List ℕ) → byte_at name expect xs ≡ Err (z, ys) → Passed xs ys
+byte_err name expect [] z ys e = passed_none [] ys (same_refusal (byte_at name expect []) refl e).1
+byte_err name expect (b ∷ bs) z ys e = cc
+
+pub byte_leaves : (name : List ℕ) (expect : ℕ) → LeavesEnd (byte_at name expect)
+byte_leaves name expect = record { ok = byte_ok name expect; err = byte_err name expect }
+
+pub number_leaves : (name : List ℕ) (expect k high : ℕ) → LeavesEnd (number_on name expect k high)
+number_leaves name expect zero high = give_leaves high
+number_leaves name expect (suc k) high = then_leaves (byte_leaves name expect) (λ b. number_leaves name expect k (high * 256 + b))
+
+argument_leaves : (name : List ℕ) (width b : ℕ) → LeavesEnd (argument_at name width b)
+argument_leaves name width b =
+    let k = following (b % 32) in
+    if_leaves (ltb (b % 32) 24) (give_leaves (b % 32)) (if_leaves (allowed width (b % 32)) (number_leaves name k k 0) (refuse_leaves (mismatch name b)))
+
+head_by_leaves : (name : List ℕ) (major width b : ℕ) → LeavesEnd (head_by name major width b)
+head_by_leaves name major width b = if_leaves (eqb (b / 32) major) (argument_leaves name width b) (refuse_leaves (mismatch name b))
+
+pub head_leaves : (name : List ℕ) (major width : ℕ) → LeavesEnd (head_at name major width)
+head_leaves name major width = then_leaves (byte_leaves name 1) (head_by_leaves name major width)
+
+length_by_leaves : (name : List ℕ) (major b : ℕ) → LeavesEnd (length_by name major b)
+length_by_leaves name major b = if_leaves (eqb b (open_head major)) (give_leaves None) (then_leaves (head_by_leaves name major 8 b) (λ n. give_leaves (Some n)))
+
+pub length_leaves : (name : List ℕ) (major : ℕ) → LeavesEnd (length_at name major)
+length_leaves name major = then_leaves (byte_leaves name 1) (length_by_leaves name major)
 
 -- ---- lengths
-
-number_passed : (name : List ℕ) (expect k high v : ℕ) (bs ys : List ℕ) → number_on name expect k high bs ≡ Ok (v, ys) → Passed bs ys
-number_passed name expect zero high v bs ys e = passed_none bs ys (same_value (Ok (high, bs)) refl e).1
-number_passed name expect (suc k) high v [] ys e = cc
-number_passed name expect (suc k) high v (b ∷ bs) ys e = passed_then (passed_one b bs bs refl) (number_passed name expect k (high * 256 + b) v bs ys e)
-
-argument_passed : (s t : Bool) (name : List ℕ) (k b v : ℕ) (bs ys : List ℕ) → cond s (give (b % 32)) (cond t (number_on name k k 0) (refuse (mismatch name b))) bs ≡ Ok (v, ys) → Passed bs ys
-argument_passed true t name k b v bs ys e = passed_none bs ys (same_value (Ok (b % 32, bs)) refl e).1
-argument_passed false false name k b v bs ys e = cc
-argument_passed false true name k b v bs ys e = number_passed name k k 0 v bs ys e
-
-head_passed : (t : Bool) (name : List ℕ) (width b v : ℕ) (bs ys : List ℕ) → cond t (argument_at name width b) (refuse (mismatch name b)) bs ≡ Ok (v, ys) → Passed bs ys
-head_passed true name width b v bs ys e = argument_passed (ltb (b % 32) 24) (allowed width (b % 32)) name (following (b % 32)) b v bs ys e
-head_passed false name width b v bs ys e = cc
-
-length_by_passed : (t : Bool) (name : List ℕ) (major b : ℕ) (l : Option ℕ) (bs ys : List ℕ) → cond t (give None) (head_by name major 8 b >=> λ n. give (Some n)) bs ≡ Ok (l, ys) → Passed bs ys
-length_by_passed true name major b l bs ys e = passed_none bs ys (same_value (Ok (None, bs)) refl e).1
-length_by_passed false name major b l bs ys e =
-    let g = go_inverse (head_by name major 8 b bs) (λ n. give (Some n)) l ys e in
-    passed_then (head_passed (eqb (b / 32) major) name 8 b g.0 bs g.1 g.2) (passed_none g.1 ys (same_value (Ok (Some g.0, g.1)) refl g.3).1)
 
 -- a length takes a byte
 pub length_passed : (name : List ℕ) (major : ℕ) (l : Option ℕ) (xs ys : List ℕ) → length_at name major xs ≡ Ok (l, ys) → Passed xs ys × (length ys < length xs)
 length_passed name major l [] ys e = cc
 length_passed name major l (b ∷ bs) ys e =
-    let p = length_by_passed (eqb b (open_head major)) name major b l bs ys e in
+    let p = (length_by_leaves name major b).ok bs l ys e in
     (passed_then (passed_one b bs bs refl) p, omega (arith, passed_length p))
 
 some_by : (t : Bool) (name : List ℕ) (major b k : ℕ) (bs ys : List ℕ) → cond t (give None) (head_by name major 8 b >=> λ n. give (Some n)) bs ≡ Ok (Some k, ys) → head_by name major 8 b bs ≡ Ok (k, ys)
 some_by true name major b k bs ys e = let p = same_value (Ok (None, bs)) refl e in let f : None ≡ Some k = p.0 in cc
 some_by false name major b k bs ys e =
-    let g = go_inverse (head_by name major 8 b bs) (λ n. give (Some n)) (Some k) ys e in
-    let p = same_value (Ok (Some g.0, g.1)) refl g.3 in
-    let f : Some g.0 ≡ Some k = p.0 in
-    let q : g.0 ≡ k = cc in
-    g.2 ∙ ap₂ (λ (j : ℕ) (zs : List ℕ). Ok (j, zs)) q p.1
+    let g = ok_parts (head_by name major 8 b bs) (λ n. give (Some n)) (Some k) ys e in
+    let p = same_value (Ok (Some g.value, g.rest)) refl g.ended in
+    let f : Some g.value ≡ Some k = p.0 in
+    let q : g.value ≡ k = cc in
+    g.begun ∙ ap₂ (λ (j : ℕ) (zs : List ℕ). Ok (j, zs)) q p.1
 
 -- a known length is the head's
 pub length_some : (name : List ℕ) (major k : ℕ) (xs ys : List ℕ) → length_at name major xs ≡ Ok (Some k, ys) → head_at name major 8 xs ≡ Ok (k, ys)
@@ -90,9 +145,9 @@ length_some name major k (b ∷ bs) ys e = some_by (eqb b (open_head major)) nam
 none_by : (t : Bool) (name : List ℕ) (major b : ℕ) (bs ys : List ℕ) → cond t (give None) (head_by name major 8 b >=> λ n. give (Some n)) bs ≡ Ok (None, ys) → (t ≡ true) × (ys ≡ bs)
 none_by true name major b bs ys e = (refl, sym (same_value (Ok (None, bs)) refl e).1)
 none_by false name major b bs ys e =
-    let g = go_inverse (head_by name major 8 b bs) (λ n. give (Some n)) None ys e in
-    let p = same_value (Ok (Some g.0, g.1)) refl g.3 in
-    let f : Some g.0 ≡ None = p.0 in
+    let g = ok_parts (head_by name major 8 b bs) (λ n. give (Some n)) None ys e in
+    let p = same_value (Ok (Some g.value, g.rest)) refl g.ended in
+    let f : Some g.value ≡ None = p.0 in
     cc
 
 -- an open length is one byte
@@ -154,9 +209,9 @@ chunk_by_passed name before (Some count) xs v ys e = content_passed name count b
 
 inside_passed : (name : List ℕ) (major : ℕ) (before xs v ys : List ℕ) → chunk_inside name major before xs ≡ Ok (v, ys) → Passed xs ys × (length ys < length xs)
 inside_passed name major before xs v ys e =
-    let g = go_inverse (length_at name major xs) (chunk_by name before) v ys e in
-    let p = length_passed name major g.0 xs g.1 g.2 in
-    let q = chunk_by_passed name before g.0 g.1 v ys g.3 in
+    let g = ok_parts (length_at name major xs) (chunk_by name before) v ys e in
+    let p = length_passed name major g.value xs g.rest g.begun in
+    let q = chunk_by_passed name before g.value g.rest v ys g.ended in
     (passed_then p.0 q, omega (arith, p.1, passed_length q))
 
 -- a chunk takes a byte

@@ -31,10 +31,10 @@ below_again name limit v ys h = let t : ltb v limit ≡ true = lt-ltb v limit h 
 half_again : (name : List ℕ) (major width limit : ℕ) (xs : List ℕ) (v n : ℕ) → major < 8 → ReadsHead major width xs v n → v < limit → half_at name major width limit xs ≡ Ok (v, drop n xs)
 half_again name major width limit xs v n m h small = ap (λ z. go_on z (below name limit)) (head_read name major width xs v n m h).0 ∙ below_again name limit v (drop n xs) small
 
-signed_positive_by : (name plus minus : List ℕ) (width limit b : ℕ) → b / 32 ≡ 0 → signed_by name plus minus width limit b ≡ (half_at plus 0 width limit >=> as_positive)
+pub signed_positive_by : (name plus minus : List ℕ) (width limit b : ℕ) → b / 32 ≡ 0 → signed_by name plus minus width limit b ≡ (half_at plus 0 width limit >=> as_positive)
 signed_positive_by name plus minus width limit b e = let t : eqb (b / 32) 0 ≡ true = eq-eqb (b / 32) 0 e in rw t refl
 
-signed_negative_by : (name plus minus : List ℕ) (width limit b : ℕ) → b / 32 ≡ 1 → signed_by name plus minus width limit b ≡ (half_at minus 1 width limit >=> as_negative)
+pub signed_negative_by : (name plus minus : List ℕ) (width limit b : ℕ) → b / 32 ≡ 1 → signed_by name plus minus width limit b ≡ (half_at minus 1 width limit >=> as_negative)
 signed_negative_by name plus minus width limit b e = let t : b / 32 ≡ 1 = e in rw t refl
 
 pub signed_again : (name plus minus : List ℕ) (width limit : ℕ) (xs : List ℕ) (v : ℤ) (n c : ℕ) → ReadsSigned width limit xs v n c → ReadBy (signed_at name plus minus width limit) xs v n c

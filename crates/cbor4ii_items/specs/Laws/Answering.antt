@@ -84,9 +84,10 @@ stops_by {program = program} {e = e} {a = a} {b = b} stops means p = record { at
 
 -- ---- one type as another
 
-no_more : (o : Option Refusal) {P Q : Type 0} → (P → Q) → IfSome o (λ z. P) → IfSome o (λ z. Q)
-no_more None f h = tt
-no_more (Some z) f h = f h
+-- what holds where an error speaks of the bytes
+pub if_some : (o : Option Refusal) {P Q : Type 0} → (P → Q) → IfSome o (λ z. P) → IfSome o (λ z. Q)
+if_some None f h = tt
+if_some (Some z) f h = f h
 
 pub refuses_as : {U V E : Type 0} {e : DecodeError E} {a : View} (f : Reads U) (g : Reads V) → ((xs : List ℕ) (budget : Option ℕ) → NoneRead f xs budget → NoneRead g xs budget) → Refuses f a e → Refuses g a e
-refuses_as {e = e} {a = a} f g none p = record { at = λ xs told. no_more (refusal_of e) (none xs a.budget) (p.at xs told) }
+refuses_as {e = e} {a = a} f g none p = record { at = λ xs told. if_some (refusal_of e) (none xs a.budget) (p.at xs told) }
