@@ -1,7 +1,7 @@
 -- One item of a command.
-use Rattle.std.proofs.Common.{◌≡◌, ◌≢◌, ℕ, ◌+◌, ◌-◌, ◌≤◌, List, [], ◌∷◌, ◌++◌, length, decimal, Option, Some, Result, Ok, Err, IsTrue, false, OnOk, IfSome, refl, sym, ap, ◌∙◌, subst, arith, append_assoc, length-append}
+use Rattle.std.proofs.Common.{◌≡◌, ◌≢◌, ℕ, ◌+◌, ◌-◌, ◌≤◌, List, [], ◌∷◌, ◌++◌, length, drop, decimal, Option, Some, Result, Ok, Err, IsTrue, false, OnOk, IfSome, refl, sym, ap, ◌∙◌, subst, arith, append_assoc, length-append}
 use Rattle.cbor4ii_rw.specs.View.{View, Told}
-use Rattle.cbor4ii_rw.specs.Reader.{IsFront, Shows, Failed, counts}
+use Rattle.cbor4ii_rw.specs.Reader.{IsFront, Shows, Breaks, Failed, counts}
 use Rattle.cbor4ii_rw.specs.Writer.{Output, Appends}
 use Rattle.cbor4ii_rw.specs.declared.error.DecodeError.{DecodeError}
 use Rattle.cbor4ii_rw.specs.declared.error.DecodeError.TheVariants.{Read as ReadError, OutOfMemory as NoMemory}
@@ -21,7 +21,7 @@ use Rattle.cbor4ii_tool.specs.Fault.{kind_of, kind_of_refusal}
 use Rattle.cbor4ii_tool.specs.Integer.{BeginsInteger}
 use Rattle.cbor4ii_tool.specs.Reading.{in_width, written_bytes, ReadsInteger, RefusesInteger, RefusesAt}
 use Rattle.cbor4ii_tool.specs.Item.{BeginsItem, StopsAs}
-use Rattle.cbor4ii_tool.specs.Steps.{Done, Fails}
+use Rattle.cbor4ii_tool.specs.Steps.{Leaves, Done, Fails}
 use Rattle.cbor4ii_tool.specs.declared.command.Command.{Command}
 use Rattle.cbor4ii_tool.specs.declared.command.Command.TheVariants.{Ints, Canon, Lens}
 use Rattle.cbor4ii_tool.specs.declared.fault.Kind.{Kind}
@@ -36,6 +36,28 @@ nothing shown a b = omega (arith, a, b)
 
 pub not_end : (shown xs : List ℕ) → IsFront 1 shown xs → 1 ≤ length shown → xs ≡ [] → ⊥
 not_end shown xs front some none = nothing shown (subst (λ (ys : List ℕ). length shown ≤ length ys) none front.within) some
+
+-- ---- what is left
+
+same_bytes : (xs ys : List ℕ) (told : Option (List ℕ)) → told ≡ Some xs → told ≡ Some ys → xs ≡ ys
+same_bytes xs ys told p q = cc
+
+kept_leaves : (a b : View) → Kept a b → Leaves a b
+kept_leaves a b kept = record { budget = kept.budget; rest = λ xs was ys is. let took = kept.rest xs was in (took.0, same_bytes ys (drop took.0 xs) b.told is took.1.left) }
+
+pub moves_leaves : {V E : Type 0} (answer : Result V (DecodeError E)) (a b : View) → Moves {V = V} a b answer → Leaves a b
+moves_leaves (Ok v) a b moves = kept_leaves a b moves.by
+moves_leaves (Err (ReadError e)) a b moves = record { budget = moves.by.budget; rest = moves.by.rest }
+moves_leaves (Err _) a b moves = kept_leaves a b moves.by
+
+pub shows_leaves : (shown : List ℕ) (a b : View) → Shows shown a b → Leaves a b
+shows_leaves shown a b shows = record { budget = shows.budget; rest = λ xs was ys is. (0, same_bytes ys xs b.told is (shows.told xs was)) }
+
+pub breaks_leaves : (a b : View) → Breaks a b → Leaves a b
+breaks_leaves a b breaks = record { budget = breaks.budget; rest = λ xs was ys is. (0, breaks.told xs was ys is) }
+
+pub shown_leaves : (shown : List ℕ) (a b c : View) → Shows shown a b → Leaves b c → Leaves a c
+shown_leaves shown a b c shows leaves = record { budget = leaves.budget ∙ shows.budget; rest = λ xs was ys is. leaves.rest xs (shows.told xs was) ys is }
 
 -- ---- integers
 

@@ -3,3 +3,5 @@ pub mod Integers
 pub mod Decoded
 pub mod Items
 pub mod Loop
+pub mod Finish
+pub mod Complete

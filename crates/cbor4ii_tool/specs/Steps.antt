@@ -1,15 +1,22 @@
 -- What the parts of a run promise each other.
-use Rattle.std.specs.Prelude.{◌≡◌, ℕ, ◌+◌, ◌≤◌, List, length, Bool, true, false, Option, Some, Result, Ok, Err}
+use Rattle.std.specs.Prelude.{◌≡◌, ℕ, ◌+◌, ◌≤◌, ◌⊎◌, List, length, drop, Bool, true, Option, Some, Result, Ok, Err}
 use Rattle.cbor4ii_rw.specs.View.{View, Told}
 use Rattle.cbor4ii_rw.specs.Reader.{Failed}
-use Rattle.cbor4ii_rw.specs.Writer.{Output, Appends}
-use Rattle.cbor4ii_items.specs.Moves.{Kept}
+use Rattle.cbor4ii_rw.specs.Writer.{Output, Appends, one_more}
+use Rattle.cbor4ii_items.specs.Moves.{Kept, EndsOrForgets}
 use Rattle.cbor4ii_tool.specs.Item.{Converts, BeginsItem, StopsAs, IsRow, together}
 use Rattle.cbor4ii_tool.specs.declared.command.Command.{Command}
 use Rattle.cbor4ii_tool.specs.declared.command.Command.TheVariants.{Canon}
 use Rattle.cbor4ii_tool.specs.declared.fault.Fault.{Fault}
 use Rattle.cbor4ii_tool.specs.declared.fault.Kind.{Kind}
 use Rattle.cbor4ii_tool.specs.declared.fault.Kind.TheVariants.{Read, OutOfMemory, Write}
+
+-- ---- the reader
+
+-- what is left is an end of what was left before, and the budget is as before
+pub record Leaves (old new : View) : Type 0 where
+  pub budget : new.budget ≡ old.budget
+  pub rest : EndsOrForgets old.told new.told
 
 -- ---- one item
 
@@ -46,6 +53,7 @@ pub record RanOver (command : Command) (input : List ℕ) (now : View) (held hol
   pub taken : ℕ
   pub left_is : now.told ≡ Some rest
   pub taken_is : now.taken ≡ Some taken
+  pub rest_is : rest ≡ drop taken input
   pub sum : taken + length rest ≡ length input
   pub row : IsRow command texts input rest
   pub written : Appends (together texts) held holds
@@ -67,8 +75,14 @@ abbrev pub MovesFailures : Result (Unit {0}) Fault → View → View → Output 
 MovesFailures (Ok _) old new held holds = (new.failures ≡ old.failures) × (holds.failures ≡ held.failures)
 MovesFailures (Err fault) old new held holds = FailsAt fault.kind old new held holds
 
--- the outcome of a run after its flush
-abbrev pub finished : Result (Unit {0}) Fault → Bool → ℕ → Result (Unit {0}) Fault
-finished (Err fault) flushed at = Err fault
-finished (Ok _) true at = Ok tt
-finished (Ok _) false at = Err (record { at = at; kind = Write })
+-- ---- the flush
+
+-- a flush succeeds, or is one failure more
+abbrev pub Flushes : Bool → ℕ → ℕ → Type 0
+Flushes flushed old new = ((flushed ≡ true) × (new ≡ old)) ⊎ (new ≡ one_more old)
+
+-- a fault of the items stands, and else a flush that fails is the fault
+abbrev pub Finishes : Result (Unit {0}) Fault → Result (Unit {0}) Fault → ℕ → Bool → ℕ → ℕ → Type 0
+Finishes (Err fault) answer at flushed old new = (answer ≡ Err fault) × Flushes flushed old new
+Finishes (Ok _) (Ok _) at flushed old new = (flushed ≡ true) × (new ≡ old)
+Finishes (Ok _) (Err fault) at flushed old new = (fault ≡ record { at = at; kind = Write }) × (new ≡ one_more old)

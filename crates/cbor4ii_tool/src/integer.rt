@@ -1,7 +1,7 @@
 //! Integers: items of major types 0 and 1 (RFC 8949 section 3.1), which are a head alone.
 ghost use Rattle.std.specs.Prelude.{◌≡◌, ◌≢◌, ◌↔◌, [], OnOk, OnErr, IfOk, IfErr, IsTrue};
 ghost use Rattle.cbor4ii_rw.specs.View.{Told};
-ghost use Rattle.cbor4ii_rw.specs.Reader.{Shows, Failed};
+ghost use Rattle.cbor4ii_rw.specs.Reader.{Shows, Breaks};
 ghost use Rattle.cbor4ii_items.specs.Moves.{Kept};
 ghost use Rattle.cbor4ii_items.specs.Writing.{WritesWhole};
 ghost use Rattle.cbor4ii_tool.specs.Reading.{
@@ -10,6 +10,7 @@ ghost use Rattle.cbor4ii_tool.specs.Reading.{
   BeginsNegative,
   written_bytes,
 };
+ghost use Rattle.cbor4ii_tool.specs.Steps.{Leaves};
 ghost use Rattle.cbor4ii_tool.specs.declared.fault.Kind.TheVariants.{Read, Write};
 
 use crate::fault::Kind;
@@ -36,12 +37,14 @@ pub enum Integer {
 /// Takes an integer, of any width that its argument has. A byte with which no integer begins is a
 /// `Mismatch`, and an end inside an integer is `Eof`; a reader that fails is `Read`. What was
 /// taken before a refusal is lost.
+#[tactic(auto, using(crate::proofs::Items::moves_leaves, crate::proofs::Items::shown_leaves, crate::proofs::Items::breaks_leaves))]
 pub fn read<S: Source>(alloc: Global, reader: &mut S) -> Result<Integer, Kind>
     ensures reads { IfOk result (λ integer.
         ReadsInteger integer (S.view reader.old) (S.view reader.new)) }
     ensures refuses { IfErr result (λ kind.
         RefusesInteger kind (S.view reader.old) (S.view reader.new)) }
     ensures kept { OnOk result (Kept (S.view reader.old) (S.view reader.new)) }
+    ensures leaves { Leaves (S.view reader.old) (S.view reader.new) }
     ensures steady { IfErr result (λ kind. (kind ≢ Write) × (kind ≢ Read →
         (S.view reader.new).failures ≡ (S.view reader.old).failures)) }
 {
@@ -76,8 +79,7 @@ fn is_negative_next<S: Source>(reader: &mut S) -> Result<bool, Kind>
     ensures negative { IfOk result (λ negative.
         Told (S.view reader.old).told (λ xs. IsTrue negative ↔ BeginsNegative xs)) }
     ensures kind { IfErr result (λ kind. kind ≡ Read) }
-    ensures failed { OnErr result
-        (Failed (S.view reader.old).failures (S.view reader.new).failures) }
+    ensures breaks { OnErr result (Breaks (S.view reader.old) (S.view reader.new)) }
 {
     let mut failure = None;
     match ask::look(reader, 1, &mut failure) {

@@ -1,7 +1,7 @@
 //! One item of a command: taken, and what stands for it written.
 ghost use Rattle.std.specs.Prelude.{◌≡◌, Some, IfErr, OnOk};
 ghost use Rattle.cbor4ii_rw.specs.Stream.{stream_view};
-ghost use Rattle.cbor4ii_tool.specs.Steps.{Done, Fails};
+ghost use Rattle.cbor4ii_tool.specs.Steps.{Leaves, Done, Fails};
 ghost use Rattle.cbor4ii_tool.specs.declared.command.Command.TheVariants.{Ints, Canon, Lens};
 
 use crate::command::Command;
@@ -32,6 +32,9 @@ pub fn convert<R: BufRead, W: Write>(
         (stream_view R.Read.remaining R.consumable_len reader.old)
         (stream_view R.Read.remaining R.consumable_len reader.new)
         (W.view writer.old) (W.view writer.new)) }
+    ensures leaves { Leaves
+        (stream_view R.Read.remaining R.consumable_len reader.old)
+        (stream_view R.Read.remaining R.consumable_len reader.new) }
 {
     match command {
         Command::Ints => integer(alloc, reader, writer),
@@ -46,6 +49,7 @@ fn integer<S: Source, W: Write>(alloc: Global, reader: &mut S, writer: &mut W) -
         (W.view writer.old) (W.view writer.new)) }
     ensures fails { IfErr result (λ kind. Fails Ints kind (S.view reader.old) (S.view reader.new)
         (W.view writer.old) (W.view writer.new)) }
+    ensures leaves { Leaves (S.view reader.old) (S.view reader.new) }
 {
     let item = integer::read(alloc, reader)?;
     match integer::write(&item, writer) {
@@ -55,12 +59,14 @@ fn integer<S: Source, W: Write>(alloc: Global, reader: &mut S, writer: &mut W) -
 }
 
 // A value, written in its canonical spelling.
+#[tactic(auto, using(crate::proofs::Items::moves_leaves))]
 fn value<S: Source, W: Write>(alloc: Global, reader: &mut S, writer: &mut W) -> Result<(), Kind>
     requires { (S.view reader.old).budget ≡ Some 256 }
     ensures done { OnOk result (Done Canon (S.view reader.old) (S.view reader.new)
         (W.view writer.old) (W.view writer.new)) }
     ensures fails { IfErr result (λ kind. Fails Canon kind (S.view reader.old) (S.view reader.new)
         (W.view writer.old) (W.view writer.new)) }
+    ensures leaves { Leaves (S.view reader.old) (S.view reader.new) }
 {
     let item = match Value::decode(alloc, reader) {
         Ok(item) => item,
@@ -73,6 +79,7 @@ fn value<S: Source, W: Write>(alloc: Global, reader: &mut S, writer: &mut W) -> 
 }
 
 // An item that is skipped, of which the length in bytes is written.
+#[tactic(auto, using(crate::proofs::Items::moves_leaves))]
 fn length<R: BufRead, W: Write>(
     alloc: Global,
     reader: &mut IoReader<R>,
@@ -87,6 +94,9 @@ fn length<R: BufRead, W: Write>(
         (stream_view R.Read.remaining R.consumable_len reader.old)
         (stream_view R.Read.remaining R.consumable_len reader.new)
         (W.view writer.old) (W.view writer.new)) }
+    ensures leaves { Leaves
+        (stream_view R.Read.remaining R.consumable_len reader.old)
+        (stream_view R.Read.remaining R.consumable_len reader.new) }
 {
     let before = reader.taken();
     if let Err(error) = IgnoredAny::decode(alloc, reader) {

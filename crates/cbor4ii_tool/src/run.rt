@@ -1,11 +1,12 @@
 //! What the program does with its input.
 ghost use Rattle.std.specs.Prelude.{◌≡◌, ◌↔◌, [], length, Some, IfOk, IfErr, OnOk, OnErr, IsTrue};
 ghost use Rattle.cbor4ii_rw.specs.View.{Told};
-ghost use Rattle.cbor4ii_rw.specs.Reader.{Shows, Failed};
+ghost use Rattle.cbor4ii_rw.specs.Reader.{Shows, Breaks, Keeps};
 ghost use Rattle.cbor4ii_rw.specs.Stream.{stream_view};
 ghost use Rattle.cbor4ii_rw.specs.Written.{stream_output, is_flushed};
+ghost use Rattle.cbor4ii_items.specs.Moves.{EndsOrForgets};
 ghost use Rattle.cbor4ii_tool.specs.Run.{Runs, Completes, WantsMemory, Blames, Hands};
-ghost use Rattle.cbor4ii_tool.specs.Steps.{MovesFailures, finished};
+ghost use Rattle.cbor4ii_tool.specs.Steps.{Leaves, Finishes, MovesFailures};
 ghost use Rattle.cbor4ii_tool.specs.declared.fault.Kind.TheVariants.{Read};
 
 use crate::command::Command;
@@ -51,6 +52,14 @@ pub fn run<R: BufRead, W: io::Write>(
         (λ input. Completes command input (stream_output W.contents writer.old).written
         (stream_output W.contents writer.new).written result) }
     ensures memory { IfErr result (λ fault. WantsMemory command fault.kind) }
+    ensures ended { OnOk result
+        (Told (stream_view R.Read.remaining R.consumable_len reader.old).told (λ input.
+        (stream_view R.Read.remaining R.consumable_len reader.new).told ≡ Some [])) }
+    ensures left { EndsOrForgets
+        (stream_view R.Read.remaining R.consumable_len reader.old).told
+        (stream_view R.Read.remaining R.consumable_len reader.new).told }
+    ensures steps { (stream_view R.Read.remaining R.consumable_len reader.new).budget
+        ≡ Some 256 }
     ensures blames { Blames result
         (stream_view R.Read.remaining R.consumable_len reader.old)
         (stream_view R.Read.remaining R.consumable_len reader.new)
@@ -59,25 +68,34 @@ pub fn run<R: BufRead, W: io::Write>(
         (stream_output W.contents writer.old) (stream_output W.contents writer.new) }
 {
     let outcome = convert_items(alloc, command, reader, writer);
-    let is_flushed = writer.flush().is_ok();
-    finish(outcome, is_flushed, reader.taken())
+    finish(outcome, writer, reader.taken())
 }
 
-// The first fault, if there is one: that of the items, or a flush that failed.
-fn finish(outcome: Result<(), Fault>, is_flushed: bool, at: u64) -> Result<(), Fault>
-    ensures { result ≡ finished outcome is_flushed at }
+// Flushes the writer, behind a fault too, and answers the first fault, if there is one.
+#[tactic(auto, using(crate::proofs::Finish::flushes))]
+fn finish<W: io::Write>(
+    outcome: Result<(), Fault>,
+    writer: &mut IoWriter<W>,
+    at: u64,
+) -> Result<(), Fault>
+    ensures keeps { Keeps (stream_output W.contents writer.old).written
+        (stream_output W.contents writer.new).written }
+    ensures finishes { Finishes outcome result at (is_flushed writer.new)
+        (stream_output W.contents writer.old).failures
+        (stream_output W.contents writer.new).failures }
 {
+    let flushed = writer.flush();
     outcome?;
-    if is_flushed {
-        Ok(())
-    } else {
-        Err(Fault {
+    match flushed {
+        Ok(()) => Ok(()),
+        Err(_) => Err(Fault {
             at,
             kind: Kind::Write,
-        })
+        }),
     }
 }
 
+// Converts one item after another, until nothing is left.
 fn convert_items<R: BufRead, W: Write>(
     alloc: Global,
     command: Command,
@@ -92,6 +110,12 @@ fn convert_items<R: BufRead, W: Write>(
     ensures all { OnOk result (Told (stream_view R.Read.remaining R.consumable_len reader.old).told
         (λ input. (stream_view R.Read.remaining R.consumable_len reader.new).taken
         ≡ Some (length input))) }
+    ensures ended { OnOk result
+        (Told (stream_view R.Read.remaining R.consumable_len reader.old).told (λ input.
+        (stream_view R.Read.remaining R.consumable_len reader.new).told ≡ Some [])) }
+    ensures leaves { Leaves
+        (stream_view R.Read.remaining R.consumable_len reader.old)
+        (stream_view R.Read.remaining R.consumable_len reader.new) }
     ensures memory { IfErr result (λ fault. WantsMemory command fault.kind) }
     ensures failures { MovesFailures result
         (stream_view R.Read.remaining R.consumable_len reader.old)
@@ -119,8 +143,7 @@ fn is_at_end<S: Source>(reader: &mut S) -> Result<bool, Kind>
     ensures end { IfOk result (λ end.
         Told (S.view reader.old).told (λ xs. IsTrue end ↔ (xs ≡ []))) }
     ensures kind { IfErr result (λ kind. kind ≡ Read) }
-    ensures failed { OnErr result
-        (Failed (S.view reader.old).failures (S.view reader.new).failures) }
+    ensures breaks { OnErr result (Breaks (S.view reader.old) (S.view reader.new)) }
 {
     let mut failure = None;
     match ask::look(reader, 1, &mut failure) {

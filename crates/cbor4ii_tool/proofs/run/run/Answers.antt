@@ -1,23 +1,24 @@
+use Rattle.std.proofs.Common.{◌∙◌}
 use Rattle.cbor4ii_rw.specs.Written.{stream_output, is_flushed}
-use Rattle.cbor4ii_tool.proofs.Loop.{told_run, complete, still_wants, blamed, handed, on_true, on_false}
+use Rattle.cbor4ii_tool.proofs.Complete.{complete}
+use Rattle.cbor4ii_tool.proofs.Finish.{finished_run, finished_ok, finished_memory, finished_blames, finished_hands}
 use Rattle.cbor4ii_tool.proofs.run.run.Goals as goal
 
 pub returns : goal.returns
 returns g c =
     let items = c.convert_items-outcome.ensures in
     let outcome = c.convert_items-outcome.result in
-    let flush = c.flush.ensures in
-    let is_ok = c.is_ok-is_flushed.result in
-    let flag = c.is_ok-is_flushed.ensures.value in
-    let keeps = on_true c.flush.result is_ok flag flush.counts in
-    let fails = on_false c.flush.result is_ok flag flush.failed in
-    let runs = told_run c.args.command _ _ _ _ outcome is_ok c.taken.result _ items.runs items.all c.taken.ensures.taken flush.keeps in
+    let answer = c.finish.result in
     let held = stream_output g.W.Write.contents c.convert_items-outcome.new.writer in
+    let finishes = c.finish.ensures.finishes in
+    let runs = finished_run c.args.command _ _ _ _ outcome answer _ _ _ _ _ items.runs items.all c.taken.ensures.taken c.finish.ensures.keeps finishes in
     record {
-      runs = rw c.finish.ensures runs;
-      complete = rw c.finish.ensures (complete c.args.command _ _ _ _ runs);
-      memory = rw c.finish.ensures (still_wants c.args.command outcome is_ok c.taken.result items.memory);
-      blames = rw c.finish.ensures (blamed outcome is_ok c.taken.result _ _ _ held _ items.failures keeps fails);
-      flushed = rw c.finish.ensures (handed outcome is_ok (is_flushed c.flush.new.self) c.taken.result _ _ _ held _ items.failures
-          (on_true c.flush.result is_ok flag flush.flushed) fails);
+      runs = runs;
+      complete = complete c.args.command _ _ _ answer runs;
+      memory = finished_memory c.args.command outcome answer _ _ _ _ items.memory finishes;
+      ended = finished_ok outcome answer _ _ _ _ _ items.ended finishes;
+      left = items.leaves.rest;
+      steps = items.leaves.budget ∙ c.requires.budget;
+      blames = finished_blames outcome answer _ _ _ _ _ held _ items.failures finishes;
+      flushed = finished_hands outcome answer _ (is_flushed c.finish.new.writer) _ _ _ held _ items.failures finishes;
     }
