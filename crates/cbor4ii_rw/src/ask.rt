@@ -98,6 +98,7 @@ pub fn next_byte<S: Source>(reader: &mut S) -> Result<Option<u8>, S::Error>
     Ok(Some(byte))
 }
 
+// An `Ok` is passed on, and an error goes to `failure`.
 fn part<T, E: Drop>(answer: Result<T, E>, failure: &mut Option<E>) -> Option<T>
     ensures { Parts answer failure.old failure.new result }
 {

@@ -196,7 +196,7 @@ impl<R: BufRead> Source for IoReader<R> {
 }
 
 impl<'de, R: BufRead> Read<'de> for IoReader<R> {
-    // The clauses of the trait, those of `show`, and that it lends nothing for good.
+    // The clauses of the trait, those of `show`, and that it is always `Short`.
     fn fill<'short>(&'short mut self, want: usize) -> Result<Reference<'de, 'short>, io::Error>
         ensures front { IfOk result (λ shown. Told
             (stream_view R.Read.remaining R.consumable_len self.old).told
