@@ -1,14 +1,13 @@
 -- Optional and tagged items, one part after another.
-use Rattle.std.proofs.Common.{◌≡◌, ◌≢◌, ℕ, ◌+◌, ◌≤◌, ◌⊎◌, inl, inr, List, [], ◌∷◌, length, drop, take, Option, Some, None, Ok, Err, Bool, refl, sym, ap, ◌∙◌, subst, arith, IfSome}
+use Rattle.std.proofs.Common.{◌≡◌, ◌≢◌, ℕ, ◌+◌, ◌≤◌, inl, inr, List, [], ◌∷◌, length, drop, take, Option, Some, None, Ok, Err, refl, sym, ap, ◌∙◌, subst, arith, IfSome}
 use Rattle.std.specs.Prelude.{codes}
-use Rattle.std.proofs.lemmas.List.{length-drop}
 use Rattle.cbor4ii_rw.specs.View.{View, Told}
 use Rattle.cbor4ii_rw.specs.declared.error.DecodeError.{DecodeError}
 use Rattle.cbor4ii_items.specs.declared.types.Tag.{Tag}
 use Rattle.cbor4ii_items.specs.Refusal.{Refusal, refusal_of}
 use Rattle.cbor4ii_items.specs.Moves.{Kept}
 use Rattle.cbor4ii_items.specs.Reading.{Runs, peek_at}
-use Rattle.cbor4ii_items.specs.Decoding.{Reads, StopsAt, CostFits, IsExact, Sound, NoneRead, Refuses, Stops}
+use Rattle.cbor4ii_items.specs.Decoding.{Reads, StopsAt, CostFits, Sound, NoneRead, Refuses, Stops}
 use Rattle.cbor4ii_items.specs.Heads.{ReadsHead, StopsHead}
 use Rattle.cbor4ii_items.specs.HeadLaws.{head_one}
 use Rattle.cbor4ii_items.specs.Numbers.{ReadsArgument, StopsArgument}
@@ -19,12 +18,6 @@ use Rattle.cbor4ii_items.specs.Laws.Running.{peeked}
 use Rattle.cbor4ii_items.specs.Laws.Answering.{fits_zero, if_some}
 
 -- what is exact stays so, where the bytes are told
-pub exact_kept : (owned : Bool) (a b : View) (xs : List ℕ) → a.told ≡ Some xs → Kept a b → IsExact owned a → IsExact owned b
-exact_kept owned a b xs told kept (inl e) = inl e
-exact_kept owned a b xs told kept (inr e) =
-    let t = kept.rest xs told in
-    inr (kept.lends_whole e.0, λ ys left. (let same : drop t.0 xs ≡ ys = let l = t.1.left in cc in omega (arith, ap length same, length-drop t.0 xs, e.1 xs told)))
-
 -- ---- the byte that was looked at
 
 -- what a call saw of the next byte, which stayed
@@ -48,18 +41,6 @@ saw name expect b p = record {
 
 not_null : (xs : List ℕ) (b : ℕ) → take 1 xs ≡ b ∷ [] → b ≢ 0xf6 → b ≢ 0xf7 → BeginsNull xs → ⊥
 not_null xs b e p q h = elim h [ inl f ↦ (let g : b ≡ 0xf6 = cc in p g) | inr f ↦ (let g : b ≡ 0xf7 = cc in q g) ]
-
-is_null : (xs : List ℕ) (b : ℕ) → take 1 xs ≡ b ∷ [] → (b ≡ 0xf6) ⊎ (b ≡ 0xf7) → BeginsNull xs
-is_null xs b e h = elim h [ inl f ↦ inl (e ∙ ap (λ z. z ∷ []) f) | inr f ↦ inr (e ∙ ap (λ z. z ∷ []) f) ]
-
--- ---- none
-
-pub none_sound : {V : Type 0} (reads : Reads V) (a m b : View) (first : ℕ) → Saw a m first → (first ≡ 0xf6) ⊎ (first ≡ 0xf7) → Told m.told (λ xs. b.told ≡ Some (drop 1 xs)) → Sound (ReadsOption reads) a b None
-none_sound reads a m b first s h drops = record {
-  at = λ xs told.
-      let f = s.first xs told in
-      record { count = 1; cost = 0; read = (is_null xs first f.1 h, refl, refl); fits = fits_zero a.budget; left = drops xs f.0 };
-}
 
 -- ---- some item
 

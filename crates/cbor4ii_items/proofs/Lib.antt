@@ -8,7 +8,6 @@ pub mod BigRuns
 pub mod SignedRuns
 pub mod BigLeaf
 pub mod Containers
-pub mod Backwards
 pub mod OpenStrings
 pub mod StringsRead
 pub mod StringAnswers
@@ -23,7 +22,5 @@ pub mod ToldCow
 pub mod CowRows
 pub mod SequenceParts
 pub mod SequenceAnswers
-pub mod LeavesBack
-pub mod PartsBack
 pub mod Pairs
 pub mod NextByte

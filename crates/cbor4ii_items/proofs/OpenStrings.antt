@@ -8,7 +8,7 @@ use Rattle.cbor4ii_items.specs.ReadHead.{length_at}
 use Rattle.cbor4ii_items.specs.ReadStrings.{content_on, break_at, chunk_by, chunk_inside, chunk_at, chunks_at, string_by, string_at}
 use Rattle.cbor4ii_items.specs.ChunkLaws.{chunks_by, chunks_more}
 use Rattle.cbor4ii_items.specs.Following.{Follows}
-use Rattle.cbor4ii_items.specs.Laws.Running.{runs_give, reaches_start, reaches_as, reaches_then}
+use Rattle.cbor4ii_items.specs.Laws.Running.{runs_give, reaches_as, reaches_then}
 use Rattle.cbor4ii_items.specs.Laws.UnderStep.{step_again, step_unbound, follows_around}
 use Rattle.cbor4ii_items.specs.Laws.Following.{follows_run, follows_as, follows_then, follows_run_err, follows_err, follows_end, reaches_follow}
 
@@ -32,9 +32,6 @@ chunk_follows name major content {a = a} {b = b} takes inward f gives outward =
 -- ---- chunks up to a break
 
 module _ (name : List ℕ) (major : ℕ) (budget : Option ℕ) where
-  pub open_start : (content : List ℕ) (a : View) → content ≡ [] → Reaches (chunks_at name major budget []) (chunks_at name major budget content) a a
-  open_start content a e = subst (λ z. Reaches (chunks_at name major budget []) (chunks_at name major budget z) a a) (sym e) (reaches_start (chunks_at name major budget []) a)
-
   module _ {f : Reading (List ℕ)} {content : List ℕ} {a l m : View} (p : Reaches f (chunks_at name major budget content) a l) where
     open_after : {E : Type 0} {ended : Bool} → Runs {E = E} break_at l m (Ok ended) → Reaches f (chunks_by name major budget content (chunks_at name major budget) ended) a m
     open_after q = reaches_then (chunks_by name major budget content (chunks_at name major budget)) (reaches_as (chunks_more name major budget content) p) q

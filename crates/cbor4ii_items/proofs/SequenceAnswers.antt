@@ -1,25 +1,24 @@
 -- What a sequence's head, its parts and its step answer together.
-use Rattle.std.proofs.Common.{◌≡◌, ◌≢◌, ℕ, ◌+◌, ◌-◌, ◌<◌, ◌≤◌, inl, inr, List, [], ◌∷◌, length, drop, take, Option, Some, None, Result, Ok, Err, Bool, true, IsTrue, refl, sym, ap, ◌∙◌, subst, arith, IfSome, IfOk, IfErr}
+use Rattle.std.proofs.Common.{◌≡◌, ◌≢◌, ℕ, ◌+◌, ◌-◌, ◌<◌, ◌≤◌, inl, inr, List, [], ◌∷◌, length, drop, take, Option, Some, None, Result, Ok, Err, Bool, true, refl, sym, ap, ◌∙◌, subst, arith, IfSome, IfOk, IfErr}
 use Rattle.std.specs.declared.alloc.Global.{Global}
 use Rattle.std.specs.declared.vec.Vec.{Vec}
 use Rattle.cbor4ii_rw.specs.View.{View, Told}
-use Rattle.cbor4ii_rw.specs.Reader.{KeepsAllButBudget, StepsIn, step_back}
+use Rattle.cbor4ii_rw.specs.Reader.{KeepsAllButBudget, StepsIn}
 use Rattle.cbor4ii_rw.specs.declared.error.DecodeError.{DecodeError}
 use Rattle.cbor4ii_items.specs.declared.types.Map.{Map}
 use Rattle.cbor4ii_items.specs.Head.{open_head}
 use Rattle.cbor4ii_items.specs.Heads.{ReadsHead}
 use Rattle.cbor4ii_items.specs.HeadLaws.{head_one, read_head}
 use Rattle.cbor4ii_items.specs.Refusal.{Refusal, refusal_of}
-use Rattle.cbor4ii_items.specs.Moves.{Kept, Moves, is_failure}
+use Rattle.cbor4ii_items.specs.Moves.{Kept}
 use Rattle.cbor4ii_items.specs.Reading.{Runs}
 use Rattle.cbor4ii_items.specs.ReadHead.{length_at}
-use Rattle.cbor4ii_items.specs.Decoding.{Reads, StopsAt, CostFits, IsExact, Sound, NoneRead, Refuses, Stops}
+use Rattle.cbor4ii_items.specs.Decoding.{Reads, StopsAt, CostFits, Sound, NoneRead, Refuses, Stops}
 use Rattle.cbor4ii_items.specs.Fronts.{drop_more}
 use Rattle.cbor4ii_items.specs.ProgramEnds.{length_some, length_none}
 use Rattle.cbor4ii_items.specs.StringLaws.{head_not_open, length_known, length_open}
 use Rattle.cbor4ii_items.specs.Sequences.{ReadsParts, ReadsCount, ReadsUpToBreak, ReadsInside, ReadsSequence, StopsCount, StopsUpToBreak, StopsInside, length_refused, counted_refused, open_refused, after_step, StopsSequence, under_step}
 use Rattle.cbor4ii_items.specs.Laws.Answering.{same_some, if_some}
-use Rattle.cbor4ii_items.specs.Laws.UnderStep.{step_again, step_unbound, moves_around}
 use Rattle.cbor4ii_items.proofs.StringsRead.{no_length}
 use Rattle.cbor4ii_items.proofs.SequenceParts.{stops_as}
 
@@ -180,13 +179,6 @@ fits_inside (Some left) new c h f = subst (CostFits c) (sym h.2) (omega (arith, 
 stepped : (old new : Option ℕ) → StepsIn old new true → (old ≢ Some 0) × (new ≡ after_step old)
 stepped None new h = ((λ e. cc), h)
 stepped (Some left) new h = ((λ e. let f : left ≡ 0 = cc in omega (arith, h.0, f)), h.2)
-
-pub exact_step : (owned : Bool) (a b : View) → KeepsAllButBudget a b → IsExact owned a → IsExact owned b
-exact_step owned a b k (inl e) = inl e
-exact_step owned a b k (inr e) = inr (subst IsTrue (sym k.lends_whole) e.0, λ xs told. e.1 xs (sym k.told ∙ told))
-
-pub moves_stepped : {V E : Type 0} (r : Result V (DecodeError E)) (a b c d : View) → StepsIn a.budget b.budget true → KeepsAllButBudget a b → Moves b c r → d.budget ≡ step_back c.budget → KeepsAllButBudget c d → Moves a d r
-moves_stepped r a b c d takes inward m gives outward = record { by = moves_around inward outward (is_failure r) (λ same. gives ∙ (ap step_back same ∙ step_again a.budget b.budget takes)) m.by; depth = λ none. m.depth (step_unbound a.budget b.budget takes none) }
 
 module _ {P : Type 0} (major : ℕ) (reads : Reads P) (never_empty : Bool) where
   module _ {E : Type 0} (r : Result (Vec P Global) (DecodeError E)) (a b : View) (takes : StepsIn a.budget b.budget true) (inward : KeepsAllButBudget a b) where

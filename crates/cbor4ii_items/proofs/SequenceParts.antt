@@ -16,7 +16,7 @@ use Rattle.cbor4ii_items.specs.ReadStrings.{break_at}
 use Rattle.cbor4ii_items.specs.ProgramEnds.{break_yes, break_no, break_refused}
 use Rattle.cbor4ii_items.specs.Sequences.{ReadsParts, ReadsCount, Unbroken, ReadsUpToBreak, StopsCount, StopsPlace, no_byte, may_read_nothing, part_refused, StopsUpToBreak, AddsPart}
 use Rattle.cbor4ii_items.specs.SequenceLaws.{not_less, next_part, parts_size, unbroken_size, ends_at_break}
-use Rattle.cbor4ii_items.specs.Laws.Answering.{fits_zero, if_some}
+use Rattle.cbor4ii_items.specs.Laws.Answering.{if_some}
 use Rattle.cbor4ii_items.specs.Laws.Steps.{kept_then}
 
 pub fits_less : (c d : ℕ) (budget : Option ℕ) → c ≤ d → CostFits d budget → CostFits c budget
@@ -42,9 +42,6 @@ module _ {P : Type 0} (reads : Reads P) where
       let e : drop n xs ≡ drop h.2 (drop h.0 xs) = ap (λ j. drop j xs) h.6 ∙ sym (drop_more h.2 h.0 xs) in
       let rest = parts_more (drop h.0 xs) ps p h.2 h.3 k d h.5 (subst (λ ys. reads ys p k d) e r) in
       (h.0, h.1, h.2 + k, max h.3 d, h.4, rest, omega (arith, h.6), omega (arith, h.7))
-
-  pub parts_none : (a : View) → Sound (ReadsParts reads) a a []
-  parts_none a = record { at = λ xs told. record { count = 0; cost = 0; read = (refl, refl); fits = fits_zero a.budget; left = told } }
 
   -- one more part, where the reader stands as its own call left it
   pub parts_then : {a m b : View} {ps qs : List P} → m.budget ≡ a.budget → Sound (ReadsParts reads) a m ps → AddsPart reads ps qs m b → Sound (ReadsParts reads) a b qs

@@ -11,3 +11,6 @@ pub mod Contents
 pub mod Written
 pub mod SequenceBytes
 pub mod Forward
+pub mod NumbersBack
+pub mod LeavesBack
+pub mod PartsBack

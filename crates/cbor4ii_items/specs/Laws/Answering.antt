@@ -1,5 +1,5 @@
 -- What a call that follows a program answers.
-use Rattle.std.proofs.Common.{◌≡◌, ℕ, List, drop, take, Option, None, Some, Ok, Err, Bool, true, false, refl, ap, ◌∙◌, IfSome, length, ◌+◌, ◌≤◌, arith}
+use Rattle.std.proofs.Common.{inl, inr, ◌≡◌, ℕ, List, drop, take, Option, None, Some, Ok, Err, Bool, true, false, refl, ap, ◌∙◌, IfSome, length, ◌+◌, ◌≤◌, arith}
 use Rattle.std.specs.Prelude.{MatchBool}
 use Rattle.cbor4ii_rw.specs.View.{View}
 use Rattle.cbor4ii_rw.specs.declared.error.DecodeError.{DecodeError}
@@ -8,7 +8,7 @@ use Rattle.cbor4ii_items.specs.Head.{IsBytes}
 use Rattle.cbor4ii_items.specs.Moves.{Kept, Broke, Moves}
 use Rattle.cbor4ii_items.specs.Refusal.{Refusal, refusal_of, is_read}
 use Rattle.cbor4ii_items.specs.Reading.{Reading}
-use Rattle.cbor4ii_items.specs.Decoding.{Reads, StopsAt, CostFits, Sound, NoneRead, Refuses, Stops}
+use Rattle.cbor4ii_items.specs.Decoding.{IsExact, Reads, StopsAt, CostFits, Sound, NoneRead, Refuses, Stops}
 use Rattle.cbor4ii_items.specs.Following.{Follows}
 use Rattle.std.proofs.lemmas.List.{length-drop}
 use Rattle.cbor4ii_items.specs.HeadLaws.{IsBytes-take}
@@ -91,3 +91,12 @@ if_some (Some z) f h = f h
 
 pub refuses_as : {U V E : Type 0} {e : DecodeError E} {a : View} (f : Reads U) (g : Reads V) → ((xs : List ℕ) (budget : Option ℕ) → NoneRead f xs budget → NoneRead g xs budget) → Refuses f a e → Refuses g a e
 refuses_as {e = e} {a = a} f g none p = record { at = λ xs told. if_some (refusal_of e) (none xs a.budget) (p.at xs told) }
+
+-- ---- where acceptance is exact
+
+-- it stays so where the reader was kept
+pub exact_kept : (owned : Bool) (a b : View) (xs : List ℕ) → a.told ≡ Some xs → Kept a b → IsExact owned a → IsExact owned b
+exact_kept owned a b xs told kept (inl e) = inl e
+exact_kept owned a b xs told kept (inr e) =
+    let t = kept.rest xs told in
+    inr (kept.lends_whole e.0, λ ys left. (let same : drop t.0 xs ≡ ys = let l = t.1.left in cc in omega (arith, ap length same, length-drop t.0 xs, e.1 xs told)))

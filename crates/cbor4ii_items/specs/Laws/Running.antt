@@ -128,21 +128,6 @@ peeked name expect b (x ∷ xs) ys e =
     let p = same_value (peek_at name expect (x ∷ xs)) e refl in
     (xs, ap (λ z. z ∷ xs) (sym p.0), p.1)
 
-byte_of_end : (o : Option Refusal) (name : List ℕ) (expect : ℕ) (new : Option (List ℕ)) (xs : List ℕ)
-    → IfSome o (λ z. (ys : List ℕ) × (new ≡ Some ys) × (peek_at name expect xs ≡ Err (z, ys)))
-    → IfSome o (λ z. (ys : List ℕ) × (new ≡ Some ys) × (byte_at name expect xs ≡ Err (z, ys)))
-byte_of_end None name expect new xs h = tt
-byte_of_end (Some z) name expect new [] h = h
-byte_of_end (Some z) name expect new (x ∷ xs) h = let e = h.2 in cc
-
--- where there is no byte to peek, there is none to take
-pub runs_no_byte : {E : Type 0} (name : List ℕ) (expect : ℕ) {a b : View} {e : DecodeError E} → Runs {V = ℕ} (peek_at name expect) a b (Err e) → Runs {V = ℕ} (byte_at name expect) a b (Err e)
-runs_no_byte name expect {b = b} {e = e} p = record {
-  moves = p.moves;
-  answers = λ xs told. byte_of_end (refusal_of e) name expect b.told xs (p.answers xs told);
-  memory = p.memory;
-}
-
 -- the byte that was peeked is taken
 taken : {E : Type 0} (name : List ℕ) (expect b : ℕ) (a m c : View) (xs : List ℕ) → Runs {E = E} (peek_at name expect) a m (Ok b) → Advances 1 m c → a.told ≡ Some xs
     → (rest : List ℕ) × (xs ≡ b ∷ rest) × (c.told ≡ Some rest)

@@ -1,12 +1,13 @@
 -- A call under one step.
-use Rattle.std.proofs.Common.{◌≡◌, ℕ, ◌+◌, ◌-◌, ◌<◌, ◌^◌, Option, None, Some, Result, Bool, true, false, IsTrue, refl, sym, ap, ◌∙◌, subst, arith, ltb, lt-ltb}
+use Rattle.std.proofs.Common.{◌≡◌, ℕ, ◌+◌, ◌-◌, ◌<◌, ◌^◌, Option, None, Some, Result, Bool, true, false, IsTrue, refl, sym, ap, ◌∙◌, subst, arith, ltb, lt-ltb, inl, inr}
 use Rattle.std.specs.Prelude.{MatchBool}
 use Rattle.cbor4ii_rw.specs.View.{View}
 use Rattle.cbor4ii_rw.specs.Reader.{Failed, KeepsAllButBudget, StepsIn, step_back, counts}
 use Rattle.cbor4ii_rw.specs.declared.error.DecodeError.{DecodeError}
-use Rattle.cbor4ii_items.specs.Moves.{Kept, Broke, is_failure}
+use Rattle.cbor4ii_items.specs.Moves.{Kept, Broke, is_failure, Moves}
 use Rattle.cbor4ii_items.specs.Reading.{Reading, AnswersAs}
 use Rattle.cbor4ii_items.specs.Following.{Follows}
+use Rattle.cbor4ii_items.specs.Decoding.{IsExact}
 
 again : (left : ℕ) → 0 < left → left < 2 ^ 64 → step_back (Some (left - 1)) ≡ Some left
 again left some most =
@@ -55,3 +56,12 @@ module _ {a b c d : View} (i : KeepsAllButBudget a b) (o : KeepsAllButBudget c d
     moves = record { by = moves_around (is_failure r) same f.moves.by; depth = λ none. f.moves.depth (inner none) };
     answers = λ xs told. subst (λ new. AnswersAs (p xs) new r) (sym o.told) (f.answers xs (i.told ∙ told));
   }
+
+-- acceptance stays exact
+pub exact_step : (owned : Bool) (a b : View) → KeepsAllButBudget a b → IsExact owned a → IsExact owned b
+exact_step owned a b k (inl e) = inl e
+exact_step owned a b k (inr e) = inr (subst IsTrue (sym k.lends_whole) e.0, λ xs told. e.1 xs (sym k.told ∙ told))
+
+-- a call whose step was taken and given back
+pub moves_stepped : {V E : Type 0} (r : Result V (DecodeError E)) (a b c d : View) → StepsIn a.budget b.budget true → KeepsAllButBudget a b → Moves b c r → d.budget ≡ step_back c.budget → KeepsAllButBudget c d → Moves a d r
+moves_stepped r a b c d takes inward m gives outward = record { by = moves_around inward outward (is_failure r) (λ same. gives ∙ (ap step_back same ∙ step_again a.budget b.budget takes)) m.by; depth = λ none. m.depth (step_unbound a.budget b.budget takes none) }

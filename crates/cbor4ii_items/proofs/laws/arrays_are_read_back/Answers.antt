@@ -1,4 +1,4 @@
-use Rattle.cbor4ii_items.proofs.PartsBack.{sequence_back}
+use Rattle.cbor4ii_items.specs.Laws.PartsBack.{sequence_back}
 use Rattle.cbor4ii_items.proofs.laws.arrays_are_read_back.Goals as goal
 
 pub returns : goal.returns

@@ -1,4 +1,4 @@
-use Rattle.cbor4ii_items.proofs.PartsBack.{length_back, open_back}
+use Rattle.cbor4ii_items.specs.Laws.PartsBack.{length_back, open_back}
 use Rattle.cbor4ii_items.proofs.laws.lengths_are_read_back.Goals as goal
 
 pub returns-clause-counted : goal.returns-clause-counted

@@ -3,7 +3,7 @@ use Rattle.std.specs.Prelude.{◌||◌}
 use Rattle.cbor4ii_items.specs.ReadBack.{pair_cost}
 use Rattle.cbor4ii_items.specs.SequenceBytes.{pair_bytes}
 use Rattle.cbor4ii_items.specs.Sequences.{ReadsPair}
-use Rattle.cbor4ii_items.proofs.PartsBack.{pair_back, sequence_back}
+use Rattle.cbor4ii_items.specs.Laws.PartsBack.{pair_back, sequence_back}
 use Rattle.cbor4ii_items.proofs.laws.maps_are_read_back.Goals as goal
 
 pub returns : goal.returns

@@ -1,4 +1,4 @@
-use Rattle.cbor4ii_items.proofs.Backwards.{none_begins}
+use Rattle.cbor4ii_items.specs.Laws.NumbersBack.{none_begins}
 use Rattle.cbor4ii_items.proofs.laws.no_spelling_begins_another.Goals as goal
 
 pub returns : goal.returns

@@ -1,4 +1,4 @@
-use Rattle.cbor4ii_items.proofs.PartsBack.{tag_back, none_back, some_back}
+use Rattle.cbor4ii_items.specs.Laws.PartsBack.{tag_back, none_back, some_back}
 use Rattle.cbor4ii_items.proofs.laws.parts_are_read_back.Goals as goal
 
 pub returns-clause-tagged : goal.returns-clause-tagged

@@ -1,5 +1,5 @@
 use Rattle.std.proofs.Common.{inl, inr, refl, arith}
-use Rattle.cbor4ii_items.proofs.LeavesBack.{simple_back, bool_back, float_back}
+use Rattle.cbor4ii_items.specs.Laws.LeavesBack.{simple_back, bool_back, float_back}
 use Rattle.cbor4ii_items.proofs.laws.simple_values_are_read_back.Goals as goal
 
 pub returns-clause-simple : goal.returns-clause-simple

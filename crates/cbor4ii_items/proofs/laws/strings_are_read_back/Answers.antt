@@ -1,7 +1,7 @@
 use Rattle.std.proofs.Common.{true, false, IsTrue}
 use Rattle.cbor4ii_items.specs.Lent.{lent_str, lent_bytes, lent_unchecked}
 use Rattle.cbor4ii_items.specs.Strings.{text_content}
-use Rattle.cbor4ii_items.proofs.LeavesBack.{string_back, text_back, lent_back}
+use Rattle.cbor4ii_items.specs.Laws.LeavesBack.{string_back, text_back, lent_back}
 use Rattle.cbor4ii_items.proofs.laws.strings_are_read_back.Goals as goal
 
 pub returns-clause-bytes : goal.returns-clause-bytes

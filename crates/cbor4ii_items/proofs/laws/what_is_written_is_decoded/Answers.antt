@@ -1,4 +1,4 @@
-use Rattle.cbor4ii_items.proofs.Backwards.{decoded, not_refused}
+use Rattle.cbor4ii_items.specs.Laws.NumbersBack.{decoded, not_refused}
 use Rattle.cbor4ii_items.proofs.laws.what_is_written_is_decoded.Goals as goal
 
 pub returns-clause-accepted : goal.returns-clause-accepted

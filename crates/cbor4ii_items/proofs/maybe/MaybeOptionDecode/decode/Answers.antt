@@ -1,8 +1,8 @@
 use Rattle.std.proofs.lemmas.Result.{err_from_is_err_and}
 use Rattle.cbor4ii_items.specs.Laws.Steps.{moves_then, moves_ok, moves_err}
-use Rattle.cbor4ii_items.proofs.Containers.{exact_kept}
 use Rattle.cbor4ii_items.proofs.MaybeParts.{maybe_none, maybe_some, maybe_refuses, maybe_no_head, maybe_stops, maybe_head_stops}
 use Rattle.cbor4ii_items.proofs.maybe.MaybeOptionDecode.decode.Goals as goal
+use Rattle.cbor4ii_items.specs.Laws.Answering.{exact_kept}
 
 pub returns-in_err-item_follows-clause-complete : goal.returns-in_err-item_follows-clause-complete
 returns-in_err-item_follows-clause-complete g c exact =

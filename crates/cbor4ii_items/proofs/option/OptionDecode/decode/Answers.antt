@@ -2,8 +2,9 @@ use Rattle.std.proofs.Common.{refl}
 use Rattle.std.proofs.lemmas.Result.{err_from_is_err_and}
 use Rattle.cbor4ii_items.specs.Laws.Running.{kept_taken}
 use Rattle.cbor4ii_items.specs.Laws.Steps.{moves_then, moves_ok, moves_err}
-use Rattle.cbor4ii_items.proofs.Containers.{exact_kept, saw, some_sound, some_refuses, some_stops, end_refuses, end_stops}
+use Rattle.cbor4ii_items.proofs.Containers.{saw, some_sound, some_refuses, some_stops, end_refuses, end_stops}
 use Rattle.cbor4ii_items.proofs.option.OptionDecode.decode.Goals as goal
+use Rattle.cbor4ii_items.specs.Laws.Answering.{exact_kept}
 
 pub returns-in_err-first-clause-complete : goal.returns-in_err-first-clause-complete
 returns-in_err-first-clause-complete g c exact =

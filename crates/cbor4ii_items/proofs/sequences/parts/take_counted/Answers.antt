@@ -1,9 +1,9 @@
 use Rattle.std.proofs.Common.{arith}
 use Rattle.std.proofs.lemmas.Result.{err_from_is_err_and}
 use Rattle.cbor4ii_items.specs.Laws.Steps.{moves_then, moves_err}
-use Rattle.cbor4ii_items.proofs.Containers.{exact_kept}
 use Rattle.cbor4ii_items.proofs.SequenceParts.{count_more, count_done, count_refuses, count_stops}
 use Rattle.cbor4ii_items.proofs.sequences.parts.take_counted.Goals as goal
+use Rattle.cbor4ii_items.specs.Laws.Answering.{exact_kept}
 
 pub returns-in_err-add_part-clause-moves : goal.returns-in_err-add_part-clause-moves
 returns-in_err-add_part-clause-moves g c =

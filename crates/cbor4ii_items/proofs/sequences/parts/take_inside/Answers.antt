@@ -1,8 +1,8 @@
 use Rattle.std.proofs.lemmas.Result.{err_from_is_err_and}
 use Rattle.cbor4ii_items.specs.Laws.Steps.{moves_then}
-use Rattle.cbor4ii_items.proofs.Containers.{exact_kept}
 use Rattle.cbor4ii_items.proofs.SequenceAnswers.{counts, opens, head_refuses, head_stops, counted_sound, counted_refuses, counted_stops, opened_sound, opened_refuses, opened_stops}
 use Rattle.cbor4ii_items.proofs.sequences.parts.take_inside.Goals as goal
+use Rattle.cbor4ii_items.specs.Laws.Answering.{exact_kept}
 
 pub returns-in_err-count-clause-complete : goal.returns-in_err-count-clause-complete
 returns-in_err-count-clause-complete g c exact =

@@ -1,5 +1,6 @@
-use Rattle.cbor4ii_items.proofs.SequenceAnswers.{exact_step, moves_stepped, stepped_sound, stepped_refuses, stepped_stops}
+use Rattle.cbor4ii_items.proofs.SequenceAnswers.{stepped_sound, stepped_refuses, stepped_stops}
 use Rattle.cbor4ii_items.proofs.sequences.parts.take_sequence.Goals as goal
+use Rattle.cbor4ii_items.specs.Laws.UnderStep.{exact_step, moves_stepped}
 
 pub returns-clause-moves : goal.returns-clause-moves
 returns-clause-moves g c = moves_stepped c.take_inside-outcome.result _ _ _ _ c.if-not-step_in.ensures.budget c.step_in.ensures.others c.take_inside-outcome.ensures.moves c.step_out.ensures.budget c.step_out.ensures.others

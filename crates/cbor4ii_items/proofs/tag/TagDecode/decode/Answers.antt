@@ -1,7 +1,8 @@
 use Rattle.std.proofs.lemmas.Result.{err_from_is_err_and}
 use Rattle.cbor4ii_items.specs.Laws.Steps.{moves_then, moves_ok, moves_err}
-use Rattle.cbor4ii_items.proofs.Containers.{exact_kept, tag_sound, tag_refuses, tag_no_head, tag_stops, tag_head_stops}
+use Rattle.cbor4ii_items.proofs.Containers.{tag_sound, tag_refuses, tag_no_head, tag_stops, tag_head_stops}
 use Rattle.cbor4ii_items.proofs.tag.TagDecode.decode.Goals as goal
+use Rattle.cbor4ii_items.specs.Laws.Answering.{exact_kept}
 
 pub returns-in_err-number-clause-complete : goal.returns-in_err-number-clause-complete
 returns-in_err-number-clause-complete g c exact =

@@ -14,7 +14,7 @@ use Rattle.cbor4ii_items.specs.ReadBack.{ReadsBack, greatest_cost, pair_cost}
 use Rattle.cbor4ii_items.specs.SequenceBytes.{items_bytes, pair_bytes}
 use Rattle.cbor4ii_items.specs.Sequences.{ReadsParts, ReadsCountedParts, ReadsSequence, ReadsPair}
 use Rattle.cbor4ii_items.specs.Strings.{opening}
-use Rattle.cbor4ii_items.proofs.Backwards.{head_back}
+use Rattle.cbor4ii_items.specs.Laws.NumbersBack.{head_back}
 
 pub length_back : (major len : ℕ) → len < 2 ^ 64 → ReadsBack (ReadsLength major) (shortest_head major len) (Some len) 0
 length_back major len h rest = (head_back major eight len h rest, refl)

@@ -12,7 +12,7 @@ use Rattle.cbor4ii_items.specs.Simple.{ReadsSimple, ReadsBool, bool_byte}
 use Rattle.cbor4ii_items.specs.declared.types.Simple.{Simple}
 use Rattle.cbor4ii_items.specs.Floats.{ReadsFloat, float_bytes}
 use Rattle.cbor4ii_items.specs.Strings.{counted_string, ReadsCountedString, ReadsAs, ReadsTextAs}
-use Rattle.cbor4ii_items.proofs.Backwards.{head_back, argument_back}
+use Rattle.cbor4ii_items.specs.Laws.NumbersBack.{head_back, argument_back}
 
 -- ---- strings
 
