@@ -89,7 +89,7 @@ fn each_read_fails_in_turn(rt: HostRuntime) -> io::Result<()> {
             Some(fault) => fault.at as usize,
             None => row.input.len(),
         };
-        for good_reads in 0..end + 1 {
+        for good_reads in 0..end.saturating_add(1) {
             let output = Output::new(rt.alloc())?;
             let (outcome, output) = runs(&rt, row, 1, good_reads, output)?;
             let fault = Fault {
@@ -179,4 +179,18 @@ fn flushes_fail(rt: HostRuntime) -> io::Result<()> {
         );
     }
     Ok(())
+}
+
+#[test]
+fn integers_and_lengths_take_no_memory(rt: HostRuntime) {
+    for row in &ROWS {
+        if row.command != Command::Canon {
+            let mut room = [0; 64];
+            let mut reader = IoReader::new(row.input);
+            let mut writer = IoWriter::new(room.as_mut_slice());
+            let outcome = run(rt.alloc(), row.command, &mut reader, &mut writer);
+            assert_eq!(rt; outcome, row.outcome(), "at {:?}", row.input);
+            assert!(rt; room.starts_with(row.written), "at {:?}", row.input);
+        }
+    }
 }

@@ -47,6 +47,55 @@ impl Row {
 
 pub const ROWS: [Row; 19] = [
     Row {
+        command: Command::Canon,
+        input: b"\x18\x05\x9f\x01\xff\x1c",
+        written: b"\x05\x81\x01",
+        fault: Some(Fault {
+            at: 5,
+            kind: Kind::Mismatch,
+        }),
+        errors: b"fault at 5: Mismatch\n",
+        items: &[(0, 0), (2, 1), (5, 3)],
+    },
+    Row {
+        command: Command::Canon,
+        input: b"",
+        written: b"",
+        fault: None,
+        errors: b"",
+        items: &[(0, 0)],
+    },
+    Row {
+        command: Command::Canon,
+        input: b"\x18\x05\x9f\x01\xff",
+        written: b"\x05\x81\x01",
+        fault: None,
+        errors: b"",
+        items: &[(0, 0), (2, 1), (5, 3)],
+    },
+    Row {
+        command: Command::Canon,
+        input: b"\x82\x01\x02\x5f\x80\xff",
+        written: b"\x82\x01\x02",
+        fault: Some(Fault {
+            at: 3,
+            kind: Kind::Mismatch,
+        }),
+        errors: b"fault at 3: Mismatch\n",
+        items: &[(0, 0), (3, 3)],
+    },
+    Row {
+        command: Command::Canon,
+        input: b"\x00\x9f\x5f\x80\xff\xff\x63\x61",
+        written: b"\x00",
+        fault: Some(Fault {
+            at: 1,
+            kind: Kind::Mismatch,
+        }),
+        errors: b"fault at 1: Mismatch\n",
+        items: &[(0, 0), (1, 1)],
+    },
+    Row {
         command: Command::Ints,
         input: b"\x18\x05\x1b\x00\x00\x00\x00\x00\x00\x00\x05\x38\x00\x39\x01\x00",
         written: b"\x05\x05\x20\x39\x01\x00",
@@ -132,55 +181,6 @@ pub const ROWS: [Row; 19] = [
         }),
         errors: b"fault at 14: Eof\n",
         items: &[(0, 0), (5, 5), (10, 8), (12, 10), (14, 11)],
-    },
-    Row {
-        command: Command::Canon,
-        input: b"\x18\x05\x9f\x01\xff\x1c",
-        written: b"\x05\x81\x01",
-        fault: Some(Fault {
-            at: 5,
-            kind: Kind::Mismatch,
-        }),
-        errors: b"fault at 5: Mismatch\n",
-        items: &[(0, 0), (2, 1), (5, 3)],
-    },
-    Row {
-        command: Command::Canon,
-        input: b"",
-        written: b"",
-        fault: None,
-        errors: b"",
-        items: &[(0, 0)],
-    },
-    Row {
-        command: Command::Canon,
-        input: b"\x18\x05\x9f\x01\xff",
-        written: b"\x05\x81\x01",
-        fault: None,
-        errors: b"",
-        items: &[(0, 0), (2, 1), (5, 3)],
-    },
-    Row {
-        command: Command::Canon,
-        input: b"\x82\x01\x02\x5f\x80\xff",
-        written: b"\x82\x01\x02",
-        fault: Some(Fault {
-            at: 3,
-            kind: Kind::Mismatch,
-        }),
-        errors: b"fault at 3: Mismatch\n",
-        items: &[(0, 0), (3, 3)],
-    },
-    Row {
-        command: Command::Canon,
-        input: b"\x00\x9f\x5f\x80\xff\xff\x63\x61",
-        written: b"\x00",
-        fault: Some(Fault {
-            at: 1,
-            kind: Kind::Mismatch,
-        }),
-        errors: b"fault at 1: Mismatch\n",
-        items: &[(0, 0), (1, 1)],
     },
     Row {
         command: Command::Lens,
