@@ -1,5 +1,7 @@
 -- An integer, as the codec reads and refuses it.
-use Rattle.std.proofs.Common.{◌≡◌, ℕ, zero, suc, ◌+◌, ◌*◌, ◌/◌, ◌<◌, ◌≤◌, inl, inr, List, [], ◌∷◌, ◌↔◌, length, get_or, take, drop, Option, Some, false, IsTrue, Ok, Err, refl, sym, ap, ◌∙◌, subst, arith, eqb, eqb-true, eq-eqb}
+use Rattle.std.proofs.Common.{◌≡◌, ℕ, zero, suc, ◌+◌, ◌*◌, ◌/◌, ◌<◌, ◌≤◌, inl, inr, List, [], ◌∷◌}
+use Rattle.std.proofs.Common.{◌↔◌, length, get_or, take, drop, Option, Some, false, IsTrue, Ok, Err}
+use Rattle.std.proofs.Common.{refl, sym, ap, ◌∙◌, subst, arith, eqb, eqb-true, eq-eqb}
 use Rattle.cbor4ii_rw.specs.View.{View, Told}
 use Rattle.cbor4ii_rw.specs.Reader.{IsFront, Shows, Failed}
 use Rattle.cbor4ii_rw.specs.declared.error.DecodeError.{DecodeError}
@@ -13,14 +15,16 @@ use Rattle.cbor4ii_items.specs.Decoding.{Stops}
 use Rattle.cbor4ii_items.specs.Numbers.{StopsArgument}
 use Rattle.cbor4ii_tool.specs.Fault.{kind_of}
 use Rattle.cbor4ii_tool.specs.Integer.{IntegerHead, IsInteger, BeginsOther, IsCutInteger}
-use Rattle.cbor4ii_tool.specs.Reading.{major_of, argument_of, BeginsNegative, Takes, ReadsInteger, RefusesInteger}
+use Rattle.cbor4ii_tool.specs.Reading.{major_of, argument_of, BeginsNegative, Takes, ReadsInteger}
+use Rattle.cbor4ii_tool.specs.Reading.{RefusesInteger}
 use Rattle.cbor4ii_tool.specs.declared.integer.Integer.{Integer}
 use Rattle.cbor4ii_tool.specs.declared.integer.Integer.TheVariants.{Unsigned, Negative}
 use Rattle.cbor4ii_tool.proofs.Integers.{at_most_eight}
 
 -- ---- a look at the first byte
 
-pub at_end : (shown xs : List ℕ) → IsFront 1 shown xs → length shown < 1 → IsTrue false ↔ BeginsNegative xs
+pub at_end : (shown xs : List ℕ) → IsFront 1 shown xs → length shown < 1
+    → IsTrue false ↔ BeginsNegative xs
 at_end shown xs front h =
     let none : xs ≡ [] = front.ends (omega arith) (omega (arith, h)) in
     (λ t. absurd (never t), λ n. absurd (subst BeginsNegative none n))
@@ -28,7 +32,8 @@ at_end shown xs front h =
     never : IsTrue false → ⊥
     never t = cc
 
-pub at_first : (shown xs : List ℕ) (major : ℕ) → IsFront 1 shown xs → 1 ≤ length shown → major ≡ get_or shown 0 0 / 32 → IsTrue (eqb major 1) ↔ BeginsNegative xs
+pub at_first : (shown xs : List ℕ) (major : ℕ) → IsFront 1 shown xs → 1 ≤ length shown
+    → major ≡ get_or shown 0 0 / 32 → IsTrue (eqb major 1) ↔ BeginsNegative xs
 at_first [] xs major front h e = absurd (omega arith)
 at_first (s ∷ ss) [] major front h e = absurd (let begins = front.begins in cc)
 at_first (s ∷ ss) (x ∷ xs) major front h e =
@@ -42,7 +47,9 @@ major_small : (integer : Integer) → major_of integer ≤ 1
 major_small (Unsigned n) = omega arith
 major_small (Negative n) = omega arith
 
-taken : (integer : Integer) (xs : List ℕ) (n : ℕ) (new : Option (List ℕ)) → ReadsHead (major_of integer) 8 xs (argument_of integer) n → new ≡ Some (drop n xs) → Takes integer xs new
+taken : (integer : Integer) (xs : List ℕ) (n : ℕ) (new : Option (List ℕ))
+    → ReadsHead (major_of integer) 8 xs (argument_of integer) n → new ≡ Some (drop n xs)
+    → Takes integer xs new
 taken integer xs n new h left = record {
   width = h.wide;
   valid = record { major = major_small integer; fits = h.fits };
@@ -52,8 +59,10 @@ taken integer xs n new h left = record {
 }
 
 -- an integer of the program's, read behind a look at the first byte
-pub accepted : {V E : Type 0} (integer : Integer) (v : V) (shown : List ℕ) (a b c : View) → Shows shown a b → Moves {E = E} b c (Ok v) → c.bound + 1 ≤ b.bound
-    → Told b.told (λ xs. (n : ℕ) × ReadsHead (major_of integer) 8 xs (argument_of integer) n × (c.told ≡ Some (drop n xs))) → ReadsInteger integer a c
+pub accepted : {V E : Type 0} (integer : Integer) (v : V) (shown : List ℕ) (a b c : View)
+    → Shows shown a b → Moves {E = E} b c (Ok v) → c.bound + 1 ≤ b.bound
+    → Told b.told (λ xs. (n : ℕ) × ReadsHead (major_of integer) 8 xs (argument_of integer) n
+    × (c.told ≡ Some (drop n xs))) → ReadsInteger integer a c
 accepted integer v shown a b c shows moves progress reads = record {
   takes = λ xs told. let h = reads xs (shows.told xs told) in taken integer xs h.0 c.told h.1 h.2;
   bound = omega (arith, progress, shows.bound);
@@ -65,11 +74,13 @@ accepted integer v shown a b c shows moves progress reads = record {
 -- an integer that begins with the first byte has this major type
 abbrev pub IsOnly : ℕ → List ℕ → Type 0
 IsOnly major [] = Unit {0}
-IsOnly major (b ∷ bs) = (item : IntegerHead) → IsInteger item → b ≡ 32 * item.major + additional item.width item.argument → item.major ≡ major
+IsOnly major (b ∷ bs) = (item : IntegerHead) → IsInteger item
+    → b ≡ 32 * item.major + additional item.width item.argument → item.major ≡ major
 
 pub only_negative : (xs : List ℕ) → BeginsNegative xs → IsOnly 1 xs
 only_negative [] h = absurd h
-only_negative (b ∷ bs) h = λ item I is. let small = additional-lt item.argument item.width I.fits in omega (arith, h, small, is)
+only_negative (b ∷ bs) h = λ item I is. let small =
+    additional-lt item.argument item.width I.fits in omega (arith, h, small, is)
 
 pub only_unsigned : (xs : List ℕ) → ¬ BeginsNegative xs → IsOnly 0 xs
 only_unsigned [] none = tt
@@ -94,7 +105,8 @@ cut_nothing = record {
   joined = refl;
 }
 
-other : (name : List ℕ) (major b : ℕ) (bs : List ℕ) (refusal : Refusal) (rest : List ℕ) → IsOnly major (b ∷ bs) → NotAHead name major 8 b bs refusal rest → BeginsOther (b ∷ bs)
+other : (name : List ℕ) (major b : ℕ) (bs : List ℕ) (refusal : Refusal) (rest : List ℕ)
+    → IsOnly major (b ∷ bs) → NotAHead name major 8 b bs refusal rest → BeginsOther (b ∷ bs)
 other name major b bs refusal rest only h = record {
   first = b;
   more = bs;
@@ -107,7 +119,8 @@ other name major b bs refusal rest only h = record {
   });
 }
 
-cut : (name : List ℕ) (major b : ℕ) (bs : List ℕ) (refusal : Refusal) (rest : List ℕ) → major ≤ 1 → IsBytes bs → CutHead name major 8 b bs refusal rest → IsCutInteger (b ∷ bs)
+cut : (name : List ℕ) (major b : ℕ) (bs : List ℕ) (refusal : Refusal) (rest : List ℕ) → major ≤ 1
+    → IsBytes bs → CutHead name major 8 b bs refusal rest → IsCutInteger (b ∷ bs)
 cut name major b bs refusal rest low bytes h =
     let all = cut_head major 8 b bs h.wide h.begins h.short bytes in
     record {
@@ -118,10 +131,15 @@ cut name major b bs refusal rest low bytes h =
       joined = all.joined;
     }
 
-says : (name : List ℕ) (major : ℕ) (xs : List ℕ) (refusal : Refusal) (rest : List ℕ) → major ≤ 1 → IsOnly major xs → (rest ≡ [] → IsBytes xs) → StopsHead name major 8 xs refusal rest → Says refusal xs
+says : (name : List ℕ) (major : ℕ) (xs : List ℕ) (refusal : Refusal) (rest : List ℕ) → major ≤ 1
+    → IsOnly major xs → (rest ≡ [] → IsBytes xs) → StopsHead name major 8 xs refusal rest
+    → Says refusal xs
 says name major [] refusal rest low only bytes h = subst (λ r. Says r []) (sym h.0) cut_nothing
-says name major (b ∷ bs) refusal rest low only bytes (inl h) = subst (λ r. Says r (b ∷ bs)) (sym h.answer) (other name major b bs refusal rest only h)
-says name major (b ∷ bs) refusal rest low only bytes (inr h) = subst (λ r. Says r (b ∷ bs)) (sym h.answer) (cut name major b bs refusal rest low (bytes h.left).1 h)
+says name major (b ∷ bs) refusal rest low only bytes (inl h) =
+    subst (λ r. Says r (b ∷ bs)) (sym h.answer) (other name major b bs refusal rest only h)
+says name major (b ∷ bs) refusal rest low only bytes (inr h) =
+    subst (λ r. Says r (b ∷ bs)) (sym h.answer)
+    (cut name major b bs refusal rest low (bytes h.left).1 h)
 
 whole_front : (n : ℕ) (xs : List ℕ) → drop n xs ≡ [] → take n xs ≡ xs
 whole_front zero xs none = sym none
@@ -129,17 +147,24 @@ whole_front (suc n) [] none = refl
 whole_front (suc n) (x ∷ xs) none = ap (λ ys. x ∷ ys) (whole_front n xs none)
 
 -- where nothing is left, all was taken, byte by byte
-all_bytes : (xs rest : List ℕ) (new : Option (List ℕ)) (n : ℕ) → Took xs new n → new ≡ Some rest → rest ≡ [] → IsBytes xs
+all_bytes : (xs rest : List ℕ) (new : Option (List ℕ)) (n : ℕ) → Took xs new n → new ≡ Some rest
+    → rest ≡ [] → IsBytes xs
 all_bytes xs rest new n took left none =
     let e : drop n xs ≡ rest = let l = took.left in cc in
     subst IsBytes (whole_front n xs (e ∙ none)) took.bytes
 
 -- the refusal of a number without memory, behind a look at the first byte
-pub refused : {V E : Type 0} (name : List ℕ) (major : ℕ) (error : DecodeError E) (shown : List ℕ) (a b c : View) → major ≤ 1 → Told a.told (IsOnly major) → Shows shown a b → Moves {V = V} b c (Err error)
-    → (IsTrue (is_out_of_memory error) → IsTrue false) → Stops (StopsArgument name major 8) b c error → RefusesInteger (kind_of error) a c
-refused name major (Read e) shown a b c low only shows moves memory stops = subst (λ n. Failed n c.failures) shows.failures moves.by.failures
-refused name major OutOfMemory shown a b c low only shows moves memory stops = let none = memory refl in cc
+pub refused : {V E : Type 0} (name : List ℕ) (major : ℕ) (error : DecodeError E) (shown : List ℕ)
+    (a b c : View) → major ≤ 1 → Told a.told (IsOnly major) → Shows shown a b
+    → Moves {V = V} b c (Err error)
+    → (IsTrue (is_out_of_memory error) → IsTrue false)
+    → Stops (StopsArgument name major 8) b c error → RefusesInteger (kind_of error) a c
+refused name major (Read e) shown a b c low only shows moves memory stops =
+    subst (λ n. Failed n c.failures) shows.failures moves.by.failures
+refused name major OutOfMemory shown a b c low only shows moves memory stops = let none =
+    memory refl in cc
 refused name major _ shown a b c low only shows moves memory stops = λ xs told.
     let stop = stops.at xs (shows.told xs told) in
     let took = moves.by.rest xs (shows.told xs told) in
-    says name major xs _ stop.0 low (only xs told) (all_bytes xs stop.0 c.told took.0 took.1 stop.1) stop.2
+    says name major xs _ stop.0 low (only xs told) (all_bytes xs stop.0 c.told took.0 took.1 stop.1)
+    stop.2

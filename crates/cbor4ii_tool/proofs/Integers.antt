@@ -1,14 +1,18 @@
 -- Integers at the front of bytes.
-use Rattle.std.proofs.Common.{◌≡◌, ℕ, suc, ◌+◌, ◌*◌, ◌≤◌, List, [], ◌∷◌, ◌++◌, drop, refl, sym, ap, ◌∙◌, subst, arith, append_assoc, append-nil}
+use Rattle.std.proofs.Common.{◌≡◌, ℕ, suc, ◌+◌, ◌*◌, ◌≤◌, List, [], ◌∷◌, ◌++◌, drop, refl, sym, ap}
+use Rattle.std.proofs.Common.{◌∙◌, subst, arith, append_assoc, append-nil}
 use Rattle.cbor4ii_items.specs.Head.{Width, in_first, one, two, four, eight, byte_count, additional}
 use Rattle.cbor4ii_items.specs.Heads.{ReadsHead}
 use Rattle.cbor4ii_items.specs.HeadLaws.{additional-lt, head_one, after_head}
-use Rattle.cbor4ii_tool.specs.Integer.{IntegerHead, IsInteger, spelling, BeginsInteger, BeginsOther, IsCutInteger}
+use Rattle.cbor4ii_tool.specs.Integer.{IntegerHead, IsInteger, spelling, BeginsInteger, BeginsOther}
+use Rattle.cbor4ii_tool.specs.Integer.{IsCutInteger}
 
 same_first : {x y : ℕ} {xs ys : List ℕ} → x ∷ xs ≡ y ∷ ys → x ≡ y
 same_first e = cc
 
-same_major : (p q : IntegerHead) → IsInteger p → IsInteger q → 32 * p.major + additional p.width p.argument ≡ 32 * q.major + additional q.width q.argument → p.major ≡ q.major
+same_major : (p q : IntegerHead) → IsInteger p → IsInteger q
+    → 32 * p.major + additional p.width p.argument ≡ 32 * q.major + additional q.width q.argument
+    → p.major ≡ q.major
 same_major p q P Q first =
     let small = additional-lt p.argument p.width P.fits in
     let other = additional-lt q.argument q.width Q.fits in
@@ -22,26 +26,41 @@ at_most_eight four = omega arith
 at_most_eight eight = omega arith
 
 -- as the codec reads it
-abbrev as_head : (p : IntegerHead) → IsInteger p → (xs rest : List ℕ) → xs ≡ spelling p ++ rest → ReadsHead p.major 8 xs p.argument (suc (byte_count p.width))
-as_head p P xs rest e = record { wide = p.width; allowed = at_most_eight p.width; fits = P.fits; rest = rest; is = e; count = refl }
+abbrev as_head : (p : IntegerHead) → IsInteger p → (xs rest : List ℕ) → xs ≡ spelling p ++ rest
+    → ReadsHead p.major 8 xs p.argument (suc (byte_count p.width))
+as_head p P xs rest e =
+    record {
+      wide = p.width;
+      allowed = at_most_eight p.width;
+      fits = P.fits;
+      rest = rest;
+      is =
+          e;
+      count = refl;
+    }
 
 -- two integers at the front of the same bytes say the same, and neither is longer
-pub one_head : (p q : IntegerHead) → IsInteger p → IsInteger q → (xs ys : List ℕ) → spelling p ++ xs ≡ spelling q ++ ys → (p.major ≡ q.major) × (p.argument ≡ q.argument) × (xs ≡ ys)
+pub one_head : (p q : IntegerHead) → IsInteger p → IsInteger q → (xs ys : List ℕ)
+    → spelling p ++ xs ≡ spelling q ++ ys → (p.major ≡ q.major) × (p.argument ≡ q.argument)
+    × (xs ≡ ys)
 one_head p q P Q xs ys e =
     let all : List ℕ = spelling p ++ xs in
     let major = same_major p q P Q (same_first e) in
     let a = as_head p P all xs refl in
     let b = as_head q Q all ys e in
     let c = subst (λ m. ReadsHead m 8 all q.argument (suc (byte_count q.width))) (sym major) b in
-    let same = head_one p.major 8 all p.argument q.argument (suc (byte_count p.width)) (suc (byte_count q.width)) (omega (arith, P.major)) a c in (
+    let same = head_one p.major 8 all p.argument q.argument (suc (byte_count p.width))
+    (suc (byte_count q.width)) (omega (arith, P.major)) a c in (
       major,
       same.1,
       sym (after_head p.major 8 all p.argument (suc (byte_count p.width)) a)
-          ∙ (ap (λ n. drop n all) same.0 ∙ after_head q.major 8 all q.argument (suc (byte_count q.width)) b),
+          ∙ (ap (λ n. drop n all) same.0
+          ∙ after_head q.major 8 all q.argument (suc (byte_count q.width)) b),
     )
 
 pub none_begins_other : (bytes : List ℕ) → BeginsOther bytes → ¬ BeginsInteger bytes
-none_begins_other bytes begins front = begins.other front.item front.integer (same_first (sym begins.is ∙ front.is))
+none_begins_other bytes begins front =
+    begins.other front.item front.integer (same_first (sym begins.is ∙ front.is))
 
 no_more : (xs ys : List ℕ) → [] ≡ xs ++ ys → ys ≡ []
 no_more [] ys e = sym e
@@ -50,5 +69,9 @@ no_more (x ∷ xs) ys e = cc
 pub none_begins_cut : (bytes : List ℕ) → IsCutInteger bytes → ¬ BeginsInteger bytes
 none_begins_cut bytes cut front =
     let whole : spelling cut.item ++ [] ≡ spelling front.item ++ (front.more ++ cut.missing) =
-    append-nil (spelling cut.item) ∙ (cut.joined ∙ (ap (λ xs. xs ++ cut.missing) front.is ∙ append_assoc (spelling front.item) front.more cut.missing)) in
-    cut.some (no_more front.more cut.missing (one_head cut.item front.item cut.integer front.integer [] (front.more ++ cut.missing) whole).2)
+    append-nil (spelling cut.item)
+    ∙ (cut.joined ∙ (ap (λ xs. xs ++ cut.missing) front.is
+    ∙ append_assoc (spelling front.item) front.more cut.missing)) in
+    cut.some (no_more front.more cut.missing
+    (one_head cut.item front.item cut.integer front.integer [] (front.more ++ cut.missing)
+    whole).2)

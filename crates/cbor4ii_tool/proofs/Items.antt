@@ -1,10 +1,13 @@
 -- One item of a command.
-use Rattle.std.proofs.Common.{◌≡◌, ◌≢◌, ℕ, ◌+◌, ◌-◌, ◌≤◌, List, [], ◌∷◌, ◌++◌, length, drop, decimal, Option, Some, Result, Ok, Err, IsTrue, false, OnOk, IfSome, refl, sym, ap, ◌∙◌, subst, arith, append_assoc, length-append}
+use Rattle.std.proofs.Common.{◌≡◌, ◌≢◌, ℕ, ◌+◌, ◌-◌, ◌≤◌, List, [], ◌∷◌, ◌++◌, length, drop}
+use Rattle.std.proofs.Common.{decimal, Option, Some, Result, Ok, Err, IsTrue, false, OnOk, IfSome}
+use Rattle.std.proofs.Common.{refl, sym, ap, ◌∙◌, subst, arith, append_assoc, length-append}
 use Rattle.cbor4ii_rw.specs.View.{View, Told}
 use Rattle.cbor4ii_rw.specs.Reader.{IsFront, Shows, Breaks, Failed, counts}
 use Rattle.cbor4ii_rw.specs.Writer.{Output, Appends}
 use Rattle.cbor4ii_rw.specs.declared.error.DecodeError.{DecodeError}
-use Rattle.cbor4ii_rw.specs.declared.error.DecodeError.TheVariants.{Read as ReadError, OutOfMemory as NoMemory}
+use Rattle.cbor4ii_rw.specs.declared.error.DecodeError.TheVariants.{Read as ReadError}
+use Rattle.cbor4ii_rw.specs.declared.error.DecodeError.TheVariants.{OutOfMemory as NoMemory}
 use Rattle.cbor4ii_items.specs.Moves.{Moves, Kept}
 use Rattle.cbor4ii_items.specs.Decoding.{Stops as StopsBy}
 use Rattle.cbor4ii_items.specs.Refusal.{Refusal, refusal_of, is_out_of_memory}
@@ -19,13 +22,15 @@ use Rattle.cbor4ii_tree.specs.declared.value.Value.{Value}
 use Rattle.cbor4ii_tree.specs.declared.ignored.IgnoredAny.{IgnoredAny}
 use Rattle.cbor4ii_tool.specs.Fault.{kind_of, kind_of_refusal}
 use Rattle.cbor4ii_tool.specs.Integer.{BeginsInteger}
-use Rattle.cbor4ii_tool.specs.Reading.{in_width, written_bytes, ReadsInteger, RefusesInteger, RefusesAt}
+use Rattle.cbor4ii_tool.specs.Reading.{in_width, written_bytes, ReadsInteger, RefusesInteger}
+use Rattle.cbor4ii_tool.specs.Reading.{RefusesAt}
 use Rattle.cbor4ii_tool.specs.Item.{BeginsItem, StopsAs}
 use Rattle.cbor4ii_tool.specs.Steps.{Leaves, Done, Fails}
 use Rattle.cbor4ii_tool.specs.declared.command.Command.{Command}
 use Rattle.cbor4ii_tool.specs.declared.command.Command.TheVariants.{Ints, Canon, Lens}
 use Rattle.cbor4ii_tool.specs.declared.fault.Kind.{Kind}
-use Rattle.cbor4ii_tool.specs.declared.fault.Kind.TheVariants.{Read, Mismatch, Eof, OutOfMemory, Write}
+use Rattle.cbor4ii_tool.specs.declared.fault.Kind.TheVariants.{Read, Mismatch, Eof, OutOfMemory}
+use Rattle.cbor4ii_tool.specs.declared.fault.Kind.TheVariants.{Write}
 use Rattle.cbor4ii_tool.specs.declared.integer.Integer.{Integer}
 use Rattle.cbor4ii_tool.proofs.Integers.{none_begins_other, none_begins_cut}
 
@@ -35,36 +40,60 @@ nothing : (shown : List ℕ) → length shown ≤ 0 → 1 ≤ length shown → �
 nothing shown a b = omega (arith, a, b)
 
 pub not_end : (shown xs : List ℕ) → IsFront 1 shown xs → 1 ≤ length shown → xs ≡ [] → ⊥
-not_end shown xs front some none = nothing shown (subst (λ (ys : List ℕ). length shown ≤ length ys) none front.within) some
+not_end shown xs front some none =
+    nothing shown (subst (λ (ys : List ℕ). length shown ≤ length ys) none front.within) some
 
 -- ---- what is left
 
-same_bytes : (xs ys : List ℕ) (told : Option (List ℕ)) → told ≡ Some xs → told ≡ Some ys → xs ≡ ys
+pub same_bytes : (xs ys : List ℕ) (told : Option (List ℕ)) → told ≡ Some xs → told ≡ Some ys
+    → xs ≡ ys
 same_bytes xs ys told p q = cc
 
 kept_leaves : (a b : View) → Kept a b → Leaves a b
-kept_leaves a b kept = record { budget = kept.budget; rest = λ xs was ys is. let took = kept.rest xs was in (took.0, same_bytes ys (drop took.0 xs) b.told is took.1.left) }
+kept_leaves a b kept =
+    record {
+      budget = kept.budget;
+      rest = λ xs was ys is. let took = kept.rest xs was in
+          (took.0, same_bytes ys (drop took.0 xs) b.told is took.1.left);
+    }
 
-pub moves_leaves : {V E : Type 0} (answer : Result V (DecodeError E)) (a b : View) → Moves {V = V} a b answer → Leaves a b
+pub moves_leaves : {V E : Type 0} (answer : Result V (DecodeError E)) (a b : View)
+    → Moves {V = V} a b answer → Leaves a b
 moves_leaves (Ok v) a b moves = kept_leaves a b moves.by
-moves_leaves (Err (ReadError e)) a b moves = record { budget = moves.by.budget; rest = moves.by.rest }
+moves_leaves (Err (ReadError e)) a b moves =
+    record { budget = moves.by.budget; rest = moves.by.rest }
 moves_leaves (Err _) a b moves = kept_leaves a b moves.by
 
 pub shows_leaves : (shown : List ℕ) (a b : View) → Shows shown a b → Leaves a b
-shows_leaves shown a b shows = record { budget = shows.budget; rest = λ xs was ys is. (0, same_bytes ys xs b.told is (shows.told xs was)) }
+shows_leaves shown a b shows =
+    record {
+      budget = shows.budget;
+      rest =
+          λ xs was ys is. (0, same_bytes ys xs b.told is (shows.told xs was));
+    }
 
 pub breaks_leaves : (a b : View) → Breaks a b → Leaves a b
-breaks_leaves a b breaks = record { budget = breaks.budget; rest = λ xs was ys is. (0, breaks.told xs was ys is) }
+breaks_leaves a b breaks =
+    record { budget = breaks.budget; rest = λ xs was ys is. (0, breaks.told xs was ys is) }
 
 pub shown_leaves : (shown : List ℕ) (a b c : View) → Shows shown a b → Leaves b c → Leaves a c
-shown_leaves shown a b c shows leaves = record { budget = leaves.budget ∙ shows.budget; rest = λ xs was ys is. leaves.rest xs (shows.told xs was) ys is }
+shown_leaves shown a b c shows leaves =
+    record {
+      budget = leaves.budget ∙ shows.budget;
+      rest =
+          λ xs was ys is. leaves.rest xs (shows.told xs was) ys is;
+    }
+
+-- how calls one after another leave the reader
+pub ruleset leaving = (moves_leaves, shown_leaves, breaks_leaves)
 
 -- ---- integers
 
 pub shown_kept : (shown : List ℕ) (a b c : View) → Shows shown a b → Kept b c → Kept a c
 shown_kept shown a b c shows kept = record {
   rest = λ xs told. kept.rest xs (shows.told xs told);
-  counted = λ xs told ys after n e. kept.counted xs (shows.told xs told) ys after n e ∙ ap (counts n) shows.taken;
+  counted = λ xs told ys after n e. kept.counted xs (shows.told xs told) ys after n e
+      ∙ ap (counts n) shows.taken;
   bound = omega (arith, kept.bound, shows.bound);
   budget = kept.budget ∙ shows.budget;
   failures = kept.failures ∙ shows.failures;
@@ -77,126 +106,226 @@ never_write (ReadError e) is = cc
 never_write NoMemory is = cc
 never_write _ is = cc
 
-steady : {V E : Type 0} (error : DecodeError E) (shown : List ℕ) (a b c : View) → Shows shown a b → Moves {V = V} b c (Err error) → kind_of error ≢ Read → c.failures ≡ a.failures
+steady : {V E : Type 0} (error : DecodeError E) (shown : List ℕ) (a b c : View) → Shows shown a b
+    → Moves {V = V} b c (Err error) → kind_of error ≢ Read → c.failures ≡ a.failures
 steady (ReadError e) shown a b c shows moves other = absurd (other refl)
 steady _ shown a b c shows moves other = moves.by.failures ∙ shows.failures
 
-pub is_steady : {V E : Type 0} (error : DecodeError E) (shown : List ℕ) (a b c : View) → Shows shown a b → Moves {V = V} b c (Err error) → (kind_of error ≢ Write) × (kind_of error ≢ Read → c.failures ≡ a.failures)
-is_steady {V} error shown a b c shows moves = (never_write error, steady {V = V} error shown a b c shows moves)
+pub is_steady : {V E : Type 0} (error : DecodeError E) (shown : List ℕ) (a b c : View)
+    → Shows shown a b → Moves {V = V} b c (Err error) → (kind_of error ≢ Write)
+    × (kind_of error ≢ Read → c.failures ≡ a.failures)
+is_steady {V} error shown a b c shows moves =
+    (never_write error, steady {V = V} error shown a b c shows moves)
 
-pub integer_done : (integer : Integer) (a b : View) (held holds : Output) → ReadsInteger integer a b → Kept a b → Appends (written_bytes integer) held.written holds.written → holds.failures ≡ held.failures → Done Ints a b held holds
+pub integer_done : (integer : Integer) (a b : View) (held holds : Output) → ReadsInteger integer a b
+    → Kept a b → Appends (written_bytes integer) held.written holds.written
+    → holds.failures ≡ held.failures → Done Ints a b held holds
 integer_done integer a b held holds reads kept appends same = record {
   kept = kept;
   bound = reads.bound;
   failures = same;
-  item = λ xs told. let t = reads.takes xs told in record { text = written_bytes integer; rest = t.rest; left_is = t.left; converts = (in_width t.width integer, t.valid, t.joined, refl); written = appends };
+  item = λ xs told. let t =
+      reads.takes xs told in
+      record {
+        text = written_bytes integer;
+        rest = t.rest;
+        left_is = t.left;
+        converts =
+            (in_width t.width integer, t.valid, t.joined, refl);
+        written = appends;
+      };
 }
 
 no_integer : (xs : List ℕ) → ¬ (BeginsInteger xs) → ¬ (BeginsItem Ints xs)
-no_integer xs none (written, ys, (item, integer, is, same)) = none (record { item = item; integer = integer; more = ys; is = is })
+no_integer xs none (written, ys, (item, integer, is, same)) =
+    none (record { item = item; integer = integer; more = ys; is = is })
 
 no_more : (kind : Kind) (xs : List ℕ) → RefusesAt kind xs → ¬ (BeginsItem Ints xs)
 no_more Mismatch xs refuses = no_integer xs (none_begins_other xs refuses)
 no_more Eof xs refuses = no_integer xs (none_begins_cut xs refuses)
 no_more _ xs refuses = absurd refuses
 
-pub integer_fails : (kind : Kind) (a b : View) (held : Output) → RefusesInteger kind a b → (kind ≢ Write) × (kind ≢ Read → b.failures ≡ a.failures) → Fails Ints kind a b held held
+pub integer_fails : (kind : Kind) (a b : View) (held : Output) → RefusesInteger kind a b
+    → (kind ≢ Write) × (kind ≢ Read → b.failures ≡ a.failures) → Fails Ints kind a b held held
 integer_fails Read a b held refuses steady = (refuses, refl)
 integer_fails Write a b held refuses steady = absurd (steady.0 refl)
 integer_fails OutOfMemory a b held refuses steady = absurd refuses
-integer_fails kind a b held refuses steady = (steady.1 (λ e. cc), refl, λ xs told. (refuses xs told, no_more kind xs (refuses xs told)))
+integer_fails kind a b held refuses steady =
+    (steady.1 (λ e. cc), refl, λ xs told. (refuses xs told, no_more kind xs (refuses xs told)))
 
-begins : (command : Command) (a b : View) (held holds : Output) → Done command a b held holds → Told a.told (BeginsItem command)
-begins command a b held holds done xs told = let d = done.item xs told in (d.text, d.rest, d.converts)
+begins : (command : Command) (a b : View) (held holds : Output) → Done command a b held holds
+    → Told a.told (BeginsItem command)
+begins command a b held holds done xs told = let d =
+    done.item xs told in (d.text, d.rest, d.converts)
 
-pub integer_unwritten : (integer : Integer) (a b : View) (held holds : Output) → ReadsInteger integer a b → Failed held.failures holds.failures → Fails Ints Write a b held holds
-integer_unwritten integer a b held holds reads failed =
-    (failed, reads.failures, λ xs told. let t = reads.takes xs told in (written_bytes integer, t.rest, (in_width t.width integer, t.valid, t.joined, refl)))
+pub integer_unwritten : (integer : Integer) (a b : View) (held holds : Output)
+    → ReadsInteger integer a b → Failed held.failures holds.failures
+    → Fails Ints Write a b held holds
+integer_unwritten integer a b held holds reads failed = (
+  failed,
+  reads.failures,
+  λ xs told. let t = reads.takes xs told in
+      (written_bytes integer, t.rest, (in_width t.width integer, t.valid, t.joined, refl)),
+)
 
 -- ---- what is refused
 
-stop_named : (command : Command) (stops : List ℕ → Option ℕ → Refusal → List ℕ → Type 0) (xs : List ℕ) (budget : Option ℕ) (e : Refusal) (left : Option (List ℕ)) → ((xs : List ℕ) (e : Refusal) (rest : List ℕ) → stops xs (Some 256) e rest → StopsAs command (kind_of_refusal e) xs)
-    → budget ≡ Some 256 → (rest : List ℕ) × (left ≡ Some rest) × stops xs budget e rest → StopsAs command (kind_of_refusal e) xs
-stop_named command stops xs budget e left lift is stop = lift xs e stop.0 (subst (λ (b : Option ℕ). stops xs b e stop.0) is stop.2)
+stop_named : (command : Command) (stops : List ℕ → Option ℕ → Refusal → List ℕ → Type 0)
+    (xs : List ℕ) (budget : Option ℕ) (e : Refusal) (left : Option (List ℕ))
+    → ((xs : List ℕ) (e : Refusal) (rest : List ℕ) → stops xs (Some 256) e rest
+    → StopsAs command (kind_of_refusal e) xs)
+    → budget ≡ Some 256 → (rest : List ℕ) × (left ≡ Some rest) × stops xs budget e rest
+    → StopsAs command (kind_of_refusal e) xs
+stop_named command stops xs budget e left lift is stop =
+    lift xs e stop.0 (subst (λ (b : Option ℕ). stops xs b e stop.0) is stop.2)
 
-pub refused_by : {V E : Type 0} (command : Command) (stops : List ℕ → Option ℕ → Refusal → List ℕ → Type 0) (error : DecodeError E) (a b : View) (held : Output) → a.budget ≡ Some 256 → Moves {V = V} a b (Err error)
-    → (IsTrue (is_out_of_memory error) → command ≡ Canon) → StopsBy stops a b error → Told a.told (λ xs. IfSome (refusal_of error) (λ _. ¬ (BeginsItem command xs)))
-    → ((xs : List ℕ) (e : Refusal) (rest : List ℕ) → stops xs (Some 256) e rest → StopsAs command (kind_of_refusal e) xs) → Fails command (kind_of error) a b held held
-refused_by command stops (ReadError e) a b held budget moves memory stop none lift = (moves.by.failures, refl)
-refused_by command stops NoMemory a b held budget moves memory stop none lift = (memory refl, moves.by.failures, refl)
-refused_by command stops _ a b held budget moves memory stop none lift =
-    (moves.by.failures, refl, λ xs told. (stop_named command stops xs a.budget _ b.told lift budget (stop.at xs told), none xs told))
+pub refused_by : {V E : Type 0} (command : Command)
+    (stops : List ℕ → Option ℕ → Refusal → List ℕ → Type 0) (error : DecodeError E) (a b : View)
+    (held : Output) → a.budget ≡ Some 256 → Moves {V = V} a b (Err error)
+    → (IsTrue (is_out_of_memory error) → command ≡ Canon) → StopsBy stops a b error
+    → Told a.told (λ xs. IfSome (refusal_of error) (λ _. ¬ (BeginsItem command xs)))
+    → ((xs : List ℕ) (e : Refusal) (rest : List ℕ) → stops xs (Some 256) e rest
+    → StopsAs command (kind_of_refusal e) xs) → Fails command (kind_of error) a b held held
+refused_by command stops (ReadError e) a b held budget moves memory stop none lift =
+    (moves.by.failures, refl)
+refused_by command stops NoMemory a b held budget moves memory stop none lift =
+    (memory refl, moves.by.failures, refl)
+refused_by command stops _ a b held budget moves memory stop none lift = (
+  moves.by.failures,
+  refl,
+  λ xs told.
+      (stop_named command stops xs a.budget _ b.told lift budget (stop.at xs told), none xs told),
+)
 
 -- ---- lengths
 
-pub length_taken : (t : Tree) (xs ys : List ℕ) (a b : View) (before after : ℕ) → Kept a b → a.told ≡ Some xs → b.told ≡ Some ys → Skips xs (Some 256) t ys → a.taken ≡ Some before → b.taken ≡ Some after → after - before ≡ length (bytes t)
+pub length_taken : (t : Tree) (xs ys : List ℕ) (a b : View) (before after : ℕ) → Kept a b
+    → a.told ≡ Some xs → b.told ≡ Some ys → Skips xs (Some 256) t ys → a.taken ≡ Some before
+    → b.taken ≡ Some after → after - before ≡ length (bytes t)
 length_taken t xs ys a b before after kept told left skips was is =
-    let sum : length (bytes t) + length ys ≡ length xs = omega (arith, ap length skips.begins, length-append (bytes t) ys) in
-    let moved : b.taken ≡ counts (length (bytes t)) a.taken = kept.counted xs told ys left (length (bytes t)) sum in
-    let both : Some after ≡ Some (before + length (bytes t)) = sym is ∙ (moved ∙ ap (counts (length (bytes t))) was) in
+    let sum : length (bytes t) + length ys ≡ length xs =
+    omega (arith, ap length skips.begins, length-append (bytes t) ys) in
+    let moved : b.taken ≡ counts (length (bytes t)) a.taken =
+    kept.counted xs told ys left (length (bytes t)) sum in
+    let both : Some after ≡ Some (before + length (bytes t)) =
+    sym is ∙ (moved ∙ ap (counts (length (bytes t))) was) in
     let plain : after ≡ before + length (bytes t) = cc in
     omega (arith, plain)
 
-appends_then : (xs ys : List ℕ) (a b c : Option (List ℕ)) → Appends xs a b → Appends ys b c → Appends (xs ++ ys) a c
-appends_then xs ys a b c p q = λ zs told. q (zs ++ xs) (p zs told) ∙ ap Some (append_assoc zs xs ys)
-
-pub written_then : {V E : Type 0} (answer : Result V E) (xs ys : List ℕ) (a b c : Option (List ℕ)) → Appends xs a b → OnOk answer (Appends ys b c) → OnOk answer (Appends (xs ++ ys) a c)
-written_then (Ok v) xs ys a b c p q = appends_then xs ys a b c p q
-written_then (Err e) xs ys a b c p q = tt
-
 -- ---- values
 
-no_value : {E : Type 0} (error : DecodeError E) (a b : View) → a.budget ≡ Some 256 → AllReads a b (Err error) → Told a.told (λ xs. IfSome (refusal_of error) (λ _. ¬ (BeginsItem Canon xs)))
+no_value : {E : Type 0} (error : DecodeError E) (a b : View) → a.budget ≡ Some 256
+    → AllReads a b (Err error)
+    → Told a.told (λ xs. IfSome (refusal_of error) (λ _. ¬ (BeginsItem Canon xs)))
 no_value (ReadError e) a b budget all xs told = tt
 no_value NoMemory a b budget all xs told = tt
-no_value _ a b budget all xs told = λ (w, ys, (v, reads, is)). all xs told v ys (subst (λ (left : Option ℕ). Reads xs left v ys) (sym budget) reads)
+no_value _ a b budget all xs told =
+    λ (w, ys, (v, reads, is)).
+    all xs told v ys (subst (λ (left : Option ℕ). Reads xs left v ys) (sym budget) reads)
 
-pub value_fails : {E : Type 0} (error : DecodeError E) (a b : View) (held : Output) → a.budget ≡ Some 256 → Moves {V = Value} a b (Err error) → StopsBy StopsReading a b error → AllReads a b (Err error) → Fails Canon (kind_of error) a b held held
-value_fails error a b held budget moves stop all = refused_by {V = Value} Canon StopsReading error a b held budget moves (λ _. refl) stop (no_value error a b budget all) (λ xs e rest s. (e, rest, s, refl))
+pub value_fails : {E : Type 0} (error : DecodeError E) (a b : View) (held : Output)
+    → a.budget ≡ Some 256 → Moves {V = Value} a b (Err error) → StopsBy StopsReading a b error
+    → AllReads a b (Err error) → Fails Canon (kind_of error) a b held held
+value_fails error a b held budget moves stop all =
+    refused_by {V = Value} Canon StopsReading error a b held budget moves (λ _. refl) stop
+    (no_value error a b budget all) (λ xs e rest s. (e, rest, s, refl))
 
-pub value_done : (v : Value) (a b : View) (held holds : Output) → a.budget ≡ Some 256 → Kept a b → b.bound + 1 ≤ a.bound → Told a.told (λ xs. (rest : List ℕ) × (b.told ≡ Some rest) × Reads xs a.budget (view v) rest) → Appends (canon (view v)) held.written holds.written → holds.failures ≡ held.failures → Done Canon a b held holds
+pub value_done : (v : Value) (a b : View) (held holds : Output) → a.budget ≡ Some 256 → Kept a b
+    → b.bound + 1 ≤ a.bound
+    → Told a.told (λ xs. (rest : List ℕ) × (b.told ≡ Some rest) × Reads xs a.budget (view v) rest)
+    → Appends (canon (view v)) held.written holds.written → holds.failures ≡ held.failures
+    → Done Canon a b held holds
 value_done v a b held holds budget kept bound reads appends same = record {
   kept = kept;
   bound = bound;
   failures = same;
-  item = λ xs told. let r = reads xs told in record { text = canon (view v); rest = r.0; left_is = r.1; converts = (view v, subst (λ (left : Option ℕ). Reads xs left (view v) r.0) budget r.2, refl); written = appends };
+  item = λ xs told.
+      let r = reads xs told in
+      let value = subst (λ (left : Option ℕ). Reads xs left (view v) r.0) budget r.2 in
+      record {
+        text = canon (view v);
+        rest = r.0;
+        left_is = r.1;
+        converts = (view v, value, refl);
+        written = appends;
+      };
 }
 
-pub value_unwritten : (v : Value) (a b : View) (held holds : Output) → a.budget ≡ Some 256 → Kept a b → Told a.told (λ xs. (rest : List ℕ) × (b.told ≡ Some rest) × Reads xs a.budget (view v) rest) → Failed held.failures holds.failures → Fails Canon Write a b held holds
-value_unwritten v a b held holds budget kept reads failed =
-    (failed, kept.failures, λ xs told. let r = reads xs told in (canon (view v), r.0, (view v, subst (λ (left : Option ℕ). Reads xs left (view v) r.0) budget r.2, refl)))
+pub value_unwritten : (v : Value) (a b : View) (held holds : Output) → a.budget ≡ Some 256
+    → Kept a b → Told a.told
+    (λ xs. (rest : List ℕ) × (b.told ≡ Some rest) × Reads xs a.budget (view v) rest)
+    → Failed held.failures holds.failures → Fails Canon Write a b held holds
+value_unwritten v a b held holds budget kept reads failed = (
+  failed,
+  kept.failures,
+  λ xs told. let r = reads xs told in (
+    canon (view v),
+    r.0,
+    (view v, subst (λ (left : Option ℕ). Reads xs left (view v) r.0) budget r.2, refl),
+  ),
+)
 
 -- ---- items that are skipped
 
 never : IsTrue false → ⊥
 never t = cc
 
-no_skip : {E : Type 0} (error : DecodeError E) (a b : View) → a.budget ≡ Some 256 → AllSkips {V = IgnoredAny} a b (Err error) → Told a.told (λ xs. IfSome (refusal_of error) (λ _. ¬ (BeginsItem Lens xs)))
+no_skip : {E : Type 0} (error : DecodeError E) (a b : View) → a.budget ≡ Some 256
+    → AllSkips {V = IgnoredAny} a b (Err error)
+    → Told a.told (λ xs. IfSome (refusal_of error) (λ _. ¬ (BeginsItem Lens xs)))
 no_skip (ReadError e) a b budget all xs told = tt
 no_skip NoMemory a b budget all xs told = tt
-no_skip _ a b budget all xs told = λ (w, ys, (t, skips, is)). all xs told t ys (subst (λ (left : Option ℕ). Skips xs left t ys) (sym budget) skips)
+no_skip _ a b budget all xs told =
+    λ (w, ys, (t, skips, is)).
+    all xs told t ys (subst (λ (left : Option ℕ). Skips xs left t ys) (sym budget) skips)
 
-pub length_fails : {E : Type 0} (error : DecodeError E) (a b : View) (held : Output) → a.budget ≡ Some 256 → Moves {V = IgnoredAny} a b (Err error) → (IsTrue (is_out_of_memory error) → IsTrue false) → StopsBy StopsIgnored a b error → AllSkips {V = IgnoredAny} a b (Err error)
+pub length_fails : {E : Type 0} (error : DecodeError E) (a b : View) (held : Output)
+    → a.budget ≡ Some 256 → Moves {V = IgnoredAny} a b (Err error)
+    → (IsTrue (is_out_of_memory error) → IsTrue false) → StopsBy StopsIgnored a b error
+    → AllSkips {V = IgnoredAny} a b (Err error)
     → Fails Lens (kind_of error) a b held held
-length_fails error a b held budget moves memory stop all = refused_by {V = IgnoredAny} Lens StopsIgnored error a b held budget moves (λ o. absurd (never (memory o))) stop (no_skip error a b budget all) (λ xs e rest s. (e, rest, s, refl))
+length_fails error a b held budget moves memory stop all =
+    refused_by {V = IgnoredAny} Lens StopsIgnored error a b held budget moves
+    (λ o. absurd (never (memory o))) stop (no_skip error a b budget all)
+    (λ xs e rest s. (e, rest, s, refl))
 
 -- what stands for a skipped item, and the bytes behind it
 abbrev pub Skipped : View → View → Type 0
-Skipped a b = Told a.told (λ xs. (t : Tree) × (rest : List ℕ) × (b.told ≡ Some rest) × Skips xs a.budget t rest)
+Skipped a b = Told a.told
+    (λ xs. (t : Tree) × (rest : List ℕ) × (b.told ≡ Some rest) × Skips xs a.budget t rest)
 
-pub length_done : (number before after : ℕ) (a b : View) (held holds : Output) → a.budget ≡ Some 256 → Kept a b → b.bound + 1 ≤ a.bound → Skipped a b → a.taken ≡ Some before → b.taken ≡ Some after → number ≡ after - before
-    → Appends (decimal number ++ 10 ∷ []) held.written holds.written → holds.failures ≡ held.failures → Done Lens a b held holds
-length_done number before after a b held holds budget kept bound skipped was is difference appends same = record {
-  kept = kept;
-  bound = bound;
-  failures = same;
-  item = λ xs told.
-      let r = skipped xs told in
-      let skips = subst (λ (left : Option ℕ). Skips xs left r.0 r.1) budget r.3 in
-      let size = difference ∙ length_taken r.0 xs r.1 a b before after kept told r.2 skips was is in
-      record { text = decimal number ++ 10 ∷ []; rest = r.1; left_is = r.2; converts = (r.0, skips, ap (λ n. decimal n ++ 10 ∷ []) size); written = appends };
-}
+pub length_done : (number before after : ℕ) (a b : View) (held holds : Output) → a.budget ≡ Some 256
+    → Kept a b → b.bound + 1 ≤ a.bound → Skipped a b → a.taken ≡ Some before → b.taken ≡ Some after
+    → number ≡ after - before
+    → Appends (decimal number ++ 10 ∷ []) held.written holds.written
+    → holds.failures ≡ held.failures → Done Lens a b held holds
+length_done number before after a b held holds budget kept bound skipped was is difference appends
+    same = record {
+      kept = kept;
+      bound = bound;
+      failures = same;
+      item = λ xs told.
+          let r = skipped xs told in
+          let skips = subst (λ (left : Option ℕ). Skips xs left r.0 r.1) budget r.3 in
+          let size = difference
+              ∙ length_taken r.0 xs r.1 a b before after kept told r.2 skips was is in
+          record {
+            text = decimal number ++ 10 ∷ [];
+            rest = r.1;
+            left_is = r.2;
+            converts = (r.0, skips, ap (λ n. decimal n ++ 10 ∷ []) size);
+            written = appends;
+          };
+    }
 
-pub length_unwritten : (a b : View) (held holds : Output) → a.budget ≡ Some 256 → Kept a b → Skipped a b → Failed held.failures holds.failures → Fails Lens Write a b held holds
-length_unwritten a b held holds budget kept skipped failed =
-    (failed, kept.failures, λ xs told. let r = skipped xs told in (decimal (length (bytes r.0)) ++ 10 ∷ [], r.1, (r.0, subst (λ (left : Option ℕ). Skips xs left r.0 r.1) budget r.3, refl)))
+pub length_unwritten : (a b : View) (held holds : Output) → a.budget ≡ Some 256 → Kept a b
+    → Skipped a b → Failed held.failures holds.failures → Fails Lens Write a b held holds
+length_unwritten a b held holds budget kept skipped failed = (
+  failed,
+  kept.failures,
+  λ xs told. let r = skipped xs told in (
+    decimal (length (bytes r.0)) ++ 10 ∷ [],
+    r.1,
+    (r.0, subst (λ (left : Option ℕ). Skips xs left r.0 r.1) budget r.3, refl),
+  ),
+)

@@ -1,7 +1,17 @@
 -- What an error of the codec is called.
-use Rattle.cbor4ii_items.specs.Refusal.{Refusal, mismatch, unsupported, eof, require_length, require_borrowed, require_utf8, length_overflow, cast_overflow, arithmetic_overflow, depth_overflow, custom}
+use Rattle.std.specs.Prelude.{Result}
+use Rattle.cbor4ii_items.specs.Refusal.{Refusal, mismatch, unsupported, eof, require_length}
+use Rattle.cbor4ii_items.specs.Refusal.{require_borrowed, require_utf8, length_overflow}
+use Rattle.cbor4ii_items.specs.Refusal.{cast_overflow, arithmetic_overflow, depth_overflow, custom}
 use Rattle.cbor4ii_rw.specs.declared.error.DecodeError.{DecodeError}
-use Rattle.cbor4ii_rw.specs.declared.error.DecodeError.TheVariants.{Read, Mismatch, Unsupported, Eof, RequireLength, RequireBorrowed, RequireUtf8, LengthOverflow, CastOverflow, ArithmeticOverflow, DepthOverflow, Custom, OutOfMemory}
+use Rattle.cbor4ii_rw.specs.declared.error.DecodeError.TheVariants.{Read, Mismatch, Unsupported}
+use Rattle.cbor4ii_rw.specs.declared.error.DecodeError.TheVariants.{Eof, RequireLength}
+use Rattle.cbor4ii_rw.specs.declared.error.DecodeError.TheVariants.{RequireBorrowed, RequireUtf8}
+use Rattle.cbor4ii_rw.specs.declared.error.DecodeError.TheVariants.{LengthOverflow, CastOverflow}
+use Rattle.cbor4ii_rw.specs.declared.error.DecodeError.TheVariants.{ArithmeticOverflow}
+use Rattle.cbor4ii_rw.specs.declared.error.DecodeError.TheVariants.{DepthOverflow, Custom}
+use Rattle.cbor4ii_rw.specs.declared.error.DecodeError.TheVariants.{OutOfMemory}
+use Rattle.cbor4ii_tool.specs.declared.fault.Fault.{Fault}
 use Rattle.cbor4ii_tool.specs.declared.fault.Kind.{Kind}
 use Rattle.cbor4ii_tool.specs.declared.fault.Kind.TheVariants as kind
 
@@ -34,3 +44,7 @@ kind_of_refusal (cast_overflow name) = kind.CastOverflow
 kind_of_refusal (arithmetic_overflow name ty) = kind.ArithmeticOverflow
 kind_of_refusal (depth_overflow name) = kind.DepthOverflow
 kind_of_refusal (custom name num) = kind.Custom
+
+-- what a run answers: nothing, or where it stopped and why
+abbrev pub Outcome : Type 0
+Outcome = Result (Unit {0}) Fault

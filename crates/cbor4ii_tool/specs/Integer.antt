@@ -33,7 +33,8 @@ pub record BeginsOther (bytes : List ℕ) : Type 0 where
   pub first : ℕ
   pub more : List ℕ
   pub is : bytes ≡ first ∷ more
-  pub other : (item : IntegerHead) → IsInteger item → first ≢ 32 * item.major + additional item.width item.argument
+  pub other : (item : IntegerHead) → IsInteger item
+      → first ≢ 32 * item.major + additional item.width item.argument
 
 -- these bytes begin an integer, and end inside it
 pub record IsCutInteger (bytes : List ℕ) : Type 0 where

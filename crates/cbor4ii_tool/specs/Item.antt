@@ -1,4 +1,4 @@
--- The items of each command: which bytes are one, what is written for it, and how others are refused.
+-- The items of each command: which bytes are one, what is written for it, how others are refused.
 use Rattle.std.specs.Prelude.{◌≡◌, ℕ, List, [], ◌∷◌, ◌++◌, length, decimal, Option, Some}
 use Rattle.std.specs.List.{flat_map}
 use Rattle.cbor4ii_items.specs.Refusal.{Refusal}
@@ -19,14 +19,16 @@ use Rattle.cbor4ii_tool.specs.declared.fault.Kind.{Kind}
 abbrev pub steps : Option ℕ
 steps = Some 256
 
--- An item of the command begins the input, this text is written for it, and this rest stands behind it: of an integer
--- the head with the shortest argument, of a value its canonical spelling, and of an item that is skipped its length in
--- bytes, in decimal and with a newline.
+-- An item of the command begins the input, this text is written for it, and this rest stands
+-- behind it: of an integer the head with the shortest argument, of a value its canonical spelling,
+-- and of an item that is skipped its length in bytes, in decimal and with a newline.
 abbrev pub Converts : Command → List ℕ → List ℕ → List ℕ → Type 0
 Converts Ints input text rest =
-    (item : IntegerHead) × IsInteger item × (input ≡ spelling item ++ rest) × (text ≡ shortest_spelling item)
+    (item : IntegerHead) × IsInteger item × (input ≡ spelling item ++ rest)
+    × (text ≡ shortest_spelling item)
 Converts Canon input text rest = (v : Item) × Reads input steps v rest × (text ≡ canon v)
-Converts Lens input text rest = (t : Tree) × Skips input steps t rest × (text ≡ decimal (length (bytes t)) ++ 10 ∷ [])
+Converts Lens input text rest =
+    (t : Tree) × Skips input steps t rest × (text ≡ decimal (length (bytes t)) ++ 10 ∷ [])
 
 -- an item of the command begins the input
 abbrev pub BeginsItem : Command → List ℕ → Type 0

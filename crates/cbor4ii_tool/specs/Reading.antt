@@ -21,11 +21,13 @@ argument_of (Negative n) = n.0
 
 -- its head in this width
 abbrev pub in_width : Width → Integer → IntegerHead
-in_width width integer = record { major = major_of integer; argument = argument_of integer; width = width }
+in_width width integer =
+    record { major = major_of integer; argument = argument_of integer; width = width }
 
 -- its head in the least width that its argument has
 abbrev pub written_bytes : Integer → List ℕ
-written_bytes integer = head (major_of integer) (argument_of integer) (shortest (argument_of integer))
+written_bytes integer =
+    head (major_of integer) (argument_of integer) (shortest (argument_of integer))
 
 -- ---- reading
 

@@ -1,5 +1,5 @@
 //! Numbers in decimal.
-ghost use Rattle.std.specs.Prelude.{◌≡◌, ◌+◌, ◌≤◌, [], ◌∷◌, ◌++◌, length, drop, decimal, OnOk, OnErr};
+ghost use Rattle.std.specs.Prelude.{◌≡◌, ◌+◌, [], ◌∷◌, ◌++◌, length, drop, decimal, OnOk, OnErr};
 ghost use Rattle.cbor4ii_rw.specs.Reader.{Failed};
 ghost use Rattle.cbor4ii_rw.specs.Writer.{Appends};
 

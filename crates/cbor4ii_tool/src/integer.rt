@@ -37,7 +37,7 @@ pub enum Integer {
 /// Takes an integer, of any width that its argument has. A byte with which no integer begins is a
 /// `Mismatch`, and an end inside an integer is `Eof`; a reader that fails is `Read`. What was
 /// taken before a refusal is lost.
-#[tactic(auto, using(crate::proofs::Items::moves_leaves, crate::proofs::Items::shown_leaves, crate::proofs::Items::breaks_leaves))]
+#[tactic(auto, using(crate::proofs::Items::leaving))]
 pub fn read<S: Source>(alloc: Global, reader: &mut S) -> Result<Integer, Kind>
     ensures reads { IfOk result (λ integer.
         ReadsInteger integer (S.view reader.old) (S.view reader.new)) }

@@ -1,4 +1,5 @@
-use Rattle.std.proofs.Common.{◌≡◌, ℕ, ◌+◌, ◌-◌, ◌/◌, ◌%◌, ◌^◌, ◌<◌, ◌≤◌, length, decimal, refl, ap, ◌∙◌, arith, append_assoc, length-append}
+use Rattle.std.proofs.Common.{◌≡◌, ℕ, ◌+◌, ◌-◌, ◌/◌, ◌%◌, ◌^◌, ◌<◌, ◌≤◌, length, decimal, refl, ap}
+use Rattle.std.proofs.Common.{◌∙◌, arith, append_assoc, length-append}
 use Rattle.std.proofs.lemmas.Fmt.{decimal_digit, decimal_step, decimal_nonempty, length-decimal-le}
 use Rattle.std.proofs.lemmas.List.{drop-set, length-set}
 use Rattle.cbor4ii_tool.proofs.decimal.put_digits.Goals as goal
@@ -16,7 +17,8 @@ loop-left-init c = record {
 }
 
 pub overflow_sub-start : goal.overflow_sub-start
-overflow_sub-start c = let fits = c.loop-left.auto.left-fits.fits in omega (arith, decimal_nonempty c.loop-left.left fits)
+overflow_sub-start c = let fits =
+    c.loop-left.auto.left-fits.fits in omega (arith, decimal_nonempty c.loop-left.left fits)
 
 pub loop-left-preserved : goal.loop-left-preserved
 loop-left-preserved c =
@@ -29,18 +31,22 @@ loop-left-preserved c =
       inside = omega arith;
       long = length-set l.line (l.start - 1) (48 + l.left % 10) ∙ l.invariant.long;
       put = omega (arith, step, before);
-      digits = rw (drop-set l.line (l.start - 1) (48 + l.left % 10) (omega (arith, before)), before) (rw (decimal_step l.left c.loop-left-test.true fits, append_assoc) at l.invariant.digits);
+      digits = rw (drop-set l.line (l.start - 1) (48 + l.left % 10) (omega (arith, before)), before)
+          (rw (decimal_step l.left c.loop-left-test.true fits, append_assoc) at l.invariant.digits);
     }
 
 pub overflow_sub-start-2 : goal.overflow_sub-start-2
-overflow_sub-start-2 c = let fits = c.loop-left.auto.left-fits.fits in omega (arith, decimal_nonempty c.loop-left.left fits)
+overflow_sub-start-2 c = let fits =
+    c.loop-left.auto.left-fits.fits in omega (arith, decimal_nonempty c.loop-left.left fits)
 
 pub returns-clause-start : goal.returns-clause-start
-returns-clause-start c = omega (arith, ap length (decimal_digit c.loop-left.left c.loop-left-test.false))
+returns-clause-start c =
+    omega (arith, ap length (decimal_digit c.loop-left.left c.loop-left-test.false))
 
 pub returns-clause-digits : goal.returns-clause-digits
 returns-clause-digits c =
     let l = c.loop-left in
     let fits = l.auto.left-fits.fits in
     let before : l.start - 1 + 1 ≡ l.start = omega (arith, decimal_nonempty l.left fits) in
-    rw (drop-set l.line (l.start - 1) (48 + l.left) (omega (arith, before)), before) (rw (decimal_digit l.left c.loop-left-test.false) at l.invariant.digits)
+    rw (drop-set l.line (l.start - 1) (48 + l.left) (omega (arith, before)), before)
+    (rw (decimal_digit l.left c.loop-left-test.false) at l.invariant.digits)

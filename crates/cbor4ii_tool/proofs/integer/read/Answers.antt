@@ -6,35 +6,51 @@ use Rattle.cbor4ii_tool.proofs.integer.read.Goals as goal
 
 pub returns-in-Ok-clause-reads : goal.returns-in-Ok-clause-reads
 returns-in-Ok-clause-reads g c =
-    accepted (Negative c.in-Ok.number) _ _ _ _ _ c.in_ok-is_negative_next.ensures.shows c.in-Ok.ensures.moves (c.in-Ok.ensures.progress refl)
+    accepted (Negative c.in-Ok.number) _ _ _ _ _ c.in_ok-is_negative_next.ensures.shows
+    c.in-Ok.ensures.moves (c.in-Ok.ensures.progress refl)
     (λ xs told. let h = c.in-Ok.ensures.sound.at xs told in (h.count, h.read.0, h.left))
 
 pub returns-in-Ok-decode-clause-reads : goal.returns-in-Ok-decode-clause-reads
 returns-in-Ok-decode-clause-reads g c =
-    accepted (Unsigned c.in-Ok-decode.number) _ _ _ _ _ c.in_ok-is_negative_next.ensures.shows c.in-Ok-decode.ensures.moves (c.in-Ok-decode.ensures.progress refl)
+    accepted (Unsigned c.in-Ok-decode.number) _ _ _ _ _ c.in_ok-is_negative_next.ensures.shows
+    c.in-Ok-decode.ensures.moves (c.in-Ok-decode.ensures.progress refl)
     (λ xs told. let h = c.in-Ok-decode.ensures.sound.at xs told in (h.count, h.read.0, h.left))
 
 pub returns-in-Err-clause-refuses : goal.returns-in-Err-clause-refuses
 returns-in-Err-clause-refuses g c =
-    rw c.of.ensures (refused _ 1 c.in-Err.error _ _ _ _ (omega arith) (λ xs told. only_negative xs ((c.in_ok-is_negative_next.ensures.negative xs told).0 c.if-branch.true))
-    c.in_ok-is_negative_next.ensures.shows c.in-Err.ensures.moves c.in-Err.ensures.memory (c.in-Err.ensures.stops (inl refl)))
+    rw c.of.ensures (refused _ 1 c.in-Err.error _ _ _ _ (omega arith)
+    (λ xs told. only_negative xs
+    ((c.in_ok-is_negative_next.ensures.negative xs told).0 c.if-branch.true))
+    c.in_ok-is_negative_next.ensures.shows c.in-Err.ensures.moves c.in-Err.ensures.memory
+    (c.in-Err.ensures.stops (inl refl)))
 
 both : (t : Bool) → t ≡ true → t ≡ false → ⊥
 both t p q = cc
 
 pub returns-in-Err-decode-clause-refuses : goal.returns-in-Err-decode-clause-refuses
 returns-in-Err-decode-clause-refuses g c =
-    rw c.of-in-Err-decode.ensures (refused _ 0 c.in-Err-decode.error _ _ _ _ (omega arith) (λ xs told. only_unsigned xs (λ n. both _ ((c.in_ok-is_negative_next.ensures.negative xs told).1 n) c.if-branch.false))
-    c.in_ok-is_negative_next.ensures.shows c.in-Err-decode.ensures.moves c.in-Err-decode.ensures.memory (c.in-Err-decode.ensures.stops (inl refl)))
+    rw c.of-in-Err-decode.ensures
+    (refused _ 0 c.in-Err-decode.error _ _ _ _ (omega arith)
+    (λ xs told. only_unsigned xs
+    (λ n. both _ ((c.in_ok-is_negative_next.ensures.negative xs told).1 n) c.if-branch.false))
+    c.in_ok-is_negative_next.ensures.shows c.in-Err-decode.ensures.moves
+    c.in-Err-decode.ensures.memory (c.in-Err-decode.ensures.stops (inl refl)))
 
 pub returns-in-Ok-clause-kept : goal.returns-in-Ok-clause-kept
-returns-in-Ok-clause-kept g c = shown_kept _ _ _ _ c.in_ok-is_negative_next.ensures.shows c.in-Ok.ensures.moves.by
+returns-in-Ok-clause-kept g c =
+    shown_kept _ _ _ _ c.in_ok-is_negative_next.ensures.shows c.in-Ok.ensures.moves.by
 
 pub returns-in-Ok-decode-clause-kept : goal.returns-in-Ok-decode-clause-kept
-returns-in-Ok-decode-clause-kept g c = shown_kept _ _ _ _ c.in_ok-is_negative_next.ensures.shows c.in-Ok-decode.ensures.moves.by
+returns-in-Ok-decode-clause-kept g c =
+    shown_kept _ _ _ _ c.in_ok-is_negative_next.ensures.shows c.in-Ok-decode.ensures.moves.by
 
 pub returns-in-Err-clause-steady : goal.returns-in-Err-clause-steady
-returns-in-Err-clause-steady g c = rw c.of.ensures (is_steady c.in-Err.error _ _ _ _ c.in_ok-is_negative_next.ensures.shows c.in-Err.ensures.moves)
+returns-in-Err-clause-steady g c =
+    rw c.of.ensures (is_steady c.in-Err.error _ _ _ _ c.in_ok-is_negative_next.ensures.shows
+    c.in-Err.ensures.moves)
 
 pub returns-in-Err-decode-clause-steady : goal.returns-in-Err-decode-clause-steady
-returns-in-Err-decode-clause-steady g c = rw c.of-in-Err-decode.ensures (is_steady c.in-Err-decode.error _ _ _ _ c.in_ok-is_negative_next.ensures.shows c.in-Err-decode.ensures.moves)
+returns-in-Err-decode-clause-steady g c =
+    rw c.of-in-Err-decode.ensures
+    (is_steady c.in-Err-decode.error _ _ _ _ c.in_ok-is_negative_next.ensures.shows
+    c.in-Err-decode.ensures.moves)

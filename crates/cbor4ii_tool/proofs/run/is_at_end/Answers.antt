@@ -6,4 +6,8 @@ never : IsTrue false → ⊥
 never t = cc
 
 pub returns-in-Some-clause-end : goal.returns-in-Some-clause-end
-returns-in-Some-clause-end g c xs told = (λ t. absurd (never t), λ none. absurd (not_end _ xs (c.in-Some.ensures.front xs told) c.in-Some.len_at_least none))
+returns-in-Some-clause-end g c xs told = (
+  λ t. absurd (never t),
+  λ none.
+      absurd (not_end _ xs (c.in-Some.ensures.front xs told) c.in-Some.len_at_least none),
+)

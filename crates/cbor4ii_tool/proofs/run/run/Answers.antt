@@ -1,7 +1,8 @@
 use Rattle.std.proofs.Common.{◌∙◌}
 use Rattle.cbor4ii_rw.specs.Written.{stream_output, is_flushed}
 use Rattle.cbor4ii_tool.proofs.Complete.{complete}
-use Rattle.cbor4ii_tool.proofs.Finish.{finished_run, finished_ok, finished_memory, finished_blames, finished_hands}
+use Rattle.cbor4ii_tool.proofs.Finish.{finished_run, finished_ok, finished_memory, finished_blames}
+use Rattle.cbor4ii_tool.proofs.Finish.{finished_hands}
 use Rattle.cbor4ii_tool.proofs.run.run.Goals as goal
 
 pub returns : goal.returns
@@ -11,7 +12,8 @@ returns g c =
     let answer = c.finish.result in
     let held = stream_output g.W.Write.contents c.convert_items-outcome.new.writer in
     let finishes = c.finish.ensures.finishes in
-    let runs = finished_run c.args.command _ _ _ _ outcome answer _ _ _ _ _ items.runs items.all c.taken.ensures.taken c.finish.ensures.keeps finishes in
+    let runs = finished_run c.args.command _ _ _ _ outcome answer _ _ _ _ _ items.runs items.all
+    c.taken.ensures.taken c.finish.ensures.keeps finishes in
     record {
       runs = runs;
       complete = complete c.args.command _ _ _ answer runs;
@@ -20,5 +22,6 @@ returns g c =
       left = items.leaves.rest;
       steps = items.leaves.budget ∙ c.requires.budget;
       blames = finished_blames outcome answer _ _ _ _ _ held _ items.failures finishes;
-      flushed = finished_hands outcome answer _ (is_flushed c.finish.new.writer) _ _ _ held _ items.failures finishes;
+      flushed = finished_hands outcome answer _ (is_flushed c.finish.new.writer) _ _ _ held _
+          items.failures finishes;
     }
