@@ -1,16 +1,15 @@
-use Rattle.std.proofs.Common.{inl, refl}
 use Rattle.cbor4ii_tool.proofs.Items.{value_fails, value_done, value_unwritten}
 use Rattle.cbor4ii_tool.proofs.item.value.Goals as goal
 
 pub returns-in-Err-clause-fails : goal.returns-in-Err-clause-fails
 returns-in-Err-clause-fails g c =
     rw c.of.ensures (value_fails c.in-Err.error _ _ _ c.requires c.in-Err.ensures.moves
-    (c.in-Err.ensures.stops (inl refl)) c.in-Err.ensures.all)
+    c.in-Err.ensures.stops c.in-Err.ensures.all)
 
 pub returns-in-Ok-encode-clause-done : goal.returns-in-Ok-encode-clause-done
 returns-in-Ok-encode-clause-done g c =
     value_done c.in-Ok.item _ _ _ _ c.requires c.in-Ok.ensures.moves.by
-    (c.in-Ok.ensures.progress refl) c.in-Ok.ensures.only c.in-Ok-encode.ensures.writes.appends
+    c.in-Ok.ensures.progress c.in-Ok.ensures.only c.in-Ok-encode.ensures.writes.appends
     c.in-Ok-encode.ensures.writes.counts
 
 pub returns-clause-fails : goal.returns-clause-fails
