@@ -1,7 +1,7 @@
 -- One item of a command.
 use Rattle.std.proofs.Common.{◌≡◌, ◌≢◌, ℕ, ◌+◌, ◌-◌, ◌≤◌, List, [], ◌∷◌, ◌++◌, length, drop}
-use Rattle.std.proofs.Common.{decimal, Option, Some, Result, Ok, Err, IsTrue, false, OnOk, IfSome}
-use Rattle.std.proofs.Common.{refl, sym, ap, ◌∙◌, subst, arith, append_assoc, length-append}
+use Rattle.std.proofs.Common.{decimal, Option, Some, Result, Ok, Err, IsTrue, false, IfSome}
+use Rattle.std.proofs.Common.{refl, sym, ap, ◌∙◌, subst, arith, length-append}
 use Rattle.cbor4ii_rw.specs.View.{View, Told}
 use Rattle.cbor4ii_rw.specs.Reader.{IsFront, Shows, Breaks, Failed, counts}
 use Rattle.cbor4ii_rw.specs.Writer.{Output, Appends}

@@ -1,30 +1,18 @@
 -- The loop over the items of a command.
-use Rattle.std.proofs.Common.{◌≡◌, ◌≢◌, ℕ, ◌+◌, ◌-◌, ◌≤◌, ◌⊎◌, inl, inr, List, [], ◌∷◌, ◌++◌}
-use Rattle.std.proofs.Common.{length, drop, decimal, Bool, is_ok, IsTrue, ◌^◌, OnOk, OnErr, IfErr}
-use Rattle.std.proofs.Common.{Option, Some, Result, Ok, Err, true, false, refl, sym, ap, ◌∙◌, subst}
+use Rattle.std.proofs.Common.{◌≡◌, ◌≢◌, ℕ, ◌+◌, List, [], ◌∷◌, ◌++◌}
+use Rattle.std.proofs.Common.{length, drop, Bool, IsTrue}
+use Rattle.std.proofs.Common.{Option, Some, Ok, Err, true, false, refl, sym, ap, ◌∙◌, subst}
 use Rattle.std.proofs.Common.{arith, append_assoc, append-nil}
-use Rattle.cbor4ii_items.specs.Head.{head, shortest}
-use Rattle.cbor4ii_tree.specs.Tree.{Tree, bytes}
-use Rattle.cbor4ii_tree.specs.Meaning.{value}
-use Rattle.cbor4ii_tree.specs.Canonical.{canon}
-use Rattle.cbor4ii_tree.specs.IgnoredLaws.{one_spelling}
-use Rattle.cbor4ii_tree.specs.head_laws.Initials.{length-bytes-pos}
-use Rattle.cbor4ii_tool.specs.Integer.{IntegerHead, shortest_spelling}
-use Rattle.cbor4ii_tool.proofs.Integers.{one_head}
-use Rattle.std.proofs.lemmas.Bool.{cases_lt}
 use Rattle.std.proofs.lemmas.Grind.{flat_map-append}
 use Rattle.std.proofs.lemmas.List.{drop-drop, length-drop}
 use Rattle.cbor4ii_rw.specs.View.{View, Told}
-use Rattle.cbor4ii_rw.specs.Reader.{Shows, Failed, Keeps, counts}
-use Rattle.cbor4ii_rw.specs.Writer.{Output, Appends, one_more}
-use Rattle.cbor4ii_tool.specs.Item.{Converts, BeginsItem, IsRow, together}
+use Rattle.cbor4ii_rw.specs.Reader.{Shows, Failed, counts}
+use Rattle.cbor4ii_rw.specs.Writer.{Output, Appends}
+use Rattle.cbor4ii_tool.specs.Item.{Converts, IsRow, together}
 use Rattle.cbor4ii_tool.specs.Run.{FaultAt, Runs, WantsMemory}
-use Rattle.cbor4ii_tool.specs.Steps.{Leaves, Done, Fails, MovesFailures, FailsAt, Ran}
-use Rattle.cbor4ii_tool.specs.Fault.{Outcome}
+use Rattle.cbor4ii_tool.specs.Steps.{Leaves, Done, Fails, MovesFailures, Ran}
 use Rattle.cbor4ii_tool.proofs.Items.{same_bytes}
 use Rattle.cbor4ii_tool.specs.declared.command.Command.{Command}
-use Rattle.cbor4ii_tool.specs.declared.command.Command.TheVariants.{Ints, Canon, Lens}
-use Rattle.cbor4ii_tool.specs.declared.fault.Fault.{Fault}
 use Rattle.cbor4ii_tool.specs.declared.fault.Kind.{Kind}
 use Rattle.cbor4ii_tool.specs.declared.fault.Kind.TheVariants.{Read, OutOfMemory, Write}
 
