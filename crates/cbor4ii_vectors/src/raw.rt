@@ -3,7 +3,7 @@ use crate::item_rows::reads_next;
 use crate::literal::Literal::{Integer, Null};
 use crate::readers::{LongByByte, ShortByByte, Unlimited};
 use crate::refusal_texts::{eof, no_step, require_borrowed};
-use crate::rows::{Want, leaves, lends, reads_over, steps, writes_in};
+use crate::rows::{Want, leaves, lends, lends_short, reads_over, steps, writes_in};
 use crate::skipping::ITEMS;
 use cbor4ii_items::decode::Decode;
 use cbor4ii_items::types::Map;
@@ -102,10 +102,21 @@ fn fronts_of_items(rt: HostRuntime) {
     }
 }
 
+// Also with a fault at each fill.
 #[test]
-fn refused_items(rt: HostRuntime) -> Result<(), Fail> {
+fn faults_and_refusals(rt: HostRuntime) -> Result<(), Fail> {
     let alloc = rt.alloc();
+    let item = RawValue::decode(alloc, &mut SliceReader::new(b"\x82\x01\x02"))?;
+    lends(&rt, alloc, b"\x82\x01\x02\x03", Ok(item), b"\x03")?;
     lends::<RawValue>(&rt, alloc, b"\x82\x01", Err(CUT_OFF), b"\x82\x01")?;
+    lends::<RawValue>(&rt, alloc, b"", Err(CUT_OFF), b"")?;
+    lends_short::<RawValue>(&rt, alloc, b"\x00", Err(NOT_LENT), b"\x00")?;
+    lends_short::<RawValue>(&rt, alloc, b"", Err(CUT_OFF), b"")
+}
+
+#[test]
+fn one_byte_at_a_time(rt: HostRuntime) -> Result<(), Fail> {
+    let alloc = rt.alloc();
     let want: Want<RawValue> = Err(CUT_OFF);
     let bytes = b"\x82\x01\x02";
     reads_over(
@@ -117,15 +128,6 @@ fn refused_items(rt: HostRuntime) -> Result<(), Fail> {
         bytes,
     )?;
     reads_over(&rt, alloc, &mut LongByByte::new(b"", 256), b"", &want, b"")?;
-    reads_over(&rt, alloc, &mut ShortByByte::new(b"", 256), b"", &want, b"")?;
-    reads_over(
-        &rt,
-        alloc,
-        &mut IoReader::new(b"".as_slice()),
-        b"",
-        &want,
-        b"",
-    )?;
     let want: Want<RawValue> = Err(NO_STEP);
     reads_over(
         &rt,
@@ -141,22 +143,6 @@ fn refused_items(rt: HostRuntime) -> Result<(), Fail> {
         &rt,
         alloc,
         &mut ShortByByte::new(b"\x00", 0),
-        b"\x00",
-        &want,
-        b"\x00",
-    )?;
-    reads_over(
-        &rt,
-        alloc,
-        &mut ShortByByte::new(b"\x00", 256),
-        b"\x00",
-        &want,
-        b"\x00",
-    )?;
-    reads_over(
-        &rt,
-        alloc,
-        &mut IoReader::new(b"\x00".as_slice()),
         b"\x00",
         &want,
         b"\x00",
