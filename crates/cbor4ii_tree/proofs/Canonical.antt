@@ -3,7 +3,7 @@ use Rattle.std.proofs.Common.{◌≡◌, ℕ, zero, suc, ◌^◌, ◌<◌, ◌�
 use Rattle.std.specs.Int.{bytes_high_first}
 use Rattle.cbor4ii_items.specs.Head.{Width, HeadFits, shortest}
 use Rattle.cbor4ii_items.specs.Initial.{Sign, unsigned, negative, Kind, byte_string, text_string, simple_false, simple_true, simple_null, simple_undefined}
-use Rattle.cbor4ii_tree.specs.Tree.{Tree, int, string, chunked, array, array_open, map_of, map_open, tagged, simple, bits, Trees, no_trees, tree, Pairs, no_pairs, pair, joined, count, pair_count, Loose, LooseAll, LoosePairs, Sound, SoundAll, SoundPairs}
+use Rattle.cbor4ii_tree.specs.Tree.{Tree, int, string, chunked, array, array_open, map_of, map_open, tagged, simple, bits, Trees, no_trees, tree, Pairs, no_pairs, pair, joined, count, pair_count, Loose, LooseAll, LoosePairs, SoundStrings, SoundStringsAll, SoundStringsPairs}
 use Rattle.cbor4ii_tree.specs.Item.{Item, null, boolean, integer, float, bytes_item, text, sequence, mapping, tag, Items, no_items, item, Members, no_members, member, item_count, member_count, IsItem, AreItems, AreMembers}
 use Rattle.cbor4ii_tree.specs.Meaning.{value, values, member_values, number, content_item}
 use Rattle.cbor4ii_tree.specs.Cost.{cost}
@@ -34,8 +34,8 @@ loose_integer : (s : Sign) (n : ℕ) → Loose (integer_tree s n)
 loose_integer unsigned n = if_cases Loose (ltb n (2 ^ 64)) _ _ (λ e. shortest_fits n (ltb-true n (2 ^ 64) e)) (λ e. (omega arith, shortest_fits (length (magnitude n)) (length-magnitude n)))
 loose_integer negative n = if_cases Loose (ltb n (2 ^ 64)) _ _ (λ e. shortest_fits n (ltb-true n (2 ^ 64) e)) (λ e. (omega arith, shortest_fits (length (magnitude n)) (length-magnitude n)))
 
-sound_integer : (s : Sign) (n : ℕ) → Sound (integer_tree s n)
-sound_integer s n = if_cases Sound (ltb n (2 ^ 64)) _ _ (λ e. tt) (λ e. tt)
+sound_integer : (s : Sign) (n : ℕ) → SoundStrings (integer_tree s n)
+sound_integer s n = if_cases SoundStrings (ltb n (2 ^ 64)) _ _ (λ e. tt) (λ e. tt)
 
 pub count-canon : (vs : Items) → count (canon_trees vs) ≡ item_count vs
 count-canon no_items = refl
@@ -70,7 +70,7 @@ mutual
   loose_canon_pairs (member k v ms) h = (loose_canon k h.0, loose_canon v h.1, loose_canon_pairs ms h.2)
 
 mutual
-  sound_canon : (v : Item) → IsItem v → Sound (canon_tree v)
+  sound_canon : (v : Item) → IsItem v → SoundStrings (canon_tree v)
   sound_canon null h = tt
   sound_canon (boolean b) h = tt
   sound_canon (integer (pos n)) h = sound_integer unsigned n
@@ -82,11 +82,11 @@ mutual
   sound_canon (mapping ms) h = sound_canon_pairs ms h.1
   sound_canon (tag n v) h = sound_canon v h.1
 
-  sound_canon_all : (vs : Items) → AreItems vs → SoundAll (canon_trees vs)
+  sound_canon_all : (vs : Items) → AreItems vs → SoundStringsAll (canon_trees vs)
   sound_canon_all no_items h = tt
   sound_canon_all (item v vs) h = (sound_canon v h.0, sound_canon_all vs h.1)
 
-  sound_canon_pairs : (ms : Members) → AreMembers ms → SoundPairs (canon_pairs ms)
+  sound_canon_pairs : (ms : Members) → AreMembers ms → SoundStringsPairs (canon_pairs ms)
   sound_canon_pairs no_members h = tt
   sound_canon_pairs (member k v ms) h = (sound_canon k h.0, sound_canon v h.1, sound_canon_pairs ms h.2)
 

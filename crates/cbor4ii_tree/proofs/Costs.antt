@@ -2,7 +2,7 @@
 use Rattle.std.proofs.Common.{ℕ, ◌+◌, ◌^◌, ◌<◌, ◌≤◌, arith, lt-ltb}
 use Rattle.cbor4ii_items.specs.Head.{Width, in_first, one, two, four, eight, HeadFits}
 use Rattle.cbor4ii_items.specs.Initial.{Sign, unsigned, negative, Kind, byte_string, text_string, simple_false, simple_true, simple_null, simple_undefined}
-use Rattle.cbor4ii_tree.specs.Tree.{Tree, int, string, chunked, array, array_open, map_of, map_open, tagged, simple, bits, Trees, no_trees, tree, Pairs, no_pairs, pair, Loose, LooseAll, LoosePairs, IsChunk, AreChunks, Sound, SoundAll, SoundPairs, joined}
+use Rattle.cbor4ii_tree.specs.Tree.{Tree, int, string, chunked, array, array_open, map_of, map_open, tagged, simple, bits, Trees, no_trees, tree, Pairs, no_pairs, pair, Loose, LooseAll, LoosePairs, IsChunk, AreChunks, SoundStrings, SoundStringsAll, SoundStringsPairs, joined}
 use Rattle.cbor4ii_tree.specs.Meaning.{value, values, member_values, content_item}
 use Rattle.cbor4ii_tree.specs.Cost.{cost, chunks_cost, greatest_cost, greatest_pair_cost, skip_cost, greatest_skip_cost, greatest_pair_skip_cost}
 use Rattle.cbor4ii_tree.specs.Canonical.{canon_tree, canon_trees, canon_pairs, integer_tree}
@@ -20,7 +20,7 @@ skip_cost-chunked k no_trees h = omega arith
 skip_cost-chunked k (tree t ts) h = omega (arith, skip_cost-chunks k (tree t ts) h)
 
 mutual
-  pub skip_cost-le : (t : Tree) → Sound t → skip_cost t ≤ cost t
+  pub skip_cost-le : (t : Tree) → SoundStrings t → skip_cost t ≤ cost t
   skip_cost-le (int s n w) h = omega arith
   skip_cost-le (string k w content) h = omega arith
   skip_cost-le (chunked k ts) h = skip_cost-chunked k ts h.0
@@ -32,11 +32,11 @@ mutual
   skip_cost-le (simple s) h = omega arith
   skip_cost-le (bits p n) h = omega arith
 
-  skip_cost-le_all : (ts : Trees) → SoundAll ts → greatest_skip_cost ts ≤ greatest_cost ts
+  skip_cost-le_all : (ts : Trees) → SoundStringsAll ts → greatest_skip_cost ts ≤ greatest_cost ts
   skip_cost-le_all no_trees h = omega arith
   skip_cost-le_all (tree t ts) h = omega (arith, skip_cost-le t h.0, skip_cost-le_all ts h.1)
 
-  skip_cost-le_pairs : (ps : Pairs) → SoundPairs ps → greatest_pair_skip_cost ps ≤ greatest_pair_cost ps
+  skip_cost-le_pairs : (ps : Pairs) → SoundStringsPairs ps → greatest_pair_skip_cost ps ≤ greatest_pair_cost ps
   skip_cost-le_pairs no_pairs h = omega arith
   skip_cost-le_pairs (pair k v ps) h = omega (arith, skip_cost-le k h.0, skip_cost-le v h.1, skip_cost-le_pairs ps h.2)
 

@@ -8,7 +8,7 @@ use Rattle.cbor4ii_rw.specs.Reference.{bytes_of, IsLong}
 use Rattle.std.proofs.lemmas.List.{length-drop, take_all}
 use Rattle.std.proofs.Math.Seq.{drop-append_seam}
 use Rattle.cbor4ii_rw.specs.View.{View, Told}
-use Rattle.cbor4ii_rw.specs.Reader.{Shows, Breaks, Advances, IsFront, KeepsAllButBudget, Keeps, KeepsOrForgets}
+use Rattle.cbor4ii_rw.specs.Reader.{Shows, Breaks, Advances, IsFront, KeepsAllButBudget, Keeps}
 use Rattle.cbor4ii_rw.specs.declared.error.DecodeError.{DecodeError}
 use Rattle.cbor4ii_items.specs.Moves.{Kept, Broke, Moves}
 use Rattle.cbor4ii_items.specs.Decoding.{CostFits, IsExact, Sound, NoneRead, Refuses, Stops}
@@ -30,7 +30,7 @@ use Rattle.cbor4ii_tree.specs.head_laws.Initials.{length-bytes-pos}
 use Rattle.cbor4ii_tree.proofs.skipping.Answer.{not_both, skip_from_Stops}
 use Rattle.cbor4ii_tree.specs.Skip.{skip}
 use Rattle.cbor4ii_tree.specs.Promises.{Answered, Refused}
-use Rattle.cbor4ii_tree.specs.Raw.{ReadsRaw, StopsRaw, BeginsRaw, RefusedFront, Unmoved, raw_value, most, LendsFront, ShowsShort, SkipsFront, StopsFront, Captured, NotCaptured, failed, not_lent, stopped, Captures}
+use Rattle.cbor4ii_tree.specs.Raw.{ReadsRaw, StopsRaw, BeginsRaw, RefusedFront, Unmoved, LeftAsTheyWere, raw_value, most, LendsFront, ShowsShort, SkipsFront, StopsFront, Captured, NotCaptured, failed, not_lent, stopped, Captures}
 
 -- ---- skipping in bytes that are lent
 
@@ -167,9 +167,9 @@ module _ {V E : Type 0} (content : V → List ℕ) (a b : View) where
 
   pub raw_unmoved : (r : Result V (DecodeError E)) → Captures content a b r → IfErr r (Unmoved a b)
   raw_unmoved (Ok v) c = tt
-  raw_unmoved (Err e) (failed p read none memory depth) = (subst (λ u. MatchBool u (KeepsOrForgets a.told b.told) (Keeps a.told b.told)) (sym read) p.told, p.taken)
-  raw_unmoved (Err e) (not_lent p read says memory depth) = (subst (λ u. MatchBool u (KeepsOrForgets a.told b.told) (Keeps a.told b.told)) (sym read) p.shows.told, p.shows.taken)
-  raw_unmoved (Err e) (stopped shown l s) = (subst (λ u. MatchBool u (KeepsOrForgets a.told b.told) (Keeps a.told b.told)) (sym s.read) l.shows.told, l.shows.taken)
+  raw_unmoved (Err e) (failed p read none memory depth) = (subst (λ u. MatchBool u (LeftAsTheyWere a b) (Keeps a.told b.told)) (sym read) (p.told, p.kept), p.taken)
+  raw_unmoved (Err e) (not_lent p read named memory depth) = (subst (λ u. MatchBool u (LeftAsTheyWere a b) (Keeps a.told b.told)) (sym read) p.shows.told, p.shows.taken)
+  raw_unmoved (Err e) (stopped shown l s) = (subst (λ u. MatchBool u (LeftAsTheyWere a b) (Keeps a.told b.told)) (sym s.read) l.shows.told, l.shows.taken)
 
   pub raw_refused : (r : Result V (DecodeError E)) → Captures content a b r → Told a.told (λ xs. Refused (RefusedFront a xs) r)
   raw_refused (Ok v) c = λ xs told. tt

@@ -3,7 +3,7 @@ use Rattle.std.proofs.Common.{◌≡◌, ℕ, suc, ◌+◌, ◌^◌, ◌<◌, �
 use Rattle.std.specs.Int.{bytes_high_first}
 use Rattle.cbor4ii_items.specs.Head.{byte_count, break}
 use Rattle.cbor4ii_items.specs.Initial.{Sign, unsigned, negative, Kind, byte_string, text_string, simple_false, simple_true, simple_null, simple_undefined}
-use Rattle.cbor4ii_tree.specs.Tree.{Tree, int, string, chunked, array, array_open, map_of, map_open, tagged, simple, bits, Trees, no_trees, tree, Pairs, no_pairs, pair, count, pair_count, bytes, bytes_all, bytes_pairs, joined, Loose, LooseAll, LoosePairs, Sound, SoundAll, SoundPairs, TextIsUtf8}
+use Rattle.cbor4ii_tree.specs.Tree.{Tree, int, string, chunked, array, array_open, map_of, map_open, tagged, simple, bits, Trees, no_trees, tree, Pairs, no_pairs, pair, count, pair_count, bytes, bytes_all, bytes_pairs, joined, Loose, LooseAll, LoosePairs, SoundStrings, SoundStringsAll, SoundStringsPairs, TextIsUtf8}
 use Rattle.cbor4ii_tree.specs.Item.{Item, integer, item_count, member_count, IsItem, AreItems, AreMembers, size, size_all, size_members}
 use Rattle.cbor4ii_tree.specs.Meaning.{value, values, member_values, content_item, number}
 use Rattle.cbor4ii_tree.specs.Spelling.{Spells}
@@ -73,7 +73,7 @@ pair_count-le (pair k v ps) =
     omega (arith, length-append (bytes k) (bytes v ++ bytes_pairs ps), length-append (bytes v) (bytes_pairs ps), length-bytes-pos k, pair_count-le ps)
 
 mutual
-  pub IsItem-value : (t : Tree) → Loose t → Sound t → length (bytes t) < 2 ^ 64 → IsItem (value t)
+  pub IsItem-value : (t : Tree) → Loose t → SoundStrings t → length (bytes t) < 2 ^ 64 → IsItem (value t)
   IsItem-value (int s n w) l s' lt = integer-value s n (below_from_HeadFits w n l)
   IsItem-value (string k w content) l s lt = content-value k content s (below_from_HeadFits w (length content) l)
   IsItem-value (chunked k ts) l s lt = content-value k (joined ts) s.1 (omega (arith, length-joined ts, length-append (bytes_all ts) (break ∷ [])))
@@ -94,11 +94,11 @@ mutual
   IsItem-value (simple simple_undefined) l s lt = tt
   IsItem-value (bits p n) l s lt = l
 
-  AreItems-values : (ts : Trees) → LooseAll ts → SoundAll ts → length (bytes_all ts) < 2 ^ 64 → AreItems (values ts)
+  AreItems-values : (ts : Trees) → LooseAll ts → SoundStringsAll ts → length (bytes_all ts) < 2 ^ 64 → AreItems (values ts)
   AreItems-values no_trees l s lt = tt
   AreItems-values (tree t ts) l s lt = (IsItem-value t l.0 s.0 (omega (arith, length-append (bytes t) (bytes_all ts))), AreItems-values ts l.1 s.1 (omega (arith, length-append (bytes t) (bytes_all ts))))
 
-  AreMembers-values : (ps : Pairs) → LoosePairs ps → SoundPairs ps → length (bytes_pairs ps) < 2 ^ 64 → AreMembers (member_values ps)
+  AreMembers-values : (ps : Pairs) → LoosePairs ps → SoundStringsPairs ps → length (bytes_pairs ps) < 2 ^ 64 → AreMembers (member_values ps)
   AreMembers-values no_pairs l s lt = tt
   AreMembers-values (pair k v ps) l s lt =
       let all = length-append (bytes k) (bytes v ++ bytes_pairs ps) in

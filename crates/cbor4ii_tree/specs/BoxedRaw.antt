@@ -1,5 +1,6 @@
 -- Items that are kept as a copy of their bytes.
-use Rattle.std.specs.Prelude.{◌≡◌, ℕ, ◌+◌, ◌≤◌, ◌⊎◌, List, Some, Result, Ok, Err, true, false, IsTrue, IfOk, IfErr, OnOk}
+use Rattle.std.specs.Prelude.{◌≡◌, ℕ, ◌+◌, ◌≤◌, ◌⊎◌, List, Some, Result, Ok, Err}
+use Rattle.std.specs.Prelude.{true, false, IsTrue, IfOk, IfErr, OnOk}
 use Rattle.cbor4ii_rw.specs.View.{View, Told}
 use Rattle.cbor4ii_rw.specs.declared.error.DecodeError.{DecodeError}
 use Rattle.cbor4ii_rw.specs.declared.error.DecodeError.TheVariants.{OutOfMemory}
@@ -9,7 +10,8 @@ use Rattle.cbor4ii_items.specs.Refusal.{is_out_of_memory}
 use Rattle.cbor4ii_tree.specs.declared.boxed_raw.BoxedRawValue.{BoxedRawValue}
 use Rattle.cbor4ii_tree.specs.Tree.{Tree}
 use Rattle.cbor4ii_tree.specs.Spelling.{Skips}
-use Rattle.cbor4ii_tree.specs.Raw.{ReadsRaw, StopsRaw, BeginsRaw, Unmoved, RefusesFront, TakesItem, StopsAsSkipping, Captured, NotCaptured}
+use Rattle.cbor4ii_tree.specs.Raw.{ReadsRaw, StopsRaw, BeginsRaw, Unmoved, RefusesFront}
+use Rattle.cbor4ii_tree.specs.Raw.{TakesItem, StopsAsSkipping, Captured, NotCaptured}
 
 abbrev pub boxed_content : BoxedRawValue → List ℕ
 boxed_content v = v.0.items
@@ -20,7 +22,8 @@ pub record LacksRoom {E : Type 0} (old new : View) (e : DecodeError E) : Type 0 
   pub item : List ℕ
   pub captured : Captured (λ (bytes : List ℕ). bytes) old new item
 
-abbrev pub CapturesCopy : {E : Type 0} → View → View → Result BoxedRawValue (DecodeError E) → Type 0
+abbrev pub CapturesCopy : {E : Type 0} → View → View →
+    Result BoxedRawValue (DecodeError E) → Type 0
 CapturesCopy old new (Ok v) = Captured boxed_content old new v
 CapturesCopy old new (Err e) = NotCaptured old new e ⊎ LacksRoom old new e
 
@@ -30,10 +33,12 @@ UnmovedOrLacks old new e = IsTrue (is_out_of_memory e) ⊎ Unmoved old new e
 
 -- the item that skipping takes was taken
 abbrev pub SkippedTo : View → View → List ℕ → Type 0
-SkippedTo old new xs = (t : Tree) × (rest : List ℕ) × Skips xs old.budget t rest × (new.told ≡ Some rest)
+SkippedTo old new xs =
+    (t : Tree) × (rest : List ℕ) × Skips xs old.budget t rest × (new.told ≡ Some rest)
 
 -- What reading an item as a copy of its bytes promises.
-pub record CopiesItem {E : Type 0} (old new : View) (answer : Result BoxedRawValue (DecodeError E)) : Type 0 where
+pub record CopiesItem {E : Type 0} (old new : View)
+    (answer : Result BoxedRawValue (DecodeError E)) : Type 0 where
   -- over any reader
   pub moves : Moves old new answer
   pub progress : OnOk answer (new.bound + 1 ≤ old.bound)
@@ -43,7 +48,8 @@ pub record CopiesItem {E : Type 0} (old new : View) (answer : Result BoxedRawVal
   pub unmoved : IfErr answer (UnmovedOrLacks old new)
   pub refuses : RefusesFront old answer
   -- want of memory comes behind the item
-  pub behind : IfErr answer (λ error. IsTrue (is_out_of_memory error) → Told old.told (SkippedTo old new))
+  pub behind : IfErr answer (λ error. IsTrue (is_out_of_memory error) →
+      Told old.told (SkippedTo old new))
   -- over a reader that lends whole: exactly as skipping takes an item, or stops
   pub complete : IsExact false old → IfErr answer (Refuses (ReadsRaw boxed_content) old)
   pub stops : IsExact false old → IfErr answer (Stops StopsRaw old new)

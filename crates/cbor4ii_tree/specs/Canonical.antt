@@ -1,6 +1,7 @@
--- The canonical spelling of a value, the one that encoders write: shortest heads, lengths given, null for null and
--- floats in their own width (preferred serialization, RFC 8949 section 4.1), and bignums for integers beyond 64 bits.
--- Map keys keep their order, so it is not the whole of section 4.2.
+-- The canonical spelling of a value, the one that encoders write: shortest heads, lengths given,
+-- null for null and floats in their own width (preferred serialization, RFC 8949 section 4.1),
+-- and bignums for integers beyond 64 bits. Map keys keep their order, so it is not the whole of
+-- section 4.2.
 use Rattle.std.specs.Prelude.{ℕ, ◌^◌, List, length, Bool, true, false, nat_lt, if◌then◌else◌, pos, negsuc}
 use Rattle.cbor4ii_items.specs.Head.{shortest}
 pub use Rattle.cbor4ii_items.specs.Magnitude.{without_leading_zeros, magnitude}
@@ -13,9 +14,11 @@ abbrev pub sign_tag : Sign → ℕ
 sign_tag unsigned = 2
 sign_tag negative = 3
 
--- a bignum: tag 2 over the bytes of n, or tag 3 over those of n for the integer -1 - n (section 3.4.3)
+-- a bignum: tag 2 over the bytes of n, or tag 3 over those of n for the integer -1 - n (section
+-- 3.4.3)
 abbrev pub bignum : Sign → ℕ → Tree
-bignum s n = tagged (sign_tag s) (shortest (sign_tag s)) (string byte_string (shortest (length (magnitude n))) (magnitude n))
+bignum s n = tagged (sign_tag s) (shortest (sign_tag s))
+    (string byte_string (shortest (length (magnitude n))) (magnitude n))
 
 -- the shortest head, where the argument has one
 abbrev pub integer_tree : Sign → ℕ → Tree
@@ -52,9 +55,11 @@ canon v = bytes (canon_tree v)
 abbrev pub canon_cost : Item → ℕ
 canon_cost v = cost (canon_tree v)
 
--- The value with each integer that has no head as the bignum that it is written as: what reading it back gives.
+-- The value with each integer that has no head as the bignum that it is written as: what reading
+-- it back gives.
 abbrev pub tagged_integer : Sign → ℕ → Item → Item
-tagged_integer s n small = if nat_lt n (2 ^ 64) then small else tag (sign_tag s) (bytes_item (magnitude n))
+tagged_integer s n small =
+    if nat_lt n (2 ^ 64) then small else tag (sign_tag s) (bytes_item (magnitude n))
 
 abbrev mutual
   pub with_bignums : Item → Item
@@ -75,4 +80,5 @@ abbrev mutual
 
   pub with_bignums_members : Members → Members
   with_bignums_members no_members = no_members
-  with_bignums_members (member k v ms) = member (with_bignums k) (with_bignums v) (with_bignums_members ms)
+  with_bignums_members (member k v ms) =
+      member (with_bignums k) (with_bignums v) (with_bignums_members ms)

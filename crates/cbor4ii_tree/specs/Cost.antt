@@ -17,8 +17,8 @@ abbrev pub chunks_cost : Trees → ℕ
 chunks_cost no_trees = 1
 chunks_cost (tree t ts) = 2
 
--- The cost of a tree: steps that reading it as a value takes at its deepest place. An array or a map takes two, one
--- as a value and one as a sequence of values.
+-- The cost of a tree: steps that reading it as a value takes at its deepest place. An array or a
+-- map takes two, one as a value and one as a sequence of values.
 abbrev mutual
   pub cost : Tree → ℕ
   cost (int s n w) = 1
@@ -60,4 +60,5 @@ abbrev mutual
 
   pub greatest_pair_skip_cost : Pairs → ℕ
   greatest_pair_skip_cost no_pairs = 0
-  greatest_pair_skip_cost (pair k v ps) = max (max (skip_cost k) (skip_cost v)) (greatest_pair_skip_cost ps)
+  greatest_pair_skip_cost (pair k v ps) =
+      max (max (skip_cost k) (skip_cost v)) (greatest_pair_skip_cost ps)

@@ -1,5 +1,6 @@
--- Values: what an encoded data item means, in the generic data model of RFC 8949 section 2. Null and undefined are one,
--- a float is its bits with their width, and a map is its pairs in order, equal keys kept.
+-- Values: what an encoded data item means, in the generic data model of RFC 8949 section 2. Null
+-- and undefined are one, a float is its bits with their width, and a map is its pairs in order,
+-- equal keys kept.
 use Rattle.std.specs.Prelude.{ℕ, suc, ◌+◌, ◌^◌, ◌<◌, ℤ, pos, negsuc, List, Bool, length, IsUtf8}
 use Rattle.cbor4ii_items.specs.Initial.{Precision, precision_bytes}
 
@@ -31,7 +32,8 @@ abbrev pub member_count : Members → ℕ
 member_count no_members = 0
 member_count (member k v ms) = suc (member_count ms)
 
--- The size of a value: how many values stand in it, itself counted, and the length of its texts and byte strings.
+-- The size of a value: how many values stand in it, itself counted, and the length of its texts
+-- and byte strings.
 abbrev mutual
   pub size : Item → ℕ
   size null = 1
@@ -52,7 +54,8 @@ abbrev mutual
   size_members no_members = 0
   size_members (member k v ms) = size k + size v + size_members ms
 
--- What a value of the program can be: lengths and tags are below 2 ^ 64, texts are UTF-8, integers are those of i128.
+-- What a value of the program can be: lengths and tags are below 2 ^ 64, texts are UTF-8,
+-- integers are those of i128.
 abbrev pub IsInteger : ℤ → Type 0
 IsInteger (pos n) = n < 2 ^ 127
 IsInteger (negsuc n) = n < 2 ^ 127

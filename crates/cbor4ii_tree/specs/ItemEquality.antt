@@ -1,4 +1,5 @@
--- Equality of values as a test: equal trees, so that floats are equal with their width and bits, and maps with their order.
+-- Equality of values as a test: equal trees, so that floats are equal with their width and bits,
+-- and maps with their order.
 use Rattle.std.specs.Prelude.{◌≡◌, ℕ, ◌==◌, List, [], ◌∷◌, Bool, true, false, ◌&&◌}
 use Rattle.std.proofs.Common.{refl, sym, subst, ap, ap₂, ◌∙◌}
 use Rattle.std.specs.Bool.{Decides, beq}

@@ -35,10 +35,13 @@ IsProperFront front whole = (back : List ℕ) × (back ≢ []) × (whole ≡ fro
 
 -- Something is accepted, with a rest, or a refusal stops, with a rest.
 abbrev pub SomeAnswer : {A : Type 0} → (A → List ℕ → Type 0) → (Refusal → List ℕ → Type 0) → Type 0
-SomeAnswer {A} Accepts Stops = ((a : A) × (rest : List ℕ) × Accepts a rest) ⊎ ((e : Refusal) × (rest : List ℕ) × Stops e rest)
+SomeAnswer {A} Accepts Stops =
+    ((a : A) × (rest : List ℕ) × Accepts a rest) ⊎
+    ((e : Refusal) × (rest : List ℕ) × Stops e rest)
 
 -- At most one of the two holds, and of one thing, with one rest.
-pub record AtMostOne {A : Type 0} (Accepts : A → List ℕ → Type 0) (Stops : Refusal → List ℕ → Type 0) : Type 0 where
+pub record AtMostOne {A : Type 0} (Accepts : A → List ℕ → Type 0)
+    (Stops : Refusal → List ℕ → Type 0) : Type 0 where
   pub not_both : (a : A) (x : List ℕ) (e : Refusal) (y : List ℕ) → Accepts a x → Stops e y → ⊥
   pub one_accepted : (a b : A) (x y : List ℕ) → Accepts a x → Accepts b y → (a ≡ b) × (x ≡ y)
   pub one_refused : (e f : Refusal) (x y : List ℕ) → Stops e x → Stops f y → (e ≡ f) × (x ≡ y)

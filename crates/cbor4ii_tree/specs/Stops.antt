@@ -1,5 +1,5 @@
--- The parts of a stop that skipping and reading a value share. A stop is a relation between an input, a refusal and the
--- rest that it leaves, stated by heads and trees.
+-- The parts of a stop that skipping and reading a value share. A stop is a relation between an
+-- input, a refusal and the rest that it leaves, stated by heads and trees.
 use Rattle.std.specs.Prelude.{◌≡◌, ◌≢◌, ℕ, ◌-◌, ◌<◌, List, [], ◌∷◌, ◌++◌, length, ◌⊎◌, Option, Some, None}
 use Rattle.cbor4ii_items.specs.Head.{Width, byte_count, HeadFits, head, break}
 use Rattle.cbor4ii_tree.specs.Tree.{Tree, Trees, no_trees, tree, Pairs, no_pairs, pair, count, bytes, bytes_all, bytes_pairs}
@@ -21,7 +21,8 @@ Missing name k bs e rest = (length bs < k) × Is (eof name (len_of (k - length b
 abbrev pub MissingAll : List ℕ → ℕ → Stopping
 MissingAll name k bs e rest = (length bs < k) × Is (eof name (len_of k)) [] e rest
 
--- A whole head of the major type, whose initial byte is b, and behind it the bytes stop as its argument says (section 3).
+-- A whole head of the major type, whose initial byte is b, and behind it the bytes stop as its
+-- argument says (section 3).
 pub record BehindHead (major : ℕ) (w : Width) (b : ℕ) (then : ℕ → Stopping) (bs : List ℕ) (e : Refusal) (rest : List ℕ) : Type 0 where
   pub argument : ℕ
   pub after : List ℕ
@@ -33,7 +34,8 @@ pub record BehindHead (major : ℕ) (w : Width) (b : ℕ) (then : ℕ → Stoppi
 abbrev pub AtHead : List ℕ → ℕ → Width → ℕ → (ℕ → Stopping) → Stopping
 AtHead name major w b then bs e rest = MissingAll name (byte_count w) bs e rest ⊎ BehindHead major w b then bs e rest
 
--- One more step is asked for: none is left, and nothing moves, or the bytes stop under what is left then.
+-- One more step is asked for: none is left, and nothing moves, or the bytes stop under what is
+-- left then.
 abbrev pub Stepped : List ℕ → Option Budget → List ℕ → (Budget → Refusal → List ℕ → Type 0) → Refusal → List ℕ → Type 0
 Stepped name None here stops e rest = Is (depth_overflow name) here e rest
 Stepped name (Some inner) here stops e rest = stops inner e rest
@@ -46,7 +48,8 @@ abbrev pub EachPair : (Tree → Type 0) → Pairs → Type 0
 EachPair Whole no_pairs = Unit {0}
 EachPair Whole (pair k v ps) = Whole k × Whole v × EachPair Whole ps
 
--- Whole items, fewer than n, and then one that stops. The items of a map are its keys and values in turn (section 3.1).
+-- Whole items, fewer than n, and then one that stops. The items of a map are its keys and values
+-- in turn (section 3.1).
 pub record Counted (Whole : Tree → Type 0) (stops : Stopping) (n : ℕ) (bs : List ℕ) (e : Refusal) (rest : List ℕ) : Type 0 where
   pub front : Trees
   pub after : List ℕ
@@ -55,7 +58,8 @@ pub record Counted (Whole : Tree → Type 0) (stops : Stopping) (n : ℕ) (bs : 
   pub is : bs ≡ bytes_all front ++ after
   pub stopped : stops after e rest
 
--- Where an item or the break should come: the end of the input, or no break and an item that stops (section 3.2).
+-- Where an item or the break should come: the end of the input, or no break and an item that
+-- stops (section 3.2).
 abbrev pub NoBreak : Stopping → Stopping
 NoBreak stops [] e rest = Is (eof break_name (Small 1)) [] e rest
 NoBreak stops (b ∷ bs) e rest = (b ≢ break) × stops (b ∷ bs) e rest

@@ -32,7 +32,8 @@ pub record NoUtf8 (k : Kind) (n : ℕ) (bs : List ℕ) (e : Refusal) (rest : Lis
   pub is : bs ≡ content ++ rest
   pub refusal : e ≡ require_utf8 (kind_name k)
 
--- A chunk that is cut, one without a length, or an item that is no string of the kind (section 3.2.3).
+-- A chunk that is cut, one without a length, or an item that is no string of the kind (section
+-- 3.2.3).
 abbrev pub ChunkStopsBy : Kind → Initial → ℕ → Stopping
 ChunkStopsBy byte_string (starts_string byte_string w) b bs e rest = CutString byte_string w b bs e rest
 ChunkStopsBy text_string (starts_string text_string w) b bs e rest = CutString text_string w b bs e rest
@@ -53,7 +54,8 @@ pub record NoUtf8Joined (k : Kind) (budget : Budget) (bs : List ℕ) (e : Refusa
   pub invalid : IsNoUtf8 k (joined chunks)
   pub refusal : e ≡ require_utf8 (kind_name k)
 
--- Behind the initial byte b, which says so. An array or a map asks for one more step before its head.
+-- Behind the initial byte b, which says so. An array or a map asks for one more step before its
+-- head.
 abbrev pub ReadingStopsBy : (Budget → Stopping) → Budget → Initial → ℕ → Stopping
 ReadingStopsBy stops budget (starts_int s w) b bs e rest = MissingAll (sign_name s) (byte_count w) bs e rest
 ReadingStopsBy stops budget (bad_int s) b bs e rest = Is (mismatch (sign_name s) b) bs e rest
@@ -76,13 +78,14 @@ abbrev pub ReadingStopsFrom : (Budget → Stopping) → Budget → Stopping
 ReadingStopsFrom stops budget [] e rest = Is (eof value_name (Small 1)) [] e rest
 ReadingStopsFrom stops budget (b ∷ bs) e rest = ReadingStopsBy stops budget (initial b) b bs e rest
 
--- The number bounds how deep items nest. More than the count of the bytes is enough, since each part stands at least
--- one byte further on.
+-- The number bounds how deep items nest. More than the count of the bytes is enough, since each
+-- part stands at least one byte further on.
 abbrev pub ReadingStopsWithin : ℕ → Budget → Stopping
 ReadingStopsWithin zero budget bs e rest = ⊥
 ReadingStopsWithin (suc n) budget bs e rest = Stepped value_name (step_in budget) bs (λ inner. ReadingStopsFrom (ReadingStopsWithin n) inner bs) e rest
 
--- Reading a value from the front of the input under the budget stops with the refusal, and leaves the rest.
+-- Reading a value from the front of the input under the budget stops with the refusal, and
+-- leaves the rest.
 abbrev pub StopsReading : List ℕ → Budget → Refusal → List ℕ → Type 0
 StopsReading input budget e rest = ReadingStopsWithin (suc (length input)) budget input e rest
 

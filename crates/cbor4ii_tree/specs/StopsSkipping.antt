@@ -12,8 +12,9 @@ use Rattle.cbor4ii_tree.specs.Stops.{Stopping, Is, Missing, AtHead, Stepped, Cou
 abbrev pub Skippable : Budget → Tree → Type 0
 Skippable budget t = Loose t × CostFits (skip_cost t) budget
 
--- Behind the initial byte b, which says so; each part is skipped under the budget that is left. Of a number or a float
--- that is cut, what is missing is told; of a length or a tag, its whole argument. Any items are taken as chunks.
+-- Behind the initial byte b, which says so; each part is skipped under the budget that is left.
+-- Of a number or a float that is cut, what is missing is told; of a length or a tag, its whole
+-- argument. Any items are taken as chunks.
 abbrev pub SkippingStopsBy : Stopping → Budget → Initial → ℕ → Stopping
 SkippingStopsBy stops budget (starts_int s w) b bs e rest = Missing ignored_any (byte_count w) bs e rest
 SkippingStopsBy stops budget (bad_int s) b bs e rest = Is (mismatch ignored_any b) (b ∷ bs) e rest
@@ -36,13 +37,14 @@ abbrev pub SkippingStopsFrom : Stopping → Budget → Stopping
 SkippingStopsFrom stops budget [] e rest = Is (eof ignored_any (Small 1)) [] e rest
 SkippingStopsFrom stops budget (b ∷ bs) e rest = SkippingStopsBy stops budget (initial b) b bs e rest
 
--- The number bounds how deep items nest. More than the count of the bytes is enough, since each part stands at least
--- one byte further on.
+-- The number bounds how deep items nest. More than the count of the bytes is enough, since each
+-- part stands at least one byte further on.
 abbrev pub SkippingStopsWithin : ℕ → Budget → Stopping
 SkippingStopsWithin zero budget bs e rest = ⊥
 SkippingStopsWithin (suc n) budget bs e rest = Stepped ignored_any (step_in budget) bs (λ inner. SkippingStopsFrom (SkippingStopsWithin n inner) inner bs) e rest
 
--- Skipping the item at the front of the input under the budget stops with the refusal, and leaves the rest.
+-- Skipping the item at the front of the input under the budget stops with the refusal, and
+-- leaves the rest.
 abbrev pub StopsSkipping : List ℕ → Budget → Refusal → List ℕ → Type 0
 StopsSkipping input budget e rest = SkippingStopsWithin (suc (length input)) budget input e rest
 

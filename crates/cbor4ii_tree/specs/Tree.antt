@@ -1,5 +1,6 @@
--- Trees: one for each way in which bytes can be an encoded data item of RFC 8949 sections 3.1 to 3.3. A tree keeps
--- the width of each head and whether a length was given, so that it has one spelling.
+-- Trees: one for each way in which bytes can be an encoded data item of RFC 8949 sections 3.1 to
+-- 3.3. A tree keeps the width of each head and whether a length was given, so that it has one
+-- spelling.
 use Rattle.std.specs.Prelude.{◌≡◌, ℕ, suc, ◌^◌, ◌<◌, List, [], ◌∷◌, ◌++◌, length, IsUtf8}
 use Rattle.std.specs.Int.{bytes_high_first}
 use Rattle.cbor4ii_items.specs.Head.{Width, HeadFits, head, open_head, break}
@@ -34,8 +35,9 @@ abbrev pub pair_count : Pairs → ℕ
 pair_count no_pairs = 0
 pair_count (pair k v ps) = suc (pair_count ps)
 
--- The bytes of a tree: heads and parts in order. The argument of a string's head counts bytes, of an array's items,
--- of a map's pairs (section 3.1); without a length the parts end at a break (section 3.2).
+-- The bytes of a tree: heads and parts in order. The argument of a string's head counts bytes,
+-- of an array's items, of a map's pairs (section 3.1); without a length the parts end at a break
+-- (section 3.2).
 abbrev mutual
   pub bytes : Tree → List ℕ
   bytes (int s n w) = head (sign_major s) n w
@@ -99,7 +101,8 @@ abbrev pub TextIsUtf8 : Kind → List ℕ → Type 0
 TextIsUtf8 byte_string content = Unit {0}
 TextIsUtf8 text_string content = IsUtf8 content
 
--- Every string without a length joins chunks of its kind. This is all that a value's chunks owe while bytes are missing.
+-- Every string without a length joins chunks of its kind. This is all that a value's chunks owe
+-- while bytes are missing.
 abbrev mutual
   pub Joins : Tree → Type 0
   Joins (int s n w) = Unit {0}
@@ -121,29 +124,30 @@ abbrev mutual
   JoinsPairs no_pairs = Unit {0}
   JoinsPairs (pair k v ps) = Joins k × Joins v × JoinsPairs ps
 
--- Every string without a length joins chunks of its kind, and every text is UTF-8. A text in chunks is tested as a
--- whole: section 3.2.3 asks it of each chunk, and this codec does not, so a character may stand across two chunks.
+-- Every string without a length joins chunks of its kind, and every text is UTF-8. A text in
+-- chunks is tested as a whole: section 3.2.3 asks it of each chunk, and this codec does not, so
+-- a character may stand across two chunks.
 abbrev mutual
-  pub Sound : Tree → Type 0
-  Sound (int s n w) = Unit {0}
-  Sound (string k w content) = TextIsUtf8 k content
-  Sound (chunked k ts) = AreChunks k ts × TextIsUtf8 k (joined ts)
-  Sound (array w ts) = SoundAll ts
-  Sound (array_open ts) = SoundAll ts
-  Sound (map_of w ps) = SoundPairs ps
-  Sound (map_open ps) = SoundPairs ps
-  Sound (tagged n w t) = Sound t
-  Sound (simple s) = Unit {0}
-  Sound (bits p n) = Unit {0}
+  pub SoundStrings : Tree → Type 0
+  SoundStrings (int s n w) = Unit {0}
+  SoundStrings (string k w content) = TextIsUtf8 k content
+  SoundStrings (chunked k ts) = AreChunks k ts × TextIsUtf8 k (joined ts)
+  SoundStrings (array w ts) = SoundStringsAll ts
+  SoundStrings (array_open ts) = SoundStringsAll ts
+  SoundStrings (map_of w ps) = SoundStringsPairs ps
+  SoundStrings (map_open ps) = SoundStringsPairs ps
+  SoundStrings (tagged n w t) = SoundStrings t
+  SoundStrings (simple s) = Unit {0}
+  SoundStrings (bits p n) = Unit {0}
 
-  pub SoundAll : Trees → Type 0
-  SoundAll no_trees = Unit {0}
-  SoundAll (tree t ts) = Sound t × SoundAll ts
+  pub SoundStringsAll : Trees → Type 0
+  SoundStringsAll no_trees = Unit {0}
+  SoundStringsAll (tree t ts) = SoundStrings t × SoundStringsAll ts
 
-  pub SoundPairs : Pairs → Type 0
-  SoundPairs no_pairs = Unit {0}
-  SoundPairs (pair k v ps) = Sound k × Sound v × SoundPairs ps
+  pub SoundStringsPairs : Pairs → Type 0
+  SoundStringsPairs no_pairs = Unit {0}
+  SoundStringsPairs (pair k v ps) = SoundStrings k × SoundStrings v × SoundStringsPairs ps
 
--- A tree is plain where it is loose and sound. It is what reading a value accepts.
+-- A tree is plain where it is loose and its strings are sound. It is what reading a value accepts.
 abbrev pub Plain : Tree → Type 0
-Plain t = Loose t × Sound t
+Plain t = Loose t × SoundStrings t

@@ -6,10 +6,12 @@ use Rattle.std.specs.declared.vec.Vec.{Vec}
 use Rattle.std.specs.declared.alloc.Global.{Global}
 use Rattle.cbor4ii_tree.specs.Does.{Accepting}
 use Rattle.cbor4ii_tree.specs.declared.value.Value.{Value}
-use Rattle.cbor4ii_tree.specs.Tree.{Tree, Trees, Pairs, count, pair_count, bytes, bytes_all, bytes_pairs}
+use Rattle.cbor4ii_tree.specs.Tree.{Tree, Trees, Pairs, count, pair_count}
+use Rattle.cbor4ii_tree.specs.Tree.{bytes, bytes_all, bytes_pairs}
 use Rattle.cbor4ii_tree.specs.Meaning.{value, values, member_values, simple_item}
 use Rattle.cbor4ii_tree.specs.Cost.{Budget, step_in}
-use Rattle.cbor4ii_tree.specs.Stops.{Stopping, Each, EachPair, Counted, OpenItems, BehindKey, OpenPairs}
+use Rattle.cbor4ii_tree.specs.Stops.{Stopping, Each, EachPair, Counted, OpenItems}
+use Rattle.cbor4ii_tree.specs.Stops.{BehindKey, OpenPairs}
 use Rattle.cbor4ii_tree.specs.StopsReading.{Readable, ReadingStopsFrom, StopsReading}
 use Rattle.cbor4ii_tree.specs.View.{view, items_view, members_view}
 
@@ -28,31 +30,38 @@ StopsUnder inner xs e rest = ReadingStopsFrom (λ left part. StopsReading part l
 
 -- so many values
 abbrev pub ReadsItems : ℕ → Budget → List ℕ → List Value → List ℕ → Type 0
-ReadsItems n budget xs vs ys = (ts : Trees) × (count ts ≡ n) × Each (Readable budget) ts × (values ts ≡ items_view vs) × (xs ≡ bytes_all ts ++ ys)
+ReadsItems n budget xs vs ys = (ts : Trees) × (count ts ≡ n) × Each (Readable budget) ts ×
+    (values ts ≡ items_view vs) × (xs ≡ bytes_all ts ++ ys)
 
 abbrev pub StopsItems : ℕ → Budget → Stopping
 StopsItems n budget = Counted (Readable budget) (StopsOne budget) n
 
 -- values up to a break, which is taken
 abbrev pub ReadsOpen : Budget → List ℕ → List Value → List ℕ → Type 0
-ReadsOpen budget xs vs ys = (ts : Trees) × Each (Readable budget) ts × (values ts ≡ items_view vs) × (xs ≡ bytes_all ts ++ (break ∷ ys))
+ReadsOpen budget xs vs ys = (ts : Trees) × Each (Readable budget) ts ×
+    (values ts ≡ items_view vs) × (xs ≡ bytes_all ts ++ (break ∷ ys))
 
 abbrev pub StopsOpen : Budget → Stopping
 StopsOpen budget = OpenItems (Readable budget) (StopsOne budget)
 
 -- a key, and its value behind it
 abbrev pub ReadsMember : Budget → List ℕ → Value × Value → List ℕ → Type 0
-ReadsMember budget xs m ys = (between : List ℕ) × ReadsOne budget xs m.0 between × ReadsOne budget between m.1 ys
+ReadsMember budget xs m ys = (between : List ℕ) ×
+    ReadsOne budget xs m.0 between × ReadsOne budget between m.1 ys
 
 abbrev pub StopsMember : Budget → Stopping
-StopsMember budget xs e rest = StopsOne budget xs e rest ⊎ BehindKey (Readable budget) (StopsOne budget) xs e rest
+StopsMember budget xs e rest =
+    StopsOne budget xs e rest ⊎ BehindKey (Readable budget) (StopsOne budget) xs e rest
 
 -- so many pairs
 abbrev pub ReadsMembers : ℕ → Budget → List ℕ → List (Value × Value) → List ℕ → Type 0
-ReadsMembers n budget xs ms ys = (ps : Pairs) × (pair_count ps ≡ n) × EachPair (Readable budget) ps × (member_values ps ≡ members_view ms) × (xs ≡ bytes_pairs ps ++ ys)
+ReadsMembers n budget xs ms ys = (ps : Pairs) × (pair_count ps ≡ n) ×
+    EachPair (Readable budget) ps × (member_values ps ≡ members_view ms) ×
+    (xs ≡ bytes_pairs ps ++ ys)
 
 abbrev pub ReadsOpenMembers : Budget → List ℕ → List (Value × Value) → List ℕ → Type 0
-ReadsOpenMembers budget xs ms ys = (ps : Pairs) × EachPair (Readable budget) ps × (member_values ps ≡ members_view ms) × (xs ≡ bytes_pairs ps ++ (break ∷ ys))
+ReadsOpenMembers budget xs ms ys = (ps : Pairs) × EachPair (Readable budget) ps ×
+    (member_values ps ≡ members_view ms) × (xs ≡ bytes_pairs ps ++ (break ∷ ys))
 
 -- twice as many keys and values
 abbrev pub StopsMembers : ℕ → Budget → Stopping
@@ -64,28 +73,36 @@ StopsOpenMembers budget = OpenPairs (Readable budget) (StopsOne budget)
 -- an array whose two steps were taken
 abbrev pub ReadsArray : Budget → List ℕ → List Value → List ℕ → Type 0
 ReadsArray budget xs vs ys =
-    ((w : Width) × (n : ℕ) × (between : List ℕ) × HeadFits w n × (xs ≡ head 4 n w ++ between) × ReadsItems n budget between vs ys)
+    ((w : Width) × (n : ℕ) × (between : List ℕ) × HeadFits w n ×
+    (xs ≡ head 4 n w ++ between) × ReadsItems n budget between vs ys)
     ⊎ ((between : List ℕ) × (xs ≡ open_head 4 ∷ between) × ReadsOpen budget between vs ys)
 
--- what it is for an array to stop is what it is for a value, where its first byte is one of major type 4
+-- What it is for an array, or a map, to stop is what it is for a value whose first byte is one of
+-- its major type.
 abbrev pub StopsMajor : ℕ → Budget → Stopping
-StopsMajor major inner xs e rest = (b : ℕ) (bs : List ℕ) → xs ≡ b ∷ bs → b / 32 ≡ major → (outer : Budget) → step_in outer ≡ Some inner → ReadingStopsFrom (λ left part. StopsReading part left) outer xs e rest
+StopsMajor major inner xs e rest = (b : ℕ) (bs : List ℕ) → xs ≡ b ∷ bs → b / 32 ≡ major →
+    (outer : Budget) → step_in outer ≡ Some inner →
+    ReadingStopsFrom (λ left part. StopsReading part left) outer xs e rest
 
 abbrev pub ReadsMap : Budget → List ℕ → List (Value × Value) → List ℕ → Type 0
 ReadsMap budget xs ms ys =
-    ((w : Width) × (n : ℕ) × (between : List ℕ) × HeadFits w n × (xs ≡ head 5 n w ++ between) × ReadsMembers n budget between ms ys)
+    ((w : Width) × (n : ℕ) × (between : List ℕ) × HeadFits w n ×
+    (xs ≡ head 5 n w ++ between) × ReadsMembers n budget between ms ys)
     ⊎ ((between : List ℕ) × (xs ≡ open_head 5 ∷ between) × ReadsOpenMembers budget between ms ys)
 
 -- behind a first byte of this major type, before the step is taken
 abbrev pub StopsOf : ℕ → Budget → Stopping
-StopsOf major budget xs e rest = (b : ℕ) (bs : List ℕ) → xs ≡ b ∷ bs → b / 32 ≡ major → StopsUnder budget xs e rest
+StopsOf major budget xs e rest =
+    (b : ℕ) (bs : List ℕ) → xs ≡ b ∷ bs → b / 32 ≡ major → StopsUnder budget xs e rest
 
 -- a step is taken first
 abbrev pub ReadsStepped : {V : Type 0} → (Budget → Accepting V) → Budget → Accepting V
-ReadsStepped reads budget xs v ys = (inner : Budget) × (step_in budget ≡ Some inner) × reads inner xs v ys
+ReadsStepped reads budget xs v ys =
+    (inner : Budget) × (step_in budget ≡ Some inner) × reads inner xs v ys
 
 -- a vector of what is read
-abbrev pub ReadsVec : {T : Type 0} → (Budget → Accepting (List T)) → Budget → Accepting (Vec T Global)
+abbrev pub ReadsVec : {T : Type 0} → (Budget → Accepting (List T)) →
+    Budget → Accepting (Vec T Global)
 ReadsVec reads budget xs v ys = reads budget xs v.items ys
 
 -- no simple value's byte

@@ -3,7 +3,7 @@ use Rattle.std.proofs.Common.{◌≡◌, ℕ, zero, suc, ◌<◌, ◌≤◌, Lis
 use Rattle.std.specs.Int.{bytes_high_first}
 use Rattle.cbor4ii_items.specs.Head.{byte_count, break}
 use Rattle.cbor4ii_items.specs.Initial.{sign_major, Kind, precision_bytes, Initial, initial}
-use Rattle.cbor4ii_tree.specs.Tree.{Tree, int, string, chunked, array, array_open, map_of, map_open, tagged, simple, bits, Trees, no_trees, tree, count, pair_count, bytes, bytes_all, bytes_pairs, joined, Loose, Sound, AreChunks}
+use Rattle.cbor4ii_tree.specs.Tree.{Tree, int, string, chunked, array, array_open, map_of, map_open, tagged, simple, bits, Trees, no_trees, tree, count, pair_count, bytes, bytes_all, bytes_pairs, joined, Loose, SoundStrings, AreChunks}
 use Rattle.cbor4ii_items.specs.Decoding.{CostFits}
 use Rattle.cbor4ii_tree.specs.Cost.{Budget, cost, chunks_cost, greatest_cost, greatest_pair_cost}
 use Rattle.cbor4ii_tree.specs.Refusal.{sign_name, precision_name, array_name, map_name, tag_name}
@@ -42,7 +42,7 @@ chunks_fit k (tree t ts) (Some n) a f = omega (arith, greatest_chunk k (tree t t
 by_initial : (item : Budget → Parser Tree) (inner : Budget) (b : ℕ) (bs : List ℕ) (i : Initial) → initial b ≡ i → read_from item inner (b ∷ bs) ≡ read_by item inner i b bs
 by_initial item inner b bs i e = ap (λ j. read_by item inner j b bs) e
 
-from_again : (item : Budget → Parser Tree) (n : ℕ) (b : Budget) → ((c : Budget) → Again (item c) (Readable c) n) → (t : Tree) (x : List ℕ) → Loose t → Sound t → CostFits (cost t) b → length (bytes t ++ x) < suc n
+from_again : (item : Budget → Parser Tree) (n : ℕ) (b : Budget) → ((c : Budget) → Again (item c) (Readable c) n) → (t : Tree) (x : List ℕ) → Loose t → SoundStrings t → CostFits (cost t) b → length (bytes t ++ x) < suc n
     → read_from item (left b) (bytes t ++ x) ≡ Ok (t, x)
 from_again item n b a (int s m w) x l s' f lt = by_initial item (left b) _ _ _ (initial_int s m w l) ∙ rw (argument_again (sign_name s) (sign_major s) m w x l) refl
 from_again item n b a (string k w content) x l s f lt =

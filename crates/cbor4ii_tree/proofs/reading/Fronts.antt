@@ -2,7 +2,7 @@
 use Rattle.std.proofs.Common.{◌≡◌, ℕ, zero, suc, ◌-◌, ◌*◌, inl, inr, List, [], ◌∷◌, ◌++◌, length, refl, sym, ap, ap₂, ◌∙◌, arith, subst, length-append, append_assoc}
 use Rattle.cbor4ii_items.specs.Head.{Width, in_first, HeadFits, head, IsBytes}
 use Rattle.cbor4ii_items.specs.Initial.{sign_major, Kind, byte_string, text_string, kind_major, precision_bytes, Initial, starts_int, bad_int, starts_string, starts_chunks, bad_string, starts_array, starts_open_array, bad_array, starts_map, starts_open_map, bad_map, starts_tag, bad_tag, starts_simple, starts_bits, other_simple, initial}
-use Rattle.cbor4ii_tree.specs.Tree.{Tree, int, string, chunked, array, array_open, map_of, map_open, tagged, simple, bits, Trees, no_trees, tree, Pairs, no_pairs, pair, bytes, bytes_all, bytes_pairs, Loose, LooseAll, LoosePairs, IsChunk, AreChunks, Sound, SoundAll, SoundPairs, Joins, JoinsAll, JoinsPairs}
+use Rattle.cbor4ii_tree.specs.Tree.{Tree, int, string, chunked, array, array_open, map_of, map_open, tagged, simple, bits, Trees, no_trees, tree, Pairs, no_pairs, pair, bytes, bytes_all, bytes_pairs, Loose, LooseAll, LoosePairs, IsChunk, AreChunks, SoundStrings, SoundStringsAll, SoundStringsPairs, Joins, JoinsAll, JoinsPairs}
 use Rattle.cbor4ii_tree.specs.Cost.{Budget}
 use Rattle.cbor4ii_tree.specs.Refusal.{Refusal, IsEof, array_name, map_name}
 use Rattle.cbor4ii_tree.specs.Stops.{Stopping, AtHead, Each, EachPair, Counted, OpenItems, OpenPairs}
@@ -27,7 +27,7 @@ each_pair_outline no_pairs h = (tt, tt)
 each_pair_outline (pair k v ps) h = let r = each_pair_outline ps h.2 in ((h.0.0, h.1.0, r.0), (h.0.1, h.1.1, r.1))
 
 mutual
-  joins_sound : (t : Tree) → Sound t → Joins t
+  joins_sound : (t : Tree) → SoundStrings t → Joins t
   joins_sound (int s n w) h = tt
   joins_sound (string k w content) h = tt
   joins_sound (chunked k ts) h = h.0
@@ -39,11 +39,11 @@ mutual
   joins_sound (simple s) h = tt
   joins_sound (bits p n) h = tt
 
-  joins_sound_all : (ts : Trees) → SoundAll ts → JoinsAll ts
+  joins_sound_all : (ts : Trees) → SoundStringsAll ts → JoinsAll ts
   joins_sound_all no_trees h = tt
   joins_sound_all (tree t ts) h = (joins_sound t h.0, joins_sound_all ts h.1)
 
-  joins_sound_pairs : (ps : Pairs) → SoundPairs ps → JoinsPairs ps
+  joins_sound_pairs : (ps : Pairs) → SoundStringsPairs ps → JoinsPairs ps
   joins_sound_pairs no_pairs h = tt
   joins_sound_pairs (pair k v ps) h = (joins_sound k h.0, joins_sound v h.1, joins_sound_pairs ps h.2)
 

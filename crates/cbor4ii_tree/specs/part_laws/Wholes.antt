@@ -1,7 +1,7 @@
 -- Lists of trees that are accepted, each by itself or all together.
 use Rattle.std.proofs.Common.{arith}
 use Rattle.cbor4ii_items.specs.Initial.{Kind}
-use Rattle.cbor4ii_tree.specs.Tree.{Trees, no_trees, tree, Pairs, no_pairs, pair, LooseAll, LoosePairs, SoundAll, SoundPairs, AreChunks}
+use Rattle.cbor4ii_tree.specs.Tree.{Trees, no_trees, tree, Pairs, no_pairs, pair, LooseAll, LoosePairs, SoundStringsAll, SoundStringsPairs, AreChunks}
 use Rattle.cbor4ii_items.specs.Decoding.{CostFits}
 use Rattle.cbor4ii_tree.specs.Cost.{Budget, cost, greatest_cost, greatest_pair_cost, skip_cost, greatest_skip_cost, greatest_pair_skip_cost}
 use Rattle.cbor4ii_tree.specs.Stops.{Each, EachPair}
@@ -27,20 +27,20 @@ all_pairs_skippable (pair k v ps) b w =
     let r = all_pairs_skippable ps b w.2 in
     ((w.0.0, w.1.0, r.0), fits_max _ (greatest_pair_skip_cost ps) b (fits_max (skip_cost k) (skip_cost v) b w.0.1 w.1.1) r.1)
 
-pub each_readable : (ts : Trees) (b : Budget) → LooseAll ts → SoundAll ts → CostFits (greatest_cost ts) b → Each (Readable b) ts
+pub each_readable : (ts : Trees) (b : Budget) → LooseAll ts → SoundStringsAll ts → CostFits (greatest_cost ts) b → Each (Readable b) ts
 each_readable no_trees b l s f = tt
 each_readable (tree t ts) b l s f = (((l.0, s.0), fits_less _ _ b (omega arith) f), each_readable ts b l.1 s.1 (fits_less _ _ b (omega arith) f))
 
-pub all_readable : (ts : Trees) (b : Budget) → Each (Readable b) ts → (LooseAll ts × SoundAll ts) × CostFits (greatest_cost ts) b
+pub all_readable : (ts : Trees) (b : Budget) → Each (Readable b) ts → (LooseAll ts × SoundStringsAll ts) × CostFits (greatest_cost ts) b
 all_readable no_trees b w = ((tt, tt), fits_zero b)
 all_readable (tree t ts) b w = let r = all_readable ts b w.1 in (((w.0.0.0, r.0.0), (w.0.0.1, r.0.1)), fits_max (cost t) (greatest_cost ts) b w.0.1 r.1)
 
-pub each_pair_readable : (ps : Pairs) (b : Budget) → LoosePairs ps → SoundPairs ps → CostFits (greatest_pair_cost ps) b → EachPair (Readable b) ps
+pub each_pair_readable : (ps : Pairs) (b : Budget) → LoosePairs ps → SoundStringsPairs ps → CostFits (greatest_pair_cost ps) b → EachPair (Readable b) ps
 each_pair_readable no_pairs b l s f = tt
 each_pair_readable (pair k v ps) b l s f =
     (((l.0, s.0), fits_less _ _ b (omega arith) f), ((l.1, s.1), fits_less _ _ b (omega arith) f), each_pair_readable ps b l.2 s.2 (fits_less _ _ b (omega arith) f))
 
-pub all_pairs_readable : (ps : Pairs) (b : Budget) → EachPair (Readable b) ps → (LoosePairs ps × SoundPairs ps) × CostFits (greatest_pair_cost ps) b
+pub all_pairs_readable : (ps : Pairs) (b : Budget) → EachPair (Readable b) ps → (LoosePairs ps × SoundStringsPairs ps) × CostFits (greatest_pair_cost ps) b
 all_pairs_readable no_pairs b w = ((tt, tt), fits_zero b)
 all_pairs_readable (pair k v ps) b w =
     let r = all_pairs_readable ps b w.2 in (
