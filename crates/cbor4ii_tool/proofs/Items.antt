@@ -307,8 +307,8 @@ length_done number before after a b held holds budget kept bound skipped was is 
       item = λ xs told.
           let r = skipped xs told in
           let skips = subst (λ (left : Option ℕ). Skips xs left r.0 r.1) budget r.3 in
-          let size = difference
-          ∙ length_taken r.0 xs r.1 a b before after kept told r.2 skips was is in
+          let taken = length_taken r.0 xs r.1 a b before after kept told r.2 skips was is in
+          let size = difference ∙ taken in
           record {
             text = decimal number ++ 10 ∷ [];
             rest = r.1;
