@@ -126,7 +126,7 @@ fn many_items(rt: HostRuntime) -> Result<(), Fail> {
     let alloc = rt.alloc();
     for (head, count, end, want, rest) in ZEROS {
         let mut bytes = head.to_vec(alloc)?;
-        bytes.extend_from_slice(&[0; 601][..*count])?;
+        bytes.extend_from_slice(&vec![in alloc; 0x00; *count]?)?;
         bytes.extend_from_slice(end)?;
         skips_many(&rt, alloc, &bytes, want, rest)?;
     }
