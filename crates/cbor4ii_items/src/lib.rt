@@ -11,8 +11,6 @@ mod head;
 pub mod indefinite;
 pub mod initial;
 pub mod laws;
-#[cfg(test)]
-mod leaf_tests;
 pub mod major;
 pub mod marker;
 mod maybe;
@@ -24,6 +22,4 @@ mod sequences;
 mod simple;
 mod strings;
 mod tag;
-#[cfg(test)]
-mod tests;
 pub mod types;

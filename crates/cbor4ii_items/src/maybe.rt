@@ -137,6 +137,3 @@ fn push_maybe<W: Write, T: Encode>(
         Some(item) => push_headed_item(writer, major::ARRAY, 1, item),
     }
 }
-
-#[cfg(test)]
-mod tests;

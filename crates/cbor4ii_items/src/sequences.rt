@@ -5,5 +5,3 @@ mod encode;
 mod heads;
 mod map;
 mod parts;
-#[cfg(test)]
-mod tests;

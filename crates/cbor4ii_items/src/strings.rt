@@ -10,5 +10,3 @@ mod heads;
 mod lent;
 mod lent_or_owned;
 mod owned;
-#[cfg(test)]
-mod tests;

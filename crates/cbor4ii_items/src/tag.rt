@@ -95,6 +95,3 @@ impl<T: Encode> Encode for Tag<T> {
         push_headed_item(writer, major::TAG, self.0, &self.1)
     }
 }
-
-#[cfg(test)]
-mod tests;

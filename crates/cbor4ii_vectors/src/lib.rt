@@ -8,13 +8,13 @@
 mod borrowed;
 #[cfg(test)]
 mod cow;
-pub mod examples;
 #[cfg(test)]
 mod depth;
 #[cfg(test)]
 mod encodings;
 #[cfg(test)]
 mod error_texts;
+pub mod examples;
 #[cfg(test)]
 mod flags_and_laws;
 #[cfg(test)]

@@ -73,18 +73,6 @@ fn every_reader_gives_its_bytes(rt: HostRuntime) -> Result<(), Fail> {
     Ok(())
 }
 
-// The next byte, which is taken; none at the end. The README's example.
-fn next_byte<S: Source>(reader: &mut S) -> Result<Option<u8>, S::Error> {
-    let mut failure = None;
-    let byte = match look(reader, 1, &mut failure) {
-        Some([]) => return Ok(None),
-        Some(shown) => shown[0],
-        None => return Err(failure.unwrap()),
-    };
-    reader.advance(1);
-    Ok(Some(byte))
-}
-
 #[test]
 fn bytes_are_taken_one_by_one(rt: HostRuntime) -> Result<(), Fail> {
     let parts: [&[u8]; 2] = [b"a", b"b"];
@@ -92,9 +80,9 @@ fn bytes_are_taken_one_by_one(rt: HostRuntime) -> Result<(), Fail> {
     let mut segments = SegmentReader::new(&parts);
     let mut stream = IoReader::new(b"ab".as_slice());
     for want in [Some(b'a'), Some(b'b'), None, None] {
-        assert_eq!(rt; next_byte(&mut slice)?, want);
+        assert_eq!(rt; ask::next_byte(&mut slice)?, want);
         assert_eq!(rt; ask::next_byte(&mut segments)?, want);
-        assert_eq!(rt; next_byte(&mut stream)?, want);
+        assert_eq!(rt; ask::next_byte(&mut stream)?, want);
     }
     Ok(())
 }

@@ -61,6 +61,7 @@ pub struct FailingSink {
     // How many bytes it takes before it fails.
     room: usize,
     has_failed: bool,
+    flushes: usize,
 }
 
 impl FailingSink {
@@ -70,6 +71,7 @@ impl FailingSink {
             bytes,
             room,
             has_failed: false,
+            flushes: 0,
         }
     }
 
@@ -81,6 +83,11 @@ impl FailingSink {
     /// Whether it failed.
     pub fn has_failed(&self) -> bool {
         self.has_failed
+    }
+
+    /// How often it was flushed.
+    pub fn flushes(&self) -> usize {
+        self.flushes
     }
 }
 
@@ -101,6 +108,7 @@ impl Write for FailingSink {
     }
 
     fn flush(&mut self) -> io::Result<()> {
+        self.flushes = self.flushes.saturating_add(1);
         Ok(())
     }
 }

@@ -53,3 +53,18 @@ fn a_write_that_fails_is_told(rt: HostRuntime) -> Result<(), Fail> {
     assert_eq!(rt; writer.into_inner().buffer(), b"abd".as_slice());
     Ok(())
 }
+
+// No clause says that a flush reaches the stream.
+#[test]
+fn a_flush_reaches_the_stream(rt: HostRuntime) -> Result<(), Fail> {
+    let mut writer = IoWriter::new(FailingSink::new(Vec::with_capacity(rt.alloc(), 1)?, 9));
+    assert!(rt; !writer.is_flushed());
+    writer.flush()?;
+    assert!(rt; writer.is_flushed());
+    writer.push(b"a")?;
+    assert!(rt; !writer.is_flushed());
+    writer.flush()?;
+    assert!(rt; writer.is_flushed());
+    assert_eq!(rt; writer.into_inner().flushes(), 2);
+    Ok(())
+}

@@ -96,6 +96,3 @@ fn push_pair<W: Write, K: Encode, V: Encode>(
     pair.0.encode(writer)?;
     pair.1.encode(writer)
 }
-
-#[cfg(test)]
-mod tests;

@@ -122,6 +122,3 @@ impl Map<()> {
         push_end(writer)
     }
 }
-
-#[cfg(test)]
-mod tests;
