@@ -12,7 +12,16 @@ use Rattle.cbor4ii_vectors.specs.declared.writers.PushLengths.{PushLengths}
 
 -- a reader of these bytes, which tells all of them
 abbrev pub telling : List ℕ → Option ℕ → Bool → View
-telling bytes budget lends_whole = record { told = Some bytes; bound = length bytes; advanceable = length bytes; budget = budget; failures = 0; taken = None; lends_whole = lends_whole; remembers = true }
+telling bytes budget lends_whole = record {
+  told = Some bytes;
+  bound = length bytes;
+  advanceable = length bytes;
+  budget = budget;
+  failures = 0;
+  taken = None;
+  lends_whole = lends_whole;
+  remembers = true;
+}
 
 abbrev pub short_view : ShortByByte → View
 short_view reader = telling reader.bytes.now (Some reader.steps) false

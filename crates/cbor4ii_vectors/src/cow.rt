@@ -5,7 +5,7 @@ use cbor4ii_items::decode::Decode;
 use cbor4ii_items::types::{Bytes, UncheckedStr};
 use cbor4ii_rw::error::DecodeError;
 use cbor4ii_rw::read::Read;
-use std::alloc::Global;
+use std::alloc::{AllocError, Global};
 use std::borrow::{CowSlice, CowStr};
 use std::process::Abort;
 use std::test::Fail;
@@ -57,29 +57,6 @@ impl<'de, R: Read<'de>> ReadFrom<R> for ByteString<'de> {
     }
 }
 
-// One of the three types.
-trait Lendable: Row {
-    fn of(content: Content<'static>) -> Self;
-}
-
-impl Lendable for Text<'static> {
-    fn of(content: Content<'static>) -> Text<'static> {
-        Text(content)
-    }
-}
-
-impl Lendable for Unchecked<'static> {
-    fn of(content: Content<'static>) -> Unchecked<'static> {
-        Unchecked(content)
-    }
-}
-
-impl Lendable for ByteString<'static> {
-    fn of(content: Content<'static>) -> ByteString<'static> {
-        ByteString(content)
-    }
-}
-
 // Who lends a string's content: no reader, one that lends all that is left, or one of a byte too.
 #[derive(Clone, Copy, PartialEq)]
 enum Lent {
@@ -88,41 +65,82 @@ enum Lent {
     ByByte,
 }
 
-fn is_lent<T: Lendable>(
+// This content, borrowed or owned.
+fn content_of(
+    alloc: Global,
+    content: &'static [u8],
+    is_borrowed: bool,
+) -> Result<Content<'static>, AllocError> {
+    if is_borrowed {
+        return Ok(Content::Borrowed(content));
+    }
+    Ok(Content::Owned(content.to_vec(alloc)?))
+}
+
+// What is read over readers that lend nothing, all that is left, and one byte of it.
+fn is_lent<T: Row>(
     rt: &impl Abort,
     alloc: Global,
     bytes: &'static [u8],
-    content: &'static [u8],
-    lent: Lent,
+    short: T,
+    whole: T,
+    by_byte: T,
 ) -> Result<(), Fail> {
-    let owned = T::of(Content::Owned(content.to_vec(alloc)?));
-    lends_short(rt, alloc, bytes, Ok(owned), b"")?;
-    let whole = if lent == Lent::Never {
-        T::of(Content::Owned(content.to_vec(alloc)?))
-    } else {
-        T::of(Content::Borrowed(content))
-    };
+    lends_short(rt, alloc, bytes, Ok(short), b"")?;
     lends(rt, alloc, bytes, Ok(whole), b"")?;
-    let by_byte = if lent == Lent::ByByte {
-        T::of(Content::Borrowed(content))
-    } else {
-        T::of(Content::Owned(content.to_vec(alloc)?))
-    };
     let mut long = LongByByte::new(bytes, 1);
     reads_over(rt, alloc, &mut long, bytes, &Ok(by_byte), b"")
 }
 
 #[test]
-fn borrowed_or_owned(rt: HostRuntime) -> Result<(), Fail> {
+fn texts(rt: HostRuntime) -> Result<(), Fail> {
     let alloc = rt.alloc();
-    is_lent::<Text>(&rt, alloc, b"\x62aa", b"aa", Lent::Whole)?;
-    is_lent::<Text>(&rt, alloc, b"\x60", b"", Lent::ByByte)?;
-    is_lent::<Text>(&rt, alloc, b"\x7f\x61a\xff", b"a", Lent::Never)?;
-    is_lent::<ByteString>(&rt, alloc, b"\x41\x01", b"\x01", Lent::ByByte)?;
-    is_lent::<ByteString>(&rt, alloc, b"\x5f\x41\x01\xff", b"\x01", Lent::Never)?;
-    is_lent::<Unchecked>(&rt, alloc, b"\x60", b"", Lent::ByByte)?;
-    is_lent::<Unchecked>(&rt, alloc, b"\x61\xff", b"\xff", Lent::ByByte)?;
-    is_lent::<Unchecked>(&rt, alloc, b"\x7f\x61\xff\xff", b"\xff", Lent::Never)
+    let rows: [(&[u8], &[u8], Lent); 3] = [
+        (b"\x62aa", b"aa", Lent::Whole),
+        (b"\x60", b"", Lent::ByByte),
+        (b"\x7f\x61a\xff", b"a", Lent::Never),
+    ];
+    for (bytes, content, lent) in rows {
+        let short = Text(content_of(alloc, content, false)?);
+        let whole = Text(content_of(alloc, content, lent != Lent::Never)?);
+        let by_byte = Text(content_of(alloc, content, lent == Lent::ByByte)?);
+        is_lent(&rt, alloc, bytes, short, whole, by_byte)?;
+    }
+    Ok(())
+}
+
+#[test]
+fn unchecked_texts(rt: HostRuntime) -> Result<(), Fail> {
+    let alloc = rt.alloc();
+    let rows: [(&[u8], &[u8], Lent); 3] = [
+        (b"\x60", b"", Lent::ByByte),
+        (b"\x61\xff", b"\xff", Lent::ByByte),
+        (b"\x7f\x61\xff\xff", b"\xff", Lent::Never),
+    ];
+    for (bytes, content, lent) in rows {
+        let short = Unchecked(content_of(alloc, content, false)?);
+        let whole = Unchecked(content_of(alloc, content, lent != Lent::Never)?);
+        let by_byte = Unchecked(content_of(alloc, content, lent == Lent::ByByte)?);
+        is_lent(&rt, alloc, bytes, short, whole, by_byte)?;
+    }
+    Ok(())
+}
+
+#[test]
+fn byte_strings(rt: HostRuntime) -> Result<(), Fail> {
+    let alloc = rt.alloc();
+    let rows: [(&[u8], &[u8], Lent); 3] = [
+        (b"\x41\x01", b"\x01", Lent::ByByte),
+        (b"\x42\x01\x02", b"\x01\x02", Lent::Whole),
+        (b"\x5f\x41\x01\xff", b"\x01", Lent::Never),
+    ];
+    for (bytes, content, lent) in rows {
+        let short = ByteString(content_of(alloc, content, false)?);
+        let whole = ByteString(content_of(alloc, content, lent != Lent::Never)?);
+        let by_byte = ByteString(content_of(alloc, content, lent == Lent::ByByte)?);
+        is_lent(&rt, alloc, bytes, short, whole, by_byte)?;
+    }
+    Ok(())
 }
 
 #[test]

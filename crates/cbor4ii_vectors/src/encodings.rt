@@ -8,11 +8,15 @@ use std::alloc::{AllocError, Global};
 use std::test::Fail;
 
 // 1 to 25, in the length that is given in front.
-const COUNTED: &[u8] =
-    b"\x98\x19\x01\x02\x03\x04\x05\x06\x07\x08\x09\x0a\x0b\x0c\x0d\x0e\x0f\x10\x11\x12\x13\x14\x15\x16\x17\x18\x18\x18\x19";
+const COUNTED: &[u8] = &[
+    0x98, 0x19, 1, 2, 3, 4, 5, 6, 7, 8, 9, 10, 11, 12, 13, 14, 15, 16, 17, 18, 19, 20, 21, 22, 23,
+    0x18, 24, 0x18, 25,
+];
 // The same, up to a break.
-const OPEN: &[u8] =
-    b"\x9f\x01\x02\x03\x04\x05\x06\x07\x08\x09\x0a\x0b\x0c\x0d\x0e\x0f\x10\x11\x12\x13\x14\x15\x16\x17\x18\x18\x18\x19\xff";
+const OPEN: &[u8] = &[
+    0x9f, 1, 2, 3, 4, 5, 6, 7, 8, 9, 10, 11, 12, 13, 14, 15, 16, 17, 18, 19, 20, 21, 22, 23, 0x18,
+    24, 0x18, 25, 0xff,
+];
 
 fn one_to_25(alloc: Global) -> Result<Vec<u8>, AllocError> {
     let mut numbers = Vec::new(alloc);

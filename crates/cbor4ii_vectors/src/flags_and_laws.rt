@@ -1,5 +1,5 @@
 //! What types say of themselves, and the laws.
-use cbor4ii_items::decode::Spelled;
+use cbor4ii_items::decode::{ArrayStart, Spelled};
 use cbor4ii_items::initial::{high, if_major, low};
 use cbor4ii_items::laws::{
     integers_are_read_back, lengths_are_read_back, no_spelling_begins_another, parts_are_read_back,
@@ -73,6 +73,12 @@ fn parts_of_a_first_byte(rt: HostRuntime) {
     assert_eq!(rt; if_major(0xd8), 6);
     assert_eq!(rt; high(0xd8), 0xc0);
     assert_eq!(rt; low(0xd8), 0x18);
+}
+
+#[test]
+fn beginnings_of_arrays_are_compared(rt: HostRuntime) {
+    assert!(rt; ArrayStart(Some(2)) != ArrayStart(None));
+    assert!(rt; ArrayStart(None) == ArrayStart(None));
 }
 
 #[test]

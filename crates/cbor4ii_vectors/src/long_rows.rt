@@ -1,5 +1,5 @@
-//! Rows of more than is reserved before any of it came: a decoder has to grow as the bytes come, and
-//! where memory is found it has to answer the value.
+//! Rows of more than is reserved before any of it came: a decoder has to grow as the bytes come,
+//! and where memory is found it has to answer the value.
 use crate::rows::{Row, reads_by_each};
 use cbor4ii_items::types::{Bytes, Map, UncheckedStr};
 use std::alloc::{AllocError, Global};

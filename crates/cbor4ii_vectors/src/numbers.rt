@@ -49,6 +49,7 @@ fn unsigned_integers(rt: HostRuntime) -> Result<(), Fail> {
         writes_in(&rt, alloc, &i128::from(value), bytes, 1)?;
     }
     writes_in(&rt, alloc, &255u8, b"\x18\xff", 1)?;
+    writes_in(&rt, alloc, &&255u8, b"\x18\xff", 1)?;
     writes_in(&rt, alloc, &65535u16, b"\x19\xff\xff", 1)?;
     writes_in(&rt, alloc, &65536u32, b"\x1a\x00\x01\x00\x00", 1)?;
     reads::<u8>(&rt, alloc, b"\x18\xff", Ok(255), b"")?;

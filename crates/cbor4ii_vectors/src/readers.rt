@@ -2,7 +2,13 @@
 ghost use Rattle.std.specs.Prelude.{◌≡◌, ◌<◌, None, Some, IsTrue, take, true, false};
 ghost use Rattle.std.proofs.Common.{rules};
 ghost use Rattle.cbor4ii_rw.specs.Reader.{StepsIn};
-ghost use Rattle.cbor4ii_vectors.specs.Tells.{short_view, long_view, unlimited_view, failing_view, counting_view};
+ghost use Rattle.cbor4ii_vectors.specs.Tells.{
+  short_view,
+  long_view,
+  unlimited_view,
+  failing_view,
+  counting_view,
+};
 
 use cbor4ii_rw::error::Never;
 use cbor4ii_rw::read::{Read, Reference, Source};

@@ -190,7 +190,8 @@ where
     reads_over(rt, alloc, &mut by_byte, bytes, &want, rest)
 }
 
-/// Reads over this reader, which holds `bytes`: the answer, the bytes left, and the steps as before.
+/// Reads over this reader, which holds `bytes`: the answer, the bytes left, and the steps as
+/// before.
 pub fn reads_over<T, S>(
     rt: &impl Abort,
     alloc: Global,

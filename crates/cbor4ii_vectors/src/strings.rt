@@ -116,7 +116,8 @@ fn byte_strings(rt: HostRuntime) -> Result<(), Fail> {
         lends(&rt, alloc, bytes, Ok(Bytes(content)), b"")?;
         writes_string(&rt, alloc, &Bytes(content), bytes)?;
     }
-    Ok(())
+    let longer = byte_string(alloc, Ok(b"\x07"))?;
+    reads(&rt, alloc, b"\x58\x01\x07\x08", longer, b"\x08")
 }
 
 #[test]
@@ -159,7 +160,13 @@ fn chunks(rt: HostRuntime) -> Result<(), Fail> {
 #[test]
 fn refused_texts(rt: HostRuntime) -> Result<(), Fail> {
     let alloc = rt.alloc();
-    let rows: [(&[u8], &str, &[u8]); 12] = [
+    let rows: [(&[u8], &str, &[u8]); 14] = [
+        (
+            b"\x7f\x61a\x7f\xff",
+            "RequireLength { name: \"str\", found: Indefinite }",
+            b"\xff",
+        ),
+        (b"\x7f\x1c", "Mismatch { name: \"str\", found: 28 }", b""),
         (b"", "Eof { name: \"str\", expect: Small(1) }", b""),
         (b"\x00", "Mismatch { name: \"str\", found: 0 }", b""),
         (b"\x62\xff", "Eof { name: \"str\", expect: Small(1) }", b""),
@@ -216,7 +223,9 @@ fn lengths_without_bytes(rt: HostRuntime) -> Result<(), Fail> {
 fn a_step_for_each_chunk(rt: HostRuntime) -> Result<(), Fail> {
     let alloc = rt.alloc();
     let no_step = "DepthOverflow { name: \"str\" }";
-    let rows: [(&[u8], usize, Want<&str>, &[u8]); 7] = [
+    let end = "Eof { name: \"break\", expect: Small(1) }";
+    let rows: [(&[u8], usize, Want<&str>, &[u8]); 8] = [
+        (b"\x7f", 0, Err(end), b""),
         (b"\x61a", 0, Ok("a"), b""),
         (b"\x7f\x61a", 0, Err(no_step), b"\x61a"),
         (b"\x7f\xff", 0, Ok(""), b""),
