@@ -126,14 +126,16 @@ fn many_items(rt: HostRuntime) -> Result<(), Fail> {
     let alloc = rt.alloc();
     for (head, count, end, want, rest) in ZEROS {
         let mut bytes = head.to_vec(alloc)?;
-        bytes.extend_from_slice(&vec![in alloc; 0x00; *count]?)?;
+        let zeros = vec![in alloc; 0x00u8; *count]?;
+        bytes.extend_from_slice(&zeros)?;
         bytes.extend_from_slice(end)?;
         skips_many(&rt, alloc, &bytes, want, rest)?;
     }
     Ok(())
 }
 
-// Over each reader that has 256 steps or no limit, and in two segments, cut at each inner place.
+// Over each reader that has 256 steps or no limit, and in two segments, cut near either end of what
+// is asked for at once.
 fn skips_many(
     rt: &impl Abort,
     alloc: Global,
@@ -160,8 +162,11 @@ fn skips_many(
     )?;
     reads_over(rt, alloc, &mut IoReader::new(bytes), bytes, want, rest)?;
     reads_over(rt, alloc, &mut Unlimited::new(bytes), bytes, want, rest)?;
-    for cut in 1..bytes.len() {
-        let segments = [&bytes[..cut], &bytes[cut..]];
+    for cut in [1, 2, 3, 4, 255, 256, 257, 258, 259, 260] {
+        let (Some(front), Some(back)) = (bytes.get(..cut), bytes.get(cut..)) else {
+            continue;
+        };
+        let segments = [front, back];
         reads_over(
             rt,
             alloc,
