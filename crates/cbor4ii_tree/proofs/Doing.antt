@@ -79,14 +79,18 @@ refused_as : (o : Option Refusal) (z : Refusal) (T : Refusal → List ℕ → Ty
 refused_as None z T new e h = cc
 refused_as (Some y) z T new e h = let f : z ≡ y = cc in (h.0, h.1, subst (λ x. T x h.0) f h.2)
 
--- a refusal that speaks of the bytes
-pub does_refuse : {V E : Type 0} (P : List ℕ → List ℕ → Type 0) (B : Accepting V) (T : Stopping) (z : Refusal) {e : DecodeError E} {a b : View} → refusal_of e ≡ Some z → is_read e ≡ false → is_depth_overflow e ≡ false
+-- a refusal that speaks of the bytes; without a budget no step is lacking
+pub does_refuse_by : {V E : Type 0} (P : List ℕ → List ℕ → Type 0) (B : Accepting V) (T : Stopping) (z : Refusal) {e : DecodeError E} {a b : View} → refusal_of e ≡ Some z → is_read e ≡ false → (a.budget ≡ None → is_depth_overflow e ≡ false)
     → ((xs ys : List ℕ) → P xs ys → T xs z ys) → Reached P a b → Does {V = V} B T a b (Err e)
-does_refuse P B T z {e = e} {a = a} {b = b} says read shallow f p = record {
-  moves = record { by = unread (is_read e) a b read p.kept; depth = λ none. shallow };
+does_refuse_by P B T z {e = e} {a = a} {b = b} says read shallow f p = record {
+  moves = record { by = unread (is_read e) a b read p.kept; depth = shallow };
   ok = tt;
   err = λ xs told. let s = p.at xs told in refused_as (refusal_of e) z (T xs) b.told says (s.0, s.1, f xs s.0 s.2);
 }
+
+pub does_refuse : {V E : Type 0} (P : List ℕ → List ℕ → Type 0) (B : Accepting V) (T : Stopping) (z : Refusal) {e : DecodeError E} {a b : View} → refusal_of e ≡ Some z → is_read e ≡ false → is_depth_overflow e ≡ false
+    → ((xs ys : List ℕ) → P xs ys → T xs z ys) → Reached P a b → Does {V = V} B T a b (Err e)
+does_refuse P B T z says read shallow f p = does_refuse_by P B T z says read (λ none. shallow) f p
 
 -- ---- calls of the crate below
 
@@ -167,7 +171,7 @@ does_stepped A B S T {r = r} {a = a} {b = b} {c = c} {d = d} f g takes inward w 
   err = err_around S T r a.told c.told b.told d.told g inward.told outward.told w.err;
 }
 
-kept_budget : (a b : View) → KeepsAllButBudget a b → b.budget ≡ a.budget → Kept a b
+pub kept_budget : (a b : View) → KeepsAllButBudget a b → b.budget ≡ a.budget → Kept a b
 kept_budget a b k same = record {
   rest = λ xs told. (0, record { left = k.told ∙ told; within = omega arith; bytes = tt });
   counted = counted_none a b (λ xs told. k.told ∙ told) k.taken;
@@ -178,7 +182,7 @@ kept_budget a b k same = record {
   remembers = λ h. subst IsTrue (sym k.remembers) h;
 }
 
-no_step : (old new : Option ℕ) → StepsIn old new false → (old ≡ Some 0) × (new ≡ old)
+pub no_step : (old new : Option ℕ) → StepsIn old new false → (old ≡ Some 0) × (new ≡ old)
 no_step None new h = absurd h
 no_step (Some left) new h = let e : left ≡ 0 = h.0 in (ap Some e, h.1 ∙ ap Some (sym e))
 

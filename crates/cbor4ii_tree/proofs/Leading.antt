@@ -10,14 +10,16 @@ use Rattle.cbor4ii_tree.specs.Parse.{big_endian}
 use Rattle.cbor4ii_tree.specs.Stops.{Missing, MissingAll, Stepped}
 use Rattle.cbor4ii_tree.specs.StopsSkipping.{SkippingStopsBy, StopsSkipping}
 use Rattle.cbor4ii_tree.specs.HeadParts.{ArgumentAt, DropsBytes}
+use Rattle.cbor4ii_tree.specs.Runs.{TakesLeaf}
 use Rattle.cbor4ii_tree.specs.Skipping.{start_of, SkipsItems, StopsItems, SkipsUnder, StopsUnder, Leads}
-use Rattle.cbor4ii_tree.specs.declared.skip.Behind.TheVariants.{Nothing, Items, Open, OpenMembers}
+use Rattle.cbor4ii_tree.specs.declared.skip.Behind.TheVariants.{Nothing, Bytes, Items, Members, Open, OpenMembers}
 use Rattle.cbor4ii_tree.specs.declared.skip.Start.TheVariants as start
 use Rattle.cbor4ii_tree.specs.Binds.{step_up}
 use Rattle.cbor4ii_tree.specs.Budgets.{fits_zero}
 use Rattle.cbor4ii_tree.proofs.Nesting.{skipping_by_parts}
 use Rattle.cbor4ii_tree.proofs.heads.Inverse.{number_of_bytes}
 use Rattle.cbor4ii_tree.proofs.heads.Means.{Means, means, HeadByte, WidthSays}
+use Rattle.cbor4ii_tree.proofs.SkippingBytes.{says_width}
 use Rattle.cbor4ii_tree.proofs.parts.Sound.{counted}
 use Rattle.cbor4ii_tree.specs.part_laws.Wholes.{all_skippable, all_pairs_skippable}
 
@@ -134,30 +136,34 @@ row b i small is = subst (Means b) is (means b small)
 
 -- ---- what a head leads to
 
-whole : (inner : Budget) (xs ys : List ℕ) (t : Tree) → Loose t → skip_cost t ≡ 1 → xs ≡ bytes t ++ ys → Leads inner xs Nothing ys
-whole inner xs ys t loose cost is = record {
-  skips = λ rest e budget step. (t, record { loose = loose; fits = subst (λ c. CostFits c budget) (sym cost) (step_up budget inner 0 step (fits_zero inner)); begins = is ∙ ap (λ r. bytes t ++ r) (sym e) });
+pub whole : (inner : Budget) (xs ys : List ℕ) → TakesLeaf xs ys → Leads inner xs Nothing ys
+whole inner xs ys (t, l, is) = record {
+  skips = λ rest e budget step. (t, record { loose = l.0; fits = subst (λ c. CostFits c budget) (sym l.1) (step_up budget inner 0 step (fits_zero inner)); begins = is ∙ ap (λ r. bytes t ++ r) (sym e) });
   stops = λ e rest h. absurd h;
 }
 
-pub leads_bytes : (inner : Budget) (b k : ℕ) (bs ys : List ℕ) → b < 256 → start_of (initial b) ≡ start.Bytes k → DropsBytes k bs ys → Leads inner (b ∷ bs) Nothing ys
-leads_bytes inner b k bs ys small e d = elim (starts_bytes (initial b) k e) [
+-- so many bytes behind the first are all of the item
+pub bytes_leaf : (b k : ℕ) (bs ys : List ℕ) → b < 256 → start_of (initial b) ≡ start.Bytes k → DropsBytes k bs ys → TakesLeaf (b ∷ bs) ys
+bytes_leaf b k bs ys small e d = elim (starts_bytes (initial b) k e) [
   | inl x ↦
       let m = row b (starts_int x.0 x.1) small x.2 in
       let a = bytes_argument x.1 b bs ys (says_at (sign_major x.0) x.1 b m).1 (subst (λ j. DropsBytes j bs ys) (sym x.3) d) in
-      whole inner (b ∷ bs) ys (int x.0 a.0 x.1) a.1.fits refl (head_is (sign_major x.0) x.1 b a.0 bs ys m a.1)
+      (int x.0 a.0 x.1, (a.1.fits, refl), head_is (sign_major x.0) x.1 b a.0 bs ys m a.1)
   | inr y ↦ elim y [
     | inl x ↦ (let m : Means b (starts_simple x.0) = row b (starts_simple x.0) small x.1 in
-        whole inner (b ∷ bs) ys (simple x.0) tt refl (ap₂ ◌∷◌ m (d.is ∙ ap (λ c. c ++ ys) (none d.content (d.size ∙ x.2)))))
+        (simple x.0, (tt, refl), ap₂ ◌∷◌ m (d.is ∙ ap (λ c. c ++ ys) (none d.content (d.size ∙ x.2)))))
     | inr x ↦ (let m : Means b (starts_bits x.0) = row b (starts_bits x.0) small x.1 in
         let p = number_of_bytes (precision_bytes x.0) d.content (d.size ∙ sym x.2) d.bytes in
-        whole inner (b ∷ bs) ys (bits x.0 (big_endian d.content)) p.1 refl (ap₂ ◌∷◌ m (d.is ∙ ap (λ c. c ++ ys) (sym p.0))))
+        (bits x.0 (big_endian d.content), (p.1, refl), ap₂ ◌∷◌ m (d.is ∙ ap (λ c. c ++ ys) (sym p.0))))
   ]
 ]
   where
     none : (c : List ℕ) → length c ≡ 0 → c ≡ []
     none [] e = refl
     none (x ∷ c) e = absurd (omega (arith, e))
+
+pub leads_bytes : (inner : Budget) (b k : ℕ) (bs ys : List ℕ) → b < 256 → start_of (initial b) ≡ start.Bytes k → DropsBytes k bs ys → Leads inner (b ∷ bs) Nothing ys
+leads_bytes inner b k bs ys small e d = whole inner (b ∷ bs) ys (bytes_leaf b k bs ys small e d)
 
 pub bytes_cut : (inner : Budget) (b k : ℕ) (bs : List ℕ) (e : Refusal) (rest : List ℕ) → start_of (initial b) ≡ start.Bytes k → Missing ignored_any k bs e rest → StopsUnder inner (b ∷ bs) e rest
 bytes_cut inner b k bs e rest s h = elim (starts_bytes (initial b) k s) [
@@ -168,22 +174,55 @@ bytes_cut inner b k bs e rest s h = elim (starts_bytes (initial b) k s) [
   ]
 ]
 
+-- ---- arguments in the first byte
+
+pub argument_low : (w : Width) (b : ℕ) (bs : List ℕ) → info_of (b % 32) ≡ wide w → b % 32 < 24 → ArgumentAt w b bs (b % 32) bs
+argument_low in_first b bs is low = record { fits = omega (arith, low); says = refl; is = refl }
+argument_low one b bs is low = absurd (omega (arith, says_width (b % 32) one is, low))
+argument_low two b bs is low = absurd (omega (arith, says_width (b % 32) two is, low))
+argument_low four b bs is low = absurd (omega (arith, says_width (b % 32) four is, low))
+argument_low eight b bs is low = absurd (omega (arith, says_width (b % 32) eight is, low))
+
+-- a head alone
+emptied : (major n : ℕ) (w : Width) (b : ℕ) (bs : List ℕ) → n ≡ 0 → b ∷ bs ≡ head major n w ++ bs → b ∷ bs ≡ (head major 0 w ++ []) ++ bs
+emptied major n w b bs none is = is ∙ (ap (λ j. head major j w ++ bs) none ∙ ap (λ r. r ++ bs) (sym (append-nil (head major 0 w))))
+
+pub empty_items : (b : ℕ) (bs : List ℕ) → b < 256 → start_of (initial b) ≡ start.Items → b % 32 ≡ 0 → TakesLeaf (b ∷ bs) bs
+empty_items b bs small s none =
+    let x = starts_items (initial b) s in
+    let m = row b (starts_array x.0) small x.1 in
+    let a = argument_low x.0 b bs (head_info 4 x.0 b m) (omega (arith, none)) in
+    (array x.0 no_trees, ((subst (HeadFits x.0) none a.fits, tt), refl), emptied 4 (b % 32) x.0 b bs none (head_is 4 x.0 b (b % 32) bs bs m a))
+
+pub empty_members : (b : ℕ) (bs : List ℕ) → b < 256 → start_of (initial b) ≡ start.Members → b % 32 ≡ 0 → TakesLeaf (b ∷ bs) bs
+empty_members b bs small s none =
+    let x = starts_members (initial b) s in
+    let m = row b (starts_map x.0) small x.1 in
+    let a = argument_low x.0 b bs (head_info 5 x.0 b m) (omega (arith, none)) in
+    (map_of x.0 no_pairs, ((subst (HeadFits x.0) none a.fits, tt), refl), emptied 5 (b % 32) x.0 b bs none (head_is 5 x.0 b (b % 32) bs bs m a))
+
 module _ (inner : Budget) (b : ℕ) (small : b < 256) where
   -- strings
   module _ (s : start_of (initial b) ≡ start.Content) where
     pub content_info : (w : Width) × (info_of (b % 32) ≡ wide w) × ((bs : List ℕ) (e : Refusal) (rest : List ℕ) → MissingAll ignored_any (byte_count w) bs e rest → StopsUnder inner (b ∷ bs) e rest)
-        × ((bs ys : List ℕ) (n : ℕ) (e : Refusal) (rest : List ℕ) → ArgumentAt w b bs n ys → Missing ignored_any n ys e rest → StopsUnder inner (b ∷ bs) e rest)
-        × ((bs ys zs : List ℕ) (n : ℕ) → ArgumentAt w b bs n ys → DropsBytes n ys zs → Leads inner (b ∷ bs) Nothing zs)
+        × ((bs ys : List ℕ) (n : ℕ) → ArgumentAt w b bs n ys → Leads inner (b ∷ bs) (Bytes n) ys)
+        × ((bs ys zs : List ℕ) (n : ℕ) → ArgumentAt w b bs n ys → DropsBytes n ys zs → TakesLeaf (b ∷ bs) zs)
     content_info =
         let x = starts_content (initial b) s in
-        let m = row b (starts_string x.0 x.1) small x.2 in (
+        let m = row b (starts_string x.0 x.1) small x.2 in
+        let leaf : ((bs ys zs : List ℕ) (n : ℕ) → ArgumentAt x.1 b bs n ys → DropsBytes n ys zs → TakesLeaf (b ∷ bs) zs) = λ bs ys zs n a d. (
+          string x.0 x.1 d.content,
+          (subst (HeadFits x.1) (sym d.size) a.fits, refl),
+          counted (kind_major x.0) n (length d.content) x.1 b bs ys d.content zs (head_is (kind_major x.0) x.1 b n bs ys m a) d.size d.is,
+        ) in (
           x.1,
           head_info (kind_major x.0) x.1 b m,
           λ bs e rest h. stops_by inner (starts_string x.0 x.1) b bs e rest x.2 (inl h),
-          λ bs ys n e rest a h. stops_by inner (starts_string x.0 x.1) b bs e rest x.2 (inr (record { argument = n; after = ys; fits = a.fits; is = head_is (kind_major x.0) x.1 b n bs ys m a; stopped = h })),
-          λ bs ys zs n a d.
-              whole inner (b ∷ bs) zs (string x.0 x.1 d.content) (subst (HeadFits x.1) (sym d.size) a.fits) refl
-              (counted (kind_major x.0) n (length d.content) x.1 b bs ys d.content zs (head_is (kind_major x.0) x.1 b n bs ys m a) d.size d.is),
+          λ bs ys n a. record {
+            skips = λ rest d. (whole inner (b ∷ bs) rest (leaf bs ys rest n a d)).skips rest refl;
+            stops = λ e rest h. stops_by inner (starts_string x.0 x.1) b bs e rest x.2 (inr (record { argument = n; after = ys; fits = a.fits; is = head_is (kind_major x.0) x.1 b n bs ys m a; stopped = h }));
+          },
+          leaf,
         )
 
   -- so many items behind a head
@@ -264,7 +303,7 @@ module _ (inner : Budget) (b : ℕ) (small : b < 256) where
 
   module _ (s : start_of (initial b) ≡ start.Members) where
     pub members_info : (w : Width) × (info_of (b % 32) ≡ wide w) × ((bs : List ℕ) (e : Refusal) (rest : List ℕ) → MissingAll ignored_any (byte_count w) bs e rest → StopsUnder inner (b ∷ bs) e rest)
-        × ((bs ys : List ℕ) (n : ℕ) → ArgumentAt w b bs n ys → Leads inner (b ∷ bs) (Items (2 * n)) ys)
+        × ((bs ys : List ℕ) (n : ℕ) → ArgumentAt w b bs n ys → Leads inner (b ∷ bs) (Members n) ys)
     members_info =
         let x = starts_members (initial b) s in
         let m = row b (starts_map x.0) small x.1 in (

@@ -31,3 +31,7 @@ pub mod ValuingSequences
 pub mod ValuingStrings
 pub mod ValueDecoding
 pub mod ValuingItems
+pub mod Leaves
+pub mod Glancing
+pub mod RunPairs
+pub mod RunCalls

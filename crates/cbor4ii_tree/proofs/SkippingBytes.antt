@@ -117,7 +117,7 @@ number_fits eight n some h = h
 pub width_is : (w : Width) (i k : ℕ) (a : Additional) → info_of i ≡ wide w → a ≡ additional_of (info_of i) → a ≡ Wide k → byte_count w ≡ k
 width_is w i k a is by at = let e : additional_of (info_of i) ≡ Wide (byte_count w) = ap additional_of is in cc
 
-argument_read : (name : List ℕ) (w : Width) (first k v n : ℕ) (bs ys : List ℕ) → info_of (first % 32) ≡ wide w → byte_count w ≡ k → k ≢ 0 → IsBytes (take n bs) → k ≤ n → number_on name k k 0 bs ≡ Ok (v, ys) → ArgumentAt w first bs v ys
+pub argument_read : (name : List ℕ) (w : Width) (first k v n : ℕ) (bs ys : List ℕ) → info_of (first % 32) ≡ wide w → byte_count w ≡ k → k ≢ 0 → IsBytes (take n bs) → k ≤ n → number_on name k k 0 bs ≡ Ok (v, ys) → ArgumentAt w first bs v ys
 argument_read name w first k v n bs ys is size some bytes le e =
     let h = number_is name k k v bs ys (IsBytes-take k n bs le bytes) e in
     let more : byte_count w ≢ 0 = λ z. some (sym size ∙ z) in

@@ -1,5 +1,5 @@
 -- Items that are skipped one behind another.
-use Rattle.std.proofs.Common.{◌≡◌, ◌≢◌, ℕ, ◌+◌, ◌<◌, inl, inr, List, [], ◌∷◌, ◌++◌, true, false, refl, sym, ap, ap₂, ◌∙◌, take, drop, arith}
+use Rattle.std.proofs.Common.{◌≡◌, ◌≢◌, ℕ, ◌+◌, ◌<◌, inl, inr, List, [], ◌∷◌, ◌++◌, true, false, refl, sym, ap, ap₂, ◌∙◌, take, drop, arith, subst, ◌≤◌}
 use Rattle.cbor4ii_items.specs.Head.{break}
 use Rattle.cbor4ii_items.specs.Strings.{ReadsBreak}
 use Rattle.cbor4ii_tree.specs.Tree.{Trees, no_trees, Pairs, no_pairs, bytes, bytes_all, bytes_pairs}
@@ -8,6 +8,7 @@ use Rattle.cbor4ii_tree.specs.Refusal.{Refusal, eof, Small, break_name}
 use Rattle.cbor4ii_tree.specs.Stops.{Each, EachPair, NoBreak}
 use Rattle.cbor4ii_tree.specs.StopsSkipping.{Skippable}
 use Rattle.cbor4ii_tree.specs.Skipping.{SkipsOne, StopsOne, SkipsItems, StopsItems, SkipsOpen, StopsOpen, SkipsMembers, StopsMembers}
+use Rattle.cbor4ii_tree.proofs.parts.Joined.{join, count-join, each-join, bytes-join}
 use Rattle.cbor4ii_tree.proofs.parts.Pushed.{push, count-push, each-push, bytes-push, push_pair, each-push_pair, bytes-push_pair}
 
 -- whole items
@@ -16,6 +17,13 @@ SkippedEach budget xs ys = (ts : Trees) × Each (Skippable budget) ts × (xs ≡
 
 abbrev pub SkippedPairs : Budget → List ℕ → List ℕ → Type 0
 SkippedPairs budget xs ys = (ps : Pairs) × EachPair (Skippable budget) ps × (xs ≡ bytes_pairs ps ++ ys)
+
+pub items_join : (n m : ℕ) (budget : Budget) (xs ys zs : List ℕ) → SkipsItems n budget xs ys → SkipsItems m budget ys zs → SkipsItems (n + m) budget xs zs
+items_join n m budget xs ys zs h k =
+    (join h.0 k.0, count-join h.0 k.0 ∙ ap₂ ◌+◌ h.1 k.1, each-join (Skippable budget) h.0 k.0 h.2 k.2, h.3 ∙ ap (λ r. bytes_all h.0 ++ r) k.3 ∙ sym (bytes-join h.0 k.0 zs))
+
+pub each_join : (m : ℕ) (budget : Budget) (xs ys zs : List ℕ) → SkippedEach budget xs ys → SkipsItems m budget ys zs → SkippedEach budget xs zs
+each_join m budget xs ys zs h k = (join h.0 k.0, each-join (Skippable budget) h.0 k.0 h.1 k.2, h.2 ∙ ap (λ r. bytes_all h.0 ++ r) k.3 ∙ sym (bytes-join h.0 k.0 zs))
 
 pub items_none : (budget : Budget) (xs : List ℕ) → SkipsItems 0 budget xs xs
 items_none budget xs = (no_trees, refl, tt, refl)
@@ -41,15 +49,33 @@ each_more budget xs ys zs h k =
 pub open_end : (budget : Budget) (xs ys : List ℕ) → SkippedEach budget xs ys → ys ≡ [] → StopsOpen budget xs (eof break_name (Small 1)) []
 open_end budget xs ys h e = record { front = h.0; after = []; whole = h.1; is = h.2 ∙ ap (λ r. bytes_all h.0 ++ r) e; stopped = (refl, refl) }
 
-no_break : (budget : Budget) (ys : List ℕ) (e : Refusal) (rest : List ℕ) → ys ≢ [] → (take_break : (bs : List ℕ) → ys ≡ break ∷ bs → ⊥) → StopsOne budget ys e rest → NoBreak (StopsOne budget) ys e rest
+pub no_break : (budget : Budget) (ys : List ℕ) (e : Refusal) (rest : List ℕ) → ys ≢ [] → (take_break : (bs : List ℕ) → ys ≡ break ∷ bs → ⊥) → StopsOne budget ys e rest → NoBreak (StopsOne budget) ys e rest
 no_break budget [] e rest some none s = absurd (some refl)
 no_break budget (b ∷ bs) e rest some none s = ((λ f. none bs (ap (λ c. c ∷ bs) f)), s)
 
-pub open_stop : (budget : Budget) (xs ys : List ℕ) (e : Refusal) (rest : List ℕ) → ys ≢ [] → ((bs : List ℕ) → ys ≡ break ∷ bs → ⊥) → SkippedEach budget xs ys → StopsOne budget ys e rest → StopsOpen budget xs e rest
-open_stop budget xs ys e rest some none h s = record { front = h.0; after = ys; whole = h.1; is = h.2; stopped = no_break budget ys e rest some none s }
+pub open_stop : (budget : Budget) (xs ys : List ℕ) (e : Refusal) (rest : List ℕ) → SkippedEach budget xs ys → NoBreak (StopsOne budget) ys e rest → StopsOpen budget xs e rest
+open_stop budget xs ys e rest h s = record { front = h.0; after = ys; whole = h.1; is = h.2; stopped = s }
 
 pub open_done : (budget : Budget) (xs ys zs : List ℕ) → SkippedEach budget xs ys → ys ≡ break ∷ zs → SkipsOpen budget xs zs
 open_done budget xs ys zs h e = (h.0, h.1, h.2 ∙ ap (λ r. bytes_all h.0 ++ r) e)
+
+-- ---- some at once
+
+-- so many are left of the count
+abbrev pub Left : ℕ → ℕ → Budget → List ℕ → List ℕ → Type 0
+Left total left budget xs ys = (n : ℕ) × (n + left ≡ total) × SkipsItems n budget xs ys
+
+pub left_all : (total : ℕ) (budget : Budget) (xs : List ℕ) → Left total total budget xs xs
+left_all total budget xs = (0, omega arith, items_none budget xs)
+
+pub left_some : (total left less m : ℕ) (budget : Budget) (xs ys zs : List ℕ) → less + m ≡ left → Left total left budget xs ys → SkipsItems m budget ys zs → Left total less budget xs zs
+left_some total left less m budget xs ys zs e h k = (h.0 + m, omega (arith, h.1, e), items_join h.0 m budget xs ys zs h.2 k)
+
+pub left_none : (total left : ℕ) (budget : Budget) (xs ys : List ℕ) → left ≡ 0 → Left total left budget xs ys → SkipsItems total budget xs ys
+left_none total left budget xs ys none h = subst (λ n. SkipsItems n budget xs ys) (omega (arith, h.1, none)) h.2
+
+pub left_stop : (total left : ℕ) (budget : Budget) (xs ys : List ℕ) (e : Refusal) (rest : List ℕ) → 1 ≤ left → Left total left budget xs ys → StopsOne budget ys e rest → StopsItems total budget xs e rest
+left_stop total left budget xs ys e rest some h s = items_stop h.0 total budget xs ys e rest (omega (arith, h.1, some)) h.2 s
 
 -- ---- pairs
 
@@ -63,8 +89,8 @@ pairs_more budget xs ys ws zs h k v = (
 pub members_end : (budget : Budget) (xs ys : List ℕ) → SkippedPairs budget xs ys → ys ≡ [] → StopsMembers budget xs (eof break_name (Small 1)) []
 members_end budget xs ys h e = record { front = h.0; after = []; whole = h.1; is = h.2 ∙ ap (λ r. bytes_pairs h.0 ++ r) e; stopped = inl (refl, refl) }
 
-pub key_stop : (budget : Budget) (xs ys : List ℕ) (e : Refusal) (rest : List ℕ) → ys ≢ [] → ((bs : List ℕ) → ys ≡ break ∷ bs → ⊥) → SkippedPairs budget xs ys → StopsOne budget ys e rest → StopsMembers budget xs e rest
-key_stop budget xs ys e rest some none h s = record { front = h.0; after = ys; whole = h.1; is = h.2; stopped = inl (no_break budget ys e rest some none s) }
+pub key_stop : (budget : Budget) (xs ys : List ℕ) (e : Refusal) (rest : List ℕ) → SkippedPairs budget xs ys → NoBreak (StopsOne budget) ys e rest → StopsMembers budget xs e rest
+key_stop budget xs ys e rest h s = record { front = h.0; after = ys; whole = h.1; is = h.2; stopped = inl s }
 
 pub value_stop : (budget : Budget) (xs ys ws : List ℕ) (e : Refusal) (rest : List ℕ) → SkippedPairs budget xs ys → SkipsOne budget ys ws → StopsOne budget ws e rest → StopsMembers budget xs e rest
 value_stop budget xs ys ws e rest h k s =

@@ -4,3 +4,4 @@ pub mod Stop
 pub mod Widen
 pub mod Fronts
 pub mod Pushed
+pub mod Joined

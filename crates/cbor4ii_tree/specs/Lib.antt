@@ -32,3 +32,5 @@ pub mod RawLaws
 pub mod BoxedRaw
 pub mod Front
 pub mod FrontLaws
+pub mod Runs
+pub mod Ahead

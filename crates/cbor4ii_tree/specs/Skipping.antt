@@ -1,15 +1,16 @@
 -- What the parts of skipping accept, and where they stop.
-use Rattle.std.specs.Prelude.{◌≡◌, ℕ, List, ◌∷◌, ◌++◌, Some}
+use Rattle.std.specs.Prelude.{◌≡◌, ℕ, ◌*◌, List, ◌∷◌, ◌++◌, Some}
 use Rattle.cbor4ii_items.specs.Head.{byte_count, break}
 use Rattle.cbor4ii_items.specs.Initial.{precision_bytes, Info, wide, open_ended, reserved, Initial, starts_int, bad_int, starts_string, starts_chunks, bad_string, starts_array, starts_open_array, bad_array, starts_map, starts_open_map, bad_map, starts_tag, bad_tag, starts_simple, starts_bits, other_simple}
 use Rattle.cbor4ii_tree.specs.Tree.{Tree, Trees, Pairs, count, bytes_all, bytes_pairs}
 use Rattle.cbor4ii_tree.specs.Cost.{Budget, step_in}
-use Rattle.cbor4ii_tree.specs.Refusal.{Refusal}
+use Rattle.cbor4ii_tree.specs.HeadParts.{DropsBytes}
+use Rattle.cbor4ii_tree.specs.Refusal.{Refusal, ignored_any}
 use Rattle.cbor4ii_tree.specs.Spelling.{Skips}
-use Rattle.cbor4ii_tree.specs.Stops.{Stopping, Each, EachPair, Counted, OpenItems, OpenPairs}
+use Rattle.cbor4ii_tree.specs.Stops.{Stopping, Missing, Each, EachPair, Counted, OpenItems, OpenPairs}
 use Rattle.cbor4ii_tree.specs.StopsSkipping.{Skippable, StopsSkipping}
 use Rattle.cbor4ii_tree.specs.declared.skip.Behind.{Behind}
-use Rattle.cbor4ii_tree.specs.declared.skip.Behind.TheVariants.{Nothing, Items, Open, OpenMembers}
+use Rattle.cbor4ii_tree.specs.declared.skip.Behind.TheVariants.{Nothing, Bytes, Items, Members, Open, OpenMembers}
 use Rattle.cbor4ii_tree.specs.declared.skip.Start.{Start}
 use Rattle.cbor4ii_tree.specs.declared.skip.Start.TheVariants as start
 use Rattle.cbor4ii_tree.specs.declared.skip.Additional.{Additional}
@@ -73,13 +74,17 @@ StopsMembers budget = OpenPairs (Skippable budget) (StopsOne budget)
 -- what is still to be skipped of an item under the budget
 abbrev pub SkipsBehind : Behind → Budget → List ℕ → List ℕ → Type 0
 SkipsBehind Nothing budget xs ys = ys ≡ xs
+SkipsBehind (Bytes n) budget xs ys = DropsBytes n xs ys
 SkipsBehind (Items n) budget xs ys = SkipsItems n budget xs ys
+SkipsBehind (Members n) budget xs ys = SkipsItems (2 * n) budget xs ys
 SkipsBehind Open budget xs ys = SkipsOpen budget xs ys
 SkipsBehind OpenMembers budget xs ys = SkipsMembers budget xs ys
 
 abbrev pub StopsBehind : Behind → Budget → Stopping
 StopsBehind Nothing budget xs e rest = ⊥
+StopsBehind (Bytes n) budget xs e rest = Missing ignored_any n xs e rest
 StopsBehind (Items n) budget xs e rest = StopsItems n budget xs e rest
+StopsBehind (Members n) budget xs e rest = StopsItems (2 * n) budget xs e rest
 StopsBehind Open budget xs e rest = StopsOpen budget xs e rest
 StopsBehind OpenMembers budget xs e rest = StopsMembers budget xs e rest
 

@@ -22,10 +22,15 @@ ghost use Rattle.cbor4ii_rw.specs.View.{View};
 ghost use Rattle.cbor4ii_rw.specs.Reader.{Breaks, Advances, KeepsAllButBudget};
 ghost use Rattle.cbor4ii_items.specs.Head.{IsBytes};
 ghost use Rattle.cbor4ii_tree.specs.Front.{lent_view, Offers, BeginsWith, Ready};
+ghost use Rattle.cbor4ii_tree.specs.Ahead.{Sees};
 ghost use Rattle.cbor4ii_tree.specs.FrontLaws.{own_budget, own_moved, lent_budget, lent_moved};
 
+use crate::ahead::{Ahead, Among, ahead_of};
 use cbor4ii_rw::ask::look;
 use cbor4ii_rw::read::Source;
+
+/// So many bytes are asked for in a look that decides what comes next.
+const WINDOW: usize = 256;
 
 /// Bytes that are looked at before they are taken, under the steps of a reader.
 pub(crate) trait Front<S: Source>: Sized {
@@ -37,15 +42,27 @@ pub(crate) trait Front<S: Source>: Sized {
 
     /// The next byte, which stays; none at the end.
     fn peek(&mut self, reader: &mut S) -> Result<Option<u8>, S::Error>
-        ensures offers { IfOk result (λ found. Offers 1 (BeginsWith found) (view self.old reader.old) (view self.new reader.new)) }
+        ensures offers { IfOk result (λ found. Offers 1 (BeginsWith found)
+            (view self.old reader.old) (view self.new reader.new)) }
         ensures byte { IfOk result (λ found. IfSome found (λ b. b < 256)) }
-        ensures breaks { OnErr result (Breaks (view self.old reader.old) (view self.new reader.new)) }
+        ensures breaks { OnErr result
+            (Breaks (view self.old reader.old) (view self.new reader.new)) }
         ensures stays { IsTrue apart → S.view reader.new ≡ S.view reader.old };
 
     /// How many bytes may be taken at once, at most so many; none at the end.
     fn ready(&mut self, reader: &mut S, want: usize) -> Result<usize, S::Error>
-        ensures offers { IfOk result (λ count. Offers want (Ready want count) (view self.old reader.old) (view self.new reader.new)) }
-        ensures breaks { OnErr result (Breaks (view self.old reader.old) (view self.new reader.new)) }
+        ensures offers { IfOk result (λ count. Offers want (Ready want count)
+            (view self.old reader.old) (view self.new reader.new)) }
+        ensures breaks { OnErr result
+            (Breaks (view self.old reader.old) (view self.new reader.new)) }
+        ensures stays { IsTrue apart → S.view reader.new ≡ S.view reader.old };
+
+    /// What comes next, decided by one look at the front.
+    fn ahead(&mut self, reader: &mut S, among: Among) -> Result<Ahead, S::Error>
+        ensures offers { IfOk result (λ seen. Offers 256 (Sees among seen)
+            (view self.old reader.old) (view self.new reader.new)) }
+        ensures breaks { OnErr result
+            (Breaks (view self.old reader.old) (view self.new reader.new)) }
         ensures stays { IsTrue apart → S.view reader.new ≡ S.view reader.old };
 
     /// Takes so many bytes.
@@ -95,6 +112,19 @@ impl<S: Source> Front<S> for Own {
         }
     }
 
+    #[inline(always)]
+    fn ahead(&mut self, reader: &mut S, among: Among) -> Result<Ahead, S::Error> {
+        let mut failure = None;
+        match look(reader, WINDOW, &mut failure) {
+            Some(shown) => Ok(ahead_of(shown, among)),
+            None => match failure {
+                Some(error) => Err(error),
+                None => unreachable!(),
+            },
+        }
+    }
+
+    #[inline(always)]
     fn advance(&mut self, reader: &mut S, count: usize) {
         reader.advance(count);
     }
@@ -123,6 +153,12 @@ impl<S: Source> Front<S> for Lent<'_> {
         Ok(front_size(self.rest, want))
     }
 
+    #[inline(always)]
+    fn ahead(&mut self, reader: &mut S, among: Among) -> Result<Ahead, S::Error> {
+        Ok(ahead_of(self.rest, among))
+    }
+
+    #[inline(always)]
     fn advance(&mut self, reader: &mut S, count: usize) {
         self.rest = &self.rest[count..];
     }

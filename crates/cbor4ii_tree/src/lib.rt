@@ -2,6 +2,7 @@
 //! that are read and written, items that are skipped, and items that are kept as their bytes.
 #![tactic(auto)]
 
+mod ahead;
 pub mod boxed_raw;
 mod decode_value;
 mod encode_value;

@@ -1,5 +1,22 @@
 //! Items skipped: what the heads of RFC 8949 section 3 say follows is passed over, in any front.
-ghost use Rattle.std.specs.Prelude.{◌≡◌, ◌+◌, ◌*◌, ◌^◌, ◌≤◌, ◌<◌, min, length, OnOk, IfOk, IfErr, IsTrue, codes, ◌%◌, ◌/◌};
+ghost use Rattle.std.specs.Prelude.{
+  ◌≡◌,
+  ◌+◌,
+  ◌*◌,
+  ◌^◌,
+  ◌≤◌,
+  ◌<◌,
+  Some,
+  min,
+  length,
+  OnOk,
+  IfOk,
+  IfErr,
+  IsTrue,
+  codes,
+  ◌%◌,
+  ◌/◌,
+};
 ghost use Rattle.cbor4ii_rw.specs.Reader.{KeepsAllButBudget};
 ghost use Rattle.cbor4ii_items.specs.Decoding.{Sound, Stops};
 ghost use Rattle.cbor4ii_items.specs.Head.{Width, byte_count};
@@ -22,11 +39,28 @@ ghost use Rattle.cbor4ii_tree.specs.Skipping.{
   StopsMembers,
   SkipsUnder,
   StopsUnder,
+  SkipsBehind,
+  StopsBehind,
   Leads,
+};
+ghost use Rattle.cbor4ii_tree.specs.Ahead.{
+  Awaits,
+  Counts,
+  IsOpen,
+  Takes,
+  Passes,
+  SkipsSome,
+  StopsSome,
+  SkipsSomeUnder,
+  StopsSomeUnder,
+  EndsOrNot,
+  StopsAtEnd,
+  NeverStops,
 };
 ghost use Rattle.cbor4ii_tree.specs.HeadParts.{ArgumentAt, DropsBytes, DropsSome};
 ghost use Rattle.cbor4ii_tree.specs.Stops.{Missing, MissingAll};
 
+use crate::ahead::{Ahead, Among};
 use crate::front::Front;
 use cbor4ii_items::marker;
 use cbor4ii_rw::error::{DecodeError, Len, StaticStr};
@@ -74,8 +108,15 @@ pub(crate) enum Start {
 #[derive(Clone, Copy)]
 pub(crate) enum Behind {
     Nothing,
-    Items(u128),
+    /// So many bytes.
+    Bytes(u64),
+    /// So many items.
+    Items(u64),
+    /// So many pairs.
+    Members(u64),
+    /// Items up to a break.
     Open,
+    /// Pairs up to a break.
     OpenMembers,
 }
 
@@ -85,39 +126,94 @@ pub(crate) fn skip_item<S: Source, F: Front<S>>(
     front: &mut F,
     reader: &mut S,
 ) -> Result<(), DecodeError<S::Error>>
-    ensures does { Does (λ xs _ ys. SkipsOne (F.view front.old reader.old).budget xs ys) (StopsOne (F.view front.old reader.old).budget)
+    ensures does { Does (λ xs _ ys. SkipsOne (F.view front.old reader.old).budget xs ys)
+        (StopsOne (F.view front.old reader.old).budget)
         (F.view front.old reader.old) (F.view front.new reader.new) result }
     ensures spares { Spares result }
-    ensures progress { OnOk result ((F.view front.new reader.new).bound + 1 ≤ (F.view front.old reader.old).bound) }
+    ensures progress { OnOk result
+        ((F.view front.new reader.new).bound + 1 ≤ (F.view front.old reader.old).bound) }
+    ensures stays { IsTrue F.apart → KeepsAllButBudget (S.view reader.old) (S.view reader.new) }
+{
+    skip_some(front, reader, Among::Items(1))?;
+    Ok(())
+}
+
+/// Skips an item, or a run of them, and answers how many; or takes a break, and answers 0.
+#[cycle(skip)]
+#[inline(always)]
+fn skip_some<S: Source, F: Front<S>>(
+    front: &mut F,
+    reader: &mut S,
+    among: Among,
+) -> Result<u64, DecodeError<S::Error>>
+    requires { Awaits among }
+    ensures does { Does (SkipsSome among (F.view front.old reader.old).budget)
+        (StopsSome among (F.view front.old reader.old).budget)
+        (F.view front.old reader.old) (F.view front.new reader.new) result }
+    ensures spares { Spares result }
+    ensures counts { IfOk result (λ n. Counts among n) }
+    ensures progress { IfOk result (λ n. 1 ≤ n →
+        (F.view front.new reader.new).bound + 1 ≤ (F.view front.old reader.old).bound) }
     ensures stays { IsTrue F.apart → KeepsAllButBudget (S.view reader.old) (S.view reader.new) }
 {
     if !reader.step_in() {
-        return Err(DecodeError::DepthOverflow {
-            name: "ignored-any",
-        });
+        return skip_without_step(front, reader, among);
     }
-    let outcome = skip_inside(front, reader);
+    let outcome = some_inside(front, reader, among);
     reader.step_out();
     outcome
 }
 
-/// Skips one item whose step was taken.
+/// As `skip_some`, where the step was taken.
 #[cycle(skip)]
-fn skip_inside<S: Source, F: Front<S>>(
+#[inline(always)]
+fn some_inside<S: Source, F: Front<S>>(
     front: &mut F,
     reader: &mut S,
-) -> Result<(), DecodeError<S::Error>>
-    ensures does { Does (λ xs _ ys. SkipsUnder (F.view front.old reader.old).budget xs ys) (StopsUnder (F.view front.old reader.old).budget)
+    among: Among,
+) -> Result<u64, DecodeError<S::Error>>
+    requires { Awaits among }
+    ensures does { Does (SkipsSomeUnder among (F.view front.old reader.old).budget)
+        (StopsSomeUnder among (F.view front.old reader.old).budget)
         (F.view front.old reader.old) (F.view front.new reader.new) result }
     ensures spares { Spares result }
-    ensures progress { OnOk result ((F.view front.new reader.new).bound + 1 ≤ (F.view front.old reader.old).bound) }
+    ensures counts { IfOk result (λ n. Counts among n) }
+    ensures progress { IfOk result (λ n. 1 ≤ n →
+        (F.view front.new reader.new).bound + 1 ≤ (F.view front.old reader.old).bound) }
     ensures stays { IsTrue F.apart → KeepsAllButBudget (S.view reader.old) (S.view reader.new) }
 {
-    match skip_head(front, reader)? {
+    match take_ahead(front, reader, among)? {
+        Ahead::Run(count, _) => Ok(count),
+        Ahead::Head(_, behind) => {
+            skip_behind(front, reader, behind)?;
+            Ok(1)
+        }
+        Ahead::Break => Ok(0),
+        Ahead::Unseen => skip_unseen(front, reader, among),
+    }
+}
+
+/// Skips what is left of an item behind its head.
+#[cycle(skip)]
+#[inline(always)]
+fn skip_behind<S: Source, F: Front<S>>(
+    front: &mut F,
+    reader: &mut S,
+    behind: Behind,
+) -> Result<(), DecodeError<S::Error>>
+    ensures does { Does (λ xs _ ys. SkipsBehind behind (F.view front.old reader.old).budget xs ys)
+        (StopsBehind behind (F.view front.old reader.old).budget)
+        (F.view front.old reader.old) (F.view front.new reader.new) result }
+    ensures spares { Spares result }
+    ensures stays { IsTrue F.apart → KeepsAllButBudget (S.view reader.old) (S.view reader.new) }
+{
+    match behind {
         Behind::Nothing => Ok(()),
+        Behind::Bytes(count) => skip_bytes(front, reader, count),
         Behind::Items(count) => skip_items(front, reader, count),
+        Behind::Members(count) => skip_members(front, reader, count),
         Behind::Open => skip_open(front, reader),
-        Behind::OpenMembers => skip_members(front, reader),
+        Behind::OpenMembers => skip_open_members(front, reader),
     }
 }
 
@@ -126,15 +222,43 @@ fn skip_inside<S: Source, F: Front<S>>(
 fn skip_items<S: Source, F: Front<S>>(
     front: &mut F,
     reader: &mut S,
-    count: u128,
+    count: u64,
 ) -> Result<(), DecodeError<S::Error>>
-    ensures does { Does (λ xs _ ys. SkipsItems count (F.view front.old reader.old).budget xs ys) (StopsItems count (F.view front.old reader.old).budget)
+    ensures does { Does (λ xs _ ys. SkipsItems count (F.view front.old reader.old).budget xs ys)
+        (StopsItems count (F.view front.old reader.old).budget)
         (F.view front.old reader.old) (F.view front.new reader.new) result }
     ensures spares { Spares result }
     ensures stays { IsTrue F.apart → KeepsAllButBudget (S.view reader.old) (S.view reader.new) }
 {
-    for i in 0..count {
-        skip_item(front, reader)?;
+    let mut left = count;
+    while left > 0 {
+        left -= skip_some(front, reader, Among::Items(left))?;
+    }
+    Ok(())
+}
+
+/// Skips so many pairs.
+#[cycle(skip)]
+fn skip_members<S: Source, F: Front<S>>(
+    front: &mut F,
+    reader: &mut S,
+    count: u64,
+) -> Result<(), DecodeError<S::Error>>
+    ensures does { Does
+        (λ xs _ ys. SkipsItems (2 * count) (F.view front.old reader.old).budget xs ys)
+        (StopsItems (2 * count) (F.view front.old reader.old).budget)
+        (F.view front.old reader.old) (F.view front.new reader.new) result }
+    ensures spares { Spares result }
+    ensures stays { IsTrue F.apart → KeepsAllButBudget (S.view reader.old) (S.view reader.new) }
+{
+    let mut left = count;
+    while left > 0 {
+        let some = skip_some(front, reader, Among::Pairs(left))?;
+        left -= some / 2 + some % 2;
+        if some % 2 == 1 {
+            // A key: its value follows.
+            skip_item(front, reader)?;
+        }
     }
     Ok(())
 }
@@ -145,44 +269,170 @@ fn skip_open<S: Source, F: Front<S>>(
     front: &mut F,
     reader: &mut S,
 ) -> Result<(), DecodeError<S::Error>>
-    ensures does { Does (λ xs _ ys. SkipsOpen (F.view front.old reader.old).budget xs ys) (StopsOpen (F.view front.old reader.old).budget)
+    ensures does { Does (λ xs _ ys. SkipsOpen (F.view front.old reader.old).budget xs ys)
+        (StopsOpen (F.view front.old reader.old).budget)
         (F.view front.old reader.old) (F.view front.new reader.new) result }
     ensures spares { Spares result }
     ensures stays { IsTrue F.apart → KeepsAllButBudget (S.view reader.old) (S.view reader.new) }
 {
-    while !is_break(front, reader)? {
-        skip_item(front, reader)?;
-    }
+    while skip_some(front, reader, Among::OpenItems)? > 0 {}
     Ok(())
 }
 
-/// Skips pairs up to a break.
+/// Skips pairs up to a break. No break may come behind a key.
 #[cycle(skip)]
-fn skip_members<S: Source, F: Front<S>>(
+fn skip_open_members<S: Source, F: Front<S>>(
     front: &mut F,
     reader: &mut S,
 ) -> Result<(), DecodeError<S::Error>>
-    ensures does { Does (λ xs _ ys. SkipsMembers (F.view front.old reader.old).budget xs ys) (StopsMembers (F.view front.old reader.old).budget)
+    ensures does { Does (λ xs _ ys. SkipsMembers (F.view front.old reader.old).budget xs ys)
+        (StopsMembers (F.view front.old reader.old).budget)
         (F.view front.old reader.old) (F.view front.new reader.new) result }
     ensures spares { Spares result }
     ensures stays { IsTrue F.apart → KeepsAllButBudget (S.view reader.old) (S.view reader.new) }
 {
-    while !is_break(front, reader)? {
-        skip_item(front, reader)?;
-        skip_item(front, reader)?;
+    loop {
+        let some = skip_some(front, reader, Among::OpenPairs)?;
+        if some == 0 {
+            return Ok(());
+        }
+        if some % 2 == 1 {
+            // A key: no break may come before its value.
+            skip_item(front, reader)?;
+        }
     }
-    Ok(())
 }
 
-/// Takes the head of an item, and what belongs to it but items.
+/// Takes what comes next where one look decides it, by one advance.
+#[inline(always)]
+fn take_ahead<S: Source, F: Front<S>>(
+    front: &mut F,
+    reader: &mut S,
+    among: Among,
+) -> Result<Ahead, DecodeError<S::Error>>
+    ensures does { Does (Takes among (F.view front.old reader.old).budget) NeverStops
+        (F.view front.old reader.old) (F.view front.new reader.new) result }
+    ensures spares { Spares result }
+    ensures passes { IfOk result (λ seen. Passes among seen (F.view front.old reader.old).bound
+        (F.view front.new reader.new).bound) }
+    ensures stays { IsTrue F.apart → S.view reader.new ≡ S.view reader.old }
+{
+    match front.ahead(reader, among) {
+        Ok(Ahead::Run(count, size)) => {
+            front.advance(reader, size);
+            Ok(Ahead::Run(count, size))
+        }
+        Ok(Ahead::Head(size, behind)) => {
+            front.advance(reader, size);
+            Ok(Ahead::Head(size, behind))
+        }
+        Ok(Ahead::Break) => {
+            front.advance(reader, 1);
+            Ok(Ahead::Break)
+        }
+        Ok(Ahead::Unseen) => Ok(Ahead::Unseen),
+        Err(error) => Err(DecodeError::Read(error)),
+    }
+}
+
+/// Skips one item byte by byte, or takes a break where one may come; the step was taken.
+#[cycle(skip)]
+#[cold]
+#[inline(never)]
+fn skip_unseen<S: Source, F: Front<S>>(
+    front: &mut F,
+    reader: &mut S,
+    among: Among,
+) -> Result<u64, DecodeError<S::Error>>
+    requires { Awaits among }
+    ensures does { Does (SkipsSomeUnder among (F.view front.old reader.old).budget)
+        (StopsSomeUnder among (F.view front.old reader.old).budget)
+        (F.view front.old reader.old) (F.view front.new reader.new) result }
+    ensures spares { Spares result }
+    ensures counts { IfOk result (λ n. Counts among n) }
+    ensures progress { IfOk result (λ n. 1 ≤ n →
+        (F.view front.new reader.new).bound + 1 ≤ (F.view front.old reader.old).bound) }
+    ensures stays { IsTrue F.apart → KeepsAllButBudget (S.view reader.old) (S.view reader.new) }
+{
+    if ends(front, reader, among)? {
+        return Ok(0);
+    }
+    skip_inside(front, reader)?;
+    Ok(1)
+}
+
+/// Skips one item byte by byte; the step was taken.
+#[cycle(skip)]
+fn skip_inside<S: Source, F: Front<S>>(
+    front: &mut F,
+    reader: &mut S,
+) -> Result<(), DecodeError<S::Error>>
+    ensures does { Does (λ xs _ ys. SkipsUnder (F.view front.old reader.old).budget xs ys)
+        (StopsUnder (F.view front.old reader.old).budget)
+        (F.view front.old reader.old) (F.view front.new reader.new) result }
+    ensures spares { Spares result }
+    ensures progress { OnOk result
+        ((F.view front.new reader.new).bound + 1 ≤ (F.view front.old reader.old).bound) }
+    ensures stays { IsTrue F.apart → KeepsAllButBudget (S.view reader.old) (S.view reader.new) }
+{
+    let behind = skip_head(front, reader)?;
+    skip_behind(front, reader, behind)
+}
+
+/// Where no step is left a break alone may come.
+#[cold]
+#[inline(never)]
+fn skip_without_step<S: Source, F: Front<S>>(
+    front: &mut F,
+    reader: &mut S,
+    among: Among,
+) -> Result<u64, DecodeError<S::Error>>
+    requires awaits { Awaits among }
+    requires no_step { (F.view front.old reader.old).budget ≡ Some 0 }
+    ensures does { Does (SkipsSome among (Some 0)) (StopsSome among (Some 0))
+        (F.view front.old reader.old) (F.view front.new reader.new) result }
+    ensures spares { Spares result }
+    ensures counts { IfOk result (λ n. Counts among n) }
+    ensures none { IfOk result (λ n. n ≡ 0) }
+    ensures stays { IsTrue F.apart → S.view reader.new ≡ S.view reader.old }
+{
+    if ends(front, reader, among)? {
+        return Ok(0);
+    }
+    Err(DecodeError::DepthOverflow {
+        name: "ignored-any",
+    })
+}
+
+/// Takes a break where one may come.
+fn ends<S: Source, F: Front<S>>(
+    front: &mut F,
+    reader: &mut S,
+    among: Among,
+) -> Result<bool, DecodeError<S::Error>>
+    ensures does { Does (EndsOrNot among) (StopsAtEnd among)
+        (F.view front.old reader.old) (F.view front.new reader.new) result }
+    ensures spares { Spares result }
+    ensures open { IfOk result (λ ended. IsTrue ended → IsOpen among) }
+    ensures stays { IsTrue F.apart → S.view reader.new ≡ S.view reader.old }
+{
+    if among.is_open() {
+        return is_break(front, reader);
+    }
+    Ok(false)
+}
+
+/// Takes the head of an item, with a number's bytes or a float's, byte by byte.
 fn skip_head<S: Source, F: Front<S>>(
     front: &mut F,
     reader: &mut S,
 ) -> Result<Behind, DecodeError<S::Error>>
-    ensures does { Does (Leads (F.view front.old reader.old).budget) (StopsUnder (F.view front.old reader.old).budget)
+    ensures does { Does (Leads (F.view front.old reader.old).budget)
+        (StopsUnder (F.view front.old reader.old).budget)
         (F.view front.old reader.old) (F.view front.new reader.new) result }
     ensures spares { Spares result }
-    ensures progress { OnOk result ((F.view front.new reader.new).bound + 1 ≤ (F.view front.old reader.old).bound) }
+    ensures progress { OnOk result
+        ((F.view front.new reader.new).bound + 1 ≤ (F.view front.old reader.old).bound) }
     ensures stays { IsTrue F.apart → S.view reader.new ≡ S.view reader.old }
 {
     let first = peek(front, reader, "ignored-any", 1)?;
@@ -194,17 +444,15 @@ fn skip_head<S: Source, F: Front<S>>(
         }
         Start::Content => {
             front.advance(reader, 1);
-            let length = argument(front, reader, "ignored-any", first)?;
-            skip_bytes(front, reader, length)?;
-            Ok(Behind::Nothing)
+            Ok(Behind::Bytes(argument(front, reader, "ignored-any", first)?))
         }
         Start::Items => {
             front.advance(reader, 1);
-            Ok(Behind::Items(argument(front, reader, "ignored-any", first)? as u128))
+            Ok(Behind::Items(argument(front, reader, "ignored-any", first)?))
         }
         Start::Members => {
             front.advance(reader, 1);
-            Ok(Behind::Items(2 * argument(front, reader, "ignored-any", first)? as u128))
+            Ok(Behind::Members(argument(front, reader, "ignored-any", first)?))
         }
         Start::Tag => {
             front.advance(reader, 1);
@@ -246,7 +494,7 @@ fn skip_head<S: Source, F: Front<S>>(
 
 /// What begins with this first byte.
 #[tactic(auto, unfolding(cbor4ii_items::specs::Initial::initial))]
-fn start_of(first: u8) -> Start
+pub(crate) fn start_of(first: u8) -> Start
     ensures { result ≡ start_of (initial first) }
 {
     let info = parse_info(first % 32);
@@ -307,13 +555,16 @@ fn parse_info(info: u8) -> Additional
     }
 }
 
-/// Takes a break and answers true, or takes nothing and answers false where another byte comes next.
+/// Takes a break and answers true, or takes nothing and answers false where another byte comes
+/// next.
 fn is_break<S: Source, F: Front<S>>(
     front: &mut F,
     reader: &mut S,
 ) -> Result<bool, DecodeError<S::Error>>
-    ensures runs { Runs break_at (F.view front.old reader.old) (F.view front.new reader.new) result }
-    ensures sound { IfOk result (Sound ReadsBreak (F.view front.old reader.old) (F.view front.new reader.new)) }
+    ensures runs { Runs break_at
+        (F.view front.old reader.old) (F.view front.new reader.new) result }
+    ensures sound { IfOk result
+        (Sound ReadsBreak (F.view front.old reader.old) (F.view front.new reader.new)) }
     ensures stops { IfErr result
         (Stops StopsBreak (F.view front.old reader.old) (F.view front.new reader.new)) }
     ensures stays { IsTrue F.apart → S.view reader.new ≡ S.view reader.old }
@@ -326,7 +577,8 @@ fn at_break<S: Source, F: Front<S>>(
     front: &mut F,
     reader: &mut S,
 ) -> Result<bool, DecodeError<S::Error>>
-    ensures runs { Runs break_at (F.view front.old reader.old) (F.view front.new reader.new) result }
+    ensures runs { Runs break_at
+        (F.view front.old reader.old) (F.view front.new reader.new) result }
     ensures stays { IsTrue F.apart → S.view reader.new ≡ S.view reader.old }
 {
     let byte = peek(front, reader, "break", 1)?;
@@ -344,7 +596,8 @@ pub(crate) fn peek<S: Source, F: Front<S>>(
     name: StaticStr,
     expect: u16,
 ) -> Result<u8, DecodeError<S::Error>>
-    ensures runs { Runs (peek_at name.now expect) (F.view front.old reader.old) (F.view front.new reader.new) result }
+    ensures runs { Runs (peek_at name.now expect)
+        (F.view front.old reader.old) (F.view front.new reader.new) result }
     ensures byte { IfOk result (λ b. b < 256) }
     ensures can { OnOk result (1 ≤ (F.view front.new reader.new).advanceable) }
     ensures stays { IsTrue F.apart → S.view reader.new ≡ S.view reader.old }
@@ -366,7 +619,8 @@ fn take<S: Source, F: Front<S>>(
     name: StaticStr,
     expect: u16,
 ) -> Result<u8, DecodeError<S::Error>>
-    ensures runs { Runs (byte_at name.now expect) (F.view front.old reader.old) (F.view front.new reader.new) result }
+    ensures runs { Runs (byte_at name.now expect)
+        (F.view front.old reader.old) (F.view front.new reader.new) result }
     ensures byte { IfOk result (λ b. b < 256) }
     ensures stays { IsTrue F.apart → S.view reader.new ≡ S.view reader.old }
 {
@@ -383,7 +637,8 @@ fn number<S: Source, F: Front<S>>(
     bytes: u8,
 ) -> Result<u128, DecodeError<S::Error>>
     requires { bytes ≤ 16 }
-    ensures runs { Runs (number_on name.now bytes bytes 0) (F.view front.old reader.old) (F.view front.new reader.new) result }
+    ensures runs { Runs (number_on name.now bytes bytes 0)
+        (F.view front.old reader.old) (F.view front.new reader.new) result }
     ensures fits { IfOk result (λ v. v < 256 ^ bytes) }
     ensures stays { IsTrue F.apart → S.view reader.new ≡ S.view reader.old }
 {
@@ -402,7 +657,8 @@ fn argument<S: Source, F: Front<S>>(
     name: StaticStr,
     first: u8,
 ) -> Result<u64, DecodeError<S::Error>>
-    ensures does { (w : Width) → info_of (first % 32) ≡ wide w → Does (ArgumentAt w first) (MissingAll name.now (byte_count w))
+    ensures does { (w : Width) → info_of (first % 32) ≡ wide w →
+        Does (ArgumentAt w first) (MissingAll name.now (byte_count w))
         (F.view front.old reader.old) (F.view front.new reader.new) result }
     ensures spares { Spares result }
     ensures stays { IsTrue F.apart → S.view reader.new ≡ S.view reader.old }
@@ -420,7 +676,8 @@ fn skip_bytes<S: Source, F: Front<S>>(
     reader: &mut S,
     count: u64,
 ) -> Result<(), DecodeError<S::Error>>
-    ensures does { Does (λ xs _ ys. DropsBytes count xs ys) (Missing (codes "ignored-any") count) (F.view front.old reader.old) (F.view front.new reader.new) result }
+    ensures does { Does (λ xs _ ys. DropsBytes count xs ys) (Missing (codes "ignored-any") count)
+        (F.view front.old reader.old) (F.view front.new reader.new) result }
     ensures spares { Spares result }
     ensures stays { IsTrue F.apart → S.view reader.new ≡ S.view reader.old }
 {
@@ -438,7 +695,8 @@ fn skip_shown<S: Source, F: Front<S>>(
     missing: usize,
 ) -> Result<usize, DecodeError<S::Error>>
     requires { 1 ≤ missing }
-    ensures does { Does (DropsSome missing) (Missing (codes "ignored-any") missing) (F.view front.old reader.old) (F.view front.new reader.new) result }
+    ensures does { Does (DropsSome missing) (Missing (codes "ignored-any") missing)
+        (F.view front.old reader.old) (F.view front.new reader.new) result }
     ensures spares { Spares result }
     ensures some { IfOk result (λ n. (1 ≤ n) × (n ≤ missing)) }
     ensures stays { IsTrue F.apart → S.view reader.new ≡ S.view reader.old }

@@ -1,9 +1,10 @@
 //! Rows of items that are skipped.
 use crate::item_rows::skips_item;
-use crate::readers::{LongByByte, ShortByByte, Unlimited};
+use crate::readers::{Counting, LongByByte, ShortByByte, Unlimited};
 use crate::refusal_texts::{eof, unsupported};
-use crate::rows::{Want, reads, reads_over};
+use crate::rows::{Want, leaves, reads, reads_over};
 use crate::table::table;
+use cbor4ii_items::decode::Decode;
 use cbor4ii_rw::io_reader::IoReader;
 use cbor4ii_rw::segment_reader::SegmentReader;
 use cbor4ii_rw::slice_reader::SliceReader;
@@ -176,5 +177,19 @@ fn skips_many(
             rest,
         )?;
     }
+    Ok(())
+}
+
+// A run of items of one byte is taken at once: the head of 200 items and what is left are looked at
+// at most 8 times, by a reader that shows no more than is wanted.
+#[test]
+fn few_looks(rt: HostRuntime) -> Result<(), Fail> {
+    let alloc = rt.alloc();
+    let mut bytes = [0x00; 202];
+    bytes[..2].copy_from_slice(b"\x98\xc8");
+    let mut reader = Counting::new(&bytes);
+    IgnoredAny::decode(alloc, &mut reader)?;
+    assert!(rt; reader.shows() <= 8, "{} looks", reader.shows());
+    leaves(&rt, &mut reader, &bytes, b"");
     Ok(())
 }

@@ -1,15 +1,14 @@
-use Rattle.std.proofs.Common.{◌≡◌, ℕ, List, refl, subst, arith, sym, ◌∙◌, ◌*◌, ◌∷◌}
+use Rattle.std.proofs.Common.{◌≡◌, ℕ, List, refl, arith, sym, ◌∙◌, ◌∷◌}
 use Rattle.std.proofs.lemmas.Result.{err_from_is_err_and}
 use Rattle.cbor4ii_items.specs.Head.{Width, byte_count}
 use Rattle.cbor4ii_items.specs.Refusal.{mismatch}
 use Rattle.cbor4ii_tree.specs.HeadParts.{ArgumentAt, DropsBytes}
 use Rattle.cbor4ii_tree.specs.Stops.{Missing, MissingAll}
 use Rattle.cbor4ii_tree.specs.Refusal.{ignored_any, tag_name}
-use Rattle.cbor4ii_tree.specs.Skipping.{Leads, StopsUnder}
 use Rattle.cbor4ii_tree.specs.declared.skip.Behind.TheVariants as behind
-use Rattle.cbor4ii_tree.proofs.Doing.{reached_first, reached_by, reached_then, does_ok, does_err}
+use Rattle.cbor4ii_tree.proofs.Doing.{reached_first}
 use Rattle.cbor4ii_tree.proofs.Leading.{leads_bytes, bytes_cut, content_info, items_info, members_info, tag_info, open_leads, open_members_leads, is_taken, no_tag}
-use Rattle.cbor4ii_tree.proofs.HeadCalls.{First, first_err, first_ok, first_alone, first_refused}
+use Rattle.cbor4ii_tree.proofs.HeadCalls.{first_err, first_ok, first_alone, first_refused}
 use Rattle.cbor4ii_tree.proofs.skip.skip_head.Goals as goal
 
 -- a first byte and its argument
@@ -50,7 +49,7 @@ returns-in_err-argument-in-Members-clause-does g c =
 pub returns-in_ok-argument-in-Members-clause-does : goal.returns-in_ok-argument-in-Members-clause-does
 returns-in_ok-argument-in-Members-clause-does g c =
     let i = members_info (g.F.Front.view c.args.front.now c.args.reader.now).budget c.in_ok-first.first c.in_ok-first.ensures.byte (sym c.start_of.ensures ∙ c.in-Members.is) in
-    first_ok (g.F.Front.view c.args.front.now c.args.reader.now).budget (reached_first ignored_any 1 c.in_ok-first.first c.in_ok-first.ensures.runs c.in_ok-first.ensures.byte c.advance-in-Members.ensures.takes) (ArgumentAt i.0 c.in_ok-first.first) (MissingAll ignored_any (byte_count i.0)) (behind.Items (2 * c.in_ok-argument-in-Members.field-0)) (λ bs ys h. i.3 bs ys _ h) (c.in_ok-argument-in-Members.ensures.does i.0 i.1)
+    first_ok (g.F.Front.view c.args.front.now c.args.reader.now).budget (reached_first ignored_any 1 c.in_ok-first.first c.in_ok-first.ensures.runs c.in_ok-first.ensures.byte c.advance-in-Members.ensures.takes) (ArgumentAt i.0 c.in_ok-first.first) (MissingAll ignored_any (byte_count i.0)) (behind.Members c.in_ok-argument-in-Members.field-0) (λ bs ys h. i.3 bs ys _ h) (c.in_ok-argument-in-Members.ensures.does i.0 i.1)
 
 pub returns-in_ok-argument-in-Members-clause-progress : goal.returns-in_ok-argument-in-Members-clause-progress
 returns-in_ok-argument-in-Members-clause-progress g c =
@@ -73,31 +72,21 @@ returns-in_ok-argument-in-Tag-clause-progress g c =
     let i = tag_info (g.F.Front.view c.args.front.now c.args.reader.now).budget c.in_ok-first.first c.in_ok-first.ensures.byte (sym c.start_of.ensures ∙ c.in-Tag.is) in
     omega (arith, c.in_ok-first.ensures.runs.moves.by.bound, c.advance-in-Tag.ensures.takes.bound, (c.in_ok-argument-in-Tag.ensures.does i.0 i.1).moves.by.bound)
 
-pub returns-in_err-length-in-Content-clause-does : goal.returns-in_err-length-in-Content-clause-does
-returns-in_err-length-in-Content-clause-does g c =
+pub returns-in_err-argument-in-Content-clause-does : goal.returns-in_err-argument-in-Content-clause-does
+returns-in_err-argument-in-Content-clause-does g c =
     let i = content_info (g.F.Front.view c.args.front.now c.args.reader.now).budget c.in_ok-first.first c.in_ok-first.ensures.byte (sym c.start_of.ensures ∙ c.in-Content.is) in
-    let p = err_from_is_err_and c.from_residual-in_err-length-in-Content.result c.from_residual-in_err-length-in-Content.ensures.1 in
-    rw (p.1, p.2) (first_err (g.F.Front.view c.args.front.now c.args.reader.now).budget (reached_first ignored_any 1 c.in_ok-first.first c.in_ok-first.ensures.runs c.in_ok-first.ensures.byte c.advance-in-Content.ensures.takes) (ArgumentAt i.0 c.in_ok-first.first) (MissingAll ignored_any (byte_count i.0)) i.2 (c.in_err-length-in-Content.ensures.does i.0 i.1))
+    let p = err_from_is_err_and c.from_residual-in_err-argument-in-Content.result c.from_residual-in_err-argument-in-Content.ensures.1 in
+    rw (p.1, p.2) (first_err (g.F.Front.view c.args.front.now c.args.reader.now).budget (reached_first ignored_any 1 c.in_ok-first.first c.in_ok-first.ensures.runs c.in_ok-first.ensures.byte c.advance-in-Content.ensures.takes) (ArgumentAt i.0 c.in_ok-first.first) (MissingAll ignored_any (byte_count i.0)) i.2 (c.in_err-argument-in-Content.ensures.does i.0 i.1))
 
-pub returns-in_err-skip_bytes-in-Content-clause-does : goal.returns-in_err-skip_bytes-in-Content-clause-does
-returns-in_err-skip_bytes-in-Content-clause-does g c =
+pub returns-in_ok-argument-in-Content-clause-does : goal.returns-in_ok-argument-in-Content-clause-does
+returns-in_ok-argument-in-Content-clause-does g c =
     let i = content_info (g.F.Front.view c.args.front.now c.args.reader.now).budget c.in_ok-first.first c.in_ok-first.ensures.byte (sym c.start_of.ensures ∙ c.in-Content.is) in
-    let both = reached_then (First c.in_ok-first.first) (λ xs ys. ArgumentAt i.0 c.in_ok-first.first xs c.in_ok-length-in-Content.length ys) (Counts i.0 c.in_ok-first.first c.in_ok-length-in-Content.length) (λ xs ys zs e h. (ys, e, h)) (reached_first ignored_any 1 c.in_ok-first.first c.in_ok-first.ensures.runs c.in_ok-first.ensures.byte c.advance-in-Content.ensures.takes) (reached_by (c.in_ok-length-in-Content.ensures.does i.0 i.1)) in
-    let p = err_from_is_err_and c.from_residual-in_err-skip_bytes-in-Content.result c.from_residual-in_err-skip_bytes-in-Content.ensures.1 in
-    rw (p.1, p.2) (does_err (Counts i.0 c.in_ok-first.first c.in_ok-length-in-Content.length) (λ xs _ ys. DropsBytes c.in_ok-length-in-Content.length xs ys) (Leads (g.F.Front.view c.args.front.now c.args.reader.now).budget) (Missing ignored_any c.in_ok-length-in-Content.length) (StopsUnder (g.F.Front.view c.args.front.now c.args.reader.now).budget)
-    (λ xs ys z rest k m. subst (λ x. StopsUnder (g.F.Front.view c.args.front.now c.args.reader.now).budget x z rest) (sym k.1) (i.3 k.0 ys _ z rest k.2 m)) both c.in_err-skip_bytes-in-Content.ensures.does)
+    first_ok (g.F.Front.view c.args.front.now c.args.reader.now).budget (reached_first ignored_any 1 c.in_ok-first.first c.in_ok-first.ensures.runs c.in_ok-first.ensures.byte c.advance-in-Content.ensures.takes) (ArgumentAt i.0 c.in_ok-first.first) (MissingAll ignored_any (byte_count i.0)) (behind.Bytes c.in_ok-argument-in-Content.field-0) (λ bs ys h. i.3 bs ys _ h) (c.in_ok-argument-in-Content.ensures.does i.0 i.1)
 
-pub returns-in_ok-skip_bytes-in-Content-clause-does : goal.returns-in_ok-skip_bytes-in-Content-clause-does
-returns-in_ok-skip_bytes-in-Content-clause-does g c =
+pub returns-in_ok-argument-in-Content-clause-progress : goal.returns-in_ok-argument-in-Content-clause-progress
+returns-in_ok-argument-in-Content-clause-progress g c =
     let i = content_info (g.F.Front.view c.args.front.now c.args.reader.now).budget c.in_ok-first.first c.in_ok-first.ensures.byte (sym c.start_of.ensures ∙ c.in-Content.is) in
-    let both = reached_then (First c.in_ok-first.first) (λ xs ys. ArgumentAt i.0 c.in_ok-first.first xs c.in_ok-length-in-Content.length ys) (Counts i.0 c.in_ok-first.first c.in_ok-length-in-Content.length) (λ xs ys zs e h. (ys, e, h)) (reached_first ignored_any 1 c.in_ok-first.first c.in_ok-first.ensures.runs c.in_ok-first.ensures.byte c.advance-in-Content.ensures.takes) (reached_by (c.in_ok-length-in-Content.ensures.does i.0 i.1)) in
-    does_ok (Leads (g.F.Front.view c.args.front.now c.args.reader.now).budget) (StopsUnder (g.F.Front.view c.args.front.now c.args.reader.now).budget) (reached_then (Counts i.0 c.in_ok-first.first c.in_ok-length-in-Content.length) (DropsBytes c.in_ok-length-in-Content.length) (λ xs ys. Leads (g.F.Front.view c.args.front.now c.args.reader.now).budget xs behind.Nothing ys)
-    (λ xs ys zs k d. subst (λ x. Leads (g.F.Front.view c.args.front.now c.args.reader.now).budget x behind.Nothing zs) (sym k.1) (i.4 k.0 ys zs _ k.2 d)) both (reached_by c.in_ok-skip_bytes-in-Content.ensures.does))
-
-pub returns-in_ok-skip_bytes-in-Content-clause-progress : goal.returns-in_ok-skip_bytes-in-Content-clause-progress
-returns-in_ok-skip_bytes-in-Content-clause-progress g c =
-    let i = content_info (g.F.Front.view c.args.front.now c.args.reader.now).budget c.in_ok-first.first c.in_ok-first.ensures.byte (sym c.start_of.ensures ∙ c.in-Content.is) in
-    omega (arith, c.in_ok-first.ensures.runs.moves.by.bound, c.advance-in-Content.ensures.takes.bound, (c.in_ok-length-in-Content.ensures.does i.0 i.1).moves.by.bound, c.in_ok-skip_bytes-in-Content.ensures.does.moves.by.bound)
+    omega (arith, c.in_ok-first.ensures.runs.moves.by.bound, c.advance-in-Content.ensures.takes.bound, (c.in_ok-argument-in-Content.ensures.does i.0 i.1).moves.by.bound)
 
 pub returns-in-Open-clause-does : goal.returns-in-Open-clause-does
 returns-in-Open-clause-does g c =

@@ -1,0 +1,154 @@
+-- What shown bytes begin with, where items are skipped.
+use Rattle.std.specs.Prelude.{◌≡◌, ◌≢◌, ◌+◌, ◌*◌, ◌%◌, ◌==◌, ℕ, ◌≤◌, nat_lt, if◌then◌else◌, List, [], ◌∷◌, ◌++◌, length, take, drop, get_or, Ok, Some, Bool, true, false, ◌⊎◌}
+use Rattle.cbor4ii_items.specs.Head.{Width, IsBytes, break}
+use Rattle.cbor4ii_items.specs.Initial.{initial, info_of, wide}
+use Rattle.cbor4ii_items.specs.ReadHead.{number_on, following}
+use Rattle.cbor4ii_tree.specs.Cost.{Budget, step_in}
+use Rattle.cbor4ii_tree.specs.Refusal.{Refusal, eof, Small, break_name}
+use Rattle.cbor4ii_tree.specs.HeadParts.{ArgumentAt}
+use Rattle.cbor4ii_tree.specs.Runs.{BeginsRun, TakesRun}
+use Rattle.cbor4ii_tree.specs.Stops.{Stopping, Is, NoBreak}
+use Rattle.cbor4ii_tree.specs.Skipping.{start_of, Leads, StopsBehind, SkipsItems, StopsOne}
+use Rattle.cbor4ii_tree.specs.declared.skip.Behind.{Behind}
+use Rattle.cbor4ii_tree.specs.declared.skip.Start.{Start}
+use Rattle.cbor4ii_tree.specs.declared.skip.Start.TheVariants as start
+use Rattle.cbor4ii_tree.specs.declared.ahead.Among.{Among}
+use Rattle.cbor4ii_tree.specs.declared.ahead.Among.TheVariants.{Items, Pairs, OpenItems, OpenPairs}
+use Rattle.cbor4ii_tree.specs.declared.ahead.Ahead.{Ahead}
+use Rattle.cbor4ii_tree.specs.declared.ahead.Ahead.TheVariants.{Run, Head, Break, Unseen}
+
+-- ---- among what an item stands
+
+-- so many of them may be taken at once: no more than are left, and in maps whole pairs
+abbrev pub Allows : Among → ℕ → Type 0
+Allows (Items most) n = n ≤ most
+Allows (Pairs most) n = (n ≤ 2 * most) × (n % 2 ≡ 0)
+Allows OpenItems n = Unit {0}
+Allows OpenPairs n = n % 2 ≡ 0
+
+-- there is one
+abbrev pub Awaits : Among → Type 0
+Awaits (Items most) = 1 ≤ most
+Awaits (Pairs most) = 1 ≤ most
+Awaits OpenItems = Unit {0}
+Awaits OpenPairs = Unit {0}
+
+-- so many of them were skipped
+abbrev pub Counts : Among → ℕ → Type 0
+Counts (Items most) n = (1 ≤ n) × (n ≤ most)
+Counts (Pairs most) n = (1 ≤ n) × (n ≤ 2 * most)
+Counts OpenItems n = Unit {0}
+Counts OpenPairs n = Unit {0}
+
+-- a break may come in its place
+abbrev pub IsOpen : Among → Type 0
+IsOpen (Items most) = ⊥
+IsOpen (Pairs most) = ⊥
+IsOpen OpenItems = Unit {0}
+IsOpen OpenPairs = Unit {0}
+
+-- ---- what is shown
+
+abbrev pub leaf_by : Start → ℕ → ℕ
+leaf_by (start.Bytes k) low = k + 1
+leaf_by start.Content low = if nat_lt low 24 then low + 1 else 0
+leaf_by start.Items low = if low == 0 then 1 else 0
+leaf_by start.Members low = if low == 0 then 1 else 0
+leaf_by _ low = 0
+
+-- How many bytes an item takes that begins so, where this byte says it and that the item holds no other; else 0.
+unfoldable pub leaf_bytes : ℕ → ℕ
+leaf_bytes first = leaf_by (start_of (initial first)) (first % 32)
+
+-- the number that comes most significant first behind a first byte with this additional information
+pub record ShowsNumber (info : ℕ) (rest : List ℕ) (n k : ℕ) : Type 0 where
+  pub some : k ≢ 0
+  pub follows : k ≡ following info
+  pub within : k ≤ length rest
+  pub number : (name after : List ℕ) → number_on name k k 0 (rest ++ after) ≡ Ok (n, drop k rest ++ after)
+
+-- the argument behind a first byte, in k bytes
+pub record ShowsArgument (first : ℕ) (rest : List ℕ) (n k : ℕ) : Type 0 where
+  pub within : k ≤ length rest
+  pub bytes : IsBytes (take k rest)
+  pub argument : (w : Width) → info_of (first % 32) ≡ wide w → (after : List ℕ) → ArgumentAt w first (rest ++ after) n (drop k rest ++ after)
+
+-- another byte than a break stands here
+abbrev pub NotBreak : List ℕ → Type 0
+NotBreak xs = (xs ≢ []) × ((bs : List ℕ) → xs ≡ break ∷ bs → ⊥)
+
+-- a head of so many bytes, with all that belongs to it but what is left behind it
+pub record BeginsHead (size : ℕ) (behind : Behind) (shown : List ℕ) : Type 0 where
+  pub some : 1 ≤ size
+  pub within : size ≤ length shown
+  pub bytes : IsBytes (take size shown)
+  pub leads : (inner : Budget) (after : List ℕ) → Leads inner (shown ++ after) behind (drop size shown ++ after)
+  pub item : (inner : Budget) (after : List ℕ) (e : Refusal) (rest : List ℕ) → StopsBehind behind inner (drop size shown ++ after) e rest → NotBreak (shown ++ after)
+
+-- a run that may be taken at once
+pub record SeesRun (among : Among) (n size : ℕ) (shown : List ℕ) : Type 0 where
+  pub some : 1 ≤ n
+  pub allowed : Allows among n
+  pub begins : BeginsRun n size shown
+  pub bytes : IsBytes (take size shown)
+
+pub record BeginsWithBreak (shown : List ℕ) : Type 0 where
+  pub some : 1 ≤ length shown
+  pub is : get_or shown 0 0 ≡ break
+
+abbrev pub Sees : Among → Ahead → List ℕ → Type 0
+Sees among (Run n size) shown = SeesRun among n size shown
+Sees among (Head size behind) shown = BeginsHead size behind shown
+Sees among Break shown = IsOpen among × BeginsWithBreak shown
+Sees among Unseen shown = Unit {0}
+
+-- ---- what is taken of it
+
+-- a head, and what is left of its item behind it
+pub record TakesHead (inner : Budget) (xs : List ℕ) (behind : Behind) (ys : List ℕ) : Type 0 where
+  pub leads : Leads inner xs behind ys
+  pub item : (e : Refusal) (rest : List ℕ) → StopsBehind behind inner ys e rest → NotBreak xs
+
+-- under the budget that is left for the item
+abbrev pub Takes : Among → Budget → List ℕ → Ahead → List ℕ → Type 0
+Takes among inner xs (Run n size) ys = TakesRun n xs ys
+Takes among inner xs (Head size behind) ys = TakesHead inner xs behind ys
+Takes among inner xs Break ys = xs ≡ break ∷ ys
+Takes among inner xs Unseen ys = ys ≡ xs
+
+-- how far that leads
+abbrev pub Passes : Among → Ahead → ℕ → ℕ → Type 0
+Passes among (Run n size) old new = (1 ≤ n) × Allows among n × (new + 1 ≤ old)
+Passes among (Head size behind) old new = new + 1 ≤ old
+Passes among Break old new = IsOpen among
+Passes among Unseen old new = new ≤ old
+
+-- ---- what is skipped
+
+-- a break and no item, or so many items
+abbrev pub SkipsSome : Among → Budget → List ℕ → ℕ → List ℕ → Type 0
+SkipsSome among budget xs n ys = (IsOpen among × (n ≡ 0) × (xs ≡ break ∷ ys)) ⊎ ((1 ≤ n) × SkipsItems n budget xs ys)
+
+abbrev pub StopsSome : Among → Budget → Stopping
+StopsSome (Items most) budget = StopsOne budget
+StopsSome (Pairs most) budget = StopsOne budget
+StopsSome OpenItems budget = NoBreak (StopsOne budget)
+StopsSome OpenPairs budget = NoBreak (StopsOne budget)
+
+-- the same under a step that leaves this budget
+abbrev pub SkipsSomeUnder : Among → Budget → List ℕ → ℕ → List ℕ → Type 0
+SkipsSomeUnder among inner xs n ys = (budget : Budget) → step_in budget ≡ Some inner → SkipsSome among budget xs n ys
+
+abbrev pub StopsSomeUnder : Among → Budget → Stopping
+StopsSomeUnder among inner xs e rest = (budget : Budget) → step_in budget ≡ Some inner → StopsSome among budget xs e rest
+
+-- a break was taken where one may come; or nothing was taken, and where a break may come another byte stands
+abbrev pub EndsOrNot : Among → List ℕ → Bool → List ℕ → Type 0
+EndsOrNot among xs true ys = IsOpen among × (xs ≡ break ∷ ys)
+EndsOrNot among xs false ys = (ys ≡ xs) × (IsOpen among → NotBreak ys)
+
+abbrev pub StopsAtEnd : Among → Stopping
+StopsAtEnd among xs e rest = IsOpen among × (xs ≡ []) × Is (eof break_name (Small 1)) [] e rest
+
+abbrev pub NeverStops : Stopping
+NeverStops xs e rest = ⊥

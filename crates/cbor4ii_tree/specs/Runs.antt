@@ -1,0 +1,42 @@
+-- Runs: items one behind another, of which each takes one step.
+use Rattle.std.specs.Prelude.{◌≡◌, ◌+◌, ◌≤◌, ℕ, List, ◌++◌, length, take, drop}
+use Rattle.cbor4ii_tree.specs.Tree.{Tree, Trees, count, bytes, bytes_all, Loose}
+use Rattle.cbor4ii_tree.specs.Cost.{skip_cost}
+use Rattle.cbor4ii_tree.specs.Stops.{Each}
+
+-- an item that takes one step
+abbrev pub IsLeaf : Tree → Type 0
+IsLeaf t = Loose t × (skip_cost t ≡ 1)
+
+-- one such item was taken
+abbrev pub TakesLeaf : List ℕ → List ℕ → Type 0
+TakesLeaf xs ys = (t : Tree) × IsLeaf t × (xs ≡ bytes t ++ ys)
+
+-- the bytes of so many such items
+abbrev pub IsRun : ℕ → List ℕ → Type 0
+IsRun n xs = (ts : Trees) × (count ts ≡ n) × Each IsLeaf ts × (xs ≡ bytes_all ts)
+
+-- one such item stands at this place
+pub record IsLeafAt (at size : ℕ) (shown : List ℕ) : Type 0 where
+  pub within : at + size ≤ length shown
+  pub leaf : (t : Tree) × IsLeaf t × (take size (drop at shown) ≡ bytes t)
+
+-- two stand at this place
+pub record IsPairAt (at size : ℕ) (shown : List ℕ) : Type 0 where
+  pub key : ℕ
+  pub value : ℕ
+  pub sizes : size ≡ key + value
+  pub some : 1 ≤ key
+  pub more : 1 ≤ value
+  pub first : IsLeafAt at key shown
+  pub second : IsLeafAt (at + key) value shown
+
+-- so many stand at the front, in so many bytes
+pub record BeginsRun (n size : ℕ) (shown : List ℕ) : Type 0 where
+  pub within : size ≤ length shown
+  pub few : n ≤ size
+  pub run : IsRun n (take size shown)
+
+-- so many were taken
+abbrev pub TakesRun : ℕ → List ℕ → List ℕ → Type 0
+TakesRun n xs ys = (ts : Trees) × (count ts ≡ n) × Each IsLeaf ts × (xs ≡ bytes_all ts ++ ys)

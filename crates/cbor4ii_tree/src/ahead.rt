@@ -1,0 +1,277 @@
+//! What shown bytes begin with, decided in one look: a run of items that hold no other, a head, or
+//! a break (RFC 8949 section 3). What does not stand whole in them is left undecided.
+ghost use Rattle.std.specs.Prelude.{
+  ◌≡◌,
+  ◌≢◌,
+  ◌≤◌,
+  ◌*◌,
+  ◌%◌,
+  ◌∷◌,
+  ◌↔◌,
+  IsTrue,
+  IfSome,
+  ℕ,
+  List,
+};
+ghost use Rattle.cbor4ii_tree.specs.Ahead.{
+  leaf_bytes,
+  Allows,
+  IsOpen,
+  BeginsWithBreak,
+  ShowsNumber,
+  ShowsArgument,
+  Sees,
+};
+ghost use Rattle.cbor4ii_tree.specs.Runs.{IsLeafAt, IsPairAt, BeginsRun};
+
+use crate::skip::{Behind, Start, start_of};
+use cbor4ii_items::marker;
+
+/// Among what the next item stands.
+#[derive(Clone, Copy)]
+pub(crate) enum Among {
+    /// So many items are left.
+    Items(u64),
+    /// So many pairs are left, and a key comes next.
+    Pairs(u64),
+    /// Items up to a break.
+    OpenItems,
+    /// Pairs up to a break, and a key comes next.
+    OpenPairs,
+}
+
+impl Among {
+    /// Whether a break may come in the place of the next item.
+    #[inline(always)]
+    pub(crate) fn is_open(self) -> bool
+        ensures { IsTrue result ↔ IsOpen self }
+    {
+        match self {
+            Among::Items(_) | Among::Pairs(_) => false,
+            Among::OpenItems | Among::OpenPairs => true,
+        }
+    }
+}
+
+/// What comes next.
+#[derive(Clone, Copy)]
+pub(crate) enum Ahead {
+    /// So many items that hold no other, in so many bytes.
+    Run(u64, usize),
+    /// A head of so many bytes, with the content that is shown, and what is left of its item.
+    Head(usize, Behind),
+    /// A break.
+    Break,
+    /// Nothing that is decided here.
+    Unseen,
+}
+
+// By its first byte, how many bytes an item takes that holds no other and says its size there; 0
+// where there is no such item. A row is a major type (RFC 8949 section 3.1).
+static LEAF_BYTES: [u8; 256] = [
+    1, 1, 1, 1, 1, 1, 1, 1, 1, 1, 1, 1, 1, 1, 1, 1, 1, 1, 1, 1, 1, 1, 1, 1, 2, 3, 5, 9, 0, 0, 0, 0,
+    1, 1, 1, 1, 1, 1, 1, 1, 1, 1, 1, 1, 1, 1, 1, 1, 1, 1, 1, 1, 1, 1, 1, 1, 2, 3, 5, 9, 0, 0, 0, 0,
+    1, 2, 3, 4, 5, 6, 7, 8, 9, 10, 11, 12, 13, 14, 15, 16, 17, 18, 19, 20, 21, 22, 23, 24, 0, 0, 0,
+    0, 0, 0, 0, 0, 1, 2, 3, 4, 5, 6, 7, 8, 9, 10, 11, 12, 13, 14, 15, 16, 17, 18, 19, 20, 21, 22,
+    23, 24, 0, 0, 0, 0, 0, 0, 0, 0, 1, 0, 0, 0, 0, 0, 0, 0, 0, 0, 0, 0, 0, 0, 0, 0, 0, 0, 0, 0, 0,
+    0, 0, 0, 0, 0, 0, 0, 0, 0, 0, 0, 1, 0, 0, 0, 0, 0, 0, 0, 0, 0, 0, 0, 0, 0, 0, 0, 0, 0, 0, 0, 0,
+    0, 0, 0, 0, 0, 0, 0, 0, 0, 0, 0, 0, 0, 0, 0, 0, 0, 0, 0, 0, 0, 0, 0, 0, 0, 0, 0, 0, 0, 0, 0, 0,
+    0, 0, 0, 0, 0, 0, 0, 0, 0, 0, 0, 0, 0, 0, 0, 0, 0, 0, 0, 0, 0, 0, 0, 0, 0, 0, 0, 0, 0, 0, 0, 1,
+    1, 1, 1, 0, 3, 5, 9, 0, 0, 0, 0,
+];
+
+/// What the shown bytes begin with. In maps a run is of whole pairs alone.
+#[inline(always)]
+pub(crate) fn ahead_of(shown: &[u8], among: Among) -> Ahead
+    ensures { Sees among result shown.now }
+{
+    let (count, size) = run_of(shown, among);
+    if count > 0 {
+        return Ahead::Run(count, size);
+    }
+    if among.is_open() && begins_with_break(shown) {
+        return Ahead::Break;
+    }
+    head_of(shown)
+}
+
+/// Whether a break comes first.
+#[inline(always)]
+fn begins_with_break(shown: &[u8]) -> bool
+    ensures { IsTrue result → BeginsWithBreak shown.now }
+{
+    match shown {
+        [first, ..] => *first == marker::BREAK,
+        [] => false,
+    }
+}
+
+/// The run that the shown bytes begin with: how many items, and in how many bytes.
+#[inline(always)]
+fn run_of(shown: &[u8], among: Among) -> (u64, usize)
+    ensures few { Allows among result.0 }
+    ensures run { BeginsRun result.0 result.1 shown.now }
+{
+    match among {
+        Among::Items(most) => run_of_items(shown, most),
+        Among::Pairs(most) => run_of_pairs(shown, most),
+        Among::OpenItems => run_of_items(shown, u64::MAX),
+        Among::OpenPairs => run_of_pairs(shown, u64::MAX),
+    }
+}
+
+/// A run of at most so many items.
+#[inline(always)]
+fn run_of_items(shown: &[u8], most: u64) -> (u64, usize)
+    ensures few { result.0 ≤ most }
+    ensures run { BeginsRun result.0 result.1 shown.now }
+{
+    let mut count = 0;
+    let mut size = 0;
+    while count < most {
+        let leaf = leaf_size(shown, size);
+        if leaf == 0 {
+            return (count, size);
+        }
+        count += 1;
+        size += leaf;
+    }
+    (count, size)
+}
+
+/// A run of at most so many whole pairs.
+#[inline(always)]
+fn run_of_pairs(shown: &[u8], most: u64) -> (u64, usize)
+    ensures few { result.0 ≤ 2 * most }
+    ensures whole { result.0 % 2 ≡ 0 }
+    ensures run { BeginsRun result.0 result.1 shown.now }
+{
+    let mut pairs = 0;
+    let mut size = 0;
+    while pairs < most {
+        let pair = pair_size(shown, size);
+        if pair == 0 {
+            return (2 * pairs, size);
+        }
+        pairs += 1;
+        size += pair;
+    }
+    (2 * pairs, size)
+}
+
+/// How many bytes the pair at this place takes, where both hold no other and stand whole; else 0.
+#[inline(always)]
+fn pair_size(shown: &[u8], at: usize) -> usize
+    ensures { result ≢ 0 → IsPairAt at result shown.now }
+{
+    let key = leaf_size(shown, at);
+    if key == 0 {
+        return 0;
+    }
+    let value = leaf_size(shown, at + key);
+    match value {
+        0 => 0,
+        _ => key + value,
+    }
+}
+
+/// How many bytes the item at this place takes, where it holds no other and stands whole; else 0.
+#[inline(always)]
+fn leaf_size(shown: &[u8], at: usize) -> usize
+    ensures { result ≢ 0 → IsLeafAt at result shown.now }
+{
+    if at >= shown.len() {
+        return 0;
+    }
+    let size = leaf_bytes(shown[at]) as usize;
+    if size > shown.len() - at {
+        return 0;
+    }
+    size
+}
+
+/// How many bytes an item takes that begins so, where its first byte says that, and that it holds
+/// no other; else 0.
+#[inline(always)]
+fn leaf_bytes(first: u8) -> u8
+    ensures { result ≡ leaf_bytes first }
+{
+    LEAF_BYTES[first as usize]
+}
+
+/// The head that the shown bytes begin with, and what is left of its item.
+#[inline(always)]
+fn head_of(shown: &[u8]) -> Ahead
+    ensures { (among : Among) → Sees among result shown.now }
+{
+    let leaf = leaf_size(shown, 0);
+    if leaf > 0 {
+        return Ahead::Head(leaf, Behind::Nothing);
+    }
+    let [first, rest @ ..] = shown else {
+        return Ahead::Unseen;
+    };
+    wide_head_of(*first, rest)
+}
+
+/// The same, by its first byte and the bytes behind it.
+#[inline(always)]
+fn wide_head_of(first: u8, rest: &[u8]) -> Ahead
+    ensures { (among : Among) → Sees among result (first ∷ rest.now) }
+{
+    let Some((argument, width)) = argument_of(first, rest) else {
+        return open_head_of(first);
+    };
+    match start_of(first) {
+        Start::Content => {
+            if argument > (rest.len() - width) as u64 {
+                return Ahead::Head(1 + width, Behind::Bytes(argument));
+            }
+            Ahead::Head(1 + width + argument as usize, Behind::Nothing)
+        }
+        Start::Items => Ahead::Head(1 + width, Behind::Items(argument)),
+        Start::Members => Ahead::Head(1 + width, Behind::Members(argument)),
+        Start::Tag => Ahead::Head(1 + width, Behind::Items(1)),
+        _ => Ahead::Unseen,
+    }
+}
+
+/// The same, of a head that has no argument.
+#[inline(always)]
+fn open_head_of(first: u8) -> Ahead
+    ensures { (among : Among) (rest : List ℕ) → Sees among result (first ∷ rest) }
+{
+    match start_of(first) {
+        Start::Open => Ahead::Head(1, Behind::Open),
+        Start::OpenMembers => Ahead::Head(1, Behind::OpenMembers),
+        _ => Ahead::Unseen,
+    }
+}
+
+/// The argument that the head's first byte and the bytes behind it tell, and in how many bytes.
+#[inline(always)]
+fn argument_of(first: u8, rest: &[u8]) -> Option<(u64, usize)>
+    ensures { IfSome result (λ found. ShowsArgument first rest.now found.0 found.1) }
+{
+    let info = first % 32;
+    if info < 24 {
+        return Some((info as u64, 0));
+    }
+    shown_number(info, rest)
+}
+
+/// The number that follows a first byte with this additional information, and in how many bytes.
+#[inline(always)]
+fn shown_number(info: u8, rest: &[u8]) -> Option<(u64, usize)>
+    ensures { IfSome result (λ found. ShowsNumber info rest.now found.0 found.1) }
+{
+    match (info, rest) {
+        (24, [a, ..]) => Some((*a as u64, 1)),
+        (25, [a, b, ..]) => Some((u16::from_be_bytes([*a, *b]) as u64, 2)),
+        (26, [a, b, c, d, ..]) => Some((u32::from_be_bytes([*a, *b, *c, *d]) as u64, 4)),
+        (27, [a, b, c, d, e, f, g, h, ..]) => {
+            Some((u64::from_be_bytes([*a, *b, *c, *d, *e, *f, *g, *h]), 8))
+        }
+        _ => None,
+    }
+}
