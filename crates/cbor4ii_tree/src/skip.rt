@@ -493,6 +493,7 @@ fn skip_head<S: Source, F: Front<S>>(
 }
 
 /// What begins with this first byte.
+#[inline(always)]
 #[tactic(auto, unfolding(cbor4ii_items::specs::Initial::initial))]
 pub(crate) fn start_of(first: u8) -> Start
     ensures { result ≡ start_of (initial first) }
@@ -536,6 +537,7 @@ pub(crate) fn start_of(first: u8) -> Start
 }
 
 /// What an additional information says.
+#[inline(always)]
 fn parse_info(info: u8) -> Additional
     ensures { result ≡ additional_of (info_of info) }
 {
