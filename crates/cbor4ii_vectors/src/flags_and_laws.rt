@@ -2,13 +2,17 @@
 use cbor4ii_items::decode::{ArrayStart, Spelled};
 use cbor4ii_items::initial::{high, if_major, low};
 use cbor4ii_items::laws::{
-    integers_are_read_back, lengths_are_read_back, no_spelling_begins_another, parts_are_read_back,
-    shortest_is_least,
+    arrays_are_read_back, integers_are_read_back, lengths_are_read_back, maps_are_read_back,
+    no_spelling_begins_another, parts_are_read_back, shortest_is_least,
+    simple_values_are_read_back, strings_are_read_back, what_is_written_is_decoded,
 };
 use cbor4ii_items::types::{Bytes, F16, Map, Maybe, Negative, Nothing, Simple, Tag, UncheckedStr};
+use cbor4ii_rw::error::Never;
 use cbor4ii_rw::slice_reader::SliceReader;
+use cbor4ii_tree::{Value, laws as tree_laws};
 use std::alloc::Global;
 use std::borrow::{CowSlice, CowStr};
+use std::test::Fail;
 
 // Nothing takes no byte, and what may be nothing alone may take none.
 #[test]
@@ -85,7 +89,29 @@ fn beginnings_of_arrays_are_compared(rt: HostRuntime) {
 fn laws_are_called(rt: HostRuntime) {
     shortest_is_least();
     integers_are_read_back();
+    strings_are_read_back::<u8>();
+    simple_values_are_read_back::<u8>();
     lengths_are_read_back();
     parts_are_read_back::<u8>();
+    arrays_are_read_back::<u8>();
+    maps_are_read_back::<u8, String>();
+    what_is_written_is_decoded::<SliceReader, Tag<u8>, Never>();
     no_spelling_begins_another::<SliceReader, Tag<u8>>();
+}
+
+#[test]
+fn laws_of_whole_items_are_called(rt: HostRuntime) -> Result<(), Fail> {
+    tree_laws::no_spelling_begins_another();
+    tree_laws::skipping_costs_no_more();
+    tree_laws::canonical_spelling_costs_least();
+    tree_laws::value_is_no_larger_than_its_spelling();
+    tree_laws::skipping_has_one_answer();
+    tree_laws::reading_has_one_answer();
+    tree_laws::stops_go_by_parts();
+    tree_laws::skipping_tells_what_may_come();
+    tree_laws::reading_tells_what_may_come();
+    tree_laws::canonical_spelling_reads_back();
+    tree_laws::skipping_takes_what_reading_takes();
+    tree_laws::values_are_items(&Value::Tag(1, Box::new(rt.alloc(), Value::Null)?));
+    Ok(())
 }

@@ -18,6 +18,8 @@ pub mod examples;
 #[cfg(test)]
 mod flags_and_laws;
 #[cfg(test)]
+mod following;
+#[cfg(test)]
 mod heads;
 #[cfg(test)]
 mod item_rows;

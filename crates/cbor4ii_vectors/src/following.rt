@@ -1,0 +1,69 @@
+//! Rows of the next byte, which stays, and of whether another part of an array or a map follows.
+use cbor4ii_items::decode::Decode;
+use cbor4ii_items::indefinite::follows;
+use cbor4ii_items::initial::peek;
+use cbor4ii_rw::error::{DecodeError, Len};
+use cbor4ii_rw::io_reader::IoReader;
+use cbor4ii_rw::slice_reader::SliceReader;
+use std::test::Fail;
+
+#[test]
+fn the_next_byte_stays(rt: HostRuntime) -> Result<(), Fail> {
+    let mut reader = SliceReader::new(b"\x05");
+    assert_eq!(rt; peek(&mut reader, "part")?, 5);
+    assert_eq!(rt; peek(&mut reader, "part")?, 5);
+    assert_eq!(rt; reader.remaining(), b"\x05".as_slice());
+    let end = peek(&mut IoReader::new(b"".as_slice()), "part");
+    assert!(rt;
+        matches!(
+            end,
+            Err(DecodeError::Eof {
+                name: "part",
+                expect: Len::Small(1),
+            })
+        )
+    );
+    Ok(())
+}
+
+#[test]
+fn parts_are_counted_down(rt: HostRuntime) -> Result<(), Fail> {
+    let mut reader = SliceReader::new(b"\xff");
+    let mut len = Some(2);
+    for more in [true, true, false, false] {
+        assert_eq!(rt; follows(&mut reader, &mut len)?, more);
+    }
+    assert_eq!(rt; reader.remaining(), b"\xff".as_slice());
+    Ok(())
+}
+
+#[test]
+fn a_break_ends_the_parts(rt: HostRuntime) -> Result<(), Fail> {
+    let mut reader = SliceReader::new(b"\x01\xff\xff");
+    let mut len = None;
+    assert!(rt; follows(&mut reader, &mut len)?);
+    assert_eq!(rt; len, None);
+    assert_eq!(rt; u8::decode(rt.alloc(), &mut reader)?, 1);
+    assert!(rt; !follows(&mut reader, &mut len)?);
+    assert_eq!(rt; len, Some(0));
+    assert!(rt; !follows(&mut reader, &mut len)?);
+    assert_eq!(rt; reader.remaining(), b"\xff".as_slice());
+    Ok(())
+}
+
+// Where no byte is left a break or a part is missing, and the length stays indefinite.
+#[test]
+fn no_byte_where_a_part_may_follow(rt: HostRuntime) {
+    let mut len = None;
+    let end = follows(&mut SliceReader::new(b""), &mut len);
+    assert!(rt;
+        matches!(
+            end,
+            Err(DecodeError::Eof {
+                name: "break",
+                expect: Len::Small(1),
+            })
+        )
+    );
+    assert_eq!(rt; len, None);
+}
