@@ -1,0 +1,3 @@
+-- One decoding call behind another, and what a station is made of.
+pub mod Behind
+pub mod Stations

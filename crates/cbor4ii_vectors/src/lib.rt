@@ -56,6 +56,9 @@ mod segments;
 mod sequences;
 #[cfg(test)]
 mod skipping;
+pub mod station;
+#[cfg(test)]
+mod station_rows;
 pub mod streams;
 #[cfg(test)]
 mod strings;
