@@ -1,5 +1,5 @@
 //! Rows of numbers: RFC 8949 Appendix A, the edges of each type, and refusals.
-use crate::rows::{reads, writes_in};
+use crate::rows::{reads, writes};
 use cbor4ii_items::decode::Decode;
 use cbor4ii_items::encode::Encode;
 use cbor4ii_items::types::Negative;
@@ -44,14 +44,13 @@ fn unsigned_integers(rt: HostRuntime) -> Result<(), Fail> {
         reads::<u64>(&rt, alloc, bytes, Ok(value), b"")?;
         reads::<u128>(&rt, alloc, bytes, Ok(u128::from(value)), b"")?;
         reads::<i128>(&rt, alloc, bytes, Ok(i128::from(value)), b"")?;
-        writes_in(&rt, alloc, &value, bytes, 1)?;
-        writes_in(&rt, alloc, &u128::from(value), bytes, 1)?;
-        writes_in(&rt, alloc, &i128::from(value), bytes, 1)?;
+        writes(&rt, alloc, &value, bytes)?;
+        writes(&rt, alloc, &u128::from(value), bytes)?;
+        writes(&rt, alloc, &i128::from(value), bytes)?;
     }
-    writes_in(&rt, alloc, &255u8, b"\x18\xff", 1)?;
-    writes_in(&rt, alloc, &&255u8, b"\x18\xff", 1)?;
-    writes_in(&rt, alloc, &65535u16, b"\x19\xff\xff", 1)?;
-    writes_in(&rt, alloc, &65536u32, b"\x1a\x00\x01\x00\x00", 1)?;
+    writes(&rt, alloc, &255u8, b"\x18\xff")?;
+    writes(&rt, alloc, &65535u16, b"\x19\xff\xff")?;
+    writes(&rt, alloc, &65536u32, b"\x1a\x00\x01\x00\x00")?;
     reads::<u8>(&rt, alloc, b"\x18\xff", Ok(255), b"")?;
     reads::<u16>(&rt, alloc, b"\x19\xff\xff", Ok(65535), b"")?;
     reads::<u16>(&rt, alloc, b"\x19\x00\x05", Ok(5), b"")?;
@@ -159,15 +158,14 @@ fn negative_integers(rt: HostRuntime) -> Result<(), Fail> {
         Ok(Negative(u64::MAX)),
         b"",
     )?;
-    writes_in(&rt, alloc, &Negative(255u8), b"\x38\xff", 1)?;
-    writes_in(&rt, alloc, &Negative(65535u16), b"\x39\xff\xff", 1)?;
-    writes_in(&rt, alloc, &Negative(u32::MAX), b"\x3a\xff\xff\xff\xff", 1)?;
-    writes_in(
+    writes(&rt, alloc, &Negative(255u8), b"\x38\xff")?;
+    writes(&rt, alloc, &Negative(65535u16), b"\x39\xff\xff")?;
+    writes(&rt, alloc, &Negative(u32::MAX), b"\x3a\xff\xff\xff\xff")?;
+    writes(
         &rt,
         alloc,
         &Negative(u64::MAX),
         b"\x3b\xff\xff\xff\xff\xff\xff\xff\xff",
-        1,
     )?;
     reads::<Negative<u8>>(
         &rt,
@@ -209,12 +207,12 @@ fn signed_integers(rt: HostRuntime) -> Result<(), Fail> {
     for (bytes, value) in rows {
         reads::<i64>(&rt, alloc, bytes, Ok(value), b"")?;
         reads::<i128>(&rt, alloc, bytes, Ok(i128::from(value)), b"")?;
-        writes_in(&rt, alloc, &value, bytes, 1)?;
-        writes_in(&rt, alloc, &i128::from(value), bytes, 1)?;
+        writes(&rt, alloc, &value, bytes)?;
+        writes(&rt, alloc, &i128::from(value), bytes)?;
     }
-    writes_in(&rt, alloc, &-128i8, b"\x38\x7f", 1)?;
-    writes_in(&rt, alloc, &-256i16, b"\x38\xff", 1)?;
-    writes_in(&rt, alloc, &-65536i32, b"\x39\xff\xff", 1)?;
+    writes(&rt, alloc, &-128i8, b"\x38\x7f")?;
+    writes(&rt, alloc, &-256i16, b"\x38\xff")?;
+    writes(&rt, alloc, &-65536i32, b"\x39\xff\xff")?;
     reads::<i8>(&rt, alloc, b"\x38\x7f", Ok(-128), b"")?;
     reads::<i16>(&rt, alloc, b"\x38\xff", Ok(-256), b"")?;
     reads::<i32>(&rt, alloc, b"\x39\xff\xff", Ok(-65536), b"")
@@ -293,18 +291,17 @@ fn bignums(rt: HostRuntime) -> Result<(), Fail> {
     )?;
     reads::<i128>(&rt, alloc, greatest, Ok(i128::MAX), b"")?;
     reads::<i128>(&rt, alloc, least, Ok(i128::MIN), b"")?;
-    writes_in(&rt, alloc, &18_446_744_073_709_551_616u128, above, 3)?;
-    writes_in(&rt, alloc, &18_446_744_073_709_551_616i128, above, 3)?;
-    writes_in(&rt, alloc, &-18_446_744_073_709_551_617i128, below, 3)?;
-    writes_in(
+    writes(&rt, alloc, &18_446_744_073_709_551_616u128, above)?;
+    writes(&rt, alloc, &18_446_744_073_709_551_616i128, above)?;
+    writes(&rt, alloc, &-18_446_744_073_709_551_617i128, below)?;
+    writes(
         &rt,
         alloc,
         &-18_446_744_073_709_551_616i128,
         b"\x3b\xff\xff\xff\xff\xff\xff\xff\xff",
-        1,
     )?;
-    writes_in(&rt, alloc, &i128::MAX, greatest, 3)?;
-    writes_in(&rt, alloc, &i128::MIN, least, 3)?;
+    writes(&rt, alloc, &i128::MAX, greatest)?;
+    writes(&rt, alloc, &i128::MIN, least)?;
     reads::<u128>(&rt, alloc, b"\xc2\x40", Ok(0), b"")?;
     reads::<u128>(&rt, alloc, b"\xc2\x42\x00\x05\x00", Ok(5), b"\x00")?;
     reads::<u128>(&rt, alloc, b"\xd8\x02\x41\x05", Ok(5), b"")?;

@@ -1,35 +1,32 @@
-//! Writers for tests.
-ghost use Rattle.std.specs.Prelude.{◌≡◌, Some, true, false};
-ghost use Rattle.cbor4ii_vectors.specs.Tells.{failing_output, pushed_output};
+//! A writer for tests, which fails when it is told to.
+ghost use Rattle.std.specs.Prelude.{◌≡◌, Some, true};
+ghost use Rattle.cbor4ii_vectors.specs.Tells.{failing_output};
 
 use crate::readers::Failure;
 use cbor4ii_rw::write::Write;
-use std::alloc::Global;
 
-/// Writes into memory, fails at one push and goes on after it, so that an encoder which passes
-/// over a failure is found out.
+/// Writes into memory, and fails from one push on.
 #[derive(Drop)]
-pub struct FailingWriter {
+pub struct FailsInTurn {
     bytes: Vec<u8>,
-    // How many pushes it takes before it fails.
     pushes: usize,
     failures: u64,
 }
 
-impl FailingWriter {
+impl FailsInTurn {
     /// A writer behind what stands in `bytes`, that takes so many pushes before it fails.
-    pub fn new(bytes: Vec<u8>, pushes: usize) -> FailingWriter
+    pub fn new(bytes: Vec<u8>, pushes: usize) -> FailsInTurn
         ensures written { (failing_output result).written ≡ Some bytes.items }
         ensures failures { (failing_output result).failures ≡ 0 }
     {
-        FailingWriter {
+        FailsInTurn {
             bytes,
             pushes,
             failures: 0,
         }
     }
 
-    /// How often it failed: once, or wherever memory was refused too.
+    /// How often it failed.
     pub fn failures(&self) -> u64
         ensures { (failing_output self.now).failures ≡ result }
     {
@@ -44,7 +41,7 @@ impl FailingWriter {
     }
 }
 
-impl Write for FailingWriter {
+impl Write for FailsInTurn {
     type Error = Failure;
 
     ghost whole = { true };
@@ -56,56 +53,11 @@ impl Write for FailingWriter {
     }
 
     fn push(&mut self, input: &[u8]) -> Result<(), Failure> {
-        let is_told = self.pushes == 0 && self.failures == 0;
-        if is_told || self.bytes.extend_from_slice(input).is_err() {
+        if self.pushes == 0 || self.bytes.extend_from_slice(input).is_err() {
             self.failures = self.failures.saturating_add(1);
             return Err(Failure);
         }
-        self.pushes = self.pushes.saturating_sub(1);
-        Ok(())
-    }
-}
-
-/// Keeps of each push how many bytes it has, and no byte.
-#[derive(Drop)]
-pub struct PushLengths {
-    lengths: Vec<usize>,
-    failures: u64,
-}
-
-impl PushLengths {
-    /// A writer that no push came to yet.
-    pub fn new(alloc: Global) -> PushLengths
-        ensures failures { (pushed_output result).failures ≡ 0 }
-    {
-        PushLengths {
-            lengths: Vec::new(alloc),
-            failures: 0,
-        }
-    }
-
-    /// How many bytes each push has, in their order.
-    pub fn lengths(&self) -> &[usize] {
-        &self.lengths
-    }
-}
-
-impl Write for PushLengths {
-    type Error = Failure;
-
-    ghost whole = { false };
-
-    ghost view = { pushed_output };
-
-    fn is_whole() -> bool {
-        false
-    }
-
-    fn push(&mut self, input: &[u8]) -> Result<(), Failure> {
-        if self.lengths.push(input.len()).is_err() {
-            self.failures = self.failures.saturating_add(1);
-            return Err(Failure);
-        }
+        self.pushes -= 1;
         Ok(())
     }
 }
