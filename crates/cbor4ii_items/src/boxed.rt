@@ -37,6 +37,7 @@ impl<T: Spelled> Spelled for Box<T> {
 /// A box is read and refused as what is in it. Where there is no memory for the box, it is
 /// `OutOfMemory`, and the item was taken.
 impl<S: Source, T: Decode<S> + Drop> Decode<S> for Box<T> {
+    #[inline(always)]
     fn decode(alloc: Global, reader: &mut S) -> Result<Box<T>, DecodeError<S::Error>> {
         let value = match T::decode(alloc, reader) {
             Ok(value) => value,

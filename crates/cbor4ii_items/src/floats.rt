@@ -45,6 +45,7 @@ use cbor4ii_rw::write::Write;
 use std::alloc::Global;
 
 /// The bits of a float: its first byte, and so many bytes behind it.
+#[inline(always)]
 fn float<S: Source>(
     reader: &mut S,
     name: StaticStr,
@@ -66,6 +67,7 @@ fn float<S: Source>(
 }
 
 /// Where the reader shows the whole float, with one look and one advance.
+#[inline(always)]
 fn bits<S: Source>(
     reader: &mut S,
     name: StaticStr,
@@ -93,6 +95,7 @@ fn bits<S: Source>(
 }
 
 /// The bits of a float that stands whole in front.
+#[inline(always)]
 fn in_front(front: &[u8], marker: u8, bytes: u8) -> Option<u64>
     requires { bytes ≤ 8 }
     ensures { IfSome result (IsInFront marker bytes front.now) }
@@ -105,6 +108,7 @@ fn in_front(front: &[u8], marker: u8, bytes: u8) -> Option<u64>
 }
 
 /// The number that the bytes are, most significant first.
+#[inline(always)]
 fn number_of(bytes: &[u8]) -> u64
     requires { length bytes.now ≤ 8 }
     ensures value { result ≡ number_of bytes.now }
@@ -249,8 +253,9 @@ impl Encode for F32 {
         ensures { WritesWhole W.whole (float_bytes 0xfa 4 self.now.0)
             (W.view writer.old) (W.view writer.new) result }
     {
-        let [a, b, c, d] = self.0.to_be_bytes();
-        push_bytes(writer, &[marker::F32, a, b, c, d])
+        let mut bytes = [marker::F32, 0, 0, 0, 0];
+        bytes[1..].copy_from_slice(&self.0.to_be_bytes());
+        push_bytes(writer, &bytes)
     }
 }
 
@@ -308,7 +313,8 @@ impl Encode for F64 {
         ensures { WritesWhole W.whole (float_bytes 0xfb 8 self.now.0)
             (W.view writer.old) (W.view writer.new) result }
     {
-        let [a, b, c, d, e, f, g, h] = self.0.to_be_bytes();
-        push_bytes(writer, &[marker::F64, a, b, c, d, e, f, g, h])
+        let mut bytes = [marker::F64, 0, 0, 0, 0, 0, 0, 0, 0];
+        bytes[1..].copy_from_slice(&self.0.to_be_bytes());
+        push_bytes(writer, &bytes)
     }
 }

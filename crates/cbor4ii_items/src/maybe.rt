@@ -66,6 +66,7 @@ impl<T: Spelled> Spelled for Maybe<Option<T>> {
 /// - an indefinite length: `RequireLength` by "maybe" with `Indefinite`, behind its first byte
 /// - the item is refused: its own refusal, and what it leaves
 impl<S: Source, T: Decode<S>> Decode<S> for Maybe<Option<T>> {
+    #[inline(always)]
     fn decode(alloc: Global, reader: &mut S) -> Result<Maybe<Option<T>>, DecodeError<S::Error>> {
         if !item_follows(reader)? {
             return Ok(Maybe(None));

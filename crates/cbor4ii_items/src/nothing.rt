@@ -46,6 +46,7 @@ impl Spelled for Nothing {
 
 /// It takes no byte, and is never refused.
 impl<S: Source> Decode<S> for Nothing {
+    #[inline(always)]
     fn decode(alloc: Global, reader: &mut S) -> Result<Nothing, DecodeError<S::Error>> {
         Ok(Nothing)
     }

@@ -46,6 +46,7 @@ impl<T: Spelled> Spelled for Option<T> {
 /// Where no byte is left, `Eof` by the name "option" with 1, also for an item that reads no byte.
 /// Otherwise it is refused as the item is, and leaves what the item leaves.
 impl<S: Source, T: Decode<S>> Decode<S> for Option<T> {
+    #[inline(always)]
     fn decode(alloc: Global, reader: &mut S) -> Result<Option<T>, DecodeError<S::Error>> {
         let first = peek(reader, "option", 1)?;
         if first == marker::NULL || first == marker::UNDEFINED {

@@ -60,17 +60,23 @@ pub(crate) fn push_head<W: Write>(
         (W.view writer.old) (W.view writer.new) result }
 {
     let first = 32 * major;
-    let [a, b, c, d, e, f, g, h] = argument.to_be_bytes();
+    // An argument of four or eight bytes is copied as one: byte for byte it is stored in as many
+    // steps.
     if argument < 24 {
-        push_bytes(writer, &[first + h])
+        push_bytes(writer, &[first + argument as u8])
     } else if argument < 0x100 {
-        push_bytes(writer, &[first + 24, h])
+        push_bytes(writer, &[first + 24, argument as u8])
     } else if argument < 0x1_0000 {
-        push_bytes(writer, &[first + 25, g, h])
+        let [a, b] = (argument as u16).to_be_bytes();
+        push_bytes(writer, &[first + 25, a, b])
     } else if argument < 0x1_0000_0000 {
-        push_bytes(writer, &[first + 26, e, f, g, h])
+        let mut bytes = [first + 26, 0, 0, 0, 0];
+        bytes[1..].copy_from_slice(&(argument as u32).to_be_bytes());
+        push_bytes(writer, &bytes)
     } else {
-        push_bytes(writer, &[first + 27, a, b, c, d, e, f, g, h])
+        let mut bytes = [first + 27, 0, 0, 0, 0, 0, 0, 0, 0];
+        bytes[1..].copy_from_slice(&argument.to_be_bytes());
+        push_bytes(writer, &bytes)
     }
 }
 

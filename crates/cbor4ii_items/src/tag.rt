@@ -70,6 +70,7 @@ impl<T: Spelled> Spelled for Tag<T> {
 /// Refused by the name "tag" as `Tag::tag` refuses it; then as the item is, behind the tag, and it
 /// leaves what the item leaves.
 impl<S: Source, T: Decode<S>> Decode<S> for Tag<T> {
+    #[inline(always)]
     fn decode(alloc: Global, reader: &mut S) -> Result<Tag<T>, DecodeError<S::Error>> {
         let number = lone_head(reader, "tag", major::TAG, 8)?;
         match T::decode(alloc, reader) {

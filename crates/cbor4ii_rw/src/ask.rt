@@ -30,6 +30,7 @@ use crate::read::{Read, Reference, Source};
 
 /// A front of what `reader` has left, as `Source::show` shows it. Where the reader fails, none,
 /// and the error goes to `failure`, which is left alone otherwise.
+#[inline(always)]
 pub fn look<'s, S: Source>(
     reader: &'s mut S,
     want: usize,
@@ -99,6 +100,7 @@ pub fn next_byte<S: Source>(reader: &mut S) -> Result<Option<u8>, S::Error>
 }
 
 // An `Ok` is passed on, and an error goes to `failure`.
+#[inline(always)]
 fn part<T, E: Drop>(answer: Result<T, E>, failure: &mut Option<E>) -> Option<T>
     ensures { Parts answer failure.old failure.new result }
 {

@@ -76,6 +76,7 @@ impl Write for BufWriter {
     }
 
     // The clauses of the trait, how far the count rises, and that memory which is there is used.
+    #[inline(always)]
     fn push(&mut self, input: &[u8]) -> Result<(), TryReserveError>
         ensures appends { OnOk result (Appends input.now
             (buffer_output self.old).written (buffer_output self.new).written) }

@@ -54,6 +54,7 @@ impl Source for SliceReader<'_> {
 
     ghost view = { slice_view };
 
+    #[inline(always)]
     fn show(&mut self, want: usize) -> Result<&[u8], Never>
         ensures front { IfOk result
             (λ shown. Told (slice_view self.old).told (IsFront want shown.now)) }
@@ -71,14 +72,17 @@ impl Source for SliceReader<'_> {
         Ok(&self.bytes[..shown])
     }
 
+    #[inline(always)]
     fn advance(&mut self, n: usize) {
         self.bytes = &self.bytes[n..];
     }
 
+    #[inline(always)]
     fn step_in(&mut self) -> bool {
         steps::step_in(&mut self.steps)
     }
 
+    #[inline(always)]
     fn step_out(&mut self) {
         steps::step_out(&mut self.steps);
     }

@@ -42,6 +42,7 @@ use cbor4ii_rw::read::Source;
 use std::alloc::Global;
 
 /// Why no front is lent.
+#[derive(Debug)]
 pub enum NoFront<E> {
     /// The reader failed.
     Read(E),

@@ -251,6 +251,7 @@ impl Spelled for u128 {
 /// - fewer bytes are left than it has: `Eof` by "u128::bytes" with the number that it has, and
 ///   nothing is left
 impl<S: Source> Decode<S> for u128 {
+    #[inline(always)]
     fn decode(alloc: Global, reader: &mut S) -> Result<u128, DecodeError<S::Error>> {
         unsigned(reader)
     }
@@ -314,6 +315,7 @@ impl Spelled for i128 {
 ///   "-i128::bytes" behind tag 3
 /// - the number is 2^127 or greater: `CastOverflow` by "i128", behind the item
 impl<S: Source> Decode<S> for i128 {
+    #[inline(always)]
     fn decode(alloc: Global, reader: &mut S) -> Result<i128, DecodeError<S::Error>> {
         signed(reader)
     }

@@ -88,6 +88,7 @@ fn signed<S: Source>(
 }
 
 /// As `signed`, where no number from 0 on stands whole in what is shown.
+#[inline(always)]
 fn signed_below_zero<S: Source>(
     reader: &mut S,
     name: StaticStr,

@@ -58,6 +58,7 @@ impl<S: Source, T: Decode<S> + Drop> Sequence<S> for Vec<T> {
         T::is_never_empty()
     }
 
+    #[inline(always)]
     fn take_part(alloc: Global, reader: &mut S) -> Result<T, DecodeError<S::Error>> {
         T::decode(alloc, reader)
     }
@@ -83,6 +84,7 @@ impl<S: Source, T: Decode<S> + Drop> Sequence<S> for Vec<T> {
 ///   `Indefinite`, and the byte is left
 /// - an item is refused: its own refusal, and what it leaves
 impl<S: Source, T: Decode<S> + Drop> Decode<S> for Vec<T> {
+    #[inline(always)]
     fn decode(alloc: Global, reader: &mut S) -> Result<Vec<T>, DecodeError<S::Error>> {
         take_sequence::<S, Vec<T>>(alloc, reader, "array", major::ARRAY)
     }

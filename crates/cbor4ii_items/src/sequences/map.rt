@@ -68,6 +68,7 @@ impl<S: Source, K: Decode<S> + Drop, V: Decode<S> + Drop> Sequence<S> for Map<Ve
         K::is_never_empty() || V::is_never_empty()
     }
 
+    #[inline(always)]
     fn take_part(alloc: Global, reader: &mut S) -> Result<(K, V), DecodeError<S::Error>> {
         let key = K::decode(alloc, reader)?;
         let value = V::decode(alloc, reader)?;
@@ -89,6 +90,7 @@ impl<S: Source, K: Decode<S> + Drop, V: Decode<S> + Drop> Sequence<S> for Map<Ve
 /// Refusals are those of arrays, by the name "map": where an item's would be, a key's, or behind a
 /// whole key its value's.
 impl<S: Source, K: Decode<S> + Drop, V: Decode<S> + Drop> Decode<S> for Map<Vec<(K, V)>> {
+    #[inline(always)]
     fn decode(alloc: Global, reader: &mut S) -> Result<Map<Vec<(K, V)>>, DecodeError<S::Error>> {
         Ok(Map(take_sequence::<S, Map<Vec<(K, V)>>>(alloc, reader, "map", major::MAP)?))
     }

@@ -21,6 +21,7 @@ use cbor4ii_rw::read::Source;
 use std::alloc::Global;
 
 /// A text string of known or of indefinite length, which is to be UTF-8.
+#[inline(always)]
 pub(crate) fn take_text<S: Source>(
     alloc: Global,
     reader: &mut S,
@@ -41,6 +42,7 @@ pub(crate) fn take_text<S: Source>(
 }
 
 /// The content of a string of this major type, of known or of indefinite length.
+#[inline(always)]
 pub(crate) fn take_string<S: Source>(
     alloc: Global,
     reader: &mut S,
@@ -60,6 +62,7 @@ pub(crate) fn take_string<S: Source>(
 }
 
 /// As `take_string`, by what a program does.
+#[inline(always)]
 fn take_parts<S: Source>(
     alloc: Global,
     reader: &mut S,
@@ -78,6 +81,7 @@ fn take_parts<S: Source>(
 }
 
 /// So many bytes.
+#[inline(always)]
 pub(crate) fn take_known<S: Source>(
     alloc: Global,
     reader: &mut S,

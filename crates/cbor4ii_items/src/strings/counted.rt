@@ -12,6 +12,7 @@ const RESERVED: usize = 16384;
 
 /// Takes so many bytes behind those of `content`. A length alone takes little memory: more is
 /// taken as the bytes come.
+#[inline(always)]
 pub(crate) fn take_content<S: Source>(
     reader: &mut S,
     name: StaticStr,
@@ -32,6 +33,7 @@ pub(crate) fn take_content<S: Source>(
 }
 
 /// Takes the bytes that the reader shows, at most so many, behind those of `content`.
+#[inline(always)]
 fn take_shown<S: Source>(
     reader: &mut S,
     name: StaticStr,

@@ -68,6 +68,7 @@ impl Spelled for Bytes<Vec<u8>> {
 /// - no step is left for a chunk: `DepthOverflow`, and the chunk is left
 /// - a chunk is of indefinite length: `RequireLength` with `Indefinite`, behind its first byte
 impl<S: Source> Decode<S> for Bytes<Vec<u8>> {
+    #[inline(always)]
     fn decode(alloc: Global, reader: &mut S) -> Result<Bytes<Vec<u8>>, DecodeError<S::Error>> {
         Ok(Bytes(take_string(alloc, reader, "bytes", major::BYTES)?))
     }
@@ -119,6 +120,7 @@ impl Spelled for UncheckedStr<Vec<u8>> {
 /// - no step is left for a chunk: `DepthOverflow`, and the chunk is left
 /// - a chunk is of indefinite length: `RequireLength` with `Indefinite`, behind its first byte
 impl<S: Source> Decode<S> for UncheckedStr<Vec<u8>> {
+    #[inline(always)]
     fn decode(
         alloc: Global,
         reader: &mut S,
@@ -175,6 +177,7 @@ impl Spelled for String {
 /// - a chunk is of indefinite length: `RequireLength` with `Indefinite`, behind its first byte
 /// - it is not UTF-8: `RequireUtf8`, and the whole item is taken
 impl<S: Source> Decode<S> for String {
+    #[inline(always)]
     fn decode(alloc: Global, reader: &mut S) -> Result<String, DecodeError<S::Error>> {
         take_text(alloc, reader, "str")
     }
