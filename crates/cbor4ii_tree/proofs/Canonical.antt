@@ -12,7 +12,7 @@ use Rattle.cbor4ii_tree.specs.Spelling.{Spells}
 use Rattle.cbor4ii_tree.proofs.Costs.{below_from_HeadFits}
 use Rattle.cbor4ii_tree.specs.head_laws.Numbers.{length-bytes_high_first}
 
-if_cases : {A : Type 0} (P : A → Type 0) (b : Bool) (x y : A) → (b ≡ true → P x) → (b ≡ false → P y) → P (cond b x y)
+pub if_cases : {A : Type 0} (P : A → Type 0) (b : Bool) (x y : A) → (b ≡ true → P x) → (b ≡ false → P y) → P (cond b x y)
 if_cases P true x y f g = f refl
 if_cases P false x y f g = g refl
 
@@ -49,7 +49,7 @@ counted_fits : (n m : ℕ) → n ≡ m → m < 2 ^ 64 → HeadFits (shortest m) 
 counted_fits n m e h = subst (HeadFits (shortest m)) (sym e) (shortest_fits m h)
 
 mutual
-  loose_canon : (v : Item) → IsItem v → Loose (canon_tree v)
+  pub loose_canon : (v : Item) → IsItem v → Loose (canon_tree v)
   loose_canon null h = tt
   loose_canon (boolean b) h = tt
   loose_canon (integer (pos n)) h = loose_integer unsigned n
@@ -70,7 +70,7 @@ mutual
   loose_canon_pairs (member k v ms) h = (loose_canon k h.0, loose_canon v h.1, loose_canon_pairs ms h.2)
 
 mutual
-  sound_canon : (v : Item) → IsItem v → SoundStrings (canon_tree v)
+  pub sound_canon : (v : Item) → IsItem v → SoundStrings (canon_tree v)
   sound_canon null h = tt
   sound_canon (boolean b) h = tt
   sound_canon (integer (pos n)) h = sound_integer unsigned n

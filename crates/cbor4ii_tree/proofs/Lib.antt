@@ -1,6 +1,7 @@
 pub mod Costs
 pub mod Canonical
 pub mod Sizes
+pub mod Strict
 pub mod Answers
 pub mod MayStop
 pub mod Views

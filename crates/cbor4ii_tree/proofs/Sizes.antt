@@ -47,19 +47,19 @@ mutual
 
 -- ---- so fewer than 2 ^ 64 bytes spell a value of the program
 
-integer-value : (s : Sign) (n : ℕ) → n < 2 ^ 64 → IsItem (integer (number s n))
+pub integer-value : (s : Sign) (n : ℕ) → n < 2 ^ 64 → IsItem (integer (number s n))
 integer-value unsigned n h = omega arith
 integer-value negative n h = omega arith
 
-content-value : (k : Kind) (content : List ℕ) → TextIsUtf8 k content → length content < 2 ^ 64 → IsItem (content_item k content)
+pub content-value : (k : Kind) (content : List ℕ) → TextIsUtf8 k content → length content < 2 ^ 64 → IsItem (content_item k content)
 content-value byte_string content h lt = lt
 content-value text_string content h lt = (lt, h)
 
-item_count-values : (ts : Trees) → item_count (values ts) ≡ count ts
+pub item_count-values : (ts : Trees) → item_count (values ts) ≡ count ts
 item_count-values no_trees = refl
 item_count-values (tree t ts) = ap suc (item_count-values ts)
 
-member_count-values : (ps : Pairs) → member_count (member_values ps) ≡ pair_count ps
+pub member_count-values : (ps : Pairs) → member_count (member_values ps) ≡ pair_count ps
 member_count-values no_pairs = refl
 member_count-values (pair k v ps) = ap suc (member_count-values ps)
 

@@ -5,6 +5,7 @@ pub mod Cost
 pub mod Canonical
 pub mod Refusal
 pub mod Spelling
+pub mod Strict
 pub mod Stops
 pub mod StopsSkipping
 pub mod StopsReading

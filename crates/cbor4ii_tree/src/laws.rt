@@ -5,6 +5,7 @@ ghost use Rattle.std.specs.Prelude.{◌≡◌, ◌++◌, ◌≤◌, ◌<◌, ◌
 ghost use Rattle.cbor4ii_items.specs.Head.{IsBytes};
 ghost use Rattle.cbor4ii_tree.specs.Tree.{Tree, bytes, Loose, Plain, Joins};
 ghost use Rattle.cbor4ii_tree.specs.Item.{Item, IsItem, size};
+ghost use Rattle.cbor4ii_tree.specs.Meaning.{value};
 ghost use Rattle.cbor4ii_items.specs.Decoding.{CostFits};
 ghost use Rattle.cbor4ii_tree.specs.Cost.{Budget, skip_cost, cost};
 ghost use Rattle.cbor4ii_tree.specs.Canonical.{canon, canon_cost, with_bignums};
@@ -17,6 +18,7 @@ ghost use Rattle.cbor4ii_tree.specs.Spelling.{
   AtMostOne,
   IsProperFront,
 };
+ghost use Rattle.cbor4ii_tree.specs.Strict.{Strict, IsDecoded, SpellsStrictly, ReadsStrictly};
 ghost use Rattle.cbor4ii_tree.specs.StopsSkipping.{StopsSkipping, SkippingStopsByParts};
 ghost use Rattle.cbor4ii_tree.specs.StopsReading.{StopsReading, ReadingStopsByParts};
 ghost use Rattle.cbor4ii_tree.specs.Skip.{skip};
@@ -185,3 +187,16 @@ pub fn values_are_items(value: &Value)
 {
     in_range(value)
 }
+
+/// One spelling a value. A plain tree is canonical exactly where its bytes are the canonical
+/// spelling of its value. What a strict reading accepts is exactly the canonical spelling of a
+/// value that reading gives and whose cost fits, with what follows it; and of two such values
+/// exactly the equal ones have the same bytes.
+pub fn canonical_trees_are_canonical_spellings()
+    ensures tree { (t : Tree) → Plain t → (Strict t ↔ (bytes t ≡ canon (value t))) }
+    ensures accepts { (input : List ℕ) (budget : Budget) (v : Item) (rest : List ℕ) →
+        ReadsStrictly input budget v rest
+        ↔ (IsDecoded v × CostFits (canon_cost v) budget × (input ≡ canon v ++ rest)) }
+    ensures equal { (s t : List ℕ) (v w : Item) (c d : ℕ) →
+        SpellsStrictly s v c → SpellsStrictly t w d → ((v ≡ w) ↔ (s ≡ t)) }
+{}
