@@ -3,7 +3,7 @@ use Rattle.std.proofs.Common.{◌≡◌, ℕ, ◌≤◌, List, length, drop, tak
 use Rattle.std.specs.Prelude.{MatchBool}
 use Rattle.cbor4ii_rw.specs.View.{View}
 use Rattle.cbor4ii_rw.specs.declared.error.DecodeError.{DecodeError}
-use Rattle.cbor4ii_rw.specs.declared.error.DecodeError.TheVariants.{Read, Mismatch, Unsupported, Eof, RequireLength, RequireBorrowed, RequireUtf8, LengthOverflow, CastOverflow, ArithmeticOverflow, DepthOverflow, Custom, OutOfMemory}
+use Rattle.cbor4ii_rw.specs.declared.error.DecodeError.TheVariants.{Read, Mismatch, Unsupported, Eof, RequireLength, RequireBorrowed, RequireUtf8, LengthOverflow, CastOverflow, ArithmeticOverflow, DepthOverflow, Custom, OutOfMemory, NotCanonical}
 use Rattle.cbor4ii_items.specs.Head.{IsBytes}
 use Rattle.cbor4ii_items.specs.Refusal.{Refusal, refusal_of, is_read}
 use Rattle.cbor4ii_items.specs.Moves.{Kept, Broke}
@@ -47,6 +47,7 @@ spoken (ArithmeticOverflow name ty) a b h = h
 spoken (DepthOverflow name) a b h = h
 spoken (Custom name num) a b h = h
 spoken OutOfMemory a b h = tt
+spoken (NotCanonical name) a b h = h
 
 stopped : {V : Type 0} (program : Reading V) (stops : StopsAt) (o : Option Refusal) (xs : List ℕ) (a b : View) → a.told ≡ Some xs
     → ((z : Refusal) (n : ℕ) → program xs ≡ Err (z, drop n xs) → n ≤ length xs → IsBytes (take n xs) → stops xs a.budget z (drop n xs))

@@ -5,7 +5,7 @@ use Rattle.cbor4ii_rw.specs.declared.error.Len.TheVariants.{Small, Big}
 use Rattle.std.specs.Prelude.{nat_lt, if◌then◌else◌}
 use Rattle.cbor4ii_rw.specs.declared.error.ArithmeticOverflow.{ArithmeticOverflow as Overflows}
 use Rattle.cbor4ii_rw.specs.declared.error.DecodeError.{DecodeError}
-use Rattle.cbor4ii_rw.specs.declared.error.DecodeError.TheVariants.{Read, Mismatch, Unsupported, Eof, RequireLength, RequireBorrowed, RequireUtf8, LengthOverflow, CastOverflow, ArithmeticOverflow, DepthOverflow, Custom, OutOfMemory}
+use Rattle.cbor4ii_rw.specs.declared.error.DecodeError.TheVariants.{Read, Mismatch, Unsupported, Eof, RequireLength, RequireBorrowed, RequireUtf8, LengthOverflow, CastOverflow, ArithmeticOverflow, DepthOverflow, Custom, OutOfMemory, NotCanonical}
 
 -- each with the name of what was read
 pub data Refusal : Type 0 where
@@ -20,6 +20,7 @@ pub data Refusal : Type 0 where
   arithmetic_overflow : List ℕ → Overflows → Refusal
   depth_overflow : List ℕ → Refusal
   custom : List ℕ → ℕ → Refusal
+  not_canonical : List ℕ → Refusal
 
 -- what an error says of the bytes: nothing where the reader failed, or where there was no memory
 abbrev pub refusal_of : {E : Type 0} → DecodeError E → Option Refusal
@@ -36,6 +37,7 @@ refusal_of (ArithmeticOverflow name ty) = Some (arithmetic_overflow name.now ty)
 refusal_of (DepthOverflow name) = Some (depth_overflow name.now)
 refusal_of (Custom name num) = Some (custom name.now num)
 refusal_of OutOfMemory = None
+refusal_of (NotCanonical name) = Some (not_canonical name.now)
 
 -- the reader failed
 abbrev pub is_read : {E : Type 0} → DecodeError E → Bool
@@ -52,6 +54,7 @@ is_read (ArithmeticOverflow name ty) = false
 is_read (DepthOverflow name) = false
 is_read (Custom name num) = false
 is_read OutOfMemory = false
+is_read (NotCanonical name) = false
 
 -- a growth was refused
 abbrev pub is_out_of_memory : {E : Type 0} → DecodeError E → Bool
@@ -68,6 +71,7 @@ is_out_of_memory (ArithmeticOverflow name ty) = false
 is_out_of_memory (DepthOverflow name) = false
 is_out_of_memory (Custom name num) = false
 is_out_of_memory OutOfMemory = true
+is_out_of_memory (NotCanonical name) = false
 
 -- no step was left
 abbrev pub is_depth_overflow : {E : Type 0} → DecodeError E → Bool
@@ -84,6 +88,7 @@ is_depth_overflow (ArithmeticOverflow name ty) = false
 is_depth_overflow (DepthOverflow name) = true
 is_depth_overflow (Custom name num) = false
 is_depth_overflow OutOfMemory = false
+is_depth_overflow (NotCanonical name) = false
 
 -- a count in a refusal
 abbrev pub len_of : ℕ → Len

@@ -112,6 +112,10 @@ pub enum DecodeError<E> {
     },
     /// There was no memory for the value.
     OutOfMemory,
+    /// A value begins here, or may, and not by its canonical spelling.
+    NotCanonical {
+        name: StaticStr,
+    },
 }
 
 /// Why a value was not written.

@@ -331,7 +331,7 @@ fn a_write_that_fails_is_told(rt: HostRuntime) -> Result<(), Fail> {
 fn errors_have_the_texts_of_debug(rt: HostRuntime) -> Result<(), Fail> {
     let alloc = rt.alloc();
     let name: StaticStr = "str";
-    let errors: [(DecodeError<u8>, &str); 13] = [
+    let errors: [(DecodeError<u8>, &str); 14] = [
         (DecodeError::from(3), "Read(3)"),
         (
             DecodeError::Mismatch { name, found: 64 },
@@ -390,6 +390,10 @@ fn errors_have_the_texts_of_debug(rt: HostRuntime) -> Result<(), Fail> {
             "Custom { name: \"str\", num: 7 }",
         ),
         (DecodeError::OutOfMemory, "OutOfMemory"),
+        (
+            DecodeError::NotCanonical { name },
+            "NotCanonical { name: \"str\" }",
+        ),
     ];
     for (error, text) in &errors {
         assert_eq!(rt; format!(in alloc; "{error}")?.as_str(), *text);

@@ -3,6 +3,7 @@ use Rattle.std.specs.Prelude.{Result}
 use Rattle.cbor4ii_items.specs.Refusal.{Refusal, mismatch, unsupported, eof, require_length}
 use Rattle.cbor4ii_items.specs.Refusal.{require_borrowed, require_utf8, length_overflow}
 use Rattle.cbor4ii_items.specs.Refusal.{cast_overflow, arithmetic_overflow, depth_overflow, custom}
+use Rattle.cbor4ii_items.specs.Refusal.{not_canonical}
 use Rattle.cbor4ii_rw.specs.declared.error.DecodeError.{DecodeError}
 use Rattle.cbor4ii_rw.specs.declared.error.DecodeError.TheVariants.{Read, Mismatch, Unsupported}
 use Rattle.cbor4ii_rw.specs.declared.error.DecodeError.TheVariants.{Eof, RequireLength}
@@ -10,7 +11,7 @@ use Rattle.cbor4ii_rw.specs.declared.error.DecodeError.TheVariants.{RequireBorro
 use Rattle.cbor4ii_rw.specs.declared.error.DecodeError.TheVariants.{LengthOverflow, CastOverflow}
 use Rattle.cbor4ii_rw.specs.declared.error.DecodeError.TheVariants.{ArithmeticOverflow}
 use Rattle.cbor4ii_rw.specs.declared.error.DecodeError.TheVariants.{DepthOverflow, Custom}
-use Rattle.cbor4ii_rw.specs.declared.error.DecodeError.TheVariants.{OutOfMemory}
+use Rattle.cbor4ii_rw.specs.declared.error.DecodeError.TheVariants.{OutOfMemory, NotCanonical}
 use Rattle.cbor4ii_tool.specs.declared.fault.Fault.{Fault}
 use Rattle.cbor4ii_tool.specs.declared.fault.Kind.{Kind}
 use Rattle.cbor4ii_tool.specs.declared.fault.Kind.TheVariants as kind
@@ -30,6 +31,7 @@ kind_of (ArithmeticOverflow name ty) = kind.ArithmeticOverflow
 kind_of (DepthOverflow name) = kind.DepthOverflow
 kind_of (Custom name num) = kind.Custom
 kind_of OutOfMemory = kind.OutOfMemory
+kind_of (NotCanonical name) = kind.NotCanonical
 
 -- the kind of the same name, of what an error says of the bytes
 abbrev pub kind_of_refusal : Refusal → Kind
@@ -44,6 +46,7 @@ kind_of_refusal (cast_overflow name) = kind.CastOverflow
 kind_of_refusal (arithmetic_overflow name ty) = kind.ArithmeticOverflow
 kind_of_refusal (depth_overflow name) = kind.DepthOverflow
 kind_of_refusal (custom name num) = kind.Custom
+kind_of_refusal (not_canonical name) = kind.NotCanonical
 
 -- what a run answers: nothing, or where it stopped and why
 abbrev pub Outcome : Type 0

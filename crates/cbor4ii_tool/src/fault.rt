@@ -34,6 +34,8 @@ pub enum Kind {
     Custom,
     /// There was no memory for what was read.
     OutOfMemory,
+    /// An item stands there, or may, and not by its canonical spelling.
+    NotCanonical,
     /// There was no memory for what is written, or it could not be written.
     Write,
 }
@@ -57,6 +59,7 @@ impl Kind {
             DecodeError::DepthOverflow { .. } => Kind::DepthOverflow,
             DecodeError::Custom { .. } => Kind::Custom,
             DecodeError::OutOfMemory => Kind::OutOfMemory,
+            DecodeError::NotCanonical { .. } => Kind::NotCanonical,
         }
     }
 }
