@@ -24,3 +24,4 @@ pub mod SequenceParts
 pub mod SequenceAnswers
 pub mod Pairs
 pub mod NextByte
+pub mod Shortest

@@ -195,7 +195,7 @@ content_by true name count before xs z ys h e =
     (ltb-true (length xs) count h, sym p.0, sym p.1)
 content_by false name count before xs z ys h e = cc
 
-content_refused : (name : List ℕ) (count : ℕ) (before xs : List ℕ) (z : Refusal) (ys : List ℕ) → content_on name count before xs ≡ Err (z, ys) → (length xs < count) × (z ≡ eof name (len_of (count - length xs))) × (ys ≡ [])
+pub content_refused : (name : List ℕ) (count : ℕ) (before xs : List ℕ) (z : Refusal) (ys : List ℕ) → content_on name count before xs ≡ Err (z, ys) → (length xs < count) × (z ≡ eof name (len_of (count - length xs))) × (ys ≡ [])
 content_refused name count before xs z ys e = content_by (ltb (length xs) count) name count before xs z ys refl e
 
 known_cut : (name before : List ℕ) (major k : ℕ) (xs us : List ℕ) (z : Refusal) (ys : List ℕ) → length_at name major xs ≡ Ok (Some k, us) → content_on name k before us ≡ Err (z, ys) → Seen xs ys → CutContent name major xs z ys

@@ -42,3 +42,5 @@ pub mod Marked
 pub mod Simple
 pub mod Floats
 pub mod Nothing
+pub mod Shortest
+pub mod ReadShortest

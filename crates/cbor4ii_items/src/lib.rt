@@ -3,6 +3,7 @@
 
 mod additional;
 mod boxed;
+pub mod canonical;
 pub mod decode;
 pub mod encode;
 mod floats;

@@ -2,7 +2,7 @@
 
 mod borrowed;
 mod chunks;
-mod content;
+pub(crate) mod content;
 mod counted;
 mod cow;
 mod encode;

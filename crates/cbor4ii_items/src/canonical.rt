@@ -1,0 +1,136 @@
+//! Heads and strings that are spelled in one way: by the shortest head (RFC 8949 section 4.1).
+ghost use Rattle.std.specs.Prelude.{◌≡◌, ◌+◌, ◌≤◌, ◌<◌, OnOk, IfOk, IfErr, false};
+ghost use Rattle.cbor4ii_items.specs.Shortest.{
+  ReadsShortest,
+  ReadsShortestString,
+  StopsShortest,
+  StopsShortestString,
+};
+ghost use Rattle.cbor4ii_items.specs.Decoding.{Sound, Refuses, Stops};
+ghost use Rattle.cbor4ii_items.specs.Following.{Follows, listed};
+ghost use Rattle.cbor4ii_items.specs.Head.{additional, shortest};
+ghost use Rattle.cbor4ii_items.specs.Moves.{Moves};
+ghost use Rattle.cbor4ii_items.specs.ReadShortest.{is_open_head, shortest_at, shortest_string_at};
+ghost use Rattle.cbor4ii_items.specs.Reading.{Runs};
+ghost use Rattle.cbor4ii_items.specs.Refusal.{is_out_of_memory};
+
+use crate::head::{head, peek};
+use crate::strings::content::take_known;
+use crate::{major, marker};
+use cbor4ii_rw::error::{DecodeError, StaticStr};
+use cbor4ii_rw::read::Source;
+use std::alloc::Global;
+
+/// Takes a head of the major type `major`, 0 to 6, whose argument stands in the fewest bytes (RFC
+/// 8949 section 4.1), and answers the argument. The budget stays.
+///
+/// `Read` where the reader failed. By `name`: `Eof` with 1 where no byte is left, and with k where
+/// the argument has k bytes and fewer are left, nothing being left then; `Mismatch` with the first
+/// byte, which is taken, where it begins no head of this major type. `NotCanonical` by "canonical",
+/// behind the head, where a whole head is longer than needed, and behind the first byte where that
+/// says an indefinite length (major types 2 to 5).
+pub fn canonical_head<S: Source>(
+    name: StaticStr,
+    major: u8,
+    reader: &mut S,
+) -> Result<u64, DecodeError<S::Error>>
+    requires { major < 7 }
+    ensures moves { Moves (S.view reader.old) (S.view reader.new) result }
+    ensures memory { IfErr result (λ error. is_out_of_memory error ≡ false) }
+    ensures progress { OnOk result ((S.view reader.new).bound + 1 ≤ (S.view reader.old).bound) }
+    ensures sound { IfOk result
+        (Sound (ReadsShortest major) (S.view reader.old) (S.view reader.new)) }
+    ensures complete { IfErr result (Refuses (ReadsShortest major) (S.view reader.old)) }
+    ensures stops { IfErr result
+        (Stops (StopsShortest name.now major) (S.view reader.old) (S.view reader.new)) }
+{
+    take_shortest(reader, name, major)
+}
+
+/// Takes a string of the major type `major`, its length in a head as `canonical_head` takes it, and
+/// answers its content. At most 16384 bytes are reserved before any came. The budget stays.
+///
+/// The head is refused as `canonical_head` refuses it. Where bytes of the content are missing:
+/// `Eof` by `name` with the number of those that are missing, and nothing is left. `OutOfMemory`
+/// only where a growth was refused.
+pub fn canonical_buf<S: Source>(
+    alloc: Global,
+    name: StaticStr,
+    major: u8,
+    reader: &mut S,
+) -> Result<Vec<u8>, DecodeError<S::Error>>
+    requires { major < 7 }
+    ensures moves { Moves (S.view reader.old) (S.view reader.new) result }
+    ensures progress { OnOk result ((S.view reader.new).bound + 1 ≤ (S.view reader.old).bound) }
+    ensures sound { IfOk result (λ content. Sound (ReadsShortestString major)
+        (S.view reader.old) (S.view reader.new) content.items) }
+    ensures complete { IfErr result (Refuses (ReadsShortestString major) (S.view reader.old)) }
+    ensures stops { IfErr result
+        (Stops (StopsShortestString name.now major) (S.view reader.old) (S.view reader.new)) }
+{
+    take_string(alloc, reader, name, major)
+}
+
+/// As `canonical_buf`, by what a program does.
+fn take_string<S: Source>(
+    alloc: Global,
+    reader: &mut S,
+    name: StaticStr,
+    major: u8,
+) -> Result<Vec<u8>, DecodeError<S::Error>>
+    requires { major < 7 }
+    ensures follows { Follows (shortest_string_at name.now major)
+        (S.view reader.old) (S.view reader.new) (listed result) }
+    ensures progress { OnOk result ((S.view reader.new).bound + 1 ≤ (S.view reader.old).bound) }
+{
+    let count = take_shortest(reader, name, major)?;
+    take_known(alloc, reader, name, count)
+}
+
+/// As `canonical_head`, by what a program does.
+fn take_shortest<S: Source>(
+    reader: &mut S,
+    name: StaticStr,
+    major: u8,
+) -> Result<u64, DecodeError<S::Error>>
+    requires { major < 7 }
+    ensures runs { Runs (shortest_at name.now major)
+        (S.view reader.old) (S.view reader.new) result }
+    ensures progress { OnOk result ((S.view reader.new).bound + 1 ≤ (S.view reader.old).bound) }
+{
+    let first = peek(reader, name, 1)?;
+    if is_open(major, first) {
+        reader.advance(1);
+        return Err(DecodeError::NotCanonical { name: "canonical" });
+    }
+    let argument = head(reader, name, major, 8)?;
+    if first % 32 != shortest_info(argument) {
+        return Err(DecodeError::NotCanonical { name: "canonical" });
+    }
+    Ok(argument)
+}
+
+/// Whether `first` says an indefinite length of this major type (RFC 8949 section 3.2).
+fn is_open(major: u8, first: u8) -> bool
+    requires { major < 7 }
+    ensures { result ≡ is_open_head major first }
+{
+    major::BYTES <= major && major <= major::MAP && first == 32 * major + marker::START
+}
+
+/// The additional information of the shortest head with this argument.
+fn shortest_info(argument: u64) -> u8
+    ensures { result ≡ additional (shortest argument) argument }
+{
+    if argument < 24 {
+        argument as u8
+    } else if argument < 0x100 {
+        24
+    } else if argument < 0x1_0000 {
+        25
+    } else if argument < 0x1_0000_0000 {
+        26
+    } else {
+        27
+    }
+}
