@@ -1,0 +1,51 @@
+-- A text in pieces, as an item.
+use Rattle.std.proofs.Common.{◌≡◌, ℕ, List, ◌++◌, Option, None, Some, Result, Ok, Err, Bool, true, false, refl, sym, ap, subst, ◌⊎◌, inl, inr, IsSome}
+use Rattle.cbor4ii_rw.specs.Writer.{Output}
+use Rattle.cbor4ii_rw.specs.declared.error.EncodeError as core
+use Rattle.cbor4ii_items.specs.Writing.{Writes}
+use Rattle.cbor4ii_items.specs.Laws.Written.{writes_then, writes_err, writes_as}
+use Rattle.cbor4ii_ser.specs.declared.error.EncodeError.TheVariants.{Core, Custom}
+use Rattle.cbor4ii_ser.specs.Serializing.{Serializes}
+use Rattle.cbor4ii_ser.specs.Pieces.{Pending, nothing_yet, written, after, last_bytes, text_bytes}
+use Rattle.cbor4ii_ser.specs.TextState.{Seen, Wrote, Flushes, Pends, outcome, text_item}
+
+flushed_on : {E : Type 0} {whole : Bool} (ps : List (List ℕ)) (p q : Pending) (o m n : Output) (g : Option E) (r : Result (Unit {0}) E) → Writes whole (written p ps) o m (outcome g) → Pends ps p q g → (g ≡ None → Writes whole (last_bytes q) m n r) → ((e : E) → g ≡ Some e → (r ≡ Err e) × (n ≡ m)) → Writes whole (written p ps ++ last_bytes (after p ps)) o n r
+flushed_on ps p q o m n None r first is ends fails =
+    writes_as r (ap (λ z. written p ps ++ last_bytes z) is) (writes_then {t = tt} r first (ends refl))
+flushed_on {whole = whole} ps p q o m n (Some e) r first is ends fails =
+    let at = fails e refl in
+    subst (λ z. Writes whole (written p ps ++ last_bytes (after p ps)) o z r) (sym at.1)
+    (subst (λ z. Writes whole (written p ps ++ last_bytes (after p ps)) o m z) (sym at.0) (writes_err (last_bytes (after p ps)) first))
+
+-- the pieces from the first on, and the end
+pub flushed : {E : Type 0} {whole : Bool} {ps : List (List ℕ)} {a b : Seen E} {n : Output} {r : Result (Unit {0}) E} → a.failure ≡ None → a.pending ≡ nothing_yet → Wrote whole ps a b → Flushes whole b n r → Writes whole (text_bytes ps) a.output n r
+flushed {whole = whole} {ps = ps} {a = a} {b = b} {n = n} {r = r} fine start w f =
+    writes_as r (ap (λ z. written z ps ++ last_bytes (after z ps)) start)
+    (flushed_on ps a.pending b.pending a.output b.output n b.failure r (w.writes fine) (w.pends fine) f.ends f.fails)
+
+none_some : {E : Type 0} (o : Option E) → o ≡ None → IsSome o → ⊥
+none_some None is h = cc
+none_some (Some e) is h = cc
+
+module _ {E : Type 0} {whole : Bool} where
+  pub collected_ok : (refuses : Bool) (ps : List (List ℕ)) {o n : Output} {u : Unit {0}} → refuses ≡ false → Writes {E = core.EncodeError E} whole (text_bytes ps) o n (Ok u) → Serializes {T = Unit {0}} {E = E} whole (text_item refuses ps) o n (Ok tt)
+  collected_ok true ps is w = absurd (cc)
+  collected_ok false ps is w = record { appends = w.appends; counts = w.counts; failed = tt; front = λ whole. tt }
+
+  pub collected_err : (refuses : Bool) (ps : List (List ℕ)) {o n : Output} {e : core.EncodeError E} → Writes {T = Unit {0}} whole (text_bytes ps) o n (Err e) → Serializes {T = Unit {0}} {E = E} whole (text_item refuses ps) o n (Err (Core e))
+  collected_err true ps w = record { appends = tt; counts = tt; failed = w.failed; front = λ whole held told. let f = w.front whole held told in (f.0, tt, f.2) }
+  collected_err false ps w = record { appends = tt; counts = tt; failed = w.failed; front = λ whole held told. let f = w.front whole held told in (f.0, f.1, f.2) }
+
+  -- the writer failed in one of the pieces
+  pub collected_failed : (refuses : Bool) {ps : List (List ℕ)} {a b : Seen (core.EncodeError E)} (e : core.EncodeError E) → b.failure ≡ Some e → a.failure ≡ None → a.pending ≡ nothing_yet → Wrote whole ps a b → Serializes {T = Unit {0}} {E = E} whole (text_item refuses ps) a.output b.output (Err (Core e))
+  collected_failed refuses {ps = ps} {a = a} {b = b} e is fine start w =
+      let at : Writes whole (written a.pending ps) a.output b.output (outcome (Some e)) = subst (λ z. Writes whole (written a.pending ps) a.output b.output (outcome z)) is (w.writes fine) in
+      collected_err refuses ps (writes_as (Err e) (ap (λ z. written z ps ++ last_bytes (after z ps)) start) (writes_err (last_bytes (after a.pending ps)) at))
+
+  -- it refused by itself
+  pub collected_refused : (refuses : Bool) {ps : List (List ℕ)} {a b : Seen (core.EncodeError E)} (text : _) → b.failure ≡ None → a.failure ≡ None → (refuses ≡ true) ⊎ IsSome b.failure → Wrote whole ps a b → Serializes {T = Unit {0}} {E = E} whole (text_item refuses ps) a.output b.output (Err (Custom text))
+  collected_refused true {ps = ps} {a = a} {b = b} text is fine why w =
+      let at : Writes whole (written a.pending ps) a.output b.output (Ok tt) = subst (λ z. Writes whole (written a.pending ps) a.output b.output (outcome z)) is (w.writes fine) in
+      record { appends = tt; counts = tt; failed = (refl, at.counts); front = λ whole held told. (written a.pending ps, tt, at.appends held told) }
+  collected_refused false text is fine (inl h) w = absurd (cc)
+  collected_refused false {b = b} text is fine (inr h) w = absurd (none_some b.failure is h)

@@ -1,0 +1,5 @@
+pub mod Cutting
+pub mod Collecting
+pub mod Determined
+pub mod Greedy
+pub mod PiecesBack

@@ -1,0 +1,104 @@
+-- A text in pieces is read as the pieces joined.
+use Rattle.std.proofs.Common.{◌≡◌, ℕ, suc, ◌+◌, ◌<◌, ◌≤◌, ◌^◌, List, [], ◌∷◌, ◌++◌, length, take, drop, refl, sym, ap, ap₂, ◌∙◌, ◌⊎◌, inl, inr, arith, append_assoc, length-append, subst}
+use Rattle.std.proofs.Math.Seq.{drop-append_seam}
+use Rattle.std.proofs.lemmas.List.{append-nil, take_at}
+use Rattle.cbor4ii_items.specs.Head.{eight, break}
+use Rattle.cbor4ii_items.specs.Heads.{ReadsHead}
+use Rattle.cbor4ii_items.specs.Numbers.{shortest_head}
+use Rattle.cbor4ii_items.specs.Strings.{joined, counted_string, opening, closing, ReadsCountedString, ReadsChunks, ReadsOpenString, ReadsString, chunk_cost}
+use Rattle.cbor4ii_items.specs.Laws.NumbersBack.{head_back}
+use Rattle.cbor4ii_ser.specs.Pieces.{most, filled, IsChunk, IsCut, Chunks, one, several, counted_chunks}
+use Rattle.cbor4ii_ser.specs.PiecesRead.{AllShort, ReadsPieces}
+use Rattle.cbor4ii_ser.proofs.Determined.{joined_append}
+use Rattle.cbor4ii_ser.proofs.Greedy.{joined_filled}
+
+counted_back : (c rest : List ℕ) → length c < 2 ^ 64 → ReadsCountedString 3 (counted_string 3 c ++ rest) c (length (counted_string 3 c))
+counted_back c rest h =
+    let start = shortest_head 3 (length c) in
+    let whole : (start ++ c) ++ rest ≡ start ++ (c ++ rest) = append_assoc start c rest in
+    let left : drop (length start) ((start ++ c) ++ rest) ≡ c ++ rest = ap (drop (length start)) whole ∙ drop-append_seam start (c ++ rest) in
+    record {
+      before = length start;
+      head = subst (λ zs. ReadsHead 3 8 zs (length c) (length start)) (sym whole) (head_back 3 eight (length c) h (c ++ rest));
+      stands = ap (take (length c)) left ∙ take_at c rest _ refl;
+      size = length-append start c;
+    }
+
+chunks_back : (cs : List (List ℕ)) (rest : List ℕ) → AllShort cs → ReadsChunks 3 cs (counted_chunks cs ++ rest) (length (counted_chunks cs))
+chunks_back [] rest h = refl
+chunks_back (c ∷ cs) rest h =
+    let whole : (counted_string 3 c ++ counted_chunks cs) ++ rest ≡ counted_string 3 c ++ (counted_chunks cs ++ rest) = append_assoc (counted_string 3 c) (counted_chunks cs) rest in
+    let left : drop (length (counted_string 3 c)) ((counted_string 3 c ++ counted_chunks cs) ++ rest) ≡ counted_chunks cs ++ rest = ap (drop (length (counted_string 3 c))) whole ∙ drop-append_seam (counted_string 3 c) (counted_chunks cs ++ rest) in (
+      length (counted_string 3 c),
+      length (counted_chunks cs),
+      subst (λ z. ReadsCountedString 3 z c (length (counted_string 3 c))) (sym whole) (counted_back c (counted_chunks cs ++ rest) h.0),
+      subst (λ z. ReadsChunks 3 cs z (length (counted_chunks cs))) (sym left) (chunks_back cs rest h.1),
+      length-append (counted_string 3 c) (counted_chunks cs),
+    )
+
+short_front : (ps qs : List (List ℕ)) → AllShort (ps ++ qs) → AllShort ps
+short_front [] qs h = tt
+short_front (p ∷ ps) qs h = (h.0, short_front ps qs h.1)
+
+short_rest : (ps qs : List (List ℕ)) → AllShort (ps ++ qs) → AllShort qs
+short_rest [] qs h = h
+short_rest (p ∷ ps) qs h = short_rest ps qs h.1
+
+short_filled : (ps : List (List ℕ)) → AllShort ps → AllShort (filled ps)
+short_filled [] h = tt
+short_filled ([] ∷ ps) h = short_filled ps h.1
+short_filled ((b ∷ bs) ∷ ps) h = (h.0, short_filled ps h.1)
+
+short_one : (c : List ℕ) (run : List (List ℕ)) → length run ≡ 1 → c ≡ joined run → AllShort run → length c < 2 ^ 64
+short_one c [] e is h = absurd (omega (arith, e))
+short_one c (p ∷ []) e is h = omega (arith, h.0, ap length (is ∙ append-nil p))
+short_one c (p ∷ (q ∷ run)) e is h = absurd (omega (arith, e))
+
+short_chunk : (c : List ℕ) (run : List (List ℕ)) → IsChunk c run → AllShort run → length c < 2 ^ 64
+short_chunk c run is h = elim is.short [ inl short ↦ omega (arith, short) | inr single ↦ short_one c run single is.joins h ]
+
+short_cut : (ps cs : List (List ℕ)) → IsCut ps cs → AllShort ps → AllShort cs
+short_cut ps [] p h = tt
+short_cut ps (c ∷ cs) p h =
+    let all : AllShort (p.0 ++ p.1) = subst AllShort p.2 h in
+    (short_chunk c p.0 p.3 (short_front p.0 p.1 all), short_cut p.1 cs p.5 (short_rest p.0 p.1 all))
+
+joined_cut : (ps cs : List (List ℕ)) → IsCut ps cs → joined ps ≡ joined cs
+joined_cut ps [] p = ap joined p
+joined_cut ps (c ∷ cs) p = ap joined p.2 ∙ (joined_append p.0 p.1 ∙ ap₂ (λ u v. u ++ v) (sym p.3.joins) (joined_cut p.1 cs p.5))
+
+drop_behind : (b : ℕ) (xs : List ℕ) (n : ℕ) → drop (1 + n) (b ∷ xs) ≡ drop n xs
+drop_behind b xs n = let e : 1 + n ≡ suc n = omega arith in ap (λ j. drop j (b ∷ xs)) e
+
+open_back : (ps cs : List (List ℕ)) (rest : List ℕ) → joined ps ≡ joined cs → AllShort cs → ReadsOpenString 3 ((opening 3 ++ counted_chunks cs ++ closing) ++ rest) (joined ps) (length (opening 3 ++ counted_chunks cs ++ closing)) (chunk_cost cs)
+open_back ps cs rest is h =
+    let n = length (counted_chunks cs) in
+    let whole : (counted_chunks cs ++ closing) ++ rest ≡ counted_chunks cs ++ (closing ++ rest) = append_assoc (counted_chunks cs) closing rest in
+    let left : drop n ((counted_chunks cs ++ closing) ++ rest) ≡ closing ++ rest = ap (drop n) whole ∙ drop-append_seam (counted_chunks cs) (closing ++ rest) in
+    record {
+      begins = refl;
+      chunks = cs;
+      between = n;
+      read = subst (λ z. ReadsChunks 3 cs z n) (sym whole) (chunks_back cs (closing ++ rest) h);
+      ends = ap (take 1) (drop_behind 127 ((counted_chunks cs ++ closing) ++ rest) n ∙ left);
+      value = is;
+      size = (let m : length (counted_chunks cs ++ closing) ≡ n + 1 = length-append (counted_chunks cs) closing in omega (arith, m));
+      cost = refl;
+    }
+
+one_step : (cs : List (List ℕ)) → chunk_cost cs ≤ 1
+one_step [] = omega arith
+one_step (c ∷ cs) = omega arith
+
+pub pieces_back : (pieces : List (List ℕ)) (bytes : List ℕ) → AllShort pieces → Chunks pieces bytes → ReadsPieces pieces bytes
+pieces_back pieces bytes h (one short e) rest =
+    let fits : length (joined pieces) < 2 ^ 64 = omega (arith, short) in
+    let none : 0 ≤ 1 = omega arith in
+    (0, none, inl (subst (λ z. ReadsCountedString 3 (z ++ rest) (joined pieces) (length z)) (sym e) (counted_back (joined pieces) rest fits), refl))
+pieces_back pieces bytes h (several cs long cut e) rest =
+    let is : joined pieces ≡ joined cs = sym (joined_filled pieces) ∙ joined_cut (filled pieces) cs cut in (
+      chunk_cost cs,
+      one_step cs,
+      inr (subst (λ z. ReadsOpenString 3 (z ++ rest) (joined pieces) (length z) (chunk_cost cs)) (sym e)
+          (open_back pieces cs rest is (short_cut (filled pieces) cs cut (short_filled pieces h)))),
+    )

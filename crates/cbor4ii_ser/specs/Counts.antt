@@ -1,0 +1,29 @@
+-- How many parts an array or a map has: a number, or any up to a break.
+use Rattle.std.specs.Prelude.{◌≡◌, ◌<◌, ◌-◌, ℕ, List, [], Option, None, Some}
+use Rattle.cbor4ii_items.specs.Numbers.{shortest_head}
+use Rattle.cbor4ii_items.specs.Strings.{opening, closing}
+
+-- the head of an array (4) or a map (5) of so many parts
+abbrev pub counted_head : ℕ → Option ℕ → List ℕ
+counted_head major (Some len) = shortest_head major len
+counted_head major None = opening major
+
+-- what ends it
+abbrev pub counted_end : Option ℕ → List ℕ
+counted_end (Some len) = []
+counted_end None = closing
+
+-- another part may come
+abbrev pub IsReady : Option ℕ → Type 0
+IsReady (Some left) = 0 < left
+IsReady None = Unit {0}
+
+-- no part has to come any more
+abbrev pub IsDone : Option ℕ → Type 0
+IsDone (Some left) = left ≡ 0
+IsDone None = Unit {0}
+
+-- one part fewer is to come
+abbrev pub less : Option ℕ → Option ℕ
+less (Some left) = Some (left - 1)
+less None = None

@@ -1,0 +1,3 @@
+-- How calls compose: what the proofs of this crate and of the crates above cite.
+pub mod Joining
+pub mod Pieces

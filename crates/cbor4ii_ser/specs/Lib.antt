@@ -1,0 +1,10 @@
+-- What writing a typed value is.
+pub mod Item
+pub mod Counts
+pub mod Serializing
+pub mod Collecting
+pub mod Pieces
+pub mod HeldRun
+pub mod TextState
+pub mod PiecesRead
+pub mod Laws

@@ -1,0 +1,234 @@
+//! Arrays and maps that are written part by part, of so many parts or of any number.
+ghost use Rattle.std.specs.Prelude.{
+  ◌≡◌,
+  [],
+  Some,
+  IfOk,
+  OnOk,
+  OnErr,
+  true,
+  false,
+};
+ghost use Rattle.std.specs.Borrow.{sem, RestsIfErr};
+ghost use Rattle.cbor4ii_ser.specs.contracts.serializer.Serializer.{the_row};
+ghost use Rattle.cbor4ii_ser.specs.Collecting.{left_of, is_keyed, owes, collected};
+ghost use Rattle.cbor4ii_ser.specs.Counts.{counted_head, counted_end, IsReady, IsDone, less};
+ghost use Rattle.cbor4ii_ser.specs.Item.{followed};
+ghost use Rattle.cbor4ii_ser.specs.Serializing.{Serializes, output};
+
+use crate::error::EncodeError;
+use crate::serialize::Serialize;
+use crate::serializer::Serializer;
+use cbor4ii_rw::write::Write;
+
+/// An array or a map that is being written: of so many parts, or of any number up to its end (RFC
+/// 8949 sections 3.1 and 3.2.2).
+///
+/// What was written when `end` has answered is the head, the parts in order, and a break where the
+/// length is indefinite. A call that fails changes neither `left` nor `owes_value`, save that an
+/// entry that fails at its value has written its key.
+#[derive(Drop)]
+pub struct Collect<'a, W: Write> {
+    pub(crate) ser: &'a mut Serializer<W>,
+    pub(crate) left: Option<usize>,
+    pub(crate) keyed: bool,
+    pub(crate) owes: bool,
+}
+
+impl<W: Write> Serializer<W> {
+    /// Begins an array of `len` items, or of any number where none is given. The items are to
+    /// follow, and `end`.
+    ///
+    /// It fails with `Core`, and only where the writer failed.
+    pub fn serialize_seq(
+        &mut self,
+        len: Option<usize>,
+    ) -> Result<Collect<'_, W>, EncodeError<W::Error>>
+        ensures* refused { sem 𝓛 (RestsIfErr (the_row W.row) self.entry (λ c. c.ser.ghost_name) result
+            (λ new. Serializes W.whole (Some (counted_head 4 len))
+            (output W.view self.old) (output W.view new) result)) }
+        ensures same_reference { IfOk result (λ c. c.ser.ghost_name ≡ self.entry.ghost_name) }
+        ensures left { IfOk result (λ c. left_of c ≡ len) }
+        ensures keyed { IfOk result (λ c. is_keyed c ≡ false) }
+        ensures owes { IfOk result (λ c. owes c ≡ false) }
+        ensures head { IfOk result (λ c. Serializes W.whole (Some (counted_head 4 len))
+            (output W.view self.old) (collected W.view c) result) }
+    {
+        self.seq_head(len)?;
+        Ok(Collect {
+            ser: self,
+            left: len,
+            keyed: false,
+            owes: false,
+        })
+    }
+
+    /// Begins a map of `len` entries, or of any number where none is given. The entries are to
+    /// follow, and `end`.
+    ///
+    /// It fails with `Core`, and only where the writer failed.
+    pub fn serialize_map(
+        &mut self,
+        len: Option<usize>,
+    ) -> Result<Collect<'_, W>, EncodeError<W::Error>>
+        ensures* refused { sem 𝓛 (RestsIfErr (the_row W.row) self.entry (λ c. c.ser.ghost_name) result
+            (λ new. Serializes W.whole (Some (counted_head 5 len))
+            (output W.view self.old) (output W.view new) result)) }
+        ensures same_reference { IfOk result (λ c. c.ser.ghost_name ≡ self.entry.ghost_name) }
+        ensures left { IfOk result (λ c. left_of c ≡ len) }
+        ensures keyed { IfOk result (λ c. is_keyed c ≡ true) }
+        ensures owes { IfOk result (λ c. owes c ≡ false) }
+        ensures head { IfOk result (λ c. Serializes W.whole (Some (counted_head 5 len))
+            (output W.view self.old) (collected W.view c) result) }
+    {
+        self.entries_head(len)?;
+        Ok(Collect {
+            ser: self,
+            left: len,
+            keyed: true,
+            owes: false,
+        })
+    }
+}
+
+impl<'a, W: Write> Collect<'a, W> {
+    /// How many elements or entries are still to come; none where any number may.
+    pub fn left(&self) -> Option<usize>
+        ensures { result ≡ left_of self.now }
+    {
+        self.left
+    }
+
+    /// Whether its parts are entries, each a key and a value.
+    pub fn keyed(&self) -> bool
+        ensures { result ≡ is_keyed self.now }
+    {
+        self.keyed
+    }
+
+    /// Whether a key was written whose value is still to come.
+    pub fn owes_value(&self) -> bool
+        ensures { result ≡ owes self.now }
+    {
+        self.owes
+    }
+
+    /// Writes an item of the array. It fails as the value's `serialize` does.
+    pub fn serialize_element<T: Serialize>(
+        &mut self,
+        value: &T,
+    ) -> Result<(), EncodeError<W::Error>>
+        requires keyed { is_keyed self.old ≡ false }
+        requires left { IsReady (left_of self.old) }
+        ensures same_reference { self.new.ser.ghost_name ≡ self.old.ser.ghost_name }
+        ensures keyed { is_keyed self.new ≡ is_keyed self.old }
+        ensures owes { owes self.new ≡ owes self.old }
+        ensures left { OnOk result (left_of self.new ≡ less (left_of self.old)) }
+        ensures left_at_refusal { OnErr result (left_of self.new ≡ left_of self.old) }
+        ensures written { Serializes W.whole (T.item value.now)
+            (collected W.view self.old) (collected W.view self.new) result }
+    {
+        value.serialize(self.ser)?;
+        self.count_one();
+        Ok(())
+    }
+
+    /// Writes a key of the map, whose value is then owed. It fails as the key's `serialize` does.
+    pub fn serialize_key<K: Serialize>(&mut self, key: &K) -> Result<(), EncodeError<W::Error>>
+        requires keyed { is_keyed self.old ≡ true }
+        requires owes { owes self.old ≡ false }
+        requires left { IsReady (left_of self.old) }
+        ensures same_reference { self.new.ser.ghost_name ≡ self.old.ser.ghost_name }
+        ensures keyed { is_keyed self.new ≡ is_keyed self.old }
+        ensures owes { OnOk result (owes self.new ≡ true) }
+        ensures owes_at_refusal { OnErr result (owes self.new ≡ owes self.old) }
+        ensures left { OnOk result (left_of self.new ≡ less (left_of self.old)) }
+        ensures left_at_refusal { OnErr result (left_of self.new ≡ left_of self.old) }
+        ensures written { Serializes W.whole (K.item key.now)
+            (collected W.view self.old) (collected W.view self.new) result }
+    {
+        key.serialize(self.ser)?;
+        self.count_one();
+        self.owes = true;
+        Ok(())
+    }
+
+    /// Writes the value that is owed. It fails as the value's `serialize` does, and the value is
+    /// still owed then.
+    pub fn serialize_value<V: Serialize>(&mut self, value: &V) -> Result<(), EncodeError<W::Error>>
+        requires keyed { is_keyed self.old ≡ true }
+        requires owes { owes self.old ≡ true }
+        ensures same_reference { self.new.ser.ghost_name ≡ self.old.ser.ghost_name }
+        ensures keyed { is_keyed self.new ≡ is_keyed self.old }
+        ensures owes { OnOk result (owes self.new ≡ false) }
+        ensures owes_at_refusal { OnErr result (owes self.new ≡ owes self.old) }
+        ensures left { left_of self.new ≡ left_of self.old }
+        ensures written { Serializes W.whole (V.item value.now)
+            (collected W.view self.old) (collected W.view self.new) result }
+    {
+        value.serialize(self.ser)?;
+        self.owes = false;
+        Ok(())
+    }
+
+    /// Writes a key and its value behind it. It fails as the `serialize` of either does: at the
+    /// key nothing changes; at the value `left` is lowered, and the value is owed.
+    pub fn serialize_entry<K: Serialize, V: Serialize>(
+        &mut self,
+        key: &K,
+        value: &V,
+    ) -> Result<(), EncodeError<W::Error>>
+        requires keyed { is_keyed self.old ≡ true }
+        requires owes { owes self.old ≡ false }
+        requires left { IsReady (left_of self.old) }
+        ensures same_reference { self.new.ser.ghost_name ≡ self.old.ser.ghost_name }
+        ensures keyed { is_keyed self.new ≡ is_keyed self.old }
+        ensures owes { OnOk result (owes self.new ≡ false) }
+        ensures left { OnOk result (left_of self.new ≡ less (left_of self.old)) }
+        ensures refused_at_key { OnErr result (owes self.new ≡ false →
+            (left_of self.new ≡ left_of self.old)
+            × Serializes W.whole (K.item key.now)
+            (collected W.view self.old) (collected W.view self.new) result) }
+        ensures refused_at_value { OnErr result (owes self.new ≡ true →
+            left_of self.new ≡ less (left_of self.old)) }
+        ensures written { Serializes W.whole (followed (K.item key.now) (V.item value.now))
+            (collected W.view self.old) (collected W.view self.new) result }
+    {
+        self.serialize_key(key)?;
+        self.serialize_value(value)
+    }
+
+    /// One part fewer is to come.
+    fn count_one(&mut self)
+        requires { IsReady (left_of self.old) }
+        ensures same_reference { self.new.ser.ghost_name ≡ self.old.ser.ghost_name }
+        ensures ser { self.new.ser.now ≡ self.old.ser.now }
+        ensures keyed { is_keyed self.new ≡ is_keyed self.old }
+        ensures owes { owes self.new ≡ owes self.old }
+        ensures left { left_of self.new ≡ less (left_of self.old) }
+    {
+        match self.left {
+            Some(left) => {
+                self.left = Some(left - 1);
+            }
+            None => {}
+        }
+    }
+
+    /// Ends the array or the map: with a break where its length is indefinite. It fails with
+    /// `Core`, and only where the writer failed.
+    pub fn end(self) -> Result<(), EncodeError<W::Error>>
+        requires owes { owes self ≡ false }
+        requires done { IsDone (left_of self) }
+        ensures { Serializes W.whole (Some (counted_end (left_of self.entry)))
+            (collected W.view self.entry) (output W.view self.exit.0.now) result }
+    {
+        let Collect {
+            ser,
+            left,
+            keyed: _,
+            owes: _,
+        } = self;
+        ser.sequence_end(left)
+    }
+}

@@ -1,0 +1,95 @@
+//! Heads of arrays, maps and variants, and their ends.
+ghost use Rattle.std.specs.Prelude.{◌++◌, Some};
+ghost use Rattle.cbor4ii_items.specs.Numbers.{shortest_head};
+ghost use Rattle.cbor4ii_ser.specs.Counts.{counted_head, counted_end};
+ghost use Rattle.cbor4ii_ser.specs.Item.{variant_head};
+ghost use Rattle.cbor4ii_ser.specs.Serializing.{Serializes, output};
+
+use crate::error::EncodeError;
+use crate::serializer::Serializer;
+use cbor4ii_items::types::{Array, Map};
+use cbor4ii_rw::write::Write;
+
+impl<W: Write> Serializer<W> {
+    pub(crate) fn array_head(&mut self, len: usize) -> Result<(), EncodeError<W::Error>>
+        ensures { Serializes W.whole (Some (shortest_head 4 len))
+            (output W.view self.old) (output W.view self.new) result }
+    {
+        Ok(Array::<()>::bounded(len, &mut self.writer)?)
+    }
+
+    pub(crate) fn map_head(&mut self, len: usize) -> Result<(), EncodeError<W::Error>>
+        ensures { Serializes W.whole (Some (shortest_head 5 len))
+            (output W.view self.old) (output W.view self.new) result }
+    {
+        Ok(Map::<()>::bounded(len, &mut self.writer)?)
+    }
+
+    /// The head of an array, of an indefinite length where none is known.
+    pub(crate) fn seq_head(&mut self, len: Option<usize>) -> Result<(), EncodeError<W::Error>>
+        ensures { Serializes W.whole (Some (counted_head 4 len))
+            (output W.view self.old) (output W.view self.new) result }
+    {
+        match len {
+            Some(len) => self.array_head(len),
+            None => Ok(Array::<()>::unbounded(&mut self.writer)?),
+        }
+    }
+
+    /// The head of a map, of an indefinite length where none is known.
+    pub(crate) fn entries_head(&mut self, len: Option<usize>) -> Result<(), EncodeError<W::Error>>
+        ensures { Serializes W.whole (Some (counted_head 5 len))
+            (output W.view self.old) (output W.view self.new) result }
+    {
+        match len {
+            Some(len) => self.map_head(len),
+            None => Ok(Map::<()>::unbounded(&mut self.writer)?),
+        }
+    }
+
+    /// The end of an array or a map whose length was this.
+    pub(crate) fn sequence_end(&mut self, len: Option<usize>) -> Result<(), EncodeError<W::Error>>
+        ensures { Serializes W.whole (Some (counted_end len))
+            (output W.view self.old) (output W.view self.new) result }
+    {
+        match len {
+            Some(_) => Ok(()),
+            None => Ok(Array::<()>::end(&mut self.writer)?),
+        }
+    }
+
+    /// A map of one entry, and its key: the variant's name.
+    pub(crate) fn variant_head(&mut self, name: &str) -> Result<(), EncodeError<W::Error>>
+        ensures { Serializes W.whole (Some (variant_head name.now))
+            (output W.view self.old) (output W.view self.new) result }
+    {
+        self.map_head(1)?;
+        self.put(&name)
+    }
+
+    /// What begins a variant whose content is an array.
+    pub(crate) fn tuple_variant_head(
+        &mut self,
+        name: &str,
+        len: usize,
+    ) -> Result<(), EncodeError<W::Error>>
+        ensures { Serializes W.whole (Some (variant_head name.now ++ shortest_head 4 len))
+            (output W.view self.old) (output W.view self.new) result }
+    {
+        self.variant_head(name)?;
+        self.array_head(len)
+    }
+
+    /// What begins a variant whose content is a map.
+    pub(crate) fn struct_variant_head(
+        &mut self,
+        name: &str,
+        len: usize,
+    ) -> Result<(), EncodeError<W::Error>>
+        ensures { Serializes W.whole (Some (variant_head name.now ++ shortest_head 5 len))
+            (output W.view self.old) (output W.view self.new) result }
+    {
+        self.variant_head(name)?;
+        self.map_head(len)
+    }
+}

@@ -1,0 +1,223 @@
+//! Values that are one item, and values that wrap one.
+ghost use Rattle.std.specs.Prelude.{Some, ◌∷◌, [], string_bytes};
+ghost use Rattle.std.specs.Char.{encode_utf8};
+ghost use Rattle.cbor4ii_items.specs.Cow.{cow_text};
+ghost use Rattle.cbor4ii_items.specs.Floats.{float_bytes};
+ghost use Rattle.cbor4ii_items.specs.Numbers.{
+  shortest_head,
+  signed_head,
+  signed_bytes,
+  unsigned_bytes,
+};
+ghost use Rattle.cbor4ii_items.specs.Simple.{bool_byte};
+ghost use Rattle.cbor4ii_items.specs.Strings.{counted_string};
+ghost use Rattle.cbor4ii_ser.specs.Item.{option_item};
+
+use crate::error::EncodeError;
+use crate::serialize::Serialize;
+use crate::serializer::Serializer;
+use cbor4ii_items::types::{Bytes, F16, F32, F64};
+use cbor4ii_rw::write::Write;
+use std::alloc::Global;
+use std::borrow::CowStr;
+
+/// False or true, in one byte.
+impl Serialize for bool {
+    ghost item = { λ v. Some (bool_byte v ∷ []) };
+
+    fn serialize<W: Write>(&self, ser: &mut Serializer<W>) -> Result<(), EncodeError<W::Error>> {
+        ser.serialize_bool(*self)
+    }
+}
+
+/// As a head.
+impl Serialize for i8 {
+    ghost item = { λ v. Some (signed_head v) };
+
+    fn serialize<W: Write>(&self, ser: &mut Serializer<W>) -> Result<(), EncodeError<W::Error>> {
+        ser.serialize_i8(*self)
+    }
+}
+
+/// As a head.
+impl Serialize for i16 {
+    ghost item = { λ v. Some (signed_head v) };
+
+    fn serialize<W: Write>(&self, ser: &mut Serializer<W>) -> Result<(), EncodeError<W::Error>> {
+        ser.serialize_i16(*self)
+    }
+}
+
+/// As a head.
+impl Serialize for i32 {
+    ghost item = { λ v. Some (signed_head v) };
+
+    fn serialize<W: Write>(&self, ser: &mut Serializer<W>) -> Result<(), EncodeError<W::Error>> {
+        ser.serialize_i32(*self)
+    }
+}
+
+/// As a head.
+impl Serialize for i64 {
+    ghost item = { λ v. Some (signed_head v) };
+
+    fn serialize<W: Write>(&self, ser: &mut Serializer<W>) -> Result<(), EncodeError<W::Error>> {
+        ser.serialize_i64(*self)
+    }
+}
+
+/// As a head, or a bignum where none has room for it.
+impl Serialize for i128 {
+    ghost item = { λ v. Some (signed_bytes v) };
+
+    fn serialize<W: Write>(&self, ser: &mut Serializer<W>) -> Result<(), EncodeError<W::Error>> {
+        ser.serialize_i128(*self)
+    }
+}
+
+/// As a head.
+impl Serialize for u8 {
+    ghost item = { λ v. Some (shortest_head 0 v) };
+
+    fn serialize<W: Write>(&self, ser: &mut Serializer<W>) -> Result<(), EncodeError<W::Error>> {
+        ser.serialize_u8(*self)
+    }
+}
+
+/// As a head.
+impl Serialize for u16 {
+    ghost item = { λ v. Some (shortest_head 0 v) };
+
+    fn serialize<W: Write>(&self, ser: &mut Serializer<W>) -> Result<(), EncodeError<W::Error>> {
+        ser.serialize_u16(*self)
+    }
+}
+
+/// As a head.
+impl Serialize for u32 {
+    ghost item = { λ v. Some (shortest_head 0 v) };
+
+    fn serialize<W: Write>(&self, ser: &mut Serializer<W>) -> Result<(), EncodeError<W::Error>> {
+        ser.serialize_u32(*self)
+    }
+}
+
+/// As a head.
+impl Serialize for u64 {
+    ghost item = { λ v. Some (shortest_head 0 v) };
+
+    fn serialize<W: Write>(&self, ser: &mut Serializer<W>) -> Result<(), EncodeError<W::Error>> {
+        ser.serialize_u64(*self)
+    }
+}
+
+/// As a head, or a bignum where none has room for it.
+impl Serialize for u128 {
+    ghost item = { λ v. Some (unsigned_bytes v) };
+
+    fn serialize<W: Write>(&self, ser: &mut Serializer<W>) -> Result<(), EncodeError<W::Error>> {
+        ser.serialize_u128(*self)
+    }
+}
+
+/// As its bits.
+impl Serialize for F16 {
+    ghost item = { λ v. Some (float_bytes 0xf9 2 v.0) };
+
+    fn serialize<W: Write>(&self, ser: &mut Serializer<W>) -> Result<(), EncodeError<W::Error>> {
+        ser.serialize_f16(self.0)
+    }
+}
+
+/// As its bits.
+impl Serialize for F32 {
+    ghost item = { λ v. Some (float_bytes 0xfa 4 v.0) };
+
+    fn serialize<W: Write>(&self, ser: &mut Serializer<W>) -> Result<(), EncodeError<W::Error>> {
+        ser.serialize_f32(self.0)
+    }
+}
+
+/// As its bits.
+impl Serialize for F64 {
+    ghost item = { λ v. Some (float_bytes 0xfb 8 v.0) };
+
+    fn serialize<W: Write>(&self, ser: &mut Serializer<W>) -> Result<(), EncodeError<W::Error>> {
+        ser.serialize_f64(self.0)
+    }
+}
+
+/// A text of one character.
+impl Serialize for char {
+    ghost item = { λ v. Some (counted_string 3 (encode_utf8 v)) };
+
+    fn serialize<W: Write>(&self, ser: &mut Serializer<W>) -> Result<(), EncodeError<W::Error>> {
+        ser.serialize_char(*self)
+    }
+}
+
+/// A text.
+impl<'a> Serialize for &'a str {
+    ghost item = { λ v. Some (counted_string 3 v.now) };
+
+    fn serialize<W: Write>(&self, ser: &mut Serializer<W>) -> Result<(), EncodeError<W::Error>> {
+        ser.serialize_str(self)
+    }
+}
+
+/// A text.
+impl Serialize for String {
+    ghost item = { λ v. Some (counted_string 3 (string_bytes v)) };
+
+    fn serialize<W: Write>(&self, ser: &mut Serializer<W>) -> Result<(), EncodeError<W::Error>> {
+        ser.serialize_str(self.as_str())
+    }
+}
+
+/// A text, whether borrowed or owned.
+impl<'a> Serialize for CowStr<'a, Global> {
+    ghost item = { λ v. Some (counted_string 3 (cow_text v)) };
+
+    fn serialize<W: Write>(&self, ser: &mut Serializer<W>) -> Result<(), EncodeError<W::Error>> {
+        ser.serialize_str(self)
+    }
+}
+
+/// A byte string.
+impl<'a> Serialize for Bytes<&'a [u8]> {
+    ghost item = { λ v. Some (counted_string 2 v.0.now) };
+
+    fn serialize<W: Write>(&self, ser: &mut Serializer<W>) -> Result<(), EncodeError<W::Error>> {
+        ser.serialize_bytes(self.0)
+    }
+}
+
+/// An array of no item.
+impl Serialize for () {
+    ghost item = { λ _. Some (shortest_head 4 0) };
+
+    fn serialize<W: Write>(&self, ser: &mut Serializer<W>) -> Result<(), EncodeError<W::Error>> {
+        ser.serialize_unit()
+    }
+}
+
+/// The value in the box.
+impl<T: Serialize> Serialize for Box<T> {
+    ghost item = { λ b. T.item b.value };
+
+    fn serialize<W: Write>(&self, ser: &mut Serializer<W>) -> Result<(), EncodeError<W::Error>> {
+        T::serialize(self.as_ref(), ser)
+    }
+}
+
+/// Null for none, and else the value itself.
+impl<T: Serialize> Serialize for Option<T> {
+    ghost item = { option_item T.item };
+
+    fn serialize<W: Write>(&self, ser: &mut Serializer<W>) -> Result<(), EncodeError<W::Error>> {
+        match self {
+            None => ser.serialize_none(),
+            Some(value) => ser.serialize_some(value),
+        }
+    }
+}

@@ -1,0 +1,41 @@
+//! Arrays and maps that are there as a whole.
+ghost use Rattle.cbor4ii_ser.specs.Item.{items_of, array_item};
+ghost use Rattle.cbor4ii_ser.specs.Serializing.{Serializes, output};
+
+use crate::error::EncodeError;
+use crate::serialize::Serialize;
+use crate::serializer::Serializer;
+use cbor4ii_rw::write::Write;
+
+/// An array of the items, in order.
+impl<T: Serialize> Serialize for Vec<T> {
+    ghost item = { λ v. array_item T.item v.items };
+
+    fn serialize<W: Write>(&self, ser: &mut Serializer<W>) -> Result<(), EncodeError<W::Error>> {
+        put_array(ser, self.as_slice())
+    }
+}
+
+fn put_array<W: Write, T: Serialize>(
+    ser: &mut Serializer<W>,
+    items: &[T],
+) -> Result<(), EncodeError<W::Error>>
+    ensures { Serializes W.whole (array_item T.item items.now)
+        (output W.view ser.old) (output W.view ser.new) result }
+{
+    ser.array_head(items.len())?;
+    put_items(ser, items)
+}
+
+fn put_items<W: Write, T: Serialize>(
+    ser: &mut Serializer<W>,
+    items: &[T],
+) -> Result<(), EncodeError<W::Error>>
+    ensures { Serializes W.whole (items_of T.item items.now)
+        (output W.view ser.old) (output W.view ser.new) result }
+{
+    for item in items {
+        item.serialize(ser)?;
+    }
+    Ok(())
+}

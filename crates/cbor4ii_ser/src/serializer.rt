@@ -1,0 +1,273 @@
+//! A writer of typed values.
+ghost use Rattle.std.specs.Prelude.{◌≡◌, ◌∷◌, [], Some, false};
+ghost use Rattle.std.specs.Char.{encode_utf8};
+ghost use Rattle.cbor4ii_items.specs.Floats.{float_bytes};
+ghost use Rattle.cbor4ii_items.specs.Numbers.{
+  shortest_head,
+  signed_head,
+  signed_bytes,
+  unsigned_bytes,
+};
+ghost use Rattle.cbor4ii_items.specs.Simple.{bool_byte};
+ghost use Rattle.cbor4ii_items.specs.Strings.{counted_string};
+ghost use Rattle.cbor4ii_ser.specs.Item.{variant_item};
+ghost use Rattle.cbor4ii_ser.specs.Serializing.{Serializes, output};
+
+use crate::error::EncodeError;
+use crate::serialize::Serialize;
+use cbor4ii_items::encode::Encode;
+use cbor4ii_items::types::{Bytes, F16, F32, F64, Null};
+use cbor4ii_rw::write::Write;
+
+/// A writer of typed values. Each of its calls appends one item to what its writer holds, or
+/// begins one that is written part by part.
+///
+/// A call fails with `Core`, and only where the writer failed in it, if nothing else is said. A
+/// whole writer then holds what it held before and a beginning of the item; of another writer
+/// nothing is said.
+#[derive(Drop)]
+pub struct Serializer<W> {
+    pub(crate) writer: W,
+}
+
+impl<W: Write> Serializer<W> {
+    /// A serializer that writes behind what `writer` holds.
+    pub fn new(writer: W) -> Serializer<W>
+        ensures { output W.view result ≡ W.view writer }
+    {
+        Serializer { writer }
+    }
+
+    /// The writer.
+    pub fn into_inner(self) -> W
+        ensures { W.view result ≡ output W.view self }
+    {
+        self.writer
+    }
+
+    /// Whether values are written for people to read: they are not.
+    pub fn is_human_readable(&self) -> bool
+        ensures { result ≡ false }
+    {
+        false
+    }
+
+    /// Writes an item that is never missing.
+    pub(crate) fn put<T: Encode>(&mut self, value: &T) -> Result<(), EncodeError<W::Error>>
+        ensures { Serializes W.whole (Some (T.bytes value.now))
+            (output W.view self.old) (output W.view self.new) result }
+    {
+        Ok(value.encode(&mut self.writer)?)
+    }
+
+    /// False or true, in one byte.
+    pub fn serialize_bool(&mut self, value: bool) -> Result<(), EncodeError<W::Error>>
+        ensures { Serializes W.whole (Some (bool_byte value ∷ []))
+            (output W.view self.old) (output W.view self.new) result }
+    {
+        self.put(&value)
+    }
+
+    /// An integer, as a head.
+    pub fn serialize_i8(&mut self, value: i8) -> Result<(), EncodeError<W::Error>>
+        ensures { Serializes W.whole (Some (signed_head value))
+            (output W.view self.old) (output W.view self.new) result }
+    {
+        self.put(&value)
+    }
+
+    /// An integer, as a head.
+    pub fn serialize_i16(&mut self, value: i16) -> Result<(), EncodeError<W::Error>>
+        ensures { Serializes W.whole (Some (signed_head value))
+            (output W.view self.old) (output W.view self.new) result }
+    {
+        self.put(&value)
+    }
+
+    /// An integer, as a head.
+    pub fn serialize_i32(&mut self, value: i32) -> Result<(), EncodeError<W::Error>>
+        ensures { Serializes W.whole (Some (signed_head value))
+            (output W.view self.old) (output W.view self.new) result }
+    {
+        self.put(&value)
+    }
+
+    /// An integer, as a head.
+    pub fn serialize_i64(&mut self, value: i64) -> Result<(), EncodeError<W::Error>>
+        ensures { Serializes W.whole (Some (signed_head value))
+            (output W.view self.old) (output W.view self.new) result }
+    {
+        self.put(&value)
+    }
+
+    /// An integer, as a head; below -2^64 and from 2^64 on as a bignum (RFC 8949 section 3.4.3).
+    pub fn serialize_i128(&mut self, value: i128) -> Result<(), EncodeError<W::Error>>
+        ensures { Serializes W.whole (Some (signed_bytes value))
+            (output W.view self.old) (output W.view self.new) result }
+    {
+        self.put(&value)
+    }
+
+    /// An integer from 0 on, as a head.
+    pub fn serialize_u8(&mut self, value: u8) -> Result<(), EncodeError<W::Error>>
+        ensures { Serializes W.whole (Some (shortest_head 0 value))
+            (output W.view self.old) (output W.view self.new) result }
+    {
+        self.put(&value)
+    }
+
+    /// An integer from 0 on, as a head.
+    pub fn serialize_u16(&mut self, value: u16) -> Result<(), EncodeError<W::Error>>
+        ensures { Serializes W.whole (Some (shortest_head 0 value))
+            (output W.view self.old) (output W.view self.new) result }
+    {
+        self.put(&value)
+    }
+
+    /// An integer from 0 on, as a head.
+    pub fn serialize_u32(&mut self, value: u32) -> Result<(), EncodeError<W::Error>>
+        ensures { Serializes W.whole (Some (shortest_head 0 value))
+            (output W.view self.old) (output W.view self.new) result }
+    {
+        self.put(&value)
+    }
+
+    /// An integer from 0 on, as a head.
+    pub fn serialize_u64(&mut self, value: u64) -> Result<(), EncodeError<W::Error>>
+        ensures { Serializes W.whole (Some (shortest_head 0 value))
+            (output W.view self.old) (output W.view self.new) result }
+    {
+        self.put(&value)
+    }
+
+    /// An integer from 0 on, as a head; from 2^64 on as a bignum (RFC 8949 section 3.4.3).
+    pub fn serialize_u128(&mut self, value: u128) -> Result<(), EncodeError<W::Error>>
+        ensures { Serializes W.whole (Some (unsigned_bytes value))
+            (output W.view self.old) (output W.view self.new) result }
+    {
+        self.put(&value)
+    }
+
+    /// A float of two bytes, as its bits.
+    pub fn serialize_f16(&mut self, bits: u16) -> Result<(), EncodeError<W::Error>>
+        ensures { Serializes W.whole (Some (float_bytes 0xf9 2 bits))
+            (output W.view self.old) (output W.view self.new) result }
+    {
+        self.put(&F16(bits))
+    }
+
+    /// A float of four bytes, as its bits.
+    pub fn serialize_f32(&mut self, bits: u32) -> Result<(), EncodeError<W::Error>>
+        ensures { Serializes W.whole (Some (float_bytes 0xfa 4 bits))
+            (output W.view self.old) (output W.view self.new) result }
+    {
+        self.put(&F32(bits))
+    }
+
+    /// A float of eight bytes, as its bits.
+    pub fn serialize_f64(&mut self, bits: u64) -> Result<(), EncodeError<W::Error>>
+        ensures { Serializes W.whole (Some (float_bytes 0xfb 8 bits))
+            (output W.view self.old) (output W.view self.new) result }
+    {
+        self.put(&F64(bits))
+    }
+
+    /// A text of one character.
+    pub fn serialize_char(&mut self, value: char) -> Result<(), EncodeError<W::Error>>
+        ensures { Serializes W.whole (Some (counted_string 3 (encode_utf8 value)))
+            (output W.view self.old) (output W.view self.new) result }
+    {
+        let mut bytes = [0; 4];
+        self.serialize_str(value.encode_utf8(&mut bytes))
+    }
+
+    /// A text of a known length.
+    pub fn serialize_str(&mut self, value: &str) -> Result<(), EncodeError<W::Error>>
+        ensures { Serializes W.whole (Some (counted_string 3 value.now))
+            (output W.view self.old) (output W.view self.new) result }
+    {
+        self.put(&value)
+    }
+
+    /// A byte string of a known length.
+    pub fn serialize_bytes(&mut self, value: &[u8]) -> Result<(), EncodeError<W::Error>>
+        ensures { Serializes W.whole (Some (counted_string 2 value.now))
+            (output W.view self.old) (output W.view self.new) result }
+    {
+        self.put(&Bytes(value))
+    }
+
+    /// Null, which is none.
+    pub fn serialize_none(&mut self) -> Result<(), EncodeError<W::Error>>
+        ensures { Serializes W.whole (Some (0xf6 ∷ []))
+            (output W.view self.old) (output W.view self.new) result }
+    {
+        self.put(&Null)
+    }
+
+    /// The value itself. It fails as the value's `serialize` does.
+    pub fn serialize_some<T: Serialize>(&mut self, value: &T) -> Result<(), EncodeError<W::Error>>
+        ensures { Serializes W.whole (T.item value.now)
+            (output W.view self.old) (output W.view self.new) result }
+    {
+        value.serialize(self)
+    }
+
+    /// An array of no item.
+    pub fn serialize_unit(&mut self) -> Result<(), EncodeError<W::Error>>
+        ensures { Serializes W.whole (Some (shortest_head 4 0))
+            (output W.view self.old) (output W.view self.new) result }
+    {
+        self.array_head(0)
+    }
+
+    /// An array of no item; the struct's name is not written.
+    pub fn serialize_unit_struct(&mut self, _name: &str) -> Result<(), EncodeError<W::Error>>
+        ensures { Serializes W.whole (Some (shortest_head 4 0))
+            (output W.view self.old) (output W.view self.new) result }
+    {
+        self.serialize_unit()
+    }
+
+    /// The variant's name as a text; the enum's name and the variant's index are not written.
+    pub fn serialize_unit_variant(
+        &mut self,
+        _name: &str,
+        _variant_index: u32,
+        variant: &str,
+    ) -> Result<(), EncodeError<W::Error>>
+        ensures { Serializes W.whole (Some (counted_string 3 variant.now))
+            (output W.view self.old) (output W.view self.new) result }
+    {
+        self.serialize_str(variant)
+    }
+
+    /// The content itself; the struct's name is not written. It fails as the content's
+    /// `serialize` does.
+    pub fn serialize_newtype_struct<T: Serialize>(
+        &mut self,
+        _name: &str,
+        value: &T,
+    ) -> Result<(), EncodeError<W::Error>>
+        ensures { Serializes W.whole (T.item value.now)
+            (output W.view self.old) (output W.view self.new) result }
+    {
+        value.serialize(self)
+    }
+
+    /// A map of one entry, the variant's name and the content; the enum's name and the variant's
+    /// index are not written. It fails as the content's `serialize` does.
+    pub fn serialize_newtype_variant<T: Serialize>(
+        &mut self,
+        _name: &str,
+        _variant_index: u32,
+        variant: &str,
+        value: &T,
+    ) -> Result<(), EncodeError<W::Error>>
+        ensures { Serializes W.whole (variant_item variant.now (T.item value.now))
+            (output W.view self.old) (output W.view self.new) result }
+    {
+        self.variant_head(variant)?;
+        value.serialize(self)
+    }
+}

@@ -1,0 +1,51 @@
+//! One value, written whole.
+ghost use Rattle.std.specs.Prelude.{◌≡◌, ◌++◌, IfOk, IfErr, IsSomeAnd};
+ghost use Rattle.cbor4ii_rw.specs.Writer.{Appends};
+ghost use Rattle.cbor4ii_ser.specs.Serializing.{NoItem};
+
+use crate::error::EncodeError;
+use crate::serialize::Serialize;
+use crate::serializer::Serializer;
+use cbor4ii_rw::buf_writer::BufWriter;
+use cbor4ii_rw::error::TryReserveError;
+use cbor4ii_rw::io_writer::IoWriter;
+use std::io;
+
+/// Appends the value's item to `buf`, and answers that.
+///
+/// # Errors
+///
+/// `buf` is dropped. Where the value has an item, `Core` and only where there is no memory for it.
+/// Where it has none, `Custom`, or `Core` where memory was wanted before that was seen.
+pub fn to_vec<T: Serialize>(
+    buf: Vec<u8>,
+    value: &T,
+) -> Result<Vec<u8>, EncodeError<TryReserveError>>
+    ensures appends { IfOk result (λ v. IsSomeAnd (T.item value.now)
+        (λ bytes. v.items ≡ buf.items ++ bytes)) }
+    ensures custom { IfErr result (NoItem (T.item value.now)) }
+{
+    let mut ser = Serializer::new(BufWriter::new(buf));
+    value.serialize(&mut ser)?;
+    Ok(ser.into_inner().into_inner())
+}
+
+/// Appends the value's item to what `writer` holds, and answers that. The stream is not flushed.
+///
+/// # Errors
+///
+/// `writer` is dropped, and what the stream holds then is not said. Where the value has an item,
+/// `Core` and only where the stream failed. Where it has none, `Custom`, or `Core` where the
+/// stream failed before that was seen.
+pub fn to_writer<W: io::Write + Drop, T: Serialize>(
+    writer: W,
+    value: &T,
+) -> Result<W, EncodeError<io::Error>>
+    ensures appends { IfOk result (λ stream. IsSomeAnd (T.item value.now)
+        (λ bytes. Appends bytes (W.contents writer) (W.contents stream))) }
+    ensures custom { IfErr result (NoItem (T.item value.now)) }
+{
+    let mut ser = Serializer::new(IoWriter::new(writer));
+    value.serialize(&mut ser)?;
+    Ok(ser.into_inner().into_inner())
+}
