@@ -1,5 +1,4 @@
--- What the test readers and writers tell, and what a record is that is read and written by hand.
-pub mod Tells
+-- What a record is that is read and written by hand, and parts one behind another.
 pub mod Then
 pub mod Station
 pub mod StationLaws

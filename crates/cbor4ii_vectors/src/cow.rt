@@ -1,25 +1,26 @@
 //! Rows of strings that are borrowed from the input where a reader lends them, and owned otherwise.
-use crate::readers::{FailsInTime, LongByByte, ShortByByte, Unlimited};
-use crate::rows::{leaves, steps};
 use cbor4ii_items::decode::Decode;
 use cbor4ii_items::types::{Bytes, UncheckedStr};
 use cbor4ii_rw::error::{DecodeError, Never};
 use cbor4ii_rw::io_reader::IoReader;
 use cbor4ii_rw::read::Read;
 use cbor4ii_rw::slice_reader::SliceReader;
+use cbor4ii_trials::readers::{FailingReader, LongByByte, Unlimited};
+use cbor4ii_trials::rows::{leaves, reads, steps};
+use cbor4ii_trials::streams::FailingStream;
 use std::alloc::Global;
 use std::borrow::{CowSlice, CowStr};
-use std::process::Abort;
+use std::fmt::InlineText;
 use std::test::Fail;
 
 #[derive(Clone, Copy)]
 enum Kind {
-    Bytes,
     Text,
     Unchecked,
+    Bytes,
 }
 
-// Who lends a row's content: no reader, one that lends all that is left, or one of a byte too.
+// Who lends a string's content: no reader, one that lends all that is left, or one of a byte too.
 #[derive(Clone, Copy, PartialEq)]
 enum Lent {
     Never,
@@ -27,96 +28,192 @@ enum Lent {
     ByByte,
 }
 
-// None where it is refused.
+// What is read, or the text of the refusal.
 fn decode<'de, R: Read<'de>>(
     kind: Kind,
     alloc: Global,
     reader: &mut R,
-) -> Option<CowSlice<'de, u8, Global>> {
+) -> Result<CowSlice<'de, u8, Global>, InlineText<128>> {
     match kind {
-        Kind::Bytes => match Bytes::<CowSlice<'de, u8, Global>>::decode(alloc, reader) {
-            Ok(found) => Some(found.0),
-            Err(_) => None,
-        },
         Kind::Text => match CowStr::<'de, Global>::decode(alloc, reader) {
-            Ok(CowStr::Borrowed(text)) => Some(CowSlice::Borrowed(text.as_bytes())),
-            Ok(CowStr::Owned(text)) => Some(CowSlice::Owned(text.into_bytes())),
-            Err(_) => None,
+            Ok(CowStr::Borrowed(text)) => Ok(CowSlice::Borrowed(text.as_bytes())),
+            Ok(CowStr::Owned(text)) => Ok(CowSlice::Owned(text.into_bytes())),
+            Err(error) => Err(InlineText::of(error)),
         },
         Kind::Unchecked => match UncheckedStr::<CowSlice<'de, u8, Global>>::decode(alloc, reader) {
-            Ok(found) => Some(found.0),
-            Err(_) => None,
+            Ok(found) => Ok(found.0),
+            Err(error) => Err(InlineText::of(error)),
+        },
+        Kind::Bytes => match Bytes::<CowSlice<'de, u8, Global>>::decode(alloc, reader) {
+            Ok(found) => Ok(found.0),
+            Err(error) => Err(InlineText::of(error)),
         },
     }
 }
 
+// The answer is this content, borrowed or owned, or a refusal of this text; these bytes are left,
+// and the steps are as before.
 fn decodes<'de, R: Read<'de>>(
-    rt: &impl Abort,
-    alloc: Global,
     kind: Kind,
+    alloc: Global,
     reader: &mut R,
     bytes: &[u8],
-    content: &[u8],
-    is_borrowed: bool,
+    want: Result<(&[u8], bool), &str>,
+    rest: &[u8],
 ) -> Result<(), Fail> {
     let budget = steps(reader);
-    match decode(kind, alloc, reader) {
-        Some(CowSlice::Borrowed(found)) => {
-            assert!(rt; is_borrowed, "of {bytes:?}");
-            assert_eq!(rt; found, content, "of {bytes:?}");
+    let is_wanted = match decode(kind, alloc, reader) {
+        Ok(CowSlice::Borrowed(found)) => want == Ok((found, true)),
+        Ok(CowSlice::Owned(found)) => want == Ok((found.as_slice(), false)),
+        Err(text) if text.as_str() == "OutOfMemory" => {
+            return Err(Fail::from(DecodeError::<Never>::OutOfMemory));
         }
-        Some(CowSlice::Owned(found)) => {
-            assert!(rt; !is_borrowed, "of {bytes:?}");
-            assert_eq!(rt; found.as_slice(), content, "of {bytes:?}");
-        }
-        None => return Err(Fail::from(DecodeError::<Never>::OutOfMemory)),
+        Err(text) => want == Err(text.as_str()),
+    };
+    if is_wanted && steps(reader) == budget {
+        return leaves(reader, bytes, rest);
     }
-    assert_eq!(rt; steps(reader), budget);
-    leaves(rt, reader, bytes, b"");
+    Err(Fail::new(format_args!("not {want:?} of {bytes:?}")))
+}
+
+// Over readers whose bytes do not outlive the fill.
+fn decodes_short(
+    kind: Kind,
+    alloc: Global,
+    bytes: &[u8],
+    want: Result<(&[u8], bool), &str>,
+    rest: &[u8],
+) -> Result<(), Fail> {
+    let mut short = FailingReader::by_byte(bytes, 1, usize::MAX);
+    decodes(kind, alloc, &mut short, bytes, want, rest)?;
+    for most in [1, usize::MAX] {
+        let mut stream = IoReader::new(FailingStream::new(bytes, most, usize::MAX));
+        decodes(kind, alloc, &mut stream, bytes, want, rest)?;
+    }
     Ok(())
 }
 
-// Answers the failure of each show, with an end of the bytes left and the steps as before.
-fn fails_at_each_show(rt: &impl Abort, alloc: Global, kind: Kind, bytes: &[u8]) {
+// Over readers that lend all that is left.
+fn decodes_whole(
+    kind: Kind,
+    alloc: Global,
+    bytes: &[u8],
+    want: Result<(&[u8], bool), &str>,
+    rest: &[u8],
+) -> Result<(), Fail> {
+    decodes(kind, alloc, &mut SliceReader::new(bytes), bytes, want, rest)?;
+    decodes(kind, alloc, &mut Unlimited::new(bytes), bytes, want, rest)?;
+    let mut whole = FailingReader::whole(bytes, 1, usize::MAX);
+    decodes(kind, alloc, &mut whole, bytes, want, rest)
+}
+
+// Readers that fail at the first show, at the second, and so on until none is left to fail: an end
+// of the bytes is left, and the steps are as before.
+fn fails_at_each_show(kind: Kind, alloc: Global, bytes: &[u8]) -> Result<(), Fail> {
     for shows in 0..64 {
-        let mut failing = FailsInTime::new(bytes, 1, shows);
-        let got = decode(kind, alloc, &mut failing);
-        assert!(rt; bytes.ends_with(failing.remaining()));
-        assert_eq!(rt; failing.steps(), 1);
-        assert_eq!(rt; got.is_none(), failing.failures() > 0);
-        if got.is_some() {
-            return;
+        let mut reader = FailingReader::by_byte(bytes, 1, shows);
+        let is_read = decode(kind, alloc, &mut reader).is_ok();
+        let is_told = is_read == (reader.failures() == 0);
+        if !is_told || reader.steps() != 1 || !bytes.ends_with(reader.remaining()) {
+            return Err(Fail::new(format_args!("show {shows} of {bytes:?} fails")));
+        }
+        if is_read {
+            return Ok(());
         }
     }
-    assert!(rt; false, "a row takes too many shows");
+    Err(Fail::new(format_args!("too many shows of {bytes:?}")))
 }
+
+const READ: &[(Kind, &[u8], &[u8], Lent)] = &[
+    (Kind::Text, b"\x62aa", b"aa", Lent::Whole),
+    (Kind::Text, b"\x60", b"", Lent::ByByte),
+    (Kind::Text, b"\x7f\x61a\xff", b"a", Lent::Never),
+    (Kind::Unchecked, b"\x60", b"", Lent::ByByte),
+    (Kind::Unchecked, b"\x61\xff", b"\xff", Lent::ByByte),
+    (Kind::Unchecked, b"\x7f\x61\xff\xff", b"\xff", Lent::Never),
+    (Kind::Bytes, b"\x41\x01", b"\x01", Lent::ByByte),
+    (Kind::Bytes, b"\x42\x01\x02", b"\x01\x02", Lent::Whole),
+    (Kind::Bytes, b"\x5f\x41\x01\xff", b"\x01", Lent::Never),
+];
 
 #[test]
 fn borrowed_or_owned(rt: HostRuntime) -> Result<(), Fail> {
     let alloc = rt.alloc();
-    let rows: [(Kind, &[u8], &[u8], Lent); 7] = [
-        (Kind::Text, b"\x62aa", b"aa", Lent::Whole),
-        (Kind::Text, b"\x60", b"", Lent::ByByte),
-        (Kind::Text, b"\x7f\x61a\xff", b"a", Lent::Never),
-        (Kind::Bytes, b"\x41\x01", b"\x01", Lent::ByByte),
-        (Kind::Bytes, b"\x5f\x41\x01\xff", b"\x01", Lent::Never),
-        (Kind::Unchecked, b"\x60", b"", Lent::ByByte),
-        (Kind::Unchecked, b"\x7f\x61\xff\xff", b"\xff", Lent::Never),
-    ];
-    for (kind, bytes, content, lent) in rows {
-        let whole = lent != Lent::Never;
-        let mut slice = SliceReader::new(bytes);
-        decodes(&rt, alloc, kind, &mut slice, bytes, content, whole)?;
-        let mut unlimited = Unlimited::new(bytes);
-        decodes(&rt, alloc, kind, &mut unlimited, bytes, content, whole)?;
-        let by_byte = lent == Lent::ByByte;
+    for &(kind, bytes, content, lent) in READ {
+        let whole = Ok((content, lent != Lent::Never));
+        decodes_whole(kind, alloc, bytes, whole, b"")?;
+        let by_byte = Ok((content, lent == Lent::ByByte));
         let mut long = LongByByte::new(bytes, 1);
-        decodes(&rt, alloc, kind, &mut long, bytes, content, by_byte)?;
-        let mut short = ShortByByte::new(bytes, 1);
-        decodes(&rt, alloc, kind, &mut short, bytes, content, false)?;
-        let mut stream = IoReader::new(bytes);
-        decodes(&rt, alloc, kind, &mut stream, bytes, content, false)?;
-        fails_at_each_show(&rt, alloc, kind, bytes);
+        decodes(kind, alloc, &mut long, bytes, by_byte, b"")?;
+        decodes_short(kind, alloc, bytes, Ok((content, false)), b"")?;
+        fails_at_each_show(kind, alloc, bytes)?;
+    }
+    Ok(())
+}
+
+const REFUSED_TEXTS: &[(&[u8], &str, &[u8])] = &[
+    (b"", "Eof { name: \"str\", expect: Small(1) }", b""),
+    (b"\x62\xff\xff", "RequireUtf8 { name: \"str\" }", b""),
+    (
+        b"\x63\xed\xa0\x80\x01",
+        "RequireUtf8 { name: \"str\" }",
+        b"\x01",
+    ),
+    (b"\x62\xff", "Eof { name: \"str\", expect: Small(1) }", b""),
+    (
+        b"\x7f\x41\x61\xff",
+        "Mismatch { name: \"str\", found: 65 }",
+        b"\x61\xff",
+    ),
+    (
+        b"\x7f\x61\xff\xff\x01",
+        "RequireUtf8 { name: \"str\" }",
+        b"\x01",
+    ),
+    (
+        b"\x7f\x61a",
+        "Eof { name: \"break\", expect: Small(1) }",
+        b"",
+    ),
+];
+
+#[test]
+fn refused_texts(rt: HostRuntime) -> Result<(), Fail> {
+    for &(bytes, refusal, rest) in REFUSED_TEXTS {
+        reads::<CowStr<'static, Global>>(rt.alloc(), bytes, Err(refusal), rest)?;
+    }
+    Ok(())
+}
+
+const REFUSED: &[(Kind, &[u8], &str, &[u8])] = &[
+    (
+        Kind::Unchecked,
+        b"\x40\x01",
+        "Mismatch { name: \"str\", found: 64 }",
+        b"\x01",
+    ),
+    (
+        Kind::Bytes,
+        b"\x43\x01",
+        "Eof { name: \"bytes\", expect: Small(2) }",
+        b"",
+    ),
+    (
+        Kind::Bytes,
+        b"\x5f\x5f\xff\xff",
+        "RequireLength { name: \"bytes\", found: Indefinite }",
+        b"\xff\xff",
+    ),
+];
+
+#[test]
+fn refused(rt: HostRuntime) -> Result<(), Fail> {
+    let alloc = rt.alloc();
+    for &(kind, bytes, refusal, rest) in REFUSED {
+        decodes_whole(kind, alloc, bytes, Err(refusal), rest)?;
+        let mut long = LongByByte::new(bytes, 1);
+        decodes(kind, alloc, &mut long, bytes, Err(refusal), rest)?;
+        decodes_short(kind, alloc, bytes, Err(refusal), rest)?;
     }
     Ok(())
 }

@@ -1,146 +1,204 @@
-//! Rows of heads that are taken alone: the numbers of tags, and the lengths of arrays and maps.
-use crate::readers::{FailsInTime, Failure, LongByByte, ShortByByte, Unlimited};
-use crate::rows::{Want, leaves, same, steps};
+//! Rows of what is taken alone: the numbers of tags, the lengths of arrays and maps, and breaks.
 use cbor4ii_items::decode::Decode;
 use cbor4ii_items::indefinite::is_break;
 use cbor4ii_items::types::{Array, Map, Tag};
 use cbor4ii_rw::error::DecodeError;
-use cbor4ii_rw::io_reader::IoReader;
 use cbor4ii_rw::read::Source;
-use cbor4ii_rw::slice_reader::SliceReader;
+use cbor4ii_trials::rows::{ReadFrom, Want, reads};
 use std::alloc::Global;
-use std::process::Abort;
 use std::test::Fail;
 
-#[derive(Clone, Copy)]
-enum Head {
-    Tag,
-    Array,
-    Map,
-}
+// The number of a tag.
+#[derive(Clone, Copy, Debug, PartialEq)]
+struct TagNumber(u64);
 
-// The argument of the head, or none of an indefinite length.
-fn take<S: Source>(head: Head, reader: &mut S) -> Result<Option<usize>, DecodeError<S::Error>> {
-    match head {
-        Head::Tag => Ok(Some(Tag::tag(reader)? as usize)),
-        Head::Array => Array::len(reader),
-        Head::Map => Map::len(reader),
+impl<S: Source> ReadFrom<S> for TagNumber {
+    fn read_from(_alloc: Global, reader: &mut S) -> Result<TagNumber, DecodeError<S::Error>> {
+        Ok(TagNumber(Tag::tag(reader)?))
     }
 }
 
-fn takes_over<S: Source>(
-    rt: &impl Abort,
-    alloc: Global,
-    head: Head,
-    reader: &mut S,
-    bytes: &[u8],
-    want: &Want<Option<usize>>,
-) -> Result<(), Fail> {
-    let budget = steps(reader);
-    let got = take(head, reader);
-    assert_eq!(rt; steps(reader), budget);
-    same(rt, alloc, got, bytes, want)?;
-    leaves(rt, reader, bytes, b"");
-    Ok(())
+// The length of an array, or none where it is indefinite.
+#[derive(Clone, Copy, Debug, PartialEq)]
+struct ArrayLength(Option<usize>);
+
+impl<S: Source> ReadFrom<S> for ArrayLength {
+    fn read_from(_alloc: Global, reader: &mut S) -> Result<ArrayLength, DecodeError<S::Error>> {
+        Ok(ArrayLength(Array::len(reader)?))
+    }
 }
 
-// Takes a head off each reader, and with a failure at each show.
-fn takes(
-    rt: &impl Abort,
-    alloc: Global,
-    head: Head,
-    bytes: &'static [u8],
-    want: Want<Option<usize>>,
-) -> Result<(), Fail> {
-    let mut slice = SliceReader::new(bytes);
-    takes_over(rt, alloc, head, &mut slice, bytes, &want)?;
-    let mut short = ShortByByte::new(bytes, 0);
-    takes_over(rt, alloc, head, &mut short, bytes, &want)?;
-    let mut long = LongByByte::new(bytes, 1);
-    takes_over(rt, alloc, head, &mut long, bytes, &want)?;
-    let mut stream = IoReader::new(bytes);
-    takes_over(rt, alloc, head, &mut stream, bytes, &want)?;
-    let mut unlimited = Unlimited::new(bytes);
-    takes_over(rt, alloc, head, &mut unlimited, bytes, &want)?;
-    for shows in 0..bytes.len() {
-        let mut failing = FailsInTime::new(bytes, 1, shows);
-        let got = take(head, &mut failing);
-        assert!(rt; matches!(got, Err(DecodeError::Read(Failure))));
-        assert!(rt; bytes.ends_with(failing.remaining()));
-        assert_eq!(rt; failing.steps(), 1);
+// The length of a map, or none where it is indefinite.
+#[derive(Clone, Copy, Debug, PartialEq)]
+struct MapLength(Option<usize>);
+
+impl<S: Source> ReadFrom<S> for MapLength {
+    fn read_from(_alloc: Global, reader: &mut S) -> Result<MapLength, DecodeError<S::Error>> {
+        Ok(MapLength(Map::len(reader)?))
     }
-    Ok(())
 }
+
+// Whether a break was taken.
+#[derive(Clone, Copy, Debug, PartialEq)]
+struct Break(bool);
+
+impl<S: Source> ReadFrom<S> for Break {
+    fn read_from(_alloc: Global, reader: &mut S) -> Result<Break, DecodeError<S::Error>> {
+        Ok(Break(is_break(reader)?))
+    }
+}
+
+const NUMBERS_OF_TAGS: &[(&[u8], Want<u64>, &[u8])] = &[
+    (b"\xd8\x2a", Ok(42), b""),
+    (b"\xd9\x00\x2a", Ok(42), b""),
+    (b"\xda\x00\x00\x00\x2a", Ok(42), b""),
+    (b"\xdb\x00\x00\x00\x00\x00\x00\x00\x2a\x01", Ok(42), b"\x01"),
+    (b"", Err("Eof { name: \"tag\", expect: Small(1) }"), b""),
+    (b"\xd8", Err("Eof { name: \"tag\", expect: Small(1) }"), b""),
+    (
+        b"\xda\x01\x02",
+        Err("Eof { name: \"tag\", expect: Small(4) }"),
+        b"",
+    ),
+    (
+        b"\x00\x01",
+        Err("Mismatch { name: \"tag\", found: 0 }"),
+        b"\x01",
+    ),
+    (
+        b"\xdc\x00",
+        Err("Mismatch { name: \"tag\", found: 220 }"),
+        b"\x00",
+    ),
+    (
+        b"\xdf\xff",
+        Err("Mismatch { name: \"tag\", found: 223 }"),
+        b"\xff",
+    ),
+];
 
 #[test]
 fn numbers_of_tags(rt: HostRuntime) -> Result<(), Fail> {
     let alloc = rt.alloc();
-    let rows: [&[u8]; 4] = [
-        b"\xd8\x2a",
-        b"\xd9\x00\x2a",
-        b"\xda\x00\x00\x00\x2a",
-        b"\xdb\x00\x00\x00\x00\x00\x00\x00\x2a",
-    ];
-    for bytes in rows {
-        takes(&rt, alloc, Head::Tag, bytes, Ok(Some(42)))?;
+    for &(bytes, want, rest) in NUMBERS_OF_TAGS {
+        reads(alloc, bytes, want.map(|number| TagNumber(number)), rest)?;
+    }
+    Ok(())
+}
+
+const LENGTHS_OF_ARRAYS: &[(&[u8], Want<Option<usize>>, &[u8])] = &[
+    (b"\x86\x01", Ok(Some(6)), b"\x01"),
+    (b"\x98\x19", Ok(Some(25)), b""),
+    (b"\x9f\xff", Ok(None), b"\xff"),
+    (b"", Err("Eof { name: \"array\", expect: Small(1) }"), b""),
+    (
+        b"\x98",
+        Err("Eof { name: \"array\", expect: Small(1) }"),
+        b"",
+    ),
+    (
+        b"\x9a\x01\x02",
+        Err("Eof { name: \"array\", expect: Small(4) }"),
+        b"",
+    ),
+    (
+        b"\x9c\x07",
+        Err("Mismatch { name: \"array\", found: 156 }"),
+        b"\x07",
+    ),
+    (
+        b"\xa1\x07",
+        Err("Mismatch { name: \"array\", found: 161 }"),
+        b"\x07",
+    ),
+];
+
+#[test]
+fn lengths_of_arrays(rt: HostRuntime) -> Result<(), Fail> {
+    let alloc = rt.alloc();
+    for &(bytes, want, rest) in LENGTHS_OF_ARRAYS {
+        reads(alloc, bytes, want.map(|length| ArrayLength(length)), rest)?;
+    }
+    Ok(())
+}
+
+const LENGTHS_OF_MAPS: &[(&[u8], Want<Option<usize>>, &[u8])] = &[
+    (b"\xa3\x01", Ok(Some(3)), b"\x01"),
+    (b"\xb9\x03\xe8", Ok(Some(1000)), b""),
+    (b"\xbf\xff", Ok(None), b"\xff"),
+    (b"", Err("Eof { name: \"map\", expect: Small(1) }"), b""),
+    (
+        b"\xb9\x01",
+        Err("Eof { name: \"map\", expect: Small(2) }"),
+        b"",
+    ),
+    (
+        b"\x9f\x07",
+        Err("Mismatch { name: \"map\", found: 159 }"),
+        b"\x07",
+    ),
+    (
+        b"\xbe\x07",
+        Err("Mismatch { name: \"map\", found: 190 }"),
+        b"\x07",
+    ),
+];
+
+#[test]
+fn lengths_of_maps(rt: HostRuntime) -> Result<(), Fail> {
+    let alloc = rt.alloc();
+    for &(bytes, want, rest) in LENGTHS_OF_MAPS {
+        reads(alloc, bytes, want.map(|length| MapLength(length)), rest)?;
     }
     Ok(())
 }
 
 #[test]
-fn lengths(rt: HostRuntime) -> Result<(), Fail> {
+fn breaks(rt: HostRuntime) -> Result<(), Fail> {
     let alloc = rt.alloc();
-    takes(&rt, alloc, Head::Array, b"\x86", Ok(Some(6)))?;
-    takes(&rt, alloc, Head::Array, b"\x9f", Ok(None))?;
-    takes(&rt, alloc, Head::Map, b"\xa3", Ok(Some(3)))?;
-    takes(&rt, alloc, Head::Map, b"\xbf", Ok(None))
+    reads(alloc, b"\xff\x00", Ok(Break(true)), b"\x00")?;
+    reads(alloc, b"\x00", Ok(Break(false)), b"\x00")?;
+    let end = "Eof { name: \"break\", expect: Small(1) }";
+    reads::<Break>(alloc, b"", Err(end), b"")
 }
 
-fn counts_to_five<S: Source>(rt: &impl Abort, alloc: Global, reader: &mut S) -> Result<(), Fail> {
-    for number in 0..6 {
-        assert_eq!(rt; u64::decode(alloc, reader)?, number);
+// The length of an array of six numbers, and these.
+#[derive(Debug, PartialEq, Drop)]
+struct ArrayOfSix(Option<usize>, [u64; 6]);
+
+impl<S: Source> ReadFrom<S> for ArrayOfSix {
+    fn read_from(alloc: Global, reader: &mut S) -> Result<ArrayOfSix, DecodeError<S::Error>> {
+        let length = Array::len(reader)?;
+        Ok(ArrayOfSix(length, six(alloc, reader)?))
     }
-    Ok(())
 }
 
-fn array_of_six<S: Source>(
-    rt: &impl Abort,
-    alloc: Global,
-    reader: &mut S,
-    bytes: &[u8],
-) -> Result<(), Fail> {
-    assert_eq!(rt; Array::len(reader)?, Some(6));
-    counts_to_five(rt, alloc, reader)?;
-    leaves(rt, reader, bytes, b"");
-    Ok(())
+// The length of a map of six numbers, these, and whether a break follows them.
+#[derive(Debug, PartialEq, Drop)]
+struct OpenMapOfSix(Option<usize>, [u64; 6], bool);
+
+impl<S: Source> ReadFrom<S> for OpenMapOfSix {
+    fn read_from(alloc: Global, reader: &mut S) -> Result<OpenMapOfSix, DecodeError<S::Error>> {
+        let length = Map::len(reader)?;
+        let numbers = six(alloc, reader)?;
+        Ok(OpenMapOfSix(length, numbers, is_break(reader)?))
+    }
 }
 
-fn open_map_of_six<S: Source>(
-    rt: &impl Abort,
-    alloc: Global,
-    reader: &mut S,
-    bytes: &[u8],
-) -> Result<(), Fail> {
-    assert_eq!(rt; Map::len(reader)?, None);
-    counts_to_five(rt, alloc, reader)?;
-    assert!(rt; is_break(reader)?);
-    leaves(rt, reader, bytes, b"");
-    Ok(())
+fn six<S: Source>(alloc: Global, reader: &mut S) -> Result<[u64; 6], DecodeError<S::Error>> {
+    let mut numbers = [0; 6];
+    for number in &mut numbers {
+        *number = u64::decode(alloc, reader)?;
+    }
+    Ok(numbers)
 }
 
 #[test]
 fn lengths_and_items(rt: HostRuntime) -> Result<(), Fail> {
     let alloc = rt.alloc();
-    let bytes = b"\x86\x00\x01\x02\x03\x04\x05";
-    array_of_six(&rt, alloc, &mut SliceReader::new(bytes), bytes)?;
-    array_of_six(&rt, alloc, &mut ShortByByte::new(bytes, 0), bytes)?;
-    array_of_six(&rt, alloc, &mut LongByByte::new(bytes, 0), bytes)?;
-    array_of_six(&rt, alloc, &mut IoReader::new(bytes.as_slice()), bytes)?;
-    array_of_six(&rt, alloc, &mut Unlimited::new(bytes), bytes)?;
-    let bytes = b"\xbf\x00\x01\x02\x03\x04\x05\xff";
-    open_map_of_six(&rt, alloc, &mut SliceReader::new(bytes), bytes)?;
-    open_map_of_six(&rt, alloc, &mut ShortByByte::new(bytes, 0), bytes)?;
-    open_map_of_six(&rt, alloc, &mut LongByByte::new(bytes, 0), bytes)?;
-    open_map_of_six(&rt, alloc, &mut IoReader::new(bytes.as_slice()), bytes)?;
-    open_map_of_six(&rt, alloc, &mut Unlimited::new(bytes), bytes)
+    let numbers = [0, 1, 2, 3, 4, 5];
+    let array = ArrayOfSix(Some(6), numbers);
+    reads(alloc, b"\x86\x00\x01\x02\x03\x04\x05", Ok(array), b"")?;
+    let map = OpenMapOfSix(None, numbers, true);
+    reads(alloc, b"\xbf\x00\x01\x02\x03\x04\x05\xff", Ok(map), b"")
 }

@@ -1,115 +1,180 @@
 //! Rows of simple values, floats, tags, optional items, boxes and nothing.
-use crate::readers::Counting;
-use crate::rows::{goes_both_ways, reads, writes_in};
 use cbor4ii_items::decode::Decode;
 use cbor4ii_items::types::{Bytes, F16, F32, F64, Maybe, Nothing, Null, Simple, Tag, Undefined};
+use cbor4ii_trials::readers::Counting;
+use cbor4ii_trials::rows::{goes_both_ways, reads, reads_within, writes_in};
 use std::test::Fail;
+
+const SIMPLE_VALUES_READ: &[(&[u8], u8)] = &[(b"\xf8\x14", 20), (b"\xf5", 21), (b"\xf8\x18", 24)];
+
+const SIMPLE_VALUES_BOTH: &[(&[u8], u8)] = &[(b"\xf0", 16), (b"\xf8\x18", 24), (b"\xf8\xff", 255)];
 
 #[test]
 fn simple_values(rt: HostRuntime) -> Result<(), Fail> {
     let alloc = rt.alloc();
-    let read: [(&[u8], u8); 3] = [(b"\xf8\x14", 20), (b"\xf5", 21), (b"\xf8\x18", 24)];
-    for (bytes, number) in read {
-        reads(&rt, alloc, bytes, Ok(Simple(number)), b"")?;
+    for &(bytes, number) in SIMPLE_VALUES_READ {
+        reads(alloc, bytes, Ok(Simple(number)), b"")?;
     }
-    let both: [(&[u8], u8); 3] = [(b"\xf0", 16), (b"\xf8\x18", 24), (b"\xf8\xff", 255)];
-    for (bytes, number) in both {
-        goes_both_ways(&rt, alloc, Simple(number), bytes, 1)?;
+    for &(bytes, number) in SIMPLE_VALUES_BOTH {
+        goes_both_ways(alloc, Simple(number), bytes, 1)?;
     }
-    goes_both_ways(&rt, alloc, false, b"\xf4", 1)?;
-    goes_both_ways(&rt, alloc, true, b"\xf5", 1)?;
-    writes_in(&rt, alloc, &Null, b"\xf6", 1)?;
-    writes_in(&rt, alloc, &Undefined, b"\xf7", 1)?;
-    let not_bool = "Mismatch { name: \"bool\", found: 246 }";
-    reads::<bool>(&rt, alloc, b"\xf6", Err(not_bool), b"\xf6")?;
-    let no_byte = "Eof { name: \"bool\", expect: Small(1) }";
-    reads::<bool>(&rt, alloc, b"", Err(no_byte), b"")
+    goes_both_ways(alloc, false, b"\xf4", 1)?;
+    goes_both_ways(alloc, true, b"\xf5", 1)?;
+    writes_in(alloc, &Null, b"\xf6", 1)?;
+    writes_in(alloc, &Undefined, b"\xf7", 1)?;
+    reads(alloc, b"\xf5\xf4", Ok(true), b"\xf4")
 }
+
+const REFUSED_SIMPLE_VALUES: &[(&[u8], &str, &[u8])] = &[
+    (b"", "Eof { name: \"simple\", expect: Small(1) }", b""),
+    (b"\xf8", "Eof { name: \"simple\", expect: Small(1) }", b""),
+    (
+        b"\xf9\x00\x00",
+        "Mismatch { name: \"simple\", found: 249 }",
+        b"\x00\x00",
+    ),
+    (
+        b"\xff\x01",
+        "Mismatch { name: \"simple\", found: 255 }",
+        b"\x01",
+    ),
+    (
+        b"\x14\x01",
+        "Mismatch { name: \"simple\", found: 20 }",
+        b"\x01",
+    ),
+];
+
+#[test]
+fn refused_simple_values(rt: HostRuntime) -> Result<(), Fail> {
+    let alloc = rt.alloc();
+    for &(bytes, refusal, rest) in REFUSED_SIMPLE_VALUES {
+        reads::<Simple>(alloc, bytes, Err(refusal), rest)?;
+    }
+    let not_bool = "Mismatch { name: \"bool\", found: 246 }";
+    reads::<bool>(alloc, b"\xf6", Err(not_bool), b"\xf6")?;
+    let no_byte = "Eof { name: \"bool\", expect: Small(1) }";
+    reads::<bool>(alloc, b"", Err(no_byte), b"")
+}
+
+const FLOATS_HALVES: &[(&[u8], u16)] = &[
+    (b"\xf9\x00\x00", 0x0000),
+    (b"\xf9\x80\x00", 0x8000),
+    (b"\xf9\x3c\x00", 0x3c00),
+    (b"\xf9\x3e\x00", 0x3e00),
+    (b"\xf9\x7b\xff", 0x7bff),
+    (b"\xf9\x00\x01", 0x0001),
+    (b"\xf9\x04\x00", 0x0400),
+    (b"\xf9\xc4\x00", 0xc400),
+    (b"\xf9\x7c\x00", 0x7c00),
+    (b"\xf9\x7e\x00", 0x7e00),
+    (b"\xf9\xfc\x00", 0xfc00),
+];
+
+const FLOATS_SINGLES: &[(&[u8], u32)] = &[
+    (b"\xfa\x47\xc3\x50\x00", 0x47c35000),
+    (b"\xfa\x7f\x7f\xff\xff", 0x7f7fffff),
+    (b"\xfa\x7f\x80\x00\x00", 0x7f800000),
+    (b"\xfa\x7f\xc0\x00\x00", 0x7fc00000),
+    (b"\xfa\xff\x80\x00\x00", 0xff800000),
+];
+
+const FLOATS_DOUBLES: &[(&[u8], u64)] = &[
+    (b"\xfb\x3f\xf1\x99\x99\x99\x99\x99\x9a", 0x3ff199999999999a),
+    (b"\xfb\x7e\x37\xe4\x3c\x88\x00\x75\x9c", 0x7e37e43c8800759c),
+    (b"\xfb\xc0\x10\x66\x66\x66\x66\x66\x66", 0xc010666666666666),
+    (b"\xfb\x7f\xf0\x00\x00\x00\x00\x00\x00", 0x7ff0000000000000),
+    (b"\xfb\x7f\xf8\x00\x00\x00\x00\x00\x00", 0x7ff8000000000000),
+    (b"\xfb\xff\xf0\x00\x00\x00\x00\x00\x00", 0xfff0000000000000),
+];
 
 #[test]
 fn floats(rt: HostRuntime) -> Result<(), Fail> {
     let alloc = rt.alloc();
-    let halves: [(&[u8], u16); 11] = [
-        (b"\xf9\x00\x00", 0x0000),
-        (b"\xf9\x80\x00", 0x8000),
-        (b"\xf9\x3c\x00", 0x3c00),
-        (b"\xf9\x3e\x00", 0x3e00),
-        (b"\xf9\x7b\xff", 0x7bff),
-        (b"\xf9\x00\x01", 0x0001),
-        (b"\xf9\x04\x00", 0x0400),
-        (b"\xf9\xc4\x00", 0xc400),
-        (b"\xf9\x7c\x00", 0x7c00),
-        (b"\xf9\x7e\x00", 0x7e00),
-        (b"\xf9\xfc\x00", 0xfc00),
-    ];
-    for (bytes, bits) in halves {
-        goes_both_ways(&rt, alloc, F16(bits), bytes, 1)?;
+    for &(bytes, bits) in FLOATS_HALVES {
+        goes_both_ways(alloc, F16(bits), bytes, 1)?;
     }
-    let singles: [(&[u8], u32); 5] = [
-        (b"\xfa\x47\xc3\x50\x00", 0x47c35000),
-        (b"\xfa\x7f\x7f\xff\xff", 0x7f7fffff),
-        (b"\xfa\x7f\x80\x00\x00", 0x7f800000),
-        (b"\xfa\x7f\xc0\x00\x00", 0x7fc00000),
-        (b"\xfa\xff\x80\x00\x00", 0xff800000),
-    ];
-    for (bytes, bits) in singles {
-        goes_both_ways(&rt, alloc, F32(bits), bytes, 1)?;
+    for &(bytes, bits) in FLOATS_SINGLES {
+        goes_both_ways(alloc, F32(bits), bytes, 1)?;
     }
-    let doubles: [(&[u8], u64); 6] = [
-        (b"\xfb\x3f\xf1\x99\x99\x99\x99\x99\x9a", 0x3ff199999999999a),
-        (b"\xfb\x7e\x37\xe4\x3c\x88\x00\x75\x9c", 0x7e37e43c8800759c),
-        (b"\xfb\xc0\x10\x66\x66\x66\x66\x66\x66", 0xc010666666666666),
-        (b"\xfb\x7f\xf0\x00\x00\x00\x00\x00\x00", 0x7ff0000000000000),
-        (b"\xfb\x7f\xf8\x00\x00\x00\x00\x00\x00", 0x7ff8000000000000),
-        (b"\xfb\xff\xf0\x00\x00\x00\x00\x00\x00", 0xfff0000000000000),
-    ];
-    for (bytes, bits) in doubles {
-        goes_both_ways(&rt, alloc, F64(bits), bytes, 1)?;
+    for &(bytes, bits) in FLOATS_DOUBLES {
+        goes_both_ways(alloc, F64(bits), bytes, 1)?;
+    }
+    Ok(())
+}
+
+const REFUSED_FLOATS_HALVES: &[(&[u8], &str, &[u8])] = &[
+    (b"", "Eof { name: \"f16\", expect: Small(1) }", b""),
+    (b"\xf9\x7b", "Eof { name: \"f16\", expect: Small(2) }", b""),
+    (
+        b"\xf4\x00",
+        "Mismatch { name: \"f16\", found: 244 }",
+        b"\xf4\x00",
+    ),
+];
+
+const REFUSED_FLOATS_SINGLES: &[(&[u8], &str, &[u8])] = &[
+    (b"", "Eof { name: \"f32\", expect: Small(1) }", b""),
+    (
+        b"\xfa\x47\xc3",
+        "Eof { name: \"f32\", expect: Small(4) }",
+        b"",
+    ),
+    (
+        b"\xfb\x00",
+        "Mismatch { name: \"f32\", found: 251 }",
+        b"\xfb\x00",
+    ),
+];
+
+const REFUSED_FLOATS_DOUBLES: &[(&[u8], &str, &[u8])] = &[
+    (b"", "Eof { name: \"f64\", expect: Small(1) }", b""),
+    (b"\xfb\x3f", "Eof { name: \"f64\", expect: Small(8) }", b""),
+    (
+        b"\xf9\x00\x00",
+        "Mismatch { name: \"f64\", found: 249 }",
+        b"\xf9\x00\x00",
+    ),
+    (
+        b"\xfa\x00\x00\x00\x00",
+        "Mismatch { name: \"f64\", found: 250 }",
+        b"\xfa\x00\x00\x00\x00",
+    ),
+];
+
+#[test]
+fn refused_floats(rt: HostRuntime) -> Result<(), Fail> {
+    let alloc = rt.alloc();
+    for &(bytes, refusal, rest) in REFUSED_FLOATS_HALVES {
+        reads::<F16>(alloc, bytes, Err(refusal), rest)?;
+    }
+    for &(bytes, refusal, rest) in REFUSED_FLOATS_SINGLES {
+        reads::<F32>(alloc, bytes, Err(refusal), rest)?;
+    }
+    for &(bytes, refusal, rest) in REFUSED_FLOATS_DOUBLES {
+        reads::<F64>(alloc, bytes, Err(refusal), rest)?;
     }
     Ok(())
 }
 
 #[test]
-fn refused_floats(rt: HostRuntime) -> Result<(), Fail> {
-    let alloc = rt.alloc();
-    let half = "Eof { name: \"f16\", expect: Small(2) }";
-    reads::<F16>(&rt, alloc, b"\xf9\x7b", Err(half), b"")?;
-    let single = "Eof { name: \"f32\", expect: Small(4) }";
-    reads::<F32>(&rt, alloc, b"\xfa\x47\xc3", Err(single), b"")?;
-    let double = "Eof { name: \"f64\", expect: Small(8) }";
-    reads::<F64>(&rt, alloc, b"\xfb\x3f", Err(double), b"")?;
-    let other = "Mismatch { name: \"f64\", found: 250 }";
-    let bytes = b"\xfa\x00\x00\x00\x00";
-    reads::<F64>(&rt, alloc, bytes, Err(other), bytes)
-}
-
-#[test]
 fn tagged_items(rt: HostRuntime) -> Result<(), Fail> {
     let alloc = rt.alloc();
-    reads::<Tag<u8>>(&rt, alloc, b"\xc1\x18\x05", Ok(Tag(1, 5)), b"")?;
+    reads::<Tag<u8>>(alloc, b"\xc1\x18\x05", Ok(Tag(1, 5)), b"")?;
     goes_both_ways(
-        &rt,
         alloc,
         Tag(0, String::from_str(alloc, "2013-03-21T20:04:00Z")?),
         b"\xc0\x742013-03-21T20:04:00Z",
         3,
     )?;
+    goes_both_ways(alloc, Tag(1, 1363896240u32), b"\xc1\x1a\x51\x4b\x67\xb0", 2)?;
     goes_both_ways(
-        &rt,
-        alloc,
-        Tag(1, 1363896240u32),
-        b"\xc1\x1a\x51\x4b\x67\xb0",
-        2,
-    )?;
-    goes_both_ways(
-        &rt,
         alloc,
         Tag(1, F64(0x41d452d9ec200000)),
         b"\xc1\xfb\x41\xd4\x52\xd9\xec\x20\x00\x00",
         2,
     )?;
     goes_both_ways(
-        &rt,
         alloc,
         Tag(32, String::from_str(alloc, "http://www.example.com")?),
         b"\xd8\x20\x76http://www.example.com",
@@ -117,17 +182,44 @@ fn tagged_items(rt: HostRuntime) -> Result<(), Fail> {
     )
 }
 
+const REFUSED_TAGGED_ITEMS: &[(&[u8], &str, &[u8])] = &[
+    (b"", "Eof { name: \"tag\", expect: Small(1) }", b""),
+    (b"\xd9\x01", "Eof { name: \"tag\", expect: Small(2) }", b""),
+    (b"\x05", "Mismatch { name: \"tag\", found: 5 }", b""),
+    (
+        b"\xdc\x05",
+        "Mismatch { name: \"tag\", found: 220 }",
+        b"\x05",
+    ),
+    (b"\xc1", "Eof { name: \"u8\", expect: Small(1) }", b""),
+    (
+        b"\xc1\x19\x00\x05",
+        "Mismatch { name: \"u8\", found: 25 }",
+        b"\x00\x05",
+    ),
+];
+
+#[test]
+fn refused_tagged_items(rt: HostRuntime) -> Result<(), Fail> {
+    let alloc = rt.alloc();
+    for &(bytes, refusal, rest) in REFUSED_TAGGED_ITEMS {
+        reads::<Tag<u8>>(alloc, bytes, Err(refusal), rest)?;
+    }
+    Ok(())
+}
+
+const TAGGED_BYTE_STRINGS: &[(&[u8], u64, &[u8])] = &[
+    (b"\xd7\x44\x01\x02\x03\x04", 23, b"\x01\x02\x03\x04"),
+    (b"\xd8\x18\x45dIETF", 24, b"dIETF"),
+];
+
 #[test]
 fn tagged_byte_strings(rt: HostRuntime) -> Result<(), Fail> {
     let alloc = rt.alloc();
-    let rows: [(&[u8], u64, &[u8]); 2] = [
-        (b"\xd7\x44\x01\x02\x03\x04", 23, b"\x01\x02\x03\x04"),
-        (b"\xd8\x18\x45dIETF", 24, b"dIETF"),
-    ];
-    for (bytes, number, content) in rows {
-        writes_in(&rt, alloc, &Tag(number, Bytes(content)), bytes, 3)?;
+    for &(bytes, number, content) in TAGGED_BYTE_STRINGS {
+        writes_in(alloc, &Tag(number, Bytes(content)), bytes, 3)?;
         let owned = Tag(number, Bytes(content.to_vec(alloc)?));
-        reads(&rt, alloc, bytes, Ok(owned), b"")?;
+        reads(alloc, bytes, Ok(owned), b"")?;
     }
     Ok(())
 }
@@ -135,37 +227,87 @@ fn tagged_byte_strings(rt: HostRuntime) -> Result<(), Fail> {
 #[test]
 fn optional_items(rt: HostRuntime) -> Result<(), Fail> {
     let alloc = rt.alloc();
-    reads::<Option<u8>>(&rt, alloc, b"\xf7", Ok(None), b"")?;
-    reads::<Option<u8>>(&rt, alloc, b"\x05", Ok(Some(5)), b"")?;
+    reads::<Option<u8>>(alloc, b"\xf7", Ok(None), b"")?;
+    reads::<Option<u8>>(alloc, b"\x05", Ok(Some(5)), b"")?;
     let most = Some(F32(0x7f7f_ffff));
-    reads(&rt, alloc, b"\xfa\x7f\x7f\xff\xff", Ok(most), b"")?;
-    reads::<Option<F32>>(&rt, alloc, b"\xf6", Ok(None), b"")?;
-    reads::<Option<F32>>(&rt, alloc, b"\xf7", Ok(None), b"")
+    reads(alloc, b"\xfa\x7f\x7f\xff\xff", Ok(most), b"")?;
+    reads::<Option<F32>>(alloc, b"\xf6", Ok(None), b"")?;
+    reads::<Option<F32>>(alloc, b"\xf7\x01", Ok(None), b"\x01")?;
+    reads::<Option<Nothing>>(alloc, b"\xf6", Ok(None), b"")?;
+    reads(alloc, b"\x00", Ok(Some(Nothing)), b"\x00")?;
+    let no_byte = "Eof { name: \"option\", expect: Small(1) }";
+    reads::<Option<Nothing>>(alloc, b"", Err(no_byte), b"")?;
+    let not_null = "Mismatch { name: \"u8\", found: 244 }";
+    reads::<Option<u8>>(alloc, b"\xf4\x01", Err(not_null), b"\x01")
 }
+
+// What takes no step is read where none is left, and as many as a limit can be do not run over.
+#[test]
+fn the_least_and_the_greatest_limit(rt: HostRuntime) -> Result<(), Fail> {
+    let alloc = rt.alloc();
+    for limit in [0, usize::MAX] {
+        reads_within(alloc, b"\x18\x05", limit, &Ok(5u8), b"")?;
+        reads_within(alloc, b"\x05", limit, &Ok(Some(5u8)), b"")?;
+        reads_within::<Option<u8>>(alloc, b"\xf6", limit, &Ok(None), b"")?;
+        reads_within(alloc, b"\xc1\x05", limit, &Ok(Tag(1, 5u8)), b"")?;
+    }
+    let numbers = vec![in alloc; 5u8]?;
+    reads_within(alloc, b"\x81\x05", usize::MAX, &Ok(numbers), b"")
+}
+
+const OPTIONAL_ITEMS_AS_ARRAYS: &[&[u8]] = &[b"\x81\x611", b"\x98\x01\x611"];
 
 #[test]
 fn optional_items_as_arrays(rt: HostRuntime) -> Result<(), Fail> {
     let alloc = rt.alloc();
-    let rows: [(&[u8], &str, &[u8]); 2] = [
-        (
-            b"\x83\x611\x612\x613",
-            "RequireLength { name: \"maybe\", found: Small(3) }",
-            b"\x611\x612\x613",
-        ),
-        (
-            b"\x9f\x611\xff",
-            "RequireLength { name: \"maybe\", found: Indefinite }",
-            b"\x611\xff",
-        ),
-    ];
-    for (bytes, refusal, rest) in rows {
-        reads::<Maybe<Option<String>>>(&rt, alloc, bytes, Err(refusal), rest)?;
+    reads::<Maybe<Option<String>>>(alloc, b"\x80", Ok(Maybe(None)), b"")?;
+    reads::<Maybe<Option<String>>>(alloc, b"\x98\x00\x05", Ok(Maybe(None)), b"\x05")?;
+    for &bytes in OPTIONAL_ITEMS_AS_ARRAYS {
+        let one = Maybe(Some(String::from_str(alloc, "1")?));
+        reads(alloc, bytes, Ok(one), b"")?;
     }
-    reads::<Maybe<Option<String>>>(&rt, alloc, b"\x80", Ok(Maybe(None)), b"")?;
-    let one = Maybe(Some(String::from_str(alloc, "1")?));
-    reads(&rt, alloc, b"\x81\x611", Ok(one), b"")?;
-    writes_in(&rt, alloc, &Maybe(&None::<u8>), b"\x80", 1)?;
-    writes_in(&rt, alloc, &Maybe(&Some(1u8)), b"\x81\x01", 2)
+    writes_in(alloc, &Maybe(&None::<u8>), b"\x80", 1)?;
+    writes_in(alloc, &Maybe(&Some(1u8)), b"\x81\x01", 2)
+}
+
+const REFUSED_OPTIONAL_ITEMS_AS_ARRAYS: &[(&[u8], &str, &[u8])] = &[
+    (b"", "Eof { name: \"array\", expect: Small(1) }", b""),
+    (b"\x98", "Eof { name: \"array\", expect: Small(1) }", b""),
+    (
+        b"\xf6\x80",
+        "Mismatch { name: \"array\", found: 246 }",
+        b"\x80",
+    ),
+    (
+        b"\x83\x611\x612\x613",
+        "RequireLength { name: \"maybe\", found: Small(3) }",
+        b"\x611\x612\x613",
+    ),
+    (
+        b"\x9a\x00\x01\x00\x00\x07",
+        "RequireLength { name: \"maybe\", found: Big }",
+        b"\x07",
+    ),
+    (
+        b"\x9f\x611\xff",
+        "RequireLength { name: \"maybe\", found: Indefinite }",
+        b"\x611\xff",
+    ),
+    (b"\x81", "Eof { name: \"str\", expect: Small(1) }", b""),
+    (
+        b"\x81\x01\x02",
+        "Mismatch { name: \"str\", found: 1 }",
+        b"\x02",
+    ),
+];
+
+#[test]
+fn refused_optional_items_as_arrays(rt: HostRuntime) -> Result<(), Fail> {
+    let alloc = rt.alloc();
+    for &(bytes, refusal, rest) in REFUSED_OPTIONAL_ITEMS_AS_ARRAYS {
+        reads::<Maybe<Option<String>>>(alloc, bytes, Err(refusal), rest)?;
+    }
+    Ok(())
 }
 
 #[test]
@@ -174,20 +316,21 @@ fn optional_arrays_as_arrays(rt: HostRuntime) -> Result<(), Fail> {
     let first = String::from_str(alloc, "1")?;
     let second = String::from_str(alloc, "2")?;
     let some = Some(vec![in alloc; first, second]?);
-    writes_in(&rt, alloc, &Maybe(&some), b"\x81\x82\x611\x612", 6)?;
-    reads(&rt, alloc, b"\x81\x82\x611\x612", Ok(Maybe(some)), b"")?;
-    writes_in(&rt, alloc, &Maybe(&None::<Vec<String>>), b"\x80", 1)?;
-    reads::<Maybe<Option<Vec<String>>>>(&rt, alloc, b"\x80", Ok(Maybe(None)), b"")
+    writes_in(alloc, &Maybe(&some), b"\x81\x82\x611\x612", 6)?;
+    reads(alloc, b"\x81\x82\x611\x612", Ok(Maybe(some)), b"")?;
+    writes_in(alloc, &Maybe(&None::<Vec<String>>), b"\x80", 1)?;
+    reads::<Maybe<Option<Vec<String>>>>(alloc, b"\x80", Ok(Maybe(None)), b"")
 }
 
 #[test]
 fn boxes_and_nothing(rt: HostRuntime) -> Result<(), Fail> {
     let alloc = rt.alloc();
-    goes_both_ways(&rt, alloc, Box::new(alloc, 5u8)?, b"\x05", 1)?;
+    goes_both_ways(alloc, Box::new(alloc, 5u8)?, b"\x05", 1)?;
     let refusal = "Mismatch { name: \"u8\", found: 97 }";
-    reads::<Box<u8>>(&rt, alloc, b"\x61", Err(refusal), b"")?;
-    goes_both_ways(&rt, alloc, Nothing, b"", 0)?;
-    reads(&rt, alloc, b"\x05", Ok(Nothing), b"\x05")
+    reads::<Box<u8>>(alloc, b"\x61", Err(refusal), b"")?;
+    goes_both_ways(alloc, Nothing, b"", 0)?;
+    reads(alloc, b"\x05", Ok(Nothing), b"\x05")?;
+    reads(alloc, b"", Ok(Nothing), b"")
 }
 
 // A number takes a look at its first byte and one at what follows, and a float that stands whole

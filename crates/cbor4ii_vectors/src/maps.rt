@@ -1,23 +1,25 @@
 //! Rows of maps, read: counted and open ones, and refusals.
-use crate::rows::{reads, reads_within};
 use cbor4ii_items::types::{Map, Nothing};
+use cbor4ii_trials::rows::{reads, reads_within};
 use std::alloc::{AllocError, Global};
 use std::test::Fail;
+
+const MAPS: &[(&[u8], &[(u8, u8)])] = &[
+    (b"\xb8\x02\x01\x02\x03\x04", &[(1, 2), (3, 4)]),
+    (b"\xa2\x01\x02\x03\x04", &[(1, 2), (3, 4)]),
+    (b"\xbf\x01\x02\x03\x04\xff", &[(1, 2), (3, 4)]),
+    (b"\xa2\x01\x02\x01\x03", &[(1, 2), (1, 3)]),
+    (b"\xbf\x01\x02\xff", &[(1, 2)]),
+];
 
 #[test]
 fn maps(rt: HostRuntime) -> Result<(), Fail> {
     let alloc = rt.alloc();
     let none: Map<Vec<(u8, u8)>> = Map(Vec::new(alloc));
-    reads(&rt, alloc, b"\xa0", Ok(none), b"")?;
-    let rows: [(&[u8], &[(u8, u8)]); 4] = [
-        (b"\xa2\x01\x02\x03\x04", &[(1, 2), (3, 4)]),
-        (b"\xbf\x01\x02\x03\x04\xff", &[(1, 2), (3, 4)]),
-        (b"\xa2\x01\x02\x01\x03", &[(1, 2), (1, 3)]),
-        (b"\xbf\x01\x02\xff", &[(1, 2)]),
-    ];
-    for (bytes, pairs) in rows {
+    reads(alloc, b"\xa0", Ok(none), b"")?;
+    for &(bytes, pairs) in MAPS {
         let pairs = Map(pairs.to_vec(alloc)?);
-        reads(&rt, alloc, bytes, Ok(pairs), b"")?;
+        reads(alloc, bytes, Ok(pairs), b"")?;
     }
     Ok(())
 }
@@ -35,22 +37,48 @@ fn letters(alloc: Global) -> Result<Vec<(String, String)>, AllocError> {
 fn a_map_of_texts(rt: HostRuntime) -> Result<(), Fail> {
     let alloc = rt.alloc();
     let bytes = b"\xa5\x61a\x61A\x61b\x61B\x61c\x61C\x61d\x61D\x61e\x61E";
-    reads(&rt, alloc, bytes, Ok(Map(letters(alloc)?)), b"")
+    reads(alloc, bytes, Ok(Map(letters(alloc)?)), b"")
 }
+
+const REFUSED_MAPS: &[(&[u8], &str, &[u8])] = &[
+    (b"", "Eof { name: \"map\", expect: Small(1) }", b""),
+    (b"\xb9\x01", "Eof { name: \"map\", expect: Small(2) }", b""),
+    (
+        b"\x80\x01",
+        "Mismatch { name: \"map\", found: 128 }",
+        b"\x01",
+    ),
+    (b"\xa1\x01", "Eof { name: \"u8\", expect: Small(1) }", b""),
+    (
+        b"\xa1\x61\x02",
+        "Mismatch { name: \"u8\", found: 97 }",
+        b"\x02",
+    ),
+    (
+        b"\xa1\xff\x02",
+        "Mismatch { name: \"u8\", found: 255 }",
+        b"\x02",
+    ),
+    (
+        b"\xbf\x01\xff",
+        "Mismatch { name: \"u8\", found: 255 }",
+        b"",
+    ),
+    (
+        b"\xbf\x01\x02",
+        "Eof { name: \"break\", expect: Small(1) }",
+        b"",
+    ),
+];
 
 #[test]
 fn refused_maps(rt: HostRuntime) -> Result<(), Fail> {
     let alloc = rt.alloc();
-    let rows: [(&[u8], &str); 3] = [
-        (b"\xbf\x01\xff", "Mismatch { name: \"u8\", found: 255 }"),
-        (b"\xa1\x01", "Eof { name: \"u8\", expect: Small(1) }"),
-        (b"\x80", "Mismatch { name: \"map\", found: 128 }"),
-    ];
-    for (bytes, refusal) in rows {
-        reads::<Map<Vec<(u8, u8)>>>(&rt, alloc, bytes, Err(refusal), b"")?;
+    for &(bytes, refusal, rest) in REFUSED_MAPS {
+        reads::<Map<Vec<(u8, u8)>>>(alloc, bytes, Err(refusal), rest)?;
     }
     let no_step = "DepthOverflow { name: \"map\" }";
-    reads_within::<Map<Vec<(u8, u8)>>>(&rt, alloc, b"\xa0", 0, &Err(no_step), b"\xa0")
+    reads_within::<Map<Vec<(u8, u8)>>>(alloc, b"\xa0", 0, &Err(no_step), b"\xa0")
 }
 
 // Pairs that may take no byte are counted. One part of a pair may take none.
@@ -58,9 +86,9 @@ fn refused_maps(rt: HostRuntime) -> Result<(), Fail> {
 fn maps_of_nothing(rt: HostRuntime) -> Result<(), Fail> {
     let alloc = rt.alloc();
     let none: Map<Vec<(Nothing, Nothing)>> = Map(Vec::new(alloc));
-    reads(&rt, alloc, b"\xbf\xff", Ok(none), b"")?;
+    reads(alloc, b"\xbf\xff", Ok(none), b"")?;
     let open = "RequireLength { name: \"map\", found: Indefinite }";
-    reads::<Map<Vec<(Nothing, Nothing)>>>(&rt, alloc, b"\xbf\x00", Err(open), b"\x00")?;
+    reads::<Map<Vec<(Nothing, Nothing)>>>(alloc, b"\xbf\x00", Err(open), b"\x00")?;
     let five = vec![in alloc; (Nothing, 5u8)]?;
-    reads(&rt, alloc, b"\xbf\x05\xff", Ok(Map(five)), b"")
+    reads(alloc, b"\xbf\x05\xff", Ok(Map(five)), b"")
 }

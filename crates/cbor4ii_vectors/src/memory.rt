@@ -3,13 +3,13 @@
 //! In each test a decoder is the first that takes memory, so that each of its growths is refused
 //! once when the tests run with the Nth allocation refused, for N from 1 on. A refusal leaves the
 //! budget as it was and an end of the bytes, and any other error fails the test.
-use crate::readers::ShortByByte;
-use crate::rows::steps;
 use cbor4ii_items::decode::Decode;
 use cbor4ii_items::types::{Bytes, Map, Nothing, UncheckedStr};
 use cbor4ii_rw::error::DecodeError;
 use cbor4ii_rw::read::Source;
 use cbor4ii_rw::slice_reader::SliceReader;
+use cbor4ii_trials::readers::ShortByByte;
+use cbor4ii_trials::rows::steps;
 use std::alloc::Global;
 use std::borrow::CowStr;
 use std::process::Abort;

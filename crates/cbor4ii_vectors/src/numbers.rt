@@ -1,10 +1,10 @@
 //! Rows of numbers: RFC 8949 Appendix A, the edges of each type, and refusals.
-use crate::rows::{reads, writes};
 use cbor4ii_items::decode::Decode;
 use cbor4ii_items::encode::Encode;
 use cbor4ii_items::types::Negative;
 use cbor4ii_rw::buf_writer::BufWriter;
 use cbor4ii_rw::slice_reader::SliceReader;
+use cbor4ii_trials::rows::{reads, writes_in};
 use std::test::Fail;
 
 // The README's example.
@@ -24,114 +24,100 @@ fn numbers_one_after_another(rt: HostRuntime) -> Result<(), Fail> {
     Ok(())
 }
 
+const UNSIGNED_INTEGERS: &[(&[u8], u64)] = &[
+    (b"\x00", 0),
+    (b"\x01", 1),
+    (b"\x0a", 10),
+    (b"\x17", 23),
+    (b"\x18\x18", 24),
+    (b"\x18\x19", 25),
+    (b"\x18\x64", 100),
+    (b"\x19\x03\xe8", 1000),
+    (b"\x1a\x00\x0f\x42\x40", 1_000_000),
+    (b"\x1b\x00\x00\x00\xe8\xd4\xa5\x10\x00", 1_000_000_000_000),
+    (b"\x1b\xff\xff\xff\xff\xff\xff\xff\xff", u64::MAX),
+];
+
 #[test]
 fn unsigned_integers(rt: HostRuntime) -> Result<(), Fail> {
     let alloc = rt.alloc();
-    let rows: [(&[u8], u64); 11] = [
-        (b"\x00", 0),
-        (b"\x01", 1),
-        (b"\x0a", 10),
-        (b"\x17", 23),
-        (b"\x18\x18", 24),
-        (b"\x18\x19", 25),
-        (b"\x18\x64", 100),
-        (b"\x19\x03\xe8", 1000),
-        (b"\x1a\x00\x0f\x42\x40", 1_000_000),
-        (b"\x1b\x00\x00\x00\xe8\xd4\xa5\x10\x00", 1_000_000_000_000),
-        (b"\x1b\xff\xff\xff\xff\xff\xff\xff\xff", u64::MAX),
-    ];
-    for (bytes, value) in rows {
-        reads::<u64>(&rt, alloc, bytes, Ok(value), b"")?;
-        reads::<u128>(&rt, alloc, bytes, Ok(u128::from(value)), b"")?;
-        reads::<i128>(&rt, alloc, bytes, Ok(i128::from(value)), b"")?;
-        writes(&rt, alloc, &value, bytes)?;
-        writes(&rt, alloc, &u128::from(value), bytes)?;
-        writes(&rt, alloc, &i128::from(value), bytes)?;
+    for &(bytes, value) in UNSIGNED_INTEGERS {
+        reads::<u64>(alloc, bytes, Ok(value), b"")?;
+        reads::<u128>(alloc, bytes, Ok(u128::from(value)), b"")?;
+        reads::<i128>(alloc, bytes, Ok(i128::from(value)), b"")?;
+        writes_in(alloc, &value, bytes, 1)?;
+        writes_in(alloc, &u128::from(value), bytes, 1)?;
+        writes_in(alloc, &i128::from(value), bytes, 1)?;
     }
-    writes(&rt, alloc, &255u8, b"\x18\xff")?;
-    writes(&rt, alloc, &65535u16, b"\x19\xff\xff")?;
-    writes(&rt, alloc, &65536u32, b"\x1a\x00\x01\x00\x00")?;
-    reads::<u8>(&rt, alloc, b"\x18\xff", Ok(255), b"")?;
-    reads::<u16>(&rt, alloc, b"\x19\xff\xff", Ok(65535), b"")?;
-    reads::<u16>(&rt, alloc, b"\x19\x00\x05", Ok(5), b"")?;
-    reads::<u32>(&rt, alloc, b"\x1a\x00\x01\x00\x00\xff", Ok(65536), b"\xff")?;
-    reads::<u64>(
-        &rt,
-        alloc,
-        b"\x1b\x00\x00\x00\x00\x00\x00\x00\x05",
-        Ok(5),
-        b"",
-    )
+    writes_in(alloc, &255u8, b"\x18\xff", 1)?;
+    writes_in(alloc, &&255u8, b"\x18\xff", 1)?;
+    writes_in(alloc, &65535u16, b"\x19\xff\xff", 1)?;
+    writes_in(alloc, &65536u32, b"\x1a\x00\x01\x00\x00", 1)?;
+    reads::<u8>(alloc, b"\x18\xff", Ok(255), b"")?;
+    reads::<u16>(alloc, b"\x19\xff\xff", Ok(65535), b"")?;
+    reads::<u16>(alloc, b"\x19\x00\x05", Ok(5), b"")?;
+    reads::<u32>(alloc, b"\x1a\x00\x01\x00\x00\xff", Ok(65536), b"\xff")?;
+    reads::<u64>(alloc, b"\x1b\x00\x00\x00\x00\x00\x00\x00\x05", Ok(5), b"")
 }
 
 #[test]
 fn refused_unsigned_integers(rt: HostRuntime) -> Result<(), Fail> {
     let alloc = rt.alloc();
     reads::<u8>(
-        &rt,
         alloc,
         b"",
         Err("Eof { name: \"u8\", expect: Small(1) }"),
         b"",
     )?;
     reads::<u8>(
-        &rt,
         alloc,
         b"\x18",
         Err("Eof { name: \"u8\", expect: Small(1) }"),
         b"",
     )?;
     reads::<u8>(
-        &rt,
         alloc,
         b"\x19\x00\x05",
         Err("Mismatch { name: \"u8\", found: 25 }"),
         b"\x00\x05",
     )?;
     reads::<u16>(
-        &rt,
         alloc,
         b"\x19\x00",
         Err("Eof { name: \"u16\", expect: Small(2) }"),
         b"",
     )?;
     reads::<u16>(
-        &rt,
         alloc,
         b"\x1a\x00",
         Err("Mismatch { name: \"u16\", found: 26 }"),
         b"\x00",
     )?;
     reads::<u32>(
-        &rt,
         alloc,
         b"\x1c\x00",
         Err("Mismatch { name: \"u32\", found: 28 }"),
         b"\x00",
     )?;
     reads::<u32>(
-        &rt,
         alloc,
         b"\x1b\x00",
         Err("Mismatch { name: \"u32\", found: 27 }"),
         b"\x00",
     )?;
     reads::<u64>(
-        &rt,
         alloc,
         b"\x1b\x01\x02",
         Err("Eof { name: \"u64\", expect: Small(8) }"),
         b"",
     )?;
     reads::<u64>(
-        &rt,
         alloc,
         b"\x1f\x01",
         Err("Mismatch { name: \"u64\", found: 31 }"),
         b"\x01",
     )?;
     reads::<u64>(
-        &rt,
         alloc,
         b"\x20\x01",
         Err("Mismatch { name: \"u64\", found: 32 }"),
@@ -142,47 +128,37 @@ fn refused_unsigned_integers(rt: HostRuntime) -> Result<(), Fail> {
 #[test]
 fn negative_integers(rt: HostRuntime) -> Result<(), Fail> {
     let alloc = rt.alloc();
-    reads::<Negative<u8>>(&rt, alloc, b"\x38\xff", Ok(Negative(255)), b"")?;
-    reads::<Negative<u16>>(&rt, alloc, b"\x39\xff\xff", Ok(Negative(65535)), b"")?;
-    reads::<Negative<u32>>(
-        &rt,
-        alloc,
-        b"\x3a\xff\xff\xff\xff",
-        Ok(Negative(u32::MAX)),
-        b"",
-    )?;
+    reads::<Negative<u8>>(alloc, b"\x38\xff", Ok(Negative(255)), b"")?;
+    reads::<Negative<u16>>(alloc, b"\x39\xff\xff", Ok(Negative(65535)), b"")?;
+    reads::<Negative<u32>>(alloc, b"\x3a\xff\xff\xff\xff", Ok(Negative(u32::MAX)), b"")?;
     reads::<Negative<u64>>(
-        &rt,
         alloc,
         b"\x3b\xff\xff\xff\xff\xff\xff\xff\xff",
         Ok(Negative(u64::MAX)),
         b"",
     )?;
-    writes(&rt, alloc, &Negative(255u8), b"\x38\xff")?;
-    writes(&rt, alloc, &Negative(65535u16), b"\x39\xff\xff")?;
-    writes(&rt, alloc, &Negative(u32::MAX), b"\x3a\xff\xff\xff\xff")?;
-    writes(
-        &rt,
+    writes_in(alloc, &Negative(255u8), b"\x38\xff", 1)?;
+    writes_in(alloc, &Negative(65535u16), b"\x39\xff\xff", 1)?;
+    writes_in(alloc, &Negative(u32::MAX), b"\x3a\xff\xff\xff\xff", 1)?;
+    writes_in(
         alloc,
         &Negative(u64::MAX),
         b"\x3b\xff\xff\xff\xff\xff\xff\xff\xff",
+        1,
     )?;
     reads::<Negative<u8>>(
-        &rt,
         alloc,
         b"\x39\x00\x00",
         Err("Mismatch { name: \"-u8\", found: 57 }"),
         b"\x00\x00",
     )?;
     reads::<Negative<u64>>(
-        &rt,
         alloc,
         b"\x3a",
         Err("Eof { name: \"-u64\", expect: Small(4) }"),
         b"",
     )?;
     reads::<Negative<u64>>(
-        &rt,
         alloc,
         b"\x00",
         Err("Mismatch { name: \"-u64\", found: 0 }"),
@@ -190,81 +166,75 @@ fn negative_integers(rt: HostRuntime) -> Result<(), Fail> {
     )
 }
 
+const SIGNED_INTEGERS: &[(&[u8], i64)] = &[
+    (b"\x17", 23),
+    (b"\x20", -1),
+    (b"\x29", -10),
+    (b"\x38\x63", -100),
+    (b"\x38\xff", -256),
+    (b"\x39\x03\xe7", -1000),
+    (b"\x39\xff\xff", -65536),
+    (b"\x3a\xff\xff\xff\xff", -4_294_967_296),
+    (b"\x3b\x7f\xff\xff\xff\xff\xff\xff\xff", i64::MIN),
+];
+
 #[test]
 fn signed_integers(rt: HostRuntime) -> Result<(), Fail> {
     let alloc = rt.alloc();
-    let rows: [(&[u8], i64); 9] = [
-        (b"\x17", 23),
-        (b"\x20", -1),
-        (b"\x29", -10),
-        (b"\x38\x63", -100),
-        (b"\x38\xff", -256),
-        (b"\x39\x03\xe7", -1000),
-        (b"\x39\xff\xff", -65536),
-        (b"\x3a\xff\xff\xff\xff", -4_294_967_296),
-        (b"\x3b\x7f\xff\xff\xff\xff\xff\xff\xff", i64::MIN),
-    ];
-    for (bytes, value) in rows {
-        reads::<i64>(&rt, alloc, bytes, Ok(value), b"")?;
-        reads::<i128>(&rt, alloc, bytes, Ok(i128::from(value)), b"")?;
-        writes(&rt, alloc, &value, bytes)?;
-        writes(&rt, alloc, &i128::from(value), bytes)?;
+    for &(bytes, value) in SIGNED_INTEGERS {
+        reads::<i64>(alloc, bytes, Ok(value), b"")?;
+        reads::<i128>(alloc, bytes, Ok(i128::from(value)), b"")?;
+        writes_in(alloc, &value, bytes, 1)?;
+        writes_in(alloc, &i128::from(value), bytes, 1)?;
     }
-    writes(&rt, alloc, &-128i8, b"\x38\x7f")?;
-    writes(&rt, alloc, &-256i16, b"\x38\xff")?;
-    writes(&rt, alloc, &-65536i32, b"\x39\xff\xff")?;
-    reads::<i8>(&rt, alloc, b"\x38\x7f", Ok(-128), b"")?;
-    reads::<i16>(&rt, alloc, b"\x38\xff", Ok(-256), b"")?;
-    reads::<i32>(&rt, alloc, b"\x39\xff\xff", Ok(-65536), b"")
+    writes_in(alloc, &-128i8, b"\x38\x7f", 1)?;
+    writes_in(alloc, &-256i16, b"\x38\xff", 1)?;
+    writes_in(alloc, &-65536i32, b"\x39\xff\xff", 1)?;
+    reads::<i8>(alloc, b"\x38\x7f", Ok(-128), b"")?;
+    reads::<i16>(alloc, b"\x38\xff", Ok(-256), b"")?;
+    reads::<i32>(alloc, b"\x39\xff\xff", Ok(-65536), b"")
 }
 
 #[test]
 fn refused_signed_integers(rt: HostRuntime) -> Result<(), Fail> {
     let alloc = rt.alloc();
     reads::<i8>(
-        &rt,
         alloc,
         b"",
         Err("Eof { name: \"i8\", expect: Small(1) }"),
         b"",
     )?;
     reads::<i8>(
-        &rt,
         alloc,
         b"\x40\x00",
         Err("Mismatch { name: \"i8\", found: 64 }"),
         b"\x40\x00",
     )?;
     reads::<i8>(
-        &rt,
         alloc,
         b"\x38\x80",
         Err("CastOverflow { name: \"-i8\" }"),
         b"",
     )?;
     reads::<i8>(
-        &rt,
         alloc,
         b"\x18\x80\xff",
         Err("CastOverflow { name: \"+i8\" }"),
         b"\xff",
     )?;
     reads::<i16>(
-        &rt,
         alloc,
         b"\x1a\x00",
         Err("Mismatch { name: \"+i16\", found: 26 }"),
         b"\x00",
     )?;
     reads::<i32>(
-        &rt,
         alloc,
         b"\x3a\x00",
         Err("Eof { name: \"-i32\", expect: Small(4) }"),
         b"",
     )?;
     reads::<i64>(
-        &rt,
         alloc,
         b"\x3b\x80\x00\x00\x00\x00\x00\x00\x00",
         Err("CastOverflow { name: \"-i64\" }"),
@@ -279,125 +249,111 @@ fn bignums(rt: HostRuntime) -> Result<(), Fail> {
     let least = b"\xc3\x50\x7f\xff\xff\xff\xff\xff\xff\xff\xff\xff\xff\xff\xff\xff\xff\xff";
     let above = b"\xc2\x49\x01\x00\x00\x00\x00\x00\x00\x00\x00";
     let below = b"\xc3\x49\x01\x00\x00\x00\x00\x00\x00\x00\x00";
-    reads::<u128>(&rt, alloc, above, Ok(18_446_744_073_709_551_616), b"")?;
-    reads::<i128>(&rt, alloc, above, Ok(18_446_744_073_709_551_616), b"")?;
-    reads::<i128>(&rt, alloc, below, Ok(-18_446_744_073_709_551_617), b"")?;
+    reads::<u128>(alloc, above, Ok(18_446_744_073_709_551_616), b"")?;
+    reads::<i128>(alloc, above, Ok(18_446_744_073_709_551_616), b"")?;
+    reads::<i128>(alloc, below, Ok(-18_446_744_073_709_551_617), b"")?;
     reads::<i128>(
-        &rt,
         alloc,
         b"\x3b\xff\xff\xff\xff\xff\xff\xff\xff",
         Ok(-18_446_744_073_709_551_616),
         b"",
     )?;
-    reads::<i128>(&rt, alloc, greatest, Ok(i128::MAX), b"")?;
-    reads::<i128>(&rt, alloc, least, Ok(i128::MIN), b"")?;
-    writes(&rt, alloc, &18_446_744_073_709_551_616u128, above)?;
-    writes(&rt, alloc, &18_446_744_073_709_551_616i128, above)?;
-    writes(&rt, alloc, &-18_446_744_073_709_551_617i128, below)?;
-    writes(
-        &rt,
+    reads::<i128>(alloc, greatest, Ok(i128::MAX), b"")?;
+    reads::<i128>(alloc, least, Ok(i128::MIN), b"")?;
+    writes_in(alloc, &18_446_744_073_709_551_616u128, above, 3)?;
+    writes_in(alloc, &18_446_744_073_709_551_616i128, above, 3)?;
+    writes_in(alloc, &-18_446_744_073_709_551_617i128, below, 3)?;
+    writes_in(
         alloc,
         &-18_446_744_073_709_551_616i128,
         b"\x3b\xff\xff\xff\xff\xff\xff\xff\xff",
+        1,
     )?;
-    writes(&rt, alloc, &i128::MAX, greatest)?;
-    writes(&rt, alloc, &i128::MIN, least)?;
-    reads::<u128>(&rt, alloc, b"\xc2\x40", Ok(0), b"")?;
-    reads::<u128>(&rt, alloc, b"\xc2\x42\x00\x05\x00", Ok(5), b"\x00")?;
-    reads::<u128>(&rt, alloc, b"\xd8\x02\x41\x05", Ok(5), b"")?;
-    reads::<i128>(&rt, alloc, b"\xc3\x40", Ok(-1), b"")?;
-    reads::<i128>(&rt, alloc, b"\xd8\x03\x41\x05", Ok(-6), b"")
+    writes_in(alloc, &i128::MAX, greatest, 3)?;
+    writes_in(alloc, &i128::MIN, least, 3)?;
+    reads::<u128>(alloc, b"\xc2\x40", Ok(0), b"")?;
+    reads::<u128>(alloc, b"\xc2\x42\x00\x05\x00", Ok(5), b"\x00")?;
+    reads::<u128>(alloc, b"\xd8\x02\x41\x05", Ok(5), b"")?;
+    reads::<i128>(alloc, b"\xc3\x40", Ok(-1), b"")?;
+    reads::<i128>(alloc, b"\xd8\x03\x41\x05", Ok(-6), b"")
 }
 
 #[test]
 fn refused_bignums(rt: HostRuntime) -> Result<(), Fail> {
     let alloc = rt.alloc();
     reads::<u128>(
-        &rt,
         alloc,
         b"",
         Err("Eof { name: \"u128\", expect: Small(1) }"),
         b"",
     )?;
     reads::<u128>(
-        &rt,
         alloc,
         b"\x18",
         Err("Eof { name: \"u64\", expect: Small(1) }"),
         b"",
     )?;
     reads::<u128>(
-        &rt,
         alloc,
         b"\x20",
         Err("Mismatch { name: \"u128\", found: 32 }"),
         b"",
     )?;
     reads::<u128>(
-        &rt,
         alloc,
         b"\xd9\x00\x02\x41\x05",
         Err("Mismatch { name: \"u128\", found: 217 }"),
         b"\x00\x02\x41\x05",
     )?;
     reads::<u128>(
-        &rt,
         alloc,
         b"\xc3\x40",
         Err("Mismatch { name: \"u128::tag\", found: 3 }"),
         b"\x40",
     )?;
     reads::<u128>(
-        &rt,
         alloc,
         b"\xc2\x5f",
         Err("RequireLength { name: \"u128::bytes\", found: Indefinite }"),
         b"",
     )?;
     reads::<u128>(
-        &rt,
         alloc,
         b"\xc2\x51\x01\x02\x03\x04\x05\x06\x07\x08\x09\x0a\x0b\x0c\x0d\x0e\x0f\x10\x11",
         Err("LengthOverflow { name: \"u128::bytes\", found: Small(17) }"),
         b"\x01\x02\x03\x04\x05\x06\x07\x08\x09\x0a\x0b\x0c\x0d\x0e\x0f\x10\x11",
     )?;
     reads::<u128>(
-        &rt,
         alloc,
         b"\xc2\x42\x01",
         Err("Eof { name: \"u128::bytes\", expect: Small(2) }"),
         b"",
     )?;
     reads::<i128>(
-        &rt,
         alloc,
         b"\x39\x00",
         Err("Eof { name: \"i128\", expect: Small(2) }"),
         b"",
     )?;
     reads::<i128>(
-        &rt,
         alloc,
         b"\xc4\x40",
         Err("Mismatch { name: \"i128::tag\", found: 4 }"),
         b"\x40",
     )?;
     reads::<i128>(
-        &rt,
         alloc,
         b"\xc2\x61\x05",
         Err("Mismatch { name: \"+i128::bytes\", found: 97 }"),
         b"\x05",
     )?;
     reads::<i128>(
-        &rt,
         alloc,
         b"\xc3\x41",
         Err("Eof { name: \"-i128::bytes\", expect: Small(1) }"),
         b"",
     )?;
     reads::<i128>(
-        &rt,
         alloc,
         b"\xc2\x50\x80\x00\x00\x00\x00\x00\x00\x00\x00\x00\x00\x00\x00\x00\x00\x00",
         Err("CastOverflow { name: \"i128\" }"),

@@ -1,38 +1,87 @@
 //! Rows of arrays, read: counted and open ones, nesting, and refusals.
-use crate::rows::{Want, reads, reads_within};
-use cbor4ii_items::types::Nothing;
+use cbor4ii_items::types::{Nothing, Tag};
+use cbor4ii_trials::rows::{Want, reads, reads_within};
 use std::alloc::{AllocError, Global};
 use std::test::Fail;
+
+const ARRAYS: &[&[u8]] = &[
+    b"\x83\x01\x02\x03\x04",
+    b"\x98\x03\x01\x02\x03\x04",
+    b"\x9f\x01\x02\x03\xff\x04",
+];
 
 #[test]
 fn arrays(rt: HostRuntime) -> Result<(), Fail> {
     let alloc = rt.alloc();
     let flags = vec![in alloc; true, false]?;
-    reads(&rt, alloc, b"\x9f\xf5\xf4\xff", Ok(flags), b"")?;
-    let rows: [&[u8]; 2] = [b"\x83\x01\x02\x03", b"\x9f\x01\x02\x03\xff"];
-    for bytes in rows {
+    reads(alloc, b"\x9f\xf5\xf4\xff", Ok(flags), b"")?;
+    for &bytes in ARRAYS {
         let numbers = vec![in alloc; 1u8, 2, 3]?;
-        reads(&rt, alloc, bytes, Ok(numbers), b"")?;
+        reads(alloc, bytes, Ok(numbers), b"\x04")?;
     }
-    Ok(())
+    let optional = vec![in alloc; Some(1u8), None, Some(2)]?;
+    reads(alloc, b"\x9f\x01\xf6\x02\xff", Ok(optional), b"")?;
+    let tagged = Tag(1, vec![in alloc; 7u8]?);
+    reads(alloc, b"\xc1\x81\x07", Ok(tagged), b"")
 }
+
+const REFUSED_ARRAYS: &[(&[u8], &str, &[u8])] = &[
+    (b"", "Eof { name: \"array\", expect: Small(1) }", b""),
+    (b"\x98", "Eof { name: \"array\", expect: Small(1) }", b""),
+    (
+        b"\x9a\x00\x01",
+        "Eof { name: \"array\", expect: Small(4) }",
+        b"",
+    ),
+    (
+        b"\x01\x02",
+        "Mismatch { name: \"array\", found: 1 }",
+        b"\x02",
+    ),
+    (
+        b"\xa0\x02",
+        "Mismatch { name: \"array\", found: 160 }",
+        b"\x02",
+    ),
+    (
+        b"\x9c\x02",
+        "Mismatch { name: \"array\", found: 156 }",
+        b"\x02",
+    ),
+    (
+        b"\xbf\xff",
+        "Mismatch { name: \"array\", found: 191 }",
+        b"\xff",
+    ),
+    (b"\x82\x01", "Eof { name: \"u8\", expect: Small(1) }", b""),
+    (b"\x82\x01\x61", "Mismatch { name: \"u8\", found: 97 }", b""),
+    (
+        b"\x82\x01\xff\x02",
+        "Mismatch { name: \"u8\", found: 255 }",
+        b"\x02",
+    ),
+    (b"\x9f", "Eof { name: \"break\", expect: Small(1) }", b""),
+    (
+        b"\x9f\x01",
+        "Eof { name: \"break\", expect: Small(1) }",
+        b"",
+    ),
+    (
+        b"\x9f\x01\x61\xff",
+        "Mismatch { name: \"u8\", found: 97 }",
+        b"\xff",
+    ),
+];
 
 #[test]
 fn refused_arrays(rt: HostRuntime) -> Result<(), Fail> {
     let alloc = rt.alloc();
-    let rows: [(&[u8], &str); 7] = [
-        (b"\x82\x01\x61", "Mismatch { name: \"u8\", found: 97 }"),
-        (b"\x82\x01", "Eof { name: \"u8\", expect: Small(1) }"),
-        (b"\x9f\x01", "Eof { name: \"break\", expect: Small(1) }"),
-        (b"\xa0", "Mismatch { name: \"array\", found: 160 }"),
-        (b"\x98", "Eof { name: \"array\", expect: Small(1) }"),
-        (b"\x9a\x00", "Eof { name: \"array\", expect: Small(4) }"),
-        (b"\x9c", "Mismatch { name: \"array\", found: 156 }"),
-    ];
-    for (bytes, refusal) in rows {
-        reads::<Vec<u8>>(&rt, alloc, bytes, Err(refusal), b"")?;
+    for &(bytes, refusal, rest) in REFUSED_ARRAYS {
+        reads::<Vec<u8>>(alloc, bytes, Err(refusal), rest)?;
     }
-    Ok(())
+    let ended = "Eof { name: \"u64\", expect: Small(1) }";
+    let bytes = b"\x9b\xff\xff\xff\xff\xff\xff\xff\xff\x01";
+    reads::<Vec<u64>>(alloc, bytes, Err(ended), b"")
 }
 
 // Items that may take no byte are counted: up to a break there might be any number of them.
@@ -40,21 +89,28 @@ fn refused_arrays(rt: HostRuntime) -> Result<(), Fail> {
 fn arrays_of_nothing(rt: HostRuntime) -> Result<(), Fail> {
     let alloc = rt.alloc();
     let open = "RequireLength { name: \"array\", found: Indefinite }";
-    reads::<Vec<Nothing>>(&rt, alloc, b"\x9f\x00", Err(open), b"\x00")?;
-    reads::<Vec<Nothing>>(&rt, alloc, b"\x9f\xff", Ok(Vec::new(alloc)), b"")?;
+    reads::<Vec<Nothing>>(alloc, b"\x9f\x00", Err(open), b"\x00")?;
+    reads::<Vec<Nothing>>(alloc, b"\x9f\xff", Ok(Vec::new(alloc)), b"")?;
     let three = vec![in alloc; Nothing, Nothing, Nothing]?;
-    reads(&rt, alloc, b"\x83", Ok(three), b"")?;
-    reads::<Vec<Option<Nothing>>>(&rt, alloc, b"\x9f\xf6\xff", Err(open), b"\xf6\xff")
+    reads(alloc, b"\x83", Ok(three), b"")?;
+    reads::<Vec<Option<Nothing>>>(alloc, b"\x9f\xf6\xff", Err(open), b"\xf6\xff")
 }
 
 #[test]
 fn a_step_for_each_array(rt: HostRuntime) -> Result<(), Fail> {
     let alloc = rt.alloc();
     let no_step = "DepthOverflow { name: \"array\" }";
-    reads_within::<Vec<u8>>(&rt, alloc, b"\x80", 0, &Err(no_step), b"\x80")?;
-    reads_within::<Vec<Vec<u8>>>(&rt, alloc, b"\x81\x80", 1, &Err(no_step), b"\x80")?;
+    reads_within::<Vec<u8>>(alloc, b"\x80", 0, &Err(no_step), b"\x80")?;
+    reads_within::<Vec<Vec<u8>>>(alloc, b"\x81\x80", 1, &Err(no_step), b"\x80")?;
+    reads_within::<Vec<Vec<u8>>>(alloc, b"\x9f\x80", 1, &Err(no_step), b"\x80")?;
+    reads_within::<Vec<Vec<u8>>>(alloc, b"", 0, &Err(no_step), b"")?;
+    reads_within(alloc, b"\x80", 1, &Ok(Vec::<Vec<u8>>::new(alloc)), b"")?;
     let one = vec![in alloc; Vec::<u8>::new(alloc)]?;
-    reads_within(&rt, alloc, b"\x81\x80", 2, &Ok(one), b"")
+    reads_within(alloc, b"\x81\x80", 2, &Ok(one), b"")?;
+    let first = vec![in alloc; 1u8]?;
+    let second = vec![in alloc; 2u8, 3]?;
+    let two = vec![in alloc; first, second]?;
+    reads_within(alloc, b"\x82\x81\x01\x9f\x02\x03\xff", 2, &Ok(two), b"")
 }
 
 fn texts(alloc: Global, texts: &[&str]) -> Result<Vec<String>, AllocError> {
@@ -69,10 +125,10 @@ fn texts(alloc: Global, texts: &[&str]) -> Result<Vec<String>, AllocError> {
 fn arrays_of_texts(rt: HostRuntime) -> Result<(), Fail> {
     let alloc = rt.alloc();
     let two = texts(alloc, &["", "a"])?;
-    reads(&rt, alloc, b"\x9f\x7f\xff\x61a\xff", Ok(two), b"")?;
+    reads(alloc, b"\x9f\x7f\xff\x61a\xff", Ok(two), b"")?;
     let bytes = b"\x9f\x7f\x61a\xff\xff";
     let one: Want<Vec<String>> = Ok(texts(alloc, &["a"])?);
-    reads_within(&rt, alloc, bytes, 2, &one, b"")?;
+    reads_within(alloc, bytes, 2, &one, b"")?;
     let no_step = "DepthOverflow { name: \"str\" }";
-    reads_within::<Vec<String>>(&rt, alloc, bytes, 1, &Err(no_step), b"\x61a\xff\xff")
+    reads_within::<Vec<String>>(alloc, bytes, 1, &Err(no_step), b"\x61a\xff\xff")
 }

@@ -1,8 +1,14 @@
 //! Readers for tests: a decoder has to answer alike over each of them.
-ghost use Rattle.std.specs.Prelude.{◌≡◌, None, Some};
+ghost use Rattle.std.specs.Prelude.{◌≡◌, ◌<◌, None, Some, IsTrue, take, true, false};
 ghost use Rattle.std.proofs.Common.{rules};
 ghost use Rattle.cbor4ii_rw.specs.Reader.{StepsIn};
-ghost use Rattle.cbor4ii_vectors.specs.Tells.{short_view, long_view, unlimited_view, failing_view, counting_view};
+ghost use Rattle.cbor4ii_trials.specs.Tells.{
+  short_view,
+  long_view,
+  unlimited_view,
+  failing_view,
+  counting_view,
+};
 
 use cbor4ii_rw::error::Never;
 use cbor4ii_rw::read::{Read, Reference, Source};
@@ -186,25 +192,47 @@ impl<'de> Read<'de> for Unlimited<'de> {
 #[derive(Clone, Copy, Debug, PartialEq, Eq)]
 pub struct Failure;
 
-/// Shows one byte at a time, as `ShortByByte` does, and fails from one show on.
+/// Fails at one show and goes on after it, so that a decoder which passes over a failure is found
+/// out.
 #[derive(Drop)]
-pub struct FailsInTime<'a> {
+pub struct FailingReader<'a> {
     bytes: &'a [u8],
     steps: usize,
+    is_whole: bool,
+    // How often it shows before it fails.
     shows: usize,
     failures: u64,
 }
 
-impl<'a> FailsInTime<'a> {
-    /// A reader over `bytes`, with `limit` steps, that shows so many times before it fails.
-    pub fn new(bytes: &'a [u8], limit: usize, shows: usize) -> FailsInTime<'a>
+impl<'a> FailingReader<'a> {
+    /// A reader with `limit` steps that shows one byte at a time, which does not outlive the fill,
+    /// and so many times before it fails.
+    pub fn by_byte(bytes: &'a [u8], limit: usize, shows: usize) -> FailingReader<'a>
         ensures told { (failing_view result).told ≡ Some bytes.now }
         ensures budget { (failing_view result).budget ≡ Some limit }
         ensures failures { (failing_view result).failures ≡ 0 }
     {
-        FailsInTime {
+        FailingReader {
             bytes,
             steps: limit,
+            is_whole: false,
+            shows,
+            failures: 0,
+        }
+    }
+
+    /// A reader with `limit` steps that shows all that is left, which lives as long as the input,
+    /// and so many times before it fails.
+    pub fn whole(bytes: &'a [u8], limit: usize, shows: usize) -> FailingReader<'a>
+        ensures told { (failing_view result).told ≡ Some bytes.now }
+        ensures budget { (failing_view result).budget ≡ Some limit }
+        ensures failures { (failing_view result).failures ≡ 0 }
+        ensures whole { IsTrue (failing_view result).lends_whole }
+    {
+        FailingReader {
+            bytes,
+            steps: limit,
+            is_whole: true,
             shows,
             failures: 0,
         }
@@ -217,7 +245,7 @@ impl<'a> FailsInTime<'a> {
         self.bytes
     }
 
-    /// How often it failed.
+    /// How often it failed: once at most.
     pub fn failures(&self) -> u64
         ensures { (failing_view self.now).failures ≡ result }
     {
@@ -230,20 +258,45 @@ impl<'a> FailsInTime<'a> {
     {
         self.steps
     }
+
+    /// Whether this is the show that fails, which is counted then.
+    fn fails(&mut self) -> bool
+        ensures bytes { self.new.bytes.now ≡ self.old.bytes.now }
+        ensures steps { self.new.steps ≡ self.old.steps }
+        ensures whole { self.new.is_whole ≡ self.old.is_whole }
+        ensures counted { IsTrue result → self.old.failures < self.new.failures }
+        ensures others { result ≡ false → self.new.failures ≡ self.old.failures }
+    {
+        if self.shows == 0 && self.failures == 0 {
+            self.failures = 1;
+            return true;
+        }
+        self.shows = self.shows.saturating_sub(1);
+        false
+    }
+
+    /// What it shows: all that is left, or one byte of it.
+    fn front(&self) -> &'a [u8]
+        ensures whole { IsTrue self.now.is_whole → result.now ≡ self.now.bytes.now }
+        ensures byte { self.now.is_whole ≡ false → result.now ≡ take 1 self.now.bytes.now }
+    {
+        if self.is_whole {
+            return self.bytes;
+        }
+        &self.bytes[..self.bytes.len().min(1)]
+    }
 }
 
-impl Source for FailsInTime<'_> {
+impl Source for FailingReader<'_> {
     type Error = Failure;
 
     ghost view = { failing_view };
 
     fn show(&mut self, _want: usize) -> Result<&[u8], Failure> {
-        if self.shows == 0 {
-            self.failures = self.failures.saturating_add(1);
+        if self.fails() {
             return Err(Failure);
         }
-        self.shows -= 1;
-        Ok(&self.bytes[..self.bytes.len().min(1)])
+        Ok(self.front())
     }
 
     fn advance(&mut self, n: usize) {
@@ -261,12 +314,15 @@ impl Source for FailsInTime<'_> {
     ghost told_within_bound = { λ reader xs is. Prim.search rules };
 }
 
-impl<'de> Read<'de> for FailsInTime<'de> {
-    fn fill<'short>(&'short mut self, want: usize) -> Result<Reference<'de, 'short>, Failure> {
-        match self.show(want) {
-            Ok(bytes) => Ok(Reference::Short(bytes)),
-            Err(error) => Err(error),
+impl<'de> Read<'de> for FailingReader<'de> {
+    fn fill<'short>(&'short mut self, _want: usize) -> Result<Reference<'de, 'short>, Failure> {
+        if self.fails() {
+            return Err(Failure);
         }
+        if self.is_whole {
+            return Ok(Reference::Long(self.front()));
+        }
+        Ok(Reference::Short(self.front()))
     }
 }
 

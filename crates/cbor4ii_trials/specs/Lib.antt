@@ -1,0 +1,2 @@
+-- What the readers and writers for tests tell.
+pub mod Tells

@@ -1,0 +1,502 @@
+//! How a row is tried: read over each reader, written, and with a fault at each place.
+//!
+//! What a row finds wrong is the failure of the test that tries it, and says of which bytes. Where
+//! memory is refused, the row says nothing, and that refusal is the test's failure.
+use crate::readers::{FailingReader, Failure, LongByByte, Unlimited};
+use crate::streams::{FailingSink, FailingStream};
+use crate::writers::{FailingWriter, PushLengths};
+use cbor4ii_items::decode::{Decode, Spelled};
+use cbor4ii_items::encode::Encode;
+use cbor4ii_rw::ask::look;
+use cbor4ii_rw::buf_writer::BufWriter;
+use cbor4ii_rw::error::{DecodeError, EncodeError, Never};
+use cbor4ii_rw::io_reader::IoReader;
+use cbor4ii_rw::io_writer::IoWriter;
+use cbor4ii_rw::read::Source;
+use cbor4ii_rw::segment_reader::SegmentReader;
+use cbor4ii_rw::slice_reader::SliceReader;
+use cbor4ii_rw::write::Write;
+use std::alloc::Global;
+use std::fmt::{Debug, InlineText};
+use std::io::ErrorKind;
+use std::test::Fail;
+
+/// What a row's bytes are read as: a value, or the text of the refusal.
+pub type Want<T> = Result<T, &'static str>;
+
+// The steps of a reader that is given no other limit.
+const STEPS: usize = 256;
+// No row takes more shows or pushes.
+const MOST_CALLS: usize = 700;
+
+/// What a row reads: a value, or what another call takes off a reader.
+pub trait ReadFrom<S: Source>: Sized {
+    /// Reads it off the front of what `reader` has left.
+    fn read_from(alloc: Global, reader: &mut S) -> Result<Self, DecodeError<S::Error>>;
+}
+
+impl<S: Source, T: Spelled + Decode<S>> ReadFrom<S> for T {
+    fn read_from(alloc: Global, reader: &mut S) -> Result<T, DecodeError<S::Error>> {
+        T::decode(alloc, reader)
+    }
+}
+
+/// One behind the other.
+#[derive(Debug, PartialEq, Drop)]
+pub struct Pair<A, B>(pub A, pub B);
+
+impl<S: Source, A: ReadFrom<S> + Drop, B: ReadFrom<S>> ReadFrom<S> for Pair<A, B> {
+    fn read_from(alloc: Global, reader: &mut S) -> Result<Pair<A, B>, DecodeError<S::Error>> {
+        let first = A::read_from(alloc, reader)?;
+        Ok(Pair(first, B::read_from(alloc, reader)?))
+    }
+}
+
+/// Reads the row's bytes over each reader: the same answer, and the same bytes left.
+pub fn reads<T>(alloc: Global, bytes: &'static [u8], want: Want<T>, rest: &[u8]) -> Result<(), Fail>
+where
+    T: ReadFrom<SliceReader<'static>>
+        + ReadFrom<SegmentReader<'static>>
+        + ReadFrom<LongByByte<'static>>
+        + ReadFrom<FailingReader<'static>>
+        + ReadFrom<IoReader<FailingStream<'static>>>
+        + ReadFrom<Unlimited<'static>>
+        + PartialEq
+        + Debug
+        + Drop,
+{
+    reads_within(alloc, bytes, STEPS, &want, rest)?;
+    reads_over(alloc, &mut Unlimited::new(bytes), bytes, &want, rest)
+}
+
+/// As `reads`, over each reader that counts its steps, with so many of them.
+pub fn reads_within<T>(
+    alloc: Global,
+    bytes: &'static [u8],
+    limit: usize,
+    want: &Want<T>,
+    rest: &[u8],
+) -> Result<(), Fail>
+where
+    T: ReadFrom<SliceReader<'static>>
+        + ReadFrom<SegmentReader<'static>>
+        + ReadFrom<LongByByte<'static>>
+        + ReadFrom<FailingReader<'static>>
+        + ReadFrom<IoReader<FailingStream<'static>>>
+        + PartialEq
+        + Debug
+        + Drop,
+{
+    reads_by_each(alloc, bytes, limit, want, rest)?;
+    reads_in_segments(alloc, bytes, limit, want, rest)?;
+    fails_at_each_show::<T>(alloc, bytes, limit)?;
+    fails_at_each_look::<T>(alloc, bytes, limit)
+}
+
+/// As `reads_within`, with no fault and not cut at each place: for rows of many bytes.
+pub fn reads_by_each<T>(
+    alloc: Global,
+    bytes: &'static [u8],
+    limit: usize,
+    want: &Want<T>,
+    rest: &[u8],
+) -> Result<(), Fail>
+where
+    T: ReadFrom<SliceReader<'static>>
+        + ReadFrom<LongByByte<'static>>
+        + ReadFrom<FailingReader<'static>>
+        + ReadFrom<IoReader<FailingStream<'static>>>
+        + PartialEq
+        + Debug
+        + Drop,
+{
+    let mut slice = SliceReader::with_limit(bytes, limit);
+    reads_over(alloc, &mut slice, bytes, want, rest)?;
+    let mut long = LongByByte::new(bytes, limit);
+    reads_over(alloc, &mut long, bytes, want, rest)?;
+    let mut short = FailingReader::by_byte(bytes, limit, usize::MAX);
+    reads_over(alloc, &mut short, bytes, want, rest)?;
+    let mut whole = FailingReader::whole(bytes, limit, usize::MAX);
+    reads_over(alloc, &mut whole, bytes, want, rest)?;
+    reads_of_streams(alloc, bytes, limit, want, rest)
+}
+
+// As `reads_within`, over streams that show one byte at a time, and all that is left.
+fn reads_of_streams<T>(
+    alloc: Global,
+    bytes: &'static [u8],
+    limit: usize,
+    want: &Want<T>,
+    rest: &[u8],
+) -> Result<(), Fail>
+where
+    T: ReadFrom<IoReader<FailingStream<'static>>> + PartialEq + Debug + Drop,
+{
+    for most in [1, usize::MAX] {
+        let stream = FailingStream::new(bytes, most, usize::MAX);
+        let mut reader = IoReader::with_limit(stream, limit);
+        reads_over(alloc, &mut reader, bytes, want, rest)?;
+    }
+    Ok(())
+}
+
+/// As `reads_within`, over two segments, for each place where the bytes can be cut.
+fn reads_in_segments<T>(
+    alloc: Global,
+    bytes: &'static [u8],
+    limit: usize,
+    want: &Want<T>,
+    rest: &[u8],
+) -> Result<(), Fail>
+where
+    T: ReadFrom<SegmentReader<'static>> + PartialEq + Debug + Drop,
+{
+    let mut cuts: Vec<[&'static [u8]; 2]> = Vec::with_capacity(alloc, bytes.len())?;
+    for place in 1..bytes.len() {
+        cuts.push([&bytes[..place], &bytes[place..]])?;
+    }
+    let cuts: &'static [[&'static [u8]; 2]] = cuts.leak();
+    for segments in cuts {
+        let mut reader = SegmentReader::with_limit(segments, limit);
+        reads_over(alloc, &mut reader, bytes, want, rest)?;
+    }
+    Ok(())
+}
+
+/// As `reads`, for a borrowed value over each reader that lends whole.
+pub fn lends<T>(alloc: Global, bytes: &'static [u8], want: Want<T>, rest: &[u8]) -> Result<(), Fail>
+where
+    T: ReadFrom<SliceReader<'static>>
+        + ReadFrom<Unlimited<'static>>
+        + ReadFrom<FailingReader<'static>>
+        + PartialEq
+        + Debug
+        + Drop,
+{
+    reads_over(alloc, &mut SliceReader::new(bytes), bytes, &want, rest)?;
+    reads_over(alloc, &mut Unlimited::new(bytes), bytes, &want, rest)?;
+    let mut whole = FailingReader::whole(bytes, STEPS, usize::MAX);
+    reads_over(alloc, &mut whole, bytes, &want, rest)?;
+    fails_at_each_show::<T>(alloc, bytes, STEPS)
+}
+
+/// As `reads`, for a borrowed value over each reader whose bytes do not outlive the fill.
+pub fn lends_short<T>(
+    alloc: Global,
+    bytes: &'static [u8],
+    want: Want<T>,
+    rest: &[u8],
+) -> Result<(), Fail>
+where
+    T: ReadFrom<FailingReader<'static>>
+        + ReadFrom<IoReader<FailingStream<'static>>>
+        + PartialEq
+        + Debug
+        + Drop,
+{
+    let mut short = FailingReader::by_byte(bytes, STEPS, usize::MAX);
+    reads_over(alloc, &mut short, bytes, &want, rest)?;
+    reads_of_streams(alloc, bytes, STEPS, &want, rest)
+}
+
+/// Reads over this reader, which holds `bytes`: the answer, the bytes left, and the steps as
+/// before.
+pub fn reads_over<T, S>(
+    alloc: Global,
+    reader: &mut S,
+    bytes: &[u8],
+    want: &Want<T>,
+    rest: &[u8],
+) -> Result<(), Fail>
+where
+    T: ReadFrom<S> + PartialEq + Debug + Drop,
+    S: Source,
+{
+    let budget = steps(reader);
+    let got = T::read_from(alloc, reader);
+    is_same(got, bytes, want)?;
+    if steps(reader) != budget {
+        return Err(Fail::new(format_args!("not {budget} steps after {bytes:?}")));
+    }
+    leaves(reader, bytes, rest)
+}
+
+/// Each proper front of the item is the end of the input, over each reader that counts its steps
+/// and does not fail: nothing is left, and the steps are as before.
+pub fn ends_at_each_front<T>(alloc: Global, item: &'static [u8], limit: usize) -> Result<(), Fail>
+where
+    T: ReadFrom<SliceReader<'static>>
+        + ReadFrom<LongByByte<'static>>
+        + ReadFrom<FailingReader<'static>>
+        + ReadFrom<IoReader<FailingStream<'static>>>
+        + PartialEq
+        + Debug
+        + Drop,
+{
+    for shown in 0..item.len() {
+        let front = &item[..shown];
+        ends::<T, _>(alloc, &mut SliceReader::with_limit(front, limit), front)?;
+        ends::<T, _>(alloc, &mut LongByByte::new(front, limit), front)?;
+        let mut short = FailingReader::by_byte(front, limit, usize::MAX);
+        ends::<T, _>(alloc, &mut short, front)?;
+        for most in [1, usize::MAX] {
+            let stream = FailingStream::new(front, most, usize::MAX);
+            ends::<T, _>(alloc, &mut IoReader::with_limit(stream, limit), front)?;
+        }
+    }
+    Ok(())
+}
+
+fn ends<T: ReadFrom<S> + Debug + Drop, S: Source>(
+    alloc: Global,
+    reader: &mut S,
+    front: &[u8],
+) -> Result<(), Fail> {
+    let budget = steps(reader);
+    let got = T::read_from(alloc, reader);
+    if matches!(got, Err(DecodeError::OutOfMemory)) {
+        return Err(Fail::from(DecodeError::<Never>::OutOfMemory));
+    }
+    if matches!(got, Err(DecodeError::Eof { .. })) && steps(reader) == budget {
+        return leaves(reader, front, b"");
+    }
+    Err(Fail::new(format_args!("{got:?} of the front {front:?}")))
+}
+
+/// Compares an answer.
+fn is_same<T: PartialEq + Debug + Drop, E: Debug + Drop>(
+    got: Result<T, DecodeError<E>>,
+    bytes: &[u8],
+    want: &Want<T>,
+) -> Result<(), Fail> {
+    let is_wanted = match (&got, want) {
+        (Ok(value), Ok(wanted)) => value == wanted,
+        (Err(DecodeError::OutOfMemory), _) => {
+            return Err(Fail::from(DecodeError::<Never>::OutOfMemory));
+        }
+        (Err(error), Err(text)) => InlineText::<128>::of(error).as_str() == *text,
+        _ => false,
+    };
+    if is_wanted {
+        return Ok(());
+    }
+    Err(Fail::new(format_args!("{got:?} in the place of {want:?} of {bytes:?}")))
+}
+
+/// Takes all that is left of the row's bytes: exactly `rest`, which is an end of them.
+pub fn leaves<S: Source>(reader: &mut S, bytes: &[u8], rest: &[u8]) -> Result<(), Fail> {
+    let mut is_left = bytes.ends_with(rest);
+    for byte in rest {
+        is_left = is_left && next_byte(reader) == Some(*byte);
+    }
+    if is_left && next_byte(reader).is_none() {
+        return Ok(());
+    }
+    Err(Fail::new(format_args!("not {rest:?} is left of {bytes:?}")))
+}
+
+fn next_byte<S: Source>(reader: &mut S) -> Option<u8> {
+    let mut failure = None;
+    let byte = match look(reader, 1, &mut failure) {
+        Some([first, ..]) => *first,
+        _ => return None,
+    };
+    reader.advance(1);
+    Some(byte)
+}
+
+/// How many steps the reader has left, counted up to 300.
+pub fn steps<S: Source>(reader: &mut S) -> u16 {
+    let mut taken: u16 = 0;
+    for _ in 0..300 {
+        if !reader.step_in() {
+            break;
+        }
+        taken = taken.saturating_add(1);
+    }
+    for _ in 0..taken {
+        reader.step_out();
+    }
+    taken
+}
+
+// Readers that fail at the first show, at the second, and so on until none is left to fail.
+fn fails_at_each_show<T: ReadFrom<FailingReader<'static>> + Debug + Drop>(
+    alloc: Global,
+    bytes: &'static [u8],
+    limit: usize,
+) -> Result<(), Fail> {
+    let mut by_byte = true;
+    let mut whole = true;
+    for shows in 0..MOST_CALLS {
+        by_byte = by_byte && fails::<T>(alloc, FailingReader::by_byte(bytes, limit, shows), bytes)?;
+        whole = whole && fails::<T>(alloc, FailingReader::whole(bytes, limit, shows), bytes)?;
+    }
+    if by_byte || whole {
+        return Err(Fail::new(format_args!("too many shows of {bytes:?}")));
+    }
+    Ok(())
+}
+
+// Whether the reader failed. Then the answer is its error. An end of the bytes is left, and the
+// budget is as before.
+fn fails<T: ReadFrom<FailingReader<'static>> + Debug + Drop>(
+    alloc: Global,
+    mut reader: FailingReader<'static>,
+    bytes: &[u8],
+) -> Result<bool, Fail> {
+    let limit = reader.steps();
+    let got = T::read_from(alloc, &mut reader);
+    let is_read = matches!(got, Err(DecodeError::Read(Failure)));
+    if is_read == (reader.failures() == 1)
+        && reader.steps() == limit
+        && bytes.ends_with(reader.remaining())
+    {
+        return Ok(is_read);
+    }
+    Err(Fail::new(format_args!("{got:?} where a show fails, of {bytes:?}")))
+}
+
+// A stream that fails at the first look, at the second, and so on until none is left to fail.
+fn fails_at_each_look<T: ReadFrom<IoReader<FailingStream<'static>>> + Debug + Drop>(
+    alloc: Global,
+    bytes: &'static [u8],
+    limit: usize,
+) -> Result<(), Fail> {
+    for looks in 0..MOST_CALLS {
+        if !fails_at_look::<T>(alloc, bytes, limit, looks)? {
+            return Ok(());
+        }
+    }
+    Err(Fail::new(format_args!("too many looks of {bytes:?}")))
+}
+
+// Whether the stream failed. Then the answer is its error. The budget is as before, and the reader
+// over it takes of the stream what it took, and no byte more.
+fn fails_at_look<T: ReadFrom<IoReader<FailingStream<'static>>> + Debug + Drop>(
+    alloc: Global,
+    bytes: &'static [u8],
+    limit: usize,
+    looks: usize,
+) -> Result<bool, Fail> {
+    let mut reader = IoReader::with_limit(FailingStream::new(bytes, 2, looks), limit);
+    let budget = steps(&mut reader);
+    let got = T::read_from(alloc, &mut reader);
+    let is_read = matches!(&got, Err(DecodeError::Read(error)) if error.kind() == ErrorKind::Other);
+    let is_kept = steps(&mut reader) == budget;
+    let taken = reader.taken() as usize;
+    let stream = reader.into_inner();
+    if is_kept && is_read == stream.has_failed() && bytes.get(taken..) == Some(stream.remaining()) {
+        return Ok(is_read);
+    }
+    Err(Fail::new(format_args!("{got:?} where look {looks} fails, of {bytes:?}")))
+}
+
+/// What a row writes: a value, or an item in parts.
+pub trait WriteTo {
+    /// Writes it behind what `writer` holds.
+    fn write_to<W: Write>(&self, writer: &mut W) -> Result<(), EncodeError<W::Error>>;
+}
+
+impl<T: Encode> WriteTo for T {
+    fn write_to<W: Write>(&self, writer: &mut W) -> Result<(), EncodeError<W::Error>> {
+        self.encode(writer)
+    }
+}
+
+/// Writes the value behind a byte that stands there, and with a fault at each push and at each
+/// byte. Answers how many pushes it takes.
+pub fn writes<T: WriteTo>(alloc: Global, value: &T, bytes: &[u8]) -> Result<usize, Fail> {
+    let mut writer = BufWriter::new(vec![in alloc; 0xff]?);
+    value.write_to(&mut writer)?;
+    is_written(writer.buffer().strip_prefix(b"\xff".as_slice()), bytes)?;
+    let mut pushes = PushLengths::new(alloc);
+    value.write_to(&mut pushes)?;
+    fails_at_each_push(alloc, value, bytes, pushes.lengths())?;
+    fails_at_each_byte(alloc, value, bytes)?;
+    Ok(pushes.lengths().len())
+}
+
+// Compares what a writer holds.
+fn is_written(held: Option<&[u8]>, wanted: &[u8]) -> Result<(), Fail> {
+    if held == Some(wanted) {
+        return Ok(());
+    }
+    Err(Fail::new(format_args!("{held:?} is written in the place of {wanted:?}")))
+}
+
+// A writer that fails at the first push, at the second, and so on: then the pushes before it are
+// held, and no other.
+fn fails_at_each_push<T: WriteTo>(
+    alloc: Global,
+    value: &T,
+    bytes: &[u8],
+    lengths: &[usize],
+) -> Result<(), Fail> {
+    let mut held: usize = 0;
+    for (push, length) in lengths.iter().enumerate() {
+        let mut writer = FailingWriter::new(Vec::with_capacity(alloc, bytes.len())?, push);
+        let got = value.write_to(&mut writer);
+        let is_told = matches!(got, Err(EncodeError::Write(Failure))) && writer.failures() == 1;
+        if !is_told || bytes.get(..held) != Some(writer.buffer()) {
+            return Err(Fail::new(format_args!("{got:?} where push {push} fails, of {bytes:?}")));
+        }
+        held = held.saturating_add(*length);
+    }
+    is_written(bytes.get(..held), bytes)
+}
+
+// A stream that fails at the first byte, at the second, and so on until none is left to fail.
+fn fails_at_each_byte<T: WriteTo>(alloc: Global, value: &T, bytes: &[u8]) -> Result<(), Fail> {
+    for room in 0..bytes.len() {
+        let sink = FailingSink::new(Vec::with_capacity(alloc, bytes.len())?, room);
+        let mut writer = IoWriter::new(sink);
+        let got = value.write_to(&mut writer);
+        let is_told =
+            matches!(&got, Err(EncodeError::Write(error)) if error.kind() == ErrorKind::Other);
+        if !is_told || bytes.get(..room) != Some(writer.into_inner().buffer()) {
+            return Err(Fail::new(format_args!("{got:?} where byte {room} fails, of {bytes:?}")));
+        }
+    }
+    let sink = FailingSink::new(Vec::with_capacity(alloc, bytes.len())?, bytes.len());
+    let mut writer = IoWriter::new(sink);
+    value.write_to(&mut writer)?;
+    is_written(Some(writer.into_inner().buffer()), bytes)
+}
+
+/// Writes the value as `writes` does, in so many pushes.
+pub fn writes_in<T: WriteTo>(
+    alloc: Global,
+    value: &T,
+    bytes: &[u8],
+    pushes: usize,
+) -> Result<(), Fail> {
+    let found = writes(alloc, value, bytes)?;
+    if found == pushes {
+        return Ok(());
+    }
+    Err(Fail::new(format_args!("{found} pushes of {bytes:?}")))
+}
+
+/// Writes the value in so many pushes, and reads it back from its bytes.
+pub fn goes_both_ways<T>(
+    alloc: Global,
+    value: T,
+    bytes: &'static [u8],
+    pushes: usize,
+) -> Result<(), Fail>
+where
+    T: WriteTo
+        + ReadFrom<SliceReader<'static>>
+        + ReadFrom<SegmentReader<'static>>
+        + ReadFrom<LongByByte<'static>>
+        + ReadFrom<FailingReader<'static>>
+        + ReadFrom<IoReader<FailingStream<'static>>>
+        + ReadFrom<Unlimited<'static>>
+        + PartialEq
+        + Debug
+        + Drop,
+{
+    writes_in(alloc, &value, bytes, pushes)?;
+    reads(alloc, bytes, Ok(value), b"")
+}

@@ -1,0 +1,99 @@
+//! What types say of themselves, and the laws.
+use cbor4ii_items::decode::{ArrayStart, Spelled};
+use cbor4ii_items::initial::{high, if_major, low};
+use cbor4ii_items::laws::{
+    arrays_are_read_back, integers_are_read_back, lengths_are_read_back, maps_are_read_back,
+    no_spelling_begins_another, parts_are_read_back, shortest_is_least,
+    simple_values_are_read_back, strings_are_read_back, what_is_written_is_decoded,
+};
+use cbor4ii_items::types::{Bytes, F16, Map, Maybe, Negative, Nothing, Simple, Tag, UncheckedStr};
+use cbor4ii_rw::error::Never;
+use cbor4ii_rw::slice_reader::SliceReader;
+use std::alloc::Global;
+use std::borrow::{CowSlice, CowStr};
+use std::test::Fail;
+
+// Nothing takes no byte, and what may be nothing alone may take none.
+#[test]
+fn types_that_always_read_a_byte(rt: HostRuntime) {
+    assert!(rt; !Nothing::is_never_empty());
+    assert!(rt; !<Option<Nothing>>::is_never_empty());
+    assert!(rt; !<Box<Nothing>>::is_never_empty());
+    let always = [
+        u8::is_never_empty(),
+        <Negative<u64>>::is_never_empty(),
+        i128::is_never_empty(),
+        <&str>::is_never_empty(),
+        String::is_never_empty(),
+        <CowStr<'static, Global>>::is_never_empty(),
+        Simple::is_never_empty(),
+        bool::is_never_empty(),
+        F16::is_never_empty(),
+        <Option<u8>>::is_never_empty(),
+        <Box<u8>>::is_never_empty(),
+        <Tag<Nothing>>::is_never_empty(),
+        <Maybe<Option<Nothing>>>::is_never_empty(),
+        <Vec<Nothing>>::is_never_empty(),
+        <Map<Vec<(Nothing, Nothing)>>>::is_never_empty(),
+    ];
+    assert_eq!(rt; always, [true; 15]);
+}
+
+#[test]
+fn types_that_borrow_nothing(rt: HostRuntime) {
+    let owned = [
+        u8::is_owned(),
+        i128::is_owned(),
+        String::is_owned(),
+        <Bytes<Vec<u8>>>::is_owned(),
+        <CowStr<'static, Global>>::is_owned(),
+        <Bytes<CowSlice<'static, u8, Global>>>::is_owned(),
+        bool::is_owned(),
+        Nothing::is_owned(),
+        <Vec<u8>>::is_owned(),
+        <Map<Vec<(u8, String)>>>::is_owned(),
+        <Tag<Option<i128>>>::is_owned(),
+        <Box<u8>>::is_owned(),
+    ];
+    assert_eq!(rt; owned, [true; 12]);
+    let borrowed = [
+        <&str>::is_owned(),
+        <Bytes<&[u8]>>::is_owned(),
+        <UncheckedStr<&[u8]>>::is_owned(),
+        <Vec<&str>>::is_owned(),
+        <Map<Vec<(u8, &str)>>>::is_owned(),
+        <Map<Vec<(&str, u8)>>>::is_owned(),
+        <Tag<&str>>::is_owned(),
+        <Option<&str>>::is_owned(),
+        <Maybe<Option<&str>>>::is_owned(),
+        <Box<&str>>::is_owned(),
+    ];
+    assert_eq!(rt; borrowed, [false; 10]);
+}
+
+#[test]
+fn parts_of_a_first_byte(rt: HostRuntime) {
+    assert_eq!(rt; if_major(0xd8), 6);
+    assert_eq!(rt; high(0xd8), 0xc0);
+    assert_eq!(rt; low(0xd8), 0x18);
+}
+
+#[test]
+fn beginnings_of_arrays_are_compared(rt: HostRuntime) {
+    assert!(rt; ArrayStart(Some(2)) != ArrayStart(None));
+    assert!(rt; ArrayStart(None) == ArrayStart(None));
+}
+
+#[test]
+fn laws_are_called(rt: HostRuntime) {
+    shortest_is_least();
+    integers_are_read_back();
+    strings_are_read_back::<u8>();
+    simple_values_are_read_back::<u8>();
+    lengths_are_read_back();
+    parts_are_read_back::<u8>();
+    arrays_are_read_back::<u8>();
+    maps_are_read_back::<u8, String>();
+    what_is_written_is_decoded::<SliceReader, Tag<u8>, Never>();
+    no_spelling_begins_another::<SliceReader, Tag<u8>>();
+}
