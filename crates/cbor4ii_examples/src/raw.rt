@@ -1,80 +1,251 @@
-//! Rows of items that are skipped, or kept as their bytes.
+//! Rows of items that are kept as their bytes: lent by the reader, or copied.
+use crate::literal::Literal::{Integer, Null};
+use crate::refusal_texts::{eof, no_step, require_borrowed};
+use crate::skipping::ITEMS;
 use cbor4ii_items::decode::Decode;
-use cbor4ii_items::encode::Encode;
 use cbor4ii_items::types::Map;
-use cbor4ii_rw::buf_writer::BufWriter;
-use cbor4ii_rw::error::{DecodeError, Len};
-use cbor4ii_rw::io_reader::IoReader;
+use cbor4ii_rw::error::DecodeError;
+use cbor4ii_rw::read::Source;
+use cbor4ii_rw::segment_reader::SegmentReader;
 use cbor4ii_rw::slice_reader::SliceReader;
-use cbor4ii_tree::{BoxedRawValue, IgnoredAny, RawValue};
+use cbor4ii_tree::boxed_raw::take_boxed;
+use cbor4ii_tree::lend_raw::LendRaw;
+use cbor4ii_tree::{BoxedRawValue, RawValue, Value};
+use cbor4ii_trials::readers::{LongByByte, ShortByByte};
+use cbor4ii_trials::rows::{ReadFrom, Want, lends, lends_short, reads_over, steps, writes_in};
+use std::alloc::Global;
+use std::marker::PhantomData;
 use std::test::Fail;
 
+const NOT_LENT: &str = require_borrowed!("raw-value");
+
+const CUT_OFF: &str = eof!("ignored-any", 1);
+
+const NO_STEP: &str = no_step!("ignored-any");
+
+// An item's bytes, copied off what a reader lends as a `T`.
+#[derive(Debug, PartialEq, Drop)]
+struct Copied<T> {
+    bytes: Vec<u8>,
+    of: PhantomData<T>,
+}
+
+impl<S: Source, T: LendRaw<S>> ReadFrom<S> for Copied<T> {
+    fn read_from(alloc: Global, reader: &mut S) -> Result<Copied<T>, DecodeError<S::Error>> {
+        let copy = take_boxed::<T, S>(alloc, reader)?;
+        match copy.as_bytes().to_vec(alloc) {
+            Ok(bytes) => Ok(Copied {
+                bytes,
+                of: PhantomData,
+            }),
+            Err(_) => Err(DecodeError::OutOfMemory),
+        }
+    }
+}
+
+type Lent = RawValue<'static>;
+
+// What a row wants of an item that is lent, and of one that is copied.
+fn both(
+    alloc: Global,
+    want: Want<&'static [u8]>,
+) -> Result<(Want<Lent>, Want<Copied<Lent>>), Fail> {
+    match want {
+        Ok(item) => {
+            let lent = RawValue::decode(alloc, &mut SliceReader::new(item))?;
+            let copied = Copied {
+                bytes: item.to_vec(alloc)?,
+                of: PhantomData,
+            };
+            Ok((Ok(lent), Ok(copied)))
+        }
+        Err(refusal) => Ok((Err(refusal), Err(refusal))),
+    }
+}
+
+// With a fault at each fill too.
+fn keeps(
+    alloc: Global,
+    bytes: &'static [u8],
+    want: Want<&'static [u8]>,
+    rest: &[u8],
+) -> Result<(), Fail> {
+    let (lent, copied) = both(alloc, want)?;
+    lends(alloc, bytes, lent, rest)?;
+    lends(alloc, bytes, copied, rest)
+}
+
 #[test]
-fn an_item_is_skipped(rt: HostRuntime) -> Result<(), Fail> {
-    let mut reader = SliceReader::new(b"\x5f\x80\xff\x01");
-    assert!(rt; IgnoredAny::decode(rt.alloc(), &mut reader)? == IgnoredAny);
-    assert_eq!(rt; reader.remaining(), b"\x01".as_slice());
+fn lent_and_copied(rt: HostRuntime) -> Result<(), Fail> {
+    let alloc = rt.alloc();
+    keeps(alloc, b"\x82\x01\x02\x03", Ok(b"\x82\x01\x02"), b"\x03")?;
+    keeps(alloc, b"\x82\x01", Err(CUT_OFF), b"\x82\x01")?;
+    keeps(alloc, b"", Err(CUT_OFF), b"")?;
+    for item in ITEMS {
+        keeps(alloc, item, Ok(item), b"")?;
+        let lent = RawValue::decode(alloc, &mut SliceReader::new(item))?;
+        assert_eq!(rt; lent.as_bytes(), *item);
+        let segments = [item, b"\x00".as_slice()];
+        let mut reader = SegmentReader::new(&segments);
+        reads_over(alloc, &mut reader, b"\x00", &Ok(lent), b"\x00")?;
+    }
     Ok(())
 }
 
 #[test]
-fn an_item_is_kept_as_its_bytes(rt: HostRuntime) -> Result<(), Fail> {
+fn within_a_limit(rt: HostRuntime) -> Result<(), Fail> {
+    let alloc = rt.alloc();
+    let (lent, copied) = both(alloc, Ok(b"\x81\x00"))?;
+    let mut reader = SliceReader::with_limit(b"\x81\x00", 2);
+    reads_over(alloc, &mut reader, b"\x81\x00", &lent, b"")?;
+    let mut reader = SliceReader::with_limit(b"\x81\x00", 2);
+    reads_over(alloc, &mut reader, b"\x81\x00", &copied, b"")
+}
+
+// A front of an item that ends too early is the end of the input, and nothing moves.
+#[test]
+fn fronts_of_items(rt: HostRuntime) {
+    for item in ITEMS {
+        for shown in 0..item.len() {
+            let front = &item[..shown];
+            let mut reader = SliceReader::new(front);
+            let got = RawValue::decode(rt.alloc(), &mut reader);
+            assert!(rt;
+                matches!(got, Err(DecodeError::Eof { .. })),
+                "{got:?} of {front:?}"
+            );
+            assert_eq!(rt; reader.remaining(), front);
+        }
+    }
+}
+
+// Bytes that do not live as long as the input are refused, and before any step.
+#[test]
+fn short_bytes(rt: HostRuntime) -> Result<(), Fail> {
+    let alloc = rt.alloc();
+    lends_short::<Lent>(alloc, b"\x00", Err(NOT_LENT), b"\x00")?;
+    lends_short::<Copied<Lent>>(alloc, b"\x00", Err(NOT_LENT), b"\x00")?;
+    lends_short::<Lent>(alloc, b"", Err(CUT_OFF), b"")?;
+    lends_short::<Copied<Lent>>(alloc, b"", Err(CUT_OFF), b"")?;
+    let want: Want<Lent> = Err(NOT_LENT);
+    let mut reader = ShortByByte::new(b"\x00", 0);
+    reads_over(alloc, &mut reader, b"\x00", &want, b"\x00")
+}
+
+const BY_BYTE: &[(&[u8], usize, Want<&[u8]>, &[u8])] = &[
+    (b"\x00", 1, Ok(b"\x00"), b""),
+    (b"\x00", 0, Err(NO_STEP), b"\x00"),
+    (b"\x82\x01\x02", 256, Err(CUT_OFF), b"\x82\x01\x02"),
+    (b"", 256, Err(CUT_OFF), b""),
+];
+
+#[test]
+fn one_byte_at_a_time(rt: HostRuntime) -> Result<(), Fail> {
+    let alloc = rt.alloc();
+    for &(bytes, limit, want, rest) in BY_BYTE {
+        let (lent, copied) = both(alloc, want)?;
+        let mut reader = LongByByte::new(bytes, limit);
+        reads_over(alloc, &mut reader, bytes, &lent, rest)?;
+        let mut reader = LongByByte::new(bytes, limit);
+        reads_over(alloc, &mut reader, bytes, &copied, rest)?;
+    }
+    Ok(())
+}
+
+const IN_SEGMENTS: &[(&[&[u8]], Want<&[u8]>, &[u8])] = &[
+    (&[b"\x82\x01\x02", b"\x03"], Ok(b"\x82\x01\x02"), b"\x03"),
+    (
+        &[b"\x82\x01", b"\x02\x03"],
+        Err(CUT_OFF),
+        b"\x82\x01\x02\x03",
+    ),
+];
+
+#[test]
+fn items_in_segments(rt: HostRuntime) -> Result<(), Fail> {
+    let alloc = rt.alloc();
+    let bytes = b"\x82\x01\x02\x03";
+    for &(segments, want, rest) in IN_SEGMENTS {
+        let (lent, copied) = both(alloc, want)?;
+        reads_over(alloc, &mut SegmentReader::new(segments), bytes, &lent, rest)?;
+        reads_over(
+            alloc,
+            &mut SegmentReader::new(segments),
+            bytes,
+            &copied,
+            rest,
+        )?;
+    }
+    Ok(())
+}
+
+// Each is written again in one push.
+#[test]
+fn written_again(rt: HostRuntime) -> Result<(), Fail> {
+    let alloc = rt.alloc();
+    let null = BoxedRawValue::decode(alloc, &mut SliceReader::new(b"\xf6"))?;
+    for item in ITEMS {
+        let lent = RawValue::decode(alloc, &mut SliceReader::new(item))?;
+        writes_in(alloc, &lent, item, 1)?;
+        let copy = BoxedRawValue::decode(alloc, &mut SliceReader::new(item))?;
+        writes_in(alloc, &copy, item, 1)?;
+        assert_eq!(rt; copy.as_bytes(), *item);
+        assert!(rt; copy.try_clone()? == copy);
+        assert!(rt; copy != null);
+    }
+    Ok(())
+}
+
+// {"bar": {"value": 0x99}}, of which the item under "bar" is kept.
+const MAP: &[u8] = b"\xa1\x63bar\xa1\x65value\x18\x99";
+
+const ITEM: &[u8] = b"\xa1\x65value\x18\x99";
+
+#[test]
+fn items_under_a_key(rt: HostRuntime) -> Result<(), Fail> {
+    let alloc = rt.alloc();
+    let lent = <Map<Vec<(String, RawValue)>>>::decode(alloc, &mut SliceReader::new(MAP))?;
+    let [(key, raw)] = lent.0.as_slice() else {
+        return Err(Fail::from("not one pair"));
+    };
+    assert_eq!(rt; raw.as_bytes(), ITEM);
+    writes_in(alloc, &Map([(key.as_str(), *raw)].as_slice()), MAP, 4)?;
+    let owned = <Map<Vec<(String, BoxedRawValue)>>>::decode(alloc, &mut SliceReader::new(MAP))?;
+    let [(_, copy)] = owned.0.as_slice() else {
+        return Err(Fail::from("not one pair"));
+    };
+    assert_eq!(rt; copy.as_bytes(), ITEM);
+    let value = Value::decode(alloc, &mut SliceReader::new(copy.as_bytes()))?;
+    assert!(rt; BoxedRawValue::from_value(alloc, &value)? == *copy);
+    Ok(())
+}
+
+#[test]
+fn copies_of_values(rt: HostRuntime) -> Result<(), Fail> {
+    let alloc = rt.alloc();
+    let raw = BoxedRawValue::from_value(alloc, &Null.to_value(alloc)?)?;
+    assert_eq!(rt; raw.as_bytes(), b"\xf6".as_slice());
+    let value = Integer(18446744073709551616).to_value(alloc)?;
+    let raw = BoxedRawValue::from_value(alloc, &value)?;
+    assert_eq!(rt;
+        raw.as_bytes(),
+        b"\xc2\x49\x01\x00\x00\x00\x00\x00\x00\x00\x00".as_slice()
+    );
+    Ok(())
+}
+
+// Where there is no memory for the copy, the item was taken.
+#[test]
+fn no_memory_for_a_copy(rt: HostRuntime) -> Result<(), Fail> {
     let alloc = rt.alloc();
     let mut reader = SliceReader::new(b"\x82\x01\x02\x03");
-    let raw = RawValue::decode(alloc, &mut reader)?;
-    assert_eq!(rt; raw.as_bytes(), b"\x82\x01\x02".as_slice());
+    let got = BoxedRawValue::decode(alloc, &mut reader);
     assert_eq!(rt; reader.remaining(), b"\x03".as_slice());
-    let mut writer = BufWriter::new(Vec::new(alloc));
-    raw.encode(&mut writer)?;
-    assert_eq!(rt; writer.buffer(), b"\x82\x01\x02".as_slice());
-    Ok(())
-}
-
-#[test]
-fn a_refused_item_moves_nothing(rt: HostRuntime) -> Result<(), Fail> {
-    let mut reader = SliceReader::new(b"\x5b\xff\xff\xff\xff\xff\xff\xff\xff\x00");
-    match RawValue::decode(rt.alloc(), &mut reader) {
-        Err(DecodeError::Eof { name, expect }) => {
-            assert_eq!(rt; name, "ignored-any");
-            assert!(rt; expect == Len::Big);
-        }
-        _ => assert!(rt; false),
-    }
-    assert_eq!(rt; reader.remaining().len(), 10);
-    Ok(())
-}
-
-#[test]
-fn a_stream_lends_no_item(rt: HostRuntime) -> Result<(), Fail> {
-    let mut reader = IoReader::new(b"\x00".as_slice());
-    match RawValue::decode(rt.alloc(), &mut reader) {
-        Err(DecodeError::RequireBorrowed { name }) => assert_eq!(rt; name, "raw-value"),
-        _ => assert!(rt; false),
-    }
-    Ok(())
-}
-
-#[test]
-fn an_item_is_copied(rt: HostRuntime) -> Result<(), Fail> {
-    let alloc = rt.alloc();
-    let mut reader = SliceReader::new(b"\xa1\x01\x02\x03");
-    let copy = BoxedRawValue::decode(alloc, &mut reader)?;
-    assert_eq!(rt; copy.as_bytes(), b"\xa1\x01\x02".as_slice());
-    assert!(rt; copy.try_clone()? == copy);
-    Ok(())
-}
-
-#[test]
-fn an_item_is_kept_in_a_map(rt: HostRuntime) -> Result<(), Fail> {
-    let alloc = rt.alloc();
-    let bytes = b"\xa1\x63bar\xa1\x65value\x18\x99";
-    let mut reader = SliceReader::new(bytes);
-    let map = <Map<Vec<(String, RawValue)>>>::decode(alloc, &mut reader)?;
-    assert_eq!(rt; map.0.len(), 1);
-    assert_eq!(rt; map.0[0].1.as_bytes(), b"\xa1\x65value\x18\x99".as_slice());
-    let mut reader = SliceReader::new(bytes);
-    let map = <Map<Vec<(String, BoxedRawValue)>>>::decode(alloc, &mut reader)?;
-    assert_eq!(rt; map.0.len(), 1);
-    assert_eq!(rt; map.0[0].1.as_bytes(), b"\xa1\x65value\x18\x99".as_slice());
+    assert_eq!(rt; steps(&mut reader), 256);
+    let copy = got?;
+    assert_eq!(rt; copy.as_bytes(), b"\x82\x01\x02".as_slice());
+    let again = copy.try_clone();
+    assert_eq!(rt; copy.as_bytes(), b"\x82\x01\x02".as_slice());
+    assert_eq!(rt; again?.as_bytes(), copy.as_bytes());
     Ok(())
 }

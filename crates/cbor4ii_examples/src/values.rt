@@ -1,75 +1,402 @@
-//! Rows of values: how they are compared and copied.
-use cbor4ii_tree::{FloatBits, NoMemory, Value};
+//! Rows of values: read, written, copied and compared.
+use crate::item_rows::reads_item;
+use crate::literal::Literal::{self, Array, Bool, Bytes, Float, Integer, Map, Null, Tag, Text};
+use crate::refusal_texts::eof;
+use crate::table::table;
+use cbor4ii_items::encode::Encode;
+use cbor4ii_rw::segment_reader::SegmentReader;
+use cbor4ii_tree::FloatBits::{F16, F32, F64};
+use cbor4ii_tree::{NoMemory, Value};
+use cbor4ii_trials::readers::Unlimited;
+use cbor4ii_trials::rows::{Pair, Want, reads, reads_over, writes, writes_in};
+use cbor4ii_trials::writers::FailingWriter;
 use std::alloc::{AllocError, Global};
 use std::test::Fail;
 
-/// `{3: "é", 1: [bytes, null]}` under tag 40, with a float and a flag: each kind of value once.
-fn every_kind(alloc: Global) -> Result<Value, AllocError> {
-    let mut items = Vec::new(alloc);
-    items.push(Value::Bytes(Vec::from_slice(alloc, b"\x00\xff".as_slice())?))?;
-    items.push(Value::Null)?;
-    items.push(Value::Float(FloatBits::F64(0x7ff8_0000_0000_0000)))?;
-    let mut members = Vec::new(alloc);
-    members.push((
-        Value::Integer(3),
-        Value::Text(String::from_str(alloc, "é")?),
-    ))?;
-    members.push((Value::Integer(1), Value::Array(items)))?;
-    members.push((Value::Bool(true), Value::Integer(-18446744073709551616)))?;
-    Ok(Value::Tag(40, Box::new(alloc, Value::Map(members))?))
-}
+// 1 to 25, and its bytes: counted, and up to a break.
+const ONE_TO_25: Literal = Array(table! {
+    Integer(1), Integer(2), Integer(3), Integer(4), Integer(5), Integer(6), Integer(7), Integer(8),
+    Integer(9), Integer(10), Integer(11), Integer(12), Integer(13), Integer(14), Integer(15),
+    Integer(16), Integer(17), Integer(18), Integer(19), Integer(20), Integer(21), Integer(22),
+    Integer(23), Integer(24), Integer(25),
+});
 
-fn array_of(alloc: Global, numbers: &[i128]) -> Result<Value, AllocError> {
-    let mut items = Vec::new(alloc);
-    for number in numbers {
-        items.push(Value::Integer(*number))?;
-    }
-    Ok(Value::Array(items))
-}
+const COUNTED: &[u8] = b"\x98\x19\x01\x02\x03\x04\x05\x06\x07\x08\x09\x0a\x0b\x0c\x0d\
+    \x0e\x0f\x10\x11\x12\x13\x14\x15\x16\x17\x18\x18\x18\x19";
 
-fn map_of(alloc: Global, pairs: &[(i128, i128)]) -> Result<Value, AllocError> {
-    let mut members = Vec::new(alloc);
-    for pair in pairs {
-        members.push((Value::Integer(pair.0), Value::Integer(pair.1)))?;
-    }
-    Ok(Value::Map(members))
-}
+const OPEN: &[u8] = b"\x9f\x01\x02\x03\x04\x05\x06\x07\x08\x09\x0a\x0b\x0c\x0d\
+    \x0e\x0f\x10\x11\x12\x13\x14\x15\x16\x17\x18\x18\x18\x19\xff";
+
+// Numbers, floats and simple values, as they are read and as they are written.
+const LEAVES: &[(&[u8], Literal)] = table! {
+    (b"\x00", Integer(0)),
+    (b"\x01", Integer(1)),
+    (b"\x0a", Integer(10)),
+    (b"\x17", Integer(23)),
+    (b"\x18\x18", Integer(24)),
+    (b"\x18\x19", Integer(25)),
+    (b"\x18\x64", Integer(100)),
+    (b"\x18\xff", Integer(255)),
+    (b"\x19\x01\x00", Integer(256)),
+    (b"\x19\x03\xe8", Integer(1000)),
+    (b"\x19\xff\xff", Integer(65535)),
+    (b"\x1a\x00\x01\x00\x00", Integer(65536)),
+    (b"\x1a\x00\x0f\x42\x40", Integer(1000000)),
+    (b"\x1a\xff\xff\xff\xff", Integer(4294967295)),
+    (b"\x1b\x00\x00\x00\x01\x00\x00\x00\x00", Integer(4294967296)),
+    (b"\x1b\x00\x00\x00\xe8\xd4\xa5\x10\x00", Integer(1000000000000)),
+    (b"\x1b\xff\xff\xff\xff\xff\xff\xff\xff", Integer(18446744073709551615)),
+    (b"\x20", Integer(-1)),
+    (b"\x29", Integer(-10)),
+    (b"\x37", Integer(-24)),
+    (b"\x38\x18", Integer(-25)),
+    (b"\x38\x63", Integer(-100)),
+    (b"\x38\xff", Integer(-256)),
+    (b"\x39\x01\x00", Integer(-257)),
+    (b"\x39\x03\xe7", Integer(-1000)),
+    (b"\x39\xff\xff", Integer(-65536)),
+    (b"\x3a\x00\x01\x00\x00", Integer(-65537)),
+    (b"\x3a\xff\xff\xff\xff", Integer(-4294967296)),
+    (b"\x3b\x00\x00\x00\x01\x00\x00\x00\x00", Integer(-4294967297)),
+    (b"\x3b\xff\xff\xff\xff\xff\xff\xff\xff", Integer(-18446744073709551616)),
+    (b"\xf9\x00\x00", Float(F16(0x0000))),
+    (b"\xf9\x80\x00", Float(F16(0x8000))),
+    (b"\xf9\x3c\x00", Float(F16(0x3c00))),
+    (b"\xfb\x3f\xf1\x99\x99\x99\x99\x99\x9a", Float(F64(0x3ff1_9999_9999_999a))),
+    (b"\xf9\x3e\x00", Float(F16(0x3e00))),
+    (b"\xf9\x7b\xff", Float(F16(0x7bff))),
+    (b"\xfa\x47\xc3\x50\x00", Float(F32(0x47c3_5000))),
+    (b"\xfa\x7f\x7f\xff\xff", Float(F32(0x7f7f_ffff))),
+    (b"\xfb\x7e\x37\xe4\x3c\x88\x00\x75\x9c", Float(F64(0x7e37_e43c_8800_759c))),
+    (b"\xf9\x00\x01", Float(F16(0x0001))),
+    (b"\xf9\x04\x00", Float(F16(0x0400))),
+    (b"\xf9\xc4\x00", Float(F16(0xc400))),
+    (b"\xfb\xc0\x10\x66\x66\x66\x66\x66\x66", Float(F64(0xc010_6666_6666_6666))),
+    (b"\xf9\x7c\x00", Float(F16(0x7c00))),
+    (b"\xf9\x7e\x00", Float(F16(0x7e00))),
+    (b"\xf9\xfc\x00", Float(F16(0xfc00))),
+    (b"\xfa\x7f\x80\x00\x00", Float(F32(0x7f80_0000))),
+    (b"\xfa\x7f\xc0\x00\x00", Float(F32(0x7fc0_0000))),
+    (b"\xfa\xff\x80\x00\x00", Float(F32(0xff80_0000))),
+    (b"\xfb\x7f\xf0\x00\x00\x00\x00\x00\x00", Float(F64(0x7ff0_0000_0000_0000))),
+    (b"\xfb\x7f\xf8\x00\x00\x00\x00\x00\x00", Float(F64(0x7ff8_0000_0000_0000))),
+    (b"\xfb\xff\xf0\x00\x00\x00\x00\x00\x00", Float(F64(0xfff0_0000_0000_0000))),
+    (b"\xf9\x4a\x00", Float(F16(0x4a00))),
+    (b"\xf4", Bool(false)),
+    (b"\xf5", Bool(true)),
+    (b"\xf6", Null),
+};
+
+// Strings, arrays, maps and tags, as they are read and as they are written.
+const SEQUENCES: &[(&[u8], Literal)] = table! {
+    (b"\x40", Bytes(b"")),
+    (b"\x44\x01\x02\x03\x04", Bytes(b"\x01\x02\x03\x04")),
+    (b"\x60", Text("")),
+    (b"\x61a", Text("a")),
+    (b"\x64IETF", Text("IETF")),
+    (b"\x62\x22\x5c", Text("\"\\")),
+    (b"\x62\xc3\xbc", Text("\u{fc}")),
+    (b"\x63\xe6\xb0\xb4", Text("\u{6c34}")),
+    (b"\x64\xf0\x90\x85\x91", Text("\u{10151}")),
+    (b"\x80", Array(&[])),
+    (b"\x83\x01\x02\x03", Array(&[Integer(1), Integer(2), Integer(3)])),
+    (b"\x83\x01\x82\x02\x03\x82\x04\x05", NESTED),
+    (COUNTED, ONE_TO_25),
+    (b"\xa0", Map(&[])),
+    (b"\xa2\x01\x02\x03\x04", Map(&[(Integer(1), Integer(2)), (Integer(3), Integer(4))])),
+    (b"\xa2\x61a\x01\x61b\x82\x02\x03", LETTERS),
+    (b"\x82\x61a\xa1\x61b\x61c", LETTERS_IN_ARRAY),
+    (b"\xa5\x61a\x61A\x61b\x61B\x61c\x61C\x61d\x61D\x61e\x61E", CAPITALS),
+    // Equal keys are kept, and the order too.
+    (b"\xa2\x01\x02\x01\x03", Map(&[(Integer(1), Integer(2)), (Integer(1), Integer(3))])),
+    (b"\xa2\x03\x00\x01\x00", Map(&[(Integer(3), Integer(0)), (Integer(1), Integer(0))])),
+    (b"\xa1\x61a\xf4", Map(&[(Text("a"), Bool(false))])),
+    (b"\xc0\x742013-03-21T20:04:00Z", Tag(0, &Text("2013-03-21T20:04:00Z"))),
+    (b"\xc1\x1a\x51\x4b\x67\xb0", Tag(1, &Integer(1363896240))),
+    (b"\xc1\xfb\x41\xd4\x52\xd9\xec\x20\x00\x00", Tag(1, &Float(F64(0x41d4_52d9_ec20_0000)))),
+    (b"\xd7\x44\x01\x02\x03\x04", Tag(23, &Bytes(b"\x01\x02\x03\x04"))),
+    (b"\xd8\x18\x45dIETF", Tag(24, &Bytes(b"dIETF"))),
+    (b"\xd8\x20\x76http://www.example.com", Tag(32, &Text("http://www.example.com"))),
+    (b"\xdb\xff\xff\xff\xff\xff\xff\xff\xfe\x6bhello world",
+        Tag(18446744073709551614, &Text("hello world"))),
+    // Bignums stay tags (RFC 8949 section 3.4.3).
+    (b"\xc2\x49\x01\x00\x00\x00\x00\x00\x00\x00\x00",
+        Tag(2, &Bytes(b"\x01\x00\x00\x00\x00\x00\x00\x00\x00"))),
+    (b"\xc3\x49\x01\x00\x00\x00\x00\x00\x00\x00\x00",
+        Tag(3, &Bytes(b"\x01\x00\x00\x00\x00\x00\x00\x00\x00"))),
+    (b"\xc2\x42\x00\x05", Tag(2, &Bytes(b"\x00\x05"))),
+};
+
+// [1, [2, 3], [4, 5]]
+const NESTED: Literal = Array(&[
+    Integer(1),
+    Array(&[Integer(2), Integer(3)]),
+    Array(&[Integer(4), Integer(5)]),
+]);
+
+// ["a", {"b": "c"}]
+const LETTERS_IN_ARRAY: Literal = Array(&[Text("a"), Map(&[(Text("b"), Text("c"))])]);
+
+// {"a": "A", .. "e": "E"}
+const CAPITALS: Literal = Map(table! {
+    (Text("a"), Text("A")),
+    (Text("b"), Text("B")),
+    (Text("c"), Text("C")),
+    (Text("d"), Text("D")),
+    (Text("e"), Text("E")),
+});
+
+// {"a": 1, "b": [2, 3]}
+const LETTERS: Literal = Map(&[
+    (Text("a"), Integer(1)),
+    (Text("b"), Array(&[Integer(2), Integer(3)])),
+]);
+
+// Items that are spelled otherwise than they are written: what is read, what it is, and what is
+// written.
+const SPELLINGS: &[(&[u8], Literal, &[u8])] = table! {
+    (b"\x18\x05", Integer(5), b"\x05"),
+    (b"\x19\x00\x05", Integer(5), b"\x05"),
+    (b"\x1a\x00\x00\x00\x05", Integer(5), b"\x05"),
+    (b"\x1b\x00\x00\x00\x00\x00\x00\x00\x05", Integer(5), b"\x05"),
+    (b"\x38\x00", Integer(-1), b"\x20"),
+    (b"\x3a\x00\x00\x01\x00", Integer(-257), b"\x39\x01\x00"),
+    (b"\x3b\x00\x00\x00\x00\x00\x00\x00\x17", Integer(-24), b"\x37"),
+    (b"\xf7", Null, b"\xf6"),
+    (b"\x59\x00\x01\x61", Bytes(b"a"), b"\x41a"),
+    (b"\x78\x01\x61", Text("a"), b"\x61a"),
+    (b"\x98\x00", Array(&[]), b"\x80"),
+    (b"\x99\x00\x01\x05", Array(&[Integer(5)]), b"\x81\x05"),
+    (b"\xbb\x00\x00\x00\x00\x00\x00\x00\x01\x01\x02", Map(&[(Integer(1), Integer(2))]),
+        b"\xa1\x01\x02"),
+    (b"\xdb\x00\x00\x00\x00\x00\x00\x00\x2a\x00", Tag(42, &Integer(0)), b"\xd8\x2a\x00"),
+    (b"\xd8\x02\x41\x05", Tag(2, &Bytes(b"\x05")), b"\xc2\x41\x05"),
+    (b"\x5f\xff", Bytes(b""), b"\x40"),
+    (b"\x7f\xff", Text(""), b"\x60"),
+    (b"\x5f\x42\x01\x02\x43\x03\x04\x05\xff", Bytes(b"\x01\x02\x03\x04\x05"),
+        b"\x45\x01\x02\x03\x04\x05"),
+    (b"\x5f\x59\x00\x00\x58\x01\x05\xff", Bytes(b"\x05"), b"\x41\x05"),
+    (b"\x7f\x65strea\x64ming\xff", Text("streaming"), b"\x69streaming"),
+    // A character may stand across two chunks: the chunks are joined before the test for UTF-8.
+    (b"\x7f\x61\xc3\x61\xa9\xff", Text("\u{e9}"), b"\x62\xc3\xa9"),
+    (b"\x7f\x61\xc3\x60\x61\xa9\xff", Text("\u{e9}"), b"\x62\xc3\xa9"),
+    (b"\x9f\xff", Array(&[]), b"\x80"),
+    (b"\x9f\x01\x82\x02\x03\x9f\x04\x05\xff\xff", NESTED, b"\x83\x01\x82\x02\x03\x82\x04\x05"),
+    (b"\x9f\x01\x82\x02\x03\x82\x04\x05\xff", NESTED, b"\x83\x01\x82\x02\x03\x82\x04\x05"),
+    (b"\x83\x01\x82\x02\x03\x9f\x04\x05\xff", NESTED, b"\x83\x01\x82\x02\x03\x82\x04\x05"),
+    (b"\x83\x01\x9f\x02\x03\xff\x82\x04\x05", NESTED, b"\x83\x01\x82\x02\x03\x82\x04\x05"),
+    (OPEN, ONE_TO_25, COUNTED),
+    (b"\xbf\xff", Map(&[]), b"\xa0"),
+    (b"\xbf\x61a\x01\x61b\x9f\x02\x03\xff\xff", LETTERS, b"\xa2\x61a\x01\x61b\x82\x02\x03"),
+    (b"\x82\x61a\xbf\x61b\x61c\xff", LETTERS_IN_ARRAY, b"\x82\x61a\xa1\x61b\x61c"),
+    (b"\xbf\x63Fun\xf5\x63Amt\x21\xff",
+        Map(&[(Text("Fun"), Bool(true)), (Text("Amt"), Integer(-2))]),
+        b"\xa2\x63Fun\xf5\x63Amt\x21"),
+    (b"\x9f\x7f\xff\x61a\xff", Array(&[Text(""), Text("a")]), b"\x82\x60\x61a"),
+    (b"\x82\x7f\xff\x61a", Array(&[Text(""), Text("a")]), b"\x82\x60\x61a"),
+    (b"\xa1\x7f\x61k\xff\x01", Map(&[(Text("k"), Integer(1))]), b"\xa1\x61k\x01"),
+    (b"\x9f\x5f\x41\x01\xff\x41\x02\xff", Array(&[Bytes(b"\x01"), Bytes(b"\x02")]),
+        b"\x82\x41\x01\x41\x02"),
+};
+
+// Integers beyond 64 bits: what is written, and what that is read as.
+const BIGNUMS: &[(Literal, &[u8], Literal)] = table! {
+    (Integer(18446744073709551616), b"\xc2\x49\x01\x00\x00\x00\x00\x00\x00\x00\x00",
+        Tag(2, &Bytes(b"\x01\x00\x00\x00\x00\x00\x00\x00\x00"))),
+    (Integer(18446744073709551714), b"\xc2\x49\x01\x00\x00\x00\x00\x00\x00\x00\x62",
+        Tag(2, &Bytes(b"\x01\x00\x00\x00\x00\x00\x00\x00\x62"))),
+    (Integer(-18446744073709551617), b"\xc3\x49\x01\x00\x00\x00\x00\x00\x00\x00\x00",
+        Tag(3, &Bytes(b"\x01\x00\x00\x00\x00\x00\x00\x00\x00"))),
+    (Integer(i128::MAX),
+        b"\xc2\x50\x7f\xff\xff\xff\xff\xff\xff\xff\xff\xff\xff\xff\xff\xff\xff\xff",
+        Tag(2, &Bytes(b"\x7f\xff\xff\xff\xff\xff\xff\xff\xff\xff\xff\xff\xff\xff\xff\xff"))),
+    (Integer(i128::MIN),
+        b"\xc3\x50\x7f\xff\xff\xff\xff\xff\xff\xff\xff\xff\xff\xff\xff\xff\xff\xff",
+        Tag(3, &Bytes(b"\x7f\xff\xff\xff\xff\xff\xff\xff\xff\xff\xff\xff\xff\xff\xff\xff"))),
+};
+
+// What each push of a value has: a head, a string's content, or a float.
+const PUSHES: &[(Literal, &[&[u8]])] = table! {
+    (Null, &[b"\xf6"]),
+    (Bool(true), &[b"\xf5"]),
+    (Integer(1000), &[b"\x19\x03\xe8"]),
+    (Integer(-18446744073709551616), &[b"\x3b\xff\xff\xff\xff\xff\xff\xff\xff"]),
+    (Text("ab"), &[b"\x62", b"ab"]),
+    (Bytes(b""), &[b"\x40", b""]),
+    (Tag(1, &Integer(0)), &[b"\xc1", b"\x00"]),
+    (Float(F64(0x3ff1_9999_9999_999a)), &[b"\xfb\x3f\xf1\x99\x99\x99\x99\x99\x9a"]),
+    (Array(&[Float(F16(0x3c00))]), &[b"\x81", b"\xf9\x3c\x00"]),
+    (Map(&[(Text("a"), Integer(1))]), &[b"\xa1", b"\x61", b"a", b"\x01"]),
+};
+
+// What is read with no more than so many steps.
+const WITHIN: &[(&[u8], usize, Literal)] = table! {
+    (b"\x00", 1, Integer(0)),
+    (b"\x3b\xff\xff\xff\xff\xff\xff\xff\xff", 1, Integer(-18446744073709551616)),
+    (b"\x63\xe2\x82\xac", 1, Text("\u{20ac}")),
+    (b"\x5f\xff", 1, Bytes(b"")),
+    (b"\x7f\xff", 1, Text("")),
+    (b"\x5f\x40\xff", 2, Bytes(b"")),
+    (b"\x7f\x61\x61\xff", 2, Text("a")),
+    (b"\x7f\x61\xc3\x60\x61\xa9\xff", 2, Text("\u{e9}")),
+    (b"\x80", 2, Array(&[])),
+    (b"\x98\x00", 2, Array(&[])),
+    (b"\x9f\xff", 2, Array(&[])),
+    (b"\x9f\x00\xff", 3, Array(&[Integer(0)])),
+    (b"\x81\x80", 4, Array(&[Array(&[])])),
+    (b"\xa1\x00\x00", 3, Map(&[(Integer(0), Integer(0))])),
+    (b"\xbf\x00\x01\xff", 3, Map(&[(Integer(0), Integer(1))])),
+    (b"\xc1\x00", 2, Tag(1, &Integer(0))),
+    (b"\xc1\xc1\x00", 3, Tag(1, &Tag(1, &Integer(0)))),
+};
+
+// No two are equal: floats are compared as bits with their width, and arrays and maps in order.
+const DIFFERENT: &[Literal] = table! {
+    Null,
+    Bool(false),
+    Bool(true),
+    Integer(0),
+    Integer(-1),
+    Integer(18446744073709551616),
+    Float(F16(0)),
+    Float(F32(0)),
+    Float(F64(0)),
+    Float(F32(0x8000_0000)),
+    Float(F16(0x7e00)),
+    Bytes(b""),
+    Bytes(b"a"),
+    Text(""),
+    Text("a"),
+    Array(&[]),
+    Array(&[Integer(1), Integer(2)]),
+    Array(&[Integer(2), Integer(1)]),
+    Array(&[Integer(1), Integer(2), Integer(3)]),
+    Map(&[]),
+    Map(&[(Integer(1), Integer(2)), (Integer(3), Integer(4))]),
+    Map(&[(Integer(3), Integer(4)), (Integer(1), Integer(2))]),
+    Map(&[(Integer(1), Integer(2)), (Integer(3), Integer(5))]),
+    Map(&[(Integer(1), Integer(2))]),
+    Tag(0, &Null),
+    Tag(1, &Null),
+    Tag(1, &Bool(false)),
+};
 
 #[test]
-fn a_copy_is_made_and_equals_its_value(rt: HostRuntime) -> Result<(), Fail> {
-    let value = every_kind(rt.alloc())?;
-    let copy = value.try_clone()?;
-    assert!(rt; copy == value);
-    assert!(rt; copy != Value::Null);
-    Ok(())
-}
-
-#[test]
-fn floats_are_compared_as_bits_with_their_width(rt: HostRuntime) {
-    let half = FloatBits::F16(0);
-    let single = FloatBits::F32(0);
-    assert!(rt; half != single);
-    assert!(rt; Value::Float(half) != Value::Float(single));
-    assert!(rt; Value::Float(single) != Value::Float(FloatBits::F32(0x8000_0000)));
-    let nan = Value::Float(FloatBits::F16(0x7e00));
-    assert!(rt; nan == Value::Float(FloatBits::F16(0x7e00)));
-}
-
-#[test]
-fn arrays_and_maps_are_compared_in_order(rt: HostRuntime) -> Result<(), Fail> {
+fn items_as_they_are_written(rt: HostRuntime) -> Result<(), Fail> {
     let alloc = rt.alloc();
-    let short = array_of(alloc, &[1, 2])?;
-    let long = array_of(alloc, &[1, 2, 3])?;
-    assert!(rt; short != long);
-    assert!(rt; long == array_of(alloc, &[1, 2, 3])?);
-    let map = map_of(alloc, &[(1, 2), (3, 4)])?;
-    assert!(rt; map != map_of(alloc, &[(3, 4), (1, 2)])?);
-    assert!(rt; map != map_of(alloc, &[(1, 2), (3, 5)])?);
-    assert!(rt; map == map_of(alloc, &[(1, 2), (3, 4)])?);
+    for (item, literal) in LEAVES.iter().chain(SEQUENCES) {
+        reads_and_writes(alloc, item, literal, item)?;
+    }
     Ok(())
 }
 
 #[test]
-fn want_of_memory_is_one_value(rt: HostRuntime) {
+fn other_spellings(rt: HostRuntime) -> Result<(), Fail> {
+    let alloc = rt.alloc();
+    for (item, literal, written) in SPELLINGS {
+        reads_and_writes(alloc, item, literal, written)?;
+    }
+    Ok(())
+}
+
+#[test]
+fn bignums(rt: HostRuntime) -> Result<(), Fail> {
+    let alloc = rt.alloc();
+    for (literal, written, read_back) in BIGNUMS {
+        writes(alloc, &literal.to_value(alloc)?, written)?;
+        reads_and_writes(alloc, written, read_back, written)?;
+    }
+    Ok(())
+}
+
+// The item is read as this value, also with no limit, and the value is written as these bytes.
+fn reads_and_writes(
+    alloc: Global,
+    item: &'static [u8],
+    literal: &Literal,
+    written: &[u8],
+) -> Result<(), Fail> {
+    reads_item(alloc, item, 256, literal)?;
+    let value = literal.to_value(alloc)?;
+    writes(alloc, &value, written)?;
+    reads_over(alloc, &mut Unlimited::new(item), item, &Ok(value), b"")
+}
+
+#[test]
+fn within_a_limit(rt: HostRuntime) -> Result<(), Fail> {
+    let alloc = rt.alloc();
+    for (item, limit, literal) in WITHIN {
+        reads_item(alloc, item, *limit, literal)?;
+    }
+    Ok(())
+}
+
+// A writer that fails at a push holds the pushes before it.
+#[test]
+fn pushes(rt: HostRuntime) -> Result<(), Fail> {
+    let alloc = rt.alloc();
+    for (literal, pushes) in PUSHES {
+        let value = literal.to_value(alloc)?;
+        let mut held = Vec::new(alloc);
+        for (taken, push) in pushes.iter().enumerate() {
+            let mut writer = FailingWriter::new(Vec::with_capacity(alloc, 16)?, taken);
+            assert!(rt;
+                value.encode(&mut writer).is_err(),
+                "push {taken} of {value:?}"
+            );
+            assert_eq!(rt;
+                writer.buffer(),
+                held.as_slice(),
+                "push {taken} of {value:?}"
+            );
+            held.extend_from_slice(push)?;
+        }
+        writes_in(alloc, &value, &held, pushes.len())?;
+    }
+    Ok(())
+}
+
+#[test]
+fn equal_and_different_values(rt: HostRuntime) -> Result<(), Fail> {
+    let alloc = rt.alloc();
+    for (i, left) in DIFFERENT.iter().enumerate() {
+        let left = left.to_value(alloc)?;
+        assert!(rt; left.try_clone()? == left, "the copy of {left:?}");
+        for (j, right) in DIFFERENT.iter().enumerate() {
+            let right = right.to_value(alloc)?;
+            assert_eq!(rt; left == right, i == j, "{left:?} and {right:?}");
+        }
+    }
     assert!(rt; NoMemory::from(AllocError) == NoMemory);
+    Ok(())
+}
+
+type Four = Pair<Pair<Value, Value>, Pair<Value, Value>>;
+
+// [1, 2], null, (_ h'01') and 3.
+fn four(alloc: Global) -> Result<Four, AllocError> {
+    let array = Value::Array(vec![in alloc; Value::Integer(1), Value::Integer(2)]?);
+    let bytes = Value::Bytes(vec![in alloc; 1]?);
+    Ok(Pair(Pair(array, Value::Null), Pair(bytes, Value::Integer(3))))
+}
+
+#[test]
+fn one_after_another(rt: HostRuntime) -> Result<(), Fail> {
+    let alloc = rt.alloc();
+    let bytes = b"\x82\x01\x02\xf6\x5f\x41\x01\xff\x18\x03";
+    reads(alloc, bytes, Ok(four(alloc)?), b"")?;
+    let segments: [&[u8]; 4] = [b"\x82\x01", b"\x02\xf6\x5f", b"", b"\x41\x01\xff\x18\x03"];
+    let mut reader = SegmentReader::new(&segments);
+    reads_over(alloc, &mut reader, bytes, &Ok(four(alloc)?), b"")
+}
+
+#[test]
+fn no_segment_and_empty_ones(rt: HostRuntime) -> Result<(), Fail> {
+    let want: Want<Value> = Err(eof!("value", 1));
+    let rows: [&[&[u8]]; 2] = [&[], &[b"", b""]];
+    for segments in rows {
+        let mut reader = SegmentReader::new(segments);
+        reads_over(rt.alloc(), &mut reader, b"", &want, b"")?;
+    }
+    Ok(())
 }

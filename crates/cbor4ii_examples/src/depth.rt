@@ -1,0 +1,96 @@
+//! Rows of items that are nested deep: each level takes steps of the reader, and has to give them
+//! back.
+use crate::refusal_texts::no_step;
+use crate::table::table;
+use cbor4ii_rw::slice_reader::SliceReader;
+use cbor4ii_tree::{IgnoredAny, RawValue, Value};
+use cbor4ii_trials::readers::Unlimited;
+use cbor4ii_trials::rows::{Pair, Want, reads_by_each, reads_over};
+use std::alloc::{AllocError, Global};
+use std::test::Fail;
+
+const NO_STEP: &str = no_step!("ignored-any");
+
+// So many heads, and what stands behind them: the refusal of a value, how many bytes it leaves, and
+// how many are left where skipping is refused.
+const REFUSED: &[(u8, usize, &[u8], &str, usize, Option<usize>)] = table! {
+    (0x81, 128, b"\x80", no_step!("value"), 1, None),
+    (0x81, 255, b"\x80", no_step!("value"), 128, None),
+    (0x81, 256, b"\x80", no_step!("value"), 129, Some(1)),
+    (0x81, 256, b"\x00", no_step!("value"), 129, Some(1)),
+    (0x81, 10000, b"", no_step!("value"), 9872, Some(9744)),
+    (0x9f, 10000, b"", no_step!("value"), 9872, Some(9744)),
+    (0xc1, 255, b"\x80", no_step!("array"), 1, None),
+    (0xc1, 255, b"\x7f\x61\x61\xff", no_step!("str"), 3, Some(3)),
+    (0xc1, 256, b"\x00", no_step!("value"), 1, Some(1)),
+};
+
+// A head so many times, and then an item. The bytes stay for good.
+fn nested(alloc: Global, head: u8, count: usize, item: &[u8]) -> Result<&'static [u8], AllocError> {
+    let mut bytes = vec![in alloc; head; count]?;
+    bytes.extend_from_slice(item)?;
+    Ok(bytes.leak())
+}
+
+// An empty array, in so many arrays of one item.
+fn arrays(alloc: Global, count: usize) -> Result<Value, AllocError> {
+    let mut value = Value::Array(Vec::new(alloc));
+    for _ in 0..count {
+        value = Value::Array(vec![in alloc; value]?);
+    }
+    Ok(value)
+}
+
+// 0, under tag 1 so many times.
+fn tags(alloc: Global, count: usize) -> Result<Value, AllocError> {
+    let mut value = Value::Integer(0);
+    for _ in 0..count {
+        value = Value::Tag(1, Box::new(alloc, value)?);
+    }
+    Ok(value)
+}
+
+#[test]
+fn refused(rt: HostRuntime) -> Result<(), Fail> {
+    let alloc = rt.alloc();
+    for (head, count, item, read, left, skipped) in REFUSED {
+        let bytes = nested(alloc, *head, *count, item)?;
+        let rest = bytes
+            .get(bytes.len().saturating_sub(*left)..)
+            .ok_or("no rest")?;
+        reads_by_each::<Value>(alloc, bytes, 256, &Err(*read), rest)?;
+        match skipped {
+            None => reads_by_each(alloc, bytes, 256, &Ok(IgnoredAny), b"")?,
+            Some(left) => {
+                let rest = bytes
+                    .get(bytes.len().saturating_sub(*left)..)
+                    .ok_or("no rest")?;
+                reads_by_each::<IgnoredAny>(alloc, bytes, 256, &Err(NO_STEP), rest)?;
+                let mut slice = SliceReader::new(bytes);
+                let want: Want<RawValue> = Err(NO_STEP);
+                reads_over(alloc, &mut slice, bytes, &want, bytes)?;
+            }
+        }
+    }
+    Ok(())
+}
+
+#[test]
+fn all_steps_taken(rt: HostRuntime) -> Result<(), Fail> {
+    let alloc = rt.alloc();
+    let bytes = nested(alloc, 0x81, 127, b"\x80")?;
+    reads_by_each(alloc, bytes, 256, &Ok(arrays(alloc, 127)?), b"")?;
+    let bytes = nested(alloc, 0xc1, 255, b"\x00")?;
+    reads_by_each(alloc, bytes, 256, &Ok(tags(alloc, 255)?), b"")?;
+    reads_by_each(alloc, bytes, 256, &Ok(IgnoredAny), b"")
+}
+
+// 500 arrays and one that is empty, and then 0 and null.
+#[test]
+fn greatest_limit_and_none(rt: HostRuntime) -> Result<(), Fail> {
+    let alloc = rt.alloc();
+    let bytes = nested(alloc, 0x81, 500, b"\x80\x00\xf6")?;
+    let want = Ok(Pair(arrays(alloc, 500)?, Pair(Value::Integer(0), Value::Null)));
+    reads_by_each(alloc, bytes, usize::MAX, &want, b"")?;
+    reads_over(alloc, &mut Unlimited::new(bytes), bytes, &want, b"")
+}

@@ -1,0 +1,34 @@
+//! How an item is tried that is accepted: read, skipped, and cut off.
+use crate::literal::Literal;
+use cbor4ii_rw::slice_reader::SliceReader;
+use cbor4ii_tree::{IgnoredAny, Value};
+use cbor4ii_trials::readers::Unlimited;
+use cbor4ii_trials::rows::{Want, ends_at_each_front, reads_over, reads_within};
+use std::alloc::Global;
+use std::test::Fail;
+
+/// The item is read as this value with so many steps, and as a copy of it, and it is skipped. Each
+/// proper front of it is the end of the input.
+pub fn reads_item(
+    alloc: Global,
+    item: &'static [u8],
+    limit: usize,
+    literal: &Literal,
+) -> Result<(), Fail> {
+    let value = literal.to_value(alloc)?;
+    let copy: Want<Value> = Ok(value.try_clone()?);
+    let mut slice = SliceReader::with_limit(item, limit);
+    reads_over(alloc, &mut slice, item, &copy, b"")?;
+    reads_within(alloc, item, limit, &Ok(value), b"")?;
+    ends_at_each_front::<Value>(alloc, item, limit)?;
+    skips_item(alloc, item, limit)
+}
+
+/// The item is skipped with so many steps, and with no limit. Each proper front of it is the end of
+/// the input.
+pub fn skips_item(alloc: Global, item: &'static [u8], limit: usize) -> Result<(), Fail> {
+    reads_within(alloc, item, limit, &Ok(IgnoredAny), b"")?;
+    let mut unlimited = Unlimited::new(item);
+    reads_over(alloc, &mut unlimited, item, &Ok(IgnoredAny), b"")?;
+    ends_at_each_front::<IgnoredAny>(alloc, item, limit)
+}

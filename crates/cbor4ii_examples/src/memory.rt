@@ -1,0 +1,110 @@
+//! Values decoded where memory is refused, and where there are more items than room is made for.
+//!
+//! In each test the decoder is the first that takes memory. Where a growth is refused, the steps
+//! are as before and an end of the bytes is left, and the test ends with that refusal.
+use crate::literal::Literal::{self, Array, Bytes, Integer, Map, Null, Tag, Text};
+use cbor4ii_items::decode::Decode;
+use cbor4ii_rw::error::{DecodeError, Never};
+use cbor4ii_rw::slice_reader::SliceReader;
+use cbor4ii_tree::Value;
+use cbor4ii_trials::readers::ShortByByte;
+use cbor4ii_trials::rows::steps;
+use std::alloc::Global;
+use std::test::Fail;
+
+// All the bytes as one value, from a slice or one at a time.
+fn decoded(alloc: Global, bytes: &[u8], is_by_byte: bool) -> Result<Value, Fail> {
+    let mut slice = SliceReader::new(bytes);
+    let mut short = ShortByByte::new(bytes, 256);
+    let (got, rest, left) = if is_by_byte {
+        let got = Value::decode(alloc, &mut short);
+        (got, short.remaining(), steps(&mut short))
+    } else {
+        let got = Value::decode(alloc, &mut slice);
+        (got, slice.remaining(), steps(&mut slice))
+    };
+    let is_kept = left == 256 && bytes.ends_with(rest);
+    match got {
+        Ok(value) if is_kept && rest.is_empty() => Ok(value),
+        Err(DecodeError::OutOfMemory) if is_kept => {
+            Err(Fail::from(DecodeError::<Never>::OutOfMemory))
+        }
+        got => Err(Fail::new(format_args!("{left} steps, and {got:?}"))),
+    }
+}
+
+// Each kind of value that takes memory: {_ "abc": [_ (_ 0102, 030405), 1(null)], 24("x"): {0: []}}
+const BYTES: &[u8] =
+    b"\xbf\x63abc\x9f\x5f\x42\x01\x02\x43\x03\x04\x05\xff\xc1\xf6\xff\xd8\x18\x61x\xa1\x00\x80\xff";
+
+const MEANT: Literal = Map(&[
+    (
+        Text("abc"),
+        Array(&[Bytes(b"\x01\x02\x03\x04\x05"), Tag(1, &Null)]),
+    ),
+    (Tag(24, &Text("x")), Map(&[(Integer(0), Array(&[]))])),
+]);
+
+#[test]
+fn each_kind(rt: HostRuntime) -> Result<(), Fail> {
+    let alloc = rt.alloc();
+    for is_by_byte in [false, true] {
+        let value = decoded(alloc, BYTES, is_by_byte)?;
+        assert_eq!(rt; value, MEANT.to_value(alloc)?);
+    }
+    Ok(())
+}
+
+// Whether it is 300 numbers 5, or 300 pairs of them.
+fn is_fives(value: &Value) -> bool {
+    match value {
+        Value::Array(items) => {
+            items.len() == 300 && items.iter().all(|item| *item == Value::Integer(5))
+        }
+        Value::Map(pairs) => {
+            let five = (Value::Integer(5), Value::Integer(5));
+            pairs.len() == 300 && pairs.iter().all(|pair| *pair == five)
+        }
+        _ => false,
+    }
+}
+
+// More parts than are reserved before any came: 99 01 2c is the head of an array of 300 items, and
+// b9 01 2c that of a map of 300 pairs.
+#[test]
+fn arrays_and_maps(rt: HostRuntime) -> Result<(), Fail> {
+    let rows: [(&[u8], usize, &[u8]); 4] = [
+        (b"\x99\x01\x2c", 300, b""),
+        (b"\x9f", 300, b"\xff"),
+        (b"\xb9\x01\x2c", 600, b""),
+        (b"\xbf", 600, b"\xff"),
+    ];
+    for (head, fives, end) in rows {
+        let mut bytes = [0x05; 603];
+        bytes[..head.len()].copy_from_slice(head);
+        let len = head.len() + fives;
+        bytes[len..len + end.len()].copy_from_slice(end);
+        for is_by_byte in [false, true] {
+            let value = decoded(rt.alloc(), &bytes[..len + end.len()], is_by_byte)?;
+            assert!(rt; is_fives(&value), "{value:?}");
+        }
+    }
+    Ok(())
+}
+
+// 20,000 bytes, more than are reserved before any came: 59 4e 20 and 79 4e 20 are their heads.
+#[test]
+fn strings(rt: HostRuntime) -> Result<(), Fail> {
+    let mut bytes = [b'a'; 20003];
+    bytes[..3].copy_from_slice(b"\x59\x4e\x20");
+    match decoded(rt.alloc(), &bytes, true)? {
+        Value::Bytes(content) => assert!(rt; content.as_slice() == [b'a'; 20000].as_slice()),
+        value => assert!(rt; false, "{value:?}"),
+    }
+    bytes[..3].copy_from_slice(b"\x79\x4e\x20");
+    match decoded(rt.alloc(), &bytes, true)? {
+        Value::Text(text) => assert!(rt; text.as_bytes() == [b'a'; 20000].as_slice()),
+        value => assert!(rt; false, "{value:?}"),
+    }
+    Ok(())
+}

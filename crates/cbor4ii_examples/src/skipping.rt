@@ -1,0 +1,171 @@
+//! Rows of items that are skipped.
+use crate::item_rows::skips_item;
+use crate::refusal_texts::{eof, unsupported};
+use crate::table::table;
+use cbor4ii_items::decode::Decode;
+use cbor4ii_rw::io_reader::IoReader;
+use cbor4ii_rw::segment_reader::SegmentReader;
+use cbor4ii_rw::slice_reader::SliceReader;
+use cbor4ii_tree::IgnoredAny;
+use cbor4ii_trials::readers::{Counting, LongByByte, ShortByByte, Unlimited};
+use cbor4ii_trials::rows::{Want, leaves, reads, reads_over};
+use std::alloc::Global;
+use std::test::Fail;
+
+// Items that are skipped, most of which are no values.
+pub const ITEMS: &[&[u8]] = table! {
+    b"\x00",
+    b"\x63\xff\xff\xff",
+    b"\x5f\xff",
+    b"\x5f\x80\xff",
+    b"\x5f\x00\x40\xff",
+    b"\x5f\x41\x01\x61\x62\xff",
+    b"\x5f\x7f\xff\xff",
+    b"\x7f\x5f\xff\xff",
+    b"\x7f\x61\xc3\xff",
+    b"\x5f\xa1\x00\x00\xff",
+    b"\x9f\x5f\x80\xff\xff",
+    b"\x9f\x62\xff\xff\x00\xff",
+    b"\x9f\xf5\xf4\xff",
+    b"\x84\x00\xf4\x60\xa0",
+    b"\xbf\x00\x00\x00\x00\xff",
+    b"\xbf\x61\xff\x81\x00\xff",
+    // Each kind of item of one byte, at both ends of it.
+    b"\x8d\x00\x17\x20\x37\x40\x60\x80\xa0\xf4\xf5\xf6\xf7\x00",
+    b"\xa6\x00\x17\x20\x37\x40\x60\x80\xa0\xf4\xf5\xf6\xf7",
+    // Items of more bytes between those of one.
+    b"\x87\x00\x18\x05\x00\x38\x05\x41\x00\x00\x81\x00",
+    b"\x9f\x00\x00\x61\x00\x00\xc1\x00\xf9\x00\x00\x00\xff",
+    b"\xdb\xff\xff\xff\xff\xff\xff\xff\xfe\x6bhello world",
+};
+
+// Items that are skipped, with bytes behind them that are left.
+const FOLLOWED: &[(&[u8], &[u8])] = table! {
+    (b"\x84\x00\xf4\x60\xa0\x00", b"\x00"),
+    (b"\xbf\x00\x00\x00\x00\xff\x00", b"\x00"),
+    (b"\x82\x00\x00\x00\x00", b"\x00\x00"),
+    (b"\xa1\x00\x00\x00\x00", b"\x00\x00"),
+    (b"\x80\x00", b"\x00"),
+    (b"\xa0\x00", b"\x00"),
+    (b"\x5f\x00\xff\x00", b"\x00"),
+    (b"\x82\x81\x00\x00\x00", b"\x00"),
+    (b"\xc1\x00\x00", b"\x00"),
+};
+
+#[test]
+fn items(rt: HostRuntime) -> Result<(), Fail> {
+    let alloc = rt.alloc();
+    for item in ITEMS {
+        skips_item(alloc, item, 256)?;
+    }
+    for (bytes, rest) in FOLLOWED {
+        reads(alloc, bytes, Ok(IgnoredAny), rest)?;
+    }
+    Ok(())
+}
+
+// What is skipped with no more than so many steps.
+const WITHIN: &[(&[u8], usize)] = table! {
+    (b"\x00", 1),
+    (b"\x61\xc3", 1),
+    (b"\x5f\xff", 1),
+    (b"\x80", 1),
+    (b"\xa0", 1),
+    (b"\x9f\xff", 1),
+    (b"\xbf\xff", 1),
+    (b"\x5f\x00\xff", 2),
+    (b"\x81\x00", 2),
+    (b"\x82\x00\x00", 2),
+    (b"\xa1\x00\x00", 2),
+    (b"\x9f\x00\x00\xff", 2),
+    (b"\xbf\x00\x01\xff", 2),
+    (b"\xc1\x00", 2),
+    (b"\x82\x81\x00\x00", 3),
+    (b"\x9f\x00\x5f\x00\xff\xff", 3),
+};
+
+#[test]
+fn within_a_limit(rt: HostRuntime) -> Result<(), Fail> {
+    let alloc = rt.alloc();
+    for (item, limit) in WITHIN {
+        skips_item(alloc, item, *limit)?;
+    }
+    Ok(())
+}
+
+// Zeros behind a head and before an end: the answer of skipping, and what is left.
+const ZEROS: &[(&[u8], usize, &[u8], Want<IgnoredAny>, &[u8])] = table! {
+    // Arrays of 200 and of 300 items, counted and open, and open strings.
+    (b"\x98\xc8", 200, b"", Ok(IgnoredAny), b""),
+    (b"\x98\xc8", 200, b"\x00", Ok(IgnoredAny), b"\x00"),
+    (b"\x99\x01\x2c", 300, b"", Ok(IgnoredAny), b""),
+    (b"\x99\x01\x2c", 300, b"\x00\x00", Ok(IgnoredAny), b"\x00\x00"),
+    (b"\x9f", 300, b"\xff", Ok(IgnoredAny), b""),
+    (b"\x9f", 300, b"\xff\x00", Ok(IgnoredAny), b"\x00"),
+    (b"\x5f", 300, b"\xff\x00", Ok(IgnoredAny), b"\x00"),
+    // Maps of 300 pairs, counted and open.
+    (b"\xb9\x01\x2c", 600, b"", Ok(IgnoredAny), b""),
+    (b"\xb9\x01\x2c", 600, b"\x00", Ok(IgnoredAny), b"\x00"),
+    (b"\xbf", 600, b"\xff\x00", Ok(IgnoredAny), b"\x00"),
+    // A key with no value behind it.
+    (b"\xbf", 601, b"\xff", Err(unsupported!("ignored-any", 0xff)), b"\xff"),
+    (b"\xbf", 255, b"\xff", Err(unsupported!("ignored-any", 0xff)), b"\xff"),
+    (b"\xb9\x01\x2c", 599, b"", Err(eof!("ignored-any", 1)), b""),
+    // Fewer items than the count.
+    (b"\x99\x01\x2c", 299, b"", Err(eof!("ignored-any", 1)), b""),
+    (b"\x9b\xff\xff\xff\xff\xff\xff\xff\xff", 300, b"", Err(eof!("ignored-any", 1)), b""),
+    (b"\xbb\xff\xff\xff\xff\xff\xff\xff\xff", 300, b"", Err(eof!("ignored-any", 1)), b""),
+    (b"\x9f", 300, b"", Err(eof!("break", 1)), b""),
+    // What is refused stands behind many that are skipped.
+    (b"\x9f", 300, b"\xf3\xff", Err(unsupported!("ignored-any", 0xf3)), b"\xf3\xff"),
+    (b"\x99\x01\x2c", 298, b"\xff\x00", Err(unsupported!("ignored-any", 0xff)), b"\xff\x00"),
+};
+
+#[test]
+fn many_items(rt: HostRuntime) -> Result<(), Fail> {
+    let alloc = rt.alloc();
+    for (head, count, end, want, rest) in ZEROS {
+        let mut bytes = head.to_vec(alloc)?;
+        let zeros = vec![in alloc; 0x00u8; *count]?;
+        bytes.extend_from_slice(&zeros)?;
+        bytes.extend_from_slice(end)?;
+        skips_many(alloc, &bytes, want, rest)?;
+    }
+    Ok(())
+}
+
+// Over each reader that has 256 steps or no limit, and in two segments, cut near either end of what
+// is asked for at once.
+fn skips_many(
+    alloc: Global,
+    bytes: &[u8],
+    want: &Want<IgnoredAny>,
+    rest: &[u8],
+) -> Result<(), Fail> {
+    reads_over(alloc, &mut SliceReader::new(bytes), bytes, want, rest)?;
+    reads_over(alloc, &mut ShortByByte::new(bytes, 256), bytes, want, rest)?;
+    reads_over(alloc, &mut LongByByte::new(bytes, 256), bytes, want, rest)?;
+    reads_over(alloc, &mut IoReader::new(bytes), bytes, want, rest)?;
+    reads_over(alloc, &mut Unlimited::new(bytes), bytes, want, rest)?;
+    for cut in [1, 2, 3, 4, 255, 256, 257, 258, 259, 260] {
+        let (Some(front), Some(back)) = (bytes.get(..cut), bytes.get(cut..)) else {
+            continue;
+        };
+        let segments = [front, back];
+        reads_over(alloc, &mut SegmentReader::new(&segments), bytes, want, rest)?;
+    }
+    Ok(())
+}
+
+// A run of items of one byte is taken at once: the head of 200 items and what is left are looked at
+// at most 8 times, by a reader that shows no more than is wanted.
+#[test]
+fn few_looks(rt: HostRuntime) -> Result<(), Fail> {
+    let alloc = rt.alloc();
+    let mut bytes = [0x00; 202];
+    bytes[..2].copy_from_slice(b"\x98\xc8");
+    let mut reader = Counting::new(&bytes);
+    IgnoredAny::decode(alloc, &mut reader)?;
+    assert!(rt; reader.shows() <= 8, "{} looks", reader.shows());
+    leaves(&mut reader, &bytes, b"")
+}
