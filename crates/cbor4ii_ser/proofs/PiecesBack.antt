@@ -1,16 +1,34 @@
 -- A text in pieces is read as the pieces joined.
 use Rattle.std.proofs.Common.{◌≡◌, ℕ, suc, ◌+◌, ◌<◌, ◌≤◌, ◌^◌, List, [], ◌∷◌, ◌++◌, length, take, drop, refl, sym, ap, ap₂, ◌∙◌, ◌⊎◌, inl, inr, arith, append_assoc, length-append, subst}
+use Rattle.std.specs.Prelude.{All, IsUtf8}
 use Rattle.std.proofs.Math.Seq.{drop-append_seam}
 use Rattle.std.proofs.lemmas.List.{append-nil, take_at}
+use Rattle.std.proofs.lemmas.List.Elements.{All-head, All-tail}
+use Rattle.std.proofs.lemmas.Str.{IsUtf8-nil, IsUtf8-append}
 use Rattle.cbor4ii_items.specs.Head.{eight, break}
 use Rattle.cbor4ii_items.specs.Heads.{ReadsHead}
 use Rattle.cbor4ii_items.specs.Numbers.{shortest_head}
-use Rattle.cbor4ii_items.specs.Strings.{joined, counted_string, opening, closing, ReadsCountedString, ReadsChunks, ReadsOpenString, ReadsString, chunk_cost}
+use Rattle.cbor4ii_items.specs.Strings.{joined, counted_string, opening, closing, ReadsCountedString, ReadsChunks, ReadsOpenString, ReadsTextAs, chunk_cost}
+use Rattle.cbor4ii_items.specs.ReadBack.{ReadsBack}
 use Rattle.cbor4ii_items.specs.Laws.NumbersBack.{head_back}
 use Rattle.cbor4ii_ser.specs.Pieces.{most, filled, IsChunk, IsCut, Chunks, one, several, counted_chunks}
-use Rattle.cbor4ii_ser.specs.PiecesRead.{AllShort, ReadsPieces}
 use Rattle.cbor4ii_ser.proofs.Determined.{joined_append}
 use Rattle.cbor4ii_ser.proofs.Greedy.{joined_filled}
+
+-- each piece is so short that its length can be said
+abbrev AllShort : List (List ℕ) → Type 0
+AllShort [] = Unit {0}
+AllShort (piece ∷ pieces) = (length piece < 2 ^ 64) × AllShort pieces
+
+all_short : (ps : List (List ℕ)) → length (joined ps) < 2 ^ 64 → AllShort ps
+all_short [] h = tt
+all_short (p ∷ ps) h =
+    let e = length-append p (joined ps) in
+    (omega (arith, h, e), all_short ps (omega (arith, h, e)))
+
+utf8_joined : (ps : List (List ℕ)) → All IsUtf8 ps → IsUtf8 (joined ps)
+utf8_joined [] h = IsUtf8-nil
+utf8_joined (p ∷ ps) h = IsUtf8-append p (joined ps) (All-head IsUtf8 p ps h) (utf8_joined ps (All-tail IsUtf8 p ps h))
 
 counted_back : (c rest : List ℕ) → length c < 2 ^ 64 → ReadsCountedString 3 (counted_string 3 c ++ rest) c (length (counted_string 3 c))
 counted_back c rest h =
@@ -90,15 +108,24 @@ one_step : (cs : List (List ℕ)) → chunk_cost cs ≤ 1
 one_step [] = omega arith
 one_step (c ∷ cs) = omega arith
 
-pub pieces_back : (pieces : List (List ℕ)) (bytes : List ℕ) → AllShort pieces → Chunks pieces bytes → ReadsPieces pieces bytes
-pieces_back pieces bytes h (one short e) rest =
-    let fits : length (joined pieces) < 2 ^ 64 = omega (arith, short) in
-    let none : 0 ≤ 1 = omega arith in
-    (0, none, inl (subst (λ z. ReadsCountedString 3 (z ++ rest) (joined pieces) (length z)) (sym e) (counted_back (joined pieces) rest fits), refl))
-pieces_back pieces bytes h (several cs long cut e) rest =
-    let is : joined pieces ≡ joined cs = sym (joined_filled pieces) ∙ joined_cut (filled pieces) cs cut in (
-      chunk_cost cs,
-      one_step cs,
-      inr (subst (λ z. ReadsOpenString 3 (z ++ rest) (joined pieces) (length z) (chunk_cost cs)) (sym e)
-          (open_back pieces cs rest is (short_cut (filled pieces) cs cut (short_filled pieces h)))),
-    )
+-- what a text in pieces costs to read
+abbrev pub pieces_cost : (pieces : List (List ℕ)) (bytes : List ℕ) → Chunks pieces bytes → ℕ
+pieces_cost pieces bytes (one short e) = 0
+pieces_cost pieces bytes (several cs long cut e) = chunk_cost cs
+
+pub pieces_cost_small : (pieces : List (List ℕ)) (bytes : List ℕ) (is : Chunks pieces bytes) → pieces_cost pieces bytes is ≤ 1
+pieces_cost_small pieces bytes (one short e) = omega arith
+pieces_cost_small pieces bytes (several cs long cut e) = one_step cs
+
+module _ {V : Type 0} (content : V → List ℕ) (v : V) (pieces : List (List ℕ)) (bytes : List ℕ) (fits : length (joined pieces) < 2 ^ 64) where
+  pub pieces_back : content v ≡ joined pieces → All IsUtf8 pieces → (is : Chunks pieces bytes) → ReadsBack (ReadsTextAs content) bytes v (pieces_cost pieces bytes is)
+  pieces_back has utf8 (one short e) rest = (
+    inl (subst (λ z. ReadsCountedString 3 (bytes ++ rest) z (length bytes)) (sym has) (subst (λ z. ReadsCountedString 3 (z ++ rest) (joined pieces) (length z)) (sym e) (counted_back (joined pieces) rest fits)), refl),
+    subst IsUtf8 (sym has) (utf8_joined pieces utf8),
+  )
+  pieces_back has utf8 (several cs long cut e) rest =
+      let is : joined pieces ≡ joined cs = sym (joined_filled pieces) ∙ joined_cut (filled pieces) cs cut in
+      let read = open_back pieces cs rest is (short_cut (filled pieces) cs cut (short_filled pieces (all_short pieces fits))) in (
+        inr (subst (λ z. ReadsOpenString 3 (bytes ++ rest) z (length bytes) (chunk_cost cs)) (sym has) (subst (λ z. ReadsOpenString 3 (z ++ rest) (joined pieces) (length z) (chunk_cost cs)) (sym e) read)),
+        subst IsUtf8 (sym has) (utf8_joined pieces utf8),
+      )

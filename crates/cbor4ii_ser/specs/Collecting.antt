@@ -23,6 +23,10 @@ owes c = c.owes
 abbrev pub collected : {W E : Type 0} → (W → Output) → Collect W E → Output
 collected view c = output view c.ser.now
 
+-- which reference it holds to its serializer
+abbrev pub lender_of : {W E : Type 0} → Collect W E → ℕ
+lender_of c = c.ser.ghost_name
+
 -- ---- of so many parts
 
 abbrev pub bounded_left : {W E : Type 0} → BoundedCollect W E → ℕ
@@ -34,3 +38,6 @@ bounded_keyed c = c.keyed
 
 abbrev pub bounded_output : {W E : Type 0} → (W → Output) → BoundedCollect W E → Output
 bounded_output view c = output view c.ser.now
+
+abbrev pub bounded_lender : {W E : Type 0} → BoundedCollect W E → ℕ
+bounded_lender c = c.ser.ghost_name

@@ -9,21 +9,20 @@ followed None second = None
 followed (Some xs) None = None
 followed (Some xs) (Some ys) = Some (xs ++ ys)
 
--- parts, one behind another
-abbrev pub parts : List (Option (List ℕ)) → Option (List ℕ)
-parts [] = Some []
-parts (p ∷ ps) = followed p (parts ps)
-
 -- ---- arrays
-
--- an array of so many parts (RFC 8949 section 3.1)
-abbrev pub tuple_item : List (Option (List ℕ)) → Option (List ℕ)
-tuple_item ps = followed (Some (shortest_head 4 (length ps))) (parts ps)
 
 -- each value's item, in order
 abbrev pub items_of : {V : Type 0} → (V → Option (List ℕ)) → List V → Option (List ℕ)
 items_of item [] = Some []
 items_of item (v ∷ vs) = followed (item v) (items_of item vs)
+
+-- parts, one behind another
+abbrev pub parts : List (Option (List ℕ)) → Option (List ℕ)
+parts = items_of (λ part. part)
+
+-- an array of so many parts (RFC 8949 section 3.1)
+abbrev pub tuple_item : List (Option (List ℕ)) → Option (List ℕ)
+tuple_item ps = followed (Some (shortest_head 4 (length ps))) (parts ps)
 
 -- an array of values
 abbrev pub array_item : {V : Type 0} → (V → Option (List ℕ)) → List V → Option (List ℕ)

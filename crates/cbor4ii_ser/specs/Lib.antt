@@ -6,5 +6,4 @@ pub mod Collecting
 pub mod Pieces
 pub mod HeldRun
 pub mod TextState
-pub mod PiecesRead
 pub mod Laws

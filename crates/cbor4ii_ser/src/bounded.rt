@@ -15,7 +15,7 @@ ghost use Rattle.std.specs.Prelude.{
 ghost use Rattle.std.specs.Borrow.{sem, RestsIfErr};
 ghost use Rattle.cbor4ii_items.specs.Numbers.{shortest_head};
 ghost use Rattle.cbor4ii_ser.specs.contracts.serializer.Serializer.{the_row};
-ghost use Rattle.cbor4ii_ser.specs.Collecting.{bounded_left, bounded_keyed, bounded_output};
+ghost use Rattle.cbor4ii_ser.specs.Collecting.{bounded_left, bounded_keyed, bounded_output, bounded_lender};
 ghost use Rattle.cbor4ii_ser.specs.Item.{field, variant_head};
 ghost use Rattle.cbor4ii_ser.specs.Serializing.{Serializes, output};
 
@@ -44,10 +44,10 @@ impl<W: Write> Serializer<W> {
         &mut self,
         len: usize,
     ) -> Result<BoundedCollect<'_, W>, EncodeError<W::Error>>
-        ensures* refused { sem 𝓛 (RestsIfErr (the_row W.row) self.entry (λ c. c.ser.ghost_name) result
+        ensures* refused { sem 𝓛 (RestsIfErr (the_row W.row) self.entry bounded_lender result
             (λ new. Serializes W.whole (Some (shortest_head 4 len))
             (output W.view self.old) (output W.view new) result)) }
-        ensures same_reference { IfOk result (λ c. c.ser.ghost_name ≡ self.entry.ghost_name) }
+        ensures same_reference { IfOk result (λ c. bounded_lender c ≡ self.entry.ghost_name) }
         ensures left { IfOk result (λ c. bounded_left c ≡ len) }
         ensures keyed { IfOk result (λ c. bounded_keyed c ≡ false) }
         ensures head { IfOk result (λ c. Serializes W.whole (Some (shortest_head 4 len))
@@ -70,10 +70,10 @@ impl<W: Write> Serializer<W> {
         _name: &str,
         len: usize,
     ) -> Result<BoundedCollect<'_, W>, EncodeError<W::Error>>
-        ensures* refused { sem 𝓛 (RestsIfErr (the_row W.row) self.entry (λ c. c.ser.ghost_name) result
+        ensures* refused { sem 𝓛 (RestsIfErr (the_row W.row) self.entry bounded_lender result
             (λ new. Serializes W.whole (Some (shortest_head 4 len))
             (output W.view self.old) (output W.view new) result)) }
-        ensures same_reference { IfOk result (λ c. c.ser.ghost_name ≡ self.entry.ghost_name) }
+        ensures same_reference { IfOk result (λ c. bounded_lender c ≡ self.entry.ghost_name) }
         ensures left { IfOk result (λ c. bounded_left c ≡ len) }
         ensures keyed { IfOk result (λ c. bounded_keyed c ≡ false) }
         ensures head { IfOk result (λ c. Serializes W.whole (Some (shortest_head 4 len))
@@ -98,10 +98,10 @@ impl<W: Write> Serializer<W> {
         variant: &str,
         len: usize,
     ) -> Result<BoundedCollect<'_, W>, EncodeError<W::Error>>
-        ensures* refused { sem 𝓛 (RestsIfErr (the_row W.row) self.entry (λ c. c.ser.ghost_name) result
+        ensures* refused { sem 𝓛 (RestsIfErr (the_row W.row) self.entry bounded_lender result
             (λ new. Serializes W.whole (Some (variant_head variant.now ++ shortest_head 4 len))
             (output W.view self.old) (output W.view new) result)) }
-        ensures same_reference { IfOk result (λ c. c.ser.ghost_name ≡ self.entry.ghost_name) }
+        ensures same_reference { IfOk result (λ c. bounded_lender c ≡ self.entry.ghost_name) }
         ensures left { IfOk result (λ c. bounded_left c ≡ len) }
         ensures keyed { IfOk result (λ c. bounded_keyed c ≡ false) }
         ensures head { IfOk result (λ c. Serializes W.whole (Some (variant_head variant.now ++ shortest_head 4 len))
@@ -124,10 +124,10 @@ impl<W: Write> Serializer<W> {
         _name: &str,
         len: usize,
     ) -> Result<BoundedCollect<'_, W>, EncodeError<W::Error>>
-        ensures* refused { sem 𝓛 (RestsIfErr (the_row W.row) self.entry (λ c. c.ser.ghost_name) result
+        ensures* refused { sem 𝓛 (RestsIfErr (the_row W.row) self.entry bounded_lender result
             (λ new. Serializes W.whole (Some (shortest_head 5 len))
             (output W.view self.old) (output W.view new) result)) }
-        ensures same_reference { IfOk result (λ c. c.ser.ghost_name ≡ self.entry.ghost_name) }
+        ensures same_reference { IfOk result (λ c. bounded_lender c ≡ self.entry.ghost_name) }
         ensures left { IfOk result (λ c. bounded_left c ≡ len) }
         ensures keyed { IfOk result (λ c. bounded_keyed c ≡ true) }
         ensures head { IfOk result (λ c. Serializes W.whole (Some (shortest_head 5 len))
@@ -152,10 +152,10 @@ impl<W: Write> Serializer<W> {
         variant: &str,
         len: usize,
     ) -> Result<BoundedCollect<'_, W>, EncodeError<W::Error>>
-        ensures* refused { sem 𝓛 (RestsIfErr (the_row W.row) self.entry (λ c. c.ser.ghost_name) result
+        ensures* refused { sem 𝓛 (RestsIfErr (the_row W.row) self.entry bounded_lender result
             (λ new. Serializes W.whole (Some (variant_head variant.now ++ shortest_head 5 len))
             (output W.view self.old) (output W.view new) result)) }
-        ensures same_reference { IfOk result (λ c. c.ser.ghost_name ≡ self.entry.ghost_name) }
+        ensures same_reference { IfOk result (λ c. bounded_lender c ≡ self.entry.ghost_name) }
         ensures left { IfOk result (λ c. bounded_left c ≡ len) }
         ensures keyed { IfOk result (λ c. bounded_keyed c ≡ true) }
         ensures head { IfOk result (λ c. Serializes W.whole (Some (variant_head variant.now ++ shortest_head 5 len))
@@ -192,7 +192,7 @@ impl<'a, W: Write> BoundedCollect<'a, W> {
     ) -> Result<(), EncodeError<W::Error>>
         requires keyed { bounded_keyed self.old ≡ false }
         requires left { 0 < bounded_left self.old }
-        ensures same_reference { self.new.ser.ghost_name ≡ self.old.ser.ghost_name }
+        ensures same_reference { bounded_lender self.new ≡ bounded_lender self.old }
         ensures keyed { bounded_keyed self.new ≡ bounded_keyed self.old }
         ensures left { OnOk result (bounded_left self.new ≡ bounded_left self.old - 1) }
         ensures left_at_refusal { OnErr result (bounded_left self.new ≡ bounded_left self.old) }
@@ -213,7 +213,7 @@ impl<'a, W: Write> BoundedCollect<'a, W> {
     ) -> Result<(), EncodeError<W::Error>>
         requires keyed { bounded_keyed self.old ≡ true }
         requires left { 0 < bounded_left self.old }
-        ensures same_reference { self.new.ser.ghost_name ≡ self.old.ser.ghost_name }
+        ensures same_reference { bounded_lender self.new ≡ bounded_lender self.old }
         ensures keyed { bounded_keyed self.new ≡ bounded_keyed self.old }
         ensures left { OnOk result (bounded_left self.new ≡ bounded_left self.old - 1) }
         ensures left_at_refusal { OnErr result (bounded_left self.new ≡ bounded_left self.old) }
@@ -236,7 +236,7 @@ impl<'a, W: Write> BoundedCollect<'a, W> {
 }
 
 /// Writes a name, and a value behind it.
-fn put_field<W: Write, T: Serialize>(
+pub(crate) fn put_field<W: Write, T: Serialize>(
     ser: &mut Serializer<W>,
     name: &str,
     value: &T,

@@ -11,7 +11,7 @@ ghost use Rattle.std.specs.Prelude.{
 };
 ghost use Rattle.std.specs.Borrow.{sem, RestsIfErr};
 ghost use Rattle.cbor4ii_ser.specs.contracts.serializer.Serializer.{the_row};
-ghost use Rattle.cbor4ii_ser.specs.Collecting.{left_of, is_keyed, owes, collected};
+ghost use Rattle.cbor4ii_ser.specs.Collecting.{left_of, is_keyed, owes, collected, lender_of};
 ghost use Rattle.cbor4ii_ser.specs.Counts.{counted_head, counted_end, IsReady, IsDone, less};
 ghost use Rattle.cbor4ii_ser.specs.Item.{followed};
 ghost use Rattle.cbor4ii_ser.specs.Serializing.{Serializes, output};
@@ -44,10 +44,10 @@ impl<W: Write> Serializer<W> {
         &mut self,
         len: Option<usize>,
     ) -> Result<Collect<'_, W>, EncodeError<W::Error>>
-        ensures* refused { sem 𝓛 (RestsIfErr (the_row W.row) self.entry (λ c. c.ser.ghost_name) result
+        ensures* refused { sem 𝓛 (RestsIfErr (the_row W.row) self.entry lender_of result
             (λ new. Serializes W.whole (Some (counted_head 4 len))
             (output W.view self.old) (output W.view new) result)) }
-        ensures same_reference { IfOk result (λ c. c.ser.ghost_name ≡ self.entry.ghost_name) }
+        ensures same_reference { IfOk result (λ c. lender_of c ≡ self.entry.ghost_name) }
         ensures left { IfOk result (λ c. left_of c ≡ len) }
         ensures keyed { IfOk result (λ c. is_keyed c ≡ false) }
         ensures owes { IfOk result (λ c. owes c ≡ false) }
@@ -71,10 +71,10 @@ impl<W: Write> Serializer<W> {
         &mut self,
         len: Option<usize>,
     ) -> Result<Collect<'_, W>, EncodeError<W::Error>>
-        ensures* refused { sem 𝓛 (RestsIfErr (the_row W.row) self.entry (λ c. c.ser.ghost_name) result
+        ensures* refused { sem 𝓛 (RestsIfErr (the_row W.row) self.entry lender_of result
             (λ new. Serializes W.whole (Some (counted_head 5 len))
             (output W.view self.old) (output W.view new) result)) }
-        ensures same_reference { IfOk result (λ c. c.ser.ghost_name ≡ self.entry.ghost_name) }
+        ensures same_reference { IfOk result (λ c. lender_of c ≡ self.entry.ghost_name) }
         ensures left { IfOk result (λ c. left_of c ≡ len) }
         ensures keyed { IfOk result (λ c. is_keyed c ≡ true) }
         ensures owes { IfOk result (λ c. owes c ≡ false) }
@@ -120,7 +120,7 @@ impl<'a, W: Write> Collect<'a, W> {
     ) -> Result<(), EncodeError<W::Error>>
         requires keyed { is_keyed self.old ≡ false }
         requires left { IsReady (left_of self.old) }
-        ensures same_reference { self.new.ser.ghost_name ≡ self.old.ser.ghost_name }
+        ensures same_reference { lender_of self.new ≡ lender_of self.old }
         ensures keyed { is_keyed self.new ≡ is_keyed self.old }
         ensures owes { owes self.new ≡ owes self.old }
         ensures left { OnOk result (left_of self.new ≡ less (left_of self.old)) }
@@ -138,7 +138,7 @@ impl<'a, W: Write> Collect<'a, W> {
         requires keyed { is_keyed self.old ≡ true }
         requires owes { owes self.old ≡ false }
         requires left { IsReady (left_of self.old) }
-        ensures same_reference { self.new.ser.ghost_name ≡ self.old.ser.ghost_name }
+        ensures same_reference { lender_of self.new ≡ lender_of self.old }
         ensures keyed { is_keyed self.new ≡ is_keyed self.old }
         ensures owes { OnOk result (owes self.new ≡ true) }
         ensures owes_at_refusal { OnErr result (owes self.new ≡ owes self.old) }
@@ -158,7 +158,7 @@ impl<'a, W: Write> Collect<'a, W> {
     pub fn serialize_value<V: Serialize>(&mut self, value: &V) -> Result<(), EncodeError<W::Error>>
         requires keyed { is_keyed self.old ≡ true }
         requires owes { owes self.old ≡ true }
-        ensures same_reference { self.new.ser.ghost_name ≡ self.old.ser.ghost_name }
+        ensures same_reference { lender_of self.new ≡ lender_of self.old }
         ensures keyed { is_keyed self.new ≡ is_keyed self.old }
         ensures owes { OnOk result (owes self.new ≡ false) }
         ensures owes_at_refusal { OnErr result (owes self.new ≡ owes self.old) }
@@ -181,7 +181,7 @@ impl<'a, W: Write> Collect<'a, W> {
         requires keyed { is_keyed self.old ≡ true }
         requires owes { owes self.old ≡ false }
         requires left { IsReady (left_of self.old) }
-        ensures same_reference { self.new.ser.ghost_name ≡ self.old.ser.ghost_name }
+        ensures same_reference { lender_of self.new ≡ lender_of self.old }
         ensures keyed { is_keyed self.new ≡ is_keyed self.old }
         ensures owes { OnOk result (owes self.new ≡ false) }
         ensures left { OnOk result (left_of self.new ≡ less (left_of self.old)) }
@@ -201,7 +201,7 @@ impl<'a, W: Write> Collect<'a, W> {
     /// One part fewer is to come.
     fn count_one(&mut self)
         requires { IsReady (left_of self.old) }
-        ensures same_reference { self.new.ser.ghost_name ≡ self.old.ser.ghost_name }
+        ensures same_reference { lender_of self.new ≡ lender_of self.old }
         ensures ser { self.new.ser.now ≡ self.old.ser.now }
         ensures keyed { is_keyed self.new ≡ is_keyed self.old }
         ensures owes { owes self.new ≡ owes self.old }

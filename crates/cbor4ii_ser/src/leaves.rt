@@ -221,3 +221,12 @@ impl<T: Serialize> Serialize for Option<T> {
         }
     }
 }
+
+/// A reference to a value, written as the value.
+impl<'a, T: Serialize> Serialize for &'a T {
+    ghost item = { λ v. T.item v.now };
+
+    fn serialize<W: Write>(&self, ser: &mut Serializer<W>) -> Result<(), EncodeError<W::Error>> {
+        T::serialize(self, ser)
+    }
+}

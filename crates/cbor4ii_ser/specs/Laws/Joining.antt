@@ -41,6 +41,11 @@ unfolding followed
 followed_nil None = refl
 followed_nil (Some xs) = ap Some (append-nil xs)
 
+pub followed_both : (xs ys : List ℕ) (b : Option (List ℕ)) → followed (Some (xs ++ ys)) b ≡ followed (Some xs) (followed (Some ys) b)
+unfolding followed
+followed_both xs ys None = refl
+followed_both xs ys (Some zs) = ap Some (append_assoc xs ys zs)
+
 begins_then : (xs : List ℕ) (b : Option (List ℕ)) (old mid new : Option (List ℕ)) → Appends xs old mid → Begins b mid new → Begins (followed (Some xs) b) old new
 unfolding followed
 begins_then xs None old mid new p q held told =
@@ -101,22 +106,31 @@ serializes_at {whole = whole} {a = a} {old = old} {r = r} p is = subst (λ z. Se
 pub serializes_nil : {E : Type 0} {whole : Bool} (old : Output) → Serializes {T = Unit {0}} {E = E} whole (Some []) old old (Ok tt)
 serializes_nil old = record { appends = λ held told. told ∙ ap Some (sym (append-nil held)); counts = refl; failed = tt; front = λ whole. tt }
 
-module _ {V : Type 0} (item : V → Option (List ℕ)) (vs : List V) where
-  items_append : (us ws : List V) → items_of item (us ++ ws) ≡ followed (items_of item us) (items_of item ws)
+module _ {V : Type 0} (item : V → Option (List ℕ)) where
+  pub items_append : (us ws : List V) → items_of item (us ++ ws) ≡ followed (items_of item us) (items_of item ws)
   items_append [] ws = sym (nil_followed (items_of item ws))
   items_append (u ∷ us) ws = ap (followed (item u)) (items_append us ws) ∙ sym (followed_assoc (item u) (items_of item us) (items_of item ws))
 
+  -- those before a value, it, and those behind it
+  pub items_turn : (us : List V) (v : V) (ws : List V) → followed (items_of item us) (followed (item v) (items_of item ws)) ≡ items_of item (us ++ (v ∷ ws))
+  items_turn us v ws = sym (items_append us (v ∷ ws))
+
+  -- one more item
+  pub items_push : (us : List V) (v : V) → followed (items_of item us) (item v) ≡ items_of item (us ++ (v ∷ []))
+  items_push us v = sym (items_append us (v ∷ []) ∙ ap (followed (items_of item us)) (followed_nil (item v)))
+
+module _ {V : Type 0} (item : V → Option (List ℕ)) (vs : List V) where
   -- one more item
   pub items_more : (i : ℕ) (v : V) → i < length vs → v ≡ get_or vs i v → followed (items_of item (take i vs)) (item v) ≡ items_of item (take (i + 1) vs)
   items_more i v h is =
       sym (ap (items_of item) (take_more vs i v h)
-      ∙ (items_append (take i vs) (get_or vs i v ∷ []) ∙ ap (followed (items_of item (take i vs))) (followed_nil (item (get_or vs i v)) ∙ ap item (sym is))))
+      ∙ (items_append item (take i vs) (get_or vs i v ∷ []) ∙ ap (followed (items_of item (take i vs))) (followed_nil (item (get_or vs i v)) ∙ ap item (sym is))))
 
   -- those behind it
   pub items_behind : (i : ℕ) (v : V) → i < length vs → v ≡ get_or vs i v → followed (followed (items_of item (take i vs)) (item v)) (items_of item (drop (i + 1) vs)) ≡ items_of item vs
   items_behind i v h is =
       ap (λ z. followed z (items_of item (drop (i + 1) vs))) (items_more i v h is)
-      ∙ (sym (items_append (take (i + 1) vs) (drop (i + 1) vs)) ∙ ap (items_of item) (take-append-drop (i + 1) vs))
+      ∙ (sym (items_append item (take (i + 1) vs) (drop (i + 1) vs)) ∙ ap (items_of item) (take-append-drop (i + 1) vs))
 
 -- ---- of calls whose item is never missing
 

@@ -1,0 +1,55 @@
+//! Maps that are there as a whole.
+ghost use Rattle.cbor4ii_ser.specs.Item.{followed, items_of, entry_item, map_item};
+ghost use Rattle.cbor4ii_ser.specs.Serializing.{Serializes, output};
+
+use crate::error::EncodeError;
+use crate::serialize::Serialize;
+use crate::serializer::Serializer;
+use cbor4ii_rw::write::Write;
+use std::collections::BTreeMap;
+
+/// A map of the entries, in the order of the keys.
+impl<K: Serialize + Ord, V: Serialize> Serialize for BTreeMap<K, V> {
+    ghost item = { λ m. map_item K.item V.item m.entries };
+
+    fn serialize<W: Write>(&self, ser: &mut Serializer<W>) -> Result<(), EncodeError<W::Error>> {
+        put_map(ser, self)
+    }
+}
+
+fn put_map<W: Write, K: Serialize + Ord, V: Serialize>(
+    ser: &mut Serializer<W>,
+    map: &BTreeMap<K, V>,
+) -> Result<(), EncodeError<W::Error>>
+    ensures { Serializes W.whole (map_item K.item V.item map.now.entries)
+        (output W.view ser.old) (output W.view ser.new) result }
+{
+    ser.map_head(map.len())?;
+    put_entries(ser, map)
+}
+
+fn put_entries<W: Write, K: Serialize + Ord, V: Serialize>(
+    ser: &mut Serializer<W>,
+    map: &BTreeMap<K, V>,
+) -> Result<(), EncodeError<W::Error>>
+    ensures { Serializes W.whole (items_of (entry_item K.item V.item) map.now.entries)
+        (output W.view ser.old) (output W.view ser.new) result }
+{
+    for (key, value) in map {
+        put_entry(ser, key, value)?;
+    }
+    Ok(())
+}
+
+/// Writes a key, and a value behind it.
+pub(crate) fn put_entry<W: Write, K: Serialize, V: Serialize>(
+    ser: &mut Serializer<W>,
+    key: &K,
+    value: &V,
+) -> Result<(), EncodeError<W::Error>>
+    ensures { Serializes W.whole (followed (K.item key.now) (V.item value.now))
+        (output W.view ser.old) (output W.view ser.new) result }
+{
+    key.serialize(ser)?;
+    value.serialize(ser)
+}

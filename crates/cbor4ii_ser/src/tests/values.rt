@@ -1,0 +1,225 @@
+//! Values of Rust's own types, and each call of a serializer.
+use super::writes;
+use crate::error::EncodeError;
+use crate::serializer::Serializer;
+use crate::write_all::to_writer;
+use cbor4ii_items::types::{Bytes, F16, F32, F64};
+use cbor4ii_rw::buf_writer::BufWriter;
+use cbor4ii_rw::error as core_error;
+use cbor4ii_rw::error::TryReserveError;
+use std::borrow::CowStr;
+use std::collections::BTreeMap;
+use std::test::Fail;
+
+#[test]
+fn leaves(rt: HostRuntime) -> Result<(), Fail> {
+    let alloc = rt.alloc();
+    writes(&rt, alloc, &false, b"\xf4")?;
+    writes(&rt, alloc, &true, b"\xf5")?;
+    writes(&rt, alloc, &5u8, b"\x05")?;
+    writes(&rt, alloc, &1000u16, b"\x19\x03\xe8")?;
+    writes(&rt, alloc, &1000000u32, b"\x1a\x00\x0f\x42\x40")?;
+    writes(
+        &rt,
+        alloc,
+        &1000000000000u64,
+        b"\x1b\x00\x00\x00\xe8\xd4\xa5\x10\x00",
+    )?;
+    writes(
+        &rt,
+        alloc,
+        &0x1_0000_0000_0000_0000u128,
+        b"\xc2\x49\x01\x00\x00\x00\x00\x00\x00\x00\x00",
+    )?;
+    writes(&rt, alloc, &-1i8, b"\x20")?;
+    writes(&rt, alloc, &-1000i16, b"\x39\x03\xe7")?;
+    writes(&rt, alloc, &-10i32, b"\x29")?;
+    writes(&rt, alloc, &-100i64, b"\x38\x63")?;
+    writes(
+        &rt,
+        alloc,
+        &-0x1_0000_0000_0000_0001i128,
+        b"\xc3\x49\x01\x00\x00\x00\x00\x00\x00\x00\x00",
+    )?;
+    writes(&rt, alloc, &F16(0x3c00), b"\xf9\x3c\x00")?;
+    writes(&rt, alloc, &F32(0x47c35000), b"\xfa\x47\xc3\x50\x00")?;
+    writes(
+        &rt,
+        alloc,
+        &F64(0x3ff199999999999a),
+        b"\xfb\x3f\xf1\x99\x99\x99\x99\x99\x9a",
+    )?;
+    writes(&rt, alloc, &'G', b"\x61G")?;
+    writes(&rt, alloc, &'\u{6c34}', b"\x63\xe6\xb0\xb4")?;
+    writes(&rt, alloc, &"IETF", b"\x64IETF")?;
+    writes(&rt, alloc, &String::from_str(alloc, "IETF")?, b"\x64IETF")?;
+    writes(&rt, alloc, &CowStr::Borrowed("IETF"), b"\x64IETF")?;
+    writes(
+        &rt,
+        alloc,
+        &Bytes(b"\x01\x02\x03\x04".as_slice()),
+        b"\x44\x01\x02\x03\x04",
+    )?;
+    writes(&rt, alloc, &(), b"\x80")
+}
+
+#[test]
+fn wrappers_and_sequences(rt: HostRuntime) -> Result<(), Fail> {
+    let alloc = rt.alloc();
+    writes(&rt, alloc, &Some(10u32), b"\x0a")?;
+    writes(&rt, alloc, &None::<u32>, b"\xf6")?;
+    writes(&rt, alloc, &Some(()), b"\x80")?;
+    writes(&rt, alloc, &Box::new(alloc, 10u32)?, b"\x0a")?;
+    writes(&rt, alloc, &(1u8, "a"), b"\x82\x01\x61a")?;
+    writes(&rt, alloc, &(1u8, "a", false), b"\x83\x01\x61a\xf4")?;
+    let numbers = vec![in alloc; Some(0x99u32), None, Some(0x33)]?;
+    writes(&rt, alloc, &numbers, b"\x83\x18\x99\xf6\x18\x33")?;
+    let pairs = vec![in alloc; (10u128, 99999i128)]?;
+    writes(
+        &rt,
+        alloc,
+        &Some(pairs),
+        b"\x81\x82\x0a\x1a\x00\x01\x86\x9f",
+    )
+}
+
+#[test]
+fn maps_in_the_order_of_their_keys(rt: HostRuntime) -> Result<(), Fail> {
+    let alloc = rt.alloc();
+    let mut inner = BTreeMap::new(alloc);
+    inner.insert("b", 2u8)?;
+    inner.insert("a", 1u8)?;
+    let mut outer = BTreeMap::new(alloc);
+    outer.insert(7u8, inner)?;
+    writes(&rt, alloc, &outer, b"\xa1\x07\xa2\x61a\x01\x61b\x02")
+}
+
+#[test]
+fn each_call_of_a_serializer(rt: HostRuntime) -> Result<(), Fail> {
+    let mut ser = Serializer::new(BufWriter::new(Vec::new(rt.alloc())));
+    assert!(rt; leaves_by_calls(&mut ser).is_ok());
+    assert!(rt; !ser.is_human_readable());
+    let expected =
+        b"\xf5\x20\x21\x22\x23\x24\x01\x02\x03\x04\x05\xf9\x00\x01\xfa\x00\x00\x00\x02\xfb\x00\x00\x00\x00\x00\x00\x00\x03\x61c\x62st\x42\x08\x09\xf6\x07\x80\x80\x64Unit\x06\xa1\x63New\x19\x09\x99";
+    assert_eq!(rt; ser.into_inner().buffer(), expected.as_slice());
+    Ok(())
+}
+
+fn leaves_by_calls(ser: &mut Serializer<BufWriter>) -> Result<(), EncodeError<TryReserveError>> {
+    ser.serialize_bool(true)?;
+    ser.serialize_i8(-1)?;
+    ser.serialize_i16(-2)?;
+    ser.serialize_i32(-3)?;
+    ser.serialize_i64(-4)?;
+    ser.serialize_i128(-5)?;
+    ser.serialize_u8(1)?;
+    ser.serialize_u16(2)?;
+    ser.serialize_u32(3)?;
+    ser.serialize_u64(4)?;
+    ser.serialize_u128(5)?;
+    ser.serialize_f16(1)?;
+    ser.serialize_f32(2)?;
+    ser.serialize_f64(3)?;
+    ser.serialize_char('c')?;
+    ser.serialize_str("st")?;
+    ser.serialize_bytes(b"\x08\x09")?;
+    ser.serialize_none()?;
+    ser.serialize_some(&7u8)?;
+    ser.serialize_unit()?;
+    ser.serialize_unit_struct("Nothing")?;
+    ser.serialize_unit_variant("Enum", 0, "Unit")?;
+    ser.serialize_newtype_struct("Wrapped", &6u8)?;
+    ser.serialize_newtype_variant("Enum", 1, "New", &0x999u32)
+}
+
+#[test]
+fn collects(rt: HostRuntime) -> Result<(), Fail> {
+    let mut ser = Serializer::new(BufWriter::new(Vec::new(rt.alloc())));
+    assert!(rt; an_open_array(&mut ser).is_ok());
+    assert!(rt; a_counted_array(&mut ser).is_ok());
+    assert!(rt; an_open_map(&mut ser).is_ok());
+    assert!(rt; a_tuple_and_its_variants(&mut ser).is_ok());
+    let expected =
+        b"\x9f\x01\xff\x81\x02\xbf\x03\x04\x05\x06\xff\x81\x07\x81\x08\xa1\x65Tuple\x82\x63123\xf4";
+    assert_eq!(rt; ser.into_inner().buffer(), expected.as_slice());
+    Ok(())
+}
+
+fn an_open_array(ser: &mut Serializer<BufWriter>) -> Result<(), EncodeError<TryReserveError>> {
+    let mut items = ser.serialize_seq(None)?;
+    items.serialize_element(&1u8)?;
+    items.end()
+}
+
+fn a_counted_array(ser: &mut Serializer<BufWriter>) -> Result<(), EncodeError<TryReserveError>> {
+    let mut items = ser.serialize_seq(Some(1))?;
+    items.serialize_element(&2u8)?;
+    items.end()
+}
+
+fn an_open_map(ser: &mut Serializer<BufWriter>) -> Result<(), EncodeError<TryReserveError>> {
+    let mut entries = ser.serialize_map(None)?;
+    entries.serialize_key(&3u8)?;
+    entries.serialize_value(&4u8)?;
+    entries.serialize_entry(&5u8, &6u8)?;
+    entries.end()
+}
+
+fn a_tuple_and_its_variants(
+    ser: &mut Serializer<BufWriter>,
+) -> Result<(), EncodeError<TryReserveError>> {
+    let mut items = ser.serialize_tuple(1)?;
+    items.serialize_element(&7u8)?;
+    items.end()?;
+    let mut items = ser.serialize_tuple_struct("One", 1)?;
+    items.serialize_element(&8u8)?;
+    items.end()?;
+    let mut items = ser.serialize_tuple_variant("Enum", 2, "Tuple", 2)?;
+    items.serialize_element(&"123")?;
+    items.serialize_element(&false)?;
+    items.end()
+}
+
+#[test]
+fn what_a_collect_says_of_itself(rt: HostRuntime) -> Result<(), Fail> {
+    let mut ser = Serializer::new(BufWriter::new(Vec::new(rt.alloc())));
+    if let Ok(mut entries) = ser.serialize_map(Some(1)) {
+        assert_eq!(rt; entries.left(), Some(1));
+        assert!(rt; entries.keyed() && !entries.owes_value());
+        assert!(rt; entries.serialize_key(&1u8).is_ok());
+        assert_eq!(rt; entries.left(), Some(0));
+        assert!(rt; entries.owes_value());
+    }
+    if let Ok(items) = ser.serialize_seq(None) {
+        assert_eq!(rt; items.left(), None);
+        assert!(rt; !items.keyed());
+    }
+    if let Ok(fields) = ser.serialize_struct("Struct", 2) {
+        assert_eq!(rt; fields.left(), 2);
+        assert!(rt; fields.keyed());
+    }
+    assert_eq!(rt; ser.into_inner().buffer(), b"\xa1\x01\x9f\xa2".as_slice());
+    Ok(())
+}
+
+#[test]
+fn errors(rt: HostRuntime) -> Result<(), Fail> {
+    let error = EncodeError::write(1u8);
+    assert_eq!(rt;
+        error,
+        EncodeError::Core(core_error::EncodeError::Write(1u8))
+    );
+    assert_eq!(rt;
+        EncodeError::from(core_error::EncodeError::Write(1u8)),
+        error
+    );
+    Ok(())
+}
+
+#[test]
+fn into_a_stream(rt: HostRuntime) -> Result<(), Fail> {
+    let mut room = [0xffu8; 4];
+    assert!(rt; to_writer(room.as_mut_slice(), &("", 1u8)).is_ok());
+    assert_eq!(rt; room.as_slice(), b"\x82\x60\x01\xff".as_slice());
+    Ok(())
+}
