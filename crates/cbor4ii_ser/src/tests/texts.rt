@@ -1,5 +1,5 @@
 //! Texts in pieces.
-ghost use Rattle.std.specs.Prelude.{[], true};
+ghost use Rattle.std.specs.Prelude.{◌∷◌, [], codes, true};
 
 use crate::error::EncodeError;
 use crate::serializer::Serializer;
@@ -106,16 +106,17 @@ fn a_long_piece_and_many_short_ones(rt: HostRuntime) -> Result<(), Fail> {
     Ok(())
 }
 
-/// A text that refuses to be written.
+/// A text that refuses behind its first piece.
 #[derive(Drop)]
 struct Refusing;
 
 impl Text for Refusing {
-    ghost pieces = { λ _. [] };
+    ghost pieces = { λ _. codes "ab" ∷ [] };
 
     ghost refuses = { λ _. true };
 
-    fn write_to<W: Write>(&self, _out: &mut TextWriter<'_, W>) -> Result<(), TextFault> {
+    fn write_to<W: Write>(&self, out: &mut TextWriter<'_, W>) -> Result<(), TextFault> {
+        out.write_str("ab")?;
         Err(TextFault)
     }
 }
