@@ -1,3 +1,4 @@
+pub mod HoldingTags
 pub mod Cutting
 pub mod Collecting
 pub mod Determined

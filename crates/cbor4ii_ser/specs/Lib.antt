@@ -6,4 +6,5 @@ pub mod Collecting
 pub mod Pieces
 pub mod HeldRun
 pub mod TextState
+pub mod Values
 pub mod Laws

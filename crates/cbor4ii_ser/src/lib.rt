@@ -17,4 +17,5 @@ pub mod serializer;
 mod tests;
 pub mod text;
 mod tuples;
+mod value;
 pub mod write_all;

@@ -2,6 +2,7 @@
 mod failures;
 mod records;
 mod texts;
+mod trees;
 mod values;
 
 use crate::serialize::Serialize;

@@ -1,0 +1,33 @@
+-- Values of the tree as typed values: those that hold no tag have an item, their canonical spelling.
+use Rattle.std.specs.Prelude.{ℕ, List, Bool, true, false, ◌||◌, Option, None, Some}
+use Rattle.cbor4ii_tree.specs.Item.{Item, null, boolean, integer, float, bytes_item, text, sequence, mapping, tag, Items, no_items, item, Members, no_members, member}
+use Rattle.cbor4ii_tree.specs.Canonical.{canon}
+
+-- a tag stands somewhere in it
+abbrev mutual
+  pub holds_tag : Item → Bool
+  holds_tag null = false
+  holds_tag (boolean b) = false
+  holds_tag (integer z) = false
+  holds_tag (float p n) = false
+  holds_tag (bytes_item bs) = false
+  holds_tag (text bs) = false
+  holds_tag (sequence vs) = some_holds_tag vs
+  holds_tag (mapping ms) = members_hold_tag ms
+  holds_tag (tag n v) = true
+
+  pub some_holds_tag : Items → Bool
+  some_holds_tag no_items = false
+  some_holds_tag (item v vs) = holds_tag v || some_holds_tag vs
+
+  pub members_hold_tag : Members → Bool
+  members_hold_tag no_members = false
+  members_hold_tag (member k v ms) = (holds_tag k || holds_tag v) || members_hold_tag ms
+
+-- the bytes, where there is an item
+abbrev pub unless : Bool → List ℕ → Option (List ℕ)
+unless true bytes = None
+unless false bytes = Some bytes
+
+abbrev pub value_item : Item → Option (List ℕ)
+value_item v = unless (holds_tag v) (canon v)

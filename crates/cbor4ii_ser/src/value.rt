@@ -1,0 +1,73 @@
+//! Values of the tree.
+ghost use Rattle.std.specs.Prelude.{◌≡◌, IfErr, codes};
+ghost use Rattle.cbor4ii_tree.specs.View.{view, items_view, members_view};
+ghost use Rattle.cbor4ii_ser.specs.Serializing.{SaysAtMost, Serializes, output};
+ghost use Rattle.cbor4ii_ser.specs.Values.{
+  holds_tag,
+  some_holds_tag,
+  members_hold_tag,
+  value_item,
+};
+
+use crate::error::EncodeError;
+use crate::serialize::Serialize;
+use crate::serializer::Serializer;
+use cbor4ii_rw::write::Write;
+use cbor4ii_tree::value::Value;
+
+/// The value's canonical spelling. One that holds a tag anywhere has no item: it is refused with
+/// `Custom("serialization Tag via serde is not supported")`, and nothing is written.
+impl Serialize for Value {
+    ghost item = { λ v. value_item (view v) };
+
+    fn serialize<W: Write>(&self, ser: &mut Serializer<W>) -> Result<(), EncodeError<W::Error>>
+        ensures refusal { IfErr result
+            (SaysAtMost (codes "serialization Tag via serde is not supported")) }
+        ensures written { Serializes W.whole (value_item (view self.now))
+            (output W.view ser.old) (output W.view ser.new) result }
+    {
+        if holds_tag(self) {
+            return Err(EncodeError::Custom("serialization Tag via serde is not supported"));
+        }
+        ser.put(self)
+    }
+}
+
+#[cycle(tags)]
+fn holds_tag(value: &Value) -> bool
+    ensures { result ≡ holds_tag (view value.now) }
+{
+    match value {
+        Value::Array(items) => some_holds_tag(items),
+        Value::Map(members) => members_hold_tag(members),
+        Value::Tag(_, _) => true,
+        _ => false,
+    }
+}
+
+#[cycle(tags)]
+fn some_holds_tag(items: &[Value]) -> bool
+    ensures { result ≡ some_holds_tag (items_view items.now) }
+{
+    for item in items {
+        if holds_tag(item) {
+            return true;
+        }
+    }
+    false
+}
+
+#[cycle(tags)]
+fn members_hold_tag(members: &[(Value, Value)]) -> bool
+    ensures { result ≡ members_hold_tag (members_view members.now) }
+{
+    for member in members {
+        if holds_tag(&member.0) {
+            return true;
+        }
+        if holds_tag(&member.1) {
+            return true;
+        }
+    }
+    false
+}
