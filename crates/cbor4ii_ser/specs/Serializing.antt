@@ -1,5 +1,5 @@
 -- What a serializing call leaves in the writer.
-use Rattle.std.specs.Prelude.{◌≡◌, ℕ, List, ◌++◌, Bool, true, false, Option, None, Some, Result, OnOk, OnErr, IfErr, IfSome, IsSomeAnd, IsTrue}
+use Rattle.std.specs.Prelude.{◌≡◌, ℕ, List, ◌++◌, Bool, Option, None, Some, Result, Ok, OnOk, OnErr, IfErr, IfSome, IsSomeAnd, IsTrue}
 use Rattle.std.specs.Io.{StartsWith}
 use Rattle.cbor4ii_rw.specs.View.{Told}
 use Rattle.cbor4ii_rw.specs.Reader.{Failed}
@@ -37,3 +37,9 @@ SaysAtMost words (Custom text) = text.now ≡ words
 abbrev pub NoItem : {E : Type 0} → Option (List ℕ) → EncodeError E → Type 0
 NoItem item (Core error) = Unit {0}
 NoItem item (Custom text) = item ≡ None
+
+-- The key is written, and the call stopped in the value behind it.
+pub record StopsAtValue {E : Type 0} (whole : Bool) (key value : Option (List ℕ)) (old new : Output) (answer : Result (Unit {0}) (EncodeError E)) : Type 0 where
+  pub between : Output
+  pub first : Serializes {T = Unit {0}} {E = E} whole key old between (Ok tt)
+  pub second : Serializes whole value between new answer

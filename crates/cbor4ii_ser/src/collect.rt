@@ -14,7 +14,7 @@ ghost use Rattle.cbor4ii_ser.specs.contracts.serializer.Serializer.{the_row};
 ghost use Rattle.cbor4ii_ser.specs.Collecting.{left_of, is_keyed, owes, collected, lender_of};
 ghost use Rattle.cbor4ii_ser.specs.Counts.{counted_head, counted_end, IsReady, IsDone, less};
 ghost use Rattle.cbor4ii_ser.specs.Item.{followed};
-ghost use Rattle.cbor4ii_ser.specs.Serializing.{Serializes, output};
+ghost use Rattle.cbor4ii_ser.specs.Serializing.{Serializes, StopsAtValue, output};
 
 use crate::error::EncodeError;
 use crate::serialize::Serialize;
@@ -190,7 +190,9 @@ impl<'a, W: Write> Collect<'a, W> {
             × Serializes W.whole (K.item key.now)
             (collected W.view self.old) (collected W.view self.new) result) }
         ensures refused_at_value { OnErr result (owes self.new ≡ true →
-            left_of self.new ≡ less (left_of self.old)) }
+            (left_of self.new ≡ less (left_of self.old))
+            × StopsAtValue W.whole (K.item key.now) (V.item value.now)
+            (collected W.view self.old) (collected W.view self.new) result) }
         ensures written { Serializes W.whole (followed (K.item key.now) (V.item value.now))
             (collected W.view self.old) (collected W.view self.new) result }
     {
