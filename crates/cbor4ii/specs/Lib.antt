@@ -1,0 +1,3 @@
+pub mod Typed
+pub mod ItemRead
+pub mod First

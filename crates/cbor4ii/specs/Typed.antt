@@ -1,0 +1,41 @@
+-- What reading a typed value answers, told in the codec's own words.
+use Rattle.std.specs.Prelude.{◌≡◌, ℕ, ◌≤◌, List, length, Bool, true, false, IsTrue, Result, Ok, Err}
+use Rattle.cbor4ii_rw.specs.View.{View}
+use Rattle.cbor4ii_rw.specs.declared.error.DecodeError.{DecodeError as CoreError}
+use Rattle.cbor4ii_rw.specs.declared.error.DecodeError.TheVariants.{Custom as CoreCustom}
+use Rattle.cbor4ii_items.specs.Decoding.{Reads}
+use Rattle.cbor4ii.specs.declared.serde.de.error.DecodeError.{DecodeError}
+use Rattle.cbor4ii.specs.declared.serde.de.error.DecodeError.TheVariants.{Core, Custom}
+use Rattle.cbor4ii.specs.declared.serde.de.deserializer.Deserializer.{Deserializer}
+
+-- what the reader of a deserializer tells
+abbrev pub input : {S : Type 0} → (S → View) → Deserializer S → View
+input view de = view de.reader
+
+-- an error, as one of the codec's
+abbrev pub as_core : {E : Type 0} → DecodeError E → CoreError E
+as_core (Core error) = error
+as_core (Custom text) = CoreCustom text 0
+
+-- an answer, as one of the codec's
+abbrev pub answer_of : {V E : Type 0} → Result V (DecodeError E) → Result V (CoreError E)
+answer_of (Ok v) = Ok v
+answer_of (Err error) = Err (as_core error)
+
+-- a reading of which nothing is said, for a type that is not exact
+abbrev pub unsaid : {V : Type 0} → Reads V
+unsaid xs v n c = Unit {0}
+
+-- any two values
+abbrev pub any_two : {V : Type 0} → V → V → Type 0
+any_two v w = Unit {0}
+
+-- One input is read in one way, what is read stands in the input, and where no reading is empty a byte is read.
+pub record Lawful {V : Type 0} (reads : List ℕ → V → ℕ → ℕ → Type 0) (same : V → V → Type 0) (never_empty : Bool) : Type 0 where
+  pub one : (xs : List ℕ) (v w : V) (n m c d : ℕ) → reads xs v n c → reads xs w m d → (n ≡ m) × (c ≡ d) × same v w
+  pub within : (xs : List ℕ) (v : V) (n c : ℕ) → reads xs v n c → n ≤ length xs
+  pub positive : IsTrue never_empty → (xs : List ℕ) (v : V) (n c : ℕ) → reads xs v n c → 1 ≤ n
+
+-- what is asked of an exact type is owed by no other
+pub not_exact : {Q : Type 0} → IsTrue false → Q
+not_exact h = let no : false ≡ true = h in cc

@@ -1,0 +1,4 @@
+//! Typed values, out of bytes.
+#![tactic(auto)]
+
+pub mod serde;

@@ -1,0 +1,265 @@
+//! Strings that are borrowed from the input, or may be. Each reader of `cbor4ii_rw` has them by name.
+ghost use Rattle.std.specs.Prelude.{◌≡◌, true, false};
+ghost use Rattle.cbor4ii_items.specs.Cow.{cow_text, cow_bytes};
+ghost use Rattle.cbor4ii_items.specs.Lent.{lent_str, lent_bytes};
+ghost use Rattle.cbor4ii_items.specs.LentLaws.{lent_one, lent_within, lent_positive};
+ghost use Rattle.cbor4ii_items.specs.StringLaws.{
+  two_small,
+  three_small,
+  as_one,
+  as_within,
+  as_positive,
+  text_one,
+  text_within,
+  text_positive,
+};
+
+use crate::serde::de::deserialize::{Deserialize, Typed};
+use crate::serde::de::deserializer::{Deserializer, take_item};
+use crate::serde::de::error::DecodeError;
+use cbor4ii_items::decode::Spelled;
+use cbor4ii_items::types::Bytes;
+use cbor4ii_rw::error::Never;
+use cbor4ii_rw::io_reader::IoReader;
+use cbor4ii_rw::segment_reader::SegmentReader;
+use cbor4ii_rw::slice_reader::SliceReader;
+use std::alloc::Global;
+use std::borrow::{CowSlice, CowStr};
+use std::io;
+use std::io::BufRead;
+
+impl<'de> Typed for &'de str {
+    ghost reads = { ⟦<&'de str as Spelled>⟧.reads };
+
+    ghost same = { ⟦<&'de str as Spelled>⟧.same };
+
+    ghost never_empty = { true };
+
+    ghost owned = { false };
+
+    ghost takes_memory = { ⟦<&'de str as Spelled>⟧.takes_memory };
+
+    ghost exact = { true };
+
+    fn is_never_empty() -> bool
+        ensures { result ≡ true }
+    {
+        true
+    }
+
+    fn is_owned() -> bool
+        ensures { result ≡ false }
+    {
+        false
+    }
+
+    ghost laws = { λ _. record {
+      one = lent_one 3 three_small true lent_str;
+      within = lent_within 3 three_small true lent_str;
+      positive = λ _. lent_positive 3 three_small true lent_str;
+    } };
+}
+
+impl<'de> Deserialize<SliceReader<'de>> for &'de str {
+    fn deserialize(
+        alloc: Global,
+        de: &mut Deserializer<SliceReader<'de>>,
+    ) -> Result<&'de str, DecodeError<Never>> {
+        take_item(alloc, de)
+    }
+}
+
+impl<'de> Deserialize<SegmentReader<'de>> for &'de str {
+    fn deserialize(
+        alloc: Global,
+        de: &mut Deserializer<SegmentReader<'de>>,
+    ) -> Result<&'de str, DecodeError<Never>> {
+        take_item(alloc, de)
+    }
+}
+
+impl<'de, R: BufRead + Drop> Deserialize<IoReader<R>> for &'de str {
+    fn deserialize(
+        alloc: Global,
+        de: &mut Deserializer<IoReader<R>>,
+    ) -> Result<&'de str, DecodeError<io::Error>> {
+        take_item(alloc, de)
+    }
+}
+
+impl<'de> Typed for Bytes<&'de [u8]> {
+    ghost reads = { ⟦<Bytes<&'de [u8]> as Spelled>⟧.reads };
+
+    ghost same = { ⟦<Bytes<&'de [u8]> as Spelled>⟧.same };
+
+    ghost never_empty = { true };
+
+    ghost owned = { false };
+
+    ghost takes_memory = { ⟦<Bytes<&'de [u8]> as Spelled>⟧.takes_memory };
+
+    ghost exact = { true };
+
+    fn is_never_empty() -> bool
+        ensures { result ≡ true }
+    {
+        true
+    }
+
+    fn is_owned() -> bool
+        ensures { result ≡ false }
+    {
+        false
+    }
+
+    ghost laws = { λ _. record {
+      one = lent_one 2 two_small false lent_bytes;
+      within = lent_within 2 two_small false lent_bytes;
+      positive = λ _. lent_positive 2 two_small false lent_bytes;
+    } };
+}
+
+impl<'de> Deserialize<SliceReader<'de>> for Bytes<&'de [u8]> {
+    fn deserialize(
+        alloc: Global,
+        de: &mut Deserializer<SliceReader<'de>>,
+    ) -> Result<Bytes<&'de [u8]>, DecodeError<Never>> {
+        take_item(alloc, de)
+    }
+}
+
+impl<'de> Deserialize<SegmentReader<'de>> for Bytes<&'de [u8]> {
+    fn deserialize(
+        alloc: Global,
+        de: &mut Deserializer<SegmentReader<'de>>,
+    ) -> Result<Bytes<&'de [u8]>, DecodeError<Never>> {
+        take_item(alloc, de)
+    }
+}
+
+impl<'de, R: BufRead + Drop> Deserialize<IoReader<R>> for Bytes<&'de [u8]> {
+    fn deserialize(
+        alloc: Global,
+        de: &mut Deserializer<IoReader<R>>,
+    ) -> Result<Bytes<&'de [u8]>, DecodeError<io::Error>> {
+        take_item(alloc, de)
+    }
+}
+
+impl<'de> Typed for CowStr<'de, Global> {
+    ghost reads = { ⟦<CowStr<'de, Global> as Spelled>⟧.reads };
+
+    ghost same = { ⟦<CowStr<'de, Global> as Spelled>⟧.same };
+
+    ghost never_empty = { true };
+
+    ghost owned = { true };
+
+    ghost takes_memory = { ⟦<CowStr<'de, Global> as Spelled>⟧.takes_memory };
+
+    ghost exact = { true };
+
+    fn is_never_empty() -> bool
+        ensures { result ≡ true }
+    {
+        true
+    }
+
+    fn is_owned() -> bool
+        ensures { result ≡ true }
+    {
+        true
+    }
+
+    ghost laws = { λ _. record {
+      one = text_one cow_text;
+      within = text_within cow_text;
+      positive = λ _. text_positive cow_text;
+    } };
+}
+
+impl<'de> Deserialize<SliceReader<'de>> for CowStr<'de, Global> {
+    fn deserialize(
+        alloc: Global,
+        de: &mut Deserializer<SliceReader<'de>>,
+    ) -> Result<CowStr<'de, Global>, DecodeError<Never>> {
+        take_item(alloc, de)
+    }
+}
+
+impl<'de> Deserialize<SegmentReader<'de>> for CowStr<'de, Global> {
+    fn deserialize(
+        alloc: Global,
+        de: &mut Deserializer<SegmentReader<'de>>,
+    ) -> Result<CowStr<'de, Global>, DecodeError<Never>> {
+        take_item(alloc, de)
+    }
+}
+
+impl<'de, R: BufRead + Drop> Deserialize<IoReader<R>> for CowStr<'de, Global> {
+    fn deserialize(
+        alloc: Global,
+        de: &mut Deserializer<IoReader<R>>,
+    ) -> Result<CowStr<'de, Global>, DecodeError<io::Error>> {
+        take_item(alloc, de)
+    }
+}
+
+impl<'de> Typed for Bytes<CowSlice<'de, u8, Global>> {
+    ghost reads = { ⟦<Bytes<CowSlice<'de, u8, Global>> as Spelled>⟧.reads };
+
+    ghost same = { ⟦<Bytes<CowSlice<'de, u8, Global>> as Spelled>⟧.same };
+
+    ghost never_empty = { true };
+
+    ghost owned = { true };
+
+    ghost takes_memory = { ⟦<Bytes<CowSlice<'de, u8, Global>> as Spelled>⟧.takes_memory };
+
+    ghost exact = { true };
+
+    fn is_never_empty() -> bool
+        ensures { result ≡ true }
+    {
+        true
+    }
+
+    fn is_owned() -> bool
+        ensures { result ≡ true }
+    {
+        true
+    }
+
+    ghost laws = { λ _. record {
+      one = as_one 2 two_small cow_bytes;
+      within = as_within 2 two_small cow_bytes;
+      positive = λ _. as_positive 2 two_small cow_bytes;
+    } };
+}
+
+impl<'de> Deserialize<SliceReader<'de>> for Bytes<CowSlice<'de, u8, Global>> {
+    fn deserialize(
+        alloc: Global,
+        de: &mut Deserializer<SliceReader<'de>>,
+    ) -> Result<Bytes<CowSlice<'de, u8, Global>>, DecodeError<Never>> {
+        take_item(alloc, de)
+    }
+}
+
+impl<'de> Deserialize<SegmentReader<'de>> for Bytes<CowSlice<'de, u8, Global>> {
+    fn deserialize(
+        alloc: Global,
+        de: &mut Deserializer<SegmentReader<'de>>,
+    ) -> Result<Bytes<CowSlice<'de, u8, Global>>, DecodeError<Never>> {
+        take_item(alloc, de)
+    }
+}
+
+impl<'de, R: BufRead + Drop> Deserialize<IoReader<R>> for Bytes<CowSlice<'de, u8, Global>> {
+    fn deserialize(
+        alloc: Global,
+        de: &mut Deserializer<IoReader<R>>,
+    ) -> Result<Bytes<CowSlice<'de, u8, Global>>, DecodeError<io::Error>> {
+        take_item(alloc, de)
+    }
+}

@@ -1,0 +1,77 @@
+//! What reading a typed value is.
+ghost use Rattle.std.specs.Prelude.{◌≡◌, ◌+◌, ◌≤◌, Bool, OnOk, IfOk, IfErr, IsTrue};
+ghost use Rattle.cbor4ii_items.specs.Moves.{Moves};
+ghost use Rattle.cbor4ii_items.specs.Decoding.{Reads, IsExact, Sound, Refuses};
+ghost use Rattle.cbor4ii_items.specs.Refusal.{is_out_of_memory};
+ghost use Rattle.cbor4ii.specs.Typed.{input, answer_of, as_core, Lawful};
+
+use crate::serde::de::deserializer::Deserializer;
+use crate::serde::de::error::DecodeError;
+use cbor4ii_rw::read::Source;
+use std::alloc::Global;
+
+/// A type whose values are read. What stands here is the same for every reader, so that a value
+/// means the same over all of them.
+pub trait Typed: Sized {
+    // What is read: the bytes to come, the value, how many of them it takes, and the steps that
+    // it costs.
+    ghost reads: { Reads Self };
+
+    // The two values mean the same.
+    ghost same: { Self → Self → Type 0 };
+
+    // No reading is empty.
+    ghost never_empty: { Bool };
+
+    // A value needs no borrowed part of the input.
+    ghost owned: { Bool };
+
+    // Reading may take memory.
+    ghost takes_memory: { Bool };
+
+    // `reads` says exactly what is accepted. A type that switches this off says nothing of what it
+    // refuses, and owes no law.
+    ghost exact: { Bool };
+
+    /// Whether an accepted value always reads a byte.
+    fn is_never_empty() -> bool
+        ensures { result ≡ never_empty };
+
+    /// Whether a value needs no borrowed part of the input.
+    fn is_owned() -> bool
+        ensures { result ≡ owned };
+
+    // One input is read in one way, what is read stands in the input, and a type of which no
+    // reading is empty reads a byte.
+    ghost laws: { IsTrue exact → Lawful Self.reads Self.same Self.never_empty };
+}
+
+/// A type whose values are read from a reader.
+pub trait Deserialize<S: Source>: Typed {
+    /// Reads one value off the front of what `de` has left. `alloc` gives what memory the value
+    /// needs.
+    ///
+    /// Over any lawful reader, also one that does not tell its bytes, and whatever the answer is:
+    /// the budget is as before, the bytes that are left are an end of those that were there, no
+    /// more can come than before, and a reader that lends whole still does.
+    ///
+    /// # Errors
+    ///
+    /// `Core` of `Read` where the reader failed in the call, and only there; its bytes may then be
+    /// told no more. `Core` of `OutOfMemory` only from a type that may take memory, where a growth
+    /// was refused. Every other error speaks of the bytes, and `Core` of `DepthOverflow` comes only
+    /// where the reader has a budget. Of an exact type, if it needs no borrowed part, or the reader
+    /// lends whole and has fewer than 2^64 bytes left, they come only where no value of the type
+    /// whose steps fit the budget begins the bytes.
+    fn deserialize(alloc: Global, de: &mut Deserializer<S>) -> Result<Self, DecodeError<S::Error>>
+        ensures moves { Moves (input S.view de.old) (input S.view de.new) (answer_of result) }
+        ensures progress { IsTrue Self.never_empty →
+            OnOk result ((input S.view de.new).bound + 1 ≤ (input S.view de.old).bound) }
+        ensures memory { IfErr result
+            (λ error. IsTrue (is_out_of_memory (as_core error)) → IsTrue Self.takes_memory) }
+        ensures sound { IfOk result
+            (Sound Self.reads (input S.view de.old) (input S.view de.new)) }
+        ensures complete { IsTrue Self.exact → IsExact Self.owned (input S.view de.old) →
+            IfErr result
+            (λ error. Refuses Self.reads (input S.view de.old) (as_core error)) };
+}

@@ -1,0 +1,44 @@
+//! A reader of typed values.
+ghost use Rattle.std.specs.Prelude.{◌≡◌, ◌+◌, ◌≤◌, OnOk, IsTrue};
+ghost use Rattle.cbor4ii.specs.ItemRead.{ReadsItem};
+ghost use Rattle.cbor4ii.specs.Typed.{input};
+
+use crate::serde::de::error::{DecodeError, typed};
+use cbor4ii_items::decode::Decode;
+use cbor4ii_rw::read::Source;
+use std::alloc::Global;
+
+/// A reader of typed values.
+#[derive(Drop)]
+pub struct Deserializer<S> {
+    pub(crate) reader: S,
+}
+
+impl<S: Source> Deserializer<S> {
+    /// Reads what `reader` has left, under its budget.
+    pub fn new(reader: S) -> Deserializer<S>
+        ensures { input S.view result ≡ S.view reader }
+    {
+        Deserializer { reader }
+    }
+
+    /// The reader, with what is left.
+    pub fn into_inner(self) -> S
+        ensures { S.view result ≡ input S.view self }
+    {
+        self.reader
+    }
+}
+
+/// Reads one item of the codec.
+pub(crate) fn take_item<S: Source, T: Decode<S>>(
+    alloc: Global,
+    de: &mut Deserializer<S>,
+) -> Result<T, DecodeError<S::Error>>
+    ensures item { ReadsItem T.reads T.stops T.owned T.takes_memory
+        (input S.view de.old) (input S.view de.new) result }
+    ensures progress { IsTrue T.never_empty →
+        OnOk result ((input S.view de.new).bound + 1 ≤ (input S.view de.old).bound) }
+{
+    typed(T::decode(alloc, &mut de.reader))
+}

@@ -1,0 +1,57 @@
+//! Why a typed value was not read.
+ghost use Rattle.std.specs.Prelude.{◌≡◌};
+ghost use Rattle.cbor4ii_rw.specs.declared.error.DecodeError.TheVariants.{Read};
+ghost use Rattle.cbor4ii.specs.declared.serde.de.error.DecodeError.TheVariants.{Core};
+ghost use Rattle.cbor4ii.specs.Typed.{answer_of};
+
+use cbor4ii_rw::error as core_error;
+use cbor4ii_rw::error::StaticStr;
+use std::error::Error;
+use std::fmt;
+
+/// Why a typed value was not read.
+#[derive(Clone, Debug, PartialEq, Eq, Drop)]
+pub enum DecodeError<E> {
+    /// An error of the codec.
+    Core(core_error::DecodeError<E>),
+    /// The item is well-formed, and stands for no value of the type. The text says why.
+    Custom(StaticStr),
+}
+
+impl<E> DecodeError<E> {
+    /// The reader failed, for this reason.
+    pub fn read(error: E) -> DecodeError<E>
+        ensures { result ≡ Core (Read error) }
+    {
+        DecodeError::Core(core_error::DecodeError::Read(error))
+    }
+}
+
+impl<E> From<core_error::DecodeError<E>> for DecodeError<E> {
+    ghost from_gives = { λ error result. result ≡ Core error };
+
+    fn from(error: core_error::DecodeError<E>) -> DecodeError<E> {
+        DecodeError::Core(error)
+    }
+}
+
+/// The text of `Debug`.
+impl<E: fmt::Debug> fmt::Display for DecodeError<E> {
+    fn fmt<W: fmt::Write>(&self, f: &mut fmt::Formatter<W>) -> fmt::Result {
+        fmt::Debug::fmt(self, f)
+    }
+}
+
+impl<E: fmt::Debug + Drop> Error for DecodeError<E> {}
+
+/// The codec's answer, as one of typed reading.
+pub(crate) fn typed<V, E>(
+    answer: Result<V, core_error::DecodeError<E>>,
+) -> Result<V, DecodeError<E>>
+    ensures { answer_of result ≡ answer }
+{
+    match answer {
+        Ok(value) => Ok(value),
+        Err(error) => Err(DecodeError::Core(error)),
+    }
+}

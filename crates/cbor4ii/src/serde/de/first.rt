@@ -1,0 +1,87 @@
+//! The value at the front of an input.
+ghost use Rattle.std.specs.Prelude.{◌≡◌, ◌<◌, ◌^◌, ◌⊎◌, List, ℕ, length, Option, Some, true, IsTrue};
+ghost use Rattle.cbor4ii_rw.specs.Stream.{most_bytes, cut_known};
+ghost use Rattle.cbor4ii.specs.First.{First, FirstOf, limit};
+
+use crate::serde::de::deserialize::{Deserialize, Typed};
+use crate::serde::de::deserializer::Deserializer;
+use crate::serde::de::error::DecodeError;
+use cbor4ii_rw::io_reader::IoReader;
+use cbor4ii_rw::read::Source;
+use cbor4ii_rw::slice_reader::SliceReader;
+use std::alloc::Global;
+use std::io;
+use std::io::BufRead;
+
+/// What `from_slice` reads: a slice.
+pub trait Input {
+    /// Its reader.
+    type Reader: Source + Drop;
+
+    // Its bytes.
+    ghost bytes: { Self → List ℕ };
+
+    /// A reader over it, with 256 steps.
+    fn reader(self) -> Self::Reader
+        ensures told { (Self.Reader.Source.view result).told ≡ Some (bytes self) }
+        ensures budget { (Self.Reader.Source.view result).budget ≡ Some limit }
+        ensures lends { (Self.Reader.Source.view result).lends_whole ≡ true };
+}
+
+impl<'a> Input for &'a [u8] {
+    type Reader = SliceReader<'a>;
+
+    ghost bytes = { λ slice. slice.now };
+
+    fn reader(self) -> SliceReader<'a> {
+        SliceReader::new(self)
+    }
+}
+
+/// Reads the value at the front of `input`, a slice, with 256 steps. What stands behind it is left
+/// alone.
+///
+/// # Errors
+///
+/// `Core` of `OutOfMemory` where a growth was refused. Any other error comes, of an exact type,
+/// only where no value of the type whose steps are at most 256 begins the slice.
+pub fn from_slice<I: Input, T: Deserialize<I::Reader>>(
+    alloc: Global,
+    input: I,
+) -> Result<T, DecodeError<<I::Reader as Source>::Error>>
+    ensures { First T.reads T.exact (IsTrue T.owned ⊎ (length (I.bytes input) < 2 ^ 64))
+        (Some (I.bytes input)) result }
+{
+    read_first(alloc, input.reader())
+}
+
+/// Reads the value at the front of a stream, with 256 steps. Of a stream, at most 2^64-1 bytes are
+/// read. What was taken of `reader` before an error is lost.
+///
+/// # Errors
+///
+/// `Core` of `Read` where the stream failed, and of `OutOfMemory` where a growth was refused. Any
+/// other error comes, of an exact type that needs no borrowed part, only where no value of the type
+/// whose steps are at most 256 begins these bytes. A type that is a borrowed part is refused by
+/// `Core` of `RequireBorrowed` where its item begins.
+pub fn from_reader<R: BufRead + Drop, T: Deserialize<IoReader<R>>>(
+    alloc: Global,
+    reader: R,
+) -> Result<T, DecodeError<io::Error>>
+    ensures { First T.reads T.exact (IsTrue T.owned)
+        (cut_known most_bytes (R.Read.remaining reader)) result }
+{
+    read_first(alloc, IoReader::new(reader))
+}
+
+/// Reads the value at the front of what `reader` has left.
+fn read_first<S: Source + Drop, T: Deserialize<S>>(
+    alloc: Global,
+    reader: S,
+) -> Result<T, DecodeError<S::Error>>
+    ensures { (S.view reader).budget ≡ Some limit →
+        FirstOf T.reads T.exact T.owned (S.view reader) result }
+{
+    let mut de = Deserializer::new(reader);
+    T::deserialize(alloc, &mut de)
+}

@@ -1,0 +1,148 @@
+//! Booleans and floats, as their bits.
+ghost use Rattle.std.specs.Prelude.{◌≡◌, true};
+ghost use Rattle.cbor4ii_items.specs.Simple.{bool_one, bool_within, bool_positive};
+ghost use Rattle.cbor4ii_items.specs.Floats.{float_one, float_within, float_positive};
+
+use crate::serde::de::deserialize::{Deserialize, Typed};
+use crate::serde::de::deserializer::{Deserializer, take_item};
+use crate::serde::de::error::DecodeError;
+use cbor4ii_items::decode::Spelled;
+use cbor4ii_items::types::{F16, F32, F64};
+use cbor4ii_rw::read::Source;
+use std::alloc::Global;
+
+impl Typed for bool {
+    ghost reads = { ⟦<bool as Spelled>⟧.reads };
+
+    ghost same = { ⟦<bool as Spelled>⟧.same };
+
+    ghost never_empty = { true };
+
+    ghost owned = { true };
+
+    ghost takes_memory = { ⟦<bool as Spelled>⟧.takes_memory };
+
+    ghost exact = { true };
+
+    fn is_never_empty() -> bool {
+        true
+    }
+
+    fn is_owned() -> bool {
+        true
+    }
+
+    ghost laws = { λ _. record {
+      one = bool_one;
+      within = bool_within;
+      positive = λ _. bool_positive;
+    } };
+}
+
+impl<S: Source> Deserialize<S> for bool {
+    fn deserialize(alloc: Global, de: &mut Deserializer<S>) -> Result<bool, DecodeError<S::Error>> {
+        take_item(alloc, de)
+    }
+}
+
+impl Typed for F16 {
+    ghost reads = { ⟦<F16 as Spelled>⟧.reads };
+
+    ghost same = { ⟦<F16 as Spelled>⟧.same };
+
+    ghost never_empty = { true };
+
+    ghost owned = { true };
+
+    ghost takes_memory = { ⟦<F16 as Spelled>⟧.takes_memory };
+
+    ghost exact = { true };
+
+    fn is_never_empty() -> bool {
+        true
+    }
+
+    fn is_owned() -> bool {
+        true
+    }
+
+    ghost laws = { λ _. record {
+      one = λ xs v w. float_one 0xf9 2 xs v.0 w.0;
+      within = λ xs v. float_within 0xf9 2 xs v.0;
+      positive = λ _ xs v. float_positive 0xf9 2 xs v.0;
+    } };
+}
+
+impl<S: Source> Deserialize<S> for F16 {
+    fn deserialize(alloc: Global, de: &mut Deserializer<S>) -> Result<F16, DecodeError<S::Error>> {
+        take_item(alloc, de)
+    }
+}
+
+impl Typed for F32 {
+    ghost reads = { ⟦<F32 as Spelled>⟧.reads };
+
+    ghost same = { ⟦<F32 as Spelled>⟧.same };
+
+    ghost never_empty = { true };
+
+    ghost owned = { true };
+
+    ghost takes_memory = { ⟦<F32 as Spelled>⟧.takes_memory };
+
+    ghost exact = { true };
+
+    fn is_never_empty() -> bool {
+        true
+    }
+
+    fn is_owned() -> bool {
+        true
+    }
+
+    ghost laws = { λ _. record {
+      one = λ xs v w. float_one 0xfa 4 xs v.0 w.0;
+      within = λ xs v. float_within 0xfa 4 xs v.0;
+      positive = λ _ xs v. float_positive 0xfa 4 xs v.0;
+    } };
+}
+
+impl<S: Source> Deserialize<S> for F32 {
+    fn deserialize(alloc: Global, de: &mut Deserializer<S>) -> Result<F32, DecodeError<S::Error>> {
+        take_item(alloc, de)
+    }
+}
+
+impl Typed for F64 {
+    ghost reads = { ⟦<F64 as Spelled>⟧.reads };
+
+    ghost same = { ⟦<F64 as Spelled>⟧.same };
+
+    ghost never_empty = { true };
+
+    ghost owned = { true };
+
+    ghost takes_memory = { ⟦<F64 as Spelled>⟧.takes_memory };
+
+    ghost exact = { true };
+
+    fn is_never_empty() -> bool {
+        true
+    }
+
+    fn is_owned() -> bool {
+        true
+    }
+
+    ghost laws = { λ _. record {
+      one = λ xs v w. float_one 0xfb 8 xs v.0 w.0;
+      within = λ xs v. float_within 0xfb 8 xs v.0;
+      positive = λ _ xs v. float_positive 0xfb 8 xs v.0;
+    } };
+}
+
+impl<S: Source> Deserialize<S> for F64 {
+    fn deserialize(alloc: Global, de: &mut Deserializer<S>) -> Result<F64, DecodeError<S::Error>> {
+        take_item(alloc, de)
+    }
+}
