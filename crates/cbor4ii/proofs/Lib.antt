@@ -1,1 +1,11 @@
 pub mod Firsts
+pub mod Forms
+pub mod Parts
+pub mod Pairs
+pub mod Sequences
+pub mod Ends
+pub mod Steps
+pub mod Stopped
+pub mod Tupled
+pub mod Looking
+pub mod Units

@@ -1,5 +1,5 @@
 -- A call that reads one item, as the item's type says.
-use Rattle.std.specs.Prelude.{◌≡◌, ℕ, List, Option, Bool, Result, IfOk, IfErr, IsTrue}
+use Rattle.std.specs.Prelude.{◌≡◌, ℕ, ◌+◌, ◌≤◌, List, Option, Bool, Result, OnOk, IfOk, IfErr, IsTrue}
 use Rattle.cbor4ii_rw.specs.View.{View}
 use Rattle.cbor4ii_items.specs.Moves.{Moves}
 use Rattle.cbor4ii_items.specs.Decoding.{IsExact, Sound, Refuses, Stops}
@@ -7,10 +7,11 @@ use Rattle.cbor4ii_items.specs.Refusal.{Refusal, is_out_of_memory}
 use Rattle.cbor4ii.specs.declared.serde.de.error.DecodeError.{DecodeError}
 use Rattle.cbor4ii.specs.Typed.{as_core, answer_of}
 
--- The budget is restored and an end of the bytes is left; an accepted value is a reading of the item; where acceptance is
+-- The budget is restored and an end of the bytes is left; where no reading is empty, fewer bytes can come then; an accepted value is a reading of the item; where acceptance is
 -- exact, a refusal comes only where there is none that fits, and is the one that the type gives there, with what it leaves.
-pub record ReadsItem {V E : Type 0} (reads : List ℕ → V → ℕ → ℕ → Type 0) (stops : List ℕ → Option ℕ → Refusal → List ℕ → Type 0) (owned takes_memory : Bool) (old new : View) (answer : Result V (DecodeError E)) : Type 0 where
+pub record ReadsItem {V E : Type 0} (reads : List ℕ → V → ℕ → ℕ → Type 0) (stops : List ℕ → Option ℕ → Refusal → List ℕ → Type 0) (never_empty owned takes_memory : Bool) (old new : View) (answer : Result V (DecodeError E)) : Type 0 where
   pub moves : Moves old new (answer_of answer)
+  pub progress : IsTrue never_empty → OnOk answer (new.bound + 1 ≤ old.bound)
   pub memory : IfErr answer (λ error. IsTrue (is_out_of_memory (as_core error)) → IsTrue takes_memory)
   pub sound : IfOk answer (Sound reads old new)
   pub complete : IsExact owned old → IfErr answer (λ error. Refuses reads old (as_core error))

@@ -1,3 +1,5 @@
 pub mod Typed
 pub mod ItemRead
 pub mod First
+pub mod Stepped
+pub mod Tuples

@@ -1,5 +1,5 @@
 //! A reader of typed values.
-ghost use Rattle.std.specs.Prelude.{◌≡◌, ◌+◌, ◌≤◌, OnOk, IsTrue};
+ghost use Rattle.std.specs.Prelude.{◌≡◌};
 ghost use Rattle.cbor4ii.specs.ItemRead.{ReadsItem};
 ghost use Rattle.cbor4ii.specs.Typed.{input};
 
@@ -35,10 +35,8 @@ pub(crate) fn take_item<S: Source, T: Decode<S>>(
     alloc: Global,
     de: &mut Deserializer<S>,
 ) -> Result<T, DecodeError<S::Error>>
-    ensures item { ReadsItem T.reads T.stops T.owned T.takes_memory
+    ensures { ReadsItem T.reads T.stops T.never_empty T.owned T.takes_memory
         (input S.view de.old) (input S.view de.new) result }
-    ensures progress { IsTrue T.never_empty →
-        OnOk result ((input S.view de.new).bound + 1 ≤ (input S.view de.old).bound) }
 {
     typed(T::decode(alloc, &mut de.reader))
 }

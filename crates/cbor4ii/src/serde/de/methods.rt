@@ -18,8 +18,8 @@ impl<S: Source> Deserializer<S> {
     /// False or true. Refused by the name "bool": `Eof` with 1 where no byte is left, and `Mismatch`
     /// with the first byte, which is taken, before any other item.
     pub fn deserialize_bool(&mut self, alloc: Global) -> Result<bool, DecodeError<S::Error>>
-        ensures { ReadsItem ⟦<bool as Spelled>⟧.reads ⟦<bool as Spelled>⟧.stops
-            ⟦<bool as Spelled>⟧.owned ⟦<bool as Spelled>⟧.takes_memory
+        ensures { ReadsItem ⟦<bool as Spelled>⟧.reads ⟦<bool as Spelled>⟧.stops true true
+            ⟦<bool as Spelled>⟧.takes_memory
             (input S.view self.old) (input S.view self.new) result }
     {
         take_item(alloc, self)
@@ -28,8 +28,8 @@ impl<S: Source> Deserializer<S> {
     /// An unsigned integer whose argument has at most one byte, refused by the name "u8": `Eof` or
     /// `Mismatch`, as for every head.
     pub fn deserialize_u8(&mut self, alloc: Global) -> Result<u8, DecodeError<S::Error>>
-        ensures { ReadsItem ⟦<u8 as Spelled>⟧.reads ⟦<u8 as Spelled>⟧.stops
-            ⟦<u8 as Spelled>⟧.owned ⟦<u8 as Spelled>⟧.takes_memory
+        ensures { ReadsItem ⟦<u8 as Spelled>⟧.reads ⟦<u8 as Spelled>⟧.stops true true
+            ⟦<u8 as Spelled>⟧.takes_memory
             (input S.view self.old) (input S.view self.new) result }
     {
         take_item(alloc, self)
@@ -38,8 +38,8 @@ impl<S: Source> Deserializer<S> {
     /// An unsigned integer whose argument has at most two bytes, refused by the name "u16": `Eof` or
     /// `Mismatch`, as for every head.
     pub fn deserialize_u16(&mut self, alloc: Global) -> Result<u16, DecodeError<S::Error>>
-        ensures { ReadsItem ⟦<u16 as Spelled>⟧.reads ⟦<u16 as Spelled>⟧.stops
-            ⟦<u16 as Spelled>⟧.owned ⟦<u16 as Spelled>⟧.takes_memory
+        ensures { ReadsItem ⟦<u16 as Spelled>⟧.reads ⟦<u16 as Spelled>⟧.stops true true
+            ⟦<u16 as Spelled>⟧.takes_memory
             (input S.view self.old) (input S.view self.new) result }
     {
         take_item(alloc, self)
@@ -48,8 +48,8 @@ impl<S: Source> Deserializer<S> {
     /// An unsigned integer whose argument has at most four bytes, refused by the name "u32": `Eof` or
     /// `Mismatch`, as for every head.
     pub fn deserialize_u32(&mut self, alloc: Global) -> Result<u32, DecodeError<S::Error>>
-        ensures { ReadsItem ⟦<u32 as Spelled>⟧.reads ⟦<u32 as Spelled>⟧.stops
-            ⟦<u32 as Spelled>⟧.owned ⟦<u32 as Spelled>⟧.takes_memory
+        ensures { ReadsItem ⟦<u32 as Spelled>⟧.reads ⟦<u32 as Spelled>⟧.stops true true
+            ⟦<u32 as Spelled>⟧.takes_memory
             (input S.view self.old) (input S.view self.new) result }
     {
         take_item(alloc, self)
@@ -58,8 +58,8 @@ impl<S: Source> Deserializer<S> {
     /// An unsigned integer whose argument has at most eight bytes, refused by the name "u64": `Eof` or
     /// `Mismatch`, as for every head.
     pub fn deserialize_u64(&mut self, alloc: Global) -> Result<u64, DecodeError<S::Error>>
-        ensures { ReadsItem ⟦<u64 as Spelled>⟧.reads ⟦<u64 as Spelled>⟧.stops
-            ⟦<u64 as Spelled>⟧.owned ⟦<u64 as Spelled>⟧.takes_memory
+        ensures { ReadsItem ⟦<u64 as Spelled>⟧.reads ⟦<u64 as Spelled>⟧.stops true true
+            ⟦<u64 as Spelled>⟧.takes_memory
             (input S.view self.old) (input S.view self.new) result }
     {
         take_item(alloc, self)
@@ -67,8 +67,8 @@ impl<S: Source> Deserializer<S> {
 
     /// An unsigned integer, or a bignum below 2^128 (tag 2), refused as `u128` is.
     pub fn deserialize_u128(&mut self, alloc: Global) -> Result<u128, DecodeError<S::Error>>
-        ensures { ReadsItem ⟦<u128 as Spelled>⟧.reads ⟦<u128 as Spelled>⟧.stops
-            ⟦<u128 as Spelled>⟧.owned ⟦<u128 as Spelled>⟧.takes_memory
+        ensures { ReadsItem ⟦<u128 as Spelled>⟧.reads ⟦<u128 as Spelled>⟧.stops true true
+            ⟦<u128 as Spelled>⟧.takes_memory
             (input S.view self.old) (input S.view self.new) result }
     {
         take_item(alloc, self)
@@ -76,8 +76,8 @@ impl<S: Source> Deserializer<S> {
 
     /// An integer whose argument has at most one byte, in the range of i8, refused as `i8` is.
     pub fn deserialize_i8(&mut self, alloc: Global) -> Result<i8, DecodeError<S::Error>>
-        ensures { ReadsItem ⟦<i8 as Spelled>⟧.reads ⟦<i8 as Spelled>⟧.stops
-            ⟦<i8 as Spelled>⟧.owned ⟦<i8 as Spelled>⟧.takes_memory
+        ensures { ReadsItem ⟦<i8 as Spelled>⟧.reads ⟦<i8 as Spelled>⟧.stops true true
+            ⟦<i8 as Spelled>⟧.takes_memory
             (input S.view self.old) (input S.view self.new) result }
     {
         take_item(alloc, self)
@@ -85,8 +85,8 @@ impl<S: Source> Deserializer<S> {
 
     /// An integer whose argument has at most two bytes, in the range of i16, refused as `i16` is.
     pub fn deserialize_i16(&mut self, alloc: Global) -> Result<i16, DecodeError<S::Error>>
-        ensures { ReadsItem ⟦<i16 as Spelled>⟧.reads ⟦<i16 as Spelled>⟧.stops
-            ⟦<i16 as Spelled>⟧.owned ⟦<i16 as Spelled>⟧.takes_memory
+        ensures { ReadsItem ⟦<i16 as Spelled>⟧.reads ⟦<i16 as Spelled>⟧.stops true true
+            ⟦<i16 as Spelled>⟧.takes_memory
             (input S.view self.old) (input S.view self.new) result }
     {
         take_item(alloc, self)
@@ -94,8 +94,8 @@ impl<S: Source> Deserializer<S> {
 
     /// An integer whose argument has at most four bytes, in the range of i32, refused as `i32` is.
     pub fn deserialize_i32(&mut self, alloc: Global) -> Result<i32, DecodeError<S::Error>>
-        ensures { ReadsItem ⟦<i32 as Spelled>⟧.reads ⟦<i32 as Spelled>⟧.stops
-            ⟦<i32 as Spelled>⟧.owned ⟦<i32 as Spelled>⟧.takes_memory
+        ensures { ReadsItem ⟦<i32 as Spelled>⟧.reads ⟦<i32 as Spelled>⟧.stops true true
+            ⟦<i32 as Spelled>⟧.takes_memory
             (input S.view self.old) (input S.view self.new) result }
     {
         take_item(alloc, self)
@@ -103,8 +103,8 @@ impl<S: Source> Deserializer<S> {
 
     /// An integer whose argument has at most eight bytes, in the range of i64, refused as `i64` is.
     pub fn deserialize_i64(&mut self, alloc: Global) -> Result<i64, DecodeError<S::Error>>
-        ensures { ReadsItem ⟦<i64 as Spelled>⟧.reads ⟦<i64 as Spelled>⟧.stops
-            ⟦<i64 as Spelled>⟧.owned ⟦<i64 as Spelled>⟧.takes_memory
+        ensures { ReadsItem ⟦<i64 as Spelled>⟧.reads ⟦<i64 as Spelled>⟧.stops true true
+            ⟦<i64 as Spelled>⟧.takes_memory
             (input S.view self.old) (input S.view self.new) result }
     {
         take_item(alloc, self)
@@ -112,8 +112,8 @@ impl<S: Source> Deserializer<S> {
 
     /// An integer, or a bignum (tags 2 and 3) in the range of i128, refused as `i128` is.
     pub fn deserialize_i128(&mut self, alloc: Global) -> Result<i128, DecodeError<S::Error>>
-        ensures { ReadsItem ⟦<i128 as Spelled>⟧.reads ⟦<i128 as Spelled>⟧.stops
-            ⟦<i128 as Spelled>⟧.owned ⟦<i128 as Spelled>⟧.takes_memory
+        ensures { ReadsItem ⟦<i128 as Spelled>⟧.reads ⟦<i128 as Spelled>⟧.stops true true
+            ⟦<i128 as Spelled>⟧.takes_memory
             (input S.view self.old) (input S.view self.new) result }
     {
         take_item(alloc, self)
@@ -121,8 +121,8 @@ impl<S: Source> Deserializer<S> {
 
     /// A float of two bytes, as its bits, refused by the name "f16".
     pub fn deserialize_f16(&mut self, alloc: Global) -> Result<F16, DecodeError<S::Error>>
-        ensures { ReadsItem ⟦<F16 as Spelled>⟧.reads ⟦<F16 as Spelled>⟧.stops
-            ⟦<F16 as Spelled>⟧.owned ⟦<F16 as Spelled>⟧.takes_memory
+        ensures { ReadsItem ⟦<F16 as Spelled>⟧.reads ⟦<F16 as Spelled>⟧.stops true true
+            ⟦<F16 as Spelled>⟧.takes_memory
             (input S.view self.old) (input S.view self.new) result }
     {
         take_item(alloc, self)
@@ -130,8 +130,8 @@ impl<S: Source> Deserializer<S> {
 
     /// A float of four bytes, as its bits, refused by the name "f32".
     pub fn deserialize_f32(&mut self, alloc: Global) -> Result<F32, DecodeError<S::Error>>
-        ensures { ReadsItem ⟦<F32 as Spelled>⟧.reads ⟦<F32 as Spelled>⟧.stops
-            ⟦<F32 as Spelled>⟧.owned ⟦<F32 as Spelled>⟧.takes_memory
+        ensures { ReadsItem ⟦<F32 as Spelled>⟧.reads ⟦<F32 as Spelled>⟧.stops true true
+            ⟦<F32 as Spelled>⟧.takes_memory
             (input S.view self.old) (input S.view self.new) result }
     {
         take_item(alloc, self)
@@ -139,8 +139,8 @@ impl<S: Source> Deserializer<S> {
 
     /// A float of eight bytes, as its bits, refused by the name "f64".
     pub fn deserialize_f64(&mut self, alloc: Global) -> Result<F64, DecodeError<S::Error>>
-        ensures { ReadsItem ⟦<F64 as Spelled>⟧.reads ⟦<F64 as Spelled>⟧.stops
-            ⟦<F64 as Spelled>⟧.owned ⟦<F64 as Spelled>⟧.takes_memory
+        ensures { ReadsItem ⟦<F64 as Spelled>⟧.reads ⟦<F64 as Spelled>⟧.stops true true
+            ⟦<F64 as Spelled>⟧.takes_memory
             (input S.view self.old) (input S.view self.new) result }
     {
         take_item(alloc, self)
@@ -149,8 +149,8 @@ impl<S: Source> Deserializer<S> {
     /// A text, of known or indefinite length; one of indefinite length needs a step for its chunks.
     /// Refused as `String` is, by the name "str".
     pub fn deserialize_string(&mut self, alloc: Global) -> Result<String, DecodeError<S::Error>>
-        ensures { ReadsItem ⟦<String as Spelled>⟧.reads ⟦<String as Spelled>⟧.stops
-            ⟦<String as Spelled>⟧.owned ⟦<String as Spelled>⟧.takes_memory
+        ensures { ReadsItem ⟦<String as Spelled>⟧.reads ⟦<String as Spelled>⟧.stops true true
+            ⟦<String as Spelled>⟧.takes_memory
             (input S.view self.old) (input S.view self.new) result }
     {
         take_item(alloc, self)

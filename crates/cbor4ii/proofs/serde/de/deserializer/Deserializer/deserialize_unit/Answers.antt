@@ -1,0 +1,35 @@
+use Rattle.std.proofs.Common.{refl, rules, arith}
+use Rattle.cbor4ii_items.specs.Laws.Steps.{moves_err}
+use Rattle.cbor4ii.proofs.Looking.{kept_next, saw}
+use Rattle.cbor4ii.proofs.Units.{unit_sound, unit_other, unit_mismatch, unit_missing, unit_ended}
+use Rattle.cbor4ii.proofs.serde.de.deserializer.Deserializer.deserialize_unit.Goals as goal
+
+pub returns-then-first : goal.returns-then-first
+returns-then-first g c = record {
+  moves = record { by = kept_next c.in-Ok.ensures.moves c.in-Ok.ensures.sound (search rules) c.advance.ensures; depth = λ e. refl };
+  progress = λ e. omega (arith, c.advance.ensures.bound, c.in-Ok.ensures.moves.by.bound);
+  memory = tt;
+  sound = unit_sound (saw c.in-Ok.ensures.moves c.in-Ok.ensures.sound) c.if-first.true c.advance.ensures;
+  complete = λ e. tt;
+  stopped = λ e. tt;
+}
+
+pub returns-else-first : goal.returns-else-first
+returns-else-first g c = record {
+  moves = record { by = kept_next c.in-Ok.ensures.moves c.in-Ok.ensures.sound (search rules) c.advance.ensures; depth = λ e. refl };
+  progress = λ e. tt;
+  memory = λ no. search rules;
+  sound = tt;
+  complete = λ e. unit_other (saw c.in-Ok.ensures.moves c.in-Ok.ensures.sound) c.if-first.false;
+  stopped = λ e. unit_mismatch (saw c.in-Ok.ensures.moves c.in-Ok.ensures.sound) c.if-first.false c.advance.ensures refl;
+}
+
+pub returns-in-Err : goal.returns-in-Err
+returns-in-Err g c = record {
+  moves = moves_err c.in-Err.ensures.moves;
+  progress = λ e. tt;
+  memory = λ no. search rules;
+  sound = tt;
+  complete = λ e. unit_missing c.in-Err.ensures.complete;
+  stopped = λ e. unit_ended c.in-Err.ensures.stops;
+}

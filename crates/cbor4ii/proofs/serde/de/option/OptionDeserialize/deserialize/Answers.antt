@@ -1,0 +1,32 @@
+use Rattle.std.proofs.Common.{refl, inl, inr, rules}
+use Rattle.cbor4ii_items.specs.Laws.Steps.{moves_then, moves_ok, moves_err}
+use Rattle.cbor4ii_items.specs.Laws.Answering.{exact_kept}
+use Rattle.cbor4ii.proofs.Looking.{kept_next, saw, some_sound, some_refuses, no_option, null_sound}
+use Rattle.cbor4ii.proofs.serde.de.option.OptionDeserialize.deserialize.Goals.{then-first-via-then-first, then-first-via-else-first+then-first-2}
+use Rattle.cbor4ii.proofs.serde.de.option.OptionDeserialize.deserialize.Goals as goal
+
+pub returns-then-first-clause-moves : goal.returns-then-first-clause-moves
+returns-then-first-clause-moves g c = record { by = kept_next c.in-Ok.ensures.moves c.in-Ok.ensures.sound (search rules) c.advance.ensures; depth = λ e. refl }
+
+pub returns-then-first-clause-sound : goal.returns-then-first-clause-sound
+returns-then-first-clause-sound g c =
+    let seen = saw c.in-Ok.ensures.moves c.in-Ok.ensures.sound in
+    elim c.then-first.branch [
+      | then-first-via-then-first w ↦ null_sound _ seen (inl w.if-first.true) c.advance.ensures
+      | then-first-via-else-first+then-first-2 w ↦ null_sound _ seen (inr w.if-first-2.true) c.advance.ensures
+    ]
+
+pub returns-in-Ok-under_step-clause-moves : goal.returns-in-Ok-under_step-clause-moves
+returns-in-Ok-under_step-clause-moves g c = moves_then c.in-Ok.ensures.moves.by (moves_ok c.in-Ok-under_step.ensures.moves)
+
+pub returns-in-Ok-under_step-clause-sound : goal.returns-in-Ok-under_step-clause-sound
+returns-in-Ok-under_step-clause-sound g c = some_sound _ (saw c.in-Ok.ensures.moves c.in-Ok.ensures.sound) c.if-first.false c.if-first-2.false c.in-Ok-under_step.ensures.sound
+
+pub returns-in-Err-under_step-clause-moves : goal.returns-in-Err-under_step-clause-moves
+returns-in-Err-under_step-clause-moves g c = moves_then c.in-Ok.ensures.moves.by (moves_err c.in-Err-under_step.ensures.moves)
+
+pub returns-in-Err-under_step-clause-complete : goal.returns-in-Err-under_step-clause-complete
+returns-in-Err-under_step-clause-complete g c said exact = some_refuses _ (saw c.in-Ok.ensures.moves c.in-Ok.ensures.sound) c.if-first.false c.if-first-2.false (λ xs told. c.in-Err-under_step.ensures.complete said (exact_kept _ _ _ xs told c.in-Ok.ensures.moves.by exact))
+
+pub returns-in-Err-clause-complete : goal.returns-in-Err-clause-complete
+returns-in-Err-clause-complete g c said exact = no_option _ c.in-Err.ensures.complete

@@ -1,0 +1,78 @@
+-- Units and tuples.
+use Rattle.std.proofs.Common.{◌≡◌, ℕ, ◌+◌, ◌<◌, ◌≤◌, List, [], ◌∷◌, length, take, drop, max, Bool, true, false, ◌/◌, sym, ap, ◌∙◌, subst, arith}
+use Rattle.std.proofs.lemmas.List.{length-drop}
+use Rattle.std.specs.Prelude.{◌||◌, ◌≢◌, codes}
+use Rattle.cbor4ii_rw.specs.declared.error.Len.TheVariants.{Small}
+use Rattle.cbor4ii_items.specs.Decoding.{StopsAt}
+use Rattle.cbor4ii_items.specs.Refusal.{eof, mismatch}
+use Rattle.cbor4ii_items.specs.Heads.{ReadsHead}
+use Rattle.cbor4ii_items.specs.HeadLaws.{head_one, head_read}
+use Rattle.cbor4ii_items.specs.Sequences.{ReadsPair, SamePair}
+use Rattle.cbor4ii_items.specs.SequenceLaws.{pair_within, pair_positive}
+use Rattle.cbor4ii.specs.Typed.{Lawful, any_two}
+
+-- an array of no item, in one byte
+abbrev pub ReadsUnit : List ℕ → Unit {0} → ℕ → ℕ → Type 0
+ReadsUnit xs v n c = (take 1 xs ≡ 0x80 ∷ []) × (n ≡ 1) × (c ≡ 0)
+
+-- no byte is left, or the first one is another, and is taken
+abbrev pub StopsUnit : StopsAt
+StopsUnit [] budget refusal rest = (refusal ≡ eof (codes "unit") (Small 1)) × (rest ≡ [])
+StopsUnit (b ∷ bs) budget refusal rest = (b ≢ 0x80) × (refusal ≡ mismatch (codes "unit") b) × (rest ≡ bs)
+
+one_there : (xs : List ℕ) (b : ℕ) → take 1 xs ≡ b ∷ [] → 1 ≤ length xs
+one_there [] b e = cc
+one_there (x ∷ xs) b e = omega arith
+
+pub unit_laws : Lawful ReadsUnit any_two true
+unit_laws = record {
+  one = λ xs v w n m c d p q. (p.1 ∙ sym q.1, p.2 ∙ sym q.2, tt);
+  within = λ xs v n c p. omega (arith, p.1, one_there xs 0x80 p.0);
+  positive = λ e xs v n c p. omega (arith, p.1);
+}
+
+-- a head that counts so many, and what stands behind it
+pub record ReadsBehind {V : Type 0} (count : ℕ) (reads : List ℕ → V → ℕ → ℕ → Type 0) (xs : List ℕ) (v : V) (n c : ℕ) : Type 0 where
+  pub before : ℕ
+  pub head : ReadsHead 4 8 xs count before
+  pub between : ℕ
+  pub parts : reads (drop before xs) v between c
+  pub size : n ≡ before + between
+
+pub four_is_small : 4 < 8
+four_is_small = omega arith
+
+pub behind_laws : {V : Type 0} (count : ℕ) {reads : List ℕ → V → ℕ → ℕ → Type 0} {same : V → V → Type 0} {never_empty : Bool} → Lawful reads same never_empty → Lawful (ReadsBehind count reads) same true
+behind_laws count {reads = reads} h = record {
+  one = λ xs v w n m c d p q. (
+      let s = (head_one 4 8 xs count count p.before q.before four_is_small p.head q.head).0 in
+      let e = h.one (drop q.before xs) v w p.between q.between c d (subst (λ j. reads (drop j xs) v p.between c) s p.parts) q.parts in
+      (omega (arith, s, p.size, q.size, e.0), e.1, e.2));
+  within = λ xs v n c p. (
+      let s = head_read [] 4 8 xs count p.before four_is_small p.head in
+      omega (arith, s.1, p.size, length-drop p.before xs, h.within (drop p.before xs) v p.between c p.parts));
+  positive = λ e xs v n c p. (
+      let s = head_read [] 4 8 xs count p.before four_is_small p.head in
+      omega (arith, s.2, p.size));
+}
+
+-- two parts, one behind the other
+pub pair_laws : {A B : Type 0} (first : List ℕ → A → ℕ → ℕ → Type 0) (second : List ℕ → B → ℕ → ℕ → Type 0) (same_first : A → A → Type 0) (same_second : B → B → Type 0) (some_first some_second : Bool)
+    → Lawful first same_first some_first → Lawful second same_second some_second → Lawful (ReadsPair first second) (SamePair same_first same_second) (some_first || some_second)
+pair_laws first second same_first same_second some_first some_second h k = record {
+  one = λ xs v w n m c d p q. (
+      let e = h.one xs v.0 w.0 p.key_size q.key_size p.key_cost q.key_cost p.key q.key in
+      let f = k.one (drop q.key_size xs) v.1 w.1 p.value_size q.value_size p.value_cost q.value_cost (subst (λ j. second (drop j xs) v.1 p.value_size p.value_cost) e.0 p.value) q.value in
+      (omega (arith, p.size, q.size, e.0, f.0), p.cost ∙ (ap (λ j. max j p.value_cost) e.1 ∙ (ap (λ j. max q.key_cost j) f.1 ∙ sym q.cost)), (e.2, f.2)));
+  within = pair_within first second h.within k.within;
+  positive = pair_positive first second some_first some_second h.positive k.positive;
+}
+
+-- a head that counts so many
+abbrev pub ReadsCountOf : ℕ → List ℕ → Unit {0} → ℕ → ℕ → Type 0
+ReadsCountOf count xs v n c = ReadsHead 4 8 xs count n × (c ≡ 0)
+
+-- what an enum begins with: the head of a map of one entry, taken, or a text, which stays
+abbrev pub ReadsEnum : List ℕ → Bool → ℕ → ℕ → Type 0
+ReadsEnum xs true n c = (take 1 xs ≡ 0xa1 ∷ []) × (n ≡ 1) × (c ≡ 0)
+ReadsEnum xs false n c = (b : ℕ) × (take 1 xs ≡ b ∷ []) × (b / 32 ≡ 3) × (n ≡ 0) × (c ≡ 0)

@@ -1,0 +1,64 @@
+//! Values that may be absent.
+ghost use Rattle.cbor4ii_items.specs.Containers.{ReadsOption, SameOption};
+ghost use Rattle.cbor4ii.specs.Stepped.{Stepped, stepped_laws, option_laws};
+
+use crate::serde::de::deserialize::{Deserialize, Typed};
+use crate::serde::de::deserializer::Deserializer;
+use crate::serde::de::error::DecodeError;
+use crate::serde::de::stepped::under_step;
+use cbor4ii_items::initial::peek;
+use cbor4ii_items::marker;
+use cbor4ii_rw::read::Source;
+use std::alloc::Global;
+
+impl<T: Typed> Typed for Option<T> {
+    ghost reads = { ReadsOption (Stepped T.reads) };
+
+    ghost same = { SameOption T.same };
+
+    ghost never_empty = { T.never_empty };
+
+    ghost owned = { T.owned };
+
+    ghost takes_memory = { T.takes_memory };
+
+    ghost exact = { T.exact };
+
+    fn is_never_empty() -> bool {
+        T::is_never_empty()
+    }
+
+    fn is_owned() -> bool {
+        T::is_owned()
+    }
+
+    ghost laws = { λ e.
+        option_laws (Stepped T.reads) T.same T.never_empty (stepped_laws (T.laws e)) };
+}
+
+/// Null and undefined are none, and take no step. Before any other byte a value is read, under a
+/// step more.
+///
+/// By the name "option": `Eof` with 1 where no byte is left, also for a value that reads no byte,
+/// and `DepthOverflow` where a value comes and no step is left, which takes nothing. Otherwise it
+/// is refused as the value is, and leaves what the value leaves.
+impl<S: Source, T: Deserialize<S>> Deserialize<S> for Option<T> {
+    fn deserialize(
+        alloc: Global,
+        de: &mut Deserializer<S>,
+    ) -> Result<Option<T>, DecodeError<S::Error>> {
+        match peek(&mut de.reader, "option") {
+            Ok(first) => {
+                if first == marker::NULL || first == marker::UNDEFINED {
+                    de.reader.advance(1);
+                    return Ok(None);
+                }
+                match under_step::<S, T>(alloc, de, "option") {
+                    Ok(value) => Ok(Some(value)),
+                    Err(error) => Err(error),
+                }
+            }
+            Err(error) => Err(DecodeError::Core(error)),
+        }
+    }
+}

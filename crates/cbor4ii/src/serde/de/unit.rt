@@ -1,0 +1,83 @@
+//! The unit.
+ghost use Rattle.std.specs.Prelude.{◌≡◌, true, false};
+ghost use Rattle.cbor4ii.specs.ItemRead.{ReadsItem};
+ghost use Rattle.cbor4ii.specs.Tuples.{ReadsUnit, StopsUnit, unit_laws};
+ghost use Rattle.cbor4ii.specs.Typed.{input, any_two};
+
+use crate::serde::de::deserialize::{Deserialize, Typed};
+use crate::serde::de::deserializer::Deserializer;
+use crate::serde::de::error::DecodeError;
+use cbor4ii_items::initial::peek;
+use cbor4ii_rw::error as core_error;
+use cbor4ii_rw::error::StaticStr;
+use cbor4ii_rw::read::Source;
+use std::alloc::Global;
+
+/// An array of no item, in one byte.
+const UNIT: u8 = 0x80;
+
+impl Typed for () {
+    ghost reads = { ReadsUnit };
+
+    ghost same = { any_two };
+
+    ghost never_empty = { true };
+
+    ghost owned = { true };
+
+    ghost takes_memory = { false };
+
+    ghost exact = { true };
+
+    fn is_never_empty() -> bool {
+        true
+    }
+
+    fn is_owned() -> bool {
+        true
+    }
+
+    ghost laws = { λ _. unit_laws };
+}
+
+impl<S: Source> Deserialize<S> for () {
+    fn deserialize(alloc: Global, de: &mut Deserializer<S>) -> Result<(), DecodeError<S::Error>> {
+        de.deserialize_unit()
+    }
+}
+
+impl<S: Source> Deserializer<S> {
+    /// The unit: an array of no item, in one byte. It takes no step.
+    ///
+    /// # Errors
+    ///
+    /// `Core` of `Read` where the reader failed. By the name "unit": `Core` of `Eof` with 1 where
+    /// no byte is left, and of `Mismatch` with the first byte, which is taken, where that is
+    /// another one, also where an array of no item is spelled otherwise.
+    pub fn deserialize_unit(&mut self) -> Result<(), DecodeError<S::Error>>
+        ensures { ReadsItem ReadsUnit StopsUnit true true false
+            (input S.view self.old) (input S.view self.new) result }
+    {
+        match peek(&mut self.reader, "unit") {
+            Ok(first) => {
+                self.reader.advance(1);
+                if first == UNIT {
+                    return Ok(());
+                }
+                Err(DecodeError::Core(core_error::DecodeError::Mismatch {
+                    name: "unit",
+                    found: first,
+                }))
+            }
+            Err(error) => Err(DecodeError::Core(error)),
+        }
+    }
+
+    /// A struct without fields, read and refused as the unit is. Its name is not spelled.
+    pub fn deserialize_unit_struct(&mut self, name: StaticStr) -> Result<(), DecodeError<S::Error>>
+        ensures { ReadsItem ReadsUnit StopsUnit true true false
+            (input S.view self.old) (input S.view self.new) result }
+    {
+        self.deserialize_unit()
+    }
+}
