@@ -7,5 +7,7 @@ pub mod Ends
 pub mod Steps
 pub mod Stopped
 pub mod Tupled
+pub mod Triples
+pub mod Mapped
 pub mod Looking
 pub mod Units

@@ -29,7 +29,7 @@ refuses_stepped reads {a = a} {b = b} {e = e} takes inward w = record {
       (λ none v n c read fits. none v n read.0 read.1 (fits_inside a.budget b.budget read.0 takes (subst (λ k. CostFits k a.budget) read.2 fits))) (w.at xs (inward.told ∙ told));
 }
 
-module _ {V E : Type 0} (r : Result V (Typed E)) (reads : List ℕ → V → ℕ → ℕ → Type 0) (a b : View) (takes : StepsIn a.budget b.budget true) (inward : KeepsAllButBudget a b) where
+module _ {V W E : Type 0} (r : Result W (Typed E)) (form : W → V) (reads : List ℕ → V → ℕ → ℕ → Type 0) (a b : View) (takes : StepsIn a.budget b.budget true) (inward : KeepsAllButBudget a b) where
   sound_at : (c d : View) (v : V) → KeepsAllButBudget c d → Sound reads b c v → Sound (Stepped reads) a d v
   sound_at c d v outward w = record {
     at = λ xs told.
@@ -37,17 +37,22 @@ module _ {V E : Type 0} (r : Result V (Typed E)) (reads : List ℕ → V → ℕ
         record { count = t.count; cost = 1 + t.cost; read = (t.cost, t.read, refl); fits = fits_step a.budget b.budget t.cost takes t.fits; left = outward.told ∙ t.left };
   }
 
-  pub step_sound : (c d : View) → KeepsAllButBudget c d → IfOk r (Sound reads b c) → IfOk r (Sound (Stepped reads) a d)
-  step_sound c d outward s = elim r as (λ t. IfOk t (Sound reads b c) → IfOk t (Sound (Stepped reads) a d)) [
-    | Ok v ↦ (λ w. sound_at c d v outward w)
+  pub formed_sound : (c d : View) → KeepsAllButBudget c d → IfOk r (λ w. Sound reads b c (form w)) → IfOk r (λ w. Sound (Stepped reads) a d (form w))
+  formed_sound c d outward s = elim r as (λ t. IfOk t (λ w. Sound reads b c (form w)) → IfOk t (λ w. Sound (Stepped reads) a d (form w))) [
+    | Ok v ↦ (λ w. sound_at c d (form v) outward w)
     | Err e ↦ (λ w. tt)
   ] s
 
+module _ {V W E : Type 0} (r : Result W (Typed E)) (reads : List ℕ → V → ℕ → ℕ → Type 0) (a b : View) (takes : StepsIn a.budget b.budget true) (inward : KeepsAllButBudget a b) where
   pub step_refuses : IfErr r (λ e. Refuses reads b (as_core e)) → IfErr r (λ e. Refuses (Stepped reads) a (as_core e))
   step_refuses s = elim r as (λ t. IfErr t (λ e. Refuses reads b (as_core e)) → IfErr t (λ e. Refuses (Stepped reads) a (as_core e))) [
     | Ok v ↦ (λ w. tt)
     | Err e ↦ (λ w. refuses_stepped reads takes inward w)
   ] s
+
+module _ {V E : Type 0} (r : Result V (Typed E)) (reads : List ℕ → V → ℕ → ℕ → Type 0) (a b : View) (takes : StepsIn a.budget b.budget true) (inward : KeepsAllButBudget a b) where
+  pub step_sound : (c d : View) → KeepsAllButBudget c d → IfOk r (Sound reads b c) → IfOk r (Sound (Stepped reads) a d)
+  step_sound c d outward s = formed_sound r (λ v. v) reads a b takes inward c d outward s
 
 stepped : (old new : Option ℕ) → StepsIn old new true → (old ≢ Some 0) × (new ≡ after_step old)
 stepped None new h = ((λ e. cc), h)

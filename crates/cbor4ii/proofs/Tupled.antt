@@ -1,19 +1,25 @@
 -- A head that counts so many, and what stands behind it.
-use Rattle.std.proofs.Common.{◌≡◌, ℕ, ◌+◌, List, drop, Option, Some, None, Result, Ok, Err, refl, sym, ap, ◌∙◌, subst, IfSome, IfOk, IfErr}
+use Rattle.std.proofs.Common.{◌≡◌, ℕ, ◌+◌, ◌<◌, ◌≤◌, inl, inr, List, drop, Option, Some, None, Bool, true, false, Result, Ok, Err, refl, sym, ap, ◌∙◌, subst, IfSome, IfOk, IfErr, ltb, ltb-true, ltb-false}
+use Rattle.std.specs.Prelude.{codes}
+use denote.Ref.{Bor}
+use Rattle.cbor4ii_rw.specs.declared.error.Len.{Len}
+use Rattle.cbor4ii_rw.specs.declared.error.Len.TheVariants.{Small, Big, Indefinite}
+use Rattle.cbor4ii_rw.specs.declared.error.DecodeError.TheVariants.{RequireLength}
 use Rattle.cbor4ii_rw.specs.View.{View}
 use Rattle.cbor4ii_rw.specs.declared.error.DecodeError.{DecodeError}
 use Rattle.cbor4ii.specs.declared.serde.de.error.DecodeError.{DecodeError as Typed}
 use Rattle.cbor4ii.specs.Typed.{as_core}
-use Rattle.cbor4ii.specs.Tuples.{ReadsBehind, ReadsCountOf, four_is_small}
-use Rattle.cbor4ii_items.specs.Refusal.{Refusal, refusal_of}
+use Rattle.cbor4ii.specs.Tuples.{ReadsBehind, ReadsCountOf, StopsCountOf, told_length, four_is_small}
+use Rattle.cbor4ii_items.specs.Refusal.{Refusal, refusal_of, len_of}
 use Rattle.cbor4ii_items.specs.Moves.{Kept}
 use Rattle.cbor4ii_items.specs.Fronts.{drop_more}
 use Rattle.cbor4ii_items.specs.HeadLaws.{head_one}
 use Rattle.cbor4ii_items.specs.StringLaws.{head_not_open}
-use Rattle.cbor4ii_items.specs.Lengths.{ReadsLength}
-use Rattle.cbor4ii_items.specs.Decoding.{CostFits, Sound, NoneRead, Refuses}
+use Rattle.cbor4ii_items.specs.Lengths.{ReadsLength, StopsLength}
+use Rattle.cbor4ii_items.specs.Decoding.{CostFits, Sound, NoneRead, Refuses, Stops}
 use Rattle.cbor4ii_items.specs.Laws.Answering.{if_some}
 use Rattle.cbor4ii_items.specs.Laws.Answering.{fits_zero}
+use Rattle.cbor4ii.proofs.Stopped.{stopped_as}
 
 always : {Q : Type 0} (o : Option Refusal) → Q → IfSome o (λ z. Q)
 always None q = tt
@@ -34,6 +40,24 @@ count_other {count = count} {l = l} {a = a} {e = e} not s = record { at = λ xs 
 
 pub count_none : {E : Type 0} {count : ℕ} {a : View} {e : DecodeError E} → Refuses (ReadsLength 4) a e → Refuses (ReadsCountOf count) a e
 count_none {count = count} {e = e} s = record { at = λ xs told. if_some (refusal_of e) (λ none v n c r fits. none (Some count) n c r fits) (s.at xs told) }
+
+pub count_missing : {E : Type 0} {count : ℕ} {a m : View} {e : DecodeError E} → Stops (StopsLength (codes "array") 4) a m e → Stops (StopsCountOf count) a m e
+count_missing {count = count} s = stopped_as (StopsLength (codes "array") 4) (StopsCountOf count) (λ xs budget z ys h. inl h) s
+
+len_by : (t : Bool) (n : ℕ) (l : Len) → ltb n 65536 ≡ t → (n < 65536 → l ≡ Small n) → (65536 ≤ n → l ≡ Big) → l ≡ len_of n
+len_by true n l e small big = rw e (small (ltb-true n 65536 e))
+len_by false n l e small big = rw e (big (ltb-false n 65536 e))
+
+pub counted_len : {l : Option ℕ} {found : ℕ} {len : Len} → l ≡ Some found → (found < 65536 → len ≡ Small found) → (65536 ≤ found → len ≡ Big) → len ≡ told_length l
+counted_len {found = found} {len = len} is small big = rw is (len_by (ltb found 65536) found len refl small big)
+
+pub open_len : {l : Option ℕ} → l ≡ None → Indefinite ≡ told_length l
+open_len is = rw is refl
+
+pub count_differs : {E : Type 0} {count : ℕ} {l : Option ℕ} {len : Len} {name : Bor (List ℕ)} {a m : View} → name.now ≡ codes "tuple" → (l ≡ Some count → ⊥) → len ≡ told_length l → Sound (ReadsLength 4) a m l → Stops {E = E} (StopsCountOf count) a m (RequireLength name len)
+count_differs {count = count} {l = l} named not is s = record {
+  at = λ xs told. (let p = s.at xs told in (drop p.count xs, p.left, inr (record { found = l; size = p.count; cost = p.cost; head = p.read; other = not; refused = rw (named, is) refl; left = refl })));
+}
 
 pub count_length : {count : ℕ} {a m : View} → Sound (ReadsCountOf count) a m tt → Sound (ReadsLength 4) a m (Some count)
 count_length s = record { at = λ xs told. (let p = s.at xs told in record { count = p.count; cost = p.cost; read = p.read; fits = p.fits; left = p.left }) }

@@ -3,3 +3,5 @@ pub mod ItemRead
 pub mod First
 pub mod Stepped
 pub mod Tuples
+pub mod Sequence
+pub mod Built

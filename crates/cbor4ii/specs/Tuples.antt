@@ -1,10 +1,12 @@
 -- Units and tuples.
 use Rattle.std.proofs.Common.{◌≡◌, ℕ, ◌+◌, ◌<◌, ◌≤◌, List, [], ◌∷◌, length, take, drop, max, Bool, true, false, ◌/◌, sym, ap, ◌∙◌, subst, arith}
 use Rattle.std.proofs.lemmas.List.{length-drop}
-use Rattle.std.specs.Prelude.{◌||◌, ◌≢◌, codes}
-use Rattle.cbor4ii_rw.specs.declared.error.Len.TheVariants.{Small}
-use Rattle.cbor4ii_items.specs.Decoding.{StopsAt}
-use Rattle.cbor4ii_items.specs.Refusal.{eof, mismatch}
+use Rattle.std.specs.Prelude.{◌||◌, ◌≢◌, ◌⊎◌, Option, Some, None, codes}
+use Rattle.cbor4ii_rw.specs.declared.error.Len.{Len}
+use Rattle.cbor4ii_rw.specs.declared.error.Len.TheVariants.{Small, Indefinite}
+use Rattle.cbor4ii_items.specs.Decoding.{Reads, StopsAt}
+use Rattle.cbor4ii_items.specs.Refusal.{Refusal, eof, mismatch, require_length, len_of}
+use Rattle.cbor4ii_items.specs.Lengths.{ReadsLength, StopsLength}
 use Rattle.cbor4ii_items.specs.Heads.{ReadsHead}
 use Rattle.cbor4ii_items.specs.HeadLaws.{head_one, head_read}
 use Rattle.cbor4ii_items.specs.Sequences.{ReadsPair, SamePair}
@@ -68,11 +70,45 @@ pair_laws first second same_first same_second some_first some_second h k = recor
   positive = pair_positive first second some_first some_second h.positive k.positive;
 }
 
+-- a length, as a refusal tells it
+abbrev pub told_length : Option ℕ → Len
+told_length None = Indefinite
+told_length (Some count) = len_of count
+
 -- a head that counts so many
 abbrev pub ReadsCountOf : ℕ → List ℕ → Unit {0} → ℕ → ℕ → Type 0
 ReadsCountOf count xs v n c = ReadsHead 4 8 xs count n × (c ≡ 0)
 
--- what an enum begins with: the head of a map of one entry, taken, or a text, which stays
-abbrev pub ReadsEnum : List ℕ → Bool → ℕ → ℕ → Type 0
-ReadsEnum xs true n c = (take 1 xs ≡ 0xa1 ∷ []) × (n ≡ 1) × (c ≡ 0)
-ReadsEnum xs false n c = (b : ℕ) × (take 1 xs ≡ b ∷ []) × (b / 32 ≡ 3) × (n ≡ 0) × (c ≡ 0)
+-- a length that is another
+pub record OtherLength (count : ℕ) (xs : List ℕ) (refusal : Refusal) (rest : List ℕ) : Type 0 where
+  pub found : Option ℕ
+  pub size : ℕ
+  pub cost : ℕ
+  pub head : ReadsLength 4 xs found size cost
+  pub other : found ≡ Some count → ⊥
+  pub refused : refusal ≡ require_length (codes "tuple") (told_length found)
+  pub left : rest ≡ drop size xs
+
+-- a refused head, or a length that is another, whose head is taken
+abbrev pub StopsCountOf : ℕ → StopsAt
+StopsCountOf count xs budget refusal rest = StopsLength (codes "array") 4 xs budget refusal rest ⊎ OtherLength count xs refusal rest
+
+-- ---- three parts
+
+-- three parts, one behind another
+abbrev pub ReadsTriple : {A B C : Type 0} → Reads A → Reads B → Reads C → Reads (A × B × C)
+ReadsTriple first second third xs t n c = ReadsPair first (ReadsPair second third) xs (t.0, (t.1, t.2)) n c
+
+abbrev pub SameTriple : {A B C : Type 0} → (A → A → Type 0) → (B → B → Type 0) → (C → C → Type 0) → A × B × C → A × B × C → Type 0
+SameTriple first second third t u = first t.0 u.0 × (second t.1 u.1 × third t.2 u.2)
+
+pub triple_laws : {A B C : Type 0} (first : Reads A) (second : Reads B) (third : Reads C) (same_first : A → A → Type 0) (same_second : B → B → Type 0) (same_third : C → C → Type 0) (some_first some_second some_third : Bool)
+    → Lawful first same_first some_first → Lawful second same_second some_second → Lawful third same_third some_third → Lawful (ReadsTriple first second third) (SameTriple same_first same_second same_third) (some_first || (some_second || some_third))
+triple_laws first second third same_first same_second same_third some_first some_second some_third f s t =
+    let inner = pair_laws second third same_second same_third some_second some_third s t in
+    let whole = pair_laws first (ReadsPair second third) same_first (SamePair same_second same_third) some_first (some_second || some_third) f inner in
+    record {
+      one = λ xs v w. whole.one xs (v.0, (v.1, v.2)) (w.0, (w.1, w.2));
+      within = λ xs v. whole.within xs (v.0, (v.1, v.2));
+      positive = λ e xs v. whole.positive e xs (v.0, (v.1, v.2));
+    }

@@ -39,3 +39,7 @@ pub record Lawful {V : Type 0} (reads : List ℕ → V → ℕ → ℕ → Type 
 -- what is asked of an exact type is owed by no other
 pub not_exact : {Q : Type 0} → IsTrue false → Q
 not_exact h = let no : false ≡ true = h in cc
+
+-- one input is read to one end
+pub size_of : {V : Type 0} {reads : Reads V} {same : V → V → Type 0} {never_empty : Bool} → Lawful reads same never_empty → (xs : List ℕ) (p q : V) (n m c d : ℕ) → reads xs p n c → reads xs q m d → n ≡ m
+size_of h xs p q n m c d r s = (h.one xs p q n m c d r s).0

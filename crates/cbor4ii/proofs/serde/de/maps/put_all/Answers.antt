@@ -1,0 +1,15 @@
+use Rattle.std.proofs.Common.{◌≡◌, List, [], ◌∷◌, ◌++◌, refl, ap, sym, ◌∙◌}
+use Rattle.std.specs.declared.cmp.Ordering.{Ordering}
+use Rattle.std.specs.BTreeMap.{insert_entry}
+use Rattle.cbor4ii.specs.Built.{put_all}
+use Rattle.cbor4ii.proofs.serde.de.maps.put_all.Goals as goal
+
+put-last : {K V : Type 0} (cmp : K → K → Ordering) (es ps : List (K × V)) (p : K × V) → put_all cmp es (ps ++ p ∷ []) ≡ insert_entry cmp (put_all cmp es ps) p.0 p.1
+put-last cmp es [] p = refl
+put-last cmp es (q ∷ qs) p = put-last cmp (insert_entry cmp es q.0 q.1) qs p
+
+pub loop-key-preserved : goal.loop-key-preserved
+loop-key-preserved g c =
+    c.in_ok-put.ensures
+    ∙ (ap (λ es. insert_entry g.K.Ord.cmp es c.in-Some.key c.in-Some.value) c.loop-key.invariant
+    ∙ sym (put-last g.K.Ord.cmp [] c.loop-key.yielded (c.in-Some.key, c.in-Some.value)))

@@ -1,0 +1,23 @@
+use Rattle.std.proofs.Common.{arith}
+use Rattle.std.proofs.lemmas.Result.{err_from_is_err_and}
+use Rattle.cbor4ii_items.specs.Laws.Steps.{moves_then, moves_err}
+use Rattle.cbor4ii_items.specs.Laws.Answering.{exact_kept}
+use Rattle.cbor4ii.proofs.Parts.{count_more, count_done, count_refuses}
+use Rattle.cbor4ii.specs.Typed.{size_of}
+use Rattle.cbor4ii.proofs.serde.de.parts.take_counted.Goals as goal
+
+pub returns-in_err-add_part-clause-moves : goal.returns-in_err-add_part-clause-moves
+returns-in_err-add_part-clause-moves g c =
+    let p = err_from_is_err_and c.from_residual.result c.from_residual.ensures.1 in
+    rw (p.1, p.2) (moves_then c.loop-i.invariant.kept (moves_err c.in_err-add_part.ensures.moves))
+
+pub returns-in_err-add_part-clause-complete : goal.returns-in_err-add_part-clause-complete
+returns-in_err-add_part-clause-complete g c said exact =
+    let p = err_from_is_err_and c.from_residual.result c.from_residual.ensures.1 in
+    rw (p.1, p.2) (count_refuses _ (size_of (g.met.Q.Sequence.laws said)) c.loop-i.invariant c.loop-i-test.true (λ xs told. c.in_err-add_part.ensures.complete said (exact_kept _ _ _ xs told c.loop-i.invariant.kept exact)))
+
+pub loop-i-preserved : goal.loop-i-preserved
+loop-i-preserved g c = count_more _ c.loop-i.invariant c.in_ok-add_part.ensures.sound c.in_ok-add_part.ensures.moves
+
+pub returns-clause-sound : goal.returns-clause-sound
+returns-clause-sound g c = count_done _ c.loop-i.invariant (omega (arith, c.loop-i-test.false, c.loop-i.auto.i-end))

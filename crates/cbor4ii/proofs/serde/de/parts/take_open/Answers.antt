@@ -1,0 +1,45 @@
+use Rattle.std.proofs.Common.{refl, sym}
+use Rattle.std.proofs.lemmas.Result.{err_from_is_err_and}
+use Rattle.cbor4ii_items.specs.Laws.Steps.{moves_then, moves_err, kept_then}
+use Rattle.cbor4ii_items.specs.Laws.Answering.{exact_kept}
+use Rattle.cbor4ii.proofs.Parts.{stands, open_more, open_done, open_refuses, nothing_refuses, end_refuses}
+use Rattle.cbor4ii.specs.Typed.{size_of}
+use Rattle.cbor4ii.proofs.serde.de.parts.take_open.Goals as goal
+
+pub returns-in_err-ends-clause-moves : goal.returns-in_err-ends-clause-moves
+returns-in_err-ends-clause-moves g c =
+    let p = err_from_is_err_and c.from_residual.result c.from_residual.ensures.1 in
+    rw (p.1, p.2) (moves_then c.loop-parts.invariant.kept (moves_err c.in_err-ends.ensures.runs.moves))
+
+pub returns-in_err-ends-clause-complete : goal.returns-in_err-ends-clause-complete
+returns-in_err-ends-clause-complete g c said exact =
+    let p = err_from_is_err_and c.from_residual.result c.from_residual.ensures.1 in
+    rw (p.1, p.2) (let laws = g.met.Q.Sequence.laws said in end_refuses _ _ (size_of laws) laws.within laws.positive c.loop-parts.invariant c.in_err-ends.ensures.runs)
+
+pub returns-then-not-is_part_never_empty-clause-moves : goal.returns-then-not-is_part_never_empty-clause-moves
+returns-then-not-is_part_never_empty-clause-moves g c = record { by = kept_then c.loop-parts.invariant.kept c.in_ok-ends.ensures.runs.moves.by; depth = λ e. refl }
+
+pub returns-then-not-is_part_never_empty-clause-complete : goal.returns-then-not-is_part_never_empty-clause-complete
+returns-then-not-is_part_never_empty-clause-complete g c said exact =
+    nothing_refuses _ _ (size_of (g.met.Q.Sequence.laws said)) (sym c.if-not-is_part_never_empty.ensures) c.loop-parts.invariant (stands c.if-not-branch.true c.in_ok-ends.ensures.runs)
+
+pub loop-parts-preserved : goal.loop-parts-preserved
+loop-parts-preserved g c =
+    open_more _ _ (sym c.if-not-is_part_never_empty.ensures) c.loop-parts.invariant (stands c.if-not-branch.true c.in_ok-ends.ensures.runs) c.in_ok-add_part.ensures.sound c.in_ok-add_part.ensures.moves
+
+pub returns-in_err-add_part-clause-moves : goal.returns-in_err-add_part-clause-moves
+returns-in_err-add_part-clause-moves g c =
+    let p = err_from_is_err_and c.from_residual-in_err-add_part.result c.from_residual-in_err-add_part.ensures.1 in
+    rw (p.1, p.2) (moves_then (kept_then c.loop-parts.invariant.kept c.in_ok-ends.ensures.runs.moves.by) (moves_err c.in_err-add_part.ensures.moves))
+
+pub returns-in_err-add_part-clause-complete : goal.returns-in_err-add_part-clause-complete
+returns-in_err-add_part-clause-complete g c said exact =
+    let p = err_from_is_err_and c.from_residual-in_err-add_part.result c.from_residual-in_err-add_part.ensures.1 in
+    let kept = kept_then c.loop-parts.invariant.kept c.in_ok-ends.ensures.runs.moves.by in
+    rw (p.1, p.2) (open_refuses _ _ (size_of (g.met.Q.Sequence.laws said)) c.loop-parts.invariant (stands c.if-not-branch.true c.in_ok-ends.ensures.runs) (λ xs told. c.in_err-add_part.ensures.complete said (exact_kept _ _ _ xs told kept exact)))
+
+pub returns-clause-moves : goal.returns-clause-moves
+returns-clause-moves g c = record { by = kept_then c.loop-parts.invariant.kept c.in_ok-ends.ensures.runs.moves.by; depth = λ e. refl }
+
+pub returns-clause-sound : goal.returns-clause-sound
+returns-clause-sound g c = open_done _ _ c.if-not-branch.false c.loop-parts.invariant c.in_ok-ends.ensures.runs

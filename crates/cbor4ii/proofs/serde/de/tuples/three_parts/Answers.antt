@@ -1,0 +1,28 @@
+use Rattle.std.proofs.Common.{◌||◌}
+use Rattle.std.proofs.lemmas.Result.{err_from_is_err_and}
+use Rattle.cbor4ii_items.specs.Laws.Steps.{moves_then, moves_ok, moves_err}
+use Rattle.cbor4ii_items.specs.Laws.Answering.{exact_kept}
+use Rattle.cbor4ii.proofs.Pairs.{exact_both}
+use Rattle.cbor4ii.proofs.Triples.{triple_sound, first_refuses, others_refuse}
+use Rattle.cbor4ii_items.specs.ContainerLaws.{both}
+use Rattle.cbor4ii.proofs.serde.de.tuples.three_parts.Goals as goal
+
+pub returns-in_err-first-clause-complete : goal.returns-in_err-first-clause-complete
+returns-in_err-first-clause-complete g c said exact =
+    let p = err_from_is_err_and c.from_residual.result c.from_residual.ensures.1 in
+    rw (p.1, p.2) (first_refuses _ _ _ (c.in_err-first.ensures.complete (both _ _ said).0 (exact_both _ _ (g.S.Source.view c.args.de.now.reader) exact).0))
+
+pub returns-in-Ok-clause-moves : goal.returns-in-Ok-clause-moves
+returns-in-Ok-clause-moves g c = moves_then c.in_ok-first.ensures.moves.by (moves_ok c.in-Ok.ensures.moves)
+
+pub returns-in-Ok-clause-sound : goal.returns-in-Ok-clause-sound
+returns-in-Ok-clause-sound g c = triple_sound _ _ _ c.in_ok-first.ensures.moves.by c.in_ok-first.ensures.sound c.in-Ok.ensures.sound
+
+pub returns-in-Err-clause-moves : goal.returns-in-Err-clause-moves
+returns-in-Err-clause-moves g c = moves_then c.in_ok-first.ensures.moves.by (moves_err c.in-Err.ensures.moves)
+
+pub returns-in-Err-clause-complete : goal.returns-in-Err-clause-complete
+returns-in-Err-clause-complete g c said exact =
+    let b = both g.A.Typed.exact _ said in
+    others_refuse _ _ _ _ (g.met.A.Typed.laws b.0).one c.in_ok-first.ensures.moves.by c.in_ok-first.ensures.sound
+    (λ xs told. c.in-Err.ensures.complete b.1 (exact_kept _ _ _ xs told c.in_ok-first.ensures.moves.by (exact_both _ _ (g.S.Source.view c.args.de.now.reader) exact).1))

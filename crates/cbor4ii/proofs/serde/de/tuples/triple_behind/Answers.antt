@@ -1,0 +1,17 @@
+use Rattle.cbor4ii_items.specs.Laws.Steps.{moves_then}
+use Rattle.cbor4ii_items.specs.Laws.Answering.{exact_kept}
+use Rattle.cbor4ii.proofs.Tupled.{behind_sound, behind_refuses, behind_no_head}
+use Rattle.cbor4ii.proofs.serde.de.tuples.triple_behind.Goals as goal
+
+pub returns-in-Ok-clause-moves : goal.returns-in-Ok-clause-moves
+returns-in-Ok-clause-moves g c = moves_then c.in-Ok.ensures.moves.by c.three_parts.ensures.moves
+
+pub returns-in-Ok-clause-sound : goal.returns-in-Ok-clause-sound
+returns-in-Ok-clause-sound g c = behind_sound _ _ c.three_parts.result _ c.in-Ok.ensures.moves.by c.in-Ok.ensures.sound c.three_parts.ensures.sound
+
+pub returns-in-Ok-clause-complete : goal.returns-in-Ok-clause-complete
+returns-in-Ok-clause-complete g c said exact = behind_refuses _ _ c.three_parts.result c.in-Ok.ensures.moves.by c.in-Ok.ensures.sound
+    (λ xs told. c.three_parts.ensures.complete said (exact_kept _ _ _ xs told c.in-Ok.ensures.moves.by exact))
+
+pub returns-in-Err-clause-complete : goal.returns-in-Err-clause-complete
+returns-in-Err-clause-complete g c said exact = behind_no_head _ _ c.in-Err.ensures.complete

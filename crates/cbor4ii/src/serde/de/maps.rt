@@ -1,0 +1,126 @@
+//! Maps, read as ordered maps.
+ghost use Rattle.std.specs.Prelude.{◌≡◌, ℕ, List, true, ◌&&◌, ◌||◌, IfOk, OnOk};
+ghost use Rattle.std.specs.BTreeMap.{insert_entry};
+ghost use Rattle.cbor4ii_items.specs.ContainerLaws.{both};
+ghost use Rattle.cbor4ii_items.specs.Sequences.{ReadsPair, SamePair};
+ghost use Rattle.cbor4ii.specs.Built.{built, ReadsBTreeMap, SameBTreeMap, btree_laws};
+ghost use Rattle.cbor4ii.specs.Tuples.{pair_laws};
+ghost use Rattle.cbor4ii.specs.Sequence.{five_small};
+
+use crate::serde::de::deserialize::{Deserialize, Typed};
+use crate::serde::de::deserializer::Deserializer;
+use crate::serde::de::error::DecodeError;
+use crate::serde::de::parts::{Sequence, take_sequence};
+use crate::serde::de::tuples::two_parts;
+use cbor4ii_items::types::Map;
+use cbor4ii_rw::error as core_error;
+use cbor4ii_rw::read::Source;
+use std::alloc::{AllocError, Global};
+use std::collections::BTreeMap;
+
+impl<K: Typed + Ord, V: Typed> Typed for BTreeMap<K, V> {
+    ghost reads = { ReadsBTreeMap (λ m. m.entries) K.cmp K.reads V.reads
+        (K.never_empty || V.never_empty) };
+
+    ghost same = { SameBTreeMap (λ m. m.entries) K.cmp K.same V.same };
+
+    ghost never_empty = { true };
+
+    ghost owned = { K.owned && V.owned };
+
+    ghost takes_memory = { true };
+
+    ghost exact = { K.exact && V.exact };
+
+    fn is_never_empty() -> bool {
+        true
+    }
+
+    fn is_owned() -> bool {
+        K::is_owned() && V::is_owned()
+    }
+
+    ghost laws = { λ e. btree_laws (λ m. m.entries) K.cmp K.reads V.reads K.same V.same
+        (K.never_empty || V.never_empty)
+        (pair_laws K.reads V.reads K.same V.same K.never_empty V.never_empty
+        (K.Typed.laws (both K.exact V.exact e).0) (V.laws (both K.exact V.exact e).1)) };
+}
+
+impl<S: Source, K: Deserialize<S> + Ord + Drop, V: Deserialize<S> + Drop> Sequence<S>
+    for BTreeMap<K, V> {
+    type Part = (K, V);
+
+    ghost reads = { ReadsPair K.reads V.reads };
+
+    ghost same = { SamePair K.same V.same };
+
+    ghost never_empty = { K.never_empty || V.never_empty };
+
+    ghost owned = { K.owned && V.owned };
+
+    ghost exact = { K.exact && V.exact };
+
+    ghost major = { 5 };
+
+    fn is_part_never_empty() -> bool {
+        K::is_never_empty() || V::is_never_empty()
+    }
+
+    fn take_length(reader: &mut S) -> Result<Option<usize>, core_error::DecodeError<S::Error>> {
+        Map::<()>::len(reader)
+    }
+
+    fn take_part(alloc: Global, de: &mut Deserializer<S>) -> Result<(K, V), DecodeError<S::Error>> {
+        two_parts::<S, K, V>(alloc, de)
+    }
+
+    ghost laws = { λ e. pair_laws K.reads V.reads K.same V.same K.never_empty V.never_empty
+        (K.Typed.laws (both K.exact V.exact e).0) (V.laws (both K.exact V.exact e).1) };
+
+    ghost small = { five_small };
+}
+
+/// A map, counted or up to a break, under one step of the budget, which is given back whatever the
+/// answer is. Of equal keys the first stays, with the last value. No break is looked for between a
+/// key and its value.
+///
+/// Refused as a vector of its pairs is, by the name "map" in the place of "seq" and "array". Where
+/// there is no memory for the map, it is `Core` of `OutOfMemory`, and the pairs were taken.
+impl<S: Source, K: Deserialize<S> + Ord + Drop, V: Deserialize<S> + Drop> Deserialize<S>
+    for BTreeMap<K, V> {
+    fn deserialize(
+        alloc: Global,
+        de: &mut Deserializer<S>,
+    ) -> Result<BTreeMap<K, V>, DecodeError<S::Error>> {
+        match take_sequence::<S, BTreeMap<K, V>>(alloc, de, "map", "map") {
+            Ok(pairs) => match put_all(alloc, pairs) {
+                Ok(map) => Ok(map),
+                Err(_) => Err(DecodeError::Core(core_error::DecodeError::OutOfMemory)),
+            },
+            Err(error) => Err(error),
+        }
+    }
+}
+
+/// The map of these pairs: of equal keys the first stays, with the last value.
+fn put_all<K: Ord + Drop, V: Drop>(
+    alloc: Global,
+    pairs: Vec<(K, V)>,
+) -> Result<BTreeMap<K, V>, AllocError>
+    ensures { IfOk result (λ m. m.entries ≡ built K.cmp pairs.items) }
+{
+    let mut map = BTreeMap::new(alloc);
+    for (key, value) in pairs {
+        put(&mut map, key, value)?;
+    }
+    Ok(map)
+}
+
+fn put<K: Ord + Drop, V: Drop>(map: &mut BTreeMap<K, V>, key: K, value: V) -> Result<(), AllocError>
+    ensures { OnOk result (map.new.entries ≡ insert_entry K.cmp map.old.entries key value) }
+{
+    match map.insert(key, value) {
+        Ok(_) => Ok(()),
+        Err(_) => Err(AllocError),
+    }
+}

@@ -1,0 +1,215 @@
+//! What arrays and maps share, read into a vector of their parts.
+ghost use Rattle.std.specs.Prelude.{
+  ◌≡◌,
+  ℕ,
+  ◌+◌,
+  ◌≤◌,
+  ◌<◌,
+  List,
+  Bool,
+  false,
+  Option,
+  length,
+  OnOk,
+  IfOk,
+  IfErr,
+  IsTrue,
+};
+ghost use Rattle.cbor4ii_items.specs.Moves.{Moves};
+ghost use Rattle.cbor4ii_items.specs.Decoding.{IsExact, Sound, Refuses};
+ghost use Rattle.cbor4ii_items.specs.Lengths.{ReadsLength};
+ghost use Rattle.cbor4ii_items.specs.Reading.{Runs};
+ghost use Rattle.cbor4ii_items.specs.ReadStrings.{break_at};
+ghost use Rattle.cbor4ii_items.specs.Refusal.{is_out_of_memory};
+ghost use Rattle.cbor4ii_items.specs.Sequences.{
+  ReadsCount,
+  ReadsUpToBreak,
+  ReadsInside,
+  ReadsSequence,
+  AddsPart,
+};
+ghost use Rattle.cbor4ii.specs.Typed.{input, answer_of, as_core, Lawful};
+
+use crate::serde::de::deserializer::Deserializer;
+use crate::serde::de::error::DecodeError;
+use cbor4ii_items::indefinite::is_break;
+use cbor4ii_rw::error as core_error;
+use cbor4ii_rw::error::{Len, StaticStr};
+use cbor4ii_rw::read::Source;
+use std::alloc::Global;
+
+/// So many parts have their place reserved, at most, before any of them came.
+const RESERVED: usize = 256;
+
+/// A type of arrays or of maps, by its parts.
+pub(crate) trait Sequence<S: Source>: Sized {
+    /// An item, or a key and its value.
+    type Part: Drop;
+
+    // What a part is read as.
+    ghost reads: { List ℕ → Self.Part → ℕ → ℕ → Type 0 };
+
+    ghost same: { Self.Part → Self.Part → Type 0 };
+
+    ghost never_empty: { Bool };
+
+    ghost owned: { Bool };
+
+    ghost exact: { Bool };
+
+    // The major type.
+    ghost major: { ℕ };
+
+    /// Whether a part always reads a byte.
+    fn is_part_never_empty() -> bool
+        ensures { result ≡ never_empty };
+
+    /// Takes the head.
+    fn take_length(reader: &mut S) -> Result<Option<usize>, core_error::DecodeError<S::Error>>
+        ensures moves { Moves (S.view reader.old) (S.view reader.new) result }
+        ensures progress { OnOk result ((S.view reader.new).bound + 1 ≤ (S.view reader.old).bound) }
+        ensures sound { IfOk result
+            (Sound (ReadsLength Self.major) (S.view reader.old) (S.view reader.new)) }
+        ensures complete { IfErr result (Refuses (ReadsLength Self.major) (S.view reader.old)) };
+
+    /// Reads one part.
+    fn take_part(
+        alloc: Global,
+        de: &mut Deserializer<S>,
+    ) -> Result<Self::Part, DecodeError<S::Error>>
+        ensures moves { Moves (input S.view de.old) (input S.view de.new) (answer_of result) }
+        ensures progress { IsTrue Self.never_empty →
+            OnOk result ((input S.view de.new).bound + 1 ≤ (input S.view de.old).bound) }
+        ensures sound { IfOk result (Sound Self.reads (input S.view de.old) (input S.view de.new)) }
+        ensures complete { IsTrue Self.exact → IsExact Self.owned (input S.view de.old) →
+            IfErr result
+            (λ error. Refuses Self.reads (input S.view de.old) (as_core error)) };
+
+    ghost laws: { IsTrue Self.exact → Lawful Self.reads Self.same Self.never_empty };
+
+    ghost small: { Self.major < 8 };
+}
+
+/// Reads a sequence under one step.
+pub(crate) fn take_sequence<S: Source, Q: Sequence<S>>(
+    alloc: Global,
+    de: &mut Deserializer<S>,
+    step: StaticStr,
+    name: StaticStr,
+) -> Result<Vec<Q::Part>, DecodeError<S::Error>>
+    ensures moves { Moves (input S.view de.old) (input S.view de.new) (answer_of result) }
+    ensures progress { OnOk result ((input S.view de.new).bound + 1 ≤ (input S.view de.old).bound) }
+    ensures sound { IfOk result (λ parts. Sound (ReadsSequence Q.major Q.reads Q.never_empty)
+        (input S.view de.old) (input S.view de.new) parts.items) }
+    ensures complete { IsTrue Q.exact → IsExact Q.owned (input S.view de.old) →
+        IfErr result (λ error. Refuses (ReadsSequence Q.major Q.reads Q.never_empty)
+        (input S.view de.old) (as_core error)) }
+{
+    if !de.reader.step_in() {
+        return Err(DecodeError::Core(core_error::DecodeError::DepthOverflow { name: step }));
+    }
+    let outcome = take_inside::<S, Q>(alloc, de, name);
+    de.reader.step_out();
+    outcome
+}
+
+/// Reads a sequence whose step was taken.
+fn take_inside<S: Source, Q: Sequence<S>>(
+    alloc: Global,
+    de: &mut Deserializer<S>,
+    name: StaticStr,
+) -> Result<Vec<Q::Part>, DecodeError<S::Error>>
+    ensures moves { Moves (input S.view de.old) (input S.view de.new) (answer_of result) }
+    ensures progress { OnOk result ((input S.view de.new).bound + 1 ≤ (input S.view de.old).bound) }
+    ensures sound { IfOk result (λ parts. Sound (ReadsInside Q.major Q.reads Q.never_empty)
+        (input S.view de.old) (input S.view de.new) parts.items) }
+    ensures complete { IsTrue Q.exact → IsExact Q.owned (input S.view de.old) →
+        IfErr result (λ error.
+        Refuses (ReadsInside Q.major Q.reads Q.never_empty) (input S.view de.old) (as_core error)) }
+{
+    match Q::take_length(&mut de.reader) {
+        Ok(Some(count)) => take_counted::<S, Q>(alloc, de, count),
+        Ok(None) => take_open::<S, Q>(alloc, de, name),
+        Err(error) => Err(DecodeError::Core(error)),
+    }
+}
+
+/// Reads so many parts. A count alone takes little memory: more is taken as the parts come.
+fn take_counted<S: Source, Q: Sequence<S>>(
+    alloc: Global,
+    de: &mut Deserializer<S>,
+    count: usize,
+) -> Result<Vec<Q::Part>, DecodeError<S::Error>>
+    ensures moves { Moves (input S.view de.old) (input S.view de.new) (answer_of result) }
+    ensures sound { IfOk result (λ parts. Sound (ReadsCount Q.reads count)
+        (input S.view de.old) (input S.view de.new) parts.items) }
+    ensures complete { IsTrue Q.exact → IsExact Q.owned (input S.view de.old) →
+        IfErr result (λ error.
+        Refuses (ReadsCount Q.reads count) (input S.view de.old) (as_core error)) }
+{
+    let mut parts = Vec::new(alloc);
+    if parts.reserve(count.min(RESERVED)).is_err() {
+        return Err(DecodeError::Core(core_error::DecodeError::OutOfMemory));
+    }
+    for i in 0..count {
+        add_part::<S, Q>(alloc, de, &mut parts)?;
+    }
+    Ok(parts)
+}
+
+/// Reads parts up to a break.
+fn take_open<S: Source, Q: Sequence<S>>(
+    alloc: Global,
+    de: &mut Deserializer<S>,
+    name: StaticStr,
+) -> Result<Vec<Q::Part>, DecodeError<S::Error>>
+    ensures moves { Moves (input S.view de.old) (input S.view de.new) (answer_of result) }
+    ensures sound { IfOk result (λ parts. Sound (ReadsUpToBreak Q.reads Q.never_empty)
+        (input S.view de.old) (input S.view de.new) parts.items) }
+    ensures complete { IsTrue Q.exact → IsExact Q.owned (input S.view de.old) →
+        IfErr result (λ error.
+        Refuses (ReadsUpToBreak Q.reads Q.never_empty) (input S.view de.old) (as_core error)) }
+{
+    let mut parts = Vec::new(alloc);
+    while !ends(de)? {
+        if !Q::is_part_never_empty() {
+            return Err(DecodeError::Core(core_error::DecodeError::RequireLength {
+                name,
+                found: Len::Indefinite,
+            }));
+        }
+        add_part::<S, Q>(alloc, de, &mut parts)?;
+    }
+    Ok(parts)
+}
+
+/// Takes a break, or takes nothing where another byte comes next.
+fn ends<S: Source>(de: &mut Deserializer<S>) -> Result<bool, DecodeError<S::Error>>
+    ensures runs { Runs break_at (input S.view de.old) (input S.view de.new) (answer_of result) }
+{
+    match is_break(&mut de.reader) {
+        Ok(ended) => Ok(ended),
+        Err(error) => Err(DecodeError::Core(error)),
+    }
+}
+
+/// Reads one part, behind those that `parts` holds.
+fn add_part<S: Source, Q: Sequence<S>>(
+    alloc: Global,
+    de: &mut Deserializer<S>,
+    parts: &mut Vec<Q::Part>,
+) -> Result<(), DecodeError<S::Error>>
+    ensures moves { Moves (input S.view de.old) (input S.view de.new) (answer_of result) }
+    ensures progress { IsTrue Q.never_empty →
+        OnOk result ((input S.view de.new).bound + 1 ≤ (input S.view de.old).bound) }
+    ensures sound { OnOk result
+        (AddsPart Q.reads parts.old.items parts.new.items (input S.view de.old) (input S.view de.new)) }
+    ensures complete { IsTrue Q.exact → IsExact Q.owned (input S.view de.old) →
+        IfErr result (λ error. Refuses Q.reads (input S.view de.old) (as_core error)) }
+{
+    let part = Q::take_part(alloc, de)?;
+    match parts.push(part) {
+        Ok(()) => Ok(()),
+        Err(_) => Err(DecodeError::Core(core_error::DecodeError::OutOfMemory)),
+    }
+}

@@ -1,0 +1,96 @@
+//! Arrays, read as vectors.
+ghost use Rattle.std.specs.Prelude.{◌≡◌, true};
+ghost use Rattle.cbor4ii_items.specs.Sequences.{ReadsArray, SameArray};
+ghost use Rattle.cbor4ii.specs.Sequence.{four_small};
+ghost use Rattle.cbor4ii_items.specs.SequenceLaws.{array_one, array_within, array_positive};
+
+use crate::serde::de::deserialize::{Deserialize, Typed};
+use crate::serde::de::deserializer::Deserializer;
+use crate::serde::de::error::DecodeError;
+use crate::serde::de::parts::{Sequence, take_sequence};
+use cbor4ii_items::types::Array;
+use cbor4ii_rw::error as core_error;
+use cbor4ii_rw::read::Source;
+use std::alloc::Global;
+
+impl<T: Typed> Typed for Vec<T> {
+    ghost reads = { ReadsArray T.reads T.never_empty };
+
+    ghost same = { SameArray T.same };
+
+    ghost never_empty = { true };
+
+    ghost owned = { T.owned };
+
+    ghost takes_memory = { true };
+
+    ghost exact = { T.exact };
+
+    fn is_never_empty() -> bool {
+        true
+    }
+
+    fn is_owned() -> bool {
+        T::is_owned()
+    }
+
+    ghost laws = { λ e. record {
+      one = array_one T.reads T.same T.never_empty (T.laws e).one;
+      within = array_within T.reads T.never_empty (T.laws e).within;
+      positive = λ _. array_positive T.reads T.never_empty;
+    } };
+}
+
+impl<S: Source, T: Deserialize<S> + Drop> Sequence<S> for Vec<T> {
+    type Part = T;
+
+    ghost reads = { T.reads };
+
+    ghost same = { T.same };
+
+    ghost never_empty = { T.never_empty };
+
+    ghost owned = { T.owned };
+
+    ghost exact = { T.exact };
+
+    ghost major = { 4 };
+
+    fn is_part_never_empty() -> bool {
+        T::is_never_empty()
+    }
+
+    fn take_length(reader: &mut S) -> Result<Option<usize>, core_error::DecodeError<S::Error>> {
+        Array::<()>::len(reader)
+    }
+
+    fn take_part(alloc: Global, de: &mut Deserializer<S>) -> Result<T, DecodeError<S::Error>> {
+        T::deserialize(alloc, de)
+    }
+
+    ghost laws = { T.laws };
+
+    ghost small = { four_small };
+}
+
+/// An array of values, counted or up to a break (RFC 8949 sections 3.1 and 3.2.2), under one step of
+/// the budget, which is given back whatever the answer is. At most 256 values have their place
+/// reserved before any of them came. An array of indefinite length, of a type that may read
+/// nothing, is read only where its break comes at once, since no reading of it would end.
+///
+/// Refusals, in this order, as `Core` and by the name "array" where no other is said:
+///
+/// - no step is left: `DepthOverflow` by "seq", and nothing is taken
+/// - the head is not one of an array: `Mismatch` or `Eof`, as for every head
+/// - in the place of a value or a break there is no byte: `Eof` by "break" with 1
+/// - of a type that may read nothing, another byte than a break comes there: `RequireLength` with
+///   `Indefinite`, and the byte is left
+/// - a value is refused: its own refusal, and what it leaves
+impl<S: Source, T: Deserialize<S> + Drop> Deserialize<S> for Vec<T> {
+    fn deserialize(
+        alloc: Global,
+        de: &mut Deserializer<S>,
+    ) -> Result<Vec<T>, DecodeError<S::Error>> {
+        take_sequence::<S, Vec<T>>(alloc, de, "seq", "array")
+    }
+}
