@@ -11,3 +11,4 @@ pub mod Triples
 pub mod Mapped
 pub mod Looking
 pub mod Units
+pub mod Going

@@ -5,3 +5,4 @@ pub mod Stepped
 pub mod Tuples
 pub mod Sequence
 pub mod Built
+pub mod Accessing

@@ -2,6 +2,7 @@
 
 pub mod de;
 
+pub use de::accessor::Accessor;
 pub use de::deserialize::{Deserialize, Typed};
 pub use de::deserializer::Deserializer;
 pub use de::error::DecodeError;

@@ -1,5 +1,6 @@
 //! Typed values, read.
 
+pub mod accessor;
 mod borrowed;
 mod boxed;
 pub mod deserialize;

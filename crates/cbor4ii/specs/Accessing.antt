@@ -1,0 +1,85 @@
+-- How an accessor goes over the parts of an array or a map.
+use Rattle.std.specs.Prelude.{◌≡◌, ℕ, zero, suc, ◌+◌, ◌-◌, ◌≤◌, List, [], ◌∷◌, Bool, true, false, Option, Some, None, IfSome, codes}
+use Rattle.cbor4ii_rw.specs.View.{View}
+use Rattle.cbor4ii_rw.specs.Reader.{StepsIn, KeepsAllButBudget, step_back}
+use Rattle.cbor4ii_rw.specs.declared.error.DecodeError.{DecodeError}
+use Rattle.cbor4ii_rw.specs.declared.error.Len.TheVariants.{Small}
+use Rattle.cbor4ii_items.specs.Moves.{Kept}
+use Rattle.cbor4ii_items.specs.Decoding.{Reads, Sound}
+use Rattle.cbor4ii_items.specs.Lengths.{ReadsLength}
+use Rattle.cbor4ii_items.specs.Refusal.{refusal_of, eof}
+use Rattle.cbor4ii_items.specs.Strings.{ReadsBreak}
+use Rattle.cbor4ii.specs.declared.serde.de.accessor.Accessor.{Accessor}
+use Rattle.cbor4ii.specs.declared.serde.de.accessor.Left.{Left}
+use Rattle.cbor4ii.specs.declared.serde.de.accessor.Left.TheVariants.{Counted, Open, Ended}
+
+-- what the reader under an accessor tells
+abbrev pub inside : {S E : Type 0} → (S → View) → Accessor S E → View
+inside view accessor = view accessor.de.now.reader
+
+-- what is still to be read
+abbrev pub left_in : {S E : Type 0} → Accessor S E → Left
+left_in accessor = accessor.left
+
+-- what is left behind a head
+abbrev pub left_of : Option ℕ → Left
+left_of None = Open
+left_of (Some count) = Counted count
+
+-- A step was taken, and then the head of an array or a map: so much is left of it.
+pub record Opens (major : ℕ) (old new : View) (left : Left) : Type 0 where
+  pub within : View
+  pub step : StepsIn old.budget within.budget true
+  pub others : KeepsAllButBudget old within
+  pub kept : Kept within new
+  pub progress : new.bound + 1 ≤ old.bound
+  pub length : Option ℕ
+  pub head : Sound (ReadsLength major) within new length
+  pub begun : left ≡ left_of length
+
+-- the step is given back, and nothing else moves
+pub record Closes (old new : View) : Type 0 where
+  pub budget : new.budget ≡ step_back old.budget
+  pub others : KeepsAllButBudget old new
+
+-- What comes next is read as a part, or as the end, by what is left. Where parts are counted, one comes while some are
+-- left. Where the length is indefinite, a break is the end, and another byte begins a part; behind the break nothing is
+-- looked at.
+abbrev pub Next : {V : Type 0} → Reads V → Left → Reads (Option V)
+Next reads (Counted zero) xs None n c = (n ≡ 0) × (c ≡ 0)
+Next reads (Counted zero) xs (Some v) n c = ⊥
+Next reads (Counted (suc k)) xs None n c = ⊥
+Next reads (Counted (suc k)) xs (Some v) n c = reads xs v n c
+Next reads Open xs None n c = ReadsBreak xs true n c
+Next reads Open xs (Some v) n c = ReadsBreak xs false 0 0 × reads xs v n c
+Next reads Ended xs None n c = (n ≡ 0) × (c ≡ 0)
+Next reads Ended xs (Some v) n c = ⊥
+
+-- what is left then
+abbrev pub left_then : {V : Type 0} → Left → Option V → Left
+left_then (Counted k) o = Counted (k - 1)
+left_then Open None = Ended
+left_then Open (Some v) = Open
+left_then Ended o = Ended
+
+-- what is left after a refusal: a part was counted off before it was read
+abbrev pub left_tried : Left → Left
+left_tried (Counted k) = Counted (k - 1)
+left_tried Open = Open
+left_tried Ended = Ended
+
+-- what falls with each part that reads a byte
+abbrev pub fuel : Left → ℕ → ℕ
+fuel (Counted count) bound = count
+fuel Open bound = bound
+fuel Ended bound = 0
+
+-- what is left of a count
+abbrev pub hint : Left → Option ℕ
+hint (Counted k) = Some k
+hint Open = None
+hint Ended = None
+
+-- where a part or a break should come and no byte is left
+pub record EndsOpen {E : Type 0} (left : Left) (old new : View) (error : DecodeError E) : Type 0 where
+  pub at : left ≡ Open → old.told ≡ Some [] → IfSome (refusal_of error) (λ refusal. (refusal ≡ eof (codes "break") (Small 1)) × (new.told ≡ Some []))

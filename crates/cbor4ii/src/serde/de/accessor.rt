@@ -1,0 +1,315 @@
+//! Arrays and maps that are read part by part.
+ghost use Rattle.std.specs.Prelude.{
+  ◌≡◌,
+  ◌≤◌,
+  ◌+◌,
+  IfOk,
+  IfErr,
+  codes,
+  false,
+  IsTrue,
+  OnSome,
+  OnErr,
+};
+ghost use Rattle.std.specs.Borrow.{sem, RestsIfErr};
+ghost use Rattle.cbor4ii_items.specs.Moves.{Moves};
+ghost use Rattle.cbor4ii_items.specs.Decoding.{IsExact, Sound, Refuses, Stops};
+ghost use Rattle.cbor4ii_items.specs.Lengths.{ReadsLength, StopsLength};
+ghost use Rattle.cbor4ii_items.specs.Refusal.{is_out_of_memory};
+ghost use Rattle.cbor4ii.specs.contracts.serde.de.deserializer.Deserializer.{the_row};
+ghost use Rattle.cbor4ii.specs.declared.serde.de.accessor.Left.TheVariants.{Counted};
+ghost use Rattle.cbor4ii.specs.Accessing.{
+  inside,
+  left_in,
+  Opens,
+  Closes,
+  Next,
+  left_then,
+  left_tried,
+  fuel,
+  hint,
+  EndsOpen,
+};
+ghost use Rattle.cbor4ii.specs.Stepped.{Stepped, StopsStepped};
+ghost use Rattle.cbor4ii.specs.Tuples.{ReadsCountOf, StopsCountOf};
+ghost use Rattle.cbor4ii.specs.Typed.{input, answer_of, as_core};
+
+use crate::serde::de::deserialize::{Deserialize, Typed};
+use crate::serde::de::deserializer::Deserializer;
+use crate::serde::de::error::DecodeError;
+use crate::serde::de::tuples::take_count;
+use cbor4ii_items::indefinite::is_break;
+use cbor4ii_items::types::{Array, Map};
+use cbor4ii_rw::error as core_error;
+use cbor4ii_rw::error::StaticStr;
+use cbor4ii_rw::read::Source;
+use std::alloc::Global;
+
+/// What is still to be read of an array or a map.
+#[derive(Clone, Copy)]
+pub enum Left {
+    /// So many items, or pairs.
+    Counted(usize),
+    /// Items or pairs up to a break.
+    Open,
+    /// Nothing: the break was taken.
+    Ended,
+}
+
+/// The parts of an array or a map, which are read one by one. It holds a step of the budget, and
+/// gives it back when it is dropped, whether or not all parts were read. Parts that were not read
+/// stay.
+pub struct Accessor<'a, S: Source> {
+    pub(crate) de: &'a mut Deserializer<S>,
+    pub(crate) left: Left,
+}
+
+impl<'a, S: Source> Drop for Accessor<'a, S> {
+    fn drop(self)
+        ensures { Closes (inside S.view self.entry) (input S.view self.exit.0.now) }
+    {
+        let Accessor { de, left: _ } = self;
+        de.reader.step_out();
+    }
+}
+
+/// Each of these takes a step and then the head, and answers what reads the parts.
+impl<S: Source> Deserializer<S> {
+    /// An array of any length.
+    ///
+    /// # Errors
+    ///
+    /// `Core` of `Read` where the reader failed. `Core` of `DepthOverflow` by the name "seq" where
+    /// no step is left, and nothing is taken. By the name "array": `Core` of `Eof` with 1 where no
+    /// byte is left, and with k where the length has k bytes and fewer are left, nothing being left
+    /// then; of `Mismatch` with the first byte, which is taken, where it begins no array. The
+    /// budget is as before then.
+    pub fn deserialize_seq(&mut self) -> Result<Accessor<'_, S>, DecodeError<S::Error>>
+        ensures* refused { sem 𝓛 (RestsIfErr (the_row S.row) self.entry
+            (λ accessor. accessor.de.ghost_name) result (λ new.
+            Moves (input S.view self.old) (input S.view new) (answer_of result) ×
+            IfErr result (λ error. Stops (StopsStepped (codes "seq") (StopsLength (codes "array") 4))
+            (input S.view self.old) (input S.view new) (as_core error)))) }
+        ensures same_reference { IfOk result
+            (λ accessor. accessor.de.ghost_name ≡ self.entry.ghost_name) }
+        ensures opened { IfOk result (λ accessor. Opens 4 (input S.view self.old)
+            (inside S.view accessor) (left_in accessor)) }
+        ensures memory { IfErr result (λ error. is_out_of_memory (as_core error) ≡ false) }
+        ensures complete { IfErr result (λ error.
+            Refuses (Stepped (ReadsLength 4)) (input S.view self.old) (as_core error)) }
+    {
+        if !self.reader.step_in() {
+            return Err(DecodeError::Core(core_error::DecodeError::DepthOverflow { name: "seq" }));
+        }
+        match Array::<()>::len(&mut self.reader) {
+            Ok(Some(count)) => Ok(Accessor {
+                de: self,
+                left: Left::Counted(count),
+            }),
+            Ok(None) => Ok(Accessor {
+                de: self,
+                left: Left::Open,
+            }),
+            Err(error) => {
+                self.reader.step_out();
+                Err(DecodeError::Core(error))
+            }
+        }
+    }
+
+    /// An array of a known length of `len`.
+    ///
+    /// # Errors
+    ///
+    /// As `deserialize_seq`, by the name "tuple" in the place of "seq". Besides, by that name,
+    /// `Core` of `RequireLength` with the length where it is another, and with `Indefinite` where
+    /// it is indefinite; the head is taken then.
+    pub fn deserialize_tuple(
+        &mut self,
+        len: usize,
+    ) -> Result<Accessor<'_, S>, DecodeError<S::Error>>
+        ensures* refused { sem 𝓛 (RestsIfErr (the_row S.row) self.entry
+            (λ accessor. accessor.de.ghost_name) result (λ new.
+            Moves (input S.view self.old) (input S.view new) (answer_of result) ×
+            IfErr result (λ error. Stops (StopsStepped (codes "tuple") (StopsCountOf len))
+            (input S.view self.old) (input S.view new) (as_core error)))) }
+        ensures same_reference { IfOk result
+            (λ accessor. accessor.de.ghost_name ≡ self.entry.ghost_name) }
+        ensures opened { IfOk result (λ accessor. Opens 4 (input S.view self.old)
+            (inside S.view accessor) (left_in accessor)) }
+        ensures left { IfOk result (λ accessor. left_in accessor ≡ Counted len) }
+        ensures memory { IfErr result (λ error. is_out_of_memory (as_core error) ≡ false) }
+        ensures complete { IfErr result (λ error.
+            Refuses (Stepped (ReadsCountOf len)) (input S.view self.old) (as_core error)) }
+    {
+        if !self.reader.step_in() {
+            return Err(DecodeError::Core(core_error::DecodeError::DepthOverflow { name: "tuple" }));
+        }
+        match take_count(&mut self.reader, len) {
+            Ok(()) => Ok(Accessor {
+                de: self,
+                left: Left::Counted(len),
+            }),
+            Err(error) => {
+                self.reader.step_out();
+                Err(DecodeError::Core(error))
+            }
+        }
+    }
+
+    /// A map of any length, whose keys and values are then read in turn.
+    ///
+    /// # Errors
+    ///
+    /// As `deserialize_seq`, by the name "map" in the place of "seq" and "array".
+    pub fn deserialize_map(&mut self) -> Result<Accessor<'_, S>, DecodeError<S::Error>>
+        ensures* refused { sem 𝓛 (RestsIfErr (the_row S.row) self.entry
+            (λ accessor. accessor.de.ghost_name) result (λ new.
+            Moves (input S.view self.old) (input S.view new) (answer_of result) ×
+            IfErr result (λ error. Stops (StopsStepped (codes "map") (StopsLength (codes "map") 5))
+            (input S.view self.old) (input S.view new) (as_core error)))) }
+        ensures same_reference { IfOk result
+            (λ accessor. accessor.de.ghost_name ≡ self.entry.ghost_name) }
+        ensures opened { IfOk result (λ accessor. Opens 5 (input S.view self.old)
+            (inside S.view accessor) (left_in accessor)) }
+        ensures memory { IfErr result (λ error. is_out_of_memory (as_core error) ≡ false) }
+        ensures complete { IfErr result (λ error.
+            Refuses (Stepped (ReadsLength 5)) (input S.view self.old) (as_core error)) }
+    {
+        if !self.reader.step_in() {
+            return Err(DecodeError::Core(core_error::DecodeError::DepthOverflow { name: "map" }));
+        }
+        match Map::<()>::len(&mut self.reader) {
+            Ok(Some(count)) => Ok(Accessor {
+                de: self,
+                left: Left::Counted(count),
+            }),
+            Ok(None) => Ok(Accessor {
+                de: self,
+                left: Left::Open,
+            }),
+            Err(error) => {
+                self.reader.step_out();
+                Err(DecodeError::Core(error))
+            }
+        }
+    }
+}
+
+impl<'a, S: Source> Accessor<'a, S> {
+    /// The next item, or none at the end, and from then on always. After a refusal it goes on with
+    /// what is left then.
+    ///
+    /// # Errors
+    ///
+    /// Those of the item. At an indefinite length, `Core` of `Read` where the reader failed, and
+    /// of `Eof` by the name "break" with 1 where no byte is left.
+    pub fn next_element<T: Deserialize<S>>(
+        &mut self,
+        alloc: Global,
+    ) -> Result<Option<T>, DecodeError<S::Error>>
+        ensures same_reference { self.new.de.ghost_name ≡ self.old.de.ghost_name }
+        ensures moves { Moves (inside S.view self.old) (inside S.view self.new)
+            (answer_of result) }
+        ensures memory { IfErr result
+            (λ error. IsTrue (is_out_of_memory (as_core error)) → IsTrue T.takes_memory) }
+        ensures sound { IfOk result (Sound (Next T.reads (left_in self.old))
+            (inside S.view self.old) (inside S.view self.new)) }
+        ensures left { IfOk result
+            (λ part. left_in self.new ≡ left_then (left_in self.old) part) }
+        ensures tried { OnErr result (left_in self.new ≡ left_tried (left_in self.old)) }
+        ensures complete { IsTrue T.exact → IsExact T.owned (inside S.view self.old) →
+            IfErr result (λ error. Refuses (Next T.reads (left_in self.old))
+            (inside S.view self.old) (as_core error)) }
+        ensures ends { IfErr result (λ error. EndsOpen (left_in self.old)
+            (inside S.view self.old) (inside S.view self.new) (as_core error)) }
+        ensures shrinks { IsTrue T.never_empty → IfOk result (λ part. OnSome part
+            (fuel (left_in self.new) (inside S.view self.new).bound + 1
+            ≤ fuel (left_in self.old) (inside S.view self.old).bound)) }
+    {
+        match self.left {
+            Left::Counted(0) => Ok(None),
+            Left::Counted(count) => {
+                self.left = Left::Counted(count - 1);
+                match T::deserialize(alloc, self.de) {
+                    Ok(value) => Ok(Some(value)),
+                    Err(error) => Err(error),
+                }
+            }
+            Left::Open => match is_break(&mut self.de.reader) {
+                Ok(true) => {
+                    self.left = Left::Ended;
+                    Ok(None)
+                }
+                Ok(false) => match T::deserialize(alloc, self.de) {
+                    Ok(value) => Ok(Some(value)),
+                    Err(error) => Err(error),
+                },
+                Err(error) => Err(DecodeError::Core(error)),
+            },
+            Left::Ended => Ok(None),
+        }
+    }
+
+    /// The next key of a map, or none at the end: as `next_element`.
+    pub fn next_key<K: Deserialize<S>>(
+        &mut self,
+        alloc: Global,
+    ) -> Result<Option<K>, DecodeError<S::Error>>
+        ensures same_reference { self.new.de.ghost_name ≡ self.old.de.ghost_name }
+        ensures moves { Moves (inside S.view self.old) (inside S.view self.new)
+            (answer_of result) }
+        ensures memory { IfErr result
+            (λ error. IsTrue (is_out_of_memory (as_core error)) → IsTrue K.takes_memory) }
+        ensures sound { IfOk result (Sound (Next K.reads (left_in self.old))
+            (inside S.view self.old) (inside S.view self.new)) }
+        ensures left { IfOk result
+            (λ part. left_in self.new ≡ left_then (left_in self.old) part) }
+        ensures tried { OnErr result (left_in self.new ≡ left_tried (left_in self.old)) }
+        ensures complete { IsTrue K.exact → IsExact K.owned (inside S.view self.old) →
+            IfErr result (λ error. Refuses (Next K.reads (left_in self.old))
+            (inside S.view self.old) (as_core error)) }
+        ensures ends { IfErr result (λ error. EndsOpen (left_in self.old)
+            (inside S.view self.old) (inside S.view self.new) (as_core error)) }
+        ensures shrinks { IsTrue K.never_empty → IfOk result (λ part. OnSome part
+            (fuel (left_in self.new) (inside S.view self.new).bound + 1
+            ≤ fuel (left_in self.old) (inside S.view self.old).bound)) }
+    {
+        self.next_element::<K>(alloc)
+    }
+
+    /// The next item, whatever it is: behind a key, its value. It is not counted.
+    ///
+    /// # Errors
+    ///
+    /// Those of the item.
+    pub fn next_value<V: Deserialize<S>>(
+        &mut self,
+        alloc: Global,
+    ) -> Result<V, DecodeError<S::Error>>
+        ensures same_reference { self.new.de.ghost_name ≡ self.old.de.ghost_name }
+        ensures left { left_in self.new ≡ left_in self.old }
+        ensures moves { Moves (inside S.view self.old) (inside S.view self.new)
+            (answer_of result) }
+        ensures memory { IfErr result
+            (λ error. IsTrue (is_out_of_memory (as_core error)) → IsTrue V.takes_memory) }
+        ensures sound { IfOk result
+            (Sound V.reads (inside S.view self.old) (inside S.view self.new)) }
+        ensures complete { IsTrue V.exact → IsExact V.owned (inside S.view self.old) →
+            IfErr result (λ error.
+            Refuses V.reads (inside S.view self.old) (as_core error)) }
+    {
+        V::deserialize(alloc, self.de)
+    }
+
+    /// How many parts are left of a count, and none where the length is indefinite.
+    pub fn size_hint(&self) -> Option<usize>
+        ensures { result ≡ hint (left_in self.now) }
+    {
+        match self.left {
+            Left::Counted(count) => Some(count),
+            Left::Open => None,
+            Left::Ended => None,
+        }
+    }
+}
