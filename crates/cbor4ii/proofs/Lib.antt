@@ -12,3 +12,4 @@ pub mod Mapped
 pub mod Looking
 pub mod Units
 pub mod Going
+pub mod Entries

@@ -3,6 +3,8 @@ ghost use Rattle.std.specs.Prelude.{
   ◌≡◌,
   ◌≤◌,
   ◌+◌,
+  ◌&&◌,
+  ◌||◌,
   IfOk,
   IfErr,
   codes,
@@ -16,6 +18,7 @@ ghost use Rattle.cbor4ii_items.specs.Moves.{Moves};
 ghost use Rattle.cbor4ii_items.specs.Decoding.{IsExact, Sound, Refuses, Stops};
 ghost use Rattle.cbor4ii_items.specs.Lengths.{ReadsLength, StopsLength};
 ghost use Rattle.cbor4ii_items.specs.Refusal.{is_out_of_memory};
+ghost use Rattle.cbor4ii_items.specs.Sequences.{ReadsPair};
 ghost use Rattle.cbor4ii.specs.contracts.serde.de.deserializer.Deserializer.{the_row};
 ghost use Rattle.cbor4ii.specs.declared.serde.de.accessor.Left.TheVariants.{Counted};
 ghost use Rattle.cbor4ii.specs.Accessing.{
@@ -194,6 +197,52 @@ impl<S: Source> Deserializer<S> {
             }
         }
     }
+
+    /// A struct whose fields have no names: as `deserialize_tuple`. Its own name is not spelled.
+    pub fn deserialize_tuple_struct(
+        &mut self,
+        name: StaticStr,
+        len: usize,
+    ) -> Result<Accessor<'_, S>, DecodeError<S::Error>>
+        ensures* refused { sem 𝓛 (RestsIfErr (the_row S.row) self.entry
+            (λ accessor. accessor.de.ghost_name) result (λ new.
+            Moves (input S.view self.old) (input S.view new) (answer_of result) ×
+            IfErr result (λ error. Stops (StopsStepped (codes "tuple") (StopsCountOf len))
+            (input S.view self.old) (input S.view new) (as_core error)))) }
+        ensures same_reference { IfOk result
+            (λ accessor. accessor.de.ghost_name ≡ self.entry.ghost_name) }
+        ensures opened { IfOk result (λ accessor. Opens 4 (input S.view self.old)
+            (inside S.view accessor) (left_in accessor)) }
+        ensures left { IfOk result (λ accessor. left_in accessor ≡ Counted len) }
+        ensures memory { IfErr result (λ error. is_out_of_memory (as_core error) ≡ false) }
+        ensures complete { IfErr result (λ error.
+            Refuses (Stepped (ReadsCountOf len)) (input S.view self.old) (as_core error)) }
+    {
+        self.deserialize_tuple(len)
+    }
+
+    /// A struct, as a map of its fields' names and values: as `deserialize_map`. Its own name is
+    /// not spelled, and no name of a field is asked for.
+    pub fn deserialize_struct(
+        &mut self,
+        name: StaticStr,
+        fields: &[StaticStr],
+    ) -> Result<Accessor<'_, S>, DecodeError<S::Error>>
+        ensures* refused { sem 𝓛 (RestsIfErr (the_row S.row) self.entry
+            (λ accessor. accessor.de.ghost_name) result (λ new.
+            Moves (input S.view self.old) (input S.view new) (answer_of result) ×
+            IfErr result (λ error. Stops (StopsStepped (codes "map") (StopsLength (codes "map") 5))
+            (input S.view self.old) (input S.view new) (as_core error)))) }
+        ensures same_reference { IfOk result
+            (λ accessor. accessor.de.ghost_name ≡ self.entry.ghost_name) }
+        ensures opened { IfOk result (λ accessor. Opens 5 (input S.view self.old)
+            (inside S.view accessor) (left_in accessor)) }
+        ensures memory { IfErr result (λ error. is_out_of_memory (as_core error) ≡ false) }
+        ensures complete { IfErr result (λ error.
+            Refuses (Stepped (ReadsLength 5)) (input S.view self.old) (as_core error)) }
+    {
+        self.deserialize_map()
+    }
 }
 
 impl<'a, S: Source> Accessor<'a, S> {
@@ -300,6 +349,43 @@ impl<'a, S: Source> Accessor<'a, S> {
             Refuses V.reads (inside S.view self.old) (as_core error)) }
     {
         V::deserialize(alloc, self.de)
+    }
+
+    /// The next key and its value, or none at the end.
+    ///
+    /// # Errors
+    ///
+    /// Those of `next_key`, and of the value. A key was counted off, and taken where it was whole.
+    pub fn next_entry<K: Deserialize<S> + Drop, V: Deserialize<S>>(
+        &mut self,
+        alloc: Global,
+    ) -> Result<Option<(K, V)>, DecodeError<S::Error>>
+        ensures same_reference { self.new.de.ghost_name ≡ self.old.de.ghost_name }
+        ensures moves { Moves (inside S.view self.old) (inside S.view self.new)
+            (answer_of result) }
+        ensures memory { IfErr result (λ error. IsTrue (is_out_of_memory (as_core error)) →
+            IsTrue (K.takes_memory || V.takes_memory)) }
+        ensures sound { IfOk result (Sound (Next (ReadsPair K.reads V.reads) (left_in self.old))
+            (inside S.view self.old) (inside S.view self.new)) }
+        ensures left { IfOk result
+            (λ part. left_in self.new ≡ left_then (left_in self.old) part) }
+        ensures tried { OnErr result (left_in self.new ≡ left_tried (left_in self.old)) }
+        ensures complete { IsTrue (K.exact && V.exact) →
+            IsExact (K.owned && V.owned) (inside S.view self.old) → IfErr result (λ error.
+            Refuses (Next (ReadsPair K.reads V.reads) (left_in self.old))
+            (inside S.view self.old) (as_core error)) }
+        ensures shrinks { IsTrue K.never_empty → IfOk result (λ part. OnSome part
+            (fuel (left_in self.new) (inside S.view self.new).bound + 1
+            ≤ fuel (left_in self.old) (inside S.view self.old).bound)) }
+    {
+        match self.next_element::<K>(alloc) {
+            Ok(Some(key)) => match V::deserialize(alloc, self.de) {
+                Ok(value) => Ok(Some((key, value))),
+                Err(error) => Err(error),
+            },
+            Ok(None) => Ok(None),
+            Err(error) => Err(error),
+        }
     }
 
     /// How many parts are left of a count, and none where the length is indefinite.
