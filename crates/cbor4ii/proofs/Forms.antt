@@ -1,5 +1,5 @@
 -- A value of one type, read as that of another.
-use Rattle.std.proofs.Common.{◌≡◌, ℕ, List, sym, subst}
+use Rattle.std.proofs.Common.{◌≡◌, sym, subst}
 use Rattle.cbor4ii_rw.specs.View.{View}
 use Rattle.cbor4ii_items.specs.Decoding.{Reads, Sound}
 

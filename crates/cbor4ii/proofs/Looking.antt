@@ -1,5 +1,5 @@
 -- The byte that comes next, looked at and then taken.
-use Rattle.std.proofs.Common.{◌≡◌, ◌≢◌, ◌⊎◌, inl, inr, ℕ, ◌+◌, ◌<◌, ◌≤◌, List, [], ◌∷◌, length, take, drop, Option, Some, None, Ok, Err, refl, sym, ap, ◌∙◌, subst, arith}
+use Rattle.std.proofs.Common.{◌≡◌, ◌≢◌, ◌⊎◌, inl, inr, ℕ, ◌<◌, ◌≤◌, List, [], ◌∷◌, length, take, drop, Option, Some, None, Ok, refl, sym, ap, ◌∙◌, subst, arith}
 use Rattle.std.specs.Prelude.{codes}
 use Rattle.cbor4ii_rw.specs.View.{View, Told}
 use Rattle.cbor4ii_rw.specs.Reader.{Advances}

@@ -3,18 +3,15 @@ use Rattle.std.proofs.Common.{◌≡◌, ◌≢◌, ℕ, ◌+◌, ◌<◌, ◌�
 use Rattle.std.proofs.Math.Nat.{max-le}
 use Rattle.cbor4ii_rw.specs.View.{View, Told}
 use Rattle.cbor4ii_rw.specs.declared.error.DecodeError.{DecodeError}
-use Rattle.cbor4ii_rw.specs.declared.error.DecodeError.TheVariants.{RequireLength}
-use Rattle.cbor4ii_rw.specs.declared.error.Len.TheVariants.{Indefinite}
-use denote.Ref.{Bor}
 use Rattle.cbor4ii_items.specs.Head.{break}
 use Rattle.cbor4ii_items.specs.Refusal.{Refusal, refusal_of}
 use Rattle.cbor4ii_items.specs.Moves.{Kept, Moves}
 use Rattle.cbor4ii_items.specs.Reading.{Runs}
-use Rattle.cbor4ii_items.specs.Decoding.{Reads, StopsAt, CostFits, Sound, NoneRead, Refuses, Stops}
+use Rattle.cbor4ii_items.specs.Decoding.{Reads, CostFits, Sound, NoneRead, Refuses}
 use Rattle.cbor4ii_items.specs.Fronts.{drop_more}
 use Rattle.cbor4ii_items.specs.ReadStrings.{break_at}
 use Rattle.cbor4ii_items.specs.ProgramEnds.{break_yes, break_no, break_refused}
-use Rattle.cbor4ii_items.specs.Sequences.{ReadsParts, ReadsCount, Unbroken, ReadsUpToBreak, StopsCount, StopsPlace, no_byte, may_read_nothing, part_refused, StopsUpToBreak, AddsPart}
+use Rattle.cbor4ii_items.specs.Sequences.{ReadsParts, ReadsCount, Unbroken, ReadsUpToBreak, AddsPart}
 use Rattle.cbor4ii_items.specs.SequenceLaws.{not_less, next_part, parts_size, unbroken_size, ends_at_break}
 use Rattle.cbor4ii_items.specs.Laws.Answering.{if_some}
 use Rattle.cbor4ii_items.specs.Laws.Steps.{kept_then}

@@ -1,5 +1,5 @@
 -- A call that reads one item, as the item's type says.
-use Rattle.std.specs.Prelude.{◌≡◌, ℕ, ◌+◌, ◌≤◌, List, Option, Bool, Result, OnOk, IfOk, IfErr, IsTrue}
+use Rattle.std.specs.Prelude.{ℕ, ◌+◌, ◌≤◌, List, Option, Bool, Result, OnOk, IfOk, IfErr, IsTrue}
 use Rattle.cbor4ii_rw.specs.View.{View}
 use Rattle.cbor4ii_items.specs.Moves.{Moves}
 use Rattle.cbor4ii_items.specs.Decoding.{IsExact, Sound, Refuses, Stops}

@@ -1,5 +1,5 @@
 -- Units and tuples.
-use Rattle.std.proofs.Common.{◌≡◌, ℕ, ◌+◌, ◌<◌, ◌≤◌, List, [], ◌∷◌, length, take, drop, max, Bool, true, false, ◌/◌, sym, ap, ◌∙◌, subst, arith}
+use Rattle.std.proofs.Common.{◌≡◌, ℕ, ◌+◌, ◌<◌, ◌≤◌, List, [], ◌∷◌, length, take, drop, max, Bool, true, sym, ap, ◌∙◌, subst, arith}
 use Rattle.std.proofs.lemmas.List.{length-drop}
 use Rattle.std.specs.Prelude.{◌||◌, ◌≢◌, ◌⊎◌, Option, Some, None, codes}
 use Rattle.cbor4ii_rw.specs.declared.error.Len.{Len}

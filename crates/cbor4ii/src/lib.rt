@@ -2,3 +2,5 @@
 #![tactic(auto)]
 
 pub mod serde;
+#[cfg(test)]
+mod tests;

@@ -1,8 +1,8 @@
 //! Typed values, read.
 
 pub mod accessor;
-mod borrowed;
 mod boxed;
+mod cow;
 pub mod deserialize;
 pub mod deserializer;
 pub mod error;

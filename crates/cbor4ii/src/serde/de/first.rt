@@ -62,8 +62,7 @@ pub fn from_slice<I: Input, T: Deserialize<I::Reader>>(
 ///
 /// `Core` of `Read` where the stream failed, and of `OutOfMemory` where a growth was refused. Any
 /// other error comes, of an exact type that needs no borrowed part, only where no value of the type
-/// whose steps are at most 256 begins these bytes. A type that is a borrowed part is refused by
-/// `Core` of `RequireBorrowed` where its item begins.
+/// whose steps are at most 256 begins these bytes.
 pub fn from_reader<R: BufRead + Drop, T: Deserialize<IoReader<R>>>(
     alloc: Global,
     reader: R,

@@ -1,4 +1,3 @@
-use Rattle.std.proofs.Common.{◌||◌}
 use Rattle.std.proofs.lemmas.Result.{err_from_is_err_and}
 use Rattle.cbor4ii_items.specs.Laws.Steps.{moves_then, moves_ok, moves_err}
 use Rattle.cbor4ii_items.specs.Laws.Answering.{exact_kept}

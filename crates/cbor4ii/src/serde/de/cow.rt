@@ -1,11 +1,9 @@
-//! Strings that are borrowed from the input, or may be. Each reader of `cbor4ii_rw` has them by name.
-ghost use Rattle.std.specs.Prelude.{◌≡◌, true, false};
+//! Strings that are borrowed from the input where the reader lends them, and owned otherwise. Each
+//! reader of `cbor4ii_rw` has them by name.
+ghost use Rattle.std.specs.Prelude.{◌≡◌, true};
 ghost use Rattle.cbor4ii_items.specs.Cow.{cow_text, cow_bytes};
-ghost use Rattle.cbor4ii_items.specs.Lent.{lent_str, lent_bytes};
-ghost use Rattle.cbor4ii_items.specs.LentLaws.{lent_one, lent_within, lent_positive};
 ghost use Rattle.cbor4ii_items.specs.StringLaws.{
   two_small,
-  three_small,
   as_one,
   as_within,
   as_positive,
@@ -27,124 +25,6 @@ use std::alloc::Global;
 use std::borrow::{CowSlice, CowStr};
 use std::io;
 use std::io::BufRead;
-
-impl<'de> Typed for &'de str {
-    ghost reads = { ⟦<&'de str as Spelled>⟧.reads };
-
-    ghost same = { ⟦<&'de str as Spelled>⟧.same };
-
-    ghost never_empty = { true };
-
-    ghost owned = { false };
-
-    ghost takes_memory = { ⟦<&'de str as Spelled>⟧.takes_memory };
-
-    ghost exact = { true };
-
-    fn is_never_empty() -> bool
-        ensures { result ≡ true }
-    {
-        true
-    }
-
-    fn is_owned() -> bool
-        ensures { result ≡ false }
-    {
-        false
-    }
-
-    ghost laws = { λ _. record {
-      one = lent_one 3 three_small true lent_str;
-      within = lent_within 3 three_small true lent_str;
-      positive = λ _. lent_positive 3 three_small true lent_str;
-    } };
-}
-
-impl<'de> Deserialize<SliceReader<'de>> for &'de str {
-    fn deserialize(
-        alloc: Global,
-        de: &mut Deserializer<SliceReader<'de>>,
-    ) -> Result<&'de str, DecodeError<Never>> {
-        take_item(alloc, de)
-    }
-}
-
-impl<'de> Deserialize<SegmentReader<'de>> for &'de str {
-    fn deserialize(
-        alloc: Global,
-        de: &mut Deserializer<SegmentReader<'de>>,
-    ) -> Result<&'de str, DecodeError<Never>> {
-        take_item(alloc, de)
-    }
-}
-
-impl<'de, R: BufRead + Drop> Deserialize<IoReader<R>> for &'de str {
-    fn deserialize(
-        alloc: Global,
-        de: &mut Deserializer<IoReader<R>>,
-    ) -> Result<&'de str, DecodeError<io::Error>> {
-        take_item(alloc, de)
-    }
-}
-
-impl<'de> Typed for Bytes<&'de [u8]> {
-    ghost reads = { ⟦<Bytes<&'de [u8]> as Spelled>⟧.reads };
-
-    ghost same = { ⟦<Bytes<&'de [u8]> as Spelled>⟧.same };
-
-    ghost never_empty = { true };
-
-    ghost owned = { false };
-
-    ghost takes_memory = { ⟦<Bytes<&'de [u8]> as Spelled>⟧.takes_memory };
-
-    ghost exact = { true };
-
-    fn is_never_empty() -> bool
-        ensures { result ≡ true }
-    {
-        true
-    }
-
-    fn is_owned() -> bool
-        ensures { result ≡ false }
-    {
-        false
-    }
-
-    ghost laws = { λ _. record {
-      one = lent_one 2 two_small false lent_bytes;
-      within = lent_within 2 two_small false lent_bytes;
-      positive = λ _. lent_positive 2 two_small false lent_bytes;
-    } };
-}
-
-impl<'de> Deserialize<SliceReader<'de>> for Bytes<&'de [u8]> {
-    fn deserialize(
-        alloc: Global,
-        de: &mut Deserializer<SliceReader<'de>>,
-    ) -> Result<Bytes<&'de [u8]>, DecodeError<Never>> {
-        take_item(alloc, de)
-    }
-}
-
-impl<'de> Deserialize<SegmentReader<'de>> for Bytes<&'de [u8]> {
-    fn deserialize(
-        alloc: Global,
-        de: &mut Deserializer<SegmentReader<'de>>,
-    ) -> Result<Bytes<&'de [u8]>, DecodeError<Never>> {
-        take_item(alloc, de)
-    }
-}
-
-impl<'de, R: BufRead + Drop> Deserialize<IoReader<R>> for Bytes<&'de [u8]> {
-    fn deserialize(
-        alloc: Global,
-        de: &mut Deserializer<IoReader<R>>,
-    ) -> Result<Bytes<&'de [u8]>, DecodeError<io::Error>> {
-        take_item(alloc, de)
-    }
-}
 
 impl<'de> Typed for CowStr<'de, Global> {
     ghost reads = { ⟦<CowStr<'de, Global> as Spelled>⟧.reads };
