@@ -13,7 +13,7 @@ use Rattle.cbor4ii_tree.specs.Canonical.{canon, canon_trees, canon_pairs, bignum
 use Rattle.cbor4ii_tree.specs.View.{view, items_view, members_view}
 use Rattle.cbor4ii_tree.specs.Encoding.{value_bytes, member_bytes}
 use Rattle.cbor4ii_tree.specs.declared.value.Value.{Value, Bool as VBool, Integer, Array, Map, Tag, the_lemmas}
-use Rattle.cbor4ii_tree.proofs.Canonical.{count-canon, count-pairs}
+use Rattle.cbor4ii_tree.proofs.CanonicalSpelling.{count-canon, count-pairs}
 use Rattle.cbor4ii_tree.proofs.Views.{item_count-items_view, member_count-members_view, view-Map}
 
 -- ---- integers

@@ -1,5 +1,5 @@
 pub mod Costs
-pub mod Canonical
+pub mod CanonicalSpelling
 pub mod Sizes
 pub mod Strict
 pub mod Answers
@@ -32,6 +32,9 @@ pub mod ValuingSequences
 pub mod ValuingStrings
 pub mod ValueDecoding
 pub mod ValuingItems
+pub mod Exactly
+pub mod ExactCalls
+pub mod CanonicalDecoding
 pub mod Leaves
 pub mod Glancing
 pub mod RunPairs

@@ -22,7 +22,7 @@ use Rattle.cbor4ii_tree.specs.Skipping.{SkipsOne, StopsOne}
 use Rattle.cbor4ii_tree.specs.Valuing.{ReadsOne}
 use Rattle.cbor4ii_tree.specs.View.{view}
 use Rattle.cbor4ii_tree.specs.Promises.{Others, AllSkips, FrontSkips, EofSkips, DepthSkips, FinalSkips, ExactSkips, OnlyReads, AllReads, FrontReads, EofReads, DepthReads, FinalReads, ExactReads, SizeReads, SkipsReads, CanonicalReads}
-use Rattle.cbor4ii_tree.proofs.Canonical.{canon_spells}
+use Rattle.cbor4ii_tree.proofs.CanonicalSpelling.{canon_spells}
 use Rattle.cbor4ii_tree.proofs.MayStop.{skipping_may_stop, skipping_leaves_nothing, reading_may_stop, reading_leaves_nothing}
 use Rattle.cbor4ii_tree.proofs.Sizes.{size-spelled}
 use Rattle.cbor4ii_tree.proofs.skipping.Answer.{one_skipping, one_spelling}

@@ -15,7 +15,7 @@ use Rattle.cbor4ii_tree.specs.Strict.{Strict, StrictAll, StrictPairs, CanonicalT
 use Rattle.cbor4ii_tree.specs.head_laws.Numbers.{info-additional}
 use Rattle.cbor4ii_tree.specs.part_laws.Again.{pair_split}
 use Rattle.cbor4ii_tree.specs.IgnoredLaws.{one_spelling}
-use Rattle.cbor4ii_tree.proofs.Canonical.{if_cases, shortest_fits, count-canon, count-pairs, loose_canon, sound_canon, value-canon, with_bignums-value}
+use Rattle.cbor4ii_tree.proofs.CanonicalSpelling.{if_cases, shortest_fits, count-canon, count-pairs, loose_canon, sound_canon, value-canon, with_bignums-value}
 use Rattle.cbor4ii_tree.proofs.Costs.{below_from_HeadFits}
 use Rattle.cbor4ii_tree.proofs.Sizes.{integer-value, content-value, item_count-values, member_count-values}
 
@@ -82,14 +82,14 @@ mutual
 
 -- ---- what is spelled as encoders write is strict
 
-same_first : (a b : ℕ) (x y : List ℕ) → a ∷ x ≡ b ∷ y → (a ≡ b) × (x ≡ y)
+pub same_first : (a b : ℕ) (x y : List ℕ) → a ∷ x ≡ b ∷ y → (a ≡ b) × (x ≡ y)
 same_first a b x y e = (cc, cc)
 
 same_wide : (w u : Width) → wide w ≡ wide u → w ≡ u
 same_wide w u e = cc
 
 -- of one argument and one first byte the head is one
-same_width : (major n : ℕ) (w u : Width) → HeadFits w n → HeadFits u n → 32 * major + additional w n ≡ 32 * major + additional u n → w ≡ u
+pub same_width : (major n : ℕ) (w u : Width) → HeadFits w n → HeadFits u n → 32 * major + additional w n ≡ 32 * major + additional u n → w ≡ u
 same_width major n w u h k e =
     let low : additional w n ≡ additional u n = omega (arith, e) in
     same_wide w u (sym (info-additional n w h) ∙ ap info_of low ∙ info-additional n u k)

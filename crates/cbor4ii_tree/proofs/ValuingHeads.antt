@@ -77,7 +77,7 @@ below_zero : (v : ℕ) → negsuc 0 -ℤ pos v ≡ negsuc v
 below_zero zero = refl
 below_zero (suc v) = let e : 0 + v ≡ v = omega arith in ap (λ j. negsuc (suc j)) e
 
-negative_z : (v : ℕ) → v < 2 ^ 127 → to_z w128 (of_z w128 (negsuc 0 -ℤ to_z w128 v)) ≡ negsuc v
+pub negative_z : (v : ℕ) → v < 2 ^ 127 → to_z w128 (of_z w128 (negsuc 0 -ℤ to_z w128 v)) ≡ negsuc v
 negative_z v h = ap (λ z. to_z w128 (of_z w128 (negsuc 0 -ℤ z))) (small_z v h) ∙ ap (λ z. to_z w128 (of_z w128 z)) (below_zero v) ∙ to_z-of_z w128 (negsuc v) (record { sfits = h })
 
 pub negative_reads : (inner : Budget) (v n c : ℕ) (xs : List ℕ) → ReadsArgument 1 8 xs v n c → ReadsUnder inner xs (Integer (to_z w128 (of_z w128 (negsuc 0 -ℤ to_z w128 v)))) (drop n xs)

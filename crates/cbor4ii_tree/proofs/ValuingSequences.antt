@@ -188,7 +188,7 @@ open_done budget vs xs ys zs h e = (h.0, h.1, h.2, h.3 ∙ ap (λ r. bytes_all h
 
 -- ---- pairs
 
-values-push_pair : (ps : Pairs) (k v : Tree) (ms : List (Value × Value)) (x y : Value) → member_values ps ≡ members_view ms → value k ≡ view x → value v ≡ view y → member_values (push_pair ps k v) ≡ members_view (ms ++ (x, y) ∷ [])
+pub values-push_pair : (ps : Pairs) (k v : Tree) (ms : List (Value × Value)) (x y : Value) → member_values ps ≡ members_view ms → value k ≡ view x → value v ≡ view y → member_values (push_pair ps k v) ≡ members_view (ms ++ (x, y) ∷ [])
 unfolding push_pair
 values-push_pair no_pairs k v [] x y e f g = ap₂ (λ a b. member a b no_members) f g
 values-push_pair no_pairs k v (m ∷ ms) x y e f g = cc

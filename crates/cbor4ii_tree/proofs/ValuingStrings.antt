@@ -320,7 +320,7 @@ text_stops inner b bs e rest m (no_utf8 content n c r fits invalid answer left) 
 
 -- ---- values
 
-view-Bytes : (v : Vec ℕ Global) → view (Bytes v) ≡ bytes_item v.items
+pub view-Bytes : (v : Vec ℕ Global) → view (Bytes v) ≡ bytes_item v.items
 view-Bytes v = search (rules, the_lemmas)
 
 pub view-Text : (v : String Global) → view (Text v) ≡ text (string_bytes v)

@@ -27,6 +27,9 @@ pub mod skip_laws
 pub mod Promises
 pub mod ValueLaws
 pub mod Valuing
+pub mod Strictly
+pub mod Canonically
+pub mod CanonicalLaws
 pub mod Encoding
 pub mod Raw
 pub mod RawLaws

@@ -4,6 +4,7 @@
 
 mod ahead;
 pub mod boxed_raw;
+pub mod decode_canonical;
 mod decode_value;
 mod encode_value;
 mod front;
@@ -16,6 +17,7 @@ mod skip;
 pub mod value;
 
 pub use boxed_raw::BoxedRawValue;
+pub use decode_canonical::Canonical;
 pub use ignored::IgnoredAny;
 pub use raw::RawValue;
 pub use value::{FloatBits, NoMemory, Value};

@@ -11,7 +11,7 @@ use Rattle.cbor4ii_tree.specs.Refusal.{Refusal, eof, mismatch, unsupported, requ
 use Rattle.cbor4ii_tree.specs.Spelling.{Spells, Reads, Skips, IsProperFront}
 use Rattle.cbor4ii_tree.specs.StopsReading.{StopsReading}
 use Rattle.cbor4ii_tree.specs.Budgets.{fits_less}
-use Rattle.cbor4ii_tree.proofs.Canonical.{canon_spells, with_bignums-value}
+use Rattle.cbor4ii_tree.proofs.CanonicalSpelling.{canon_spells, with_bignums-value}
 use Rattle.cbor4ii_tree.proofs.Costs.{skip_cost-le, cost-canon}
 use Rattle.cbor4ii_tree.proofs.parts.Fronts.{whole_bytes}
 use Rattle.cbor4ii_tree.proofs.skipping.Answer.{one_spelling}

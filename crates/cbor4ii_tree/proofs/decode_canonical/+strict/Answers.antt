@@ -1,0 +1,195 @@
+use Rattle.std.proofs.Common.{inl, refl, ap, subst, sym, ◌∙◌, ◌+◌, ◌*◌, ◌∷◌, ◌≡◌, arith}
+use Rattle.std.proofs.Common.{Vec, Global}
+use Rattle.std.proofs.lemmas.Result.{err_from_is_err_and}
+use Rattle.std.proofs.lemmas.Str.{IsUtf8-string_bytes}
+use Rattle.cbor4ii_tree.specs.declared.value.Value.{Value, Array, Map, Tag, Bytes, Text, Integer}
+use Rattle.cbor4ii_tree.specs.Item.{tag}
+use Rattle.cbor4ii_tree.specs.View.{view}
+use Rattle.cbor4ii_tree.specs.Refusal.{array_name, map_name, tag_name, value_name, sign_name, kind_name}
+use Rattle.cbor4ii_items.specs.Initial.{unsigned, negative, byte_string}
+use Rattle.cbor4ii_items.specs.Laws.Steps.{kept_then}
+use Rattle.cbor4ii_tree.specs.Valuing.{ReadsStepped}
+use Rattle.cbor4ii_tree.specs.Strictly.{Lacks, BeginsOne, BeginsBehind, ReadsExactly, ReadsBehind, ShortestAt, StringAt, BeginsHead, BeginsTag, BeginsItems, ExactItems, ExactMember, ExactMembers, BeginsCounted, Counted, BeginsStepped, TextAt}
+use Rattle.cbor4ii_tree.proofs.Doing.{reached_start, reached_by, does_ok, does_no_memory, does_no_step}
+use Rattle.cbor4ii_tree.proofs.ValuingHeads.{view-Tag}
+use Rattle.cbor4ii_tree.proofs.ValuingSequences.{more, ends}
+use Rattle.cbor4ii_tree.proofs.Exactly.{no_step_one, no_step_stepped}
+use Rattle.cbor4ii_tree.proofs.ExactCalls.{reached_shortest, reached_string, does_lack_head, does_lack_string, lacks_more, exact_ok, exact_err, exact_float, exact_tag, exact_tag_err, unsigned_exact, negative_exact, bytes_exact, text_exact, looked_at, peek_lacks, pushed, simple_exact, undefined_lacks, stepped_one, stepped_more, counted_does, begins_counted, items_none, items_more, item_lacks, key_lacks, value_lacks, members_none, members_more, member_lacks, array_exact, map_exact}
+use Rattle.cbor4ii_tree.proofs.decode_canonical.+strict.Goals as goal
+
+pub read_one-returns-clause-does : goal.read_one-returns-clause-does
+read_one-returns-clause-does g t c =
+    stepped_one c.if-not-step_in.ensures.budget c.step_in.ensures.others c.read_inside-outcome.ensures.does c.step_out.ensures.budget c.step_out.ensures.others
+
+pub read_one-returns-then-not-step_in-clause-does : goal.read_one-returns-then-not-step_in-clause-does
+read_one-returns-then-not-step_in-clause-does g t c =
+    does_no_step value_name (ReadsExactly (g.S.Source.view c.args.reader.now).budget) (Lacks BeginsOne (g.S.Source.view c.args.reader.now).budget) refl refl (λ none xs. rw none (no_step_one value_name xs)) c.if-not-step_in.ensures.budget c.step_in.ensures.others
+
+pub array_inside-returns-clause-does : goal.array_inside-returns-clause-does
+array_inside-returns-clause-does g t c =
+    counted_does 4 1 c.in_ok-count.count c.in_ok-count.count (λ n o xs (v : Vec Value Global) ys. ExactItems n o xs v.items ys) (omega arith) (omega arith) (reached_shortest 4 c.in_ok-count.count c.in_ok-count.ensures.moves c.in_ok-count.ensures.sound) c.counted_items.ensures
+
+pub array_inside-returns-in_err-count-clause-does : goal.array_inside-returns-in_err-count-clause-does
+array_inside-returns-in_err-count-clause-does g t c =
+    let p = err_from_is_err_and c.from_residual.result c.from_residual.ensures.1 in
+    rw (p.1, p.2) (lacks_more (λ xs (v : Unit {0}) ys. Unit {0}) (λ xs (v : Vec Value Global) ys. Counted 4 ExactItems (g.S.Source.view c.args.reader.now).budget xs v.items ys) (BeginsHead 4) (BeginsCounted 4 1) (begins_counted 4 1) (does_lack_head (λ xs (v : Unit {0}) ys. Unit {0}) array_name 4 (omega arith) c.in_err-count.ensures.moves c.in_err-count.ensures.complete c.in_err-count.ensures.stops))
+
+pub counted_items-loop-i-init : goal.counted_items-loop-i-init
+counted_items-loop-i-init g t c = reached_start (λ xs ys. ExactItems 0 (g.S.Source.view c.args.reader.now).budget xs _ ys) _ (λ xs. items_none (g.S.Source.view c.args.reader.now).budget xs _ (cc))
+
+pub counted_items-loop-i-preserved : goal.counted_items-loop-i-preserved
+counted_items-loop-i-preserved g t c =
+    more ReadsExactly (Lacks BeginsOne) (λ xs ys. ExactItems c.loop-i.i (g.S.Source.view c.args.reader.now).budget xs c.loop-i.items.items ys) c.loop-i.invariant (λ xs ys. ExactItems (c.loop-i.i + 1) (g.S.Source.view c.args.reader.now).budget xs _ ys) (λ xs ys zs h s. items_more c.loop-i.i (g.S.Source.view c.args.reader.now).budget c.loop-i.items.items _ c.in_ok-value.value xs ys zs (pushed _ _ _ _ c.push.ensures.items c.if-is_err-2.ensures.negation) h s) c.in_ok-value.ensures.does
+
+pub counted_items-returns-in_err-value : goal.counted_items-returns-in_err-value
+counted_items-returns-in_err-value g t c =
+    let p = err_from_is_err_and c.from_residual.result c.from_residual.ensures.1 in
+    rw (p.1, p.2) (ends ReadsExactly (Lacks BeginsOne) (λ xs ys. ExactItems c.loop-i.i (g.S.Source.view c.args.reader.now).budget xs c.loop-i.items.items ys) c.loop-i.invariant (λ xs (v : Vec Value Global) ys. ExactItems c.args.count (g.S.Source.view c.args.reader.now).budget xs v.items ys) (Lacks (BeginsItems c.args.count) (g.S.Source.view c.args.reader.now).budget) (λ xs ys z rest h s. item_lacks c.loop-i.i c.args.count (g.S.Source.view c.args.reader.now).budget c.loop-i.items.items xs ys z rest c.loop-i-test.true h s) c.in_err-value.ensures.does)
+
+pub read_array-returns-clause-does : goal.read_array-returns-clause-does
+read_array-returns-clause-does g t c =
+    stepped_more (λ o xs (v : Vec Value Global) ys. Counted 4 ExactItems o xs v.items ys) (BeginsCounted 4 1) c.if-not-step_in.ensures.budget c.step_in.ensures.others c.array_inside-outcome.ensures.does c.step_out.ensures.budget c.step_out.ensures.others
+
+pub read_array-returns-then-not-step_in-clause-does : goal.read_array-returns-then-not-step_in-clause-does
+read_array-returns-then-not-step_in-clause-does g t c =
+    does_no_step array_name (ReadsStepped (λ o xs (v : Vec Value Global) ys. Counted 4 ExactItems o xs v.items ys) (g.S.Source.view c.args.reader.now).budget) (Lacks (BeginsStepped (BeginsCounted 4 1)) (g.S.Source.view c.args.reader.now).budget) refl refl (λ none xs. rw none (no_step_stepped (BeginsCounted 4 1) array_name xs)) c.if-not-step_in.ensures.budget c.step_in.ensures.others
+
+pub map_inside-returns-clause-does : goal.map_inside-returns-clause-does
+map_inside-returns-clause-does g t c =
+    counted_does 5 2 c.in_ok-count.count (2 * c.in_ok-count.count) (λ n o xs (v : Vec (Value × Value) Global) ys. ExactMembers n o xs v.items ys) (omega arith) (omega arith) (reached_shortest 5 c.in_ok-count.count c.in_ok-count.ensures.moves c.in_ok-count.ensures.sound) c.counted_members.ensures
+
+pub map_inside-returns-in_err-count-clause-does : goal.map_inside-returns-in_err-count-clause-does
+map_inside-returns-in_err-count-clause-does g t c =
+    let p = err_from_is_err_and c.from_residual.result c.from_residual.ensures.1 in
+    rw (p.1, p.2) (lacks_more (λ xs (v : Unit {0}) ys. Unit {0}) (λ xs (v : Vec (Value × Value) Global) ys. Counted 5 ExactMembers (g.S.Source.view c.args.reader.now).budget xs v.items ys) (BeginsHead 5) (BeginsCounted 5 2) (begins_counted 5 2) (does_lack_head (λ xs (v : Unit {0}) ys. Unit {0}) map_name 5 (omega arith) c.in_err-count.ensures.moves c.in_err-count.ensures.complete c.in_err-count.ensures.stops))
+
+pub read_map-returns-clause-does : goal.read_map-returns-clause-does
+read_map-returns-clause-does g t c =
+    stepped_more (λ o xs (v : Vec (Value × Value) Global) ys. Counted 5 ExactMembers o xs v.items ys) (BeginsCounted 5 2) c.if-not-step_in.ensures.budget c.step_in.ensures.others c.map_inside-outcome.ensures.does c.step_out.ensures.budget c.step_out.ensures.others
+
+pub read_map-returns-then-not-step_in-clause-does : goal.read_map-returns-then-not-step_in-clause-does
+read_map-returns-then-not-step_in-clause-does g t c =
+    does_no_step map_name (ReadsStepped (λ o xs (v : Vec (Value × Value) Global) ys. Counted 5 ExactMembers o xs v.items ys) (g.S.Source.view c.args.reader.now).budget) (Lacks (BeginsStepped (BeginsCounted 5 2)) (g.S.Source.view c.args.reader.now).budget) refl refl (λ none xs. rw none (no_step_stepped (BeginsCounted 5 2) map_name xs)) c.if-not-step_in.ensures.budget c.step_in.ensures.others
+
+pub counted_members-loop-i-init : goal.counted_members-loop-i-init
+counted_members-loop-i-init g t c = reached_start (λ xs ys. ExactMembers 0 (g.S.Source.view c.args.reader.now).budget xs _ ys) _ (λ xs. members_none (g.S.Source.view c.args.reader.now).budget _ xs (cc))
+
+pub counted_members-loop-i-preserved : goal.counted_members-loop-i-preserved
+counted_members-loop-i-preserved g t c =
+    more ExactMember (Lacks (BeginsItems 2)) (λ xs ys. ExactMembers c.loop-i.i (g.S.Source.view c.args.reader.now).budget xs c.loop-i.members.items ys) c.loop-i.invariant (λ xs ys. ExactMembers (c.loop-i.i + 1) (g.S.Source.view c.args.reader.now).budget xs _ ys) (λ xs ys zs h s. members_more c.loop-i.i (g.S.Source.view c.args.reader.now).budget c.loop-i.members.items _ c.in_ok-member.member xs ys zs (pushed _ _ _ _ c.push.ensures.items c.if-is_err-2.ensures.negation) h s) c.in_ok-member.ensures.does
+
+pub counted_members-returns-in_err-member : goal.counted_members-returns-in_err-member
+counted_members-returns-in_err-member g t c =
+    let p = err_from_is_err_and c.from_residual.result c.from_residual.ensures.1 in
+    rw (p.1, p.2) (ends ExactMember (Lacks (BeginsItems 2)) (λ xs ys. ExactMembers c.loop-i.i (g.S.Source.view c.args.reader.now).budget xs c.loop-i.members.items ys) c.loop-i.invariant (λ xs (v : Vec (Value × Value) Global) ys. ExactMembers c.args.count (g.S.Source.view c.args.reader.now).budget xs v.items ys) (Lacks (BeginsItems (2 * c.args.count)) (g.S.Source.view c.args.reader.now).budget) (λ xs ys z rest h s. member_lacks c.loop-i.i c.args.count (g.S.Source.view c.args.reader.now).budget c.loop-i.members.items xs ys z rest c.loop-i-test.true h s) c.in_err-member.ensures.does)
+
+pub read_member-returns-clause-does : goal.read_member-returns-clause-does
+read_member-returns-clause-does g t c =
+    does_ok (ExactMember (g.S.Source.view c.args.reader.now).budget) (Lacks (BeginsItems 2) (g.S.Source.view c.args.reader.now).budget) (more ReadsExactly (Lacks BeginsOne) (λ xs ys. ReadsExactly (g.S.Source.view c.args.reader.now).budget xs c.in_ok-key.key ys) (reached_by c.in_ok-key.ensures.does) (λ xs ys. ExactMember (g.S.Source.view c.args.reader.now).budget xs (c.in_ok-key.key, c.in_ok-value.value) ys) (λ xs ys zs h s. (ys, h, s)) c.in_ok-value.ensures.does)
+
+pub read_member-returns-in_err-key-clause-does : goal.read_member-returns-in_err-key-clause-does
+read_member-returns-in_err-key-clause-does g t c =
+    let p = err_from_is_err_and c.from_residual.result c.from_residual.ensures.1 in
+    rw (p.1, p.2) (ends ReadsExactly (Lacks BeginsOne) (λ xs ys. ys ≡ xs) (reached_start (λ xs ys. ys ≡ xs) _ (λ xs. refl)) (ExactMember (g.S.Source.view c.args.reader.now).budget) (Lacks (BeginsItems 2) (g.S.Source.view c.args.reader.now).budget) (λ xs ys z rest h s. key_lacks (g.S.Source.view c.args.reader.now).budget xs z rest (subst (λ x. Lacks BeginsOne (g.S.Source.view c.args.reader.now).budget x z rest) h s)) c.in_err-key.ensures.does)
+
+pub read_member-returns-in_err-value-clause-does : goal.read_member-returns-in_err-value-clause-does
+read_member-returns-in_err-value-clause-does g t c =
+    let p = err_from_is_err_and c.from_residual-in_err-value.result c.from_residual-in_err-value.ensures.1 in
+    rw (p.1, p.2) (ends ReadsExactly (Lacks BeginsOne) (λ xs ys. ReadsExactly (g.S.Source.view c.args.reader.now).budget xs c.in_ok-key.key ys) (reached_by c.in_ok-key.ensures.does) (ExactMember (g.S.Source.view c.args.reader.now).budget) (Lacks (BeginsItems 2) (g.S.Source.view c.args.reader.now).budget) (λ xs ys z rest h s. value_lacks (g.S.Source.view c.args.reader.now).budget c.in_ok-key.key xs ys z rest h s) c.in_err-value.ensures.does)
+
+pub read_inside-returns-clause-does : goal.read_inside-returns-clause-does
+read_inside-returns-clause-does g t c =
+    exact_float c.in_ok-first.first c.in_ok-first.ensures.runs c.read_float.ensures.does
+
+pub read_inside-returns-in_err-first-clause-does : goal.read_inside-returns-in_err-first-clause-does
+read_inside-returns-in_err-first-clause-does g t c =
+    let p = err_from_is_err_and c.from_residual.result c.from_residual.ensures.1 in
+    rw (p.1, p.2) (peek_lacks c.in_err-first.ensures.runs)
+
+pub read_inside-returns-then-first-clause-does : goal.read_inside-returns-then-first-clause-does
+read_inside-returns-then-first-clause-does g t c =
+    undefined_lacks c.in_ok-first.first c.in_ok-first.ensures.runs c.in_ok-first.ensures.byte c.advance.ensures c.if-first.true refl refl refl
+
+pub read_inside-returns-in-0-clause-does : goal.read_inside-returns-in-0-clause-does
+read_inside-returns-in-0-clause-does g t c =
+    exact_ok c.in_ok-first.first c.in_ok-first.ensures.runs (ShortestAt 0 c.in_ok-canonical_head-in-0.field-0) _ (λ xs ys h. unsigned_exact (g.S.Source.view c.args.reader.now).budget c.in_ok-canonical_head-in-0.field-0 xs ys h) (reached_shortest 0 c.in_ok-canonical_head-in-0.field-0 c.in_ok-canonical_head-in-0.ensures.moves c.in_ok-canonical_head-in-0.ensures.sound)
+
+pub read_inside-returns-in-1-clause-does : goal.read_inside-returns-in-1-clause-does
+read_inside-returns-in-1-clause-does g t c =
+    exact_ok c.in_ok-first.first c.in_ok-first.ensures.runs (ShortestAt 1 c.in_ok-number-in-1.number) _ (λ xs ys h. negative_exact (g.S.Source.view c.args.reader.now).budget c.in_ok-number-in-1.number xs ys h) (reached_shortest 1 c.in_ok-number-in-1.number c.in_ok-number-in-1.ensures.moves c.in_ok-number-in-1.ensures.sound)
+
+pub read_inside-returns-in-2-clause-does : goal.read_inside-returns-in-2-clause-does
+read_inside-returns-in-2-clause-does g t c =
+    exact_ok c.in_ok-first.first c.in_ok-first.ensures.runs (StringAt 2 c.in_ok-canonical_buf-in-2.field-0.items) (Bytes c.in_ok-canonical_buf-in-2.field-0) (λ xs ys h. bytes_exact (g.S.Source.view c.args.reader.now).budget c.in_ok-canonical_buf-in-2.field-0 xs ys h) (reached_string 2 c.in_ok-canonical_buf-in-2.field-0 c.in_ok-canonical_buf-in-2.ensures.moves c.in_ok-canonical_buf-in-2.ensures.sound)
+
+pub read_inside-returns-in-3-clause-does : goal.read_inside-returns-in-3-clause-does
+read_inside-returns-in-3-clause-does g t c =
+    exact_ok c.in_ok-first.first c.in_ok-first.ensures.runs (λ xs ys. TextAt (g.S.Source.view c.peek.new.reader).budget xs c.in_ok-read_text-in-3.field-0 ys) (Text c.in_ok-read_text-in-3.field-0) (λ xs ys h. text_exact (g.S.Source.view c.args.reader.now).budget c.in_ok-read_text-in-3.field-0 xs ys (IsUtf8-string_bytes c.in_ok-read_text-in-3.field-0) h) (reached_by c.in_ok-read_text-in-3.ensures.does)
+
+pub read_inside-returns-in-4-clause-does : goal.read_inside-returns-in-4-clause-does
+read_inside-returns-in-4-clause-does g t c =
+    exact_ok c.in_ok-first.first c.in_ok-first.ensures.runs (λ xs ys. ReadsStepped (λ o xs (v : Vec Value Global) ys. Counted 4 ExactItems o xs v.items ys) (g.S.Source.view c.peek.new.reader).budget xs c.in_ok-read_array-in-4.field-0 ys) (Array c.in_ok-read_array-in-4.field-0) (λ xs ys h. array_exact (g.S.Source.view c.args.reader.now).budget c.in_ok-read_array-in-4.field-0 xs ys (subst (λ o. ReadsStepped (λ o xs (v : Vec Value Global) ys. Counted 4 ExactItems o xs v.items ys) o xs c.in_ok-read_array-in-4.field-0 ys) c.in_ok-first.ensures.runs.moves.by.budget h)) (reached_by c.in_ok-read_array-in-4.ensures.does)
+
+pub read_inside-returns-in_err-read_array-in-4-clause-does : goal.read_inside-returns-in_err-read_array-in-4-clause-does
+read_inside-returns-in_err-read_array-in-4-clause-does g t c =
+    let p = err_from_is_err_and c.from_residual-in_err-read_array-in-4.result c.from_residual-in_err-read_array-in-4.ensures.1 in
+    rw (p.1, p.2) (exact_err c.in_ok-first.first c.in_ok-first.ensures.runs 4 (ReadsStepped (λ o xs (v : Vec Value Global) ys. Counted 4 ExactItems o xs v.items ys) (g.S.Source.view c.peek.new.reader).budget) c.in-4.is c.in_err-read_array-in-4.ensures.does)
+
+pub read_inside-returns-in-5-clause-does : goal.read_inside-returns-in-5-clause-does
+read_inside-returns-in-5-clause-does g t c =
+    exact_ok c.in_ok-first.first c.in_ok-first.ensures.runs (λ xs ys. ReadsStepped (λ o xs (v : Vec (Value × Value) Global) ys. Counted 5 ExactMembers o xs v.items ys) (g.S.Source.view c.peek.new.reader).budget xs c.in_ok-read_map-in-5.field-0 ys) (Map c.in_ok-read_map-in-5.field-0) (λ xs ys h. map_exact (g.S.Source.view c.args.reader.now).budget c.in_ok-read_map-in-5.field-0 xs ys (subst (λ o. ReadsStepped (λ o xs (v : Vec (Value × Value) Global) ys. Counted 5 ExactMembers o xs v.items ys) o xs c.in_ok-read_map-in-5.field-0 ys) c.in_ok-first.ensures.runs.moves.by.budget h)) (reached_by c.in_ok-read_map-in-5.ensures.does)
+
+pub read_inside-returns-in_err-read_map-in-5-clause-does : goal.read_inside-returns-in_err-read_map-in-5-clause-does
+read_inside-returns-in_err-read_map-in-5-clause-does g t c =
+    let p = err_from_is_err_and c.from_residual-in_err-read_map-in-5.result c.from_residual-in_err-read_map-in-5.ensures.1 in
+    rw (p.1, p.2) (exact_err c.in_ok-first.first c.in_ok-first.ensures.runs 5 (ReadsStepped (λ o xs (v : Vec (Value × Value) Global) ys. Counted 5 ExactMembers o xs v.items ys) (g.S.Source.view c.peek.new.reader).budget) c.in-5.is c.in_err-read_map-in-5.ensures.does)
+
+pub read_inside-returns-in_err-canonical_head-in-0-clause-does : goal.read_inside-returns-in_err-canonical_head-in-0-clause-does
+read_inside-returns-in_err-canonical_head-in-0-clause-does g t c =
+    let p = err_from_is_err_and c.from_residual-in_err-canonical_head-in-0.result c.from_residual-in_err-canonical_head-in-0.ensures.1 in
+    rw (p.1, p.2) (exact_err c.in_ok-first.first c.in_ok-first.ensures.runs 0 (λ xs (v : Unit {0}) ys. Unit {0}) c.in-0.is (does_lack_head (λ xs (v : Unit {0}) ys. Unit {0}) (sign_name unsigned) 0 (omega arith) c.in_err-canonical_head-in-0.ensures.moves c.in_err-canonical_head-in-0.ensures.complete c.in_err-canonical_head-in-0.ensures.stops))
+
+pub read_inside-returns-in_err-number-in-1-clause-does : goal.read_inside-returns-in_err-number-in-1-clause-does
+read_inside-returns-in_err-number-in-1-clause-does g t c =
+    let p = err_from_is_err_and c.from_residual-in_err-number-in-1.result c.from_residual-in_err-number-in-1.ensures.1 in
+    rw (p.1, p.2) (exact_err c.in_ok-first.first c.in_ok-first.ensures.runs 1 (λ xs (v : Unit {0}) ys. Unit {0}) c.in-1.is (does_lack_head (λ xs (v : Unit {0}) ys. Unit {0}) (sign_name negative) 1 (omega arith) c.in_err-number-in-1.ensures.moves c.in_err-number-in-1.ensures.complete c.in_err-number-in-1.ensures.stops))
+
+pub read_inside-returns-in_err-canonical_buf-in-2-clause-does : goal.read_inside-returns-in_err-canonical_buf-in-2-clause-does
+read_inside-returns-in_err-canonical_buf-in-2-clause-does g t c =
+    let p = err_from_is_err_and c.from_residual-in_err-canonical_buf-in-2.result c.from_residual-in_err-canonical_buf-in-2.ensures.1 in
+    rw (p.1, p.2) (exact_err c.in_ok-first.first c.in_ok-first.ensures.runs 2 (λ xs (v : Unit {0}) ys. Unit {0}) c.in-2.is (does_lack_string (λ xs (v : Unit {0}) ys. Unit {0}) (kind_name byte_string) 2 (omega arith) c.in_err-canonical_buf-in-2.ensures.moves c.in_err-canonical_buf-in-2.ensures.complete c.in_err-canonical_buf-in-2.ensures.stops))
+
+pub read_inside-returns-in_err-read_text-in-3-clause-does : goal.read_inside-returns-in_err-read_text-in-3-clause-does
+read_inside-returns-in_err-read_text-in-3-clause-does g t c =
+    let p = err_from_is_err_and c.from_residual-in_err-read_text-in-3.result c.from_residual-in_err-read_text-in-3.ensures.1 in
+    rw (p.1, p.2) (exact_err c.in_ok-first.first c.in_ok-first.ensures.runs 3 (TextAt (g.S.Source.view c.peek.new.reader).budget) c.in-3.is c.in_err-read_text-in-3.ensures.does)
+
+pub read_inside-returns-in_err-number-in-6-clause-does : goal.read_inside-returns-in_err-number-in-6-clause-does
+read_inside-returns-in_err-number-in-6-clause-does g t c =
+    let p = err_from_is_err_and c.from_residual-in_err-number-in-6.result c.from_residual-in_err-number-in-6.ensures.1 in
+    rw (p.1, p.2) (exact_err c.in_ok-first.first c.in_ok-first.ensures.runs 6 (λ xs (v : Unit {0}) ys. Unit {0}) c.in-6.is (lacks_more (λ xs (v : Unit {0}) ys. Unit {0}) (λ xs (v : Unit {0}) ys. Unit {0}) (BeginsHead 6) BeginsTag (λ b xs t. (t.0, t.1, t.2)) (does_lack_head (λ xs (v : Unit {0}) ys. Unit {0}) tag_name 6 (omega arith) c.in_err-number-in-6.ensures.moves c.in_err-number-in-6.ensures.complete c.in_err-number-in-6.ensures.stops)))
+
+pub read_inside-returns-in_err-inner-in-6-clause-does : goal.read_inside-returns-in_err-inner-in-6-clause-does
+read_inside-returns-in_err-inner-in-6-clause-does g t c =
+    let p = err_from_is_err_and c.from_residual-in_err-inner-in-6.result c.from_residual-in_err-inner-in-6.ensures.1 in
+    rw (p.1, p.2) (exact_tag_err c.in_ok-first.first c.in_ok-first.ensures.runs c.in_ok-number-in-6.number c.in-6.is (reached_shortest 6 c.in_ok-number-in-6.number c.in_ok-number-in-6.ensures.moves c.in_ok-number-in-6.ensures.sound) c.in_err-inner-in-6.ensures.does)
+
+pub read_inside-returns-in-6-clause-does : goal.read_inside-returns-in-6-clause-does
+read_inside-returns-in-6-clause-does g t c =
+    does_no_memory (ReadsBehind (g.S.Source.view c.args.reader.now).budget) (Lacks BeginsBehind (g.S.Source.view c.args.reader.now).budget) refl (kept_then (looked_at c.in_ok-first.first c.in_ok-first.ensures.runs (ShortestAt 6 c.in_ok-number-in-6.number) (reached_shortest 6 c.in_ok-number-in-6.number c.in_ok-number-in-6.ensures.moves c.in_ok-number-in-6.ensures.sound)).kept c.in_ok-inner-in-6.ensures.does.moves.by)
+
+pub read_inside-returns-in-Ok-clause-does : goal.read_inside-returns-in-Ok-clause-does
+read_inside-returns-in-Ok-clause-does g t c =
+    exact_tag c.in_ok-first.first c.in_ok-first.ensures.runs c.in_ok-number-in-6.number (Tag c.in_ok-number-in-6.number c.in-Ok.boxed) (view-Tag c.in_ok-number-in-6.number c.in-Ok.boxed ∙ ap (λ x. tag c.in_ok-number-in-6.number (view x)) c.in-Ok.ensures.ok) (reached_shortest 6 c.in_ok-number-in-6.number c.in_ok-number-in-6.ensures.moves c.in_ok-number-in-6.ensures.sound) c.in_ok-inner-in-6.ensures.does
+
+pub read_inside-returns-in-Some-clause-does : goal.read_inside-returns-in-Some-clause-does
+read_inside-returns-in-Some-clause-does g t c =
+    simple_exact c.in_ok-first.first c.in_ok-first.ensures.runs c.in_ok-first.ensures.byte c.advance-in-Some.ensures c.if-first.false c.in-Some.ensures
+
+pub counted_items-returns-then-is_err-2 : goal.counted_items-returns-then-is_err-2
+counted_items-returns-then-is_err-2 g t c =
+    does_no_memory (λ xs (v : Vec Value Global) ys. ExactItems c.args.count (g.S.Source.view c.args.reader.now).budget xs v.items ys) (Lacks (BeginsItems c.args.count) (g.S.Source.view c.args.reader.now).budget) refl (kept_then c.loop-i.invariant.kept c.in_ok-value.ensures.does.moves.by)
+
+pub counted_members-returns-then-is_err-2 : goal.counted_members-returns-then-is_err-2
+counted_members-returns-then-is_err-2 g t c =
+    does_no_memory (λ xs (v : Vec (Value × Value) Global) ys. ExactMembers c.args.count (g.S.Source.view c.args.reader.now).budget xs v.items ys) (Lacks (BeginsItems (2 * c.args.count)) (g.S.Source.view c.args.reader.now).budget) refl (kept_then c.loop-i.invariant.kept c.in_ok-member.ensures.does.moves.by)

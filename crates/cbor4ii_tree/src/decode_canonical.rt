@@ -1,0 +1,341 @@
+//! Values that are spelled in one way, read.
+ghost use Rattle.std.specs.Prelude.{◌≡◌, ◌≢◌, ◌+◌, ◌*◌, ◌≤◌, OnOk, IfOk, IfErr, true};
+ghost use Rattle.cbor4ii_items.specs.Decoding.{Sound, Refuses, Stops};
+ghost use Rattle.cbor4ii_items.specs.Moves.{Moves};
+ghost use Rattle.cbor4ii_tree.specs.Canonically.{
+  ReadsCanonical,
+  StopsCanonical,
+  OnlyCanonical,
+  AllCanonical,
+  FrontCanonical,
+  EofCanonical,
+  DepthCanonical,
+  NeverCanonical,
+};
+ghost use Rattle.cbor4ii_tree.specs.CanonicalLaws.{
+  canonical_one,
+  canonical_within,
+  canonical_positive,
+  canonical_alone,
+};
+ghost use Rattle.cbor4ii_tree.specs.Does.{DoesUnder};
+ghost use Rattle.cbor4ii_tree.specs.Strictly.{
+  Lacks,
+  BeginsOne,
+  BeginsBehind,
+  BeginsText,
+  BeginsItems,
+  BeginsCounted,
+  BeginsStepped,
+  ReadsExactly,
+  ReadsBehind,
+  ExactItems,
+  ExactMember,
+  ExactMembers,
+  Counted,
+  TextAt,
+  LacksFirst,
+};
+ghost use Rattle.cbor4ii_tree.specs.Valuing.{ReadsStepped, ReadsVec, SimpleOf, IsNoSimple};
+ghost use Rattle.cbor4ii_tree.specs.View.{view};
+
+use crate::front::Own;
+use crate::skip::peek;
+use crate::value::{FloatBits, Value};
+use cbor4ii_items::canonical::{canonical_buf, canonical_head};
+use cbor4ii_items::decode::{Decode, Spelled};
+use cbor4ii_items::types::{F16, F32, F64};
+use cbor4ii_rw::error::DecodeError;
+use cbor4ii_rw::read::Source;
+use std::alloc::Global;
+
+/// A value that is read from its canonical spelling alone, the one that encoders write (RFC 8949
+/// section 4.1). So two are equal exactly where their bytes are.
+#[derive(Debug, Drop)]
+pub struct Canonical(pub Value);
+
+impl Spelled for Canonical {
+    ghost reads = { ReadsCanonical };
+
+    ghost same = { λ v w. view v.0 ≡ view w.0 };
+
+    ghost stops = { StopsCanonical };
+
+    ghost begins = { StopsCanonical };
+
+    ghost never_empty = { true };
+
+    ghost owned = { true };
+
+    ghost takes_memory = { true };
+
+    ghost closed = { true };
+
+    fn is_never_empty() -> bool {
+        true
+    }
+
+    fn is_owned() -> bool {
+        true
+    }
+}
+
+/// A value is read where the canonical spelling of a value whose steps fit the budget begins the
+/// bytes: every head the shortest, lengths given, null as `f6`. Steps and memory are those of
+/// `Value`.
+///
+/// `NotCanonical` by the name "canonical" where, before a value is refused, a head that is longer
+/// than needed is whole, the first byte of an indefinite length comes, or `f7`; what follows the
+/// head, or the byte, is left. Else what is refused is refused as `Value` is, by the same names.
+/// `Eof` leaves nothing.
+impl<S: Source> Decode<S> for Canonical {
+    fn decode(alloc: Global, reader: &mut S) -> Result<Canonical, DecodeError<S::Error>>
+        ensures moves { Moves (S.view reader.old) (S.view reader.new) result }
+        ensures progress { OnOk result ((S.view reader.new).bound + 1 ≤ (S.view reader.old).bound) }
+        ensures sound { IfOk result
+            (Sound ReadsCanonical (S.view reader.old) (S.view reader.new)) }
+        ensures complete { IfErr result (Refuses ReadsCanonical (S.view reader.old)) }
+        ensures stops { IfErr result
+            (Stops StopsCanonical (S.view reader.old) (S.view reader.new)) }
+
+        ensures only { OnlyCanonical (S.view reader.old) (S.view reader.new) result }
+        ensures all { AllCanonical (S.view reader.old) (S.view reader.new) result }
+        ensures front { FrontCanonical (S.view reader.old) result }
+        ensures eof { EofCanonical (S.view reader.old) (S.view reader.new) result }
+        ensures depth { DepthCanonical (S.view reader.old) result }
+        ensures never { NeverCanonical (S.view reader.old) result }
+    {
+        Ok(Canonical(read_one(alloc, reader)?))
+    }
+
+    ghost one = { canonical_one };
+
+    ghost within = { canonical_within };
+
+    ghost positive = { canonical_positive };
+
+    ghost alone = { canonical_alone };
+}
+
+/// Reads one value.
+#[cycle(strict)]
+fn read_one<S: Source>(alloc: Global, reader: &mut S) -> Result<Value, DecodeError<S::Error>>
+    ensures does { DoesUnder ReadsExactly (Lacks BeginsOne)
+        (S.view reader.old) (S.view reader.new) result }
+    ensures progress { OnOk result ((S.view reader.new).bound + 1 ≤ (S.view reader.old).bound) }
+{
+    if !reader.step_in() {
+        return Err(DecodeError::DepthOverflow { name: "value" });
+    }
+    let outcome = read_inside(alloc, reader);
+    reader.step_out();
+    outcome
+}
+
+/// Reads one value whose step was taken.
+#[cycle(strict)]
+fn read_inside<S: Source>(alloc: Global, reader: &mut S) -> Result<Value, DecodeError<S::Error>>
+    ensures does { DoesUnder ReadsBehind (Lacks BeginsBehind)
+        (S.view reader.old) (S.view reader.new) result }
+    ensures progress { OnOk result ((S.view reader.new).bound + 1 ≤ (S.view reader.old).bound) }
+{
+    let first = peek(&mut Own, reader, "value", 1)?;
+    if first == 0xf7 {
+        reader.advance(1);
+        return Err(DecodeError::NotCanonical { name: "canonical" });
+    }
+    match first / 32 {
+        0 => Ok(Value::Integer(canonical_head("u64", 0, reader)? as i128)),
+        1 => {
+            let number = canonical_head("-u64", 1, reader)?;
+            Ok(Value::Integer(-1 - number as i128))
+        }
+        2 => Ok(Value::Bytes(canonical_buf(alloc, "bytes", 2, reader)?)),
+        3 => Ok(Value::Text(read_text(alloc, reader)?)),
+        4 => Ok(Value::Array(read_array(alloc, reader)?)),
+        5 => Ok(Value::Map(read_map(alloc, reader)?)),
+        6 => {
+            let number = canonical_head("tag", 6, reader)?;
+            let inner = read_one(alloc, reader)?;
+            match Box::new(alloc, inner) {
+                Ok(boxed) => Ok(Value::Tag(number, boxed)),
+                Err(_) => Err(DecodeError::OutOfMemory),
+            }
+        }
+        _ => match simple_of(first) {
+            Some(value) => {
+                reader.advance(1);
+                Ok(value)
+            }
+            None => read_float(alloc, reader, first),
+        },
+    }
+}
+
+/// The simple value that this byte is, where it is not undefined.
+fn simple_of(first: u8) -> Option<Value>
+    requires { first ≢ 247 }
+    ensures { SimpleOf first result }
+{
+    match first {
+        0xf4 => Some(Value::Bool(false)),
+        0xf5 => Some(Value::Bool(true)),
+        0xf6 => Some(Value::Null),
+        _ => None,
+    }
+}
+
+/// Reads a float, whose first byte is shown.
+fn read_float<S: Source>(
+    alloc: Global,
+    reader: &mut S,
+    first: u8,
+) -> Result<Value, DecodeError<S::Error>>
+    requires major { 224 ≤ first }
+    requires other { IsNoSimple first }
+    ensures does { DoesUnder ReadsBehind (LacksFirst first)
+        (S.view reader.old) (S.view reader.new) result }
+    ensures progress { OnOk result ((S.view reader.new).bound + 1 ≤ (S.view reader.old).bound) }
+{
+    match first {
+        0xf9 => Ok(Value::Float(FloatBits::F16(F16::decode(alloc, reader)?.0))),
+        0xfa => Ok(Value::Float(FloatBits::F32(F32::decode(alloc, reader)?.0))),
+        0xfb => Ok(Value::Float(FloatBits::F64(F64::decode(alloc, reader)?.0))),
+        _ => Err(DecodeError::Unsupported {
+            name: "value",
+            found: first,
+        }),
+    }
+}
+
+/// Reads a text.
+fn read_text<S: Source>(alloc: Global, reader: &mut S) -> Result<String, DecodeError<S::Error>>
+    ensures does { DoesUnder TextAt (Lacks BeginsText)
+        (S.view reader.old) (S.view reader.new) result }
+    ensures progress { OnOk result ((S.view reader.new).bound + 1 ≤ (S.view reader.old).bound) }
+{
+    match String::from_utf8(canonical_buf(alloc, "str", 3, reader)?) {
+        Ok(text) => Ok(text),
+        Err(_) => Err(DecodeError::RequireUtf8 { name: "str" }),
+    }
+}
+
+/// Reads an array's values, under one step.
+#[cycle(strict)]
+fn read_array<S: Source>(alloc: Global, reader: &mut S) -> Result<Vec<Value>, DecodeError<S::Error>>
+    ensures does { DoesUnder (ReadsStepped (ReadsVec (Counted 4 ExactItems)))
+        (Lacks (BeginsStepped (BeginsCounted 4 1)))
+        (S.view reader.old) (S.view reader.new) result }
+    ensures progress { OnOk result ((S.view reader.new).bound + 1 ≤ (S.view reader.old).bound) }
+{
+    if !reader.step_in() {
+        return Err(DecodeError::DepthOverflow { name: "array" });
+    }
+    let outcome = array_inside(alloc, reader);
+    reader.step_out();
+    outcome
+}
+
+#[cycle(strict)]
+fn array_inside<S: Source>(
+    alloc: Global,
+    reader: &mut S,
+) -> Result<Vec<Value>, DecodeError<S::Error>>
+    ensures does { DoesUnder (ReadsVec (Counted 4 ExactItems)) (Lacks (BeginsCounted 4 1))
+        (S.view reader.old) (S.view reader.new) result }
+    ensures progress { OnOk result ((S.view reader.new).bound + 1 ≤ (S.view reader.old).bound) }
+{
+    let count = canonical_head("array", 4, reader)?;
+    counted_items(alloc, reader, count as usize)
+}
+
+#[cycle(strict)]
+fn counted_items<S: Source>(
+    alloc: Global,
+    reader: &mut S,
+    count: usize,
+) -> Result<Vec<Value>, DecodeError<S::Error>>
+    ensures { DoesUnder (ReadsVec (ExactItems count)) (Lacks (BeginsItems count))
+        (S.view reader.old) (S.view reader.new) result }
+{
+    let mut items = Vec::new(alloc);
+    if items.reserve(count.min(256)).is_err() {
+        return Err(DecodeError::OutOfMemory);
+    }
+    for i in 0..count {
+        let value = read_one(alloc, reader)?;
+        if items.push(value).is_err() {
+            return Err(DecodeError::OutOfMemory);
+        }
+    }
+    Ok(items)
+}
+
+/// Reads a map's pairs, under one step.
+#[cycle(strict)]
+fn read_map<S: Source>(
+    alloc: Global,
+    reader: &mut S,
+) -> Result<Vec<(Value, Value)>, DecodeError<S::Error>>
+    ensures does { DoesUnder (ReadsStepped (ReadsVec (Counted 5 ExactMembers)))
+        (Lacks (BeginsStepped (BeginsCounted 5 2)))
+        (S.view reader.old) (S.view reader.new) result }
+    ensures progress { OnOk result ((S.view reader.new).bound + 1 ≤ (S.view reader.old).bound) }
+{
+    if !reader.step_in() {
+        return Err(DecodeError::DepthOverflow { name: "map" });
+    }
+    let outcome = map_inside(alloc, reader);
+    reader.step_out();
+    outcome
+}
+
+#[cycle(strict)]
+fn map_inside<S: Source>(
+    alloc: Global,
+    reader: &mut S,
+) -> Result<Vec<(Value, Value)>, DecodeError<S::Error>>
+    ensures does { DoesUnder (ReadsVec (Counted 5 ExactMembers)) (Lacks (BeginsCounted 5 2))
+        (S.view reader.old) (S.view reader.new) result }
+    ensures progress { OnOk result ((S.view reader.new).bound + 1 ≤ (S.view reader.old).bound) }
+{
+    let count = canonical_head("map", 5, reader)?;
+    counted_members(alloc, reader, count as usize)
+}
+
+#[cycle(strict)]
+fn counted_members<S: Source>(
+    alloc: Global,
+    reader: &mut S,
+    count: usize,
+) -> Result<Vec<(Value, Value)>, DecodeError<S::Error>>
+    ensures { DoesUnder (ReadsVec (ExactMembers count)) (Lacks (BeginsItems (2 * count)))
+        (S.view reader.old) (S.view reader.new) result }
+{
+    let mut members = Vec::new(alloc);
+    if members.reserve(count.min(256)).is_err() {
+        return Err(DecodeError::OutOfMemory);
+    }
+    for i in 0..count {
+        let member = read_member(alloc, reader)?;
+        if members.push(member).is_err() {
+            return Err(DecodeError::OutOfMemory);
+        }
+    }
+    Ok(members)
+}
+
+/// Reads a key, and the value behind it.
+#[cycle(strict)]
+fn read_member<S: Source>(
+    alloc: Global,
+    reader: &mut S,
+) -> Result<(Value, Value), DecodeError<S::Error>>
+    ensures does { DoesUnder ExactMember (Lacks (BeginsItems 2))
+        (S.view reader.old) (S.view reader.new) result }
+    ensures progress { OnOk result ((S.view reader.new).bound + 1 ≤ (S.view reader.old).bound) }
+{
+    let key = read_one(alloc, reader)?;
+    let value = read_one(alloc, reader)?;
+    Ok((key, value))
+}
