@@ -15,6 +15,4 @@ pub mod read;
 pub mod segment_reader;
 pub mod slice_reader;
 mod steps;
-#[cfg(test)]
-mod tests;
 pub mod write;

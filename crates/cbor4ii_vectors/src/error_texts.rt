@@ -6,7 +6,7 @@ use std::test::Fail;
 fn errors_have_the_texts_of_debug(rt: HostRuntime) -> Result<(), Fail> {
     let alloc = rt.alloc();
     let name: StaticStr = "str";
-    let errors: [(DecodeError<u8>, &str); 13] = [
+    let errors: [(DecodeError<u8>, &str); 14] = [
         (DecodeError::from(3), "Read(3)"),
         (
             DecodeError::Mismatch { name, found: 64 },
@@ -65,6 +65,10 @@ fn errors_have_the_texts_of_debug(rt: HostRuntime) -> Result<(), Fail> {
             "Custom { name: \"str\", num: 7 }",
         ),
         (DecodeError::OutOfMemory, "OutOfMemory"),
+        (
+            DecodeError::NotCanonical { name },
+            "NotCanonical { name: \"str\" }",
+        ),
     ];
     for (error, text) in &errors {
         assert_eq!(rt; format!(in alloc; "{error}")?.as_str(), *text);
