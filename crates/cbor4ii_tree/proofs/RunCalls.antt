@@ -1,5 +1,5 @@
 -- Calls of skipping that take some items, one behind another.
-use Rattle.std.proofs.Common.{◌≡◌, ◌≢◌, ℕ, ◌+◌, ◌-◌, ◌≤◌, inl, inr, List, [], ◌∷◌, ◌++◌, append-nil, Result, Ok, Err, Some, None, Bool, true, false, IsTrue, IfOk, IfErr, refl, sym, ap, ◌∙◌, subst, arith}
+use Rattle.std.proofs.Common.{◌≡◌, ◌≢◌, ℕ, ◌+◌, ◌-◌, ◌≤◌, inl, inr, List, [], ◌∷◌, ◌++◌, append-nil, Result, Ok, Err, Option, Some, None, Bool, true, false, IsTrue, IfOk, IfErr, IfSome, refl, sym, ap, ◌∙◌, subst, arith}
 use denote.Ref.{Bor}
 use Rattle.cbor4ii_rw.specs.View.{View}
 use Rattle.cbor4ii_rw.specs.Reader.{KeepsAllButBudget, StepsIn, step_back}
@@ -70,13 +70,13 @@ passes_unseen among old new is h = subst (λ s. Passes among s old new) is h
 
 -- ---- how far an answer leads
 
-pub progress_none : {E : Type 0} (X : Type 0) (r : Result ℕ (DecodeError E)) → IfOk r (λ n. n ≡ 0) → IfOk r (λ n. 1 ≤ n → X)
-progress_none X (Ok n) none = λ some. absurd (omega (arith, none, some))
-progress_none X (Err e) none = tt
+pub progress_none : (X : Type 0) (r : Option ℕ) → IfSome r (λ n. n ≡ 0) → IfSome r (λ n. 1 ≤ n → X)
+progress_none X (Some n) none = λ some. absurd (omega (arith, none, some))
+progress_none X None none = tt
 
-pub progress_around : {E : Type 0} (r : Result ℕ (DecodeError E)) (a b c d : ℕ) → IfOk r (λ n. 1 ≤ n → c + 1 ≤ b) → b ≤ a → d ≤ c → IfOk r (λ n. 1 ≤ n → d + 1 ≤ a)
-progress_around (Ok n) a b c d h e f = λ some. omega (arith, e, f, h some)
-progress_around (Err e) a b c d h k f = tt
+pub progress_around : (r : Option ℕ) (a b c d : ℕ) → IfSome r (λ n. 1 ≤ n → c + 1 ≤ b) → b ≤ a → d ≤ c → IfSome r (λ n. 1 ≤ n → d + 1 ≤ a)
+progress_around (Some n) a b c d h e f = λ some. omega (arith, e, f, h some)
+progress_around None a b c d h k f = tt
 
 -- ---- where an item stops
 

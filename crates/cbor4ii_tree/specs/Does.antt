@@ -1,8 +1,9 @@
 -- What a call of a decoder promises whose items nest: which front of the told bytes is accepted,
 -- and where a refusal stops.
-use Rattle.std.specs.Prelude.{◌≡◌, ℕ, List, Some, Result, IfOk, IfErr, IfSome, false}
+use Rattle.std.specs.Prelude.{◌≡◌, ℕ, List, Option, Some, None, Result, Ok, Err, IfOk, IfErr, IfSome, Bool, true, false}
 use Rattle.cbor4ii_rw.specs.View.{View, Told}
 use Rattle.cbor4ii_rw.specs.declared.error.DecodeError.{DecodeError}
+use Rattle.cbor4ii_rw.specs.declared.error.DecodeError.TheVariants.{OutOfMemory}
 use Rattle.cbor4ii_items.specs.Refusal.{refusal_of, is_out_of_memory}
 use Rattle.cbor4ii_items.specs.Moves.{Moves}
 use Rattle.cbor4ii_tree.specs.Cost.{Budget}
@@ -28,3 +29,20 @@ DoesUnder accepts stops old new answer = Does (accepts old.budget) (stops old.bu
 -- no growth was refused
 abbrev pub Spares : {V E : Type 0} → Result V (DecodeError E) → Type 0
 Spares answer = IfErr answer (λ e. is_out_of_memory e ≡ false)
+
+-- ---- answers whose refusal is left elsewhere
+
+-- the refusal that was left; where there is none it counts as one of memory, which Spares rules out
+abbrev pub refusal_left : {E : Type 0} → Option (DecodeError E) → DecodeError E
+refusal_left None = OutOfMemory
+refusal_left (Some e) = e
+
+-- a value, or none and a refusal
+abbrev pub answered : {V E : Type 0} → Option V → Option (DecodeError E) → Result V (DecodeError E)
+answered (Some v) failure = Ok v
+answered None failure = Err (refusal_left failure)
+
+-- done, or a refusal
+abbrev pub done : {E : Type 0} → Bool → Option (DecodeError E) → Result (Unit {0}) (DecodeError E)
+done true failure = Ok tt
+done false failure = Err (refusal_left failure)

@@ -7,11 +7,13 @@ ghost use Rattle.std.specs.Prelude.{
   ◌≤◌,
   ◌<◌,
   Some,
+  None,
   min,
   length,
   OnOk,
   IfOk,
   IfErr,
+  IfSome,
   IsTrue,
   codes,
   ◌%◌,
@@ -25,7 +27,7 @@ ghost use Rattle.cbor4ii_items.specs.ReadHead.{number_on};
 ghost use Rattle.cbor4ii_items.specs.Reading.{Runs, peek_at, byte_at};
 ghost use Rattle.cbor4ii_items.specs.ReadStrings.{break_at};
 ghost use Rattle.cbor4ii_items.specs.Strings.{ReadsBreak, StopsBreak};
-ghost use Rattle.cbor4ii_tree.specs.Does.{Does, Spares};
+ghost use Rattle.cbor4ii_tree.specs.Does.{Does, Spares, answered, done};
 ghost use Rattle.cbor4ii_tree.specs.Skipping.{
   additional_of,
   start_of,
@@ -121,7 +123,6 @@ pub(crate) enum Behind {
 }
 
 /// Skips one item.
-#[cycle(skip)]
 pub(crate) fn skip_item<S: Source, F: Front<S>>(
     front: &mut F,
     reader: &mut S,
@@ -134,8 +135,36 @@ pub(crate) fn skip_item<S: Source, F: Front<S>>(
         ((F.view front.new reader.new).bound + 1 ≤ (F.view front.old reader.old).bound) }
     ensures stays { IsTrue F.apart → KeepsAllButBudget (S.view reader.old) (S.view reader.new) }
 {
-    skip_some(front, reader, Among::Items(1))?;
-    Ok(())
+    let mut failure = None;
+    if skip_one(front, reader, &mut failure) {
+        return Ok(());
+    }
+    match failure {
+        Some(error) => Err(error),
+        None => unreachable!(),
+    }
+}
+
+/// Skips one item. Where it does not, the refusal goes to `failure`: no large answer is handed up
+/// from level to level.
+#[cycle(skip)]
+fn skip_one<S: Source, F: Front<S>>(
+    front: &mut F,
+    reader: &mut S,
+    failure: &mut Option<DecodeError<S::Error>>,
+) -> bool
+    ensures does { Does (λ xs _ ys. SkipsOne (F.view front.old reader.old).budget xs ys)
+        (StopsOne (F.view front.old reader.old).budget)
+        (F.view front.old reader.old) (F.view front.new reader.new) (done result failure.new) }
+    ensures spares { Spares (done result failure.new) }
+    ensures progress { IsTrue result →
+        (F.view front.new reader.new).bound + 1 ≤ (F.view front.old reader.old).bound }
+    ensures stays { IsTrue F.apart → KeepsAllButBudget (S.view reader.old) (S.view reader.new) }
+{
+    match skip_some(front, reader, Among::Items(1), failure) {
+        Some(_) => true,
+        None => false,
+    }
 }
 
 /// Skips an item, or a run of them, and answers how many; or takes a break, and answers 0.
@@ -145,21 +174,23 @@ fn skip_some<S: Source, F: Front<S>>(
     front: &mut F,
     reader: &mut S,
     among: Among,
-) -> Result<u64, DecodeError<S::Error>>
+    failure: &mut Option<DecodeError<S::Error>>,
+) -> Option<u64>
     requires { Awaits among }
     ensures does { Does (SkipsSome among (F.view front.old reader.old).budget)
         (StopsSome among (F.view front.old reader.old).budget)
-        (F.view front.old reader.old) (F.view front.new reader.new) result }
-    ensures spares { Spares result }
-    ensures counts { IfOk result (λ n. Counts among n) }
-    ensures progress { IfOk result (λ n. 1 ≤ n →
+        (F.view front.old reader.old) (F.view front.new reader.new)
+        (answered result failure.new) }
+    ensures spares { Spares (answered result failure.new) }
+    ensures counts { IfSome result (λ n. Counts among n) }
+    ensures progress { IfSome result (λ n. 1 ≤ n →
         (F.view front.new reader.new).bound + 1 ≤ (F.view front.old reader.old).bound) }
     ensures stays { IsTrue F.apart → KeepsAllButBudget (S.view reader.old) (S.view reader.new) }
 {
     if !reader.step_in() {
-        return skip_without_step(front, reader, among);
+        return skip_without_step(front, reader, among, failure);
     }
-    let outcome = some_inside(front, reader, among);
+    let outcome = some_inside(front, reader, among, failure);
     reader.step_out();
     outcome
 }
@@ -171,25 +202,31 @@ fn some_inside<S: Source, F: Front<S>>(
     front: &mut F,
     reader: &mut S,
     among: Among,
-) -> Result<u64, DecodeError<S::Error>>
+    failure: &mut Option<DecodeError<S::Error>>,
+) -> Option<u64>
     requires { Awaits among }
     ensures does { Does (SkipsSomeUnder among (F.view front.old reader.old).budget)
         (StopsSomeUnder among (F.view front.old reader.old).budget)
-        (F.view front.old reader.old) (F.view front.new reader.new) result }
-    ensures spares { Spares result }
-    ensures counts { IfOk result (λ n. Counts among n) }
-    ensures progress { IfOk result (λ n. 1 ≤ n →
+        (F.view front.old reader.old) (F.view front.new reader.new)
+        (answered result failure.new) }
+    ensures spares { Spares (answered result failure.new) }
+    ensures counts { IfSome result (λ n. Counts among n) }
+    ensures progress { IfSome result (λ n. 1 ≤ n →
         (F.view front.new reader.new).bound + 1 ≤ (F.view front.old reader.old).bound) }
     ensures stays { IsTrue F.apart → KeepsAllButBudget (S.view reader.old) (S.view reader.new) }
 {
-    match take_ahead(front, reader, among)? {
-        Ahead::Run(count, _) => Ok(count),
-        Ahead::Head(_, behind) => {
-            skip_behind(front, reader, behind)?;
-            Ok(1)
+    match take_ahead(front, reader, among, failure) {
+        Some(Ahead::Run(count, _)) => Some(count),
+        Some(Ahead::Head(_, behind)) => {
+            if skip_behind(front, reader, behind, failure) {
+                Some(1)
+            } else {
+                None
+            }
         }
-        Ahead::Break => Ok(0),
-        Ahead::Unseen => skip_unseen(front, reader, among),
+        Some(Ahead::Break) => Some(0),
+        Some(Ahead::Unseen) => skip_unseen(front, reader, among, failure),
+        None => None,
     }
 }
 
@@ -200,20 +237,41 @@ fn skip_behind<S: Source, F: Front<S>>(
     front: &mut F,
     reader: &mut S,
     behind: Behind,
-) -> Result<(), DecodeError<S::Error>>
+    failure: &mut Option<DecodeError<S::Error>>,
+) -> bool
     ensures does { Does (λ xs _ ys. SkipsBehind behind (F.view front.old reader.old).budget xs ys)
         (StopsBehind behind (F.view front.old reader.old).budget)
-        (F.view front.old reader.old) (F.view front.new reader.new) result }
-    ensures spares { Spares result }
+        (F.view front.old reader.old) (F.view front.new reader.new)
+        (done result failure.new) }
+    ensures spares { Spares (done result failure.new) }
     ensures stays { IsTrue F.apart → KeepsAllButBudget (S.view reader.old) (S.view reader.new) }
 {
     match behind {
-        Behind::Nothing => Ok(()),
-        Behind::Bytes(count) => skip_bytes(front, reader, count),
-        Behind::Items(count) => skip_items(front, reader, count),
-        Behind::Members(count) => skip_members(front, reader, count),
-        Behind::Open => skip_open(front, reader),
-        Behind::OpenMembers => skip_open_members(front, reader),
+        Behind::Nothing => true,
+        Behind::Bytes(count) => skip_content(front, reader, count, failure),
+        Behind::Items(count) => skip_items(front, reader, count, failure),
+        Behind::Members(count) => skip_members(front, reader, count, failure),
+        Behind::Open => skip_open(front, reader, failure),
+        Behind::OpenMembers => skip_open_members(front, reader, failure),
+    }
+}
+
+/// Skips so many bytes.
+#[inline(never)]
+fn skip_content<S: Source, F: Front<S>>(
+    front: &mut F,
+    reader: &mut S,
+    count: u64,
+    failure: &mut Option<DecodeError<S::Error>>,
+) -> bool
+    ensures does { Does (λ xs _ ys. DropsBytes count xs ys) (Missing (codes "ignored-any") count)
+        (F.view front.old reader.old) (F.view front.new reader.new) (done result failure.new) }
+    ensures spares { Spares (done result failure.new) }
+    ensures stays { IsTrue F.apart → S.view reader.new ≡ S.view reader.old }
+{
+    match part(skip_bytes(front, reader, count), failure) {
+        Some(()) => true,
+        None => false,
     }
 }
 
@@ -223,18 +281,23 @@ fn skip_items<S: Source, F: Front<S>>(
     front: &mut F,
     reader: &mut S,
     count: u64,
-) -> Result<(), DecodeError<S::Error>>
+    failure: &mut Option<DecodeError<S::Error>>,
+) -> bool
     ensures does { Does (λ xs _ ys. SkipsItems count (F.view front.old reader.old).budget xs ys)
         (StopsItems count (F.view front.old reader.old).budget)
-        (F.view front.old reader.old) (F.view front.new reader.new) result }
-    ensures spares { Spares result }
+        (F.view front.old reader.old) (F.view front.new reader.new)
+        (done result failure.new) }
+    ensures spares { Spares (done result failure.new) }
     ensures stays { IsTrue F.apart → KeepsAllButBudget (S.view reader.old) (S.view reader.new) }
 {
     let mut left = count;
     while left > 0 {
-        left -= skip_some(front, reader, Among::Items(left))?;
+        match skip_some(front, reader, Among::Items(left), failure) {
+            Some(some) => left -= some,
+            None => return false,
+        }
     }
-    Ok(())
+    true
 }
 
 /// Skips so many pairs.
@@ -243,24 +306,31 @@ fn skip_members<S: Source, F: Front<S>>(
     front: &mut F,
     reader: &mut S,
     count: u64,
-) -> Result<(), DecodeError<S::Error>>
+    failure: &mut Option<DecodeError<S::Error>>,
+) -> bool
     ensures does { Does
         (λ xs _ ys. SkipsItems (2 * count) (F.view front.old reader.old).budget xs ys)
         (StopsItems (2 * count) (F.view front.old reader.old).budget)
-        (F.view front.old reader.old) (F.view front.new reader.new) result }
-    ensures spares { Spares result }
+        (F.view front.old reader.old) (F.view front.new reader.new)
+        (done result failure.new) }
+    ensures spares { Spares (done result failure.new) }
     ensures stays { IsTrue F.apart → KeepsAllButBudget (S.view reader.old) (S.view reader.new) }
 {
     let mut left = count;
     while left > 0 {
-        let some = skip_some(front, reader, Among::Pairs(left))?;
+        let some = match skip_some(front, reader, Among::Pairs(left), failure) {
+            Some(some) => some,
+            None => return false,
+        };
         left -= some / 2 + some % 2;
         if some % 2 == 1 {
             // A key: its value follows.
-            skip_item(front, reader)?;
+            if !skip_one(front, reader, failure) {
+                return false;
+            }
         }
     }
-    Ok(())
+    true
 }
 
 /// Skips items up to a break.
@@ -268,15 +338,22 @@ fn skip_members<S: Source, F: Front<S>>(
 fn skip_open<S: Source, F: Front<S>>(
     front: &mut F,
     reader: &mut S,
-) -> Result<(), DecodeError<S::Error>>
+    failure: &mut Option<DecodeError<S::Error>>,
+) -> bool
     ensures does { Does (λ xs _ ys. SkipsOpen (F.view front.old reader.old).budget xs ys)
         (StopsOpen (F.view front.old reader.old).budget)
-        (F.view front.old reader.old) (F.view front.new reader.new) result }
-    ensures spares { Spares result }
+        (F.view front.old reader.old) (F.view front.new reader.new)
+        (done result failure.new) }
+    ensures spares { Spares (done result failure.new) }
     ensures stays { IsTrue F.apart → KeepsAllButBudget (S.view reader.old) (S.view reader.new) }
 {
-    while skip_some(front, reader, Among::OpenItems)? > 0 {}
-    Ok(())
+    loop {
+        match skip_some(front, reader, Among::OpenItems, failure) {
+            Some(0) => return true,
+            Some(_) => {}
+            None => return false,
+        }
+    }
 }
 
 /// Skips pairs up to a break. No break may come behind a key.
@@ -284,21 +361,28 @@ fn skip_open<S: Source, F: Front<S>>(
 fn skip_open_members<S: Source, F: Front<S>>(
     front: &mut F,
     reader: &mut S,
-) -> Result<(), DecodeError<S::Error>>
+    failure: &mut Option<DecodeError<S::Error>>,
+) -> bool
     ensures does { Does (λ xs _ ys. SkipsMembers (F.view front.old reader.old).budget xs ys)
         (StopsMembers (F.view front.old reader.old).budget)
-        (F.view front.old reader.old) (F.view front.new reader.new) result }
-    ensures spares { Spares result }
+        (F.view front.old reader.old) (F.view front.new reader.new)
+        (done result failure.new) }
+    ensures spares { Spares (done result failure.new) }
     ensures stays { IsTrue F.apart → KeepsAllButBudget (S.view reader.old) (S.view reader.new) }
 {
     loop {
-        let some = skip_some(front, reader, Among::OpenPairs)?;
+        let some = match skip_some(front, reader, Among::OpenPairs, failure) {
+            Some(some) => some,
+            None => return false,
+        };
         if some == 0 {
-            return Ok(());
+            return true;
         }
         if some % 2 == 1 {
             // A key: no break may come before its value.
-            skip_item(front, reader)?;
+            if !skip_one(front, reader, failure) {
+                return false;
+            }
         }
     }
 }
@@ -309,29 +393,34 @@ fn take_ahead<S: Source, F: Front<S>>(
     front: &mut F,
     reader: &mut S,
     among: Among,
-) -> Result<Ahead, DecodeError<S::Error>>
+    failure: &mut Option<DecodeError<S::Error>>,
+) -> Option<Ahead>
     ensures does { Does (Takes among (F.view front.old reader.old).budget) NeverStops
-        (F.view front.old reader.old) (F.view front.new reader.new) result }
-    ensures spares { Spares result }
-    ensures passes { IfOk result (λ seen. Passes among seen (F.view front.old reader.old).bound
+        (F.view front.old reader.old) (F.view front.new reader.new)
+        (answered result failure.new) }
+    ensures spares { Spares (answered result failure.new) }
+    ensures passes { IfSome result (λ seen. Passes among seen (F.view front.old reader.old).bound
         (F.view front.new reader.new).bound) }
     ensures stays { IsTrue F.apart → S.view reader.new ≡ S.view reader.old }
 {
     match front.ahead(reader, among) {
         Ok(Ahead::Run(count, size)) => {
             front.advance(reader, size);
-            Ok(Ahead::Run(count, size))
+            Some(Ahead::Run(count, size))
         }
         Ok(Ahead::Head(size, behind)) => {
             front.advance(reader, size);
-            Ok(Ahead::Head(size, behind))
+            Some(Ahead::Head(size, behind))
         }
         Ok(Ahead::Break) => {
             front.advance(reader, 1);
-            Ok(Ahead::Break)
+            Some(Ahead::Break)
         }
-        Ok(Ahead::Unseen) => Ok(Ahead::Unseen),
-        Err(error) => Err(DecodeError::Read(error)),
+        Ok(Ahead::Unseen) => Some(Ahead::Unseen),
+        Err(error) => {
+            leave(DecodeError::Read(error), failure);
+            None
+        }
     }
 }
 
@@ -343,22 +432,30 @@ fn skip_unseen<S: Source, F: Front<S>>(
     front: &mut F,
     reader: &mut S,
     among: Among,
-) -> Result<u64, DecodeError<S::Error>>
+    failure: &mut Option<DecodeError<S::Error>>,
+) -> Option<u64>
     requires { Awaits among }
     ensures does { Does (SkipsSomeUnder among (F.view front.old reader.old).budget)
         (StopsSomeUnder among (F.view front.old reader.old).budget)
-        (F.view front.old reader.old) (F.view front.new reader.new) result }
-    ensures spares { Spares result }
-    ensures counts { IfOk result (λ n. Counts among n) }
-    ensures progress { IfOk result (λ n. 1 ≤ n →
+        (F.view front.old reader.old) (F.view front.new reader.new)
+        (answered result failure.new) }
+    ensures spares { Spares (answered result failure.new) }
+    ensures counts { IfSome result (λ n. Counts among n) }
+    ensures progress { IfSome result (λ n. 1 ≤ n →
         (F.view front.new reader.new).bound + 1 ≤ (F.view front.old reader.old).bound) }
     ensures stays { IsTrue F.apart → KeepsAllButBudget (S.view reader.old) (S.view reader.new) }
 {
-    if ends(front, reader, among)? {
-        return Ok(0);
+    let ended = match part(ends(front, reader, among), failure) {
+        Some(ended) => ended,
+        None => return None,
+    };
+    if ended {
+        return Some(0);
     }
-    skip_inside(front, reader)?;
-    Ok(1)
+    if skip_inside(front, reader, failure) {
+        return Some(1);
+    }
+    None
 }
 
 /// Skips one item byte by byte; the step was taken.
@@ -366,17 +463,21 @@ fn skip_unseen<S: Source, F: Front<S>>(
 fn skip_inside<S: Source, F: Front<S>>(
     front: &mut F,
     reader: &mut S,
-) -> Result<(), DecodeError<S::Error>>
+    failure: &mut Option<DecodeError<S::Error>>,
+) -> bool
     ensures does { Does (λ xs _ ys. SkipsUnder (F.view front.old reader.old).budget xs ys)
         (StopsUnder (F.view front.old reader.old).budget)
-        (F.view front.old reader.old) (F.view front.new reader.new) result }
-    ensures spares { Spares result }
-    ensures progress { OnOk result
+        (F.view front.old reader.old) (F.view front.new reader.new)
+        (done result failure.new) }
+    ensures spares { Spares (done result failure.new) }
+    ensures progress { IsTrue result →
         ((F.view front.new reader.new).bound + 1 ≤ (F.view front.old reader.old).bound) }
     ensures stays { IsTrue F.apart → KeepsAllButBudget (S.view reader.old) (S.view reader.new) }
 {
-    let behind = skip_head(front, reader)?;
-    skip_behind(front, reader, behind)
+    match part(skip_head(front, reader), failure) {
+        Some(behind) => skip_behind(front, reader, behind, failure),
+        None => false,
+    }
 }
 
 /// Where no step is left a break alone may come.
@@ -386,22 +487,57 @@ fn skip_without_step<S: Source, F: Front<S>>(
     front: &mut F,
     reader: &mut S,
     among: Among,
-) -> Result<u64, DecodeError<S::Error>>
+    failure: &mut Option<DecodeError<S::Error>>,
+) -> Option<u64>
     requires awaits { Awaits among }
     requires no_step { (F.view front.old reader.old).budget ≡ Some 0 }
     ensures does { Does (SkipsSome among (Some 0)) (StopsSome among (Some 0))
-        (F.view front.old reader.old) (F.view front.new reader.new) result }
-    ensures spares { Spares result }
-    ensures counts { IfOk result (λ n. Counts among n) }
-    ensures none { IfOk result (λ n. n ≡ 0) }
+        (F.view front.old reader.old) (F.view front.new reader.new)
+        (answered result failure.new) }
+    ensures spares { Spares (answered result failure.new) }
+    ensures counts { IfSome result (λ n. Counts among n) }
+    ensures none { IfSome result (λ n. n ≡ 0) }
     ensures stays { IsTrue F.apart → S.view reader.new ≡ S.view reader.old }
 {
-    if ends(front, reader, among)? {
-        return Ok(0);
+    let ended = match part(ends(front, reader, among), failure) {
+        Some(ended) => ended,
+        None => return None,
+    };
+    if ended {
+        return Some(0);
     }
-    Err(DecodeError::DepthOverflow {
-        name: "ignored-any",
-    })
+    leave(
+        DecodeError::DepthOverflow {
+            name: "ignored-any",
+        },
+        failure,
+    );
+    None
+}
+
+/// The answer without its refusal, which goes to `failure`.
+fn part<T, E: Drop>(
+    answer: Result<T, DecodeError<E>>,
+    failure: &mut Option<DecodeError<E>>,
+) -> Option<T>
+    ensures { answer ≡ answered result failure.new }
+{
+    match answer {
+        Ok(value) => Some(value),
+        Err(error) => {
+            leave(error, failure);
+            None
+        }
+    }
+}
+
+/// The refusal goes to `failure`.
+#[cold]
+#[inline(never)]
+fn leave<E: Drop>(error: E, failure: &mut Option<E>)
+    ensures { failure.new ≡ Some error }
+{
+    *failure = Some(error);
 }
 
 /// Takes a break where one may come.

@@ -19,8 +19,8 @@ decreases-skip_open g l = 8 * (g.F.Front.view l.front.now l.reader.now).bound + 
 abbrev pub decreases-skip_open_members : goal.decreases-skip_open_members
 decreases-skip_open_members g l = 8 * (g.F.Front.view l.front.now l.reader.now).bound + 5
 
-abbrev pub decreases-skip_item : goal.decreases-skip_item
-decreases-skip_item g l = 8 * (g.F.Front.view l.front.now l.reader.now).bound + 4
+abbrev pub decreases-skip_one : goal.decreases-skip_one
+decreases-skip_one g l = 8 * (g.F.Front.view l.front.now l.reader.now).bound + 4
 
 abbrev pub decreases-skip_some : goal.decreases-skip_some
 decreases-skip_some g l = 8 * (g.F.Front.view l.front.now l.reader.now).bound + 3
