@@ -94,6 +94,15 @@ run_more n at size shown some h l =
       );
     }
 
+-- two of one byte each
+pub run_two : (n at size : ℕ) (shown : List ℕ) → size ≡ 1 → BeginsRun n at shown → IsLeafAt at size shown → IsLeafAt (at + 1) 1 shown → BeginsRun (n + 2) (at + 2) shown
+run_two n at size shown one h l m =
+    let first = run_more n at 1 shown (omega arith) h (subst (λ k. IsLeafAt at k shown) one l) in
+    let both = run_more (n + 1) (at + 1) 1 shown (omega arith) first m in
+    let count : n + 1 + 1 ≡ n + 2 = omega arith in
+    let end : at + 1 + 1 ≡ at + 2 = omega arith in
+    subst (λ j. BeginsRun j (at + 2) shown) count (subst (λ j. BeginsRun (n + 1 + 1) j shown) end both)
+
 pub pair_at : (at key value : ℕ) (shown : List ℕ) → key ≢ 0 → value ≢ 0 → IsLeafAt at key shown → IsLeafAt (at + key) value shown → IsPairAt at (key + value) shown
 pair_at at key value shown some more h k = record { key = key; value = value; sizes = refl; some = omega (arith, some); more = omega (arith, more); first = h; second = k }
 

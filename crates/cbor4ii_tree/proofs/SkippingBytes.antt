@@ -1,6 +1,6 @@
 -- Bytes that are skipped, front by front, and the arguments of heads.
 use Rattle.std.proofs.Common.{◌≡◌, ◌≢◌, ℕ, zero, suc, ◌+◌, ◌-◌, ◌*◌, ◌%◌, ◌^◌, ◌<◌, ◌≤◌, List, [], ◌∷◌, ◌++◌, length, take, drop, Option, Some, None, Ok, Err, true, false, refl, sym, ap, ◌∙◌, subst, arith, IfSome, append_assoc, length-append, take-append-drop, ltb, ltb-true, ltb-false, Bool}
-use Rattle.std.proofs.lemmas.List.{length-take-le, length-drop}
+use Rattle.std.proofs.lemmas.List.{length-take-le}
 use Rattle.std.specs.Int.{bytes_high_first}
 use denote.Ref.{Bor}
 use Rattle.cbor4ii_rw.specs.View.{View, Told}
@@ -11,7 +11,7 @@ use Rattle.cbor4ii_rw.specs.declared.error.DecodeError.{DecodeError}
 use Rattle.cbor4ii_rw.specs.declared.error.DecodeError.TheVariants.{Eof}
 use Rattle.cbor4ii_items.specs.Head.{Width, in_first, one, two, four, eight, byte_count, additional, HeadFits, IsBytes}
 use Rattle.cbor4ii_items.specs.Initial.{info_of, wide}
-use Rattle.cbor4ii_items.specs.HeadLaws.{number_is, number_inverse, IsBytes-take}
+use Rattle.cbor4ii_items.specs.HeadLaws.{number_is, IsBytes-take}
 use Rattle.cbor4ii_items.specs.ReadHead.{number_on}
 use Rattle.cbor4ii_items.specs.Reading.{Runs}
 use Rattle.cbor4ii_items.specs.Refusal.{Refusal, refusal_of, eof, len_of}
@@ -126,12 +126,6 @@ argument_read name w first k v n bs ys is size some bytes le e =
       says = additional_is (first % 32) w v (says_width (first % 32) w is) more;
       is = h.0 ∙ ap (λ j. bytes_high_first j v ++ ys) (sym size);
     }
-
--- the bytes that a number takes
-number_takes : (name : List ℕ) (expect k high v n : ℕ) (bs : List ℕ) → number_on name expect k high bs ≡ Ok (v, drop n bs) → n ≤ length bs → k ≤ n
-number_takes name expect k high v n bs e h =
-    let t = number_inverse name expect k high v bs (drop n bs) e in
-    omega (arith, ap length t.0, length-append (take k bs) (drop n bs), t.1, length-drop n bs, h)
 
 cut_at : (o : Option Refusal) (name : List ℕ) (k : ℕ) (w : Width) (xs : List ℕ) (new : Option (List ℕ)) → byte_count w ≡ k → IfSome o (λ z. (ys : List ℕ) × (new ≡ Some ys) × (number_on name k k 0 xs ≡ Err (z, ys)))
     → IfSome o (λ z. (ys : List ℕ) × (new ≡ Some ys) × MissingAll name (byte_count w) xs z ys)

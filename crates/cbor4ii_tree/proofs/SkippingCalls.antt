@@ -1,44 +1,20 @@
 -- The calls of skipping, one behind another.
-use Rattle.std.proofs.Common.{◌≡◌, ◌≢◌, ℕ, List, [], ◌∷◌, Result, Ok, Err, Bool, true, false, refl, sym, ap, ◌∙◌, subst}
-use denote.Ref.{Bor}
+use Rattle.std.proofs.Common.{◌≡◌, ◌≢◌, ℕ, List, [], ◌∷◌, Result, Ok, Err, Bool, true, false, sym, subst}
 use Rattle.cbor4ii_rw.specs.View.{View}
-use Rattle.cbor4ii_rw.specs.Reader.{KeepsAllButBudget, StepsIn, step_back}
 use Rattle.cbor4ii_rw.specs.declared.error.DecodeError.{DecodeError}
-use Rattle.cbor4ii_rw.specs.declared.error.DecodeError.TheVariants.{DepthOverflow}
 use Rattle.cbor4ii_items.specs.Head.{break}
 use Rattle.cbor4ii_items.specs.Moves.{Moves}
 use Rattle.cbor4ii_items.specs.Decoding.{Sound, Stops}
 use Rattle.cbor4ii_items.specs.Strings.{ReadsBreak, StopsBreak}
 use Rattle.cbor4ii_items.specs.Refusal.{Refusal}
-use Rattle.cbor4ii_tree.specs.Refusal.{eof, Small, break_name, depth_overflow, ignored_any}
+use Rattle.cbor4ii_tree.specs.Refusal.{eof, Small, break_name}
 use Rattle.cbor4ii_tree.specs.Cost.{Budget}
 use Rattle.cbor4ii_tree.specs.Stops.{Stopping}
 use Rattle.cbor4ii_tree.specs.Does.{Accepting, Does}
 use Rattle.cbor4ii_tree.specs.Skipping.{SkipsOne, StopsOne, SkipsUnder, StopsUnder, SkipsBehind, StopsBehind, Leads}
 use Rattle.cbor4ii_tree.specs.declared.skip.Behind.{Behind}
-use Rattle.cbor4ii_tree.proofs.Doing.{Reached, reached_by, reached_then, does_after, does_err, does_stops, does_stepped, does_no_step, reached_sound, steps_in}
+use Rattle.cbor4ii_tree.proofs.Doing.{Reached, reached_by, reached_then, does_after, does_err, does_stops, reached_sound}
 use Rattle.cbor4ii_tree.proofs.SkippingParts.{SkippedPairs, IsOther, after_break, other_byte}
-
--- ---- a step
-
-pub stepped : {E : Type 0} {r : Result (Unit {0}) (DecodeError E)} {a b c d : View} → StepsIn a.budget b.budget true → KeepsAllButBudget a b → Does (λ xs _ ys. SkipsUnder b.budget xs ys) (StopsUnder b.budget) b c r → d.budget ≡ step_back c.budget → KeepsAllButBudget c d
-    → Does (λ xs _ ys. SkipsOne a.budget xs ys) (StopsOne a.budget) a d r
-stepped {a = a} {b = b} takes inward w gives outward =
-    does_stepped (λ xs _ ys. SkipsUnder b.budget xs ys) (λ xs _ ys. SkipsOne a.budget xs ys) (StopsUnder b.budget) (StopsOne a.budget)
-    (λ xs ys v h. h a.budget (steps_in a.budget b.budget takes)) (λ xs e rest h. h a.budget (steps_in a.budget b.budget takes)) takes inward w gives outward
-
--- the same in a front, whose steps are those of its reader
-pub stepped_by : {E : Type 0} {r : Result (Unit {0}) (DecodeError E)} {a b c d : View} {sa sb sc sd : Budget} → a.budget ≡ sa → b.budget ≡ sb → c.budget ≡ sc → d.budget ≡ sd
-    → StepsIn sa sb true → KeepsAllButBudget a b → Does (λ xs _ ys. SkipsUnder b.budget xs ys) (StopsUnder b.budget) b c r → sd ≡ step_back sc → KeepsAllButBudget c d
-    → Does (λ xs _ ys. SkipsOne a.budget xs ys) (StopsOne a.budget) a d r
-stepped_by {b = b} {sa = sa} e f g h takes inward w gives outward =
-    stepped (subst (λ o. StepsIn o b.budget true) (sym e) (subst (λ o. StepsIn sa o true) (sym f) takes)) inward w (h ∙ (gives ∙ ap step_back (sym g))) outward
-
-pub no_step_by : {E : Type 0} {name : Bor (List ℕ)} {a b : View} {sa sb : Budget} → name.now ≡ ignored_any → a.budget ≡ sa → b.budget ≡ sb → StepsIn sa sb false → KeepsAllButBudget a b
-    → Does {V = Unit {0}} {E = E} (λ xs _ ys. SkipsOne a.budget xs ys) (StopsOne a.budget) a b (Err (DepthOverflow name))
-no_step_by {name = name} {a = a} {b = b} {sa = sa} named e f takes k =
-    does_no_step name.now (λ xs _ ys. SkipsOne a.budget xs ys) (StopsOne a.budget) refl refl (λ none xs. subst (λ o. StopsOne o xs (depth_overflow name.now) xs) (sym none) (ap depth_overflow named, refl))
-    (subst (λ o. StepsIn o b.budget false) (sym e) (subst (λ o. StepsIn sa o false) (sym f) takes)) k
 
 -- ---- behind a head
 

@@ -4,6 +4,9 @@ ghost use Rattle.std.specs.Prelude.{
   ◌≡◌,
   ◌≢◌,
   ◌≤◌,
+  ◌<◌,
+  ◌+◌,
+  length,
   ◌*◌,
   ◌%◌,
   ◌∷◌,
@@ -51,6 +54,15 @@ impl Among {
             Among::OpenItems | Among::OpenPairs => true,
         }
     }
+
+    /// Whether it is a key that comes next.
+    #[inline(always)]
+    fn is_paired(self) -> bool {
+        match self {
+            Among::Items(_) | Among::OpenItems => false,
+            Among::Pairs(_) | Among::OpenPairs => true,
+        }
+    }
 }
 
 /// What comes next.
@@ -92,7 +104,7 @@ pub(crate) fn ahead_of(shown: &[u8], among: Among) -> Ahead
     if among.is_open() && begins_with_break(shown) {
         return Ahead::Break;
     }
-    head_of(shown)
+    head_of(shown, among)
 }
 
 /// Whether a break comes first.
@@ -133,10 +145,32 @@ fn run_of_items(shown: &[u8], most: u64) -> (u64, usize)
         if leaf == 0 {
             return (count, size);
         }
-        count += 1;
-        size += leaf;
+        if most - count > 1 && are_single(shown, size, leaf) {
+            count += 2;
+            size += 2;
+        } else {
+            count += 1;
+            size += leaf;
+        }
     }
     (count, size)
+}
+
+/// Whether the item at this place, which takes so many bytes, and the next take one byte each. One
+/// comparison tells both: where sizes change from item to item, one for each would be hard to
+/// foresee.
+#[inline(always)]
+fn are_single(shown: &[u8], at: usize, leaf: usize) -> bool
+    requires stands { at + leaf ≤ length shown.now }
+    requires some { 1 ≤ leaf }
+    requires small { leaf < 256 }
+    ensures first { IsTrue result → leaf ≡ 1 }
+    ensures second { IsTrue result → IsLeafAt (at + 1) 1 shown.now }
+{
+    if at + 1 >= shown.len() {
+        return false;
+    }
+    256 * leaf + leaf_bytes(shown[at + 1]) as usize == 257
 }
 
 /// A run of at most so many whole pairs.
@@ -178,7 +212,8 @@ fn pair_size(shown: &[u8], at: usize) -> usize
 /// How many bytes the item at this place takes, where it holds no other and stands whole; else 0.
 #[inline(always)]
 fn leaf_size(shown: &[u8], at: usize) -> usize
-    ensures { result ≢ 0 → IsLeafAt at result shown.now }
+    ensures leaf { result ≢ 0 → IsLeafAt at result shown.now }
+    ensures small { result < 256 }
 {
     if at >= shown.len() {
         return 0;
@@ -199,14 +234,17 @@ fn leaf_bytes(first: u8) -> u8
     LEAF_BYTES[first as usize]
 }
 
-/// The head that the shown bytes begin with, and what is left of its item.
+/// The head that the shown bytes begin with, and what is left of its item. Where no run was found,
+/// only a key may be whole with its head.
 #[inline(always)]
-fn head_of(shown: &[u8]) -> Ahead
+fn head_of(shown: &[u8], among: Among) -> Ahead
     ensures { (among : Among) → Sees among result shown.now }
 {
-    let leaf = leaf_size(shown, 0);
-    if leaf > 0 {
-        return Ahead::Head(leaf, Behind::Nothing);
+    if among.is_paired() {
+        let leaf = leaf_size(shown, 0);
+        if leaf > 0 {
+            return Ahead::Head(leaf, Behind::Nothing);
+        }
     }
     let [first, rest @ ..] = shown else {
         return Ahead::Unseen;

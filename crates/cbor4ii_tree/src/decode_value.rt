@@ -162,6 +162,7 @@ fn read_value<S: Source>(alloc: Global, reader: &mut S) -> Result<Value, DecodeE
 
 /// Reads one value whose step was taken.
 #[cycle(read)]
+#[inline(always)]
 fn read_inside<S: Source>(alloc: Global, reader: &mut S) -> Result<Value, DecodeError<S::Error>>
     ensures does { DoesUnder ReadsUnder StopsUnder (S.view reader.old) (S.view reader.new) result }
     ensures item { IfOk result (λ v. IsItem (view v)) }
@@ -375,6 +376,7 @@ fn open_members<S: Source>(
 
 /// Reads a key, and the value behind it. No break is looked for between the two.
 #[cycle(read)]
+#[inline(always)]
 fn read_member<S: Source>(
     alloc: Global,
     reader: &mut S,
@@ -391,6 +393,7 @@ fn read_member<S: Source>(
 }
 
 /// Puts an item behind those that are there.
+#[inline(always)]
 fn keep<T: Drop, E>(items: &mut Vec<T>, item: T) -> Result<(), DecodeError<E>>
     ensures kept { OnOk result (items.new.items ≡ items.old.items ++ item ∷ []) }
     ensures memory { IfErr result (λ error. error ≡ OutOfMemory) }
