@@ -1,13 +1,12 @@
 -- Reading a value from its canonical spelling, as a decoding call, and what its answer says.
-use Rattle.std.proofs.Common.{◌≡◌, ◌≢◌, ℕ, List, [], ◌++◌, length, take, drop, Option, None, Some, Ok, Err, inl, inr, refl, sym, ap, ◌∙◌, subst, arith, IfSome, append_assoc, append-nil, length-append, take-append-drop}
+use Rattle.std.proofs.Common.{◌≡◌, ℕ, List, [], ◌++◌, length, take, drop, Option, None, Some, Ok, Err, inl, inr, refl, sym, ap, ◌∙◌, subst, arith, IfSome, append_assoc, append-nil, length-append, take-append-drop}
 use Rattle.std.specs.Prelude.{◌⊎◌}
 use Rattle.std.proofs.Math.Seq.{drop-append_seam, take-append_seam}
 use Rattle.cbor4ii_rw.specs.View.{View}
 use Rattle.cbor4ii_rw.specs.declared.error.DecodeError.{DecodeError}
-use Rattle.cbor4ii_items.specs.Refusal.{Refusal, refusal_of, not_canonical}
+use Rattle.cbor4ii_items.specs.Refusal.{Refusal, refusal_of}
 use Rattle.cbor4ii_items.specs.Decoding.{CostFits, Sound, Refuses, Stops, NoneRead}
 use Rattle.cbor4ii_tree.specs.declared.value.Value.{Value}
-use Rattle.cbor4ii_tree.specs.declared.decode_canonical.Canonical.{Canonical}
 use Rattle.cbor4ii_tree.specs.Tree.{bytes}
 use Rattle.cbor4ii_tree.specs.Item.{Item}
 use Rattle.cbor4ii_tree.specs.Meaning.{value}
@@ -15,7 +14,7 @@ use Rattle.cbor4ii_tree.specs.Cost.{Budget, cost}
 use Rattle.cbor4ii_tree.specs.Refusal.{eof, depth_overflow, IsEof, IsDepthOverflow, IsFinal}
 use Rattle.cbor4ii_tree.specs.Strict.{ReadsStrictly}
 use Rattle.cbor4ii_tree.specs.Strictly.{Lacks, BeginsOne, ReadsExactly}
-use Rattle.cbor4ii_tree.specs.Canonically.{ReadsCanonicalItem, ReadsCanonical, StopsCanonical, IsNotCanonical, OnlyCanonical, AllCanonical, FrontCanonical, EofCanonical, DepthCanonical, NeverCanonical}
+use Rattle.cbor4ii_tree.specs.Canonically.{ReadsCanonical, StopsCanonical, IsNotCanonical, OnlyCanonical, AllCanonical, TakesSpelling, EverySpelling, FrontCanonical, EofCanonical, DepthCanonical, NeverCanonical}
 use Rattle.cbor4ii_tree.specs.View.{view}
 use Rattle.cbor4ii_tree.specs.Does.{Does}
 use Rattle.cbor4ii_tree.specs.IgnoredLaws.{one_spelling}
@@ -93,18 +92,24 @@ module _ {E : Type 0} {a b : View} {v : Value} (d : Does {E = E} (ReadsExactly a
   }
 
   pub canonical_only : OnlyCanonical {E = E} a b (Ok (record { 0 = v }))
-  canonical_only = λ xs told.
+  canonical_only = λ xs told. let s = d.ok xs told in (s.0, s.1, as_strictly a.budget xs v s.0 s.2)
+
+  pub canonical_all : AllCanonical {E = E} a b (Ok (record { 0 = v }))
+  canonical_all = λ xs told w rest r.
+      let s = d.ok xs told in
+      let t = s.2.0 in
+      let c = r.spells in
+      let same = one_spelling t c.spelled s.0 rest s.2.1.0.0.0 c.canonical.0.0 (sym s.2.3 ∙ r.begins ∙ ap (λ z. z ++ rest) (sym c.bytes_are)) in
+      (sym s.2.2 ∙ ap value same.0 ∙ c.value_is, s.1 ∙ ap Some same.1)
+
+  pub canonical_spelling : TakesSpelling {E = E} a b (Ok (record { 0 = v }))
+  canonical_spelling = λ xs told.
       let s = d.ok xs told in
       let r = (reads_strictly_iff xs a.budget (view v) s.0).0 (as_strictly a.budget xs v s.0 s.2) in
       (s.0, s.1, r.0, r.1, r.2)
 
-  pub canonical_all : AllCanonical {E = E} a b (Ok (record { 0 = v }))
-  canonical_all = λ xs told w rest decoded fits is.
-      let s = d.ok xs told in
-      let t = s.2.0 in
-      let c = canon_strictly w decoded in
-      let same = one_spelling t c.spelled s.0 rest s.2.1.0.0.0 c.canonical.0.0 (sym s.2.3 ∙ is ∙ ap (λ z. z ++ rest) (sym c.bytes_are)) in
-      (sym s.2.2 ∙ ap value same.0 ∙ c.value_is, s.1 ∙ ap Some same.1)
+  pub canonical_every : EverySpelling {E = E} a b (Ok (record { 0 = v }))
+  canonical_every = λ xs told w rest decoded fits is. canonical_all xs told w rest ((reads_strictly_iff xs a.budget w rest).1 (decoded, fits, is))
 
   pub canonical_front : FrontCanonical {E = E} a (Ok (record { 0 = v }))
   canonical_front = λ xs told w decoded fits front.
@@ -131,7 +136,10 @@ module _ {E : Type 0} {a b : View} {e : DecodeError E} (d : Does {V = Value} (Re
   canonical_stops = record { at = λ xs told. d.err xs told }
 
   pub refused_all : AllCanonical {E = E} a b (Err e)
-  refused_all = λ xs told w rest decoded fits is. says xs (λ _. ⊥) told (λ z ys left h. lacks_none a.budget xs z ys h (begins_of a.budget xs w rest ((reads_strictly_iff xs a.budget w rest).1 (decoded, fits, is))))
+  refused_all = λ xs told w rest r. says xs (λ _. ⊥) told (λ z ys left h. lacks_none a.budget xs z ys h (begins_of a.budget xs w rest r))
+
+  pub refused_every : EverySpelling {E = E} a b (Err e)
+  refused_every = λ xs told w rest decoded fits is. refused_all xs told w rest ((reads_strictly_iff xs a.budget w rest).1 (decoded, fits, is))
 
   pub refused_front : FrontCanonical {E = E} a (Err e)
   refused_front = λ xs told w decoded fits front. says xs IsEof told (λ z ys left h.

@@ -1,5 +1,5 @@
 -- The calls of reading a value that is spelled in one way, one behind another.
-use Rattle.std.proofs.Common.{◌≡◌, ◌≢◌, ℕ, zero, suc, ◌+◌, ◌-◌, ◌*◌, ◌/◌, ◌^◌, ◌<◌, ◌≤◌, inl, inr, List, [], ◌∷◌, ◌++◌, length, drop, take, Option, Some, None, Result, Ok, Err, Bool, cond, true, false, refl, sym, ap, ap₂, ◌∙◌, subst, arith, append_assoc, IfSome, take-append-drop, Vec, Global, String, negsuc, pos, ◌-ℤ◌}
+use Rattle.std.proofs.Common.{◌≡◌, ◌≢◌, ℕ, suc, ◌+◌, ◌-◌, ◌*◌, ◌/◌, ◌^◌, ◌<◌, ◌≤◌, inl, inr, List, [], ◌∷◌, ◌++◌, length, drop, take, Option, Some, None, Result, Ok, Err, Bool, cond, true, false, refl, sym, ap, ap₂, ◌∙◌, subst, arith, append_assoc, IfSome, take-append-drop, Vec, Global, String, negsuc, ◌-ℤ◌}
 use Rattle.std.specs.Prelude.{IsUtf8, string_bytes}
 use Rattle.std.specs.Int.{bytes_high_first}
 use Rattle.std.proofs.Math.Seq.{take-append_seam, drop-append_seam}
@@ -10,8 +10,8 @@ use Rattle.cbor4ii_rw.specs.Reader.{Advances, KeepsAllButBudget, StepsIn, step_b
 use Rattle.cbor4ii_rw.specs.declared.error.DecodeError.{DecodeError}
 use Rattle.cbor4ii_rw.specs.declared.error.Len.TheVariants.{Small}
 use Rattle.cbor4ii_items.specs.Refusal.{Refusal, refusal_of, is_read, is_depth_overflow, eof, mismatch, not_canonical}
-use Rattle.cbor4ii_items.specs.Head.{Width, byte_count, HeadFits, additional, head, shortest}
-use Rattle.cbor4ii_items.specs.Heads.{ReadsHead, StopsHead}
+use Rattle.cbor4ii_items.specs.Head.{byte_count, HeadFits, additional, head, shortest}
+use Rattle.cbor4ii_items.specs.Heads.{ReadsHead}
 use Rattle.cbor4ii_items.specs.HeadLaws.{after_head, head_one, additional-lt, length-bytes_high_first}
 use Rattle.cbor4ii_items.specs.Fronts.{drop_more}
 use Rattle.cbor4ii_items.specs.Floats.{ReadsFloat, StopsFloat, float_bytes}
@@ -21,15 +21,14 @@ use Rattle.cbor4ii_items.specs.Reading.{Runs, peek_at}
 use Rattle.cbor4ii_items.specs.Shortest.{canonical_name, ReadsShortest, StopsShortest, shortest_refused, shortest_open, too_long, ReadsShortestString, StopsShortestString, length_refused, content_cut}
 use Rattle.cbor4ii_items.specs.Initial.{unsigned, negative, byte_string, text_string, Simple, simple_false, simple_true, simple_null, simple_undefined, simple_byte, Precision, half, single, double, precision_byte, precision_bytes}
 use Rattle.cbor4ii_items.specs.Laws.Steps.{moves_err}
-use Rattle.cbor4ii_tree.specs.declared.value.Value.{Value, Integer, Float, Bytes, Text, Array, Map, Tag}
+use Rattle.cbor4ii_tree.specs.declared.value.Value.{Value, Integer, Float, Bytes, Text, Array, Map}
 use Rattle.cbor4ii_tree.specs.declared.value.FloatBits.{FloatBits}
-use Rattle.cbor4ii_tree.specs.Tree.{Tree, Trees, no_trees, Pairs, no_pairs, int, string, array, map_of, tagged, simple, bits, count, pair_count, bytes, bytes_all, bytes_pairs}
-use Rattle.cbor4ii_tree.specs.Item.{integer, float, bytes_item, text, sequence, mapping, tag}
-use Rattle.cbor4ii_tree.specs.Meaning.{value}
-use Rattle.cbor4ii_tree.specs.Cost.{Budget, step_in, cost, greatest_cost, greatest_pair_cost}
+use Rattle.cbor4ii_tree.specs.Tree.{no_trees, no_pairs, int, string, array, map_of, tagged, simple, bits, count, bytes, bytes_all, bytes_pairs}
+use Rattle.cbor4ii_tree.specs.Item.{integer, float, sequence, mapping, tag}
+use Rattle.cbor4ii_tree.specs.Cost.{Budget, cost, greatest_cost, greatest_pair_cost}
 use Rattle.cbor4ii_tree.specs.Budgets.{fits_zero}
 use Rattle.cbor4ii_tree.specs.Binds.{is_err}
-use Rattle.cbor4ii_tree.specs.Refusal.{value_name, unsupported, require_utf8, depth_overflow}
+use Rattle.cbor4ii_tree.specs.Refusal.{value_name, unsupported}
 use Rattle.cbor4ii_tree.specs.Stops.{Stopping}
 use Rattle.cbor4ii_tree.specs.View.{view, items_view, members_view}
 use Rattle.cbor4ii_tree.specs.Does.{Accepting, Does}
@@ -39,9 +38,9 @@ use Rattle.cbor4ii_tree.proofs.Doing.{Reached, reached_start, reached_by, reache
 use Rattle.cbor4ii_tree.proofs.CanonicalSpelling.{shortest_fits}
 use Rattle.cbor4ii_tree.proofs.Costs.{below_from_HeadFits}
 use Rattle.cbor4ii_tree.proofs.Strict.{same_width, same_first}
-use Rattle.cbor4ii_tree.proofs.Exactly.{raised, fits_raise, lacks_behind, lacks_stepped, lacks_one, lacks_arm, Arm, one_head, behind_head, items_over, one_of_items, two_of_items, all_exactly, all_pairs_exactly, none_at_end, count_le, precision_major}
+use Rattle.cbor4ii_tree.proofs.Exactly.{raised, fits_raise, lacks_behind, lacks_stepped, lacks_one, lacks_arm, Arm, behind_head, items_over, one_of_items, two_of_items, all_exactly, all_pairs_exactly, none_at_end, count_le, precision_major}
 use Rattle.cbor4ii_tree.proofs.ValuingCalls.{Peeked, small_z, view-Integer, values-push}
-use Rattle.cbor4ii_tree.proofs.ValuingHeads.{negative_z, view-Tag, view-F16}
+use Rattle.cbor4ii_tree.proofs.ValuingHeads.{negative_z}
 use Rattle.cbor4ii_tree.proofs.ValuingSequences.{view-Array, values-push_pair}
 use Rattle.cbor4ii_tree.proofs.ValuingStrings.{view-Bytes, view-Text}
 use Rattle.cbor4ii_tree.proofs.Views.{view-Map}

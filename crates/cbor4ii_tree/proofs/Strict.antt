@@ -1,5 +1,5 @@
 -- A canonical tree is the one whose bytes are the canonical spelling of its value.
-use Rattle.std.proofs.Common.{◌≡◌, ◌≢◌, ℕ, suc, ◌+◌, ◌*◌, ◌^◌, ◌<◌, List, [], ◌∷◌, ◌++◌, length, Bool, true, false, cond, ltb, ltb-true, lt-ltb, pos, negsuc, refl, sym, ap, ap₂, ◌∙◌, subst, arith, append_assoc, append-nil}
+use Rattle.std.proofs.Common.{◌≡◌, ℕ, ◌+◌, ◌*◌, ◌^◌, ◌<◌, List, [], ◌∷◌, ◌++◌, length, true, false, ltb, ltb-true, lt-ltb, pos, negsuc, refl, sym, ap, ap₂, ◌∙◌, subst, arith, append_assoc}
 use Rattle.std.specs.Int.{bytes_high_first}
 use Rattle.std.proofs.lemmas.List.{append_cancel_left}
 use Rattle.std.specs.Prelude.{◌↔◌}
@@ -11,7 +11,7 @@ use Rattle.cbor4ii_tree.specs.Item.{Item, null, boolean, integer, float, bytes_i
 use Rattle.cbor4ii_tree.specs.Meaning.{value, values, member_values, number, content_item}
 use Rattle.cbor4ii_tree.specs.Cost.{cost, Budget}
 use Rattle.cbor4ii_tree.specs.Canonical.{canon, canon_cost, canon_tree, canon_trees, canon_pairs, integer_tree, with_bignums}
-use Rattle.cbor4ii_tree.specs.Strict.{Strict, StrictAll, StrictPairs, CanonicalTree, IsDecoded, SpellsStrictly, ReadsStrictly}
+use Rattle.cbor4ii_tree.specs.Strict.{Strict, StrictAll, StrictPairs, IsDecoded, SpellsStrictly, ReadsStrictly}
 use Rattle.cbor4ii_tree.specs.head_laws.Numbers.{info-additional}
 use Rattle.cbor4ii_tree.specs.part_laws.Again.{pair_split}
 use Rattle.cbor4ii_tree.specs.IgnoredLaws.{one_spelling}

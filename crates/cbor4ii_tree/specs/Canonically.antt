@@ -13,7 +13,6 @@ use Rattle.cbor4ii_tree.specs.Strict.{IsDecoded, SpellsStrictly, ReadsStrictly}
 use Rattle.cbor4ii_tree.specs.Strictly.{BeginsOne, Lacks}
 use Rattle.cbor4ii_tree.specs.Promises.{Answered, Refused}
 use Rattle.cbor4ii_tree.specs.View.{view}
-use Rattle.cbor4ii_tree.specs.declared.value.Value.{Value}
 use Rattle.cbor4ii_tree.specs.declared.decode_canonical.Canonical.{Canonical}
 
 -- the first n bytes are the canonical spelling of the value, in c steps
@@ -33,16 +32,28 @@ abbrev pub IsNotCanonical : Refusal → Type 0
 IsNotCanonical (not_canonical name) = Unit {0}
 IsNotCanonical _ = ⊥
 
--- what is accepted is a value that reading gives, its cost fits, and its canonical spelling begins
--- the bytes, and is taken
+-- what is accepted is a value of which a canonical tree that fits begins the bytes, and that is
+-- taken
 abbrev pub OnlyCanonical : {E : Type 0} → View → View → Result Canonical (DecodeError E) → Type 0
 OnlyCanonical old new answer = Told old.told (λ xs. IfOk answer (λ v.
+    (rest : List ℕ) × (new.told ≡ Some rest) × ReadsStrictly xs old.budget (view v.0) rest))
+
+-- such a value is accepted, and the bytes of that tree are taken
+abbrev pub AllCanonical : {E : Type 0} → View → View → Result Canonical (DecodeError E) → Type 0
+AllCanonical old new answer = Told old.told (λ xs. (v : Item) (rest : List ℕ) →
+    ReadsStrictly xs old.budget v rest →
+    Answered (λ w. (view w.0 ≡ v) × (new.told ≡ Some rest)) (λ _. ⊥) answer)
+
+-- the same in other words: what is accepted is a value that reading gives, its cost fits, and its
+-- canonical spelling begins the bytes, and is taken
+abbrev pub TakesSpelling : {E : Type 0} → View → View → Result Canonical (DecodeError E) → Type 0
+TakesSpelling old new answer = Told old.told (λ xs. IfOk answer (λ v.
     (rest : List ℕ) × (new.told ≡ Some rest) × IsDecoded (view v.0)
     × CostFits (canon_cost (view v.0)) old.budget × (xs ≡ canon (view v.0) ++ rest)))
 
 -- such a value whose canonical spelling begins the bytes is accepted, and that spelling is taken
-abbrev pub AllCanonical : {E : Type 0} → View → View → Result Canonical (DecodeError E) → Type 0
-AllCanonical old new answer = Told old.told (λ xs. (v : Item) (rest : List ℕ) →
+abbrev pub EverySpelling : {E : Type 0} → View → View → Result Canonical (DecodeError E) → Type 0
+EverySpelling old new answer = Told old.told (λ xs. (v : Item) (rest : List ℕ) →
     IsDecoded v → CostFits (canon_cost v) old.budget → xs ≡ canon v ++ rest →
     Answered (λ w. (view w.0 ≡ v) × (new.told ≡ Some rest)) (λ _. ⊥) answer)
 

@@ -8,7 +8,7 @@ use Rattle.cbor4ii_tree.specs.Does.{Accepting}
 use Rattle.cbor4ii_tree.specs.Tree.{Tree, Trees, Pairs, count, pair_count, bytes, bytes_all, bytes_pairs}
 use Rattle.cbor4ii_tree.specs.Meaning.{value, values, member_values}
 use Rattle.cbor4ii_tree.specs.Cost.{Budget, cost}
-use Rattle.cbor4ii_tree.specs.Refusal.{Refusal, eof, depth_overflow}
+use Rattle.cbor4ii_tree.specs.Refusal.{eof, depth_overflow}
 use Rattle.cbor4ii_tree.specs.Stops.{Stopping, Each, EachPair}
 use Rattle.cbor4ii_tree.specs.Strict.{CanonicalTree}
 use Rattle.cbor4ii_tree.specs.View.{view, items_view, members_view}

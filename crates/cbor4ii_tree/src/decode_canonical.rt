@@ -7,6 +7,8 @@ ghost use Rattle.cbor4ii_tree.specs.Canonically.{
   StopsCanonical,
   OnlyCanonical,
   AllCanonical,
+  TakesSpelling,
+  EverySpelling,
   FrontCanonical,
   EofCanonical,
   DepthCanonical,
@@ -100,6 +102,8 @@ impl<S: Source> Decode<S> for Canonical {
 
         ensures only { OnlyCanonical (S.view reader.old) (S.view reader.new) result }
         ensures all { AllCanonical (S.view reader.old) (S.view reader.new) result }
+        ensures spelling { TakesSpelling (S.view reader.old) (S.view reader.new) result }
+        ensures every { EverySpelling (S.view reader.old) (S.view reader.new) result }
         ensures front { FrontCanonical (S.view reader.old) result }
         ensures eof { EofCanonical (S.view reader.old) (S.view reader.new) result }
         ensures depth { DepthCanonical (S.view reader.old) result }

@@ -1,8 +1,8 @@
-use Rattle.std.proofs.Common.{inl, refl, ap, subst, sym, ◌∙◌, ◌+◌, ◌*◌, ◌∷◌, ◌≡◌, arith}
+use Rattle.std.proofs.Common.{refl, ap, subst, ◌∙◌, ◌+◌, ◌*◌, ◌≡◌, arith}
 use Rattle.std.proofs.Common.{Vec, Global}
 use Rattle.std.proofs.lemmas.Result.{err_from_is_err_and}
 use Rattle.std.proofs.lemmas.Str.{IsUtf8-string_bytes}
-use Rattle.cbor4ii_tree.specs.declared.value.Value.{Value, Array, Map, Tag, Bytes, Text, Integer}
+use Rattle.cbor4ii_tree.specs.declared.value.Value.{Value, Array, Map, Tag, Bytes, Text}
 use Rattle.cbor4ii_tree.specs.Item.{tag}
 use Rattle.cbor4ii_tree.specs.View.{view}
 use Rattle.cbor4ii_tree.specs.Refusal.{array_name, map_name, tag_name, value_name, sign_name, kind_name}

@@ -1,6 +1,6 @@
 use Rattle.std.proofs.lemmas.Result.{err_from_is_err_and}
 use Rattle.cbor4ii_items.specs.Laws.Steps.{moves_ok, moves_err}
-use Rattle.cbor4ii_tree.proofs.CanonicalDecoding.{canonical_sound, canonical_only, canonical_all, canonical_front, canonical_refuses, canonical_stops, refused_all, refused_front, refused_eof, refused_depth, refused_never}
+use Rattle.cbor4ii_tree.proofs.CanonicalDecoding.{canonical_sound, canonical_only, canonical_all, canonical_spelling, canonical_every, canonical_front, canonical_refuses, canonical_stops, refused_all, refused_every, refused_front, refused_eof, refused_depth, refused_never}
 use Rattle.cbor4ii_tree.proofs.decode_canonical.CanonicalDecode.decode.Goals as goal
 
 pub returns-clause-sound : goal.returns-clause-sound
@@ -57,3 +57,14 @@ pub returns-in_err-read_one-clause-moves : goal.returns-in_err-read_one-clause-m
 returns-in_err-read_one-clause-moves g c =
     let p = err_from_is_err_and c.from_residual.result c.from_residual.ensures.1 in
     rw (p.1, p.2) (moves_err c.in_err-read_one.ensures.does.moves)
+
+pub returns-clause-spelling : goal.returns-clause-spelling
+returns-clause-spelling g c = canonical_spelling c.in_ok-read_one.ensures.does
+
+pub returns-clause-every : goal.returns-clause-every
+returns-clause-every g c = canonical_every c.in_ok-read_one.ensures.does
+
+pub returns-in_err-read_one-clause-every : goal.returns-in_err-read_one-clause-every
+returns-in_err-read_one-clause-every g c =
+    let p = err_from_is_err_and c.from_residual.result c.from_residual.ensures.1 in
+    rw (p.1, p.2) (refused_every c.in_err-read_one.ensures.does)
