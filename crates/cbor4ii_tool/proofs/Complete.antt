@@ -14,7 +14,7 @@ use Rattle.cbor4ii_tool.specs.Item.{Converts, BeginsItem, IsRow, together}
 use Rattle.cbor4ii_tool.specs.Run.{FaultAt, Runs, Completes, IsExcused}
 use Rattle.cbor4ii_tool.specs.Fault.{Outcome}
 use Rattle.cbor4ii_tool.specs.declared.command.Command.{Command}
-use Rattle.cbor4ii_tool.specs.declared.command.Command.TheVariants.{Ints, Canon, Lens}
+use Rattle.cbor4ii_tool.specs.declared.command.Command.TheVariants.{Ints, Canon, Lens, Strict}
 use Rattle.cbor4ii_tool.specs.declared.fault.Kind.{Kind}
 use Rattle.cbor4ii_tool.specs.declared.fault.Kind.TheVariants.{Read, OutOfMemory, Write}
 use Rattle.cbor4ii_tool.proofs.Integers.{one_head}
@@ -39,6 +39,15 @@ one_item Canon input text rest other left (v, P, s) (w, Q, t) =
     let same = one_spelling p.spelled q.spelled rest left p.plain.0 q.plain.0 whole in
     let value_is : v ≡ w = sym p.value_is ∙ (ap value same.0 ∙ q.value_is) in
     (s ∙ (ap canon value_is ∙ sym t), same.1)
+one_item Strict input text rest other left (v, P, s) (w, Q, t) =
+    let p = P.spells in
+    let q = Q.spells in
+    let whole : bytes p.spelled ++ rest ≡ bytes q.spelled ++ left =
+    ap (λ xs. xs ++ rest) p.bytes_are
+    ∙ (sym P.begins ∙ (Q.begins ∙ ap (λ xs. xs ++ left) (sym q.bytes_are))) in
+    let same = one_spelling p.spelled q.spelled rest left p.canonical.0.0 q.canonical.0.0 whole in
+    let value_is : v ≡ w = sym p.value_is ∙ (ap value same.0 ∙ q.value_is) in
+    (s ∙ (ap canon value_is ∙ sym t), same.1)
 one_item Lens input text rest other left (t, P, s) (u, Q, r) =
     let same = one_spelling t u rest left P.loose Q.loose (sym P.begins ∙ Q.begins) in
     (s ∙ (ap (λ (t : Tree). decimal (length (bytes t)) ++ 10 ∷ []) same.0 ∙ sym r), same.1)
@@ -51,6 +60,10 @@ nothing_is [] rest some e = absurd (omega (arith, some))
 none_of_nothing : (command : Command) (text rest : List ℕ) → Converts command [] text rest → ⊥
 none_of_nothing Ints text rest (p, P, e, s) = cc
 none_of_nothing Canon text rest (v, P, s) =
+    nothing_is P.spelling rest
+    (subst (λ (xs : List ℕ). 1 ≤ length xs) P.spells.bytes_are (length-bytes-pos P.spells.spelled))
+    P.begins
+none_of_nothing Strict text rest (v, P, s) =
     nothing_is P.spelling rest
     (subst (λ (xs : List ℕ). 1 ≤ length xs) P.spells.bytes_are (length-bytes-pos P.spells.spelled))
     P.begins

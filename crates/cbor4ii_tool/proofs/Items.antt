@@ -16,6 +16,9 @@ use Rattle.cbor4ii_tree.specs.Spelling.{Skips, Reads}
 use Rattle.cbor4ii_tree.specs.Canonical.{canon}
 use Rattle.cbor4ii_tree.specs.View.{view}
 use Rattle.cbor4ii_tree.specs.Promises.{AllReads, AllSkips}
+use Rattle.cbor4ii_tree.specs.Strict.{ReadsStrictly}
+use Rattle.cbor4ii_tree.specs.Canonically.{StopsCanonical, AllCanonical}
+use Rattle.cbor4ii_tree.specs.declared.decode_canonical.Canonical.{Canonical}
 use Rattle.cbor4ii_tree.specs.StopsReading.{StopsReading}
 use Rattle.cbor4ii_tree.specs.Ignored.{StopsIgnored}
 use Rattle.cbor4ii_tree.specs.declared.value.Value.{Value}
@@ -24,10 +27,10 @@ use Rattle.cbor4ii_tool.specs.Fault.{kind_of, kind_of_refusal}
 use Rattle.cbor4ii_tool.specs.Integer.{BeginsInteger}
 use Rattle.cbor4ii_tool.specs.Reading.{in_width, written_bytes, ReadsInteger, RefusesInteger}
 use Rattle.cbor4ii_tool.specs.Reading.{RefusesAt}
-use Rattle.cbor4ii_tool.specs.Item.{BeginsItem, StopsAs}
+use Rattle.cbor4ii_tool.specs.Item.{BeginsItem, StopsAs, TakesMemory}
 use Rattle.cbor4ii_tool.specs.Steps.{Leaves, Done, Fails}
 use Rattle.cbor4ii_tool.specs.declared.command.Command.{Command}
-use Rattle.cbor4ii_tool.specs.declared.command.Command.TheVariants.{Ints, Canon, Lens}
+use Rattle.cbor4ii_tool.specs.declared.command.Command.TheVariants.{Ints, Canon, Lens, Strict}
 use Rattle.cbor4ii_tool.specs.declared.fault.Kind.{Kind}
 use Rattle.cbor4ii_tool.specs.declared.fault.Kind.TheVariants.{Read, Mismatch, Eof, OutOfMemory}
 use Rattle.cbor4ii_tool.specs.declared.fault.Kind.TheVariants.{Write}
@@ -182,7 +185,7 @@ stop_named command stops xs budget e left lift is stop =
 pub refused_by : {V E : Type 0} (command : Command)
     (stops : List ℕ → Option ℕ → Refusal → List ℕ → Type 0) (error : DecodeError E) (a b : View)
     (held : Output) → a.budget ≡ Some 256 → Moves {V = V} a b (Err error)
-    → (IsTrue (is_out_of_memory error) → command ≡ Canon) → StopsBy stops a b error
+    → (IsTrue (is_out_of_memory error) → TakesMemory command) → StopsBy stops a b error
     → Told a.told (λ xs. IfSome (refusal_of error) (λ _. ¬ (BeginsItem command xs)))
     → ((xs : List ℕ) (e : Refusal) (rest : List ℕ) → stops xs (Some 256) e rest
     → StopsAs command (kind_of_refusal e) xs) → Fails command (kind_of error) a b held held
@@ -227,7 +230,7 @@ pub value_fails : {E : Type 0} (error : DecodeError E) (a b : View) (held : Outp
     → a.budget ≡ Some 256 → Moves {V = Value} a b (Err error) → StopsBy StopsReading a b error
     → AllReads a b (Err error) → Fails Canon (kind_of error) a b held held
 value_fails error a b held budget moves stop all =
-    refused_by {V = Value} Canon StopsReading error a b held budget moves (λ _. refl) stop
+    refused_by {V = Value} Canon StopsReading error a b held budget moves (λ _. tt) stop
     (no_value error a b budget all) (λ xs e rest s. (e, rest, s, refl))
 
 pub value_done : (v : Value) (a b : View) (held holds : Output) → a.budget ≡ Some 256 → Kept a b
@@ -262,6 +265,59 @@ value_unwritten v a b held holds budget kept reads failed = (
     canon (view v),
     r.0,
     (view v, subst (λ (left : Option ℕ). Reads xs left (view v) r.0) budget r.2, refl),
+  ),
+)
+
+-- ---- values in their canonical spelling
+
+no_canonical : {E : Type 0} (error : DecodeError E) (a b : View) → a.budget ≡ Some 256
+    → AllCanonical a b (Err error)
+    → Told a.told (λ xs. IfSome (refusal_of error) (λ _. ¬ (BeginsItem Strict xs)))
+no_canonical (ReadError e) a b budget all xs told = tt
+no_canonical NoMemory a b budget all xs told = tt
+no_canonical _ a b budget all xs told =
+    λ (w, ys, (v, reads, is)).
+    all xs told v ys (subst (λ (left : Option ℕ). ReadsStrictly xs left v ys) (sym budget) reads)
+
+pub canonical_fails : {E : Type 0} (error : DecodeError E) (a b : View) (held : Output)
+    → a.budget ≡ Some 256 → Moves {V = Canonical} a b (Err error) → StopsBy StopsCanonical a b error
+    → AllCanonical a b (Err error) → Fails Strict (kind_of error) a b held held
+canonical_fails error a b held budget moves stop all =
+    refused_by {V = Canonical} Strict StopsCanonical error a b held budget moves (λ _. tt) stop
+    (no_canonical error a b budget all) (λ xs e rest s. (e, rest, s, refl))
+
+pub canonical_done : (v : Canonical) (a b : View) (held holds : Output) → a.budget ≡ Some 256 → Kept a b
+    → b.bound + 1 ≤ a.bound
+    → Told a.told (λ xs. (rest : List ℕ) × (b.told ≡ Some rest) × ReadsStrictly xs a.budget (view v.0) rest)
+    → Appends (canon (view v.0)) held.written holds.written → holds.failures ≡ held.failures
+    → Done Strict a b held holds
+canonical_done v a b held holds budget kept bound reads appends same = record {
+  kept = kept;
+  bound = bound;
+  failures = same;
+  item = λ xs told.
+      let r = reads xs told in
+      let value = subst (λ (left : Option ℕ). ReadsStrictly xs left (view v.0) r.0) budget r.2 in
+      record {
+        text = canon (view v.0);
+        rest = r.0;
+        left_is = r.1;
+        converts = (view v.0, value, refl);
+        written = appends;
+      };
+}
+
+pub canonical_unwritten : (v : Canonical) (a b : View) (held holds : Output) → a.budget ≡ Some 256
+    → Kept a b → Told a.told
+    (λ xs. (rest : List ℕ) × (b.told ≡ Some rest) × ReadsStrictly xs a.budget (view v.0) rest)
+    → Failed held.failures holds.failures → Fails Strict Write a b held holds
+canonical_unwritten v a b held holds budget kept reads failed = (
+  failed,
+  kept.failures,
+  λ xs told. let r = reads xs told in (
+    canon (view v.0),
+    r.0,
+    (view v.0, subst (λ (left : Option ℕ). ReadsStrictly xs left (view v.0) r.0) budget r.2, refl),
   ),
 )
 

@@ -6,13 +6,15 @@ use Rattle.cbor4ii_tree.specs.Tree.{Tree, bytes}
 use Rattle.cbor4ii_tree.specs.Item.{Item}
 use Rattle.cbor4ii_tree.specs.Canonical.{canon}
 use Rattle.cbor4ii_tree.specs.Spelling.{Reads, Skips}
+use Rattle.cbor4ii_tree.specs.Strict.{ReadsStrictly}
+use Rattle.cbor4ii_tree.specs.Canonically.{StopsCanonical}
 use Rattle.cbor4ii_tree.specs.StopsSkipping.{StopsSkipping}
 use Rattle.cbor4ii_tree.specs.StopsReading.{StopsReading}
 use Rattle.cbor4ii_tool.specs.Integer.{IntegerHead, IsInteger, spelling, shortest_spelling}
 use Rattle.cbor4ii_tool.specs.Fault.{kind_of_refusal}
 use Rattle.cbor4ii_tool.specs.Reading.{RefusesAt}
 use Rattle.cbor4ii_tool.specs.declared.command.Command.{Command}
-use Rattle.cbor4ii_tool.specs.declared.command.Command.TheVariants.{Ints, Canon, Lens}
+use Rattle.cbor4ii_tool.specs.declared.command.Command.TheVariants.{Ints, Canon, Lens, Strict}
 use Rattle.cbor4ii_tool.specs.declared.fault.Kind.{Kind}
 
 -- the steps that each item may take
@@ -27,6 +29,8 @@ Converts Ints input text rest =
     (item : IntegerHead) × IsInteger item × (input ≡ spelling item ++ rest)
     × (text ≡ shortest_spelling item)
 Converts Canon input text rest = (v : Item) × Reads input steps v rest × (text ≡ canon v)
+Converts Strict input text rest =
+    (v : Item) × ReadsStrictly input steps v rest × (text ≡ canon v)
 Converts Lens input text rest =
     (t : Tree) × Skips input steps t rest × (text ≡ decimal (length (bytes t)) ++ 10 ∷ [])
 
@@ -39,8 +43,16 @@ abbrev pub StopsAs : Command → Kind → List ℕ → Type 0
 StopsAs Ints kind input = RefusesAt kind input
 StopsAs Canon kind input =
     (e : Refusal) × (left : List ℕ) × StopsReading input steps e left × (kind ≡ kind_of_refusal e)
+StopsAs Strict kind input =
+    (e : Refusal) × (left : List ℕ) × StopsCanonical input steps e left × (kind ≡ kind_of_refusal e)
 StopsAs Lens kind input =
     (e : Refusal) × (left : List ℕ) × StopsSkipping input steps e left × (kind ≡ kind_of_refusal e)
+
+-- the items of the command are values, for which memory is taken
+abbrev pub TakesMemory : Command → Type 0
+TakesMemory Canon = Unit {0}
+TakesMemory Strict = Unit {0}
+TakesMemory _ = ⊥
 
 -- the input is items, one after another, for which these texts are written, and then the rest
 abbrev pub IsRow : Command → List (List ℕ) → List ℕ → List ℕ → Type 0

@@ -4,10 +4,9 @@ use Rattle.std.specs.Prelude.{Ok, Err, OnOk, IfErr, MatchResult}
 use Rattle.cbor4ii_rw.specs.View.{View}
 use Rattle.cbor4ii_rw.specs.Reader.{Failed}
 use Rattle.cbor4ii_rw.specs.Writer.{Output, Appends}
-use Rattle.cbor4ii_tool.specs.Item.{IsRow, BeginsItem, StopsAs, together}
+use Rattle.cbor4ii_tool.specs.Item.{IsRow, BeginsItem, StopsAs, TakesMemory, together}
 use Rattle.cbor4ii_tool.specs.Fault.{Outcome}
 use Rattle.cbor4ii_tool.specs.declared.command.Command.{Command}
-use Rattle.cbor4ii_tool.specs.declared.command.Command.TheVariants.{Canon}
 use Rattle.cbor4ii_tool.specs.declared.fault.Kind.{Kind}
 use Rattle.cbor4ii_tool.specs.declared.fault.Kind.TheVariants.{Read, OutOfMemory, Write}
 
@@ -51,7 +50,7 @@ Completes command input old new outcome =
 
 -- memory is wanted by values alone
 abbrev pub WantsMemory : Command → Kind → Type 0
-WantsMemory command OutOfMemory = command ≡ Canon
+WantsMemory command OutOfMemory = TakesMemory command
 WantsMemory command _ = Unit {0}
 
 -- Whom a fault blames: the reader failed where the kind is `Read`, and only there; where it is

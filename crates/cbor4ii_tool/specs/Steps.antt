@@ -5,10 +5,9 @@ use Rattle.cbor4ii_rw.specs.View.{View, Told}
 use Rattle.cbor4ii_rw.specs.Reader.{Failed}
 use Rattle.cbor4ii_rw.specs.Writer.{Output, Appends, one_more}
 use Rattle.cbor4ii_items.specs.Moves.{Kept, EndsOrForgets}
-use Rattle.cbor4ii_tool.specs.Item.{Converts, BeginsItem, StopsAs, IsRow, together}
+use Rattle.cbor4ii_tool.specs.Item.{Converts, BeginsItem, StopsAs, TakesMemory, IsRow, together}
 use Rattle.cbor4ii_tool.specs.Fault.{Outcome}
 use Rattle.cbor4ii_tool.specs.declared.command.Command.{Command}
-use Rattle.cbor4ii_tool.specs.declared.command.Command.TheVariants.{Canon}
 use Rattle.cbor4ii_tool.specs.declared.fault.Kind.{Kind}
 use Rattle.cbor4ii_tool.specs.declared.fault.Kind.TheVariants.{Read, OutOfMemory, Write}
 
@@ -44,7 +43,7 @@ Fails command Write old new held holds =
     Failed held.failures holds.failures × (new.failures ≡ old.failures)
     × Told old.told (BeginsItem command)
 Fails command OutOfMemory old new held holds =
-    (command ≡ Canon) × (new.failures ≡ old.failures) × (holds ≡ held)
+    TakesMemory command × (new.failures ≡ old.failures) × (holds ≡ held)
 Fails command kind old new held holds =
     (new.failures ≡ old.failures) × (holds ≡ held)
     × Told old.told (λ xs. StopsAs command kind xs × ¬ (BeginsItem command xs))

@@ -19,11 +19,14 @@ pub fn command(words: &[String]) -> Option<Command>
         (map string_bytes words.now ≡ codes "canon" ∷ []) }
     ensures lens { (result ≡ Some Command.Lens) ↔
         (map string_bytes words.now ≡ codes "lens" ∷ []) }
+    ensures strict { (result ≡ Some Command.Strict) ↔
+        (map string_bytes words.now ≡ codes "strict" ∷ []) }
 {
     match words {
         [word] if word.as_str() == "ints" => Some(Command::Ints),
         [word] if word.as_str() == "canon" => Some(Command::Canon),
         [word] if word.as_str() == "lens" => Some(Command::Lens),
+        [word] if word.as_str() == "strict" => Some(Command::Strict),
         _ => None,
     }
 }

@@ -9,4 +9,6 @@ pub enum Command {
     Canon,
     /// Of each item its length in bytes is written, in decimal and with a newline.
     Lens,
+    /// Values in their canonical spelling, and no other, are written again.
+    Strict,
 }

@@ -2,7 +2,7 @@
 ghost use Rattle.std.specs.Prelude.{◌≡◌, Some, IfErr, OnOk};
 ghost use Rattle.cbor4ii_rw.specs.Stream.{stream_view};
 ghost use Rattle.cbor4ii_tool.specs.Steps.{Leaves, Done, Fails};
-ghost use Rattle.cbor4ii_tool.specs.declared.command.Command.TheVariants.{Ints, Canon, Lens};
+ghost use Rattle.cbor4ii_tool.specs.declared.command.Command.TheVariants.{Ints, Canon, Lens, Strict};
 
 use crate::command::Command;
 use crate::fault::Kind;
@@ -12,7 +12,7 @@ use cbor4ii_items::encode::Encode;
 use cbor4ii_rw::io_reader::IoReader;
 use cbor4ii_rw::read::Source;
 use cbor4ii_rw::write::Write;
-use cbor4ii_tree::{IgnoredAny, Value};
+use cbor4ii_tree::{Canonical, IgnoredAny, Value};
 use std::alloc::Global;
 use std::io::BufRead;
 
@@ -40,6 +40,7 @@ pub fn convert<R: BufRead, W: Write>(
         Command::Ints => integer(alloc, reader, writer),
         Command::Canon => value(alloc, reader, writer),
         Command::Lens => length(alloc, reader, writer),
+        Command::Strict => canonical(alloc, reader, writer),
     }
 }
 
@@ -73,6 +74,26 @@ fn value<S: Source, W: Write>(alloc: Global, reader: &mut S, writer: &mut W) -> 
         Err(error) => return Err(Kind::of(&error)),
     };
     match item.encode(writer) {
+        Ok(()) => Ok(()),
+        Err(_) => Err(Kind::Write),
+    }
+}
+
+// A value in its canonical spelling, written again.
+#[tactic(auto, using(crate::proofs::Items::moves_leaves))]
+fn canonical<S: Source, W: Write>(alloc: Global, reader: &mut S, writer: &mut W) -> Result<(), Kind>
+    requires { (S.view reader.old).budget ≡ Some 256 }
+    ensures done { OnOk result (Done Strict (S.view reader.old) (S.view reader.new)
+        (W.view writer.old) (W.view writer.new)) }
+    ensures fails { IfErr result (λ kind. Fails Strict kind (S.view reader.old) (S.view reader.new)
+        (W.view writer.old) (W.view writer.new)) }
+    ensures leaves { Leaves (S.view reader.old) (S.view reader.new) }
+{
+    let item = match Canonical::decode(alloc, reader) {
+        Ok(item) => item,
+        Err(error) => return Err(Kind::of(&error)),
+    };
+    match item.0.encode(writer) {
         Ok(()) => Ok(()),
         Err(_) => Err(Kind::Write),
     }

@@ -26,7 +26,8 @@ use std::io::{self, BufRead};
 /// `Command::Ints` takes integers (major types 0 and 1 of RFC 8949 section 3.1) of any width, and
 /// writes each with its shortest argument (section 4.2.1). `Command::Canon` takes values, and
 /// writes each in its canonical spelling. `Command::Lens` skips items, and writes the length of
-/// each in bytes, in decimal and with a newline. Each item may take 256 steps. An input of at most
+/// each in bytes, in decimal and with a newline. `Command::Strict` takes values in their canonical
+/// spelling, and no other, and writes each again. Each item may take 256 steps. An input of at most
 /// 2^64-1 bytes is read whole. Memory is taken for values alone, one at a time.
 ///
 /// # Errors

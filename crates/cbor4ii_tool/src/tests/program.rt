@@ -36,6 +36,7 @@ fn rows(rt: HostRuntime) -> io::Result<()> {
             Command::Ints => "ints",
             Command::Canon => "canon",
             Command::Lens => "lens",
+            Command::Strict => "strict",
         };
         let words = words(rt.alloc(), &[name])?;
         let mut output = Output::new(rt.alloc())?;
@@ -83,7 +84,7 @@ fn other_words_name_no_command(rt: HostRuntime) -> io::Result<()> {
         &["int"],
         &["ints "],
         &["Canon"],
-        &["strict"],
+        &["strictly"],
         &["ints", "ints"],
         &["canon", "lens"],
         &["", "lens"],

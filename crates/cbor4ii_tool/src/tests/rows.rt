@@ -45,7 +45,48 @@ impl Row {
     }
 }
 
-pub const ROWS: [Row; 19] = [
+pub const ROWS: [Row; 23] = [
+    Row {
+        command: Command::Strict,
+        input: b"\x05\x18\x05",
+        written: b"\x05",
+        fault: Some(Fault {
+            at: 1,
+            kind: Kind::NotCanonical,
+        }),
+        errors: b"fault at 1: NotCanonical\n",
+        items: &[(0, 0), (1, 1)],
+    },
+    Row {
+        command: Command::Strict,
+        input: b"\xa2\x01\x02\x01\x03\xc2\x41\x00\xf6",
+        written: b"\xa2\x01\x02\x01\x03\xc2\x41\x00\xf6",
+        fault: None,
+        errors: b"",
+        items: &[(0, 0), (5, 5), (8, 8), (9, 9)],
+    },
+    Row {
+        command: Command::Strict,
+        input: b"\x00\xf7",
+        written: b"\x00",
+        fault: Some(Fault {
+            at: 1,
+            kind: Kind::NotCanonical,
+        }),
+        errors: b"fault at 1: NotCanonical\n",
+        items: &[(0, 0), (1, 1)],
+    },
+    Row {
+        command: Command::Strict,
+        input: b"\xf8\x14",
+        written: b"",
+        fault: Some(Fault {
+            at: 0,
+            kind: Kind::Unsupported,
+        }),
+        errors: b"fault at 0: Unsupported\n",
+        items: &[(0, 0)],
+    },
     Row {
         command: Command::Canon,
         input: b"\x18\x05\x9f\x01\xff\x1c",

@@ -34,3 +34,11 @@ returns-in-len1-3-clause-lens c = (
       ∙ (bytes_eq-Decides _ _).0 (sym c.eq-then-words-lt2-2.ensures ∙ c.if-eq-3.true)),
   λ _. refl,
 )
+
+pub returns-in-len1-4-clause-strict : goal.returns-in-len1-4-clause-strict
+returns-in-len1-4-clause-strict c = (
+  λ _. one_text _ _ _ c.in-len1.len_at_least c.in-len1.len_below c.word-item-then-words-lt2-3.is
+      (sym c.as_str-then-words-lt2-3.ensures.value
+      ∙ (bytes_eq-Decides _ _).0 (sym c.eq-then-words-lt2-3.ensures ∙ c.if-eq-4.true)),
+  λ _. refl,
+)
