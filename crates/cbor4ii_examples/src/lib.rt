@@ -5,6 +5,8 @@
 #![tactic(auto)]
 
 #[cfg(test)]
+mod canonical;
+#[cfg(test)]
 mod depth;
 pub mod examples;
 #[cfg(test)]
