@@ -15,7 +15,12 @@ ghost use Rattle.std.specs.Prelude.{
 ghost use Rattle.std.specs.Borrow.{sem, RestsIfErr};
 ghost use Rattle.cbor4ii_items.specs.Numbers.{shortest_head};
 ghost use Rattle.cbor4ii_ser.specs.contracts.serializer.Serializer.{the_row};
-ghost use Rattle.cbor4ii_ser.specs.Collecting.{bounded_left, bounded_keyed, bounded_output, bounded_lender};
+ghost use Rattle.cbor4ii_ser.specs.Collecting.{
+  bounded_left,
+  bounded_keyed,
+  bounded_output,
+  bounded_lender,
+};
 ghost use Rattle.cbor4ii_ser.specs.Item.{field, variant_head};
 ghost use Rattle.cbor4ii_ser.specs.Serializing.{Serializes, output};
 
@@ -104,7 +109,8 @@ impl<W: Write> Serializer<W> {
         ensures same_reference { IfOk result (λ c. bounded_lender c ≡ self.entry.ghost_name) }
         ensures left { IfOk result (λ c. bounded_left c ≡ len) }
         ensures keyed { IfOk result (λ c. bounded_keyed c ≡ false) }
-        ensures head { IfOk result (λ c. Serializes W.whole (Some (variant_head variant.now ++ shortest_head 4 len))
+        ensures head { IfOk result (λ c. Serializes W.whole
+            (Some (variant_head variant.now ++ shortest_head 4 len))
             (output W.view self.old) (bounded_output W.view c) result) }
     {
         self.tuple_variant_head(variant, len)?;
@@ -158,7 +164,8 @@ impl<W: Write> Serializer<W> {
         ensures same_reference { IfOk result (λ c. bounded_lender c ≡ self.entry.ghost_name) }
         ensures left { IfOk result (λ c. bounded_left c ≡ len) }
         ensures keyed { IfOk result (λ c. bounded_keyed c ≡ true) }
-        ensures head { IfOk result (λ c. Serializes W.whole (Some (variant_head variant.now ++ shortest_head 5 len))
+        ensures head { IfOk result (λ c. Serializes W.whole
+            (Some (variant_head variant.now ++ shortest_head 5 len))
             (output W.view self.old) (bounded_output W.view c) result) }
     {
         self.struct_variant_head(variant, len)?;

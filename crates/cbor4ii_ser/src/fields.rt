@@ -20,8 +20,8 @@ impl<W: Write> Serializer<W> {
         _name: &str,
         first: (&str, &A),
     ) -> Result<(), EncodeError<W::Error>>
-        ensures { Serializes W.whole (struct_item (field first.entry.0.now (A.item first.entry.1.now)
-            ∷ []))
+        ensures { Serializes W.whole (struct_item
+            (field first.entry.0.now (A.item first.entry.1.now) ∷ []))
             (output W.view self.old) (output W.view self.new) result }
     {
         self.map_head(1)?;
@@ -37,9 +37,9 @@ impl<W: Write> Serializer<W> {
         first: (&str, &A),
         second: (&str, &B),
     ) -> Result<(), EncodeError<W::Error>>
-        ensures { Serializes W.whole (struct_item (field first.entry.0.now (A.item first.entry.1.now)
-            ∷ field second.entry.0.now (B.item second.entry.1.now)
-            ∷ []))
+        ensures { Serializes W.whole (struct_item
+            (field first.entry.0.now (A.item first.entry.1.now)
+            ∷ field second.entry.0.now (B.item second.entry.1.now) ∷ []))
             (output W.view self.old) (output W.view self.new) result }
     {
         self.map_head(2)?;
@@ -57,10 +57,10 @@ impl<W: Write> Serializer<W> {
         second: (&str, &B),
         third: (&str, &C),
     ) -> Result<(), EncodeError<W::Error>>
-        ensures { Serializes W.whole (struct_item (field first.entry.0.now (A.item first.entry.1.now)
+        ensures { Serializes W.whole (struct_item
+            (field first.entry.0.now (A.item first.entry.1.now)
             ∷ field second.entry.0.now (B.item second.entry.1.now)
-            ∷ field third.entry.0.now (C.item third.entry.1.now)
-            ∷ []))
+            ∷ field third.entry.0.now (C.item third.entry.1.now) ∷ []))
             (output W.view self.old) (output W.view self.new) result }
     {
         self.map_head(3)?;
@@ -80,11 +80,11 @@ impl<W: Write> Serializer<W> {
         third: (&str, &C),
         fourth: (&str, &D),
     ) -> Result<(), EncodeError<W::Error>>
-        ensures { Serializes W.whole (struct_item (field first.entry.0.now (A.item first.entry.1.now)
+        ensures { Serializes W.whole (struct_item
+            (field first.entry.0.now (A.item first.entry.1.now)
             ∷ field second.entry.0.now (B.item second.entry.1.now)
             ∷ field third.entry.0.now (C.item third.entry.1.now)
-            ∷ field fourth.entry.0.now (D.item fourth.entry.1.now)
-            ∷ []))
+            ∷ field fourth.entry.0.now (D.item fourth.entry.1.now) ∷ []))
             (output W.view self.old) (output W.view self.new) result }
     {
         self.map_head(4)?;
@@ -106,12 +106,12 @@ impl<W: Write> Serializer<W> {
         fourth: (&str, &D),
         fifth: (&str, &E),
     ) -> Result<(), EncodeError<W::Error>>
-        ensures { Serializes W.whole (struct_item (field first.entry.0.now (A.item first.entry.1.now)
+        ensures { Serializes W.whole (struct_item
+            (field first.entry.0.now (A.item first.entry.1.now)
             ∷ field second.entry.0.now (B.item second.entry.1.now)
             ∷ field third.entry.0.now (C.item third.entry.1.now)
             ∷ field fourth.entry.0.now (D.item fourth.entry.1.now)
-            ∷ field fifth.entry.0.now (E.item fifth.entry.1.now)
-            ∷ []))
+            ∷ field fifth.entry.0.now (E.item fifth.entry.1.now) ∷ []))
             (output W.view self.old) (output W.view self.new) result }
     {
         self.map_head(5)?;
@@ -142,13 +142,13 @@ impl<W: Write> Serializer<W> {
         fifth: (&str, &E),
         sixth: (&str, &F),
     ) -> Result<(), EncodeError<W::Error>>
-        ensures { Serializes W.whole (struct_item (field first.entry.0.now (A.item first.entry.1.now)
+        ensures { Serializes W.whole (struct_item
+            (field first.entry.0.now (A.item first.entry.1.now)
             ∷ field second.entry.0.now (B.item second.entry.1.now)
             ∷ field third.entry.0.now (C.item third.entry.1.now)
             ∷ field fourth.entry.0.now (D.item fourth.entry.1.now)
             ∷ field fifth.entry.0.now (E.item fifth.entry.1.now)
-            ∷ field sixth.entry.0.now (F.item sixth.entry.1.now)
-            ∷ []))
+            ∷ field sixth.entry.0.now (F.item sixth.entry.1.now) ∷ []))
             (output W.view self.old) (output W.view self.new) result }
     {
         self.map_head(6)?;
@@ -170,8 +170,8 @@ impl<W: Write> Serializer<W> {
         variant: &str,
         first: (&str, &A),
     ) -> Result<(), EncodeError<W::Error>>
-        ensures { Serializes W.whole (variant_item variant.now (struct_item (field first.entry.0.now (A.item first.entry.1.now)
-            ∷ [])))
+        ensures { Serializes W.whole (variant_item variant.now (struct_item
+            (field first.entry.0.now (A.item first.entry.1.now) ∷ [])))
             (output W.view self.old) (output W.view self.new) result }
     {
         self.variant_head(variant)?;
@@ -189,9 +189,9 @@ impl<W: Write> Serializer<W> {
         first: (&str, &A),
         second: (&str, &B),
     ) -> Result<(), EncodeError<W::Error>>
-        ensures { Serializes W.whole (variant_item variant.now (struct_item (field first.entry.0.now (A.item first.entry.1.now)
-            ∷ field second.entry.0.now (B.item second.entry.1.now)
-            ∷ [])))
+        ensures { Serializes W.whole (variant_item variant.now (struct_item
+            (field first.entry.0.now (A.item first.entry.1.now)
+            ∷ field second.entry.0.now (B.item second.entry.1.now) ∷ [])))
             (output W.view self.old) (output W.view self.new) result }
     {
         self.variant_head(variant)?;
@@ -210,10 +210,10 @@ impl<W: Write> Serializer<W> {
         second: (&str, &B),
         third: (&str, &C),
     ) -> Result<(), EncodeError<W::Error>>
-        ensures { Serializes W.whole (variant_item variant.now (struct_item (field first.entry.0.now (A.item first.entry.1.now)
+        ensures { Serializes W.whole (variant_item variant.now (struct_item
+            (field first.entry.0.now (A.item first.entry.1.now)
             ∷ field second.entry.0.now (B.item second.entry.1.now)
-            ∷ field third.entry.0.now (C.item third.entry.1.now)
-            ∷ [])))
+            ∷ field third.entry.0.now (C.item third.entry.1.now) ∷ [])))
             (output W.view self.old) (output W.view self.new) result }
     {
         self.variant_head(variant)?;
@@ -233,11 +233,11 @@ impl<W: Write> Serializer<W> {
         third: (&str, &C),
         fourth: (&str, &D),
     ) -> Result<(), EncodeError<W::Error>>
-        ensures { Serializes W.whole (variant_item variant.now (struct_item (field first.entry.0.now (A.item first.entry.1.now)
+        ensures { Serializes W.whole (variant_item variant.now (struct_item
+            (field first.entry.0.now (A.item first.entry.1.now)
             ∷ field second.entry.0.now (B.item second.entry.1.now)
             ∷ field third.entry.0.now (C.item third.entry.1.now)
-            ∷ field fourth.entry.0.now (D.item fourth.entry.1.now)
-            ∷ [])))
+            ∷ field fourth.entry.0.now (D.item fourth.entry.1.now) ∷ [])))
             (output W.view self.old) (output W.view self.new) result }
     {
         self.variant_head(variant)?;
@@ -255,7 +255,8 @@ impl<W: Write> Serializer<W> {
         first: &A,
         second: &B,
     ) -> Result<(), EncodeError<W::Error>>
-        ensures { Serializes W.whole (tuple_variant_item variant.now (A.item first.now ∷ B.item second.now ∷ []))
+        ensures { Serializes W.whole (tuple_variant_item variant.now
+            (A.item first.now ∷ B.item second.now ∷ []))
             (output W.view self.old) (output W.view self.new) result }
     {
         self.tuple_variant_head(variant, 2)?;
@@ -275,7 +276,8 @@ impl<W: Write> Serializer<W> {
         second: &B,
         third: &C,
     ) -> Result<(), EncodeError<W::Error>>
-        ensures { Serializes W.whole (tuple_variant_item variant.now (A.item first.now ∷ B.item second.now ∷ C.item third.now ∷ []))
+        ensures { Serializes W.whole (tuple_variant_item variant.now
+            (A.item first.now ∷ B.item second.now ∷ C.item third.now ∷ []))
             (output W.view self.old) (output W.view self.new) result }
     {
         self.tuple_variant_head(variant, 3)?;

@@ -94,18 +94,19 @@ fn maps_in_the_order_of_their_keys(rt: HostRuntime) -> Result<(), Fail> {
     writes(&rt, alloc, &outer, b"\xa1\x07\xa2\x61a\x01\x61b\x02")
 }
 
+type Written = Result<(), EncodeError<TryReserveError>>;
+
 #[test]
-fn each_call_of_a_serializer(rt: HostRuntime) -> Result<(), Fail> {
+fn calls_for_numbers(rt: HostRuntime) -> Result<(), Fail> {
     let mut ser = Serializer::new(BufWriter::new(Vec::new(rt.alloc())));
-    assert!(rt; leaves_by_calls(&mut ser).is_ok());
+    assert!(rt; numbers_by_calls(&mut ser).is_ok());
     assert!(rt; !ser.is_human_readable());
-    let expected =
-        b"\xf5\x20\x21\x22\x23\x24\x01\x02\x03\x04\x05\xf9\x00\x01\xfa\x00\x00\x00\x02\xfb\x00\x00\x00\x00\x00\x00\x00\x03\x61c\x62st\x42\x08\x09\xf6\x07\x80\x80\x64Unit\x06\xa1\x63New\x19\x09\x99";
-    assert_eq!(rt; ser.into_inner().buffer(), expected.as_slice());
+    let numbers = b"\xf5\x20\x21\x22\x23\x24\x01\x02\x03\x04\x05\xf9\x00\x01";
+    assert_eq!(rt; ser.into_inner().buffer(), numbers.as_slice());
     Ok(())
 }
 
-fn leaves_by_calls(ser: &mut Serializer<BufWriter>) -> Result<(), EncodeError<TryReserveError>> {
+fn numbers_by_calls(ser: &mut Serializer<BufWriter>) -> Written {
     ser.serialize_bool(true)?;
     ser.serialize_i8(-1)?;
     ser.serialize_i16(-2)?;
@@ -117,19 +118,45 @@ fn leaves_by_calls(ser: &mut Serializer<BufWriter>) -> Result<(), EncodeError<Tr
     ser.serialize_u32(3)?;
     ser.serialize_u64(4)?;
     ser.serialize_u128(5)?;
-    ser.serialize_f16(1)?;
+    ser.serialize_f16(1)
+}
+
+#[test]
+fn calls_for_other_leaves(rt: HostRuntime) -> Result<(), Fail> {
+    let mut ser = Serializer::new(BufWriter::new(Vec::new(rt.alloc())));
+    assert!(rt; leaves_by_calls(&mut ser).is_ok());
+    let leaves =
+        b"\xfa\x00\x00\x00\x02\xfb\x00\x00\x00\x00\x00\x00\x00\x03\x61c\x62st\x41\x08\xf6\x07\x80";
+    assert_eq!(rt; ser.into_inner().buffer(), leaves.as_slice());
+    Ok(())
+}
+
+fn leaves_by_calls(ser: &mut Serializer<BufWriter>) -> Written {
     ser.serialize_f32(2)?;
     ser.serialize_f64(3)?;
     ser.serialize_char('c')?;
     ser.serialize_str("st")?;
-    ser.serialize_bytes(b"\x08\x09")?;
+    ser.serialize_bytes(b"\x08")?;
     ser.serialize_none()?;
     ser.serialize_some(&7u8)?;
-    ser.serialize_unit()?;
+    ser.serialize_unit()
+}
+
+#[test]
+fn calls_for_variants(rt: HostRuntime) -> Result<(), Fail> {
+    let mut ser = Serializer::new(BufWriter::new(Vec::new(rt.alloc())));
+    assert!(rt; variants_by_calls(&mut ser).is_ok());
+    let variants = b"\x80\x64Unit\x06\xa1\x63New\x19\x09\x99\xa1\x61A\x60";
+    assert_eq!(rt; ser.into_inner().buffer(), variants.as_slice());
+    Ok(())
+}
+
+fn variants_by_calls(ser: &mut Serializer<BufWriter>) -> Written {
     ser.serialize_unit_struct("Nothing")?;
     ser.serialize_unit_variant("Enum", 0, "Unit")?;
     ser.serialize_newtype_struct("Wrapped", &6u8)?;
-    ser.serialize_newtype_variant("Enum", 1, "New", &0x999u32)
+    ser.serialize_newtype_variant("Enum", 1, "New", &0x999u32)?;
+    ser.serialize_newtype_variant("Letters", 0, "A", &"")
 }
 
 #[test]
@@ -145,19 +172,19 @@ fn collects(rt: HostRuntime) -> Result<(), Fail> {
     Ok(())
 }
 
-fn an_open_array(ser: &mut Serializer<BufWriter>) -> Result<(), EncodeError<TryReserveError>> {
+fn an_open_array(ser: &mut Serializer<BufWriter>) -> Written {
     let mut items = ser.serialize_seq(None)?;
     items.serialize_element(&1u8)?;
     items.end()
 }
 
-fn a_counted_array(ser: &mut Serializer<BufWriter>) -> Result<(), EncodeError<TryReserveError>> {
+fn a_counted_array(ser: &mut Serializer<BufWriter>) -> Written {
     let mut items = ser.serialize_seq(Some(1))?;
     items.serialize_element(&2u8)?;
     items.end()
 }
 
-fn an_open_map(ser: &mut Serializer<BufWriter>) -> Result<(), EncodeError<TryReserveError>> {
+fn an_open_map(ser: &mut Serializer<BufWriter>) -> Written {
     let mut entries = ser.serialize_map(None)?;
     entries.serialize_key(&3u8)?;
     entries.serialize_value(&4u8)?;
@@ -165,9 +192,7 @@ fn an_open_map(ser: &mut Serializer<BufWriter>) -> Result<(), EncodeError<TryRes
     entries.end()
 }
 
-fn a_tuple_and_its_variants(
-    ser: &mut Serializer<BufWriter>,
-) -> Result<(), EncodeError<TryReserveError>> {
+fn a_tuple_and_its_variants(ser: &mut Serializer<BufWriter>) -> Written {
     let mut items = ser.serialize_tuple(1)?;
     items.serialize_element(&7u8)?;
     items.end()?;
