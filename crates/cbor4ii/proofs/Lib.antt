@@ -13,3 +13,4 @@ pub mod Looking
 pub mod Units
 pub mod Going
 pub mod Entries
+pub mod Borrowing

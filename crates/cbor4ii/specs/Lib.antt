@@ -6,3 +6,4 @@ pub mod Tuples
 pub mod Sequence
 pub mod Built
 pub mod Accessing
+pub mod Borrowed

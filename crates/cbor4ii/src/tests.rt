@@ -323,8 +323,25 @@ fn the_value_at_the_front(rt: HostRuntime) -> Result<(), Fail> {
     let alloc = rt.alloc();
     let number: Result<u8, DecodeError<Never>> = from_slice(alloc, b"\x05\xff".as_slice());
     assert_eq!(rt; number, Ok(5));
+    let text: Result<&str, DecodeError<Never>> = from_slice(alloc, b"\x61a".as_slice());
+    same(&rt, alloc, text, &Ok("a"))?;
     let number: Result<u8, DecodeError<io::Error>> = from_reader(alloc, b"\x05\xff".as_slice());
     same(&rt, alloc, number, &Ok(5))
+}
+
+#[test]
+fn a_string_that_is_not_lent_is_refused(rt: HostRuntime) -> Result<(), Fail> {
+    let alloc = rt.alloc();
+    let refused = r#"Core(RequireBorrowed { name: "str" })"#;
+    let open: Result<&str, DecodeError<Never>> = from_slice(alloc, b"\x7f\x61a\xff".as_slice());
+    same(&rt, alloc, open, &Err(refused))?;
+    let text: Result<&str, DecodeError<io::Error>> = from_reader(alloc, b"\x61a".as_slice());
+    same(&rt, alloc, text, &Err(refused))?;
+    let refused = r#"Core(RequireBorrowed { name: "bytes" })"#;
+    let lent = <Bytes<&[u8]>>::deserialize(alloc, &mut over(b"\x42\x01\x02"));
+    same(&rt, alloc, lent, &Ok(Bytes(b"\x01\x02".as_slice())))?;
+    let open = <Bytes<&[u8]>>::deserialize(alloc, &mut over(b"\x5f\x41\x01\xff"));
+    same(&rt, alloc, open, &Err(refused))
 }
 
 #[test]

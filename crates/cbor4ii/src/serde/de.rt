@@ -1,6 +1,7 @@
 //! Typed values, read.
 
 pub mod accessor;
+mod borrowed;
 mod boxed;
 mod cow;
 pub mod deserialize;

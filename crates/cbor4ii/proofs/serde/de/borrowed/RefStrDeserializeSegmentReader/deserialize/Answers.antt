@@ -1,0 +1,16 @@
+use Rattle.std.proofs.Common.{refl, inl}
+use Rattle.cbor4ii_items.specs.StringLaws.{three_small}
+use Rattle.cbor4ii.proofs.Borrowing.{lent_moves, lent_progress, lent_sound, lent_refuses, text_apart, text_counted, text_lent, text_spelled}
+use Rattle.cbor4ii.proofs.serde.de.borrowed.RefStrDeserializeSegmentReader.deserialize.Goals as goal
+
+pub returns-clause-moves : goal.returns-clause-moves
+returns-clause-moves c = lent_moves _ _ _ _ _ c.decode-found.result c.lent_text.result _ _ c.lent_text.ensures c.decode-found.ensures.moves
+
+pub returns-clause-progress : goal.returns-clause-progress
+returns-clause-progress c some = lent_progress _ _ _ _ _ c.decode-found.result c.lent_text.result _ c.lent_text.ensures (c.decode-found.ensures.progress refl)
+
+pub returns-clause-sound : goal.returns-clause-sound
+returns-clause-sound c = lent_sound _ _ _ _ _ _ _ _ text_counted text_apart c.decode-found.result c.lent_text.result _ _ c.lent_text.ensures c.decode-found.ensures.sound c.decode-found.ensures.borrows
+
+pub returns-clause-complete : goal.returns-clause-complete
+returns-clause-complete c said exact = lent_refuses _ _ _ _ _ _ _ _ text_counted three_small text_apart text_lent text_spelled c.decode-found.result c.lent_text.result _ c.lent_text.ensures (c.decode-found.ensures.complete (inl refl)) c.decode-found.ensures.borrows exact

@@ -1,0 +1,17 @@
+-- Strings that are borrowed from the input.
+use Rattle.std.specs.Prelude.{◌≡◌, ℕ, List, Result, IfOk, IfErr, IsOkAnd, MatchResult}
+use denote.Ref.{Bor}
+use Rattle.cbor4ii_rw.specs.declared.error.DecodeError.{DecodeError as CoreError}
+use Rattle.cbor4ii_rw.specs.declared.error.DecodeError.TheVariants.{RequireBorrowed}
+use Rattle.cbor4ii.specs.declared.serde.de.error.DecodeError.{DecodeError}
+use Rattle.cbor4ii.specs.Typed.{as_core}
+
+-- the reader does not lend the bytes
+abbrev pub LacksLoan : {E : Type 0} → List ℕ → CoreError E → Type 0
+LacksLoan name error = (found : Bor (List ℕ)) × (error ≡ RequireBorrowed found) × (found.now ≡ name)
+
+-- A string that was borrowed is handed on with its content. One that was copied is refused, and so is what was refused
+-- before.
+pub record Borrows {V W E : Type 0} (content : V → List ℕ) (lent : W → List ℕ) (IsBorrowed IsOwned : V → Type 0) (name : List ℕ) (found : Result V (CoreError E)) (answer : Result W (DecodeError E)) : Type 0 where
+  pub handed : IfOk answer (λ w. IsOkAnd found (λ v. IsBorrowed v × (content v ≡ lent w)))
+  pub refused : IfErr answer (λ error. MatchResult found (λ v. IsOwned v × LacksLoan name (as_core error)) (λ before. as_core error ≡ before))

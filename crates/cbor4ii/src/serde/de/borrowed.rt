@@ -1,0 +1,183 @@
+//! Strings that are borrowed from the input. Each reader of `cbor4ii_rw` has them by name.
+ghost use Rattle.std.specs.Prelude.{◌≡◌, true, false, codes};
+ghost use Rattle.std.specs.Cow.{IsBorrowedStr, IsOwnedStr};
+ghost use Rattle.cbor4ii_items.specs.Cow.{cow_text, cow_bytes, IsBorrowedBytes, IsOwnedBytes};
+ghost use Rattle.cbor4ii_items.specs.Lent.{lent_str, lent_bytes};
+ghost use Rattle.cbor4ii_items.specs.LentLaws.{lent_one, lent_within, lent_positive};
+ghost use Rattle.cbor4ii_items.specs.StringLaws.{two_small, three_small};
+ghost use Rattle.cbor4ii.specs.Borrowed.{Borrows};
+
+use crate::serde::de::deserialize::{Deserialize, Typed};
+use crate::serde::de::deserializer::Deserializer;
+use crate::serde::de::error::DecodeError;
+use cbor4ii_items::decode::{Decode, Spelled};
+use cbor4ii_items::types::Bytes;
+use cbor4ii_rw::error as core_error;
+use cbor4ii_rw::error::Never;
+use cbor4ii_rw::io_reader::IoReader;
+use cbor4ii_rw::segment_reader::SegmentReader;
+use cbor4ii_rw::slice_reader::SliceReader;
+use std::alloc::Global;
+use std::borrow::{CowSlice, CowStr};
+use std::io;
+use std::io::BufRead;
+
+impl<'de> Typed for &'de str {
+    ghost reads = { ⟦<&'de str as Spelled>⟧.reads };
+
+    ghost same = { ⟦<&'de str as Spelled>⟧.same };
+
+    ghost never_empty = { true };
+
+    ghost owned = { false };
+
+    ghost takes_memory = { true };
+
+    ghost exact = { true };
+
+    fn is_never_empty() -> bool
+        ensures { result ≡ true }
+    {
+        true
+    }
+
+    fn is_owned() -> bool
+        ensures { result ≡ false }
+    {
+        false
+    }
+
+    ghost laws = { λ _. record {
+      one = lent_one 3 three_small true lent_str;
+      within = lent_within 3 three_small true lent_str;
+      positive = λ _. lent_positive 3 three_small true lent_str;
+    } };
+}
+
+/// A text of known length, as it stands in the input, with no copy. It is read as a `CowStr` is,
+/// and refused as that is. One that was copied, since its length is indefinite or the reader does
+/// not lend it, is `Core` of `RequireBorrowed` by the name "str", and was taken.
+impl<'de> Deserialize<SliceReader<'de>> for &'de str {
+    fn deserialize(
+        alloc: Global,
+        de: &mut Deserializer<SliceReader<'de>>,
+    ) -> Result<&'de str, DecodeError<Never>> {
+        let found = CowStr::decode(alloc, &mut de.reader);
+        lent_text(found)
+    }
+}
+
+impl<'de> Deserialize<SegmentReader<'de>> for &'de str {
+    fn deserialize(
+        alloc: Global,
+        de: &mut Deserializer<SegmentReader<'de>>,
+    ) -> Result<&'de str, DecodeError<Never>> {
+        let found = CowStr::decode(alloc, &mut de.reader);
+        lent_text(found)
+    }
+}
+
+impl<'de, R: BufRead + Drop> Deserialize<IoReader<R>> for &'de str {
+    fn deserialize(
+        alloc: Global,
+        de: &mut Deserializer<IoReader<R>>,
+    ) -> Result<&'de str, DecodeError<io::Error>> {
+        let found = CowStr::decode(alloc, &mut de.reader);
+        lent_text(found)
+    }
+}
+
+/// The text, where it was borrowed.
+fn lent_text<'de, E>(
+    found: Result<CowStr<'de, Global>, core_error::DecodeError<E>>,
+) -> Result<&'de str, DecodeError<E>>
+    ensures { Borrows cow_text lent_str IsBorrowedStr IsOwnedStr (codes "str") found.entry result }
+{
+    match found {
+        Ok(CowStr::Borrowed(text)) => Ok(text),
+        Ok(CowStr::Owned(_)) => Err(DecodeError::Core(core_error::DecodeError::RequireBorrowed {
+            name: "str",
+        })),
+        Err(error) => Err(DecodeError::Core(error)),
+    }
+}
+
+impl<'de> Typed for Bytes<&'de [u8]> {
+    ghost reads = { ⟦<Bytes<&'de [u8]> as Spelled>⟧.reads };
+
+    ghost same = { ⟦<Bytes<&'de [u8]> as Spelled>⟧.same };
+
+    ghost never_empty = { true };
+
+    ghost owned = { false };
+
+    ghost takes_memory = { true };
+
+    ghost exact = { true };
+
+    fn is_never_empty() -> bool
+        ensures { result ≡ true }
+    {
+        true
+    }
+
+    fn is_owned() -> bool
+        ensures { result ≡ false }
+    {
+        false
+    }
+
+    ghost laws = { λ _. record {
+      one = lent_one 2 two_small false lent_bytes;
+      within = lent_within 2 two_small false lent_bytes;
+      positive = λ _. lent_positive 2 two_small false lent_bytes;
+    } };
+}
+
+/// A byte string of known length, as it stands in the input: as a borrowed text, by the name
+/// "bytes".
+impl<'de> Deserialize<SliceReader<'de>> for Bytes<&'de [u8]> {
+    fn deserialize(
+        alloc: Global,
+        de: &mut Deserializer<SliceReader<'de>>,
+    ) -> Result<Bytes<&'de [u8]>, DecodeError<Never>> {
+        let found = <Bytes<CowSlice<'de, u8, Global>>>::decode(alloc, &mut de.reader);
+        lent_slice(found)
+    }
+}
+
+impl<'de> Deserialize<SegmentReader<'de>> for Bytes<&'de [u8]> {
+    fn deserialize(
+        alloc: Global,
+        de: &mut Deserializer<SegmentReader<'de>>,
+    ) -> Result<Bytes<&'de [u8]>, DecodeError<Never>> {
+        let found = <Bytes<CowSlice<'de, u8, Global>>>::decode(alloc, &mut de.reader);
+        lent_slice(found)
+    }
+}
+
+impl<'de, R: BufRead + Drop> Deserialize<IoReader<R>> for Bytes<&'de [u8]> {
+    fn deserialize(
+        alloc: Global,
+        de: &mut Deserializer<IoReader<R>>,
+    ) -> Result<Bytes<&'de [u8]>, DecodeError<io::Error>> {
+        let found = <Bytes<CowSlice<'de, u8, Global>>>::decode(alloc, &mut de.reader);
+        lent_slice(found)
+    }
+}
+
+/// The bytes, where they were borrowed.
+fn lent_slice<'de, E>(
+    found: Result<Bytes<CowSlice<'de, u8, Global>>, core_error::DecodeError<E>>,
+) -> Result<Bytes<&'de [u8]>, DecodeError<E>>
+    ensures { Borrows cow_bytes lent_bytes IsBorrowedBytes IsOwnedBytes (codes "bytes")
+        found.entry result }
+{
+    match found {
+        Ok(Bytes(CowSlice::Borrowed(bytes))) => Ok(Bytes(bytes)),
+        Ok(Bytes(CowSlice::Owned(_))) => Err(DecodeError::Core(
+            core_error::DecodeError::RequireBorrowed { name: "bytes" },
+        )),
+        Err(error) => Err(DecodeError::Core(error)),
+    }
+}
