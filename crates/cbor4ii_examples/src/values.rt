@@ -3,12 +3,15 @@ use crate::item_rows::reads_item;
 use crate::literal::Literal::{self, Array, Bool, Bytes, Float, Integer, Map, Null, Tag, Text};
 use crate::refusal_texts::eof;
 use crate::table::table;
+use cbor4ii_items::decode::Decode;
 use cbor4ii_items::encode::Encode;
+use cbor4ii_rw::error::DecodeError;
 use cbor4ii_rw::segment_reader::SegmentReader;
+use cbor4ii_rw::slice_reader::SliceReader;
 use cbor4ii_tree::FloatBits::{F16, F32, F64};
-use cbor4ii_tree::{NoMemory, Value};
+use cbor4ii_tree::{Canonical, NoMemory, Value};
 use cbor4ii_trials::readers::Unlimited;
-use cbor4ii_trials::rows::{Pair, Want, reads, reads_over, writes, writes_in};
+use cbor4ii_trials::rows::{Pair, Want, ends_at_each_front, reads, reads_over, writes, writes_in};
 use cbor4ii_trials::writers::FailingWriter;
 use std::alloc::{AllocError, Global};
 use std::test::Fail;
@@ -286,6 +289,7 @@ fn items_as_they_are_written(rt: HostRuntime) -> Result<(), Fail> {
     let alloc = rt.alloc();
     for (item, literal) in LEAVES.iter().chain(SEQUENCES) {
         reads_and_writes(alloc, item, literal, item)?;
+        reads_canonical(alloc, item, literal)?;
     }
     Ok(())
 }
@@ -295,6 +299,14 @@ fn other_spellings(rt: HostRuntime) -> Result<(), Fail> {
     let alloc = rt.alloc();
     for (item, literal, written) in SPELLINGS {
         reads_and_writes(alloc, item, literal, written)?;
+        let mut reader = SliceReader::new(item);
+        assert!(rt;
+            matches!(
+                Canonical::decode(alloc, &mut reader),
+                Err(DecodeError::NotCanonical { name: "canonical" })
+            ),
+            "{item:?}"
+        );
     }
     Ok(())
 }
@@ -305,6 +317,7 @@ fn bignums(rt: HostRuntime) -> Result<(), Fail> {
     for (literal, written, read_back) in BIGNUMS {
         writes(alloc, &literal.to_value(alloc)?, written)?;
         reads_and_writes(alloc, written, read_back, written)?;
+        reads_canonical(alloc, written, read_back)?;
     }
     Ok(())
 }
@@ -320,6 +333,12 @@ fn reads_and_writes(
     let value = literal.to_value(alloc)?;
     writes(alloc, &value, written)?;
     reads_over(alloc, &mut Unlimited::new(item), item, &Ok(value), b"")
+}
+
+// The item is the one spelling that is read as this value where no other is.
+fn reads_canonical(alloc: Global, item: &'static [u8], literal: &Literal) -> Result<(), Fail> {
+    reads(alloc, item, Ok(Canonical(literal.to_value(alloc)?)), b"")?;
+    ends_at_each_front::<Canonical>(alloc, item, 256)
 }
 
 #[test]

@@ -53,7 +53,7 @@ use std::alloc::Global;
 
 /// A value that is read from its canonical spelling alone, the one that encoders write (RFC 8949
 /// section 4.1). So two are equal exactly where their bytes are.
-#[derive(Debug, Drop)]
+#[derive(Debug, PartialEq, Eq, Drop)]
 pub struct Canonical(pub Value);
 
 impl Spelled for Canonical {
