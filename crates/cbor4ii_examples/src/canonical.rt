@@ -1,13 +1,10 @@
-//! Rows of values that are read from their canonical spelling alone, and of the two calls for heads
-//! and strings that are spelled so. What the rows of values spell so is read there.
+//! Rows of values that are read from their canonical spelling alone: what is refused. What is read
+//! stands among the rows of values.
 use crate::refusal_texts::{eof, mismatch, no_step, require_utf8, unsupported};
 use crate::table::table;
-use cbor4ii_items::canonical::{canonical_buf, canonical_head};
-use cbor4ii_rw::error::DecodeError;
-use cbor4ii_rw::read::Source;
 use cbor4ii_rw::slice_reader::SliceReader;
 use cbor4ii_tree::Canonical;
-use cbor4ii_trials::rows::{ReadFrom, Want, reads, reads_over};
+use cbor4ii_trials::rows::{Want, reads, reads_over};
 use std::alloc::Global;
 use std::test::Fail;
 
@@ -84,44 +81,4 @@ fn at_the_last_step(rt: HostRuntime) -> Result<(), Fail> {
     let no_step: Want<Canonical> = Err(no_step!("array"));
     let mut reader = SliceReader::new(&array);
     reads_over(alloc, &mut reader, &array, &no_step, b"\x9f\xff")
-}
-
-// A shortest head of major type 0.
-#[derive(Debug, PartialEq, Drop)]
-struct Unsigned(u64);
-
-impl<S: Source> ReadFrom<S> for Unsigned {
-    fn read_from(alloc: Global, reader: &mut S) -> Result<Unsigned, DecodeError<S::Error>> {
-        Ok(Unsigned(canonical_head("u64", 0, reader)?))
-    }
-}
-
-#[test]
-fn shortest_heads(rt: HostRuntime) -> Result<(), Fail> {
-    let alloc = rt.alloc();
-    reads(alloc, b"\x18\x18", Ok(Unsigned(24)), b"")?;
-    reads(alloc, b"\x17\x00", Ok(Unsigned(23)), b"\x00")?;
-    reads::<Unsigned>(alloc, b"\x18\x17\x00", Err(OTHER), b"\x00")?;
-    reads::<Unsigned>(alloc, b"\x1f", Err(mismatch!("u64", 31)), b"")?;
-    reads::<Unsigned>(alloc, b"\x19\x01", Err(eof!("u64", 2)), b"")
-}
-
-// A byte string behind a shortest head.
-#[derive(Debug, PartialEq, Drop)]
-struct Content(Vec<u8>);
-
-impl<S: Source> ReadFrom<S> for Content {
-    fn read_from(alloc: Global, reader: &mut S) -> Result<Content, DecodeError<S::Error>> {
-        Ok(Content(canonical_buf(alloc, "bytes", 2, reader)?))
-    }
-}
-
-#[test]
-fn strings_behind_shortest_heads(rt: HostRuntime) -> Result<(), Fail> {
-    let alloc = rt.alloc();
-    let content = Content(Vec::from_slice(alloc, &[1, 2])?);
-    reads(alloc, b"\x42\x01\x02", Ok(content), b"")?;
-    reads::<Content>(alloc, b"\x42\x01", Err(eof!("bytes", 1)), b"")?;
-    reads::<Content>(alloc, b"\x58\x01\x02", Err(OTHER), b"\x02")?;
-    reads::<Content>(alloc, b"\x5f\x40\xff", Err(OTHER), b"\x40\xff")
 }
