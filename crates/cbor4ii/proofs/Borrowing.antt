@@ -1,6 +1,6 @@
 -- Strings that are borrowed from the input, read as those that may be.
-use Rattle.std.proofs.Common.{◌≡◌, ℕ, ◌+◌, ◌<◌, ◌≤◌, ◌⊎◌, inl, inr, List, [], ◌∷◌, length, take, Option, Some, None, Bool, true, false, Result, Ok, Err, refl, sym, subst, IfSome, IfOk, IfErr}
-use Rattle.std.specs.Prelude.{OnOk, IsOkAnd, MatchResult, IsTrue, IsUtf8}
+use Rattle.std.proofs.Common.{◌≡◌, ℕ, ◌<◌, ◌⊎◌, inl, inr, List, [], ◌∷◌, length, take, Option, Some, None, Bool, true, false, Result, Ok, Err, refl, sym, subst, IfSome, IfOk, IfErr}
+use Rattle.std.specs.Prelude.{OnOk, IsTrue, IsUtf8}
 use denote.Ref.{Bor}
 use Rattle.std.specs.declared.alloc.Global.{Global}
 use Rattle.std.specs.declared.borrow.CowStr.{CowStr}
@@ -17,9 +17,9 @@ use Rattle.cbor4ii_items.specs.Refusal.{Refusal, refusal_of}
 use Rattle.cbor4ii_items.specs.Moves.{Moves}
 use Rattle.cbor4ii_items.specs.Cow.{BorrowsWhereCounted, cow_text, cow_bytes, IsBorrowedBytes, IsOwnedBytes}
 use Rattle.cbor4ii_items.specs.Strings.{ReadsCountedString, ReadsAs, ReadsTextAs}
-use Rattle.cbor4ii_items.specs.Decoding.{Reads, CostFits, IsExact, Sound, NoneRead, Refuses}
+use Rattle.cbor4ii_items.specs.Decoding.{Reads, IsExact, Sound, Refuses}
 use Rattle.cbor4ii_items.specs.Lent.{ReadsLent, lent_str, lent_bytes}
-use Rattle.cbor4ii_items.specs.StringLaws.{head_not_open, three_small}
+use Rattle.cbor4ii_items.specs.StringLaws.{head_not_open}
 use Rattle.cbor4ii_items.specs.Laws.Answering.{refuses_as}
 use Rattle.cbor4ii_items.specs.Laws.Steps.{moves_ok, moves_err}
 use Rattle.cbor4ii.specs.declared.serde.de.error.DecodeError.{DecodeError}

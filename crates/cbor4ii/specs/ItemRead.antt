@@ -7,8 +7,9 @@ use Rattle.cbor4ii_items.specs.Refusal.{Refusal, is_out_of_memory}
 use Rattle.cbor4ii.specs.declared.serde.de.error.DecodeError.{DecodeError}
 use Rattle.cbor4ii.specs.Typed.{as_core, answer_of}
 
--- The budget is restored and an end of the bytes is left; where no reading is empty, fewer bytes can come then; an accepted value is a reading of the item; where acceptance is
--- exact, a refusal comes only where there is none that fits, and is the one that the type gives there, with what it leaves.
+-- The budget is restored and an end of the bytes is left; where no reading is empty, fewer bytes can come then; an
+-- accepted value is a reading of the item; where acceptance is exact, a refusal comes only where there is none that
+-- fits, and is the one that the type gives there, with what it leaves.
 pub record ReadsItem {V E : Type 0} (reads : List ℕ → V → ℕ → ℕ → Type 0) (stops : List ℕ → Option ℕ → Refusal → List ℕ → Type 0) (never_empty owned takes_memory : Bool) (old new : View) (answer : Result V (DecodeError E)) : Type 0 where
   pub moves : Moves old new (answer_of answer)
   pub progress : IsTrue never_empty → OnOk answer (new.bound + 1 ≤ old.bound)
