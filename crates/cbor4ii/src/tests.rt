@@ -217,6 +217,16 @@ fn each_item_by_its_name(rt: HostRuntime) -> Result<(), Fail> {
     assert_eq!(rt; de.deserialize_f64(alloc), Ok(F64(0x7ff0_0000_0000_0000)));
     assert_eq!(rt; de.deserialize_unit(), Ok(()));
     assert_eq!(rt; de.deserialize_unit_struct("Unit"), Ok(()));
+    let mut de = over(b"\x06\x20");
+    let field: Result<u8, DecodeError<Never>> = de.deserialize_newtype_struct(alloc, "Newtype");
+    assert_eq!(rt; field, Ok(6));
+    let field: Result<u8, DecodeError<Never>> = de.deserialize_newtype_struct(alloc, "Newtype");
+    same(
+        &rt,
+        alloc,
+        field,
+        &Err(r#"Core(Mismatch { name: "u8", found: 32 })"#),
+    )?;
     let text = over(b"\x7f\x61a\xff").deserialize_string(alloc);
     same(&rt, alloc, text, &Ok(String::from_str(alloc, "a")?))
 }

@@ -1,19 +1,24 @@
 //! What a deserializer reads by name: one item each, as the codec's own types read it.
-ghost use Rattle.std.specs.Prelude.{◌≡◌, true, false};
+ghost use Rattle.std.specs.Prelude.{◌≡◌, ◌+◌, ◌≤◌, true, false, OnOk, IfOk, IfErr, IsTrue};
+ghost use Rattle.cbor4ii_items.specs.Moves.{Moves};
+ghost use Rattle.cbor4ii_items.specs.Decoding.{IsExact, Sound, Refuses};
+ghost use Rattle.cbor4ii_items.specs.Refusal.{is_out_of_memory};
 ghost use Rattle.cbor4ii.specs.ItemRead.{ReadsItem};
-ghost use Rattle.cbor4ii.specs.Typed.{input};
+ghost use Rattle.cbor4ii.specs.Typed.{input, answer_of, as_core};
 
+use crate::serde::de::deserialize::Deserialize;
 use crate::serde::de::deserializer::{Deserializer, take_item};
 use crate::serde::de::error::DecodeError;
 use cbor4ii_items::decode::Spelled;
 use cbor4ii_items::types::{F16, F32, F64};
+use cbor4ii_rw::error::StaticStr;
 use cbor4ii_rw::read::Source;
 use std::alloc::Global;
 
 /// Each of these reads the item at the front of what is left, and leaves what stands behind it. It
-/// moves the reader as `Deserialize::deserialize` does, and needs no step unless it says so. It
-/// answers `Core` of the error that the type's own `Decode` gives there, with its fields, and
-/// leaves what that leaves; none of them answers `Custom`.
+/// moves the reader as `Deserialize::deserialize` does, and needs no step unless it says so. All but
+/// `deserialize_newtype_struct` answer `Core` of the error that the type's own `Decode` gives there,
+/// with its fields, leave what that leaves, and never answer `Custom`.
 impl<S: Source> Deserializer<S> {
     /// False or true. Refused by the name "bool": `Eof` with 1 where no byte is left, and `Mismatch`
     /// with the first byte, which is taken, before any other item.
@@ -154,6 +159,26 @@ impl<S: Source> Deserializer<S> {
             (input S.view self.old) (input S.view self.new) result }
     {
         take_item(alloc, self)
+    }
+
+    /// A struct of one field, read and refused as that field is. Its name is not spelled.
+    pub fn deserialize_newtype_struct<T: Deserialize<S>>(
+        &mut self,
+        alloc: Global,
+        name: StaticStr,
+    ) -> Result<T, DecodeError<S::Error>>
+        ensures moves { Moves (input S.view self.old) (input S.view self.new) (answer_of result) }
+        ensures progress { IsTrue T.never_empty →
+            OnOk result ((input S.view self.new).bound + 1 ≤ (input S.view self.old).bound) }
+        ensures memory { IfErr result
+            (λ error. IsTrue (is_out_of_memory (as_core error)) → IsTrue T.takes_memory) }
+        ensures sound { IfOk result
+            (Sound T.reads (input S.view self.old) (input S.view self.new)) }
+        ensures complete { IsTrue T.exact → IsExact T.owned (input S.view self.old) →
+            IfErr result
+            (λ error. Refuses T.reads (input S.view self.old) (as_core error)) }
+    {
+        T::deserialize(alloc, self)
     }
 
     /// Whether the format is one that people read: false.
