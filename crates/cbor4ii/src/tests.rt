@@ -21,7 +21,7 @@ type Want<T> = Result<T, &'static str>;
 // The steps of a reader that is given no other limit.
 const STEPS: usize = 256;
 
-/// Reads the row's bytes over a slice and out of a stream: the same answer, and the same bytes left.
+/// Reads the row's bytes over a slice and out of a stream: one answer, and the same bytes left.
 fn reads<T>(
     rt: &impl Abort,
     alloc: Global,

@@ -91,7 +91,8 @@ impl<S: Source> Deserializer<S> {
         ensures* refused { sem 𝓛 (RestsIfErr (the_row S.row) self.entry
             (λ accessor. accessor.de.ghost_name) result (λ new.
             Moves (input S.view self.old) (input S.view new) (answer_of result) ×
-            IfErr result (λ error. Stops (StopsStepped (codes "seq") (StopsLength (codes "array") 4))
+            IfErr result (λ error. Stops
+            (StopsStepped (codes "seq") (StopsLength (codes "array") 4))
             (input S.view self.old) (input S.view new) (as_core error)))) }
         ensures same_reference { IfOk result
             (λ accessor. accessor.de.ghost_name ≡ self.entry.ghost_name) }

@@ -16,12 +16,12 @@ use cbor4ii_rw::read::Source;
 use std::alloc::Global;
 
 /// Each of these reads the item at the front of what is left, and leaves what stands behind it. It
-/// moves the reader as `Deserialize::deserialize` does, and needs no step unless it says so. All but
-/// `deserialize_newtype_struct` answer `Core` of the error that the type's own `Decode` gives there,
-/// with its fields, leave what that leaves, and never answer `Custom`.
+/// moves the reader as `Deserialize::deserialize` does, and needs no step unless it says so. All
+/// but `deserialize_newtype_struct` answer `Core` of the error that the type's own `Decode` gives
+/// there, with its fields, leave what that leaves, and never answer `Custom`.
 impl<S: Source> Deserializer<S> {
-    /// False or true. Refused by the name "bool": `Eof` with 1 where no byte is left, and `Mismatch`
-    /// with the first byte, which is taken, before any other item.
+    /// False or true. Refused by the name "bool": `Eof` with 1 where no byte is left, and
+    /// `Mismatch` with the first byte, which is taken, before any other item.
     pub fn deserialize_bool(&mut self, alloc: Global) -> Result<bool, DecodeError<S::Error>>
         ensures { ReadsItem ⟦<bool as Spelled>⟧.reads ⟦<bool as Spelled>⟧.stops true true
             ⟦<bool as Spelled>⟧.takes_memory
@@ -30,8 +30,8 @@ impl<S: Source> Deserializer<S> {
         take_item(alloc, self)
     }
 
-    /// An unsigned integer whose argument has at most one byte, refused by the name "u8": `Eof` or
-    /// `Mismatch`, as for every head.
+    /// An unsigned integer whose argument has at most one byte, refused by the name "u8":
+    /// `Eof` or `Mismatch`, as for every head.
     pub fn deserialize_u8(&mut self, alloc: Global) -> Result<u8, DecodeError<S::Error>>
         ensures { ReadsItem ⟦<u8 as Spelled>⟧.reads ⟦<u8 as Spelled>⟧.stops true true
             ⟦<u8 as Spelled>⟧.takes_memory
@@ -40,8 +40,8 @@ impl<S: Source> Deserializer<S> {
         take_item(alloc, self)
     }
 
-    /// An unsigned integer whose argument has at most two bytes, refused by the name "u16": `Eof` or
-    /// `Mismatch`, as for every head.
+    /// An unsigned integer whose argument has at most two bytes, refused by the name "u16":
+    /// `Eof` or `Mismatch`, as for every head.
     pub fn deserialize_u16(&mut self, alloc: Global) -> Result<u16, DecodeError<S::Error>>
         ensures { ReadsItem ⟦<u16 as Spelled>⟧.reads ⟦<u16 as Spelled>⟧.stops true true
             ⟦<u16 as Spelled>⟧.takes_memory
@@ -50,8 +50,8 @@ impl<S: Source> Deserializer<S> {
         take_item(alloc, self)
     }
 
-    /// An unsigned integer whose argument has at most four bytes, refused by the name "u32": `Eof` or
-    /// `Mismatch`, as for every head.
+    /// An unsigned integer whose argument has at most four bytes, refused by the name "u32":
+    /// `Eof` or `Mismatch`, as for every head.
     pub fn deserialize_u32(&mut self, alloc: Global) -> Result<u32, DecodeError<S::Error>>
         ensures { ReadsItem ⟦<u32 as Spelled>⟧.reads ⟦<u32 as Spelled>⟧.stops true true
             ⟦<u32 as Spelled>⟧.takes_memory
@@ -60,8 +60,8 @@ impl<S: Source> Deserializer<S> {
         take_item(alloc, self)
     }
 
-    /// An unsigned integer whose argument has at most eight bytes, refused by the name "u64": `Eof` or
-    /// `Mismatch`, as for every head.
+    /// An unsigned integer whose argument has at most eight bytes, refused by the name "u64":
+    /// `Eof` or `Mismatch`, as for every head.
     pub fn deserialize_u64(&mut self, alloc: Global) -> Result<u64, DecodeError<S::Error>>
         ensures { ReadsItem ⟦<u64 as Spelled>⟧.reads ⟦<u64 as Spelled>⟧.stops true true
             ⟦<u64 as Spelled>⟧.takes_memory

@@ -203,7 +203,8 @@ fn add_part<S: Source, Q: Sequence<S>>(
     ensures progress { IsTrue Q.never_empty →
         OnOk result ((input S.view de.new).bound + 1 ≤ (input S.view de.old).bound) }
     ensures sound { OnOk result
-        (AddsPart Q.reads parts.old.items parts.new.items (input S.view de.old) (input S.view de.new)) }
+        (AddsPart Q.reads parts.old.items parts.new.items
+        (input S.view de.old) (input S.view de.new)) }
     ensures complete { IsTrue Q.exact → IsExact Q.owned (input S.view de.old) →
         IfErr result (λ error. Refuses Q.reads (input S.view de.old) (as_core error)) }
 {

@@ -73,8 +73,8 @@ impl<S: Source, T: Deserialize<S> + Drop> Sequence<S> for Vec<T> {
     ghost small = { four_small };
 }
 
-/// An array of values, counted or up to a break (RFC 8949 sections 3.1 and 3.2.2), under one step of
-/// the budget, which is given back whatever the answer is. At most 256 values have their place
+/// An array of values, counted or up to a break (RFC 8949 sections 3.1 and 3.2.2), under one step
+/// of the budget, which is given back whatever the answer is. At most 256 values have their place
 /// reserved before any of them came. An array of indefinite length, of a type that may read
 /// nothing, is read only where its break comes at once, since no reading of it would end.
 ///
