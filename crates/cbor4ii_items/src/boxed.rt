@@ -61,6 +61,7 @@ impl<S: Source, T: Decode<S> + Drop> Decode<S> for Box<T> {
 impl<T: Encode> Encode for Box<T> {
     ghost bytes = { λ b. T.bytes b.value };
 
+    #[inline(always)]
     fn encode<W: Write>(&self, writer: &mut W) -> Result<(), EncodeError<W::Error>> {
         T::encode(self.as_ref(), writer)
     }

@@ -22,6 +22,7 @@ pub trait Encode {
 impl<'a, T: Encode> Encode for &'a T {
     ghost bytes = { λ v. T.bytes v.now };
 
+    #[inline(always)]
     fn encode<W: Write>(&self, writer: &mut W) -> Result<(), EncodeError<W::Error>> {
         T::encode(self, writer)
     }

@@ -181,6 +181,7 @@ fn push_bignum<W: Write>(writer: &mut W, tag: u8, value: u128) -> Result<(), Enc
 }
 
 /// Writes a string of this major type: its head in one push, and its content in another.
+#[inline(always)]
 pub(crate) fn push_string<W: Write>(
     writer: &mut W,
     major: u8,
@@ -195,6 +196,7 @@ pub(crate) fn push_string<W: Write>(
 }
 
 /// Writes the shortest head of this major type with this argument, and an item behind it.
+#[inline(always)]
 pub(crate) fn push_headed_item<W: Write, T: Encode>(
     writer: &mut W,
     major: u8,

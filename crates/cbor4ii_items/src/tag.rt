@@ -92,6 +92,7 @@ impl<S: Source, T: Decode<S>> Decode<S> for Tag<T> {
 impl<T: Encode> Encode for Tag<T> {
     ghost bytes = { λ v. shortest_head 6 v.0 ++ T.bytes v.1 };
 
+    #[inline(always)]
     fn encode<W: Write>(&self, writer: &mut W) -> Result<(), EncodeError<W::Error>> {
         push_headed_item(writer, major::TAG, self.0, &self.1)
     }

@@ -13,6 +13,7 @@ use cbor4ii_rw::write::Write;
 impl<'a> Encode for Bytes<&'a [u8]> {
     ghost bytes = { λ v. counted_string 2 v.0.now };
 
+    #[inline(always)]
     fn encode<W: Write>(&self, writer: &mut W) -> Result<(), EncodeError<W::Error>> {
         push_string(writer, major::BYTES, self.0)
     }
@@ -22,6 +23,7 @@ impl<'a> Encode for Bytes<&'a [u8]> {
 impl<'a> Encode for UncheckedStr<&'a [u8]> {
     ghost bytes = { λ v. counted_string 3 v.0.now };
 
+    #[inline(always)]
     fn encode<W: Write>(&self, writer: &mut W) -> Result<(), EncodeError<W::Error>> {
         push_string(writer, major::STRING, self.0)
     }
@@ -31,6 +33,7 @@ impl<'a> Encode for UncheckedStr<&'a [u8]> {
 impl<'a> Encode for &'a str {
     ghost bytes = { λ v. counted_string 3 v.now };
 
+    #[inline(always)]
     fn encode<W: Write>(&self, writer: &mut W) -> Result<(), EncodeError<W::Error>> {
         push_string(writer, major::STRING, self.as_bytes())
     }
@@ -40,6 +43,7 @@ impl<'a> Encode for &'a str {
 impl Encode for String {
     ghost bytes = { λ v. counted_string 3 (string_bytes v) };
 
+    #[inline(always)]
     fn encode<W: Write>(&self, writer: &mut W) -> Result<(), EncodeError<W::Error>> {
         push_string(writer, major::STRING, self.as_bytes())
     }
