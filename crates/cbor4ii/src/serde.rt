@@ -2,6 +2,13 @@
 
 pub mod de;
 
+pub use cbor4ii_ser::bounded::BoundedCollect;
+pub use cbor4ii_ser::collect::Collect;
+pub use cbor4ii_ser::error::EncodeError;
+pub use cbor4ii_ser::serialize::Serialize;
+pub use cbor4ii_ser::serializer::Serializer;
+pub use cbor4ii_ser::text::{Text, TextFault, TextWriter};
+pub use cbor4ii_ser::write_all::{to_vec, to_writer};
 pub use de::accessor::Accessor;
 pub use de::deserialize::{Deserialize, Typed};
 pub use de::deserializer::Deserializer;

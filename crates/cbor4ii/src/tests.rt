@@ -1,3 +1,5 @@
+mod paths;
+
 use crate::serde::{Accessor, DecodeError, Deserialize, Deserializer, from_reader, from_slice};
 use cbor4ii_items::types::{Bytes, F16, F32, F64};
 use cbor4ii_rw::ask::look;
