@@ -85,12 +85,12 @@ fn all_steps_taken(rt: HostRuntime) -> Result<(), Fail> {
     reads_by_each(alloc, bytes, 256, &Ok(IgnoredAny), b"")
 }
 
-// 500 arrays and one that is empty, and then 0 and null.
+// 1,000 arrays and one that is empty, and then 0 and null.
 #[test]
 fn greatest_limit_and_none(rt: HostRuntime) -> Result<(), Fail> {
     let alloc = rt.alloc();
-    let bytes = nested(alloc, 0x81, 500, b"\x80\x00\xf6")?;
-    let want = Ok(Pair(arrays(alloc, 500)?, Pair(Value::Integer(0), Value::Null)));
+    let bytes = nested(alloc, 0x81, 1000, b"\x80\x00\xf6")?;
+    let want = Ok(Pair(arrays(alloc, 1000)?, Pair(Value::Integer(0), Value::Null)));
     reads_by_each(alloc, bytes, usize::MAX, &want, b"")?;
     reads_over(alloc, &mut Unlimited::new(bytes), bytes, &want, b"")
 }
