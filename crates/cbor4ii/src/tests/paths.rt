@@ -1,9 +1,9 @@
 //! What is named by the paths of the Rust crate.
-use crate::core::dec::{Decode, IgnoredAny, canonical_head, high, if_major, low};
-use crate::core::enc::Encode;
-use crate::core::utils::{BufWriter, IoReader, SliceReader};
-use crate::core::{Canonical, Value, major};
+use crate::dec::{Decode, IgnoredAny, canonical_head, high, if_major, low};
+use crate::enc::Encode;
 use crate::serde::{from_slice, to_vec};
+use crate::utils::{BufWriter, IoReader, SliceReader};
+use crate::{Canonical, Value, major};
 use std::test::Fail;
 
 #[test]
