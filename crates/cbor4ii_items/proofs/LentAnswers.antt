@@ -16,7 +16,7 @@ use Rattle.cbor4ii_items.specs.Fronts.{drop_more}
 use Rattle.cbor4ii_items.specs.Strings.{ReadsCountedString}
 use Rattle.cbor4ii_items.specs.Lent.{ReadsLent, StopsLent, BeginsLent, begins_refused, none_is_lent, few_are_lent, begins_no_utf8, lent_head_refused, too_few, lent_no_utf8, Lends, LacksContent, lack_refusal, lack_is_read, Named}
 use Rattle.cbor4ii_items.specs.Laws.Answering.{fits_zero, refuses_as}
-use Rattle.cbor4ii_items.proofs.SequenceParts.{stops_as}
+use Rattle.cbor4ii_items.specs.Laws.SequenceParts.{stops_as}
 use Rattle.cbor4ii_items.specs.Laws.Steps.{moves_then}
 
 pub lacks_text : {E : Type 0} (count : ℕ) (a b : View) (lack : Lacks E) → LacksContent count false a b lack → LacksContent count true a b lack

@@ -20,8 +20,6 @@ pub mod FloatLeaf
 pub mod CowAnswers
 pub mod ToldCow
 pub mod CowRows
-pub mod SequenceParts
 pub mod SequenceAnswers
-pub mod Pairs
 pub mod NextByte
 pub mod Shortest

@@ -1,41 +1,25 @@
 -- What a sequence's head, its parts and its step answer together.
-use Rattle.std.proofs.Common.{◌≡◌, ◌≢◌, ℕ, ◌+◌, ◌-◌, ◌<◌, ◌≤◌, inl, inr, List, [], ◌∷◌, length, drop, take, Option, Some, None, Result, Ok, Err, Bool, true, refl, sym, ap, ◌∙◌, subst, arith, IfSome, IfOk, IfErr}
+use Rattle.std.proofs.Common.{◌≡◌, ◌≢◌, ℕ, ◌+◌, ◌-◌, ◌<◌, ◌≤◌, inl, inr, List, length, drop, Option, Some, None, Result, Ok, Err, Bool, true, refl, sym, ap, ◌∙◌, subst, arith, IfSome, IfOk, IfErr}
 use Rattle.std.specs.declared.alloc.Global.{Global}
 use Rattle.std.specs.declared.vec.Vec.{Vec}
-use Rattle.cbor4ii_rw.specs.View.{View, Told}
+use Rattle.cbor4ii_rw.specs.View.{View}
 use Rattle.cbor4ii_rw.specs.Reader.{KeepsAllButBudget, StepsIn}
 use Rattle.cbor4ii_rw.specs.declared.error.DecodeError.{DecodeError}
 use Rattle.cbor4ii_items.specs.declared.types.Map.{Map}
-use Rattle.cbor4ii_items.specs.Head.{open_head}
-use Rattle.cbor4ii_items.specs.Heads.{ReadsHead}
-use Rattle.cbor4ii_items.specs.HeadLaws.{head_one, read_head}
+use Rattle.cbor4ii_items.specs.HeadLaws.{read_head}
 use Rattle.cbor4ii_items.specs.Refusal.{Refusal, refusal_of}
-use Rattle.cbor4ii_items.specs.Moves.{Kept}
 use Rattle.cbor4ii_items.specs.Reading.{Runs}
 use Rattle.cbor4ii_items.specs.ReadHead.{length_at}
 use Rattle.cbor4ii_items.specs.Decoding.{Reads, StopsAt, CostFits, Sound, NoneRead, Refuses, Stops}
-use Rattle.cbor4ii_items.specs.Fronts.{drop_more}
 use Rattle.cbor4ii_items.specs.ProgramEnds.{length_some, length_none}
-use Rattle.cbor4ii_items.specs.StringLaws.{head_not_open, length_known, length_open}
-use Rattle.cbor4ii_items.specs.Sequences.{ReadsParts, ReadsCount, ReadsUpToBreak, ReadsInside, ReadsSequence, StopsCount, StopsUpToBreak, StopsInside, length_refused, counted_refused, open_refused, after_step, StopsSequence, under_step}
+use Rattle.cbor4ii_items.specs.StringLaws.{length_known, length_open}
+use Rattle.cbor4ii_items.specs.Sequences.{ReadsCount, ReadsUpToBreak, ReadsInside, ReadsSequence, StopsCount, StopsUpToBreak, StopsInside, length_refused, counted_refused, open_refused, after_step, StopsSequence, under_step}
 use Rattle.cbor4ii_items.specs.Laws.Answering.{same_some, if_some}
 use Rattle.cbor4ii_items.proofs.StringsRead.{no_length}
-use Rattle.cbor4ii_items.proofs.SequenceParts.{stops_as}
-
-if_ok : {V E : Type 0} (r : Result V E) (F G : V → Type 0) → ((v : V) → F v → G v) → IfOk r F → IfOk r G
-if_ok (Ok v) F G f h = f v h
-if_ok (Err e) F G f h = tt
-
-if_err : {V E : Type 0} (r : Result V E) (F G : E → Type 0) → ((e : E) → F e → G e) → IfErr r F → IfErr r G
-if_err (Ok v) F G f h = tt
-if_err (Err e) F G f h = f e h
+use Rattle.cbor4ii_items.specs.Laws.SequenceParts.{stops_as}
+use Rattle.cbor4ii_items.specs.Laws.SequenceInside.{if_ok, if_err, if_err_told, Counts, Opens, counted_read, opened_read, counted_not_read, opened_not_read, of_sound, of_refuses}
 
 -- ---- the head
-
--- a head that counts
-pub record Counts (major : ℕ) (a m : View) (count : ℕ) : Type 0 where
-  pub at : Told a.told (λ xs. (n : ℕ) × ReadsHead major 8 xs count n × (m.told ≡ Some (drop n xs)))
-  pub kept : Kept a m
 
 pub counts : {E : Type 0} (name : List ℕ) (major : ℕ) {a m : View} {l : Option ℕ} {count : ℕ} → l ≡ Some count → Runs {E = E} (length_at name major) a m (Ok l) → Counts major a m count
 counts name major {m = m} {count = count} is p = record {
@@ -47,11 +31,6 @@ counts name major {m = m} {count = count} is p = record {
       (t.0, read_head name major 8 xs count t.0 f t.1.within t.1.bytes, t.1.left);
   kept = p.moves.by;
 }
-
--- the first byte of an indefinite length
-pub record Opens (major : ℕ) (a m : View) : Type 0 where
-  pub at : Told a.told (λ xs. (take 1 xs ≡ open_head major ∷ []) × (m.told ≡ Some (drop 1 xs)))
-  pub kept : Kept a m
 
 pub opens : {E : Type 0} (name : List ℕ) (major : ℕ) {a m : View} {l : Option ℕ} → l ≡ None → Runs {E = E} (length_at name major) a m (Ok l) → Opens major a m
 opens name major is p = record {
@@ -73,68 +52,18 @@ module _ {P : Type 0} (major : ℕ) (reads : Reads P) (never_empty : Bool) where
   pub head_refuses : {E : Type 0} (name : List ℕ) {a m : View} {e : DecodeError E} → major < 8 → Runs {V = Option ℕ} (length_at name major) a m (Err e) → Refuses (ReadsInside major reads never_empty) a e
   head_refuses name {a = a} {m = m} {e = e} small p = record { at = λ xs told. no_head (refusal_of e) name xs a.budget m.told small (p.answers xs told) }
 
-  counted_none : (xs : List ℕ) (count n : ℕ) (old mid : Option ℕ) → major < 8 → ReadsHead major 8 xs count n → mid ≡ old → NoneRead (ReadsCount reads count) (drop n xs) mid → NoneRead (ReadsInside major reads never_empty) xs old
-  counted_none xs count n old mid small h e none ps k c read fits = elim read [
-    | inl s ↦ (let same = head_one major 8 xs (length ps) count s.before n small s.head h in
-        none ps s.between c (same.1, subst (λ i. ReadsParts reads (drop i xs) ps s.between c) same.0 s.parts) (subst (CostFits c) (sym e) fits))
-    | inr s ↦ head_not_open major xs count n small h s.begins
-  ]
-
-  opened_none : (xs : List ℕ) (old mid : Option ℕ) → major < 8 → take 1 xs ≡ open_head major ∷ [] → mid ≡ old → NoneRead (ReadsUpToBreak reads never_empty) (drop 1 xs) mid → NoneRead (ReadsInside major reads never_empty) xs old
-  opened_none xs old mid small h e none ps k c read fits = elim read [
-    | inl s ↦ head_not_open major xs (length ps) s.before small s.head h
-    | inr s ↦ none ps s.between c s.parts (subst (CostFits c) (sym e) fits)
-  ]
-
-  module _ {E : Type 0} (r : Result (Vec P Global) (DecodeError E)) (a m b : View) where
-    pub counted_sound : {count : ℕ} → Counts major a m count → IfOk r (λ v. Sound (ReadsCount reads count) m b v.items) → IfOk r (λ v. Sound (ReadsInside major reads never_empty) a b v.items)
-    counted_sound {count = count} h s = if_ok r (λ v. Sound (ReadsCount reads count) m b v.items) (λ v. Sound (ReadsInside major reads never_empty) a b v.items) (λ v w. record {
-      at = λ xs told.
-          let p = h.at xs told in
-          let t = w.at (drop p.0 xs) p.2 in
-          record {
-            count = p.0 + t.count;
-            cost = t.cost;
-            read = inl (record { before = p.0; head = subst (λ j. ReadsHead major 8 xs j p.0) (sym t.read.0) p.1; between = t.count; parts = t.read.1; size = refl });
-            fits = subst (CostFits t.cost) h.kept.budget t.fits;
-            left = t.left ∙ ap Some (drop_more t.count p.0 xs);
-          };
-    }) s
-
-    pub opened_sound : Opens major a m → IfOk r (λ v. Sound (ReadsUpToBreak reads never_empty) m b v.items) → IfOk r (λ v. Sound (ReadsInside major reads never_empty) a b v.items)
-    opened_sound h s = if_ok r (λ v. Sound (ReadsUpToBreak reads never_empty) m b v.items) (λ v. Sound (ReadsInside major reads never_empty) a b v.items) (λ v w. record {
-      at = λ xs told.
-          let p = h.at xs told in
-          let t = w.at (drop 1 xs) p.1 in
-          record {
-            count = 1 + t.count;
-            cost = t.cost;
-            read = inr (record { begins = p.0; between = t.count; parts = t.read; size = refl });
-            fits = subst (CostFits t.cost) h.kept.budget t.fits;
-            left = t.left ∙ ap Some (drop_more t.count 1 xs);
-          };
-    }) s
-
   module _ {E : Type 0} (r : Result (Vec P Global) (DecodeError E)) (a m : View) where
+    pub counted_sound : (b : View) {count : ℕ} → Counts major a m count → IfOk r (λ v. Sound (ReadsCount reads count) m b v.items) → IfOk r (λ v. Sound (ReadsInside major reads never_empty) a b v.items)
+    counted_sound b {count = count} h = if_ok r (λ v. Sound (ReadsCount reads count) m b v.items) (λ v. Sound (ReadsInside major reads never_empty) a b v.items) (λ v s. counted_read major reads never_empty h s)
+
+    pub opened_sound : (b : View) → Opens major a m → IfOk r (λ v. Sound (ReadsUpToBreak reads never_empty) m b v.items) → IfOk r (λ v. Sound (ReadsInside major reads never_empty) a b v.items)
+    opened_sound b h = if_ok r (λ v. Sound (ReadsUpToBreak reads never_empty) m b v.items) (λ v. Sound (ReadsInside major reads never_empty) a b v.items) (λ v s. opened_read major reads never_empty h s)
+
     pub counted_refuses : {count : ℕ} → major < 8 → Counts major a m count → ((xs : List ℕ) → a.told ≡ Some xs → IfErr r (Refuses (ReadsCount reads count) m)) → IfErr r (Refuses (ReadsInside major reads never_empty) a)
-    counted_refuses {count = count} small h s = elim r as (λ t. ((xs : List ℕ) → a.told ≡ Some xs → IfErr t (Refuses (ReadsCount reads count) m)) → IfErr t (Refuses (ReadsInside major reads never_empty) a)) [
-      | Ok v ↦ (λ w. tt)
-      | Err e ↦ (λ w. record {
-        at = λ xs told.
-            let p = h.at xs told in
-            if_some (refusal_of e) (counted_none xs count p.0 a.budget m.budget small p.1 h.kept.budget) ((w xs told).at (drop p.0 xs) p.2);
-      })
-    ] s
+    counted_refuses {count = count} small h = if_err_told r a.told (Refuses (ReadsCount reads count) m) (Refuses (ReadsInside major reads never_empty) a) (λ e s. counted_not_read major reads never_empty small h s)
 
     pub opened_refuses : major < 8 → Opens major a m → ((xs : List ℕ) → a.told ≡ Some xs → IfErr r (Refuses (ReadsUpToBreak reads never_empty) m)) → IfErr r (Refuses (ReadsInside major reads never_empty) a)
-    opened_refuses small h s = elim r as (λ t. ((xs : List ℕ) → a.told ≡ Some xs → IfErr t (Refuses (ReadsUpToBreak reads never_empty) m)) → IfErr t (Refuses (ReadsInside major reads never_empty) a)) [
-      | Ok v ↦ (λ w. tt)
-      | Err e ↦ (λ w. record {
-        at = λ xs told.
-            let p = h.at xs told in
-            if_some (refusal_of e) (opened_none xs a.budget m.budget small p.0 h.kept.budget) ((w xs told).at (drop 1 xs) p.1);
-      })
-    ] s
+    opened_refuses small h = if_err_told r a.told (Refuses (ReadsUpToBreak reads never_empty) m) (Refuses (ReadsInside major reads never_empty) a) (λ e s. opened_not_read major reads never_empty small h s)
 
   module _ (name : List ℕ) (stops : StopsAt) where
     pub head_stops : {E : Type 0} {a m : View} {e : DecodeError E} → Runs {V = Option ℕ} (length_at name major) a m (Err e) → Stops (StopsInside name major reads stops never_empty) a m e
@@ -205,13 +134,6 @@ module _ {P : Type 0} (major : ℕ) (reads : Reads P) (never_empty : Bool) where
     }) s
 
 -- ---- values that have parts
-
-module _ {V P : Type 0} (parts : V → List P) (reads : Reads (List P)) where
-  of_sound : {v : V} {a b : View} → Sound reads a b (parts v) → Sound (λ xs w n c. reads xs (parts w) n c) a b v
-  of_sound s = record { at = λ xs told. let t = s.at xs told in record { count = t.count; cost = t.cost; read = t.read; fits = t.fits; left = t.left } }
-
-  of_refuses : {E : Type 0} {e : DecodeError E} {a : View} → Refuses reads a e → Refuses (λ xs (w : V) n c. reads xs (parts w) n c) a e
-  of_refuses {e = e} {a = a} s = record { at = λ xs told. if_some (refusal_of e) (λ none w n c read fits. none (parts w) n c read fits) (s.at xs told) }
 
 module _ {V E : Type 0} (r : Result (Vec V Global) (DecodeError E)) (a : View) (reads : Reads (List V)) where
   pub vec_sound : (b : View) → IfOk r (λ v. Sound reads a b v.items) → IfOk r (Sound (λ xs (v : Vec V Global) n c. reads xs v.items n c) a b)

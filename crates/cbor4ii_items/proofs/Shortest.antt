@@ -1,5 +1,5 @@
 -- Shortest heads, and strings behind them, are read exactly as they are spelled.
-use Rattle.std.proofs.Common.{◌≡◌, ◌≢◌, ℕ, suc, ◌+◌, ◌-◌, ◌*◌, ◌/◌, ◌%◌, ◌^◌, ◌<◌, ◌≤◌, inl, inr, List, [], ◌∷◌, ◌++◌, length, drop, take, Option, Some, Result, Ok, Err, Bool, true, false, refl, sym, ap, ap₂, ◌∙◌, subst, arith, cond, ltb, leb, eqb, ltb-true, lt-ltb, le-ltb, leb-true, eqb-true, eq-eqb, ne_eqb, le-leb, IfOk, IfErr}
+use Rattle.std.proofs.Common.{◌≡◌, ◌≢◌, ℕ, ◌+◌, ◌-◌, ◌*◌, ◌%◌, ◌^◌, ◌<◌, ◌≤◌, inl, inr, List, [], ◌∷◌, ◌++◌, length, drop, take, Option, Some, Result, Ok, Err, Bool, true, false, refl, sym, ap, ap₂, ◌∙◌, subst, arith, cond, ltb, leb, eqb, ltb-true, lt-ltb, le-ltb, leb-true, eqb-true, eq-eqb, ne_eqb, le-leb, IfOk, IfErr}
 use Rattle.std.specs.Int.{bytes_high_first}
 use Rattle.std.proofs.lemmas.List.{length-drop, length-take-le, length-take}
 use Rattle.std.specs.declared.vec.Vec.{Vec}
@@ -8,7 +8,7 @@ use Rattle.cbor4ii_rw.specs.Reader.{Advances}
 use Rattle.cbor4ii_rw.specs.declared.error.DecodeError.{DecodeError}
 use Rattle.cbor4ii_items.specs.Head.{Width, in_first, one as w_one, two, four, eight, byte_count, HeadFits, additional, head, open_head, shortest, IsBytes}
 use Rattle.cbor4ii_items.specs.Refusal.{Refusal, refusal_of, is_read, is_out_of_memory, is_depth_overflow, eof, len_of, not_canonical}
-use Rattle.cbor4ii_items.specs.Initial.{Info, wide, info_of}
+use Rattle.cbor4ii_items.specs.Initial.{wide, info_of}
 use Rattle.cbor4ii_items.specs.Reading.{Reading, give, refuse, ◌>=>◌, Runs, peek_at}
 use Rattle.cbor4ii_items.specs.Decoding.{Sound, Refuses, Stops}
 use Rattle.cbor4ii_items.specs.Outcome.{same_value, same_refusal}
@@ -16,7 +16,7 @@ use Rattle.cbor4ii_items.specs.Heads.{ReadsHead}
 use Rattle.cbor4ii_items.specs.HeadLaws.{read_head, head_read, additional-lt}
 use Rattle.cbor4ii_items.specs.ReadHead.{head_at}
 use Rattle.cbor4ii_items.specs.ReadStrings.{content_on}
-use Rattle.cbor4ii_items.specs.ReadShortest.{is_open_head, shortest_by, shortest_from, shortest_at, shortest_string_at}
+use Rattle.cbor4ii_items.specs.ReadShortest.{is_open_head, shortest_by, shortest_at, shortest_string_at}
 use Rattle.cbor4ii_items.specs.Shortest.{canonical_name, OpensLength, ReadsShortest, StopsShortest, shortest_refused, shortest_open, too_long, ReadsShortestString, StopsShortestString, length_refused, content_cut}
 use Rattle.cbor4ii_items.specs.Following.{Follows, listed}
 use Rattle.cbor4ii_items.specs.ProgramEnds.{Passed, ok_parts, err_parts, head_leaves, content_inverse}

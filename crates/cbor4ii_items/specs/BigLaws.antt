@@ -2,7 +2,7 @@
 use Rattle.std.proofs.Common.{◌≡◌, ◌≢◌, ℕ, zero, suc, ◌+◌, ◌*◌, ◌/◌, ◌^◌, ◌<◌, ◌≤◌, inl, inr, List, [], ◌∷◌, ◌++◌, length, drop, take, Some, Ok, false, refl, sym, ap, ◌∙◌, subst, arith, eqb, ne_eqb, ltb, le-ltb}
 use Rattle.std.specs.Prelude.{ℤ, pos, negsuc, codes, fold}
 use Rattle.std.proofs.lemmas.List.{length-drop, length-append, length-take-le}
-use Rattle.cbor4ii_items.specs.Head.{IsBytes, additional, open_head}
+use Rattle.cbor4ii_items.specs.Head.{IsBytes, open_head}
 use Rattle.cbor4ii_items.specs.Reading.{give, go_on, ◌>=>◌}
 use Rattle.cbor4ii_items.specs.Heads.{ReadsHead}
 use Rattle.cbor4ii_items.specs.ReadHead.{head_at, head_by, length_by, length_at, number_on}
@@ -10,7 +10,7 @@ use Rattle.cbor4ii_items.specs.ReadNumber.{below, as_positive, as_negative, magn
 use Rattle.cbor4ii_items.specs.Magnitude.{number_of}
 use Rattle.cbor4ii_items.specs.Numbers.{ReadsMagnitude, ReadsBignum, ReadsU128, ReadsI128}
 use Rattle.cbor4ii_items.specs.Fronts.{drop_more, two_fronts, behind_front, the_front}
-use Rattle.cbor4ii_items.specs.HeadLaws.{head_read, head_alone, additional-lt}
+use Rattle.cbor4ii_items.specs.HeadLaws.{head_read, head_alone}
 use Rattle.cbor4ii_items.specs.Laws.Arguments.{ReadBy, leaf_one, leaf_within, leaf_positive}
 use Rattle.cbor4ii_items.specs.StringLaws.{length_known}
 use Rattle.cbor4ii_items.specs.SignedLaws.{starts, peek_first, below_again}

@@ -14,3 +14,6 @@ pub mod Forward
 pub mod NumbersBack
 pub mod LeavesBack
 pub mod PartsBack
+pub mod SequenceParts
+pub mod SequenceInside
+pub mod Pairs

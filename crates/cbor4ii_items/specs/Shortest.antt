@@ -2,7 +2,7 @@
 use Rattle.std.specs.Prelude.{◌≡◌, ◌≢◌, ℕ, ◌≤◌, List, ◌∷◌, drop, length, Option, codes}
 use Rattle.cbor4ii_items.specs.Head.{open_head, shortest}
 use Rattle.cbor4ii_items.specs.Refusal.{Refusal, not_canonical}
-use Rattle.cbor4ii_items.specs.Decoding.{Reads, StopsAt}
+use Rattle.cbor4ii_items.specs.Decoding.{Reads}
 use Rattle.cbor4ii_items.specs.Heads.{ReadsHead, StopsHead}
 use Rattle.cbor4ii_items.specs.Strings.{ReadsCountedString, CutContent}
 

@@ -1,7 +1,7 @@
 use Rattle.std.proofs.Common.{arith}
 use Rattle.std.proofs.lemmas.Result.{err_from_is_err_and}
 use Rattle.cbor4ii_items.specs.Laws.Steps.{moves_then, moves_err}
-use Rattle.cbor4ii_items.proofs.SequenceParts.{count_more, count_done, count_refuses, count_stops}
+use Rattle.cbor4ii_items.specs.Laws.SequenceParts.{count_more, count_done, count_refuses, count_stops}
 use Rattle.cbor4ii_items.proofs.sequences.parts.take_counted.Goals as goal
 use Rattle.cbor4ii_items.specs.Laws.Answering.{exact_kept}
 

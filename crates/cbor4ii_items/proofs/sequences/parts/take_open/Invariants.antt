@@ -1,4 +1,4 @@
-use Rattle.cbor4ii_items.proofs.SequenceParts.{Opened}
+use Rattle.cbor4ii_items.specs.Laws.SequenceParts.{Opened}
 use Rattle.cbor4ii_items.proofs.sequences.parts.take_open.Given as goal
 
 abbrev pub invariant-loop-parts : goal.invariant-loop-parts

@@ -1,6 +1,6 @@
 use Rattle.std.proofs.lemmas.Result.{err_from_is_err_and}
 use Rattle.cbor4ii_items.specs.Laws.Steps.{moves_then, moves_ok, moves_err}
-use Rattle.cbor4ii_items.proofs.Pairs.{exact_both, pair_sound, key_refuses, value_refuses, key_stops_pair, value_stops_pair}
+use Rattle.cbor4ii_items.specs.Laws.Pairs.{exact_both, pair_sound, key_refuses, value_refuses, key_stops_pair, value_stops_pair}
 use Rattle.cbor4ii_items.proofs.sequences.map.MapVecTuple2Sequence.take_part.Goals as goal
 use Rattle.cbor4ii_items.specs.Laws.Answering.{exact_kept}
 

@@ -3,13 +3,13 @@ use Rattle.std.proofs.Common.{◌≡◌, ℕ, ◌+◌, ◌≤◌, inl, inr, List
 use Rattle.std.specs.Prelude.{◌&&◌}
 use Rattle.cbor4ii_rw.specs.View.{View}
 use Rattle.cbor4ii_rw.specs.declared.error.DecodeError.{DecodeError}
-use Rattle.cbor4ii_items.specs.Refusal.{Refusal, refusal_of}
+use Rattle.cbor4ii_items.specs.Refusal.{refusal_of}
 use Rattle.cbor4ii_items.specs.Moves.{Kept}
 use Rattle.cbor4ii_items.specs.Decoding.{Reads, StopsAt, CostFits, IsExact, Sound, NoneRead, Refuses, Stops}
 use Rattle.cbor4ii_items.specs.Fronts.{drop_more}
 use Rattle.cbor4ii_items.specs.ContainerLaws.{both}
 use Rattle.cbor4ii_items.specs.Sequences.{ReadsPair, StopsPair}
-use Rattle.cbor4ii_items.proofs.SequenceParts.{stops_as, fits_less, fits_max}
+use Rattle.cbor4ii_items.specs.Laws.SequenceParts.{stops_as, fits_less, fits_max}
 use Rattle.cbor4ii_items.specs.Laws.Answering.{if_some}
 
 pub exact_both : (a b : Bool) (v : View) → IsExact (a && b) v → IsExact a v × IsExact b v
