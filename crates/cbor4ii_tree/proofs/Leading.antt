@@ -3,10 +3,10 @@ use Rattle.std.proofs.Common.{◌≡◌, ℕ, zero, suc, ◌+◌, ◌*◌, ◌%�
 use Rattle.cbor4ii_items.specs.Head.{Width, in_first, one, two, four, eight, byte_count, HeadFits, head, open_head, break}
 use Rattle.cbor4ii_items.specs.Initial.{sign_major, kind_major, precision_bytes, info_of, wide, Initial, starts_int, bad_int, starts_string, starts_chunks, bad_string, starts_array, starts_open_array, bad_array, starts_map, starts_open_map, bad_map, starts_tag, bad_tag, starts_simple, starts_bits, initial, Kind, Precision, Sign, Simple}
 use Rattle.cbor4ii_items.specs.Decoding.{CostFits}
+use Rattle.cbor4ii_items.specs.Magnitude.{number_of}
 use Rattle.cbor4ii_tree.specs.Tree.{Tree, Trees, no_trees, tree, Pairs, no_pairs, pair, int, string, chunked, array, array_open, map_of, map_open, tagged, simple, bits, count, pair_count, bytes, bytes_all, bytes_pairs, Loose, LooseAll, LoosePairs}
 use Rattle.cbor4ii_tree.specs.Cost.{Budget, skip_cost, greatest_skip_cost, greatest_pair_skip_cost}
 use Rattle.cbor4ii_tree.specs.Refusal.{Refusal, mismatch, tag_name, ignored_any}
-use Rattle.cbor4ii_tree.specs.Parse.{big_endian}
 use Rattle.cbor4ii_tree.specs.Stops.{Missing, MissingAll, Stepped}
 use Rattle.cbor4ii_tree.specs.StopsSkipping.{SkippingStopsBy, StopsSkipping}
 use Rattle.cbor4ii_tree.specs.HeadParts.{ArgumentAt, DropsBytes}
@@ -126,10 +126,10 @@ bytes_argument in_first b bs ys h d = (b % 32, record { fits = omega (arith, h);
     none : (c : List ℕ) → length c ≡ 0 → c ≡ []
     none [] e = refl
     none (x ∷ c) e = absurd (omega (arith, e))
-bytes_argument one b bs ys h d = let p = number_of_bytes 1 d.content d.size d.bytes in (big_endian d.content, record { fits = omega (arith, p.1); says = sym h; is = d.is ∙ ap (λ c. c ++ ys) (sym p.0) })
-bytes_argument two b bs ys h d = let p = number_of_bytes 2 d.content d.size d.bytes in (big_endian d.content, record { fits = p.1; says = sym h; is = d.is ∙ ap (λ c. c ++ ys) (sym p.0) })
-bytes_argument four b bs ys h d = let p = number_of_bytes 4 d.content d.size d.bytes in (big_endian d.content, record { fits = p.1; says = sym h; is = d.is ∙ ap (λ c. c ++ ys) (sym p.0) })
-bytes_argument eight b bs ys h d = let p = number_of_bytes 8 d.content d.size d.bytes in (big_endian d.content, record { fits = p.1; says = sym h; is = d.is ∙ ap (λ c. c ++ ys) (sym p.0) })
+bytes_argument one b bs ys h d = let p = number_of_bytes 1 d.content d.size d.bytes in (number_of d.content, record { fits = omega (arith, p.1); says = sym h; is = d.is ∙ ap (λ c. c ++ ys) (sym p.0) })
+bytes_argument two b bs ys h d = let p = number_of_bytes 2 d.content d.size d.bytes in (number_of d.content, record { fits = p.1; says = sym h; is = d.is ∙ ap (λ c. c ++ ys) (sym p.0) })
+bytes_argument four b bs ys h d = let p = number_of_bytes 4 d.content d.size d.bytes in (number_of d.content, record { fits = p.1; says = sym h; is = d.is ∙ ap (λ c. c ++ ys) (sym p.0) })
+bytes_argument eight b bs ys h d = let p = number_of_bytes 8 d.content d.size d.bytes in (number_of d.content, record { fits = p.1; says = sym h; is = d.is ∙ ap (λ c. c ++ ys) (sym p.0) })
 
 row : (b : ℕ) (i : Initial) → b < 256 → initial b ≡ i → Means b i
 row b i small is = subst (Means b) is (means b small)
@@ -154,7 +154,7 @@ bytes_leaf b k bs ys small e d = elim (starts_bytes (initial b) k e) [
         (simple x.0, (tt, refl), ap₂ ◌∷◌ m (d.is ∙ ap (λ c. c ++ ys) (none d.content (d.size ∙ x.2)))))
     | inr x ↦ (let m : Means b (starts_bits x.0) = row b (starts_bits x.0) small x.1 in
         let p = number_of_bytes (precision_bytes x.0) d.content (d.size ∙ sym x.2) d.bytes in
-        (bits x.0 (big_endian d.content), (p.1, refl), ap₂ ◌∷◌ m (d.is ∙ ap (λ c. c ++ ys) (sym p.0))))
+        (bits x.0 (number_of d.content), (p.1, refl), ap₂ ◌∷◌ m (d.is ∙ ap (λ c. c ++ ys) (sym p.0))))
   ]
 ]
   where

@@ -1,6 +1,7 @@
 -- Answers of the plain programs, taken apart and put together.
 use Rattle.std.proofs.Common.{◌≡◌, ℕ, zero, suc, ◌+◌, ◌-◌, ◌⊎◌, inl, inr, List, Option, Some, None, Ok, Err, Result, refl, sym, ap, arith, cond, true, false, Bool}
 use Rattle.cbor4ii_items.specs.Decoding.{CostFits}
+use Rattle.cbor4ii_items.specs.Reading.{Reading, go_on}
 use Rattle.cbor4ii_tree.specs.Cost.{Budget, step_in}
 use Rattle.cbor4ii_tree.specs.Refusal.{Refusal}
 use Rattle.cbor4ii_tree.specs.Stops.{Is, Stepped}
@@ -29,8 +30,8 @@ pub bind_err : {A B : Type 0} (r : Answer A) (f : A × List ℕ → Answer B) (z
 bind_err (Ok x) f z e = inr (x, refl, e)
 bind_err {B = B} (Err y) f z e = inl (ap Err (same_err {A = B × List ℕ} (Err y) y z refl e))
 
-pub then_err : {A B : Type 0} (r : Answer A) (f : A × List ℕ → Answer B) (z : Refusal × List ℕ) → r ≡ Err z → (r >>= f) ≡ Err z
-then_err r f z e = rw e refl
+pub then_err : {A B : Type 0} (r : Answer A) (next : A → Reading B) (z : Refusal × List ℕ) → r ≡ Err z → go_on r next ≡ Err z
+then_err r next z e = rw e refl
 
 pub guard_ok : {A : Type 0} (b : Bool) (z : Refusal × List ℕ) (x y : A × List ℕ) → ◌≡◌ {A = Answer A} (cond b (Err z) (Ok x)) (Ok y) → (b ≡ false) × (x ≡ y)
 guard_ok {A} true z x y e = absurd (no_ok {A = A} z y e)

@@ -1,7 +1,9 @@
 -- The parts of the plain programs on lists. They compute, so that a row of bytes can be tried;
 -- the laws tie them to trees and stops.
-use Rattle.std.specs.Prelude.{ℕ, zero, suc, ◌+◌, ◌*◌, ◌-◌, ◌%◌, ◌==◌, List, [], ◌∷◌, length, take, drop, fold, Option, Some, None, Result, Ok, Err, nat_lt, if◌then◌else◌}
+use Rattle.std.specs.Prelude.{ℕ, zero, suc, ◌-◌, ◌%◌, ◌==◌, List, [], ◌∷◌, length, take, drop, Option, Some, None, Result, Ok, Err, nat_lt, if◌then◌else◌}
 use Rattle.cbor4ii_items.specs.Head.{Width, in_first, one, two, four, eight, break}
+use Rattle.cbor4ii_items.specs.Magnitude.{number_of}
+use Rattle.cbor4ii_items.specs.Reading.{Reading, go_on}
 use Rattle.cbor4ii_tree.specs.Tree.{Tree, Trees, no_trees, tree, Pairs, no_pairs, pair}
 use Rattle.cbor4ii_tree.specs.Cost.{Budget}
 use Rattle.cbor4ii_tree.specs.Refusal.{Refusal, eof, depth_overflow, len_of, Small, break_name}
@@ -11,16 +13,11 @@ abbrev pub Answer : Type 0 → Type 0
 Answer A = Result (A × List ℕ) (Refusal × List ℕ)
 
 abbrev pub Parser : Type 0 → Type 0
-Parser A = List ℕ → Answer A
+Parser A = Reading A
 
 infixl 10 ◌>>=◌
 abbrev pub ◌>>=◌ : {A B : Type 0} → Answer A → (A × List ℕ → Answer B) → Answer B
-(Ok x) >>= f = f x
-(Err e) >>= f = Err e
-
--- the number of bytes that come most significant first
-abbrev pub big_endian : List ℕ → ℕ
-big_endian bs = fold (λ high b. high * 256 + b) 0 bs
+first >>= next = go_on first (λ value left. next (value, left))
 
 -- k bytes; where some are missing, as many are asked for
 abbrev pub front_at : List ℕ → ℕ → Parser (List ℕ)
@@ -28,7 +25,7 @@ front_at name k bs = if nat_lt (length bs) k then Err (eof name (len_of (k - len
 
 -- the number in k bytes; where some are missing, all are asked for
 abbrev pub number_at : List ℕ → ℕ → Parser ℕ
-number_at name k bs = if nat_lt (length bs) k then Err (eof name (len_of k), []) else Ok (big_endian (take k bs), drop k bs)
+number_at name k bs = if nat_lt (length bs) k then Err (eof name (len_of k), []) else Ok (number_of (take k bs), drop k bs)
 
 -- the argument of a head whose initial byte is b
 unfoldable pub argument_at : List ℕ → Width → ℕ → Parser ℕ

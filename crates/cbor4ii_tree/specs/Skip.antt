@@ -2,14 +2,15 @@
 use Rattle.std.specs.Prelude.{ℕ, zero, suc, ◌%◌, List, [], ◌∷◌, length, Ok, Err}
 use Rattle.cbor4ii_items.specs.Head.{Width, in_first, one, two, four, eight}
 use Rattle.cbor4ii_items.specs.Initial.{precision_bytes, Initial, starts_int, bad_int, starts_string, starts_chunks, bad_string, starts_array, starts_open_array, bad_array, starts_map, starts_open_map, bad_map, starts_tag, bad_tag, starts_simple, starts_bits, other_simple, initial}
+use Rattle.cbor4ii_items.specs.Magnitude.{number_of}
 use Rattle.cbor4ii_tree.specs.Tree.{Tree, int, string, chunked, array, array_open, map_of, map_open, tagged, simple, bits}
 use Rattle.cbor4ii_tree.specs.Cost.{Budget, step_in}
 use Rattle.cbor4ii_tree.specs.Refusal.{eof, mismatch, unsupported, Small, tag_name, ignored_any}
-use Rattle.cbor4ii_tree.specs.Parse.{Parser, ◌>>=◌, big_endian, front_at, argument_at, stepped, trees_at, pairs_at, open_trees_at, open_pairs_at}
+use Rattle.cbor4ii_tree.specs.Parse.{Parser, ◌>>=◌, front_at, argument_at, stepped, trees_at, pairs_at, open_trees_at, open_pairs_at}
 
 -- the number in k bytes; where some are missing, as many are asked for
 abbrev pub whole_number_at : List ℕ → ℕ → Parser ℕ
-whole_number_at name k bs = front_at name k bs >>= λ p. Ok (big_endian p.0, p.1)
+whole_number_at name k bs = front_at name k bs >>= λ p. Ok (number_of p.0, p.1)
 
 unfoldable pub whole_argument_at : List ℕ → Width → ℕ → Parser ℕ
 whole_argument_at name in_first b bs = Ok (b % 32, bs)

@@ -4,11 +4,11 @@ use Rattle.std.proofs.lemmas.List.{length-replicate}
 use Rattle.std.specs.Int.{bytes_high_first}
 use Rattle.cbor4ii_items.specs.Head.{Width, in_first, one, two, four, eight, HeadFits, additional, byte_count, head, break, IsBytes}
 use Rattle.cbor4ii_items.specs.Initial.{unsigned}
+use Rattle.cbor4ii_items.specs.Magnitude.{number_of}
 use Rattle.cbor4ii_tree.specs.Tree.{Tree, int, Trees, no_trees, tree, Pairs, no_pairs, pair, count, pair_count, bytes, bytes_all, bytes_pairs}
 use Rattle.cbor4ii_tree.specs.Cost.{Budget, step_in}
 use Rattle.cbor4ii_tree.specs.Refusal.{Refusal, IsEof}
 use Rattle.cbor4ii_tree.specs.Stops.{Stopping, Stepped, Each, EachPair, NoBreak, BehindKey}
-use Rattle.cbor4ii_tree.specs.Parse.{big_endian}
 use Rattle.cbor4ii_tree.proofs.heads.Inverse.{number_of_bytes}
 use Rattle.cbor4ii_tree.proofs.heads.Means.{WidthSays, HeadByte}
 
@@ -89,7 +89,7 @@ filled_number k bs h lt =
     let all : List ℕ = bs ++ zeros (k - length bs) in
     let len : length all ≡ k = omega (arith, length-append bs (zeros (k - length bs)), length-zeros (k - length bs)) in
     let p = number_of_bytes k all len (IsBytes-append bs (zeros (k - length bs)) h (zeros_bytes (k - length bs))) in
-    (big_endian all, p.1, p.0, zeros_some (k - length bs) (omega arith))
+    (number_of all, p.1, p.0, zeros_some (k - length bs) (omega arith))
 
 pub filled : (major : ℕ) (w : Width) (b : ℕ) (bs : List ℕ) → IsBytes bs → HeadByte major w b → length bs < byte_count w → Filled major w b bs
 filled major w b bs h m lt =

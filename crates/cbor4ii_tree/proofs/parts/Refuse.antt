@@ -3,10 +3,11 @@ use Rattle.std.proofs.Common.{◌≡◌, ℕ, zero, suc, ◌*◌, ◌<◌, ◌�
 use Rattle.std.proofs.lemmas.Bool.{eqb-false}
 use Rattle.std.specs.Int.{bytes_high_first}
 use Rattle.cbor4ii_items.specs.Head.{Width, in_first, one, two, four, eight, byte_count, break, IsBytes}
+use Rattle.cbor4ii_items.specs.Magnitude.{number_of}
 use Rattle.cbor4ii_tree.specs.Tree.{Tree, no_trees, tree, no_pairs, pair, bytes, bytes_all, bytes_pairs}
 use Rattle.cbor4ii_tree.specs.Refusal.{Refusal}
 use Rattle.cbor4ii_tree.specs.Stops.{Stopping, Missing, MissingAll, AtHead, Counted, OpenItems, OpenPairs, BehindKey}
-use Rattle.cbor4ii_tree.specs.Parse.{Parser, Answer, ◌>>=◌, big_endian, front_at, number_at, argument_at, trees_at, pairs_at, open_trees_at, open_pairs_at}
+use Rattle.cbor4ii_tree.specs.Parse.{Parser, Answer, ◌>>=◌, front_at, number_at, argument_at, trees_at, pairs_at, open_trees_at, open_pairs_at}
 use Rattle.cbor4ii_tree.specs.Binds.{bind_err, no_err, is_err, guard_err, chosen}
 use Rattle.cbor4ii_tree.specs.head_laws.Initials.{length-bytes-pos}
 use Rattle.cbor4ii_tree.proofs.heads.Means.{HeadByte, Headed, argument_inverse}
@@ -18,7 +19,7 @@ pub front_err : (name : List ℕ) (k : ℕ) (bs : List ℕ) (e : Refusal) (rest 
 front_err name k bs e rest h = let g = guard_err (ltb (length bs) k) _ [] (take k bs, drop k bs) e rest h in (ltb-true (length bs) k g.0, g.1)
 
 pub number_err : (name : List ℕ) (k : ℕ) (bs : List ℕ) (e : Refusal) (rest : List ℕ) → number_at name k bs ≡ Err (e, rest) → MissingAll name k bs e rest
-number_err name k bs e rest h = let g = guard_err (ltb (length bs) k) _ [] (big_endian (take k bs), drop k bs) e rest h in (ltb-true (length bs) k g.0, g.1)
+number_err name k bs e rest h = let g = guard_err (ltb (length bs) k) _ [] (number_of (take k bs), drop k bs) e rest h in (ltb-true (length bs) k g.0, g.1)
 
 pub argument_err : (name : List ℕ) (w : Width) (b : ℕ) (bs : List ℕ) (e : Refusal) (rest : List ℕ) → argument_at name w b bs ≡ Err (e, rest) → MissingAll name (byte_count w) bs e rest
 unfolding argument_at

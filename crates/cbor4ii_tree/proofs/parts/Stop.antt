@@ -30,7 +30,7 @@ missing_argument name eight b bs e rest h = missing_number name 8 bs e rest h
 -- behind a head, whose bytes after it are no more than those before
 pub head_stops : {A : Type 0} (name : List ℕ) (major : ℕ) (w : Width) (b : ℕ) (bs : List ℕ) (f : ℕ × List ℕ → Answer A) (then : ℕ → Stopping) (e : Refusal) (rest : List ℕ)
     → ((n : ℕ) (after : List ℕ) → length after ≤ length bs → then n after e rest → f (n, after) ≡ Err (e, rest)) → AtHead name major w b then bs e rest → (argument_at name w b bs >>= f) ≡ Err (e, rest)
-head_stops name major w b bs f then e rest k (inl s) = then_err (argument_at name w b bs) f (e, rest) (missing_argument name w b bs e rest s)
+head_stops name major w b bs f then e rest k (inl s) = then_err (argument_at name w b bs) _ (e, rest) (missing_argument name w b bs e rest s)
 head_stops name major w b bs f then e rest k (inr s) =
     let same : suc (length bs) ≡ suc (length (bytes_high_first (byte_count w) s.argument ++ s.after)) = ap length s.is in
     rw (argument_of name major s.argument w b bs s.after s.fits s.is) (k s.argument s.after (omega (arith, same, length-append (bytes_high_first (byte_count w) s.argument) s.after)) s.stopped)

@@ -42,7 +42,7 @@ Reads_from_read input budget v rest h e =
     }
 
 pub read_from_Stops : (input : List ℕ) (budget : Budget) (e : Refusal) (rest : List ℕ) → StopsReading input budget e rest → read budget input ≡ Err (e, rest)
-read_from_Stops input budget e rest s = then_err (read_tree budget input) (λ p. Ok (value p.0, p.1)) (e, rest) (read_stops (suc (length input)) budget input e rest (omega arith) s)
+read_from_Stops input budget e rest s = then_err (read_tree budget input) _ (e, rest) (read_stops (suc (length input)) budget input e rest (omega arith) s)
 
 pub Stops_from_read : (input : List ℕ) (budget : Budget) (e : Refusal) (rest : List ℕ) → IsBytes input → read budget input ≡ Err (e, rest) → StopsReading input budget e rest
 Stops_from_read input budget e rest h x =

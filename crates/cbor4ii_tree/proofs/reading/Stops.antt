@@ -53,24 +53,24 @@ by_stops item budget stops bound a g (bad_string k) b bs e rest lt s = err _ _ _
 by_stops item budget stops bound a g (starts_array w) b bs e rest lt s =
     stepped_stops {A = Tree} array_name (step_in budget) (b ∷ bs) (λ inner. argument_at array_name w b bs >>= λ n. trees_at (item inner) n.0 n.1 >>= λ q. Ok (array w q.0, q.1)) (λ inner. AtHead array_name 4 w b (Counted (Readable inner) (stops inner)) bs) e rest (λ inner is z.
     head_stops {A = Tree} array_name 4 w b bs (λ n. trees_at (item inner) n.0 n.1 >>= λ q. Ok (array w q.0, q.1)) (Counted (Readable inner) (stops inner)) e rest (λ n after le st.
-    then_err {B = Tree} (trees_at (item inner) n after) (λ q. Ok (array w q.0, q.1)) (e, rest) (trees_stop (item inner) (Readable inner) (stops inner) bound (a inner) (g inner) n after e rest (omega arith) st)) z) s
+    then_err {B = Tree} (trees_at (item inner) n after) _ (e, rest) (trees_stop (item inner) (Readable inner) (stops inner) bound (a inner) (g inner) n after e rest (omega arith) st)) z) s
 by_stops item budget stops bound a g starts_open_array b bs e rest lt s =
     stepped_stops {A = Tree} array_name (step_in budget) (b ∷ bs) (λ inner. open_trees_at (item inner) (suc (length bs)) bs >>= λ q. Ok (array_open q.0, q.1)) (λ inner. OpenItems (Readable inner) (stops inner) bs) e rest (λ inner is z.
-    then_err {B = Tree} (open_trees_at (item inner) (suc (length bs)) bs) (λ q. Ok (array_open q.0, q.1)) (e, rest) (open_trees_stop (item inner) (Readable inner) (stops inner) bound (a inner) (readable_starts inner) (g inner) (suc (length bs)) bs e rest (omega arith) lt z)) s
+    then_err {B = Tree} (open_trees_at (item inner) (suc (length bs)) bs) _ (e, rest) (open_trees_stop (item inner) (Readable inner) (stops inner) bound (a inner) (readable_starts inner) (g inner) (suc (length bs)) bs e rest (omega arith) lt z)) s
 by_stops item budget stops bound a g bad_array b bs e rest lt s =
     stepped_stops {A = Tree} array_name (step_in budget) (b ∷ bs) (λ inner. Err _) (λ inner. Is _ bs) e rest (λ inner is z. err {A = Tree} _ _ _ _ z) s
 by_stops item budget stops bound a g (starts_map w) b bs e rest lt s =
     stepped_stops {A = Tree} map_name (step_in budget) (b ∷ bs) (λ inner. argument_at map_name w b bs >>= λ n. pairs_at (item inner) n.0 n.1 >>= λ q. Ok (map_of w q.0, q.1)) (λ inner. AtHead map_name 5 w b (λ n. Counted (Readable inner) (stops inner) (2 * n)) bs) e rest (λ inner is z.
     head_stops {A = Tree} map_name 5 w b bs (λ n. pairs_at (item inner) n.0 n.1 >>= λ q. Ok (map_of w q.0, q.1)) (λ n. Counted (Readable inner) (stops inner) (2 * n)) e rest (λ n after le st.
-    then_err {B = Tree} (pairs_at (item inner) n after) (λ q. Ok (map_of w q.0, q.1)) (e, rest) (pairs_stop (item inner) (Readable inner) (stops inner) bound (a inner) (g inner) n after e rest (omega arith) st)) z) s
+    then_err {B = Tree} (pairs_at (item inner) n after) _ (e, rest) (pairs_stop (item inner) (Readable inner) (stops inner) bound (a inner) (g inner) n after e rest (omega arith) st)) z) s
 by_stops item budget stops bound a g starts_open_map b bs e rest lt s =
     stepped_stops {A = Tree} map_name (step_in budget) (b ∷ bs) (λ inner. open_pairs_at (item inner) (suc (length bs)) bs >>= λ q. Ok (map_open q.0, q.1)) (λ inner. OpenPairs (Readable inner) (stops inner) bs) e rest (λ inner is z.
-    then_err {B = Tree} (open_pairs_at (item inner) (suc (length bs)) bs) (λ q. Ok (map_open q.0, q.1)) (e, rest) (open_pairs_stop (item inner) (Readable inner) (stops inner) bound (a inner) (readable_starts inner) (g inner) (suc (length bs)) bs e rest (omega arith) lt z)) s
+    then_err {B = Tree} (open_pairs_at (item inner) (suc (length bs)) bs) _ (e, rest) (open_pairs_stop (item inner) (Readable inner) (stops inner) bound (a inner) (readable_starts inner) (g inner) (suc (length bs)) bs e rest (omega arith) lt z)) s
 by_stops item budget stops bound a g bad_map b bs e rest lt s =
     stepped_stops {A = Tree} map_name (step_in budget) (b ∷ bs) (λ inner. Err _) (λ inner. Is _ bs) e rest (λ inner is z. err {A = Tree} _ _ _ _ z) s
 by_stops item budget stops bound a g (starts_tag w) b bs e rest lt s =
     head_stops {A = Tree} tag_name 6 w b bs (λ n. item budget n.1 >>= λ q. Ok (tagged n.0 w q.0, q.1)) (λ n. stops budget) e rest (λ n after le st.
-    then_err {B = Tree} (item budget after) (λ q. Ok (tagged n w q.0, q.1)) (e, rest) (g budget after e rest (omega arith) st)) s
+    then_err {B = Tree} (item budget after) _ (e, rest) (g budget after e rest (omega arith) st)) s
 by_stops item budget stops bound a g bad_tag b bs e rest lt s = err _ _ _ _ s
 by_stops item budget stops bound a g (starts_simple v) b bs e rest lt s = absurd s
 by_stops item budget stops bound a g (starts_bits q) b bs e rest lt s = then_err (number_at (precision_name q) (precision_bytes q) bs) _ (e, rest) (missing_number (precision_name q) (precision_bytes q) bs e rest s)

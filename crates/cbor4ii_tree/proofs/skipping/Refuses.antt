@@ -2,12 +2,13 @@
 use Rattle.std.proofs.Common.{◌≡◌, ℕ, zero, suc, ◌*◌, ◌<◌, inl, inr, List, [], ◌∷◌, length, Ok, Err, arith}
 use Rattle.cbor4ii_items.specs.Head.{Width, in_first, one, two, four, eight, byte_count, IsBytes}
 use Rattle.cbor4ii_items.specs.Initial.{kind_major, precision_bytes, Initial, starts_int, bad_int, starts_string, starts_chunks, bad_string, starts_array, starts_open_array, bad_array, starts_map, starts_open_map, bad_map, starts_tag, bad_tag, starts_simple, starts_bits, other_simple, initial}
+use Rattle.cbor4ii_items.specs.Magnitude.{number_of}
 use Rattle.cbor4ii_tree.specs.Tree.{Tree, int, string, chunked, array, array_open, map_of, map_open, tagged, bits}
 use Rattle.cbor4ii_tree.specs.Cost.{Budget, step_in}
 use Rattle.cbor4ii_tree.specs.Refusal.{Refusal, ignored_any, tag_name}
 use Rattle.cbor4ii_tree.specs.Stops.{Stopping, Missing, Counted}
 use Rattle.cbor4ii_tree.specs.StopsSkipping.{Skippable, SkippingStopsBy, SkippingStopsFrom, SkippingStopsWithin}
-use Rattle.cbor4ii_tree.specs.Parse.{Parser, ◌>>=◌, big_endian, front_at, trees_at, pairs_at, open_trees_at, open_pairs_at}
+use Rattle.cbor4ii_tree.specs.Parse.{Parser, ◌>>=◌, front_at, trees_at, pairs_at, open_trees_at, open_pairs_at}
 use Rattle.cbor4ii_tree.specs.Skip.{whole_number_at, whole_argument_at, skip_by, skip_from, skip_within}
 use Rattle.cbor4ii_tree.specs.Binds.{bind_err, no_err, is_err, stepped_err}
 use Rattle.cbor4ii_tree.proofs.heads.Means.{Means, means}
@@ -16,7 +17,7 @@ use Rattle.cbor4ii_tree.proofs.parts.Refuse.{Refuses, front_err, at_head, trees_
 use Rattle.cbor4ii_tree.proofs.skipping.Sound.{skip_sound}
 
 whole_number_err : (name : List ℕ) (k : ℕ) (bs : List ℕ) (e : Refusal) (rest : List ℕ) → whole_number_at name k bs ≡ Err (e, rest) → Missing name k bs e rest
-whole_number_err name k bs e rest h = elim (bind_err (front_at name k bs) (λ p. Ok (big_endian p.0, p.1)) (e, rest) h) [ inl f ↦ front_err name k bs e rest f | inr f ↦ absurd (no_err _ _ f.2) ]
+whole_number_err name k bs e rest h = elim (bind_err (front_at name k bs) (λ p. Ok (number_of p.0, p.1)) (e, rest) h) [ inl f ↦ front_err name k bs e rest f | inr f ↦ absurd (no_err _ _ f.2) ]
 
 whole_argument_err : (name : List ℕ) (w : Width) (b : ℕ) (bs : List ℕ) (e : Refusal) (rest : List ℕ) → whole_argument_at name w b bs ≡ Err (e, rest) → Missing name (byte_count w) bs e rest
 unfolding whole_argument_at

@@ -31,25 +31,25 @@ by_stops item budget stops bound a g (starts_int sg w) b bs e rest lt s = then_e
 by_stops item budget stops bound a g (bad_int sg) b bs e rest lt s = err _ _ _ _ s
 by_stops item budget stops bound a g (starts_string k w) b bs e rest lt s =
     head_stops {A = Tree} ignored_any (kind_major k) w b bs (λ n. front_at ignored_any n.0 n.1 >>= λ q. Ok (string k w q.0, q.1)) (Missing ignored_any) e rest (λ n after le st.
-    then_err {B = Tree} (front_at ignored_any n after) (λ q. Ok (string k w q.0, q.1)) (e, rest) (missing_front ignored_any n after e rest st)) s
+    then_err {B = Tree} (front_at ignored_any n after) _ (e, rest) (missing_front ignored_any n after e rest st)) s
 by_stops item budget stops bound a g (starts_chunks k) b bs e rest lt s =
     then_err (open_trees_at item (suc (length bs)) bs) _ (e, rest) (open_trees_stop item (Skippable budget) stops bound a (skippable_starts budget) g (suc (length bs)) bs e rest (omega arith) lt s)
 by_stops item budget stops bound a g (bad_string k) b bs e rest lt s = err _ _ _ _ s
 by_stops item budget stops bound a g (starts_array w) b bs e rest lt s =
     head_stops {A = Tree} ignored_any 4 w b bs (λ n. trees_at item n.0 n.1 >>= λ q. Ok (array w q.0, q.1)) (Counted (Skippable budget) stops) e rest (λ n after le st.
-    then_err {B = Tree} (trees_at item n after) (λ q. Ok (array w q.0, q.1)) (e, rest) (trees_stop item (Skippable budget) stops bound a g n after e rest (omega arith) st)) s
+    then_err {B = Tree} (trees_at item n after) _ (e, rest) (trees_stop item (Skippable budget) stops bound a g n after e rest (omega arith) st)) s
 by_stops item budget stops bound a g starts_open_array b bs e rest lt s =
     then_err (open_trees_at item (suc (length bs)) bs) _ (e, rest) (open_trees_stop item (Skippable budget) stops bound a (skippable_starts budget) g (suc (length bs)) bs e rest (omega arith) lt s)
 by_stops item budget stops bound a g bad_array b bs e rest lt s = err _ _ _ _ s
 by_stops item budget stops bound a g (starts_map w) b bs e rest lt s =
     head_stops {A = Tree} ignored_any 5 w b bs (λ n. pairs_at item n.0 n.1 >>= λ q. Ok (map_of w q.0, q.1)) (λ n. Counted (Skippable budget) stops (2 * n)) e rest (λ n after le st.
-    then_err {B = Tree} (pairs_at item n after) (λ q. Ok (map_of w q.0, q.1)) (e, rest) (pairs_stop item (Skippable budget) stops bound a g n after e rest (omega arith) st)) s
+    then_err {B = Tree} (pairs_at item n after) _ (e, rest) (pairs_stop item (Skippable budget) stops bound a g n after e rest (omega arith) st)) s
 by_stops item budget stops bound a g starts_open_map b bs e rest lt s =
     then_err (open_pairs_at item (suc (length bs)) bs) _ (e, rest) (open_pairs_stop item (Skippable budget) stops bound a (skippable_starts budget) g (suc (length bs)) bs e rest (omega arith) lt s)
 by_stops item budget stops bound a g bad_map b bs e rest lt s = err _ _ _ _ s
 by_stops item budget stops bound a g (starts_tag w) b bs e rest lt s =
     head_stops {A = Tree} tag_name 6 w b bs (λ n. item n.1 >>= λ q. Ok (tagged n.0 w q.0, q.1)) (λ n. stops) e rest (λ n after le st.
-    then_err {B = Tree} (item after) (λ q. Ok (tagged n w q.0, q.1)) (e, rest) (g after e rest (omega arith) st)) s
+    then_err {B = Tree} (item after) _ (e, rest) (g after e rest (omega arith) st)) s
 by_stops item budget stops bound a g bad_tag b bs e rest lt s = err _ _ _ _ s
 by_stops item budget stops bound a g (starts_simple sg) b bs e rest lt s = absurd s
 by_stops item budget stops bound a g (starts_bits q) b bs e rest lt s = then_err (whole_number_at ignored_any (precision_bytes q) bs) _ (e, rest) (missing_whole_number ignored_any (precision_bytes q) bs e rest s)

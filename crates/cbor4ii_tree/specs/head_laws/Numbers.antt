@@ -5,7 +5,7 @@ use Rattle.std.proofs.Math.Arith.{mod-mul}
 use Rattle.std.specs.Int.{byte_at, bytes_high_first}
 use Rattle.cbor4ii_items.specs.Head.{Width, in_first, one, two, four, eight, HeadFits, additional}
 use Rattle.cbor4ii_items.specs.Initial.{wide, info_of, initial, by_major}
-use Rattle.cbor4ii_tree.specs.Parse.{big_endian}
+use Rattle.cbor4ii_items.specs.Magnitude.{number_of}
 
 -- one more byte in front of the low k bytes
 byte_on : (k n high : ℕ) → (high * 256 + byte_at k n) * 256 ^ k + n % 256 ^ k ≡ high * 256 ^ suc k + n % 256 ^ suc k
@@ -20,7 +20,7 @@ bytes_read : (k n high : ℕ) → fold (λ h byte. h * 256 + byte) high (bytes_h
 bytes_read zero n high = omega arith
 bytes_read (suc k) n high = bytes_read k n (high * 256 + byte_at k n) ∙ byte_on k n high
 
-pub low_bytes : (k n : ℕ) → big_endian (bytes_high_first k n) ≡ n % 256 ^ k
+pub low_bytes : (k n : ℕ) → number_of (bytes_high_first k n) ≡ n % 256 ^ k
 low_bytes k n = bytes_read k n 0 ∙ omega arith
 
 pub length-bytes_high_first : (k n : ℕ) → length (bytes_high_first k n) ≡ k
