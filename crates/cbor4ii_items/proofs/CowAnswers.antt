@@ -15,7 +15,7 @@ use Rattle.cbor4ii_items.specs.ProgramEnds.{length_none, content_inverse}
 use Rattle.cbor4ii_items.specs.StringLaws.{length_open}
 use Rattle.cbor4ii_items.specs.Strings.{ReadsString, StopsString, StopsText}
 use Rattle.cbor4ii_items.specs.Lent.{Lends, Stays}
-use Rattle.cbor4ii_items.specs.Cow.{ReadsEither, StopsEither, Takes, BorrowsWhereCounted, IsBorrowedWhereWhole}
+use Rattle.cbor4ii_items.specs.Cow.{ReadsEither, StopsEither, TakesContent, BorrowsWhereCounted, IsBorrowedWhereWhole}
 use Rattle.cbor4ii_items.specs.Laws.Steps.{moves_then}
 use Rattle.cbor4ii_items.proofs.OpenStrings.{string_known}
 use Rattle.cbor4ii_items.proofs.StringAnswers.{content_sound, content_refuses, content_stops, as_sound, as_refuses, text_sound, text_refuses, text_stops, utf8_refuses, utf8_stops}
@@ -35,13 +35,13 @@ lends_follow name {count = count} l = record {
 stays_follow : {V E : Type 0} {program : Reading V} {a m b : View} {r : Result V (DecodeError E)} → Stays a m → Follows program m b r → Follows program a b r
 stays_follow s f = record { moves = moves_then s.kept f.moves; answers = λ xs told. f.answers xs (s.told xs told) }
 
-pub takes_still : {V E : Type 0} {program : Reading (List ℕ)} (is_text : Bool) (content : V → List ℕ) {a m b : View} (r : Result (Option V) (DecodeError E)) → Stays a m → Takes program is_text content m b r → Takes program is_text content a b r
+pub takes_still : {V E : Type 0} {program : Reading (List ℕ)} (is_text : Bool) (content : V → List ℕ) {a m b : View} (r : Result (Option V) (DecodeError E)) → Stays a m → TakesContent program is_text content m b r → TakesContent program is_text content a b r
 takes_still is_text content (Ok value) s t = record { by = (t.by.0, stays_follow s t.by.1, t.by.2) }
 takes_still is_text content (Err e) s t = record { by = stays_follow s t.by }
 
 -- where the bytes are fewer, there is no value
 pub few_borrows : {V E : Type 0} (name : List ℕ) (count : ℕ) (is_text : Bool) (content : V → List ℕ) (IsBorrowed : V → Type 0) {a m b : View} (r : Result (Option V) (DecodeError E)) → Stays a m → (IsTrue a.lends_whole → Told a.told (λ xs. length xs < count))
-    → Takes (content_on name count []) is_text content m b r → IfOk r (λ value. IfSome value (IsBorrowedWhereWhole IsBorrowed a))
+    → TakesContent (content_on name count []) is_text content m b r → IfOk r (λ value. IfSome value (IsBorrowedWhereWhole IsBorrowed a))
 few_borrows name count is_text content IsBorrowed (Ok (Some v)) s few t = λ whole xs told.
     let h = t.by.1.answers xs (s.told xs told) in
     let long = (content_inverse name count [] xs t.by.0 h.0 h.2).0 in
@@ -53,8 +53,8 @@ few_borrows name count is_text content IsBorrowed (Err e) s few t = tt
 
 module _ {V E : Type 0} (name : List ℕ) (major : ℕ) (is_text : Bool) (content : V → List ℕ) {a b : View} where
   -- behind a head that says the length
-  pub either_known : {l : Option ℕ} {count : ℕ} {m : View} (r : Result (Option V) (DecodeError E)) → Runs {E = E} (length_at name major) a m (Ok l) → l ≡ Some count → Takes (content_on name count []) is_text content m b r
-      → Takes (string_at name major a.budget) is_text content a b r
+  pub either_known : {l : Option ℕ} {count : ℕ} {m : View} (r : Result (Option V) (DecodeError E)) → Runs {E = E} (length_at name major) a m (Ok l) → l ≡ Some count → TakesContent (content_on name count []) is_text content m b r
+      → TakesContent (string_at name major a.budget) is_text content a b r
   either_known (Ok value) run is t = record { by = (t.by.0, string_known name major run is t.by.1, t.by.2) }
   either_known (Err e) run is t = record { by = string_known name major run is t.by }
 
@@ -64,7 +64,7 @@ either_stops name {a = a} {b = b} true major {e = e} text f = text_stops (subst 
 either_stops name false major text f = content_stops name major f
 
 module _ {V E : Type 0} (name : List ℕ) (content : V → List ℕ) {a b : View} where
-  pub either_sound : (is_text : Bool) (major : ℕ) {v : V} → (IsTrue is_text → major ≡ 3) → Takes {E = E} (string_at name major a.budget) is_text content a b (Ok (Some v)) → Sound (ReadsEither is_text major content) a b v
+  pub either_sound : (is_text : Bool) (major : ℕ) {v : V} → (IsTrue is_text → major ≡ 3) → TakesContent {E = E} (string_at name major a.budget) is_text content a b (Ok (Some v)) → Sound (ReadsEither is_text major content) a b v
   either_sound true major text t = text_sound content (sym t.by.2.0) (t.by.2.1 refl) (subst (λ (j : ℕ). Sound (ReadsString j) a b t.by.0) (text refl) (content_sound name major t.by.1))
   either_sound false major text t = as_sound major content (subst (λ z. Sound (ReadsString major) a b z) (sym t.by.2.0) (content_sound name major t.by.1))
 
@@ -73,11 +73,11 @@ module _ {V E : Type 0} (name : List ℕ) (content : V → List ℕ) {a b : View
   either_refuses false major text small f = as_refuses major content (content_refuses name major small f)
 
   -- a content that is to be UTF-8 and is not
-  pub other_refuses : (is_text : Bool) (major : ℕ) {found : Bor (List ℕ)} → (IsTrue is_text → major ≡ 3) → Takes {E = E} (string_at name major a.budget) is_text content a b (Ok None) → Refuses {E = E} (ReadsEither is_text major content) a (RequireUtf8 found)
+  pub other_refuses : (is_text : Bool) (major : ℕ) {found : Bor (List ℕ)} → (IsTrue is_text → major ≡ 3) → TakesContent {E = E} (string_at name major a.budget) is_text content a b (Ok None) → Refuses {E = E} (ReadsEither is_text major content) a (RequireUtf8 found)
   other_refuses true major text t = utf8_refuses content t.by.2.1 (subst (λ (j : ℕ). Sound (ReadsString j) a b t.by.0) (text refl) (content_sound name major t.by.1))
   other_refuses false major text t = let f = t.by.2.0 in cc
 
-  pub other_stops : (is_text : Bool) (major : ℕ) {found : Bor (List ℕ)} → found.now ≡ name → (IsTrue is_text → major ≡ 3) → Takes {E = E} (string_at name major a.budget) is_text content a b (Ok None) → Stops {E = E} (StopsEither is_text name major) a b (RequireUtf8 found)
+  pub other_stops : (is_text : Bool) (major : ℕ) {found : Bor (List ℕ)} → found.now ≡ name → (IsTrue is_text → major ≡ 3) → TakesContent {E = E} (string_at name major a.budget) is_text content a b (Ok None) → Stops {E = E} (StopsEither is_text name major) a b (RequireUtf8 found)
   other_stops true major {found = found} named text t =
       subst (λ z. Stops {E = E} (StopsText z) a b (RequireUtf8 found)) named (utf8_stops t.by.2.1 (subst (λ (j : ℕ). Sound (ReadsString j) a b t.by.0) (text refl) (content_sound name major t.by.1)))
   other_stops false major named text t = let f = t.by.2.0 in cc

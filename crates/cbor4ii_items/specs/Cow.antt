@@ -65,7 +65,7 @@ TakesBy {E = E} program is_text content old new (Ok value) = (items : List ℕ) 
 TakesBy {E = E} program is_text content old new (Err e) = Follows {E = E} program old new (Err e)
 
 -- a call that does what the program does where there is memory, and then makes a value of the content
-pub record Takes {V E : Type 0} (program : Reading (List ℕ)) (is_text : Bool) (content : V → List ℕ) (old new : View) (answer : Result (Option V) (DecodeError E)) : Type 0 where
+pub record TakesContent {V E : Type 0} (program : Reading (List ℕ)) (is_text : Bool) (content : V → List ℕ) (old new : View) (answer : Result (Option V) (DecodeError E)) : Type 0 where
   pub by : TakesBy program is_text content old new answer
 
 -- where the reader lends whole and tells its bytes, the value is borrowed

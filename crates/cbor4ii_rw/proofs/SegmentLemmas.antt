@@ -6,7 +6,7 @@ use Rattle.std.proofs.lemmas.Bool.{ltb-true}
 use Rattle.std.specs.Prelude.{IsTrue}
 use Rattle.std.specs.Borrow.{Bor}
 use Rattle.cbor4ii_rw.specs.Reader.{IsFront, IsEnough}
-use Rattle.cbor4ii_rw.specs.Segments.{joined, full, full_count, first_of, first_full}
+use Rattle.cbor4ii_rw.specs.Segments.{joined_segments, full, full_count, first_of, first_full}
 
 nothing_left : (current others : List ℕ) → length current ≡ 0 → others ≡ [] → current ++ others ≡ []
 nothing_left [] others none end = end
@@ -33,34 +33,34 @@ full_zero : (bytes : List ℕ) → full bytes ≡ 0 → bytes ≡ []
 full_zero [] none = refl
 full_zero (byte ∷ bytes) none = absurd (search (none, rules))
 
-none_full : (others : List (Bor (List ℕ))) → full_count others ≡ 0 → joined others ≡ []
+none_full : (others : List (Bor (List ℕ))) → full_count others ≡ 0 → joined_segments others ≡ []
 none_full [] none = refl
 none_full (segment ∷ others) none =
-    nothing_left segment.now (joined others) (ap length (full_zero segment.now (omega arith)))
+    nothing_left segment.now (joined_segments others) (ap length (full_zero segment.now (omega arith)))
     (none_full others (omega arith))
 
 last_full : (current : List ℕ) (others : List (Bor (List ℕ)))
-    → (length current ≡ 0 → current ++ joined others ≡ []) → full current + full_count others < 2
-    → joined others ≡ []
+    → (length current ≡ 0 → current ++ joined_segments others ≡ []) → full current + full_count others < 2
+    → joined_segments others ≡ []
 last_full [] others end one = end refl
 last_full (byte ∷ bytes) others end one = none_full others (omega arith)
 
 pub current_is_enough : (want n : ℕ) (current : List ℕ) (others : List (Bor (List ℕ)))
-    → n ≡ min want (length current) → (length current ≡ 0 → current ++ joined others ≡ [])
+    → n ≡ min want (length current) → (length current ≡ 0 → current ++ joined_segments others ≡ [])
     → IsTrue (nat_lt (full current + full_count others) 2)
-    → IsEnough want (take n current) (current ++ joined others)
+    → IsEnough want (take n current) (current ++ joined_segments others)
 current_is_enough want n current others is end one =
     let few = ltb-true (full current + full_count others) 2 one in
     let long = shown_length want n current is in
-    let none_behind : joined others ≡ [] = last_full current others end few in
-    omega (arith, is, long, length-append current (joined others), ap length none_behind)
+    let none_behind : joined_segments others ≡ [] = last_full current others end few in
+    omega (arith, is, long, length-append current (joined_segments others), ap length none_behind)
 
-nothing_full : (others : List (Bor (List ℕ))) → length (joined others) ≡ 0 → first_full others ≡ []
+nothing_full : (others : List (Bor (List ℕ))) → length (joined_segments others) ≡ 0 → first_full others ≡ []
 nothing_full [] none = refl
 nothing_full (segment ∷ others) none =
     ap (λ bytes. first_of bytes (first_full others))
-    (empty segment.now (omega (arith, none, length-append segment.now (joined others))))
-    ∙ nothing_full others (omega (arith, none, length-append segment.now (joined others)))
+    (empty segment.now (omega (arith, none, length-append segment.now (joined_segments others))))
+    ∙ nothing_full others (omega (arith, none, length-append segment.now (joined_segments others)))
   where
     empty : (bytes : List ℕ) → length bytes ≡ 0 → bytes ≡ []
     empty [] none = refl
@@ -68,7 +68,7 @@ nothing_full (segment ∷ others) none =
 
 -- once empty segments are passed, the current one is shown
 pub current_is_shown : (current : List ℕ) (others : List (Bor (List ℕ)))
-    → (length current ≡ 0 → current ++ joined others ≡ [])
+    → (length current ≡ 0 → current ++ joined_segments others ≡ [])
     → first_of current (first_full others) ≡ current
 current_is_shown [] others end = nothing_full others (ap length (end refl))
 current_is_shown (byte ∷ bytes) others end = refl

@@ -5,9 +5,9 @@ use Rattle.cbor4ii_rw.specs.View.{View}
 use Rattle.cbor4ii_rw.specs.declared.segment_reader.SegmentReader.{SegmentReader}
 
 -- the segments' bytes
-abbrev pub joined : List (Bor (List ℕ)) → List ℕ
-joined [] = []
-joined (segment ∷ others) = segment.now ++ joined others
+abbrev pub joined_segments : List (Bor (List ℕ)) → List ℕ
+joined_segments [] = []
+joined_segments (segment ∷ others) = segment.now ++ joined_segments others
 
 -- 1 for a segment that has bytes
 abbrev pub full : List ℕ → ℕ
@@ -35,7 +35,7 @@ shown_segment reader = first_of reader.current.now (first_full reader.segments.n
 
 -- the bytes that a reader has left
 abbrev pub rest_of : SegmentReader → List ℕ
-rest_of reader = reader.current.now ++ joined reader.segments.now
+rest_of reader = reader.current.now ++ joined_segments reader.segments.now
 
 -- how many of its segments still have bytes
 abbrev pub full_of : SegmentReader → ℕ

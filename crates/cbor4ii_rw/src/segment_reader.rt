@@ -20,7 +20,7 @@ ghost use Rattle.cbor4ii_rw.specs.View.{Told};
 ghost use Rattle.cbor4ii_rw.specs.Reader.{IsFront, IsEnough, Shows, Breaks};
 ghost use Rattle.cbor4ii_rw.specs.Reference.{bytes_of, IsLong};
 ghost use Rattle.cbor4ii_rw.specs.Segments.{
-  joined,
+  joined_segments,
   full_count,
   rest_of,
   full_of,
@@ -46,7 +46,7 @@ pub struct SegmentReader<'de> {
 impl<'de> SegmentReader<'de> {
     /// A reader over `segments`, with 256 steps.
     pub fn new(segments: &'de [&'de [u8]]) -> SegmentReader<'de>
-        ensures told { (segment_view result).told ≡ Some (joined segments.now) }
+        ensures told { (segment_view result).told ≡ Some (joined_segments segments.now) }
         ensures whole { (segment_view result).lends_whole ≡ nat_lt (full_count segments.now) 2 }
         ensures budget { (segment_view result).budget ≡ Some 256 }
     {
@@ -55,7 +55,7 @@ impl<'de> SegmentReader<'de> {
 
     /// A reader over `segments`, with `limit` steps.
     pub fn with_limit(segments: &'de [&'de [u8]], limit: usize) -> SegmentReader<'de>
-        ensures told { (segment_view result).told ≡ Some (joined segments.now) }
+        ensures told { (segment_view result).told ≡ Some (joined_segments segments.now) }
         ensures whole { (segment_view result).lends_whole ≡ nat_lt (full_count segments.now) 2 }
         ensures budget { (segment_view result).budget ≡ Some limit }
     {

@@ -15,7 +15,7 @@ use Rattle.cbor4ii_items.specs.Decoding.{Stops}
 use Rattle.cbor4ii_items.specs.Numbers.{StopsArgument}
 use Rattle.cbor4ii_tool.specs.Fault.{kind_of}
 use Rattle.cbor4ii_tool.specs.Integer.{IntegerHead, IsInteger, BeginsOther, IsCutInteger}
-use Rattle.cbor4ii_tool.specs.Reading.{major_of, argument_of, BeginsNegative, Takes, ReadsInteger}
+use Rattle.cbor4ii_tool.specs.Reading.{major_of, argument_of, BeginsNegative, TakesInteger, ReadsInteger}
 use Rattle.cbor4ii_tool.specs.Reading.{RefusesInteger}
 use Rattle.cbor4ii_tool.specs.declared.integer.Integer.{Integer}
 use Rattle.cbor4ii_tool.specs.declared.integer.Integer.TheVariants.{Unsigned, Negative}
@@ -49,7 +49,7 @@ major_small (Negative n) = omega arith
 
 taken : (integer : Integer) (xs : List ℕ) (n : ℕ) (new : Option (List ℕ))
     → ReadsHead (major_of integer) 8 xs (argument_of integer) n → new ≡ Some (drop n xs)
-    → Takes integer xs new
+    → TakesInteger integer xs new
 taken integer xs n new h left = record {
   width = h.wide;
   valid = record { major = major_small integer; fits = h.fits };

@@ -37,7 +37,7 @@ BeginsNegative [] = ⊥
 BeginsNegative (b ∷ bs) = b / 32 ≡ 1
 
 -- the integer stands at the front of the bytes xs in some width, and what stands behind it is left
-pub record Takes (integer : Integer) (xs : List ℕ) (new : Option (List ℕ)) : Type 0 where
+pub record TakesInteger (integer : Integer) (xs : List ℕ) (new : Option (List ℕ)) : Type 0 where
   pub width : Width
   pub valid : IsInteger (in_width width integer)
   pub rest : List ℕ
@@ -46,7 +46,7 @@ pub record Takes (integer : Integer) (xs : List ℕ) (new : Option (List ℕ)) :
 
 -- the integer is taken, and the reader did not fail
 pub record ReadsInteger (integer : Integer) (old new : View) : Type 0 where
-  pub takes : Told old.told (λ xs. Takes integer xs new.told)
+  pub takes : Told old.told (λ xs. TakesInteger integer xs new.told)
   pub bound : new.bound + 1 ≤ old.bound
   pub failures : new.failures ≡ old.failures
 

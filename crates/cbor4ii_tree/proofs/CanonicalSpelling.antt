@@ -3,7 +3,7 @@ use Rattle.std.proofs.Common.{◌≡◌, ℕ, zero, suc, ◌^◌, ◌<◌, ◌�
 use Rattle.std.specs.Int.{bytes_high_first}
 use Rattle.cbor4ii_items.specs.Head.{Width, HeadFits, shortest}
 use Rattle.cbor4ii_items.specs.Initial.{Sign, unsigned, negative, Kind, byte_string, text_string, simple_false, simple_true, simple_null, simple_undefined}
-use Rattle.cbor4ii_tree.specs.Tree.{Tree, int, string, chunked, array, array_open, map_of, map_open, tagged, simple, bits, Trees, no_trees, tree, Pairs, no_pairs, pair, joined, count, pair_count, Loose, LooseAll, LoosePairs, SoundStrings, SoundStringsAll, SoundStringsPairs}
+use Rattle.cbor4ii_tree.specs.Tree.{Tree, int, string, chunked, array, array_open, map_of, map_open, tagged, simple, bits, Trees, no_trees, tree, Pairs, no_pairs, pair, joined_chunks, count, pair_count, Loose, LooseAll, LoosePairs, SoundStrings, SoundStringsAll, SoundStringsPairs}
 use Rattle.cbor4ii_tree.specs.Item.{Item, null, boolean, integer, float, bytes_item, text, sequence, mapping, tag, Items, no_items, item, Members, no_members, member, item_count, member_count, IsItem, AreItems, AreMembers}
 use Rattle.cbor4ii_tree.specs.Meaning.{value, values, member_values, number, content_item}
 use Rattle.cbor4ii_tree.specs.Cost.{cost}
@@ -140,7 +140,7 @@ mutual
   pub with_bignums-value : (t : Tree) → Loose t → with_bignums (value t) ≡ value t
   with_bignums-value (int s n w) h = with_bignums-number s n (below_from_HeadFits w n h)
   with_bignums-value (string k w content) h = with_bignums-content k content
-  with_bignums-value (chunked k ts) h = with_bignums-content k (joined ts)
+  with_bignums-value (chunked k ts) h = with_bignums-content k (joined_chunks ts)
   with_bignums-value (array w ts) h = ap sequence (with_bignums-values ts h.1)
   with_bignums-value (array_open ts) h = ap sequence (with_bignums-values ts h)
   with_bignums-value (map_of w ps) h = ap mapping (with_bignums-member_values ps h.1)

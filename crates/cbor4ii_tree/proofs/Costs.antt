@@ -2,7 +2,7 @@
 use Rattle.std.proofs.Common.{ℕ, ◌+◌, ◌^◌, ◌<◌, ◌≤◌, arith, lt-ltb}
 use Rattle.cbor4ii_items.specs.Head.{Width, in_first, one, two, four, eight, HeadFits}
 use Rattle.cbor4ii_items.specs.Initial.{Sign, unsigned, negative, Kind, byte_string, text_string, simple_false, simple_true, simple_null, simple_undefined}
-use Rattle.cbor4ii_tree.specs.Tree.{Tree, int, string, chunked, array, array_open, map_of, map_open, tagged, simple, bits, Trees, no_trees, tree, Pairs, no_pairs, pair, Loose, LooseAll, LoosePairs, IsChunk, AreChunks, SoundStrings, SoundStringsAll, SoundStringsPairs, joined}
+use Rattle.cbor4ii_tree.specs.Tree.{Tree, int, string, chunked, array, array_open, map_of, map_open, tagged, simple, bits, Trees, no_trees, tree, Pairs, no_pairs, pair, Loose, LooseAll, LoosePairs, IsChunk, AreChunks, SoundStrings, SoundStringsAll, SoundStringsPairs, joined_chunks}
 use Rattle.cbor4ii_tree.specs.Meaning.{value, values, member_values, content_item}
 use Rattle.cbor4ii_tree.specs.Cost.{cost, chunks_cost, greatest_cost, greatest_pair_cost, skip_cost, greatest_skip_cost, greatest_pair_skip_cost}
 use Rattle.cbor4ii_tree.specs.Canonical.{canon_tree, canon_trees, canon_pairs, integer_tree}
@@ -55,7 +55,7 @@ cost-canon-integer : (s : Sign) (n : ℕ) → n < 2 ^ 64 → cost (canon_tree (v
 cost-canon-integer unsigned n h = cost-integer_tree unsigned n h
 cost-canon-integer negative n h = cost-integer_tree negative n h
 
-cost-canon-content : (k : Kind) (ts : Trees) → cost (canon_tree (content_item k (joined ts))) ≤ chunks_cost ts
+cost-canon-content : (k : Kind) (ts : Trees) → cost (canon_tree (content_item k (joined_chunks ts))) ≤ chunks_cost ts
 cost-canon-content byte_string no_trees = omega arith
 cost-canon-content text_string no_trees = omega arith
 cost-canon-content byte_string (tree t ts) = omega arith

@@ -33,7 +33,7 @@ use Rattle.cbor4ii_tree.specs.Stops.{Stopping}
 use Rattle.cbor4ii_tree.specs.View.{view, items_view, members_view}
 use Rattle.cbor4ii_tree.specs.Does.{Accepting, Does}
 use Rattle.cbor4ii_tree.specs.Valuing.{ReadsStepped, SimpleOf}
-use Rattle.cbor4ii_tree.specs.Strictly.{Beginning, Lacks, raise, Exactly, BeginsOne, BeginsBehind, ReadsExactly, ReadsBehind, ShortestAt, BeginsHead, StringAt, BeginsString, BeginsText, BeginsItems, ExactItems, ExactMember, ExactMembers, BeginsCounted, Counted, BeginsStepped, BeginsTag, BeginsOther, LacksFirst}
+use Rattle.cbor4ii_tree.specs.Strictly.{Beginning, Lacks, raise, Exactly, BeginsOne, BeginsBehind, ReadsExactly, ReadsBehind, ShortestAt, BeginsHead, StringAt, BeginsString, BeginsText, BeginsItems, ExactItems, ExactMember, ExactMembers, BeginsCounted, AcceptsCount, BeginsStepped, BeginsTag, BeginsOther, LacksFirst}
 use Rattle.cbor4ii_tree.proofs.Doing.{Reached, reached_start, reached_by, reached_then, reached_as, does_ok, does_err, does_after, does_refuse, does_stepped, reached_peek, reached_first, reached_sound, steps_in}
 use Rattle.cbor4ii_tree.proofs.CanonicalSpelling.{shortest_fits}
 use Rattle.cbor4ii_tree.proofs.Costs.{below_from_HeadFits}
@@ -343,9 +343,9 @@ stepped_more reads B {a = a} {b = b} takes inward w gives outward =
 -- ---- heads that count what follows
 
 pub counted_does : {V E : Type 0} (major each n N : ℕ) (reads : ℕ → Budget → Accepting V) {r : Result V (DecodeError E)} {a m c : View} → major < 8 → N ≡ each * n → Reached (ShortestAt major n) a m → Does (reads n m.budget) (Lacks (BeginsItems N) m.budget) m c r
-    → Does (Counted major reads a.budget) (Lacks (BeginsCounted major each) a.budget) a c r
+    → Does (AcceptsCount major reads a.budget) (Lacks (BeginsCounted major each) a.budget) a c r
 counted_does major each n N reads {a = a} {m = m} small many p d =
-    does_after (ShortestAt major n) (reads n m.budget) (Counted major reads a.budget) (Lacks (BeginsItems N) m.budget) (Lacks (BeginsCounted major each) a.budget)
+    does_after (ShortestAt major n) (reads n m.budget) (AcceptsCount major reads a.budget) (Lacks (BeginsItems N) m.budget) (Lacks (BeginsCounted major each) a.budget)
     (λ xs ys zs v h s. (n, ys, h, subst (λ o. reads n o ys v zs) p.kept.budget s))
     (λ xs ys e rest h s. lacks_behind (BeginsItems N) (BeginsCounted major each) a.budget xs ys
     (λ o more c. (let k = behind_head major n xs ys more c.0 c.1 small h c.2 in let total : each * c.0 ≡ N = ap (λ j. each * j) (sym k.0) ∙ sym many in subst (BeginsItems N o) (sym k.1) (subst (λ j. BeginsItems j o c.1) total c.3)))
@@ -401,7 +401,7 @@ fits_two : (c : ℕ) (b : Budget) → CostFits c b → CostFits (2 + c) (raise (
 fits_two c None h = tt
 fits_two c (Some n) h = omega arith
 
-pub array_exact : (inner : Budget) (v : Vec Value Global) (xs ys : List ℕ) → ReadsStepped (λ o xs (v : Vec Value Global) ys. Counted 4 ExactItems o xs v.items ys) inner xs v ys → ReadsBehind inner xs (Array v) ys
+pub array_exact : (inner : Budget) (v : Vec Value Global) (xs ys : List ℕ) → ReadsStepped (λ o xs (v : Vec Value Global) ys. AcceptsCount 4 ExactItems o xs v.items ys) inner xs v ys → ReadsBehind inner xs (Array v) ys
 array_exact inner v xs ys h =
     let deep = h.0 in
     let c = h.2 in
@@ -416,7 +416,7 @@ array_exact inner v xs ys h =
       c.2.1 ∙ ap (λ r. head 4 n w ++ r) i.4 ∙ sym (append_assoc (head 4 n w) (bytes_all i.0) ys) ∙ ap (λ j. (head 4 j w ++ bytes_all i.0) ++ ys) (sym i.1),
     )
 
-pub map_exact : (inner : Budget) (v : Vec (Value × Value) Global) (xs ys : List ℕ) → ReadsStepped (λ o xs (v : Vec (Value × Value) Global) ys. Counted 5 ExactMembers o xs v.items ys) inner xs v ys → ReadsBehind inner xs (Map v) ys
+pub map_exact : (inner : Budget) (v : Vec (Value × Value) Global) (xs ys : List ℕ) → ReadsStepped (λ o xs (v : Vec (Value × Value) Global) ys. AcceptsCount 5 ExactMembers o xs v.items ys) inner xs v ys → ReadsBehind inner xs (Map v) ys
 map_exact inner v xs ys h =
     let deep = h.0 in
     let c = h.2 in

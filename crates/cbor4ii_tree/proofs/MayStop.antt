@@ -5,7 +5,7 @@ use Rattle.cbor4ii_items.specs.Initial.{Kind, byte_string, text_string, kind_maj
 use Rattle.cbor4ii_tree.specs.Tree.{Tree}
 use Rattle.cbor4ii_tree.specs.Cost.{Budget, step_in}
 use Rattle.cbor4ii_tree.specs.Refusal.{Refusal, Len, eof, mismatch, MayStop, IsEof, ignored_any, tag_name, array_name, map_name, kind_name}
-use Rattle.cbor4ii_tree.specs.Stops.{Stopping, Is, Missing, AtHead, Counted, Stepped, NoBreak, OpenItems, OpenPairs}
+use Rattle.cbor4ii_tree.specs.Stops.{Stopping, Is, Missing, AtHead, StopsInCount, Stepped, NoBreak, OpenItems, OpenPairs}
 use Rattle.cbor4ii_tree.specs.StopsSkipping.{Skippable, SkippingStopsBy, SkippingStopsFrom, SkippingStopsWithin, StopsSkipping}
 use Rattle.cbor4ii_tree.specs.StopsReading.{Readable, CutString, ChunkStopsBy, ChunkStops, ReadingStopsBy, ReadingStopsFrom, ReadingStopsWithin, StopsReading}
 
@@ -46,10 +46,10 @@ by_known b s k (bad_int sg) a bs e rest x = other _ e rest x.0 (inr (inr tt)) (�
 by_known b s k (starts_string kd v) a bs e rest x = at_head_known ignored_any (kind_major kd) v a (Missing ignored_any) (λ n bs' e' rest' y. ended _ _ e' rest' y.1.0 y.1.1) bs e rest x
 by_known b s k (starts_chunks kd) a bs e rest x = items_known _ s k bs e rest x
 by_known b s k (bad_string kd) a bs e rest x = other _ e rest x.0 (inr (inr tt)) (λ h. h)
-by_known b s k (starts_array v) a bs e rest x = at_head_known ignored_any 4 v a (Counted (Skippable b) s) (λ n bs' e' rest' y. k y.after e' rest' y.stopped) bs e rest x
+by_known b s k (starts_array v) a bs e rest x = at_head_known ignored_any 4 v a (StopsInCount (Skippable b) s) (λ n bs' e' rest' y. k y.after e' rest' y.stopped) bs e rest x
 by_known b s k starts_open_array a bs e rest x = items_known _ s k bs e rest x
 by_known b s k bad_array a bs e rest x = other _ e rest x.0 (inr (inr tt)) (λ h. h)
-by_known b s k (starts_map v) a bs e rest x = at_head_known ignored_any 5 v a (λ n. Counted (Skippable b) s (2 * n)) (λ n bs' e' rest' y. k y.after e' rest' y.stopped) bs e rest x
+by_known b s k (starts_map v) a bs e rest x = at_head_known ignored_any 5 v a (λ n. StopsInCount (Skippable b) s (2 * n)) (λ n bs' e' rest' y. k y.after e' rest' y.stopped) bs e rest x
 by_known b s k starts_open_map a bs e rest x = pairs_known _ s k bs e rest x
 by_known b s k bad_map a bs e rest x = other _ e rest x.0 (inr (inr tt)) (λ h. h)
 by_known b s k (starts_tag v) a bs e rest x = at_head_known tag_name 6 v a (λ n. s) (λ n. k) bs e rest x
@@ -101,10 +101,10 @@ reading_by_known b s k (starts_string kd v) a bs e rest (inr x) = other _ e rest
 reading_by_known b s k (starts_chunks kd) a bs e rest (inl x) = items_known _ (ChunkStops kd b) (chunk_known kd b) bs e rest x
 reading_by_known b s k (starts_chunks kd) a bs e rest (inr x) = other _ e rest x.refusal (inr (inr tt)) (λ h. h)
 reading_by_known b s k (bad_string kd) a bs e rest x = other _ e rest x.0 (inr (inr tt)) (λ h. h)
-reading_by_known b s k (starts_array v) a bs e rest x = stepped_known _ (step_in b) (a ∷ bs) (λ inner. AtHead array_name 4 v a (Counted (Readable inner) (s inner)) bs) e rest (λ inner z. at_head_known array_name 4 v a (Counted (Readable inner) (s inner)) (λ n bs' e' rest' y. k inner y.after e' rest' y.stopped) bs e rest z) x
+reading_by_known b s k (starts_array v) a bs e rest x = stepped_known _ (step_in b) (a ∷ bs) (λ inner. AtHead array_name 4 v a (StopsInCount (Readable inner) (s inner)) bs) e rest (λ inner z. at_head_known array_name 4 v a (StopsInCount (Readable inner) (s inner)) (λ n bs' e' rest' y. k inner y.after e' rest' y.stopped) bs e rest z) x
 reading_by_known b s k starts_open_array a bs e rest x = stepped_known _ (step_in b) (a ∷ bs) (λ inner. OpenItems (Readable inner) (s inner) bs) e rest (λ inner z. items_known (Readable inner) (s inner) (k inner) bs e rest z) x
 reading_by_known b s k bad_array a bs e rest x = stepped_known _ (step_in b) (a ∷ bs) (λ inner. Is (mismatch array_name a) bs) e rest (λ inner z. other _ e rest z.0 (inr (inr tt)) (λ h. h)) x
-reading_by_known b s k (starts_map v) a bs e rest x = stepped_known _ (step_in b) (a ∷ bs) (λ inner. AtHead map_name 5 v a (λ n. Counted (Readable inner) (s inner) (2 * n)) bs) e rest (λ inner z. at_head_known map_name 5 v a (λ n. Counted (Readable inner) (s inner) (2 * n)) (λ n bs' e' rest' y. k inner y.after e' rest' y.stopped) bs e rest z) x
+reading_by_known b s k (starts_map v) a bs e rest x = stepped_known _ (step_in b) (a ∷ bs) (λ inner. AtHead map_name 5 v a (λ n. StopsInCount (Readable inner) (s inner) (2 * n)) bs) e rest (λ inner z. at_head_known map_name 5 v a (λ n. StopsInCount (Readable inner) (s inner) (2 * n)) (λ n bs' e' rest' y. k inner y.after e' rest' y.stopped) bs e rest z) x
 reading_by_known b s k starts_open_map a bs e rest x = stepped_known _ (step_in b) (a ∷ bs) (λ inner. OpenPairs (Readable inner) (s inner) bs) e rest (λ inner z. pairs_known (Readable inner) (s inner) (k inner) bs e rest z) x
 reading_by_known b s k bad_map a bs e rest x = stepped_known _ (step_in b) (a ∷ bs) (λ inner. Is (mismatch map_name a) bs) e rest (λ inner z. other _ e rest z.0 (inr (inr tt)) (λ h. h)) x
 reading_by_known b s k (starts_tag v) a bs e rest x = at_head_known tag_name 6 v a (λ n. s b) (λ n. k b) bs e rest x

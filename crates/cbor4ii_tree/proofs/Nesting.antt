@@ -6,7 +6,7 @@ use Rattle.cbor4ii_items.specs.Initial.{Initial, starts_chunks, starts_array, st
 use Rattle.cbor4ii_tree.specs.Tree.{Tree, bytes, bytes_all, bytes_pairs}
 use Rattle.cbor4ii_tree.specs.Cost.{Budget, step_in}
 use Rattle.cbor4ii_tree.specs.Refusal.{Refusal, ignored_any, tag_name, array_name, map_name, value_name}
-use Rattle.cbor4ii_tree.specs.Stops.{Stopping, AtHead, Stepped, Counted, NoBreak, OpenItems, BehindKey, OpenPairs}
+use Rattle.cbor4ii_tree.specs.Stops.{Stopping, AtHead, Stepped, StopsInCount, NoBreak, OpenItems, BehindKey, OpenPairs}
 use Rattle.cbor4ii_tree.specs.StopsSkipping.{Skippable, SkippingStopsBy, SkippingStopsFrom, SkippingStopsWithin, StopsSkipping, SkippingStopsByParts}
 use Rattle.cbor4ii_tree.specs.StopsReading.{Readable, ReadingStopsBy, ReadingStopsFrom, ReadingStopsWithin, StopsReading, ReadingStopsByParts}
 
@@ -24,7 +24,7 @@ at_head_below k name major w b s t f bs e rest lt (inr x) =
     let less : length x.after < k = omega (arith, same, length-append (bytes_high_first (byte_count w) x.argument) x.after) in
     inr (record { argument = x.argument; after = x.after; fits = x.fits; is = x.is; stopped = f x.argument x.after e rest less x.stopped })
 
-counted_below : (k : ℕ) (W : Tree → Type 0) (s t : Stopping) (n : ℕ) → Below k s t → Below k (Counted W s n) (Counted W t n)
+counted_below : (k : ℕ) (W : Tree → Type 0) (s t : Stopping) (n : ℕ) → Below k s t → Below k (StopsInCount W s n) (StopsInCount W t n)
 counted_below k W s t n f bs e rest lt x =
     record { front = x.front; after = x.after; few = x.few; whole = x.whole; is = x.is; stopped = f x.after e rest (behind k bs (bytes_all x.front) x.after lt x.is) x.stopped }
 
@@ -52,10 +52,10 @@ stepped_by name (Some inner) here s t e rest f x = f inner x
 
 skip_by_below : (k : ℕ) (b : Budget) (s t : Stopping) → Below k s t → (i : Initial) (a : ℕ) → Below k (SkippingStopsBy s b i a) (SkippingStopsBy t b i a)
 skip_by_below k b s t f (starts_chunks kd) a bs e rest lt x = items_below k (Skippable b) s t f bs e rest lt x
-skip_by_below k b s t f (starts_array v) a bs e rest lt x = at_head_below k ignored_any 4 v a (Counted (Skippable b) s) (Counted (Skippable b) t) (λ n. counted_below k (Skippable b) s t n f) bs e rest lt x
+skip_by_below k b s t f (starts_array v) a bs e rest lt x = at_head_below k ignored_any 4 v a (StopsInCount (Skippable b) s) (StopsInCount (Skippable b) t) (λ n. counted_below k (Skippable b) s t n f) bs e rest lt x
 skip_by_below k b s t f starts_open_array a bs e rest lt x = items_below k (Skippable b) s t f bs e rest lt x
 skip_by_below k b s t f (starts_map v) a bs e rest lt x =
-    at_head_below k ignored_any 5 v a (λ n. Counted (Skippable b) s (2 * n)) (λ n. Counted (Skippable b) t (2 * n)) (λ n. counted_below k (Skippable b) s t (2 * n) f) bs e rest lt x
+    at_head_below k ignored_any 5 v a (λ n. StopsInCount (Skippable b) s (2 * n)) (λ n. StopsInCount (Skippable b) t (2 * n)) (λ n. counted_below k (Skippable b) s t (2 * n) f) bs e rest lt x
 skip_by_below k b s t f starts_open_map a bs e rest lt x = pairs_below k (Skippable b) s t f bs e rest lt x
 skip_by_below k b s t f (starts_tag v) a bs e rest lt x = at_head_below k tag_name 6 v a (λ n. s) (λ n. t) (λ n. f) bs e rest lt x
 skip_by_below k b s t f _ a bs e rest lt x = x
@@ -86,13 +86,13 @@ skipping_by_parts input budget e rest =
 
 read_by_below : (k : ℕ) (b : Budget) (s t : Budget → Stopping) → ((c : Budget) → Below k (s c) (t c)) → (i : Initial) (a : ℕ) → Below k (ReadingStopsBy s b i a) (ReadingStopsBy t b i a)
 read_by_below k b s t f (starts_array v) a bs e rest lt x =
-    stepped_by array_name (step_in b) (a ∷ bs) (λ inner. AtHead array_name 4 v a (Counted (Readable inner) (s inner)) bs) (λ inner. AtHead array_name 4 v a (Counted (Readable inner) (t inner)) bs) e rest
-    (λ inner. at_head_below k array_name 4 v a (Counted (Readable inner) (s inner)) (Counted (Readable inner) (t inner)) (λ n. counted_below k (Readable inner) (s inner) (t inner) n (f inner)) bs e rest lt) x
+    stepped_by array_name (step_in b) (a ∷ bs) (λ inner. AtHead array_name 4 v a (StopsInCount (Readable inner) (s inner)) bs) (λ inner. AtHead array_name 4 v a (StopsInCount (Readable inner) (t inner)) bs) e rest
+    (λ inner. at_head_below k array_name 4 v a (StopsInCount (Readable inner) (s inner)) (StopsInCount (Readable inner) (t inner)) (λ n. counted_below k (Readable inner) (s inner) (t inner) n (f inner)) bs e rest lt) x
 read_by_below k b s t f starts_open_array a bs e rest lt x =
     stepped_by array_name (step_in b) (a ∷ bs) (λ inner. OpenItems (Readable inner) (s inner) bs) (λ inner. OpenItems (Readable inner) (t inner) bs) e rest (λ inner. items_below k (Readable inner) (s inner) (t inner) (f inner) bs e rest lt) x
 read_by_below k b s t f (starts_map v) a bs e rest lt x =
-    stepped_by map_name (step_in b) (a ∷ bs) (λ inner. AtHead map_name 5 v a (λ n. Counted (Readable inner) (s inner) (2 * n)) bs) (λ inner. AtHead map_name 5 v a (λ n. Counted (Readable inner) (t inner) (2 * n)) bs) e rest
-    (λ inner. at_head_below k map_name 5 v a (λ n. Counted (Readable inner) (s inner) (2 * n)) (λ n. Counted (Readable inner) (t inner) (2 * n)) (λ n. counted_below k (Readable inner) (s inner) (t inner) (2 * n) (f inner)) bs e rest lt) x
+    stepped_by map_name (step_in b) (a ∷ bs) (λ inner. AtHead map_name 5 v a (λ n. StopsInCount (Readable inner) (s inner) (2 * n)) bs) (λ inner. AtHead map_name 5 v a (λ n. StopsInCount (Readable inner) (t inner) (2 * n)) bs) e rest
+    (λ inner. at_head_below k map_name 5 v a (λ n. StopsInCount (Readable inner) (s inner) (2 * n)) (λ n. StopsInCount (Readable inner) (t inner) (2 * n)) (λ n. counted_below k (Readable inner) (s inner) (t inner) (2 * n) (f inner)) bs e rest lt) x
 read_by_below k b s t f starts_open_map a bs e rest lt x =
     stepped_by map_name (step_in b) (a ∷ bs) (λ inner. OpenPairs (Readable inner) (s inner) bs) (λ inner. OpenPairs (Readable inner) (t inner) bs) e rest (λ inner. pairs_below k (Readable inner) (s inner) (t inner) (f inner) bs e rest lt) x
 read_by_below k b s t f (starts_tag v) a bs e rest lt x = at_head_below k tag_name 6 v a (λ n. s b) (λ n. t b) (λ n. f b) bs e rest lt x

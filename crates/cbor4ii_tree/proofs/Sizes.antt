@@ -3,7 +3,7 @@ use Rattle.std.proofs.Common.{◌≡◌, ℕ, suc, ◌+◌, ◌^◌, ◌<◌, �
 use Rattle.std.specs.Int.{bytes_high_first}
 use Rattle.cbor4ii_items.specs.Head.{byte_count, break}
 use Rattle.cbor4ii_items.specs.Initial.{Sign, unsigned, negative, Kind, byte_string, text_string, simple_false, simple_true, simple_null, simple_undefined}
-use Rattle.cbor4ii_tree.specs.Tree.{Tree, int, string, chunked, array, array_open, map_of, map_open, tagged, simple, bits, Trees, no_trees, tree, Pairs, no_pairs, pair, count, pair_count, bytes, bytes_all, bytes_pairs, joined, Loose, LooseAll, LoosePairs, SoundStrings, SoundStringsAll, SoundStringsPairs, TextIsUtf8}
+use Rattle.cbor4ii_tree.specs.Tree.{Tree, int, string, chunked, array, array_open, map_of, map_open, tagged, simple, bits, Trees, no_trees, tree, Pairs, no_pairs, pair, count, pair_count, bytes, bytes_all, bytes_pairs, joined_chunks, Loose, LooseAll, LoosePairs, SoundStrings, SoundStringsAll, SoundStringsPairs, TextIsUtf8}
 use Rattle.cbor4ii_tree.specs.Item.{Item, integer, item_count, member_count, IsItem, AreItems, AreMembers, size, size_all, size_members}
 use Rattle.cbor4ii_tree.specs.Meaning.{value, values, member_values, content_item, number}
 use Rattle.cbor4ii_tree.specs.Spelling.{Spells}
@@ -14,17 +14,17 @@ size-content : (k : Kind) (content : List ℕ) → size (content_item k content)
 size-content byte_string content = omega arith
 size-content text_string content = omega arith
 
-length-joined : (ts : Trees) → length (joined ts) ≤ length (bytes_all ts)
+length-joined : (ts : Trees) → length (joined_chunks ts) ≤ length (bytes_all ts)
 length-joined no_trees = omega arith
 length-joined (tree (string k w content) ts) =
-    omega (arith, length-joined ts, length-append content (joined ts), length-append (bytes (string k w content)) (bytes_all ts), length-append (bytes_high_first (byte_count w) (length content)) content)
+    omega (arith, length-joined ts, length-append content (joined_chunks ts), length-append (bytes (string k w content)) (bytes_all ts), length-append (bytes_high_first (byte_count w) (length content)) content)
 length-joined (tree t ts) = omega (arith, length-joined ts, length-append (bytes t) (bytes_all ts))
 
 mutual
   pub size-value : (t : Tree) → size (value t) ≤ length (bytes t)
   size-value (int s n w) = omega arith
   size-value (string k w content) = omega (arith, size-content k content, length-append (bytes_high_first (byte_count w) (length content)) content)
-  size-value (chunked k ts) = omega (arith, size-content k (joined ts), length-joined ts, length-append (bytes_all ts) (break ∷ []))
+  size-value (chunked k ts) = omega (arith, size-content k (joined_chunks ts), length-joined ts, length-append (bytes_all ts) (break ∷ []))
   size-value (array w ts) = omega (arith, size-values ts, length-append (bytes_high_first (byte_count w) (count ts)) (bytes_all ts))
   size-value (array_open ts) = omega (arith, size-values ts, length-append (bytes_all ts) (break ∷ []))
   size-value (map_of w ps) = omega (arith, size-member_values ps, length-append (bytes_high_first (byte_count w) (pair_count ps)) (bytes_pairs ps))
@@ -76,7 +76,7 @@ mutual
   pub IsItem-value : (t : Tree) → Loose t → SoundStrings t → length (bytes t) < 2 ^ 64 → IsItem (value t)
   IsItem-value (int s n w) l s' lt = integer-value s n (below_from_HeadFits w n l)
   IsItem-value (string k w content) l s lt = content-value k content s (below_from_HeadFits w (length content) l)
-  IsItem-value (chunked k ts) l s lt = content-value k (joined ts) s.1 (omega (arith, length-joined ts, length-append (bytes_all ts) (break ∷ [])))
+  IsItem-value (chunked k ts) l s lt = content-value k (joined_chunks ts) s.1 (omega (arith, length-joined ts, length-append (bytes_all ts) (break ∷ [])))
   IsItem-value (array w ts) l s lt =
       (omega (arith, item_count-values ts, below_from_HeadFits w (count ts) l.0), AreItems-values ts l.1 s (omega (arith, length-append (bytes_high_first (byte_count w) (count ts)) (bytes_all ts))))
   IsItem-value (array_open ts) l s lt =

@@ -6,7 +6,7 @@ use Rattle.std.specs.Prelude.{◌↔◌}
 use Rattle.cbor4ii_items.specs.Head.{Width, byte_count, HeadFits, additional, head, open_head, shortest, break}
 use Rattle.cbor4ii_items.specs.Initial.{Sign, unsigned, negative, sign_major, Kind, byte_string, text_string, kind_major, simple_false, simple_true, simple_null, simple_undefined, simple_byte, wide, info_of}
 use Rattle.cbor4ii_items.specs.Decoding.{CostFits}
-use Rattle.cbor4ii_tree.specs.Tree.{Tree, int, string, chunked, array, array_open, map_of, map_open, tagged, simple, bits, Trees, no_trees, tree, Pairs, no_pairs, pair, count, pair_count, joined, bytes, bytes_all, bytes_pairs, Loose, LooseAll, LoosePairs, SoundStrings, SoundStringsAll, SoundStringsPairs, Plain}
+use Rattle.cbor4ii_tree.specs.Tree.{Tree, int, string, chunked, array, array_open, map_of, map_open, tagged, simple, bits, Trees, no_trees, tree, Pairs, no_pairs, pair, count, pair_count, joined_chunks, bytes, bytes_all, bytes_pairs, Loose, LooseAll, LoosePairs, SoundStrings, SoundStringsAll, SoundStringsPairs, Plain}
 use Rattle.cbor4ii_tree.specs.Item.{Item, null, boolean, integer, float, bytes_item, text, sequence, mapping, tag, Items, no_items, item, Members, no_members, member, item_count, member_count, IsItem, AreItems, AreMembers}
 use Rattle.cbor4ii_tree.specs.Meaning.{value, values, member_values, number, content_item}
 use Rattle.cbor4ii_tree.specs.Cost.{cost, Budget}
@@ -126,7 +126,7 @@ mutual
       let heads = same_head (kind_major k) n w (content ++ x) (content ++ y) l (sym (append_assoc (head (kind_major k) n w) content x) ∙ same ∙ append_assoc (head (kind_major k) n (shortest n)) content y) in
       (heads.0, append_cancel_left content x y heads.1)
   strict_of_canon (chunked k ts) x y l e =
-      let content = joined ts in
+      let content = joined_chunks ts in
       let n = length content in
       let same = e ∙ ap (λ u. bytes u ++ y) (canon-content k content) ∙ append_assoc (head (kind_major k) n (shortest n)) content y in
       absurd (not_open (kind_major k) n ((bytes_all ts ++ break ∷ []) ++ x) (content ++ y) same)

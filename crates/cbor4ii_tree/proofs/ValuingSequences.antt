@@ -21,7 +21,7 @@ use Rattle.cbor4ii_tree.specs.Meaning.{value, member_values}
 use Rattle.cbor4ii_tree.specs.Cost.{Budget, step_in, greatest_cost, greatest_pair_cost}
 use Rattle.cbor4ii_tree.specs.Binds.{step_up}
 use Rattle.cbor4ii_tree.specs.Budgets.{fits_less}
-use Rattle.cbor4ii_tree.specs.Stops.{Stopping, Is, AtHead, Stepped, Counted, OpenItems, OpenPairs, NoBreak}
+use Rattle.cbor4ii_tree.specs.Stops.{Stopping, Is, AtHead, Stepped, StopsInCount, OpenItems, OpenPairs, NoBreak}
 use Rattle.cbor4ii_tree.specs.StopsReading.{Readable, ReadingStopsBy, StopsReading}
 use Rattle.cbor4ii_tree.specs.View.{view, items_view, members_view}
 use Rattle.cbor4ii_tree.specs.Does.{Accepting, Does}
@@ -51,7 +51,7 @@ array_deep : (outer : Budget) (b : ℕ) (bs : List ℕ) → outer ≡ Some 0 →
 array_deep outer b bs none m = at_row outer (array_by (info_of (b % 32))) b bs _ _ (initial_of b 4 m) (by_info (info_of (b % 32)))
   where
     by_info : (i : Info) → ReadingStopsBy (λ left part. StopsReading part left) outer (array_by i) b bs (depth_overflow array_name) (b ∷ bs)
-    by_info (wide w) = no_step_left array_name (b ∷ bs) (λ inner. AtHead array_name 4 w b (Counted (Readable inner) (λ part. StopsReading part inner)) bs) outer none
+    by_info (wide w) = no_step_left array_name (b ∷ bs) (λ inner. AtHead array_name 4 w b (StopsInCount (Readable inner) (λ part. StopsReading part inner)) bs) outer none
     by_info open_ended = no_step_left array_name (b ∷ bs) (λ inner. OpenItems (Readable inner) (λ part. StopsReading part inner) bs) outer none
     by_info reserved = no_step_left array_name (b ∷ bs) (λ inner. Is (mismatch array_name b) bs) outer none
 
@@ -59,7 +59,7 @@ map_deep : (outer : Budget) (b : ℕ) (bs : List ℕ) → outer ≡ Some 0 → b
 map_deep outer b bs none m = at_row outer (map_by (info_of (b % 32))) b bs _ _ (initial_of b 5 m) (by_info (info_of (b % 32)))
   where
     by_info : (i : Info) → ReadingStopsBy (λ left part. StopsReading part left) outer (map_by i) b bs (depth_overflow map_name) (b ∷ bs)
-    by_info (wide w) = no_step_left map_name (b ∷ bs) (λ inner. AtHead map_name 5 w b (λ n. Counted (Readable inner) (λ part. StopsReading part inner) (2 * n)) bs) outer none
+    by_info (wide w) = no_step_left map_name (b ∷ bs) (λ inner. AtHead map_name 5 w b (λ n. StopsInCount (Readable inner) (λ part. StopsReading part inner) (2 * n)) bs) outer none
     by_info open_ended = no_step_left map_name (b ∷ bs) (λ inner. OpenPairs (Readable inner) (λ part. StopsReading part inner) bs) outer none
     by_info reserved = no_step_left map_name (b ∷ bs) (λ inner. Is (mismatch map_name b) bs) outer none
 
@@ -75,7 +75,7 @@ array_head_stops : (inner outer : Budget) (b : ℕ) (bs : List ℕ) (e : Refusal
 array_head_stops inner outer b bs e rest step m closed h = at_row outer (array_by (info_of (b % 32))) b bs e rest (initial_of b 4 m) (by_info (info_of (b % 32)) refl)
   where
     by_info : (i : Info) → info_of (b % 32) ≡ i → ReadingStopsBy (λ left part. StopsReading part left) outer (array_by i) b bs e rest
-    by_info (wide w) is = step_taken array_name (b ∷ bs) (λ inner. AtHead array_name 4 w b (Counted (Readable inner) (λ part. StopsReading part inner)) bs) outer inner e rest step (inl (head_cut array_name 4 b bs w e rest m is h))
+    by_info (wide w) is = step_taken array_name (b ∷ bs) (λ inner. AtHead array_name 4 w b (StopsInCount (Readable inner) (λ part. StopsReading part inner)) bs) outer inner e rest step (inl (head_cut array_name 4 b bs w e rest m is h))
     by_info open_ended is = absurd (closed (ap (λ c. c ∷ []) (open_byte 4 b m is)))
     by_info reserved is = step_taken array_name (b ∷ bs) (λ inner. Is (mismatch array_name b) bs) outer inner e rest step (no_head array_name 4 b bs e rest (λ w f. cc) h)
 
@@ -83,7 +83,7 @@ map_head_stops : (inner outer : Budget) (b : ℕ) (bs : List ℕ) (e : Refusal) 
 map_head_stops inner outer b bs e rest step m closed h = at_row outer (map_by (info_of (b % 32))) b bs e rest (initial_of b 5 m) (by_info (info_of (b % 32)) refl)
   where
     by_info : (i : Info) → info_of (b % 32) ≡ i → ReadingStopsBy (λ left part. StopsReading part left) outer (map_by i) b bs e rest
-    by_info (wide w) is = step_taken map_name (b ∷ bs) (λ inner. AtHead map_name 5 w b (λ n. Counted (Readable inner) (λ part. StopsReading part inner) (2 * n)) bs) outer inner e rest step (inl (head_cut map_name 5 b bs w e rest m is h))
+    by_info (wide w) is = step_taken map_name (b ∷ bs) (λ inner. AtHead map_name 5 w b (λ n. StopsInCount (Readable inner) (λ part. StopsReading part inner) (2 * n)) bs) outer inner e rest step (inl (head_cut map_name 5 b bs w e rest m is h))
     by_info open_ended is = absurd (closed (ap (λ c. c ∷ []) (open_byte 5 b m is)))
     by_info reserved is = step_taken map_name (b ∷ bs) (λ inner. Is (mismatch map_name b) bs) outer inner e rest step (no_head map_name 5 b bs e rest (λ w f. cc) h)
 
@@ -123,7 +123,7 @@ array_counted n {a = a} {m = m} p d =
     (λ xs ys zs v h s. inl (h.0, n, ys, h.1, h.2, subst (λ o. ReadsItems n o ys v.items zs) p.kept.budget s))
     (λ xs ys e rest h s b bs is major outer step. subst (λ x. StopsUnder outer x e rest) (sym h.2)
     (at_row outer (starts_array h.0) (32 * 4 + additional h.0 n) (bytes_high_first (byte_count h.0) n ++ ys) e rest (initial_array n h.0 h.1)
-    (step_taken array_name (head 4 n h.0 ++ ys) (λ inner. AtHead array_name 4 h.0 (32 * 4 + additional h.0 n) (Counted (Readable inner) (λ part. StopsReading part inner)) (bytes_high_first (byte_count h.0) n ++ ys)) outer a.budget e rest step
+    (step_taken array_name (head 4 n h.0 ++ ys) (λ inner. AtHead array_name 4 h.0 (32 * 4 + additional h.0 n) (StopsInCount (Readable inner) (λ part. StopsReading part inner)) (bytes_high_first (byte_count h.0) n ++ ys)) outer a.budget e rest step
     (inr (record { argument = n; after = ys; fits = h.1; is = refl; stopped = subst (λ o. StopsItems n o ys e rest) p.kept.budget s }))))) p d
 
 pub array_opened : {E : Type 0} {r : Result (Vec Value Global) (DecodeError E)} {a m b : View} → Reached (OpenAt 4) a m → Does (λ xs v ys. ReadsOpen m.budget xs v.items ys) (StopsOpen m.budget) m b r
@@ -259,7 +259,7 @@ map_counted n {a = a} {m = m} p d =
     (λ xs ys zs v h s. inl (h.0, n, ys, h.1, h.2, subst (λ o. ReadsMembers n o ys v.items zs) p.kept.budget s))
     (λ xs ys e rest h s b bs is major outer step. subst (λ x. StopsUnder outer x e rest) (sym h.2)
     (at_row outer (starts_map h.0) (32 * 5 + additional h.0 n) (bytes_high_first (byte_count h.0) n ++ ys) e rest (initial_map n h.0 h.1)
-    (step_taken map_name (head 5 n h.0 ++ ys) (λ inner. AtHead map_name 5 h.0 (32 * 5 + additional h.0 n) (λ n. Counted (Readable inner) (λ part. StopsReading part inner) (2 * n)) (bytes_high_first (byte_count h.0) n ++ ys)) outer a.budget e rest step
+    (step_taken map_name (head 5 n h.0 ++ ys) (λ inner. AtHead map_name 5 h.0 (32 * 5 + additional h.0 n) (λ n. StopsInCount (Readable inner) (λ part. StopsReading part inner) (2 * n)) (bytes_high_first (byte_count h.0) n ++ ys)) outer a.budget e rest step
     (inr (record { argument = n; after = ys; fits = h.1; is = refl; stopped = subst (λ o. StopsMembers n o ys e rest) p.kept.budget s }))))) p d
 
 pub map_opened : {E : Type 0} {r : Result (Vec (Value × Value) Global) (DecodeError E)} {a m b : View} → Reached (OpenAt 5) a m → Does (λ xs v ys. ReadsOpenMembers m.budget xs v.items ys) (StopsOpenMembers m.budget) m b r

@@ -14,7 +14,7 @@ use Rattle.cbor4ii_tree.specs.Refusal.{eof, mismatch, require_length, require_ut
 use Rattle.cbor4ii_tree.specs.head_laws.Initials.{initial_string, initial_chunks, head_below, kind_below}
 use Rattle.cbor4ii_tree.specs.head_laws.Numbers.{length-bytes_high_first}
 use Rattle.cbor4ii_tree.specs.declared.value.Value.{Bytes, Text, the_lemmas}
-use Rattle.cbor4ii_tree.specs.Tree.{Tree, Trees, no_trees, tree, string, chunked, bytes, bytes_all, LooseAll, AreChunks, joined, TextIsUtf8}
+use Rattle.cbor4ii_tree.specs.Tree.{Tree, Trees, no_trees, tree, string, chunked, bytes, bytes_all, LooseAll, AreChunks, joined_chunks, TextIsUtf8}
 use Rattle.cbor4ii_tree.specs.Item.{bytes_item, text}
 use Rattle.cbor4ii_tree.specs.Meaning.{value, content_item}
 use Rattle.cbor4ii_tree.specs.Cost.{Budget, step_in, chunks_cost}
@@ -44,7 +44,7 @@ record ChunkTrees (k : Kind) (chunks : List (List ℕ)) (xs : List ℕ) (n : ℕ
   trees : Trees
   loose : LooseAll trees
   are : AreChunks k trees
-  content : joined trees ≡ strings.joined chunks
+  content : joined_chunks trees ≡ strings.joined chunks
   is : xs ≡ bytes_all trees ++ drop n xs
   costs : chunks_cost trees ≡ 1 + chunk_cost chunks
   fit : (budget : Budget) → CostFits (chunk_cost chunks) budget → Each (ReadableChunk k budget) trees
@@ -74,7 +74,7 @@ record OpenTree (k : Kind) (xs content : List ℕ) (n c : ℕ) : Type 0 where
   trees : Trees
   loose : LooseAll trees
   are : AreChunks k trees
-  says : content ≡ joined trees
+  says : content ≡ joined_chunks trees
   behind : (bs : List ℕ) → xs ≡ open_head (kind_major k) ∷ bs → bs ≡ bytes_all trees ++ break ∷ drop n xs
   begins : xs ≡ open_head (kind_major k) ∷ drop 1 xs
   costs : chunks_cost trees ≡ 1 + c

@@ -1,7 +1,7 @@
 -- What a tree means, by RFC 8949 sections 3.1 to 3.3.
 use Rattle.std.specs.Prelude.{ℕ, List, pos, negsuc, ℤ, true, false}
 use Rattle.cbor4ii_items.specs.Initial.{Sign, unsigned, negative, Kind, byte_string, text_string, Simple, simple_false, simple_true, simple_null, simple_undefined}
-use Rattle.cbor4ii_tree.specs.Tree.{Tree, int, string, chunked, array, array_open, map_of, map_open, tagged, simple, bits, Trees, no_trees, tree, Pairs, no_pairs, pair, joined}
+use Rattle.cbor4ii_tree.specs.Tree.{Tree, int, string, chunked, array, array_open, map_of, map_open, tagged, simple, bits, Trees, no_trees, tree, Pairs, no_pairs, pair, joined_chunks}
 use Rattle.cbor4ii_tree.specs.Item.{Item, null, boolean, integer, float, bytes_item, text, sequence, mapping, tag, Items, no_items, item, Members, no_members, member}
 
 -- n, or -1 - n (section 3.1, major types 0 and 1)
@@ -25,7 +25,7 @@ abbrev mutual
   pub value : Tree → Item
   value (int s n w) = integer (number s n)
   value (string k w content) = content_item k content
-  value (chunked k ts) = content_item k (joined ts)
+  value (chunked k ts) = content_item k (joined_chunks ts)
   value (array w ts) = sequence (values ts)
   value (array_open ts) = sequence (values ts)
   value (map_of w ps) = mapping (member_values ps)

@@ -3,7 +3,7 @@ use Rattle.std.specs.Prelude.{ℕ, zero, suc, List, [], ◌∷◌, length, Bool,
 use Rattle.std.specs.Str.{is_utf8}
 use Rattle.cbor4ii_items.specs.Head.{Width}
 use Rattle.cbor4ii_items.specs.Initial.{Kind, byte_string, text_string, precision_bytes, Initial, starts_int, bad_int, starts_string, starts_chunks, bad_string, starts_array, starts_open_array, bad_array, starts_map, starts_open_map, bad_map, starts_tag, bad_tag, starts_simple, starts_bits, other_simple, initial}
-use Rattle.cbor4ii_tree.specs.Tree.{Tree, int, string, chunked, array, array_open, map_of, map_open, tagged, simple, bits, joined}
+use Rattle.cbor4ii_tree.specs.Tree.{Tree, int, string, chunked, array, array_open, map_of, map_open, tagged, simple, bits, joined_chunks}
 use Rattle.cbor4ii_tree.specs.Item.{Item}
 use Rattle.cbor4ii_tree.specs.Meaning.{value}
 use Rattle.cbor4ii_tree.specs.Cost.{Budget, step_in}
@@ -39,7 +39,7 @@ abbrev pub read_by : (Budget → Parser Tree) → Budget → Initial → ℕ →
 read_by item budget (starts_int s w) b bs = argument_at (sign_name s) w b bs >>= λ n. Ok (int s n.0 w, n.1)
 read_by item budget (bad_int s) b bs = Err (mismatch (sign_name s) b, bs)
 read_by item budget (starts_string k w) b bs = counted_string_at k w b bs >>= λ p. tested k p.0 (string k w p.0) p.1
-read_by item budget (starts_chunks k) b bs = open_trees_at (chunk_at k budget) (suc (length bs)) bs >>= λ p. tested k (joined p.0) (chunked k p.0) p.1
+read_by item budget (starts_chunks k) b bs = open_trees_at (chunk_at k budget) (suc (length bs)) bs >>= λ p. tested k (joined_chunks p.0) (chunked k p.0) p.1
 read_by item budget (bad_string k) b bs = Err (mismatch (kind_name k) b, bs)
 read_by item budget (starts_array w) b bs =
     stepped array_name (step_in budget) (b ∷ bs) (λ inner. argument_at array_name w b bs >>= λ n. trees_at (item inner) n.0 n.1 >>= λ p. Ok (array w p.0, p.1))

@@ -7,7 +7,7 @@ use Rattle.cbor4ii_tree.specs.Cost.{Budget, step_in}
 use Rattle.cbor4ii_tree.specs.HeadParts.{DropsBytes}
 use Rattle.cbor4ii_tree.specs.Refusal.{Refusal, ignored_any}
 use Rattle.cbor4ii_tree.specs.Spelling.{Skips}
-use Rattle.cbor4ii_tree.specs.Stops.{Stopping, Missing, Each, EachPair, Counted, OpenItems, OpenPairs}
+use Rattle.cbor4ii_tree.specs.Stops.{Stopping, Missing, Each, EachPair, StopsInCount, OpenItems, OpenPairs}
 use Rattle.cbor4ii_tree.specs.StopsSkipping.{Skippable, StopsSkipping}
 use Rattle.cbor4ii_tree.specs.declared.skip.Behind.{Behind}
 use Rattle.cbor4ii_tree.specs.declared.skip.Behind.TheVariants.{Nothing, Bytes, Items, Members, Open, OpenMembers}
@@ -54,7 +54,7 @@ abbrev pub SkipsItems : ℕ → Budget → List ℕ → List ℕ → Type 0
 SkipsItems n budget xs ys = (ts : Trees) × (count ts ≡ n) × Each (Skippable budget) ts × (xs ≡ bytes_all ts ++ ys)
 
 abbrev pub StopsItems : ℕ → Budget → Stopping
-StopsItems n budget = Counted (Skippable budget) (StopsOne budget) n
+StopsItems n budget = StopsInCount (Skippable budget) (StopsOne budget) n
 
 -- items up to a break, which is taken
 abbrev pub SkipsOpen : Budget → List ℕ → List ℕ → Type 0

@@ -50,7 +50,7 @@ EachPair Whole (pair k v ps) = Whole k × Whole v × EachPair Whole ps
 
 -- Whole items, fewer than n, and then one that stops. The items of a map are its keys and values
 -- in turn (section 3.1).
-pub record Counted (Whole : Tree → Type 0) (stops : Stopping) (n : ℕ) (bs : List ℕ) (e : Refusal) (rest : List ℕ) : Type 0 where
+pub record StopsInCount (Whole : Tree → Type 0) (stops : Stopping) (n : ℕ) (bs : List ℕ) (e : Refusal) (rest : List ℕ) : Type 0 where
   pub front : Trees
   pub after : List ℕ
   pub few : count front < n

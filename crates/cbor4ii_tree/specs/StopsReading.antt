@@ -2,11 +2,11 @@
 use Rattle.std.specs.Prelude.{◌≡◌, ℕ, zero, suc, ◌*◌, List, [], ◌∷◌, ◌++◌, length, ◌⊎◌, IsUtf8}
 use Rattle.cbor4ii_items.specs.Head.{Width, byte_count, break}
 use Rattle.cbor4ii_items.specs.Initial.{Kind, byte_string, text_string, kind_major, precision_bytes, Initial, starts_int, bad_int, starts_string, starts_chunks, bad_string, starts_array, starts_open_array, bad_array, starts_map, starts_open_map, bad_map, starts_tag, bad_tag, starts_simple, starts_bits, other_simple, initial}
-use Rattle.cbor4ii_tree.specs.Tree.{Tree, Trees, bytes_all, Plain, Loose, IsChunk, joined}
+use Rattle.cbor4ii_tree.specs.Tree.{Tree, Trees, bytes_all, Plain, Loose, IsChunk, joined_chunks}
 use Rattle.cbor4ii_items.specs.Decoding.{CostFits}
 use Rattle.cbor4ii_tree.specs.Cost.{Budget, step_in, cost}
 use Rattle.cbor4ii_tree.specs.Refusal.{Refusal, eof, mismatch, unsupported, require_length, require_utf8, Indefinite, Small, sign_name, kind_name, precision_name, array_name, map_name, tag_name, break_name, value_name}
-use Rattle.cbor4ii_tree.specs.Stops.{Stopping, Is, Missing, MissingAll, BehindHead, AtHead, Stepped, Each, Counted, OpenItems, OpenPairs}
+use Rattle.cbor4ii_tree.specs.Stops.{Stopping, Is, Missing, MissingAll, BehindHead, AtHead, Stepped, Each, StopsInCount, OpenItems, OpenPairs}
 
 -- an item that is read whole
 abbrev pub Readable : Budget → Tree → Type 0
@@ -51,7 +51,7 @@ pub record NoUtf8Joined (k : Kind) (budget : Budget) (bs : List ℕ) (e : Refusa
   pub chunks : Trees
   pub whole : Each (ReadableChunk k budget) chunks
   pub is : bs ≡ bytes_all chunks ++ break ∷ rest
-  pub invalid : IsNoUtf8 k (joined chunks)
+  pub invalid : IsNoUtf8 k (joined_chunks chunks)
   pub refusal : e ≡ require_utf8 (kind_name k)
 
 -- Behind the initial byte b, which says so. An array or a map asks for one more step before its
@@ -62,10 +62,10 @@ ReadingStopsBy stops budget (bad_int s) b bs e rest = Is (mismatch (sign_name s)
 ReadingStopsBy stops budget (starts_string k w) b bs e rest = CutString k w b bs e rest ⊎ BehindHead (kind_major k) w b (NoUtf8 k) bs e rest
 ReadingStopsBy stops budget (starts_chunks k) b bs e rest = OpenItems (ReadableChunk k budget) (ChunkStops k budget) bs e rest ⊎ NoUtf8Joined k budget bs e rest
 ReadingStopsBy stops budget (bad_string k) b bs e rest = Is (mismatch (kind_name k) b) bs e rest
-ReadingStopsBy stops budget (starts_array w) b bs e rest = Stepped array_name (step_in budget) (b ∷ bs) (λ inner. AtHead array_name 4 w b (Counted (Readable inner) (stops inner)) bs) e rest
+ReadingStopsBy stops budget (starts_array w) b bs e rest = Stepped array_name (step_in budget) (b ∷ bs) (λ inner. AtHead array_name 4 w b (StopsInCount (Readable inner) (stops inner)) bs) e rest
 ReadingStopsBy stops budget starts_open_array b bs e rest = Stepped array_name (step_in budget) (b ∷ bs) (λ inner. OpenItems (Readable inner) (stops inner) bs) e rest
 ReadingStopsBy stops budget bad_array b bs e rest = Stepped array_name (step_in budget) (b ∷ bs) (λ inner. Is (mismatch array_name b) bs) e rest
-ReadingStopsBy stops budget (starts_map w) b bs e rest = Stepped map_name (step_in budget) (b ∷ bs) (λ inner. AtHead map_name 5 w b (λ n. Counted (Readable inner) (stops inner) (2 * n)) bs) e rest
+ReadingStopsBy stops budget (starts_map w) b bs e rest = Stepped map_name (step_in budget) (b ∷ bs) (λ inner. AtHead map_name 5 w b (λ n. StopsInCount (Readable inner) (stops inner) (2 * n)) bs) e rest
 ReadingStopsBy stops budget starts_open_map b bs e rest = Stepped map_name (step_in budget) (b ∷ bs) (λ inner. OpenPairs (Readable inner) (stops inner) bs) e rest
 ReadingStopsBy stops budget bad_map b bs e rest = Stepped map_name (step_in budget) (b ∷ bs) (λ inner. Is (mismatch map_name b) bs) e rest
 ReadingStopsBy stops budget (starts_tag w) b bs e rest = AtHead tag_name 6 w b (λ n. stops budget) bs e rest

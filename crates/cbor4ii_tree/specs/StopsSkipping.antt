@@ -6,7 +6,7 @@ use Rattle.cbor4ii_tree.specs.Tree.{Tree, Loose}
 use Rattle.cbor4ii_items.specs.Decoding.{CostFits}
 use Rattle.cbor4ii_tree.specs.Cost.{Budget, step_in, skip_cost}
 use Rattle.cbor4ii_tree.specs.Refusal.{Refusal, eof, mismatch, unsupported, Small, tag_name, ignored_any}
-use Rattle.cbor4ii_tree.specs.Stops.{Stopping, Is, Missing, AtHead, Stepped, Counted, OpenItems, OpenPairs}
+use Rattle.cbor4ii_tree.specs.Stops.{Stopping, Is, Missing, AtHead, Stepped, StopsInCount, OpenItems, OpenPairs}
 
 -- an item that is skipped whole
 abbrev pub Skippable : Budget → Tree → Type 0
@@ -21,10 +21,10 @@ SkippingStopsBy stops budget (bad_int s) b bs e rest = Is (mismatch ignored_any 
 SkippingStopsBy stops budget (starts_string k w) b bs e rest = AtHead ignored_any (kind_major k) w b (Missing ignored_any) bs e rest
 SkippingStopsBy stops budget (starts_chunks k) b bs e rest = OpenItems (Skippable budget) stops bs e rest
 SkippingStopsBy stops budget (bad_string k) b bs e rest = Is (mismatch ignored_any b) bs e rest
-SkippingStopsBy stops budget (starts_array w) b bs e rest = AtHead ignored_any 4 w b (Counted (Skippable budget) stops) bs e rest
+SkippingStopsBy stops budget (starts_array w) b bs e rest = AtHead ignored_any 4 w b (StopsInCount (Skippable budget) stops) bs e rest
 SkippingStopsBy stops budget starts_open_array b bs e rest = OpenItems (Skippable budget) stops bs e rest
 SkippingStopsBy stops budget bad_array b bs e rest = Is (mismatch ignored_any b) bs e rest
-SkippingStopsBy stops budget (starts_map w) b bs e rest = AtHead ignored_any 5 w b (λ n. Counted (Skippable budget) stops (2 * n)) bs e rest
+SkippingStopsBy stops budget (starts_map w) b bs e rest = AtHead ignored_any 5 w b (λ n. StopsInCount (Skippable budget) stops (2 * n)) bs e rest
 SkippingStopsBy stops budget starts_open_map b bs e rest = OpenPairs (Skippable budget) stops bs e rest
 SkippingStopsBy stops budget bad_map b bs e rest = Is (mismatch ignored_any b) bs e rest
 SkippingStopsBy stops budget (starts_tag w) b bs e rest = AtHead tag_name 6 w b (λ n. stops) bs e rest

@@ -103,8 +103,8 @@ BeginsCounted major each budget xs =
     (n : ℕ) × (between : List ℕ) × ShortestAt major n xs between ×
     BeginsItems (each * n) budget between
 
-abbrev pub Counted : {V : Type 0} → ℕ → (ℕ → Budget → Accepting V) → Budget → Accepting V
-Counted major reads budget xs v ys =
+abbrev pub AcceptsCount : {V : Type 0} → ℕ → (ℕ → Budget → Accepting V) → Budget → Accepting V
+AcceptsCount major reads budget xs v ys =
     (n : ℕ) × (between : List ℕ) × ShortestAt major n xs between × reads n budget between v ys
 
 -- behind one more step

@@ -91,10 +91,10 @@ AreChunks k no_trees = Unit {0}
 AreChunks k (tree t ts) = IsChunk k t × AreChunks k ts
 
 -- the contents of the chunks, joined
-abbrev pub joined : Trees → List ℕ
-joined no_trees = []
-joined (tree (string k w content) ts) = content ++ joined ts
-joined (tree _ ts) = joined ts
+abbrev pub joined_chunks : Trees → List ℕ
+joined_chunks no_trees = []
+joined_chunks (tree (string k w content) ts) = content ++ joined_chunks ts
+joined_chunks (tree _ ts) = joined_chunks ts
 
 -- A text is UTF-8 (section 3.1, major type 3).
 abbrev pub TextIsUtf8 : Kind → List ℕ → Type 0
@@ -131,7 +131,7 @@ abbrev mutual
   pub SoundStrings : Tree → Type 0
   SoundStrings (int s n w) = Unit {0}
   SoundStrings (string k w content) = TextIsUtf8 k content
-  SoundStrings (chunked k ts) = AreChunks k ts × TextIsUtf8 k (joined ts)
+  SoundStrings (chunked k ts) = AreChunks k ts × TextIsUtf8 k (joined_chunks ts)
   SoundStrings (array w ts) = SoundStringsAll ts
   SoundStrings (array_open ts) = SoundStringsAll ts
   SoundStrings (map_of w ps) = SoundStringsPairs ps

@@ -10,7 +10,7 @@ use Rattle.cbor4ii_tree.specs.Tree.{Tree, Trees, Pairs, count, pair_count}
 use Rattle.cbor4ii_tree.specs.Tree.{bytes, bytes_all, bytes_pairs}
 use Rattle.cbor4ii_tree.specs.Meaning.{value, values, member_values, simple_item}
 use Rattle.cbor4ii_tree.specs.Cost.{Budget, step_in}
-use Rattle.cbor4ii_tree.specs.Stops.{Stopping, Each, EachPair, Counted, OpenItems}
+use Rattle.cbor4ii_tree.specs.Stops.{Stopping, Each, EachPair, StopsInCount, OpenItems}
 use Rattle.cbor4ii_tree.specs.Stops.{BehindKey, OpenPairs}
 use Rattle.cbor4ii_tree.specs.StopsReading.{Readable, ReadingStopsFrom, StopsReading}
 use Rattle.cbor4ii_tree.specs.View.{view, items_view, members_view}
@@ -34,7 +34,7 @@ ReadsItems n budget xs vs ys = (ts : Trees) × (count ts ≡ n) × Each (Readabl
     (values ts ≡ items_view vs) × (xs ≡ bytes_all ts ++ ys)
 
 abbrev pub StopsItems : ℕ → Budget → Stopping
-StopsItems n budget = Counted (Readable budget) (StopsOne budget) n
+StopsItems n budget = StopsInCount (Readable budget) (StopsOne budget) n
 
 -- values up to a break, which is taken
 abbrev pub ReadsOpen : Budget → List ℕ → List Value → List ℕ → Type 0

@@ -34,7 +34,7 @@ ghost use Rattle.cbor4ii_tree.specs.Strictly.{
   ExactItems,
   ExactMember,
   ExactMembers,
-  Counted,
+  AcceptsCount,
   TextAt,
   LacksFirst,
 };
@@ -227,7 +227,7 @@ fn read_text<S: Source>(alloc: Global, reader: &mut S) -> Result<String, DecodeE
 /// Reads an array's values, under one step.
 #[cycle(strict)]
 fn read_array<S: Source>(alloc: Global, reader: &mut S) -> Result<Vec<Value>, DecodeError<S::Error>>
-    ensures does { DoesUnder (ReadsStepped (ReadsVec (Counted 4 ExactItems)))
+    ensures does { DoesUnder (ReadsStepped (ReadsVec (AcceptsCount 4 ExactItems)))
         (Lacks (BeginsStepped (BeginsCounted 4 1)))
         (S.view reader.old) (S.view reader.new) result }
     ensures progress { OnOk result ((S.view reader.new).bound + 1 ≤ (S.view reader.old).bound) }
@@ -245,7 +245,7 @@ fn array_inside<S: Source>(
     alloc: Global,
     reader: &mut S,
 ) -> Result<Vec<Value>, DecodeError<S::Error>>
-    ensures does { DoesUnder (ReadsVec (Counted 4 ExactItems)) (Lacks (BeginsCounted 4 1))
+    ensures does { DoesUnder (ReadsVec (AcceptsCount 4 ExactItems)) (Lacks (BeginsCounted 4 1))
         (S.view reader.old) (S.view reader.new) result }
     ensures progress { OnOk result ((S.view reader.new).bound + 1 ≤ (S.view reader.old).bound) }
 {
@@ -281,7 +281,7 @@ fn read_map<S: Source>(
     alloc: Global,
     reader: &mut S,
 ) -> Result<Vec<(Value, Value)>, DecodeError<S::Error>>
-    ensures does { DoesUnder (ReadsStepped (ReadsVec (Counted 5 ExactMembers)))
+    ensures does { DoesUnder (ReadsStepped (ReadsVec (AcceptsCount 5 ExactMembers)))
         (Lacks (BeginsStepped (BeginsCounted 5 2)))
         (S.view reader.old) (S.view reader.new) result }
     ensures progress { OnOk result ((S.view reader.new).bound + 1 ≤ (S.view reader.old).bound) }
@@ -299,7 +299,7 @@ fn map_inside<S: Source>(
     alloc: Global,
     reader: &mut S,
 ) -> Result<Vec<(Value, Value)>, DecodeError<S::Error>>
-    ensures does { DoesUnder (ReadsVec (Counted 5 ExactMembers)) (Lacks (BeginsCounted 5 2))
+    ensures does { DoesUnder (ReadsVec (AcceptsCount 5 ExactMembers)) (Lacks (BeginsCounted 5 2))
         (S.view reader.old) (S.view reader.new) result }
     ensures progress { OnOk result ((S.view reader.new).bound + 1 ≤ (S.view reader.old).bound) }
 {

@@ -19,7 +19,7 @@ ghost use Rattle.std.specs.Prelude.{
 ghost use Rattle.cbor4ii_items.specs.Cow.{
   ReadsEither,
   StopsEither,
-  Takes,
+  TakesContent,
   BorrowsWhereCounted,
   IsBorrowedWhereWhole,
   Holds,
@@ -118,7 +118,7 @@ fn take_either<T: LendOrOwn<S>, S: Source>(
     alloc: Global,
     reader: &mut S,
 ) -> Result<Option<T>, DecodeError<S::Error>>
-    ensures takes { Takes (string_at T.name T.major (S.view reader.old).budget) T.is_text T.content
+    ensures takes { TakesContent (string_at T.name T.major (S.view reader.old).budget) T.is_text T.content
         (S.view reader.old) (S.view reader.new) result }
     ensures progress { OnOk result ((S.view reader.new).bound + 1 ≤ (S.view reader.old).bound) }
     ensures borrows { IfOk result (λ value. IfSome value
@@ -136,7 +136,7 @@ fn lend_or_copy<T: LendOrOwn<S>, S: Source>(
     reader: &mut S,
     count: u64,
 ) -> Result<Option<T>, DecodeError<S::Error>>
-    ensures takes { Takes (content_on T.name count []) T.is_text T.content
+    ensures takes { TakesContent (content_on T.name count []) T.is_text T.content
         (S.view reader.old) (S.view reader.new) result }
     ensures borrows { IfOk result (λ value. IfSome value
         (IsBorrowedWhereWhole T.IsBorrowed (S.view reader.old))) }
@@ -156,7 +156,7 @@ fn copy<T: LendOrOwn<S>, S: Source>(
     reader: &mut S,
     count: u64,
 ) -> Result<Option<T>, DecodeError<S::Error>>
-    ensures takes { Takes (content_on T.name count []) T.is_text T.content
+    ensures takes { TakesContent (content_on T.name count []) T.is_text T.content
         (S.view reader.old) (S.view reader.new) result }
 {
     Ok(T::own(take_known(alloc, reader, T::name(), count)?))

@@ -6,7 +6,7 @@ use Rattle.cbor4ii_items.specs.Head.{Width, in_first, one, two, four, eight, byt
 use Rattle.cbor4ii_items.specs.Magnitude.{number_of}
 use Rattle.cbor4ii_tree.specs.Tree.{Tree, no_trees, tree, no_pairs, pair, bytes, bytes_all, bytes_pairs}
 use Rattle.cbor4ii_tree.specs.Refusal.{Refusal}
-use Rattle.cbor4ii_tree.specs.Stops.{Stopping, Missing, MissingAll, AtHead, Counted, OpenItems, OpenPairs, BehindKey}
+use Rattle.cbor4ii_tree.specs.Stops.{Stopping, Missing, MissingAll, AtHead, StopsInCount, OpenItems, OpenPairs, BehindKey}
 use Rattle.cbor4ii_tree.specs.Parse.{Parser, Answer, ◌>>=◌, front_at, number_at, argument_at, trees_at, pairs_at, open_trees_at, open_pairs_at}
 use Rattle.cbor4ii_tree.specs.Binds.{bind_err, no_err, is_err, guard_err, chosen}
 use Rattle.cbor4ii_tree.specs.head_laws.Initials.{length-bytes-pos}
@@ -59,7 +59,7 @@ regroup : (a b c x : List ℕ) → a ++ (b ++ (c ++ x)) ≡ (a ++ (b ++ c)) ++ x
 regroup a b c x = simp append_assoc
 
 pub trees_err : (item : Parser Tree) (Whole : Tree → Type 0) (stops : Stopping) (bound : ℕ) → IsSound item Whole → Refuses item stops bound → (n : ℕ) (bs : List ℕ) (e : Refusal) (rest : List ℕ) → IsBytes bs → length bs < bound
-    → trees_at item n bs ≡ Err (e, rest) → Counted Whole stops n bs e rest
+    → trees_at item n bs ≡ Err (e, rest) → StopsInCount Whole stops n bs e rest
 unfolding trees_at
 trees_err item Whole stops bound s r zero bs e rest h lt x = absurd (no_err _ _ x)
 trees_err item Whole stops bound s r (suc n) bs e rest h lt x =
@@ -83,7 +83,7 @@ trees_err item Whole stops bound s r (suc n) bs e rest h lt x =
     ]
 
 pub pairs_err : (item : Parser Tree) (Whole : Tree → Type 0) (stops : Stopping) (bound : ℕ) → IsSound item Whole → Refuses item stops bound → (n : ℕ) (bs : List ℕ) (e : Refusal) (rest : List ℕ) → IsBytes bs → length bs < bound
-    → pairs_at item n bs ≡ Err (e, rest) → Counted Whole stops (2 * n) bs e rest
+    → pairs_at item n bs ≡ Err (e, rest) → StopsInCount Whole stops (2 * n) bs e rest
 unfolding pairs_at
 pairs_err item Whole stops bound s r zero bs e rest h lt x = absurd (no_err _ _ x)
 pairs_err item Whole stops bound s r (suc n) bs e rest h lt x =

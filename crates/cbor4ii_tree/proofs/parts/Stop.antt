@@ -4,7 +4,7 @@ use Rattle.std.specs.Int.{bytes_high_first}
 use Rattle.cbor4ii_items.specs.Head.{Width, in_first, one, two, four, eight, byte_count, break}
 use Rattle.cbor4ii_tree.specs.Tree.{Tree, Trees, no_trees, tree, Pairs, no_pairs, pair, count, bytes, bytes_all, bytes_pairs}
 use Rattle.cbor4ii_tree.specs.Refusal.{Refusal}
-use Rattle.cbor4ii_tree.specs.Stops.{Stopping, Missing, MissingAll, AtHead, Each, EachPair, Counted, NoBreak, OpenItems, BehindKey, OpenPairs}
+use Rattle.cbor4ii_tree.specs.Stops.{Stopping, Missing, MissingAll, AtHead, Each, EachPair, StopsInCount, NoBreak, OpenItems, BehindKey, OpenPairs}
 use Rattle.cbor4ii_tree.specs.Parse.{Parser, Answer, ◌>>=◌, front_at, number_at, argument_at, trees_at, pairs_at, open_trees_at, open_pairs_at}
 use Rattle.cbor4ii_tree.specs.Binds.{err, then_err}
 use Rattle.cbor4ii_tree.specs.head_laws.Initials.{length-bytes-pos}
@@ -53,7 +53,7 @@ counted_trees item Whole stops bound a g (tree t ts) (suc n) after e rest few l 
     (then_err (trees_at item n all) _ (e, rest) (counted_trees item Whole stops bound a g ts n after e rest (omega arith) l.1 (shorter (bytes t) all bound lt2) st))
 
 pub trees_stop : (item : Parser Tree) (Whole : Tree → Type 0) (stops : Stopping) (bound : ℕ) → Again item Whole bound → Gives item stops bound → (n : ℕ) (bs : List ℕ) (e : Refusal) (rest : List ℕ)
-    → length bs < bound → Counted Whole stops n bs e rest → trees_at item n bs ≡ Err (e, rest)
+    → length bs < bound → StopsInCount Whole stops n bs e rest → trees_at item n bs ≡ Err (e, rest)
 trees_stop item Whole stops bound a g n bs e rest lt st =
     ap (trees_at item n) st.is ∙ counted_trees item Whole stops bound a g st.front n st.after e rest st.few st.whole (subst (λ y. length y < bound) st.is lt) st.stopped
 
@@ -75,7 +75,7 @@ counted_pairs item Whole stops bound a g (tree k (tree v ts)) (suc n) after e re
     (then_err (pairs_at item n all) _ (e, rest) (counted_pairs item Whole stops bound a g ts n after e rest (omega arith) l.1.1 (shorter (bytes v) all bound lt3) st))
 
 pub pairs_stop : (item : Parser Tree) (Whole : Tree → Type 0) (stops : Stopping) (bound : ℕ) → Again item Whole bound → Gives item stops bound → (n : ℕ) (bs : List ℕ) (e : Refusal) (rest : List ℕ)
-    → length bs < bound → Counted Whole stops (2 * n) bs e rest → pairs_at item n bs ≡ Err (e, rest)
+    → length bs < bound → StopsInCount Whole stops (2 * n) bs e rest → pairs_at item n bs ≡ Err (e, rest)
 pairs_stop item Whole stops bound a g n bs e rest lt st =
     ap (pairs_at item n) st.is ∙ counted_pairs item Whole stops bound a g st.front n st.after e rest st.few st.whole (subst (λ y. length y < bound) st.is lt) st.stopped
 

@@ -6,7 +6,7 @@ use Rattle.cbor4ii_tree.specs.Tree.{Tree, Trees, no_trees, tree, Pairs, no_pairs
 use Rattle.cbor4ii_items.specs.Decoding.{CostFits}
 use Rattle.cbor4ii_tree.specs.Cost.{Budget, step_in}
 use Rattle.cbor4ii_tree.specs.Refusal.{Refusal, eof, Len, IsEof, IsDepthOverflow}
-use Rattle.cbor4ii_tree.specs.Stops.{Stopping, Is, Missing, MissingAll, BehindHead, AtHead, Stepped, Each, EachPair, Counted, NoBreak, OpenItems, BehindKey, OpenPairs}
+use Rattle.cbor4ii_tree.specs.Stops.{Stopping, Is, Missing, MissingAll, BehindHead, AtHead, Stepped, Each, EachPair, StopsInCount, NoBreak, OpenItems, BehindKey, OpenPairs}
 
 -- of one refusal, before what comes later
 abbrev pub Goes : Refusal → List ℕ → Stopping → Stopping → Type 0
@@ -95,7 +95,7 @@ stepped_goes name (Some zero) (Some (suc m)) e here rest more s t w k x = absurd
 stepped_goes name (Some (suc n)) (Some zero) e here rest more s t w k x = absurd (omega arith)
 stepped_goes name (Some (suc n)) (Some (suc m)) e here rest more s t w k x = k (Some n) (Some m) (omega arith) x
 
-pub counted_goes : (V W : Tree → Type 0) (e : Refusal) (more : List ℕ) (s t : Stopping) (n : ℕ) → Covers V W → Goes e more s t → Goes e more (Counted V s n) (Counted W t n)
+pub counted_goes : (V W : Tree → Type 0) (e : Refusal) (more : List ℕ) (s t : Stopping) (n : ℕ) → Covers V W → Goes e more s t → Goes e more (StopsInCount V s n) (StopsInCount W t n)
 counted_goes V W e more s t n c k bs rest x =
     record { front = x.front; after = x.after ++ more; few = x.few; whole = each_covers V W c x.front x.whole; is = onward bs (bytes_all x.front) x.after more x.is; stopped = k x.after rest x.stopped }
 

@@ -3,7 +3,7 @@ use Rattle.std.proofs.Common.{◌≡◌, ℕ, zero, suc, ◌<◌, ◌≤◌, Lis
 use Rattle.std.specs.Int.{bytes_high_first}
 use Rattle.cbor4ii_items.specs.Head.{byte_count, break}
 use Rattle.cbor4ii_items.specs.Initial.{sign_major, Kind, precision_bytes, Initial, initial}
-use Rattle.cbor4ii_tree.specs.Tree.{Tree, int, string, chunked, array, array_open, map_of, map_open, tagged, simple, bits, Trees, no_trees, tree, count, pair_count, bytes, bytes_all, bytes_pairs, joined, Loose, SoundStrings, AreChunks}
+use Rattle.cbor4ii_tree.specs.Tree.{Tree, int, string, chunked, array, array_open, map_of, map_open, tagged, simple, bits, Trees, no_trees, tree, count, pair_count, bytes, bytes_all, bytes_pairs, joined_chunks, Loose, SoundStrings, AreChunks}
 use Rattle.cbor4ii_items.specs.Decoding.{CostFits}
 use Rattle.cbor4ii_tree.specs.Cost.{Budget, cost, chunks_cost, greatest_cost, greatest_pair_cost}
 use Rattle.cbor4ii_tree.specs.Refusal.{sign_name, precision_name, array_name, map_name, tag_name}
@@ -53,7 +53,7 @@ from_again item n b a (chunked k ts) x l s f lt =
     let all : List ℕ = bytes_all ts ++ break ∷ x in
     let each : Each (ReadableChunk k (left b)) ts = each_chunk k ts (left b) l s.0 (chunks_fit k ts b s.0 f) in
     by_initial item (left b) _ _ _ (initial_chunks k)
-    ∙ rw (append_assoc (bytes_all ts) (break ∷ []) x, open_trees_again (chunk_at k (left b)) (ReadableChunk k (left b)) n (chunk_again k (left b) n) (chunks_start k (left b)) ts (suc (length all)) x each (omega arith) lt2) (tested_again k (joined ts) (chunked k ts) x s.1)
+    ∙ rw (append_assoc (bytes_all ts) (break ∷ []) x, open_trees_again (chunk_at k (left b)) (ReadableChunk k (left b)) n (chunk_again k (left b) n) (chunks_start k (left b)) ts (suc (length all)) x each (omega arith) lt2) (tested_again k (joined_chunks ts) (chunked k ts) x s.1)
 from_again item n b a (array w ts) x l s f lt =
     let two = fits_two (greatest_cost ts) b f in
     let lt2 = behind_head (bytes_high_first (byte_count w) (count ts)) (bytes_all ts) x n lt in

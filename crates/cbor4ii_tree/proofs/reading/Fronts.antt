@@ -5,7 +5,7 @@ use Rattle.cbor4ii_items.specs.Initial.{sign_major, Kind, byte_string, text_stri
 use Rattle.cbor4ii_tree.specs.Tree.{Tree, int, string, chunked, array, array_open, map_of, map_open, tagged, simple, bits, Trees, no_trees, tree, Pairs, no_pairs, pair, bytes, bytes_all, bytes_pairs, Loose, LooseAll, LoosePairs, IsChunk, AreChunks, SoundStrings, SoundStringsAll, SoundStringsPairs, Joins, JoinsAll, JoinsPairs}
 use Rattle.cbor4ii_tree.specs.Cost.{Budget}
 use Rattle.cbor4ii_tree.specs.Refusal.{Refusal, IsEof, array_name, map_name}
-use Rattle.cbor4ii_tree.specs.Stops.{Stopping, AtHead, Each, EachPair, Counted, OpenItems, OpenPairs}
+use Rattle.cbor4ii_tree.specs.Stops.{Stopping, AtHead, Each, EachPair, StopsInCount, OpenItems, OpenPairs}
 use Rattle.cbor4ii_tree.specs.StopsReading.{Readable, ReadableChunk, CutString, ChunkStopsBy, ChunkStops, ReadingStopsBy, ReadingStopsFrom, ReadingStopsWithin, StopsReading}
 use Rattle.cbor4ii_tree.proofs.heads.Means.{HeadByte, Means, means}
 use Rattle.cbor4ii_tree.proofs.parts.Widen.{each_covers, each_pair_covers}
@@ -113,7 +113,7 @@ readable_chunk k b t w = (w.0, w.1)
 
 -- ---- sequences
 
-counted_array : (inner : Budget) (stops : Stopping) → Fronts Outline stops → (w : Width) (b : ℕ) (bs : List ℕ) (e : Refusal) (rest : List ℕ) → HeadByte 4 w b → IsBytes (b ∷ bs) → IsEof e → AtHead array_name 4 w b (Counted (Readable inner) stops) bs e rest
+counted_array : (inner : Budget) (stops : Stopping) → Fronts Outline stops → (w : Width) (b : ℕ) (bs : List ℕ) (e : Refusal) (rest : List ℕ) → HeadByte 4 w b → IsBytes (b ∷ bs) → IsEof e → AtHead array_name 4 w b (StopsInCount (Readable inner) stops) bs e rest
     → Front Outline (b ∷ bs) × (rest ≡ [])
 counted_array inner stops g w b bs e rest m h eo (inl st) =
     let f = filled 4 w b bs h.1 m st.0 in
@@ -141,7 +141,7 @@ open_array inner stops g b bs e rest m h eo st =
     let each = each_outline f.0.0 f.0.1 in
     (front_of Outline (b ∷ bs) (array_open f.0.0) f.0.2 (each.0, each.1) f.0.3 (ap₂ ◌∷◌ (sym m) f.0.4), f.1)
 
-counted_map : (inner : Budget) (stops : Stopping) → Fronts Outline stops → (w : Width) (b : ℕ) (bs : List ℕ) (e : Refusal) (rest : List ℕ) → HeadByte 5 w b → IsBytes (b ∷ bs) → IsEof e → AtHead map_name 5 w b (λ n. Counted (Readable inner) stops (2 * n)) bs e rest
+counted_map : (inner : Budget) (stops : Stopping) → Fronts Outline stops → (w : Width) (b : ℕ) (bs : List ℕ) (e : Refusal) (rest : List ℕ) → HeadByte 5 w b → IsBytes (b ∷ bs) → IsEof e → AtHead map_name 5 w b (λ n. StopsInCount (Readable inner) stops (2 * n)) bs e rest
     → Front Outline (b ∷ bs) × (rest ≡ [])
 counted_map inner stops g w b bs e rest m h eo (inl st) =
     let f = filled 5 w b bs h.1 m st.0 in
@@ -185,12 +185,12 @@ by_front budget stops g (starts_chunks k) b bs e rest m h eo (inl st) =
 by_front budget stops g (starts_chunks k) b bs e rest m h eo (inr st) = absurd (eof_only e _ eo st.refusal)
 by_front budget stops g (bad_string k) b bs e rest m h eo st = absurd (eof_only e _ eo st.0)
 by_front budget stops g (starts_array w) b bs e rest m h eo st =
-    stepped_front Outline _ budget (b ∷ bs) (λ inner. AtHead array_name 4 w b (Counted (Readable inner) (stops inner)) bs) e rest eo (λ inner x. counted_array inner (stops inner) (g inner) w b bs e rest m h eo x) st
+    stepped_front Outline _ budget (b ∷ bs) (λ inner. AtHead array_name 4 w b (StopsInCount (Readable inner) (stops inner)) bs) e rest eo (λ inner x. counted_array inner (stops inner) (g inner) w b bs e rest m h eo x) st
 by_front budget stops g starts_open_array b bs e rest m h eo st =
     stepped_front Outline _ budget (b ∷ bs) (λ inner. OpenItems (Readable inner) (stops inner) bs) e rest eo (λ inner x. open_array inner (stops inner) (g inner) b bs e rest m h eo x) st
 by_front budget stops g bad_array b bs e rest m h eo st = stepped_front Outline _ budget (b ∷ bs) _ e rest eo (λ inner x. absurd (eof_only e _ eo x.0)) st
 by_front budget stops g (starts_map w) b bs e rest m h eo st =
-    stepped_front Outline _ budget (b ∷ bs) (λ inner. AtHead map_name 5 w b (λ n. Counted (Readable inner) (stops inner) (2 * n)) bs) e rest eo (λ inner x. counted_map inner (stops inner) (g inner) w b bs e rest m h eo x) st
+    stepped_front Outline _ budget (b ∷ bs) (λ inner. AtHead map_name 5 w b (λ n. StopsInCount (Readable inner) (stops inner) (2 * n)) bs) e rest eo (λ inner x. counted_map inner (stops inner) (g inner) w b bs e rest m h eo x) st
 by_front budget stops g starts_open_map b bs e rest m h eo st =
     stepped_front Outline _ budget (b ∷ bs) (λ inner. OpenPairs (Readable inner) (stops inner) bs) e rest eo (λ inner x. open_map inner (stops inner) (g inner) b bs e rest m h eo x) st
 by_front budget stops g bad_map b bs e rest m h eo st = stepped_front Outline _ budget (b ∷ bs) _ e rest eo (λ inner x. absurd (eof_only e _ eo x.0)) st

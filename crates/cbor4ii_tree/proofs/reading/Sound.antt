@@ -4,7 +4,7 @@ use Rattle.std.proofs.lemmas.Str.{IsUtf8-from_is_utf8}
 use Rattle.std.specs.Str.{is_utf8}
 use Rattle.cbor4ii_items.specs.Head.{HeadFits, IsBytes}
 use Rattle.cbor4ii_items.specs.Initial.{sign_major, Kind, byte_string, text_string, precision_bytes, Initial, starts_int, bad_int, starts_string, starts_chunks, bad_string, starts_array, starts_open_array, bad_array, starts_map, starts_open_map, bad_map, starts_tag, bad_tag, starts_simple, starts_bits, other_simple, initial}
-use Rattle.cbor4ii_tree.specs.Tree.{Tree, int, string, chunked, array, array_open, map_of, map_open, tagged, simple, bits, Trees, no_trees, tree, count, pair_count, bytes, bytes_all, bytes_pairs, joined, TextIsUtf8}
+use Rattle.cbor4ii_tree.specs.Tree.{Tree, int, string, chunked, array, array_open, map_of, map_open, tagged, simple, bits, Trees, no_trees, tree, count, pair_count, bytes, bytes_all, bytes_pairs, joined_chunks, TextIsUtf8}
 use Rattle.cbor4ii_items.specs.Decoding.{CostFits}
 use Rattle.cbor4ii_tree.specs.Cost.{Budget, step_in, chunks_cost}
 use Rattle.cbor4ii_tree.specs.Refusal.{sign_name, precision_name, array_name, map_name, tag_name, value_name}
@@ -48,9 +48,9 @@ by_sound item b outer s up (starts_string k w) a bs p m h e =
     let test = tested_sound k x.0.0 (string k w x.0.0) x.0.1 p x.2 in
     subst (Took (Readable outer) (a ∷ bs)) test.1 (record { whole = ((took.fits, test.0), up 0 (fits_zero b)); is = took.is; more = took.more })
 by_sound item b outer s up (starts_chunks k) a bs p m h e =
-    let x = bind_ok (open_trees_at (chunk_at k b) (suc (length bs)) bs) (λ q. tested k (joined q.0) (chunked k q.0) q.1) p e in
+    let x = bind_ok (open_trees_at (chunk_at k b) (suc (length bs)) bs) (λ q. tested k (joined_chunks q.0) (chunked k q.0) q.1) p e in
     let all = open_trees_sound (chunk_at k b) (ReadableChunk k b) (chunk_sound k b) (suc (length bs)) bs x.0 h x.1 in
-    let test = tested_sound k (joined x.0.0) (chunked k x.0.0) x.0.1 p x.2 in
+    let test = tested_sound k (joined_chunks x.0.0) (chunked k x.0.0) x.0.1 p x.2 in
     let w = all_chunks k x.0.0 b all.whole in
     subst (Took (Readable outer) (a ∷ bs)) test.1 (record { whole = ((w.0.0, (w.0.1, test.0)), chunks_up k x.0.0 b outer up all.whole); is = ap₂ ◌∷◌ m all.is; more = all.more })
 by_sound item b outer s up (bad_string k) a bs p m h e = absurd (no_ok {A = Tree} _ p e)

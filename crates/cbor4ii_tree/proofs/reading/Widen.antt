@@ -5,7 +5,7 @@ use Rattle.cbor4ii_items.specs.Initial.{Kind, byte_string, text_string, kind_maj
 use Rattle.cbor4ii_tree.specs.Tree.{bytes_all}
 use Rattle.cbor4ii_tree.specs.Cost.{Budget, cost}
 use Rattle.cbor4ii_tree.specs.Refusal.{Refusal, IsEof, IsDepthOverflow, sign_name, kind_name, precision_name, array_name, map_name, tag_name, value_name}
-use Rattle.cbor4ii_tree.specs.Stops.{Stopping, Is, Missing, AtHead, Counted, OpenItems, OpenPairs}
+use Rattle.cbor4ii_tree.specs.Stops.{Stopping, Is, Missing, AtHead, StopsInCount, OpenItems, OpenPairs}
 use Rattle.cbor4ii_tree.specs.StopsReading.{Readable, ReadableChunk, CutString, NoUtf8, ChunkStopsBy, ChunkStops, ReadingStopsBy, ReadingStopsFrom, ReadingStopsWithin, StopsReading}
 use Rattle.cbor4ii_tree.proofs.parts.Widen.{Goes, Calm, Widens, widens_same, widens_none, widens_fits, Covers, each_covers, is_goes, missing_goes, missing_all_goes, no_byte_goes, behind_head_goes, at_head_goes, stepped_goes, counted_goes, items_goes, pairs_goes}
 
@@ -49,16 +49,16 @@ by_goes b c e more s t calm w k (starts_chunks kd) a bs rest (inr x) =
     inr (record { chunks = x.chunks; whole = each_covers (ReadableChunk kd b) (ReadableChunk kd c) (chunk_covers kd e b c w) x.chunks x.whole; is = ap (λ r. r ++ more) x.is ∙ append_assoc (bytes_all x.chunks) (break ∷ rest) more; invalid = x.invalid; refusal = x.refusal })
 by_goes b c e more s t calm w k (bad_string kd) a bs rest x = is_goes _ e _ rest more x
 by_goes b c e more s t calm w k (starts_array v) a bs rest x =
-    stepped_goes array_name b c e (a ∷ bs) rest more (λ inner. AtHead array_name 4 v a (Counted (Readable inner) (s inner)) bs) (λ inner. AtHead array_name 4 v a (Counted (Readable inner) (t inner)) (bs ++ more)) w (λ inner outer u y.
-    at_head_goes array_name 4 v a e more (Counted (Readable inner) (s inner)) (Counted (Readable outer) (t outer)) calm (λ n. counted_goes (Readable inner) (Readable outer) e more (s inner) (t outer) n (readable_covers e inner outer u) (k inner outer u)) bs rest y) x
+    stepped_goes array_name b c e (a ∷ bs) rest more (λ inner. AtHead array_name 4 v a (StopsInCount (Readable inner) (s inner)) bs) (λ inner. AtHead array_name 4 v a (StopsInCount (Readable inner) (t inner)) (bs ++ more)) w (λ inner outer u y.
+    at_head_goes array_name 4 v a e more (StopsInCount (Readable inner) (s inner)) (StopsInCount (Readable outer) (t outer)) calm (λ n. counted_goes (Readable inner) (Readable outer) e more (s inner) (t outer) n (readable_covers e inner outer u) (k inner outer u)) bs rest y) x
 by_goes b c e more s t calm w k starts_open_array a bs rest x =
     stepped_goes array_name b c e (a ∷ bs) rest more (λ inner. OpenItems (Readable inner) (s inner) bs) (λ inner. OpenItems (Readable inner) (t inner) (bs ++ more)) w (λ inner outer u y.
     items_goes (Readable inner) (Readable outer) e more (s inner) (t outer) calm (readable_covers e inner outer u) (k inner outer u) bs rest y) x
 by_goes b c e more s t calm w k bad_array a bs rest x =
     stepped_goes array_name b c e (a ∷ bs) rest more (λ inner. Is _ bs) (λ inner. Is _ (bs ++ more)) w (λ inner outer u y. is_goes _ e bs rest more y) x
 by_goes b c e more s t calm w k (starts_map v) a bs rest x =
-    stepped_goes map_name b c e (a ∷ bs) rest more (λ inner. AtHead map_name 5 v a (λ n. Counted (Readable inner) (s inner) (2 * n)) bs) (λ inner. AtHead map_name 5 v a (λ n. Counted (Readable inner) (t inner) (2 * n)) (bs ++ more)) w (λ inner outer u y.
-    at_head_goes map_name 5 v a e more (λ n. Counted (Readable inner) (s inner) (2 * n)) (λ n. Counted (Readable outer) (t outer) (2 * n)) calm (λ n. counted_goes (Readable inner) (Readable outer) e more (s inner) (t outer) (2 * n) (readable_covers e inner outer u) (k inner outer u)) bs rest y) x
+    stepped_goes map_name b c e (a ∷ bs) rest more (λ inner. AtHead map_name 5 v a (λ n. StopsInCount (Readable inner) (s inner) (2 * n)) bs) (λ inner. AtHead map_name 5 v a (λ n. StopsInCount (Readable inner) (t inner) (2 * n)) (bs ++ more)) w (λ inner outer u y.
+    at_head_goes map_name 5 v a e more (λ n. StopsInCount (Readable inner) (s inner) (2 * n)) (λ n. StopsInCount (Readable outer) (t outer) (2 * n)) calm (λ n. counted_goes (Readable inner) (Readable outer) e more (s inner) (t outer) (2 * n) (readable_covers e inner outer u) (k inner outer u)) bs rest y) x
 by_goes b c e more s t calm w k starts_open_map a bs rest x =
     stepped_goes map_name b c e (a ∷ bs) rest more (λ inner. OpenPairs (Readable inner) (s inner) bs) (λ inner. OpenPairs (Readable inner) (t inner) (bs ++ more)) w (λ inner outer u y.
     pairs_goes (Readable inner) (Readable outer) e more (s inner) (t outer) calm (readable_covers e inner outer u) (k inner outer u) bs rest y) x

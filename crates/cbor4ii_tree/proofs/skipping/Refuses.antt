@@ -6,7 +6,7 @@ use Rattle.cbor4ii_items.specs.Magnitude.{number_of}
 use Rattle.cbor4ii_tree.specs.Tree.{Tree, int, string, chunked, array, array_open, map_of, map_open, tagged, bits}
 use Rattle.cbor4ii_tree.specs.Cost.{Budget, step_in}
 use Rattle.cbor4ii_tree.specs.Refusal.{Refusal, ignored_any, tag_name}
-use Rattle.cbor4ii_tree.specs.Stops.{Stopping, Missing, Counted}
+use Rattle.cbor4ii_tree.specs.Stops.{Stopping, Missing, StopsInCount}
 use Rattle.cbor4ii_tree.specs.StopsSkipping.{Skippable, SkippingStopsBy, SkippingStopsFrom, SkippingStopsWithin}
 use Rattle.cbor4ii_tree.specs.Parse.{Parser, ◌>>=◌, front_at, trees_at, pairs_at, open_trees_at, open_pairs_at}
 use Rattle.cbor4ii_tree.specs.Skip.{whole_number_at, whole_argument_at, skip_by, skip_from, skip_within}
@@ -42,7 +42,7 @@ by_err item budget stops bound s r (starts_chunks k) b bs e rest m h lt x =
     ]
 by_err item budget stops bound s r (bad_string k) b bs e rest m h lt x = is_err _ _ _ _ x
 by_err item budget stops bound s r (starts_array w) b bs e rest m h lt x =
-    at_head {A = Tree} ignored_any 4 w b bs (λ n. trees_at item n.0 n.1 >>= λ q. Ok (array w q.0, q.1)) (Counted (Skippable budget) stops) e rest h m (λ n more le y.
+    at_head {A = Tree} ignored_any 4 w b bs (λ n. trees_at item n.0 n.1 >>= λ q. Ok (array w q.0, q.1)) (StopsInCount (Skippable budget) stops) e rest h m (λ n more le y.
     elim (bind_err {B = Tree} (trees_at item n.0 n.1) (λ q. Ok (array w q.0, q.1)) (e, rest) y) [ inl g ↦ trees_err item (Skippable budget) stops bound s r n.0 n.1 e rest more (omega arith) g | inr g ↦ absurd (no_err _ _ g.2) ]) x
 by_err item budget stops bound s r starts_open_array b bs e rest m h lt x =
     elim (bind_err (open_trees_at item (suc (length bs)) bs) (λ q. Ok (array_open q.0, q.1)) (e, rest) x) [
@@ -51,7 +51,7 @@ by_err item budget stops bound s r starts_open_array b bs e rest m h lt x =
     ]
 by_err item budget stops bound s r bad_array b bs e rest m h lt x = is_err _ _ _ _ x
 by_err item budget stops bound s r (starts_map w) b bs e rest m h lt x =
-    at_head {A = Tree} ignored_any 5 w b bs (λ n. pairs_at item n.0 n.1 >>= λ q. Ok (map_of w q.0, q.1)) (λ n. Counted (Skippable budget) stops (2 * n)) e rest h m (λ n more le y.
+    at_head {A = Tree} ignored_any 5 w b bs (λ n. pairs_at item n.0 n.1 >>= λ q. Ok (map_of w q.0, q.1)) (λ n. StopsInCount (Skippable budget) stops (2 * n)) e rest h m (λ n more le y.
     elim (bind_err {B = Tree} (pairs_at item n.0 n.1) (λ q. Ok (map_of w q.0, q.1)) (e, rest) y) [ inl g ↦ pairs_err item (Skippable budget) stops bound s r n.0 n.1 e rest more (omega arith) g | inr g ↦ absurd (no_err _ _ g.2) ]) x
 by_err item budget stops bound s r starts_open_map b bs e rest m h lt x =
     elim (bind_err (open_pairs_at item (suc (length bs)) bs) (λ q. Ok (map_open q.0, q.1)) (e, rest) x) [

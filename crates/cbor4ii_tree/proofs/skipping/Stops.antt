@@ -5,7 +5,7 @@ use Rattle.cbor4ii_items.specs.Initial.{kind_major, precision_bytes, Initial, st
 use Rattle.cbor4ii_tree.specs.Tree.{Tree, string, array, map_of, tagged}
 use Rattle.cbor4ii_tree.specs.Cost.{Budget, step_in}
 use Rattle.cbor4ii_tree.specs.Refusal.{Refusal, ignored_any, tag_name}
-use Rattle.cbor4ii_tree.specs.Stops.{Stopping, Missing, Counted}
+use Rattle.cbor4ii_tree.specs.Stops.{Stopping, Missing, StopsInCount}
 use Rattle.cbor4ii_tree.specs.StopsSkipping.{Skippable, SkippingStopsBy, SkippingStopsFrom, SkippingStopsWithin}
 use Rattle.cbor4ii_tree.specs.Parse.{Parser, ◌>>=◌, front_at, trees_at, pairs_at, open_trees_at, open_pairs_at}
 use Rattle.cbor4ii_tree.specs.Skip.{whole_number_at, whole_argument_at, skip_by, skip_from, skip_within}
@@ -36,13 +36,13 @@ by_stops item budget stops bound a g (starts_chunks k) b bs e rest lt s =
     then_err (open_trees_at item (suc (length bs)) bs) _ (e, rest) (open_trees_stop item (Skippable budget) stops bound a (skippable_starts budget) g (suc (length bs)) bs e rest (omega arith) lt s)
 by_stops item budget stops bound a g (bad_string k) b bs e rest lt s = err _ _ _ _ s
 by_stops item budget stops bound a g (starts_array w) b bs e rest lt s =
-    head_stops {A = Tree} ignored_any 4 w b bs (λ n. trees_at item n.0 n.1 >>= λ q. Ok (array w q.0, q.1)) (Counted (Skippable budget) stops) e rest (λ n after le st.
+    head_stops {A = Tree} ignored_any 4 w b bs (λ n. trees_at item n.0 n.1 >>= λ q. Ok (array w q.0, q.1)) (StopsInCount (Skippable budget) stops) e rest (λ n after le st.
     then_err {B = Tree} (trees_at item n after) _ (e, rest) (trees_stop item (Skippable budget) stops bound a g n after e rest (omega arith) st)) s
 by_stops item budget stops bound a g starts_open_array b bs e rest lt s =
     then_err (open_trees_at item (suc (length bs)) bs) _ (e, rest) (open_trees_stop item (Skippable budget) stops bound a (skippable_starts budget) g (suc (length bs)) bs e rest (omega arith) lt s)
 by_stops item budget stops bound a g bad_array b bs e rest lt s = err _ _ _ _ s
 by_stops item budget stops bound a g (starts_map w) b bs e rest lt s =
-    head_stops {A = Tree} ignored_any 5 w b bs (λ n. pairs_at item n.0 n.1 >>= λ q. Ok (map_of w q.0, q.1)) (λ n. Counted (Skippable budget) stops (2 * n)) e rest (λ n after le st.
+    head_stops {A = Tree} ignored_any 5 w b bs (λ n. pairs_at item n.0 n.1 >>= λ q. Ok (map_of w q.0, q.1)) (λ n. StopsInCount (Skippable budget) stops (2 * n)) e rest (λ n after le st.
     then_err {B = Tree} (pairs_at item n after) _ (e, rest) (pairs_stop item (Skippable budget) stops bound a g n after e rest (omega arith) st)) s
 by_stops item budget stops bound a g starts_open_map b bs e rest lt s =
     then_err (open_pairs_at item (suc (length bs)) bs) _ (e, rest) (open_pairs_stop item (Skippable budget) stops bound a (skippable_starts budget) g (suc (length bs)) bs e rest (omega arith) lt s)

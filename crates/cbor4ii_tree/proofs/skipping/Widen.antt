@@ -4,7 +4,7 @@ use Rattle.cbor4ii_items.specs.Head.{byte_count}
 use Rattle.cbor4ii_items.specs.Initial.{kind_major, precision_bytes, Initial, starts_int, bad_int, starts_string, starts_chunks, bad_string, starts_array, starts_open_array, bad_array, starts_map, starts_open_map, bad_map, starts_tag, bad_tag, starts_simple, starts_bits, other_simple, initial}
 use Rattle.cbor4ii_tree.specs.Cost.{Budget, skip_cost}
 use Rattle.cbor4ii_tree.specs.Refusal.{Refusal, IsEof, IsDepthOverflow, ignored_any, tag_name}
-use Rattle.cbor4ii_tree.specs.Stops.{Stopping, Missing, Counted}
+use Rattle.cbor4ii_tree.specs.Stops.{Stopping, Missing, StopsInCount}
 use Rattle.cbor4ii_tree.specs.StopsSkipping.{Skippable, SkippingStopsBy, SkippingStopsFrom, SkippingStopsWithin, StopsSkipping}
 use Rattle.cbor4ii_tree.proofs.parts.Widen.{Goes, Calm, Widens, widens_same, widens_none, widens_fits, Covers, is_goes, missing_goes, no_byte_goes, at_head_goes, stepped_goes, counted_goes, items_goes, pairs_goes}
 
@@ -17,11 +17,11 @@ by_goes b c e more s t calm w k (bad_int sg) a bs rest x = is_goes _ e _ rest mo
 by_goes b c e more s t calm w k (starts_string kd v) a bs rest x = at_head_goes ignored_any (kind_major kd) v a e more (Missing ignored_any) (Missing ignored_any) calm (λ n. missing_goes ignored_any n e more calm) bs rest x
 by_goes b c e more s t calm w k (starts_chunks kd) a bs rest x = items_goes (Skippable b) (Skippable c) e more s t calm (skippable_covers e b c w) k bs rest x
 by_goes b c e more s t calm w k (bad_string kd) a bs rest x = is_goes _ e _ rest more x
-by_goes b c e more s t calm w k (starts_array v) a bs rest x = at_head_goes ignored_any 4 v a e more (Counted (Skippable b) s) (Counted (Skippable c) t) calm (λ n. counted_goes (Skippable b) (Skippable c) e more s t n (skippable_covers e b c w) k) bs rest x
+by_goes b c e more s t calm w k (starts_array v) a bs rest x = at_head_goes ignored_any 4 v a e more (StopsInCount (Skippable b) s) (StopsInCount (Skippable c) t) calm (λ n. counted_goes (Skippable b) (Skippable c) e more s t n (skippable_covers e b c w) k) bs rest x
 by_goes b c e more s t calm w k starts_open_array a bs rest x = items_goes (Skippable b) (Skippable c) e more s t calm (skippable_covers e b c w) k bs rest x
 by_goes b c e more s t calm w k bad_array a bs rest x = is_goes _ e _ rest more x
 by_goes b c e more s t calm w k (starts_map v) a bs rest x =
-    at_head_goes ignored_any 5 v a e more (λ n. Counted (Skippable b) s (2 * n)) (λ n. Counted (Skippable c) t (2 * n)) calm (λ n. counted_goes (Skippable b) (Skippable c) e more s t (2 * n) (skippable_covers e b c w) k) bs rest x
+    at_head_goes ignored_any 5 v a e more (λ n. StopsInCount (Skippable b) s (2 * n)) (λ n. StopsInCount (Skippable c) t (2 * n)) calm (λ n. counted_goes (Skippable b) (Skippable c) e more s t (2 * n) (skippable_covers e b c w) k) bs rest x
 by_goes b c e more s t calm w k starts_open_map a bs rest x = pairs_goes (Skippable b) (Skippable c) e more s t calm (skippable_covers e b c w) k bs rest x
 by_goes b c e more s t calm w k bad_map a bs rest x = is_goes _ e _ rest more x
 by_goes b c e more s t calm w k (starts_tag v) a bs rest x = at_head_goes tag_name 6 v a e more (λ n. s) (λ n. t) calm (λ n. k) bs rest x

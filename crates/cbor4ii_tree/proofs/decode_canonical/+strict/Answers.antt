@@ -9,7 +9,7 @@ use Rattle.cbor4ii_tree.specs.Refusal.{array_name, map_name, tag_name, value_nam
 use Rattle.cbor4ii_items.specs.Initial.{unsigned, negative, byte_string}
 use Rattle.cbor4ii_items.specs.Laws.Steps.{kept_then}
 use Rattle.cbor4ii_tree.specs.Valuing.{ReadsStepped}
-use Rattle.cbor4ii_tree.specs.Strictly.{Lacks, BeginsOne, BeginsBehind, ReadsExactly, ReadsBehind, ShortestAt, StringAt, BeginsHead, BeginsTag, BeginsItems, ExactItems, ExactMember, ExactMembers, BeginsCounted, Counted, BeginsStepped, TextAt}
+use Rattle.cbor4ii_tree.specs.Strictly.{Lacks, BeginsOne, BeginsBehind, ReadsExactly, ReadsBehind, ShortestAt, StringAt, BeginsHead, BeginsTag, BeginsItems, ExactItems, ExactMember, ExactMembers, BeginsCounted, AcceptsCount, BeginsStepped, TextAt}
 use Rattle.cbor4ii_tree.proofs.Doing.{reached_start, reached_by, does_ok, does_no_memory, does_no_step}
 use Rattle.cbor4ii_tree.proofs.ValuingHeads.{view-Tag}
 use Rattle.cbor4ii_tree.proofs.ValuingSequences.{more, ends}
@@ -32,7 +32,7 @@ array_inside-returns-clause-does g t c =
 pub array_inside-returns-in_err-count-clause-does : goal.array_inside-returns-in_err-count-clause-does
 array_inside-returns-in_err-count-clause-does g t c =
     let p = err_from_is_err_and c.from_residual.result c.from_residual.ensures.1 in
-    rw (p.1, p.2) (lacks_more (λ xs (v : Unit {0}) ys. Unit {0}) (λ xs (v : Vec Value Global) ys. Counted 4 ExactItems (g.S.Source.view c.args.reader.now).budget xs v.items ys) (BeginsHead 4) (BeginsCounted 4 1) (begins_counted 4 1) (does_lack_head (λ xs (v : Unit {0}) ys. Unit {0}) array_name 4 (omega arith) c.in_err-count.ensures.moves c.in_err-count.ensures.complete c.in_err-count.ensures.stops))
+    rw (p.1, p.2) (lacks_more (λ xs (v : Unit {0}) ys. Unit {0}) (λ xs (v : Vec Value Global) ys. AcceptsCount 4 ExactItems (g.S.Source.view c.args.reader.now).budget xs v.items ys) (BeginsHead 4) (BeginsCounted 4 1) (begins_counted 4 1) (does_lack_head (λ xs (v : Unit {0}) ys. Unit {0}) array_name 4 (omega arith) c.in_err-count.ensures.moves c.in_err-count.ensures.complete c.in_err-count.ensures.stops))
 
 pub counted_items-loop-i-init : goal.counted_items-loop-i-init
 counted_items-loop-i-init g t c = reached_start (λ xs ys. ExactItems 0 (g.S.Source.view c.args.reader.now).budget xs _ ys) _ (λ xs. items_none (g.S.Source.view c.args.reader.now).budget xs _ (cc))
@@ -48,11 +48,11 @@ counted_items-returns-in_err-value g t c =
 
 pub read_array-returns-clause-does : goal.read_array-returns-clause-does
 read_array-returns-clause-does g t c =
-    stepped_more (λ o xs (v : Vec Value Global) ys. Counted 4 ExactItems o xs v.items ys) (BeginsCounted 4 1) c.if-not-step_in.ensures.budget c.step_in.ensures.others c.array_inside-outcome.ensures.does c.step_out.ensures.budget c.step_out.ensures.others
+    stepped_more (λ o xs (v : Vec Value Global) ys. AcceptsCount 4 ExactItems o xs v.items ys) (BeginsCounted 4 1) c.if-not-step_in.ensures.budget c.step_in.ensures.others c.array_inside-outcome.ensures.does c.step_out.ensures.budget c.step_out.ensures.others
 
 pub read_array-returns-then-not-step_in-clause-does : goal.read_array-returns-then-not-step_in-clause-does
 read_array-returns-then-not-step_in-clause-does g t c =
-    does_no_step array_name (ReadsStepped (λ o xs (v : Vec Value Global) ys. Counted 4 ExactItems o xs v.items ys) (g.S.Source.view c.args.reader.now).budget) (Lacks (BeginsStepped (BeginsCounted 4 1)) (g.S.Source.view c.args.reader.now).budget) refl refl (λ none xs. rw none (no_step_stepped (BeginsCounted 4 1) array_name xs)) c.if-not-step_in.ensures.budget c.step_in.ensures.others
+    does_no_step array_name (ReadsStepped (λ o xs (v : Vec Value Global) ys. AcceptsCount 4 ExactItems o xs v.items ys) (g.S.Source.view c.args.reader.now).budget) (Lacks (BeginsStepped (BeginsCounted 4 1)) (g.S.Source.view c.args.reader.now).budget) refl refl (λ none xs. rw none (no_step_stepped (BeginsCounted 4 1) array_name xs)) c.if-not-step_in.ensures.budget c.step_in.ensures.others
 
 pub map_inside-returns-clause-does : goal.map_inside-returns-clause-does
 map_inside-returns-clause-does g t c =
@@ -61,15 +61,15 @@ map_inside-returns-clause-does g t c =
 pub map_inside-returns-in_err-count-clause-does : goal.map_inside-returns-in_err-count-clause-does
 map_inside-returns-in_err-count-clause-does g t c =
     let p = err_from_is_err_and c.from_residual.result c.from_residual.ensures.1 in
-    rw (p.1, p.2) (lacks_more (λ xs (v : Unit {0}) ys. Unit {0}) (λ xs (v : Vec (Value × Value) Global) ys. Counted 5 ExactMembers (g.S.Source.view c.args.reader.now).budget xs v.items ys) (BeginsHead 5) (BeginsCounted 5 2) (begins_counted 5 2) (does_lack_head (λ xs (v : Unit {0}) ys. Unit {0}) map_name 5 (omega arith) c.in_err-count.ensures.moves c.in_err-count.ensures.complete c.in_err-count.ensures.stops))
+    rw (p.1, p.2) (lacks_more (λ xs (v : Unit {0}) ys. Unit {0}) (λ xs (v : Vec (Value × Value) Global) ys. AcceptsCount 5 ExactMembers (g.S.Source.view c.args.reader.now).budget xs v.items ys) (BeginsHead 5) (BeginsCounted 5 2) (begins_counted 5 2) (does_lack_head (λ xs (v : Unit {0}) ys. Unit {0}) map_name 5 (omega arith) c.in_err-count.ensures.moves c.in_err-count.ensures.complete c.in_err-count.ensures.stops))
 
 pub read_map-returns-clause-does : goal.read_map-returns-clause-does
 read_map-returns-clause-does g t c =
-    stepped_more (λ o xs (v : Vec (Value × Value) Global) ys. Counted 5 ExactMembers o xs v.items ys) (BeginsCounted 5 2) c.if-not-step_in.ensures.budget c.step_in.ensures.others c.map_inside-outcome.ensures.does c.step_out.ensures.budget c.step_out.ensures.others
+    stepped_more (λ o xs (v : Vec (Value × Value) Global) ys. AcceptsCount 5 ExactMembers o xs v.items ys) (BeginsCounted 5 2) c.if-not-step_in.ensures.budget c.step_in.ensures.others c.map_inside-outcome.ensures.does c.step_out.ensures.budget c.step_out.ensures.others
 
 pub read_map-returns-then-not-step_in-clause-does : goal.read_map-returns-then-not-step_in-clause-does
 read_map-returns-then-not-step_in-clause-does g t c =
-    does_no_step map_name (ReadsStepped (λ o xs (v : Vec (Value × Value) Global) ys. Counted 5 ExactMembers o xs v.items ys) (g.S.Source.view c.args.reader.now).budget) (Lacks (BeginsStepped (BeginsCounted 5 2)) (g.S.Source.view c.args.reader.now).budget) refl refl (λ none xs. rw none (no_step_stepped (BeginsCounted 5 2) map_name xs)) c.if-not-step_in.ensures.budget c.step_in.ensures.others
+    does_no_step map_name (ReadsStepped (λ o xs (v : Vec (Value × Value) Global) ys. AcceptsCount 5 ExactMembers o xs v.items ys) (g.S.Source.view c.args.reader.now).budget) (Lacks (BeginsStepped (BeginsCounted 5 2)) (g.S.Source.view c.args.reader.now).budget) refl refl (λ none xs. rw none (no_step_stepped (BeginsCounted 5 2) map_name xs)) c.if-not-step_in.ensures.budget c.step_in.ensures.others
 
 pub counted_members-loop-i-init : goal.counted_members-loop-i-init
 counted_members-loop-i-init g t c = reached_start (λ xs ys. ExactMembers 0 (g.S.Source.view c.args.reader.now).budget xs _ ys) _ (λ xs. members_none (g.S.Source.view c.args.reader.now).budget _ xs (cc))
@@ -128,21 +128,21 @@ read_inside-returns-in-3-clause-does g t c =
 
 pub read_inside-returns-in-4-clause-does : goal.read_inside-returns-in-4-clause-does
 read_inside-returns-in-4-clause-does g t c =
-    exact_ok c.in_ok-first.first c.in_ok-first.ensures.runs (λ xs ys. ReadsStepped (λ o xs (v : Vec Value Global) ys. Counted 4 ExactItems o xs v.items ys) (g.S.Source.view c.peek.new.reader).budget xs c.in_ok-read_array-in-4.field-0 ys) (Array c.in_ok-read_array-in-4.field-0) (λ xs ys h. array_exact (g.S.Source.view c.args.reader.now).budget c.in_ok-read_array-in-4.field-0 xs ys (subst (λ o. ReadsStepped (λ o xs (v : Vec Value Global) ys. Counted 4 ExactItems o xs v.items ys) o xs c.in_ok-read_array-in-4.field-0 ys) c.in_ok-first.ensures.runs.moves.by.budget h)) (reached_by c.in_ok-read_array-in-4.ensures.does)
+    exact_ok c.in_ok-first.first c.in_ok-first.ensures.runs (λ xs ys. ReadsStepped (λ o xs (v : Vec Value Global) ys. AcceptsCount 4 ExactItems o xs v.items ys) (g.S.Source.view c.peek.new.reader).budget xs c.in_ok-read_array-in-4.field-0 ys) (Array c.in_ok-read_array-in-4.field-0) (λ xs ys h. array_exact (g.S.Source.view c.args.reader.now).budget c.in_ok-read_array-in-4.field-0 xs ys (subst (λ o. ReadsStepped (λ o xs (v : Vec Value Global) ys. AcceptsCount 4 ExactItems o xs v.items ys) o xs c.in_ok-read_array-in-4.field-0 ys) c.in_ok-first.ensures.runs.moves.by.budget h)) (reached_by c.in_ok-read_array-in-4.ensures.does)
 
 pub read_inside-returns-in_err-read_array-in-4-clause-does : goal.read_inside-returns-in_err-read_array-in-4-clause-does
 read_inside-returns-in_err-read_array-in-4-clause-does g t c =
     let p = err_from_is_err_and c.from_residual-in_err-read_array-in-4.result c.from_residual-in_err-read_array-in-4.ensures.1 in
-    rw (p.1, p.2) (exact_err c.in_ok-first.first c.in_ok-first.ensures.runs 4 (ReadsStepped (λ o xs (v : Vec Value Global) ys. Counted 4 ExactItems o xs v.items ys) (g.S.Source.view c.peek.new.reader).budget) c.in-4.is c.in_err-read_array-in-4.ensures.does)
+    rw (p.1, p.2) (exact_err c.in_ok-first.first c.in_ok-first.ensures.runs 4 (ReadsStepped (λ o xs (v : Vec Value Global) ys. AcceptsCount 4 ExactItems o xs v.items ys) (g.S.Source.view c.peek.new.reader).budget) c.in-4.is c.in_err-read_array-in-4.ensures.does)
 
 pub read_inside-returns-in-5-clause-does : goal.read_inside-returns-in-5-clause-does
 read_inside-returns-in-5-clause-does g t c =
-    exact_ok c.in_ok-first.first c.in_ok-first.ensures.runs (λ xs ys. ReadsStepped (λ o xs (v : Vec (Value × Value) Global) ys. Counted 5 ExactMembers o xs v.items ys) (g.S.Source.view c.peek.new.reader).budget xs c.in_ok-read_map-in-5.field-0 ys) (Map c.in_ok-read_map-in-5.field-0) (λ xs ys h. map_exact (g.S.Source.view c.args.reader.now).budget c.in_ok-read_map-in-5.field-0 xs ys (subst (λ o. ReadsStepped (λ o xs (v : Vec (Value × Value) Global) ys. Counted 5 ExactMembers o xs v.items ys) o xs c.in_ok-read_map-in-5.field-0 ys) c.in_ok-first.ensures.runs.moves.by.budget h)) (reached_by c.in_ok-read_map-in-5.ensures.does)
+    exact_ok c.in_ok-first.first c.in_ok-first.ensures.runs (λ xs ys. ReadsStepped (λ o xs (v : Vec (Value × Value) Global) ys. AcceptsCount 5 ExactMembers o xs v.items ys) (g.S.Source.view c.peek.new.reader).budget xs c.in_ok-read_map-in-5.field-0 ys) (Map c.in_ok-read_map-in-5.field-0) (λ xs ys h. map_exact (g.S.Source.view c.args.reader.now).budget c.in_ok-read_map-in-5.field-0 xs ys (subst (λ o. ReadsStepped (λ o xs (v : Vec (Value × Value) Global) ys. AcceptsCount 5 ExactMembers o xs v.items ys) o xs c.in_ok-read_map-in-5.field-0 ys) c.in_ok-first.ensures.runs.moves.by.budget h)) (reached_by c.in_ok-read_map-in-5.ensures.does)
 
 pub read_inside-returns-in_err-read_map-in-5-clause-does : goal.read_inside-returns-in_err-read_map-in-5-clause-does
 read_inside-returns-in_err-read_map-in-5-clause-does g t c =
     let p = err_from_is_err_and c.from_residual-in_err-read_map-in-5.result c.from_residual-in_err-read_map-in-5.ensures.1 in
-    rw (p.1, p.2) (exact_err c.in_ok-first.first c.in_ok-first.ensures.runs 5 (ReadsStepped (λ o xs (v : Vec (Value × Value) Global) ys. Counted 5 ExactMembers o xs v.items ys) (g.S.Source.view c.peek.new.reader).budget) c.in-5.is c.in_err-read_map-in-5.ensures.does)
+    rw (p.1, p.2) (exact_err c.in_ok-first.first c.in_ok-first.ensures.runs 5 (ReadsStepped (λ o xs (v : Vec (Value × Value) Global) ys. AcceptsCount 5 ExactMembers o xs v.items ys) (g.S.Source.view c.peek.new.reader).budget) c.in-5.is c.in_err-read_map-in-5.ensures.does)
 
 pub read_inside-returns-in_err-canonical_head-in-0-clause-does : goal.read_inside-returns-in_err-canonical_head-in-0-clause-does
 read_inside-returns-in_err-canonical_head-in-0-clause-does g t c =

@@ -1,6 +1,6 @@
 use Rattle.std.proofs.Common.{arith, ◌≡◌, Some, length, take, nat_lt, refl, sym, ap, subst, ◌∙◌}
 use Rattle.std.specs.Prelude.{IsTrue}
-use Rattle.cbor4ii_rw.specs.Segments.{joined, rest_of, full_of, shown_segment}
+use Rattle.cbor4ii_rw.specs.Segments.{joined_segments, rest_of, full_of, shown_segment}
 use Rattle.cbor4ii_rw.specs.Reader.{IsFront, IsEnough}
 use Rattle.cbor4ii_rw.proofs.Told.{told_some}
 use Rattle.cbor4ii_rw.proofs.SegmentLemmas.{front_of_current, current_is_enough, current_is_shown}
@@ -14,7 +14,7 @@ returns c =
     let shown = take n current in
     let kept = c.pass_empty.ensures.bytes in
     let front = subst (λ rest. IsFront want shown rest) kept (front_of_current want n current
-    (joined others) c.min-shown.ensures c.pass_empty.ensures.end) in
+    (joined_segments others) c.min-shown.ensures c.pass_empty.ensures.end) in
     let segment : shown_segment c.args.self.now ≡ current = sym c.pass_empty.ensures.segment
     ∙ current_is_shown current others c.pass_empty.ensures.end in
     let long = shown_length want n current c.min-shown.ensures in
