@@ -16,7 +16,7 @@ use Rattle.cbor4ii_items.specs.Laws.NumbersBack.{head_back, argument_back}
 
 -- ---- strings
 
-counted_back : (major : ℕ) (content rest : List ℕ) → length content < 2 ^ 64
+pub counted_back : (major : ℕ) (content rest : List ℕ) → length content < 2 ^ 64
     → ReadsCountedString major (counted_string major content ++ rest) content (length (counted_string major content))
 counted_back major content rest h =
     let start = shortest_head major (length content) in

@@ -10,7 +10,7 @@ use Rattle.cbor4ii_items.specs.Writing.{AppendsFront, Writes}
 pub appends_then : (xs ys : List ℕ) (a m b : Option (List ℕ)) → Appends xs a m → Appends ys m b → Appends (xs ++ ys) a b
 appends_then xs ys a m b p q held told = q (held ++ xs) (p held told) ∙ ap Some (append_assoc held xs ys)
 
-starts_then : (xs ys front : List ℕ) → StartsWith ys front → StartsWith (xs ++ ys) (xs ++ front)
+pub starts_then : (xs ys front : List ℕ) → StartsWith ys front → StartsWith (xs ++ ys) (xs ++ front)
 starts_then xs ys front h = ap (λ n. take n (xs ++ ys)) (length-append xs front) ∙ (take-append-add xs ys (length front) ∙ ap (λ z. xs ++ z) h)
 
 front_then : (xs ys : List ℕ) (a m b : Option (List ℕ)) → Appends xs a m → AppendsFront ys m b → AppendsFront (xs ++ ys) a b
@@ -33,7 +33,7 @@ writes_then {xs = xs} {ys = ys} {a = a} {m = m} {b = b} (Err e) p q = record {
   front = λ whole. front_then xs ys a.written m.written b.written p.appends (q.front whole);
 }
 
-starts_more : (xs ys front : List ℕ) → StartsWith xs front → StartsWith (xs ++ ys) front
+pub starts_more : (xs ys front : List ℕ) → StartsWith xs front → StartsWith (xs ++ ys) front
 starts_more xs ys front h =
     let long : length front ≤ length xs = omega (arith, ap length h, length-take (length front) xs) in
     take-append-le (length front) xs ys long ∙ h

@@ -48,8 +48,6 @@ use denote.Triple.Walked.{Goes-spent_ref, Goes-gave_ref, walk_Meets}
 use Rattle.std.specs.Prelude.{Option, Result, IfSome, OnSome, IfNone, IfOk, IsSome, length, ◌≤◌, ⊤}
 use Rattle.std.specs.Prelude.{IsTrue, MatchResult, MatchOption}
 use Rattle.std.specs.Io.BufRead.{Rests}
-use Rattle.std.specs.contracts.result.Result as RES
-use Rattle.std.proofs.result.Result.TheLaws as RESL
 use Rattle.std.specs.contracts.option.Option as OPT
 use Rattle.std.proofs.option.Option.TheLaws as OPTL
 use Rattle.std.specs.declared.fmt.Debug as Debug
@@ -63,6 +61,7 @@ use Rattle.cbor4ii_rw.specs.Reader.{IsFront, IsEnough, Shows, Breaks}
 use Rattle.cbor4ii_rw.specs.Reference.{bytes_of, IsLong}
 use Rattle.cbor4ii_rw.specs.Parted.{Parts}
 use Rattle.cbor4ii_rw.proofs.Parted.{is_option, at_option, slot_kept, error_kept, leaves}
+use Rattle.cbor4ii_rw.proofs.Results.{nm, RR, Filled, filled_result}
 use Rattle.cbor4ii_rw.specs.contracts.read.Read.fill as M
 use Rattle.cbor4ii_rw.specs.contracts.ask.part as G
 use Rattle.cbor4ii_rw.proofs.ask.part.Symbol.{name as #part}
@@ -71,14 +70,6 @@ use Rattle.cbor4ii_rw.specs.contracts.ask.lend as F
 use Rattle.cbor4ii_rw.specs.contracts.ask.lend.Key.{name as #self}
 use Rattle.cbor4ii_rw.proofs.ask.lend.Statement as stated
 use Rattle.cbor4ii_rw.proofs.ask.lend.Code as code
-
--- ---- the results' types
-abbrev nm : ℕ → Lft → NamedLft
-nm i κ = record { mir = named i; lft = κ }
-
--- the shown bytes, with the lifetimes named i and j
-abbrev RR : ℕ → ℕ → Lft → Lft → RattleType
-RR i j κ κ' = RF.the_row (nm i κ) (nm j κ')
 
 -- what is lent, as `part` is called at it
 abbrev er : Lft → NamedLft
@@ -99,19 +90,10 @@ at_laws κ κ' = arg_laws lent_ty yes (ER κ κ') (RFL.the_row_laws (er κ) (er 
 at_lives : (κ κ' : Lft) → (κ ++ κ') ⊑ (At κ κ').lives
 at_lives κ κ' = search (⊑_meet, ⊑_refl, ⊑_static, meet_⊑_left, meet_⊑_right) depth 24
 
-abbrev FR : RattleType → Lft → Lft → RattleType
-FR E κ κ' = RES.the_row (RR 0 1 κ κ') (param 1 E)
-
-filled_lawful : (E : RattleType) → Laws E → {M : Type 1} {𝓤 : Ura M} (𝓛 : Logic 𝓤) (κ κ' : Lft)
-    → Lawful 𝓛 (FR E κ κ')
-filled_lawful E LE 𝓛 κ κ' = loose_lawful (RES.the_type (RR 0 1 κ κ') (param 1 E))
-    (RESL.the_loose (RR 0 1 κ κ') (param 1 E) (RFL.the_row_laws (nm 0 κ) (nm 1 κ'))
-    (param_laws 1 E LE)) tt 𝓛
-
 shown_lawful : {M : Type 1} {𝓤 : Ura M} (𝓛 : Logic 𝓤) (κ κ' : Lft)
-    → Lawful 𝓛 (OPT.the_row (RR 0 1 κ κ'))
-shown_lawful 𝓛 κ κ' = loose_lawful (OPT.the_type (RR 0 1 κ κ'))
-    (OPTL.the_loose (RR 0 1 κ κ') (RFL.the_row_laws (nm 0 κ) (nm 1 κ'))) tt 𝓛
+    → Lawful 𝓛 (OPT.the_row (RR κ κ'))
+shown_lawful 𝓛 κ κ' = loose_lawful (OPT.the_type (RR κ κ'))
+    (OPTL.the_loose (RR κ κ') (RFL.the_row_laws (nm 0 κ) (nm 1 κ'))) tt 𝓛
 
 module _ (R E : RattleType) (gR : Read.Ghosts R.Denot E.Denot) (dR : Dict)
     (gS : Source.Ghosts R.Denot E.Denot) (dS : Dict) (gD : Debug.Ghosts E.Denot) (dD : Dict)
@@ -276,7 +258,7 @@ module _ (R E : RattleType) (gR : Read.Ghosts R.Denot E.Denot) (dR : Dict)
       (and_then ! (get ! refl) (and_then ! (get ! refl) (no_more !))) (λ v1.
       use1 𝓛 (later (some (λ (r : Result Reference E.Denot).
       ((‵ (flft κ2 q2) ⊛ ‵ (flft κ0 q0) ⊛ ‵ (flft κ3 q3) ⊛ ‵ (flft κ4 q4) ⊛ ‵ ftrue) ⊛ ‵
-      ((FR E κ2 κ0).own_val r (v1 ∷ []))) ⊛
+      ((Filled E κ2 κ0).own_val r (v1 ∷ []))) ⊛
       some (λ (ws : Lasts (M.ended R E gR dR gS dS gD dD dX (method_P R E gR dR gS dS gD dD dX Pp
       κ2)) z1.0.0 z1.0.3). ‵
       (lasts (M.ended R E gR dR gS dS gD dD dX (method_P R E gR dR gS dS gD dD dX Pp κ2)) z1.0.0
@@ -284,8 +266,8 @@ module _ (R E : RattleType) (gR : Read.Ghosts R.Denot E.Denot) (dR : Dict)
       ⊛ raw (fact 𝓤 (Front want x r)) ⊛ raw (fact 𝓤 (Bounded x r)) ⊛ raw (fact 𝓤 (Whole want x r)) ⊛
       raw (fact 𝓤 (Lasting x r)) ⊛ ‵ (Rests P' self (λ new. Left x new r)))))) (id⊢ 𝓤 _) $
       await ! tt $ pick ! (λ r. split ! $ split ! $ move ! (1 ∷ []) $
-      peeks ! (FR E κ2 κ0) _ (shows 𝓛 (FR E κ2 κ0)) r (v1 ∷ []) (λ is.
-      lands_as ! refl refl ((filled_lawful E LE 𝓛 κ2 κ0).typed r (v1 ∷ []) is).0 $
+      peeks ! (Filled E κ2 κ0) _ (shows 𝓛 (Filled E κ2 κ0)) r (v1 ∷ []) (λ is.
+      lands_as ! refl refl ((filled_result E LE 𝓛 κ2 κ0).typed r (v1 ∷ []) is).0 $
       move ! (2 ∷ []) $ pick ! (λ ws. split ! $ drop ! $ split3 ! $
       heard ! (Front want x r) (λ front. heard ! (Bounded x r) (λ bounded. split3 ! $
       heard ! (Whole want x r) (λ whole. heard ! (Lasting x r) (λ lasting. fpick ! (λ s.
@@ -319,12 +301,12 @@ module _ (R E : RattleType) (gR : Read.Ghosts R.Denot E.Denot) (dR : Dict)
       (and_then ! (get ! refl) (and_then ! (get ! refl) (no_more !))) (λ v2.
       use1 𝓛 (later (some (λ (t : Option Reference).
       ((‵ (flft κ1 q1) ⊛ ‵ (flft met share) ⊛ ‵ (flft κ4 q4) ⊛ ‵ ftrue) ⊛ ‵
-      ((OPT.the_row (RR 0 1 κ2 κ0)).own_val t (v2 ∷ []))) ⊛
+      ((OPT.the_row (RR κ2 κ0)).own_val t (v2 ∷ []))) ⊛
       some (λ (ws2 : Lasts (G.ended (At κ2 κ0) (Q R E gR dR gS dS gD dD dX Pp) dX) z2.0.0 z2.0.3). ‵
       (lasts (G.ended (At κ2 κ0) (Q R E gR dR gS dS gD dD dX Pp) dX) z2.0.0 z2.0.3 ws2) ⊛ raw
       (fact 𝓤 (Parts r slot.now ws2.1.0 t)))))) (id⊢ 𝓤 _) $
       await ! tt $ pick ! (λ t. split ! $ split ! $ move ! (1 ∷ []) $
-      peeks ! (OPT.the_row (RR 0 1 κ2 κ0)) _ (shows 𝓛 (OPT.the_row (RR 0 1 κ2 κ0))) t (v2 ∷ [])
+      peeks ! (OPT.the_row (RR κ2 κ0)) _ (shows 𝓛 (OPT.the_row (RR κ2 κ0))) t (v2 ∷ [])
       (λ is2.
       lands_as ! refl refl ((shown_lawful 𝓛 κ2 κ0).typed t (v2 ∷ []) is2).0 $
       move ! (2 ∷ []) $ pick ! (λ ws2. split ! $ move ! (1 ∷ []) $

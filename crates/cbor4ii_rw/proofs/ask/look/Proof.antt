@@ -34,7 +34,7 @@ use denote.Param.{param, layout, layouts, bounded, arg}
 use denote.Param.Laws.{Laws, param_laws, arg_laws, of_field}
 use denote.Plain.{uint_vals, uint_Tells}
 use denote.RattleType.{RattleType, owns}
-use denote.Ref.{MutRef, NamedLft, mut_vals, mut_Tells}
+use denote.Ref.{MutRef, mut_vals, mut_Tells}
 use denote.Signature.{plain, mut_ref_to}
 use denote.Steps.{nothing, peeks, heard}
 use denote.Triple.Call.{calls_at}
@@ -47,8 +47,6 @@ use denote.Triple.Walked.{Goes-spent_ref, Goes-gave_ref, walk_Meets}
 use Rattle.std.specs.Prelude.{Option, Result, IfSome, OnSome, IfNone, IfOk, IsSome, IsTrue}
 use Rattle.std.specs.Prelude.{MatchOption, MatchResult, length, ◌≤◌, ⊤}
 use Rattle.std.specs.Io.BufRead.{Rests}
-use Rattle.std.specs.contracts.result.Result as RES
-use Rattle.std.proofs.result.Result.TheLaws as RESL
 use Rattle.std.specs.contracts.option.Option as OPT
 use Rattle.std.proofs.option.Option.TheLaws as OPTL
 use Rattle.std.specs.declared.fmt.Debug as Debug
@@ -58,6 +56,7 @@ use Rattle.cbor4ii_rw.specs.View.{Told}
 use Rattle.cbor4ii_rw.specs.Reader.{IsFront, IsEnough, Shows, Breaks}
 use Rattle.cbor4ii_rw.specs.Parted.{Parts}
 use Rattle.cbor4ii_rw.proofs.Parted.{is_option, at_option, slot_kept, error_kept, leaves}
+use Rattle.cbor4ii_rw.proofs.Results.{SF, slice_laws, Shown, shown_result}
 use Rattle.cbor4ii_rw.specs.contracts.read.Source.show as M
 use Rattle.cbor4ii_rw.specs.contracts.ask.part as G
 use Rattle.cbor4ii_rw.proofs.ask.part.Symbol.{name as #part}
@@ -66,19 +65,6 @@ use Rattle.cbor4ii_rw.specs.contracts.ask.look as F
 use Rattle.cbor4ii_rw.specs.contracts.ask.look.Key.{name as #self}
 use Rattle.cbor4ii_rw.proofs.ask.look.Statement as stated
 use Rattle.cbor4ii_rw.proofs.ask.look.Code as code
-
--- ---- the results' types
-abbrev nm : ℕ → Lft → NamedLft
-nm i κ = record { mir = named i; lft = κ }
-
--- the shown bytes
-abbrev SF : Lft → Field
-SF κ = shr_slice_field (nm 0 κ) u8-field.row tt
-
-slice_laws : (κ : Lft) → Laws (SF κ).row
-slice_laws κ = of_field (SF κ) (shr_slice_laws (nm 0 κ) u8-field.row tt) refl
-    (copy_shared (SF κ) (shr_slice_copy (nm 0 κ) u8-field.row tt
-    (of_field u8-field u8-laws refl (copy_shared u8-field u8-copy)).shr_laws))
 
 -- the shown bytes, as `part` is called at them
 abbrev slice_ty : Ty
@@ -98,14 +84,6 @@ at_laws κ = arg_laws slice_ty yes (EF κ).row
 
 at_lives : (κ : Lft) → κ ⊑ (At κ).lives
 at_lives κ = search (⊑_meet, ⊑_refl, ⊑_static)
-
-abbrev FR : RattleType → Lft → RattleType
-FR E κ = RES.the_row (SF κ).row (param 1 E)
-
-filled_lawful : (E : RattleType) → Laws E → {M : Type 1} {𝓤 : Ura M} (𝓛 : Logic 𝓤) (κ : Lft)
-    → Lawful 𝓛 (FR E κ)
-filled_lawful E LE 𝓛 κ = loose_lawful (RES.the_type (SF κ).row (param 1 E))
-    (RESL.the_loose (SF κ).row (param 1 E) (slice_laws κ) (param_laws 1 E LE)) tt 𝓛
 
 shown_lawful : {M : Type 1} {𝓤 : Ura M} (𝓛 : Logic 𝓤) (κ : Lft) → Lawful 𝓛 (OPT.the_row (SF κ).row)
 shown_lawful 𝓛 κ = loose_lawful (OPT.the_type (SF κ).row) (OPTL.the_loose (SF κ).row (slice_laws κ))
@@ -252,14 +230,14 @@ module _ (R E : RattleType) (gS : Source.Ghosts R.Denot E.Denot) (dS : Dict)
       (and_then ! (get ! refl) (and_then ! (get ! refl) (no_more !))) (λ v1.
       use1 𝓛 (later (some (λ (r : Result (Bor (List ℕ)) E.Denot).
       ((‵ (flft κ0 q0) ⊛ ‵ (flft κ2 q2) ⊛ ‵ (flft κ3 q3) ⊛ ‵ ftrue) ⊛ ‵
-      ((FR E κ0).own_val r (v1 ∷ []))) ⊛
+      ((Shown E κ0).own_val r (v1 ∷ []))) ⊛
       some (λ (ws : Lasts (M.ended R E gS dS gD dD dX) z1.0.0 z1.0.3). ‵
       (lasts (M.ended R E gS dS gD dD dX) z1.0.0 z1.0.3 ws)
       ⊛ raw (fact 𝓤 (Front want x r)) ⊛ raw (fact 𝓤 (Bounded x r)) ⊛ raw (fact 𝓤 (Whole want x r)) ⊛
       ‵ (Rests P' self (λ new. Left x new r)))))) (id⊢ 𝓤 _) $
       await ! tt $ pick ! (λ r. split ! $ split ! $ move ! (1 ∷ []) $
-      peeks ! (FR E κ0) _ (shows 𝓛 (FR E κ0)) r (v1 ∷ []) (λ is.
-      lands_as ! refl refl ((filled_lawful E LE 𝓛 κ0).typed r (v1 ∷ []) is).0 $
+      peeks ! (Shown E κ0) _ (shows 𝓛 (Shown E κ0)) r (v1 ∷ []) (λ is.
+      lands_as ! refl refl ((shown_result E LE 𝓛 κ0).typed r (v1 ∷ []) is).0 $
       move ! (2 ∷ []) $ pick ! (λ ws. split ! $ drop ! $ split3 ! $
       heard ! (Front want x r) (λ front. heard ! (Bounded x r) (λ bounded. split ! $
       heard ! (Whole want x r) (λ whole. fpick ! (λ s.

@@ -27,15 +27,14 @@ use types.Run.{enter, addr, stop, hop, look, no_more, and_then, returns}
 use types.ByLocal.{alloc_all, pass_all, free_all, look_at, get, through, sets, lands_as}
 use denote.Builtin.{RefMutOf, usize}
 use denote.Exit.{no, yes}
-use denote.Enum.Loose.{loose_lawful}
 use denote.Follow.{such_by, follows_by, follows, followed}
 use denote.Through.{lends_inner, renamed}
-use denote.Laws.{Lawful, shows}
+use denote.Laws.{shows}
 use denote.Param.{param, layouts, bounded}
-use denote.Param.Laws.{Laws, param_laws}
+use denote.Param.Laws.{Laws}
 use denote.Plain.{uint_vals, uint_Tells}
 use denote.RattleType.{RattleType, owns}
-use denote.Ref.{MutBor, MutRef, NamedLft, at_last, mut_vals, mut_Tells}
+use denote.Ref.{MutBor, MutRef, at_last, mut_vals, mut_Tells}
 use denote.Signature.{plain}
 use denote.Steps.{nothing, peeks, heard, opens, closes, tied, ties}
 use denote.Triple.Call.{calls_at}
@@ -47,38 +46,19 @@ use denote.Triple.Walked.{Stays, stay_dropped, walk_of, ends_at, walked, Goes-dr
 use denote.Triple.Walked.{Goes-spent_ref, walk_Meets}
 use Rattle.std.specs.Prelude.{Result, IfOk, length, ◌≤◌, ⊤, IsTrue, MatchResult}
 use Rattle.std.specs.Io.BufRead.{Rests}
-use Rattle.std.specs.contracts.result.Result as RES
-use Rattle.std.proofs.result.Result.TheLaws as RESL
 use Rattle.std.specs.declared.fmt.Debug as Debug
 use Rattle.cbor4ii_rw.specs.declared.read.Read as Read
 use Rattle.cbor4ii_rw.specs.declared.read.Source as Source
 use Rattle.cbor4ii_rw.specs.declared.read.Reference.{Reference}
-use Rattle.cbor4ii_rw.specs.contracts.read.Reference as RF
-use Rattle.cbor4ii_rw.proofs.read.Reference.TheLaws as RFL
 use Rattle.cbor4ii_rw.specs.View.{Told}
 use Rattle.cbor4ii_rw.specs.Reader.{IsFront, IsEnough, Shows, Breaks}
 use Rattle.cbor4ii_rw.specs.Reference.{bytes_of, IsLong}
+use Rattle.cbor4ii_rw.proofs.Results.{Filled, filled_result}
 use Rattle.cbor4ii_rw.specs.contracts.read.Read.fill as M
 use Rattle.cbor4ii_rw.specs.contracts.by_ref.RefMutRead.fill as F
 use Rattle.cbor4ii_rw.specs.contracts.by_ref.RefMutRead.fill.Key.{name as #self}
 use Rattle.cbor4ii_rw.proofs.by_ref.RefMutRead.fill.Statement as stated
 use Rattle.cbor4ii_rw.proofs.by_ref.RefMutRead.fill.Code as code
-
--- ---- the result's type
-abbrev nm : ℕ → Lft → NamedLft
-nm i κ = record { mir = named i; lft = κ }
-
-abbrev RR : Lft → Lft → RattleType
-RR κ κ' = RF.the_row (nm 0 κ) (nm 1 κ')
-
-abbrev FR : RattleType → Lft → Lft → RattleType
-FR E κ κ' = RES.the_row (RR κ κ') (param 1 E)
-
-filled_lawful : (E : RattleType) → Laws E → {M : Type 1} {𝓤 : Ura M} (𝓛 : Logic 𝓤) (κ κ' : Lft)
-    → Lawful 𝓛 (FR E κ κ')
-filled_lawful E LE 𝓛 κ κ' = loose_lawful (RES.the_type (RR κ κ') (param 1 E))
-    (RESL.the_loose (RR κ κ') (param 1 E) (RFL.the_row_laws (nm 0 κ) (nm 1 κ')) (param_laws 1 E LE))
-    tt 𝓛
 
 module _ (R E : RattleType) (gR : Read.Ghosts R.Denot E.Denot) (dR : Dict)
     (gS : Source.Ghosts R.Denot E.Denot) (dS : Dict) (gD : Debug.Ghosts E.Denot) (dD : Dict)
@@ -226,7 +206,7 @@ module _ (R E : RattleType) (gR : Read.Ghosts R.Denot E.Denot) (dR : Dict)
       (and_then ! (get ! refl) (and_then ! (get ! refl) (no_more !))) (λ v.
       use1 𝓛 (later (some (λ (r : Result Reference E.Denot).
       ((‵ (flft κ2 q2) ⊛ ‵ (flft κ0 q0) ⊛ ‵ (flft κ3 q3) ⊛ ‵ (flft κ4 q4) ⊛ ‵ ftrue) ⊛ ‵
-      ((FR E κ2 κ0).own_val r (v ∷ []))) ⊛
+      ((Filled E κ2 κ0).own_val r (v ∷ []))) ⊛
       some (λ (ws : Lasts (M.ended R E gR dR gS dS gD dD dX (method_P R E gR dR gS dS gD dD dX Pp
       κ2)) z1.0.0 z1.0.3). ‵
       (lasts (M.ended R E gR dR gS dS gD dD dX (method_P R E gR dR gS dS gD dD dX Pp κ2)) z1.0.0
@@ -234,8 +214,8 @@ module _ (R E : RattleType) (gR : Read.Ghosts R.Denot E.Denot) (dR : Dict)
       ⊛ raw (fact 𝓤 (Front want x r)) ⊛ raw (fact 𝓤 (Bounded x r)) ⊛ raw (fact 𝓤 (Whole want x r)) ⊛
       raw (fact 𝓤 (Lasting x r)) ⊛ ‵ (Rests P' loan (λ new. Left x new r)))))) (id⊢ 𝓤 _) $
       await ! tt $ pick ! (λ r. split ! $ split ! $ move ! (1 ∷ []) $
-      peeks ! (FR E κ2 κ0) _ (shows 𝓛 (FR E κ2 κ0)) r (v ∷ []) (λ is.
-      lands_as ! refl refl ((filled_lawful E LE 𝓛 κ2 κ0).typed r (v ∷ []) is).0 $
+      peeks ! (Filled E κ2 κ0) _ (shows 𝓛 (Filled E κ2 κ0)) r (v ∷ []) (λ is.
+      lands_as ! refl refl ((filled_result E LE 𝓛 κ2 κ0).typed r (v ∷ []) is).0 $
       move ! (2 ∷ []) $ pick ! (λ ws. split ! $ drop ! $ split3 ! $
       heard ! (Front want x r) (λ front. heard ! (Bounded x r) (λ bounded. split3 ! $
       heard ! (Whole want x r) (λ whole. heard ! (Lasting x r) (λ lasting. fpick ! (λ s.

@@ -26,18 +26,14 @@ use types.Run.{enter, addr, stop, hop, look, no_more, and_then, returns}
 use types.ByLocal.{alloc_all, pass_all, free_all, look_at, get, through, sets, lands_as}
 use denote.Builtin.{RefMutOf, usize}
 use denote.Exit.{no, yes}
-use denote.Struct.Field.{Field, shr_slice_field, u8-field}
-use denote.Struct.Laws.{u8-laws, u8-copy, shr_slice_laws, shr_slice_copy}
-use denote.Param.Shared.{copy_shared}
-use denote.Enum.Loose.{loose_lawful}
 use denote.Follow.{such_by, follows_by, follows, followed}
 use denote.Through.{lends_inner, renamed}
-use denote.Laws.{Lawful, shows}
+use denote.Laws.{shows}
 use denote.Param.{param, layouts, bounded}
-use denote.Param.Laws.{Laws, param_laws, of_field}
+use denote.Param.Laws.{Laws}
 use denote.Plain.{uint_vals, uint_Tells}
 use denote.RattleType.{RattleType, owns}
-use denote.Ref.{MutBor, MutRef, NamedLft, at_last, mut_vals, mut_Tells}
+use denote.Ref.{MutBor, MutRef, at_last, mut_vals, mut_Tells}
 use denote.Signature.{plain}
 use denote.Steps.{nothing, peeks, heard, opens, closes, tied, ties}
 use denote.Triple.Call.{calls_at}
@@ -49,39 +45,17 @@ use denote.Triple.Walked.{Stays, stay_dropped, walk_of, ends_at, walked, Goes-dr
 use denote.Triple.Walked.{Goes-spent_ref, walk_Meets}
 use Rattle.std.specs.Prelude.{Result, IfOk, length, ◌≤◌, ⊤, IsTrue, MatchResult}
 use Rattle.std.specs.Io.BufRead.{Rests}
-use Rattle.std.specs.contracts.result.Result as RES
-use Rattle.std.proofs.result.Result.TheLaws as RESL
 use Rattle.std.specs.declared.fmt.Debug as Debug
 use Rattle.cbor4ii_rw.specs.declared.read.Source as Source
 use Rattle.std.specs.Borrow.{Bor}
 use Rattle.cbor4ii_rw.specs.View.{Told}
 use Rattle.cbor4ii_rw.specs.Reader.{IsFront, IsEnough, Shows, Breaks}
+use Rattle.cbor4ii_rw.proofs.Results.{Shown, shown_result}
 use Rattle.cbor4ii_rw.specs.contracts.read.Source.show as M
 use Rattle.cbor4ii_rw.specs.contracts.by_ref.RefMutSource.show as F
 use Rattle.cbor4ii_rw.specs.contracts.by_ref.RefMutSource.show.Key.{name as #self}
 use Rattle.cbor4ii_rw.proofs.by_ref.RefMutSource.show.Statement as stated
 use Rattle.cbor4ii_rw.proofs.by_ref.RefMutSource.show.Code as code
-
--- ---- the result's type
-abbrev nm : ℕ → Lft → NamedLft
-nm i κ = record { mir = named i; lft = κ }
-
--- the shown bytes
-abbrev SF : Lft → Field
-SF κ = shr_slice_field (nm 0 κ) u8-field.row tt
-
-slice_laws : (κ : Lft) → Laws (SF κ).row
-slice_laws κ = of_field (SF κ) (shr_slice_laws (nm 0 κ) u8-field.row tt) refl
-    (copy_shared (SF κ) (shr_slice_copy (nm 0 κ) u8-field.row tt
-    (of_field u8-field u8-laws refl (copy_shared u8-field u8-copy)).shr_laws))
-
-abbrev FR : RattleType → Lft → RattleType
-FR E κ = RES.the_row (SF κ).row (param 1 E)
-
-filled_lawful : (E : RattleType) → Laws E → {M : Type 1} {𝓤 : Ura M} (𝓛 : Logic 𝓤) (κ : Lft)
-    → Lawful 𝓛 (FR E κ)
-filled_lawful E LE 𝓛 κ = loose_lawful (RES.the_type (SF κ).row (param 1 E))
-    (RESL.the_loose (SF κ).row (param 1 E) (slice_laws κ) (param_laws 1 E LE)) tt 𝓛
 
 module _ (R E : RattleType) (gS : Source.Ghosts R.Denot E.Denot) (dS : Dict)
     (gD : Debug.Ghosts E.Denot) (dD : Dict) (dX : Dict) where
@@ -208,14 +182,14 @@ module _ (R E : RattleType) (gS : Source.Ghosts R.Denot E.Denot) (dS : Dict)
       (and_then ! (get ! refl) (and_then ! (get ! refl) (no_more !))) (λ v.
       use1 𝓛 (later (some (λ (r : Result (Bor (List ℕ)) E.Denot).
       ((‵ (flft κ0 q0) ⊛ ‵ (flft κ2 q2) ⊛ ‵ (flft κ3 q3) ⊛ ‵ ftrue) ⊛ ‵
-      ((FR E κ0).own_val r (v ∷ []))) ⊛
+      ((Shown E κ0).own_val r (v ∷ []))) ⊛
       some (λ (ws : Lasts (M.ended R E gS dS gD dD dX) z1.0.0 z1.0.3). ‵
       (lasts (M.ended R E gS dS gD dD dX) z1.0.0 z1.0.3 ws)
       ⊛ raw (fact 𝓤 (Front want x r)) ⊛ raw (fact 𝓤 (Bounded x r)) ⊛ raw (fact 𝓤 (Whole want x r)) ⊛
       ‵ (Rests P' loan (λ new. Left x new r)))))) (id⊢ 𝓤 _) $
       await ! tt $ pick ! (λ r. split ! $ split ! $ move ! (1 ∷ []) $
-      peeks ! (FR E κ0) _ (shows 𝓛 (FR E κ0)) r (v ∷ []) (λ is.
-      lands_as ! refl refl ((filled_lawful E LE 𝓛 κ0).typed r (v ∷ []) is).0 $
+      peeks ! (Shown E κ0) _ (shows 𝓛 (Shown E κ0)) r (v ∷ []) (λ is.
+      lands_as ! refl refl ((shown_result E LE 𝓛 κ0).typed r (v ∷ []) is).0 $
       move ! (2 ∷ []) $ pick ! (λ ws. split ! $ drop ! $ split3 ! $
       heard ! (Front want x r) (λ front. heard ! (Bounded x r) (λ bounded. split ! $
       heard ! (Whole want x r) (λ whole. fpick ! (λ s.
