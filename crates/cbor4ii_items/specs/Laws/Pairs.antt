@@ -37,6 +37,13 @@ module _ {K V : Type 0} (key_reads : Reads K) (value_reads : Reads V) where
         };
   }
 
+  -- the key fits where the pair does, and so does the value
+  pub key_less : (xs : List ℕ) (p : K × V) (n c : ℕ) (budget : Option ℕ) → (h : ReadsPair key_reads value_reads xs p n c) → CostFits c budget → CostFits h.key_cost budget
+  key_less xs p n c budget h fits = fits_less h.key_cost c budget (less_max_left c h.key_cost h.value_cost h.cost) fits
+
+  pub value_less : (xs : List ℕ) (p : K × V) (n c : ℕ) (budget : Option ℕ) → (h : ReadsPair key_reads value_reads xs p n c) → CostFits c budget → CostFits h.value_cost budget
+  value_less xs p n c budget h fits = fits_less h.value_cost c budget (less_max_right c h.key_cost h.value_cost h.cost) fits
+
   no_key : (xs : List ℕ) (budget : Option ℕ) → NoneRead key_reads xs budget → NoneRead (ReadsPair key_reads value_reads) xs budget
   no_key xs budget none p n c h fits = none p.0 h.key_size h.key_cost h.key (fits_less h.key_cost c budget (less_max_left c h.key_cost h.value_cost h.cost) fits)
 
