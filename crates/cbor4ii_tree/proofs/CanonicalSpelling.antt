@@ -9,12 +9,9 @@ use Rattle.cbor4ii_tree.specs.Meaning.{value, values, member_values, number, con
 use Rattle.cbor4ii_tree.specs.Cost.{cost}
 use Rattle.cbor4ii_tree.specs.Canonical.{canon, canon_tree, canon_trees, canon_pairs, integer_tree, bignum, magnitude, without_leading_zeros, sign_tag, with_bignums, with_bignums_all, with_bignums_members, tagged_integer}
 use Rattle.cbor4ii_tree.specs.Spelling.{Spells}
+use Rattle.cbor4ii_tree.specs.Binds.{if_cases}
 use Rattle.cbor4ii_tree.proofs.Costs.{below_from_HeadFits}
 use Rattle.cbor4ii_tree.specs.head_laws.Numbers.{length-bytes_high_first}
-
-pub if_cases : {A : Type 0} (P : A → Type 0) (b : Bool) (x y : A) → (b ≡ true → P x) → (b ≡ false → P y) → P (cond b x y)
-if_cases P true x y f g = f refl
-if_cases P false x y f g = g refl
 
 pub shortest_fits : (n : ℕ) → n < 2 ^ 64 → HeadFits (shortest n) n
 shortest_fits n h =

@@ -15,7 +15,8 @@ use Rattle.cbor4ii_tree.specs.Strict.{Strict, StrictAll, StrictPairs, IsDecoded,
 use Rattle.cbor4ii_tree.specs.head_laws.Numbers.{info-additional}
 use Rattle.cbor4ii_tree.specs.part_laws.Again.{pair_split}
 use Rattle.cbor4ii_tree.specs.IgnoredLaws.{one_spelling}
-use Rattle.cbor4ii_tree.proofs.CanonicalSpelling.{if_cases, shortest_fits, count-canon, count-pairs, loose_canon, sound_canon, value-canon, with_bignums-value}
+use Rattle.cbor4ii_tree.specs.Binds.{if_cases}
+use Rattle.cbor4ii_tree.proofs.CanonicalSpelling.{shortest_fits, count-canon, count-pairs, loose_canon, sound_canon, value-canon, with_bignums-value}
 use Rattle.cbor4ii_tree.proofs.Costs.{below_from_HeadFits}
 use Rattle.cbor4ii_tree.proofs.Sizes.{integer-value, content-value, item_count-values, member_count-values}
 

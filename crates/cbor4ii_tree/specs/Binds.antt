@@ -53,6 +53,10 @@ guard_err {A} false f left x e rest h = absurd (no_err {A = A} x (e, rest) h)
 pub parts : {A : Type 0} (r : Answer A) (a c : A) (b d : List ℕ) → r ≡ Ok (a, b) → r ≡ Ok (c, d) → (a ≡ c) × (b ≡ d)
 parts {A} r a c b d p q = let e = same_ok r (a, b) (c, d) p q in (ap (λ (x : A × List ℕ). x.0) e, ap (λ (x : A × List ℕ). x.1) e)
 
+pub if_cases : {A : Type 0} (P : A → Type 0) (b : Bool) (x y : A) → (b ≡ true → P x) → (b ≡ false → P y) → P (cond b x y)
+if_cases P true x y f g = f refl
+if_cases P false x y f g = g refl
+
 pub chosen : {A : Type 0} (c : Bool) (x y z : A) → cond c x y ≡ z → ((c ≡ true) × (x ≡ z)) ⊎ ((c ≡ false) × (y ≡ z))
 chosen true x y z e = inl (refl, e)
 chosen false x y z e = inr (refl, e)

@@ -1,10 +1,10 @@
 -- What an initial byte says, read backwards.
-use Rattle.std.proofs.Common.{◌≡◌, ℕ, zero, suc, ◌+◌, ◌*◌, ◌/◌, ◌%◌, ◌<◌, List, ◌∷◌, ◌++◌, Ok, refl, ap, ap₂, ◌∙◌, arith, cond, true, false, Bool, ltb, eqb, ltb-true, eqb-true, subst}
+use Rattle.std.proofs.Common.{◌≡◌, ℕ, zero, suc, ◌+◌, ◌*◌, ◌/◌, ◌%◌, ◌<◌, List, ◌∷◌, ◌++◌, Ok, refl, ap, ap₂, ◌∙◌, arith, ltb, eqb, ltb-true, eqb-true, subst}
 use Rattle.cbor4ii_items.specs.Head.{Width, in_first, one, two, four, eight, HeadFits, additional, byte_count, head, open_head, IsBytes}
 use Rattle.cbor4ii_items.specs.Initial.{Sign, unsigned, negative, sign_major, Kind, byte_string, text_string, kind_major, simple_byte, precision_byte, Info, wide, open_ended, reserved, info_of, Initial, starts_int, starts_string, starts_chunks, starts_array, starts_open_array, starts_map, starts_open_map, starts_tag, starts_simple, starts_bits, initial, int_by, string_by, array_by, map_by, tag_by, simple_by, by_major}
 use Rattle.cbor4ii_tree.specs.Parse.{argument_at}
 use Rattle.cbor4ii_tree.specs.Skip.{whole_argument_at}
-use Rattle.cbor4ii_tree.specs.Binds.{parts}
+use Rattle.cbor4ii_tree.specs.Binds.{parts, if_cases}
 use Rattle.cbor4ii_tree.proofs.heads.Inverse.{Whole, number_inverse, whole_number_inverse}
 
 abbrev pub WidthSays : Width → ℕ → Type 0
@@ -34,10 +34,6 @@ Means b (starts_tag w) = HeadByte 6 w b
 Means b (starts_simple s) = b ≡ simple_byte s
 Means b (starts_bits p) = b ≡ precision_byte p
 Means b _ = Unit {0}
-
-if_cases : {A : Type 0} (P : A → Type 0) (b : Bool) (x y : A) → (b ≡ true → P x) → (b ≡ false → P y) → P (cond b x y)
-if_cases P true x y f g = f refl
-if_cases P false x y f g = g refl
 
 pub info_says : (i : ℕ) → InfoSays i (info_of i)
 info_says i =
