@@ -159,17 +159,23 @@ err_around : {V E : Type 0} (S T : Stopping) (r : Result V (DecodeError E)) (old
 err_around S T (Ok v) old new told left f i o h = tt
 err_around S T (Err e) old new told left f i o h = λ xs is. refusal_around (refusal_of e) S T xs new left f o (h xs (i ∙ is))
 
--- a call under one step
-pub does_stepped : {V E : Type 0} (A B : Accepting V) (S T : Stopping) {r : Result V (DecodeError E)} {a b c d : View} → ((xs ys : List ℕ) (v : V) → A xs v ys → B xs v ys) → ((xs : List ℕ) (e : Refusal) (rest : List ℕ) → S xs e rest → T xs e rest)
-    → StepsIn a.budget b.budget true → KeepsAllButBudget a b → Does A S b c r → d.budget ≡ step_back c.budget → KeepsAllButBudget c d → Does B T a d r
-does_stepped A B S T {r = r} {a = a} {b = b} {c = c} {d = d} f g takes inward w gives outward = record {
+-- a call between two moves of the budget alone
+pub does_around : {V E : Type 0} (A B : Accepting V) (S T : Stopping) {r : Result V (DecodeError E)} {a b c d : View} → ((xs ys : List ℕ) (v : V) → A xs v ys → B xs v ys) → ((xs : List ℕ) (e : Refusal) (rest : List ℕ) → S xs e rest → T xs e rest)
+    → KeepsAllButBudget a b → KeepsAllButBudget c d → (a.budget ≡ None → b.budget ≡ None) → (c.budget ≡ b.budget → d.budget ≡ a.budget) → Does A S b c r → Does B T a d r
+does_around A B S T {r = r} {a = a} {b = b} {c = c} {d = d} f g inward outward unbound restored w = record {
   moves = record {
-    by = moves_around inward outward (is_failure r) (λ same. gives ∙ (ap step_back same ∙ step_again a.budget b.budget takes)) w.moves.by;
-    depth = λ none. w.moves.depth (step_unbound a.budget b.budget takes none);
+    by = moves_around inward outward (is_failure r) restored w.moves.by;
+    depth = λ none. w.moves.depth (unbound none);
   };
   ok = ok_around A B r a.told c.told b.told d.told f inward.told outward.told w.ok;
   err = err_around S T r a.told c.told b.told d.told g inward.told outward.told w.err;
 }
+
+-- a call under one step
+pub does_stepped : {V E : Type 0} (A B : Accepting V) (S T : Stopping) {r : Result V (DecodeError E)} {a b c d : View} → ((xs ys : List ℕ) (v : V) → A xs v ys → B xs v ys) → ((xs : List ℕ) (e : Refusal) (rest : List ℕ) → S xs e rest → T xs e rest)
+    → StepsIn a.budget b.budget true → KeepsAllButBudget a b → Does A S b c r → d.budget ≡ step_back c.budget → KeepsAllButBudget c d → Does B T a d r
+does_stepped A B S T {a = a} {b = b} f g takes inward w gives outward =
+    does_around A B S T f g inward outward (λ none. step_unbound a.budget b.budget takes none) (λ same. gives ∙ (ap step_back same ∙ step_again a.budget b.budget takes)) w
 
 pub kept_budget : (a b : View) → KeepsAllButBudget a b → b.budget ≡ a.budget → Kept a b
 kept_budget a b k same = record {

@@ -39,3 +39,4 @@ pub mod Leaves
 pub mod Glancing
 pub mod RunPairs
 pub mod RunCalls
+pub mod DeeperCalls

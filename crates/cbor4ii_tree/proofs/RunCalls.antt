@@ -16,9 +16,12 @@ use Rattle.cbor4ii_tree.specs.Cost.{Budget}
 use Rattle.cbor4ii_tree.specs.Stops.{Stopping, NoBreak}
 use Rattle.cbor4ii_tree.specs.Does.{Accepting, Does}
 use Rattle.cbor4ii_tree.specs.Skipping.{SkipsOne, StopsOne, SkipsItems, StopsItems, SkipsUnder, StopsUnder, SkipsBehind, StopsBehind}
-use Rattle.cbor4ii_tree.specs.Ahead.{Takes, TakesHead, Passes, Allows, Awaits, Counts, IsOpen, SkipsSome, StopsSome, SkipsSomeUnder, StopsSomeUnder, EndsOrNot, StopsAtEnd, NeverStops}
+use Rattle.cbor4ii_tree.specs.Ahead.{Takes, TakesHead, Passes, Allows, Awaits, Counts, IsOpen, SkipsSome, StopsSome, SkipsSomeUnder, StopsSomeUnder, GoesUnder, CountsWent, Gains, EndsOrNot, StopsAtEnd, NeverStops}
 use Rattle.cbor4ii_tree.specs.declared.skip.Behind.{Behind}
 use Rattle.cbor4ii_tree.specs.declared.skip.Behind.TheVariants.{Nothing}
+use Rattle.cbor4ii_tree.specs.declared.skip.Behind.TheVariants as left_behind
+use Rattle.cbor4ii_tree.specs.declared.skip.Went.{Went}
+use Rattle.cbor4ii_tree.specs.declared.skip.Went.TheVariants.{Past, Into}
 use Rattle.cbor4ii_tree.specs.declared.ahead.Among.{Among}
 use Rattle.cbor4ii_tree.specs.declared.ahead.Among.TheVariants.{Items, Pairs, OpenItems, OpenPairs}
 use Rattle.cbor4ii_tree.specs.declared.ahead.Ahead.{Ahead}
@@ -33,8 +36,11 @@ use Rattle.cbor4ii_tree.proofs.SkippingParts.{IsOther, after_break, other_byte, 
 abbrev pub Same : List ℕ → List ℕ → Type 0
 Same xs ys = ys ≡ xs
 
-same_start : (a : View) → Reached Same a a
+pub same_start : (a : View) → Reached Same a a
 same_start a = reached_start Same a (λ xs. refl)
+
+same_stop : {U V E : Type 0} (A : Accepting U) (B : Accepting V) (S : Stopping) {e : DecodeError E} {a b : View} → Does {V = U} A S a b (Err e) → Does {V = V} B S a b (Err e)
+same_stop A B S {a = a} d = does_err Same A B S S (λ xs ys z rest e s. subst (λ x. S x z rest) e s) (same_start a) d
 
 -- ---- counts
 
@@ -203,6 +209,18 @@ broke_here among {seen = seen} {a = a} is here d = does_ok (SkipsSomeUnder among
 pub not_ran : {U E : Type 0} (among : Among) (A : Accepting U) (T : Stopping) {e : DecodeError E} {a b : View} → Does {V = Ahead} (Takes among a.budget) NeverStops a b (Err e) → Does {V = U} A T a b (Err e)
 not_ran among A T {a = a} d = does_err Same (Takes among a.budget) A NeverStops T (λ xs ys z rest u h. absurd h) (same_start a) d
 
+-- what is behind a head was skipped
+module _ (among : Among) (behind : Behind) {a m : View} (same : m.budget ≡ a.budget) (p : Reached (λ xs ys. TakesHead a.budget xs behind ys) a m) where
+  behind_one : {E : Type 0} {u : Unit {0}} {b : View} → Does {E = E} (λ xs _ ys. SkipsBehind behind m.budget xs ys) (StopsBehind behind m.budget) m b (Ok u) → Does {E = E} (SkipsSomeUnder among a.budget) (StopsSomeUnder among a.budget) a b (Ok 1)
+  behind_one d = does_ok (SkipsSomeUnder among a.budget) (StopsSomeUnder among a.budget) (reached_then (λ xs ys. TakesHead a.budget xs behind ys) (SkipsBehind behind m.budget) (λ xs ys. SkipsSomeUnder among a.budget xs 1 ys)
+      (λ xs ys zs t s budget step. inr (omega arith, items_more 0 budget xs xs zs (items_none budget xs) (t.leads.skips zs (subst (λ o. SkipsBehind behind o ys zs) same s) budget step))) p (reached_by d))
+
+  behind_stopped : {E : Type 0} {e : DecodeError E} {b : View} → Does {V = Unit {0}} (λ xs _ ys. SkipsBehind behind m.budget xs ys) (StopsBehind behind m.budget) m b (Err e) → Does {V = ℕ} (SkipsSomeUnder among a.budget) (StopsSomeUnder among a.budget) a b (Err e)
+  behind_stopped d = does_err (λ xs ys. TakesHead a.budget xs behind ys) (λ xs (_ : Unit {0}) ys. SkipsBehind behind m.budget xs ys) (SkipsSomeUnder among a.budget) (StopsBehind behind m.budget) (StopsSomeUnder among a.budget)
+      (λ xs ys z rest t s budget step.
+      let r = subst (λ o. StopsBehind behind o ys z rest) same s in
+      stops_among among budget xs z rest (λ _. t.item z rest r) (t.leads.stops z rest r budget step)) p d
+
 -- a head was taken
 module _ (among : Among) (size : ℕ) (behind : Behind) {seen : Ahead} {a m : View} (is : seen ≡ Head size behind) where
   head_taken : {E : Type 0} → Does {V = Ahead} {E = E} (Takes among a.budget) NeverStops a m (Ok seen) → Reached (λ xs ys. TakesHead a.budget xs behind ys) a m
@@ -210,19 +228,16 @@ module _ (among : Among) (size : ℕ) (behind : Behind) {seen : Ahead} {a m : Vi
 
   pub head_one : {E : Type 0} {u : Unit {0}} {b : View} → Does {V = Ahead} {E = E} (Takes among a.budget) NeverStops a m (Ok seen) → Does {E = E} (λ xs _ ys. SkipsBehind behind m.budget xs ys) (StopsBehind behind m.budget) m b (Ok u)
       → Does {E = E} (SkipsSomeUnder among a.budget) (StopsSomeUnder among a.budget) a b (Ok 1)
-  head_one h d =
-      let same : m.budget ≡ a.budget = h.moves.by.budget in
-      does_ok (SkipsSomeUnder among a.budget) (StopsSomeUnder among a.budget) (reached_then (λ xs ys. TakesHead a.budget xs behind ys) (SkipsBehind behind m.budget) (λ xs ys. SkipsSomeUnder among a.budget xs 1 ys)
-      (λ xs ys zs t s budget step. inr (omega arith, items_more 0 budget xs xs zs (items_none budget xs) (t.leads.skips zs (subst (λ o. SkipsBehind behind o ys zs) same s) budget step))) (head_taken h) (reached_by d))
+  head_one h d = behind_one among behind h.moves.by.budget (head_taken h) d
 
   pub head_stopped : {E : Type 0} {e : DecodeError E} {b : View} → Does {V = Ahead} {E = E} (Takes among a.budget) NeverStops a m (Ok seen) → Does {V = Unit {0}} (λ xs _ ys. SkipsBehind behind m.budget xs ys) (StopsBehind behind m.budget) m b (Err e)
       → Does {V = ℕ} (SkipsSomeUnder among a.budget) (StopsSomeUnder among a.budget) a b (Err e)
-  head_stopped h d =
-      let same : m.budget ≡ a.budget = h.moves.by.budget in
-      does_err (λ xs ys. TakesHead a.budget xs behind ys) (λ xs (_ : Unit {0}) ys. SkipsBehind behind m.budget xs ys) (SkipsSomeUnder among a.budget) (StopsBehind behind m.budget) (StopsSomeUnder among a.budget)
-      (λ xs ys z rest t s budget step.
-      let r = subst (λ o. StopsBehind behind o ys z rest) same s in
-      stops_among among budget xs z rest (λ _. t.item z rest r) (t.leads.stops z rest r budget step)) (head_taken h) d
+  head_stopped h d = behind_stopped among behind h.moves.by.budget (head_taken h) d
+
+  -- and its items are behind it
+  pub head_into : {E : Type 0} (n : ℕ) → behind ≡ left_behind.Items n → Does {V = Ahead} {E = E} (Takes among a.budget) NeverStops a m (Ok seen) → Does {E = E} (GoesUnder among a.budget) (StopsSomeUnder among a.budget) a m (Ok (Into n))
+  head_into n holds h = does_ok (GoesUnder among a.budget) (StopsSomeUnder among a.budget) (reached_as (λ xs ys. TakesHead a.budget xs behind ys) (λ xs ys. GoesUnder among a.budget xs (Into n) ys)
+      (λ xs ys t. subst (λ z. TakesHead a.budget xs z ys) holds t) (head_taken h))
 
 -- nothing was
 pub nothing_taken : {E : Type 0} (among : Among) {seen : Ahead} {r : Result ℕ (DecodeError E)} {a m b : View} → seen ≡ Unseen → Does {V = Ahead} {E = E} (Takes among a.budget) NeverStops a m (Ok seen)
@@ -233,6 +248,43 @@ nothing_taken among {seen = seen} {a = a} {m = m} is h d =
     (λ xs ys zs v e s. subst (λ x. SkipsSomeUnder among a.budget x v zs) e (subst (λ o. SkipsSomeUnder among o ys v zs) same s))
     (λ xs ys z rest e s. subst (λ x. StopsSomeUnder among a.budget x z rest) e (subst (λ o. StopsSomeUnder among o ys z rest) same s))
     (reached_as (λ xs ys. Takes among a.budget xs seen ys) Same (λ xs ys t. subst (λ s. Takes among a.budget xs s ys) is t) (reached_by h)) d
+
+-- ---- where that led
+
+module _ (among : Among) {a m : View} where
+  pub past : {E : Type 0} (n : ℕ) → Does {E = E} (SkipsSomeUnder among a.budget) (StopsSomeUnder among a.budget) a m (Ok n) → Does {E = E} (GoesUnder among a.budget) (StopsSomeUnder among a.budget) a m (Ok (Past n))
+  past n d = does_ok (GoesUnder among a.budget) (StopsSomeUnder among a.budget) (reached_by d)
+
+  pub was_past : {E : Type 0} (n : ℕ) {went : Went} → went ≡ Past n → Does {E = E} (GoesUnder among a.budget) (StopsSomeUnder among a.budget) a m (Ok went) → Does {E = E} (SkipsSomeUnder among a.budget) (StopsSomeUnder among a.budget) a m (Ok n)
+  was_past n {went = went} is d = does_ok (SkipsSomeUnder among a.budget) (StopsSomeUnder among a.budget) (reached_as (λ xs ys. GoesUnder among a.budget xs went ys) (λ xs ys. SkipsSomeUnder among a.budget xs n ys)
+      (λ xs ys h. subst (λ w. GoesUnder among a.budget xs w ys) is h) (reached_by d))
+
+  pub went_nowhere : {E : Type 0} {e : DecodeError E} → Does {V = ℕ} (SkipsSomeUnder among a.budget) (StopsSomeUnder among a.budget) a m (Err e) → Does {V = Went} (GoesUnder among a.budget) (StopsSomeUnder among a.budget) a m (Err e)
+  went_nowhere d = same_stop (SkipsSomeUnder among a.budget) (GoesUnder among a.budget) (StopsSomeUnder among a.budget) d
+
+  pub was_nowhere : {E : Type 0} {e : DecodeError E} → Does {V = Went} (GoesUnder among a.budget) (StopsSomeUnder among a.budget) a m (Err e) → Does {V = ℕ} (SkipsSomeUnder among a.budget) (StopsSomeUnder among a.budget) a m (Err e)
+  was_nowhere d = same_stop (GoesUnder among a.budget) (SkipsSomeUnder among a.budget) (StopsSomeUnder among a.budget) d
+
+  pub into : {E : Type 0} (n : ℕ) {went : Went} → went ≡ Into n → Does {E = E} (GoesUnder among a.budget) (StopsSomeUnder among a.budget) a m (Ok went) → Reached (λ xs ys. TakesHead a.budget xs (left_behind.Items n) ys) a m
+  into n {went = went} is d = reached_as (λ xs ys. GoesUnder among a.budget xs went ys) (λ xs ys. TakesHead a.budget xs (left_behind.Items n) ys) (λ xs ys h. subst (λ w. GoesUnder among a.budget xs w ys) is h) (reached_by d)
+
+  -- the items behind the head were skipped
+  pub into_one : {E : Type 0} (n : ℕ) {went : Went} {u : Unit {0}} {b : View} → went ≡ Into n → Does {E = E} (GoesUnder among a.budget) (StopsSomeUnder among a.budget) a m (Ok went) → Does {E = E} (λ xs _ ys. SkipsItems n m.budget xs ys) (StopsItems n m.budget) m b (Ok u)
+      → Does {E = E} (SkipsSomeUnder among a.budget) (StopsSomeUnder among a.budget) a b (Ok 1)
+  into_one n is h d = behind_one among (left_behind.Items n) h.moves.by.budget (into n is h) d
+
+  pub into_stopped : {E : Type 0} (n : ℕ) {went : Went} {e : DecodeError E} {b : View} → went ≡ Into n → Does {V = Went} {E = E} (GoesUnder among a.budget) (StopsSomeUnder among a.budget) a m (Ok went) → Does {V = Unit {0}} (λ xs _ ys. SkipsItems n m.budget xs ys) (StopsItems n m.budget) m b (Err e)
+      → Does {V = ℕ} (SkipsSomeUnder among a.budget) (StopsSomeUnder among a.budget) a b (Err e)
+  into_stopped n is h d = behind_stopped among (left_behind.Items n) h.moves.by.budget (into n is h) d
+
+pub gains_into : (n old new : ℕ) {went : Went} → went ≡ Into n → Gains went old new → new + 1 ≤ old
+gains_into n old new is h = subst (λ w. Gains w old new) is h
+
+pub gains_past : (n old new : ℕ) {went : Went} → went ≡ Past n → Gains went old new → 1 ≤ n → new + 1 ≤ old
+gains_past n old new is h = subst (λ w. Gains w old new) is h
+
+pub counts_past : (among : Among) (n : ℕ) {went : Went} → went ≡ Past n → CountsWent among went → Counts among n
+counts_past among n is h = subst (λ w. CountsWent among w) is h
 
 -- ---- one behind another
 

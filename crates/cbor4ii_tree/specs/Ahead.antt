@@ -10,6 +10,9 @@ use Rattle.cbor4ii_tree.specs.Runs.{BeginsRun, TakesRun}
 use Rattle.cbor4ii_tree.specs.Stops.{Stopping, Is, NoBreak}
 use Rattle.cbor4ii_tree.specs.Skipping.{start_of, Leads, StopsBehind, SkipsItems, StopsOne}
 use Rattle.cbor4ii_tree.specs.declared.skip.Behind.{Behind}
+use Rattle.cbor4ii_tree.specs.declared.skip.Behind.TheVariants as behind
+use Rattle.cbor4ii_tree.specs.declared.skip.Went.{Went}
+use Rattle.cbor4ii_tree.specs.declared.skip.Went.TheVariants.{Past, Into}
 use Rattle.cbor4ii_tree.specs.declared.skip.Start.{Start}
 use Rattle.cbor4ii_tree.specs.declared.skip.Start.TheVariants as start
 use Rattle.cbor4ii_tree.specs.declared.ahead.Among.{Among}
@@ -141,6 +144,20 @@ SkipsSomeUnder among inner xs n ys = (budget : Budget) → step_in budget ≡ So
 
 abbrev pub StopsSomeUnder : Among → Budget → Stopping
 StopsSomeUnder among inner xs e rest = (budget : Budget) → step_in budget ≡ Some inner → StopsSome among budget xs e rest
+
+-- some were skipped, or the head of one was taken that holds so many
+abbrev pub GoesUnder : Among → Budget → List ℕ → Went → List ℕ → Type 0
+GoesUnder among inner xs (Past n) ys = SkipsSomeUnder among inner xs n ys
+GoesUnder among inner xs (Into n) ys = TakesHead inner xs (behind.Items n) ys
+
+abbrev pub CountsWent : Among → Went → Type 0
+CountsWent among (Past n) = Counts among n
+CountsWent among (Into n) = Unit {0}
+
+-- how far that leads
+abbrev pub Gains : Went → ℕ → ℕ → Type 0
+Gains (Past n) old new = 1 ≤ n → new + 1 ≤ old
+Gains (Into n) old new = new + 1 ≤ old
 
 -- a break was taken where one may come; or nothing was taken, and where a break may come another byte stands
 abbrev pub EndsOrNot : Among → List ℕ → Bool → List ℕ → Type 0

@@ -38,3 +38,4 @@ pub mod Front
 pub mod FrontLaws
 pub mod Runs
 pub mod Ahead
+pub mod Deeper

@@ -11,6 +11,7 @@ ghost use Rattle.std.specs.Prelude.{
   min,
   length,
   OnOk,
+  OnSome,
   IfOk,
   IfErr,
   IfSome,
@@ -27,6 +28,8 @@ ghost use Rattle.cbor4ii_items.specs.ReadHead.{number_on};
 ghost use Rattle.cbor4ii_items.specs.Reading.{Runs, peek_at, byte_at};
 ghost use Rattle.cbor4ii_items.specs.ReadStrings.{break_at};
 ghost use Rattle.cbor4ii_items.specs.Strings.{ReadsBreak, StopsBreak};
+ghost use Rattle.cbor4ii_tree.specs.Cost.{Budget};
+ghost use Rattle.cbor4ii_tree.specs.Deeper.{Deeper, GoesOn, budgeted};
 ghost use Rattle.cbor4ii_tree.specs.Does.{Does, Spares, answered, done};
 ghost use Rattle.cbor4ii_tree.specs.Skipping.{
   additional_of,
@@ -55,6 +58,9 @@ ghost use Rattle.cbor4ii_tree.specs.Ahead.{
   StopsSome,
   SkipsSomeUnder,
   StopsSomeUnder,
+  GoesUnder,
+  CountsWent,
+  Gains,
   EndsOrNot,
   StopsAtEnd,
   NeverStops,
@@ -120,6 +126,15 @@ pub(crate) enum Behind {
     Open,
     /// Pairs up to a break.
     OpenMembers,
+}
+
+/// How far one look led.
+#[derive(Clone, Copy)]
+pub(crate) enum Went {
+    /// So many items were skipped, or none where a break was taken.
+    Past(u64),
+    /// A head was taken, and so many items are left of its own.
+    Into(u64),
 }
 
 /// Skips one item.
@@ -215,17 +230,54 @@ fn some_inside<S: Source, F: Front<S>>(
         (F.view front.new reader.new).bound + 1 ≤ (F.view front.old reader.old).bound) }
     ensures stays { IsTrue F.apart → KeepsAllButBudget (S.view reader.old) (S.view reader.new) }
 {
-    match take_ahead(front, reader, among, failure) {
-        Some(Ahead::Run(count, _)) => Some(count),
-        Some(Ahead::Head(_, behind)) => {
-            if skip_behind(front, reader, behind, failure) {
+    match go_some(front, reader, among, failure) {
+        Some(Went::Past(count)) => Some(count),
+        Some(Went::Into(count)) => {
+            if skip_items(front, reader, count, failure) {
                 Some(1)
             } else {
                 None
             }
         }
-        Some(Ahead::Break) => Some(0),
-        Some(Ahead::Unseen) => skip_unseen(front, reader, among, failure),
+        None => None,
+    }
+}
+
+/// As `some_inside`, but of an item that holds a count of items, or of a tag, takes the head alone.
+#[cycle(skip)]
+#[inline(always)]
+fn go_some<S: Source, F: Front<S>>(
+    front: &mut F,
+    reader: &mut S,
+    among: Among,
+    failure: &mut Option<DecodeError<S::Error>>,
+) -> Option<Went>
+    requires { Awaits among }
+    ensures does { Does (GoesUnder among (F.view front.old reader.old).budget)
+        (StopsSomeUnder among (F.view front.old reader.old).budget)
+        (F.view front.old reader.old) (F.view front.new reader.new)
+        (answered result failure.new) }
+    ensures spares { Spares (answered result failure.new) }
+    ensures counts { IfSome result (λ went. CountsWent among went) }
+    ensures progress { IfSome result (λ went. Gains went
+        (F.view front.old reader.old).bound (F.view front.new reader.new).bound) }
+    ensures stays { IsTrue F.apart → KeepsAllButBudget (S.view reader.old) (S.view reader.new) }
+{
+    match take_ahead(front, reader, among, failure) {
+        Some(Ahead::Run(count, _)) => Some(Went::Past(count)),
+        Some(Ahead::Head(_, Behind::Items(count))) => Some(Went::Into(count)),
+        Some(Ahead::Head(_, behind)) => {
+            if skip_behind(front, reader, behind, failure) {
+                Some(Went::Past(1))
+            } else {
+                None
+            }
+        }
+        Some(Ahead::Break) => Some(Went::Past(0)),
+        Some(Ahead::Unseen) => match skip_unseen(front, reader, among, failure) {
+            Some(count) => Some(Went::Past(count)),
+            None => None,
+        },
         None => None,
     }
 }
@@ -290,14 +342,102 @@ fn skip_items<S: Source, F: Front<S>>(
     ensures spares { Spares (done result failure.new) }
     ensures stays { IsTrue F.apart → KeepsAllButBudget (S.view reader.old) (S.view reader.new) }
 {
+    let (done, depth) = skip_inward(front, reader, count, failure);
+    give_back(reader, depth);
+    done
+}
+
+/// Skips so many items. Where the last of them holds items in turn, it goes on with these in its
+/// place, and keeps the step; it answers how many steps it kept.
+#[cycle(skip)]
+#[inline(always)]
+fn skip_inward<S: Source, F: Front<S>>(
+    front: &mut F,
+    reader: &mut S,
+    count: u64,
+    failure: &mut Option<DecodeError<S::Error>>,
+) -> (bool, u64)
+    ensures does { Does (λ xs _ ys. SkipsItems count (F.view front.old reader.old).budget xs ys)
+        (StopsItems count (F.view front.old reader.old).budget) (F.view front.old reader.old)
+        (budgeted (F.view front.old reader.old).budget (F.view front.new reader.new))
+        (done result.0 failure.new) }
+    ensures spares { Spares (done result.0 failure.new) }
+    ensures deeper { Deeper result.1 (F.view front.old reader.old).budget
+        (F.view front.new reader.new).budget }
+    ensures stays { IsTrue F.apart → KeepsAllButBudget (S.view reader.old) (S.view reader.new) }
+{
+    let mut depth = 0;
     let mut left = count;
     while left > 0 {
-        match skip_some(front, reader, Among::Items(left), failure) {
-            Some(some) => left -= some,
-            None => return false,
+        match skip_next(front, reader, left, &mut depth, failure) {
+            Some(now) => left = now,
+            None => return (false, depth),
         }
     }
-    true
+    (true, depth)
+}
+
+/// Skips some of so many items, and answers how many are left then. Of the last, where it holds a
+/// count of items or is a tag, takes the head alone and answers that count; its step is kept, and
+/// counted in `depth`.
+#[cycle(skip)]
+#[inline(always)]
+fn skip_next<S: Source, F: Front<S>>(
+    front: &mut F,
+    reader: &mut S,
+    left: u64,
+    depth: &mut u64,
+    failure: &mut Option<DecodeError<S::Error>>,
+) -> Option<u64>
+    requires { 1 ≤ left }
+    ensures does { Does
+        (GoesOn left (F.view front.old reader.old).budget (F.view front.new reader.new).budget)
+        (StopsItems left (F.view front.old reader.old).budget) (F.view front.old reader.old)
+        (budgeted (F.view front.old reader.old).budget (F.view front.new reader.new))
+        (answered result failure.new) }
+    ensures spares { Spares (answered result failure.new) }
+    ensures progress { OnSome result
+        ((F.view front.new reader.new).bound + 1 ≤ (F.view front.old reader.old).bound) }
+    ensures deeper { (outer : Budget) → Deeper depth.old outer (F.view front.old reader.old).budget →
+        Deeper depth.new outer (F.view front.new reader.new).budget }
+    ensures stays { IsTrue F.apart → KeepsAllButBudget (S.view reader.old) (S.view reader.new) }
+{
+    if !reader.step_in() {
+        return skip_without_step(front, reader, Among::Items(left), failure);
+    }
+    match go_some(front, reader, Among::Items(left), failure) {
+        Some(Went::Into(count)) => {
+            if left == 1 && *depth < u64::MAX {
+                *depth += 1;
+                return Some(count);
+            }
+            let done = skip_items(front, reader, count, failure);
+            reader.step_out();
+            if done { Some(left - 1) } else { None }
+        }
+        Some(Went::Past(some)) => {
+            reader.step_out();
+            Some(left - some)
+        }
+        None => {
+            reader.step_out();
+            None
+        }
+    }
+}
+
+/// Gives so many steps back.
+#[inline(always)]
+fn give_back<S: Source>(reader: &mut S, depth: u64)
+    ensures budget { (outer : Budget) → Deeper depth outer (S.view reader.old).budget →
+        (S.view reader.new).budget ≡ outer }
+    ensures others { KeepsAllButBudget (S.view reader.old) (S.view reader.new) }
+{
+    let mut left = depth;
+    while left > 0 {
+        reader.step_out();
+        left -= 1;
+    }
 }
 
 /// Skips so many pairs.

@@ -1,6 +1,6 @@
-use Rattle.std.proofs.Common.{refl, ◌-◌, ◌*◌, arith}
-use Rattle.cbor4ii_tree.specs.Skipping.{SkipsOpen, StopsOpen, SkipsMembers, StopsMembers}
-use Rattle.cbor4ii_tree.specs.Ahead.{SkipsSomeUnder, StopsSomeUnder}
+use Rattle.std.proofs.Common.{refl, ◌-◌, ◌*◌, ◌∙◌, arith}
+use Rattle.cbor4ii_tree.specs.Skipping.{SkipsItems, StopsItems, SkipsOpen, StopsOpen, SkipsMembers, StopsMembers}
+use Rattle.cbor4ii_tree.specs.Ahead.{StopsSomeUnder, GoesUnder}
 use Rattle.cbor4ii_tree.specs.declared.skip.Behind.TheVariants as behind
 use Rattle.cbor4ii_tree.specs.declared.ahead.Among.TheVariants as among
 use Rattle.cbor4ii_tree.proofs.Doing.{reached_start, does_ok}
@@ -8,7 +8,8 @@ use Rattle.cbor4ii_tree.proofs.FrontCalls.{keeps_alike, keeps_then}
 use Rattle.cbor4ii_tree.proofs.SkippingParts.{SkippedEach, SkippedPairs, each_none, pairs_none, each_join, open_stop, open_done, pairs_more, key_stop, value_stop, members_done, Left, left_all}
 use Rattle.cbor4ii_tree.proofs.SkippingCalls.{went_on, more, ends, WithKey}
 use Rattle.cbor4ii_tree.proofs.RunPairs.{pairs_join, pairs_key}
-use Rattle.cbor4ii_tree.proofs.RunCalls.{progress_none, progress_around, counts_allowed, counts_one, counts_none, passes_some, passes_head, passes_break, passes_unseen, some_by, none_left, without_step, ran, not_ran, broke_here, head_one, head_stopped, nothing_taken, ended_some, cut_some, one_unseen, stopped_unseen, left_less, left_minus, left_one, left_stopped, all_skipped, more_some, broke_some, ends_some, goes_on, goes_no_further, one_done, none_done}
+use Rattle.cbor4ii_tree.proofs.RunCalls.{progress_none, progress_around, counts_one, counts_none, passes_some, passes_head, some_by, none_left, without_step, ran, not_ran, head_one, head_stopped, nothing_taken, ended_some, cut_some, one_unseen, stopped_unseen, left_less, left_one, left_stopped, all_skipped, more_some, broke_some, ends_some, goes_on, goes_no_further, one_done, none_done, past, was_past, went_nowhere, was_nowhere, into_one, into_stopped, counts_past}
+use Rattle.cbor4ii_tree.proofs.DeeperCalls.{deeper_none, all_back, does_back, gone_into, gone_past, gone_nowhere, gone_without, gone_on, gone_no_further, all_gone}
 use Rattle.cbor4ii_tree.proofs.skip.+skip.Goals as goal
 
 pub skip_one-returns-in-None-clause-does : goal.skip_one-returns-in-None-clause-does
@@ -50,51 +51,95 @@ skip_some-returns-clause-progress g t c =
     let outward = moved c.some_inside-outcome.new.front _ _ c.step_out.ensures.others in
     progress_around _ _ _ _ _ c.some_inside-outcome.ensures.progress (omega (arith, inward.bound)) (omega (arith, outward.bound))
 
-pub some_inside-returns-in-None-clause-does : goal.some_inside-returns-in-None-clause-does
-some_inside-returns-in-None-clause-does g t c = not_ran c.args.among (SkipsSomeUnder c.args.among (g.F.Front.view c.args.front.now c.args.reader.now).budget) (StopsSomeUnder c.args.among (g.F.Front.view c.args.front.now c.args.reader.now).budget) c.in-None.ensures.does
+pub go_some-returns-in-None-clause-does : goal.go_some-returns-in-None-clause-does
+go_some-returns-in-None-clause-does g t c = not_ran c.args.among (GoesUnder c.args.among (g.F.Front.view c.args.front.now c.args.reader.now).budget) (StopsSomeUnder c.args.among (g.F.Front.view c.args.front.now c.args.reader.now).budget) c.in-None.ensures.does
 
-pub some_inside-returns-in-Some-Run-clause-does : goal.some_inside-returns-in-Some-Run-clause-does
-some_inside-returns-in-Some-Run-clause-does g t c =
+pub go_some-returns-in-Some-Run-clause-does : goal.go_some-returns-in-Some-Run-clause-does
+go_some-returns-in-Some-Run-clause-does g t c =
     let k = passes_some c.args.among c.in-Some-Run.count _ _ _ c.in-Some-Run.field-0-is c.in-Some-Run.ensures.passes in
-    ran c.args.among c.in-Some-Run.count _ c.in-Some-Run.field-0-is k.0 c.in-Some-Run.ensures.does
+    past c.args.among c.in-Some-Run.count (ran c.args.among c.in-Some-Run.count _ c.in-Some-Run.field-0-is k.0 c.in-Some-Run.ensures.does)
 
-pub some_inside-returns-in-Some-Run-clause-counts : goal.some_inside-returns-in-Some-Run-clause-counts
-some_inside-returns-in-Some-Run-clause-counts g t c =
-    let k = passes_some c.args.among c.in-Some-Run.count _ _ _ c.in-Some-Run.field-0-is c.in-Some-Run.ensures.passes in
-    counts_allowed c.args.among c.in-Some-Run.count k.0 k.1
+pub go_some-returns-else-skip_behind-clause-does : goal.go_some-returns-else-skip_behind-clause-does
+go_some-returns-else-skip_behind-clause-does g t c = went_nowhere c.args.among (head_stopped c.args.among _ c.in-Some-Head.behind c.in-Some-Head.field-0-is c.in-Some-Head.ensures.does c.if-skip_behind.ensures.does)
 
-pub some_inside-returns-in-Some-Run-clause-progress : goal.some_inside-returns-in-Some-Run-clause-progress
-some_inside-returns-in-Some-Run-clause-progress g t c =
-    let k = passes_some c.args.among c.in-Some-Run.count _ _ _ c.in-Some-Run.field-0-is c.in-Some-Run.ensures.passes in
-    λ some. k.2
+pub go_some-returns-then-skip_behind-clause-does : goal.go_some-returns-then-skip_behind-clause-does
+go_some-returns-then-skip_behind-clause-does g t c = past c.args.among 1 (head_one c.args.among _ c.in-Some-Head.behind c.in-Some-Head.field-0-is c.in-Some-Head.ensures.does c.if-skip_behind.ensures.does)
 
-pub some_inside-returns-else-skip_behind-clause-does : goal.some_inside-returns-else-skip_behind-clause-does
-some_inside-returns-else-skip_behind-clause-does g t c = head_stopped c.args.among _ c.in-Some-Head.behind c.in-Some-Head.field-0-is c.in-Some-Head.ensures.does c.if-skip_behind.ensures.does
+pub go_some-returns-then-skip_behind-clause-counts : goal.go_some-returns-then-skip_behind-clause-counts
+go_some-returns-then-skip_behind-clause-counts g t c = counts_one c.args.among c.requires
 
-pub some_inside-returns-then-skip_behind-clause-does : goal.some_inside-returns-then-skip_behind-clause-does
-some_inside-returns-then-skip_behind-clause-does g t c = head_one c.args.among _ c.in-Some-Head.behind c.in-Some-Head.field-0-is c.in-Some-Head.ensures.does c.if-skip_behind.ensures.does
-
-pub some_inside-returns-then-skip_behind-clause-counts : goal.some_inside-returns-then-skip_behind-clause-counts
-some_inside-returns-then-skip_behind-clause-counts g t c = counts_one c.args.among c.requires
-
-pub some_inside-returns-then-skip_behind-clause-progress : goal.some_inside-returns-then-skip_behind-clause-progress
-some_inside-returns-then-skip_behind-clause-progress g t c =
+pub go_some-returns-then-skip_behind-clause-progress : goal.go_some-returns-then-skip_behind-clause-progress
+go_some-returns-then-skip_behind-clause-progress g t c =
     let k = passes_head c.args.among _ c.in-Some-Head.behind _ _ c.in-Some-Head.field-0-is c.in-Some-Head.ensures.passes in
     λ some. omega (arith, k, c.if-skip_behind.ensures.does.moves.by.bound)
 
-pub some_inside-returns-in-Some-Break-clause-does : goal.some_inside-returns-in-Some-Break-clause-does
-some_inside-returns-in-Some-Break-clause-does g t c = broke_here c.args.among c.in-Some-Break.field-0-is (passes_break c.args.among _ _ c.in-Some-Break.field-0-is c.in-Some-Break.ensures.passes) c.in-Some-Break.ensures.does
+pub go_some-returns-in-Some-clause-does : goal.go_some-returns-in-Some-clause-does
+go_some-returns-in-Some-clause-does g t c = past c.args.among c.in-Some.count (nothing_taken c.args.among c.in-Some-Unseen.field-0-is c.in-Some-Unseen.ensures.does c.in-Some.ensures.does)
 
-pub some_inside-returns-in-Some-Break-clause-counts : goal.some_inside-returns-in-Some-Break-clause-counts
-some_inside-returns-in-Some-Break-clause-counts g t c = counts_none c.args.among (passes_break c.args.among _ _ c.in-Some-Break.field-0-is c.in-Some-Break.ensures.passes)
+pub go_some-returns-in-None-skip_unseen-clause-does : goal.go_some-returns-in-None-skip_unseen-clause-does
+go_some-returns-in-None-skip_unseen-clause-does g t c = went_nowhere c.args.among (nothing_taken c.args.among c.in-Some-Unseen.field-0-is c.in-Some-Unseen.ensures.does c.in-None-skip_unseen.ensures.does)
 
-pub some_inside-returns-in-Some-Unseen-clause-does : goal.some_inside-returns-in-Some-Unseen-clause-does
-some_inside-returns-in-Some-Unseen-clause-does g t c = nothing_taken c.args.among c.in-Some-Unseen.field-0-is c.in-Some-Unseen.ensures.does c.skip_unseen.ensures.does
+pub some_inside-returns-then-skip_items-clause-does : goal.some_inside-returns-then-skip_items-clause-does
+some_inside-returns-then-skip_items-clause-does g t c = into_one c.args.among c.in-Some-Into.count c.in-Some-Into.field-0-is c.in-Some-Into.ensures.does c.if-skip_items.ensures.does
 
-pub some_inside-returns-in-Some-Unseen-clause-progress : goal.some_inside-returns-in-Some-Unseen-clause-progress
-some_inside-returns-in-Some-Unseen-clause-progress g t c =
-    let k = passes_unseen c.args.among _ _ c.in-Some-Unseen.field-0-is c.in-Some-Unseen.ensures.passes in
-    progress_around _ _ _ _ _ c.skip_unseen.ensures.progress k (omega arith)
+pub some_inside-returns-else-skip_items-clause-does : goal.some_inside-returns-else-skip_items-clause-does
+some_inside-returns-else-skip_items-clause-does g t c = into_stopped c.args.among c.in-Some-Into.count c.in-Some-Into.field-0-is c.in-Some-Into.ensures.does c.if-skip_items.ensures.does
+
+pub skip_items-returns-clause-does : goal.skip_items-returns-clause-does
+skip_items-returns-clause-does g t c =
+    let same = g.met.F.Front.same_budget in
+    let moved = g.met.F.Front.moved in
+    does_back (λ xs _ ys. SkipsItems c.args.count (g.F.Front.view c.args.front.now c.args.reader.now).budget xs ys) (StopsItems c.args.count (g.F.Front.view c.args.front.now c.args.reader.now).budget) (moved _ _ _ c.give_back.ensures.others) (same _ _ ∙ all_back _ _ (same _ _) c.give_back.ensures.budget c.skip_inward-done.ensures.deeper) c.skip_inward-done.ensures.does
+
+pub skip_inward-loop-left-preserved : goal.skip_inward-loop-left-preserved
+skip_inward-loop-left-preserved g t c = record {
+  reached = gone_on c.args.count c.loop-left.left c.loop-left.invariant.reached c.in-Some.now c.in-Some.ensures.does (deeper_none _ _ _ c.loop-left.invariant.deeper);
+  deeper = c.in-Some.ensures.deeper _ c.loop-left.invariant.deeper;
+  stays = λ apart. keeps_then (c.loop-left.invariant.stays apart) (c.in-Some.ensures.stays apart);
+}
+
+pub skip_inward-returns-in-None-clause-does : goal.skip_inward-returns-in-None-clause-does
+skip_inward-returns-in-None-clause-does g t c = gone_no_further c.args.count c.loop-left.left c.loop-left.invariant.reached (deeper_none _ _ _ c.loop-left.invariant.deeper) c.in-None.ensures.does
+
+pub skip_inward-returns-clause-does : goal.skip_inward-returns-clause-does
+skip_inward-returns-clause-does g t c = all_gone c.args.count c.loop-left.left c.loop-left.invariant.reached (omega (arith, c.loop-left-test.false))
+
+pub skip_next-returns-then-not-step_in-clause-does : goal.skip_next-returns-then-not-step_in-clause-does
+skip_next-returns-then-not-step_in-clause-does g t c =
+    let same = g.met.F.Front.same_budget in
+    let moved = g.met.F.Front.moved in
+    gone_without c.args.left _ _ c.requires c.skip_without_step.ensures.none c.skip_without_step.ensures.counts (without_step (among.Items c.args.left) (same _ _) (same _ _) c.if-not-step_in.ensures.budget (moved _ _ _ c.step_in.ensures.others) c.skip_without_step.ensures.does)
+
+pub skip_next-returns-then-depth-lt18446744073709551615-clause-does : goal.skip_next-returns-then-depth-lt18446744073709551615-clause-does
+skip_next-returns-then-depth-lt18446744073709551615-clause-does g t c =
+    let same = g.met.F.Front.same_budget in
+    let moved = g.met.F.Front.moved in
+    gone_into c.args.left (same _ _) (same _ _) c.if-not-step_in.ensures.budget (moved _ _ _ c.step_in.ensures.others) c.in-Some-Into.count (omega (arith, c.if-left-eq1.true)) c.in-Some-Into.field-0-is c.in-Some-Into.ensures.does
+
+pub skip_next-returns-then-done-clause-does : goal.skip_next-returns-then-done-clause-does
+skip_next-returns-then-done-clause-does g t c =
+    let same = g.met.F.Front.same_budget in
+    let moved = g.met.F.Front.moved in
+    gone_past c.args.left 1 (omega arith) c.requires (some_by (among.Items c.args.left) (same _ _) (same _ _) (same _ _) (same _ _) c.if-not-step_in.ensures.budget (moved _ _ _ c.step_in.ensures.others) (into_one (among.Items c.args.left) c.in-Some-Into.count c.in-Some-Into.field-0-is c.in-Some-Into.ensures.does c.if-done.ensures.does) c.step_out.ensures.budget (moved _ _ _ c.step_out.ensures.others))
+
+pub skip_next-returns-else-done-clause-does : goal.skip_next-returns-else-done-clause-does
+skip_next-returns-else-done-clause-does g t c =
+    let same = g.met.F.Front.same_budget in
+    let moved = g.met.F.Front.moved in
+    gone_nowhere c.args.left c.requires (some_by (among.Items c.args.left) (same _ _) (same _ _) (same _ _) (same _ _) c.if-not-step_in.ensures.budget (moved _ _ _ c.step_in.ensures.others) (into_stopped (among.Items c.args.left) c.in-Some-Into.count c.in-Some-Into.field-0-is c.in-Some-Into.ensures.does c.if-done.ensures.does) c.step_out.ensures.budget (moved _ _ _ c.step_out.ensures.others))
+
+pub skip_next-returns-in-Some-Past-clause-does : goal.skip_next-returns-in-Some-Past-clause-does
+skip_next-returns-in-Some-Past-clause-does g t c =
+    let same = g.met.F.Front.same_budget in
+    let moved = g.met.F.Front.moved in
+    let counts = counts_past (among.Items c.args.left) c.in-Some-Past.some c.in-Some-Past.field-0-is c.in-Some-Past.ensures.counts in
+    gone_past c.args.left c.in-Some-Past.some counts.0 counts.1 (some_by (among.Items c.args.left) (same _ _) (same _ _) (same _ _) (same _ _) c.if-not-step_in.ensures.budget (moved _ _ _ c.step_in.ensures.others) (was_past (among.Items c.args.left) c.in-Some-Past.some c.in-Some-Past.field-0-is c.in-Some-Past.ensures.does) c.step_out-in-Some-Past.ensures.budget (moved _ _ _ c.step_out-in-Some-Past.ensures.others))
+
+pub skip_next-returns-in-None-clause-does : goal.skip_next-returns-in-None-clause-does
+skip_next-returns-in-None-clause-does g t c =
+    let same = g.met.F.Front.same_budget in
+    let moved = g.met.F.Front.moved in
+    gone_nowhere c.args.left c.requires (some_by (among.Items c.args.left) (same _ _) (same _ _) (same _ _) (same _ _) c.if-not-step_in.ensures.budget (moved _ _ _ c.step_in.ensures.others) (was_nowhere (among.Items c.args.left) c.in-None.ensures.does) c.step_out-in-None.ensures.budget (moved _ _ _ c.step_out-in-None.ensures.others))
 
 pub skip_behind-returns-in-Nothing-clause-does : goal.skip_behind-returns-in-Nothing-clause-does
 skip_behind-returns-in-Nothing-clause-does g t c = goes_no_further c.in-Nothing.is
@@ -137,24 +182,6 @@ skip_unseen-returns-then-skip_inside-clause-does g t c = one_unseen c.args.among
 
 pub skip_unseen-returns-then-skip_inside-clause-counts : goal.skip_unseen-returns-then-skip_inside-clause-counts
 skip_unseen-returns-then-skip_inside-clause-counts g t c = counts_one c.args.among c.requires
-
-pub skip_items-loop-left-init : goal.skip_items-loop-left-init
-skip_items-loop-left-init g t c = record {
-  reached = reached_start (Left c.args.count c.args.count (g.F.Front.view c.args.front.now c.args.reader.now).budget) _ (left_all c.args.count (g.F.Front.view c.args.front.now c.args.reader.now).budget);
-  stays = λ apart. keeps_alike _ _ refl;
-}
-
-pub skip_items-returns-in-None-clause-does : goal.skip_items-returns-in-None-clause-does
-skip_items-returns-in-None-clause-does g t c = left_stopped c.args.count c.loop-left.left c.loop-left.invariant.reached _ (omega (arith, c.loop-left-test.true)) c.in-None.ensures.does
-
-pub skip_items-loop-left-preserved : goal.skip_items-loop-left-preserved
-skip_items-loop-left-preserved g t c = record {
-  reached = left_minus c.args.count c.loop-left.left c.loop-left.invariant.reached (among.Items c.loop-left.left) _ c.in-Some.ensures.counts.1 c.in-Some.ensures.counts.0 c.in-Some.ensures.does;
-  stays = λ apart. keeps_then (c.loop-left.invariant.stays apart) (c.in-Some.ensures.stays apart);
-}
-
-pub skip_items-returns-clause-does : goal.skip_items-returns-clause-does
-skip_items-returns-clause-does g t c = all_skipped c.args.count c.loop-left.left c.loop-left.invariant.reached (omega (arith, c.loop-left-test.false))
 
 pub skip_members-loop-left-init : goal.skip_members-loop-left-init
 skip_members-loop-left-init g t c = record {

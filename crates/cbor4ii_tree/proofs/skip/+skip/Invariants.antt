@@ -1,47 +1,49 @@
 use Rattle.std.proofs.Common.{IsTrue, ◌+◌, ◌*◌}
 use Rattle.cbor4ii_rw.specs.Reader.{KeepsAllButBudget}
+use Rattle.cbor4ii_tree.specs.Deeper.{Deeper, GoesOn, budgeted}
 use Rattle.cbor4ii_tree.proofs.Doing.{Reached}
 use Rattle.cbor4ii_tree.proofs.SkippingParts.{SkippedEach, SkippedPairs, Left}
 use Rattle.cbor4ii_tree.proofs.skip.+skip.Given as goal
 
 abbrev pub decreases-skip_behind : goal.decreases-skip_behind
-decreases-skip_behind g l = 8 * (g.F.Front.view l.front.now l.reader.now).bound + 6
+decreases-skip_behind g l = 9 * (g.F.Front.view l.front.now l.reader.now).bound + 7
 
 abbrev pub decreases-skip_items : goal.decreases-skip_items
-decreases-skip_items g l = 8 * (g.F.Front.view l.front.now l.reader.now).bound + 5
+decreases-skip_items g l = 9 * (g.F.Front.view l.front.now l.reader.now).bound + 6
 
 abbrev pub decreases-skip_members : goal.decreases-skip_members
-decreases-skip_members g l = 8 * (g.F.Front.view l.front.now l.reader.now).bound + 5
+decreases-skip_members g l = 9 * (g.F.Front.view l.front.now l.reader.now).bound + 6
 
 abbrev pub decreases-skip_open : goal.decreases-skip_open
-decreases-skip_open g l = 8 * (g.F.Front.view l.front.now l.reader.now).bound + 5
+decreases-skip_open g l = 9 * (g.F.Front.view l.front.now l.reader.now).bound + 6
 
 abbrev pub decreases-skip_open_members : goal.decreases-skip_open_members
-decreases-skip_open_members g l = 8 * (g.F.Front.view l.front.now l.reader.now).bound + 5
+decreases-skip_open_members g l = 9 * (g.F.Front.view l.front.now l.reader.now).bound + 6
 
 abbrev pub decreases-skip_one : goal.decreases-skip_one
-decreases-skip_one g l = 8 * (g.F.Front.view l.front.now l.reader.now).bound + 4
+decreases-skip_one g l = 9 * (g.F.Front.view l.front.now l.reader.now).bound + 5
 
 abbrev pub decreases-skip_some : goal.decreases-skip_some
-decreases-skip_some g l = 8 * (g.F.Front.view l.front.now l.reader.now).bound + 3
+decreases-skip_some g l = 9 * (g.F.Front.view l.front.now l.reader.now).bound + 4
 
 abbrev pub decreases-some_inside : goal.decreases-some_inside
-decreases-some_inside g l = 8 * (g.F.Front.view l.front.now l.reader.now).bound + 2
+decreases-some_inside g l = 9 * (g.F.Front.view l.front.now l.reader.now).bound + 3
 
 abbrev pub decreases-skip_unseen : goal.decreases-skip_unseen
-decreases-skip_unseen g l = 8 * (g.F.Front.view l.front.now l.reader.now).bound + 1
+decreases-skip_unseen g l = 9 * (g.F.Front.view l.front.now l.reader.now).bound + 1
 
 abbrev pub decreases-skip_inside : goal.decreases-skip_inside
-decreases-skip_inside g l = 8 * (g.F.Front.view l.front.now l.reader.now).bound
+decreases-skip_inside g l = 9 * (g.F.Front.view l.front.now l.reader.now).bound
 
-abbrev pub invariant-skip_items-loop-left : goal.invariant-skip_items-loop-left
-invariant-skip_items-loop-left g l = record {
-  reached : Reached (Left l.count l.left (g.F.Front.view l.fn.front l.fn.reader).budget) (g.F.Front.view l.fn.front l.fn.reader) (g.F.Front.view l.front l.reader);
+abbrev pub invariant-skip_inward-loop-left : goal.invariant-skip_inward-loop-left
+invariant-skip_inward-loop-left g l = record {
+  reached : Reached (λ xs ys. GoesOn l.count (g.F.Front.view l.fn.front l.fn.reader).budget (g.F.Front.view l.front l.reader).budget xs l.left ys) (g.F.Front.view l.fn.front l.fn.reader) (budgeted (g.F.Front.view l.fn.front l.fn.reader).budget (g.F.Front.view l.front l.reader));
+  deeper : Deeper l.depth (g.F.Front.view l.fn.front l.fn.reader).budget (g.F.Front.view l.front l.reader).budget;
   stays : IsTrue g.F.Front.apart → KeepsAllButBudget (g.S.Source.view l.fn.reader) (g.S.Source.view l.reader);
 }
 
-abbrev pub decreases-skip_items-loop-left : goal.decreases-skip_items-loop-left
-decreases-skip_items-loop-left g l = l.left
+abbrev pub decreases-skip_inward-loop-left : goal.decreases-skip_inward-loop-left
+decreases-skip_inward-loop-left g l = (g.F.Front.view l.front l.reader).bound
 
 abbrev pub invariant-skip_members-loop-left : goal.invariant-skip_members-loop-left
 invariant-skip_members-loop-left g l = record {
@@ -69,3 +71,12 @@ invariant-skip_open_members-loop-some g l = record {
 
 abbrev pub decreases-skip_open_members-loop-some : goal.decreases-skip_open_members-loop-some
 decreases-skip_open_members-loop-some g l = (g.F.Front.view l.front l.reader).bound
+
+abbrev pub decreases-skip_inward : goal.decreases-skip_inward
+decreases-skip_inward g l = 9 * (g.F.Front.view l.front.now l.reader.now).bound + 4
+
+abbrev pub decreases-skip_next : goal.decreases-skip_next
+decreases-skip_next g l = 9 * (g.F.Front.view l.front.now l.reader.now).bound + 3
+
+abbrev pub decreases-go_some : goal.decreases-go_some
+decreases-go_some g l = 9 * (g.F.Front.view l.front.now l.reader.now).bound + 2

@@ -1,0 +1,10 @@
+use Rattle.std.proofs.Common.{refl, arith}
+use Rattle.cbor4ii_tree.proofs.FrontCalls.{keeps_then}
+use Rattle.cbor4ii_tree.proofs.DeeperCalls.{one_back}
+use Rattle.cbor4ii_tree.proofs.skip.give_back.Goals as goal
+
+pub loop-left-preserved : goal.loop-left-preserved
+loop-left-preserved g c = record {
+  deeper = λ outer kept. one_back _ _ outer _ _ (omega (arith, c.loop-left-test.true)) refl c.step_out.ensures.budget (c.loop-left.invariant.deeper outer kept);
+  others = keeps_then c.loop-left.invariant.others c.step_out.ensures.others;
+}
