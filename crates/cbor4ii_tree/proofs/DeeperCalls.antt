@@ -28,9 +28,6 @@ pub deeper_none : (d : ℕ) (outer inner : Budget) → Deeper d outer inner → 
 deeper_none zero outer inner h none = h ∙ none
 deeper_none (suc d) outer inner h none = step_unbound h.0 inner h.2 (deeper_none d outer h.0 h.1 none)
 
-pub one_deeper : (d now : ℕ) (outer between inner : Budget) → now ≡ d + 1 → Deeper d outer between → StepsIn between inner true → Deeper now outer inner
-one_deeper d now outer between inner is h step = let e : suc d ≡ now = omega (arith, is) in subst (λ n. Deeper n outer inner) e (between, h, step)
-
 pub one_back : (d now : ℕ) (outer inner between : Budget) → 0 < d → now ≡ d - 1 → between ≡ step_back inner → Deeper d outer inner → Deeper now outer between
 one_back zero now outer inner between some is gives h = absurd (omega (arith, some))
 one_back (suc d) now outer inner between some is gives h =

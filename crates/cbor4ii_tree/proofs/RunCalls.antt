@@ -1,5 +1,5 @@
 -- Calls of skipping that take some items, one behind another.
-use Rattle.std.proofs.Common.{◌≡◌, ◌≢◌, ℕ, ◌+◌, ◌-◌, ◌≤◌, inl, inr, List, [], ◌∷◌, ◌++◌, append-nil, Result, Ok, Err, Option, Some, None, Bool, true, false, IsTrue, IfOk, IfErr, IfSome, refl, sym, ap, ◌∙◌, subst, arith}
+use Rattle.std.proofs.Common.{◌≡◌, ◌≢◌, ℕ, ◌+◌, ◌≤◌, inl, inr, List, [], ◌∷◌, ◌++◌, append-nil, Result, Ok, Err, Option, Some, None, Bool, true, false, IsTrue, IfOk, IfErr, IfSome, refl, sym, ap, ◌∙◌, subst, arith}
 use denote.Ref.{Bor}
 use Rattle.cbor4ii_rw.specs.View.{View}
 use Rattle.cbor4ii_rw.specs.Reader.{KeepsAllButBudget, StepsIn, step_back}
@@ -16,7 +16,7 @@ use Rattle.cbor4ii_tree.specs.Cost.{Budget}
 use Rattle.cbor4ii_tree.specs.Stops.{Stopping, NoBreak}
 use Rattle.cbor4ii_tree.specs.Does.{Accepting, Does}
 use Rattle.cbor4ii_tree.specs.Skipping.{SkipsOne, StopsOne, SkipsItems, StopsItems, SkipsUnder, StopsUnder, SkipsBehind, StopsBehind}
-use Rattle.cbor4ii_tree.specs.Ahead.{Takes, TakesHead, Passes, Allows, Awaits, Counts, IsOpen, SkipsSome, StopsSome, SkipsSomeUnder, StopsSomeUnder, GoesUnder, CountsWent, Gains, EndsOrNot, StopsAtEnd, NeverStops}
+use Rattle.cbor4ii_tree.specs.Ahead.{Takes, TakesHead, Passes, Allows, Awaits, Counts, IsOpen, SkipsSome, StopsSome, SkipsSomeUnder, StopsSomeUnder, GoesUnder, CountsWent, EndsOrNot, StopsAtEnd, NeverStops}
 use Rattle.cbor4ii_tree.specs.declared.skip.Behind.{Behind}
 use Rattle.cbor4ii_tree.specs.declared.skip.Behind.TheVariants.{Nothing}
 use Rattle.cbor4ii_tree.specs.declared.skip.Behind.TheVariants as left_behind
@@ -277,12 +277,6 @@ module _ (among : Among) {a m : View} where
       → Does {V = ℕ} (SkipsSomeUnder among a.budget) (StopsSomeUnder among a.budget) a b (Err e)
   into_stopped n is h d = behind_stopped among (left_behind.Items n) h.moves.by.budget (into n is h) d
 
-pub gains_into : (n old new : ℕ) {went : Went} → went ≡ Into n → Gains went old new → new + 1 ≤ old
-gains_into n old new is h = subst (λ w. Gains w old new) is h
-
-pub gains_past : (n old new : ℕ) {went : Went} → went ≡ Past n → Gains went old new → 1 ≤ n → new + 1 ≤ old
-gains_past n old new is h = subst (λ w. Gains w old new) is h
-
 pub counts_past : (among : Among) (n : ℕ) {went : Went} → went ≡ Past n → CountsWent among went → Counts among n
 counts_past among n is h = subst (λ w. CountsWent among w) is h
 
@@ -300,9 +294,6 @@ module _ (total left : ℕ) {a m : View} (p : Reached (Left total left a.budget)
   pub left_less : {E : Type 0} (among : Among) (n less : ℕ) {b : View} → less + n ≡ left → 1 ≤ n → Does {E = E} (SkipsSome among m.budget) (StopsSome among m.budget) m b (Ok n) → Reached (Left total less a.budget) a b
   left_less among n less e some d = reached_then (Left total left a.budget) (λ xs ys. SkipsSome among m.budget xs n ys) (Left total less a.budget)
       (λ xs ys zs h s. left_some total left less n a.budget xs ys zs e h (subst (λ o. SkipsItems n o ys zs) p.kept.budget (some_items among m.budget ys n zs some s))) p (reached_by d)
-
-  pub left_minus : {E : Type 0} (among : Among) (n : ℕ) {b : View} → n ≤ left → 1 ≤ n → Does {E = E} (SkipsSome among m.budget) (StopsSome among m.budget) m b (Ok n) → Reached (Left total (left - n) a.budget) a b
-  left_minus among n few some d = left_less among n (left - n) (omega (arith, few)) some d
 
   pub left_one : {E : Type 0} (less : ℕ) {u : Unit {0}} {b : View} → less + 1 ≡ left → Does {E = E} (λ xs _ ys. SkipsOne m.budget xs ys) (StopsOne m.budget) m b (Ok u) → Reached (Left total less a.budget) a b
   left_one less e d = reached_then (Left total left a.budget) (SkipsOne m.budget) (Left total less a.budget)

@@ -398,7 +398,8 @@ fn skip_next<S: Source, F: Front<S>>(
     ensures spares { Spares (answered result failure.new) }
     ensures progress { OnSome result
         ((F.view front.new reader.new).bound + 1 ≤ (F.view front.old reader.old).bound) }
-    ensures deeper { (outer : Budget) → Deeper depth.old outer (F.view front.old reader.old).budget →
+    ensures deeper { (outer : Budget) →
+        Deeper depth.old outer (F.view front.old reader.old).budget →
         Deeper depth.new outer (F.view front.new reader.new).budget }
     ensures stays { IsTrue F.apart → KeepsAllButBudget (S.view reader.old) (S.view reader.new) }
 {
