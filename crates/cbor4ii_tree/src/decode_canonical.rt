@@ -42,7 +42,7 @@ ghost use Rattle.cbor4ii_tree.specs.Valuing.{ReadsStepped, ReadsVec, SimpleOf, I
 ghost use Rattle.cbor4ii_tree.specs.View.{view};
 
 use crate::front::Own;
-use crate::skip::peek;
+use crate::unseen::peek;
 use crate::value::{FloatBits, Value};
 use cbor4ii_items::canonical::{canonical_buf, canonical_head};
 use cbor4ii_items::decode::{Decode, Spelled};

@@ -54,7 +54,7 @@ ghost use Rattle.cbor4ii_tree.specs.ValueLaws.{
 };
 
 use crate::front::Own;
-use crate::skip::peek;
+use crate::unseen::peek;
 use crate::value::{FloatBits, Value};
 use cbor4ii_items::decode::{Decode, Spelled};
 use cbor4ii_items::indefinite::is_break;

@@ -14,6 +14,7 @@ pub mod lend_raw;
 mod range;
 pub mod raw;
 mod skip;
+mod unseen;
 pub mod value;
 
 pub use boxed_raw::BoxedRawValue;

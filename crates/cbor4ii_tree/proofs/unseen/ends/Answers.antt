@@ -1,6 +1,6 @@
 use Rattle.std.proofs.Common.{true, ◌≡◌}
 use Rattle.cbor4ii_tree.proofs.RunCalls.{ends_open, open_where, ends_not}
-use Rattle.cbor4ii_tree.proofs.skip.ends.Goals as goal
+use Rattle.cbor4ii_tree.proofs.unseen.ends.Goals as goal
 
 pub returns-then-is_open-clause-does : goal.returns-then-is_open-clause-does
 returns-then-is_open-clause-does g c = ends_open c.args.among _ (c.is_open.ensures.0 c.if-is_open.true) c.is_break.ensures.runs.moves c.is_break.ensures.sound c.is_break.ensures.stops

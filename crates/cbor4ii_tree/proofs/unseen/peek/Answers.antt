@@ -1,5 +1,5 @@
 use Rattle.cbor4ii_tree.proofs.FrontCalls.{offers_end, offers_byte}
-use Rattle.cbor4ii_tree.proofs.skip.peek.Goals as goal
+use Rattle.cbor4ii_tree.proofs.unseen.peek.Goals as goal
 
 pub returns-in-Ok-None-clause-runs : goal.returns-in-Ok-None-clause-runs
 returns-in-Ok-None-clause-runs g c = offers_end (rw c.in-Ok-None.field-0-is at c.in-Ok-None.ensures.offers)

@@ -3,7 +3,7 @@ use Rattle.std.proofs.lemmas.Result.{err_from_is_err_and}
 use Rattle.cbor4ii_items.specs.ReadHead.{number_on}
 use Rattle.cbor4ii_items.specs.Laws.Running.{runs_err, reaches_as, reaches_then, reaches_end}
 use Rattle.cbor4ii_items.specs.Laws.ReadingHeads.{one_more, small_number, number_more, number_start}
-use Rattle.cbor4ii_tree.proofs.skip.number.Goals as goal
+use Rattle.cbor4ii_tree.proofs.unseen.number.Goals as goal
 
 pub loop-i-init : goal.loop-i-init
 loop-i-init g c = record { read = number_start _ _ _; small = omega arith; stays = λ t. refl }

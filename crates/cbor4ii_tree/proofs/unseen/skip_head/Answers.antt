@@ -9,7 +9,7 @@ use Rattle.cbor4ii_tree.specs.declared.skip.Behind.TheVariants as behind
 use Rattle.cbor4ii_tree.proofs.Doing.{reached_first}
 use Rattle.cbor4ii_tree.proofs.Leading.{leads_bytes, bytes_cut, content_info, items_info, members_info, tag_info, open_leads, open_members_leads, is_taken, no_tag}
 use Rattle.cbor4ii_tree.proofs.HeadCalls.{first_err, first_ok, first_alone, first_refused}
-use Rattle.cbor4ii_tree.proofs.skip.skip_head.Goals as goal
+use Rattle.cbor4ii_tree.proofs.unseen.skip_head.Goals as goal
 
 -- a first byte and its argument
 abbrev Counts : Width → ℕ → ℕ → List ℕ → List ℕ → Type 0

@@ -4,7 +4,7 @@ use Rattle.cbor4ii_tree.specs.Stops.{Missing}
 use Rattle.cbor4ii_tree.specs.HeadParts.{DropsBytes, DropsSome}
 use Rattle.cbor4ii_tree.proofs.Doing.{reached_start, reached_by, reached_then, reached_as, does_ok, does_err}
 use Rattle.cbor4ii_tree.proofs.SkippingBytes.{Dropped, dropped_none, dropped_more, dropped_cut, dropped_all}
-use Rattle.cbor4ii_tree.proofs.skip.skip_bytes.Goals as goal
+use Rattle.cbor4ii_tree.proofs.unseen.skip_bytes.Goals as goal
 
 pub loop-missing-init : goal.loop-missing-init
 loop-missing-init g c = record { reached = reached_start (Dropped c.args.count c.args.count) _ (dropped_none c.args.count); stays = λ t. refl }

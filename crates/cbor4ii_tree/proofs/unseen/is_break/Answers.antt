@@ -1,5 +1,5 @@
 use Rattle.cbor4ii_items.specs.Laws.Breaks.{break_sound, break_stops}
-use Rattle.cbor4ii_tree.proofs.skip.is_break.Goals as goal
+use Rattle.cbor4ii_tree.proofs.unseen.is_break.Goals as goal
 
 pub returns-clause-sound : goal.returns-clause-sound
 returns-clause-sound g c = break_sound _ c.at_break.ensures.runs

@@ -1,7 +1,7 @@
 use Rattle.std.proofs.Common.{IsTrue, ◌≡◌, ◌-◌, ◌<◌, ◌^◌}
 use Rattle.cbor4ii_items.specs.Reading.{Reaches}
 use Rattle.cbor4ii_items.specs.ReadHead.{number_on}
-use Rattle.cbor4ii_tree.proofs.skip.number.Given as goal
+use Rattle.cbor4ii_tree.proofs.unseen.number.Given as goal
 
 -- some bytes were read, and the others are left to read
 abbrev pub invariant-loop-i : goal.invariant-loop-i

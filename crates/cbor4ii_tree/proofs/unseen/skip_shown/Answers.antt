@@ -1,5 +1,5 @@
 use Rattle.cbor4ii_tree.proofs.FrontCalls.{offers_none, offers_some}
-use Rattle.cbor4ii_tree.proofs.skip.skip_shown.Goals as goal
+use Rattle.cbor4ii_tree.proofs.unseen.skip_shown.Goals as goal
 
 pub returns-in-Ok-eq0-clause-does : goal.returns-in-Ok-eq0-clause-does
 returns-in-Ok-eq0-clause-does g c = offers_none c.args.missing c.requires c.in-Ok-eq0.field-0-test c.in-Ok-eq0.ensures.offers c.new.ensures.small c.new.ensures.big

@@ -1,0 +1,269 @@
+//! Items skipped byte by byte, where no look decides them: their heads (RFC 8949 section 3), their
+//! bytes, and breaks.
+ghost use Rattle.std.specs.Prelude.{◌≡◌, ◌+◌, ◌^◌, ◌≤◌, ◌<◌, OnOk, IfOk, IfErr, IsTrue, codes, ◌%◌};
+ghost use Rattle.cbor4ii_items.specs.Decoding.{Sound, Stops};
+ghost use Rattle.cbor4ii_items.specs.Head.{Width, byte_count};
+ghost use Rattle.cbor4ii_items.specs.Initial.{info_of, wide};
+ghost use Rattle.cbor4ii_items.specs.ReadHead.{number_on};
+ghost use Rattle.cbor4ii_items.specs.Reading.{Runs, peek_at, byte_at};
+ghost use Rattle.cbor4ii_items.specs.ReadStrings.{break_at};
+ghost use Rattle.cbor4ii_items.specs.Strings.{ReadsBreak, StopsBreak};
+ghost use Rattle.cbor4ii_tree.specs.Does.{Does, Spares};
+ghost use Rattle.cbor4ii_tree.specs.Skipping.{StopsUnder, Leads};
+ghost use Rattle.cbor4ii_tree.specs.Ahead.{IsOpen, EndsOrNot, StopsAtEnd};
+ghost use Rattle.cbor4ii_tree.specs.HeadParts.{ArgumentAt, DropsBytes, DropsSome};
+ghost use Rattle.cbor4ii_tree.specs.Stops.{Missing, MissingAll};
+
+use crate::ahead::Among;
+use crate::front::Front;
+use crate::skip::{Additional, Behind, Start, parse_info, start_of};
+use cbor4ii_items::marker;
+use cbor4ii_rw::error::{DecodeError, Len, StaticStr};
+use cbor4ii_rw::read::Source;
+
+/// Takes a break where one may come.
+pub(crate) fn ends<S: Source, F: Front<S>>(
+    front: &mut F,
+    reader: &mut S,
+    among: Among,
+) -> Result<bool, DecodeError<S::Error>>
+    ensures does { Does (EndsOrNot among) (StopsAtEnd among)
+        (F.view front.old reader.old) (F.view front.new reader.new) result }
+    ensures spares { Spares result }
+    ensures open { IfOk result (λ ended. IsTrue ended → IsOpen among) }
+    ensures stays { IsTrue F.apart → S.view reader.new ≡ S.view reader.old }
+{
+    if among.is_open() {
+        return is_break(front, reader);
+    }
+    Ok(false)
+}
+
+/// Takes the head of an item, with a number's bytes or a float's, byte by byte.
+pub(crate) fn skip_head<S: Source, F: Front<S>>(
+    front: &mut F,
+    reader: &mut S,
+) -> Result<Behind, DecodeError<S::Error>>
+    ensures does { Does (Leads (F.view front.old reader.old).budget)
+        (StopsUnder (F.view front.old reader.old).budget)
+        (F.view front.old reader.old) (F.view front.new reader.new) result }
+    ensures spares { Spares result }
+    ensures progress { OnOk result
+        ((F.view front.new reader.new).bound + 1 ≤ (F.view front.old reader.old).bound) }
+    ensures stays { IsTrue F.apart → S.view reader.new ≡ S.view reader.old }
+{
+    let first = peek(front, reader, "ignored-any", 1)?;
+    match start_of(first) {
+        Start::Bytes(count) => {
+            front.advance(reader, 1);
+            skip_bytes(front, reader, count as u64)?;
+            Ok(Behind::Nothing)
+        }
+        Start::Content => {
+            front.advance(reader, 1);
+            Ok(Behind::Bytes(argument(front, reader, "ignored-any", first)?))
+        }
+        Start::Items => {
+            front.advance(reader, 1);
+            Ok(Behind::Items(argument(front, reader, "ignored-any", first)?))
+        }
+        Start::Members => {
+            front.advance(reader, 1);
+            Ok(Behind::Members(argument(front, reader, "ignored-any", first)?))
+        }
+        Start::Tag => {
+            front.advance(reader, 1);
+            argument(front, reader, "tag", first)?;
+            Ok(Behind::Items(1))
+        }
+        Start::Open => {
+            front.advance(reader, 1);
+            Ok(Behind::Open)
+        }
+        Start::OpenMembers => {
+            front.advance(reader, 1);
+            Ok(Behind::OpenMembers)
+        }
+        Start::Stays => Err(DecodeError::Mismatch {
+            name: "ignored-any",
+            found: first,
+        }),
+        Start::Taken => {
+            front.advance(reader, 1);
+            Err(DecodeError::Mismatch {
+                name: "ignored-any",
+                found: first,
+            })
+        }
+        Start::NoTag => {
+            front.advance(reader, 1);
+            Err(DecodeError::Mismatch {
+                name: "tag",
+                found: first,
+            })
+        }
+        Start::Unsupported => Err(DecodeError::Unsupported {
+            name: "ignored-any",
+            found: first,
+        }),
+    }
+}
+
+/// Takes a break and answers true, or takes nothing and answers false where another byte comes
+/// next.
+fn is_break<S: Source, F: Front<S>>(
+    front: &mut F,
+    reader: &mut S,
+) -> Result<bool, DecodeError<S::Error>>
+    ensures runs { Runs break_at
+        (F.view front.old reader.old) (F.view front.new reader.new) result }
+    ensures sound { IfOk result
+        (Sound ReadsBreak (F.view front.old reader.old) (F.view front.new reader.new)) }
+    ensures stops { IfErr result
+        (Stops StopsBreak (F.view front.old reader.old) (F.view front.new reader.new)) }
+    ensures stays { IsTrue F.apart → S.view reader.new ≡ S.view reader.old }
+{
+    at_break(front, reader)
+}
+
+/// As `is_break`, by what a program does.
+fn at_break<S: Source, F: Front<S>>(
+    front: &mut F,
+    reader: &mut S,
+) -> Result<bool, DecodeError<S::Error>>
+    ensures runs { Runs break_at
+        (F.view front.old reader.old) (F.view front.new reader.new) result }
+    ensures stays { IsTrue F.apart → S.view reader.new ≡ S.view reader.old }
+{
+    let byte = peek(front, reader, "break", 1)?;
+    if byte == marker::BREAK {
+        front.advance(reader, 1);
+        return Ok(true);
+    }
+    Ok(false)
+}
+
+/// The next byte, which stays. Where there is none, `expect` bytes were expected.
+pub(crate) fn peek<S: Source, F: Front<S>>(
+    front: &mut F,
+    reader: &mut S,
+    name: StaticStr,
+    expect: u16,
+) -> Result<u8, DecodeError<S::Error>>
+    ensures runs { Runs (peek_at name.now expect)
+        (F.view front.old reader.old) (F.view front.new reader.new) result }
+    ensures byte { IfOk result (λ b. b < 256) }
+    ensures can { OnOk result (1 ≤ (F.view front.new reader.new).advanceable) }
+    ensures stays { IsTrue F.apart → S.view reader.new ≡ S.view reader.old }
+{
+    match front.peek(reader) {
+        Ok(Some(byte)) => Ok(byte),
+        Ok(None) => Err(DecodeError::Eof {
+            name,
+            expect: Len::Small(expect),
+        }),
+        Err(error) => Err(DecodeError::Read(error)),
+    }
+}
+
+/// The next byte, taken. Where there is none, `expect` bytes were expected.
+fn take<S: Source, F: Front<S>>(
+    front: &mut F,
+    reader: &mut S,
+    name: StaticStr,
+    expect: u16,
+) -> Result<u8, DecodeError<S::Error>>
+    ensures runs { Runs (byte_at name.now expect)
+        (F.view front.old reader.old) (F.view front.new reader.new) result }
+    ensures byte { IfOk result (λ b. b < 256) }
+    ensures stays { IsTrue F.apart → S.view reader.new ≡ S.view reader.old }
+{
+    let byte = peek(front, reader, name, expect)?;
+    front.advance(reader, 1);
+    Ok(byte)
+}
+
+/// So many bytes, most significant first.
+fn number<S: Source, F: Front<S>>(
+    front: &mut F,
+    reader: &mut S,
+    name: StaticStr,
+    bytes: u8,
+) -> Result<u128, DecodeError<S::Error>>
+    requires { bytes ≤ 16 }
+    ensures runs { Runs (number_on name.now bytes bytes 0)
+        (F.view front.old reader.old) (F.view front.new reader.new) result }
+    ensures fits { IfOk result (λ v. v < 256 ^ bytes) }
+    ensures stays { IsTrue F.apart → S.view reader.new ≡ S.view reader.old }
+{
+    let mut value = 0;
+    for i in 0..bytes {
+        let byte = take(front, reader, name, bytes as u16)?;
+        value = value * 256 + byte as u128;
+    }
+    Ok(value)
+}
+
+/// The argument of a head whose first byte, which was taken, is `first`.
+fn argument<S: Source, F: Front<S>>(
+    front: &mut F,
+    reader: &mut S,
+    name: StaticStr,
+    first: u8,
+) -> Result<u64, DecodeError<S::Error>>
+    ensures does { (w : Width) → info_of (first % 32) ≡ wide w →
+        Does (ArgumentAt w first) (MissingAll name.now (byte_count w))
+        (F.view front.old reader.old) (F.view front.new reader.new) result }
+    ensures spares { Spares result }
+    ensures stays { IsTrue F.apart → S.view reader.new ≡ S.view reader.old }
+{
+    match parse_info(first % 32) {
+        Additional::Wide(0) => Ok((first % 32) as u64),
+        Additional::Wide(count) => Ok(number(front, reader, name, count)? as u64),
+        _ => Ok(0),
+    }
+}
+
+/// Takes so many bytes.
+pub(crate) fn skip_bytes<S: Source, F: Front<S>>(
+    front: &mut F,
+    reader: &mut S,
+    count: u64,
+) -> Result<(), DecodeError<S::Error>>
+    ensures does { Does (λ xs _ ys. DropsBytes count xs ys) (Missing (codes "ignored-any") count)
+        (F.view front.old reader.old) (F.view front.new reader.new) result }
+    ensures spares { Spares result }
+    ensures stays { IsTrue F.apart → S.view reader.new ≡ S.view reader.old }
+{
+    let mut missing = count as usize;
+    while missing > 0 {
+        missing -= skip_shown(front, reader, missing)?;
+    }
+    Ok(())
+}
+
+/// Takes the bytes that are shown, at most so many.
+fn skip_shown<S: Source, F: Front<S>>(
+    front: &mut F,
+    reader: &mut S,
+    missing: usize,
+) -> Result<usize, DecodeError<S::Error>>
+    requires { 1 ≤ missing }
+    ensures does { Does (DropsSome missing) (Missing (codes "ignored-any") missing)
+        (F.view front.old reader.old) (F.view front.new reader.new) result }
+    ensures spares { Spares result }
+    ensures some { IfOk result (λ n. (1 ≤ n) × (n ≤ missing)) }
+    ensures stays { IsTrue F.apart → S.view reader.new ≡ S.view reader.old }
+{
+    match front.ready(reader, missing) {
+        Ok(0) => Err(DecodeError::Eof {
+            name: "ignored-any",
+            expect: Len::new(missing),
+        }),
+        Ok(count) => {
+            front.advance(reader, count);
+            Ok(count)
+        }
+        Err(error) => Err(DecodeError::Read(error)),
+    }
+}
