@@ -4,7 +4,7 @@ use crate::refusal_texts::no_step;
 use crate::table::table;
 use cbor4ii_rw::slice_reader::SliceReader;
 use cbor4ii_tree::{IgnoredAny, RawValue, Value};
-use cbor4ii_trials::readers::Unlimited;
+use cbor4ii_trials::readers::TestReader;
 use cbor4ii_trials::rows::{Pair, Want, reads_by_each, reads_over};
 use std::alloc::{AllocError, Global};
 use std::test::Fail;
@@ -92,5 +92,5 @@ fn greatest_limit_and_none(rt: HostRuntime) -> Result<(), Fail> {
     let bytes = nested(alloc, 0x81, 1000, b"\x80\x00\xf6")?;
     let want = Ok(Pair(arrays(alloc, 1000)?, Pair(Value::Integer(0), Value::Null)));
     reads_by_each(alloc, bytes, usize::MAX, &want, b"")?;
-    reads_over(alloc, &mut Unlimited::new(bytes), bytes, &want, b"")
+    reads_over(alloc, &mut TestReader::unlimited(bytes), bytes, &want, b"")
 }

@@ -2,7 +2,7 @@
 use crate::literal::Literal;
 use cbor4ii_rw::slice_reader::SliceReader;
 use cbor4ii_tree::{IgnoredAny, Value};
-use cbor4ii_trials::readers::Unlimited;
+use cbor4ii_trials::readers::TestReader;
 use cbor4ii_trials::rows::{Want, ends_at_each_front, reads_over, reads_within};
 use std::alloc::Global;
 use std::test::Fail;
@@ -28,7 +28,7 @@ pub fn reads_item(
 /// the input.
 pub fn skips_item(alloc: Global, item: &'static [u8], limit: usize) -> Result<(), Fail> {
     reads_within(alloc, item, limit, &Ok(IgnoredAny), b"")?;
-    let mut unlimited = Unlimited::new(item);
+    let mut unlimited = TestReader::unlimited(item);
     reads_over(alloc, &mut unlimited, item, &Ok(IgnoredAny), b"")?;
     ends_at_each_front::<IgnoredAny>(alloc, item, limit)
 }

@@ -7,29 +7,39 @@ use cbor4ii_items::decode::Decode;
 use cbor4ii_rw::error::{DecodeError, Never};
 use cbor4ii_rw::slice_reader::SliceReader;
 use cbor4ii_tree::Value;
-use cbor4ii_trials::readers::ShortByByte;
+use cbor4ii_trials::readers::TestReader;
 use cbor4ii_trials::rows::steps;
 use std::alloc::Global;
+use std::fmt::{Debug, InlineText};
 use std::test::Fail;
+
+// The value, or the text of the refusal.
+fn told<E: Debug + Drop>(got: Result<Value, DecodeError<E>>) -> Result<Value, InlineText<128>> {
+    match got {
+        Ok(value) => Ok(value),
+        Err(error) => Err(InlineText::of(error)),
+    }
+}
 
 // All the bytes as one value, from a slice or one at a time.
 fn decoded(alloc: Global, bytes: &[u8], is_by_byte: bool) -> Result<Value, Fail> {
     let mut slice = SliceReader::new(bytes);
-    let mut short = ShortByByte::new(bytes, 256);
+    let mut short = TestReader::short(bytes, 256);
     let (got, rest, left) = if is_by_byte {
-        let got = Value::decode(alloc, &mut short);
+        let got = told(Value::decode(alloc, &mut short));
         (got, short.remaining(), steps(&mut short))
     } else {
-        let got = Value::decode(alloc, &mut slice);
+        let got = told(Value::decode(alloc, &mut slice));
         (got, slice.remaining(), steps(&mut slice))
     };
     let is_kept = left == 256 && bytes.ends_with(rest);
     match got {
         Ok(value) if is_kept && rest.is_empty() => Ok(value),
-        Err(DecodeError::OutOfMemory) if is_kept => {
+        Err(text) if is_kept && text.as_str() == "OutOfMemory" => {
             Err(Fail::from(DecodeError::<Never>::OutOfMemory))
         }
-        got => Err(Fail::new(format_args!("{left} steps, and {got:?}"))),
+        Ok(value) => Err(Fail::new(format_args!("{left} steps, and {value:?}"))),
+        Err(text) => Err(Fail::new(format_args!("{left} steps, and {}", text.as_str()))),
     }
 }
 

@@ -11,7 +11,7 @@ use cbor4ii_rw::slice_reader::SliceReader;
 use cbor4ii_tree::boxed_raw::take_boxed;
 use cbor4ii_tree::lend_raw::LendRaw;
 use cbor4ii_tree::{BoxedRawValue, RawValue, Value};
-use cbor4ii_trials::readers::{LongByByte, ShortByByte};
+use cbor4ii_trials::readers::TestReader;
 use cbor4ii_trials::rows::{ReadFrom, Want, lends, lends_short, reads_over, steps, writes_in};
 use std::alloc::Global;
 use std::marker::PhantomData;
@@ -128,7 +128,7 @@ fn short_bytes(rt: HostRuntime) -> Result<(), Fail> {
     lends_short::<Lent>(alloc, b"", Err(CUT_OFF), b"")?;
     lends_short::<Copied<Lent>>(alloc, b"", Err(CUT_OFF), b"")?;
     let want: Want<Lent> = Err(NOT_LENT);
-    let mut reader = ShortByByte::new(b"\x00", 0);
+    let mut reader = TestReader::short(b"\x00", 0);
     reads_over(alloc, &mut reader, b"\x00", &want, b"\x00")
 }
 
@@ -144,9 +144,9 @@ fn one_byte_at_a_time(rt: HostRuntime) -> Result<(), Fail> {
     let alloc = rt.alloc();
     for &(bytes, limit, want, rest) in BY_BYTE {
         let (lent, copied) = both(alloc, want)?;
-        let mut reader = LongByByte::new(bytes, limit);
+        let mut reader = TestReader::long(bytes, limit);
         reads_over(alloc, &mut reader, bytes, &lent, rest)?;
-        let mut reader = LongByByte::new(bytes, limit);
+        let mut reader = TestReader::long(bytes, limit);
         reads_over(alloc, &mut reader, bytes, &copied, rest)?;
     }
     Ok(())

@@ -7,7 +7,7 @@ use cbor4ii_rw::io_reader::IoReader;
 use cbor4ii_rw::segment_reader::SegmentReader;
 use cbor4ii_rw::slice_reader::SliceReader;
 use cbor4ii_tree::IgnoredAny;
-use cbor4ii_trials::readers::{Counting, LongByByte, ShortByByte, Unlimited};
+use cbor4ii_trials::readers::{Counting, TestReader};
 use cbor4ii_trials::rows::{Want, leaves, reads, reads_over};
 use std::alloc::Global;
 use std::test::Fail;
@@ -143,10 +143,10 @@ fn skips_many(
     rest: &[u8],
 ) -> Result<(), Fail> {
     reads_over(alloc, &mut SliceReader::new(bytes), bytes, want, rest)?;
-    reads_over(alloc, &mut ShortByByte::new(bytes, 256), bytes, want, rest)?;
-    reads_over(alloc, &mut LongByByte::new(bytes, 256), bytes, want, rest)?;
+    reads_over(alloc, &mut TestReader::short(bytes, 256), bytes, want, rest)?;
+    reads_over(alloc, &mut TestReader::long(bytes, 256), bytes, want, rest)?;
     reads_over(alloc, &mut IoReader::new(bytes), bytes, want, rest)?;
-    reads_over(alloc, &mut Unlimited::new(bytes), bytes, want, rest)?;
+    reads_over(alloc, &mut TestReader::unlimited(bytes), bytes, want, rest)?;
     for cut in [1, 2, 3, 4, 255, 256, 257, 258, 259, 260] {
         let (Some(front), Some(back)) = (bytes.get(..cut), bytes.get(cut..)) else {
             continue;

@@ -10,7 +10,7 @@ use cbor4ii_rw::segment_reader::SegmentReader;
 use cbor4ii_rw::slice_reader::SliceReader;
 use cbor4ii_tree::FloatBits::{F16, F32, F64};
 use cbor4ii_tree::{Canonical, NoMemory, Value};
-use cbor4ii_trials::readers::Unlimited;
+use cbor4ii_trials::readers::TestReader;
 use cbor4ii_trials::rows::{Pair, Want, ends_at_each_front, reads, reads_over, writes, writes_in};
 use cbor4ii_trials::writers::FailingWriter;
 use std::alloc::{AllocError, Global};
@@ -332,7 +332,13 @@ fn reads_and_writes(
     reads_item(alloc, item, 256, literal)?;
     let value = literal.to_value(alloc)?;
     writes(alloc, &value, written)?;
-    reads_over(alloc, &mut Unlimited::new(item), item, &Ok(value), b"")
+    reads_over(
+        alloc,
+        &mut TestReader::unlimited(item),
+        item,
+        &Ok(value),
+        b"",
+    )
 }
 
 // The item is the one spelling that is read as this value where no other is.

@@ -1,260 +1,112 @@
-//! Readers for tests: a decoder has to answer alike over each of them.
+//! Readers for tests: a decoder has to answer alike however its input is shown.
 ghost use Rattle.std.specs.Prelude.{◌≡◌, ◌<◌, None, Some, IsTrue, take, true, false};
 ghost use Rattle.std.proofs.Common.{rules};
-ghost use Rattle.cbor4ii_rw.specs.Reader.{StepsIn};
-ghost use Rattle.cbor4ii_trials.specs.Tells.{
-  short_view,
-  long_view,
-  unlimited_view,
-  failing_view,
-  counting_view,
-};
+ghost use Rattle.cbor4ii_rw.specs.Reader.{StepsIn, step_back};
+ghost use Rattle.cbor4ii_trials.specs.Tells.{test_view, counting_view};
 
 use cbor4ii_rw::error::Never;
 use cbor4ii_rw::read::{Read, Reference, Source};
-
-/// Shows one byte at a time, which does not outlive the fill.
-#[derive(Drop)]
-pub struct ShortByByte<'a> {
-    bytes: &'a [u8],
-    steps: usize,
-}
-
-/// Shows one byte at a time, which lives as long as the input.
-#[derive(Drop)]
-pub struct LongByByte<'a> {
-    bytes: &'a [u8],
-    steps: usize,
-}
-
-/// Shows all that is left, whatever is wanted, and lets items nest without a limit.
-#[derive(Drop)]
-pub struct Unlimited<'a> {
-    bytes: &'a [u8],
-}
-
-impl<'a> ShortByByte<'a> {
-    /// A reader over `bytes`, with `limit` steps.
-    pub fn new(bytes: &'a [u8], limit: usize) -> ShortByByte<'a>
-        ensures told { (short_view result).told ≡ Some bytes.now }
-        ensures budget { (short_view result).budget ≡ Some limit }
-    {
-        ShortByByte {
-            bytes,
-            steps: limit,
-        }
-    }
-
-    /// The bytes that are left.
-    pub fn remaining(&self) -> &'a [u8]
-        ensures { (short_view self.now).told ≡ Some result.now }
-    {
-        self.bytes
-    }
-}
-
-impl<'a> LongByByte<'a> {
-    /// A reader over `bytes`, with `limit` steps.
-    pub fn new(bytes: &'a [u8], limit: usize) -> LongByByte<'a>
-        ensures told { (long_view result).told ≡ Some bytes.now }
-        ensures budget { (long_view result).budget ≡ Some limit }
-    {
-        LongByByte {
-            bytes,
-            steps: limit,
-        }
-    }
-
-    /// The bytes that are left.
-    pub fn remaining(&self) -> &'a [u8]
-        ensures { (long_view self.now).told ≡ Some result.now }
-    {
-        self.bytes
-    }
-}
-
-impl<'a> Unlimited<'a> {
-    /// A reader over `bytes`.
-    pub fn new(bytes: &'a [u8]) -> Unlimited<'a>
-        ensures told { (unlimited_view result).told ≡ Some bytes.now }
-    {
-        Unlimited { bytes }
-    }
-
-    /// The bytes that are left.
-    pub fn remaining(&self) -> &'a [u8]
-        ensures { (unlimited_view self.now).told ≡ Some result.now }
-    {
-        self.bytes
-    }
-}
-
-/// Takes one of the steps, or answers false where none is left.
-fn take_step(steps: &mut usize) -> bool
-    ensures { StepsIn (Some steps.old) (Some steps.new) result }
-{
-    if *steps == 0 {
-        return false;
-    }
-    *steps -= 1;
-    true
-}
-
-impl Source for ShortByByte<'_> {
-    type Error = Never;
-
-    ghost view = { short_view };
-
-    fn show(&mut self, _want: usize) -> Result<&[u8], Never> {
-        Ok(&self.bytes[..self.bytes.len().min(1)])
-    }
-
-    fn advance(&mut self, n: usize) {
-        self.bytes = &self.bytes[n..];
-    }
-
-    fn step_in(&mut self) -> bool {
-        take_step(&mut self.steps)
-    }
-
-    fn step_out(&mut self) {
-        self.steps = self.steps.saturating_add(1);
-    }
-
-    ghost told_within_bound = { λ reader xs is. Prim.search rules };
-}
-
-impl<'de> Read<'de> for ShortByByte<'de> {
-    fn fill<'short>(&'short mut self, _want: usize) -> Result<Reference<'de, 'short>, Never> {
-        Ok(Reference::Short(&self.bytes[..self.bytes.len().min(1)]))
-    }
-}
-
-impl Source for LongByByte<'_> {
-    type Error = Never;
-
-    ghost view = { long_view };
-
-    fn show(&mut self, _want: usize) -> Result<&[u8], Never> {
-        Ok(&self.bytes[..self.bytes.len().min(1)])
-    }
-
-    fn advance(&mut self, n: usize) {
-        self.bytes = &self.bytes[n..];
-    }
-
-    fn step_in(&mut self) -> bool {
-        take_step(&mut self.steps)
-    }
-
-    fn step_out(&mut self) {
-        self.steps = self.steps.saturating_add(1);
-    }
-
-    ghost told_within_bound = { λ reader xs is. Prim.search rules };
-}
-
-impl<'de> Read<'de> for LongByByte<'de> {
-    fn fill<'short>(&'short mut self, _want: usize) -> Result<Reference<'de, 'short>, Never> {
-        Ok(Reference::Long(&self.bytes[..self.bytes.len().min(1)]))
-    }
-}
-
-impl Source for Unlimited<'_> {
-    type Error = Never;
-
-    ghost view = { unlimited_view };
-
-    fn show(&mut self, _want: usize) -> Result<&[u8], Never> {
-        Ok(self.bytes)
-    }
-
-    fn advance(&mut self, n: usize) {
-        self.bytes = &self.bytes[n..];
-    }
-
-    fn step_in(&mut self) -> bool {
-        true
-    }
-
-    fn step_out(&mut self) {}
-
-    ghost told_within_bound = { λ reader xs is. Prim.search rules };
-}
-
-impl<'de> Read<'de> for Unlimited<'de> {
-    fn fill<'short>(&'short mut self, _want: usize) -> Result<Reference<'de, 'short>, Never> {
-        Ok(Reference::Long(self.bytes))
-    }
-}
 
 /// That a test reader or a test writer failed, as it was told to.
 #[derive(Clone, Copy, Debug, PartialEq, Eq)]
 pub struct Failure;
 
-/// Fails at one show and goes on after it, so that a decoder which passes over a failure is found
-/// out.
+/// Shows one byte at a time or all that is left, which outlives the fill or does not, counts steps
+/// or lets items nest without a limit, and may fail at one show. It goes on after that, so that a
+/// decoder which passes over a failure is found out.
 #[derive(Drop)]
-pub struct FailingReader<'a> {
+pub struct TestReader<'a> {
     bytes: &'a [u8],
-    steps: usize,
+    // None where items may nest without a limit.
+    steps: Option<usize>,
     is_whole: bool,
+    is_long: bool,
     // How often it shows before it fails.
     shows: usize,
     failures: u64,
 }
 
-impl<'a> FailingReader<'a> {
-    /// A reader with `limit` steps that shows one byte at a time, which does not outlive the fill,
-    /// and so many times before it fails.
-    pub fn by_byte(bytes: &'a [u8], limit: usize, shows: usize) -> FailingReader<'a>
-        ensures told { (failing_view result).told ≡ Some bytes.now }
-        ensures budget { (failing_view result).budget ≡ Some limit }
-        ensures failures { (failing_view result).failures ≡ 0 }
+impl<'a> TestReader<'a> {
+    /// A reader with `limit` steps that shows one byte at a time, which does not outlive the fill.
+    pub fn short(bytes: &'a [u8], limit: usize) -> TestReader<'a>
+        ensures told { (test_view result).told ≡ Some bytes.now }
+        ensures budget { (test_view result).budget ≡ Some limit }
+        ensures failures { (test_view result).failures ≡ 0 }
     {
-        FailingReader {
+        TestReader::new(bytes, Some(limit), false, false)
+    }
+
+    /// A reader with `limit` steps that shows one byte at a time, which lives as long as the input.
+    pub fn long(bytes: &'a [u8], limit: usize) -> TestReader<'a>
+        ensures told { (test_view result).told ≡ Some bytes.now }
+        ensures budget { (test_view result).budget ≡ Some limit }
+        ensures failures { (test_view result).failures ≡ 0 }
+    {
+        TestReader::new(bytes, Some(limit), false, true)
+    }
+
+    /// A reader with `limit` steps that shows all that is left, whatever is wanted, which lives as
+    /// long as the input.
+    pub fn whole(bytes: &'a [u8], limit: usize) -> TestReader<'a>
+        ensures told { (test_view result).told ≡ Some bytes.now }
+        ensures budget { (test_view result).budget ≡ Some limit }
+        ensures failures { (test_view result).failures ≡ 0 }
+        ensures whole { IsTrue (test_view result).lends_whole }
+    {
+        TestReader::new(bytes, Some(limit), true, true)
+    }
+
+    /// As `whole`, and lets items nest without a limit.
+    pub fn unlimited(bytes: &'a [u8]) -> TestReader<'a>
+        ensures told { (test_view result).told ≡ Some bytes.now }
+        ensures budget { (test_view result).budget ≡ None }
+        ensures failures { (test_view result).failures ≡ 0 }
+        ensures whole { IsTrue (test_view result).lends_whole }
+    {
+        TestReader::new(bytes, None, true, true)
+    }
+
+    /// A reader that fails at no show which comes.
+    fn new(bytes: &'a [u8], steps: Option<usize>, is_whole: bool, is_long: bool) -> TestReader<'a>
+        ensures told { (test_view result).told ≡ Some bytes.now }
+        ensures budget { (test_view result).budget ≡ steps }
+        ensures failures { (test_view result).failures ≡ 0 }
+        ensures whole { IsTrue is_long → (test_view result).lends_whole ≡ is_whole }
+    {
+        TestReader {
             bytes,
-            steps: limit,
-            is_whole: false,
-            shows,
+            steps,
+            is_whole,
+            is_long,
+            shows: usize::MAX,
             failures: 0,
         }
     }
 
-    /// A reader with `limit` steps that shows all that is left, which lives as long as the input,
-    /// and so many times before it fails.
-    pub fn whole(bytes: &'a [u8], limit: usize, shows: usize) -> FailingReader<'a>
-        ensures told { (failing_view result).told ≡ Some bytes.now }
-        ensures budget { (failing_view result).budget ≡ Some limit }
-        ensures failures { (failing_view result).failures ≡ 0 }
-        ensures whole { IsTrue (failing_view result).lends_whole }
+    /// The same reader, which shows so many times before it fails.
+    pub fn failing_after(self, shows: usize) -> TestReader<'a>
+        ensures { test_view result ≡ test_view self.entry }
     {
-        FailingReader {
-            bytes,
-            steps: limit,
-            is_whole: true,
-            shows,
-            failures: 0,
-        }
+        TestReader { shows, ..self }
     }
 
     /// The bytes that are left.
     pub fn remaining(&self) -> &'a [u8]
-        ensures { (failing_view self.now).told ≡ Some result.now }
+        ensures { (test_view self.now).told ≡ Some result.now }
     {
         self.bytes
     }
 
     /// How often it failed: once at most.
     pub fn failures(&self) -> u64
-        ensures { (failing_view self.now).failures ≡ result }
+        ensures { (test_view self.now).failures ≡ result }
     {
         self.failures
     }
 
-    /// The steps that are left.
-    pub fn steps(&self) -> usize
-        ensures { (failing_view self.now).budget ≡ Some result }
+    /// The steps that are left, or none where items may nest without a limit.
+    pub fn steps(&self) -> Option<usize>
+        ensures { (test_view self.now).budget ≡ result }
     {
         self.steps
     }
@@ -264,6 +116,7 @@ impl<'a> FailingReader<'a> {
         ensures bytes { self.new.bytes.now ≡ self.old.bytes.now }
         ensures steps { self.new.steps ≡ self.old.steps }
         ensures whole { self.new.is_whole ≡ self.old.is_whole }
+        ensures long { self.new.is_long ≡ self.old.is_long }
         ensures counted { IsTrue result → self.old.failures < self.new.failures }
         ensures others { result ≡ false → self.new.failures ≡ self.old.failures }
     {
@@ -287,10 +140,33 @@ impl<'a> FailingReader<'a> {
     }
 }
 
-impl Source for FailingReader<'_> {
+/// Takes one of the steps, or answers false where none is left.
+fn take_step(steps: &mut Option<usize>) -> bool
+    ensures { StepsIn steps.old steps.new result }
+{
+    match *steps {
+        None => true,
+        Some(0) => false,
+        Some(left) => {
+            *steps = Some(left - 1);
+            true
+        }
+    }
+}
+
+/// Gives one step back. usize's greatest number stays.
+fn give_step(steps: &mut Option<usize>)
+    ensures { steps.new ≡ step_back steps.old }
+{
+    if let Some(left) = *steps {
+        *steps = Some(left.saturating_add(1));
+    }
+}
+
+impl Source for TestReader<'_> {
     type Error = Failure;
 
-    ghost view = { failing_view };
+    ghost view = { test_view };
 
     fn show(&mut self, _want: usize) -> Result<&[u8], Failure> {
         if self.fails() {
@@ -308,18 +184,18 @@ impl Source for FailingReader<'_> {
     }
 
     fn step_out(&mut self) {
-        self.steps = self.steps.saturating_add(1);
+        give_step(&mut self.steps);
     }
 
     ghost told_within_bound = { λ reader xs is. Prim.search rules };
 }
 
-impl<'de> Read<'de> for FailingReader<'de> {
+impl<'de> Read<'de> for TestReader<'de> {
     fn fill<'short>(&'short mut self, _want: usize) -> Result<Reference<'de, 'short>, Failure> {
         if self.fails() {
             return Err(Failure);
         }
-        if self.is_whole {
+        if self.is_long {
             return Ok(Reference::Long(self.front()));
         }
         Ok(Reference::Short(self.front()))

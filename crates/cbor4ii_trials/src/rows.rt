@@ -2,7 +2,7 @@
 //!
 //! What a row finds wrong is the failure of the test that tries it, and says of which bytes. Where
 //! memory is refused, the row says nothing, and that refusal is the test's failure.
-use crate::readers::{FailingReader, Failure, LongByByte, Unlimited};
+use crate::readers::{Failure, TestReader};
 use crate::streams::{FailingSink, FailingStream};
 use crate::writers::{FailingWriter, PushLengths};
 use cbor4ii_items::decode::{Decode, Spelled};
@@ -23,6 +23,13 @@ use std::test::Fail;
 
 /// What a row's bytes are read as: a value, or the text of the refusal.
 pub type Want<T> = Result<T, &'static str>;
+
+/// A row: bytes, what they are read as, and what is left of them.
+pub type Row<T> = (&'static [u8], Want<T>, &'static [u8]);
+
+/// A row within a limit: bytes, how many steps there are, what the bytes are read as, and what is
+/// left of them.
+pub type RowWithin<T> = (&'static [u8], usize, Want<T>, &'static [u8]);
 
 // The steps of a reader that is given no other limit.
 const STEPS: usize = 256;
@@ -52,24 +59,77 @@ impl<S: Source, A: ReadFrom<S> + Drop, B: ReadFrom<S>> ReadFrom<S> for Pair<A, B
     }
 }
 
-/// Reads the row's bytes over each reader: the same answer, and the same bytes left.
-pub fn reads<T>(alloc: Global, bytes: &'static [u8], want: Want<T>, rest: &[u8]) -> Result<(), Fail>
+/// Reads the bytes of each row over each reader: the same answer, and the same bytes left.
+///
+/// A type costs its test's proof some seconds at each call, so a test gives its rows of one type
+/// together.
+pub fn reads_rows<T>(alloc: Global, rows: &[Row<T>]) -> Result<(), Fail>
 where
     T: ReadFrom<SliceReader<'static>>
         + ReadFrom<SegmentReader<'static>>
-        + ReadFrom<LongByByte<'static>>
-        + ReadFrom<FailingReader<'static>>
+        + ReadFrom<TestReader<'static>>
         + ReadFrom<IoReader<FailingStream<'static>>>
-        + ReadFrom<Unlimited<'static>>
         + PartialEq
         + Debug
         + Drop,
 {
-    reads_within(alloc, bytes, STEPS, &want, rest)?;
-    reads_over(alloc, &mut Unlimited::new(bytes), bytes, &want, rest)
+    for (bytes, want, rest) in rows {
+        reads_row(alloc, bytes, want, rest)?;
+    }
+    Ok(())
 }
 
-/// As `reads`, over each reader that counts its steps, with so many of them.
+/// As `reads_rows`, for one row.
+pub fn reads<T>(alloc: Global, bytes: &'static [u8], want: Want<T>, rest: &[u8]) -> Result<(), Fail>
+where
+    T: ReadFrom<SliceReader<'static>>
+        + ReadFrom<SegmentReader<'static>>
+        + ReadFrom<TestReader<'static>>
+        + ReadFrom<IoReader<FailingStream<'static>>>
+        + PartialEq
+        + Debug
+        + Drop,
+{
+    reads_row(alloc, bytes, &want, rest)
+}
+
+fn reads_row<T>(
+    alloc: Global,
+    bytes: &'static [u8],
+    want: &Want<T>,
+    rest: &[u8],
+) -> Result<(), Fail>
+where
+    T: ReadFrom<SliceReader<'static>>
+        + ReadFrom<SegmentReader<'static>>
+        + ReadFrom<TestReader<'static>>
+        + ReadFrom<IoReader<FailingStream<'static>>>
+        + PartialEq
+        + Debug
+        + Drop,
+{
+    reads_within(alloc, bytes, STEPS, want, rest)?;
+    reads_over(alloc, &mut TestReader::unlimited(bytes), bytes, want, rest)
+}
+
+/// As `reads_rows`, over each reader that counts its steps, with so many of them.
+pub fn reads_rows_within<T>(alloc: Global, rows: &[RowWithin<T>]) -> Result<(), Fail>
+where
+    T: ReadFrom<SliceReader<'static>>
+        + ReadFrom<SegmentReader<'static>>
+        + ReadFrom<TestReader<'static>>
+        + ReadFrom<IoReader<FailingStream<'static>>>
+        + PartialEq
+        + Debug
+        + Drop,
+{
+    for (bytes, limit, want, rest) in rows {
+        reads_within(alloc, bytes, *limit, want, rest)?;
+    }
+    Ok(())
+}
+
+/// As `reads_rows_within`, for one row.
 pub fn reads_within<T>(
     alloc: Global,
     bytes: &'static [u8],
@@ -80,8 +140,7 @@ pub fn reads_within<T>(
 where
     T: ReadFrom<SliceReader<'static>>
         + ReadFrom<SegmentReader<'static>>
-        + ReadFrom<LongByByte<'static>>
-        + ReadFrom<FailingReader<'static>>
+        + ReadFrom<TestReader<'static>>
         + ReadFrom<IoReader<FailingStream<'static>>>
         + PartialEq
         + Debug
@@ -103,8 +162,7 @@ pub fn reads_by_each<T>(
 ) -> Result<(), Fail>
 where
     T: ReadFrom<SliceReader<'static>>
-        + ReadFrom<LongByByte<'static>>
-        + ReadFrom<FailingReader<'static>>
+        + ReadFrom<TestReader<'static>>
         + ReadFrom<IoReader<FailingStream<'static>>>
         + PartialEq
         + Debug
@@ -112,11 +170,11 @@ where
 {
     let mut slice = SliceReader::with_limit(bytes, limit);
     reads_over(alloc, &mut slice, bytes, want, rest)?;
-    let mut long = LongByByte::new(bytes, limit);
+    let mut long = TestReader::long(bytes, limit);
     reads_over(alloc, &mut long, bytes, want, rest)?;
-    let mut short = FailingReader::by_byte(bytes, limit, usize::MAX);
+    let mut short = TestReader::short(bytes, limit);
     reads_over(alloc, &mut short, bytes, want, rest)?;
-    let mut whole = FailingReader::whole(bytes, limit, usize::MAX);
+    let mut whole = TestReader::whole(bytes, limit);
     reads_over(alloc, &mut whole, bytes, want, rest)?;
     reads_of_streams(alloc, bytes, limit, want, rest)
 }
@@ -163,20 +221,43 @@ where
     Ok(())
 }
 
-/// As `reads`, for a borrowed value over each reader that lends whole.
+/// As `reads_rows`, for borrowed values over each reader that lends whole.
+pub fn lends_rows<T>(alloc: Global, rows: &[Row<T>]) -> Result<(), Fail>
+where
+    T: ReadFrom<SliceReader<'static>> + ReadFrom<TestReader<'static>> + PartialEq + Debug + Drop,
+{
+    for (bytes, want, rest) in rows {
+        lends_row(alloc, bytes, want, rest)?;
+    }
+    Ok(())
+}
+
+/// As `lends_rows`, for one row.
 pub fn lends<T>(alloc: Global, bytes: &'static [u8], want: Want<T>, rest: &[u8]) -> Result<(), Fail>
 where
-    T: ReadFrom<SliceReader<'static>>
-        + ReadFrom<Unlimited<'static>>
-        + ReadFrom<FailingReader<'static>>
-        + PartialEq
-        + Debug
-        + Drop,
+    T: ReadFrom<SliceReader<'static>> + ReadFrom<TestReader<'static>> + PartialEq + Debug + Drop,
 {
-    reads_over(alloc, &mut SliceReader::new(bytes), bytes, &want, rest)?;
-    reads_over(alloc, &mut Unlimited::new(bytes), bytes, &want, rest)?;
-    let mut whole = FailingReader::whole(bytes, STEPS, usize::MAX);
-    reads_over(alloc, &mut whole, bytes, &want, rest)?;
+    lends_row(alloc, bytes, &want, rest)
+}
+
+fn lends_row<T>(
+    alloc: Global,
+    bytes: &'static [u8],
+    want: &Want<T>,
+    rest: &[u8],
+) -> Result<(), Fail>
+where
+    T: ReadFrom<SliceReader<'static>> + ReadFrom<TestReader<'static>> + PartialEq + Debug + Drop,
+{
+    reads_over(alloc, &mut SliceReader::new(bytes), bytes, want, rest)?;
+    reads_over(alloc, &mut TestReader::unlimited(bytes), bytes, want, rest)?;
+    reads_over(
+        alloc,
+        &mut TestReader::whole(bytes, STEPS),
+        bytes,
+        want,
+        rest,
+    )?;
     fails_at_each_show::<T>(alloc, bytes, STEPS)
 }
 
@@ -188,13 +269,13 @@ pub fn lends_short<T>(
     rest: &[u8],
 ) -> Result<(), Fail>
 where
-    T: ReadFrom<FailingReader<'static>>
+    T: ReadFrom<TestReader<'static>>
         + ReadFrom<IoReader<FailingStream<'static>>>
         + PartialEq
         + Debug
         + Drop,
 {
-    let mut short = FailingReader::by_byte(bytes, STEPS, usize::MAX);
+    let mut short = TestReader::short(bytes, STEPS);
     reads_over(alloc, &mut short, bytes, &want, rest)?;
     reads_of_streams(alloc, bytes, STEPS, &want, rest)
 }
@@ -226,8 +307,7 @@ where
 pub fn ends_at_each_front<T>(alloc: Global, item: &'static [u8], limit: usize) -> Result<(), Fail>
 where
     T: ReadFrom<SliceReader<'static>>
-        + ReadFrom<LongByByte<'static>>
-        + ReadFrom<FailingReader<'static>>
+        + ReadFrom<TestReader<'static>>
         + ReadFrom<IoReader<FailingStream<'static>>>
         + PartialEq
         + Debug
@@ -236,9 +316,8 @@ where
     for shown in 0..item.len() {
         let front = &item[..shown];
         ends::<T, _>(alloc, &mut SliceReader::with_limit(front, limit), front)?;
-        ends::<T, _>(alloc, &mut LongByByte::new(front, limit), front)?;
-        let mut short = FailingReader::by_byte(front, limit, usize::MAX);
-        ends::<T, _>(alloc, &mut short, front)?;
+        ends::<T, _>(alloc, &mut TestReader::long(front, limit), front)?;
+        ends::<T, _>(alloc, &mut TestReader::short(front, limit), front)?;
         for most in [1, usize::MAX] {
             let stream = FailingStream::new(front, most, usize::MAX);
             ends::<T, _>(alloc, &mut IoReader::with_limit(stream, limit), front)?;
@@ -321,7 +400,7 @@ pub fn steps<S: Source>(reader: &mut S) -> u16 {
 }
 
 // Readers that fail at the first show, at the second, and so on until none is left to fail.
-fn fails_at_each_show<T: ReadFrom<FailingReader<'static>> + Debug + Drop>(
+fn fails_at_each_show<T: ReadFrom<TestReader<'static>> + Debug + Drop>(
     alloc: Global,
     bytes: &'static [u8],
     limit: usize,
@@ -329,8 +408,10 @@ fn fails_at_each_show<T: ReadFrom<FailingReader<'static>> + Debug + Drop>(
     let mut by_byte = true;
     let mut whole = true;
     for shows in 0..MOST_CALLS {
-        by_byte = by_byte && fails::<T>(alloc, FailingReader::by_byte(bytes, limit, shows), bytes)?;
-        whole = whole && fails::<T>(alloc, FailingReader::whole(bytes, limit, shows), bytes)?;
+        let short = TestReader::short(bytes, limit).failing_after(shows);
+        by_byte = by_byte && fails::<T>(alloc, short, bytes)?;
+        let all = TestReader::whole(bytes, limit).failing_after(shows);
+        whole = whole && fails::<T>(alloc, all, bytes)?;
     }
     if by_byte || whole {
         return Err(Fail::new(format_args!("too many shows of {bytes:?}")));
@@ -340,9 +421,9 @@ fn fails_at_each_show<T: ReadFrom<FailingReader<'static>> + Debug + Drop>(
 
 // Whether the reader failed. Then the answer is its error. An end of the bytes is left, and the
 // budget is as before.
-fn fails<T: ReadFrom<FailingReader<'static>> + Debug + Drop>(
+fn fails<T: ReadFrom<TestReader<'static>> + Debug + Drop>(
     alloc: Global,
-    mut reader: FailingReader<'static>,
+    mut reader: TestReader<'static>,
     bytes: &[u8],
 ) -> Result<bool, Fail> {
     let limit = reader.steps();
@@ -489,10 +570,8 @@ where
     T: WriteTo
         + ReadFrom<SliceReader<'static>>
         + ReadFrom<SegmentReader<'static>>
-        + ReadFrom<LongByByte<'static>>
-        + ReadFrom<FailingReader<'static>>
+        + ReadFrom<TestReader<'static>>
         + ReadFrom<IoReader<FailingStream<'static>>>
-        + ReadFrom<Unlimited<'static>>
         + PartialEq
         + Debug
         + Drop,

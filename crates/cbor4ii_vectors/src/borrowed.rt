@@ -1,65 +1,72 @@
 //! Rows of strings that are borrowed from the input, and of what holds them.
 use cbor4ii_items::types::{Bytes, Map, Maybe, Tag, UncheckedStr};
-use cbor4ii_trials::readers::LongByByte;
-use cbor4ii_trials::rows::{Want, lends, lends_short, reads, reads_over, reads_within};
+use cbor4ii_trials::readers::TestReader;
+use cbor4ii_trials::rows::{
+    Row, Want, lends, lends_rows, lends_short, reads, reads_over, reads_rows, reads_within,
+};
 use std::test::Fail;
 
-const REFUSED_BORROWED_TEXTS: &[(&[u8], &str, &[u8])] = &[
-    (b"", "Eof { name: \"str\", expect: Small(1) }", b""),
-    (b"\x78", "Eof { name: \"str\", expect: Small(1) }", b""),
-    (b"\x41a", "Mismatch { name: \"str\", found: 65 }", b"a"),
+const REFUSED_BORROWED_TEXTS: &[Row<&str>] = &[
+    (b"", Err("Eof { name: \"str\", expect: Small(1) }"), b""),
+    (b"\x78", Err("Eof { name: \"str\", expect: Small(1) }"), b""),
+    (b"\x41a", Err("Mismatch { name: \"str\", found: 65 }"), b"a"),
     (
         b"\x7f\xff",
-        "Mismatch { name: \"str\", found: 127 }",
+        Err("Mismatch { name: \"str\", found: 127 }"),
         b"\xff",
     ),
     (
         b"\x61",
-        "RequireLength { name: \"str\", found: Small(0) }",
+        Err("RequireLength { name: \"str\", found: Small(0) }"),
         b"",
     ),
     (
         b"\x63ab",
-        "RequireLength { name: \"str\", found: Small(2) }",
+        Err("RequireLength { name: \"str\", found: Small(2) }"),
         b"ab",
     ),
     (
         b"\x62\xff\xff\x01",
-        "RequireUtf8 { name: \"str\" }",
+        Err("RequireUtf8 { name: \"str\" }"),
         b"\x01",
     ),
-    (b"\x63\xed\xa0\x80", "RequireUtf8 { name: \"str\" }", b""),
+    (
+        b"\x63\xed\xa0\x80",
+        Err("RequireUtf8 { name: \"str\" }"),
+        b"",
+    ),
 ];
 
-#[test]
-fn refused_borrowed_texts(rt: HostRuntime) -> Result<(), Fail> {
-    let alloc = rt.alloc();
-    for &(bytes, refusal, rest) in REFUSED_BORROWED_TEXTS {
-        lends::<&str>(alloc, bytes, Err(refusal), rest)?;
-    }
-    lends::<Bytes<&[u8]>>(
-        alloc,
+const REFUSED_BORROWED_BYTES: &[Row<Bytes<&[u8]>>] = &[
+    (
         b"\x5f\xff",
         Err("Mismatch { name: \"bytes\", found: 95 }"),
         b"\xff",
-    )?;
-    lends::<Bytes<&[u8]>>(
-        alloc,
+    ),
+    (
         b"\x42\x01",
         Err("RequireLength { name: \"bytes\", found: Small(1) }"),
         b"\x01",
-    )?;
-    lends::<UncheckedStr<&[u8]>>(
-        alloc,
-        b"\x7f\xff",
-        Err("Mismatch { name: \"str\", found: 127 }"),
-        b"\xff",
-    )
+    ),
+];
+
+const REFUSED_BORROWED_UNCHECKED: &[Row<UncheckedStr<&[u8]>>] = &[(
+    b"\x7f\xff",
+    Err("Mismatch { name: \"str\", found: 127 }"),
+    b"\xff",
+)];
+
+#[test]
+fn refused_borrowed_strings(rt: HostRuntime) -> Result<(), Fail> {
+    let alloc = rt.alloc();
+    lends_rows(alloc, REFUSED_BORROWED_TEXTS)?;
+    lends_rows(alloc, REFUSED_BORROWED_BYTES)?;
+    lends_rows(alloc, REFUSED_BORROWED_UNCHECKED)
 }
 
 const ONE: &str = "RequireLength { name: \"str\", found: Small(1) }";
 
-const BY_BYTE: &[(&[u8], Want<&str>, &[u8])] = &[
+const BY_BYTE: &[Row<&str>] = &[
     (b"\x60", Ok(""), b""),
     (b"\x61a\x01", Ok("a"), b"\x01"),
     (b"\x62aa", Err(ONE), b"aa"),
@@ -75,10 +82,10 @@ const BY_BYTE: &[(&[u8], Want<&str>, &[u8])] = &[
 fn borrowed_byte_by_byte(rt: HostRuntime) -> Result<(), Fail> {
     let alloc = rt.alloc();
     for &(bytes, want, rest) in BY_BYTE {
-        let mut reader = LongByByte::new(bytes, 256);
+        let mut reader = TestReader::long(bytes, 256);
         reads_over(alloc, &mut reader, bytes, &want, rest)?;
     }
-    let mut reader = LongByByte::new(b"\x42\x01\x02", 256);
+    let mut reader = TestReader::long(b"\x42\x01\x02", 256);
     reads_over::<Bytes<&[u8]>, _>(
         alloc,
         &mut reader,
@@ -153,11 +160,15 @@ const REFUSED_BEFORE_A_BORROWED_PART_MAPS: &[(&[u8], &str, &[u8])] = &[
     ),
 ];
 
-const REFUSED_BEFORE_A_BORROWED_PART_TAGS: &[(&[u8], &str, &[u8])] = &[
-    (b"", "Eof { name: \"tag\", expect: Small(1) }", b""),
-    (b"\xd8", "Eof { name: \"tag\", expect: Small(1) }", b""),
-    (b"\x00\x01", "Mismatch { name: \"tag\", found: 0 }", b"\x01"),
-    (b"\xc1", "Eof { name: \"str\", expect: Small(1) }", b""),
+const REFUSED_BEFORE_A_BORROWED_PART_TAGS: &[Row<Tag<&str>>] = &[
+    (b"", Err("Eof { name: \"tag\", expect: Small(1) }"), b""),
+    (b"\xd8", Err("Eof { name: \"tag\", expect: Small(1) }"), b""),
+    (
+        b"\x00\x01",
+        Err("Mismatch { name: \"tag\", found: 0 }"),
+        b"\x01",
+    ),
+    (b"\xc1", Err("Eof { name: \"str\", expect: Small(1) }"), b""),
 ];
 
 // Before a first part comes, what holds borrowed parts is refused alike over every reader.
@@ -170,47 +181,43 @@ fn refused_before_a_borrowed_part(rt: HostRuntime) -> Result<(), Fail> {
     for &(bytes, refusal, rest) in REFUSED_BEFORE_A_BORROWED_PART_MAPS {
         reads::<Map<Vec<(u8, &str)>>>(alloc, bytes, Err(refusal), rest)?;
     }
-    for &(bytes, refusal, rest) in REFUSED_BEFORE_A_BORROWED_PART_TAGS {
-        reads::<Tag<&str>>(alloc, bytes, Err(refusal), rest)?;
-    }
+    reads_rows(alloc, REFUSED_BEFORE_A_BORROWED_PART_TAGS)?;
     let none = "Eof { name: \"option\", expect: Small(1) }";
     reads::<Option<&str>>(alloc, b"", Err(none), b"")
 }
 
-const REFUSED_BEFORE_A_BORROWED_OPTIONAL_ITEM: &[(&[u8], &str, &[u8])] = &[
-    (b"", "Eof { name: \"array\", expect: Small(1) }", b""),
+const BEFORE_A_BORROWED_OPTIONAL_ITEM: &[Row<Maybe<Option<&str>>>] = &[
+    (b"\x80\x00", Ok(Maybe(None)), b"\x00"),
+    (b"", Err("Eof { name: \"array\", expect: Small(1) }"), b""),
     (
         b"\xf6\x80",
-        "Mismatch { name: \"array\", found: 246 }",
+        Err("Mismatch { name: \"array\", found: 246 }"),
         b"\x80",
     ),
     (
         b"\x82\x60\x60",
-        "RequireLength { name: \"maybe\", found: Small(2) }",
+        Err("RequireLength { name: \"maybe\", found: Small(2) }"),
         b"\x60\x60",
     ),
     (
         b"\x9f\x60\xff",
-        "RequireLength { name: \"maybe\", found: Indefinite }",
+        Err("RequireLength { name: \"maybe\", found: Indefinite }"),
         b"\x60\xff",
     ),
 ];
 
 #[test]
-fn refused_before_a_borrowed_optional_item(rt: HostRuntime) -> Result<(), Fail> {
-    let alloc = rt.alloc();
-    for &(bytes, refusal, rest) in REFUSED_BEFORE_A_BORROWED_OPTIONAL_ITEM {
-        reads::<Maybe<Option<&str>>>(alloc, bytes, Err(refusal), rest)?;
-    }
-    reads::<Maybe<Option<&str>>>(alloc, b"\x80\x00", Ok(Maybe(None)), b"\x00")
+fn before_a_borrowed_optional_item(rt: HostRuntime) -> Result<(), Fail> {
+    reads_rows(rt.alloc(), BEFORE_A_BORROWED_OPTIONAL_ITEM)
 }
 
 #[test]
 fn a_step_before_borrowed_parts(rt: HostRuntime) -> Result<(), Fail> {
     let alloc = rt.alloc();
     let no_step = "DepthOverflow { name: \"array\" }";
-    reads_within::<Vec<&str>>(alloc, b"\x80", 0, &Err(no_step), b"\x80")?;
-    reads_within::<Vec<&str>>(alloc, b"", 0, &Err(no_step), b"")?;
+    for bytes in [b"\x80".as_slice(), b""] {
+        reads_within::<Vec<&str>>(alloc, bytes, 0, &Err(no_step), bytes)?;
+    }
     reads_within::<Vec<Vec<&str>>>(alloc, b"\x9f\x80", 1, &Err(no_step), b"\x80")?;
     let no_step = "DepthOverflow { name: \"map\" }";
     reads_within::<Map<Vec<(&str, u8)>>>(alloc, b"\xa0", 0, &Err(no_step), b"\xa0")
@@ -242,9 +249,9 @@ fn borrowed_parts_byte_by_byte(rt: HostRuntime) -> Result<(), Fail> {
     let alloc = rt.alloc();
     let bytes = b"\x82\x60\x61a";
     let texts: Want<Vec<&str>> = Ok(vec![in alloc; "", "a"]?);
-    reads_over(alloc, &mut LongByByte::new(bytes, 1), bytes, &texts, b"")?;
+    reads_over(alloc, &mut TestReader::long(bytes, 1), bytes, &texts, b"")?;
     let bytes = b"\x82\x61a\x62bc";
     let part = "RequireLength { name: \"str\", found: Small(1) }";
     let cut: Want<Vec<&str>> = Err(part);
-    reads_over(alloc, &mut LongByByte::new(bytes, 1), bytes, &cut, b"bc")
+    reads_over(alloc, &mut TestReader::long(bytes, 1), bytes, &cut, b"bc")
 }

@@ -3,7 +3,7 @@ use cbor4ii_items::canonical::{canonical_buf, canonical_head};
 use cbor4ii_items::initial::peek;
 use cbor4ii_rw::error::DecodeError;
 use cbor4ii_rw::read::Source;
-use cbor4ii_trials::rows::{ReadFrom, reads};
+use cbor4ii_trials::rows::{ReadFrom, Row, reads, reads_rows};
 use std::alloc::Global;
 use std::test::Fail;
 
@@ -11,7 +11,7 @@ use std::test::Fail;
 const OTHER: &str = "NotCanonical { name: \"canonical\" }";
 
 // A shortest head of the major type that the first byte says; before one of major type 7, of a tag.
-#[derive(Debug, PartialEq, Drop)]
+#[derive(Clone, Copy, Debug, PartialEq)]
 struct Shortest(u64);
 
 impl<S: Source> ReadFrom<S> for Shortest {
@@ -21,61 +21,55 @@ impl<S: Source> ReadFrom<S> for Shortest {
     }
 }
 
-const ACCEPTED: &[(&[u8], u64, &[u8])] = &[
-    (b"\x18\x18", 24, b""),
-    (b"\x17\x00", 23, b"\x00"),
-    (b"\x38\xff", 255, b""),
-    (b"\x59\x01\x00", 256, b""),
-    (b"\x79\xff\xff", 65535, b""),
-    (b"\x9a\x00\x01\x00\x00", 65536, b""),
-    (b"\xba\xff\xff\xff\xff", 4294967295, b""),
-    (b"\xdb\x00\x00\x00\x01\x00\x00\x00\x00", 4294967296, b""),
-];
-
-const REFUSED: &[(&[u8], &str, &[u8])] = &[
-    (b"\x18\x17\x00", OTHER, b"\x00"),
-    (b"\x58\x01", OTHER, b""),
-    (b"\x99\x00\xff", OTHER, b""),
-    (b"\xba\x00\x00\xff\xff", OTHER, b""),
-    (b"\xdb\x00\x00\x00\x00\xff\xff\xff\xff", OTHER, b""),
-    (b"\x5f\x40", OTHER, b"\x40"),
-    (b"\x7f", OTHER, b""),
-    (b"\x9f\xff", OTHER, b"\xff"),
-    (b"\xbf", OTHER, b""),
-    (b"\x1f", "Mismatch { name: \"head\", found: 31 }", b""),
+const SHORTEST_HEADS: &[Row<Shortest>] = &[
+    (b"\x18\x18", Ok(Shortest(24)), b""),
+    (b"\x17\x00", Ok(Shortest(23)), b"\x00"),
+    (b"\x38\xff", Ok(Shortest(255)), b""),
+    (b"\x59\x01\x00", Ok(Shortest(256)), b""),
+    (b"\x79\xff\xff", Ok(Shortest(65535)), b""),
+    (b"\x9a\x00\x01\x00\x00", Ok(Shortest(65536)), b""),
+    (b"\xba\xff\xff\xff\xff", Ok(Shortest(4294967295)), b""),
+    (
+        b"\xdb\x00\x00\x00\x01\x00\x00\x00\x00",
+        Ok(Shortest(4294967296)),
+        b"",
+    ),
+    (b"\x18\x17\x00", Err(OTHER), b"\x00"),
+    (b"\x58\x01", Err(OTHER), b""),
+    (b"\x99\x00\xff", Err(OTHER), b""),
+    (b"\xba\x00\x00\xff\xff", Err(OTHER), b""),
+    (b"\xdb\x00\x00\x00\x00\xff\xff\xff\xff", Err(OTHER), b""),
+    (b"\x5f\x40", Err(OTHER), b"\x40"),
+    (b"\x7f", Err(OTHER), b""),
+    (b"\x9f\xff", Err(OTHER), b"\xff"),
+    (b"\xbf", Err(OTHER), b""),
+    (b"\x1f", Err("Mismatch { name: \"head\", found: 31 }"), b""),
     (
         b"\xdf\x00",
-        "Mismatch { name: \"head\", found: 223 }",
+        Err("Mismatch { name: \"head\", found: 223 }"),
         b"\x00",
     ),
     (
         b"\x5c\x00",
-        "Mismatch { name: \"head\", found: 92 }",
+        Err("Mismatch { name: \"head\", found: 92 }"),
         b"\x00",
     ),
     (
         b"\xf4\x00",
-        "Mismatch { name: \"head\", found: 244 }",
+        Err("Mismatch { name: \"head\", found: 244 }"),
         b"\x00",
     ),
     (
         b"\x7a\x00\x00",
-        "Eof { name: \"head\", expect: Small(4) }",
+        Err("Eof { name: \"head\", expect: Small(4) }"),
         b"",
     ),
-    (b"", "Eof { name: \"head\", expect: Small(1) }", b""),
+    (b"", Err("Eof { name: \"head\", expect: Small(1) }"), b""),
 ];
 
 #[test]
 fn shortest_heads(rt: HostRuntime) -> Result<(), Fail> {
-    let alloc = rt.alloc();
-    for (bytes, argument, rest) in ACCEPTED {
-        reads(alloc, bytes, Ok(Shortest(*argument)), rest)?;
-    }
-    for (bytes, refusal, rest) in REFUSED {
-        reads::<Shortest>(alloc, bytes, Err(refusal), rest)?;
-    }
-    Ok(())
+    reads_rows(rt.alloc(), SHORTEST_HEADS)
 }
 
 // A byte string behind a shortest head.
@@ -88,14 +82,27 @@ impl<S: Source> ReadFrom<S> for Content {
     }
 }
 
+const STRINGS_BEHIND_SHORTEST_HEADS: &[Row<&[u8]>] = &[
+    (b"\x42\x01\x02\x03", Ok(b"\x01\x02"), b"\x03"),
+    (b"\x40", Ok(b""), b""),
+    (
+        b"\x42\x01",
+        Err("Eof { name: \"bytes\", expect: Small(1) }"),
+        b"",
+    ),
+    (b"\x58\x01\x02", Err(OTHER), b"\x02"),
+    (b"\x5f\x40\xff", Err(OTHER), b"\x40\xff"),
+];
+
 #[test]
 fn strings_behind_shortest_heads(rt: HostRuntime) -> Result<(), Fail> {
     let alloc = rt.alloc();
-    let content = Content(Vec::from_slice(alloc, &[1, 2])?);
-    reads(alloc, b"\x42\x01\x02\x03", Ok(content), b"\x03")?;
-    reads(alloc, b"\x40", Ok(Content(Vec::new(alloc))), b"")?;
-    let missing = "Eof { name: \"bytes\", expect: Small(1) }";
-    reads::<Content>(alloc, b"\x42\x01", Err(missing), b"")?;
-    reads::<Content>(alloc, b"\x58\x01\x02", Err(OTHER), b"\x02")?;
-    reads::<Content>(alloc, b"\x5f\x40\xff", Err(OTHER), b"\x40\xff")
+    for &(bytes, want, rest) in STRINGS_BEHIND_SHORTEST_HEADS {
+        let want = match want {
+            Ok(content) => Ok(Content(content.to_vec(alloc)?)),
+            Err(refusal) => Err(refusal),
+        };
+        reads(alloc, bytes, want, rest)?;
+    }
+    Ok(())
 }

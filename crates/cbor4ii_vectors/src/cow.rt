@@ -5,7 +5,7 @@ use cbor4ii_rw::error::{DecodeError, Never};
 use cbor4ii_rw::io_reader::IoReader;
 use cbor4ii_rw::read::Read;
 use cbor4ii_rw::slice_reader::SliceReader;
-use cbor4ii_trials::readers::{FailingReader, LongByByte, Unlimited};
+use cbor4ii_trials::readers::TestReader;
 use cbor4ii_trials::rows::{leaves, reads, steps};
 use cbor4ii_trials::streams::FailingStream;
 use std::alloc::Global;
@@ -84,7 +84,7 @@ fn decodes_short(
     want: Result<(&[u8], bool), &str>,
     rest: &[u8],
 ) -> Result<(), Fail> {
-    let mut short = FailingReader::by_byte(bytes, 1, usize::MAX);
+    let mut short = TestReader::short(bytes, 1);
     decodes(kind, alloc, &mut short, bytes, want, rest)?;
     for most in [1, usize::MAX] {
         let mut stream = IoReader::new(FailingStream::new(bytes, most, usize::MAX));
@@ -102,8 +102,15 @@ fn decodes_whole(
     rest: &[u8],
 ) -> Result<(), Fail> {
     decodes(kind, alloc, &mut SliceReader::new(bytes), bytes, want, rest)?;
-    decodes(kind, alloc, &mut Unlimited::new(bytes), bytes, want, rest)?;
-    let mut whole = FailingReader::whole(bytes, 1, usize::MAX);
+    decodes(
+        kind,
+        alloc,
+        &mut TestReader::unlimited(bytes),
+        bytes,
+        want,
+        rest,
+    )?;
+    let mut whole = TestReader::whole(bytes, 1);
     decodes(kind, alloc, &mut whole, bytes, want, rest)
 }
 
@@ -111,10 +118,10 @@ fn decodes_whole(
 // of the bytes is left, and the steps are as before.
 fn fails_at_each_show(kind: Kind, alloc: Global, bytes: &[u8]) -> Result<(), Fail> {
     for shows in 0..64 {
-        let mut reader = FailingReader::by_byte(bytes, 1, shows);
+        let mut reader = TestReader::short(bytes, 1).failing_after(shows);
         let is_read = decode(kind, alloc, &mut reader).is_ok();
         let is_told = is_read == (reader.failures() == 0);
-        if !is_told || reader.steps() != 1 || !bytes.ends_with(reader.remaining()) {
+        if !is_told || reader.steps() != Some(1) || !bytes.ends_with(reader.remaining()) {
             return Err(Fail::new(format_args!("show {shows} of {bytes:?} fails")));
         }
         if is_read {
@@ -143,7 +150,7 @@ fn borrowed_or_owned(rt: HostRuntime) -> Result<(), Fail> {
         let whole = Ok((content, lent != Lent::Never));
         decodes_whole(kind, alloc, bytes, whole, b"")?;
         let by_byte = Ok((content, lent == Lent::ByByte));
-        let mut long = LongByByte::new(bytes, 1);
+        let mut long = TestReader::long(bytes, 1);
         decodes(kind, alloc, &mut long, bytes, by_byte, b"")?;
         decodes_short(kind, alloc, bytes, Ok((content, false)), b"")?;
         fails_at_each_show(kind, alloc, bytes)?;
@@ -211,7 +218,7 @@ fn refused(rt: HostRuntime) -> Result<(), Fail> {
     let alloc = rt.alloc();
     for &(kind, bytes, refusal, rest) in REFUSED {
         decodes_whole(kind, alloc, bytes, Err(refusal), rest)?;
-        let mut long = LongByByte::new(bytes, 1);
+        let mut long = TestReader::long(bytes, 1);
         decodes(kind, alloc, &mut long, bytes, Err(refusal), rest)?;
         decodes_short(kind, alloc, bytes, Err(refusal), rest)?;
     }

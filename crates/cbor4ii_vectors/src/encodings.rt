@@ -4,7 +4,6 @@ use cbor4ii_items::types::{Array, Bytes, Map, UncheckedStr};
 use cbor4ii_rw::error::EncodeError;
 use cbor4ii_rw::write::Write;
 use cbor4ii_trials::rows::{WriteTo, goes_both_ways, reads, writes_in};
-use std::alloc::{AllocError, Global};
 use std::test::Fail;
 
 // 1 to 25, in the length that is given in front.
@@ -18,24 +17,26 @@ const OPEN: &[u8] = &[
     24, 0x18, 25, 0xff,
 ];
 
-fn one_to_25(alloc: Global) -> Result<Vec<u8>, AllocError> {
-    let mut numbers = Vec::new(alloc);
-    for number in 1..26 {
-        numbers.push(number)?;
-    }
-    Ok(numbers)
-}
+const ONE_TO_25: &[u8] = &[
+    1, 2, 3, 4, 5, 6, 7, 8, 9, 10, 11, 12, 13, 14, 15, 16, 17, 18, 19, 20, 21, 22, 23, 24, 25,
+];
+
+const ARRAYS: &[(&[u8], &[u8])] = &[
+    (b"\x80", &[]),
+    (b"\x83\x01\x02\x03", &[1, 2, 3]),
+    (COUNTED, ONE_TO_25),
+];
 
 #[test]
 fn arrays(rt: HostRuntime) -> Result<(), Fail> {
     let alloc = rt.alloc();
-    goes_both_ways(alloc, Vec::<u8>::new(alloc), b"\x80", 1)?;
-    let three = vec![in alloc; 1u8, 2, 3]?;
-    writes_in(alloc, &three.as_slice(), b"\x83\x01\x02\x03", 4)?;
-    goes_both_ways(alloc, three, b"\x83\x01\x02\x03", 4)?;
+    for &(bytes, numbers) in ARRAYS {
+        let pushes = numbers.len() + 1;
+        goes_both_ways(alloc, numbers.to_vec(alloc)?, bytes, pushes)?;
+    }
+    writes_in(alloc, &[1u8, 2, 3].as_slice(), b"\x83\x01\x02\x03", 4)?;
     let nested: [&[u8]; 2] = [&[1], &[2, 3]];
-    writes_in(alloc, &nested.as_slice(), b"\x82\x81\x01\x82\x02\x03", 6)?;
-    goes_both_ways(alloc, one_to_25(alloc)?, COUNTED, 26)
+    writes_in(alloc, &nested.as_slice(), b"\x82\x81\x01\x82\x02\x03", 6)
 }
 
 #[test]
@@ -142,118 +143,180 @@ fn heads_and_ends(rt: HostRuntime) -> Result<(), Fail> {
     Ok(())
 }
 
-#[test]
-fn counted_items_in_parts(rt: HostRuntime) -> Result<(), Fail> {
-    let alloc = rt.alloc();
+// Items in their parts, what they are written as, and in how many pushes.
+const IN_PARTS: &[(&[Part], &[u8], usize)] = &[
     // ["a", {"b": "c"}]
-    let array = &[
-        Part::Array(2),
-        Part::Text("a"),
-        Part::Map(1),
-        Part::Text("b"),
-        Part::Text("c"),
-    ];
-    writes_in(alloc, &Parts(array), b"\x82\x61a\xa1\x61b\x61c", 8)?;
+    (
+        &[
+            Part::Array(2),
+            Part::Text("a"),
+            Part::Map(1),
+            Part::Text("b"),
+            Part::Text("c"),
+        ],
+        b"\x82\x61a\xa1\x61b\x61c",
+        8,
+    ),
     // {"a": 1, "b": [2, 3]}
-    let map = &[
-        Part::Map(2),
-        Part::Text("a"),
-        Part::Number(1),
-        Part::Text("b"),
-        Part::Array(2),
-        Part::Number(2),
-        Part::Number(3),
-    ];
-    writes_in(alloc, &Parts(map), b"\xa2\x61a\x01\x61b\x82\x02\x03", 9)
-}
-
-#[test]
-fn open_strings(rt: HostRuntime) -> Result<(), Fail> {
-    let alloc = rt.alloc();
-    let bytes = &[
-        Part::OpenBytes,
-        Part::Bytes(b"\x01\x02"),
-        Part::Bytes(b"\x03\x04\x05"),
-        Part::BytesEnd,
-    ];
-    writes_in(
-        alloc,
-        &Parts(bytes),
+    (
+        &[
+            Part::Map(2),
+            Part::Text("a"),
+            Part::Number(1),
+            Part::Text("b"),
+            Part::Array(2),
+            Part::Number(2),
+            Part::Number(3),
+        ],
+        b"\xa2\x61a\x01\x61b\x82\x02\x03",
+        9,
+    ),
+    (
+        &[
+            Part::OpenBytes,
+            Part::Bytes(b"\x01\x02"),
+            Part::Bytes(b"\x03\x04\x05"),
+            Part::BytesEnd,
+        ],
         b"\x5f\x42\x01\x02\x43\x03\x04\x05\xff",
         6,
-    )?;
-    let text = &[
-        Part::OpenText,
-        Part::Text("strea"),
-        Part::Text("ming"),
-        Part::TextEnd,
-    ];
-    writes_in(alloc, &Parts(text), b"\x7f\x65strea\x64ming\xff", 6)
-}
+    ),
+    (
+        &[
+            Part::OpenText,
+            Part::Text("strea"),
+            Part::Text("ming"),
+            Part::TextEnd,
+        ],
+        b"\x7f\x65strea\x64ming\xff",
+        6,
+    ),
+    (&[Part::OpenArray, Part::ArrayEnd], b"\x9f\xff", 2),
+    (
+        &[
+            Part::OpenArray,
+            Part::Flag(true),
+            Part::Flag(false),
+            Part::ArrayEnd,
+        ],
+        b"\x9f\xf5\xf4\xff",
+        4,
+    ),
+    // {_ "a": 1, "b": [_ 2, 3]}
+    (
+        &[
+            Part::OpenMap,
+            Part::Text("a"),
+            Part::Number(1),
+            Part::Text("b"),
+            Part::OpenArray,
+            Part::Number(2),
+            Part::Number(3),
+            Part::ArrayEnd,
+            Part::MapEnd,
+        ],
+        b"\xbf\x61a\x01\x61b\x9f\x02\x03\xff\xff",
+        11,
+    ),
+    // ["a", {_ "b": "c"}]
+    (
+        &[
+            Part::Array(2),
+            Part::Text("a"),
+            Part::OpenMap,
+            Part::Text("b"),
+            Part::Text("c"),
+            Part::MapEnd,
+        ],
+        b"\x82\x61a\xbf\x61b\x61c\xff",
+        9,
+    ),
+    // {_ "Fun": true, "Amt": -2}
+    (
+        &[
+            Part::OpenMap,
+            Part::Text("Fun"),
+            Part::Flag(true),
+            Part::Text("Amt"),
+            Part::Number(-2),
+            Part::MapEnd,
+        ],
+        b"\xbf\x63Fun\xf5\x63Amt\x21\xff",
+        8,
+    ),
+];
 
 // [1, [2, 3], [4, 5]], with one, two or all three of the arrays of indefinite length.
+const NESTED_OPEN_ARRAYS: &[(&[Part], &[u8], usize)] = &[
+    (
+        &[
+            Part::OpenArray,
+            Part::Number(1),
+            Part::Array(2),
+            Part::Number(2),
+            Part::Number(3),
+            Part::OpenArray,
+            Part::Number(4),
+            Part::Number(5),
+            Part::ArrayEnd,
+            Part::ArrayEnd,
+        ],
+        b"\x9f\x01\x82\x02\x03\x9f\x04\x05\xff\xff",
+        10,
+    ),
+    (
+        &[
+            Part::OpenArray,
+            Part::Number(1),
+            Part::Array(2),
+            Part::Number(2),
+            Part::Number(3),
+            Part::Array(2),
+            Part::Number(4),
+            Part::Number(5),
+            Part::ArrayEnd,
+        ],
+        b"\x9f\x01\x82\x02\x03\x82\x04\x05\xff",
+        9,
+    ),
+    (
+        &[
+            Part::Array(3),
+            Part::Number(1),
+            Part::Array(2),
+            Part::Number(2),
+            Part::Number(3),
+            Part::OpenArray,
+            Part::Number(4),
+            Part::Number(5),
+            Part::ArrayEnd,
+        ],
+        b"\x83\x01\x82\x02\x03\x9f\x04\x05\xff",
+        9,
+    ),
+    (
+        &[
+            Part::Array(3),
+            Part::Number(1),
+            Part::OpenArray,
+            Part::Number(2),
+            Part::Number(3),
+            Part::ArrayEnd,
+            Part::Array(2),
+            Part::Number(4),
+            Part::Number(5),
+        ],
+        b"\x83\x01\x9f\x02\x03\xff\x82\x04\x05",
+        9,
+    ),
+];
+
 #[test]
-fn nested_open_arrays(rt: HostRuntime) -> Result<(), Fail> {
-    let alloc = rt.alloc();
-    writes_in(
-        alloc,
-        &Parts(&[Part::OpenArray, Part::ArrayEnd]),
-        b"\x9f\xff",
-        2,
-    )?;
-    let all = &[
-        Part::OpenArray,
-        Part::Number(1),
-        Part::Array(2),
-        Part::Number(2),
-        Part::Number(3),
-        Part::OpenArray,
-        Part::Number(4),
-        Part::Number(5),
-        Part::ArrayEnd,
-        Part::ArrayEnd,
-    ];
-    let bytes = b"\x9f\x01\x82\x02\x03\x9f\x04\x05\xff\xff";
-    writes_in(alloc, &Parts(all), bytes, 10)?;
-    let outer = &[
-        Part::OpenArray,
-        Part::Number(1),
-        Part::Array(2),
-        Part::Number(2),
-        Part::Number(3),
-        Part::Array(2),
-        Part::Number(4),
-        Part::Number(5),
-        Part::ArrayEnd,
-    ];
-    let bytes = b"\x9f\x01\x82\x02\x03\x82\x04\x05\xff";
-    writes_in(alloc, &Parts(outer), bytes, 9)?;
-    let last = &[
-        Part::Array(3),
-        Part::Number(1),
-        Part::Array(2),
-        Part::Number(2),
-        Part::Number(3),
-        Part::OpenArray,
-        Part::Number(4),
-        Part::Number(5),
-        Part::ArrayEnd,
-    ];
-    let bytes = b"\x83\x01\x82\x02\x03\x9f\x04\x05\xff";
-    writes_in(alloc, &Parts(last), bytes, 9)?;
-    let inner = &[
-        Part::Array(3),
-        Part::Number(1),
-        Part::OpenArray,
-        Part::Number(2),
-        Part::Number(3),
-        Part::ArrayEnd,
-        Part::Array(2),
-        Part::Number(4),
-        Part::Number(5),
-    ];
-    let bytes = b"\x83\x01\x9f\x02\x03\xff\x82\x04\x05";
-    writes_in(alloc, &Parts(inner), bytes, 9)
+fn items_in_parts(rt: HostRuntime) -> Result<(), Fail> {
+    for &(parts, bytes, pushes) in IN_PARTS.iter().chain(NESTED_OPEN_ARRAYS) {
+        writes_in(rt.alloc(), &Parts(parts), bytes, pushes)?;
+    }
+    Ok(())
 }
 
 #[test]
@@ -265,51 +328,5 @@ fn open_arrays(rt: HostRuntime) -> Result<(), Fail> {
     }
     numbers.push(Part::ArrayEnd)?;
     writes_in(alloc, &Parts(&numbers), OPEN, 27)?;
-    reads(alloc, OPEN, Ok(one_to_25(alloc)?), b"")?;
-    let flags = &[
-        Part::OpenArray,
-        Part::Flag(true),
-        Part::Flag(false),
-        Part::ArrayEnd,
-    ];
-    writes_in(alloc, &Parts(flags), b"\x9f\xf5\xf4\xff", 4)
-}
-
-#[test]
-fn open_maps(rt: HostRuntime) -> Result<(), Fail> {
-    let alloc = rt.alloc();
-    // {_ "a": 1, "b": [_ 2, 3]}
-    let nested = &[
-        Part::OpenMap,
-        Part::Text("a"),
-        Part::Number(1),
-        Part::Text("b"),
-        Part::OpenArray,
-        Part::Number(2),
-        Part::Number(3),
-        Part::ArrayEnd,
-        Part::MapEnd,
-    ];
-    let bytes = b"\xbf\x61a\x01\x61b\x9f\x02\x03\xff\xff";
-    writes_in(alloc, &Parts(nested), bytes, 11)?;
-    // ["a", {_ "b": "c"}]
-    let inside = &[
-        Part::Array(2),
-        Part::Text("a"),
-        Part::OpenMap,
-        Part::Text("b"),
-        Part::Text("c"),
-        Part::MapEnd,
-    ];
-    writes_in(alloc, &Parts(inside), b"\x82\x61a\xbf\x61b\x61c\xff", 9)?;
-    // {_ "Fun": true, "Amt": -2}
-    let flags = &[
-        Part::OpenMap,
-        Part::Text("Fun"),
-        Part::Flag(true),
-        Part::Text("Amt"),
-        Part::Number(-2),
-        Part::MapEnd,
-    ];
-    writes_in(alloc, &Parts(flags), b"\xbf\x63Fun\xf5\x63Amt\x21\xff", 8)
+    reads(alloc, OPEN, Ok(ONE_TO_25.to_vec(alloc)?), b"")
 }

@@ -4,7 +4,7 @@ use cbor4ii_items::indefinite::is_break;
 use cbor4ii_items::types::{Array, Map, Tag};
 use cbor4ii_rw::error::DecodeError;
 use cbor4ii_rw::read::Source;
-use cbor4ii_trials::rows::{ReadFrom, Want, reads};
+use cbor4ii_trials::rows::{ReadFrom, Row, reads, reads_rows};
 use std::alloc::Global;
 use std::test::Fail;
 
@@ -48,7 +48,7 @@ impl<S: Source> ReadFrom<S> for Break {
     }
 }
 
-const NUMBERS_OF_TAGS: &[(&[u8], Want<u64>, &[u8])] = &[
+const NUMBERS_OF_TAGS: &[Row<u64>] = &[
     (b"\xd8\x2a", Ok(42), b""),
     (b"\xd9\x00\x2a", Ok(42), b""),
     (b"\xda\x00\x00\x00\x2a", Ok(42), b""),
@@ -86,7 +86,7 @@ fn numbers_of_tags(rt: HostRuntime) -> Result<(), Fail> {
     Ok(())
 }
 
-const LENGTHS_OF_ARRAYS: &[(&[u8], Want<Option<usize>>, &[u8])] = &[
+const LENGTHS_OF_ARRAYS: &[Row<Option<usize>>] = &[
     (b"\x86\x01", Ok(Some(6)), b"\x01"),
     (b"\x98\x19", Ok(Some(25)), b""),
     (b"\x9f\xff", Ok(None), b"\xff"),
@@ -122,7 +122,7 @@ fn lengths_of_arrays(rt: HostRuntime) -> Result<(), Fail> {
     Ok(())
 }
 
-const LENGTHS_OF_MAPS: &[(&[u8], Want<Option<usize>>, &[u8])] = &[
+const LENGTHS_OF_MAPS: &[Row<Option<usize>>] = &[
     (b"\xa3\x01", Ok(Some(3)), b"\x01"),
     (b"\xb9\x03\xe8", Ok(Some(1000)), b""),
     (b"\xbf\xff", Ok(None), b"\xff"),
@@ -153,13 +153,15 @@ fn lengths_of_maps(rt: HostRuntime) -> Result<(), Fail> {
     Ok(())
 }
 
+const BREAKS: &[Row<Break>] = &[
+    (b"\xff\x00", Ok(Break(true)), b"\x00"),
+    (b"\x00", Ok(Break(false)), b"\x00"),
+    (b"", Err("Eof { name: \"break\", expect: Small(1) }"), b""),
+];
+
 #[test]
 fn breaks(rt: HostRuntime) -> Result<(), Fail> {
-    let alloc = rt.alloc();
-    reads(alloc, b"\xff\x00", Ok(Break(true)), b"\x00")?;
-    reads(alloc, b"\x00", Ok(Break(false)), b"\x00")?;
-    let end = "Eof { name: \"break\", expect: Small(1) }";
-    reads::<Break>(alloc, b"", Err(end), b"")
+    reads_rows(rt.alloc(), BREAKS)
 }
 
 // The length of an array of six numbers, and these.

@@ -2,59 +2,73 @@
 use cbor4ii_items::decode::Decode;
 use cbor4ii_items::types::{Bytes, F16, F32, F64, Maybe, Nothing, Null, Simple, Tag, Undefined};
 use cbor4ii_trials::readers::Counting;
-use cbor4ii_trials::rows::{goes_both_ways, reads, reads_within, writes_in};
+use cbor4ii_trials::rows::{
+    Row, RowWithin, Want, goes_both_ways, reads, reads_rows, reads_rows_within, reads_within,
+    writes_in,
+};
+use std::alloc::Global;
 use std::test::Fail;
 
-const SIMPLE_VALUES_READ: &[(&[u8], u8)] = &[(b"\xf8\x14", 20), (b"\xf5", 21), (b"\xf8\x18", 24)];
+const SIMPLE_VALUES: &[Row<Simple>] = &[
+    (b"\xf8\x14", Ok(Simple(20)), b""),
+    (b"\xf5", Ok(Simple(21)), b""),
+    (b"\xf8\x18", Ok(Simple(24)), b""),
+    (b"", Err("Eof { name: \"simple\", expect: Small(1) }"), b""),
+    (
+        b"\xf8",
+        Err("Eof { name: \"simple\", expect: Small(1) }"),
+        b"",
+    ),
+    (
+        b"\xf9\x00\x00",
+        Err("Mismatch { name: \"simple\", found: 249 }"),
+        b"\x00\x00",
+    ),
+    (
+        b"\xff\x01",
+        Err("Mismatch { name: \"simple\", found: 255 }"),
+        b"\x01",
+    ),
+    (
+        b"\x14\x01",
+        Err("Mismatch { name: \"simple\", found: 20 }"),
+        b"\x01",
+    ),
+];
 
 const SIMPLE_VALUES_BOTH: &[(&[u8], u8)] = &[(b"\xf0", 16), (b"\xf8\x18", 24), (b"\xf8\xff", 255)];
 
 #[test]
 fn simple_values(rt: HostRuntime) -> Result<(), Fail> {
     let alloc = rt.alloc();
-    for &(bytes, number) in SIMPLE_VALUES_READ {
-        reads(alloc, bytes, Ok(Simple(number)), b"")?;
-    }
+    reads_rows(alloc, SIMPLE_VALUES)?;
     for &(bytes, number) in SIMPLE_VALUES_BOTH {
         goes_both_ways(alloc, Simple(number), bytes, 1)?;
     }
-    goes_both_ways(alloc, false, b"\xf4", 1)?;
-    goes_both_ways(alloc, true, b"\xf5", 1)?;
     writes_in(alloc, &Null, b"\xf6", 1)?;
-    writes_in(alloc, &Undefined, b"\xf7", 1)?;
-    reads(alloc, b"\xf5\xf4", Ok(true), b"\xf4")
+    writes_in(alloc, &Undefined, b"\xf7", 1)
 }
 
-const REFUSED_SIMPLE_VALUES: &[(&[u8], &str, &[u8])] = &[
-    (b"", "Eof { name: \"simple\", expect: Small(1) }", b""),
-    (b"\xf8", "Eof { name: \"simple\", expect: Small(1) }", b""),
+const FLAGS: &[Row<bool>] = &[
+    (b"\xf4", Ok(false), b""),
+    (b"\xf5", Ok(true), b""),
+    (b"\xf5\xf4", Ok(true), b"\xf4"),
     (
-        b"\xf9\x00\x00",
-        "Mismatch { name: \"simple\", found: 249 }",
-        b"\x00\x00",
+        b"\xf6",
+        Err("Mismatch { name: \"bool\", found: 246 }"),
+        b"\xf6",
     ),
-    (
-        b"\xff\x01",
-        "Mismatch { name: \"simple\", found: 255 }",
-        b"\x01",
-    ),
-    (
-        b"\x14\x01",
-        "Mismatch { name: \"simple\", found: 20 }",
-        b"\x01",
-    ),
+    (b"", Err("Eof { name: \"bool\", expect: Small(1) }"), b""),
 ];
 
 #[test]
-fn refused_simple_values(rt: HostRuntime) -> Result<(), Fail> {
+fn flags(rt: HostRuntime) -> Result<(), Fail> {
     let alloc = rt.alloc();
-    for &(bytes, refusal, rest) in REFUSED_SIMPLE_VALUES {
-        reads::<Simple>(alloc, bytes, Err(refusal), rest)?;
+    reads_rows(alloc, FLAGS)?;
+    for (flag, bytes) in [(false, b"\xf4"), (true, b"\xf5")] {
+        writes_in(alloc, &flag, bytes, 1)?;
     }
-    let not_bool = "Mismatch { name: \"bool\", found: 246 }";
-    reads::<bool>(alloc, b"\xf6", Err(not_bool), b"\xf6")?;
-    let no_byte = "Eof { name: \"bool\", expect: Small(1) }";
-    reads::<bool>(alloc, b"", Err(no_byte), b"")
+    Ok(())
 }
 
 const FLOATS_HALVES: &[(&[u8], u16)] = &[
@@ -103,41 +117,49 @@ fn floats(rt: HostRuntime) -> Result<(), Fail> {
     Ok(())
 }
 
-const REFUSED_FLOATS_HALVES: &[(&[u8], &str, &[u8])] = &[
-    (b"", "Eof { name: \"f16\", expect: Small(1) }", b""),
-    (b"\xf9\x7b", "Eof { name: \"f16\", expect: Small(2) }", b""),
+const REFUSED_FLOATS_HALVES: &[Row<F16>] = &[
+    (b"", Err("Eof { name: \"f16\", expect: Small(1) }"), b""),
+    (
+        b"\xf9\x7b",
+        Err("Eof { name: \"f16\", expect: Small(2) }"),
+        b"",
+    ),
     (
         b"\xf4\x00",
-        "Mismatch { name: \"f16\", found: 244 }",
+        Err("Mismatch { name: \"f16\", found: 244 }"),
         b"\xf4\x00",
     ),
 ];
 
-const REFUSED_FLOATS_SINGLES: &[(&[u8], &str, &[u8])] = &[
-    (b"", "Eof { name: \"f32\", expect: Small(1) }", b""),
+const REFUSED_FLOATS_SINGLES: &[Row<F32>] = &[
+    (b"", Err("Eof { name: \"f32\", expect: Small(1) }"), b""),
     (
         b"\xfa\x47\xc3",
-        "Eof { name: \"f32\", expect: Small(4) }",
+        Err("Eof { name: \"f32\", expect: Small(4) }"),
         b"",
     ),
     (
         b"\xfb\x00",
-        "Mismatch { name: \"f32\", found: 251 }",
+        Err("Mismatch { name: \"f32\", found: 251 }"),
         b"\xfb\x00",
     ),
 ];
 
-const REFUSED_FLOATS_DOUBLES: &[(&[u8], &str, &[u8])] = &[
-    (b"", "Eof { name: \"f64\", expect: Small(1) }", b""),
-    (b"\xfb\x3f", "Eof { name: \"f64\", expect: Small(8) }", b""),
+const REFUSED_FLOATS_DOUBLES: &[Row<F64>] = &[
+    (b"", Err("Eof { name: \"f64\", expect: Small(1) }"), b""),
+    (
+        b"\xfb\x3f",
+        Err("Eof { name: \"f64\", expect: Small(8) }"),
+        b"",
+    ),
     (
         b"\xf9\x00\x00",
-        "Mismatch { name: \"f64\", found: 249 }",
+        Err("Mismatch { name: \"f64\", found: 249 }"),
         b"\xf9\x00\x00",
     ),
     (
         b"\xfa\x00\x00\x00\x00",
-        "Mismatch { name: \"f64\", found: 250 }",
+        Err("Mismatch { name: \"f64\", found: 250 }"),
         b"\xfa\x00\x00\x00\x00",
     ),
 ];
@@ -145,67 +167,61 @@ const REFUSED_FLOATS_DOUBLES: &[(&[u8], &str, &[u8])] = &[
 #[test]
 fn refused_floats(rt: HostRuntime) -> Result<(), Fail> {
     let alloc = rt.alloc();
-    for &(bytes, refusal, rest) in REFUSED_FLOATS_HALVES {
-        reads::<F16>(alloc, bytes, Err(refusal), rest)?;
-    }
-    for &(bytes, refusal, rest) in REFUSED_FLOATS_SINGLES {
-        reads::<F32>(alloc, bytes, Err(refusal), rest)?;
-    }
-    for &(bytes, refusal, rest) in REFUSED_FLOATS_DOUBLES {
-        reads::<F64>(alloc, bytes, Err(refusal), rest)?;
-    }
-    Ok(())
+    reads_rows(alloc, REFUSED_FLOATS_HALVES)?;
+    reads_rows(alloc, REFUSED_FLOATS_SINGLES)?;
+    reads_rows(alloc, REFUSED_FLOATS_DOUBLES)
 }
+
+const TAGGED_TEXTS: &[(&[u8], u64, &str)] = &[
+    (b"\xc0\x742013-03-21T20:04:00Z", 0, "2013-03-21T20:04:00Z"),
+    (
+        b"\xd8\x20\x76http://www.example.com",
+        32,
+        "http://www.example.com",
+    ),
+];
 
 #[test]
 fn tagged_items(rt: HostRuntime) -> Result<(), Fail> {
     let alloc = rt.alloc();
-    reads::<Tag<u8>>(alloc, b"\xc1\x18\x05", Ok(Tag(1, 5)), b"")?;
-    goes_both_ways(
-        alloc,
-        Tag(0, String::from_str(alloc, "2013-03-21T20:04:00Z")?),
-        b"\xc0\x742013-03-21T20:04:00Z",
-        3,
-    )?;
+    for &(bytes, number, text) in TAGGED_TEXTS {
+        let text = String::from_str(alloc, text)?;
+        goes_both_ways(alloc, Tag(number, text), bytes, 3)?;
+    }
     goes_both_ways(alloc, Tag(1, 1363896240u32), b"\xc1\x1a\x51\x4b\x67\xb0", 2)?;
     goes_both_ways(
         alloc,
         Tag(1, F64(0x41d452d9ec200000)),
         b"\xc1\xfb\x41\xd4\x52\xd9\xec\x20\x00\x00",
         2,
-    )?;
-    goes_both_ways(
-        alloc,
-        Tag(32, String::from_str(alloc, "http://www.example.com")?),
-        b"\xd8\x20\x76http://www.example.com",
-        3,
     )
 }
 
-const REFUSED_TAGGED_ITEMS: &[(&[u8], &str, &[u8])] = &[
-    (b"", "Eof { name: \"tag\", expect: Small(1) }", b""),
-    (b"\xd9\x01", "Eof { name: \"tag\", expect: Small(2) }", b""),
-    (b"\x05", "Mismatch { name: \"tag\", found: 5 }", b""),
+const TAGGED_NUMBERS: &[Row<Tag<u8>>] = &[
+    (b"\xc1\x18\x05", Ok(Tag(1, 5)), b""),
+    (b"", Err("Eof { name: \"tag\", expect: Small(1) }"), b""),
+    (
+        b"\xd9\x01",
+        Err("Eof { name: \"tag\", expect: Small(2) }"),
+        b"",
+    ),
+    (b"\x05", Err("Mismatch { name: \"tag\", found: 5 }"), b""),
     (
         b"\xdc\x05",
-        "Mismatch { name: \"tag\", found: 220 }",
+        Err("Mismatch { name: \"tag\", found: 220 }"),
         b"\x05",
     ),
-    (b"\xc1", "Eof { name: \"u8\", expect: Small(1) }", b""),
+    (b"\xc1", Err("Eof { name: \"u8\", expect: Small(1) }"), b""),
     (
         b"\xc1\x19\x00\x05",
-        "Mismatch { name: \"u8\", found: 25 }",
+        Err("Mismatch { name: \"u8\", found: 25 }"),
         b"\x00\x05",
     ),
 ];
 
 #[test]
-fn refused_tagged_items(rt: HostRuntime) -> Result<(), Fail> {
-    let alloc = rt.alloc();
-    for &(bytes, refusal, rest) in REFUSED_TAGGED_ITEMS {
-        reads::<Tag<u8>>(alloc, bytes, Err(refusal), rest)?;
-    }
-    Ok(())
+fn tagged_numbers(rt: HostRuntime) -> Result<(), Fail> {
+    reads_rows(rt.alloc(), TAGGED_NUMBERS)
 }
 
 const TAGGED_BYTE_STRINGS: &[(&[u8], u64, &[u8])] = &[
@@ -224,22 +240,42 @@ fn tagged_byte_strings(rt: HostRuntime) -> Result<(), Fail> {
     Ok(())
 }
 
+const OPTIONAL_NUMBERS: &[Row<Option<u8>>] = &[
+    (b"\xf7", Ok(None), b""),
+    (b"\x05", Ok(Some(5)), b""),
+    (
+        b"\xf4\x01",
+        Err("Mismatch { name: \"u8\", found: 244 }"),
+        b"\x01",
+    ),
+];
+
+const OPTIONAL_FLOATS: &[Row<Option<F32>>] = &[
+    (b"\xfa\x7f\x7f\xff\xff", Ok(Some(F32(0x7f7f_ffff))), b""),
+    (b"\xf6", Ok(None), b""),
+    (b"\xf7\x01", Ok(None), b"\x01"),
+];
+
+const OPTIONAL_NOTHING: &[Row<Option<Nothing>>] = &[
+    (b"\xf6", Ok(None), b""),
+    (b"\x00", Ok(Some(Nothing)), b"\x00"),
+    (b"", Err("Eof { name: \"option\", expect: Small(1) }"), b""),
+];
+
 #[test]
 fn optional_items(rt: HostRuntime) -> Result<(), Fail> {
     let alloc = rt.alloc();
-    reads::<Option<u8>>(alloc, b"\xf7", Ok(None), b"")?;
-    reads::<Option<u8>>(alloc, b"\x05", Ok(Some(5)), b"")?;
-    let most = Some(F32(0x7f7f_ffff));
-    reads(alloc, b"\xfa\x7f\x7f\xff\xff", Ok(most), b"")?;
-    reads::<Option<F32>>(alloc, b"\xf6", Ok(None), b"")?;
-    reads::<Option<F32>>(alloc, b"\xf7\x01", Ok(None), b"\x01")?;
-    reads::<Option<Nothing>>(alloc, b"\xf6", Ok(None), b"")?;
-    reads(alloc, b"\x00", Ok(Some(Nothing)), b"\x00")?;
-    let no_byte = "Eof { name: \"option\", expect: Small(1) }";
-    reads::<Option<Nothing>>(alloc, b"", Err(no_byte), b"")?;
-    let not_null = "Mismatch { name: \"u8\", found: 244 }";
-    reads::<Option<u8>>(alloc, b"\xf4\x01", Err(not_null), b"\x01")
+    reads_rows(alloc, OPTIONAL_NUMBERS)?;
+    reads_rows(alloc, OPTIONAL_FLOATS)?;
+    reads_rows(alloc, OPTIONAL_NOTHING)
 }
+
+const LEAST_AND_GREATEST_OF_OPTIONAL_NUMBERS: &[RowWithin<Option<u8>>] = &[
+    (b"\x05", 0, Ok(Some(5)), b""),
+    (b"\x05", usize::MAX, Ok(Some(5)), b""),
+    (b"\xf6", 0, Ok(None), b""),
+    (b"\xf6", usize::MAX, Ok(None), b""),
+];
 
 // What takes no step is read where none is left, and as many as a limit can be do not run over.
 #[test]
@@ -247,65 +283,78 @@ fn the_least_and_the_greatest_limit(rt: HostRuntime) -> Result<(), Fail> {
     let alloc = rt.alloc();
     for limit in [0, usize::MAX] {
         reads_within(alloc, b"\x18\x05", limit, &Ok(5u8), b"")?;
-        reads_within(alloc, b"\x05", limit, &Ok(Some(5u8)), b"")?;
-        reads_within::<Option<u8>>(alloc, b"\xf6", limit, &Ok(None), b"")?;
         reads_within(alloc, b"\xc1\x05", limit, &Ok(Tag(1, 5u8)), b"")?;
     }
+    reads_rows_within(alloc, LEAST_AND_GREATEST_OF_OPTIONAL_NUMBERS)?;
     let numbers = vec![in alloc; 5u8]?;
     reads_within(alloc, b"\x81\x05", usize::MAX, &Ok(numbers), b"")
 }
 
-const OPTIONAL_ITEMS_AS_ARRAYS: &[&[u8]] = &[b"\x81\x611", b"\x98\x01\x611"];
-
-#[test]
-fn optional_items_as_arrays(rt: HostRuntime) -> Result<(), Fail> {
-    let alloc = rt.alloc();
-    reads::<Maybe<Option<String>>>(alloc, b"\x80", Ok(Maybe(None)), b"")?;
-    reads::<Maybe<Option<String>>>(alloc, b"\x98\x00\x05", Ok(Maybe(None)), b"\x05")?;
-    for &bytes in OPTIONAL_ITEMS_AS_ARRAYS {
-        let one = Maybe(Some(String::from_str(alloc, "1")?));
-        reads(alloc, bytes, Ok(one), b"")?;
-    }
-    writes_in(alloc, &Maybe(&None::<u8>), b"\x80", 1)?;
-    writes_in(alloc, &Maybe(&Some(1u8)), b"\x81\x01", 2)
-}
-
-const REFUSED_OPTIONAL_ITEMS_AS_ARRAYS: &[(&[u8], &str, &[u8])] = &[
-    (b"", "Eof { name: \"array\", expect: Small(1) }", b""),
-    (b"\x98", "Eof { name: \"array\", expect: Small(1) }", b""),
+const OPTIONAL_TEXTS: &[Row<Option<&str>>] = &[
+    (b"\x80", Ok(None), b""),
+    (b"\x98\x00\x05", Ok(None), b"\x05"),
+    (b"\x81\x611", Ok(Some("1")), b""),
+    (b"\x98\x01\x611", Ok(Some("1")), b""),
+    (b"", Err("Eof { name: \"array\", expect: Small(1) }"), b""),
+    (
+        b"\x98",
+        Err("Eof { name: \"array\", expect: Small(1) }"),
+        b"",
+    ),
     (
         b"\xf6\x80",
-        "Mismatch { name: \"array\", found: 246 }",
+        Err("Mismatch { name: \"array\", found: 246 }"),
         b"\x80",
     ),
     (
         b"\x83\x611\x612\x613",
-        "RequireLength { name: \"maybe\", found: Small(3) }",
+        Err("RequireLength { name: \"maybe\", found: Small(3) }"),
         b"\x611\x612\x613",
     ),
     (
         b"\x9a\x00\x01\x00\x00\x07",
-        "RequireLength { name: \"maybe\", found: Big }",
+        Err("RequireLength { name: \"maybe\", found: Big }"),
         b"\x07",
     ),
     (
         b"\x9f\x611\xff",
-        "RequireLength { name: \"maybe\", found: Indefinite }",
+        Err("RequireLength { name: \"maybe\", found: Indefinite }"),
         b"\x611\xff",
     ),
-    (b"\x81", "Eof { name: \"str\", expect: Small(1) }", b""),
+    (b"\x81", Err("Eof { name: \"str\", expect: Small(1) }"), b""),
     (
         b"\x81\x01\x02",
-        "Mismatch { name: \"str\", found: 1 }",
+        Err("Mismatch { name: \"str\", found: 1 }"),
         b"\x02",
     ),
 ];
 
+// What an optional text in an array is read as.
+fn optional_text(
+    alloc: Global,
+    want: Want<Option<&str>>,
+) -> Result<Want<Maybe<Option<String>>>, Fail> {
+    match want {
+        Ok(Some(text)) => Ok(Ok(Maybe(Some(String::from_str(alloc, text)?)))),
+        Ok(None) => Ok(Ok(Maybe(None))),
+        Err(refusal) => Ok(Err(refusal)),
+    }
+}
+
 #[test]
-fn refused_optional_items_as_arrays(rt: HostRuntime) -> Result<(), Fail> {
+fn optional_texts_as_arrays(rt: HostRuntime) -> Result<(), Fail> {
     let alloc = rt.alloc();
-    for &(bytes, refusal, rest) in REFUSED_OPTIONAL_ITEMS_AS_ARRAYS {
-        reads::<Maybe<Option<String>>>(alloc, bytes, Err(refusal), rest)?;
+    for &(bytes, want, rest) in OPTIONAL_TEXTS {
+        reads(alloc, bytes, optional_text(alloc, want)?, rest)?;
+    }
+    Ok(())
+}
+
+#[test]
+fn optional_numbers_as_arrays(rt: HostRuntime) -> Result<(), Fail> {
+    let rows = [(None, b"\x80".as_slice(), 1), (Some(1u8), b"\x81\x01", 2)];
+    for (number, bytes, pushes) in &rows {
+        writes_in(rt.alloc(), &Maybe(number), bytes, *pushes)?;
     }
     Ok(())
 }
@@ -316,21 +365,41 @@ fn optional_arrays_as_arrays(rt: HostRuntime) -> Result<(), Fail> {
     let first = String::from_str(alloc, "1")?;
     let second = String::from_str(alloc, "2")?;
     let some = Some(vec![in alloc; first, second]?);
-    writes_in(alloc, &Maybe(&some), b"\x81\x82\x611\x612", 6)?;
-    reads(alloc, b"\x81\x82\x611\x612", Ok(Maybe(some)), b"")?;
-    writes_in(alloc, &Maybe(&None::<Vec<String>>), b"\x80", 1)?;
-    reads::<Maybe<Option<Vec<String>>>>(alloc, b"\x80", Ok(Maybe(None)), b"")
+    let none: Option<Vec<String>> = None;
+    for (texts, bytes, pushes) in [
+        (&some, b"\x81\x82\x611\x612".as_slice(), 6),
+        (&none, b"\x80", 1),
+    ] {
+        writes_in(alloc, &Maybe(texts), bytes, pushes)?;
+    }
+    reads_rows(
+        alloc,
+        &[
+            (b"\x81\x82\x611\x612", Ok(Maybe(some)), b""),
+            (b"\x80", Ok(Maybe(none)), b""),
+        ],
+    )
 }
 
 #[test]
-fn boxes_and_nothing(rt: HostRuntime) -> Result<(), Fail> {
+fn boxes(rt: HostRuntime) -> Result<(), Fail> {
     let alloc = rt.alloc();
-    goes_both_ways(alloc, Box::new(alloc, 5u8)?, b"\x05", 1)?;
+    let five = Box::new(alloc, 5u8)?;
+    writes_in(alloc, &five, b"\x05", 1)?;
     let refusal = "Mismatch { name: \"u8\", found: 97 }";
-    reads::<Box<u8>>(alloc, b"\x61", Err(refusal), b"")?;
-    goes_both_ways(alloc, Nothing, b"", 0)?;
-    reads(alloc, b"\x05", Ok(Nothing), b"\x05")?;
-    reads(alloc, b"", Ok(Nothing), b"")
+    reads_rows(
+        alloc,
+        &[(b"\x05", Ok(five), b""), (b"\x61", Err(refusal), b"")],
+    )
+}
+
+const NOTHING: &[Row<Nothing>] = &[(b"", Ok(Nothing), b""), (b"\x05", Ok(Nothing), b"\x05")];
+
+#[test]
+fn nothing(rt: HostRuntime) -> Result<(), Fail> {
+    let alloc = rt.alloc();
+    writes_in(alloc, &Nothing, b"", 0)?;
+    reads_rows(alloc, NOTHING)
 }
 
 // A number takes a look at its first byte and one at what follows, and a float that stands whole

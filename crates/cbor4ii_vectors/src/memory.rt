@@ -8,7 +8,7 @@ use cbor4ii_items::types::{Bytes, Map, Nothing, UncheckedStr};
 use cbor4ii_rw::error::DecodeError;
 use cbor4ii_rw::read::Source;
 use cbor4ii_rw::slice_reader::SliceReader;
-use cbor4ii_trials::readers::ShortByByte;
+use cbor4ii_trials::readers::TestReader;
 use cbor4ii_trials::rows::steps;
 use std::alloc::Global;
 use std::borrow::CowStr;
@@ -51,7 +51,7 @@ fn texts_in_chunks(rt: HostRuntime) {
     let text: Option<String> = decoded(&rt, alloc, &mut slice);
     let content = text.as_ref().map(|text| text.as_bytes());
     is_read(&rt, content, &want, &bytes, slice.remaining());
-    let mut short = ShortByByte::new(&bytes, 256);
+    let mut short = TestReader::short(&bytes, 256);
     let text: Option<UncheckedStr<Vec<u8>>> = decoded(&rt, alloc, &mut short);
     let content = text.as_ref().map(|text| text.0.as_slice());
     is_read(&rt, content, &want, &bytes, short.remaining());
@@ -65,7 +65,7 @@ fn byte_strings_in_chunks(rt: HostRuntime) {
     let mut bytes = [0x50; 17410];
     bytes[0] = 0x5f;
     bytes[17409] = 0xff;
-    let mut short = ShortByByte::new(&bytes, 256);
+    let mut short = TestReader::short(&bytes, 256);
     let found: Option<Bytes<Vec<u8>>> = decoded(&rt, alloc, &mut short);
     let content = found.as_ref().map(|found| found.0.as_slice());
     is_read(&rt, content, &want, &bytes, short.remaining());
@@ -78,7 +78,7 @@ fn long_texts(rt: HostRuntime) {
     let want = [b'a'; 20000];
     let mut bytes = [b'a'; 20003];
     bytes[..3].copy_from_slice(b"\x79\x4e\x20");
-    let mut short = ShortByByte::new(&bytes, 256);
+    let mut short = TestReader::short(&bytes, 256);
     let text: Option<String> = decoded(&rt, alloc, &mut short);
     let content = text.as_ref().map(|text| text.as_bytes());
     is_read(&rt, content, &want, &bytes, short.remaining());
@@ -112,7 +112,7 @@ fn arrays(rt: HostRuntime) {
     let mut slice = SliceReader::new(&bytes);
     let numbers: Option<Vec<u8>> = decoded(&rt, alloc, &mut slice);
     is_read(&rt, numbers.as_deref(), &want, &bytes, slice.remaining());
-    let mut short = ShortByByte::new(&bytes, 1);
+    let mut short = TestReader::short(&bytes, 1);
     let numbers: Option<Vec<u8>> = decoded(&rt, alloc, &mut short);
     is_read(&rt, numbers.as_deref(), &want, &bytes, short.remaining());
 }
@@ -124,7 +124,7 @@ fn arrays_of_texts(rt: HostRuntime) {
     let mut bytes = [0x61; 42];
     bytes[0] = 0x9f;
     bytes[41] = 0xff;
-    let mut short = ShortByByte::new(&bytes, 256);
+    let mut short = TestReader::short(&bytes, 256);
     let texts: Option<Vec<String>> = decoded(&rt, alloc, &mut short);
     match &texts {
         Some(texts) => {

@@ -1,84 +1,98 @@
 //! Rows of arrays, read: counted and open ones, nesting, and refusals.
 use cbor4ii_items::types::{Nothing, Tag};
-use cbor4ii_trials::rows::{Want, reads, reads_within};
+use cbor4ii_trials::rows::{Row, RowWithin, reads, reads_rows, reads_rows_within, reads_within};
 use std::alloc::{AllocError, Global};
 use std::test::Fail;
 
-const ARRAYS: &[&[u8]] = &[
-    b"\x83\x01\x02\x03\x04",
-    b"\x98\x03\x01\x02\x03\x04",
-    b"\x9f\x01\x02\x03\xff\x04",
+const ARRAYS: &[Row<&[u8]>] = &[
+    (b"\x83\x01\x02\x03\x04", Ok(&[1, 2, 3]), b"\x04"),
+    (b"\x98\x03\x01\x02\x03\x04", Ok(&[1, 2, 3]), b"\x04"),
+    (b"\x9f\x01\x02\x03\xff\x04", Ok(&[1, 2, 3]), b"\x04"),
+    (b"", Err("Eof { name: \"array\", expect: Small(1) }"), b""),
+    (
+        b"\x98",
+        Err("Eof { name: \"array\", expect: Small(1) }"),
+        b"",
+    ),
+    (
+        b"\x9a\x00\x01",
+        Err("Eof { name: \"array\", expect: Small(4) }"),
+        b"",
+    ),
+    (
+        b"\x01\x02",
+        Err("Mismatch { name: \"array\", found: 1 }"),
+        b"\x02",
+    ),
+    (
+        b"\xa0\x02",
+        Err("Mismatch { name: \"array\", found: 160 }"),
+        b"\x02",
+    ),
+    (
+        b"\x9c\x02",
+        Err("Mismatch { name: \"array\", found: 156 }"),
+        b"\x02",
+    ),
+    (
+        b"\xbf\xff",
+        Err("Mismatch { name: \"array\", found: 191 }"),
+        b"\xff",
+    ),
+    (
+        b"\x82\x01",
+        Err("Eof { name: \"u8\", expect: Small(1) }"),
+        b"",
+    ),
+    (
+        b"\x82\x01\x61",
+        Err("Mismatch { name: \"u8\", found: 97 }"),
+        b"",
+    ),
+    (
+        b"\x82\x01\xff\x02",
+        Err("Mismatch { name: \"u8\", found: 255 }"),
+        b"\x02",
+    ),
+    (
+        b"\x9f",
+        Err("Eof { name: \"break\", expect: Small(1) }"),
+        b"",
+    ),
+    (
+        b"\x9f\x01",
+        Err("Eof { name: \"break\", expect: Small(1) }"),
+        b"",
+    ),
+    (
+        b"\x9f\x01\x61\xff",
+        Err("Mismatch { name: \"u8\", found: 97 }"),
+        b"\xff",
+    ),
 ];
+
+#[test]
+fn arrays_of_numbers(rt: HostRuntime) -> Result<(), Fail> {
+    let alloc = rt.alloc();
+    for &(bytes, want, rest) in ARRAYS {
+        let want = match want {
+            Ok(numbers) => Ok(numbers.to_vec(alloc)?),
+            Err(refusal) => Err(refusal),
+        };
+        reads(alloc, bytes, want, rest)?;
+    }
+    Ok(())
+}
 
 #[test]
 fn arrays(rt: HostRuntime) -> Result<(), Fail> {
     let alloc = rt.alloc();
     let flags = vec![in alloc; true, false]?;
     reads(alloc, b"\x9f\xf5\xf4\xff", Ok(flags), b"")?;
-    for &bytes in ARRAYS {
-        let numbers = vec![in alloc; 1u8, 2, 3]?;
-        reads(alloc, bytes, Ok(numbers), b"\x04")?;
-    }
     let optional = vec![in alloc; Some(1u8), None, Some(2)]?;
     reads(alloc, b"\x9f\x01\xf6\x02\xff", Ok(optional), b"")?;
     let tagged = Tag(1, vec![in alloc; 7u8]?);
-    reads(alloc, b"\xc1\x81\x07", Ok(tagged), b"")
-}
-
-const REFUSED_ARRAYS: &[(&[u8], &str, &[u8])] = &[
-    (b"", "Eof { name: \"array\", expect: Small(1) }", b""),
-    (b"\x98", "Eof { name: \"array\", expect: Small(1) }", b""),
-    (
-        b"\x9a\x00\x01",
-        "Eof { name: \"array\", expect: Small(4) }",
-        b"",
-    ),
-    (
-        b"\x01\x02",
-        "Mismatch { name: \"array\", found: 1 }",
-        b"\x02",
-    ),
-    (
-        b"\xa0\x02",
-        "Mismatch { name: \"array\", found: 160 }",
-        b"\x02",
-    ),
-    (
-        b"\x9c\x02",
-        "Mismatch { name: \"array\", found: 156 }",
-        b"\x02",
-    ),
-    (
-        b"\xbf\xff",
-        "Mismatch { name: \"array\", found: 191 }",
-        b"\xff",
-    ),
-    (b"\x82\x01", "Eof { name: \"u8\", expect: Small(1) }", b""),
-    (b"\x82\x01\x61", "Mismatch { name: \"u8\", found: 97 }", b""),
-    (
-        b"\x82\x01\xff\x02",
-        "Mismatch { name: \"u8\", found: 255 }",
-        b"\x02",
-    ),
-    (b"\x9f", "Eof { name: \"break\", expect: Small(1) }", b""),
-    (
-        b"\x9f\x01",
-        "Eof { name: \"break\", expect: Small(1) }",
-        b"",
-    ),
-    (
-        b"\x9f\x01\x61\xff",
-        "Mismatch { name: \"u8\", found: 97 }",
-        b"\xff",
-    ),
-];
-
-#[test]
-fn refused_arrays(rt: HostRuntime) -> Result<(), Fail> {
-    let alloc = rt.alloc();
-    for &(bytes, refusal, rest) in REFUSED_ARRAYS {
-        reads::<Vec<u8>>(alloc, bytes, Err(refusal), rest)?;
-    }
+    reads(alloc, b"\xc1\x81\x07", Ok(tagged), b"")?;
     let ended = "Eof { name: \"u64\", expect: Small(1) }";
     let bytes = b"\x9b\xff\xff\xff\xff\xff\xff\xff\xff\x01";
     reads::<Vec<u64>>(alloc, bytes, Err(ended), b"")
@@ -89,28 +103,37 @@ fn refused_arrays(rt: HostRuntime) -> Result<(), Fail> {
 fn arrays_of_nothing(rt: HostRuntime) -> Result<(), Fail> {
     let alloc = rt.alloc();
     let open = "RequireLength { name: \"array\", found: Indefinite }";
-    reads::<Vec<Nothing>>(alloc, b"\x9f\x00", Err(open), b"\x00")?;
-    reads::<Vec<Nothing>>(alloc, b"\x9f\xff", Ok(Vec::new(alloc)), b"")?;
     let three = vec![in alloc; Nothing, Nothing, Nothing]?;
-    reads(alloc, b"\x83", Ok(three), b"")?;
+    reads_rows(
+        alloc,
+        &[
+            (b"\x9f\x00", Err(open), b"\x00"),
+            (b"\x9f\xff", Ok(Vec::new(alloc)), b""),
+            (b"\x83", Ok(three), b""),
+        ],
+    )?;
     reads::<Vec<Option<Nothing>>>(alloc, b"\x9f\xf6\xff", Err(open), b"\xf6\xff")
 }
+
+const NO_STEP: &str = "DepthOverflow { name: \"array\" }";
 
 #[test]
 fn a_step_for_each_array(rt: HostRuntime) -> Result<(), Fail> {
     let alloc = rt.alloc();
-    let no_step = "DepthOverflow { name: \"array\" }";
-    reads_within::<Vec<u8>>(alloc, b"\x80", 0, &Err(no_step), b"\x80")?;
-    reads_within::<Vec<Vec<u8>>>(alloc, b"\x81\x80", 1, &Err(no_step), b"\x80")?;
-    reads_within::<Vec<Vec<u8>>>(alloc, b"\x9f\x80", 1, &Err(no_step), b"\x80")?;
-    reads_within::<Vec<Vec<u8>>>(alloc, b"", 0, &Err(no_step), b"")?;
-    reads_within(alloc, b"\x80", 1, &Ok(Vec::<Vec<u8>>::new(alloc)), b"")?;
-    let one = vec![in alloc; Vec::<u8>::new(alloc)]?;
-    reads_within(alloc, b"\x81\x80", 2, &Ok(one), b"")?;
+    reads_within::<Vec<u8>>(alloc, b"\x80", 0, &Err(NO_STEP), b"\x80")?;
+    let empty = vec![in alloc; Vec::new(alloc)]?;
     let first = vec![in alloc; 1u8]?;
     let second = vec![in alloc; 2u8, 3]?;
     let two = vec![in alloc; first, second]?;
-    reads_within(alloc, b"\x82\x81\x01\x9f\x02\x03\xff", 2, &Ok(two), b"")
+    let rows: &[RowWithin<Vec<Vec<u8>>>] = &[
+        (b"\x81\x80", 1, Err(NO_STEP), b"\x80"),
+        (b"\x9f\x80", 1, Err(NO_STEP), b"\x80"),
+        (b"", 0, Err(NO_STEP), b""),
+        (b"\x80", 1, Ok(Vec::new(alloc)), b""),
+        (b"\x81\x80", 2, Ok(empty), b""),
+        (b"\x82\x81\x01\x9f\x02\x03\xff", 2, Ok(two), b""),
+    ];
+    reads_rows_within(alloc, rows)
 }
 
 fn texts(alloc: Global, texts: &[&str]) -> Result<Vec<String>, AllocError> {
@@ -126,9 +149,10 @@ fn arrays_of_texts(rt: HostRuntime) -> Result<(), Fail> {
     let alloc = rt.alloc();
     let two = texts(alloc, &["", "a"])?;
     reads(alloc, b"\x9f\x7f\xff\x61a\xff", Ok(two), b"")?;
-    let bytes = b"\x9f\x7f\x61a\xff\xff";
-    let one: Want<Vec<String>> = Ok(texts(alloc, &["a"])?);
-    reads_within(alloc, bytes, 2, &one, b"")?;
     let no_step = "DepthOverflow { name: \"str\" }";
-    reads_within::<Vec<String>>(alloc, bytes, 1, &Err(no_step), b"\x61a\xff\xff")
+    let rows: &[RowWithin<Vec<String>>] = &[
+        (b"\x9f\x7f\x61a\xff\xff", 2, Ok(texts(alloc, &["a"])?), b""),
+        (b"\x9f\x7f\x61a\xff\xff", 1, Err(no_step), b"\x61a\xff\xff"),
+    ];
+    reads_rows_within(alloc, rows)
 }

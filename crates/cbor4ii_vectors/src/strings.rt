@@ -7,7 +7,7 @@ use cbor4ii_rw::error::EncodeError;
 use cbor4ii_rw::io_reader::IoReader;
 use cbor4ii_rw::read::Source;
 use cbor4ii_rw::slice_reader::SliceReader;
-use cbor4ii_trials::readers::{Failure, Unlimited};
+use cbor4ii_trials::readers::{Failure, TestReader};
 use cbor4ii_trials::rows::{Want, lends, reads, reads_over, reads_within, writes_in};
 use cbor4ii_trials::writers::FailingWriter;
 use std::alloc::Global;
@@ -37,20 +37,41 @@ fn text(alloc: Global, want: Want<&str>) -> Result<Want<String>, Fail> {
     }
 }
 
-// What an owned byte string is read as.
-fn byte_string(alloc: Global, want: Want<&[u8]>) -> Result<Want<Bytes<Vec<u8>>>, Fail> {
-    match want {
-        Ok(content) => Ok(Ok(Bytes(content.to_vec(alloc)?))),
-        Err(refusal) => Ok(Err(refusal)),
-    }
+// Reads an owned text.
+fn reads_text(
+    alloc: Global,
+    bytes: &'static [u8],
+    want: Want<&str>,
+    rest: &[u8],
+) -> Result<(), Fail> {
+    reads(alloc, bytes, text(alloc, want)?, rest)
 }
 
-// What an owned text that is not tested is read as.
-fn unchecked(alloc: Global, want: Want<&[u8]>) -> Result<Want<UncheckedStr<Vec<u8>>>, Fail> {
-    match want {
-        Ok(content) => Ok(Ok(UncheckedStr(content.to_vec(alloc)?))),
-        Err(refusal) => Ok(Err(refusal)),
-    }
+// Reads an owned byte string.
+fn reads_bytes(
+    alloc: Global,
+    bytes: &'static [u8],
+    want: Want<&[u8]>,
+    rest: &[u8],
+) -> Result<(), Fail> {
+    let want = match want {
+        Ok(content) => Ok(Bytes(content.to_vec(alloc)?)),
+        Err(refusal) => Err(refusal),
+    };
+    reads(alloc, bytes, want, rest)
+}
+
+// Reads an owned text that is not tested.
+fn reads_unchecked(alloc: Global, bytes: &'static [u8], content: &[u8]) -> Result<(), Fail> {
+    let want = Ok(UncheckedStr(content.to_vec(alloc)?));
+    reads(alloc, bytes, want, b"")
+}
+
+// Reads a text that is not tested, owned and borrowed, and writes it.
+fn goes_unchecked(alloc: Global, bytes: &'static [u8], content: &'static [u8]) -> Result<(), Fail> {
+    reads_unchecked(alloc, bytes, content)?;
+    lends(alloc, bytes, Ok(UncheckedStr(content)), b"")?;
+    writes_string(alloc, &UncheckedStr(content), bytes)
 }
 
 // A string is written in two pushes, one for its head and one for its content, also an empty one.
@@ -72,24 +93,14 @@ const TEXTS: &[(&[u8], &str)] = &[
 fn texts(rt: HostRuntime) -> Result<(), Fail> {
     let alloc = rt.alloc();
     for &(bytes, value) in TEXTS {
-        let content = value.as_bytes();
-        reads::<String>(alloc, bytes, text(alloc, Ok(value))?, b"")?;
-        reads(alloc, bytes, unchecked(alloc, Ok(content))?, b"")?;
+        reads_text(alloc, bytes, Ok(value), b"")?;
+        goes_unchecked(alloc, bytes, value.as_bytes())?;
         lends::<&str>(alloc, bytes, Ok(value), b"")?;
-        lends(alloc, bytes, Ok(UncheckedStr(content)), b"")?;
         writes_string(alloc, &value, bytes)?;
         writes_string(alloc, &String::from_str(alloc, value)?, bytes)?;
-        writes_string(alloc, &UncheckedStr(content), bytes)?;
     }
-    reads::<String>(alloc, b"\x78\x02aa\xff", text(alloc, Ok("aa"))?, b"\xff")?;
-    reads(alloc, b"\x61\xff", unchecked(alloc, Ok(b"\xff"))?, b"")?;
-    lends(
-        alloc,
-        b"\x61\xff",
-        Ok(UncheckedStr(b"\xff".as_slice())),
-        b"",
-    )?;
-    writes_string(alloc, &UncheckedStr(b"\xff".as_slice()), b"\x61\xff")
+    reads_text(alloc, b"\x78\x02aa\xff", Ok("aa"), b"\xff")?;
+    goes_unchecked(alloc, b"\x61\xff", b"\xff")
 }
 
 const BYTE_STRINGS: &[(&[u8], &[u8])] = &[
@@ -101,12 +112,11 @@ const BYTE_STRINGS: &[(&[u8], &[u8])] = &[
 fn byte_strings(rt: HostRuntime) -> Result<(), Fail> {
     let alloc = rt.alloc();
     for &(bytes, content) in BYTE_STRINGS {
-        reads(alloc, bytes, byte_string(alloc, Ok(content))?, b"")?;
+        reads_bytes(alloc, bytes, Ok(content), b"")?;
         lends(alloc, bytes, Ok(Bytes(content)), b"")?;
         writes_string(alloc, &Bytes(content), bytes)?;
     }
-    let longer = byte_string(alloc, Ok(b"\x07"))?;
-    reads(alloc, b"\x58\x01\x07\x08", longer, b"\x08")
+    reads_bytes(alloc, b"\x58\x01\x07\x08", Ok(b"\x07"), b"\x08")
 }
 
 const CHUNKS_TEXTS: &[(&[u8], &str)] = &[
@@ -122,19 +132,14 @@ const CHUNKS_TEXTS: &[(&[u8], &str)] = &[
 fn chunks(rt: HostRuntime) -> Result<(), Fail> {
     let alloc = rt.alloc();
     for &(bytes, value) in CHUNKS_TEXTS {
-        reads::<String>(alloc, bytes, text(alloc, Ok(value))?, b"")?;
-        reads(alloc, bytes, unchecked(alloc, Ok(value.as_bytes()))?, b"")?;
+        reads_text(alloc, bytes, Ok(value), b"")?;
+        reads_unchecked(alloc, bytes, value.as_bytes())?;
     }
-    reads(
-        alloc,
-        b"\x7f\x61\xff\xff",
-        unchecked(alloc, Ok(b"\xff"))?,
-        b"",
-    )?;
-    reads(
+    reads_unchecked(alloc, b"\x7f\x61\xff\xff", b"\xff")?;
+    reads_bytes(
         alloc,
         b"\x5f\x42\x01\x02\x43\x03\x04\x05\xff\x00",
-        byte_string(alloc, Ok(b"\x01\x02\x03\x04\x05"))?,
+        Ok(b"\x01\x02\x03\x04\x05"),
         b"\x00",
     )
 }
@@ -180,7 +185,7 @@ const REFUSED_TEXTS: &[(&[u8], &str, &[u8])] = &[
 fn refused_texts(rt: HostRuntime) -> Result<(), Fail> {
     let alloc = rt.alloc();
     for &(bytes, refusal, rest) in REFUSED_TEXTS {
-        reads::<String>(alloc, bytes, Err(refusal), rest)?;
+        reads_text(alloc, bytes, Err(refusal), rest)?;
     }
     Ok(())
 }
@@ -198,7 +203,7 @@ fn lengths_without_bytes(rt: HostRuntime) -> Result<(), Fail> {
     let alloc = rt.alloc();
     let refusal = "Eof { name: \"bytes\", expect: Big }";
     for &bytes in LENGTHS_WITHOUT_BYTES {
-        reads::<Bytes<Vec<u8>>>(alloc, bytes, Err(refusal), b"")?;
+        reads_bytes(alloc, bytes, Err(refusal), b"")?;
     }
     Ok(())
 }
@@ -242,7 +247,13 @@ fn a_text_before_many_bytes(rt: HostRuntime) -> Result<(), Fail> {
     let want = text(alloc, Ok("test"))?;
     let mut stream = IoReader::new(bytes.as_slice());
     reads_over(alloc, &mut stream, &bytes, &want, &rest)?;
-    reads_over(alloc, &mut Unlimited::new(&bytes), &bytes, &want, &rest)?;
+    reads_over(
+        alloc,
+        &mut TestReader::unlimited(&bytes),
+        &bytes,
+        &want,
+        &rest,
+    )?;
     reads_over(alloc, &mut SliceReader::new(&bytes), &bytes, &want, &rest)
 }
 
