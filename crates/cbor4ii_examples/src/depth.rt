@@ -50,6 +50,19 @@ fn tags(alloc: Global, count: usize) -> Result<Value, AllocError> {
     Ok(value)
 }
 
+fn reads(alloc: Global, bytes: &'static [u8], want: Want<Value>, rest: &[u8]) -> Result<(), Fail> {
+    reads_by_each(alloc, bytes, 256, &want, rest)
+}
+
+fn skips(
+    alloc: Global,
+    bytes: &'static [u8],
+    want: Want<IgnoredAny>,
+    rest: &[u8],
+) -> Result<(), Fail> {
+    reads_by_each(alloc, bytes, 256, &want, rest)
+}
+
 #[test]
 fn refused(rt: HostRuntime) -> Result<(), Fail> {
     let alloc = rt.alloc();
@@ -58,14 +71,14 @@ fn refused(rt: HostRuntime) -> Result<(), Fail> {
         let rest = bytes
             .get(bytes.len().saturating_sub(*left)..)
             .ok_or("no rest")?;
-        reads_by_each::<Value>(alloc, bytes, 256, &Err(*read), rest)?;
+        reads(alloc, bytes, Err(*read), rest)?;
         match skipped {
-            None => reads_by_each(alloc, bytes, 256, &Ok(IgnoredAny), b"")?,
+            None => skips(alloc, bytes, Ok(IgnoredAny), b"")?,
             Some(left) => {
                 let rest = bytes
                     .get(bytes.len().saturating_sub(*left)..)
                     .ok_or("no rest")?;
-                reads_by_each::<IgnoredAny>(alloc, bytes, 256, &Err(NO_STEP), rest)?;
+                skips(alloc, bytes, Err(NO_STEP), rest)?;
                 let mut slice = SliceReader::new(bytes);
                 let want: Want<RawValue> = Err(NO_STEP);
                 reads_over(alloc, &mut slice, bytes, &want, bytes)?;
@@ -79,10 +92,10 @@ fn refused(rt: HostRuntime) -> Result<(), Fail> {
 fn all_steps_taken(rt: HostRuntime) -> Result<(), Fail> {
     let alloc = rt.alloc();
     let bytes = nested(alloc, 0x81, 127, b"\x80")?;
-    reads_by_each(alloc, bytes, 256, &Ok(arrays(alloc, 127)?), b"")?;
+    reads(alloc, bytes, Ok(arrays(alloc, 127)?), b"")?;
     let bytes = nested(alloc, 0xc1, 255, b"\x00")?;
-    reads_by_each(alloc, bytes, 256, &Ok(tags(alloc, 255)?), b"")?;
-    reads_by_each(alloc, bytes, 256, &Ok(IgnoredAny), b"")
+    reads(alloc, bytes, Ok(tags(alloc, 255)?), b"")?;
+    skips(alloc, bytes, Ok(IgnoredAny), b"")
 }
 
 // 1,000 arrays and one that is empty, and then 0 and null.

@@ -119,14 +119,16 @@ fn fronts_of_items(rt: HostRuntime) {
     }
 }
 
+const OF_SHORT_BYTES: &[(&[u8], &str)] = &[(b"\x00", NOT_LENT), (b"", CUT_OFF)];
+
 // Bytes that do not live as long as the input are refused, and before any step.
 #[test]
 fn short_bytes(rt: HostRuntime) -> Result<(), Fail> {
     let alloc = rt.alloc();
-    lends_short::<Lent>(alloc, b"\x00", Err(NOT_LENT), b"\x00")?;
-    lends_short::<Copied<Lent>>(alloc, b"\x00", Err(NOT_LENT), b"\x00")?;
-    lends_short::<Lent>(alloc, b"", Err(CUT_OFF), b"")?;
-    lends_short::<Copied<Lent>>(alloc, b"", Err(CUT_OFF), b"")?;
+    for &(bytes, refusal) in OF_SHORT_BYTES {
+        lends_short::<Lent>(alloc, bytes, Err(refusal), bytes)?;
+        lends_short::<Copied<Lent>>(alloc, bytes, Err(refusal), bytes)?;
+    }
     let want: Want<Lent> = Err(NOT_LENT);
     let mut reader = TestReader::short(b"\x00", 0);
     reads_over(alloc, &mut reader, b"\x00", &want, b"\x00")

@@ -260,9 +260,47 @@ fn refuses(
     read: (&'static str, &[u8]),
     skipped: (&'static str, &[u8]),
 ) -> Result<(), Fail> {
-    reads::<Value>(alloc, bytes, Err(read.0), read.1)?;
-    reads::<IgnoredAny>(alloc, bytes, Err(skipped.0), skipped.1)?;
+    refuses_value(alloc, bytes, read.0, read.1)?;
+    skips(alloc, bytes, Err(skipped.0), skipped.1)?;
     stays(alloc, bytes, 256, skipped.0)
+}
+
+fn refuses_value(
+    alloc: Global,
+    bytes: &'static [u8],
+    refusal: &'static str,
+    rest: &[u8],
+) -> Result<(), Fail> {
+    reads::<Value>(alloc, bytes, Err(refusal), rest)
+}
+
+fn skips(
+    alloc: Global,
+    bytes: &'static [u8],
+    want: Want<IgnoredAny>,
+    rest: &[u8],
+) -> Result<(), Fail> {
+    reads(alloc, bytes, want, rest)
+}
+
+fn refuses_value_within(
+    alloc: Global,
+    bytes: &'static [u8],
+    limit: usize,
+    refusal: &'static str,
+    rest: &[u8],
+) -> Result<(), Fail> {
+    reads_within::<Value>(alloc, bytes, limit, &Err(refusal), rest)
+}
+
+fn skips_within(
+    alloc: Global,
+    bytes: &'static [u8],
+    limit: usize,
+    want: Want<IgnoredAny>,
+    rest: &[u8],
+) -> Result<(), Fail> {
+    reads_within(alloc, bytes, limit, &want, rest)
 }
 
 // An item that is kept as its bytes, lent or copied, is refused as skipping refuses it, and nothing
@@ -306,8 +344,8 @@ fn refused(rt: HostRuntime) -> Result<(), Fail> {
 fn refused_and_skipped(rt: HostRuntime) -> Result<(), Fail> {
     let alloc = rt.alloc();
     for (bytes, read, left, skipped_left) in SKIPPED {
-        reads::<Value>(alloc, bytes, Err(*read), left)?;
-        reads(alloc, bytes, Ok(IgnoredAny), skipped_left)?;
+        refuses_value(alloc, bytes, read, left)?;
+        skips(alloc, bytes, Ok(IgnoredAny), skipped_left)?;
     }
     Ok(())
 }
@@ -316,13 +354,13 @@ fn refused_and_skipped(rt: HostRuntime) -> Result<(), Fail> {
 fn refused_within_a_limit(rt: HostRuntime) -> Result<(), Fail> {
     let alloc = rt.alloc();
     for (bytes, limit, read, left, skipped, skipped_left) in REFUSED_WITHIN {
-        reads_within::<Value>(alloc, bytes, *limit, &Err(*read), left)?;
-        reads_within::<IgnoredAny>(alloc, bytes, *limit, &Err(*skipped), skipped_left)?;
+        refuses_value_within(alloc, bytes, *limit, read, left)?;
+        skips_within(alloc, bytes, *limit, Err(*skipped), skipped_left)?;
         stays(alloc, bytes, *limit, skipped)?;
     }
     for (bytes, limit, read, left, skipped_left) in SKIPPED_WITHIN {
-        reads_within::<Value>(alloc, bytes, *limit, &Err(*read), left)?;
-        reads_within(alloc, bytes, *limit, &Ok(IgnoredAny), skipped_left)?;
+        refuses_value_within(alloc, bytes, *limit, read, left)?;
+        skips_within(alloc, bytes, *limit, Ok(IgnoredAny), skipped_left)?;
     }
     Ok(())
 }
