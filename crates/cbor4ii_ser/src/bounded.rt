@@ -34,7 +34,7 @@ use cbor4ii_rw::write::Write;
 ///
 /// What was written when `end` has answered is the head and the parts in order. A call that fails
 /// does not change `left`.
-#[derive(Drop)]
+#[derive(Debug, Drop)]
 pub struct BoundedCollect<'a, W: Write> {
     pub(crate) ser: &'a mut Serializer<W>,
     pub(crate) left: usize,

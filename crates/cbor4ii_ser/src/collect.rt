@@ -27,7 +27,7 @@ use cbor4ii_rw::write::Write;
 /// What was written when `end` has answered is the head, the parts in order, and a break where the
 /// length is indefinite. A call that fails changes neither `left` nor `owes_value`, save that an
 /// entry that fails at its value has written its key.
-#[derive(Drop)]
+#[derive(Debug, Drop)]
 pub struct Collect<'a, W: Write> {
     pub(crate) ser: &'a mut Serializer<W>,
     pub(crate) left: Option<usize>,

@@ -25,7 +25,7 @@ use cbor4ii_rw::write::Write;
 /// A call fails with `Core`, and only where the writer failed in it, if nothing else is said. A
 /// whole writer then holds what it held before and a beginning of the item; of another writer
 /// nothing is said.
-#[derive(Drop)]
+#[derive(Debug, Drop)]
 pub struct Serializer<W> {
     pub(crate) writer: W,
 }

@@ -20,14 +20,8 @@ fn writes<T: Serialize>(
 ) -> Result<(), Fail> {
     let mut held = Vec::new(alloc);
     held.push(0xffu8)?;
-    match to_vec(held, value) {
-        Ok(written) => {
-            assert_eq!(rt; &written.as_slice()[..1], b"\xff".as_slice());
-            assert_eq!(rt; &written.as_slice()[1..], bytes);
-        }
-        Err(_) => {
-            assert!(rt; false);
-        }
-    }
+    let written = to_vec(held, value)?;
+    assert_eq!(rt; &written.as_slice()[..1], b"\xff".as_slice());
+    assert_eq!(rt; &written.as_slice()[1..], bytes);
     Ok(())
 }

@@ -1,6 +1,8 @@
 -- One part of an item after another.
 use Rattle.std.proofs.Common.{◌≡◌, ℕ, ◌+◌, ◌<◌, ◌≤◌, get_or, drop, List, [], ◌∷◌, ◌++◌, length, take, length-append, arith, Option, None, Some, Result, Ok, Err, Bool, refl, sym, ap, ◌∙◌, append_assoc, subst}
 use Rattle.std.specs.Io.{StartsWith}
+use Rattle.std.specs.Result.{IsErrAnd}
+use Rattle.std.proofs.lemmas.Result.{err_from_is_err_and}
 use Rattle.std.proofs.Math.Seq.{take-append-add}
 use Rattle.std.proofs.lemmas.List.{append-nil, take-append-le, length-take, take_more, take-append-drop}
 use Rattle.cbor4ii_rw.specs.Reader.{Failed}
@@ -77,6 +79,12 @@ serializes_err a b {old = old} {new = new} {e = e} p = record {
   failed = blames_more a b old.failures new.failures e p.failed;
   front = λ whole. begins_more a b old.written new.written (p.front whole);
 }
+
+-- what a `?` answers there
+pub serializes_out : {T U E : Type 0} {whole : Bool} {a : Option (List ℕ)} (b : Option (List ℕ)) {old new : Output} {e : EncodeError E} {answer : Result U (EncodeError E)} → IsErrAnd answer (λ y. y ≡ e) → Serializes {T = T} whole a old new (Err e) → Serializes {T = U} whole (followed a b) old new answer
+serializes_out {whole = whole} {a = a} b {old = old} {new = new} {answer = answer} is p =
+    let found = err_from_is_err_and answer is in
+    rw (found.1, found.2) (serializes_err a b p)
 
 -- one part, and then another
 pub serializes_then : {T U E : Type 0} {whole : Bool} (a b : Option (List ℕ)) {old mid new : Output} {t : T} (r : Result U (EncodeError E)) → Serializes {E = E} whole a old mid (Ok t) → Serializes whole b mid new r → Serializes whole (followed a b) old new r

@@ -1,6 +1,9 @@
 //! Writers that fail.
-ghost use Rattle.std.specs.Prelude.{Some, true};
+ghost use Rattle.std.specs.Prelude.{◌∷◌, [], Some, true, false, string_bytes};
+ghost use Rattle.cbor4ii_ser.specs.TextState.{text_item};
 
+use super::records::{Enum, Point};
+use super::texts::letters;
 use crate::error::EncodeError;
 use crate::serialize::Serialize;
 use crate::serializer::Serializer;
@@ -9,7 +12,8 @@ use crate::write_all::to_writer;
 use cbor4ii_rw::error as core_error;
 use cbor4ii_rw::write::Write;
 use std::alloc::Global;
-use std::io::ErrorKind;
+use std::collections::BTreeMap;
+use std::io::{self, ErrorKind};
 use std::process::Abort;
 use std::test::Fail;
 
@@ -26,10 +30,11 @@ struct FailsInTurn {
 }
 
 impl FailsInTurn {
-    /// A writer that takes so many pushes before it fails.
-    fn new(alloc: Global, pushes: usize) -> FailsInTurn {
+    /// A writer that takes so many pushes before it fails, into the memory of `bytes`.
+    fn new(mut bytes: Vec<u8>, pushes: usize) -> FailsInTurn {
+        bytes.clear();
         FailsInTurn {
-            bytes: Vec::new(alloc),
+            bytes,
             pushes,
             failures: 0,
         }
@@ -67,31 +72,124 @@ fn fails_at_each_push<T: Serialize>(
     value: &T,
     bytes: &[u8],
     pushes: usize,
-) {
+) -> Result<(), Fail> {
+    let mut room = Vec::with_capacity(alloc, bytes.len())?;
     for taken in 0..pushes {
-        let mut ser = Serializer::new(FailsInTurn::new(alloc, taken));
+        let mut ser = Serializer::new(FailsInTurn::new(room, taken));
         let answer = value.serialize(&mut ser);
         assert!(rt; answer == Err(FAILED));
         let written = ser.into_inner();
         assert!(rt; bytes.starts_with(written.bytes.as_slice()));
         assert_eq!(rt; written.failures, 1);
+        room = written.bytes;
     }
-    let mut ser = Serializer::new(FailsInTurn::new(alloc, pushes));
+    let mut ser = Serializer::new(FailsInTurn::new(room, pushes));
     assert!(rt; value.serialize(&mut ser).is_ok());
     assert_eq!(rt; ser.into_inner().bytes.as_slice(), bytes);
+    Ok(())
 }
 
-#[test]
-fn each_push(rt: HostRuntime) -> Result<(), Fail> {
-    let alloc = rt.alloc();
-    let value = ("ab", 500u32, vec![in alloc; (), ()]?);
-    fails_at_each_push(&rt, alloc, &value, b"\x83\x62ab\x19\x01\xf4\x82\x80\x80", 7);
+/// A stream that takes one byte at a time, and fails from one byte on.
+#[derive(Drop)]
+struct FailsAtByte {
+    bytes: [u8; 512],
+    size: usize,
+    room: usize,
+}
+
+impl FailsAtByte {
+    /// A stream that takes so many bytes before it fails.
+    fn new(room: usize) -> FailsAtByte {
+        FailsAtByte {
+            bytes: [0; 512],
+            size: 0,
+            room,
+        }
+    }
+}
+
+impl io::Write for FailsAtByte {
+    fn write(&mut self, buf: &[u8]) -> io::Result<usize> {
+        let [first, ..] = buf else {
+            return Ok(0);
+        };
+        if self.size >= self.room || self.size >= 512 {
+            return Err(io::Error::from(ErrorKind::Other));
+        }
+        self.bytes[self.size] = *first;
+        self.size += 1;
+        Ok(1)
+    }
+
+    fn flush(&mut self) -> io::Result<()> {
+        Ok(())
+    }
+}
+
+/// The stream's own error is answered, at whichever of the value's bytes it fails.
+fn fails_at_each_byte<T: Serialize>(rt: &impl Abort, value: &T, bytes: &[u8]) -> Result<(), Fail> {
+    for room in 0..bytes.len() {
+        match to_writer(FailsAtByte::new(room), value) {
+            Err(EncodeError::Core(core_error::EncodeError::Write(error))) => {
+                assert!(rt; error.kind() == ErrorKind::Other);
+            }
+            _ => {
+                assert!(rt; false);
+            }
+        }
+    }
+    let written = to_writer(FailsAtByte::new(bytes.len()), value)?;
+    assert_eq!(rt; written.size, bytes.len());
+    assert!(rt; written.bytes.starts_with(bytes));
     Ok(())
+}
+
+/// A text in pieces, as a value.
+#[derive(Drop)]
+struct InPieces(String, String);
+
+impl Serialize for InPieces {
+    ghost item = { λ t. text_item false (string_bytes t.0 ∷ string_bytes t.1 ∷ []) };
+
+    fn serialize<W: Write>(&self, ser: &mut Serializer<W>) -> Result<(), EncodeError<W::Error>> {
+        ser.collect_str(&(self.0.as_str(), self.1.as_str()))
+    }
+}
+
+/// What a value is written as that has a part of each kind.
+const PARTS: &[u8] = b"\x82\x83\
+\xa3\x61x\x05\x64name\x61a\x61y\xf6\
+\xa1\x66Struct\xa2\x61x\x18\x99\x61y\x38\x98\
+\xa1\x65Tuple\x82\x63123\xf4\
+\x82\xa1\x18\x18\x81\x82\xf5\x80";
+
+#[test]
+fn each_push_and_each_byte(rt: HostRuntime) -> Result<(), Fail> {
+    let alloc = rt.alloc();
+    let point = Point {
+        x: 5,
+        name: String::from_str(alloc, "a")?,
+        y: None,
+    };
+    let both = Enum::Struct { x: 0x99, y: -0x99 };
+    let tuple = Enum::Tuple(String::from_str(alloc, "123")?, false);
+    let mut map = BTreeMap::new(alloc);
+    map.insert(24u8, vec![in alloc; (true, ())]?)?;
+    let text = InPieces(letters(alloc, 200)?, letters(alloc, 56)?);
+    let mut bytes = Vec::from_slice(alloc, PARTS)?;
+    bytes.extend_from_slice(b"\x7f\x78\xc8")?;
+    bytes.extend_from_slice(text.0.as_bytes())?;
+    bytes.extend_from_slice(b"\x78\x38")?;
+    bytes.extend_from_slice(text.1.as_bytes())?;
+    bytes.push(0xff)?;
+    let value = ((point, both, tuple), (map, text));
+    fails_at_each_push(&rt, alloc, &value, &bytes, 43)?;
+    fails_at_each_byte(&rt, &value, &bytes)
 }
 
 #[test]
 fn a_text_writer_keeps_the_writers_error(rt: HostRuntime) -> Result<(), Fail> {
-    let mut writer = FailsInTurn::new(rt.alloc(), 1);
+    let mut writer = FailsInTurn::new(Vec::with_capacity(rt.alloc(), 1)?, 1);
     let mut text = TextWriter::new(&mut writer);
     for _ in 0..255 {
         assert!(rt; text.write_str("a").is_ok());

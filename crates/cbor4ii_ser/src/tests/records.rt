@@ -23,10 +23,10 @@ use std::test::Fail;
 
 /// A struct with an optional field, written from its named fields.
 #[derive(Drop)]
-struct Point {
-    x: u32,
-    name: String,
-    y: Option<i32>,
+pub(super) struct Point {
+    pub(super) x: u32,
+    pub(super) name: String,
+    pub(super) y: Option<i32>,
 }
 
 impl Serialize for Point {
@@ -46,7 +46,7 @@ impl Serialize for Point {
 
 /// An enum with variants of each kind.
 #[derive(Drop)]
-enum Enum {
+pub(super) enum Enum {
     Unit,
     NewType(u32),
     Tuple(String, bool),

@@ -32,19 +32,13 @@ fn writes_text<T: Text>(
             expected.push(b'a')?;
         }
     }
-    match written(alloc, text) {
-        Ok(bytes) => {
-            assert_eq!(rt; bytes.as_slice(), expected.as_slice());
-        }
-        Err(_) => {
-            assert!(rt; false);
-        }
-    }
+    let bytes = written(alloc, text)?;
+    assert_eq!(rt; bytes.as_slice(), expected.as_slice());
     Ok(())
 }
 
 /// So many letters.
-fn letters(alloc: Global, count: usize) -> Result<String, Fail> {
+pub(super) fn letters(alloc: Global, count: usize) -> Result<String, Fail> {
     let mut text = String::new(alloc);
     for _ in 0..count {
         text.push_str("a")?;
@@ -91,14 +85,14 @@ fn long_texts(rt: HostRuntime) -> Result<(), Fail> {
 fn a_long_piece_and_many_short_ones(rt: HostRuntime) -> Result<(), Fail> {
     let alloc = rt.alloc();
     let first = letters(alloc, 257)?;
-    let mut out = BufWriter::new(Vec::new(alloc));
+    let mut out = BufWriter::new(Vec::with_capacity(alloc, 522)?);
     let mut text = TextWriter::new(&mut out);
     assert!(rt; text.write_str(first.as_str()).is_ok());
     for _ in 0..257 {
         assert!(rt; text.write_str("a").is_ok());
     }
     assert!(rt; !text.is_error());
-    assert!(rt; text.flush().is_ok());
+    text.flush()?;
     assert_eq!(rt; out.buffer().len(), 522);
     assert_eq!(rt; &out.buffer()[..4], b"\x7f\x79\x01\x01".as_slice());
     assert_eq!(rt; &out.buffer()[261..263], b"\x78\xff".as_slice());

@@ -99,7 +99,7 @@ type Written = Result<(), EncodeError<TryReserveError>>;
 #[test]
 fn calls_for_numbers(rt: HostRuntime) -> Result<(), Fail> {
     let mut ser = Serializer::new(BufWriter::new(Vec::new(rt.alloc())));
-    assert!(rt; numbers_by_calls(&mut ser).is_ok());
+    numbers_by_calls(&mut ser)?;
     assert!(rt; !ser.is_human_readable());
     let numbers = b"\xf5\x20\x21\x22\x23\x24\x01\x02\x03\x04\x05\xf9\x00\x01";
     assert_eq!(rt; ser.into_inner().buffer(), numbers.as_slice());
@@ -124,7 +124,7 @@ fn numbers_by_calls(ser: &mut Serializer<BufWriter>) -> Written {
 #[test]
 fn calls_for_other_leaves(rt: HostRuntime) -> Result<(), Fail> {
     let mut ser = Serializer::new(BufWriter::new(Vec::new(rt.alloc())));
-    assert!(rt; leaves_by_calls(&mut ser).is_ok());
+    leaves_by_calls(&mut ser)?;
     let leaves =
         b"\xfa\x00\x00\x00\x02\xfb\x00\x00\x00\x00\x00\x00\x00\x03\x61c\x62st\x41\x08\xf6\x07\x80";
     assert_eq!(rt; ser.into_inner().buffer(), leaves.as_slice());
@@ -145,7 +145,7 @@ fn leaves_by_calls(ser: &mut Serializer<BufWriter>) -> Written {
 #[test]
 fn calls_for_variants(rt: HostRuntime) -> Result<(), Fail> {
     let mut ser = Serializer::new(BufWriter::new(Vec::new(rt.alloc())));
-    assert!(rt; variants_by_calls(&mut ser).is_ok());
+    variants_by_calls(&mut ser)?;
     let variants = b"\x80\x64Unit\x06\xa1\x63New\x19\x09\x99\xa1\x61A\x60";
     assert_eq!(rt; ser.into_inner().buffer(), variants.as_slice());
     Ok(())
@@ -162,10 +162,10 @@ fn variants_by_calls(ser: &mut Serializer<BufWriter>) -> Written {
 #[test]
 fn collects(rt: HostRuntime) -> Result<(), Fail> {
     let mut ser = Serializer::new(BufWriter::new(Vec::new(rt.alloc())));
-    assert!(rt; an_open_array(&mut ser).is_ok());
-    assert!(rt; a_counted_array(&mut ser).is_ok());
-    assert!(rt; an_open_map(&mut ser).is_ok());
-    assert!(rt; a_tuple_and_its_variants(&mut ser).is_ok());
+    an_open_array(&mut ser)?;
+    a_counted_array(&mut ser)?;
+    an_open_map(&mut ser)?;
+    a_tuple_and_its_variants(&mut ser)?;
     let expected =
         b"\x9f\x01\xff\x81\x02\xbf\x03\x04\x05\x06\xff\x81\x07\x81\x08\xa1\x65Tuple\x82\x63123\xf4";
     assert_eq!(rt; ser.into_inner().buffer(), expected.as_slice());
@@ -208,21 +208,18 @@ fn a_tuple_and_its_variants(ser: &mut Serializer<BufWriter>) -> Written {
 #[test]
 fn what_a_collect_says_of_itself(rt: HostRuntime) -> Result<(), Fail> {
     let mut ser = Serializer::new(BufWriter::new(Vec::new(rt.alloc())));
-    if let Ok(mut entries) = ser.serialize_map(Some(1)) {
-        assert_eq!(rt; entries.left(), Some(1));
-        assert!(rt; entries.keyed() && !entries.owes_value());
-        assert!(rt; entries.serialize_key(&1u8).is_ok());
-        assert_eq!(rt; entries.left(), Some(0));
-        assert!(rt; entries.owes_value());
-    }
-    if let Ok(items) = ser.serialize_seq(None) {
-        assert_eq!(rt; items.left(), None);
-        assert!(rt; !items.keyed());
-    }
-    if let Ok(fields) = ser.serialize_struct("Struct", 2) {
-        assert_eq!(rt; fields.left(), 2);
-        assert!(rt; fields.keyed());
-    }
+    let mut entries = ser.serialize_map(Some(1))?;
+    assert_eq!(rt; entries.left(), Some(1));
+    assert!(rt; entries.keyed() && !entries.owes_value());
+    entries.serialize_key(&1u8)?;
+    assert_eq!(rt; entries.left(), Some(0));
+    assert!(rt; entries.owes_value());
+    let items = ser.serialize_seq(None)?;
+    assert_eq!(rt; items.left(), None);
+    assert!(rt; !items.keyed());
+    let fields = ser.serialize_struct("Struct", 2)?;
+    assert_eq!(rt; fields.left(), 2);
+    assert!(rt; fields.keyed());
     assert_eq!(rt; ser.into_inner().buffer(), b"\xa1\x01\x9f\xa2".as_slice());
     Ok(())
 }

@@ -1,7 +1,6 @@
 use Rattle.std.proofs.Common.{◌≡◌, ◌++◌, ◌∷◌, [], sym, ap, ◌∙◌, append_assoc}
-use Rattle.std.proofs.lemmas.Result.{err_from_is_err_and}
 use Rattle.cbor4ii_ser.specs.Item.{items_of, entry_item}
-use Rattle.cbor4ii_ser.specs.Laws.Joining.{serializes_then, serializes_err, serializes_as, items_turn, items_push}
+use Rattle.cbor4ii_ser.specs.Laws.Joining.{serializes_then, serializes_out, serializes_as, items_turn, items_push}
 use Rattle.cbor4ii_ser.proofs.maps.put_entries.Goals as goal
 
 pub loop-key-preserved : goal.loop-key-preserved
@@ -15,9 +14,8 @@ loop-key-preserved g c =
 
 pub returns-in_err-put_entry : goal.returns-in_err-put_entry
 returns-in_err-put_entry g c =
-    let p = err_from_is_err_and c.from_residual.result c.from_residual.ensures.1 in
     let item = entry_item g.K.Serialize.item g.V.Serialize.item in
     let done = c.loop-key.invariant.0 in
     let e : g.row.K.Denot × g.row.V.Denot = (c.in-Some.key.now, c.in-Some.value.now) in
     let all = c.loop-key.invariant.1 ∙ ap (λ z. done ++ z) c.in-Some.ensures.steps in
-    rw (p.1, p.2) (serializes_as _ (items_turn item done e c.next.new.self ∙ sym (ap (items_of item) all)) (serializes_then _ _ _ c.loop-key.invariant.2 (serializes_err _ (items_of item c.next.new.self) c.in_err-put_entry.ensures)))
+    serializes_as _ (items_turn item done e c.next.new.self ∙ sym (ap (items_of item) all)) (serializes_then _ _ _ c.loop-key.invariant.2 (serializes_out (items_of item c.next.new.self) c.from_residual.ensures.1 c.in_err-put_entry.ensures))

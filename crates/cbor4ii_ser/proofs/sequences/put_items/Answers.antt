@@ -1,17 +1,14 @@
 use Rattle.std.proofs.Common.{◌≡◌, length, ap, ◌∙◌, arith, take}
 use Rattle.std.proofs.Math.Seq.{take-length}
-use Rattle.std.proofs.lemmas.Result.{err_from_is_err_and}
 use Rattle.cbor4ii_ser.specs.Item.{items_of}
-use Rattle.cbor4ii_ser.specs.Laws.Joining.{serializes_then, serializes_err, serializes_as, serializes_nil, items_more, items_behind}
+use Rattle.cbor4ii_ser.specs.Laws.Joining.{serializes_then, serializes_out, serializes_as, serializes_nil, items_more, items_behind}
 use Rattle.cbor4ii_ser.proofs.sequences.put_items.Goals as goal
 
 pub loop-item-init : goal.loop-item-init
 loop-item-init g c = serializes_nil _
 
 pub returns-in_err-serialize : goal.returns-in_err-serialize
-returns-in_err-serialize g c =
-    let p = err_from_is_err_and c.from_residual.result c.from_residual.ensures.1 in
-    rw (p.1, p.2) (serializes_as _ (items_behind g.T.Serialize.item c.args.items.now c.loop-item.item-index c.item-item.result c.loop-item-test.true c.item-item.is) (serializes_err _ _ (serializes_then _ _ _ c.loop-item.invariant c.in_err-serialize.ensures)))
+returns-in_err-serialize g c = serializes_as _ (items_behind g.T.Serialize.item c.args.items.now c.loop-item.item-index c.item-item.result c.loop-item-test.true c.item-item.is) (serializes_out _ c.from_residual.ensures.1 (serializes_then _ _ _ c.loop-item.invariant c.in_err-serialize.ensures))
 
 pub loop-item-preserved : goal.loop-item-preserved
 loop-item-preserved g c =

@@ -1,11 +1,8 @@
-use Rattle.std.proofs.lemmas.Result.{err_from_is_err_and}
-use Rattle.cbor4ii_ser.specs.Laws.Joining.{serializes_then, serializes_err, serializes_last}
+use Rattle.cbor4ii_ser.specs.Laws.Joining.{serializes_then, serializes_out, serializes_last}
 use Rattle.cbor4ii_ser.proofs.serializer.Serializer.serialize_1_field.Goals as goal
 
 pub returns-in_err-map_head : goal.returns-in_err-map_head
-returns-in_err-map_head g c =
-    let p = err_from_is_err_and c.from_residual.result c.from_residual.ensures.1 in
-    rw (p.1, p.2) (serializes_err _ _ c.in_err-map_head.ensures)
+returns-in_err-map_head g c = serializes_out _ c.from_residual.ensures.1 c.in_err-map_head.ensures
 
 pub returns : goal.returns
 returns g c = serializes_then _ _ c.put_field.result c.in_ok-map_head.ensures (serializes_last c.put_field.result c.put_field.ensures)

@@ -1,16 +1,11 @@
-use Rattle.std.proofs.lemmas.Result.{err_from_is_err_and}
-use Rattle.cbor4ii_ser.specs.Laws.Joining.{serializes_then, serializes_err, serializes_last}
+use Rattle.cbor4ii_ser.specs.Laws.Joining.{serializes_then, serializes_out, serializes_last}
 use Rattle.cbor4ii_ser.proofs.serializer.Serializer.serialize_variant_of_2_items.Goals as goal
 
 pub returns-in_err-tuple_variant_head : goal.returns-in_err-tuple_variant_head
-returns-in_err-tuple_variant_head g c =
-    let p = err_from_is_err_and c.from_residual.result c.from_residual.ensures.1 in
-    rw (p.1, p.2) (serializes_err _ _ c.in_err-tuple_variant_head.ensures)
+returns-in_err-tuple_variant_head g c = serializes_out _ c.from_residual.ensures.1 c.in_err-tuple_variant_head.ensures
 
 pub returns-in_err-serialize : goal.returns-in_err-serialize
-returns-in_err-serialize g c =
-    let p = err_from_is_err_and c.from_residual-in_err-serialize.result c.from_residual-in_err-serialize.ensures.1 in
-    rw (p.1, p.2) (serializes_then _ _ _ c.in_ok-tuple_variant_head.ensures (serializes_err _ _ c.in_err-serialize.ensures))
+returns-in_err-serialize g c = serializes_then _ _ _ c.in_ok-tuple_variant_head.ensures (serializes_out _ c.from_residual-in_err-serialize.ensures.1 c.in_err-serialize.ensures)
 
 pub returns : goal.returns
 returns g c = serializes_then _ _ c.serialize-2.result c.in_ok-tuple_variant_head.ensures (serializes_then _ _ c.serialize-2.result c.in_ok-serialize.ensures (serializes_last c.serialize-2.result c.serialize-2.ensures))
