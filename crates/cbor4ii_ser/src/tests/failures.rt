@@ -146,13 +146,13 @@ fn fails_at_each_byte<T: Serialize>(rt: &impl Abort, value: &T, bytes: &[u8]) ->
 
 /// A text in pieces, as a value.
 #[derive(Drop)]
-struct InPieces(String, String);
+struct InPieces((String, String));
 
 impl Serialize for InPieces {
-    ghost item = { λ t. text_item false (string_bytes t.0 ∷ string_bytes t.1 ∷ []) };
+    ghost item = { λ t. text_item false (string_bytes t.0.0 ∷ string_bytes t.0.1 ∷ []) };
 
     fn serialize<W: Write>(&self, ser: &mut Serializer<W>) -> Result<(), EncodeError<W::Error>> {
-        ser.collect_str(&(self.0.as_str(), self.1.as_str()))
+        ser.collect_str(&self.0)
     }
 }
 
@@ -175,13 +175,14 @@ fn each_push_and_each_byte(rt: HostRuntime) -> Result<(), Fail> {
     let tuple = Enum::Tuple(String::from_str(alloc, "123")?, false);
     let mut map = BTreeMap::new(alloc);
     map.insert(24u8, vec![in alloc; (true, ())]?)?;
-    let text = InPieces(letters(alloc, 200)?, letters(alloc, 56)?);
+    let (first, second) = (letters(alloc, 200)?, letters(alloc, 56)?);
     let mut bytes = Vec::from_slice(alloc, PARTS)?;
     bytes.extend_from_slice(b"\x7f\x78\xc8")?;
-    bytes.extend_from_slice(text.0.as_bytes())?;
+    bytes.extend_from_slice(first.as_bytes())?;
     bytes.extend_from_slice(b"\x78\x38")?;
-    bytes.extend_from_slice(text.1.as_bytes())?;
+    bytes.extend_from_slice(second.as_bytes())?;
     bytes.push(0xff)?;
+    let text = InPieces((first, second));
     let value = ((point, both, tuple), (map, text));
     fails_at_each_push(&rt, alloc, &value, &bytes, 43)?;
     fails_at_each_byte(&rt, &value, &bytes)
