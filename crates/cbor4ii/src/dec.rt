@@ -4,6 +4,7 @@ pub use cbor4ii_items::canonical::{canonical_buf, canonical_head};
 pub use cbor4ii_items::decode::{ArrayStart, Decode, Spelled};
 pub use cbor4ii_items::indefinite::is_break;
 pub use cbor4ii_items::initial::{high, if_major, low};
+pub use cbor4ii_rw::ask;
 pub use cbor4ii_rw::error::DecodeError as Error;
 pub use cbor4ii_rw::read::{Read, Reference, Source};
 pub use cbor4ii_tree::IgnoredAny;

@@ -3,7 +3,7 @@ ghost use Rattle.std.specs.Prelude.{◌≡◌, ◌+◌, [], ◌∷◌, ◌++◌,
 ghost use Rattle.cbor4ii_rw.specs.Reader.{Failed};
 ghost use Rattle.cbor4ii_rw.specs.Writer.{Appends};
 
-use cbor4ii_rw::write::Write;
+use cbor4ii::enc::Write;
 
 // The most digits that a number has.
 const MOST_DIGITS: usize = 20;

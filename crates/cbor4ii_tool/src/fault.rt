@@ -2,7 +2,7 @@
 ghost use Rattle.std.specs.Prelude.{◌≡◌, is_ok, if◌then◌else◌};
 ghost use Rattle.cbor4ii_tool.specs.Fault.{kind_of};
 
-use cbor4ii_rw::error::DecodeError;
+use cbor4ii::error::DecodeError;
 use std::fmt;
 
 /// Why an item was not read or written, by the names of the codec's errors.

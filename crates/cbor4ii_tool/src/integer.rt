@@ -14,15 +14,11 @@ ghost use Rattle.cbor4ii_tool.specs.Steps.{Leaves};
 ghost use Rattle.cbor4ii_tool.specs.declared.fault.Kind.TheVariants.{Read, Write};
 
 use crate::fault::Kind;
-use cbor4ii_items::decode::Decode;
-use cbor4ii_items::encode::Encode;
-use cbor4ii_items::initial::if_major;
-use cbor4ii_items::major;
-use cbor4ii_items::types::Negative;
-use cbor4ii_rw::ask;
-use cbor4ii_rw::error::EncodeError;
-use cbor4ii_rw::read::Source;
-use cbor4ii_rw::write::Write;
+use cbor4ii::dec::{Decode, Source, ask, if_major};
+use cbor4ii::enc::{Encode, Write};
+use cbor4ii::error::EncodeError;
+use cbor4ii::major;
+use cbor4ii::types::Negative;
 use std::alloc::Global;
 
 /// An integer that has a head.

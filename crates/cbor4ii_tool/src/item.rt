@@ -7,12 +7,10 @@ ghost use Rattle.cbor4ii_tool.specs.declared.command.Command.TheVariants.{Ints, 
 use crate::command::Command;
 use crate::fault::Kind;
 use crate::{decimal, integer};
-use cbor4ii_items::decode::Decode;
-use cbor4ii_items::encode::Encode;
-use cbor4ii_rw::io_reader::IoReader;
-use cbor4ii_rw::read::Source;
-use cbor4ii_rw::write::Write;
-use cbor4ii_tree::{Canonical, IgnoredAny, Value};
+use cbor4ii::dec::{Decode, IgnoredAny, Source};
+use cbor4ii::enc::{Encode, Write};
+use cbor4ii::utils::IoReader;
+use cbor4ii::{Canonical, Value};
 use std::alloc::Global;
 use std::io::BufRead;
 

@@ -5,8 +5,7 @@ use crate::arguments::command;
 use crate::command::Command;
 use crate::fault::{Fault, Kind, status};
 use crate::run::run;
-use cbor4ii_rw::io_reader::IoReader;
-use cbor4ii_rw::io_writer::IoWriter;
+use cbor4ii::utils::{IoReader, IoWriter};
 use std::alloc::Global;
 use std::io::{self, BufReader, BufWriter, ErrorKind, Read, Write};
 

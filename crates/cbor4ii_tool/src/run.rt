@@ -12,11 +12,9 @@ ghost use Rattle.cbor4ii_tool.specs.declared.fault.Kind.TheVariants.{Read};
 use crate::command::Command;
 use crate::fault::{Fault, Kind};
 use crate::item;
-use cbor4ii_rw::ask;
-use cbor4ii_rw::io_reader::IoReader;
-use cbor4ii_rw::io_writer::IoWriter;
-use cbor4ii_rw::read::Source;
-use cbor4ii_rw::write::Write;
+use cbor4ii::dec::{Source, ask};
+use cbor4ii::enc::Write;
+use cbor4ii::utils::{IoReader, IoWriter};
 use std::alloc::Global;
 use std::io::{self, BufRead};
 
