@@ -14,3 +14,5 @@ pub mod Units
 pub mod Going
 pub mod Entries
 pub mod Borrowing
+pub mod Characters
+pub mod Unwrapping

@@ -1,8 +1,9 @@
 -- Strings that are borrowed from the input.
-use Rattle.std.specs.Prelude.{◌≡◌, ℕ, List, Result, IfOk, IfErr, IsOkAnd, MatchResult}
+use Rattle.std.specs.Prelude.{◌≡◌, ℕ, List, Result, IfOk, IfErr, IsOkAnd, IsErrAnd, MatchResult}
 use denote.Ref.{Bor}
 use Rattle.cbor4ii_rw.specs.declared.error.DecodeError.{DecodeError as CoreError}
 use Rattle.cbor4ii_rw.specs.declared.error.DecodeError.TheVariants.{RequireBorrowed}
+use Rattle.cbor4ii_items.specs.declared.types.Bytes.{Bytes}
 use Rattle.cbor4ii.specs.declared.serde.de.error.DecodeError.{DecodeError}
 use Rattle.cbor4ii.specs.Typed.{as_core}
 
@@ -15,3 +16,8 @@ LacksLoan name error = (found : Bor (List ℕ)) × (error ≡ RequireBorrowed fo
 pub record Borrows {V W E : Type 0} (content : V → List ℕ) (lent : W → List ℕ) (IsBorrowed IsOwned : V → Type 0) (name : List ℕ) (found : Result V (CoreError E)) (answer : Result W (DecodeError E)) : Type 0 where
   pub handed : IfOk answer (λ w. IsOkAnd found (λ v. IsBorrowed v × (content v ≡ lent w)))
   pub refused : IfErr answer (λ error. MatchResult found (λ v. IsOwned v × LacksLoan name (as_core error)) (λ before. as_core error ≡ before))
+
+-- what stands in the `Bytes` is handed on, and an error as it is
+pub record Unwraps {V E : Type 0} (found : Result (Bytes V) (CoreError E)) (answer : Result V (DecodeError E)) : Type 0 where
+  pub handed : IfOk answer (λ w. IsOkAnd found (λ v. v.0 ≡ w))
+  pub refused : IfErr answer (λ error. IsErrAnd found (λ before. as_core error ≡ before))

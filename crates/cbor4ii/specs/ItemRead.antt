@@ -5,6 +5,7 @@ use Rattle.cbor4ii_items.specs.Moves.{Moves}
 use Rattle.cbor4ii_items.specs.Decoding.{IsExact, Sound, Refuses, Stops}
 use Rattle.cbor4ii_items.specs.Refusal.{Refusal, is_out_of_memory}
 use Rattle.cbor4ii.specs.declared.serde.de.error.DecodeError.{DecodeError}
+use Rattle.cbor4ii_tree.specs.Ignored.{ReadsTree}
 use Rattle.cbor4ii.specs.Typed.{as_core, answer_of}
 
 -- The budget is restored and an end of the bytes is left; where no reading is empty, fewer bytes can come then; an
@@ -17,3 +18,7 @@ pub record ReadsItem {V E : Type 0} (reads : List ℕ → V → ℕ → ℕ → 
   pub sound : IfOk answer (Sound reads old new)
   pub complete : IsExact owned old → IfErr answer (λ error. Refuses reads old (as_core error))
   pub stopped : IsExact owned old → IfErr answer (λ error. Stops stops old new (as_core error))
+
+-- an item of which nothing is kept
+abbrev pub ReadsSkipped : List ℕ → Unit {0} → ℕ → ℕ → Type 0
+ReadsSkipped xs v n c = ReadsTree xs n c

@@ -7,3 +7,4 @@ pub mod Sequence
 pub mod Built
 pub mod Accessing
 pub mod Borrowed
+pub mod Character

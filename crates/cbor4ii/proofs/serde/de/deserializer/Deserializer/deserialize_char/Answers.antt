@@ -1,0 +1,35 @@
+use Rattle.std.proofs.Common.{refl, inl, rules, sym, ◌∙◌, subst}
+use Rattle.cbor4ii_items.specs.Laws.Steps.{moves_ok, moves_err}
+use Rattle.cbor4ii.specs.Character.{NoCharacter}
+use Rattle.cbor4ii.proofs.Characters.{char_sound, char_refuses, char_stops, other_moves, other_refuses, other_stops}
+use Rattle.cbor4ii.proofs.serde.de.deserializer.Deserializer.deserialize_char.Goals as goal
+
+pub returns-in-Some : goal.returns-in-Some
+returns-in-Some g c = record {
+  moves = moves_ok c.in-Ok.ensures.moves;
+  progress = λ e. c.in-Ok.ensures.progress e;
+  memory = tt;
+  sound = char_sound (sym c.as_str.ensures.value ∙ c.in-Some.ensures.one) c.in-Ok.ensures.sound;
+  complete = λ e. tt;
+  stopped = λ e. tt;
+}
+
+pub returns-in-Ok : goal.returns-in-Ok
+returns-in-Ok g c = record {
+  moves = other_moves _ (subst NoCharacter c.as_str.ensures.value (c.in-None.ensures.other refl)) c.in-Ok.ensures.moves;
+  progress = λ e. tt;
+  memory = λ no. search rules;
+  sound = tt;
+  complete = λ e. other_refuses _ (subst NoCharacter c.as_str.ensures.value (c.in-None.ensures.other refl)) c.in-Ok.ensures.sound;
+  stopped = λ e. other_stops _ (subst NoCharacter c.as_str.ensures.value (c.in-None.ensures.other refl)) refl c.in-Ok.ensures.sound;
+}
+
+pub returns : goal.returns
+returns g c = record {
+  moves = moves_err c.in-Err.ensures.moves;
+  progress = λ e. tt;
+  memory = λ some. refl;
+  sound = tt;
+  complete = λ e. char_refuses c.args.alloc (c.in-Err.ensures.complete (inl refl));
+  stopped = λ e. char_stops (c.in-Err.ensures.stopped (inl refl));
+}

@@ -1,0 +1,79 @@
+//! Characters.
+ghost use Rattle.std.specs.Prelude.{◌≡◌, true, IfSome, IsNone};
+ghost use Rattle.std.specs.Char.{encode_utf8};
+ghost use Rattle.cbor4ii.specs.Character.{ReadsChar, StopsChar, NoCharacter, char_laws};
+ghost use Rattle.cbor4ii.specs.ItemRead.{ReadsItem};
+ghost use Rattle.cbor4ii.specs.Typed.{input};
+
+use crate::serde::de::deserialize::{Deserialize, Typed};
+use crate::serde::de::deserializer::{Deserializer, take_item};
+use crate::serde::de::error::DecodeError;
+use cbor4ii_rw::read::Source;
+use std::alloc::Global;
+
+impl Typed for char {
+    ghost reads = { ReadsChar };
+
+    ghost same = { λ v w. v ≡ w };
+
+    ghost never_empty = { true };
+
+    ghost owned = { true };
+
+    ghost takes_memory = { true };
+
+    ghost exact = { true };
+
+    fn is_never_empty() -> bool {
+        true
+    }
+
+    fn is_owned() -> bool {
+        true
+    }
+
+    ghost laws = { λ _. char_laws };
+}
+
+impl<S: Source> Deserialize<S> for char {
+    fn deserialize(alloc: Global, de: &mut Deserializer<S>) -> Result<char, DecodeError<S::Error>> {
+        de.deserialize_char(alloc)
+    }
+}
+
+impl<S: Source> Deserializer<S> {
+    /// A text of exactly one character, of known or indefinite length; one of indefinite length
+    /// needs a step for its chunks, and a character may stand across two of them.
+    ///
+    /// # Errors
+    ///
+    /// Those of a text, by the name "str". Where the text is whole and has no character, or more
+    /// than one, `Custom` of "expected one character", and the whole item is taken.
+    pub fn deserialize_char(&mut self, alloc: Global) -> Result<char, DecodeError<S::Error>>
+        ensures { ReadsItem ReadsChar StopsChar true true true
+            (input S.view self.old) (input S.view self.new) result }
+    {
+        match take_item::<S, String>(alloc, self) {
+            Ok(text) => match only_char(text.as_str()) {
+                Some(only) => Ok(only),
+                None => Err(DecodeError::Custom("expected one character")),
+            },
+            Err(error) => Err(error),
+        }
+    }
+}
+
+/// The character of a text that has exactly one.
+fn only_char(text: &str) -> Option<char>
+    ensures one { IfSome result (λ only. text.now ≡ encode_utf8 only) }
+    ensures other { IsNone result → NoCharacter text.now }
+{
+    let mut chars = text.chars();
+    let Some(first) = chars.next() else {
+        return None;
+    };
+    match chars.next() {
+        Some(_) => None,
+        None => Some(first),
+    }
+}

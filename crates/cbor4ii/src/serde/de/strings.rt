@@ -1,0 +1,194 @@
+//! What a deserializer reads as texts and byte strings by name. Those that may be borrowed are
+//! there for each reader of `cbor4ii_rw` by name.
+ghost use Rattle.std.specs.Prelude.{◌≡◌, true, codes, IfOk};
+ghost use Rattle.std.specs.Cow.{
+  IsBorrowedStr,
+  IsOwnedStr,
+  cow_slice_items,
+  IsBorrowedSlice,
+  IsOwnedSlice,
+};
+ghost use Rattle.cbor4ii_items.specs.Cow.{BorrowsWhereCounted, cow_text};
+ghost use Rattle.cbor4ii_items.specs.Strings.{ReadsAs, ReadsTextAs, StopsString, StopsText};
+ghost use Rattle.cbor4ii.specs.Borrowed.{Unwraps};
+ghost use Rattle.cbor4ii.specs.ItemRead.{ReadsItem};
+ghost use Rattle.cbor4ii.specs.Typed.{input};
+
+use crate::serde::de::deserializer::Deserializer;
+use crate::serde::de::error::{DecodeError, typed};
+use cbor4ii_items::decode::Decode;
+use cbor4ii_items::types::Bytes;
+use cbor4ii_rw::error as core_error;
+use cbor4ii_rw::error::Never;
+use cbor4ii_rw::io_reader::IoReader;
+use cbor4ii_rw::read::Source;
+use cbor4ii_rw::segment_reader::SegmentReader;
+use cbor4ii_rw::slice_reader::SliceReader;
+use std::alloc::Global;
+use std::borrow::{CowSlice, CowStr};
+use std::io;
+use std::io::BufRead;
+
+impl<S: Source> Deserializer<S> {
+    /// A byte string, of known or indefinite length; one of indefinite length needs a step for its
+    /// chunks. Refused as `Bytes<Vec<u8>>` is, by the name "bytes".
+    pub fn deserialize_byte_buf(&mut self, alloc: Global) -> Result<Vec<u8>, DecodeError<S::Error>>
+        ensures { ReadsItem (ReadsAs 2 (λ v. v.items)) (StopsString (codes "bytes") 2)
+            true true true (input S.view self.old) (input S.view self.new) result }
+    {
+        unwrapped(<Bytes<Vec<u8>>>::decode(alloc, &mut self.reader))
+    }
+}
+
+/// What stands in the `Bytes`.
+fn unwrapped<T, E>(found: Result<Bytes<T>, core_error::DecodeError<E>>) -> Result<T, DecodeError<E>>
+    ensures { Unwraps found result }
+{
+    match found {
+        Ok(Bytes(content)) => Ok(content),
+        Err(error) => Err(DecodeError::Core(error)),
+    }
+}
+
+impl<'de> Deserializer<SliceReader<'de>> {
+    /// A text: a part of the input, with no copy, where its length is known, and a copy of its
+    /// chunks where it is not, for which it needs a step. Refused as `CowStr` is, by the name
+    /// "str".
+    pub fn deserialize_str(
+        &mut self,
+        alloc: Global,
+    ) -> Result<CowStr<'de, Global>, DecodeError<Never>>
+        ensures item { ReadsItem (ReadsTextAs cow_text) (StopsText (codes "str")) true true true
+            (input ⟦<SliceReader<'de> as Source>⟧.view self.old)
+            (input ⟦<SliceReader<'de> as Source>⟧.view self.new) result }
+        ensures borrows { IfOk result (BorrowsWhereCounted 3 IsBorrowedStr IsOwnedStr
+            (input ⟦<SliceReader<'de> as Source>⟧.view self.old)) }
+    {
+        typed(CowStr::decode(alloc, &mut self.reader))
+    }
+
+    /// A name of a field or a variant: as `deserialize_str`.
+    pub fn deserialize_identifier(
+        &mut self,
+        alloc: Global,
+    ) -> Result<CowStr<'de, Global>, DecodeError<Never>>
+        ensures item { ReadsItem (ReadsTextAs cow_text) (StopsText (codes "str")) true true true
+            (input ⟦<SliceReader<'de> as Source>⟧.view self.old)
+            (input ⟦<SliceReader<'de> as Source>⟧.view self.new) result }
+        ensures borrows { IfOk result (BorrowsWhereCounted 3 IsBorrowedStr IsOwnedStr
+            (input ⟦<SliceReader<'de> as Source>⟧.view self.old)) }
+    {
+        self.deserialize_str(alloc)
+    }
+
+    /// A byte string: a part of the input, with no copy, where its length is known, and a copy of
+    /// its chunks where it is not, for which it needs a step. Refused as `Bytes<CowSlice<u8>>` is,
+    /// by the name "bytes".
+    pub fn deserialize_bytes(
+        &mut self,
+        alloc: Global,
+    ) -> Result<CowSlice<'de, u8, Global>, DecodeError<Never>>
+        ensures item { ReadsItem (ReadsAs 2 cow_slice_items) (StopsString (codes "bytes") 2)
+            true true true
+            (input ⟦<SliceReader<'de> as Source>⟧.view self.old)
+            (input ⟦<SliceReader<'de> as Source>⟧.view self.new) result }
+        ensures borrows { IfOk result (BorrowsWhereCounted 2 IsBorrowedSlice IsOwnedSlice
+            (input ⟦<SliceReader<'de> as Source>⟧.view self.old)) }
+    {
+        unwrapped(<Bytes<CowSlice<'de, u8, Global>>>::decode(alloc, &mut self.reader))
+    }
+}
+
+impl<'de> Deserializer<SegmentReader<'de>> {
+    /// A text: a part of the input, with no copy, where its length is known and it stands in one
+    /// segment, and a copy elsewhere; one of indefinite length needs a step for its chunks.
+    /// Refused as `CowStr` is, by the name "str".
+    pub fn deserialize_str(
+        &mut self,
+        alloc: Global,
+    ) -> Result<CowStr<'de, Global>, DecodeError<Never>>
+        ensures item { ReadsItem (ReadsTextAs cow_text) (StopsText (codes "str")) true true true
+            (input ⟦<SegmentReader<'de> as Source>⟧.view self.old)
+            (input ⟦<SegmentReader<'de> as Source>⟧.view self.new) result }
+        ensures borrows { IfOk result (BorrowsWhereCounted 3 IsBorrowedStr IsOwnedStr
+            (input ⟦<SegmentReader<'de> as Source>⟧.view self.old)) }
+    {
+        typed(CowStr::decode(alloc, &mut self.reader))
+    }
+
+    /// A name of a field or a variant: as `deserialize_str`.
+    pub fn deserialize_identifier(
+        &mut self,
+        alloc: Global,
+    ) -> Result<CowStr<'de, Global>, DecodeError<Never>>
+        ensures item { ReadsItem (ReadsTextAs cow_text) (StopsText (codes "str")) true true true
+            (input ⟦<SegmentReader<'de> as Source>⟧.view self.old)
+            (input ⟦<SegmentReader<'de> as Source>⟧.view self.new) result }
+        ensures borrows { IfOk result (BorrowsWhereCounted 3 IsBorrowedStr IsOwnedStr
+            (input ⟦<SegmentReader<'de> as Source>⟧.view self.old)) }
+    {
+        self.deserialize_str(alloc)
+    }
+
+    /// A byte string: borrowed and copied as a text is. Refused as `Bytes<CowSlice<u8>>` is, by the
+    /// name "bytes".
+    pub fn deserialize_bytes(
+        &mut self,
+        alloc: Global,
+    ) -> Result<CowSlice<'de, u8, Global>, DecodeError<Never>>
+        ensures item { ReadsItem (ReadsAs 2 cow_slice_items) (StopsString (codes "bytes") 2)
+            true true true
+            (input ⟦<SegmentReader<'de> as Source>⟧.view self.old)
+            (input ⟦<SegmentReader<'de> as Source>⟧.view self.new) result }
+        ensures borrows { IfOk result (BorrowsWhereCounted 2 IsBorrowedSlice IsOwnedSlice
+            (input ⟦<SegmentReader<'de> as Source>⟧.view self.old)) }
+    {
+        unwrapped(<Bytes<CowSlice<'de, u8, Global>>>::decode(alloc, &mut self.reader))
+    }
+}
+
+impl<R: BufRead + Drop> Deserializer<IoReader<R>> {
+    /// A text, always a copy, since a stream lends nothing; one of indefinite length needs a step
+    /// for its chunks. Refused as `CowStr` is, by the name "str".
+    pub fn deserialize_str<'de>(
+        &mut self,
+        alloc: Global,
+    ) -> Result<CowStr<'de, Global>, DecodeError<io::Error>>
+        ensures item { ReadsItem (ReadsTextAs cow_text) (StopsText (codes "str")) true true true
+            (input ⟦<IoReader<R> as Source>⟧.view self.old)
+            (input ⟦<IoReader<R> as Source>⟧.view self.new) result }
+        ensures borrows { IfOk result (BorrowsWhereCounted 3 IsBorrowedStr IsOwnedStr
+            (input ⟦<IoReader<R> as Source>⟧.view self.old)) }
+    {
+        typed(CowStr::decode(alloc, &mut self.reader))
+    }
+
+    /// A name of a field or a variant: as `deserialize_str`.
+    pub fn deserialize_identifier<'de>(
+        &mut self,
+        alloc: Global,
+    ) -> Result<CowStr<'de, Global>, DecodeError<io::Error>>
+        ensures item { ReadsItem (ReadsTextAs cow_text) (StopsText (codes "str")) true true true
+            (input ⟦<IoReader<R> as Source>⟧.view self.old)
+            (input ⟦<IoReader<R> as Source>⟧.view self.new) result }
+        ensures borrows { IfOk result (BorrowsWhereCounted 3 IsBorrowedStr IsOwnedStr
+            (input ⟦<IoReader<R> as Source>⟧.view self.old)) }
+    {
+        self.deserialize_str(alloc)
+    }
+
+    /// A byte string, always a copy. Refused as `Bytes<CowSlice<u8>>` is, by the name "bytes".
+    pub fn deserialize_bytes<'de>(
+        &mut self,
+        alloc: Global,
+    ) -> Result<CowSlice<'de, u8, Global>, DecodeError<io::Error>>
+        ensures item { ReadsItem (ReadsAs 2 cow_slice_items) (StopsString (codes "bytes") 2)
+            true true true
+            (input ⟦<IoReader<R> as Source>⟧.view self.old)
+            (input ⟦<IoReader<R> as Source>⟧.view self.new) result }
+        ensures borrows { IfOk result (BorrowsWhereCounted 2 IsBorrowedSlice IsOwnedSlice
+            (input ⟦<IoReader<R> as Source>⟧.view self.old)) }
+    {
+        unwrapped(<Bytes<CowSlice<'de, u8, Global>>>::decode(alloc, &mut self.reader))
+    }
+}
