@@ -21,10 +21,10 @@ use Rattle.cbor4ii.proofs.Stopped.{stopped_as}
 
 -- ---- texts of one character
 
-pub some_bytes : (c : ℕ) → 1 ≤ length (encode_utf8 c)
+some_bytes : (c : ℕ) → 1 ≤ length (encode_utf8 c)
 some_bytes c = omega (arith, length-encode c, (len_utf8_bounds c).0)
 
-few_bytes : (c : ℕ) → length (encode_utf8 c) < 2 ^ 63
+pub few_bytes : (c : ℕ) → length (encode_utf8 c) < 2 ^ 63
 few_bytes c = omega (arith, length-encode c, (len_utf8_bounds c).1)
 
 -- behind the first character nothing is left

@@ -16,3 +16,4 @@ pub mod Entries
 pub mod Borrowing
 pub mod Characters
 pub mod Unwrapping
+pub mod Backs

@@ -8,3 +8,4 @@ pub mod Built
 pub mod Accessing
 pub mod Borrowed
 pub mod Character
+pub mod ReadBack

@@ -1,6 +1,7 @@
 //! Values of a user's own types.
 
 pub mod de;
+pub mod laws;
 
 pub use cbor4ii_ser::bounded::BoundedCollect;
 pub use cbor4ii_ser::collect::Collect;

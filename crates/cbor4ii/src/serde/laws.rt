@@ -1,0 +1,160 @@
+//! Laws of what is written and read, each the contract of a function that does nothing. An item is
+//! the one that `Serialize` writes, where it writes one.
+ghost use Rattle.std.specs.Prelude.{
+  ◌≡◌,
+  ◌+◌,
+  ◌<◌,
+  ◌^◌,
+  ◌++◌,
+  ℕ,
+  ℤ,
+  List,
+  Bool,
+  Some,
+  None,
+  All,
+  length,
+  max,
+  IsTrue,
+  IsUtf8,
+};
+ghost use Rattle.std.specs.Borrow.{Bor};
+ghost use Rattle.std.specs.BTreeMap.{IsOrdered};
+ghost use Rattle.std.specs.Char.{IsScalar};
+ghost use Rattle.std.specs.declared.alloc.Global.{Global};
+ghost use Rattle.std.specs.declared.borrow.CowStr.{CowStr};
+ghost use Rattle.std.specs.declared.boxed.Box.{Box};
+ghost use Rattle.std.specs.declared.string.String.{String};
+ghost use Rattle.std.specs.declared.vec.Vec.{Vec};
+ghost use Rattle.cbor4ii_items.specs.declared.types.Bytes.{Bytes};
+ghost use Rattle.cbor4ii_items.specs.declared.types.F16.{F16};
+ghost use Rattle.cbor4ii_items.specs.declared.types.F32.{F32};
+ghost use Rattle.cbor4ii_items.specs.declared.types.F64.{F64};
+ghost use Rattle.cbor4ii_rw.specs.View.{View};
+ghost use Rattle.cbor4ii_rw.specs.declared.error.DecodeError.{DecodeError};
+ghost use Rattle.cbor4ii_items.specs.Cow.{cow_text};
+ghost use Rattle.cbor4ii_items.specs.Decoding.{CostFits, Sound, Refuses};
+ghost use Rattle.cbor4ii_items.specs.Numbers.{IsWithin};
+ghost use Rattle.cbor4ii_items.specs.ReadBack.{greatest_cost, pair_cost};
+ghost use Rattle.cbor4ii_items.specs.Refusal.{refusal_of};
+ghost use Rattle.cbor4ii.specs.ReadBack.{IsReadBack, BeginsOther};
+
+use crate::serde::de::deserialize::Typed;
+use cbor4ii_items::types::{Bytes, F16, F32, F64};
+use cbor4ii_ser::serialize::Serialize;
+use std::alloc::Global;
+use std::borrow::CowStr;
+use std::collections::BTreeMap;
+
+/// A boolean, an integer and a float are read from their own item, whatever follows it, and without
+/// a step.
+pub fn numbers_are_read_back()
+    ensures bool { (v : Bool) →
+        IsReadBack ⟦<bool as Typed>⟧.reads (⟦<bool as Serialize>⟧.item v) v 0 }
+    ensures u8 { (v : ℕ) → v < 2 ^ 8 →
+        IsReadBack ⟦<u8 as Typed>⟧.reads (⟦<u8 as Serialize>⟧.item v) v 0 }
+    ensures u16 { (v : ℕ) → v < 2 ^ 16 →
+        IsReadBack ⟦<u16 as Typed>⟧.reads (⟦<u16 as Serialize>⟧.item v) v 0 }
+    ensures u32 { (v : ℕ) → v < 2 ^ 32 →
+        IsReadBack ⟦<u32 as Typed>⟧.reads (⟦<u32 as Serialize>⟧.item v) v 0 }
+    ensures u64 { (v : ℕ) → v < 2 ^ 64 →
+        IsReadBack ⟦<u64 as Typed>⟧.reads (⟦<u64 as Serialize>⟧.item v) v 0 }
+    ensures u128 { (v : ℕ) → v < 2 ^ 128 →
+        IsReadBack ⟦<u128 as Typed>⟧.reads (⟦<u128 as Serialize>⟧.item v) v 0 }
+    ensures i8 { (v : ℤ) → IsWithin (2 ^ 7) v →
+        IsReadBack ⟦<i8 as Typed>⟧.reads (⟦<i8 as Serialize>⟧.item v) v 0 }
+    ensures i16 { (v : ℤ) → IsWithin (2 ^ 15) v →
+        IsReadBack ⟦<i16 as Typed>⟧.reads (⟦<i16 as Serialize>⟧.item v) v 0 }
+    ensures i32 { (v : ℤ) → IsWithin (2 ^ 31) v →
+        IsReadBack ⟦<i32 as Typed>⟧.reads (⟦<i32 as Serialize>⟧.item v) v 0 }
+    ensures i64 { (v : ℤ) → IsWithin (2 ^ 63) v →
+        IsReadBack ⟦<i64 as Typed>⟧.reads (⟦<i64 as Serialize>⟧.item v) v 0 }
+    ensures i128 { (v : ℤ) → IsWithin (2 ^ 127) v →
+        IsReadBack ⟦<i128 as Typed>⟧.reads (⟦<i128 as Serialize>⟧.item v) v 0 }
+    ensures f16 { (v : F16) → v.0 < 2 ^ 16 →
+        IsReadBack ⟦<F16 as Typed>⟧.reads (⟦<F16 as Serialize>⟧.item v) v 0 }
+    ensures f32 { (v : F32) → v.0 < 2 ^ 32 →
+        IsReadBack ⟦<F32 as Typed>⟧.reads (⟦<F32 as Serialize>⟧.item v) v 0 }
+    ensures f64 { (v : F64) → v.0 < 2 ^ 64 →
+        IsReadBack ⟦<F64 as Typed>⟧.reads (⟦<F64 as Serialize>⟧.item v) v 0 }
+{}
+
+/// A character and a string are read from their own item, whatever follows it, and without a step.
+pub fn strings_are_read_back()
+    ensures character { (v : ℕ) → IsScalar v →
+        IsReadBack ⟦<char as Typed>⟧.reads (⟦<char as Serialize>⟧.item v) v 0 }
+    ensures text { (v : Bor (List ℕ)) → length v.now < 2 ^ 64 → IsUtf8 v.now →
+        IsReadBack ⟦<&'static str as Typed>⟧.reads (⟦<&'static str as Serialize>⟧.item v) v 0 }
+    ensures owned_text { (v : String Global) →
+        IsReadBack ⟦<String as Typed>⟧.reads (⟦<String as Serialize>⟧.item v) v 0 }
+    ensures cow_text { (v : CowStr Global) → length (cow_text v) < 2 ^ 64 → IsUtf8 (cow_text v) →
+        IsReadBack ⟦<CowStr<'static, Global> as Typed>⟧.reads
+        (⟦<CowStr<'static, Global> as Serialize>⟧.item v) v 0 }
+    ensures bytes { (v : Bytes (Bor (List ℕ))) → length v.0.now < 2 ^ 64 →
+        IsReadBack ⟦<Bytes<&'static [u8]> as Typed>⟧.reads
+        (⟦<Bytes<&'static [u8]> as Serialize>⟧.item v) v 0 }
+{}
+
+/// A value in a box, and one that may be absent, are read from their own item wherever the value
+/// is, whatever follows it: in a box at the value's cost, and else at one step more. A value whose
+/// item is null or undefined is read as none.
+pub fn wrapped_values_are_read_back<T: Typed + Serialize>()
+    ensures boxed { (v : Box T Global) (cost : ℕ) →
+        IsReadBack T.reads (T.item v.value) v.value cost →
+        IsReadBack ⟦<Box<T> as Typed>⟧.reads (⟦<Box<T> as Serialize>⟧.item v) v cost }
+    ensures none { IsReadBack ⟦<Option<T> as Typed>⟧.reads (⟦<Option<T> as Serialize>⟧.item None) None 0 }
+    ensures some { (v : T) (cost : ℕ) → IsReadBack T.reads (T.item v) v cost →
+        BeginsOther (T.item v) →
+        IsReadBack ⟦<Option<T> as Typed>⟧.reads (⟦<Option<T> as Serialize>⟧.item (Some v))
+        (Some v) (1 + cost) }
+{}
+
+/// The unit is read from its own item without a step, and a pair and a triple wherever each part
+/// is, whatever follows it: at one step and the greatest cost of a part.
+pub fn tuples_are_read_back<A: Typed + Serialize, B: Typed + Serialize, C: Typed + Serialize>()
+    ensures unit { IsReadBack ⟦<() as Typed>⟧.reads (⟦<() as Serialize>⟧.item tt) tt 0 }
+    ensures pair { (p : A × B) (first second : ℕ) →
+        IsReadBack A.reads (A.item p.0) p.0 first → IsReadBack B.reads (B.item p.1) p.1 second →
+        IsReadBack ⟦<(A, B) as Typed>⟧.reads (⟦<(A, B) as Serialize>⟧.item p) p
+        (1 + max first second) }
+    ensures triple { (p : A × B × C) (first second third : ℕ) →
+        IsReadBack A.reads (A.item p.0) p.0 first → IsReadBack B.reads (B.item p.1) p.1 second →
+        IsReadBack C.reads (C.item p.2) p.2 third →
+        IsReadBack ⟦<(A, B, C) as Typed>⟧.reads (⟦<(A, B, C) as Serialize>⟧.item p) p
+        (1 + max first (max second third)) }
+{}
+
+/// A vector is read from its own item wherever each of its values is, whatever follows it: at one
+/// step and the greatest cost of a value.
+pub fn vectors_are_read_back<T: Typed + Serialize>()
+    ensures { (v : Vec T Global) (cost : T → ℕ) →
+        All (λ item. IsReadBack T.reads (T.item item) item (cost item)) v.items →
+        IsReadBack ⟦<Vec<T> as Typed>⟧.reads (⟦<Vec<T> as Serialize>⟧.item v) v
+        (1 + greatest_cost cost v.items) }
+{}
+
+/// A map whose keys stand in their order, as those of every map of the program do, is read from its
+/// own item wherever each key and value is, whatever follows it: at one step and the greatest cost
+/// of a key or a value.
+pub fn maps_are_read_back<K: Typed + Serialize + Ord, V: Typed + Serialize>()
+    ensures { (m : BTreeMap K V Global) (key_cost : K → ℕ) (value_cost : V → ℕ) → IsOrdered K.cmp m →
+        length m.entries < 2 ^ 64 →
+        All (λ p. IsReadBack K.reads (K.item p.0) p.0 (key_cost p.0)) m.entries →
+        All (λ p. IsReadBack V.reads (V.item p.1) p.1 (value_cost p.1)) m.entries →
+        IsReadBack ⟦<BTreeMap<K, V> as Typed>⟧.reads (⟦<BTreeMap<K, V> as Serialize>⟧.item m) m
+        (1 + greatest_cost (pair_cost key_cost value_cost) m.entries) }
+{}
+
+/// What is read back is what `deserialize` answers, over a reader that tells the item's bytes and
+/// something behind them: a value that means the same, with what stands behind left, and where the
+/// budget has the cost, no refusal of the bytes.
+pub fn what_is_written_is_read<T: Typed + Serialize, E>()
+    ensures accepted { IsTrue T.exact → (bytes rest : List ℕ) (v w : T) (cost : ℕ)
+        (old new : View) → T.item v ≡ Some bytes → IsReadBack T.reads (T.item v) v cost →
+        old.told ≡ Some (bytes ++ rest) → Sound T.reads old new w →
+        T.same v w × (new.told ≡ Some rest) }
+    ensures not_refused { (bytes rest : List ℕ) (v : T) (cost : ℕ) (old : View)
+        (error : DecodeError E) → T.item v ≡ Some bytes →
+        IsReadBack T.reads (T.item v) v cost → CostFits cost old.budget →
+        old.told ≡ Some (bytes ++ rest) → Refuses T.reads old error → refusal_of error ≡ None }
+{}
