@@ -17,3 +17,4 @@ pub mod Borrowing
 pub mod Characters
 pub mod Unwrapping
 pub mod Backs
+pub mod Beginnings

@@ -9,3 +9,4 @@ pub mod Accessing
 pub mod Borrowed
 pub mod Character
 pub mod ReadBack
+pub mod Beginning

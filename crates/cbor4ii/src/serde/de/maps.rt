@@ -1,8 +1,28 @@
 //! Maps, read as ordered maps.
-ghost use Rattle.std.specs.Prelude.{◌≡◌, ℕ, List, true, ◌&&◌, ◌||◌, IfOk, OnOk};
+ghost use Rattle.std.specs.Prelude.{
+  ◌≡◌,
+  ◌+◌,
+  ◌≤◌,
+  ℕ,
+  List,
+  true,
+  codes,
+  ◌&&◌,
+  ◌||◌,
+  IfOk,
+  IfErr,
+  OnOk,
+  IsTrue,
+};
 ghost use Rattle.std.specs.BTreeMap.{insert_entry};
+ghost use Rattle.std.specs.declared.alloc.Global.{Global};
 ghost use Rattle.cbor4ii_items.specs.ContainerLaws.{both};
+ghost use Rattle.cbor4ii_items.specs.Decoding.{IsExact, Sound, Refuses, Stops};
+ghost use Rattle.cbor4ii_items.specs.Moves.{Moves};
+ghost use Rattle.cbor4ii_items.specs.Refusal.{is_out_of_memory};
 ghost use Rattle.cbor4ii_items.specs.Sequences.{ReadsPair, SamePair};
+ghost use Rattle.cbor4ii.specs.Beginning.{BeginsSequence};
+ghost use Rattle.cbor4ii.specs.Typed.{input, answer_of, as_core};
 ghost use Rattle.cbor4ii.specs.Built.{built, ReadsBTreeMap, SameBTreeMap, btree_laws};
 ghost use Rattle.cbor4ii.specs.Tuples.{pair_laws};
 ghost use Rattle.cbor4ii.specs.Sequence.{five_small};
@@ -62,6 +82,8 @@ impl<S: Source, K: Deserialize<S> + Ord + Drop, V: Deserialize<S> + Drop> Sequen
 
     ghost major = { 5 };
 
+    ghost name = { codes "map" };
+
     fn is_part_never_empty() -> bool {
         K::is_never_empty() || V::is_never_empty()
     }
@@ -91,7 +113,24 @@ impl<S: Source, K: Deserialize<S> + Ord + Drop, V: Deserialize<S> + Drop> Deseri
     fn deserialize(
         alloc: Global,
         de: &mut Deserializer<S>,
-    ) -> Result<BTreeMap<K, V>, DecodeError<S::Error>> {
+    ) -> Result<BTreeMap<K, V>, DecodeError<S::Error>>
+        ensures moves { Moves (input S.view de.old) (input S.view de.new) (answer_of result) }
+        ensures progress { IsTrue true →
+            OnOk result ((input S.view de.new).bound + 1 ≤ (input S.view de.old).bound) }
+        ensures memory { IfErr result
+            (λ error. IsTrue (is_out_of_memory (as_core error)) → IsTrue true) }
+        ensures sound { IfOk result (Sound
+            (ReadsBTreeMap (λ (m : BTreeMap K V Global). m.entries) K.cmp K.reads V.reads
+            (K.never_empty || V.never_empty)) (input S.view de.old) (input S.view de.new)) }
+        ensures complete { IsTrue (K.exact && V.exact) →
+            IsExact (K.owned && V.owned) (input S.view de.old) → IfErr result
+            (λ error. Refuses
+            (ReadsBTreeMap (λ (m : BTreeMap K V Global). m.entries) K.cmp K.reads V.reads
+            (K.never_empty || V.never_empty)) (input S.view de.old) (as_core error)) }
+        ensures begins { IfErr result
+            (λ error. Stops (BeginsSequence (codes "map") (codes "map") 5)
+            (input S.view de.old) (input S.view de.new) (as_core error)) }
+    {
         match take_sequence::<S, BTreeMap<K, V>>(alloc, de, "map", "map") {
             Ok(pairs) => match put_all(alloc, pairs) {
                 Ok(map) => Ok(map),

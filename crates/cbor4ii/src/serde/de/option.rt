@@ -1,5 +1,11 @@
 //! Values that may be absent.
+ghost use Rattle.std.specs.Prelude.{◌+◌, ◌≤◌, OnOk, IfOk, IfErr, IsTrue};
 ghost use Rattle.cbor4ii_items.specs.Containers.{ReadsOption, SameOption};
+ghost use Rattle.cbor4ii_items.specs.Decoding.{IsExact, Sound, Refuses, Stops};
+ghost use Rattle.cbor4ii_items.specs.Moves.{Moves};
+ghost use Rattle.cbor4ii_items.specs.Refusal.{is_out_of_memory};
+ghost use Rattle.cbor4ii.specs.Beginning.{BeginsOption};
+ghost use Rattle.cbor4ii.specs.Typed.{input, answer_of, as_core};
 ghost use Rattle.cbor4ii.specs.Stepped.{Stepped, stepped_laws, option_laws};
 
 use crate::serde::de::deserialize::{Deserialize, Typed};
@@ -46,7 +52,20 @@ impl<S: Source, T: Deserialize<S>> Deserialize<S> for Option<T> {
     fn deserialize(
         alloc: Global,
         de: &mut Deserializer<S>,
-    ) -> Result<Option<T>, DecodeError<S::Error>> {
+    ) -> Result<Option<T>, DecodeError<S::Error>>
+        ensures moves { Moves (input S.view de.old) (input S.view de.new) (answer_of result) }
+        ensures progress { IsTrue T.never_empty →
+            OnOk result ((input S.view de.new).bound + 1 ≤ (input S.view de.old).bound) }
+        ensures memory { IfErr result
+            (λ error. IsTrue (is_out_of_memory (as_core error)) → IsTrue T.takes_memory) }
+        ensures sound { IfOk result (Sound (ReadsOption (Stepped T.reads))
+            (input S.view de.old) (input S.view de.new)) }
+        ensures complete { IsTrue T.exact → IsExact T.owned (input S.view de.old) →
+            IfErr result (λ error. Refuses (ReadsOption (Stepped T.reads))
+            (input S.view de.old) (as_core error)) }
+        ensures begins { IfErr result (λ error. Stops BeginsOption
+            (input S.view de.old) (input S.view de.new) (as_core error)) }
+    {
         match peek(&mut de.reader, "option") {
             Ok(first) => {
                 if first == marker::NULL || first == marker::UNDEFINED {

@@ -16,8 +16,8 @@ ghost use Rattle.std.specs.Prelude.{
   IsTrue,
 };
 ghost use Rattle.cbor4ii_items.specs.Moves.{Moves};
-ghost use Rattle.cbor4ii_items.specs.Decoding.{IsExact, Sound, Refuses};
-ghost use Rattle.cbor4ii_items.specs.Lengths.{ReadsLength};
+ghost use Rattle.cbor4ii_items.specs.Decoding.{IsExact, Sound, Refuses, Stops};
+ghost use Rattle.cbor4ii_items.specs.Lengths.{ReadsLength, StopsLength};
 ghost use Rattle.cbor4ii_items.specs.Reading.{Runs};
 ghost use Rattle.cbor4ii_items.specs.ReadStrings.{break_at};
 ghost use Rattle.cbor4ii_items.specs.Refusal.{is_out_of_memory};
@@ -28,6 +28,7 @@ ghost use Rattle.cbor4ii_items.specs.Sequences.{
   ReadsSequence,
   AddsPart,
 };
+ghost use Rattle.cbor4ii.specs.Beginning.{StopsFirst, BeginsSequence};
 ghost use Rattle.cbor4ii.specs.Typed.{input, answer_of, as_core, Lawful};
 
 use crate::serde::de::deserializer::Deserializer;
@@ -60,6 +61,9 @@ pub(crate) trait Sequence<S: Source>: Sized {
     // The major type.
     ghost major: { ℕ };
 
+    // The name of a head that is refused.
+    ghost name: { List ℕ };
+
     /// Whether a part always reads a byte.
     fn is_part_never_empty() -> bool
         ensures { result ≡ never_empty };
@@ -70,7 +74,9 @@ pub(crate) trait Sequence<S: Source>: Sized {
         ensures progress { OnOk result ((S.view reader.new).bound + 1 ≤ (S.view reader.old).bound) }
         ensures sound { IfOk result
             (Sound (ReadsLength Self.major) (S.view reader.old) (S.view reader.new)) }
-        ensures complete { IfErr result (Refuses (ReadsLength Self.major) (S.view reader.old)) };
+        ensures complete { IfErr result (Refuses (ReadsLength Self.major) (S.view reader.old)) }
+        ensures stops { IfErr result
+            (Stops (StopsLength Self.name Self.major) (S.view reader.old) (S.view reader.new)) };
 
     /// Reads one part.
     fn take_part(
@@ -104,6 +110,8 @@ pub(crate) fn take_sequence<S: Source, Q: Sequence<S>>(
     ensures complete { IsTrue Q.exact → IsExact Q.owned (input S.view de.old) →
         IfErr result (λ error. Refuses (ReadsSequence Q.major Q.reads Q.never_empty)
         (input S.view de.old) (as_core error)) }
+    ensures begins { IfErr result (λ error. Stops (BeginsSequence step.now Q.name Q.major)
+        (input S.view de.old) (input S.view de.new) (as_core error)) }
 {
     if !de.reader.step_in() {
         return Err(DecodeError::Core(core_error::DecodeError::DepthOverflow { name: step }));
@@ -126,6 +134,9 @@ fn take_inside<S: Source, Q: Sequence<S>>(
     ensures complete { IsTrue Q.exact → IsExact Q.owned (input S.view de.old) →
         IfErr result (λ error.
         Refuses (ReadsInside Q.major Q.reads Q.never_empty) (input S.view de.old) (as_core error)) }
+    ensures begins { IfErr result (λ error.
+        Stops (StopsFirst (ReadsLength Q.major) (StopsLength Q.name Q.major))
+        (input S.view de.old) (input S.view de.new) (as_core error)) }
 {
     match Q::take_length(&mut de.reader) {
         Ok(Some(count)) => take_counted::<S, Q>(alloc, de, count),

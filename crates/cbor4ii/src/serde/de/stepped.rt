@@ -2,9 +2,10 @@
 ghost use Rattle.std.specs.Prelude.{◌≡◌, ◌+◌, ◌≤◌, OnOk, IfOk, IfErr, IsTrue};
 ghost use Rattle.cbor4ii_items.specs.Moves.{Moves};
 ghost use Rattle.cbor4ii_items.specs.Refusal.{is_out_of_memory};
-ghost use Rattle.cbor4ii_items.specs.Decoding.{IsExact, Sound, Refuses};
+ghost use Rattle.cbor4ii_items.specs.Decoding.{IsExact, Sound, Refuses, Stops};
 ghost use Rattle.cbor4ii.specs.Typed.{input, answer_of, as_core};
-ghost use Rattle.cbor4ii.specs.Stepped.{Stepped};
+ghost use Rattle.cbor4ii.specs.Beginning.{unsaid_stops};
+ghost use Rattle.cbor4ii.specs.Stepped.{Stepped, StopsStepped};
 
 use crate::serde::de::deserialize::{Deserialize, Typed};
 use crate::serde::de::deserializer::Deserializer;
@@ -30,6 +31,8 @@ pub(crate) fn under_step<S: Source, T: Deserialize<S>>(
     ensures complete { IsTrue T.exact → IsExact T.owned (input S.view de.old) →
         IfErr result
         (λ error. Refuses (Stepped T.reads) (input S.view de.old) (as_core error)) }
+    ensures begins { IfErr result (λ error. Stops (StopsStepped name.now unsaid_stops)
+        (input S.view de.old) (input S.view de.new) (as_core error)) }
 {
     if !de.reader.step_in() {
         return Err(DecodeError::Core(core_error::DecodeError::DepthOverflow { name }));

@@ -18,6 +18,7 @@ ghost use Rattle.cbor4ii_items.specs.Decoding.{IsExact, Sound, Refuses, Stops};
 ghost use Rattle.cbor4ii_items.specs.Sequences.{ReadsPair, SamePair};
 ghost use Rattle.cbor4ii_items.specs.ContainerLaws.{both};
 ghost use Rattle.cbor4ii.specs.Typed.{input, answer_of, as_core};
+ghost use Rattle.cbor4ii.specs.Beginning.{StopsFirst, BeginsTuple};
 ghost use Rattle.cbor4ii.specs.Stepped.{Stepped, stepped_laws};
 ghost use Rattle.cbor4ii.specs.Tuples.{
   ReadsBehind,
@@ -71,10 +72,21 @@ impl<A: Typed, B: Typed> Typed for (A, B) {
 /// head, `RequireLength` with a length that is not 2, or `Indefinite`. A head that is not one of an
 /// array is refused by the name "array", as every length is, and a part as the part is.
 impl<S: Source, A: Deserialize<S> + Drop, B: Deserialize<S>> Deserialize<S> for (A, B) {
-    fn deserialize(
-        alloc: Global,
-        de: &mut Deserializer<S>,
-    ) -> Result<(A, B), DecodeError<S::Error>> {
+    fn deserialize(alloc: Global, de: &mut Deserializer<S>) -> Result<(A, B), DecodeError<S::Error>>
+        ensures moves { Moves (input S.view de.old) (input S.view de.new) (answer_of result) }
+        ensures progress { IsTrue true →
+            OnOk result ((input S.view de.new).bound + 1 ≤ (input S.view de.old).bound) }
+        ensures memory { IfErr result (λ error. IsTrue (is_out_of_memory (as_core error)) →
+            IsTrue (A.takes_memory || B.takes_memory)) }
+        ensures sound { IfOk result (Sound (Stepped (ReadsBehind 2 (ReadsPair A.reads B.reads)))
+            (input S.view de.old) (input S.view de.new)) }
+        ensures complete { IsTrue (A.exact && B.exact) →
+            IsExact (A.owned && B.owned) (input S.view de.old) → IfErr result
+            (λ error. Refuses (Stepped (ReadsBehind 2 (ReadsPair A.reads B.reads)))
+            (input S.view de.old) (as_core error)) }
+        ensures begins { IfErr result (λ error. Stops (BeginsTuple 2)
+            (input S.view de.old) (input S.view de.new) (as_core error)) }
+    {
         if !de.reader.step_in() {
             return Err(DecodeError::Core(core_error::DecodeError::DepthOverflow { name: "tuple" }));
         }
@@ -100,6 +112,9 @@ fn pair_behind<S: Source, A: Deserialize<S> + Drop, B: Deserialize<S>>(
         IsExact (A.owned && B.owned) (input S.view de.old) → IfErr result
         (λ error. Refuses (ReadsBehind 2 (ReadsPair A.reads B.reads))
         (input S.view de.old) (as_core error)) }
+    ensures begins { IfErr result
+        (λ error. Stops (StopsFirst (ReadsCountOf 2) (StopsCountOf 2))
+        (input S.view de.old) (input S.view de.new) (as_core error)) }
 {
     match take_count(&mut de.reader, 2) {
         Ok(()) => two_parts::<S, A, B>(alloc, de),
@@ -197,7 +212,21 @@ impl<S: Source, A: Deserialize<S> + Drop, B: Deserialize<S> + Drop, C: Deseriali
     fn deserialize(
         alloc: Global,
         de: &mut Deserializer<S>,
-    ) -> Result<(A, B, C), DecodeError<S::Error>> {
+    ) -> Result<(A, B, C), DecodeError<S::Error>>
+        ensures moves { Moves (input S.view de.old) (input S.view de.new) (answer_of result) }
+        ensures progress { IsTrue true →
+            OnOk result ((input S.view de.new).bound + 1 ≤ (input S.view de.old).bound) }
+        ensures memory { IfErr result (λ error. IsTrue (is_out_of_memory (as_core error)) →
+            IsTrue (A.takes_memory || (B.takes_memory || C.takes_memory))) }
+        ensures sound { IfOk result (Sound (Stepped (ReadsBehind 3 (ReadsTriple A.reads B.reads C.reads)))
+            (input S.view de.old) (input S.view de.new)) }
+        ensures complete { IsTrue (A.exact && (B.exact && C.exact)) →
+            IsExact (A.owned && (B.owned && C.owned)) (input S.view de.old) → IfErr result
+            (λ error. Refuses (Stepped (ReadsBehind 3 (ReadsTriple A.reads B.reads C.reads)))
+            (input S.view de.old) (as_core error)) }
+        ensures begins { IfErr result (λ error. Stops (BeginsTuple 3)
+            (input S.view de.old) (input S.view de.new) (as_core error)) }
+    {
         if !de.reader.step_in() {
             return Err(DecodeError::Core(core_error::DecodeError::DepthOverflow { name: "tuple" }));
         }
@@ -223,6 +252,9 @@ fn triple_behind<S: Source, A: Deserialize<S> + Drop, B: Deserialize<S> + Drop, 
         IsExact (A.owned && (B.owned && C.owned)) (input S.view de.old) → IfErr result
         (λ error. Refuses (ReadsBehind 3 (ReadsTriple A.reads B.reads C.reads))
         (input S.view de.old) (as_core error)) }
+    ensures begins { IfErr result
+        (λ error. Stops (StopsFirst (ReadsCountOf 3) (StopsCountOf 3))
+        (input S.view de.old) (input S.view de.new) (as_core error)) }
 {
     match take_count(&mut de.reader, 3) {
         Ok(()) => three_parts::<S, A, B, C>(alloc, de),

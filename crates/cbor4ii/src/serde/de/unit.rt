@@ -1,8 +1,21 @@
 //! The unit.
-ghost use Rattle.std.specs.Prelude.{◌≡◌, true, false};
+ghost use Rattle.std.specs.Prelude.{
+  ◌≡◌,
+  ◌+◌,
+  ◌≤◌,
+  true,
+  false,
+  OnOk,
+  IfOk,
+  IfErr,
+  IsTrue,
+};
+ghost use Rattle.cbor4ii_items.specs.Decoding.{IsExact, Sound, Refuses, Stops};
+ghost use Rattle.cbor4ii_items.specs.Moves.{Moves};
+ghost use Rattle.cbor4ii_items.specs.Refusal.{is_out_of_memory};
 ghost use Rattle.cbor4ii.specs.ItemRead.{ReadsItem};
 ghost use Rattle.cbor4ii.specs.Tuples.{ReadsUnit, StopsUnit, unit_laws};
-ghost use Rattle.cbor4ii.specs.Typed.{input, any_two};
+ghost use Rattle.cbor4ii.specs.Typed.{input, any_two, answer_of, as_core};
 
 use crate::serde::de::deserialize::{Deserialize, Typed};
 use crate::serde::de::deserializer::Deserializer;
@@ -41,7 +54,19 @@ impl Typed for () {
 }
 
 impl<S: Source> Deserialize<S> for () {
-    fn deserialize(alloc: Global, de: &mut Deserializer<S>) -> Result<(), DecodeError<S::Error>> {
+    fn deserialize(alloc: Global, de: &mut Deserializer<S>) -> Result<(), DecodeError<S::Error>>
+        ensures moves { Moves (input S.view de.old) (input S.view de.new) (answer_of result) }
+        ensures progress { IsTrue true →
+            OnOk result ((input S.view de.new).bound + 1 ≤ (input S.view de.old).bound) }
+        ensures memory { IfErr result
+            (λ error. IsTrue (is_out_of_memory (as_core error)) → IsTrue false) }
+        ensures sound { IfOk result
+            (Sound ReadsUnit (input S.view de.old) (input S.view de.new)) }
+        ensures complete { IsTrue true → IsExact true (input S.view de.old) →
+            IfErr result (λ error. Refuses ReadsUnit (input S.view de.old) (as_core error)) }
+        ensures stops { IfErr result (λ error. Stops StopsUnit
+            (input S.view de.old) (input S.view de.new) (as_core error)) }
+    {
         de.deserialize_unit()
     }
 }

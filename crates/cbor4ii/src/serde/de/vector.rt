@@ -1,6 +1,11 @@
 //! Arrays, read as vectors.
-ghost use Rattle.std.specs.Prelude.{◌≡◌, true};
+ghost use Rattle.std.specs.Prelude.{◌≡◌, ◌+◌, ◌≤◌, true, codes, OnOk, IfOk, IfErr, IsTrue};
+ghost use Rattle.cbor4ii_items.specs.Decoding.{IsExact, Sound, Refuses, Stops};
+ghost use Rattle.cbor4ii_items.specs.Moves.{Moves};
+ghost use Rattle.cbor4ii_items.specs.Refusal.{is_out_of_memory};
 ghost use Rattle.cbor4ii_items.specs.Sequences.{ReadsArray, SameArray};
+ghost use Rattle.cbor4ii.specs.Beginning.{BeginsSequence};
+ghost use Rattle.cbor4ii.specs.Typed.{input, answer_of, as_core};
 ghost use Rattle.cbor4ii.specs.Sequence.{four_small};
 ghost use Rattle.cbor4ii_items.specs.SequenceLaws.{array_one, array_within, array_positive};
 
@@ -56,6 +61,8 @@ impl<S: Source, T: Deserialize<S> + Drop> Sequence<S> for Vec<T> {
 
     ghost major = { 4 };
 
+    ghost name = { codes "array" };
+
     fn is_part_never_empty() -> bool {
         T::is_never_empty()
     }
@@ -87,10 +94,21 @@ impl<S: Source, T: Deserialize<S> + Drop> Sequence<S> for Vec<T> {
 ///   `Indefinite`, and the byte is left
 /// - a value is refused: its own refusal, and what it leaves
 impl<S: Source, T: Deserialize<S> + Drop> Deserialize<S> for Vec<T> {
-    fn deserialize(
-        alloc: Global,
-        de: &mut Deserializer<S>,
-    ) -> Result<Vec<T>, DecodeError<S::Error>> {
+    fn deserialize(alloc: Global, de: &mut Deserializer<S>) -> Result<Vec<T>, DecodeError<S::Error>>
+        ensures moves { Moves (input S.view de.old) (input S.view de.new) (answer_of result) }
+        ensures progress { IsTrue true →
+            OnOk result ((input S.view de.new).bound + 1 ≤ (input S.view de.old).bound) }
+        ensures memory { IfErr result
+            (λ error. IsTrue (is_out_of_memory (as_core error)) → IsTrue true) }
+        ensures sound { IfOk result (Sound (ReadsArray T.reads T.never_empty)
+            (input S.view de.old) (input S.view de.new)) }
+        ensures complete { IsTrue T.exact → IsExact T.owned (input S.view de.old) →
+            IfErr result (λ error. Refuses (ReadsArray T.reads T.never_empty)
+            (input S.view de.old) (as_core error)) }
+        ensures begins { IfErr result
+            (λ error. Stops (BeginsSequence (codes "seq") (codes "array") 4)
+            (input S.view de.old) (input S.view de.new) (as_core error)) }
+    {
         take_sequence::<S, Vec<T>>(alloc, de, "seq", "array")
     }
 }

@@ -1,4 +1,4 @@
-use Rattle.std.proofs.Common.{false, true, IsTrue, arith, encode_utf8}
+use Rattle.std.proofs.Common.{false, true, arith, encode_utf8}
 use Rattle.std.proofs.lemmas.Str.{IsUtf8-encode, IsUtf8-string_bytes}
 use Rattle.cbor4ii_items.specs.Cow.{cow_text}
 use Rattle.cbor4ii_items.specs.Lent.{lent_str, lent_bytes}

@@ -1,0 +1,85 @@
+-- How a value of several parts is refused before a first part is read.
+use Rattle.std.proofs.Common.{◌≡◌, ℕ, inl, inr, List, [], ◌∷◌, drop, take, Option, Some, None, Result, Ok, Err, Bool, true, false, refl, subst, IfSome, IfErr}
+use Rattle.std.specs.Prelude.{MatchBool, codes}
+use Rattle.cbor4ii_rw.specs.View.{View}
+use Rattle.cbor4ii_rw.specs.Reader.{StepsIn, KeepsAllButBudget}
+use Rattle.cbor4ii_rw.specs.declared.error.DecodeError.{DecodeError}
+use Rattle.cbor4ii_rw.specs.declared.error.DecodeError.TheVariants.{Read}
+use Rattle.cbor4ii_items.specs.Containers.{StopsOption}
+use Rattle.cbor4ii_items.specs.Decoding.{Reads, StopsAt, Sound, Stops}
+use Rattle.cbor4ii_items.specs.Moves.{Kept, Broke, Moves}
+use Rattle.cbor4ii_items.specs.Next.{StopsNext}
+use Rattle.cbor4ii_items.specs.Refusal.{Refusal, refusal_of, is_read}
+use Rattle.cbor4ii.specs.declared.serde.de.error.DecodeError.{DecodeError as Typed}
+use Rattle.cbor4ii.specs.Beginning.{unsaid_stops, StopsFirst}
+use Rattle.cbor4ii.specs.Stepped.{StopsStepped}
+use Rattle.cbor4ii.specs.Typed.{as_core, answer_of}
+use Rattle.cbor4ii.proofs.Looking.{Saw}
+use Rattle.cbor4ii.proofs.Steps.{stops_stepped}
+use Rattle.cbor4ii.proofs.Stopped.{stopped_as, stops_as}
+
+not_read : {E : Type 0} (e : DecodeError E) (z : Refusal) → refusal_of e ≡ Some z → is_read e ≡ false
+not_read (Read x) z h = cc
+not_read e z h = refl
+
+kept_of : (t : Bool) (a b : View) → t ≡ false → MatchBool t (Broke a b) (Kept a b) → Kept a b
+kept_of true a b e k = cc
+kept_of false a b e k = k
+
+-- a refusal of which no more is asked than that an end of the bytes is left
+left_by : {V E : Type 0} (e : DecodeError E) (a b : View) (Q : Type 0) → Moves {V = V} a b (Err e) → (xs : List ℕ) → a.told ≡ Some xs → (o : Option Refusal) → refusal_of e ≡ o → Q → IfSome o (λ z. (ys : List ℕ) × (b.told ≡ Some ys) × Q)
+left_by e a b Q m xs told None says q = tt
+left_by e a b Q m xs told (Some z) says q = let k = kept_of (is_read e) a b (not_read e z says) m.by in let t = k.rest xs told in (drop t.0 xs, t.1.left, q)
+
+unsaid_left : {V E : Type 0} {e : DecodeError E} {a b : View} → Moves {V = V} a b (Err e) → Stops unsaid_stops a b e
+unsaid_left {e = e} {a = a} {b = b} m = record { at = λ xs told. left_by e a b (Unit {0}) m xs told (refusal_of e) refl tt }
+
+-- ---- a head
+
+-- a refused head
+pub first_head : {V E : Type 0} (reads : Reads V) (stops : StopsAt) {e : DecodeError E} {a b : View} → Stops stops a b e → Stops (StopsFirst reads stops) a b e
+first_head reads stops s = stopped_as stops (StopsFirst reads stops) (λ xs budget z ys h. inl h) s
+
+behind_head : {V W E : Type 0} (reads : Reads V) (stops : StopsAt) {e : DecodeError E} {a m b : View} {v : V} → Sound reads a m v → Moves {V = W} a b (Err e) → Stops (StopsFirst reads stops) a b e
+behind_head reads stops {e = e} {a = a} {b = b} {v = v} s m = record {
+  at = λ xs told.
+      let p = s.at xs told in
+      stops_as (refusal_of e) b.told (λ z ys. reads xs v p.count p.cost) (StopsFirst reads stops xs a.budget) (λ z ys r. inr (v, p.count, p.cost, r)) (left_by e a b (reads xs v p.count p.cost) m xs told (refusal_of e) refl p.read);
+}
+
+-- what stands behind a whole head is refused
+pub first_behind : {V W E : Type 0} (reads : Reads V) (stops : StopsAt) (r : Result W (Typed E)) {a m b : View} {v : V} → Sound reads a m v → Moves a b (answer_of r) → IfErr r (λ e. Stops (StopsFirst reads stops) a b (as_core e))
+first_behind reads stops (Ok w) s m = tt
+first_behind reads stops (Err e) s m = behind_head reads stops s m
+
+-- ---- a step
+
+-- what is refused under the step that was taken
+pub step_stops : {V E : Type 0} (name : List ℕ) (stops : StopsAt) (r : Result V (Typed E)) {a b c d : View} → StepsIn a.budget b.budget true → KeepsAllButBudget a b → KeepsAllButBudget c d → IfErr r (λ e. Stops stops b c (as_core e)) → IfErr r (λ e. Stops (StopsStepped name stops) a d (as_core e))
+step_stops name stops (Ok v) takes inward outward s = tt
+step_stops name stops (Err e) takes inward outward s = stops_stepped name stops takes inward outward s
+
+pub unsaid : {V E : Type 0} (r : Result V (Typed E)) {a b : View} → Moves a b (answer_of r) → IfErr r (λ e. Stops unsaid_stops a b (as_core e))
+unsaid (Ok v) m = tt
+unsaid (Err e) m = unsaid_left m
+
+-- ---- a value that may be absent
+
+some_at : (stops : StopsAt) (b : ℕ) (xs : List ℕ) (budget : Option ℕ) (z : Refusal) (ys : List ℕ) → take 1 xs ≡ b ∷ [] → stops xs budget z ys → StopsOption stops xs budget z ys
+some_at stops b [] budget z ys e h = cc
+some_at stops b (x ∷ xs) budget z ys e h = h
+
+-- behind the byte that was seen
+pub option_stops : {E : Type 0} (stops : StopsAt) {e : DecodeError E} {a m b : View} {first : ℕ} → Saw a m first → Stops stops m b e → Stops (StopsOption stops) a b e
+option_stops stops {e = e} {a = a} {m = m} {b = b} {first = first} seen s = record {
+  at = λ xs told.
+      let f = seen.first xs told in
+      stops_as (refusal_of e) b.told (stops xs m.budget) (StopsOption stops xs a.budget) (λ z ys h. some_at stops first xs a.budget z ys f.1 (subst (λ k. stops xs k z ys) seen.budget h)) (s.at xs f.0);
+}
+
+none_at : (stops : StopsAt) (xs : List ℕ) (budget : Option ℕ) (z : Refusal) (ys : List ℕ) → StopsNext (codes "option") xs budget z ys → StopsOption stops xs budget z ys
+none_at stops [] budget z ys h = (h.1, h.2)
+none_at stops (x ∷ xs) budget z ys h = let no = h.0 in cc
+
+pub option_ended : {E : Type 0} (stops : StopsAt) {e : DecodeError E} {a b : View} → Stops (StopsNext (codes "option")) a b e → Stops (StopsOption stops) a b e
+option_ended stops s = stopped_as (StopsNext (codes "option")) (StopsOption stops) (none_at stops) s
