@@ -1,4 +1,4 @@
--- How a value of several parts is refused before a first part is read.
+-- How a value of several parts is refused, where nothing is said of a part's own refusal.
 use Rattle.std.proofs.Common.{◌≡◌, ℕ, inl, inr, List, [], ◌∷◌, drop, take, Option, Some, None, Result, Ok, Err, Bool, true, false, refl, subst, IfSome, IfErr}
 use Rattle.std.specs.Prelude.{MatchBool, codes}
 use Rattle.cbor4ii_rw.specs.View.{View}
@@ -31,7 +31,7 @@ left_by : {V E : Type 0} (e : DecodeError E) (a b : View) (Q : Type 0) → Moves
 left_by e a b Q m xs told None says q = tt
 left_by e a b Q m xs told (Some z) says q = let k = kept_of (is_read e) a b (not_read e z says) m.by in let t = k.rest xs told in (drop t.0 xs, t.1.left, q)
 
-unsaid_left : {V E : Type 0} {e : DecodeError E} {a b : View} → Moves {V = V} a b (Err e) → Stops unsaid_stops a b e
+pub unsaid_left : {V E : Type 0} {e : DecodeError E} {a b : View} → Moves {V = V} a b (Err e) → Stops unsaid_stops a b e
 unsaid_left {e = e} {a = a} {b = b} m = record { at = λ xs told. left_by e a b (Unit {0}) m xs told (refusal_of e) refl tt }
 
 -- ---- a head

@@ -18,3 +18,4 @@ pub mod Characters
 pub mod Unwrapping
 pub mod Backs
 pub mod Beginnings
+pub mod PartStops

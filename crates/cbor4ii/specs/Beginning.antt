@@ -1,8 +1,8 @@
--- How a value of several parts is refused before a first part is read.
-use Rattle.std.specs.Prelude.{ℕ, List, ◌⊎◌, codes}
+-- How a value of several parts is refused, where nothing is said of a part's own refusal.
+use Rattle.std.specs.Prelude.{ℕ, List, Bool, ◌⊎◌, codes}
 use Rattle.cbor4ii_items.specs.Containers.{StopsOption}
 use Rattle.cbor4ii_items.specs.Decoding.{Reads, StopsAt}
-use Rattle.cbor4ii_items.specs.Lengths.{ReadsLength, StopsLength}
+use Rattle.cbor4ii_items.specs.Sequences.{StopsInside}
 use Rattle.cbor4ii.specs.Stepped.{StopsStepped}
 use Rattle.cbor4ii.specs.Tuples.{ReadsCountOf, StopsCountOf}
 
@@ -14,9 +14,10 @@ unsaid_stops xs budget refusal rest = Unit {0}
 abbrev pub StopsFirst : {V : Type 0} → Reads V → StopsAt → StopsAt
 StopsFirst {V} reads stops xs budget refusal rest = stops xs budget refusal rest ⊎ ((v : V) × (n c : ℕ) × reads xs v n c)
 
--- no step is left, or the head of an array or a map is refused
-abbrev pub BeginsSequence : List ℕ → List ℕ → ℕ → StopsAt
-BeginsSequence step name major = StopsStepped step (StopsFirst (ReadsLength major) (StopsLength name major))
+-- No step is left, or the head of an array or a map is refused, or behind some whole parts no byte is left, or a part
+-- that may read nothing has no end, or a part is refused.
+abbrev pub StopsParts : {P : Type 0} → List ℕ → List ℕ → ℕ → Reads P → Bool → StopsAt
+StopsParts step name major reads never_empty = StopsStepped step (StopsInside name major reads unsaid_stops never_empty)
 
 -- no step is left, or the head of an array of so many items is refused
 abbrev pub BeginsTuple : ℕ → StopsAt

@@ -21,7 +21,7 @@ ghost use Rattle.cbor4ii_items.specs.Decoding.{IsExact, Sound, Refuses, Stops};
 ghost use Rattle.cbor4ii_items.specs.Moves.{Moves};
 ghost use Rattle.cbor4ii_items.specs.Refusal.{is_out_of_memory};
 ghost use Rattle.cbor4ii_items.specs.Sequences.{ReadsPair, SamePair};
-ghost use Rattle.cbor4ii.specs.Beginning.{BeginsSequence};
+ghost use Rattle.cbor4ii.specs.Beginning.{StopsParts};
 ghost use Rattle.cbor4ii.specs.Typed.{input, answer_of, as_core};
 ghost use Rattle.cbor4ii.specs.Built.{built, ReadsBTreeMap, SameBTreeMap, btree_laws};
 ghost use Rattle.cbor4ii.specs.Tuples.{pair_laws};
@@ -34,6 +34,7 @@ use crate::serde::de::parts::{Sequence, take_sequence};
 use crate::serde::de::tuples::two_parts;
 use cbor4ii_items::types::Map;
 use cbor4ii_rw::error as core_error;
+use cbor4ii_rw::error::StaticStr;
 use cbor4ii_rw::read::Source;
 use std::alloc::{AllocError, Global};
 use std::collections::BTreeMap;
@@ -84,6 +85,10 @@ impl<S: Source, K: Deserialize<S> + Ord + Drop, V: Deserialize<S> + Drop> Sequen
 
     ghost name = { codes "map" };
 
+    fn name() -> StaticStr {
+        "map"
+    }
+
     fn is_part_never_empty() -> bool {
         K::is_never_empty() || V::is_never_empty()
     }
@@ -127,11 +132,11 @@ impl<S: Source, K: Deserialize<S> + Ord + Drop, V: Deserialize<S> + Drop> Deseri
             (λ error. Refuses
             (ReadsBTreeMap (λ (m : BTreeMap K V Global). m.entries) K.cmp K.reads V.reads
             (K.never_empty || V.never_empty)) (input S.view de.old) (as_core error)) }
-        ensures begins { IfErr result
-            (λ error. Stops (BeginsSequence (codes "map") (codes "map") 5)
+        ensures stops { IfErr result (λ error. Stops (StopsParts (codes "map") (codes "map") 5
+            (ReadsPair K.reads V.reads) (K.never_empty || V.never_empty))
             (input S.view de.old) (input S.view de.new) (as_core error)) }
     {
-        match take_sequence::<S, BTreeMap<K, V>>(alloc, de, "map", "map") {
+        match take_sequence::<S, BTreeMap<K, V>>(alloc, de, "map") {
             Ok(pairs) => match put_all(alloc, pairs) {
                 Ok(map) => Ok(map),
                 Err(_) => Err(DecodeError::Core(core_error::DecodeError::OutOfMemory)),

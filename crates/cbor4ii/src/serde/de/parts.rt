@@ -26,9 +26,12 @@ ghost use Rattle.cbor4ii_items.specs.Sequences.{
   ReadsUpToBreak,
   ReadsInside,
   ReadsSequence,
+  StopsCount,
+  StopsUpToBreak,
+  StopsInside,
   AddsPart,
 };
-ghost use Rattle.cbor4ii.specs.Beginning.{StopsFirst, BeginsSequence};
+ghost use Rattle.cbor4ii.specs.Beginning.{unsaid_stops, StopsParts};
 ghost use Rattle.cbor4ii.specs.Typed.{input, answer_of, as_core, Lawful};
 
 use crate::serde::de::deserializer::Deserializer;
@@ -61,8 +64,11 @@ pub(crate) trait Sequence<S: Source>: Sized {
     // The major type.
     ghost major: { ℕ };
 
-    // The name of a head that is refused.
+    // The name in refusals.
     ghost name: { List ℕ };
+
+    fn name() -> StaticStr
+        ensures { result.now ≡ name };
 
     /// Whether a part always reads a byte.
     fn is_part_never_empty() -> bool
@@ -101,7 +107,6 @@ pub(crate) fn take_sequence<S: Source, Q: Sequence<S>>(
     alloc: Global,
     de: &mut Deserializer<S>,
     step: StaticStr,
-    name: StaticStr,
 ) -> Result<Vec<Q::Part>, DecodeError<S::Error>>
     ensures moves { Moves (input S.view de.old) (input S.view de.new) (answer_of result) }
     ensures progress { OnOk result ((input S.view de.new).bound + 1 ≤ (input S.view de.old).bound) }
@@ -110,13 +115,14 @@ pub(crate) fn take_sequence<S: Source, Q: Sequence<S>>(
     ensures complete { IsTrue Q.exact → IsExact Q.owned (input S.view de.old) →
         IfErr result (λ error. Refuses (ReadsSequence Q.major Q.reads Q.never_empty)
         (input S.view de.old) (as_core error)) }
-    ensures begins { IfErr result (λ error. Stops (BeginsSequence step.now Q.name Q.major)
+    ensures stops { IfErr result (λ error.
+        Stops (StopsParts step.now Q.name Q.major Q.reads Q.never_empty)
         (input S.view de.old) (input S.view de.new) (as_core error)) }
 {
     if !de.reader.step_in() {
         return Err(DecodeError::Core(core_error::DecodeError::DepthOverflow { name: step }));
     }
-    let outcome = take_inside::<S, Q>(alloc, de, name);
+    let outcome = take_inside::<S, Q>(alloc, de);
     de.reader.step_out();
     outcome
 }
@@ -125,7 +131,6 @@ pub(crate) fn take_sequence<S: Source, Q: Sequence<S>>(
 fn take_inside<S: Source, Q: Sequence<S>>(
     alloc: Global,
     de: &mut Deserializer<S>,
-    name: StaticStr,
 ) -> Result<Vec<Q::Part>, DecodeError<S::Error>>
     ensures moves { Moves (input S.view de.old) (input S.view de.new) (answer_of result) }
     ensures progress { OnOk result ((input S.view de.new).bound + 1 ≤ (input S.view de.old).bound) }
@@ -134,13 +139,13 @@ fn take_inside<S: Source, Q: Sequence<S>>(
     ensures complete { IsTrue Q.exact → IsExact Q.owned (input S.view de.old) →
         IfErr result (λ error.
         Refuses (ReadsInside Q.major Q.reads Q.never_empty) (input S.view de.old) (as_core error)) }
-    ensures begins { IfErr result (λ error.
-        Stops (StopsFirst (ReadsLength Q.major) (StopsLength Q.name Q.major))
+    ensures stops { IfErr result (λ error.
+        Stops (StopsInside Q.name Q.major Q.reads unsaid_stops Q.never_empty)
         (input S.view de.old) (input S.view de.new) (as_core error)) }
 {
     match Q::take_length(&mut de.reader) {
         Ok(Some(count)) => take_counted::<S, Q>(alloc, de, count),
-        Ok(None) => take_open::<S, Q>(alloc, de, name),
+        Ok(None) => take_open::<S, Q>(alloc, de),
         Err(error) => Err(DecodeError::Core(error)),
     }
 }
@@ -157,6 +162,8 @@ fn take_counted<S: Source, Q: Sequence<S>>(
     ensures complete { IsTrue Q.exact → IsExact Q.owned (input S.view de.old) →
         IfErr result (λ error.
         Refuses (ReadsCount Q.reads count) (input S.view de.old) (as_core error)) }
+    ensures stops { IfErr result (λ error. Stops (StopsCount Q.reads unsaid_stops count)
+        (input S.view de.old) (input S.view de.new) (as_core error)) }
 {
     let mut parts = Vec::new(alloc);
     if parts.reserve(count.min(RESERVED)).is_err() {
@@ -172,7 +179,6 @@ fn take_counted<S: Source, Q: Sequence<S>>(
 fn take_open<S: Source, Q: Sequence<S>>(
     alloc: Global,
     de: &mut Deserializer<S>,
-    name: StaticStr,
 ) -> Result<Vec<Q::Part>, DecodeError<S::Error>>
     ensures moves { Moves (input S.view de.old) (input S.view de.new) (answer_of result) }
     ensures sound { IfOk result (λ parts. Sound (ReadsUpToBreak Q.reads Q.never_empty)
@@ -180,12 +186,15 @@ fn take_open<S: Source, Q: Sequence<S>>(
     ensures complete { IsTrue Q.exact → IsExact Q.owned (input S.view de.old) →
         IfErr result (λ error.
         Refuses (ReadsUpToBreak Q.reads Q.never_empty) (input S.view de.old) (as_core error)) }
+    ensures stops { IfErr result (λ error.
+        Stops (StopsUpToBreak Q.name Q.reads unsaid_stops Q.never_empty)
+        (input S.view de.old) (input S.view de.new) (as_core error)) }
 {
     let mut parts = Vec::new(alloc);
     while !ends(de)? {
         if !Q::is_part_never_empty() {
             return Err(DecodeError::Core(core_error::DecodeError::RequireLength {
-                name,
+                name: Q::name(),
                 found: Len::Indefinite,
             }));
         }

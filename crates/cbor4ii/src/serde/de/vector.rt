@@ -4,7 +4,7 @@ ghost use Rattle.cbor4ii_items.specs.Decoding.{IsExact, Sound, Refuses, Stops};
 ghost use Rattle.cbor4ii_items.specs.Moves.{Moves};
 ghost use Rattle.cbor4ii_items.specs.Refusal.{is_out_of_memory};
 ghost use Rattle.cbor4ii_items.specs.Sequences.{ReadsArray, SameArray};
-ghost use Rattle.cbor4ii.specs.Beginning.{BeginsSequence};
+ghost use Rattle.cbor4ii.specs.Beginning.{StopsParts};
 ghost use Rattle.cbor4ii.specs.Typed.{input, answer_of, as_core};
 ghost use Rattle.cbor4ii.specs.Sequence.{four_small};
 ghost use Rattle.cbor4ii_items.specs.SequenceLaws.{array_one, array_within, array_positive};
@@ -15,6 +15,7 @@ use crate::serde::de::error::DecodeError;
 use crate::serde::de::parts::{Sequence, take_sequence};
 use cbor4ii_items::types::Array;
 use cbor4ii_rw::error as core_error;
+use cbor4ii_rw::error::StaticStr;
 use cbor4ii_rw::read::Source;
 use std::alloc::Global;
 
@@ -63,6 +64,10 @@ impl<S: Source, T: Deserialize<S> + Drop> Sequence<S> for Vec<T> {
 
     ghost name = { codes "array" };
 
+    fn name() -> StaticStr {
+        "array"
+    }
+
     fn is_part_never_empty() -> bool {
         T::is_never_empty()
     }
@@ -105,10 +110,10 @@ impl<S: Source, T: Deserialize<S> + Drop> Deserialize<S> for Vec<T> {
         ensures complete { IsTrue T.exact → IsExact T.owned (input S.view de.old) →
             IfErr result (λ error. Refuses (ReadsArray T.reads T.never_empty)
             (input S.view de.old) (as_core error)) }
-        ensures begins { IfErr result
-            (λ error. Stops (BeginsSequence (codes "seq") (codes "array") 4)
+        ensures stops { IfErr result (λ error.
+            Stops (StopsParts (codes "seq") (codes "array") 4 T.reads T.never_empty)
             (input S.view de.old) (input S.view de.new) (as_core error)) }
     {
-        take_sequence::<S, Vec<T>>(alloc, de, "seq", "array")
+        take_sequence::<S, Vec<T>>(alloc, de, "seq")
     }
 }

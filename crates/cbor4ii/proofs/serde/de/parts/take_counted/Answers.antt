@@ -4,6 +4,8 @@ use Rattle.cbor4ii_items.specs.Laws.Steps.{moves_then, moves_err}
 use Rattle.cbor4ii_items.specs.Laws.Answering.{exact_kept}
 use Rattle.cbor4ii.proofs.Parts.{count_more, count_done, count_refuses}
 use Rattle.cbor4ii.specs.Typed.{size_of}
+use Rattle.cbor4ii.proofs.PartStops.{count_stops}
+use Rattle.cbor4ii.proofs.Beginnings.{unsaid_left}
 use Rattle.cbor4ii.proofs.serde.de.parts.take_counted.Goals as goal
 
 pub returns-in_err-add_part-clause-moves : goal.returns-in_err-add_part-clause-moves
@@ -21,3 +23,8 @@ loop-i-preserved g c = count_more _ c.loop-i.invariant c.in_ok-add_part.ensures.
 
 pub returns-clause-sound : goal.returns-clause-sound
 returns-clause-sound g c = count_done _ c.loop-i.invariant (omega (arith, c.loop-i-test.false, c.loop-i.auto.i-end))
+
+pub returns-in_err-add_part-clause-stops : goal.returns-in_err-add_part-clause-stops
+returns-in_err-add_part-clause-stops g c =
+    let p = err_from_is_err_and c.from_residual.result c.from_residual.ensures.1 in
+    rw (p.1, p.2) (count_stops _ _ c.loop-i.invariant c.loop-i-test.true (unsaid_left c.in_err-add_part.ensures.moves))

@@ -1,7 +1,7 @@
 use Rattle.cbor4ii_items.specs.Laws.Steps.{moves_then}
 use Rattle.cbor4ii_items.specs.Laws.Answering.{exact_kept}
 use Rattle.cbor4ii.proofs.Sequences.{counted_sound, counted_refuses, opened_sound, opened_refuses, counts_of, opens_of, no_length}
-use Rattle.cbor4ii.proofs.Beginnings.{first_head, first_behind}
+use Rattle.cbor4ii.proofs.PartStops.{head_stops, counted_stops, opened_stops}
 use Rattle.cbor4ii.proofs.serde.de.parts.take_inside.Goals as goal
 
 pub returns-in-Ok-Some-clause-moves : goal.returns-in-Ok-Some-clause-moves
@@ -31,11 +31,11 @@ returns-in-Ok-None-clause-complete g c said exact = (opened_refuses _ _ _ c.take
 pub returns-in-Err-clause-complete : goal.returns-in-Err-clause-complete
 returns-in-Err-clause-complete g c said exact = no_length _ _ _ c.in-Err.ensures.complete
 
-pub returns-in-Ok-Some-clause-begins : goal.returns-in-Ok-Some-clause-begins
-returns-in-Ok-Some-clause-begins g c = first_behind _ _ c.take_counted.result c.in-Ok-Some.ensures.sound (moves_then c.in-Ok-Some.ensures.moves.by c.take_counted.ensures.moves)
+pub returns-in-Ok-Some-clause-stops : goal.returns-in-Ok-Some-clause-stops
+returns-in-Ok-Some-clause-stops g c = counted_stops _ _ _ _ _ c.take_counted.result _ (counts_of c.in-Ok-Some.field-0-is c.in-Ok-Some.ensures.moves.by c.in-Ok-Some.ensures.sound) c.take_counted.ensures.stops
 
-pub returns-in-Ok-None-clause-begins : goal.returns-in-Ok-None-clause-begins
-returns-in-Ok-None-clause-begins g c = first_behind _ _ c.take_open.result c.in-Ok-None.ensures.sound (moves_then c.in-Ok-None.ensures.moves.by c.take_open.ensures.moves)
+pub returns-in-Ok-None-clause-stops : goal.returns-in-Ok-None-clause-stops
+returns-in-Ok-None-clause-stops g c = opened_stops _ _ _ _ _ c.take_open.result _ (opens_of c.in-Ok-None.field-0-is c.in-Ok-None.ensures.moves.by c.in-Ok-None.ensures.sound) c.take_open.ensures.stops
 
-pub returns-in-Err-clause-begins : goal.returns-in-Err-clause-begins
-returns-in-Err-clause-begins g c = first_head _ _ c.in-Err.ensures.stops
+pub returns-in-Err-clause-stops : goal.returns-in-Err-clause-stops
+returns-in-Err-clause-stops g c = head_stops _ _ _ _ _ c.in-Err.ensures.stops

@@ -4,6 +4,8 @@ use Rattle.cbor4ii_items.specs.Laws.Steps.{moves_then, moves_err, kept_then}
 use Rattle.cbor4ii_items.specs.Laws.Answering.{exact_kept}
 use Rattle.cbor4ii.proofs.Parts.{stands, open_more, open_done, open_refuses, nothing_refuses, end_refuses}
 use Rattle.cbor4ii.specs.Typed.{size_of}
+use Rattle.cbor4ii.proofs.PartStops.{open_stops, nothing_stops, end_stops}
+use Rattle.cbor4ii.proofs.Beginnings.{unsaid_left}
 use Rattle.cbor4ii.proofs.serde.de.parts.take_open.Goals as goal
 
 pub returns-in_err-ends-clause-moves : goal.returns-in_err-ends-clause-moves
@@ -43,3 +45,17 @@ returns-clause-moves g c = record { by = kept_then c.loop-parts.invariant.kept c
 
 pub returns-clause-sound : goal.returns-clause-sound
 returns-clause-sound g c = open_done _ _ c.if-not-branch.false c.loop-parts.invariant c.in_ok-ends.ensures.runs
+
+pub returns-in_err-ends-clause-stops : goal.returns-in_err-ends-clause-stops
+returns-in_err-ends-clause-stops g c =
+    let p = err_from_is_err_and c.from_residual.result c.from_residual.ensures.1 in
+    rw (p.1, p.2) (end_stops _ _ _ _ c.loop-parts.invariant c.in_err-ends.ensures.runs)
+
+pub returns-then-not-is_part_never_empty-clause-stops : goal.returns-then-not-is_part_never_empty-clause-stops
+returns-then-not-is_part_never_empty-clause-stops g c =
+    rw (sym c.name.ensures) (nothing_stops _ _ _ c.name.result (sym c.if-not-is_part_never_empty.ensures) c.loop-parts.invariant (stands c.if-not-branch.true c.in_ok-ends.ensures.runs))
+
+pub returns-in_err-add_part-clause-stops : goal.returns-in_err-add_part-clause-stops
+returns-in_err-add_part-clause-stops g c =
+    let p = err_from_is_err_and c.from_residual-in_err-add_part.result c.from_residual-in_err-add_part.ensures.1 in
+    rw (p.1, p.2) (open_stops _ _ _ _ (sym c.if-not-is_part_never_empty.ensures) c.loop-parts.invariant (stands c.if-not-branch.true c.in_ok-ends.ensures.runs) (unsaid_left c.in_err-add_part.ensures.moves))
