@@ -102,7 +102,8 @@ pub fn wrapped_values_are_read_back<T: Typed + Serialize>()
     ensures boxed { (v : Box T Global) (cost : ℕ) →
         IsReadBack T.reads (T.item v.value) v.value cost →
         IsReadBack ⟦<Box<T> as Typed>⟧.reads (⟦<Box<T> as Serialize>⟧.item v) v cost }
-    ensures none { IsReadBack ⟦<Option<T> as Typed>⟧.reads (⟦<Option<T> as Serialize>⟧.item None) None 0 }
+    ensures none { IsReadBack ⟦<Option<T> as Typed>⟧.reads
+        (⟦<Option<T> as Serialize>⟧.item None) None 0 }
     ensures some { (v : T) (cost : ℕ) → IsReadBack T.reads (T.item v) v cost →
         BeginsOther (T.item v) →
         IsReadBack ⟦<Option<T> as Typed>⟧.reads (⟦<Option<T> as Serialize>⟧.item (Some v))
@@ -137,8 +138,8 @@ pub fn vectors_are_read_back<T: Typed + Serialize>()
 /// own item wherever each key and value is, whatever follows it: at one step and the greatest cost
 /// of a key or a value.
 pub fn maps_are_read_back<K: Typed + Serialize + Ord, V: Typed + Serialize>()
-    ensures { (m : BTreeMap K V Global) (key_cost : K → ℕ) (value_cost : V → ℕ) → IsOrdered K.cmp m →
-        length m.entries < 2 ^ 64 →
+    ensures { (m : BTreeMap K V Global) (key_cost : K → ℕ) (value_cost : V → ℕ) →
+        IsOrdered K.cmp m → length m.entries < 2 ^ 64 →
         All (λ p. IsReadBack K.reads (K.item p.0) p.0 (key_cost p.0)) m.entries →
         All (λ p. IsReadBack V.reads (V.item p.1) p.1 (value_cost p.1)) m.entries →
         IsReadBack ⟦<BTreeMap<K, V> as Typed>⟧.reads (⟦<BTreeMap<K, V> as Serialize>⟧.item m) m

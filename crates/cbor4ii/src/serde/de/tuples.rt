@@ -218,7 +218,8 @@ impl<S: Source, A: Deserialize<S> + Drop, B: Deserialize<S> + Drop, C: Deseriali
             OnOk result ((input S.view de.new).bound + 1 ≤ (input S.view de.old).bound) }
         ensures memory { IfErr result (λ error. IsTrue (is_out_of_memory (as_core error)) →
             IsTrue (A.takes_memory || (B.takes_memory || C.takes_memory))) }
-        ensures sound { IfOk result (Sound (Stepped (ReadsBehind 3 (ReadsTriple A.reads B.reads C.reads)))
+        ensures sound { IfOk result
+            (Sound (Stepped (ReadsBehind 3 (ReadsTriple A.reads B.reads C.reads)))
             (input S.view de.old) (input S.view de.new)) }
         ensures complete { IsTrue (A.exact && (B.exact && C.exact)) →
             IsExact (A.owned && (B.owned && C.owned)) (input S.view de.old) → IfErr result
