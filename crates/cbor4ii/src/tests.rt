@@ -1,3 +1,4 @@
+mod leaf_rows;
 mod paths;
 
 use crate::serde::{Accessor, DecodeError, Deserialize, Deserializer, from_reader, from_slice};
