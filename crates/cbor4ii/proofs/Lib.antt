@@ -19,3 +19,4 @@ pub mod Unwrapping
 pub mod Backs
 pub mod Beginnings
 pub mod PartStops
+pub mod AnyForms

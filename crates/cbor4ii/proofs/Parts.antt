@@ -102,7 +102,7 @@ no_first : (xs : List ℕ) → xs ≡ [] → take 1 xs ≡ break ∷ [] → ⊥
 no_first [] e f = cc
 no_first (x ∷ xs) e f = cc
 
-always : {Q : Type 0} (o : Option Refusal) → Q → IfSome o (λ z. Q)
+pub always : {Q : Type 0} (o : Option Refusal) → Q → IfSome o (λ z. Q)
 always None q = tt
 always (Some z) q = q
 

@@ -10,3 +10,5 @@ pub mod Borrowed
 pub mod Character
 pub mod ReadBack
 pub mod Beginning
+pub mod Any
+pub mod AnyLaws

@@ -1,4 +1,5 @@
 mod leaf_rows;
+mod any;
 mod paths;
 
 use crate::serde::{Accessor, DecodeError, Deserialize, Deserializer, from_reader, from_slice};

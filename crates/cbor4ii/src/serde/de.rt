@@ -1,6 +1,8 @@
 //! Typed values, read.
 
 pub mod accessor;
+pub mod any;
+mod any_leaf;
 mod borrowed;
 mod boxed;
 mod character;

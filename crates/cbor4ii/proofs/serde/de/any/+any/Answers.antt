@@ -1,0 +1,233 @@
+use Rattle.std.proofs.Common.{refl, arith}
+use Rattle.std.proofs.lemmas.Result.{err_from_is_err_and}
+use Rattle.cbor4ii_items.specs.Laws.Steps.{moves_then, moves_ok, moves_err, kept_then}
+use Rattle.cbor4ii_items.specs.Laws.UnderStep.{moves_stepped}
+use Rattle.cbor4ii.specs.Any.{of_array, of_map}
+use Rattle.cbor4ii.specs.AnyLaws.{any_laws}
+use Rattle.cbor4ii.specs.Typed.{answer_of, size_of}
+use Rattle.cbor4ii.proofs.AnyForms.{parts_sound, parts_refuse, pairs_laws, kind_sound, kind_refuses, other_refuses, no_byte_refuses, kind_ok, kind_err, any_ok, any_err}
+use Rattle.cbor4ii.proofs.Looking.{saw}
+use Rattle.cbor4ii.proofs.Pairs.{pair_sound, key_refuses, value_refuses}
+use Rattle.cbor4ii.proofs.Parts.{count_more, count_done, count_refuses, stands, open_more, open_done, open_refuses, end_refuses}
+use Rattle.cbor4ii.proofs.Sequences.{counted_sound, counted_refuses, opened_sound, opened_refuses, counts_of, opens_of, no_length}
+use Rattle.cbor4ii.proofs.Steps.{formed_sound, step_sound, step_refuses}
+use Rattle.cbor4ii.specs.Sequence.{four_small, five_small}
+use Rattle.cbor4ii.proofs.serde.de.any.+any.Goals as goal
+
+pub read_any-returns-clause-moves : goal.read_any-returns-clause-moves
+read_any-returns-clause-moves g t c = moves_stepped (answer_of c.any_inside-outcome.result) _ _ _ _ c.if-not-step_in.ensures.budget c.step_in.ensures.others c.any_inside-outcome.ensures.moves c.step_out.ensures.budget c.step_out.ensures.others
+
+pub read_any-returns-clause-sound : goal.read_any-returns-clause-sound
+read_any-returns-clause-sound g t c = any_ok c.any_inside-outcome.result _ _ (step_sound c.any_inside-outcome.result _ _ _ c.if-not-step_in.ensures.budget c.step_in.ensures.others _ _ c.step_out.ensures.others c.any_inside-outcome.ensures.sound)
+
+pub read_any-returns-clause-complete : goal.read_any-returns-clause-complete
+read_any-returns-clause-complete g t c = any_err c.any_inside-outcome.result _ (step_refuses c.any_inside-outcome.result _ _ _ c.if-not-step_in.ensures.budget c.step_in.ensures.others c.any_inside-outcome.ensures.complete)
+
+pub any_inside-returns-in-Err-clause-complete : goal.any_inside-returns-in-Err-clause-complete
+any_inside-returns-in-Err-clause-complete g t c = no_byte_refuses c.in-Err.ensures.complete
+
+pub any_inside-returns-in-Leaf-clause-moves : goal.any_inside-returns-in-Leaf-clause-moves
+any_inside-returns-in-Leaf-clause-moves g t c = moves_then c.in-Ok.ensures.moves.by c.take_leaf.ensures.moves
+
+pub any_inside-returns-in-Leaf-clause-sound : goal.any_inside-returns-in-Leaf-clause-sound
+any_inside-returns-in-Leaf-clause-sound g t c = kind_ok c.take_leaf.result _ (saw c.in-Ok.ensures.moves c.in-Ok.ensures.sound) c.in-Leaf.ensures c.take_leaf.ensures.sound
+
+pub any_inside-returns-in-Leaf-clause-complete : goal.any_inside-returns-in-Leaf-clause-complete
+any_inside-returns-in-Leaf-clause-complete g t c = kind_err c.take_leaf.result (saw c.in-Ok.ensures.moves c.in-Ok.ensures.sound) c.in-Leaf.ensures c.take_leaf.ensures.complete
+
+pub any_inside-returns-in-Ok-any_array-clause-moves : goal.any_inside-returns-in-Ok-any_array-clause-moves
+any_inside-returns-in-Ok-any_array-clause-moves g t c = moves_then c.in-Ok.ensures.moves.by (moves_ok c.in-Ok-any_array.ensures.moves)
+
+pub any_inside-returns-in-Ok-any_array-clause-sound : goal.any_inside-returns-in-Ok-any_array-clause-sound
+any_inside-returns-in-Ok-any_array-clause-sound g t c = kind_sound (saw c.in-Ok.ensures.moves c.in-Ok.ensures.sound) c.in-Array.ensures (parts_sound _ of_array c.in-Ok-any_array.ensures.sound)
+
+pub any_inside-returns-in-Err-any_array-clause-moves : goal.any_inside-returns-in-Err-any_array-clause-moves
+any_inside-returns-in-Err-any_array-clause-moves g t c = moves_then c.in-Ok.ensures.moves.by (moves_err c.in-Err-any_array.ensures.moves)
+
+pub any_inside-returns-in-Err-any_array-clause-complete : goal.any_inside-returns-in-Err-any_array-clause-complete
+any_inside-returns-in-Err-any_array-clause-complete g t c = kind_refuses (saw c.in-Ok.ensures.moves c.in-Ok.ensures.sound) c.in-Array.ensures (parts_refuse _ of_array c.in-Err-any_array.ensures.complete)
+
+pub any_inside-returns-in-Ok-any_map-clause-moves : goal.any_inside-returns-in-Ok-any_map-clause-moves
+any_inside-returns-in-Ok-any_map-clause-moves g t c = moves_then c.in-Ok.ensures.moves.by (moves_ok c.in-Ok-any_map.ensures.moves)
+
+pub any_inside-returns-in-Ok-any_map-clause-sound : goal.any_inside-returns-in-Ok-any_map-clause-sound
+any_inside-returns-in-Ok-any_map-clause-sound g t c = kind_sound (saw c.in-Ok.ensures.moves c.in-Ok.ensures.sound) c.in-Map.ensures (parts_sound _ of_map c.in-Ok-any_map.ensures.sound)
+
+pub any_inside-returns-in-Err-any_map-clause-moves : goal.any_inside-returns-in-Err-any_map-clause-moves
+any_inside-returns-in-Err-any_map-clause-moves g t c = moves_then c.in-Ok.ensures.moves.by (moves_err c.in-Err-any_map.ensures.moves)
+
+pub any_inside-returns-in-Err-any_map-clause-complete : goal.any_inside-returns-in-Err-any_map-clause-complete
+any_inside-returns-in-Err-any_map-clause-complete g t c = kind_refuses (saw c.in-Ok.ensures.moves c.in-Ok.ensures.sound) c.in-Map.ensures (parts_refuse _ of_map c.in-Err-any_map.ensures.complete)
+
+pub any_inside-returns-in-Other-clause-complete : goal.any_inside-returns-in-Other-clause-complete
+any_inside-returns-in-Other-clause-complete g t c = other_refuses (saw c.in-Ok.ensures.moves c.in-Ok.ensures.sound) c.in-Other.ensures
+
+pub any_array-returns-clause-moves : goal.any_array-returns-clause-moves
+any_array-returns-clause-moves g t c = moves_stepped (answer_of c.array_inside-outcome.result) _ _ _ _ c.if-not-step_in.ensures.budget c.step_in.ensures.others c.array_inside-outcome.ensures.moves c.step_out.ensures.budget c.step_out.ensures.others
+
+pub any_array-returns-clause-sound : goal.any_array-returns-clause-sound
+any_array-returns-clause-sound g t c = formed_sound c.array_inside-outcome.result (λ v. v.items) _ _ _ c.if-not-step_in.ensures.budget c.step_in.ensures.others _ _ c.step_out.ensures.others c.array_inside-outcome.ensures.sound
+
+pub any_array-returns-clause-complete : goal.any_array-returns-clause-complete
+any_array-returns-clause-complete g t c = step_refuses c.array_inside-outcome.result _ _ _ c.if-not-step_in.ensures.budget c.step_in.ensures.others c.array_inside-outcome.ensures.complete
+
+pub array_inside-returns-in-Ok-Some-clause-moves : goal.array_inside-returns-in-Ok-Some-clause-moves
+array_inside-returns-in-Ok-Some-clause-moves g t c = moves_then c.in-Ok-Some.ensures.moves.by c.counted_values.ensures.moves
+
+pub array_inside-returns-in-Ok-Some-clause-sound : goal.array_inside-returns-in-Ok-Some-clause-sound
+array_inside-returns-in-Ok-Some-clause-sound g t c = counted_sound _ _ _ c.counted_values.result _ _ _ (counts_of c.in-Ok-Some.field-0-is c.in-Ok-Some.ensures.moves.by c.in-Ok-Some.ensures.sound) c.counted_values.ensures.sound
+
+pub array_inside-returns-in-Ok-Some-clause-complete : goal.array_inside-returns-in-Ok-Some-clause-complete
+array_inside-returns-in-Ok-Some-clause-complete g t c = counted_refuses _ _ _ c.counted_values.result _ _ four_small (counts_of c.in-Ok-Some.field-0-is c.in-Ok-Some.ensures.moves.by c.in-Ok-Some.ensures.sound) (λ xs told. c.counted_values.ensures.complete)
+
+pub array_inside-returns-in-Ok-None-clause-moves : goal.array_inside-returns-in-Ok-None-clause-moves
+array_inside-returns-in-Ok-None-clause-moves g t c = moves_then c.in-Ok-None.ensures.moves.by c.open_values.ensures.moves
+
+pub array_inside-returns-in-Ok-None-clause-sound : goal.array_inside-returns-in-Ok-None-clause-sound
+array_inside-returns-in-Ok-None-clause-sound g t c = opened_sound _ _ _ c.open_values.result _ _ _ (opens_of c.in-Ok-None.field-0-is c.in-Ok-None.ensures.moves.by c.in-Ok-None.ensures.sound) c.open_values.ensures.sound
+
+pub array_inside-returns-in-Ok-None-clause-complete : goal.array_inside-returns-in-Ok-None-clause-complete
+array_inside-returns-in-Ok-None-clause-complete g t c = opened_refuses _ _ _ c.open_values.result _ _ four_small (opens_of c.in-Ok-None.field-0-is c.in-Ok-None.ensures.moves.by c.in-Ok-None.ensures.sound) (λ xs told. c.open_values.ensures.complete)
+
+pub array_inside-returns-in-Err-clause-complete : goal.array_inside-returns-in-Err-clause-complete
+array_inside-returns-in-Err-clause-complete g t c = no_length _ _ _ c.in-Err.ensures.complete
+
+pub counted_values-returns-in_err-add_value-clause-moves : goal.counted_values-returns-in_err-add_value-clause-moves
+counted_values-returns-in_err-add_value-clause-moves g t c =
+    let p = err_from_is_err_and c.from_residual.result c.from_residual.ensures.1 in
+    rw (p.1, p.2) (moves_then c.loop-i.invariant.kept (moves_err c.in_err-add_value.ensures.moves))
+
+pub counted_values-returns-in_err-add_value-clause-complete : goal.counted_values-returns-in_err-add_value-clause-complete
+counted_values-returns-in_err-add_value-clause-complete g t c =
+    let p = err_from_is_err_and c.from_residual.result c.from_residual.ensures.1 in
+    rw (p.1, p.2) (count_refuses _ (size_of any_laws) c.loop-i.invariant c.loop-i-test.true (λ xs told. c.in_err-add_value.ensures.complete))
+
+pub counted_values-loop-i-preserved : goal.counted_values-loop-i-preserved
+counted_values-loop-i-preserved g t c = count_more _ c.loop-i.invariant c.in_ok-add_value.ensures.sound c.in_ok-add_value.ensures.moves
+
+pub counted_values-returns-clause-sound : goal.counted_values-returns-clause-sound
+counted_values-returns-clause-sound g t c = count_done _ c.loop-i.invariant (omega (arith, c.loop-i-test.false, c.loop-i.auto.i-end))
+
+pub open_values-returns-in_err-ends-clause-moves : goal.open_values-returns-in_err-ends-clause-moves
+open_values-returns-in_err-ends-clause-moves g t c =
+    let p = err_from_is_err_and c.from_residual.result c.from_residual.ensures.1 in
+    rw (p.1, p.2) (moves_then c.loop-values.invariant.kept (moves_err c.in_err-ends.ensures.runs.moves))
+
+pub open_values-returns-in_err-ends-clause-complete : goal.open_values-returns-in_err-ends-clause-complete
+open_values-returns-in_err-ends-clause-complete g t c =
+    let p = err_from_is_err_and c.from_residual.result c.from_residual.ensures.1 in
+    rw (p.1, p.2) (end_refuses _ _ (size_of any_laws) any_laws.within any_laws.positive c.loop-values.invariant c.in_err-ends.ensures.runs)
+
+pub open_values-loop-values-preserved : goal.open_values-loop-values-preserved
+open_values-loop-values-preserved g t c = open_more _ _ refl c.loop-values.invariant (stands c.if-not-branch.true c.in_ok-ends.ensures.runs) c.in_ok-add_value.ensures.sound c.in_ok-add_value.ensures.moves
+
+pub open_values-returns-in_err-add_value-clause-moves : goal.open_values-returns-in_err-add_value-clause-moves
+open_values-returns-in_err-add_value-clause-moves g t c =
+    let p = err_from_is_err_and c.from_residual-in_err-add_value.result c.from_residual-in_err-add_value.ensures.1 in
+    rw (p.1, p.2) (moves_then (kept_then c.loop-values.invariant.kept c.in_ok-ends.ensures.runs.moves.by) (moves_err c.in_err-add_value.ensures.moves))
+
+pub open_values-returns-in_err-add_value-clause-complete : goal.open_values-returns-in_err-add_value-clause-complete
+open_values-returns-in_err-add_value-clause-complete g t c =
+    let p = err_from_is_err_and c.from_residual-in_err-add_value.result c.from_residual-in_err-add_value.ensures.1 in
+    rw (p.1, p.2) (open_refuses _ _ (size_of any_laws) c.loop-values.invariant (stands c.if-not-branch.true c.in_ok-ends.ensures.runs) (λ xs told. c.in_err-add_value.ensures.complete))
+
+pub open_values-returns-clause-moves : goal.open_values-returns-clause-moves
+open_values-returns-clause-moves g t c = record { by = kept_then c.loop-values.invariant.kept c.in_ok-ends.ensures.runs.moves.by; depth = λ e. refl }
+
+pub open_values-returns-clause-sound : goal.open_values-returns-clause-sound
+open_values-returns-clause-sound g t c = open_done _ _ c.if-not-branch.false c.loop-values.invariant c.in_ok-ends.ensures.runs
+
+pub any_map-returns-clause-moves : goal.any_map-returns-clause-moves
+any_map-returns-clause-moves g t c = moves_stepped (answer_of c.map_inside-outcome.result) _ _ _ _ c.if-not-step_in.ensures.budget c.step_in.ensures.others c.map_inside-outcome.ensures.moves c.step_out.ensures.budget c.step_out.ensures.others
+
+pub any_map-returns-clause-sound : goal.any_map-returns-clause-sound
+any_map-returns-clause-sound g t c = formed_sound c.map_inside-outcome.result (λ v. v.items) _ _ _ c.if-not-step_in.ensures.budget c.step_in.ensures.others _ _ c.step_out.ensures.others c.map_inside-outcome.ensures.sound
+
+pub any_map-returns-clause-complete : goal.any_map-returns-clause-complete
+any_map-returns-clause-complete g t c = step_refuses c.map_inside-outcome.result _ _ _ c.if-not-step_in.ensures.budget c.step_in.ensures.others c.map_inside-outcome.ensures.complete
+
+pub map_inside-returns-in-Ok-Some-clause-moves : goal.map_inside-returns-in-Ok-Some-clause-moves
+map_inside-returns-in-Ok-Some-clause-moves g t c = moves_then c.in-Ok-Some.ensures.moves.by c.counted_pairs.ensures.moves
+
+pub map_inside-returns-in-Ok-Some-clause-sound : goal.map_inside-returns-in-Ok-Some-clause-sound
+map_inside-returns-in-Ok-Some-clause-sound g t c = counted_sound _ _ _ c.counted_pairs.result _ _ _ (counts_of c.in-Ok-Some.field-0-is c.in-Ok-Some.ensures.moves.by c.in-Ok-Some.ensures.sound) c.counted_pairs.ensures.sound
+
+pub map_inside-returns-in-Ok-Some-clause-complete : goal.map_inside-returns-in-Ok-Some-clause-complete
+map_inside-returns-in-Ok-Some-clause-complete g t c = counted_refuses _ _ _ c.counted_pairs.result _ _ five_small (counts_of c.in-Ok-Some.field-0-is c.in-Ok-Some.ensures.moves.by c.in-Ok-Some.ensures.sound) (λ xs told. c.counted_pairs.ensures.complete)
+
+pub map_inside-returns-in-Ok-None-clause-moves : goal.map_inside-returns-in-Ok-None-clause-moves
+map_inside-returns-in-Ok-None-clause-moves g t c = moves_then c.in-Ok-None.ensures.moves.by c.open_pairs.ensures.moves
+
+pub map_inside-returns-in-Ok-None-clause-sound : goal.map_inside-returns-in-Ok-None-clause-sound
+map_inside-returns-in-Ok-None-clause-sound g t c = opened_sound _ _ _ c.open_pairs.result _ _ _ (opens_of c.in-Ok-None.field-0-is c.in-Ok-None.ensures.moves.by c.in-Ok-None.ensures.sound) c.open_pairs.ensures.sound
+
+pub map_inside-returns-in-Ok-None-clause-complete : goal.map_inside-returns-in-Ok-None-clause-complete
+map_inside-returns-in-Ok-None-clause-complete g t c = opened_refuses _ _ _ c.open_pairs.result _ _ five_small (opens_of c.in-Ok-None.field-0-is c.in-Ok-None.ensures.moves.by c.in-Ok-None.ensures.sound) (λ xs told. c.open_pairs.ensures.complete)
+
+pub map_inside-returns-in-Err-clause-complete : goal.map_inside-returns-in-Err-clause-complete
+map_inside-returns-in-Err-clause-complete g t c = no_length _ _ _ c.in-Err.ensures.complete
+
+pub counted_pairs-returns-in_err-add_pair-clause-moves : goal.counted_pairs-returns-in_err-add_pair-clause-moves
+counted_pairs-returns-in_err-add_pair-clause-moves g t c =
+    let p = err_from_is_err_and c.from_residual.result c.from_residual.ensures.1 in
+    rw (p.1, p.2) (moves_then c.loop-i.invariant.kept (moves_err c.in_err-add_pair.ensures.moves))
+
+pub counted_pairs-returns-in_err-add_pair-clause-complete : goal.counted_pairs-returns-in_err-add_pair-clause-complete
+counted_pairs-returns-in_err-add_pair-clause-complete g t c =
+    let p = err_from_is_err_and c.from_residual.result c.from_residual.ensures.1 in
+    rw (p.1, p.2) (count_refuses _ (size_of pairs_laws) c.loop-i.invariant c.loop-i-test.true (λ xs told. c.in_err-add_pair.ensures.complete))
+
+pub counted_pairs-loop-i-preserved : goal.counted_pairs-loop-i-preserved
+counted_pairs-loop-i-preserved g t c = count_more _ c.loop-i.invariant c.in_ok-add_pair.ensures.sound c.in_ok-add_pair.ensures.moves
+
+pub counted_pairs-returns-clause-sound : goal.counted_pairs-returns-clause-sound
+counted_pairs-returns-clause-sound g t c = count_done _ c.loop-i.invariant (omega (arith, c.loop-i-test.false, c.loop-i.auto.i-end))
+
+pub open_pairs-returns-in_err-ends-clause-moves : goal.open_pairs-returns-in_err-ends-clause-moves
+open_pairs-returns-in_err-ends-clause-moves g t c =
+    let p = err_from_is_err_and c.from_residual.result c.from_residual.ensures.1 in
+    rw (p.1, p.2) (moves_then c.loop-pairs.invariant.kept (moves_err c.in_err-ends.ensures.runs.moves))
+
+pub open_pairs-returns-in_err-ends-clause-complete : goal.open_pairs-returns-in_err-ends-clause-complete
+open_pairs-returns-in_err-ends-clause-complete g t c =
+    let p = err_from_is_err_and c.from_residual.result c.from_residual.ensures.1 in
+    rw (p.1, p.2) (end_refuses _ _ (size_of pairs_laws) pairs_laws.within pairs_laws.positive c.loop-pairs.invariant c.in_err-ends.ensures.runs)
+
+pub open_pairs-loop-pairs-preserved : goal.open_pairs-loop-pairs-preserved
+open_pairs-loop-pairs-preserved g t c = open_more _ _ refl c.loop-pairs.invariant (stands c.if-not-branch.true c.in_ok-ends.ensures.runs) c.in_ok-add_pair.ensures.sound c.in_ok-add_pair.ensures.moves
+
+pub open_pairs-returns-in_err-add_pair-clause-moves : goal.open_pairs-returns-in_err-add_pair-clause-moves
+open_pairs-returns-in_err-add_pair-clause-moves g t c =
+    let p = err_from_is_err_and c.from_residual-in_err-add_pair.result c.from_residual-in_err-add_pair.ensures.1 in
+    rw (p.1, p.2) (moves_then (kept_then c.loop-pairs.invariant.kept c.in_ok-ends.ensures.runs.moves.by) (moves_err c.in_err-add_pair.ensures.moves))
+
+pub open_pairs-returns-in_err-add_pair-clause-complete : goal.open_pairs-returns-in_err-add_pair-clause-complete
+open_pairs-returns-in_err-add_pair-clause-complete g t c =
+    let p = err_from_is_err_and c.from_residual-in_err-add_pair.result c.from_residual-in_err-add_pair.ensures.1 in
+    rw (p.1, p.2) (open_refuses _ _ (size_of pairs_laws) c.loop-pairs.invariant (stands c.if-not-branch.true c.in_ok-ends.ensures.runs) (λ xs told. c.in_err-add_pair.ensures.complete))
+
+pub open_pairs-returns-clause-moves : goal.open_pairs-returns-clause-moves
+open_pairs-returns-clause-moves g t c = record { by = kept_then c.loop-pairs.invariant.kept c.in_ok-ends.ensures.runs.moves.by; depth = λ e. refl }
+
+pub open_pairs-returns-clause-sound : goal.open_pairs-returns-clause-sound
+open_pairs-returns-clause-sound g t c = open_done _ _ c.if-not-branch.false c.loop-pairs.invariant c.in_ok-ends.ensures.runs
+
+pub read_pair-returns-in_err-key-clause-complete : goal.read_pair-returns-in_err-key-clause-complete
+read_pair-returns-in_err-key-clause-complete g t c =
+    let p = err_from_is_err_and c.from_residual.result c.from_residual.ensures.1 in
+    rw (p.1, p.2) (key_refuses _ _ c.in_err-key.ensures.complete)
+
+pub read_pair-returns-in-Ok-clause-moves : goal.read_pair-returns-in-Ok-clause-moves
+read_pair-returns-in-Ok-clause-moves g t c = moves_then c.in_ok-key.ensures.moves.by (moves_ok c.in-Ok.ensures.moves)
+
+pub read_pair-returns-in-Ok-clause-sound : goal.read_pair-returns-in-Ok-clause-sound
+read_pair-returns-in-Ok-clause-sound g t c = pair_sound _ _ c.in_ok-key.ensures.moves.by c.in_ok-key.ensures.sound c.in-Ok.ensures.sound
+
+pub read_pair-returns-in-Err-clause-moves : goal.read_pair-returns-in-Err-clause-moves
+read_pair-returns-in-Err-clause-moves g t c = moves_then c.in_ok-key.ensures.moves.by (moves_err c.in-Err.ensures.moves)
+
+pub read_pair-returns-in-Err-clause-complete : goal.read_pair-returns-in-Err-clause-complete
+read_pair-returns-in-Err-clause-complete g t c = value_refuses _ _ _ any_laws.one c.in_ok-key.ensures.moves.by c.in_ok-key.ensures.sound (λ xs told. c.in-Err.ensures.complete)
+
+pub add_pair-returns-clause-sound : goal.add_pair-returns-clause-sound
+add_pair-returns-clause-sound g t c = record { part = c.in_ok-pair.pair; read = c.in_ok-pair.ensures.sound; added = c.if-not-keep.ensures refl }

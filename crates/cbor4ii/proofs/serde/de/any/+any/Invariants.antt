@@ -1,0 +1,62 @@
+use Rattle.std.proofs.Common.{◌+◌, ◌*◌, true}
+use Rattle.cbor4ii_items.specs.Sequences.{ReadsPair}
+use Rattle.cbor4ii.specs.Any.{ReadsAny}
+use Rattle.cbor4ii.proofs.Parts.{Begun, Opened}
+use Rattle.cbor4ii.proofs.serde.de.any.+any.Given as goal
+
+abbrev pub decreases-read_any : goal.decreases-read_any
+decreases-read_any g l = 7 * (g.S.Source.view l.de.now.reader).bound + 3
+
+abbrev pub decreases-any_inside : goal.decreases-any_inside
+decreases-any_inside g l = 7 * (g.S.Source.view l.de.now.reader).bound + 2
+
+abbrev pub decreases-any_array : goal.decreases-any_array
+decreases-any_array g l = 7 * (g.S.Source.view l.de.now.reader).bound + 1
+
+abbrev pub decreases-any_map : goal.decreases-any_map
+decreases-any_map g l = 7 * (g.S.Source.view l.de.now.reader).bound + 1
+
+abbrev pub decreases-array_inside : goal.decreases-array_inside
+decreases-array_inside g l = 7 * (g.S.Source.view l.de.now.reader).bound + 0
+
+abbrev pub decreases-map_inside : goal.decreases-map_inside
+decreases-map_inside g l = 7 * (g.S.Source.view l.de.now.reader).bound + 0
+
+abbrev pub decreases-counted_values : goal.decreases-counted_values
+decreases-counted_values g l = 7 * (g.S.Source.view l.de.now.reader).bound + 6
+
+abbrev pub decreases-open_values : goal.decreases-open_values
+decreases-open_values g l = 7 * (g.S.Source.view l.de.now.reader).bound + 6
+
+abbrev pub decreases-counted_pairs : goal.decreases-counted_pairs
+decreases-counted_pairs g l = 7 * (g.S.Source.view l.de.now.reader).bound + 6
+
+abbrev pub decreases-open_pairs : goal.decreases-open_pairs
+decreases-open_pairs g l = 7 * (g.S.Source.view l.de.now.reader).bound + 6
+
+abbrev pub decreases-add_value : goal.decreases-add_value
+decreases-add_value g l = 7 * (g.S.Source.view l.de.now.reader).bound + 5
+
+abbrev pub decreases-add_pair : goal.decreases-add_pair
+decreases-add_pair g l = 7 * (g.S.Source.view l.de.now.reader).bound + 5
+
+abbrev pub decreases-read_pair : goal.decreases-read_pair
+decreases-read_pair g l = 7 * (g.S.Source.view l.de.now.reader).bound + 4
+
+abbrev pub invariant-counted_values-loop-i : goal.invariant-counted_values-loop-i
+invariant-counted_values-loop-i g l = Begun ReadsAny l.i (g.S.Source.view l.fn.de.reader) (g.S.Source.view l.de.reader) l.values.items
+
+abbrev pub invariant-counted_pairs-loop-i : goal.invariant-counted_pairs-loop-i
+invariant-counted_pairs-loop-i g l = Begun (ReadsPair ReadsAny ReadsAny) l.i (g.S.Source.view l.fn.de.reader) (g.S.Source.view l.de.reader) l.pairs.items
+
+abbrev pub invariant-open_values-loop-values : goal.invariant-open_values-loop-values
+invariant-open_values-loop-values g l = Opened ReadsAny true (g.S.Source.view l.fn.de.reader) (g.S.Source.view l.de.reader) l.values.items
+
+abbrev pub decreases-open_values-loop-values : goal.decreases-open_values-loop-values
+decreases-open_values-loop-values g l = (g.S.Source.view l.de.reader).bound
+
+abbrev pub invariant-open_pairs-loop-pairs : goal.invariant-open_pairs-loop-pairs
+invariant-open_pairs-loop-pairs g l = Opened (ReadsPair ReadsAny ReadsAny) true (g.S.Source.view l.fn.de.reader) (g.S.Source.view l.de.reader) l.pairs.items
+
+abbrev pub decreases-open_pairs-loop-pairs : goal.decreases-open_pairs-loop-pairs
+decreases-open_pairs-loop-pairs g l = (g.S.Source.view l.de.reader).bound

@@ -1,0 +1,400 @@
+//! Any item, read as a value.
+ghost use Rattle.std.specs.Prelude.{
+  ◌≡◌,
+  ◌+◌,
+  ◌≤◌,
+  [],
+  ◌∷◌,
+  ◌++◌,
+  true,
+  OnOk,
+  IfOk,
+  IfErr,
+  IsTrue,
+};
+ghost use Rattle.cbor4ii_items.specs.Moves.{Moves};
+ghost use Rattle.cbor4ii_items.specs.Decoding.{Sound, Refuses};
+ghost use Rattle.cbor4ii_items.specs.Sequences.{
+  ReadsPair,
+  ReadsCount,
+  ReadsUpToBreak,
+  ReadsInside,
+  ReadsSequence,
+  AddsPart,
+};
+ghost use Rattle.cbor4ii.specs.Any.{ReadsAny, AnyInside, SameView};
+ghost use Rattle.cbor4ii.specs.AnyLaws.{any_laws};
+ghost use Rattle.cbor4ii.specs.Typed.{input, answer_of, as_core};
+
+use crate::serde::de::any_leaf::{AnyKind, kind_of, take_leaf};
+use crate::serde::de::deserialize::{Deserialize, Typed};
+use crate::serde::de::deserializer::Deserializer;
+use crate::serde::de::error::DecodeError;
+use crate::serde::de::parts::ends;
+use cbor4ii_items::initial::peek;
+use cbor4ii_items::types::{Array, Map};
+use cbor4ii_rw::error as core_error;
+use cbor4ii_rw::read::Source;
+use cbor4ii_tree::Value;
+use std::alloc::Global;
+
+/// So many values, or pairs, have their place reserved, at most, before any of them came.
+const RESERVED: usize = 256;
+
+impl<S: Source> Deserializer<S> {
+    /// Any item but a tag, as a value; of tags 2 and 3 (RFC 8949 section 3.4.3) in one byte the
+    /// integer that they stand for. Lengths may be given or not, heads are of any width, null and
+    /// undefined are null, floats keep their width and bits, and a map its pairs in order.
+    ///
+    /// A value takes a step, an array or a map one more, and so do the chunks of a string. At most
+    /// 256 values, or pairs, of an array or a map are reserved before they were read.
+    ///
+    /// # Errors
+    ///
+    /// As `Core`, but for the last one:
+    ///
+    /// - no step is left: `DepthOverflow` by "any", and nothing is taken
+    /// - no byte is left: `Eof` by "any" with 1
+    /// - a tag whose first byte is neither `c2` nor `c3`, or a byte of major type 7 that is no
+    ///   false, true, null, undefined or float: `Unsupported` by "any" with the byte, which stays
+    /// - an integer is refused as an `i128`, behind `c2` as a `u128`, a float, a byte string and a
+    ///   text by the names of their own types
+    /// - an array and a map are refused as `Vec` and `BTreeMap` are, by "seq", "array" and "map"
+    /// - `c2` stands before a number of 2^127 or more: `Custom` of "integer out of range", and the
+    ///   item is taken
+    pub fn deserialize_any(&mut self, alloc: Global) -> Result<Value, DecodeError<S::Error>>
+        ensures moves { Moves (input S.view self.old) (input S.view self.new) (answer_of result) }
+        ensures progress { OnOk result
+            ((input S.view self.new).bound + 1 ≤ (input S.view self.old).bound) }
+        ensures sound { IfOk result
+            (Sound ReadsAny (input S.view self.old) (input S.view self.new)) }
+        ensures complete { IfErr result
+            (λ error. Refuses ReadsAny (input S.view self.old) (as_core error)) }
+    {
+        read_any(alloc, self)
+    }
+}
+
+impl Typed for Value {
+    ghost reads = { ReadsAny };
+
+    ghost same = { SameView };
+
+    ghost never_empty = { true };
+
+    ghost owned = { true };
+
+    ghost takes_memory = { true };
+
+    ghost exact = { true };
+
+    fn is_never_empty() -> bool {
+        true
+    }
+
+    fn is_owned() -> bool {
+        true
+    }
+
+    ghost laws = { λ _. any_laws };
+}
+
+/// As `Deserializer::deserialize_any`.
+impl<S: Source> Deserialize<S> for Value {
+    fn deserialize(
+        alloc: Global,
+        de: &mut Deserializer<S>,
+    ) -> Result<Value, DecodeError<S::Error>> {
+        read_any(alloc, de)
+    }
+}
+
+/// Reads one value.
+#[cycle(any)]
+fn read_any<S: Source>(
+    alloc: Global,
+    de: &mut Deserializer<S>,
+) -> Result<Value, DecodeError<S::Error>>
+    ensures moves { Moves (input S.view de.old) (input S.view de.new) (answer_of result) }
+    ensures progress { OnOk result ((input S.view de.new).bound + 1 ≤ (input S.view de.old).bound) }
+    ensures sound { IfOk result (Sound ReadsAny (input S.view de.old) (input S.view de.new)) }
+    ensures complete { IfErr result
+        (λ error. Refuses ReadsAny (input S.view de.old) (as_core error)) }
+{
+    if !de.reader.step_in() {
+        return Err(DecodeError::Core(core_error::DecodeError::DepthOverflow { name: "any" }));
+    }
+    let outcome = any_inside(alloc, de);
+    de.reader.step_out();
+    outcome
+}
+
+/// Reads one value whose step was taken.
+#[cycle(any)]
+fn any_inside<S: Source>(
+    alloc: Global,
+    de: &mut Deserializer<S>,
+) -> Result<Value, DecodeError<S::Error>>
+    ensures moves { Moves (input S.view de.old) (input S.view de.new) (answer_of result) }
+    ensures progress { OnOk result ((input S.view de.new).bound + 1 ≤ (input S.view de.old).bound) }
+    ensures sound { IfOk result
+        (Sound (AnyInside ReadsAny) (input S.view de.old) (input S.view de.new)) }
+    ensures complete { IfErr result
+        (λ error. Refuses (AnyInside ReadsAny) (input S.view de.old) (as_core error)) }
+{
+    let first = match peek(&mut de.reader, "any") {
+        Ok(first) => first,
+        Err(error) => return Err(DecodeError::Core(error)),
+    };
+    match kind_of(first) {
+        AnyKind::Leaf(leaf) => take_leaf(alloc, de, leaf),
+        AnyKind::Array => match any_array(alloc, de) {
+            Ok(values) => Ok(Value::Array(values)),
+            Err(error) => Err(error),
+        },
+        AnyKind::Map => match any_map(alloc, de) {
+            Ok(pairs) => Ok(Value::Map(pairs)),
+            Err(error) => Err(error),
+        },
+        AnyKind::Other => Err(DecodeError::Core(core_error::DecodeError::Unsupported {
+            name: "any",
+            found: first,
+        })),
+    }
+}
+
+/// Reads an array's values, under one step.
+#[cycle(any)]
+fn any_array<S: Source>(
+    alloc: Global,
+    de: &mut Deserializer<S>,
+) -> Result<Vec<Value>, DecodeError<S::Error>>
+    ensures moves { Moves (input S.view de.old) (input S.view de.new) (answer_of result) }
+    ensures progress { OnOk result ((input S.view de.new).bound + 1 ≤ (input S.view de.old).bound) }
+    ensures sound { IfOk result (λ values. Sound (ReadsSequence 4 ReadsAny true)
+        (input S.view de.old) (input S.view de.new) values.items) }
+    ensures complete { IfErr result
+        (λ error. Refuses (ReadsSequence 4 ReadsAny true) (input S.view de.old) (as_core error)) }
+{
+    if !de.reader.step_in() {
+        return Err(DecodeError::Core(core_error::DecodeError::DepthOverflow { name: "seq" }));
+    }
+    let outcome = array_inside(alloc, de);
+    de.reader.step_out();
+    outcome
+}
+
+#[cycle(any)]
+fn array_inside<S: Source>(
+    alloc: Global,
+    de: &mut Deserializer<S>,
+) -> Result<Vec<Value>, DecodeError<S::Error>>
+    ensures moves { Moves (input S.view de.old) (input S.view de.new) (answer_of result) }
+    ensures progress { OnOk result ((input S.view de.new).bound + 1 ≤ (input S.view de.old).bound) }
+    ensures sound { IfOk result (λ values. Sound (ReadsInside 4 ReadsAny true)
+        (input S.view de.old) (input S.view de.new) values.items) }
+    ensures complete { IfErr result
+        (λ error. Refuses (ReadsInside 4 ReadsAny true) (input S.view de.old) (as_core error)) }
+{
+    match Array::<()>::len(&mut de.reader) {
+        Ok(Some(count)) => counted_values(alloc, de, count),
+        Ok(None) => open_values(alloc, de),
+        Err(error) => Err(DecodeError::Core(error)),
+    }
+}
+
+#[cycle(any)]
+fn counted_values<S: Source>(
+    alloc: Global,
+    de: &mut Deserializer<S>,
+    count: usize,
+) -> Result<Vec<Value>, DecodeError<S::Error>>
+    ensures moves { Moves (input S.view de.old) (input S.view de.new) (answer_of result) }
+    ensures sound { IfOk result (λ values. Sound (ReadsCount ReadsAny count)
+        (input S.view de.old) (input S.view de.new) values.items) }
+    ensures complete { IfErr result
+        (λ error. Refuses (ReadsCount ReadsAny count) (input S.view de.old) (as_core error)) }
+{
+    let mut values = Vec::new(alloc);
+    if values.reserve(count.min(RESERVED)).is_err() {
+        return Err(DecodeError::Core(core_error::DecodeError::OutOfMemory));
+    }
+    for i in 0..count {
+        add_value(alloc, de, &mut values)?;
+    }
+    Ok(values)
+}
+
+#[cycle(any)]
+fn open_values<S: Source>(
+    alloc: Global,
+    de: &mut Deserializer<S>,
+) -> Result<Vec<Value>, DecodeError<S::Error>>
+    ensures moves { Moves (input S.view de.old) (input S.view de.new) (answer_of result) }
+    ensures sound { IfOk result (λ values. Sound (ReadsUpToBreak ReadsAny true)
+        (input S.view de.old) (input S.view de.new) values.items) }
+    ensures complete { IfErr result
+        (λ error. Refuses (ReadsUpToBreak ReadsAny true) (input S.view de.old) (as_core error)) }
+{
+    let mut values = Vec::new(alloc);
+    while !ends(de)? {
+        add_value(alloc, de, &mut values)?;
+    }
+    Ok(values)
+}
+
+/// Reads a value, behind those that `values` holds.
+#[cycle(any)]
+fn add_value<S: Source>(
+    alloc: Global,
+    de: &mut Deserializer<S>,
+    values: &mut Vec<Value>,
+) -> Result<(), DecodeError<S::Error>>
+    ensures moves { Moves (input S.view de.old) (input S.view de.new) (answer_of result) }
+    ensures progress { OnOk result ((input S.view de.new).bound + 1 ≤ (input S.view de.old).bound) }
+    ensures sound { OnOk result
+        (AddsPart ReadsAny values.old.items values.new.items
+        (input S.view de.old) (input S.view de.new)) }
+    ensures complete { IfErr result
+        (λ error. Refuses ReadsAny (input S.view de.old) (as_core error)) }
+{
+    let value = read_any(alloc, de)?;
+    if !keep(values, value) {
+        return Err(DecodeError::Core(core_error::DecodeError::OutOfMemory));
+    }
+    Ok(())
+}
+
+/// Reads a map's pairs, under one step.
+#[cycle(any)]
+fn any_map<S: Source>(
+    alloc: Global,
+    de: &mut Deserializer<S>,
+) -> Result<Vec<(Value, Value)>, DecodeError<S::Error>>
+    ensures moves { Moves (input S.view de.old) (input S.view de.new) (answer_of result) }
+    ensures progress { OnOk result ((input S.view de.new).bound + 1 ≤ (input S.view de.old).bound) }
+    ensures sound { IfOk result (λ pairs. Sound (ReadsSequence 5 (ReadsPair ReadsAny ReadsAny) true)
+        (input S.view de.old) (input S.view de.new) pairs.items) }
+    ensures complete { IfErr result
+        (λ error. Refuses (ReadsSequence 5 (ReadsPair ReadsAny ReadsAny) true)
+        (input S.view de.old) (as_core error)) }
+{
+    if !de.reader.step_in() {
+        return Err(DecodeError::Core(core_error::DecodeError::DepthOverflow { name: "map" }));
+    }
+    let outcome = map_inside(alloc, de);
+    de.reader.step_out();
+    outcome
+}
+
+#[cycle(any)]
+fn map_inside<S: Source>(
+    alloc: Global,
+    de: &mut Deserializer<S>,
+) -> Result<Vec<(Value, Value)>, DecodeError<S::Error>>
+    ensures moves { Moves (input S.view de.old) (input S.view de.new) (answer_of result) }
+    ensures progress { OnOk result ((input S.view de.new).bound + 1 ≤ (input S.view de.old).bound) }
+    ensures sound { IfOk result (λ pairs. Sound (ReadsInside 5 (ReadsPair ReadsAny ReadsAny) true)
+        (input S.view de.old) (input S.view de.new) pairs.items) }
+    ensures complete { IfErr result
+        (λ error. Refuses (ReadsInside 5 (ReadsPair ReadsAny ReadsAny) true)
+        (input S.view de.old) (as_core error)) }
+{
+    match Map::<()>::len(&mut de.reader) {
+        Ok(Some(count)) => counted_pairs(alloc, de, count),
+        Ok(None) => open_pairs(alloc, de),
+        Err(error) => Err(DecodeError::Core(error)),
+    }
+}
+
+#[cycle(any)]
+fn counted_pairs<S: Source>(
+    alloc: Global,
+    de: &mut Deserializer<S>,
+    count: usize,
+) -> Result<Vec<(Value, Value)>, DecodeError<S::Error>>
+    ensures moves { Moves (input S.view de.old) (input S.view de.new) (answer_of result) }
+    ensures sound { IfOk result (λ pairs. Sound (ReadsCount (ReadsPair ReadsAny ReadsAny) count)
+        (input S.view de.old) (input S.view de.new) pairs.items) }
+    ensures complete { IfErr result
+        (λ error. Refuses (ReadsCount (ReadsPair ReadsAny ReadsAny) count)
+        (input S.view de.old) (as_core error)) }
+{
+    let mut pairs = Vec::new(alloc);
+    if pairs.reserve(count.min(RESERVED)).is_err() {
+        return Err(DecodeError::Core(core_error::DecodeError::OutOfMemory));
+    }
+    for i in 0..count {
+        add_pair(alloc, de, &mut pairs)?;
+    }
+    Ok(pairs)
+}
+
+#[cycle(any)]
+fn open_pairs<S: Source>(
+    alloc: Global,
+    de: &mut Deserializer<S>,
+) -> Result<Vec<(Value, Value)>, DecodeError<S::Error>>
+    ensures moves { Moves (input S.view de.old) (input S.view de.new) (answer_of result) }
+    ensures sound { IfOk result
+        (λ pairs. Sound (ReadsUpToBreak (ReadsPair ReadsAny ReadsAny) true)
+        (input S.view de.old) (input S.view de.new) pairs.items) }
+    ensures complete { IfErr result
+        (λ error. Refuses (ReadsUpToBreak (ReadsPair ReadsAny ReadsAny) true)
+        (input S.view de.old) (as_core error)) }
+{
+    let mut pairs = Vec::new(alloc);
+    while !ends(de)? {
+        add_pair(alloc, de, &mut pairs)?;
+    }
+    Ok(pairs)
+}
+
+/// Reads a pair, behind those that `pairs` holds.
+#[cycle(any)]
+fn add_pair<S: Source>(
+    alloc: Global,
+    de: &mut Deserializer<S>,
+    pairs: &mut Vec<(Value, Value)>,
+) -> Result<(), DecodeError<S::Error>>
+    ensures moves { Moves (input S.view de.old) (input S.view de.new) (answer_of result) }
+    ensures progress { OnOk result ((input S.view de.new).bound + 1 ≤ (input S.view de.old).bound) }
+    ensures sound { OnOk result
+        (AddsPart (ReadsPair ReadsAny ReadsAny) pairs.old.items pairs.new.items
+        (input S.view de.old) (input S.view de.new)) }
+    ensures complete { IfErr result (λ error. Refuses (ReadsPair ReadsAny ReadsAny)
+        (input S.view de.old) (as_core error)) }
+{
+    let pair = read_pair(alloc, de)?;
+    if !keep(pairs, pair) {
+        return Err(DecodeError::Core(core_error::DecodeError::OutOfMemory));
+    }
+    Ok(())
+}
+
+/// Reads a key, and the value behind it. No break is looked for between the two.
+#[cycle(any)]
+fn read_pair<S: Source>(
+    alloc: Global,
+    de: &mut Deserializer<S>,
+) -> Result<(Value, Value), DecodeError<S::Error>>
+    ensures moves { Moves (input S.view de.old) (input S.view de.new) (answer_of result) }
+    ensures progress { OnOk result ((input S.view de.new).bound + 1 ≤ (input S.view de.old).bound) }
+    ensures sound { IfOk result
+        (Sound (ReadsPair ReadsAny ReadsAny) (input S.view de.old) (input S.view de.new)) }
+    ensures complete { IfErr result (λ error. Refuses (ReadsPair ReadsAny ReadsAny)
+        (input S.view de.old) (as_core error)) }
+{
+    let key = read_any(alloc, de)?;
+    match read_any(alloc, de) {
+        Ok(value) => Ok((key, value)),
+        Err(error) => Err(error),
+    }
+}
+
+/// Puts an item behind those that are there, if there is memory for it.
+fn keep<T: Drop>(items: &mut Vec<T>, item: T) -> bool
+    ensures { IsTrue result → items.new.items ≡ items.old.items ++ item ∷ [] }
+{
+    items.push(item).is_ok()
+}

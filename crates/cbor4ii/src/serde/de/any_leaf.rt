@@ -1,0 +1,253 @@
+//! Items that hold no other, read as values.
+ghost use Rattle.std.specs.Prelude.{◌≡◌, ◌+◌, ◌≤◌, OnOk, IfOk, IfErr, IsTrue};
+ghost use Rattle.cbor4ii_items.specs.Moves.{Moves};
+ghost use Rattle.cbor4ii_items.specs.Decoding.{Sound, Refuses};
+ghost use Rattle.cbor4ii_tree.specs.declared.value.Value.{Value as AnyValue};
+ghost use Rattle.cbor4ii.specs.Any.{
+  kind,
+  tag_kind,
+  simple_kind,
+  Formed,
+  LeafAs,
+  of_integer,
+  of_bytes,
+  of_text,
+  of_bool,
+  of_null,
+  of_f16,
+  of_f32,
+  of_f64,
+};
+ghost use Rattle.cbor4ii.specs.declared.serde.de.any_leaf.AnyLeaf.TheVariants.{Bignum};
+ghost use Rattle.cbor4ii.specs.Typed.{input, answer_of, as_core};
+
+use crate::serde::de::deserializer::{Deserializer, take_item};
+use crate::serde::de::error::DecodeError;
+use cbor4ii_items::decode::{Decode, Spelled};
+use cbor4ii_items::types::{Bytes, F16, F32, F64, Simple};
+use cbor4ii_rw::read::Source;
+use cbor4ii_tree::{FloatBits, Value};
+use std::alloc::Global;
+
+/// What the first byte of an item begins.
+#[derive(Clone, Copy)]
+pub(crate) enum AnyKind {
+    /// An item that holds no other.
+    Leaf(AnyLeaf),
+    /// An array.
+    Array,
+    /// A map.
+    Map,
+    /// No item that is read as a value: a tag other than a bignum's, or none of the simple values
+    /// and floats.
+    Other,
+}
+
+/// Items that hold no other.
+#[derive(Clone, Copy)]
+pub(crate) enum AnyLeaf {
+    /// A number, or a negative bignum.
+    Integer,
+    /// A bignum from 0 on.
+    Bignum,
+    /// A byte string.
+    Bytes,
+    /// A text.
+    Text,
+    /// False or true.
+    Bool,
+    /// Null or undefined.
+    Null,
+    /// A float of two bytes.
+    F16,
+    /// A float of four bytes.
+    F32,
+    /// A float of eight bytes.
+    F64,
+}
+
+/// What this first byte begins.
+pub(crate) fn kind_of(first: u8) -> AnyKind
+    ensures { result ≡ kind first }
+{
+    match first / 32 {
+        0 => AnyKind::Leaf(AnyLeaf::Integer),
+        1 => AnyKind::Leaf(AnyLeaf::Integer),
+        2 => AnyKind::Leaf(AnyLeaf::Bytes),
+        3 => AnyKind::Leaf(AnyLeaf::Text),
+        4 => AnyKind::Array,
+        5 => AnyKind::Map,
+        6 => tag_kind_of(first),
+        _ => simple_kind_of(first),
+    }
+}
+
+/// What this first byte of a tag begins: a bignum, or nothing that is read.
+fn tag_kind_of(first: u8) -> AnyKind
+    ensures { result ≡ tag_kind first }
+{
+    match first {
+        0xc2 => AnyKind::Leaf(AnyLeaf::Bignum),
+        0xc3 => AnyKind::Leaf(AnyLeaf::Integer),
+        _ => AnyKind::Other,
+    }
+}
+
+/// What this first byte of major type 7 begins.
+fn simple_kind_of(first: u8) -> AnyKind
+    ensures { result ≡ simple_kind first }
+{
+    match first {
+        0xf4 => AnyKind::Leaf(AnyLeaf::Bool),
+        0xf5 => AnyKind::Leaf(AnyLeaf::Bool),
+        0xf6 => AnyKind::Leaf(AnyLeaf::Null),
+        0xf7 => AnyKind::Leaf(AnyLeaf::Null),
+        0xf9 => AnyKind::Leaf(AnyLeaf::F16),
+        0xfa => AnyKind::Leaf(AnyLeaf::F32),
+        0xfb => AnyKind::Leaf(AnyLeaf::F64),
+        _ => AnyKind::Other,
+    }
+}
+
+/// What is read from an item that holds no other.
+trait AsValue: Sized {
+    ghost form: { Self → AnyValue };
+
+    /// The value that it is.
+    fn as_value(self) -> Value
+        ensures { result ≡ form self };
+}
+
+impl AsValue for i128 {
+    ghost form = { of_integer };
+
+    fn as_value(self) -> Value {
+        Value::Integer(self)
+    }
+}
+
+impl AsValue for Bytes<Vec<u8>> {
+    ghost form = { of_bytes };
+
+    fn as_value(self) -> Value {
+        Value::Bytes(self.0)
+    }
+}
+
+impl AsValue for String {
+    ghost form = { of_text };
+
+    fn as_value(self) -> Value {
+        Value::Text(self)
+    }
+}
+
+impl AsValue for bool {
+    ghost form = { of_bool };
+
+    fn as_value(self) -> Value {
+        Value::Bool(self)
+    }
+}
+
+// Read behind a first byte that says null or undefined alone.
+impl AsValue for Simple {
+    ghost form = { of_null };
+
+    fn as_value(self) -> Value {
+        Value::Null
+    }
+}
+
+impl AsValue for F16 {
+    ghost form = { of_f16 };
+
+    fn as_value(self) -> Value {
+        Value::Float(FloatBits::F16(self.0))
+    }
+}
+
+impl AsValue for F32 {
+    ghost form = { of_f32 };
+
+    fn as_value(self) -> Value {
+        Value::Float(FloatBits::F32(self.0))
+    }
+}
+
+impl AsValue for F64 {
+    ghost form = { of_f64 };
+
+    fn as_value(self) -> Value {
+        Value::Float(FloatBits::F64(self.0))
+    }
+}
+
+/// Reads an item that holds no other.
+pub(crate) fn take_leaf<S: Source>(
+    alloc: Global,
+    de: &mut Deserializer<S>,
+    leaf: AnyLeaf,
+) -> Result<Value, DecodeError<S::Error>>
+    ensures moves { Moves (input S.view de.old) (input S.view de.new) (answer_of result) }
+    ensures progress { OnOk result ((input S.view de.new).bound + 1 ≤ (input S.view de.old).bound) }
+    ensures sound { IfOk result
+        (Sound (LeafAs leaf) (input S.view de.old) (input S.view de.new)) }
+    ensures complete { IfErr result
+        (λ error. Refuses (LeafAs leaf) (input S.view de.old) (as_core error)) }
+{
+    match leaf {
+        AnyLeaf::Integer => take_as::<S, i128>(alloc, de),
+        AnyLeaf::Bignum => take_bignum(alloc, de),
+        AnyLeaf::Bytes => take_as::<S, Bytes<Vec<u8>>>(alloc, de),
+        AnyLeaf::Text => take_as::<S, String>(alloc, de),
+        AnyLeaf::Bool => take_as::<S, bool>(alloc, de),
+        AnyLeaf::Null => take_as::<S, Simple>(alloc, de),
+        AnyLeaf::F16 => take_as::<S, F16>(alloc, de),
+        AnyLeaf::F32 => take_as::<S, F32>(alloc, de),
+        AnyLeaf::F64 => take_as::<S, F64>(alloc, de),
+    }
+}
+
+/// Reads one item of the codec, as a value.
+fn take_as<S: Source, T: Decode<S> + AsValue>(
+    alloc: Global,
+    de: &mut Deserializer<S>,
+) -> Result<Value, DecodeError<S::Error>>
+    ensures moves { Moves (input S.view de.old) (input S.view de.new) (answer_of result) }
+    ensures progress { IsTrue T.never_empty →
+        OnOk result ((input S.view de.new).bound + 1 ≤ (input S.view de.old).bound) }
+    ensures sound { IfOk result
+        (Sound (Formed T.reads T.form) (input S.view de.old) (input S.view de.new)) }
+    ensures complete { IsTrue T.owned → IfErr result
+        (λ error. Refuses (Formed T.reads T.form) (input S.view de.old) (as_core error)) }
+{
+    match take_item::<S, T>(alloc, de) {
+        Ok(item) => Ok(item.as_value()),
+        Err(error) => Err(error),
+    }
+}
+
+/// Reads a bignum from 0 on, if it is an i128.
+fn take_bignum<S: Source>(
+    alloc: Global,
+    de: &mut Deserializer<S>,
+) -> Result<Value, DecodeError<S::Error>>
+    ensures moves { Moves (input S.view de.old) (input S.view de.new) (answer_of result) }
+    ensures progress { OnOk result ((input S.view de.new).bound + 1 ≤ (input S.view de.old).bound) }
+    ensures sound { IfOk result
+        (Sound (LeafAs Bignum) (input S.view de.old) (input S.view de.new)) }
+    ensures complete { IfErr result
+        (λ error. Refuses (LeafAs Bignum) (input S.view de.old) (as_core error)) }
+{
+    match take_item::<S, u128>(alloc, de) {
+        Ok(number) => {
+            if number < 1 << 127 {
+                Ok(Value::Integer(number as i128))
+            } else {
+                Err(DecodeError::Custom("integer out of range"))
+            }
+        }
+        Err(error) => Err(error),
+    }
+}
