@@ -20,3 +20,4 @@ pub mod Backs
 pub mod Beginnings
 pub mod PartStops
 pub mod AnyForms
+pub mod AnyStopping

@@ -12,3 +12,4 @@ pub mod ReadBack
 pub mod Beginning
 pub mod Any
 pub mod AnyLaws
+pub mod AnyStops

@@ -11,9 +11,10 @@ ghost use Rattle.std.specs.Prelude.{
   IfOk,
   IfErr,
   IsTrue,
+  codes,
 };
 ghost use Rattle.cbor4ii_items.specs.Moves.{Moves};
-ghost use Rattle.cbor4ii_items.specs.Decoding.{Sound, Refuses};
+ghost use Rattle.cbor4ii_items.specs.Decoding.{Sound, Refuses, Stops};
 ghost use Rattle.cbor4ii_items.specs.Sequences.{
   ReadsPair,
   ReadsCount,
@@ -21,9 +22,17 @@ ghost use Rattle.cbor4ii_items.specs.Sequences.{
   ReadsInside,
   ReadsSequence,
   AddsPart,
+  StopsCount,
+  StopsUpToBreak,
+  StopsInside,
 };
 ghost use Rattle.cbor4ii.specs.Any.{ReadsAny, AnyInside, SameView};
 ghost use Rattle.cbor4ii.specs.AnyLaws.{any_laws};
+ghost use Rattle.cbor4ii.specs.AnyStops.{AnyStops, KindStops, StopsAny, StopsAnyPair};
+ghost use Rattle.cbor4ii.specs.declared.serde.de.any_leaf.AnyKind.TheVariants.{
+  Array as array_kind,
+  Map as map_kind,
+};
 ghost use Rattle.cbor4ii.specs.Typed.{input, answer_of, as_core};
 
 use crate::serde::de::any_leaf::{AnyKind, kind_of, take_leaf};
@@ -70,6 +79,8 @@ impl<S: Source> Deserializer<S> {
             (Sound ReadsAny (input S.view self.old) (input S.view self.new)) }
         ensures complete { IfErr result
             (λ error. Refuses ReadsAny (input S.view self.old) (as_core error)) }
+        ensures stops { IfErr result (λ error. Stops StopsAny
+            (input S.view self.old) (input S.view self.new) (as_core error)) }
     {
         read_any(alloc, self)
     }
@@ -120,6 +131,8 @@ fn read_any<S: Source>(
     ensures sound { IfOk result (Sound ReadsAny (input S.view de.old) (input S.view de.new)) }
     ensures complete { IfErr result
         (λ error. Refuses ReadsAny (input S.view de.old) (as_core error)) }
+    ensures stops { IfErr result (λ error. Stops StopsAny
+        (input S.view de.old) (input S.view de.new) (as_core error)) }
 {
     if !de.reader.step_in() {
         return Err(DecodeError::Core(core_error::DecodeError::DepthOverflow { name: "any" }));
@@ -141,6 +154,8 @@ fn any_inside<S: Source>(
         (Sound (AnyInside ReadsAny) (input S.view de.old) (input S.view de.new)) }
     ensures complete { IfErr result
         (λ error. Refuses (AnyInside ReadsAny) (input S.view de.old) (as_core error)) }
+    ensures stops { IfErr result (λ error. Stops (AnyStops StopsAny)
+        (input S.view de.old) (input S.view de.new) (as_core error)) }
 {
     let first = match peek(&mut de.reader, "any") {
         Ok(first) => first,
@@ -175,6 +190,8 @@ fn any_array<S: Source>(
         (input S.view de.old) (input S.view de.new) values.items) }
     ensures complete { IfErr result
         (λ error. Refuses (ReadsSequence 4 ReadsAny true) (input S.view de.old) (as_core error)) }
+    ensures stops { IfErr result (λ error. Stops (KindStops StopsAny array_kind)
+        (input S.view de.old) (input S.view de.new) (as_core error)) }
 {
     if !de.reader.step_in() {
         return Err(DecodeError::Core(core_error::DecodeError::DepthOverflow { name: "seq" }));
@@ -195,6 +212,8 @@ fn array_inside<S: Source>(
         (input S.view de.old) (input S.view de.new) values.items) }
     ensures complete { IfErr result
         (λ error. Refuses (ReadsInside 4 ReadsAny true) (input S.view de.old) (as_core error)) }
+    ensures stops { IfErr result (λ error. Stops (StopsInside (codes "array") 4 ReadsAny StopsAny true)
+        (input S.view de.old) (input S.view de.new) (as_core error)) }
 {
     match Array::<()>::len(&mut de.reader) {
         Ok(Some(count)) => counted_values(alloc, de, count),
@@ -214,6 +233,8 @@ fn counted_values<S: Source>(
         (input S.view de.old) (input S.view de.new) values.items) }
     ensures complete { IfErr result
         (λ error. Refuses (ReadsCount ReadsAny count) (input S.view de.old) (as_core error)) }
+    ensures stops { IfErr result (λ error. Stops (StopsCount ReadsAny StopsAny count)
+        (input S.view de.old) (input S.view de.new) (as_core error)) }
 {
     let mut values = Vec::new(alloc);
     if values.reserve(count.min(RESERVED)).is_err() {
@@ -235,6 +256,8 @@ fn open_values<S: Source>(
         (input S.view de.old) (input S.view de.new) values.items) }
     ensures complete { IfErr result
         (λ error. Refuses (ReadsUpToBreak ReadsAny true) (input S.view de.old) (as_core error)) }
+    ensures stops { IfErr result (λ error. Stops (StopsUpToBreak (codes "array") ReadsAny StopsAny true)
+        (input S.view de.old) (input S.view de.new) (as_core error)) }
 {
     let mut values = Vec::new(alloc);
     while !ends(de)? {
@@ -257,6 +280,8 @@ fn add_value<S: Source>(
         (input S.view de.old) (input S.view de.new)) }
     ensures complete { IfErr result
         (λ error. Refuses ReadsAny (input S.view de.old) (as_core error)) }
+    ensures stops { IfErr result (λ error. Stops StopsAny
+        (input S.view de.old) (input S.view de.new) (as_core error)) }
 {
     let value = read_any(alloc, de)?;
     if !keep(values, value) {
@@ -278,6 +303,8 @@ fn any_map<S: Source>(
     ensures complete { IfErr result
         (λ error. Refuses (ReadsSequence 5 (ReadsPair ReadsAny ReadsAny) true)
         (input S.view de.old) (as_core error)) }
+    ensures stops { IfErr result (λ error. Stops (KindStops StopsAny map_kind)
+        (input S.view de.old) (input S.view de.new) (as_core error)) }
 {
     if !de.reader.step_in() {
         return Err(DecodeError::Core(core_error::DecodeError::DepthOverflow { name: "map" }));
@@ -299,6 +326,8 @@ fn map_inside<S: Source>(
     ensures complete { IfErr result
         (λ error. Refuses (ReadsInside 5 (ReadsPair ReadsAny ReadsAny) true)
         (input S.view de.old) (as_core error)) }
+    ensures stops { IfErr result (λ error. Stops (StopsInside (codes "map") 5 (ReadsPair ReadsAny ReadsAny) StopsAnyPair true)
+        (input S.view de.old) (input S.view de.new) (as_core error)) }
 {
     match Map::<()>::len(&mut de.reader) {
         Ok(Some(count)) => counted_pairs(alloc, de, count),
@@ -319,6 +348,8 @@ fn counted_pairs<S: Source>(
     ensures complete { IfErr result
         (λ error. Refuses (ReadsCount (ReadsPair ReadsAny ReadsAny) count)
         (input S.view de.old) (as_core error)) }
+    ensures stops { IfErr result (λ error. Stops (StopsCount (ReadsPair ReadsAny ReadsAny) StopsAnyPair count)
+        (input S.view de.old) (input S.view de.new) (as_core error)) }
 {
     let mut pairs = Vec::new(alloc);
     if pairs.reserve(count.min(RESERVED)).is_err() {
@@ -342,6 +373,8 @@ fn open_pairs<S: Source>(
     ensures complete { IfErr result
         (λ error. Refuses (ReadsUpToBreak (ReadsPair ReadsAny ReadsAny) true)
         (input S.view de.old) (as_core error)) }
+    ensures stops { IfErr result (λ error. Stops (StopsUpToBreak (codes "map") (ReadsPair ReadsAny ReadsAny) StopsAnyPair true)
+        (input S.view de.old) (input S.view de.new) (as_core error)) }
 {
     let mut pairs = Vec::new(alloc);
     while !ends(de)? {
@@ -364,6 +397,8 @@ fn add_pair<S: Source>(
         (input S.view de.old) (input S.view de.new)) }
     ensures complete { IfErr result (λ error. Refuses (ReadsPair ReadsAny ReadsAny)
         (input S.view de.old) (as_core error)) }
+    ensures stops { IfErr result (λ error. Stops StopsAnyPair
+        (input S.view de.old) (input S.view de.new) (as_core error)) }
 {
     let pair = read_pair(alloc, de)?;
     if !keep(pairs, pair) {
@@ -384,6 +419,8 @@ fn read_pair<S: Source>(
         (Sound (ReadsPair ReadsAny ReadsAny) (input S.view de.old) (input S.view de.new)) }
     ensures complete { IfErr result (λ error. Refuses (ReadsPair ReadsAny ReadsAny)
         (input S.view de.old) (as_core error)) }
+    ensures stops { IfErr result (λ error. Stops StopsAnyPair
+        (input S.view de.old) (input S.view de.new) (as_core error)) }
 {
     let key = read_any(alloc, de)?;
     match read_any(alloc, de) {

@@ -1,7 +1,7 @@
 //! Items that hold no other, read as values.
 ghost use Rattle.std.specs.Prelude.{◌≡◌, ◌+◌, ◌≤◌, OnOk, IfOk, IfErr, IsTrue};
 ghost use Rattle.cbor4ii_items.specs.Moves.{Moves};
-ghost use Rattle.cbor4ii_items.specs.Decoding.{Sound, Refuses};
+ghost use Rattle.cbor4ii_items.specs.Decoding.{Sound, Refuses, Stops};
 ghost use Rattle.cbor4ii_tree.specs.declared.value.Value.{Value as AnyValue};
 ghost use Rattle.cbor4ii.specs.Any.{
   kind,
@@ -18,6 +18,7 @@ ghost use Rattle.cbor4ii.specs.Any.{
   of_f32,
   of_f64,
 };
+ghost use Rattle.cbor4ii.specs.AnyStops.{LeafStops, StopsBignum};
 ghost use Rattle.cbor4ii.specs.declared.serde.de.any_leaf.AnyLeaf.TheVariants.{Bignum};
 ghost use Rattle.cbor4ii.specs.Typed.{input, answer_of, as_core};
 
@@ -195,6 +196,8 @@ pub(crate) fn take_leaf<S: Source>(
         (Sound (LeafAs leaf) (input S.view de.old) (input S.view de.new)) }
     ensures complete { IfErr result
         (λ error. Refuses (LeafAs leaf) (input S.view de.old) (as_core error)) }
+    ensures stops { IfErr result (λ error.
+        Stops (LeafStops leaf) (input S.view de.old) (input S.view de.new) (as_core error)) }
 {
     match leaf {
         AnyLeaf::Integer => take_as::<S, i128>(alloc, de),
@@ -221,6 +224,8 @@ fn take_as<S: Source, T: Decode<S> + AsValue>(
         (Sound (Formed T.reads T.form) (input S.view de.old) (input S.view de.new)) }
     ensures complete { IsTrue T.owned → IfErr result
         (λ error. Refuses (Formed T.reads T.form) (input S.view de.old) (as_core error)) }
+    ensures stops { IsTrue T.owned → IfErr result (λ error.
+        Stops T.stops (input S.view de.old) (input S.view de.new) (as_core error)) }
 {
     match take_item::<S, T>(alloc, de) {
         Ok(item) => Ok(item.as_value()),
@@ -239,6 +244,8 @@ fn take_bignum<S: Source>(
         (Sound (LeafAs Bignum) (input S.view de.old) (input S.view de.new)) }
     ensures complete { IfErr result
         (λ error. Refuses (LeafAs Bignum) (input S.view de.old) (as_core error)) }
+    ensures stops { IfErr result (λ error.
+        Stops StopsBignum (input S.view de.old) (input S.view de.new) (as_core error)) }
 {
     match take_item::<S, u128>(alloc, de) {
         Ok(number) => {

@@ -1,16 +1,20 @@
-use Rattle.std.proofs.Common.{refl, arith}
+use Rattle.std.proofs.Common.{true, refl, arith}
 use Rattle.std.proofs.lemmas.Result.{err_from_is_err_and}
 use Rattle.cbor4ii_items.specs.Laws.Steps.{moves_then, moves_ok, moves_err, kept_then}
 use Rattle.cbor4ii_items.specs.Laws.UnderStep.{moves_stepped}
-use Rattle.cbor4ii.specs.Any.{of_array, of_map}
+use Rattle.cbor4ii.specs.Any.{ReadsAny, of_array, of_map}
 use Rattle.cbor4ii.specs.AnyLaws.{any_laws}
 use Rattle.cbor4ii.specs.Typed.{answer_of, size_of}
 use Rattle.cbor4ii.proofs.AnyForms.{parts_sound, parts_refuse, pairs_laws, kind_sound, kind_refuses, other_refuses, no_byte_refuses, kind_ok, kind_err, any_ok, any_err}
+use Rattle.std.specs.Prelude.{codes}
+use Rattle.cbor4ii_items.specs.Sequences.{ReadsPair, StopsInside}
+use Rattle.cbor4ii.specs.AnyStops.{AnyStops, StopsAny, StopsAnyPair}
+use Rattle.cbor4ii.proofs.AnyStopping.{any_stops, any_stops_by, step_stops, count_stops, open_stops, end_stops, length_stops, counted_stops, opened_stops, key_stops, value_stops, next_stops, kind_stops, kind_stops_by, other_stops}
 use Rattle.cbor4ii.proofs.Looking.{saw}
 use Rattle.cbor4ii.proofs.Pairs.{pair_sound, key_refuses, value_refuses}
 use Rattle.cbor4ii.proofs.Parts.{count_more, count_done, count_refuses, stands, open_more, open_done, open_refuses, end_refuses}
 use Rattle.cbor4ii.proofs.Sequences.{counted_sound, counted_refuses, opened_sound, opened_refuses, counts_of, opens_of, no_length}
-use Rattle.cbor4ii.proofs.Steps.{formed_sound, step_sound, step_refuses}
+use Rattle.cbor4ii.proofs.Steps.{formed_sound, step_sound, step_refuses, stops_no_step}
 use Rattle.cbor4ii.specs.Sequence.{four_small, five_small}
 use Rattle.cbor4ii.proofs.serde.de.any.+any.Goals as goal
 
@@ -231,3 +235,92 @@ read_pair-returns-in-Err-clause-complete g t c = value_refuses _ _ _ any_laws.on
 
 pub add_pair-returns-clause-sound : goal.add_pair-returns-clause-sound
 add_pair-returns-clause-sound g t c = record { part = c.in_ok-pair.pair; read = c.in_ok-pair.ensures.sound; added = c.if-not-keep.ensures refl }
+
+pub read_any-returns-then-not-step_in-clause-stops : goal.read_any-returns-then-not-step_in-clause-stops
+read_any-returns-then-not-step_in-clause-stops g t c = any_stops (stops_no_step _ (AnyStops StopsAny) c.if-not-step_in.ensures.budget c.step_in.ensures.others)
+
+pub read_any-returns-clause-stops : goal.read_any-returns-clause-stops
+read_any-returns-clause-stops g t c = any_stops_by c.any_inside-outcome.result _ _ (step_stops c.any_inside-outcome.result (codes "any") (AnyStops StopsAny) _ _ _ _ c.if-not-step_in.ensures.budget c.step_in.ensures.others c.step_out.ensures.others c.any_inside-outcome.ensures.stops)
+
+pub any_inside-returns-in-Err-clause-stops : goal.any_inside-returns-in-Err-clause-stops
+any_inside-returns-in-Err-clause-stops g t c = next_stops c.in-Err.ensures.stops
+
+pub any_inside-returns-in-Leaf-clause-stops : goal.any_inside-returns-in-Leaf-clause-stops
+any_inside-returns-in-Leaf-clause-stops g t c = kind_stops_by c.take_leaf.result _ (saw c.in-Ok.ensures.moves c.in-Ok.ensures.sound) c.in-Leaf.ensures c.take_leaf.ensures.stops
+
+pub any_inside-returns-in-Other-clause-stops : goal.any_inside-returns-in-Other-clause-stops
+any_inside-returns-in-Other-clause-stops g t c = other_stops _ refl (saw c.in-Ok.ensures.moves c.in-Ok.ensures.sound) c.in-Other.ensures
+
+pub any_inside-returns-in-Err-any_array-clause-stops : goal.any_inside-returns-in-Err-any_array-clause-stops
+any_inside-returns-in-Err-any_array-clause-stops g t c = kind_stops (saw c.in-Ok.ensures.moves c.in-Ok.ensures.sound) c.in-Array.ensures c.in-Err-any_array.ensures.stops
+
+pub any_array-returns-then-not-step_in-clause-stops : goal.any_array-returns-then-not-step_in-clause-stops
+any_array-returns-then-not-step_in-clause-stops g t c = stops_no_step _ (StopsInside (codes "array") 4 ReadsAny StopsAny true) c.if-not-step_in.ensures.budget c.step_in.ensures.others
+
+pub any_array-returns-clause-stops : goal.any_array-returns-clause-stops
+any_array-returns-clause-stops g t c = step_stops c.array_inside-outcome.result (codes "seq") _ _ _ _ _ c.if-not-step_in.ensures.budget c.step_in.ensures.others c.step_out.ensures.others c.array_inside-outcome.ensures.stops
+
+pub array_inside-returns-in-Ok-Some-clause-stops : goal.array_inside-returns-in-Ok-Some-clause-stops
+array_inside-returns-in-Ok-Some-clause-stops g t c = counted_stops _ _ c.counted_values.result (codes "array") 4 _ (counts_of c.in-Ok-Some.field-0-is c.in-Ok-Some.ensures.moves.by c.in-Ok-Some.ensures.sound) c.counted_values.ensures.stops
+
+pub array_inside-returns-in-Ok-None-clause-stops : goal.array_inside-returns-in-Ok-None-clause-stops
+array_inside-returns-in-Ok-None-clause-stops g t c = opened_stops _ _ c.open_values.result (codes "array") 4 _ (opens_of c.in-Ok-None.field-0-is c.in-Ok-None.ensures.moves.by c.in-Ok-None.ensures.sound) c.open_values.ensures.stops
+
+pub array_inside-returns-in-Err-clause-stops : goal.array_inside-returns-in-Err-clause-stops
+array_inside-returns-in-Err-clause-stops g t c = length_stops _ _ (codes "array") 4 c.in-Err.ensures.stops
+
+pub counted_values-returns-in_err-add_value-clause-stops : goal.counted_values-returns-in_err-add_value-clause-stops
+counted_values-returns-in_err-add_value-clause-stops g t c =
+    let p = err_from_is_err_and c.from_residual.result c.from_residual.ensures.1 in
+    rw (p.1, p.2) (count_stops _ _ c.loop-i.invariant c.loop-i-test.true c.in_err-add_value.ensures.stops)
+
+pub open_values-returns-in_err-ends-clause-stops : goal.open_values-returns-in_err-ends-clause-stops
+open_values-returns-in_err-ends-clause-stops g t c =
+    let p = err_from_is_err_and c.from_residual.result c.from_residual.ensures.1 in
+    rw (p.1, p.2) (end_stops _ _ (codes "array") c.loop-values.invariant c.in_err-ends.ensures.runs)
+
+pub open_values-returns-in_err-add_value-clause-stops : goal.open_values-returns-in_err-add_value-clause-stops
+open_values-returns-in_err-add_value-clause-stops g t c =
+    let p = err_from_is_err_and c.from_residual-in_err-add_value.result c.from_residual-in_err-add_value.ensures.1 in
+    rw (p.1, p.2) (open_stops _ _ (codes "array") c.loop-values.invariant (stands c.if-not-branch.true c.in_ok-ends.ensures.runs) c.in_err-add_value.ensures.stops)
+
+pub any_inside-returns-in-Err-any_map-clause-stops : goal.any_inside-returns-in-Err-any_map-clause-stops
+any_inside-returns-in-Err-any_map-clause-stops g t c = kind_stops (saw c.in-Ok.ensures.moves c.in-Ok.ensures.sound) c.in-Map.ensures c.in-Err-any_map.ensures.stops
+
+pub any_map-returns-then-not-step_in-clause-stops : goal.any_map-returns-then-not-step_in-clause-stops
+any_map-returns-then-not-step_in-clause-stops g t c = stops_no_step _ (StopsInside (codes "map") 5 (ReadsPair ReadsAny ReadsAny) StopsAnyPair true) c.if-not-step_in.ensures.budget c.step_in.ensures.others
+
+pub any_map-returns-clause-stops : goal.any_map-returns-clause-stops
+any_map-returns-clause-stops g t c = step_stops c.map_inside-outcome.result (codes "map") _ _ _ _ _ c.if-not-step_in.ensures.budget c.step_in.ensures.others c.step_out.ensures.others c.map_inside-outcome.ensures.stops
+
+pub map_inside-returns-in-Ok-Some-clause-stops : goal.map_inside-returns-in-Ok-Some-clause-stops
+map_inside-returns-in-Ok-Some-clause-stops g t c = counted_stops _ _ c.counted_pairs.result (codes "map") 5 _ (counts_of c.in-Ok-Some.field-0-is c.in-Ok-Some.ensures.moves.by c.in-Ok-Some.ensures.sound) c.counted_pairs.ensures.stops
+
+pub map_inside-returns-in-Ok-None-clause-stops : goal.map_inside-returns-in-Ok-None-clause-stops
+map_inside-returns-in-Ok-None-clause-stops g t c = opened_stops _ _ c.open_pairs.result (codes "map") 5 _ (opens_of c.in-Ok-None.field-0-is c.in-Ok-None.ensures.moves.by c.in-Ok-None.ensures.sound) c.open_pairs.ensures.stops
+
+pub map_inside-returns-in-Err-clause-stops : goal.map_inside-returns-in-Err-clause-stops
+map_inside-returns-in-Err-clause-stops g t c = length_stops _ _ (codes "map") 5 c.in-Err.ensures.stops
+
+pub counted_pairs-returns-in_err-add_pair-clause-stops : goal.counted_pairs-returns-in_err-add_pair-clause-stops
+counted_pairs-returns-in_err-add_pair-clause-stops g t c =
+    let p = err_from_is_err_and c.from_residual.result c.from_residual.ensures.1 in
+    rw (p.1, p.2) (count_stops _ _ c.loop-i.invariant c.loop-i-test.true c.in_err-add_pair.ensures.stops)
+
+pub open_pairs-returns-in_err-ends-clause-stops : goal.open_pairs-returns-in_err-ends-clause-stops
+open_pairs-returns-in_err-ends-clause-stops g t c =
+    let p = err_from_is_err_and c.from_residual.result c.from_residual.ensures.1 in
+    rw (p.1, p.2) (end_stops _ _ (codes "map") c.loop-pairs.invariant c.in_err-ends.ensures.runs)
+
+pub open_pairs-returns-in_err-add_pair-clause-stops : goal.open_pairs-returns-in_err-add_pair-clause-stops
+open_pairs-returns-in_err-add_pair-clause-stops g t c =
+    let p = err_from_is_err_and c.from_residual-in_err-add_pair.result c.from_residual-in_err-add_pair.ensures.1 in
+    rw (p.1, p.2) (open_stops _ _ (codes "map") c.loop-pairs.invariant (stands c.if-not-branch.true c.in_ok-ends.ensures.runs) c.in_err-add_pair.ensures.stops)
+
+pub read_pair-returns-in_err-key-clause-stops : goal.read_pair-returns-in_err-key-clause-stops
+read_pair-returns-in_err-key-clause-stops g t c =
+    let p = err_from_is_err_and c.from_residual.result c.from_residual.ensures.1 in
+    rw (p.1, p.2) (key_stops c.in_err-key.ensures.stops)
+
+pub read_pair-returns-in-Err-clause-stops : goal.read_pair-returns-in-Err-clause-stops
+read_pair-returns-in-Err-clause-stops g t c = value_stops c.in_ok-key.ensures.moves.by c.in_ok-key.ensures.sound c.in-Err.ensures.stops

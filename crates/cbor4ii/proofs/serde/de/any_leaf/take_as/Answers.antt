@@ -7,3 +7,6 @@ returns-in-Ok-clause-sound g c = formed_sound g.T.Spelled.reads g.T.AsValue.form
 
 pub returns-in-Err-clause-complete : goal.returns-in-Err-clause-complete
 returns-in-Err-clause-complete g c owned = formed_refuses g.T.Spelled.reads g.T.AsValue.form (c.in-Err.ensures.complete (inl owned))
+
+pub returns-in-Err-clause-stops : goal.returns-in-Err-clause-stops
+returns-in-Err-clause-stops g c owned = c.in-Err.ensures.stopped (inl owned)
