@@ -60,15 +60,16 @@ impl<S: Source> Deserializer<S> {
     ///
     /// # Errors
     ///
-    /// As `Core`, but for the last one:
+    /// As `Core`, but for the last one. `Read` where the reader failed, `OutOfMemory` where a growth
+    /// was refused, and else, with what each leaves:
     ///
     /// - no step is left: `DepthOverflow` by "any", and nothing is taken
-    /// - no byte is left: `Eof` by "any" with 1
+    /// - no byte is left: `Eof` by "any" with 1, and nothing is left
     /// - a tag whose first byte is neither `c2` nor `c3`, or a byte of major type 7 that is no
     ///   false, true, null, undefined or float: `Unsupported` by "any" with the byte, which stays
-    /// - an integer is refused as an `i128`, behind `c2` as a `u128`, a float, a byte string and a
-    ///   text by the names of their own types
-    /// - an array and a map are refused as `Vec` and `BTreeMap` are, by "seq", "array" and "map"
+    /// - an integer is refused as an `i128`, behind `c2` as a `u128`, and a float, a byte string and
+    ///   a text as `F16`, `F32`, `F64`, `Bytes<Vec<u8>>` and `String` are
+    /// - an array is refused as a `Vec<Value>` is, and a map as a `BTreeMap` is
     /// - `c2` stands before a number of 2^127 or more: `Custom` of "integer out of range", and the
     ///   item is taken
     pub fn deserialize_any(&mut self, alloc: Global) -> Result<Value, DecodeError<S::Error>>
