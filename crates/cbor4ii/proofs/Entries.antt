@@ -10,14 +10,8 @@ use Rattle.cbor4ii_items.specs.Laws.Answering.{if_some, refuses_as}
 use Rattle.cbor4ii.specs.declared.serde.de.accessor.Left.{Left}
 use Rattle.cbor4ii.specs.declared.serde.de.accessor.Left.TheVariants.{Counted, Open, Ended}
 use Rattle.cbor4ii.specs.Accessing.{Next}
+use Rattle.cbor4ii.proofs.Going.{part_of}
 use Rattle.cbor4ii.proofs.Pairs.{pair_sound, key_less, value_less}
-
--- a part that comes is read as one, whatever is left
-part_of : {V : Type 0} (reads : Reads V) (left : Left) (xs : List ℕ) (v : V) (n c : ℕ) → Next reads left xs (Some v) n c → reads xs v n c
-part_of reads (Counted zero) xs v n c h = absurd h
-part_of reads (Counted (suc k)) xs v n c h = h
-part_of reads Open xs v n c h = h.1
-part_of reads Ended xs v n c h = absurd h
 
 -- what else stands there is read in its place
 in_place : {V W : Type 0} (reads : Reads V) (other : Reads W) (left : Left) (xs : List ℕ) (v : V) (w : W) (n c m d : ℕ) → Next reads left xs (Some v) n c → other xs w m d → Next other left xs (Some w) m d

@@ -1,82 +1,116 @@
 -- What an accessor's next part is.
-use Rattle.std.proofs.Common.{◌≡◌, ℕ, zero, suc, ◌<◌, ◌∷◌, [], List, take, drop, arith, Option, Some, None, refl, sym, ap, ◌∙◌, subst, true, false, IfSome}
+use Rattle.std.proofs.Common.{◌≡◌, ℕ, zero, suc, [], List, drop, Option, Some, None, refl, ap, ◌∙◌, subst, true, false, IfSome}
 use Rattle.std.specs.Prelude.{codes}
 use Rattle.cbor4ii_rw.specs.View.{View}
 use Rattle.cbor4ii_rw.specs.declared.error.DecodeError.{DecodeError}
 use Rattle.cbor4ii_rw.specs.declared.error.Len.TheVariants.{Small}
 use Rattle.cbor4ii_items.specs.Moves.{Kept}
-use Rattle.cbor4ii_items.specs.Decoding.{CostFits, Sound, NoneRead, Refuses, Stops}
-use Rattle.cbor4ii_items.specs.Head.{break}
+use Rattle.cbor4ii_items.specs.Decoding.{Reads, CostFits, Sound, NoneRead, Refuses, Stops}
 use Rattle.cbor4ii_items.specs.Refusal.{Refusal, refusal_of, eof}
 use Rattle.cbor4ii_items.specs.Strings.{ReadsBreak, StopsBreak}
-use Rattle.cbor4ii_items.specs.Laws.Answering.{if_some, fits_zero}
+use Rattle.cbor4ii_items.specs.Laws.Answering.{if_some, fits_zero, refuses_as}
 use Rattle.cbor4ii.specs.declared.serde.de.accessor.Left.{Left}
 use Rattle.cbor4ii.specs.declared.serde.de.accessor.Left.TheVariants.{Counted, Open, Ended}
-use Rattle.cbor4ii.specs.Accessing.{Next, EndsOpen}
+use Rattle.cbor4ii.specs.Accessing.{Next, ReadsStart, EndsOpen}
 
--- the end of what was counted
-pub next_none : {V : Type 0} (reads : List ℕ → V → ℕ → ℕ → Type 0) (a : View) → Sound (Next reads (Counted 0)) a a None
-next_none reads a = record { at = λ xs told. record { count = 0; cost = 0; read = (refl, refl); fits = fits_zero a.budget; left = told } }
+-- ---- whether a part comes
 
-pub next_ended : {V : Type 0} (reads : List ℕ → V → ℕ → ℕ → Type 0) (a : View) → Sound (Next reads Ended) a a None
-next_ended reads a = record { at = λ xs told. record { count = 0; cost = 0; read = (refl, refl); fits = fits_zero a.budget; left = told } }
+pub start_break : {a b : View} → Sound ReadsBreak a b true → Sound (ReadsStart Open) a b false
+start_break s = record { at = λ xs told. let p = s.at xs told in record { count = p.count; cost = p.cost; read = p.read; fits = p.fits; left = p.left } }
 
-pub next_counted : {V : Type 0} (reads : List ℕ → V → ℕ → ℕ → Type 0) (k : ℕ) {a b : View} {v : V} → 0 < k → Sound reads a b v → Sound (Next reads (Counted k)) a b (Some v)
-next_counted reads zero h s = absurd (omega (arith, h))
-next_counted reads (suc k) h s = record { at = λ xs told. let p = s.at xs told in record { count = p.count; cost = p.cost; read = p.read; fits = p.fits; left = p.left } }
+pub start_other : {a b : View} → Sound ReadsBreak a b false → Sound (ReadsStart Open) a b true
+start_other s = record { at = λ xs told. let p = s.at xs told in record { count = p.count; cost = p.cost; read = p.read; fits = p.fits; left = p.left } }
 
-pub next_break : {V : Type 0} (reads : List ℕ → V → ℕ → ℕ → Type 0) {a b : View} → Sound ReadsBreak a b true → Sound (Next reads Open) a b None
-next_break reads s = record { at = λ xs told. let p = s.at xs told in record { count = p.count; cost = p.cost; read = p.read; fits = p.fits; left = p.left } }
+no_start : (xs : List ℕ) (budget : Option ℕ) → NoneRead ReadsBreak xs budget → NoneRead (ReadsStart Open) xs budget
+no_start xs budget none true n c r f = none false n c r f
+no_start xs budget none false n c r f = none true n c r f
 
--- no break, and then a part
-pub next_part : {V : Type 0} (reads : List ℕ → V → ℕ → ℕ → Type 0) {a m b : View} {v : V} → Kept a m → Sound ReadsBreak a m false → Sound reads m b v → Sound (Next reads Open) a b (Some v)
-next_part reads {a = a} {m = m} {v = v} k s t = record {
+pub start_refuses : {E : Type 0} {a : View} {e : DecodeError E} → Refuses ReadsBreak a e → Refuses (ReadsStart Open) a e
+start_refuses s = refuses_as ReadsBreak (ReadsStart Open) no_start s
+
+-- ---- the part, or the end
+
+module _ {V : Type 0} (reads : Reads V) where
+  -- a part that comes is read as one, whatever is left
+  pub part_of : (left : Left) (xs : List ℕ) (v : V) (n c : ℕ) → Next reads left xs (Some v) n c → reads xs v n c
+  part_of (Counted zero) xs v n c h = absurd h
+  part_of (Counted (suc k)) xs v n c h = h
+  part_of Open xs v n c h = h.1
+  part_of Ended xs v n c h = absurd h
+
+  end_read : (left : Left) (xs : List ℕ) (n c : ℕ) → ReadsStart left xs false n c → Next reads left xs None n c
+  end_read (Counted zero) xs n c h = h
+  end_read (Counted (suc k)) xs n c h = h
+  end_read Open xs n c h = h
+  end_read Ended xs n c h = h
+
+  end_start : (left : Left) (xs : List ℕ) (n c : ℕ) → Next reads left xs None n c → ReadsStart left xs false n c
+  end_start (Counted zero) xs n c h = h
+  end_start (Counted (suc k)) xs n c h = h
+  end_start Open xs n c h = h
+  end_start Ended xs n c h = h
+
+  part_read : (left : Left) (xs : List ℕ) (v : V) (n c m d : ℕ) → ReadsStart left xs true n c → reads xs v m d → Next reads left xs (Some v) m d
+  part_read (Counted zero) xs v n c m d h r = h
+  part_read (Counted (suc k)) xs v n c m d h r = r
+  part_read Open xs v n c m d h r = ((h.0, h.1, refl, refl), r)
+  part_read Ended xs v n c m d h r = h
+
+  part_start : (left : Left) (xs : List ℕ) (v : V) (n c : ℕ) → Next reads left xs (Some v) n c → ReadsStart left xs true 0 0
+  part_start (Counted zero) xs v n c h = h
+  part_start (Counted (suc k)) xs v n c h = (refl, refl)
+  part_start Open xs v n c h = h.0
+  part_start Ended xs v n c h = h
+
+  not_both : (left : Left) (xs : List ℕ) (n c m d : ℕ) → ReadsStart left xs true n c → Next reads left xs None m d → ⊥
+  not_both (Counted zero) xs n c m d h e = h
+  not_both (Counted (suc k)) xs n c m d h e = e
+  not_both Open xs n c m d h e = h.1 e.0
+  not_both Ended xs n c m d h e = h
+
+start_size : (left : Left) (xs : List ℕ) (n c : ℕ) → ReadsStart left xs true n c → n ≡ 0
+start_size (Counted zero) xs n c h = absurd h
+start_size (Counted (suc k)) xs n c h = h.0
+start_size Open xs n c h = h.2
+start_size Ended xs n c h = absurd h
+
+pub next_end : {V : Type 0} (reads : Reads V) (left : Left) {a b : View} → Sound (ReadsStart left) a b false → Sound (Next reads left) a b None
+next_end reads left s = record { at = λ xs told. let p = s.at xs told in record { count = p.count; cost = p.cost; read = end_read reads left xs p.count p.cost p.read; fits = p.fits; left = p.left } }
+
+-- the bytes stay where a part comes
+start_stays : (left : Left) {a m : View} → Sound (ReadsStart left) a m true → (xs : List ℕ) → a.told ≡ Some xs → m.told ≡ Some xs
+start_stays left {m = m} s xs told = let p = s.at xs told in subst (λ n. m.told ≡ Some (drop n xs)) (start_size left xs p.count p.cost p.read) p.left
+
+pub next_part : {V : Type 0} (reads : Reads V) (left : Left) {a m b : View} {v : V} → Kept a m → Sound (ReadsStart left) a m true → Sound reads m b v → Sound (Next reads left) a b (Some v)
+next_part reads left {v = v} k s t = record {
   at = λ xs told.
       let p = s.at xs told in
-      let same : m.told ≡ Some xs = subst (λ n. m.told ≡ Some (drop n xs)) p.read.2 p.left in
-      let q = t.at xs same in
-      record { count = q.count; cost = q.cost; read = ((p.read.0, p.read.1, refl, refl), q.read); fits = subst (CostFits q.cost) k.budget q.fits; left = q.left };
+      let q = t.at xs (start_stays left s xs told) in
+      record { count = q.count; cost = q.cost; read = part_read reads left xs v p.count p.cost q.count q.cost p.read q.read; fits = subst (CostFits q.cost) k.budget q.fits; left = q.left };
 }
 
-counted_none : {V : Type 0} (reads : List ℕ → V → ℕ → ℕ → Type 0) (k : ℕ) (xs : List ℕ) (budget : Option ℕ) → NoneRead reads xs budget → NoneRead (Next reads (Counted (suc k))) xs budget
-counted_none reads k xs budget none None n c r f = absurd r
-counted_none reads k xs budget none (Some v) n c r f = none v n c r f
+none_next : {V : Type 0} (reads : Reads V) (left : Left) (xs : List ℕ) (budget : Option ℕ) → NoneRead (ReadsStart left) xs budget → NoneRead (Next reads left) xs budget
+none_next reads left xs budget none None n c r f = none false n c (end_start reads left xs n c r) f
+none_next reads left xs budget none (Some v) n c r f = none true 0 0 (part_start reads left xs v n c r) (fits_zero budget)
 
-open_none : {V : Type 0} (reads : List ℕ → V → ℕ → ℕ → Type 0) (xs : List ℕ) (budget : Option ℕ) → NoneRead ReadsBreak xs budget → NoneRead (Next reads Open) xs budget
-open_none reads xs budget none None n c r f = none true n c r f
-open_none reads xs budget none (Some v) n c r f = none false 0 0 r.0 (fits_zero budget)
+pub next_no_start : {V E : Type 0} (reads : Reads V) (left : Left) {a : View} {e : DecodeError E} → Refuses (ReadsStart left) a e → Refuses (Next reads left) a e
+next_no_start reads left s = refuses_as (ReadsStart left) (Next reads left) (none_next reads left) s
 
-part_none : {V : Type 0} (reads : List ℕ → V → ℕ → ℕ → Type 0) (xs : List ℕ) (budget : Option ℕ) → (take 1 xs ≡ break ∷ [] → ⊥) → NoneRead reads xs budget → NoneRead (Next reads Open) xs budget
-part_none reads xs budget not none None n c r f = not r.0
-part_none reads xs budget not none (Some v) n c r f = none v n c r.1 f
+none_part : {V : Type 0} (reads : Reads V) (left : Left) (xs : List ℕ) (budget : Option ℕ) (n c : ℕ) → ReadsStart left xs true n c → NoneRead reads xs budget → NoneRead (Next reads left) xs budget
+none_part reads left xs budget m d start none None n c r f = not_both reads left xs m d n c start r
+none_part reads left xs budget m d start none (Some v) n c r f = none v n c (part_of reads left xs v n c r) f
 
-pub next_counted_refuses : {V E : Type 0} (reads : List ℕ → V → ℕ → ℕ → Type 0) (k : ℕ) {a : View} {e : DecodeError E} → 0 < k → Refuses reads a e → Refuses (Next reads (Counted k)) a e
-next_counted_refuses reads zero h s = absurd (omega (arith, h))
-next_counted_refuses reads (suc k) {a = a} {e = e} h s = record { at = λ xs told. if_some (refusal_of e) (λ none. counted_none reads k xs a.budget none) (s.at xs told) }
-
--- neither a break nor another byte
-pub next_no_break : {V E : Type 0} (reads : List ℕ → V → ℕ → ℕ → Type 0) {a : View} {e : DecodeError E} → Refuses ReadsBreak a e → Refuses (Next reads Open) a e
-next_no_break reads {a = a} {e = e} s = record { at = λ xs told. if_some (refusal_of e) (λ none. open_none reads xs a.budget none) (s.at xs told) }
-
--- no break, and no part
-pub next_no_part : {V E : Type 0} (reads : List ℕ → V → ℕ → ℕ → Type 0) {a m : View} {e : DecodeError E} → Kept a m → Sound ReadsBreak a m false → ((xs : List ℕ) → a.told ≡ Some xs → Refuses reads m e) → Refuses (Next reads Open) a e
-next_no_part reads {a = a} {m = m} {e = e} k s t = record {
+pub next_no_part : {V E : Type 0} (reads : Reads V) (left : Left) {a m : View} {e : DecodeError E} → Kept a m → Sound (ReadsStart left) a m true → ((xs : List ℕ) → a.told ≡ Some xs → Refuses reads m e) → Refuses (Next reads left) a e
+next_no_part reads left {a = a} {m = m} {e = e} k s t = record {
   at = λ xs told.
       let p = s.at xs told in
-      let same : m.told ≡ Some xs = subst (λ n. m.told ≡ Some (drop n xs)) p.read.2 p.left in
-      if_some (refusal_of e) (λ none. part_none reads xs a.budget p.read.1 (subst (NoneRead reads xs) k.budget none)) ((t xs told).at xs same);
+      if_some (refusal_of e) (λ none. none_part reads left xs a.budget p.count p.cost p.read (subst (NoneRead reads xs) k.budget none)) ((t xs told).at xs (start_stays left s xs told));
 }
 
 -- ---- where no byte is left
 
-not_counted : {k : ℕ} → Counted k ≡ Open → ⊥
-not_counted e = cc
-
-pub ended_counted : {E : Type 0} {left : Left} {k : ℕ} {a b : View} {e : DecodeError E} → left ≡ Counted k → EndsOpen left a b e
-ended_counted is = record { at = λ begun told. absurd (not_counted (sym is ∙ begun)) }
-
-pub ended_part : {E : Type 0} {left : Left} {a m b : View} {e : DecodeError E} → Sound ReadsBreak a m false → EndsOpen left a b e
-ended_part s = record { at = λ begun told. absurd ((s.at [] told).read.0 refl) }
+pub ended_part : {E : Type 0} (left : Left) {a m b : View} {e : DecodeError E} → Sound (ReadsStart left) a m true → EndsOpen left a b e
+ended_part left s = record { at = λ begun told. (let p = s.at [] told in absurd ((subst (λ l. ReadsStart l [] true p.count p.cost) begun p.read).0 refl)) }
 
 if_stops : (o : Option Refusal) (left : Option (List ℕ)) (budget : Option ℕ) → IfSome o (λ z. (ys : List ℕ) × (left ≡ Some ys) × StopsBreak [] budget z ys) → IfSome o (λ z. (z ≡ eof (codes "break") (Small 1)) × (left ≡ Some []))
 if_stops None left budget h = tt

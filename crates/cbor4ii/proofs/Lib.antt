@@ -12,6 +12,8 @@ pub mod Mapped
 pub mod Looking
 pub mod Units
 pub mod Going
+pub mod Presence
+pub mod Contents
 pub mod Entries
 pub mod Borrowing
 pub mod Characters

@@ -45,7 +45,7 @@ saw {b = b} m s = record {
 
 -- ---- a value or none
 
-not_null : (xs : List ℕ) (b : ℕ) → take 1 xs ≡ b ∷ [] → b ≢ 0xf6 → b ≢ 0xf7 → BeginsNull xs → ⊥
+pub not_null : (xs : List ℕ) (b : ℕ) → take 1 xs ≡ b ∷ [] → b ≢ 0xf6 → b ≢ 0xf7 → BeginsNull xs → ⊥
 not_null xs b e p q h = elim h [ inl f ↦ (let g : b ≡ 0xf6 = cc in p g) | inr f ↦ (let g : b ≡ 0xf7 = cc in q g) ]
 
 pub some_sound : {V : Type 0} (reads : Reads V) {a m b : View} {v : V} {first : ℕ} → Saw a m first → first ≢ 0xf6 → first ≢ 0xf7 → Sound reads m b v → Sound (ReadsOption reads) a b (Some v)
@@ -56,7 +56,7 @@ some_sound reads {first = first} s p q h = record {
       record { count = t.count; cost = t.cost; read = (not_null xs first f.1 p q, f.2, t.read); fits = subst (CostFits t.cost) s.budget t.fits; left = t.left };
 }
 
-begins_null : (xs : List ℕ) (b : ℕ) → take 1 xs ≡ b ∷ [] → (b ≡ 0xf6) ⊎ (b ≡ 0xf7) → BeginsNull xs
+pub begins_null : (xs : List ℕ) (b : ℕ) → take 1 xs ≡ b ∷ [] → (b ≡ 0xf6) ⊎ (b ≡ 0xf7) → BeginsNull xs
 begins_null xs b e (inl is) = inl (e ∙ ap (λ z. z ∷ []) is)
 begins_null xs b e (inr is) = inr (e ∙ ap (λ z. z ∷ []) is)
 

@@ -1,14 +1,15 @@
 -- How an accessor goes over the parts of an array or a map.
-use Rattle.std.specs.Prelude.{◌≡◌, ℕ, zero, suc, ◌+◌, ◌-◌, ◌≤◌, [], true, false, Option, Some, None, IfSome, codes}
+use Rattle.std.specs.Prelude.{◌≡◌, ℕ, zero, suc, ◌+◌, ◌-◌, ◌<◌, ◌≤◌, [], Bool, true, false, not, if◌then◌else◌, Option, Some, None, Result, IfSome, codes}
 use Rattle.cbor4ii_rw.specs.View.{View}
 use Rattle.cbor4ii_rw.specs.Reader.{StepsIn, KeepsAllButBudget, step_back}
 use Rattle.cbor4ii_rw.specs.declared.error.DecodeError.{DecodeError}
 use Rattle.cbor4ii_rw.specs.declared.error.Len.TheVariants.{Small}
-use Rattle.cbor4ii_items.specs.Moves.{Kept}
+use Rattle.cbor4ii_items.specs.Moves.{Kept, Moves}
 use Rattle.cbor4ii_items.specs.Decoding.{Reads, Sound}
 use Rattle.cbor4ii_items.specs.Lengths.{ReadsLength}
 use Rattle.cbor4ii_items.specs.Refusal.{refusal_of, eof}
 use Rattle.cbor4ii_items.specs.Strings.{ReadsBreak}
+use Rattle.cbor4ii.specs.declared.serde.de.deserializer.Deserializer.{Deserializer}
 use Rattle.cbor4ii.specs.declared.serde.de.accessor.Accessor.{Accessor}
 use Rattle.cbor4ii.specs.declared.serde.de.accessor.Left.{Left}
 use Rattle.cbor4ii.specs.declared.serde.de.accessor.Left.TheVariants.{Counted, Open, Ended}
@@ -20,6 +21,14 @@ inside view accessor = view accessor.de.now.reader
 -- what is still to be read
 abbrev pub left_in : {S E : Type 0} → Accessor S E → Left
 left_in accessor = accessor.left
+
+-- the steps that an accessor holds: its own, and that of the enum whose content it reads
+abbrev pub steps_held : {S E : Type 0} → Accessor S E → ℕ
+steps_held accessor = if accessor.nested then 2 else 1
+
+-- an accessor whose deserializer is this one
+abbrev pub with_deserializer : {S E : Type 0} → Accessor S E → Deserializer S → Accessor S E
+with_deserializer accessor last = record accessor { de = record accessor.de { now = last } }
 
 -- what is left behind a head
 abbrev pub left_of : Option ℕ → Left
@@ -37,10 +46,41 @@ pub record Opens (major : ℕ) (old new : View) (left : Left) : Type 0 where
   pub head : Sound (ReadsLength major) within new length
   pub begun : left ≡ left_of length
 
--- the step is given back, and nothing else moves
-pub record Closes (old new : View) : Type 0 where
-  pub budget : new.budget ≡ step_back old.budget
+-- so many steps more
+abbrev pub steps_back : ℕ → Option ℕ → Option ℕ
+steps_back zero budget = budget
+steps_back (suc k) budget = step_back (steps_back k budget)
+
+-- the steps that were held are given back, and nothing else moves
+pub record Closes (held : ℕ) (old new : View) : Type 0 where
+  pub budget : new.budget ≡ steps_back held old.budget
   pub others : KeepsAllButBudget old new
+
+-- a call, and then the steps that were held are given back
+pub record Finishes {V E : Type 0} (held : ℕ) (old new : View) (answer : Result V (DecodeError E)) : Type 0 where
+  pub within : View
+  pub moves : Moves old within answer
+  pub closes : Closes held within new
+
+-- Whether a part comes, by what is left: where parts are counted, while some are left; where the length is indefinite,
+-- before another byte than a break, which is taken; behind the break none.
+abbrev pub ReadsStart : Left → Reads Bool
+ReadsStart (Counted zero) xs true n c = ⊥
+ReadsStart (Counted zero) xs false n c = (n ≡ 0) × (c ≡ 0)
+ReadsStart (Counted (suc k)) xs true n c = (n ≡ 0) × (c ≡ 0)
+ReadsStart (Counted (suc k)) xs false n c = ⊥
+ReadsStart Open xs more n c = ReadsBreak xs (not more) n c
+ReadsStart Ended xs true n c = ⊥
+ReadsStart Ended xs false n c = (n ≡ 0) × (c ≡ 0)
+
+-- what is left then
+abbrev pub Starts : Left → Left → Bool → Type 0
+Starts (Counted k) new true = (0 < k) × (new ≡ Counted (k - 1))
+Starts (Counted k) new false = (k ≡ 0) × (new ≡ Counted 0)
+Starts Open new true = new ≡ Open
+Starts Open new false = new ≡ Ended
+Starts Ended new true = ⊥
+Starts Ended new false = new ≡ Ended
 
 -- What comes next is read as a part, or as the end, by what is left. Where parts are counted, one comes while some are
 -- left. Where the length is indefinite, a break is the end, and another byte begins a part; behind the break nothing is

@@ -6,6 +6,8 @@ pub mod Tuples
 pub mod Sequence
 pub mod Built
 pub mod Accessing
+pub mod Optional
+pub mod Variants
 pub mod Borrowed
 pub mod Character
 pub mod ReadBack

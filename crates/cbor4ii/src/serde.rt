@@ -13,5 +13,7 @@ pub use cbor4ii_ser::write_all::{to_vec, to_writer};
 pub use de::accessor::Accessor;
 pub use de::deserialize::{Deserialize, Typed};
 pub use de::deserializer::Deserializer;
+pub use de::enum_accessor::EnumAccessor;
 pub use de::error::DecodeError;
 pub use de::first::{Input, from_reader, from_slice};
+pub use de::some_accessor::SomeAccessor;

@@ -1,5 +1,6 @@
 mod leaf_rows;
 mod any;
+mod enums;
 mod paths;
 
 use crate::serde::{Accessor, DecodeError, Deserialize, Deserializer, from_reader, from_slice};

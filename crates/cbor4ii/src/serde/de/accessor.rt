@@ -1,5 +1,6 @@
 //! Arrays and maps that are read part by part.
 ghost use Rattle.std.specs.Prelude.{
+  [],
   ◌≡◌,
   ◌≤◌,
   ◌+◌,
@@ -13,20 +14,26 @@ ghost use Rattle.std.specs.Prelude.{
   OnSome,
   OnErr,
 };
-ghost use Rattle.std.specs.Borrow.{sem, RestsIfErr};
+ghost use Rattle.std.specs.Borrow.{sem, Lends, RestsIfErr};
+ghost use mir.Syntax.{named};
 ghost use Rattle.cbor4ii_items.specs.Moves.{Moves};
 ghost use Rattle.cbor4ii_items.specs.Decoding.{IsExact, Sound, Refuses, Stops};
 ghost use Rattle.cbor4ii_items.specs.Lengths.{ReadsLength, StopsLength};
 ghost use Rattle.cbor4ii_items.specs.Refusal.{is_out_of_memory};
 ghost use Rattle.cbor4ii_items.specs.Sequences.{ReadsPair};
+ghost use Rattle.cbor4ii.specs.contracts.serde.de.accessor.Accessor.{the_row as the_accessor};
 ghost use Rattle.cbor4ii.specs.contracts.serde.de.deserializer.Deserializer.{the_row};
-ghost use Rattle.cbor4ii.specs.declared.serde.de.accessor.Left.TheVariants.{Counted};
+ghost use Rattle.cbor4ii.specs.declared.serde.de.accessor.Left.TheVariants.{Counted, Open};
 ghost use Rattle.cbor4ii.specs.Accessing.{
   inside,
   left_in,
+  steps_held,
+  with_deserializer,
   Opens,
   Closes,
   Next,
+  Starts,
+  ReadsStart,
   left_then,
   left_tried,
   fuel,
@@ -40,10 +47,8 @@ ghost use Rattle.cbor4ii.specs.Typed.{input, answer_of, as_core};
 use crate::serde::de::deserialize::{Deserialize, Typed};
 use crate::serde::de::deserializer::Deserializer;
 use crate::serde::de::error::DecodeError;
-use crate::serde::de::tuples::take_count;
+use crate::serde::de::heads::{begin_array, begin_map, begin_tuple};
 use cbor4ii_items::indefinite::is_break;
-use cbor4ii_items::types::{Array, Map};
-use cbor4ii_rw::error as core_error;
 use cbor4ii_rw::error::StaticStr;
 use cbor4ii_rw::read::Source;
 use std::alloc::Global;
@@ -60,18 +65,28 @@ pub enum Left {
 }
 
 /// The parts of an array or a map, which are read one by one. It holds a step of the budget, and
-/// gives it back when it is dropped, whether or not all parts were read. Parts that were not read
-/// stay.
+/// two where it was made from a variant, and gives back what it holds when it is dropped, whether
+/// or not all parts were read. Parts that were not read stay.
 pub struct Accessor<'a, S: Source> {
     pub(crate) de: &'a mut Deserializer<S>,
     pub(crate) left: Left,
+    // It also holds the step of the enum that it is the content of.
+    pub(crate) nested: bool,
 }
 
 impl<'a, S: Source> Drop for Accessor<'a, S> {
     fn drop(self)
-        ensures { Closes (inside S.view self.entry) (input S.view self.exit.0.now) }
+        ensures { Closes (steps_held self.entry)
+            (inside S.view self.entry) (input S.view self.exit.0.now) }
     {
-        let Accessor { de, left: _ } = self;
+        let Accessor {
+            de,
+            left: _,
+            nested,
+        } = self;
+        if nested {
+            de.reader.step_out();
+        }
         de.reader.step_out();
     }
 }
@@ -98,26 +113,18 @@ impl<S: Source> Deserializer<S> {
             (λ accessor. accessor.de.ghost_name ≡ self.entry.ghost_name) }
         ensures opened { IfOk result (λ accessor. Opens 4 (input S.view self.old)
             (inside S.view accessor) (left_in accessor)) }
+        ensures steps { IfOk result (λ accessor. steps_held accessor ≡ 1) }
         ensures memory { IfErr result (λ error. is_out_of_memory (as_core error) ≡ false) }
         ensures complete { IfErr result (λ error.
             Refuses (Stepped (ReadsLength 4)) (input S.view self.old) (as_core error)) }
     {
-        if !self.reader.step_in() {
-            return Err(DecodeError::Core(core_error::DecodeError::DepthOverflow { name: "seq" }));
-        }
-        match Array::<()>::len(&mut self.reader) {
-            Ok(Some(count)) => Ok(Accessor {
+        match begin_array(&mut self.reader) {
+            Ok(left) => Ok(Accessor {
                 de: self,
-                left: Left::Counted(count),
+                left,
+                nested: false,
             }),
-            Ok(None) => Ok(Accessor {
-                de: self,
-                left: Left::Open,
-            }),
-            Err(error) => {
-                self.reader.step_out();
-                Err(DecodeError::Core(error))
-            }
+            Err(error) => Err(DecodeError::Core(error)),
         }
     }
 
@@ -141,23 +148,19 @@ impl<S: Source> Deserializer<S> {
             (λ accessor. accessor.de.ghost_name ≡ self.entry.ghost_name) }
         ensures opened { IfOk result (λ accessor. Opens 4 (input S.view self.old)
             (inside S.view accessor) (left_in accessor)) }
+        ensures steps { IfOk result (λ accessor. steps_held accessor ≡ 1) }
         ensures left { IfOk result (λ accessor. left_in accessor ≡ Counted len) }
         ensures memory { IfErr result (λ error. is_out_of_memory (as_core error) ≡ false) }
         ensures complete { IfErr result (λ error.
             Refuses (Stepped (ReadsCountOf len)) (input S.view self.old) (as_core error)) }
     {
-        if !self.reader.step_in() {
-            return Err(DecodeError::Core(core_error::DecodeError::DepthOverflow { name: "tuple" }));
-        }
-        match take_count(&mut self.reader, len) {
+        match begin_tuple(&mut self.reader, len) {
             Ok(()) => Ok(Accessor {
                 de: self,
                 left: Left::Counted(len),
+                nested: false,
             }),
-            Err(error) => {
-                self.reader.step_out();
-                Err(DecodeError::Core(error))
-            }
+            Err(error) => Err(DecodeError::Core(error)),
         }
     }
 
@@ -176,26 +179,18 @@ impl<S: Source> Deserializer<S> {
             (λ accessor. accessor.de.ghost_name ≡ self.entry.ghost_name) }
         ensures opened { IfOk result (λ accessor. Opens 5 (input S.view self.old)
             (inside S.view accessor) (left_in accessor)) }
+        ensures steps { IfOk result (λ accessor. steps_held accessor ≡ 1) }
         ensures memory { IfErr result (λ error. is_out_of_memory (as_core error) ≡ false) }
         ensures complete { IfErr result (λ error.
             Refuses (Stepped (ReadsLength 5)) (input S.view self.old) (as_core error)) }
     {
-        if !self.reader.step_in() {
-            return Err(DecodeError::Core(core_error::DecodeError::DepthOverflow { name: "map" }));
-        }
-        match Map::<()>::len(&mut self.reader) {
-            Ok(Some(count)) => Ok(Accessor {
+        match begin_map(&mut self.reader) {
+            Ok(left) => Ok(Accessor {
                 de: self,
-                left: Left::Counted(count),
+                left,
+                nested: false,
             }),
-            Ok(None) => Ok(Accessor {
-                de: self,
-                left: Left::Open,
-            }),
-            Err(error) => {
-                self.reader.step_out();
-                Err(DecodeError::Core(error))
-            }
+            Err(error) => Err(DecodeError::Core(error)),
         }
     }
 
@@ -214,6 +209,7 @@ impl<S: Source> Deserializer<S> {
             (λ accessor. accessor.de.ghost_name ≡ self.entry.ghost_name) }
         ensures opened { IfOk result (λ accessor. Opens 4 (input S.view self.old)
             (inside S.view accessor) (left_in accessor)) }
+        ensures steps { IfOk result (λ accessor. steps_held accessor ≡ 1) }
         ensures left { IfOk result (λ accessor. left_in accessor ≡ Counted len) }
         ensures memory { IfErr result (λ error. is_out_of_memory (as_core error) ≡ false) }
         ensures complete { IfErr result (λ error.
@@ -238,6 +234,7 @@ impl<S: Source> Deserializer<S> {
             (λ accessor. accessor.de.ghost_name ≡ self.entry.ghost_name) }
         ensures opened { IfOk result (λ accessor. Opens 5 (input S.view self.old)
             (inside S.view accessor) (left_in accessor)) }
+        ensures steps { IfOk result (λ accessor. steps_held accessor ≡ 1) }
         ensures memory { IfErr result (λ error. is_out_of_memory (as_core error) ≡ false) }
         ensures complete { IfErr result (λ error.
             Refuses (Stepped (ReadsLength 5)) (input S.view self.old) (as_core error)) }
@@ -247,6 +244,61 @@ impl<S: Source> Deserializer<S> {
 }
 
 impl<'a, S: Source> Accessor<'a, S> {
+    /// Whether another item comes, or another key of a map, which the caller reads then. It is
+    /// counted off, or a break is taken, and after false the answer stays false.
+    ///
+    /// This and `deserializer` are for a type that holds values of its own kind: a free function
+    /// reads it, and calls itself where a part comes.
+    ///
+    /// # Errors
+    ///
+    /// Only at an indefinite length: `Core` of `Read` where the reader failed, and of `Eof` by the
+    /// name "break" with 1 where no byte is left.
+    pub fn starts_element(&mut self) -> Result<bool, DecodeError<S::Error>>
+        ensures same_reference { self.new.de.ghost_name ≡ self.old.de.ghost_name }
+        ensures same_steps { steps_held self.new ≡ steps_held self.old }
+        ensures moves { Moves (inside S.view self.old) (inside S.view self.new)
+            (answer_of result) }
+        ensures memory { IfErr result (λ error. is_out_of_memory (as_core error) ≡ false) }
+        ensures sound { IfOk result (Sound (ReadsStart (left_in self.old))
+            (inside S.view self.old) (inside S.view self.new)) }
+        ensures answer { IfOk result (λ more. Starts (left_in self.old) (left_in self.new) more) }
+        ensures asked { OnErr result (left_in self.old ≡ Open) }
+        ensures kept { OnErr result (left_in self.new ≡ Open) }
+        ensures complete { IfErr result (λ error. Refuses (ReadsStart (left_in self.old))
+            (inside S.view self.old) (as_core error)) }
+        ensures ends { IfErr result (λ error. EndsOpen (left_in self.old)
+            (inside S.view self.old) (inside S.view self.new) (as_core error)) }
+    {
+        match self.left {
+            Left::Counted(0) => Ok(false),
+            Left::Counted(count) => {
+                self.left = Left::Counted(count - 1);
+                Ok(true)
+            }
+            Left::Open => match is_break(&mut self.de.reader) {
+                Ok(true) => {
+                    self.left = Left::Ended;
+                    Ok(false)
+                }
+                Ok(false) => Ok(true),
+                Err(error) => Err(DecodeError::Core(error)),
+            },
+            Left::Ended => Ok(false),
+        }
+    }
+
+    /// The deserializer that the parts are read from, for a part that `starts_element` said comes,
+    /// or for the value behind a key. It is not counted.
+    pub fn deserializer(&mut self) -> &mut Deserializer<S>
+        ensures* writes_back { sem 𝓛 (Lends (the_accessor (record { mir = named 0; lft = [] })
+            S.row S.Error.row)
+            (the_row S.row) self.entry result (with_deserializer self.old)) }
+        ensures value { result.now ≡ self.old.de.now }
+    {
+        self.de
+    }
+
     /// The next item, or none at the end, and from then on always. After a refusal it goes on with
     /// what is left then.
     ///
@@ -259,6 +311,7 @@ impl<'a, S: Source> Accessor<'a, S> {
         alloc: Global,
     ) -> Result<Option<T>, DecodeError<S::Error>>
         ensures same_reference { self.new.de.ghost_name ≡ self.old.de.ghost_name }
+        ensures same_steps { steps_held self.new ≡ steps_held self.old }
         ensures moves { Moves (inside S.view self.old) (inside S.view self.new)
             (answer_of result) }
         ensures memory { IfErr result
@@ -277,27 +330,13 @@ impl<'a, S: Source> Accessor<'a, S> {
             (fuel (left_in self.new) (inside S.view self.new).bound + 1
             ≤ fuel (left_in self.old) (inside S.view self.old).bound)) }
     {
-        match self.left {
-            Left::Counted(0) => Ok(None),
-            Left::Counted(count) => {
-                self.left = Left::Counted(count - 1);
-                match T::deserialize(alloc, self.de) {
-                    Ok(value) => Ok(Some(value)),
-                    Err(error) => Err(error),
-                }
-            }
-            Left::Open => match is_break(&mut self.de.reader) {
-                Ok(true) => {
-                    self.left = Left::Ended;
-                    Ok(None)
-                }
-                Ok(false) => match T::deserialize(alloc, self.de) {
-                    Ok(value) => Ok(Some(value)),
-                    Err(error) => Err(error),
-                },
-                Err(error) => Err(DecodeError::Core(error)),
+        match self.starts_element() {
+            Ok(true) => match T::deserialize(alloc, self.de) {
+                Ok(value) => Ok(Some(value)),
+                Err(error) => Err(error),
             },
-            Left::Ended => Ok(None),
+            Ok(false) => Ok(None),
+            Err(error) => Err(error),
         }
     }
 
@@ -307,6 +346,7 @@ impl<'a, S: Source> Accessor<'a, S> {
         alloc: Global,
     ) -> Result<Option<K>, DecodeError<S::Error>>
         ensures same_reference { self.new.de.ghost_name ≡ self.old.de.ghost_name }
+        ensures same_steps { steps_held self.new ≡ steps_held self.old }
         ensures moves { Moves (inside S.view self.old) (inside S.view self.new)
             (answer_of result) }
         ensures memory { IfErr result
@@ -338,6 +378,7 @@ impl<'a, S: Source> Accessor<'a, S> {
         alloc: Global,
     ) -> Result<V, DecodeError<S::Error>>
         ensures same_reference { self.new.de.ghost_name ≡ self.old.de.ghost_name }
+        ensures same_steps { steps_held self.new ≡ steps_held self.old }
         ensures left { left_in self.new ≡ left_in self.old }
         ensures moves { Moves (inside S.view self.old) (inside S.view self.new)
             (answer_of result) }
@@ -362,6 +403,7 @@ impl<'a, S: Source> Accessor<'a, S> {
         alloc: Global,
     ) -> Result<Option<(K, V)>, DecodeError<S::Error>>
         ensures same_reference { self.new.de.ghost_name ≡ self.old.de.ghost_name }
+        ensures same_steps { steps_held self.new ≡ steps_held self.old }
         ensures moves { Moves (inside S.view self.old) (inside S.view self.new)
             (answer_of result) }
         ensures memory { IfErr result (λ error. IsTrue (is_out_of_memory (as_core error)) →

@@ -1,11 +1,9 @@
-use Rattle.std.proofs.Common.{refl, Err}
+use Rattle.std.proofs.Common.{refl}
 use Rattle.cbor4ii_items.specs.Laws.Steps.{moves_err}
-use Rattle.cbor4ii_items.specs.Laws.UnderStep.{moves_stepped}
-use Rattle.cbor4ii.proofs.Steps.{refuses_stepped, stops_stepped}
 use Rattle.cbor4ii.proofs.serde.de.deserializer.Deserializer.deserialize_map.Goals as goal
 
 pub returns-in-Err : goal.returns-in-Err
 returns-in-Err g c = (
-  (refl, (λ w. tt), (moves_stepped (Err c.in-Err.error) _ _ _ _ c.if-not-step_in.ensures.budget c.step_in.ensures.others (moves_err c.in-Err.ensures.moves) c.step_out.ensures.budget c.step_out.ensures.others, stops_stepped _ _ c.if-not-step_in.ensures.budget c.step_in.ensures.others c.step_out.ensures.others c.in-Err.ensures.stops)),
-  record { refused = tt; same_reference = tt; opened = tt; memory = c.in-Err.ensures.memory; complete = refuses_stepped _ c.if-not-step_in.ensures.budget c.step_in.ensures.others c.in-Err.ensures.complete },
+  (refl, (λ w. tt), (moves_err c.in-Err.ensures.moves, c.in-Err.ensures.stops)),
+  record { refused = tt; same_reference = tt; opened = tt; steps = tt; memory = c.in-Err.ensures.memory; complete = c.in-Err.ensures.complete },
 )

@@ -1,0 +1,14 @@
+use Rattle.cbor4ii.proofs.Going.{start_break, start_other, start_refuses, ended_break}
+use Rattle.cbor4ii.proofs.serde.de.accessor.Accessor.starts_element.Goals as goal
+
+pub returns-in-Ok-true-clause-sound : goal.returns-in-Ok-true-clause-sound
+returns-in-Ok-true-clause-sound g c = rw c.in-Open.is (start_break (rw c.in-Ok-true.field-0-test at c.in-Ok-true.ensures.sound))
+
+pub returns-in-Ok-false-clause-sound : goal.returns-in-Ok-false-clause-sound
+returns-in-Ok-false-clause-sound g c = rw c.in-Open.is (start_other (rw c.in-Ok-false.field-0-test at c.in-Ok-false.ensures.sound))
+
+pub returns-in-Err-clause-complete : goal.returns-in-Err-clause-complete
+returns-in-Err-clause-complete g c = rw c.in-Open.is (start_refuses c.in-Err.ensures.complete)
+
+pub returns-in-Err-clause-ends : goal.returns-in-Err-clause-ends
+returns-in-Err-clause-ends g c = ended_break c.in-Err.ensures.stops

@@ -1,0 +1,27 @@
+use Rattle.std.proofs.Common.{refl, arith, Some, Err}
+use Rattle.cbor4ii_items.specs.Laws.Steps.{moves_err}
+use Rattle.cbor4ii_items.specs.Laws.UnderStep.{moves_stepped}
+use Rattle.cbor4ii.proofs.Steps.{refuses_stepped, stops_stepped}
+use Rattle.cbor4ii.proofs.Tupled.{count_length}
+use Rattle.cbor4ii.proofs.serde.de.heads.begin_tuple.Goals as goal
+
+pub returns-in-Ok-clause-opened : goal.returns-in-Ok-clause-opened
+returns-in-Ok-clause-opened g c = record {
+  within = g.S.Source.view c.step_in.new.self;
+  step = c.if-not-step_in.ensures.budget;
+  others = c.step_in.ensures.others;
+  kept = c.in-Ok.ensures.moves.by;
+  progress = omega (arith, c.in-Ok.ensures.progress, c.step_in.ensures.others.bound);
+  length = Some c.args.len;
+  head = count_length c.in-Ok.ensures.sound;
+  begun = refl;
+}
+
+pub returns-in-Err-clause-moves : goal.returns-in-Err-clause-moves
+returns-in-Err-clause-moves g c = moves_stepped (Err c.in-Err.error) _ _ _ _ c.if-not-step_in.ensures.budget c.step_in.ensures.others (moves_err c.in-Err.ensures.moves) c.step_out.ensures.budget c.step_out.ensures.others
+
+pub returns-in-Err-clause-complete : goal.returns-in-Err-clause-complete
+returns-in-Err-clause-complete g c = refuses_stepped _ c.if-not-step_in.ensures.budget c.step_in.ensures.others c.in-Err.ensures.complete
+
+pub returns-in-Err-clause-stops : goal.returns-in-Err-clause-stops
+returns-in-Err-clause-stops g c = stops_stepped _ _ c.if-not-step_in.ensures.budget c.step_in.ensures.others c.step_out.ensures.others c.in-Err.ensures.stops

@@ -1,0 +1,62 @@
+-- A value that may be absent, of which first is read whether it comes.
+use Rattle.std.specs.Prelude.{◌≡◌, ℕ, ◌+◌, ◌≤◌, Bool, true, false, if◌then◌else◌, List, length, Option, Some, None, codes}
+use Rattle.cbor4ii_rw.specs.View.{View}
+use Rattle.cbor4ii_rw.specs.Reader.{StepsIn, KeepsAllButBudget}
+use Rattle.cbor4ii_items.specs.Moves.{Kept}
+use Rattle.cbor4ii_items.specs.Decoding.{Reads, StopsAt, Sound}
+use Rattle.cbor4ii_items.specs.Containers.{BeginsNull, ReadsOption, StopsOption}
+use Rattle.cbor4ii.specs.declared.serde.de.some_accessor.SomeAccessor.{SomeAccessor}
+use Rattle.cbor4ii.specs.Stepped.{Stepped, StopsStepped}
+
+-- what the reader under an accessor tells
+abbrev pub inside_some : {S E : Type 0} → (S → View) → SomeAccessor S E → View
+inside_some view accessor = view accessor.de.now.reader
+
+-- whether a value comes
+abbrev pub comes : {S E : Type 0} → SomeAccessor S E → Bool
+comes accessor = accessor.some
+
+-- the steps that an accessor holds: one where a value comes
+abbrev pub steps_of_some : Bool → ℕ
+steps_of_some some = if some then 1 else 0
+
+-- nothing is read yet
+abbrev pub ReadsNoByte : Reads (Unit {0})
+ReadsNoByte xs v n c = (n ≡ 0) × (c ≡ 0)
+
+-- null or undefined, or another byte under one step, behind which the value is still to be read
+abbrev pub ReadsPresence : Reads (Option (Unit {0}))
+ReadsPresence = ReadsOption (Stepped ReadsNoByte)
+
+-- nothing is refused
+abbrev pub never_stops : StopsAt
+never_stops xs budget refusal rest = ⊥
+
+-- no byte is left, or no step where a value comes
+abbrev pub StopsPresence : StopsAt
+StopsPresence = StopsOption (StopsStepped (codes "option") never_stops)
+
+-- null and undefined are taken, and another byte stays
+abbrev pub ReadsComing : Reads Bool
+ReadsComing xs true n c = (BeginsNull xs → ⊥) × (1 ≤ length xs) × (n ≡ 0) × (c ≡ 0)
+ReadsComing xs false n c = BeginsNull xs × (n ≡ 1) × (c ≡ 0)
+
+-- where a value comes a step is taken
+abbrev pub Holds : Bool → View → View → Type 0
+Holds true old new = StepsIn old.budget new.budget true × KeepsAllButBudget old new
+Holds false old new = new ≡ old
+
+-- It was read whether a value comes, and where one does a step was taken.
+pub record OpensOption (old new : View) (some : Bool) : Type 0 where
+  pub within : View
+  pub kept : Kept old within
+  pub coming : Sound ReadsComing old within some
+  pub progress : some ≡ false → within.bound + 1 ≤ old.bound
+  pub held : Holds some within new
+
+-- what is read then
+abbrev pub ReadsValue : {V : Type 0} → Bool → Reads V → Reads (Option V)
+ReadsValue true reads xs (Some v) n c = reads xs v n c
+ReadsValue true reads xs None n c = ⊥
+ReadsValue false reads xs (Some v) n c = ⊥
+ReadsValue false reads xs None n c = (n ≡ 0) × (c ≡ 0)

@@ -1,0 +1,56 @@
+-- Variants: a name alone, or a map of one entry, from the name to the content.
+use Rattle.std.specs.Prelude.{◌≡◌, ◌≢◌, ℕ, ◌+◌, ◌≤◌, ◌/◌, Bool, true, false, List, [], ◌∷◌, take, Some, Result, IsErrAnd, codes}
+use Rattle.cbor4ii_rw.specs.View.{View}
+use Rattle.cbor4ii_rw.specs.Reader.{StepsIn, KeepsAllButBudget}
+use Rattle.cbor4ii_rw.specs.declared.error.DecodeError.{DecodeError}
+use Rattle.cbor4ii_rw.specs.declared.error.Len.TheVariants.{Small}
+use Rattle.cbor4ii_items.specs.Moves.{Kept}
+use Rattle.cbor4ii_items.specs.Decoding.{Reads, StopsAt, Sound}
+use Rattle.cbor4ii_items.specs.Refusal.{refusal_of, eof, mismatch}
+use Rattle.cbor4ii.specs.declared.serde.de.enum_accessor.EnumAccessor.{EnumAccessor}
+
+-- what the reader under an accessor tells
+abbrev pub inside_enum : {S E : Type 0} → (S → View) → EnumAccessor S E → View
+inside_enum view accessor = view accessor.de.now.reader
+
+-- whether a content follows the name, and the first byte
+abbrev pub form_of : {S E : Type 0} → EnumAccessor S E → Bool × ℕ
+form_of accessor = (accessor.content, accessor.found)
+
+-- the head of a map of one entry is taken, and that of a text stays (RFC 8949 section 3.1)
+abbrev pub IsForm : Bool → ℕ → ℕ → Type 0
+IsForm true first n = (first ≡ 0xa1) × (n ≡ 1)
+IsForm false first n = (first / 32 ≡ 3) × (n ≡ 0)
+
+-- which form a variant has, and the first byte
+abbrev pub ReadsForm : Reads (Bool × ℕ)
+ReadsForm xs form n c = (take 1 xs ≡ form.1 ∷ []) × IsForm form.0 form.1 n × (c ≡ 0)
+
+-- no byte is left, or the first one begins neither, and stays
+abbrev pub StopsForm : StopsAt
+StopsForm [] budget refusal rest = (refusal ≡ eof (codes "enum") (Small 1)) × (rest ≡ [])
+StopsForm (b ∷ bs) budget refusal rest = (b ≢ 0xa1) × (b / 32 ≢ 3) × (refusal ≡ mismatch (codes "enum") b) × (rest ≡ b ∷ bs)
+
+-- A step was taken, and then it was read which form the variant has.
+pub record OpensEnum (old new : View) (form : Bool × ℕ) : Type 0 where
+  pub within : View
+  pub step : StepsIn old.budget within.budget true
+  pub others : KeepsAllButBudget old within
+  pub kept : Kept within new
+  pub head : Sound ReadsForm within new form
+
+-- the content of a variant that has one
+abbrev pub ReadsContent : {V : Type 0} → Bool → Reads V → Reads V
+ReadsContent true reads xs v n c = reads xs v n c
+ReadsContent false reads xs v n c = ⊥
+
+-- the answer is that the variant has the other form, by its first byte
+abbrev pub SaysOther : {V E : Type 0} → ℕ → Result V (DecodeError E) → Type 0
+SaysOther first answer = IsErrAnd answer (λ error. refusal_of error ≡ Some (mismatch (codes "enum") first))
+
+-- the variant has no content, and nothing is taken; or its content is refused
+abbrev pub StopsContent : Bool × ℕ → StopsAt → StopsAt
+StopsContent form stops xs budget refusal rest = elim form.0 [
+  | true ↦ stops xs budget refusal rest
+  | false ↦ (refusal ≡ mismatch (codes "enum") form.1) × (rest ≡ xs)
+]

@@ -1,0 +1,386 @@
+//! Variants, of which first the name is read, and then the content.
+ghost use Rattle.std.specs.Prelude.{
+  ◌≡◌,
+  ◌≤◌,
+  ◌+◌,
+  true,
+  false,
+  IfOk,
+  IfErr,
+  IsTrue,
+  OnErr,
+  OnOk,
+  IsOk,
+  codes,
+};
+ghost use Rattle.std.specs.Borrow.{sem, RestsIfErr};
+ghost use Rattle.cbor4ii_items.specs.Moves.{Moves};
+ghost use Rattle.cbor4ii_items.specs.Decoding.{IsExact, Sound, Refuses, Stops};
+ghost use Rattle.cbor4ii_items.specs.Lengths.{ReadsLength, StopsLength};
+ghost use Rattle.cbor4ii_items.specs.Refusal.{is_out_of_memory};
+ghost use Rattle.cbor4ii.specs.contracts.serde.de.deserializer.Deserializer.{the_row};
+ghost use Rattle.cbor4ii.specs.declared.serde.de.accessor.Left.TheVariants.{Counted};
+ghost use Rattle.cbor4ii.specs.Accessing.{
+  inside,
+  left_in,
+  steps_held,
+  Opens,
+  Closes,
+  Finishes,
+};
+ghost use Rattle.cbor4ii.specs.Stepped.{Stepped, StopsStepped};
+ghost use Rattle.cbor4ii.specs.Tuples.{ReadsCountOf, StopsCountOf};
+ghost use Rattle.cbor4ii.specs.Typed.{input, answer_of, as_core};
+ghost use Rattle.cbor4ii.specs.Variants.{
+  inside_enum,
+  form_of,
+  ReadsForm,
+  StopsForm,
+  OpensEnum,
+  ReadsContent,
+  StopsContent,
+  SaysOther,
+};
+
+use crate::serde::de::accessor::{Accessor, Left};
+use crate::serde::de::deserialize::{Deserialize, Typed};
+use crate::serde::de::deserializer::Deserializer;
+use crate::serde::de::error::DecodeError;
+use crate::serde::de::heads::{begin_map, begin_tuple};
+use cbor4ii_items::initial::peek;
+use cbor4ii_items::major;
+use cbor4ii_rw::error as core_error;
+use cbor4ii_rw::error::StaticStr;
+use cbor4ii_rw::read::Source;
+use std::alloc::Global;
+
+/// The head of a map of one entry.
+const ENTRY: u8 = 0xa1;
+
+/// A variant: its name, and then what it holds. It holds a step of the budget, and gives it back
+/// when it is dropped. What was not read stays.
+pub struct EnumAccessor<'a, S: Source> {
+    pub(crate) de: &'a mut Deserializer<S>,
+    // Whether a content follows the name, and the first byte, which said so.
+    pub(crate) content: bool,
+    pub(crate) found: u8,
+}
+
+impl<'a, S: Source> Drop for EnumAccessor<'a, S> {
+    fn drop(self)
+        ensures { Closes 1 (inside_enum S.view self.entry) (input S.view self.exit.0.now) }
+    {
+        let EnumAccessor {
+            de,
+            content: _,
+            found: _,
+        } = self;
+        de.reader.step_out();
+    }
+}
+
+impl<S: Source> Deserializer<S> {
+    /// A variant: a text, its name, or a map of one entry, from its name to its content. A step is
+    /// taken, and the head of the map; a text stays. The enum's own name is not spelled, and no
+    /// name of a variant is asked for.
+    ///
+    /// # Errors
+    ///
+    /// `Core` of `Read` where the reader failed. By the name "enum": `Core` of `DepthOverflow`
+    /// where no step is left, of `Eof` with 1 where no byte is left, and of `Mismatch` with the
+    /// first byte where it begins neither a text nor a map of one entry in one byte. Nothing is
+    /// taken then.
+    pub fn deserialize_enum(
+        &mut self,
+        name: StaticStr,
+        variants: &[StaticStr],
+    ) -> Result<EnumAccessor<'_, S>, DecodeError<S::Error>>
+        ensures* refused { sem 𝓛 (RestsIfErr (the_row S.row) self.entry
+            (λ accessor. accessor.de.ghost_name) result (λ new.
+            Moves (input S.view self.old) (input S.view new) (answer_of result) ×
+            IfErr result (λ error. Stops (StopsStepped (codes "enum") StopsForm)
+            (input S.view self.old) (input S.view new) (as_core error)))) }
+        ensures same_reference { IfOk result
+            (λ accessor. accessor.de.ghost_name ≡ self.entry.ghost_name) }
+        ensures opened { IfOk result (λ accessor. OpensEnum (input S.view self.old)
+            (inside_enum S.view accessor) (form_of accessor)) }
+        ensures memory { IfErr result (λ error. is_out_of_memory (as_core error) ≡ false) }
+        ensures complete { IfErr result (λ error.
+            Refuses (Stepped ReadsForm) (input S.view self.old) (as_core error)) }
+    {
+        match begin_enum(&mut self.reader) {
+            Ok((content, found)) => Ok(EnumAccessor {
+                de: self,
+                content,
+                found,
+            }),
+            Err(error) => Err(DecodeError::Core(error)),
+        }
+    }
+}
+
+/// A step, and then the form. Where it is refused, the step is given back.
+fn begin_enum<S: Source>(reader: &mut S) -> Result<(bool, u8), core_error::DecodeError<S::Error>>
+    ensures opened { IfOk result (OpensEnum (S.view reader.old) (S.view reader.new)) }
+    ensures moves { OnErr result (Moves (S.view reader.old) (S.view reader.new) result) }
+    ensures memory { IfErr result (λ error. is_out_of_memory error ≡ false) }
+    ensures complete { IfErr result (Refuses (Stepped ReadsForm) (S.view reader.old)) }
+    ensures stops { IfErr result (Stops (StopsStepped (codes "enum") StopsForm)
+        (S.view reader.old) (S.view reader.new)) }
+{
+    if !reader.step_in() {
+        return Err(core_error::DecodeError::DepthOverflow { name: "enum" });
+    }
+    match take_form(reader) {
+        Ok(form) => Ok(form),
+        Err(error) => {
+            reader.step_out();
+            Err(error)
+        }
+    }
+}
+
+/// Whether a content follows the name, and the first byte.
+fn take_form<S: Source>(reader: &mut S) -> Result<(bool, u8), core_error::DecodeError<S::Error>>
+    ensures moves { Moves (S.view reader.old) (S.view reader.new) result }
+    ensures memory { IfErr result (λ error. is_out_of_memory error ≡ false) }
+    ensures sound { IfOk result (Sound ReadsForm (S.view reader.old) (S.view reader.new)) }
+    ensures complete { IfErr result (Refuses ReadsForm (S.view reader.old)) }
+    ensures stops { IfErr result
+        (Stops StopsForm (S.view reader.old) (S.view reader.new)) }
+{
+    match peek(reader, "enum") {
+        Ok(first) => {
+            if first == ENTRY {
+                reader.advance(1);
+                return Ok((true, first));
+            }
+            if first / 32 == major::STRING {
+                return Ok((false, first));
+            }
+            Err(core_error::DecodeError::Mismatch {
+                name: "enum",
+                found: first,
+            })
+        }
+        Err(error) => Err(error),
+    }
+}
+
+/// The content of a variant that holds items without names. Where it is refused, its step and that
+/// of the variant are given back.
+fn begin_tuple_content<S: Source>(
+    reader: &mut S,
+    content: bool,
+    found: u8,
+    len: usize,
+) -> Result<(), core_error::DecodeError<S::Error>>
+    ensures opened { OnOk result (Opens 4 (S.view reader.old) (S.view reader.new) (Counted len)) }
+    ensures finishes { OnErr result (Finishes 1 (S.view reader.old) (S.view reader.new) result) }
+    ensures wrong { content ≡ false → SaysOther found result }
+    ensures memory { IfErr result (λ error. is_out_of_memory error ≡ false) }
+    ensures complete { IfErr result
+        (Refuses (ReadsContent content (Stepped (ReadsCountOf len))) (S.view reader.old)) }
+    ensures stops { IfErr result
+        (Stops (StopsContent (content, found) (StopsStepped (codes "tuple") (StopsCountOf len)))
+        (S.view reader.old) (S.view reader.new)) }
+{
+    if !content {
+        reader.step_out();
+        return Err(core_error::DecodeError::Mismatch {
+            name: "enum",
+            found,
+        });
+    }
+    match begin_tuple(reader, len) {
+        Ok(()) => Ok(()),
+        Err(error) => {
+            reader.step_out();
+            Err(error)
+        }
+    }
+}
+
+/// The content of a variant that holds named fields. Where it is refused, its step and that of the
+/// variant are given back.
+fn begin_map_content<S: Source>(
+    reader: &mut S,
+    content: bool,
+    found: u8,
+) -> Result<Left, core_error::DecodeError<S::Error>>
+    ensures opened { IfOk result (λ left. Opens 5 (S.view reader.old) (S.view reader.new) left) }
+    ensures finishes { OnErr result (Finishes 1 (S.view reader.old) (S.view reader.new) result) }
+    ensures wrong { content ≡ false → SaysOther found result }
+    ensures memory { IfErr result (λ error. is_out_of_memory error ≡ false) }
+    ensures complete { IfErr result
+        (Refuses (ReadsContent content (Stepped (ReadsLength 5))) (S.view reader.old)) }
+    ensures stops { IfErr result (Stops
+        (StopsContent (content, found) (StopsStepped (codes "map") (StopsLength (codes "map") 5)))
+        (S.view reader.old) (S.view reader.new)) }
+{
+    if !content {
+        reader.step_out();
+        return Err(core_error::DecodeError::Mismatch {
+            name: "enum",
+            found,
+        });
+    }
+    match begin_map(reader) {
+        Ok(left) => Ok(left),
+        Err(error) => {
+            reader.step_out();
+            Err(error)
+        }
+    }
+}
+
+/// First the name, by `variant`, and then one of the others. Each of these asks which form the
+/// variant has before anything else: where it has the other one, it is `Core` of `Mismatch` by the
+/// name "enum" with the first byte of the variant, and nothing is taken.
+impl<'a, S: Source> EnumAccessor<'a, S> {
+    /// The variant's name.
+    ///
+    /// # Errors
+    ///
+    /// Those of the name.
+    pub fn variant<V: Deserialize<S>>(&mut self, alloc: Global) -> Result<V, DecodeError<S::Error>>
+        ensures same_reference { self.new.de.ghost_name ≡ self.old.de.ghost_name }
+        ensures same_form { form_of self.new ≡ form_of self.old }
+        ensures moves { Moves (inside_enum S.view self.old) (inside_enum S.view self.new)
+            (answer_of result) }
+        ensures memory { IfErr result
+            (λ error. IsTrue (is_out_of_memory (as_core error)) → IsTrue V.takes_memory) }
+        ensures progress { IsTrue V.never_empty → OnOk result
+            ((inside_enum S.view self.new).bound + 1 ≤ (inside_enum S.view self.old).bound) }
+        ensures sound { IfOk result
+            (Sound V.reads (inside_enum S.view self.old) (inside_enum S.view self.new)) }
+        ensures complete { IsTrue V.exact → IsExact V.owned (inside_enum S.view self.old) →
+            IfErr result (λ error.
+            Refuses V.reads (inside_enum S.view self.old) (as_core error)) }
+    {
+        V::deserialize(alloc, self.de)
+    }
+
+    /// A variant that is its name alone: nothing more is read.
+    pub fn unit_variant(self) -> Result<(), DecodeError<S::Error>>
+        ensures closes { Closes 1 (inside_enum S.view self.entry) (input S.view self.exit.0.now) }
+        ensures right { (form_of self.entry).0 ≡ false → IsOk result }
+        ensures wrong { (form_of self.entry).0 ≡ true →
+            SaysOther (form_of self.entry).1 (answer_of result) }
+    {
+        if self.content {
+            return Err(DecodeError::Core(core_error::DecodeError::Mismatch {
+                name: "enum",
+                found: self.found,
+            }));
+        }
+        Ok(())
+    }
+
+    /// A variant that holds one value, which is its content.
+    ///
+    /// # Errors
+    ///
+    /// Besides, those of the value.
+    pub fn newtype_variant<T: Deserialize<S>>(
+        self,
+        alloc: Global,
+    ) -> Result<T, DecodeError<S::Error>>
+        ensures finishes { Finishes 1 (inside_enum S.view self.entry)
+            (input S.view self.exit.0.now) (answer_of result) }
+        ensures wrong { (form_of self.entry).0 ≡ false →
+            SaysOther (form_of self.entry).1 (answer_of result)
+            × Closes 1 (inside_enum S.view self.entry) (input S.view self.exit.0.now) }
+        ensures memory { IfErr result
+            (λ error. IsTrue (is_out_of_memory (as_core error)) → IsTrue T.takes_memory) }
+        ensures progress { IsTrue T.never_empty → OnOk result
+            ((input S.view self.exit.0.now).bound + 1
+            ≤ (inside_enum S.view self.entry).bound) }
+        ensures sound { IfOk result (Sound (ReadsContent (form_of self.entry).0 T.reads)
+            (inside_enum S.view self.entry) (input S.view self.exit.0.now)) }
+        ensures complete { IsTrue T.exact → IsExact T.owned (inside_enum S.view self.entry) →
+            IfErr result (λ error. Refuses (ReadsContent (form_of self.entry).0 T.reads)
+            (inside_enum S.view self.entry) (as_core error)) }
+    {
+        if !self.content {
+            return Err(DecodeError::Core(core_error::DecodeError::Mismatch {
+                name: "enum",
+                found: self.found,
+            }));
+        }
+        T::deserialize(alloc, self.de)
+    }
+
+    /// A variant that holds items without names: as `deserialize_tuple`. The accessor holds the
+    /// step of the variant too.
+    ///
+    /// # Errors
+    ///
+    /// Besides, those of `deserialize_tuple`. The step of the variant is given back then.
+    pub fn tuple_variant(self, len: usize) -> Result<Accessor<'a, S>, DecodeError<S::Error>>
+        ensures* refused { sem 𝓛 (RestsIfErr (the_row S.row) self.entry.de
+            (λ accessor. accessor.de.ghost_name) result (λ new.
+            Finishes 1 (inside_enum S.view self.entry) (input S.view new) (answer_of result) ×
+            IfErr result (λ error. Stops (StopsContent (form_of self.entry)
+            (StopsStepped (codes "tuple") (StopsCountOf len)))
+            (inside_enum S.view self.entry) (input S.view new) (as_core error)))) }
+        ensures same_reference { IfOk result
+            (λ accessor. accessor.de.ghost_name ≡ self.entry.de.ghost_name) }
+        ensures wrong { (form_of self.entry).0 ≡ false →
+            SaysOther (form_of self.entry).1 (answer_of result) }
+        ensures opened { IfOk result (λ accessor. Opens 4 (inside_enum S.view self.entry)
+            (inside S.view accessor) (left_in accessor)) }
+        ensures steps { IfOk result (λ accessor. steps_held accessor ≡ 2) }
+        ensures left { IfOk result (λ accessor. left_in accessor ≡ Counted len) }
+        ensures memory { IfErr result (λ error. is_out_of_memory (as_core error) ≡ false) }
+        ensures complete { IfErr result (λ error.
+            Refuses (ReadsContent (form_of self.entry).0 (Stepped (ReadsCountOf len)))
+            (inside_enum S.view self.entry) (as_core error)) }
+    {
+        let EnumAccessor { de, content, found } = self;
+        match begin_tuple_content(&mut de.reader, content, found, len) {
+            Ok(()) => Ok(Accessor {
+                de,
+                left: Left::Counted(len),
+                nested: true,
+            }),
+            Err(error) => Err(DecodeError::Core(error)),
+        }
+    }
+
+    /// A variant that holds named fields: as `deserialize_map`. The accessor holds the step of the
+    /// variant too.
+    ///
+    /// # Errors
+    ///
+    /// Besides, those of `deserialize_map`. The step of the variant is given back then.
+    pub fn struct_variant(self) -> Result<Accessor<'a, S>, DecodeError<S::Error>>
+        ensures* refused { sem 𝓛 (RestsIfErr (the_row S.row) self.entry.de
+            (λ accessor. accessor.de.ghost_name) result (λ new.
+            Finishes 1 (inside_enum S.view self.entry) (input S.view new) (answer_of result) ×
+            IfErr result (λ error. Stops (StopsContent (form_of self.entry)
+            (StopsStepped (codes "map") (StopsLength (codes "map") 5)))
+            (inside_enum S.view self.entry) (input S.view new) (as_core error)))) }
+        ensures same_reference { IfOk result
+            (λ accessor. accessor.de.ghost_name ≡ self.entry.de.ghost_name) }
+        ensures wrong { (form_of self.entry).0 ≡ false →
+            SaysOther (form_of self.entry).1 (answer_of result) }
+        ensures opened { IfOk result (λ accessor. Opens 5 (inside_enum S.view self.entry)
+            (inside S.view accessor) (left_in accessor)) }
+        ensures steps { IfOk result (λ accessor. steps_held accessor ≡ 2) }
+        ensures memory { IfErr result (λ error. is_out_of_memory (as_core error) ≡ false) }
+        ensures complete { IfErr result (λ error.
+            Refuses (ReadsContent (form_of self.entry).0 (Stepped (ReadsLength 5)))
+            (inside_enum S.view self.entry) (as_core error)) }
+    {
+        let EnumAccessor { de, content, found } = self;
+        match begin_map_content(&mut de.reader, content, found) {
+            Ok(left) => Ok(Accessor {
+                de,
+                left,
+                nested: true,
+            }),
+            Err(error) => Err(DecodeError::Core(error)),
+        }
+    }
+}

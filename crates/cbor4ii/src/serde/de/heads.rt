@@ -1,0 +1,86 @@
+//! A step, and then the head of what is read part by part.
+ghost use Rattle.std.specs.Prelude.{◌≡◌, false, OnErr, OnOk, IfOk, IfErr, codes};
+ghost use Rattle.cbor4ii_items.specs.Moves.{Moves};
+ghost use Rattle.cbor4ii_items.specs.Decoding.{Refuses, Stops};
+ghost use Rattle.cbor4ii_items.specs.Lengths.{ReadsLength, StopsLength};
+ghost use Rattle.cbor4ii_items.specs.Refusal.{is_out_of_memory};
+ghost use Rattle.cbor4ii.specs.declared.serde.de.accessor.Left.TheVariants.{Counted};
+ghost use Rattle.cbor4ii.specs.Accessing.{Opens};
+ghost use Rattle.cbor4ii.specs.Stepped.{Stepped, StopsStepped};
+ghost use Rattle.cbor4ii.specs.Tuples.{ReadsCountOf, StopsCountOf};
+
+use crate::serde::de::accessor::Left;
+use crate::serde::de::tuples::take_count;
+use cbor4ii_items::types::{Array, Map};
+use cbor4ii_rw::error::DecodeError;
+use cbor4ii_rw::read::Source;
+
+/// An array of any length. Where it is refused, the step is given back.
+pub(crate) fn begin_array<S: Source>(reader: &mut S) -> Result<Left, DecodeError<S::Error>>
+    ensures opened { IfOk result (λ left. Opens 4 (S.view reader.old) (S.view reader.new) left) }
+    ensures moves { OnErr result (Moves (S.view reader.old) (S.view reader.new) result) }
+    ensures memory { IfErr result (λ error. is_out_of_memory error ≡ false) }
+    ensures complete { IfErr result (Refuses (Stepped (ReadsLength 4)) (S.view reader.old)) }
+    ensures stops { IfErr result
+        (Stops (StopsStepped (codes "seq") (StopsLength (codes "array") 4))
+        (S.view reader.old) (S.view reader.new)) }
+{
+    if !reader.step_in() {
+        return Err(DecodeError::DepthOverflow { name: "seq" });
+    }
+    match Array::<()>::len(reader) {
+        Ok(Some(count)) => Ok(Left::Counted(count)),
+        Ok(None) => Ok(Left::Open),
+        Err(error) => {
+            reader.step_out();
+            Err(error)
+        }
+    }
+}
+
+/// A map of any length. Where it is refused, the step is given back.
+pub(crate) fn begin_map<S: Source>(reader: &mut S) -> Result<Left, DecodeError<S::Error>>
+    ensures opened { IfOk result (λ left. Opens 5 (S.view reader.old) (S.view reader.new) left) }
+    ensures moves { OnErr result (Moves (S.view reader.old) (S.view reader.new) result) }
+    ensures memory { IfErr result (λ error. is_out_of_memory error ≡ false) }
+    ensures complete { IfErr result (Refuses (Stepped (ReadsLength 5)) (S.view reader.old)) }
+    ensures stops { IfErr result
+        (Stops (StopsStepped (codes "map") (StopsLength (codes "map") 5))
+        (S.view reader.old) (S.view reader.new)) }
+{
+    if !reader.step_in() {
+        return Err(DecodeError::DepthOverflow { name: "map" });
+    }
+    match Map::<()>::len(reader) {
+        Ok(Some(count)) => Ok(Left::Counted(count)),
+        Ok(None) => Ok(Left::Open),
+        Err(error) => {
+            reader.step_out();
+            Err(error)
+        }
+    }
+}
+
+/// An array of so many items. Where it is refused, the step is given back.
+pub(crate) fn begin_tuple<S: Source>(
+    reader: &mut S,
+    len: usize,
+) -> Result<(), DecodeError<S::Error>>
+    ensures opened { OnOk result (Opens 4 (S.view reader.old) (S.view reader.new) (Counted len)) }
+    ensures moves { OnErr result (Moves (S.view reader.old) (S.view reader.new) result) }
+    ensures memory { IfErr result (λ error. is_out_of_memory error ≡ false) }
+    ensures complete { IfErr result (Refuses (Stepped (ReadsCountOf len)) (S.view reader.old)) }
+    ensures stops { IfErr result (Stops (StopsStepped (codes "tuple") (StopsCountOf len))
+        (S.view reader.old) (S.view reader.new)) }
+{
+    if !reader.step_in() {
+        return Err(DecodeError::DepthOverflow { name: "tuple" });
+    }
+    match take_count(reader, len) {
+        Ok(()) => Ok(()),
+        Err(error) => {
+            reader.step_out();
+            Err(error)
+        }
+    }
+}

@@ -1,0 +1,147 @@
+//! Values that may be absent, of which first is read whether one comes.
+ghost use Rattle.std.specs.Prelude.{
+  ◌≡◌,
+  ◌≤◌,
+  ◌+◌,
+  false,
+  IfOk,
+  IfErr,
+  IsTrue,
+  OnErr,
+  OnSome,
+};
+ghost use Rattle.std.specs.Borrow.{sem, RestsIfErr};
+ghost use Rattle.cbor4ii_items.specs.Moves.{Moves};
+ghost use Rattle.cbor4ii_items.specs.Decoding.{IsExact, Sound, Refuses, Stops};
+ghost use Rattle.cbor4ii_items.specs.Refusal.{is_out_of_memory};
+ghost use Rattle.cbor4ii.specs.contracts.serde.de.deserializer.Deserializer.{the_row};
+ghost use Rattle.cbor4ii.specs.Accessing.{Closes, Finishes};
+ghost use Rattle.cbor4ii.specs.Optional.{
+  inside_some,
+  comes,
+  steps_of_some,
+  ReadsPresence,
+  StopsPresence,
+  OpensOption,
+  ReadsValue,
+};
+ghost use Rattle.cbor4ii.specs.Typed.{input, answer_of, as_core};
+
+use crate::serde::de::deserialize::{Deserialize, Typed};
+use crate::serde::de::deserializer::Deserializer;
+use crate::serde::de::error::DecodeError;
+use cbor4ii_items::initial::peek;
+use cbor4ii_items::marker;
+use cbor4ii_rw::error as core_error;
+use cbor4ii_rw::read::Source;
+use std::alloc::Global;
+
+/// A value that may be absent. Where one comes it holds a step of the budget, and gives it back
+/// when it is dropped, whether or not the value was read. A value that was not read stays.
+pub struct SomeAccessor<'a, S: Source> {
+    pub(crate) de: &'a mut Deserializer<S>,
+    pub(crate) some: bool,
+}
+
+impl<'a, S: Source> Drop for SomeAccessor<'a, S> {
+    fn drop(self)
+        ensures { Closes (steps_of_some (comes self.entry))
+            (inside_some S.view self.entry) (input S.view self.exit.0.now) }
+    {
+        let SomeAccessor { de, some } = self;
+        if some {
+            de.reader.step_out();
+        }
+    }
+}
+
+impl<S: Source> Deserializer<S> {
+    /// Whether a value comes: null and undefined are none, and are taken, under no step. Before any
+    /// other byte a step is taken, and the byte stays.
+    ///
+    /// # Errors
+    ///
+    /// `Core` of `Read` where the reader failed. By the name "option": `Core` of `Eof` with 1 where
+    /// no byte is left, and of `DepthOverflow` where a value comes and no step is left, which takes
+    /// nothing.
+    pub fn deserialize_option(&mut self) -> Result<SomeAccessor<'_, S>, DecodeError<S::Error>>
+        ensures* refused { sem 𝓛 (RestsIfErr (the_row S.row) self.entry
+            (λ accessor. accessor.de.ghost_name) result (λ new.
+            Moves (input S.view self.old) (input S.view new) (answer_of result) ×
+            IfErr result (λ error. Stops StopsPresence
+            (input S.view self.old) (input S.view new) (as_core error)))) }
+        ensures same_reference { IfOk result
+            (λ accessor. accessor.de.ghost_name ≡ self.entry.ghost_name) }
+        ensures opened { IfOk result (λ accessor. OpensOption (input S.view self.old)
+            (inside_some S.view accessor) (comes accessor)) }
+        ensures memory { IfErr result (λ error. is_out_of_memory (as_core error) ≡ false) }
+        ensures complete { IfErr result (λ error.
+            Refuses ReadsPresence (input S.view self.old) (as_core error)) }
+    {
+        match begin_option(&mut self.reader) {
+            Ok(some) => Ok(SomeAccessor { de: self, some }),
+            Err(error) => Err(DecodeError::Core(error)),
+        }
+    }
+}
+
+/// Whether a value comes. Where one does a step is taken.
+fn begin_option<S: Source>(reader: &mut S) -> Result<bool, core_error::DecodeError<S::Error>>
+    ensures opened { IfOk result (OpensOption (S.view reader.old) (S.view reader.new)) }
+    ensures moves { OnErr result (Moves (S.view reader.old) (S.view reader.new) result) }
+    ensures memory { IfErr result (λ error. is_out_of_memory error ≡ false) }
+    ensures complete { IfErr result (Refuses ReadsPresence (S.view reader.old)) }
+    ensures stops { IfErr result
+        (Stops StopsPresence (S.view reader.old) (S.view reader.new)) }
+{
+    match peek(reader, "option") {
+        Ok(first) => {
+            if first == marker::NULL || first == marker::UNDEFINED {
+                reader.advance(1);
+                return Ok(false);
+            }
+            if !reader.step_in() {
+                return Err(core_error::DecodeError::DepthOverflow { name: "option" });
+            }
+            Ok(true)
+        }
+        Err(error) => Err(error),
+    }
+}
+
+impl<'a, S: Source> SomeAccessor<'a, S> {
+    /// Whether a value comes.
+    pub fn is_some(&self) -> bool
+        ensures { result ≡ comes self.now }
+    {
+        self.some
+    }
+
+    /// The value, or none where none comes. The step is given back.
+    ///
+    /// # Errors
+    ///
+    /// Those of the value.
+    pub fn value<T: Deserialize<S>>(self, alloc: Global) -> Result<Option<T>, DecodeError<S::Error>>
+        ensures finishes { Finishes (steps_of_some (comes self.entry))
+            (inside_some S.view self.entry) (input S.view self.exit.0.now) (answer_of result) }
+        ensures memory { IfErr result
+            (λ error. IsTrue (is_out_of_memory (as_core error)) → IsTrue T.takes_memory) }
+        ensures progress { IsTrue T.never_empty → IfOk result (λ value. OnSome value
+            ((input S.view self.exit.0.now).bound + 1
+            ≤ (inside_some S.view self.entry).bound)) }
+        ensures sound { IfOk result (Sound (ReadsValue (comes self.entry) T.reads)
+            (inside_some S.view self.entry) (input S.view self.exit.0.now)) }
+        ensures complete { IsTrue T.exact → IsExact T.owned (inside_some S.view self.entry) →
+            IfErr result (λ error. Refuses (ReadsValue (comes self.entry) T.reads)
+            (inside_some S.view self.entry) (as_core error)) }
+    {
+        if !self.some {
+            return Ok(None);
+        }
+        match T::deserialize(alloc, self.de) {
+            Ok(value) => Ok(Some(value)),
+            Err(error) => Err(error),
+        }
+    }
+}
