@@ -6,6 +6,7 @@ pub mod Tuples
 pub mod Sequence
 pub mod Built
 pub mod Accessing
+pub mod Around
 pub mod Optional
 pub mod Variants
 pub mod Borrowed

@@ -7,6 +7,7 @@ use Rattle.cbor4ii_rw.specs.declared.error.Len.TheVariants.{Small}
 use Rattle.cbor4ii_items.specs.Moves.{Kept}
 use Rattle.cbor4ii_items.specs.Decoding.{Reads, StopsAt, Sound}
 use Rattle.cbor4ii_items.specs.Refusal.{refusal_of, eof, mismatch}
+use Rattle.cbor4ii.specs.declared.serde.de.deserializer.Deserializer.{Deserializer}
 use Rattle.cbor4ii.specs.declared.serde.de.enum_accessor.EnumAccessor.{EnumAccessor}
 
 -- what the reader under an accessor tells
@@ -16,6 +17,10 @@ inside_enum view accessor = view accessor.de.now.reader
 -- whether a content follows the name, and the first byte
 abbrev pub form_of : {S E : Type 0} → EnumAccessor S E → Bool × ℕ
 form_of accessor = (accessor.content, accessor.found)
+
+-- an accessor whose deserializer is this one
+abbrev pub with_content : {S E : Type 0} → EnumAccessor S E → Deserializer S → EnumAccessor S E
+with_content accessor last = record accessor { de = record accessor.de { now = last } }
 
 -- the head of a map of one entry is taken, and that of a text stays (RFC 8949 section 3.1)
 abbrev pub IsForm : Bool → ℕ → ℕ → Type 0

@@ -2,6 +2,7 @@ mod leaf_rows;
 mod any;
 mod enums;
 mod paths;
+mod records;
 
 use crate::serde::{Accessor, DecodeError, Deserialize, Deserializer, from_reader, from_slice};
 use cbor4ii_items::types::{Bytes, F16, F32, F64};

@@ -11,6 +11,7 @@ pub mod deserialize;
 pub mod deserializer;
 pub mod enum_accessor;
 pub mod error;
+mod fields;
 pub mod first;
 mod ignored;
 mod heads;

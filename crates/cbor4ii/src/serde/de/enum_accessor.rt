@@ -1,5 +1,6 @@
 //! Variants, of which first the name is read, and then the content.
 ghost use Rattle.std.specs.Prelude.{
+  [],
   ◌≡◌,
   ◌≤◌,
   ◌+◌,
@@ -13,12 +14,14 @@ ghost use Rattle.std.specs.Prelude.{
   IsOk,
   codes,
 };
-ghost use Rattle.std.specs.Borrow.{sem, RestsIfErr};
+ghost use Rattle.std.specs.Borrow.{sem, LendsIfOk, RestsIfErr};
+ghost use mir.Syntax.{named};
 ghost use Rattle.cbor4ii_items.specs.Moves.{Moves};
 ghost use Rattle.cbor4ii_items.specs.Decoding.{IsExact, Sound, Refuses, Stops};
 ghost use Rattle.cbor4ii_items.specs.Lengths.{ReadsLength, StopsLength};
 ghost use Rattle.cbor4ii_items.specs.Refusal.{is_out_of_memory};
 ghost use Rattle.cbor4ii.specs.contracts.serde.de.deserializer.Deserializer.{the_row};
+ghost use Rattle.cbor4ii.specs.contracts.serde.de.enum_accessor.EnumAccessor.{the_row as the_enum};
 ghost use Rattle.cbor4ii.specs.declared.serde.de.accessor.Left.TheVariants.{Counted};
 ghost use Rattle.cbor4ii.specs.Accessing.{
   inside,
@@ -34,6 +37,7 @@ ghost use Rattle.cbor4ii.specs.Typed.{input, answer_of, as_core};
 ghost use Rattle.cbor4ii.specs.Variants.{
   inside_enum,
   form_of,
+  with_content,
   ReadsForm,
   StopsForm,
   OpensEnum,
@@ -275,6 +279,25 @@ impl<'a, S: Source> EnumAccessor<'a, S> {
             }));
         }
         Ok(())
+    }
+
+    /// The deserializer that the content is read from, for a content that a free function reads.
+    pub fn content(&mut self) -> Result<&mut Deserializer<S>, DecodeError<S::Error>>
+        ensures* writes_back { sem 𝓛 (LendsIfOk (the_enum (record { mir = named 0; lft = [] })
+            S.row S.Error.row)
+            (the_row S.row) self.entry result (with_content self.old) self.old) }
+        ensures right { (form_of self.old).0 ≡ true → IsOk result }
+        ensures value { IfOk result (λ de. de.now ≡ self.old.de.now) }
+        ensures wrong { (form_of self.old).0 ≡ false →
+            SaysOther (form_of self.old).1 (answer_of result) }
+    {
+        if !self.content {
+            return Err(DecodeError::Core(core_error::DecodeError::Mismatch {
+                name: "enum",
+                found: self.found,
+            }));
+        }
+        Ok(self.de)
     }
 
     /// A variant that holds one value, which is its content.
