@@ -1,16 +1,13 @@
--- What a function leaves that held an accessor, and what one reads of which nothing is said.
-use Rattle.std.proofs.Common.{◌≡◌, ℕ, List, drop, Option, Some, None, Result, Ok, Err, refl, sym, ap, ◌∙◌, subst}
+-- What a function leaves that held an accessor.
+use Rattle.std.proofs.Common.{◌≡◌, ℕ, Result, Ok, Err, refl, sym, subst}
 use Rattle.cbor4ii_rw.specs.View.{View}
 use Rattle.cbor4ii_rw.specs.declared.error.DecodeError.{DecodeError}
 use Rattle.cbor4ii_rw.specs.declared.error.DecodeError.TheVariants.{OutOfMemory}
 use Rattle.cbor4ii_items.specs.Moves.{Kept, Moves}
-use Rattle.cbor4ii_items.specs.Decoding.{Sound}
-use Rattle.cbor4ii_items.specs.Laws.Answering.{fits_zero}
 use Rattle.cbor4ii_items.specs.Laws.Steps.{moves_then}
 use Rattle.cbor4ii_items.specs.Laws.UnderStep.{moves_stepped}
 use Rattle.cbor4ii.specs.declared.serde.de.accessor.Left.{Left}
 use Rattle.cbor4ii.specs.Accessing.{Opens, Closes}
-use Rattle.cbor4ii.specs.Typed.{unsaid}
 
 -- an accessor was opened, calls went on under it, and it was dropped
 pub around : {V E : Type 0} {major held : ℕ} {r : Result V (DecodeError E)} {a b c d : View} {begun : Left} → Opens major a b begun → Moves b c r → held ≡ 1 → Closes held c d → Moves a d r

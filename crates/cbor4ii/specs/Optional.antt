@@ -1,10 +1,11 @@
 -- A value that may be absent, of which first is read whether it comes.
-use Rattle.std.specs.Prelude.{◌≡◌, ℕ, ◌+◌, ◌≤◌, Bool, true, false, if◌then◌else◌, List, length, Option, Some, None, codes}
+use Rattle.std.specs.Prelude.{◌≡◌, ℕ, ◌+◌, ◌≤◌, Bool, true, false, if◌then◌else◌, length, Option, Some, None, codes}
 use Rattle.cbor4ii_rw.specs.View.{View}
 use Rattle.cbor4ii_rw.specs.Reader.{StepsIn, KeepsAllButBudget}
 use Rattle.cbor4ii_items.specs.Moves.{Kept}
 use Rattle.cbor4ii_items.specs.Decoding.{Reads, StopsAt, Sound}
 use Rattle.cbor4ii_items.specs.Containers.{BeginsNull, ReadsOption, StopsOption}
+use Rattle.cbor4ii.specs.declared.serde.de.deserializer.Deserializer.{Deserializer}
 use Rattle.cbor4ii.specs.declared.serde.de.some_accessor.SomeAccessor.{SomeAccessor}
 use Rattle.cbor4ii.specs.Stepped.{Stepped, StopsStepped}
 
@@ -15,6 +16,10 @@ inside_some view accessor = view accessor.de.now.reader
 -- whether a value comes
 abbrev pub comes : {S E : Type 0} → SomeAccessor S E → Bool
 comes accessor = accessor.some
+
+-- an accessor whose deserializer is this one
+abbrev pub with_value_from : {S E : Type 0} → SomeAccessor S E → Deserializer S → SomeAccessor S E
+with_value_from accessor last = record accessor { de = record accessor.de { now = last } }
 
 -- the steps that an accessor holds: one where a value comes
 abbrev pub steps_of_some : Bool → ℕ

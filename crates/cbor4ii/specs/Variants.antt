@@ -1,5 +1,5 @@
 -- Variants: a name alone, or a map of one entry, from the name to the content.
-use Rattle.std.specs.Prelude.{◌≡◌, ◌≢◌, ℕ, ◌+◌, ◌≤◌, ◌/◌, Bool, true, false, List, [], ◌∷◌, take, Some, Result, IsErrAnd, codes}
+use Rattle.std.specs.Prelude.{◌≡◌, ◌≢◌, ℕ, ◌/◌, Bool, true, false, [], ◌∷◌, take, Some, Result, IsErrAnd, codes}
 use Rattle.cbor4ii_rw.specs.View.{View}
 use Rattle.cbor4ii_rw.specs.Reader.{StepsIn, KeepsAllButBudget}
 use Rattle.cbor4ii_rw.specs.declared.error.DecodeError.{DecodeError}

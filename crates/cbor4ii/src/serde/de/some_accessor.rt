@@ -1,5 +1,6 @@
 //! Values that may be absent, of which first is read whether one comes.
 ghost use Rattle.std.specs.Prelude.{
+  [],
   ◌≡◌,
   ◌≤◌,
   ◌+◌,
@@ -10,16 +11,19 @@ ghost use Rattle.std.specs.Prelude.{
   OnErr,
   OnSome,
 };
-ghost use Rattle.std.specs.Borrow.{sem, RestsIfErr};
+ghost use Rattle.std.specs.Borrow.{sem, Lends, RestsIfErr};
+ghost use mir.Syntax.{named};
 ghost use Rattle.cbor4ii_items.specs.Moves.{Moves};
 ghost use Rattle.cbor4ii_items.specs.Decoding.{IsExact, Sound, Refuses, Stops};
 ghost use Rattle.cbor4ii_items.specs.Refusal.{is_out_of_memory};
 ghost use Rattle.cbor4ii.specs.contracts.serde.de.deserializer.Deserializer.{the_row};
+ghost use Rattle.cbor4ii.specs.contracts.serde.de.some_accessor.SomeAccessor.{the_row as the_some};
 ghost use Rattle.cbor4ii.specs.Accessing.{Closes, Finishes};
 ghost use Rattle.cbor4ii.specs.Optional.{
   inside_some,
   comes,
   steps_of_some,
+  with_value_from,
   ReadsPresence,
   StopsPresence,
   OpensOption,
@@ -115,6 +119,17 @@ impl<'a, S: Source> SomeAccessor<'a, S> {
         ensures { result ≡ comes self.now }
     {
         self.some
+    }
+
+    /// The deserializer that the value is read from, where one comes, for a value that a free
+    /// function reads.
+    pub fn deserializer(&mut self) -> &mut Deserializer<S>
+        ensures* writes_back { sem 𝓛 (Lends (the_some (record { mir = named 0; lft = [] })
+            S.row S.Error.row)
+            (the_row S.row) self.entry result (with_value_from self.old)) }
+        ensures value { result.now ≡ self.old.de.now }
+    {
+        self.de
     }
 
     /// The value, or none where none comes. The step is given back.

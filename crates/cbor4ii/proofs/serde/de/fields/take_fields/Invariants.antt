@@ -1,4 +1,4 @@
-use Rattle.std.proofs.Common.{◌≡◌, ◌+◌, ◌≤◌}
+use Rattle.std.proofs.Common.{◌≡◌}
 use Rattle.cbor4ii_items.specs.Moves.{Kept}
 use Rattle.cbor4ii.specs.Accessing.{fuel, steps_held}
 use Rattle.cbor4ii.proofs.serde.de.fields.take_fields.Given as goal
