@@ -25,8 +25,8 @@ use Rattle.cbor4ii.specs.AnyStops.{StopsBignum, KindStops, AnyStops, AnyStopsAt,
 use Rattle.cbor4ii.specs.Stepped.{StopsStepped}
 use Rattle.cbor4ii.specs.Typed.{as_core}
 use Rattle.cbor4ii.proofs.Looking.{Saw}
-use Rattle.cbor4ii.proofs.Parts.{Begun, Opened, Stands}
-use Rattle.cbor4ii.proofs.Sequences.{Counts, Opens}
+use Rattle.cbor4ii_items.specs.Laws.SequenceParts.{Begun, Opened, Stands}
+use Rattle.cbor4ii_items.specs.Laws.SequenceInside.{Counts, Opens}
 use Rattle.cbor4ii.proofs.Steps.{stops_stepped}
 use Rattle.cbor4ii.proofs.Stopped.{stops_as, stopped_as}
 

@@ -11,7 +11,7 @@ use Rattle.cbor4ii.specs.declared.serde.de.accessor.Left.{Left}
 use Rattle.cbor4ii.specs.declared.serde.de.accessor.Left.TheVariants.{Counted, Open, Ended}
 use Rattle.cbor4ii.specs.Accessing.{Next}
 use Rattle.cbor4ii.proofs.Going.{part_of}
-use Rattle.cbor4ii.proofs.Pairs.{pair_sound, key_less, value_less}
+use Rattle.cbor4ii_items.specs.Laws.Pairs.{pair_sound, key_less, value_less}
 
 -- what else stands there is read in its place
 in_place : {V W : Type 0} (reads : Reads V) (other : Reads W) (left : Left) (xs : List ℕ) (v : V) (w : W) (n c m d : ℕ) → Next reads left xs (Some v) n c → other xs w m d → Next other left xs (Some w) m d

@@ -1,7 +1,5 @@
 pub mod Firsts
 pub mod Forms
-pub mod Parts
-pub mod Pairs
 pub mod Sequences
 pub mod Ends
 pub mod Steps

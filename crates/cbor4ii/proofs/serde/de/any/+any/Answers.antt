@@ -11,9 +11,10 @@ use Rattle.cbor4ii_items.specs.Sequences.{ReadsPair, StopsInside}
 use Rattle.cbor4ii.specs.AnyStops.{AnyStops, StopsAny, StopsAnyPair}
 use Rattle.cbor4ii.proofs.AnyStopping.{any_stops, any_stops_by, step_stops, count_stops, open_stops, end_stops, length_stops, counted_stops, opened_stops, key_stops, value_stops, next_stops, kind_stops, kind_stops_by, other_stops}
 use Rattle.cbor4ii.proofs.Looking.{saw}
-use Rattle.cbor4ii.proofs.Pairs.{pair_sound, key_refuses, value_refuses}
-use Rattle.cbor4ii.proofs.Parts.{count_more, count_done, count_refuses, stands, open_more, open_done, open_refuses, end_refuses}
-use Rattle.cbor4ii.proofs.Sequences.{counted_sound, counted_refuses, opened_sound, opened_refuses, counts_of, opens_of, no_length}
+use Rattle.cbor4ii_items.specs.Laws.Pairs.{pair_sound, key_refuses, value_refuses}
+use Rattle.cbor4ii_items.specs.Laws.SequenceParts.{count_more, count_done, count_refuses, stands, open_more, open_done, open_refuses, end_refuses}
+use Rattle.cbor4ii.proofs.Sequences.{counted_sound, counted_refuses, opened_sound, opened_refuses}
+use Rattle.cbor4ii_items.specs.Laws.SequenceInside.{counts_of, opens_of, no_length}
 use Rattle.cbor4ii.proofs.Steps.{formed_sound, step_sound, step_refuses, stops_no_step}
 use Rattle.cbor4ii.specs.Sequence.{four_small, five_small}
 use Rattle.cbor4ii.proofs.serde.de.any.+any.Goals as goal

@@ -2,7 +2,7 @@ use Rattle.std.proofs.Common.{arith}
 use Rattle.std.proofs.lemmas.Result.{err_from_is_err_and}
 use Rattle.cbor4ii_items.specs.Laws.Steps.{moves_then, moves_err}
 use Rattle.cbor4ii_items.specs.Laws.Answering.{exact_kept}
-use Rattle.cbor4ii.proofs.Parts.{count_more, count_done, count_refuses}
+use Rattle.cbor4ii_items.specs.Laws.SequenceParts.{count_more, count_done, count_refuses}
 use Rattle.cbor4ii.specs.Typed.{size_of}
 use Rattle.cbor4ii.proofs.PartStops.{count_stops}
 use Rattle.cbor4ii.proofs.Beginnings.{unsaid_left}

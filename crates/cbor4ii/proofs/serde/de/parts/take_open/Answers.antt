@@ -2,7 +2,7 @@ use Rattle.std.proofs.Common.{refl, sym}
 use Rattle.std.proofs.lemmas.Result.{err_from_is_err_and}
 use Rattle.cbor4ii_items.specs.Laws.Steps.{moves_then, moves_err, kept_then}
 use Rattle.cbor4ii_items.specs.Laws.Answering.{exact_kept}
-use Rattle.cbor4ii.proofs.Parts.{stands, open_more, open_done, open_refuses, nothing_refuses, end_refuses}
+use Rattle.cbor4ii_items.specs.Laws.SequenceParts.{stands, open_more, open_done, open_refuses, nothing_refuses, end_refuses}
 use Rattle.cbor4ii.specs.Typed.{size_of}
 use Rattle.cbor4ii.specs.Beginning.{unsaid_stops}
 use Rattle.cbor4ii.proofs.PartStops.{open_stops, nothing_stops, end_stops}

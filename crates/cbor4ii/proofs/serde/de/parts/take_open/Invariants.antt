@@ -1,4 +1,4 @@
-use Rattle.cbor4ii.proofs.Parts.{Opened}
+use Rattle.cbor4ii_items.specs.Laws.SequenceParts.{Opened}
 use Rattle.cbor4ii.proofs.serde.de.parts.take_open.Given as goal
 
 abbrev pub invariant-loop-parts : goal.invariant-loop-parts
