@@ -7,7 +7,7 @@ use mir.Val.{to_z}
 use mir.Syntax.{w128}
 use Rattle.cbor4ii_rw.specs.View.{View}
 use Rattle.cbor4ii_rw.specs.declared.error.DecodeError.{DecodeError}
-use Rattle.cbor4ii_items.specs.BigLaws.{u128_one}
+use Rattle.cbor4ii_items.specs.Laws.Bignums.{u128_one}
 use Rattle.cbor4ii_items.specs.Decoding.{Reads, CostFits, Sound, NoneRead, Refuses}
 use Rattle.cbor4ii_items.specs.Laws.Answering.{if_some, refuses_as}
 use Rattle.cbor4ii_items.specs.Next.{ReadsNext}

@@ -19,7 +19,7 @@ use Rattle.cbor4ii_items.specs.Cow.{BorrowsWhereCounted, cow_text, cow_bytes, Is
 use Rattle.cbor4ii_items.specs.Strings.{ReadsCountedString, ReadsAs, ReadsTextAs}
 use Rattle.cbor4ii_items.specs.Decoding.{Reads, IsExact, Sound, Refuses}
 use Rattle.cbor4ii_items.specs.Lent.{ReadsLent, lent_str, lent_bytes}
-use Rattle.cbor4ii_items.specs.StringLaws.{head_not_open}
+use Rattle.cbor4ii_items.specs.Laws.Strings.{head_not_open}
 use Rattle.cbor4ii_items.specs.Laws.Answering.{refuses_as}
 use Rattle.cbor4ii_items.specs.Laws.Steps.{moves_ok, moves_err}
 use Rattle.cbor4ii.specs.declared.serde.de.error.DecodeError.{DecodeError}

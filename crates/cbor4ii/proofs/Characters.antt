@@ -13,7 +13,7 @@ use Rattle.cbor4ii_rw.specs.declared.error.DecodeError.TheVariants.{Custom}
 use Rattle.cbor4ii_items.specs.Moves.{Moves}
 use Rattle.cbor4ii_items.specs.Decoding.{Sound, Refuses, Stops}
 use Rattle.cbor4ii_items.specs.Strings.{ReadsText, ReadsTextAs, StopsText, text_content}
-use Rattle.cbor4ii_items.specs.StringLaws.{text_one}
+use Rattle.cbor4ii_items.specs.Laws.Strings.{text_one}
 use Rattle.cbor4ii_items.specs.Laws.Answering.{refuses_as}
 use Rattle.cbor4ii.specs.Character.{ReadsChar, StopsChar, NoCharacter}
 use Rattle.cbor4ii.specs.Character.StopsChar.{no_text, not_one}

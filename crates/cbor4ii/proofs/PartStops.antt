@@ -9,7 +9,7 @@ use Rattle.cbor4ii_rw.specs.declared.error.DecodeError.TheVariants.{RequireLengt
 use Rattle.cbor4ii_rw.specs.declared.error.Len.TheVariants.{Indefinite}
 use Rattle.cbor4ii_items.specs.Decoding.{Reads, StopsAt, Stops}
 use Rattle.cbor4ii_items.specs.Lengths.{StopsLength}
-use Rattle.cbor4ii_items.specs.ProgramEnds.{break_refused}
+use Rattle.cbor4ii_items.specs.Laws.ProgramEnds.{break_refused}
 use Rattle.cbor4ii_items.specs.Reading.{Runs}
 use Rattle.cbor4ii_items.specs.ReadStrings.{break_at}
 use Rattle.cbor4ii_items.specs.Refusal.{refusal_of}

@@ -12,9 +12,9 @@ use Rattle.cbor4ii.specs.Typed.{as_core}
 use Rattle.cbor4ii.specs.Tuples.{ReadsBehind, ReadsCountOf, StopsCountOf, told_length, four_is_small}
 use Rattle.cbor4ii_items.specs.Refusal.{Refusal, refusal_of, len_of}
 use Rattle.cbor4ii_items.specs.Moves.{Kept}
-use Rattle.cbor4ii_items.specs.Fronts.{drop_more}
-use Rattle.cbor4ii_items.specs.HeadLaws.{head_one}
-use Rattle.cbor4ii_items.specs.StringLaws.{head_not_open}
+use Rattle.cbor4ii_items.specs.Laws.Fronts.{drop_more}
+use Rattle.cbor4ii_items.specs.Laws.Heads.{head_one}
+use Rattle.cbor4ii_items.specs.Laws.Strings.{head_not_open}
 use Rattle.cbor4ii_items.specs.Lengths.{ReadsLength, StopsLength}
 use Rattle.cbor4ii_items.specs.Decoding.{CostFits, Sound, NoneRead, Refuses, Stops}
 use Rattle.cbor4ii_items.specs.Laws.Answering.{if_some}

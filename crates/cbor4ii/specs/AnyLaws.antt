@@ -4,11 +4,11 @@ use Rattle.std.specs.declared.alloc.Global.{Global}
 use Rattle.std.specs.declared.vec.Vec.{Vec}
 use Rattle.cbor4ii_items.specs.Decoding.{Reads}
 use Rattle.cbor4ii_items.specs.Floats.{float_one, float_within, float_positive}
-use Rattle.cbor4ii_items.specs.BigLaws.{u128_one, u128_within, u128_positive, i128_one, i128_within, i128_positive}
+use Rattle.cbor4ii_items.specs.Laws.Bignums.{u128_one, u128_within, u128_positive, i128_one, i128_within, i128_positive}
 use Rattle.cbor4ii_items.specs.Sequences.{ReadsParts, Unbroken, ReadsInside, ReadsSequence, ReadsPair, SamePair, SameParts}
-use Rattle.cbor4ii_items.specs.SequenceLaws.{sequence_one, sequence_within, sequence_positive}
+use Rattle.cbor4ii_items.specs.Laws.Sequences.{sequence_one, sequence_within, sequence_positive}
 use Rattle.cbor4ii_items.specs.Simple.{simple_one, simple_within, simple_positive, bool_one, bool_within, bool_positive}
-use Rattle.cbor4ii_items.specs.StringLaws.{two_small, as_one, as_within, as_positive, text_one, text_within, text_positive}
+use Rattle.cbor4ii_items.specs.Laws.Strings.{two_small, as_one, as_within, as_positive, text_one, text_within, text_positive}
 use Rattle.cbor4ii_items.specs.Strings.{bytes_content, text_content}
 use Rattle.cbor4ii_tree.specs.Item.{item, bytes_item, text, sequence, mapping}
 use Rattle.cbor4ii_tree.specs.View.{view, items_view, members_view}

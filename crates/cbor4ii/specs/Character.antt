@@ -6,7 +6,7 @@ use Rattle.std.specs.Char.{encode_utf8}
 use Rattle.cbor4ii_items.specs.Decoding.{Reads, CostFits}
 use Rattle.cbor4ii_items.specs.Refusal.{Refusal, custom}
 use Rattle.cbor4ii_items.specs.Strings.{ReadsText, ReadsTextAs, StopsText}
-use Rattle.cbor4ii_items.specs.StringLaws.{text_one, text_within, text_positive}
+use Rattle.cbor4ii_items.specs.Laws.Strings.{text_one, text_within, text_positive}
 use Rattle.cbor4ii.specs.Typed.{Lawful}
 
 -- a text of one character

@@ -8,9 +8,9 @@ use Rattle.cbor4ii_items.specs.Decoding.{Reads, StopsAt}
 use Rattle.cbor4ii_items.specs.Refusal.{Refusal, eof, mismatch, require_length, len_of}
 use Rattle.cbor4ii_items.specs.Lengths.{ReadsLength, StopsLength}
 use Rattle.cbor4ii_items.specs.Heads.{ReadsHead}
-use Rattle.cbor4ii_items.specs.HeadLaws.{head_one, head_read}
+use Rattle.cbor4ii_items.specs.Laws.Heads.{head_one, head_read}
 use Rattle.cbor4ii_items.specs.Sequences.{ReadsPair, SamePair}
-use Rattle.cbor4ii_items.specs.SequenceLaws.{pair_within, pair_positive}
+use Rattle.cbor4ii_items.specs.Laws.Sequences.{pair_within, pair_positive}
 use Rattle.cbor4ii.specs.Typed.{Lawful, any_two}
 
 -- an array of no item, in one byte

@@ -5,7 +5,7 @@ use Rattle.cbor4ii_rw.specs.declared.error.DecodeError.{DecodeError}
 use Rattle.cbor4ii_items.specs.declared.types.Negative.{Negative}
 use Rattle.cbor4ii_items.specs.Decoding.{Sound, Refuses}
 use Rattle.cbor4ii_items.specs.ReadHead.{head_at}
-use Rattle.cbor4ii_items.specs.HeadLaws.{read_head}
+use Rattle.cbor4ii_items.specs.Laws.Heads.{read_head}
 use Rattle.cbor4ii_items.specs.Numbers.{ReadsNegative, ReadsArgument, StopsArgument}
 use Rattle.cbor4ii_items.specs.Laws.Arguments.{argument_again}
 use Rattle.cbor4ii_items.specs.Laws.Answering.{refuses_as}

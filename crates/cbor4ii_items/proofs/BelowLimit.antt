@@ -3,7 +3,7 @@ use Rattle.std.proofs.Common.{◌≡◌, ℕ, ◌≤◌, List, Ok, Err, Bool, tr
 use Rattle.cbor4ii_items.specs.Refusal.{Refusal, cast_overflow}
 use Rattle.cbor4ii_items.specs.Reading.{give, refuse}
 use Rattle.cbor4ii_items.specs.ReadNumber.{below}
-use Rattle.cbor4ii_items.specs.Outcome.{same_value, same_refusal}
+use Rattle.cbor4ii_items.specs.Laws.Outcome.{same_value, same_refusal}
 
 below_by : (t : Bool) (name : List ℕ) (limit v k : ℕ) (ys zs : List ℕ) → ltb v limit ≡ t → cond t (give v) (refuse (cast_overflow name)) ys ≡ Ok (k, zs) → (v ≡ k) × (ys ≡ zs) × (v < limit)
 below_by true name limit v k ys zs h e = let p = same_value (Ok (v, ys)) refl e in (p.0, p.1, ltb-true v limit h)

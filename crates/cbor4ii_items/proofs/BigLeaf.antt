@@ -9,17 +9,17 @@ use Rattle.cbor4ii_items.specs.Refusal.{Refusal, eof, mismatch, require_length, 
 use Rattle.cbor4ii_items.specs.Reading.{give, refuse, ◌>=>◌}
 use Rattle.cbor4ii_items.specs.Heads.{ReadsHead}
 use Rattle.cbor4ii_items.specs.ReadHead.{head_at, head_by, length_at, number_on}
-use Rattle.cbor4ii_items.specs.HeadLaws.{read_head, number_inverse, IsBytes-take}
+use Rattle.cbor4ii_items.specs.Laws.Heads.{read_head, number_inverse, IsBytes-take}
 use Rattle.cbor4ii_items.specs.ReadNumber.{below, magnitude_by, magnitude_at, u128_tagged, u128_at, small_magnitude_at, i128_tagged, i128_at, as_positive, as_negative}
 use Rattle.cbor4ii_items.specs.Magnitude.{number_of}
 use Rattle.cbor4ii_items.specs.Numbers.{ReadsMagnitude, ReadsBignum, ReadsU128, ReadsI128, StopsMagnitude, length_refused, length_open, length_too_great, content_cut, StopsU128, no_u128_byte, u128_head_refused, u128_tag_refused, other_u128_tag, u128_bytes_refused, StopsI128, no_i128_byte, i128_head_refused, i128_negative_refused, i128_tag_refused, other_i128_tag, i128_bytes_refused, i128_negative_bytes_refused, i128_too_great}
-use Rattle.cbor4ii_items.specs.Outcome.{same_value, same_refusal}
-use Rattle.cbor4ii_items.specs.Fronts.{drop_more}
-use Rattle.cbor4ii_items.specs.BigLaws.{u128_again, i128_again}
+use Rattle.cbor4ii_items.specs.Laws.Outcome.{same_value, same_refusal}
+use Rattle.cbor4ii_items.specs.Laws.Fronts.{drop_more}
+use Rattle.cbor4ii_items.specs.Laws.Bignums.{u128_again, i128_again}
 use Rattle.cbor4ii_items.proofs.Leaves.{IsLeaf}
 use Rattle.cbor4ii_items.proofs.Stopping.{head_stops, number_cut}
 use Rattle.cbor4ii_items.proofs.SignedLeaf.{sign_given, sign_refused}
-use Rattle.cbor4ii_items.specs.ProgramEnds.{ok_parts, ErrParts, err_parts, Passed, LeavesEnd, number_leaves, head_leaves, length_leaves, if_leaves, then_leaves, refuse_leaves}
+use Rattle.cbor4ii_items.specs.Laws.ProgramEnds.{ok_parts, ErrParts, err_parts, Passed, LeavesEnd, number_leaves, head_leaves, length_leaves, if_leaves, then_leaves, refuse_leaves}
 use Rattle.cbor4ii_items.proofs.BelowLimit.{below_ok, below_err}
 
 -- ---- lengths

@@ -11,7 +11,7 @@ use Rattle.cbor4ii_items.specs.ReadHead.{head_at, length_at, number_on}
 use Rattle.cbor4ii_items.specs.ReadNumber.{magnitude_by, magnitude_at, u128_tagged, u128_by, u128_at, i128_tagged, i128_by, i128_at, as_positive, as_negative}
 use Rattle.cbor4ii_items.specs.Laws.Running.{runs_as, runs_then, runs_with}
 use Rattle.cbor4ii_items.proofs.SignedRuns.{first_major, runs_where}
-use Rattle.cbor4ii_items.specs.BigLaws.{i128_positive_by, i128_negative_by}
+use Rattle.cbor4ii_items.specs.Laws.Bignums.{i128_positive_by, i128_negative_by}
 
 short_by : (name : List ℕ) (count : ℕ) → count ≤ 16 → magnitude_by name (Some count) ≡ number_on name count count 0
 short_by name count h = let t : ltb 16 count ≡ false = le-ltb 16 count h in rw t refl

@@ -9,11 +9,11 @@ use Rattle.cbor4ii_items.specs.Moves.{Kept}
 use Rattle.cbor4ii_items.specs.Reading.{Runs, peek_at}
 use Rattle.cbor4ii_items.specs.Decoding.{Reads, StopsAt, CostFits, Sound, NoneRead, Refuses, Stops}
 use Rattle.cbor4ii_items.specs.Heads.{ReadsHead, StopsHead}
-use Rattle.cbor4ii_items.specs.HeadLaws.{head_one}
+use Rattle.cbor4ii_items.specs.Laws.Heads.{head_one}
 use Rattle.cbor4ii_items.specs.Numbers.{ReadsArgument, StopsArgument}
 use Rattle.cbor4ii_items.specs.Containers.{BeginsNull, ReadsOption, StopsOption, ReadsTag, StopsTag}
-use Rattle.cbor4ii_items.specs.Outcome.{same_refusal}
-use Rattle.cbor4ii_items.specs.Fronts.{drop_more}
+use Rattle.cbor4ii_items.specs.Laws.Outcome.{same_refusal}
+use Rattle.cbor4ii_items.specs.Laws.Fronts.{drop_more}
 use Rattle.cbor4ii_items.specs.Laws.Running.{peeked}
 use Rattle.cbor4ii_items.specs.Laws.Answering.{fits_zero, if_some}
 

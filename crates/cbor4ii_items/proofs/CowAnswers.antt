@@ -9,10 +9,10 @@ use Rattle.cbor4ii_items.specs.Reading.{Reading, Runs}
 use Rattle.cbor4ii_items.specs.ReadHead.{length_at}
 use Rattle.cbor4ii_items.specs.ReadStrings.{content_on, string_at}
 use Rattle.cbor4ii_items.specs.Following.{Follows}
-use Rattle.cbor4ii_items.specs.Contents.{content_whole}
-use Rattle.cbor4ii_items.specs.Outcome.{same_value}
-use Rattle.cbor4ii_items.specs.ProgramEnds.{length_none, content_inverse}
-use Rattle.cbor4ii_items.specs.StringLaws.{length_open}
+use Rattle.cbor4ii_items.specs.Laws.CountedContent.{content_whole}
+use Rattle.cbor4ii_items.specs.Laws.Outcome.{same_value}
+use Rattle.cbor4ii_items.specs.Laws.ProgramEnds.{length_none, content_inverse}
+use Rattle.cbor4ii_items.specs.Laws.Strings.{length_open}
 use Rattle.cbor4ii_items.specs.Strings.{ReadsString, StopsString, StopsText}
 use Rattle.cbor4ii_items.specs.Lent.{Lends, Stays}
 use Rattle.cbor4ii_items.specs.Cow.{ReadsEither, StopsEither, TakesContent, BorrowsWhereCounted, IsBorrowedWhereWhole}

@@ -7,12 +7,12 @@ use Rattle.cbor4ii_rw.specs.Reader.{Shows, Advances, IsFront}
 use Rattle.cbor4ii_items.specs.Head.{IsBytes}
 use Rattle.cbor4ii_items.specs.Refusal.{Refusal}
 use Rattle.cbor4ii_items.specs.ReadHead.{number_on}
-use Rattle.cbor4ii_items.specs.HeadLaws.{number_is, number_inverse, onto-lt, bytes_onto}
+use Rattle.cbor4ii_items.specs.Laws.Heads.{number_is, number_inverse, onto-lt, bytes_onto}
 use Rattle.cbor4ii_items.specs.Magnitude.{number_of}
 use Rattle.cbor4ii_items.specs.Reading.{Runs}
 use Rattle.cbor4ii_items.specs.Marked.{marked_at}
 use Rattle.cbor4ii_items.specs.Floats.{float_bytes, IsInFront, ReadsFloat, CutFloat, StopsFloat, float_at, float_again}
-use Rattle.cbor4ii_items.specs.ProgramEnds.{ok_parts, err_parts, ErrParts}
+use Rattle.cbor4ii_items.specs.Laws.ProgramEnds.{ok_parts, err_parts, ErrParts}
 use Rattle.cbor4ii_items.specs.Laws.Contents.{lends_front}
 use Rattle.cbor4ii_items.proofs.Leaves.{IsLeaf}
 use Rattle.cbor4ii_items.proofs.Stopping.{number_cut}

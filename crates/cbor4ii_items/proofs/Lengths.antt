@@ -6,9 +6,9 @@ use Rattle.cbor4ii_rw.specs.declared.error.DecodeError.{DecodeError}
 use Rattle.cbor4ii_items.specs.Head.{IsBytes, open_head}
 use Rattle.cbor4ii_items.specs.Reading.{Reading, Runs}
 use Rattle.cbor4ii_items.specs.ReadHead.{length_at}
-use Rattle.cbor4ii_items.specs.HeadLaws.{read_head, head_read}
-use Rattle.cbor4ii_items.specs.ProgramEnds.{length_some, length_none}
-use Rattle.cbor4ii_items.specs.StringLaws.{length_known, length_open}
+use Rattle.cbor4ii_items.specs.Laws.Heads.{read_head, head_read}
+use Rattle.cbor4ii_items.specs.Laws.ProgramEnds.{length_some, length_none}
+use Rattle.cbor4ii_items.specs.Laws.Strings.{length_known, length_open}
 use Rattle.cbor4ii_items.specs.Lengths.{ReadsLength, StopsLength}
 use Rattle.cbor4ii_items.specs.Laws.Arguments.{ReadBy}
 use Rattle.cbor4ii_items.proofs.Leaves.{IsLeaf}

@@ -10,9 +10,9 @@ use Rattle.cbor4ii_items.specs.Moves.{Kept, Broke, Moves}
 use Rattle.cbor4ii_items.specs.Refusal.{Refusal, refusal_of, is_out_of_memory, require_length, len_of}
 use Rattle.cbor4ii_items.specs.Decoding.{IsExact, Sound, NoneRead, Refuses, Stops}
 use Rattle.cbor4ii_items.specs.Heads.{ReadsHead}
-use Rattle.cbor4ii_items.specs.HeadLaws.{head_read, head_one}
+use Rattle.cbor4ii_items.specs.Laws.Heads.{head_read, head_one}
 use Rattle.cbor4ii_items.specs.Numbers.{ReadsArgument, StopsArgument}
-use Rattle.cbor4ii_items.specs.Fronts.{drop_more}
+use Rattle.cbor4ii_items.specs.Laws.Fronts.{drop_more}
 use Rattle.cbor4ii_items.specs.Strings.{ReadsCountedString}
 use Rattle.cbor4ii_items.specs.Lent.{ReadsLent, StopsLent, BeginsLent, begins_refused, none_is_lent, few_are_lent, begins_no_utf8, lent_head_refused, too_few, lent_no_utf8, Lends, LacksContent, lack_refusal, lack_is_read, Named}
 use Rattle.cbor4ii_items.specs.Laws.Answering.{fits_zero, refuses_as}

@@ -5,7 +5,7 @@ use Rattle.std.proofs.lemmas.List.{length-drop}
 use Rattle.cbor4ii_rw.specs.View.{View}
 use Rattle.cbor4ii_items.specs.Refusal.{Refusal, mismatch}
 use Rattle.cbor4ii_items.specs.Reading.{byte_at, Runs}
-use Rattle.cbor4ii_items.specs.Outcome.{same_value, same_refusal}
+use Rattle.cbor4ii_items.specs.Laws.Outcome.{same_value, same_refusal}
 use Rattle.cbor4ii_items.specs.Laws.Arguments.{ReadBy}
 use Rattle.cbor4ii_items.specs.Marked.{NoneBegins, marked_at, within_marks}
 use Rattle.cbor4ii_items.specs.Simple.{ReadsBool, StopsBool, IsBool, bool_byte, bool_at, bool_within, bool_positive}

@@ -9,16 +9,16 @@ use Rattle.cbor4ii_items.specs.Refusal.{Refusal, refusal_of, require_length, len
 use Rattle.cbor4ii_items.specs.Moves.{Kept}
 use Rattle.cbor4ii_items.specs.Reading.{refuse, go_on}
 use Rattle.cbor4ii_items.specs.Decoding.{Reads, StopsAt, CostFits, NoneRead, Sound, Refuses, Stops}
-use Rattle.cbor4ii_items.specs.Outcome.{same_value, same_refusal}
+use Rattle.cbor4ii_items.specs.Laws.Outcome.{same_value, same_refusal}
 use Rattle.cbor4ii_items.specs.Heads.{ReadsHead}
-use Rattle.cbor4ii_items.specs.HeadLaws.{read_head, head_read, head_one}
+use Rattle.cbor4ii_items.specs.Laws.Heads.{read_head, head_read, head_one}
 use Rattle.cbor4ii_items.specs.ReadHead.{length_at}
-use Rattle.cbor4ii_items.specs.ProgramEnds.{ok_parts, err_parts, length_some, length_none}
-use Rattle.cbor4ii_items.specs.StringLaws.{length_known}
-use Rattle.cbor4ii_items.specs.Fronts.{drop_more}
+use Rattle.cbor4ii_items.specs.Laws.ProgramEnds.{ok_parts, err_parts, length_some, length_none}
+use Rattle.cbor4ii_items.specs.Laws.Strings.{length_known}
+use Rattle.cbor4ii_items.specs.Laws.Fronts.{drop_more}
 use Rattle.cbor4ii_items.specs.Laws.Arguments.{ReadBy}
 use Rattle.cbor4ii_items.specs.Maybe.{ReadsFew, ReadsMaybe, StopsFew, few_head_refused, few_open, few_other, StopsMaybe, maybe_head_refused, maybe_item_refused, few_by, few_at}
-use Rattle.cbor4ii_items.specs.MaybeLaws.{two_counts}
+use Rattle.cbor4ii_items.specs.Laws.Maybe.{two_counts}
 use Rattle.cbor4ii_items.specs.Laws.Answering.{fits_zero, refuses_as, if_some}
 use Rattle.cbor4ii_items.proofs.Leaves.{IsLeaf}
 use Rattle.cbor4ii_items.proofs.StringsRead.{no_length}

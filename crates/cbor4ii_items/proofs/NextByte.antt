@@ -6,7 +6,7 @@ use Rattle.cbor4ii_rw.specs.declared.error.DecodeError.{DecodeError}
 use Rattle.cbor4ii_rw.specs.declared.error.Len.TheVariants.{Small}
 use Rattle.cbor4ii_items.specs.Decoding.{Sound, NoneRead, Refuses, Stops}
 use Rattle.cbor4ii_items.specs.Next.{ReadsNext, StopsNext, ReadsFollows}
-use Rattle.cbor4ii_items.specs.Outcome.{same_refusal}
+use Rattle.cbor4ii_items.specs.Laws.Outcome.{same_refusal}
 use Rattle.cbor4ii_items.specs.Reading.{peek_at, Runs}
 use Rattle.cbor4ii_items.specs.Refusal.{Refusal, eof}
 use Rattle.cbor4ii_items.specs.Strings.{ReadsBreak}

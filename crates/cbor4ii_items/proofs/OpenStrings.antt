@@ -6,7 +6,7 @@ use Rattle.cbor4ii_rw.specs.declared.error.DecodeError.{DecodeError}
 use Rattle.cbor4ii_items.specs.Reading.{Reading, ◌>=>◌, Runs, Reaches}
 use Rattle.cbor4ii_items.specs.ReadHead.{length_at}
 use Rattle.cbor4ii_items.specs.ReadStrings.{content_on, break_at, chunk_by, chunk_inside, chunk_at, chunks_at, string_by, string_at}
-use Rattle.cbor4ii_items.specs.ChunkLaws.{chunks_by, chunks_more}
+use Rattle.cbor4ii_items.specs.Laws.Chunks.{chunks_by, chunks_more}
 use Rattle.cbor4ii_items.specs.Following.{Follows}
 use Rattle.cbor4ii_items.specs.Laws.Running.{runs_give, reaches_as, reaches_then}
 use Rattle.cbor4ii_items.specs.Laws.UnderStep.{step_again, step_unbound, follows_around}

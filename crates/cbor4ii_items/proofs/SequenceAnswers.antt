@@ -6,13 +6,13 @@ use Rattle.cbor4ii_rw.specs.View.{View}
 use Rattle.cbor4ii_rw.specs.Reader.{KeepsAllButBudget, StepsIn}
 use Rattle.cbor4ii_rw.specs.declared.error.DecodeError.{DecodeError}
 use Rattle.cbor4ii_items.specs.declared.types.Map.{Map}
-use Rattle.cbor4ii_items.specs.HeadLaws.{read_head}
+use Rattle.cbor4ii_items.specs.Laws.Heads.{read_head}
 use Rattle.cbor4ii_items.specs.Refusal.{Refusal, refusal_of}
 use Rattle.cbor4ii_items.specs.Reading.{Runs}
 use Rattle.cbor4ii_items.specs.ReadHead.{length_at}
 use Rattle.cbor4ii_items.specs.Decoding.{Reads, StopsAt, CostFits, Sound, NoneRead, Refuses, Stops}
-use Rattle.cbor4ii_items.specs.ProgramEnds.{length_some, length_none}
-use Rattle.cbor4ii_items.specs.StringLaws.{length_known, length_open}
+use Rattle.cbor4ii_items.specs.Laws.ProgramEnds.{length_some, length_none}
+use Rattle.cbor4ii_items.specs.Laws.Strings.{length_known, length_open}
 use Rattle.cbor4ii_items.specs.Sequences.{ReadsCount, ReadsUpToBreak, ReadsInside, ReadsSequence, StopsCount, StopsUpToBreak, StopsInside, length_refused, counted_refused, open_refused, after_step, StopsSequence, under_step}
 use Rattle.cbor4ii_items.specs.Laws.Answering.{same_some, if_some}
 use Rattle.cbor4ii_items.proofs.StringsRead.{no_length}

@@ -11,16 +11,16 @@ use Rattle.cbor4ii_items.specs.Refusal.{Refusal, refusal_of, is_read, is_out_of_
 use Rattle.cbor4ii_items.specs.Initial.{wide, info_of}
 use Rattle.cbor4ii_items.specs.Reading.{Reading, give, refuse, ◌>=>◌, Runs, peek_at}
 use Rattle.cbor4ii_items.specs.Decoding.{Sound, Refuses, Stops}
-use Rattle.cbor4ii_items.specs.Outcome.{same_value, same_refusal}
+use Rattle.cbor4ii_items.specs.Laws.Outcome.{same_value, same_refusal}
 use Rattle.cbor4ii_items.specs.Heads.{ReadsHead}
-use Rattle.cbor4ii_items.specs.HeadLaws.{read_head, head_read, additional-lt}
+use Rattle.cbor4ii_items.specs.Laws.Heads.{read_head, head_read, additional-lt}
 use Rattle.cbor4ii_items.specs.ReadHead.{head_at}
 use Rattle.cbor4ii_items.specs.ReadStrings.{content_on}
 use Rattle.cbor4ii_items.specs.ReadShortest.{is_open_head, shortest_by, shortest_at, shortest_string_at}
 use Rattle.cbor4ii_items.specs.Shortest.{canonical_name, OpensLength, ReadsShortest, StopsShortest, shortest_refused, shortest_open, too_long, ReadsShortestString, StopsShortestString, length_refused, content_cut}
 use Rattle.cbor4ii_items.specs.Following.{Follows, listed}
-use Rattle.cbor4ii_items.specs.ProgramEnds.{Passed, ok_parts, err_parts, head_leaves, content_inverse}
-use Rattle.cbor4ii_items.specs.Fronts.{drop_more}
+use Rattle.cbor4ii_items.specs.Laws.ProgramEnds.{Passed, ok_parts, err_parts, head_leaves, content_inverse}
+use Rattle.cbor4ii_items.specs.Laws.Fronts.{drop_more}
 use Rattle.cbor4ii_items.specs.Laws.Answering.{Seen, seen_of, Found, fits_zero, sound_by, refuses_by, stops_by}
 use Rattle.cbor4ii_items.specs.Laws.Arguments.{ReadBy}
 use Rattle.cbor4ii_items.specs.Laws.Running.{as_of, peeked, runs_as, runs_then, runs_err, runs_give, runs_refuse, runs_byte}

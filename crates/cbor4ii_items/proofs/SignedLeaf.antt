@@ -7,14 +7,14 @@ use Rattle.cbor4ii_items.specs.Refusal.{Refusal, eof, mismatch}
 use Rattle.cbor4ii_items.specs.Reading.{Reading, refuse, go_on, ◌>=>◌}
 use Rattle.cbor4ii_items.specs.Heads.{ReadsHead}
 use Rattle.cbor4ii_items.specs.ReadHead.{head_at}
-use Rattle.cbor4ii_items.specs.HeadLaws.{read_head}
+use Rattle.cbor4ii_items.specs.Laws.Heads.{read_head}
 use Rattle.cbor4ii_items.specs.ReadNumber.{below, half_at, as_positive, as_negative, signed_at}
 use Rattle.cbor4ii_items.specs.Numbers.{ReadsSigned, StopsHalf, head_refused, argument_too_great, StopsSigned, no_signed_byte, no_signed_head, positive_refused, negative_refused}
-use Rattle.cbor4ii_items.specs.Outcome.{same_value, same_refusal}
-use Rattle.cbor4ii_items.specs.SignedLaws.{signed_again}
+use Rattle.cbor4ii_items.specs.Laws.Outcome.{same_value, same_refusal}
+use Rattle.cbor4ii_items.specs.Laws.Signed.{signed_again}
 use Rattle.cbor4ii_items.proofs.Leaves.{IsLeaf}
 use Rattle.cbor4ii_items.proofs.Stopping.{head_stops}
-use Rattle.cbor4ii_items.specs.ProgramEnds.{ok_parts, err_parts, ErrParts}
+use Rattle.cbor4ii_items.specs.Laws.ProgramEnds.{ok_parts, err_parts, ErrParts}
 use Rattle.cbor4ii_items.proofs.BelowLimit.{below_ok, below_err}
 
 half_means : (name : List ℕ) (major width limit : ℕ) (xs : List ℕ) (k n : ℕ) → half_at name major width limit xs ≡ Ok (k, drop n xs) → n ≤ length xs → IsBytes (take n xs) → ReadsHead major width xs k n × (k < limit)

@@ -14,7 +14,7 @@ use Rattle.cbor4ii_items.specs.Reading.{Reading, Runs, refuse, peek_at, ◌>=>�
 use Rattle.cbor4ii_items.specs.ReadHead.{head_at, argument_at}
 use Rattle.cbor4ii_items.specs.ReadNumber.{below, half_at, signed_by, signed_at, as_positive, as_negative}
 use Rattle.cbor4ii_items.specs.Laws.Running.{as_of, runs_as, runs_then, runs_err, runs_with, runs_give, runs_refuse}
-use Rattle.cbor4ii_items.specs.SignedLaws.{signed_positive_by, signed_negative_by}
+use Rattle.cbor4ii_items.specs.Laws.Signed.{signed_positive_by, signed_negative_by}
 
 pub runs_positive : {E : Type 0} (name plus minus : List ℕ) (width limit b : ℕ) {a m c : View} {r : Result ℤ (DecodeError E)} → b / 32 ≡ 0 → Runs {E = E} (peek_at name 1) a m (Ok b) → Runs (half_at plus 0 width limit >=> as_positive) m c r → Runs (signed_at name plus minus width limit) a c r
 runs_positive name plus minus width limit b e p q = runs_then (signed_by name plus minus width limit) p (runs_as (signed_positive_by name plus minus width limit b e) q)

@@ -5,10 +5,10 @@ use Rattle.cbor4ii_rw.specs.declared.error.Len.TheVariants.{Small}
 use Rattle.cbor4ii_items.specs.Head.{Width, in_first, one as w_one, two, four, eight, byte_count, HeadFits, additional}
 use Rattle.cbor4ii_items.specs.Refusal.{Refusal, mismatch, eof}
 use Rattle.cbor4ii_items.specs.Reading.{give, refuse, byte_at}
-use Rattle.cbor4ii_items.specs.Outcome.{same_refusal}
+use Rattle.cbor4ii_items.specs.Laws.Outcome.{same_refusal}
 use Rattle.cbor4ii_items.specs.Heads.{Begins, NotAHead, CutHead, StopsHead}
 use Rattle.cbor4ii_items.specs.ReadHead.{head_at, argument_at, number_on, following, allowed}
-use Rattle.cbor4ii_items.specs.HeadLaws.{additional-lt, allowed_parts, two_parts, wide_of}
+use Rattle.cbor4ii_items.specs.Laws.Heads.{additional-lt, allowed_parts, two_parts, wide_of}
 
 -- a number is refused only where too few bytes follow
 pub number_cut : (name : List ℕ) (expect k high : ℕ) (bs : List ℕ) (z : Refusal) (ys : List ℕ) → number_on name expect k high bs ≡ Err (z, ys) → (length bs < k) × (z ≡ eof name (Small expect)) × (ys ≡ [])

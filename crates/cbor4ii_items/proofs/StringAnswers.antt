@@ -12,7 +12,7 @@ use Rattle.cbor4ii_items.specs.Decoding.{Sound, Refuses, Stops}
 use Rattle.cbor4ii_items.specs.Following.{Follows, listed}
 use Rattle.cbor4ii_items.specs.ReadStrings.{string_at}
 use Rattle.cbor4ii_items.specs.Strings.{ReadsString, ReadsAs, ReadsTextAs, StopsString, StopsText, no_string, no_utf8}
-use Rattle.cbor4ii_items.specs.StringLaws.{string_again, string_one, three_small}
+use Rattle.cbor4ii_items.specs.Laws.Strings.{string_again, string_one, three_small}
 use Rattle.cbor4ii_items.specs.Laws.Answering.{refuses_as, sound_by, refuses_by, stops_by}
 use Rattle.cbor4ii_items.proofs.StringsRead.{string_read, string_stops}
 

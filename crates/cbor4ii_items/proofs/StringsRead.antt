@@ -7,16 +7,16 @@ use Rattle.cbor4ii_items.specs.Head.{break, open_head, IsBytes}
 use Rattle.cbor4ii_items.specs.Refusal.{Refusal, eof, require_length, depth_overflow, len_of}
 use Rattle.cbor4ii_items.specs.Reading.{Reading, give, refuse, go_on, ◌>=>◌}
 use Rattle.cbor4ii_items.specs.Decoding.{CostFits}
-use Rattle.cbor4ii_items.specs.Outcome.{same_value, same_refusal}
+use Rattle.cbor4ii_items.specs.Laws.Outcome.{same_value, same_refusal}
 use Rattle.cbor4ii_items.specs.Heads.{ReadsHead, StopsHead}
-use Rattle.cbor4ii_items.specs.HeadLaws.{read_head}
+use Rattle.cbor4ii_items.specs.Laws.Heads.{read_head}
 use Rattle.cbor4ii_items.specs.ReadHead.{head_at, head_by, length_at}
 use Rattle.cbor4ii_items.specs.ReadStrings.{content_on, break_at, chunk_by, chunk_inside, chunk_at, chunks_on, string_by, string_at}
-use Rattle.cbor4ii_items.specs.ProgramEnds.{ok_parts, err_parts, length_passed, length_some, length_none, content_inverse, break_yes, break_no, break_refused, chunk_passed, not_first}
-use Rattle.cbor4ii_items.specs.ChunkLaws.{chunks_by}
-use Rattle.cbor4ii_items.specs.Fronts.{drop_more}
+use Rattle.cbor4ii_items.specs.Laws.ProgramEnds.{ok_parts, err_parts, length_passed, length_some, length_none, content_inverse, break_yes, break_no, break_refused, chunk_passed, not_first}
+use Rattle.cbor4ii_items.specs.Laws.Chunks.{chunks_by}
+use Rattle.cbor4ii_items.specs.Laws.Fronts.{drop_more}
 use Rattle.cbor4ii_items.specs.Strings.{ReadsCountedString, ReadsChunks, joined, chunk_cost, ReadsString, CutContent, StopsChunk, no_chunk_byte, no_step, chunk_open, chunk_refused, chunk_cut, StopsOpen, StopsString, string_head_refused, string_cut, string_open}
-use Rattle.cbor4ii_items.specs.StringLaws.{BeginsWith, HasStep}
+use Rattle.cbor4ii_items.specs.Laws.Strings.{BeginsWith, HasStep}
 use Rattle.cbor4ii_items.specs.Laws.Answering.{Seen, Found, fits_zero}
 use Rattle.cbor4ii_items.specs.Laws.Contents.{IsBytes-append}
 use Rattle.cbor4ii_items.proofs.Stopping.{head_stops}

@@ -9,7 +9,7 @@ use Rattle.cbor4ii_items.specs.Head.{IsBytes}
 use Rattle.cbor4ii_items.specs.Refusal.{Refusal, eof}
 use Rattle.cbor4ii_items.specs.Reading.{Reading, ◌>=>◌}
 use Rattle.cbor4ii_items.specs.ReadHead.{number_on}
-use Rattle.cbor4ii_items.specs.HeadLaws.{number_again, length-bytes_high_first}
+use Rattle.cbor4ii_items.specs.Laws.Heads.{number_again, length-bytes_high_first}
 use Rattle.cbor4ii_items.specs.Laws.Arguments.{ReadBy, leaf_one, leaf_within, leaf_positive}
 use Rattle.cbor4ii_items.specs.Marked.{NoneBegins, marked_at, within_marks}
 use Rattle.cbor4ii_items.specs.Decoding.{StopsAt}

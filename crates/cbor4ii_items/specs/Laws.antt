@@ -17,3 +17,16 @@ pub mod PartsBack
 pub mod SequenceParts
 pub mod SequenceInside
 pub mod Pairs
+pub mod Heads
+pub mod Bignums
+pub mod Chunks
+pub mod Containers
+pub mod Lent
+pub mod Maybe
+pub mod Sequences
+pub mod Signed
+pub mod Strings
+pub mod ProgramEnds
+pub mod Fronts
+pub mod Outcome
+pub mod CountedContent

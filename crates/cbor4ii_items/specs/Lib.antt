@@ -1,46 +1,39 @@
 -- What items are, and what reading and writing them answers.
+
+-- ---- the words of public contracts, in the order of docs/DEFINITIONS.md
 pub mod Head
+pub mod Heads
 pub mod Initial
 pub mod Refusal
 pub mod Moves
 pub mod Decoding
-pub mod Reading
-pub mod Heads
-pub mod ReadHead
-pub mod Outcome
-pub mod HeadLaws
-pub mod Numbers
-pub mod Strings
-pub mod ReadStrings
-pub mod Following
-pub mod ProgramEnds
-pub mod ChunkLaws
-pub mod Contents
-pub mod StringLaws
-pub mod Lent
-pub mod Front
-pub mod LentLaws
-pub mod Cow
-pub mod Laws
 pub mod Writing
-pub mod Magnitude
-pub mod ReadNumber
-pub mod Fronts
-pub mod SignedLaws
-pub mod BigLaws
-pub mod Lengths
-pub mod SequenceBytes
-pub mod Containers
-pub mod ContainerLaws
-pub mod Maybe
-pub mod MaybeLaws
-pub mod Sequences
-pub mod SequenceLaws
-pub mod Next
 pub mod ReadBack
-pub mod Marked
-pub mod Simple
+pub mod Numbers
+pub mod Magnitude
 pub mod Floats
+pub mod Simple
+pub mod Containers
+pub mod Maybe
 pub mod Nothing
+pub mod Strings
+pub mod Lent
+pub mod Cow
+pub mod Lengths
+pub mod Sequences
+pub mod SequenceBytes
+pub mod Next
 pub mod Shortest
+
+-- ---- what the decoders do, without the reader: the words of private contracts
+pub mod Reading
+pub mod Following
+pub mod Front
+pub mod Marked
+pub mod ReadHead
+pub mod ReadNumber
+pub mod ReadStrings
 pub mod ReadShortest
+
+-- ---- laws of these words, and of how calls compose
+pub mod Laws

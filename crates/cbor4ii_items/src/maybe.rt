@@ -10,7 +10,7 @@ ghost use Rattle.cbor4ii_items.specs.Maybe.{
   few_at,
   maybe_bytes,
 };
-ghost use Rattle.cbor4ii_items.specs.MaybeLaws.{
+ghost use Rattle.cbor4ii_items.specs.Laws.Maybe.{
   maybe_one,
   maybe_within,
   maybe_positive,

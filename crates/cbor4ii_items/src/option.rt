@@ -1,7 +1,7 @@
 //! Optional items.
 ghost use Rattle.std.specs.Prelude.{◌&&◌};
 ghost use Rattle.cbor4ii_items.specs.Containers.{ReadsOption, SameOption, StopsOption};
-ghost use Rattle.cbor4ii_items.specs.ContainerLaws.{
+ghost use Rattle.cbor4ii_items.specs.Laws.Containers.{
   option_one,
   option_within,
   option_positive,

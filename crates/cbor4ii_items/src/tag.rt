@@ -1,7 +1,7 @@
 //! Tagged items.
 ghost use Rattle.std.specs.Prelude.{◌≡◌, ◌+◌, ◌≤◌, ◌++◌, IfOk, IfErr, OnOk, codes, true, false};
 ghost use Rattle.cbor4ii_items.specs.Containers.{ReadsTag, StopsTag};
-ghost use Rattle.cbor4ii_items.specs.ContainerLaws.{tag_one, tag_within, tag_positive, tag_alone};
+ghost use Rattle.cbor4ii_items.specs.Laws.Containers.{tag_one, tag_within, tag_positive, tag_alone};
 ghost use Rattle.cbor4ii_items.specs.Decoding.{Sound, Refuses, Stops};
 ghost use Rattle.cbor4ii_items.specs.Moves.{Moves};
 ghost use Rattle.cbor4ii_items.specs.Numbers.{ReadsArgument, StopsArgument, shortest_head};

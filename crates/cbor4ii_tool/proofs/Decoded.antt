@@ -8,7 +8,7 @@ use Rattle.cbor4ii_rw.specs.declared.error.DecodeError.{DecodeError}
 use Rattle.cbor4ii_rw.specs.declared.error.DecodeError.TheVariants.{Read, OutOfMemory}
 use Rattle.cbor4ii_items.specs.Head.{in_first, additional, IsBytes}
 use Rattle.cbor4ii_items.specs.Heads.{ReadsHead, StopsHead, NotAHead, CutHead}
-use Rattle.cbor4ii_items.specs.HeadLaws.{additional-lt, after_head, cut_head}
+use Rattle.cbor4ii_items.specs.Laws.Heads.{additional-lt, after_head, cut_head}
 use Rattle.cbor4ii_items.specs.Refusal.{Refusal, mismatch, eof, is_out_of_memory}
 use Rattle.cbor4ii_items.specs.Moves.{Took, Moves}
 use Rattle.cbor4ii_items.specs.Decoding.{Stops}

@@ -3,7 +3,7 @@ use Rattle.std.proofs.Common.{◌≡◌, ℕ, suc, ◌+◌, ◌*◌, ◌≤◌, 
 use Rattle.std.proofs.Common.{◌∙◌, subst, arith, append_assoc, append-nil}
 use Rattle.cbor4ii_items.specs.Head.{Width, in_first, one, two, four, eight, byte_count, additional}
 use Rattle.cbor4ii_items.specs.Heads.{ReadsHead}
-use Rattle.cbor4ii_items.specs.HeadLaws.{additional-lt, head_one, after_head}
+use Rattle.cbor4ii_items.specs.Laws.Heads.{additional-lt, head_one, after_head}
 use Rattle.cbor4ii_tool.specs.Integer.{IntegerHead, IsInteger, spelling, BeginsInteger, BeginsOther}
 use Rattle.cbor4ii_tool.specs.Integer.{IsCutInteger}
 

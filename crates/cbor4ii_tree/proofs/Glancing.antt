@@ -4,7 +4,7 @@ use Rattle.std.proofs.lemmas.List.{length-take-le, take-append-le}
 use Rattle.cbor4ii_items.specs.Head.{Width, in_first, one, two, four, eight, byte_count, IsBytes, break}
 use Rattle.cbor4ii_items.specs.Initial.{info_of, wide, initial}
 use Rattle.cbor4ii_items.specs.ReadHead.{following}
-use Rattle.cbor4ii_items.specs.Fronts.{drop_more}
+use Rattle.cbor4ii_items.specs.Laws.Fronts.{drop_more}
 use Rattle.cbor4ii_tree.specs.Cost.{Budget}
 use Rattle.cbor4ii_tree.specs.Runs.{IsLeafAt}
 use Rattle.cbor4ii_tree.specs.Skipping.{start_of, Leads, StopsBehind}

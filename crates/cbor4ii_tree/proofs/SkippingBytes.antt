@@ -11,7 +11,7 @@ use Rattle.cbor4ii_rw.specs.declared.error.DecodeError.{DecodeError}
 use Rattle.cbor4ii_rw.specs.declared.error.DecodeError.TheVariants.{Eof}
 use Rattle.cbor4ii_items.specs.Head.{Width, in_first, one, two, four, eight, byte_count, additional, HeadFits, IsBytes}
 use Rattle.cbor4ii_items.specs.Initial.{info_of, wide}
-use Rattle.cbor4ii_items.specs.HeadLaws.{number_is, IsBytes-take}
+use Rattle.cbor4ii_items.specs.Laws.Heads.{number_is, IsBytes-take}
 use Rattle.cbor4ii_items.specs.ReadHead.{number_on}
 use Rattle.cbor4ii_items.specs.Reading.{Runs}
 use Rattle.cbor4ii_items.specs.Refusal.{Refusal, refusal_of, eof, len_of}

@@ -6,7 +6,7 @@ use Rattle.cbor4ii_rw.specs.declared.error.DecodeError.{DecodeError}
 use Rattle.cbor4ii_items.specs.Refusal.{Refusal}
 use Rattle.cbor4ii_items.specs.Head.{Width, in_first, one, two, four, eight, byte_count, additional, HeadFits, head, open_head}
 use Rattle.cbor4ii_items.specs.Heads.{StopsHead, Begins}
-use Rattle.cbor4ii_items.specs.HeadLaws.{after_head}
+use Rattle.cbor4ii_items.specs.Laws.Heads.{after_head}
 use Rattle.cbor4ii_items.specs.Numbers.{ReadsUnsigned, StopsUnsigned}
 use Rattle.cbor4ii_items.specs.Moves.{Moves}
 use Rattle.cbor4ii_items.specs.Decoding.{Sound, Stops}

@@ -11,7 +11,7 @@ use Rattle.cbor4ii_rw.specs.declared.error.DecodeError.{DecodeError}
 use Rattle.cbor4ii_items.specs.Refusal.{Refusal, refusal_of, is_read, is_depth_overflow}
 use Rattle.cbor4ii_items.specs.Head.{Width, byte_count, additional, HeadFits, head}
 use Rattle.cbor4ii_items.specs.Heads.{StopsHead, ReadsHead}
-use Rattle.cbor4ii_items.specs.HeadLaws.{after_head}
+use Rattle.cbor4ii_items.specs.Laws.Heads.{after_head}
 use Rattle.cbor4ii_items.specs.Numbers.{ReadsArgument}
 use Rattle.cbor4ii_items.specs.Floats.{ReadsFloat, StopsFloat, float_bytes}
 use Rattle.cbor4ii_items.specs.Moves.{Moves}

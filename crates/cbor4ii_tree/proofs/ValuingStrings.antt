@@ -4,8 +4,8 @@ use Rattle.std.specs.Int.{bytes_high_first}
 use Rattle.cbor4ii_items.specs.Refusal.{Refusal}
 use Rattle.cbor4ii_items.specs.Head.{Width, byte_count, additional, head, open_head, break}
 use Rattle.cbor4ii_items.specs.Heads.{StopsHead, Begins, CutHead}
-use Rattle.cbor4ii_items.specs.HeadLaws.{after_head}
-use Rattle.cbor4ii_items.specs.Fronts.{drop_more}
+use Rattle.cbor4ii_items.specs.Laws.Heads.{after_head}
+use Rattle.cbor4ii_items.specs.Laws.Fronts.{drop_more}
 use Rattle.cbor4ii_items.specs.Decoding.{CostFits}
 use Rattle.cbor4ii_items.specs.Strings as strings
 use Rattle.cbor4ii_items.specs.Strings.{ReadsCountedString, ReadsChunks, chunk_cost, ReadsString, CutContent, StopsChunk, no_chunk_byte, no_step, chunk_open, chunk_refused, chunk_cut, StopsString, string_head_refused, string_cut, string_open, StopsText, no_string, no_utf8}

@@ -6,7 +6,7 @@ use Rattle.cbor4ii_rw.specs.declared.error.DecodeError.{DecodeError}
 use Rattle.cbor4ii_items.specs.Refusal.{Refusal, refusal_of}
 use Rattle.cbor4ii_items.specs.Moves.{Kept}
 use Rattle.cbor4ii_items.specs.Decoding.{Reads, StopsAt, CostFits, NoneRead, Sound, Refuses, Stops}
-use Rattle.cbor4ii_items.specs.Fronts.{drop_more}
+use Rattle.cbor4ii_items.specs.Laws.Fronts.{drop_more}
 use Rattle.cbor4ii_items.specs.Laws.Answering.{if_some, refuses_as}
 use Rattle.cbor4ii_vectors.specs.Then.{ReadsThen, StopsThen, InOneWay, Carries}
 

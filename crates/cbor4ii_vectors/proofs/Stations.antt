@@ -14,14 +14,14 @@ use Rattle.cbor4ii_items.specs.Refusal.{Refusal, refusal_of, require_length, len
 use Rattle.cbor4ii_items.specs.Moves.{Kept}
 use Rattle.cbor4ii_items.specs.Decoding.{NoneRead, Sound, Refuses, Stops}
 use Rattle.cbor4ii_items.specs.Heads.{ReadsHead}
-use Rattle.cbor4ii_items.specs.HeadLaws.{head_one}
+use Rattle.cbor4ii_items.specs.Laws.Heads.{head_one}
 use Rattle.cbor4ii_items.specs.Laws.Answering.{fits_zero, refuses_as}
 use Rattle.cbor4ii_items.specs.Laws.Arguments.{unsigned_one}
 use Rattle.cbor4ii_items.specs.Lengths.{ReadsLength, StopsLength}
 use Rattle.cbor4ii_items.specs.Numbers.{ReadsUnsigned, StopsUnsigned}
 use Rattle.cbor4ii_items.specs.Strings.{ReadsTextAs, StopsText, text_content}
 use Rattle.cbor4ii_items.specs.Strings.{ReadsBreak, StopsBreak}
-use Rattle.cbor4ii_items.specs.StringLaws.{head_not_open, text_one}
+use Rattle.cbor4ii_items.specs.Laws.Strings.{head_not_open, text_one}
 use Rattle.cbor4ii_vectors.specs.Then.{ReadsThen}
 use Rattle.cbor4ii_vectors.specs.Station.{ReadsOpening, ReadsEnd, ReadsNamed, ReadsNumbered}
 use Rattle.cbor4ii_vectors.specs.Station.{ReadsStation, StopsOpening, StopsEnd, StopsNamed}

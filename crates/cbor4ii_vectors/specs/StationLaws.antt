@@ -2,12 +2,12 @@
 use Rattle.std.proofs.Common.{◌≡◌, ℕ, ◌≤◌, List, [], ◌∷◌, ◌++◌, length, take, Bool, true, false}
 use Rattle.std.proofs.Common.{refl, sym, ◌∙◌, subst, arith}
 use Rattle.cbor4ii_items.specs.Head.{break, open_head}
-use Rattle.cbor4ii_items.specs.HeadLaws.{head_one, head_read, head_alone}
+use Rattle.cbor4ii_items.specs.Laws.Heads.{head_one, head_read, head_alone}
 use Rattle.cbor4ii_items.specs.Numbers.{ReadsUnsigned}
 use Rattle.cbor4ii_items.specs.Laws.Arguments.{unsigned_one, unsigned_within, unsigned_alone}
 use Rattle.cbor4ii_items.specs.Strings.{ReadsTextAs, text_content}
-use Rattle.cbor4ii_items.specs.StringLaws.{head_not_open, text_one, text_within, text_alone}
-use Rattle.cbor4ii_items.specs.ContainerLaws.{first_kept}
+use Rattle.cbor4ii_items.specs.Laws.Strings.{head_not_open, text_one, text_within, text_alone}
+use Rattle.cbor4ii_items.specs.Laws.Containers.{first_kept}
 use Rattle.cbor4ii_vectors.specs.declared.station.Station.{Station}
 use Rattle.cbor4ii_vectors.specs.Then.{InOneWay, Within, Positive, Alone, Carries}
 use Rattle.cbor4ii_vectors.specs.Then.{then_one, then_within, then_positive, then_alone}

@@ -4,7 +4,7 @@ use Rattle.std.proofs.Common.{sym, ap, ◌∙◌, subst, arith, max}
 use Rattle.std.proofs.lemmas.List.{length-drop}
 use Rattle.cbor4ii_items.specs.Decoding.{Reads, StopsAt, CostFits}
 use Rattle.cbor4ii_items.specs.Refusal.{Refusal}
-use Rattle.cbor4ii_items.specs.Fronts.{two_fronts, behind_front}
+use Rattle.cbor4ii_items.specs.Laws.Fronts.{two_fronts, behind_front}
 
 -- a part, and behind it another, which may depend on it: their bytes, at the greater of their costs
 pub record ReadsThen {A B : Type 0} (first : Reads A) (second : A → Reads B)

@@ -11,7 +11,7 @@ use Rattle.cbor4ii_items.specs.Reading.{Reading}
 use Rattle.cbor4ii_items.specs.Decoding.{IsExact, Reads, StopsAt, CostFits, Sound, NoneRead, Refuses, Stops}
 use Rattle.cbor4ii_items.specs.Following.{Follows}
 use Rattle.std.proofs.lemmas.List.{length-drop}
-use Rattle.cbor4ii_items.specs.HeadLaws.{IsBytes-take}
+use Rattle.cbor4ii_items.specs.Laws.Heads.{IsBytes-take}
 
 pub fits_zero : (budget : Option ℕ) → CostFits 0 budget
 fits_zero None = tt

@@ -2,8 +2,8 @@
 use Rattle.std.proofs.Common.{◌≡◌, ℕ, ◌<◌, ◌≤◌, List, [], ◌++◌, length, drop, take, Ok, sym, ap, ◌∙◌, arith}
 use Rattle.std.proofs.lemmas.List.{length-drop}
 use Rattle.cbor4ii_items.specs.Reading.{Reading}
-use Rattle.cbor4ii_items.specs.Outcome.{same_value}
-use Rattle.cbor4ii_items.specs.HeadLaws.{head_read, head_alone}
+use Rattle.cbor4ii_items.specs.Laws.Outcome.{same_value}
+use Rattle.cbor4ii_items.specs.Laws.Heads.{head_read, head_alone}
 use Rattle.cbor4ii_items.specs.ReadHead.{head_at}
 use Rattle.cbor4ii_items.specs.declared.types.Negative.{Negative}
 use Rattle.cbor4ii_items.specs.Numbers.{ReadsArgument, ReadsUnsigned, ReadsNegative}

@@ -7,12 +7,12 @@ use Rattle.cbor4ii_items.specs.Head.{break}
 use Rattle.cbor4ii_items.specs.Reading.{Runs, byte_at}
 use Rattle.cbor4ii_items.specs.Decoding.{Sound, Refuses, Stops}
 use Rattle.cbor4ii_items.specs.ReadStrings.{break_at}
-use Rattle.cbor4ii_items.specs.ProgramEnds.{break_yes, break_no, break_refused}
+use Rattle.cbor4ii_items.specs.Laws.ProgramEnds.{break_yes, break_no, break_refused}
 use Rattle.cbor4ii_items.specs.Strings.{ReadsBreak, StopsBreak}
-use Rattle.cbor4ii_items.specs.StringLaws.{break_again}
+use Rattle.cbor4ii_items.specs.Laws.Strings.{break_again}
 use Rattle.cbor4ii_items.specs.Laws.Following.{follows_run}
 use Rattle.cbor4ii_items.specs.Laws.Answering.{Found, fits_zero, sound_by, refuses_by, stops_by}
-use Rattle.cbor4ii_items.specs.Outcome.{same_value}
+use Rattle.cbor4ii_items.specs.Laws.Outcome.{same_value}
 
 broken : (b : ℕ) (xs ys : List ℕ) → b ≡ break → byte_at (codes "break") 1 xs ≡ Ok (b, ys) → break_at xs ≡ Ok (true, ys)
 broken b [] ys is e = cc

@@ -16,9 +16,9 @@ use Rattle.cbor4ii_items.specs.Moves.{Took}
 use Rattle.cbor4ii_items.specs.Refusal.{eof, len_of}
 use Rattle.cbor4ii_items.specs.Reading.{Reading, Reaches}
 use Rattle.cbor4ii_items.specs.ReadStrings.{content_on}
-use Rattle.cbor4ii_items.specs.Contents.{content_short, content_whole}
+use Rattle.cbor4ii_items.specs.Laws.CountedContent.{content_short, content_whole}
 use Rattle.cbor4ii_items.specs.Following.{Follows, TakesOnto}
-use Rattle.cbor4ii_items.specs.Fronts.{drop_more}
+use Rattle.cbor4ii_items.specs.Laws.Fronts.{drop_more}
 use Rattle.cbor4ii_items.specs.Laws.Steps.{kept_then}
 
 two_parts : (i count : ℕ) (before xs : List ℕ) → i ≤ count → (before ++ take i xs) ++ take (count - i) (drop i xs) ≡ before ++ take count xs

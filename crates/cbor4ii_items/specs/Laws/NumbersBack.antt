@@ -5,16 +5,16 @@ use Rattle.std.specs.Int.{byte_at as number_byte, bytes_high_first}
 use Rattle.std.proofs.Math.Seq.{take-append_seam, drop-append_seam, take-length}
 use Rattle.cbor4ii_items.specs.Head.{Width, in_first, one as w_one, two, four, eight, byte_count, HeadFits, shortest, IsBytes}
 use Rattle.cbor4ii_items.specs.Heads.{ReadsHead}
-use Rattle.cbor4ii_items.specs.HeadLaws.{length-bytes_high_first, number_again}
+use Rattle.cbor4ii_items.specs.Laws.Heads.{length-bytes_high_first, number_again}
 use Rattle.cbor4ii_items.specs.ReadHead.{number_on}
 use Rattle.cbor4ii_items.specs.Magnitude.{number_of, without_leading_zeros, magnitude}
 use Rattle.cbor4ii_items.specs.Numbers.{ReadsArgument, ReadsSigned, IsWithin, ReadsMagnitude, ReadsBignum, ReadsU128, ReadsI128, shortest_head, signed_head, counted_string, bignum_bytes, unsigned_bytes, signed_bytes}
 use Rattle.cbor4ii_items.specs.ReadBack.{ReadsBack, NoneBeginsAnother}
-use Rattle.cbor4ii_items.specs.Outcome.{same_value}
+use Rattle.cbor4ii_items.specs.Laws.Outcome.{same_value}
 use Rattle.cbor4ii_items.specs.Refusal.{Refusal, refusal_of}
 use Rattle.cbor4ii_rw.specs.View.{View}
 use Rattle.cbor4ii_rw.specs.declared.error.DecodeError.{DecodeError}
-use Rattle.cbor4ii_items.specs.BigLaws.{number_taken}
+use Rattle.cbor4ii_items.specs.Laws.Bignums.{number_taken}
 use Rattle.cbor4ii_items.specs.Decoding.{Reads, CostFits, Sound, NoneRead, Refuses}
 
 -- ---- the shortest head

@@ -10,7 +10,7 @@ use Rattle.cbor4ii_rw.specs.declared.error.Len.TheVariants.{Small}
 use Rattle.cbor4ii_items.specs.Refusal.{Refusal, refusal_of, is_read, is_out_of_memory, is_depth_overflow, eof}
 use Rattle.cbor4ii_items.specs.Moves.{Took, Kept, Broke}
 use Rattle.cbor4ii_items.specs.Reading.{Reading, give, refuse, go_on, ◌>=>◌, peek_at, byte_at, AnswersAs, Runs, Reaches}
-use Rattle.cbor4ii_items.specs.Outcome.{same_value}
+use Rattle.cbor4ii_items.specs.Laws.Outcome.{same_value}
 use Rattle.cbor4ii_items.specs.Laws.Steps.{moves_then, moves_err, kept_then, counted_none, counts_more}
 
 -- ---- one program after another

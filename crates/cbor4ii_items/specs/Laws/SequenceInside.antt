@@ -4,13 +4,13 @@ use Rattle.cbor4ii_rw.specs.View.{View, Told}
 use Rattle.cbor4ii_rw.specs.declared.error.DecodeError.{DecodeError}
 use Rattle.cbor4ii_items.specs.Head.{open_head}
 use Rattle.cbor4ii_items.specs.Heads.{ReadsHead}
-use Rattle.cbor4ii_items.specs.HeadLaws.{head_one}
+use Rattle.cbor4ii_items.specs.Laws.Heads.{head_one}
 use Rattle.cbor4ii_items.specs.Refusal.{refusal_of}
 use Rattle.cbor4ii_items.specs.Moves.{Kept}
 use Rattle.cbor4ii_items.specs.Decoding.{Reads, CostFits, Sound, NoneRead, Refuses}
-use Rattle.cbor4ii_items.specs.Fronts.{drop_more}
+use Rattle.cbor4ii_items.specs.Laws.Fronts.{drop_more}
 use Rattle.cbor4ii_items.specs.Lengths.{ReadsLength}
-use Rattle.cbor4ii_items.specs.StringLaws.{head_not_open}
+use Rattle.cbor4ii_items.specs.Laws.Strings.{head_not_open}
 use Rattle.cbor4ii_items.specs.Sequences.{ReadsParts, ReadsCount, ReadsUpToBreak, ReadsInside}
 use Rattle.cbor4ii_items.specs.Laws.Answering.{if_some, fits_zero}
 

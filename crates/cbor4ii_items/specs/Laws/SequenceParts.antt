@@ -11,11 +11,11 @@ use Rattle.cbor4ii_items.specs.Refusal.{Refusal, refusal_of}
 use Rattle.cbor4ii_items.specs.Moves.{Kept, Moves}
 use Rattle.cbor4ii_items.specs.Reading.{Runs}
 use Rattle.cbor4ii_items.specs.Decoding.{Reads, StopsAt, CostFits, Sound, NoneRead, Refuses, Stops}
-use Rattle.cbor4ii_items.specs.Fronts.{drop_more}
+use Rattle.cbor4ii_items.specs.Laws.Fronts.{drop_more}
 use Rattle.cbor4ii_items.specs.ReadStrings.{break_at}
-use Rattle.cbor4ii_items.specs.ProgramEnds.{break_yes, break_no, break_refused}
+use Rattle.cbor4ii_items.specs.Laws.ProgramEnds.{break_yes, break_no, break_refused}
 use Rattle.cbor4ii_items.specs.Sequences.{ReadsParts, ReadsCount, Unbroken, ReadsUpToBreak, StopsCount, StopsPlace, no_byte, may_read_nothing, part_refused, StopsUpToBreak, AddsPart}
-use Rattle.cbor4ii_items.specs.SequenceLaws.{not_less, next_part, parts_size, unbroken_size, ends_at_break}
+use Rattle.cbor4ii_items.specs.Laws.Sequences.{not_less, next_part, parts_size, unbroken_size, ends_at_break}
 use Rattle.cbor4ii_items.specs.Laws.Answering.{if_some}
 use Rattle.cbor4ii_items.specs.Laws.Steps.{kept_then}
 

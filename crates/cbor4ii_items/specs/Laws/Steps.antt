@@ -6,7 +6,7 @@ use Rattle.cbor4ii_rw.specs.View.{View}
 use Rattle.cbor4ii_rw.specs.Reader.{counts}
 use Rattle.cbor4ii_rw.specs.declared.error.DecodeError.{DecodeError}
 use Rattle.cbor4ii_items.specs.Head.{IsBytes}
-use Rattle.cbor4ii_items.specs.Fronts.{drop_more}
+use Rattle.cbor4ii_items.specs.Laws.Fronts.{drop_more}
 use Rattle.cbor4ii_items.specs.Moves.{Took, Ends, Counted, EndsOrForgets, Kept, Broke, Moves, is_failure}
 
 bytes_more : (n m : ℕ) (xs : List ℕ) → IsBytes (take n xs) → IsBytes (take m (drop n xs)) → IsBytes (take (n + m) xs)

@@ -31,7 +31,7 @@ ghost use Rattle.cbor4ii_items.specs.Numbers.{
   unsigned_bytes,
   signed_bytes,
 };
-ghost use Rattle.cbor4ii_items.specs.BigLaws.{
+ghost use Rattle.cbor4ii_items.specs.Laws.Bignums.{
   u128_one,
   u128_within,
   u128_positive,

@@ -18,7 +18,7 @@ ghost use Rattle.cbor4ii_items.specs.Reading.{Runs};
 ghost use Rattle.cbor4ii_items.specs.Decoding.{Sound, Refuses, Stops};
 ghost use Rattle.cbor4ii_items.specs.ReadNumber.{half_at, signed_at};
 ghost use Rattle.cbor4ii_items.specs.Numbers.{ReadsSigned, StopsSigned, IsWithin, signed_head};
-ghost use Rattle.cbor4ii_items.specs.SignedLaws.{
+ghost use Rattle.cbor4ii_items.specs.Laws.Signed.{
   signed_one,
   signed_within,
   signed_positive,

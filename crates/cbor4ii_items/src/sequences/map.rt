@@ -7,7 +7,7 @@ ghost use Rattle.cbor4ii_items.specs.Sequences.{
   SameMap,
   StopsMap,
 };
-ghost use Rattle.cbor4ii_items.specs.SequenceLaws.{
+ghost use Rattle.cbor4ii_items.specs.Laws.Sequences.{
   pair_size,
   pair_within,
   pair_positive,

@@ -8,13 +8,13 @@ ghost use Rattle.cbor4ii_items.specs.Lent.{
   lent_bytes,
   lent_unchecked,
 };
-ghost use Rattle.cbor4ii_items.specs.LentLaws.{
+ghost use Rattle.cbor4ii_items.specs.Laws.Lent.{
   lent_one,
   lent_within,
   lent_positive,
   lent_alone,
 };
-ghost use Rattle.cbor4ii_items.specs.StringLaws.{two_small, three_small};
+ghost use Rattle.cbor4ii_items.specs.Laws.Strings.{two_small, three_small};
 
 use crate::decode::{Decode, Spelled};
 use crate::major;

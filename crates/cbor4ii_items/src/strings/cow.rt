@@ -17,7 +17,7 @@ ghost use Rattle.cbor4ii_items.specs.Decoding.{IsExact, Sound, Refuses, Stops};
 ghost use Rattle.cbor4ii_items.specs.Moves.{Moves};
 ghost use Rattle.cbor4ii_items.specs.Refusal.{is_out_of_memory};
 ghost use Rattle.cbor4ii_items.specs.Strings.{ReadsAs, ReadsTextAs, StopsString, StopsText};
-ghost use Rattle.cbor4ii_items.specs.StringLaws.{
+ghost use Rattle.cbor4ii_items.specs.Laws.Strings.{
   two_small,
   three_small,
   as_one,

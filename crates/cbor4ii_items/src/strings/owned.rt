@@ -9,7 +9,7 @@ ghost use Rattle.cbor4ii_items.specs.Strings.{
   unchecked_content,
   text_content,
 };
-ghost use Rattle.cbor4ii_items.specs.StringLaws.{
+ghost use Rattle.cbor4ii_items.specs.Laws.Strings.{
   two_small,
   three_small,
   as_one,

@@ -3,8 +3,8 @@ ghost use Rattle.std.specs.Prelude.{◌≡◌, true, false, codes};
 ghost use Rattle.std.specs.Cow.{IsBorrowedStr, IsOwnedStr};
 ghost use Rattle.cbor4ii_items.specs.Cow.{cow_text, cow_bytes, IsBorrowedBytes, IsOwnedBytes};
 ghost use Rattle.cbor4ii_items.specs.Lent.{lent_str, lent_bytes};
-ghost use Rattle.cbor4ii_items.specs.LentLaws.{lent_one, lent_within, lent_positive};
-ghost use Rattle.cbor4ii_items.specs.StringLaws.{two_small, three_small};
+ghost use Rattle.cbor4ii_items.specs.Laws.Lent.{lent_one, lent_within, lent_positive};
+ghost use Rattle.cbor4ii_items.specs.Laws.Strings.{two_small, three_small};
 ghost use Rattle.cbor4ii.specs.Borrowed.{Borrows};
 
 use crate::serde::de::deserialize::{Deserialize, Typed};

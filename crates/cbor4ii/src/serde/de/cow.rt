@@ -2,7 +2,7 @@
 //! reader of `cbor4ii_rw` has them by name.
 ghost use Rattle.std.specs.Prelude.{◌≡◌, true};
 ghost use Rattle.cbor4ii_items.specs.Cow.{cow_text, cow_bytes};
-ghost use Rattle.cbor4ii_items.specs.StringLaws.{
+ghost use Rattle.cbor4ii_items.specs.Laws.Strings.{
   two_small,
   as_one,
   as_within,

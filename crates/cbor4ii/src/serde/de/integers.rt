@@ -5,8 +5,8 @@ ghost use Rattle.cbor4ii_items.specs.Laws.Arguments.{
   unsigned_within,
   unsigned_positive,
 };
-ghost use Rattle.cbor4ii_items.specs.SignedLaws.{signed_one, signed_within, signed_positive};
-ghost use Rattle.cbor4ii_items.specs.BigLaws.{
+ghost use Rattle.cbor4ii_items.specs.Laws.Signed.{signed_one, signed_within, signed_positive};
+ghost use Rattle.cbor4ii_items.specs.Laws.Bignums.{
   u128_one,
   u128_within,
   u128_positive,

@@ -1,7 +1,7 @@
 //! Owned texts and byte strings.
 ghost use Rattle.std.specs.Prelude.{◌≡◌, true};
 ghost use Rattle.cbor4ii_items.specs.Strings.{text_content, bytes_content};
-ghost use Rattle.cbor4ii_items.specs.StringLaws.{
+ghost use Rattle.cbor4ii_items.specs.Laws.Strings.{
   two_small,
   as_one,
   as_within,

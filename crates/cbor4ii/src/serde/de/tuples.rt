@@ -16,7 +16,7 @@ ghost use Rattle.cbor4ii_items.specs.Moves.{Moves};
 ghost use Rattle.cbor4ii_items.specs.Refusal.{is_out_of_memory};
 ghost use Rattle.cbor4ii_items.specs.Decoding.{IsExact, Sound, Refuses, Stops};
 ghost use Rattle.cbor4ii_items.specs.Sequences.{ReadsPair, SamePair};
-ghost use Rattle.cbor4ii_items.specs.ContainerLaws.{both};
+ghost use Rattle.cbor4ii_items.specs.Laws.Containers.{both};
 ghost use Rattle.cbor4ii.specs.Typed.{input, answer_of, as_core};
 ghost use Rattle.cbor4ii.specs.Beginning.{StopsFirst, BeginsTuple};
 ghost use Rattle.cbor4ii.specs.Stepped.{Stepped, stepped_laws};

@@ -7,7 +7,7 @@ ghost use Rattle.cbor4ii_items.specs.Sequences.{ReadsArray, SameArray};
 ghost use Rattle.cbor4ii.specs.Beginning.{StopsParts};
 ghost use Rattle.cbor4ii.specs.Typed.{input, answer_of, as_core};
 ghost use Rattle.cbor4ii.specs.Sequence.{four_small};
-ghost use Rattle.cbor4ii_items.specs.SequenceLaws.{array_one, array_within, array_positive};
+ghost use Rattle.cbor4ii_items.specs.Laws.Sequences.{array_one, array_within, array_positive};
 
 use crate::serde::de::deserialize::{Deserialize, Typed};
 use crate::serde::de::deserializer::Deserializer;

@@ -3,7 +3,7 @@ use Rattle.cbor4ii_items.specs.Laws.Steps.{moves_then, moves_ok, moves_err}
 use Rattle.cbor4ii_items.specs.Laws.Answering.{exact_kept}
 use Rattle.cbor4ii_items.specs.Laws.Pairs.{exact_both}
 use Rattle.cbor4ii.proofs.Triples.{triple_sound, first_refuses, others_refuse}
-use Rattle.cbor4ii_items.specs.ContainerLaws.{both}
+use Rattle.cbor4ii_items.specs.Laws.Containers.{both}
 use Rattle.cbor4ii.proofs.serde.de.tuples.three_parts.Goals as goal
 
 pub returns-in_err-first-clause-complete : goal.returns-in_err-first-clause-complete

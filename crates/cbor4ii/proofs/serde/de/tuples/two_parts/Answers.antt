@@ -2,7 +2,7 @@ use Rattle.std.proofs.lemmas.Result.{err_from_is_err_and}
 use Rattle.cbor4ii_items.specs.Laws.Steps.{moves_then, moves_ok, moves_err}
 use Rattle.cbor4ii_items.specs.Laws.Answering.{exact_kept}
 use Rattle.cbor4ii_items.specs.Laws.Pairs.{exact_both, pair_sound, key_refuses, value_refuses}
-use Rattle.cbor4ii_items.specs.ContainerLaws.{both}
+use Rattle.cbor4ii_items.specs.Laws.Containers.{both}
 use Rattle.cbor4ii.proofs.serde.de.tuples.two_parts.Goals as goal
 
 pub returns-in_err-first-clause-complete : goal.returns-in_err-first-clause-complete

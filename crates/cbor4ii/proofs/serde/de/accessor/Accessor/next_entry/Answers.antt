@@ -1,4 +1,4 @@
-use Rattle.cbor4ii_items.specs.ContainerLaws.{both}
+use Rattle.cbor4ii_items.specs.Laws.Containers.{both}
 use Rattle.cbor4ii_items.specs.Laws.Answering.{exact_kept}
 use Rattle.cbor4ii_items.specs.Laws.Steps.{moves_then, moves_ok, moves_err}
 use Rattle.cbor4ii_items.specs.Laws.Pairs.{exact_both}

@@ -1,5 +1,5 @@
 use Rattle.std.proofs.Common.{refl, inl}
-use Rattle.cbor4ii_items.specs.StringLaws.{two_small}
+use Rattle.cbor4ii_items.specs.Laws.Strings.{two_small}
 use Rattle.cbor4ii.proofs.Borrowing.{lent_moves, lent_progress, lent_sound, lent_refuses, bytes_apart, bytes_counted, bytes_lent, bytes_spelled}
 use Rattle.cbor4ii.proofs.serde.de.borrowed.BytesRefSliceU8DeserializeSliceReader.deserialize.Goals as goal
 

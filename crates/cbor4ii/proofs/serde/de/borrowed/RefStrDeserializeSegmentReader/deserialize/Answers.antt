@@ -1,5 +1,5 @@
 use Rattle.std.proofs.Common.{refl, inl}
-use Rattle.cbor4ii_items.specs.StringLaws.{three_small}
+use Rattle.cbor4ii_items.specs.Laws.Strings.{three_small}
 use Rattle.cbor4ii.proofs.Borrowing.{lent_moves, lent_progress, lent_sound, lent_refuses, text_apart, text_counted, text_lent, text_spelled}
 use Rattle.cbor4ii.proofs.serde.de.borrowed.RefStrDeserializeSegmentReader.deserialize.Goals as goal
 

@@ -7,10 +7,10 @@ use Rattle.std.specs.declared.vec.Vec.{Vec}
 use Rattle.cbor4ii_items.specs.declared.types.Map.{Map}
 use Rattle.cbor4ii_items.specs.Head.{break}
 use Rattle.cbor4ii_items.specs.Heads.{ReadsHead}
-use Rattle.cbor4ii_items.specs.HeadLaws.{head_one, head_read, head_alone}
-use Rattle.cbor4ii_items.specs.StringLaws.{BeginsWith, head_not_open}
-use Rattle.cbor4ii_items.specs.ContainerLaws.{both, first_kept}
-use Rattle.cbor4ii_items.specs.Fronts.{drop_more, two_fronts, behind_front}
+use Rattle.cbor4ii_items.specs.Laws.Heads.{head_one, head_read, head_alone}
+use Rattle.cbor4ii_items.specs.Laws.Strings.{BeginsWith, head_not_open}
+use Rattle.cbor4ii_items.specs.Laws.Containers.{both, first_kept}
+use Rattle.cbor4ii_items.specs.Laws.Fronts.{drop_more, two_fronts, behind_front}
 use Rattle.cbor4ii_items.specs.Sequences.{ReadsParts, Unbroken, ReadsUpToBreak, ReadsCountedParts, ReadsOpenParts, ReadsInside, ReadsSequence, SameParts, ReadsArray, SameArray, ReadsPair, SamePair, ReadsMap, SameMap}
 use Rattle.cbor4ii_items.specs.Decoding.{Reads}
 

@@ -9,11 +9,11 @@ use Rattle.cbor4ii_items.specs.ReadHead.{head_at, head_by, length_by, length_at,
 use Rattle.cbor4ii_items.specs.ReadNumber.{below, as_positive, as_negative, magnitude_by, magnitude_at, u128_tagged, u128_by, u128_at, small_magnitude_at, i128_tagged, i128_by, i128_at}
 use Rattle.cbor4ii_items.specs.Magnitude.{number_of}
 use Rattle.cbor4ii_items.specs.Numbers.{ReadsMagnitude, ReadsBignum, ReadsU128, ReadsI128}
-use Rattle.cbor4ii_items.specs.Fronts.{drop_more, two_fronts, behind_front, the_front}
-use Rattle.cbor4ii_items.specs.HeadLaws.{head_read, head_alone}
+use Rattle.cbor4ii_items.specs.Laws.Fronts.{drop_more, two_fronts, behind_front, the_front}
+use Rattle.cbor4ii_items.specs.Laws.Heads.{head_read, head_alone}
 use Rattle.cbor4ii_items.specs.Laws.Arguments.{ReadBy, leaf_one, leaf_within, leaf_positive}
-use Rattle.cbor4ii_items.specs.StringLaws.{length_known}
-use Rattle.cbor4ii_items.specs.SignedLaws.{starts, peek_first, below_again}
+use Rattle.cbor4ii_items.specs.Laws.Strings.{length_known}
+use Rattle.cbor4ii_items.specs.Laws.Signed.{starts, peek_first, below_again}
 
 -- ---- byte strings as numbers
 

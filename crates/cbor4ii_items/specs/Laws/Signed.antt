@@ -7,7 +7,7 @@ use Rattle.cbor4ii_items.specs.Reading.{peek_at, go_on, ◌>=>◌}
 use Rattle.cbor4ii_items.specs.Heads.{ReadsHead}
 use Rattle.cbor4ii_items.specs.ReadNumber.{below, half_at, as_positive, as_negative, signed_by, signed_at}
 use Rattle.cbor4ii_items.specs.Numbers.{ReadsSigned}
-use Rattle.cbor4ii_items.specs.HeadLaws.{head_read, head_alone, additional-lt}
+use Rattle.cbor4ii_items.specs.Laws.Heads.{head_read, head_alone, additional-lt}
 use Rattle.cbor4ii_items.specs.Laws.Arguments.{ReadBy, leaf_one, leaf_within, leaf_positive}
 
 -- the first byte of an item says its major type

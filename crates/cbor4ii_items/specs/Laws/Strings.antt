@@ -5,14 +5,14 @@ use Rattle.std.proofs.lemmas.List.{length-drop, append-nil, length-take}
 use Rattle.cbor4ii_items.specs.Head.{byte_count, additional, break, open_head}
 use Rattle.cbor4ii_items.specs.Reading.{give, go_on}
 use Rattle.cbor4ii_items.specs.Decoding.{CostFits}
-use Rattle.cbor4ii_items.specs.Outcome.{same_value}
+use Rattle.cbor4ii_items.specs.Laws.Outcome.{same_value}
 use Rattle.cbor4ii_items.specs.Heads.{ReadsHead}
-use Rattle.cbor4ii_items.specs.HeadLaws.{head_read, head_alone, additional-lt}
+use Rattle.cbor4ii_items.specs.Laws.Heads.{head_read, head_alone, additional-lt}
 use Rattle.cbor4ii_items.specs.ReadHead.{head_at, length_at}
 use Rattle.cbor4ii_items.specs.ReadStrings.{content_on, break_at, chunk_by, chunk_inside, chunk_at, chunks_at, string_by, string_at}
-use Rattle.cbor4ii_items.specs.ChunkLaws.{chunks_by, chunks_more}
-use Rattle.cbor4ii_items.specs.Contents.{content_whole}
-use Rattle.cbor4ii_items.specs.Fronts.{drop_more, two_fronts, behind_front, the_front}
+use Rattle.cbor4ii_items.specs.Laws.Chunks.{chunks_by, chunks_more}
+use Rattle.cbor4ii_items.specs.Laws.CountedContent.{content_whole}
+use Rattle.cbor4ii_items.specs.Laws.Fronts.{drop_more, two_fronts, behind_front, the_front}
 use Rattle.cbor4ii_items.specs.Strings.{ReadsCountedString, ReadsChunks, joined, chunk_cost, ReadsOpenString, ReadsString, ReadsAs, ReadsTextAs}
 
 -- ---- the first byte

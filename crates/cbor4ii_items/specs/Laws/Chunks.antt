@@ -3,7 +3,7 @@ use Rattle.std.proofs.Common.{◌≡◌, ℕ, zero, suc, ◌<◌, List, length, 
 use Rattle.cbor4ii_items.specs.Refusal.{Refusal}
 use Rattle.cbor4ii_items.specs.Reading.{Reading, give, go_on, ◌>=>◌}
 use Rattle.cbor4ii_items.specs.ReadStrings.{break_at, chunk_at, chunks_on, chunks_at}
-use Rattle.cbor4ii_items.specs.ProgramEnds.{break_no, chunk_passed}
+use Rattle.cbor4ii_items.specs.Laws.ProgramEnds.{break_no, chunk_passed}
 
 -- where two programs go on alike, they are alike
 same_after : {U V : Type 0} (p q : U → Reading V) (r : Result (U × List ℕ) (Refusal × List ℕ)) → ((u : U) (ys : List ℕ) → r ≡ Ok (u, ys) → p u ys ≡ q u ys) → go_on r p ≡ go_on r q

@@ -1,7 +1,7 @@
 -- Borrowed strings are read exactly as they are spelled.
 use Rattle.std.proofs.Common.{◌≡◌, ℕ, ◌<◌, ◌≤◌, inl, List, ◌++◌, length, take, Bool}
 use Rattle.cbor4ii_items.specs.Lent.{ReadsLent}
-use Rattle.cbor4ii_items.specs.StringLaws.{counted_within, counted_alone, string_one}
+use Rattle.cbor4ii_items.specs.Laws.Strings.{counted_within, counted_alone, string_one}
 
 module _ {V : Type 0} (major : ℕ) (small : major < 8) (is_text : Bool) (content : V → List ℕ) where
   pub lent_one : (xs : List ℕ) (v w : V) (n k c d : ℕ) → ReadsLent major is_text content xs v n c → ReadsLent major is_text content xs w k d → (n ≡ k) × (c ≡ d) × (content v ≡ content w)

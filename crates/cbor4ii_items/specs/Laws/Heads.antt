@@ -11,7 +11,7 @@ use Rattle.cbor4ii_items.specs.Refusal.{mismatch}
 use Rattle.cbor4ii_items.specs.Reading.{give, refuse}
 use Rattle.cbor4ii_items.specs.Heads.{ReadsHead, Begins}
 use Rattle.cbor4ii_items.specs.ReadHead.{head_at, argument_at, number_on, following, allowed}
-use Rattle.cbor4ii_items.specs.Outcome.{same_value}
+use Rattle.cbor4ii_items.specs.Laws.Outcome.{same_value}
 
 -- one more byte in front of the low k bytes
 byte_on : (k n high : ℕ) → (high * 256 + number_byte k n) * 256 ^ k + n % 256 ^ k ≡ high * 256 ^ suc k + n % 256 ^ suc k

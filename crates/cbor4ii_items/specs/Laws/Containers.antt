@@ -4,8 +4,8 @@ use Rattle.std.specs.Prelude.{◌&&◌}
 use Rattle.std.proofs.lemmas.List.{length-drop}
 use Rattle.cbor4ii_items.specs.Containers.{BeginsNull, ReadsOption, SameOption, ReadsTag}
 use Rattle.cbor4ii_items.specs.Heads.{ReadsHead}
-use Rattle.cbor4ii_items.specs.HeadLaws.{head_one, head_read, head_alone}
-use Rattle.cbor4ii_items.specs.Fronts.{two_fronts, behind_front}
+use Rattle.cbor4ii_items.specs.Laws.Heads.{head_one, head_read, head_alone}
+use Rattle.cbor4ii_items.specs.Laws.Fronts.{two_fronts, behind_front}
 use Rattle.cbor4ii_items.specs.Decoding.{Reads}
 
 -- ---- an item or none
