@@ -21,40 +21,76 @@ const OPEN_TEXT: &[u8] = b"\x7f\x61a\xff";
 const OPEN_BYTES: &[u8] = b"\x5f\x41a\xff";
 
 /// A text of this content, borrowed or copied.
-fn is_text<E: Drop>(
+fn is_text<E: Debug + Drop>(
+    rt: &impl Abort,
+    alloc: Global,
     got: Result<CowStr<'_, Global>, DecodeError<E>>,
     content: &str,
     borrowed: bool,
-) -> bool {
+) -> Result<(), Fail> {
     match got {
-        Ok(CowStr::Borrowed(text)) => borrowed && text == content,
-        Ok(CowStr::Owned(text)) => !borrowed && text.as_str() == content,
-        Err(_) => false,
+        Ok(CowStr::Borrowed(text)) => assert!(rt; borrowed && text == content),
+        Ok(CowStr::Owned(text)) => assert!(rt; !borrowed && text.as_str() == content),
+        Err(error) => same(rt, alloc, Err::<(), DecodeError<E>>(error), &Ok(()))?,
     }
+    Ok(())
 }
 
 /// A byte string of this content, borrowed or copied.
-fn is_bytes<E: Drop>(
+fn is_bytes<E: Debug + Drop>(
+    rt: &impl Abort,
+    alloc: Global,
     got: Result<CowSlice<'_, u8, Global>, DecodeError<E>>,
     content: &[u8],
     borrowed: bool,
-) -> bool {
+) -> Result<(), Fail> {
     match got {
-        Ok(CowSlice::Borrowed(bytes)) => borrowed && bytes == content,
-        Ok(CowSlice::Owned(bytes)) => !borrowed && bytes.as_slice() == content,
-        Err(_) => false,
+        Ok(CowSlice::Borrowed(bytes)) => assert!(rt; borrowed && bytes == content),
+        Ok(CowSlice::Owned(bytes)) => assert!(rt; !borrowed && bytes.as_slice() == content),
+        Err(error) => same(rt, alloc, Err::<(), DecodeError<E>>(error), &Ok(()))?,
     }
+    Ok(())
 }
 
 #[test]
 fn strings_by_their_names(rt: HostRuntime) -> Result<(), Fail> {
     let alloc = rt.alloc();
-    assert!(rt; is_text(over(OPEN_TEXT).deserialize_str(alloc), "a", false));
-    assert!(rt; is_text(over(OPEN_TEXT).deserialize_identifier(alloc), "a", false));
-    assert!(rt; is_text(over(b"\x61a").deserialize_str(alloc), "a", true));
-    assert!(rt; is_text(over(b"\x61a").deserialize_identifier(alloc), "a", true));
-    assert!(rt; is_bytes(over(OPEN_BYTES).deserialize_bytes(alloc), b"a", false));
-    assert!(rt; is_bytes(over(b"\x41a").deserialize_bytes(alloc), b"a", true));
+    is_text(
+        &rt,
+        alloc,
+        over(OPEN_TEXT).deserialize_str(alloc),
+        "a",
+        false,
+    )?;
+    is_text(
+        &rt,
+        alloc,
+        over(OPEN_TEXT).deserialize_identifier(alloc),
+        "a",
+        false,
+    )?;
+    is_text(&rt, alloc, over(b"\x61a").deserialize_str(alloc), "a", true)?;
+    is_text(
+        &rt,
+        alloc,
+        over(b"\x61a").deserialize_identifier(alloc),
+        "a",
+        true,
+    )?;
+    is_bytes(
+        &rt,
+        alloc,
+        over(OPEN_BYTES).deserialize_bytes(alloc),
+        b"a",
+        false,
+    )?;
+    is_bytes(
+        &rt,
+        alloc,
+        over(b"\x41a").deserialize_bytes(alloc),
+        b"a",
+        true,
+    )?;
     let content = over(OPEN_BYTES).deserialize_byte_buf(alloc);
     same(&rt, alloc, content, &Ok(b"a".to_vec(alloc)?))
 }
@@ -64,14 +100,14 @@ fn strings_over_other_readers(rt: HostRuntime) -> Result<(), Fail> {
     let alloc = rt.alloc();
     let parts: [&[u8]; 2] = [b"\x61a\x61b\x42c", b"d\x41e"];
     let mut de = Deserializer::new(SegmentReader::new(&parts));
-    assert!(rt; is_text(de.deserialize_str(alloc), "a", true));
-    assert!(rt; is_text(de.deserialize_identifier(alloc), "b", true));
-    assert!(rt; is_bytes(de.deserialize_bytes(alloc), b"cd", false));
-    assert!(rt; is_bytes(de.deserialize_bytes(alloc), b"e", true));
+    is_text(&rt, alloc, de.deserialize_str(alloc), "a", true)?;
+    is_text(&rt, alloc, de.deserialize_identifier(alloc), "b", true)?;
+    is_bytes(&rt, alloc, de.deserialize_bytes(alloc), b"cd", false)?;
+    is_bytes(&rt, alloc, de.deserialize_bytes(alloc), b"e", true)?;
     let mut de = Deserializer::new(IoReader::new(b"\x61a\x61b\x41c\x41d".as_slice()));
-    assert!(rt; is_text(de.deserialize_str(alloc), "a", false));
-    assert!(rt; is_text(de.deserialize_identifier(alloc), "b", false));
-    assert!(rt; is_bytes(de.deserialize_bytes(alloc), b"c", false));
+    is_text(&rt, alloc, de.deserialize_str(alloc), "a", false)?;
+    is_text(&rt, alloc, de.deserialize_identifier(alloc), "b", false)?;
+    is_bytes(&rt, alloc, de.deserialize_bytes(alloc), b"c", false)?;
     let content = de.deserialize_byte_buf(alloc);
     same(&rt, alloc, content, &Ok(b"d".to_vec(alloc)?))
 }
