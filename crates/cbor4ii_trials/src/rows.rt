@@ -61,7 +61,7 @@ impl<S: Source, A: ReadFrom<S> + Drop, B: ReadFrom<S>> ReadFrom<S> for Pair<A, B
 
 /// Reads the bytes of each row over each reader: the same answer, and the same bytes left.
 ///
-/// A type costs its test's proof some seconds at each call, so a test gives its rows of one type
+/// Each type costs the proof of a function that tries it some seconds, so rows of one type stand
 /// together.
 pub fn reads_rows<T>(alloc: Global, rows: &[Row<T>]) -> Result<(), Fail>
 where
