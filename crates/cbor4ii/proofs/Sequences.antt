@@ -1,20 +1,10 @@
 -- What a sequence's head and its parts answer together.
-use Rattle.std.proofs.Common.{◌≡◌, ℕ, ◌+◌, ◌<◌, inl, inr, List, [], ◌∷◌, length, drop, take, Option, Some, None, Result, Ok, Err, Bool, refl, sym, ap, ◌∙◌, subst, IfOk, IfErr}
+use Rattle.std.proofs.Common.{◌≡◌, ℕ, ◌<◌, List, Some, Result, Bool, IfOk, IfErr}
 use Rattle.std.specs.declared.alloc.Global.{Global}
 use Rattle.std.specs.declared.vec.Vec.{Vec}
-use Rattle.cbor4ii_rw.specs.View.{View, Told}
-use Rattle.cbor4ii_rw.specs.declared.error.DecodeError.{DecodeError}
-use Rattle.cbor4ii_items.specs.Head.{open_head}
-use Rattle.cbor4ii_items.specs.Heads.{ReadsHead}
-use Rattle.cbor4ii_items.specs.Laws.Heads.{head_one}
-use Rattle.cbor4ii_items.specs.Refusal.{refusal_of}
-use Rattle.cbor4ii_items.specs.Moves.{Kept}
-use Rattle.cbor4ii_items.specs.Decoding.{Reads, CostFits, Sound, NoneRead, Refuses}
-use Rattle.cbor4ii_items.specs.Laws.Fronts.{drop_more}
-use Rattle.cbor4ii_items.specs.Lengths.{ReadsLength}
-use Rattle.cbor4ii_items.specs.Laws.Strings.{head_not_open}
-use Rattle.cbor4ii_items.specs.Sequences.{ReadsParts, ReadsCount, ReadsUpToBreak, ReadsInside}
-use Rattle.cbor4ii_items.specs.Laws.Answering.{if_some, fits_zero}
+use Rattle.cbor4ii_rw.specs.View.{View}
+use Rattle.cbor4ii_items.specs.Decoding.{Reads, Sound, Refuses}
+use Rattle.cbor4ii_items.specs.Sequences.{ReadsCount, ReadsUpToBreak, ReadsInside}
 use Rattle.cbor4ii.specs.declared.serde.de.error.DecodeError.{DecodeError as Typed}
 use Rattle.cbor4ii.specs.Typed.{as_core}
 use Rattle.cbor4ii_items.specs.Laws.SequenceInside.{if_ok, if_err, if_err_told, Counts, Opens, counted_read, opened_read, counted_not_read, opened_not_read, of_sound, of_refuses}

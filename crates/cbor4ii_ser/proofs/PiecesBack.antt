@@ -1,17 +1,17 @@
 -- A text in pieces is read as the pieces joined.
-use Rattle.std.proofs.Common.{◌≡◌, ℕ, suc, ◌+◌, ◌<◌, ◌≤◌, ◌^◌, List, [], ◌∷◌, ◌++◌, length, take, drop, refl, sym, ap, ap₂, ◌∙◌, ◌⊎◌, inl, inr, arith, append_assoc, length-append, subst}
+use Rattle.std.proofs.Common.{◌≡◌, ℕ, suc, ◌+◌, ◌<◌, ◌≤◌, ◌^◌, List, [], ◌∷◌, ◌++◌, length, take, drop, refl, sym, ap, ap₂, ◌∙◌, inl, inr, arith, append_assoc, length-append, subst}
 use Rattle.std.specs.Prelude.{All, IsUtf8}
 use Rattle.std.proofs.Math.Seq.{drop-append_seam}
 use Rattle.std.proofs.lemmas.List.{append-nil, take_at}
 use Rattle.std.proofs.lemmas.List.Elements.{All-head, All-tail}
 use Rattle.std.proofs.lemmas.Str.{IsUtf8-nil, IsUtf8-append}
-use Rattle.cbor4ii_items.specs.Head.{eight, break}
+use Rattle.cbor4ii_items.specs.Head.{eight}
 use Rattle.cbor4ii_items.specs.Heads.{ReadsHead}
 use Rattle.cbor4ii_items.specs.Numbers.{shortest_head}
 use Rattle.cbor4ii_items.specs.Strings.{joined, counted_string, opening, closing, ReadsCountedString, ReadsChunks, ReadsOpenString, ReadsTextAs, chunk_cost}
 use Rattle.cbor4ii_items.specs.ReadBack.{ReadsBack}
 use Rattle.cbor4ii_items.specs.Laws.NumbersBack.{head_back}
-use Rattle.cbor4ii_ser.specs.Pieces.{most, filled, IsChunk, IsCut, Chunks, one, several, counted_chunks}
+use Rattle.cbor4ii_ser.specs.Pieces.{filled, IsChunk, IsCut, Chunks, one, several, counted_chunks}
 use Rattle.cbor4ii_ser.proofs.Determined.{joined_append}
 use Rattle.cbor4ii_ser.proofs.Greedy.{joined_filled}
 
