@@ -1,6 +1,6 @@
-mod leaf_rows;
 mod any;
 mod enums;
+mod leaf_rows;
 mod paths;
 mod records;
 

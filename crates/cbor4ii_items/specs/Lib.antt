@@ -24,7 +24,6 @@ pub mod Sequences
 pub mod SequenceBytes
 pub mod Next
 pub mod Shortest
-
 -- ---- what the decoders do, without the reader: the words of private contracts
 pub mod Reading
 pub mod Following
@@ -34,6 +33,5 @@ pub mod ReadHead
 pub mod ReadNumber
 pub mod ReadStrings
 pub mod ReadShortest
-
 -- ---- laws of these words, and of how calls compose
 pub mod Laws
