@@ -235,6 +235,13 @@ fn errors(rt: HostRuntime) -> Result<(), Fail> {
         EncodeError::from(core_error::EncodeError::Write(1u8)),
         error
     );
+    let refused: EncodeError<u8> = EncodeError::Custom("text refused");
+    for (shown, text) in [
+        (error, "Core(Write(1))"),
+        (refused, "Custom(\"text refused\")"),
+    ] {
+        assert_eq!(rt; format!(in rt.alloc(); "{shown}")?.as_str(), text);
+    }
     Ok(())
 }
 
