@@ -1,4 +1,4 @@
-//! The README's examples, as they stand there, and what they answer.
+//! The README's examples, as they stand there, others beside them, and what they answer.
 ghost use Rattle.std.specs.Prelude.{◌≡◌, IfOk, Some};
 ghost use Rattle.cbor4ii_tree.specs.Canonical.{canon};
 ghost use Rattle.cbor4ii_tree.specs.Item.{Item};
