@@ -118,7 +118,8 @@ fn take_either<T: LendOrOwn<S>, S: Source>(
     alloc: Global,
     reader: &mut S,
 ) -> Result<Option<T>, DecodeError<S::Error>>
-    ensures takes { TakesContent (string_at T.name T.major (S.view reader.old).budget) T.is_text T.content
+    ensures takes { TakesContent (string_at T.name T.major (S.view reader.old).budget)
+        T.is_text T.content
         (S.view reader.old) (S.view reader.new) result }
     ensures progress { OnOk result ((S.view reader.new).bound + 1 ≤ (S.view reader.old).bound) }
     ensures borrows { IfOk result (λ value. IfSome value

@@ -60,15 +60,15 @@ impl<S: Source> Deserializer<S> {
     ///
     /// # Errors
     ///
-    /// As `Core`, but for the last one. `Read` where the reader failed, `OutOfMemory` where a growth
-    /// was refused, and else, with what each leaves:
+    /// As `Core`, but for the last one. `Read` where the reader failed, `OutOfMemory` where a
+    /// growth was refused, and else, with what each leaves:
     ///
     /// - no step is left: `DepthOverflow` by "any", and nothing is taken
     /// - no byte is left: `Eof` by "any" with 1, and nothing is left
     /// - a tag whose first byte is neither `c2` nor `c3`, or a byte of major type 7 that is no
     ///   false, true, null, undefined or float: `Unsupported` by "any" with the byte, which stays
-    /// - an integer is refused as an `i128`, behind `c2` as a `u128`, and a float, a byte string and
-    ///   a text as `F16`, `F32`, `F64`, `Bytes<Vec<u8>>` and `String` are
+    /// - an integer is refused as an `i128`, behind `c2` as a `u128`, and a float, a byte string
+    ///   and a text as `F16`, `F32`, `F64`, `Bytes<Vec<u8>>` and `String` are
     /// - an array is refused as a `Vec<Value>` is, and a map as a `BTreeMap` is
     /// - `c2` stands before a number of 2^127 or more: `Custom` of "integer out of range", and the
     ///   item is taken
@@ -213,7 +213,8 @@ fn array_inside<S: Source>(
         (input S.view de.old) (input S.view de.new) values.items) }
     ensures complete { IfErr result
         (λ error. Refuses (ReadsInside 4 ReadsAny true) (input S.view de.old) (as_core error)) }
-    ensures stops { IfErr result (λ error. Stops (StopsInside (codes "array") 4 ReadsAny StopsAny true)
+    ensures stops { IfErr result (λ error. Stops
+        (StopsInside (codes "array") 4 ReadsAny StopsAny true)
         (input S.view de.old) (input S.view de.new) (as_core error)) }
 {
     match Array::<()>::len(&mut de.reader) {
@@ -257,7 +258,8 @@ fn open_values<S: Source>(
         (input S.view de.old) (input S.view de.new) values.items) }
     ensures complete { IfErr result
         (λ error. Refuses (ReadsUpToBreak ReadsAny true) (input S.view de.old) (as_core error)) }
-    ensures stops { IfErr result (λ error. Stops (StopsUpToBreak (codes "array") ReadsAny StopsAny true)
+    ensures stops { IfErr result (λ error. Stops
+        (StopsUpToBreak (codes "array") ReadsAny StopsAny true)
         (input S.view de.old) (input S.view de.new) (as_core error)) }
 {
     let mut values = Vec::new(alloc);
@@ -327,7 +329,8 @@ fn map_inside<S: Source>(
     ensures complete { IfErr result
         (λ error. Refuses (ReadsInside 5 (ReadsPair ReadsAny ReadsAny) true)
         (input S.view de.old) (as_core error)) }
-    ensures stops { IfErr result (λ error. Stops (StopsInside (codes "map") 5 (ReadsPair ReadsAny ReadsAny) StopsAnyPair true)
+    ensures stops { IfErr result (λ error. Stops
+        (StopsInside (codes "map") 5 (ReadsPair ReadsAny ReadsAny) StopsAnyPair true)
         (input S.view de.old) (input S.view de.new) (as_core error)) }
 {
     match Map::<()>::len(&mut de.reader) {
@@ -349,7 +352,8 @@ fn counted_pairs<S: Source>(
     ensures complete { IfErr result
         (λ error. Refuses (ReadsCount (ReadsPair ReadsAny ReadsAny) count)
         (input S.view de.old) (as_core error)) }
-    ensures stops { IfErr result (λ error. Stops (StopsCount (ReadsPair ReadsAny ReadsAny) StopsAnyPair count)
+    ensures stops { IfErr result (λ error. Stops
+        (StopsCount (ReadsPair ReadsAny ReadsAny) StopsAnyPair count)
         (input S.view de.old) (input S.view de.new) (as_core error)) }
 {
     let mut pairs = Vec::new(alloc);
@@ -374,7 +378,8 @@ fn open_pairs<S: Source>(
     ensures complete { IfErr result
         (λ error. Refuses (ReadsUpToBreak (ReadsPair ReadsAny ReadsAny) true)
         (input S.view de.old) (as_core error)) }
-    ensures stops { IfErr result (λ error. Stops (StopsUpToBreak (codes "map") (ReadsPair ReadsAny ReadsAny) StopsAnyPair true)
+    ensures stops { IfErr result (λ error. Stops
+        (StopsUpToBreak (codes "map") (ReadsPair ReadsAny ReadsAny) StopsAnyPair true)
         (input S.view de.old) (input S.view de.new) (as_core error)) }
 {
     let mut pairs = Vec::new(alloc);
