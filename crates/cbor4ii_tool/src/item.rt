@@ -2,7 +2,12 @@
 ghost use Rattle.std.specs.Prelude.{◌≡◌, Some, IfErr, OnOk};
 ghost use Rattle.cbor4ii_rw.specs.Stream.{stream_view};
 ghost use Rattle.cbor4ii_tool.specs.Steps.{Leaves, Done, Fails};
-ghost use Rattle.cbor4ii_tool.specs.declared.command.Command.TheVariants.{Ints, Canon, Lens, Strict};
+ghost use Rattle.cbor4ii_tool.specs.declared.command.Command.TheVariants.{
+  Ints,
+  Canon,
+  Lens,
+  Strict,
+};
 
 use crate::command::Command;
 use crate::fault::Kind;
