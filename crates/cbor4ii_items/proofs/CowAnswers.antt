@@ -8,7 +8,6 @@ use Rattle.cbor4ii_items.specs.Decoding.{Sound, Refuses, Stops}
 use Rattle.cbor4ii_items.specs.Reading.{Reading, Runs}
 use Rattle.cbor4ii_items.specs.ReadHead.{length_at}
 use Rattle.cbor4ii_items.specs.ReadStrings.{content_on, string_at}
-use Rattle.cbor4ii_items.specs.Following.{Follows}
 use Rattle.cbor4ii_items.specs.Laws.CountedContent.{content_whole}
 use Rattle.cbor4ii_items.specs.Laws.Outcome.{same_value}
 use Rattle.cbor4ii_items.specs.Laws.ProgramEnds.{length_none, content_inverse}
@@ -16,28 +15,24 @@ use Rattle.cbor4ii_items.specs.Laws.Strings.{length_open}
 use Rattle.cbor4ii_items.specs.Strings.{ReadsString, StopsString, StopsText}
 use Rattle.cbor4ii_items.specs.Lent.{Lends, Stays}
 use Rattle.cbor4ii_items.specs.Cow.{ReadsEither, StopsEither, TakesContent, BorrowsWhereCounted, IsBorrowedWhereWhole}
-use Rattle.cbor4ii_items.specs.Laws.Steps.{moves_then}
 use Rattle.cbor4ii_items.proofs.OpenStrings.{string_known}
+use Rattle.cbor4ii_items.proofs.WholeHeads.{runs_stayed}
 use Rattle.cbor4ii_items.proofs.StringAnswers.{content_sound, content_refuses, content_stops, as_sound, as_refuses, text_sound, text_refuses, text_stops, utf8_refuses, utf8_stops}
 
 -- ---- a content of a known length
 
 -- what is lent is what the program reads
-pub lends_follow : {E : Type 0} (name : List ℕ) {count : ℕ} {content : List ℕ} {a b : View} → Lends count content a b → Follows {E = E} (content_on name count []) a b (Ok content)
-lends_follow name {count = count} l = record {
+pub lends_runs : {E : Type 0} (name : List ℕ) {count : ℕ} {content : List ℕ} {a b : View} → Lends count content a b → Runs {E = E} (content_on name count []) a b (Ok content)
+lends_runs name {count = count} l = record {
   moves = record { by = l.kept; depth = λ e. refl };
   answers = λ xs told.
       let t = l.at xs told in
       (drop count xs, t.1, content_whole name count [] xs t.0 ∙ ap (λ (z : List ℕ). Ok (z, drop count xs)) (sym t.2));
 }
 
--- a call before which nothing was taken
-stays_follow : {V E : Type 0} {program : Reading V} {a m b : View} {r : Result V (DecodeError E)} → Stays a m → Follows program m b r → Follows program a b r
-stays_follow s f = record { moves = moves_then s.kept f.moves; answers = λ xs told. f.answers xs (s.told xs told) }
-
 pub takes_still : {V E : Type 0} {program : Reading (List ℕ)} (is_text : Bool) (content : V → List ℕ) {a m b : View} (r : Result (Option V) (DecodeError E)) → Stays a m → TakesContent program is_text content m b r → TakesContent program is_text content a b r
-takes_still is_text content (Ok value) s t = record { by = (t.by.0, stays_follow s t.by.1, t.by.2) }
-takes_still is_text content (Err e) s t = record { by = stays_follow s t.by }
+takes_still is_text content (Ok value) s t = record { by = (t.by.0, runs_stayed s t.by.1, t.by.2) }
+takes_still is_text content (Err e) s t = record { by = runs_stayed s t.by }
 
 -- where the bytes are fewer, there is no value
 pub few_borrows : {V E : Type 0} (name : List ℕ) (count : ℕ) (is_text : Bool) (content : V → List ℕ) (IsBorrowed : V → Type 0) {a m b : View} (r : Result (Option V) (DecodeError E)) → Stays a m → (IsTrue a.lends_whole → Told a.told (λ xs. length xs < count))
@@ -59,7 +54,7 @@ module _ {V E : Type 0} (name : List ℕ) (major : ℕ) (is_text : Bool) (conten
   either_known (Err e) run is t = record { by = string_known name major run is t.by }
 
 -- of a text the major type is 3
-pub either_stops : {E : Type 0} (name : List ℕ) {a b : View} (is_text : Bool) (major : ℕ) {e : DecodeError E} → (IsTrue is_text → major ≡ 3) → Follows {V = List ℕ} (string_at name major a.budget) a b (Err e) → Stops (StopsEither is_text name major) a b e
+pub either_stops : {E : Type 0} (name : List ℕ) {a b : View} (is_text : Bool) (major : ℕ) {e : DecodeError E} → (IsTrue is_text → major ≡ 3) → Runs {V = List ℕ} (string_at name major a.budget) a b (Err e) → Stops (StopsEither is_text name major) a b e
 either_stops name {a = a} {b = b} true major {e = e} text f = text_stops (subst (λ (j : ℕ). Stops (StopsString name j) a b e) (text refl) (content_stops name major f))
 either_stops name false major text f = content_stops name major f
 
@@ -68,7 +63,7 @@ module _ {V E : Type 0} (name : List ℕ) (content : V → List ℕ) {a b : View
   either_sound true major text t = text_sound content (sym t.by.2.0) (t.by.2.1 refl) (subst (λ (j : ℕ). Sound (ReadsString j) a b t.by.0) (text refl) (content_sound name major t.by.1))
   either_sound false major text t = as_sound major content (subst (λ z. Sound (ReadsString major) a b z) (sym t.by.2.0) (content_sound name major t.by.1))
 
-  pub either_refuses : (is_text : Bool) (major : ℕ) {e : DecodeError E} → (IsTrue is_text → major ≡ 3) → major < 8 → Follows {V = List ℕ} (string_at name major a.budget) a b (Err e) → Refuses (ReadsEither is_text major content) a e
+  pub either_refuses : (is_text : Bool) (major : ℕ) {e : DecodeError E} → (IsTrue is_text → major ≡ 3) → major < 8 → Runs {V = List ℕ} (string_at name major a.budget) a b (Err e) → Refuses (ReadsEither is_text major content) a e
   either_refuses true major {e = e} text small f = text_refuses content (subst (λ (j : ℕ). Refuses (ReadsString j) a e) (text refl) (content_refuses name major small f))
   either_refuses false major text small f = as_refuses major content (content_refuses name major small f)
 

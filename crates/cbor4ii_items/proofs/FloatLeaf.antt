@@ -74,5 +74,4 @@ runs_float name {marker = marker} {count = count} {bits = bits} {n = n} {front =
       answers = λ xs told.
           let h = lends.at xs told in
           (drop n xs, h.1, (float_again name marker count xs bits n 0 (float_shown n e f h.2)).answer);
-      memory = tt;
     }

@@ -25,7 +25,6 @@ pub runs_marked : {E : Type 0} (name : List ℕ) (least greatest : ℕ) {b : ℕ
 runs_marked name least greatest {b = b} p q r = record {
   moves = record { by = r.moves.by; depth = λ e. refl };
   answers = λ xs told. let h = r.answers xs told in (h.0, h.1, marked_byte name least greatest b xs h.0 p q h.2);
-  memory = tt;
 }
 
 -- ---- what the program answers

@@ -10,7 +10,6 @@ use Rattle.cbor4ii_items.specs.Laws.Outcome.{same_refusal}
 use Rattle.cbor4ii_items.specs.Reading.{peek_at, Runs}
 use Rattle.cbor4ii_items.specs.Refusal.{Refusal, eof}
 use Rattle.cbor4ii_items.specs.Strings.{ReadsBreak}
-use Rattle.cbor4ii_items.specs.Laws.Following.{follows_run}
 use Rattle.cbor4ii_items.specs.Laws.Answering.{fits_zero, refuses_as, refuses_by, stops_by}
 use Rattle.cbor4ii_items.specs.Laws.Running.{peeked}
 
@@ -39,11 +38,11 @@ module _ {E : Type 0} (name : List ℕ) {a b : View} where
 
   pub next_refuses : (r : Result ℕ (DecodeError E)) → Runs (peek_at name 1) a b r → IfErr r (Refuses ReadsNext a)
   next_refuses (Ok v) p = tt
-  next_refuses (Err e) p = refuses_by ReadsNext (λ xs v n c h fits. next_read name xs v n c h) (follows_run p)
+  next_refuses (Err e) p = refuses_by ReadsNext (λ xs v n c h fits. next_read name xs v n c h) p
 
   pub next_stops : (r : Result ℕ (DecodeError E)) → Runs (peek_at name 1) a b r → IfErr r (Stops (StopsNext name) a b)
   next_stops (Ok v) p = tt
-  next_stops (Err e) p = stops_by (StopsNext name) (λ xs z ys f seen. next_refused name xs z ys f) (follows_run p)
+  next_stops (Err e) p = stops_by (StopsNext name) (λ xs z ys f seen. next_refused name xs z ys f) p
 
 -- ---- whether a part follows
 

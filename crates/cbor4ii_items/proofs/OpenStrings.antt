@@ -7,27 +7,25 @@ use Rattle.cbor4ii_items.specs.Reading.{Reading, ◌>=>◌, Runs, Reaches}
 use Rattle.cbor4ii_items.specs.ReadHead.{length_at}
 use Rattle.cbor4ii_items.specs.ReadStrings.{content_on, break_at, chunk_by, chunk_inside, chunk_at, chunks_at, string_by, string_at}
 use Rattle.cbor4ii_items.specs.Laws.Chunks.{chunks_by, chunks_more}
-use Rattle.cbor4ii_items.specs.Following.{Follows}
-use Rattle.cbor4ii_items.specs.Laws.Running.{runs_give, reaches_as, reaches_then}
-use Rattle.cbor4ii_items.specs.Laws.UnderStep.{step_again, step_unbound, follows_around}
-use Rattle.cbor4ii_items.specs.Laws.Following.{follows_run, follows_as, follows_then, follows_run_err, follows_err, follows_end, reaches_follow}
+use Rattle.cbor4ii_items.specs.Laws.Running.{runs_give, reaches_as, reaches_then, runs_as, runs_then, runs_err, reaches_end}
+use Rattle.cbor4ii_items.specs.Laws.UnderStep.{step_again, step_unbound, runs_around}
 
 -- ---- chunks
 
-pub counted_follows : {E : Type 0} (name : List ℕ) (major : ℕ) (content : List ℕ) {l : Option ℕ} {count : ℕ} {a m b : View} {r : Result (List ℕ) (DecodeError E)} → l ≡ Some count → Runs {E = E} (length_at name major) a m (Ok l)
-    → Follows (content_on name count content) m b r → Follows (chunk_inside name major content) a b r
-counted_follows name major content {m = m} {b = b} {r = r} is p q =
-    follows_then (chunk_by name content) (follows_run p) (subst (λ (z : Option ℕ). Follows (chunk_by name content z) m b r) (sym is) q)
+pub counted_runs : {E : Type 0} (name : List ℕ) (major : ℕ) (content : List ℕ) {l : Option ℕ} {count : ℕ} {a m b : View} {r : Result (List ℕ) (DecodeError E)} → l ≡ Some count → Runs {E = E} (length_at name major) a m (Ok l)
+    → Runs (content_on name count content) m b r → Runs (chunk_inside name major content) a b r
+counted_runs name major content {m = m} {b = b} {r = r} is p q =
+    runs_then (chunk_by name content) p (subst (λ (z : Option ℕ). Runs (chunk_by name content z) m b r) (sym is) q)
 
 stepped_in : (name : List ℕ) (major : ℕ) (content : List ℕ) (old new : Option ℕ) → StepsIn old new true → chunk_at name major old content ≡ chunk_inside name major content
 stepped_in name major content None new h = refl
 stepped_in name major content (Some zero) new h = absurd (omega (arith, h.0))
 stepped_in name major content (Some (suc left)) new h = refl
 
-pub chunk_follows : {E : Type 0} (name : List ℕ) (major : ℕ) (content : List ℕ) {a b c d : View} {r : Result (List ℕ) (DecodeError E)} → StepsIn a.budget b.budget true → KeepsAllButBudget a b
-    → Follows (chunk_inside name major content) b c r → d.budget ≡ step_back c.budget → KeepsAllButBudget c d → Follows (chunk_at name major a.budget content) a d r
-chunk_follows name major content {a = a} {b = b} takes inward f gives outward =
-    follows_as (stepped_in name major content a.budget b.budget takes) (follows_around inward outward (λ none. step_unbound a.budget b.budget takes none) (λ same. gives ∙ (ap step_back same ∙ step_again a.budget b.budget takes)) f)
+pub chunk_runs : {E : Type 0} (name : List ℕ) (major : ℕ) (content : List ℕ) {a b c d : View} {r : Result (List ℕ) (DecodeError E)} → StepsIn a.budget b.budget true → KeepsAllButBudget a b
+    → Runs (chunk_inside name major content) b c r → d.budget ≡ step_back c.budget → KeepsAllButBudget c d → Runs (chunk_at name major a.budget content) a d r
+chunk_runs name major content {a = a} {b = b} takes inward f gives outward =
+    runs_as (stepped_in name major content a.budget b.budget takes) (runs_around inward outward (λ none. step_unbound a.budget b.budget takes none) (λ same. gives ∙ (ap step_back same ∙ step_again a.budget b.budget takes)) f)
 
 -- ---- chunks up to a break
 
@@ -36,11 +34,11 @@ module _ (name : List ℕ) (major : ℕ) (budget : Option ℕ) where
     open_after : {E : Type 0} {ended : Bool} → Runs {E = E} break_at l m (Ok ended) → Reaches f (chunks_by name major budget content (chunks_at name major budget) ended) a m
     open_after q = reaches_then (chunks_by name major budget content (chunks_at name major budget)) (reaches_as (chunks_more name major budget content) p) q
 
-    pub open_ended : {E : Type 0} {e : DecodeError E} → Runs {V = Bool} break_at l m (Err e) → Follows f a m (Err e)
-    open_ended q = follows_end p (follows_as (chunks_more name major budget content) (follows_run_err (chunks_by name major budget content (chunks_at name major budget)) q))
+    pub open_ended : {E : Type 0} {e : DecodeError E} → Runs {V = Bool} break_at l m (Err e) → Runs f a m (Err e)
+    open_ended q = reaches_end p (runs_as (chunks_more name major budget content) (runs_err (chunks_by name major budget content (chunks_at name major budget)) q))
 
-    pub open_done : {E : Type 0} {ended : Bool} → ended ≡ true → Runs {E = E} break_at l m (Ok ended) → Follows {E = E} f a m (Ok content)
-    open_done {E = E} is q = follows_end (open_after (subst (λ (t : Bool). Runs {E = E} break_at l m (Ok t)) is q)) (follows_run (runs_give content m))
+    pub open_done : {E : Type 0} {ended : Bool} → ended ≡ true → Runs {E = E} break_at l m (Ok ended) → Runs {E = E} f a m (Ok content)
+    open_done {E = E} is q = reaches_end (open_after (subst (λ (t : Bool). Runs {E = E} break_at l m (Ok t)) is q)) (runs_give content m)
 
     module _ {E : Type 0} {ended : Bool} (is : ended ≡ false) (q : Runs {E = E} break_at l m (Ok ended)) (same : a.budget ≡ budget) where
       at_chunk : Reaches f (chunk_at name major m.budget content >=> chunks_at name major budget) a m
@@ -48,19 +46,19 @@ module _ (name : List ℕ) (major : ℕ) (budget : Option ℕ) where
           let r = open_after (subst (λ (t : Bool). Runs {E = E} break_at l m (Ok t)) is q) in
           subst (λ z. Reaches f (chunk_at name major z content >=> chunks_at name major budget) a m) (sym (r.kept.budget ∙ same)) r
 
-      pub open_more : {b : View} {more : List ℕ} → Follows {E = E} (chunk_at name major m.budget content) m b (Ok more) → Reaches f (chunks_at name major budget more) a b
-      open_more h = reaches_follow (chunks_at name major budget) at_chunk h
+      pub open_more : {b : View} {more : List ℕ} → Runs {E = E} (chunk_at name major m.budget content) m b (Ok more) → Reaches f (chunks_at name major budget more) a b
+      open_more h = reaches_then (chunks_at name major budget) at_chunk h
 
-      pub open_refused : {b : View} {e : DecodeError E} → Follows {V = List ℕ} (chunk_at name major m.budget content) m b (Err e) → Follows f a b (Err e)
-      open_refused h = follows_end at_chunk (follows_err (chunks_at name major budget) h)
+      pub open_refused : {b : View} {e : DecodeError E} → Runs {V = List ℕ} (chunk_at name major m.budget content) m b (Err e) → Runs f a b (Err e)
+      open_refused h = reaches_end at_chunk (runs_err (chunks_at name major budget) h)
 
 -- ---- strings
 
 module _ {E : Type 0} (name : List ℕ) (major : ℕ) {l : Option ℕ} {a m b : View} {r : Result (List ℕ) (DecodeError E)} (p : Runs {E = E} (length_at name major) a m (Ok l)) where
-  pub string_known : {count : ℕ} → l ≡ Some count → Follows (content_on name count []) m b r → Follows (string_at name major a.budget) a b r
-  string_known is q = follows_then (string_by name major a.budget) (follows_run p) (subst (λ (z : Option ℕ). Follows (string_by name major a.budget z) m b r) (sym is) q)
+  pub string_known : {count : ℕ} → l ≡ Some count → Runs (content_on name count []) m b r → Runs (string_at name major a.budget) a b r
+  string_known is q = runs_then (string_by name major a.budget) p (subst (λ (z : Option ℕ). Runs (string_by name major a.budget z) m b r) (sym is) q)
 
-  pub string_chunks : l ≡ None → Follows (chunks_at name major m.budget []) m b r → Follows (string_at name major a.budget) a b r
+  pub string_chunks : l ≡ None → Runs (chunks_at name major m.budget []) m b r → Runs (string_at name major a.budget) a b r
   string_chunks is q =
-      let h : Follows (string_by name major a.budget None) m b r = subst (λ (z : Option ℕ). Follows (chunks_at name major z []) m b r) p.moves.by.budget q in
-      follows_then (string_by name major a.budget) (follows_run p) (subst (λ (z : Option ℕ). Follows (string_by name major a.budget z) m b r) (sym is) h)
+      let h : Runs (string_by name major a.budget None) m b r = subst (λ (z : Option ℕ). Runs (chunks_at name major z []) m b r) p.moves.by.budget q in
+      runs_then (string_by name major a.budget) p (subst (λ (z : Option ℕ). Runs (string_by name major a.budget z) m b r) (sym is) h)

@@ -7,7 +7,7 @@ use Rattle.cbor4ii_rw.specs.View.{View}
 use Rattle.cbor4ii_rw.specs.Reader.{Advances}
 use Rattle.cbor4ii_rw.specs.declared.error.DecodeError.{DecodeError}
 use Rattle.cbor4ii_items.specs.Head.{Width, in_first, one as w_one, two, four, eight, byte_count, HeadFits, additional, head, open_head, shortest, IsBytes}
-use Rattle.cbor4ii_items.specs.Refusal.{Refusal, refusal_of, is_read, is_out_of_memory, is_depth_overflow, eof, len_of, not_canonical}
+use Rattle.cbor4ii_items.specs.Refusal.{Refusal, refusal_of, is_read, is_depth_overflow, eof, len_of, not_canonical}
 use Rattle.cbor4ii_items.specs.Initial.{wide, info_of}
 use Rattle.cbor4ii_items.specs.Reading.{Reading, give, refuse, ◌>=>◌, Runs, peek_at}
 use Rattle.cbor4ii_items.specs.Decoding.{Sound, Refuses, Stops}
@@ -15,10 +15,10 @@ use Rattle.cbor4ii_items.specs.Laws.Outcome.{same_value, same_refusal}
 use Rattle.cbor4ii_items.specs.Heads.{ReadsHead}
 use Rattle.cbor4ii_items.specs.Laws.Heads.{read_head, head_read, additional-lt}
 use Rattle.cbor4ii_items.specs.ReadHead.{head_at}
+use Rattle.cbor4ii_items.specs.Contents.{listed}
 use Rattle.cbor4ii_items.specs.ReadStrings.{content_on}
 use Rattle.cbor4ii_items.specs.ReadShortest.{is_open_head, shortest_by, shortest_at, shortest_string_at}
 use Rattle.cbor4ii_items.specs.Shortest.{canonical_name, OpensLength, ReadsShortest, StopsShortest, shortest_refused, shortest_open, too_long, ReadsShortestString, StopsShortestString, length_refused, content_cut}
-use Rattle.cbor4ii_items.specs.Following.{Follows, listed}
 use Rattle.cbor4ii_items.specs.Laws.ProgramEnds.{Passed, ok_parts, err_parts, head_leaves, content_inverse}
 use Rattle.cbor4ii_items.specs.Laws.Fronts.{drop_more}
 use Rattle.cbor4ii_items.specs.Laws.Answering.{Seen, seen_of, Found, fits_zero, sound_by, refuses_by, stops_by}
@@ -249,15 +249,15 @@ string_stops name major budget xs z ys e seen =
     ]
 
 module _ {E Z : Type 0} (name : List ℕ) (major : ℕ) {a b : View} where
-  pub string_sound : (r : Result (Vec ℕ Z) (DecodeError E)) → Follows (shortest_string_at name major) a b (listed r) → IfOk r (λ v. Sound (ReadsShortestString major) a b v.items)
+  pub string_sound : (r : Result (Vec ℕ Z) (DecodeError E)) → Runs (shortest_string_at name major) a b (listed r) → IfOk r (λ v. Sound (ReadsShortestString major) a b v.items)
   string_sound (Ok v) p = sound_by (ReadsShortestString major) (λ xs ys e seen. string_found name major a.budget xs v.items ys e seen) p
   string_sound (Err e) p = tt
 
-  pub string_complete : (r : Result (Vec ℕ Z) (DecodeError E)) → major < 8 → Follows (shortest_string_at name major) a b (listed r) → IfErr r (Refuses (ReadsShortestString major) a)
+  pub string_complete : (r : Result (Vec ℕ Z) (DecodeError E)) → major < 8 → Runs (shortest_string_at name major) a b (listed r) → IfErr r (Refuses (ReadsShortestString major) a)
   string_complete (Ok v) m p = tt
   string_complete (Err e) m p = refuses_by (ReadsShortestString major) (λ xs v n c h fits. string_again name major m xs v n c h) p
 
-  pub string_refused : (r : Result (Vec ℕ Z) (DecodeError E)) → Follows (shortest_string_at name major) a b (listed r) → IfErr r (Stops (StopsShortestString name major) a b)
+  pub string_refused : (r : Result (Vec ℕ Z) (DecodeError E)) → Runs (shortest_string_at name major) a b (listed r) → IfErr r (Stops (StopsShortestString name major) a b)
   string_refused (Ok v) p = tt
   string_refused (Err e) p = stops_by (StopsShortestString name major) (λ xs z ys f seen. string_stops name major a.budget xs z ys f seen) p
 
@@ -271,7 +271,6 @@ runs_when {f = f} {g = g} name b {c = c} {r = r} first same p = record {
       let t = first.answers xs told in
       let is = peeked name 1 b xs t.0 t.2 in
       as_of (f xs) (g xs) c.told r (ap f is.1 ∙ same is.0 ∙ ap g (sym is.1)) (p.answers xs told);
-  memory = p.memory;
 }
 
 module _ {E : Type 0} (name : List ℕ) (major b : ℕ) {a m : View} (first : Runs {E = E} (peek_at name 1) a m (Ok b)) where
@@ -280,10 +279,10 @@ module _ {E : Type 0} (name : List ℕ) (major b : ℕ) {a m : View} (first : Ru
   opening_is false bs e = cc
 
   -- the first byte of an indefinite length
-  pub runs_opening : {c : View} {e : DecodeError E} → b < 256 → Advances 1 m c → is_open_head major b ≡ true → refusal_of e ≡ Some Longer → is_read e ≡ false → is_out_of_memory e ≡ false → is_depth_overflow e ≡ false
+  pub runs_opening : {c : View} {e : DecodeError E} → b < 256 → Advances 1 m c → is_open_head major b ≡ true → refusal_of e ≡ Some Longer → is_read e ≡ false → is_depth_overflow e ≡ false
       → Runs {V = ℕ} (shortest_at name major) a c (Err e)
-  runs_opening {c = c} byte advances opening says read memory depth =
-      runs_when name b first (λ bs. opening_is (is_open_head major b) bs opening) (runs_then (λ _. refuse Longer) (runs_byte first byte advances) (runs_refuse Longer c says read memory depth))
+  runs_opening {c = c} byte advances opening says read depth =
+      runs_when name b first (λ bs. opening_is (is_open_head major b) bs opening) (runs_then (λ _. refuse Longer) (runs_byte first byte advances) (runs_refuse Longer c says read depth))
 
   head_is : (t : Bool) (bs : List ℕ) → t ≡ false → cond {A = Reading ℕ} t (λ xs. Err (Longer, bs)) (head_at name major 8 >=> shortest_by b) (b ∷ bs) ≡ (head_at name major 8 >=> shortest_by b) (b ∷ bs)
   head_is true bs e = cc
@@ -303,9 +302,9 @@ module _ {E : Type 0} (name : List ℕ) (major b : ℕ) {a m : View} (first : Ru
           let here : shortest_by b n ≡ give n = rw t refl in
           runs_closed (runs_then (shortest_by b) p (runs_as here (runs_give n c)))
 
-      pub runs_too_long : {e : DecodeError E} → b % 32 ≢ additional (shortest n) n → refusal_of e ≡ Some Longer → is_read e ≡ false → is_out_of_memory e ≡ false → is_depth_overflow e ≡ false
+      pub runs_too_long : {e : DecodeError E} → b % 32 ≢ additional (shortest n) n → refusal_of e ≡ Some Longer → is_read e ≡ false → is_depth_overflow e ≡ false
           → Runs {V = ℕ} (shortest_at name major) a c (Err e)
-      runs_too_long other says read memory depth =
+      runs_too_long other says read depth =
           let t : eqb (b % 32) (additional (shortest n) n) ≡ false = ne_eqb (b % 32) (additional (shortest n) n) other in
           let here : shortest_by b n ≡ refuse Longer = rw t refl in
-          runs_closed (runs_then (shortest_by b) p (runs_as here (runs_refuse Longer c says read memory depth)))
+          runs_closed (runs_then (shortest_by b) p (runs_as here (runs_refuse Longer c says read depth)))

@@ -52,13 +52,13 @@ as_minus name plus minus width limit v (b ∷ bs) ys e =
     ap (λ f. f (b ∷ bs)) (signed_negative_by name plus minus width limit b (first_major minus 1 width v b bs ys e))
 
 pub runs_where : {V E : Type 0} {f g : Reading V} {a b : View} {r : Result V (DecodeError E)} → Told a.told (λ xs. f xs ≡ g xs) → Runs g a b r → Runs f a b r
-runs_where {f = f} {g = g} {b = b} {r = r} same q = record { moves = q.moves; answers = λ xs told. as_of (f xs) (g xs) b.told r (same xs told) (q.answers xs told); memory = q.memory }
+runs_where {f = f} {g = g} {b = b} {r = r} same q = record { moves = q.moves; answers = λ xs told. as_of (f xs) (g xs) b.told r (same xs told) (q.answers xs told) }
 
 runs_below : {E : Type 0} (name : List ℕ) (limit v : ℕ) (m : View) → v < limit → Runs {E = E} (below name limit v) m m (Ok v)
 runs_below name limit v m h = let t = lt-ltb v limit h in runs_as (rw t refl) (runs_give v m)
 
 runs_above : {E : Type 0} (name : Bor (List ℕ)) (limit v : ℕ) (m : View) → limit ≤ v → Runs {V = ℕ} {E = E} (below name.now limit v) m m (Err (CastOverflow name))
-runs_above name limit v m h = let t = le-ltb v limit h in runs_as (rw t refl) (runs_refuse (cast_overflow name.now) m refl refl refl refl)
+runs_above name limit v m h = let t = le-ltb v limit h in runs_as (rw t refl) (runs_refuse (cast_overflow name.now) m refl refl refl)
 
 module _ {E : Type 0} (name : List ℕ) (half : Bor (List ℕ)) (other : List ℕ) (width limit : ℕ) {v : ℕ} {a m : View} where
   pub plus_read : {z : ℤ} → z ≡ pos v → v < limit → Runs {E = E} (head_at half.now 0 width) a m (Ok v) → Runs {E = E} (signed_at name half.now other width limit) a m (Ok z)

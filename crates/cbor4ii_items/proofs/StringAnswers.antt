@@ -9,7 +9,8 @@ use denote.Ref.{Bor}
 use Rattle.cbor4ii_items.specs.Moves.{Moves}
 use Rattle.cbor4ii_items.specs.Refusal.{Refusal, refusal_of}
 use Rattle.cbor4ii_items.specs.Decoding.{Sound, Refuses, Stops}
-use Rattle.cbor4ii_items.specs.Following.{Follows, listed}
+use Rattle.cbor4ii_items.specs.Reading.{Runs}
+use Rattle.cbor4ii_items.specs.Contents.{listed}
 use Rattle.cbor4ii_items.specs.ReadStrings.{string_at}
 use Rattle.cbor4ii_items.specs.Strings.{ReadsString, ReadsAs, ReadsTextAs, StopsString, StopsText, no_string, no_utf8}
 use Rattle.cbor4ii_items.specs.Laws.Strings.{string_again, string_one, three_small}
@@ -23,25 +24,25 @@ listed_moves (Ok v) p = record { by = p.by; depth = p.depth }
 listed_moves (Err e) p = record { by = p.by; depth = p.depth }
 
 module _ {E : Type 0} (name : List ℕ) (major : ℕ) {a b : View} where
-  pub content_sound : {items : List ℕ} → Follows {E = E} (string_at name major a.budget) a b (Ok items) → Sound (ReadsString major) a b items
+  pub content_sound : {items : List ℕ} → Runs {E = E} (string_at name major a.budget) a b (Ok items) → Sound (ReadsString major) a b items
   content_sound {items = items} p = sound_by (ReadsString major) (λ xs ys e seen. string_read name major a.budget xs items ys e seen) p
 
-  pub content_refuses : {e : DecodeError E} → major < 8 → Follows {V = List ℕ} (string_at name major a.budget) a b (Err e) → Refuses (ReadsString major) a e
+  pub content_refuses : {e : DecodeError E} → major < 8 → Runs {V = List ℕ} (string_at name major a.budget) a b (Err e) → Refuses (ReadsString major) a e
   content_refuses m p = refuses_by (ReadsString major) (λ xs v n c h fits. string_again name major a.budget xs v n c m h fits) p
 
-  pub content_stops : {e : DecodeError E} → Follows {V = List ℕ} (string_at name major a.budget) a b (Err e) → Stops (StopsString name major) a b e
+  pub content_stops : {e : DecodeError E} → Runs {V = List ℕ} (string_at name major a.budget) a b (Err e) → Stops (StopsString name major) a b e
   content_stops p = stops_by (StopsString name major) (λ xs z ys f seen. string_stops name major a.budget xs z ys f seen) p
 
   module _ {Z : Type 0} where
-    pub string_sound : (r : Result (Vec ℕ Z) (DecodeError E)) → Follows (string_at name major a.budget) a b (listed r) → IfOk r (λ v. Sound (ReadsString major) a b v.items)
+    pub string_sound : (r : Result (Vec ℕ Z) (DecodeError E)) → Runs (string_at name major a.budget) a b (listed r) → IfOk r (λ v. Sound (ReadsString major) a b v.items)
     string_sound (Ok v) p = content_sound p
     string_sound (Err e) p = tt
 
-    pub string_refuses : (r : Result (Vec ℕ Z) (DecodeError E)) → major < 8 → Follows (string_at name major a.budget) a b (listed r) → IfErr r (Refuses (ReadsString major) a)
+    pub string_refuses : (r : Result (Vec ℕ Z) (DecodeError E)) → major < 8 → Runs (string_at name major a.budget) a b (listed r) → IfErr r (Refuses (ReadsString major) a)
     string_refuses (Ok v) m p = tt
     string_refuses (Err e) m p = content_refuses m p
 
-    pub string_refused : (r : Result (Vec ℕ Z) (DecodeError E)) → Follows (string_at name major a.budget) a b (listed r) → IfErr r (Stops (StopsString name major) a b)
+    pub string_refused : (r : Result (Vec ℕ Z) (DecodeError E)) → Runs (string_at name major a.budget) a b (listed r) → IfErr r (Stops (StopsString name major) a b)
     string_refused (Ok v) p = tt
     string_refused (Err e) p = content_stops p
 

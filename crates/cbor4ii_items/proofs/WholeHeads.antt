@@ -76,7 +76,6 @@ runs_whole name {major = major} {width = width} {want = want} {argument = argume
     record {
       moves = record { by = l.kept; depth = λ e. refl };
       answers = λ xs told. (drop n xs, (l.at xs told).1, begins_whole name major width want argument n shown xs (front xs told) h);
-      memory = tt;
     }
 
 -- a call after one that took nothing
@@ -84,7 +83,6 @@ pub runs_stayed : {V E : Type 0} {f : Reading V} {a m b : View} {r : Result V (D
 runs_stayed {m = m} {b = b} {r = r} s p = record {
   moves = moves_then s.kept p.moves;
   answers = λ xs told. p.answers xs (s.told xs told);
-  memory = p.memory;
 }
 
 pub progress_stayed : {V E : Type 0} {a m : View} (bound : ℕ) (r : Result V (DecodeError E)) → Stays a m → OnOk r (bound + 1 ≤ m.bound) → OnOk r (bound + 1 ≤ a.bound)
@@ -101,7 +99,7 @@ found_none E p None e h = h
 found_none E p (Some u) e h = cc
 
 pub runs_broke : {V E : Type 0} {f : Reading V} {a b : View} {e : E} → Broke a b → Runs f a b (Err (Read e))
-runs_broke p = record { moves = record { by = p; depth = λ n. refl }; answers = λ xs told. tt; memory = refl }
+runs_broke p = record { moves = record { by = p; depth = λ n. refl }; answers = λ xs told. tt }
 
 -- ---- a length that stands whole
 
@@ -122,5 +120,4 @@ pub runs_counted : {E : Type 0} (name : List ℕ) (major : ℕ) {n : ℕ} {a b :
 runs_counted name major {n = n} m p = record {
   moves = moves_ok p.moves;
   answers = λ xs told. let h = p.answers xs told in (h.0, h.1, length_read name major n xs h.0 m h.2);
-  memory = tt;
 }

@@ -9,8 +9,7 @@ use Rattle.cbor4ii_rw.specs.declared.error.DecodeError.{DecodeError}
 use Rattle.cbor4ii_items.specs.declared.types.Bytes.{Bytes}
 use Rattle.cbor4ii_items.specs.declared.types.UncheckedStr.{UncheckedStr}
 use Rattle.cbor4ii_items.specs.Head.{open_head}
-use Rattle.cbor4ii_items.specs.Reading.{Reading}
-use Rattle.cbor4ii_items.specs.Following.{Follows}
+use Rattle.cbor4ii_items.specs.Reading.{Reading, Runs}
 use Rattle.cbor4ii_items.specs.Strings.{ReadsAs, ReadsTextAs, StopsString, StopsText}
 use Rattle.cbor4ii_items.specs.Decoding.{Reads, StopsAt}
 
@@ -61,8 +60,8 @@ Holds is_text content items None = IsTrue is_text × (IsUtf8 items → ⊥)
 
 -- the program's content was read, and the answer holds it; or the program was refused
 abbrev pub TakesBy : {V E : Type 0} → Reading (List ℕ) → Bool → (V → List ℕ) → View → View → Result (Option V) (DecodeError E) → Type 0
-TakesBy {E = E} program is_text content old new (Ok value) = (items : List ℕ) × Follows {E = E} program old new (Ok items) × Holds is_text content items value
-TakesBy {E = E} program is_text content old new (Err e) = Follows {E = E} program old new (Err e)
+TakesBy {E = E} program is_text content old new (Ok value) = (items : List ℕ) × Runs {E = E} program old new (Ok items) × Holds is_text content items value
+TakesBy {E = E} program is_text content old new (Err e) = Runs {E = E} program old new (Err e)
 
 -- a call that does what the program does where there is memory, and then makes a value of the content
 pub record TakesContent {V E : Type 0} (program : Reading (List ℕ)) (is_text : Bool) (content : V → List ℕ) (old new : View) (answer : Result (Option V) (DecodeError E)) : Type 0 where

@@ -2,7 +2,6 @@
 pub mod Arguments
 pub mod Steps
 pub mod Running
-pub mod Following
 pub mod Answering
 pub mod UnderStep
 pub mod Breaks

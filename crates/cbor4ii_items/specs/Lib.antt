@@ -26,7 +26,7 @@ pub mod Next
 pub mod Shortest
 -- ---- what the decoders do, without the reader: the words of private contracts
 pub mod Reading
-pub mod Following
+pub mod Contents
 pub mod Front
 pub mod Marked
 pub mod ReadHead

@@ -1,9 +1,9 @@
 -- Programs that read off the front of a list: what the decoders do, without the reader.
-use Rattle.std.specs.Prelude.{◌≡◌, ℕ, List, [], ◌∷◌, Some, Option, Result, Ok, Err, IfSome, IfErr, false}
+use Rattle.std.specs.Prelude.{◌≡◌, ℕ, List, [], ◌∷◌, Some, Option, Result, Ok, Err, IfSome}
 use Rattle.cbor4ii_rw.specs.View.{View, Told}
 use Rattle.cbor4ii_rw.specs.declared.error.DecodeError.{DecodeError}
 use Rattle.cbor4ii_rw.specs.declared.error.Len.TheVariants.{Small}
-use Rattle.cbor4ii_items.specs.Refusal.{Refusal, refusal_of, is_out_of_memory, eof}
+use Rattle.cbor4ii_items.specs.Refusal.{Refusal, refusal_of, eof}
 use Rattle.cbor4ii_items.specs.Moves.{Kept, Moves}
 
 -- a value and the bytes after it, or the refusal and the bytes that are left then
@@ -42,12 +42,11 @@ abbrev pub AnswersAs : {V E : Type 0} → Result (V × List ℕ) (Refusal × Lis
 AnswersAs outcome new (Ok v) = (ys : List ℕ) × (new ≡ Some ys) × (outcome ≡ Ok (v, ys))
 AnswersAs outcome new (Err e) = IfSome (refusal_of e) (λ refusal. (ys : List ℕ) × (new ≡ Some ys) × (outcome ≡ Err (refusal, ys)))
 
--- A call that does what the program does: over any reader it leaves the reader as a decoding call does and takes no
--- memory, and over told bytes it answers as the program.
+-- A call that does what the program does: over any reader it leaves the reader as a decoding call does, and over told
+-- bytes it answers as the program, unless there was no memory.
 pub record Runs {V E : Type 0} (program : Reading V) (old new : View) (answer : Result V (DecodeError E)) : Type 0 where
   pub moves : Moves old new answer
   pub answers : Told old.told (λ xs. AnswersAs (program xs) new.told answer)
-  pub memory : IfErr answer (λ e. is_out_of_memory e ≡ false)
 
 -- A call that is under way: it took some bytes of what the whole program reads, and the program next is left to do.
 pub record Reaches {V : Type 0} (whole next : Reading V) (old new : View) : Type 0 where

@@ -7,7 +7,7 @@ ghost use Rattle.cbor4ii_items.specs.Shortest.{
   StopsShortestString,
 };
 ghost use Rattle.cbor4ii_items.specs.Decoding.{Sound, Refuses, Stops};
-ghost use Rattle.cbor4ii_items.specs.Following.{Follows, listed};
+ghost use Rattle.cbor4ii_items.specs.Contents.{listed};
 ghost use Rattle.cbor4ii_items.specs.Head.{additional, shortest};
 ghost use Rattle.cbor4ii_items.specs.Moves.{Moves};
 ghost use Rattle.cbor4ii_items.specs.ReadShortest.{is_open_head, shortest_at, shortest_string_at};
@@ -79,7 +79,7 @@ fn take_string<S: Source>(
     major: u8,
 ) -> Result<Vec<u8>, DecodeError<S::Error>>
     requires { major < 7 }
-    ensures follows { Follows (shortest_string_at name.now major)
+    ensures runs { Runs (shortest_string_at name.now major)
         (S.view reader.old) (S.view reader.new) (listed result) }
     ensures progress { OnOk result ((S.view reader.new).bound + 1 ≤ (S.view reader.old).bound) }
 {
@@ -96,6 +96,7 @@ fn take_shortest<S: Source>(
     requires { major < 7 }
     ensures runs { Runs (shortest_at name.now major)
         (S.view reader.old) (S.view reader.new) result }
+    ensures memory { IfErr result (λ error. is_out_of_memory error ≡ false) }
     ensures progress { OnOk result ((S.view reader.new).bound + 1 ≤ (S.view reader.old).bound) }
 {
     let first = peek(reader, name, 1)?;

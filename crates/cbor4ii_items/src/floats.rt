@@ -19,6 +19,7 @@ ghost use Rattle.cbor4ii_items.specs.Head.{IsBytes};
 ghost use Rattle.cbor4ii_items.specs.Magnitude.{number_of};
 ghost use Rattle.cbor4ii_items.specs.Decoding.{Sound, Refuses, Stops};
 ghost use Rattle.cbor4ii_items.specs.Reading.{Runs};
+ghost use Rattle.cbor4ii_items.specs.Refusal.{is_out_of_memory};
 ghost use Rattle.cbor4ii_items.specs.Floats.{
   float_bytes,
   IsInFront,
@@ -55,6 +56,7 @@ fn float<S: Source>(
     requires { bytes ≤ 8 }
     ensures runs { Runs (float_at name.now marker bytes)
         (S.view reader.old) (S.view reader.new) result }
+    ensures memory { IfErr result (λ error. is_out_of_memory error ≡ false) }
     ensures fits { IfOk result (λ v. v < 256 ^ bytes) }
     ensures progress { OnOk result ((S.view reader.new).bound + 1 ≤ (S.view reader.old).bound) }
     ensures sound { IfOk result
@@ -77,6 +79,7 @@ fn bits<S: Source>(
     requires { bytes ≤ 8 }
     ensures runs { Runs (float_at name.now marker bytes)
         (S.view reader.old) (S.view reader.new) result }
+    ensures memory { IfErr result (λ error. is_out_of_memory error ≡ false) }
     ensures fits { IfOk result (λ v. v < 256 ^ bytes) }
     ensures progress { OnOk result ((S.view reader.new).bound + 1 ≤ (S.view reader.old).bound) }
 {
@@ -133,6 +136,7 @@ fn bits_by_byte<S: Source>(
     requires { bytes ≤ 8 }
     ensures runs { Runs (float_at name.now marker bytes)
         (S.view reader.old) (S.view reader.new) result }
+    ensures memory { IfErr result (λ error. is_out_of_memory error ≡ false) }
     ensures fits { IfOk result (λ v. v < 256 ^ bytes) }
     ensures progress { OnOk result ((S.view reader.new).bound + 1 ≤ (S.view reader.old).bound) }
 {

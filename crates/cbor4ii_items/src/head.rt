@@ -1,9 +1,10 @@
 //! Heads, read.
-ghost use Rattle.std.specs.Prelude.{◌≡◌, ℕ, ◌+◌, ◌≤◌, ◌<◌, ◌^◌, OnOk, IfOk, IfErr};
+ghost use Rattle.std.specs.Prelude.{◌≡◌, ℕ, ◌+◌, ◌≤◌, ◌<◌, ◌^◌, OnOk, IfOk, IfErr, false};
 ghost use Rattle.cbor4ii_items.specs.Decoding.{Sound, Refuses, Stops};
 ghost use Rattle.cbor4ii_items.specs.Lengths.{ReadsLength, StopsLength};
 ghost use Rattle.cbor4ii_items.specs.Numbers.{ReadsArgument, StopsArgument};
 ghost use Rattle.cbor4ii_items.specs.Reading.{Runs, peek_at, byte_at};
+ghost use Rattle.cbor4ii_items.specs.Refusal.{is_out_of_memory};
 ghost use Rattle.cbor4ii_items.specs.Marked.{marked_at};
 ghost use Rattle.cbor4ii_items.specs.ReadHead.{
   number_on,
@@ -26,6 +27,7 @@ pub(crate) fn peek<S: Source>(
     expect: u16,
 ) -> Result<u8, DecodeError<S::Error>>
     ensures runs { Runs (peek_at name.now expect) (S.view reader.old) (S.view reader.new) result }
+    ensures memory { IfErr result (λ error. is_out_of_memory error ≡ false) }
     ensures byte { IfOk result (λ b. b < 256) }
     ensures can { OnOk result (1 ≤ (S.view reader.new).advanceable) }
 {
@@ -52,6 +54,7 @@ pub(crate) fn take<S: Source>(
     expect: u16,
 ) -> Result<u8, DecodeError<S::Error>>
     ensures runs { Runs (byte_at name.now expect) (S.view reader.old) (S.view reader.new) result }
+    ensures memory { IfErr result (λ error. is_out_of_memory error ≡ false) }
     ensures byte { IfOk result (λ b. b < 256) }
     ensures progress { OnOk result ((S.view reader.new).bound + 1 ≤ (S.view reader.old).bound) }
 {
@@ -69,6 +72,7 @@ pub(crate) fn marked<S: Source>(
 ) -> Result<u8, DecodeError<S::Error>>
     ensures runs { Runs (marked_at name.now least greatest)
         (S.view reader.old) (S.view reader.new) result }
+    ensures memory { IfErr result (λ error. is_out_of_memory error ≡ false) }
     ensures progress { OnOk result ((S.view reader.new).bound + 1 ≤ (S.view reader.old).bound) }
 {
     let byte = peek(reader, name, 1)?;
@@ -88,6 +92,7 @@ pub(crate) fn number<S: Source>(
     requires { bytes ≤ 16 }
     ensures runs { Runs (number_on name.now bytes bytes 0)
         (S.view reader.old) (S.view reader.new) result }
+    ensures memory { IfErr result (λ error. is_out_of_memory error ≡ false) }
     ensures fits { IfOk result (λ v. v < 256 ^ bytes) }
 {
     let mut value = 0;
@@ -109,6 +114,7 @@ fn argument<S: Source>(
 ) -> Result<u64, DecodeError<S::Error>>
     ensures runs { Runs (argument_at name.now width first)
         (S.view reader.old) (S.view reader.new) result }
+    ensures memory { IfErr result (λ error. is_out_of_memory error ≡ false) }
     ensures fits { 1 ≤ width → IfOk result (λ v. v < 256 ^ width) }
 {
     let info = first % 32;
@@ -131,6 +137,7 @@ pub(crate) fn head<S: Source>(
 ) -> Result<u64, DecodeError<S::Error>>
     ensures runs { Runs (head_at name.now major width)
         (S.view reader.old) (S.view reader.new) result }
+    ensures memory { IfErr result (λ error. is_out_of_memory error ≡ false) }
     ensures fits { 1 ≤ width → IfOk result (λ v. v < 256 ^ width) }
     ensures progress { OnOk result ((S.view reader.new).bound + 1 ≤ (S.view reader.old).bound) }
 {
@@ -152,6 +159,7 @@ fn head_by_bytes<S: Source>(
 ) -> Result<u64, DecodeError<S::Error>>
     ensures runs { Runs (head_at name.now major width)
         (S.view reader.old) (S.view reader.new) result }
+    ensures memory { IfErr result (λ error. is_out_of_memory error ≡ false) }
     ensures fits { 1 ≤ width → IfOk result (λ v. v < 256 ^ width) }
     ensures progress { OnOk result ((S.view reader.new).bound + 1 ≤ (S.view reader.old).bound) }
 {
@@ -173,6 +181,7 @@ pub(crate) fn lone_head<S: Source>(
     requires { major < 8 }
     ensures runs { Runs (head_at name.now major width)
         (S.view reader.old) (S.view reader.new) result }
+    ensures memory { IfErr result (λ error. is_out_of_memory error ≡ false) }
     ensures fits { 1 ≤ width → IfOk result (λ v. v < 256 ^ width) }
     ensures progress { OnOk result ((S.view reader.new).bound + 1 ≤ (S.view reader.old).bound) }
     ensures sound { IfOk result
@@ -193,6 +202,7 @@ pub(crate) fn length<S: Source>(
 ) -> Result<Option<u64>, DecodeError<S::Error>>
     requires { major < 8 }
     ensures runs { Runs (length_at name.now major) (S.view reader.old) (S.view reader.new) result }
+    ensures memory { IfErr result (λ error. is_out_of_memory error ≡ false) }
     ensures progress { OnOk result ((S.view reader.new).bound + 1 ≤ (S.view reader.old).bound) }
 {
     match take_head(reader, major, 8) {
@@ -212,6 +222,7 @@ fn length_by_bytes<S: Source>(
 ) -> Result<Option<u64>, DecodeError<S::Error>>
     requires { major < 8 }
     ensures runs { Runs (length_at name.now major) (S.view reader.old) (S.view reader.new) result }
+    ensures memory { IfErr result (λ error. is_out_of_memory error ≡ false) }
     ensures progress { OnOk result ((S.view reader.new).bound + 1 ≤ (S.view reader.old).bound) }
 {
     let first = take(reader, name, 1)?;
@@ -234,6 +245,7 @@ pub(crate) fn lone_length<S: Source>(
 ) -> Result<Option<usize>, DecodeError<S::Error>>
     requires { major < 8 }
     ensures runs { Runs (length_at name.now major) (S.view reader.old) (S.view reader.new) result }
+    ensures memory { IfErr result (λ error. is_out_of_memory error ≡ false) }
     ensures progress { OnOk result ((S.view reader.new).bound + 1 ≤ (S.view reader.old).bound) }
     ensures sound { IfOk result
         (Sound (ReadsLength major) (S.view reader.old) (S.view reader.new)) }

@@ -84,6 +84,7 @@ pub fn follows<S: Source>(
 /// As `is_break`, by what a program does.
 pub(crate) fn at_break<S: Source>(reader: &mut S) -> Result<bool, DecodeError<S::Error>>
     ensures runs { Runs break_at (S.view reader.old) (S.view reader.new) result }
+    ensures memory { IfErr result (λ error. is_out_of_memory error ≡ false) }
 {
     let byte = peek(reader, "break", 1)?;
     if byte == marker::BREAK {

@@ -1,5 +1,5 @@
 //! Optional items as arrays of no item or one.
-ghost use Rattle.std.specs.Prelude.{◌≡◌, ◌+◌, ◌≤◌, OnOk, IfOk, IfErr, true};
+ghost use Rattle.std.specs.Prelude.{◌≡◌, ◌+◌, ◌≤◌, OnOk, IfOk, IfErr, true, false};
 ghost use Rattle.cbor4ii_items.specs.Containers.{SameOption};
 ghost use Rattle.cbor4ii_items.specs.Decoding.{Sound, Refuses, Stops};
 ghost use Rattle.cbor4ii_items.specs.Maybe.{
@@ -17,6 +17,7 @@ ghost use Rattle.cbor4ii_items.specs.Laws.Maybe.{
   maybe_alone,
 };
 ghost use Rattle.cbor4ii_items.specs.Reading.{Runs};
+ghost use Rattle.cbor4ii_items.specs.Refusal.{is_out_of_memory};
 ghost use Rattle.cbor4ii_items.specs.Writing.{Writes};
 
 use crate::decode::{Decode, Spelled};
@@ -89,6 +90,7 @@ impl<S: Source, T: Decode<S>> Decode<S> for Maybe<Option<T>> {
 /// Takes the head of an array of no item or one, and answers whether an item is to follow.
 fn item_follows<S: Source>(reader: &mut S) -> Result<bool, DecodeError<S::Error>>
     ensures runs { Runs few_at (S.view reader.old) (S.view reader.new) result }
+    ensures memory { IfErr result (λ error. is_out_of_memory error ≡ false) }
     ensures progress { OnOk result ((S.view reader.new).bound + 1 ≤ (S.view reader.old).bound) }
     ensures sound { IfOk result (Sound ReadsFew (S.view reader.old) (S.view reader.new)) }
     ensures complete { IfErr result (Refuses ReadsFew (S.view reader.old)) }
@@ -100,6 +102,7 @@ fn item_follows<S: Source>(reader: &mut S) -> Result<bool, DecodeError<S::Error>
 /// As `item_follows`, by what a program does.
 fn take_few<S: Source>(reader: &mut S) -> Result<bool, DecodeError<S::Error>>
     ensures runs { Runs few_at (S.view reader.old) (S.view reader.new) result }
+    ensures memory { IfErr result (λ error. is_out_of_memory error ≡ false) }
     ensures progress { OnOk result ((S.view reader.new).bound + 1 ≤ (S.view reader.old).bound) }
 {
     match lone_length(reader, "array", major::ARRAY)? {

@@ -1,6 +1,7 @@
 //! Simple values (RFC 8949 section 3.3).
-ghost use Rattle.std.specs.Prelude.{◌≡◌, ◌+◌, ◌≤◌, ◌∷◌, [], true, false, OnOk};
+ghost use Rattle.std.specs.Prelude.{◌≡◌, ◌+◌, ◌≤◌, ◌∷◌, [], true, false, OnOk, IfErr};
 ghost use Rattle.cbor4ii_items.specs.Reading.{Runs};
+ghost use Rattle.cbor4ii_items.specs.Refusal.{is_out_of_memory};
 ghost use Rattle.cbor4ii_items.specs.Numbers.{shortest_head};
 ghost use Rattle.cbor4ii_items.specs.Initial.{simple_byte, simple_null, simple_undefined};
 ghost use Rattle.cbor4ii_items.specs.Simple.{
@@ -138,6 +139,7 @@ impl<S: Source> Decode<S> for bool {
 
 fn flag<S: Source>(reader: &mut S) -> Result<bool, DecodeError<S::Error>>
     ensures runs { Runs bool_at (S.view reader.old) (S.view reader.new) result }
+    ensures memory { IfErr result (λ error. is_out_of_memory error ≡ false) }
     ensures progress { OnOk result ((S.view reader.new).bound + 1 ≤ (S.view reader.old).bound) }
 {
     let byte = marked(reader, "bool", marker::FALSE, marker::TRUE)?;

@@ -7,9 +7,8 @@ use Rattle.cbor4ii_rw.specs.declared.error.DecodeError.TheVariants.{Read}
 use Rattle.cbor4ii_items.specs.Head.{IsBytes}
 use Rattle.cbor4ii_items.specs.Moves.{Kept, Broke, Moves}
 use Rattle.cbor4ii_items.specs.Refusal.{Refusal, refusal_of, is_read}
-use Rattle.cbor4ii_items.specs.Reading.{Reading}
+use Rattle.cbor4ii_items.specs.Reading.{Reading, Runs}
 use Rattle.cbor4ii_items.specs.Decoding.{IsExact, Reads, StopsAt, CostFits, Sound, NoneRead, Refuses, Stops}
-use Rattle.cbor4ii_items.specs.Following.{Follows}
 use Rattle.std.proofs.lemmas.List.{length-drop}
 use Rattle.cbor4ii_items.specs.Laws.Heads.{IsBytes-take}
 
@@ -40,7 +39,7 @@ pub record Found {V : Type 0} (reads : Reads V) (budget : Option ℕ) (xs : List
 -- ---- a value
 
 pub sound_by : {V E : Type 0} {program : Reading V} {v : V} {a b : View} (reads : Reads V) → ((xs ys : List ℕ) → program xs ≡ Ok (v, ys) → Seen xs ys → Found reads a.budget xs v ys)
-    → Follows {E = E} program a b (Ok v) → Sound reads a b v
+    → Runs {E = E} program a b (Ok v) → Sound reads a b v
 sound_by {b = b} reads means p = record {
   at = λ xs told.
       let h = p.answers xs told in
@@ -58,7 +57,7 @@ none_by program reads None xs budget left again h = tt
 none_by program reads (Some z) xs budget left again h = λ v n c r fits. let f = again v n c r fits in let g = h.2 in cc
 
 pub refuses_by : {V E : Type 0} {program : Reading V} {e : DecodeError E} {a b : View} (reads : Reads V) → ((xs : List ℕ) (v : V) (n c : ℕ) → reads xs v n c → CostFits c a.budget → program xs ≡ Ok (v, drop n xs))
-    → Follows program a b (Err e) → Refuses reads a e
+    → Runs program a b (Err e) → Refuses reads a e
 refuses_by {program = program} {e = e} {a = a} {b = b} reads again p = record { at = λ xs told. none_by program reads (refusal_of e) xs a.budget b.told (again xs) (p.answers xs told) }
 
 not_read : {E : Type 0} (e : DecodeError E) (z : Refusal) → refusal_of e ≡ Some z → is_read e ≡ false
@@ -79,7 +78,7 @@ stopped_by program e a b stops xs told means moves (Some z) says h =
     (h.0, h.1, means z h.0 h.2 (seen_of xs h.0 t.0 t.1.within t.1.bytes f))
 
 pub stops_by : {V E : Type 0} {program : Reading V} {e : DecodeError E} {a b : View} (stops : StopsAt) → ((xs : List ℕ) (z : Refusal) (ys : List ℕ) → program xs ≡ Err (z, ys) → Seen xs ys → stops xs a.budget z ys)
-    → Follows {V = V} program a b (Err e) → Stops stops a b e
+    → Runs {V = V} program a b (Err e) → Stops stops a b e
 stops_by {program = program} {e = e} {a = a} {b = b} stops means p = record { at = λ xs told. stopped_by program e a b stops xs told (means xs) p.moves (refusal_of e) refl (p.answers xs told) }
 
 -- ---- one type as another

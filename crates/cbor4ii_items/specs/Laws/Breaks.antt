@@ -10,7 +10,6 @@ use Rattle.cbor4ii_items.specs.ReadStrings.{break_at}
 use Rattle.cbor4ii_items.specs.Laws.ProgramEnds.{break_yes, break_no, break_refused}
 use Rattle.cbor4ii_items.specs.Strings.{ReadsBreak, StopsBreak}
 use Rattle.cbor4ii_items.specs.Laws.Strings.{break_again}
-use Rattle.cbor4ii_items.specs.Laws.Following.{follows_run}
 use Rattle.cbor4ii_items.specs.Laws.Answering.{Found, fits_zero, sound_by, refuses_by, stops_by}
 use Rattle.cbor4ii_items.specs.Laws.Outcome.{same_value}
 
@@ -25,7 +24,6 @@ pub runs_break : {E : Type 0} {b : ℕ} {a c : View} → b ≡ break → Runs {E
 runs_break {b = b} is p = record {
   moves = record { by = p.moves.by; depth = p.moves.depth };
   answers = λ xs told. let h = p.answers xs told in (h.0, h.1, broken b xs h.0 is h.2);
-  memory = tt;
 }
 
 -- ---- what is answered
@@ -45,13 +43,13 @@ break_read xs true n c h = break_again xs h.0 ∙ ap (λ j. Ok (true, drop j xs)
 break_read xs false n c h = stays xs h.0 h.1 ∙ ap (λ j. Ok (false, drop j xs)) (sym h.2)
 
 pub break_sound : {E : Type 0} {a b : View} (r : Result Bool (DecodeError E)) → Runs break_at a b r → IfOk r (Sound ReadsBreak a b)
-break_sound {a = a} (Ok v) p = sound_by ReadsBreak (λ xs ys e seen. break_found a.budget v xs ys e) (follows_run p)
+break_sound {a = a} (Ok v) p = sound_by ReadsBreak (λ xs ys e seen. break_found a.budget v xs ys e) p
 break_sound (Err e) p = tt
 
 pub break_refuses : {E : Type 0} {a b : View} (r : Result Bool (DecodeError E)) → Runs break_at a b r → IfErr r (Refuses ReadsBreak a)
 break_refuses (Ok v) p = tt
-break_refuses (Err e) p = refuses_by ReadsBreak (λ xs v n c h fits. break_read xs v n c h) (follows_run p)
+break_refuses (Err e) p = refuses_by ReadsBreak (λ xs v n c h fits. break_read xs v n c h) p
 
 pub break_stops : {E : Type 0} {a b : View} (r : Result Bool (DecodeError E)) → Runs break_at a b r → IfErr r (Stops StopsBreak a b)
 break_stops (Ok v) p = tt
-break_stops (Err e) p = stops_by StopsBreak (λ xs z ys f seen. break_refused xs ys z f) (follows_run p)
+break_stops (Err e) p = stops_by StopsBreak (λ xs z ys f seen. break_refused xs ys z f) p

@@ -14,10 +14,10 @@ use Rattle.cbor4ii_rw.specs.View.{Told}
 use Rattle.cbor4ii_items.specs.Head.{IsBytes}
 use Rattle.cbor4ii_items.specs.Moves.{Took}
 use Rattle.cbor4ii_items.specs.Refusal.{eof, len_of}
-use Rattle.cbor4ii_items.specs.Reading.{Reading, Reaches}
+use Rattle.cbor4ii_items.specs.Reading.{Reading, Reaches, Runs}
+use Rattle.cbor4ii_items.specs.Contents.{TakesOnto}
 use Rattle.cbor4ii_items.specs.ReadStrings.{content_on}
 use Rattle.cbor4ii_items.specs.Laws.CountedContent.{content_short, content_whole}
-use Rattle.cbor4ii_items.specs.Following.{Follows, TakesOnto}
 use Rattle.cbor4ii_items.specs.Laws.Fronts.{drop_more}
 use Rattle.cbor4ii_items.specs.Laws.Steps.{kept_then}
 
@@ -56,7 +56,7 @@ reaches_content name {missing = missing} {n = n} {before = before} {after = afte
       (drop n s.0, u.1, s.2 ∙ (content_more name missing n before s.0 t.most u.0 ∙ ap (λ z. content_on name (missing - n) z (drop n s.0)) (sym u.2)));
 }
 
-pub content_ends : {E : Type 0} {f : Reading (List ℕ)} (name : List ℕ) {missing : ℕ} {content : List ℕ} {a b : View} → missing ≡ 0 → Reaches f (content_on name missing content) a b → Follows {E = E} f a b (Ok content)
+pub content_ends : {E : Type 0} {f : Reading (List ℕ)} (name : List ℕ) {missing : ℕ} {content : List ℕ} {a b : View} → missing ≡ 0 → Reaches f (content_on name missing content) a b → Runs {E = E} f a b (Ok content)
 content_ends name {missing = missing} {content = content} none p = record {
   moves = record { by = p.kept; depth = λ e. refl };
   answers = λ xs told.

@@ -7,7 +7,7 @@ use Rattle.cbor4ii_rw.specs.Reader.{Shows, Breaks, Advances, IsFront, counts}
 use Rattle.cbor4ii_rw.specs.declared.error.DecodeError.{DecodeError}
 use Rattle.cbor4ii_rw.specs.declared.error.DecodeError.TheVariants.{Eof}
 use Rattle.cbor4ii_rw.specs.declared.error.Len.TheVariants.{Small}
-use Rattle.cbor4ii_items.specs.Refusal.{Refusal, refusal_of, is_read, is_out_of_memory, is_depth_overflow, eof}
+use Rattle.cbor4ii_items.specs.Refusal.{Refusal, refusal_of, is_read, is_depth_overflow, eof}
 use Rattle.cbor4ii_items.specs.Moves.{Took, Kept, Broke}
 use Rattle.cbor4ii_items.specs.Reading.{Reading, give, refuse, go_on, ◌>=>◌, peek_at, byte_at, AnswersAs, Runs, Reaches}
 use Rattle.cbor4ii_items.specs.Laws.Outcome.{same_value}
@@ -29,7 +29,6 @@ runs_then {f = f} g {b = b} {u = u} {r = r} p q = record {
   answers = λ xs told.
       let h = p.answers xs told in
       as_of (go_on (f xs) g) (g u h.0) b.told r (ap (λ z. go_on z g) h.2) (q.answers h.0 h.1);
-  memory = q.memory;
 }
 
 pub refused_then : {U V : Type 0} (o : Option Refusal) (outcome : Result (U × List ℕ) (Refusal × List ℕ)) (g : U → Reading V) (new : Option (List ℕ))
@@ -43,7 +42,6 @@ pub runs_err : {U V E : Type 0} {f : Reading U} (g : U → Reading V) {a m : Vie
 runs_err {f = f} g {m = m} {e = e} p = record {
   moves = moves_err p.moves;
   answers = λ xs told. refused_then (refusal_of e) (f xs) g m.told (p.answers xs told);
-  memory = p.memory;
 }
 
 -- ---- nothing is read
@@ -60,7 +58,7 @@ kept_alike a = record {
 }
 
 pub runs_give : {V E : Type 0} (v : V) (a : View) → Runs {E = E} (give v) a a (Ok v)
-runs_give v a = record { moves = record { by = kept_alike a; depth = λ e. refl }; answers = λ xs told. (xs, told, refl); memory = tt }
+runs_give v a = record { moves = record { by = kept_alike a; depth = λ e. refl }; answers = λ xs told. (xs, told, refl) }
 
 pub unread : (t : Bool) (a b : View) → t ≡ false → Kept a b → MatchBool t (Broke a b) (Kept a b)
 unread true a b e k = cc
@@ -72,17 +70,16 @@ refused_as None z outcome new e h = cc
 refused_as (Some y) z outcome new e h = let f : z ≡ y = cc in (h.0, h.1, subst (λ x. outcome ≡ Err (x, h.0)) f h.2)
 
 -- an error that says the refusal z, where the reader was kept
-pub runs_refused : {V E : Type 0} {f : Reading V} {a b : View} {e : DecodeError E} (z : Refusal) → refusal_of e ≡ Some z → is_read e ≡ false → is_out_of_memory e ≡ false → is_depth_overflow e ≡ false → Kept a b
+pub runs_refused : {V E : Type 0} {f : Reading V} {a b : View} {e : DecodeError E} (z : Refusal) → refusal_of e ≡ Some z → is_read e ≡ false → is_depth_overflow e ≡ false → Kept a b
     → Told a.told (λ xs. (ys : List ℕ) × (b.told ≡ Some ys) × (f xs ≡ Err (z, ys))) → Runs f a b (Err e)
-runs_refused {f = f} {a = a} {b = b} {e = e} z says read memory shallow kept at = record {
+runs_refused {f = f} {a = a} {b = b} {e = e} z says read shallow kept at = record {
   moves = record { by = unread (is_read e) a b read kept; depth = λ none. shallow };
   answers = λ xs told. refused_as (refusal_of e) z (f xs) b.told says (at xs told);
-  memory = memory;
 }
 
 -- the refusal z takes nothing
-pub runs_refuse : {V E : Type 0} {e : DecodeError E} (z : Refusal) (a : View) → refusal_of e ≡ Some z → is_read e ≡ false → is_out_of_memory e ≡ false → is_depth_overflow e ≡ false → Runs {V = V} (refuse z) a a (Err e)
-runs_refuse z a says read memory shallow = runs_refused z says read memory shallow (kept_alike a) (λ xs told. (xs, told, refl))
+pub runs_refuse : {V E : Type 0} {e : DecodeError E} (z : Refusal) (a : View) → refusal_of e ≡ Some z → is_read e ≡ false → is_depth_overflow e ≡ false → Runs {V = V} (refuse z) a a (Err e)
+runs_refuse z a says read shallow = runs_refused z says read shallow (kept_alike a) (λ xs told. (xs, told, refl))
 
 -- ---- the next byte
 
@@ -103,7 +100,7 @@ looked a b answer shown e h = subst (λ o. MatchOption o (Breaks a b) (λ s. Sho
 -- nothing was shown
 pub runs_end : {E : Type 0} {name : Bor (List ℕ)} {expect : ℕ} {shown : List ℕ} {a b : View} → Shows shown a b → Told a.told (IsFront 1 shown) → length shown ≡ 0
     → Runs {E = E} (peek_at name.now expect) a b (Err (Eof name (Small expect)))
-runs_end {name = name} {expect = expect} s front none = runs_refused (eof name.now (Small expect)) refl refl refl refl (shows_kept s) (λ xs told.
+runs_end {name = name} {expect = expect} s front none = runs_refused (eof name.now (Small expect)) refl refl refl (shows_kept s) (λ xs told.
     let e : xs ≡ [] = (front xs told).ends (omega arith) none in
     ([], s.told xs told ∙ ap Some e, ap (peek_at name.now expect) e))
 
@@ -118,7 +115,6 @@ pub runs_peek : {E : Type 0} (name : List ℕ) (expect : ℕ) {shown : List ℕ}
 runs_peek name expect {shown = shown} s front some = record {
   moves = record { by = shows_kept s; depth = λ e. refl };
   answers = λ xs told. (xs, s.told xs told, first_is name expect shown xs (front xs told) some);
-  memory = tt;
 }
 
 -- the byte that was peeked
@@ -173,7 +169,6 @@ runs_byte {name = name} {expect = expect} {b = b} {a = a} {m = m} {c = c} p h ad
   answers = λ xs told.
       let t = taken name expect b a m c xs p adv told in
       (t.0, t.2, ap (byte_at name expect) t.1);
-  memory = tt;
 }
 
 -- ---- a call that is under way
@@ -202,7 +197,6 @@ reaches_end {f = f} {g = g} {b = b} {r = r} p q = record {
   answers = λ xs told.
       let s = p.leads xs told in
       as_of (f xs) (g s.0) b.told r s.2 (q.answers s.0 s.1);
-  memory = q.memory;
 }
 
 -- a value that only gets another form

@@ -5,8 +5,7 @@ use Rattle.cbor4ii_rw.specs.View.{View}
 use Rattle.cbor4ii_rw.specs.Reader.{Failed, KeepsAllButBudget, StepsIn, step_back, counts}
 use Rattle.cbor4ii_rw.specs.declared.error.DecodeError.{DecodeError}
 use Rattle.cbor4ii_items.specs.Moves.{Kept, Broke, is_failure, Moves}
-use Rattle.cbor4ii_items.specs.Reading.{Reading, AnswersAs}
-use Rattle.cbor4ii_items.specs.Following.{Follows}
+use Rattle.cbor4ii_items.specs.Reading.{Reading, AnswersAs, Runs}
 use Rattle.cbor4ii_items.specs.Decoding.{IsExact}
 
 again : (left : ℕ) → 0 < left → left < 2 ^ 64 → step_back (Some (left - 1)) ≡ Some left
@@ -51,8 +50,8 @@ module _ {a b c d : View} (i : KeepsAllButBudget a b) (o : KeepsAllButBudget c d
   moves_around true same k = broke_around same k
   moves_around false same k = kept_around same k
 
-  pub follows_around : {V E : Type 0} {p : Reading V} {r : Result V (DecodeError E)} → (a.budget ≡ None → b.budget ≡ None) → (c.budget ≡ b.budget → d.budget ≡ a.budget) → Follows p b c r → Follows p a d r
-  follows_around {p = p} {r = r} inner same f = record {
+  pub runs_around : {V E : Type 0} {p : Reading V} {r : Result V (DecodeError E)} → (a.budget ≡ None → b.budget ≡ None) → (c.budget ≡ b.budget → d.budget ≡ a.budget) → Runs p b c r → Runs p a d r
+  runs_around {p = p} {r = r} inner same f = record {
     moves = record { by = moves_around (is_failure r) same f.moves.by; depth = λ none. f.moves.depth (inner none) };
     answers = λ xs told. subst (λ new. AnswersAs (p xs) new r) (sym o.told) (f.answers xs (i.told ∙ told));
   }

@@ -12,8 +12,10 @@ ghost use Rattle.std.specs.Prelude.{
   codes,
   pos,
   negsuc,
+  IfErr,
 };
 ghost use Rattle.cbor4ii_items.specs.Reading.{Runs};
+ghost use Rattle.cbor4ii_items.specs.Refusal.{is_out_of_memory};
 ghost use Rattle.cbor4ii_items.specs.ReadNumber.{
   magnitude_at,
   small_magnitude_at,
@@ -56,7 +58,8 @@ use std::alloc::Global;
 
 /// A counted byte string of at most sixteen bytes, as a number.
 fn magnitude<S: Source>(reader: &mut S, name: StaticStr) -> Result<u128, DecodeError<S::Error>>
-    ensures { Runs (magnitude_at name.now) (S.view reader.old) (S.view reader.new) result }
+    ensures runs { Runs (magnitude_at name.now) (S.view reader.old) (S.view reader.new) result }
+    ensures memory { IfErr result (λ error. is_out_of_memory error ≡ false) }
 {
     match length(reader, name, major::BYTES)? {
         Some(count) => {
@@ -82,6 +85,7 @@ fn small_magnitude<S: Source>(
 ) -> Result<u128, DecodeError<S::Error>>
     ensures runs { Runs (small_magnitude_at name.now)
         (S.view reader.old) (S.view reader.new) result }
+    ensures memory { IfErr result (λ error. is_out_of_memory error ≡ false) }
     ensures small { IfOk result (λ v. v < 2 ^ 127) }
 {
     let number = magnitude(reader, name)?;
@@ -93,7 +97,8 @@ fn small_magnitude<S: Source>(
 
 /// The number of a bignum from 0 on, behind its tag.
 fn unsigned_bignum<S: Source>(reader: &mut S, tag: u8) -> Result<u128, DecodeError<S::Error>>
-    ensures { Runs (u128_tagged tag) (S.view reader.old) (S.view reader.new) result }
+    ensures runs { Runs (u128_tagged tag) (S.view reader.old) (S.view reader.new) result }
+    ensures memory { IfErr result (λ error. is_out_of_memory error ≡ false) }
 {
     if tag != POSITIVE_BIGNUM {
         return Err(DecodeError::Mismatch {
@@ -108,6 +113,7 @@ fn unsigned_bignum<S: Source>(reader: &mut S, tag: u8) -> Result<u128, DecodeErr
 #[inline(always)]
 fn unsigned<S: Source>(reader: &mut S) -> Result<u128, DecodeError<S::Error>>
     ensures runs { Runs u128_at (S.view reader.old) (S.view reader.new) result }
+    ensures memory { IfErr result (λ error. is_out_of_memory error ≡ false) }
     ensures progress { OnOk result ((S.view reader.new).bound + 1 ≤ (S.view reader.old).bound) }
 {
     match take_head(reader, major::UNSIGNED, 8) {
@@ -120,6 +126,7 @@ fn unsigned<S: Source>(reader: &mut S) -> Result<u128, DecodeError<S::Error>>
 /// As `unsigned`, where no unsigned integer stands whole in what is shown.
 fn unsigned_by_bytes<S: Source>(reader: &mut S) -> Result<u128, DecodeError<S::Error>>
     ensures runs { Runs u128_at (S.view reader.old) (S.view reader.new) result }
+    ensures memory { IfErr result (λ error. is_out_of_memory error ≡ false) }
     ensures progress { OnOk result ((S.view reader.new).bound + 1 ≤ (S.view reader.old).bound) }
 {
     if if_major(peek(reader, "u128", 1)?) == major::UNSIGNED {
@@ -132,7 +139,8 @@ fn unsigned_by_bytes<S: Source>(reader: &mut S) -> Result<u128, DecodeError<S::E
 
 /// The number of a bignum of either sign, behind its tag.
 fn signed_bignum<S: Source>(reader: &mut S, tag: u8) -> Result<i128, DecodeError<S::Error>>
-    ensures { Runs (i128_tagged tag) (S.view reader.old) (S.view reader.new) result }
+    ensures runs { Runs (i128_tagged tag) (S.view reader.old) (S.view reader.new) result }
+    ensures memory { IfErr result (λ error. is_out_of_memory error ≡ false) }
 {
     if tag == POSITIVE_BIGNUM {
         let number = small_magnitude(reader, "+i128::bytes")?;
@@ -152,6 +160,7 @@ fn signed_bignum<S: Source>(reader: &mut S, tag: u8) -> Result<i128, DecodeError
 #[inline(always)]
 fn signed<S: Source>(reader: &mut S) -> Result<i128, DecodeError<S::Error>>
     ensures runs { Runs i128_at (S.view reader.old) (S.view reader.new) result }
+    ensures memory { IfErr result (λ error. is_out_of_memory error ≡ false) }
     ensures progress { OnOk result ((S.view reader.new).bound + 1 ≤ (S.view reader.old).bound) }
 {
     match take_head(reader, major::UNSIGNED, 8) {
@@ -164,6 +173,7 @@ fn signed<S: Source>(reader: &mut S) -> Result<i128, DecodeError<S::Error>>
 /// As `signed`, where no unsigned integer stands whole in what is shown.
 fn signed_below_zero<S: Source>(reader: &mut S) -> Result<i128, DecodeError<S::Error>>
     ensures runs { Runs i128_at (S.view reader.old) (S.view reader.new) result }
+    ensures memory { IfErr result (λ error. is_out_of_memory error ≡ false) }
     ensures progress { OnOk result ((S.view reader.new).bound + 1 ≤ (S.view reader.old).bound) }
 {
     match take_head(reader, major::NEGATIVE, 8) {
@@ -176,6 +186,7 @@ fn signed_below_zero<S: Source>(reader: &mut S) -> Result<i128, DecodeError<S::E
 /// As `signed`, where no integer stands whole in what is shown.
 fn signed_by_bytes<S: Source>(reader: &mut S) -> Result<i128, DecodeError<S::Error>>
     ensures runs { Runs i128_at (S.view reader.old) (S.view reader.new) result }
+    ensures memory { IfErr result (λ error. is_out_of_memory error ≡ false) }
     ensures progress { OnOk result ((S.view reader.new).bound + 1 ≤ (S.view reader.old).bound) }
 {
     let major = if_major(peek(reader, "i128", 1)?);

@@ -15,6 +15,7 @@ ghost use Rattle.std.specs.Prelude.{
   negsuc,
 };
 ghost use Rattle.cbor4ii_items.specs.Reading.{Runs};
+ghost use Rattle.cbor4ii_items.specs.Refusal.{is_out_of_memory};
 ghost use Rattle.cbor4ii_items.specs.Decoding.{Sound, Refuses, Stops};
 ghost use Rattle.cbor4ii_items.specs.ReadNumber.{half_at, signed_at};
 ghost use Rattle.cbor4ii_items.specs.Numbers.{ReadsSigned, StopsSigned, IsWithin, signed_head};
@@ -49,6 +50,7 @@ fn head_below<S: Source>(
 ) -> Result<u64, DecodeError<S::Error>>
     ensures runs { Runs (half_at name.now major width limit)
         (S.view reader.old) (S.view reader.new) result }
+    ensures memory { IfErr result (λ error. is_out_of_memory error ≡ false) }
     ensures below { IfOk result (λ v. v < limit) }
     ensures progress { OnOk result ((S.view reader.new).bound + 1 ≤ (S.view reader.old).bound) }
 {
@@ -72,6 +74,7 @@ fn signed<S: Source>(
     requires { limit ≤ 2 ^ 63 }
     ensures runs { Runs (signed_at name.now plus.now minus.now width limit)
         (S.view reader.old) (S.view reader.new) result }
+    ensures memory { IfErr result (λ error. is_out_of_memory error ≡ false) }
     ensures range { IfOk result (IsWithin limit) }
     ensures progress { OnOk result ((S.view reader.new).bound + 1 ≤ (S.view reader.old).bound) }
 {
@@ -100,6 +103,7 @@ fn signed_below_zero<S: Source>(
     requires { limit ≤ 2 ^ 63 }
     ensures runs { Runs (signed_at name.now plus.now minus.now width limit)
         (S.view reader.old) (S.view reader.new) result }
+    ensures memory { IfErr result (λ error. is_out_of_memory error ≡ false) }
     ensures range { IfOk result (IsWithin limit) }
     ensures progress { OnOk result ((S.view reader.new).bound + 1 ≤ (S.view reader.old).bound) }
 {
@@ -129,6 +133,7 @@ fn signed_by_bytes<S: Source>(
     requires { limit ≤ 2 ^ 63 }
     ensures runs { Runs (signed_at name.now plus.now minus.now width limit)
         (S.view reader.old) (S.view reader.new) result }
+    ensures memory { IfErr result (λ error. is_out_of_memory error ≡ false) }
     ensures range { IfOk result (IsWithin limit) }
     ensures progress { OnOk result ((S.view reader.new).bound + 1 ≤ (S.view reader.old).bound) }
 {
@@ -174,6 +179,7 @@ fn lone_signed<S: Source>(
     requires { limit ≤ 2 ^ 63 }
     ensures runs { Runs (signed_at name.now plus.now minus.now width limit)
         (S.view reader.old) (S.view reader.new) result }
+    ensures memory { IfErr result (λ error. is_out_of_memory error ≡ false) }
     ensures range { IfOk result (IsWithin limit) }
     ensures progress { OnOk result ((S.view reader.new).bound + 1 ≤ (S.view reader.old).bound) }
     ensures sound { IfOk result

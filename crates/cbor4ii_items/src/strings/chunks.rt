@@ -1,6 +1,7 @@
 //! Strings of indefinite length: chunks up to a break (RFC 8949 section 3.2.3).
 ghost use Rattle.std.specs.Prelude.{◌≡◌, ◌+◌, ◌≤◌, ◌<◌, OnOk, []};
-ghost use Rattle.cbor4ii_items.specs.Following.{Follows, listed, filled};
+ghost use Rattle.cbor4ii_items.specs.Contents.{listed, filled};
+ghost use Rattle.cbor4ii_items.specs.Reading.{Runs};
 ghost use Rattle.cbor4ii_items.specs.ReadStrings.{chunk_inside, chunk_at, chunks_at};
 
 use crate::head::length;
@@ -18,7 +19,7 @@ pub(crate) fn take_chunks<S: Source>(
     major: u8,
 ) -> Result<Vec<u8>, DecodeError<S::Error>>
     requires { major < 8 }
-    ensures { Follows (chunks_at name.now major (S.view reader.old).budget [])
+    ensures { Runs (chunks_at name.now major (S.view reader.old).budget [])
         (S.view reader.old) (S.view reader.new) (listed result) }
 {
     let mut content = Vec::new(alloc);
@@ -36,7 +37,7 @@ fn take_chunk<S: Source>(
     content: &mut Vec<u8>,
 ) -> Result<(), DecodeError<S::Error>>
     requires { major < 8 }
-    ensures follows { Follows (chunk_at name.now major (S.view reader.old).budget content.old.items)
+    ensures runs { Runs (chunk_at name.now major (S.view reader.old).budget content.old.items)
         (S.view reader.old) (S.view reader.new) (filled content.new.items result) }
     ensures progress { OnOk result ((S.view reader.new).bound + 1 ≤ (S.view reader.old).bound) }
 {
@@ -56,7 +57,7 @@ fn take_counted<S: Source>(
     content: &mut Vec<u8>,
 ) -> Result<(), DecodeError<S::Error>>
     requires { major < 8 }
-    ensures follows { Follows (chunk_inside name.now major content.old.items)
+    ensures runs { Runs (chunk_inside name.now major content.old.items)
         (S.view reader.old) (S.view reader.new) (filled content.new.items result) }
     ensures progress { OnOk result ((S.view reader.new).bound + 1 ≤ (S.view reader.old).bound) }
 {

@@ -1,7 +1,8 @@
 //! The content of strings of known or of indefinite length, taken off a reader.
 ghost use Rattle.std.specs.Prelude.{◌≡◌, ◌+◌, ◌≤◌, ◌<◌, OnOk, IfOk, IfErr, []};
 ghost use Rattle.cbor4ii_items.specs.Decoding.{Sound, Refuses, Stops};
-ghost use Rattle.cbor4ii_items.specs.Following.{Follows, listed};
+ghost use Rattle.cbor4ii_items.specs.Contents.{listed};
+ghost use Rattle.cbor4ii_items.specs.Reading.{Runs};
 ghost use Rattle.cbor4ii_items.specs.Moves.{Moves};
 ghost use Rattle.cbor4ii_items.specs.ReadStrings.{content_on, string_at};
 ghost use Rattle.cbor4ii_items.specs.Strings.{
@@ -70,7 +71,7 @@ fn take_parts<S: Source>(
     major: u8,
 ) -> Result<Vec<u8>, DecodeError<S::Error>>
     requires { major < 8 }
-    ensures follows { Follows (string_at name.now major (S.view reader.old).budget)
+    ensures runs { Runs (string_at name.now major (S.view reader.old).budget)
         (S.view reader.old) (S.view reader.new) (listed result) }
     ensures progress { OnOk result ((S.view reader.new).bound + 1 ≤ (S.view reader.old).bound) }
 {
@@ -88,7 +89,7 @@ pub(crate) fn take_known<S: Source>(
     name: StaticStr,
     count: u64,
 ) -> Result<Vec<u8>, DecodeError<S::Error>>
-    ensures { Follows (content_on name.now count [])
+    ensures { Runs (content_on name.now count [])
         (S.view reader.old) (S.view reader.new) (listed result) }
 {
     let mut content = Vec::new(alloc);

@@ -1,6 +1,7 @@
 //! Content of a known length, taken off a reader.
 ghost use Rattle.std.specs.Prelude.{◌≡◌, ◌≤◌, IfOk, IfErr, Err};
-ghost use Rattle.cbor4ii_items.specs.Following.{Follows, TakesOnto, filled};
+ghost use Rattle.cbor4ii_items.specs.Contents.{TakesOnto, filled};
+ghost use Rattle.cbor4ii_items.specs.Reading.{Runs};
 ghost use Rattle.cbor4ii_items.specs.ReadStrings.{content_on};
 
 use cbor4ii_rw::ask::look;
@@ -19,7 +20,7 @@ pub(crate) fn take_content<S: Source>(
     count: u64,
     content: &mut Vec<u8>,
 ) -> Result<(), DecodeError<S::Error>>
-    ensures { Follows (content_on name.now count content.old.items)
+    ensures { Runs (content_on name.now count content.old.items)
         (S.view reader.old) (S.view reader.new) (filled content.new.items result) }
 {
     let mut missing = count as usize;
@@ -43,7 +44,7 @@ fn take_shown<S: Source>(
     requires { 1 ≤ missing }
     ensures taken { IfOk result (λ n. TakesOnto missing n content.old.items content.new.items
         (S.view reader.old) (S.view reader.new)) }
-    ensures refused { IfErr result (λ error. Follows (content_on name.now missing content.old.items)
+    ensures refused { IfErr result (λ error. Runs (content_on name.now missing content.old.items)
         (S.view reader.old) (S.view reader.new) (Err error)) }
 {
     let mut failure = None;

@@ -4,7 +4,7 @@ use Rattle.cbor4ii_items.proofs.Shortest.{runs_opening, runs_head_err, runs_shor
 use Rattle.cbor4ii_items.proofs.canonical.take_shortest.Goals as goal
 
 pub returns-then-is_open-clause-runs : goal.returns-then-is_open-clause-runs
-returns-then-is_open-clause-runs g c = runs_opening c.args.name.now c.args.major c.in_ok-first.first c.in_ok-first.ensures.runs c.in_ok-first.ensures.byte c.advance.ensures (sym c.is_open.ensures ∙ c.if-is_open.true) refl refl refl refl
+returns-then-is_open-clause-runs g c = runs_opening c.args.name.now c.args.major c.in_ok-first.first c.in_ok-first.ensures.runs c.in_ok-first.ensures.byte c.advance.ensures (sym c.is_open.ensures ∙ c.if-is_open.true) refl refl refl
 
 pub returns-in_err-argument-clause-runs : goal.returns-in_err-argument-clause-runs
 returns-in_err-argument-clause-runs g c =
@@ -13,7 +13,7 @@ returns-in_err-argument-clause-runs g c =
 
 pub returns-then-first-shortest_info-clause-runs : goal.returns-then-first-shortest_info-clause-runs
 returns-then-first-shortest_info-clause-runs g c =
-    runs_too_long c.args.name.now c.args.major c.in_ok-first.first c.in_ok-first.ensures.runs (sym c.is_open.ensures ∙ c.if-is_open.false) c.in_ok-argument.ensures.runs (λ e. c.if-first-shortest_info.true (e ∙ sym c.shortest_info.ensures)) refl refl refl refl
+    runs_too_long c.args.name.now c.args.major c.in_ok-first.first c.in_ok-first.ensures.runs (sym c.is_open.ensures ∙ c.if-is_open.false) c.in_ok-argument.ensures.runs (λ e. c.if-first-shortest_info.true (e ∙ sym c.shortest_info.ensures)) refl refl refl
 
 pub returns-clause-runs : goal.returns-clause-runs
 returns-clause-runs g c =

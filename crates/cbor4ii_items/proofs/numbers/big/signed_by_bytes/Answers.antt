@@ -32,4 +32,4 @@ returns-in_err-tag-clause-runs g c =
     rw (p.1, p.2) (runs_i128_tag _ (λ e. c.if-major-eq-UNSIGNED.false (c.if_major-major.ensures ∙ e)) (λ e. c.if-major-eq-NEGATIVE.false (c.if_major-major.ensures ∙ e)) c.in_ok-peek.ensures.runs (runs_err i128_tagged c.in_err-tag.ensures.runs))
 
 pub returns-clause-runs : goal.returns-clause-runs
-returns-clause-runs g c = runs_i128_tag _ (λ e. c.if-major-eq-UNSIGNED.false (c.if_major-major.ensures ∙ e)) (λ e. c.if-major-eq-NEGATIVE.false (c.if_major-major.ensures ∙ e)) c.in_ok-peek.ensures.runs (runs_then i128_tagged c.in_ok-tag.ensures.runs c.signed_bignum.ensures)
+returns-clause-runs g c = runs_i128_tag _ (λ e. c.if-major-eq-UNSIGNED.false (c.if_major-major.ensures ∙ e)) (λ e. c.if-major-eq-NEGATIVE.false (c.if_major-major.ensures ∙ e)) c.in_ok-peek.ensures.runs (runs_then i128_tagged c.in_ok-tag.ensures.runs c.signed_bignum.ensures.runs)

@@ -19,4 +19,4 @@ returns-in_err-tag-clause-runs g c =
     rw (p.1, p.2) (runs_u128_tag _ (λ e. c.if-if_major-eq-UNSIGNED.false (c.if_major.ensures ∙ e)) c.in_ok-peek.ensures.runs (runs_err u128_tagged c.in_err-tag.ensures.runs))
 
 pub returns-clause-runs : goal.returns-clause-runs
-returns-clause-runs g c = runs_u128_tag _ (λ e. c.if-if_major-eq-UNSIGNED.false (c.if_major.ensures ∙ e)) c.in_ok-peek.ensures.runs (runs_then u128_tagged c.in_ok-tag.ensures.runs c.unsigned_bignum.ensures)
+returns-clause-runs g c = runs_u128_tag _ (λ e. c.if-if_major-eq-UNSIGNED.false (c.if_major.ensures ∙ e)) c.in_ok-peek.ensures.runs (runs_then u128_tagged c.in_ok-tag.ensures.runs c.unsigned_bignum.ensures.runs)

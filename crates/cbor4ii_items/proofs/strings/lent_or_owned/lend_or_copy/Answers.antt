@@ -1,14 +1,14 @@
 use Rattle.std.proofs.Common.{refl}
-use Rattle.cbor4ii_items.proofs.CowAnswers.{lends_follow, takes_still, few_borrows}
+use Rattle.cbor4ii_items.proofs.CowAnswers.{lends_runs, takes_still, few_borrows}
 use Rattle.cbor4ii_items.proofs.strings.lent_or_owned.lend_or_copy.Goals as goal
 
 pub returns-in-Ok-clause-takes : goal.returns-in-Ok-clause-takes
-returns-in-Ok-clause-takes g c = record { by = (_, lends_follow g.T.LendOrOwn.name c.in-Ok.ensures.lent, (refl, c.in-Ok.ensures.utf8)) }
+returns-in-Ok-clause-takes g c = record { by = (_, lends_runs g.T.LendOrOwn.name c.in-Ok.ensures.lent, (refl, c.in-Ok.ensures.utf8)) }
 
 pub returns-in-Err-NotUtf8-clause-takes : goal.returns-in-Err-NotUtf8-clause-takes
 returns-in-Err-NotUtf8-clause-takes g c =
     let l = rw c.in-Err-NotUtf8.field-0-is at c.in-Err-NotUtf8.ensures.lacks in
-    record { by = (l.0, lends_follow g.T.LendOrOwn.name l.2, (l.1, l.3)) }
+    record { by = (l.0, lends_runs g.T.LendOrOwn.name l.2, (l.1, l.3)) }
 
 pub returns-in-Err-Short-clause-takes : goal.returns-in-Err-Short-clause-takes
 returns-in-Err-Short-clause-takes g c =

@@ -1,16 +1,8 @@
--- A call that does what a program does where there is memory.
+-- The content of strings, gathered in a vector.
 use Rattle.std.specs.Prelude.{◌≡◌, ℕ, ◌≤◌, ◌++◌, List, length, take, drop, Some, Result, Ok, Err}
 use Rattle.std.specs.declared.vec.Vec.{Vec}
 use Rattle.cbor4ii_rw.specs.View.{View, Told}
-use Rattle.cbor4ii_rw.specs.declared.error.DecodeError.{DecodeError}
-use Rattle.cbor4ii_items.specs.Moves.{Kept, Moves}
-use Rattle.cbor4ii_items.specs.Reading.{Reading, AnswersAs}
-
--- As `Runs`, but for memory: over any reader it leaves the reader as a decoding call does, and over told bytes it
--- answers as the program, unless there was no memory.
-pub record Follows {V E : Type 0} (program : Reading V) (old new : View) (answer : Result V (DecodeError E)) : Type 0 where
-  pub moves : Moves old new answer
-  pub answers : Told old.told (λ xs. AnswersAs (program xs) new.told answer)
+use Rattle.cbor4ii_items.specs.Moves.{Kept}
 
 -- the answer, with a vector's items for the vector
 abbrev pub listed : {Z E : Type 0} → Result (Vec ℕ Z) E → Result (List ℕ) E
