@@ -117,6 +117,7 @@ fn is_break<S: Source, F: Front<S>>(
 ) -> Result<bool, DecodeError<S::Error>>
     ensures runs { Runs break_at
         (F.view front.old reader.old) (F.view front.new reader.new) result }
+    ensures spares { Spares result }
     ensures sound { IfOk result
         (Sound ReadsBreak (F.view front.old reader.old) (F.view front.new reader.new)) }
     ensures stops { IfErr result
@@ -133,6 +134,7 @@ fn at_break<S: Source, F: Front<S>>(
 ) -> Result<bool, DecodeError<S::Error>>
     ensures runs { Runs break_at
         (F.view front.old reader.old) (F.view front.new reader.new) result }
+    ensures spares { Spares result }
     ensures stays { IsTrue F.apart → S.view reader.new ≡ S.view reader.old }
 {
     let byte = peek(front, reader, "break", 1)?;
@@ -152,6 +154,7 @@ pub(crate) fn peek<S: Source, F: Front<S>>(
 ) -> Result<u8, DecodeError<S::Error>>
     ensures runs { Runs (peek_at name.now expect)
         (F.view front.old reader.old) (F.view front.new reader.new) result }
+    ensures spares { Spares result }
     ensures byte { IfOk result (λ b. b < 256) }
     ensures can { OnOk result (1 ≤ (F.view front.new reader.new).advanceable) }
     ensures stays { IsTrue F.apart → S.view reader.new ≡ S.view reader.old }
@@ -175,6 +178,7 @@ fn take<S: Source, F: Front<S>>(
 ) -> Result<u8, DecodeError<S::Error>>
     ensures runs { Runs (byte_at name.now expect)
         (F.view front.old reader.old) (F.view front.new reader.new) result }
+    ensures spares { Spares result }
     ensures byte { IfOk result (λ b. b < 256) }
     ensures stays { IsTrue F.apart → S.view reader.new ≡ S.view reader.old }
 {
@@ -193,6 +197,7 @@ fn number<S: Source, F: Front<S>>(
     requires { bytes ≤ 16 }
     ensures runs { Runs (number_on name.now bytes bytes 0)
         (F.view front.old reader.old) (F.view front.new reader.new) result }
+    ensures spares { Spares result }
     ensures fits { IfOk result (λ v. v < 256 ^ bytes) }
     ensures stays { IsTrue F.apart → S.view reader.new ≡ S.view reader.old }
 {
