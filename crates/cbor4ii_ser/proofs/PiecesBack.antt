@@ -2,15 +2,12 @@
 use Rattle.std.proofs.Common.{◌≡◌, ℕ, suc, ◌+◌, ◌<◌, ◌≤◌, ◌^◌, List, [], ◌∷◌, ◌++◌, length, take, drop, refl, sym, ap, ap₂, ◌∙◌, inl, inr, arith, append_assoc, length-append, subst}
 use Rattle.std.specs.Prelude.{All, IsUtf8}
 use Rattle.std.proofs.Math.Seq.{drop-append_seam}
-use Rattle.std.proofs.lemmas.List.{append-nil, take_at}
+use Rattle.std.proofs.lemmas.List.{append-nil}
 use Rattle.std.proofs.lemmas.List.Elements.{All-head, All-tail}
 use Rattle.std.proofs.lemmas.Str.{IsUtf8-nil, IsUtf8-append}
-use Rattle.cbor4ii_items.specs.Head.{eight}
-use Rattle.cbor4ii_items.specs.Heads.{ReadsHead}
-use Rattle.cbor4ii_items.specs.Numbers.{shortest_head}
 use Rattle.cbor4ii_items.specs.Strings.{joined, counted_string, opening, closing, ReadsCountedString, ReadsChunks, ReadsOpenString, ReadsTextAs, chunk_cost}
 use Rattle.cbor4ii_items.specs.ReadBack.{ReadsBack}
-use Rattle.cbor4ii_items.specs.Laws.NumbersBack.{head_back}
+use Rattle.cbor4ii_items.specs.Laws.LeavesBack.{counted_back}
 use Rattle.cbor4ii_ser.specs.Pieces.{filled, IsChunk, IsCut, Chunks, one, several, counted_chunks}
 use Rattle.cbor4ii_ser.proofs.Determined.{joined_append}
 use Rattle.cbor4ii_ser.proofs.Greedy.{joined_filled}
@@ -30,18 +27,6 @@ utf8_joined : (ps : List (List ℕ)) → All IsUtf8 ps → IsUtf8 (joined ps)
 utf8_joined [] h = IsUtf8-nil
 utf8_joined (p ∷ ps) h = IsUtf8-append p (joined ps) (All-head IsUtf8 p ps h) (utf8_joined ps (All-tail IsUtf8 p ps h))
 
-counted_back : (c rest : List ℕ) → length c < 2 ^ 64 → ReadsCountedString 3 (counted_string 3 c ++ rest) c (length (counted_string 3 c))
-counted_back c rest h =
-    let start = shortest_head 3 (length c) in
-    let whole : (start ++ c) ++ rest ≡ start ++ (c ++ rest) = append_assoc start c rest in
-    let left : drop (length start) ((start ++ c) ++ rest) ≡ c ++ rest = ap (drop (length start)) whole ∙ drop-append_seam start (c ++ rest) in
-    record {
-      before = length start;
-      head = subst (λ zs. ReadsHead 3 8 zs (length c) (length start)) (sym whole) (head_back 3 eight (length c) h (c ++ rest));
-      stands = ap (take (length c)) left ∙ take_at c rest _ refl;
-      size = length-append start c;
-    }
-
 chunks_back : (cs : List (List ℕ)) (rest : List ℕ) → AllShort cs → ReadsChunks 3 cs (counted_chunks cs ++ rest) (length (counted_chunks cs))
 chunks_back [] rest h = refl
 chunks_back (c ∷ cs) rest h =
@@ -49,7 +34,7 @@ chunks_back (c ∷ cs) rest h =
     let left : drop (length (counted_string 3 c)) ((counted_string 3 c ++ counted_chunks cs) ++ rest) ≡ counted_chunks cs ++ rest = ap (drop (length (counted_string 3 c))) whole ∙ drop-append_seam (counted_string 3 c) (counted_chunks cs ++ rest) in (
       length (counted_string 3 c),
       length (counted_chunks cs),
-      subst (λ z. ReadsCountedString 3 z c (length (counted_string 3 c))) (sym whole) (counted_back c (counted_chunks cs ++ rest) h.0),
+      subst (λ z. ReadsCountedString 3 z c (length (counted_string 3 c))) (sym whole) (counted_back 3 c (counted_chunks cs ++ rest) h.0),
       subst (λ z. ReadsChunks 3 cs z (length (counted_chunks cs))) (sym left) (chunks_back cs rest h.1),
       length-append (counted_string 3 c) (counted_chunks cs),
     )
@@ -120,7 +105,7 @@ pieces_cost_small pieces bytes (several cs long cut e) = one_step cs
 module _ {V : Type 0} (content : V → List ℕ) (v : V) (pieces : List (List ℕ)) (bytes : List ℕ) (fits : length (joined pieces) < 2 ^ 64) where
   pub pieces_back : content v ≡ joined pieces → All IsUtf8 pieces → (is : Chunks pieces bytes) → ReadsBack (ReadsTextAs content) bytes v (pieces_cost pieces bytes is)
   pieces_back has utf8 (one short e) rest = (
-    inl (subst (λ z. ReadsCountedString 3 (bytes ++ rest) z (length bytes)) (sym has) (subst (λ z. ReadsCountedString 3 (z ++ rest) (joined pieces) (length z)) (sym e) (counted_back (joined pieces) rest fits)), refl),
+    inl (subst (λ z. ReadsCountedString 3 (bytes ++ rest) z (length bytes)) (sym has) (subst (λ z. ReadsCountedString 3 (z ++ rest) (joined pieces) (length z)) (sym e) (counted_back 3 (joined pieces) rest fits)), refl),
     subst IsUtf8 (sym has) (utf8_joined pieces utf8),
   )
   pieces_back has utf8 (several cs long cut e) rest =

@@ -1,25 +1,15 @@
 -- One part of an item after another.
-use Rattle.std.proofs.Common.{◌≡◌, ℕ, ◌+◌, ◌<◌, ◌≤◌, get_or, drop, List, [], ◌∷◌, ◌++◌, length, take, length-append, arith, Option, None, Some, Result, Ok, Err, Bool, refl, sym, ap, ◌∙◌, append_assoc, subst}
-use Rattle.std.specs.Io.{StartsWith}
+use Rattle.std.proofs.Common.{◌≡◌, ℕ, ◌+◌, ◌<◌, get_or, drop, List, [], ◌∷◌, ◌++◌, length, take, Option, None, Some, Result, Ok, Err, Bool, refl, sym, ap, ◌∙◌, append_assoc, subst}
 use Rattle.std.specs.Result.{IsErrAnd}
 use Rattle.std.proofs.lemmas.Result.{err_from_is_err_and}
-use Rattle.std.proofs.Math.Seq.{take-append-add}
-use Rattle.std.proofs.lemmas.List.{append-nil, take-append-le, length-take, take_more, take-append-drop}
+use Rattle.std.proofs.lemmas.List.{append-nil, take_more, take-append-drop}
 use Rattle.cbor4ii_rw.specs.Reader.{Failed}
 use Rattle.cbor4ii_rw.specs.Writer.{Output, Appends}
-use Rattle.cbor4ii_items.specs.Laws.Written.{appends_then}
+use Rattle.cbor4ii_items.specs.Laws.Written.{appends_then, starts_then, starts_more}
 use Rattle.cbor4ii_ser.specs.declared.error.EncodeError.{EncodeError}
 use Rattle.cbor4ii_ser.specs.declared.error.EncodeError.TheVariants.{Core, Custom}
 use Rattle.cbor4ii_ser.specs.Item.{followed, items_of}
 use Rattle.cbor4ii_ser.specs.Serializing.{Serializes, Begins, Blames}
-
-starts_then : (xs ys front : List ℕ) → StartsWith ys front → StartsWith (xs ++ ys) (xs ++ front)
-starts_then xs ys front h = ap (λ n. take n (xs ++ ys)) (length-append xs front) ∙ (take-append-add xs ys (length front) ∙ ap (λ z. xs ++ z) h)
-
-starts_more : (xs ys front : List ℕ) → StartsWith xs front → StartsWith (xs ++ ys) front
-starts_more xs ys front h =
-    let long : length front ≤ length xs = omega (arith, ap length h, length-take (length front) xs) in
-    take-append-le (length front) xs ys long ∙ h
 
 pub followed_none : (a : Option (List ℕ)) → followed a None ≡ None
 unfolding followed
