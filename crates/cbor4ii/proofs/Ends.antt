@@ -3,7 +3,7 @@ use Rattle.std.proofs.Common.{◌≡◌, ◌≢◌, ℕ, List, [], ◌∷◌, dr
 use Rattle.cbor4ii_rw.specs.View.{View}
 use Rattle.cbor4ii_rw.specs.declared.error.DecodeError.{DecodeError}
 use Rattle.cbor4ii_items.specs.Head.{break}
-use Rattle.cbor4ii_items.specs.Refusal.{Refusal, refusal_of, is_out_of_memory}
+use Rattle.cbor4ii_items.specs.Refusal.{Refusal, refusal_of}
 use Rattle.cbor4ii_items.specs.Moves.{Moves}
 use Rattle.cbor4ii_items.specs.Reading.{Runs}
 use Rattle.cbor4ii_items.specs.ReadStrings.{break_at}
@@ -27,7 +27,7 @@ err_is None xs budget left told h = tt
 err_is (Some z) xs budget left told h = (h.0, h.1, end_is xs budget z h.0 h.2)
 
 -- a call that says all of a break runs as the program does
-pub break_runs : {E : Type 0} {a b : View} (r : Result Bool (DecodeError E)) → Moves a b r → IfErr r (λ e. is_out_of_memory e ≡ false) → IfOk r (Sound ReadsBreak a b) → IfErr r (Stops StopsBreak a b) → Runs break_at a b r
-break_runs (Ok true) m memory s t = record { moves = m; answers = λ xs told. (let p = s.at xs told in (drop 1 xs, p.left ∙ ap (λ n. Some (drop n xs)) p.read.1, yes_is xs p.read.0)); memory = tt }
-break_runs (Ok false) m memory s t = record { moves = m; answers = λ xs told. (let p = s.at xs told in (xs, p.left ∙ ap (λ n. Some (drop n xs)) p.read.2, no_is xs p.read.0 p.read.1)); memory = tt }
-break_runs {a = a} {b = b} (Err e) m memory s t = record { moves = m; answers = λ xs told. err_is (refusal_of e) xs a.budget b.budget b.told (t.at xs told); memory = memory }
+pub break_runs : {E : Type 0} {a b : View} (r : Result Bool (DecodeError E)) → Moves a b r → IfOk r (Sound ReadsBreak a b) → IfErr r (Stops StopsBreak a b) → Runs break_at a b r
+break_runs (Ok true) m s t = record { moves = m; answers = λ xs told. (let p = s.at xs told in (drop 1 xs, p.left ∙ ap (λ n. Some (drop n xs)) p.read.1, yes_is xs p.read.0)) }
+break_runs (Ok false) m s t = record { moves = m; answers = λ xs told. (let p = s.at xs told in (xs, p.left ∙ ap (λ n. Some (drop n xs)) p.read.2, no_is xs p.read.0 p.read.1)) }
+break_runs {a = a} {b = b} (Err e) m s t = record { moves = m; answers = λ xs told. err_is (refusal_of e) xs a.budget b.budget b.told (t.at xs told) }

@@ -21,7 +21,6 @@ next_runs : {E : Type 0} (name : List ℕ) {b : ℕ} {a m : View} → Moves {E =
 next_runs name {b = b} m s = record {
   moves = m;
   answers = λ xs told. (let p = s.at xs told in (xs, p.left ∙ ap (λ n. Some (drop n xs)) p.read.1, peeks name b xs p.read.0));
-  memory = tt;
 }
 
 -- it was taken

@@ -206,6 +206,7 @@ fn take_open<S: Source, Q: Sequence<S>>(
 /// Takes a break, or takes nothing where another byte comes next.
 pub(crate) fn ends<S: Source>(de: &mut Deserializer<S>) -> Result<bool, DecodeError<S::Error>>
     ensures runs { Runs break_at (input S.view de.old) (input S.view de.new) (answer_of result) }
+    ensures memory { IfErr result (λ error. is_out_of_memory (as_core error) ≡ false) }
 {
     match is_break(&mut de.reader) {
         Ok(ended) => Ok(ended),

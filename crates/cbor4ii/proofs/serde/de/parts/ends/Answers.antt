@@ -2,8 +2,8 @@ use Rattle.std.proofs.Common.{Ok, Err}
 use Rattle.cbor4ii.proofs.Ends.{break_runs}
 use Rattle.cbor4ii.proofs.serde.de.parts.ends.Goals as goal
 
-pub returns-in-Ok : goal.returns-in-Ok
-returns-in-Ok g c = record { runs = break_runs (Ok _) c.in-Ok.ensures.moves tt c.in-Ok.ensures.sound tt }
+pub returns-in-Ok-clause-runs : goal.returns-in-Ok-clause-runs
+returns-in-Ok-clause-runs g c = break_runs (Ok _) c.in-Ok.ensures.moves c.in-Ok.ensures.sound tt
 
-pub returns-in-Err : goal.returns-in-Err
-returns-in-Err g c = record { runs = break_runs (Err _) c.in-Err.ensures.moves c.in-Err.ensures.memory tt c.in-Err.ensures.stops }
+pub returns-in-Err-clause-runs : goal.returns-in-Err-clause-runs
+returns-in-Err-clause-runs g c = break_runs (Err _) c.in-Err.ensures.moves tt c.in-Err.ensures.stops
