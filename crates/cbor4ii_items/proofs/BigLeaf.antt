@@ -10,7 +10,7 @@ use Rattle.cbor4ii_items.specs.Reading.{give, refuse, ◌>=>◌}
 use Rattle.cbor4ii_items.specs.Heads.{ReadsHead}
 use Rattle.cbor4ii_items.specs.ReadHead.{head_at, head_by, length_at, number_on}
 use Rattle.cbor4ii_items.specs.Laws.Heads.{read_head, number_inverse, IsBytes-take}
-use Rattle.cbor4ii_items.specs.ReadNumber.{below, magnitude_by, magnitude_at, u128_tagged, u128_at, small_magnitude_at, i128_tagged, i128_at, as_positive, as_negative}
+use Rattle.cbor4ii_items.specs.ReadNumber.{below, magnitude_by, magnitude_at, unsigned_bignum_at, u128_at, small_magnitude_at, signed_bignum_at, i128_at, as_positive, as_negative}
 use Rattle.cbor4ii_items.specs.Magnitude.{number_of}
 use Rattle.cbor4ii_items.specs.Numbers.{ReadsMagnitude, ReadsBignum, ReadsU128, ReadsI128, StopsMagnitude, length_refused, length_open, length_too_great, content_cut, StopsU128, no_u128_byte, u128_head_refused, u128_tag_refused, other_u128_tag, u128_bytes_refused, StopsI128, no_i128_byte, i128_head_refused, i128_negative_refused, i128_tag_refused, other_i128_tag, i128_bytes_refused, i128_negative_bytes_refused, i128_too_great}
 use Rattle.cbor4ii_items.specs.Laws.Outcome.{same_value, same_refusal}
@@ -208,10 +208,10 @@ u128_tag_means true xs rest tag v n t h within bytes e = subst (λ j. ReadsBignu
 u128_tag_means false xs rest tag v n t h within bytes e = cc
 
 u128_means_by : (t : Bool) (xs : List ℕ) (v n : ℕ) → n ≤ length xs → IsBytes (take n xs)
-    → cond t (head_at (codes "u64") 0 8) (head_at (codes "u128") 6 1 >=> u128_tagged) xs ≡ Ok (v, drop n xs) → ReadsU128 xs v n 0
+    → cond t (head_at (codes "u64") 0 8) (head_at (codes "u128") 6 1 >=> unsigned_bignum_at) xs ≡ Ok (v, drop n xs) → ReadsU128 xs v n 0
 u128_means_by true xs v n within bytes e = (inl (read_head (codes "u64") 0 8 xs v n e within bytes), refl)
 u128_means_by false xs v n within bytes e =
-    let p = ok_parts (head_at (codes "u128") 6 1 xs) u128_tagged v (drop n xs) e in
+    let p = ok_parts (head_at (codes "u128") 6 1 xs) unsigned_bignum_at v (drop n xs) e in
     (inr (u128_tag_means (eqb p.value 2) xs p.rest p.value v n refl p.begun within bytes p.ended), refl)
 
 u128_means : (xs : List ℕ) (v n : ℕ) → u128_at xs ≡ Ok (v, drop n xs) → n ≤ length xs → IsBytes (take n xs) → ReadsU128 xs v n 0
@@ -227,14 +227,14 @@ u128_tag_stops false xs rest tag z n t h within bytes e =
     let p = same_refusal (refuse {V = ℕ} (mismatch (codes "u128::tag") tag) rest) refl e in
     other_u128_tag tag n (head_then (codes "u128") 6 1 xs rest tag n h p.1 within bytes) (other tag 2 t) (sym p.0) refl
 
-u128_parts : (b : ℕ) (bs : List ℕ) (z : Refusal) (n : ℕ) → b / 32 ≢ 0 → n ≤ length (b ∷ bs) → IsBytes (take n (b ∷ bs)) → (head_at (codes "u128") 6 1 (b ∷ bs) ≡ Err (z, drop n (b ∷ bs))) ⊎ ErrParts (head_at (codes "u128") 6 1 (b ∷ bs)) u128_tagged z (drop n (b ∷ bs)) → StopsU128 (b ∷ bs) z (drop n (b ∷ bs))
+u128_parts : (b : ℕ) (bs : List ℕ) (z : Refusal) (n : ℕ) → b / 32 ≢ 0 → n ≤ length (b ∷ bs) → IsBytes (take n (b ∷ bs)) → (head_at (codes "u128") 6 1 (b ∷ bs) ≡ Err (z, drop n (b ∷ bs))) ⊎ ErrParts (head_at (codes "u128") 6 1 (b ∷ bs)) unsigned_bignum_at z (drop n (b ∷ bs)) → StopsU128 (b ∷ bs) z (drop n (b ∷ bs))
 u128_parts b bs z n m within bytes (inl e) = u128_tag_refused b bs refl m (head_stops (codes "u128") 6 1 (b ∷ bs) z (drop n (b ∷ bs)) e)
 u128_parts b bs z n m within bytes (inr h) = u128_tag_stops (eqb h.value 2) (b ∷ bs) h.rest h.value z n refl h.begun within bytes h.ended
 
 u128_stops_by : (t : Bool) (b : ℕ) (bs : List ℕ) (z : Refusal) (n : ℕ) → eqb (b / 32) 0 ≡ t → n ≤ length (b ∷ bs) → IsBytes (take n (b ∷ bs))
-    → cond t (head_at (codes "u64") 0 8) (head_at (codes "u128") 6 1 >=> u128_tagged) (b ∷ bs) ≡ Err (z, drop n (b ∷ bs)) → StopsU128 (b ∷ bs) z (drop n (b ∷ bs))
+    → cond t (head_at (codes "u64") 0 8) (head_at (codes "u128") 6 1 >=> unsigned_bignum_at) (b ∷ bs) ≡ Err (z, drop n (b ∷ bs)) → StopsU128 (b ∷ bs) z (drop n (b ∷ bs))
 u128_stops_by true b bs z n t within bytes e = u128_head_refused b bs refl (eqb-true (b / 32) 0 t) (head_stops (codes "u64") 0 8 (b ∷ bs) z (drop n (b ∷ bs)) e)
-u128_stops_by false b bs z n t within bytes e = u128_parts b bs z n (other (b / 32) 0 t) within bytes (err_parts (head_at (codes "u128") 6 1 (b ∷ bs)) u128_tagged z (drop n (b ∷ bs)) e)
+u128_stops_by false b bs z n t within bytes e = u128_parts b bs z n (other (b / 32) 0 t) within bytes (err_parts (head_at (codes "u128") 6 1 (b ∷ bs)) unsigned_bignum_at z (drop n (b ∷ bs)) e)
 
 u128_stops : (xs : List ℕ) (z : Refusal) (n : ℕ) → u128_at xs ≡ Err (z, drop n xs) → n ≤ length xs → IsBytes (take n xs) → StopsU128 xs z (drop n xs)
 u128_stops [] z n e within bytes = let r = same_refusal {V = ℕ} (Err (eof (codes "u128") (Small 1), [])) refl e in no_u128_byte refl (sym r.0) (sym r.1)
@@ -266,7 +266,7 @@ i128_tag_means false true xs rest tag v n p q h within bytes e =
 i128_tag_means false false xs rest tag v n p q h within bytes e = cc
 
 i128_means_by : (s t : Bool) (xs : List ℕ) (v : ℤ) (n : ℕ) → n ≤ length xs → IsBytes (take n xs)
-    → cond s (head_at (codes "u64") 0 8 >=> as_positive) (cond t (head_at (codes "i128") 1 8 >=> as_negative) (head_at (codes "i128") 6 1 >=> i128_tagged)) xs ≡ Ok (v, drop n xs) → ReadsI128 xs v n 0
+    → cond s (head_at (codes "u64") 0 8 >=> as_positive) (cond t (head_at (codes "i128") 1 8 >=> as_negative) (head_at (codes "i128") 6 1 >=> signed_bignum_at)) xs ≡ Ok (v, drop n xs) → ReadsI128 xs v n 0
 i128_means_by true t xs v n within bytes e =
     let g = sign_given (head_at (codes "u64") 0 8) pos xs v (drop n xs) e in
     subst (λ z. ReadsI128 xs z n 0) g.1 (inl (read_head (codes "u64") 0 8 xs g.0 n g.2 within bytes), refl)
@@ -274,7 +274,7 @@ i128_means_by false true xs v n within bytes e =
     let g = sign_given (head_at (codes "i128") 1 8) negsuc xs v (drop n xs) e in
     subst (λ z. ReadsI128 xs z n 0) g.1 (inl (read_head (codes "i128") 1 8 xs g.0 n g.2 within bytes), refl)
 i128_means_by false false xs v n within bytes e =
-    let p = ok_parts (head_at (codes "i128") 6 1 xs) i128_tagged v (drop n xs) e in
+    let p = ok_parts (head_at (codes "i128") 6 1 xs) signed_bignum_at v (drop n xs) e in
     i128_tag_means (eqb p.value 2) (eqb p.value 3) xs p.rest p.value v n refl refl p.begun within bytes p.ended
 
 i128_means : (xs : List ℕ) (v : ℤ) (n : ℕ) → i128_at xs ≡ Ok (v, drop n xs) → n ≤ length xs → IsBytes (take n xs) → ReadsI128 xs v n 0
@@ -304,18 +304,18 @@ i128_tag_stops false false xs rest tag z n p q h within bytes e =
     let r = same_refusal (refuse {V = ℤ} (mismatch (codes "i128::tag") tag) rest) refl e in
     other_i128_tag tag n (head_then (codes "i128") 6 1 xs rest tag n h r.1 within bytes) (other tag 2 p) (other tag 3 q) (sym r.0) refl
 
-i128_parts : (b : ℕ) (bs : List ℕ) (z : Refusal) (n : ℕ) → 2 ≤ b / 32 → n ≤ length (b ∷ bs) → IsBytes (take n (b ∷ bs)) → (head_at (codes "i128") 6 1 (b ∷ bs) ≡ Err (z, drop n (b ∷ bs))) ⊎ ErrParts (head_at (codes "i128") 6 1 (b ∷ bs)) i128_tagged z (drop n (b ∷ bs)) → StopsI128 (b ∷ bs) z (drop n (b ∷ bs))
+i128_parts : (b : ℕ) (bs : List ℕ) (z : Refusal) (n : ℕ) → 2 ≤ b / 32 → n ≤ length (b ∷ bs) → IsBytes (take n (b ∷ bs)) → (head_at (codes "i128") 6 1 (b ∷ bs) ≡ Err (z, drop n (b ∷ bs))) ⊎ ErrParts (head_at (codes "i128") 6 1 (b ∷ bs)) signed_bignum_at z (drop n (b ∷ bs)) → StopsI128 (b ∷ bs) z (drop n (b ∷ bs))
 i128_parts b bs z n m within bytes (inl e) = i128_tag_refused b bs refl m (head_stops (codes "i128") 6 1 (b ∷ bs) z (drop n (b ∷ bs)) e)
 i128_parts b bs z n m within bytes (inr h) = i128_tag_stops (eqb h.value 2) (eqb h.value 3) (b ∷ bs) h.rest h.value z n refl refl h.begun within bytes h.ended
 
 i128_stops_by : (s t : Bool) (b : ℕ) (bs : List ℕ) (z : Refusal) (n : ℕ) → eqb (b / 32) 0 ≡ s → eqb (b / 32) 1 ≡ t → n ≤ length (b ∷ bs) → IsBytes (take n (b ∷ bs))
-    → cond s (head_at (codes "u64") 0 8 >=> as_positive) (cond t (head_at (codes "i128") 1 8 >=> as_negative) (head_at (codes "i128") 6 1 >=> i128_tagged)) (b ∷ bs) ≡ Err (z, drop n (b ∷ bs)) → StopsI128 (b ∷ bs) z (drop n (b ∷ bs))
+    → cond s (head_at (codes "u64") 0 8 >=> as_positive) (cond t (head_at (codes "i128") 1 8 >=> as_negative) (head_at (codes "i128") 6 1 >=> signed_bignum_at)) (b ∷ bs) ≡ Err (z, drop n (b ∷ bs)) → StopsI128 (b ∷ bs) z (drop n (b ∷ bs))
 i128_stops_by true t b bs z n p q within bytes e = i128_head_refused b bs refl (eqb-true (b / 32) 0 p) (head_stops (codes "u64") 0 8 (b ∷ bs) z (drop n (b ∷ bs)) (sign_refused (head_at (codes "u64") 0 8) pos (b ∷ bs) z (drop n (b ∷ bs)) e))
 i128_stops_by false true b bs z n p q within bytes e = i128_negative_refused b bs refl (eqb-true (b / 32) 1 q) (head_stops (codes "i128") 1 8 (b ∷ bs) z (drop n (b ∷ bs)) (sign_refused (head_at (codes "i128") 1 8) negsuc (b ∷ bs) z (drop n (b ∷ bs)) e))
 i128_stops_by false false b bs z n p q within bytes e =
     let x = other (b / 32) 0 p in
     let y = other (b / 32) 1 q in
-    i128_parts b bs z n (omega (arith, x, y)) within bytes (err_parts (head_at (codes "i128") 6 1 (b ∷ bs)) i128_tagged z (drop n (b ∷ bs)) e)
+    i128_parts b bs z n (omega (arith, x, y)) within bytes (err_parts (head_at (codes "i128") 6 1 (b ∷ bs)) signed_bignum_at z (drop n (b ∷ bs)) e)
 
 i128_stops : (xs : List ℕ) (z : Refusal) (n : ℕ) → i128_at xs ≡ Err (z, drop n xs) → n ≤ length xs → IsBytes (take n xs) → StopsI128 xs z (drop n xs)
 i128_stops [] z n e within bytes = let r = same_refusal {V = ℤ} (Err (eof (codes "i128") (Small 1), [])) refl e in no_i128_byte refl (sym r.0) (sym r.1)

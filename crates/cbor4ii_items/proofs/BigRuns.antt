@@ -8,7 +8,7 @@ use Rattle.cbor4ii_rw.specs.View.{View}
 use Rattle.cbor4ii_rw.specs.declared.error.DecodeError.{DecodeError}
 use Rattle.cbor4ii_items.specs.Reading.{Runs, peek_at, ◌>=>◌}
 use Rattle.cbor4ii_items.specs.ReadHead.{head_at, length_at, number_on}
-use Rattle.cbor4ii_items.specs.ReadNumber.{magnitude_by, magnitude_at, u128_tagged, u128_by, u128_at, i128_tagged, i128_by, i128_at, as_positive, as_negative}
+use Rattle.cbor4ii_items.specs.ReadNumber.{magnitude_by, magnitude_at, unsigned_bignum_at, u128_by, u128_at, signed_bignum_at, i128_by, i128_at, as_positive, as_negative}
 use Rattle.cbor4ii_items.specs.Laws.Running.{runs_as, runs_then, runs_with}
 use Rattle.cbor4ii_items.proofs.SignedRuns.{first_major, runs_where}
 use Rattle.cbor4ii_items.specs.Laws.Bignums.{i128_positive_by, i128_negative_by}
@@ -24,18 +24,18 @@ runs_magnitude name count h p q = runs_then (magnitude_by name) p (runs_as (shor
 u128_unsigned : (b : ℕ) → b / 32 ≡ 0 → u128_by b ≡ head_at (codes "u64") 0 8
 u128_unsigned b e = let t : b / 32 ≡ 0 = e in rw t refl
 
-u128_tag : (b : ℕ) → b / 32 ≢ 0 → u128_by b ≡ (head_at (codes "u128") 6 1 >=> u128_tagged)
+u128_tag : (b : ℕ) → b / 32 ≢ 0 → u128_by b ≡ (head_at (codes "u128") 6 1 >=> unsigned_bignum_at)
 u128_tag b e = let t : eqb (b / 32) 0 ≡ false = ne_eqb (b / 32) 0 e in rw t refl
 
 pub runs_u128_unsigned : {E : Type 0} (b : ℕ) {a m c : View} {r : Result ℕ (DecodeError E)} → b / 32 ≡ 0 → Runs {E = E} (peek_at (codes "u128") 1) a m (Ok b) → Runs (head_at (codes "u64") 0 8) m c r → Runs u128_at a c r
 runs_u128_unsigned b e p q = runs_then u128_by p (runs_as (u128_unsigned b e) q)
 
-pub runs_u128_tag : {E : Type 0} (b : ℕ) {a m c : View} {r : Result ℕ (DecodeError E)} → b / 32 ≢ 0 → Runs {E = E} (peek_at (codes "u128") 1) a m (Ok b) → Runs (head_at (codes "u128") 6 1 >=> u128_tagged) m c r → Runs u128_at a c r
+pub runs_u128_tag : {E : Type 0} (b : ℕ) {a m c : View} {r : Result ℕ (DecodeError E)} → b / 32 ≢ 0 → Runs {E = E} (peek_at (codes "u128") 1) a m (Ok b) → Runs (head_at (codes "u128") 6 1 >=> unsigned_bignum_at) m c r → Runs u128_at a c r
 runs_u128_tag b e p q = runs_then u128_by p (runs_as (u128_tag b e) q)
 
 -- ---- i128
 
-i128_tag : (b : ℕ) → b / 32 ≢ 0 → b / 32 ≢ 1 → i128_by b ≡ (head_at (codes "i128") 6 1 >=> i128_tagged)
+i128_tag : (b : ℕ) → b / 32 ≢ 0 → b / 32 ≢ 1 → i128_by b ≡ (head_at (codes "i128") 6 1 >=> signed_bignum_at)
 i128_tag b p q =
     let s : eqb (b / 32) 0 ≡ false = ne_eqb (b / 32) 0 p in
     let t : eqb (b / 32) 1 ≡ false = ne_eqb (b / 32) 1 q in
@@ -47,7 +47,7 @@ runs_i128_positive b e p q = runs_then i128_by p (runs_as (i128_positive_by b e)
 pub runs_i128_negative : {E : Type 0} (b : ℕ) {a m c : View} {r : Result ℤ (DecodeError E)} → b / 32 ≡ 1 → Runs {E = E} (peek_at (codes "i128") 1) a m (Ok b) → Runs (head_at (codes "i128") 1 8 >=> as_negative) m c r → Runs i128_at a c r
 runs_i128_negative b e p q = runs_then i128_by p (runs_as (i128_negative_by b e) q)
 
-pub runs_i128_tag : {E : Type 0} (b : ℕ) {a m c : View} {r : Result ℤ (DecodeError E)} → b / 32 ≢ 0 → b / 32 ≢ 1 → Runs {E = E} (peek_at (codes "i128") 1) a m (Ok b) → Runs (head_at (codes "i128") 6 1 >=> i128_tagged) m c r → Runs i128_at a c r
+pub runs_i128_tag : {E : Type 0} (b : ℕ) {a m c : View} {r : Result ℤ (DecodeError E)} → b / 32 ≢ 0 → b / 32 ≢ 1 → Runs {E = E} (peek_at (codes "i128") 1) a m (Ok b) → Runs (head_at (codes "i128") 6 1 >=> signed_bignum_at) m c r → Runs i128_at a c r
 runs_i128_tag b s t p q = runs_then i128_by p (runs_as (i128_tag b s t) q)
 
 -- ---- numbers as signed ones

@@ -5,7 +5,7 @@ use Rattle.cbor4ii_rw.specs.Reader.{KeepsAllButBudget, StepsIn, step_back}
 use Rattle.cbor4ii_rw.specs.declared.error.DecodeError.{DecodeError}
 use Rattle.cbor4ii_items.specs.Reading.{Reading, ◌>=>◌, Runs, Reaches}
 use Rattle.cbor4ii_items.specs.ReadHead.{length_at}
-use Rattle.cbor4ii_items.specs.ReadStrings.{content_on, break_at, chunk_by, chunk_inside, chunk_at, chunks_at, string_by, string_at}
+use Rattle.cbor4ii_items.specs.ReadStrings.{content_on, break_at, chunk_by, chunk_inside_at, chunk_at, chunks_at, string_by, string_at}
 use Rattle.cbor4ii_items.specs.Laws.Chunks.{chunks_by, chunks_more}
 use Rattle.cbor4ii_items.specs.Laws.Running.{runs_give, reaches_as, reaches_then, runs_as, runs_then, runs_err, reaches_end}
 use Rattle.cbor4ii_items.specs.Laws.UnderStep.{step_again, step_unbound, runs_around}
@@ -13,17 +13,17 @@ use Rattle.cbor4ii_items.specs.Laws.UnderStep.{step_again, step_unbound, runs_ar
 -- ---- chunks
 
 pub counted_runs : {E : Type 0} (name : List ℕ) (major : ℕ) (content : List ℕ) {l : Option ℕ} {count : ℕ} {a m b : View} {r : Result (List ℕ) (DecodeError E)} → l ≡ Some count → Runs {E = E} (length_at name major) a m (Ok l)
-    → Runs (content_on name count content) m b r → Runs (chunk_inside name major content) a b r
+    → Runs (content_on name count content) m b r → Runs (chunk_inside_at name major content) a b r
 counted_runs name major content {m = m} {b = b} {r = r} is p q =
     runs_then (chunk_by name content) p (subst (λ (z : Option ℕ). Runs (chunk_by name content z) m b r) (sym is) q)
 
-stepped_in : (name : List ℕ) (major : ℕ) (content : List ℕ) (old new : Option ℕ) → StepsIn old new true → chunk_at name major old content ≡ chunk_inside name major content
+stepped_in : (name : List ℕ) (major : ℕ) (content : List ℕ) (old new : Option ℕ) → StepsIn old new true → chunk_at name major old content ≡ chunk_inside_at name major content
 stepped_in name major content None new h = refl
 stepped_in name major content (Some zero) new h = absurd (omega (arith, h.0))
 stepped_in name major content (Some (suc left)) new h = refl
 
 pub chunk_runs : {E : Type 0} (name : List ℕ) (major : ℕ) (content : List ℕ) {a b c d : View} {r : Result (List ℕ) (DecodeError E)} → StepsIn a.budget b.budget true → KeepsAllButBudget a b
-    → Runs (chunk_inside name major content) b c r → d.budget ≡ step_back c.budget → KeepsAllButBudget c d → Runs (chunk_at name major a.budget content) a d r
+    → Runs (chunk_inside_at name major content) b c r → d.budget ≡ step_back c.budget → KeepsAllButBudget c d → Runs (chunk_at name major a.budget content) a d r
 chunk_runs name major content {a = a} {b = b} takes inward f gives outward =
     runs_as (stepped_in name major content a.budget b.budget takes) (runs_around inward outward (λ none. step_unbound a.budget b.budget takes none) (λ same. gives ∙ (ap step_back same ∙ step_again a.budget b.budget takes)) f)
 

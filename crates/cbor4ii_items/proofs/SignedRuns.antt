@@ -12,14 +12,14 @@ use denote.Ref.{Bor}
 use Rattle.cbor4ii_items.specs.Refusal.{Refusal, cast_overflow}
 use Rattle.cbor4ii_items.specs.Reading.{Reading, Runs, refuse, peek_at, ◌>=>◌}
 use Rattle.cbor4ii_items.specs.ReadHead.{head_at, argument_at}
-use Rattle.cbor4ii_items.specs.ReadNumber.{below, half_at, signed_by, signed_at, as_positive, as_negative}
+use Rattle.cbor4ii_items.specs.ReadNumber.{below, head_below_at, signed_by, signed_at, as_positive, as_negative}
 use Rattle.cbor4ii_items.specs.Laws.Running.{as_of, runs_as, runs_then, runs_err, runs_with, runs_give, runs_refuse}
 use Rattle.cbor4ii_items.specs.Laws.Signed.{signed_positive_by, signed_negative_by}
 
-pub runs_positive : {E : Type 0} (name plus minus : List ℕ) (width limit b : ℕ) {a m c : View} {r : Result ℤ (DecodeError E)} → b / 32 ≡ 0 → Runs {E = E} (peek_at name 1) a m (Ok b) → Runs (half_at plus 0 width limit >=> as_positive) m c r → Runs (signed_at name plus minus width limit) a c r
+pub runs_positive : {E : Type 0} (name plus minus : List ℕ) (width limit b : ℕ) {a m c : View} {r : Result ℤ (DecodeError E)} → b / 32 ≡ 0 → Runs {E = E} (peek_at name 1) a m (Ok b) → Runs (head_below_at plus 0 width limit >=> as_positive) m c r → Runs (signed_at name plus minus width limit) a c r
 runs_positive name plus minus width limit b e p q = runs_then (signed_by name plus minus width limit) p (runs_as (signed_positive_by name plus minus width limit b e) q)
 
-pub runs_negative : {E : Type 0} (name plus minus : List ℕ) (width limit b : ℕ) {a m c : View} {r : Result ℤ (DecodeError E)} → b / 32 ≡ 1 → Runs {E = E} (peek_at name 1) a m (Ok b) → Runs (half_at minus 1 width limit >=> as_negative) m c r → Runs (signed_at name plus minus width limit) a c r
+pub runs_negative : {E : Type 0} (name plus minus : List ℕ) (width limit b : ℕ) {a m c : View} {r : Result ℤ (DecodeError E)} → b / 32 ≡ 1 → Runs {E = E} (peek_at name 1) a m (Ok b) → Runs (head_below_at minus 1 width limit >=> as_negative) m c r → Runs (signed_at name plus minus width limit) a c r
 runs_negative name plus minus width limit b e p q = runs_then (signed_by name plus minus width limit) p (runs_as (signed_negative_by name plus minus width limit b e) q)
 
 -- ---- numbers as signed ones
@@ -41,12 +41,12 @@ pub first_major : (name : List ℕ) (major width v b : ℕ) (bs ys : List ℕ) �
 first_major name major width v b bs ys e = eqb-true (b / 32) major (read_where ((b / 32) == major) (argument_at name width b) _ bs ys v e)
 
 -- where a head of major type 0 is read, a signed number begins with it
-as_plus : (name plus minus : List ℕ) (width limit v : ℕ) (xs ys : List ℕ) → head_at plus 0 width xs ≡ Ok (v, ys) → signed_at name plus minus width limit xs ≡ (half_at plus 0 width limit >=> as_positive) xs
+as_plus : (name plus minus : List ℕ) (width limit v : ℕ) (xs ys : List ℕ) → head_at plus 0 width xs ≡ Ok (v, ys) → signed_at name plus minus width limit xs ≡ (head_below_at plus 0 width limit >=> as_positive) xs
 as_plus name plus minus width limit v [] ys e = cc
 as_plus name plus minus width limit v (b ∷ bs) ys e =
     ap (λ f. f (b ∷ bs)) (signed_positive_by name plus minus width limit b (first_major plus 0 width v b bs ys e))
 
-as_minus : (name plus minus : List ℕ) (width limit v : ℕ) (xs ys : List ℕ) → head_at minus 1 width xs ≡ Ok (v, ys) → signed_at name plus minus width limit xs ≡ (half_at minus 1 width limit >=> as_negative) xs
+as_minus : (name plus minus : List ℕ) (width limit v : ℕ) (xs ys : List ℕ) → head_at minus 1 width xs ≡ Ok (v, ys) → signed_at name plus minus width limit xs ≡ (head_below_at minus 1 width limit >=> as_negative) xs
 as_minus name plus minus width limit v [] ys e = cc
 as_minus name plus minus width limit v (b ∷ bs) ys e =
     ap (λ f. f (b ∷ bs)) (signed_negative_by name plus minus width limit b (first_major minus 1 width v b bs ys e))

@@ -11,7 +11,7 @@ use Rattle.cbor4ii_items.specs.Laws.Outcome.{same_value, same_refusal}
 use Rattle.cbor4ii_items.specs.Heads.{ReadsHead, StopsHead}
 use Rattle.cbor4ii_items.specs.Laws.Heads.{read_head}
 use Rattle.cbor4ii_items.specs.ReadHead.{head_at, head_by, length_at}
-use Rattle.cbor4ii_items.specs.ReadStrings.{content_on, break_at, chunk_by, chunk_inside, chunk_at, chunks_on, string_by, string_at}
+use Rattle.cbor4ii_items.specs.ReadStrings.{content_on, break_at, chunk_by, chunk_inside_at, chunk_at, chunks_on, string_by, string_at}
 use Rattle.cbor4ii_items.specs.Laws.ProgramEnds.{ok_parts, err_parts, length_passed, length_some, length_none, content_inverse, break_yes, break_no, break_refused, chunk_passed, not_first}
 use Rattle.cbor4ii_items.specs.Laws.Chunks.{chunks_by}
 use Rattle.cbor4ii_items.specs.Laws.Fronts.{drop_more}
@@ -81,7 +81,7 @@ inside_by : (name before : List ℕ) (major : ℕ) (l : Option ℕ) (xs us v ys 
 inside_by name before major None xs us v ys e f seen = cc
 inside_by name before major (Some k) xs us v ys e f seen = known_read name before major k xs us v ys e f seen
 
-inside_read : (name before : List ℕ) (major : ℕ) (xs v ys : List ℕ) → chunk_inside name major before xs ≡ Ok (v, ys) → Seen xs ys → CountedFound major before xs v ys
+inside_read : (name before : List ℕ) (major : ℕ) (xs v ys : List ℕ) → chunk_inside_at name major before xs ≡ Ok (v, ys) → Seen xs ys → CountedFound major before xs v ys
 inside_read name before major xs v ys e seen =
     let g = ok_parts (length_at name major xs) (chunk_by name before) v ys e in
     inside_by name before major g.value xs g.rest v ys g.begun g.ended seen
@@ -223,7 +223,7 @@ inside_stops_by name before major budget None xs us z ys step e f seen =
     chunk_open step (begun (open_head major) xs ys o.0 (sym p.1 ∙ o.1)) (sym p.0)
 inside_stops_by name before major budget (Some k) xs us z ys step e f seen = chunk_cut step (known_cut name before major k xs us z ys e f seen)
 
-inside_stops : (name before : List ℕ) (major : ℕ) (budget : Option ℕ) (xs : List ℕ) (z : Refusal) (ys : List ℕ) → budget ≢ Some 0 → xs ≢ [] → (BeginsWith xs break → ⊥) → chunk_inside name major before xs ≡ Err (z, ys) → Seen xs ys → StopsChunk name major xs budget z ys
+inside_stops : (name before : List ℕ) (major : ℕ) (budget : Option ℕ) (xs : List ℕ) (z : Refusal) (ys : List ℕ) → budget ≢ Some 0 → xs ≢ [] → (BeginsWith xs break → ⊥) → chunk_inside_at name major before xs ≡ Err (z, ys) → Seen xs ys → StopsChunk name major xs budget z ys
 inside_stops name before major budget xs z ys step some other e seen = elim (err_parts (length_at name major xs) (chunk_by name before) z ys e) [
   | inl r ↦ (let h = no_length name major xs z ys r in chunk_refused step other h.0 some h.1)
   | inr r ↦ inside_stops_by name before major budget r.value xs r.rest z ys step r.begun r.ended seen

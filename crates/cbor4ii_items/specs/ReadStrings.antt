@@ -30,14 +30,14 @@ abbrev pub chunk_by : List ℕ → List ℕ → Option ℕ → Reading (List ℕ
 chunk_by name content None = refuse (require_length name Indefinite)
 chunk_by name content (Some count) = content_on name count content
 
-abbrev pub chunk_inside : List ℕ → ℕ → List ℕ → Reading (List ℕ)
-chunk_inside name major content = length_at name major >=> chunk_by name content
+abbrev pub chunk_inside_at : List ℕ → ℕ → List ℕ → Reading (List ℕ)
+chunk_inside_at name major content = length_at name major >=> chunk_by name content
 
 -- a chunk under one step
 abbrev pub chunk_at : List ℕ → ℕ → Option ℕ → List ℕ → Reading (List ℕ)
-chunk_at name major None content = chunk_inside name major content
+chunk_at name major None content = chunk_inside_at name major content
 chunk_at name major (Some zero) content = refuse (depth_overflow name)
-chunk_at name major (Some (suc left)) content = chunk_inside name major content
+chunk_at name major (Some (suc left)) content = chunk_inside_at name major content
 
 -- at most so many chunks, and a break
 abbrev pub chunks_on : ℕ → List ℕ → ℕ → Option ℕ → List ℕ → Reading (List ℕ)

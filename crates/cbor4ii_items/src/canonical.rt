@@ -68,11 +68,11 @@ pub fn canonical_buf<S: Source>(
     ensures stops { IfErr result
         (Stops (StopsShortestString name.now major) (S.view reader.old) (S.view reader.new)) }
 {
-    take_string(alloc, reader, name, major)
+    take_shortest_string(alloc, reader, name, major)
 }
 
 /// As `canonical_buf`, by what a program does.
-fn take_string<S: Source>(
+fn take_shortest_string<S: Source>(
     alloc: Global,
     reader: &mut S,
     name: StaticStr,

@@ -47,7 +47,7 @@ use std::alloc::Global;
 
 /// The bits of a float: its first byte, and so many bytes behind it.
 #[inline(always)]
-fn float<S: Source>(
+fn lone_float<S: Source>(
     reader: &mut S,
     name: StaticStr,
     marker: u8,
@@ -65,12 +65,12 @@ fn float<S: Source>(
     ensures stops { IfErr result
         (Stops (StopsFloat name.now marker bytes) (S.view reader.old) (S.view reader.new)) }
 {
-    bits(reader, name, marker, bytes)
+    take_float(reader, name, marker, bytes)
 }
 
 /// Where the reader shows the whole float, with one look and one advance.
 #[inline(always)]
-fn bits<S: Source>(
+fn take_float<S: Source>(
     reader: &mut S,
     name: StaticStr,
     marker: u8,
@@ -91,7 +91,7 @@ fn bits<S: Source>(
                 reader.advance(size);
                 Ok(value)
             }
-            None => bits_by_byte(reader, name, marker, bytes),
+            None => float_by_bytes(reader, name, marker, bytes),
         },
         None => Err(DecodeError::Read(failure.unwrap())),
     }
@@ -127,7 +127,7 @@ fn number_of(bytes: &[u8]) -> u64
 /// The same, one byte at a time.
 #[cold]
 #[inline(never)]
-fn bits_by_byte<S: Source>(
+fn float_by_bytes<S: Source>(
     reader: &mut S,
     name: StaticStr,
     marker: u8,
@@ -178,7 +178,7 @@ impl Spelled for F16 {
 impl<S: Source> Decode<S> for F16 {
     #[inline(always)]
     fn decode(alloc: Global, reader: &mut S) -> Result<F16, DecodeError<S::Error>> {
-        Ok(F16(float(reader, "f16", marker::F16, 2)? as u16))
+        Ok(F16(lone_float(reader, "f16", marker::F16, 2)? as u16))
     }
 
     ghost one = { λ xs v w. float_one 0xf9 2 xs v.0 w.0 };
@@ -237,7 +237,7 @@ impl Spelled for F32 {
 impl<S: Source> Decode<S> for F32 {
     #[inline(always)]
     fn decode(alloc: Global, reader: &mut S) -> Result<F32, DecodeError<S::Error>> {
-        Ok(F32(float(reader, "f32", marker::F32, 4)? as u32))
+        Ok(F32(lone_float(reader, "f32", marker::F32, 4)? as u32))
     }
 
     ghost one = { λ xs v w. float_one 0xfa 4 xs v.0 w.0 };
@@ -297,7 +297,7 @@ impl Spelled for F64 {
 impl<S: Source> Decode<S> for F64 {
     #[inline(always)]
     fn decode(alloc: Global, reader: &mut S) -> Result<F64, DecodeError<S::Error>> {
-        Ok(F64(float(reader, "f64", marker::F64, 8)?))
+        Ok(F64(lone_float(reader, "f64", marker::F64, 8)?))
     }
 
     ghost one = { λ xs v w. float_one 0xfb 8 xs v.0 w.0 };

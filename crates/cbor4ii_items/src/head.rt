@@ -48,7 +48,7 @@ pub(crate) fn peek<S: Source>(
 
 /// The next byte, taken. Where there is none, `expect` bytes were expected.
 #[inline(always)]
-pub(crate) fn take<S: Source>(
+pub(crate) fn take_byte<S: Source>(
     reader: &mut S,
     name: StaticStr,
     expect: u16,
@@ -97,7 +97,7 @@ pub(crate) fn number<S: Source>(
 {
     let mut value = 0;
     for i in 0..bytes {
-        let byte = take(reader, name, bytes as u16)?;
+        let byte = take_byte(reader, name, bytes as u16)?;
         value = value * 256 + byte as u128;
     }
     Ok(value)
@@ -163,7 +163,7 @@ fn head_by_bytes<S: Source>(
     ensures fits { 1 ≤ width → IfOk result (λ v. v < 256 ^ width) }
     ensures progress { OnOk result ((S.view reader.new).bound + 1 ≤ (S.view reader.old).bound) }
 {
-    let first = take(reader, name, 1)?;
+    let first = take_byte(reader, name, 1)?;
     if first / 32 != major {
         return Err(DecodeError::Mismatch { name, found: first });
     }
@@ -225,7 +225,7 @@ fn length_by_bytes<S: Source>(
     ensures memory { IfErr result (λ error. is_out_of_memory error ≡ false) }
     ensures progress { OnOk result ((S.view reader.new).bound + 1 ≤ (S.view reader.old).bound) }
 {
-    let first = take(reader, name, 1)?;
+    let first = take_byte(reader, name, 1)?;
     if first == 32 * major + 31 {
         return Ok(None);
     }

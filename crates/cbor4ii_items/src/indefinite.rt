@@ -35,7 +35,7 @@ pub fn is_break<S: Source>(reader: &mut S) -> Result<bool, DecodeError<S::Error>
     ensures stops { IfErr result
         (Stops StopsBreak (S.view reader.old) (S.view reader.new)) }
 {
-    at_break(reader)
+    take_break(reader)
 }
 
 /// Whether another part of an array or a map follows: `len` is what is left of its length, at
@@ -82,7 +82,7 @@ pub fn follows<S: Source>(
 }
 
 /// As `is_break`, by what a program does.
-pub(crate) fn at_break<S: Source>(reader: &mut S) -> Result<bool, DecodeError<S::Error>>
+pub(crate) fn take_break<S: Source>(reader: &mut S) -> Result<bool, DecodeError<S::Error>>
     ensures runs { Runs break_at (S.view reader.old) (S.view reader.new) result }
     ensures memory { IfErr result (λ error. is_out_of_memory error ≡ false) }
 {

@@ -125,7 +125,7 @@ impl Spelled for bool {
 impl<S: Source> Decode<S> for bool {
     #[inline(always)]
     fn decode(alloc: Global, reader: &mut S) -> Result<bool, DecodeError<S::Error>> {
-        flag(reader)
+        take_bool(reader)
     }
 
     ghost one = { bool_one };
@@ -137,7 +137,7 @@ impl<S: Source> Decode<S> for bool {
     ghost alone = { λ _. bool_alone };
 }
 
-fn flag<S: Source>(reader: &mut S) -> Result<bool, DecodeError<S::Error>>
+fn take_bool<S: Source>(reader: &mut S) -> Result<bool, DecodeError<S::Error>>
     ensures runs { Runs bool_at (S.view reader.old) (S.view reader.new) result }
     ensures memory { IfErr result (λ error. is_out_of_memory error ≡ false) }
     ensures progress { OnOk result ((S.view reader.new).bound + 1 ≤ (S.view reader.old).bound) }

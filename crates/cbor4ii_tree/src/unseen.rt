@@ -124,11 +124,11 @@ fn is_break<S: Source, F: Front<S>>(
         (Stops StopsBreak (F.view front.old reader.old) (F.view front.new reader.new)) }
     ensures stays { IsTrue F.apart → S.view reader.new ≡ S.view reader.old }
 {
-    at_break(front, reader)
+    take_break(front, reader)
 }
 
 /// As `is_break`, by what a program does.
-fn at_break<S: Source, F: Front<S>>(
+fn take_break<S: Source, F: Front<S>>(
     front: &mut F,
     reader: &mut S,
 ) -> Result<bool, DecodeError<S::Error>>
@@ -170,7 +170,7 @@ pub(crate) fn peek<S: Source, F: Front<S>>(
 }
 
 /// The next byte, taken. Where there is none, `expect` bytes were expected.
-fn take<S: Source, F: Front<S>>(
+fn take_byte<S: Source, F: Front<S>>(
     front: &mut F,
     reader: &mut S,
     name: StaticStr,
@@ -203,7 +203,7 @@ fn number<S: Source, F: Front<S>>(
 {
     let mut value = 0;
     for i in 0..bytes {
-        let byte = take(front, reader, name, bytes as u16)?;
+        let byte = take_byte(front, reader, name, bytes as u16)?;
         value = value * 256 + byte as u128;
     }
     Ok(value)

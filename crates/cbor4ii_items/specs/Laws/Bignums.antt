@@ -6,7 +6,7 @@ use Rattle.cbor4ii_items.specs.Head.{IsBytes, open_head}
 use Rattle.cbor4ii_items.specs.Reading.{give, go_on, ◌>=>◌}
 use Rattle.cbor4ii_items.specs.Heads.{ReadsHead}
 use Rattle.cbor4ii_items.specs.ReadHead.{head_at, head_by, length_by, length_at, number_on}
-use Rattle.cbor4ii_items.specs.ReadNumber.{below, as_positive, as_negative, magnitude_by, magnitude_at, u128_tagged, u128_by, u128_at, small_magnitude_at, i128_tagged, i128_by, i128_at}
+use Rattle.cbor4ii_items.specs.ReadNumber.{below, as_positive, as_negative, magnitude_by, magnitude_at, unsigned_bignum_at, u128_by, u128_at, small_magnitude_at, signed_bignum_at, i128_by, i128_at}
 use Rattle.cbor4ii_items.specs.Magnitude.{number_of}
 use Rattle.cbor4ii_items.specs.Numbers.{ReadsMagnitude, ReadsBignum, ReadsU128, ReadsI128}
 use Rattle.cbor4ii_items.specs.Laws.Fronts.{drop_more, two_fronts, behind_front, the_front}
@@ -102,7 +102,7 @@ bignum_alone tag xs ys v n p =
 u128_unsigned : (b : ℕ) → b / 32 ≡ 0 → u128_by b ≡ head_at (codes "u64") 0 8
 u128_unsigned b e = let t : b / 32 ≡ 0 = e in rw t refl
 
-u128_bignum : (b : ℕ) → b / 32 ≡ 6 → u128_by b ≡ (head_at (codes "u128") 6 1 >=> u128_tagged)
+u128_bignum : (b : ℕ) → b / 32 ≡ 6 → u128_by b ≡ (head_at (codes "u128") 6 1 >=> unsigned_bignum_at)
 u128_bignum b e = let t : b / 32 ≡ 6 = e in rw t refl
 
 pub u128_again : (xs : List ℕ) (v n c : ℕ) → ReadsU128 xs v n c → ReadBy u128_at xs v n c
@@ -119,7 +119,7 @@ u128_again xs v n c (inr p, cost) =
     let s = starts 6 1 xs 2 p.before p.tagged in
     let r = bignum_read 2 xs v n p in
     record {
-      answer = ap (λ z. go_on z u128_by) (peek_first (codes "u128") s.first s.others xs s.is) ∙ (ap (λ f. f xs) (u128_bignum s.first s.type) ∙ (ap (λ z. go_on z u128_tagged) (r.tagged (codes "u128")) ∙ r.inner (codes "u128::bytes")));
+      answer = ap (λ z. go_on z u128_by) (peek_first (codes "u128") s.first s.others xs s.is) ∙ (ap (λ f. f xs) (u128_bignum s.first s.type) ∙ (ap (λ z. go_on z unsigned_bignum_at) (r.tagged (codes "u128")) ∙ r.inner (codes "u128::bytes")));
       within = r.within;
       positive = r.positive;
       cost = cost;
@@ -146,7 +146,7 @@ i128_positive_by b e = let t : b / 32 ≡ 0 = e in rw t refl
 pub i128_negative_by : (b : ℕ) → b / 32 ≡ 1 → i128_by b ≡ (head_at (codes "i128") 1 8 >=> as_negative)
 i128_negative_by b e = let t : b / 32 ≡ 1 = e in rw t refl
 
-i128_bignum : (b : ℕ) → b / 32 ≡ 6 → i128_by b ≡ (head_at (codes "i128") 6 1 >=> i128_tagged)
+i128_bignum : (b : ℕ) → b / 32 ≡ 6 → i128_by b ≡ (head_at (codes "i128") 6 1 >=> signed_bignum_at)
 i128_bignum b e = let t : b / 32 ≡ 6 = e in rw t refl
 
 small_again : (name : List ℕ) (xs : List ℕ) (v : ℕ) (ys : List ℕ) → magnitude_at name xs ≡ Ok (v, ys) → v < 2 ^ 127 → small_magnitude_at name xs ≡ Ok (v, ys)
@@ -166,7 +166,7 @@ i128_again xs (pos k) n c (inr p, cost) =
     let s = starts 6 1 xs 2 p.0.before p.0.tagged in
     let r = bignum_read 2 xs k n p.0 in
     record {
-      answer = ap (λ z. go_on z i128_by) (peek_first (codes "i128") s.first s.others xs s.is) ∙ (ap (λ f. f xs) (i128_bignum s.first s.type) ∙ (ap (λ z. go_on z i128_tagged) (r.tagged (codes "i128"))
+      answer = ap (λ z. go_on z i128_by) (peek_first (codes "i128") s.first s.others xs s.is) ∙ (ap (λ f. f xs) (i128_bignum s.first s.type) ∙ (ap (λ z. go_on z signed_bignum_at) (r.tagged (codes "i128"))
           ∙ ap (λ z. go_on z as_positive) (small_again (codes "+i128::bytes") (drop r.before xs) k (drop n xs) (r.inner (codes "+i128::bytes")) p.1)));
       within = r.within;
       positive = r.positive;
@@ -185,7 +185,7 @@ i128_again xs (negsuc k) n c (inr p, cost) =
     let s = starts 6 1 xs 3 p.0.before p.0.tagged in
     let r = bignum_read 3 xs k n p.0 in
     record {
-      answer = ap (λ z. go_on z i128_by) (peek_first (codes "i128") s.first s.others xs s.is) ∙ (ap (λ f. f xs) (i128_bignum s.first s.type) ∙ (ap (λ z. go_on z i128_tagged) (r.tagged (codes "i128"))
+      answer = ap (λ z. go_on z i128_by) (peek_first (codes "i128") s.first s.others xs s.is) ∙ (ap (λ f. f xs) (i128_bignum s.first s.type) ∙ (ap (λ z. go_on z signed_bignum_at) (r.tagged (codes "i128"))
           ∙ ap (λ z. go_on z as_negative) (small_again (codes "-i128::bytes") (drop r.before xs) k (drop n xs) (r.inner (codes "-i128::bytes")) p.1)));
       within = r.within;
       positive = r.positive;

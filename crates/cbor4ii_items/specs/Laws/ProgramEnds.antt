@@ -8,7 +8,7 @@ use Rattle.cbor4ii_items.specs.Refusal.{Refusal, mismatch, eof, len_of}
 use Rattle.cbor4ii_items.specs.Reading.{Reading, give, refuse, go_on, ◌>=>◌, byte_at}
 use Rattle.cbor4ii_items.specs.Laws.Outcome.{same_value, same_refusal}
 use Rattle.cbor4ii_items.specs.ReadHead.{number_on, argument_at, head_by, head_at, length_by, length_at, following, allowed}
-use Rattle.cbor4ii_items.specs.ReadStrings.{content_on, break_at, chunk_by, chunk_inside, chunk_at}
+use Rattle.cbor4ii_items.specs.ReadStrings.{content_on, break_at, chunk_by, chunk_inside_at, chunk_at}
 use Rattle.cbor4ii_items.specs.Laws.Fronts.{drop_more}
 
 -- some bytes were passed
@@ -207,7 +207,7 @@ chunk_by_passed : (name : List ℕ) (before : List ℕ) (l : Option ℕ) (xs v y
 chunk_by_passed name before None xs v ys e = cc
 chunk_by_passed name before (Some count) xs v ys e = content_passed name count before xs v ys e
 
-inside_passed : (name : List ℕ) (major : ℕ) (before xs v ys : List ℕ) → chunk_inside name major before xs ≡ Ok (v, ys) → Passed xs ys × (length ys < length xs)
+inside_passed : (name : List ℕ) (major : ℕ) (before xs v ys : List ℕ) → chunk_inside_at name major before xs ≡ Ok (v, ys) → Passed xs ys × (length ys < length xs)
 inside_passed name major before xs v ys e =
     let g = ok_parts (length_at name major xs) (chunk_by name before) v ys e in
     let p = length_passed name major g.value xs g.rest g.begun in

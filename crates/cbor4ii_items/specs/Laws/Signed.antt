@@ -5,7 +5,7 @@ use Rattle.std.specs.Int.{bytes_high_first}
 use Rattle.cbor4ii_items.specs.Head.{byte_count, additional}
 use Rattle.cbor4ii_items.specs.Reading.{peek_at, go_on, ◌>=>◌}
 use Rattle.cbor4ii_items.specs.Heads.{ReadsHead}
-use Rattle.cbor4ii_items.specs.ReadNumber.{below, half_at, as_positive, as_negative, signed_by, signed_at}
+use Rattle.cbor4ii_items.specs.ReadNumber.{below, head_below_at, as_positive, as_negative, signed_by, signed_at}
 use Rattle.cbor4ii_items.specs.Numbers.{ReadsSigned}
 use Rattle.cbor4ii_items.specs.Laws.Heads.{head_read, head_alone, additional-lt}
 use Rattle.cbor4ii_items.specs.Laws.Arguments.{ReadBy, leaf_one, leaf_within, leaf_positive}
@@ -28,13 +28,13 @@ peek_first name b bs xs e = ap (peek_at name 1) e ∙ ap (λ (zs : List ℕ). Ok
 pub below_again : (name : List ℕ) (limit v : ℕ) (ys : List ℕ) → v < limit → below name limit v ys ≡ Ok (v, ys)
 below_again name limit v ys h = let t : ltb v limit ≡ true = lt-ltb v limit h in rw t refl
 
-half_again : (name : List ℕ) (major width limit : ℕ) (xs : List ℕ) (v n : ℕ) → major < 8 → ReadsHead major width xs v n → v < limit → half_at name major width limit xs ≡ Ok (v, drop n xs)
+half_again : (name : List ℕ) (major width limit : ℕ) (xs : List ℕ) (v n : ℕ) → major < 8 → ReadsHead major width xs v n → v < limit → head_below_at name major width limit xs ≡ Ok (v, drop n xs)
 half_again name major width limit xs v n m h small = ap (λ z. go_on z (below name limit)) (head_read name major width xs v n m h).0 ∙ below_again name limit v (drop n xs) small
 
-pub signed_positive_by : (name plus minus : List ℕ) (width limit b : ℕ) → b / 32 ≡ 0 → signed_by name plus minus width limit b ≡ (half_at plus 0 width limit >=> as_positive)
+pub signed_positive_by : (name plus minus : List ℕ) (width limit b : ℕ) → b / 32 ≡ 0 → signed_by name plus minus width limit b ≡ (head_below_at plus 0 width limit >=> as_positive)
 signed_positive_by name plus minus width limit b e = let t : eqb (b / 32) 0 ≡ true = eq-eqb (b / 32) 0 e in rw t refl
 
-pub signed_negative_by : (name plus minus : List ℕ) (width limit b : ℕ) → b / 32 ≡ 1 → signed_by name plus minus width limit b ≡ (half_at minus 1 width limit >=> as_negative)
+pub signed_negative_by : (name plus minus : List ℕ) (width limit b : ℕ) → b / 32 ≡ 1 → signed_by name plus minus width limit b ≡ (head_below_at minus 1 width limit >=> as_negative)
 signed_negative_by name plus minus width limit b e = let t : b / 32 ≡ 1 = e in rw t refl
 
 pub signed_again : (name plus minus : List ℕ) (width limit : ℕ) (xs : List ℕ) (v : ℤ) (n c : ℕ) → ReadsSigned width limit xs v n c → ReadBy (signed_at name plus minus width limit) xs v n c

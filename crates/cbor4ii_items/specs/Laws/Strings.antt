@@ -9,7 +9,7 @@ use Rattle.cbor4ii_items.specs.Laws.Outcome.{same_value}
 use Rattle.cbor4ii_items.specs.Heads.{ReadsHead}
 use Rattle.cbor4ii_items.specs.Laws.Heads.{head_read, head_alone, additional-lt}
 use Rattle.cbor4ii_items.specs.ReadHead.{head_at, length_at}
-use Rattle.cbor4ii_items.specs.ReadStrings.{content_on, break_at, chunk_by, chunk_inside, chunk_at, chunks_at, string_by, string_at}
+use Rattle.cbor4ii_items.specs.ReadStrings.{content_on, break_at, chunk_by, chunk_inside_at, chunk_at, chunks_at, string_by, string_at}
 use Rattle.cbor4ii_items.specs.Laws.Chunks.{chunks_by, chunks_more}
 use Rattle.cbor4ii_items.specs.Laws.CountedContent.{content_whole}
 use Rattle.cbor4ii_items.specs.Laws.Fronts.{drop_more, two_fronts, behind_front, the_front}
@@ -89,7 +89,7 @@ counted_content name before major xs v n h =
     content_whole name (length v) before (drop h.before xs) (fits_content v (drop h.before xs) h.stands)
     ∙ ap₂ (λ (us ws : List ℕ). Ok (us, ws)) (ap (λ z. before ++ z) h.stands) (drop_more (length v) h.before xs ∙ ap (λ j. drop j xs) (sym h.size))
 
-inside_again : (name before : List ℕ) (major : ℕ) (xs v : List ℕ) (n : ℕ) → major < 8 → ReadsCountedString major xs v n → chunk_inside name major before xs ≡ Ok (before ++ v, drop n xs)
+inside_again : (name before : List ℕ) (major : ℕ) (xs v : List ℕ) (n : ℕ) → major < 8 → ReadsCountedString major xs v n → chunk_inside_at name major before xs ≡ Ok (before ++ v, drop n xs)
 inside_again name before major xs v n m h = ap (λ z. go_on z (chunk_by name before)) (length_known name major xs (length v) h.before m h.head) ∙ counted_content name before major xs v n h
 
 pub counted_again : (name : List ℕ) (major : ℕ) (budget : Option ℕ) (xs v : List ℕ) (n : ℕ) → major < 8 → ReadsCountedString major xs v n → string_at name major budget xs ≡ Ok (v, drop n xs)

@@ -19,10 +19,10 @@ ghost use Rattle.cbor4ii_items.specs.Refusal.{is_out_of_memory};
 ghost use Rattle.cbor4ii_items.specs.ReadNumber.{
   magnitude_at,
   small_magnitude_at,
-  u128_tagged,
+  unsigned_bignum_at,
   u128_at,
   u128_by,
-  i128_tagged,
+  signed_bignum_at,
   i128_at,
 };
 ghost use Rattle.cbor4ii_items.specs.Numbers.{
@@ -97,7 +97,7 @@ fn small_magnitude<S: Source>(
 
 /// The number of a bignum from 0 on, behind its tag.
 fn unsigned_bignum<S: Source>(reader: &mut S, tag: u8) -> Result<u128, DecodeError<S::Error>>
-    ensures runs { Runs (u128_tagged tag) (S.view reader.old) (S.view reader.new) result }
+    ensures runs { Runs (unsigned_bignum_at tag) (S.view reader.old) (S.view reader.new) result }
     ensures memory { IfErr result (λ error. is_out_of_memory error ≡ false) }
 {
     if tag != POSITIVE_BIGNUM {
@@ -111,20 +111,20 @@ fn unsigned_bignum<S: Source>(reader: &mut S, tag: u8) -> Result<u128, DecodeErr
 
 /// An unsigned integer, or a bignum from 0 on.
 #[inline(always)]
-fn unsigned<S: Source>(reader: &mut S) -> Result<u128, DecodeError<S::Error>>
+fn take_u128<S: Source>(reader: &mut S) -> Result<u128, DecodeError<S::Error>>
     ensures runs { Runs u128_at (S.view reader.old) (S.view reader.new) result }
     ensures memory { IfErr result (λ error. is_out_of_memory error ≡ false) }
     ensures progress { OnOk result ((S.view reader.new).bound + 1 ≤ (S.view reader.old).bound) }
 {
     match take_head(reader, major::UNSIGNED, 8) {
         Ok(Some(argument)) => Ok(argument as u128),
-        Ok(None) => unsigned_by_bytes(reader),
+        Ok(None) => u128_by_bytes(reader),
         Err(error) => Err(DecodeError::Read(error)),
     }
 }
 
-/// As `unsigned`, where no unsigned integer stands whole in what is shown.
-fn unsigned_by_bytes<S: Source>(reader: &mut S) -> Result<u128, DecodeError<S::Error>>
+/// As `take_u128`, where no unsigned integer stands whole in what is shown.
+fn u128_by_bytes<S: Source>(reader: &mut S) -> Result<u128, DecodeError<S::Error>>
     ensures runs { Runs u128_at (S.view reader.old) (S.view reader.new) result }
     ensures memory { IfErr result (λ error. is_out_of_memory error ≡ false) }
     ensures progress { OnOk result ((S.view reader.new).bound + 1 ≤ (S.view reader.old).bound) }
@@ -139,7 +139,7 @@ fn unsigned_by_bytes<S: Source>(reader: &mut S) -> Result<u128, DecodeError<S::E
 
 /// The number of a bignum of either sign, behind its tag.
 fn signed_bignum<S: Source>(reader: &mut S, tag: u8) -> Result<i128, DecodeError<S::Error>>
-    ensures runs { Runs (i128_tagged tag) (S.view reader.old) (S.view reader.new) result }
+    ensures runs { Runs (signed_bignum_at tag) (S.view reader.old) (S.view reader.new) result }
     ensures memory { IfErr result (λ error. is_out_of_memory error ≡ false) }
 {
     if tag == POSITIVE_BIGNUM {
@@ -158,33 +158,33 @@ fn signed_bignum<S: Source>(reader: &mut S, tag: u8) -> Result<i128, DecodeError
 
 /// An integer of either sign, or a bignum.
 #[inline(always)]
-fn signed<S: Source>(reader: &mut S) -> Result<i128, DecodeError<S::Error>>
+fn take_i128<S: Source>(reader: &mut S) -> Result<i128, DecodeError<S::Error>>
     ensures runs { Runs i128_at (S.view reader.old) (S.view reader.new) result }
     ensures memory { IfErr result (λ error. is_out_of_memory error ≡ false) }
     ensures progress { OnOk result ((S.view reader.new).bound + 1 ≤ (S.view reader.old).bound) }
 {
     match take_head(reader, major::UNSIGNED, 8) {
         Ok(Some(argument)) => Ok(positive(argument as u128)),
-        Ok(None) => signed_below_zero(reader),
+        Ok(None) => i128_below_zero(reader),
         Err(error) => Err(DecodeError::Read(error)),
     }
 }
 
-/// As `signed`, where no unsigned integer stands whole in what is shown.
-fn signed_below_zero<S: Source>(reader: &mut S) -> Result<i128, DecodeError<S::Error>>
+/// As `take_i128`, where no unsigned integer stands whole in what is shown.
+fn i128_below_zero<S: Source>(reader: &mut S) -> Result<i128, DecodeError<S::Error>>
     ensures runs { Runs i128_at (S.view reader.old) (S.view reader.new) result }
     ensures memory { IfErr result (λ error. is_out_of_memory error ≡ false) }
     ensures progress { OnOk result ((S.view reader.new).bound + 1 ≤ (S.view reader.old).bound) }
 {
     match take_head(reader, major::NEGATIVE, 8) {
         Ok(Some(argument)) => Ok(negative(argument as u128)),
-        Ok(None) => signed_by_bytes(reader),
+        Ok(None) => i128_by_bytes(reader),
         Err(error) => Err(DecodeError::Read(error)),
     }
 }
 
-/// As `signed`, where no integer stands whole in what is shown.
-fn signed_by_bytes<S: Source>(reader: &mut S) -> Result<i128, DecodeError<S::Error>>
+/// As `take_i128`, where no integer stands whole in what is shown.
+fn i128_by_bytes<S: Source>(reader: &mut S) -> Result<i128, DecodeError<S::Error>>
     ensures runs { Runs i128_at (S.view reader.old) (S.view reader.new) result }
     ensures memory { IfErr result (λ error. is_out_of_memory error ≡ false) }
     ensures progress { OnOk result ((S.view reader.new).bound + 1 ≤ (S.view reader.old).bound) }
@@ -264,7 +264,7 @@ impl Spelled for u128 {
 impl<S: Source> Decode<S> for u128 {
     #[inline(always)]
     fn decode(alloc: Global, reader: &mut S) -> Result<u128, DecodeError<S::Error>> {
-        unsigned(reader)
+        take_u128(reader)
     }
 
     ghost one = { u128_one };
@@ -328,7 +328,7 @@ impl Spelled for i128 {
 impl<S: Source> Decode<S> for i128 {
     #[inline(always)]
     fn decode(alloc: Global, reader: &mut S) -> Result<i128, DecodeError<S::Error>> {
-        signed(reader)
+        take_i128(reader)
     }
 
     ghost one = { i128_one };

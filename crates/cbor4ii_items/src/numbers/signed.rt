@@ -17,7 +17,7 @@ ghost use Rattle.std.specs.Prelude.{
 ghost use Rattle.cbor4ii_items.specs.Reading.{Runs};
 ghost use Rattle.cbor4ii_items.specs.Refusal.{is_out_of_memory};
 ghost use Rattle.cbor4ii_items.specs.Decoding.{Sound, Refuses, Stops};
-ghost use Rattle.cbor4ii_items.specs.ReadNumber.{half_at, signed_at};
+ghost use Rattle.cbor4ii_items.specs.ReadNumber.{head_below_at, signed_at};
 ghost use Rattle.cbor4ii_items.specs.Numbers.{ReadsSigned, StopsSigned, IsWithin, signed_head};
 ghost use Rattle.cbor4ii_items.specs.Laws.Signed.{
   signed_one,
@@ -48,7 +48,7 @@ fn head_below<S: Source>(
     width: u8,
     limit: u64,
 ) -> Result<u64, DecodeError<S::Error>>
-    ensures runs { Runs (half_at name.now major width limit)
+    ensures runs { Runs (head_below_at name.now major width limit)
         (S.view reader.old) (S.view reader.new) result }
     ensures memory { IfErr result (λ error. is_out_of_memory error ≡ false) }
     ensures below { IfOk result (λ v. v < limit) }

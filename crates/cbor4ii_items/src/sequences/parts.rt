@@ -29,7 +29,7 @@ ghost use Rattle.cbor4ii_items.specs.Sequences.{
 };
 
 use crate::head::length;
-use crate::indefinite::at_break;
+use crate::indefinite::take_break;
 use cbor4ii_rw::error::{DecodeError, Len, StaticStr};
 use cbor4ii_rw::read::Source;
 use std::alloc::Global;
@@ -184,7 +184,7 @@ fn take_open<S: Source, Q: Sequence<S>>(
         (S.view reader.old) (S.view reader.new)) }
 {
     let mut parts = Vec::new(alloc);
-    while !at_break(reader)? {
+    while !take_break(reader)? {
         if !Q::is_part_never_empty() {
             return Err(DecodeError::RequireLength {
                 name,

@@ -2,10 +2,10 @@
 ghost use Rattle.std.specs.Prelude.{◌≡◌, ◌+◌, ◌≤◌, ◌<◌, OnOk, []};
 ghost use Rattle.cbor4ii_items.specs.Contents.{listed, filled};
 ghost use Rattle.cbor4ii_items.specs.Reading.{Runs};
-ghost use Rattle.cbor4ii_items.specs.ReadStrings.{chunk_inside, chunk_at, chunks_at};
+ghost use Rattle.cbor4ii_items.specs.ReadStrings.{chunk_inside_at, chunk_at, chunks_at};
 
 use crate::head::length;
-use crate::indefinite::at_break;
+use crate::indefinite::take_break;
 use crate::strings::counted::take_content;
 use cbor4ii_rw::error::{DecodeError, Len, StaticStr};
 use cbor4ii_rw::read::Source;
@@ -23,7 +23,7 @@ pub(crate) fn take_chunks<S: Source>(
         (S.view reader.old) (S.view reader.new) (listed result) }
 {
     let mut content = Vec::new(alloc);
-    while !at_break(reader)? {
+    while !take_break(reader)? {
         take_chunk(reader, name, major, &mut content)?;
     }
     Ok(content)
@@ -44,20 +44,20 @@ fn take_chunk<S: Source>(
     if !reader.step_in() {
         return Err(DecodeError::DepthOverflow { name });
     }
-    let outcome = take_counted(reader, name, major, content);
+    let outcome = take_chunk_inside(reader, name, major, content);
     reader.step_out();
     outcome
 }
 
 /// Takes the content of a string of known length, behind what `content` holds.
-fn take_counted<S: Source>(
+fn take_chunk_inside<S: Source>(
     reader: &mut S,
     name: StaticStr,
     major: u8,
     content: &mut Vec<u8>,
 ) -> Result<(), DecodeError<S::Error>>
     requires { major < 8 }
-    ensures runs { Runs (chunk_inside name.now major content.old.items)
+    ensures runs { Runs (chunk_inside_at name.now major content.old.items)
         (S.view reader.old) (S.view reader.new) (filled content.new.items result) }
     ensures progress { OnOk result ((S.view reader.new).bound + 1 ≤ (S.view reader.old).bound) }
 {

@@ -36,7 +36,7 @@ pub(crate) fn take_text<S: Source>(
     ensures stops { IfErr result
         (Stops (StopsText name.now) (S.view reader.old) (S.view reader.new)) }
 {
-    match String::from_utf8(take_string(alloc, reader, name, major::STRING)?) {
+    match String::from_utf8(lone_string(alloc, reader, name, major::STRING)?) {
         Ok(text) => Ok(text),
         Err(_) => Err(DecodeError::RequireUtf8 { name }),
     }
@@ -44,7 +44,7 @@ pub(crate) fn take_text<S: Source>(
 
 /// The content of a string of this major type, of known or of indefinite length.
 #[inline(always)]
-pub(crate) fn take_string<S: Source>(
+pub(crate) fn lone_string<S: Source>(
     alloc: Global,
     reader: &mut S,
     name: StaticStr,
@@ -59,12 +59,12 @@ pub(crate) fn take_string<S: Source>(
     ensures stops { IfErr result
         (Stops (StopsString name.now major) (S.view reader.old) (S.view reader.new)) }
 {
-    take_parts(alloc, reader, name, major)
+    take_string(alloc, reader, name, major)
 }
 
-/// As `take_string`, by what a program does.
+/// As `lone_string`, by what a program does.
 #[inline(always)]
-fn take_parts<S: Source>(
+fn take_string<S: Source>(
     alloc: Global,
     reader: &mut S,
     name: StaticStr,

@@ -24,7 +24,7 @@ ghost use Rattle.cbor4ii_items.specs.Laws.Strings.{
 
 use crate::decode::{Decode, Spelled};
 use crate::major;
-use crate::strings::content::{take_string, take_text};
+use crate::strings::content::{lone_string, take_text};
 use crate::types::{Bytes, UncheckedStr};
 use cbor4ii_rw::error::DecodeError;
 use cbor4ii_rw::read::Source;
@@ -70,7 +70,7 @@ impl Spelled for Bytes<Vec<u8>> {
 impl<S: Source> Decode<S> for Bytes<Vec<u8>> {
     #[inline(always)]
     fn decode(alloc: Global, reader: &mut S) -> Result<Bytes<Vec<u8>>, DecodeError<S::Error>> {
-        Ok(Bytes(take_string(alloc, reader, "bytes", major::BYTES)?))
+        Ok(Bytes(lone_string(alloc, reader, "bytes", major::BYTES)?))
     }
 
     ghost one = { as_one 2 two_small bytes_content };
@@ -125,7 +125,7 @@ impl<S: Source> Decode<S> for UncheckedStr<Vec<u8>> {
         alloc: Global,
         reader: &mut S,
     ) -> Result<UncheckedStr<Vec<u8>>, DecodeError<S::Error>> {
-        Ok(UncheckedStr(take_string(alloc, reader, "str", major::STRING)?))
+        Ok(UncheckedStr(lone_string(alloc, reader, "str", major::STRING)?))
     }
 
     ghost one = { as_one 3 three_small unchecked_content };

@@ -3,13 +3,13 @@ use Rattle.cbor4ii_items.proofs.Marked.{bool_leaf}
 use Rattle.cbor4ii_items.proofs.simple.BoolDecode.decode.Goals as goal
 
 pub returns-clause-sound : goal.returns-clause-sound
-returns-clause-sound g c = leaf_sound bool_leaf c.flag.result c.flag.ensures.runs
+returns-clause-sound g c = leaf_sound bool_leaf c.take_bool.result c.take_bool.ensures.runs
 
 pub returns-clause-complete : goal.returns-clause-complete
-returns-clause-complete g c exact = leaf_complete bool_leaf c.flag.result c.flag.ensures.runs
+returns-clause-complete g c exact = leaf_complete bool_leaf c.take_bool.result c.take_bool.ensures.runs
 
 pub returns-clause-stops : goal.returns-clause-stops
-returns-clause-stops g c exact = leaf_stops bool_leaf c.flag.result c.flag.ensures.runs
+returns-clause-stops g c exact = leaf_stops bool_leaf c.take_bool.result c.take_bool.ensures.runs
 
 pub returns-clause-begins : goal.returns-clause-begins
-returns-clause-begins g c = leaf_stops bool_leaf c.flag.result c.flag.ensures.runs
+returns-clause-begins g c = leaf_stops bool_leaf c.take_bool.result c.take_bool.ensures.runs

@@ -1,14 +1,16 @@
-use Rattle.cbor4ii_items.proofs.StringAnswers.{listed_moves, string_sound, string_refuses, string_refused}
+use Rattle.cbor4ii_items.proofs.OpenStrings.{string_known, string_chunks}
+use Rattle.std.proofs.lemmas.Result.{err_from_is_err_and}
+use Rattle.cbor4ii_items.specs.ReadStrings.{string_by}
+use Rattle.cbor4ii_items.specs.Laws.Running.{runs_err}
 use Rattle.cbor4ii_items.proofs.strings.content.take_string.Goals as goal
 
-pub returns-clause-moves : goal.returns-clause-moves
-returns-clause-moves g c = listed_moves _ c.take_parts.ensures.runs.moves
+pub returns-in-Some-clause-runs : goal.returns-in-Some-clause-runs
+returns-in-Some-clause-runs g c = string_known _ _ c.in_ok-count.ensures.runs c.in-Some.is c.take_known.ensures
 
-pub returns-clause-sound : goal.returns-clause-sound
-returns-clause-sound g c = string_sound _ _ _ c.take_parts.ensures.runs
+pub returns-in-None-clause-runs : goal.returns-in-None-clause-runs
+returns-in-None-clause-runs g c = string_chunks _ _ c.in_ok-count.ensures.runs c.in-None.is c.take_chunks.ensures
 
-pub returns-clause-complete : goal.returns-clause-complete
-returns-clause-complete g c = string_refuses _ _ _ c.requires c.take_parts.ensures.runs
-
-pub returns-clause-stops : goal.returns-clause-stops
-returns-clause-stops g c = string_refused _ _ _ c.take_parts.ensures.runs
+pub returns-in_err-count-clause-runs : goal.returns-in_err-count-clause-runs
+returns-in_err-count-clause-runs g c =
+    let p = err_from_is_err_and c.from_residual.result c.from_residual.ensures.1 in
+    rw (p.1, p.2) (runs_err (string_by c.args.name.now c.args.major (g.S.Source.view c.args.reader.now).budget) c.in_err-count.ensures.runs)

@@ -7,21 +7,21 @@ use Rattle.cbor4ii_items.specs.Strings.{text_content}
 use Rattle.cbor4ii_items.proofs.StringAnswers.{text_sound, text_refuses, text_stops, utf8_refuses, utf8_stops}
 use Rattle.cbor4ii_items.proofs.strings.content.take_text.Goals as goal
 
-pub returns-in_err-take_string-clause-complete : goal.returns-in_err-take_string-clause-complete
-returns-in_err-take_string-clause-complete g c =
+pub returns-in_err-lone_string-clause-complete : goal.returns-in_err-lone_string-clause-complete
+returns-in_err-lone_string-clause-complete g c =
     let p = err_from_is_err_and c.from_residual.result c.from_residual.ensures.1 in
-    rw (p.1, p.2) (text_refuses text_content c.in_err-take_string.ensures.complete)
+    rw (p.1, p.2) (text_refuses text_content c.in_err-lone_string.ensures.complete)
 
-pub returns-in_err-take_string-clause-stops : goal.returns-in_err-take_string-clause-stops
-returns-in_err-take_string-clause-stops g c =
+pub returns-in_err-lone_string-clause-stops : goal.returns-in_err-lone_string-clause-stops
+returns-in_err-lone_string-clause-stops g c =
     let p = err_from_is_err_and c.from_residual.result c.from_residual.ensures.1 in
-    rw (p.1, p.2) (text_stops c.in_err-take_string.ensures.stops)
+    rw (p.1, p.2) (text_stops c.in_err-lone_string.ensures.stops)
 
 pub returns-in-Ok-clause-sound : goal.returns-in-Ok-clause-sound
-returns-in-Ok-clause-sound g c = text_sound text_content (ap (λ (v : Vec ℕ Global). v.items) (sym c.in-Ok.ensures.ok)) (IsUtf8-had c.in-Ok.text.bytes.items c.in-Ok.text.ok) c.in_ok-take_string.ensures.sound
+returns-in-Ok-clause-sound g c = text_sound text_content (ap (λ (v : Vec ℕ Global). v.items) (sym c.in-Ok.ensures.ok)) (IsUtf8-had c.in-Ok.text.bytes.items c.in-Ok.text.ok) c.in_ok-lone_string.ensures.sound
 
 pub returns-clause-complete : goal.returns-clause-complete
-returns-clause-complete g c = utf8_refuses text_content (λ u. let f = c.in-Err.ensures.succeeds u in cc) c.in_ok-take_string.ensures.sound
+returns-clause-complete g c = utf8_refuses text_content (λ u. let f = c.in-Err.ensures.succeeds u in cc) c.in_ok-lone_string.ensures.sound
 
 pub returns-clause-stops : goal.returns-clause-stops
-returns-clause-stops g c = utf8_stops (λ u. let f = c.in-Err.ensures.succeeds u in cc) c.in_ok-take_string.ensures.sound
+returns-clause-stops g c = utf8_stops (λ u. let f = c.in-Err.ensures.succeeds u in cc) c.in_ok-lone_string.ensures.sound

@@ -3,13 +3,13 @@ use Rattle.cbor4ii_items.proofs.BigLeaf.{u128_leaf}
 use Rattle.cbor4ii_items.proofs.numbers.big.U128Decode.decode.Goals as goal
 
 pub returns-clause-sound : goal.returns-clause-sound
-returns-clause-sound g c = leaf_sound u128_leaf c.unsigned.result c.unsigned.ensures.runs
+returns-clause-sound g c = leaf_sound u128_leaf c.take_u128.result c.take_u128.ensures.runs
 
 pub returns-clause-complete : goal.returns-clause-complete
-returns-clause-complete g c exact = leaf_complete u128_leaf c.unsigned.result c.unsigned.ensures.runs
+returns-clause-complete g c exact = leaf_complete u128_leaf c.take_u128.result c.take_u128.ensures.runs
 
 pub returns-clause-stops : goal.returns-clause-stops
-returns-clause-stops g c exact = leaf_stops u128_leaf c.unsigned.result c.unsigned.ensures.runs
+returns-clause-stops g c exact = leaf_stops u128_leaf c.take_u128.result c.take_u128.ensures.runs
 
 pub returns-clause-begins : goal.returns-clause-begins
-returns-clause-begins g c = leaf_stops u128_leaf c.unsigned.result c.unsigned.ensures.runs
+returns-clause-begins g c = leaf_stops u128_leaf c.take_u128.result c.take_u128.ensures.runs

@@ -2,7 +2,7 @@ use Rattle.std.proofs.lemmas.Result.{err_from_is_err_and}
 use Rattle.std.proofs.Common.{[]}
 use Rattle.cbor4ii_items.specs.ReadStrings.{content_on}
 use Rattle.cbor4ii_items.specs.Laws.Running.{runs_err, runs_then}
-use Rattle.cbor4ii_items.proofs.canonical.take_string.Goals as goal
+use Rattle.cbor4ii_items.proofs.canonical.take_shortest_string.Goals as goal
 
 pub returns-clause-runs : goal.returns-clause-runs
 returns-clause-runs g c = runs_then (λ n. content_on c.args.name.now n []) c.in_ok-count.ensures.runs c.take_known.ensures

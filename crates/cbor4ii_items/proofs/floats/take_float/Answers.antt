@@ -2,7 +2,7 @@ use Rattle.std.proofs.Common.{arith}
 use Rattle.cbor4ii_items.specs.Laws.Running.{looked, shows_kept}
 use Rattle.cbor4ii_items.proofs.FloatLeaf.{runs_float}
 use Rattle.cbor4ii_items.proofs.WholeHeads.{runs_stayed}
-use Rattle.cbor4ii_items.proofs.floats.bits.Goals as goal
+use Rattle.cbor4ii_items.proofs.floats.take_float.Goals as goal
 
 pub returns-in-Some-in_front-clause-runs : goal.returns-in-Some-in_front-clause-runs
 returns-in-Some-in_front-clause-runs g c =
@@ -11,4 +11,4 @@ returns-in-Some-in_front-clause-runs g c =
 pub returns-in-Some-clause-runs : goal.returns-in-Some-clause-runs
 returns-in-Some-clause-runs g c =
     let s = looked _ _ _ _ c.in-Some.is c.look.follows.holds-at-none in
-    runs_stayed (record { kept = shows_kept s; told = s.told }) c.bits_by_byte.ensures.runs
+    runs_stayed (record { kept = shows_kept s; told = s.told }) c.float_by_bytes.ensures.runs

@@ -1,10 +1,10 @@
 use Rattle.std.proofs.Common.{sym, ◌∙◌, arith}
 use Rattle.std.specs.Prelude.{pos, negsuc}
 use Rattle.std.proofs.lemmas.Result.{err_from_is_err_and}
-use Rattle.cbor4ii_items.specs.ReadNumber.{as_positive, as_negative, i128_tagged}
+use Rattle.cbor4ii_items.specs.ReadNumber.{as_positive, as_negative, signed_bignum_at}
 use Rattle.cbor4ii_items.specs.Laws.Running.{runs_err, runs_then, runs_with}
 use Rattle.cbor4ii_items.proofs.BigRuns.{runs_i128_positive, runs_i128_negative, runs_i128_tag, positive_is, negative_is, small_argument}
-use Rattle.cbor4ii_items.proofs.numbers.big.signed_by_bytes.Goals as goal
+use Rattle.cbor4ii_items.proofs.numbers.big.i128_by_bytes.Goals as goal
 
 pub returns-in_err-argument-clause-runs : goal.returns-in_err-argument-clause-runs
 returns-in_err-argument-clause-runs g c =
@@ -29,7 +29,7 @@ returns-then-major-eq-NEGATIVE-clause-runs g c =
 pub returns-in_err-tag-clause-runs : goal.returns-in_err-tag-clause-runs
 returns-in_err-tag-clause-runs g c =
     let p = err_from_is_err_and c.from_residual-in_err-tag.result c.from_residual-in_err-tag.ensures.1 in
-    rw (p.1, p.2) (runs_i128_tag _ (λ e. c.if-major-eq-UNSIGNED.false (c.if_major-major.ensures ∙ e)) (λ e. c.if-major-eq-NEGATIVE.false (c.if_major-major.ensures ∙ e)) c.in_ok-peek.ensures.runs (runs_err i128_tagged c.in_err-tag.ensures.runs))
+    rw (p.1, p.2) (runs_i128_tag _ (λ e. c.if-major-eq-UNSIGNED.false (c.if_major-major.ensures ∙ e)) (λ e. c.if-major-eq-NEGATIVE.false (c.if_major-major.ensures ∙ e)) c.in_ok-peek.ensures.runs (runs_err signed_bignum_at c.in_err-tag.ensures.runs))
 
 pub returns-clause-runs : goal.returns-clause-runs
-returns-clause-runs g c = runs_i128_tag _ (λ e. c.if-major-eq-UNSIGNED.false (c.if_major-major.ensures ∙ e)) (λ e. c.if-major-eq-NEGATIVE.false (c.if_major-major.ensures ∙ e)) c.in_ok-peek.ensures.runs (runs_then i128_tagged c.in_ok-tag.ensures.runs c.signed_bignum.ensures.runs)
+returns-clause-runs g c = runs_i128_tag _ (λ e. c.if-major-eq-UNSIGNED.false (c.if_major-major.ensures ∙ e)) (λ e. c.if-major-eq-NEGATIVE.false (c.if_major-major.ensures ∙ e)) c.in_ok-peek.ensures.runs (runs_then signed_bignum_at c.in_ok-tag.ensures.runs c.signed_bignum.ensures.runs)

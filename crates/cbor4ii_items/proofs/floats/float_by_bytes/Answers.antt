@@ -3,7 +3,7 @@ use Rattle.std.proofs.lemmas.Result.{err_from_is_err_and}
 use Rattle.cbor4ii_items.specs.ReadHead.{number_on}
 use Rattle.cbor4ii_items.specs.Laws.Running.{runs_then}
 use Rattle.cbor4ii_items.specs.Laws.ReadingHeads.{wider}
-use Rattle.cbor4ii_items.proofs.floats.bits_by_byte.Goals as goal
+use Rattle.cbor4ii_items.proofs.floats.float_by_bytes.Goals as goal
 
 pub returns-in_err-number-clause-runs : goal.returns-in_err-number-clause-runs
 returns-in_err-number-clause-runs g c =

@@ -2,7 +2,7 @@ use Rattle.cbor4ii_items.proofs.OpenStrings.{counted_runs}
 use Rattle.std.proofs.lemmas.Result.{err_from_is_err_and}
 use Rattle.cbor4ii_items.specs.ReadStrings.{chunk_by}
 use Rattle.cbor4ii_items.specs.Laws.Running.{runs_err}
-use Rattle.cbor4ii_items.proofs.strings.chunks.take_counted.Goals as goal
+use Rattle.cbor4ii_items.proofs.strings.chunks.take_chunk_inside.Goals as goal
 
 pub returns-in-Some-clause-runs : goal.returns-in-Some-clause-runs
 returns-in-Some-clause-runs g c = counted_runs _ _ _ c.in-Some.is c.in_ok-count.ensures.runs c.take_content.ensures
