@@ -72,32 +72,32 @@ pub data Initial : Type 0 where
   starts_bits : Precision → Initial
   other_simple : Initial
 
-abbrev pub int_by : Sign → Info → Initial
-int_by s (wide w) = starts_int s w
-int_by s _ = bad_int s
+abbrev pub int_by_info : Sign → Info → Initial
+int_by_info s (wide w) = starts_int s w
+int_by_info s _ = bad_int s
 
-abbrev pub string_by : Kind → Info → Initial
-string_by k (wide w) = starts_string k w
-string_by k open_ended = starts_chunks k
-string_by k reserved = bad_string k
+abbrev pub string_by_info : Kind → Info → Initial
+string_by_info k (wide w) = starts_string k w
+string_by_info k open_ended = starts_chunks k
+string_by_info k reserved = bad_string k
 
-abbrev pub array_by : Info → Initial
-array_by (wide w) = starts_array w
-array_by open_ended = starts_open_array
-array_by reserved = bad_array
+abbrev pub array_by_info : Info → Initial
+array_by_info (wide w) = starts_array w
+array_by_info open_ended = starts_open_array
+array_by_info reserved = bad_array
 
-abbrev pub map_by : Info → Initial
-map_by (wide w) = starts_map w
-map_by open_ended = starts_open_map
-map_by reserved = bad_map
+abbrev pub map_by_info : Info → Initial
+map_by_info (wide w) = starts_map w
+map_by_info open_ended = starts_open_map
+map_by_info reserved = bad_map
 
-abbrev pub tag_by : Info → Initial
-tag_by (wide w) = starts_tag w
-tag_by _ = bad_tag
+abbrev pub tag_by_info : Info → Initial
+tag_by_info (wide w) = starts_tag w
+tag_by_info _ = bad_tag
 
 -- Major type 7 (section 3.3): the other simple values and a break that stands where an item should are `other_simple`.
-abbrev pub simple_by : ℕ → Initial
-simple_by i =
+abbrev pub simple_by_info : ℕ → Initial
+simple_by_info i =
     if i == 20 then starts_simple simple_false
     else (if i == 21 then starts_simple simple_true
     else (if i == 22 then starts_simple simple_null
@@ -107,14 +107,14 @@ simple_by i =
     else (if i == 27 then starts_bits double else other_simple))))))
 
 abbrev pub by_major : ℕ → ℕ → Initial
-by_major zero i = int_by unsigned (info_of i)
-by_major (suc zero) i = int_by negative (info_of i)
-by_major (suc (suc zero)) i = string_by byte_string (info_of i)
-by_major (suc (suc (suc zero))) i = string_by text_string (info_of i)
-by_major (suc (suc (suc (suc zero)))) i = array_by (info_of i)
-by_major (suc (suc (suc (suc (suc zero))))) i = map_by (info_of i)
-by_major (suc (suc (suc (suc (suc (suc zero)))))) i = tag_by (info_of i)
-by_major _ i = simple_by i
+by_major zero i = int_by_info unsigned (info_of i)
+by_major (suc zero) i = int_by_info negative (info_of i)
+by_major (suc (suc zero)) i = string_by_info byte_string (info_of i)
+by_major (suc (suc (suc zero))) i = string_by_info text_string (info_of i)
+by_major (suc (suc (suc (suc zero)))) i = array_by_info (info_of i)
+by_major (suc (suc (suc (suc (suc zero))))) i = map_by_info (info_of i)
+by_major (suc (suc (suc (suc (suc (suc zero)))))) i = tag_by_info (info_of i)
+by_major _ i = simple_by_info i
 
 unfoldable pub initial : ℕ → Initial
 initial b = by_major (b / 32) (b % 32)

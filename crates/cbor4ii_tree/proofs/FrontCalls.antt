@@ -13,7 +13,7 @@ use Rattle.cbor4ii_tree.specs.Front.{Offers, BeginsWith, Ready}
 use Rattle.cbor4ii_items.specs.Laws.Contents.{lends_front}
 use Rattle.cbor4ii_tree.specs.Cost.{Budget}
 use Rattle.cbor4ii_tree.specs.HeadParts.{DropsSome}
-use Rattle.cbor4ii_tree.specs.Ahead.{Sees, Takes, TakesHead, Passes, NeverStops}
+use Rattle.cbor4ii_tree.specs.Ahead.{Sees, TakesAhead, TakesHead, Passes, NeverStops}
 use Rattle.cbor4ii_tree.specs.declared.skip.Behind.{Behind}
 use Rattle.cbor4ii_tree.specs.declared.ahead.Among.{Among}
 use Rattle.cbor4ii_tree.specs.declared.ahead.Ahead.{Ahead}
@@ -44,23 +44,23 @@ offers_some missing some o adv = some_shown missing o.shows o.front (omega (arit
 -- ---- what one look decides
 
 module _ (among : Among) (inner : Budget) {a m b : View} where
-  pub takes_run : {E : Type 0} (n size : ℕ) {seen : Ahead} → seen ≡ Run n size → Offers 256 (Sees among seen) a m → Advances size m b → Does {V = Ahead} {E = E} (Takes among inner) NeverStops a b (Ok (Run n size))
+  pub takes_run : {E : Type 0} (n size : ℕ) {seen : Ahead} → seen ≡ Run n size → Offers 256 (Sees among seen) a m → Advances size m b → Does {V = Ahead} {E = E} (TakesAhead among inner) NeverStops a b (Ok (Run n size))
   takes_run n size is h adv =
       let o = subst (λ s. Offers 256 (Sees among s) a m) is h in
       let l = lends_front o.shows o.front o.is.begins.within o.is.bytes refl adv in
       let run = o.is.begins.run in
-      does_ok (Takes among inner) NeverStops (record {
+      does_ok (TakesAhead among inner) NeverStops (record {
         kept = l.kept;
         at = λ xs told.
             let t = l.at xs told in
             (drop size xs, t.1, (run.0, run.1, run.2, sym (take-append-drop size xs) ∙ ap (λ r. r ++ drop size xs) (sym t.2 ∙ run.3)));
       })
 
-  pub takes_head : {E : Type 0} (size : ℕ) (behind : Behind) {seen : Ahead} → seen ≡ Head size behind → Offers 256 (Sees among seen) a m → Advances size m b → Does {V = Ahead} {E = E} (Takes among inner) NeverStops a b (Ok (Head size behind))
+  pub takes_head : {E : Type 0} (size : ℕ) (behind : Behind) {seen : Ahead} → seen ≡ Head size behind → Offers 256 (Sees among seen) a m → Advances size m b → Does {V = Ahead} {E = E} (TakesAhead among inner) NeverStops a b (Ok (Head size behind))
   takes_head size behind is h adv =
       let o = subst (λ s. Offers 256 (Sees among s) a m) is h in
       let l = lends_front o.shows o.front o.is.within o.is.bytes refl adv in
-      does_ok (Takes among inner) NeverStops (record {
+      does_ok (TakesAhead among inner) NeverStops (record {
         kept = l.kept;
         at = λ xs told.
             let rest = drop (length o.shown) xs in
@@ -69,12 +69,12 @@ module _ (among : Among) (inner : Budget) {a m b : View} where
             (drop size xs, (l.at xs told).1, subst (λ (ys : List ℕ). TakesHead inner ys behind (drop size xs)) (sym begins) (subst (λ (ys : List ℕ). TakesHead inner (o.shown ++ rest) behind ys) left (record { leads = o.is.leads inner rest; item = o.is.item inner rest })));
       })
 
-  pub takes_break : {E : Type 0} {seen : Ahead} → seen ≡ Break → Offers 256 (Sees among seen) a m → Advances 1 m b → Does {V = Ahead} {E = E} (Takes among inner) NeverStops a b (Ok Break)
+  pub takes_break : {E : Type 0} {seen : Ahead} → seen ≡ Break → Offers 256 (Sees among seen) a m → Advances 1 m b → Does {V = Ahead} {E = E} (TakesAhead among inner) NeverStops a b (Ok Break)
   takes_break is h adv =
       let o = subst (λ s. Offers 256 (Sees among s) a m) is h in
       let first = first_break o.shown o.is.1 in
       let l = lends_front o.shows o.front o.is.1.some first.1 refl adv in
-      does_ok (Takes among inner) NeverStops (record {
+      does_ok (TakesAhead among inner) NeverStops (record {
         kept = l.kept;
         at = λ xs told.
             let t = l.at xs told in

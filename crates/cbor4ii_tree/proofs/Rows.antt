@@ -11,7 +11,7 @@ use Rattle.cbor4ii_tree.specs.Item.{Item, null, boolean, integer, float, bytes_i
 use Rattle.cbor4ii_tree.specs.Canonical.{canon, canon_cost, with_bignums}
 use Rattle.cbor4ii_tree.specs.Cost.{cost, skip_cost}
 use Rattle.cbor4ii_tree.specs.Refusal.{Refusal, eof, mismatch, unsupported, require_length, require_utf8, depth_overflow, Small, Big, Indefinite}
-use Rattle.cbor4ii_tree.specs.Parse.{Answer, argument_at, trees_at, pairs_at, open_trees_at, open_pairs_at}
+use Rattle.cbor4ii_tree.specs.Parse.{Answer, argument_of_width, trees_at, pairs_at, open_trees_at, open_pairs_at}
 use Rattle.cbor4ii_tree.specs.Skip.{skip, skip_within, whole_argument_at}
 use Rattle.cbor4ii_tree.specs.Read.{read, read_tree, read_within}
 use Rattle.cbor4ii_tree.specs.View.{items_of, members_of}
@@ -113,7 +113,7 @@ IntegersRows =
     × (Writes (integer (negsuc 170141183460469231731687303715884105727)) "c3 50 7f ff ff ff ff ff ff ff ff ff ff ff ff ff ff ff")
 
 pub integers_rows : IntegersRows
-unfolding read_within skip_within trees_at pairs_at open_trees_at open_pairs_at argument_at whole_argument_at initial is_utf8 chars lib.Utf8.encode
+unfolding read_within skip_within trees_at pairs_at open_trees_at open_pairs_at argument_of_width whole_argument_at initial is_utf8 chars lib.Utf8.encode
 integers_rows = ((refl, refl), (refl, refl), (refl, refl), (refl, refl), (refl, refl), (refl, refl), (refl, refl), (refl, refl), (refl, refl), (refl, refl), (refl, refl), (refl, refl), (refl, refl), (refl, refl), (refl, refl), (refl, refl), (refl, refl), (refl, refl), (refl, refl), (refl, refl), (refl, refl), refl, refl, refl, refl)
 
 -- Heads longer than needed are read, and written short (section 4.1).
@@ -132,7 +132,7 @@ LongerRows =
     × (Reads "59 00 01 61" (bytes_item (hex "61")) "41 61")
 
 pub longer_rows : LongerRows
-unfolding read_within skip_within trees_at pairs_at open_trees_at open_pairs_at argument_at whole_argument_at initial is_utf8 chars lib.Utf8.encode
+unfolding read_within skip_within trees_at pairs_at open_trees_at open_pairs_at argument_of_width whole_argument_at initial is_utf8 chars lib.Utf8.encode
 longer_rows = ((refl, refl), (refl, refl), (refl, refl), (refl, refl), (refl, refl), (refl, refl), (refl, refl), (refl, refl), (refl, refl), (refl, refl), (refl, refl))
 
 -- Simple values and floats, whose bits are kept with their width (section 3.3). Undefined is null.
@@ -156,7 +156,7 @@ SimplesRows =
     × (Reads "fb c0 10 66 66 66 66 66 66" (float double 0xc010666666666666) "fb c0 10 66 66 66 66 66 66")
 
 pub simples_rows : SimplesRows
-unfolding read_within skip_within trees_at pairs_at open_trees_at open_pairs_at argument_at whole_argument_at initial is_utf8 chars lib.Utf8.encode
+unfolding read_within skip_within trees_at pairs_at open_trees_at open_pairs_at argument_of_width whole_argument_at initial is_utf8 chars lib.Utf8.encode
 simples_rows = ((refl, refl), (refl, refl), (refl, refl), (refl, refl), (refl, refl), (refl, refl), (refl, refl), (refl, refl), (refl, refl), (refl, refl), (refl, refl), (refl, refl), (refl, refl), (refl, refl), (refl, refl), (refl, refl))
 
 -- Byte strings, texts and tags (appendix A).
@@ -179,7 +179,7 @@ StringsRows =
     × (Reads "d8 20 76 68 74 74 70 3a 2f 2f 77 77 77 2e 65 78 61 6d 70 6c 65 2e 63 6f 6d" (tag 32 (str "http://www.example.com")) "d8 20 76 68 74 74 70 3a 2f 2f 77 77 77 2e 65 78 61 6d 70 6c 65 2e 63 6f 6d")
 
 pub strings_rows : StringsRows
-unfolding read_within skip_within trees_at pairs_at open_trees_at open_pairs_at argument_at whole_argument_at initial is_utf8 chars lib.Utf8.encode
+unfolding read_within skip_within trees_at pairs_at open_trees_at open_pairs_at argument_of_width whole_argument_at initial is_utf8 chars lib.Utf8.encode
 strings_rows = ((refl, refl), (refl, refl), (refl, refl), (refl, refl), (refl, refl), (refl, refl), (refl, refl), (refl, refl), (refl, refl), (refl, refl), (refl, refl), (refl, refl), (refl, refl), (refl, refl), (refl, refl))
 
 -- Arrays and maps (appendix A). Pairs keep their order, and equal keys are kept.
@@ -197,7 +197,7 @@ SequencesRows =
     × (Reads "a2 01 02 01 03" (mapping (members_of (((number 1), (number 2)) ∷ ((number 1), (number 3)) ∷ []))) "a2 01 02 01 03")
 
 pub sequences_rows : SequencesRows
-unfolding read_within skip_within trees_at pairs_at open_trees_at open_pairs_at argument_at whole_argument_at initial is_utf8 chars lib.Utf8.encode
+unfolding read_within skip_within trees_at pairs_at open_trees_at open_pairs_at argument_of_width whole_argument_at initial is_utf8 chars lib.Utf8.encode
 sequences_rows = ((refl, refl), (refl, refl), (refl, refl), (refl, refl), (refl, refl), (refl, refl), (refl, refl), (refl, refl), (refl, refl), (refl, refl))
 
 -- Items without a length are read, and written with one (section 3.2). The text of a string is what its chunks join to.
@@ -221,7 +221,7 @@ OpensRows =
     × (Reads "9f 5f 41 01 ff 41 02 ff" (sequence (items_of ((bytes_item (hex "01")) ∷ (bytes_item (hex "02")) ∷ []))) "82 41 01 41 02")
 
 pub opens_rows : OpensRows
-unfolding read_within skip_within trees_at pairs_at open_trees_at open_pairs_at argument_at whole_argument_at initial is_utf8 chars lib.Utf8.encode
+unfolding read_within skip_within trees_at pairs_at open_trees_at open_pairs_at argument_of_width whole_argument_at initial is_utf8 chars lib.Utf8.encode
 opens_rows = ((refl, refl), (refl, refl), (refl, refl), (refl, refl), (refl, refl), (refl, refl), (refl, refl), (refl, refl), (refl, refl), (refl, refl), (refl, refl), (refl, refl), (refl, refl), (refl, refl), (refl, refl), (refl, refl))
 
 -- The input ends: of a number, a float, a length or a tag the whole argument is asked for, of a content what is missing.
@@ -270,7 +270,7 @@ EndsRows =
     × (Refuses "5a 00 01 00 00" (eof (codes "bytes") Big) "")
 
 pub ends_rows : EndsRows
-unfolding read_within skip_within trees_at pairs_at open_trees_at open_pairs_at argument_at whole_argument_at initial is_utf8 chars lib.Utf8.encode
+unfolding read_within skip_within trees_at pairs_at open_trees_at open_pairs_at argument_of_width whole_argument_at initial is_utf8 chars lib.Utf8.encode
 ends_rows = (refl, refl, refl, refl, refl, refl, refl, refl, refl, refl, refl, refl, refl, refl, refl, refl, refl, refl, refl, refl, refl, refl, refl, refl, refl, refl, refl, refl, refl, refl, refl, refl, refl, refl, refl, refl, refl, refl, refl, refl, refl)
 
 -- Bytes that no continuation mends, and what they leave.
@@ -318,7 +318,7 @@ FaultsRows =
     × (Refuses "9f 62 ff ff 00 ff" (require_utf8 (codes "str")) "00 ff")
 
 pub faults_rows : FaultsRows
-unfolding read_within skip_within trees_at pairs_at open_trees_at open_pairs_at argument_at whole_argument_at initial is_utf8 chars lib.Utf8.encode
+unfolding read_within skip_within trees_at pairs_at open_trees_at open_pairs_at argument_of_width whole_argument_at initial is_utf8 chars lib.Utf8.encode
 faults_rows = (refl, refl, refl, refl, refl, refl, refl, refl, refl, refl, refl, refl, refl, refl, refl, refl, refl, refl, refl, refl, refl, refl, refl, refl, refl, refl, refl, refl, refl, refl, refl, refl, refl, refl, refl, refl, refl, refl, refl, refl)
 
 -- What a budget allows: one step a value, one more for an array or a map, one for a chunk.
@@ -353,7 +353,7 @@ BudgetsRows =
     × (ReadsAtAnyDepth "c1 c1 00" (tag 1 (tag 1 (number 0))))
 
 pub budgets_rows : BudgetsRows
-unfolding read_within skip_within trees_at pairs_at open_trees_at open_pairs_at argument_at whole_argument_at initial is_utf8 chars lib.Utf8.encode
+unfolding read_within skip_within trees_at pairs_at open_trees_at open_pairs_at argument_of_width whole_argument_at initial is_utf8 chars lib.Utf8.encode
 budgets_rows = (refl, refl, refl, refl, refl, refl, refl, refl, refl, refl, refl, refl, refl, refl, refl, refl, refl, refl, refl, refl, refl, refl, refl, refl, refl, refl, refl)
 
 -- Skipping tests no text, and takes any items as chunks. What is missing is told of a number, a float and a content.
@@ -421,7 +421,7 @@ SkippingRows =
     × (SkipsAtAnyDepth "c1 c1 00" "")
 
 pub skipping_rows : SkippingRows
-unfolding read_within skip_within trees_at pairs_at open_trees_at open_pairs_at argument_at whole_argument_at initial is_utf8 chars lib.Utf8.encode
+unfolding read_within skip_within trees_at pairs_at open_trees_at open_pairs_at argument_of_width whole_argument_at initial is_utf8 chars lib.Utf8.encode
 skipping_rows = (refl, refl, refl, refl, refl, refl, refl, refl, refl, refl, refl, refl, refl, refl, refl, refl, refl, refl, refl, refl, refl, refl, refl, refl, refl, refl, refl, refl, refl, refl, refl, refl, refl, refl, refl, refl, refl, refl, refl, refl, refl, refl, refl, refl, refl, refl, refl, refl, refl, refl, refl, refl, refl, refl, refl, refl, refl, refl, refl, refl)
 
 -- What values and trees measure. The size counts each value once and the bytes of texts and byte strings. Reading takes a
@@ -457,7 +457,7 @@ MeasuresRows =
     × (with_bignums (integer (negsuc 18446744073709551616)) ≡ tag 3 (bytes_item (hex "01 00 00 00 00 00 00 00 00")))
 
 pub measures_rows : MeasuresRows
-unfolding read_within skip_within trees_at pairs_at open_trees_at open_pairs_at argument_at whole_argument_at initial is_utf8 chars lib.Utf8.encode
+unfolding read_within skip_within trees_at pairs_at open_trees_at open_pairs_at argument_of_width whole_argument_at initial is_utf8 chars lib.Utf8.encode
 measures_rows = ((refl, refl), (refl, refl), (refl, refl), (refl, refl), (refl, refl), (refl, refl), (refl, refl), (refl, refl), refl, refl, refl, refl, refl, refl, refl, refl, refl, refl)
 
 -- How deep a budget of 256 steps goes: two steps an array, one step a tag, one a level for skipping.
@@ -466,37 +466,37 @@ rest_read (Ok p) = Ok p.1
 rest_read (Err z) = Err z
 
 pub arrays_fit : rest_read (read (Some 256) (replicate 127 0x81 ++ hex "80")) ≡ Ok []
-unfolding read_within skip_within trees_at pairs_at open_trees_at open_pairs_at argument_at whole_argument_at initial is_utf8 chars lib.Utf8.encode
+unfolding read_within skip_within trees_at pairs_at open_trees_at open_pairs_at argument_of_width whole_argument_at initial is_utf8 chars lib.Utf8.encode
 arrays_fit = refl
 
 pub arrays_are_too_deep : read (Some 256) (replicate 128 0x81 ++ hex "80") ≡ Err (depth_overflow (codes "value"), hex "80")
-unfolding read_within skip_within trees_at pairs_at open_trees_at open_pairs_at argument_at whole_argument_at initial is_utf8 chars lib.Utf8.encode
+unfolding read_within skip_within trees_at pairs_at open_trees_at open_pairs_at argument_of_width whole_argument_at initial is_utf8 chars lib.Utf8.encode
 arrays_are_too_deep = refl
 
 pub skipped_arrays_fit : rest_of (skip (Some 256) (replicate 255 0x81 ++ hex "80")) ≡ Ok []
-unfolding read_within skip_within trees_at pairs_at open_trees_at open_pairs_at argument_at whole_argument_at initial is_utf8 chars lib.Utf8.encode
+unfolding read_within skip_within trees_at pairs_at open_trees_at open_pairs_at argument_of_width whole_argument_at initial is_utf8 chars lib.Utf8.encode
 skipped_arrays_fit = refl
 
 pub skipped_arrays_are_too_deep : skip (Some 256) (replicate 256 0x81 ++ hex "80") ≡ Err (depth_overflow (codes "ignored-any"), hex "80")
-unfolding read_within skip_within trees_at pairs_at open_trees_at open_pairs_at argument_at whole_argument_at initial is_utf8 chars lib.Utf8.encode
+unfolding read_within skip_within trees_at pairs_at open_trees_at open_pairs_at argument_of_width whole_argument_at initial is_utf8 chars lib.Utf8.encode
 skipped_arrays_are_too_deep = refl
 
 pub tags_fit : rest_read (read (Some 256) (replicate 254 0xc1 ++ hex "7f 61 61 ff")) ≡ Ok []
-unfolding read_within skip_within trees_at pairs_at open_trees_at open_pairs_at argument_at whole_argument_at initial is_utf8 chars lib.Utf8.encode
+unfolding read_within skip_within trees_at pairs_at open_trees_at open_pairs_at argument_of_width whole_argument_at initial is_utf8 chars lib.Utf8.encode
 tags_fit = refl
 
 pub tags_are_too_deep : read (Some 256) (replicate 255 0xc1 ++ hex "7f 61 61 ff") ≡ Err (depth_overflow (codes "str"), hex "61 61 ff")
-unfolding read_within skip_within trees_at pairs_at open_trees_at open_pairs_at argument_at whole_argument_at initial is_utf8 chars lib.Utf8.encode
+unfolding read_within skip_within trees_at pairs_at open_trees_at open_pairs_at argument_of_width whole_argument_at initial is_utf8 chars lib.Utf8.encode
 tags_are_too_deep = refl
 
 pub skipped_tags_fit : rest_of (skip (Some 256) (replicate 255 0xc1 ++ hex "80")) ≡ Ok []
-unfolding read_within skip_within trees_at pairs_at open_trees_at open_pairs_at argument_at whole_argument_at initial is_utf8 chars lib.Utf8.encode
+unfolding read_within skip_within trees_at pairs_at open_trees_at open_pairs_at argument_of_width whole_argument_at initial is_utf8 chars lib.Utf8.encode
 skipped_tags_fit = refl
 
 pub skipped_chunks_are_too_deep : skip (Some 256) (replicate 255 0xc1 ++ hex "7f 61 61 ff") ≡ Err (depth_overflow (codes "ignored-any"), hex "61 61 ff")
-unfolding read_within skip_within trees_at pairs_at open_trees_at open_pairs_at argument_at whole_argument_at initial is_utf8 chars lib.Utf8.encode
+unfolding read_within skip_within trees_at pairs_at open_trees_at open_pairs_at argument_of_width whole_argument_at initial is_utf8 chars lib.Utf8.encode
 skipped_chunks_are_too_deep = refl
 
 pub array_under_tags_is_too_deep : read (Some 256) (replicate 255 0xc1 ++ hex "80") ≡ Err (depth_overflow (codes "array"), hex "80")
-unfolding read_within skip_within trees_at pairs_at open_trees_at open_pairs_at argument_at whole_argument_at initial is_utf8 chars lib.Utf8.encode
+unfolding read_within skip_within trees_at pairs_at open_trees_at open_pairs_at argument_of_width whole_argument_at initial is_utf8 chars lib.Utf8.encode
 array_under_tags_is_too_deep = refl

@@ -16,7 +16,7 @@ use Rattle.cbor4ii_tree.specs.Cost.{Budget}
 use Rattle.cbor4ii_tree.specs.Stops.{Stopping, NoBreak}
 use Rattle.cbor4ii_tree.specs.Does.{Accepting, Does}
 use Rattle.cbor4ii_tree.specs.Skipping.{SkipsOne, StopsOne, SkipsItems, StopsItems, SkipsUnder, StopsUnder, SkipsBehind, StopsBehind}
-use Rattle.cbor4ii_tree.specs.Ahead.{Takes, TakesHead, Passes, Allows, Awaits, Counts, IsOpen, SkipsSome, StopsSome, SkipsSomeUnder, StopsSomeUnder, GoesUnder, CountsWent, EndsOrNot, StopsAtEnd, NeverStops}
+use Rattle.cbor4ii_tree.specs.Ahead.{TakesAhead, TakesHead, Passes, Allows, Awaits, Counts, IsOpen, SkipsSome, StopsSome, SkipsSomeUnder, StopsSomeUnder, GoesUnder, CountsWent, EndsOrNot, StopsAtEnd, NeverStops}
 use Rattle.cbor4ii_tree.specs.declared.skip.Behind.{Behind}
 use Rattle.cbor4ii_tree.specs.declared.skip.Behind.TheVariants.{Nothing}
 use Rattle.cbor4ii_tree.specs.declared.skip.Behind.TheVariants as left_behind
@@ -196,18 +196,18 @@ without_step among {a = a} {b = b} {sa = sa} {sb = sb} e f takes k d =
 -- ---- under it
 
 -- a run was taken
-pub ran : {E : Type 0} (among : Among) (n size : ℕ) {seen : Ahead} {a m : View} → seen ≡ Run n size → 1 ≤ n → Does {V = Ahead} {E = E} (Takes among a.budget) NeverStops a m (Ok seen) → Does {E = E} (SkipsSomeUnder among a.budget) (StopsSomeUnder among a.budget) a m (Ok n)
-ran among n size {seen = seen} {a = a} is some d = does_ok (SkipsSomeUnder among a.budget) (StopsSomeUnder among a.budget) (reached_as (λ xs ys. Takes among a.budget xs seen ys) (λ xs ys. SkipsSomeUnder among a.budget xs n ys)
-    (λ xs ys h budget step. inr (some, run_items n budget xs ys (step_up budget a.budget 0 step (fits_zero a.budget)) (subst (λ s. Takes among a.budget xs s ys) is h))) (reached_by d))
+pub ran : {E : Type 0} (among : Among) (n size : ℕ) {seen : Ahead} {a m : View} → seen ≡ Run n size → 1 ≤ n → Does {V = Ahead} {E = E} (TakesAhead among a.budget) NeverStops a m (Ok seen) → Does {E = E} (SkipsSomeUnder among a.budget) (StopsSomeUnder among a.budget) a m (Ok n)
+ran among n size {seen = seen} {a = a} is some d = does_ok (SkipsSomeUnder among a.budget) (StopsSomeUnder among a.budget) (reached_as (λ xs ys. TakesAhead among a.budget xs seen ys) (λ xs ys. SkipsSomeUnder among a.budget xs n ys)
+    (λ xs ys h budget step. inr (some, run_items n budget xs ys (step_up budget a.budget 0 step (fits_zero a.budget)) (subst (λ s. TakesAhead among a.budget xs s ys) is h))) (reached_by d))
 
 -- a break was
-pub broke_here : {E : Type 0} (among : Among) {seen : Ahead} {a m : View} → seen ≡ Break → IsOpen among → Does {V = Ahead} {E = E} (Takes among a.budget) NeverStops a m (Ok seen) → Does {E = E} (SkipsSomeUnder among a.budget) (StopsSomeUnder among a.budget) a m (Ok 0)
-broke_here among {seen = seen} {a = a} is here d = does_ok (SkipsSomeUnder among a.budget) (StopsSomeUnder among a.budget) (reached_as (λ xs ys. Takes among a.budget xs seen ys) (λ xs ys. SkipsSomeUnder among a.budget xs 0 ys)
-    (λ xs ys h budget step. inl (here, refl, subst (λ s. Takes among a.budget xs s ys) is h)) (reached_by d))
+pub broke_here : {E : Type 0} (among : Among) {seen : Ahead} {a m : View} → seen ≡ Break → IsOpen among → Does {V = Ahead} {E = E} (TakesAhead among a.budget) NeverStops a m (Ok seen) → Does {E = E} (SkipsSomeUnder among a.budget) (StopsSomeUnder among a.budget) a m (Ok 0)
+broke_here among {seen = seen} {a = a} is here d = does_ok (SkipsSomeUnder among a.budget) (StopsSomeUnder among a.budget) (reached_as (λ xs ys. TakesAhead among a.budget xs seen ys) (λ xs ys. SkipsSomeUnder among a.budget xs 0 ys)
+    (λ xs ys h budget step. inl (here, refl, subst (λ s. TakesAhead among a.budget xs s ys) is h)) (reached_by d))
 
 -- the reader failed
-pub not_ran : {U E : Type 0} (among : Among) (A : Accepting U) (T : Stopping) {e : DecodeError E} {a b : View} → Does {V = Ahead} (Takes among a.budget) NeverStops a b (Err e) → Does {V = U} A T a b (Err e)
-not_ran among A T {a = a} d = does_err Same (Takes among a.budget) A NeverStops T (λ xs ys z rest u h. absurd h) (same_start a) d
+pub not_ran : {U E : Type 0} (among : Among) (A : Accepting U) (T : Stopping) {e : DecodeError E} {a b : View} → Does {V = Ahead} (TakesAhead among a.budget) NeverStops a b (Err e) → Does {V = U} A T a b (Err e)
+not_ran among A T {a = a} d = does_err Same (TakesAhead among a.budget) A NeverStops T (λ xs ys z rest u h. absurd h) (same_start a) d
 
 -- what is behind a head was skipped
 module _ (among : Among) (behind : Behind) {a m : View} (same : m.budget ≡ a.budget) (p : Reached (λ xs ys. TakesHead a.budget xs behind ys) a m) where
@@ -223,31 +223,31 @@ module _ (among : Among) (behind : Behind) {a m : View} (same : m.budget ≡ a.b
 
 -- a head was taken
 module _ (among : Among) (size : ℕ) (behind : Behind) {seen : Ahead} {a m : View} (is : seen ≡ Head size behind) where
-  head_taken : {E : Type 0} → Does {V = Ahead} {E = E} (Takes among a.budget) NeverStops a m (Ok seen) → Reached (λ xs ys. TakesHead a.budget xs behind ys) a m
-  head_taken h = reached_as (λ xs ys. Takes among a.budget xs seen ys) (λ xs ys. TakesHead a.budget xs behind ys) (λ xs ys t. subst (λ s. Takes among a.budget xs s ys) is t) (reached_by h)
+  head_taken : {E : Type 0} → Does {V = Ahead} {E = E} (TakesAhead among a.budget) NeverStops a m (Ok seen) → Reached (λ xs ys. TakesHead a.budget xs behind ys) a m
+  head_taken h = reached_as (λ xs ys. TakesAhead among a.budget xs seen ys) (λ xs ys. TakesHead a.budget xs behind ys) (λ xs ys t. subst (λ s. TakesAhead among a.budget xs s ys) is t) (reached_by h)
 
-  pub head_one : {E : Type 0} {u : Unit {0}} {b : View} → Does {V = Ahead} {E = E} (Takes among a.budget) NeverStops a m (Ok seen) → Does {E = E} (λ xs _ ys. SkipsBehind behind m.budget xs ys) (StopsBehind behind m.budget) m b (Ok u)
+  pub head_one : {E : Type 0} {u : Unit {0}} {b : View} → Does {V = Ahead} {E = E} (TakesAhead among a.budget) NeverStops a m (Ok seen) → Does {E = E} (λ xs _ ys. SkipsBehind behind m.budget xs ys) (StopsBehind behind m.budget) m b (Ok u)
       → Does {E = E} (SkipsSomeUnder among a.budget) (StopsSomeUnder among a.budget) a b (Ok 1)
   head_one h d = behind_one among behind h.moves.by.budget (head_taken h) d
 
-  pub head_stopped : {E : Type 0} {e : DecodeError E} {b : View} → Does {V = Ahead} {E = E} (Takes among a.budget) NeverStops a m (Ok seen) → Does {V = Unit {0}} (λ xs _ ys. SkipsBehind behind m.budget xs ys) (StopsBehind behind m.budget) m b (Err e)
+  pub head_stopped : {E : Type 0} {e : DecodeError E} {b : View} → Does {V = Ahead} {E = E} (TakesAhead among a.budget) NeverStops a m (Ok seen) → Does {V = Unit {0}} (λ xs _ ys. SkipsBehind behind m.budget xs ys) (StopsBehind behind m.budget) m b (Err e)
       → Does {V = ℕ} (SkipsSomeUnder among a.budget) (StopsSomeUnder among a.budget) a b (Err e)
   head_stopped h d = behind_stopped among behind h.moves.by.budget (head_taken h) d
 
   -- and its items are behind it
-  pub head_into : {E : Type 0} (n : ℕ) → behind ≡ left_behind.Items n → Does {V = Ahead} {E = E} (Takes among a.budget) NeverStops a m (Ok seen) → Does {E = E} (GoesUnder among a.budget) (StopsSomeUnder among a.budget) a m (Ok (Into n))
+  pub head_into : {E : Type 0} (n : ℕ) → behind ≡ left_behind.Items n → Does {V = Ahead} {E = E} (TakesAhead among a.budget) NeverStops a m (Ok seen) → Does {E = E} (GoesUnder among a.budget) (StopsSomeUnder among a.budget) a m (Ok (Into n))
   head_into n holds h = does_ok (GoesUnder among a.budget) (StopsSomeUnder among a.budget) (reached_as (λ xs ys. TakesHead a.budget xs behind ys) (λ xs ys. GoesUnder among a.budget xs (Into n) ys)
       (λ xs ys t. subst (λ z. TakesHead a.budget xs z ys) holds t) (head_taken h))
 
 -- nothing was
-pub nothing_taken : {E : Type 0} (among : Among) {seen : Ahead} {r : Result ℕ (DecodeError E)} {a m b : View} → seen ≡ Unseen → Does {V = Ahead} {E = E} (Takes among a.budget) NeverStops a m (Ok seen)
+pub nothing_taken : {E : Type 0} (among : Among) {seen : Ahead} {r : Result ℕ (DecodeError E)} {a m b : View} → seen ≡ Unseen → Does {V = Ahead} {E = E} (TakesAhead among a.budget) NeverStops a m (Ok seen)
     → Does (SkipsSomeUnder among m.budget) (StopsSomeUnder among m.budget) m b r → Does (SkipsSomeUnder among a.budget) (StopsSomeUnder among a.budget) a b r
 nothing_taken among {seen = seen} {a = a} {m = m} is h d =
     let same : m.budget ≡ a.budget = h.moves.by.budget in
     does_after Same (SkipsSomeUnder among m.budget) (SkipsSomeUnder among a.budget) (StopsSomeUnder among m.budget) (StopsSomeUnder among a.budget)
     (λ xs ys zs v e s. subst (λ x. SkipsSomeUnder among a.budget x v zs) e (subst (λ o. SkipsSomeUnder among o ys v zs) same s))
     (λ xs ys z rest e s. subst (λ x. StopsSomeUnder among a.budget x z rest) e (subst (λ o. StopsSomeUnder among o ys z rest) same s))
-    (reached_as (λ xs ys. Takes among a.budget xs seen ys) Same (λ xs ys t. subst (λ s. Takes among a.budget xs s ys) is t) (reached_by h)) d
+    (reached_as (λ xs ys. TakesAhead among a.budget xs seen ys) Same (λ xs ys t. subst (λ s. TakesAhead among a.budget xs s ys) is t) (reached_by h)) d
 
 -- ---- where that led
 

@@ -20,7 +20,7 @@ use Rattle.std.proofs.Common.{rules, ℤ}
 use Rattle.cbor4ii_tree.specs.Item.{integer}
 use Rattle.cbor4ii_tree.specs.Binds.{step_up}
 use Rattle.cbor4ii_tree.specs.Budgets.{fits_zero}
-use Rattle.cbor4ii_items.specs.Initial.{Info, wide, open_ended, reserved, info_of, initial, by_major, int_by, Sign, unsigned, negative, sign_major}
+use Rattle.cbor4ii_items.specs.Initial.{Info, wide, open_ended, reserved, info_of, initial, by_major, int_by_info, Sign, unsigned, negative, sign_major}
 use Rattle.cbor4ii_tree.specs.Refusal.{eof, mismatch, Small, len_of, sign_name}
 use Rattle.cbor4ii_tree.specs.head_laws.Numbers.{additional-lt, info-additional}
 use Rattle.cbor4ii_tree.proofs.heads.Means.{WidthSays, InfoSays, info_says}
@@ -137,11 +137,11 @@ pub int_stops : (inner : Budget) (s : Sign) (b : ℕ) (bs : List ℕ) (e : Refus
 int_stops inner s b bs e rest m h =
     subst (λ i. ReadingStopsBy (λ left part. StopsReading part left) inner i b bs e rest) (sym (initial_of b (sign_major s) m ∙ row s (b % 32))) (by_info (info_of (b % 32)) refl)
   where
-    row : (s : Sign) (i : ℕ) → by_major (sign_major s) i ≡ int_by s (info_of i)
+    row : (s : Sign) (i : ℕ) → by_major (sign_major s) i ≡ int_by_info s (info_of i)
     row unsigned i = refl
     row negative i = refl
 
-    by_info : (i : Info) → info_of (b % 32) ≡ i → ReadingStopsBy (λ left part. StopsReading part left) inner (int_by s i) b bs e rest
+    by_info : (i : Info) → info_of (b % 32) ≡ i → ReadingStopsBy (λ left part. StopsReading part left) inner (int_by_info s i) b bs e rest
     by_info (wide w) is = head_cut (sign_name s) (sign_major s) b bs w e rest m is h
     by_info open_ended is = no_head (sign_name s) (sign_major s) b bs e rest (λ w f. cc) h
     by_info reserved is = no_head (sign_name s) (sign_major s) b bs e rest (λ w f. cc) h

@@ -17,7 +17,7 @@ use Rattle.cbor4ii_items.specs.Floats.{ReadsFloat, StopsFloat, float_bytes}
 use Rattle.cbor4ii_items.specs.Moves.{Moves}
 use Rattle.cbor4ii_items.specs.Decoding.{CostFits, Sound, Stops}
 use Rattle.cbor4ii_items.specs.Reading.{Runs, peek_at}
-use Rattle.cbor4ii_items.specs.Initial.{Initial, Info, wide, open_ended, reserved, info_of, initial, simple_by, tag_by, negative, Simple, simple_byte, Precision, half, single, double, precision_byte, precision_bytes, starts_tag, starts_bits, other_simple, simple_false, simple_true, simple_null, simple_undefined}
+use Rattle.cbor4ii_items.specs.Initial.{Initial, Info, wide, open_ended, reserved, info_of, initial, simple_by_info, tag_by_info, negative, Simple, simple_byte, Precision, half, single, double, precision_byte, precision_bytes, starts_tag, starts_bits, other_simple, simple_false, simple_true, simple_null, simple_undefined}
 use Rattle.cbor4ii_tree.specs.Refusal.{eof, unsupported, Small, len_of, precision_name, tag_name, value_name}
 use Rattle.cbor4ii_tree.specs.head_laws.Numbers.{length-bytes_high_first}
 use Rattle.cbor4ii_tree.specs.head_laws.Initials.{initial_tag, initial_bits}
@@ -131,7 +131,7 @@ float_refused {V = V} p first {a = a} is moves s =
     (λ xs ys z rest e h bs f. subst (λ x. StopsUnder a.budget x z rest) (sym f) (float_stops a.budget p first bs z rest a.budget is (subst (λ x. StopsFloat (precision_name p) (precision_byte p) (precision_bytes p) x a.budget z rest) (sym e ∙ f) h)))
     (reached_start (λ xs ys. xs ≡ ys) a (λ xs. refl)) (does_stops (λ xs (v : V) ys. Unit {0}) (StopsFloat (precision_name p) (precision_byte p) (precision_bytes p)) moves s)
 
-other_row : (i : ℕ) → i ≢ 20 → i ≢ 21 → i ≢ 22 → i ≢ 23 → i ≢ 25 → i ≢ 26 → i ≢ 27 → simple_by i ≡ other_simple
+other_row : (i : ℕ) → i ≢ 20 → i ≢ 21 → i ≢ 22 → i ≢ 23 → i ≢ 25 → i ≢ 26 → i ≢ 27 → simple_by_info i ≡ other_simple
 other_row i a b c d e f g = rw (ne_eqb i 20 a, ne_eqb i 21 b, ne_eqb i 22 c, ne_eqb i 23 d, ne_eqb i 25 e, ne_eqb i 26 f, ne_eqb i 27 g) refl
 
 other_byte : (b : ℕ) → 224 ≤ b → b < 256 → ((s : Simple) → b ≡ simple_byte s → ⊥) → b ≢ 249 → b ≢ 250 → b ≢ 251 → initial b ≡ other_simple
@@ -183,9 +183,9 @@ tag_stopped n {a = a} {m = m} p d =
     subst (λ x. StopsUnder a.budget x z rest) (sym h.2) (at_row a.budget (starts_tag h.0) (32 * 6 + additional h.0 n) (bytes_high_first (byte_count h.0) n ++ ys) z rest (initial_tag n h.0 h.1) (inr (record { argument = n; after = ys; fits = h.1; is = refl; stopped = s })))) p d
 
 pub tag_stops : (inner : Budget) (b : ℕ) (bs : List ℕ) (e : Refusal) (rest : List ℕ) → b / 32 ≡ 6 → StopsHead tag_name 6 8 (b ∷ bs) e rest → StopsUnder inner (b ∷ bs) e rest
-tag_stops inner b bs e rest m h = at_row inner (tag_by (info_of (b % 32))) b bs e rest (initial_of b 6 m) (by_info (info_of (b % 32)) refl)
+tag_stops inner b bs e rest m h = at_row inner (tag_by_info (info_of (b % 32))) b bs e rest (initial_of b 6 m) (by_info (info_of (b % 32)) refl)
   where
-    by_info : (i : Info) → info_of (b % 32) ≡ i → ReadingStopsBy (λ left part. StopsReading part left) inner (tag_by i) b bs e rest
+    by_info : (i : Info) → info_of (b % 32) ≡ i → ReadingStopsBy (λ left part. StopsReading part left) inner (tag_by_info i) b bs e rest
     by_info (wide w) is = inl (head_cut tag_name 6 b bs w e rest m is h)
     by_info open_ended is = no_head tag_name 6 b bs e rest (λ w f. cc) h
     by_info reserved is = no_head tag_name 6 b bs e rest (λ w f. cc) h

@@ -10,7 +10,7 @@ use Rattle.cbor4ii_items.specs.Heads.{StopsHead}
 use Rattle.cbor4ii_items.specs.Lengths.{ReadsLength, StopsLength}
 use Rattle.cbor4ii_items.specs.Moves.{Moves}
 use Rattle.cbor4ii_items.specs.Decoding.{CostFits, Sound, Stops}
-use Rattle.cbor4ii_items.specs.Initial.{Info, wide, open_ended, reserved, info_of, array_by, map_by, starts_array, starts_open_array, starts_map, starts_open_map}
+use Rattle.cbor4ii_items.specs.Initial.{Info, wide, open_ended, reserved, info_of, array_by_info, map_by_info, starts_array, starts_open_array, starts_map, starts_open_map}
 use Rattle.cbor4ii_tree.specs.Refusal.{eof, mismatch, depth_overflow, Small, array_name, map_name, break_name}
 use Rattle.cbor4ii_tree.specs.head_laws.Initials.{initial_array, initial_map, initial_open_array, initial_open_map}
 use Rattle.cbor4ii_tree.specs.part_laws.Wholes.{all_readable, all_pairs_readable}
@@ -48,17 +48,17 @@ major_stepped reads major {a = a} {b = b} takes inward w gives outward =
     does_stepped (reads b.budget) (ReadsStepped reads a.budget) (StopsMajor major b.budget) (StopsOf major a.budget) (λ xs ys v h. (b.budget, step, h)) (λ xs e rest h first bs is m. h first bs is m a.budget step) takes inward w gives outward
 
 array_deep : (outer : Budget) (b : ℕ) (bs : List ℕ) → outer ≡ Some 0 → b / 32 ≡ 4 → StopsUnder outer (b ∷ bs) (depth_overflow array_name) (b ∷ bs)
-array_deep outer b bs none m = at_row outer (array_by (info_of (b % 32))) b bs _ _ (initial_of b 4 m) (by_info (info_of (b % 32)))
+array_deep outer b bs none m = at_row outer (array_by_info (info_of (b % 32))) b bs _ _ (initial_of b 4 m) (by_info (info_of (b % 32)))
   where
-    by_info : (i : Info) → ReadingStopsBy (λ left part. StopsReading part left) outer (array_by i) b bs (depth_overflow array_name) (b ∷ bs)
+    by_info : (i : Info) → ReadingStopsBy (λ left part. StopsReading part left) outer (array_by_info i) b bs (depth_overflow array_name) (b ∷ bs)
     by_info (wide w) = no_step_left array_name (b ∷ bs) (λ inner. AtHead array_name 4 w b (StopsInCount (Readable inner) (λ part. StopsReading part inner)) bs) outer none
     by_info open_ended = no_step_left array_name (b ∷ bs) (λ inner. OpenItems (Readable inner) (λ part. StopsReading part inner) bs) outer none
     by_info reserved = no_step_left array_name (b ∷ bs) (λ inner. Is (mismatch array_name b) bs) outer none
 
 map_deep : (outer : Budget) (b : ℕ) (bs : List ℕ) → outer ≡ Some 0 → b / 32 ≡ 5 → StopsUnder outer (b ∷ bs) (depth_overflow map_name) (b ∷ bs)
-map_deep outer b bs none m = at_row outer (map_by (info_of (b % 32))) b bs _ _ (initial_of b 5 m) (by_info (info_of (b % 32)))
+map_deep outer b bs none m = at_row outer (map_by_info (info_of (b % 32))) b bs _ _ (initial_of b 5 m) (by_info (info_of (b % 32)))
   where
-    by_info : (i : Info) → ReadingStopsBy (λ left part. StopsReading part left) outer (map_by i) b bs (depth_overflow map_name) (b ∷ bs)
+    by_info : (i : Info) → ReadingStopsBy (λ left part. StopsReading part left) outer (map_by_info i) b bs (depth_overflow map_name) (b ∷ bs)
     by_info (wide w) = no_step_left map_name (b ∷ bs) (λ inner. AtHead map_name 5 w b (λ n. StopsInCount (Readable inner) (λ part. StopsReading part inner) (2 * n)) bs) outer none
     by_info open_ended = no_step_left map_name (b ∷ bs) (λ inner. OpenPairs (Readable inner) (λ part. StopsReading part inner) bs) outer none
     by_info reserved = no_step_left map_name (b ∷ bs) (λ inner. Is (mismatch map_name b) bs) outer none
@@ -72,17 +72,17 @@ map_no_step budget none xs b bs is m = subst (λ x. StopsUnder budget x (depth_o
 -- ---- heads
 
 array_head_stops : (inner outer : Budget) (b : ℕ) (bs : List ℕ) (e : Refusal) (rest : List ℕ) → step_in outer ≡ Some inner → b / 32 ≡ 4 → (take 1 (b ∷ bs) ≡ open_head 4 ∷ [] → ⊥) → StopsHead array_name 4 8 (b ∷ bs) e rest → StopsUnder outer (b ∷ bs) e rest
-array_head_stops inner outer b bs e rest step m closed h = at_row outer (array_by (info_of (b % 32))) b bs e rest (initial_of b 4 m) (by_info (info_of (b % 32)) refl)
+array_head_stops inner outer b bs e rest step m closed h = at_row outer (array_by_info (info_of (b % 32))) b bs e rest (initial_of b 4 m) (by_info (info_of (b % 32)) refl)
   where
-    by_info : (i : Info) → info_of (b % 32) ≡ i → ReadingStopsBy (λ left part. StopsReading part left) outer (array_by i) b bs e rest
+    by_info : (i : Info) → info_of (b % 32) ≡ i → ReadingStopsBy (λ left part. StopsReading part left) outer (array_by_info i) b bs e rest
     by_info (wide w) is = step_taken array_name (b ∷ bs) (λ inner. AtHead array_name 4 w b (StopsInCount (Readable inner) (λ part. StopsReading part inner)) bs) outer inner e rest step (inl (head_cut array_name 4 b bs w e rest m is h))
     by_info open_ended is = absurd (closed (ap (λ c. c ∷ []) (open_byte 4 b m is)))
     by_info reserved is = step_taken array_name (b ∷ bs) (λ inner. Is (mismatch array_name b) bs) outer inner e rest step (no_head array_name 4 b bs e rest (λ w f. cc) h)
 
 map_head_stops : (inner outer : Budget) (b : ℕ) (bs : List ℕ) (e : Refusal) (rest : List ℕ) → step_in outer ≡ Some inner → b / 32 ≡ 5 → (take 1 (b ∷ bs) ≡ open_head 5 ∷ [] → ⊥) → StopsHead map_name 5 8 (b ∷ bs) e rest → StopsUnder outer (b ∷ bs) e rest
-map_head_stops inner outer b bs e rest step m closed h = at_row outer (map_by (info_of (b % 32))) b bs e rest (initial_of b 5 m) (by_info (info_of (b % 32)) refl)
+map_head_stops inner outer b bs e rest step m closed h = at_row outer (map_by_info (info_of (b % 32))) b bs e rest (initial_of b 5 m) (by_info (info_of (b % 32)) refl)
   where
-    by_info : (i : Info) → info_of (b % 32) ≡ i → ReadingStopsBy (λ left part. StopsReading part left) outer (map_by i) b bs e rest
+    by_info : (i : Info) → info_of (b % 32) ≡ i → ReadingStopsBy (λ left part. StopsReading part left) outer (map_by_info i) b bs e rest
     by_info (wide w) is = step_taken map_name (b ∷ bs) (λ inner. AtHead map_name 5 w b (λ n. StopsInCount (Readable inner) (λ part. StopsReading part inner) (2 * n)) bs) outer inner e rest step (inl (head_cut map_name 5 b bs w e rest m is h))
     by_info open_ended is = absurd (closed (ap (λ c. c ∷ []) (open_byte 5 b m is)))
     by_info reserved is = step_taken map_name (b ∷ bs) (λ inner. Is (mismatch map_name b) bs) outer inner e rest step (no_head map_name 5 b bs e rest (λ w f. cc) h)

@@ -9,7 +9,7 @@ use Rattle.cbor4ii_items.specs.Laws.Fronts.{drop_more}
 use Rattle.cbor4ii_items.specs.Decoding.{CostFits}
 use Rattle.cbor4ii_items.specs.Strings as strings
 use Rattle.cbor4ii_items.specs.Strings.{ReadsCountedString, ReadsChunks, chunk_cost, ReadsString, CutContent, StopsChunk, no_chunk_byte, no_step, chunk_open, chunk_refused, chunk_cut, StopsString, string_head_refused, string_cut, string_open, StopsText, no_string, no_utf8}
-use Rattle.cbor4ii_items.specs.Initial.{Initial, Info, wide, open_ended, reserved, info_of, initial, by_major, int_by, string_by, array_by, map_by, tag_by, simple_by, unsigned, negative, Sign, Kind, byte_string, text_string, kind_major, Simple, Precision, starts_string, starts_chunks, bad_string, starts_simple, starts_bits, other_simple, simple_false, simple_true, simple_null, simple_undefined, half, single, double}
+use Rattle.cbor4ii_items.specs.Initial.{Initial, Info, wide, open_ended, reserved, info_of, initial, by_major, int_by_info, string_by_info, array_by_info, map_by_info, tag_by_info, simple_by_info, unsigned, negative, Sign, Kind, byte_string, text_string, kind_major, Simple, Precision, starts_string, starts_chunks, bad_string, starts_simple, starts_bits, other_simple, simple_false, simple_true, simple_null, simple_undefined, half, single, double}
 use Rattle.cbor4ii_tree.specs.Refusal.{eof, mismatch, require_length, require_utf8, Indefinite, len_of, kind_name}
 use Rattle.cbor4ii_tree.specs.head_laws.Initials.{initial_string, initial_chunks, head_below, kind_below}
 use Rattle.cbor4ii_tree.specs.head_laws.Numbers.{length-bytes_high_first}
@@ -141,7 +141,7 @@ cut_head k b bs e rest h = record {
   cut = inl (h.short, (h.answer ∙ small_count (kind_name k) h.wide, h.left));
 }
 
-row_of : (k : Kind) (b : ℕ) → b / 32 ≡ kind_major k → initial b ≡ string_by k (info_of (b % 32))
+row_of : (k : Kind) (b : ℕ) → b / 32 ≡ kind_major k → initial b ≡ string_by_info k (info_of (b % 32))
 row_of byte_string b m = initial_of b 2 m
 row_of text_string b m = initial_of b 3 m
 
@@ -151,13 +151,13 @@ if_any : {A : Type 0} (P : A → Type 0) (b : Bool) (x y : A) → P x → P y �
 if_any P true x y p q = p
 if_any P false x y p q = q
 
-simple_row : (P : Initial → Type 0) → ((s : Simple) → P (starts_simple s)) → ((p : Precision) → P (starts_bits p)) → P other_simple → (i : ℕ) → P (simple_by i)
+simple_row : (P : Initial → Type 0) → ((s : Simple) → P (starts_simple s)) → ((p : Precision) → P (starts_bits p)) → P other_simple → (i : ℕ) → P (simple_by_info i)
 simple_row P f g h i =
     if_any P (eqb i 20) _ _ (f simple_false) (if_any P (eqb i 21) _ _ (f simple_true) (if_any P (eqb i 22) _ _ (f simple_null) (if_any P (eqb i 23) _ _ (f simple_undefined)
     (if_any P (eqb i 25) _ _ (g half) (if_any P (eqb i 26) _ _ (g single) (if_any P (eqb i 27) _ _ (g double) h))))))
 
 module _ (c : ℕ) (cs : List ℕ) (e : Refusal) (rest : List ℕ) where
-  int_row : (k : Kind) (s : Sign) (x : Info) → Is (mismatch (kind_name k) c) cs e rest → ChunkStopsBy k (int_by s x) c cs e rest
+  int_row : (k : Kind) (s : Sign) (x : Info) → Is (mismatch (kind_name k) c) cs e rest → ChunkStopsBy k (int_by_info s x) c cs e rest
   int_row byte_string s (wide w) h = h
   int_row byte_string s open_ended h = h
   int_row byte_string s reserved h = h
@@ -165,17 +165,17 @@ module _ (c : ℕ) (cs : List ℕ) (e : Refusal) (rest : List ℕ) where
   int_row text_string s open_ended h = h
   int_row text_string s reserved h = h
 
-  text_row : (x : Info) → Is (mismatch (kind_name byte_string) c) cs e rest → ChunkStopsBy byte_string (string_by text_string x) c cs e rest
+  text_row : (x : Info) → Is (mismatch (kind_name byte_string) c) cs e rest → ChunkStopsBy byte_string (string_by_info text_string x) c cs e rest
   text_row (wide w) h = h
   text_row open_ended h = h
   text_row reserved h = h
 
-  bytes_row : (x : Info) → Is (mismatch (kind_name text_string) c) cs e rest → ChunkStopsBy text_string (string_by byte_string x) c cs e rest
+  bytes_row : (x : Info) → Is (mismatch (kind_name text_string) c) cs e rest → ChunkStopsBy text_string (string_by_info byte_string x) c cs e rest
   bytes_row (wide w) h = h
   bytes_row open_ended h = h
   bytes_row reserved h = h
 
-  array_row : (k : Kind) (x : Info) → Is (mismatch (kind_name k) c) cs e rest → ChunkStopsBy k (array_by x) c cs e rest
+  array_row : (k : Kind) (x : Info) → Is (mismatch (kind_name k) c) cs e rest → ChunkStopsBy k (array_by_info x) c cs e rest
   array_row byte_string (wide w) h = h
   array_row byte_string open_ended h = h
   array_row byte_string reserved h = h
@@ -183,7 +183,7 @@ module _ (c : ℕ) (cs : List ℕ) (e : Refusal) (rest : List ℕ) where
   array_row text_string open_ended h = h
   array_row text_string reserved h = h
 
-  map_row : (k : Kind) (x : Info) → Is (mismatch (kind_name k) c) cs e rest → ChunkStopsBy k (map_by x) c cs e rest
+  map_row : (k : Kind) (x : Info) → Is (mismatch (kind_name k) c) cs e rest → ChunkStopsBy k (map_by_info x) c cs e rest
   map_row byte_string (wide w) h = h
   map_row byte_string open_ended h = h
   map_row byte_string reserved h = h
@@ -191,7 +191,7 @@ module _ (c : ℕ) (cs : List ℕ) (e : Refusal) (rest : List ℕ) where
   map_row text_string open_ended h = h
   map_row text_string reserved h = h
 
-  tag_row : (k : Kind) (x : Info) → Is (mismatch (kind_name k) c) cs e rest → ChunkStopsBy k (tag_by x) c cs e rest
+  tag_row : (k : Kind) (x : Info) → Is (mismatch (kind_name k) c) cs e rest → ChunkStopsBy k (tag_by_info x) c cs e rest
   tag_row byte_string (wide w) h = h
   tag_row byte_string open_ended h = h
   tag_row byte_string reserved h = h
@@ -199,7 +199,7 @@ module _ (c : ℕ) (cs : List ℕ) (e : Refusal) (rest : List ℕ) where
   tag_row text_string open_ended h = h
   tag_row text_string reserved h = h
 
-  other_row : (k : Kind) (i : ℕ) → Is (mismatch (kind_name k) c) cs e rest → ChunkStopsBy k (simple_by i) c cs e rest
+  other_row : (k : Kind) (i : ℕ) → Is (mismatch (kind_name k) c) cs e rest → ChunkStopsBy k (simple_by_info i) c cs e rest
   other_row byte_string i h = simple_row (λ i. ChunkStopsBy byte_string i c cs e rest) (λ s. h) (λ p. h) h i
   other_row text_string i h = simple_row (λ i. ChunkStopsBy text_string i c cs e rest) (λ s. h) (λ p. h) h i
 
@@ -230,7 +230,7 @@ module _ (c : ℕ) (cs : List ℕ) (e : Refusal) (rest : List ℕ) where
   not_chunk : (k : Kind) → ((w : Width) → Begins (kind_major k) 8 c w → ⊥) → (c ≡ open_head (kind_major k) → ⊥) → Is (mismatch (kind_name k) c) cs e rest → ChunkStopsBy k (initial c) c cs e rest
   not_chunk k none closed h = by_test (eqb (c / 32) (kind_major k)) refl
     where
-      by_info : c / 32 ≡ kind_major k → (x : Info) → info_of (c % 32) ≡ x → ChunkStopsBy k (string_by k x) c cs e rest
+      by_info : c / 32 ≡ kind_major k → (x : Info) → info_of (c % 32) ≡ x → ChunkStopsBy k (string_by_info k x) c cs e rest
       by_info m (wide w) is = absurd (none w (width_begins (kind_major k) c w m is))
       by_info m open_ended is = absurd (closed (open_byte (kind_major k) c m is))
       by_info m reserved is = bad_row k h
@@ -286,9 +286,9 @@ chunk_stops k budget (c ∷ cs) e rest (chunk_cut step h) =
 -- ---- strings
 
 head_stops : (inner : Budget) (k : Kind) (b : ℕ) (bs : List ℕ) (e : Refusal) (rest : List ℕ) → b / 32 ≡ kind_major k → (take 1 (b ∷ bs) ≡ open_head (kind_major k) ∷ [] → ⊥) → StopsHead (kind_name k) (kind_major k) 8 (b ∷ bs) e rest → StopsUnder inner (b ∷ bs) e rest
-head_stops inner k b bs e rest m closed h = at_row inner (string_by k (info_of (b % 32))) b bs e rest (row_of k b m) (by_info (info_of (b % 32)) refl)
+head_stops inner k b bs e rest m closed h = at_row inner (string_by_info k (info_of (b % 32))) b bs e rest (row_of k b m) (by_info (info_of (b % 32)) refl)
   where
-    by_info : (i : Info) → info_of (b % 32) ≡ i → ReadingStopsBy (λ left part. StopsReading part left) inner (string_by k i) b bs e rest
+    by_info : (i : Info) → info_of (b % 32) ≡ i → ReadingStopsBy (λ left part. StopsReading part left) inner (string_by_info k i) b bs e rest
     by_info (wide w) is = inl (inl (head_cut (kind_name k) (kind_major k) b bs w e rest m is h))
     by_info open_ended is = absurd (begins_with (open_head (kind_major k)) b bs closed (open_byte (kind_major k) b m is))
     by_info reserved is = no_head (kind_name k) (kind_major k) b bs e rest (λ w f. cc) h

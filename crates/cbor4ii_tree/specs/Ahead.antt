@@ -113,11 +113,11 @@ pub record TakesHead (inner : Budget) (xs : List ℕ) (behind : Behind) (ys : Li
   pub item : (e : Refusal) (rest : List ℕ) → StopsBehind behind inner ys e rest → NotBreak xs
 
 -- under the budget that is left for the item
-abbrev pub Takes : Among → Budget → List ℕ → Ahead → List ℕ → Type 0
-Takes among inner xs (Run n size) ys = TakesRun n xs ys
-Takes among inner xs (Head size behind) ys = TakesHead inner xs behind ys
-Takes among inner xs Break ys = xs ≡ break ∷ ys
-Takes among inner xs Unseen ys = ys ≡ xs
+abbrev pub TakesAhead : Among → Budget → List ℕ → Ahead → List ℕ → Type 0
+TakesAhead among inner xs (Run n size) ys = TakesRun n xs ys
+TakesAhead among inner xs (Head size behind) ys = TakesHead inner xs behind ys
+TakesAhead among inner xs Break ys = xs ≡ break ∷ ys
+TakesAhead among inner xs Unseen ys = ys ≡ xs
 
 -- how far that leads
 abbrev pub Passes : Among → Ahead → ℕ → ℕ → Type 0

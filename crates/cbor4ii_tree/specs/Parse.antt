@@ -28,12 +28,12 @@ abbrev pub number_at : List ℕ → ℕ → Parser ℕ
 number_at name k bs = if nat_lt (length bs) k then Err (eof name (len_of k), []) else Ok (number_of (take k bs), drop k bs)
 
 -- the argument of a head whose initial byte is b
-unfoldable pub argument_at : List ℕ → Width → ℕ → Parser ℕ
-argument_at name in_first b bs = Ok (b % 32, bs)
-argument_at name one b bs = number_at name 1 bs
-argument_at name two b bs = number_at name 2 bs
-argument_at name four b bs = number_at name 4 bs
-argument_at name eight b bs = number_at name 8 bs
+unfoldable pub argument_of_width : List ℕ → Width → ℕ → Parser ℕ
+argument_of_width name in_first b bs = Ok (b % 32, bs)
+argument_of_width name one b bs = number_at name 1 bs
+argument_of_width name two b bs = number_at name 2 bs
+argument_of_width name four b bs = number_at name 4 bs
+argument_of_width name eight b bs = number_at name 8 bs
 
 -- under one step more; or none is left, and these bytes are
 abbrev pub stepped : {A : Type 0} → List ℕ → Option Budget → List ℕ → (Budget → Answer A) → Answer A

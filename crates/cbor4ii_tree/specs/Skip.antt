@@ -6,7 +6,7 @@ use Rattle.cbor4ii_items.specs.Magnitude.{number_of}
 use Rattle.cbor4ii_tree.specs.Tree.{Tree, int, string, chunked, array, array_open, map_of, map_open, tagged, simple, bits}
 use Rattle.cbor4ii_tree.specs.Cost.{Budget, step_in}
 use Rattle.cbor4ii_tree.specs.Refusal.{eof, mismatch, unsupported, Small, tag_name, ignored_any}
-use Rattle.cbor4ii_tree.specs.Parse.{Parser, ◌>>=◌, front_at, argument_at, stepped, trees_at, pairs_at, open_trees_at, open_pairs_at}
+use Rattle.cbor4ii_tree.specs.Parse.{Parser, ◌>>=◌, front_at, argument_of_width, stepped, trees_at, pairs_at, open_trees_at, open_pairs_at}
 
 -- the number in k bytes; where some are missing, as many are asked for
 abbrev pub whole_number_at : List ℕ → ℕ → Parser ℕ
@@ -23,16 +23,16 @@ whole_argument_at name eight b bs = whole_number_at name 8 bs
 abbrev pub skip_by : Parser Tree → Initial → ℕ → Parser Tree
 skip_by item (starts_int s w) b bs = whole_argument_at ignored_any w b bs >>= λ n. Ok (int s n.0 w, n.1)
 skip_by item (bad_int s) b bs = Err (mismatch ignored_any b, b ∷ bs)
-skip_by item (starts_string k w) b bs = argument_at ignored_any w b bs >>= λ n. front_at ignored_any n.0 n.1 >>= λ p. Ok (string k w p.0, p.1)
+skip_by item (starts_string k w) b bs = argument_of_width ignored_any w b bs >>= λ n. front_at ignored_any n.0 n.1 >>= λ p. Ok (string k w p.0, p.1)
 skip_by item (starts_chunks k) b bs = open_trees_at item (suc (length bs)) bs >>= λ p. Ok (chunked k p.0, p.1)
 skip_by item (bad_string k) b bs = Err (mismatch ignored_any b, bs)
-skip_by item (starts_array w) b bs = argument_at ignored_any w b bs >>= λ n. trees_at item n.0 n.1 >>= λ p. Ok (array w p.0, p.1)
+skip_by item (starts_array w) b bs = argument_of_width ignored_any w b bs >>= λ n. trees_at item n.0 n.1 >>= λ p. Ok (array w p.0, p.1)
 skip_by item starts_open_array b bs = open_trees_at item (suc (length bs)) bs >>= λ p. Ok (array_open p.0, p.1)
 skip_by item bad_array b bs = Err (mismatch ignored_any b, bs)
-skip_by item (starts_map w) b bs = argument_at ignored_any w b bs >>= λ n. pairs_at item n.0 n.1 >>= λ p. Ok (map_of w p.0, p.1)
+skip_by item (starts_map w) b bs = argument_of_width ignored_any w b bs >>= λ n. pairs_at item n.0 n.1 >>= λ p. Ok (map_of w p.0, p.1)
 skip_by item starts_open_map b bs = open_pairs_at item (suc (length bs)) bs >>= λ p. Ok (map_open p.0, p.1)
 skip_by item bad_map b bs = Err (mismatch ignored_any b, bs)
-skip_by item (starts_tag w) b bs = argument_at tag_name w b bs >>= λ n. item n.1 >>= λ p. Ok (tagged n.0 w p.0, p.1)
+skip_by item (starts_tag w) b bs = argument_of_width tag_name w b bs >>= λ n. item n.1 >>= λ p. Ok (tagged n.0 w p.0, p.1)
 skip_by item bad_tag b bs = Err (mismatch tag_name b, bs)
 skip_by item (starts_simple s) b bs = Ok (simple s, bs)
 skip_by item (starts_bits p) b bs = whole_number_at ignored_any (precision_bytes p) bs >>= λ n. Ok (bits p n.0, n.1)

@@ -24,7 +24,7 @@ ghost use Rattle.cbor4ii_tree.specs.Skipping.{
 ghost use Rattle.cbor4ii_tree.specs.Ahead.{
   Awaits,
   Counts,
-  Takes,
+  TakesAhead,
   Passes,
   SkipsSome,
   StopsSome,
@@ -506,7 +506,7 @@ fn take_ahead<S: Source, F: Front<S>>(
     among: Among,
     failure: &mut Option<DecodeError<S::Error>>,
 ) -> Option<Ahead>
-    ensures does { Does (Takes among (F.view front.old reader.old).budget) NeverStops
+    ensures does { Does (TakesAhead among (F.view front.old reader.old).budget) NeverStops
         (F.view front.old reader.old) (F.view front.new reader.new)
         (answered result failure.new) }
     ensures spares { Spares (answered result failure.new) }

@@ -1,8 +1,8 @@
 -- What an initial byte says, read backwards.
 use Rattle.std.proofs.Common.{◌≡◌, ℕ, zero, suc, ◌+◌, ◌*◌, ◌/◌, ◌%◌, ◌<◌, List, ◌∷◌, ◌++◌, Ok, refl, ap, ap₂, ◌∙◌, arith, ltb, eqb, ltb-true, eqb-true, subst}
 use Rattle.cbor4ii_items.specs.Head.{Width, in_first, one, two, four, eight, HeadFits, additional, byte_count, head, open_head, IsBytes}
-use Rattle.cbor4ii_items.specs.Initial.{Sign, unsigned, negative, sign_major, Kind, byte_string, text_string, kind_major, simple_byte, precision_byte, Info, wide, open_ended, reserved, info_of, Initial, starts_int, starts_string, starts_chunks, starts_array, starts_open_array, starts_map, starts_open_map, starts_tag, starts_simple, starts_bits, initial, int_by, string_by, array_by, map_by, tag_by, simple_by, by_major}
-use Rattle.cbor4ii_tree.specs.Parse.{argument_at}
+use Rattle.cbor4ii_items.specs.Initial.{Sign, unsigned, negative, sign_major, Kind, byte_string, text_string, kind_major, simple_byte, precision_byte, Info, wide, open_ended, reserved, info_of, Initial, starts_int, starts_string, starts_chunks, starts_array, starts_open_array, starts_map, starts_open_map, starts_tag, starts_simple, starts_bits, initial, int_by_info, string_by_info, array_by_info, map_by_info, tag_by_info, simple_by_info, by_major}
+use Rattle.cbor4ii_tree.specs.Parse.{argument_of_width}
 use Rattle.cbor4ii_tree.specs.Skip.{whole_argument_at}
 use Rattle.cbor4ii_tree.specs.Binds.{parts, if_cases}
 use Rattle.cbor4ii_tree.proofs.heads.Inverse.{Whole, number_inverse, whole_number_inverse}
@@ -41,34 +41,34 @@ info_says i =
     if_cases P (ltb i 24) _ _ (λ h. ltb-true i 24 h) (λ _. if_cases P (eqb i 24) _ _ (λ h. eqb-true i 24 h) (λ _. if_cases P (eqb i 25) _ _ (λ h. eqb-true i 25 h)
     (λ _. if_cases P (eqb i 26) _ _ (λ h. eqb-true i 26 h) (λ _. if_cases P (eqb i 27) _ _ (λ h. eqb-true i 27 h) (λ _. if_cases P (eqb i 31) _ _ (λ h. eqb-true i 31 h) (λ _. tt))))))
 
-simple_says : (i b : ℕ) → b ≡ 224 + i → Means b (simple_by i)
+simple_says : (i b : ℕ) → b ≡ 224 + i → Means b (simple_by_info i)
 simple_says i b e =
     let P = Means b in
     if_cases P (eqb i 20) _ _ (λ h. omega (arith, eqb-true i 20 h)) (λ _. if_cases P (eqb i 21) _ _ (λ h. omega (arith, eqb-true i 21 h)) (λ _. if_cases P (eqb i 22) _ _ (λ h. omega (arith, eqb-true i 22 h))
     (λ _. if_cases P (eqb i 23) _ _ (λ h. omega (arith, eqb-true i 23 h)) (λ _. if_cases P (eqb i 25) _ _ (λ h. omega (arith, eqb-true i 25 h)) (λ _. if_cases P (eqb i 26) _ _ (λ h. omega (arith, eqb-true i 26 h))
     (λ _. if_cases P (eqb i 27) _ _ (λ h. omega (arith, eqb-true i 27 h)) (λ _. tt)))))))
 
-int_says : (s : Sign) (i b : ℕ) (info : Info) → b ≡ 32 * sign_major s + i → InfoSays i info → Means b (int_by s info)
+int_says : (s : Sign) (i b : ℕ) (info : Info) → b ≡ 32 * sign_major s + i → InfoSays i info → Means b (int_by_info s info)
 int_says s i b (wide w) e h = (i, e, h)
 int_says s i b open_ended e h = tt
 int_says s i b reserved e h = tt
 
-string_says : (k : Kind) (i b : ℕ) (info : Info) → b ≡ 32 * kind_major k + i → InfoSays i info → Means b (string_by k info)
+string_says : (k : Kind) (i b : ℕ) (info : Info) → b ≡ 32 * kind_major k + i → InfoSays i info → Means b (string_by_info k info)
 string_says k i b (wide w) e h = (i, e, h)
 string_says k i b open_ended e h = e ∙ ap (λ j. 32 * kind_major k + j) h
 string_says k i b reserved e h = tt
 
-array_says : (i b : ℕ) (info : Info) → b ≡ 32 * 4 + i → InfoSays i info → Means b (array_by info)
+array_says : (i b : ℕ) (info : Info) → b ≡ 32 * 4 + i → InfoSays i info → Means b (array_by_info info)
 array_says i b (wide w) e h = (i, e, h)
 array_says i b open_ended e h = omega arith
 array_says i b reserved e h = tt
 
-map_says : (i b : ℕ) (info : Info) → b ≡ 32 * 5 + i → InfoSays i info → Means b (map_by info)
+map_says : (i b : ℕ) (info : Info) → b ≡ 32 * 5 + i → InfoSays i info → Means b (map_by_info info)
 map_says i b (wide w) e h = (i, e, h)
 map_says i b open_ended e h = omega arith
 map_says i b reserved e h = tt
 
-tag_says : (i b : ℕ) (info : Info) → b ≡ 32 * 6 + i → InfoSays i info → Means b (tag_by info)
+tag_says : (i b : ℕ) (info : Info) → b ≡ 32 * 6 + i → InfoSays i info → Means b (tag_by_info info)
 tag_says i b (wide w) e h = (i, e, h)
 tag_says i b open_ended e h = tt
 tag_says i b reserved e h = tt
@@ -100,8 +100,8 @@ first_headed : (major n b : ℕ) (bs after : List ℕ) → IsBytes bs → HeadBy
 first_headed major n b bs after more h e =
     record { is = ap₂ ◌∷◌ (omega (arith, h.1, h.2, e.0)) e.1; fits = omega (arith, h.1, h.2, e.0); more = subst IsBytes e.1 more }
 
-pub argument_inverse : (name : List ℕ) (major n : ℕ) (w : Width) (b : ℕ) (bs after : List ℕ) → IsBytes bs → HeadByte major w b → argument_at name w b bs ≡ Ok (n, after) → Headed major n w b bs after
-unfolding argument_at
+pub argument_inverse : (name : List ℕ) (major n : ℕ) (w : Width) (b : ℕ) (bs after : List ℕ) → IsBytes bs → HeadByte major w b → argument_of_width name w b bs ≡ Ok (n, after) → Headed major n w b bs after
+unfolding argument_of_width
 argument_inverse name major n in_first b bs after more h e = first_headed major n b bs after more h (parts _ (b % 32) n bs after refl e)
 argument_inverse name major n one b bs after more h e = let whole = number_inverse name 1 n bs after more e in headed major n one b bs after (h.1 ∙ ap (λ j. 32 * major + j) h.2) (omega (arith, whole.below)) whole
 argument_inverse name major n two b bs after more h e = let whole = number_inverse name 2 n bs after more e in headed major n two b bs after (h.1 ∙ ap (λ j. 32 * major + j) h.2) whole.below whole

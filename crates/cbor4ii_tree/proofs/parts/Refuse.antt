@@ -7,7 +7,7 @@ use Rattle.cbor4ii_items.specs.Magnitude.{number_of}
 use Rattle.cbor4ii_tree.specs.Tree.{Tree, no_trees, tree, no_pairs, pair, bytes, bytes_all, bytes_pairs}
 use Rattle.cbor4ii_tree.specs.Refusal.{Refusal}
 use Rattle.cbor4ii_tree.specs.Stops.{Stopping, Missing, MissingAll, AtHead, StopsInCount, OpenItems, OpenPairs, BehindKey}
-use Rattle.cbor4ii_tree.specs.Parse.{Parser, Answer, ◌>>=◌, front_at, number_at, argument_at, trees_at, pairs_at, open_trees_at, open_pairs_at}
+use Rattle.cbor4ii_tree.specs.Parse.{Parser, Answer, ◌>>=◌, front_at, number_at, argument_of_width, trees_at, pairs_at, open_trees_at, open_pairs_at}
 use Rattle.cbor4ii_tree.specs.Binds.{bind_err, no_err, is_err, guard_err, chosen}
 use Rattle.cbor4ii_tree.specs.head_laws.Initials.{length-bytes-pos}
 use Rattle.cbor4ii_tree.proofs.heads.Means.{HeadByte, Headed, argument_inverse}
@@ -21,8 +21,8 @@ front_err name k bs e rest h = let g = guard_err (ltb (length bs) k) _ [] (take 
 pub number_err : (name : List ℕ) (k : ℕ) (bs : List ℕ) (e : Refusal) (rest : List ℕ) → number_at name k bs ≡ Err (e, rest) → MissingAll name k bs e rest
 number_err name k bs e rest h = let g = guard_err (ltb (length bs) k) _ [] (number_of (take k bs), drop k bs) e rest h in (ltb-true (length bs) k g.0, g.1)
 
-pub argument_err : (name : List ℕ) (w : Width) (b : ℕ) (bs : List ℕ) (e : Refusal) (rest : List ℕ) → argument_at name w b bs ≡ Err (e, rest) → MissingAll name (byte_count w) bs e rest
-unfolding argument_at
+pub argument_err : (name : List ℕ) (w : Width) (b : ℕ) (bs : List ℕ) (e : Refusal) (rest : List ℕ) → argument_of_width name w b bs ≡ Err (e, rest) → MissingAll name (byte_count w) bs e rest
+unfolding argument_of_width
 argument_err name in_first b bs e rest h = absurd (no_err _ _ h)
 argument_err name one b bs e rest h = number_err name 1 bs e rest h
 argument_err name two b bs e rest h = number_err name 2 bs e rest h
@@ -36,9 +36,9 @@ headed_length major n w b bs after h =
 
 -- a head is refused, or what follows it is
 pub at_head : {A : Type 0} (name : List ℕ) (major : ℕ) (w : Width) (b : ℕ) (bs : List ℕ) (f : ℕ × List ℕ → Answer A) (then : ℕ → Stopping) (e : Refusal) (rest : List ℕ) → IsBytes bs → HeadByte major w b
-    → ((n : ℕ × List ℕ) → IsBytes n.1 → length n.1 ≤ length bs → f n ≡ Err (e, rest) → then n.0 n.1 e rest) → (argument_at name w b bs >>= f) ≡ Err (e, rest) → AtHead name major w b then bs e rest
+    → ((n : ℕ × List ℕ) → IsBytes n.1 → length n.1 ≤ length bs → f n ≡ Err (e, rest) → then n.0 n.1 e rest) → (argument_of_width name w b bs >>= f) ≡ Err (e, rest) → AtHead name major w b then bs e rest
 at_head name major w b bs f then e rest h m k x =
-    elim (bind_err (argument_at name w b bs) f (e, rest) x) [
+    elim (bind_err (argument_of_width name w b bs) f (e, rest) x) [
       | inl g ↦ inl (argument_err name w b bs e rest g)
       | inr g ↦
           let top = argument_inverse name major g.0.0 w b bs g.0.1 h m g.1 in

@@ -5,7 +5,7 @@ use Rattle.cbor4ii_items.specs.Head.{Width, in_first, one, two, four, eight, byt
 use Rattle.cbor4ii_tree.specs.Tree.{Tree, Trees, no_trees, tree, Pairs, no_pairs, pair, count, bytes, bytes_all, bytes_pairs}
 use Rattle.cbor4ii_tree.specs.Refusal.{Refusal}
 use Rattle.cbor4ii_tree.specs.Stops.{Stopping, Missing, MissingAll, AtHead, Each, EachPair, StopsInCount, NoBreak, OpenItems, BehindKey, OpenPairs}
-use Rattle.cbor4ii_tree.specs.Parse.{Parser, Answer, ◌>>=◌, front_at, number_at, argument_at, trees_at, pairs_at, open_trees_at, open_pairs_at}
+use Rattle.cbor4ii_tree.specs.Parse.{Parser, Answer, ◌>>=◌, front_at, number_at, argument_of_width, trees_at, pairs_at, open_trees_at, open_pairs_at}
 use Rattle.cbor4ii_tree.specs.Binds.{err, then_err}
 use Rattle.cbor4ii_tree.specs.head_laws.Initials.{length-bytes-pos}
 use Rattle.cbor4ii_tree.specs.head_laws.Again.{argument_of}
@@ -19,8 +19,8 @@ missing_front name k bs e rest h = rw (lt-ltb (length bs) k h.0) (err _ _ _ _ h.
 pub missing_number : (name : List ℕ) (k : ℕ) (bs : List ℕ) (e : Refusal) (rest : List ℕ) → MissingAll name k bs e rest → number_at name k bs ≡ Err (e, rest)
 missing_number name k bs e rest h = rw (lt-ltb (length bs) k h.0) (err _ _ _ _ h.1)
 
-pub missing_argument : (name : List ℕ) (w : Width) (b : ℕ) (bs : List ℕ) (e : Refusal) (rest : List ℕ) → MissingAll name (byte_count w) bs e rest → argument_at name w b bs ≡ Err (e, rest)
-unfolding argument_at
+pub missing_argument : (name : List ℕ) (w : Width) (b : ℕ) (bs : List ℕ) (e : Refusal) (rest : List ℕ) → MissingAll name (byte_count w) bs e rest → argument_of_width name w b bs ≡ Err (e, rest)
+unfolding argument_of_width
 missing_argument name in_first b bs e rest h = absurd (omega (arith, h.0))
 missing_argument name one b bs e rest h = missing_number name 1 bs e rest h
 missing_argument name two b bs e rest h = missing_number name 2 bs e rest h
@@ -29,8 +29,8 @@ missing_argument name eight b bs e rest h = missing_number name 8 bs e rest h
 
 -- behind a head, whose bytes after it are no more than those before
 pub head_stops : {A : Type 0} (name : List ℕ) (major : ℕ) (w : Width) (b : ℕ) (bs : List ℕ) (f : ℕ × List ℕ → Answer A) (then : ℕ → Stopping) (e : Refusal) (rest : List ℕ)
-    → ((n : ℕ) (after : List ℕ) → length after ≤ length bs → then n after e rest → f (n, after) ≡ Err (e, rest)) → AtHead name major w b then bs e rest → (argument_at name w b bs >>= f) ≡ Err (e, rest)
-head_stops name major w b bs f then e rest k (inl s) = then_err (argument_at name w b bs) _ (e, rest) (missing_argument name w b bs e rest s)
+    → ((n : ℕ) (after : List ℕ) → length after ≤ length bs → then n after e rest → f (n, after) ≡ Err (e, rest)) → AtHead name major w b then bs e rest → (argument_of_width name w b bs >>= f) ≡ Err (e, rest)
+head_stops name major w b bs f then e rest k (inl s) = then_err (argument_of_width name w b bs) _ (e, rest) (missing_argument name w b bs e rest s)
 head_stops name major w b bs f then e rest k (inr s) =
     let same : suc (length bs) ≡ suc (length (bytes_high_first (byte_count w) s.argument ++ s.after)) = ap length s.is in
     rw (argument_of name major s.argument w b bs s.after s.fits s.is) (k s.argument s.after (omega (arith, same, length-append (bytes_high_first (byte_count w) s.argument) s.after)) s.stopped)

@@ -10,7 +10,7 @@ use Rattle.cbor4ii_tree.specs.Refusal.{sign_name, precision_name, array_name, ma
 use Rattle.cbor4ii_tree.specs.Stops.{Each}
 use Rattle.cbor4ii_tree.specs.StopsReading.{Readable, ReadableChunk}
 use Rattle.cbor4ii_tree.specs.Parse.{Parser}
-use Rattle.cbor4ii_tree.specs.Read.{chunk_at, read_by, read_from, read_within}
+use Rattle.cbor4ii_tree.specs.Read.{chunk_tree_at, read_by, read_from, read_within}
 use Rattle.cbor4ii_tree.specs.Binds.{left, step_left}
 use Rattle.cbor4ii_tree.specs.Budgets.{fits_left, fits_less, fits_two}
 use Rattle.cbor4ii_tree.specs.head_laws.Initials.{initial_int, initial_string, initial_array, initial_map, initial_tag, initial_chunks, initial_simple, initial_bits, initial_open_array, initial_open_map, begins}
@@ -53,7 +53,7 @@ from_again item n b a (chunked k ts) x l s f lt =
     let all : List ℕ = bytes_all ts ++ break ∷ x in
     let each : Each (ReadableChunk k (left b)) ts = each_chunk k ts (left b) l s.0 (chunks_fit k ts b s.0 f) in
     by_initial item (left b) _ _ _ (initial_chunks k)
-    ∙ rw (append_assoc (bytes_all ts) (break ∷ []) x, open_trees_again (chunk_at k (left b)) (ReadableChunk k (left b)) n (chunk_again k (left b) n) (chunks_start k (left b)) ts (suc (length all)) x each (omega arith) lt2) (tested_again k (joined_chunks ts) (chunked k ts) x s.1)
+    ∙ rw (append_assoc (bytes_all ts) (break ∷ []) x, open_trees_again (chunk_tree_at k (left b)) (ReadableChunk k (left b)) n (chunk_again k (left b) n) (chunks_start k (left b)) ts (suc (length all)) x each (omega arith) lt2) (tested_again k (joined_chunks ts) (chunked k ts) x s.1)
 from_again item n b a (array w ts) x l s f lt =
     let two = fits_two (greatest_cost ts) b f in
     let lt2 = behind_head (bytes_high_first (byte_count w) (count ts)) (bytes_all ts) x n lt in

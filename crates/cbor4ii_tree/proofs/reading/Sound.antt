@@ -10,8 +10,8 @@ use Rattle.cbor4ii_tree.specs.Cost.{Budget, step_in, chunks_cost}
 use Rattle.cbor4ii_tree.specs.Refusal.{sign_name, precision_name, array_name, map_name, tag_name, value_name}
 use Rattle.cbor4ii_tree.specs.Stops.{Each}
 use Rattle.cbor4ii_tree.specs.StopsReading.{Readable, ReadableChunk}
-use Rattle.cbor4ii_tree.specs.Parse.{Parser, ◌>>=◌, number_at, argument_at, trees_at, pairs_at, open_trees_at, open_pairs_at}
-use Rattle.cbor4ii_tree.specs.Read.{tested, counted_string_at, chunk_at, read_by, read_from, read_within}
+use Rattle.cbor4ii_tree.specs.Parse.{Parser, ◌>>=◌, number_at, argument_of_width, trees_at, pairs_at, open_trees_at, open_pairs_at}
+use Rattle.cbor4ii_tree.specs.Read.{tested, counted_string_at, chunk_tree_at, read_by, read_from, read_within}
 use Rattle.cbor4ii_tree.specs.Binds.{bind_ok, same_ok, no_ok, chosen, stepped_ok, step_up}
 use Rattle.cbor4ii_tree.specs.Budgets.{fits_zero, fits_less}
 use Rattle.cbor4ii_tree.proofs.heads.Inverse.{number_inverse}
@@ -38,7 +38,7 @@ chunks_up k (tree _ ts) b outer up w = absurd w.0.1
 by_sound : (item : Budget → Parser Tree) (b outer : Budget) → ((c : Budget) → IsSound (item c) (Readable c)) → ((c : ℕ) → CostFits c b → CostFits (1 + c) outer) → (i : Initial) (a : ℕ) (bs : List ℕ) (p : Tree × List ℕ) → Means a i → IsBytes bs
     → read_by item b i a bs ≡ Ok p → Took (Readable outer) (a ∷ bs) p
 by_sound item b outer s up (starts_int sg w) a bs p m h e =
-    let x = bind_ok (argument_at (sign_name sg) w a bs) (λ n. Ok (int sg n.0 w, n.1)) p e in
+    let x = bind_ok (argument_of_width (sign_name sg) w a bs) (λ n. Ok (int sg n.0 w, n.1)) p e in
     let top = argument_inverse (sign_name sg) (sign_major sg) x.0.0 w a bs x.0.1 h m x.1 in
     subst (Took (Readable outer) (a ∷ bs)) (same_ok _ (int sg x.0.0 w, x.0.1) p refl x.2) (record { whole = ((top.fits, tt), up 0 (fits_zero b)); is = top.is; more = top.more })
 by_sound item b outer s up (bad_int sg) a bs p m h e = absurd (no_ok {A = Tree} _ p e)
@@ -48,16 +48,16 @@ by_sound item b outer s up (starts_string k w) a bs p m h e =
     let test = tested_sound k x.0.0 (string k w x.0.0) x.0.1 p x.2 in
     subst (Took (Readable outer) (a ∷ bs)) test.1 (record { whole = ((took.fits, test.0), up 0 (fits_zero b)); is = took.is; more = took.more })
 by_sound item b outer s up (starts_chunks k) a bs p m h e =
-    let x = bind_ok (open_trees_at (chunk_at k b) (suc (length bs)) bs) (λ q. tested k (joined_chunks q.0) (chunked k q.0) q.1) p e in
-    let all = open_trees_sound (chunk_at k b) (ReadableChunk k b) (chunk_sound k b) (suc (length bs)) bs x.0 h x.1 in
+    let x = bind_ok (open_trees_at (chunk_tree_at k b) (suc (length bs)) bs) (λ q. tested k (joined_chunks q.0) (chunked k q.0) q.1) p e in
+    let all = open_trees_sound (chunk_tree_at k b) (ReadableChunk k b) (chunk_sound k b) (suc (length bs)) bs x.0 h x.1 in
     let test = tested_sound k (joined_chunks x.0.0) (chunked k x.0.0) x.0.1 p x.2 in
     let w = all_chunks k x.0.0 b all.whole in
     subst (Took (Readable outer) (a ∷ bs)) test.1 (record { whole = ((w.0.0, (w.0.1, test.0)), chunks_up k x.0.0 b outer up all.whole); is = ap₂ ◌∷◌ m all.is; more = all.more })
 by_sound item b outer s up (bad_string k) a bs p m h e = absurd (no_ok {A = Tree} _ p e)
 by_sound item b outer s up (starts_array w) a bs p m h e =
-    let t = stepped_ok array_name (step_in b) (a ∷ bs) (λ inner. argument_at array_name w a bs >>= λ n. trees_at (item inner) n.0 n.1 >>= λ q. Ok (array w q.0, q.1)) p e in
+    let t = stepped_ok array_name (step_in b) (a ∷ bs) (λ inner. argument_of_width array_name w a bs >>= λ n. trees_at (item inner) n.0 n.1 >>= λ q. Ok (array w q.0, q.1)) p e in
     let inner : Budget = t.0 in
-    let x = bind_ok (argument_at array_name w a bs) (λ n. trees_at (item inner) n.0 n.1 >>= λ q. Ok (array w q.0, q.1)) p t.2 in
+    let x = bind_ok (argument_of_width array_name w a bs) (λ n. trees_at (item inner) n.0 n.1 >>= λ q. Ok (array w q.0, q.1)) p t.2 in
     let y = bind_ok (trees_at (item inner) x.0.0 x.0.1) (λ q. Ok (array w q.0, q.1)) p x.2 in
     let top = argument_inverse array_name 4 x.0.0 w a bs x.0.1 h m x.1 in
     let all = trees_sound (item inner) (Readable inner) (s inner) x.0.0 x.0.1 y.0 top.more y.1 in
@@ -77,9 +77,9 @@ by_sound item b outer s up starts_open_array a bs p m h e =
 by_sound item b outer s up bad_array a bs p m h e =
     let t = stepped_ok {A = Tree} array_name (step_in b) (a ∷ bs) (λ inner. Err _) p e in absurd (no_ok {A = Tree} _ p t.2)
 by_sound item b outer s up (starts_map w) a bs p m h e =
-    let t = stepped_ok map_name (step_in b) (a ∷ bs) (λ inner. argument_at map_name w a bs >>= λ n. pairs_at (item inner) n.0 n.1 >>= λ q. Ok (map_of w q.0, q.1)) p e in
+    let t = stepped_ok map_name (step_in b) (a ∷ bs) (λ inner. argument_of_width map_name w a bs >>= λ n. pairs_at (item inner) n.0 n.1 >>= λ q. Ok (map_of w q.0, q.1)) p e in
     let inner : Budget = t.0 in
-    let x = bind_ok (argument_at map_name w a bs) (λ n. pairs_at (item inner) n.0 n.1 >>= λ q. Ok (map_of w q.0, q.1)) p t.2 in
+    let x = bind_ok (argument_of_width map_name w a bs) (λ n. pairs_at (item inner) n.0 n.1 >>= λ q. Ok (map_of w q.0, q.1)) p t.2 in
     let y = bind_ok (pairs_at (item inner) x.0.0 x.0.1) (λ q. Ok (map_of w q.0, q.1)) p x.2 in
     let top = argument_inverse map_name 5 x.0.0 w a bs x.0.1 h m x.1 in
     let all = pairs_sound (item inner) (Readable inner) (s inner) x.0.0 x.0.1 y.0 top.more y.1 in
@@ -99,7 +99,7 @@ by_sound item b outer s up starts_open_map a bs p m h e =
 by_sound item b outer s up bad_map a bs p m h e =
     let t = stepped_ok {A = Tree} map_name (step_in b) (a ∷ bs) (λ inner. Err _) p e in absurd (no_ok {A = Tree} _ p t.2)
 by_sound item b outer s up (starts_tag w) a bs p m h e =
-    let x = bind_ok (argument_at tag_name w a bs) (λ n. item b n.1 >>= λ q. Ok (tagged n.0 w q.0, q.1)) p e in
+    let x = bind_ok (argument_of_width tag_name w a bs) (λ n. item b n.1 >>= λ q. Ok (tagged n.0 w q.0, q.1)) p e in
     let y = bind_ok (item b x.0.1) (λ q. Ok (tagged x.0.0 w q.0, q.1)) p x.2 in
     let top = argument_inverse tag_name 6 x.0.0 w a bs x.0.1 h m x.1 in
     let part = s b x.0.1 y.0 top.more y.1 in

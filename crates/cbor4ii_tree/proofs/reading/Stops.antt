@@ -9,8 +9,8 @@ use Rattle.cbor4ii_tree.specs.Cost.{Budget, step_in}
 use Rattle.cbor4ii_tree.specs.Refusal.{Refusal, require_utf8, sign_name, kind_name, precision_name, array_name, map_name, tag_name, value_name}
 use Rattle.cbor4ii_tree.specs.Stops.{Stopping, Is, AtHead, BehindHead, StopsInCount, OpenItems, OpenPairs}
 use Rattle.cbor4ii_tree.specs.StopsReading.{Readable, ReadableChunk, IsNoUtf8, NoUtf8, NoUtf8Joined, ChunkStops, ReadingStopsBy, ReadingStopsFrom, ReadingStopsWithin}
-use Rattle.cbor4ii_tree.specs.Parse.{Parser, ◌>>=◌, front_at, number_at, argument_at, trees_at, pairs_at, open_trees_at, open_pairs_at}
-use Rattle.cbor4ii_tree.specs.Read.{tested, counted_string_at, chunk_at, read_by, read_from, read_within}
+use Rattle.cbor4ii_tree.specs.Parse.{Parser, ◌>>=◌, front_at, number_at, argument_of_width, trees_at, pairs_at, open_trees_at, open_pairs_at}
+use Rattle.cbor4ii_tree.specs.Read.{tested, counted_string_at, chunk_tree_at, read_by, read_from, read_within}
 use Rattle.cbor4ii_tree.specs.Binds.{err, then_err, stepped_stops}
 use Rattle.cbor4ii_tree.specs.head_laws.Again.{front_again, argument_of}
 use Rattle.cbor4ii_tree.specs.part_laws.Again.{Again, open_trees_again}
@@ -33,25 +33,25 @@ no_utf8_stops k w b bs e rest s =
     rw (argument_of (kind_name k) (kind_major k) s.argument w b bs s.after s.fits s.is, front) (tested_stops k content (string k w content) rest s.stopped.invalid ∙ ap (λ f. Err (f, rest)) (sym s.stopped.refusal))
 
 joined_stops : (k : Kind) (budget : Budget) (bs : List ℕ) (e : Refusal) (rest : List ℕ) → NoUtf8Joined k budget bs e rest
-    → (open_trees_at (chunk_at k budget) (suc (length bs)) bs >>= λ p. tested k (joined_chunks p.0) (chunked k p.0) p.1) ≡ Err (e, rest)
+    → (open_trees_at (chunk_tree_at k budget) (suc (length bs)) bs >>= λ p. tested k (joined_chunks p.0) (chunked k p.0) p.1) ≡ Err (e, rest)
 joined_stops k budget bs e rest s =
     let all : List ℕ = bytes_all s.chunks ++ break ∷ rest in
-    let again = open_trees_again (chunk_at k budget) (ReadableChunk k budget) (suc (length all)) (chunk_again k budget (suc (length all))) (chunks_start k budget) s.chunks (suc (length all)) rest s.whole (omega arith) (omega arith) in
-    let read : open_trees_at (chunk_at k budget) (suc (length bs)) bs ≡ Ok (s.chunks, rest) = ap (λ y. open_trees_at (chunk_at k budget) (suc (length y)) y) s.is ∙ again in
+    let again = open_trees_again (chunk_tree_at k budget) (ReadableChunk k budget) (suc (length all)) (chunk_again k budget (suc (length all))) (chunks_start k budget) s.chunks (suc (length all)) rest s.whole (omega arith) (omega arith) in
+    let read : open_trees_at (chunk_tree_at k budget) (suc (length bs)) bs ≡ Ok (s.chunks, rest) = ap (λ y. open_trees_at (chunk_tree_at k budget) (suc (length y)) y) s.is ∙ again in
     rw read (tested_stops k (joined_chunks s.chunks) (chunked k s.chunks) rest s.invalid ∙ ap (λ f. Err (f, rest)) (sym s.refusal))
 
 by_stops : (item : Budget → Parser Tree) (budget : Budget) (stops : Budget → Stopping) (bound : ℕ) → ((c : Budget) → Again (item c) (Readable c) bound) → ((c : Budget) → Gives (item c) (stops c) bound) → (i : Initial) (b : ℕ) (bs : List ℕ) (e : Refusal) (rest : List ℕ)
     → length bs < bound → ReadingStopsBy stops budget i b bs e rest → read_by item budget i b bs ≡ Err (e, rest)
-by_stops item budget stops bound a g (starts_int sg w) b bs e rest lt s = then_err (argument_at (sign_name sg) w b bs) _ (e, rest) (missing_argument (sign_name sg) w b bs e rest s)
+by_stops item budget stops bound a g (starts_int sg w) b bs e rest lt s = then_err (argument_of_width (sign_name sg) w b bs) _ (e, rest) (missing_argument (sign_name sg) w b bs e rest s)
 by_stops item budget stops bound a g (bad_int sg) b bs e rest lt s = err _ _ _ _ s
 by_stops item budget stops bound a g (starts_string k w) b bs e rest lt (inl s) = then_err (counted_string_at k w b bs) _ (e, rest) (string_stops k w b bs e rest s)
 by_stops item budget stops bound a g (starts_string k w) b bs e rest lt (inr s) = no_utf8_stops k w b bs e rest s
 by_stops item budget stops bound a g (starts_chunks k) b bs e rest lt (inl s) =
-    then_err (open_trees_at (chunk_at k budget) (suc (length bs)) bs) _ (e, rest) (open_trees_stop (chunk_at k budget) (ReadableChunk k budget) (ChunkStops k budget) bound (chunk_again k budget bound) (chunks_start k budget) (chunk_stops k budget bound) (suc (length bs)) bs e rest (omega arith) lt s)
+    then_err (open_trees_at (chunk_tree_at k budget) (suc (length bs)) bs) _ (e, rest) (open_trees_stop (chunk_tree_at k budget) (ReadableChunk k budget) (ChunkStops k budget) bound (chunk_again k budget bound) (chunks_start k budget) (chunk_stops k budget bound) (suc (length bs)) bs e rest (omega arith) lt s)
 by_stops item budget stops bound a g (starts_chunks k) b bs e rest lt (inr s) = joined_stops k budget bs e rest s
 by_stops item budget stops bound a g (bad_string k) b bs e rest lt s = err _ _ _ _ s
 by_stops item budget stops bound a g (starts_array w) b bs e rest lt s =
-    stepped_stops {A = Tree} array_name (step_in budget) (b ∷ bs) (λ inner. argument_at array_name w b bs >>= λ n. trees_at (item inner) n.0 n.1 >>= λ q. Ok (array w q.0, q.1)) (λ inner. AtHead array_name 4 w b (StopsInCount (Readable inner) (stops inner)) bs) e rest (λ inner is z.
+    stepped_stops {A = Tree} array_name (step_in budget) (b ∷ bs) (λ inner. argument_of_width array_name w b bs >>= λ n. trees_at (item inner) n.0 n.1 >>= λ q. Ok (array w q.0, q.1)) (λ inner. AtHead array_name 4 w b (StopsInCount (Readable inner) (stops inner)) bs) e rest (λ inner is z.
     head_stops {A = Tree} array_name 4 w b bs (λ n. trees_at (item inner) n.0 n.1 >>= λ q. Ok (array w q.0, q.1)) (StopsInCount (Readable inner) (stops inner)) e rest (λ n after le st.
     then_err {B = Tree} (trees_at (item inner) n after) _ (e, rest) (trees_stop (item inner) (Readable inner) (stops inner) bound (a inner) (g inner) n after e rest (omega arith) st)) z) s
 by_stops item budget stops bound a g starts_open_array b bs e rest lt s =
@@ -60,7 +60,7 @@ by_stops item budget stops bound a g starts_open_array b bs e rest lt s =
 by_stops item budget stops bound a g bad_array b bs e rest lt s =
     stepped_stops {A = Tree} array_name (step_in budget) (b ∷ bs) (λ inner. Err _) (λ inner. Is _ bs) e rest (λ inner is z. err {A = Tree} _ _ _ _ z) s
 by_stops item budget stops bound a g (starts_map w) b bs e rest lt s =
-    stepped_stops {A = Tree} map_name (step_in budget) (b ∷ bs) (λ inner. argument_at map_name w b bs >>= λ n. pairs_at (item inner) n.0 n.1 >>= λ q. Ok (map_of w q.0, q.1)) (λ inner. AtHead map_name 5 w b (λ n. StopsInCount (Readable inner) (stops inner) (2 * n)) bs) e rest (λ inner is z.
+    stepped_stops {A = Tree} map_name (step_in budget) (b ∷ bs) (λ inner. argument_of_width map_name w b bs >>= λ n. pairs_at (item inner) n.0 n.1 >>= λ q. Ok (map_of w q.0, q.1)) (λ inner. AtHead map_name 5 w b (λ n. StopsInCount (Readable inner) (stops inner) (2 * n)) bs) e rest (λ inner is z.
     head_stops {A = Tree} map_name 5 w b bs (λ n. pairs_at (item inner) n.0 n.1 >>= λ q. Ok (map_of w q.0, q.1)) (λ n. StopsInCount (Readable inner) (stops inner) (2 * n)) e rest (λ n after le st.
     then_err {B = Tree} (pairs_at (item inner) n after) _ (e, rest) (pairs_stop (item inner) (Readable inner) (stops inner) bound (a inner) (g inner) n after e rest (omega arith) st)) z) s
 by_stops item budget stops bound a g starts_open_map b bs e rest lt s =

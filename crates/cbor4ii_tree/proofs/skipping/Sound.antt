@@ -7,7 +7,7 @@ use Rattle.cbor4ii_items.specs.Decoding.{CostFits}
 use Rattle.cbor4ii_tree.specs.Cost.{Budget, step_in}
 use Rattle.cbor4ii_tree.specs.Refusal.{ignored_any, tag_name}
 use Rattle.cbor4ii_tree.specs.StopsSkipping.{Skippable}
-use Rattle.cbor4ii_tree.specs.Parse.{Parser, ◌>>=◌, front_at, argument_at, trees_at, pairs_at, open_trees_at, open_pairs_at}
+use Rattle.cbor4ii_tree.specs.Parse.{Parser, ◌>>=◌, front_at, argument_of_width, trees_at, pairs_at, open_trees_at, open_pairs_at}
 use Rattle.cbor4ii_tree.specs.Skip.{whole_number_at, whole_argument_at, skip_by, skip_from, skip_within}
 use Rattle.cbor4ii_tree.specs.Binds.{bind_ok, same_ok, no_ok, stepped_ok, step_up}
 use Rattle.cbor4ii_tree.specs.Budgets.{fits_zero}
@@ -26,7 +26,7 @@ by_sound item inner outer s up (starts_int sg w) b bs p m h e =
     subst (Took (Skippable outer) (b ∷ bs)) (same_ok _ (int sg x.0.0 w, x.0.1) p refl x.2) (record { whole = (top.fits, up 0 (fits_zero inner)); is = top.is; more = top.more })
 by_sound item inner outer s up (bad_int sg) b bs p m h e = absurd (no_ok {A = Tree} _ p e)
 by_sound item inner outer s up (starts_string k w) b bs p m h e =
-    let x = bind_ok (argument_at ignored_any w b bs) (λ n. front_at ignored_any n.0 n.1 >>= λ q. Ok (string k w q.0, q.1)) p e in
+    let x = bind_ok (argument_of_width ignored_any w b bs) (λ n. front_at ignored_any n.0 n.1 >>= λ q. Ok (string k w q.0, q.1)) p e in
     let y = bind_ok (front_at ignored_any x.0.0 x.0.1) (λ q. Ok (string k w q.0, q.1)) p x.2 in
     let top = argument_inverse ignored_any (kind_major k) x.0.0 w b bs x.0.1 h m x.1 in
     let part = front_inverse ignored_any x.0.0 x.0.1 y.0.0 y.0.1 top.more y.1 in
@@ -42,7 +42,7 @@ by_sound item inner outer s up (starts_chunks k) b bs p m h e =
     subst (Took (Skippable outer) (b ∷ bs)) (same_ok _ (chunked k y.0.0, y.0.1) p refl y.2) (record { whole = (w.0, up _ w.1); is = ap₂ ◌∷◌ m all.is; more = all.more })
 by_sound item inner outer s up (bad_string k) b bs p m h e = absurd (no_ok {A = Tree} _ p e)
 by_sound item inner outer s up (starts_array w) b bs p m h e =
-    let x = bind_ok (argument_at ignored_any w b bs) (λ n. trees_at item n.0 n.1 >>= λ q. Ok (array w q.0, q.1)) p e in
+    let x = bind_ok (argument_of_width ignored_any w b bs) (λ n. trees_at item n.0 n.1 >>= λ q. Ok (array w q.0, q.1)) p e in
     let y = bind_ok (trees_at item x.0.0 x.0.1) (λ q. Ok (array w q.0, q.1)) p x.2 in
     let top = argument_inverse ignored_any 4 x.0.0 w b bs x.0.1 h m x.1 in
     let all = trees_sound item (Skippable inner) s x.0.0 x.0.1 y.0 top.more y.1 in
@@ -59,7 +59,7 @@ by_sound item inner outer s up starts_open_array b bs p m h e =
     subst (Took (Skippable outer) (b ∷ bs)) (same_ok _ (array_open y.0.0, y.0.1) p refl y.2) (record { whole = (w.0, up _ w.1); is = ap₂ ◌∷◌ m all.is; more = all.more })
 by_sound item inner outer s up bad_array b bs p m h e = absurd (no_ok {A = Tree} _ p e)
 by_sound item inner outer s up (starts_map w) b bs p m h e =
-    let x = bind_ok (argument_at ignored_any w b bs) (λ n. pairs_at item n.0 n.1 >>= λ q. Ok (map_of w q.0, q.1)) p e in
+    let x = bind_ok (argument_of_width ignored_any w b bs) (λ n. pairs_at item n.0 n.1 >>= λ q. Ok (map_of w q.0, q.1)) p e in
     let y = bind_ok (pairs_at item x.0.0 x.0.1) (λ q. Ok (map_of w q.0, q.1)) p x.2 in
     let top = argument_inverse ignored_any 5 x.0.0 w b bs x.0.1 h m x.1 in
     let all = pairs_sound item (Skippable inner) s x.0.0 x.0.1 y.0 top.more y.1 in
@@ -76,7 +76,7 @@ by_sound item inner outer s up starts_open_map b bs p m h e =
     subst (Took (Skippable outer) (b ∷ bs)) (same_ok _ (map_open y.0.0, y.0.1) p refl y.2) (record { whole = (w.0, up _ w.1); is = ap₂ ◌∷◌ m all.is; more = all.more })
 by_sound item inner outer s up bad_map b bs p m h e = absurd (no_ok {A = Tree} _ p e)
 by_sound item inner outer s up (starts_tag w) b bs p m h e =
-    let x = bind_ok (argument_at tag_name w b bs) (λ n. item n.1 >>= λ q. Ok (tagged n.0 w q.0, q.1)) p e in
+    let x = bind_ok (argument_of_width tag_name w b bs) (λ n. item n.1 >>= λ q. Ok (tagged n.0 w q.0, q.1)) p e in
     let y = bind_ok (item x.0.1) (λ q. Ok (tagged x.0.0 w q.0, q.1)) p x.2 in
     let top = argument_inverse tag_name 6 x.0.0 w b bs x.0.1 h m x.1 in
     let part = s x.0.1 y.0 top.more y.1 in

@@ -1,26 +1,26 @@
 -- The initial bytes of trees.
 use Rattle.std.proofs.Common.{◌≡◌, ℕ, ◌+◌, ◌*◌, ◌<◌, ◌≤◌, List, ◌∷◌, length, refl, ap, ◌∙◌, arith}
 use Rattle.cbor4ii_items.specs.Head.{Width, HeadFits, additional, open_head}
-use Rattle.cbor4ii_items.specs.Initial.{Sign, unsigned, negative, sign_major, Kind, byte_string, text_string, kind_major, Simple, simple_false, simple_true, simple_null, simple_undefined, simple_byte, Precision, half, single, double, precision_byte, starts_int, starts_string, starts_chunks, starts_array, starts_open_array, starts_map, starts_open_map, starts_tag, starts_simple, starts_bits, initial, int_by, string_by, array_by, map_by, tag_by}
+use Rattle.cbor4ii_items.specs.Initial.{Sign, unsigned, negative, sign_major, Kind, byte_string, text_string, kind_major, Simple, simple_false, simple_true, simple_null, simple_undefined, simple_byte, Precision, half, single, double, precision_byte, starts_int, starts_string, starts_chunks, starts_array, starts_open_array, starts_map, starts_open_map, starts_tag, starts_simple, starts_bits, initial, int_by_info, string_by_info, array_by_info, map_by_info, tag_by_info}
 use Rattle.cbor4ii_tree.specs.Tree.{Tree, int, string, chunked, array, array_open, map_of, map_open, tagged, simple, bits, count, pair_count, bytes, Loose}
 use Rattle.cbor4ii_tree.specs.head_laws.Numbers.{additional-lt, info-additional, initial-head}
 
 pub initial_int : (s : Sign) (n : ℕ) (w : Width) → HeadFits w n → initial (32 * sign_major s + additional w n) ≡ starts_int s w
-initial_int unsigned n w h = initial-head 0 n w h ∙ ap (int_by unsigned) (info-additional n w h)
-initial_int negative n w h = initial-head 1 n w h ∙ ap (int_by negative) (info-additional n w h)
+initial_int unsigned n w h = initial-head 0 n w h ∙ ap (int_by_info unsigned) (info-additional n w h)
+initial_int negative n w h = initial-head 1 n w h ∙ ap (int_by_info negative) (info-additional n w h)
 
 pub initial_string : (k : Kind) (n : ℕ) (w : Width) → HeadFits w n → initial (32 * kind_major k + additional w n) ≡ starts_string k w
-initial_string byte_string n w h = initial-head 2 n w h ∙ ap (string_by byte_string) (info-additional n w h)
-initial_string text_string n w h = initial-head 3 n w h ∙ ap (string_by text_string) (info-additional n w h)
+initial_string byte_string n w h = initial-head 2 n w h ∙ ap (string_by_info byte_string) (info-additional n w h)
+initial_string text_string n w h = initial-head 3 n w h ∙ ap (string_by_info text_string) (info-additional n w h)
 
 pub initial_array : (n : ℕ) (w : Width) → HeadFits w n → initial (32 * 4 + additional w n) ≡ starts_array w
-initial_array n w h = initial-head 4 n w h ∙ ap array_by (info-additional n w h)
+initial_array n w h = initial-head 4 n w h ∙ ap array_by_info (info-additional n w h)
 
 pub initial_map : (n : ℕ) (w : Width) → HeadFits w n → initial (32 * 5 + additional w n) ≡ starts_map w
-initial_map n w h = initial-head 5 n w h ∙ ap map_by (info-additional n w h)
+initial_map n w h = initial-head 5 n w h ∙ ap map_by_info (info-additional n w h)
 
 pub initial_tag : (n : ℕ) (w : Width) → HeadFits w n → initial (32 * 6 + additional w n) ≡ starts_tag w
-initial_tag n w h = initial-head 6 n w h ∙ ap tag_by (info-additional n w h)
+initial_tag n w h = initial-head 6 n w h ∙ ap tag_by_info (info-additional n w h)
 
 pub initial_chunks : (k : Kind) → initial (open_head (kind_major k)) ≡ starts_chunks k
 unfolding initial

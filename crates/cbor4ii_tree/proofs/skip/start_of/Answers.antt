@@ -1,5 +1,5 @@
 use Rattle.std.proofs.Common.{◌≡◌, ℕ, zero, suc, ◌+◌, ◌-◌, ◌<◌, ◌≤◌, ◌/◌, ◌%◌, refl, sym, ap, ◌∙◌, subst, arith}
-use Rattle.cbor4ii_items.specs.Initial.{Info, wide, open_ended, reserved, info_of, int_by, string_by, Sign, unsigned, negative, Kind, byte_string, text_string, simple_by, by_major, initial}
+use Rattle.cbor4ii_items.specs.Initial.{Info, wide, open_ended, reserved, info_of, int_by_info, string_by_info, Sign, unsigned, negative, Kind, byte_string, text_string, simple_by_info, by_major, initial}
 use Rattle.cbor4ii_tree.specs.Skipping.{additional_of, start_of}
 use Rattle.cbor4ii_tree.specs.declared.skip.Start.TheVariants.{Bytes, Content}
 use Rattle.cbor4ii_tree.specs.declared.skip.Additional.TheVariants.{Wide}
@@ -9,12 +9,12 @@ by_parts : (b : ℕ) → initial b ≡ by_major (b / 32) (b % 32)
 unfolding initial
 by_parts b = refl
 
-int_starts : (s : Sign) (i : Info) (count : ℕ) → Wide count ≡ additional_of i → Bytes count ≡ start_of (int_by s i)
+int_starts : (s : Sign) (i : Info) (count : ℕ) → Wide count ≡ additional_of i → Bytes count ≡ start_of (int_by_info s i)
 int_starts s (wide w) count e = cc
 int_starts s open_ended count e = cc
 int_starts s reserved count e = cc
 
-string_starts : (k : Kind) (i : Info) (count : ℕ) → Wide count ≡ additional_of i → Content ≡ start_of (string_by k i)
+string_starts : (k : Kind) (i : Info) (count : ℕ) → Wide count ≡ additional_of i → Content ≡ start_of (string_by_info k i)
 string_starts k (wide w) count e = refl
 string_starts k open_ended count e = cc
 string_starts k reserved count e = cc
@@ -31,7 +31,7 @@ middle_starts (suc (suc zero)) i count le lt e = string_starts byte_string (info
 middle_starts (suc (suc (suc zero))) i count le lt e = string_starts text_string (info_of i) count e
 middle_starts (suc (suc (suc (suc major)))) i count le lt e = absurd (omega arith)
 
-top_starts : (major i : ℕ) → 7 ≤ major → by_major major i ≡ simple_by i
+top_starts : (major i : ℕ) → 7 ≤ major → by_major major i ≡ simple_by_info i
 top_starts zero i le = absurd (omega arith)
 top_starts (suc zero) i le = absurd (omega arith)
 top_starts (suc (suc zero)) i le = absurd (omega arith)
@@ -41,7 +41,7 @@ top_starts (suc (suc (suc (suc (suc zero))))) i le = absurd (omega arith)
 top_starts (suc (suc (suc (suc (suc (suc zero)))))) i le = absurd (omega arith)
 top_starts (suc (suc (suc (suc (suc (suc (suc major))))))) i le = refl
 
-simple_starts : (k : ℕ) → k < 4 → Bytes 0 ≡ start_of (simple_by (20 + k))
+simple_starts : (k : ℕ) → k < 4 → Bytes 0 ≡ start_of (simple_by_info (20 + k))
 simple_starts zero lt = refl
 simple_starts (suc zero) lt = refl
 simple_starts (suc (suc zero)) lt = refl
@@ -51,7 +51,7 @@ simple_starts (suc (suc (suc (suc k)))) lt = absurd (omega arith)
 high_starts : (major i : ℕ) → 7 ≤ major → 20 ≤ i → i < 24 → Bytes 0 ≡ start_of (by_major major i)
 high_starts major i top low lt =
     let j : 20 + (i - 20) ≡ i = omega arith in
-    subst (λ n. Bytes 0 ≡ start_of (simple_by n)) j (simple_starts (i - 20) (omega arith)) ∙ ap start_of (sym (top_starts major i top))
+    subst (λ n. Bytes 0 ≡ start_of (simple_by_info n)) j (simple_starts (i - 20) (omega arith)) ∙ ap start_of (sym (top_starts major i top))
 
 pub returns-in-Wide-info-3 : goal.returns-in-Wide-info-3
 returns-in-Wide-info-3 c = low_starts (c.args.first / 32) (c.args.first % 32) c.in-Wide-info-3.count (omega arith) c.in-Wide-info-3.ensures ∙ ap start_of (sym (by_parts c.args.first))
