@@ -1,4 +1,4 @@
--- What a call that follows a program answers.
+-- What a call that does what a program does answers.
 use Rattle.std.proofs.Common.{inl, inr, ◌≡◌, ℕ, List, drop, take, Option, None, Some, Ok, Err, Bool, true, false, refl, ap, ◌∙◌, IfSome, length, ◌+◌, ◌≤◌, arith}
 use Rattle.std.specs.Prelude.{MatchBool}
 use Rattle.cbor4ii_rw.specs.View.{View}
@@ -38,16 +38,20 @@ pub record Found {V : Type 0} (reads : Reads V) (budget : Option ℕ) (xs : List
 
 -- ---- a value
 
-pub sound_by : {V E : Type 0} {program : Reading V} {v : V} {a b : View} (reads : Reads V) → ((xs ys : List ℕ) → program xs ≡ Ok (v, ys) → Seen xs ys → Found reads a.budget xs v ys)
+pub sound_at : {V E : Type 0} {program : Reading V} {v : V} {a b : View} (reads : Reads V) → ((xs : List ℕ) (n : ℕ) → program xs ≡ Ok (v, drop n xs) → n ≤ length xs → IsBytes (take n xs) → Found reads a.budget xs v (drop n xs))
     → Runs {E = E} program a b (Ok v) → Sound reads a b v
-sound_by {b = b} reads means p = record {
+sound_at {v = v} {b = b} reads means p = record {
   at = λ xs told.
       let h = p.answers xs told in
       let t = p.moves.by.rest xs told in
       let e : h.0 ≡ drop t.0 xs = same_some _ _ b.told h.1 t.1.left in
-      let f = means xs h.0 h.2 (seen_of xs h.0 t.0 t.1.within t.1.bytes e) in
-      record { count = f.count; cost = f.cost; read = f.read; fits = f.fits; left = h.1 ∙ ap Some f.left };
+      let f = means xs t.0 (h.2 ∙ ap (λ (zs : List ℕ). Ok (v, zs)) e) t.1.within t.1.bytes in
+      record { count = f.count; cost = f.cost; read = f.read; fits = f.fits; left = t.1.left ∙ ap Some f.left };
 }
+
+pub sound_by : {V E : Type 0} {program : Reading V} {v : V} {a b : View} (reads : Reads V) → ((xs ys : List ℕ) → program xs ≡ Ok (v, ys) → Seen xs ys → Found reads a.budget xs v ys)
+    → Runs {E = E} program a b (Ok v) → Sound reads a b v
+sound_by reads means p = sound_at reads (λ xs n e within bytes. means xs (drop n xs) e (seen_of xs (drop n xs) n within bytes refl)) p
 
 -- ---- a refusal
 
@@ -68,18 +72,23 @@ kept_of : (t : Bool) (a b : View) → t ≡ false → MatchBool t (Broke a b) (K
 kept_of true a b e k = cc
 kept_of false a b e k = k
 
-stopped_by : {V E : Type 0} (program : Reading V) (e : DecodeError E) (a b : View) (stops : StopsAt) (xs : List ℕ) → a.told ≡ Some xs → ((z : Refusal) (ys : List ℕ) → program xs ≡ Err (z, ys) → Seen xs ys → stops xs a.budget z ys)
+stopped_by : {V E : Type 0} (program : Reading V) (e : DecodeError E) (a b : View) (stops : StopsAt) (xs : List ℕ) → a.told ≡ Some xs
+    → ((z : Refusal) (n : ℕ) → program xs ≡ Err (z, drop n xs) → n ≤ length xs → IsBytes (take n xs) → stops xs a.budget z (drop n xs))
     → Moves {V = V} a b (Err e) → (o : Option Refusal) → refusal_of e ≡ o → IfSome o (λ z. (ys : List ℕ) × (b.told ≡ Some ys) × (program xs ≡ Err (z, ys))) → IfSome o (λ z. (ys : List ℕ) × (b.told ≡ Some ys) × stops xs a.budget z ys)
 stopped_by program e a b stops xs told means moves None says h = tt
 stopped_by program e a b stops xs told means moves (Some z) says h =
     let k = kept_of (is_read e) a b (not_read e z says) moves.by in
     let t = k.rest xs told in
     let f : h.0 ≡ drop t.0 xs = same_some _ _ b.told h.1 t.1.left in
-    (h.0, h.1, means z h.0 h.2 (seen_of xs h.0 t.0 t.1.within t.1.bytes f))
+    (drop t.0 xs, t.1.left, means z t.0 (h.2 ∙ ap (λ (zs : List ℕ). Err (z, zs)) f) t.1.within t.1.bytes)
+
+pub stops_at : {V E : Type 0} {program : Reading V} {e : DecodeError E} {a b : View} (stops : StopsAt)
+    → ((xs : List ℕ) (z : Refusal) (n : ℕ) → program xs ≡ Err (z, drop n xs) → n ≤ length xs → IsBytes (take n xs) → stops xs a.budget z (drop n xs)) → Runs {V = V} program a b (Err e) → Stops stops a b e
+stops_at {program = program} {e = e} {a = a} {b = b} stops means p = record { at = λ xs told. stopped_by program e a b stops xs told (means xs) p.moves (refusal_of e) refl (p.answers xs told) }
 
 pub stops_by : {V E : Type 0} {program : Reading V} {e : DecodeError E} {a b : View} (stops : StopsAt) → ((xs : List ℕ) (z : Refusal) (ys : List ℕ) → program xs ≡ Err (z, ys) → Seen xs ys → stops xs a.budget z ys)
     → Runs {V = V} program a b (Err e) → Stops stops a b e
-stops_by {program = program} {e = e} {a = a} {b = b} stops means p = record { at = λ xs told. stopped_by program e a b stops xs told (means xs) p.moves (refusal_of e) refl (p.answers xs told) }
+stops_by stops means p = stops_at stops (λ xs z n e within bytes. means xs z (drop n xs) e (seen_of xs (drop n xs) n within bytes refl)) p
 
 -- ---- one type as another
 
