@@ -2,6 +2,7 @@
 //! compared.
 #![tactic(auto)]
 
+pub mod any_reader;
 pub mod readers;
 pub mod rows;
 pub mod streams;

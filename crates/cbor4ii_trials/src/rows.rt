@@ -2,6 +2,7 @@
 //!
 //! What a row finds wrong is the failure of the test that tries it, and says of which bytes. Where
 //! memory is refused, the row says nothing, and that refusal is the test's failure.
+use crate::any_reader::{AnyReader, Fault, RowReader};
 use crate::readers::{Failure, TestReader};
 use crate::streams::{FailingSink, FailingStream};
 use crate::writers::{FailingWriter, PushLengths};
@@ -61,17 +62,11 @@ impl<S: Source, A: ReadFrom<S> + Drop, B: ReadFrom<S>> ReadFrom<S> for Pair<A, B
 
 /// Reads the bytes of each row over each reader: the same answer, and the same bytes left.
 ///
-/// Each type costs the proof of a function that tries it some seconds, so rows of one type stand
+/// Each type costs the proof of a function that tries it a second or two, so rows of one type stand
 /// together.
 pub fn reads_rows<T>(alloc: Global, rows: &[Row<T>]) -> Result<(), Fail>
 where
-    T: ReadFrom<SliceReader<'static>>
-        + ReadFrom<SegmentReader<'static>>
-        + ReadFrom<TestReader<'static>>
-        + ReadFrom<IoReader<FailingStream<'static>>>
-        + PartialEq
-        + Debug
-        + Drop,
+    T: ReadFrom<RowReader> + PartialEq + Debug + Drop,
 {
     for (bytes, want, rest) in rows {
         reads_row(alloc, bytes, want, rest)?;
@@ -82,13 +77,7 @@ where
 /// As `reads_rows`, for one row.
 pub fn reads<T>(alloc: Global, bytes: &'static [u8], want: Want<T>, rest: &[u8]) -> Result<(), Fail>
 where
-    T: ReadFrom<SliceReader<'static>>
-        + ReadFrom<SegmentReader<'static>>
-        + ReadFrom<TestReader<'static>>
-        + ReadFrom<IoReader<FailingStream<'static>>>
-        + PartialEq
-        + Debug
-        + Drop,
+    T: ReadFrom<RowReader> + PartialEq + Debug + Drop,
 {
     reads_row(alloc, bytes, &want, rest)
 }
@@ -100,28 +89,17 @@ fn reads_row<T>(
     rest: &[u8],
 ) -> Result<(), Fail>
 where
-    T: ReadFrom<SliceReader<'static>>
-        + ReadFrom<SegmentReader<'static>>
-        + ReadFrom<TestReader<'static>>
-        + ReadFrom<IoReader<FailingStream<'static>>>
-        + PartialEq
-        + Debug
-        + Drop,
+    T: ReadFrom<RowReader> + PartialEq + Debug + Drop,
 {
     reads_within(alloc, bytes, STEPS, want, rest)?;
-    reads_over(alloc, &mut TestReader::unlimited(bytes), bytes, want, rest)
+    let mut unlimited = AnyReader::Test(TestReader::unlimited(bytes));
+    reads_over(alloc, &mut unlimited, bytes, want, rest)
 }
 
 /// As `reads_rows`, over each reader that counts its steps, with so many of them.
 pub fn reads_rows_within<T>(alloc: Global, rows: &[RowWithin<T>]) -> Result<(), Fail>
 where
-    T: ReadFrom<SliceReader<'static>>
-        + ReadFrom<SegmentReader<'static>>
-        + ReadFrom<TestReader<'static>>
-        + ReadFrom<IoReader<FailingStream<'static>>>
-        + PartialEq
-        + Debug
-        + Drop,
+    T: ReadFrom<RowReader> + PartialEq + Debug + Drop,
 {
     for (bytes, limit, want, rest) in rows {
         reads_within(alloc, bytes, *limit, want, rest)?;
@@ -138,13 +116,7 @@ pub fn reads_within<T>(
     rest: &[u8],
 ) -> Result<(), Fail>
 where
-    T: ReadFrom<SliceReader<'static>>
-        + ReadFrom<SegmentReader<'static>>
-        + ReadFrom<TestReader<'static>>
-        + ReadFrom<IoReader<FailingStream<'static>>>
-        + PartialEq
-        + Debug
-        + Drop,
+    T: ReadFrom<RowReader> + PartialEq + Debug + Drop,
 {
     reads_by_each(alloc, bytes, limit, want, rest)?;
     reads_in_segments(alloc, bytes, limit, want, rest)?;
@@ -161,44 +133,45 @@ pub fn reads_by_each<T>(
     rest: &[u8],
 ) -> Result<(), Fail>
 where
-    T: ReadFrom<SliceReader<'static>>
-        + ReadFrom<TestReader<'static>>
-        + ReadFrom<IoReader<FailingStream<'static>>>
-        + PartialEq
-        + Debug
-        + Drop,
+    T: ReadFrom<RowReader> + PartialEq + Debug + Drop,
 {
-    let mut slice = SliceReader::with_limit(bytes, limit);
-    reads_over(alloc, &mut slice, bytes, want, rest)?;
-    let mut long = TestReader::long(bytes, limit);
-    reads_over(alloc, &mut long, bytes, want, rest)?;
-    let mut short = TestReader::short(bytes, limit);
-    reads_over(alloc, &mut short, bytes, want, rest)?;
-    let mut whole = TestReader::whole(bytes, limit);
-    reads_over(alloc, &mut whole, bytes, want, rest)?;
-    reads_of_streams(alloc, bytes, limit, want, rest)
-}
-
-// As `reads_within`, over streams that show one byte at a time, and all that is left.
-fn reads_of_streams<T>(
-    alloc: Global,
-    bytes: &'static [u8],
-    limit: usize,
-    want: &Want<T>,
-    rest: &[u8],
-) -> Result<(), Fail>
-where
-    T: ReadFrom<IoReader<FailingStream<'static>>> + PartialEq + Debug + Drop,
-{
-    for most in [1, usize::MAX] {
-        let stream = FailingStream::new(bytes, most, usize::MAX);
-        let mut reader = IoReader::with_limit(stream, limit);
+    for mut reader in by_each(bytes, limit) {
         reads_over(alloc, &mut reader, bytes, want, rest)?;
     }
-    Ok(())
+    let mut whole = AnyReader::Test(TestReader::whole(bytes, limit));
+    reads_over(alloc, &mut whole, bytes, want, rest)
 }
 
-/// As `reads_within`, over two segments, for each place where the bytes can be cut.
+// A reader over the slice, one that lends a byte at a time, and those whose bytes do not outlive
+// the fill.
+fn by_each(bytes: &'static [u8], limit: usize) -> [RowReader; 5] {
+    let [short, by_byte, at_once] = not_lending(bytes, limit);
+    let slice = AnyReader::Slice(SliceReader::with_limit(bytes, limit));
+    let long = AnyReader::Test(TestReader::long(bytes, limit));
+    [slice, long, short, by_byte, at_once]
+}
+
+// A reader that shows a byte at a time, and streams that show one at a time and all that is left.
+fn not_lending(bytes: &'static [u8], limit: usize) -> [RowReader; 3] {
+    let short = AnyReader::Test(TestReader::short(bytes, limit));
+    [
+        short,
+        stream(bytes, 1, usize::MAX, limit),
+        stream(bytes, usize::MAX, usize::MAX, limit),
+    ]
+}
+
+// A stream that shows at most so many bytes at a time, so many times before it fails.
+fn stream(bytes: &'static [u8], most: usize, looks: usize, limit: usize) -> RowReader {
+    let stream = FailingStream::new(bytes, most, looks);
+    AnyReader::Stream(IoReader::with_limit(stream, limit))
+}
+
+fn in_segments(segments: &'static [&'static [u8]], limit: usize) -> RowReader {
+    AnyReader::Segments(SegmentReader::with_limit(segments, limit))
+}
+
+// As `reads_within`, over two segments, for each place where the bytes can be cut.
 fn reads_in_segments<T>(
     alloc: Global,
     bytes: &'static [u8],
@@ -207,7 +180,7 @@ fn reads_in_segments<T>(
     rest: &[u8],
 ) -> Result<(), Fail>
 where
-    T: ReadFrom<SegmentReader<'static>> + PartialEq + Debug + Drop,
+    T: ReadFrom<RowReader> + PartialEq + Debug + Drop,
 {
     let mut cuts: Vec<[&'static [u8]; 2]> = Vec::with_capacity(alloc, bytes.len())?;
     for place in 1..bytes.len() {
@@ -215,8 +188,7 @@ where
     }
     let cuts: &'static [[&'static [u8]; 2]] = cuts.leak();
     for segments in cuts {
-        let mut reader = SegmentReader::with_limit(segments, limit);
-        reads_over(alloc, &mut reader, bytes, want, rest)?;
+        reads_over(alloc, &mut in_segments(segments, limit), bytes, want, rest)?;
     }
     Ok(())
 }
@@ -224,7 +196,7 @@ where
 /// As `reads_rows`, for borrowed values over each reader that lends whole.
 pub fn lends_rows<T>(alloc: Global, rows: &[Row<T>]) -> Result<(), Fail>
 where
-    T: ReadFrom<SliceReader<'static>> + ReadFrom<TestReader<'static>> + PartialEq + Debug + Drop,
+    T: ReadFrom<RowReader> + PartialEq + Debug + Drop,
 {
     for (bytes, want, rest) in rows {
         lends_row(alloc, bytes, want, rest)?;
@@ -235,7 +207,7 @@ where
 /// As `lends_rows`, for one row.
 pub fn lends<T>(alloc: Global, bytes: &'static [u8], want: Want<T>, rest: &[u8]) -> Result<(), Fail>
 where
-    T: ReadFrom<SliceReader<'static>> + ReadFrom<TestReader<'static>> + PartialEq + Debug + Drop,
+    T: ReadFrom<RowReader> + PartialEq + Debug + Drop,
 {
     lends_row(alloc, bytes, &want, rest)
 }
@@ -247,18 +219,18 @@ fn lends_row<T>(
     rest: &[u8],
 ) -> Result<(), Fail>
 where
-    T: ReadFrom<SliceReader<'static>> + ReadFrom<TestReader<'static>> + PartialEq + Debug + Drop,
+    T: ReadFrom<RowReader> + PartialEq + Debug + Drop,
 {
-    reads_over(alloc, &mut SliceReader::new(bytes), bytes, want, rest)?;
-    reads_over(alloc, &mut TestReader::unlimited(bytes), bytes, want, rest)?;
-    reads_over(
-        alloc,
-        &mut TestReader::whole(bytes, STEPS),
-        bytes,
-        want,
-        rest,
-    )?;
-    fails_at_each_show::<T>(alloc, bytes, STEPS)
+    let lending: [RowReader; 3] = [
+        AnyReader::Slice(SliceReader::new(bytes)),
+        AnyReader::Test(TestReader::unlimited(bytes)),
+        AnyReader::Test(TestReader::whole(bytes, STEPS)),
+    ];
+    for mut reader in lending {
+        reads_over(alloc, &mut reader, bytes, want, rest)?;
+    }
+    fails_at_each_show::<T>(alloc, bytes, STEPS)?;
+    fails_at_each_look::<T>(alloc, bytes, STEPS)
 }
 
 /// As `reads`, for a borrowed value over each reader whose bytes do not outlive the fill.
@@ -269,15 +241,12 @@ pub fn lends_short<T>(
     rest: &[u8],
 ) -> Result<(), Fail>
 where
-    T: ReadFrom<TestReader<'static>>
-        + ReadFrom<IoReader<FailingStream<'static>>>
-        + PartialEq
-        + Debug
-        + Drop,
+    T: ReadFrom<RowReader> + PartialEq + Debug + Drop,
 {
-    let mut short = TestReader::short(bytes, STEPS);
-    reads_over(alloc, &mut short, bytes, &want, rest)?;
-    reads_of_streams(alloc, bytes, STEPS, &want, rest)
+    for mut reader in not_lending(bytes, STEPS) {
+        reads_over(alloc, &mut reader, bytes, &want, rest)?;
+    }
+    Ok(())
 }
 
 /// Reads over this reader, which holds `bytes`: the answer, the bytes left, and the steps as
@@ -306,29 +275,20 @@ where
 /// and does not fail: nothing is left, and the steps are as before.
 pub fn ends_at_each_front<T>(alloc: Global, item: &'static [u8], limit: usize) -> Result<(), Fail>
 where
-    T: ReadFrom<SliceReader<'static>>
-        + ReadFrom<TestReader<'static>>
-        + ReadFrom<IoReader<FailingStream<'static>>>
-        + PartialEq
-        + Debug
-        + Drop,
+    T: ReadFrom<RowReader> + Debug + Drop,
 {
     for shown in 0..item.len() {
         let front = &item[..shown];
-        ends::<T, _>(alloc, &mut SliceReader::with_limit(front, limit), front)?;
-        ends::<T, _>(alloc, &mut TestReader::long(front, limit), front)?;
-        ends::<T, _>(alloc, &mut TestReader::short(front, limit), front)?;
-        for most in [1, usize::MAX] {
-            let stream = FailingStream::new(front, most, usize::MAX);
-            ends::<T, _>(alloc, &mut IoReader::with_limit(stream, limit), front)?;
+        for mut reader in by_each(front, limit) {
+            ends::<T>(alloc, &mut reader, front)?;
         }
     }
     Ok(())
 }
 
-fn ends<T: ReadFrom<S> + Debug + Drop, S: Source>(
+fn ends<T: ReadFrom<RowReader> + Debug + Drop>(
     alloc: Global,
-    reader: &mut S,
+    reader: &mut RowReader,
     front: &[u8],
 ) -> Result<(), Fail> {
     let budget = steps(reader);
@@ -400,7 +360,7 @@ pub fn steps<S: Source>(reader: &mut S) -> u16 {
 }
 
 // Readers that fail at the first show, at the second, and so on until none is left to fail.
-fn fails_at_each_show<T: ReadFrom<TestReader<'static>> + Debug + Drop>(
+fn fails_at_each_show<T: ReadFrom<RowReader> + Debug + Drop>(
     alloc: Global,
     bytes: &'static [u8],
     limit: usize,
@@ -421,25 +381,31 @@ fn fails_at_each_show<T: ReadFrom<TestReader<'static>> + Debug + Drop>(
 
 // Whether the reader failed. Then the answer is its error. An end of the bytes is left, and the
 // budget is as before.
-fn fails<T: ReadFrom<TestReader<'static>> + Debug + Drop>(
+fn fails<T: ReadFrom<RowReader> + Debug + Drop>(
     alloc: Global,
-    mut reader: TestReader<'static>,
+    reader: TestReader<'static>,
     bytes: &[u8],
 ) -> Result<bool, Fail> {
     let limit = reader.steps();
+    let mut reader = AnyReader::Test(reader);
     let got = T::read_from(alloc, &mut reader);
-    let is_read = matches!(got, Err(DecodeError::Read(Failure)));
-    if is_read == (reader.failures() == 1)
-        && reader.steps() == limit
-        && bytes.ends_with(reader.remaining())
-    {
+    let is_read = matches!(got, Err(DecodeError::Read(Fault::Told(Failure))));
+    let is_kept = match &reader {
+        AnyReader::Test(reader) => {
+            is_read == (reader.failures() == 1)
+                && reader.steps() == limit
+                && bytes.ends_with(reader.remaining())
+        }
+        _ => false,
+    };
+    if is_kept {
         return Ok(is_read);
     }
     Err(Fail::new(format_args!("{got:?} where a show fails, of {bytes:?}")))
 }
 
 // A stream that fails at the first look, at the second, and so on until none is left to fail.
-fn fails_at_each_look<T: ReadFrom<IoReader<FailingStream<'static>>> + Debug + Drop>(
+fn fails_at_each_look<T: ReadFrom<RowReader> + Debug + Drop>(
     alloc: Global,
     bytes: &'static [u8],
     limit: usize,
@@ -454,21 +420,27 @@ fn fails_at_each_look<T: ReadFrom<IoReader<FailingStream<'static>>> + Debug + Dr
 
 // Whether the stream failed. Then the answer is its error. The budget is as before, and the reader
 // over it takes of the stream what it took, and no byte more.
-fn fails_at_look<T: ReadFrom<IoReader<FailingStream<'static>>> + Debug + Drop>(
+fn fails_at_look<T: ReadFrom<RowReader> + Debug + Drop>(
     alloc: Global,
     bytes: &'static [u8],
     limit: usize,
     looks: usize,
 ) -> Result<bool, Fail> {
-    let mut reader = IoReader::with_limit(FailingStream::new(bytes, 2, looks), limit);
+    let mut reader = stream(bytes, 2, looks, limit);
     let budget = steps(&mut reader);
     let got = T::read_from(alloc, &mut reader);
-    let is_read = matches!(&got, Err(DecodeError::Read(error)) if error.kind() == ErrorKind::Other);
+    let is_read = matches!(
+        &got,
+        Err(DecodeError::Read(Fault::Stream(error))) if error.kind() == ErrorKind::Other
+    );
     let is_kept = steps(&mut reader) == budget;
-    let taken = reader.taken() as usize;
-    let stream = reader.into_inner();
-    if is_kept && is_read == stream.has_failed() && bytes.get(taken..) == Some(stream.remaining()) {
-        return Ok(is_read);
+    if let AnyReader::Stream(reader) = reader {
+        let taken = reader.taken() as usize;
+        let stream = reader.into_inner();
+        let is_left = bytes.get(taken..) == Some(stream.remaining());
+        if is_kept && is_left && is_read == stream.has_failed() {
+            return Ok(is_read);
+        }
     }
     Err(Fail::new(format_args!("{got:?} where look {looks} fails, of {bytes:?}")))
 }
@@ -567,14 +539,7 @@ pub fn goes_both_ways<T>(
     pushes: usize,
 ) -> Result<(), Fail>
 where
-    T: WriteTo
-        + ReadFrom<SliceReader<'static>>
-        + ReadFrom<SegmentReader<'static>>
-        + ReadFrom<TestReader<'static>>
-        + ReadFrom<IoReader<FailingStream<'static>>>
-        + PartialEq
-        + Debug
-        + Drop,
+    T: WriteTo + ReadFrom<RowReader> + PartialEq + Debug + Drop,
 {
     writes_in(alloc, &value, bytes, pushes)?;
     reads(alloc, bytes, Ok(value), b"")
