@@ -17,7 +17,7 @@ use cbor4ii_rw::read::Source;
 use cbor4ii_rw::segment_reader::SegmentReader;
 use cbor4ii_rw::slice_reader::SliceReader;
 use cbor4ii_rw::write::Write;
-use std::alloc::Global;
+use std::alloc::{AllocError, Global};
 use std::fmt::{Debug, InlineText};
 use std::io::ErrorKind;
 use std::test::Fail;
@@ -171,6 +171,15 @@ fn in_segments(segments: &'static [&'static [u8]], limit: usize) -> RowReader {
     AnyReader::Segments(SegmentReader::with_limit(segments, limit))
 }
 
+// The bytes in two segments, for each place where they can be cut. They stay for good.
+fn cuts(alloc: Global, bytes: &'static [u8]) -> Result<&'static [[&'static [u8]; 2]], AllocError> {
+    let mut cuts: Vec<[&'static [u8]; 2]> = Vec::with_capacity(alloc, bytes.len())?;
+    for place in 1..bytes.len() {
+        cuts.push([&bytes[..place], &bytes[place..]])?;
+    }
+    Ok(cuts.leak())
+}
+
 // As `reads_within`, over two segments, for each place where the bytes can be cut.
 fn reads_in_segments<T>(
     alloc: Global,
@@ -182,13 +191,41 @@ fn reads_in_segments<T>(
 where
     T: ReadFrom<RowReader> + PartialEq + Debug + Drop,
 {
-    let mut cuts: Vec<[&'static [u8]; 2]> = Vec::with_capacity(alloc, bytes.len())?;
-    for place in 1..bytes.len() {
-        cuts.push([&bytes[..place], &bytes[place..]])?;
-    }
-    let cuts: &'static [[&'static [u8]; 2]] = cuts.leak();
-    for segments in cuts {
+    for segments in cuts(alloc, bytes)? {
         reads_over(alloc, &mut in_segments(segments, limit), bytes, want, rest)?;
+    }
+    Ok(())
+}
+
+/// As `lends`, for a string with so many bytes before its content, over two segments, for each
+/// place where the bytes can be cut. The refusals are those of a content that is cut behind its
+/// first byte, its second and so on, which is left; elsewhere it stands in one segment.
+pub fn lends_in_segments<T>(
+    alloc: Global,
+    bytes: &'static [u8],
+    want: Want<T>,
+    rest: &[u8],
+    head: usize,
+    refusals: &[&'static str],
+) -> Result<(), Fail>
+where
+    T: ReadFrom<RowReader> + PartialEq + Debug + Drop,
+{
+    let content = bytes.get(head..).ok_or("no content")?;
+    for (cut, segments) in cuts(alloc, bytes)?.iter().enumerate() {
+        let mut reader = in_segments(segments, STEPS);
+        // The first segment has one byte more than its place among the cuts.
+        let refusal = match cut.checked_sub(head) {
+            Some(place) => refusals.get(place),
+            None => None,
+        };
+        match refusal {
+            Some(refusal) => {
+                let refused: Want<T> = Err(*refusal);
+                reads_over(alloc, &mut reader, bytes, &refused, content)?;
+            }
+            None => reads_over(alloc, &mut reader, bytes, &want, rest)?,
+        }
     }
     Ok(())
 }
