@@ -2,7 +2,8 @@
 use cbor4ii_items::types::{Bytes, Map, Maybe, Tag, UncheckedStr};
 use cbor4ii_trials::readers::TestReader;
 use cbor4ii_trials::rows::{
-    Row, Want, lends, lends_rows, lends_short, reads, reads_over, reads_rows, reads_within,
+    Row, Want, lends, lends_in_segments, lends_rows, lends_short, reads, reads_over, reads_rows,
+    reads_within,
 };
 use std::test::Fail;
 
@@ -93,6 +94,26 @@ fn borrowed_byte_by_byte(rt: HostRuntime) -> Result<(), Fail> {
         &Err("RequireLength { name: \"bytes\", found: Small(1) }"),
         b"\x01\x02",
     )
+}
+
+const CUT_TEXTS: &[&str] = &[
+    ONE,
+    "RequireLength { name: \"str\", found: Small(2) }",
+    "RequireLength { name: \"str\", found: Small(3) }",
+];
+
+const CUT_BYTES: &[&str] = &["RequireLength { name: \"bytes\", found: Small(1) }"];
+
+// A string is lent where its content stands in one segment.
+#[test]
+fn borrowed_in_two_segments(rt: HostRuntime) -> Result<(), Fail> {
+    let alloc = rt.alloc();
+    let text = b"\x64IETF\x01";
+    lends_in_segments(alloc, text, Ok("IETF"), b"\x01", 1, CUT_TEXTS)?;
+    let unchecked = Ok(UncheckedStr(b"IETF".as_slice()));
+    lends_in_segments(alloc, b"\x78\x04IETF", unchecked, b"", 2, CUT_TEXTS)?;
+    let bytes = Ok(Bytes(b"\x01\x02".as_slice()));
+    lends_in_segments(alloc, b"\x42\x01\x02\x03", bytes, b"\x03", 1, CUT_BYTES)
 }
 
 const SHORT: &str = "RequireBorrowed { name: \"str\" }";

@@ -224,3 +224,13 @@ fn refused(rt: HostRuntime) -> Result<(), Fail> {
     }
     Ok(())
 }
+
+// Cut at each place, and with each fault: the same content, borrowed or owned.
+#[test]
+fn texts_over_each_reader(rt: HostRuntime) -> Result<(), Fail> {
+    let alloc = rt.alloc();
+    for bytes in [b"\x62aa".as_slice(), b"\x7f\x61a\x61a\xff"] {
+        reads::<CowStr<'static, Global>>(alloc, bytes, Ok(CowStr::Borrowed("aa")), b"")?;
+    }
+    Ok(())
+}
