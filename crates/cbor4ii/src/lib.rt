@@ -6,8 +6,6 @@ pub mod dec;
 pub mod enc;
 pub mod error;
 pub mod serde;
-#[cfg(test)]
-mod tests;
 pub mod utils;
 
 pub use cbor4ii_items::{major, marker, types};

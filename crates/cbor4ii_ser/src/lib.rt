@@ -19,8 +19,6 @@ mod maps;
 mod sequences;
 pub mod serialize;
 pub mod serializer;
-#[cfg(test)]
-mod tests;
 pub mod text;
 mod tuples;
 mod value;

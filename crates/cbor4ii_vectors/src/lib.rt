@@ -18,9 +18,6 @@ mod encodings;
 #[cfg(test)]
 mod error_texts;
 #[cfg(test)]
-mod event_rows;
-pub mod events;
-#[cfg(test)]
 mod flags_and_laws;
 #[cfg(test)]
 mod following;

@@ -1,7 +1,7 @@
 use Rattle.std.proofs.Common.{◌≡◌, ◌+◌, ◌≤◌}
 use Rattle.cbor4ii_items.specs.Moves.{Kept}
 use Rattle.cbor4ii.specs.Accessing.{fuel, steps_held}
-use Rattle.cbor4ii.proofs.tests.records.+read_nest.Given as goal
+use Rattle.cbor4ii_records.proofs.nest.+read_nest.Given as goal
 
 abbrev pub decreases-read_nest : goal.decreases-read_nest
 decreases-read_nest g l = (g.S.Source.view l.de.now.reader).bound

@@ -1,9 +1,9 @@
 //! What is named by the paths of the Rust crate.
-use crate::dec::{Decode, IgnoredAny, canonical_head, high, if_major, low};
-use crate::enc::Encode;
-use crate::serde::{from_slice, to_vec};
-use crate::utils::{BufWriter, IoReader, SliceReader};
-use crate::{Canonical, Value, major};
+use cbor4ii::dec::{Decode, IgnoredAny, canonical_head, high, if_major, low};
+use cbor4ii::enc::Encode;
+use cbor4ii::serde::{from_slice, to_vec};
+use cbor4ii::utils::{BufWriter, IoReader, SliceReader};
+use cbor4ii::{Canonical, Value, major};
 use std::test::Fail;
 
 #[test]

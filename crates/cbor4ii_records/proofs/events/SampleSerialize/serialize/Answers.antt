@@ -1,6 +1,6 @@
 use Rattle.std.proofs.Common.{rules}
 use Rattle.cbor4ii_ser.specs.Laws.Joining.{serializes_then, serializes_out, serializes_at}
-use Rattle.cbor4ii_vectors.proofs.events.SampleSerialize.serialize.Goals as goal
+use Rattle.cbor4ii_records.proofs.events.SampleSerialize.serialize.Goals as goal
 
 pub returns-in_err-fields : goal.returns-in_err-fields
 returns-in_err-fields g c = serializes_out _ c.from_residual.ensures.1 (rw c.in_err-fields.was at c.serialize_struct.follows.holds-at-none)

@@ -1,9 +1,7 @@
 //! Texts in pieces.
 ghost use Rattle.std.specs.Prelude.{◌∷◌, [], codes, true};
 
-use crate::error::EncodeError;
-use crate::serializer::Serializer;
-use crate::text::{Text, TextFault, TextWriter};
+use cbor4ii::serde::{EncodeError, Serializer, Text, TextFault, TextWriter};
 use cbor4ii_rw::buf_writer::BufWriter;
 use cbor4ii_rw::error::TryReserveError;
 use cbor4ii_rw::write::Write;
@@ -38,7 +36,7 @@ fn writes_text<T: Text>(
 }
 
 /// So many letters.
-pub(super) fn letters(alloc: Global, count: usize) -> Result<String, Fail> {
+pub fn letters(alloc: Global, count: usize) -> Result<String, Fail> {
     let mut text = String::new(alloc);
     for _ in 0..count {
         text.push_str("a")?;

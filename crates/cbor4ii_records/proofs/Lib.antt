@@ -1,0 +1,2 @@
+-- What a variant leaves that was read.
+pub mod Variants

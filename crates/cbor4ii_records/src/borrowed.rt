@@ -1,0 +1,305 @@
+//! Rows of strings that are borrowed where the reader lends them.
+use cbor4ii::serde::{DecodeError, Deserialize, Deserializer};
+use cbor4ii::types::Bytes;
+use cbor4ii_rw::error as core_error;
+use cbor4ii_rw::error::Never;
+use cbor4ii_rw::io_reader::IoReader;
+use cbor4ii_rw::read::Source;
+use cbor4ii_rw::segment_reader::SegmentReader;
+use cbor4ii_rw::slice_reader::SliceReader;
+use cbor4ii_trials::rows::{leaves, steps};
+use cbor4ii_trials::streams::FailingStream;
+use std::alloc::Global;
+use std::borrow::{CowSlice, CowStr};
+use std::fmt::InlineText;
+use std::io::{self, ErrorKind};
+use std::test::Fail;
+
+/// How a string is read.
+#[derive(Clone, Copy, PartialEq)]
+enum Kind {
+    Text,
+    TextByName,
+    Identifier,
+    BorrowedText,
+    Bytes,
+    BytesByName,
+    BorrowedBytes,
+}
+
+const TEXTS: [Kind; 4] = [
+    Kind::Text,
+    Kind::TextByName,
+    Kind::Identifier,
+    Kind::BorrowedText,
+];
+
+const BYTE_STRINGS: [Kind; 3] = [Kind::Bytes, Kind::BytesByName, Kind::BorrowedBytes];
+
+/// A reader by whose name strings are read that may be borrowed.
+trait Strings: Source {
+    /// The content, borrowed or owned.
+    fn string(
+        kind: Kind,
+        alloc: Global,
+        de: &mut Deserializer<Self>,
+    ) -> Result<CowSlice<'static, u8, Global>, DecodeError<Self::Error>>;
+}
+
+fn content(text: CowStr<'static, Global>) -> CowSlice<'static, u8, Global> {
+    match text {
+        CowStr::Borrowed(text) => CowSlice::Borrowed(text.as_bytes()),
+        CowStr::Owned(text) => CowSlice::Owned(text.into_bytes()),
+    }
+}
+
+impl Strings for SliceReader<'static> {
+    fn string(
+        kind: Kind,
+        alloc: Global,
+        de: &mut Deserializer<SliceReader<'static>>,
+    ) -> Result<CowSlice<'static, u8, Global>, DecodeError<Never>> {
+        match kind {
+            Kind::Text => Ok(content(CowStr::deserialize(alloc, de)?)),
+            Kind::TextByName => Ok(content(de.deserialize_str(alloc)?)),
+            Kind::Identifier => Ok(content(de.deserialize_identifier(alloc)?)),
+            Kind::BorrowedText => {
+                let text = <&'static str>::deserialize(alloc, de)?;
+                Ok(CowSlice::Borrowed(text.as_bytes()))
+            }
+            Kind::Bytes => Ok(<Bytes<CowSlice<'static, u8, Global>>>::deserialize(alloc, de)?.0),
+            Kind::BytesByName => de.deserialize_bytes(alloc),
+            Kind::BorrowedBytes => {
+                let bytes = <Bytes<&'static [u8]>>::deserialize(alloc, de)?;
+                Ok(CowSlice::Borrowed(bytes.0))
+            }
+        }
+    }
+}
+
+impl Strings for SegmentReader<'static> {
+    fn string(
+        kind: Kind,
+        alloc: Global,
+        de: &mut Deserializer<SegmentReader<'static>>,
+    ) -> Result<CowSlice<'static, u8, Global>, DecodeError<Never>> {
+        match kind {
+            Kind::Text => Ok(content(CowStr::deserialize(alloc, de)?)),
+            Kind::TextByName => Ok(content(de.deserialize_str(alloc)?)),
+            Kind::Identifier => Ok(content(de.deserialize_identifier(alloc)?)),
+            Kind::BorrowedText => {
+                let text = <&'static str>::deserialize(alloc, de)?;
+                Ok(CowSlice::Borrowed(text.as_bytes()))
+            }
+            Kind::Bytes => Ok(<Bytes<CowSlice<'static, u8, Global>>>::deserialize(alloc, de)?.0),
+            Kind::BytesByName => de.deserialize_bytes(alloc),
+            Kind::BorrowedBytes => {
+                let bytes = <Bytes<&'static [u8]>>::deserialize(alloc, de)?;
+                Ok(CowSlice::Borrowed(bytes.0))
+            }
+        }
+    }
+}
+
+impl Strings for IoReader<FailingStream<'static>> {
+    fn string(
+        kind: Kind,
+        alloc: Global,
+        de: &mut Deserializer<IoReader<FailingStream<'static>>>,
+    ) -> Result<CowSlice<'static, u8, Global>, DecodeError<io::Error>> {
+        match kind {
+            Kind::Text => Ok(content(CowStr::deserialize(alloc, de)?)),
+            Kind::TextByName => Ok(content(de.deserialize_str(alloc)?)),
+            Kind::Identifier => Ok(content(de.deserialize_identifier(alloc)?)),
+            Kind::BorrowedText => {
+                let text = <&'static str>::deserialize(alloc, de)?;
+                Ok(CowSlice::Borrowed(text.as_bytes()))
+            }
+            Kind::Bytes => Ok(<Bytes<CowSlice<'static, u8, Global>>>::deserialize(alloc, de)?.0),
+            Kind::BytesByName => de.deserialize_bytes(alloc),
+            Kind::BorrowedBytes => {
+                let bytes = <Bytes<&'static [u8]>>::deserialize(alloc, de)?;
+                Ok(CowSlice::Borrowed(bytes.0))
+            }
+        }
+    }
+}
+
+/// What a string is read as: its content, and whether it is borrowed, or the text of the refusal.
+type Want = Result<(&'static [u8], bool), &'static str>;
+
+/// What a type that is always borrowed is read as.
+fn borrowed_alone(kind: Kind, want: Want) -> Want {
+    match (kind, want) {
+        (Kind::BorrowedText, Ok((_, false))) => Err("Core(RequireBorrowed { name: \"str\" })"),
+        (Kind::BorrowedBytes, Ok((_, false))) => Err("Core(RequireBorrowed { name: \"bytes\" })"),
+        _ => want,
+    }
+}
+
+/// The answer over this reader, the bytes that are left, and the steps as before.
+fn reads<S: Strings + Drop>(
+    kind: Kind,
+    alloc: Global,
+    mut reader: S,
+    bytes: &[u8],
+    want: Want,
+    rest: &[u8],
+) -> Result<(), Fail> {
+    let budget = steps(&mut reader);
+    let mut de = Deserializer::new(reader);
+    let got = S::string(kind, alloc, &mut de);
+    let mut reader = de.into_inner();
+    let want = borrowed_alone(kind, want);
+    let is_wanted = match &got {
+        Ok(CowSlice::Borrowed(found)) => want == Ok((*found, true)),
+        Ok(CowSlice::Owned(found)) => want == Ok((found.as_slice(), false)),
+        Err(DecodeError::Core(core_error::DecodeError::OutOfMemory)) => {
+            return Err(Fail::from(core_error::DecodeError::<Never>::OutOfMemory));
+        }
+        Err(error) => want == Err(InlineText::<128>::of(error).as_str()),
+    };
+    if is_wanted && steps(&mut reader) == budget {
+        return leaves(&mut reader, bytes, rest);
+    }
+    Err(Fail::new(format_args!("not {want:?} of {bytes:?}")))
+}
+
+/// A string whose content is all but the first byte and the rest: over a slice, over segments that
+/// cut it at each place, and out of streams.
+fn reads_counted(
+    kind: Kind,
+    alloc: Global,
+    bytes: &'static [u8],
+    content: &'static [u8],
+    rest: &'static [u8],
+) -> Result<(), Fail> {
+    reads(
+        kind,
+        alloc,
+        SliceReader::new(bytes),
+        bytes,
+        Ok((content, true)),
+        rest,
+    )?;
+    for cut in 1..bytes.len() {
+        let parts = vec![in alloc; &bytes[..cut], &bytes[cut..]]?.leak();
+        let is_borrowed = cut <= 1 || cut > content.len();
+        let reader = SegmentReader::new(parts);
+        reads(kind, alloc, reader, bytes, Ok((content, is_borrowed)), rest)?;
+    }
+    reads_of_streams(kind, alloc, bytes, Ok((content, false)), rest)
+}
+
+/// A string that no reader lends, or that is refused: over the same readers, one answer.
+fn reads_alike(
+    kind: Kind,
+    alloc: Global,
+    bytes: &'static [u8],
+    want: Want,
+    rest: &'static [u8],
+) -> Result<(), Fail> {
+    reads(kind, alloc, SliceReader::new(bytes), bytes, want, rest)?;
+    for cut in 1..bytes.len() {
+        let parts = vec![in alloc; &bytes[..cut], &bytes[cut..]]?.leak();
+        reads(kind, alloc, SegmentReader::new(parts), bytes, want, rest)?;
+    }
+    reads_of_streams(kind, alloc, bytes, want, rest)
+}
+
+/// Out of streams that show a byte at a time, and all that is left, and of one that fails at one
+/// look or another, which is the answer then.
+fn reads_of_streams(
+    kind: Kind,
+    alloc: Global,
+    bytes: &'static [u8],
+    want: Want,
+    rest: &'static [u8],
+) -> Result<(), Fail> {
+    for most in [1, usize::MAX] {
+        let stream = FailingStream::new(bytes, most, usize::MAX);
+        reads(kind, alloc, IoReader::new(stream), bytes, want, rest)?;
+    }
+    for looks in 0..64 {
+        let stream = FailingStream::new(bytes, 1, looks);
+        let mut de = Deserializer::new(IoReader::new(stream));
+        let got = <IoReader<FailingStream<'static>>>::string(kind, alloc, &mut de);
+        let is_fault = matches!(
+            &got,
+            Err(DecodeError::Core(core_error::DecodeError::Read(error)))
+                if error.kind() == ErrorKind::Other
+        );
+        if is_fault != de.into_inner().into_inner().has_failed() {
+            return Err(Fail::new(format_args!("not a fault at look {looks} of {bytes:?}")));
+        }
+        if !is_fault {
+            return Ok(());
+        }
+    }
+    Err(Fail::new(format_args!("too many looks of {bytes:?}")))
+}
+
+#[test]
+fn texts(rt: HostRuntime) -> Result<(), Fail> {
+    let alloc = rt.alloc();
+    for kind in TEXTS {
+        reads_counted(kind, alloc, b"\x64IETF\x01", b"IETF", b"\x01")?;
+        reads_counted(kind, alloc, b"\x62\xc3\xbc", b"\xc3\xbc", b"")?;
+        reads_alike(
+            kind,
+            alloc,
+            b"\x7f\x61a\x61b\xff\x01",
+            Ok((b"ab", false)),
+            b"\x01",
+        )?;
+        let number = "Core(Mismatch { name: \"str\", found: 65 })";
+        reads_alike(kind, alloc, b"\x41\x41", Err(number), b"\x41")?;
+        let utf8 = "Core(RequireUtf8 { name: \"str\" })";
+        reads_alike(kind, alloc, b"\x62\xff\xff\x01", Err(utf8), b"\x01")?;
+        let no_step = "Core(DepthOverflow { name: \"str\" })";
+        let reader = SliceReader::with_limit(b"\x7f\x61a\xff", 0);
+        reads(
+            kind,
+            alloc,
+            reader,
+            b"\x7f\x61a\xff",
+            Err(no_step),
+            b"\x61a\xff",
+        )?;
+    }
+    Ok(())
+}
+
+#[test]
+fn byte_strings(rt: HostRuntime) -> Result<(), Fail> {
+    let alloc = rt.alloc();
+    for kind in BYTE_STRINGS {
+        reads_counted(
+            kind,
+            alloc,
+            b"\x44\x01\x02\x03\x04\xff",
+            b"\x01\x02\x03\x04",
+            b"\xff",
+        )?;
+        reads_alike(
+            kind,
+            alloc,
+            b"\x5f\x41\x01\x41\x02\xff",
+            Ok((b"\x01\x02", false)),
+            b"",
+        )?;
+        let text = "Core(Mismatch { name: \"bytes\", found: 97 })";
+        reads_alike(kind, alloc, b"\x61\x61a", Err(text), b"\x61a")?;
+        let no_step = "Core(DepthOverflow { name: \"bytes\" })";
+        let reader = SliceReader::with_limit(b"\x5f\x41a\xff", 0);
+        reads(
+            kind,
+            alloc,
+            reader,
+            b"\x5f\x41a\xff",
+            Err(no_step),
+            b"\x41a\xff",
+        )?;
+    }
+    Ok(())
+}

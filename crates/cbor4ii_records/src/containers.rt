@@ -1,0 +1,270 @@
+//! Rows of typed values that hold others: options, boxes, tuples, vectors and maps.
+use crate::typed::Answer::{self, Is};
+use crate::typed::{Both, tries};
+use cbor4ii_trials::rows::{Row, RowWithin};
+use std::alloc::{AllocError, Global};
+use std::collections::BTreeMap;
+use std::test::Fail;
+
+const OPTIONS: &[Both<Option<u8>>] = &[(b"\xf6", Ok(Is(None))), (b"\x0a", Ok(Is(Some(10))))];
+
+const OPTIONS_READ: &[Row<Answer<Option<u8>>>] = &[
+    (b"\xf7\x00", Ok(Is(None)), b"\x00"),
+    (b"", Err("Eof { name: \"option\", expect: Small(1) }"), b""),
+    (
+        b"\x20\x06",
+        Err("Mismatch { name: \"u8\", found: 32 }"),
+        b"\x06",
+    ),
+];
+
+const OPTIONS_WITHIN: &[RowWithin<Answer<Option<u8>>>] = &[
+    (b"\xf6", 0, Ok(Is(None)), b""),
+    (b"\xf7\x00", 0, Ok(Is(None)), b"\x00"),
+    (
+        b"\x05",
+        0,
+        Err("DepthOverflow { name: \"option\" }"),
+        b"\x05",
+    ),
+    (b"\x05", 1, Ok(Is(Some(5))), b""),
+];
+
+const OPTIONAL_UNITS: &[Both<Option<()>>] = &[(b"\x80", Ok(Is(Some(()))))];
+
+#[test]
+fn options_and_boxes(rt: HostRuntime) -> Result<(), Fail> {
+    let alloc = rt.alloc();
+    tries(alloc, OPTIONS, OPTIONS_READ, OPTIONS_WITHIN)?;
+    tries(alloc, OPTIONAL_UNITS, &[], &[])?;
+    tries(
+        alloc,
+        &[(b"\x0a", Ok(Is(Box::new(alloc, 10u32)?)))],
+        &[(
+            b"\x20\x06",
+            Err("Mismatch { name: \"u32\", found: 32 }"),
+            b"\x06",
+        )],
+        &[(b"\x05\x06", 0, Ok(Is(Box::new(alloc, 5u32)?)), b"\x06")],
+    )
+}
+
+const PAIRS: &[Both<(u8, u8)>] = &[(b"\x82\x01\x02", Ok(Is((1, 2))))];
+
+const PAIRS_READ: &[Row<Answer<(u8, u8)>>] = &[
+    (
+        b"\x83\x01\x02\x03",
+        Err("RequireLength { name: \"tuple\", found: Small(3) }"),
+        b"\x01\x02\x03",
+    ),
+    (
+        b"\x9f\x01\x02\xff",
+        Err("RequireLength { name: \"tuple\", found: Indefinite }"),
+        b"\x01\x02\xff",
+    ),
+    (
+        b"\x82\x01\x61",
+        Err("Mismatch { name: \"u8\", found: 97 }"),
+        b"",
+    ),
+    (
+        b"\xa1\x01",
+        Err("Mismatch { name: \"array\", found: 161 }"),
+        b"\x01",
+    ),
+    (
+        b"\x99\x00",
+        Err("Eof { name: \"array\", expect: Small(2) }"),
+        b"",
+    ),
+];
+
+const PAIRS_WITHIN: &[RowWithin<Answer<(u8, u8)>>] = &[
+    (
+        b"\x82\x01\x02",
+        0,
+        Err("DepthOverflow { name: \"tuple\" }"),
+        b"\x82\x01\x02",
+    ),
+    (b"\x82\x01\x02", 1, Ok(Is((1, 2))), b""),
+];
+
+const TRIPLES: &[Both<(u8, bool, i8)>] = &[(b"\x83\x01\xf5\x20", Ok(Is((1, true, -1))))];
+
+const TRIPLES_READ: &[Row<Answer<(u8, bool, i8)>>] = &[
+    (
+        b"\x82\x01\xf5",
+        Err("RequireLength { name: \"tuple\", found: Small(2) }"),
+        b"\x01\xf5",
+    ),
+    (
+        b"\x83\x01\x02\x03",
+        Err("Mismatch { name: \"bool\", found: 2 }"),
+        b"\x02\x03",
+    ),
+];
+
+const TRIPLES_WITHIN: &[RowWithin<Answer<(u8, bool, i8)>>] = &[(
+    b"\x83\x01\xf5\x20",
+    0,
+    Err("DepthOverflow { name: \"tuple\" }"),
+    b"\x83\x01\xf5\x20",
+)];
+
+#[test]
+fn pairs_and_triples(rt: HostRuntime) -> Result<(), Fail> {
+    let alloc = rt.alloc();
+    tries(alloc, PAIRS, PAIRS_READ, PAIRS_WITHIN)?;
+    tries(alloc, TRIPLES, TRIPLES_READ, TRIPLES_WITHIN)
+}
+
+#[test]
+fn vectors(rt: HostRuntime) -> Result<(), Fail> {
+    let alloc = rt.alloc();
+    tries(
+        alloc,
+        &[
+            (b"\x80", Ok(Is(Vec::new(alloc)))),
+            (b"\x83\x01\x02\x03", Ok(Is([1u8, 2, 3].to_vec(alloc)?))),
+        ],
+        &[
+            (
+                b"\x9f\x01",
+                Err("Eof { name: \"break\", expect: Small(1) }"),
+                b"",
+            ),
+            (
+                b"\xa1\x01",
+                Err("Mismatch { name: \"array\", found: 161 }"),
+                b"\x01",
+            ),
+            (
+                b"\x83\x01\x20\x03",
+                Err("Mismatch { name: \"u8\", found: 32 }"),
+                b"\x03",
+            ),
+            (
+                b"\x9b\xff\xff\xff\xff\xff\xff\xff\xff\x01",
+                Err("Eof { name: \"u8\", expect: Small(1) }"),
+                b"",
+            ),
+        ],
+        &[
+            (
+                b"\x9f\x01\x02\xff\x03",
+                1,
+                Ok(Is([1u8, 2].to_vec(alloc)?)),
+                b"\x03",
+            ),
+            (b"\x9f\xff", 1, Ok(Is(Vec::new(alloc))), b""),
+            (
+                b"\x81\x05",
+                0,
+                Err("DepthOverflow { name: \"seq\" }"),
+                b"\x81\x05",
+            ),
+            (b"\x81\x05", 1, Ok(Is([5u8].to_vec(alloc)?)), b""),
+        ],
+    )
+}
+
+#[test]
+fn vectors_of_other_values(rt: HostRuntime) -> Result<(), Fail> {
+    let alloc = rt.alloc();
+    let options = [Some(0x99u32), None, Some(0x33)].to_vec(alloc)?;
+    let pairs = [(10u128, 99999i128)].to_vec(alloc)?;
+    let option = r#"DepthOverflow { name: "option" }"#;
+    tries(
+        alloc,
+        &[(b"\x83\x18\x99\xf6\x18\x33", Ok(Is(options)))],
+        &[],
+        &[(b"\x81\x05", 1, Err(option), b"\x05")],
+    )?;
+    tries(
+        alloc,
+        &[(b"\x81\x82\x0a\x1a\x00\x01\x86\x9f", Ok(Is(Some(pairs))))],
+        &[],
+        &[],
+    )
+}
+
+fn map(alloc: Global, entries: &[(u8, u8)]) -> Result<BTreeMap<u8, u8>, AllocError> {
+    let mut map = BTreeMap::new(alloc);
+    for &(key, value) in entries {
+        map.insert(key, value)?;
+    }
+    Ok(map)
+}
+
+#[test]
+fn maps(rt: HostRuntime) -> Result<(), Fail> {
+    let alloc = rt.alloc();
+    tries(
+        alloc,
+        &[
+            (b"\xa0", Ok(Is(BTreeMap::new(alloc)))),
+            (
+                b"\xa2\x01\x02\x03\x04",
+                Ok(Is(map(alloc, &[(3, 4), (1, 2)])?)),
+            ),
+        ],
+        &[
+            (
+                b"\xbf\x01\x02",
+                Err("Eof { name: \"break\", expect: Small(1) }"),
+                b"",
+            ),
+            (
+                b"\x80\x01",
+                Err("Mismatch { name: \"map\", found: 128 }"),
+                b"\x01",
+            ),
+            (
+                b"\xa1\x61\x02",
+                Err("Mismatch { name: \"u8\", found: 97 }"),
+                b"\x02",
+            ),
+            (
+                b"\xbf\x01\xff",
+                Err("Mismatch { name: \"u8\", found: 255 }"),
+                b"",
+            ),
+        ],
+        &[
+            // Of equal keys the last value stays.
+            (
+                b"\xa2\x01\x02\x01\x03",
+                1,
+                Ok(Is(map(alloc, &[(1, 3)])?)),
+                b"",
+            ),
+            (
+                b"\xbf\x01\x02\x01\x03\xff\x00",
+                1,
+                Ok(Is(map(alloc, &[(1, 3)])?)),
+                b"\x00",
+            ),
+            (
+                b"\xa1\x01\x02",
+                0,
+                Err("DepthOverflow { name: \"map\" }"),
+                b"\xa1\x01\x02",
+            ),
+        ],
+    )
+}
+
+#[test]
+fn maps_of_texts_to_arrays(rt: HostRuntime) -> Result<(), Fail> {
+    let alloc = rt.alloc();
+    let texts = vec![in alloc;
+        String::from_str(alloc, "obj3")?,
+        String::from_str(alloc, "obj4")?,
+        String::new(alloc),
+    ]?;
+    let mut map = BTreeMap::new(alloc);
+    map.insert(String::from_str(alloc, "obj2")?, texts)?;
+    map.insert(String::from_str(alloc, "obj")?, Vec::new(alloc))?;
+    let bytes = b"\xa2\x63obj\x80\x64obj2\x83\x64obj3\x64obj4\x60";
+    tries(alloc, &[(bytes, Ok(Is(map)))], &[], &[])
+}

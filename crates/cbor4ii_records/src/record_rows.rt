@@ -1,0 +1,427 @@
+//! Rows of a struct and of enums of a user's own, and of structs that are read in one call.
+ghost use Rattle.std.specs.Prelude.{◌∷◌, [], codes};
+ghost use Rattle.cbor4ii_ser.specs.Item.{field, struct_item, variant_item};
+ghost use Rattle.cbor4ii_records.specs.declared.record_rows.Letters.TheVariants.{A};
+
+use crate::records::{Enum, Point, read_enum};
+use crate::typed::Answer::{self, Custom, Is};
+use crate::typed::{Take, reads_all, tries};
+use cbor4ii::serde::{
+    DecodeError, Deserializer, EncodeError, Serialize, Serializer, from_reader, from_slice, to_vec,
+    to_writer,
+};
+use cbor4ii::types::F64;
+use cbor4ii_rw::read::Source;
+use cbor4ii_rw::write::Write;
+use cbor4ii_trials::rows::{Row, reads};
+use std::alloc::{AllocError, Global};
+use std::test::Fail;
+
+fn point(alloc: Global, y: Option<i32>) -> Result<Point, AllocError> {
+    let name = String::from_str(alloc, "a")?;
+    Ok(Point { x: 5, name, y })
+}
+
+// The README's example, there and back.
+#[test]
+fn a_struct_is_written_and_read_back(rt: HostRuntime) -> Result<(), Fail> {
+    let alloc = rt.alloc();
+    let point = point(alloc, Some(-1))?;
+    let bytes = to_vec(Vec::new(alloc), &point)?;
+    assert_eq!(rt;
+        bytes.as_slice(),
+        b"\xa3\x61x\x05\x64name\x61a\x61y\x20".as_slice()
+    );
+    let back: Point = from_slice(alloc, bytes.as_slice())?;
+    assert_eq!(rt; back, point);
+    let back: Point = from_reader(alloc, bytes.as_slice())?;
+    assert_eq!(rt; back, point);
+    Ok(())
+}
+
+const POINTS_REFUSED: &[(&[u8], &str, &[u8])] = &[
+    (
+        b"\xa1\x61x\x20\x01",
+        "Mismatch { name: \"u32\", found: 32 }",
+        b"\x01",
+    ),
+    (
+        b"\xa1\x01\x02",
+        "Mismatch { name: \"str\", found: 1 }",
+        b"\x02",
+    ),
+    (
+        b"\xa1\x61z",
+        "Eof { name: \"ignored-any\", expect: Small(1) }",
+        b"",
+    ),
+    (
+        b"\xbf\x61x\x05",
+        "Eof { name: \"break\", expect: Small(1) }",
+        b"",
+    ),
+    (
+        b"\x83\x05",
+        "Mismatch { name: \"map\", found: 131 }",
+        b"\x05",
+    ),
+];
+
+#[test]
+fn structs(rt: HostRuntime) -> Result<(), Fail> {
+    let alloc = rt.alloc();
+    tries(
+        alloc,
+        &[
+            (
+                b"\xa3\x61x\x05\x64name\x61a\x61y\xf6",
+                Ok(Is(point(alloc, None)?)),
+            ),
+            (
+                b"\xa3\x61x\x05\x64name\x61a\x61y\x20",
+                Ok(Is(point(alloc, Some(-1))?)),
+            ),
+        ],
+        &[
+            (
+                b"\xbf\x61y\x20\x64name\x61a\x61x\x05\xff\x00",
+                Ok(Is(point(alloc, Some(-1))?)),
+                b"\x00",
+            ),
+            (
+                b"\xa4\x61z\x81\x82\x01\x02\x61y\x20\x61x\x05\x64name\x61a",
+                Ok(Is(point(alloc, Some(-1))?)),
+                b"",
+            ),
+            (
+                b"\xa4\x61x\x04\x61y\x20\x61x\x05\x64name\x61a\xff",
+                Ok(Is(point(alloc, Some(-1))?)),
+                b"\xff",
+            ),
+            (
+                b"\xa2\x61x\x05\x61y\xf6",
+                Ok(Custom("a field is missing")),
+                b"",
+            ),
+        ],
+        &[
+            (b"\xa0", 0, Err("DepthOverflow { name: \"map\" }"), b"\xa0"),
+            (
+                b"\xa1\x61y\x05",
+                1,
+                Err("DepthOverflow { name: \"option\" }"),
+                b"\x05",
+            ),
+        ],
+    )?;
+    for &(bytes, refusal, rest) in POINTS_REFUSED {
+        reads::<Answer<Point>>(alloc, bytes, Err(refusal), rest)?;
+    }
+    Ok(())
+}
+
+impl<S: Source> Take<S> for Enum {
+    fn take(alloc: Global, de: &mut Deserializer<S>) -> Result<Enum, DecodeError<S::Error>> {
+        read_enum(alloc, de)
+    }
+}
+
+#[test]
+fn variants(rt: HostRuntime) -> Result<(), Fail> {
+    let alloc = rt.alloc();
+    let text = String::from_str(alloc, "123")?;
+    tries(
+        alloc,
+        &[
+            (b"\x64Unit", Ok(Is(Enum::Unit))),
+            (b"\xa1\x67NewType\x19\x09\x99", Ok(Is(Enum::NewType(0x999)))),
+            (
+                b"\xa1\x65Tuple\x82\x63123\xf4",
+                Ok(Is(Enum::Tuple(text, false))),
+            ),
+            (
+                b"\xa1\x66Struct\xa2\x61x\x18\x99\x61y\x38\x98",
+                Ok(Is(Enum::Struct { x: 0x99, y: -0x99 })),
+            ),
+        ],
+        &[
+            (b"\x64Unit\x00", Ok(Is(Enum::Unit)), b"\x00"),
+            (b"\x65Other", Ok(Custom("another variant")), b""),
+            (
+                b"\x66Struct\xa0",
+                Err("Mismatch { name: \"enum\", found: 102 }"),
+                b"\xa0",
+            ),
+            (
+                b"\xa1\x66Struct\xa1\x61x\x01",
+                Ok(Custom("a field is missing")),
+                b"",
+            ),
+            (
+                b"\xa1\x64Unit\x01",
+                Err("Mismatch { name: \"enum\", found: 161 }"),
+                b"\x01",
+            ),
+        ],
+        &[(
+            b"\x64Unit",
+            0,
+            Err("DepthOverflow { name: \"enum\" }"),
+            b"\x64Unit",
+        )],
+    )
+}
+
+/// An enum of one variant, which holds a text.
+#[derive(Debug, PartialEq, Drop)]
+enum Letters {
+    A(String),
+}
+
+impl Serialize for Letters {
+    ghost item = { λ l. elim l [
+      | A s ↦ variant_item (codes "A") (⟦<String as Serialize>⟧.item s)
+    ] };
+
+    fn serialize<W: Write>(&self, ser: &mut Serializer<W>) -> Result<(), EncodeError<W::Error>> {
+        let Letters::A(text) = self;
+        ser.serialize_newtype_variant("Letters", 0, "A", text)
+    }
+}
+
+impl<S: Source> Take<S> for Letters {
+    fn take(alloc: Global, de: &mut Deserializer<S>) -> Result<Letters, DecodeError<S::Error>> {
+        let mut variant = de.deserialize_enum("Letters", &["A"])?;
+        let name: String = variant.variant(alloc)?;
+        match name.as_str() {
+            "A" => Ok(Letters::A(variant.newtype_variant(alloc)?)),
+            _ => Err(DecodeError::Custom("another variant")),
+        }
+    }
+}
+
+#[test]
+fn an_empty_text_in_a_variant(rt: HostRuntime) -> Result<(), Fail> {
+    let alloc = rt.alloc();
+    let mut room = [0u8; 4];
+    let empty = Letters::A(String::new(alloc));
+    assert!(rt; to_writer(room.as_mut_slice(), &empty).is_ok());
+    assert_eq!(rt; room, *b"\xa1\x61A\x60");
+    tries(alloc, &[(b"\xa1\x61A\x60", Ok(Is(empty)))], &[], &[])
+}
+
+/// A struct of four fields, one of which is a struct itself.
+#[derive(Debug, PartialEq, Drop)]
+struct Whole {
+    a: u8,
+    b: Option<u8>,
+    c: Vec<u8>,
+    d: Point,
+}
+
+impl Serialize for Whole {
+    ghost item = { λ w. struct_item (field (codes "a") (⟦<u8 as Serialize>⟧.item w.a)
+        ∷ field (codes "b") (⟦<Option<u8> as Serialize>⟧.item w.b)
+        ∷ field (codes "c") (⟦<Vec<u8> as Serialize>⟧.item w.c)
+        ∷ field (codes "d") (⟦<Point as Serialize>⟧.item w.d) ∷ []) };
+
+    fn serialize<W: Write>(&self, ser: &mut Serializer<W>) -> Result<(), EncodeError<W::Error>> {
+        ser.serialize_4_fields(
+            "Whole",
+            ("a", &self.a),
+            ("b", &self.b),
+            ("c", &self.c),
+            ("d", &self.d),
+        )
+    }
+}
+
+const MISSING: &str = "a field is missing";
+
+impl<S: Source> Take<S> for Whole {
+    fn take(alloc: Global, de: &mut Deserializer<S>) -> Result<Whole, DecodeError<S::Error>> {
+        match de.deserialize_4_fields(alloc, "Whole", "a", "b", "c", "d")? {
+            (Some(a), Some(b), Some(c), Some(d)) => Ok(Whole { a, b, c, d }),
+            _ => Err(DecodeError::Custom(MISSING)),
+        }
+    }
+}
+
+/// The same struct, by a type that does not know c.
+#[derive(Debug, PartialEq, Drop)]
+struct WithoutC(u8, Option<u8>, Point);
+
+impl<S: Source> Take<S> for WithoutC {
+    fn take(alloc: Global, de: &mut Deserializer<S>) -> Result<WithoutC, DecodeError<S::Error>> {
+        match de.deserialize_3_fields(alloc, "Whole", "a", "b", "d")? {
+            (Some(a), Some(b), Some(d)) => Ok(WithoutC(a, b, d)),
+            _ => Err(DecodeError::Custom(MISSING)),
+        }
+    }
+}
+
+/// The same struct, by a type that does not know d, and knows e, which may be missing.
+#[derive(Debug, PartialEq, Drop)]
+struct WithoutD(u8, Vec<u8>, Option<u8>);
+
+impl<S: Source> Take<S> for WithoutD {
+    fn take(alloc: Global, de: &mut Deserializer<S>) -> Result<WithoutD, DecodeError<S::Error>> {
+        match de.deserialize_3_fields(alloc, "Whole", "a", "c", "e")? {
+            (Some(a), Some(c), e) => Ok(WithoutD(a, c, e)),
+            _ => Err(DecodeError::Custom(MISSING)),
+        }
+    }
+}
+
+const WHOLE: &[u8] = b"\xa4\x61a\x01\x61b\x02\x61c\x82\x03\x04\x61d\
+\xa3\x61x\x05\x64name\x61a\x61y\xf6";
+
+#[test]
+fn fields_that_a_type_does_not_know(rt: HostRuntime) -> Result<(), Fail> {
+    let alloc = rt.alloc();
+    let whole = Whole {
+        a: 1,
+        b: Some(2),
+        c: [3u8, 4].to_vec(alloc)?,
+        d: point(alloc, None)?,
+    };
+    tries(
+        alloc,
+        &[(WHOLE, Ok(Is(whole)))],
+        &[(b"\xa1\x61a\x01", Ok(Custom(MISSING)), b"")],
+        &[],
+    )?;
+    let without = WithoutC(1, Some(2), point(alloc, None)?);
+    reads_all(alloc, &[(WHOLE, Ok(Is(without)), b"")], &[])?;
+    let without = WithoutD(1, [3u8, 4].to_vec(alloc)?, None);
+    reads_all(alloc, &[(WHOLE, Ok(Is(without)), b"")], &[])
+}
+
+/// A struct of a float and a flag.
+#[derive(Debug, PartialEq, Drop)]
+struct Measured(F64, bool);
+
+impl<S: Source> Take<S> for Measured {
+    fn take(alloc: Global, de: &mut Deserializer<S>) -> Result<Measured, DecodeError<S::Error>> {
+        match de.deserialize_2_fields(alloc, "Measured", "b", "c")? {
+            (Some(b), Some(c)) => Ok(Measured(b, c)),
+            _ => Err(DecodeError::Custom(MISSING)),
+        }
+    }
+}
+
+const MEASURED: &[Row<Answer<Measured>>] = &[(
+    b"\xa3\x61a\x61x\x61b\xfb\x3f\xf1\x99\x99\x99\x99\x99\x9a\x61c\xf5",
+    Ok(Is(Measured(F64(0x3ff1_9999_9999_999a), true))),
+    b"",
+)];
+
+#[test]
+fn the_first_field_is_not_known(rt: HostRuntime) -> Result<(), Fail> {
+    reads_all(rt.alloc(), MEASURED, &[])
+}
+
+/// A struct of which one field is known.
+#[derive(Debug, PartialEq, Drop)]
+struct One(Option<u8>);
+
+impl<S: Source> Take<S> for One {
+    fn take(alloc: Global, de: &mut Deserializer<S>) -> Result<One, DecodeError<S::Error>> {
+        Ok(One(de.deserialize_1_field(alloc, "One", "y")?))
+    }
+}
+
+const ONES: &[Row<Answer<One>>] = &[
+    (
+        b"\xbf\x61x\x9f\x01\xff\x61y\x02\xff",
+        Ok(Is(One(Some(2)))),
+        b"",
+    ),
+    (b"\xa0", Ok(Is(One(None))), b""),
+];
+
+/// A struct of two fields.
+#[derive(Debug, PartialEq, Drop)]
+struct Two(Option<u8>, Option<u8>);
+
+impl<S: Source> Take<S> for Two {
+    fn take(alloc: Global, de: &mut Deserializer<S>) -> Result<Two, DecodeError<S::Error>> {
+        let (b, f) = de.deserialize_2_fields(alloc, "Two", "b", "f")?;
+        Ok(Two(b, f))
+    }
+}
+
+/// A struct of four fields, of which no g comes.
+#[derive(Debug, PartialEq, Drop)]
+struct Four(Option<u8>, Option<u8>, Option<u8>, Option<u8>);
+
+impl<S: Source> Take<S> for Four {
+    fn take(alloc: Global, de: &mut Deserializer<S>) -> Result<Four, DecodeError<S::Error>> {
+        let (d, a, c, g) = de.deserialize_4_fields(alloc, "Four", "d", "a", "c", "g")?;
+        Ok(Four(d, a, c, g))
+    }
+}
+
+/// A struct of five fields.
+#[derive(Debug, PartialEq, Drop)]
+struct Five(Option<u8>, Option<u8>, Option<u8>, Option<u8>, Option<u8>);
+
+impl<S: Source> Take<S> for Five {
+    fn take(alloc: Global, de: &mut Deserializer<S>) -> Result<Five, DecodeError<S::Error>> {
+        let (e, d, c, b, a) = de.deserialize_5_fields(alloc, "Five", "e", "d", "c", "b", "a")?;
+        Ok(Five(e, d, c, b, a))
+    }
+}
+
+/// A struct of six fields.
+#[derive(Debug, PartialEq, Drop)]
+struct Six(
+    Option<u8>,
+    Option<u8>,
+    Option<u8>,
+    Option<u8>,
+    Option<u8>,
+    Option<u8>,
+);
+
+impl<S: Source> Take<S> for Six {
+    fn take(alloc: Global, de: &mut Deserializer<S>) -> Result<Six, DecodeError<S::Error>> {
+        let (a, b, c, d, e, f) = de.deserialize_6_fields(
+            alloc, "Six", "a", "b", "c", "d", "e", "f",
+        )?;
+        Ok(Six(a, b, c, d, e, f))
+    }
+}
+
+// The fields f, a, c, e, b and d, each the number of its letter.
+const LETTERS: &[u8] = b"\xa6\x61f\x06\x61a\x01\x61c\x03\x61e\x05\x61b\x02\x61d\x04";
+
+const TWOS: &[Row<Answer<Two>>] = &[(LETTERS, Ok(Is(Two(Some(2), Some(6)))), b"")];
+
+const FOURS: &[Row<Answer<Four>>] = &[(
+    LETTERS,
+    Ok(Is(Four(Some(4), Some(1), Some(3), None))),
+    b"",
+)];
+
+const FIVES: &[Row<Answer<Five>>] = &[(
+    LETTERS,
+    Ok(Is(Five(Some(5), Some(4), Some(3), Some(2), Some(1)))),
+    b"",
+)];
+
+const SIXES: &[Row<Answer<Six>>] = &[(
+    LETTERS,
+    Ok(Is(Six(Some(1), Some(2), Some(3), Some(4), Some(5), Some(6)))),
+    b"",
+)];
+
+#[test]
+fn structs_of_so_many_fields(rt: HostRuntime) -> Result<(), Fail> {
+    let alloc = rt.alloc();
+    reads_all(alloc, ONES, &[])?;
+    reads_all(alloc, TWOS, &[])?;
+    reads_all(alloc, FOURS, &[])?;
+    reads_all(alloc, FIVES, &[])?;
+    reads_all(alloc, SIXES, &[])
+}

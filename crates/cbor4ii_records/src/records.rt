@@ -1,0 +1,152 @@
+//! A user's own types, written and read: a struct with an optional field and an enum with variants
+//! of each kind.
+ghost use Rattle.std.specs.Prelude.{◌∷◌, [], Some, codes, true, false};
+ghost use Rattle.cbor4ii_items.specs.Strings.{counted_string};
+ghost use Rattle.cbor4ii_ser.specs.Item.{
+  field,
+  struct_item,
+  tuple_variant_item,
+  variant_item,
+};
+ghost use Rattle.cbor4ii.specs.Typed.{any_two, not_exact, unsaid};
+ghost use Rattle.cbor4ii_records.specs.declared.records.Enum.TheVariants.{
+  Unit,
+  NewType,
+  Tuple,
+  Struct,
+};
+
+use cbor4ii::serde::{
+    DecodeError, Deserialize, Deserializer, EncodeError, Serialize, Serializer, Typed,
+};
+use cbor4ii_rw::read::Source;
+use cbor4ii_rw::write::Write;
+use std::alloc::Global;
+
+/// A struct with an optional field.
+#[derive(Debug, PartialEq, Drop)]
+pub struct Point {
+    pub x: u32,
+    pub name: String,
+    pub y: Option<i32>,
+}
+
+impl Serialize for Point {
+    ghost item = { λ p. struct_item (field (codes "x") (⟦<u32 as Serialize>⟧.item p.x)
+        ∷ field (codes "name") (⟦<String as Serialize>⟧.item p.name)
+        ∷ field (codes "y") (⟦<Option<i32> as Serialize>⟧.item p.y) ∷ []) };
+
+    fn serialize<W: Write>(&self, ser: &mut Serializer<W>) -> Result<(), EncodeError<W::Error>> {
+        ser.serialize_3_fields(
+            "Point",
+            ("x", &self.x),
+            ("name", &self.name),
+            ("y", &self.y),
+        )
+    }
+}
+
+impl Typed for Point {
+    ghost reads = { unsaid };
+
+    ghost same = { any_two };
+
+    ghost never_empty = { true };
+
+    ghost owned = { true };
+
+    ghost takes_memory = { true };
+
+    ghost exact = { false };
+
+    fn is_never_empty() -> bool {
+        true
+    }
+
+    fn is_owned() -> bool {
+        true
+    }
+
+    ghost laws = { not_exact };
+}
+
+impl<S: Source> Deserialize<S> for Point {
+    fn deserialize(
+        alloc: Global,
+        de: &mut Deserializer<S>,
+    ) -> Result<Point, DecodeError<S::Error>> {
+        match de.deserialize_3_fields(alloc, "Point", "x", "name", "y") {
+            Ok((x, name, y)) => match (x, name, y) {
+                (Some(x), Some(name), Some(y)) => Ok(Point { x, name, y }),
+                _ => Err(DecodeError::Custom("a field is missing")),
+            },
+            Err(error) => Err(error),
+        }
+    }
+}
+
+/// An enum with variants of each kind.
+#[derive(Debug, PartialEq, Drop)]
+pub enum Enum {
+    Unit,
+    NewType(u32),
+    Tuple(String, bool),
+    Struct { x: u32, y: i32 },
+}
+
+impl Serialize for Enum {
+    ghost item = { λ e. elim e [
+      | Unit ↦ Some (counted_string 3 (codes "Unit"))
+      | NewType n ↦ variant_item (codes "NewType") (⟦<u32 as Serialize>⟧.item n)
+      | Tuple s b ↦ tuple_variant_item (codes "Tuple") (⟦<String as Serialize>⟧.item s
+          ∷ ⟦<bool as Serialize>⟧.item b ∷ [])
+      | Struct x y ↦ variant_item (codes "Struct") (struct_item (
+          field (codes "x") (⟦<u32 as Serialize>⟧.item x)
+          ∷ field (codes "y") (⟦<i32 as Serialize>⟧.item y) ∷ []))
+    ] };
+
+    fn serialize<W: Write>(&self, ser: &mut Serializer<W>) -> Result<(), EncodeError<W::Error>> {
+        match self {
+            Enum::Unit => ser.serialize_unit_variant("Enum", 0, "Unit"),
+            Enum::NewType(n) => ser.serialize_newtype_variant("Enum", 1, "NewType", n),
+            Enum::Tuple(s, b) => ser.serialize_variant_of_2_items("Enum", 2, "Tuple", s, b),
+            Enum::Struct { x, y } => {
+                ser.serialize_variant_of_2_fields("Enum", 3, "Struct", ("x", x), ("y", y))
+            }
+        }
+    }
+}
+
+/// Reads a variant. Nothing is promised of it.
+pub fn read_enum<S: Source>(
+    alloc: Global,
+    de: &mut Deserializer<S>,
+) -> Result<Enum, DecodeError<S::Error>> {
+    let names = ["Unit", "NewType", "Tuple", "Struct"];
+    let mut variant = de.deserialize_enum("Enum", &names)?;
+    let name: String = variant.variant(alloc)?;
+    match name.as_str() {
+        "Unit" => {
+            variant.unit_variant()?;
+            Ok(Enum::Unit)
+        }
+        "NewType" => Ok(Enum::NewType(variant.newtype_variant(alloc)?)),
+        "Tuple" => {
+            let mut items = variant.tuple_variant(2)?;
+            let text = items.next_element(alloc)?;
+            let flag = items.next_element(alloc)?;
+            match (text, flag) {
+                (Some(text), Some(flag)) => Ok(Enum::Tuple(text, flag)),
+                _ => Err(DecodeError::Custom("an item is missing")),
+            }
+        }
+        "Struct" => match variant
+            .content()?
+            .deserialize_2_fields(alloc, "Struct", "x", "y")?
+        {
+            (Some(x), Some(y)) => Ok(Enum::Struct { x, y }),
+            _ => Err(DecodeError::Custom("a field is missing")),
+        },
+        _ => Err(DecodeError::Custom("another variant")),
+    }
+}

@@ -1,0 +1,116 @@
+//! Typed values as rows: read over each reader for tests, and written into each writer for tests.
+use cbor4ii::serde::{
+    DecodeError, Deserialize, Deserializer, EncodeError, Serialize, Serializer, Typed,
+};
+use cbor4ii_rw::error as core_error;
+use cbor4ii_rw::error::StaticStr;
+use cbor4ii_rw::read::Source;
+use cbor4ii_rw::slice_reader::SliceReader;
+use cbor4ii_rw::write::Write;
+use cbor4ii_trials::any_reader::{AnyReader, Fault, RowReader};
+use cbor4ii_trials::rows::{
+    ReadFrom, Row, RowWithin, Want, WriteTo, ends_at_each_front, reads_rows, reads_rows_within,
+    reads_within, writes,
+};
+use std::alloc::Global;
+use std::fmt::Debug;
+use std::mem;
+use std::test::Fail;
+
+// The steps of a reader that is given no other limit.
+const STEPS: usize = 256;
+
+/// What is read as a typed value: a value, or the refusal that is no refusal of the codec.
+#[derive(Debug, PartialEq, Drop)]
+pub enum Answer<T> {
+    /// The value.
+    Is(T),
+    /// A refusal in words of its own.
+    Custom(StaticStr),
+}
+
+/// What calls of a deserializer read: a typed value, or what a row says by itself.
+pub trait Take<S: Source>: Sized {
+    /// Reads it off the front of what `de` has left.
+    fn take(alloc: Global, de: &mut Deserializer<S>) -> Result<Self, DecodeError<S::Error>>;
+}
+
+impl<S: Source, T: Typed + Deserialize<S>> Take<S> for T {
+    fn take(alloc: Global, de: &mut Deserializer<S>) -> Result<T, DecodeError<S::Error>> {
+        T::deserialize(alloc, de)
+    }
+}
+
+impl<T: Take<RowReader>> ReadFrom<RowReader> for Answer<T> {
+    fn read_from(
+        alloc: Global,
+        reader: &mut RowReader,
+    ) -> Result<Answer<T>, core_error::DecodeError<Fault>> {
+        // Another reader stands in its place meanwhile.
+        let spare = AnyReader::Slice(SliceReader::new(b""));
+        let mut de = Deserializer::new(mem::replace(reader, spare));
+        let got = T::take(alloc, &mut de);
+        *reader = de.into_inner();
+        match got {
+            Ok(value) => Ok(Answer::Is(value)),
+            Err(DecodeError::Custom(text)) => Ok(Answer::Custom(text)),
+            Err(DecodeError::Core(error)) => Err(error),
+        }
+    }
+}
+
+/// Of a value that is refused no more is written, so that its row fails.
+impl<T: Serialize> WriteTo for Answer<T> {
+    fn write_to<W: Write>(&self, writer: &mut W) -> Result<(), core_error::EncodeError<W::Error>> {
+        let Answer::Is(value) = self else {
+            return Ok(());
+        };
+        match value.serialize(&mut Serializer::new(writer)) {
+            Ok(()) | Err(EncodeError::Custom(_)) => Ok(()),
+            Err(EncodeError::Core(error)) => Err(error),
+        }
+    }
+}
+
+/// Bytes, and the value that is written as them and read back from them.
+pub type Both<T> = (&'static [u8], Want<Answer<T>>);
+
+/// What each row reads is written as the row's bytes, and read back from them. Each proper front
+/// of them is the end of the input.
+pub fn go_both_ways<A>(alloc: Global, rows: &[(&'static [u8], Want<A>)]) -> Result<(), Fail>
+where
+    A: WriteTo + ReadFrom<RowReader> + PartialEq + Debug + Drop,
+{
+    for (bytes, want) in rows {
+        if let Ok(answer) = want {
+            writes(alloc, answer, bytes)?;
+        }
+        reads_within(alloc, bytes, STEPS, want, b"")?;
+        ends_at_each_front::<A>(alloc, bytes, STEPS)?;
+    }
+    Ok(())
+}
+
+/// Reads the rows, those without a limit and those within one.
+pub fn reads_all<A>(alloc: Global, rows: &[Row<A>], within: &[RowWithin<A>]) -> Result<(), Fail>
+where
+    A: ReadFrom<RowReader> + PartialEq + Debug + Drop,
+{
+    reads_rows(alloc, rows)?;
+    reads_rows_within(alloc, within)
+}
+
+/// All rows of one type: those that go both ways, those that are read, and those that are read
+/// within a limit.
+pub fn tries<A>(
+    alloc: Global,
+    both: &[(&'static [u8], Want<A>)],
+    rows: &[Row<A>],
+    within: &[RowWithin<A>],
+) -> Result<(), Fail>
+where
+    A: WriteTo + ReadFrom<RowReader> + PartialEq + Debug + Drop,
+{
+    go_both_ways(alloc, both)?;
+    reads_all(alloc, rows, within)
+}
