@@ -20,7 +20,7 @@ use Rattle.cbor4ii.specs.declared.serde.de.any_leaf.AnyKind.{AnyKind}
 use Rattle.cbor4ii.specs.declared.serde.de.any_leaf.AnyKind.TheVariants.{Other}
 use Rattle.cbor4ii.specs.declared.serde.de.error.DecodeError.{DecodeError as Typed}
 use Rattle.cbor4ii.specs.Any.{kind, Formed, ReadsBignum, of_bignum, KindAs, AnyInside, ReadsAny, SameView}
-use Rattle.cbor4ii.specs.AnyLaws.{any_laws, any_of_inside, inside_of_any}
+use Rattle.cbor4ii.specs.Laws.Any.{any_laws, any_of_inside, inside_of_any}
 use Rattle.cbor4ii.specs.Stepped.{Stepped}
 use Rattle.cbor4ii.specs.Tuples.{pair_laws}
 use Rattle.cbor4ii.specs.Typed.{Lawful, as_core}

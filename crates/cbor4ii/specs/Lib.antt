@@ -6,7 +6,6 @@ pub mod Tuples
 pub mod Sequence
 pub mod Built
 pub mod Accessing
-pub mod Around
 pub mod Optional
 pub mod Variants
 pub mod Borrowed
@@ -14,5 +13,5 @@ pub mod Character
 pub mod ReadBack
 pub mod Beginning
 pub mod Any
-pub mod AnyLaws
 pub mod AnyStops
+pub mod Laws

@@ -7,8 +7,8 @@ use Rattle.cbor4ii_items.specs.Head.{head, shortest}
 use Rattle.cbor4ii_tree.specs.Tree.{Tree, bytes}
 use Rattle.cbor4ii_tree.specs.Meaning.{value}
 use Rattle.cbor4ii_tree.specs.Canonical.{canon}
-use Rattle.cbor4ii_tree.specs.IgnoredLaws.{one_spelling}
-use Rattle.cbor4ii_tree.specs.head_laws.Initials.{length-bytes-pos}
+use Rattle.cbor4ii_tree.specs.Laws.Ignoring.{one_spelling}
+use Rattle.cbor4ii_tree.specs.Laws.Initials.{length-bytes-pos}
 use Rattle.cbor4ii_tool.specs.Integer.{IntegerHead, shortest_spelling}
 use Rattle.cbor4ii_tool.specs.Item.{Converts, BeginsItem, IsRow, together}
 use Rattle.cbor4ii_tool.specs.Run.{FaultAt, Runs, Completes, IsExcused}

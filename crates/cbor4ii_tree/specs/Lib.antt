@@ -1,3 +1,6 @@
+-- What whole items are, and what reading and writing them answers.
+
+-- ---- the words of public contracts, in the order of docs/DEFINITIONS.md
 pub mod Tree
 pub mod Item
 pub mod Meaning
@@ -9,33 +12,27 @@ pub mod Strict
 pub mod Stops
 pub mod StopsSkipping
 pub mod StopsReading
+pub mod View
+pub mod ItemEquality
+pub mod Encoding
+pub mod Ignored
+pub mod Raw
+pub mod BoxedRaw
+-- ---- programs on lists
 pub mod Parse
 pub mod Skip
 pub mod Read
-pub mod View
-pub mod ItemEquality
+-- ---- what the calls promise each other: the words of private contracts
 pub mod Does
 pub mod Skipping
 pub mod HeadParts
-pub mod Ignored
-pub mod IgnoredLaws
-pub mod Binds
-pub mod Budgets
-pub mod head_laws
-pub mod part_laws
-pub mod skip_laws
-pub mod Promises
-pub mod ValueLaws
 pub mod Valuing
 pub mod Strictly
 pub mod Canonically
-pub mod CanonicalLaws
-pub mod Encoding
-pub mod Raw
-pub mod RawLaws
-pub mod BoxedRaw
+pub mod Promises
 pub mod Front
-pub mod FrontLaws
 pub mod Runs
 pub mod Ahead
 pub mod Deeper
+-- ---- laws
+pub mod Laws

@@ -14,7 +14,7 @@ ghost use Rattle.cbor4ii_tree.specs.Canonically.{
   DepthCanonical,
   NeverCanonical,
 };
-ghost use Rattle.cbor4ii_tree.specs.CanonicalLaws.{
+ghost use Rattle.cbor4ii_tree.specs.Laws.CanonicalReading.{
   canonical_one,
   canonical_within,
   canonical_positive,

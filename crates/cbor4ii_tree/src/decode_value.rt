@@ -46,7 +46,7 @@ ghost use Rattle.cbor4ii_tree.specs.Promises.{
   SkipsReads,
   CanonicalReads,
 };
-ghost use Rattle.cbor4ii_tree.specs.ValueLaws.{
+ghost use Rattle.cbor4ii_tree.specs.Laws.Values.{
   value_one,
   value_within,
   value_positive,

@@ -23,7 +23,7 @@ ghost use Rattle.cbor4ii_rw.specs.Reader.{Breaks, Advances, KeepsAllButBudget};
 ghost use Rattle.cbor4ii_items.specs.Head.{IsBytes};
 ghost use Rattle.cbor4ii_tree.specs.Front.{lent_view, Offers, BeginsWith, Ready};
 ghost use Rattle.cbor4ii_tree.specs.Ahead.{Sees};
-ghost use Rattle.cbor4ii_tree.specs.FrontLaws.{own_budget, own_moved, lent_budget, lent_moved};
+ghost use Rattle.cbor4ii_tree.specs.Laws.Fronts.{own_budget, own_moved, lent_budget, lent_moved};
 
 use crate::ahead::{Ahead, Among, ahead_of};
 use cbor4ii_rw::ask::look;

@@ -14,7 +14,7 @@ ghost use Rattle.cbor4ii_tree.specs.Promises.{
   ExactSkips,
 };
 ghost use Rattle.cbor4ii_tree.specs.Ignored.{ReadsIgnored, StopsIgnored};
-ghost use Rattle.cbor4ii_tree.specs.IgnoredLaws.{
+ghost use Rattle.cbor4ii_tree.specs.Laws.Ignoring.{
   ignored_one,
   ignored_within,
   ignored_positive,

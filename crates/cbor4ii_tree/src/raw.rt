@@ -14,7 +14,7 @@ ghost use Rattle.cbor4ii_tree.specs.Raw.{
   TakesItem,
   StopsAsSkipping,
 };
-ghost use Rattle.cbor4ii_tree.specs.RawLaws.{raw_one, raw_within, raw_positive, raw_alone};
+ghost use Rattle.cbor4ii_tree.specs.Laws.Capturing.{raw_one, raw_within, raw_positive, raw_alone};
 
 use crate::lend_raw::{LendRaw, NoFront, take_raw};
 use cbor4ii_items::decode::{Decode, Spelled};

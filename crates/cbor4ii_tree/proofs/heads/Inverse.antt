@@ -7,7 +7,7 @@ use Rattle.cbor4ii_items.specs.Laws.Heads.{onto-lt, bytes_onto}
 use Rattle.cbor4ii_items.specs.Magnitude.{number_of}
 use Rattle.cbor4ii_tree.specs.Parse.{front_at, number_at}
 use Rattle.cbor4ii_tree.specs.Skip.{whole_number_at}
-use Rattle.cbor4ii_tree.specs.Binds.{bind_ok, guard_ok, same_ok}
+use Rattle.cbor4ii_tree.specs.Laws.Binds.{bind_ok, guard_ok, same_ok}
 
 pub IsBytes-take : (k : ℕ) (bs : List ℕ) → IsBytes bs → IsBytes (take k bs)
 IsBytes-take zero bs h = tt

@@ -4,7 +4,7 @@ use Rattle.cbor4ii_items.specs.Head.{Width, in_first, one, two, four, eight, Hea
 use Rattle.cbor4ii_items.specs.Initial.{Sign, unsigned, negative, sign_major, Kind, byte_string, text_string, kind_major, simple_byte, precision_byte, Info, wide, open_ended, reserved, info_of, Initial, starts_int, starts_string, starts_chunks, starts_array, starts_open_array, starts_map, starts_open_map, starts_tag, starts_simple, starts_bits, initial, int_by_info, string_by_info, array_by_info, map_by_info, tag_by_info, simple_by_info, by_major}
 use Rattle.cbor4ii_tree.specs.Parse.{argument_of_width}
 use Rattle.cbor4ii_tree.specs.Skip.{whole_argument_at}
-use Rattle.cbor4ii_tree.specs.Binds.{parts, if_cases}
+use Rattle.cbor4ii_tree.specs.Laws.Binds.{parts, if_cases}
 use Rattle.cbor4ii_tree.proofs.heads.Inverse.{Whole, number_inverse, whole_number_inverse}
 
 abbrev pub WidthSays : Width → ℕ → Type 0

@@ -8,8 +8,8 @@ use Rattle.cbor4ii_tree.specs.Tree.{Tree, no_trees, tree, no_pairs, pair, bytes,
 use Rattle.cbor4ii_tree.specs.Refusal.{Refusal}
 use Rattle.cbor4ii_tree.specs.Stops.{Stopping, Missing, MissingAll, AtHead, StopsInCount, OpenItems, OpenPairs, BehindKey}
 use Rattle.cbor4ii_tree.specs.Parse.{Parser, Answer, ◌>>=◌, front_at, number_at, argument_of_width, trees_at, pairs_at, open_trees_at, open_pairs_at}
-use Rattle.cbor4ii_tree.specs.Binds.{bind_err, no_err, is_err, guard_err, chosen}
-use Rattle.cbor4ii_tree.specs.head_laws.Initials.{length-bytes-pos}
+use Rattle.cbor4ii_tree.specs.Laws.Binds.{bind_err, no_err, is_err, guard_err, chosen}
+use Rattle.cbor4ii_tree.specs.Laws.Initials.{length-bytes-pos}
 use Rattle.cbor4ii_tree.proofs.heads.Means.{HeadByte, Headed, argument_inverse}
 use Rattle.cbor4ii_tree.proofs.parts.Sound.{Took, IsSound}
 

@@ -4,7 +4,7 @@ use Rattle.cbor4ii_items.specs.Head.{Width, head, break, IsBytes}
 use Rattle.cbor4ii_tree.specs.Tree.{Tree, Trees, no_trees, tree, Pairs, no_pairs, pair, count, pair_count, bytes, bytes_all, bytes_pairs}
 use Rattle.cbor4ii_tree.specs.Stops.{Each, EachPair}
 use Rattle.cbor4ii_tree.specs.Parse.{Parser, ◌>>=◌, trees_at, pairs_at, open_trees_at, open_pairs_at}
-use Rattle.cbor4ii_tree.specs.Binds.{bind_ok, same_ok, chosen, no_ok}
+use Rattle.cbor4ii_tree.specs.Laws.Binds.{bind_ok, same_ok, chosen, no_ok}
 
 pub record Took (Whole : Tree → Type 0) (bs : List ℕ) (p : Tree × List ℕ) : Type 0 where
   pub whole : Whole p.0

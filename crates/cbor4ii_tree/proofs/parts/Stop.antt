@@ -6,10 +6,10 @@ use Rattle.cbor4ii_tree.specs.Tree.{Tree, Trees, no_trees, tree, Pairs, no_pairs
 use Rattle.cbor4ii_tree.specs.Refusal.{Refusal}
 use Rattle.cbor4ii_tree.specs.Stops.{Stopping, Missing, MissingAll, AtHead, Each, EachPair, StopsInCount, NoBreak, OpenItems, BehindKey, OpenPairs}
 use Rattle.cbor4ii_tree.specs.Parse.{Parser, Answer, ◌>>=◌, front_at, number_at, argument_of_width, trees_at, pairs_at, open_trees_at, open_pairs_at}
-use Rattle.cbor4ii_tree.specs.Binds.{err, then_err}
-use Rattle.cbor4ii_tree.specs.head_laws.Initials.{length-bytes-pos}
-use Rattle.cbor4ii_tree.specs.head_laws.Again.{argument_of}
-use Rattle.cbor4ii_tree.specs.part_laws.Again.{Again, Starts, shorter, pair_split, open_turn, open_pair_turn}
+use Rattle.cbor4ii_tree.specs.Laws.Binds.{err, then_err}
+use Rattle.cbor4ii_tree.specs.Laws.Initials.{length-bytes-pos}
+use Rattle.cbor4ii_tree.specs.Laws.HeadsAgain.{argument_of}
+use Rattle.cbor4ii_tree.specs.Laws.PartsAgain.{Again, Starts, shorter, pair_split, open_turn, open_pair_turn}
 
 -- ---- heads and contents
 

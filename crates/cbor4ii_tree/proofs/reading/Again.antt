@@ -11,13 +11,13 @@ use Rattle.cbor4ii_tree.specs.Stops.{Each}
 use Rattle.cbor4ii_tree.specs.StopsReading.{Readable, ReadableChunk}
 use Rattle.cbor4ii_tree.specs.Parse.{Parser}
 use Rattle.cbor4ii_tree.specs.Read.{chunk_tree_at, read_by, read_from, read_within}
-use Rattle.cbor4ii_tree.specs.Binds.{left, step_left}
-use Rattle.cbor4ii_tree.specs.Budgets.{fits_left, fits_less, fits_two}
-use Rattle.cbor4ii_tree.specs.head_laws.Initials.{initial_int, initial_string, initial_array, initial_map, initial_tag, initial_chunks, initial_simple, initial_bits, initial_open_array, initial_open_map, begins}
-use Rattle.cbor4ii_tree.specs.head_laws.Again.{argument_again, number_again}
-use Rattle.cbor4ii_tree.specs.part_laws.Again.{Again, Starts, trees_again, pairs_again, open_trees_again, open_pairs_again}
-use Rattle.cbor4ii_tree.specs.part_laws.Wholes.{each_readable, each_pair_readable, each_chunk}
-use Rattle.cbor4ii_tree.specs.skip_laws.Again.{behind_head, behind_open}
+use Rattle.cbor4ii_tree.specs.Laws.Binds.{left, step_left}
+use Rattle.cbor4ii_tree.specs.Laws.Budgets.{fits_left, fits_less, fits_two}
+use Rattle.cbor4ii_tree.specs.Laws.Initials.{initial_int, initial_string, initial_array, initial_map, initial_tag, initial_chunks, initial_simple, initial_bits, initial_open_array, initial_open_map, begins}
+use Rattle.cbor4ii_tree.specs.Laws.HeadsAgain.{argument_again, number_again}
+use Rattle.cbor4ii_tree.specs.Laws.PartsAgain.{Again, Starts, trees_again, pairs_again, open_trees_again, open_pairs_again}
+use Rattle.cbor4ii_tree.specs.Laws.Wholes.{each_readable, each_pair_readable, each_chunk}
+use Rattle.cbor4ii_tree.specs.Laws.SkippingAgain.{behind_head, behind_open}
 use Rattle.cbor4ii_tree.proofs.reading.Chunks.{chunks_start, tested_again, string_again, chunk_again}
 
 pub readable_starts : (b : Budget) → Starts (Readable b)

@@ -10,8 +10,8 @@ use Rattle.cbor4ii_tree.specs.Refusal.{Refusal}
 use Rattle.cbor4ii_tree.specs.Spelling.{Reads, SomeAnswer, AtMostOne}
 use Rattle.cbor4ii_tree.specs.StopsReading.{Readable, StopsReading}
 use Rattle.cbor4ii_tree.specs.Read.{read, read_tree}
-use Rattle.cbor4ii_tree.proofs.Answers.{some_answer_of, at_most_one_of}
-use Rattle.cbor4ii_tree.specs.Binds.{parts, apart, bind_ok, bind_err, then_err, no_err}
+use Rattle.cbor4ii_tree.proofs.answers.Answers.{some_answer_of, at_most_one_of}
+use Rattle.cbor4ii_tree.specs.Laws.Binds.{parts, apart, bind_ok, bind_err, then_err, no_err}
 use Rattle.cbor4ii_tree.proofs.reading.Again.{read_again}
 use Rattle.cbor4ii_tree.proofs.reading.Sound.{read_sound}
 use Rattle.cbor4ii_tree.proofs.reading.Refuses.{read_refuses}

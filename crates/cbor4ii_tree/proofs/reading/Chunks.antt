@@ -12,13 +12,13 @@ use Rattle.cbor4ii_tree.specs.Stops.{Missing}
 use Rattle.cbor4ii_tree.specs.StopsReading.{ReadableChunk, CutString, ChunkStopsBy, ChunkStops}
 use Rattle.cbor4ii_tree.specs.Parse.{◌>>=◌, front_at, argument_of_width}
 use Rattle.cbor4ii_tree.specs.Read.{tested, counted_string_at, chunk_tree_by, chunk_tree_at}
-use Rattle.cbor4ii_tree.specs.Binds.{bind_ok, bind_err, same_ok, no_ok, no_err, is_err, err, then_err, step_left, step_up, stepped_ok, stepped_err, stepped_stops}
-use Rattle.cbor4ii_tree.specs.Budgets.{fits_zero}
-use Rattle.cbor4ii_tree.specs.head_laws.Initials.{initial_string, begins}
+use Rattle.cbor4ii_tree.specs.Laws.Binds.{bind_ok, bind_err, same_ok, no_ok, no_err, is_err, err, then_err, step_left, step_up, stepped_ok, stepped_err, stepped_stops}
+use Rattle.cbor4ii_tree.specs.Laws.Budgets.{fits_zero}
+use Rattle.cbor4ii_tree.specs.Laws.Initials.{initial_string, begins}
 use Rattle.cbor4ii_tree.proofs.heads.Inverse.{front_inverse}
 use Rattle.cbor4ii_tree.proofs.heads.Means.{HeadByte, Means, means, argument_inverse}
-use Rattle.cbor4ii_tree.specs.head_laws.Again.{front_again, argument_again}
-use Rattle.cbor4ii_tree.specs.part_laws.Again.{Again, Starts}
+use Rattle.cbor4ii_tree.specs.Laws.HeadsAgain.{front_again, argument_again}
+use Rattle.cbor4ii_tree.specs.Laws.PartsAgain.{Again, Starts}
 use Rattle.cbor4ii_tree.proofs.parts.Sound.{Took, IsSound, counted}
 use Rattle.cbor4ii_tree.proofs.parts.Refuse.{Refuses, front_err, at_head}
 use Rattle.cbor4ii_tree.proofs.parts.Stop.{Gives, missing_front, head_stops}

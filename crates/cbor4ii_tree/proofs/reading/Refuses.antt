@@ -11,7 +11,7 @@ use Rattle.cbor4ii_tree.specs.Stops.{Stopping, Is, AtHead, BehindHead, StopsInCo
 use Rattle.cbor4ii_tree.specs.StopsReading.{Readable, ReadableChunk, IsNoUtf8, NoUtf8, ChunkStops, ReadingStopsBy, ReadingStopsFrom, ReadingStopsWithin}
 use Rattle.cbor4ii_tree.specs.Parse.{Parser, ◌>>=◌, front_at, number_at, argument_of_width, trees_at, pairs_at, open_trees_at, open_pairs_at}
 use Rattle.cbor4ii_tree.specs.Read.{tested, counted_string_at, chunk_tree_at, read_by, read_from, read_within}
-use Rattle.cbor4ii_tree.specs.Binds.{bind_ok, bind_err, no_err, is_err, chosen, stepped_err}
+use Rattle.cbor4ii_tree.specs.Laws.Binds.{bind_ok, bind_err, no_err, is_err, chosen, stepped_err}
 use Rattle.cbor4ii_tree.proofs.heads.Inverse.{front_inverse}
 use Rattle.cbor4ii_tree.proofs.heads.Means.{HeadByte, Means, means, argument_inverse}
 use Rattle.cbor4ii_tree.proofs.parts.Sound.{IsSound, open_trees_sound}

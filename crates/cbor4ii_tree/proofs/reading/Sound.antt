@@ -12,12 +12,12 @@ use Rattle.cbor4ii_tree.specs.Stops.{Each}
 use Rattle.cbor4ii_tree.specs.StopsReading.{Readable, ReadableChunk}
 use Rattle.cbor4ii_tree.specs.Parse.{Parser, ◌>>=◌, number_at, argument_of_width, trees_at, pairs_at, open_trees_at, open_pairs_at}
 use Rattle.cbor4ii_tree.specs.Read.{tested, counted_string_at, chunk_tree_at, read_by, read_from, read_within}
-use Rattle.cbor4ii_tree.specs.Binds.{bind_ok, same_ok, no_ok, chosen, stepped_ok, step_up}
-use Rattle.cbor4ii_tree.specs.Budgets.{fits_zero, fits_less}
+use Rattle.cbor4ii_tree.specs.Laws.Binds.{bind_ok, same_ok, no_ok, chosen, stepped_ok, step_up}
+use Rattle.cbor4ii_tree.specs.Laws.Budgets.{fits_zero, fits_less}
 use Rattle.cbor4ii_tree.proofs.heads.Inverse.{number_inverse}
 use Rattle.cbor4ii_tree.proofs.heads.Means.{Means, means, argument_inverse}
 use Rattle.cbor4ii_tree.proofs.parts.Sound.{Took, IsSound, trees_sound, pairs_sound, open_trees_sound, open_pairs_sound, counted}
-use Rattle.cbor4ii_tree.specs.part_laws.Wholes.{all_readable, all_pairs_readable, all_chunks}
+use Rattle.cbor4ii_tree.specs.Laws.Wholes.{all_readable, all_pairs_readable, all_chunks}
 use Rattle.cbor4ii_tree.proofs.reading.Chunks.{string_sound, chunk_sound}
 
 -- a cost that fits two steps later

@@ -11,9 +11,9 @@ use Rattle.cbor4ii_tree.specs.Stops.{Stopping, Is, AtHead, BehindHead, StopsInCo
 use Rattle.cbor4ii_tree.specs.StopsReading.{Readable, ReadableChunk, IsNoUtf8, NoUtf8, NoUtf8Joined, ChunkStops, ReadingStopsBy, ReadingStopsFrom, ReadingStopsWithin}
 use Rattle.cbor4ii_tree.specs.Parse.{Parser, ◌>>=◌, front_at, number_at, argument_of_width, trees_at, pairs_at, open_trees_at, open_pairs_at}
 use Rattle.cbor4ii_tree.specs.Read.{tested, counted_string_at, chunk_tree_at, read_by, read_from, read_within}
-use Rattle.cbor4ii_tree.specs.Binds.{err, then_err, stepped_stops}
-use Rattle.cbor4ii_tree.specs.head_laws.Again.{front_again, argument_of}
-use Rattle.cbor4ii_tree.specs.part_laws.Again.{Again, open_trees_again}
+use Rattle.cbor4ii_tree.specs.Laws.Binds.{err, then_err, stepped_stops}
+use Rattle.cbor4ii_tree.specs.Laws.HeadsAgain.{front_again, argument_of}
+use Rattle.cbor4ii_tree.specs.Laws.PartsAgain.{Again, open_trees_again}
 use Rattle.cbor4ii_tree.proofs.parts.Stop.{Gives, missing_number, missing_argument, head_stops, trees_stop, pairs_stop, open_trees_stop, open_pairs_stop}
 use Rattle.cbor4ii_tree.proofs.reading.Chunks.{chunks_start, chunk_again, string_stops, chunk_stops}
 use Rattle.cbor4ii_tree.proofs.reading.Again.{read_again, readable_starts}

@@ -7,9 +7,9 @@ use Rattle.cbor4ii_tree.specs.Refusal.{Refusal}
 use Rattle.cbor4ii_tree.specs.Spelling.{Skips, SomeAnswer, AtMostOne}
 use Rattle.cbor4ii_tree.specs.StopsSkipping.{StopsSkipping}
 use Rattle.cbor4ii_tree.specs.Skip.{skip}
-use Rattle.cbor4ii_tree.proofs.Answers.{some_answer_of, at_most_one_of}
-use Rattle.cbor4ii_tree.specs.Binds.{parts, apart}
-use Rattle.cbor4ii_tree.specs.skip_laws.Again.{skip_again}
+use Rattle.cbor4ii_tree.proofs.answers.Answers.{some_answer_of, at_most_one_of}
+use Rattle.cbor4ii_tree.specs.Laws.Binds.{parts, apart}
+use Rattle.cbor4ii_tree.specs.Laws.SkippingAgain.{skip_again}
 use Rattle.cbor4ii_tree.proofs.skipping.Sound.{skip_sound}
 use Rattle.cbor4ii_tree.proofs.skipping.Refuses.{skip_refuses}
 use Rattle.cbor4ii_tree.proofs.skipping.Stops.{skip_stops}

@@ -10,7 +10,7 @@ use Rattle.cbor4ii_tree.specs.Stops.{Stopping, Missing, StopsInCount}
 use Rattle.cbor4ii_tree.specs.StopsSkipping.{Skippable, SkippingStopsBy, SkippingStopsFrom, SkippingStopsWithin}
 use Rattle.cbor4ii_tree.specs.Parse.{Parser, ◌>>=◌, front_at, trees_at, pairs_at, open_trees_at, open_pairs_at}
 use Rattle.cbor4ii_tree.specs.Skip.{whole_number_at, whole_argument_at, skip_by, skip_from, skip_within}
-use Rattle.cbor4ii_tree.specs.Binds.{bind_err, no_err, is_err, stepped_err}
+use Rattle.cbor4ii_tree.specs.Laws.Binds.{bind_err, no_err, is_err, stepped_err}
 use Rattle.cbor4ii_tree.proofs.heads.Means.{Means, means}
 use Rattle.cbor4ii_tree.proofs.parts.Sound.{IsSound}
 use Rattle.cbor4ii_tree.proofs.parts.Refuse.{Refuses, front_err, at_head, trees_err, pairs_err, open_trees_err, open_pairs_err}

@@ -9,12 +9,12 @@ use Rattle.cbor4ii_tree.specs.Refusal.{ignored_any, tag_name}
 use Rattle.cbor4ii_tree.specs.StopsSkipping.{Skippable}
 use Rattle.cbor4ii_tree.specs.Parse.{Parser, ◌>>=◌, front_at, argument_of_width, trees_at, pairs_at, open_trees_at, open_pairs_at}
 use Rattle.cbor4ii_tree.specs.Skip.{whole_number_at, whole_argument_at, skip_by, skip_from, skip_within}
-use Rattle.cbor4ii_tree.specs.Binds.{bind_ok, same_ok, no_ok, stepped_ok, step_up}
-use Rattle.cbor4ii_tree.specs.Budgets.{fits_zero}
+use Rattle.cbor4ii_tree.specs.Laws.Binds.{bind_ok, same_ok, no_ok, stepped_ok, step_up}
+use Rattle.cbor4ii_tree.specs.Laws.Budgets.{fits_zero}
 use Rattle.cbor4ii_tree.proofs.heads.Inverse.{front_inverse, whole_number_inverse}
 use Rattle.cbor4ii_tree.proofs.heads.Means.{Means, means, argument_inverse, whole_argument_inverse}
 use Rattle.cbor4ii_tree.proofs.parts.Sound.{Took, IsSound, trees_sound, pairs_sound, open_trees_sound, open_pairs_sound, counted}
-use Rattle.cbor4ii_tree.specs.part_laws.Wholes.{all_skippable, all_pairs_skippable}
+use Rattle.cbor4ii_tree.specs.Laws.Wholes.{all_skippable, all_pairs_skippable}
 
 abbrev Up : Budget → Budget → Type 0
 Up inner outer = (c : ℕ) → CostFits c inner → CostFits (1 + c) outer

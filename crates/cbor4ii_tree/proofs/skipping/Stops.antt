@@ -9,10 +9,10 @@ use Rattle.cbor4ii_tree.specs.Stops.{Stopping, Missing, StopsInCount}
 use Rattle.cbor4ii_tree.specs.StopsSkipping.{Skippable, SkippingStopsBy, SkippingStopsFrom, SkippingStopsWithin}
 use Rattle.cbor4ii_tree.specs.Parse.{Parser, ◌>>=◌, front_at, trees_at, pairs_at, open_trees_at, open_pairs_at}
 use Rattle.cbor4ii_tree.specs.Skip.{whole_number_at, whole_argument_at, skip_by, skip_from, skip_within}
-use Rattle.cbor4ii_tree.specs.Binds.{err, then_err, stepped_stops}
-use Rattle.cbor4ii_tree.specs.part_laws.Again.{Again}
+use Rattle.cbor4ii_tree.specs.Laws.Binds.{err, then_err, stepped_stops}
+use Rattle.cbor4ii_tree.specs.Laws.PartsAgain.{Again}
 use Rattle.cbor4ii_tree.proofs.parts.Stop.{Gives, missing_front, head_stops, trees_stop, pairs_stop, open_trees_stop, open_pairs_stop}
-use Rattle.cbor4ii_tree.specs.skip_laws.Again.{skip_again, skippable_starts}
+use Rattle.cbor4ii_tree.specs.Laws.SkippingAgain.{skip_again, skippable_starts}
 
 missing_whole_number : (name : List ℕ) (k : ℕ) (bs : List ℕ) (e : Refusal) (rest : List ℕ) → Missing name k bs e rest → whole_number_at name k bs ≡ Err (e, rest)
 missing_whole_number name k bs e rest h = then_err (front_at name k bs) _ (e, rest) (missing_front name k bs e rest h)

@@ -27,7 +27,7 @@ ghost use Rattle.cbor4ii_items.specs.Sequences.{
   StopsInside,
 };
 ghost use Rattle.cbor4ii.specs.Any.{ReadsAny, AnyInside, SameView};
-ghost use Rattle.cbor4ii.specs.AnyLaws.{any_laws};
+ghost use Rattle.cbor4ii.specs.Laws.Any.{any_laws};
 ghost use Rattle.cbor4ii.specs.AnyStops.{AnyStops, KindStops, StopsAny, StopsAnyPair};
 ghost use Rattle.cbor4ii.specs.declared.serde.de.any_leaf.AnyKind.TheVariants.{
   Array as array_kind,

@@ -1,7 +1,7 @@
 use Rattle.std.proofs.Common.{w8}
 use Rattle.std.proofs.Math.Facts.{Fits-lt-pow}
-use Rattle.cbor4ii_tree.proofs.Leaves.{shown_bytes}
-use Rattle.cbor4ii_tree.proofs.Glancing.{shows_low, shows_some}
+use Rattle.cbor4ii_tree.proofs.skip_calls.Leaves.{shown_bytes}
+use Rattle.cbor4ii_tree.proofs.skip_calls.Glancing.{shows_low, shows_some}
 use Rattle.cbor4ii_tree.proofs.ahead.argument_of.Goals as goal
 
 pub returns-then-info-lt24 : goal.returns-then-info-lt24

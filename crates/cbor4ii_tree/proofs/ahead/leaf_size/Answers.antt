@@ -1,6 +1,6 @@
 use Rattle.std.proofs.Common.{arith, w8}
 use Rattle.std.proofs.Math.Facts.{Fits-lt-pow}
-use Rattle.cbor4ii_tree.proofs.Leaves.{leaf_at}
+use Rattle.cbor4ii_tree.proofs.skip_calls.Leaves.{leaf_at}
 use Rattle.cbor4ii_tree.proofs.ahead.leaf_size.Goals as goal
 
 pub returns-clause-leaf : goal.returns-clause-leaf

@@ -1,5 +1,5 @@
 use Rattle.std.proofs.Common.{arith, sym, ◌∙◌}
-use Rattle.cbor4ii_tree.proofs.Glancing.{sees_open, sees_open_members}
+use Rattle.cbor4ii_tree.proofs.skip_calls.Glancing.{sees_open, sees_open_members}
 use Rattle.cbor4ii_tree.proofs.ahead.open_head_of.Goals as goal
 
 pub returns-in-Open : goal.returns-in-Open

@@ -1,5 +1,5 @@
 use Rattle.std.proofs.Common.{◌≢◌, arith}
-use Rattle.cbor4ii_tree.proofs.Leaves.{pair_at}
+use Rattle.cbor4ii_tree.proofs.skip_calls.Leaves.{pair_at}
 use Rattle.cbor4ii_tree.proofs.ahead.pair_size.Goals as goal
 
 pub returns-in_default : goal.returns-in_default

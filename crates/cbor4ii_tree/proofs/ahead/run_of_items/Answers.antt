@@ -1,5 +1,5 @@
 use Rattle.std.proofs.Common.{refl, arith}
-use Rattle.cbor4ii_tree.proofs.Leaves.{run_none, run_more, run_two}
+use Rattle.cbor4ii_tree.proofs.skip_calls.Leaves.{run_none, run_more, run_two}
 use Rattle.cbor4ii_tree.proofs.ahead.run_of_items.Goals as goal
 
 pub loop-count-init : goal.loop-count-init

@@ -1,5 +1,5 @@
 use Rattle.std.proofs.Common.{arith}
-use Rattle.cbor4ii_tree.proofs.Leaves.{run_none, run_pair}
+use Rattle.cbor4ii_tree.proofs.skip_calls.Leaves.{run_none, run_pair}
 use Rattle.cbor4ii_tree.proofs.ahead.run_of_pairs.Goals as goal
 
 pub loop-pairs-init : goal.loop-pairs-init

@@ -1,7 +1,7 @@
 use Rattle.std.proofs.Common.{arith, sym, ◌∙◌, w8}
 use Rattle.std.proofs.Math.Facts.{Fits-lt-pow}
-use Rattle.cbor4ii_tree.proofs.Leaves.{shown_bytes}
-use Rattle.cbor4ii_tree.proofs.Glancing.{sees_string, sees_content, sees_items, sees_members, sees_tag}
+use Rattle.cbor4ii_tree.proofs.skip_calls.Leaves.{shown_bytes}
+use Rattle.cbor4ii_tree.proofs.skip_calls.Glancing.{sees_string, sees_content, sees_items, sees_members, sees_tag}
 use Rattle.cbor4ii_tree.proofs.ahead.wide_head_of.Goals as goal
 
 pub returns-then-argument-rest : goal.returns-then-argument-rest

@@ -1,4 +1,4 @@
-use Rattle.cbor4ii_tree.proofs.BoxedRawAnswers.{copies_item}
+use Rattle.cbor4ii_tree.proofs.raw_items.Copied.{copies_item}
 use Rattle.cbor4ii_tree.proofs.boxed_raw.take_boxed.Goals as goal
 
 pub returns : goal.returns

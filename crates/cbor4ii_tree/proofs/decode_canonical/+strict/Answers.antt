@@ -10,11 +10,11 @@ use Rattle.cbor4ii_items.specs.Initial.{unsigned, negative, byte_string}
 use Rattle.cbor4ii_items.specs.Laws.Steps.{kept_then}
 use Rattle.cbor4ii_tree.specs.Valuing.{ReadsStepped}
 use Rattle.cbor4ii_tree.specs.Strictly.{Lacks, BeginsOne, BeginsBehind, ReadsExactly, ReadsBehind, ShortestAt, StringAt, BeginsHead, BeginsTag, BeginsItems, ExactItems, ExactMember, ExactMembers, BeginsCounted, AcceptsCount, BeginsStepped, TextAt}
-use Rattle.cbor4ii_tree.proofs.Doing.{reached_start, reached_by, does_ok, does_no_memory, does_no_step}
-use Rattle.cbor4ii_tree.proofs.ValuingHeads.{view-Tag}
-use Rattle.cbor4ii_tree.proofs.ValuingSequences.{more, ends}
-use Rattle.cbor4ii_tree.proofs.Exactly.{no_step_one, no_step_stepped}
-use Rattle.cbor4ii_tree.proofs.ExactCalls.{reached_shortest, reached_string, does_lack_head, does_lack_string, lacks_more, exact_ok, exact_err, exact_float, exact_tag, exact_tag_err, unsigned_exact, negative_exact, bytes_exact, text_exact, looked_at, peek_lacks, pushed, simple_exact, undefined_lacks, stepped_one, stepped_more, counted_does, begins_counted, items_none, items_more, item_lacks, key_lacks, value_lacks, members_none, members_more, member_lacks, array_exact, map_exact}
+use Rattle.cbor4ii_tree.proofs.skip_calls.Doing.{reached_start, reached_by, does_ok, does_no_memory, does_no_step}
+use Rattle.cbor4ii_tree.proofs.values.Heads.{view-Tag}
+use Rattle.cbor4ii_tree.proofs.values.Sequences.{more, ends}
+use Rattle.cbor4ii_tree.proofs.canonical.Exactly.{no_step_one, no_step_stepped}
+use Rattle.cbor4ii_tree.proofs.canonical.Calls.{reached_shortest, reached_string, does_lack_head, does_lack_string, lacks_more, exact_ok, exact_err, exact_float, exact_tag, exact_tag_err, unsigned_exact, negative_exact, bytes_exact, text_exact, looked_at, peek_lacks, pushed, simple_exact, undefined_lacks, stepped_one, stepped_more, counted_does, begins_counted, items_none, items_more, item_lacks, key_lacks, value_lacks, members_none, members_more, member_lacks, array_exact, map_exact}
 use Rattle.cbor4ii_tree.proofs.decode_canonical.+strict.Goals as goal
 
 pub read_one-returns-clause-does : goal.read_one-returns-clause-does

@@ -1,6 +1,6 @@
 use Rattle.std.proofs.Common.{◌+◌, ◌*◌}
 use Rattle.cbor4ii_tree.specs.Strictly.{ExactItems, ExactMembers}
-use Rattle.cbor4ii_tree.proofs.Doing.{Reached}
+use Rattle.cbor4ii_tree.proofs.skip_calls.Doing.{Reached}
 use Rattle.cbor4ii_tree.proofs.decode_canonical.+strict.Given as goal
 
 abbrev pub decreases-read_one : goal.decreases-read_one

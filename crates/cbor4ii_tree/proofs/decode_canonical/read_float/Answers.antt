@@ -7,8 +7,8 @@ use Rattle.cbor4ii_items.specs.declared.types.F32.{F32 as Single}
 use Rattle.cbor4ii_items.specs.declared.types.F64.{F64 as Double}
 use Rattle.cbor4ii_tree.specs.Refusal.{precision_name}
 use Rattle.cbor4ii_tree.specs.declared.value.FloatBits.TheVariants.{F16, F32, F64}
-use Rattle.cbor4ii_tree.proofs.ValuingHeads.{view-F16, view-F32, view-F64}
-use Rattle.cbor4ii_tree.proofs.ExactCalls.{float_exact, float_err, no_value}
+use Rattle.cbor4ii_tree.proofs.values.Heads.{view-F16, view-F32, view-F64}
+use Rattle.cbor4ii_tree.proofs.canonical.Calls.{float_exact, float_err, no_value}
 use Rattle.cbor4ii_tree.proofs.decode_canonical.read_float.Goals as goal
 
 pub returns-in_ok-decode-in-249-clause-does : goal.returns-in_ok-decode-in-249-clause-does

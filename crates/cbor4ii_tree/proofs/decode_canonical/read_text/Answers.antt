@@ -3,8 +3,8 @@ use Rattle.std.proofs.lemmas.Result.{err_from_is_err_and}
 use Rattle.cbor4ii_items.specs.Initial.{text_string}
 use Rattle.cbor4ii_tree.specs.Refusal.{require_utf8, kind_name}
 use Rattle.cbor4ii_tree.specs.Strictly.{Lacks, BeginsString, BeginsText, StringAt, TextAt}
-use Rattle.cbor4ii_tree.proofs.Doing.{does_ok, does_refuse, reached_as}
-use Rattle.cbor4ii_tree.proofs.ExactCalls.{does_lack_string, lacks_more, reached_string, not_text}
+use Rattle.cbor4ii_tree.proofs.skip_calls.Doing.{does_ok, does_refuse, reached_as}
+use Rattle.cbor4ii_tree.proofs.canonical.Calls.{does_lack_string, lacks_more, reached_string, not_text}
 use Rattle.cbor4ii_tree.proofs.decode_canonical.read_text.Goals as goal
 
 pub returns-in_err-canonical_buf-clause-does : goal.returns-in_err-canonical_buf-clause-does

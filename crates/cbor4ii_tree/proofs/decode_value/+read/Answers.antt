@@ -9,14 +9,14 @@ use Rattle.cbor4ii_items.specs.Initial.{negative, byte_string, text_string}
 use Rattle.cbor4ii_items.specs.Numbers.{ReadsNegative, StopsNegative, StopsArgument}
 use Rattle.cbor4ii_items.specs.Strings.{ReadsAs, ReadsTextAs, StopsString, StopsText, bytes_content, text_content}
 use Rattle.cbor4ii_items.specs.Laws.Steps.{kept_then}
-use Rattle.cbor4ii_tree.proofs.Doing.{reached_start, reached_by, does_ok, does_no_memory, does_no_step}
-use Rattle.cbor4ii_tree.proofs.SkippingCalls.{Before, broke, other, at_end}
-use Rattle.cbor4ii_tree.proofs.ValuingParts.{ReadEach, ReadPairs}
-use Rattle.cbor4ii_tree.proofs.ValuingCalls.{stepped, none, counted_more, counted_stop, unsigned_read, unsigned_stops, int_stops}
-use Rattle.cbor4ii_tree.proofs.ValuingHeads.{arm_ok, arm_err, arm_does, call_ok, call_err, StopsFrom, simple_read, negative_reads, reached_tag, tag_read, tag_stops, tag_stopped, view-Tag}
-use Rattle.cbor4ii_tree.proofs.ValuingSequences.{major_stepped, array_no_step, map_no_step, array_length_stops, map_length_stops, length_refused, reached_length, reached_open, array_counted, array_opened, array_reads, map_counted, map_opened, map_reads, each_none, each_more, open_end, open_stop, open_done, members_none, members_more, member_stop, pairs_none, pairs_more, members_end, pair_stop, value_stop, members_done, more, ends}
-use Rattle.cbor4ii_tree.proofs.ValuingStrings.{string_stops, text_stops, bytes_reads, text_reads}
-use Rattle.cbor4ii_tree.proofs.ValuingItems.{items_none, items_are, members_none_are, members_are, array_item, map_item, text_item}
+use Rattle.cbor4ii_tree.proofs.skip_calls.Doing.{reached_start, reached_by, does_ok, does_no_memory, does_no_step}
+use Rattle.cbor4ii_tree.proofs.skip_calls.Calls.{Before, broke, other, at_end}
+use Rattle.cbor4ii_tree.proofs.values.Parts.{ReadEach, ReadPairs}
+use Rattle.cbor4ii_tree.proofs.values.Calls.{stepped, none, counted_more, counted_stop, unsigned_read, unsigned_stops, int_stops}
+use Rattle.cbor4ii_tree.proofs.values.Heads.{arm_ok, arm_err, arm_does, call_ok, call_err, StopsFrom, simple_read, negative_reads, reached_tag, tag_read, tag_stops, tag_stopped, view-Tag}
+use Rattle.cbor4ii_tree.proofs.values.Sequences.{major_stepped, array_no_step, map_no_step, array_length_stops, map_length_stops, length_refused, reached_length, reached_open, array_counted, array_opened, array_reads, map_counted, map_opened, map_reads, each_none, each_more, open_end, open_stop, open_done, members_none, members_more, member_stop, pairs_none, pairs_more, members_end, pair_stop, value_stop, members_done, more, ends}
+use Rattle.cbor4ii_tree.proofs.values.Strings.{string_stops, text_stops, bytes_reads, text_reads}
+use Rattle.cbor4ii_tree.proofs.values.Items.{items_none, items_are, members_none_are, members_are, array_item, map_item, text_item}
 use Rattle.cbor4ii_tree.proofs.decode_value.+read.Goals as goal
 
 pub array_inside-returns-in-None-clause-does : goal.array_inside-returns-in-None-clause-does

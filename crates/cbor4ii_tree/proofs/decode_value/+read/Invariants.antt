@@ -2,8 +2,8 @@ use Rattle.std.proofs.Common.{◌+◌, ◌*◌}
 use Rattle.cbor4ii_tree.specs.Valuing.{ReadsItems, ReadsMembers}
 use Rattle.cbor4ii_tree.specs.Item.{AreItems, AreMembers}
 use Rattle.cbor4ii_tree.specs.View.{items_view, members_view}
-use Rattle.cbor4ii_tree.proofs.Doing.{Reached}
-use Rattle.cbor4ii_tree.proofs.ValuingParts.{ReadEach, ReadPairs}
+use Rattle.cbor4ii_tree.proofs.skip_calls.Doing.{Reached}
+use Rattle.cbor4ii_tree.proofs.values.Parts.{ReadEach, ReadPairs}
 use Rattle.cbor4ii_tree.proofs.decode_value.+read.Given as goal
 
 abbrev pub decreases-read_value : goal.decreases-read_value

@@ -2,7 +2,7 @@ use Rattle.std.proofs.Common.{arith, inl, refl, w8}
 use Rattle.std.proofs.lemmas.Result.{err_from_is_err_and}
 use Rattle.std.proofs.Math.Facts.{Fits-lt-pow}
 use Rattle.cbor4ii_items.specs.Initial.{half, single, double}
-use Rattle.cbor4ii_tree.proofs.ValuingHeads.{float_read, float_refused, no_value, view-F16, view-F32, view-F64}
+use Rattle.cbor4ii_tree.proofs.values.Heads.{float_read, float_refused, no_value, view-F16, view-F32, view-F64}
 use Rattle.cbor4ii_tree.specs.declared.value.FloatBits.TheVariants.{F16, F32, F64}
 use Rattle.cbor4ii_tree.proofs.decode_value.read_float.Goals as goal
 

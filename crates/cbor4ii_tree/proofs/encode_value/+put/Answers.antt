@@ -10,8 +10,8 @@ use Rattle.cbor4ii_tree.specs.Item.{integer}
 use Rattle.cbor4ii_tree.specs.View.{view}
 use Rattle.cbor4ii_tree.specs.Canonical.{canon}
 use Rattle.cbor4ii_tree.specs.Encoding.{value_bytes, member_bytes}
-use Rattle.cbor4ii_tree.proofs.InRange.{items_step, members_step, array_in_range, map_in_range, text_in_range}
-use Rattle.cbor4ii_tree.proofs.Encoding.{Bool-bytes, view-Integer, Array-bytes, Map-bytes, Tag-bytes, on_ok, on_any}
+use Rattle.cbor4ii_tree.proofs.values.InRange.{items_step, members_step, array_in_range, map_in_range, text_in_range}
+use Rattle.cbor4ii_tree.proofs.values.Encoding.{Bool-bytes, view-Integer, Array-bytes, Map-bytes, Tag-bytes, on_ok, on_any}
 use Rattle.cbor4ii_tree.proofs.encode_value.+put.Goals as goal
 
 pub put_items-returns-in_err-put_value-clause-writes : goal.put_items-returns-in_err-put_value-clause-writes

@@ -5,7 +5,7 @@ use mir.Syntax.{w128}
 use Rattle.cbor4ii_items.specs.Laws.Written.{writes_as}
 use Rattle.cbor4ii_tree.specs.Item.{integer}
 use Rattle.cbor4ii_tree.specs.Canonical.{canon}
-use Rattle.cbor4ii_tree.proofs.Encoding.{signed-canon}
+use Rattle.cbor4ii_tree.proofs.values.Encoding.{signed-canon}
 use Rattle.cbor4ii_tree.proofs.encode_value.put_integer.Goals as goal
 
 pub returns-clause-writes : goal.returns-clause-writes

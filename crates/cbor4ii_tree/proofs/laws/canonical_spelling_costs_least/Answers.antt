@@ -1,4 +1,4 @@
-use Rattle.cbor4ii_tree.proofs.CanonicalSpelling.{canon_spells}
+use Rattle.cbor4ii_tree.proofs.spellings.Canonical.{canon_spells}
 use Rattle.cbor4ii_tree.proofs.reading.Laws.{canon_costs_least, spelled_has_bignums}
 use Rattle.cbor4ii_tree.proofs.laws.canonical_spelling_costs_least.Goals as goal
 

@@ -1,5 +1,5 @@
 use Rattle.cbor4ii_tree.proofs.reading.Laws as lemmas
-use Rattle.cbor4ii_tree.proofs.MayStop.{reading_may_stop, reading_leaves_nothing}
+use Rattle.cbor4ii_tree.proofs.answers.MayStop.{reading_may_stop, reading_leaves_nothing}
 use Rattle.cbor4ii_tree.specs.Refusal.{eof}
 use Rattle.cbor4ii_tree.proofs.laws.reading_tells_what_may_come.Goals as goal
 

@@ -1,5 +1,5 @@
 use Rattle.cbor4ii_tree.proofs.skipping.Laws as lemmas
-use Rattle.cbor4ii_tree.proofs.MayStop.{skipping_may_stop, skipping_leaves_nothing}
+use Rattle.cbor4ii_tree.proofs.answers.MayStop.{skipping_may_stop, skipping_leaves_nothing}
 use Rattle.cbor4ii_tree.specs.Refusal.{eof}
 use Rattle.cbor4ii_tree.proofs.laws.skipping_tells_what_may_come.Goals as goal
 

@@ -1,4 +1,4 @@
-use Rattle.cbor4ii_tree.proofs.Sizes.{size-spelled}
+use Rattle.cbor4ii_tree.proofs.spellings.Sizes.{size-spelled}
 use Rattle.cbor4ii_tree.proofs.reading.Laws.{spelled_is_item}
 use Rattle.cbor4ii_tree.proofs.laws.value_is_no_larger_than_its_spelling.Goals as goal
 

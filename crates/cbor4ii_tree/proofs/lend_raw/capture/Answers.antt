@@ -1,4 +1,4 @@
-use Rattle.cbor4ii_tree.proofs.RawAnswers.{captured, stopped_in}
+use Rattle.cbor4ii_tree.proofs.raw_items.Captured.{captured, stopped_in}
 use Rattle.cbor4ii_tree.proofs.lend_raw.capture.Goals as goal
 
 pub returns-in-Ok-skip_lent : goal.returns-in-Ok-skip_lent

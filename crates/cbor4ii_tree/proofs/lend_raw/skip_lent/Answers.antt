@@ -1,4 +1,4 @@
-use Rattle.cbor4ii_tree.proofs.RawAnswers.{lent_stops}
+use Rattle.cbor4ii_tree.proofs.raw_items.Captured.{lent_stops}
 use Rattle.cbor4ii_tree.proofs.lend_raw.skip_lent.Goals as goal
 
 pub returns-in-Err-clause-stops : goal.returns-in-Err-clause-stops

@@ -1,4 +1,4 @@
-use Rattle.cbor4ii_tree.proofs.RawAnswers.{raw_moves, raw_progress, raw_memory, raw_sound, raw_refuses, raw_stops, raw_begins, raw_whole, raw_exact, raw_unmoved, raw_refused}
+use Rattle.cbor4ii_tree.proofs.raw_items.Captured.{raw_moves, raw_progress, raw_memory, raw_sound, raw_refuses, raw_stops, raw_begins, raw_whole, raw_exact, raw_unmoved, raw_refused}
 use Rattle.cbor4ii_tree.proofs.lend_raw.take_raw.Goals as goal
 
 pub returns-clause-moves : goal.returns-clause-moves

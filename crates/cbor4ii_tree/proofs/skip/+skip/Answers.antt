@@ -3,13 +3,13 @@ use Rattle.cbor4ii_tree.specs.Skipping.{SkipsItems, StopsItems, SkipsOpen, Stops
 use Rattle.cbor4ii_tree.specs.Ahead.{StopsSomeUnder, GoesUnder}
 use Rattle.cbor4ii_tree.specs.declared.skip.Behind.TheVariants as behind
 use Rattle.cbor4ii_tree.specs.declared.ahead.Among.TheVariants as among
-use Rattle.cbor4ii_tree.proofs.Doing.{reached_start, does_ok}
-use Rattle.cbor4ii_tree.proofs.FrontCalls.{keeps_alike, keeps_then}
-use Rattle.cbor4ii_tree.proofs.SkippingParts.{SkippedEach, SkippedPairs, each_none, pairs_none, each_join, open_stop, open_done, pairs_more, key_stop, value_stop, members_done, Left, left_all}
-use Rattle.cbor4ii_tree.proofs.SkippingCalls.{went_on, more, ends, WithKey}
-use Rattle.cbor4ii_tree.proofs.RunPairs.{pairs_join, pairs_key}
-use Rattle.cbor4ii_tree.proofs.RunCalls.{progress_none, progress_around, counts_one, counts_none, passes_some, passes_head, some_by, none_left, without_step, ran, not_ran, head_one, head_stopped, nothing_taken, ended_some, cut_some, one_unseen, stopped_unseen, left_less, left_one, left_stopped, all_skipped, more_some, broke_some, ends_some, goes_on, goes_no_further, one_done, none_done, past, was_past, went_nowhere, was_nowhere, into_one, into_stopped, counts_past}
-use Rattle.cbor4ii_tree.proofs.DeeperCalls.{deeper_none, all_back, does_back, gone_into, gone_past, gone_nowhere, gone_without, gone_on, gone_no_further, all_gone}
+use Rattle.cbor4ii_tree.proofs.skip_calls.Doing.{reached_start, does_ok}
+use Rattle.cbor4ii_tree.proofs.skip_calls.Fronts.{keeps_alike, keeps_then}
+use Rattle.cbor4ii_tree.proofs.skip_calls.Parts.{SkippedEach, SkippedPairs, each_none, pairs_none, each_join, open_stop, open_done, pairs_more, key_stop, value_stop, members_done, Left, left_all}
+use Rattle.cbor4ii_tree.proofs.skip_calls.Calls.{went_on, more, ends, WithKey}
+use Rattle.cbor4ii_tree.proofs.skip_calls.Pairs.{pairs_join, pairs_key}
+use Rattle.cbor4ii_tree.proofs.skip_calls.Runs.{progress_none, progress_around, counts_one, counts_none, passes_some, passes_head, some_by, none_left, without_step, ran, not_ran, head_one, head_stopped, nothing_taken, ended_some, cut_some, one_unseen, stopped_unseen, left_less, left_one, left_stopped, all_skipped, more_some, broke_some, ends_some, goes_on, goes_no_further, one_done, none_done, past, was_past, went_nowhere, was_nowhere, into_one, into_stopped, counts_past}
+use Rattle.cbor4ii_tree.proofs.skip_calls.Deeper.{deeper_none, all_back, does_back, gone_into, gone_past, gone_nowhere, gone_without, gone_on, gone_no_further, all_gone}
 use Rattle.cbor4ii_tree.proofs.skip.+skip.Goals as goal
 
 pub skip_one-returns-in-None-clause-does : goal.skip_one-returns-in-None-clause-does

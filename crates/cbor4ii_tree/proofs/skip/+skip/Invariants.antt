@@ -1,8 +1,8 @@
 use Rattle.std.proofs.Common.{IsTrue, ◌+◌, ◌*◌}
 use Rattle.cbor4ii_rw.specs.Reader.{KeepsAllButBudget}
 use Rattle.cbor4ii_tree.specs.Deeper.{Deeper, GoesOn, budgeted}
-use Rattle.cbor4ii_tree.proofs.Doing.{Reached}
-use Rattle.cbor4ii_tree.proofs.SkippingParts.{SkippedEach, SkippedPairs, Left}
+use Rattle.cbor4ii_tree.proofs.skip_calls.Doing.{Reached}
+use Rattle.cbor4ii_tree.proofs.skip_calls.Parts.{SkippedEach, SkippedPairs, Left}
 use Rattle.cbor4ii_tree.proofs.skip.+skip.Given as goal
 
 abbrev pub decreases-skip_behind : goal.decreases-skip_behind

@@ -1,6 +1,6 @@
 use Rattle.std.proofs.Common.{refl, arith}
-use Rattle.cbor4ii_tree.proofs.FrontCalls.{keeps_then}
-use Rattle.cbor4ii_tree.proofs.DeeperCalls.{one_back}
+use Rattle.cbor4ii_tree.proofs.skip_calls.Fronts.{keeps_then}
+use Rattle.cbor4ii_tree.proofs.skip_calls.Deeper.{one_back}
 use Rattle.cbor4ii_tree.proofs.skip.give_back.Goals as goal
 
 pub loop-left-preserved : goal.loop-left-preserved

@@ -1,4 +1,4 @@
-use Rattle.cbor4ii_tree.proofs.FrontCalls.{takes_run, takes_head, takes_break, passes_run, passes_head}
+use Rattle.cbor4ii_tree.proofs.skip_calls.Fronts.{takes_run, takes_head, takes_break, passes_run, passes_head}
 use Rattle.cbor4ii_tree.proofs.skip.take_ahead.Goals as goal
 
 pub returns-in-Ok-Run-clause-does : goal.returns-in-Ok-Run-clause-does

@@ -1,6 +1,6 @@
 use Rattle.std.proofs.Common.{◌%◌}
 use Rattle.std.proofs.lemmas.Result.{err_from_is_err_and}
-use Rattle.cbor4ii_tree.proofs.SkippingBytes.{width_is, argument_cut}
+use Rattle.cbor4ii_tree.proofs.skip_calls.Bytes.{width_is, argument_cut}
 use Rattle.cbor4ii_tree.proofs.unseen.argument.Goals as goal
 
 pub returns-in_err-number-in-Wide-clause-does : goal.returns-in_err-number-in-Wide-clause-does

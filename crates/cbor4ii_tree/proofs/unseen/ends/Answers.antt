@@ -1,5 +1,5 @@
 use Rattle.std.proofs.Common.{true, ◌≡◌}
-use Rattle.cbor4ii_tree.proofs.RunCalls.{ends_open, open_where, ends_not}
+use Rattle.cbor4ii_tree.proofs.skip_calls.Runs.{ends_open, open_where, ends_not}
 use Rattle.cbor4ii_tree.proofs.unseen.ends.Goals as goal
 
 pub returns-then-is_open-clause-does : goal.returns-then-is_open-clause-does

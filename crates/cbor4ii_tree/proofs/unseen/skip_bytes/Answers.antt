@@ -2,8 +2,8 @@ use Rattle.std.proofs.Common.{arith, codes, refl, ◌∙◌}
 use Rattle.std.proofs.lemmas.Result.{err_from_is_err_and}
 use Rattle.cbor4ii_tree.specs.Stops.{Missing}
 use Rattle.cbor4ii_tree.specs.HeadParts.{DropsBytes, DropsSome}
-use Rattle.cbor4ii_tree.proofs.Doing.{reached_start, reached_by, reached_then, reached_as, does_ok, does_err}
-use Rattle.cbor4ii_tree.proofs.SkippingBytes.{Dropped, dropped_none, dropped_more, dropped_cut, dropped_all}
+use Rattle.cbor4ii_tree.proofs.skip_calls.Doing.{reached_start, reached_by, reached_then, reached_as, does_ok, does_err}
+use Rattle.cbor4ii_tree.proofs.skip_calls.Bytes.{Dropped, dropped_none, dropped_more, dropped_cut, dropped_all}
 use Rattle.cbor4ii_tree.proofs.unseen.skip_bytes.Goals as goal
 
 pub loop-missing-init : goal.loop-missing-init

@@ -6,9 +6,9 @@ use Rattle.cbor4ii_tree.specs.HeadParts.{ArgumentAt, DropsBytes}
 use Rattle.cbor4ii_tree.specs.Stops.{Missing, MissingAll}
 use Rattle.cbor4ii_tree.specs.Refusal.{ignored_any, tag_name}
 use Rattle.cbor4ii_tree.specs.declared.skip.Behind.TheVariants as behind
-use Rattle.cbor4ii_tree.proofs.Doing.{reached_first}
-use Rattle.cbor4ii_tree.proofs.Leading.{leads_bytes, bytes_cut, content_info, items_info, members_info, tag_info, open_leads, open_members_leads, is_taken, no_tag}
-use Rattle.cbor4ii_tree.proofs.HeadCalls.{first_err, first_ok, first_alone, first_refused}
+use Rattle.cbor4ii_tree.proofs.skip_calls.Doing.{reached_first}
+use Rattle.cbor4ii_tree.proofs.skip_calls.Leading.{leads_bytes, bytes_cut, content_info, items_info, members_info, tag_info, open_leads, open_members_leads, is_taken, no_tag}
+use Rattle.cbor4ii_tree.proofs.skip_calls.Heads.{first_err, first_ok, first_alone, first_refused}
 use Rattle.cbor4ii_tree.proofs.unseen.skip_head.Goals as goal
 
 -- a first byte and its argument

@@ -1,7 +1,7 @@
 use Rattle.std.proofs.Common.{◌<◌, arith, length, sym, ap, ◌∙◌, refl}
 use Rattle.std.proofs.lemmas.List.{take_more}
 use Rattle.cbor4ii_tree.specs.View.{view}
-use Rattle.cbor4ii_tree.proofs.Views.{length-items_view, length-members_view, view_at, items_view-push, views_at, members_more, mapping_same}
+use Rattle.cbor4ii_tree.proofs.values.Views.{length-items_view, length-members_view, view_at, items_view-push, views_at, members_more, mapping_same}
 use Rattle.cbor4ii_tree.proofs.value.+same.Goals as goal
 
 pub same_value-returns-in-Map-Map : goal.same_value-returns-in-Map-Map

@@ -1,6 +1,6 @@
 use Rattle.std.proofs.Common.{rules}
 use Rattle.cbor4ii_items.specs.Laws.Steps.{moves_err}
-use Rattle.cbor4ii.specs.Around.{moves_at}
+use Rattle.cbor4ii.specs.Laws.Accessors.{moves_at}
 use Rattle.cbor4ii_records.proofs.Variants.{with_content, without_name, said_nothing}
 use Rattle.cbor4ii_records.proofs.events.EventDeserialize.deserialize.Goals as goal
 

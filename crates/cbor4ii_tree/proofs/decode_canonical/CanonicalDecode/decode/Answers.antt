@@ -1,6 +1,6 @@
 use Rattle.std.proofs.lemmas.Result.{err_from_is_err_and}
 use Rattle.cbor4ii_items.specs.Laws.Steps.{moves_ok, moves_err}
-use Rattle.cbor4ii_tree.proofs.CanonicalDecoding.{canonical_sound, canonical_only, canonical_all, canonical_spelling, canonical_every, canonical_front, canonical_refuses, canonical_stops, refused_all, refused_every, refused_front, refused_eof, refused_depth, refused_never}
+use Rattle.cbor4ii_tree.proofs.canonical.Decoding.{canonical_sound, canonical_only, canonical_all, canonical_spelling, canonical_every, canonical_front, canonical_refuses, canonical_stops, refused_all, refused_every, refused_front, refused_eof, refused_depth, refused_never}
 use Rattle.cbor4ii_tree.proofs.decode_canonical.CanonicalDecode.decode.Goals as goal
 
 pub returns-clause-sound : goal.returns-clause-sound

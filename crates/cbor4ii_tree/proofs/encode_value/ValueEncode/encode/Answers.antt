@@ -1,6 +1,6 @@
 use Rattle.cbor4ii_tree.specs.View.{view}
-use Rattle.cbor4ii_tree.proofs.CanonicalSpelling.{canon_spells}
-use Rattle.cbor4ii_tree.proofs.Encoding.{on_ok}
+use Rattle.cbor4ii_tree.proofs.spellings.Canonical.{canon_spells}
+use Rattle.cbor4ii_tree.proofs.values.Encoding.{on_ok}
 use Rattle.cbor4ii_tree.proofs.reading.Laws.{reads_back_tagged}
 use Rattle.cbor4ii_tree.proofs.encode_value.ValueEncode.encode.Goals as goal
 

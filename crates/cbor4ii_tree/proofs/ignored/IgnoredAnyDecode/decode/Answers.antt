@@ -1,6 +1,6 @@
-use Rattle.cbor4ii_tree.proofs.Ignoring.{ignored_sound, ignored_refuses}
+use Rattle.cbor4ii_tree.proofs.skip_calls.Ignoring.{ignored_sound, ignored_refuses}
 use Rattle.std.proofs.Common.{Ok, Err}
-use Rattle.cbor4ii_tree.proofs.Promises.{all_skips, front_skips, eof_skips, depth_skips, final_skips, others_skips, exact_skips}
+use Rattle.cbor4ii_tree.proofs.answers.Promises.{all_skips, front_skips, eof_skips, depth_skips, final_skips, others_skips, exact_skips}
 use Rattle.cbor4ii_tree.proofs.ignored.IgnoredAnyDecode.decode.Goals as goal
 
 pub returns-in-Ok-clause-sound : goal.returns-in-Ok-clause-sound

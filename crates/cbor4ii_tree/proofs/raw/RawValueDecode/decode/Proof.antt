@@ -12,7 +12,7 @@ use mir.Syntax.{a_type, dcons, dnil, erased, Args}
 use prog.Wp.{Tables}
 use Rattle.cbor4ii_tree.specs.contracts.raw.RawValue as RawValue
 use Rattle.cbor4ii_tree.proofs.raw.RawValue.TheLaws.{the_row_laws}
-use Rattle.cbor4ii_tree.proofs.ToldRaw.{told}
+use Rattle.cbor4ii_tree.proofs.raw_items.Told.{told}
 use Rattle.cbor4ii_tree.specs.contracts.raw.RawValueLendRaw.TheImpl as lends
 use Rattle.cbor4ii_tree.proofs.raw.RawValueLendRaw.TheImpl.Met.{bound}
 use Rattle.cbor4ii_tree.specs.contracts.raw.RawValueDecode.decode as f

@@ -1,4 +1,4 @@
-use Rattle.cbor4ii_tree.proofs.RawAnswers.{lends_nothing}
+use Rattle.cbor4ii_tree.proofs.raw_items.Captured.{lends_nothing}
 use Rattle.cbor4ii_tree.proofs.raw.RawValueLendRaw.lend_front.Goals as goal
 
 pub returns-then-front-eq0-clause-lent : goal.returns-then-front-eq0-clause-lent

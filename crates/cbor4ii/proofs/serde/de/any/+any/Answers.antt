@@ -3,7 +3,7 @@ use Rattle.std.proofs.lemmas.Result.{err_from_is_err_and}
 use Rattle.cbor4ii_items.specs.Laws.Steps.{moves_then, moves_ok, moves_err, kept_then}
 use Rattle.cbor4ii_items.specs.Laws.UnderStep.{moves_stepped}
 use Rattle.cbor4ii.specs.Any.{ReadsAny, of_array, of_map}
-use Rattle.cbor4ii.specs.AnyLaws.{any_laws}
+use Rattle.cbor4ii.specs.Laws.Any.{any_laws}
 use Rattle.cbor4ii.specs.Typed.{answer_of, size_of}
 use Rattle.cbor4ii.proofs.AnyForms.{parts_sound, parts_refuse, pairs_laws, kind_sound, kind_refuses, other_refuses, no_byte_refuses, kind_ok, kind_err, any_ok, any_err}
 use Rattle.std.specs.Prelude.{codes}

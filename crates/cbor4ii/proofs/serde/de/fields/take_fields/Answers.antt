@@ -1,7 +1,7 @@
 use Rattle.std.proofs.Common.{rules, ◌∙◌}
 use Rattle.std.proofs.lemmas.Result.{err_from_is_err_and}
 use Rattle.cbor4ii_items.specs.Laws.Steps.{moves_then, moves_err, kept_then}
-use Rattle.cbor4ii.specs.Around.{around, kept_ok, moves_at}
+use Rattle.cbor4ii.specs.Laws.Accessors.{around, kept_ok, moves_at}
 use Rattle.cbor4ii.proofs.serde.de.fields.take_fields.Goals as goal
 
 pub returns-in_err-starts_element-clause-moves : goal.returns-in_err-starts_element-clause-moves

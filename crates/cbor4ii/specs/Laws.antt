@@ -1,0 +1,3 @@
+-- Laws of the definitions, and of how calls compose: what the proofs of this crate and of the crates above cite.
+pub mod Accessors
+pub mod Any

@@ -1,0 +1,4 @@
+-- Items that are kept as their bytes.
+pub mod Captured
+pub mod Copied
+pub mod Told

@@ -1,0 +1,149 @@
+-- Bytes that are skipped, front by front, and the arguments of heads.
+use Rattle.std.proofs.Common.{◌≡◌, ◌≢◌, ℕ, zero, suc, ◌+◌, ◌-◌, ◌*◌, ◌%◌, ◌^◌, ◌<◌, ◌≤◌, List, [], ◌∷◌, ◌++◌, length, take, drop, Option, Some, None, Ok, Err, true, false, refl, sym, ap, ◌∙◌, subst, arith, IfSome, append_assoc, length-append, take-append-drop, ltb, ltb-true, ltb-false, Bool}
+use Rattle.std.proofs.lemmas.List.{length-take-le}
+use Rattle.std.specs.Int.{bytes_high_first}
+use denote.Ref.{Bor}
+use Rattle.cbor4ii_rw.specs.View.{View, Told}
+use Rattle.cbor4ii_rw.specs.Reader.{Shows, Advances, IsFront}
+use Rattle.cbor4ii_rw.specs.declared.error.Len.{Len}
+use Rattle.cbor4ii_rw.specs.declared.error.Len.TheVariants.{Small, Big}
+use Rattle.cbor4ii_rw.specs.declared.error.DecodeError.{DecodeError}
+use Rattle.cbor4ii_rw.specs.declared.error.DecodeError.TheVariants.{Eof}
+use Rattle.cbor4ii_items.specs.Head.{Width, in_first, one, two, four, eight, byte_count, additional, HeadFits, IsBytes}
+use Rattle.cbor4ii_items.specs.Initial.{info_of, wide}
+use Rattle.cbor4ii_items.specs.Laws.Heads.{number_is, IsBytes-take}
+use Rattle.cbor4ii_items.specs.ReadHead.{number_on}
+use Rattle.cbor4ii_items.specs.Reading.{Runs}
+use Rattle.cbor4ii_items.specs.Refusal.{Refusal, refusal_of, eof, len_of}
+use Rattle.cbor4ii_items.specs.Laws.Contents.{lends_front}
+use Rattle.cbor4ii_items.specs.Laws.Running.{shows_kept}
+use Rattle.cbor4ii_items.specs.Laws.Steps.{moves_err}
+use Rattle.cbor4ii_tree.proofs.heads.Means.{WidthSays, InfoSays, info_says}
+use Rattle.cbor4ii_tree.specs.Skipping.{additional_of}
+use Rattle.cbor4ii_tree.specs.declared.skip.Additional.{Additional}
+use Rattle.cbor4ii_tree.specs.declared.skip.Additional.TheVariants.{Wide}
+use Rattle.cbor4ii_tree.specs.Stops.{Missing, MissingAll}
+use Rattle.cbor4ii_tree.specs.Does.{Does}
+use Rattle.cbor4ii_tree.specs.HeadParts.{ArgumentAt, DropsBytes, DropsSome}
+use Rattle.cbor4ii_tree.specs.Laws.Binds.{is_err, no_err}
+use Rattle.cbor4ii_tree.proofs.skip_calls.Doing.{does_ok, does_refuse}
+
+pub len_is : (n : ℕ) (l : Len) → (n < 65536 → l ≡ Small n) → (65536 ≤ n → l ≡ Big) → l ≡ len_of n
+len_is n l s b = by_size (ltb n 65536) refl
+  where
+    by_size : (t : Bool) → ltb n 65536 ≡ t → l ≡ len_of n
+    by_size true e = rw e (s (ltb-true n 65536 e))
+    by_size false e = rw e (b (ltb-false n 65536 e))
+
+-- ---- what is shown
+
+pub none_shown : {E : Type 0} {name : Bor (List ℕ)} (missing : ℕ) {l : Len} {shown : List ℕ} {a b : View} → 1 ≤ missing → Shows shown a b → Told a.told (IsFront missing shown) → length shown ≡ 0 → (missing < 65536 → l ≡ Small missing) → (65536 ≤ missing → l ≡ Big)
+    → Does {V = ℕ} {E = E} (DropsSome missing) (Missing name.now missing) a b (Err (Eof name l))
+none_shown {name = name} missing {l = l} {a = a} {b = b} some s front none small big =
+    let is : l ≡ len_of missing = len_is missing l small big in
+    does_refuse (λ xs ys. (xs ≡ []) × (ys ≡ [])) (DropsSome missing) (Missing name.now missing) (eof name.now l) refl refl refl
+    (λ xs ys e. let z : length xs ≡ 0 = ap length e.0 in let gap : missing - length xs ≡ missing = omega (arith, z) in (omega (arith, z), (ap (eof name.now) (is ∙ ap len_of (sym gap)), e.1)))
+    (record { kept = shows_kept s; at = λ xs told. let e = (front xs told).ends (omega (arith, some)) none in (xs, s.told xs told, (e, e)) })
+
+pub some_shown : {E : Type 0} {name : List ℕ} (missing : ℕ) {n : ℕ} {shown : List ℕ} {a m b : View} → Shows shown a m → Told a.told (IsFront missing shown) → 1 ≤ n → n ≤ missing → n ≤ length shown → IsBytes (take n shown) → Advances n m b
+    → Does {V = ℕ} {E = E} (DropsSome missing) (Missing name missing) a b (Ok n)
+some_shown {name = name} missing {n = n} {shown = shown} s front some most within bytes adv =
+    let l = lends_front s front within bytes refl adv in
+    does_ok (DropsSome missing) (Missing name missing) (record {
+      kept = l.kept;
+      at = λ xs told.
+          let t = l.at xs told in
+          (drop n xs, t.1, (some, most, record { content = take n xs; size = length-take-le n xs t.0; bytes = subst IsBytes t.2 bytes; is = sym (take-append-drop n xs) }));
+    })
+
+-- ---- bytes one front after another
+
+-- so many are missing yet
+abbrev pub Dropped : ℕ → ℕ → List ℕ → List ℕ → Type 0
+Dropped count missing xs ys = (n : ℕ) × (n + missing ≡ count) × DropsBytes n xs ys
+
+IsBytes-append : (xs ys : List ℕ) → IsBytes xs → IsBytes ys → IsBytes (xs ++ ys)
+IsBytes-append [] ys p q = q
+IsBytes-append (x ∷ xs) ys p q = (p.0, IsBytes-append xs ys p.1 q)
+
+pub dropped_none : (count : ℕ) (xs : List ℕ) → Dropped count count xs xs
+dropped_none count xs = (0, omega arith, record { content = []; size = refl; bytes = tt; is = refl })
+
+pub dropped_more : (count missing n : ℕ) (xs ys zs : List ℕ) → Dropped count missing xs ys → DropsSome missing ys n zs → Dropped count (missing - n) xs zs
+dropped_more count missing n xs ys zs d s = (
+  d.0 + n,
+  omega (arith, d.1, s.1),
+  record {
+    content = d.2.content ++ s.2.content;
+    size = omega (arith, length-append d.2.content s.2.content, d.2.size, s.2.size);
+    bytes = IsBytes-append d.2.content s.2.content d.2.bytes s.2.bytes;
+    is = d.2.is ∙ ap (λ r. d.2.content ++ r) s.2.is ∙ sym (append_assoc d.2.content s.2.content zs);
+  },
+)
+
+pub dropped_cut : (name : List ℕ) (count missing : ℕ) (xs ys : List ℕ) (e : Refusal) (rest : List ℕ) → Dropped count missing xs ys → Missing name missing ys e rest → Missing name count xs e rest
+dropped_cut name count missing xs ys e rest d m =
+    let size : length xs ≡ d.0 + length ys = omega (arith, ap length d.2.is, length-append d.2.content ys, d.2.size) in
+    let gap : missing - length ys ≡ count - length xs = omega (arith, size, d.1, m.0) in
+    (omega (arith, size, d.1, m.0), (m.1.0 ∙ ap (λ j. eof name (len_of j)) gap, m.1.1))
+
+pub dropped_all : (count missing : ℕ) (xs ys : List ℕ) → missing ≡ 0 → Dropped count missing xs ys → DropsBytes count xs ys
+dropped_all count missing xs ys none d = record { content = d.2.content; size = omega (arith, d.2.size, d.1, none); bytes = d.2.bytes; is = d.2.is }
+
+-- ---- arguments
+
+number_cut : (name : List ℕ) (expect k high : ℕ) (bs : List ℕ) (e : Refusal) (rest : List ℕ) → number_on name expect k high bs ≡ Err (e, rest) → (length bs < k) × (e ≡ eof name (Small expect)) × (rest ≡ [])
+number_cut name expect zero high bs e rest h = absurd (no_err _ _ h)
+number_cut name expect (suc k) high [] e rest h = let g = is_err {A = ℕ} _ _ _ _ h in (omega arith, g.0, g.1)
+number_cut name expect (suc k) high (b ∷ bs) e rest h = let r = number_cut name expect k (high * 256 + b) bs e rest h in (omega (arith, r.0), r.1, r.2)
+
+pub says_width : (i : ℕ) (w : Width) → info_of i ≡ wide w → WidthSays w i
+says_width i w e = subst (InfoSays i) e (info_says i)
+
+additional_is : (i : ℕ) (w : Width) (n : ℕ) → WidthSays w i → byte_count w ≢ 0 → additional w n ≡ i
+additional_is i in_first n h some = absurd (some refl)
+additional_is i one n h some = sym h
+additional_is i two n h some = sym h
+additional_is i four n h some = sym h
+additional_is i eight n h some = sym h
+
+number_fits : (w : Width) (n : ℕ) → byte_count w ≢ 0 → n < 256 ^ byte_count w → HeadFits w n
+number_fits in_first n some h = absurd (some refl)
+number_fits one n some h = omega (arith, h)
+number_fits two n some h = h
+number_fits four n some h = h
+number_fits eight n some h = h
+
+pub width_is : (w : Width) (i k : ℕ) (a : Additional) → info_of i ≡ wide w → a ≡ additional_of (info_of i) → a ≡ Wide k → byte_count w ≡ k
+width_is w i k a is by at = let e : additional_of (info_of i) ≡ Wide (byte_count w) = ap additional_of is in cc
+
+pub argument_read : (name : List ℕ) (w : Width) (first k v n : ℕ) (bs ys : List ℕ) → info_of (first % 32) ≡ wide w → byte_count w ≡ k → k ≢ 0 → IsBytes (take n bs) → k ≤ n → number_on name k k 0 bs ≡ Ok (v, ys) → ArgumentAt w first bs v ys
+argument_read name w first k v n bs ys is size some bytes le e =
+    let h = number_is name k k v bs ys (IsBytes-take k n bs le bytes) e in
+    let more : byte_count w ≢ 0 = λ z. some (sym size ∙ z) in
+    record {
+      fits = number_fits w v more (subst (λ j. v < 256 ^ j) (sym size) h.1);
+      says = additional_is (first % 32) w v (says_width (first % 32) w is) more;
+      is = h.0 ∙ ap (λ j. bytes_high_first j v ++ ys) (sym size);
+    }
+
+cut_at : (o : Option Refusal) (name : List ℕ) (k : ℕ) (w : Width) (xs : List ℕ) (new : Option (List ℕ)) → byte_count w ≡ k → IfSome o (λ z. (ys : List ℕ) × (new ≡ Some ys) × (number_on name k k 0 xs ≡ Err (z, ys)))
+    → IfSome o (λ z. (ys : List ℕ) × (new ≡ Some ys) × MissingAll name (byte_count w) xs z ys)
+cut_at None name k w xs new size h = tt
+cut_at (Some z) name k w xs new size h =
+    let c = number_cut name k k 0 xs z h.0 h.2 in
+    (h.0, h.1, (omega (arith, c.0, size), (c.1 ∙ ap (eof name) (small w k size), c.2)))
+  where
+    small : (w : Width) (k : ℕ) → byte_count w ≡ k → Small k ≡ len_of (byte_count w)
+    small in_first k e = ap Small (sym e)
+    small one k e = ap Small (sym e)
+    small two k e = ap Small (sym e)
+    small four k e = ap Small (sym e)
+    small eight k e = ap Small (sym e)
+
+pub argument_cut : {E : Type 0} (name : List ℕ) (w : Width) (first k : ℕ) {a b : View} {e : DecodeError E} → byte_count w ≡ k → Runs {V = ℕ} (number_on name k k 0) a b (Err e) → Does {V = ℕ} (ArgumentAt w first) (MissingAll name (byte_count w)) a b (Err e)
+argument_cut name w first k {b = b} {e = e} size p = record {
+  moves = moves_err p.moves;
+  ok = tt;
+  err = λ xs told. cut_at (refusal_of e) name k w xs b.told size (p.answers xs told);
+}

@@ -1,0 +1,121 @@
+-- Heads that stand whole in what is shown.
+use Rattle.std.proofs.Common.{◌≡◌, ◌≢◌, ℕ, suc, ◌+◌, ◌-◌, ◌%◌, ◌<◌, ◌≤◌, List, [], ◌∷◌, ◌++◌, length, take, drop, Option, Some, None, IfSome, refl, sym, ap, ◌∙◌, subst, arith, append_assoc, take-append-drop, length-drop}
+use Rattle.std.proofs.lemmas.List.{length-take-le, take-append-le}
+use Rattle.cbor4ii_items.specs.Head.{Width, in_first, one, two, four, eight, byte_count, IsBytes, break}
+use Rattle.cbor4ii_items.specs.Initial.{info_of, wide, initial}
+use Rattle.cbor4ii_items.specs.ReadHead.{following}
+use Rattle.cbor4ii_items.specs.Laws.Fronts.{drop_more}
+use Rattle.cbor4ii_tree.specs.Cost.{Budget}
+use Rattle.cbor4ii_tree.specs.Runs.{IsLeafAt}
+use Rattle.cbor4ii_tree.specs.Skipping.{start_of, Leads, StopsBehind}
+use Rattle.cbor4ii_tree.specs.Refusal.{Refusal}
+use Rattle.cbor4ii_tree.specs.declared.skip.Start.{Start}
+use Rattle.cbor4ii_tree.specs.Ahead.{BeginsHead, BeginsWithBreak, ShowsNumber, ShowsArgument}
+use Rattle.cbor4ii_tree.specs.declared.skip.Behind.{Behind}
+use Rattle.cbor4ii_tree.specs.declared.skip.Behind.TheVariants.{Nothing, Bytes, Items, Members, Open, OpenMembers}
+use Rattle.cbor4ii_tree.specs.declared.skip.Start.TheVariants as start
+use Rattle.cbor4ii_tree.proofs.skip_calls.Bytes.{says_width, argument_read}
+use Rattle.cbor4ii_tree.proofs.heads.Inverse.{IsBytes-take, IsBytes-drop}
+use Rattle.cbor4ii_tree.proofs.skip_calls.Leading.{whole, argument_low, content_info, items_info, members_info, tag_info, open_leads, open_members_leads}
+
+-- ---- an item that holds no other
+
+pub sees_leaf : (size : ℕ) (shown : List ℕ) → size ≢ 0 → IsLeafAt 0 size shown → IsBytes (take size shown) → BeginsHead size Nothing shown
+sees_leaf size shown some l fresh = record {
+  some = omega (arith, some);
+  within = omega (arith, l.within);
+  bytes = fresh;
+  leads = λ inner after.
+      let rest = drop size shown in
+      whole inner (shown ++ after) (rest ++ after) (
+        l.leaf.0,
+        l.leaf.1,
+        ap (λ r. r ++ after) (sym (take-append-drop size shown)) ∙ (append_assoc (take size shown) rest after ∙ ap (λ r. r ++ (rest ++ after)) l.leaf.2),
+      );
+  item = λ inner after e rest h. absurd h;
+}
+
+-- ---- arguments
+
+pub shows_low : (b : ℕ) (bs : List ℕ) → b % 32 < 24 → ShowsArgument b bs (b % 32) 0
+shows_low b bs low = record { within = omega arith; bytes = tt; argument = λ w is after. argument_low w b (bs ++ after) is low }
+
+width_follows : (w : Width) (i k : ℕ) → info_of i ≡ wide w → 24 ≤ i → k ≡ following i → byte_count w ≡ k
+width_follows in_first i k is large f = absurd (omega (arith, says_width i in_first is, large))
+width_follows one i k is large f = sym (f ∙ ap following (says_width i one is))
+width_follows two i k is large f = sym (f ∙ ap following (says_width i two is))
+width_follows four i k is large f = sym (f ∙ ap following (says_width i four is))
+width_follows eight i k is large f = sym (f ∙ ap following (says_width i eight is))
+
+pub shows_wide : (b n k : ℕ) (bs : List ℕ) → 24 ≤ b % 32 → IsBytes bs → ShowsNumber (b % 32) bs n k → ShowsArgument b bs n k
+shows_wide b n k bs large fresh s = record {
+  within = s.within;
+  bytes = IsBytes-take k bs fresh;
+  argument = λ w is after. argument_read [] w b k n k (bs ++ after) (drop k bs ++ after) is (width_follows w (b % 32) k is large s.follows) s.some
+      (subst IsBytes (sym (take-append-le k bs after s.within)) (IsBytes-take k bs fresh)) (omega arith) (s.number [] after);
+}
+
+pub shows_some : (b : ℕ) (bs : List ℕ) (o : Option (ℕ × ℕ)) → 24 ≤ b % 32 → IsBytes bs → IfSome o (λ found. ShowsNumber (b % 32) bs found.0 found.1) → IfSome o (λ found. ShowsArgument b bs found.0 found.1)
+shows_some b bs None large fresh h = tt
+shows_some b bs (Some found) large fresh h = shows_wide b found.0 found.1 bs large fresh h
+
+-- ---- heads
+
+-- so many bytes behind the first
+behind_first : (size k : ℕ) (behind : Behind) (b : ℕ) (bs : List ℕ) → size ≡ suc k → b < 256 → k ≤ length bs → IsBytes (take k bs)
+    → ((inner : Budget) (ys : List ℕ) (e : Refusal) (rest : List ℕ) → StopsBehind behind inner ys e rest → b ≢ break)
+    → ((inner : Budget) (after : List ℕ) → Leads inner (b ∷ (bs ++ after)) behind (drop k bs ++ after)) → BeginsHead size behind (b ∷ bs)
+behind_first size k behind b bs e small h fresh other f = subst (λ j. BeginsHead j behind (b ∷ bs)) (sym e) (record {
+  some = omega arith;
+  within = omega (arith, h);
+  bytes = (small, fresh);
+  leads = f;
+  item = λ inner after e rest s. ((λ z. cc), λ ws z. let same : b ≡ break = cc in other inner (drop k bs ++ after) e rest s same);
+})
+
+-- a byte that begins an item is no break
+other_byte : (b : ℕ) (s : Start) → start_of (initial b) ≡ s → (s ≡ start.Unsupported → ⊥) → b ≢ break
+unfolding initial
+other_byte b s is f e = f (sym is ∙ ap (λ j. start_of (initial j)) e)
+
+module _ (b n k : ℕ) (bs : List ℕ) (small : b < 256) (a : ShowsArgument b bs n k) where
+  pub sees_string : start_of (initial b) ≡ start.Content → BeginsHead (1 + k) (Bytes n) (b ∷ bs)
+  sees_string s = behind_first (1 + k) k (Bytes n) b bs (omega arith) small a.within a.bytes (λ _ _ _ _ _. other_byte b start.Content s (λ u. cc))
+      (λ inner after. let i = content_info inner b small s in i.3 (bs ++ after) (drop k bs ++ after) n (a.argument i.0 i.1 after))
+
+  pub sees_content : start_of (initial b) ≡ start.Content → n ≤ length bs - k → IsBytes bs → BeginsHead (1 + k + n) Nothing (b ∷ bs)
+  sees_content s le fresh =
+      let room : n ≤ length (drop k bs) = omega (arith, length-drop k bs, le) in
+      behind_first (1 + k + n) (k + n) Nothing b bs (omega arith) small (omega (arith, le, a.within)) (IsBytes-take (k + n) bs fresh) (λ _ _ _ _ h. absurd h)
+      (λ inner after.
+      let i = content_info inner b small s in
+      whole inner (b ∷ (bs ++ after)) (drop (k + n) bs ++ after) (i.4 (bs ++ after) (drop k bs ++ after) (drop (k + n) bs ++ after) n (a.argument i.0 i.1 after) (record {
+        content = take n (drop k bs);
+        size = length-take-le n (drop k bs) room;
+        bytes = IsBytes-take n (drop k bs) (IsBytes-drop k bs fresh);
+        is = ap (λ r. r ++ after) (sym (take-append-drop n (drop k bs))) ∙ (append_assoc (take n (drop k bs)) (drop n (drop k bs)) after ∙ ap (λ r. take n (drop k bs) ++ (r ++ after)) (drop_more n k bs));
+      })))
+
+  pub sees_items : start_of (initial b) ≡ start.Items → BeginsHead (1 + k) (Items n) (b ∷ bs)
+  sees_items s = behind_first (1 + k) k (Items n) b bs (omega arith) small a.within a.bytes (λ _ _ _ _ _. other_byte b start.Items s (λ u. cc))
+      (λ inner after. let i = items_info inner b small s in i.3 (bs ++ after) (drop k bs ++ after) n (a.argument i.0 i.1 after))
+
+  pub sees_members : start_of (initial b) ≡ start.Members → BeginsHead (1 + k) (Members n) (b ∷ bs)
+  sees_members s = behind_first (1 + k) k (Members n) b bs (omega arith) small a.within a.bytes (λ _ _ _ _ _. other_byte b start.Members s (λ u. cc))
+      (λ inner after. let i = members_info inner b small s in i.3 (bs ++ after) (drop k bs ++ after) n (a.argument i.0 i.1 after))
+
+  pub sees_tag : start_of (initial b) ≡ start.Tag → BeginsHead (1 + k) (Items 1) (b ∷ bs)
+  sees_tag s = behind_first (1 + k) k (Items 1) b bs (omega arith) small a.within a.bytes (λ _ _ _ _ _. other_byte b start.Tag s (λ u. cc))
+      (λ inner after. let i = tag_info inner b small s in i.3 (bs ++ after) (drop k bs ++ after) n (a.argument i.0 i.1 after))
+
+pub sees_open : (b : ℕ) (bs : List ℕ) → b < 256 → start_of (initial b) ≡ start.Open → BeginsHead 1 Open (b ∷ bs)
+sees_open b bs small s = behind_first 1 0 Open b bs refl small (omega arith) tt (λ _ _ _ _ _. other_byte b start.Open s (λ u. cc)) (λ inner after. open_leads inner b small s (bs ++ after))
+
+pub sees_open_members : (b : ℕ) (bs : List ℕ) → b < 256 → start_of (initial b) ≡ start.OpenMembers → BeginsHead 1 OpenMembers (b ∷ bs)
+sees_open_members b bs small s = behind_first 1 0 OpenMembers b bs refl small (omega arith) tt (λ _ _ _ _ _. other_byte b start.OpenMembers s (λ u. cc)) (λ inner after. open_members_leads inner b small s (bs ++ after))
+
+-- ---- a break
+
+pub first_break : (shown : List ℕ) → BeginsWithBreak shown → (take 1 shown ≡ break ∷ []) × IsBytes (take 1 shown)
+first_break [] h = absurd (omega (arith, h.some))
+first_break (b ∷ bs) h = (ap (λ j. j ∷ []) h.is, (subst (λ j. j < 256) (sym h.is) (omega arith), tt))

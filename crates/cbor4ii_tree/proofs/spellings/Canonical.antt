@@ -1,0 +1,158 @@
+-- The canonical spelling is a spelling.
+use Rattle.std.proofs.Common.{◌≡◌, ℕ, zero, suc, ◌^◌, ◌<◌, ◌≤◌, List, [], ◌∷◌, length, Bool, true, false, cond, ltb, ltb-true, lt-ltb, pos, negsuc, refl, sym, ap, ap₂, arith, subst}
+use Rattle.std.specs.Int.{bytes_high_first}
+use Rattle.cbor4ii_items.specs.Head.{Width, HeadFits, shortest}
+use Rattle.cbor4ii_items.specs.Initial.{Sign, unsigned, negative, Kind, byte_string, text_string, simple_false, simple_true, simple_null, simple_undefined}
+use Rattle.cbor4ii_tree.specs.Tree.{Tree, int, string, chunked, array, array_open, map_of, map_open, tagged, simple, bits, Trees, no_trees, tree, Pairs, no_pairs, pair, joined_chunks, count, pair_count, Loose, LooseAll, LoosePairs, SoundStrings, SoundStringsAll, SoundStringsPairs}
+use Rattle.cbor4ii_tree.specs.Item.{Item, null, boolean, integer, float, bytes_item, text, sequence, mapping, tag, Items, no_items, item, Members, no_members, member, item_count, member_count, IsItem, AreItems, AreMembers}
+use Rattle.cbor4ii_tree.specs.Meaning.{value, values, member_values, number, content_item}
+use Rattle.cbor4ii_tree.specs.Cost.{cost}
+use Rattle.cbor4ii_tree.specs.Canonical.{canon, canon_tree, canon_trees, canon_pairs, integer_tree, bignum, magnitude, without_leading_zeros, sign_tag, with_bignums, with_bignums_all, with_bignums_members, tagged_integer}
+use Rattle.cbor4ii_tree.specs.Spelling.{Spells}
+use Rattle.cbor4ii_tree.specs.Laws.Binds.{if_cases}
+use Rattle.cbor4ii_tree.proofs.spellings.Costs.{below_from_HeadFits}
+use Rattle.cbor4ii_tree.specs.Laws.Numbers.{length-bytes_high_first}
+
+pub shortest_fits : (n : ℕ) → n < 2 ^ 64 → HeadFits (shortest n) n
+shortest_fits n h =
+    let P : Width → Type 0 = λ w. HeadFits w n in
+    if_cases P (ltb n 24) _ _ (λ e. let lt = ltb-true n 24 e in omega arith) (λ _. if_cases P (ltb n 256) _ _ (λ e. ltb-true n 256 e) (λ _. if_cases P (ltb n (256 ^ 2)) _ _ (λ e. ltb-true n (256 ^ 2) e)
+    (λ _. if_cases P (ltb n (256 ^ 4)) _ _ (λ e. ltb-true n (256 ^ 4) e) (λ _. h))))
+
+length-without_leading_zeros : (bs : List ℕ) → length (without_leading_zeros bs) ≤ length bs
+length-without_leading_zeros [] = omega arith
+length-without_leading_zeros (zero ∷ bs) = omega (arith, length-without_leading_zeros bs)
+length-without_leading_zeros (suc b ∷ bs) = omega arith
+
+length-magnitude : (n : ℕ) → length (magnitude n) < 2 ^ 64
+length-magnitude n = omega (arith, length-without_leading_zeros (bytes_high_first 16 n), length-bytes_high_first 16 n)
+
+loose_integer : (s : Sign) (n : ℕ) → Loose (integer_tree s n)
+loose_integer unsigned n = if_cases Loose (ltb n (2 ^ 64)) _ _ (λ e. shortest_fits n (ltb-true n (2 ^ 64) e)) (λ e. (omega arith, shortest_fits (length (magnitude n)) (length-magnitude n)))
+loose_integer negative n = if_cases Loose (ltb n (2 ^ 64)) _ _ (λ e. shortest_fits n (ltb-true n (2 ^ 64) e)) (λ e. (omega arith, shortest_fits (length (magnitude n)) (length-magnitude n)))
+
+sound_integer : (s : Sign) (n : ℕ) → SoundStrings (integer_tree s n)
+sound_integer s n = if_cases SoundStrings (ltb n (2 ^ 64)) _ _ (λ e. tt) (λ e. tt)
+
+pub count-canon : (vs : Items) → count (canon_trees vs) ≡ item_count vs
+count-canon no_items = refl
+count-canon (item v vs) = ap suc (count-canon vs)
+
+pub count-pairs : (ms : Members) → pair_count (canon_pairs ms) ≡ member_count ms
+count-pairs no_members = refl
+count-pairs (member k v ms) = ap suc (count-pairs ms)
+
+counted_fits : (n m : ℕ) → n ≡ m → m < 2 ^ 64 → HeadFits (shortest m) n
+counted_fits n m e h = subst (HeadFits (shortest m)) (sym e) (shortest_fits m h)
+
+mutual
+  pub loose_canon : (v : Item) → IsItem v → Loose (canon_tree v)
+  loose_canon null h = tt
+  loose_canon (boolean b) h = tt
+  loose_canon (integer (pos n)) h = loose_integer unsigned n
+  loose_canon (integer (negsuc n)) h = loose_integer negative n
+  loose_canon (float p n) h = h
+  loose_canon (bytes_item bs) h = shortest_fits (length bs) h
+  loose_canon (text bs) h = shortest_fits (length bs) h.0
+  loose_canon (sequence vs) h = (counted_fits _ _ (count-canon vs) h.0, loose_canon_all vs h.1)
+  loose_canon (mapping ms) h = (counted_fits _ _ (count-pairs ms) h.0, loose_canon_pairs ms h.1)
+  loose_canon (tag n v) h = (shortest_fits n h.0, loose_canon v h.1)
+
+  loose_canon_all : (vs : Items) → AreItems vs → LooseAll (canon_trees vs)
+  loose_canon_all no_items h = tt
+  loose_canon_all (item v vs) h = (loose_canon v h.0, loose_canon_all vs h.1)
+
+  loose_canon_pairs : (ms : Members) → AreMembers ms → LoosePairs (canon_pairs ms)
+  loose_canon_pairs no_members h = tt
+  loose_canon_pairs (member k v ms) h = (loose_canon k h.0, loose_canon v h.1, loose_canon_pairs ms h.2)
+
+mutual
+  pub sound_canon : (v : Item) → IsItem v → SoundStrings (canon_tree v)
+  sound_canon null h = tt
+  sound_canon (boolean b) h = tt
+  sound_canon (integer (pos n)) h = sound_integer unsigned n
+  sound_canon (integer (negsuc n)) h = sound_integer negative n
+  sound_canon (float p n) h = tt
+  sound_canon (bytes_item bs) h = tt
+  sound_canon (text bs) h = h.1
+  sound_canon (sequence vs) h = sound_canon_all vs h.1
+  sound_canon (mapping ms) h = sound_canon_pairs ms h.1
+  sound_canon (tag n v) h = sound_canon v h.1
+
+  sound_canon_all : (vs : Items) → AreItems vs → SoundStringsAll (canon_trees vs)
+  sound_canon_all no_items h = tt
+  sound_canon_all (item v vs) h = (sound_canon v h.0, sound_canon_all vs h.1)
+
+  sound_canon_pairs : (ms : Members) → AreMembers ms → SoundStringsPairs (canon_pairs ms)
+  sound_canon_pairs no_members h = tt
+  sound_canon_pairs (member k v ms) h = (sound_canon k h.0, sound_canon v h.1, sound_canon_pairs ms h.2)
+
+value_integer : (s : Sign) (n : ℕ) → value (integer_tree s n) ≡ tagged_integer s n (integer (number s n))
+value_integer s n = value_if (ltb n (2 ^ 64))
+  where
+    value_if : (b : Bool) → value (cond b (Tree.int s n (shortest n)) (bignum s n)) ≡ cond b (integer (number s n)) (tag (sign_tag s) (bytes_item (magnitude n)))
+    value_if true = refl
+    value_if false = refl
+
+mutual
+  pub value-canon : (v : Item) → value (canon_tree v) ≡ with_bignums v
+  value-canon null = refl
+  value-canon (boolean false) = refl
+  value-canon (boolean true) = refl
+  value-canon (integer (pos n)) = value_integer unsigned n
+  value-canon (integer (negsuc n)) = value_integer negative n
+  value-canon (float p n) = refl
+  value-canon (bytes_item bs) = refl
+  value-canon (text bs) = refl
+  value-canon (sequence vs) = ap sequence (values-canon vs)
+  value-canon (mapping ms) = ap mapping (member_values-canon ms)
+  value-canon (tag n v) = ap (tag n) (value-canon v)
+
+  values-canon : (vs : Items) → values (canon_trees vs) ≡ with_bignums_all vs
+  values-canon no_items = refl
+  values-canon (item v vs) = ap₂ item (value-canon v) (values-canon vs)
+
+  member_values-canon : (ms : Members) → member_values (canon_pairs ms) ≡ with_bignums_members ms
+  member_values-canon no_members = refl
+  member_values-canon (member k v ms) = cc (value-canon k, value-canon v, member_values-canon ms)
+
+-- the canonical spelling is read back, with each large integer as its bignum
+pub canon_spells : (v : Item) → IsItem v → Spells (canon v) (with_bignums v) (cost (canon_tree v))
+canon_spells v h = record { spelled = canon_tree v; plain = (loose_canon v h, sound_canon v h); bytes_are = refl; value_is = value-canon v; cost_is = refl }
+
+-- ---- what is read is no integer beyond its heads
+
+tagged_integer-small : (s : Sign) (n : ℕ) → n < 2 ^ 64 → tagged_integer s n (integer (number s n)) ≡ integer (number s n)
+tagged_integer-small s n h = rw (lt-ltb n (2 ^ 64) h) refl
+
+with_bignums-number : (s : Sign) (n : ℕ) → n < 2 ^ 64 → with_bignums (integer (number s n)) ≡ integer (number s n)
+with_bignums-number unsigned n h = tagged_integer-small unsigned n h
+with_bignums-number negative n h = tagged_integer-small negative n h
+
+with_bignums-content : (k : Kind) (content : List ℕ) → with_bignums (content_item k content) ≡ content_item k content
+with_bignums-content byte_string content = refl
+with_bignums-content text_string content = refl
+
+mutual
+  pub with_bignums-value : (t : Tree) → Loose t → with_bignums (value t) ≡ value t
+  with_bignums-value (int s n w) h = with_bignums-number s n (below_from_HeadFits w n h)
+  with_bignums-value (string k w content) h = with_bignums-content k content
+  with_bignums-value (chunked k ts) h = with_bignums-content k (joined_chunks ts)
+  with_bignums-value (array w ts) h = ap sequence (with_bignums-values ts h.1)
+  with_bignums-value (array_open ts) h = ap sequence (with_bignums-values ts h)
+  with_bignums-value (map_of w ps) h = ap mapping (with_bignums-member_values ps h.1)
+  with_bignums-value (map_open ps) h = ap mapping (with_bignums-member_values ps h)
+  with_bignums-value (tagged n w t) h = ap (tag n) (with_bignums-value t h.1)
+  with_bignums-value (simple simple_false) h = refl
+  with_bignums-value (simple simple_true) h = refl
+  with_bignums-value (simple simple_null) h = refl
+  with_bignums-value (simple simple_undefined) h = refl
+  with_bignums-value (bits p n) h = refl
+
+  with_bignums-values : (ts : Trees) → LooseAll ts → with_bignums_all (values ts) ≡ values ts
+  with_bignums-values no_trees h = refl
+  with_bignums-values (tree t ts) h = ap₂ item (with_bignums-value t h.0) (with_bignums-values ts h.1)
+
+  with_bignums-member_values : (ps : Pairs) → LoosePairs ps → with_bignums_members (member_values ps) ≡ member_values ps
+  with_bignums-member_values no_pairs h = refl
+  with_bignums-member_values (pair k v ps) h = cc (with_bignums-value k h.0, with_bignums-value v h.1, with_bignums-member_values ps h.2)

@@ -1,0 +1,11 @@
+-- What is read as a value, and what is written for one.
+pub mod Parts
+pub mod Calls
+pub mod Heads
+pub mod Sequences
+pub mod Strings
+pub mod Items
+pub mod Decoding
+pub mod Encoding
+pub mod InRange
+pub mod Views

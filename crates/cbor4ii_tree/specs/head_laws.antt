@@ -1,3 +1,0 @@
-pub mod Initials
-pub mod Numbers
-pub mod Again
