@@ -21,3 +21,4 @@ pub mod Beginnings
 pub mod PartStops
 pub mod AnyForms
 pub mod AnyStopping
+pub mod ValuesBack

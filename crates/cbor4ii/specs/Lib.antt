@@ -15,3 +15,4 @@ pub mod Beginning
 pub mod Any
 pub mod AnyStops
 pub mod Laws
+pub mod AnyCost

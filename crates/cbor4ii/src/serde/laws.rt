@@ -4,6 +4,7 @@ ghost use Rattle.std.specs.Prelude.{
   ◌≡◌,
   ◌+◌,
   ◌<◌,
+  ◌≤◌,
   ◌^◌,
   ◌++◌,
   ℕ,
@@ -37,11 +38,17 @@ ghost use Rattle.cbor4ii_items.specs.Decoding.{CostFits, Sound, Refuses};
 ghost use Rattle.cbor4ii_items.specs.Numbers.{IsWithin};
 ghost use Rattle.cbor4ii_items.specs.ReadBack.{greatest_cost, pair_cost};
 ghost use Rattle.cbor4ii_items.specs.Refusal.{refusal_of};
+ghost use Rattle.cbor4ii_tree.specs.Canonical.{canon_cost};
+ghost use Rattle.cbor4ii_tree.specs.Item.{Item, IsItem};
+ghost use Rattle.cbor4ii_tree.specs.View.{view};
+ghost use Rattle.cbor4ii_tree.specs.declared.value.Value.{Value as AnyValue};
+ghost use Rattle.cbor4ii.specs.AnyCost.{any_cost};
 ghost use Rattle.cbor4ii.specs.ReadBack.{IsReadBack, BeginsOther};
 
 use crate::serde::de::deserialize::Typed;
 use cbor4ii_items::types::{Bytes, F16, F32, F64};
 use cbor4ii_ser::serialize::Serialize;
+use cbor4ii_tree::Value;
 use std::alloc::Global;
 use std::borrow::CowStr;
 use std::collections::BTreeMap;
@@ -144,6 +151,15 @@ pub fn maps_are_read_back<K: Typed + Serialize + Ord, V: Typed + Serialize>()
         All (λ p. IsReadBack V.reads (V.item p.1) p.1 (value_cost p.1)) m.entries →
         IsReadBack ⟦<BTreeMap<K, V> as Typed>⟧.reads (⟦<BTreeMap<K, V> as Serialize>⟧.item m) m
         (1 + greatest_cost (pair_cost key_cost value_cost) m.entries) }
+{}
+
+/// A value of the tree, as every one of the program is, is read from its own item, which it has
+/// where no tag stands in it: as itself, integers beyond 64 bits too, and whatever follows it. It
+/// takes a step, an array or a map one more, and no more than its canonical spelling costs.
+pub fn values_are_read_back()
+    ensures read { (v : AnyValue) → IsItem (view v) →
+        IsReadBack ⟦<Value as Typed>⟧.reads (⟦<Value as Serialize>⟧.item v) v (any_cost (view v)) }
+    ensures cost { (v : Item) → any_cost v ≤ canon_cost v }
 {}
 
 /// What is read back is what `deserialize` answers, over a reader that tells the item's bytes and
