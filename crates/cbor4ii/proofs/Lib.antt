@@ -22,3 +22,4 @@ pub mod PartStops
 pub mod AnyForms
 pub mod AnyStopping
 pub mod ValuesBack
+pub mod Filling

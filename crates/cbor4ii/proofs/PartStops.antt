@@ -1,8 +1,6 @@
 -- How arrays and maps are refused, head and parts together.
 use Rattle.std.proofs.Common.{◌≡◌, ℕ, ◌<◌, List, drop, Some, Result, Ok, Err, Bool, false, refl, ◌∙◌, subst, arith, IfSome, IfErr, IsTrue}
 use denote.Ref.{Bor}
-use Rattle.std.specs.declared.alloc.Global.{Global}
-use Rattle.std.specs.declared.vec.Vec.{Vec}
 use Rattle.cbor4ii_rw.specs.View.{View}
 use Rattle.cbor4ii_rw.specs.declared.error.DecodeError.{DecodeError}
 use Rattle.cbor4ii_rw.specs.declared.error.DecodeError.TheVariants.{RequireLength}
@@ -82,10 +80,10 @@ module _ {P : Type 0} (reads : Reads P) (stops : StopsAt) where
               (λ z ys t. open_refused p.0 (subst (λ k. StopsUpToBreak name reads stops never_empty (drop 1 xs) k z ys) h.kept.budget t)) (s.at (drop 1 xs) p.1);
         }
 
-        pub counted_stops : (r : Result (Vec P Global) (Typed E)) (b : View) {count : ℕ} → Counts major a m count → IfErr r (λ e. Stops (StopsCount reads stops count) m b (as_core e)) → IfErr r (λ e. Stops (StopsInside name major reads stops never_empty) a b (as_core e))
+        pub counted_stops : {U : Type 0} (r : Result U (Typed E)) (b : View) {count : ℕ} → Counts major a m count → IfErr r (λ e. Stops (StopsCount reads stops count) m b (as_core e)) → IfErr r (λ e. Stops (StopsInside name major reads stops never_empty) a b (as_core e))
         counted_stops (Ok v) b h s = tt
         counted_stops (Err e) b h s = counted_at h s
 
-        pub opened_stops : (r : Result (Vec P Global) (Typed E)) (b : View) → Opens major a m → IfErr r (λ e. Stops (StopsUpToBreak name reads stops never_empty) m b (as_core e)) → IfErr r (λ e. Stops (StopsInside name major reads stops never_empty) a b (as_core e))
+        pub opened_stops : {U : Type 0} (r : Result U (Typed E)) (b : View) → Opens major a m → IfErr r (λ e. Stops (StopsUpToBreak name reads stops never_empty) m b (as_core e)) → IfErr r (λ e. Stops (StopsInside name major reads stops never_empty) a b (as_core e))
         opened_stops (Ok v) b h s = tt
         opened_stops (Err e) b h s = opened_at h s

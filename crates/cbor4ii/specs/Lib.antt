@@ -16,3 +16,4 @@ pub mod Any
 pub mod AnyStops
 pub mod Laws
 pub mod AnyCost
+pub mod Fields

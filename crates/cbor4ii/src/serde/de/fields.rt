@@ -1,67 +1,168 @@
 //! Structs that are read from their named fields in one call.
-ghost use Rattle.std.specs.Prelude.{◌≡◌, ◌+◌, ◌≤◌, OnOk};
+ghost use Rattle.std.specs.Prelude.{
+  ◌≡◌,
+  ◌+◌,
+  ◌≤◌,
+  ◌&&◌,
+  ℕ,
+  List,
+  [],
+  ◌∷◌,
+  Bool,
+  true,
+  Some,
+  None,
+  codes,
+  OnOk,
+  IfOk,
+  IfErr,
+  IsTrue,
+};
+ghost use Rattle.std.specs.Borrow.{Bor};
+ghost use Rattle.cbor4ii_items.specs.Decoding.{IsExact, Sound, Refuses, Stops};
+ghost use Rattle.cbor4ii_items.specs.Laws.Containers.{both};
 ghost use Rattle.cbor4ii_items.specs.Moves.{Moves};
-ghost use Rattle.cbor4ii.specs.Typed.{input, answer_of};
+ghost use Rattle.cbor4ii_items.specs.Sequences.{
+  ReadsCount,
+  ReadsUpToBreak,
+  ReadsInside,
+  ReadsSequence,
+  StopsCount,
+  StopsUpToBreak,
+  StopsInside,
+};
+ghost use Rattle.cbor4ii.specs.Beginning.{unsaid_stops, StopsParts};
+ghost use Rattle.cbor4ii.specs.Fields.{
+  ReadsNamed,
+  no_field,
+  no_fields,
+  no_values,
+  named_field,
+  ReadsEntry,
+  ReadsFields,
+  Changes,
+  Fills,
+  fields_by,
+  NamedLaws,
+  no_field_laws,
+  every,
+  StopsFields,
+  fields_by_laws,
+};
+ghost use Rattle.cbor4ii.specs.Typed.{input, answer_of, as_core};
 
 use crate::serde::de::deserialize::{Deserialize, Typed};
-use crate::serde::de::deserializer::{Deserializer, take_item};
+use crate::serde::de::deserializer::Deserializer;
 use crate::serde::de::error::DecodeError;
+use crate::serde::de::parts::ends;
+use cbor4ii_items::types::Map;
+use cbor4ii_rw::error as core_error;
 use cbor4ii_rw::error::StaticStr;
 use cbor4ii_rw::read::Source;
-use cbor4ii_tree::IgnoredAny;
 use std::alloc::Global;
 
 /// The values of named fields, in the order of their names.
 trait Values<S: Source>: Sized {
-    /// Reads the value of the field that has this name. Where none has it, false is the answer, and
-    /// nothing is read.
+    // What stands behind a name, where the fields have these names.
+    ghost named: { List (Bor (List ℕ)) → ReadsNamed Self };
+
+    ghost owned: { Bool };
+
+    ghost exact: { Bool };
+
+    /// Reads the value of the field that has this name, and skips one of another name.
     fn take(
         &mut self,
         alloc: Global,
         names: &[StaticStr],
         name: &str,
         de: &mut Deserializer<S>,
-    ) -> Result<bool, DecodeError<S::Error>>
-        ensures moves { Moves (input S.view de.old) (input S.view de.new) (answer_of result) };
+    ) -> Result<(), DecodeError<S::Error>>
+        ensures moves { Moves (input S.view de.old) (input S.view de.new) (answer_of result) }
+        ensures sound { OnOk result (Changes (Self.named names.now name.now) self.old self.new
+            (input S.view de.old) (input S.view de.new)) }
+        ensures complete { IsTrue Self.exact → IsExact Self.owned (input S.view de.old) →
+            IfErr result (λ error. Refuses (Self.named names.now name.now)
+            (input S.view de.old) (as_core error)) };
+
+    ghost laws: { IsTrue Self.exact → (names : List (Bor (List ℕ))) → NamedLaws
+        (Self.named names) };
 }
 
 /// No field.
 impl<S: Source> Values<S> for () {
+    ghost named = { λ names. no_field };
+
+    ghost owned = { true };
+
+    ghost exact = { true };
+
     fn take(
         &mut self,
         alloc: Global,
         names: &[StaticStr],
         name: &str,
         de: &mut Deserializer<S>,
-    ) -> Result<bool, DecodeError<S::Error>> {
-        Ok(false)
+    ) -> Result<(), DecodeError<S::Error>> {
+        de.deserialize_ignored_any(alloc)
     }
+
+    ghost laws = { λ e names. no_field_laws };
 }
 
 /// A field, and those behind it.
 impl<S: Source, T: Deserialize<S> + Drop, V: Values<S>> Values<S> for (Option<T>, V) {
+    ghost named = { fields_by T.reads V.named };
+
+    ghost owned = { T.owned && V.owned };
+
+    ghost exact = { T.exact && V.exact };
+
     fn take(
         &mut self,
         alloc: Global,
         names: &[StaticStr],
         name: &str,
         de: &mut Deserializer<S>,
-    ) -> Result<bool, DecodeError<S::Error>> {
+    ) -> Result<(), DecodeError<S::Error>> {
         match names {
-            [first, behind @ ..] => {
-                if name != *first {
+            [own, behind @ ..] => {
+                if name != *own {
                     return self.1.take(alloc, behind, name, de);
                 }
                 match T::deserialize(alloc, de) {
                     Ok(value) => {
                         self.0 = Some(value);
-                        Ok(true)
+                        Ok(())
                     }
                     Err(error) => Err(error),
                 }
             }
-            [] => Ok(false),
+            [] => de.deserialize_ignored_any(alloc),
         }
+    }
+
+    ghost laws = { λ e. fields_by_laws V.named
+        (T.Typed.laws (both T.exact V.exact e).0) (V.laws (both T.exact V.exact e).1) };
+}
+
+/// Reads a name and what stands behind it.
+fn take_field<S: Source, V: Values<S>>(
+    alloc: Global,
+    de: &mut Deserializer<S>,
+    names: &[StaticStr],
+    values: &mut V,
+) -> Result<(), DecodeError<S::Error>>
+    ensures moves { Moves (input S.view de.old) (input S.view de.new) (answer_of result) }
+    ensures progress { OnOk result ((input S.view de.new).bound + 1 ≤ (input S.view de.old).bound) }
+    ensures sound { OnOk result (Changes (ReadsEntry (V.named names.now)) values.old values.new
+        (input S.view de.old) (input S.view de.new)) }
+    ensures complete { IsTrue V.exact → IsExact V.owned (input S.view de.old) → IfErr result
+        (λ error. Refuses (ReadsEntry (V.named names.now)) (input S.view de.old) (as_core error)) }
+{
+    match String::deserialize(alloc, de) {
+        Ok(name) => values.take(alloc, names, name.as_str(), de),
+        Err(error) => Err(error),
     }
 }
 
@@ -74,16 +175,25 @@ fn take_fields<S: Source, V: Values<S>>(
 ) -> Result<(), DecodeError<S::Error>>
     ensures moves { Moves (input S.view de.old) (input S.view de.new) (answer_of result) }
     ensures progress { OnOk result ((input S.view de.new).bound + 1 ≤ (input S.view de.old).bound) }
+    ensures sound { OnOk result (Fills (ReadsSequence 5 (ReadsEntry (V.named names.now)) true)
+        values.old values.new (input S.view de.old) (input S.view de.new)) }
+    ensures complete { IsTrue V.exact → IsExact V.owned (input S.view de.old) → IfErr result
+        (λ error. Refuses (ReadsSequence 5 (ReadsEntry (V.named names.now)) true)
+        (input S.view de.old) (as_core error)) }
+    ensures stops { IfErr result (λ error. Stops
+        (StopsParts (codes "map") (codes "map") 5 (ReadsEntry (V.named names.now)) true)
+        (input S.view de.old) (input S.view de.new) (as_core error)) }
 {
-    let mut entries = de.deserialize_map()?;
-    while entries.starts_element()? {
-        take_field(alloc, entries.de, names, values)?;
+    if !de.reader.step_in() {
+        return Err(DecodeError::Core(core_error::DecodeError::DepthOverflow { name: "map" }));
     }
-    Ok(())
+    let outcome = fields_inside(alloc, de, names, values);
+    de.reader.step_out();
+    outcome
 }
 
-/// Reads a name and what stands behind it.
-fn take_field<S: Source, V: Values<S>>(
+/// The same of a map whose step was taken.
+fn fields_inside<S: Source, V: Values<S>>(
     alloc: Global,
     de: &mut Deserializer<S>,
     names: &[StaticStr],
@@ -91,18 +201,67 @@ fn take_field<S: Source, V: Values<S>>(
 ) -> Result<(), DecodeError<S::Error>>
     ensures moves { Moves (input S.view de.old) (input S.view de.new) (answer_of result) }
     ensures progress { OnOk result ((input S.view de.new).bound + 1 ≤ (input S.view de.old).bound) }
+    ensures sound { OnOk result (Fills (ReadsInside 5 (ReadsEntry (V.named names.now)) true)
+        values.old values.new (input S.view de.old) (input S.view de.new)) }
+    ensures complete { IsTrue V.exact → IsExact V.owned (input S.view de.old) → IfErr result
+        (λ error. Refuses (ReadsInside 5 (ReadsEntry (V.named names.now)) true)
+        (input S.view de.old) (as_core error)) }
+    ensures stops { IfErr result (λ error. Stops
+        (StopsInside (codes "map") 5 (ReadsEntry (V.named names.now)) unsaid_stops true)
+        (input S.view de.old) (input S.view de.new) (as_core error)) }
 {
-    match String::deserialize(alloc, de) {
-        Ok(name) => match values.take(alloc, names, name.as_str(), de) {
-            Ok(true) => Ok(()),
-            Ok(false) => match take_item::<S, IgnoredAny>(alloc, de) {
-                Ok(_) => Ok(()),
-                Err(error) => Err(error),
-            },
-            Err(error) => Err(error),
-        },
-        Err(error) => Err(error),
+    match Map::<()>::len(&mut de.reader) {
+        Ok(Some(count)) => counted_fields(alloc, de, names, values, count),
+        Ok(None) => open_fields(alloc, de, names, values),
+        Err(error) => Err(DecodeError::Core(error)),
     }
+}
+
+/// The same of so many entries.
+fn counted_fields<S: Source, V: Values<S>>(
+    alloc: Global,
+    de: &mut Deserializer<S>,
+    names: &[StaticStr],
+    values: &mut V,
+    count: usize,
+) -> Result<(), DecodeError<S::Error>>
+    ensures moves { Moves (input S.view de.old) (input S.view de.new) (answer_of result) }
+    ensures sound { OnOk result (Fills (ReadsCount (ReadsEntry (V.named names.now)) count)
+        values.old values.new (input S.view de.old) (input S.view de.new)) }
+    ensures complete { IsTrue V.exact → IsExact V.owned (input S.view de.old) → IfErr result
+        (λ error. Refuses (ReadsCount (ReadsEntry (V.named names.now)) count)
+        (input S.view de.old) (as_core error)) }
+    ensures stops { IfErr result (λ error. Stops
+        (StopsCount (ReadsEntry (V.named names.now)) unsaid_stops count)
+        (input S.view de.old) (input S.view de.new) (as_core error)) }
+{
+    for i in 0..count {
+        take_field(alloc, de, names, values)?;
+    }
+    Ok(())
+}
+
+/// The same of entries up to a break.
+fn open_fields<S: Source, V: Values<S>>(
+    alloc: Global,
+    de: &mut Deserializer<S>,
+    names: &[StaticStr],
+    values: &mut V,
+) -> Result<(), DecodeError<S::Error>>
+    ensures moves { Moves (input S.view de.old) (input S.view de.new) (answer_of result) }
+    ensures sound { OnOk result (Fills (ReadsUpToBreak (ReadsEntry (V.named names.now)) true)
+        values.old values.new (input S.view de.old) (input S.view de.new)) }
+    ensures complete { IsTrue V.exact → IsExact V.owned (input S.view de.old) → IfErr result
+        (λ error. Refuses (ReadsUpToBreak (ReadsEntry (V.named names.now)) true)
+        (input S.view de.old) (as_core error)) }
+    ensures stops { IfErr result (λ error. Stops
+        (StopsUpToBreak (codes "map") (ReadsEntry (V.named names.now)) unsaid_stops true)
+        (input S.view de.old) (input S.view de.new) (as_core error)) }
+{
+    while !ends(de)? {
+        take_field(alloc, de, names, values)?;
+    }
+    Ok(())
 }
 
 /// Each of these reads a struct: a map from its fields' names to their values, of any length, in
@@ -130,6 +289,17 @@ impl<S: Source> Deserializer<S> {
         ensures moves { Moves (input S.view self.old) (input S.view self.new) (answer_of result) }
         ensures progress { OnOk result
             ((input S.view self.new).bound + 1 ≤ (input S.view self.old).bound) }
+        ensures sound { IfOk result (λ values. Sound
+            (ReadsFields (None, no_values) (named_field first.now A.reads no_fields))
+            (input S.view self.old) (input S.view self.new) (values, no_values)) }
+        ensures complete { IsTrue (every (A.exact ∷ [])) →
+            IsExact (every (A.owned ∷ [])) (input S.view self.old) →
+            IfErr result (λ error. Refuses
+            (ReadsFields (None, no_values) (named_field first.now A.reads no_fields))
+            (input S.view self.old) (as_core error)) }
+        ensures stops { IfErr result (λ error. Stops
+            (StopsFields (named_field first.now A.reads no_fields))
+            (input S.view self.old) (input S.view self.new) (as_core error)) }
     {
         let mut values = (None, ());
         match take_fields(alloc, self, &[first], &mut values) {
@@ -152,6 +322,20 @@ impl<S: Source> Deserializer<S> {
         ensures moves { Moves (input S.view self.old) (input S.view self.new) (answer_of result) }
         ensures progress { OnOk result
             ((input S.view self.new).bound + 1 ≤ (input S.view self.old).bound) }
+        ensures sound { IfOk result (λ values. Sound
+            (ReadsFields (None, (None, no_values)) (named_field first.now A.reads (named_field
+            second.now B.reads no_fields)))
+            (input S.view self.old) (input S.view self.new) (values.0, (values.1, no_values))) }
+        ensures complete { IsTrue (every (A.exact ∷ B.exact ∷ [])) →
+            IsExact (every (A.owned ∷ B.owned ∷ [])) (input S.view self.old) →
+            IfErr result (λ error. Refuses
+            (ReadsFields (None, (None, no_values)) (named_field first.now A.reads (named_field
+            second.now B.reads no_fields)))
+            (input S.view self.old) (as_core error)) }
+        ensures stops { IfErr result (λ error. Stops
+            (StopsFields (named_field first.now A.reads (named_field second.now B.reads
+            no_fields)))
+            (input S.view self.old) (input S.view self.new) (as_core error)) }
     {
         let mut values = (None, (None, ()));
         match take_fields(alloc, self, &[first, second], &mut values) {
@@ -179,6 +363,29 @@ impl<S: Source> Deserializer<S> {
         ensures moves { Moves (input S.view self.old) (input S.view self.new) (answer_of result) }
         ensures progress { OnOk result
             ((input S.view self.new).bound + 1 ≤ (input S.view self.old).bound) }
+        ensures sound { IfOk result (λ values. Sound
+            (ReadsFields (None, (None, (None, no_values))) (named_field first.now A.reads
+            (named_field second.now B.reads (named_field third.now C.reads no_fields))))
+            (input S.view self.old) (input S.view self.new) (
+              values.0,
+              (
+                values.1,
+                (
+                  values.2,
+                  no_values,
+                ),
+              ),
+            )) }
+        ensures complete { IsTrue (every (A.exact ∷ B.exact ∷ C.exact ∷ [])) →
+            IsExact (every (A.owned ∷ B.owned ∷ C.owned ∷ [])) (input S.view self.old) →
+            IfErr result (λ error. Refuses
+            (ReadsFields (None, (None, (None, no_values))) (named_field first.now A.reads
+            (named_field second.now B.reads (named_field third.now C.reads no_fields))))
+            (input S.view self.old) (as_core error)) }
+        ensures stops { IfErr result (λ error. Stops
+            (StopsFields (named_field first.now A.reads (named_field second.now B.reads
+            (named_field third.now C.reads no_fields))))
+            (input S.view self.old) (input S.view self.new) (as_core error)) }
     {
         let mut values = (None, (None, (None, ())));
         match take_fields(alloc, self, &[first, second, third], &mut values) {
@@ -208,6 +415,31 @@ impl<S: Source> Deserializer<S> {
         ensures moves { Moves (input S.view self.old) (input S.view self.new) (answer_of result) }
         ensures progress { OnOk result
             ((input S.view self.new).bound + 1 ≤ (input S.view self.old).bound) }
+        ensures sound { IfOk result (λ values. Sound
+            (ReadsFields (None, (None, (None, (None, no_values)))) (named_field first.now A.reads
+            (named_field second.now B.reads (named_field third.now C.reads (named_field fourth.now
+            D.reads no_fields)))))
+            (input S.view self.old) (input S.view self.new) (
+              values.0,
+              (
+                values.1,
+                (
+                  values.2,
+                  (values.3, no_values),
+                ),
+              ),
+            )) }
+        ensures complete { IsTrue (every (A.exact ∷ B.exact ∷ C.exact ∷ D.exact ∷ [])) →
+            IsExact (every (A.owned ∷ B.owned ∷ C.owned ∷ D.owned ∷ [])) (input S.view self.old) →
+            IfErr result (λ error. Refuses
+            (ReadsFields (None, (None, (None, (None, no_values)))) (named_field first.now A.reads
+            (named_field second.now B.reads (named_field third.now C.reads (named_field fourth.now
+            D.reads no_fields)))))
+            (input S.view self.old) (as_core error)) }
+        ensures stops { IfErr result (λ error. Stops
+            (StopsFields (named_field first.now A.reads (named_field second.now B.reads
+            (named_field third.now C.reads (named_field fourth.now D.reads no_fields)))))
+            (input S.view self.old) (input S.view self.new) (as_core error)) }
     {
         let mut values = (None, (None, (None, (None, ()))));
         match take_fields(alloc, self, &[first, second, third, fourth], &mut values) {
@@ -239,6 +471,33 @@ impl<S: Source> Deserializer<S> {
         ensures moves { Moves (input S.view self.old) (input S.view self.new) (answer_of result) }
         ensures progress { OnOk result
             ((input S.view self.new).bound + 1 ≤ (input S.view self.old).bound) }
+        ensures sound { IfOk result (λ values. Sound
+            (ReadsFields (None, (None, (None, (None, (None, no_values))))) (named_field first.now
+            A.reads (named_field second.now B.reads (named_field third.now C.reads (named_field
+            fourth.now D.reads (named_field fifth.now E.reads no_fields))))))
+            (input S.view self.old) (input S.view self.new) (
+              values.0,
+              (
+                values.1,
+                (
+                  values.2,
+                  (values.3, (values.4, no_values)),
+                ),
+              ),
+            )) }
+        ensures complete { IsTrue (every (A.exact ∷ B.exact ∷ C.exact ∷ D.exact ∷ E.exact ∷ [])) →
+            IsExact (every (A.owned ∷ B.owned ∷ C.owned ∷ D.owned ∷ E.owned ∷ [])) (input S.view
+            self.old) →
+            IfErr result (λ error. Refuses
+            (ReadsFields (None, (None, (None, (None, (None, no_values))))) (named_field first.now
+            A.reads (named_field second.now B.reads (named_field third.now C.reads (named_field
+            fourth.now D.reads (named_field fifth.now E.reads no_fields))))))
+            (input S.view self.old) (as_core error)) }
+        ensures stops { IfErr result (λ error. Stops
+            (StopsFields (named_field first.now A.reads (named_field second.now B.reads
+            (named_field third.now C.reads (named_field fourth.now D.reads (named_field fifth.now
+            E.reads no_fields))))))
+            (input S.view self.old) (input S.view self.new) (as_core error)) }
     {
         let mut values = (None, (None, (None, (None, (None, ())))));
         match take_fields(
@@ -287,6 +546,36 @@ impl<S: Source> Deserializer<S> {
         ensures moves { Moves (input S.view self.old) (input S.view self.new) (answer_of result) }
         ensures progress { OnOk result
             ((input S.view self.new).bound + 1 ≤ (input S.view self.old).bound) }
+        ensures sound { IfOk result (λ values. Sound
+            (ReadsFields (None, (None, (None, (None, (None, (None, no_values)))))) (named_field
+            first.now A.reads (named_field second.now B.reads (named_field third.now C.reads
+            (named_field fourth.now D.reads (named_field fifth.now E.reads (named_field sixth.now
+            F.reads no_fields)))))))
+            (input S.view self.old) (input S.view self.new) (
+              values.0,
+              (
+                values.1,
+                (
+                  values.2,
+                  (values.3, (values.4, (values.5, no_values))),
+                ),
+              ),
+            )) }
+        ensures complete { IsTrue (every (A.exact ∷ B.exact ∷ C.exact ∷ D.exact ∷ E.exact ∷
+            F.exact ∷ [])) →
+            IsExact (every (A.owned ∷ B.owned ∷ C.owned ∷ D.owned ∷ E.owned ∷ F.owned ∷ []))
+            (input S.view self.old) →
+            IfErr result (λ error. Refuses
+            (ReadsFields (None, (None, (None, (None, (None, (None, no_values)))))) (named_field
+            first.now A.reads (named_field second.now B.reads (named_field third.now C.reads
+            (named_field fourth.now D.reads (named_field fifth.now E.reads (named_field sixth.now
+            F.reads no_fields)))))))
+            (input S.view self.old) (as_core error)) }
+        ensures stops { IfErr result (λ error. Stops
+            (StopsFields (named_field first.now A.reads (named_field second.now B.reads
+            (named_field third.now C.reads (named_field fourth.now D.reads (named_field fifth.now
+            E.reads (named_field sixth.now F.reads no_fields)))))))
+            (input S.view self.old) (input S.view self.new) (as_core error)) }
     {
         let mut values = (None, (None, (None, (None, (None, (None, ()))))));
         match take_fields(

@@ -1,14 +1,17 @@
-use Rattle.cbor4ii_items.specs.Laws.Steps.{moves_then, moves_ok, moves_err}
+use Rattle.cbor4ii_items.specs.Laws.Answering.{exact_kept}
+use Rattle.cbor4ii_items.specs.Laws.Steps.{moves_then}
+use Rattle.cbor4ii.proofs.Filling.{entry_changes, no_name, no_value}
+use Rattle.std.proofs.Common.{inl, refl}
 use Rattle.cbor4ii.proofs.serde.de.fields.take_field.Goals as goal
 
-pub returns-in-Ok-true-clause-moves : goal.returns-in-Ok-true-clause-moves
-returns-in-Ok-true-clause-moves g c = moves_then c.in-Ok.ensures.moves.by (moves_ok c.in-Ok-true.ensures.moves)
-
-pub returns-in-Ok-take_item-clause-moves : goal.returns-in-Ok-take_item-clause-moves
-returns-in-Ok-take_item-clause-moves g c = moves_then c.in-Ok.ensures.moves.by (moves_then c.in-Ok-false.ensures.moves.by (moves_ok c.in-Ok-take_item.ensures.moves))
-
-pub returns-in-Ok-false-clause-moves : goal.returns-in-Ok-false-clause-moves
-returns-in-Ok-false-clause-moves g c = moves_then c.in-Ok.ensures.moves.by (moves_then c.in-Ok-false.ensures.moves.by (moves_err c.in-Err-take_item.ensures.moves))
-
 pub returns-in-Ok-clause-moves : goal.returns-in-Ok-clause-moves
-returns-in-Ok-clause-moves g c = moves_then c.in-Ok.ensures.moves.by (moves_err c.in-Err-take.ensures.moves)
+returns-in-Ok-clause-moves g c = moves_then c.in-Ok.ensures.moves.by c.take.ensures.moves
+
+pub returns-in-Ok-clause-sound : goal.returns-in-Ok-clause-sound
+returns-in-Ok-clause-sound g c = entry_changes (g.V.Values.named c.args.names.now) c.take.result (g.S.Source.view c.take.new.de.reader) c.args.values.now c.take.new.self c.as_str.ensures.value c.in-Ok.ensures.moves.by c.in-Ok.ensures.sound c.take.ensures.sound
+
+pub returns-in-Ok-clause-complete : goal.returns-in-Ok-clause-complete
+returns-in-Ok-clause-complete g c said exact = no_value (g.V.Values.named c.args.names.now) c.take.result c.as_str.ensures.value c.in-Ok.ensures.moves.by c.in-Ok.ensures.sound (λ xs told. c.take.ensures.complete said (exact_kept _ _ _ xs told c.in-Ok.ensures.moves.by exact))
+
+pub returns-in-Err-clause-complete : goal.returns-in-Err-clause-complete
+returns-in-Err-clause-complete g c said exact = no_name (g.V.Values.named c.args.names.now) (c.in-Err.ensures.complete refl (inl refl))

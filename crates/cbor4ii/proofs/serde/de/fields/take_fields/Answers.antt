@@ -1,28 +1,21 @@
-use Rattle.std.proofs.Common.{rules, ◌∙◌}
-use Rattle.std.proofs.lemmas.Result.{err_from_is_err_and}
-use Rattle.cbor4ii_items.specs.Laws.Steps.{moves_then, moves_err, kept_then}
-use Rattle.cbor4ii.specs.Laws.Accessors.{around, kept_ok, moves_at}
+use Rattle.std.proofs.Common.{true}
+use Rattle.cbor4ii_items.specs.Laws.UnderStep.{exact_step, moves_stepped}
+use Rattle.cbor4ii_items.specs.Sequences.{ReadsInside}
+use Rattle.cbor4ii.specs.Fields.{ReadsEntry}
+use Rattle.cbor4ii.specs.Typed.{answer_of}
+use Rattle.cbor4ii.proofs.Steps.{step_refuses}
+use Rattle.cbor4ii.proofs.Beginnings.{step_stops}
+use Rattle.cbor4ii.proofs.Filling.{step_fills}
 use Rattle.cbor4ii.proofs.serde.de.fields.take_fields.Goals as goal
 
-pub returns-in_err-starts_element-clause-moves : goal.returns-in_err-starts_element-clause-moves
-returns-in_err-starts_element-clause-moves g c =
-    let p = err_from_is_err_and c.from_residual-in_err-starts_element.result c.from_residual-in_err-starts_element.ensures.1 in
-    rw (p.1, p.2) (moves_at (around c.in_ok-entries.ensures.opened (moves_then c.loop-entries.invariant.kept (moves_err c.in_err-starts_element.ensures.moves)) (c.starts_element.ensures.same_steps ∙ c.loop-entries.invariant.steps) c.drop-entries.ensures) (search rules))
-
-pub returns-in_err-take_field-clause-moves : goal.returns-in_err-take_field-clause-moves
-returns-in_err-take_field-clause-moves g c =
-    let p = err_from_is_err_and c.from_residual-in_err-take_field.result c.from_residual-in_err-take_field.ensures.1 in
-    let steps = c.starts_element.ensures.same_steps ∙ c.loop-entries.invariant.steps in
-    rw (p.1, p.2) (moves_at (around c.in_ok-entries.ensures.opened (moves_then (kept_then c.loop-entries.invariant.kept c.in_ok-starts_element.ensures.moves.by) (moves_err c.in_err-take_field.ensures.moves)) steps c.drop-entries-in_err-take_field.ensures) (search rules))
-
 pub returns-clause-moves : goal.returns-clause-moves
-returns-clause-moves g c =
-    let steps = c.starts_element.ensures.same_steps ∙ c.loop-entries.invariant.steps in
-    moves_at (around c.in_ok-entries.ensures.opened (kept_ok (kept_then c.loop-entries.invariant.kept c.in_ok-starts_element.ensures.moves.by)) steps c.drop-entries-2.ensures) (search rules)
+returns-clause-moves g c = moves_stepped (answer_of c.fields_inside-outcome.result) _ _ _ _ c.if-not-step_in.ensures.budget c.step_in.ensures.others c.fields_inside-outcome.ensures.moves c.step_out.ensures.budget c.step_out.ensures.others
 
-pub loop-entries-preserved : goal.loop-entries-preserved
-loop-entries-preserved g c = record {
-  same = c.starts_element.ensures.same_reference ∙ c.loop-entries.invariant.same;
-  steps = c.starts_element.ensures.same_steps ∙ c.loop-entries.invariant.steps;
-  kept = kept_then (kept_then c.loop-entries.invariant.kept c.in_ok-starts_element.ensures.moves.by) c.in_ok-take_field.ensures.moves.by;
-}
+pub returns-clause-sound : goal.returns-clause-sound
+returns-clause-sound g c = step_fills (ReadsInside 5 (ReadsEntry (g.V.Values.named c.args.names.now)) true) c.fields_inside-outcome.result c.args.values.now c.fields_inside-outcome.new.values c.if-not-step_in.ensures.budget c.step_in.ensures.others c.step_out.ensures.others c.fields_inside-outcome.ensures.sound
+
+pub returns-clause-complete : goal.returns-clause-complete
+returns-clause-complete g c said exact = step_refuses c.fields_inside-outcome.result _ _ _ c.if-not-step_in.ensures.budget c.step_in.ensures.others (c.fields_inside-outcome.ensures.complete said (exact_step _ _ _ c.step_in.ensures.others exact))
+
+pub returns-clause-stops : goal.returns-clause-stops
+returns-clause-stops g c = step_stops _ _ c.fields_inside-outcome.result c.if-not-step_in.ensures.budget c.step_in.ensures.others c.step_out.ensures.others c.fields_inside-outcome.ensures.stops

@@ -1,0 +1,133 @@
+-- Structs that are read from their named fields: maps from names to values, in any order.
+use Rattle.std.proofs.Common.{◌≡◌, ◌≢◌, ◌⊎◌, inl, inr, ℕ, ◌≤◌, List, [], ◌∷◌, length, Option, Some, Bool, true, false, subst}
+use denote.Ref.{Bor}
+use Rattle.cbor4ii_rw.specs.View.{View}
+use Rattle.std.specs.Prelude.{◌&&◌, codes}
+use Rattle.cbor4ii_items.specs.Decoding.{Reads, StopsAt, Sound}
+use Rattle.cbor4ii.specs.Beginning.{StopsParts}
+use Rattle.cbor4ii_items.specs.Sequences.{ReadsSequence, ReadsPair, SamePair}
+use Rattle.cbor4ii_items.specs.Strings.{ReadsTextAs, text_content}
+use Rattle.std.specs.declared.alloc.Global.{Global}
+use Rattle.std.specs.declared.string.String.{String}
+use Rattle.cbor4ii_items.specs.Laws.Strings.{text_one, text_within, text_positive}
+use Rattle.cbor4ii_tree.specs.Ignored.{ReadsTree}
+use Rattle.cbor4ii_tree.specs.IgnoredLaws.{tree_one, tree_within}
+use Rattle.cbor4ii.specs.Tuples.{pair_laws}
+use Rattle.cbor4ii.specs.Typed.{Lawful, any_two, not_exact}
+
+-- what stands behind a name, read as what becomes of a struct's values
+abbrev pub ReadsNamed : Type 0 → Type 1
+ReadsNamed V = List ℕ → Reads (V → V)
+
+-- no field has the name: an item of which nothing is kept, and the values stay
+abbrev pub no_field : {V : Type 0} → ReadsNamed V
+no_field {V} name xs change n c = ReadsTree xs n c × (change ≡ λ (values : V). values)
+
+-- no field at all, and no value
+abbrev pub no_fields : ReadsNamed (Unit {0})
+no_fields = no_field
+
+abbrev pub no_values : Unit {0}
+no_values = tt
+
+-- A field of this name stands before others. Behind its name it is read, whatever it was before; behind another name it
+-- stays, and one of the others is read.
+abbrev pub named_field : {T V : Type 0} → List ℕ → Reads T → ReadsNamed V → ReadsNamed (Option T × V)
+named_field {T} {V} own reads others name xs change n c =
+    ((name ≡ own) × (v : T) × reads xs v n c × (change ≡ λ (values : Option T × V). (Some v, values.1)))
+    ⊎ ((name ≢ own) × (below : V → V) × others name xs below n c × (change ≡ λ (values : Option T × V). (values.0, below values.1)))
+
+-- an entry: a name, which is a text, and what stands behind it
+abbrev pub ReadsName : Reads (String Global)
+ReadsName = ReadsTextAs text_content
+
+abbrev pub ReadsEntry : {V : Type 0} → ReadsNamed V → Reads (V → V)
+ReadsEntry named xs change n c = (name : String Global) × ReadsPair ReadsName (named (text_content name)) xs (name, change) n c
+
+-- changes, one behind another
+abbrev pub changed : {V : Type 0} → V → List (V → V) → V
+changed values [] = values
+changed values (change ∷ changes) = changed (change values) changes
+
+-- a map of entries, from the values that are there before any of them
+abbrev pub ReadsFields : {V : Type 0} → V → ReadsNamed V → Reads V
+ReadsFields {V} first named xs values n c = (changes : List (V → V)) × ReadsSequence 5 (ReadsEntry named) true xs changes n c × (values ≡ changed first changes)
+
+-- How it is refused: no step is left, or the head of a map is refused, or behind some whole entries no byte is left, or an
+-- entry is refused.
+abbrev pub StopsFields : {V : Type 0} → ReadsNamed V → StopsAt
+StopsFields named = StopsParts (codes "map") (codes "map") 5 (ReadsEntry named) true
+
+-- each of them is so
+abbrev pub every : List Bool → Bool
+every [] = true
+every (b ∷ bs) = b && every bs
+
+-- ---- what calls make of the values
+
+-- a change was read, and made
+pub record Changes {V : Type 0} (reads : Reads (V → V)) (first last : V) (old new : View) : Type 0 where
+  pub change : V → V
+  pub read : Sound reads old new change
+  pub is : last ≡ change first
+
+-- changes were read, and made one behind another
+pub record Fills {V : Type 0} (reads : Reads (List (V → V))) (first last : V) (old new : View) : Type 0 where
+  pub changes : List (V → V)
+  pub read : Sound reads old new changes
+  pub is : last ≡ changed first changes
+
+-- fields by their names: of a type, and then others
+abbrev pub fields_by : {T V : Type 0} → Reads T → (List (Bor (List ℕ)) → ReadsNamed V) → List (Bor (List ℕ)) → ReadsNamed (Option T × V)
+fields_by reads others [] = no_field
+fields_by reads others (own ∷ behind) = named_field own.now reads (others behind)
+
+-- ---- laws
+
+-- one change at most is read behind each name
+abbrev pub NamedLaws : {V : Type 0} → ReadsNamed V → Type 0
+NamedLaws named = (name : List ℕ) → Lawful (named name) any_two false
+
+pub no_field_laws : {V : Type 0} → NamedLaws (no_field {V = V})
+no_field_laws name = record {
+  one = λ xs g h n m c d p q. (let e = tree_one xs n m c d p.0 q.0 in (e.0, e.1, tt));
+  within = λ xs g n c p. tree_within xs n c p.0;
+  positive = λ e xs g n c p. not_exact e;
+}
+
+module _ {T V : Type 0} (own : List ℕ) {reads : Reads T} {same : T → T → Type 0} {never_empty : Bool} (others : ReadsNamed V) (laws : Lawful reads same never_empty) (behind : NamedLaws others) where
+  field_one : (name xs : List ℕ) (g h : (Option T × V) → (Option T × V)) (n m c d : ℕ) → named_field own reads others name xs g n c → named_field own reads others name xs h m d → (n ≡ m) × (c ≡ d) × any_two g h
+  field_one name xs g h n m c d (inl p) (inl q) = let e = laws.one xs p.1 q.1 n m c d p.2 q.2 in (e.0, e.1, tt)
+  field_one name xs g h n m c d (inl p) (inr q) = absurd (q.0 p.0)
+  field_one name xs g h n m c d (inr p) (inl q) = absurd (p.0 q.0)
+  field_one name xs g h n m c d (inr p) (inr q) = let e = (behind name).one xs p.1 q.1 n m c d p.2 q.2 in (e.0, e.1, tt)
+
+  field_within : (name xs : List ℕ) (g : (Option T × V) → (Option T × V)) (n c : ℕ) → named_field own reads others name xs g n c → n ≤ length xs
+  field_within name xs g n c (inl p) = laws.within xs p.1 n c p.2
+  field_within name xs g n c (inr p) = (behind name).within xs p.1 n c p.2
+
+  field_laws : NamedLaws (named_field own reads others)
+  field_laws name = record { one = field_one name; within = field_within name; positive = λ e xs g n c p. not_exact e }
+
+pub fields_by_laws : {T V : Type 0} {reads : Reads T} {same : T → T → Type 0} {never_empty : Bool} (others : List (Bor (List ℕ)) → ReadsNamed V) → Lawful reads same never_empty → ((names : List (Bor (List ℕ))) → NamedLaws (others names))
+    → (names : List (Bor (List ℕ))) → NamedLaws (fields_by reads others names)
+fields_by_laws others laws behind [] = no_field_laws
+fields_by_laws others laws behind (own ∷ names) = field_laws own.now (others names) laws (behind names)
+
+abbrev pub SameName : String Global → String Global → Type 0
+SameName s t = text_content s ≡ text_content t
+
+pub name_laws : Lawful ReadsName SameName true
+name_laws = record { one = text_one text_content; within = text_within text_content; positive = λ e. text_positive text_content }
+
+pub entry_laws : {V : Type 0} (named : ReadsNamed V) → NamedLaws named → Lawful (ReadsEntry named) any_two true
+entry_laws {V} named laws =
+    let pair : (name : List ℕ) → Lawful (ReadsPair ReadsName (named name)) (SamePair SameName any_two) true = λ name. pair_laws ReadsName (named name) SameName any_two true false name_laws (laws name) in
+    record {
+      one = λ xs g h n m c d p q. (
+          let is = (name_laws.one xs p.0 q.0 p.1.key_size q.1.key_size p.1.key_cost q.1.key_cost p.1.key q.1.key).2 in
+          let e = (pair (text_content q.0)).one xs (p.0, g) (q.0, h) n m c d (subst (λ name. ReadsPair ReadsName (named name) xs (p.0, g) n c) is p.1) q.1 in
+          (e.0, e.1, tt));
+      within = λ xs g n c p. (pair (text_content p.0)).within xs (p.0, g) n c p.1;
+      positive = λ e xs g n c p. (pair (text_content p.0)).positive e xs (p.0, g) n c p.1;
+    }
