@@ -2,6 +2,8 @@
 ghost use Rattle.std.specs.Prelude.{
   [],
   ◌≡◌,
+  ◌≢◌,
+  None,
   ◌≤◌,
   ◌+◌,
   ◌&&◌,
@@ -267,6 +269,8 @@ impl<'a, S: Source> Accessor<'a, S> {
         ensures kept { OnErr result (left_in self.new ≡ Open) }
         ensures complete { IfErr result (λ error. Refuses (ReadsStart (left_in self.old))
             (inside S.view self.old) (as_core error)) }
+        ensures still { left_in self.old ≢ Open →
+            inside S.view self.new ≡ inside S.view self.old }
         ensures ends { IfErr result (λ error. EndsOpen (left_in self.old)
             (inside S.view self.old) (inside S.view self.new) (as_core error)) }
     {
@@ -326,6 +330,8 @@ impl<'a, S: Source> Accessor<'a, S> {
             (inside S.view self.old) (as_core error)) }
         ensures ends { IfErr result (λ error. EndsOpen (left_in self.old)
             (inside S.view self.old) (inside S.view self.new) (as_core error)) }
+        ensures still { left_in self.old ≢ Open → IfOk result
+            (λ part. part ≡ None → inside S.view self.new ≡ inside S.view self.old) }
         ensures shrinks { IsTrue T.never_empty → IfOk result (λ part. OnSome part
             (fuel (left_in self.new) (inside S.view self.new).bound + 1
             ≤ fuel (left_in self.old) (inside S.view self.old).bound)) }
@@ -361,6 +367,8 @@ impl<'a, S: Source> Accessor<'a, S> {
             (inside S.view self.old) (as_core error)) }
         ensures ends { IfErr result (λ error. EndsOpen (left_in self.old)
             (inside S.view self.old) (inside S.view self.new) (as_core error)) }
+        ensures still { left_in self.old ≢ Open → IfOk result
+            (λ part. part ≡ None → inside S.view self.new ≡ inside S.view self.old) }
         ensures shrinks { IsTrue K.never_empty → IfOk result (λ part. OnSome part
             (fuel (left_in self.new) (inside S.view self.new).bound + 1
             ≤ fuel (left_in self.old) (inside S.view self.old).bound)) }
@@ -417,6 +425,8 @@ impl<'a, S: Source> Accessor<'a, S> {
             IsExact (K.owned && V.owned) (inside S.view self.old) → IfErr result (λ error.
             Refuses (Next (ReadsPair K.reads V.reads) (left_in self.old))
             (inside S.view self.old) (as_core error)) }
+        ensures still { left_in self.old ≢ Open → IfOk result
+            (λ part. part ≡ None → inside S.view self.new ≡ inside S.view self.old) }
         ensures shrinks { IsTrue K.never_empty → IfOk result (λ part. OnSome part
             (fuel (left_in self.new) (inside S.view self.new).bound + 1
             ≤ fuel (left_in self.old) (inside S.view self.old).bound)) }

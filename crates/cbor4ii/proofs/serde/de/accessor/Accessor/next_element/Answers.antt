@@ -25,3 +25,9 @@ returns-in-Ok-false-clause-sound g c = next_end _ _ (rw c.in-Ok-false.field-0-te
 
 pub returns-in-Err-clause-complete : goal.returns-in-Err-clause-complete
 returns-in-Err-clause-complete g c said exact = next_no_start _ _ c.in-Err.ensures.complete
+
+pub returns-in-Ok-clause-still : goal.returns-in-Ok-clause-still
+returns-in-Ok-clause-still g c not is = cc
+
+pub returns-in-Ok-false-clause-still : goal.returns-in-Ok-false-clause-still
+returns-in-Ok-false-clause-still g c not is = c.in-Ok-false.ensures.still not

@@ -29,3 +29,9 @@ pub returns-in-Err-clause-complete : goal.returns-in-Err-clause-complete
 returns-in-Err-clause-complete g c said exact =
     let b = both g.K.Typed.exact g.V.Typed.exact said in
     entry_no_key _ _ _ (c.in-Err.ensures.complete b.0 (exact_both _ _ (g.S.Source.view c.args.self.now.de.now.reader) exact).0)
+
+pub returns-in-Ok-clause-still : goal.returns-in-Ok-clause-still
+returns-in-Ok-clause-still g c not is = cc
+
+pub returns-in-Ok-None-clause-still : goal.returns-in-Ok-None-clause-still
+returns-in-Ok-None-clause-still g c not is = c.in-Ok-None.ensures.still not c.in-Ok-None.field-0-is

@@ -12,3 +12,12 @@ returns-in-Err-clause-complete g c = rw c.in-Open.is (start_refuses c.in-Err.ens
 
 pub returns-in-Err-clause-ends : goal.returns-in-Err-clause-ends
 returns-in-Err-clause-ends g c = ended_break c.in-Err.ensures.stops
+
+pub returns-in-Ok-true-clause-still : goal.returns-in-Ok-true-clause-still
+returns-in-Ok-true-clause-still g c not = absurd (not c.in-Open.is)
+
+pub returns-in-Ok-false-clause-still : goal.returns-in-Ok-false-clause-still
+returns-in-Ok-false-clause-still g c not = absurd (not c.in-Open.is)
+
+pub returns-in-Err-clause-still : goal.returns-in-Err-clause-still
+returns-in-Err-clause-still g c not = absurd (not c.in-Open.is)
