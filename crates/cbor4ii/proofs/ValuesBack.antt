@@ -17,7 +17,7 @@ use Rattle.cbor4ii_items.specs.ReadBack.{ReadsBack, greatest_cost, pair_cost}
 use Rattle.cbor4ii_items.specs.Strings.{counted_string, bytes_content, text_content}
 use Rattle.cbor4ii_items.specs.Laws.LeavesBack.{counted_back, string_back, text_back, simple_back, float_back}
 use Rattle.cbor4ii_items.specs.Laws.NumbersBack.{head_back, u128_back, i128_back}
-use Rattle.cbor4ii_tree.specs.head_laws.Numbers.{additional-lt}
+use Rattle.cbor4ii_tree.specs.Laws.Numbers.{additional-lt}
 use Rattle.cbor4ii_tree.specs.Canonical.{canon, canon_cost, canon_trees, canon_pairs, bignum}
 use Rattle.cbor4ii_tree.specs.declared.value.Value.TheFolds.{ind-Value}
 use Rattle.cbor4ii_tree.specs.Item.{Item, null, boolean, integer, float, bytes_item, text, sequence, mapping, tag, Items, no_items, item, Members, no_members, member, item_count, member_count, IsItem, AreItems, AreMembers}
@@ -38,7 +38,7 @@ use Rattle.cbor4ii.specs.declared.serde.de.any_leaf.AnyKind.TheVariants.{Leaf, A
 use Rattle.cbor4ii.specs.declared.serde.de.any_leaf.AnyLeaf.TheVariants.{Integer, Bignum, Bytes, Text, Bool as Flag, Null, F16, F32, F64}
 use Rattle.cbor4ii.specs.Any.{kind, kind_by, KindAs, ReadsAny}
 use Rattle.cbor4ii.specs.AnyCost.{any_cost, greatest_any_cost, greatest_any_pair_cost}
-use Rattle.cbor4ii.specs.AnyLaws.{any_of_inside}
+use Rattle.cbor4ii.specs.Laws.Any.{any_of_inside}
 use Rattle.cbor4ii.specs.ReadBack.{IsReadBack}
 use Rattle.cbor4ii.proofs.Backs.{sequence_read_back, entries_back}
 use Rattle.std.proofs.lemmas.List.Elements.{All-nil, All-cons}

@@ -11,7 +11,7 @@ use Rattle.std.specs.declared.alloc.Global.{Global}
 use Rattle.std.specs.declared.string.String.{String}
 use Rattle.cbor4ii_items.specs.Laws.Strings.{text_one, text_within, text_positive}
 use Rattle.cbor4ii_tree.specs.Ignored.{ReadsTree}
-use Rattle.cbor4ii_tree.specs.IgnoredLaws.{tree_one, tree_within}
+use Rattle.cbor4ii_tree.specs.Laws.Ignoring.{tree_one, tree_within}
 use Rattle.cbor4ii.specs.Tuples.{pair_laws}
 use Rattle.cbor4ii.specs.Typed.{Lawful, any_two, not_exact}
 

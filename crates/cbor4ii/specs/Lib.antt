@@ -1,3 +1,6 @@
+-- What reading a typed value is, and what it answers.
+
+-- ---- the words of contracts, in the order of docs/DEFINITIONS.md
 pub mod Typed
 pub mod ItemRead
 pub mod First
@@ -8,12 +11,13 @@ pub mod Built
 pub mod Accessing
 pub mod Optional
 pub mod Variants
+pub mod Fields
 pub mod Borrowed
 pub mod Character
-pub mod ReadBack
-pub mod Beginning
 pub mod Any
-pub mod AnyStops
-pub mod Laws
 pub mod AnyCost
-pub mod Fields
+pub mod AnyStops
+pub mod Beginning
+pub mod ReadBack
+-- ---- laws
+pub mod Laws
