@@ -157,15 +157,34 @@ fn skips_many(
     Ok(())
 }
 
-// A run of items of one byte is taken at once: the head of 200 items and what is left are looked at
-// at most 8 times, by a reader that shows no more than is wanted.
+// How often an item is looked at that holds so many of one kind, by a reader that shows no more than
+// is wanted: a run of those that say their size in the first byte once for some 256 bytes, another
+// once for its head, and a break once.
 #[test]
 fn few_looks(rt: HostRuntime) -> Result<(), Fail> {
     let alloc = rt.alloc();
-    let mut bytes = [0x00; 202];
-    bytes[..2].copy_from_slice(b"\x98\xc8");
-    let mut reader = Counting::new(&bytes);
-    IgnoredAny::decode(alloc, &mut reader)?;
-    assert!(rt; reader.shows() <= 8, "{} looks", reader.shows());
-    leaves(&mut reader, &bytes, b"")
+    let rows: [(&[u8], usize, &[u8], usize); 6] = [
+        (b"\x98\xc8", 200, b"\x00", 8),
+        (b"\xb8\x64", 200, b"\x00", 8),
+        (b"\xb8\x32", 50, b"\x61a\x19\x01\x02", 8),
+        (b"\x98\x28", 40, b"\x9f\xff", 84),
+        (b"\x98\x28", 40, b"\x78\x01a", 44),
+        (b"\x98\x28", 40, b"\xd8\x20\x00", 84),
+    ];
+    for (head, count, item, most) in rows {
+        let mut bytes = Vec::new(alloc);
+        bytes.extend_from_slice(head)?;
+        for _ in 0..count {
+            bytes.extend_from_slice(item)?;
+        }
+        let mut reader = Counting::new(&bytes);
+        IgnoredAny::decode(alloc, &mut reader)?;
+        assert!(rt;
+            reader.shows() <= most,
+            "{} looks at {item:?}",
+            reader.shows()
+        );
+        leaves(&mut reader, &bytes, b"")?;
+    }
+    Ok(())
 }
