@@ -15,7 +15,7 @@ use Rattle.cbor4ii_items.specs.Sequences.{ReadsPair, ReadsCount, ReadsUpToBreak,
 use Rattle.cbor4ii_items.specs.Strings.{text_content}
 use Rattle.cbor4ii_items.specs.Reading.{Runs}
 use Rattle.cbor4ii_items.specs.ReadStrings.{break_at}
-use Rattle.cbor4ii_items.specs.Laws.Answering.{if_some, refuses_as, fits_zero}
+use Rattle.cbor4ii_items.specs.Laws.Answering.{if_some, refuses_as}
 use Rattle.cbor4ii_items.specs.Laws.Pairs.{pair_sound, key_less, value_refuses}
 use Rattle.cbor4ii_items.specs.Laws.SequenceParts.{Begun, count_more, count_done, Opened, Stands, open_more, open_done}
 use Rattle.cbor4ii_items.specs.Laws.SequenceInside.{if_err, if_err_told, Counts, Opens, counted_read, opened_read, counted_not_read, opened_not_read}
@@ -173,13 +173,6 @@ module _ {V : Type 0} (named : ReadsNamed V) where
     pub begun : Begun (ReadsEntry named) i a m changes
     pub is : last ≡ changed first changes
 
-  pub counted_none : {i : ℕ} {a m : View} {first last : V} → i ≡ 0 → Kept a m → m.told ≡ a.told → last ≡ first → Counted i a m first last
-  counted_none {a = a} zero_is kept same is = record {
-    changes = [];
-    begun = record { count = sym zero_is; parts = record { at = λ xs told. record { count = 0; cost = 0; read = (refl, refl); fits = fits_zero a.budget; left = same ∙ told } }; kept = kept };
-    is = is;
-  }
-
   adds : {m b : View} {middle last : V} (changes : List (V → V)) → (t : Changes (ReadsEntry named) middle last m b) → AddsPart (ReadsEntry named) changes (changes ++ t.change ∷ []) m b
   adds changes t = record { part = t.change; read = t.read; added = refl }
 
@@ -197,13 +190,6 @@ module _ {V : Type 0} (named : ReadsNamed V) where
     pub changes : List (V → V)
     pub opened : Opened (ReadsEntry named) true a m changes
     pub is : last ≡ changed first changes
-
-  pub unended_none : {a m : View} {first last : V} → Kept a m → m.told ≡ a.told → last ≡ first → Unended a m first last
-  unended_none {a = a} kept same is = record {
-    changes = [];
-    opened = record { allowed = inl refl; parts = record { at = λ xs told. record { count = 0; cost = 0; read = (refl, refl); fits = fits_zero a.budget; left = same ∙ told } }; kept = kept };
-    is = is;
-  }
 
   pub unended_more : {E : Type 0} {a l m b : View} {first middle last : V} → Unended a l first middle → Stands l m → Changes (ReadsEntry named) middle last m b → Moves {V = Unit {0}} {E = E} m b (Ok tt) → Unended a b first last
   unended_more {first = first} h s t moves = record { changes = h.changes ++ t.change ∷ []; opened = open_more (ReadsEntry named) true refl h.opened s (adds h.changes t) moves; is = made first h.changes h.is t }
