@@ -157,9 +157,9 @@ fn skips_many(
     Ok(())
 }
 
-// How often an item is looked at that holds so many of one kind, by a reader that shows no more than
-// is wanted: a run of those that say their size in the first byte once for some 256 bytes, another
-// once for its head, and a break once.
+// How often an item is looked at that holds so many of one kind, by a reader that shows no more
+// than is wanted: a run of those that say their size in the first byte once for some 256 bytes,
+// another once for its head, and a break once.
 #[test]
 fn few_looks(rt: HostRuntime) -> Result<(), Fail> {
     let alloc = rt.alloc();

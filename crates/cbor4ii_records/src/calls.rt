@@ -139,12 +139,12 @@ fn the_value_at_the_front(rt: HostRuntime) -> Result<(), Fail> {
 fn refusal<T: Drop, E: Debug + Drop>(
     got: Result<T, DecodeError<E>>,
 ) -> Result<InlineText<128>, Fail> {
-    match got {
+    match &got {
         Ok(_) => Ok(InlineText::of("no refusal")),
         Err(DecodeError::Core(core_error::DecodeError::OutOfMemory)) => {
             Err(Fail::from(core_error::DecodeError::<Never>::OutOfMemory))
         }
-        Err(error) => Ok(InlineText::of(&error)),
+        Err(error) => Ok(InlineText::of(error)),
     }
 }
 

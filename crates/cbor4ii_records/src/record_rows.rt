@@ -240,7 +240,8 @@ const MISSING: &str = "a field is missing";
 
 impl<S: Source> Take<S> for Whole {
     fn take(alloc: Global, de: &mut Deserializer<S>) -> Result<Whole, DecodeError<S::Error>> {
-        match de.deserialize_4_fields(alloc, "Whole", "a", "b", "c", "d")? {
+        let (a, b, c, d) = de.deserialize_4_fields(alloc, "Whole", "a", "b", "c", "d")?;
+        match (a, b, c, d) {
             (Some(a), Some(b), Some(c), Some(d)) => Ok(Whole { a, b, c, d }),
             _ => Err(DecodeError::Custom(MISSING)),
         }
@@ -266,8 +267,9 @@ struct WithoutD(u8, Vec<u8>, Option<u8>);
 
 impl<S: Source> Take<S> for WithoutD {
     fn take(alloc: Global, de: &mut Deserializer<S>) -> Result<WithoutD, DecodeError<S::Error>> {
-        match de.deserialize_3_fields(alloc, "Whole", "a", "c", "e")? {
-            (Some(a), Some(c), e) => Ok(WithoutD(a, c, e)),
+        let (a, c, e) = de.deserialize_3_fields(alloc, "Whole", "a", "c", "e")?;
+        match (a, c) {
+            (Some(a), Some(c)) => Ok(WithoutD(a, c, e)),
             _ => Err(DecodeError::Custom(MISSING)),
         }
     }
