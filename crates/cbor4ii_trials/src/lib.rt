@@ -2,7 +2,7 @@
 //! compared.
 #![tactic(auto)]
 
-pub mod any_reader;
+pub mod items;
 pub mod readers;
 pub mod rows;
 pub mod streams;

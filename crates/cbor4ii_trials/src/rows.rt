@@ -2,11 +2,9 @@
 //!
 //! What a row finds wrong is the failure of the test that tries it, and says of which bytes. Where
 //! memory is refused, the row says nothing, and that refusal is the test's failure.
-use crate::any_reader::{AnyReader, Fault, RowReader};
 use crate::readers::{Failure, TestReader};
 use crate::streams::{FailingSink, FailingStream};
 use crate::writers::{FailingWriter, PushLengths};
-use cbor4ii_items::decode::{Decode, Spelled};
 use cbor4ii_items::encode::Encode;
 use cbor4ii_rw::ask::look;
 use cbor4ii_rw::buf_writer::BufWriter;
@@ -38,23 +36,45 @@ const STEPS: usize = 256;
 const MOST_CALLS: usize = 700;
 
 /// What a row reads: a value, or what another call takes off a reader.
-pub trait ReadFrom<S: Source>: Sized {
+///
+/// That it is read is proved once, over any reader, and a test of its rows asks no more of it.
+pub trait ReadFrom: Sized {
     /// Reads it off the front of what `reader` has left.
-    fn read_from(alloc: Global, reader: &mut S) -> Result<Self, DecodeError<S::Error>>;
+    fn read_from<S: Source>(alloc: Global, reader: &mut S) -> Result<Self, DecodeError<S::Error>>;
 }
 
-impl<S: Source, T: Spelled + Decode<S>> ReadFrom<S> for T {
-    fn read_from(alloc: Global, reader: &mut S) -> Result<T, DecodeError<S::Error>> {
-        T::decode(alloc, reader)
+/// What is read off one reader, as what is borrowed from its input.
+pub trait ReadBy<S: Source>: Sized {
+    /// Reads it off the front of what `reader` has left.
+    fn read_by(alloc: Global, reader: &mut S) -> Result<Self, DecodeError<S::Error>>;
+}
+
+impl<S: Source, T: ReadFrom> ReadBy<S> for T {
+    fn read_by(alloc: Global, reader: &mut S) -> Result<T, DecodeError<S::Error>> {
+        T::read_from(alloc, reader)
     }
+}
+
+/// What is read off each reader that lends whole, and off those that fail.
+pub trait ReadByEach:
+    ReadBy<SliceReader<'static>> + ReadBy<TestReader<'static>> + ReadBy<Stream>
+{
+}
+
+impl<T> ReadByEach for T where
+    T: ReadBy<SliceReader<'static>> + ReadBy<TestReader<'static>> + ReadBy<Stream>
+{
 }
 
 /// One behind the other.
 #[derive(Debug, PartialEq, Drop)]
 pub struct Pair<A, B>(pub A, pub B);
 
-impl<S: Source, A: ReadFrom<S> + Drop, B: ReadFrom<S>> ReadFrom<S> for Pair<A, B> {
-    fn read_from(alloc: Global, reader: &mut S) -> Result<Pair<A, B>, DecodeError<S::Error>> {
+impl<A: ReadFrom + Drop, B: ReadFrom> ReadFrom for Pair<A, B> {
+    fn read_from<S: Source>(
+        alloc: Global,
+        reader: &mut S,
+    ) -> Result<Pair<A, B>, DecodeError<S::Error>> {
         let first = A::read_from(alloc, reader)?;
         Ok(Pair(first, B::read_from(alloc, reader)?))
     }
@@ -66,7 +86,7 @@ impl<S: Source, A: ReadFrom<S> + Drop, B: ReadFrom<S>> ReadFrom<S> for Pair<A, B
 /// together.
 pub fn reads_rows<T>(alloc: Global, rows: &[Row<T>]) -> Result<(), Fail>
 where
-    T: ReadFrom<RowReader> + PartialEq + Debug + Drop,
+    T: ReadFrom + PartialEq + Debug + Drop,
 {
     for (bytes, want, rest) in rows {
         reads_row(alloc, bytes, want, rest)?;
@@ -77,7 +97,7 @@ where
 /// As `reads_rows`, for one row.
 pub fn reads<T>(alloc: Global, bytes: &'static [u8], want: Want<T>, rest: &[u8]) -> Result<(), Fail>
 where
-    T: ReadFrom<RowReader> + PartialEq + Debug + Drop,
+    T: ReadFrom + PartialEq + Debug + Drop,
 {
     reads_row(alloc, bytes, &want, rest)
 }
@@ -89,17 +109,17 @@ fn reads_row<T>(
     rest: &[u8],
 ) -> Result<(), Fail>
 where
-    T: ReadFrom<RowReader> + PartialEq + Debug + Drop,
+    T: ReadFrom + PartialEq + Debug + Drop,
 {
     reads_within(alloc, bytes, STEPS, want, rest)?;
-    let mut unlimited = AnyReader::Test(TestReader::unlimited(bytes));
+    let mut unlimited = TestReader::unlimited(bytes);
     reads_over(alloc, &mut unlimited, bytes, want, rest)
 }
 
 /// As `reads_rows`, over each reader that counts its steps, with so many of them.
 pub fn reads_rows_within<T>(alloc: Global, rows: &[RowWithin<T>]) -> Result<(), Fail>
 where
-    T: ReadFrom<RowReader> + PartialEq + Debug + Drop,
+    T: ReadFrom + PartialEq + Debug + Drop,
 {
     for (bytes, limit, want, rest) in rows {
         reads_within(alloc, bytes, *limit, want, rest)?;
@@ -116,7 +136,7 @@ pub fn reads_within<T>(
     rest: &[u8],
 ) -> Result<(), Fail>
 where
-    T: ReadFrom<RowReader> + PartialEq + Debug + Drop,
+    T: ReadFrom + PartialEq + Debug + Drop,
 {
     reads_by_each(alloc, bytes, limit, want, rest)?;
     reads_in_segments(alloc, bytes, limit, want, rest)?;
@@ -133,42 +153,44 @@ pub fn reads_by_each<T>(
     rest: &[u8],
 ) -> Result<(), Fail>
 where
-    T: ReadFrom<RowReader> + PartialEq + Debug + Drop,
+    T: ReadFrom + PartialEq + Debug + Drop,
 {
-    for mut reader in by_each(bytes, limit) {
-        reads_over(alloc, &mut reader, bytes, want, rest)?;
+    let mut slice = SliceReader::with_limit(bytes, limit);
+    reads_over(alloc, &mut slice, bytes, want, rest)?;
+    let mut long = TestReader::long(bytes, limit);
+    reads_over(alloc, &mut long, bytes, want, rest)?;
+    let mut whole = TestReader::whole(bytes, limit);
+    reads_over(alloc, &mut whole, bytes, want, rest)?;
+    reads_short(alloc, bytes, limit, want, rest)
+}
+
+// Over readers whose bytes do not outlive the fill: one that shows a byte at a time, and streams
+// that show one at a time and all that is left.
+fn reads_short<T>(
+    alloc: Global,
+    bytes: &'static [u8],
+    limit: usize,
+    want: &Want<T>,
+    rest: &[u8],
+) -> Result<(), Fail>
+where
+    T: ReadBy<TestReader<'static>> + ReadBy<Stream> + PartialEq + Debug + Drop,
+{
+    let mut short = TestReader::short(bytes, limit);
+    reads_over(alloc, &mut short, bytes, want, rest)?;
+    for most in [1, usize::MAX] {
+        let mut stream = stream(bytes, most, usize::MAX, limit);
+        reads_over(alloc, &mut stream, bytes, want, rest)?;
     }
-    let mut whole = AnyReader::Test(TestReader::whole(bytes, limit));
-    reads_over(alloc, &mut whole, bytes, want, rest)
+    Ok(())
 }
 
-// A reader over the slice, one that lends a byte at a time, and those whose bytes do not outlive
-// the fill.
-fn by_each(bytes: &'static [u8], limit: usize) -> [RowReader; 5] {
-    let [short, by_byte, at_once] = not_lending(bytes, limit);
-    let slice = AnyReader::Slice(SliceReader::with_limit(bytes, limit));
-    let long = AnyReader::Test(TestReader::long(bytes, limit));
-    [slice, long, short, by_byte, at_once]
-}
-
-// A reader that shows a byte at a time, and streams that show one at a time and all that is left.
-fn not_lending(bytes: &'static [u8], limit: usize) -> [RowReader; 3] {
-    let short = AnyReader::Test(TestReader::short(bytes, limit));
-    [
-        short,
-        stream(bytes, 1, usize::MAX, limit),
-        stream(bytes, usize::MAX, usize::MAX, limit),
-    ]
-}
+// The reader over a stream that a row is tried over.
+type Stream = IoReader<FailingStream<'static>>;
 
 // A stream that shows at most so many bytes at a time, so many times before it fails.
-fn stream(bytes: &'static [u8], most: usize, looks: usize, limit: usize) -> RowReader {
-    let stream = FailingStream::new(bytes, most, looks);
-    AnyReader::Stream(IoReader::with_limit(stream, limit))
-}
-
-fn in_segments(segments: &'static [&'static [u8]], limit: usize) -> RowReader {
-    AnyReader::Segments(SegmentReader::with_limit(segments, limit))
+fn stream(bytes: &'static [u8], most: usize, looks: usize, limit: usize) -> Stream {
+    IoReader::with_limit(FailingStream::new(bytes, most, looks), limit)
 }
 
 // The bytes in two segments, for each place where they can be cut. They stay for good.
@@ -189,10 +211,11 @@ fn reads_in_segments<T>(
     rest: &[u8],
 ) -> Result<(), Fail>
 where
-    T: ReadFrom<RowReader> + PartialEq + Debug + Drop,
+    T: ReadFrom + PartialEq + Debug + Drop,
 {
     for segments in cuts(alloc, bytes)? {
-        reads_over(alloc, &mut in_segments(segments, limit), bytes, want, rest)?;
+        let mut reader = SegmentReader::with_limit(segments, limit);
+        reads_over(alloc, &mut reader, bytes, want, rest)?;
     }
     Ok(())
 }
@@ -209,11 +232,11 @@ pub fn lends_in_segments<T>(
     refusals: &[&'static str],
 ) -> Result<(), Fail>
 where
-    T: ReadFrom<RowReader> + PartialEq + Debug + Drop,
+    T: ReadBy<SegmentReader<'static>> + PartialEq + Debug + Drop,
 {
     let content = bytes.get(head..).ok_or("no content")?;
     for (cut, segments) in cuts(alloc, bytes)?.iter().enumerate() {
-        let mut reader = in_segments(segments, STEPS);
+        let mut reader = SegmentReader::with_limit(segments, STEPS);
         // The first segment has one byte more than its place among the cuts.
         let refusal = match cut.checked_sub(head) {
             Some(place) => refusals.get(place),
@@ -233,7 +256,7 @@ where
 /// As `reads_rows`, for borrowed values over each reader that lends whole.
 pub fn lends_rows<T>(alloc: Global, rows: &[Row<T>]) -> Result<(), Fail>
 where
-    T: ReadFrom<RowReader> + PartialEq + Debug + Drop,
+    T: ReadByEach + PartialEq + Debug + Drop,
 {
     for (bytes, want, rest) in rows {
         lends_row(alloc, bytes, want, rest)?;
@@ -244,7 +267,7 @@ where
 /// As `lends_rows`, for one row.
 pub fn lends<T>(alloc: Global, bytes: &'static [u8], want: Want<T>, rest: &[u8]) -> Result<(), Fail>
 where
-    T: ReadFrom<RowReader> + PartialEq + Debug + Drop,
+    T: ReadByEach + PartialEq + Debug + Drop,
 {
     lends_row(alloc, bytes, &want, rest)
 }
@@ -256,16 +279,13 @@ fn lends_row<T>(
     rest: &[u8],
 ) -> Result<(), Fail>
 where
-    T: ReadFrom<RowReader> + PartialEq + Debug + Drop,
+    T: ReadByEach + PartialEq + Debug + Drop,
 {
-    let lending: [RowReader; 3] = [
-        AnyReader::Slice(SliceReader::new(bytes)),
-        AnyReader::Test(TestReader::unlimited(bytes)),
-        AnyReader::Test(TestReader::whole(bytes, STEPS)),
-    ];
-    for mut reader in lending {
-        reads_over(alloc, &mut reader, bytes, want, rest)?;
-    }
+    reads_over(alloc, &mut SliceReader::new(bytes), bytes, want, rest)?;
+    let mut unlimited = TestReader::unlimited(bytes);
+    reads_over(alloc, &mut unlimited, bytes, want, rest)?;
+    let mut whole = TestReader::whole(bytes, STEPS);
+    reads_over(alloc, &mut whole, bytes, want, rest)?;
     fails_at_each_show::<T>(alloc, bytes, STEPS)?;
     fails_at_each_look::<T>(alloc, bytes, STEPS)
 }
@@ -278,12 +298,9 @@ pub fn lends_short<T>(
     rest: &[u8],
 ) -> Result<(), Fail>
 where
-    T: ReadFrom<RowReader> + PartialEq + Debug + Drop,
+    T: ReadBy<TestReader<'static>> + ReadBy<Stream> + PartialEq + Debug + Drop,
 {
-    for mut reader in not_lending(bytes, STEPS) {
-        reads_over(alloc, &mut reader, bytes, &want, rest)?;
-    }
-    Ok(())
+    reads_short(alloc, bytes, STEPS, &want, rest)
 }
 
 /// Reads over this reader, which holds `bytes`: the answer, the bytes left, and the steps as
@@ -296,11 +313,11 @@ pub fn reads_over<T, S>(
     rest: &[u8],
 ) -> Result<(), Fail>
 where
-    T: ReadFrom<S> + PartialEq + Debug + Drop,
+    T: ReadBy<S> + PartialEq + Debug + Drop,
     S: Source,
 {
     let budget = steps(reader);
-    let got = T::read_from(alloc, reader);
+    let got = T::read_by(alloc, reader);
     is_same(got, bytes, want)?;
     if steps(reader) != budget {
         return Err(Fail::new(format_args!("not {budget} steps after {bytes:?}")));
@@ -312,20 +329,23 @@ where
 /// and does not fail: nothing is left, and the steps are as before.
 pub fn ends_at_each_front<T>(alloc: Global, item: &'static [u8], limit: usize) -> Result<(), Fail>
 where
-    T: ReadFrom<RowReader> + Debug + Drop,
+    T: ReadFrom + Debug + Drop,
 {
     for shown in 0..item.len() {
         let front = &item[..shown];
-        for mut reader in by_each(front, limit) {
-            ends::<T>(alloc, &mut reader, front)?;
+        ends::<T, _>(alloc, &mut SliceReader::with_limit(front, limit), front)?;
+        ends::<T, _>(alloc, &mut TestReader::long(front, limit), front)?;
+        ends::<T, _>(alloc, &mut TestReader::short(front, limit), front)?;
+        for most in [1, usize::MAX] {
+            ends::<T, _>(alloc, &mut stream(front, most, usize::MAX, limit), front)?;
         }
     }
     Ok(())
 }
 
-fn ends<T: ReadFrom<RowReader> + Debug + Drop>(
+fn ends<T: ReadFrom + Debug + Drop, S: Source>(
     alloc: Global,
-    reader: &mut RowReader,
+    reader: &mut S,
     front: &[u8],
 ) -> Result<(), Fail> {
     let budget = steps(reader);
@@ -339,7 +359,7 @@ fn ends<T: ReadFrom<RowReader> + Debug + Drop>(
     Err(Fail::new(format_args!("{got:?} of the front {front:?}")))
 }
 
-/// Compares an answer.
+// Compares an answer.
 fn is_same<T: PartialEq + Debug + Drop, E: Debug + Drop>(
     got: Result<T, DecodeError<E>>,
     bytes: &[u8],
@@ -397,7 +417,7 @@ pub fn steps<S: Source>(reader: &mut S) -> u16 {
 }
 
 // Readers that fail at the first show, at the second, and so on until none is left to fail.
-fn fails_at_each_show<T: ReadFrom<RowReader> + Debug + Drop>(
+fn fails_at_each_show<T: ReadBy<TestReader<'static>> + Debug + Drop>(
     alloc: Global,
     bytes: &'static [u8],
     limit: usize,
@@ -418,23 +438,17 @@ fn fails_at_each_show<T: ReadFrom<RowReader> + Debug + Drop>(
 
 // Whether the reader failed. Then the answer is its error. An end of the bytes is left, and the
 // budget is as before.
-fn fails<T: ReadFrom<RowReader> + Debug + Drop>(
+fn fails<T: ReadBy<TestReader<'static>> + Debug + Drop>(
     alloc: Global,
-    reader: TestReader<'static>,
+    mut reader: TestReader<'static>,
     bytes: &[u8],
 ) -> Result<bool, Fail> {
     let limit = reader.steps();
-    let mut reader = AnyReader::Test(reader);
-    let got = T::read_from(alloc, &mut reader);
-    let is_read = matches!(got, Err(DecodeError::Read(Fault::Told(Failure))));
-    let is_kept = match &reader {
-        AnyReader::Test(reader) => {
-            is_read == (reader.failures() == 1)
-                && reader.steps() == limit
-                && bytes.ends_with(reader.remaining())
-        }
-        _ => false,
-    };
+    let got = T::read_by(alloc, &mut reader);
+    let is_read = matches!(got, Err(DecodeError::Read(Failure)));
+    let is_kept = is_read == (reader.failures() == 1)
+        && reader.steps() == limit
+        && bytes.ends_with(reader.remaining());
     if is_kept {
         return Ok(is_read);
     }
@@ -442,7 +456,7 @@ fn fails<T: ReadFrom<RowReader> + Debug + Drop>(
 }
 
 // A stream that fails at the first look, at the second, and so on until none is left to fail.
-fn fails_at_each_look<T: ReadFrom<RowReader> + Debug + Drop>(
+fn fails_at_each_look<T: ReadBy<Stream> + Debug + Drop>(
     alloc: Global,
     bytes: &'static [u8],
     limit: usize,
@@ -457,7 +471,7 @@ fn fails_at_each_look<T: ReadFrom<RowReader> + Debug + Drop>(
 
 // Whether the stream failed. Then the answer is its error. The budget is as before, and the reader
 // over it takes of the stream what it took, and no byte more.
-fn fails_at_look<T: ReadFrom<RowReader> + Debug + Drop>(
+fn fails_at_look<T: ReadBy<Stream> + Debug + Drop>(
     alloc: Global,
     bytes: &'static [u8],
     limit: usize,
@@ -465,19 +479,17 @@ fn fails_at_look<T: ReadFrom<RowReader> + Debug + Drop>(
 ) -> Result<bool, Fail> {
     let mut reader = stream(bytes, 2, looks, limit);
     let budget = steps(&mut reader);
-    let got = T::read_from(alloc, &mut reader);
+    let got = T::read_by(alloc, &mut reader);
     let is_read = matches!(
         &got,
-        Err(DecodeError::Read(Fault::Stream(error))) if error.kind() == ErrorKind::Other
+        Err(DecodeError::Read(error)) if error.kind() == ErrorKind::Other
     );
     let is_kept = steps(&mut reader) == budget;
-    if let AnyReader::Stream(reader) = reader {
-        let taken = reader.taken() as usize;
-        let stream = reader.into_inner();
-        let is_left = bytes.get(taken..) == Some(stream.remaining());
-        if is_kept && is_left && is_read == stream.has_failed() {
-            return Ok(is_read);
-        }
+    let taken = reader.taken() as usize;
+    let stream = reader.into_inner();
+    let is_left = bytes.get(taken..) == Some(stream.remaining());
+    if is_kept && is_left && is_read == stream.has_failed() {
+        return Ok(is_read);
     }
     Err(Fail::new(format_args!("{got:?} where look {looks} fails, of {bytes:?}")))
 }
@@ -576,7 +588,7 @@ pub fn goes_both_ways<T>(
     pushes: usize,
 ) -> Result<(), Fail>
 where
-    T: WriteTo + ReadFrom<RowReader> + PartialEq + Debug + Drop,
+    T: WriteTo + ReadFrom + PartialEq + Debug + Drop,
 {
     writes_in(alloc, &value, bytes, pushes)?;
     reads(alloc, bytes, Ok(value), b"")
