@@ -55,14 +55,21 @@ impl<S: Source, T: ReadFrom> ReadBy<S> for T {
     }
 }
 
-/// What is read off each reader that lends whole, and off those that fail.
+/// What is read off each reader that a row is tried over. Of what is read off any reader a test
+/// asks `ReadFrom`, which costs its proof less.
 pub trait ReadByEach:
-    ReadBy<SliceReader<'static>> + ReadBy<TestReader<'static>> + ReadBy<Stream>
+    ReadBy<SliceReader<'static>>
+    + ReadBy<SegmentReader<'static>>
+    + ReadBy<TestReader<'static>>
+    + ReadBy<Stream>
 {
 }
 
 impl<T> ReadByEach for T where
-    T: ReadBy<SliceReader<'static>> + ReadBy<TestReader<'static>> + ReadBy<Stream>
+    T: ReadBy<SliceReader<'static>>
+        + ReadBy<SegmentReader<'static>>
+        + ReadBy<TestReader<'static>>
+        + ReadBy<Stream>
 {
 }
 
@@ -82,14 +89,14 @@ impl<A: ReadFrom + Drop, B: ReadFrom> ReadFrom for Pair<A, B> {
 
 /// Reads the bytes of each row over each reader: the same answer, and the same bytes left.
 ///
-/// Each type costs the proof of a function that tries it a second or two, so rows of one type stand
-/// together.
+/// Each type costs the proof of a function that tries it some tenths of a second, so rows of one
+/// type stand together.
 pub fn reads_rows<T>(alloc: Global, rows: &[Row<T>]) -> Result<(), Fail>
 where
     T: ReadFrom + PartialEq + Debug + Drop,
 {
     for (bytes, want, rest) in rows {
-        reads_row(alloc, bytes, want, rest)?;
+        reads_alike(alloc, bytes, want, rest)?;
     }
     Ok(())
 }
@@ -99,21 +106,7 @@ pub fn reads<T>(alloc: Global, bytes: &'static [u8], want: Want<T>, rest: &[u8])
 where
     T: ReadFrom + PartialEq + Debug + Drop,
 {
-    reads_row(alloc, bytes, &want, rest)
-}
-
-fn reads_row<T>(
-    alloc: Global,
-    bytes: &'static [u8],
-    want: &Want<T>,
-    rest: &[u8],
-) -> Result<(), Fail>
-where
-    T: ReadFrom + PartialEq + Debug + Drop,
-{
-    reads_within(alloc, bytes, STEPS, want, rest)?;
-    let mut unlimited = TestReader::unlimited(bytes);
-    reads_over(alloc, &mut unlimited, bytes, want, rest)
+    reads_alike(alloc, bytes, &want, rest)
 }
 
 /// As `reads_rows`, over each reader that counts its steps, with so many of them.
@@ -122,7 +115,7 @@ where
     T: ReadFrom + PartialEq + Debug + Drop,
 {
     for (bytes, limit, want, rest) in rows {
-        reads_within(alloc, bytes, *limit, want, rest)?;
+        reads_alike_within(alloc, bytes, *limit, want, rest)?;
     }
     Ok(())
 }
@@ -138,10 +131,7 @@ pub fn reads_within<T>(
 where
     T: ReadFrom + PartialEq + Debug + Drop,
 {
-    reads_by_each(alloc, bytes, limit, want, rest)?;
-    reads_in_segments(alloc, bytes, limit, want, rest)?;
-    fails_at_each_show::<T>(alloc, bytes, limit)?;
-    fails_at_each_look::<T>(alloc, bytes, limit)
+    reads_alike_within(alloc, bytes, limit, want, rest)
 }
 
 /// As `reads_within`, with no fault and not cut at each place: for rows of many bytes.
@@ -154,6 +144,52 @@ pub fn reads_by_each<T>(
 ) -> Result<(), Fail>
 where
     T: ReadFrom + PartialEq + Debug + Drop,
+{
+    reads_whole(alloc, bytes, limit, want, rest)
+}
+
+/// As `reads`, for what holds borrowed parts, where it is no matter whether they are lent.
+pub fn reads_alike<T>(
+    alloc: Global,
+    bytes: &'static [u8],
+    want: &Want<T>,
+    rest: &[u8],
+) -> Result<(), Fail>
+where
+    T: ReadByEach + PartialEq + Debug + Drop,
+{
+    reads_alike_within(alloc, bytes, STEPS, want, rest)?;
+    let mut unlimited = TestReader::unlimited(bytes);
+    reads_over(alloc, &mut unlimited, bytes, want, rest)
+}
+
+/// As `reads_within`, for what holds borrowed parts, where it is no matter whether they are lent.
+pub fn reads_alike_within<T>(
+    alloc: Global,
+    bytes: &'static [u8],
+    limit: usize,
+    want: &Want<T>,
+    rest: &[u8],
+) -> Result<(), Fail>
+where
+    T: ReadByEach + PartialEq + Debug + Drop,
+{
+    reads_whole(alloc, bytes, limit, want, rest)?;
+    reads_in_segments(alloc, bytes, limit, want, rest)?;
+    fails_at_each_show::<T>(alloc, bytes, limit)?;
+    fails_at_each_look::<T>(alloc, bytes, limit)
+}
+
+// Over each reader, with no fault and in one piece.
+fn reads_whole<T>(
+    alloc: Global,
+    bytes: &'static [u8],
+    limit: usize,
+    want: &Want<T>,
+    rest: &[u8],
+) -> Result<(), Fail>
+where
+    T: ReadByEach + PartialEq + Debug + Drop,
 {
     let mut slice = SliceReader::with_limit(bytes, limit);
     reads_over(alloc, &mut slice, bytes, want, rest)?;
@@ -211,7 +247,7 @@ fn reads_in_segments<T>(
     rest: &[u8],
 ) -> Result<(), Fail>
 where
-    T: ReadFrom + PartialEq + Debug + Drop,
+    T: ReadBy<SegmentReader<'static>> + PartialEq + Debug + Drop,
 {
     for segments in cuts(alloc, bytes)? {
         let mut reader = SegmentReader::with_limit(segments, limit);
