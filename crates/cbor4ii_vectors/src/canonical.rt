@@ -14,8 +14,11 @@ const OTHER: &str = "NotCanonical { name: \"canonical\" }";
 #[derive(Clone, Copy, Debug, PartialEq)]
 struct Shortest(u64);
 
-impl<S: Source> ReadFrom<S> for Shortest {
-    fn read_from(alloc: Global, reader: &mut S) -> Result<Shortest, DecodeError<S::Error>> {
+impl ReadFrom for Shortest {
+    fn read_from<S: Source>(
+        alloc: Global,
+        reader: &mut S,
+    ) -> Result<Shortest, DecodeError<S::Error>> {
         let major = (peek(reader, "head")? / 32).min(6);
         Ok(Shortest(canonical_head("head", major, reader)?))
     }
@@ -76,8 +79,11 @@ fn shortest_heads(rt: HostRuntime) -> Result<(), Fail> {
 #[derive(Debug, PartialEq, Drop)]
 struct Content(Vec<u8>);
 
-impl<S: Source> ReadFrom<S> for Content {
-    fn read_from(alloc: Global, reader: &mut S) -> Result<Content, DecodeError<S::Error>> {
+impl ReadFrom for Content {
+    fn read_from<S: Source>(
+        alloc: Global,
+        reader: &mut S,
+    ) -> Result<Content, DecodeError<S::Error>> {
         Ok(Content(canonical_buf(alloc, "bytes", 2, reader)?))
     }
 }

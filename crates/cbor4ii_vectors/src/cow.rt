@@ -5,8 +5,9 @@ use cbor4ii_rw::error::{DecodeError, Never};
 use cbor4ii_rw::io_reader::IoReader;
 use cbor4ii_rw::read::Read;
 use cbor4ii_rw::slice_reader::SliceReader;
+use cbor4ii_trials::items::Lent;
 use cbor4ii_trials::readers::TestReader;
-use cbor4ii_trials::rows::{leaves, reads, steps};
+use cbor4ii_trials::rows::{Want, leaves, reads_alike, steps};
 use cbor4ii_trials::streams::FailingStream;
 use std::alloc::Global;
 use std::borrow::{CowSlice, CowStr};
@@ -22,7 +23,7 @@ enum Kind {
 
 // Who lends a string's content: no reader, one that lends all that is left, or one of a byte too.
 #[derive(Clone, Copy, PartialEq)]
-enum Lent {
+enum Lender {
     Never,
     Whole,
     ByByte,
@@ -131,25 +132,25 @@ fn fails_at_each_show(kind: Kind, alloc: Global, bytes: &[u8]) -> Result<(), Fai
     Err(Fail::new(format_args!("too many shows of {bytes:?}")))
 }
 
-const READ: &[(Kind, &[u8], &[u8], Lent)] = &[
-    (Kind::Text, b"\x62aa", b"aa", Lent::Whole),
-    (Kind::Text, b"\x60", b"", Lent::ByByte),
-    (Kind::Text, b"\x7f\x61a\xff", b"a", Lent::Never),
-    (Kind::Unchecked, b"\x60", b"", Lent::ByByte),
-    (Kind::Unchecked, b"\x61\xff", b"\xff", Lent::ByByte),
-    (Kind::Unchecked, b"\x7f\x61\xff\xff", b"\xff", Lent::Never),
-    (Kind::Bytes, b"\x41\x01", b"\x01", Lent::ByByte),
-    (Kind::Bytes, b"\x42\x01\x02", b"\x01\x02", Lent::Whole),
-    (Kind::Bytes, b"\x5f\x41\x01\xff", b"\x01", Lent::Never),
+const READ: &[(Kind, &[u8], &[u8], Lender)] = &[
+    (Kind::Text, b"\x62aa", b"aa", Lender::Whole),
+    (Kind::Text, b"\x60", b"", Lender::ByByte),
+    (Kind::Text, b"\x7f\x61a\xff", b"a", Lender::Never),
+    (Kind::Unchecked, b"\x60", b"", Lender::ByByte),
+    (Kind::Unchecked, b"\x61\xff", b"\xff", Lender::ByByte),
+    (Kind::Unchecked, b"\x7f\x61\xff\xff", b"\xff", Lender::Never),
+    (Kind::Bytes, b"\x41\x01", b"\x01", Lender::ByByte),
+    (Kind::Bytes, b"\x42\x01\x02", b"\x01\x02", Lender::Whole),
+    (Kind::Bytes, b"\x5f\x41\x01\xff", b"\x01", Lender::Never),
 ];
 
 #[test]
 fn borrowed_or_owned(rt: HostRuntime) -> Result<(), Fail> {
     let alloc = rt.alloc();
     for &(kind, bytes, content, lent) in READ {
-        let whole = Ok((content, lent != Lent::Never));
+        let whole = Ok((content, lent != Lender::Never));
         decodes_whole(kind, alloc, bytes, whole, b"")?;
-        let by_byte = Ok((content, lent == Lent::ByByte));
+        let by_byte = Ok((content, lent == Lender::ByByte));
         let mut long = TestReader::long(bytes, 1);
         decodes(kind, alloc, &mut long, bytes, by_byte, b"")?;
         decodes_short(kind, alloc, bytes, Ok((content, false)), b"")?;
@@ -187,7 +188,8 @@ const REFUSED_TEXTS: &[(&[u8], &str, &[u8])] = &[
 #[test]
 fn refused_texts(rt: HostRuntime) -> Result<(), Fail> {
     for &(bytes, refusal, rest) in REFUSED_TEXTS {
-        reads::<CowStr<'static, Global>>(rt.alloc(), bytes, Err(refusal), rest)?;
+        let refused: Want<Lent<CowStr<'static, Global>>> = Err(refusal);
+        reads_alike(rt.alloc(), bytes, &refused, rest)?;
     }
     Ok(())
 }
@@ -230,7 +232,8 @@ fn refused(rt: HostRuntime) -> Result<(), Fail> {
 fn texts_over_each_reader(rt: HostRuntime) -> Result<(), Fail> {
     let alloc = rt.alloc();
     for bytes in [b"\x62aa".as_slice(), b"\x7f\x61a\x61a\xff"] {
-        reads::<CowStr<'static, Global>>(alloc, bytes, Ok(CowStr::Borrowed("aa")), b"")?;
+        let text: Want<Lent<CowStr<'static, Global>>> = Ok(Lent(CowStr::Borrowed("aa")));
+        reads_alike(alloc, bytes, &text, b"")?;
     }
     Ok(())
 }

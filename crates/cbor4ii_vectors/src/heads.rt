@@ -12,8 +12,11 @@ use std::test::Fail;
 #[derive(Clone, Copy, Debug, PartialEq)]
 struct TagNumber(u64);
 
-impl<S: Source> ReadFrom<S> for TagNumber {
-    fn read_from(_alloc: Global, reader: &mut S) -> Result<TagNumber, DecodeError<S::Error>> {
+impl ReadFrom for TagNumber {
+    fn read_from<S: Source>(
+        _alloc: Global,
+        reader: &mut S,
+    ) -> Result<TagNumber, DecodeError<S::Error>> {
         Ok(TagNumber(Tag::tag(reader)?))
     }
 }
@@ -22,8 +25,11 @@ impl<S: Source> ReadFrom<S> for TagNumber {
 #[derive(Clone, Copy, Debug, PartialEq)]
 struct ArrayLength(Option<usize>);
 
-impl<S: Source> ReadFrom<S> for ArrayLength {
-    fn read_from(_alloc: Global, reader: &mut S) -> Result<ArrayLength, DecodeError<S::Error>> {
+impl ReadFrom for ArrayLength {
+    fn read_from<S: Source>(
+        _alloc: Global,
+        reader: &mut S,
+    ) -> Result<ArrayLength, DecodeError<S::Error>> {
         Ok(ArrayLength(Array::len(reader)?))
     }
 }
@@ -32,8 +38,11 @@ impl<S: Source> ReadFrom<S> for ArrayLength {
 #[derive(Clone, Copy, Debug, PartialEq)]
 struct MapLength(Option<usize>);
 
-impl<S: Source> ReadFrom<S> for MapLength {
-    fn read_from(_alloc: Global, reader: &mut S) -> Result<MapLength, DecodeError<S::Error>> {
+impl ReadFrom for MapLength {
+    fn read_from<S: Source>(
+        _alloc: Global,
+        reader: &mut S,
+    ) -> Result<MapLength, DecodeError<S::Error>> {
         Ok(MapLength(Map::len(reader)?))
     }
 }
@@ -42,8 +51,11 @@ impl<S: Source> ReadFrom<S> for MapLength {
 #[derive(Clone, Copy, Debug, PartialEq)]
 struct Break(bool);
 
-impl<S: Source> ReadFrom<S> for Break {
-    fn read_from(_alloc: Global, reader: &mut S) -> Result<Break, DecodeError<S::Error>> {
+impl ReadFrom for Break {
+    fn read_from<S: Source>(
+        _alloc: Global,
+        reader: &mut S,
+    ) -> Result<Break, DecodeError<S::Error>> {
         Ok(Break(is_break(reader)?))
     }
 }
@@ -168,8 +180,11 @@ fn breaks(rt: HostRuntime) -> Result<(), Fail> {
 #[derive(Debug, PartialEq, Drop)]
 struct ArrayOfSix(Option<usize>, [u64; 6]);
 
-impl<S: Source> ReadFrom<S> for ArrayOfSix {
-    fn read_from(alloc: Global, reader: &mut S) -> Result<ArrayOfSix, DecodeError<S::Error>> {
+impl ReadFrom for ArrayOfSix {
+    fn read_from<S: Source>(
+        alloc: Global,
+        reader: &mut S,
+    ) -> Result<ArrayOfSix, DecodeError<S::Error>> {
         let length = Array::len(reader)?;
         Ok(ArrayOfSix(length, six(alloc, reader)?))
     }
@@ -179,8 +194,11 @@ impl<S: Source> ReadFrom<S> for ArrayOfSix {
 #[derive(Debug, PartialEq, Drop)]
 struct OpenMapOfSix(Option<usize>, [u64; 6], bool);
 
-impl<S: Source> ReadFrom<S> for OpenMapOfSix {
-    fn read_from(alloc: Global, reader: &mut S) -> Result<OpenMapOfSix, DecodeError<S::Error>> {
+impl ReadFrom for OpenMapOfSix {
+    fn read_from<S: Source>(
+        alloc: Global,
+        reader: &mut S,
+    ) -> Result<OpenMapOfSix, DecodeError<S::Error>> {
         let length = Map::len(reader)?;
         let numbers = six(alloc, reader)?;
         Ok(OpenMapOfSix(length, numbers, is_break(reader)?))

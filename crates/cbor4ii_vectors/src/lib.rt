@@ -12,8 +12,6 @@ mod canonical;
 #[cfg(test)]
 mod cow;
 #[cfg(test)]
-mod directly;
-#[cfg(test)]
 mod encodings;
 #[cfg(test)]
 mod error_texts;

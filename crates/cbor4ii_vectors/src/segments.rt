@@ -1,6 +1,7 @@
 //! Rows over slices that stand one after another.
 use cbor4ii_items::decode::Decode;
 use cbor4ii_rw::segment_reader::SegmentReader;
+use cbor4ii_trials::items::Lent;
 use cbor4ii_trials::rows::{Want, leaves, reads_over};
 use std::alloc::Global;
 use std::borrow::CowStr;
@@ -43,7 +44,13 @@ fn texts_lent_of_segments(rt: HostRuntime) -> Result<(), Fail> {
     let alloc = rt.alloc();
     for &(segments, bytes, want, rest) in LENT {
         let mut reader = SegmentReader::new(segments);
-        reads_over(alloc, &mut reader, bytes, &want, rest)?;
+        reads_over(
+            alloc,
+            &mut reader,
+            bytes,
+            &want.map(|text| Lent(text)),
+            rest,
+        )?;
     }
     Ok(())
 }

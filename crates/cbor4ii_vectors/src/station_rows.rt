@@ -1,8 +1,33 @@
 //! Rows of the record that is read and written by hand.
 use crate::station::Station;
-use cbor4ii_trials::rows::{goes_both_ways, reads, reads_within};
+use cbor4ii_items::decode::Decode;
+use cbor4ii_rw::error::DecodeError;
+use cbor4ii_rw::read::Source;
+use cbor4ii_trials::rows::{ReadFrom, goes_both_ways, reads, reads_within};
 use std::alloc::{AllocError, Global};
 use std::test::Fail;
+
+impl ReadFrom for Station {
+    fn read_from<S: Source>(
+        alloc: Global,
+        reader: &mut S,
+    ) -> Result<Station, DecodeError<S::Error>> {
+        Station::decode(alloc, reader)
+    }
+}
+
+// An array of stations.
+#[derive(Debug, PartialEq, Drop)]
+struct StationList(Vec<Station>);
+
+impl ReadFrom for StationList {
+    fn read_from<S: Source>(
+        alloc: Global,
+        reader: &mut S,
+    ) -> Result<StationList, DecodeError<S::Error>> {
+        Ok(StationList(Vec::decode(alloc, reader)?))
+    }
+}
 
 fn station(alloc: Global) -> Result<Station, AllocError> {
     Ok(Station {
@@ -29,7 +54,7 @@ fn stations(rt: HostRuntime) -> Result<(), Fail> {
     reads(
         alloc,
         b"\x82\x82\x05\x63abc\x9f\x05\x63abc\xff",
-        Ok(two),
+        Ok(StationList(two)),
         b"",
     )
 }
