@@ -8,6 +8,8 @@
 #[cfg(test)]
 mod borrowed;
 #[cfg(test)]
+mod borrowed_rows;
+#[cfg(test)]
 mod canonical;
 #[cfg(test)]
 mod cow;

@@ -7,9 +7,8 @@ use cbor4ii_rw::error::EncodeError;
 use cbor4ii_rw::io_reader::IoReader;
 use cbor4ii_rw::read::Source;
 use cbor4ii_rw::slice_reader::SliceReader;
-use cbor4ii_trials::items::Lent;
 use cbor4ii_trials::readers::{Failure, TestReader};
-use cbor4ii_trials::rows::{Want, lends, reads, reads_over, reads_within, writes_in};
+use cbor4ii_trials::rows::{Want, reads, reads_over, reads_within, writes_in};
 use cbor4ii_trials::writers::FailingWriter;
 use std::alloc::Global;
 use std::test::Fail;
@@ -68,10 +67,9 @@ fn reads_unchecked(alloc: Global, bytes: &'static [u8], content: &[u8]) -> Resul
     reads(alloc, bytes, want, b"")
 }
 
-// Reads a text that is not tested, owned and borrowed, and writes it.
+// Reads a text that is not tested, and writes it.
 fn goes_unchecked(alloc: Global, bytes: &'static [u8], content: &'static [u8]) -> Result<(), Fail> {
     reads_unchecked(alloc, bytes, content)?;
-    lends(alloc, bytes, Ok(Lent(UncheckedStr(content))), b"")?;
     writes_string(alloc, &UncheckedStr(content), bytes)
 }
 
@@ -96,7 +94,6 @@ fn texts(rt: HostRuntime) -> Result<(), Fail> {
     for &(bytes, value) in TEXTS {
         reads_text(alloc, bytes, Ok(value), b"")?;
         goes_unchecked(alloc, bytes, value.as_bytes())?;
-        lends(alloc, bytes, Ok(Lent(value)), b"")?;
         writes_string(alloc, &value, bytes)?;
         writes_string(alloc, &String::from_str(alloc, value)?, bytes)?;
     }
@@ -114,7 +111,6 @@ fn byte_strings(rt: HostRuntime) -> Result<(), Fail> {
     let alloc = rt.alloc();
     for &(bytes, content) in BYTE_STRINGS {
         reads_bytes(alloc, bytes, Ok(content), b"")?;
-        lends(alloc, bytes, Ok(Lent(Bytes(content))), b"")?;
         writes_string(alloc, &Bytes(content), bytes)?;
     }
     reads_bytes(alloc, b"\x58\x01\x07\x08", Ok(b"\x07"), b"\x08")
