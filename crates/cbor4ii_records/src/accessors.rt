@@ -13,8 +13,11 @@ use std::test::Fail;
 #[derive(Debug, PartialEq, Drop)]
 struct Optional(Option<u8>);
 
-impl<S: Source> Take<S> for Optional {
-    fn take(alloc: Global, de: &mut Deserializer<S>) -> Result<Optional, DecodeError<S::Error>> {
+impl Take for Optional {
+    fn take<S: Source>(
+        alloc: Global,
+        de: &mut Deserializer<S>,
+    ) -> Result<Optional, DecodeError<S::Error>> {
         Ok(Optional(de.deserialize_option()?.value(alloc)?))
     }
 }
@@ -23,8 +26,11 @@ impl<S: Source> Take<S> for Optional {
 #[derive(Debug, PartialEq, Drop)]
 struct Comes(bool);
 
-impl<S: Source> Take<S> for Comes {
-    fn take(alloc: Global, de: &mut Deserializer<S>) -> Result<Comes, DecodeError<S::Error>> {
+impl Take for Comes {
+    fn take<S: Source>(
+        alloc: Global,
+        de: &mut Deserializer<S>,
+    ) -> Result<Comes, DecodeError<S::Error>> {
         Ok(Comes(de.deserialize_option()?.is_some()))
     }
 }
@@ -67,12 +73,18 @@ fn options(rt: HostRuntime) -> Result<(), Fail> {
 struct Variant<C>(C);
 
 /// What a variant holds.
-trait Content<S: Source>: Sized {
-    fn content(alloc: Global, variant: EnumAccessor<'_, S>) -> Result<Self, DecodeError<S::Error>>;
+trait Content: Sized {
+    fn content<S: Source>(
+        alloc: Global,
+        variant: EnumAccessor<'_, S>,
+    ) -> Result<Self, DecodeError<S::Error>>;
 }
 
-impl<S: Source, C: Content<S>> Take<S> for Variant<C> {
-    fn take(alloc: Global, de: &mut Deserializer<S>) -> Result<Variant<C>, DecodeError<S::Error>> {
+impl<C: Content> Take for Variant<C> {
+    fn take<S: Source>(
+        alloc: Global,
+        de: &mut Deserializer<S>,
+    ) -> Result<Variant<C>, DecodeError<S::Error>> {
         let mut variant = de.deserialize_enum("Enum", &["A"])?;
         let name: String = variant.variant(alloc)?;
         if name.as_str() != "A" {
@@ -86,8 +98,11 @@ impl<S: Source, C: Content<S>> Take<S> for Variant<C> {
 #[derive(Debug, PartialEq, Drop)]
 struct Unit;
 
-impl<S: Source> Content<S> for Unit {
-    fn content(alloc: Global, variant: EnumAccessor<'_, S>) -> Result<Unit, DecodeError<S::Error>> {
+impl Content for Unit {
+    fn content<S: Source>(
+        alloc: Global,
+        variant: EnumAccessor<'_, S>,
+    ) -> Result<Unit, DecodeError<S::Error>> {
         variant.unit_variant()?;
         Ok(Unit)
     }
@@ -97,8 +112,8 @@ impl<S: Source> Content<S> for Unit {
 #[derive(Debug, PartialEq, Drop)]
 struct Newtype(u8);
 
-impl<S: Source> Content<S> for Newtype {
-    fn content(
+impl Content for Newtype {
+    fn content<S: Source>(
         alloc: Global,
         variant: EnumAccessor<'_, S>,
     ) -> Result<Newtype, DecodeError<S::Error>> {
@@ -110,8 +125,8 @@ impl<S: Source> Content<S> for Newtype {
 #[derive(Debug, PartialEq, Drop)]
 struct Tuple(Option<u8>, Option<u8>);
 
-impl<S: Source> Content<S> for Tuple {
-    fn content(
+impl Content for Tuple {
+    fn content<S: Source>(
         alloc: Global,
         variant: EnumAccessor<'_, S>,
     ) -> Result<Tuple, DecodeError<S::Error>> {
@@ -125,8 +140,8 @@ impl<S: Source> Content<S> for Tuple {
 #[derive(Debug, PartialEq, Drop)]
 struct Struct(Option<(u8, u8)>);
 
-impl<S: Source> Content<S> for Struct {
-    fn content(
+impl Content for Struct {
+    fn content<S: Source>(
         alloc: Global,
         variant: EnumAccessor<'_, S>,
     ) -> Result<Struct, DecodeError<S::Error>> {
@@ -256,8 +271,8 @@ fn variants(rt: HostRuntime) -> Result<(), Fail> {
 #[derive(Debug, PartialEq, Drop)]
 struct Opened;
 
-impl<S: Source> Content<S> for Opened {
-    fn content(
+impl Content for Opened {
+    fn content<S: Source>(
         alloc: Global,
         variant: EnumAccessor<'_, S>,
     ) -> Result<Opened, DecodeError<S::Error>> {
@@ -270,8 +285,11 @@ impl<S: Source> Content<S> for Opened {
 #[derive(Debug, PartialEq, Drop)]
 struct Unread;
 
-impl<S: Source> Take<S> for Unread {
-    fn take(alloc: Global, de: &mut Deserializer<S>) -> Result<Unread, DecodeError<S::Error>> {
+impl Take for Unread {
+    fn take<S: Source>(
+        alloc: Global,
+        de: &mut Deserializer<S>,
+    ) -> Result<Unread, DecodeError<S::Error>> {
         de.deserialize_enum("Enum", &["A"])?;
         Ok(Unread)
     }
@@ -296,8 +314,11 @@ fn a_dropped_variant_leaves_what_was_not_read(rt: HostRuntime) -> Result<(), Fai
 #[derive(Debug, PartialEq, Drop)]
 struct First(Option<usize>, Option<u8>, Option<usize>);
 
-impl<S: Source> Take<S> for First {
-    fn take(alloc: Global, de: &mut Deserializer<S>) -> Result<First, DecodeError<S::Error>> {
+impl Take for First {
+    fn take<S: Source>(
+        alloc: Global,
+        de: &mut Deserializer<S>,
+    ) -> Result<First, DecodeError<S::Error>> {
         let mut items = de.deserialize_seq()?;
         let before = items.size_hint();
         let first = items.next_element(alloc)?;
@@ -309,8 +330,11 @@ impl<S: Source> Take<S> for First {
 #[derive(Debug, PartialEq, Drop)]
 struct Dropped;
 
-impl<S: Source> Take<S> for Dropped {
-    fn take(alloc: Global, de: &mut Deserializer<S>) -> Result<Dropped, DecodeError<S::Error>> {
+impl Take for Dropped {
+    fn take<S: Source>(
+        alloc: Global,
+        de: &mut Deserializer<S>,
+    ) -> Result<Dropped, DecodeError<S::Error>> {
         de.deserialize_seq()?;
         Ok(Dropped)
     }
@@ -343,8 +367,11 @@ fn a_dropped_accessor_moves_no_byte(rt: HostRuntime) -> Result<(), Fail> {
 #[derive(Debug, PartialEq, Drop)]
 struct Ended(Option<u8>, Option<u8>, Option<u8>);
 
-impl<S: Source> Take<S> for Ended {
-    fn take(alloc: Global, de: &mut Deserializer<S>) -> Result<Ended, DecodeError<S::Error>> {
+impl Take for Ended {
+    fn take<S: Source>(
+        alloc: Global,
+        de: &mut Deserializer<S>,
+    ) -> Result<Ended, DecodeError<S::Error>> {
         let mut items = de.deserialize_seq()?;
         let first = items.next_element(alloc)?;
         let second = items.next_element(alloc)?;
@@ -365,8 +392,11 @@ const ENDED: &[Row<Answer<Ended>>] = &[
 #[derive(Debug, PartialEq, Drop)]
 struct GoesOn(Option<u8>, bool, Option<u8>, Option<u8>);
 
-impl<S: Source> Take<S> for GoesOn {
-    fn take(alloc: Global, de: &mut Deserializer<S>) -> Result<GoesOn, DecodeError<S::Error>> {
+impl Take for GoesOn {
+    fn take<S: Source>(
+        alloc: Global,
+        de: &mut Deserializer<S>,
+    ) -> Result<GoesOn, DecodeError<S::Error>> {
         let mut items = de.deserialize_tuple(3)?;
         let first = items.next_element(alloc)?;
         let is_refused = match items.next_element::<u8>(alloc) {
@@ -389,8 +419,11 @@ const GOES_ON: &[Row<Answer<GoesOn>>] = &[(
 #[derive(Debug, PartialEq, Drop)]
 struct TupleStruct;
 
-impl<S: Source> Take<S> for TupleStruct {
-    fn take(alloc: Global, de: &mut Deserializer<S>) -> Result<TupleStruct, DecodeError<S::Error>> {
+impl Take for TupleStruct {
+    fn take<S: Source>(
+        alloc: Global,
+        de: &mut Deserializer<S>,
+    ) -> Result<TupleStruct, DecodeError<S::Error>> {
         de.deserialize_tuple_struct("Pair", 2)?;
         Ok(TupleStruct)
     }
@@ -420,8 +453,11 @@ struct Entries(
     Option<usize>,
 );
 
-impl<S: Source> Take<S> for Entries {
-    fn take(alloc: Global, de: &mut Deserializer<S>) -> Result<Entries, DecodeError<S::Error>> {
+impl Take for Entries {
+    fn take<S: Source>(
+        alloc: Global,
+        de: &mut Deserializer<S>,
+    ) -> Result<Entries, DecodeError<S::Error>> {
         let mut entries = de.deserialize_map()?;
         let first = entries.next_entry(alloc)?;
         let key = entries.next_key(alloc)?;
@@ -449,8 +485,11 @@ const ENTRIES: &[Row<Answer<Entries>>] = &[
 #[derive(Debug, PartialEq, Drop)]
 struct Y(Option<u8>);
 
-impl<S: Source> Take<S> for Y {
-    fn take(alloc: Global, de: &mut Deserializer<S>) -> Result<Y, DecodeError<S::Error>> {
+impl Take for Y {
+    fn take<S: Source>(
+        alloc: Global,
+        de: &mut Deserializer<S>,
+    ) -> Result<Y, DecodeError<S::Error>> {
         let mut y = None;
         let mut fields = de.deserialize_struct("Struct", &["y"])?;
         for _ in 0..3 {
@@ -493,8 +532,11 @@ const YS: &[Row<Answer<Y>>] = &[
 #[derive(Debug, PartialEq, Drop)]
 struct Both(u8, i16);
 
-impl<S: Source> Take<S> for Both {
-    fn take(alloc: Global, de: &mut Deserializer<S>) -> Result<Both, DecodeError<S::Error>> {
+impl Take for Both {
+    fn take<S: Source>(
+        alloc: Global,
+        de: &mut Deserializer<S>,
+    ) -> Result<Both, DecodeError<S::Error>> {
         let mut x = None;
         let mut y = None;
         let mut fields = de.deserialize_struct("Struct", &["x", "y"])?;

@@ -53,8 +53,11 @@ fn floats_and_units(rt: HostRuntime) -> Result<(), Fail> {
 #[derive(Debug, PartialEq, Drop)]
 struct Newtype(u8);
 
-impl<S: Source> Take<S> for Newtype {
-    fn take(alloc: Global, de: &mut Deserializer<S>) -> Result<Newtype, DecodeError<S::Error>> {
+impl Take for Newtype {
+    fn take<S: Source>(
+        alloc: Global,
+        de: &mut Deserializer<S>,
+    ) -> Result<Newtype, DecodeError<S::Error>> {
         Ok(Newtype(de.deserialize_newtype_struct(alloc, "Newtype")?))
     }
 }
@@ -68,8 +71,11 @@ const NEWTYPES: &[Row<Answer<Newtype>>] = &[
 #[derive(Debug, PartialEq, Drop)]
 struct Character(char);
 
-impl<S: Source> Take<S> for Character {
-    fn take(alloc: Global, de: &mut Deserializer<S>) -> Result<Character, DecodeError<S::Error>> {
+impl Take for Character {
+    fn take<S: Source>(
+        alloc: Global,
+        de: &mut Deserializer<S>,
+    ) -> Result<Character, DecodeError<S::Error>> {
         Ok(Character(de.deserialize_char(alloc)?))
     }
 }
@@ -80,8 +86,11 @@ const CHARACTERS: &[Row<Answer<Character>>] = &[(b"\x61a", Ok(Is(Character('a'))
 #[derive(Debug, PartialEq, Drop)]
 struct Owned(String, Vec<u8>);
 
-impl<S: Source> Take<S> for Owned {
-    fn take(alloc: Global, de: &mut Deserializer<S>) -> Result<Owned, DecodeError<S::Error>> {
+impl Take for Owned {
+    fn take<S: Source>(
+        alloc: Global,
+        de: &mut Deserializer<S>,
+    ) -> Result<Owned, DecodeError<S::Error>> {
         let text = de.deserialize_string(alloc)?;
         Ok(Owned(text, de.deserialize_byte_buf(alloc)?))
     }

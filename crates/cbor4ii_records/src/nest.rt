@@ -36,8 +36,11 @@ fn read_nest<S: Source>(
     Ok(Nest { inner })
 }
 
-impl<S: Source> Take<S> for Nest {
-    fn take(alloc: Global, de: &mut Deserializer<S>) -> Result<Nest, DecodeError<S::Error>> {
+impl Take for Nest {
+    fn take<S: Source>(
+        alloc: Global,
+        de: &mut Deserializer<S>,
+    ) -> Result<Nest, DecodeError<S::Error>> {
         read_nest(alloc, de)
     }
 }

@@ -120,8 +120,11 @@ fn structs(rt: HostRuntime) -> Result<(), Fail> {
     Ok(())
 }
 
-impl<S: Source> Take<S> for Enum {
-    fn take(alloc: Global, de: &mut Deserializer<S>) -> Result<Enum, DecodeError<S::Error>> {
+impl Take for Enum {
+    fn take<S: Source>(
+        alloc: Global,
+        de: &mut Deserializer<S>,
+    ) -> Result<Enum, DecodeError<S::Error>> {
         read_enum(alloc, de)
     }
 }
@@ -189,8 +192,11 @@ impl Serialize for Letters {
     }
 }
 
-impl<S: Source> Take<S> for Letters {
-    fn take(alloc: Global, de: &mut Deserializer<S>) -> Result<Letters, DecodeError<S::Error>> {
+impl Take for Letters {
+    fn take<S: Source>(
+        alloc: Global,
+        de: &mut Deserializer<S>,
+    ) -> Result<Letters, DecodeError<S::Error>> {
         let mut variant = de.deserialize_enum("Letters", &["A"])?;
         let name: String = variant.variant(alloc)?;
         match name.as_str() {
@@ -238,8 +244,11 @@ impl Serialize for Whole {
 
 const MISSING: &str = "a field is missing";
 
-impl<S: Source> Take<S> for Whole {
-    fn take(alloc: Global, de: &mut Deserializer<S>) -> Result<Whole, DecodeError<S::Error>> {
+impl Take for Whole {
+    fn take<S: Source>(
+        alloc: Global,
+        de: &mut Deserializer<S>,
+    ) -> Result<Whole, DecodeError<S::Error>> {
         let (a, b, c, d) = de.deserialize_4_fields(alloc, "Whole", "a", "b", "c", "d")?;
         match (a, b, c, d) {
             (Some(a), Some(b), Some(c), Some(d)) => Ok(Whole { a, b, c, d }),
@@ -252,8 +261,11 @@ impl<S: Source> Take<S> for Whole {
 #[derive(Debug, PartialEq, Drop)]
 struct WithoutC(u8, Option<u8>, Point);
 
-impl<S: Source> Take<S> for WithoutC {
-    fn take(alloc: Global, de: &mut Deserializer<S>) -> Result<WithoutC, DecodeError<S::Error>> {
+impl Take for WithoutC {
+    fn take<S: Source>(
+        alloc: Global,
+        de: &mut Deserializer<S>,
+    ) -> Result<WithoutC, DecodeError<S::Error>> {
         match de.deserialize_3_fields(alloc, "Whole", "a", "b", "d")? {
             (Some(a), Some(b), Some(d)) => Ok(WithoutC(a, b, d)),
             _ => Err(DecodeError::Custom(MISSING)),
@@ -265,8 +277,11 @@ impl<S: Source> Take<S> for WithoutC {
 #[derive(Debug, PartialEq, Drop)]
 struct WithoutD(u8, Vec<u8>, Option<u8>);
 
-impl<S: Source> Take<S> for WithoutD {
-    fn take(alloc: Global, de: &mut Deserializer<S>) -> Result<WithoutD, DecodeError<S::Error>> {
+impl Take for WithoutD {
+    fn take<S: Source>(
+        alloc: Global,
+        de: &mut Deserializer<S>,
+    ) -> Result<WithoutD, DecodeError<S::Error>> {
         let (a, c, e) = de.deserialize_3_fields(alloc, "Whole", "a", "c", "e")?;
         match (a, c) {
             (Some(a), Some(c)) => Ok(WithoutD(a, c, e)),
@@ -303,8 +318,11 @@ fn fields_that_a_type_does_not_know(rt: HostRuntime) -> Result<(), Fail> {
 #[derive(Debug, PartialEq, Drop)]
 struct Measured(F64, bool);
 
-impl<S: Source> Take<S> for Measured {
-    fn take(alloc: Global, de: &mut Deserializer<S>) -> Result<Measured, DecodeError<S::Error>> {
+impl Take for Measured {
+    fn take<S: Source>(
+        alloc: Global,
+        de: &mut Deserializer<S>,
+    ) -> Result<Measured, DecodeError<S::Error>> {
         match de.deserialize_2_fields(alloc, "Measured", "b", "c")? {
             (Some(b), Some(c)) => Ok(Measured(b, c)),
             _ => Err(DecodeError::Custom(MISSING)),
@@ -327,8 +345,11 @@ fn the_first_field_is_not_known(rt: HostRuntime) -> Result<(), Fail> {
 #[derive(Debug, PartialEq, Drop)]
 struct One(Option<u8>);
 
-impl<S: Source> Take<S> for One {
-    fn take(alloc: Global, de: &mut Deserializer<S>) -> Result<One, DecodeError<S::Error>> {
+impl Take for One {
+    fn take<S: Source>(
+        alloc: Global,
+        de: &mut Deserializer<S>,
+    ) -> Result<One, DecodeError<S::Error>> {
         Ok(One(de.deserialize_1_field(alloc, "One", "y")?))
     }
 }
@@ -346,8 +367,11 @@ const ONES: &[Row<Answer<One>>] = &[
 #[derive(Debug, PartialEq, Drop)]
 struct Two(Option<u8>, Option<u8>);
 
-impl<S: Source> Take<S> for Two {
-    fn take(alloc: Global, de: &mut Deserializer<S>) -> Result<Two, DecodeError<S::Error>> {
+impl Take for Two {
+    fn take<S: Source>(
+        alloc: Global,
+        de: &mut Deserializer<S>,
+    ) -> Result<Two, DecodeError<S::Error>> {
         let (b, f) = de.deserialize_2_fields(alloc, "Two", "b", "f")?;
         Ok(Two(b, f))
     }
@@ -357,8 +381,11 @@ impl<S: Source> Take<S> for Two {
 #[derive(Debug, PartialEq, Drop)]
 struct Four(Option<u8>, Option<u8>, Option<u8>, Option<u8>);
 
-impl<S: Source> Take<S> for Four {
-    fn take(alloc: Global, de: &mut Deserializer<S>) -> Result<Four, DecodeError<S::Error>> {
+impl Take for Four {
+    fn take<S: Source>(
+        alloc: Global,
+        de: &mut Deserializer<S>,
+    ) -> Result<Four, DecodeError<S::Error>> {
         let (d, a, c, g) = de.deserialize_4_fields(alloc, "Four", "d", "a", "c", "g")?;
         Ok(Four(d, a, c, g))
     }
@@ -368,8 +395,11 @@ impl<S: Source> Take<S> for Four {
 #[derive(Debug, PartialEq, Drop)]
 struct Five(Option<u8>, Option<u8>, Option<u8>, Option<u8>, Option<u8>);
 
-impl<S: Source> Take<S> for Five {
-    fn take(alloc: Global, de: &mut Deserializer<S>) -> Result<Five, DecodeError<S::Error>> {
+impl Take for Five {
+    fn take<S: Source>(
+        alloc: Global,
+        de: &mut Deserializer<S>,
+    ) -> Result<Five, DecodeError<S::Error>> {
         let (e, d, c, b, a) = de.deserialize_5_fields(alloc, "Five", "e", "d", "c", "b", "a")?;
         Ok(Five(e, d, c, b, a))
     }
@@ -386,8 +416,11 @@ struct Six(
     Option<u8>,
 );
 
-impl<S: Source> Take<S> for Six {
-    fn take(alloc: Global, de: &mut Deserializer<S>) -> Result<Six, DecodeError<S::Error>> {
+impl Take for Six {
+    fn take<S: Source>(
+        alloc: Global,
+        de: &mut Deserializer<S>,
+    ) -> Result<Six, DecodeError<S::Error>> {
         let (a, b, c, d, e, f) = de.deserialize_6_fields(
             alloc, "Six", "a", "b", "c", "d", "e", "f",
         )?;

@@ -53,8 +53,11 @@ const SKIPPED_WITHIN: &[RowWithin<Answer<IgnoredAny>>] = &[
 #[derive(Debug, PartialEq, Drop)]
 struct Two;
 
-impl<S: Source> Take<S> for Two {
-    fn take(alloc: Global, de: &mut Deserializer<S>) -> Result<Two, DecodeError<S::Error>> {
+impl Take for Two {
+    fn take<S: Source>(
+        alloc: Global,
+        de: &mut Deserializer<S>,
+    ) -> Result<Two, DecodeError<S::Error>> {
         de.deserialize_ignored_any(alloc)?;
         de.deserialize_ignored_any(alloc)?;
         Ok(Two)

@@ -1,20 +1,21 @@
 //! Typed values as rows: read over each reader for tests, and written into each writer for tests.
-use cbor4ii::serde::{
-    DecodeError, Deserialize, Deserializer, EncodeError, Serialize, Serializer, Typed,
-};
+use crate::events::{Event, Sample};
+use crate::records::Point;
+use cbor4ii::Value;
+use cbor4ii::dec::IgnoredAny;
+use cbor4ii::serde::{DecodeError, Deserialize, Deserializer, EncodeError, Serialize, Serializer};
+use cbor4ii::types::{Bytes, F16, F32, F64};
 use cbor4ii_rw::error as core_error;
 use cbor4ii_rw::error::StaticStr;
 use cbor4ii_rw::read::Source;
-use cbor4ii_rw::slice_reader::SliceReader;
 use cbor4ii_rw::write::Write;
-use cbor4ii_trials::any_reader::{AnyReader, Fault, RowReader};
 use cbor4ii_trials::rows::{
     ReadFrom, Row, RowWithin, Want, WriteTo, ends_at_each_front, reads_rows, reads_rows_within,
     reads_within, writes,
 };
 use std::alloc::Global;
+use std::collections::BTreeMap;
 use std::fmt::Debug;
-use std::mem;
 use std::test::Fail;
 
 // The steps of a reader that is given no other limit.
@@ -30,28 +31,47 @@ pub enum Answer<T> {
 }
 
 /// What calls of a deserializer read: a typed value, or what a row says by itself.
-pub trait Take<S: Source>: Sized {
+///
+/// That it is read is proved once, over any reader, and a test of its rows asks no more of it.
+pub trait Take: Sized {
     /// Reads it off the front of what `de` has left.
-    fn take(alloc: Global, de: &mut Deserializer<S>) -> Result<Self, DecodeError<S::Error>>;
-}
-
-impl<S: Source, T: Typed + Deserialize<S>> Take<S> for T {
-    fn take(alloc: Global, de: &mut Deserializer<S>) -> Result<T, DecodeError<S::Error>> {
-        T::deserialize(alloc, de)
-    }
-}
-
-impl<T: Take<RowReader>> ReadFrom<RowReader> for Answer<T> {
-    fn read_from(
+    fn take<S: Source>(
         alloc: Global,
-        reader: &mut RowReader,
-    ) -> Result<Answer<T>, core_error::DecodeError<Fault>> {
-        // Another reader stands in its place meanwhile.
-        let spare = AnyReader::Slice(SliceReader::new(b""));
-        let mut de = Deserializer::new(mem::replace(reader, spare));
-        let got = T::take(alloc, &mut de);
-        *reader = de.into_inner();
-        match got {
+        de: &mut Deserializer<S>,
+    ) -> Result<Self, DecodeError<S::Error>>;
+}
+
+macro_rules! typed {
+    ($($value:ty),* $(,)?) => { $(
+        impl Take for $value {
+            fn take<S: Source>(
+                alloc: Global,
+                de: &mut Deserializer<S>,
+            ) -> Result<$value, DecodeError<S::Error>> {
+                <$value>::deserialize(alloc, de)
+            }
+        }
+    )* };
+}
+
+typed! { bool, (), u8, u16, u32, u64, u128, i8, i16, i32, i64, i128, F16, F32, F64, char }
+
+typed! { String, Bytes<Vec<u8>>, Value, IgnoredAny }
+
+typed! { Option<u8>, Option<()>, Box<u32>, (u8, u8), (u8, bool, i8) }
+
+typed! { Vec<u8>, Vec<Option<u32>>, Option<Vec<(u128, i128)>> }
+
+typed! { BTreeMap<u8, u8>, BTreeMap<String, Vec<String>>, BTreeMap<u8, Event> }
+
+typed! { Point, Sample, Event }
+
+impl<T: Take> ReadFrom for Answer<T> {
+    fn read_from<S: Source>(
+        alloc: Global,
+        reader: &mut S,
+    ) -> Result<Answer<T>, core_error::DecodeError<S::Error>> {
+        match T::take(alloc, &mut Deserializer::new(reader)) {
             Ok(value) => Ok(Answer::Is(value)),
             Err(DecodeError::Custom(text)) => Ok(Answer::Custom(text)),
             Err(DecodeError::Core(error)) => Err(error),
@@ -79,7 +99,7 @@ pub type Both<T> = (&'static [u8], Want<Answer<T>>);
 /// of them is the end of the input.
 pub fn go_both_ways<A>(alloc: Global, rows: &[(&'static [u8], Want<A>)]) -> Result<(), Fail>
 where
-    A: WriteTo + ReadFrom<RowReader> + PartialEq + Debug + Drop,
+    A: WriteTo + ReadFrom + PartialEq + Debug + Drop,
 {
     for (bytes, want) in rows {
         if let Ok(answer) = want {
@@ -94,7 +114,7 @@ where
 /// Reads the rows, those without a limit and those within one.
 pub fn reads_all<A>(alloc: Global, rows: &[Row<A>], within: &[RowWithin<A>]) -> Result<(), Fail>
 where
-    A: ReadFrom<RowReader> + PartialEq + Debug + Drop,
+    A: ReadFrom + PartialEq + Debug + Drop,
 {
     reads_rows(alloc, rows)?;
     reads_rows_within(alloc, within)
@@ -109,7 +129,7 @@ pub fn tries<A>(
     within: &[RowWithin<A>],
 ) -> Result<(), Fail>
 where
-    A: WriteTo + ReadFrom<RowReader> + PartialEq + Debug + Drop,
+    A: WriteTo + ReadFrom + PartialEq + Debug + Drop,
 {
     go_both_ways(alloc, both)?;
     reads_all(alloc, rows, within)
