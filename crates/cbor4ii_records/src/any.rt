@@ -1,9 +1,9 @@
 //! Items that are read as values, whatever they are, and values that are written.
 use crate::typed::Answer::{self, Custom, Is};
-use crate::typed::{go_both_ways, reads_all};
+use crate::typed::{Refused, go_both_ways, reads_all, refuses};
 use cbor4ii::serde::{EncodeError, to_vec};
 use cbor4ii::{FloatBits, Value};
-use cbor4ii_trials::rows::{Want, reads, reads_by_each, reads_within};
+use cbor4ii_trials::rows::{Want, reads_by_each, reads_within};
 use std::alloc::{AllocError, Global};
 use std::test::Fail;
 
@@ -63,7 +63,7 @@ fn integers(rt: HostRuntime) -> Result<(), Fail> {
     )
 }
 
-const REFUSED: &[(&[u8], &str, &[u8])] = &[
+const REFUSED: &[Refused] = &[
     (
         b"\xc3\x50\x80\x00\x00\x00\x00\x00\x00\x00\x00\x00\x00\x00\x00\x00\x00\x00\x05",
         "CastOverflow { name: \"i128\" }",
@@ -161,9 +161,7 @@ const REFUSED_WITHIN: &[(&[u8], usize, &str, &[u8])] = &[
 #[test]
 fn what_is_refused(rt: HostRuntime) -> Result<(), Fail> {
     let alloc = rt.alloc();
-    for &(bytes, refusal, rest) in REFUSED {
-        reads::<Answer<Value>>(alloc, bytes, Err(refusal), rest)?;
-    }
+    refuses::<Answer<Value>>(alloc, REFUSED)?;
     for &(bytes, limit, refusal, rest) in REFUSED_WITHIN {
         reads_within::<Answer<Value>>(alloc, bytes, limit, &Err(refusal), rest)?;
     }

@@ -1,9 +1,8 @@
 //! Rows of the records that are written and read as typed values.
 use crate::events::{Event, Sample};
 use crate::typed::Answer::{self, Custom, Is};
-use crate::typed::{reads_all, tries};
+use crate::typed::{Refused, reads_all, refuses, tries};
 use cbor4ii::serde::{from_reader, from_slice, to_vec};
-use cbor4ii_trials::rows::reads;
 use std::alloc::{AllocError, Global};
 use std::collections::BTreeMap;
 use std::test::Fail;
@@ -77,7 +76,7 @@ fn samples(rt: HostRuntime) -> Result<(), Fail> {
     )
 }
 
-const EVENTS_REFUSED: &[(&[u8], &str, &[u8])] = &[
+const EVENTS_REFUSED: &[Refused] = &[
     (b"", "Eof { name: \"enum\", expect: Small(1) }", b""),
     (b"\x05", "Mismatch { name: \"enum\", found: 5 }", b"\x05"),
     (
@@ -158,10 +157,7 @@ fn events(rt: HostRuntime) -> Result<(), Fail> {
             ),
         ],
     )?;
-    for &(bytes, refusal, rest) in EVENTS_REFUSED {
-        reads::<Answer<Event>>(alloc, bytes, Err(refusal), rest)?;
-    }
-    Ok(())
+    refuses::<Answer<Event>>(alloc, EVENTS_REFUSED)
 }
 
 const EVENTS: &[u8] = b"\xa4\x01\x67Started\x02\

@@ -5,7 +5,7 @@ ghost use Rattle.cbor4ii_records.specs.declared.record_rows.Letters.TheVariants.
 
 use crate::records::{Enum, Point, read_enum};
 use crate::typed::Answer::{self, Custom, Is};
-use crate::typed::{Take, reads_all, tries};
+use crate::typed::{Refused, Take, reads_all, refuses, tries};
 use cbor4ii::serde::{
     DecodeError, Deserializer, EncodeError, Serialize, Serializer, from_reader, from_slice, to_vec,
     to_writer,
@@ -13,7 +13,7 @@ use cbor4ii::serde::{
 use cbor4ii::types::F64;
 use cbor4ii_rw::read::Source;
 use cbor4ii_rw::write::Write;
-use cbor4ii_trials::rows::{Row, reads};
+use cbor4ii_trials::rows::Row;
 use std::alloc::{AllocError, Global};
 use std::test::Fail;
 
@@ -39,7 +39,7 @@ fn a_struct_is_written_and_read_back(rt: HostRuntime) -> Result<(), Fail> {
     Ok(())
 }
 
-const POINTS_REFUSED: &[(&[u8], &str, &[u8])] = &[
+const POINTS_REFUSED: &[Refused] = &[
     (
         b"\xa1\x61x\x20\x01",
         "Mismatch { name: \"u32\", found: 32 }",
@@ -114,10 +114,7 @@ fn structs(rt: HostRuntime) -> Result<(), Fail> {
             ),
         ],
     )?;
-    for &(bytes, refusal, rest) in POINTS_REFUSED {
-        reads::<Answer<Point>>(alloc, bytes, Err(refusal), rest)?;
-    }
-    Ok(())
+    refuses::<Answer<Point>>(alloc, POINTS_REFUSED)
 }
 
 impl Take for Enum {

@@ -1,6 +1,6 @@
 //! Rows of texts and byte strings that are owned.
 use crate::typed::Answer::{self, Is};
-use crate::typed::{go_both_ways, reads_all};
+use crate::typed::{Refused, go_both_ways, reads_all, refuses};
 use cbor4ii::types::Bytes;
 use cbor4ii_trials::rows::{Want, reads, reads_within, writes};
 use std::test::Fail;
@@ -21,7 +21,7 @@ const TEXTS_READ: &[(&[u8], &str, &[u8])] = &[
     (b"\x7f\xff\x01", "", b"\x01"),
 ];
 
-const TEXTS_REFUSED: &[(&[u8], &str, &[u8])] = &[
+const TEXTS_REFUSED: &[Refused] = &[
     (b"\x00", "Mismatch { name: \"str\", found: 0 }", b""),
     (
         b"\x41\x41",
@@ -66,9 +66,7 @@ fn owned_texts(rt: HostRuntime) -> Result<(), Fail> {
             rest,
         )?;
     }
-    for &(bytes, refusal, rest) in TEXTS_REFUSED {
-        reads::<Answer<String>>(alloc, bytes, Err(refusal), rest)?;
-    }
+    refuses::<Answer<String>>(alloc, TEXTS_REFUSED)?;
     let no_step: Want<Answer<String>> = Err("DepthOverflow { name: \"str\" }");
     reads_within(alloc, b"\x7f\x61a\xff", 0, &no_step, b"\x61a\xff")
 }

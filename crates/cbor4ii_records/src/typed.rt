@@ -10,8 +10,8 @@ use cbor4ii_rw::error::StaticStr;
 use cbor4ii_rw::read::Source;
 use cbor4ii_rw::write::Write;
 use cbor4ii_trials::rows::{
-    ReadFrom, Row, RowWithin, Want, WriteTo, ends_at_each_front, reads_rows, reads_rows_within,
-    reads_within, writes,
+    ReadFrom, Row, RowWithin, Want, WriteTo, ends_at_each_front, reads, reads_rows,
+    reads_rows_within, reads_within, writes,
 };
 use std::alloc::Global;
 use std::collections::BTreeMap;
@@ -118,6 +118,20 @@ where
 {
     reads_rows(alloc, rows)?;
     reads_rows_within(alloc, within)
+}
+
+/// Bytes, the text of their refusal, and what is left of them.
+pub type Refused = (&'static [u8], &'static str, &'static [u8]);
+
+/// Reads the rows of bytes that are refused.
+pub fn refuses<A>(alloc: Global, rows: &[Refused]) -> Result<(), Fail>
+where
+    A: ReadFrom + PartialEq + Debug + Drop,
+{
+    for &(bytes, refusal, rest) in rows {
+        reads::<A>(alloc, bytes, Err(refusal), rest)?;
+    }
+    Ok(())
 }
 
 /// All rows of one type: those that go both ways, those that are read, and those that are read
