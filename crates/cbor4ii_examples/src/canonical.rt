@@ -1,5 +1,6 @@
 //! Rows of values that are read from their canonical spelling alone: what is refused. What is read
 //! stands among the rows of values.
+use crate::item::Item;
 use crate::refusal_texts::{eof, mismatch, no_step, require_utf8, unsupported};
 use crate::table::table;
 use cbor4ii_rw::slice_reader::SliceReader;
@@ -53,7 +54,7 @@ const REFUSED: &[(&[u8], &str, &[u8])] = table! {
 fn other_spellings_are_refused(rt: HostRuntime) -> Result<(), Fail> {
     let alloc = rt.alloc();
     for (bytes, refusal, rest) in REFUSED {
-        reads::<Canonical>(alloc, bytes, Err(refusal), rest)?;
+        reads::<Item<Canonical>>(alloc, bytes, Err(refusal), rest)?;
     }
     Ok(())
 }
@@ -74,11 +75,11 @@ fn below_255_tags(alloc: Global, item: &[u8]) -> Result<Vec<u8>, Fail> {
 fn at_the_last_step(rt: HostRuntime) -> Result<(), Fail> {
     let alloc = rt.alloc();
     let string = below_255_tags(alloc, b"\x5f\x40\xff")?;
-    let other: Want<Canonical> = Err(OTHER);
+    let other: Want<Item<Canonical>> = Err(OTHER);
     let mut reader = SliceReader::new(&string);
     reads_over(alloc, &mut reader, &string, &other, b"\x40\xff")?;
     let array = below_255_tags(alloc, b"\x9f\xff")?;
-    let no_step: Want<Canonical> = Err(no_step!("array"));
+    let no_step: Want<Item<Canonical>> = Err(no_step!("array"));
     let mut reader = SliceReader::new(&array);
     reads_over(alloc, &mut reader, &array, &no_step, b"\x9f\xff")
 }

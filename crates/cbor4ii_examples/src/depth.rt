@@ -1,9 +1,11 @@
 //! Rows of items that are nested deep: each level takes steps of the reader, and has to give them
 //! back.
+use crate::item::Item;
 use crate::refusal_texts::no_step;
 use crate::table::table;
 use cbor4ii_rw::slice_reader::SliceReader;
 use cbor4ii_tree::{IgnoredAny, RawValue, Value};
+use cbor4ii_trials::items::Lent;
 use cbor4ii_trials::readers::TestReader;
 use cbor4ii_trials::rows::{Pair, Want, reads_by_each, reads_over};
 use std::alloc::{AllocError, Global};
@@ -51,7 +53,7 @@ fn tags(alloc: Global, count: usize) -> Result<Value, AllocError> {
 }
 
 fn reads(alloc: Global, bytes: &'static [u8], want: Want<Value>, rest: &[u8]) -> Result<(), Fail> {
-    reads_by_each(alloc, bytes, 256, &want, rest)
+    reads_by_each(alloc, bytes, 256, &want.map(|value| Item(value)), rest)
 }
 
 fn skips(
@@ -60,7 +62,7 @@ fn skips(
     want: Want<IgnoredAny>,
     rest: &[u8],
 ) -> Result<(), Fail> {
-    reads_by_each(alloc, bytes, 256, &want, rest)
+    reads_by_each(alloc, bytes, 256, &want.map(|any| Item(any)), rest)
 }
 
 #[test]
@@ -80,7 +82,7 @@ fn refused(rt: HostRuntime) -> Result<(), Fail> {
                     .ok_or("no rest")?;
                 skips(alloc, bytes, Err(NO_STEP), rest)?;
                 let mut slice = SliceReader::new(bytes);
-                let want: Want<RawValue> = Err(NO_STEP);
+                let want: Want<Lent<RawValue>> = Err(NO_STEP);
                 reads_over(alloc, &mut slice, bytes, &want, bytes)?;
             }
         }
@@ -103,7 +105,8 @@ fn all_steps_taken(rt: HostRuntime) -> Result<(), Fail> {
 fn greatest_limit_and_none(rt: HostRuntime) -> Result<(), Fail> {
     let alloc = rt.alloc();
     let bytes = nested(alloc, 0x81, 1000, b"\x80\x00\xf6")?;
-    let want = Ok(Pair(arrays(alloc, 1000)?, Pair(Value::Integer(0), Value::Null)));
+    let behind = Pair(Item(Value::Integer(0)), Item(Value::Null));
+    let want = Ok(Pair(Item(arrays(alloc, 1000)?), behind));
     reads_by_each(alloc, bytes, usize::MAX, &want, b"")?;
     reads_over(alloc, &mut TestReader::unlimited(bytes), bytes, &want, b"")
 }

@@ -1,9 +1,12 @@
-//! How an item is tried that is accepted: read, skipped, and cut off.
+//! How whole items are tried: read, skipped, and cut off.
+//!
+//! Each of these is proved once, so that a test which calls it asks nothing of what is read.
+use crate::item::Item;
 use crate::literal::Literal;
 use cbor4ii_rw::slice_reader::SliceReader;
 use cbor4ii_tree::{IgnoredAny, Value};
 use cbor4ii_trials::readers::TestReader;
-use cbor4ii_trials::rows::{Want, ends_at_each_front, reads_over, reads_within};
+use cbor4ii_trials::rows::{Want, ends_at_each_front, reads, reads_over, reads_within};
 use std::alloc::Global;
 use std::test::Fail;
 
@@ -16,19 +19,30 @@ pub fn reads_item(
     literal: &Literal,
 ) -> Result<(), Fail> {
     let value = literal.to_value(alloc)?;
-    let copy: Want<Value> = Ok(value.try_clone()?);
+    let copy = Ok(Item(value.try_clone()?));
     let mut slice = SliceReader::with_limit(item, limit);
     reads_over(alloc, &mut slice, item, &copy, b"")?;
-    reads_within(alloc, item, limit, &Ok(value), b"")?;
-    ends_at_each_front::<Value>(alloc, item, limit)?;
+    reads_within(alloc, item, limit, &Ok(Item(value)), b"")?;
+    ends_at_each_front::<Item<Value>>(alloc, item, limit)?;
     skips_item(alloc, item, limit)
 }
 
 /// The item is skipped with so many steps, and with no limit. Each proper front of it is the end of
 /// the input.
 pub fn skips_item(alloc: Global, item: &'static [u8], limit: usize) -> Result<(), Fail> {
-    reads_within(alloc, item, limit, &Ok(IgnoredAny), b"")?;
+    let want = Ok(Item(IgnoredAny));
+    reads_within(alloc, item, limit, &want, b"")?;
     let mut unlimited = TestReader::unlimited(item);
-    reads_over(alloc, &mut unlimited, item, &Ok(IgnoredAny), b"")?;
-    ends_at_each_front::<IgnoredAny>(alloc, item, limit)
+    reads_over(alloc, &mut unlimited, item, &want, b"")?;
+    ends_at_each_front::<Item<IgnoredAny>>(alloc, item, limit)
+}
+
+/// The front of the bytes is skipped, with 256 steps and with no limit, or that is refused.
+pub fn skips(
+    alloc: Global,
+    bytes: &'static [u8],
+    want: Want<IgnoredAny>,
+    rest: &[u8],
+) -> Result<(), Fail> {
+    reads(alloc, bytes, want.map(|any| Item(any)), rest)
 }

@@ -11,8 +11,9 @@ use cbor4ii_rw::slice_reader::SliceReader;
 use cbor4ii_tree::boxed_raw::take_boxed;
 use cbor4ii_tree::lend_raw::LendRaw;
 use cbor4ii_tree::{BoxedRawValue, RawValue, Value};
+use cbor4ii_trials::items::Lent;
 use cbor4ii_trials::readers::TestReader;
-use cbor4ii_trials::rows::{ReadFrom, Want, lends, lends_short, reads_over, steps, writes_in};
+use cbor4ii_trials::rows::{ReadBy, Want, lends, lends_short, reads_over, steps, writes_in};
 use std::alloc::Global;
 use std::marker::PhantomData;
 use std::test::Fail;
@@ -30,8 +31,8 @@ struct Copied<T> {
     of: PhantomData<T>,
 }
 
-impl<S: Source, T: LendRaw<S>> ReadFrom<S> for Copied<T> {
-    fn read_from(alloc: Global, reader: &mut S) -> Result<Copied<T>, DecodeError<S::Error>> {
+impl<S: Source, T: LendRaw<S>> ReadBy<S> for Copied<T> {
+    fn read_by(alloc: Global, reader: &mut S) -> Result<Copied<T>, DecodeError<S::Error>> {
         let copy = take_boxed::<T, S>(alloc, reader)?;
         match copy.as_bytes().to_vec(alloc) {
             Ok(bytes) => Ok(Copied {
@@ -43,13 +44,13 @@ impl<S: Source, T: LendRaw<S>> ReadFrom<S> for Copied<T> {
     }
 }
 
-type Lent = RawValue<'static>;
+type Raw = RawValue<'static>;
 
 // What a row wants of an item that is lent, and of one that is copied.
 fn both(
     alloc: Global,
     want: Want<&'static [u8]>,
-) -> Result<(Want<Lent>, Want<Copied<Lent>>), Fail> {
+) -> Result<(Want<Lent<Raw>>, Want<Copied<Raw>>), Fail> {
     match want {
         Ok(item) => {
             let lent = RawValue::decode(alloc, &mut SliceReader::new(item))?;
@@ -57,7 +58,7 @@ fn both(
                 bytes: item.to_vec(alloc)?,
                 of: PhantomData,
             };
-            Ok((Ok(lent), Ok(copied)))
+            Ok((Ok(Lent(lent)), Ok(copied)))
         }
         Err(refusal) => Ok((Err(refusal), Err(refusal))),
     }
@@ -87,7 +88,7 @@ fn lent_and_copied(rt: HostRuntime) -> Result<(), Fail> {
         assert_eq!(rt; lent.as_bytes(), *item);
         let segments = [item, b"\x00".as_slice()];
         let mut reader = SegmentReader::new(&segments);
-        reads_over(alloc, &mut reader, b"\x00", &Ok(lent), b"\x00")?;
+        reads_over(alloc, &mut reader, b"\x00", &Ok(Lent(lent)), b"\x00")?;
     }
     Ok(())
 }
@@ -126,10 +127,10 @@ const OF_SHORT_BYTES: &[(&[u8], &str)] = &[(b"\x00", NOT_LENT), (b"", CUT_OFF)];
 fn short_bytes(rt: HostRuntime) -> Result<(), Fail> {
     let alloc = rt.alloc();
     for &(bytes, refusal) in OF_SHORT_BYTES {
-        lends_short::<Lent>(alloc, bytes, Err(refusal), bytes)?;
-        lends_short::<Copied<Lent>>(alloc, bytes, Err(refusal), bytes)?;
+        lends_short::<Lent<Raw>>(alloc, bytes, Err(refusal), bytes)?;
+        lends_short::<Copied<Raw>>(alloc, bytes, Err(refusal), bytes)?;
     }
-    let want: Want<Lent> = Err(NOT_LENT);
+    let want: Want<Lent<Raw>> = Err(NOT_LENT);
     let mut reader = TestReader::short(b"\x00", 0);
     reads_over(alloc, &mut reader, b"\x00", &want, b"\x00")
 }

@@ -2,10 +2,13 @@
 //! and the bytes that are left.
 //!
 //! Where skipping refuses, an item that is kept as its bytes is refused alike, and nothing moves.
+use crate::item::Item;
+use crate::item_rows::skips;
 use crate::refusal_texts::{eof, mismatch, no_step, require_length, require_utf8, unsupported};
 use crate::table::table;
 use cbor4ii_rw::slice_reader::SliceReader;
 use cbor4ii_tree::{BoxedRawValue, IgnoredAny, RawValue, Value};
+use cbor4ii_trials::items::Lent;
 use cbor4ii_trials::rows::{Want, reads, reads_over, reads_within};
 use std::alloc::Global;
 use std::test::Fail;
@@ -271,16 +274,7 @@ fn refuses_value(
     refusal: &'static str,
     rest: &[u8],
 ) -> Result<(), Fail> {
-    reads::<Value>(alloc, bytes, Err(refusal), rest)
-}
-
-fn skips(
-    alloc: Global,
-    bytes: &'static [u8],
-    want: Want<IgnoredAny>,
-    rest: &[u8],
-) -> Result<(), Fail> {
-    reads(alloc, bytes, want, rest)
+    reads::<Item<Value>>(alloc, bytes, Err(refusal), rest)
 }
 
 fn refuses_value_within(
@@ -290,7 +284,7 @@ fn refuses_value_within(
     refusal: &'static str,
     rest: &[u8],
 ) -> Result<(), Fail> {
-    reads_within::<Value>(alloc, bytes, limit, &Err(refusal), rest)
+    reads_within::<Item<Value>>(alloc, bytes, limit, &Err(refusal), rest)
 }
 
 fn skips_within(
@@ -300,7 +294,7 @@ fn skips_within(
     want: Want<IgnoredAny>,
     rest: &[u8],
 ) -> Result<(), Fail> {
-    reads_within(alloc, bytes, limit, &want, rest)
+    reads_within(alloc, bytes, limit, &want.map(|any| Item(any)), rest)
 }
 
 // An item that is kept as its bytes, lent or copied, is refused as skipping refuses it, and nothing
@@ -311,10 +305,10 @@ fn stays(
     limit: usize,
     refusal: &'static str,
 ) -> Result<(), Fail> {
-    let want: Want<RawValue> = Err(refusal);
+    let want: Want<Lent<RawValue>> = Err(refusal);
     let mut reader = SliceReader::with_limit(bytes, limit);
     reads_over(alloc, &mut reader, bytes, &want, bytes)?;
-    let want: Want<BoxedRawValue> = Err(refusal);
+    let want: Want<Lent<BoxedRawValue>> = Err(refusal);
     let mut reader = SliceReader::with_limit(bytes, limit);
     reads_over(alloc, &mut reader, bytes, &want, bytes)
 }

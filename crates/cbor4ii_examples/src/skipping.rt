@@ -1,5 +1,6 @@
 //! Rows of items that are skipped.
-use crate::item_rows::skips_item;
+use crate::item::Item;
+use crate::item_rows::{skips, skips_item};
 use crate::refusal_texts::{eof, unsupported};
 use crate::table::table;
 use cbor4ii_items::decode::Decode;
@@ -8,7 +9,7 @@ use cbor4ii_rw::segment_reader::SegmentReader;
 use cbor4ii_rw::slice_reader::SliceReader;
 use cbor4ii_tree::IgnoredAny;
 use cbor4ii_trials::readers::{Counting, TestReader};
-use cbor4ii_trials::rows::{Want, leaves, reads, reads_over};
+use cbor4ii_trials::rows::{Want, leaves, reads_over};
 use std::alloc::Global;
 use std::test::Fail;
 
@@ -59,7 +60,7 @@ fn items(rt: HostRuntime) -> Result<(), Fail> {
         skips_item(alloc, item, 256)?;
     }
     for (bytes, rest) in FOLLOWED {
-        reads(alloc, bytes, Ok(IgnoredAny), rest)?;
+        skips(alloc, bytes, Ok(IgnoredAny), rest)?;
     }
     Ok(())
 }
@@ -129,7 +130,7 @@ fn many_items(rt: HostRuntime) -> Result<(), Fail> {
         let zeros = vec![in alloc; 0x00u8; *count]?;
         bytes.extend_from_slice(&zeros)?;
         bytes.extend_from_slice(end)?;
-        skips_many(alloc, &bytes, want, rest)?;
+        skips_many(alloc, &bytes, &want.map(|any| Item(any)), rest)?;
     }
     Ok(())
 }
@@ -139,7 +140,7 @@ fn many_items(rt: HostRuntime) -> Result<(), Fail> {
 fn skips_many(
     alloc: Global,
     bytes: &[u8],
-    want: &Want<IgnoredAny>,
+    want: &Want<Item<IgnoredAny>>,
     rest: &[u8],
 ) -> Result<(), Fail> {
     reads_over(alloc, &mut SliceReader::new(bytes), bytes, want, rest)?;

@@ -1,4 +1,5 @@
 //! Rows of values: read, written, copied and compared.
+use crate::item::Item;
 use crate::item_rows::reads_item;
 use crate::literal::Literal::{self, Array, Bool, Bytes, Float, Integer, Map, Null, Tag, Text};
 use crate::refusal_texts::eof;
@@ -332,19 +333,15 @@ fn reads_and_writes(
     reads_item(alloc, item, 256, literal)?;
     let value = literal.to_value(alloc)?;
     writes(alloc, &value, written)?;
-    reads_over(
-        alloc,
-        &mut TestReader::unlimited(item),
-        item,
-        &Ok(value),
-        b"",
-    )
+    let want = Ok(Item(value));
+    reads_over(alloc, &mut TestReader::unlimited(item), item, &want, b"")
 }
 
 // The item is the one spelling that is read as this value where no other is.
 fn reads_canonical(alloc: Global, item: &'static [u8], literal: &Literal) -> Result<(), Fail> {
-    reads(alloc, item, Ok(Canonical(literal.to_value(alloc)?)), b"")?;
-    ends_at_each_front::<Canonical>(alloc, item, 256)
+    let value = Canonical(literal.to_value(alloc)?);
+    reads(alloc, item, Ok(Item(value)), b"")?;
+    ends_at_each_front::<Item<Canonical>>(alloc, item, 256)
 }
 
 #[test]
@@ -396,13 +393,14 @@ fn equal_and_different_values(rt: HostRuntime) -> Result<(), Fail> {
     Ok(())
 }
 
-type Four = Pair<Pair<Value, Value>, Pair<Value, Value>>;
+type Two = Pair<Item<Value>, Item<Value>>;
 
 // [1, 2], null, (_ h'01') and 3.
-fn four(alloc: Global) -> Result<Four, AllocError> {
+fn four(alloc: Global) -> Result<Pair<Two, Two>, AllocError> {
     let array = Value::Array(vec![in alloc; Value::Integer(1), Value::Integer(2)]?);
     let bytes = Value::Bytes(vec![in alloc; 1]?);
-    Ok(Pair(Pair(array, Value::Null), Pair(bytes, Value::Integer(3))))
+    let front = Pair(Item(array), Item(Value::Null));
+    Ok(Pair(front, Pair(Item(bytes), Item(Value::Integer(3)))))
 }
 
 #[test]
@@ -417,7 +415,7 @@ fn one_after_another(rt: HostRuntime) -> Result<(), Fail> {
 
 #[test]
 fn no_segment_and_empty_ones(rt: HostRuntime) -> Result<(), Fail> {
-    let want: Want<Value> = Err(eof!("value", 1));
+    let want: Want<Item<Value>> = Err(eof!("value", 1));
     let rows: [&[&[u8]]; 2] = [&[], &[b"", b""]];
     for segments in rows {
         let mut reader = SegmentReader::new(segments);
