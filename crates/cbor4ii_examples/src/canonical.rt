@@ -13,7 +13,9 @@ use std::test::Fail;
 const OTHER: &str = "NotCanonical { name: \"canonical\" }";
 
 // What is no canonical spelling of a value, and what begins none: the refusal, and what is left.
-const REFUSED: &[(&[u8], &str, &[u8])] = table! {
+type Refused = (&'static [u8], &'static str, &'static [u8]);
+
+const REFUSED: &[Refused] = table! {
     (b"\x9f", OTHER, b""),
     (b"\x5f", OTHER, b""),
     (b"\xf7", OTHER, b""),
@@ -50,13 +52,25 @@ const REFUSED: &[(&[u8], &str, &[u8])] = table! {
     (b"\xa1\x18\x17\x00", OTHER, b"\x00"),
 };
 
-#[test]
-fn other_spellings_are_refused(rt: HostRuntime) -> Result<(), Fail> {
-    let alloc = rt.alloc();
-    for (bytes, refusal, rest) in REFUSED {
-        reads::<Item<Canonical>>(alloc, bytes, Err(refusal), rest)?;
+fn refuses_rows(alloc: Global, rows: &[Refused]) -> Result<(), Fail> {
+    for &(bytes, refusal, rest) in rows {
+        refuses(alloc, bytes, refusal, rest)?;
     }
     Ok(())
+}
+
+fn refuses(
+    alloc: Global,
+    bytes: &'static [u8],
+    refusal: &'static str,
+    rest: &[u8],
+) -> Result<(), Fail> {
+    reads::<Item<Canonical>>(alloc, bytes, Err(refusal), rest)
+}
+
+#[test]
+fn other_spellings_are_refused(rt: HostRuntime) -> Result<(), Fail> {
+    refuses_rows(rt.alloc(), REFUSED)
 }
 
 // 255 tags, and these bytes behind them.
@@ -69,17 +83,31 @@ fn below_255_tags(alloc: Global, item: &[u8]) -> Result<Vec<u8>, Fail> {
     Ok(bytes)
 }
 
+fn refuses_below_255_tags(
+    alloc: Global,
+    item: &[u8],
+    refusal: &'static str,
+    rest: &[u8],
+) -> Result<(), Fail> {
+    let bytes = below_255_tags(alloc, item)?;
+    refuses_slice(alloc, &bytes, refusal, rest)
+}
+
+fn refuses_slice(
+    alloc: Global,
+    bytes: &[u8],
+    refusal: &'static str,
+    rest: &[u8],
+) -> Result<(), Fail> {
+    let want: Want<Item<Canonical>> = Err(refusal);
+    reads_over(alloc, &mut SliceReader::new(bytes), bytes, &want, rest)
+}
+
 // A string of indefinite length is met before a step is taken for its chunk; an array's step comes
 // before its head.
 #[test]
 fn at_the_last_step(rt: HostRuntime) -> Result<(), Fail> {
     let alloc = rt.alloc();
-    let string = below_255_tags(alloc, b"\x5f\x40\xff")?;
-    let other: Want<Item<Canonical>> = Err(OTHER);
-    let mut reader = SliceReader::new(&string);
-    reads_over(alloc, &mut reader, &string, &other, b"\x40\xff")?;
-    let array = below_255_tags(alloc, b"\x9f\xff")?;
-    let no_step: Want<Item<Canonical>> = Err(no_step!("array"));
-    let mut reader = SliceReader::new(&array);
-    reads_over(alloc, &mut reader, &array, &no_step, b"\x9f\xff")
+    refuses_below_255_tags(alloc, b"\x5f\x40\xff", OTHER, b"\x40\xff")?;
+    refuses_below_255_tags(alloc, b"\x9f\xff", no_step!("array"), b"\x9f\xff")
 }

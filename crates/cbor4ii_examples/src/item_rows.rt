@@ -18,13 +18,19 @@ pub fn reads_item(
     limit: usize,
     literal: &Literal,
 ) -> Result<(), Fail> {
-    let value = literal.to_value(alloc)?;
-    let copy = Ok(Item(value.try_clone()?));
-    let mut slice = SliceReader::with_limit(item, limit);
-    reads_over(alloc, &mut slice, item, &copy, b"")?;
-    reads_within(alloc, item, limit, &Ok(Item(value)), b"")?;
+    reads_value(alloc, item, limit, literal.to_value(alloc)?)?;
     ends_at_each_front::<Item<Value>>(alloc, item, limit)?;
     skips_item(alloc, item, limit)
+}
+
+fn reads_value(alloc: Global, item: &'static [u8], limit: usize, value: Value) -> Result<(), Fail> {
+    reads_copy(alloc, item, limit, value.try_clone()?)?;
+    reads_within(alloc, item, limit, &Ok(Item(value)), b"")
+}
+
+fn reads_copy(alloc: Global, item: &[u8], limit: usize, copy: Value) -> Result<(), Fail> {
+    let mut slice = SliceReader::with_limit(item, limit);
+    reads_over(alloc, &mut slice, item, &Ok(Item(copy)), b"")
 }
 
 /// The item is skipped with so many steps, and with no limit. Each proper front of it is the end of

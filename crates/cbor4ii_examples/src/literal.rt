@@ -17,6 +17,7 @@ pub enum Literal {
 
 impl Literal {
     /// The value itself.
+    #[cycle(value)]
     pub fn to_value(&self, alloc: Global) -> Result<Value, AllocError> {
         Ok(match self {
             Literal::Null => Value::Null,
@@ -25,24 +26,33 @@ impl Literal {
             Literal::Float(bits) => Value::Float(*bits),
             Literal::Bytes(bytes) => Value::Bytes(bytes.to_vec(alloc)?),
             Literal::Text(text) => Value::Text(String::from_str(alloc, text)?),
-            Literal::Array(items) => {
-                let mut values = Vec::new(alloc);
-                for item in *items {
-                    values.push(item.to_value(alloc)?)?;
-                }
-                Value::Array(values)
-            }
-            Literal::Map(pairs) => {
-                let mut members = Vec::new(alloc);
-                for pair in *pairs {
-                    let key = pair.0.to_value(alloc)?;
-                    members.push((key, pair.1.to_value(alloc)?))?;
-                }
-                Value::Map(members)
-            }
+            Literal::Array(items) => Value::Array(to_items(items, alloc)?),
+            Literal::Map(pairs) => Value::Map(to_members(pairs, alloc)?),
             Literal::Tag(number, item) => {
                 Value::Tag(*number, Box::new(alloc, item.to_value(alloc)?)?)
             }
         })
     }
+}
+
+#[cycle(value)]
+fn to_items(items: &[Literal], alloc: Global) -> Result<Vec<Value>, AllocError> {
+    let mut values = Vec::new(alloc);
+    for item in items {
+        values.push(item.to_value(alloc)?)?;
+    }
+    Ok(values)
+}
+
+#[cycle(value)]
+fn to_members(
+    pairs: &[(Literal, Literal)],
+    alloc: Global,
+) -> Result<Vec<(Value, Value)>, AllocError> {
+    let mut members = Vec::new(alloc);
+    for pair in pairs {
+        let key = pair.0.to_value(alloc)?;
+        members.push((key, pair.1.to_value(alloc)?))?;
+    }
+    Ok(members)
 }

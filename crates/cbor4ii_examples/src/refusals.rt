@@ -18,9 +18,11 @@ const READ_BREAK: &str = unsupported!("value", 0xff);
 
 const SKIPPED_BREAK: &str = unsupported!("ignored-any", 0xff);
 
-// Fronts of an open byte string of two chunks: the refusal of a value, and of skipping. Nothing is
-// left.
-const FRONTS: &[(&[u8], &str, &str)] = table! {
+// Input that ends too early: the refusal of a value, and of skipping. Nothing is left.
+type CutOff = (&'static [u8], &'static str, &'static str);
+
+// Fronts of an open byte string of two chunks.
+const FRONTS: &[CutOff] = table! {
     (b"", eof!("value", 1), eof!("ignored-any", 1)),
     (b"\x5f", eof!("break", 1), eof!("break", 1)),
     (b"\x5f\x42", eof!("bytes", 2), eof!("ignored-any", 2)),
@@ -32,8 +34,8 @@ const FRONTS: &[(&[u8], &str, &str)] = table! {
     (b"\x5f\x42\x01\x02\x43\x03\x04\x05", eof!("break", 1), eof!("break", 1)),
 };
 
-// Input that ends too early, likewise.
-const CUT_OFF: &[(&[u8], &str, &str)] = table! {
+// Fronts of other items.
+const CUT_OFF: &[CutOff] = table! {
     (b"\x18", eof!("u64", 1), eof!("ignored-any", 1)),
     (b"\x19\x00", eof!("u64", 2), eof!("ignored-any", 1)),
     (b"\x1a\x86", eof!("u64", 4), eof!("ignored-any", 3)),
@@ -89,7 +91,15 @@ const CUT_OFF: &[(&[u8], &str, &str)] = table! {
 };
 
 // Input that both refuse: the refusal of a value and what it leaves, and the same of skipping.
-const REFUSED: &[(&[u8], &str, &[u8], &str, &[u8])] = table! {
+type Refused = (
+    &'static [u8],
+    &'static str,
+    &'static [u8],
+    &'static str,
+    &'static [u8],
+);
+
+const REFUSED: &[Refused] = table! {
     (b"\x1c\x00", mismatch!("u64", 0x1c), b"\x00", mismatch!("ignored-any", 0x1c), b"\x1c\x00"),
     (b"\x1e", mismatch!("u64", 0x1e), b"", mismatch!("ignored-any", 0x1e), b"\x1e"),
     (b"\x3c\x00", mismatch!("-u64", 0x3c), b"\x00", mismatch!("ignored-any", 0x3c), b"\x3c\x00"),
@@ -146,7 +156,9 @@ const REFUSED: &[(&[u8], &str, &[u8], &str, &[u8])] = table! {
 
 // Items that are no values, and are skipped: the refusal and what it leaves, and what skipping
 // leaves.
-const SKIPPED: &[(&[u8], &str, &[u8], &[u8])] = table! {
+type Skipped = (&'static [u8], &'static str, &'static [u8], &'static [u8]);
+
+const SKIPPED: &[Skipped] = table! {
     (b"\x5f\x00\xff", mismatch!("bytes", 0x00), b"\xff", b""),
     (b"\x5f\x41\x01\x61\x62\xff", mismatch!("bytes", 0x61), b"\x62\xff", b""),
     (b"\x5f\x5f\xff\xff", require_length!("bytes"), b"\xff\xff", b""),
@@ -165,8 +177,17 @@ const SKIPPED: &[(&[u8], &str, &[u8], &[u8])] = table! {
     (b"\x9f\x62\xff\xff\x00\xff", require_utf8!("str"), b"\x00\xff", b""),
 };
 
-// As REFUSED, with so many steps.
-const REFUSED_WITHIN: &[(&[u8], usize, &str, &[u8], &str, &[u8])] = table! {
+// As `Refused`, with so many steps.
+type RefusedWithin = (
+    &'static [u8],
+    usize,
+    &'static str,
+    &'static [u8],
+    &'static str,
+    &'static [u8],
+);
+
+const REFUSED_WITHIN: &[RefusedWithin] = table! {
     (b"", 0, no_step!("value"), b"", no_step!("ignored-any"), b""),
     (b"", 1, eof!("value", 1), b"", eof!("ignored-any", 1), b""),
     (b"\x00", 0, no_step!("value"), b"\x00", no_step!("ignored-any"), b"\x00"),
@@ -235,8 +256,16 @@ const REFUSED_WITHIN: &[(&[u8], usize, &str, &[u8], &str, &[u8])] = table! {
     (b"\xfc", 1, unsupported!("value", 0xfc), b"\xfc", unsupported!("ignored-any", 0xfc), b"\xfc"),
 };
 
-// As SKIPPED, with so many steps.
-const SKIPPED_WITHIN: &[(&[u8], usize, &str, &[u8], &[u8])] = table! {
+// As `Skipped`, with so many steps.
+type SkippedWithin = (
+    &'static [u8],
+    usize,
+    &'static str,
+    &'static [u8],
+    &'static [u8],
+);
+
+const SKIPPED_WITHIN: &[SkippedWithin] = table! {
     (b"\x5f\x7f\xff\xff", 2, mismatch!("bytes", 0x7f), b"\xff\xff", b""),
     (b"\x5f\x7f\xff\xff", 3, mismatch!("bytes", 0x7f), b"\xff\xff", b""),
     (b"\x61\xc3", 1, require_utf8!("str"), b"", b""),
@@ -255,18 +284,6 @@ const SKIPPED_WITHIN: &[(&[u8], usize, &str, &[u8], &[u8])] = table! {
     (b"\xbf\x00\x01\xff", 2, no_step!("value"), b"\x00\x01\xff", b""),
     (b"\xbf\xff", 1, no_step!("map"), b"\xbf\xff", b""),
 };
-
-// With 256 steps, and with no limit.
-fn refuses(
-    alloc: Global,
-    bytes: &'static [u8],
-    read: (&'static str, &[u8]),
-    skipped: (&'static str, &[u8]),
-) -> Result<(), Fail> {
-    refuses_value(alloc, bytes, read.0, read.1)?;
-    skips(alloc, bytes, Err(skipped.0), skipped.1)?;
-    stays(alloc, bytes, 256, skipped.0)
-}
 
 fn refuses_value(
     alloc: Global,
@@ -297,6 +314,28 @@ fn skips_within(
     reads_within(alloc, bytes, limit, &want.map(|any| Item(any)), rest)
 }
 
+// Skipping is refused, and with it an item that is kept.
+fn refuses_item(
+    alloc: Global,
+    bytes: &'static [u8],
+    refusal: &'static str,
+    rest: &[u8],
+) -> Result<(), Fail> {
+    skips(alloc, bytes, Err(refusal), rest)?;
+    stays(alloc, bytes, 256, refusal)
+}
+
+fn refuses_item_within(
+    alloc: Global,
+    bytes: &'static [u8],
+    limit: usize,
+    refusal: &'static str,
+    rest: &[u8],
+) -> Result<(), Fail> {
+    skips_within(alloc, bytes, limit, Err(refusal), rest)?;
+    stays(alloc, bytes, limit, refusal)
+}
+
 // An item that is kept as its bytes, lent or copied, is refused as skipping refuses it, and nothing
 // moves.
 fn stays(
@@ -313,31 +352,36 @@ fn stays(
     reads_over(alloc, &mut reader, bytes, &want, bytes)
 }
 
+fn cuts_off(alloc: Global, rows: &[CutOff]) -> Result<(), Fail> {
+    for &(bytes, read, skipped) in rows {
+        refuses_value(alloc, bytes, read, b"")?;
+        refuses_item(alloc, bytes, skipped, b"")?;
+    }
+    Ok(())
+}
+
 #[test]
 fn cut_off(rt: HostRuntime) -> Result<(), Fail> {
     let alloc = rt.alloc();
-    for (bytes, read, skipped) in FRONTS {
-        refuses(alloc, bytes, (read, b""), (skipped, b""))?;
-    }
-    for (bytes, read, skipped) in CUT_OFF {
-        refuses(alloc, bytes, (read, b""), (skipped, b""))?;
+    cuts_off(alloc, FRONTS)?;
+    cuts_off(alloc, CUT_OFF)
+}
+
+fn refuses_rows(alloc: Global, rows: &[Refused]) -> Result<(), Fail> {
+    for &(bytes, read, left, skipped, skipped_left) in rows {
+        refuses_value(alloc, bytes, read, left)?;
+        refuses_item(alloc, bytes, skipped, skipped_left)?;
     }
     Ok(())
 }
 
 #[test]
 fn refused(rt: HostRuntime) -> Result<(), Fail> {
-    let alloc = rt.alloc();
-    for (bytes, read, left, skipped, skipped_left) in REFUSED {
-        refuses(alloc, bytes, (read, left), (skipped, skipped_left))?;
-    }
-    Ok(())
+    refuses_rows(rt.alloc(), REFUSED)
 }
 
-#[test]
-fn refused_and_skipped(rt: HostRuntime) -> Result<(), Fail> {
-    let alloc = rt.alloc();
-    for (bytes, read, left, skipped_left) in SKIPPED {
+fn skips_rows(alloc: Global, rows: &[Skipped]) -> Result<(), Fail> {
+    for &(bytes, read, left, skipped_left) in rows {
         refuses_value(alloc, bytes, read, left)?;
         skips(alloc, bytes, Ok(IgnoredAny), skipped_left)?;
     }
@@ -345,16 +389,29 @@ fn refused_and_skipped(rt: HostRuntime) -> Result<(), Fail> {
 }
 
 #[test]
-fn refused_within_a_limit(rt: HostRuntime) -> Result<(), Fail> {
-    let alloc = rt.alloc();
-    for (bytes, limit, read, left, skipped, skipped_left) in REFUSED_WITHIN {
-        refuses_value_within(alloc, bytes, *limit, read, left)?;
-        skips_within(alloc, bytes, *limit, Err(*skipped), skipped_left)?;
-        stays(alloc, bytes, *limit, skipped)?;
-    }
-    for (bytes, limit, read, left, skipped_left) in SKIPPED_WITHIN {
-        refuses_value_within(alloc, bytes, *limit, read, left)?;
-        skips_within(alloc, bytes, *limit, Ok(IgnoredAny), skipped_left)?;
+fn refused_and_skipped(rt: HostRuntime) -> Result<(), Fail> {
+    skips_rows(rt.alloc(), SKIPPED)
+}
+
+fn refuses_rows_within(alloc: Global, rows: &[RefusedWithin]) -> Result<(), Fail> {
+    for &(bytes, limit, read, left, skipped, skipped_left) in rows {
+        refuses_value_within(alloc, bytes, limit, read, left)?;
+        refuses_item_within(alloc, bytes, limit, skipped, skipped_left)?;
     }
     Ok(())
+}
+
+fn skips_rows_within(alloc: Global, rows: &[SkippedWithin]) -> Result<(), Fail> {
+    for &(bytes, limit, read, left, skipped_left) in rows {
+        refuses_value_within(alloc, bytes, limit, read, left)?;
+        skips_within(alloc, bytes, limit, Ok(IgnoredAny), skipped_left)?;
+    }
+    Ok(())
+}
+
+#[test]
+fn refused_within_a_limit(rt: HostRuntime) -> Result<(), Fail> {
+    let alloc = rt.alloc();
+    refuses_rows_within(alloc, REFUSED_WITHIN)?;
+    skips_rows_within(alloc, SKIPPED_WITHIN)
 }

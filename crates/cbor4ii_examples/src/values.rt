@@ -158,7 +158,9 @@ const LETTERS: Literal = Map(&[
 
 // Items that are spelled otherwise than they are written: what is read, what it is, and what is
 // written.
-const SPELLINGS: &[(&[u8], Literal, &[u8])] = table! {
+type Spelling = (&'static [u8], Literal, &'static [u8]);
+
+const SPELLINGS: &[Spelling] = table! {
     (b"\x18\x05", Integer(5), b"\x05"),
     (b"\x19\x00\x05", Integer(5), b"\x05"),
     (b"\x1a\x00\x00\x00\x05", Integer(5), b"\x05"),
@@ -204,7 +206,9 @@ const SPELLINGS: &[(&[u8], Literal, &[u8])] = table! {
 };
 
 // Integers beyond 64 bits: what is written, and what that is read as.
-const BIGNUMS: &[(Literal, &[u8], Literal)] = table! {
+type Bignum = (Literal, &'static [u8], Literal);
+
+const BIGNUMS: &[Bignum] = table! {
     (Integer(18446744073709551616), b"\xc2\x49\x01\x00\x00\x00\x00\x00\x00\x00\x00",
         Tag(2, &Bytes(b"\x01\x00\x00\x00\x00\x00\x00\x00\x00"))),
     (Integer(18446744073709551714), b"\xc2\x49\x01\x00\x00\x00\x00\x00\x00\x00\x62",
@@ -220,7 +224,9 @@ const BIGNUMS: &[(Literal, &[u8], Literal)] = table! {
 };
 
 // What each push of a value has: a head, a string's content, or a float.
-const PUSHES: &[(Literal, &[&[u8]])] = table! {
+type Pushed = (Literal, &'static [&'static [u8]]);
+
+const PUSHES: &[Pushed] = table! {
     (Null, &[b"\xf6"]),
     (Bool(true), &[b"\xf5"]),
     (Integer(1000), &[b"\x19\x03\xe8"]),
@@ -285,10 +291,8 @@ const DIFFERENT: &[Literal] = table! {
     Tag(1, &Bool(false)),
 };
 
-#[test]
-fn items_as_they_are_written(rt: HostRuntime) -> Result<(), Fail> {
-    let alloc = rt.alloc();
-    for (item, literal) in LEAVES.iter().chain(SEQUENCES) {
+fn reads_rows(alloc: Global, rows: &[(&'static [u8], Literal)]) -> Result<(), Fail> {
+    for (item, literal) in rows {
         reads_and_writes(alloc, item, literal, item)?;
         reads_canonical(alloc, item, literal)?;
     }
@@ -296,31 +300,49 @@ fn items_as_they_are_written(rt: HostRuntime) -> Result<(), Fail> {
 }
 
 #[test]
-fn other_spellings(rt: HostRuntime) -> Result<(), Fail> {
+fn items_as_they_are_written(rt: HostRuntime) -> Result<(), Fail> {
     let alloc = rt.alloc();
-    for (item, literal, written) in SPELLINGS {
+    reads_rows(alloc, LEAVES)?;
+    reads_rows(alloc, SEQUENCES)
+}
+
+fn reads_spellings(alloc: Global, rows: &[Spelling]) -> Result<(), Fail> {
+    for (item, literal, written) in rows {
         reads_and_writes(alloc, item, literal, written)?;
-        let mut reader = SliceReader::new(item);
-        assert!(rt;
-            matches!(
-                Canonical::decode(alloc, &mut reader),
-                Err(DecodeError::NotCanonical { name: "canonical" })
-            ),
-            "{item:?}"
-        );
+        is_not_canonical(alloc, item)?;
+    }
+    Ok(())
+}
+
+fn is_not_canonical(alloc: Global, item: &[u8]) -> Result<(), Fail> {
+    match Canonical::decode(alloc, &mut SliceReader::new(item)) {
+        Err(DecodeError::NotCanonical { name: "canonical" }) => Ok(()),
+        _ => Err(Fail::new(format_args!("{item:?}"))),
+    }
+}
+
+#[test]
+fn other_spellings(rt: HostRuntime) -> Result<(), Fail> {
+    reads_spellings(rt.alloc(), SPELLINGS)
+}
+
+fn reads_bignums(alloc: Global, rows: &[Bignum]) -> Result<(), Fail> {
+    for (literal, written, read_back) in rows {
+        writes_value(alloc, literal, written)?;
+        reads_and_writes(alloc, written, read_back, written)?;
+        reads_canonical(alloc, written, read_back)?;
     }
     Ok(())
 }
 
 #[test]
 fn bignums(rt: HostRuntime) -> Result<(), Fail> {
-    let alloc = rt.alloc();
-    for (literal, written, read_back) in BIGNUMS {
-        writes(alloc, &literal.to_value(alloc)?, written)?;
-        reads_and_writes(alloc, written, read_back, written)?;
-        reads_canonical(alloc, written, read_back)?;
-    }
-    Ok(())
+    reads_bignums(rt.alloc(), BIGNUMS)
+}
+
+// The value is written as these bytes. Answers in how many pushes.
+fn writes_value(alloc: Global, literal: &Literal, written: &[u8]) -> Result<usize, Fail> {
+    writes(alloc, &literal.to_value(alloc)?, written)
 }
 
 // The item is read as this value, also with no limit, and the value is written as these bytes.
@@ -331,9 +353,12 @@ fn reads_and_writes(
     written: &[u8],
 ) -> Result<(), Fail> {
     reads_item(alloc, item, 256, literal)?;
-    let value = literal.to_value(alloc)?;
-    writes(alloc, &value, written)?;
-    let want = Ok(Item(value));
+    writes_value(alloc, literal, written)?;
+    reads_unlimited(alloc, item, literal)
+}
+
+fn reads_unlimited(alloc: Global, item: &[u8], literal: &Literal) -> Result<(), Fail> {
+    let want = Ok(Item(literal.to_value(alloc)?));
     reads_over(alloc, &mut TestReader::unlimited(item), item, &want, b"")
 }
 
@@ -344,53 +369,74 @@ fn reads_canonical(alloc: Global, item: &'static [u8], literal: &Literal) -> Res
     ends_at_each_front::<Item<Canonical>>(alloc, item, 256)
 }
 
-#[test]
-fn within_a_limit(rt: HostRuntime) -> Result<(), Fail> {
-    let alloc = rt.alloc();
-    for (item, limit, literal) in WITHIN {
+fn reads_rows_within(alloc: Global, rows: &[(&'static [u8], usize, Literal)]) -> Result<(), Fail> {
+    for (item, limit, literal) in rows {
         reads_item(alloc, item, *limit, literal)?;
     }
     Ok(())
 }
 
-// A writer that fails at a push holds the pushes before it.
 #[test]
-fn pushes(rt: HostRuntime) -> Result<(), Fail> {
-    let alloc = rt.alloc();
-    for (literal, pushes) in PUSHES {
-        let value = literal.to_value(alloc)?;
-        let mut held = Vec::new(alloc);
-        for (taken, push) in pushes.iter().enumerate() {
-            let mut writer = FailingWriter::new(Vec::with_capacity(alloc, 16)?, taken);
-            assert!(rt;
-                value.encode(&mut writer).is_err(),
-                "push {taken} of {value:?}"
-            );
-            assert_eq!(rt;
-                writer.buffer(),
-                held.as_slice(),
-                "push {taken} of {value:?}"
-            );
-            held.extend_from_slice(push)?;
-        }
-        writes_in(alloc, &value, &held, pushes.len())?;
+fn within_a_limit(rt: HostRuntime) -> Result<(), Fail> {
+    reads_rows_within(rt.alloc(), WITHIN)
+}
+
+fn pushes_rows(alloc: Global, rows: &[Pushed]) -> Result<(), Fail> {
+    for (literal, pushes) in rows {
+        pushes_value(alloc, &literal.to_value(alloc)?, pushes)?;
     }
     Ok(())
 }
 
+fn pushes_value(alloc: Global, value: &Value, pushes: &[&[u8]]) -> Result<(), Fail> {
+    let mut held = Vec::new(alloc);
+    for (taken, push) in pushes.iter().enumerate() {
+        fails_at_push(alloc, value, taken, &held)?;
+        held.extend_from_slice(push)?;
+    }
+    writes_in(alloc, value, &held, pushes.len())
+}
+
+// A writer that fails at a push holds the pushes before it.
+fn fails_at_push(alloc: Global, value: &Value, taken: usize, held: &[u8]) -> Result<(), Fail> {
+    let mut writer = FailingWriter::new(Vec::with_capacity(alloc, 16)?, taken);
+    if value.encode(&mut writer).is_err() && writer.buffer() == held {
+        return Ok(());
+    }
+    Err(Fail::new(format_args!("push {taken} of {value:?}")))
+}
+
 #[test]
-fn equal_and_different_values(rt: HostRuntime) -> Result<(), Fail> {
-    let alloc = rt.alloc();
-    for (i, left) in DIFFERENT.iter().enumerate() {
-        let left = left.to_value(alloc)?;
-        assert!(rt; left.try_clone()? == left, "the copy of {left:?}");
-        for (j, right) in DIFFERENT.iter().enumerate() {
-            let right = right.to_value(alloc)?;
-            assert_eq!(rt; left == right, i == j, "{left:?} and {right:?}");
+fn pushes(rt: HostRuntime) -> Result<(), Fail> {
+    pushes_rows(rt.alloc(), PUSHES)
+}
+
+// Each is equal to its copy, and to no other.
+fn differ(alloc: Global, rows: &[Literal]) -> Result<(), Fail> {
+    for (i, left) in rows.iter().enumerate() {
+        is_its_copy(&left.to_value(alloc)?)?;
+        for (j, right) in rows.iter().enumerate() {
+            are_equal(&left.to_value(alloc)?, &right.to_value(alloc)?, i == j)?;
         }
     }
-    assert!(rt; NoMemory::from(AllocError) == NoMemory);
     Ok(())
+}
+
+fn is_its_copy(value: &Value) -> Result<(), Fail> {
+    are_equal(&value.try_clone()?, value, true)
+}
+
+fn are_equal(left: &Value, right: &Value, want: bool) -> Result<(), Fail> {
+    if (left == right) == want {
+        return Ok(());
+    }
+    Err(Fail::new(format_args!("{left:?} and {right:?}")))
+}
+
+#[test]
+fn equal_and_different_values(rt: HostRuntime) -> Result<(), Fail> {
+    assert!(rt; NoMemory::from(AllocError) == NoMemory);
+    differ(rt.alloc(), DIFFERENT)
 }
 
 type Two = Pair<Item<Value>, Item<Value>>;
@@ -403,23 +449,37 @@ fn four(alloc: Global) -> Result<Pair<Two, Two>, AllocError> {
     Ok(Pair(front, Pair(Item(bytes), Item(Value::Integer(3)))))
 }
 
+fn reads_four(alloc: Global, bytes: &'static [u8]) -> Result<(), Fail> {
+    reads(alloc, bytes, Ok(four(alloc)?), b"")
+}
+
+fn reads_four_in_segments(alloc: Global, bytes: &[u8], segments: &[&[u8]]) -> Result<(), Fail> {
+    let want = Ok(four(alloc)?);
+    reads_over(alloc, &mut SegmentReader::new(segments), bytes, &want, b"")
+}
+
 #[test]
 fn one_after_another(rt: HostRuntime) -> Result<(), Fail> {
     let alloc = rt.alloc();
     let bytes = b"\x82\x01\x02\xf6\x5f\x41\x01\xff\x18\x03";
-    reads(alloc, bytes, Ok(four(alloc)?), b"")?;
-    let segments: [&[u8]; 4] = [b"\x82\x01", b"\x02\xf6\x5f", b"", b"\x41\x01\xff\x18\x03"];
-    let mut reader = SegmentReader::new(&segments);
-    reads_over(alloc, &mut reader, bytes, &Ok(four(alloc)?), b"")
+    reads_four(alloc, bytes)?;
+    let segments = [
+        b"\x82\x01".as_slice(),
+        b"\x02\xf6\x5f",
+        b"",
+        b"\x41\x01\xff\x18\x03",
+    ];
+    reads_four_in_segments(alloc, bytes, &segments)
+}
+
+fn is_the_end(alloc: Global, segments: &[&[u8]]) -> Result<(), Fail> {
+    let want: Want<Item<Value>> = Err(eof!("value", 1));
+    reads_over(alloc, &mut SegmentReader::new(segments), b"", &want, b"")
 }
 
 #[test]
 fn no_segment_and_empty_ones(rt: HostRuntime) -> Result<(), Fail> {
-    let want: Want<Item<Value>> = Err(eof!("value", 1));
-    let rows: [&[&[u8]]; 2] = [&[], &[b"", b""]];
-    for segments in rows {
-        let mut reader = SegmentReader::new(segments);
-        reads_over(rt.alloc(), &mut reader, b"", &want, b"")?;
-    }
-    Ok(())
+    let alloc = rt.alloc();
+    is_the_end(alloc, &[])?;
+    is_the_end(alloc, &[b"", b""])
 }
