@@ -1,6 +1,6 @@
--- How a value of several parts is refused, where nothing is said of a part's own refusal.
-use Rattle.std.proofs.Common.{◌≡◌, ℕ, inl, inr, List, [], ◌∷◌, drop, take, Option, Some, None, Result, Ok, Err, Bool, true, false, refl, subst, IfSome, IfErr}
-use Rattle.std.specs.Prelude.{MatchBool, codes}
+-- How a value of several parts is refused.
+use Rattle.std.proofs.Common.{◌≡◌, ℕ, List, [], ◌∷◌, drop, take, Option, Some, None, Result, Ok, Err, Bool, true, false, refl, subst, IfSome, IfErr}
+use Rattle.std.specs.Prelude.{MatchBool, IsTrue, codes}
 use Rattle.cbor4ii_rw.specs.View.{View}
 use Rattle.cbor4ii_rw.specs.Reader.{StepsIn, KeepsAllButBudget}
 use Rattle.cbor4ii_rw.specs.declared.error.DecodeError.{DecodeError}
@@ -10,10 +10,11 @@ use Rattle.cbor4ii_items.specs.Decoding.{Reads, StopsAt, Sound, Stops}
 use Rattle.cbor4ii_items.specs.Moves.{Kept, Broke, Moves}
 use Rattle.cbor4ii_items.specs.Next.{StopsNext}
 use Rattle.cbor4ii_items.specs.Refusal.{Refusal, refusal_of, is_read}
+use Rattle.cbor4ii_items.specs.Sequences.{StopsPair}
+use Rattle.cbor4ii_items.specs.Laws.Pairs.{value_stops_pair}
 use Rattle.cbor4ii.specs.declared.serde.de.error.DecodeError.{DecodeError as Typed}
-use Rattle.cbor4ii.specs.Beginning.{unsaid_stops, StopsFirst}
 use Rattle.cbor4ii.specs.Stepped.{StopsStepped}
-use Rattle.cbor4ii.specs.Typed.{as_core, answer_of}
+use Rattle.cbor4ii.specs.Typed.{as_core, answer_of, not_exact, unsaid_stops, said}
 use Rattle.cbor4ii.proofs.Looking.{Saw}
 use Rattle.cbor4ii.proofs.Steps.{stops_stepped}
 use Rattle.cbor4ii.proofs.Stopped.{stopped_as, stops_as}
@@ -34,23 +35,23 @@ left_by e a b Q m xs told (Some z) says q = let k = kept_of (is_read e) a b (not
 pub unsaid_left : {V E : Type 0} {e : DecodeError E} {a b : View} → Moves {V = V} a b (Err e) → Stops unsaid_stops a b e
 unsaid_left {e = e} {a = a} {b = b} m = record { at = λ xs told. left_by e a b (Unit {0}) m xs told (refusal_of e) refl tt }
 
+-- ---- a part
+
+-- what the part's type says of it, where it is exact
+pub said_left : {V E : Type 0} (exact : Bool) (stops : StopsAt) {e : DecodeError E} {a b : View} → Moves {V = V} a b (Err e) → (IsTrue exact → Stops stops a b e) → Stops (said exact stops) a b e
+said_left true stops m s = stopped_as stops (said true stops) (λ xs budget z ys h is. h) (s refl)
+said_left false stops m s = stopped_as unsaid_stops (said false stops) (λ xs budget z ys h is. not_exact is) (unsaid_left m)
+
+pub said_stops : {V E : Type 0} (exact : Bool) (stops : StopsAt) (r : Result V (Typed E)) {a b : View} → Moves a b (answer_of r) → (IsTrue exact → IfErr r (λ e. Stops stops a b (as_core e))) → IfErr r (λ e. Stops (said exact stops) a b (as_core e))
+said_stops exact stops (Ok v) m s = tt
+said_stops exact stops (Err e) m s = said_left exact stops m s
+
 -- ---- a head
 
--- a refused head
-pub first_head : {V E : Type 0} (reads : Reads V) (stops : StopsAt) {e : DecodeError E} {a b : View} → Stops stops a b e → Stops (StopsFirst reads stops) a b e
-first_head reads stops s = stopped_as stops (StopsFirst reads stops) (λ xs budget z ys h. inl h) s
-
-behind_head : {V W E : Type 0} (reads : Reads V) (stops : StopsAt) {e : DecodeError E} {a m b : View} {v : V} → Sound reads a m v → Moves {V = W} a b (Err e) → Stops (StopsFirst reads stops) a b e
-behind_head reads stops {e = e} {a = a} {b = b} {v = v} s m = record {
-  at = λ xs told.
-      let p = s.at xs told in
-      stops_as (refusal_of e) b.told (λ z ys. reads xs v p.count p.cost) (StopsFirst reads stops xs a.budget) (λ z ys r. inr (v, p.count, p.cost, r)) (left_by e a b (reads xs v p.count p.cost) m xs told (refusal_of e) refl p.read);
-}
-
 -- what stands behind a whole head is refused
-pub first_behind : {V W E : Type 0} (reads : Reads V) (stops : StopsAt) (r : Result W (Typed E)) {a m b : View} {v : V} → Sound reads a m v → Moves a b (answer_of r) → IfErr r (λ e. Stops (StopsFirst reads stops) a b (as_core e))
-first_behind reads stops (Ok w) s m = tt
-first_behind reads stops (Err e) s m = behind_head reads stops s m
+pub behind_stops : {V W E : Type 0} (reads : Reads V) (head stops : StopsAt) (r : Result W (Typed E)) (b : View) {a m : View} {v : V} → Kept a m → Sound reads a m v → IfErr r (λ e. Stops stops m b (as_core e)) → IfErr r (λ e. Stops (StopsPair reads head stops) a b (as_core e))
+behind_stops reads head stops (Ok w) b k h s = tt
+behind_stops reads head stops (Err e) b k h s = value_stops_pair reads head stops k h (λ xs told. s)
 
 -- ---- a step
 
@@ -58,10 +59,6 @@ first_behind reads stops (Err e) s m = behind_head reads stops s m
 pub step_stops : {V E : Type 0} (name : List ℕ) (stops : StopsAt) (r : Result V (Typed E)) {a b c d : View} → StepsIn a.budget b.budget true → KeepsAllButBudget a b → KeepsAllButBudget c d → IfErr r (λ e. Stops stops b c (as_core e)) → IfErr r (λ e. Stops (StopsStepped name stops) a d (as_core e))
 step_stops name stops (Ok v) takes inward outward s = tt
 step_stops name stops (Err e) takes inward outward s = stops_stepped name stops takes inward outward s
-
-pub unsaid : {V E : Type 0} (r : Result V (Typed E)) {a b : View} → Moves a b (answer_of r) → IfErr r (λ e. Stops unsaid_stops a b (as_core e))
-unsaid (Ok v) m = tt
-unsaid (Err e) m = unsaid_left m
 
 -- ---- a value that may be absent
 

@@ -1,5 +1,5 @@
 -- Strings that are borrowed from the input, read as those that may be.
-use Rattle.std.proofs.Common.{◌≡◌, ℕ, ◌<◌, ◌⊎◌, inl, inr, List, [], ◌∷◌, length, take, Option, Some, None, Bool, true, false, Result, Ok, Err, refl, sym, subst, IfSome, IfOk, IfErr}
+use Rattle.std.proofs.Common.{◌≡◌, ℕ, ◌<◌, ◌⊎◌, inl, inr, List, [], ◌∷◌, length, take, drop, Option, Some, None, Bool, true, false, Result, Ok, Err, refl, sym, ap, subst, IfSome, IfOk, IfErr}
 use Rattle.std.specs.Prelude.{OnOk, IsTrue, IsUtf8}
 use denote.Ref.{Bor}
 use Rattle.std.specs.declared.alloc.Global.{Global}
@@ -13,18 +13,19 @@ use Rattle.cbor4ii_rw.specs.View.{View}
 use Rattle.cbor4ii_rw.specs.declared.error.DecodeError.{DecodeError as CoreError}
 use Rattle.cbor4ii_rw.specs.declared.error.DecodeError.TheVariants.{RequireBorrowed}
 use Rattle.cbor4ii_items.specs.Head.{open_head}
-use Rattle.cbor4ii_items.specs.Refusal.{Refusal, refusal_of}
+use Rattle.cbor4ii_items.specs.Refusal.{Refusal, refusal_of, require_borrowed}
 use Rattle.cbor4ii_items.specs.Moves.{Moves}
 use Rattle.cbor4ii_items.specs.Cow.{BorrowsWhereCounted, cow_text, cow_bytes, IsBorrowedBytes, IsOwnedBytes}
 use Rattle.cbor4ii_items.specs.Strings.{ReadsCountedString, ReadsAs, ReadsTextAs}
-use Rattle.cbor4ii_items.specs.Decoding.{Reads, IsExact, Sound, Refuses}
+use Rattle.cbor4ii_items.specs.Decoding.{Reads, StopsAt, IsExact, Sound, Refuses, Stops}
 use Rattle.cbor4ii_items.specs.Lent.{ReadsLent, lent_str, lent_bytes}
 use Rattle.cbor4ii_items.specs.Laws.Strings.{head_not_open}
 use Rattle.cbor4ii_items.specs.Laws.Answering.{refuses_as}
 use Rattle.cbor4ii_items.specs.Laws.Steps.{moves_ok, moves_err}
 use Rattle.cbor4ii.specs.declared.serde.de.error.DecodeError.{DecodeError}
-use Rattle.cbor4ii.specs.Borrowed.{Borrows}
+use Rattle.cbor4ii.specs.Borrowed.{Borrows, LacksLoan, StopsUnlent}
 use Rattle.cbor4ii.specs.Typed.{as_core, answer_of, not_exact}
+use Rattle.cbor4ii.proofs.Stopped.{stopped_as}
 
 always : {Q : Type 0} (o : Option Refusal) → Q → IfSome o (λ z. Q)
 always None q = tt
@@ -59,6 +60,18 @@ module _ {V W E : Type 0} (content : V → List ℕ) (lent : W → List ℕ) (Is
   lent_progress (Ok v) (Ok w) P h p = p
   lent_progress (Err f) (Ok w) P h p = absurd h.handed
   lent_progress r (Err e) P h p = tt
+
+  unlent_stops : (reads : Reads V) (stops : StopsAt) (e : CoreError E) {a b : View} {v : V} → LacksLoan name e → Sound reads a b v → Stops (StopsUnlent name reads stops) a b e
+  unlent_stops reads stops e {a = a} {b = b} {v = v} lacks s =
+      let at : Stops (StopsUnlent name reads stops) a b (RequireBorrowed lacks.0) = record {
+        at = λ xs told. (let p = s.at xs told in (drop p.count xs, p.left, inr (v, p.count, p.cost, p.read, ap require_borrowed lacks.2, refl)));
+      } in
+      subst (Stops (StopsUnlent name reads stops) a b) (sym lacks.1) at
+
+  pub lent_stops : (reads : Reads V) (stops : StopsAt) (r : Result V (CoreError E)) (q : Result W (DecodeError E)) (a b : View) → Borrows content lent IsBorrowed IsOwned name r q → IfOk r (Sound reads a b) → IfErr r (Stops stops a b) → IfErr q (λ e. Stops (StopsUnlent name reads stops) a b (as_core e))
+  lent_stops reads stops r (Ok w) a b h s k = tt
+  lent_stops reads stops (Ok v) (Err e) a b h s k = unlent_stops reads stops (as_core e) h.refused.1 s
+  lent_stops reads stops (Err f) (Err e) a b h s k = subst (Stops (StopsUnlent name reads stops) a b) (sym h.refused) (stopped_as stops (StopsUnlent name reads stops) (λ xs budget z ys t. inl t) k)
 
   module _ (reads : Reads V) (major : ℕ) (is_text : Bool) (counted : (xs : List ℕ) (v : V) (w : W) (n c : ℕ) → content v ≡ lent w → reads xs v n c → ReadsLent major is_text lent xs w n c ⊎ (take 1 xs ≡ open_head major ∷ [])) where
     pub lent_sound : (apart : (v : V) → IsBorrowed v → IsOwned v → ⊥) (r : Result V (CoreError E)) (q : Result W (DecodeError E)) (a b : View) → Borrows content lent IsBorrowed IsOwned name r q → IfOk r (Sound reads a b) → IfOk r (BorrowsWhereCounted major IsBorrowed IsOwned a) → IfOk q (Sound (ReadsLent major is_text lent) a b)

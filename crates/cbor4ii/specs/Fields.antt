@@ -13,7 +13,7 @@ use Rattle.cbor4ii_items.specs.Laws.Strings.{text_one, text_within, text_positiv
 use Rattle.cbor4ii_tree.specs.Ignored.{ReadsTree}
 use Rattle.cbor4ii_tree.specs.Laws.Ignoring.{tree_one, tree_within}
 use Rattle.cbor4ii.specs.Tuples.{pair_laws}
-use Rattle.cbor4ii.specs.Typed.{Lawful, any_two, not_exact}
+use Rattle.cbor4ii.specs.Typed.{Lawful, any_two, not_exact, unsaid_stops}
 
 -- what stands behind a name, read as what becomes of a struct's values
 abbrev pub ReadsNamed : Type 0 → Type 1
@@ -56,7 +56,7 @@ ReadsFields {V} first named xs values n c = (changes : List (V → V)) × ReadsS
 -- How it is refused: no step is left, or the head of a map is refused, or behind some whole entries no byte is left, or an
 -- entry is refused.
 abbrev pub StopsFields : {V : Type 0} → ReadsNamed V → StopsAt
-StopsFields named = StopsParts (codes "map") (codes "map") 5 (ReadsEntry named) true
+StopsFields named = StopsParts (codes "map") (codes "map") 5 (ReadsEntry named) unsaid_stops true
 
 -- each of them is so
 abbrev pub every : List Bool → Bool

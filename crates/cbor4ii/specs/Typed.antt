@@ -3,7 +3,7 @@ use Rattle.std.specs.Prelude.{◌≡◌, ℕ, ◌≤◌, List, length, Bool, tru
 use Rattle.cbor4ii_rw.specs.View.{View}
 use Rattle.cbor4ii_rw.specs.declared.error.DecodeError.{DecodeError as CoreError}
 use Rattle.cbor4ii_rw.specs.declared.error.DecodeError.TheVariants.{Custom as CoreCustom}
-use Rattle.cbor4ii_items.specs.Decoding.{Reads}
+use Rattle.cbor4ii_items.specs.Decoding.{Reads, StopsAt}
 use Rattle.cbor4ii.specs.declared.serde.de.error.DecodeError.{DecodeError}
 use Rattle.cbor4ii.specs.declared.serde.de.error.DecodeError.TheVariants.{Core, Custom}
 use Rattle.cbor4ii.specs.declared.serde.de.deserializer.Deserializer.{Deserializer}
@@ -25,6 +25,14 @@ answer_of (Err error) = Err (as_core error)
 -- a reading of which nothing is said, for a type that is not exact
 abbrev pub unsaid : {V : Type 0} → Reads V
 unsaid xs v n c = Unit {0}
+
+-- a refusal of which nothing is said, likewise
+abbrev pub unsaid_stops : StopsAt
+unsaid_stops xs budget refusal rest = Unit {0}
+
+-- what an exact type says of its refusals; of a type that is not exact nothing is said
+abbrev pub said : Bool → StopsAt → StopsAt
+said exact stops xs budget refusal rest = IsTrue exact → stops xs budget refusal rest
 
 -- any two values
 abbrev pub any_two : {V : Type 0} → V → V → Type 0

@@ -9,7 +9,7 @@ ghost use Rattle.cbor4ii_ser.specs.Item.{
   variant_item,
 };
 ghost use Rattle.cbor4ii.specs.Accessing.{Finishes};
-ghost use Rattle.cbor4ii.specs.Typed.{any_two, not_exact, unsaid, input, answer_of};
+ghost use Rattle.cbor4ii.specs.Typed.{any_two, not_exact, unsaid, unsaid_stops, input, answer_of};
 ghost use Rattle.cbor4ii.specs.Variants.{inside_enum};
 ghost use Rattle.cbor4ii_records.specs.declared.events.Event.TheVariants.{
   Started,
@@ -54,6 +54,8 @@ impl Serialize for Sample {
 
 impl Typed for Sample {
     ghost reads = { unsaid };
+
+    ghost stops = { unsaid_stops };
 
     ghost same = { any_two };
 
@@ -140,6 +142,8 @@ impl Serialize for Event {
 impl Typed for Event {
     ghost reads = { unsaid };
 
+    ghost stops = { unsaid_stops };
+
     ghost same = { any_two };
 
     ghost never_empty = { true };
@@ -218,6 +222,8 @@ struct Name {
 
 impl Typed for Name {
     ghost reads = { unsaid };
+
+    ghost stops = { unsaid_stops };
 
     ghost same = { any_two };
 

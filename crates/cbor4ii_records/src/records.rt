@@ -8,7 +8,7 @@ ghost use Rattle.cbor4ii_ser.specs.Item.{
   tuple_variant_item,
   variant_item,
 };
-ghost use Rattle.cbor4ii.specs.Typed.{any_two, not_exact, unsaid};
+ghost use Rattle.cbor4ii.specs.Typed.{any_two, not_exact, unsaid, unsaid_stops};
 ghost use Rattle.cbor4ii_records.specs.declared.records.Enum.TheVariants.{
   Unit,
   NewType,
@@ -48,6 +48,8 @@ impl Serialize for Point {
 
 impl Typed for Point {
     ghost reads = { unsaid };
+
+    ghost stops = { unsaid_stops };
 
     ghost same = { any_two };
 

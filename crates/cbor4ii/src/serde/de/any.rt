@@ -90,6 +90,8 @@ impl<S: Source> Deserializer<S> {
 impl Typed for Value {
     ghost reads = { ReadsAny };
 
+    ghost stops = { StopsAny };
+
     ghost same = { SameView };
 
     ghost never_empty = { true };

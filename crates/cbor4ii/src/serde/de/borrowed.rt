@@ -5,7 +5,8 @@ ghost use Rattle.cbor4ii_items.specs.Cow.{cow_text, cow_bytes, IsBorrowedBytes, 
 ghost use Rattle.cbor4ii_items.specs.Lent.{lent_str, lent_bytes};
 ghost use Rattle.cbor4ii_items.specs.Laws.Lent.{lent_one, lent_within, lent_positive};
 ghost use Rattle.cbor4ii_items.specs.Laws.Strings.{two_small, three_small};
-ghost use Rattle.cbor4ii.specs.Borrowed.{Borrows};
+ghost use Rattle.cbor4ii_items.specs.Strings.{ReadsAs, ReadsTextAs, StopsString, StopsText};
+ghost use Rattle.cbor4ii.specs.Borrowed.{Borrows, StopsUnlent};
 
 use crate::serde::de::deserialize::{Deserialize, Typed};
 use crate::serde::de::deserializer::Deserializer;
@@ -24,6 +25,8 @@ use std::io::BufRead;
 
 impl<'de> Typed for &'de str {
     ghost reads = { ⟦<&'de str as Spelled>⟧.reads };
+
+    ghost stops = { StopsUnlent (codes "str") (ReadsTextAs cow_text) (StopsText (codes "str")) };
 
     ghost same = { ⟦<&'de str as Spelled>⟧.same };
 
@@ -104,6 +107,9 @@ fn lent_text<'de, E>(
 
 impl<'de> Typed for Bytes<&'de [u8]> {
     ghost reads = { ⟦<Bytes<&'de [u8]> as Spelled>⟧.reads };
+
+    ghost stops = { StopsUnlent (codes "bytes") (ReadsAs 2 cow_bytes)
+        (StopsString (codes "bytes") 2) };
 
     ghost same = { ⟦<Bytes<&'de [u8]> as Spelled>⟧.same };
 

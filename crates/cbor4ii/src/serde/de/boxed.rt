@@ -11,6 +11,8 @@ use std::alloc::Global;
 impl<T: Typed> Typed for Box<T> {
     ghost reads = { λ xs b. T.reads xs b.value };
 
+    ghost stops = { T.stops };
+
     ghost same = { λ b c. T.same b.value c.value };
 
     ghost never_empty = { T.never_empty };

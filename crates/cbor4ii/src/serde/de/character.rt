@@ -14,6 +14,8 @@ use std::alloc::Global;
 impl Typed for char {
     ghost reads = { ReadsChar };
 
+    ghost stops = { StopsChar };
+
     ghost same = { λ v w. v ≡ w };
 
     ghost never_empty = { true };

@@ -29,6 +29,8 @@ use std::io::BufRead;
 impl<'de> Typed for CowStr<'de, Global> {
     ghost reads = { ⟦<CowStr<'de, Global> as Spelled>⟧.reads };
 
+    ghost stops = { ⟦<CowStr<'de, Global> as Spelled>⟧.stops };
+
     ghost same = { ⟦<CowStr<'de, Global> as Spelled>⟧.same };
 
     ghost never_empty = { true };
@@ -87,6 +89,8 @@ impl<'de, R: BufRead + Drop> Deserialize<IoReader<R>> for CowStr<'de, Global> {
 
 impl<'de> Typed for Bytes<CowSlice<'de, u8, Global>> {
     ghost reads = { ⟦<Bytes<CowSlice<'de, u8, Global>> as Spelled>⟧.reads };
+
+    ghost stops = { ⟦<Bytes<CowSlice<'de, u8, Global>> as Spelled>⟧.stops };
 
     ghost same = { ⟦<Bytes<CowSlice<'de, u8, Global>> as Spelled>⟧.same };
 

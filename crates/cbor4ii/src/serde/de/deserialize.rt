@@ -1,7 +1,7 @@
 //! What reading a typed value is.
 ghost use Rattle.std.specs.Prelude.{◌≡◌, ◌+◌, ◌≤◌, Bool, OnOk, IfOk, IfErr, IsTrue};
 ghost use Rattle.cbor4ii_items.specs.Moves.{Moves};
-ghost use Rattle.cbor4ii_items.specs.Decoding.{Reads, IsExact, Sound, Refuses};
+ghost use Rattle.cbor4ii_items.specs.Decoding.{Reads, StopsAt, IsExact, Sound, Refuses, Stops};
 ghost use Rattle.cbor4ii_items.specs.Refusal.{is_out_of_memory};
 ghost use Rattle.cbor4ii.specs.Typed.{input, answer_of, as_core, Lawful};
 
@@ -19,6 +19,10 @@ pub trait Typed: Sized {
 
     // The two values mean the same.
     ghost same: { Self → Self → Type 0 };
+
+    // How bytes are refused: the bytes to come, the budget, the refusal, and the bytes that are
+    // left then. A type that is not exact owes nothing of it.
+    ghost stops: { StopsAt };
 
     // No reading is empty.
     ghost never_empty: { Bool };
@@ -62,7 +66,8 @@ pub trait Deserialize<S: Source>: Typed {
     /// was refused. Every other error speaks of the bytes, and `Core` of `DepthOverflow` comes only
     /// where the reader has a budget. Of an exact type, if it needs no borrowed part, or the reader
     /// lends whole and has fewer than 2^64 bytes left, they come only where no value of the type
-    /// whose steps fit the budget begins the bytes.
+    /// whose steps fit the budget begins the bytes. Which error of an exact type it is, with which
+    /// fields, and which bytes are left, is what the type's `stops` says.
     fn deserialize(alloc: Global, de: &mut Deserializer<S>) -> Result<Self, DecodeError<S::Error>>
         ensures moves { Moves (input S.view de.old) (input S.view de.new) (answer_of result) }
         ensures progress { IsTrue Self.never_empty →
@@ -73,5 +78,7 @@ pub trait Deserialize<S: Source>: Typed {
             (Sound Self.reads (input S.view de.old) (input S.view de.new)) }
         ensures complete { IsTrue Self.exact → IsExact Self.owned (input S.view de.old) →
             IfErr result
-            (λ error. Refuses Self.reads (input S.view de.old) (as_core error)) };
+            (λ error. Refuses Self.reads (input S.view de.old) (as_core error)) }
+        ensures stops { IsTrue Self.exact → IfErr result (λ error.
+            Stops Self.stops (input S.view de.old) (input S.view de.new) (as_core error)) };
 }

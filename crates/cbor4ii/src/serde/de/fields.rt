@@ -31,7 +31,7 @@ ghost use Rattle.cbor4ii_items.specs.Sequences.{
   StopsUpToBreak,
   StopsInside,
 };
-ghost use Rattle.cbor4ii.specs.Beginning.{unsaid_stops, StopsParts};
+ghost use Rattle.cbor4ii.specs.Beginning.{StopsParts};
 ghost use Rattle.cbor4ii.specs.Fields.{
   ReadsNamed,
   no_field,
@@ -49,7 +49,7 @@ ghost use Rattle.cbor4ii.specs.Fields.{
   StopsFields,
   fields_by_laws,
 };
-ghost use Rattle.cbor4ii.specs.Typed.{input, answer_of, as_core};
+ghost use Rattle.cbor4ii.specs.Typed.{input, answer_of, as_core, unsaid_stops};
 
 use crate::serde::de::deserialize::{Deserialize, Typed};
 use crate::serde::de::deserializer::Deserializer;
@@ -181,7 +181,8 @@ fn take_fields<S: Source, V: Values<S>>(
         (λ error. Refuses (ReadsSequence 5 (ReadsEntry (V.named names.now)) true)
         (input S.view de.old) (as_core error)) }
     ensures stops { IfErr result (λ error. Stops
-        (StopsParts (codes "map") (codes "map") 5 (ReadsEntry (V.named names.now)) true)
+        (StopsParts (codes "map") (codes "map") 5 (ReadsEntry (V.named names.now)) unsaid_stops
+        true)
         (input S.view de.old) (input S.view de.new) (as_core error)) }
 {
     if !de.reader.step_in() {

@@ -30,6 +30,8 @@ use std::alloc::Global;
 impl Typed for IgnoredAny {
     ghost reads = { ⟦<IgnoredAny as Spelled>⟧.reads };
 
+    ghost stops = { ⟦<IgnoredAny as Spelled>⟧.stops };
+
     ghost same = { ⟦<IgnoredAny as Spelled>⟧.same };
 
     ghost never_empty = { true };

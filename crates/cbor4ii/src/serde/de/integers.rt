@@ -25,6 +25,8 @@ use std::alloc::Global;
 impl Typed for u8 {
     ghost reads = { ⟦<u8 as Spelled>⟧.reads };
 
+    ghost stops = { ⟦<u8 as Spelled>⟧.stops };
+
     ghost same = { ⟦<u8 as Spelled>⟧.same };
 
     ghost never_empty = { true };
@@ -58,6 +60,8 @@ impl<S: Source> Deserialize<S> for u8 {
 
 impl Typed for u16 {
     ghost reads = { ⟦<u16 as Spelled>⟧.reads };
+
+    ghost stops = { ⟦<u16 as Spelled>⟧.stops };
 
     ghost same = { ⟦<u16 as Spelled>⟧.same };
 
@@ -93,6 +97,8 @@ impl<S: Source> Deserialize<S> for u16 {
 impl Typed for u32 {
     ghost reads = { ⟦<u32 as Spelled>⟧.reads };
 
+    ghost stops = { ⟦<u32 as Spelled>⟧.stops };
+
     ghost same = { ⟦<u32 as Spelled>⟧.same };
 
     ghost never_empty = { true };
@@ -126,6 +132,8 @@ impl<S: Source> Deserialize<S> for u32 {
 
 impl Typed for u64 {
     ghost reads = { ⟦<u64 as Spelled>⟧.reads };
+
+    ghost stops = { ⟦<u64 as Spelled>⟧.stops };
 
     ghost same = { ⟦<u64 as Spelled>⟧.same };
 
@@ -161,6 +169,8 @@ impl<S: Source> Deserialize<S> for u64 {
 impl Typed for u128 {
     ghost reads = { ⟦<u128 as Spelled>⟧.reads };
 
+    ghost stops = { ⟦<u128 as Spelled>⟧.stops };
+
     ghost same = { ⟦<u128 as Spelled>⟧.same };
 
     ghost never_empty = { true };
@@ -194,6 +204,8 @@ impl<S: Source> Deserialize<S> for u128 {
 
 impl Typed for i8 {
     ghost reads = { ⟦<i8 as Spelled>⟧.reads };
+
+    ghost stops = { ⟦<i8 as Spelled>⟧.stops };
 
     ghost same = { ⟦<i8 as Spelled>⟧.same };
 
@@ -229,6 +241,8 @@ impl<S: Source> Deserialize<S> for i8 {
 impl Typed for i16 {
     ghost reads = { ⟦<i16 as Spelled>⟧.reads };
 
+    ghost stops = { ⟦<i16 as Spelled>⟧.stops };
+
     ghost same = { ⟦<i16 as Spelled>⟧.same };
 
     ghost never_empty = { true };
@@ -262,6 +276,8 @@ impl<S: Source> Deserialize<S> for i16 {
 
 impl Typed for i32 {
     ghost reads = { ⟦<i32 as Spelled>⟧.reads };
+
+    ghost stops = { ⟦<i32 as Spelled>⟧.stops };
 
     ghost same = { ⟦<i32 as Spelled>⟧.same };
 
@@ -297,6 +313,8 @@ impl<S: Source> Deserialize<S> for i32 {
 impl Typed for i64 {
     ghost reads = { ⟦<i64 as Spelled>⟧.reads };
 
+    ghost stops = { ⟦<i64 as Spelled>⟧.stops };
+
     ghost same = { ⟦<i64 as Spelled>⟧.same };
 
     ghost never_empty = { true };
@@ -330,6 +348,8 @@ impl<S: Source> Deserialize<S> for i64 {
 
 impl Typed for i128 {
     ghost reads = { ⟦<i128 as Spelled>⟧.reads };
+
+    ghost stops = { ⟦<i128 as Spelled>⟧.stops };
 
     ghost same = { ⟦<i128 as Spelled>⟧.same };
 

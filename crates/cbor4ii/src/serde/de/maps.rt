@@ -20,9 +20,9 @@ ghost use Rattle.cbor4ii_items.specs.Laws.Containers.{both};
 ghost use Rattle.cbor4ii_items.specs.Decoding.{IsExact, Sound, Refuses, Stops};
 ghost use Rattle.cbor4ii_items.specs.Moves.{Moves};
 ghost use Rattle.cbor4ii_items.specs.Refusal.{is_out_of_memory};
-ghost use Rattle.cbor4ii_items.specs.Sequences.{ReadsPair, SamePair};
+ghost use Rattle.cbor4ii_items.specs.Sequences.{ReadsPair, StopsPair, SamePair};
 ghost use Rattle.cbor4ii.specs.Beginning.{StopsParts};
-ghost use Rattle.cbor4ii.specs.Typed.{input, answer_of, as_core};
+ghost use Rattle.cbor4ii.specs.Typed.{input, answer_of, as_core, said};
 ghost use Rattle.cbor4ii.specs.Built.{built, ReadsBTreeMap, SameBTreeMap, btree_laws};
 ghost use Rattle.cbor4ii.specs.Tuples.{pair_laws};
 ghost use Rattle.cbor4ii.specs.Sequence.{five_small};
@@ -41,6 +41,10 @@ use std::collections::BTreeMap;
 
 impl<K: Typed + Ord, V: Typed> Typed for BTreeMap<K, V> {
     ghost reads = { ReadsBTreeMap (λ m. m.entries) K.cmp K.reads V.reads
+        (K.never_empty || V.never_empty) };
+
+    ghost stops = { StopsParts (codes "map") (codes "map") 5 (ReadsPair K.reads V.reads)
+        (StopsPair K.reads (said K.exact K.stops) (said V.exact V.stops))
         (K.never_empty || V.never_empty) };
 
     ghost same = { SameBTreeMap (λ m. m.entries) K.cmp K.same V.same };
@@ -72,6 +76,8 @@ impl<S: Source, K: Deserialize<S> + Ord + Drop, V: Deserialize<S> + Drop> Sequen
     type Part = (K, V);
 
     ghost reads = { ReadsPair K.reads V.reads };
+
+    ghost stops = { StopsPair K.reads (said K.exact K.stops) (said V.exact V.stops) };
 
     ghost same = { SamePair K.same V.same };
 
@@ -133,7 +139,9 @@ impl<S: Source, K: Deserialize<S> + Ord + Drop, V: Deserialize<S> + Drop> Deseri
             (ReadsBTreeMap (λ (m : BTreeMap K V Global). m.entries) K.cmp K.reads V.reads
             (K.never_empty || V.never_empty)) (input S.view de.old) (as_core error)) }
         ensures stops { IfErr result (λ error. Stops (StopsParts (codes "map") (codes "map") 5
-            (ReadsPair K.reads V.reads) (K.never_empty || V.never_empty))
+            (ReadsPair K.reads V.reads)
+            (StopsPair K.reads (said K.exact K.stops) (said V.exact V.stops))
+            (K.never_empty || V.never_empty))
             (input S.view de.old) (input S.view de.new) (as_core error)) }
     {
         match take_sequence::<S, BTreeMap<K, V>>(alloc, de, "map") {

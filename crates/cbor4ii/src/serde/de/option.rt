@@ -4,8 +4,8 @@ ghost use Rattle.cbor4ii_items.specs.Containers.{ReadsOption, SameOption};
 ghost use Rattle.cbor4ii_items.specs.Decoding.{IsExact, Sound, Refuses, Stops};
 ghost use Rattle.cbor4ii_items.specs.Moves.{Moves};
 ghost use Rattle.cbor4ii_items.specs.Refusal.{is_out_of_memory};
-ghost use Rattle.cbor4ii.specs.Beginning.{BeginsOption};
-ghost use Rattle.cbor4ii.specs.Typed.{input, answer_of, as_core};
+ghost use Rattle.cbor4ii.specs.Beginning.{StopsPresent};
+ghost use Rattle.cbor4ii.specs.Typed.{input, answer_of, as_core, said};
 ghost use Rattle.cbor4ii.specs.Stepped.{Stepped, stepped_laws, option_laws};
 
 use crate::serde::de::deserialize::{Deserialize, Typed};
@@ -19,6 +19,8 @@ use std::alloc::Global;
 
 impl<T: Typed> Typed for Option<T> {
     ghost reads = { ReadsOption (Stepped T.reads) };
+
+    ghost stops = { StopsPresent (said T.exact T.stops) };
 
     ghost same = { SameOption T.same };
 
@@ -63,7 +65,7 @@ impl<S: Source, T: Deserialize<S>> Deserialize<S> for Option<T> {
         ensures complete { IsTrue T.exact → IsExact T.owned (input S.view de.old) →
             IfErr result (λ error. Refuses (ReadsOption (Stepped T.reads))
             (input S.view de.old) (as_core error)) }
-        ensures begins { IfErr result (λ error. Stops BeginsOption
+        ensures stops { IfErr result (λ error. Stops (StopsPresent (said T.exact T.stops))
             (input S.view de.old) (input S.view de.new) (as_core error)) }
     {
         match peek(&mut de.reader, "option") {

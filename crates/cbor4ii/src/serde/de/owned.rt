@@ -22,6 +22,8 @@ use std::alloc::Global;
 impl Typed for String {
     ghost reads = { ⟦<String as Spelled>⟧.reads };
 
+    ghost stops = { ⟦<String as Spelled>⟧.stops };
+
     ghost same = { ⟦<String as Spelled>⟧.same };
 
     ghost never_empty = { true };
@@ -58,6 +60,8 @@ impl<S: Source> Deserialize<S> for String {
 
 impl Typed for Bytes<Vec<u8>> {
     ghost reads = { ⟦<Bytes<Vec<u8>> as Spelled>⟧.reads };
+
+    ghost stops = { ⟦<Bytes<Vec<u8>> as Spelled>⟧.stops };
 
     ghost same = { ⟦<Bytes<Vec<u8>> as Spelled>⟧.same };
 

@@ -16,7 +16,7 @@ ghost use Rattle.std.specs.Prelude.{
   IsTrue,
 };
 ghost use Rattle.cbor4ii_items.specs.Moves.{Moves};
-ghost use Rattle.cbor4ii_items.specs.Decoding.{IsExact, Sound, Refuses, Stops};
+ghost use Rattle.cbor4ii_items.specs.Decoding.{StopsAt, IsExact, Sound, Refuses, Stops};
 ghost use Rattle.cbor4ii_items.specs.Lengths.{ReadsLength, StopsLength};
 ghost use Rattle.cbor4ii_items.specs.Reading.{Runs};
 ghost use Rattle.cbor4ii_items.specs.ReadStrings.{break_at};
@@ -31,7 +31,7 @@ ghost use Rattle.cbor4ii_items.specs.Sequences.{
   StopsInside,
   AddsPart,
 };
-ghost use Rattle.cbor4ii.specs.Beginning.{unsaid_stops, StopsParts};
+ghost use Rattle.cbor4ii.specs.Beginning.{StopsParts};
 ghost use Rattle.cbor4ii.specs.Typed.{input, answer_of, as_core, Lawful};
 
 use crate::serde::de::deserializer::Deserializer;
@@ -52,6 +52,9 @@ pub(crate) trait Sequence<S: Source>: Sized {
 
     // What a part is read as.
     ghost reads: { List ℕ → Self.Part → ℕ → ℕ → Type 0 };
+
+    // How a part is refused.
+    ghost stops: { StopsAt };
 
     ghost same: { Self.Part → Self.Part → Type 0 };
 
@@ -95,7 +98,9 @@ pub(crate) trait Sequence<S: Source>: Sized {
         ensures sound { IfOk result (Sound Self.reads (input S.view de.old) (input S.view de.new)) }
         ensures complete { IsTrue Self.exact → IsExact Self.owned (input S.view de.old) →
             IfErr result
-            (λ error. Refuses Self.reads (input S.view de.old) (as_core error)) };
+            (λ error. Refuses Self.reads (input S.view de.old) (as_core error)) }
+        ensures stops { IfErr result (λ error.
+            Stops Self.stops (input S.view de.old) (input S.view de.new) (as_core error)) };
 
     ghost laws: { IsTrue Self.exact → Lawful Self.reads Self.same Self.never_empty };
 
@@ -116,7 +121,7 @@ pub(crate) fn take_sequence<S: Source, Q: Sequence<S>>(
         IfErr result (λ error. Refuses (ReadsSequence Q.major Q.reads Q.never_empty)
         (input S.view de.old) (as_core error)) }
     ensures stops { IfErr result (λ error.
-        Stops (StopsParts step.now Q.name Q.major Q.reads Q.never_empty)
+        Stops (StopsParts step.now Q.name Q.major Q.reads Q.stops Q.never_empty)
         (input S.view de.old) (input S.view de.new) (as_core error)) }
 {
     if !de.reader.step_in() {
@@ -140,7 +145,7 @@ fn take_inside<S: Source, Q: Sequence<S>>(
         IfErr result (λ error.
         Refuses (ReadsInside Q.major Q.reads Q.never_empty) (input S.view de.old) (as_core error)) }
     ensures stops { IfErr result (λ error.
-        Stops (StopsInside Q.name Q.major Q.reads unsaid_stops Q.never_empty)
+        Stops (StopsInside Q.name Q.major Q.reads Q.stops Q.never_empty)
         (input S.view de.old) (input S.view de.new) (as_core error)) }
 {
     match Q::take_length(&mut de.reader) {
@@ -162,7 +167,7 @@ fn take_counted<S: Source, Q: Sequence<S>>(
     ensures complete { IsTrue Q.exact → IsExact Q.owned (input S.view de.old) →
         IfErr result (λ error.
         Refuses (ReadsCount Q.reads count) (input S.view de.old) (as_core error)) }
-    ensures stops { IfErr result (λ error. Stops (StopsCount Q.reads unsaid_stops count)
+    ensures stops { IfErr result (λ error. Stops (StopsCount Q.reads Q.stops count)
         (input S.view de.old) (input S.view de.new) (as_core error)) }
 {
     let mut parts = Vec::new(alloc);
@@ -187,7 +192,7 @@ fn take_open<S: Source, Q: Sequence<S>>(
         IfErr result (λ error.
         Refuses (ReadsUpToBreak Q.reads Q.never_empty) (input S.view de.old) (as_core error)) }
     ensures stops { IfErr result (λ error.
-        Stops (StopsUpToBreak Q.name Q.reads unsaid_stops Q.never_empty)
+        Stops (StopsUpToBreak Q.name Q.reads Q.stops Q.never_empty)
         (input S.view de.old) (input S.view de.new) (as_core error)) }
 {
     let mut parts = Vec::new(alloc);
@@ -228,6 +233,8 @@ fn add_part<S: Source, Q: Sequence<S>>(
         (input S.view de.old) (input S.view de.new)) }
     ensures complete { IsTrue Q.exact → IsExact Q.owned (input S.view de.old) →
         IfErr result (λ error. Refuses Q.reads (input S.view de.old) (as_core error)) }
+    ensures stops { IfErr result (λ error.
+        Stops Q.stops (input S.view de.old) (input S.view de.new) (as_core error)) }
 {
     let part = Q::take_part(alloc, de)?;
     match parts.push(part) {

@@ -14,6 +14,8 @@ use std::alloc::Global;
 impl Typed for bool {
     ghost reads = { ⟦<bool as Spelled>⟧.reads };
 
+    ghost stops = { ⟦<bool as Spelled>⟧.stops };
+
     ghost same = { ⟦<bool as Spelled>⟧.same };
 
     ghost never_empty = { true };
@@ -47,6 +49,8 @@ impl<S: Source> Deserialize<S> for bool {
 
 impl Typed for F16 {
     ghost reads = { ⟦<F16 as Spelled>⟧.reads };
+
+    ghost stops = { ⟦<F16 as Spelled>⟧.stops };
 
     ghost same = { ⟦<F16 as Spelled>⟧.same };
 
@@ -82,6 +86,8 @@ impl<S: Source> Deserialize<S> for F16 {
 impl Typed for F32 {
     ghost reads = { ⟦<F32 as Spelled>⟧.reads };
 
+    ghost stops = { ⟦<F32 as Spelled>⟧.stops };
+
     ghost same = { ⟦<F32 as Spelled>⟧.same };
 
     ghost never_empty = { true };
@@ -115,6 +121,8 @@ impl<S: Source> Deserialize<S> for F32 {
 
 impl Typed for F64 {
     ghost reads = { ⟦<F64 as Spelled>⟧.reads };
+
+    ghost stops = { ⟦<F64 as Spelled>⟧.stops };
 
     ghost same = { ⟦<F64 as Spelled>⟧.same };
 

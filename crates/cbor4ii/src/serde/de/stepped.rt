@@ -3,8 +3,7 @@ ghost use Rattle.std.specs.Prelude.{◌≡◌, ◌+◌, ◌≤◌, OnOk, IfOk, I
 ghost use Rattle.cbor4ii_items.specs.Moves.{Moves};
 ghost use Rattle.cbor4ii_items.specs.Refusal.{is_out_of_memory};
 ghost use Rattle.cbor4ii_items.specs.Decoding.{IsExact, Sound, Refuses, Stops};
-ghost use Rattle.cbor4ii.specs.Typed.{input, answer_of, as_core};
-ghost use Rattle.cbor4ii.specs.Beginning.{unsaid_stops};
+ghost use Rattle.cbor4ii.specs.Typed.{input, answer_of, as_core, said};
 ghost use Rattle.cbor4ii.specs.Stepped.{Stepped, StopsStepped};
 
 use crate::serde::de::deserialize::{Deserialize, Typed};
@@ -31,7 +30,8 @@ pub(crate) fn under_step<S: Source, T: Deserialize<S>>(
     ensures complete { IsTrue T.exact → IsExact T.owned (input S.view de.old) →
         IfErr result
         (λ error. Refuses (Stepped T.reads) (input S.view de.old) (as_core error)) }
-    ensures begins { IfErr result (λ error. Stops (StopsStepped name.now unsaid_stops)
+    ensures stops { IfErr result (λ error.
+        Stops (StopsStepped name.now (said T.exact T.stops))
         (input S.view de.old) (input S.view de.new) (as_core error)) }
 {
     if !de.reader.step_in() {

@@ -15,10 +15,10 @@ ghost use Rattle.std.specs.Prelude.{
 ghost use Rattle.cbor4ii_items.specs.Moves.{Moves};
 ghost use Rattle.cbor4ii_items.specs.Refusal.{is_out_of_memory};
 ghost use Rattle.cbor4ii_items.specs.Decoding.{IsExact, Sound, Refuses, Stops};
-ghost use Rattle.cbor4ii_items.specs.Sequences.{ReadsPair, SamePair};
+ghost use Rattle.cbor4ii_items.specs.Sequences.{ReadsPair, StopsPair, SamePair};
 ghost use Rattle.cbor4ii_items.specs.Laws.Containers.{both};
-ghost use Rattle.cbor4ii.specs.Typed.{input, answer_of, as_core};
-ghost use Rattle.cbor4ii.specs.Beginning.{StopsFirst, BeginsTuple};
+ghost use Rattle.cbor4ii.specs.Typed.{input, answer_of, as_core, said};
+ghost use Rattle.cbor4ii.specs.Beginning.{StopsTuple};
 ghost use Rattle.cbor4ii.specs.Stepped.{Stepped, stepped_laws};
 ghost use Rattle.cbor4ii.specs.Tuples.{
   ReadsBehind,
@@ -42,6 +42,9 @@ use std::alloc::Global;
 
 impl<A: Typed, B: Typed> Typed for (A, B) {
     ghost reads = { Stepped (ReadsBehind 2 (ReadsPair A.reads B.reads)) };
+
+    ghost stops = { StopsTuple 2
+        (StopsPair A.reads (said A.exact A.stops) (said B.exact B.stops)) };
 
     ghost same = { SamePair A.same B.same };
 
@@ -84,7 +87,8 @@ impl<S: Source, A: Deserialize<S> + Drop, B: Deserialize<S>> Deserialize<S> for 
             IsExact (A.owned && B.owned) (input S.view de.old) → IfErr result
             (λ error. Refuses (Stepped (ReadsBehind 2 (ReadsPair A.reads B.reads)))
             (input S.view de.old) (as_core error)) }
-        ensures begins { IfErr result (λ error. Stops (BeginsTuple 2)
+        ensures stops { IfErr result (λ error. Stops (StopsTuple 2
+            (StopsPair A.reads (said A.exact A.stops) (said B.exact B.stops)))
             (input S.view de.old) (input S.view de.new) (as_core error)) }
     {
         if !de.reader.step_in() {
@@ -112,8 +116,8 @@ fn pair_behind<S: Source, A: Deserialize<S> + Drop, B: Deserialize<S>>(
         IsExact (A.owned && B.owned) (input S.view de.old) → IfErr result
         (λ error. Refuses (ReadsBehind 2 (ReadsPair A.reads B.reads))
         (input S.view de.old) (as_core error)) }
-    ensures begins { IfErr result
-        (λ error. Stops (StopsFirst (ReadsCountOf 2) (StopsCountOf 2))
+    ensures stops { IfErr result (λ error. Stops (StopsPair (ReadsCountOf 2) (StopsCountOf 2)
+        (StopsPair A.reads (said A.exact A.stops) (said B.exact B.stops)))
         (input S.view de.old) (input S.view de.new) (as_core error)) }
 {
     match take_count(&mut de.reader, 2) {
@@ -137,6 +141,9 @@ pub(crate) fn two_parts<S: Source, A: Deserialize<S> + Drop, B: Deserialize<S>>(
     ensures complete { IsTrue (A.exact && B.exact) →
         IsExact (A.owned && B.owned) (input S.view de.old) → IfErr result (λ error.
         Refuses (ReadsPair A.reads B.reads) (input S.view de.old) (as_core error)) }
+    ensures stops { IfErr result (λ error. Stops
+        (StopsPair A.reads (said A.exact A.stops) (said B.exact B.stops))
+        (input S.view de.old) (input S.view de.new) (as_core error)) }
 {
     let first = A::deserialize(alloc, de)?;
     match B::deserialize(alloc, de) {
@@ -179,6 +186,9 @@ pub(crate) fn take_count<S: Source>(
 
 impl<A: Typed, B: Typed, C: Typed> Typed for (A, B, C) {
     ghost reads = { Stepped (ReadsBehind 3 (ReadsTriple A.reads B.reads C.reads)) };
+
+    ghost stops = { StopsTuple 3 (StopsPair A.reads (said A.exact A.stops)
+        (StopsPair B.reads (said B.exact B.stops) (said C.exact C.stops))) };
 
     ghost same = { SameTriple A.same B.same C.same };
 
@@ -225,7 +235,9 @@ impl<S: Source, A: Deserialize<S> + Drop, B: Deserialize<S> + Drop, C: Deseriali
             IsExact (A.owned && (B.owned && C.owned)) (input S.view de.old) → IfErr result
             (λ error. Refuses (Stepped (ReadsBehind 3 (ReadsTriple A.reads B.reads C.reads)))
             (input S.view de.old) (as_core error)) }
-        ensures begins { IfErr result (λ error. Stops (BeginsTuple 3)
+        ensures stops { IfErr result (λ error. Stops (StopsTuple 3
+            (StopsPair A.reads (said A.exact A.stops)
+            (StopsPair B.reads (said B.exact B.stops) (said C.exact C.stops))))
             (input S.view de.old) (input S.view de.new) (as_core error)) }
     {
         if !de.reader.step_in() {
@@ -253,8 +265,9 @@ fn triple_behind<S: Source, A: Deserialize<S> + Drop, B: Deserialize<S> + Drop, 
         IsExact (A.owned && (B.owned && C.owned)) (input S.view de.old) → IfErr result
         (λ error. Refuses (ReadsBehind 3 (ReadsTriple A.reads B.reads C.reads))
         (input S.view de.old) (as_core error)) }
-    ensures begins { IfErr result
-        (λ error. Stops (StopsFirst (ReadsCountOf 3) (StopsCountOf 3))
+    ensures stops { IfErr result (λ error. Stops (StopsPair (ReadsCountOf 3) (StopsCountOf 3)
+        (StopsPair A.reads (said A.exact A.stops)
+        (StopsPair B.reads (said B.exact B.stops) (said C.exact C.stops))))
         (input S.view de.old) (input S.view de.new) (as_core error)) }
 {
     match take_count(&mut de.reader, 3) {
@@ -277,6 +290,9 @@ fn three_parts<S: Source, A: Deserialize<S> + Drop, B: Deserialize<S> + Drop, C:
         IsExact (A.owned && (B.owned && C.owned)) (input S.view de.old) → IfErr result
         (λ error. Refuses (ReadsTriple A.reads B.reads C.reads)
         (input S.view de.old) (as_core error)) }
+    ensures stops { IfErr result (λ error. Stops (StopsPair A.reads (said A.exact A.stops)
+        (StopsPair B.reads (said B.exact B.stops) (said C.exact C.stops)))
+        (input S.view de.old) (input S.view de.new) (as_core error)) }
 {
     let first = A::deserialize(alloc, de)?;
     match two_parts::<S, B, C>(alloc, de) {

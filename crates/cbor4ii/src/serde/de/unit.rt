@@ -32,6 +32,8 @@ const UNIT: u8 = 0x80;
 impl Typed for () {
     ghost reads = { ReadsUnit };
 
+    ghost stops = { StopsUnit };
+
     ghost same = { any_two };
 
     ghost never_empty = { true };

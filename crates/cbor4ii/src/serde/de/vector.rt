@@ -5,7 +5,7 @@ ghost use Rattle.cbor4ii_items.specs.Moves.{Moves};
 ghost use Rattle.cbor4ii_items.specs.Refusal.{is_out_of_memory};
 ghost use Rattle.cbor4ii_items.specs.Sequences.{ReadsArray, SameArray};
 ghost use Rattle.cbor4ii.specs.Beginning.{StopsParts};
-ghost use Rattle.cbor4ii.specs.Typed.{input, answer_of, as_core};
+ghost use Rattle.cbor4ii.specs.Typed.{input, answer_of, as_core, said};
 ghost use Rattle.cbor4ii.specs.Sequence.{four_small};
 ghost use Rattle.cbor4ii_items.specs.Laws.Sequences.{array_one, array_within, array_positive};
 
@@ -21,6 +21,9 @@ use std::alloc::Global;
 
 impl<T: Typed> Typed for Vec<T> {
     ghost reads = { ReadsArray T.reads T.never_empty };
+
+    ghost stops = { StopsParts (codes "seq") (codes "array") 4 T.reads (said T.exact T.stops)
+        T.never_empty };
 
     ghost same = { SameArray T.same };
 
@@ -51,6 +54,8 @@ impl<S: Source, T: Deserialize<S> + Drop> Sequence<S> for Vec<T> {
     type Part = T;
 
     ghost reads = { T.reads };
+
+    ghost stops = { said T.exact T.stops };
 
     ghost same = { T.same };
 
@@ -111,7 +116,8 @@ impl<S: Source, T: Deserialize<S> + Drop> Deserialize<S> for Vec<T> {
             IfErr result (λ error. Refuses (ReadsArray T.reads T.never_empty)
             (input S.view de.old) (as_core error)) }
         ensures stops { IfErr result (λ error.
-            Stops (StopsParts (codes "seq") (codes "array") 4 T.reads T.never_empty)
+            Stops (StopsParts (codes "seq") (codes "array") 4 T.reads (said T.exact T.stops)
+            T.never_empty)
             (input S.view de.old) (input S.view de.new) (as_core error)) }
     {
         take_sequence::<S, Vec<T>>(alloc, de, "seq")

@@ -3,9 +3,8 @@ use Rattle.std.proofs.lemmas.Result.{err_from_is_err_and}
 use Rattle.cbor4ii_items.specs.Laws.Steps.{moves_then, moves_err}
 use Rattle.cbor4ii_items.specs.Laws.Answering.{exact_kept}
 use Rattle.cbor4ii_items.specs.Laws.SequenceParts.{count_refuses}
-use Rattle.cbor4ii.specs.Beginning.{unsaid_stops}
 use Rattle.cbor4ii.specs.Fields.{ReadsEntry, entry_laws}
-use Rattle.cbor4ii.specs.Typed.{size_of}
+use Rattle.cbor4ii.specs.Typed.{size_of, unsaid_stops}
 use Rattle.cbor4ii.proofs.PartStops.{count_stops}
 use Rattle.cbor4ii.proofs.Beginnings.{unsaid_left}
 use Rattle.cbor4ii.proofs.Filling.{counted_more, counted_done}

@@ -3,7 +3,7 @@ use Rattle.std.specs.Prelude.{codes}
 use Rattle.cbor4ii_items.specs.Laws.Steps.{moves_then}
 use Rattle.cbor4ii_items.specs.Laws.Answering.{exact_kept}
 use Rattle.cbor4ii_items.specs.Laws.SequenceInside.{counts_of, opens_of, no_length}
-use Rattle.cbor4ii.specs.Beginning.{unsaid_stops}
+use Rattle.cbor4ii.specs.Typed.{unsaid_stops}
 use Rattle.cbor4ii.specs.Fields.{ReadsEntry}
 use Rattle.cbor4ii.proofs.PartStops.{head_stops, counted_stops, opened_stops}
 use Rattle.cbor4ii.proofs.Filling.{counted_fills, counted_refuses, opened_fills, opened_refuses}

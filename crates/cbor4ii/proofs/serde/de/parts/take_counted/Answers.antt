@@ -5,7 +5,6 @@ use Rattle.cbor4ii_items.specs.Laws.Answering.{exact_kept}
 use Rattle.cbor4ii_items.specs.Laws.SequenceParts.{count_more, count_done, count_refuses}
 use Rattle.cbor4ii.specs.Typed.{size_of}
 use Rattle.cbor4ii.proofs.PartStops.{count_stops}
-use Rattle.cbor4ii.proofs.Beginnings.{unsaid_left}
 use Rattle.cbor4ii.proofs.serde.de.parts.take_counted.Goals as goal
 
 pub returns-in_err-add_part-clause-moves : goal.returns-in_err-add_part-clause-moves
@@ -27,4 +26,4 @@ returns-clause-sound g c = count_done _ c.loop-i.invariant (omega (arith, c.loop
 pub returns-in_err-add_part-clause-stops : goal.returns-in_err-add_part-clause-stops
 returns-in_err-add_part-clause-stops g c =
     let p = err_from_is_err_and c.from_residual.result c.from_residual.ensures.1 in
-    rw (p.1, p.2) (count_stops _ _ c.loop-i.invariant c.loop-i-test.true (unsaid_left c.in_err-add_part.ensures.moves))
+    rw (p.1, p.2) (count_stops _ _ c.loop-i.invariant c.loop-i-test.true c.in_err-add_part.ensures.stops)

@@ -4,9 +4,7 @@ use Rattle.cbor4ii_items.specs.Laws.Steps.{moves_then, moves_err, kept_then}
 use Rattle.cbor4ii_items.specs.Laws.Answering.{exact_kept}
 use Rattle.cbor4ii_items.specs.Laws.SequenceParts.{stands, open_more, open_done, open_refuses, nothing_refuses, end_refuses}
 use Rattle.cbor4ii.specs.Typed.{size_of}
-use Rattle.cbor4ii.specs.Beginning.{unsaid_stops}
 use Rattle.cbor4ii.proofs.PartStops.{open_stops, nothing_stops, end_stops}
-use Rattle.cbor4ii.proofs.Beginnings.{unsaid_left}
 use Rattle.cbor4ii.proofs.serde.de.parts.take_open.Goals as goal
 
 pub returns-in_err-ends-clause-moves : goal.returns-in_err-ends-clause-moves
@@ -50,13 +48,13 @@ returns-clause-sound g c = open_done _ _ c.if-not-branch.false c.loop-parts.inva
 pub returns-in_err-ends-clause-stops : goal.returns-in_err-ends-clause-stops
 returns-in_err-ends-clause-stops g c =
     let p = err_from_is_err_and c.from_residual.result c.from_residual.ensures.1 in
-    rw (p.1, p.2) (end_stops g.Q.Sequence.reads unsaid_stops g.Q.Sequence.never_empty g.Q.Sequence.name c.loop-parts.invariant c.in_err-ends.ensures.runs)
+    rw (p.1, p.2) (end_stops g.Q.Sequence.reads g.Q.Sequence.stops g.Q.Sequence.never_empty g.Q.Sequence.name c.loop-parts.invariant c.in_err-ends.ensures.runs)
 
 pub returns-then-not-is_part_never_empty-clause-stops : goal.returns-then-not-is_part_never_empty-clause-stops
 returns-then-not-is_part_never_empty-clause-stops g c =
-    rw (sym c.name.ensures) (nothing_stops g.Q.Sequence.reads unsaid_stops g.Q.Sequence.never_empty c.name.result (sym c.if-not-is_part_never_empty.ensures) c.loop-parts.invariant (stands c.if-not-branch.true c.in_ok-ends.ensures.runs))
+    rw (sym c.name.ensures) (nothing_stops g.Q.Sequence.reads g.Q.Sequence.stops g.Q.Sequence.never_empty c.name.result (sym c.if-not-is_part_never_empty.ensures) c.loop-parts.invariant (stands c.if-not-branch.true c.in_ok-ends.ensures.runs))
 
 pub returns-in_err-add_part-clause-stops : goal.returns-in_err-add_part-clause-stops
 returns-in_err-add_part-clause-stops g c =
     let p = err_from_is_err_and c.from_residual-in_err-add_part.result c.from_residual-in_err-add_part.ensures.1 in
-    rw (p.1, p.2) (open_stops g.Q.Sequence.reads unsaid_stops g.Q.Sequence.never_empty g.Q.Sequence.name (sym c.if-not-is_part_never_empty.ensures) c.loop-parts.invariant (stands c.if-not-branch.true c.in_ok-ends.ensures.runs) (unsaid_left c.in_err-add_part.ensures.moves))
+    rw (p.1, p.2) (open_stops g.Q.Sequence.reads g.Q.Sequence.stops g.Q.Sequence.never_empty g.Q.Sequence.name (sym c.if-not-is_part_never_empty.ensures) c.loop-parts.invariant (stands c.if-not-branch.true c.in_ok-ends.ensures.runs) c.in_err-add_part.ensures.stops)

@@ -1,7 +1,7 @@
 use Rattle.cbor4ii_items.specs.Laws.UnderStep.{exact_step, moves_stepped}
 use Rattle.cbor4ii.specs.Typed.{answer_of}
 use Rattle.cbor4ii.proofs.Steps.{step_sound, step_refuses}
-use Rattle.cbor4ii.proofs.Beginnings.{step_stops, unsaid}
+use Rattle.cbor4ii.proofs.Beginnings.{step_stops, said_stops}
 use Rattle.cbor4ii.proofs.serde.de.stepped.under_step.Goals as goal
 
 pub returns-clause-moves : goal.returns-clause-moves
@@ -13,5 +13,5 @@ returns-clause-sound g c = step_sound c.deserialize-outcome.result _ _ _ c.if-no
 pub returns-clause-complete : goal.returns-clause-complete
 returns-clause-complete g c said exact = step_refuses c.deserialize-outcome.result _ _ _ c.if-not-step_in.ensures.budget c.step_in.ensures.others (c.deserialize-outcome.ensures.complete said (exact_step _ _ _ c.step_in.ensures.others exact))
 
-pub returns-clause-begins : goal.returns-clause-begins
-returns-clause-begins g c = step_stops _ _ c.deserialize-outcome.result c.if-not-step_in.ensures.budget c.step_in.ensures.others c.step_out.ensures.others (unsaid c.deserialize-outcome.result c.deserialize-outcome.ensures.moves)
+pub returns-clause-stops : goal.returns-clause-stops
+returns-clause-stops g c = step_stops _ _ c.deserialize-outcome.result c.if-not-step_in.ensures.budget c.step_in.ensures.others c.step_out.ensures.others (said_stops _ _ c.deserialize-outcome.result c.deserialize-outcome.ensures.moves c.deserialize-outcome.ensures.stops)

@@ -1,7 +1,8 @@
 use Rattle.cbor4ii_items.specs.Laws.Steps.{moves_then}
 use Rattle.cbor4ii_items.specs.Laws.Answering.{exact_kept}
 use Rattle.cbor4ii.proofs.Tupled.{behind_sound, behind_refuses, behind_no_head}
-use Rattle.cbor4ii.proofs.Beginnings.{first_head, first_behind}
+use Rattle.cbor4ii_items.specs.Laws.Pairs.{key_stops_pair}
+use Rattle.cbor4ii.proofs.Beginnings.{behind_stops}
 use Rattle.cbor4ii.proofs.serde.de.tuples.pair_behind.Goals as goal
 
 pub returns-in-Ok-clause-moves : goal.returns-in-Ok-clause-moves
@@ -17,8 +18,8 @@ returns-in-Ok-clause-complete g c said exact = behind_refuses _ _ c.two_parts.re
 pub returns-in-Err-clause-complete : goal.returns-in-Err-clause-complete
 returns-in-Err-clause-complete g c said exact = behind_no_head _ _ c.in-Err.ensures.complete
 
-pub returns-in-Ok-clause-begins : goal.returns-in-Ok-clause-begins
-returns-in-Ok-clause-begins g c = first_behind _ _ c.two_parts.result c.in-Ok.ensures.sound (moves_then c.in-Ok.ensures.moves.by c.two_parts.ensures.moves)
+pub returns-in-Ok-clause-stops : goal.returns-in-Ok-clause-stops
+returns-in-Ok-clause-stops g c = behind_stops _ _ _ c.two_parts.result _ c.in-Ok.ensures.moves.by c.in-Ok.ensures.sound c.two_parts.ensures.stops
 
-pub returns-in-Err-clause-begins : goal.returns-in-Err-clause-begins
-returns-in-Err-clause-begins g c = first_head _ _ c.in-Err.ensures.stops
+pub returns-in-Err-clause-stops : goal.returns-in-Err-clause-stops
+returns-in-Err-clause-stops g c = key_stops_pair _ _ _ c.in-Err.ensures.stops

@@ -1,8 +1,9 @@
 use Rattle.std.proofs.lemmas.Result.{err_from_is_err_and}
 use Rattle.cbor4ii_items.specs.Laws.Steps.{moves_then, moves_ok, moves_err}
 use Rattle.cbor4ii_items.specs.Laws.Answering.{exact_kept}
-use Rattle.cbor4ii_items.specs.Laws.Pairs.{exact_both, pair_sound, key_refuses, value_refuses}
+use Rattle.cbor4ii_items.specs.Laws.Pairs.{exact_both, pair_sound, key_refuses, value_refuses, key_stops_pair, value_stops_pair}
 use Rattle.cbor4ii_items.specs.Laws.Containers.{both}
+use Rattle.cbor4ii.proofs.Beginnings.{said_left}
 use Rattle.cbor4ii.proofs.serde.de.tuples.two_parts.Goals as goal
 
 pub returns-in_err-first-clause-complete : goal.returns-in_err-first-clause-complete
@@ -24,3 +25,11 @@ returns-in-Err-clause-complete g c said exact =
     let b = both g.A.Typed.exact g.B.Typed.exact said in
     value_refuses _ _ _ (g.met.A.Typed.laws b.0).one c.in_ok-first.ensures.moves.by c.in_ok-first.ensures.sound
     (λ xs told. c.in-Err.ensures.complete b.1 (exact_kept _ _ _ xs told c.in_ok-first.ensures.moves.by (exact_both _ _ (g.S.Source.view c.args.de.now.reader) exact).1))
+
+pub returns-in_err-first-clause-stops : goal.returns-in_err-first-clause-stops
+returns-in_err-first-clause-stops g c =
+    let p = err_from_is_err_and c.from_residual.result c.from_residual.ensures.1 in
+    rw (p.1, p.2) (key_stops_pair _ _ _ (said_left _ _ c.in_err-first.ensures.moves c.in_err-first.ensures.stops))
+
+pub returns-in-Err-clause-stops : goal.returns-in-Err-clause-stops
+returns-in-Err-clause-stops g c = value_stops_pair _ _ _ c.in_ok-first.ensures.moves.by c.in_ok-first.ensures.sound (λ xs told. (said_left _ _ c.in-Err.ensures.moves c.in-Err.ensures.stops))

@@ -1,6 +1,6 @@
 use Rattle.std.proofs.Common.{refl, inl}
 use Rattle.cbor4ii_items.specs.Laws.Strings.{two_small}
-use Rattle.cbor4ii.proofs.Borrowing.{lent_moves, lent_progress, lent_sound, lent_refuses, bytes_apart, bytes_counted, bytes_lent, bytes_spelled}
+use Rattle.cbor4ii.proofs.Borrowing.{lent_moves, lent_progress, lent_stops, lent_sound, lent_refuses, bytes_apart, bytes_counted, bytes_lent, bytes_spelled}
 use Rattle.cbor4ii.proofs.serde.de.borrowed.BytesRefSliceU8DeserializeIoReader.deserialize.Goals as goal
 
 pub returns-clause-moves : goal.returns-clause-moves
@@ -14,3 +14,6 @@ returns-clause-sound g c = lent_sound _ _ _ _ _ _ _ _ bytes_counted bytes_apart 
 
 pub returns-clause-complete : goal.returns-clause-complete
 returns-clause-complete g c said exact = lent_refuses _ _ _ _ _ _ _ _ bytes_counted two_small bytes_apart bytes_lent bytes_spelled c.decode-found.result c.lent_slice.result _ c.lent_slice.ensures (c.decode-found.ensures.complete (inl refl)) c.decode-found.ensures.borrows exact
+
+pub returns-clause-stops : goal.returns-clause-stops
+returns-clause-stops g c said = lent_stops _ _ _ _ _ _ _ c.decode-found.result c.lent_slice.result _ _ c.lent_slice.ensures c.decode-found.ensures.sound c.decode-found.ensures.begins

@@ -1,10 +1,9 @@
 use Rattle.std.proofs.Common.{refl, inl, inr, rules}
 use Rattle.cbor4ii_items.specs.Laws.Steps.{moves_then, moves_ok, moves_err}
 use Rattle.cbor4ii_items.specs.Laws.Answering.{exact_kept}
+use Rattle.cbor4ii.specs.Typed.{said}
 use Rattle.cbor4ii.proofs.Looking.{kept_next, saw, some_sound, some_refuses, no_option, null_sound}
 use Rattle.std.specs.Prelude.{codes}
-use Rattle.cbor4ii_items.specs.Decoding.{StopsAt}
-use Rattle.cbor4ii.specs.Beginning.{unsaid_stops}
 use Rattle.cbor4ii.specs.Stepped.{StopsStepped}
 use Rattle.cbor4ii.proofs.Beginnings.{option_stops, option_ended}
 use Rattle.cbor4ii.proofs.serde.de.option.OptionDeserialize.deserialize.Goals.{then-first-via-then-first, then-first-via-else-first+then-first-2}
@@ -36,11 +35,8 @@ returns-in-Err-under_step-clause-complete g c said exact = some_refuses _ (saw c
 pub returns-in-Err-clause-complete : goal.returns-in-Err-clause-complete
 returns-in-Err-clause-complete g c said exact = no_option _ c.in-Err.ensures.complete
 
-abbrev under : StopsAt
-under = StopsStepped (codes "option") unsaid_stops
+pub returns-in-Err-under_step-clause-stops : goal.returns-in-Err-under_step-clause-stops
+returns-in-Err-under_step-clause-stops g c = option_stops _ (saw c.in-Ok.ensures.moves c.in-Ok.ensures.sound) c.in-Err-under_step.ensures.stops
 
-pub returns-in-Err-under_step-clause-begins : goal.returns-in-Err-under_step-clause-begins
-returns-in-Err-under_step-clause-begins g c = option_stops under (saw c.in-Ok.ensures.moves c.in-Ok.ensures.sound) c.in-Err-under_step.ensures.begins
-
-pub returns-in-Err-clause-begins : goal.returns-in-Err-clause-begins
-returns-in-Err-clause-begins g c = option_ended under c.in-Err.ensures.stops
+pub returns-in-Err-clause-stops : goal.returns-in-Err-clause-stops
+returns-in-Err-clause-stops g c = option_ended (StopsStepped (codes "option") (said g.T.Typed.exact g.T.Typed.stops)) c.in-Err.ensures.stops

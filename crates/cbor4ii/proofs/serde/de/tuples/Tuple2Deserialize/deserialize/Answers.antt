@@ -13,5 +13,5 @@ returns-clause-sound g c = step_sound c.pair_behind-outcome.result _ _ _ c.if-no
 pub returns-clause-complete : goal.returns-clause-complete
 returns-clause-complete g c said exact = step_refuses c.pair_behind-outcome.result _ _ _ c.if-not-step_in.ensures.budget c.step_in.ensures.others (c.pair_behind-outcome.ensures.complete said (exact_step _ _ _ c.step_in.ensures.others exact))
 
-pub returns-clause-begins : goal.returns-clause-begins
-returns-clause-begins g c = step_stops _ _ c.pair_behind-outcome.result c.if-not-step_in.ensures.budget c.step_in.ensures.others c.step_out.ensures.others c.pair_behind-outcome.ensures.begins
+pub returns-clause-stops : goal.returns-clause-stops
+returns-clause-stops g c = step_stops _ _ c.pair_behind-outcome.result c.if-not-step_in.ensures.budget c.step_in.ensures.others c.step_out.ensures.others c.pair_behind-outcome.ensures.stops
