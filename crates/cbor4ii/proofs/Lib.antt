@@ -22,4 +22,5 @@ pub mod PartStops
 pub mod AnyForms
 pub mod AnyStopping
 pub mod ValuesBack
+pub mod FieldStops
 pub mod Filling

@@ -1,19 +1,20 @@
 -- Structs that are read from their named fields: maps from names to values, in any order.
-use Rattle.std.proofs.Common.{◌≡◌, ◌≢◌, ◌⊎◌, inl, inr, ℕ, ◌≤◌, List, [], ◌∷◌, length, Option, Some, Bool, true, false, subst}
+use Rattle.std.proofs.Common.{◌≡◌, ◌≢◌, ◌⊎◌, inl, inr, ℕ, ◌≤◌, List, [], ◌∷◌, length, drop, Option, Some, Bool, true, false, subst}
 use denote.Ref.{Bor}
 use Rattle.cbor4ii_rw.specs.View.{View}
 use Rattle.std.specs.Prelude.{◌&&◌, codes}
-use Rattle.cbor4ii_items.specs.Decoding.{Reads, StopsAt, Sound}
+use Rattle.cbor4ii_items.specs.Decoding.{Reads, StopsAt, CostFits, Sound}
 use Rattle.cbor4ii.specs.Beginning.{StopsParts}
 use Rattle.cbor4ii_items.specs.Sequences.{ReadsSequence, ReadsPair, SamePair}
-use Rattle.cbor4ii_items.specs.Strings.{ReadsTextAs, text_content}
+use Rattle.cbor4ii_items.specs.Strings.{ReadsTextAs, StopsText, text_content}
+use Rattle.cbor4ii_items.specs.Refusal.{Refusal}
 use Rattle.std.specs.declared.alloc.Global.{Global}
 use Rattle.std.specs.declared.string.String.{String}
 use Rattle.cbor4ii_items.specs.Laws.Strings.{text_one, text_within, text_positive}
-use Rattle.cbor4ii_tree.specs.Ignored.{ReadsTree}
+use Rattle.cbor4ii_tree.specs.Ignored.{ReadsTree, StopsIgnored}
 use Rattle.cbor4ii_tree.specs.Laws.Ignoring.{tree_one, tree_within}
 use Rattle.cbor4ii.specs.Tuples.{pair_laws}
-use Rattle.cbor4ii.specs.Typed.{Lawful, any_two, not_exact, unsaid_stops}
+use Rattle.cbor4ii.specs.Typed.{Lawful, any_two, not_exact}
 
 -- what stands behind a name, read as what becomes of a struct's values
 abbrev pub ReadsNamed : Type 0 → Type 1
@@ -53,10 +54,35 @@ changed values (change ∷ changes) = changed (change values) changes
 abbrev pub ReadsFields : {V : Type 0} → V → ReadsNamed V → Reads V
 ReadsFields {V} first named xs values n c = (changes : List (V → V)) × ReadsSequence 5 (ReadsEntry named) true xs changes n c × (values ≡ changed first changes)
 
+-- how what stands behind a name is refused
+abbrev pub StopsNamed : Type 1
+StopsNamed = List ℕ → StopsAt
+
+-- no field has the name: as the item that is skipped
+abbrev pub no_field_stops : StopsNamed
+no_field_stops name = StopsIgnored
+
+-- behind the field's name as the field, and behind another name as one of the others
+abbrev pub field_stops : List ℕ → StopsAt → StopsNamed → StopsNamed
+field_stops own stops others name xs budget refusal rest = ((name ≡ own) × stops xs budget refusal rest) ⊎ ((name ≢ own) × others name xs budget refusal rest)
+
+-- a name is whole, and what stands behind it is refused
+pub record StopsBehindName (stops : StopsNamed) (xs : List ℕ) (budget : Option ℕ) (refusal : Refusal) (rest : List ℕ) : Type 0 where
+  pub whole : String Global
+  pub size : ℕ
+  pub cost : ℕ
+  pub name : ReadsName xs whole size cost
+  pub fits : CostFits cost budget
+  pub stop : stops (text_content whole) (drop size xs) budget refusal rest
+
+-- the name's refusal, or that of what stands behind it
+abbrev pub StopsEntry : StopsNamed → StopsAt
+StopsEntry stops xs budget refusal rest = StopsText (codes "str") xs budget refusal rest ⊎ StopsBehindName stops xs budget refusal rest
+
 -- How it is refused: no step is left, or the head of a map is refused, or behind some whole entries no byte is left, or an
 -- entry is refused.
-abbrev pub StopsFields : {V : Type 0} → ReadsNamed V → StopsAt
-StopsFields named = StopsParts (codes "map") (codes "map") 5 (ReadsEntry named) unsaid_stops true
+abbrev pub StopsFields : {V : Type 0} → ReadsNamed V → StopsNamed → StopsAt
+StopsFields named stops = StopsParts (codes "map") (codes "map") 5 (ReadsEntry named) (StopsEntry stops) true
 
 -- each of them is so
 abbrev pub every : List Bool → Bool
@@ -81,6 +107,10 @@ pub record Fills {V : Type 0} (reads : Reads (List (V → V))) (first last : V) 
 abbrev pub fields_by : {T V : Type 0} → Reads T → (List (Bor (List ℕ)) → ReadsNamed V) → List (Bor (List ℕ)) → ReadsNamed (Option T × V)
 fields_by reads others [] = no_field
 fields_by reads others (own ∷ behind) = named_field own.now reads (others behind)
+
+abbrev pub stops_by : StopsAt → (List (Bor (List ℕ)) → StopsNamed) → List (Bor (List ℕ)) → StopsNamed
+stops_by stops others [] = no_field_stops
+stops_by stops others (own ∷ behind) = field_stops own.now stops (others behind)
 
 -- ---- laws
 

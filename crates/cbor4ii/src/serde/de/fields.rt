@@ -31,7 +31,6 @@ ghost use Rattle.cbor4ii_items.specs.Sequences.{
   StopsUpToBreak,
   StopsInside,
 };
-ghost use Rattle.cbor4ii.specs.Beginning.{StopsParts};
 ghost use Rattle.cbor4ii.specs.Fields.{
   ReadsNamed,
   no_field,
@@ -46,10 +45,15 @@ ghost use Rattle.cbor4ii.specs.Fields.{
   NamedLaws,
   no_field_laws,
   every,
+  StopsNamed,
+  no_field_stops,
+  field_stops,
+  stops_by,
+  StopsEntry,
   StopsFields,
   fields_by_laws,
 };
-ghost use Rattle.cbor4ii.specs.Typed.{input, answer_of, as_core, unsaid_stops};
+ghost use Rattle.cbor4ii.specs.Typed.{input, answer_of, as_core, said};
 
 use crate::serde::de::deserialize::{Deserialize, Typed};
 use crate::serde::de::deserializer::Deserializer;
@@ -65,6 +69,9 @@ use std::alloc::Global;
 trait Values<S: Source>: Sized {
     // What stands behind a name, where the fields have these names.
     ghost named: { List (Bor (List ℕ)) → ReadsNamed Self };
+
+    // How it is refused.
+    ghost stops: { List (Bor (List ℕ)) → StopsNamed };
 
     ghost owned: { Bool };
 
@@ -83,7 +90,9 @@ trait Values<S: Source>: Sized {
             (input S.view de.old) (input S.view de.new)) }
         ensures complete { IsTrue Self.exact → IsExact Self.owned (input S.view de.old) →
             IfErr result (λ error. Refuses (Self.named names.now name.now)
-            (input S.view de.old) (as_core error)) };
+            (input S.view de.old) (as_core error)) }
+        ensures stops { IfErr result (λ error. Stops (Self.stops names.now name.now)
+            (input S.view de.old) (input S.view de.new) (as_core error)) };
 
     ghost laws: { IsTrue Self.exact → (names : List (Bor (List ℕ))) → NamedLaws
         (Self.named names) };
@@ -92,6 +101,8 @@ trait Values<S: Source>: Sized {
 /// No field.
 impl<S: Source> Values<S> for () {
     ghost named = { λ names. no_field };
+
+    ghost stops = { λ names. no_field_stops };
 
     ghost owned = { true };
 
@@ -113,6 +124,8 @@ impl<S: Source> Values<S> for () {
 /// A field, and those behind it.
 impl<S: Source, T: Deserialize<S> + Drop, V: Values<S>> Values<S> for (Option<T>, V) {
     ghost named = { fields_by T.reads V.named };
+
+    ghost stops = { stops_by (said T.exact T.stops) V.stops };
 
     ghost owned = { T.owned && V.owned };
 
@@ -159,6 +172,8 @@ fn take_field<S: Source, V: Values<S>>(
         (input S.view de.old) (input S.view de.new)) }
     ensures complete { IsTrue V.exact → IsExact V.owned (input S.view de.old) → IfErr result
         (λ error. Refuses (ReadsEntry (V.named names.now)) (input S.view de.old) (as_core error)) }
+    ensures stops { IfErr result (λ error. Stops (StopsEntry (V.stops names.now))
+        (input S.view de.old) (input S.view de.new) (as_core error)) }
 {
     match String::deserialize(alloc, de) {
         Ok(name) => values.take(alloc, names, name.as_str(), de),
@@ -181,8 +196,7 @@ fn take_fields<S: Source, V: Values<S>>(
         (λ error. Refuses (ReadsSequence 5 (ReadsEntry (V.named names.now)) true)
         (input S.view de.old) (as_core error)) }
     ensures stops { IfErr result (λ error. Stops
-        (StopsParts (codes "map") (codes "map") 5 (ReadsEntry (V.named names.now)) unsaid_stops
-        true)
+        (StopsFields (V.named names.now) (V.stops names.now))
         (input S.view de.old) (input S.view de.new) (as_core error)) }
 {
     if !de.reader.step_in() {
@@ -208,7 +222,8 @@ fn fields_inside<S: Source, V: Values<S>>(
         (λ error. Refuses (ReadsInside 5 (ReadsEntry (V.named names.now)) true)
         (input S.view de.old) (as_core error)) }
     ensures stops { IfErr result (λ error. Stops
-        (StopsInside (codes "map") 5 (ReadsEntry (V.named names.now)) unsaid_stops true)
+        (StopsInside (codes "map") 5 (ReadsEntry (V.named names.now))
+        (StopsEntry (V.stops names.now)) true)
         (input S.view de.old) (input S.view de.new) (as_core error)) }
 {
     match Map::<()>::len(&mut de.reader) {
@@ -233,7 +248,7 @@ fn counted_fields<S: Source, V: Values<S>>(
         (λ error. Refuses (ReadsCount (ReadsEntry (V.named names.now)) count)
         (input S.view de.old) (as_core error)) }
     ensures stops { IfErr result (λ error. Stops
-        (StopsCount (ReadsEntry (V.named names.now)) unsaid_stops count)
+        (StopsCount (ReadsEntry (V.named names.now)) (StopsEntry (V.stops names.now)) count)
         (input S.view de.old) (input S.view de.new) (as_core error)) }
 {
     for i in 0..count {
@@ -256,7 +271,8 @@ fn open_fields<S: Source, V: Values<S>>(
         (λ error. Refuses (ReadsUpToBreak (ReadsEntry (V.named names.now)) true)
         (input S.view de.old) (as_core error)) }
     ensures stops { IfErr result (λ error. Stops
-        (StopsUpToBreak (codes "map") (ReadsEntry (V.named names.now)) unsaid_stops true)
+        (StopsUpToBreak (codes "map") (ReadsEntry (V.named names.now))
+        (StopsEntry (V.stops names.now)) true)
         (input S.view de.old) (input S.view de.new) (as_core error)) }
 {
     while !ends(de)? {
@@ -299,7 +315,8 @@ impl<S: Source> Deserializer<S> {
             (ReadsFields (None, no_values) (named_field first.now A.reads no_fields))
             (input S.view self.old) (as_core error)) }
         ensures stops { IfErr result (λ error. Stops
-            (StopsFields (named_field first.now A.reads no_fields))
+            (StopsFields (named_field first.now A.reads no_fields)
+            (field_stops first.now (said A.exact A.stops) no_field_stops))
             (input S.view self.old) (input S.view self.new) (as_core error)) }
     {
         let mut values = (None, ());
@@ -334,8 +351,9 @@ impl<S: Source> Deserializer<S> {
             second.now B.reads no_fields)))
             (input S.view self.old) (as_core error)) }
         ensures stops { IfErr result (λ error. Stops
-            (StopsFields (named_field first.now A.reads (named_field second.now B.reads
-            no_fields)))
+            (StopsFields (named_field first.now A.reads (named_field second.now B.reads no_fields))
+            (field_stops first.now (said A.exact A.stops) (field_stops second.now (said B.exact
+            B.stops) no_field_stops)))
             (input S.view self.old) (input S.view self.new) (as_core error)) }
     {
         let mut values = (None, (None, ()));
@@ -385,7 +403,9 @@ impl<S: Source> Deserializer<S> {
             (input S.view self.old) (as_core error)) }
         ensures stops { IfErr result (λ error. Stops
             (StopsFields (named_field first.now A.reads (named_field second.now B.reads
-            (named_field third.now C.reads no_fields))))
+            (named_field third.now C.reads no_fields)))
+            (field_stops first.now (said A.exact A.stops) (field_stops second.now (said B.exact
+            B.stops) (field_stops third.now (said C.exact C.stops) no_field_stops))))
             (input S.view self.old) (input S.view self.new) (as_core error)) }
     {
         let mut values = (None, (None, (None, ())));
@@ -439,7 +459,10 @@ impl<S: Source> Deserializer<S> {
             (input S.view self.old) (as_core error)) }
         ensures stops { IfErr result (λ error. Stops
             (StopsFields (named_field first.now A.reads (named_field second.now B.reads
-            (named_field third.now C.reads (named_field fourth.now D.reads no_fields)))))
+            (named_field third.now C.reads (named_field fourth.now D.reads no_fields))))
+            (field_stops first.now (said A.exact A.stops) (field_stops second.now (said B.exact
+            B.stops) (field_stops third.now (said C.exact C.stops) (field_stops fourth.now (said
+            D.exact D.stops) no_field_stops)))))
             (input S.view self.old) (input S.view self.new) (as_core error)) }
     {
         let mut values = (None, (None, (None, (None, ()))));
@@ -497,7 +520,10 @@ impl<S: Source> Deserializer<S> {
         ensures stops { IfErr result (λ error. Stops
             (StopsFields (named_field first.now A.reads (named_field second.now B.reads
             (named_field third.now C.reads (named_field fourth.now D.reads (named_field fifth.now
-            E.reads no_fields))))))
+            E.reads no_fields)))))
+            (field_stops first.now (said A.exact A.stops) (field_stops second.now (said B.exact
+            B.stops) (field_stops third.now (said C.exact C.stops) (field_stops fourth.now (said
+            D.exact D.stops) (field_stops fifth.now (said E.exact E.stops) no_field_stops))))))
             (input S.view self.old) (input S.view self.new) (as_core error)) }
     {
         let mut values = (None, (None, (None, (None, (None, ())))));
@@ -575,7 +601,11 @@ impl<S: Source> Deserializer<S> {
         ensures stops { IfErr result (λ error. Stops
             (StopsFields (named_field first.now A.reads (named_field second.now B.reads
             (named_field third.now C.reads (named_field fourth.now D.reads (named_field fifth.now
-            E.reads (named_field sixth.now F.reads no_fields)))))))
+            E.reads (named_field sixth.now F.reads no_fields))))))
+            (field_stops first.now (said A.exact A.stops) (field_stops second.now (said B.exact
+            B.stops) (field_stops third.now (said C.exact C.stops) (field_stops fourth.now (said
+            D.exact D.stops) (field_stops fifth.now (said E.exact E.stops) (field_stops sixth.now
+            (said F.exact F.stops) no_field_stops)))))))
             (input S.view self.old) (input S.view self.new) (as_core error)) }
     {
         let mut values = (None, (None, (None, (None, (None, (None, ()))))));

@@ -3,10 +3,9 @@ use Rattle.std.proofs.lemmas.Result.{err_from_is_err_and}
 use Rattle.cbor4ii_items.specs.Laws.Steps.{moves_then, moves_err}
 use Rattle.cbor4ii_items.specs.Laws.Answering.{exact_kept}
 use Rattle.cbor4ii_items.specs.Laws.SequenceParts.{count_refuses}
-use Rattle.cbor4ii.specs.Fields.{ReadsEntry, entry_laws}
-use Rattle.cbor4ii.specs.Typed.{size_of, unsaid_stops}
+use Rattle.cbor4ii.specs.Fields.{StopsEntry, ReadsEntry, entry_laws}
+use Rattle.cbor4ii.specs.Typed.{size_of}
 use Rattle.cbor4ii.proofs.PartStops.{count_stops}
-use Rattle.cbor4ii.proofs.Beginnings.{unsaid_left}
 use Rattle.cbor4ii.proofs.Filling.{counted_more, counted_done}
 use Rattle.cbor4ii.proofs.serde.de.fields.counted_fields.Goals as goal
 
@@ -24,7 +23,7 @@ returns-in_err-take_field-clause-complete g c said exact =
 pub returns-in_err-take_field-clause-stops : goal.returns-in_err-take_field-clause-stops
 returns-in_err-take_field-clause-stops g c =
     let p = err_from_is_err_and c.from_residual.result c.from_residual.ensures.1 in
-    rw (p.1, p.2) (count_stops (ReadsEntry (g.V.Values.named c.args.names.now)) unsaid_stops c.loop-i.invariant.begun c.loop-i-test.true (unsaid_left c.in_err-take_field.ensures.moves))
+    rw (p.1, p.2) (count_stops (ReadsEntry (g.V.Values.named c.args.names.now)) (StopsEntry (g.V.Values.stops c.args.names.now)) c.loop-i.invariant.begun c.loop-i-test.true c.in_err-take_field.ensures.stops)
 
 pub loop-i-preserved : goal.loop-i-preserved
 loop-i-preserved g c = counted_more (g.V.Values.named c.args.names.now) c.loop-i.invariant c.in_ok-take_field.ensures.sound c.in_ok-take_field.ensures.moves

@@ -3,8 +3,7 @@ use Rattle.std.specs.Prelude.{codes}
 use Rattle.cbor4ii_items.specs.Laws.Steps.{moves_then}
 use Rattle.cbor4ii_items.specs.Laws.Answering.{exact_kept}
 use Rattle.cbor4ii_items.specs.Laws.SequenceInside.{counts_of, opens_of, no_length}
-use Rattle.cbor4ii.specs.Typed.{unsaid_stops}
-use Rattle.cbor4ii.specs.Fields.{ReadsEntry}
+use Rattle.cbor4ii.specs.Fields.{StopsEntry, ReadsEntry}
 use Rattle.cbor4ii.proofs.PartStops.{head_stops, counted_stops, opened_stops}
 use Rattle.cbor4ii.proofs.Filling.{counted_fills, counted_refuses, opened_fills, opened_refuses}
 use Rattle.cbor4ii.proofs.serde.de.fields.fields_inside.Goals as goal
@@ -22,7 +21,7 @@ returns-in-Ok-Some-clause-complete g c said exact = (counted_refuses (g.V.Values
     (λ xs told. c.counted_fields.ensures.complete said (exact_kept _ _ _ xs told c.in-Ok-Some.ensures.moves.by exact)))
 
 pub returns-in-Ok-Some-clause-stops : goal.returns-in-Ok-Some-clause-stops
-returns-in-Ok-Some-clause-stops g c = counted_stops (ReadsEntry (g.V.Values.named c.args.names.now)) unsaid_stops true (codes "map") 5 c.counted_fields.result _ (counts_of c.in-Ok-Some.field-0-is c.in-Ok-Some.ensures.moves.by c.in-Ok-Some.ensures.sound) c.counted_fields.ensures.stops
+returns-in-Ok-Some-clause-stops g c = counted_stops (ReadsEntry (g.V.Values.named c.args.names.now)) (StopsEntry (g.V.Values.stops c.args.names.now)) true (codes "map") 5 c.counted_fields.result _ (counts_of c.in-Ok-Some.field-0-is c.in-Ok-Some.ensures.moves.by c.in-Ok-Some.ensures.sound) c.counted_fields.ensures.stops
 
 pub returns-in-Ok-None-clause-moves : goal.returns-in-Ok-None-clause-moves
 returns-in-Ok-None-clause-moves g c = moves_then c.in-Ok-None.ensures.moves.by c.open_fields.ensures.moves
@@ -37,10 +36,10 @@ returns-in-Ok-None-clause-complete g c said exact = (opened_refuses (g.V.Values.
     (λ xs told. c.open_fields.ensures.complete said (exact_kept _ _ _ xs told c.in-Ok-None.ensures.moves.by exact)))
 
 pub returns-in-Ok-None-clause-stops : goal.returns-in-Ok-None-clause-stops
-returns-in-Ok-None-clause-stops g c = opened_stops (ReadsEntry (g.V.Values.named c.args.names.now)) unsaid_stops true (codes "map") 5 c.open_fields.result _ (opens_of c.in-Ok-None.field-0-is c.in-Ok-None.ensures.moves.by c.in-Ok-None.ensures.sound) c.open_fields.ensures.stops
+returns-in-Ok-None-clause-stops g c = opened_stops (ReadsEntry (g.V.Values.named c.args.names.now)) (StopsEntry (g.V.Values.stops c.args.names.now)) true (codes "map") 5 c.open_fields.result _ (opens_of c.in-Ok-None.field-0-is c.in-Ok-None.ensures.moves.by c.in-Ok-None.ensures.sound) c.open_fields.ensures.stops
 
 pub returns-in-Err-clause-complete : goal.returns-in-Err-clause-complete
 returns-in-Err-clause-complete g c said exact = no_length 5 (ReadsEntry (g.V.Values.named c.args.names.now)) true c.in-Err.ensures.complete
 
 pub returns-in-Err-clause-stops : goal.returns-in-Err-clause-stops
-returns-in-Err-clause-stops g c = head_stops (ReadsEntry (g.V.Values.named c.args.names.now)) unsaid_stops true (codes "map") 5 c.in-Err.ensures.stops
+returns-in-Err-clause-stops g c = head_stops (ReadsEntry (g.V.Values.named c.args.names.now)) (StopsEntry (g.V.Values.stops c.args.names.now)) true (codes "map") 5 c.in-Err.ensures.stops

@@ -4,10 +4,9 @@ use Rattle.std.proofs.lemmas.Result.{err_from_is_err_and}
 use Rattle.cbor4ii_items.specs.Laws.Steps.{moves_then, moves_err, kept_then}
 use Rattle.cbor4ii_items.specs.Laws.Answering.{exact_kept}
 use Rattle.cbor4ii_items.specs.Laws.SequenceParts.{stands, open_refuses, end_refuses}
-use Rattle.cbor4ii.specs.Fields.{ReadsEntry, entry_laws}
-use Rattle.cbor4ii.specs.Typed.{size_of, unsaid_stops}
+use Rattle.cbor4ii.specs.Fields.{StopsEntry, ReadsEntry, entry_laws}
+use Rattle.cbor4ii.specs.Typed.{size_of}
 use Rattle.cbor4ii.proofs.PartStops.{open_stops, end_stops}
-use Rattle.cbor4ii.proofs.Beginnings.{unsaid_left}
 use Rattle.cbor4ii.proofs.Filling.{unended_more, unended_done}
 use Rattle.cbor4ii.proofs.serde.de.fields.open_fields.Goals as goal
 
@@ -25,7 +24,7 @@ returns-in_err-ends-clause-complete g c said exact =
 pub returns-in_err-ends-clause-stops : goal.returns-in_err-ends-clause-stops
 returns-in_err-ends-clause-stops g c =
     let p = err_from_is_err_and c.from_residual.result c.from_residual.ensures.1 in
-    rw (p.1, p.2) (end_stops (ReadsEntry (g.V.Values.named c.args.names.now)) unsaid_stops true (codes "map") c.loop-alloc.invariant.opened c.in_err-ends.ensures.runs)
+    rw (p.1, p.2) (end_stops (ReadsEntry (g.V.Values.named c.args.names.now)) (StopsEntry (g.V.Values.stops c.args.names.now)) true (codes "map") c.loop-alloc.invariant.opened c.in_err-ends.ensures.runs)
 
 pub loop-alloc-preserved : goal.loop-alloc-preserved
 loop-alloc-preserved g c = unended_more (g.V.Values.named c.args.names.now) c.loop-alloc.invariant (stands c.if-not-branch.true c.in_ok-ends.ensures.runs) c.in_ok-take_field.ensures.sound c.in_ok-take_field.ensures.moves
@@ -45,7 +44,7 @@ returns-in_err-take_field-clause-complete g c said exact =
 pub returns-in_err-take_field-clause-stops : goal.returns-in_err-take_field-clause-stops
 returns-in_err-take_field-clause-stops g c =
     let p = err_from_is_err_and c.from_residual-in_err-take_field.result c.from_residual-in_err-take_field.ensures.1 in
-    rw (p.1, p.2) (open_stops (ReadsEntry (g.V.Values.named c.args.names.now)) unsaid_stops true (codes "map") refl c.loop-alloc.invariant.opened (stands c.if-not-branch.true c.in_ok-ends.ensures.runs) (unsaid_left c.in_err-take_field.ensures.moves))
+    rw (p.1, p.2) (open_stops (ReadsEntry (g.V.Values.named c.args.names.now)) (StopsEntry (g.V.Values.stops c.args.names.now)) true (codes "map") refl c.loop-alloc.invariant.opened (stands c.if-not-branch.true c.in_ok-ends.ensures.runs) c.in_err-take_field.ensures.stops)
 
 pub returns-clause-moves : goal.returns-clause-moves
 returns-clause-moves g c = record { by = kept_then c.loop-alloc.invariant.opened.kept c.in_ok-ends.ensures.runs.moves.by; depth = λ e. refl }

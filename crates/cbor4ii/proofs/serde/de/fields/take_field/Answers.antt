@@ -2,6 +2,7 @@ use Rattle.cbor4ii_items.specs.Laws.Answering.{exact_kept}
 use Rattle.cbor4ii_items.specs.Laws.Steps.{moves_then}
 use Rattle.cbor4ii.proofs.Filling.{entry_changes, no_name, no_value}
 use Rattle.std.proofs.Common.{inl, refl}
+use Rattle.cbor4ii.proofs.FieldStops.{name_stopped, value_stopped}
 use Rattle.cbor4ii.proofs.serde.de.fields.take_field.Goals as goal
 
 pub returns-in-Ok-clause-moves : goal.returns-in-Ok-clause-moves
@@ -15,3 +16,9 @@ returns-in-Ok-clause-complete g c said exact = no_value (g.V.Values.named c.args
 
 pub returns-in-Err-clause-complete : goal.returns-in-Err-clause-complete
 returns-in-Err-clause-complete g c said exact = no_name (g.V.Values.named c.args.names.now) (c.in-Err.ensures.complete refl (inl refl))
+
+pub returns-in-Ok-clause-stops : goal.returns-in-Ok-clause-stops
+returns-in-Ok-clause-stops g c = value_stopped (g.V.Values.stops c.args.names.now) c.take.result _ c.as_str.ensures.value c.in-Ok.ensures.moves.by c.in-Ok.ensures.sound c.take.ensures.stops
+
+pub returns-in-Err-clause-stops : goal.returns-in-Err-clause-stops
+returns-in-Err-clause-stops g c = name_stopped _ (c.in-Err.ensures.stops refl)

@@ -2,6 +2,9 @@ use Rattle.std.proofs.Common.{inl, refl}
 use Rattle.cbor4ii_items.specs.Laws.Containers.{both}
 use Rattle.cbor4ii_items.specs.Laws.Pairs.{exact_both}
 use Rattle.cbor4ii.proofs.Filling.{differs, agrees, first_here, another, none_has, first_refuses, another_refuses, none_refuses}
+use Rattle.cbor4ii.specs.Typed.{said}
+use Rattle.cbor4ii.proofs.Beginnings.{said_left}
+use Rattle.cbor4ii.proofs.FieldStops.{first_stopped, another_stopped, none_stopped}
 use Rattle.cbor4ii.proofs.serde.de.fields.Tuple2OptionValues.take.Goals as goal
 
 pub returns-then-ne-clause-sound : goal.returns-then-ne-clause-sound
@@ -25,3 +28,12 @@ pub returns-in-Err-clause-complete : goal.returns-in-Err-clause-complete
 returns-in-Err-clause-complete g c said exact =
     first_refuses g.T.Typed.reads g.V.Values.named c.args.names.now c.args.name.now (g.S.Source.view c.args.de.now.reader) _ c.in-len1-up.len_at_least (agrees c.args.name.now _ c.if-ne.ensures)
     (c.in-Err.ensures.complete (both g.T.Typed.exact g.V.Values.exact said).0 (exact_both g.T.Typed.owned g.V.Values.owned (g.S.Source.view c.args.de.now.reader) exact).0)
+
+pub returns-then-ne-clause-stops : goal.returns-then-ne-clause-stops
+returns-then-ne-clause-stops g c = another_stopped (said g.T.Typed.exact g.T.Typed.stops) g.V.Values.stops c.args.names.now c.args.name.now (g.S.Source.view c.args.de.now.reader) (g.S.Source.view c.take.new.de.reader) c.take.result _ c.in-len1-up.len_at_least (differs c.args.name.now _ c.if-ne.ensures) c.take.ensures.stops
+
+pub returns-in-empty-clause-stops : goal.returns-in-empty-clause-stops
+returns-in-empty-clause-stops g c = none_stopped (said g.T.Typed.exact g.T.Typed.stops) g.V.Values.stops c.args.names.now c.args.name.now (g.S.Source.view c.args.de.now.reader) (g.S.Source.view c.deserialize_ignored_any.new.self.reader) c.deserialize_ignored_any.result c.in-empty.len_below (c.deserialize_ignored_any.ensures.item.stopped (inl refl))
+
+pub returns-in-Err-clause-stops : goal.returns-in-Err-clause-stops
+returns-in-Err-clause-stops g c = first_stopped (said g.T.Typed.exact g.T.Typed.stops) g.V.Values.stops c.args.names.now c.args.name.now (g.S.Source.view c.args.de.now.reader) (g.S.Source.view c.deserialize.new.de.reader) _ c.in-len1-up.len_at_least (agrees c.args.name.now _ c.if-ne.ensures) (said_left _ _ c.in-Err.ensures.moves c.in-Err.ensures.stops)

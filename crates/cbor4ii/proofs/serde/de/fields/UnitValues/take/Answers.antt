@@ -7,3 +7,6 @@ returns-clause-sound g c = skips c.deserialize_ignored_any.result c.args.name.no
 
 pub returns-clause-complete : goal.returns-clause-complete
 returns-clause-complete g c said exact = skips_none (Unit {0}) c.deserialize_ignored_any.result c.args.name.now (g.S.Source.view c.args.de.now.reader) (c.deserialize_ignored_any.ensures.item.complete (inl refl))
+
+pub returns-clause-stops : goal.returns-clause-stops
+returns-clause-stops g c = c.deserialize_ignored_any.ensures.item.stopped (inl refl)
