@@ -64,7 +64,7 @@ module _ {V W E : Type 0} (content : V → List ℕ) (lent : W → List ℕ) (Is
   unlent_stops : (reads : Reads V) (stops : StopsAt) (e : CoreError E) {a b : View} {v : V} → LacksLoan name e → Sound reads a b v → Stops (StopsUnlent name reads stops) a b e
   unlent_stops reads stops e {a = a} {b = b} {v = v} lacks s =
       let at : Stops (StopsUnlent name reads stops) a b (RequireBorrowed lacks.0) = record {
-        at = λ xs told. (let p = s.at xs told in (drop p.count xs, p.left, inr (v, p.count, p.cost, p.read, ap require_borrowed lacks.2, refl)));
+        at = λ xs told. (let p = s.at xs told in (drop p.count xs, p.left, inr (v, p.count, p.cost, p.read, p.fits, ap require_borrowed lacks.2, refl)));
       } in
       subst (Stops (StopsUnlent name reads stops) a b) (sym lacks.1) at
 

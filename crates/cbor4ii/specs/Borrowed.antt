@@ -4,7 +4,7 @@ use denote.Ref.{Bor}
 use Rattle.cbor4ii_rw.specs.declared.error.DecodeError.{DecodeError as CoreError}
 use Rattle.cbor4ii_rw.specs.declared.error.DecodeError.TheVariants.{RequireBorrowed}
 use Rattle.cbor4ii_items.specs.declared.types.Bytes.{Bytes}
-use Rattle.cbor4ii_items.specs.Decoding.{Reads, StopsAt}
+use Rattle.cbor4ii_items.specs.Decoding.{Reads, StopsAt, CostFits}
 use Rattle.cbor4ii_items.specs.Refusal.{require_borrowed}
 use Rattle.cbor4ii.specs.declared.serde.de.error.DecodeError.{DecodeError}
 use Rattle.cbor4ii.specs.Typed.{as_core}
@@ -13,9 +13,10 @@ use Rattle.cbor4ii.specs.Typed.{as_core}
 abbrev pub LacksLoan : {E : Type 0} → List ℕ → CoreError E → Type 0
 LacksLoan name error = (found : Bor (List ℕ)) × (error ≡ RequireBorrowed found) × (found.now ≡ name)
 
--- it is refused as one that may be a copy, or such a one is whole and was taken, and is not lent
+-- A string that is to be borrowed is refused as one that may be a copy, or it was read with a cost that fits, and is a
+-- copy: it is taken then.
 abbrev pub StopsUnlent : {V : Type 0} → List ℕ → Reads V → StopsAt → StopsAt
-StopsUnlent {V} name reads stops xs budget refusal rest = stops xs budget refusal rest ⊎ ((v : V) × (n c : ℕ) × reads xs v n c × (refusal ≡ require_borrowed name) × (rest ≡ drop n xs))
+StopsUnlent {V} name reads stops xs budget refusal rest = stops xs budget refusal rest ⊎ ((v : V) × (n c : ℕ) × reads xs v n c × CostFits c budget × (refusal ≡ require_borrowed name) × (rest ≡ drop n xs))
 
 -- A string that was borrowed is handed on with its content. One that was copied is refused, and so is what was refused
 -- before.
