@@ -1,20 +1,22 @@
 -- Structs that are read from their named fields: maps from names to values, in any order.
-use Rattle.std.proofs.Common.{◌≡◌, ◌≢◌, ◌⊎◌, inl, inr, ℕ, ◌≤◌, List, [], ◌∷◌, length, drop, Option, Some, Bool, true, false, subst}
+use Rattle.std.proofs.Common.{◌≡◌, ◌≢◌, ◌⊎◌, inl, inr, ℕ, ◌<◌, ◌≤◌, List, [], ◌∷◌, length, drop, Option, Some, Bool, true, false, sym, subst, arith}
 use denote.Ref.{Bor}
 use Rattle.cbor4ii_rw.specs.View.{View}
 use Rattle.std.specs.Prelude.{◌&&◌, codes}
 use Rattle.cbor4ii_items.specs.Decoding.{Reads, StopsAt, CostFits, Sound}
 use Rattle.cbor4ii.specs.Beginning.{StopsParts}
-use Rattle.cbor4ii_items.specs.Sequences.{ReadsSequence, ReadsPair, SamePair}
+use Rattle.cbor4ii_items.specs.Containers.{SameOption}
+use Rattle.cbor4ii_items.specs.Sequences.{ReadsSequence, ReadsPair, SamePair, SameParts}
 use Rattle.cbor4ii_items.specs.Strings.{ReadsTextAs, StopsText, text_content}
 use Rattle.cbor4ii_items.specs.Refusal.{Refusal}
 use Rattle.std.specs.declared.alloc.Global.{Global}
 use Rattle.std.specs.declared.string.String.{String}
+use Rattle.cbor4ii_items.specs.Laws.Sequences.{sequence_one, sequence_within, sequence_positive}
 use Rattle.cbor4ii_items.specs.Laws.Strings.{text_one, text_within, text_positive}
 use Rattle.cbor4ii_tree.specs.Ignored.{ReadsTree, StopsIgnored}
 use Rattle.cbor4ii_tree.specs.Laws.Ignoring.{tree_one, tree_within}
 use Rattle.cbor4ii.specs.Tuples.{pair_laws}
-use Rattle.cbor4ii.specs.Typed.{Lawful, any_two, not_exact}
+use Rattle.cbor4ii.specs.Typed.{Lawful, not_exact}
 
 -- what stands behind a name, read as what becomes of a struct's values
 abbrev pub ReadsNamed : Type 0 → Type 1
@@ -114,35 +116,51 @@ stops_by stops others (own ∷ behind) = field_stops own.now stops (others behin
 
 -- ---- laws
 
--- one change at most is read behind each name
-abbrev pub NamedLaws : {V : Type 0} → ReadsNamed V → Type 0
-NamedLaws named = (name : List ℕ) → Lawful (named name) any_two false
+-- of values that mean the same both changes make values that do
+abbrev pub SameChange : {V : Type 0} → (V → V → Type 0) → (V → V) → (V → V) → Type 0
+SameChange {V} same g h = (v w : V) → same v w → same (g v) (h w)
 
-pub no_field_laws : {V : Type 0} → NamedLaws (no_field {V = V})
-no_field_laws name = record {
-  one = λ xs g h n m c d p q. (let e = tree_one xs n m c d p.0 q.0 in (e.0, e.1, tt));
+-- what is read behind each name is one change
+abbrev pub NamedLaws : {V : Type 0} → (V → V → Type 0) → ReadsNamed V → Type 0
+NamedLaws same named = (name : List ℕ) → Lawful (named name) (SameChange same) false
+
+-- the values of two fields, and of those behind them, mean the same
+abbrev pub SameField : {T V : Type 0} → (T → T → Type 0) → (V → V → Type 0) → Option T × V → Option T × V → Type 0
+SameField same others = SamePair (SameOption same) others
+
+-- where neither is changed, they mean the same as before
+unchanged : {V : Type 0} (same : V → V → Type 0) (g h : V → V) → g ≡ (λ (values : V). values) → h ≡ (λ (values : V). values) → SameChange same g h
+unchanged {V} same g h e f v w s = subst (λ (k : V → V). same (k v) (h w)) (sym e) (subst (λ (k : V → V). same v (k w)) (sym f) s)
+
+pub no_field_laws : {V : Type 0} (same : V → V → Type 0) → NamedLaws same (no_field {V = V})
+no_field_laws same name = record {
+  one = λ xs g h n m c d p q. (let e = tree_one xs n m c d p.0 q.0 in (e.0, e.1, unchanged same g h p.1 q.1));
   within = λ xs g n c p. tree_within xs n c p.0;
   positive = λ e xs g n c p. not_exact e;
 }
 
-module _ {T V : Type 0} (own : List ℕ) {reads : Reads T} {same : T → T → Type 0} {never_empty : Bool} (others : ReadsNamed V) (laws : Lawful reads same never_empty) (behind : NamedLaws others) where
-  field_one : (name xs : List ℕ) (g h : (Option T × V) → (Option T × V)) (n m c d : ℕ) → named_field own reads others name xs g n c → named_field own reads others name xs h m d → (n ≡ m) × (c ≡ d) × any_two g h
-  field_one name xs g h n m c d (inl p) (inl q) = let e = laws.one xs p.1 q.1 n m c d p.2 q.2 in (e.0, e.1, tt)
+module _ {T V : Type 0} (own : List ℕ) {reads : Reads T} {same : T → T → Type 0} {never_empty : Bool} (others : ReadsNamed V) {same_others : V → V → Type 0} (laws : Lawful reads same never_empty) (behind : NamedLaws same_others others) where
+  field_one : (name xs : List ℕ) (g h : (Option T × V) → (Option T × V)) (n m c d : ℕ) → named_field own reads others name xs g n c → named_field own reads others name xs h m d → (n ≡ m) × (c ≡ d) × SameChange (SameField same same_others) g h
+  field_one name xs g h n m c d (inl p) (inl q) =
+      let e = laws.one xs p.1 q.1 n m c d p.2 q.2 in
+      (e.0, e.1, λ v w s. subst (λ (k : (Option T × V) → (Option T × V)). SameField same same_others (k v) (h w)) (sym p.3) (subst (λ (k : (Option T × V) → (Option T × V)). SameField same same_others (Some p.1, v.1) (k w)) (sym q.3) (e.2, s.1)))
   field_one name xs g h n m c d (inl p) (inr q) = absurd (q.0 p.0)
   field_one name xs g h n m c d (inr p) (inl q) = absurd (p.0 q.0)
-  field_one name xs g h n m c d (inr p) (inr q) = let e = (behind name).one xs p.1 q.1 n m c d p.2 q.2 in (e.0, e.1, tt)
+  field_one name xs g h n m c d (inr p) (inr q) =
+      let e = (behind name).one xs p.1 q.1 n m c d p.2 q.2 in
+      (e.0, e.1, λ v w s. subst (λ (k : (Option T × V) → (Option T × V)). SameField same same_others (k v) (h w)) (sym p.3) (subst (λ (k : (Option T × V) → (Option T × V)). SameField same same_others (v.0, p.1 v.1) (k w)) (sym q.3) (s.0, e.2 v.1 w.1 s.1)))
 
   field_within : (name xs : List ℕ) (g : (Option T × V) → (Option T × V)) (n c : ℕ) → named_field own reads others name xs g n c → n ≤ length xs
   field_within name xs g n c (inl p) = laws.within xs p.1 n c p.2
   field_within name xs g n c (inr p) = (behind name).within xs p.1 n c p.2
 
-  field_laws : NamedLaws (named_field own reads others)
+  pub field_laws : NamedLaws (SameField same same_others) (named_field own reads others)
   field_laws name = record { one = field_one name; within = field_within name; positive = λ e xs g n c p. not_exact e }
 
-pub fields_by_laws : {T V : Type 0} {reads : Reads T} {same : T → T → Type 0} {never_empty : Bool} (others : List (Bor (List ℕ)) → ReadsNamed V) → Lawful reads same never_empty → ((names : List (Bor (List ℕ))) → NamedLaws (others names))
-    → (names : List (Bor (List ℕ))) → NamedLaws (fields_by reads others names)
-fields_by_laws others laws behind [] = no_field_laws
-fields_by_laws others laws behind (own ∷ names) = field_laws own.now (others names) laws (behind names)
+pub fields_by_laws : {T V : Type 0} {reads : Reads T} {same : T → T → Type 0} {never_empty : Bool} (others : List (Bor (List ℕ)) → ReadsNamed V) (same_others : V → V → Type 0) → Lawful reads same never_empty → ((names : List (Bor (List ℕ))) → NamedLaws same_others (others names))
+    → (names : List (Bor (List ℕ))) → NamedLaws (SameField same same_others) (fields_by reads others names)
+fields_by_laws {same = same} others same_others laws behind [] = no_field_laws (SameField same same_others)
+fields_by_laws others same_others laws behind (own ∷ names) = field_laws own.now (others names) laws (behind names)
 
 abbrev pub SameName : String Global → String Global → Type 0
 SameName s t = text_content s ≡ text_content t
@@ -150,14 +168,36 @@ SameName s t = text_content s ≡ text_content t
 pub name_laws : Lawful ReadsName SameName true
 name_laws = record { one = text_one text_content; within = text_within text_content; positive = λ e. text_positive text_content }
 
-pub entry_laws : {V : Type 0} (named : ReadsNamed V) → NamedLaws named → Lawful (ReadsEntry named) any_two true
-entry_laws {V} named laws =
-    let pair : (name : List ℕ) → Lawful (ReadsPair ReadsName (named name)) (SamePair SameName any_two) true = λ name. pair_laws ReadsName (named name) SameName any_two true false name_laws (laws name) in
+pub entry_laws : {V : Type 0} (same : V → V → Type 0) (named : ReadsNamed V) → NamedLaws same named → Lawful (ReadsEntry named) (SameChange same) true
+entry_laws {V} same named laws =
+    let pair : (name : List ℕ) → Lawful (ReadsPair ReadsName (named name)) (SamePair SameName (SameChange same)) true = λ name. pair_laws ReadsName (named name) SameName (SameChange same) true false name_laws (laws name) in
     record {
       one = λ xs g h n m c d p q. (
           let is = (name_laws.one xs p.0 q.0 p.1.key_size q.1.key_size p.1.key_cost q.1.key_cost p.1.key q.1.key).2 in
           let e = (pair (text_content q.0)).one xs (p.0, g) (q.0, h) n m c d (subst (λ name. ReadsPair ReadsName (named name) xs (p.0, g) n c) is p.1) q.1 in
-          (e.0, e.1, tt));
+          (e.0, e.1, e.2.1));
       within = λ xs g n c p. (pair (text_content p.0)).within xs (p.0, g) n c p.1;
       positive = λ e xs g n c p. (pair (text_content p.0)).positive e xs (p.0, g) n c p.1;
+    }
+
+-- the same changes of the same values make the same values
+changed_same : {V : Type 0} (same : V → V → Type 0) (v w : V) (gs hs : List (V → V)) → same v w → SameParts (SameChange same) gs hs → same (changed v gs) (changed w hs)
+changed_same same v w [] [] s p = s
+changed_same same v w [] (h ∷ hs) s p = absurd p
+changed_same same v w (g ∷ gs) [] s p = absurd p
+changed_same same v w (g ∷ gs) (h ∷ hs) s p = changed_same same (g v) (h w) gs hs (p.0 v w s) p.1
+
+five_is_small : 5 < 8
+five_is_small = omega arith
+
+-- One input is read in one way, as values that mean the same. A struct that is made of the values may be exact by it.
+pub fields_laws : {V : Type 0} (same : V → V → Type 0) (first : V) (named : ReadsNamed V) → same first first → NamedLaws same named → Lawful (ReadsFields first named) same true
+fields_laws {V} same first named is laws =
+    let entry = entry_laws same named laws in
+    record {
+      one = λ xs v w n m c d p q. (
+          let e = sequence_one 5 five_is_small (ReadsEntry named) true (SameChange same) entry.one xs p.0 q.0 n m c d p.1 q.1 in
+          (e.0, e.1, subst (λ (z : V). same z w) (sym p.2) (subst (λ (z : V). same (changed first p.0) z) (sym q.2) (changed_same same first first p.0 q.0 is e.2))));
+      within = λ xs v n c p. sequence_within 5 five_is_small (ReadsEntry named) true entry.within xs p.0 n c p.1;
+      positive = λ e xs v n c p. sequence_positive 5 five_is_small (ReadsEntry named) true xs p.0 n c p.1;
     }

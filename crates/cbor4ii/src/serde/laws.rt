@@ -11,6 +11,7 @@ ghost use Rattle.std.specs.Prelude.{
   ℤ,
   List,
   Bool,
+  true,
   Some,
   None,
   All,
@@ -43,7 +44,9 @@ ghost use Rattle.cbor4ii_tree.specs.Item.{Item, IsItem};
 ghost use Rattle.cbor4ii_tree.specs.View.{view};
 ghost use Rattle.cbor4ii_tree.specs.declared.value.Value.{Value as AnyValue};
 ghost use Rattle.cbor4ii.specs.AnyCost.{any_cost};
+ghost use Rattle.cbor4ii.specs.Fields.{ReadsFields, SameField, named_field, no_fields, no_values};
 ghost use Rattle.cbor4ii.specs.ReadBack.{IsReadBack, BeginsOther};
+ghost use Rattle.cbor4ii.specs.Typed.{Lawful, any_two};
 
 use crate::serde::de::deserialize::Typed;
 use cbor4ii_items::types::{Bytes, F16, F32, F64};
@@ -160,6 +163,15 @@ pub fn values_are_read_back()
     ensures read { (v : AnyValue) → IsItem (view v) →
         IsReadBack ⟦<Value as Typed>⟧.reads (⟦<Value as Serialize>⟧.item v) v (any_cost (view v)) }
     ensures cost { (v : Item) → any_cost v ≤ canon_cost v }
+{}
+
+/// The fields of a struct, of which each has an exact type, are read in one way, as values that mean
+/// the same one by one. A struct that is made of them is exact by it, as one of two fields here and
+/// one of more by the same lemmas, `fields_laws` and `field_laws`.
+pub fn fields_are_read_in_one_way<A: Typed, B: Typed>()
+    ensures { IsTrue A.exact → IsTrue B.exact → (first second : List ℕ) → Lawful (ReadsFields
+        (None, (None, no_values)) (named_field first A.reads (named_field second B.reads no_fields)))
+        (SameField A.same (SameField B.same any_two)) true }
 {}
 
 /// What is read back is what `deserialize` answers, over a reader that tells the item's bytes and

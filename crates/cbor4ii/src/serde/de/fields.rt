@@ -43,6 +43,7 @@ ghost use Rattle.cbor4ii.specs.Fields.{
   Fills,
   fields_by,
   NamedLaws,
+  SameField,
   no_field_laws,
   every,
   StopsNamed,
@@ -53,7 +54,7 @@ ghost use Rattle.cbor4ii.specs.Fields.{
   StopsFields,
   fields_by_laws,
 };
-ghost use Rattle.cbor4ii.specs.Typed.{input, answer_of, as_core, said};
+ghost use Rattle.cbor4ii.specs.Typed.{input, answer_of, any_two, as_core, said};
 
 use crate::serde::de::deserialize::{Deserialize, Typed};
 use crate::serde::de::deserializer::Deserializer;
@@ -72,6 +73,9 @@ trait Values<S: Source>: Sized {
 
     // How it is refused.
     ghost stops: { List (Bor (List ℕ)) → StopsNamed };
+
+    // The values of both mean the same, one by one.
+    ghost same: { Self → Self → Type 0 };
 
     ghost owned: { Bool };
 
@@ -95,7 +99,7 @@ trait Values<S: Source>: Sized {
             (input S.view de.old) (input S.view de.new) (as_core error)) };
 
     ghost laws: { IsTrue Self.exact → (names : List (Bor (List ℕ))) → NamedLaws
-        (Self.named names) };
+        Self.same (Self.named names) };
 }
 
 /// No field.
@@ -103,6 +107,8 @@ impl<S: Source> Values<S> for () {
     ghost named = { λ names. no_field };
 
     ghost stops = { λ names. no_field_stops };
+
+    ghost same = { any_two };
 
     ghost owned = { true };
 
@@ -118,7 +124,7 @@ impl<S: Source> Values<S> for () {
         de.deserialize_ignored_any(alloc)
     }
 
-    ghost laws = { λ e names. no_field_laws };
+    ghost laws = { λ e names. no_field_laws any_two };
 }
 
 /// A field, and those behind it.
@@ -126,6 +132,8 @@ impl<S: Source, T: Deserialize<S> + Drop, V: Values<S>> Values<S> for (Option<T>
     ghost named = { fields_by T.reads V.named };
 
     ghost stops = { stops_by (said T.exact T.stops) V.stops };
+
+    ghost same = { SameField T.same V.same };
 
     ghost owned = { T.owned && V.owned };
 
@@ -155,7 +163,7 @@ impl<S: Source, T: Deserialize<S> + Drop, V: Values<S>> Values<S> for (Option<T>
         }
     }
 
-    ghost laws = { λ e. fields_by_laws V.named
+    ghost laws = { λ e. fields_by_laws V.named V.same
         (T.Typed.laws (both T.exact V.exact e).0) (V.laws (both T.exact V.exact e).1) };
 }
 

@@ -18,7 +18,7 @@ pub returns-in_err-take_field-clause-complete : goal.returns-in_err-take_field-c
 returns-in_err-take_field-clause-complete g c said exact =
     let p = err_from_is_err_and c.from_residual.result c.from_residual.ensures.1 in
     let named = g.V.Values.named c.args.names.now in
-    rw (p.1, p.2) (count_refuses (ReadsEntry named) (size_of (entry_laws named (g.met.V.Values.laws said c.args.names.now))) c.loop-i.invariant.begun c.loop-i-test.true (λ xs told. c.in_err-take_field.ensures.complete said (exact_kept _ _ _ xs told c.loop-i.invariant.begun.kept exact)))
+    rw (p.1, p.2) (count_refuses (ReadsEntry named) (size_of (entry_laws g.V.Values.same named (g.met.V.Values.laws said c.args.names.now))) c.loop-i.invariant.begun c.loop-i-test.true (λ xs told. c.in_err-take_field.ensures.complete said (exact_kept _ _ _ xs told c.loop-i.invariant.begun.kept exact)))
 
 pub returns-in_err-take_field-clause-stops : goal.returns-in_err-take_field-clause-stops
 returns-in_err-take_field-clause-stops g c =

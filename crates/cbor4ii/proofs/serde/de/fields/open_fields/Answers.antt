@@ -19,7 +19,7 @@ pub returns-in_err-ends-clause-complete : goal.returns-in_err-ends-clause-comple
 returns-in_err-ends-clause-complete g c said exact =
     let p = err_from_is_err_and c.from_residual.result c.from_residual.ensures.1 in
     let named = g.V.Values.named c.args.names.now in
-    rw (p.1, p.2) (let laws = entry_laws named (g.met.V.Values.laws said c.args.names.now) in end_refuses (ReadsEntry named) true (size_of laws) laws.within laws.positive c.loop-alloc.invariant.opened c.in_err-ends.ensures.runs)
+    rw (p.1, p.2) (let laws = entry_laws g.V.Values.same named (g.met.V.Values.laws said c.args.names.now) in end_refuses (ReadsEntry named) true (size_of laws) laws.within laws.positive c.loop-alloc.invariant.opened c.in_err-ends.ensures.runs)
 
 pub returns-in_err-ends-clause-stops : goal.returns-in_err-ends-clause-stops
 returns-in_err-ends-clause-stops g c =
@@ -39,7 +39,7 @@ returns-in_err-take_field-clause-complete g c said exact =
     let p = err_from_is_err_and c.from_residual-in_err-take_field.result c.from_residual-in_err-take_field.ensures.1 in
     let named = g.V.Values.named c.args.names.now in
     let kept = kept_then c.loop-alloc.invariant.opened.kept c.in_ok-ends.ensures.runs.moves.by in
-    rw (p.1, p.2) (open_refuses (ReadsEntry named) true (size_of (entry_laws named (g.met.V.Values.laws said c.args.names.now))) c.loop-alloc.invariant.opened (stands c.if-not-branch.true c.in_ok-ends.ensures.runs) (λ xs told. c.in_err-take_field.ensures.complete said (exact_kept _ _ _ xs told kept exact)))
+    rw (p.1, p.2) (open_refuses (ReadsEntry named) true (size_of (entry_laws g.V.Values.same named (g.met.V.Values.laws said c.args.names.now))) c.loop-alloc.invariant.opened (stands c.if-not-branch.true c.in_ok-ends.ensures.runs) (λ xs told. c.in_err-take_field.ensures.complete said (exact_kept _ _ _ xs told kept exact)))
 
 pub returns-in_err-take_field-clause-stops : goal.returns-in_err-take_field-clause-stops
 returns-in_err-take_field-clause-stops g c =
