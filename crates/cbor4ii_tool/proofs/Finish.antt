@@ -7,7 +7,7 @@ use Rattle.cbor4ii_rw.specs.View.{View, Told}
 use Rattle.cbor4ii_rw.specs.Reader.{Failed, Keeps}
 use Rattle.cbor4ii_rw.specs.Writer.{Output, Appends, one_more}
 use Rattle.cbor4ii_tool.specs.Item.{together}
-use Rattle.cbor4ii_tool.specs.Run.{FaultAt, Runs, WantsMemory, Blames, BlamesAt, Hands}
+use Rattle.cbor4ii_tool.specs.Run.{FaultAt, RunsOver, WantsMemory, Blames, BlamesAt, Hands}
 use Rattle.cbor4ii_tool.specs.Steps.{MovesFailures, FailsAt, Flushes, Finishes}
 use Rattle.cbor4ii_tool.specs.Fault.{Outcome}
 use Rattle.cbor4ii_tool.specs.declared.command.Command.{Command}
@@ -40,10 +40,10 @@ kept_fault command _ texts rest old mid new keeps fault =
 
 finished : (command : Command) (input : List ℕ) (old mid new : Option (List ℕ))
     (outcome answer : Outcome) (at : ℕ) (flushed : Bool) (m n : ℕ) → Keeps mid new
-    → Runs command input old mid outcome → OnOk outcome (at ≡ length input)
-    → Finishes outcome answer at flushed m n → Runs command input old new answer
+    → RunsOver command input old mid outcome → OnOk outcome (at ≡ length input)
+    → Finishes outcome answer at flushed m n → RunsOver command input old new answer
 finished command input old mid new (Err fault) answer at flushed m n keeps runs all finishes =
-    let same : Runs command input old new (Err fault) = record {
+    let same : RunsOver command input old new (Err fault) = record {
       texts = runs.texts;
       rest = runs.rest;
       row = runs.row;
@@ -51,7 +51,7 @@ finished command input old mid new (Err fault) answer at flushed m n keeps runs 
       at = runs.at;
       err = kept_fault command fault.kind runs.texts runs.rest old mid new keeps runs.err;
     } in
-    subst (λ (r : Outcome). Runs command input old new r) (sym finishes.0) same
+    subst (λ (r : Outcome). RunsOver command input old new r) (sym finishes.0) same
 finished command input old mid new (Ok _) (Ok _) at flushed m n keeps runs all finishes = record {
   texts = runs.texts;
   rest = runs.rest;
@@ -62,7 +62,7 @@ finished command input old mid new (Ok _) (Ok _) at flushed m n keeps runs all f
 }
 finished command input old mid new (Ok _) (Err fault) at flushed m n keeps runs all finishes =
     let none = ap length runs.ok.0 in
-    let last : Runs command input old new (Err (record { at = at; kind = Write })) = record {
+    let last : RunsOver command input old new (Err (record { at = at; kind = Write })) = record {
       texts = runs.texts;
       rest = runs.rest;
       row = runs.row;
@@ -70,7 +70,7 @@ finished command input old mid new (Ok _) (Err fault) at flushed m n keeps runs 
       at = omega (arith, none, all);
       err = λ some. absurd (some runs.ok.0);
     } in
-    subst (λ (f : Fault). Runs command input old new (Err f)) (sym finishes.0) last
+    subst (λ (f : Fault). RunsOver command input old new (Err f)) (sym finishes.0) last
 
 taken_is : (outcome : Outcome) (at n : ℕ) (taken : Option ℕ) → taken ≡ Some at
     → OnOk outcome (taken ≡ Some n) → OnOk outcome (at ≡ n)
@@ -84,10 +84,10 @@ ok_at (Err _) input told P is h = tt
 
 pub finished_run : (command : Command) (told old mid new : Option (List ℕ))
     (outcome answer : Outcome) (at : ℕ) (flushed : Bool) (m n : ℕ) (taken : Option ℕ)
-    → Told told (λ input. Runs command input old mid outcome)
+    → Told told (λ input. RunsOver command input old mid outcome)
     → OnOk outcome (Told told (λ input. taken ≡ Some (length input)))
     → taken ≡ Some at → Keeps mid new → Finishes outcome answer at flushed m n
-    → Told told (λ input. Runs command input old new answer)
+    → Told told (λ input. RunsOver command input old new answer)
 finished_run command told old mid new outcome answer at flushed m n taken runs all count keeps
     finishes input is =
     finished command input old mid new outcome answer at flushed m n keeps (runs input is)

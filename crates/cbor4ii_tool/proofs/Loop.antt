@@ -9,7 +9,7 @@ use Rattle.cbor4ii_rw.specs.View.{View, Told}
 use Rattle.cbor4ii_rw.specs.Reader.{Shows, Failed, counts}
 use Rattle.cbor4ii_rw.specs.Writer.{Output, Appends}
 use Rattle.cbor4ii_tool.specs.Item.{Converts, IsRow, together}
-use Rattle.cbor4ii_tool.specs.Run.{FaultAt, Runs, WantsMemory}
+use Rattle.cbor4ii_tool.specs.Run.{FaultAt, RunsOver, WantsMemory}
 use Rattle.cbor4ii_tool.specs.Steps.{Leaves, Done, Fails, MovesFailures, Ran}
 use Rattle.cbor4ii_tool.proofs.Items.{same_bytes}
 use Rattle.cbor4ii_tool.specs.declared.command.Command.{Command}
@@ -101,7 +101,7 @@ not_true false e t = cc
 
 pub ended : (command : Command) (start a : View) (held h : Output) → Ran command start a held h
     → Told a.told (λ xs. xs ≡ [])
-    → Told start.told (λ input. Runs command input held.written h.written (Ok tt))
+    → Told start.told (λ input. RunsOver command input held.written h.written (Ok tt))
 ended command start a held h ran end input told =
     let r = ran.over input told in
     record {
@@ -120,7 +120,7 @@ at_is at taken rest input known p q sum = let same : at ≡ taken = cc in omega 
 pub unread : (command : Command) (at : ℕ) (start a : View) (held h : Output)
     → Ran command start a held h → a.taken ≡ Some at
     → Told start.told
-    (λ input. Runs command input held.written h.written (Err (record { at = at; kind = Read })))
+    (λ input. RunsOver command input held.written h.written (Err (record { at = at; kind = Read })))
 unread command at start a held h ran taken input told =
     let r = ran.over input told in
     record {
@@ -153,7 +153,7 @@ pub stopped : (command : Command) (at : ℕ) (kind : Kind) (start a b c : View) 
     → Ran command start a held h → a.taken ≡ Some at → Shows [] a b → Told a.told (λ xs. xs ≢ [])
     → Fails command kind b c h i
     → Told start.told
-    (λ input. Runs command input held.written i.written (Err (record { at = at; kind = kind })))
+    (λ input. RunsOver command input held.written i.written (Err (record { at = at; kind = kind })))
 stopped command at kind start a b c held h i ran taken shows some fails input told =
     let r = ran.over input told in record {
       texts = r.texts;

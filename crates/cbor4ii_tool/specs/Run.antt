@@ -25,7 +25,7 @@ FaultAt command kind texts rest old new =
 
 -- The input is a row of items and a rest. Without a fault nothing is left, and the texts of the
 -- items are written; a fault stands behind the items.
-pub record Runs (command : Command) (input : List ℕ) (old new : Option (List ℕ))
+pub record RunsOver (command : Command) (input : List ℕ) (old new : Option (List ℕ))
     (outcome : Outcome) : Type 0 where
   pub texts : List (List ℕ)
   pub rest : List ℕ

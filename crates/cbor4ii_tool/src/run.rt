@@ -5,7 +5,7 @@ ghost use Rattle.cbor4ii_rw.specs.Reader.{Shows, Breaks, Keeps};
 ghost use Rattle.cbor4ii_rw.specs.Stream.{stream_view};
 ghost use Rattle.cbor4ii_rw.specs.Written.{stream_output, is_flushed};
 ghost use Rattle.cbor4ii_items.specs.Moves.{EndsOrForgets};
-ghost use Rattle.cbor4ii_tool.specs.Run.{Runs, Completes, WantsMemory, Blames, Hands};
+ghost use Rattle.cbor4ii_tool.specs.Run.{RunsOver, Completes, WantsMemory, Blames, Hands};
 ghost use Rattle.cbor4ii_tool.specs.Steps.{Leaves, Finishes, MovesFailures};
 ghost use Rattle.cbor4ii_tool.specs.declared.fault.Kind.TheVariants.{Read};
 
@@ -45,7 +45,7 @@ pub fn run<R: BufRead, W: io::Write>(
     requires budget { (stream_view R.Read.remaining R.consumable_len reader.old).budget
         ≡ Some 256 }
     ensures runs { Told (stream_view R.Read.remaining R.consumable_len reader.old).told (λ input.
-        Runs command input (stream_output W.contents writer.old).written
+        RunsOver command input (stream_output W.contents writer.old).written
         (stream_output W.contents writer.new).written result) }
     ensures complete { Told (stream_view R.Read.remaining R.consumable_len reader.old).told
         (λ input. Completes command input (stream_output W.contents writer.old).written
@@ -105,7 +105,7 @@ fn convert_items<R: BufRead, W: Write>(
     requires budget { (stream_view R.Read.remaining R.consumable_len reader.old).budget
         ≡ Some 256 }
     ensures runs { Told (stream_view R.Read.remaining R.consumable_len reader.old).told (λ input.
-        Runs command input (W.view writer.old).written (W.view writer.new).written result) }
+        RunsOver command input (W.view writer.old).written (W.view writer.new).written result) }
     ensures all { OnOk result (Told (stream_view R.Read.remaining R.consumable_len reader.old).told
         (λ input. (stream_view R.Read.remaining R.consumable_len reader.new).taken
         ≡ Some (length input))) }
