@@ -68,45 +68,65 @@ fn skips(
 #[test]
 fn refused(rt: HostRuntime) -> Result<(), Fail> {
     let alloc = rt.alloc();
-    for (head, count, item, read, left, skipped) in REFUSED {
-        let bytes = nested(alloc, *head, *count, item)?;
-        let rest = bytes
-            .get(bytes.len().saturating_sub(*left)..)
-            .ok_or("no rest")?;
-        reads(alloc, bytes, Err(*read), rest)?;
+    for &(head, count, item, read, left, skipped) in REFUSED {
+        let bytes = nested(alloc, head, count, item)?;
+        reads(alloc, bytes, Err(read), end(bytes, left)?)?;
         match skipped {
             None => skips(alloc, bytes, Ok(IgnoredAny), b"")?,
-            Some(left) => {
-                let rest = bytes
-                    .get(bytes.len().saturating_sub(*left)..)
-                    .ok_or("no rest")?;
-                skips(alloc, bytes, Err(NO_STEP), rest)?;
-                let mut slice = SliceReader::new(bytes);
-                let want: Want<Lent<RawValue>> = Err(NO_STEP);
-                reads_over(alloc, &mut slice, bytes, &want, bytes)?;
-            }
+            Some(left) => refuses_to_skip(alloc, bytes, end(bytes, left)?)?,
         }
     }
     Ok(())
 }
 
+// So many bytes at the end of these.
+fn end(bytes: &[u8], left: usize) -> Result<&[u8], Fail> {
+    Ok(
+        bytes
+            .get(bytes.len().saturating_sub(left)..)
+            .ok_or("no rest")?,
+    )
+}
+
+// No step is left to skip the item, and nothing moves where it is kept.
+fn refuses_to_skip(alloc: Global, bytes: &'static [u8], rest: &[u8]) -> Result<(), Fail> {
+    skips(alloc, bytes, Err(NO_STEP), rest)?;
+    let want: Want<Lent<RawValue>> = Err(NO_STEP);
+    reads_over(alloc, &mut SliceReader::new(bytes), bytes, &want, bytes)
+}
+
 #[test]
 fn all_steps_taken(rt: HostRuntime) -> Result<(), Fail> {
     let alloc = rt.alloc();
-    let bytes = nested(alloc, 0x81, 127, b"\x80")?;
-    reads(alloc, bytes, Ok(arrays(alloc, 127)?), b"")?;
-    let bytes = nested(alloc, 0xc1, 255, b"\x00")?;
-    reads(alloc, bytes, Ok(tags(alloc, 255)?), b"")?;
+    reads_arrays(alloc, 127)?;
+    reads_tags(alloc, 255)
+}
+
+fn reads_arrays(alloc: Global, count: usize) -> Result<(), Fail> {
+    let bytes = nested(alloc, 0x81, count, b"\x80")?;
+    reads(alloc, bytes, Ok(arrays(alloc, count)?), b"")
+}
+
+fn reads_tags(alloc: Global, count: usize) -> Result<(), Fail> {
+    let bytes = nested(alloc, 0xc1, count, b"\x00")?;
+    reads(alloc, bytes, Ok(tags(alloc, count)?), b"")?;
     skips(alloc, bytes, Ok(IgnoredAny), b"")
 }
 
+type Three = Pair<Item<Value>, Pair<Item<Value>, Item<Value>>>;
+
 // 1,000 arrays and one that is empty, and then 0 and null.
+fn deep(alloc: Global) -> Result<Three, AllocError> {
+    let deep = arrays(alloc, 1000)?;
+    let behind = Pair(Item(Value::Integer(0)), Item(Value::Null));
+    Ok(Pair(Item(deep), behind))
+}
+
 #[test]
 fn greatest_limit_and_none(rt: HostRuntime) -> Result<(), Fail> {
     let alloc = rt.alloc();
     let bytes = nested(alloc, 0x81, 1000, b"\x80\x00\xf6")?;
-    let behind = Pair(Item(Value::Integer(0)), Item(Value::Null));
-    let want = Ok(Pair(Item(arrays(alloc, 1000)?), behind));
+    let want = Ok(deep(alloc)?);
     reads_by_each(alloc, bytes, usize::MAX, &want, b"")?;
     reads_over(alloc, &mut TestReader::unlimited(bytes), bytes, &want, b"")
 }

@@ -1,10 +1,10 @@
 //! Rows of items that are kept as their bytes: lent by the reader, or copied.
-use crate::literal::Literal::{Integer, Null};
+use crate::literal::Literal::{self, Integer, Null};
 use crate::refusal_texts::{eof, no_step, require_borrowed};
 use crate::skipping::ITEMS;
 use cbor4ii_items::decode::Decode;
 use cbor4ii_items::types::Map;
-use cbor4ii_rw::error::DecodeError;
+use cbor4ii_rw::error::{DecodeError, Never};
 use cbor4ii_rw::read::Source;
 use cbor4ii_rw::segment_reader::SegmentReader;
 use cbor4ii_rw::slice_reader::SliceReader;
@@ -14,7 +14,7 @@ use cbor4ii_tree::{BoxedRawValue, RawValue, Value};
 use cbor4ii_trials::items::Lent;
 use cbor4ii_trials::readers::TestReader;
 use cbor4ii_trials::rows::{ReadBy, Want, lends, lends_short, reads_over, steps, writes_in};
-use std::alloc::Global;
+use std::alloc::{AllocError, Global};
 use std::marker::PhantomData;
 use std::test::Fail;
 
@@ -46,21 +46,25 @@ impl<S: Source, T: LendRaw<S>> ReadBy<S> for Copied<T> {
 
 type Raw = RawValue<'static>;
 
-// What a row wants of an item that is lent, and of one that is copied.
-fn both(
-    alloc: Global,
-    want: Want<&'static [u8]>,
-) -> Result<(Want<Lent<Raw>>, Want<Copied<Raw>>), Fail> {
+// What a row wants of an item that is lent.
+fn want_lent(alloc: Global, want: Want<&'static [u8]>) -> Result<Want<Lent<Raw>>, Fail> {
     match want {
         Ok(item) => {
             let lent = RawValue::decode(alloc, &mut SliceReader::new(item))?;
-            let copied = Copied {
-                bytes: item.to_vec(alloc)?,
-                of: PhantomData,
-            };
-            Ok((Ok(Lent(lent)), Ok(copied)))
+            Ok(Ok(Lent(lent)))
         }
-        Err(refusal) => Ok((Err(refusal), Err(refusal))),
+        Err(refusal) => Ok(Err(refusal)),
+    }
+}
+
+// What a row wants of an item that is copied.
+fn want_copied(alloc: Global, want: Want<&[u8]>) -> Result<Want<Copied<Raw>>, AllocError> {
+    match want {
+        Ok(item) => Ok(Ok(Copied {
+            bytes: item.to_vec(alloc)?,
+            of: PhantomData,
+        })),
+        Err(refusal) => Ok(Err(refusal)),
     }
 }
 
@@ -71,9 +75,12 @@ fn keeps(
     want: Want<&'static [u8]>,
     rest: &[u8],
 ) -> Result<(), Fail> {
-    let (lent, copied) = both(alloc, want)?;
-    lends(alloc, bytes, lent, rest)?;
-    lends(alloc, bytes, copied, rest)
+    lends(alloc, bytes, want_lent(alloc, want)?, rest)?;
+    copies(alloc, bytes, want, rest)
+}
+
+fn copies(alloc: Global, bytes: &'static [u8], want: Want<&[u8]>, rest: &[u8]) -> Result<(), Fail> {
+    lends(alloc, bytes, want_copied(alloc, want)?, rest)
 }
 
 #[test]
@@ -82,25 +89,46 @@ fn lent_and_copied(rt: HostRuntime) -> Result<(), Fail> {
     keeps(alloc, b"\x82\x01\x02\x03", Ok(b"\x82\x01\x02"), b"\x03")?;
     keeps(alloc, b"\x82\x01", Err(CUT_OFF), b"\x82\x01")?;
     keeps(alloc, b"", Err(CUT_OFF), b"")?;
-    for item in ITEMS {
+    for &item in ITEMS {
         keeps(alloc, item, Ok(item), b"")?;
-        let lent = RawValue::decode(alloc, &mut SliceReader::new(item))?;
-        assert_eq!(rt; lent.as_bytes(), *item);
-        let segments = [item, b"\x00".as_slice()];
-        let mut reader = SegmentReader::new(&segments);
-        reads_over(alloc, &mut reader, b"\x00", &Ok(Lent(lent)), b"\x00")?;
+        is_lent(alloc, item)?;
+        lends_segment(alloc, item)?;
     }
     Ok(())
+}
+
+fn is_lent(alloc: Global, item: &[u8]) -> Result<(), Fail> {
+    let lent = RawValue::decode(alloc, &mut SliceReader::new(item))?;
+    if lent.as_bytes() == item {
+        return Ok(());
+    }
+    Err(Fail::new(format_args!("{lent:?} is lent of {item:?}")))
+}
+
+fn lends_segment(alloc: Global, item: &'static [u8]) -> Result<(), Fail> {
+    let lent = want_lent(alloc, Ok(item))?;
+    let segments = [item, b"\x00".as_slice()];
+    let mut reader = SegmentReader::new(&segments);
+    reads_over(alloc, &mut reader, b"\x00", &lent, b"\x00")
 }
 
 #[test]
 fn within_a_limit(rt: HostRuntime) -> Result<(), Fail> {
     let alloc = rt.alloc();
-    let (lent, copied) = both(alloc, Ok(b"\x81\x00"))?;
-    let mut reader = SliceReader::with_limit(b"\x81\x00", 2);
-    reads_over(alloc, &mut reader, b"\x81\x00", &lent, b"")?;
-    let mut reader = SliceReader::with_limit(b"\x81\x00", 2);
-    reads_over(alloc, &mut reader, b"\x81\x00", &copied, b"")
+    lends_within(alloc, b"\x81\x00", 2)?;
+    copies_within(alloc, b"\x81\x00", 2)
+}
+
+fn lends_within(alloc: Global, item: &'static [u8], limit: usize) -> Result<(), Fail> {
+    let want = want_lent(alloc, Ok(item))?;
+    let mut reader = SliceReader::with_limit(item, limit);
+    reads_over(alloc, &mut reader, item, &want, b"")
+}
+
+fn copies_within(alloc: Global, item: &'static [u8], limit: usize) -> Result<(), Fail> {
+    let want = want_copied(alloc, Ok(item))?;
+    let mut reader = SliceReader::with_limit(item, limit);
+    reads_over(alloc, &mut reader, item, &want, b"")
 }
 
 // A front of an item that ends too early is the end of the input, and nothing moves.
@@ -146,11 +174,10 @@ const BY_BYTE: &[(&[u8], usize, Want<&[u8]>, &[u8])] = &[
 fn one_byte_at_a_time(rt: HostRuntime) -> Result<(), Fail> {
     let alloc = rt.alloc();
     for &(bytes, limit, want, rest) in BY_BYTE {
-        let (lent, copied) = both(alloc, want)?;
         let mut reader = TestReader::long(bytes, limit);
-        reads_over(alloc, &mut reader, bytes, &lent, rest)?;
+        reads_over(alloc, &mut reader, bytes, &want_lent(alloc, want)?, rest)?;
         let mut reader = TestReader::long(bytes, limit);
-        reads_over(alloc, &mut reader, bytes, &copied, rest)?;
+        reads_over(alloc, &mut reader, bytes, &want_copied(alloc, want)?, rest)?;
     }
     Ok(())
 }
@@ -169,15 +196,10 @@ fn items_in_segments(rt: HostRuntime) -> Result<(), Fail> {
     let alloc = rt.alloc();
     let bytes = b"\x82\x01\x02\x03";
     for &(segments, want, rest) in IN_SEGMENTS {
-        let (lent, copied) = both(alloc, want)?;
-        reads_over(alloc, &mut SegmentReader::new(segments), bytes, &lent, rest)?;
-        reads_over(
-            alloc,
-            &mut SegmentReader::new(segments),
-            bytes,
-            &copied,
-            rest,
-        )?;
+        let mut reader = SegmentReader::new(segments);
+        reads_over(alloc, &mut reader, bytes, &want_lent(alloc, want)?, rest)?;
+        let mut reader = SegmentReader::new(segments);
+        reads_over(alloc, &mut reader, bytes, &want_copied(alloc, want)?, rest)?;
     }
     Ok(())
 }
@@ -186,17 +208,34 @@ fn items_in_segments(rt: HostRuntime) -> Result<(), Fail> {
 #[test]
 fn written_again(rt: HostRuntime) -> Result<(), Fail> {
     let alloc = rt.alloc();
-    let null = BoxedRawValue::decode(alloc, &mut SliceReader::new(b"\xf6"))?;
-    for item in ITEMS {
-        let lent = RawValue::decode(alloc, &mut SliceReader::new(item))?;
-        writes_in(alloc, &lent, item, 1)?;
-        let copy = BoxedRawValue::decode(alloc, &mut SliceReader::new(item))?;
-        writes_in(alloc, &copy, item, 1)?;
-        assert_eq!(rt; copy.as_bytes(), *item);
-        assert!(rt; copy.try_clone()? == copy);
-        assert!(rt; copy != null);
+    for &item in ITEMS {
+        writes_lent(alloc, item)?;
+        writes_copy(alloc, item, &copy(alloc, item)?)?;
+        are_equal(&copy(alloc, item)?, &copy(alloc, item)?.try_clone()?, true)?;
+        are_equal(&copy(alloc, item)?, &copy(alloc, b"\xf6")?, false)?;
     }
     Ok(())
+}
+
+fn copy(alloc: Global, item: &[u8]) -> Result<BoxedRawValue, DecodeError<Never>> {
+    BoxedRawValue::decode(alloc, &mut SliceReader::new(item))
+}
+
+fn writes_lent(alloc: Global, item: &[u8]) -> Result<(), Fail> {
+    let lent = RawValue::decode(alloc, &mut SliceReader::new(item))?;
+    writes_in(alloc, &lent, item, 1)
+}
+
+fn writes_copy(alloc: Global, item: &[u8], copy: &BoxedRawValue) -> Result<(), Fail> {
+    writes_in(alloc, copy, item, 1)?;
+    is_copy(copy, item)
+}
+
+fn are_equal(left: &BoxedRawValue, right: &BoxedRawValue, want: bool) -> Result<(), Fail> {
+    if (left == right) == want {
+        return Ok(());
+    }
+    Err(Fail::new(format_args!("{left:?} and {right:?}")))
 }
 
 // {"bar": {"value": 0x99}}, of which the item under "bar" is kept.
@@ -205,33 +244,43 @@ const MAP: &[u8] = b"\xa1\x63bar\xa1\x65value\x18\x99";
 const ITEM: &[u8] = b"\xa1\x65value\x18\x99";
 
 #[test]
-fn items_under_a_key(rt: HostRuntime) -> Result<(), Fail> {
+fn an_item_under_a_key(rt: HostRuntime) -> Result<(), Fail> {
     let alloc = rt.alloc();
     let lent = <Map<Vec<(String, RawValue)>>>::decode(alloc, &mut SliceReader::new(MAP))?;
     let [(key, raw)] = lent.0.as_slice() else {
         return Err(Fail::from("not one pair"));
     };
     assert_eq!(rt; raw.as_bytes(), ITEM);
-    writes_in(alloc, &Map([(key.as_str(), *raw)].as_slice()), MAP, 4)?;
+    writes_in(alloc, &Map([(key.as_str(), *raw)].as_slice()), MAP, 4)
+}
+
+#[test]
+fn a_copy_under_a_key(rt: HostRuntime) -> Result<(), Fail> {
+    let alloc = rt.alloc();
     let owned = <Map<Vec<(String, BoxedRawValue)>>>::decode(alloc, &mut SliceReader::new(MAP))?;
     let [(_, copy)] = owned.0.as_slice() else {
         return Err(Fail::from("not one pair"));
     };
     assert_eq!(rt; copy.as_bytes(), ITEM);
-    let value = Value::decode(alloc, &mut SliceReader::new(copy.as_bytes()))?;
-    assert!(rt; BoxedRawValue::from_value(alloc, &value)? == *copy);
-    Ok(())
+    are_equal(&copy_of_value(alloc, copy.as_bytes())?, copy, true)
+}
+
+// A copy of the value that these bytes are read as.
+fn copy_of_value(alloc: Global, item: &[u8]) -> Result<BoxedRawValue, Fail> {
+    let value = Value::decode(alloc, &mut SliceReader::new(item))?;
+    Ok(BoxedRawValue::from_value(alloc, &value)?)
+}
+
+fn copy_of(alloc: Global, literal: &Literal) -> Result<BoxedRawValue, Fail> {
+    Ok(BoxedRawValue::from_value(alloc, &literal.to_value(alloc)?)?)
 }
 
 #[test]
 fn copies_of_values(rt: HostRuntime) -> Result<(), Fail> {
     let alloc = rt.alloc();
-    let raw = BoxedRawValue::from_value(alloc, &Null.to_value(alloc)?)?;
-    assert_eq!(rt; raw.as_bytes(), b"\xf6".as_slice());
-    let value = Integer(18446744073709551616).to_value(alloc)?;
-    let raw = BoxedRawValue::from_value(alloc, &value)?;
+    assert_eq!(rt; copy_of(alloc, &Null)?.as_bytes(), b"\xf6".as_slice());
     assert_eq!(rt;
-        raw.as_bytes(),
+        copy_of(alloc, &Integer(18446744073709551616))?.as_bytes(),
         b"\xc2\x49\x01\x00\x00\x00\x00\x00\x00\x00\x00".as_slice()
     );
     Ok(())
@@ -245,10 +294,20 @@ fn no_memory_for_a_copy(rt: HostRuntime) -> Result<(), Fail> {
     let got = BoxedRawValue::decode(alloc, &mut reader);
     assert_eq!(rt; reader.remaining(), b"\x03".as_slice());
     assert_eq!(rt; steps(&mut reader), 256);
-    let copy = got?;
-    assert_eq!(rt; copy.as_bytes(), b"\x82\x01\x02".as_slice());
+    copies_again(&got?, b"\x82\x01\x02")
+}
+
+// Where there is no memory for another copy, the first is as it was.
+fn copies_again(copy: &BoxedRawValue, item: &[u8]) -> Result<(), Fail> {
+    is_copy(copy, item)?;
     let again = copy.try_clone();
-    assert_eq!(rt; copy.as_bytes(), b"\x82\x01\x02".as_slice());
-    assert_eq!(rt; again?.as_bytes(), copy.as_bytes());
-    Ok(())
+    is_copy(copy, item)?;
+    is_copy(&again?, item)
+}
+
+fn is_copy(copy: &BoxedRawValue, item: &[u8]) -> Result<(), Fail> {
+    if copy.as_bytes() == item {
+        return Ok(());
+    }
+    Err(Fail::new(format_args!("{copy:?} of {item:?}")))
 }

@@ -10,7 +10,7 @@ use cbor4ii_rw::slice_reader::SliceReader;
 use cbor4ii_tree::IgnoredAny;
 use cbor4ii_trials::readers::{Counting, TestReader};
 use cbor4ii_trials::rows::{Want, leaves, reads_over};
-use std::alloc::Global;
+use std::alloc::{AllocError, Global};
 use std::test::Fail;
 
 // Items that are skipped, most of which are no values.
@@ -56,10 +56,10 @@ const FOLLOWED: &[(&[u8], &[u8])] = table! {
 #[test]
 fn items(rt: HostRuntime) -> Result<(), Fail> {
     let alloc = rt.alloc();
-    for item in ITEMS {
+    for &item in ITEMS {
         skips_item(alloc, item, 256)?;
     }
-    for (bytes, rest) in FOLLOWED {
+    for &(bytes, rest) in FOLLOWED {
         skips(alloc, bytes, Ok(IgnoredAny), rest)?;
     }
     Ok(())
@@ -126,13 +126,25 @@ const ZEROS: &[(&[u8], usize, &[u8], Want<IgnoredAny>, &[u8])] = table! {
 fn many_items(rt: HostRuntime) -> Result<(), Fail> {
     let alloc = rt.alloc();
     for (head, count, end, want, rest) in ZEROS {
-        let mut bytes = head.to_vec(alloc)?;
-        let zeros = vec![in alloc; 0x00u8; *count]?;
-        bytes.extend_from_slice(&zeros)?;
-        bytes.extend_from_slice(end)?;
+        let bytes = zeros(alloc, head, *count, end)?;
         skips_many(alloc, &bytes, &want.map(|any| Item(any)), rest)?;
     }
     Ok(())
+}
+
+fn zeros(alloc: Global, head: &[u8], count: usize, end: &[u8]) -> Result<Vec<u8>, AllocError> {
+    let mut bytes = repeated(alloc, head, count, b"\x00")?;
+    bytes.extend_from_slice(end)?;
+    Ok(bytes)
+}
+
+// A head, and an item behind it so many times.
+fn repeated(alloc: Global, head: &[u8], count: usize, item: &[u8]) -> Result<Vec<u8>, AllocError> {
+    let mut bytes = head.to_vec(alloc)?;
+    for _ in 0..count {
+        bytes.extend_from_slice(item)?;
+    }
+    Ok(bytes)
 }
 
 // Over each reader that has 256 steps or no limit, and in two segments, cut near either end of what
@@ -161,31 +173,29 @@ fn skips_many(
 // How often an item is looked at that holds so many of one kind, by a reader that shows no more
 // than is wanted: a run of those that say their size in the first byte once for some 256 bytes,
 // another once for its head, and a break once.
+const LOOKS: &[(&[u8], usize, &[u8], usize)] = table! {
+    (b"\x98\xc8", 200, b"\x00", 8),
+    (b"\xb8\x64", 200, b"\x00", 8),
+    (b"\xb8\x32", 50, b"\x61a\x19\x01\x02", 8),
+    (b"\x98\x28", 40, b"\x9f\xff", 84),
+    (b"\x98\x28", 40, b"\x78\x01a", 44),
+    (b"\x98\x28", 40, b"\xd8\x20\x00", 84),
+};
+
 #[test]
 fn few_looks(rt: HostRuntime) -> Result<(), Fail> {
     let alloc = rt.alloc();
-    let rows: [(&[u8], usize, &[u8], usize); 6] = [
-        (b"\x98\xc8", 200, b"\x00", 8),
-        (b"\xb8\x64", 200, b"\x00", 8),
-        (b"\xb8\x32", 50, b"\x61a\x19\x01\x02", 8),
-        (b"\x98\x28", 40, b"\x9f\xff", 84),
-        (b"\x98\x28", 40, b"\x78\x01a", 44),
-        (b"\x98\x28", 40, b"\xd8\x20\x00", 84),
-    ];
-    for (head, count, item, most) in rows {
-        let mut bytes = Vec::new(alloc);
-        bytes.extend_from_slice(head)?;
-        for _ in 0..count {
-            bytes.extend_from_slice(item)?;
-        }
-        let mut reader = Counting::new(&bytes);
-        IgnoredAny::decode(alloc, &mut reader)?;
-        assert!(rt;
-            reader.shows() <= most,
-            "{} looks at {item:?}",
-            reader.shows()
-        );
-        leaves(&mut reader, &bytes, b"")?;
+    for &(head, count, item, most) in LOOKS {
+        let looks = looks(alloc, &repeated(alloc, head, count, item)?)?;
+        assert!(rt; looks <= most, "{looks} looks at {item:?}");
     }
     Ok(())
+}
+
+fn looks(alloc: Global, bytes: &[u8]) -> Result<usize, Fail> {
+    let mut reader = Counting::new(bytes);
+    IgnoredAny::decode(alloc, &mut reader)?;
+    let shows = reader.shows();
+    leaves(&mut reader, bytes, b"")?;
+    Ok(shows)
 }

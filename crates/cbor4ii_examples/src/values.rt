@@ -105,7 +105,6 @@ const SEQUENCES: &[(&[u8], Literal)] = table! {
     (b"\x80", Array(&[])),
     (b"\x83\x01\x02\x03", Array(&[Integer(1), Integer(2), Integer(3)])),
     (b"\x83\x01\x82\x02\x03\x82\x04\x05", NESTED),
-    (COUNTED, ONE_TO_25),
     (b"\xa0", Map(&[])),
     (b"\xa2\x01\x02\x03\x04", Map(&[(Integer(1), Integer(2)), (Integer(3), Integer(4))])),
     (b"\xa2\x61a\x01\x61b\x82\x02\x03", LETTERS),
@@ -191,7 +190,6 @@ const SPELLINGS: &[Spelling] = table! {
     (b"\x9f\x01\x82\x02\x03\x82\x04\x05\xff", NESTED, b"\x83\x01\x82\x02\x03\x82\x04\x05"),
     (b"\x83\x01\x82\x02\x03\x9f\x04\x05\xff", NESTED, b"\x83\x01\x82\x02\x03\x82\x04\x05"),
     (b"\x83\x01\x9f\x02\x03\xff\x82\x04\x05", NESTED, b"\x83\x01\x82\x02\x03\x82\x04\x05"),
-    (OPEN, ONE_TO_25, COUNTED),
     (b"\xbf\xff", Map(&[]), b"\xa0"),
     (b"\xbf\x61a\x01\x61b\x9f\x02\x03\xff\xff", LETTERS, b"\xa2\x61a\x01\x61b\x82\x02\x03"),
     (b"\x82\x61a\xbf\x61b\x61c\xff", LETTERS_IN_ARRAY, b"\x82\x61a\xa1\x61b\x61c"),
@@ -338,6 +336,15 @@ fn reads_bignums(alloc: Global, rows: &[Bignum]) -> Result<(), Fail> {
 #[test]
 fn bignums(rt: HostRuntime) -> Result<(), Fail> {
     reads_bignums(rt.alloc(), BIGNUMS)
+}
+
+#[test]
+fn an_array_of_25(rt: HostRuntime) -> Result<(), Fail> {
+    let alloc = rt.alloc();
+    reads_and_writes(alloc, COUNTED, &ONE_TO_25, COUNTED)?;
+    reads_canonical(alloc, COUNTED, &ONE_TO_25)?;
+    reads_and_writes(alloc, OPEN, &ONE_TO_25, COUNTED)?;
+    is_not_canonical(alloc, OPEN)
 }
 
 // The value is written as these bytes. Answers in how many pushes.
