@@ -1,7 +1,7 @@
 -- The pieces determine the chunks.
 use Rattle.std.proofs.Common.{◌≡◌, ℕ, ◌+◌, ◌<◌, List, [], ◌∷◌, ◌++◌, length, refl, sym, ap, ap₂, ◌∙◌, inl, inr, arith, append_assoc, length-append, subst}
 use Rattle.cbor4ii_items.specs.Strings.{joined, opening, closing}
-use Rattle.cbor4ii_ser.specs.Pieces.{most, filled, IsFull, IsChunk, IsCut, Chunks, one, several, counted_chunks}
+use Rattle.cbor4ii_ser.specs.Pieces.{most, without_empty, IsFull, IsChunk, IsCut, Chunks, one, several, counted_chunks}
 
 pub joined_append : (ps qs : List (List ℕ)) → joined (ps ++ qs) ≡ joined ps ++ joined qs
 joined_append [] qs = refl
@@ -55,4 +55,4 @@ pub chunks_same : (pieces : List (List ℕ)) (a b : List ℕ) → Chunks pieces 
 chunks_same pieces a b (one h e) (one k f) = e ∙ sym f
 chunks_same pieces a b (one h e) (several cs k cut f) = absurd (omega (arith, h, k))
 chunks_same pieces a b (several cs h cut e) (one k f) = absurd (omega (arith, h, k))
-chunks_same pieces a b (several cs h cut e) (several ds k other f) = e ∙ (ap (λ z. opening 3 ++ counted_chunks z ++ closing) (cut_same (filled pieces) cs ds cut other) ∙ sym f)
+chunks_same pieces a b (several cs h cut e) (several ds k other f) = e ∙ (ap (λ z. opening 3 ++ counted_chunks z ++ closing) (cut_same (without_empty pieces) cs ds cut other) ∙ sym f)

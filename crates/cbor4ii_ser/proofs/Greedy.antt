@@ -3,23 +3,23 @@ use Rattle.std.proofs.Common.{◌≡◌, ℕ, ◌+◌, ◌<◌, ◌≤◌, Bool,
 use Rattle.std.proofs.lemmas.List.{append-nil}
 use Rattle.std.proofs.lemmas.Bool.{leb-false, leb-true}
 use Rattle.cbor4ii_items.specs.Strings.{joined, counted_string, opening, closing}
-use Rattle.cbor4ii_ser.specs.Pieces.{most, filled, IsFull, IsCut, Chunks, one, several, counted_chunks, Pending, fits, run_bytes, long_bytes, piece_bytes, piece_pending, held, written, after, last_bytes, text_bytes}
+use Rattle.cbor4ii_ser.specs.Pieces.{most, without_empty, IsFull, IsCut, Chunks, one, several, counted_chunks, Pending, fits, run_bytes, long_bytes, piece_bytes, piece_pending, held, written, after, last_bytes, text_bytes}
 use Rattle.cbor4ii_ser.proofs.Determined.{joined_append}
 
-filled_append : (ps qs : List (List ℕ)) → filled (ps ++ qs) ≡ filled ps ++ filled qs
-filled_append [] qs = refl
-filled_append ([] ∷ ps) qs = filled_append ps qs
-filled_append ((b ∷ bs) ∷ ps) qs = ap (λ z. (b ∷ bs) ∷ z) (filled_append ps qs)
+without_empty_append : (ps qs : List (List ℕ)) → without_empty (ps ++ qs) ≡ without_empty ps ++ without_empty qs
+without_empty_append [] qs = refl
+without_empty_append ([] ∷ ps) qs = without_empty_append ps qs
+without_empty_append ((b ∷ bs) ∷ ps) qs = ap (λ z. (b ∷ bs) ∷ z) (without_empty_append ps qs)
 
-pub joined_filled : (ps : List (List ℕ)) → joined (filled ps) ≡ joined ps
-joined_filled [] = refl
-joined_filled ([] ∷ ps) = joined_filled ps
-joined_filled ((b ∷ bs) ∷ ps) = ap (λ z. (b ∷ bs) ++ z) (joined_filled ps)
+pub joined_without_empty : (ps : List (List ℕ)) → joined (without_empty ps) ≡ joined ps
+joined_without_empty [] = refl
+joined_without_empty ([] ∷ ps) = joined_without_empty ps
+joined_without_empty ((b ∷ bs) ∷ ps) = ap (λ z. (b ∷ bs) ++ z) (joined_without_empty ps)
 
-none_filled : (ps : List (List ℕ)) → joined ps ≡ [] → filled ps ≡ []
-none_filled [] e = refl
-none_filled ([] ∷ ps) e = none_filled ps e
-none_filled ((b ∷ bs) ∷ ps) e = absurd (cc)
+none_without_empty : (ps : List (List ℕ)) → joined ps ≡ [] → without_empty ps ≡ []
+none_without_empty [] e = refl
+none_without_empty ([] ∷ ps) e = none_without_empty ps e
+none_without_empty ((b ∷ bs) ∷ ps) e = absurd (cc)
 
 -- what is still to be written, and the end
 abbrev spelled : Pending → List (List ℕ) → List ℕ
@@ -57,8 +57,8 @@ with_run (f ∷ fs) (b ∷ bs) rest bytes is empty short full p =
       ap (λ z. counted_string 3 (b ∷ bs) ++ z) p.2 ∙ sym (append_assoc (counted_string 3 (b ∷ bs)) (counted_chunks p.0) closing),
     )
 
-with_held : (us rest : List (List ℕ)) (bytes : List ℕ) → length (joined us) ≤ most → IsFull (joined us) rest → Cuts rest bytes → Cuts (filled us ++ rest) (run_bytes (joined us) ++ bytes)
-with_held us rest bytes short full p = with_run (filled us) (joined us) rest bytes (sym (joined_filled us)) (none_filled us) short full p
+with_held : (us rest : List (List ℕ)) (bytes : List ℕ) → length (joined us) ≤ most → IsFull (joined us) rest → Cuts rest bytes → Cuts (without_empty us ++ rest) (run_bytes (joined us) ++ bytes)
+with_held us rest bytes short full p = with_run (without_empty us) (joined us) rest bytes (sym (joined_without_empty us)) (none_without_empty us) short full p
 
 -- a long piece, as a chunk before others
 with_long : (a : List ℕ) (rest : List (List ℕ)) (bytes : List ℕ) → IsFull a rest → Cuts rest bytes → Cuts (a ∷ rest) (counted_string 3 a ++ bytes)
@@ -78,28 +78,28 @@ joined_one us a = joined_append us (a ∷ []) ∙ ap (λ z. joined us ++ z) (app
 
 -- a piece that does not fit behind the run
 behind : (u : Bool) (us : List (List ℕ)) (b : ℕ) (bs : List ℕ) (ps : List (List ℕ)) → nat_le (length (b ∷ bs)) most ≡ u → length (joined us) ≤ most → most < length (joined us) + length (b ∷ bs)
-    → ((vs : List (List ℕ)) → length (joined vs) ≤ most → Cuts (filled vs ++ filled ps) (spelled (run_of true (joined vs)) ps))
-    → Cuts (filled us ++ filled ((b ∷ bs) ∷ ps)) ((run_bytes (joined us) ++ long_bytes u (b ∷ bs)) ++ spelled (run_of true (held u (b ∷ bs))) ps)
+    → ((vs : List (List ℕ)) → length (joined vs) ≤ most → Cuts (without_empty vs ++ without_empty ps) (spelled (run_of true (joined vs)) ps))
+    → Cuts (without_empty us ++ without_empty ((b ∷ bs) ∷ ps)) ((run_bytes (joined us) ++ long_bytes u (b ∷ bs)) ++ spelled (run_of true (held u (b ∷ bs))) ps)
 behind true us b bs ps is short long rec =
     let fit : length (joined ((b ∷ bs) ∷ [])) ≤ most = omega (arith, leb-true (length (b ∷ bs)) most is, ap length (append-nil (b ∷ bs))) in
     let full : most < length (joined us ++ (b ∷ bs)) = omega (arith, long, length-append (joined us) (b ∷ bs)) in
     cuts_as refl (sym (append_assoc (run_bytes (joined us)) [] (spelled (run_of true (b ∷ bs)) ps)))
-    (with_held us ((b ∷ bs) ∷ filled ps) (spelled (run_of true (b ∷ bs)) ps) short full
+    (with_held us ((b ∷ bs) ∷ without_empty ps) (spelled (run_of true (b ∷ bs)) ps) short full
     (cuts_as refl (ap (λ z. spelled (run_of true z) ps) (append-nil (b ∷ bs))) (rec ((b ∷ bs) ∷ []) fit)))
 behind false us b bs ps is short long rec =
     let big : most < length (b ∷ bs) = leb-false (length (b ∷ bs)) most is in
     let full : most < length (joined us ++ (b ∷ bs)) = omega (arith, long, length-append (joined us) (b ∷ bs)) in
     let none : 0 ≤ most = omega arith in
     cuts_as refl (sym (append_assoc (run_bytes (joined us)) (counted_string 3 (b ∷ bs)) (spelled (run_of true []) ps)))
-    (with_held us ((b ∷ bs) ∷ filled ps) (counted_string 3 (b ∷ bs) ++ spelled (run_of true []) ps) short full
-    (with_long (b ∷ bs) (filled ps) (spelled (run_of true []) ps) (full_long (b ∷ bs) (filled ps) big) (rec [] none)))
+    (with_held us ((b ∷ bs) ∷ without_empty ps) (counted_string 3 (b ∷ bs) ++ spelled (run_of true []) ps) short full
+    (with_long (b ∷ bs) (without_empty ps) (spelled (run_of true []) ps) (full_long (b ∷ bs) (without_empty ps) big) (rec [] none)))
 
 cut_at : (t : Bool) (us : List (List ℕ)) (a : List ℕ) (ps : List (List ℕ)) → fits (run_of true (joined us)) a ≡ t → length (joined us) ≤ most
-    → ((vs : List (List ℕ)) → length (joined vs) ≤ most → Cuts (filled vs ++ filled ps) (spelled (run_of true (joined vs)) ps))
-    → Cuts (filled us ++ filled (a ∷ ps)) (spelled_at t (run_of true (joined us)) a ps)
+    → ((vs : List (List ℕ)) → length (joined vs) ≤ most → Cuts (without_empty vs ++ without_empty ps) (spelled (run_of true (joined vs)) ps))
+    → Cuts (without_empty us ++ without_empty (a ∷ ps)) (spelled_at t (run_of true (joined us)) a ps)
 cut_at true us a ps is short rec =
     let fit : length (joined (us ++ (a ∷ []))) ≤ most = omega (arith, leb-true (length (joined us) + length a) most is, ap length (joined_one us a), length-append (joined us) a) in
-    cuts_as (ap (λ z. z ++ filled ps) (filled_append us (a ∷ [])) ∙ (append_assoc (filled us) (filled (a ∷ [])) (filled ps) ∙ ap (λ z. filled us ++ z) (sym (filled_append (a ∷ []) ps))))
+    cuts_as (ap (λ z. z ++ without_empty ps) (without_empty_append us (a ∷ [])) ∙ (append_assoc (without_empty us) (without_empty (a ∷ [])) (without_empty ps) ∙ ap (λ z. without_empty us ++ z) (sym (without_empty_append (a ∷ []) ps))))
     (ap (λ z. spelled (run_of true z) ps) (joined_one us a)) (rec (us ++ (a ∷ [])) fit)
 cut_at false us [] ps is short rec =
     let long : most < length (joined us) + 0 = leb-false (length (joined us) + 0) most is in
@@ -111,7 +111,7 @@ cut_at false us (b ∷ bs) ps is short rec =
     (behind u us b bs ps refl short long rec)
 
 -- where a text of indefinite length has begun
-cut_on : (ps us : List (List ℕ)) → length (joined us) ≤ most → Cuts (filled us ++ filled ps) (spelled (run_of true (joined us)) ps)
+cut_on : (ps us : List (List ℕ)) → length (joined us) ≤ most → Cuts (without_empty us ++ without_empty ps) (spelled (run_of true (joined us)) ps)
 cut_on [] us short =
     cuts_as refl (sym (spelled_nil (run_of true (joined us)))) (with_held us [] closing short tt ([], refl, refl))
 cut_on (a ∷ ps) us short =
@@ -133,7 +133,7 @@ chunks_at false us a ps is short rec =
     let long : most < length (joined us) + length a = leb-false (length (joined us) + length a) most is in
     let total : most < length (joined (us ++ (a ∷ ps))) = omega (arith, long, ap length (joined_append us (a ∷ ps)), length-append (joined us) (a ++ joined ps), length-append a (joined ps)) in
     let p = cut_at false us a ps is short (λ vs h. cut_on ps vs h) in
-    several p.0 total (subst (λ z. IsCut z p.0) (sym (filled_append us (a ∷ ps))) p.1) (begun_at (joined us) a ps ∙ (ap (λ z. opening 3 ++ z) p.2 ∙ sym (append_assoc (opening 3) (counted_chunks p.0) closing)))
+    several p.0 total (subst (λ z. IsCut z p.0) (sym (without_empty_append us (a ∷ ps))) p.1) (begun_at (joined us) a ps ∙ (ap (λ z. opening 3 ++ z) p.2 ∙ sym (append_assoc (opening 3) (counted_chunks p.0) closing)))
 
 chunks_on : (ps us : List (List ℕ)) → length (joined us) ≤ most → Chunks (us ++ ps) (spelled (run_of false (joined us)) ps)
 chunks_on [] us short =

@@ -8,9 +8,9 @@ use Rattle.std.proofs.lemmas.Str.{IsUtf8-nil, IsUtf8-append}
 use Rattle.cbor4ii_items.specs.Strings.{joined, counted_string, opening, closing, ReadsCountedString, ReadsChunks, ReadsOpenString, ReadsTextAs, chunk_cost}
 use Rattle.cbor4ii_items.specs.ReadBack.{ReadsBack}
 use Rattle.cbor4ii_items.specs.Laws.LeavesBack.{counted_back}
-use Rattle.cbor4ii_ser.specs.Pieces.{filled, IsChunk, IsCut, Chunks, one, several, counted_chunks}
+use Rattle.cbor4ii_ser.specs.Pieces.{without_empty, IsChunk, IsCut, Chunks, one, several, counted_chunks}
 use Rattle.cbor4ii_ser.proofs.Determined.{joined_append}
-use Rattle.cbor4ii_ser.proofs.Greedy.{joined_filled}
+use Rattle.cbor4ii_ser.proofs.Greedy.{joined_without_empty}
 
 -- each piece is so short that its length can be said
 abbrev AllShort : List (List ℕ) → Type 0
@@ -47,10 +47,10 @@ short_rest : (ps qs : List (List ℕ)) → AllShort (ps ++ qs) → AllShort qs
 short_rest [] qs h = h
 short_rest (p ∷ ps) qs h = short_rest ps qs h.1
 
-short_filled : (ps : List (List ℕ)) → AllShort ps → AllShort (filled ps)
-short_filled [] h = tt
-short_filled ([] ∷ ps) h = short_filled ps h.1
-short_filled ((b ∷ bs) ∷ ps) h = (h.0, short_filled ps h.1)
+short_without_empty : (ps : List (List ℕ)) → AllShort ps → AllShort (without_empty ps)
+short_without_empty [] h = tt
+short_without_empty ([] ∷ ps) h = short_without_empty ps h.1
+short_without_empty ((b ∷ bs) ∷ ps) h = (h.0, short_without_empty ps h.1)
 
 short_one : (c : List ℕ) (run : List (List ℕ)) → length run ≡ 1 → c ≡ joined run → AllShort run → length c < 2 ^ 64
 short_one c [] e is h = absurd (omega (arith, e))
@@ -109,8 +109,8 @@ module _ {V : Type 0} (content : V → List ℕ) (v : V) (pieces : List (List �
     subst IsUtf8 (sym has) (utf8_joined pieces utf8),
   )
   pieces_back has utf8 (several cs long cut e) rest =
-      let is : joined pieces ≡ joined cs = sym (joined_filled pieces) ∙ joined_cut (filled pieces) cs cut in
-      let read = open_back pieces cs rest is (short_cut (filled pieces) cs cut (short_filled pieces (all_short pieces fits))) in (
+      let is : joined pieces ≡ joined cs = sym (joined_without_empty pieces) ∙ joined_cut (without_empty pieces) cs cut in
+      let read = open_back pieces cs rest is (short_cut (without_empty pieces) cs cut (short_without_empty pieces (all_short pieces fits))) in (
         inr (subst (λ z. ReadsOpenString 3 (bytes ++ rest) z (length bytes) (chunk_cost cs)) (sym has) (subst (λ z. ReadsOpenString 3 (z ++ rest) (joined pieces) (length z) (chunk_cost cs)) (sym e) read)),
         subst IsUtf8 (sym has) (utf8_joined pieces utf8),
       )
