@@ -69,7 +69,7 @@ impl<T: Spelled> Spelled for Maybe<Option<T>> {
 impl<S: Source, T: Decode<S>> Decode<S> for Maybe<Option<T>> {
     #[inline(always)]
     fn decode(alloc: Global, reader: &mut S) -> Result<Maybe<Option<T>>, DecodeError<S::Error>> {
-        if !item_follows(reader)? {
+        if !take_maybe_head(reader)? {
             return Ok(Maybe(None));
         }
         match T::decode(alloc, reader) {
@@ -88,7 +88,7 @@ impl<S: Source, T: Decode<S>> Decode<S> for Maybe<Option<T>> {
 }
 
 /// Takes the head of an array of no item or one, and answers whether an item is to follow.
-fn item_follows<S: Source>(reader: &mut S) -> Result<bool, DecodeError<S::Error>>
+fn take_maybe_head<S: Source>(reader: &mut S) -> Result<bool, DecodeError<S::Error>>
     ensures runs { Runs few_at (S.view reader.old) (S.view reader.new) result }
     ensures memory { IfErr result (λ error. is_out_of_memory error ≡ false) }
     ensures progress { OnOk result ((S.view reader.new).bound + 1 ≤ (S.view reader.old).bound) }
@@ -99,7 +99,7 @@ fn item_follows<S: Source>(reader: &mut S) -> Result<bool, DecodeError<S::Error>
     take_few(reader)
 }
 
-/// As `item_follows`, by what a program does.
+/// As `take_maybe_head`, by what a program does.
 fn take_few<S: Source>(reader: &mut S) -> Result<bool, DecodeError<S::Error>>
     ensures runs { Runs few_at (S.view reader.old) (S.view reader.new) result }
     ensures memory { IfErr result (λ error. is_out_of_memory error ≡ false) }

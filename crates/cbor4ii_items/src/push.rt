@@ -128,13 +128,13 @@ pub(crate) fn push_signed_integer<W: Write>(
     ensures { Writes W.whole (signed_bytes value) (W.view writer.old) (W.view writer.new) result }
 {
     if value >= 0 {
-        push_integer(writer, major::UNSIGNED, POSITIVE_BIGNUM, number(value))
+        push_integer(writer, major::UNSIGNED, POSITIVE_BIGNUM, nonnegative(value))
     } else {
         push_integer(writer, major::NEGATIVE, NEGATIVE_BIGNUM, beyond(value))
     }
 }
 
-fn number(value: i128) -> u128
+fn nonnegative(value: i128) -> u128
     requires { pos 0 ≤ℤ value }
     ensures { value ≡ pos result }
 {

@@ -1,6 +1,6 @@
 use Rattle.cbor4ii_items.proofs.Leaves.{leaf_sound, leaf_complete, leaf_stops}
 use Rattle.cbor4ii_items.proofs.MaybeParts.{few_leaf}
-use Rattle.cbor4ii_items.proofs.maybe.item_follows.Goals as goal
+use Rattle.cbor4ii_items.proofs.maybe.take_maybe_head.Goals as goal
 
 pub returns-clause-sound : goal.returns-clause-sound
 returns-clause-sound g c = leaf_sound few_leaf c.take_few.result c.take_few.ensures.runs
