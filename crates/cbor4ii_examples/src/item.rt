@@ -10,17 +10,20 @@ use std::alloc::Global;
 #[derive(Debug, PartialEq, Drop)]
 pub struct Item<T>(pub T);
 
-macro_rules! read_whole {
-    ($($item:ty),*) => { $(
-        impl ReadFrom for Item<$item> {
-            fn read_from<S: Source>(
-                alloc: Global,
-                reader: &mut S,
-            ) -> Result<Item<$item>, DecodeError<S::Error>> {
-                Ok(Item(<$item>::decode(alloc, reader)?))
-            }
-        }
-    )* };
+impl ReadFrom for Item<Value> {
+    fn read_from<S: Source>(alloc: Global, reader: &mut S) -> Result<Self, DecodeError<S::Error>> {
+        Ok(Item(Value::decode(alloc, reader)?))
+    }
 }
 
-read_whole! { Value, Canonical, IgnoredAny }
+impl ReadFrom for Item<Canonical> {
+    fn read_from<S: Source>(alloc: Global, reader: &mut S) -> Result<Self, DecodeError<S::Error>> {
+        Ok(Item(Canonical::decode(alloc, reader)?))
+    }
+}
+
+impl ReadFrom for Item<IgnoredAny> {
+    fn read_from<S: Source>(alloc: Global, reader: &mut S) -> Result<Self, DecodeError<S::Error>> {
+        Ok(Item(IgnoredAny::decode(alloc, reader)?))
+    }
+}

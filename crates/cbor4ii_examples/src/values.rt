@@ -315,7 +315,8 @@ fn reads_spellings(alloc: Global, rows: &[Spelling]) -> Result<(), Fail> {
 fn is_not_canonical(alloc: Global, item: &[u8]) -> Result<(), Fail> {
     match Canonical::decode(alloc, &mut SliceReader::new(item)) {
         Err(DecodeError::NotCanonical { name: "canonical" }) => Ok(()),
-        _ => Err(Fail::new(format_args!("{item:?}"))),
+        Err(error) => Err(Fail::from(error)),
+        Ok(_) => Err(Fail::new(format_args!("{item:?}"))),
     }
 }
 

@@ -1,10 +1,5 @@
 //! Typed values as rows: read over each reader for tests, and written into each writer for tests.
-use crate::events::{Event, Sample};
-use crate::records::Point;
-use cbor4ii::Value;
-use cbor4ii::dec::IgnoredAny;
-use cbor4ii::serde::{DecodeError, Deserialize, Deserializer, EncodeError, Serialize, Serializer};
-use cbor4ii::types::{Bytes, F16, F32, F64};
+use cbor4ii::serde::{DecodeError, Deserializer, EncodeError, Serialize, Serializer};
 use cbor4ii_rw::error as core_error;
 use cbor4ii_rw::error::StaticStr;
 use cbor4ii_rw::read::Source;
@@ -14,7 +9,6 @@ use cbor4ii_trials::rows::{
     reads_rows_within, reads_within, writes,
 };
 use std::alloc::Global;
-use std::collections::BTreeMap;
 use std::fmt::Debug;
 use std::test::Fail;
 
@@ -40,31 +34,6 @@ pub trait Take: Sized {
         de: &mut Deserializer<S>,
     ) -> Result<Self, DecodeError<S::Error>>;
 }
-
-macro_rules! typed {
-    ($($value:ty),* $(,)?) => { $(
-        impl Take for $value {
-            fn take<S: Source>(
-                alloc: Global,
-                de: &mut Deserializer<S>,
-            ) -> Result<$value, DecodeError<S::Error>> {
-                <$value>::deserialize(alloc, de)
-            }
-        }
-    )* };
-}
-
-typed! { bool, (), u8, u16, u32, u64, u128, i8, i16, i32, i64, i128, F16, F32, F64, char }
-
-typed! { String, Bytes<Vec<u8>>, Value, IgnoredAny }
-
-typed! { Option<u8>, Option<()>, Box<u32>, (u8, u8), (u8, bool, i8) }
-
-typed! { Vec<u8>, Vec<Option<u32>>, Option<Vec<(u128, i128)>> }
-
-typed! { BTreeMap<u8, u8>, BTreeMap<String, Vec<String>>, BTreeMap<u8, Event> }
-
-typed! { Point, Sample, Event }
 
 impl<T: Take> ReadFrom for Answer<T> {
     fn read_from<S: Source>(

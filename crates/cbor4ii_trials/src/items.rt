@@ -8,30 +8,287 @@ use cbor4ii_rw::error::DecodeError;
 use cbor4ii_rw::read::Source;
 use std::alloc::Global;
 
-macro_rules! owned {
-    ($($item:ty),* $(,)?) => { $(
-        impl ReadFrom for $item {
-            fn read_from<S: Source>(
-                alloc: Global,
-                reader: &mut S,
-            ) -> Result<$item, DecodeError<S::Error>> {
-                <$item>::decode(alloc, reader)
-            }
-        }
-    )* };
+impl ReadFrom for u8 {
+    fn read_from<S: Source>(alloc: Global, reader: &mut S) -> Result<Self, DecodeError<S::Error>> {
+        Self::decode(alloc, reader)
+    }
 }
 
-owned! { u8, u16, u32, u64, u128, i8, i16, i32, i64, i128 }
-owned! { Negative<u8>, Negative<u16>, Negative<u32>, Negative<u64> }
-owned! { bool, Simple, F16, F32, F64, Nothing, Box<u8> }
-owned! { Option<u8>, Option<F32>, Option<Nothing> }
-owned! { Maybe<Option<String>>, Maybe<Option<Vec<String>>> }
-owned! { Tag<u8>, Tag<u32>, Tag<F64>, Tag<String>, Tag<Bytes<Vec<u8>>>, Tag<Vec<u8>> }
-owned! { String, Bytes<Vec<u8>>, UncheckedStr<Vec<u8>> }
-owned! { Vec<u8>, Vec<u64>, Vec<bool>, Vec<String>, Vec<Vec<u8>>, Vec<Option<u8>> }
-owned! { Vec<Nothing>, Vec<Option<Nothing>> }
-owned! { Map<Vec<(u8, u8)>>, Map<Vec<(String, String)>> }
-owned! { Map<Vec<(Nothing, Nothing)>>, Map<Vec<(Nothing, u8)>> }
+impl ReadFrom for u16 {
+    fn read_from<S: Source>(alloc: Global, reader: &mut S) -> Result<Self, DecodeError<S::Error>> {
+        Self::decode(alloc, reader)
+    }
+}
+
+impl ReadFrom for u32 {
+    fn read_from<S: Source>(alloc: Global, reader: &mut S) -> Result<Self, DecodeError<S::Error>> {
+        Self::decode(alloc, reader)
+    }
+}
+
+impl ReadFrom for u64 {
+    fn read_from<S: Source>(alloc: Global, reader: &mut S) -> Result<Self, DecodeError<S::Error>> {
+        Self::decode(alloc, reader)
+    }
+}
+
+impl ReadFrom for u128 {
+    fn read_from<S: Source>(alloc: Global, reader: &mut S) -> Result<Self, DecodeError<S::Error>> {
+        Self::decode(alloc, reader)
+    }
+}
+
+impl ReadFrom for i8 {
+    fn read_from<S: Source>(alloc: Global, reader: &mut S) -> Result<Self, DecodeError<S::Error>> {
+        Self::decode(alloc, reader)
+    }
+}
+
+impl ReadFrom for i16 {
+    fn read_from<S: Source>(alloc: Global, reader: &mut S) -> Result<Self, DecodeError<S::Error>> {
+        Self::decode(alloc, reader)
+    }
+}
+
+impl ReadFrom for i32 {
+    fn read_from<S: Source>(alloc: Global, reader: &mut S) -> Result<Self, DecodeError<S::Error>> {
+        Self::decode(alloc, reader)
+    }
+}
+
+impl ReadFrom for i64 {
+    fn read_from<S: Source>(alloc: Global, reader: &mut S) -> Result<Self, DecodeError<S::Error>> {
+        Self::decode(alloc, reader)
+    }
+}
+
+impl ReadFrom for i128 {
+    fn read_from<S: Source>(alloc: Global, reader: &mut S) -> Result<Self, DecodeError<S::Error>> {
+        Self::decode(alloc, reader)
+    }
+}
+
+impl ReadFrom for Negative<u8> {
+    fn read_from<S: Source>(alloc: Global, reader: &mut S) -> Result<Self, DecodeError<S::Error>> {
+        Self::decode(alloc, reader)
+    }
+}
+
+impl ReadFrom for Negative<u16> {
+    fn read_from<S: Source>(alloc: Global, reader: &mut S) -> Result<Self, DecodeError<S::Error>> {
+        Self::decode(alloc, reader)
+    }
+}
+
+impl ReadFrom for Negative<u32> {
+    fn read_from<S: Source>(alloc: Global, reader: &mut S) -> Result<Self, DecodeError<S::Error>> {
+        Self::decode(alloc, reader)
+    }
+}
+
+impl ReadFrom for Negative<u64> {
+    fn read_from<S: Source>(alloc: Global, reader: &mut S) -> Result<Self, DecodeError<S::Error>> {
+        Self::decode(alloc, reader)
+    }
+}
+
+impl ReadFrom for bool {
+    fn read_from<S: Source>(alloc: Global, reader: &mut S) -> Result<Self, DecodeError<S::Error>> {
+        Self::decode(alloc, reader)
+    }
+}
+
+impl ReadFrom for Simple {
+    fn read_from<S: Source>(alloc: Global, reader: &mut S) -> Result<Self, DecodeError<S::Error>> {
+        Self::decode(alloc, reader)
+    }
+}
+
+impl ReadFrom for F16 {
+    fn read_from<S: Source>(alloc: Global, reader: &mut S) -> Result<Self, DecodeError<S::Error>> {
+        Self::decode(alloc, reader)
+    }
+}
+
+impl ReadFrom for F32 {
+    fn read_from<S: Source>(alloc: Global, reader: &mut S) -> Result<Self, DecodeError<S::Error>> {
+        Self::decode(alloc, reader)
+    }
+}
+
+impl ReadFrom for F64 {
+    fn read_from<S: Source>(alloc: Global, reader: &mut S) -> Result<Self, DecodeError<S::Error>> {
+        Self::decode(alloc, reader)
+    }
+}
+
+impl ReadFrom for Nothing {
+    fn read_from<S: Source>(alloc: Global, reader: &mut S) -> Result<Self, DecodeError<S::Error>> {
+        Self::decode(alloc, reader)
+    }
+}
+
+impl ReadFrom for Box<u8> {
+    fn read_from<S: Source>(alloc: Global, reader: &mut S) -> Result<Self, DecodeError<S::Error>> {
+        Self::decode(alloc, reader)
+    }
+}
+
+impl ReadFrom for Option<u8> {
+    fn read_from<S: Source>(alloc: Global, reader: &mut S) -> Result<Self, DecodeError<S::Error>> {
+        Self::decode(alloc, reader)
+    }
+}
+
+impl ReadFrom for Option<F32> {
+    fn read_from<S: Source>(alloc: Global, reader: &mut S) -> Result<Self, DecodeError<S::Error>> {
+        Self::decode(alloc, reader)
+    }
+}
+
+impl ReadFrom for Option<Nothing> {
+    fn read_from<S: Source>(alloc: Global, reader: &mut S) -> Result<Self, DecodeError<S::Error>> {
+        Self::decode(alloc, reader)
+    }
+}
+
+impl ReadFrom for Maybe<Option<String>> {
+    fn read_from<S: Source>(alloc: Global, reader: &mut S) -> Result<Self, DecodeError<S::Error>> {
+        Self::decode(alloc, reader)
+    }
+}
+
+impl ReadFrom for Maybe<Option<Vec<String>>> {
+    fn read_from<S: Source>(alloc: Global, reader: &mut S) -> Result<Self, DecodeError<S::Error>> {
+        Self::decode(alloc, reader)
+    }
+}
+
+impl ReadFrom for Tag<u8> {
+    fn read_from<S: Source>(alloc: Global, reader: &mut S) -> Result<Self, DecodeError<S::Error>> {
+        Self::decode(alloc, reader)
+    }
+}
+
+impl ReadFrom for Tag<u32> {
+    fn read_from<S: Source>(alloc: Global, reader: &mut S) -> Result<Self, DecodeError<S::Error>> {
+        Self::decode(alloc, reader)
+    }
+}
+
+impl ReadFrom for Tag<F64> {
+    fn read_from<S: Source>(alloc: Global, reader: &mut S) -> Result<Self, DecodeError<S::Error>> {
+        Self::decode(alloc, reader)
+    }
+}
+
+impl ReadFrom for Tag<String> {
+    fn read_from<S: Source>(alloc: Global, reader: &mut S) -> Result<Self, DecodeError<S::Error>> {
+        Self::decode(alloc, reader)
+    }
+}
+
+impl ReadFrom for Tag<Bytes<Vec<u8>>> {
+    fn read_from<S: Source>(alloc: Global, reader: &mut S) -> Result<Self, DecodeError<S::Error>> {
+        Self::decode(alloc, reader)
+    }
+}
+
+impl ReadFrom for Tag<Vec<u8>> {
+    fn read_from<S: Source>(alloc: Global, reader: &mut S) -> Result<Self, DecodeError<S::Error>> {
+        Self::decode(alloc, reader)
+    }
+}
+
+impl ReadFrom for String {
+    fn read_from<S: Source>(alloc: Global, reader: &mut S) -> Result<Self, DecodeError<S::Error>> {
+        Self::decode(alloc, reader)
+    }
+}
+
+impl ReadFrom for Bytes<Vec<u8>> {
+    fn read_from<S: Source>(alloc: Global, reader: &mut S) -> Result<Self, DecodeError<S::Error>> {
+        Self::decode(alloc, reader)
+    }
+}
+
+impl ReadFrom for UncheckedStr<Vec<u8>> {
+    fn read_from<S: Source>(alloc: Global, reader: &mut S) -> Result<Self, DecodeError<S::Error>> {
+        Self::decode(alloc, reader)
+    }
+}
+
+impl ReadFrom for Vec<u8> {
+    fn read_from<S: Source>(alloc: Global, reader: &mut S) -> Result<Self, DecodeError<S::Error>> {
+        Self::decode(alloc, reader)
+    }
+}
+
+impl ReadFrom for Vec<u64> {
+    fn read_from<S: Source>(alloc: Global, reader: &mut S) -> Result<Self, DecodeError<S::Error>> {
+        Self::decode(alloc, reader)
+    }
+}
+
+impl ReadFrom for Vec<bool> {
+    fn read_from<S: Source>(alloc: Global, reader: &mut S) -> Result<Self, DecodeError<S::Error>> {
+        Self::decode(alloc, reader)
+    }
+}
+
+impl ReadFrom for Vec<String> {
+    fn read_from<S: Source>(alloc: Global, reader: &mut S) -> Result<Self, DecodeError<S::Error>> {
+        Self::decode(alloc, reader)
+    }
+}
+
+impl ReadFrom for Vec<Vec<u8>> {
+    fn read_from<S: Source>(alloc: Global, reader: &mut S) -> Result<Self, DecodeError<S::Error>> {
+        Self::decode(alloc, reader)
+    }
+}
+
+impl ReadFrom for Vec<Option<u8>> {
+    fn read_from<S: Source>(alloc: Global, reader: &mut S) -> Result<Self, DecodeError<S::Error>> {
+        Self::decode(alloc, reader)
+    }
+}
+
+impl ReadFrom for Vec<Nothing> {
+    fn read_from<S: Source>(alloc: Global, reader: &mut S) -> Result<Self, DecodeError<S::Error>> {
+        Self::decode(alloc, reader)
+    }
+}
+
+impl ReadFrom for Vec<Option<Nothing>> {
+    fn read_from<S: Source>(alloc: Global, reader: &mut S) -> Result<Self, DecodeError<S::Error>> {
+        Self::decode(alloc, reader)
+    }
+}
+
+impl ReadFrom for Map<Vec<(u8, u8)>> {
+    fn read_from<S: Source>(alloc: Global, reader: &mut S) -> Result<Self, DecodeError<S::Error>> {
+        Self::decode(alloc, reader)
+    }
+}
+
+impl ReadFrom for Map<Vec<(String, String)>> {
+    fn read_from<S: Source>(alloc: Global, reader: &mut S) -> Result<Self, DecodeError<S::Error>> {
+        Self::decode(alloc, reader)
+    }
+}
+
+impl ReadFrom for Map<Vec<(Nothing, Nothing)>> {
+    fn read_from<S: Source>(alloc: Global, reader: &mut S) -> Result<Self, DecodeError<S::Error>> {
+        Self::decode(alloc, reader)
+    }
+}
+
+impl ReadFrom for Map<Vec<(Nothing, u8)>> {
+    fn read_from<S: Source>(alloc: Global, reader: &mut S) -> Result<Self, DecodeError<S::Error>> {
+        Self::decode(alloc, reader)
+    }
+}
 
 /// What may be borrowed from the input, by its own decoder.
 #[derive(Debug, PartialEq, Drop)]

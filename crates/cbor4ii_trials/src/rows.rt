@@ -57,21 +57,18 @@ impl<S: Source, T: ReadFrom> ReadBy<S> for T {
 
 /// What is read off each reader that a row is tried over. Of what is read off any reader a test
 /// asks `ReadFrom`, which costs its proof less.
-pub trait ReadByEach:
-    ReadBy<SliceReader<'static>>
+pub trait ReadByEach: ReadBy<SliceReader<'static>>
     + ReadBy<SegmentReader<'static>>
     + ReadBy<TestReader<'static>>
-    + ReadBy<Stream>
-{
-}
+    + ReadBy<Stream> {}
 
-impl<T> ReadByEach for T where
+impl<T> ReadByEach for T
+where
     T: ReadBy<SliceReader<'static>>
         + ReadBy<SegmentReader<'static>>
         + ReadBy<TestReader<'static>>
-        + ReadBy<Stream>
-{
-}
+        + ReadBy<Stream>,
+{}
 
 /// One behind the other.
 #[derive(Debug, PartialEq, Drop)]
@@ -163,8 +160,8 @@ where
     reads_over(alloc, &mut unlimited, bytes, want, rest)
 }
 
-/// As `reads_within`, for what holds borrowed parts, where it is no matter whether they are lent.
-pub fn reads_alike_within<T>(
+// As `reads_within`, for what holds borrowed parts, where it is no matter whether they are lent.
+fn reads_alike_within<T>(
     alloc: Global,
     bytes: &'static [u8],
     limit: usize,
@@ -256,72 +253,16 @@ where
     Ok(())
 }
 
-/// As `lends`, for a string with so many bytes before its content, over two segments, for each
-/// place where the bytes can be cut. The refusals are those of a content that is cut behind its
-/// first byte, its second and so on, which is left; elsewhere it stands in one segment.
-pub fn lends_in_segments<T>(
-    alloc: Global,
-    bytes: &'static [u8],
-    want: Want<T>,
-    rest: &[u8],
-    head: usize,
-    refusals: &[&'static str],
-) -> Result<(), Fail>
-where
-    T: ReadBy<SegmentReader<'static>> + PartialEq + Debug + Drop,
-{
-    let content = bytes.get(head..).ok_or("no content")?;
-    for (cut, segments) in cuts(alloc, bytes)?.iter().enumerate() {
-        let mut reader = SegmentReader::with_limit(segments, STEPS);
-        // The first segment has one byte more than its place among the cuts.
-        let refusal = match cut.checked_sub(head) {
-            Some(place) => refusals.get(place),
-            None => None,
-        };
-        match refusal {
-            Some(refusal) => {
-                let refused: Want<T> = Err(*refusal);
-                reads_over(alloc, &mut reader, bytes, &refused, content)?;
-            }
-            None => reads_over(alloc, &mut reader, bytes, &want, rest)?,
-        }
-    }
-    Ok(())
-}
-
-/// As `reads_rows`, for borrowed values over each reader that lends whole.
-pub fn lends_rows<T>(alloc: Global, rows: &[Row<T>]) -> Result<(), Fail>
-where
-    T: ReadByEach + PartialEq + Debug + Drop,
-{
-    for (bytes, want, rest) in rows {
-        lends_row(alloc, bytes, want, rest)?;
-    }
-    Ok(())
-}
-
-/// As `lends_rows`, for one row.
+/// As `reads`, for a borrowed value over each reader that lends whole.
 pub fn lends<T>(alloc: Global, bytes: &'static [u8], want: Want<T>, rest: &[u8]) -> Result<(), Fail>
 where
     T: ReadByEach + PartialEq + Debug + Drop,
 {
-    lends_row(alloc, bytes, &want, rest)
-}
-
-fn lends_row<T>(
-    alloc: Global,
-    bytes: &'static [u8],
-    want: &Want<T>,
-    rest: &[u8],
-) -> Result<(), Fail>
-where
-    T: ReadByEach + PartialEq + Debug + Drop,
-{
-    reads_over(alloc, &mut SliceReader::new(bytes), bytes, want, rest)?;
+    reads_over(alloc, &mut SliceReader::new(bytes), bytes, &want, rest)?;
     let mut unlimited = TestReader::unlimited(bytes);
-    reads_over(alloc, &mut unlimited, bytes, want, rest)?;
+    reads_over(alloc, &mut unlimited, bytes, &want, rest)?;
     let mut whole = TestReader::whole(bytes, STEPS);
-    reads_over(alloc, &mut whole, bytes, want, rest)?;
+    reads_over(alloc, &mut whole, bytes, &want, rest)?;
     fails_at_each_show::<T>(alloc, bytes, STEPS)?;
     fails_at_each_look::<T>(alloc, bytes, STEPS)
 }
