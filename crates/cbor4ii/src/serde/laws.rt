@@ -165,12 +165,13 @@ pub fn values_are_read_back()
     ensures cost { (v : Item) → any_cost v ≤ canon_cost v }
 {}
 
-/// The fields of a struct, of which each has an exact type, are read in one way, as values that mean
-/// the same one by one. A struct that is made of them is exact by it, as one of two fields here and
-/// one of more by the same lemmas, `fields_laws` and `field_laws`.
+/// The fields of a struct, of which each has an exact type, are read in one way, as values that
+/// mean the same one by one. A struct that is made of them may be exact by it, as one of two fields
+/// here and one of more by the same lemmas, `fields_laws` and `field_laws`.
 pub fn fields_are_read_in_one_way<A: Typed, B: Typed>()
     ensures { IsTrue A.exact → IsTrue B.exact → (first second : List ℕ) → Lawful (ReadsFields
-        (None, (None, no_values)) (named_field first A.reads (named_field second B.reads no_fields)))
+        (None, (None, no_values))
+        (named_field first A.reads (named_field second B.reads no_fields)))
         (SameField A.same (SameField B.same any_two)) true }
 {}
 
