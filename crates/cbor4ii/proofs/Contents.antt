@@ -1,11 +1,12 @@
 -- Which form a variant has, and what is read of its content.
-use Rattle.std.proofs.Common.{◌≡◌, ◌≢◌, ℕ, ◌/◌, List, [], ◌∷◌, take, Option, Some, Bool, true, false, Result, Ok, Err, refl, sym, ap, ◌∙◌, subst, IfSome, IfOk, IfErr}
+use Rattle.std.proofs.Common.{◌≡◌, ◌≢◌, ℕ, ◌/◌, List, [], ◌∷◌, take, Option, Some, Bool, true, false, Result, Ok, Err, refl, sym, ap, ◌∙◌, subst, IfSome, IfOk, IfErr, IsTrue}
 use Rattle.std.specs.Prelude.{codes}
 use denote.Ref.{Bor}
 use Rattle.cbor4ii_rw.specs.View.{View}
 use Rattle.cbor4ii_rw.specs.Reader.{Advances, KeepsAllButBudget}
 use Rattle.cbor4ii_rw.specs.declared.error.DecodeError.{DecodeError}
 use Rattle.cbor4ii_rw.specs.declared.error.DecodeError.TheVariants.{Mismatch}
+use Rattle.cbor4ii_items.specs.Moves.{Moves}
 use Rattle.cbor4ii_items.specs.Refusal.{Refusal, refusal_of, mismatch}
 use Rattle.cbor4ii_items.specs.Next.{ReadsNext, StopsNext}
 use Rattle.cbor4ii_items.specs.Decoding.{Reads, StopsAt, Sound, NoneRead, Refuses, Stops}
@@ -13,10 +14,11 @@ use Rattle.cbor4ii_items.specs.Laws.Answering.{fits_zero, refuses_as}
 use Rattle.cbor4ii_items.specs.Laws.Steps.{moves_err}
 use Rattle.cbor4ii.specs.Accessing.{Finishes}
 use Rattle.cbor4ii.specs.declared.serde.de.error.DecodeError.{DecodeError as Typed}
-use Rattle.cbor4ii.specs.Typed.{as_core}
+use Rattle.cbor4ii.specs.Typed.{as_core, answer_of, said}
 use Rattle.cbor4ii.specs.Variants.{IsForm, ReadsForm, StopsForm, ReadsContent, StopsContent}
 use Rattle.cbor4ii.proofs.Looking.{Saw, none_begins}
-use Rattle.cbor4ii.proofs.Stopped.{stopped_as}
+use Rattle.cbor4ii.proofs.Stopped.{stopped_as, stopped_behind}
+use Rattle.cbor4ii.proofs.Beginnings.{said_left}
 
 -- ---- the form
 
@@ -69,10 +71,7 @@ pub content_refuses : {V E : Type 0} (reads : Reads V) {content : Bool} {a : Vie
 content_refuses reads is s = rw is s
 
 pub content_stops : {E : Type 0} (stops : StopsAt) {content : Bool} (first : ℕ) {a b d : View} {e : DecodeError E} → content ≡ true → KeepsAllButBudget b d → Stops stops a b e → Stops (StopsContent (content, first) stops) a d e
-content_stops stops first {a = a} {b = b} {d = d} {e = e} is k s = rw is (record {
-  at = λ xs told.
-      subst (λ left. IfSome (refusal_of e) (λ z. (ys : List ℕ) × (left ≡ Some ys) × stops xs a.budget z ys)) (sym k.told) (s.at xs told);
-})
+content_stops stops first is k s = rw is (stopped_behind stops k s)
 
 content_sound : {V : Type 0} (reads : Reads V) {a b d : View} {v : V} → KeepsAllButBudget b d → Sound reads a b v → Sound reads a d v
 content_sound reads k s = record { at = λ xs told. (let p = s.at xs told in record { count = p.count; cost = p.cost; read = p.read; fits = p.fits; left = k.told ∙ p.left }) }
@@ -86,3 +85,7 @@ content_ok reads r a b d is k s = rw is (elim r as (λ t. IfOk t (Sound reads a 
 
 pub content_err : {V E : Type 0} (reads : Reads V) {content : Bool} (r : Result V (Typed E)) (a : View) → content ≡ true → IfErr r (λ e. Refuses reads a (as_core e)) → IfErr r (λ e. Refuses (ReadsContent content reads) a (as_core e))
 content_err reads r a is s = rw is s
+
+pub content_said : {V E : Type 0} (exact : Bool) (stops : StopsAt) {content : Bool} (first : ℕ) (r : Result V (Typed E)) (a b d : View) → content ≡ true → KeepsAllButBudget b d → Moves a b (answer_of r) → (IsTrue exact → IfErr r (λ e. Stops stops a b (as_core e))) → IfErr r (λ e. Stops (StopsContent (content, first) (said exact stops)) a d (as_core e))
+content_said exact stops first (Ok v) a b d is k m s = tt
+content_said exact stops first (Err e) a b d is k m s = content_stops (said exact stops) first is k (said_left exact stops m s)

@@ -1,17 +1,18 @@
 -- An accessor's next key and its value.
-use Rattle.std.proofs.Common.{◌≡◌, ℕ, zero, suc, List, drop, Option, Some, None, sym, subst}
+use Rattle.std.proofs.Common.{◌≡◌, ◌⊎◌, inl, inr, ℕ, zero, suc, List, drop, Option, Some, None, sym, subst}
 use Rattle.cbor4ii_rw.specs.View.{View}
 use Rattle.cbor4ii_rw.specs.declared.error.DecodeError.{DecodeError}
 use Rattle.cbor4ii_items.specs.Refusal.{refusal_of}
 use Rattle.cbor4ii_items.specs.Moves.{Kept}
-use Rattle.cbor4ii_items.specs.Decoding.{Reads, CostFits, Sound, NoneRead, Refuses}
-use Rattle.cbor4ii_items.specs.Sequences.{ReadsPair}
+use Rattle.cbor4ii_items.specs.Decoding.{Reads, StopsAt, CostFits, Sound, NoneRead, Refuses, Stops}
+use Rattle.cbor4ii_items.specs.Sequences.{ReadsPair, StopsPair}
 use Rattle.cbor4ii_items.specs.Laws.Answering.{if_some, refuses_as}
 use Rattle.cbor4ii.specs.declared.serde.de.accessor.Left.{Left}
 use Rattle.cbor4ii.specs.declared.serde.de.accessor.Left.TheVariants.{Counted, Open, Ended}
-use Rattle.cbor4ii.specs.Accessing.{Next}
-use Rattle.cbor4ii.proofs.Going.{part_of}
-use Rattle.cbor4ii_items.specs.Laws.Pairs.{pair_sound, key_less, value_less}
+use Rattle.cbor4ii.specs.Accessing.{Next, StopsElement}
+use Rattle.cbor4ii.proofs.Going.{part_of, part_start}
+use Rattle.cbor4ii.proofs.Stopped.{stops_as, stopped_as}
+use Rattle.cbor4ii_items.specs.Laws.Pairs.{pair_sound, key_less, value_less, value_stops_pair}
 
 -- what else stands there is read in its place
 in_place : {V W : Type 0} (reads : Reads V) (other : Reads W) (left : Left) (xs : List ℕ) (v : V) (w : W) (n c m d : ℕ) → Next reads left xs (Some v) n c → other xs w m d → Next other left xs (Some w) m d
@@ -72,3 +73,20 @@ module _ {K V : Type 0} (key : Reads K) (value : Reads V) (left : Left) where
           let p = s.at xs told in
           if_some (refusal_of e) (no_value xs k p.count p.cost a.budget m.budget p.read kept.budget) ((r xs told).at (drop p.count xs) p.left);
     }
+
+-- how a key or its value is refused
+module _ {K : Type 0} (key : Reads K) (key_stops value_stops : StopsAt) (left : Left) where
+  pub entry_key_stops : {E : Type 0} {a b : View} {e : DecodeError E} → Stops (StopsElement key_stops left) a b e → Stops (StopsElement (StopsPair key key_stops value_stops) left) a b e
+  entry_key_stops s = stopped_as (StopsElement key_stops left) (StopsElement (StopsPair key key_stops value_stops) left) (λ xs budget z ys h. elim h [
+    | inl none ↦ inl none
+    | inr part ↦ inr (part.0, inl part.1)
+  ]) s
+
+  pub entry_value_stops : {E : Type 0} {a m b : View} {k : K} {e : DecodeError E} → Kept a m → Sound (Next key left) a m (Some k) → Stops value_stops m b e → Stops (StopsElement (StopsPair key key_stops value_stops) left) a b e
+  entry_value_stops {a = a} {b = b} {k = k} {e = e} kept s r = record {
+    at = λ xs told.
+        let p = s.at xs told in
+        stops_as (refusal_of e) b.told (StopsPair key key_stops value_stops xs a.budget) (StopsElement (StopsPair key key_stops value_stops) left xs a.budget)
+        (λ z ys h. inr (part_start key left xs k p.count p.cost p.read, h))
+        ((value_stops_pair key key_stops value_stops kept (key_at key key left s) (λ _ _. r)).at xs told);
+  }

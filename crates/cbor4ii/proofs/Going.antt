@@ -1,17 +1,16 @@
 -- What an accessor's next part is.
-use Rattle.std.proofs.Common.{◌≡◌, ℕ, zero, suc, [], List, drop, Option, Some, None, refl, ap, ◌∙◌, subst, true, false, IfSome}
-use Rattle.std.specs.Prelude.{codes}
+use Rattle.std.proofs.Common.{◌≡◌, ◌⊎◌, inl, inr, ℕ, zero, suc, List, drop, Option, Some, None, refl, subst, true, false}
 use Rattle.cbor4ii_rw.specs.View.{View}
 use Rattle.cbor4ii_rw.specs.declared.error.DecodeError.{DecodeError}
-use Rattle.cbor4ii_rw.specs.declared.error.Len.TheVariants.{Small}
 use Rattle.cbor4ii_items.specs.Moves.{Kept}
-use Rattle.cbor4ii_items.specs.Decoding.{Reads, CostFits, Sound, NoneRead, Refuses, Stops}
-use Rattle.cbor4ii_items.specs.Refusal.{Refusal, refusal_of, eof}
-use Rattle.cbor4ii_items.specs.Strings.{ReadsBreak, StopsBreak}
+use Rattle.cbor4ii_items.specs.Decoding.{Reads, StopsAt, CostFits, Sound, NoneRead, Refuses, Stops}
+use Rattle.cbor4ii_items.specs.Refusal.{refusal_of}
+use Rattle.cbor4ii_items.specs.Strings.{ReadsBreak}
 use Rattle.cbor4ii_items.specs.Laws.Answering.{if_some, fits_zero, refuses_as}
 use Rattle.cbor4ii.specs.declared.serde.de.accessor.Left.{Left}
 use Rattle.cbor4ii.specs.declared.serde.de.accessor.Left.TheVariants.{Counted, Open, Ended}
-use Rattle.cbor4ii.specs.Accessing.{Next, ReadsStart, EndsOpen}
+use Rattle.cbor4ii.specs.Accessing.{Next, ReadsStart, StopsStart, StopsElement}
+use Rattle.cbor4ii.proofs.Stopped.{stops_as, stopped_as}
 
 -- ---- whether a part comes
 
@@ -56,7 +55,7 @@ module _ {V : Type 0} (reads : Reads V) where
   part_read Open xs v n c m d h r = ((h.0, h.1, refl, refl), r)
   part_read Ended xs v n c m d h r = h
 
-  part_start : (left : Left) (xs : List ℕ) (v : V) (n c : ℕ) → Next reads left xs (Some v) n c → ReadsStart left xs true 0 0
+  pub part_start : (left : Left) (xs : List ℕ) (v : V) (n c : ℕ) → Next reads left xs (Some v) n c → ReadsStart left xs true 0 0
   part_start (Counted zero) xs v n c h = h
   part_start (Counted (suc k)) xs v n c h = (refl, refl)
   part_start Open xs v n c h = h.0
@@ -107,17 +106,22 @@ next_no_part reads left {a = a} {m = m} {e = e} k s t = record {
       if_some (refusal_of e) (λ none. none_part reads left xs a.budget p.count p.cost p.read (subst (NoneRead reads xs) k.budget none)) ((t xs told).at xs (start_stays left s xs told));
 }
 
--- ---- where no byte is left
+-- ---- how it is refused
 
-pub ended_part : {E : Type 0} (left : Left) {a m b : View} {e : DecodeError E} → Sound (ReadsStart left) a m true → EndsOpen left a b e
-ended_part left s = record { at = λ begun told. (let p = s.at [] told in absurd ((subst (λ l. ReadsStart l [] true p.count p.cost) begun p.read).0 refl)) }
+start_free : (left : Left) (xs : List ℕ) (n c : ℕ) → ReadsStart left xs true n c → ReadsStart left xs true 0 0
+start_free (Counted zero) xs n c h = h
+start_free (Counted (suc k)) xs n c h = (refl, refl)
+start_free Open xs n c h = (h.0, h.1, refl, refl)
+start_free Ended xs n c h = h
 
-if_stops : (o : Option Refusal) (left : Option (List ℕ)) (budget : Option ℕ) → IfSome o (λ z. (ys : List ℕ) × (left ≡ Some ys) × StopsBreak [] budget z ys) → IfSome o (λ z. (z ≡ eof (codes "break") (Small 1)) × (left ≡ Some []))
-if_stops None left budget h = tt
-if_stops (Some z) left budget h = (h.2.1, h.1 ∙ ap Some h.2.2)
+module _ (stops : StopsAt) (left : Left) where
+  pub none_stops : {E : Type 0} {a b : View} {e : DecodeError E} → Stops (StopsStart left) a b e → Stops (StopsElement stops left) a b e
+  none_stops s = stopped_as (StopsStart left) (StopsElement stops left) (λ xs budget z ys h. inl h) s
 
-ended_at : {E : Type 0} (e : DecodeError E) (b : View) (budget : Option ℕ) → IfSome (refusal_of e) (λ z. (ys : List ℕ) × (b.told ≡ Some ys) × StopsBreak [] budget z ys) → IfSome (refusal_of e) (λ z. (z ≡ eof (codes "break") (Small 1)) × (b.told ≡ Some []))
-ended_at e b budget h = if_stops (refusal_of e) b.told budget h
-
-pub ended_break : {E : Type 0} {left : Left} {a b : View} {e : DecodeError E} → Stops StopsBreak a b e → EndsOpen left a b e
-ended_break {a = a} {b = b} {e = e} s = record { at = λ begun told. ended_at e b a.budget (s.at [] told) }
+  pub part_stops : {E : Type 0} {a m b : View} {e : DecodeError E} → Kept a m → Sound (ReadsStart left) a m true → Stops stops m b e → Stops (StopsElement stops left) a b e
+  part_stops {a = a} {m = m} {b = b} {e = e} k s r = record {
+    at = λ xs told.
+        let p = s.at xs told in
+        stops_as (refusal_of e) b.told (stops xs m.budget) (StopsElement stops left xs a.budget)
+        (λ z ys h. inr (start_free left xs p.count p.cost p.read, subst (λ budget. stops xs budget z ys) k.budget h)) (r.at xs (start_stays left s xs told));
+  }

@@ -1,14 +1,12 @@
 -- How an accessor goes over the parts of an array or a map.
-use Rattle.std.specs.Prelude.{◌≡◌, ℕ, zero, suc, ◌+◌, ◌-◌, ◌<◌, ◌≤◌, [], Bool, true, false, not, if◌then◌else◌, Option, Some, None, Result, IfSome, codes}
+use Rattle.std.specs.Prelude.{◌≡◌, ℕ, zero, suc, ◌+◌, ◌-◌, ◌<◌, ◌≤◌, ◌⊎◌, Bool, true, false, not, if◌then◌else◌, Option, Some, None, Result}
 use Rattle.cbor4ii_rw.specs.View.{View}
 use Rattle.cbor4ii_rw.specs.Reader.{StepsIn, KeepsAllButBudget, step_back}
 use Rattle.cbor4ii_rw.specs.declared.error.DecodeError.{DecodeError}
-use Rattle.cbor4ii_rw.specs.declared.error.Len.TheVariants.{Small}
 use Rattle.cbor4ii_items.specs.Moves.{Kept, Moves}
-use Rattle.cbor4ii_items.specs.Decoding.{Reads, Sound}
+use Rattle.cbor4ii_items.specs.Decoding.{Reads, StopsAt, Sound}
 use Rattle.cbor4ii_items.specs.Lengths.{ReadsLength}
-use Rattle.cbor4ii_items.specs.Refusal.{refusal_of, eof}
-use Rattle.cbor4ii_items.specs.Strings.{ReadsBreak}
+use Rattle.cbor4ii_items.specs.Strings.{ReadsBreak, StopsBreak}
 use Rattle.cbor4ii.specs.declared.serde.de.deserializer.Deserializer.{Deserializer}
 use Rattle.cbor4ii.specs.declared.serde.de.accessor.Accessor.{Accessor}
 use Rattle.cbor4ii.specs.declared.serde.de.accessor.Left.{Left}
@@ -73,6 +71,12 @@ ReadsStart Open xs more n c = ReadsBreak xs (not more) n c
 ReadsStart Ended xs true n c = ⊥
 ReadsStart Ended xs false n c = (n ≡ 0) × (c ≡ 0)
 
+-- how that is refused: no byte is left where a part or a break should come
+abbrev pub StopsStart : Left → StopsAt
+StopsStart (Counted k) xs budget refusal rest = ⊥
+StopsStart Open xs budget refusal rest = StopsBreak xs budget refusal rest
+StopsStart Ended xs budget refusal rest = ⊥
+
 -- what is left then
 abbrev pub Starts : Left → Left → Bool → Type 0
 Starts (Counted k) new true = (0 < k) × (new ≡ Counted (k - 1))
@@ -94,6 +98,10 @@ Next reads Open xs None n c = ReadsBreak xs true n c
 Next reads Open xs (Some v) n c = ReadsBreak xs false 0 0 × reads xs v n c
 Next reads Ended xs None n c = (n ≡ 0) × (c ≡ 0)
 Next reads Ended xs (Some v) n c = ⊥
+
+-- how that is refused: nothing comes, or what comes is refused as a part
+abbrev pub StopsElement : StopsAt → Left → StopsAt
+StopsElement stops left xs budget refusal rest = StopsStart left xs budget refusal rest ⊎ (ReadsStart left xs true 0 0 × stops xs budget refusal rest)
 
 -- what is left then
 abbrev pub left_then : {V : Type 0} → Left → Option V → Left
@@ -119,7 +127,3 @@ abbrev pub hint : Left → Option ℕ
 hint (Counted k) = Some k
 hint Open = None
 hint Ended = None
-
--- where a part or a break should come and no byte is left
-pub record EndsOpen {E : Type 0} (left : Left) (old new : View) (error : DecodeError E) : Type 0 where
-  pub at : left ≡ Open → old.told ≡ Some [] → IfSome (refusal_of error) (λ refusal. (refusal ≡ eof (codes "break") (Small 1)) × (new.told ≡ Some []))

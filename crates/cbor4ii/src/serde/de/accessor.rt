@@ -22,7 +22,7 @@ ghost use Rattle.cbor4ii_items.specs.Moves.{Moves};
 ghost use Rattle.cbor4ii_items.specs.Decoding.{IsExact, Sound, Refuses, Stops};
 ghost use Rattle.cbor4ii_items.specs.Lengths.{ReadsLength, StopsLength};
 ghost use Rattle.cbor4ii_items.specs.Refusal.{is_out_of_memory};
-ghost use Rattle.cbor4ii_items.specs.Sequences.{ReadsPair};
+ghost use Rattle.cbor4ii_items.specs.Sequences.{ReadsPair, StopsPair};
 ghost use Rattle.cbor4ii.specs.contracts.serde.de.accessor.Accessor.{the_row as the_accessor};
 ghost use Rattle.cbor4ii.specs.contracts.serde.de.deserializer.Deserializer.{the_row};
 ghost use Rattle.cbor4ii.specs.declared.serde.de.accessor.Left.TheVariants.{Counted, Open};
@@ -36,15 +36,16 @@ ghost use Rattle.cbor4ii.specs.Accessing.{
   Next,
   Starts,
   ReadsStart,
+  StopsStart,
+  StopsElement,
   left_then,
   left_tried,
   fuel,
   hint,
-  EndsOpen,
 };
 ghost use Rattle.cbor4ii.specs.Stepped.{Stepped, StopsStepped};
 ghost use Rattle.cbor4ii.specs.Tuples.{ReadsCountOf, StopsCountOf};
-ghost use Rattle.cbor4ii.specs.Typed.{input, answer_of, as_core};
+ghost use Rattle.cbor4ii.specs.Typed.{input, answer_of, as_core, said};
 
 use crate::serde::de::deserialize::{Deserialize, Typed};
 use crate::serde::de::deserializer::Deserializer;
@@ -271,7 +272,7 @@ impl<'a, S: Source> Accessor<'a, S> {
             (inside S.view self.old) (as_core error)) }
         ensures still { left_in self.old ≢ Open →
             inside S.view self.new ≡ inside S.view self.old }
-        ensures ends { IfErr result (λ error. EndsOpen (left_in self.old)
+        ensures stops { IfErr result (λ error. Stops (StopsStart (left_in self.old))
             (inside S.view self.old) (inside S.view self.new) (as_core error)) }
     {
         match self.left {
@@ -328,7 +329,7 @@ impl<'a, S: Source> Accessor<'a, S> {
         ensures complete { IsTrue T.exact → IsExact T.owned (inside S.view self.old) →
             IfErr result (λ error. Refuses (Next T.reads (left_in self.old))
             (inside S.view self.old) (as_core error)) }
-        ensures ends { IfErr result (λ error. EndsOpen (left_in self.old)
+        ensures stops { IfErr result (λ error. Stops (StopsElement (said T.exact T.stops) (left_in self.old))
             (inside S.view self.old) (inside S.view self.new) (as_core error)) }
         ensures still { left_in self.old ≢ Open → IfOk result
             (λ part. part ≡ None → inside S.view self.new ≡ inside S.view self.old) }
@@ -365,7 +366,7 @@ impl<'a, S: Source> Accessor<'a, S> {
         ensures complete { IsTrue K.exact → IsExact K.owned (inside S.view self.old) →
             IfErr result (λ error. Refuses (Next K.reads (left_in self.old))
             (inside S.view self.old) (as_core error)) }
-        ensures ends { IfErr result (λ error. EndsOpen (left_in self.old)
+        ensures stops { IfErr result (λ error. Stops (StopsElement (said K.exact K.stops) (left_in self.old))
             (inside S.view self.old) (inside S.view self.new) (as_core error)) }
         ensures still { left_in self.old ≢ Open → IfOk result
             (λ part. part ≡ None → inside S.view self.new ≡ inside S.view self.old) }
@@ -397,6 +398,8 @@ impl<'a, S: Source> Accessor<'a, S> {
         ensures complete { IsTrue V.exact → IsExact V.owned (inside S.view self.old) →
             IfErr result (λ error.
             Refuses V.reads (inside S.view self.old) (as_core error)) }
+        ensures stops { IsTrue V.exact → IfErr result (λ error.
+            Stops V.stops (inside S.view self.old) (inside S.view self.new) (as_core error)) }
     {
         V::deserialize(alloc, self.de)
     }
@@ -425,6 +428,9 @@ impl<'a, S: Source> Accessor<'a, S> {
             IsExact (K.owned && V.owned) (inside S.view self.old) → IfErr result (λ error.
             Refuses (Next (ReadsPair K.reads V.reads) (left_in self.old))
             (inside S.view self.old) (as_core error)) }
+        ensures stops { IfErr result (λ error. Stops (StopsElement
+            (StopsPair K.reads (said K.exact K.stops) (said V.exact V.stops)) (left_in self.old))
+            (inside S.view self.old) (inside S.view self.new) (as_core error)) }
         ensures still { left_in self.old ≢ Open → IfOk result
             (λ part. part ≡ None → inside S.view self.new ≡ inside S.view self.old) }
         ensures shrinks { IsTrue K.never_empty → IfOk result (λ part. OnSome part

@@ -39,7 +39,7 @@ use crate::serde::de::any_leaf::{AnyKind, kind_of, take_leaf};
 use crate::serde::de::deserialize::{Deserialize, Typed};
 use crate::serde::de::deserializer::Deserializer;
 use crate::serde::de::error::DecodeError;
-use crate::serde::de::parts::ends;
+use crate::serde::de::parts::takes_break;
 use cbor4ii_items::initial::peek;
 use cbor4ii_items::types::{Array, Map};
 use cbor4ii_rw::error as core_error;
@@ -265,7 +265,7 @@ fn open_values<S: Source>(
         (input S.view de.old) (input S.view de.new) (as_core error)) }
 {
     let mut values = Vec::new(alloc);
-    while !ends(de)? {
+    while !takes_break(de)? {
         add_value(alloc, de, &mut values)?;
     }
     Ok(values)
@@ -385,7 +385,7 @@ fn open_pairs<S: Source>(
         (input S.view de.old) (input S.view de.new) (as_core error)) }
 {
     let mut pairs = Vec::new(alloc);
-    while !ends(de)? {
+    while !takes_break(de)? {
         add_pair(alloc, de, &mut pairs)?;
     }
     Ok(pairs)

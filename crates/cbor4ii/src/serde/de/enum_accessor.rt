@@ -33,7 +33,7 @@ ghost use Rattle.cbor4ii.specs.Accessing.{
 };
 ghost use Rattle.cbor4ii.specs.Stepped.{Stepped, StopsStepped};
 ghost use Rattle.cbor4ii.specs.Tuples.{ReadsCountOf, StopsCountOf};
-ghost use Rattle.cbor4ii.specs.Typed.{input, answer_of, as_core};
+ghost use Rattle.cbor4ii.specs.Typed.{input, answer_of, as_core, said};
 ghost use Rattle.cbor4ii.specs.Variants.{
   inside_enum,
   form_of,
@@ -261,6 +261,8 @@ impl<'a, S: Source> EnumAccessor<'a, S> {
         ensures complete { IsTrue V.exact → IsExact V.owned (inside_enum S.view self.old) →
             IfErr result (λ error.
             Refuses V.reads (inside_enum S.view self.old) (as_core error)) }
+        ensures stops { IsTrue V.exact → IfErr result (λ error. Stops V.stops
+            (inside_enum S.view self.old) (inside_enum S.view self.new) (as_core error)) }
     {
         V::deserialize(alloc, self.de)
     }
@@ -324,6 +326,9 @@ impl<'a, S: Source> EnumAccessor<'a, S> {
         ensures complete { IsTrue T.exact → IsExact T.owned (inside_enum S.view self.entry) →
             IfErr result (λ error. Refuses (ReadsContent (form_of self.entry).0 T.reads)
             (inside_enum S.view self.entry) (as_core error)) }
+        ensures stops { IfErr result (λ error. Stops
+            (StopsContent (form_of self.entry) (said T.exact T.stops))
+            (inside_enum S.view self.entry) (input S.view self.exit.0.now) (as_core error)) }
     {
         if !self.content {
             return Err(DecodeError::Core(core_error::DecodeError::Mismatch {

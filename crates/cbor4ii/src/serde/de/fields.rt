@@ -59,7 +59,7 @@ ghost use Rattle.cbor4ii.specs.Typed.{input, answer_of, any_two, as_core, said};
 use crate::serde::de::deserialize::{Deserialize, Typed};
 use crate::serde::de::deserializer::Deserializer;
 use crate::serde::de::error::DecodeError;
-use crate::serde::de::parts::ends;
+use crate::serde::de::parts::takes_break;
 use cbor4ii_items::types::Map;
 use cbor4ii_rw::error as core_error;
 use cbor4ii_rw::error::StaticStr;
@@ -283,7 +283,7 @@ fn open_fields<S: Source, V: Values<S>>(
         (StopsEntry (V.stops names.now)) true)
         (input S.view de.old) (input S.view de.new) (as_core error)) }
 {
-    while !ends(de)? {
+    while !takes_break(de)? {
         take_field(alloc, de, names, values)?;
     }
     Ok(())

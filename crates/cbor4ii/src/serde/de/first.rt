@@ -55,14 +55,15 @@ impl<'a> Input for &'a [u8] {
 ///
 /// # Errors
 ///
-/// `Core` of `OutOfMemory` where a growth was refused. Any other error comes, of an exact type,
-/// only where no value of the type whose steps are at most 256 begins the slice.
+/// `Core` of `OutOfMemory` where a growth was refused, of a type that takes memory. Any other error
+/// comes, of an exact type, only where no value of the type whose steps are at most 256 begins the
+/// slice, and is the one that the type's `stops` says.
 pub fn from_slice<I: Input, T: Deserialize<I::Reader>>(
     alloc: Global,
     input: I,
 ) -> Result<T, DecodeError<<I::Reader as Source>::Error>>
-    ensures { First T.reads T.exact (IsTrue T.owned ⊎ (length (I.bytes input) < 2 ^ 64))
-        (Some (I.bytes input)) result }
+    ensures { First T.reads T.stops T.exact T.takes_memory
+        (IsTrue T.owned ⊎ (length (I.bytes input) < 2 ^ 64)) (Some (I.bytes input)) result }
 {
     read_first(alloc, input.reader())
 }
@@ -72,14 +73,15 @@ pub fn from_slice<I: Input, T: Deserialize<I::Reader>>(
 ///
 /// # Errors
 ///
-/// `Core` of `Read` where the stream failed, and of `OutOfMemory` where a growth was refused. Any
-/// other error comes, of an exact type that needs no borrowed part, only where no value of the type
-/// whose steps are at most 256 begins these bytes.
+/// `Core` of `Read` where the stream failed, and of `OutOfMemory` where a growth was refused, of a
+/// type that takes memory. Any other error is, of an exact type, the one that the type's `stops`
+/// says, and comes, if the type needs no borrowed part, only where no value of the type whose steps
+/// are at most 256 begins these bytes.
 pub fn from_reader<R: BufRead + Drop, T: Deserialize<IoReader<R>>>(
     alloc: Global,
     reader: R,
 ) -> Result<T, DecodeError<io::Error>>
-    ensures { First T.reads T.exact (IsTrue T.owned)
+    ensures { First T.reads T.stops T.exact T.takes_memory (IsTrue T.owned)
         (cut_known most_bytes (R.Read.remaining reader)) result }
 {
     read_first(alloc, IoReader::new(reader))
@@ -91,7 +93,7 @@ fn read_first<S: Source + Drop, T: Deserialize<S>>(
     reader: S,
 ) -> Result<T, DecodeError<S::Error>>
     ensures { (S.view reader).budget ≡ Some limit →
-        FirstOf T.reads T.exact T.owned (S.view reader) result }
+        FirstOf T.reads T.stops T.exact T.owned T.takes_memory (S.view reader) result }
 {
     let mut de = Deserializer::new(reader);
     T::deserialize(alloc, &mut de)

@@ -1,7 +1,7 @@
 //! What a deserializer reads by name: one item each, as the codec's own types read it.
 ghost use Rattle.std.specs.Prelude.{◌≡◌, ◌+◌, ◌≤◌, true, false, OnOk, IfOk, IfErr, IsTrue};
 ghost use Rattle.cbor4ii_items.specs.Moves.{Moves};
-ghost use Rattle.cbor4ii_items.specs.Decoding.{IsExact, Sound, Refuses};
+ghost use Rattle.cbor4ii_items.specs.Decoding.{IsExact, Sound, Refuses, Stops};
 ghost use Rattle.cbor4ii_items.specs.Refusal.{is_out_of_memory};
 ghost use Rattle.cbor4ii.specs.ItemRead.{ReadsItem};
 ghost use Rattle.cbor4ii.specs.Typed.{input, answer_of, as_core};
@@ -177,6 +177,8 @@ impl<S: Source> Deserializer<S> {
         ensures complete { IsTrue T.exact → IsExact T.owned (input S.view self.old) →
             IfErr result
             (λ error. Refuses T.reads (input S.view self.old) (as_core error)) }
+        ensures stops { IsTrue T.exact → IfErr result (λ error.
+            Stops T.stops (input S.view self.old) (input S.view self.new) (as_core error)) }
     {
         T::deserialize(alloc, self)
     }

@@ -196,7 +196,7 @@ fn take_open<S: Source, Q: Sequence<S>>(
         (input S.view de.old) (input S.view de.new) (as_core error)) }
 {
     let mut parts = Vec::new(alloc);
-    while !ends(de)? {
+    while !takes_break(de)? {
         if !Q::is_part_never_empty() {
             return Err(DecodeError::Core(core_error::DecodeError::RequireLength {
                 name: Q::name(),
@@ -209,7 +209,9 @@ fn take_open<S: Source, Q: Sequence<S>>(
 }
 
 /// Takes a break, or takes nothing where another byte comes next.
-pub(crate) fn ends<S: Source>(de: &mut Deserializer<S>) -> Result<bool, DecodeError<S::Error>>
+pub(crate) fn takes_break<S: Source>(
+    de: &mut Deserializer<S>,
+) -> Result<bool, DecodeError<S::Error>>
     ensures runs { Runs break_at (input S.view de.old) (input S.view de.new) (answer_of result) }
     ensures memory { IfErr result (λ error. is_out_of_memory (as_core error) ≡ false) }
 {

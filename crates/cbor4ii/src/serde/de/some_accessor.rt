@@ -150,6 +150,8 @@ impl<'a, S: Source> SomeAccessor<'a, S> {
         ensures complete { IsTrue T.exact → IsExact T.owned (inside_some S.view self.entry) →
             IfErr result (λ error. Refuses (ReadsValue (comes self.entry) T.reads)
             (inside_some S.view self.entry) (as_core error)) }
+        ensures stops { IsTrue T.exact → IfErr result (λ error. Stops T.stops
+            (inside_some S.view self.entry) (input S.view self.exit.0.now) (as_core error)) }
     {
         if !self.some {
             return Ok(None);

@@ -113,34 +113,34 @@ counted_values-loop-i-preserved g t c = count_more _ c.loop-i.invariant c.in_ok-
 pub counted_values-returns-clause-sound : goal.counted_values-returns-clause-sound
 counted_values-returns-clause-sound g t c = count_done _ c.loop-i.invariant (omega (arith, c.loop-i-test.false, c.loop-i.auto.i-end))
 
-pub open_values-returns-in_err-ends-clause-moves : goal.open_values-returns-in_err-ends-clause-moves
-open_values-returns-in_err-ends-clause-moves g t c =
+pub open_values-returns-in_err-takes_break-clause-moves : goal.open_values-returns-in_err-takes_break-clause-moves
+open_values-returns-in_err-takes_break-clause-moves g t c =
     let p = err_from_is_err_and c.from_residual.result c.from_residual.ensures.1 in
-    rw (p.1, p.2) (moves_then c.loop-values.invariant.kept (moves_err c.in_err-ends.ensures.runs.moves))
+    rw (p.1, p.2) (moves_then c.loop-values.invariant.kept (moves_err c.in_err-takes_break.ensures.runs.moves))
 
-pub open_values-returns-in_err-ends-clause-complete : goal.open_values-returns-in_err-ends-clause-complete
-open_values-returns-in_err-ends-clause-complete g t c =
+pub open_values-returns-in_err-takes_break-clause-complete : goal.open_values-returns-in_err-takes_break-clause-complete
+open_values-returns-in_err-takes_break-clause-complete g t c =
     let p = err_from_is_err_and c.from_residual.result c.from_residual.ensures.1 in
-    rw (p.1, p.2) (end_refuses _ _ (size_of any_laws) any_laws.within any_laws.positive c.loop-values.invariant c.in_err-ends.ensures.runs)
+    rw (p.1, p.2) (end_refuses _ _ (size_of any_laws) any_laws.within any_laws.positive c.loop-values.invariant c.in_err-takes_break.ensures.runs)
 
 pub open_values-loop-values-preserved : goal.open_values-loop-values-preserved
-open_values-loop-values-preserved g t c = open_more _ _ refl c.loop-values.invariant (stands c.if-not-branch.true c.in_ok-ends.ensures.runs) c.in_ok-add_value.ensures.sound c.in_ok-add_value.ensures.moves
+open_values-loop-values-preserved g t c = open_more _ _ refl c.loop-values.invariant (stands c.if-not-branch.true c.in_ok-takes_break.ensures.runs) c.in_ok-add_value.ensures.sound c.in_ok-add_value.ensures.moves
 
 pub open_values-returns-in_err-add_value-clause-moves : goal.open_values-returns-in_err-add_value-clause-moves
 open_values-returns-in_err-add_value-clause-moves g t c =
     let p = err_from_is_err_and c.from_residual-in_err-add_value.result c.from_residual-in_err-add_value.ensures.1 in
-    rw (p.1, p.2) (moves_then (kept_then c.loop-values.invariant.kept c.in_ok-ends.ensures.runs.moves.by) (moves_err c.in_err-add_value.ensures.moves))
+    rw (p.1, p.2) (moves_then (kept_then c.loop-values.invariant.kept c.in_ok-takes_break.ensures.runs.moves.by) (moves_err c.in_err-add_value.ensures.moves))
 
 pub open_values-returns-in_err-add_value-clause-complete : goal.open_values-returns-in_err-add_value-clause-complete
 open_values-returns-in_err-add_value-clause-complete g t c =
     let p = err_from_is_err_and c.from_residual-in_err-add_value.result c.from_residual-in_err-add_value.ensures.1 in
-    rw (p.1, p.2) (open_refuses _ _ (size_of any_laws) c.loop-values.invariant (stands c.if-not-branch.true c.in_ok-ends.ensures.runs) (λ xs told. c.in_err-add_value.ensures.complete))
+    rw (p.1, p.2) (open_refuses _ _ (size_of any_laws) c.loop-values.invariant (stands c.if-not-branch.true c.in_ok-takes_break.ensures.runs) (λ xs told. c.in_err-add_value.ensures.complete))
 
 pub open_values-returns-clause-moves : goal.open_values-returns-clause-moves
-open_values-returns-clause-moves g t c = record { by = kept_then c.loop-values.invariant.kept c.in_ok-ends.ensures.runs.moves.by; depth = λ e. refl }
+open_values-returns-clause-moves g t c = record { by = kept_then c.loop-values.invariant.kept c.in_ok-takes_break.ensures.runs.moves.by; depth = λ e. refl }
 
 pub open_values-returns-clause-sound : goal.open_values-returns-clause-sound
-open_values-returns-clause-sound g t c = open_done _ _ c.if-not-branch.false c.loop-values.invariant c.in_ok-ends.ensures.runs
+open_values-returns-clause-sound g t c = open_done _ _ c.if-not-branch.false c.loop-values.invariant c.in_ok-takes_break.ensures.runs
 
 pub any_map-returns-clause-moves : goal.any_map-returns-clause-moves
 any_map-returns-clause-moves g t c = moves_stepped (answer_of c.map_inside-outcome.result) _ _ _ _ c.if-not-step_in.ensures.budget c.step_in.ensures.others c.map_inside-outcome.ensures.moves c.step_out.ensures.budget c.step_out.ensures.others
@@ -188,34 +188,34 @@ counted_pairs-loop-i-preserved g t c = count_more _ c.loop-i.invariant c.in_ok-a
 pub counted_pairs-returns-clause-sound : goal.counted_pairs-returns-clause-sound
 counted_pairs-returns-clause-sound g t c = count_done _ c.loop-i.invariant (omega (arith, c.loop-i-test.false, c.loop-i.auto.i-end))
 
-pub open_pairs-returns-in_err-ends-clause-moves : goal.open_pairs-returns-in_err-ends-clause-moves
-open_pairs-returns-in_err-ends-clause-moves g t c =
+pub open_pairs-returns-in_err-takes_break-clause-moves : goal.open_pairs-returns-in_err-takes_break-clause-moves
+open_pairs-returns-in_err-takes_break-clause-moves g t c =
     let p = err_from_is_err_and c.from_residual.result c.from_residual.ensures.1 in
-    rw (p.1, p.2) (moves_then c.loop-pairs.invariant.kept (moves_err c.in_err-ends.ensures.runs.moves))
+    rw (p.1, p.2) (moves_then c.loop-pairs.invariant.kept (moves_err c.in_err-takes_break.ensures.runs.moves))
 
-pub open_pairs-returns-in_err-ends-clause-complete : goal.open_pairs-returns-in_err-ends-clause-complete
-open_pairs-returns-in_err-ends-clause-complete g t c =
+pub open_pairs-returns-in_err-takes_break-clause-complete : goal.open_pairs-returns-in_err-takes_break-clause-complete
+open_pairs-returns-in_err-takes_break-clause-complete g t c =
     let p = err_from_is_err_and c.from_residual.result c.from_residual.ensures.1 in
-    rw (p.1, p.2) (end_refuses _ _ (size_of pairs_laws) pairs_laws.within pairs_laws.positive c.loop-pairs.invariant c.in_err-ends.ensures.runs)
+    rw (p.1, p.2) (end_refuses _ _ (size_of pairs_laws) pairs_laws.within pairs_laws.positive c.loop-pairs.invariant c.in_err-takes_break.ensures.runs)
 
 pub open_pairs-loop-pairs-preserved : goal.open_pairs-loop-pairs-preserved
-open_pairs-loop-pairs-preserved g t c = open_more _ _ refl c.loop-pairs.invariant (stands c.if-not-branch.true c.in_ok-ends.ensures.runs) c.in_ok-add_pair.ensures.sound c.in_ok-add_pair.ensures.moves
+open_pairs-loop-pairs-preserved g t c = open_more _ _ refl c.loop-pairs.invariant (stands c.if-not-branch.true c.in_ok-takes_break.ensures.runs) c.in_ok-add_pair.ensures.sound c.in_ok-add_pair.ensures.moves
 
 pub open_pairs-returns-in_err-add_pair-clause-moves : goal.open_pairs-returns-in_err-add_pair-clause-moves
 open_pairs-returns-in_err-add_pair-clause-moves g t c =
     let p = err_from_is_err_and c.from_residual-in_err-add_pair.result c.from_residual-in_err-add_pair.ensures.1 in
-    rw (p.1, p.2) (moves_then (kept_then c.loop-pairs.invariant.kept c.in_ok-ends.ensures.runs.moves.by) (moves_err c.in_err-add_pair.ensures.moves))
+    rw (p.1, p.2) (moves_then (kept_then c.loop-pairs.invariant.kept c.in_ok-takes_break.ensures.runs.moves.by) (moves_err c.in_err-add_pair.ensures.moves))
 
 pub open_pairs-returns-in_err-add_pair-clause-complete : goal.open_pairs-returns-in_err-add_pair-clause-complete
 open_pairs-returns-in_err-add_pair-clause-complete g t c =
     let p = err_from_is_err_and c.from_residual-in_err-add_pair.result c.from_residual-in_err-add_pair.ensures.1 in
-    rw (p.1, p.2) (open_refuses _ _ (size_of pairs_laws) c.loop-pairs.invariant (stands c.if-not-branch.true c.in_ok-ends.ensures.runs) (λ xs told. c.in_err-add_pair.ensures.complete))
+    rw (p.1, p.2) (open_refuses _ _ (size_of pairs_laws) c.loop-pairs.invariant (stands c.if-not-branch.true c.in_ok-takes_break.ensures.runs) (λ xs told. c.in_err-add_pair.ensures.complete))
 
 pub open_pairs-returns-clause-moves : goal.open_pairs-returns-clause-moves
-open_pairs-returns-clause-moves g t c = record { by = kept_then c.loop-pairs.invariant.kept c.in_ok-ends.ensures.runs.moves.by; depth = λ e. refl }
+open_pairs-returns-clause-moves g t c = record { by = kept_then c.loop-pairs.invariant.kept c.in_ok-takes_break.ensures.runs.moves.by; depth = λ e. refl }
 
 pub open_pairs-returns-clause-sound : goal.open_pairs-returns-clause-sound
-open_pairs-returns-clause-sound g t c = open_done _ _ c.if-not-branch.false c.loop-pairs.invariant c.in_ok-ends.ensures.runs
+open_pairs-returns-clause-sound g t c = open_done _ _ c.if-not-branch.false c.loop-pairs.invariant c.in_ok-takes_break.ensures.runs
 
 pub read_pair-returns-in_err-key-clause-complete : goal.read_pair-returns-in_err-key-clause-complete
 read_pair-returns-in_err-key-clause-complete g t c =
@@ -275,15 +275,15 @@ counted_values-returns-in_err-add_value-clause-stops g t c =
     let p = err_from_is_err_and c.from_residual.result c.from_residual.ensures.1 in
     rw (p.1, p.2) (count_stops _ _ c.loop-i.invariant c.loop-i-test.true c.in_err-add_value.ensures.stops)
 
-pub open_values-returns-in_err-ends-clause-stops : goal.open_values-returns-in_err-ends-clause-stops
-open_values-returns-in_err-ends-clause-stops g t c =
+pub open_values-returns-in_err-takes_break-clause-stops : goal.open_values-returns-in_err-takes_break-clause-stops
+open_values-returns-in_err-takes_break-clause-stops g t c =
     let p = err_from_is_err_and c.from_residual.result c.from_residual.ensures.1 in
-    rw (p.1, p.2) (end_stops _ _ (codes "array") c.loop-values.invariant c.in_err-ends.ensures.runs)
+    rw (p.1, p.2) (end_stops _ _ (codes "array") c.loop-values.invariant c.in_err-takes_break.ensures.runs)
 
 pub open_values-returns-in_err-add_value-clause-stops : goal.open_values-returns-in_err-add_value-clause-stops
 open_values-returns-in_err-add_value-clause-stops g t c =
     let p = err_from_is_err_and c.from_residual-in_err-add_value.result c.from_residual-in_err-add_value.ensures.1 in
-    rw (p.1, p.2) (open_stops _ _ (codes "array") c.loop-values.invariant (stands c.if-not-branch.true c.in_ok-ends.ensures.runs) c.in_err-add_value.ensures.stops)
+    rw (p.1, p.2) (open_stops _ _ (codes "array") c.loop-values.invariant (stands c.if-not-branch.true c.in_ok-takes_break.ensures.runs) c.in_err-add_value.ensures.stops)
 
 pub any_inside-returns-in-Err-any_map-clause-stops : goal.any_inside-returns-in-Err-any_map-clause-stops
 any_inside-returns-in-Err-any_map-clause-stops g t c = kind_stops (saw c.in-Ok.ensures.moves c.in-Ok.ensures.sound) c.in-Map.ensures c.in-Err-any_map.ensures.stops
@@ -308,15 +308,15 @@ counted_pairs-returns-in_err-add_pair-clause-stops g t c =
     let p = err_from_is_err_and c.from_residual.result c.from_residual.ensures.1 in
     rw (p.1, p.2) (count_stops _ _ c.loop-i.invariant c.loop-i-test.true c.in_err-add_pair.ensures.stops)
 
-pub open_pairs-returns-in_err-ends-clause-stops : goal.open_pairs-returns-in_err-ends-clause-stops
-open_pairs-returns-in_err-ends-clause-stops g t c =
+pub open_pairs-returns-in_err-takes_break-clause-stops : goal.open_pairs-returns-in_err-takes_break-clause-stops
+open_pairs-returns-in_err-takes_break-clause-stops g t c =
     let p = err_from_is_err_and c.from_residual.result c.from_residual.ensures.1 in
-    rw (p.1, p.2) (end_stops _ _ (codes "map") c.loop-pairs.invariant c.in_err-ends.ensures.runs)
+    rw (p.1, p.2) (end_stops _ _ (codes "map") c.loop-pairs.invariant c.in_err-takes_break.ensures.runs)
 
 pub open_pairs-returns-in_err-add_pair-clause-stops : goal.open_pairs-returns-in_err-add_pair-clause-stops
 open_pairs-returns-in_err-add_pair-clause-stops g t c =
     let p = err_from_is_err_and c.from_residual-in_err-add_pair.result c.from_residual-in_err-add_pair.ensures.1 in
-    rw (p.1, p.2) (open_stops _ _ (codes "map") c.loop-pairs.invariant (stands c.if-not-branch.true c.in_ok-ends.ensures.runs) c.in_err-add_pair.ensures.stops)
+    rw (p.1, p.2) (open_stops _ _ (codes "map") c.loop-pairs.invariant (stands c.if-not-branch.true c.in_ok-takes_break.ensures.runs) c.in_err-add_pair.ensures.stops)
 
 pub read_pair-returns-in_err-key-clause-stops : goal.read_pair-returns-in_err-key-clause-stops
 read_pair-returns-in_err-key-clause-stops g t c =

@@ -1,6 +1,7 @@
 use Rattle.cbor4ii_items.specs.Laws.Answering.{exact_kept}
 use Rattle.cbor4ii_items.specs.Laws.Steps.{moves_then, moves_ok, moves_err}
-use Rattle.cbor4ii.proofs.Going.{next_end, next_part, next_no_start, next_no_part, ended_part}
+use Rattle.cbor4ii.proofs.Going.{next_end, next_part, next_no_start, next_no_part, none_stops, part_stops}
+use Rattle.cbor4ii.proofs.Beginnings.{said_left}
 use Rattle.cbor4ii.proofs.serde.de.accessor.Accessor.next_element.Goals as goal
 
 pub returns-in-Ok-clause-moves : goal.returns-in-Ok-clause-moves
@@ -17,8 +18,13 @@ returns-in-Err-deserialize-clause-complete g c said exact =
     let stands = rw c.in-Ok-true.field-0-test at c.in-Ok-true.ensures.sound in
     next_no_part _ _ c.in-Ok-true.ensures.moves.by stands (λ xs told. c.in-Err-deserialize.ensures.complete said (exact_kept _ _ _ xs told c.in-Ok-true.ensures.moves.by exact))
 
-pub returns-in-Err-deserialize-clause-ends : goal.returns-in-Err-deserialize-clause-ends
-returns-in-Err-deserialize-clause-ends g c = ended_part _ (rw c.in-Ok-true.field-0-test at c.in-Ok-true.ensures.sound)
+pub returns-in-Err-deserialize-clause-stops : goal.returns-in-Err-deserialize-clause-stops
+returns-in-Err-deserialize-clause-stops g c =
+    let part = said_left _ _ c.in-Err-deserialize.ensures.moves c.in-Err-deserialize.ensures.stops in
+    part_stops _ _ c.in-Ok-true.ensures.moves.by (rw c.in-Ok-true.field-0-test at c.in-Ok-true.ensures.sound) part
+
+pub returns-in-Err-clause-stops : goal.returns-in-Err-clause-stops
+returns-in-Err-clause-stops g c = none_stops _ _ c.in-Err.ensures.stops
 
 pub returns-in-Ok-false-clause-sound : goal.returns-in-Ok-false-clause-sound
 returns-in-Ok-false-clause-sound g c = next_end _ _ (rw c.in-Ok-false.field-0-test at c.in-Ok-false.ensures.sound)

@@ -2,7 +2,8 @@ use Rattle.cbor4ii_items.specs.Laws.Containers.{both}
 use Rattle.cbor4ii_items.specs.Laws.Answering.{exact_kept}
 use Rattle.cbor4ii_items.specs.Laws.Steps.{moves_then, moves_ok, moves_err}
 use Rattle.cbor4ii_items.specs.Laws.Pairs.{exact_both}
-use Rattle.cbor4ii.proofs.Entries.{entry_sound, entry_none, entry_no_key, entry_no_value}
+use Rattle.cbor4ii.proofs.Entries.{entry_sound, entry_none, entry_no_key, entry_no_value, entry_key_stops, entry_value_stops}
+use Rattle.cbor4ii.proofs.Beginnings.{said_left}
 use Rattle.cbor4ii.proofs.serde.de.accessor.Accessor.next_entry.Goals as goal
 
 pub returns-in-Ok-clause-moves : goal.returns-in-Ok-clause-moves
@@ -35,3 +36,11 @@ returns-in-Ok-clause-still g c not is = cc
 
 pub returns-in-Ok-None-clause-still : goal.returns-in-Ok-None-clause-still
 returns-in-Ok-None-clause-still g c not is = c.in-Ok-None.ensures.still not c.in-Ok-None.field-0-is
+
+pub returns-in-Err-deserialize-clause-stops : goal.returns-in-Err-deserialize-clause-stops
+returns-in-Err-deserialize-clause-stops g c =
+    let value = said_left _ _ c.in-Err-deserialize.ensures.moves c.in-Err-deserialize.ensures.stops in
+    entry_value_stops _ _ _ _ c.in-Ok-Some.ensures.moves.by (rw c.in-Ok-Some.field-0-is at c.in-Ok-Some.ensures.sound) value
+
+pub returns-in-Err-clause-stops : goal.returns-in-Err-clause-stops
+returns-in-Err-clause-stops g c = entry_key_stops _ _ _ _ c.in-Err.ensures.stops

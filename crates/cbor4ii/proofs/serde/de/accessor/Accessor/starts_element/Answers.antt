@@ -1,4 +1,4 @@
-use Rattle.cbor4ii.proofs.Going.{start_break, start_other, start_refuses, ended_break}
+use Rattle.cbor4ii.proofs.Going.{start_break, start_other, start_refuses}
 use Rattle.cbor4ii.proofs.serde.de.accessor.Accessor.starts_element.Goals as goal
 
 pub returns-in-Ok-true-clause-sound : goal.returns-in-Ok-true-clause-sound
@@ -10,8 +10,8 @@ returns-in-Ok-false-clause-sound g c = rw c.in-Open.is (start_other (rw c.in-Ok-
 pub returns-in-Err-clause-complete : goal.returns-in-Err-clause-complete
 returns-in-Err-clause-complete g c = rw c.in-Open.is (start_refuses c.in-Err.ensures.complete)
 
-pub returns-in-Err-clause-ends : goal.returns-in-Err-clause-ends
-returns-in-Err-clause-ends g c = ended_break c.in-Err.ensures.stops
+pub returns-in-Err-clause-stops : goal.returns-in-Err-clause-stops
+returns-in-Err-clause-stops g c = rw c.in-Open.is c.in-Err.ensures.stops
 
 pub returns-in-Ok-true-clause-still : goal.returns-in-Ok-true-clause-still
 returns-in-Ok-true-clause-still g c not = absurd (not c.in-Open.is)

@@ -11,23 +11,23 @@ pub returns-then-ne-clause-sound : goal.returns-then-ne-clause-sound
 returns-then-ne-clause-sound g c = another g.T.Typed.reads g.V.Values.named c.args.names.now c.args.name.now (g.S.Source.view c.args.de.now.reader) (g.S.Source.view c.take.new.de.reader) c.take.result _ c.args.self.now (c.args.self.now.0, c.take.new.self) c.take.new.self c.in-len1-up.len_at_least (differs c.args.name.now _ c.if-ne.ensures) refl c.take.ensures.sound
 
 pub returns-then-ne-clause-complete : goal.returns-then-ne-clause-complete
-returns-then-ne-clause-complete g c said exact =
+returns-then-ne-clause-complete g c is exact =
     another_refuses g.T.Typed.reads g.V.Values.named c.args.names.now c.args.name.now (g.S.Source.view c.args.de.now.reader) c.take.result _ c.in-len1-up.len_at_least (differs c.args.name.now _ c.if-ne.ensures)
-    (c.take.ensures.complete (both g.T.Typed.exact g.V.Values.exact said).1 (exact_both g.T.Typed.owned g.V.Values.owned (g.S.Source.view c.args.de.now.reader) exact).1)
+    (c.take.ensures.complete (both g.T.Typed.exact g.V.Values.exact is).1 (exact_both g.T.Typed.owned g.V.Values.owned (g.S.Source.view c.args.de.now.reader) exact).1)
 
 pub returns-in-empty-clause-sound : goal.returns-in-empty-clause-sound
 returns-in-empty-clause-sound g c = none_has g.T.Typed.reads g.V.Values.named c.args.names.now c.args.name.now (g.S.Source.view c.args.de.now.reader) (g.S.Source.view c.deserialize_ignored_any.new.self.reader) c.deserialize_ignored_any.result c.args.self.now c.in-empty.len_below c.deserialize_ignored_any.ensures.item.sound
 
 pub returns-in-empty-clause-complete : goal.returns-in-empty-clause-complete
-returns-in-empty-clause-complete g c said exact = none_refuses g.T.Typed.reads g.V.Values.named c.args.names.now c.args.name.now (g.S.Source.view c.args.de.now.reader) c.deserialize_ignored_any.result c.in-empty.len_below (c.deserialize_ignored_any.ensures.item.complete (inl refl))
+returns-in-empty-clause-complete g c is exact = none_refuses g.T.Typed.reads g.V.Values.named c.args.names.now c.args.name.now (g.S.Source.view c.args.de.now.reader) c.deserialize_ignored_any.result c.in-empty.len_below (c.deserialize_ignored_any.ensures.item.complete (inl refl))
 
 pub returns-in-Ok-clause-sound : goal.returns-in-Ok-clause-sound
 returns-in-Ok-clause-sound g c = first_here g.T.Typed.reads g.V.Values.named c.args.names.now c.args.name.now (g.S.Source.view c.args.de.now.reader) (g.S.Source.view c.deserialize.new.de.reader) _ c.in-len1-up.len_at_least (agrees c.args.name.now _ c.if-ne.ensures) c.in-Ok.ensures.sound refl
 
 pub returns-in-Err-clause-complete : goal.returns-in-Err-clause-complete
-returns-in-Err-clause-complete g c said exact =
+returns-in-Err-clause-complete g c is exact =
     first_refuses g.T.Typed.reads g.V.Values.named c.args.names.now c.args.name.now (g.S.Source.view c.args.de.now.reader) _ c.in-len1-up.len_at_least (agrees c.args.name.now _ c.if-ne.ensures)
-    (c.in-Err.ensures.complete (both g.T.Typed.exact g.V.Values.exact said).0 (exact_both g.T.Typed.owned g.V.Values.owned (g.S.Source.view c.args.de.now.reader) exact).0)
+    (c.in-Err.ensures.complete (both g.T.Typed.exact g.V.Values.exact is).0 (exact_both g.T.Typed.owned g.V.Values.owned (g.S.Source.view c.args.de.now.reader) exact).0)
 
 pub returns-then-ne-clause-stops : goal.returns-then-ne-clause-stops
 returns-then-ne-clause-stops g c = another_stopped (said g.T.Typed.exact g.T.Typed.stops) g.V.Values.stops c.args.names.now c.args.name.now (g.S.Source.view c.args.de.now.reader) (g.S.Source.view c.take.new.de.reader) c.take.result _ c.in-len1-up.len_at_least (differs c.args.name.now _ c.if-ne.ensures) c.take.ensures.stops

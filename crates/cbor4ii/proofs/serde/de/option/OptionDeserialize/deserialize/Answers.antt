@@ -30,10 +30,10 @@ pub returns-in-Err-under_step-clause-moves : goal.returns-in-Err-under_step-clau
 returns-in-Err-under_step-clause-moves g c = moves_then c.in-Ok.ensures.moves.by (moves_err c.in-Err-under_step.ensures.moves)
 
 pub returns-in-Err-under_step-clause-complete : goal.returns-in-Err-under_step-clause-complete
-returns-in-Err-under_step-clause-complete g c said exact = some_refuses _ (saw c.in-Ok.ensures.moves c.in-Ok.ensures.sound) c.if-first.false c.if-first-2.false (λ xs told. c.in-Err-under_step.ensures.complete said (exact_kept _ _ _ xs told c.in-Ok.ensures.moves.by exact))
+returns-in-Err-under_step-clause-complete g c is exact = some_refuses _ (saw c.in-Ok.ensures.moves c.in-Ok.ensures.sound) c.if-first.false c.if-first-2.false (λ xs told. c.in-Err-under_step.ensures.complete is (exact_kept _ _ _ xs told c.in-Ok.ensures.moves.by exact))
 
 pub returns-in-Err-clause-complete : goal.returns-in-Err-clause-complete
-returns-in-Err-clause-complete g c said exact = no_option _ c.in-Err.ensures.complete
+returns-in-Err-clause-complete g c is exact = no_option _ c.in-Err.ensures.complete
 
 pub returns-in-Err-under_step-clause-stops : goal.returns-in-Err-under_step-clause-stops
 returns-in-Err-under_step-clause-stops g c = option_stops _ (saw c.in-Ok.ensures.moves c.in-Ok.ensures.sound) c.in-Err-under_step.ensures.stops

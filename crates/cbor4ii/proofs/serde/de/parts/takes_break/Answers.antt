@@ -1,6 +1,6 @@
 use Rattle.std.proofs.Common.{Ok, Err}
 use Rattle.cbor4ii.proofs.Ends.{break_runs}
-use Rattle.cbor4ii.proofs.serde.de.parts.ends.Goals as goal
+use Rattle.cbor4ii.proofs.serde.de.parts.takes_break.Goals as goal
 
 pub returns-in-Ok-clause-runs : goal.returns-in-Ok-clause-runs
 returns-in-Ok-clause-runs g c = break_runs (Ok _) c.in-Ok.ensures.moves c.in-Ok.ensures.sound tt
