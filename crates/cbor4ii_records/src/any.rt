@@ -1,66 +1,65 @@
 //! Items that are read as values, whatever they are, and values that are written.
-use crate::typed::Answer::{self, Custom, Is};
-use crate::typed::{Refused, go_both_ways, reads_all, refuses};
+use crate::typed::Answer::{self, Is};
+use crate::typed::{BothTold, Refused, RowTold, RowToldWithin, refuses, tells, tells_all};
+use cbor4ii::Value;
+use cbor4ii::dec::Decode;
 use cbor4ii::serde::{EncodeError, to_vec};
-use cbor4ii::{FloatBits, Value};
-use cbor4ii_trials::rows::{Want, reads_by_each, reads_within};
+use cbor4ii::utils::SliceReader;
+use cbor4ii_trials::rows::{Want, reads_by_each};
 use std::alloc::{AllocError, Global};
 use std::test::Fail;
 
-const INTEGERS: &[(&[u8], i128)] = &[
-    (b"\x05", 5),
-    (b"\x29", -10),
-    (b"\x38\x63", -100),
+const INTEGERS: &[BothTold] = &[
+    (b"\x05", "Is(Integer(5))"),
+    (b"\x29", "Is(Integer(-10))"),
+    (b"\x38\x63", "Is(Integer(-100))"),
     (
         b"\x3b\x7f\xff\xff\xff\xff\xff\xff\xff",
-        -9_223_372_036_854_775_808,
+        "Is(Integer(-9223372036854775808))",
     ),
     (
         b"\x3b\x80\x00\x00\x00\x00\x00\x00\x00",
-        -9_223_372_036_854_775_809,
+        "Is(Integer(-9223372036854775809))",
     ),
     (
         b"\x3b\xff\xff\xff\xff\xff\xff\xff\xff",
-        -18_446_744_073_709_551_616,
+        "Is(Integer(-18446744073709551616))",
     ),
     (
         b"\xc3\x49\x01\x00\x00\x00\x00\x00\x00\x00\x00",
-        -18_446_744_073_709_551_617,
+        "Is(Integer(-18446744073709551617))",
     ),
     (
         b"\xc2\x49\x01\x00\x00\x00\x00\x00\x00\x00\x62",
-        18_446_744_073_709_551_714,
+        "Is(Integer(18446744073709551714))",
     ),
+    // The greatest and the least number of 128 bits.
     (
         b"\xc2\x50\x7f\xff\xff\xff\xff\xff\xff\xff\xff\xff\xff\xff\xff\xff\xff\xff",
-        i128::MAX,
+        "Is(Integer(170141183460469231731687303715884105727))",
     ),
     (
         b"\xc3\x50\x7f\xff\xff\xff\xff\xff\xff\xff\xff\xff\xff\xff\xff\xff\xff\xff",
-        i128::MIN,
+        "Is(Integer(-170141183460469231731687303715884105728))",
     ),
 ];
 
+const INTEGERS_READ: &[RowTold] = &[
+    (b"\x18\x05\x00", Ok("Is(Integer(5))"), b"\x00"),
+    (b"\xc2\x40", Ok("Is(Integer(0))"), b""),
+    (
+        b"\xc2\x50\x80\x00\x00\x00\x00\x00\x00\x00\x00\x00\x00\x00\x00\x00\x00\x00\x00",
+        Ok("Custom(\"integer out of range\")"),
+        b"\x00",
+    ),
+];
+
+// A bignum takes one step.
+const INTEGERS_WITHIN: &[RowToldWithin] = &[(b"\xc2\x41\x05", 1, Ok("Is(Integer(5))"), b"")];
+
 #[test]
 fn integers(rt: HostRuntime) -> Result<(), Fail> {
-    let alloc = rt.alloc();
-    for &(bytes, number) in INTEGERS {
-        go_both_ways(alloc, &[(bytes, Ok(Is(Value::Integer(number))))])?;
-    }
-    reads_all(
-        alloc,
-        &[
-            (b"\x18\x05\x00", Ok(Is(Value::Integer(5))), b"\x00"),
-            (b"\xc2\x40", Ok(Is(Value::Integer(0))), b""),
-            (
-                b"\xc2\x50\x80\x00\x00\x00\x00\x00\x00\x00\x00\x00\x00\x00\x00\x00\x00\x00\x00",
-                Ok(Custom("integer out of range")),
-                b"\x00",
-            ),
-        ],
-        // A bignum takes one step.
-        &[(b"\xc2\x41\x05", 1, Ok(Is(Value::Integer(5))), b"")],
-    )
+    tells::<Answer<Value>>(rt.alloc(), INTEGERS, INTEGERS_READ, INTEGERS_WITHIN)
 }
 
 const REFUSED: &[Refused] = &[
@@ -145,122 +144,100 @@ const REFUSED: &[Refused] = &[
     ),
 ];
 
-const REFUSED_WITHIN: &[(&[u8], usize, &str, &[u8])] = &[
-    (b"\x05", 0, "DepthOverflow { name: \"any\" }", b"\x05"),
+const REFUSED_WITHIN: &[RowToldWithin] = &[
+    (b"\x05", 0, Err("DepthOverflow { name: \"any\" }"), b"\x05"),
     (
         b"\x7f\x61a\xff",
         1,
-        "DepthOverflow { name: \"str\" }",
+        Err("DepthOverflow { name: \"str\" }"),
         b"\x61a\xff",
     ),
-    (b"\x80", 1, "DepthOverflow { name: \"seq\" }", b"\x80"),
-    (b"\xa0", 1, "DepthOverflow { name: \"map\" }", b"\xa0"),
-    (b"\x81\x05", 2, "DepthOverflow { name: \"any\" }", b"\x05"),
+    (b"\x80", 1, Err("DepthOverflow { name: \"seq\" }"), b"\x80"),
+    (b"\xa0", 1, Err("DepthOverflow { name: \"map\" }"), b"\xa0"),
+    (
+        b"\x81\x05",
+        2,
+        Err("DepthOverflow { name: \"any\" }"),
+        b"\x05",
+    ),
 ];
 
 #[test]
 fn what_is_refused(rt: HostRuntime) -> Result<(), Fail> {
     let alloc = rt.alloc();
     refuses::<Answer<Value>>(alloc, REFUSED)?;
-    for &(bytes, limit, refusal, rest) in REFUSED_WITHIN {
-        reads_within::<Answer<Value>>(alloc, bytes, limit, &Err(refusal), rest)?;
-    }
-    Ok(())
+    tells_all::<Answer<Value>>(alloc, &[], REFUSED_WITHIN)
 }
 
-fn text(alloc: Global, content: &str) -> Result<Value, AllocError> {
-    Ok(Value::Text(String::from_str(alloc, content)?))
-}
+const LEAVES: &[BothTold] = &[
+    (b"\x42\x01\x02", "Is(Bytes([1, 2]))"),
+    (b"\x61a", "Is(Text(\"a\"))"),
+    (b"\xf4", "Is(Bool(false))"),
+    (b"\xf5", "Is(Bool(true))"),
+    (b"\xf6", "Is(Null)"),
+    // 0x3c00, 0x4a00, 0x47c35000 and 0x7ff0000000000000.
+    (b"\xf9\x3c\x00", "Is(Float(F16(15360)))"),
+    (b"\xf9\x4a\x00", "Is(Float(F16(18944)))"),
+    (b"\xfa\x47\xc3\x50\x00", "Is(Float(F32(1203982336)))"),
+    (
+        b"\xfb\x7f\xf0\x00\x00\x00\x00\x00\x00",
+        "Is(Float(F64(9218868437227405312)))",
+    ),
+];
+
+const LEAVES_READ: &[RowTold] = &[
+    (b"\xf6\xf7", Ok("Is(Null)"), b"\xf7"),
+    (b"\xf7", Ok("Is(Null)"), b""),
+];
+
+const LEAVES_WITHIN: &[RowToldWithin] = &[
+    (b"\x5f\x41\x01\x41\x02\xff", 2, Ok("Is(Bytes([1, 2]))"), b""),
+    (b"\x61a", 1, Ok("Is(Text(\"a\"))"), b""),
+    (b"\x7f\x61a\xff", 2, Ok("Is(Text(\"a\"))"), b""),
+];
 
 #[test]
 fn strings_simple_values_and_floats(rt: HostRuntime) -> Result<(), Fail> {
-    let alloc = rt.alloc();
-    go_both_ways(
-        alloc,
-        &[
-            (
-                b"\x42\x01\x02",
-                Ok(Is(Value::Bytes(b"\x01\x02".to_vec(alloc)?))),
-            ),
-            (b"\x61a", Ok(Is(text(alloc, "a")?))),
-            (b"\xf4", Ok(Is(Value::Bool(false)))),
-            (b"\xf5", Ok(Is(Value::Bool(true)))),
-            (b"\xf6", Ok(Is(Value::Null))),
-            (
-                b"\xf9\x3c\x00",
-                Ok(Is(Value::Float(FloatBits::F16(0x3c00)))),
-            ),
-            (
-                b"\xf9\x4a\x00",
-                Ok(Is(Value::Float(FloatBits::F16(0x4a00)))),
-            ),
-            (
-                b"\xfa\x47\xc3\x50\x00",
-                Ok(Is(Value::Float(FloatBits::F32(0x47c3_5000)))),
-            ),
-            (
-                b"\xfb\x7f\xf0\x00\x00\x00\x00\x00\x00",
-                Ok(Is(Value::Float(FloatBits::F64(0x7ff0_0000_0000_0000)))),
-            ),
-        ],
-    )?;
-    reads_all(
-        alloc,
-        &[
-            (b"\xf6\xf7", Ok(Is(Value::Null)), b"\xf7"),
-            (b"\xf7", Ok(Is(Value::Null)), b""),
-        ],
-        &[
-            (
-                b"\x5f\x41\x01\x41\x02\xff",
-                2,
-                Ok(Is(Value::Bytes(b"\x01\x02".to_vec(alloc)?))),
-                b"",
-            ),
-            (b"\x61a", 1, Ok(Is(text(alloc, "a")?)), b""),
-            (b"\x7f\x61a\xff", 2, Ok(Is(text(alloc, "a")?)), b""),
-        ],
-    )
+    tells::<Answer<Value>>(rt.alloc(), LEAVES, LEAVES_READ, LEAVES_WITHIN)
 }
+
+const CONTAINERS: &[BothTold] = &[
+    (
+        b"\xa1\x01\x82\xf5\x61a",
+        "Is(Map([(Integer(1), Array([Bool(true), Text(\"a\")]))]))",
+    ),
+    (
+        b"\x82\x01\x81\xf6",
+        "Is(Array([Integer(1), Array([Null])]))",
+    ),
+    (
+        b"\xa2\x01\x02\x01\x03",
+        "Is(Map([(Integer(1), Integer(2)), (Integer(1), Integer(3))]))",
+    ),
+    (b"\xa1\x61a\xf4", "Is(Map([(Text(\"a\"), Bool(false))]))"),
+];
+
+const CONTAINERS_READ: &[RowTold] = &[
+    (
+        b"\x9f\x01\x80\xff\x02",
+        Ok("Is(Array([Integer(1), Array([])]))"),
+        b"\x02",
+    ),
+    (
+        b"\xbf\x61a\xf4\xff",
+        Ok("Is(Map([(Text(\"a\"), Bool(false))]))"),
+        b"",
+    ),
+];
+
+const CONTAINERS_WITHIN: &[RowToldWithin] = &[
+    (b"\x80", 2, Ok("Is(Array([]))"), b""),
+    (b"\xa0", 2, Ok("Is(Map([]))"), b""),
+];
 
 #[test]
 fn arrays_and_maps(rt: HostRuntime) -> Result<(), Fail> {
-    let alloc = rt.alloc();
-    let inner = Value::Array(vec![in alloc; Value::Null]?);
-    let array = Value::Array(vec![in alloc; Value::Integer(1), inner]?);
-    let twice = Value::Map(vec![in alloc;
-        (Value::Integer(1), Value::Integer(2)),
-        (Value::Integer(1), Value::Integer(3)),
-    ]?);
-    let entry = Value::Map(vec![in alloc; (text(alloc, "a")?, Value::Bool(false))]?);
-    let open = Value::Map(vec![in alloc; (text(alloc, "a")?, Value::Bool(false))]?);
-    let items = vec![in alloc; Value::Bool(true), text(alloc, "a")?]?;
-    let member = Value::Map(vec![in alloc; (Value::Integer(1), Value::Array(items))]?);
-    go_both_ways(
-        alloc,
-        &[
-            (b"\xa1\x01\x82\xf5\x61a", Ok(Is(member))),
-            (b"\x82\x01\x81\xf6", Ok(Is(array))),
-            (b"\xa2\x01\x02\x01\x03", Ok(Is(twice))),
-            (b"\xa1\x61a\xf4", Ok(Is(entry))),
-        ],
-    )?;
-    let items = vec![in alloc; Value::Integer(1), Value::Array(Vec::new(alloc))]?;
-    reads_all(
-        alloc,
-        &[
-            (
-                b"\x9f\x01\x80\xff\x02",
-                Ok(Is(Value::Array(items))),
-                b"\x02",
-            ),
-            (b"\xbf\x61a\xf4\xff", Ok(Is(open)), b""),
-        ],
-        &[
-            (b"\x80", 2, Ok(Is(Value::Array(Vec::new(alloc)))), b""),
-            (b"\xa0", 2, Ok(Is(Value::Map(Vec::new(alloc)))), b""),
-        ],
-    )
+    tells::<Answer<Value>>(rt.alloc(), CONTAINERS, CONTAINERS_READ, CONTAINERS_WITHIN)
 }
 
 // So many arrays of one item each, one in another, and an empty one inside.
@@ -273,37 +250,57 @@ fn nested(alloc: Global, depth: usize) -> Result<&'static [u8], Fail> {
     Ok(bytes.leak())
 }
 
+// What they are read as.
+fn nested_value(alloc: Global, depth: usize) -> Result<Value, AllocError> {
+    let mut value = Value::Array(Vec::new(alloc));
+    for _ in 0..depth {
+        value = Value::Array(vec![in alloc; value]?);
+    }
+    Ok(value)
+}
+
+fn reads_nested(alloc: Global, depth: usize) -> Result<(), Fail> {
+    let value = Ok(Is(nested_value(alloc, depth)?));
+    reads_by_each(alloc, nested(alloc, depth)?, 256, &value, b"")
+}
+
+const TOO_DEEP: Want<Answer<Value>> = Err("DepthOverflow { name: \"any\" }");
+
 #[test]
 fn depth(rt: HostRuntime) -> Result<(), Fail> {
     let alloc = rt.alloc();
-    let mut value = Value::Array(Vec::new(alloc));
-    for _ in 0..127 {
-        value = Value::Array(vec![in alloc; value]?);
-    }
-    reads_by_each(alloc, nested(alloc, 127)?, 256, &Ok(Is(value)), b"")?;
-    let refused: Want<Answer<Value>> = Err("DepthOverflow { name: \"any\" }");
-    reads_by_each(alloc, nested(alloc, 128)?, 256, &refused, b"\x80")
+    reads_nested(alloc, 127)?;
+    reads_by_each(alloc, nested(alloc, 128)?, 256, &TOO_DEEP, b"\x80")
 }
 
-fn tagged(alloc: Global) -> Result<Value, AllocError> {
-    Ok(Value::Tag(1, Box::new(alloc, Value::Integer(0))?))
+// Items with a tag, in an array and as a map's value too, and the text of what they decode to.
+const TAGGED: &[BothTold] = &[
+    (b"\x81\xc1\x00", "Array([Tag(1, Integer(0))])"),
+    (b"\xa1\xf6\xc1\x00", "Map([(Null, Tag(1, Integer(0)))])"),
+    (b"\xc1\x00", "Tag(1, Integer(0))"),
+];
+
+// The value that the bytes decode to is the one of the text, and is not written.
+fn is_not_written(alloc: Global, bytes: &[u8], text: &str) -> Result<(), Fail> {
+    let value = Value::decode(alloc, &mut SliceReader::new(bytes))?;
+    if format!(in alloc; "{value:?}")?.as_str() != text {
+        return Err(Fail::new(format_args!("{value:?} in the place of {text}")));
+    }
+    match to_vec(Vec::new(alloc), &value) {
+        Err(EncodeError::Custom("serialization Tag via serde is not supported")) => Ok(()),
+        Err(EncodeError::Core(error)) => Err(Fail::from(error)),
+        _ => Err(Fail::new(format_args!("not refused: {text}"))),
+    }
+}
+
+fn are_not_written(alloc: Global, rows: &[BothTold]) -> Result<(), Fail> {
+    for (bytes, text) in rows {
+        is_not_written(alloc, bytes, text)?;
+    }
+    Ok(())
 }
 
 #[test]
 fn a_tag_is_not_written(rt: HostRuntime) -> Result<(), Fail> {
-    let alloc = rt.alloc();
-    let in_array = Value::Array(vec![in alloc; tagged(alloc)?]?);
-    let in_map = Value::Map(vec![in alloc; (Value::Null, tagged(alloc)?)]?);
-    for value in [in_array, in_map, tagged(alloc)?] {
-        match to_vec(Vec::new(alloc), &value) {
-            Err(EncodeError::Custom(text)) => {
-                assert_eq!(rt; text, "serialization Tag via serde is not supported");
-            }
-            other => {
-                other?;
-                assert!(rt; false, "a tag is written");
-            }
-        }
-    }
-    Ok(())
+    are_not_written(rt.alloc(), TAGGED)
 }

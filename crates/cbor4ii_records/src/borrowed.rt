@@ -27,14 +27,14 @@ enum Kind {
     BorrowedBytes,
 }
 
-const TEXTS: [Kind; 4] = [
+const TEXTS: &[Kind] = &[
     Kind::Text,
     Kind::TextByName,
     Kind::Identifier,
     Kind::BorrowedText,
 ];
 
-const BYTE_STRINGS: [Kind; 3] = [Kind::Bytes, Kind::BytesByName, Kind::BorrowedBytes];
+const BYTE_STRINGS: &[Kind] = &[Kind::Bytes, Kind::BytesByName, Kind::BorrowedBytes];
 
 /// A reader by whose name strings are read that may be borrowed.
 trait Strings: Source {
@@ -239,67 +239,102 @@ fn reads_of_streams(
     Err(Fail::new(format_args!("too many looks of {bytes:?}")))
 }
 
-#[test]
-fn texts(rt: HostRuntime) -> Result<(), Fail> {
-    let alloc = rt.alloc();
-    for kind in TEXTS {
-        reads_counted(kind, alloc, b"\x64IETF\x01", b"IETF", b"\x01")?;
-        reads_counted(kind, alloc, b"\x62\xc3\xbc", b"\xc3\xbc", b"")?;
-        reads_alike(
-            kind,
-            alloc,
-            b"\x7f\x61a\x61b\xff\x01",
-            Ok((b"ab", false)),
-            b"\x01",
-        )?;
-        let number = "Core(Mismatch { name: \"str\", found: 65 })";
-        reads_alike(kind, alloc, b"\x41\x41", Err(number), b"\x41")?;
-        let utf8 = "Core(RequireUtf8 { name: \"str\" })";
-        reads_alike(kind, alloc, b"\x62\xff\xff\x01", Err(utf8), b"\x01")?;
-        let no_step = "Core(DepthOverflow { name: \"str\" })";
-        let reader = SliceReader::with_limit(b"\x7f\x61a\xff", 0);
-        reads(
-            kind,
-            alloc,
-            reader,
-            b"\x7f\x61a\xff",
-            Err(no_step),
-            b"\x61a\xff",
-        )?;
+/// Bytes of a string that is borrowed where its content is lent whole, its content, and what is
+/// left of them.
+type Counted = (&'static [u8], &'static [u8], &'static [u8]);
+
+/// Bytes that are read alike over each reader, what they are read as, and what is left of them.
+type Alike = (&'static [u8], Want, &'static [u8]);
+
+/// Each row, by each way to read.
+fn reads_rows(
+    kinds: &[Kind],
+    alloc: Global,
+    counted: &[Counted],
+    alike: &[Alike],
+) -> Result<(), Fail> {
+    for kind in kinds {
+        for (bytes, content, rest) in counted {
+            reads_counted(*kind, alloc, bytes, content, rest)?;
+        }
+        for (bytes, want, rest) in alike {
+            reads_alike(*kind, alloc, bytes, *want, rest)?;
+        }
     }
     Ok(())
 }
 
+/// The row, by each way to read, where no step is left to take.
+fn reads_with_no_step(kinds: &[Kind], alloc: Global, row: Alike) -> Result<(), Fail> {
+    let (bytes, want, rest) = row;
+    for kind in kinds {
+        let reader = SliceReader::with_limit(bytes, 0);
+        reads(*kind, alloc, reader, bytes, want, rest)?;
+    }
+    Ok(())
+}
+
+const TEXTS_COUNTED: &[Counted] = &[
+    (b"\x64IETF\x01", b"IETF", b"\x01"),
+    (b"\x62\xc3\xbc", b"\xc3\xbc", b""),
+];
+
+const TEXTS_ALIKE: &[Alike] = &[
+    (b"\x7f\x61a\x61b\xff\x01", Ok((b"ab", false)), b"\x01"),
+    (
+        b"\x41\x41",
+        Err("Core(Mismatch { name: \"str\", found: 65 })"),
+        b"\x41",
+    ),
+    (
+        b"\x62\xff\xff\x01",
+        Err("Core(RequireUtf8 { name: \"str\" })"),
+        b"\x01",
+    ),
+];
+
+const TEXT_WITH_NO_STEP: Alike = (
+    b"\x7f\x61a\xff",
+    Err("Core(DepthOverflow { name: \"str\" })"),
+    b"\x61a\xff",
+);
+
+#[test]
+fn texts(rt: HostRuntime) -> Result<(), Fail> {
+    let alloc = rt.alloc();
+    reads_rows(TEXTS, alloc, TEXTS_COUNTED, TEXTS_ALIKE)?;
+    reads_with_no_step(TEXTS, alloc, TEXT_WITH_NO_STEP)
+}
+
+const BYTE_STRINGS_COUNTED: &[Counted] = &[(
+    b"\x44\x01\x02\x03\x04\xff",
+    b"\x01\x02\x03\x04",
+    b"\xff",
+)];
+
+const BYTE_STRINGS_ALIKE: &[Alike] = &[
+    (b"\x5f\x41\x01\x41\x02\xff", Ok((b"\x01\x02", false)), b""),
+    (
+        b"\x61\x61a",
+        Err("Core(Mismatch { name: \"bytes\", found: 97 })"),
+        b"\x61a",
+    ),
+];
+
+const BYTE_STRING_WITH_NO_STEP: Alike = (
+    b"\x5f\x41a\xff",
+    Err("Core(DepthOverflow { name: \"bytes\" })"),
+    b"\x41a\xff",
+);
+
 #[test]
 fn byte_strings(rt: HostRuntime) -> Result<(), Fail> {
     let alloc = rt.alloc();
-    for kind in BYTE_STRINGS {
-        reads_counted(
-            kind,
-            alloc,
-            b"\x44\x01\x02\x03\x04\xff",
-            b"\x01\x02\x03\x04",
-            b"\xff",
-        )?;
-        reads_alike(
-            kind,
-            alloc,
-            b"\x5f\x41\x01\x41\x02\xff",
-            Ok((b"\x01\x02", false)),
-            b"",
-        )?;
-        let text = "Core(Mismatch { name: \"bytes\", found: 97 })";
-        reads_alike(kind, alloc, b"\x61\x61a", Err(text), b"\x61a")?;
-        let no_step = "Core(DepthOverflow { name: \"bytes\" })";
-        let reader = SliceReader::with_limit(b"\x5f\x41a\xff", 0);
-        reads(
-            kind,
-            alloc,
-            reader,
-            b"\x5f\x41a\xff",
-            Err(no_step),
-            b"\x41a\xff",
-        )?;
-    }
-    Ok(())
+    reads_rows(
+        BYTE_STRINGS,
+        alloc,
+        BYTE_STRINGS_COUNTED,
+        BYTE_STRINGS_ALIKE,
+    )?;
+    reads_with_no_step(BYTE_STRINGS, alloc, BYTE_STRING_WITH_NO_STEP)
 }

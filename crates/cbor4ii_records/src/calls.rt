@@ -1,6 +1,6 @@
 //! What is read by the name of a call, and by the calls that read one value.
 use crate::typed::Answer::{self, Is};
-use crate::typed::{Take, reads_all};
+use crate::typed::{RowTold, RowToldWithin, Take, is_at_front, reads_all, tells_all};
 use cbor4ii::serde::{DecodeError, Deserializer, from_reader, from_slice};
 use cbor4ii::types::{F16, F32, F64};
 use cbor4ii_rw::error as core_error;
@@ -15,38 +15,94 @@ use std::io::{self, ErrorKind};
 use std::test::Fail;
 
 #[test]
-fn numbers(rt: HostRuntime) -> Result<(), Fail> {
-    let alloc = rt.alloc();
-    let bytes = b"\xf4\x01\x02\x03\x04\x05\x20\x21\x22\x23\x24";
-    let mut de = Deserializer::new(SliceReader::new(bytes));
-    assert!(rt; !de.deserialize_bool(alloc)?);
-    assert_eq!(rt; de.deserialize_u8(alloc)?, 1);
-    assert_eq!(rt; de.deserialize_u16(alloc)?, 2);
-    assert_eq!(rt; de.deserialize_u32(alloc)?, 3);
-    assert_eq!(rt; de.deserialize_u64(alloc)?, 4);
-    assert_eq!(rt; de.deserialize_u128(alloc)?, 5);
-    assert_eq!(rt; de.deserialize_i8(alloc)?, -1);
-    assert_eq!(rt; de.deserialize_i16(alloc)?, -2);
-    assert_eq!(rt; de.deserialize_i32(alloc)?, -3);
-    assert_eq!(rt; de.deserialize_i64(alloc)?, -4);
-    assert_eq!(rt; de.deserialize_i128(alloc)?, -5);
+fn a_deserializer_gives_its_reader_back(rt: HostRuntime) -> Result<(), Fail> {
+    let de = Deserializer::new(SliceReader::new(b"\x05"));
     assert!(rt; !de.is_human_readable());
-    assert_eq!(rt; de.into_inner().remaining(), b"".as_slice());
+    assert_eq!(rt; de.into_inner().remaining(), b"\x05".as_slice());
     Ok(())
 }
 
+/// A flag, and a number of each type that has no sign.
+#[derive(Debug, PartialEq, Drop)]
+struct Unsigned(bool, u8, u16, u32, u64, u128);
+
+impl Take for Unsigned {
+    fn take<S: Source>(
+        alloc: Global,
+        de: &mut Deserializer<S>,
+    ) -> Result<Unsigned, DecodeError<S::Error>> {
+        let flag = de.deserialize_bool(alloc)?;
+        let one = de.deserialize_u8(alloc)?;
+        let two = de.deserialize_u16(alloc)?;
+        let four = de.deserialize_u32(alloc)?;
+        let eight = de.deserialize_u64(alloc)?;
+        Ok(Unsigned(flag, one, two, four, eight, de.deserialize_u128(alloc)?))
+    }
+}
+
+const UNSIGNED: &[Row<Answer<Unsigned>>] = &[(
+    b"\xf4\x01\x02\x03\x04\x05\x20",
+    Ok(Is(Unsigned(false, 1, 2, 3, 4, 5))),
+    b"\x20",
+)];
+
+/// A number of each type that has a sign.
+#[derive(Debug, PartialEq, Drop)]
+struct Signed(i8, i16, i32, i64, i128);
+
+impl Take for Signed {
+    fn take<S: Source>(
+        alloc: Global,
+        de: &mut Deserializer<S>,
+    ) -> Result<Signed, DecodeError<S::Error>> {
+        let one = de.deserialize_i8(alloc)?;
+        let two = de.deserialize_i16(alloc)?;
+        let four = de.deserialize_i32(alloc)?;
+        let eight = de.deserialize_i64(alloc)?;
+        Ok(Signed(one, two, four, eight, de.deserialize_i128(alloc)?))
+    }
+}
+
+const SIGNED: &[Row<Answer<Signed>>] = &[(
+    b"\x20\x21\x22\x23\x24",
+    Ok(Is(Signed(-1, -2, -3, -4, -5))),
+    b"",
+)];
+
+#[test]
+fn numbers(rt: HostRuntime) -> Result<(), Fail> {
+    let alloc = rt.alloc();
+    reads_all(alloc, UNSIGNED, &[])?;
+    reads_all(alloc, SIGNED, &[])
+}
+
+/// A float of each type, and two units behind them.
+#[derive(Debug, PartialEq, Drop)]
+struct FloatsAndUnits(F16, F32, F64);
+
+impl Take for FloatsAndUnits {
+    fn take<S: Source>(
+        alloc: Global,
+        de: &mut Deserializer<S>,
+    ) -> Result<FloatsAndUnits, DecodeError<S::Error>> {
+        let half = de.deserialize_f16(alloc)?;
+        let single = de.deserialize_f32(alloc)?;
+        let double = de.deserialize_f64(alloc)?;
+        de.deserialize_unit()?;
+        de.deserialize_unit_struct("Unit")?;
+        Ok(FloatsAndUnits(half, single, double))
+    }
+}
+
+const FLOATS_AND_UNITS: &[Row<Answer<FloatsAndUnits>>] = &[(
+    b"\xf9\x3c\x00\xfa\x7f\x80\x00\x00\xfb\x7f\xf0\x00\x00\x00\x00\x00\x00\x80\x80",
+    Ok(Is(FloatsAndUnits(F16(0x3c00), F32(0x7f80_0000), F64(0x7ff0_0000_0000_0000)))),
+    b"",
+)];
+
 #[test]
 fn floats_and_units(rt: HostRuntime) -> Result<(), Fail> {
-    let alloc = rt.alloc();
-    let bytes = b"\xf9\x3c\x00\xfa\x7f\x80\x00\x00\xfb\x7f\xf0\x00\x00\x00\x00\x00\x00\x80\x80";
-    let mut de = Deserializer::new(SliceReader::new(bytes));
-    assert_eq!(rt; de.deserialize_f16(alloc)?, F16(0x3c00));
-    assert_eq!(rt; de.deserialize_f32(alloc)?, F32(0x7f80_0000));
-    assert_eq!(rt; de.deserialize_f64(alloc)?, F64(0x7ff0_0000_0000_0000));
-    de.deserialize_unit()?;
-    de.deserialize_unit_struct("Unit")?;
-    assert_eq!(rt; de.into_inner().remaining(), b"".as_slice());
-    Ok(())
+    reads_all(rt.alloc(), FLOATS_AND_UNITS, &[])
 }
 
 /// A struct of one field.
@@ -96,44 +152,54 @@ impl Take for Owned {
     }
 }
 
+const OWNED: &[RowTold] = &[
+    (
+        b"\x7f\x61a\xff\x5f\x41a\xff\x01",
+        Ok("Is(Owned(\"a\", [97]))"),
+        b"\x01",
+    ),
+    (
+        b"\x60\x61\x61",
+        Err("Mismatch { name: \"bytes\", found: 97 }"),
+        b"\x61",
+    ),
+];
+
+const OWNED_WITHIN: &[RowToldWithin] = &[(
+    b"\x60\x5f\x41a\xff",
+    0,
+    Err("DepthOverflow { name: \"bytes\" }"),
+    b"\x41a\xff",
+)];
+
 #[test]
 fn other_values(rt: HostRuntime) -> Result<(), Fail> {
     let alloc = rt.alloc();
     reads_all(alloc, NEWTYPES, &[])?;
     reads_all(alloc, CHARACTERS, &[])?;
-    let owned = Owned(String::from_str(alloc, "a")?, b"a".to_vec(alloc)?);
-    reads_all(
-        alloc,
-        &[
-            (b"\x7f\x61a\xff\x5f\x41a\xff\x01", Ok(Is(owned)), b"\x01"),
-            (
-                b"\x60\x61\x61",
-                Err("Mismatch { name: \"bytes\", found: 97 }"),
-                b"\x61",
-            ),
-        ],
-        &[(
-            b"\x60\x5f\x41a\xff",
-            0,
-            Err("DepthOverflow { name: \"bytes\" }"),
-            b"\x41a\xff",
-        )],
-    )
+    tells_all::<Answer<Owned>>(alloc, OWNED, OWNED_WITHIN)
+}
+
+/// A text at the front of the bytes, which is lent.
+fn text_is_at_front(alloc: Global, bytes: &'static [u8], want: &str) -> Result<(), Fail> {
+    let text: &'static str = from_slice(alloc, bytes)?;
+    if text == want {
+        return Ok(());
+    }
+    Err(Fail::new(format_args!("{text} in the place of {want}")))
 }
 
 #[test]
 fn the_value_at_the_front(rt: HostRuntime) -> Result<(), Fail> {
     let alloc = rt.alloc();
-    let number: u8 = from_slice(alloc, b"\x05\xff".as_slice())?;
-    assert_eq!(rt; number, 5);
-    let text: &str = from_slice(alloc, b"\x61a".as_slice())?;
-    assert_eq!(rt; text, "a");
-    let number: u8 = from_reader(alloc, b"\x05\xff".as_slice())?;
-    assert_eq!(rt; number, 5);
-    let fault: Result<u16, DecodeError<io::Error>> = from_reader(
-        alloc,
-        FailingStream::new(b"\x19\x00\x05", 1, 1),
-    );
+    is_at_front::<u8>(alloc, b"\x05\xff", "5")?;
+    text_is_at_front(alloc, b"\x61a", "a")
+}
+
+#[test]
+fn a_fault_before_the_value_at_the_front(rt: HostRuntime) -> Result<(), Fail> {
+    let stream = FailingStream::new(b"\x19\x00\x05", 1, 1);
+    let fault: Result<u16, DecodeError<io::Error>> = from_reader(rt.alloc(), stream);
     assert!(rt;
         matches!(
             &fault,
@@ -144,40 +210,45 @@ fn the_value_at_the_front(rt: HostRuntime) -> Result<(), Fail> {
     Ok(())
 }
 
-/// The text of a refusal. Where memory was refused the row says nothing.
-fn refusal<T: Drop, E: Debug + Drop>(
+/// The refusal has this text. Where memory was refused the row says nothing.
+fn is_refused<T: Drop, E: Debug + Drop>(
     got: Result<T, DecodeError<E>>,
-) -> Result<InlineText<128>, Fail> {
-    match &got {
-        Ok(_) => Ok(InlineText::of("no refusal")),
+    want: &str,
+) -> Result<(), Fail> {
+    let text = match &got {
+        Ok(_) => InlineText::<128>::of("no refusal"),
         Err(DecodeError::Core(core_error::DecodeError::OutOfMemory)) => {
-            Err(Fail::from(core_error::DecodeError::<Never>::OutOfMemory))
+            return Err(Fail::from(core_error::DecodeError::<Never>::OutOfMemory));
         }
-        Err(error) => Ok(InlineText::of(error)),
+        Err(error) => InlineText::of(error),
+    };
+    if text.as_str() == want {
+        return Ok(());
     }
+    Err(Fail::new(format_args!("{} in the place of {want}", text.as_str())))
 }
+
+const NOT_LENT: &str = "Core(RequireBorrowed { name: \"str\" })";
 
 #[test]
 fn a_text_that_is_not_lent_is_refused(rt: HostRuntime) -> Result<(), Fail> {
     let alloc = rt.alloc();
-    let refused = "Core(RequireBorrowed { name: \"str\" })";
     let got = from_slice::<&[u8], &str>(alloc, b"\x7f\x61a\xff".as_slice());
-    assert_eq!(rt; refusal(got)?.as_str(), refused);
+    is_refused(got, NOT_LENT)?;
     let got = from_reader::<&[u8], &str>(alloc, b"\x61a".as_slice());
-    assert_eq!(rt; refusal(got)?.as_str(), refused);
-    Ok(())
+    is_refused(got, NOT_LENT)
 }
+
+const FAILED: DecodeError<u8> = DecodeError::Core(core_error::DecodeError::Read(5));
 
 #[test]
 fn errors_are_told(rt: HostRuntime) -> Result<(), Fail> {
-    let failed = DecodeError::read(5u8);
-    assert_eq!(rt; failed, DecodeError::Core(core_error::DecodeError::Read(5)));
+    assert_eq!(rt; DecodeError::read(5u8), FAILED);
     assert_eq!(rt;
-        format!(in rt.alloc(); "{failed}")?.as_str(),
-        "Core(Read(5))"
+        DecodeError::from(core_error::DecodeError::Read(5u8)),
+        FAILED
     );
-    let lifted = DecodeError::from(core_error::DecodeError::Read(5u8));
-    assert!(rt; lifted == failed);
-    assert!(rt; DecodeError::<u8>::Custom("a") != failed);
+    assert_eq!(rt; InlineText::<64>::of(&FAILED).as_str(), "Core(Read(5))");
+    assert!(rt; DecodeError::<u8>::Custom("a") != FAILED);
     Ok(())
 }

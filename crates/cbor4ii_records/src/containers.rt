@@ -1,8 +1,7 @@
 //! Rows of typed values that hold others: options, boxes, tuples, vectors and maps.
 use crate::typed::Answer::{self, Is};
-use crate::typed::{Both, tries};
+use crate::typed::{Both, BothTold, RowTold, RowToldWithin, tells, tries};
 use cbor4ii_trials::rows::{Row, RowWithin};
-use std::alloc::{AllocError, Global};
 use std::collections::BTreeMap;
 use std::test::Fail;
 
@@ -32,21 +31,22 @@ const OPTIONS_WITHIN: &[RowWithin<Answer<Option<u8>>>] = &[
 
 const OPTIONAL_UNITS: &[Both<Option<()>>] = &[(b"\x80", Ok(Is(Some(()))))];
 
+const BOXES: &[BothTold] = &[(b"\x0a", "Is(10)")];
+
+const BOXES_READ: &[RowTold] = &[(
+    b"\x20\x06",
+    Err("Mismatch { name: \"u32\", found: 32 }"),
+    b"\x06",
+)];
+
+const BOXES_WITHIN: &[RowToldWithin] = &[(b"\x05\x06", 0, Ok("Is(5)"), b"\x06")];
+
 #[test]
 fn options_and_boxes(rt: HostRuntime) -> Result<(), Fail> {
     let alloc = rt.alloc();
     tries(alloc, OPTIONS, OPTIONS_READ, OPTIONS_WITHIN)?;
     tries(alloc, OPTIONAL_UNITS, &[], &[])?;
-    tries(
-        alloc,
-        &[(b"\x0a", Ok(Is(Box::new(alloc, 10u32)?)))],
-        &[(
-            b"\x20\x06",
-            Err("Mismatch { name: \"u32\", found: 32 }"),
-            b"\x06",
-        )],
-        &[(b"\x05\x06", 0, Ok(Is(Box::new(alloc, 5u32)?)), b"\x06")],
-    )
+    tells::<Answer<Box<u32>>>(alloc, BOXES, BOXES_READ, BOXES_WITHIN)
 }
 
 const PAIRS: &[Both<(u8, u8)>] = &[(b"\x82\x01\x02", Ok(Is((1, 2))))];
@@ -118,153 +118,128 @@ fn pairs_and_triples(rt: HostRuntime) -> Result<(), Fail> {
     tries(alloc, TRIPLES, TRIPLES_READ, TRIPLES_WITHIN)
 }
 
+const VECTORS: &[BothTold] = &[(b"\x80", "Is([])"), (b"\x83\x01\x02\x03", "Is([1, 2, 3])")];
+
+const VECTORS_READ: &[RowTold] = &[
+    (
+        b"\x9f\x01",
+        Err("Eof { name: \"break\", expect: Small(1) }"),
+        b"",
+    ),
+    (
+        b"\xa1\x01",
+        Err("Mismatch { name: \"array\", found: 161 }"),
+        b"\x01",
+    ),
+    (
+        b"\x83\x01\x20\x03",
+        Err("Mismatch { name: \"u8\", found: 32 }"),
+        b"\x03",
+    ),
+    (
+        b"\x9b\xff\xff\xff\xff\xff\xff\xff\xff\x01",
+        Err("Eof { name: \"u8\", expect: Small(1) }"),
+        b"",
+    ),
+];
+
+const VECTORS_WITHIN: &[RowToldWithin] = &[
+    (b"\x9f\x01\x02\xff\x03", 1, Ok("Is([1, 2])"), b"\x03"),
+    (b"\x9f\xff", 1, Ok("Is([])"), b""),
+    (
+        b"\x81\x05",
+        0,
+        Err("DepthOverflow { name: \"seq\" }"),
+        b"\x81\x05",
+    ),
+    (b"\x81\x05", 1, Ok("Is([5])"), b""),
+];
+
 #[test]
 fn vectors(rt: HostRuntime) -> Result<(), Fail> {
-    let alloc = rt.alloc();
-    tries(
-        alloc,
-        &[
-            (b"\x80", Ok(Is(Vec::new(alloc)))),
-            (b"\x83\x01\x02\x03", Ok(Is([1u8, 2, 3].to_vec(alloc)?))),
-        ],
-        &[
-            (
-                b"\x9f\x01",
-                Err("Eof { name: \"break\", expect: Small(1) }"),
-                b"",
-            ),
-            (
-                b"\xa1\x01",
-                Err("Mismatch { name: \"array\", found: 161 }"),
-                b"\x01",
-            ),
-            (
-                b"\x83\x01\x20\x03",
-                Err("Mismatch { name: \"u8\", found: 32 }"),
-                b"\x03",
-            ),
-            (
-                b"\x9b\xff\xff\xff\xff\xff\xff\xff\xff\x01",
-                Err("Eof { name: \"u8\", expect: Small(1) }"),
-                b"",
-            ),
-        ],
-        &[
-            (
-                b"\x9f\x01\x02\xff\x03",
-                1,
-                Ok(Is([1u8, 2].to_vec(alloc)?)),
-                b"\x03",
-            ),
-            (b"\x9f\xff", 1, Ok(Is(Vec::new(alloc))), b""),
-            (
-                b"\x81\x05",
-                0,
-                Err("DepthOverflow { name: \"seq\" }"),
-                b"\x81\x05",
-            ),
-            (b"\x81\x05", 1, Ok(Is([5u8].to_vec(alloc)?)), b""),
-        ],
-    )
+    tells::<Answer<Vec<u8>>>(rt.alloc(), VECTORS, VECTORS_READ, VECTORS_WITHIN)
 }
+
+const VECTORS_OF_OPTIONS: &[BothTold] = &[(
+    b"\x83\x18\x99\xf6\x18\x33",
+    "Is([Some(153), None, Some(51)])",
+)];
+
+const VECTORS_OF_OPTIONS_WITHIN: &[RowToldWithin] = &[(
+    b"\x81\x05",
+    1,
+    Err("DepthOverflow { name: \"option\" }"),
+    b"\x05",
+)];
+
+const OPTIONAL_VECTORS_OF_PAIRS: &[BothTold] = &[(
+    b"\x81\x82\x0a\x1a\x00\x01\x86\x9f",
+    "Is(Some([(10, 99999)]))",
+)];
 
 #[test]
 fn vectors_of_other_values(rt: HostRuntime) -> Result<(), Fail> {
     let alloc = rt.alloc();
-    let options = [Some(0x99u32), None, Some(0x33)].to_vec(alloc)?;
-    let pairs = [(10u128, 99999i128)].to_vec(alloc)?;
-    let option = r#"DepthOverflow { name: "option" }"#;
-    tries(
-        alloc,
-        &[(b"\x83\x18\x99\xf6\x18\x33", Ok(Is(options)))],
-        &[],
-        &[(b"\x81\x05", 1, Err(option), b"\x05")],
-    )?;
-    tries(
-        alloc,
-        &[(b"\x81\x82\x0a\x1a\x00\x01\x86\x9f", Ok(Is(Some(pairs))))],
-        &[],
-        &[],
-    )
+    tells::<Answer<Vec<Option<u32>>>>(alloc, VECTORS_OF_OPTIONS, &[], VECTORS_OF_OPTIONS_WITHIN)?;
+    tells::<Answer<Option<Vec<(u128, i128)>>>>(alloc, OPTIONAL_VECTORS_OF_PAIRS, &[], &[])
 }
 
-fn map(alloc: Global, entries: &[(u8, u8)]) -> Result<BTreeMap<u8, u8>, AllocError> {
-    let mut map = BTreeMap::new(alloc);
-    for &(key, value) in entries {
-        map.insert(key, value)?;
-    }
-    Ok(map)
-}
+const MAPS: &[BothTold] = &[
+    (b"\xa0", "Is({})"),
+    (b"\xa2\x01\x02\x03\x04", "Is({1: 2, 3: 4})"),
+];
+
+const MAPS_READ: &[RowTold] = &[
+    (
+        b"\xbf\x01\x02",
+        Err("Eof { name: \"break\", expect: Small(1) }"),
+        b"",
+    ),
+    (
+        b"\x80\x01",
+        Err("Mismatch { name: \"map\", found: 128 }"),
+        b"\x01",
+    ),
+    (
+        b"\xa1\x61\x02",
+        Err("Mismatch { name: \"u8\", found: 97 }"),
+        b"\x02",
+    ),
+    (
+        b"\xbf\x01\xff",
+        Err("Mismatch { name: \"u8\", found: 255 }"),
+        b"",
+    ),
+];
+
+const MAPS_WITHIN: &[RowToldWithin] = &[
+    // Of equal keys the last value stays.
+    (b"\xa2\x01\x02\x01\x03", 1, Ok("Is({1: 3})"), b""),
+    (
+        b"\xbf\x01\x02\x01\x03\xff\x00",
+        1,
+        Ok("Is({1: 3})"),
+        b"\x00",
+    ),
+    (
+        b"\xa1\x01\x02",
+        0,
+        Err("DepthOverflow { name: \"map\" }"),
+        b"\xa1\x01\x02",
+    ),
+];
 
 #[test]
 fn maps(rt: HostRuntime) -> Result<(), Fail> {
-    let alloc = rt.alloc();
-    tries(
-        alloc,
-        &[
-            (b"\xa0", Ok(Is(BTreeMap::new(alloc)))),
-            (
-                b"\xa2\x01\x02\x03\x04",
-                Ok(Is(map(alloc, &[(3, 4), (1, 2)])?)),
-            ),
-        ],
-        &[
-            (
-                b"\xbf\x01\x02",
-                Err("Eof { name: \"break\", expect: Small(1) }"),
-                b"",
-            ),
-            (
-                b"\x80\x01",
-                Err("Mismatch { name: \"map\", found: 128 }"),
-                b"\x01",
-            ),
-            (
-                b"\xa1\x61\x02",
-                Err("Mismatch { name: \"u8\", found: 97 }"),
-                b"\x02",
-            ),
-            (
-                b"\xbf\x01\xff",
-                Err("Mismatch { name: \"u8\", found: 255 }"),
-                b"",
-            ),
-        ],
-        &[
-            // Of equal keys the last value stays.
-            (
-                b"\xa2\x01\x02\x01\x03",
-                1,
-                Ok(Is(map(alloc, &[(1, 3)])?)),
-                b"",
-            ),
-            (
-                b"\xbf\x01\x02\x01\x03\xff\x00",
-                1,
-                Ok(Is(map(alloc, &[(1, 3)])?)),
-                b"\x00",
-            ),
-            (
-                b"\xa1\x01\x02",
-                0,
-                Err("DepthOverflow { name: \"map\" }"),
-                b"\xa1\x01\x02",
-            ),
-        ],
-    )
+    tells::<Answer<BTreeMap<u8, u8>>>(rt.alloc(), MAPS, MAPS_READ, MAPS_WITHIN)
 }
+
+const MAPS_OF_TEXTS_TO_ARRAYS: &[BothTold] = &[(
+    b"\xa2\x63obj\x80\x64obj2\x83\x64obj3\x64obj4\x60",
+    "Is({\"obj\": [], \"obj2\": [\"obj3\", \"obj4\", \"\"]})",
+)];
 
 #[test]
 fn maps_of_texts_to_arrays(rt: HostRuntime) -> Result<(), Fail> {
-    let alloc = rt.alloc();
-    let texts = vec![in alloc;
-        String::from_str(alloc, "obj3")?,
-        String::from_str(alloc, "obj4")?,
-        String::new(alloc),
-    ]?;
-    let mut map = BTreeMap::new(alloc);
-    map.insert(String::from_str(alloc, "obj2")?, texts)?;
-    map.insert(String::from_str(alloc, "obj")?, Vec::new(alloc))?;
-    let bytes = b"\xa2\x63obj\x80\x64obj2\x83\x64obj3\x64obj4\x60";
-    tries(alloc, &[(bytes, Ok(Is(map)))], &[], &[])
+    tells::<Answer<BTreeMap<String, Vec<String>>>>(rt.alloc(), MAPS_OF_TEXTS_TO_ARRAYS, &[], &[])
 }

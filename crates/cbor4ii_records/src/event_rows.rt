@@ -1,79 +1,58 @@
 //! Rows of the records that are written and read as typed values.
 use crate::events::{Event, Sample};
-use crate::typed::Answer::{self, Custom, Is};
-use crate::typed::{Refused, reads_all, refuses, tries};
-use cbor4ii::serde::{from_reader, from_slice, to_vec};
-use std::alloc::{AllocError, Global};
+use crate::typed::{
+    Answer, BothTold, Refused, RowTold, RowToldWithin, comes_back, refuses, tells, tells_all,
+};
 use std::collections::BTreeMap;
 use std::test::Fail;
 
-fn sample(alloc: Global, note: Option<&str>) -> Result<Sample, AllocError> {
-    let note = match note {
-        Some(text) => Some(String::from_str(alloc, text)?),
-        None => None,
-    };
-    Ok(Sample {
-        sensor: String::from_str(alloc, "t1")?,
-        value: -100,
-        note,
-    })
-}
+const SAMPLES: &[RowTold] = &[
+    // A note that is missing, and fields that are not known.
+    (
+        b"\xbf\x65value\x38\x63\x66sensor\x62t1\xff\x01",
+        Ok("Is(Sample { sensor: \"t1\", value: -100, note: None })"),
+        b"\x01",
+    ),
+    (
+        b"\xa4\x64unit\x61K\x66sensor\x62t1\x65value\x38\x63\x64note\x64cold",
+        Ok("Is(Sample { sensor: \"t1\", value: -100, note: Some(\"cold\") })"),
+        b"",
+    ),
+    (
+        b"\xa1\x65value\x38\x63\x01",
+        Ok("Custom(\"a sample has no sensor or no value\")"),
+        b"\x01",
+    ),
+    (
+        b"\x81\x00",
+        Err("Mismatch { name: \"map\", found: 129 }"),
+        b"\x00",
+    ),
+    (
+        b"\xa1\x66sensor\x05",
+        Err("Mismatch { name: \"str\", found: 5 }"),
+        b"",
+    ),
+    (
+        b"\xa1\x65value\x61a",
+        Err("Mismatch { name: \"i64\", found: 97 }"),
+        b"\x61a",
+    ),
+];
 
-fn named(alloc: Global) -> Result<Event, AllocError> {
-    Ok(Event::Named {
-        id: 500,
-        name: String::from_str(alloc, "a")?,
-    })
-}
+const SAMPLES_WITHIN: &[RowToldWithin] = &[
+    (b"\xa0", 0, Err("DepthOverflow { name: \"map\" }"), b"\xa0"),
+    (
+        b"\xa1\x64note\x60",
+        1,
+        Err("DepthOverflow { name: \"option\" }"),
+        b"\x60",
+    ),
+];
 
 #[test]
 fn samples(rt: HostRuntime) -> Result<(), Fail> {
-    let alloc = rt.alloc();
-    reads_all(
-        alloc,
-        &[
-            // A note that is missing, and fields that are not known.
-            (
-                b"\xbf\x65value\x38\x63\x66sensor\x62t1\xff\x01",
-                Ok(Is(sample(alloc, None)?)),
-                b"\x01",
-            ),
-            (
-                b"\xa4\x64unit\x61K\x66sensor\x62t1\x65value\x38\x63\x64note\x64cold",
-                Ok(Is(sample(alloc, Some("cold"))?)),
-                b"",
-            ),
-            (
-                b"\xa1\x65value\x38\x63\x01",
-                Ok(Custom("a sample has no sensor or no value")),
-                b"\x01",
-            ),
-            (
-                b"\x81\x00",
-                Err("Mismatch { name: \"map\", found: 129 }"),
-                b"\x00",
-            ),
-            (
-                b"\xa1\x66sensor\x05",
-                Err("Mismatch { name: \"str\", found: 5 }"),
-                b"",
-            ),
-            (
-                b"\xa1\x65value\x61a",
-                Err("Mismatch { name: \"i64\", found: 97 }"),
-                b"\x61a",
-            ),
-        ],
-        &[
-            (b"\xa0", 0, Err("DepthOverflow { name: \"map\" }"), b"\xa0"),
-            (
-                b"\xa1\x64note\x60",
-                1,
-                Err("DepthOverflow { name: \"option\" }"),
-                b"\x60",
-            ),
-        ],
-    )
+    tells_all::<Answer<Sample>>(rt.alloc(), SAMPLES, SAMPLES_WITHIN)
 }
 
 const EVENTS_REFUSED: &[Refused] = &[
@@ -106,88 +85,79 @@ const EVENTS_REFUSED: &[Refused] = &[
     ),
 ];
 
+const EVENTS: &[BothTold] = &[
+    (b"\x67Started", "Is(Started)"),
+    (
+        b"\xa1\x67Sampled\xa3\x66sensor\x62t1\x65value\x38\x63\x64note\xf6",
+        "Is(Sampled(Sample { sensor: \"t1\", value: -100, note: None }))",
+    ),
+    (
+        b"\xa1\x67Sampled\xa3\x66sensor\x62t1\x65value\x38\x63\x64note\x64cold",
+        "Is(Sampled(Sample { sensor: \"t1\", value: -100, note: Some(\"cold\") }))",
+    ),
+    (b"\xa1\x65Moved\x82\x01\x20", "Is(Moved(1, -1))"),
+    (
+        b"\xa1\x65Named\xa2\x62id\x19\x01\xf4\x64name\x61a",
+        "Is(Named { id: 500, name: \"a\" })",
+    ),
+];
+
+const EVENTS_READ: &[RowTold] = &[
+    (b"\x67Stopped\x00", Ok("Custom(\"no such event\")"), b"\x00"),
+    (
+        b"\xa1\x65Named\xa0\x00",
+        Ok("Custom(\"a name has no id or no text\")"),
+        b"\x00",
+    ),
+];
+
+const EVENTS_WITHIN: &[RowToldWithin] = &[
+    (
+        b"\x67Started",
+        0,
+        Err("DepthOverflow { name: \"enum\" }"),
+        b"\x67Started",
+    ),
+    (b"\x67Started", 1, Ok("Is(Started)"), b""),
+    (
+        b"\xa1\x65Moved\x82\x01\x20",
+        1,
+        Err("DepthOverflow { name: \"tuple\" }"),
+        b"\x82\x01\x20",
+    ),
+    (b"\xa1\x65Moved\x82\x01\x20", 2, Ok("Is(Moved(1, -1))"), b""),
+];
+
 #[test]
 fn events(rt: HostRuntime) -> Result<(), Fail> {
     let alloc = rt.alloc();
-    tries(
-        alloc,
-        &[
-            (b"\x67Started", Ok(Is(Event::Started))),
-            (
-                b"\xa1\x67Sampled\xa3\x66sensor\x62t1\x65value\x38\x63\x64note\xf6",
-                Ok(Is(Event::Sampled(sample(alloc, None)?))),
-            ),
-            (
-                b"\xa1\x67Sampled\xa3\x66sensor\x62t1\x65value\x38\x63\x64note\x64cold",
-                Ok(Is(Event::Sampled(sample(alloc, Some("cold"))?))),
-            ),
-            (b"\xa1\x65Moved\x82\x01\x20", Ok(Is(Event::Moved(1, -1)))),
-            (
-                b"\xa1\x65Named\xa2\x62id\x19\x01\xf4\x64name\x61a",
-                Ok(Is(named(alloc)?)),
-            ),
-        ],
-        &[
-            (b"\x67Stopped\x00", Ok(Custom("no such event")), b"\x00"),
-            (
-                b"\xa1\x65Named\xa0\x00",
-                Ok(Custom("a name has no id or no text")),
-                b"\x00",
-            ),
-        ],
-        &[
-            (
-                b"\x67Started",
-                0,
-                Err("DepthOverflow { name: \"enum\" }"),
-                b"\x67Started",
-            ),
-            (b"\x67Started", 1, Ok(Is(Event::Started)), b""),
-            (
-                b"\xa1\x65Moved\x82\x01\x20",
-                1,
-                Err("DepthOverflow { name: \"tuple\" }"),
-                b"\x82\x01\x20",
-            ),
-            (
-                b"\xa1\x65Moved\x82\x01\x20",
-                2,
-                Ok(Is(Event::Moved(1, -1))),
-                b"",
-            ),
-        ],
-    )?;
+    tells::<Answer<Event>>(alloc, EVENTS, EVENTS_READ, EVENTS_WITHIN)?;
     refuses::<Answer<Event>>(alloc, EVENTS_REFUSED)
 }
 
-const EVENTS: &[u8] = b"\xa4\x01\x67Started\x02\
-\xa1\x67Sampled\xa3\x66sensor\x62t1\x65value\x38\x63\x64note\xf6\x03\
-\xa1\x65Moved\x82\x01\x20\x04\
+const ARRAY_OF_EVENTS: &[u8] = b"\x83\x67Started\
+\xa1\x67Sampled\xa3\x66sensor\x62t1\x65value\x38\x63\x64note\xf6\
 \xa1\x65Named\xa2\x62id\x19\x01\xf4\x64name\x61a";
+
+const ARRAY_OF_EVENTS_TOLD: &str = "[Started, \
+Sampled(Sample { sensor: \"t1\", value: -100, note: None }), \
+Named { id: 500, name: \"a\" }]";
 
 #[test]
 fn what_is_written_is_read_back(rt: HostRuntime) -> Result<(), Fail> {
-    let alloc = rt.alloc();
-    let events = vec![in alloc;
-        Event::Started,
-        Event::Sampled(sample(alloc, None)?),
-        named(alloc)?,
-    ]?;
-    let bytes = to_vec(Vec::new(alloc), &events)?;
-    let back: Vec<Event> = from_slice(alloc, bytes.as_slice())?;
-    assert_eq!(rt; back, events);
-    let back: Vec<Event> = from_reader(alloc, bytes.as_slice())?;
-    assert_eq!(rt; back, events);
-    Ok(())
+    comes_back::<Vec<Event>>(rt.alloc(), ARRAY_OF_EVENTS, ARRAY_OF_EVENTS_TOLD)
 }
+
+const MAPS_OF_EVENTS: &[BothTold] = &[(
+    b"\xa4\x01\x67Started\x02\
+\xa1\x67Sampled\xa3\x66sensor\x62t1\x65value\x38\x63\x64note\xf6\x03\
+\xa1\x65Moved\x82\x01\x20\x04\
+\xa1\x65Named\xa2\x62id\x19\x01\xf4\x64name\x61a",
+    "Is({1: Started, 2: Sampled(Sample { sensor: \"t1\", value: -100, note: None }), \
+3: Moved(1, -1), 4: Named { id: 500, name: \"a\" }})",
+)];
 
 #[test]
 fn a_map_of_events(rt: HostRuntime) -> Result<(), Fail> {
-    let alloc = rt.alloc();
-    let mut map = BTreeMap::new(alloc);
-    map.insert(1u8, Event::Started)?;
-    map.insert(2, Event::Sampled(sample(alloc, None)?))?;
-    map.insert(3, Event::Moved(1, -1))?;
-    map.insert(4, named(alloc)?)?;
-    tries(alloc, &[(EVENTS, Ok(Is(map)))], &[], &[])
+    tells::<Answer<BTreeMap<u8, Event>>>(rt.alloc(), MAPS_OF_EVENTS, &[], &[])
 }

@@ -3,8 +3,7 @@ ghost use Rattle.std.specs.Prelude.{◌≡◌, ◌+◌, ◌≤◌, OnOk};
 ghost use Rattle.cbor4ii_items.specs.Moves.{Moves};
 ghost use Rattle.cbor4ii.specs.Typed.{input, answer_of};
 
-use crate::typed::Answer::Is;
-use crate::typed::{Take, reads_all};
+use crate::typed::{Answer, RowTold, RowToldWithin, Take, tells_all};
 use cbor4ii::serde::{DecodeError, Deserializer};
 use cbor4ii_rw::error as core_error;
 use cbor4ii_rw::read::Source;
@@ -45,30 +44,20 @@ impl Take for Nest {
     }
 }
 
+const NESTS: &[RowTold] = &[(
+    b"\x82\x80\x9f\x80\xff\x01",
+    Ok("Is(Nest { inner: [Nest { inner: [] }, Nest { inner: [Nest { inner: [] }] }] })"),
+    b"\x01",
+)];
+
+const NESTS_WITHIN: &[RowToldWithin] = &[(
+    b"\x81\x81\x80",
+    2,
+    Err("DepthOverflow { name: \"seq\" }"),
+    b"\x80",
+)];
+
 #[test]
 fn a_recursive_type(rt: HostRuntime) -> Result<(), Fail> {
-    let alloc = rt.alloc();
-    let empty = Nest {
-        inner: Vec::new(alloc),
-    };
-    let inner = vec![in alloc;
-        Nest {
-            inner: Vec::new(alloc)
-        },
-    ]?;
-    let two = vec![in alloc; empty, Nest { inner }]?;
-    reads_all(
-        alloc,
-        &[(
-            b"\x82\x80\x9f\x80\xff\x01",
-            Ok(Is(Nest { inner: two })),
-            b"\x01",
-        )],
-        &[(
-            b"\x81\x81\x80",
-            2,
-            Err("DepthOverflow { name: \"seq\" }"),
-            b"\x80",
-        )],
-    )
+    tells_all::<Answer<Nest>>(rt.alloc(), NESTS, NESTS_WITHIN)
 }

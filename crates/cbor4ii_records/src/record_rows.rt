@@ -4,39 +4,27 @@ ghost use Rattle.cbor4ii_ser.specs.Item.{field, struct_item, variant_item};
 ghost use Rattle.cbor4ii_records.specs.declared.record_rows.Letters.TheVariants.{A};
 
 use crate::records::{Enum, Point, read_enum};
-use crate::typed::Answer::{self, Custom, Is};
-use crate::typed::{Refused, Take, reads_all, refuses, tries};
-use cbor4ii::serde::{
-    DecodeError, Deserializer, EncodeError, Serialize, Serializer, from_reader, from_slice, to_vec,
-    to_writer,
+use crate::typed::Answer::{self, Is};
+use crate::typed::{
+    BothTold, Refused, RowTold, RowToldWithin, Take, comes_back, reads_all, refuses, tells,
+    tells_all,
 };
+use cbor4ii::serde::{DecodeError, Deserializer, EncodeError, Serialize, Serializer, to_writer};
 use cbor4ii::types::F64;
 use cbor4ii_rw::read::Source;
 use cbor4ii_rw::write::Write;
 use cbor4ii_trials::rows::Row;
-use std::alloc::{AllocError, Global};
+use std::alloc::Global;
 use std::test::Fail;
-
-fn point(alloc: Global, y: Option<i32>) -> Result<Point, AllocError> {
-    let name = String::from_str(alloc, "a")?;
-    Ok(Point { x: 5, name, y })
-}
 
 // The README's example, there and back.
 #[test]
 fn a_struct_is_written_and_read_back(rt: HostRuntime) -> Result<(), Fail> {
-    let alloc = rt.alloc();
-    let point = point(alloc, Some(-1))?;
-    let bytes = to_vec(Vec::new(alloc), &point)?;
-    assert_eq!(rt;
-        bytes.as_slice(),
-        b"\xa3\x61x\x05\x64name\x61a\x61y\x20".as_slice()
-    );
-    let back: Point = from_slice(alloc, bytes.as_slice())?;
-    assert_eq!(rt; back, point);
-    let back: Point = from_reader(alloc, bytes.as_slice())?;
-    assert_eq!(rt; back, point);
-    Ok(())
+    comes_back::<Point>(
+        rt.alloc(),
+        b"\xa3\x61x\x05\x64name\x61a\x61y\x20",
+        "Point { x: 5, name: \"a\", y: Some(-1) }",
+    )
 }
 
 const POINTS_REFUSED: &[Refused] = &[
@@ -67,53 +55,54 @@ const POINTS_REFUSED: &[Refused] = &[
     ),
 ];
 
+const POINTS: &[BothTold] = &[
+    (
+        b"\xa3\x61x\x05\x64name\x61a\x61y\xf6",
+        "Is(Point { x: 5, name: \"a\", y: None })",
+    ),
+    (
+        b"\xa3\x61x\x05\x64name\x61a\x61y\x20",
+        "Is(Point { x: 5, name: \"a\", y: Some(-1) })",
+    ),
+];
+
+const POINTS_READ: &[RowTold] = &[
+    (
+        b"\xbf\x61y\x20\x64name\x61a\x61x\x05\xff\x00",
+        Ok("Is(Point { x: 5, name: \"a\", y: Some(-1) })"),
+        b"\x00",
+    ),
+    (
+        b"\xa4\x61z\x81\x82\x01\x02\x61y\x20\x61x\x05\x64name\x61a",
+        Ok("Is(Point { x: 5, name: \"a\", y: Some(-1) })"),
+        b"",
+    ),
+    (
+        b"\xa4\x61x\x04\x61y\x20\x61x\x05\x64name\x61a\xff",
+        Ok("Is(Point { x: 5, name: \"a\", y: Some(-1) })"),
+        b"\xff",
+    ),
+    (
+        b"\xa2\x61x\x05\x61y\xf6",
+        Ok("Custom(\"a field is missing\")"),
+        b"",
+    ),
+];
+
+const POINTS_WITHIN: &[RowToldWithin] = &[
+    (b"\xa0", 0, Err("DepthOverflow { name: \"map\" }"), b"\xa0"),
+    (
+        b"\xa1\x61y\x05",
+        1,
+        Err("DepthOverflow { name: \"option\" }"),
+        b"\x05",
+    ),
+];
+
 #[test]
 fn structs(rt: HostRuntime) -> Result<(), Fail> {
     let alloc = rt.alloc();
-    tries(
-        alloc,
-        &[
-            (
-                b"\xa3\x61x\x05\x64name\x61a\x61y\xf6",
-                Ok(Is(point(alloc, None)?)),
-            ),
-            (
-                b"\xa3\x61x\x05\x64name\x61a\x61y\x20",
-                Ok(Is(point(alloc, Some(-1))?)),
-            ),
-        ],
-        &[
-            (
-                b"\xbf\x61y\x20\x64name\x61a\x61x\x05\xff\x00",
-                Ok(Is(point(alloc, Some(-1))?)),
-                b"\x00",
-            ),
-            (
-                b"\xa4\x61z\x81\x82\x01\x02\x61y\x20\x61x\x05\x64name\x61a",
-                Ok(Is(point(alloc, Some(-1))?)),
-                b"",
-            ),
-            (
-                b"\xa4\x61x\x04\x61y\x20\x61x\x05\x64name\x61a\xff",
-                Ok(Is(point(alloc, Some(-1))?)),
-                b"\xff",
-            ),
-            (
-                b"\xa2\x61x\x05\x61y\xf6",
-                Ok(Custom("a field is missing")),
-                b"",
-            ),
-        ],
-        &[
-            (b"\xa0", 0, Err("DepthOverflow { name: \"map\" }"), b"\xa0"),
-            (
-                b"\xa1\x61y\x05",
-                1,
-                Err("DepthOverflow { name: \"option\" }"),
-                b"\x05",
-            ),
-        ],
-    )?;
+    tells::<Answer<Point>>(alloc, POINTS, POINTS_READ, POINTS_WITHIN)?;
     refuses::<Answer<Point>>(alloc, POINTS_REFUSED)
 }
 
@@ -126,50 +115,47 @@ impl Take for Enum {
     }
 }
 
+const VARIANTS: &[BothTold] = &[
+    (b"\x64Unit", "Is(Unit)"),
+    // 0x999, and then 0x99 and -0x99.
+    (b"\xa1\x67NewType\x19\x09\x99", "Is(NewType(2457))"),
+    (b"\xa1\x65Tuple\x82\x63123\xf4", "Is(Tuple(\"123\", false))"),
+    (
+        b"\xa1\x66Struct\xa2\x61x\x18\x99\x61y\x38\x98",
+        "Is(Struct { x: 153, y: -153 })",
+    ),
+];
+
+const VARIANTS_READ: &[RowTold] = &[
+    (b"\x64Unit\x00", Ok("Is(Unit)"), b"\x00"),
+    (b"\x65Other", Ok("Custom(\"another variant\")"), b""),
+    (
+        b"\x66Struct\xa0",
+        Err("Mismatch { name: \"enum\", found: 102 }"),
+        b"\xa0",
+    ),
+    (
+        b"\xa1\x66Struct\xa1\x61x\x01",
+        Ok("Custom(\"a field is missing\")"),
+        b"",
+    ),
+    (
+        b"\xa1\x64Unit\x01",
+        Err("Mismatch { name: \"enum\", found: 161 }"),
+        b"\x01",
+    ),
+];
+
+const VARIANTS_WITHIN: &[RowToldWithin] = &[(
+    b"\x64Unit",
+    0,
+    Err("DepthOverflow { name: \"enum\" }"),
+    b"\x64Unit",
+)];
+
 #[test]
 fn variants(rt: HostRuntime) -> Result<(), Fail> {
-    let alloc = rt.alloc();
-    let text = String::from_str(alloc, "123")?;
-    tries(
-        alloc,
-        &[
-            (b"\x64Unit", Ok(Is(Enum::Unit))),
-            (b"\xa1\x67NewType\x19\x09\x99", Ok(Is(Enum::NewType(0x999)))),
-            (
-                b"\xa1\x65Tuple\x82\x63123\xf4",
-                Ok(Is(Enum::Tuple(text, false))),
-            ),
-            (
-                b"\xa1\x66Struct\xa2\x61x\x18\x99\x61y\x38\x98",
-                Ok(Is(Enum::Struct { x: 0x99, y: -0x99 })),
-            ),
-        ],
-        &[
-            (b"\x64Unit\x00", Ok(Is(Enum::Unit)), b"\x00"),
-            (b"\x65Other", Ok(Custom("another variant")), b""),
-            (
-                b"\x66Struct\xa0",
-                Err("Mismatch { name: \"enum\", found: 102 }"),
-                b"\xa0",
-            ),
-            (
-                b"\xa1\x66Struct\xa1\x61x\x01",
-                Ok(Custom("a field is missing")),
-                b"",
-            ),
-            (
-                b"\xa1\x64Unit\x01",
-                Err("Mismatch { name: \"enum\", found: 161 }"),
-                b"\x01",
-            ),
-        ],
-        &[(
-            b"\x64Unit",
-            0,
-            Err("DepthOverflow { name: \"enum\" }"),
-            b"\x64Unit",
-        )],
-    )
+    tells::<Answer<Enum>>(rt.alloc(), VARIANTS, VARIANTS_READ, VARIANTS_WITHIN)
 }
 
 /// An enum of one variant, which holds a text.
@@ -203,14 +189,20 @@ impl Take for Letters {
     }
 }
 
+const LETTERS_OF_A: &[BothTold] = &[(b"\xa1\x61A\x60", "Is(A(\"\"))")];
+
+// The empty text of the variant is written into a room that is just as long.
+fn is_written_into_room(alloc: Global) -> Result<bool, Fail> {
+    let mut room = [0u8; 4];
+    to_writer(room.as_mut_slice(), &Letters::A(String::new(alloc)))?;
+    Ok(room == *b"\xa1\x61A\x60")
+}
+
 #[test]
 fn an_empty_text_in_a_variant(rt: HostRuntime) -> Result<(), Fail> {
     let alloc = rt.alloc();
-    let mut room = [0u8; 4];
-    let empty = Letters::A(String::new(alloc));
-    assert!(rt; to_writer(room.as_mut_slice(), &empty).is_ok());
-    assert_eq!(rt; room, *b"\xa1\x61A\x60");
-    tries(alloc, &[(b"\xa1\x61A\x60", Ok(Is(empty)))], &[], &[])
+    assert!(rt; is_written_into_room(alloc)?);
+    tells::<Answer<Letters>>(alloc, LETTERS_OF_A, &[], &[])
 }
 
 /// A struct of four fields, one of which is a struct itself.
@@ -290,25 +282,27 @@ impl Take for WithoutD {
 const WHOLE: &[u8] = b"\xa4\x61a\x01\x61b\x02\x61c\x82\x03\x04\x61d\
 \xa3\x61x\x05\x64name\x61a\x61y\xf6";
 
+const WHOLES: &[BothTold] = &[(
+    WHOLE,
+    "Is(Whole { a: 1, b: Some(2), c: [3, 4], d: Point { x: 5, name: \"a\", y: None } })",
+)];
+
+const WHOLES_READ: &[RowTold] = &[(b"\xa1\x61a\x01", Ok("Custom(\"a field is missing\")"), b"")];
+
+const WITHOUT_C: &[RowTold] = &[(
+    WHOLE,
+    Ok("Is(WithoutC(1, Some(2), Point { x: 5, name: \"a\", y: None }))"),
+    b"",
+)];
+
+const WITHOUT_D: &[RowTold] = &[(WHOLE, Ok("Is(WithoutD(1, [3, 4], None))"), b"")];
+
 #[test]
 fn fields_that_a_type_does_not_know(rt: HostRuntime) -> Result<(), Fail> {
     let alloc = rt.alloc();
-    let whole = Whole {
-        a: 1,
-        b: Some(2),
-        c: [3u8, 4].to_vec(alloc)?,
-        d: point(alloc, None)?,
-    };
-    tries(
-        alloc,
-        &[(WHOLE, Ok(Is(whole)))],
-        &[(b"\xa1\x61a\x01", Ok(Custom(MISSING)), b"")],
-        &[],
-    )?;
-    let without = WithoutC(1, Some(2), point(alloc, None)?);
-    reads_all(alloc, &[(WHOLE, Ok(Is(without)), b"")], &[])?;
-    let without = WithoutD(1, [3u8, 4].to_vec(alloc)?, None);
-    reads_all(alloc, &[(WHOLE, Ok(Is(without)), b"")], &[])
+    tells::<Answer<Whole>>(alloc, WHOLES, WHOLES_READ, &[])?;
+    tells_all::<Answer<WithoutC>>(alloc, WITHOUT_C, &[])?;
+    tells_all::<Answer<WithoutD>>(alloc, WITHOUT_D, &[])
 }
 
 /// A struct of a float and a flag.

@@ -6,7 +6,6 @@ use cbor4ii_rw::buf_writer::BufWriter;
 use cbor4ii_rw::error::TryReserveError;
 use cbor4ii_rw::write::Write;
 use std::alloc::Global;
-use std::process::Abort;
 use std::test::Fail;
 
 /// What a text is written as.
@@ -16,23 +15,31 @@ fn written<T: Text>(alloc: Global, text: &T) -> Result<Vec<u8>, EncodeError<TryR
     Ok(ser.into_inner().into_inner())
 }
 
-/// The text is written as these parts, each some bytes and so many letters.
-fn writes_text<T: Text>(
-    rt: &impl Abort,
-    alloc: Global,
-    text: &T,
-    parts: &[(&[u8], usize)],
-) -> Result<(), Fail> {
-    let mut expected = Vec::new(alloc);
-    for part in parts {
-        expected.extend_from_slice(part.0)?;
-        for _ in 0..part.1 {
-            expected.push(b'a')?;
+/// What is written: each part some bytes and so many letters.
+pub type Parts<'a> = &'a [(&'a [u8], usize)];
+
+/// The bytes of the parts.
+pub fn joined(alloc: Global, parts: Parts<'_>) -> Result<Vec<u8>, Fail> {
+    let mut bytes = Vec::new(alloc);
+    for (head, count) in parts {
+        bytes.extend_from_slice(head)?;
+        for _ in 0..*count {
+            bytes.push(b'a')?;
         }
     }
-    let bytes = written(alloc, text)?;
-    assert_eq!(rt; bytes.as_slice(), expected.as_slice());
-    Ok(())
+    Ok(bytes)
+}
+
+fn is_joined(alloc: Global, bytes: &[u8], parts: Parts<'_>) -> Result<(), Fail> {
+    if joined(alloc, parts)?.as_slice() == bytes {
+        return Ok(());
+    }
+    Err(Fail::new(format_args!("{bytes:?} in the place of {parts:?}")))
+}
+
+/// The text is written as these parts.
+fn writes_text<T: Text>(alloc: Global, text: &T, parts: Parts<'_>) -> Result<(), Fail> {
+    is_joined(alloc, &written(alloc, text)?, parts)
 }
 
 /// So many letters.
@@ -44,58 +51,83 @@ pub fn letters(alloc: Global, count: usize) -> Result<String, Fail> {
     Ok(text)
 }
 
+// As `writes_text`, for a text of so many letters.
+fn writes_letters(alloc: Global, count: usize, parts: Parts<'_>) -> Result<(), Fail> {
+    writes_text(alloc, &letters(alloc, count)?, parts)
+}
+
+// As `writes_letters`, with an empty piece before and behind.
+fn writes_between(alloc: Global, count: usize, parts: Parts<'_>) -> Result<(), Fail> {
+    writes_text(alloc, &("", (letters(alloc, count)?, "")), parts)
+}
+
+// As `writes_text`, for two pieces of so many letters each.
+fn writes_two(alloc: Global, first: usize, second: usize, parts: Parts<'_>) -> Result<(), Fail> {
+    let text = (letters(alloc, first)?, letters(alloc, second)?);
+    writes_text(alloc, &text, parts)
+}
+
+const EMPTY: Parts<'static> = &[(b"\x60", 0)];
+
+const THREE: Parts<'static> = &[(b"\x63", 3)];
+
+const ONE_CHUNK: Parts<'static> = &[(b"\x78\xff", 255)];
+
 #[test]
 fn short_texts(rt: HostRuntime) -> Result<(), Fail> {
     let alloc = rt.alloc();
-    writes_text(&rt, alloc, &"", &[(b"\x60", 0)])?;
-    writes_text(&rt, alloc, &("a", "aa"), &[(b"\x63", 3)])?;
-    let text = (letters(alloc, 200)?, letters(alloc, 55)?);
-    writes_text(&rt, alloc, &text, &[(b"\x78\xff", 255)])
+    writes_text(alloc, &"", EMPTY)?;
+    writes_text(alloc, &("a", "aa"), THREE)?;
+    writes_two(alloc, 200, 55, ONE_CHUNK)
 }
+
+const TWO_CHUNKS: Parts<'static> = &[(b"\x7f\x78\xc8", 200), (b"\x78\x38", 56), (b"\xff", 0)];
+
+const LONG: Parts<'static> = &[(b"\x7f\x79\x01\x2c", 300), (b"\xff", 0)];
+
+const LEAST_LONG: Parts<'static> = &[(b"\x7f\x79\x01\x00", 256), (b"\xff", 0)];
 
 #[test]
 fn long_texts(rt: HostRuntime) -> Result<(), Fail> {
     let alloc = rt.alloc();
-    let text = (letters(alloc, 200)?, letters(alloc, 56)?);
-    writes_text(
-        &rt,
-        alloc,
-        &text,
-        &[(b"\x7f\x78\xc8", 200), (b"\x78\x38", 56), (b"\xff", 0)],
-    )?;
-    let one = letters(alloc, 300)?;
-    writes_text(
-        &rt,
-        alloc,
-        &one,
-        &[(b"\x7f\x79\x01\x2c", 300), (b"\xff", 0)],
-    )?;
-    let text = ("", (letters(alloc, 256)?, ""));
-    writes_text(
-        &rt,
-        alloc,
-        &text,
-        &[(b"\x7f\x79\x01\x00", 256), (b"\xff", 0)],
-    )
+    writes_two(alloc, 200, 56, TWO_CHUNKS)?;
+    writes_letters(alloc, 300, LONG)?;
+    writes_between(alloc, 256, LEAST_LONG)
 }
+
+// Writes a first piece, and so many of one letter behind it.
+fn writes_pieces(out: &mut BufWriter, first: &str, count: usize) -> Result<(), Fail> {
+    let mut text = TextWriter::new(out);
+    text.write_str(first)?;
+    for _ in 0..count {
+        text.write_str("a")?;
+    }
+    if text.is_error() {
+        return Err(Fail::new("an error is told"));
+    }
+    text.flush()?;
+    Ok(())
+}
+
+// What a piece of so many letters, and as many pieces of one letter behind it, are written as.
+fn in_pieces(alloc: Global, count: usize) -> Result<Vec<u8>, Fail> {
+    let first = letters(alloc, count)?;
+    let mut out = BufWriter::new(Vec::with_capacity(alloc, 522)?);
+    writes_pieces(&mut out, first.as_str(), count)?;
+    Ok(out.into_inner())
+}
+
+const PIECES: Parts<'static> = &[
+    (b"\x7f\x79\x01\x01", 257),
+    (b"\x78\xff", 255),
+    (b"\x62", 2),
+    (b"\xff", 0),
+];
 
 #[test]
 fn a_long_piece_and_many_short_ones(rt: HostRuntime) -> Result<(), Fail> {
     let alloc = rt.alloc();
-    let first = letters(alloc, 257)?;
-    let mut out = BufWriter::new(Vec::with_capacity(alloc, 522)?);
-    let mut text = TextWriter::new(&mut out);
-    assert!(rt; text.write_str(first.as_str()).is_ok());
-    for _ in 0..257 {
-        assert!(rt; text.write_str("a").is_ok());
-    }
-    assert!(rt; !text.is_error());
-    text.flush()?;
-    assert_eq!(rt; out.buffer().len(), 522);
-    assert_eq!(rt; &out.buffer()[..4], b"\x7f\x79\x01\x01".as_slice());
-    assert_eq!(rt; &out.buffer()[261..263], b"\x78\xff".as_slice());
-    assert_eq!(rt; &out.buffer()[518..], b"\x62aa\xff".as_slice());
-    Ok(())
+    is_joined(alloc, &in_pieces(alloc, 257)?, PIECES)
 }
 
 /// A text that refuses behind its first piece.

@@ -1,12 +1,17 @@
 //! Typed values as rows: read over each reader for tests, and written into each writer for tests.
-use cbor4ii::serde::{DecodeError, Deserializer, EncodeError, Serialize, Serializer};
+use cbor4ii::serde::{
+    DecodeError, Deserialize, Deserializer, EncodeError, Serialize, Serializer, from_reader,
+    from_slice, to_vec,
+};
 use cbor4ii_rw::error as core_error;
 use cbor4ii_rw::error::StaticStr;
+use cbor4ii_rw::io_reader::IoReader;
 use cbor4ii_rw::read::Source;
+use cbor4ii_rw::slice_reader::SliceReader;
 use cbor4ii_rw::write::Write;
 use cbor4ii_trials::rows::{
     ReadFrom, Row, RowWithin, Want, WriteTo, ends_at_each_front, reads, reads_rows,
-    reads_rows_within, reads_within, writes,
+    reads_rows_within, reads_texts, reads_texts_within, reads_within, writes,
 };
 use std::alloc::Global;
 use std::fmt::Debug;
@@ -74,10 +79,18 @@ where
         if let Ok(answer) = want {
             writes(alloc, answer, bytes)?;
         }
-        reads_within(alloc, bytes, STEPS, want, b"")?;
-        ends_at_each_front::<A>(alloc, bytes, STEPS)?;
+        reads_whole_or_ends(alloc, bytes, want)?;
     }
     Ok(())
+}
+
+// Reads the bytes with nothing left of them, and of each proper front of them the end of the input.
+fn reads_whole_or_ends<A>(alloc: Global, bytes: &'static [u8], want: &Want<A>) -> Result<(), Fail>
+where
+    A: ReadFrom + PartialEq + Debug + Drop,
+{
+    reads_within(alloc, bytes, STEPS, want, b"")?;
+    ends_at_each_front::<A>(alloc, bytes, STEPS)
 }
 
 /// Reads the rows, those without a limit and those within one.
@@ -116,4 +129,87 @@ where
 {
     go_both_ways(alloc, both)?;
     reads_all(alloc, rows, within)
+}
+
+/// Bytes, and the text of the answer that is read from them and written as them.
+pub type BothTold = (&'static [u8], &'static str);
+
+/// A row that holds the text of the answer.
+pub type RowTold = Row<&'static str>;
+
+/// A row within a limit that holds the text of the answer.
+pub type RowToldWithin = RowWithin<&'static str>;
+
+/// As `go_both_ways`, where each row holds the text of the answer: what is read is written.
+fn tell_both_ways<A>(alloc: Global, rows: &[BothTold]) -> Result<(), Fail>
+where
+    A: WriteTo + ReadFrom + Debug + Drop,
+{
+    for (bytes, text) in rows {
+        let answer = A::read_from(alloc, &mut SliceReader::new(bytes))?;
+        writes(alloc, &answer, bytes)?;
+        reads_texts_within::<A>(alloc, &[(bytes, STEPS, Ok(text), b"")])?;
+        ends_at_each_front::<A>(alloc, bytes, STEPS)?;
+    }
+    Ok(())
+}
+
+/// As `reads_all`, where each row holds the text of the answer.
+pub fn tells_all<A>(alloc: Global, rows: &[RowTold], within: &[RowToldWithin]) -> Result<(), Fail>
+where
+    A: ReadFrom + Debug + Drop,
+{
+    reads_texts::<A>(alloc, rows)?;
+    reads_texts_within::<A>(alloc, within)
+}
+
+/// As `tries`, where each row holds the text of the answer.
+pub fn tells<A>(
+    alloc: Global,
+    both: &[BothTold],
+    rows: &[RowTold],
+    within: &[RowToldWithin],
+) -> Result<(), Fail>
+where
+    A: WriteTo + ReadFrom + Debug + Drop,
+{
+    tell_both_ways::<A>(alloc, both)?;
+    tells_all::<A>(alloc, rows, within)
+}
+
+/// The value at the front of the bytes, from a slice and out of a stream, by the calls for one
+/// value: it has this text.
+pub fn is_at_front<T>(alloc: Global, bytes: &'static [u8], text: &str) -> Result<T, Fail>
+where
+    T: Deserialize<SliceReader<'static>>
+        + Deserialize<IoReader<&'static [u8]>>
+        + PartialEq
+        + Debug
+        + Drop,
+{
+    let value: T = from_slice(alloc, bytes)?;
+    let streamed: T = from_reader(alloc, bytes)?;
+    if value == streamed && format!(in alloc; "{value:?}")?.as_str() == text {
+        return Ok(value);
+    }
+    Err(Fail::new(format_args!("{value:?}, {streamed:?} in the place of {text}")))
+}
+
+/// As `is_at_front`, of bytes that are all of the value: it is written as them, by the call for one
+/// value.
+pub fn comes_back<T>(alloc: Global, bytes: &'static [u8], text: &str) -> Result<(), Fail>
+where
+    T: Deserialize<SliceReader<'static>>
+        + Deserialize<IoReader<&'static [u8]>>
+        + Serialize
+        + PartialEq
+        + Debug
+        + Drop,
+{
+    let value: T = is_at_front(alloc, bytes, text)?;
+    let written = to_vec(Vec::new(alloc), &value)?;
+    if written.as_slice() == bytes {
+        return Ok(());
+    }
+    Err(Fail::new(format_args!("{written:?} in the place of {bytes:?}")))
 }

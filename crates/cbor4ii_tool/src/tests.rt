@@ -15,9 +15,6 @@ use std::io::{self, BufReader, ErrorKind};
 use std::process::Abort;
 use streams::{Input, Output};
 
-// Streams that show one byte at a time, and all.
-const WIDTHS: [usize; 2] = [1, 64];
-
 // Runs the row's command over its input, of which `width` bytes are shown at a time.
 fn runs(
     rt: &(impl Abort + AllocGlobal),
@@ -66,43 +63,66 @@ fn check_front(rt: &impl Abort, row: &Row, at: u64, output: &Output) {
     assert_eq!(rt; output.flushed, item.1, "at {:?}", row.input);
 }
 
+// The run answers what the row says, and all of it is written and flushed.
+fn runs_whole(rt: &(impl Abort + AllocGlobal), row: &Row, width: usize) -> io::Result<()> {
+    let output = Output::new(rt.alloc())?;
+    let (outcome, output) = runs(rt, row, width, usize::MAX, output)?;
+    assert_eq!(rt; outcome, row.outcome(), "at {:?}", row.input);
+    assert_eq!(rt;
+        output.written.as_slice(),
+        row.written,
+        "at {:?}",
+        row.input
+    );
+    assert_eq!(rt; output.flushed, row.written.len(), "at {:?}", row.input);
+    Ok(())
+}
+
 #[test]
 fn rows_over_streams(rt: HostRuntime) -> io::Result<()> {
-    for row in &ROWS {
-        for width in WIDTHS {
-            let output = Output::new(rt.alloc())?;
-            let (outcome, output) = runs(&rt, row, width, usize::MAX, output)?;
-            assert_eq!(rt; outcome, row.outcome(), "at {:?}", row.input);
-            assert_eq!(rt;
-                output.written.as_slice(),
-                row.written,
-                "at {:?}",
-                row.input
-            );
-            assert_eq!(rt; output.flushed, row.written.len(), "at {:?}", row.input);
-        }
+    for row in ROWS {
+        runs_whole(&rt, row, 1)?;
+        runs_whole(&rt, row, 64)?;
     }
     Ok(())
 }
 
+// A read fails behind so many others: that is the answer, at this byte, and what stands for the
+// items before it is written and flushed.
+fn read_fails(
+    rt: &(impl Abort + AllocGlobal),
+    row: &Row,
+    width: usize,
+    good_reads: usize,
+    at: u64,
+) -> io::Result<()> {
+    let output = Output::new(rt.alloc())?;
+    let (outcome, output) = runs(rt, row, width, good_reads, output)?;
+    let fault = Fault {
+        at,
+        kind: Kind::Read,
+    };
+    assert_eq!(rt; outcome, Err(fault), "at {:?}", row.input);
+    check_front(rt, row, at, &output);
+    Ok(())
+}
+
 // Over a stream that shows one byte at a time, the read that fails is that of a known byte.
+fn each_read_fails(rt: &(impl Abort + AllocGlobal), row: &Row) -> io::Result<()> {
+    let end = match row.fault {
+        Some(fault) => fault.at as usize,
+        None => row.input.len(),
+    };
+    for good_reads in 0..end.saturating_add(1) {
+        read_fails(rt, row, 1, good_reads, row.item_read(good_reads as u64).0)?;
+    }
+    Ok(())
+}
+
 #[test]
 fn each_read_fails_in_turn(rt: HostRuntime) -> io::Result<()> {
-    for row in &ROWS {
-        let end = match row.fault {
-            Some(fault) => fault.at as usize,
-            None => row.input.len(),
-        };
-        for good_reads in 0..end.saturating_add(1) {
-            let output = Output::new(rt.alloc())?;
-            let (outcome, output) = runs(&rt, row, 1, good_reads, output)?;
-            let fault = Fault {
-                at: row.item_read(good_reads as u64).0,
-                kind: Kind::Read,
-            };
-            assert_eq!(rt; outcome, Err(fault), "at {:?}", row.input);
-            check_front(&rt, row, fault.at, &output);
-        }
+    for row in ROWS {
+        each_read_fails(&rt, row)?;
     }
     Ok(())
 }
@@ -110,91 +130,95 @@ fn each_read_fails_in_turn(rt: HostRuntime) -> io::Result<()> {
 // Where all is shown by one read, the second one finds the end.
 #[test]
 fn the_first_read_and_the_second_fail(rt: HostRuntime) -> io::Result<()> {
-    for row in &ROWS {
-        let output = Output::new(rt.alloc())?;
-        let (outcome, output) = runs(&rt, row, 64, 0, output)?;
-        let fault = Fault {
-            at: 0,
-            kind: Kind::Read,
-        };
-        assert_eq!(rt; outcome, Err(fault), "at {:?}", row.input);
-        check_front(&rt, row, 0, &output);
+    for row in ROWS {
+        read_fails(&rt, row, 64, 0, 0)?;
         if row.fault.is_none() && !row.input.is_empty() {
-            let output = Output::new(rt.alloc())?;
-            let (outcome, output) = runs(&rt, row, 64, 1, output)?;
-            let fault = Fault {
-                at: row.input.len() as u64,
-                kind: Kind::Read,
-            };
-            assert_eq!(rt; outcome, Err(fault), "at {:?}", row.input);
-            check_front(&rt, row, fault.at, &output);
+            read_fails(&rt, row, 64, 1, row.input.len() as u64)?;
         }
     }
     Ok(())
 }
 
-// Each write appends a byte at least.
+// A write fails behind so many others, of which each appended a byte at least, or all is written.
+fn write_fails(rt: &(impl Abort + AllocGlobal), row: &Row, good_writes: usize) -> io::Result<()> {
+    let mut output = Output::new(rt.alloc())?;
+    output.good_writes = good_writes;
+    let (outcome, output) = runs(rt, row, 64, usize::MAX, output)?;
+    assert!(rt;
+        row.written.starts_with(&output.written),
+        "at {:?}",
+        row.input
+    );
+    if output.written.len() == row.written.len() {
+        assert_eq!(rt; outcome, row.outcome(), "at {:?}", row.input);
+        return Ok(());
+    }
+    assert!(rt; output.written.len() >= good_writes, "at {:?}", row.input);
+    let fault = Fault {
+        at: row.item_written(output.written.len()).0,
+        kind: Kind::Write,
+    };
+    assert_eq!(rt; outcome, Err(fault), "at {:?}", row.input);
+    Ok(())
+}
+
+fn each_write_fails(rt: &(impl Abort + AllocGlobal), row: &Row) -> io::Result<()> {
+    for good_writes in 0..row.written.len() + 1 {
+        write_fails(rt, row, good_writes)?;
+    }
+    Ok(())
+}
+
 #[test]
 fn each_write_fails_in_turn(rt: HostRuntime) -> io::Result<()> {
-    for row in &ROWS {
-        for good_writes in 0..row.written.len() + 1 {
-            let mut output = Output::new(rt.alloc())?;
-            output.good_writes = good_writes;
-            let (outcome, output) = runs(&rt, row, 64, usize::MAX, output)?;
-            assert!(rt;
-                row.written.starts_with(&output.written),
-                "at {:?}",
-                row.input
-            );
-            if output.written.len() == row.written.len() {
-                assert_eq!(rt; outcome, row.outcome(), "at {:?}", row.input);
-            } else {
-                assert!(rt; output.written.len() >= good_writes, "at {:?}", row.input);
-                let fault = Fault {
-                    at: row.item_written(output.written.len()).0,
-                    kind: Kind::Write,
-                };
-                assert_eq!(rt; outcome, Err(fault), "at {:?}", row.input);
-            }
-        }
+    for row in ROWS {
+        each_write_fails(&rt, row)?;
     }
+    Ok(())
+}
+
+// A flush fails: all is written, and the answer is the row's fault, or where it has none, that of
+// the flush.
+fn flush_fails(rt: &(impl Abort + AllocGlobal), row: &Row) -> io::Result<()> {
+    let mut output = Output::new(rt.alloc())?;
+    output.stays = true;
+    let (outcome, output) = runs(rt, row, 64, usize::MAX, output)?;
+    let fault = row.fault.unwrap_or(Fault {
+        at: row.input.len() as u64,
+        kind: Kind::Write,
+    });
+    assert_eq!(rt; outcome, Err(fault), "at {:?}", row.input);
+    assert_eq!(rt;
+        output.written.as_slice(),
+        row.written,
+        "at {:?}",
+        row.input
+    );
     Ok(())
 }
 
 #[test]
 fn flushes_fail(rt: HostRuntime) -> io::Result<()> {
-    for row in &ROWS {
-        let mut output = Output::new(rt.alloc())?;
-        output.stays = true;
-        let (outcome, output) = runs(&rt, row, 64, usize::MAX, output)?;
-        let fault = match row.fault {
-            Some(fault) => fault,
-            None => Fault {
-                at: row.input.len() as u64,
-                kind: Kind::Write,
-            },
-        };
-        assert_eq!(rt; outcome, Err(fault), "at {:?}", row.input);
-        assert_eq!(rt;
-            output.written.as_slice(),
-            row.written,
-            "at {:?}",
-            row.input
-        );
+    for row in ROWS {
+        flush_fails(&rt, row)?;
     }
     Ok(())
 }
 
+fn takes_none(rt: &(impl Abort + AllocGlobal), row: &Row) {
+    let mut room = [0; 64];
+    let mut reader = IoReader::new(row.input);
+    let mut writer = IoWriter::new(room.as_mut_slice());
+    let outcome = run(rt.alloc(), row.command, &mut reader, &mut writer);
+    assert_eq!(rt; outcome, row.outcome(), "at {:?}", row.input);
+    assert!(rt; room.starts_with(row.written), "at {:?}", row.input);
+}
+
 #[test]
 fn integers_and_lengths_take_no_memory(rt: HostRuntime) {
-    for row in &ROWS {
+    for row in ROWS {
         if !takes_memory(row.command) {
-            let mut room = [0; 64];
-            let mut reader = IoReader::new(row.input);
-            let mut writer = IoWriter::new(room.as_mut_slice());
-            let outcome = run(rt.alloc(), row.command, &mut reader, &mut writer);
-            assert_eq!(rt; outcome, row.outcome(), "at {:?}", row.input);
-            assert!(rt; room.starts_with(row.written), "at {:?}", row.input);
+            takes_none(&rt, row);
         }
     }
 }

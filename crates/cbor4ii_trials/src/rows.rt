@@ -18,6 +18,7 @@ use cbor4ii_rw::write::Write;
 use std::alloc::{AllocError, Global};
 use std::fmt::{Debug, InlineText};
 use std::io::ErrorKind;
+use std::marker::PhantomData;
 use std::test::Fail;
 
 /// What a row's bytes are read as: a value, or the text of the refusal.
@@ -158,6 +159,62 @@ where
     reads_alike_within(alloc, bytes, STEPS, want, rest)?;
     let mut unlimited = TestReader::unlimited(bytes);
     reads_over(alloc, &mut unlimited, bytes, want, rest)
+}
+
+/// A value by its `Debug` text, so that a row of values that have to be built is a plain constant.
+#[derive(Drop)]
+#[derive_where(Debug, PartialEq)]
+pub struct ByText<T> {
+    text: String,
+    #[derive_where(skip)]
+    of: PhantomData<T>,
+}
+
+impl<T> ByText<T> {
+    fn new(text: String) -> ByText<T> {
+        let of = PhantomData;
+        ByText { text, of }
+    }
+}
+
+impl<S: Source, T: ReadBy<S> + Debug + Drop> ReadBy<S> for ByText<T> {
+    fn read_by(alloc: Global, reader: &mut S) -> Result<ByText<T>, DecodeError<S::Error>> {
+        let value = T::read_by(alloc, reader)?;
+        match format!(in alloc; "{value:?}") {
+            Ok(text) => Ok(ByText::new(text)),
+            Err(_) => Err(DecodeError::OutOfMemory),
+        }
+    }
+}
+
+/// What is read where the answer has this text.
+pub fn by_text<T>(alloc: Global, want: &Want<&str>) -> Result<Want<ByText<T>>, AllocError> {
+    match want {
+        Ok(text) => Ok(Ok(ByText::new(String::from_str(alloc, text)?))),
+        Err(refusal) => Ok(Err(refusal)),
+    }
+}
+
+/// As `reads_rows`, where a row has the `Debug` text of what is read.
+pub fn reads_texts<T>(alloc: Global, rows: &[Row<&'static str>]) -> Result<(), Fail>
+where
+    T: ReadFrom + Debug + Drop,
+{
+    for (bytes, want, rest) in rows {
+        reads_alike(alloc, bytes, &by_text::<T>(alloc, want)?, rest)?;
+    }
+    Ok(())
+}
+
+/// As `reads_rows_within`, where a row has the `Debug` text of what is read.
+pub fn reads_texts_within<T>(alloc: Global, rows: &[RowWithin<&'static str>]) -> Result<(), Fail>
+where
+    T: ReadFrom + Debug + Drop,
+{
+    for (bytes, limit, want, rest) in rows {
+        reads_alike_within(alloc, bytes, *limit, &by_text::<T>(alloc, want)?, rest)?;
+    }
+    Ok(())
 }
 
 // As `reads_within`, for what holds borrowed parts, where it is no matter whether they are lent.
@@ -569,4 +626,40 @@ where
 {
     writes_in(alloc, &value, bytes, pushes)?;
     reads(alloc, bytes, Ok(value), b"")
+}
+
+/// Writes the value of each row as `writes_in` does: the value, its bytes and its pushes.
+pub fn writes_rows<T: WriteTo>(alloc: Global, rows: &[(T, &[u8], usize)]) -> Result<(), Fail> {
+    for (value, bytes, pushes) in rows {
+        writes_in(alloc, value, bytes, *pushes)?;
+    }
+    Ok(())
+}
+
+/// Reads the bytes of each row, which have this `Debug` text, and writes what was read in so many
+/// pushes: it has to be the row's bytes.
+pub fn texts_go_both_ways<T>(
+    alloc: Global,
+    rows: &[(&'static [u8], &'static str, usize)],
+) -> Result<(), Fail>
+where
+    T: WriteTo + ReadFrom + Debug + Drop,
+{
+    for (bytes, text, pushes) in rows {
+        reads_alike(alloc, bytes, &by_text::<T>(alloc, &Ok(*text))?, b"")?;
+        let value = T::read_from(alloc, &mut SliceReader::new(bytes))?;
+        writes_in(alloc, &value, bytes, *pushes)?;
+    }
+    Ok(())
+}
+
+/// As `goes_both_ways`, for rows of values: the bytes, the value and its pushes.
+pub fn rows_go_both_ways<T>(alloc: Global, rows: &[(&'static [u8], T, usize)]) -> Result<(), Fail>
+where
+    T: WriteTo + ReadFrom + PartialEq + Debug + Copy + Drop,
+{
+    for (bytes, value, pushes) in rows {
+        goes_both_ways(alloc, *value, bytes, *pushes)?;
+    }
+    Ok(())
 }

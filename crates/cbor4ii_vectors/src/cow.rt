@@ -14,8 +14,9 @@ use std::borrow::{CowSlice, CowStr};
 use std::fmt::InlineText;
 use std::test::Fail;
 
+/// What is read.
 #[derive(Clone, Copy)]
-enum Kind {
+pub enum Kind {
     Text,
     Unchecked,
     Bytes,
@@ -52,9 +53,9 @@ fn decode<'de, R: Read<'de>>(
     }
 }
 
-// The answer is this content, borrowed or owned, or a refusal of this text; these bytes are left,
-// and the steps are as before.
-fn decodes<'de, R: Read<'de>>(
+/// The answer is this content, borrowed or owned, or a refusal of this text; these bytes are left,
+/// and the steps are as before.
+pub fn decodes<'de, R: Read<'de>>(
     kind: Kind,
     alloc: Global,
     reader: &mut R,

@@ -4,7 +4,7 @@ use cbor4ii_items::indefinite::is_break;
 use cbor4ii_items::types::{Array, Map, Tag};
 use cbor4ii_rw::error::DecodeError;
 use cbor4ii_rw::read::Source;
-use cbor4ii_trials::rows::{ReadFrom, Row, reads, reads_rows};
+use cbor4ii_trials::rows::{ReadFrom, Row, reads_rows};
 use std::alloc::Global;
 use std::test::Fail;
 
@@ -60,11 +60,15 @@ impl ReadFrom for Break {
     }
 }
 
-const NUMBERS_OF_TAGS: &[Row<u64>] = &[
-    (b"\xd8\x2a", Ok(42), b""),
-    (b"\xd9\x00\x2a", Ok(42), b""),
-    (b"\xda\x00\x00\x00\x2a", Ok(42), b""),
-    (b"\xdb\x00\x00\x00\x00\x00\x00\x00\x2a\x01", Ok(42), b"\x01"),
+const NUMBERS_OF_TAGS: &[Row<TagNumber>] = &[
+    (b"\xd8\x2a", Ok(TagNumber(42)), b""),
+    (b"\xd9\x00\x2a", Ok(TagNumber(42)), b""),
+    (b"\xda\x00\x00\x00\x2a", Ok(TagNumber(42)), b""),
+    (
+        b"\xdb\x00\x00\x00\x00\x00\x00\x00\x2a\x01",
+        Ok(TagNumber(42)),
+        b"\x01",
+    ),
     (b"", Err("Eof { name: \"tag\", expect: Small(1) }"), b""),
     (b"\xd8", Err("Eof { name: \"tag\", expect: Small(1) }"), b""),
     (
@@ -91,17 +95,13 @@ const NUMBERS_OF_TAGS: &[Row<u64>] = &[
 
 #[test]
 fn numbers_of_tags(rt: HostRuntime) -> Result<(), Fail> {
-    let alloc = rt.alloc();
-    for &(bytes, want, rest) in NUMBERS_OF_TAGS {
-        reads(alloc, bytes, want.map(|number| TagNumber(number)), rest)?;
-    }
-    Ok(())
+    reads_rows(rt.alloc(), NUMBERS_OF_TAGS)
 }
 
-const LENGTHS_OF_ARRAYS: &[Row<Option<usize>>] = &[
-    (b"\x86\x01", Ok(Some(6)), b"\x01"),
-    (b"\x98\x19", Ok(Some(25)), b""),
-    (b"\x9f\xff", Ok(None), b"\xff"),
+const LENGTHS_OF_ARRAYS: &[Row<ArrayLength>] = &[
+    (b"\x86\x01", Ok(ArrayLength(Some(6))), b"\x01"),
+    (b"\x98\x19", Ok(ArrayLength(Some(25))), b""),
+    (b"\x9f\xff", Ok(ArrayLength(None)), b"\xff"),
     (b"", Err("Eof { name: \"array\", expect: Small(1) }"), b""),
     (
         b"\x98",
@@ -127,17 +127,13 @@ const LENGTHS_OF_ARRAYS: &[Row<Option<usize>>] = &[
 
 #[test]
 fn lengths_of_arrays(rt: HostRuntime) -> Result<(), Fail> {
-    let alloc = rt.alloc();
-    for &(bytes, want, rest) in LENGTHS_OF_ARRAYS {
-        reads(alloc, bytes, want.map(|length| ArrayLength(length)), rest)?;
-    }
-    Ok(())
+    reads_rows(rt.alloc(), LENGTHS_OF_ARRAYS)
 }
 
-const LENGTHS_OF_MAPS: &[Row<Option<usize>>] = &[
-    (b"\xa3\x01", Ok(Some(3)), b"\x01"),
-    (b"\xb9\x03\xe8", Ok(Some(1000)), b""),
-    (b"\xbf\xff", Ok(None), b"\xff"),
+const LENGTHS_OF_MAPS: &[Row<MapLength>] = &[
+    (b"\xa3\x01", Ok(MapLength(Some(3))), b"\x01"),
+    (b"\xb9\x03\xe8", Ok(MapLength(Some(1000))), b""),
+    (b"\xbf\xff", Ok(MapLength(None)), b"\xff"),
     (b"", Err("Eof { name: \"map\", expect: Small(1) }"), b""),
     (
         b"\xb9\x01",
@@ -158,11 +154,7 @@ const LENGTHS_OF_MAPS: &[Row<Option<usize>>] = &[
 
 #[test]
 fn lengths_of_maps(rt: HostRuntime) -> Result<(), Fail> {
-    let alloc = rt.alloc();
-    for &(bytes, want, rest) in LENGTHS_OF_MAPS {
-        reads(alloc, bytes, want.map(|length| MapLength(length)), rest)?;
-    }
-    Ok(())
+    reads_rows(rt.alloc(), LENGTHS_OF_MAPS)
 }
 
 const BREAKS: &[Row<Break>] = &[
@@ -213,12 +205,21 @@ fn six<S: Source>(alloc: Global, reader: &mut S) -> Result<[u64; 6], DecodeError
     Ok(numbers)
 }
 
+const ARRAYS_OF_SIX: &[Row<ArrayOfSix>] = &[(
+    b"\x86\x00\x01\x02\x03\x04\x05",
+    Ok(ArrayOfSix(Some(6), [0, 1, 2, 3, 4, 5])),
+    b"",
+)];
+
+const OPEN_MAPS_OF_SIX: &[Row<OpenMapOfSix>] = &[(
+    b"\xbf\x00\x01\x02\x03\x04\x05\xff",
+    Ok(OpenMapOfSix(None, [0, 1, 2, 3, 4, 5], true)),
+    b"",
+)];
+
 #[test]
 fn lengths_and_items(rt: HostRuntime) -> Result<(), Fail> {
     let alloc = rt.alloc();
-    let numbers = [0, 1, 2, 3, 4, 5];
-    let array = ArrayOfSix(Some(6), numbers);
-    reads(alloc, b"\x86\x00\x01\x02\x03\x04\x05", Ok(array), b"")?;
-    let map = OpenMapOfSix(None, numbers, true);
-    reads(alloc, b"\xbf\x00\x01\x02\x03\x04\x05\xff", Ok(map), b"")
+    reads_rows(alloc, ARRAYS_OF_SIX)?;
+    reads_rows(alloc, OPEN_MAPS_OF_SIX)
 }

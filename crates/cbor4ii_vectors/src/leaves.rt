@@ -3,10 +3,9 @@ use cbor4ii_items::decode::Decode;
 use cbor4ii_items::types::{Bytes, F16, F32, F64, Maybe, Nothing, Null, Simple, Tag, Undefined};
 use cbor4ii_trials::readers::Counting;
 use cbor4ii_trials::rows::{
-    Row, RowWithin, Want, goes_both_ways, reads, reads_rows, reads_rows_within, reads_within,
-    writes_in,
+    Row, RowWithin, reads_rows, reads_rows_within, reads_texts, reads_texts_within,
+    rows_go_both_ways, texts_go_both_ways, writes_in, writes_rows,
 };
-use std::alloc::Global;
 use std::test::Fail;
 
 const SIMPLE_VALUES: &[Row<Simple>] = &[
@@ -36,15 +35,17 @@ const SIMPLE_VALUES: &[Row<Simple>] = &[
     ),
 ];
 
-const SIMPLE_VALUES_BOTH: &[(&[u8], u8)] = &[(b"\xf0", 16), (b"\xf8\x18", 24), (b"\xf8\xff", 255)];
+const SIMPLE_VALUES_BOTH: &[(&[u8], Simple, usize)] = &[
+    (b"\xf0", Simple(16), 1),
+    (b"\xf8\x18", Simple(24), 1),
+    (b"\xf8\xff", Simple(255), 1),
+];
 
 #[test]
 fn simple_values(rt: HostRuntime) -> Result<(), Fail> {
     let alloc = rt.alloc();
     reads_rows(alloc, SIMPLE_VALUES)?;
-    for &(bytes, number) in SIMPLE_VALUES_BOTH {
-        goes_both_ways(alloc, Simple(number), bytes, 1)?;
-    }
+    rows_go_both_ways(alloc, SIMPLE_VALUES_BOTH)?;
     writes_in(alloc, &Null, b"\xf6", 1)?;
     writes_in(alloc, &Undefined, b"\xf7", 1)
 }
@@ -61,60 +62,76 @@ const FLAGS: &[Row<bool>] = &[
     (b"", Err("Eof { name: \"bool\", expect: Small(1) }"), b""),
 ];
 
+const WRITTEN_FLAGS: &[(bool, &[u8], usize)] = &[(false, b"\xf4", 1), (true, b"\xf5", 1)];
+
 #[test]
 fn flags(rt: HostRuntime) -> Result<(), Fail> {
     let alloc = rt.alloc();
     reads_rows(alloc, FLAGS)?;
-    for (flag, bytes) in [(false, b"\xf4"), (true, b"\xf5")] {
-        writes_in(alloc, &flag, bytes, 1)?;
-    }
-    Ok(())
+    writes_rows(alloc, WRITTEN_FLAGS)
 }
 
-const FLOATS_HALVES: &[(&[u8], u16)] = &[
-    (b"\xf9\x00\x00", 0x0000),
-    (b"\xf9\x80\x00", 0x8000),
-    (b"\xf9\x3c\x00", 0x3c00),
-    (b"\xf9\x3e\x00", 0x3e00),
-    (b"\xf9\x7b\xff", 0x7bff),
-    (b"\xf9\x00\x01", 0x0001),
-    (b"\xf9\x04\x00", 0x0400),
-    (b"\xf9\xc4\x00", 0xc400),
-    (b"\xf9\x7c\x00", 0x7c00),
-    (b"\xf9\x7e\x00", 0x7e00),
-    (b"\xf9\xfc\x00", 0xfc00),
+const FLOATS_HALVES: &[(&[u8], F16, usize)] = &[
+    (b"\xf9\x00\x00", F16(0x0000), 1),
+    (b"\xf9\x80\x00", F16(0x8000), 1),
+    (b"\xf9\x3c\x00", F16(0x3c00), 1),
+    (b"\xf9\x3e\x00", F16(0x3e00), 1),
+    (b"\xf9\x7b\xff", F16(0x7bff), 1),
+    (b"\xf9\x00\x01", F16(0x0001), 1),
+    (b"\xf9\x04\x00", F16(0x0400), 1),
+    (b"\xf9\xc4\x00", F16(0xc400), 1),
+    (b"\xf9\x7c\x00", F16(0x7c00), 1),
+    (b"\xf9\x7e\x00", F16(0x7e00), 1),
+    (b"\xf9\xfc\x00", F16(0xfc00), 1),
 ];
 
-const FLOATS_SINGLES: &[(&[u8], u32)] = &[
-    (b"\xfa\x47\xc3\x50\x00", 0x47c35000),
-    (b"\xfa\x7f\x7f\xff\xff", 0x7f7fffff),
-    (b"\xfa\x7f\x80\x00\x00", 0x7f800000),
-    (b"\xfa\x7f\xc0\x00\x00", 0x7fc00000),
-    (b"\xfa\xff\x80\x00\x00", 0xff800000),
+const FLOATS_SINGLES: &[(&[u8], F32, usize)] = &[
+    (b"\xfa\x47\xc3\x50\x00", F32(0x47c35000), 1),
+    (b"\xfa\x7f\x7f\xff\xff", F32(0x7f7fffff), 1),
+    (b"\xfa\x7f\x80\x00\x00", F32(0x7f800000), 1),
+    (b"\xfa\x7f\xc0\x00\x00", F32(0x7fc00000), 1),
+    (b"\xfa\xff\x80\x00\x00", F32(0xff800000), 1),
 ];
 
-const FLOATS_DOUBLES: &[(&[u8], u64)] = &[
-    (b"\xfb\x3f\xf1\x99\x99\x99\x99\x99\x9a", 0x3ff199999999999a),
-    (b"\xfb\x7e\x37\xe4\x3c\x88\x00\x75\x9c", 0x7e37e43c8800759c),
-    (b"\xfb\xc0\x10\x66\x66\x66\x66\x66\x66", 0xc010666666666666),
-    (b"\xfb\x7f\xf0\x00\x00\x00\x00\x00\x00", 0x7ff0000000000000),
-    (b"\xfb\x7f\xf8\x00\x00\x00\x00\x00\x00", 0x7ff8000000000000),
-    (b"\xfb\xff\xf0\x00\x00\x00\x00\x00\x00", 0xfff0000000000000),
+const FLOATS_DOUBLES: &[(&[u8], F64, usize)] = &[
+    (
+        b"\xfb\x3f\xf1\x99\x99\x99\x99\x99\x9a",
+        F64(0x3ff199999999999a),
+        1,
+    ),
+    (
+        b"\xfb\x7e\x37\xe4\x3c\x88\x00\x75\x9c",
+        F64(0x7e37e43c8800759c),
+        1,
+    ),
+    (
+        b"\xfb\xc0\x10\x66\x66\x66\x66\x66\x66",
+        F64(0xc010666666666666),
+        1,
+    ),
+    (
+        b"\xfb\x7f\xf0\x00\x00\x00\x00\x00\x00",
+        F64(0x7ff0000000000000),
+        1,
+    ),
+    (
+        b"\xfb\x7f\xf8\x00\x00\x00\x00\x00\x00",
+        F64(0x7ff8000000000000),
+        1,
+    ),
+    (
+        b"\xfb\xff\xf0\x00\x00\x00\x00\x00\x00",
+        F64(0xfff0000000000000),
+        1,
+    ),
 ];
 
 #[test]
 fn floats(rt: HostRuntime) -> Result<(), Fail> {
     let alloc = rt.alloc();
-    for &(bytes, bits) in FLOATS_HALVES {
-        goes_both_ways(alloc, F16(bits), bytes, 1)?;
-    }
-    for &(bytes, bits) in FLOATS_SINGLES {
-        goes_both_ways(alloc, F32(bits), bytes, 1)?;
-    }
-    for &(bytes, bits) in FLOATS_DOUBLES {
-        goes_both_ways(alloc, F64(bits), bytes, 1)?;
-    }
-    Ok(())
+    rows_go_both_ways(alloc, FLOATS_HALVES)?;
+    rows_go_both_ways(alloc, FLOATS_SINGLES)?;
+    rows_go_both_ways(alloc, FLOATS_DOUBLES)
 }
 
 const REFUSED_FLOATS_HALVES: &[Row<F16>] = &[
@@ -172,29 +189,38 @@ fn refused_floats(rt: HostRuntime) -> Result<(), Fail> {
     reads_rows(alloc, REFUSED_FLOATS_DOUBLES)
 }
 
-const TAGGED_TEXTS: &[(&[u8], u64, &str)] = &[
-    (b"\xc0\x742013-03-21T20:04:00Z", 0, "2013-03-21T20:04:00Z"),
+const TAGGED_TEXTS: &[(&[u8], &str, usize)] = &[
+    (
+        b"\xc0\x742013-03-21T20:04:00Z",
+        "Tag(0, \"2013-03-21T20:04:00Z\")",
+        3,
+    ),
     (
         b"\xd8\x20\x76http://www.example.com",
-        32,
-        "http://www.example.com",
+        "Tag(32, \"http://www.example.com\")",
+        3,
     ),
 ];
+
+const TAGGED_SECONDS: &[(&[u8], &str, usize)] = &[(
+    b"\xc1\x1a\x51\x4b\x67\xb0",
+    "Tag(1, 1363896240)",
+    2,
+)];
+
+// The bits are 0x41d452d9ec200000.
+const TAGGED_FLOATS: &[(&[u8], &str, usize)] = &[(
+    b"\xc1\xfb\x41\xd4\x52\xd9\xec\x20\x00\x00",
+    "Tag(1, F64(4743507403450875904))",
+    2,
+)];
 
 #[test]
 fn tagged_items(rt: HostRuntime) -> Result<(), Fail> {
     let alloc = rt.alloc();
-    for &(bytes, number, text) in TAGGED_TEXTS {
-        let text = String::from_str(alloc, text)?;
-        goes_both_ways(alloc, Tag(number, text), bytes, 3)?;
-    }
-    goes_both_ways(alloc, Tag(1, 1363896240u32), b"\xc1\x1a\x51\x4b\x67\xb0", 2)?;
-    goes_both_ways(
-        alloc,
-        Tag(1, F64(0x41d452d9ec200000)),
-        b"\xc1\xfb\x41\xd4\x52\xd9\xec\x20\x00\x00",
-        2,
-    )
+    texts_go_both_ways::<Tag<String>>(alloc, TAGGED_TEXTS)?;
+    texts_go_both_ways::<Tag<u32>>(alloc, TAGGED_SECONDS)?;
+    texts_go_both_ways::<Tag<F64>>(alloc, TAGGED_FLOATS)
 }
 
 const TAGGED_NUMBERS: &[Row<Tag<u8>>] = &[
@@ -224,20 +250,33 @@ fn tagged_numbers(rt: HostRuntime) -> Result<(), Fail> {
     reads_rows(rt.alloc(), TAGGED_NUMBERS)
 }
 
-const TAGGED_BYTE_STRINGS: &[(&[u8], u64, &[u8])] = &[
-    (b"\xd7\x44\x01\x02\x03\x04", 23, b"\x01\x02\x03\x04"),
-    (b"\xd8\x18\x45dIETF", 24, b"dIETF"),
+const TAGGED_BYTE_STRINGS: &[Row<&str>] = &[
+    (
+        b"\xd7\x44\x01\x02\x03\x04",
+        Ok("Tag(23, Bytes([1, 2, 3, 4]))"),
+        b"",
+    ),
+    (
+        b"\xd8\x18\x45dIETF",
+        Ok("Tag(24, Bytes([100, 73, 69, 84, 70]))"),
+        b"",
+    ),
+];
+
+const WRITTEN_TAGGED_BYTE_STRINGS: &[(Tag<Bytes<&[u8]>>, &[u8], usize)] = &[
+    (
+        Tag(23, Bytes(b"\x01\x02\x03\x04")),
+        b"\xd7\x44\x01\x02\x03\x04",
+        3,
+    ),
+    (Tag(24, Bytes(b"dIETF")), b"\xd8\x18\x45dIETF", 3),
 ];
 
 #[test]
 fn tagged_byte_strings(rt: HostRuntime) -> Result<(), Fail> {
     let alloc = rt.alloc();
-    for &(bytes, number, content) in TAGGED_BYTE_STRINGS {
-        writes_in(alloc, &Tag(number, Bytes(content)), bytes, 3)?;
-        let owned = Tag(number, Bytes(content.to_vec(alloc)?));
-        reads(alloc, bytes, Ok(owned), b"")?;
-    }
-    Ok(())
+    writes_rows(alloc, WRITTEN_TAGGED_BYTE_STRINGS)?;
+    reads_texts::<Tag<Bytes<Vec<u8>>>>(alloc, TAGGED_BYTE_STRINGS)
 }
 
 const OPTIONAL_NUMBERS: &[Row<Option<u8>>] = &[
@@ -270,6 +309,16 @@ fn optional_items(rt: HostRuntime) -> Result<(), Fail> {
     reads_rows(alloc, OPTIONAL_NOTHING)
 }
 
+const LEAST_AND_GREATEST_OF_NUMBERS: &[RowWithin<u8>] = &[
+    (b"\x18\x05", 0, Ok(5), b""),
+    (b"\x18\x05", usize::MAX, Ok(5), b""),
+];
+
+const LEAST_AND_GREATEST_OF_TAGGED_NUMBERS: &[RowWithin<Tag<u8>>] = &[
+    (b"\xc1\x05", 0, Ok(Tag(1, 5)), b""),
+    (b"\xc1\x05", usize::MAX, Ok(Tag(1, 5)), b""),
+];
+
 const LEAST_AND_GREATEST_OF_OPTIONAL_NUMBERS: &[RowWithin<Option<u8>>] = &[
     (b"\x05", 0, Ok(Some(5)), b""),
     (b"\x05", usize::MAX, Ok(Some(5)), b""),
@@ -277,24 +326,23 @@ const LEAST_AND_GREATEST_OF_OPTIONAL_NUMBERS: &[RowWithin<Option<u8>>] = &[
     (b"\xf6", usize::MAX, Ok(None), b""),
 ];
 
+const GREATEST_OF_ARRAYS: &[RowWithin<&str>] = &[(b"\x81\x05", usize::MAX, Ok("[5]"), b"")];
+
 // What takes no step is read where none is left, and as many as a limit can be do not run over.
 #[test]
 fn the_least_and_the_greatest_limit(rt: HostRuntime) -> Result<(), Fail> {
     let alloc = rt.alloc();
-    for limit in [0, usize::MAX] {
-        reads_within(alloc, b"\x18\x05", limit, &Ok(5u8), b"")?;
-        reads_within(alloc, b"\xc1\x05", limit, &Ok(Tag(1, 5u8)), b"")?;
-    }
+    reads_rows_within(alloc, LEAST_AND_GREATEST_OF_NUMBERS)?;
+    reads_rows_within(alloc, LEAST_AND_GREATEST_OF_TAGGED_NUMBERS)?;
     reads_rows_within(alloc, LEAST_AND_GREATEST_OF_OPTIONAL_NUMBERS)?;
-    let numbers = vec![in alloc; 5u8]?;
-    reads_within(alloc, b"\x81\x05", usize::MAX, &Ok(numbers), b"")
+    reads_texts_within::<Vec<u8>>(alloc, GREATEST_OF_ARRAYS)
 }
 
-const OPTIONAL_TEXTS: &[Row<Option<&str>>] = &[
-    (b"\x80", Ok(None), b""),
-    (b"\x98\x00\x05", Ok(None), b"\x05"),
-    (b"\x81\x611", Ok(Some("1")), b""),
-    (b"\x98\x01\x611", Ok(Some("1")), b""),
+const OPTIONAL_TEXTS: &[Row<&str>] = &[
+    (b"\x80", Ok("Maybe(None)"), b""),
+    (b"\x98\x00\x05", Ok("Maybe(None)"), b"\x05"),
+    (b"\x81\x611", Ok("Maybe(Some(\"1\"))"), b""),
+    (b"\x98\x01\x611", Ok("Maybe(Some(\"1\"))"), b""),
     (b"", Err("Eof { name: \"array\", expect: Small(1) }"), b""),
     (
         b"\x98",
@@ -329,68 +377,51 @@ const OPTIONAL_TEXTS: &[Row<Option<&str>>] = &[
     ),
 ];
 
-// What an optional text in an array is read as.
-fn optional_text(
-    alloc: Global,
-    want: Want<Option<&str>>,
-) -> Result<Want<Maybe<Option<String>>>, Fail> {
-    match want {
-        Ok(Some(text)) => Ok(Ok(Maybe(Some(String::from_str(alloc, text)?)))),
-        Ok(None) => Ok(Ok(Maybe(None))),
-        Err(refusal) => Ok(Err(refusal)),
-    }
-}
-
 #[test]
 fn optional_texts_as_arrays(rt: HostRuntime) -> Result<(), Fail> {
-    let alloc = rt.alloc();
-    for &(bytes, want, rest) in OPTIONAL_TEXTS {
-        reads(alloc, bytes, optional_text(alloc, want)?, rest)?;
-    }
-    Ok(())
+    reads_texts::<Maybe<Option<String>>>(rt.alloc(), OPTIONAL_TEXTS)
 }
+
+const WRITTEN_OPTIONAL_NUMBERS: &[(Maybe<&Option<u8>>, &[u8], usize)] = &[
+    (Maybe(&None), b"\x80", 1),
+    (Maybe(&Some(1)), b"\x81\x01", 2),
+];
 
 #[test]
 fn optional_numbers_as_arrays(rt: HostRuntime) -> Result<(), Fail> {
-    let rows = [(None, b"\x80".as_slice(), 1), (Some(1u8), b"\x81\x01", 2)];
-    for (number, bytes, pushes) in &rows {
-        writes_in(rt.alloc(), &Maybe(number), bytes, *pushes)?;
-    }
-    Ok(())
+    writes_rows(rt.alloc(), WRITTEN_OPTIONAL_NUMBERS)
 }
+
+const OPTIONAL_ARRAYS: &[Row<&str>] = &[
+    (
+        b"\x81\x82\x611\x612",
+        Ok("Maybe(Some([\"1\", \"2\"]))"),
+        b"",
+    ),
+    (b"\x80", Ok("Maybe(None)"), b""),
+];
+
+const WRITTEN_OPTIONAL_ARRAYS: &[(Maybe<&Option<&[&str]>>, &[u8], usize)] = &[
+    (Maybe(&Some(&["1", "2"])), b"\x81\x82\x611\x612", 6),
+    (Maybe(&None), b"\x80", 1),
+];
 
 #[test]
 fn optional_arrays_as_arrays(rt: HostRuntime) -> Result<(), Fail> {
     let alloc = rt.alloc();
-    let first = String::from_str(alloc, "1")?;
-    let second = String::from_str(alloc, "2")?;
-    let some = Some(vec![in alloc; first, second]?);
-    let none: Option<Vec<String>> = None;
-    for (texts, bytes, pushes) in [
-        (&some, b"\x81\x82\x611\x612".as_slice(), 6),
-        (&none, b"\x80", 1),
-    ] {
-        writes_in(alloc, &Maybe(texts), bytes, pushes)?;
-    }
-    reads_rows(
-        alloc,
-        &[
-            (b"\x81\x82\x611\x612", Ok(Maybe(some)), b""),
-            (b"\x80", Ok(Maybe(none)), b""),
-        ],
-    )
+    writes_rows(alloc, WRITTEN_OPTIONAL_ARRAYS)?;
+    reads_texts::<Maybe<Option<Vec<String>>>>(alloc, OPTIONAL_ARRAYS)
 }
+
+const BOXES: &[(&[u8], &str, usize)] = &[(b"\x05", "5", 1)];
+
+const REFUSED_BOXES: &[Row<&str>] = &[(b"\x61", Err("Mismatch { name: \"u8\", found: 97 }"), b"")];
 
 #[test]
 fn boxes(rt: HostRuntime) -> Result<(), Fail> {
     let alloc = rt.alloc();
-    let five = Box::new(alloc, 5u8)?;
-    writes_in(alloc, &five, b"\x05", 1)?;
-    let refusal = "Mismatch { name: \"u8\", found: 97 }";
-    reads_rows(
-        alloc,
-        &[(b"\x05", Ok(five), b""), (b"\x61", Err(refusal), b"")],
-    )
+    texts_go_both_ways::<Box<u8>>(alloc, BOXES)?;
+    reads_texts::<Box<u8>>(alloc, REFUSED_BOXES)
 }
 
 const NOTHING: &[Row<Nothing>] = &[(b"", Ok(Nothing), b""), (b"\x05", Ok(Nothing), b"\x05")];

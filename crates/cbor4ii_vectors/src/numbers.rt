@@ -4,48 +4,59 @@ use cbor4ii_items::encode::Encode;
 use cbor4ii_items::types::Negative;
 use cbor4ii_rw::buf_writer::BufWriter;
 use cbor4ii_rw::slice_reader::SliceReader;
-use cbor4ii_trials::rows::{Row, goes_both_ways, reads_rows, writes_in};
+use cbor4ii_trials::rows::{Row, reads_rows, texts_go_both_ways, writes_in, writes_rows};
 use std::test::Fail;
 
-// The README's example.
+const ONE_AFTER_ANOTHER: &[u8] = b"\x1a\x00\x0f\x42\x40\x20";
+
+// The README's example, read and written.
 #[test]
 fn numbers_one_after_another(rt: HostRuntime) -> Result<(), Fail> {
     let alloc = rt.alloc();
-    let bytes = b"\x1a\x00\x0f\x42\x40\x20";
-    let mut reader = SliceReader::new(bytes);
-    let million = u64::decode(alloc, &mut reader)?;
-    let minus_one = i128::decode(alloc, &mut reader)?;
-    assert_eq!(rt; million, 1_000_000);
-    assert_eq!(rt; minus_one, -1);
-    let mut writer = BufWriter::new(Vec::new(alloc));
-    million.encode(&mut writer)?;
-    minus_one.encode(&mut writer)?;
-    assert_eq!(rt; writer.buffer(), bytes.as_slice());
+    let mut reader = SliceReader::new(ONE_AFTER_ANOTHER);
+    assert_eq!(rt; u64::decode(alloc, &mut reader)?, 1_000_000);
+    assert_eq!(rt; i128::decode(alloc, &mut reader)?, -1);
     Ok(())
 }
 
-const UNSIGNED_INTEGERS: &[(&[u8], u64)] = &[
-    (b"\x00", 0),
-    (b"\x01", 1),
-    (b"\x0a", 10),
-    (b"\x17", 23),
-    (b"\x18\x18", 24),
-    (b"\x18\x19", 25),
-    (b"\x18\x64", 100),
-    (b"\x19\x03\xe8", 1000),
-    (b"\x1a\x00\x0f\x42\x40", 1_000_000),
-    (b"\x1b\x00\x00\x00\xe8\xd4\xa5\x10\x00", 1_000_000_000_000),
-    (b"\x1b\xff\xff\xff\xff\xff\xff\xff\xff", u64::MAX),
+#[test]
+fn numbers_written_one_after_another(rt: HostRuntime) -> Result<(), Fail> {
+    let mut writer = BufWriter::new(Vec::new(rt.alloc()));
+    1_000_000u64.encode(&mut writer)?;
+    (-1i128).encode(&mut writer)?;
+    assert_eq!(rt; writer.buffer(), ONE_AFTER_ANOTHER);
+    Ok(())
+}
+
+const UNSIGNED_INTEGERS: &[(&[u8], &str, usize)] = &[
+    (b"\x00", "0", 1),
+    (b"\x01", "1", 1),
+    (b"\x0a", "10", 1),
+    (b"\x17", "23", 1),
+    (b"\x18\x18", "24", 1),
+    (b"\x18\x19", "25", 1),
+    (b"\x18\x64", "100", 1),
+    (b"\x19\x03\xe8", "1000", 1),
+    (b"\x1a\x00\x0f\x42\x40", "1000000", 1),
+    (b"\x1b\x00\x00\x00\xe8\xd4\xa5\x10\x00", "1000000000000", 1),
+    (
+        b"\x1b\xff\xff\xff\xff\xff\xff\xff\xff",
+        "18446744073709551615",
+        1,
+    ),
 ];
 
 #[test]
 fn unsigned_integers(rt: HostRuntime) -> Result<(), Fail> {
     let alloc = rt.alloc();
-    for &(bytes, value) in UNSIGNED_INTEGERS {
-        goes_both_ways(alloc, value, bytes, 1)?;
-        goes_both_ways(alloc, u128::from(value), bytes, 1)?;
-        goes_both_ways(alloc, i128::from(value), bytes, 1)?;
-    }
+    texts_go_both_ways::<u64>(alloc, UNSIGNED_INTEGERS)?;
+    texts_go_both_ways::<u128>(alloc, UNSIGNED_INTEGERS)?;
+    texts_go_both_ways::<i128>(alloc, UNSIGNED_INTEGERS)
+}
+
+#[test]
+fn written_unsigned_integers(rt: HostRuntime) -> Result<(), Fail> {
+    let alloc = rt.alloc();
     writes_in(alloc, &255u8, b"\x18\xff", 1)?;
     writes_in(alloc, &&255u8, b"\x18\xff", 1)?;
     writes_in(alloc, &65535u16, b"\x19\xff\xff", 1)?;
@@ -143,13 +154,26 @@ const NEGATIVE_U64: &[Row<Negative<u64>>] = &[
     (b"\x00", Err("Mismatch { name: \"-u64\", found: 0 }"), b""),
 ];
 
+const NEGATIVE_U16: &[(&[u8], &str, usize)] = &[(b"\x39\xff\xff", "Negative(65535)", 1)];
+
+const NEGATIVE_U32: &[(&[u8], &str, usize)] = &[(
+    b"\x3a\xff\xff\xff\xff",
+    "Negative(4294967295)",
+    1,
+)];
+
 #[test]
 fn negative_integers(rt: HostRuntime) -> Result<(), Fail> {
     let alloc = rt.alloc();
     reads_rows(alloc, NEGATIVE_U8)?;
     reads_rows(alloc, NEGATIVE_U64)?;
-    goes_both_ways(alloc, Negative(65535u16), b"\x39\xff\xff", 1)?;
-    goes_both_ways(alloc, Negative(u32::MAX), b"\x3a\xff\xff\xff\xff", 1)?;
+    texts_go_both_ways::<Negative<u16>>(alloc, NEGATIVE_U16)?;
+    texts_go_both_ways::<Negative<u32>>(alloc, NEGATIVE_U32)
+}
+
+#[test]
+fn written_negative_integers(rt: HostRuntime) -> Result<(), Fail> {
+    let alloc = rt.alloc();
     writes_in(alloc, &Negative(255u8), b"\x38\xff", 1)?;
     writes_in(
         alloc,
@@ -159,25 +183,32 @@ fn negative_integers(rt: HostRuntime) -> Result<(), Fail> {
     )
 }
 
-const SIGNED_INTEGERS: &[(&[u8], i64)] = &[
-    (b"\x17", 23),
-    (b"\x20", -1),
-    (b"\x29", -10),
-    (b"\x38\x63", -100),
-    (b"\x38\xff", -256),
-    (b"\x39\x03\xe7", -1000),
-    (b"\x39\xff\xff", -65536),
-    (b"\x3a\xff\xff\xff\xff", -4_294_967_296),
-    (b"\x3b\x7f\xff\xff\xff\xff\xff\xff\xff", i64::MIN),
+const SIGNED_INTEGERS: &[(&[u8], &str, usize)] = &[
+    (b"\x17", "23", 1),
+    (b"\x20", "-1", 1),
+    (b"\x29", "-10", 1),
+    (b"\x38\x63", "-100", 1),
+    (b"\x38\xff", "-256", 1),
+    (b"\x39\x03\xe7", "-1000", 1),
+    (b"\x39\xff\xff", "-65536", 1),
+    (b"\x3a\xff\xff\xff\xff", "-4294967296", 1),
+    (
+        b"\x3b\x7f\xff\xff\xff\xff\xff\xff\xff",
+        "-9223372036854775808",
+        1,
+    ),
 ];
 
 #[test]
 fn signed_integers(rt: HostRuntime) -> Result<(), Fail> {
     let alloc = rt.alloc();
-    for &(bytes, value) in SIGNED_INTEGERS {
-        goes_both_ways(alloc, value, bytes, 1)?;
-        goes_both_ways(alloc, i128::from(value), bytes, 1)?;
-    }
+    texts_go_both_ways::<i64>(alloc, SIGNED_INTEGERS)?;
+    texts_go_both_ways::<i128>(alloc, SIGNED_INTEGERS)
+}
+
+#[test]
+fn written_signed_integers(rt: HostRuntime) -> Result<(), Fail> {
+    let alloc = rt.alloc();
     writes_in(alloc, &-128i8, b"\x38\x7f", 1)?;
     writes_in(alloc, &-256i16, b"\x38\xff", 1)?;
     writes_in(alloc, &-65536i32, b"\x39\xff\xff", 1)
@@ -329,8 +360,5 @@ fn bignums(rt: HostRuntime) -> Result<(), Fail> {
     reads_rows(alloc, U128)?;
     reads_rows(alloc, I128)?;
     writes_in(alloc, &18_446_744_073_709_551_616u128, ABOVE, 3)?;
-    for &(value, bytes, pushes) in WRITTEN_I128 {
-        writes_in(alloc, &value, bytes, pushes)?;
-    }
-    Ok(())
+    writes_rows(alloc, WRITTEN_I128)
 }

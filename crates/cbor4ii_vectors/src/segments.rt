@@ -1,24 +1,88 @@
 //! Rows over slices that stand one after another.
-use cbor4ii_items::decode::Decode;
+use crate::cow::{Kind, decodes};
 use cbor4ii_rw::segment_reader::SegmentReader;
 use cbor4ii_trials::items::Lent;
-use cbor4ii_trials::rows::{Want, leaves, reads_over};
+use cbor4ii_trials::rows::{ReadBy, Want, by_text, reads_over};
 use std::alloc::Global;
-use std::borrow::CowStr;
-use std::process::Abort;
+use std::fmt::Debug;
 use std::test::Fail;
+
+// A row: the segments, their bytes, the text of what is read, and what is left of the bytes.
+type Row = (
+    &'static [&'static [u8]],
+    &'static [u8],
+    Want<&'static str>,
+    &'static [u8],
+);
+
+fn reads_segments<T>(alloc: Global, rows: &[Row]) -> Result<(), Fail>
+where
+    T: ReadBy<SegmentReader<'static>> + Debug + Drop,
+{
+    for (segments, bytes, want, rest) in rows {
+        let mut reader = SegmentReader::new(segments);
+        reads_over(alloc, &mut reader, bytes, &by_text::<T>(alloc, want)?, rest)?;
+    }
+    Ok(())
+}
+
+const NUMBER: &[u8] = b"\x1b\x01\x02\x03\x04\x05\x06\x07\x08";
+
+// Cut at each place.
+const NUMBERS: &[Row] = &[
+    (
+        &[b"\x1b", b"\x01\x02\x03\x04\x05\x06\x07\x08"],
+        NUMBER,
+        Ok("72623859790382856"),
+        b"",
+    ),
+    (
+        &[b"\x1b\x01", b"\x02\x03\x04\x05\x06\x07\x08"],
+        NUMBER,
+        Ok("72623859790382856"),
+        b"",
+    ),
+    (
+        &[b"\x1b\x01\x02", b"\x03\x04\x05\x06\x07\x08"],
+        NUMBER,
+        Ok("72623859790382856"),
+        b"",
+    ),
+    (
+        &[b"\x1b\x01\x02\x03", b"\x04\x05\x06\x07\x08"],
+        NUMBER,
+        Ok("72623859790382856"),
+        b"",
+    ),
+    (
+        &[b"\x1b\x01\x02\x03\x04", b"\x05\x06\x07\x08"],
+        NUMBER,
+        Ok("72623859790382856"),
+        b"",
+    ),
+    (
+        &[b"\x1b\x01\x02\x03\x04\x05", b"\x06\x07\x08"],
+        NUMBER,
+        Ok("72623859790382856"),
+        b"",
+    ),
+    (
+        &[b"\x1b\x01\x02\x03\x04\x05\x06", b"\x07\x08"],
+        NUMBER,
+        Ok("72623859790382856"),
+        b"",
+    ),
+    (
+        &[b"\x1b\x01\x02\x03\x04\x05\x06\x07", b"\x08"],
+        NUMBER,
+        Ok("72623859790382856"),
+        b"",
+    ),
+];
 
 #[test]
 fn a_number_in_two_segments(rt: HostRuntime) -> Result<(), Fail> {
-    let alloc = rt.alloc();
-    let bytes = b"\x1b\x01\x02\x03\x04\x05\x06\x07\x08".as_slice();
-    for place in 1..9 {
-        let segments = [&bytes[..place], &bytes[place..]];
-        let mut reader = SegmentReader::new(&segments);
-        let want = Ok(72_623_859_790_382_856u64);
-        reads_over(alloc, &mut reader, bytes, &want, b"")?;
-    }
-    Ok(())
+    reads_segments::<u64>(rt.alloc(), NUMBERS)
 }
 
 const ONE: &str = "RequireLength { name: \"str\", found: Small(1) }";
@@ -27,13 +91,23 @@ const TWO: &str = "RequireLength { name: \"str\", found: Small(2) }";
 
 const NONE: &str = "Eof { name: \"str\", expect: Small(1) }";
 
-const LENT: &[(&[&[u8]], &[u8], Want<&str>, &[u8])] = &[
-    (&[b"", b"\x62aa", b""], b"\x62aa", Ok("aa"), b""),
+const LENT: &[Row] = &[
+    (&[b"", b"\x62aa", b""], b"\x62aa", Ok("Lent(\"aa\")"), b""),
     (&[b"\x62a", b"a"], b"\x62aa", Err(ONE), b"aa"),
-    (&[b"\x62", b"aa\x01"], b"\x62aa\x01", Ok("aa"), b"\x01"),
-    (&[b"\x62aa", b"\x01"], b"\x62aa\x01", Ok("aa"), b"\x01"),
+    (
+        &[b"\x62", b"aa\x01"],
+        b"\x62aa\x01",
+        Ok("Lent(\"aa\")"),
+        b"\x01",
+    ),
+    (
+        &[b"\x62aa", b"\x01"],
+        b"\x62aa\x01",
+        Ok("Lent(\"aa\")"),
+        b"\x01",
+    ),
     (&[b"\x64IE", b"", b"TF"], b"\x64IETF", Err(TWO), b"IETF"),
-    (&[b"\x60", b"\x01"], b"\x60\x01", Ok(""), b"\x01"),
+    (&[b"\x60", b"\x01"], b"\x60\x01", Ok("Lent(\"\")"), b"\x01"),
     (&[], b"", Err(NONE), b""),
     (&[b"", b""], b"", Err(NONE), b""),
 ];
@@ -41,52 +115,35 @@ const LENT: &[(&[&[u8]], &[u8], Want<&str>, &[u8])] = &[
 // A text is lent where it stands in one segment.
 #[test]
 fn texts_lent_of_segments(rt: HostRuntime) -> Result<(), Fail> {
-    let alloc = rt.alloc();
-    for &(segments, bytes, want, rest) in LENT {
-        let mut reader = SegmentReader::new(segments);
-        reads_over(
-            alloc,
-            &mut reader,
-            bytes,
-            &want.map(|text| Lent(text)),
-            rest,
-        )?;
-    }
-    Ok(())
+    reads_segments::<Lent<&'static str>>(rt.alloc(), LENT)
 }
 
-const OWNED_TEXTS_OF_SEGMENTS: &[&[&[u8]]] = &[
-    &[b"", b"\x62aa", b""],
-    &[b"\x62a", b"a"],
-    &[b"\x62", b"aa"],
-    &[b"\x62", b"a", b"", b"a"],
+const OWNED: &[Row] = &[
+    (&[b"", b"\x62aa", b""], b"\x62aa", Ok("\"aa\""), b""),
+    (&[b"\x62a", b"a"], b"\x62aa", Ok("\"aa\""), b""),
+    (&[b"\x62", b"aa"], b"\x62aa", Ok("\"aa\""), b""),
+    (&[b"\x62", b"a", b"", b"a"], b"\x62aa", Ok("\"aa\""), b""),
 ];
 
 // An owned text is read wherever the segments end.
 #[test]
 fn owned_texts_of_segments(rt: HostRuntime) -> Result<(), Fail> {
-    let alloc = rt.alloc();
-    for &segments in OWNED_TEXTS_OF_SEGMENTS {
-        let mut reader = SegmentReader::new(segments);
-        let want = Ok(String::from_str(alloc, "aa")?);
-        reads_over(alloc, &mut reader, b"\x62aa", &want, b"")?;
-    }
-    Ok(())
+    reads_segments::<String>(rt.alloc(), OWNED)
 }
 
-fn is_owned<'de>(rt: &impl Abort, alloc: Global, segments: &'de [&'de [u8]]) -> Result<bool, Fail> {
-    let mut reader = SegmentReader::new(segments);
-    let text = CowStr::<'de, Global>::decode(alloc, &mut reader)?;
-    assert_eq!(rt; text.as_str(), "aa");
-    leaves(&mut reader, b"\x62aa", b"")?;
-    Ok(matches!(text, CowStr::Owned(_)))
-}
+// Segments of the text "aa", and whether it is borrowed from them.
+const BORROWED_OR_OWNED: &[(&[&[u8]], bool)] = &[
+    (&[b"", b"\x62aa", b""], true),
+    (&[b"\x62", b"aa"], true),
+    (&[b"\x62a", b"a"], false),
+];
 
 #[test]
 fn texts_borrowed_or_owned_of_segments(rt: HostRuntime) -> Result<(), Fail> {
-    let alloc = rt.alloc();
-    assert!(rt; !is_owned(&rt, alloc, &[b"", b"\x62aa", b""])?);
-    assert!(rt; !is_owned(&rt, alloc, &[b"\x62", b"aa"])?);
-    assert!(rt; is_owned(&rt, alloc, &[b"\x62a", b"a"])?);
+    for (segments, is_borrowed) in BORROWED_OR_OWNED {
+        let mut reader = SegmentReader::new(segments);
+        let want = Ok((b"aa".as_slice(), *is_borrowed));
+        decodes(Kind::Text, rt.alloc(), &mut reader, b"\x62aa", want, b"")?;
+    }
     Ok(())
 }

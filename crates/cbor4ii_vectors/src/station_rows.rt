@@ -3,8 +3,10 @@ use crate::station::Station;
 use cbor4ii_items::decode::Decode;
 use cbor4ii_rw::error::DecodeError;
 use cbor4ii_rw::read::Source;
-use cbor4ii_trials::rows::{ReadFrom, goes_both_ways, reads, reads_within};
-use std::alloc::{AllocError, Global};
+use cbor4ii_trials::rows::{
+    ReadFrom, Row, RowWithin, reads_texts, reads_texts_within, texts_go_both_ways,
+};
+use std::alloc::Global;
 use std::test::Fail;
 
 impl ReadFrom for Station {
@@ -17,7 +19,7 @@ impl ReadFrom for Station {
 }
 
 // An array of stations.
-#[derive(Debug, PartialEq, Drop)]
+#[derive(Debug, Drop)]
 struct StationList(Vec<Station>);
 
 impl ReadFrom for StationList {
@@ -29,80 +31,90 @@ impl ReadFrom for StationList {
     }
 }
 
-fn station(alloc: Global) -> Result<Station, AllocError> {
-    Ok(Station {
-        id: 5,
-        name: String::from_str(alloc, "abc")?,
-    })
-}
+const STATION: &str = "Station { id: 5, name: \"abc\" }";
 
-const STATIONS: &[&[u8]] = &[
-    b"\x9f\x05\x63abc\xff\x00",
-    b"\x98\x02\x18\x05\x63abc\x00",
-    b"\x82\x05\x7f\x61a\x62bc\xff\x00",
-    b"\x9f\x05\x78\x03abc\xff\x00",
+const WRITTEN_STATIONS: &[(&[u8], &str, usize)] = &[(b"\x82\x05\x63abc", STATION, 4)];
+
+const STATIONS: &[Row<&str>] = &[
+    (b"\x9f\x05\x63abc\xff\x00", Ok(STATION), b"\x00"),
+    (b"\x98\x02\x18\x05\x63abc\x00", Ok(STATION), b"\x00"),
+    (b"\x82\x05\x7f\x61a\x62bc\xff\x00", Ok(STATION), b"\x00"),
+    (b"\x9f\x05\x78\x03abc\xff\x00", Ok(STATION), b"\x00"),
 ];
+
+const TWO_STATIONS: &[Row<&str>] = &[(
+    b"\x82\x82\x05\x63abc\x9f\x05\x63abc\xff",
+    Ok("StationList([Station { id: 5, name: \"abc\" }, Station { id: 5, name: \"abc\" }])"),
+    b"",
+)];
 
 #[test]
 fn stations(rt: HostRuntime) -> Result<(), Fail> {
     let alloc = rt.alloc();
-    goes_both_ways(alloc, station(alloc)?, b"\x82\x05\x63abc", 4)?;
-    for &bytes in STATIONS {
-        reads(alloc, bytes, Ok(station(alloc)?), b"\x00")?;
-    }
-    let two = vec![in alloc; station(alloc)?, station(alloc)?]?;
-    reads(
-        alloc,
-        b"\x82\x82\x05\x63abc\x9f\x05\x63abc\xff",
-        Ok(StationList(two)),
-        b"",
-    )
+    texts_go_both_ways::<Station>(alloc, WRITTEN_STATIONS)?;
+    reads_texts::<Station>(alloc, STATIONS)?;
+    reads_texts::<StationList>(alloc, TWO_STATIONS)
 }
 
-const REFUSED_STATIONS: &[(&[u8], &str, &[u8])] = &[
-    (b"", "Eof { name: \"array\", expect: Small(1) }", b""),
+const REFUSED_STATIONS: &[Row<&str>] = &[
+    (b"", Err("Eof { name: \"array\", expect: Small(1) }"), b""),
     (
         b"\xa2\x05",
-        "Mismatch { name: \"array\", found: 162 }",
+        Err("Mismatch { name: \"array\", found: 162 }"),
         b"\x05",
     ),
     (
         b"\x81\x05",
-        "RequireLength { name: \"station\", found: Small(1) }",
+        Err("RequireLength { name: \"station\", found: Small(1) }"),
         b"\x05",
     ),
     (
         b"\x83\x05",
-        "RequireLength { name: \"station\", found: Small(3) }",
+        Err("RequireLength { name: \"station\", found: Small(3) }"),
         b"\x05",
     ),
     (
         b"\x82\x60\x60",
-        "Mismatch { name: \"u64\", found: 96 }",
+        Err("Mismatch { name: \"u64\", found: 96 }"),
         b"\x60",
     ),
-    (b"\x82\x05", "Eof { name: \"str\", expect: Small(1) }", b""),
-    (b"\x82\x05\x61\xff", "RequireUtf8 { name: \"str\" }", b""),
-    (b"\x9f\xff", "Mismatch { name: \"u64\", found: 255 }", b""),
+    (
+        b"\x82\x05",
+        Err("Eof { name: \"str\", expect: Small(1) }"),
+        b"",
+    ),
+    (
+        b"\x82\x05\x61\xff",
+        Err("RequireUtf8 { name: \"str\" }"),
+        b"",
+    ),
+    (
+        b"\x9f\xff",
+        Err("Mismatch { name: \"u64\", found: 255 }"),
+        b"",
+    ),
     (
         b"\x9f\x05\x60",
-        "Eof { name: \"break\", expect: Small(1) }",
+        Err("Eof { name: \"break\", expect: Small(1) }"),
         b"",
     ),
     (
         b"\x9f\x05\x60\x00\xff",
-        "RequireLength { name: \"station\", found: Indefinite }",
+        Err("RequireLength { name: \"station\", found: Indefinite }"),
         b"\x00\xff",
     ),
 ];
 
+const STEPS: &[RowWithin<&str>] = &[(
+    b"\x82\x05\x7f\x61a\xff",
+    0,
+    Err("DepthOverflow { name: \"str\" }"),
+    b"\x61a\xff",
+)];
+
 #[test]
 fn refused_stations(rt: HostRuntime) -> Result<(), Fail> {
     let alloc = rt.alloc();
-    for &(bytes, refusal, rest) in REFUSED_STATIONS {
-        reads::<Station>(alloc, bytes, Err(refusal), rest)?;
-    }
-    let no_step = "DepthOverflow { name: \"str\" }";
-    let bytes = b"\x82\x05\x7f\x61a\xff";
-    reads_within::<Station>(alloc, bytes, 0, &Err(no_step), b"\x61a\xff")
+    reads_texts::<Station>(alloc, REFUSED_STATIONS)?;
+    reads_texts_within::<Station>(alloc, STEPS)
 }

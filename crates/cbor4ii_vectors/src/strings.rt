@@ -8,7 +8,9 @@ use cbor4ii_rw::io_reader::IoReader;
 use cbor4ii_rw::read::Source;
 use cbor4ii_rw::slice_reader::SliceReader;
 use cbor4ii_trials::readers::{Failure, TestReader};
-use cbor4ii_trials::rows::{Want, reads, reads_over, reads_within, writes_in};
+use cbor4ii_trials::rows::{
+    Row, RowWithin, reads_over, reads_texts, reads_texts_within, texts_go_both_ways, writes_rows,
+};
 use cbor4ii_trials::writers::FailingWriter;
 use std::alloc::Global;
 use std::test::Fail;
@@ -29,194 +31,246 @@ fn a_borrowed_text_and_a_text_of_a_stream(rt: HostRuntime) -> Result<(), Fail> {
     Ok(())
 }
 
-// What an owned text is read as.
-fn text(alloc: Global, want: Want<&str>) -> Result<Want<String>, Fail> {
-    match want {
-        Ok(text) => Ok(Ok(String::from_str(alloc, text)?)),
-        Err(refusal) => Ok(Err(refusal)),
-    }
-}
-
-// Reads an owned text.
-fn reads_text(
-    alloc: Global,
-    bytes: &'static [u8],
-    want: Want<&str>,
-    rest: &[u8],
-) -> Result<(), Fail> {
-    reads(alloc, bytes, text(alloc, want)?, rest)
-}
-
-// Reads an owned byte string.
-fn reads_bytes(
-    alloc: Global,
-    bytes: &'static [u8],
-    want: Want<&[u8]>,
-    rest: &[u8],
-) -> Result<(), Fail> {
-    let want = match want {
-        Ok(content) => Ok(Bytes(content.to_vec(alloc)?)),
-        Err(refusal) => Err(refusal),
-    };
-    reads(alloc, bytes, want, rest)
-}
-
-// Reads an owned text that is not tested.
-fn reads_unchecked(alloc: Global, bytes: &'static [u8], content: &[u8]) -> Result<(), Fail> {
-    let want = Ok(UncheckedStr(content.to_vec(alloc)?));
-    reads(alloc, bytes, want, b"")
-}
-
-// Reads a text that is not tested, and writes it.
-fn goes_unchecked(alloc: Global, bytes: &'static [u8], content: &'static [u8]) -> Result<(), Fail> {
-    reads_unchecked(alloc, bytes, content)?;
-    writes_string(alloc, &UncheckedStr(content), bytes)
-}
-
 // A string is written in two pushes, one for its head and one for its content, also an empty one.
-fn writes_string<T: Encode>(alloc: Global, value: &T, bytes: &[u8]) -> Result<(), Fail> {
-    writes_in(alloc, value, bytes, 2)
-}
+const TEXTS: &[(&[u8], &str, usize)] = &[
+    (b"\x60", "\"\"", 2),
+    (b"\x61a", "\"a\"", 2),
+    (b"\x64IETF", "\"IETF\"", 2),
+    (b"\x62\x22\x5c", "\"\\\"\\\\\"", 2),
+    (b"\x62\xc3\xbc", "\"\u{fc}\"", 2),
+    (b"\x63\xe6\xb0\xb4", "\"\u{6c34}\"", 2),
+    (b"\x64\xf0\x90\x85\x91", "\"\u{10151}\"", 2),
+];
 
-const TEXTS: &[(&[u8], &str)] = &[
-    (b"\x60", ""),
-    (b"\x61a", "a"),
-    (b"\x64IETF", "IETF"),
-    (b"\x62\x22\x5c", "\"\\"),
-    (b"\x62\xc3\xbc", "\u{fc}"),
-    (b"\x63\xe6\xb0\xb4", "\u{6c34}"),
-    (b"\x64\xf0\x90\x85\x91", "\u{10151}"),
+const LONG_HEADS_OF_TEXTS: &[Row<&str>] = &[(b"\x78\x02aa\xff", Ok("\"aa\""), b"\xff")];
+
+const WRITTEN_TEXTS: &[(&str, &[u8], usize)] = &[
+    ("", b"\x60", 2),
+    ("a", b"\x61a", 2),
+    ("IETF", b"\x64IETF", 2),
+    ("\"\\", b"\x62\x22\x5c", 2),
+    ("\u{fc}", b"\x62\xc3\xbc", 2),
+    ("\u{6c34}", b"\x63\xe6\xb0\xb4", 2),
+    ("\u{10151}", b"\x64\xf0\x90\x85\x91", 2),
 ];
 
 #[test]
 fn texts(rt: HostRuntime) -> Result<(), Fail> {
     let alloc = rt.alloc();
-    for &(bytes, value) in TEXTS {
-        reads_text(alloc, bytes, Ok(value), b"")?;
-        goes_unchecked(alloc, bytes, value.as_bytes())?;
-        writes_string(alloc, &value, bytes)?;
-        writes_string(alloc, &String::from_str(alloc, value)?, bytes)?;
-    }
-    reads_text(alloc, b"\x78\x02aa\xff", Ok("aa"), b"\xff")?;
-    goes_unchecked(alloc, b"\x61\xff", b"\xff")
+    texts_go_both_ways::<String>(alloc, TEXTS)?;
+    reads_texts::<String>(alloc, LONG_HEADS_OF_TEXTS)?;
+    writes_rows(alloc, WRITTEN_TEXTS)
 }
 
-const BYTE_STRINGS: &[(&[u8], &[u8])] = &[
-    (b"\x40", b""),
-    (b"\x44\x01\x02\x03\x04", b"\x01\x02\x03\x04"),
+const UNCHECKED_TEXTS: &[Row<&str>] = &[
+    (b"\x60", Ok("UncheckedStr([])"), b""),
+    (b"\x61a", Ok("UncheckedStr([97])"), b""),
+    (b"\x64IETF", Ok("UncheckedStr([73, 69, 84, 70])"), b""),
+    (b"\x62\x22\x5c", Ok("UncheckedStr([34, 92])"), b""),
+    (b"\x62\xc3\xbc", Ok("UncheckedStr([195, 188])"), b""),
+    (
+        b"\x63\xe6\xb0\xb4",
+        Ok("UncheckedStr([230, 176, 180])"),
+        b"",
+    ),
+    (
+        b"\x64\xf0\x90\x85\x91",
+        Ok("UncheckedStr([240, 144, 133, 145])"),
+        b"",
+    ),
+    (b"\x61\xff", Ok("UncheckedStr([255])"), b""),
+];
+
+const WRITTEN_UNCHECKED_TEXTS: &[(UncheckedStr<&[u8]>, &[u8], usize)] = &[
+    (UncheckedStr(b""), b"\x60", 2),
+    (UncheckedStr(b"a"), b"\x61a", 2),
+    (UncheckedStr(b"IETF"), b"\x64IETF", 2),
+    (UncheckedStr(b"\x22\x5c"), b"\x62\x22\x5c", 2),
+    (UncheckedStr(b"\xc3\xbc"), b"\x62\xc3\xbc", 2),
+    (UncheckedStr(b"\xe6\xb0\xb4"), b"\x63\xe6\xb0\xb4", 2),
+    (
+        UncheckedStr(b"\xf0\x90\x85\x91"),
+        b"\x64\xf0\x90\x85\x91",
+        2,
+    ),
+    (UncheckedStr(b"\xff"), b"\x61\xff", 2),
+];
+
+#[test]
+fn unchecked_texts(rt: HostRuntime) -> Result<(), Fail> {
+    let alloc = rt.alloc();
+    reads_texts::<UncheckedStr<Vec<u8>>>(alloc, UNCHECKED_TEXTS)?;
+    writes_rows(alloc, WRITTEN_UNCHECKED_TEXTS)
+}
+
+const BYTE_STRINGS: &[Row<&str>] = &[
+    (b"\x40", Ok("Bytes([])"), b""),
+    (b"\x44\x01\x02\x03\x04", Ok("Bytes([1, 2, 3, 4])"), b""),
+    (b"\x58\x01\x07\x08", Ok("Bytes([7])"), b"\x08"),
+];
+
+const WRITTEN_BYTE_STRINGS: &[(Bytes<&[u8]>, &[u8], usize)] = &[
+    (Bytes(b""), b"\x40", 2),
+    (Bytes(b"\x01\x02\x03\x04"), b"\x44\x01\x02\x03\x04", 2),
 ];
 
 #[test]
 fn byte_strings(rt: HostRuntime) -> Result<(), Fail> {
     let alloc = rt.alloc();
-    for &(bytes, content) in BYTE_STRINGS {
-        reads_bytes(alloc, bytes, Ok(content), b"")?;
-        writes_string(alloc, &Bytes(content), bytes)?;
-    }
-    reads_bytes(alloc, b"\x58\x01\x07\x08", Ok(b"\x07"), b"\x08")
+    reads_texts::<Bytes<Vec<u8>>>(alloc, BYTE_STRINGS)?;
+    writes_rows(alloc, WRITTEN_BYTE_STRINGS)
 }
 
-const CHUNKS_TEXTS: &[(&[u8], &str)] = &[
-    (b"\x7f\xff", ""),
-    (b"\x7f\x60\xff", ""),
-    (b"\x7f\x65strea\x64ming\xff", "streaming"),
-    (b"\x7f\x61\xc3\x61\xa9\xff", "\u{e9}"),
-    (b"\x7f\x64test\x65test2\x65test3\xff", "testtest2test3"),
-    (b"\x7f\x63123\x63456\xff", "123456"),
+const CHUNKS_OF_TEXTS: &[Row<&str>] = &[
+    (b"\x7f\xff", Ok("\"\""), b""),
+    (b"\x7f\x60\xff", Ok("\"\""), b""),
+    (b"\x7f\x65strea\x64ming\xff", Ok("\"streaming\""), b""),
+    (b"\x7f\x61\xc3\x61\xa9\xff", Ok("\"\u{e9}\""), b""),
+    (
+        b"\x7f\x64test\x65test2\x65test3\xff",
+        Ok("\"testtest2test3\""),
+        b"",
+    ),
+    (b"\x7f\x63123\x63456\xff", Ok("\"123456\""), b""),
 ];
+
+const CHUNKS_OF_UNCHECKED_TEXTS: &[Row<&str>] = &[
+    (b"\x7f\xff", Ok("UncheckedStr([])"), b""),
+    (b"\x7f\x60\xff", Ok("UncheckedStr([])"), b""),
+    (
+        b"\x7f\x65strea\x64ming\xff",
+        Ok("UncheckedStr([115, 116, 114, 101, 97, 109, 105, 110, 103])"),
+        b"",
+    ),
+    (
+        b"\x7f\x61\xc3\x61\xa9\xff",
+        Ok("UncheckedStr([195, 169])"),
+        b"",
+    ),
+    (
+        b"\x7f\x64test\x65test2\x65test3\xff",
+        Ok("UncheckedStr([116, 101, 115, 116, 116, 101, 115, 116, 50, 116, 101, 115, 116, 51])"),
+        b"",
+    ),
+    (
+        b"\x7f\x63123\x63456\xff",
+        Ok("UncheckedStr([49, 50, 51, 52, 53, 54])"),
+        b"",
+    ),
+    (b"\x7f\x61\xff\xff", Ok("UncheckedStr([255])"), b""),
+];
+
+const CHUNKS_OF_BYTE_STRINGS: &[Row<&str>] = &[(
+    b"\x5f\x42\x01\x02\x43\x03\x04\x05\xff\x00",
+    Ok("Bytes([1, 2, 3, 4, 5])"),
+    b"\x00",
+)];
 
 #[test]
 fn chunks(rt: HostRuntime) -> Result<(), Fail> {
     let alloc = rt.alloc();
-    for &(bytes, value) in CHUNKS_TEXTS {
-        reads_text(alloc, bytes, Ok(value), b"")?;
-        reads_unchecked(alloc, bytes, value.as_bytes())?;
-    }
-    reads_unchecked(alloc, b"\x7f\x61\xff\xff", b"\xff")?;
-    reads_bytes(
-        alloc,
-        b"\x5f\x42\x01\x02\x43\x03\x04\x05\xff\x00",
-        Ok(b"\x01\x02\x03\x04\x05"),
-        b"\x00",
-    )
+    reads_texts::<String>(alloc, CHUNKS_OF_TEXTS)?;
+    reads_texts::<UncheckedStr<Vec<u8>>>(alloc, CHUNKS_OF_UNCHECKED_TEXTS)?;
+    reads_texts::<Bytes<Vec<u8>>>(alloc, CHUNKS_OF_BYTE_STRINGS)
 }
 
-const REFUSED_TEXTS: &[(&[u8], &str, &[u8])] = &[
+const REFUSED_TEXTS: &[Row<&str>] = &[
     (
         b"\x7f\x61a\x7f\xff",
-        "RequireLength { name: \"str\", found: Indefinite }",
+        Err("RequireLength { name: \"str\", found: Indefinite }"),
         b"\xff",
     ),
-    (b"\x7f\x1c", "Mismatch { name: \"str\", found: 28 }", b""),
-    (b"", "Eof { name: \"str\", expect: Small(1) }", b""),
-    (b"\x00", "Mismatch { name: \"str\", found: 0 }", b""),
-    (b"\x62\xff", "Eof { name: \"str\", expect: Small(1) }", b""),
-    (b"\x63ab", "Eof { name: \"str\", expect: Small(1) }", b""),
-    (b"\x7a\x86", "Eof { name: \"str\", expect: Small(4) }", b""),
-    (b"\x62\xff\xff", "RequireUtf8 { name: \"str\" }", b""),
-    (b"\x63\xed\xa0\x80", "RequireUtf8 { name: \"str\" }", b""),
+    (
+        b"\x7f\x1c",
+        Err("Mismatch { name: \"str\", found: 28 }"),
+        b"",
+    ),
+    (b"", Err("Eof { name: \"str\", expect: Small(1) }"), b""),
+    (b"\x00", Err("Mismatch { name: \"str\", found: 0 }"), b""),
+    (
+        b"\x62\xff",
+        Err("Eof { name: \"str\", expect: Small(1) }"),
+        b"",
+    ),
+    (
+        b"\x63ab",
+        Err("Eof { name: \"str\", expect: Small(1) }"),
+        b"",
+    ),
+    (
+        b"\x7a\x86",
+        Err("Eof { name: \"str\", expect: Small(4) }"),
+        b"",
+    ),
+    (b"\x62\xff\xff", Err("RequireUtf8 { name: \"str\" }"), b""),
+    (
+        b"\x63\xed\xa0\x80",
+        Err("RequireUtf8 { name: \"str\" }"),
+        b"",
+    ),
     (
         b"\x7f\x61\xff\xff\x01",
-        "RequireUtf8 { name: \"str\" }",
+        Err("RequireUtf8 { name: \"str\" }"),
         b"\x01",
     ),
     (
         b"\x7f\x41\x61\xff",
-        "Mismatch { name: \"str\", found: 65 }",
+        Err("Mismatch { name: \"str\", found: 65 }"),
         b"\x61\xff",
     ),
     (
         b"\x7f\x7f\xff\xff",
-        "RequireLength { name: \"str\", found: Indefinite }",
+        Err("RequireLength { name: \"str\", found: Indefinite }"),
         b"\xff\xff",
     ),
     (
         b"\x7f\x61a",
-        "Eof { name: \"break\", expect: Small(1) }",
+        Err("Eof { name: \"break\", expect: Small(1) }"),
         b"",
     ),
-    (b"\x7f\x63a", "Eof { name: \"str\", expect: Small(2) }", b""),
+    (
+        b"\x7f\x63a",
+        Err("Eof { name: \"str\", expect: Small(2) }"),
+        b"",
+    ),
 ];
 
 #[test]
 fn refused_texts(rt: HostRuntime) -> Result<(), Fail> {
-    let alloc = rt.alloc();
-    for &(bytes, refusal, rest) in REFUSED_TEXTS {
-        reads_text(alloc, bytes, Err(refusal), rest)?;
-    }
-    Ok(())
+    reads_texts::<String>(rt.alloc(), REFUSED_TEXTS)
 }
 
-const LENGTHS_WITHOUT_BYTES: &[&[u8]] = &[
-    b"\x5b\xff\xff\xff\xff\xff\xff\xff\xff",
-    b"\x5b\x00\x00\x7f\xff\xff\xff\xff\xff",
-    b"\x5f\x5b\xff\xff\xff\xff\xff\xff\xff\xff",
-    b"\x5f\x41\x00\x5b\x00\x00\x7f\xff\xff\xff\xff\xff",
+const BIG: &str = "Eof { name: \"bytes\", expect: Big }";
+
+const LENGTHS_WITHOUT_BYTES: &[Row<&str>] = &[
+    (b"\x5b\xff\xff\xff\xff\xff\xff\xff\xff", Err(BIG), b""),
+    (b"\x5b\x00\x00\x7f\xff\xff\xff\xff\xff", Err(BIG), b""),
+    (b"\x5f\x5b\xff\xff\xff\xff\xff\xff\xff\xff", Err(BIG), b""),
+    (
+        b"\x5f\x41\x00\x5b\x00\x00\x7f\xff\xff\xff\xff\xff",
+        Err(BIG),
+        b"",
+    ),
 ];
 
 // A length that the bytes do not carry takes no memory: no machine has so much.
 #[test]
 fn lengths_without_bytes(rt: HostRuntime) -> Result<(), Fail> {
-    let alloc = rt.alloc();
-    let refusal = "Eof { name: \"bytes\", expect: Big }";
-    for &bytes in LENGTHS_WITHOUT_BYTES {
-        reads_bytes(alloc, bytes, Err(refusal), b"")?;
-    }
-    Ok(())
+    reads_texts::<Bytes<Vec<u8>>>(rt.alloc(), LENGTHS_WITHOUT_BYTES)
 }
 
 const NO_STEP: &str = "DepthOverflow { name: \"str\" }";
 
 const END: &str = "Eof { name: \"break\", expect: Small(1) }";
 
-const STEPS: &[(&[u8], usize, Want<&str>, &[u8])] = &[
+const STEPS: &[RowWithin<&str>] = &[
     (b"\x7f", 0, Err(END), b""),
-    (b"\x61a", 0, Ok("a"), b""),
+    (b"\x61a", 0, Ok("\"a\""), b""),
     (b"\x7f\x61a", 0, Err(NO_STEP), b"\x61a"),
-    (b"\x7f\xff", 0, Ok(""), b""),
+    (b"\x7f\xff", 0, Ok("\"\""), b""),
     (b"\x7f\x61a\xff", 0, Err(NO_STEP), b"\x61a\xff"),
-    (b"\x7f\x61a\xff", 1, Ok("a"), b""),
-    (b"\x7f\x61a\x61b\xff", 1, Ok("ab"), b""),
+    (b"\x7f\x61a\xff", 1, Ok("\"a\""), b""),
+    (b"\x7f\x61a\x61b\xff", 1, Ok("\"ab\""), b""),
     (
         b"\x7f\x7f\xff\xff",
         1,
@@ -227,11 +281,7 @@ const STEPS: &[(&[u8], usize, Want<&str>, &[u8])] = &[
 
 #[test]
 fn a_step_for_each_chunk(rt: HostRuntime) -> Result<(), Fail> {
-    let alloc = rt.alloc();
-    for &(bytes, limit, want, rest) in STEPS {
-        reads_within(alloc, bytes, limit, &text(alloc, want)?, rest)?;
-    }
-    Ok(())
+    reads_texts_within::<String>(rt.alloc(), STEPS)
 }
 
 // Readers that show all 1024 bytes at once, or what is wanted of them.
@@ -241,7 +291,7 @@ fn a_text_before_many_bytes(rt: HostRuntime) -> Result<(), Fail> {
     let mut bytes = [0u8; 1024];
     bytes[..5].copy_from_slice(b"\x64test");
     let rest = [0u8; 1019];
-    let want = text(alloc, Ok("test"))?;
+    let want = Ok(String::from_str(alloc, "test")?);
     let mut stream = IoReader::new(bytes.as_slice());
     reads_over(alloc, &mut stream, &bytes, &want, &rest)?;
     reads_over(

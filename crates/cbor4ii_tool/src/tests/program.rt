@@ -1,5 +1,5 @@
 //! The program as a whole: its status, and what it writes to its two outputs.
-use super::rows::ROWS;
+use super::rows::{ROWS, Row};
 use super::streams::{Input, Output};
 use crate::command::Command;
 use crate::program::program;
@@ -29,36 +29,39 @@ fn lacks_memory(errors: &[u8]) -> bool {
     errors.ends_with(b": OutOfMemory\n")
 }
 
+fn name(command: Command) -> &'static str {
+    match command {
+        Command::Ints => "ints",
+        Command::Canon => "canon",
+        Command::Lens => "lens",
+        Command::Strict => "strict",
+    }
+}
+
+fn runs_row(rt: &(impl Abort + AllocGlobal), row: &Row) -> io::Result<()> {
+    let words = words(rt.alloc(), &[name(row.command)])?;
+    let mut output = Output::new(rt.alloc())?;
+    let mut errors = Output::new(rt.alloc())?;
+    let input = input(row.input);
+    let status = program(rt.alloc(), Ok(words), input, &mut output, &mut errors);
+    if lacks_memory(&errors.written) {
+        return Err(io::Error::from(ErrorKind::OutOfMemory));
+    }
+    assert_eq!(rt; errors.written.as_slice(), row.errors, "at {:?}", row.input);
+    assert_eq!(rt; status, row.fault.is_some() as u8, "at {:?}", row.input);
+    assert_eq!(rt;
+        output.written.as_slice(),
+        row.written,
+        "at {:?}",
+        row.input
+    );
+    Ok(())
+}
+
 #[test]
 fn rows(rt: HostRuntime) -> io::Result<()> {
-    for row in &ROWS {
-        let name = match row.command {
-            Command::Ints => "ints",
-            Command::Canon => "canon",
-            Command::Lens => "lens",
-            Command::Strict => "strict",
-        };
-        let words = words(rt.alloc(), &[name])?;
-        let mut output = Output::new(rt.alloc())?;
-        let mut errors = Output::new(rt.alloc())?;
-        let status = program(
-            rt.alloc(),
-            Ok(words),
-            input(row.input),
-            &mut output,
-            &mut errors,
-        );
-        if lacks_memory(&errors.written) {
-            return Err(io::Error::from(ErrorKind::OutOfMemory));
-        }
-        assert_eq!(rt; errors.written.as_slice(), row.errors, "at {:?}", row.input);
-        assert_eq!(rt; status, row.fault.is_some() as u8, "at {:?}", row.input);
-        assert_eq!(rt;
-            output.written.as_slice(),
-            row.written,
-            "at {:?}",
-            row.input
-        );
+    for row in ROWS {
+        runs_row(&rt, row)?;
     }
     Ok(())
 }
@@ -76,20 +79,21 @@ fn check_usage(rt: &(impl Abort + AllocGlobal), words: io::Result<Vec<String>>) 
     Ok(())
 }
 
+const NO_COMMANDS: &[&[&str]] = &[
+    &[],
+    &[""],
+    &["int"],
+    &["ints "],
+    &["Canon"],
+    &["strictly"],
+    &["ints", "ints"],
+    &["canon", "lens"],
+    &["", "lens"],
+];
+
 #[test]
 fn other_words_name_no_command(rt: HostRuntime) -> io::Result<()> {
-    let rows: [&[&str]; 9] = [
-        &[],
-        &[""],
-        &["int"],
-        &["ints "],
-        &["Canon"],
-        &["strictly"],
-        &["ints", "ints"],
-        &["canon", "lens"],
-        &["", "lens"],
-    ];
-    for row in rows {
+    for row in NO_COMMANDS {
         check_usage(&rt, Ok(words(rt.alloc(), row)?))?;
     }
     check_usage(&rt, Err(io::Error::from(ErrorKind::InvalidData)))

@@ -45,7 +45,7 @@ impl Row {
     }
 }
 
-pub const ROWS: [Row; 23] = [
+pub const ROWS: &[Row] = &[
     Row {
         command: Command::Strict,
         input: b"\x05\x18\x05",
