@@ -79,18 +79,10 @@ where
         if let Ok(answer) = want {
             writes(alloc, answer, bytes)?;
         }
-        reads_whole_or_ends(alloc, bytes, want)?;
+        reads_within(alloc, bytes, STEPS, want, b"")?;
+        ends_at_each_front::<A>(alloc, bytes, STEPS)?;
     }
     Ok(())
-}
-
-// Reads the bytes with nothing left of them, and of each proper front of them the end of the input.
-fn reads_whole_or_ends<A>(alloc: Global, bytes: &'static [u8], want: &Want<A>) -> Result<(), Fail>
-where
-    A: ReadFrom + PartialEq + Debug + Drop,
-{
-    reads_within(alloc, bytes, STEPS, want, b"")?;
-    ends_at_each_front::<A>(alloc, bytes, STEPS)
 }
 
 /// Reads the rows, those without a limit and those within one.

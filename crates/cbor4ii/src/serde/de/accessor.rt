@@ -329,7 +329,8 @@ impl<'a, S: Source> Accessor<'a, S> {
         ensures complete { IsTrue T.exact → IsExact T.owned (inside S.view self.old) →
             IfErr result (λ error. Refuses (Next T.reads (left_in self.old))
             (inside S.view self.old) (as_core error)) }
-        ensures stops { IfErr result (λ error. Stops (StopsElement (said T.exact T.stops) (left_in self.old))
+        ensures stops { IfErr result (λ error. Stops
+            (StopsElement (said T.exact T.stops) (left_in self.old))
             (inside S.view self.old) (inside S.view self.new) (as_core error)) }
         ensures still { left_in self.old ≢ Open → IfOk result
             (λ part. part ≡ None → inside S.view self.new ≡ inside S.view self.old) }
@@ -366,7 +367,8 @@ impl<'a, S: Source> Accessor<'a, S> {
         ensures complete { IsTrue K.exact → IsExact K.owned (inside S.view self.old) →
             IfErr result (λ error. Refuses (Next K.reads (left_in self.old))
             (inside S.view self.old) (as_core error)) }
-        ensures stops { IfErr result (λ error. Stops (StopsElement (said K.exact K.stops) (left_in self.old))
+        ensures stops { IfErr result (λ error. Stops
+            (StopsElement (said K.exact K.stops) (left_in self.old))
             (inside S.view self.old) (inside S.view self.new) (as_core error)) }
         ensures still { left_in self.old ≢ Open → IfOk result
             (λ part. part ≡ None → inside S.view self.new ≡ inside S.view self.old) }
