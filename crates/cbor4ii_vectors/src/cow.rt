@@ -186,11 +186,20 @@ const REFUSED_TEXTS: &[(&[u8], &str, &[u8])] = &[
     ),
 ];
 
+// Over every reader, cut at each place and with each fault.
+fn texts_alike(
+    alloc: Global,
+    bytes: &'static [u8],
+    want: &Want<Lent<CowStr<'static, Global>>>,
+    rest: &[u8],
+) -> Result<(), Fail> {
+    reads_alike(alloc, bytes, want, rest)
+}
+
 #[test]
 fn refused_texts(rt: HostRuntime) -> Result<(), Fail> {
     for &(bytes, refusal, rest) in REFUSED_TEXTS {
-        let refused: Want<Lent<CowStr<'static, Global>>> = Err(refusal);
-        reads_alike(rt.alloc(), bytes, &refused, rest)?;
+        texts_alike(rt.alloc(), bytes, &Err(refusal), rest)?;
     }
     Ok(())
 }
@@ -228,13 +237,12 @@ fn refused(rt: HostRuntime) -> Result<(), Fail> {
     Ok(())
 }
 
-// Cut at each place, and with each fault: the same content, borrowed or owned.
+// The same content, borrowed or owned.
 #[test]
 fn texts_over_each_reader(rt: HostRuntime) -> Result<(), Fail> {
-    let alloc = rt.alloc();
     for bytes in [b"\x62aa".as_slice(), b"\x7f\x61a\x61a\xff"] {
-        let text: Want<Lent<CowStr<'static, Global>>> = Ok(Lent(CowStr::Borrowed("aa")));
-        reads_alike(alloc, bytes, &text, b"")?;
+        let text = Ok(Lent(CowStr::Borrowed("aa")));
+        texts_alike(rt.alloc(), bytes, &text, b"")?;
     }
     Ok(())
 }

@@ -1,17 +1,21 @@
 //! Rows of the next byte, which stays, and of whether another part of an array or a map follows.
-use cbor4ii_items::decode::Decode;
 use cbor4ii_items::indefinite::follows;
 use cbor4ii_items::initial::peek;
+use cbor4ii_rw::ask;
 use cbor4ii_rw::error::{DecodeError, Len};
 use cbor4ii_rw::io_reader::IoReader;
+use cbor4ii_rw::read::Source;
 use cbor4ii_rw::slice_reader::SliceReader;
-use std::test::Fail;
+
+// The next byte is this one, and stays.
+fn stays<S: Source>(reader: &mut S, byte: u8) -> bool {
+    matches!(peek(reader, "part"), Ok(found) if found == byte)
+}
 
 #[test]
-fn the_next_byte_stays(rt: HostRuntime) -> Result<(), Fail> {
+fn the_next_byte_stays(rt: HostRuntime) {
     let mut reader = SliceReader::new(b"\x05");
-    assert_eq!(rt; peek(&mut reader, "part")?, 5);
-    assert_eq!(rt; peek(&mut reader, "part")?, 5);
+    assert!(rt; stays(&mut reader, 5) && stays(&mut reader, 5));
     assert_eq!(rt; reader.remaining(), b"\x05".as_slice());
     let end = peek(&mut IoReader::new(b"".as_slice()), "part");
     assert!(rt;
@@ -23,32 +27,34 @@ fn the_next_byte_stays(rt: HostRuntime) -> Result<(), Fail> {
             })
         )
     );
-    Ok(())
+}
+
+// A part follows, or none does.
+fn says<S: Source>(reader: &mut S, len: &mut Option<usize>, more: bool) -> bool {
+    matches!(follows(reader, len), Ok(found) if found == more)
 }
 
 #[test]
-fn parts_are_counted_down(rt: HostRuntime) -> Result<(), Fail> {
+fn parts_are_counted_down(rt: HostRuntime) {
     let mut reader = SliceReader::new(b"\xff");
     let mut len = Some(2);
     for more in [true, true, false, false] {
-        assert_eq!(rt; follows(&mut reader, &mut len)?, more);
+        assert!(rt; says(&mut reader, &mut len, more));
     }
     assert_eq!(rt; reader.remaining(), b"\xff".as_slice());
-    Ok(())
 }
 
 #[test]
-fn a_break_ends_the_parts(rt: HostRuntime) -> Result<(), Fail> {
+fn a_break_ends_the_parts(rt: HostRuntime) {
     let mut reader = SliceReader::new(b"\x01\xff\xff");
     let mut len = None;
-    assert!(rt; follows(&mut reader, &mut len)?);
+    assert!(rt; says(&mut reader, &mut len, true));
     assert_eq!(rt; len, None);
-    assert_eq!(rt; u8::decode(rt.alloc(), &mut reader)?, 1);
-    assert!(rt; !follows(&mut reader, &mut len)?);
+    assert!(rt; matches!(ask::next_byte(&mut reader), Ok(Some(1))));
+    assert!(rt; says(&mut reader, &mut len, false));
     assert_eq!(rt; len, Some(0));
-    assert!(rt; !follows(&mut reader, &mut len)?);
+    assert!(rt; says(&mut reader, &mut len, false));
     assert_eq!(rt; reader.remaining(), b"\xff".as_slice());
-    Ok(())
 }
 
 // Where no byte is left a break or a part is missing, and the length stays indefinite.

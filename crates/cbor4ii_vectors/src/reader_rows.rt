@@ -11,20 +11,14 @@ use std::io::{BufReader, ErrorKind};
 use std::process::Abort;
 use std::test::Fail;
 
-// What a reader gave: its bytes, and whether each front was `Long`.
-#[derive(Drop)]
-struct Drained {
-    bytes: Vec<u8>,
-    long: bool,
-}
-
-// Takes all that is left, `want` bytes at a time, in at most 20 fills.
-fn drain<'de, R: Read<'de>>(
+// The reader gives "abcde", `want` bytes at a time, in at most 20 fills, and nothing behind it;
+// whether every front was `Long`.
+fn gives<'de, R: Read<'de>>(
     rt: &impl Abort,
     alloc: Global,
     reader: &mut R,
     want: usize,
-) -> Result<Drained, Fail> {
+) -> Result<bool, Fail> {
     let mut bytes = Vec::new(alloc);
     let mut long = true;
     for _ in 0..20 {
@@ -45,64 +39,68 @@ fn drain<'de, R: Read<'de>>(
         };
         reader.advance(n);
     }
-    Ok(Drained { bytes, long })
+    assert_eq!(rt; bytes.as_slice(), b"abcde".as_slice());
+    Ok(long)
 }
 
 #[test]
 fn every_reader_gives_its_bytes(rt: HostRuntime) -> Result<(), Fail> {
     let alloc = rt.alloc();
-    let drained = drain(&rt, alloc, &mut SliceReader::new(b"abcde"), 2)?;
-    assert_eq!(rt; drained.bytes.as_slice(), b"abcde".as_slice());
-    assert!(rt; drained.long);
-
+    let mut slice = SliceReader::new(b"abcde");
+    assert!(rt; gives(&rt, alloc, &mut slice, 2)?);
     let parts: [&[u8]; 5] = [b"", b"ab", b"", b"cde", b""];
-    let drained = drain(&rt, alloc, &mut SegmentReader::new(&parts), 2)?;
-    assert_eq!(rt; drained.bytes.as_slice(), b"abcde".as_slice());
-    assert!(rt; drained.long);
-
-    let mut reader = IoReader::new(b"abcde".as_slice());
-    let drained = drain(&rt, alloc, &mut reader, 2)?;
-    assert_eq!(rt; drained.bytes.as_slice(), b"abcde".as_slice());
-    assert!(rt; !drained.long);
-    assert_eq!(rt; reader.taken(), 5);
-
-    let mut reader = SliceReader::new(b"abcde");
-    let drained = drain(&rt, alloc, &mut &mut reader, 3)?;
-    assert_eq!(rt; drained.bytes.as_slice(), b"abcde".as_slice());
-    assert!(rt; reader.remaining().is_empty());
+    let mut segments = SegmentReader::new(&parts);
+    assert!(rt; gives(&rt, alloc, &mut segments, 2)?);
+    let mut behind = SliceReader::new(b"abcde");
+    assert!(rt; gives(&rt, alloc, &mut &mut behind, 3)?);
+    assert!(rt; behind.remaining().is_empty());
     Ok(())
 }
 
 #[test]
-fn bytes_are_taken_one_by_one(rt: HostRuntime) -> Result<(), Fail> {
+fn a_stream_gives_its_bytes(rt: HostRuntime) -> Result<(), Fail> {
+    let mut stream = IoReader::new(b"abcde".as_slice());
+    assert!(rt; !gives(&rt, rt.alloc(), &mut stream, 2)?);
+    assert_eq!(rt; stream.taken(), 5);
+    Ok(())
+}
+
+// The next byte is this one, and is taken.
+fn takes<S: Source>(reader: &mut S, want: Option<u8>) -> bool {
+    matches!(ask::next_byte(reader), Ok(byte) if byte == want)
+}
+
+#[test]
+fn bytes_are_taken_one_by_one(rt: HostRuntime) {
     let parts: [&[u8]; 2] = [b"a", b"b"];
     let mut slice = SliceReader::new(b"ab");
     let mut segments = SegmentReader::new(&parts);
     let mut stream = IoReader::new(b"ab".as_slice());
     for want in [Some(b'a'), Some(b'b'), None, None] {
-        assert_eq!(rt; ask::next_byte(&mut slice)?, want);
-        assert_eq!(rt; ask::next_byte(&mut segments)?, want);
-        assert_eq!(rt; ask::next_byte(&mut stream)?, want);
+        assert!(rt; takes(&mut slice, want));
+        assert!(rt; takes(&mut segments, want));
+        assert!(rt; takes(&mut stream, want));
     }
-    Ok(())
 }
 
-// What `show` shows, through a function that is generic over the reader.
-fn shown_by<S: Source>(
-    rt: &impl Abort,
-    alloc: Global,
-    reader: &mut S,
-    want: usize,
-) -> Result<Vec<u8>, Fail> {
+// These bytes are shown where so many are wanted; so many of them are taken.
+fn shows<S: Source>(reader: &mut S, want: usize, bytes: &[u8], taken: usize) -> bool {
     let mut failure = None;
-    let front = look(reader, want, &mut failure);
-    assert!(rt; front.is_some());
-    Ok(front.unwrap_or(&[]).to_vec(alloc)?)
+    let shown = match look(reader, want, &mut failure) {
+        Some(shown) => {
+            if shown != bytes {
+                return false;
+            }
+            shown.len()
+        }
+        None => return false,
+    };
+    reader.advance(taken.min(shown));
+    true
 }
 
 #[test]
-fn as_much_is_shown_as_each_reader_says(rt: HostRuntime) -> Result<(), Fail> {
-    let alloc = rt.alloc();
+fn as_much_is_shown_as_each_reader_says(rt: HostRuntime) {
     let parts: [&[u8]; 3] = [b"", b"ab", b"c"];
     let mut slice = SliceReader::new(b"abc");
     let mut segments = SegmentReader::new(&parts);
@@ -112,64 +110,54 @@ fn as_much_is_shown_as_each_reader_says(rt: HostRuntime) -> Result<(), Fail> {
         (1, b"a".as_slice(), b"a".as_slice()),
         (9, b"abc".as_slice(), b"ab".as_slice()),
     ] {
-        assert_eq!(rt;
-            shown_by(&rt, alloc, &mut slice, want)?.as_slice(),
-            by_slice
-        );
-        assert_eq!(rt;
-            shown_by(&rt, alloc, &mut segments, want)?.as_slice(),
-            by_segment
-        );
-        assert_eq!(rt;
-            shown_by(&rt, alloc, &mut stream, want)?.as_slice(),
-            b"abc".as_slice()
-        );
-        assert_eq!(rt;
-            shown_by(&rt, alloc, &mut &mut slice, want)?.as_slice(),
-            by_slice
-        );
+        assert!(rt; shows(&mut slice, want, by_slice, 0));
+        assert!(rt; shows(&mut segments, want, by_segment, 0));
+        assert!(rt; shows(&mut stream, want, b"abc", 0));
+        assert!(rt; shows(&mut &mut slice, want, by_slice, 0));
     }
-    Ok(())
 }
 
 #[test]
-fn a_stream_keeps_what_was_not_taken(rt: HostRuntime) -> Result<(), Fail> {
+fn a_stream_keeps_what_was_not_taken(rt: HostRuntime) {
     let mut reader = IoReader::new(b"abcde".as_slice());
-    assert_eq!(rt; reader.show(1)?, b"abcde".as_slice());
-    reader.advance(2);
+    assert!(rt; shows(&mut reader, 1, b"abcde", 2));
     assert_eq!(rt; reader.taken(), 2);
-    let mut stream = reader.into_inner();
-    assert_eq!(rt; stream, b"cde".as_slice());
+    assert_eq!(rt; reader.into_inner(), b"cde".as_slice());
+}
+
+// A stream behind a reference has lost what was taken once the reader is gone.
+#[test]
+fn a_dropped_reader_keeps_what_was_not_taken(rt: HostRuntime) {
+    let mut stream = b"cde".as_slice();
     {
         let mut reader = IoReader::new(&mut stream);
-        assert_eq!(rt; reader.show(1)?, b"cde".as_slice());
-        reader.advance(1);
+        assert!(rt; shows(&mut reader, 1, b"cde", 1));
     }
     assert_eq!(rt; stream, b"de".as_slice());
-    Ok(())
 }
 
-// Two bytes are shown, one is taken, and the next look fails: the stream has lost that one byte,
-// and a retry goes on behind it.
+// Two bytes are shown, one is taken, and the next look fails: the stream has lost that one byte.
 #[test]
-fn a_stream_that_fails_loses_no_byte(rt: HostRuntime) -> Result<(), Fail> {
+fn a_stream_that_fails_loses_no_byte(rt: HostRuntime) {
     let mut reader = IoReader::new(FailingStream::new(b"abc", 2, 1));
-    assert_eq!(rt; reader.show(1)?, b"ab".as_slice());
-    reader.advance(1);
+    assert!(rt; shows(&mut reader, 1, b"ab", 1));
     let mut failure = None;
     assert!(rt; look(&mut reader, 1, &mut failure).is_none());
     assert!(rt; matches!(&failure, Some(error) if error.kind() == ErrorKind::Other));
     assert_eq!(rt; reader.taken(), 1);
     assert_eq!(rt; reader.into_inner().remaining(), b"bc".as_slice());
+}
 
+// Another look goes on behind the byte that was taken.
+#[test]
+fn a_stream_goes_on_behind_a_failure(rt: HostRuntime) {
     let mut reader = IoReader::new(FailingStream::new(b"abc", 2, 1));
-    assert_eq!(rt; ask::next_byte(&mut reader)?, Some(b'a'));
+    assert!(rt; takes(&mut reader, Some(b'a')));
     assert!(rt; ask::next_byte(&mut reader).is_err());
-    assert_eq!(rt; ask::next_byte(&mut reader)?, Some(b'b'));
-    assert_eq!(rt; ask::next_byte(&mut reader)?, Some(b'c'));
-    assert_eq!(rt; ask::next_byte(&mut reader)?, None);
+    for want in [Some(b'b'), Some(b'c'), None] {
+        assert!(rt; takes(&mut reader, want));
+    }
     assert_eq!(rt; reader.taken(), 3);
-    Ok(())
 }
 
 // A stream behind a buffer of std, whatever its capacity.
@@ -195,23 +183,25 @@ fn a_failure_behind_a_reference(rt: HostRuntime) {
     assert!(rt; lend(&mut &mut reader, 1, &mut failure).is_some());
 }
 
+// As many steps may be taken, and as many again once they are given back.
+fn counts<S: Source>(reader: &mut S, want: u16) -> bool {
+    steps(reader) == want && steps(reader) == want
+}
+
 #[test]
 fn steps_are_counted(rt: HostRuntime) {
     let mut slice = SliceReader::new(b"");
-    let mut limited = SliceReader::with_limit(b"", 1);
-    let mut segments = SegmentReader::new(&[]);
-    let mut few = SegmentReader::with_limit(&[], 2);
-    let mut stream = IoReader::new(b"".as_slice());
-    let mut spent = IoReader::with_limit(b"".as_slice(), 0);
-    for _ in 0..2 {
-        assert_eq!(rt; steps(&mut slice), 256);
-        assert_eq!(rt; steps(&mut &mut slice), 256);
-        assert_eq!(rt; steps(&mut limited), 1);
-        assert_eq!(rt; steps(&mut segments), 256);
-        assert_eq!(rt; steps(&mut few), 2);
-        assert_eq!(rt; steps(&mut stream), 256);
-        assert_eq!(rt; steps(&mut spent), 0);
-    }
+    assert!(rt; counts(&mut slice, 256));
+    assert!(rt; counts(&mut &mut slice, 256));
+    assert!(rt; counts(&mut SliceReader::with_limit(b"", 1), 1));
+    assert!(rt; counts(&mut SegmentReader::new(&[]), 256));
+    assert!(rt; counts(&mut SegmentReader::with_limit(&[], 2), 2));
+    assert!(rt; counts(&mut IoReader::new(b"".as_slice()), 256));
+    assert!(rt; counts(&mut IoReader::with_limit(b"".as_slice(), 0), 0));
+}
+
+#[test]
+fn a_full_budget_stays_full(rt: HostRuntime) {
     let mut full = SliceReader::with_limit(b"", usize::MAX);
     full.step_out();
     assert!(rt; full.step_in());

@@ -7,21 +7,24 @@ use std::io::ErrorKind;
 use std::test::Fail;
 
 #[test]
-fn writers_append(rt: HostRuntime) -> Result<(), Fail> {
-    let alloc = rt.alloc();
-    let mut writer = BufWriter::new(vec![in alloc; 9]?);
+fn a_buffer_appends(rt: HostRuntime) -> Result<(), Fail> {
+    let mut writer = BufWriter::new(vec![in rt.alloc(); 9]?);
     writer.push(b"ab")?;
     Write::push(&mut &mut writer, b"")?;
     assert_eq!(rt; writer.buffer(), b"\tab".as_slice());
     writer.clear();
     writer.push(b"c")?;
     assert_eq!(rt; writer.into_inner().as_slice(), b"c".as_slice());
+    assert!(rt; BufWriter::is_whole());
+    Ok(())
+}
 
-    let mut writer = IoWriter::new(Vec::new(alloc));
+#[test]
+fn a_stream_is_appended_to(rt: HostRuntime) -> Result<(), Fail> {
+    let mut writer = IoWriter::new(Vec::new(rt.alloc()));
     writer.push(b"ab")?;
     writer.push(b"c")?;
     assert_eq!(rt; writer.into_inner().as_slice(), b"abc".as_slice());
-    assert!(rt; BufWriter::is_whole());
     assert!(rt; !IoWriter::<Vec<u8>>::is_whole());
     Ok(())
 }
