@@ -1,5 +1,5 @@
 //! Values that are spelled in one way, read.
-ghost use Rattle.std.specs.Prelude.{◌≡◌, ◌≢◌, ◌+◌, ◌*◌, ◌≤◌, OnOk, IfOk, IfErr, true};
+ghost use Rattle.std.specs.Prelude.{◌≡◌, ◌≢◌, ◌+◌, ◌*◌, ◌≤◌, ◌/◌, OnOk, IfOk, IfErr, true};
 ghost use Rattle.cbor4ii_items.specs.Decoding.{Sound, Refuses, Stops};
 ghost use Rattle.cbor4ii_items.specs.Moves.{Moves};
 ghost use Rattle.cbor4ii_tree.specs.Canonically.{
@@ -149,13 +149,6 @@ fn read_inside<S: Source>(alloc: Global, reader: &mut S) -> Result<Value, Decode
         return Err(DecodeError::NotCanonical { name: "canonical" });
     }
     match first / 32 {
-        0 => Ok(Value::Integer(canonical_head("u64", 0, reader)? as i128)),
-        1 => {
-            let number = canonical_head("-u64", 1, reader)?;
-            Ok(Value::Integer(-1 - number as i128))
-        }
-        2 => Ok(Value::Bytes(canonical_buf(alloc, "bytes", 2, reader)?)),
-        3 => Ok(Value::Text(read_text(alloc, reader)?)),
         4 => Ok(Value::Array(read_array(alloc, reader)?)),
         5 => Ok(Value::Map(read_map(alloc, reader)?)),
         6 => {
@@ -166,13 +159,37 @@ fn read_inside<S: Source>(alloc: Global, reader: &mut S) -> Result<Value, Decode
                 Err(_) => Err(DecodeError::OutOfMemory),
             }
         }
-        _ => match simple_of(first) {
+        7 => match simple_of(first) {
             Some(value) => {
                 reader.advance(1);
                 Ok(value)
             }
             None => read_float(alloc, reader, first),
         },
+        _ => read_leaf(alloc, reader, first),
+    }
+}
+
+/// Reads an integer or a string, whose first byte is shown.
+#[inline(always)]
+fn read_leaf<S: Source>(
+    alloc: Global,
+    reader: &mut S,
+    first: u8,
+) -> Result<Value, DecodeError<S::Error>>
+    requires major { first / 32 ≤ 3 }
+    ensures does { DoesUnder ReadsBehind (LacksFirst first)
+        (S.view reader.old) (S.view reader.new) result }
+    ensures progress { OnOk result ((S.view reader.new).bound + 1 ≤ (S.view reader.old).bound) }
+{
+    match first / 32 {
+        0 => Ok(Value::Integer(canonical_head("u64", 0, reader)? as i128)),
+        1 => {
+            let number = canonical_head("-u64", 1, reader)?;
+            Ok(Value::Integer(-1 - number as i128))
+        }
+        2 => Ok(Value::Bytes(canonical_buf(alloc, "bytes", 2, reader)?)),
+        _ => Ok(Value::Text(read_text(alloc, reader)?)),
     }
 }
 

@@ -1,5 +1,5 @@
 //! Values, read.
-ghost use Rattle.std.specs.Prelude.{◌≡◌, ◌+◌, ◌≤◌, [], ◌∷◌, ◌++◌, OnOk, IfOk, IfErr, true};
+ghost use Rattle.std.specs.Prelude.{◌≡◌, ◌+◌, ◌≤◌, ◌/◌, [], ◌∷◌, ◌++◌, OnOk, IfOk, IfErr, true};
 ghost use Rattle.cbor4ii_rw.specs.declared.error.DecodeError.TheVariants.{OutOfMemory};
 ghost use Rattle.cbor4ii_tree.specs.Does.{DoesUnder};
 ghost use Rattle.cbor4ii_tree.specs.Valuing.{
@@ -170,13 +170,6 @@ fn read_inside<S: Source>(alloc: Global, reader: &mut S) -> Result<Value, Decode
 {
     let first = peek(&mut Own, reader, "value", 1)?;
     match first / 32 {
-        0 => Ok(Value::Integer(u64::decode(alloc, reader)? as i128)),
-        1 => {
-            let number = Negative::<u64>::decode(alloc, reader)?;
-            Ok(Value::Integer(-1 - number.0 as i128))
-        }
-        2 => Ok(Value::Bytes(Bytes::<Vec<u8>>::decode(alloc, reader)?.0)),
-        3 => Ok(Value::Text(String::decode(alloc, reader)?)),
         4 => Ok(Value::Array(read_array(alloc, reader)?)),
         5 => Ok(Value::Map(read_map(alloc, reader)?)),
         6 => {
@@ -187,13 +180,38 @@ fn read_inside<S: Source>(alloc: Global, reader: &mut S) -> Result<Value, Decode
                 Err(_) => Err(DecodeError::OutOfMemory),
             }
         }
-        _ => match simple_of(first) {
+        7 => match simple_of(first) {
             Some(value) => {
                 reader.advance(1);
                 Ok(value)
             }
             None => read_float(alloc, reader, first),
         },
+        _ => read_leaf(alloc, reader, first),
+    }
+}
+
+/// Reads an integer or a string, whose first byte is shown.
+#[inline(always)]
+fn read_leaf<S: Source>(
+    alloc: Global,
+    reader: &mut S,
+    first: u8,
+) -> Result<Value, DecodeError<S::Error>>
+    requires major { first / 32 ≤ 3 }
+    ensures does { DoesUnder ReadsUnder (StopsFirst first)
+        (S.view reader.old) (S.view reader.new) result }
+    ensures item { IfOk result (λ v. IsItem (view v)) }
+    ensures progress { OnOk result ((S.view reader.new).bound + 1 ≤ (S.view reader.old).bound) }
+{
+    match first / 32 {
+        0 => Ok(Value::Integer(u64::decode(alloc, reader)? as i128)),
+        1 => {
+            let number = Negative::<u64>::decode(alloc, reader)?;
+            Ok(Value::Integer(-1 - number.0 as i128))
+        }
+        2 => Ok(Value::Bytes(Bytes::<Vec<u8>>::decode(alloc, reader)?.0)),
+        _ => Ok(Value::Text(String::decode(alloc, reader)?)),
     }
 }
 

@@ -180,9 +180,9 @@ module _ (b : ℕ) {E : Type 0} {a m : View} (first : Runs {E = E} (peek_at valu
       (lacks_arm k a.budget b p.0 is z rest (subst (λ o. Lacks (Arm k) o (b ∷ p.0) z rest) first.moves.by.budget (subst (λ x. Lacks (Arm k) m.budget x z rest) (p.2 ∙ p.1) h))))
       (reached_peek value_name 1 b first) d
 
-  -- a float, or no value
-  pub exact_float : {r : Result Value (DecodeError E)} {c : View} → Does (ReadsBehind m.budget) (LacksFirst b m.budget) m c r → Does (ReadsBehind a.budget) (Lacks BeginsBehind a.budget) a c r
-  exact_float d = does_after (Peeked b) (ReadsBehind m.budget) (ReadsBehind a.budget) (LacksFirst b m.budget) (Lacks BeginsBehind a.budget)
+  -- what a first byte tells
+  pub exact_first : {r : Result Value (DecodeError E)} {c : View} → Does (ReadsBehind m.budget) (LacksFirst b m.budget) m c r → Does (ReadsBehind a.budget) (Lacks BeginsBehind a.budget) a c r
+  exact_first d = does_after (Peeked b) (ReadsBehind m.budget) (ReadsBehind a.budget) (LacksFirst b m.budget) (Lacks BeginsBehind a.budget)
       (λ xs ys zs v p h. subst (λ o. ReadsBehind o xs v zs) first.moves.by.budget (subst (λ x. ReadsBehind m.budget x v zs) p.2 h))
       (λ xs ys z rest p h. subst (λ o. Lacks BeginsBehind o xs z rest) first.moves.by.budget (subst (λ x. Lacks BeginsBehind m.budget x z rest) p.2 (h p.0 (p.2 ∙ p.1))))
       (reached_peek value_name 1 b first) d
@@ -209,6 +209,17 @@ module _ (b : ℕ) {E : Type 0} {a m : View} (first : Runs {E = E} (peek_at valu
       let s = subst (λ o. Lacks BeginsOne o ys z rest) q.kept.budget s0 in
       let t : Lacks BeginsTag a.budget xs z rest = lacks_behind BeginsOne BeginsTag a.budget xs ys (λ o more c. (let k = behind_head 6 n xs ys more c.0 c.1 (omega arith) h.1 c.2 in subst (BeginsOne o) (sym k.1) c.3)) z rest s in
       subst (λ x. Lacks BeginsBehind a.budget x z rest) (sym h.0.1) (lacks_arm 6 a.budget b h.0.0 is z rest (subst (λ x. Lacks BeginsTag a.budget x z rest) h.0.1 t))) q d
+
+-- ---- what a first byte tells
+
+pub leaf_exact : {E : Type 0} (b : ℕ) (P : List ℕ → List ℕ → Type 0) (w : Value) {a c : View} → ((xs ys : List ℕ) → P xs ys → ReadsBehind a.budget xs w ys) → Reached P a c → Does {E = E} (ReadsBehind a.budget) (LacksFirst b a.budget) a c (Ok w)
+leaf_exact b P w {a = a} f p = does_ok (ReadsBehind a.budget) (LacksFirst b a.budget) (reached_as P (λ xs ys. ReadsBehind a.budget xs w ys) f p)
+
+pub leaf_lacks : {V E : Type 0} (b k : ℕ) (A : Accepting V) {e : DecodeError E} {a c : View} → b / 32 ≡ k → Does {V = V} A (Lacks (Arm k) a.budget) a c (Err e) → Does {V = Value} (ReadsBehind a.budget) (LacksFirst b a.budget) a c (Err e)
+leaf_lacks b k A {a = a} is d =
+    does_err (λ xs ys. ys ≡ xs) A (ReadsBehind a.budget) (Lacks (Arm k) a.budget) (LacksFirst b a.budget)
+    (λ xs ys z rest p h bs f. subst (λ x. Lacks BeginsBehind a.budget x z rest) (sym f) (lacks_arm k a.budget b bs is z rest (subst (λ x. Lacks (Arm k) a.budget x z rest) (p ∙ f) h)))
+    (reached_start (λ xs ys. ys ≡ xs) a (λ xs. refl)) d
 
 -- ---- values that are a head, a string, or a simple value
 

@@ -7,10 +7,7 @@ use Rattle.cbor4ii_items.specs.Refusal.{Refusal}
 use Rattle.cbor4ii_items.specs.Head.{Width, in_first, one, two, four, eight, byte_count, additional, HeadFits, head, open_head}
 use Rattle.cbor4ii_items.specs.Heads.{StopsHead, Begins}
 use Rattle.cbor4ii_items.specs.Laws.Heads.{after_head}
-use Rattle.cbor4ii_items.specs.Numbers.{ReadsUnsigned, StopsUnsigned}
-use Rattle.cbor4ii_items.specs.Moves.{Moves}
-use Rattle.cbor4ii_items.specs.Decoding.{Sound, Stops}
-use Rattle.cbor4ii_items.specs.Reading.{Runs, peek_at}
+use Rattle.cbor4ii_items.specs.Numbers.{ReadsUnsigned}
 use Rattle.std.specs.Prelude.{pos, ◌^◌}
 use Rattle.std.proofs.lemmas.Int.{to_z-of_z}
 use mir.Val.{to_z}
@@ -36,7 +33,7 @@ use Rattle.cbor4ii_tree.specs.StopsReading.{Readable, ReadingStopsFrom, ReadingS
 use Rattle.cbor4ii_tree.specs.View.{view, items_view}
 use Rattle.cbor4ii_tree.specs.Does.{Accepting, Does}
 use Rattle.cbor4ii_tree.specs.Valuing.{ReadsOne, StopsOne, ReadsUnder, StopsUnder, ReadsItems, StopsItems}
-use Rattle.cbor4ii_tree.proofs.skip_calls.Doing.{Reached, reached_by, reached_then, does_ok, does_err, does_stepped, does_stops, reached_peek, reached_sound, steps_in}
+use Rattle.cbor4ii_tree.proofs.skip_calls.Doing.{Reached, reached_by, reached_then, does_err, does_stepped, steps_in}
 use Rattle.cbor4ii_tree.proofs.answers.Nesting.{reading_by_parts}
 use Rattle.cbor4ii_tree.proofs.parts.Pushed.{push, count-push, each-push, bytes-push}
 
@@ -151,13 +148,6 @@ int_stops inner s b bs e rest m h =
 abbrev pub Peeked : ℕ → List ℕ → List ℕ → Type 0
 Peeked b xs ys = (bs : List ℕ) × (xs ≡ b ∷ bs) × (ys ≡ xs)
 
-pub unsigned_stops : {U E : Type 0} (b : ℕ) {a m c : View} {e : DecodeError E} (A : Accepting U) → Runs {E = E} (peek_at value_name 1) a m (Ok b) → b / 32 ≡ 0 → Moves {V = U} m c (Err e) → Stops (StopsUnsigned (sign_name unsigned) 8) m c e
-    → Does {V = Value} (ReadsUnder a.budget) (StopsUnder a.budget) a c (Err e)
-unsigned_stops b {a = a} {m = m} A first major moves s =
-    does_err (Peeked b) A (ReadsUnder a.budget) (λ xs. StopsUnsigned (sign_name unsigned) 8 xs m.budget) (StopsUnder a.budget)
-    (λ xs ys z rest p h. subst (λ x. StopsUnder a.budget x z rest) (sym p.1) (int_stops a.budget unsigned b p.0 z rest major (subst (λ x. StopsHead (sign_name unsigned) 0 8 x z rest) (p.2 ∙ p.1) h)))
-    (reached_peek value_name 1 b first) (does_stops A (StopsUnsigned (sign_name unsigned) 8) moves s)
-
 pub small_z : (v : ℕ) → v < 2 ^ 127 → to_z w128 v ≡ pos v
 small_z v h = to_z-of_z w128 (pos v) (record { sfits = h })
 
@@ -171,13 +161,6 @@ fits_less two v h = omega arith
 fits_less four v h = omega arith
 fits_less eight v h = omega arith
 
-unsigned_reads : (inner : Budget) (v n c : ℕ) (xs : List ℕ) → ReadsUnsigned 8 xs v n c → ReadsUnder inner xs (Integer (to_z w128 v)) (drop n xs)
+pub unsigned_reads : (inner : Budget) (v n c : ℕ) (xs : List ℕ) → ReadsUnsigned 8 xs v n c → ReadsUnder inner xs (Integer (to_z w128 v)) (drop n xs)
 unsigned_reads inner v n c xs r budget step =
     (int unsigned v r.0.wide, ((r.0.fits, tt), step_up budget inner 0 step (fits_zero inner)), ap integer (sym (small_z v (fits_less r.0.wide v r.0.fits))) ∙ sym (view-Integer (to_z w128 v)), r.0.is ∙ ap (λ z. head 0 v r.0.wide ++ z) (sym (after_head 0 8 xs v n r.0)))
-
-pub unsigned_read : {E : Type 0} (b : ℕ) {a m c : View} {v : ℕ} → Runs {E = E} (peek_at value_name 1) a m (Ok b) → Moves {E = E} m c (Ok v) → Sound (ReadsUnsigned 8) m c v → Does {E = E} (ReadsUnder a.budget) (StopsUnder a.budget) a c (Ok (Integer (to_z w128 v)))
-unsigned_read b {a = a} {v = v} first moves s =
-    does_ok (ReadsUnder a.budget) (StopsUnder a.budget)
-    (reached_then (Peeked b) (λ xs ys. ReadsUnder a.budget xs (Integer (to_z w128 v)) ys) (λ xs ys. ReadsUnder a.budget xs (Integer (to_z w128 v)) ys)
-    (λ xs ys zs p h. subst (λ x. ReadsUnder a.budget x (Integer (to_z w128 v)) zs) p.2 h) (reached_peek value_name 1 b first)
-    (reached_sound (ReadsUnsigned 8) (λ xs ys. ReadsUnder a.budget xs (Integer (to_z w128 v)) ys) (λ xs n c _ r. unsigned_reads a.budget v n c xs r) moves s))

@@ -1,5 +1,5 @@
 -- The parts of a value that are heads alone, and tags.
-use Rattle.std.proofs.Common.{◌≡◌, ◌≢◌, ℕ, zero, suc, ◌+◌, ◌*◌, ◌/◌, ◌%◌, ◌<◌, ◌≤◌, ◌^◌, List, [], ◌∷◌, ◌++◌, length, drop, take, Option, Some, None, Result, Ok, Err, Bool, true, false, refl, sym, ap, ap₂, ◌∙◌, subst, arith, append_assoc, inl, inr, rules, ℤ, pos, negsuc, ◌-ℤ◌, eqb, ne_eqb}
+use Rattle.std.proofs.Common.{◌≡◌, ◌≢◌, ℕ, zero, suc, ◌+◌, ◌*◌, ◌/◌, ◌%◌, ◌<◌, ◌≤◌, ◌^◌, List, [], ◌∷◌, ◌++◌, length, drop, take, Option, Some, Result, Ok, Err, false, refl, sym, ap, ◌∙◌, subst, arith, append_assoc, inl, inr, rules, pos, negsuc, ◌-ℤ◌, ne_eqb}
 use Rattle.std.proofs.Math.Seq.{drop-append_seam}
 use Rattle.std.specs.Int.{bytes_high_first}
 use Rattle.std.proofs.lemmas.Int.{to_z-of_z}
@@ -33,7 +33,7 @@ use Rattle.cbor4ii_tree.specs.Stops.{Stopping}
 use Rattle.cbor4ii_tree.specs.StopsReading.{ReadingStopsBy, StopsReading}
 use Rattle.cbor4ii_tree.specs.View.{view}
 use Rattle.cbor4ii_tree.specs.Does.{Accepting, Does}
-use Rattle.cbor4ii_tree.specs.Valuing.{ReadsOne, StopsOne, ReadsUnder, StopsUnder, SimpleOf}
+use Rattle.cbor4ii_tree.specs.Valuing.{ReadsOne, StopsOne, ReadsUnder, StopsUnder, StopsFirst, SimpleOf}
 use Rattle.cbor4ii_tree.proofs.skip_calls.Doing.{Reached, reached_start, reached_by, reached_then, reached_as, does_ok, does_err, does_after, does_refuse, does_stops, reached_peek, reached_first, reached_sound}
 use Rattle.cbor4ii_tree.proofs.values.Calls.{Peeked, head_cut, no_head, initial_of, small_z, view-Integer, fits_less}
 
@@ -57,14 +57,7 @@ module _ (b : ℕ) {E : Type 0} {a m : View} (first : Runs {E = E} (peek_at valu
       (λ xs ys zs v p h. subst (λ x. ReadsUnder a.budget x v zs) (sym p.1) (f p.0 zs v (subst (λ x. A x v zs) (p.2 ∙ p.1) h)))
       (λ xs ys z rest p h. subst (λ x. StopsUnder a.budget x z rest) (sym p.1) (g p.0 z rest (subst (λ x. S x z rest) (p.2 ∙ p.1) h))) (reached_peek value_name 1 b first) d
 
-  -- a decoding call of the crate below
-  pub call_ok : {V : Type 0} (R : List ℕ → V → ℕ → ℕ → Type 0) {v : V} {c : View} (w : Value) → ((xs : List ℕ) (n k : ℕ) → CostFits k a.budget → R xs v n k → ReadsUnder a.budget xs w (drop n xs)) → Moves {E = E} m c (Ok v) → Sound R m c v → Does {E = E} (ReadsUnder a.budget) (StopsUnder a.budget) a c (Ok w)
-  call_ok R w f moves s =
-      let p = reached_peek value_name 1 b first in
-      does_ok (ReadsUnder a.budget) (StopsUnder a.budget)
-      (reached_then (Peeked b) (λ xs ys. ReadsUnder a.budget xs w ys) (λ xs ys. ReadsUnder a.budget xs w ys) (λ xs ys zs q h. subst (λ x. ReadsUnder a.budget x w zs) q.2 h) p
-      (reached_sound R (λ xs ys. ReadsUnder a.budget xs w ys) (λ xs n k fits r. f xs n k (subst (CostFits k) p.kept.budget fits) r) moves s))
-
+  -- a decoding call of the crate below that is refused
   pub call_err : {V : Type 0} (S : List ℕ → Option ℕ → Refusal → List ℕ → Type 0) {e : DecodeError E} {c : View} → ((bs : List ℕ) (z : Refusal) (rest : List ℕ) → S (b ∷ bs) a.budget z rest → StopsUnder a.budget (b ∷ bs) z rest) → Moves {V = V} m c (Err e) → Stops S m c e
       → Does {V = Value} (ReadsUnder a.budget) (StopsUnder a.budget) a c (Err e)
   call_err {V = V} S f moves s =
@@ -91,6 +84,17 @@ simple_read b {a = a} {v = v} first small adv s = does_ok (ReadsUnder a.budget) 
     (reached_as (λ xs ys. xs ≡ b ∷ ys) (λ xs ys. ReadsUnder a.budget xs v ys)
     (λ xs ys e budget step. (simple s.0, ((tt, tt), step_up budget a.budget 0 step (fits_zero a.budget)), s.2, e ∙ ap (λ j. j ∷ ys) s.1)) (reached_first value_name 1 b first small adv))
 
+-- ---- what a first byte tells
+
+pub leaf_read : {V E : Type 0} (R : List ℕ → V → ℕ → ℕ → Type 0) {v : V} (w : Value) {S : Stopping} {a c : View} → ((xs : List ℕ) (n k : ℕ) → CostFits k a.budget → R xs v n k → ReadsUnder a.budget xs w (drop n xs)) → Moves {E = E} a c (Ok v) → Sound R a c v → Does {E = E} (ReadsUnder a.budget) S a c (Ok w)
+leaf_read R w {S = S} {a = a} f moves s = does_ok (ReadsUnder a.budget) S (reached_sound R (λ xs ys. ReadsUnder a.budget xs w ys) f moves s)
+
+pub leaf_refused : {V E : Type 0} (first : ℕ) (S : List ℕ → Option ℕ → Refusal → List ℕ → Type 0) {a c : View} {e : DecodeError E} → ((bs : List ℕ) (z : Refusal) (rest : List ℕ) → S (first ∷ bs) a.budget z rest → StopsUnder a.budget (first ∷ bs) z rest) → Moves {V = V} a c (Err e) → Stops S a c e → Does {V = Value} (ReadsUnder a.budget) (StopsFirst first a.budget) a c (Err e)
+leaf_refused {V = V} first S {a = a} f moves s =
+    does_err (λ xs ys. xs ≡ ys) (λ xs (v : V) ys. Unit {0}) (ReadsUnder a.budget) (λ xs. S xs a.budget) (StopsFirst first a.budget)
+    (λ xs ys z rest e h bs is. subst (λ x. StopsUnder a.budget x z rest) (sym is) (f bs z rest (subst (λ x. S x a.budget z rest) (sym e ∙ is) h)))
+    (reached_start (λ xs ys. xs ≡ ys) a (λ xs. refl)) (does_stops (λ xs (v : V) ys. Unit {0}) S moves s)
+
 -- ---- floats
 
 pub view-F16 : (n : ℕ) → float half n ≡ view (Float (F16 n))
@@ -104,11 +108,11 @@ view-F64 n = search (rules, the_lemmas)
 
 pub float_read : {E : Type 0} (p : Precision) {V : Type 0} (content : V → ℕ) {v : V} (f : FloatBits) {S : Stopping} {a c : View} → float p (content v) ≡ view (Float f) → Moves {E = E} a c (Ok v) → Sound (λ xs v. ReadsFloat (precision_byte p) (precision_bytes p) xs (content v)) a c v
     → Does {E = E} (ReadsUnder a.budget) S a c (Ok (Float f))
-float_read p content {v = v} f {S = S} {a = a} is moves s = does_ok (ReadsUnder a.budget) S (reached_sound (λ xs v. ReadsFloat (precision_byte p) (precision_bytes p) xs (content v)) (λ xs ys. ReadsUnder a.budget xs (Float f) ys)
+float_read p content {v = v} f {a = a} is moves s = leaf_read (λ xs v. ReadsFloat (precision_byte p) (precision_bytes p) xs (content v)) (Float f)
     (λ xs n k _ r budget step.
     let front = float_bytes (precision_byte p) (precision_bytes p) (content v) in
     let left : drop n xs ≡ r.rest = ap (drop n) r.is ∙ ap (λ j. drop j (front ++ r.rest)) (r.size ∙ sym (ap suc (length-bytes_high_first (precision_bytes p) (content v)))) ∙ drop-append_seam front r.rest in
-    (bits p (content v), ((r.fits, tt), step_up budget a.budget 0 step (fits_zero a.budget)), is, r.is ∙ ap (λ z. front ++ z) (sym left))) moves s)
+    (bits p (content v), ((r.fits, tt), step_up budget a.budget 0 step (fits_zero a.budget)), is, r.is ∙ ap (λ z. front ++ z) (sym left))) moves s
 
 missing_bits : (p : Precision) (name : List ℕ) → eof name (Small (precision_bytes p)) ≡ eof name (len_of (precision_bytes p))
 missing_bits half name = refl
@@ -122,14 +126,8 @@ float_stops inner p b bs e rest budget is (inr h) =
     let same : h.behind ≡ bs = cc in
     at_row inner (starts_bits p) b bs e rest (ap initial is ∙ initial_bits p) (subst (λ z. length z < precision_bytes p) same h.short, (h.answer ∙ missing_bits p (precision_name p), h.left))
 
-abbrev pub StopsFrom : ℕ → Budget → Stopping
-StopsFrom first budget xs e rest = (bs : List ℕ) → xs ≡ first ∷ bs → StopsUnder budget xs e rest
-
-pub float_refused : {V E : Type 0} (p : Precision) (first : ℕ) {a c : View} {e : DecodeError E} → first ≡ precision_byte p → Moves {V = V} a c (Err e) → Stops (StopsFloat (precision_name p) (precision_byte p) (precision_bytes p)) a c e → Does {V = Value} (ReadsUnder a.budget) (StopsFrom first a.budget) a c (Err e)
-float_refused {V = V} p first {a = a} is moves s =
-    does_err (λ xs ys. xs ≡ ys) (λ xs (v : V) ys. Unit {0}) (ReadsUnder a.budget) (λ xs. StopsFloat (precision_name p) (precision_byte p) (precision_bytes p) xs a.budget) (StopsFrom first a.budget)
-    (λ xs ys z rest e h bs f. subst (λ x. StopsUnder a.budget x z rest) (sym f) (float_stops a.budget p first bs z rest a.budget is (subst (λ x. StopsFloat (precision_name p) (precision_byte p) (precision_bytes p) x a.budget z rest) (sym e ∙ f) h)))
-    (reached_start (λ xs ys. xs ≡ ys) a (λ xs. refl)) (does_stops (λ xs (v : V) ys. Unit {0}) (StopsFloat (precision_name p) (precision_byte p) (precision_bytes p)) moves s)
+pub float_refused : {V E : Type 0} (p : Precision) (first : ℕ) {a c : View} {e : DecodeError E} → first ≡ precision_byte p → Moves {V = V} a c (Err e) → Stops (StopsFloat (precision_name p) (precision_byte p) (precision_bytes p)) a c e → Does {V = Value} (ReadsUnder a.budget) (StopsFirst first a.budget) a c (Err e)
+float_refused p first {a = a} is moves s = leaf_refused first (StopsFloat (precision_name p) (precision_byte p) (precision_bytes p)) (λ bs z rest h. float_stops a.budget p first bs z rest a.budget is h) moves s
 
 other_row : (i : ℕ) → i ≢ 20 → i ≢ 21 → i ≢ 22 → i ≢ 23 → i ≢ 25 → i ≢ 26 → i ≢ 27 → simple_by_info i ≡ other_simple
 other_row i a b c d e f g = rw (ne_eqb i 20 a, ne_eqb i 21 b, ne_eqb i 22 c, ne_eqb i 23 d, ne_eqb i 25 e, ne_eqb i 26 f, ne_eqb i 27 g) refl
@@ -140,9 +138,9 @@ other_byte b low high none e f g =
     initial_of b 7 m ∙ other_row (b % 32) (λ h. none simple_false (omega (arith, h))) (λ h. none simple_true (omega (arith, h))) (λ h. none simple_null (omega (arith, h))) (λ h. none simple_undefined (omega (arith, h))) (λ h. e (omega (arith, h))) (λ h. f (omega (arith, h))) (λ h. g (omega (arith, h)))
 
 pub no_value : {E : Type 0} (first : ℕ) {e : DecodeError E} {a : View} → 224 ≤ first → first < 256 → ((s : Simple) → first ≡ simple_byte s → ⊥) → first ≢ 249 → first ≢ 250 → first ≢ 251 → refusal_of e ≡ Some (unsupported value_name first) → is_read e ≡ false → is_depth_overflow e ≡ false
-    → Does {V = Value} (ReadsUnder a.budget) (StopsFrom first a.budget) a a (Err e)
+    → Does {V = Value} (ReadsUnder a.budget) (StopsFirst first a.budget) a a (Err e)
 no_value first {a = a} low high none f g h says read shallow =
-    does_refuse (λ xs ys. xs ≡ ys) (ReadsUnder a.budget) (StopsFrom first a.budget) (unsupported value_name first) says read shallow
+    does_refuse (λ xs ys. xs ≡ ys) (ReadsUnder a.budget) (StopsFirst first a.budget) (unsupported value_name first) says read shallow
     (λ xs ys e bs is. subst (λ x. StopsUnder a.budget x (unsupported value_name first) ys) (sym is) (at_row a.budget other_simple first bs _ ys (other_byte first low high none f g h) (refl, sym e ∙ is)))
     (reached_start (λ xs ys. xs ≡ ys) a (λ xs. refl))
 

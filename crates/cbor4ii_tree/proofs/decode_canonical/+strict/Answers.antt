@@ -1,20 +1,18 @@
 use Rattle.std.proofs.Common.{refl, ap, subst, ◌∙◌, ◌+◌, ◌*◌, ◌≡◌, arith}
 use Rattle.std.proofs.Common.{Vec, Global}
 use Rattle.std.proofs.lemmas.Result.{err_from_is_err_and}
-use Rattle.std.proofs.lemmas.Str.{IsUtf8-string_bytes}
-use Rattle.cbor4ii_tree.specs.declared.value.Value.{Value, Array, Map, Tag, Bytes, Text}
+use Rattle.cbor4ii_tree.specs.declared.value.Value.{Value, Array, Map, Tag}
 use Rattle.cbor4ii_tree.specs.Item.{tag}
 use Rattle.cbor4ii_tree.specs.View.{view}
-use Rattle.cbor4ii_tree.specs.Refusal.{array_name, map_name, tag_name, value_name, sign_name, kind_name}
-use Rattle.cbor4ii_items.specs.Initial.{unsigned, negative, byte_string}
+use Rattle.cbor4ii_tree.specs.Refusal.{array_name, map_name, tag_name, value_name}
 use Rattle.cbor4ii_items.specs.Laws.Steps.{kept_then}
 use Rattle.cbor4ii_tree.specs.Valuing.{ReadsStepped}
-use Rattle.cbor4ii_tree.specs.Strictly.{Lacks, BeginsOne, BeginsBehind, ReadsExactly, ReadsBehind, ShortestAt, StringAt, BeginsHead, BeginsTag, BeginsItems, ExactItems, ExactMember, ExactMembers, BeginsCounted, AcceptsCount, BeginsStepped, TextAt}
+use Rattle.cbor4ii_tree.specs.Strictly.{Lacks, BeginsOne, BeginsBehind, ReadsExactly, ReadsBehind, ShortestAt, BeginsHead, BeginsTag, BeginsItems, ExactItems, ExactMember, ExactMembers, BeginsCounted, AcceptsCount, BeginsStepped}
 use Rattle.cbor4ii_tree.proofs.skip_calls.Doing.{reached_start, reached_by, does_ok, does_no_memory, does_no_step}
 use Rattle.cbor4ii_tree.proofs.values.Heads.{view-Tag}
 use Rattle.cbor4ii_tree.proofs.values.Sequences.{more, ends}
 use Rattle.cbor4ii_tree.proofs.canonical.Exactly.{no_step_one, no_step_stepped}
-use Rattle.cbor4ii_tree.proofs.canonical.Calls.{reached_shortest, reached_string, does_lack_head, does_lack_string, lacks_more, exact_ok, exact_err, exact_float, exact_tag, exact_tag_err, unsigned_exact, negative_exact, bytes_exact, text_exact, looked_at, peek_lacks, pushed, simple_exact, undefined_lacks, stepped_one, stepped_more, counted_does, begins_counted, items_none, items_more, item_lacks, key_lacks, value_lacks, members_none, members_more, member_lacks, array_exact, map_exact}
+use Rattle.cbor4ii_tree.proofs.canonical.Calls.{reached_shortest, does_lack_head, lacks_more, exact_ok, exact_err, exact_first, exact_tag, exact_tag_err, looked_at, peek_lacks, pushed, simple_exact, undefined_lacks, stepped_one, stepped_more, counted_does, begins_counted, items_none, items_more, item_lacks, key_lacks, value_lacks, members_none, members_more, member_lacks, array_exact, map_exact}
 use Rattle.cbor4ii_tree.proofs.decode_canonical.+strict.Goals as goal
 
 pub read_one-returns-clause-does : goal.read_one-returns-clause-does
@@ -99,7 +97,11 @@ read_member-returns-in_err-value-clause-does g t c =
 
 pub read_inside-returns-clause-does : goal.read_inside-returns-clause-does
 read_inside-returns-clause-does g t c =
-    exact_float c.in_ok-first.first c.in_ok-first.ensures.runs c.read_float.ensures.does
+    exact_first c.in_ok-first.first c.in_ok-first.ensures.runs c.read_leaf.ensures.does
+
+pub read_inside-returns-in-7-clause-does : goal.read_inside-returns-in-7-clause-does
+read_inside-returns-in-7-clause-does g t c =
+    exact_first c.in_ok-first.first c.in_ok-first.ensures.runs c.read_float.ensures.does
 
 pub read_inside-returns-in_err-first-clause-does : goal.read_inside-returns-in_err-first-clause-does
 read_inside-returns-in_err-first-clause-does g t c =
@@ -109,22 +111,6 @@ read_inside-returns-in_err-first-clause-does g t c =
 pub read_inside-returns-then-first-clause-does : goal.read_inside-returns-then-first-clause-does
 read_inside-returns-then-first-clause-does g t c =
     undefined_lacks c.in_ok-first.first c.in_ok-first.ensures.runs c.in_ok-first.ensures.byte c.advance.ensures c.if-first.true refl refl refl
-
-pub read_inside-returns-in-0-clause-does : goal.read_inside-returns-in-0-clause-does
-read_inside-returns-in-0-clause-does g t c =
-    exact_ok c.in_ok-first.first c.in_ok-first.ensures.runs (ShortestAt 0 c.in_ok-canonical_head-in-0.field-0) _ (λ xs ys h. unsigned_exact (g.S.Source.view c.args.reader.now).budget c.in_ok-canonical_head-in-0.field-0 xs ys h) (reached_shortest 0 c.in_ok-canonical_head-in-0.field-0 c.in_ok-canonical_head-in-0.ensures.moves c.in_ok-canonical_head-in-0.ensures.sound)
-
-pub read_inside-returns-in-1-clause-does : goal.read_inside-returns-in-1-clause-does
-read_inside-returns-in-1-clause-does g t c =
-    exact_ok c.in_ok-first.first c.in_ok-first.ensures.runs (ShortestAt 1 c.in_ok-number-in-1.number) _ (λ xs ys h. negative_exact (g.S.Source.view c.args.reader.now).budget c.in_ok-number-in-1.number xs ys h) (reached_shortest 1 c.in_ok-number-in-1.number c.in_ok-number-in-1.ensures.moves c.in_ok-number-in-1.ensures.sound)
-
-pub read_inside-returns-in-2-clause-does : goal.read_inside-returns-in-2-clause-does
-read_inside-returns-in-2-clause-does g t c =
-    exact_ok c.in_ok-first.first c.in_ok-first.ensures.runs (StringAt 2 c.in_ok-canonical_buf-in-2.field-0.items) (Bytes c.in_ok-canonical_buf-in-2.field-0) (λ xs ys h. bytes_exact (g.S.Source.view c.args.reader.now).budget c.in_ok-canonical_buf-in-2.field-0 xs ys h) (reached_string 2 c.in_ok-canonical_buf-in-2.field-0 c.in_ok-canonical_buf-in-2.ensures.moves c.in_ok-canonical_buf-in-2.ensures.sound)
-
-pub read_inside-returns-in-3-clause-does : goal.read_inside-returns-in-3-clause-does
-read_inside-returns-in-3-clause-does g t c =
-    exact_ok c.in_ok-first.first c.in_ok-first.ensures.runs (λ xs ys. TextAt (g.S.Source.view c.peek.new.reader).budget xs c.in_ok-read_text-in-3.field-0 ys) (Text c.in_ok-read_text-in-3.field-0) (λ xs ys h. text_exact (g.S.Source.view c.args.reader.now).budget c.in_ok-read_text-in-3.field-0 xs ys (IsUtf8-string_bytes c.in_ok-read_text-in-3.field-0) h) (reached_by c.in_ok-read_text-in-3.ensures.does)
 
 pub read_inside-returns-in-4-clause-does : goal.read_inside-returns-in-4-clause-does
 read_inside-returns-in-4-clause-does g t c =
@@ -143,26 +129,6 @@ pub read_inside-returns-in_err-read_map-in-5-clause-does : goal.read_inside-retu
 read_inside-returns-in_err-read_map-in-5-clause-does g t c =
     let p = err_from_is_err_and c.from_residual-in_err-read_map-in-5.result c.from_residual-in_err-read_map-in-5.ensures.1 in
     rw (p.1, p.2) (exact_err c.in_ok-first.first c.in_ok-first.ensures.runs 5 (ReadsStepped (λ o xs (v : Vec (Value × Value) Global) ys. AcceptsCount 5 ExactMembers o xs v.items ys) (g.S.Source.view c.peek.new.reader).budget) c.in-5.is c.in_err-read_map-in-5.ensures.does)
-
-pub read_inside-returns-in_err-canonical_head-in-0-clause-does : goal.read_inside-returns-in_err-canonical_head-in-0-clause-does
-read_inside-returns-in_err-canonical_head-in-0-clause-does g t c =
-    let p = err_from_is_err_and c.from_residual-in_err-canonical_head-in-0.result c.from_residual-in_err-canonical_head-in-0.ensures.1 in
-    rw (p.1, p.2) (exact_err c.in_ok-first.first c.in_ok-first.ensures.runs 0 (λ xs (v : Unit {0}) ys. Unit {0}) c.in-0.is (does_lack_head (λ xs (v : Unit {0}) ys. Unit {0}) (sign_name unsigned) 0 (omega arith) c.in_err-canonical_head-in-0.ensures.moves c.in_err-canonical_head-in-0.ensures.complete c.in_err-canonical_head-in-0.ensures.stops))
-
-pub read_inside-returns-in_err-number-in-1-clause-does : goal.read_inside-returns-in_err-number-in-1-clause-does
-read_inside-returns-in_err-number-in-1-clause-does g t c =
-    let p = err_from_is_err_and c.from_residual-in_err-number-in-1.result c.from_residual-in_err-number-in-1.ensures.1 in
-    rw (p.1, p.2) (exact_err c.in_ok-first.first c.in_ok-first.ensures.runs 1 (λ xs (v : Unit {0}) ys. Unit {0}) c.in-1.is (does_lack_head (λ xs (v : Unit {0}) ys. Unit {0}) (sign_name negative) 1 (omega arith) c.in_err-number-in-1.ensures.moves c.in_err-number-in-1.ensures.complete c.in_err-number-in-1.ensures.stops))
-
-pub read_inside-returns-in_err-canonical_buf-in-2-clause-does : goal.read_inside-returns-in_err-canonical_buf-in-2-clause-does
-read_inside-returns-in_err-canonical_buf-in-2-clause-does g t c =
-    let p = err_from_is_err_and c.from_residual-in_err-canonical_buf-in-2.result c.from_residual-in_err-canonical_buf-in-2.ensures.1 in
-    rw (p.1, p.2) (exact_err c.in_ok-first.first c.in_ok-first.ensures.runs 2 (λ xs (v : Unit {0}) ys. Unit {0}) c.in-2.is (does_lack_string (λ xs (v : Unit {0}) ys. Unit {0}) (kind_name byte_string) 2 (omega arith) c.in_err-canonical_buf-in-2.ensures.moves c.in_err-canonical_buf-in-2.ensures.complete c.in_err-canonical_buf-in-2.ensures.stops))
-
-pub read_inside-returns-in_err-read_text-in-3-clause-does : goal.read_inside-returns-in_err-read_text-in-3-clause-does
-read_inside-returns-in_err-read_text-in-3-clause-does g t c =
-    let p = err_from_is_err_and c.from_residual-in_err-read_text-in-3.result c.from_residual-in_err-read_text-in-3.ensures.1 in
-    rw (p.1, p.2) (exact_err c.in_ok-first.first c.in_ok-first.ensures.runs 3 (TextAt (g.S.Source.view c.peek.new.reader).budget) c.in-3.is c.in_err-read_text-in-3.ensures.does)
 
 pub read_inside-returns-in_err-number-in-6-clause-does : goal.read_inside-returns-in_err-number-in-6-clause-does
 read_inside-returns-in_err-number-in-6-clause-does g t c =

@@ -1,22 +1,19 @@
 use Rattle.std.proofs.Common.{inl, refl, ap, subst, ◌∙◌, ◌+◌, ◌∷◌, ◌≡◌}
 use Rattle.std.proofs.lemmas.Result.{err_from_is_err_and}
-use Rattle.cbor4ii_tree.specs.Valuing.{ReadsOne, StopsOne, ReadsMember, StopsMember, StopsMembers, ReadsStepped, StopsOf, ReadsItems, StopsItems, ReadsArray, ReadsMap, StopsMajor, ReadsMembers, ReadsOpen, StopsOpen, ReadsOpenMembers, StopsOpenMembers, ReadsUnder, StopsUnder}
-use Rattle.cbor4ii_tree.specs.declared.value.Value.{Array, Map, Tag, Bytes, Text}
+use Rattle.cbor4ii_tree.specs.Valuing.{ReadsOne, StopsOne, ReadsMember, StopsMember, StopsMembers, StopsFirst, ReadsStepped, StopsOf, ReadsItems, StopsItems, ReadsArray, ReadsMap, StopsMajor, ReadsMembers, ReadsOpen, StopsOpen, ReadsOpenMembers, StopsOpenMembers, ReadsUnder, StopsUnder}
+use Rattle.cbor4ii_tree.specs.declared.value.Value.{Array, Map, Tag}
 use Rattle.cbor4ii_tree.specs.Item.{tag}
 use Rattle.cbor4ii_tree.specs.View.{view}
-use Rattle.cbor4ii_tree.specs.Refusal.{array_name, map_name, tag_name, sign_name, kind_name}
-use Rattle.cbor4ii_items.specs.Initial.{negative, byte_string, text_string}
-use Rattle.cbor4ii_items.specs.Numbers.{ReadsNegative, StopsNegative, StopsArgument}
-use Rattle.cbor4ii_items.specs.Strings.{ReadsAs, ReadsTextAs, StopsString, StopsText, bytes_content, text_content}
+use Rattle.cbor4ii_tree.specs.Refusal.{array_name, map_name, tag_name}
+use Rattle.cbor4ii_items.specs.Numbers.{StopsArgument}
 use Rattle.cbor4ii_items.specs.Laws.Steps.{kept_then}
 use Rattle.cbor4ii_tree.proofs.skip_calls.Doing.{reached_start, reached_by, does_ok, does_no_memory, does_no_step}
 use Rattle.cbor4ii_tree.proofs.skip_calls.Calls.{Before, broke, other, at_end}
 use Rattle.cbor4ii_tree.proofs.values.Parts.{ReadEach, ReadPairs}
-use Rattle.cbor4ii_tree.proofs.values.Calls.{stepped, none, counted_more, counted_stop, unsigned_read, unsigned_stops, int_stops}
-use Rattle.cbor4ii_tree.proofs.values.Heads.{arm_ok, arm_err, arm_does, call_ok, call_err, StopsFrom, simple_read, negative_reads, reached_tag, tag_read, tag_stops, tag_stopped, view-Tag}
+use Rattle.cbor4ii_tree.proofs.values.Calls.{stepped, none, counted_more, counted_stop}
+use Rattle.cbor4ii_tree.proofs.values.Heads.{arm_ok, arm_err, arm_does, call_err, simple_read, reached_tag, tag_read, tag_stops, tag_stopped, view-Tag}
 use Rattle.cbor4ii_tree.proofs.values.Sequences.{major_stepped, array_no_step, map_no_step, array_length_stops, map_length_stops, length_refused, reached_length, reached_open, array_counted, array_opened, array_reads, map_counted, map_opened, map_reads, each_none, each_more, open_end, open_stop, open_done, members_none, members_more, member_stop, pairs_none, pairs_more, members_end, pair_stop, value_stop, members_done, more, ends}
-use Rattle.cbor4ii_tree.proofs.values.Strings.{string_stops, text_stops, bytes_reads, text_reads}
-use Rattle.cbor4ii_tree.proofs.values.Items.{items_none, items_are, members_none_are, members_are, array_item, map_item, text_item}
+use Rattle.cbor4ii_tree.proofs.values.Items.{items_none, items_are, members_none_are, members_are, array_item, map_item}
 use Rattle.cbor4ii_tree.proofs.decode_value.+read.Goals as goal
 
 pub array_inside-returns-in-None-clause-does : goal.array_inside-returns-in-None-clause-does
@@ -153,23 +150,11 @@ read_array-returns-then-not-step_in-clause-does g t c =
 
 pub read_inside-returns-clause-does : goal.read_inside-returns-clause-does
 read_inside-returns-clause-does g t c =
-    arm_does c.in_ok-first.first c.in_ok-first.ensures.runs (λ xs v ys. ReadsUnder (g.S.Source.view c.peek.new.reader).budget xs v ys) (StopsFrom c.in_ok-first.first (g.S.Source.view c.peek.new.reader).budget) (λ bs ys v h. subst (λ o. ReadsUnder o (c.in_ok-first.first ∷ bs) v ys) c.in_ok-first.ensures.runs.moves.by.budget h) (λ bs z rest h. subst (λ o. StopsUnder o (c.in_ok-first.first ∷ bs) z rest) c.in_ok-first.ensures.runs.moves.by.budget (h bs refl)) c.read_float.ensures.does
+    arm_does c.in_ok-first.first c.in_ok-first.ensures.runs (λ xs v ys. ReadsUnder (g.S.Source.view c.peek.new.reader).budget xs v ys) (StopsFirst c.in_ok-first.first (g.S.Source.view c.peek.new.reader).budget) (λ bs ys v h. subst (λ o. ReadsUnder o (c.in_ok-first.first ∷ bs) v ys) c.in_ok-first.ensures.runs.moves.by.budget h) (λ bs z rest h. subst (λ o. StopsUnder o (c.in_ok-first.first ∷ bs) z rest) c.in_ok-first.ensures.runs.moves.by.budget (h bs refl)) c.read_leaf.ensures.does
 
-pub read_inside-returns-in-0-clause-does : goal.read_inside-returns-in-0-clause-does
-read_inside-returns-in-0-clause-does g t c =
-    unsigned_read c.in_ok-first.first c.in_ok-first.ensures.runs c.in_ok-decode-in-0.ensures.moves c.in_ok-decode-in-0.ensures.sound
-
-pub read_inside-returns-in-1-clause-does : goal.read_inside-returns-in-1-clause-does
-read_inside-returns-in-1-clause-does g t c =
-    call_ok c.in_ok-first.first c.in_ok-first.ensures.runs (ReadsNegative 8) _ (λ xs n k _ r. negative_reads (g.S.Source.view c.args.reader.now).budget c.in_ok-number-in-1.number.0 n k xs r) c.in_ok-number-in-1.ensures.moves c.in_ok-number-in-1.ensures.sound
-
-pub read_inside-returns-in-2-clause-does : goal.read_inside-returns-in-2-clause-does
-read_inside-returns-in-2-clause-does g t c =
-    call_ok c.in_ok-first.first c.in_ok-first.ensures.runs (ReadsAs 2 bytes_content) (Bytes c.in_ok-decode-in-2.field-0.0) (λ xs n k fits r. bytes_reads (g.S.Source.view c.args.reader.now).budget c.in_ok-decode-in-2.field-0.0 xs n k fits r) c.in_ok-decode-in-2.ensures.moves c.in_ok-decode-in-2.ensures.sound
-
-pub read_inside-returns-in-3-clause-does : goal.read_inside-returns-in-3-clause-does
-read_inside-returns-in-3-clause-does g t c =
-    call_ok c.in_ok-first.first c.in_ok-first.ensures.runs (ReadsTextAs text_content) (Text c.in_ok-decode-in-3.field-0) (λ xs n k fits r. text_reads (g.S.Source.view c.args.reader.now).budget c.in_ok-decode-in-3.field-0 xs n k fits r.0 r.1) c.in_ok-decode-in-3.ensures.moves c.in_ok-decode-in-3.ensures.sound
+pub read_inside-returns-in-7-clause-does : goal.read_inside-returns-in-7-clause-does
+read_inside-returns-in-7-clause-does g t c =
+    arm_does c.in_ok-first.first c.in_ok-first.ensures.runs (λ xs v ys. ReadsUnder (g.S.Source.view c.peek.new.reader).budget xs v ys) (StopsFirst c.in_ok-first.first (g.S.Source.view c.peek.new.reader).budget) (λ bs ys v h. subst (λ o. ReadsUnder o (c.in_ok-first.first ∷ bs) v ys) c.in_ok-first.ensures.runs.moves.by.budget h) (λ bs z rest h. subst (λ o. StopsUnder o (c.in_ok-first.first ∷ bs) z rest) c.in_ok-first.ensures.runs.moves.by.budget (h bs refl)) c.read_float.ensures.does
 
 pub read_inside-returns-in-4-clause-does : goal.read_inside-returns-in-4-clause-does
 read_inside-returns-in-4-clause-does g t c =
@@ -187,30 +172,10 @@ pub read_inside-returns-in-Ok-clause-does : goal.read_inside-returns-in-Ok-claus
 read_inside-returns-in-Ok-clause-does g t c =
     tag_read c.in_ok-number-in-6.number (Tag c.in_ok-number-in-6.number c.in-Ok.boxed) (view-Tag c.in_ok-number-in-6.number c.in-Ok.boxed ∙ ap (λ x. tag c.in_ok-number-in-6.number (view x)) c.in-Ok.ensures.ok) (reached_tag c.in_ok-first.first c.in_ok-number-in-6.number c.in_ok-first.ensures.runs c.in_ok-number-in-6.ensures.moves c.in_ok-number-in-6.ensures.sound) c.in_ok-inner-in-6.ensures.does
 
-pub read_inside-returns-in_err-decode-in-0-clause-does : goal.read_inside-returns-in_err-decode-in-0-clause-does
-read_inside-returns-in_err-decode-in-0-clause-does g t c =
-    let p = err_from_is_err_and c.from_residual-in_err-decode-in-0.result c.from_residual-in_err-decode-in-0.ensures.1 in
-    rw (p.1, p.2) (unsigned_stops c.in_ok-first.first (λ xs v ys. Unit {0}) c.in_ok-first.ensures.runs (c.in-0.is) c.in_err-decode-in-0.ensures.moves (c.in_err-decode-in-0.ensures.stops (inl refl)))
-
-pub read_inside-returns-in_err-decode-in-2-clause-does : goal.read_inside-returns-in_err-decode-in-2-clause-does
-read_inside-returns-in_err-decode-in-2-clause-does g t c =
-    let p = err_from_is_err_and c.from_residual-in_err-decode-in-2.result c.from_residual-in_err-decode-in-2.ensures.1 in
-    rw (p.1, p.2) (call_err c.in_ok-first.first c.in_ok-first.ensures.runs (StopsString (kind_name byte_string) 2) (λ bs z rest h. string_stops (g.S.Source.view c.args.reader.now).budget byte_string c.in_ok-first.first bs z rest c.in-2.is h) c.in_err-decode-in-2.ensures.moves (c.in_err-decode-in-2.ensures.stops (inl refl)))
-
-pub read_inside-returns-in_err-decode-in-3-clause-does : goal.read_inside-returns-in_err-decode-in-3-clause-does
-read_inside-returns-in_err-decode-in-3-clause-does g t c =
-    let p = err_from_is_err_and c.from_residual-in_err-decode-in-3.result c.from_residual-in_err-decode-in-3.ensures.1 in
-    rw (p.1, p.2) (call_err c.in_ok-first.first c.in_ok-first.ensures.runs (StopsText (kind_name text_string)) (λ bs z rest h. text_stops (g.S.Source.view c.args.reader.now).budget c.in_ok-first.first bs z rest c.in-3.is h) c.in_err-decode-in-3.ensures.moves (c.in_err-decode-in-3.ensures.stops (inl refl)))
-
 pub read_inside-returns-in_err-inner-in-6-clause-does : goal.read_inside-returns-in_err-inner-in-6-clause-does
 read_inside-returns-in_err-inner-in-6-clause-does g t c =
     let p = err_from_is_err_and c.from_residual-in_err-inner-in-6.result c.from_residual-in_err-inner-in-6.ensures.1 in
     rw (p.1, p.2) (tag_stopped c.in_ok-number-in-6.number (reached_tag c.in_ok-first.first c.in_ok-number-in-6.number c.in_ok-first.ensures.runs c.in_ok-number-in-6.ensures.moves c.in_ok-number-in-6.ensures.sound) c.in_err-inner-in-6.ensures.does)
-
-pub read_inside-returns-in_err-number-in-1-clause-does : goal.read_inside-returns-in_err-number-in-1-clause-does
-read_inside-returns-in_err-number-in-1-clause-does g t c =
-    let p = err_from_is_err_and c.from_residual-in_err-number-in-1.result c.from_residual-in_err-number-in-1.ensures.1 in
-    rw (p.1, p.2) (call_err c.in_ok-first.first c.in_ok-first.ensures.runs (StopsNegative (sign_name negative) 8) (λ bs z rest h. int_stops (g.S.Source.view c.args.reader.now).budget negative c.in_ok-first.first bs z rest c.in-1.is h) c.in_err-number-in-1.ensures.moves (c.in_err-number-in-1.ensures.stops (inl refl)))
 
 pub read_inside-returns-in_err-number-in-6-clause-does : goal.read_inside-returns-in_err-number-in-6-clause-does
 read_inside-returns-in_err-number-in-6-clause-does g t c =
@@ -262,9 +227,6 @@ open_members-returns-in_err-keep-clause-does g t c =
 pub read_inside-returns-in-Some-clause-does : goal.read_inside-returns-in-Some-clause-does
 read_inside-returns-in-Some-clause-does g t c =
     simple_read c.in_ok-first.first c.in_ok-first.ensures.runs c.in_ok-first.ensures.byte c.advance.ensures c.in-Some.ensures
-
-pub read_inside-returns-in-3-clause-item : goal.read_inside-returns-in-3-clause-item
-read_inside-returns-in-3-clause-item g t c = text_item c.in_ok-decode-in-3.field-0
 
 pub read_inside-returns-in-4-clause-item : goal.read_inside-returns-in-4-clause-item
 read_inside-returns-in-4-clause-item g t c = array_item c.in_ok-read_array-in-4.field-0 c.in_ok-read_array-in-4.ensures.items
