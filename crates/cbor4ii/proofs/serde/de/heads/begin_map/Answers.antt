@@ -1,6 +1,7 @@
-use Rattle.std.proofs.Common.{Err}
+use Rattle.std.proofs.Common.{ap, sym, arith, Err}
 use Rattle.cbor4ii_items.specs.Laws.Steps.{moves_err}
 use Rattle.cbor4ii_items.specs.Laws.UnderStep.{moves_stepped}
+use Rattle.cbor4ii.specs.Accessing.{left_of}
 use Rattle.cbor4ii.proofs.Steps.{refuses_stepped, stops_stepped}
 use Rattle.cbor4ii.proofs.serde.de.heads.begin_map.Goals as goal
 
@@ -12,3 +13,27 @@ returns-in-Err-clause-complete g c = refuses_stepped _ c.if-not-step_in.ensures.
 
 pub returns-in-Err-clause-stops : goal.returns-in-Err-clause-stops
 returns-in-Err-clause-stops g c = stops_stepped _ _ c.if-not-step_in.ensures.budget c.step_in.ensures.others c.step_out.ensures.others c.in-Err.ensures.stops
+
+pub returns-in-Ok-Some-clause-opened : goal.returns-in-Ok-Some-clause-opened
+returns-in-Ok-Some-clause-opened g c = record {
+  within = g.S.Source.view c.step_in.new.self;
+  step = c.if-not-step_in.ensures.budget;
+  others = c.step_in.ensures.others;
+  kept = c.in-Ok-Some.ensures.moves.by;
+  progress = omega (arith, c.in-Ok-Some.ensures.progress, c.step_in.ensures.others.bound);
+  length = c.in-Ok-Some.field-0;
+  head = c.in-Ok-Some.ensures.sound;
+  begun = sym (ap left_of c.in-Ok-Some.field-0-is);
+}
+
+pub returns-in-Ok-None-clause-opened : goal.returns-in-Ok-None-clause-opened
+returns-in-Ok-None-clause-opened g c = record {
+  within = g.S.Source.view c.step_in.new.self;
+  step = c.if-not-step_in.ensures.budget;
+  others = c.step_in.ensures.others;
+  kept = c.in-Ok-None.ensures.moves.by;
+  progress = omega (arith, c.in-Ok-None.ensures.progress, c.step_in.ensures.others.bound);
+  length = c.in-Ok-None.field-0;
+  head = c.in-Ok-None.ensures.sound;
+  begun = sym (ap left_of c.in-Ok-None.field-0-is);
+}
