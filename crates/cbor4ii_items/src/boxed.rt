@@ -28,10 +28,6 @@ impl<T: Spelled> Spelled for Box<T> {
     fn is_never_empty() -> bool {
         T::is_never_empty()
     }
-
-    fn is_owned() -> bool {
-        T::is_owned()
-    }
 }
 
 /// A box is read and refused as what is in it. Where there is no memory for the box, it is

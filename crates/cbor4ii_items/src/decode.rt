@@ -55,10 +55,6 @@ pub trait Spelled: Sized {
     /// Whether an accepted value always reads a byte.
     fn is_never_empty() -> bool
         ensures { result ≡ never_empty };
-
-    /// Whether a value needs no borrowed part of the input.
-    fn is_owned() -> bool
-        ensures { result ≡ owned };
 }
 
 /// A type whose values are read from a reader.

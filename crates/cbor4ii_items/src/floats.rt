@@ -164,10 +164,6 @@ impl Spelled for F16 {
     fn is_never_empty() -> bool {
         true
     }
-
-    fn is_owned() -> bool {
-        true
-    }
 }
 
 /// A float of two bytes, as its bits (RFC 8949 section 3.3).
@@ -221,10 +217,6 @@ impl Spelled for F32 {
     ghost closed = { true };
 
     fn is_never_empty() -> bool {
-        true
-    }
-
-    fn is_owned() -> bool {
         true
     }
 }
@@ -281,10 +273,6 @@ impl Spelled for F64 {
     ghost closed = { true };
 
     fn is_never_empty() -> bool {
-        true
-    }
-
-    fn is_owned() -> bool {
         true
     }
 }

@@ -51,10 +51,6 @@ impl<T: Spelled> Spelled for Maybe<Option<T>> {
     fn is_never_empty() -> bool {
         true
     }
-
-    fn is_owned() -> bool {
-        T::is_owned()
-    }
 }
 
 /// None is an array of no item, and some item an array of it alone, of known length (RFC 8949

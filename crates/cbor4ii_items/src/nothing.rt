@@ -38,10 +38,6 @@ impl Spelled for Nothing {
     fn is_never_empty() -> bool {
         false
     }
-
-    fn is_owned() -> bool {
-        true
-    }
 }
 
 /// It takes no byte, and is never refused.

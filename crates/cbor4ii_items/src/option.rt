@@ -35,10 +35,6 @@ impl<T: Spelled> Spelled for Option<T> {
     fn is_never_empty() -> bool {
         T::is_never_empty()
     }
-
-    fn is_owned() -> bool {
-        T::is_owned()
-    }
 }
 
 /// Null and undefined are none, and before any other byte an item is read (RFC 8949 section 3.3).

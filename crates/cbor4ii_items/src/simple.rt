@@ -53,10 +53,6 @@ impl Spelled for Simple {
     fn is_never_empty() -> bool {
         true
     }
-
-    fn is_owned() -> bool {
-        true
-    }
 }
 
 /// A simple value by its number, in the first byte or the one after it; 24 to 31 too, which RFC
@@ -110,10 +106,6 @@ impl Spelled for bool {
     ghost closed = { true };
 
     fn is_never_empty() -> bool {
-        true
-    }
-
-    fn is_owned() -> bool {
         true
     }
 }

@@ -59,10 +59,6 @@ impl<T: Spelled> Spelled for Tag<T> {
     fn is_never_empty() -> bool {
         true
     }
-
-    fn is_owned() -> bool {
-        T::is_owned()
-    }
 }
 
 /// A tag, its number of any width, and the item that it tags (RFC 8949 section 3.4).

@@ -71,10 +71,6 @@ impl Typed for Sample {
         true
     }
 
-    fn is_owned() -> bool {
-        true
-    }
-
     ghost laws = { not_exact };
 }
 
@@ -158,10 +154,6 @@ impl Typed for Event {
         true
     }
 
-    fn is_owned() -> bool {
-        true
-    }
-
     ghost laws = { not_exact };
 }
 
@@ -236,10 +228,6 @@ impl Typed for Name {
     ghost exact = { false };
 
     fn is_never_empty() -> bool {
-        true
-    }
-
-    fn is_owned() -> bool {
         true
     }
 

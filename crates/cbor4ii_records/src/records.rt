@@ -65,10 +65,6 @@ impl Typed for Point {
         true
     }
 
-    fn is_owned() -> bool {
-        true
-    }
-
     ghost laws = { not_exact };
 }
 

@@ -71,10 +71,6 @@ impl Write for BufWriter {
 
     ghost view = { buffer_output };
 
-    fn is_whole() -> bool {
-        true
-    }
-
     // The clauses of the trait, how far the count rises, and that memory which is there is used.
     #[inline(always)]
     fn push(&mut self, input: &[u8]) -> Result<(), TryReserveError>

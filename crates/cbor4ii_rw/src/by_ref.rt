@@ -39,10 +39,6 @@ impl<W: Write> Write for &mut W {
 
     ghost view = { λ writer. W.view writer.now };
 
-    fn is_whole() -> bool {
-        W::is_whole()
-    }
-
     fn push(&mut self, input: &[u8]) -> Result<(), W::Error> {
         Write::push(&mut **self, input)
     }

@@ -90,10 +90,6 @@ impl<W: io::Write> Write for IoWriter<W> {
 
     ghost view = { stream_output W.contents };
 
-    fn is_whole() -> bool {
-        false
-    }
-
     // The clauses of the trait, how far the count rises, and that the writer is flushed no more.
     fn push(&mut self, input: &[u8]) -> Result<(), io::Error>
         ensures appends { OnOk result (Appends input.now

@@ -16,10 +16,6 @@ pub trait Write {
     // What the writer tells of itself as it stands.
     ghost view: { Self → Output };
 
-    /// Whether a push that fails appends nothing.
-    fn is_whole() -> bool
-        ensures { result ≡ whole };
-
     /// Appends `input`.
     ///
     /// # Errors

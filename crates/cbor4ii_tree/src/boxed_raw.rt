@@ -88,10 +88,6 @@ impl Spelled for BoxedRawValue {
     fn is_never_empty() -> bool {
         true
     }
-
-    fn is_owned() -> bool {
-        false
-    }
 }
 
 impl<'de> Decode<SliceReader<'de>> for BoxedRawValue {

@@ -76,10 +76,6 @@ impl Spelled for Canonical {
     fn is_never_empty() -> bool {
         true
     }
-
-    fn is_owned() -> bool {
-        true
-    }
 }
 
 /// A value is read where the canonical spelling of a value whose steps fit the budget begins the

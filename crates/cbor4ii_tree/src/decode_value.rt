@@ -83,10 +83,6 @@ impl Spelled for Value {
     fn is_never_empty() -> bool {
         true
     }
-
-    fn is_owned() -> bool {
-        true
-    }
 }
 
 /// A value is read from each of its spellings whose steps fit the budget: heads of any width,

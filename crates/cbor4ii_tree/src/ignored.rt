@@ -53,10 +53,6 @@ impl Spelled for IgnoredAny {
     fn is_never_empty() -> bool {
         true
     }
-
-    fn is_owned() -> bool {
-        true
-    }
 }
 
 impl<S: Source> Decode<S> for IgnoredAny {

@@ -61,12 +61,6 @@ impl<'de> Spelled for RawValue<'de> {
     {
         true
     }
-
-    fn is_owned() -> bool
-        ensures { result ≡ false }
-    {
-        false
-    }
 }
 
 impl<'de, R: Read<'de>> LendRaw<R> for RawValue<'de> {

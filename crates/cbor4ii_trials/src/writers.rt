@@ -51,10 +51,6 @@ impl Write for FailingWriter {
 
     ghost view = { failing_output };
 
-    fn is_whole() -> bool {
-        true
-    }
-
     fn push(&mut self, input: &[u8]) -> Result<(), Failure> {
         let is_told = self.pushes == 0 && self.failures == 0;
         if is_told || self.bytes.extend_from_slice(input).is_err() {
@@ -96,10 +92,6 @@ impl Write for PushLengths {
     ghost whole = { false };
 
     ghost view = { pushed_output };
-
-    fn is_whole() -> bool {
-        false
-    }
 
     fn push(&mut self, input: &[u8]) -> Result<(), Failure> {
         if self.lengths.push(input.len()).is_err() {

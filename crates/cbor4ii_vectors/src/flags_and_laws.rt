@@ -6,11 +6,11 @@ use cbor4ii_items::laws::{
     no_spelling_begins_another, parts_are_read_back, shortest_is_least,
     simple_values_are_read_back, strings_are_read_back, what_is_written_is_decoded,
 };
-use cbor4ii_items::types::{Bytes, F16, Map, Maybe, Negative, Nothing, Simple, Tag, UncheckedStr};
+use cbor4ii_items::types::{F16, Map, Maybe, Negative, Nothing, Simple, Tag};
 use cbor4ii_rw::error::Never;
 use cbor4ii_rw::slice_reader::SliceReader;
 use std::alloc::Global;
-use std::borrow::{CowSlice, CowStr};
+use std::borrow::CowStr;
 use std::test::Fail;
 
 // Nothing takes no byte, and what may be nothing alone may take none.
@@ -37,38 +37,6 @@ fn types_that_always_read_a_byte(rt: HostRuntime) {
         <Map<Vec<(Nothing, Nothing)>>>::is_never_empty(),
     ];
     assert_eq!(rt; always, [true; 15]);
-}
-
-#[test]
-fn types_that_borrow_nothing(rt: HostRuntime) {
-    let owned = [
-        u8::is_owned(),
-        i128::is_owned(),
-        String::is_owned(),
-        <Bytes<Vec<u8>>>::is_owned(),
-        <CowStr<'static, Global>>::is_owned(),
-        <Bytes<CowSlice<'static, u8, Global>>>::is_owned(),
-        bool::is_owned(),
-        Nothing::is_owned(),
-        <Vec<u8>>::is_owned(),
-        <Map<Vec<(u8, String)>>>::is_owned(),
-        <Tag<Option<i128>>>::is_owned(),
-        <Box<u8>>::is_owned(),
-    ];
-    assert_eq!(rt; owned, [true; 12]);
-    let borrowed = [
-        <&str>::is_owned(),
-        <Bytes<&[u8]>>::is_owned(),
-        <UncheckedStr<&[u8]>>::is_owned(),
-        <Vec<&str>>::is_owned(),
-        <Map<Vec<(u8, &str)>>>::is_owned(),
-        <Map<Vec<(&str, u8)>>>::is_owned(),
-        <Tag<&str>>::is_owned(),
-        <Option<&str>>::is_owned(),
-        <Maybe<Option<&str>>>::is_owned(),
-        <Box<&str>>::is_owned(),
-    ];
-    assert_eq!(rt; borrowed, [false; 10]);
 }
 
 #[test]

@@ -58,10 +58,6 @@ impl Spelled for Station {
     fn is_never_empty() -> bool {
         true
     }
-
-    fn is_owned() -> bool {
-        true
-    }
 }
 
 /// Refused as its parts are, in their order: the length by the name "array", the number as a u64,

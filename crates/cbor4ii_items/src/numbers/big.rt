@@ -237,10 +237,6 @@ impl Spelled for u128 {
     fn is_never_empty() -> bool {
         true
     }
-
-    fn is_owned() -> bool {
-        true
-    }
 }
 
 /// An unsigned integer of any head, or a bignum of tag 2: a byte string of known length, of at most
@@ -302,10 +298,6 @@ impl Spelled for i128 {
     ghost closed = { true };
 
     fn is_never_empty() -> bool {
-        true
-    }
-
-    fn is_owned() -> bool {
         true
     }
 }

@@ -40,10 +40,6 @@ impl Spelled for Negative<u8> {
     fn is_never_empty() -> bool {
         true
     }
-
-    fn is_owned() -> bool {
-        true
-    }
 }
 
 /// A negative integer whose argument has at most one byte, whether or not in its shortest head (RFC
@@ -97,10 +93,6 @@ impl Spelled for Negative<u16> {
     ghost closed = { true };
 
     fn is_never_empty() -> bool {
-        true
-    }
-
-    fn is_owned() -> bool {
         true
     }
 }
@@ -158,10 +150,6 @@ impl Spelled for Negative<u32> {
     fn is_never_empty() -> bool {
         true
     }
-
-    fn is_owned() -> bool {
-        true
-    }
 }
 
 /// A negative integer whose argument has at most four bytes, whether or not in its shortest head
@@ -215,10 +203,6 @@ impl Spelled for Negative<u64> {
     ghost closed = { true };
 
     fn is_never_empty() -> bool {
-        true
-    }
-
-    fn is_owned() -> bool {
         true
     }
 }

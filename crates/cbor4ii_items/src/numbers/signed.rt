@@ -214,10 +214,6 @@ impl Spelled for i8 {
     fn is_never_empty() -> bool {
         true
     }
-
-    fn is_owned() -> bool {
-        true
-    }
 }
 
 /// An integer of major type 0, or a negative one of major type 1, whose argument has at most one
@@ -276,10 +272,6 @@ impl Spelled for i16 {
     ghost closed = { true };
 
     fn is_never_empty() -> bool {
-        true
-    }
-
-    fn is_owned() -> bool {
         true
     }
 }
@@ -343,10 +335,6 @@ impl Spelled for i32 {
     fn is_never_empty() -> bool {
         true
     }
-
-    fn is_owned() -> bool {
-        true
-    }
 }
 
 /// An integer of major type 0, or a negative one of major type 1, whose argument has at most four
@@ -406,10 +394,6 @@ impl Spelled for i64 {
     ghost closed = { true };
 
     fn is_never_empty() -> bool {
-        true
-    }
-
-    fn is_owned() -> bool {
         true
     }
 }

@@ -39,10 +39,6 @@ impl Spelled for u8 {
     fn is_never_empty() -> bool {
         true
     }
-
-    fn is_owned() -> bool {
-        true
-    }
 }
 
 /// An unsigned integer whose argument has at most one byte, whether or not in its shortest head
@@ -96,10 +92,6 @@ impl Spelled for u16 {
     ghost closed = { true };
 
     fn is_never_empty() -> bool {
-        true
-    }
-
-    fn is_owned() -> bool {
         true
     }
 }
@@ -157,10 +149,6 @@ impl Spelled for u32 {
     fn is_never_empty() -> bool {
         true
     }
-
-    fn is_owned() -> bool {
-        true
-    }
 }
 
 /// An unsigned integer whose argument has at most four bytes, whether or not in its shortest head
@@ -214,10 +202,6 @@ impl Spelled for u64 {
     ghost closed = { true };
 
     fn is_never_empty() -> bool {
-        true
-    }
-
-    fn is_owned() -> bool {
         true
     }
 }

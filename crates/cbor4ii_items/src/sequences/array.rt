@@ -35,10 +35,6 @@ impl<T: Spelled> Spelled for Vec<T> {
     fn is_never_empty() -> bool {
         true
     }
-
-    fn is_owned() -> bool {
-        T::is_owned()
-    }
 }
 
 impl<S: Source, T: Decode<S> + Drop> Sequence<S> for Vec<T> {

@@ -45,10 +45,6 @@ impl<K: Spelled, V: Spelled> Spelled for Map<Vec<(K, V)>> {
     fn is_never_empty() -> bool {
         true
     }
-
-    fn is_owned() -> bool {
-        K::is_owned() && V::is_owned()
-    }
 }
 
 impl<S: Source, K: Decode<S> + Drop, V: Decode<S> + Drop> Sequence<S> for Map<Vec<(K, V)>> {

@@ -46,12 +46,6 @@ impl<'de> Spelled for &'de str {
     {
         true
     }
-
-    fn is_owned() -> bool
-        ensures { result ≡ false }
-    {
-        false
-    }
 }
 
 impl<'de, R: Read<'de>> Lend<R> for &'de str {
@@ -122,12 +116,6 @@ impl<'de> Spelled for Bytes<&'de [u8]> {
         ensures { result ≡ true }
     {
         true
-    }
-
-    fn is_owned() -> bool
-        ensures { result ≡ false }
-    {
-        false
     }
 }
 
@@ -201,12 +189,6 @@ impl<'de> Spelled for UncheckedStr<&'de [u8]> {
         ensures { result ≡ true }
     {
         true
-    }
-
-    fn is_owned() -> bool
-        ensures { result ≡ false }
-    {
-        false
     }
 }
 

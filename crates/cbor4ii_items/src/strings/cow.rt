@@ -62,12 +62,6 @@ impl<'de> Spelled for CowStr<'de, Global> {
     {
         true
     }
-
-    fn is_owned() -> bool
-        ensures { result ≡ true }
-    {
-        true
-    }
 }
 
 impl<'de, R: Read<'de>> LendOrOwn<R> for CowStr<'de, Global> {
@@ -171,12 +165,6 @@ impl<'de> Spelled for Bytes<CowSlice<'de, u8, Global>> {
     ghost closed = { true };
 
     fn is_never_empty() -> bool
-        ensures { result ≡ true }
-    {
-        true
-    }
-
-    fn is_owned() -> bool
         ensures { result ≡ true }
     {
         true
@@ -287,12 +275,6 @@ impl<'de> Spelled for UncheckedStr<CowSlice<'de, u8, Global>> {
     ghost closed = { true };
 
     fn is_never_empty() -> bool
-        ensures { result ≡ true }
-    {
-        true
-    }
-
-    fn is_owned() -> bool
         ensures { result ≡ true }
     {
         true

@@ -50,10 +50,6 @@ impl Spelled for Bytes<Vec<u8>> {
     fn is_never_empty() -> bool {
         true
     }
-
-    fn is_owned() -> bool {
-        true
-    }
 }
 
 /// A byte string, of known or of indefinite length (RFC 8949 sections 3.1 and 3.2.3). Each chunk is
@@ -100,10 +96,6 @@ impl Spelled for UncheckedStr<Vec<u8>> {
     ghost closed = { true };
 
     fn is_never_empty() -> bool {
-        true
-    }
-
-    fn is_owned() -> bool {
         true
     }
 }
@@ -155,10 +147,6 @@ impl Spelled for String {
     ghost closed = { true };
 
     fn is_never_empty() -> bool {
-        true
-    }
-
-    fn is_owned() -> bool {
         true
     }
 }

@@ -106,10 +106,6 @@ impl Typed for Value {
         true
     }
 
-    fn is_owned() -> bool {
-        true
-    }
-
     ghost laws = { λ _. any_laws };
 }
 

@@ -44,12 +44,6 @@ impl<'de> Typed for &'de str {
         true
     }
 
-    fn is_owned() -> bool
-        ensures { result ≡ false }
-    {
-        false
-    }
-
     ghost laws = { λ _. record {
       one = lent_one 3 three_small true lent_str;
       within = lent_within 3 three_small true lent_str;
@@ -125,12 +119,6 @@ impl<'de> Typed for Bytes<&'de [u8]> {
         ensures { result ≡ true }
     {
         true
-    }
-
-    fn is_owned() -> bool
-        ensures { result ≡ false }
-    {
-        false
     }
 
     ghost laws = { λ _. record {

@@ -27,10 +27,6 @@ impl<T: Typed> Typed for Box<T> {
         T::is_never_empty()
     }
 
-    fn is_owned() -> bool {
-        T::is_owned()
-    }
-
     ghost laws = { λ e. record {
       one = λ xs b c. (T.laws e).one xs b.value c.value;
       within = λ xs b. (T.laws e).within xs b.value;

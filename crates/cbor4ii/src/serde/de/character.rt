@@ -30,10 +30,6 @@ impl Typed for char {
         true
     }
 
-    fn is_owned() -> bool {
-        true
-    }
-
     ghost laws = { λ _. char_laws };
 }
 

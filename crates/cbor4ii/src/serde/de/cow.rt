@@ -47,12 +47,6 @@ impl<'de> Typed for CowStr<'de, Global> {
         true
     }
 
-    fn is_owned() -> bool
-        ensures { result ≡ true }
-    {
-        true
-    }
-
     ghost laws = { λ _. record {
       one = text_one cow_text;
       within = text_within cow_text;
@@ -103,12 +97,6 @@ impl<'de> Typed for Bytes<CowSlice<'de, u8, Global>> {
     ghost exact = { true };
 
     fn is_never_empty() -> bool
-        ensures { result ≡ true }
-    {
-        true
-    }
-
-    fn is_owned() -> bool
         ensures { result ≡ true }
     {
         true

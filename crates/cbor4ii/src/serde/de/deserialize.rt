@@ -41,10 +41,6 @@ pub trait Typed: Sized {
     fn is_never_empty() -> bool
         ensures { result ≡ never_empty };
 
-    /// Whether a value needs no borrowed part of the input.
-    fn is_owned() -> bool
-        ensures { result ≡ owned };
-
     // One input is read in one way, what is read stands in the input, and a type of which no
     // reading is empty reads a byte.
     ghost laws: { IsTrue exact → Lawful Self.reads Self.same Self.never_empty };

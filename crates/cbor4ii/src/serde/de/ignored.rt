@@ -46,10 +46,6 @@ impl Typed for IgnoredAny {
         true
     }
 
-    fn is_owned() -> bool {
-        true
-    }
-
     ghost laws = { λ _. record {
       one = ignored_one;
       within = ignored_within;

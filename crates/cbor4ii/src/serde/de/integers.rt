@@ -41,10 +41,6 @@ impl Typed for u8 {
         true
     }
 
-    fn is_owned() -> bool {
-        true
-    }
-
     ghost laws = { λ _. record {
       one = unsigned_one 1;
       within = unsigned_within 1;
@@ -74,10 +70,6 @@ impl Typed for u16 {
     ghost exact = { true };
 
     fn is_never_empty() -> bool {
-        true
-    }
-
-    fn is_owned() -> bool {
         true
     }
 
@@ -113,10 +105,6 @@ impl Typed for u32 {
         true
     }
 
-    fn is_owned() -> bool {
-        true
-    }
-
     ghost laws = { λ _. record {
       one = unsigned_one 4;
       within = unsigned_within 4;
@@ -146,10 +134,6 @@ impl Typed for u64 {
     ghost exact = { true };
 
     fn is_never_empty() -> bool {
-        true
-    }
-
-    fn is_owned() -> bool {
         true
     }
 
@@ -185,10 +169,6 @@ impl Typed for u128 {
         true
     }
 
-    fn is_owned() -> bool {
-        true
-    }
-
     ghost laws = { λ _. record {
       one = u128_one;
       within = u128_within;
@@ -218,10 +198,6 @@ impl Typed for i8 {
     ghost exact = { true };
 
     fn is_never_empty() -> bool {
-        true
-    }
-
-    fn is_owned() -> bool {
         true
     }
 
@@ -257,10 +233,6 @@ impl Typed for i16 {
         true
     }
 
-    fn is_owned() -> bool {
-        true
-    }
-
     ghost laws = { λ _. record {
       one = signed_one 2 (2 ^ 15);
       within = signed_within 2 (2 ^ 15);
@@ -290,10 +262,6 @@ impl Typed for i32 {
     ghost exact = { true };
 
     fn is_never_empty() -> bool {
-        true
-    }
-
-    fn is_owned() -> bool {
         true
     }
 
@@ -329,10 +297,6 @@ impl Typed for i64 {
         true
     }
 
-    fn is_owned() -> bool {
-        true
-    }
-
     ghost laws = { λ _. record {
       one = signed_one 8 (2 ^ 63);
       within = signed_within 8 (2 ^ 63);
@@ -362,10 +326,6 @@ impl Typed for i128 {
     ghost exact = { true };
 
     fn is_never_empty() -> bool {
-        true
-    }
-
-    fn is_owned() -> bool {
         true
     }
 

@@ -61,10 +61,6 @@ impl<K: Typed + Ord, V: Typed> Typed for BTreeMap<K, V> {
         true
     }
 
-    fn is_owned() -> bool {
-        K::is_owned() && V::is_owned()
-    }
-
     ghost laws = { λ e. btree_laws (λ m. m.entries) K.cmp K.reads V.reads K.same V.same
         (K.never_empty || V.never_empty)
         (pair_laws K.reads V.reads K.same V.same K.never_empty V.never_empty

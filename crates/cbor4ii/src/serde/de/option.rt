@@ -36,10 +36,6 @@ impl<T: Typed> Typed for Option<T> {
         T::is_never_empty()
     }
 
-    fn is_owned() -> bool {
-        T::is_owned()
-    }
-
     ghost laws = { λ e.
         option_laws (Stepped T.reads) T.same T.never_empty (stepped_laws (T.laws e)) };
 }

@@ -38,10 +38,6 @@ impl Typed for String {
         true
     }
 
-    fn is_owned() -> bool {
-        true
-    }
-
     ghost laws = { λ _. record {
       one = text_one text_content;
       within = text_within text_content;
@@ -74,10 +70,6 @@ impl Typed for Bytes<Vec<u8>> {
     ghost exact = { true };
 
     fn is_never_empty() -> bool {
-        true
-    }
-
-    fn is_owned() -> bool {
         true
     }
 

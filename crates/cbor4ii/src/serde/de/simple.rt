@@ -30,10 +30,6 @@ impl Typed for bool {
         true
     }
 
-    fn is_owned() -> bool {
-        true
-    }
-
     ghost laws = { λ _. record {
       one = bool_one;
       within = bool_within;
@@ -63,10 +59,6 @@ impl Typed for F16 {
     ghost exact = { true };
 
     fn is_never_empty() -> bool {
-        true
-    }
-
-    fn is_owned() -> bool {
         true
     }
 
@@ -102,10 +94,6 @@ impl Typed for F32 {
         true
     }
 
-    fn is_owned() -> bool {
-        true
-    }
-
     ghost laws = { λ _. record {
       one = λ xs v w. float_one 0xfa 4 xs v.0 w.0;
       within = λ xs v. float_within 0xfa 4 xs v.0;
@@ -135,10 +123,6 @@ impl Typed for F64 {
     ghost exact = { true };
 
     fn is_never_empty() -> bool {
-        true
-    }
-
-    fn is_owned() -> bool {
         true
     }
 

@@ -60,10 +60,6 @@ impl<A: Typed, B: Typed> Typed for (A, B) {
         true
     }
 
-    fn is_owned() -> bool {
-        A::is_owned() && B::is_owned()
-    }
-
     ghost laws = { λ e. stepped_laws (behind_laws 2 (pair_laws A.reads B.reads A.same B.same
         A.never_empty B.never_empty (A.laws (both A.exact B.exact e).0)
         (B.laws (both A.exact B.exact e).1))) };
@@ -202,10 +198,6 @@ impl<A: Typed, B: Typed, C: Typed> Typed for (A, B, C) {
 
     fn is_never_empty() -> bool {
         true
-    }
-
-    fn is_owned() -> bool {
-        A::is_owned() && (B::is_owned() && C::is_owned())
     }
 
     ghost laws = { λ e. stepped_laws (behind_laws 3 (triple_laws A.reads B.reads C.reads

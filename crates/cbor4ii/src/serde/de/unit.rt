@@ -48,10 +48,6 @@ impl Typed for () {
         true
     }
 
-    fn is_owned() -> bool {
-        true
-    }
-
     ghost laws = { λ _. unit_laws };
 }
 

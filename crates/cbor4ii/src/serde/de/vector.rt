@@ -39,10 +39,6 @@ impl<T: Typed> Typed for Vec<T> {
         true
     }
 
-    fn is_owned() -> bool {
-        T::is_owned()
-    }
-
     ghost laws = { λ e. record {
       one = array_one T.reads T.same T.never_empty (T.laws e).one;
       within = array_within T.reads T.never_empty (T.laws e).within;
