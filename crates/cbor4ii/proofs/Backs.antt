@@ -1,5 +1,5 @@
 -- What stands for a typed value is read back.
-use Rattle.std.proofs.Common.{◌≡◌, inl, inr, ℕ, ◌+◌, ◌<◌, ◌≤◌, ◌^◌, List, [], ◌∷◌, ◌++◌, length, drop, max, Bool, Option, Some, None, refl, sym, ap, ◌∙◌, subst, arith, append_assoc, append-nil, length-append, All}
+use Rattle.std.proofs.Common.{◌≡◌, inl, inr, ℕ, ◌+◌, ◌<◌, ◌≤◌, ◌^◌, List, [], ◌∷◌, ◌++◌, length, drop, max, Bool, true, Option, Some, None, refl, sym, ap, ◌∙◌, subst, arith, append_assoc, append-nil, length-append, All}
 use Rattle.std.proofs.lemmas.List.Elements.{All-head, All-tail}
 use Rattle.std.proofs.Math.Seq.{drop-append_seam}
 use Rattle.std.specs.declared.cmp.Ordering.{Ordering}
@@ -173,7 +173,7 @@ module _ {K V : Type 0} (cmp : K → K → Ordering) (total : IsTotalOrder cmp) 
   pub built_again : (es : List (K × V)) → IsStrictlySortedBy cmp (keys_of es) → built cmp es ≡ es
   built_again es h = put_again [] es h
 
-pub map_read_back : {K V M : Type 0} (entries : M → List (K × V)) (cmp : K → K → Ordering) (key : Reads K) (value : Reads V) (never_empty : Bool) (o : Option (List ℕ)) (m : M) (cost : ℕ) → built cmp (entries m) ≡ entries m
-    → IsReadBack (ReadsSequence 5 (ReadsPair key value) never_empty) o (entries m) cost → IsReadBack (ReadsBTreeMap entries cmp key value never_empty) o m cost
-map_read_back entries cmp key value never_empty None m cost e h = tt
-map_read_back entries cmp key value never_empty (Some bytes) m cost e h = λ rest. (entries m, h rest, sym e)
+pub map_read_back : {K V M : Type 0} (entries : M → List (K × V)) (cmp : K → K → Ordering) (key : Reads K) (value : Reads V) (o : Option (List ℕ)) (m : M) (cost : ℕ) → built cmp (entries m) ≡ entries m
+    → IsReadBack (ReadsSequence 5 (ReadsPair key value) true) o (entries m) cost → IsReadBack (ReadsBTreeMap entries cmp key value) o m cost
+map_read_back entries cmp key value None m cost e h = tt
+map_read_back entries cmp key value (Some bytes) m cost e h = λ rest. (entries m, h rest, sym e)

@@ -1,5 +1,5 @@
 -- Which form a variant has, and what is read of its content.
-use Rattle.std.proofs.Common.{◌≡◌, ◌≢◌, ℕ, ◌/◌, List, [], ◌∷◌, take, Option, Some, Bool, true, false, Result, Ok, Err, refl, sym, ap, ◌∙◌, subst, IfSome, IfOk, IfErr, IsTrue}
+use Rattle.std.proofs.Common.{◌≡◌, ◌≢◌, ℕ, ◌/◌, List, [], ◌∷◌, take, Option, Bool, true, false, Result, Ok, Err, refl, ap, ◌∙◌, IfOk, IfErr, IsTrue}
 use Rattle.std.specs.Prelude.{codes}
 use denote.Ref.{Bor}
 use Rattle.cbor4ii_rw.specs.View.{View}
@@ -7,7 +7,7 @@ use Rattle.cbor4ii_rw.specs.Reader.{Advances, KeepsAllButBudget}
 use Rattle.cbor4ii_rw.specs.declared.error.DecodeError.{DecodeError}
 use Rattle.cbor4ii_rw.specs.declared.error.DecodeError.TheVariants.{Mismatch}
 use Rattle.cbor4ii_items.specs.Moves.{Moves}
-use Rattle.cbor4ii_items.specs.Refusal.{Refusal, refusal_of, mismatch}
+use Rattle.cbor4ii_items.specs.Refusal.{Refusal, mismatch}
 use Rattle.cbor4ii_items.specs.Next.{ReadsNext, StopsNext}
 use Rattle.cbor4ii_items.specs.Decoding.{Reads, StopsAt, Sound, NoneRead, Refuses, Stops}
 use Rattle.cbor4ii_items.specs.Laws.Answering.{fits_zero, refuses_as}

@@ -1,17 +1,14 @@
 -- How arrays and maps are refused, head and parts together.
-use Rattle.std.proofs.Common.{◌≡◌, ℕ, ◌<◌, List, drop, Some, Result, Ok, Err, Bool, false, refl, ◌∙◌, subst, arith, IfSome, IfErr, IsTrue}
-use denote.Ref.{Bor}
+use Rattle.std.proofs.Common.{◌≡◌, ℕ, ◌<◌, List, drop, Some, Result, Ok, Err, Bool, ◌∙◌, subst, arith, IfSome, IfErr, IsTrue}
 use Rattle.cbor4ii_rw.specs.View.{View}
 use Rattle.cbor4ii_rw.specs.declared.error.DecodeError.{DecodeError}
-use Rattle.cbor4ii_rw.specs.declared.error.DecodeError.TheVariants.{RequireLength}
-use Rattle.cbor4ii_rw.specs.declared.error.Len.TheVariants.{Indefinite}
 use Rattle.cbor4ii_items.specs.Decoding.{Reads, StopsAt, Stops}
 use Rattle.cbor4ii_items.specs.Lengths.{StopsLength}
 use Rattle.cbor4ii_items.specs.Laws.ProgramEnds.{break_refused}
 use Rattle.cbor4ii_items.specs.Reading.{Runs}
 use Rattle.cbor4ii_items.specs.ReadStrings.{break_at}
 use Rattle.cbor4ii_items.specs.Refusal.{refusal_of}
-use Rattle.cbor4ii_items.specs.Sequences.{StopsCount, StopsPlace, no_byte, may_read_nothing, part_refused, StopsUpToBreak, StopsInside, length_refused, counted_refused, open_refused}
+use Rattle.cbor4ii_items.specs.Sequences.{StopsCount, StopsPlace, no_byte, part_refused, StopsUpToBreak, StopsInside, length_refused, counted_refused, open_refused}
 use Rattle.cbor4ii.specs.declared.serde.de.error.DecodeError.{DecodeError as Typed}
 use Rattle.cbor4ii.specs.Typed.{as_core}
 use Rattle.cbor4ii_items.specs.Laws.SequenceParts.{Begun, Opened, Stands}
@@ -52,12 +49,6 @@ module _ {P : Type 0} (reads : Reads P) (stops : StopsAt) where
       end_stops {a = a} {l = l} {m = m} {ps = ps} {e = e} h q = stops_at a l m ps e h (λ xs told.
           stops_as (refusal_of e) m.told (λ z ys. break_at xs ≡ Err (z, ys)) (StopsPlace name stops never_empty xs a.budget)
           (λ z ys t. let b = break_refused xs ys z t in no_byte b.0 b.1 b.2) (q.answers xs told))
-
-    -- a part may read nothing
-    pub nothing_stops : {E : Type 0} (name : Bor (List ℕ)) {a l m : View} {ps : List P} → never_empty ≡ false → Opened reads never_empty a l ps → Stands l m → Stops {E = E} (StopsUpToBreak name.now reads stops never_empty) a m (RequireLength name Indefinite)
-    nothing_stops name {a = a} {l = l} {m = m} {ps = ps} empty h s = stops_at name.now a l m ps (RequireLength name Indefinite) h (λ xs told.
-        let f = s.at xs told in
-        (xs, f.0, may_read_nothing f.1 f.2 empty refl refl))
 
     module _ (name : List ℕ) (major : ℕ) where
       pub head_stops : {E : Type 0} {a m : View} {e : DecodeError E} → Stops (StopsLength name major) a m e → Stops (StopsInside name major reads stops never_empty) a m e

@@ -84,7 +84,7 @@ StopsEntry stops xs budget refusal rest = StopsText (codes "str") xs budget refu
 -- How it is refused: no step is left, or the head of a map is refused, or behind some whole entries no byte is left, or an
 -- entry is refused.
 abbrev pub StopsFields : {V : Type 0} → ReadsNamed V → StopsNamed → StopsAt
-StopsFields named stops = StopsParts (codes "map") (codes "map") 5 (ReadsEntry named) (StopsEntry stops) true
+StopsFields named stops = StopsParts (codes "map") (codes "map") 5 (ReadsEntry named) (StopsEntry stops)
 
 -- each of them is so
 abbrev pub every : List Bool → Bool

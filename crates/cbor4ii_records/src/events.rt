@@ -59,17 +59,11 @@ impl Typed for Sample {
 
     ghost same = { any_two };
 
-    ghost never_empty = { true };
-
     ghost owned = { true };
 
     ghost takes_memory = { true };
 
     ghost exact = { false };
-
-    fn is_never_empty() -> bool {
-        true
-    }
 
     ghost laws = { not_exact };
 }
@@ -142,17 +136,11 @@ impl Typed for Event {
 
     ghost same = { any_two };
 
-    ghost never_empty = { true };
-
     ghost owned = { true };
 
     ghost takes_memory = { true };
 
     ghost exact = { false };
-
-    fn is_never_empty() -> bool {
-        true
-    }
 
     ghost laws = { not_exact };
 }
@@ -219,17 +207,11 @@ impl Typed for Name {
 
     ghost same = { any_two };
 
-    ghost never_empty = { true };
-
     ghost owned = { true };
 
     ghost takes_memory = { true };
 
     ghost exact = { false };
-
-    fn is_never_empty() -> bool {
-        true
-    }
 
     ghost laws = { not_exact };
 }

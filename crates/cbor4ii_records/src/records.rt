@@ -53,17 +53,11 @@ impl Typed for Point {
 
     ghost same = { any_two };
 
-    ghost never_empty = { true };
-
     ghost owned = { true };
 
     ghost takes_memory = { true };
 
     ghost exact = { false };
-
-    fn is_never_empty() -> bool {
-        true
-    }
 
     ghost laws = { not_exact };
 }

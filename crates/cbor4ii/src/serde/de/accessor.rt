@@ -334,7 +334,7 @@ impl<'a, S: Source> Accessor<'a, S> {
             (inside S.view self.old) (inside S.view self.new) (as_core error)) }
         ensures still { left_in self.old ≢ Open → IfOk result
             (λ part. part ≡ None → inside S.view self.new ≡ inside S.view self.old) }
-        ensures shrinks { IsTrue T.never_empty → IfOk result (λ part. OnSome part
+        ensures shrinks { IfOk result (λ part. OnSome part
             (fuel (left_in self.new) (inside S.view self.new).bound + 1
             ≤ fuel (left_in self.old) (inside S.view self.old).bound)) }
     {
@@ -372,7 +372,7 @@ impl<'a, S: Source> Accessor<'a, S> {
             (inside S.view self.old) (inside S.view self.new) (as_core error)) }
         ensures still { left_in self.old ≢ Open → IfOk result
             (λ part. part ≡ None → inside S.view self.new ≡ inside S.view self.old) }
-        ensures shrinks { IsTrue K.never_empty → IfOk result (λ part. OnSome part
+        ensures shrinks { IfOk result (λ part. OnSome part
             (fuel (left_in self.new) (inside S.view self.new).bound + 1
             ≤ fuel (left_in self.old) (inside S.view self.old).bound)) }
     {
@@ -435,7 +435,7 @@ impl<'a, S: Source> Accessor<'a, S> {
             (inside S.view self.old) (inside S.view self.new) (as_core error)) }
         ensures still { left_in self.old ≢ Open → IfOk result
             (λ part. part ≡ None → inside S.view self.new ≡ inside S.view self.old) }
-        ensures shrinks { IsTrue K.never_empty → IfOk result (λ part. OnSome part
+        ensures shrinks { IfOk result (λ part. OnSome part
             (fuel (left_in self.new) (inside S.view self.new).bound + 1
             ≤ fuel (left_in self.old) (inside S.view self.old).bound)) }
     {

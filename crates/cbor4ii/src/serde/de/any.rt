@@ -94,17 +94,11 @@ impl Typed for Value {
 
     ghost same = { SameView };
 
-    ghost never_empty = { true };
-
     ghost owned = { true };
 
     ghost takes_memory = { true };
 
     ghost exact = { true };
-
-    fn is_never_empty() -> bool {
-        true
-    }
 
     ghost laws = { λ _. any_laws };
 }

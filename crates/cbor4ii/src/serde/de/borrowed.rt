@@ -30,19 +30,11 @@ impl<'de> Typed for &'de str {
 
     ghost same = { ⟦<&'de str as Spelled>⟧.same };
 
-    ghost never_empty = { true };
-
     ghost owned = { false };
 
     ghost takes_memory = { true };
 
     ghost exact = { true };
-
-    fn is_never_empty() -> bool
-        ensures { result ≡ true }
-    {
-        true
-    }
 
     ghost laws = { λ _. record {
       one = lent_one 3 three_small true lent_str;
@@ -107,19 +99,11 @@ impl<'de> Typed for Bytes<&'de [u8]> {
 
     ghost same = { ⟦<Bytes<&'de [u8]> as Spelled>⟧.same };
 
-    ghost never_empty = { true };
-
     ghost owned = { false };
 
     ghost takes_memory = { true };
 
     ghost exact = { true };
-
-    fn is_never_empty() -> bool
-        ensures { result ≡ true }
-    {
-        true
-    }
 
     ghost laws = { λ _. record {
       one = lent_one 2 two_small false lent_bytes;

@@ -15,17 +15,11 @@ impl<T: Typed> Typed for Box<T> {
 
     ghost same = { λ b c. T.same b.value c.value };
 
-    ghost never_empty = { T.never_empty };
-
     ghost owned = { T.owned };
 
     ghost takes_memory = { true };
 
     ghost exact = { T.exact };
-
-    fn is_never_empty() -> bool {
-        T::is_never_empty()
-    }
 
     ghost laws = { λ e. record {
       one = λ xs b c. (T.laws e).one xs b.value c.value;

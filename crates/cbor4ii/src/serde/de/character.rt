@@ -18,17 +18,11 @@ impl Typed for char {
 
     ghost same = { λ v w. v ≡ w };
 
-    ghost never_empty = { true };
-
     ghost owned = { true };
 
     ghost takes_memory = { true };
 
     ghost exact = { true };
-
-    fn is_never_empty() -> bool {
-        true
-    }
 
     ghost laws = { λ _. char_laws };
 }

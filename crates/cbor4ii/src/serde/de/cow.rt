@@ -33,19 +33,11 @@ impl<'de> Typed for CowStr<'de, Global> {
 
     ghost same = { ⟦<CowStr<'de, Global> as Spelled>⟧.same };
 
-    ghost never_empty = { true };
-
     ghost owned = { true };
 
     ghost takes_memory = { ⟦<CowStr<'de, Global> as Spelled>⟧.takes_memory };
 
     ghost exact = { true };
-
-    fn is_never_empty() -> bool
-        ensures { result ≡ true }
-    {
-        true
-    }
 
     ghost laws = { λ _. record {
       one = text_one cow_text;
@@ -88,19 +80,11 @@ impl<'de> Typed for Bytes<CowSlice<'de, u8, Global>> {
 
     ghost same = { ⟦<Bytes<CowSlice<'de, u8, Global>> as Spelled>⟧.same };
 
-    ghost never_empty = { true };
-
     ghost owned = { true };
 
     ghost takes_memory = { ⟦<Bytes<CowSlice<'de, u8, Global>> as Spelled>⟧.takes_memory };
 
     ghost exact = { true };
-
-    fn is_never_empty() -> bool
-        ensures { result ≡ true }
-    {
-        true
-    }
 
     ghost laws = { λ _. record {
       one = as_one 2 two_small cow_bytes;

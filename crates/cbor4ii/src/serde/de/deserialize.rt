@@ -1,5 +1,5 @@
 //! What reading a typed value is.
-ghost use Rattle.std.specs.Prelude.{◌≡◌, ◌+◌, ◌≤◌, Bool, OnOk, IfOk, IfErr, IsTrue};
+ghost use Rattle.std.specs.Prelude.{◌≡◌, ◌+◌, ◌≤◌, Bool, true, OnOk, IfOk, IfErr, IsTrue};
 ghost use Rattle.cbor4ii_items.specs.Moves.{Moves};
 ghost use Rattle.cbor4ii_items.specs.Decoding.{Reads, StopsAt, IsExact, Sound, Refuses, Stops};
 ghost use Rattle.cbor4ii_items.specs.Refusal.{is_out_of_memory};
@@ -24,9 +24,6 @@ pub trait Typed: Sized {
     // left then. A type that is not exact owes nothing of it.
     ghost stops: { StopsAt };
 
-    // No reading is empty.
-    ghost never_empty: { Bool };
-
     // A value needs no borrowed part of the input.
     ghost owned: { Bool };
 
@@ -37,13 +34,8 @@ pub trait Typed: Sized {
     // refuses, and owes no law.
     ghost exact: { Bool };
 
-    /// Whether an accepted value always reads a byte.
-    fn is_never_empty() -> bool
-        ensures { result ≡ never_empty };
-
-    // One input is read in one way, what is read stands in the input, and a type of which no
-    // reading is empty reads a byte.
-    ghost laws: { IsTrue exact → Lawful Self.reads Self.same Self.never_empty };
+    // One input is read in one way, and what is read stands in the input and takes a byte.
+    ghost laws: { IsTrue exact → Lawful Self.reads Self.same true };
 }
 
 /// A type whose values are read from a reader.
@@ -53,7 +45,8 @@ pub trait Deserialize<S: Source>: Typed {
     ///
     /// Over any lawful reader, also one that does not tell its bytes, and whatever the answer is:
     /// the budget is as before, the bytes that are left are an end of those that were there, no
-    /// more can come than before, and a reader that lends whole still does.
+    /// more can come than before, and a reader that lends whole still does. An accepted value took
+    /// at least one byte.
     ///
     /// # Errors
     ///
@@ -66,8 +59,8 @@ pub trait Deserialize<S: Source>: Typed {
     /// fields, and which bytes are left, is what the type's `stops` says.
     fn deserialize(alloc: Global, de: &mut Deserializer<S>) -> Result<Self, DecodeError<S::Error>>
         ensures moves { Moves (input S.view de.old) (input S.view de.new) (answer_of result) }
-        ensures progress { IsTrue Self.never_empty →
-            OnOk result ((input S.view de.new).bound + 1 ≤ (input S.view de.old).bound) }
+        ensures progress { OnOk result
+            ((input S.view de.new).bound + 1 ≤ (input S.view de.old).bound) }
         ensures memory { IfErr result
             (λ error. IsTrue (is_out_of_memory (as_core error)) → IsTrue Self.takes_memory) }
         ensures sound { IfOk result

@@ -254,7 +254,7 @@ impl<'a, S: Source> EnumAccessor<'a, S> {
             (answer_of result) }
         ensures memory { IfErr result
             (λ error. IsTrue (is_out_of_memory (as_core error)) → IsTrue V.takes_memory) }
-        ensures progress { IsTrue V.never_empty → OnOk result
+        ensures progress { OnOk result
             ((inside_enum S.view self.new).bound + 1 ≤ (inside_enum S.view self.old).bound) }
         ensures sound { IfOk result
             (Sound V.reads (inside_enum S.view self.old) (inside_enum S.view self.new)) }
@@ -318,7 +318,7 @@ impl<'a, S: Source> EnumAccessor<'a, S> {
             × Closes 1 (inside_enum S.view self.entry) (input S.view self.exit.0.now) }
         ensures memory { IfErr result
             (λ error. IsTrue (is_out_of_memory (as_core error)) → IsTrue T.takes_memory) }
-        ensures progress { IsTrue T.never_empty → OnOk result
+        ensures progress { OnOk result
             ((input S.view self.exit.0.now).bound + 1
             ≤ (inside_enum S.view self.entry).bound) }
         ensures sound { IfOk result (Sound (ReadsContent (form_of self.entry).0 T.reads)

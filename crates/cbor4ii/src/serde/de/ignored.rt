@@ -34,17 +34,11 @@ impl Typed for IgnoredAny {
 
     ghost same = { ⟦<IgnoredAny as Spelled>⟧.same };
 
-    ghost never_empty = { true };
-
     ghost owned = { true };
 
     ghost takes_memory = { ⟦<IgnoredAny as Spelled>⟧.takes_memory };
 
     ghost exact = { true };
-
-    fn is_never_empty() -> bool {
-        true
-    }
 
     ghost laws = { λ _. record {
       one = ignored_one;

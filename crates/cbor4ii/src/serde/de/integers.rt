@@ -29,17 +29,11 @@ impl Typed for u8 {
 
     ghost same = { ⟦<u8 as Spelled>⟧.same };
 
-    ghost never_empty = { true };
-
     ghost owned = { true };
 
     ghost takes_memory = { ⟦<u8 as Spelled>⟧.takes_memory };
 
     ghost exact = { true };
-
-    fn is_never_empty() -> bool {
-        true
-    }
 
     ghost laws = { λ _. record {
       one = unsigned_one 1;
@@ -61,17 +55,11 @@ impl Typed for u16 {
 
     ghost same = { ⟦<u16 as Spelled>⟧.same };
 
-    ghost never_empty = { true };
-
     ghost owned = { true };
 
     ghost takes_memory = { ⟦<u16 as Spelled>⟧.takes_memory };
 
     ghost exact = { true };
-
-    fn is_never_empty() -> bool {
-        true
-    }
 
     ghost laws = { λ _. record {
       one = unsigned_one 2;
@@ -93,17 +81,11 @@ impl Typed for u32 {
 
     ghost same = { ⟦<u32 as Spelled>⟧.same };
 
-    ghost never_empty = { true };
-
     ghost owned = { true };
 
     ghost takes_memory = { ⟦<u32 as Spelled>⟧.takes_memory };
 
     ghost exact = { true };
-
-    fn is_never_empty() -> bool {
-        true
-    }
 
     ghost laws = { λ _. record {
       one = unsigned_one 4;
@@ -125,17 +107,11 @@ impl Typed for u64 {
 
     ghost same = { ⟦<u64 as Spelled>⟧.same };
 
-    ghost never_empty = { true };
-
     ghost owned = { true };
 
     ghost takes_memory = { ⟦<u64 as Spelled>⟧.takes_memory };
 
     ghost exact = { true };
-
-    fn is_never_empty() -> bool {
-        true
-    }
 
     ghost laws = { λ _. record {
       one = unsigned_one 8;
@@ -157,17 +133,11 @@ impl Typed for u128 {
 
     ghost same = { ⟦<u128 as Spelled>⟧.same };
 
-    ghost never_empty = { true };
-
     ghost owned = { true };
 
     ghost takes_memory = { ⟦<u128 as Spelled>⟧.takes_memory };
 
     ghost exact = { true };
-
-    fn is_never_empty() -> bool {
-        true
-    }
 
     ghost laws = { λ _. record {
       one = u128_one;
@@ -189,17 +159,11 @@ impl Typed for i8 {
 
     ghost same = { ⟦<i8 as Spelled>⟧.same };
 
-    ghost never_empty = { true };
-
     ghost owned = { true };
 
     ghost takes_memory = { ⟦<i8 as Spelled>⟧.takes_memory };
 
     ghost exact = { true };
-
-    fn is_never_empty() -> bool {
-        true
-    }
 
     ghost laws = { λ _. record {
       one = signed_one 1 (2 ^ 7);
@@ -221,17 +185,11 @@ impl Typed for i16 {
 
     ghost same = { ⟦<i16 as Spelled>⟧.same };
 
-    ghost never_empty = { true };
-
     ghost owned = { true };
 
     ghost takes_memory = { ⟦<i16 as Spelled>⟧.takes_memory };
 
     ghost exact = { true };
-
-    fn is_never_empty() -> bool {
-        true
-    }
 
     ghost laws = { λ _. record {
       one = signed_one 2 (2 ^ 15);
@@ -253,17 +211,11 @@ impl Typed for i32 {
 
     ghost same = { ⟦<i32 as Spelled>⟧.same };
 
-    ghost never_empty = { true };
-
     ghost owned = { true };
 
     ghost takes_memory = { ⟦<i32 as Spelled>⟧.takes_memory };
 
     ghost exact = { true };
-
-    fn is_never_empty() -> bool {
-        true
-    }
 
     ghost laws = { λ _. record {
       one = signed_one 4 (2 ^ 31);
@@ -285,17 +237,11 @@ impl Typed for i64 {
 
     ghost same = { ⟦<i64 as Spelled>⟧.same };
 
-    ghost never_empty = { true };
-
     ghost owned = { true };
 
     ghost takes_memory = { ⟦<i64 as Spelled>⟧.takes_memory };
 
     ghost exact = { true };
-
-    fn is_never_empty() -> bool {
-        true
-    }
 
     ghost laws = { λ _. record {
       one = signed_one 8 (2 ^ 63);
@@ -317,17 +263,11 @@ impl Typed for i128 {
 
     ghost same = { ⟦<i128 as Spelled>⟧.same };
 
-    ghost never_empty = { true };
-
     ghost owned = { true };
 
     ghost takes_memory = { ⟦<i128 as Spelled>⟧.takes_memory };
 
     ghost exact = { true };
-
-    fn is_never_empty() -> bool {
-        true
-    }
 
     ghost laws = { λ _. record {
       one = i128_one;

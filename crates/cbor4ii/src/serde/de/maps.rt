@@ -34,22 +34,17 @@ use crate::serde::de::parts::{Sequence, take_sequence};
 use crate::serde::de::tuples::two_parts;
 use cbor4ii_items::types::Map;
 use cbor4ii_rw::error as core_error;
-use cbor4ii_rw::error::StaticStr;
 use cbor4ii_rw::read::Source;
 use std::alloc::{AllocError, Global};
 use std::collections::BTreeMap;
 
 impl<K: Typed + Ord, V: Typed> Typed for BTreeMap<K, V> {
-    ghost reads = { ReadsBTreeMap (λ m. m.entries) K.cmp K.reads V.reads
-        (K.never_empty || V.never_empty) };
+    ghost reads = { ReadsBTreeMap (λ m. m.entries) K.cmp K.reads V.reads };
 
     ghost stops = { StopsParts (codes "map") (codes "map") 5 (ReadsPair K.reads V.reads)
-        (StopsPair K.reads (said K.exact K.stops) (said V.exact V.stops))
-        (K.never_empty || V.never_empty) };
+        (StopsPair K.reads (said K.exact K.stops) (said V.exact V.stops)) };
 
     ghost same = { SameBTreeMap (λ m. m.entries) K.cmp K.same V.same };
-
-    ghost never_empty = { true };
 
     ghost owned = { K.owned && V.owned };
 
@@ -57,13 +52,8 @@ impl<K: Typed + Ord, V: Typed> Typed for BTreeMap<K, V> {
 
     ghost exact = { K.exact && V.exact };
 
-    fn is_never_empty() -> bool {
-        true
-    }
-
     ghost laws = { λ e. btree_laws (λ m. m.entries) K.cmp K.reads V.reads K.same V.same
-        (K.never_empty || V.never_empty)
-        (pair_laws K.reads V.reads K.same V.same K.never_empty V.never_empty
+        (pair_laws K.reads V.reads K.same V.same true true
         (K.Typed.laws (both K.exact V.exact e).0) (V.laws (both K.exact V.exact e).1)) };
 }
 
@@ -77,8 +67,6 @@ impl<S: Source, K: Deserialize<S> + Ord + Drop, V: Deserialize<S> + Drop> Sequen
 
     ghost same = { SamePair K.same V.same };
 
-    ghost never_empty = { K.never_empty || V.never_empty };
-
     ghost owned = { K.owned && V.owned };
 
     ghost exact = { K.exact && V.exact };
@@ -86,14 +74,6 @@ impl<S: Source, K: Deserialize<S> + Ord + Drop, V: Deserialize<S> + Drop> Sequen
     ghost major = { 5 };
 
     ghost name = { codes "map" };
-
-    fn name() -> StaticStr {
-        "map"
-    }
-
-    fn is_part_never_empty() -> bool {
-        K::is_never_empty() || V::is_never_empty()
-    }
 
     fn take_length(reader: &mut S) -> Result<Option<usize>, core_error::DecodeError<S::Error>> {
         Map::<()>::len(reader)
@@ -103,7 +83,7 @@ impl<S: Source, K: Deserialize<S> + Ord + Drop, V: Deserialize<S> + Drop> Sequen
         two_parts::<S, K, V>(alloc, de)
     }
 
-    ghost laws = { λ e. pair_laws K.reads V.reads K.same V.same K.never_empty V.never_empty
+    ghost laws = { λ e. pair_laws K.reads V.reads K.same V.same true true
         (K.Typed.laws (both K.exact V.exact e).0) (V.laws (both K.exact V.exact e).1) };
 
     ghost small = { five_small };
@@ -122,22 +102,21 @@ impl<S: Source, K: Deserialize<S> + Ord + Drop, V: Deserialize<S> + Drop> Deseri
         de: &mut Deserializer<S>,
     ) -> Result<BTreeMap<K, V>, DecodeError<S::Error>>
         ensures moves { Moves (input S.view de.old) (input S.view de.new) (answer_of result) }
-        ensures progress { IsTrue true →
-            OnOk result ((input S.view de.new).bound + 1 ≤ (input S.view de.old).bound) }
+        ensures progress { OnOk result
+            ((input S.view de.new).bound + 1 ≤ (input S.view de.old).bound) }
         ensures memory { IfErr result
             (λ error. IsTrue (is_out_of_memory (as_core error)) → IsTrue true) }
         ensures sound { IfOk result (Sound
-            (ReadsBTreeMap (λ (m : BTreeMap K V Global). m.entries) K.cmp K.reads V.reads
-            (K.never_empty || V.never_empty)) (input S.view de.old) (input S.view de.new)) }
+            (ReadsBTreeMap (λ (m : BTreeMap K V Global). m.entries) K.cmp K.reads V.reads)
+            (input S.view de.old) (input S.view de.new)) }
         ensures complete { IsTrue (K.exact && V.exact) →
             IsExact (K.owned && V.owned) (input S.view de.old) → IfErr result
             (λ error. Refuses
-            (ReadsBTreeMap (λ (m : BTreeMap K V Global). m.entries) K.cmp K.reads V.reads
-            (K.never_empty || V.never_empty)) (input S.view de.old) (as_core error)) }
+            (ReadsBTreeMap (λ (m : BTreeMap K V Global). m.entries) K.cmp K.reads V.reads)
+            (input S.view de.old) (as_core error)) }
         ensures stops { IfErr result (λ error. Stops (StopsParts (codes "map") (codes "map") 5
             (ReadsPair K.reads V.reads)
-            (StopsPair K.reads (said K.exact K.stops) (said V.exact V.stops))
-            (K.never_empty || V.never_empty))
+            (StopsPair K.reads (said K.exact K.stops) (said V.exact V.stops)))
             (input S.view de.old) (input S.view de.new) (as_core error)) }
     {
         match take_sequence::<S, BTreeMap<K, V>>(alloc, de, "map") {

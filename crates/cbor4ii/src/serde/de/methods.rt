@@ -168,8 +168,8 @@ impl<S: Source> Deserializer<S> {
         name: StaticStr,
     ) -> Result<T, DecodeError<S::Error>>
         ensures moves { Moves (input S.view self.old) (input S.view self.new) (answer_of result) }
-        ensures progress { IsTrue T.never_empty →
-            OnOk result ((input S.view self.new).bound + 1 ≤ (input S.view self.old).bound) }
+        ensures progress { OnOk result
+            ((input S.view self.new).bound + 1 ≤ (input S.view self.old).bound) }
         ensures memory { IfErr result
             (λ error. IsTrue (is_out_of_memory (as_core error)) → IsTrue T.takes_memory) }
         ensures sound { IfOk result

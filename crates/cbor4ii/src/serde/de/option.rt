@@ -24,36 +24,29 @@ impl<T: Typed> Typed for Option<T> {
 
     ghost same = { SameOption T.same };
 
-    ghost never_empty = { T.never_empty };
-
     ghost owned = { T.owned };
 
     ghost takes_memory = { T.takes_memory };
 
     ghost exact = { T.exact };
 
-    fn is_never_empty() -> bool {
-        T::is_never_empty()
-    }
-
-    ghost laws = { λ e.
-        option_laws (Stepped T.reads) T.same T.never_empty (stepped_laws (T.laws e)) };
+    ghost laws = { λ e. option_laws (Stepped T.reads) T.same (stepped_laws (T.laws e)) };
 }
 
 /// Null and undefined are none, and take no step. Before any other byte a value is read, under a
 /// step more.
 ///
-/// By the name "option": `Eof` with 1 where no byte is left, also for a value that reads no byte,
-/// and `DepthOverflow` where a value comes and no step is left, which takes nothing. Otherwise it
-/// is refused as the value is, and leaves what the value leaves.
+/// By the name "option": `Eof` with 1 where no byte is left, and `DepthOverflow` where a value
+/// comes and no step is left, which takes nothing. Otherwise it is refused as the value is, and
+/// leaves what the value leaves.
 impl<S: Source, T: Deserialize<S>> Deserialize<S> for Option<T> {
     fn deserialize(
         alloc: Global,
         de: &mut Deserializer<S>,
     ) -> Result<Option<T>, DecodeError<S::Error>>
         ensures moves { Moves (input S.view de.old) (input S.view de.new) (answer_of result) }
-        ensures progress { IsTrue T.never_empty →
-            OnOk result ((input S.view de.new).bound + 1 ≤ (input S.view de.old).bound) }
+        ensures progress { OnOk result
+            ((input S.view de.new).bound + 1 ≤ (input S.view de.old).bound) }
         ensures memory { IfErr result
             (λ error. IsTrue (is_out_of_memory (as_core error)) → IsTrue T.takes_memory) }
         ensures sound { IfOk result (Sound (ReadsOption (Stepped T.reads))

@@ -26,17 +26,11 @@ impl Typed for String {
 
     ghost same = { ⟦<String as Spelled>⟧.same };
 
-    ghost never_empty = { true };
-
     ghost owned = { true };
 
     ghost takes_memory = { ⟦<String as Spelled>⟧.takes_memory };
 
     ghost exact = { true };
-
-    fn is_never_empty() -> bool {
-        true
-    }
 
     ghost laws = { λ _. record {
       one = text_one text_content;
@@ -61,17 +55,11 @@ impl Typed for Bytes<Vec<u8>> {
 
     ghost same = { ⟦<Bytes<Vec<u8>> as Spelled>⟧.same };
 
-    ghost never_empty = { true };
-
     ghost owned = { true };
 
     ghost takes_memory = { ⟦<Bytes<Vec<u8>> as Spelled>⟧.takes_memory };
 
     ghost exact = { true };
-
-    fn is_never_empty() -> bool {
-        true
-    }
 
     ghost laws = { λ _. record {
       one = as_one 2 two_small bytes_content;

@@ -7,6 +7,7 @@ ghost use Rattle.std.specs.Prelude.{
   ◌<◌,
   List,
   Bool,
+  true,
   false,
   Option,
   length,
@@ -38,7 +39,7 @@ use crate::serde::de::deserializer::Deserializer;
 use crate::serde::de::error::DecodeError;
 use cbor4ii_items::indefinite::is_break;
 use cbor4ii_rw::error as core_error;
-use cbor4ii_rw::error::{Len, StaticStr};
+use cbor4ii_rw::error::StaticStr;
 use cbor4ii_rw::read::Source;
 use std::alloc::Global;
 
@@ -58,8 +59,6 @@ pub(crate) trait Sequence<S: Source>: Sized {
 
     ghost same: { Self.Part → Self.Part → Type 0 };
 
-    ghost never_empty: { Bool };
-
     ghost owned: { Bool };
 
     ghost exact: { Bool };
@@ -69,13 +68,6 @@ pub(crate) trait Sequence<S: Source>: Sized {
 
     // The name in refusals.
     ghost name: { List ℕ };
-
-    fn name() -> StaticStr
-        ensures { result.now ≡ name };
-
-    /// Whether a part always reads a byte.
-    fn is_part_never_empty() -> bool
-        ensures { result ≡ never_empty };
 
     /// Takes the head.
     fn take_length(reader: &mut S) -> Result<Option<usize>, core_error::DecodeError<S::Error>>
@@ -93,8 +85,8 @@ pub(crate) trait Sequence<S: Source>: Sized {
         de: &mut Deserializer<S>,
     ) -> Result<Self::Part, DecodeError<S::Error>>
         ensures moves { Moves (input S.view de.old) (input S.view de.new) (answer_of result) }
-        ensures progress { IsTrue Self.never_empty →
-            OnOk result ((input S.view de.new).bound + 1 ≤ (input S.view de.old).bound) }
+        ensures progress { OnOk result
+            ((input S.view de.new).bound + 1 ≤ (input S.view de.old).bound) }
         ensures sound { IfOk result (Sound Self.reads (input S.view de.old) (input S.view de.new)) }
         ensures complete { IsTrue Self.exact → IsExact Self.owned (input S.view de.old) →
             IfErr result
@@ -102,7 +94,7 @@ pub(crate) trait Sequence<S: Source>: Sized {
         ensures stops { IfErr result (λ error.
             Stops Self.stops (input S.view de.old) (input S.view de.new) (as_core error)) };
 
-    ghost laws: { IsTrue Self.exact → Lawful Self.reads Self.same Self.never_empty };
+    ghost laws: { IsTrue Self.exact → Lawful Self.reads Self.same true };
 
     ghost small: { Self.major < 8 };
 }
@@ -115,13 +107,13 @@ pub(crate) fn take_sequence<S: Source, Q: Sequence<S>>(
 ) -> Result<Vec<Q::Part>, DecodeError<S::Error>>
     ensures moves { Moves (input S.view de.old) (input S.view de.new) (answer_of result) }
     ensures progress { OnOk result ((input S.view de.new).bound + 1 ≤ (input S.view de.old).bound) }
-    ensures sound { IfOk result (λ parts. Sound (ReadsSequence Q.major Q.reads Q.never_empty)
+    ensures sound { IfOk result (λ parts. Sound (ReadsSequence Q.major Q.reads true)
         (input S.view de.old) (input S.view de.new) parts.items) }
     ensures complete { IsTrue Q.exact → IsExact Q.owned (input S.view de.old) →
-        IfErr result (λ error. Refuses (ReadsSequence Q.major Q.reads Q.never_empty)
+        IfErr result (λ error. Refuses (ReadsSequence Q.major Q.reads true)
         (input S.view de.old) (as_core error)) }
     ensures stops { IfErr result (λ error.
-        Stops (StopsParts step.now Q.name Q.major Q.reads Q.stops Q.never_empty)
+        Stops (StopsParts step.now Q.name Q.major Q.reads Q.stops)
         (input S.view de.old) (input S.view de.new) (as_core error)) }
 {
     if !de.reader.step_in() {
@@ -139,13 +131,13 @@ fn take_inside<S: Source, Q: Sequence<S>>(
 ) -> Result<Vec<Q::Part>, DecodeError<S::Error>>
     ensures moves { Moves (input S.view de.old) (input S.view de.new) (answer_of result) }
     ensures progress { OnOk result ((input S.view de.new).bound + 1 ≤ (input S.view de.old).bound) }
-    ensures sound { IfOk result (λ parts. Sound (ReadsInside Q.major Q.reads Q.never_empty)
+    ensures sound { IfOk result (λ parts. Sound (ReadsInside Q.major Q.reads true)
         (input S.view de.old) (input S.view de.new) parts.items) }
     ensures complete { IsTrue Q.exact → IsExact Q.owned (input S.view de.old) →
         IfErr result (λ error.
-        Refuses (ReadsInside Q.major Q.reads Q.never_empty) (input S.view de.old) (as_core error)) }
+        Refuses (ReadsInside Q.major Q.reads true) (input S.view de.old) (as_core error)) }
     ensures stops { IfErr result (λ error.
-        Stops (StopsInside Q.name Q.major Q.reads Q.stops Q.never_empty)
+        Stops (StopsInside Q.name Q.major Q.reads Q.stops true)
         (input S.view de.old) (input S.view de.new) (as_core error)) }
 {
     match Q::take_length(&mut de.reader) {
@@ -186,23 +178,17 @@ fn take_open<S: Source, Q: Sequence<S>>(
     de: &mut Deserializer<S>,
 ) -> Result<Vec<Q::Part>, DecodeError<S::Error>>
     ensures moves { Moves (input S.view de.old) (input S.view de.new) (answer_of result) }
-    ensures sound { IfOk result (λ parts. Sound (ReadsUpToBreak Q.reads Q.never_empty)
+    ensures sound { IfOk result (λ parts. Sound (ReadsUpToBreak Q.reads true)
         (input S.view de.old) (input S.view de.new) parts.items) }
     ensures complete { IsTrue Q.exact → IsExact Q.owned (input S.view de.old) →
         IfErr result (λ error.
-        Refuses (ReadsUpToBreak Q.reads Q.never_empty) (input S.view de.old) (as_core error)) }
+        Refuses (ReadsUpToBreak Q.reads true) (input S.view de.old) (as_core error)) }
     ensures stops { IfErr result (λ error.
-        Stops (StopsUpToBreak Q.name Q.reads Q.stops Q.never_empty)
+        Stops (StopsUpToBreak Q.name Q.reads Q.stops true)
         (input S.view de.old) (input S.view de.new) (as_core error)) }
 {
     let mut parts = Vec::new(alloc);
     while !takes_break(de)? {
-        if !Q::is_part_never_empty() {
-            return Err(DecodeError::Core(core_error::DecodeError::RequireLength {
-                name: Q::name(),
-                found: Len::Indefinite,
-            }));
-        }
         add_part::<S, Q>(alloc, de, &mut parts)?;
     }
     Ok(parts)
@@ -228,8 +214,7 @@ fn add_part<S: Source, Q: Sequence<S>>(
     parts: &mut Vec<Q::Part>,
 ) -> Result<(), DecodeError<S::Error>>
     ensures moves { Moves (input S.view de.old) (input S.view de.new) (answer_of result) }
-    ensures progress { IsTrue Q.never_empty →
-        OnOk result ((input S.view de.new).bound + 1 ≤ (input S.view de.old).bound) }
+    ensures progress { OnOk result ((input S.view de.new).bound + 1 ≤ (input S.view de.old).bound) }
     ensures sound { OnOk result
         (AddsPart Q.reads parts.old.items parts.new.items
         (input S.view de.old) (input S.view de.new)) }

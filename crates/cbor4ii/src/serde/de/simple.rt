@@ -18,17 +18,11 @@ impl Typed for bool {
 
     ghost same = { ⟦<bool as Spelled>⟧.same };
 
-    ghost never_empty = { true };
-
     ghost owned = { true };
 
     ghost takes_memory = { ⟦<bool as Spelled>⟧.takes_memory };
 
     ghost exact = { true };
-
-    fn is_never_empty() -> bool {
-        true
-    }
 
     ghost laws = { λ _. record {
       one = bool_one;
@@ -50,17 +44,11 @@ impl Typed for F16 {
 
     ghost same = { ⟦<F16 as Spelled>⟧.same };
 
-    ghost never_empty = { true };
-
     ghost owned = { true };
 
     ghost takes_memory = { ⟦<F16 as Spelled>⟧.takes_memory };
 
     ghost exact = { true };
-
-    fn is_never_empty() -> bool {
-        true
-    }
 
     ghost laws = { λ _. record {
       one = λ xs v w. float_one 0xf9 2 xs v.0 w.0;
@@ -82,17 +70,11 @@ impl Typed for F32 {
 
     ghost same = { ⟦<F32 as Spelled>⟧.same };
 
-    ghost never_empty = { true };
-
     ghost owned = { true };
 
     ghost takes_memory = { ⟦<F32 as Spelled>⟧.takes_memory };
 
     ghost exact = { true };
-
-    fn is_never_empty() -> bool {
-        true
-    }
 
     ghost laws = { λ _. record {
       one = λ xs v w. float_one 0xfa 4 xs v.0 w.0;
@@ -114,17 +96,11 @@ impl Typed for F64 {
 
     ghost same = { ⟦<F64 as Spelled>⟧.same };
 
-    ghost never_empty = { true };
-
     ghost owned = { true };
 
     ghost takes_memory = { ⟦<F64 as Spelled>⟧.takes_memory };
 
     ghost exact = { true };
-
-    fn is_never_empty() -> bool {
-        true
-    }
 
     ghost laws = { λ _. record {
       one = λ xs v w. float_one 0xfb 8 xs v.0 w.0;

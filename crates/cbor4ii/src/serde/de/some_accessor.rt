@@ -142,7 +142,7 @@ impl<'a, S: Source> SomeAccessor<'a, S> {
             (inside_some S.view self.entry) (input S.view self.exit.0.now) (answer_of result) }
         ensures memory { IfErr result
             (λ error. IsTrue (is_out_of_memory (as_core error)) → IsTrue T.takes_memory) }
-        ensures progress { IsTrue T.never_empty → IfOk result (λ value. OnSome value
+        ensures progress { IfOk result (λ value. OnSome value
             ((input S.view self.exit.0.now).bound + 1
             ≤ (inside_some S.view self.entry).bound)) }
         ensures sound { IfOk result (Sound (ReadsValue (comes self.entry) T.reads)

@@ -21,8 +21,7 @@ pub(crate) fn under_step<S: Source, T: Deserialize<S>>(
     name: StaticStr,
 ) -> Result<T, DecodeError<S::Error>>
     ensures moves { Moves (input S.view de.old) (input S.view de.new) (answer_of result) }
-    ensures progress { IsTrue T.never_empty →
-        OnOk result ((input S.view de.new).bound + 1 ≤ (input S.view de.old).bound) }
+    ensures progress { OnOk result ((input S.view de.new).bound + 1 ≤ (input S.view de.old).bound) }
     ensures memory { IfErr result
         (λ error. IsTrue (is_out_of_memory (as_core error)) → IsTrue T.takes_memory) }
     ensures sound { IfOk result

@@ -48,20 +48,14 @@ impl<A: Typed, B: Typed> Typed for (A, B) {
 
     ghost same = { SamePair A.same B.same };
 
-    ghost never_empty = { true };
-
     ghost owned = { A.owned && B.owned };
 
     ghost takes_memory = { A.takes_memory || B.takes_memory };
 
     ghost exact = { A.exact && B.exact };
 
-    fn is_never_empty() -> bool {
-        true
-    }
-
     ghost laws = { λ e. stepped_laws (behind_laws 2 (pair_laws A.reads B.reads A.same B.same
-        A.never_empty B.never_empty (A.laws (both A.exact B.exact e).0)
+        true true (A.laws (both A.exact B.exact e).0)
         (B.laws (both A.exact B.exact e).1))) };
 }
 
@@ -73,8 +67,8 @@ impl<A: Typed, B: Typed> Typed for (A, B) {
 impl<S: Source, A: Deserialize<S> + Drop, B: Deserialize<S>> Deserialize<S> for (A, B) {
     fn deserialize(alloc: Global, de: &mut Deserializer<S>) -> Result<(A, B), DecodeError<S::Error>>
         ensures moves { Moves (input S.view de.old) (input S.view de.new) (answer_of result) }
-        ensures progress { IsTrue true →
-            OnOk result ((input S.view de.new).bound + 1 ≤ (input S.view de.old).bound) }
+        ensures progress { OnOk result
+            ((input S.view de.new).bound + 1 ≤ (input S.view de.old).bound) }
         ensures memory { IfErr result (λ error. IsTrue (is_out_of_memory (as_core error)) →
             IsTrue (A.takes_memory || B.takes_memory)) }
         ensures sound { IfOk result (Sound (Stepped (ReadsBehind 2 (ReadsPair A.reads B.reads)))
@@ -128,8 +122,7 @@ pub(crate) fn two_parts<S: Source, A: Deserialize<S> + Drop, B: Deserialize<S>>(
     de: &mut Deserializer<S>,
 ) -> Result<(A, B), DecodeError<S::Error>>
     ensures moves { Moves (input S.view de.old) (input S.view de.new) (answer_of result) }
-    ensures progress { IsTrue (A.never_empty || B.never_empty) →
-        OnOk result ((input S.view de.new).bound + 1 ≤ (input S.view de.old).bound) }
+    ensures progress { OnOk result ((input S.view de.new).bound + 1 ≤ (input S.view de.old).bound) }
     ensures memory { IfErr result (λ error. IsTrue (is_out_of_memory (as_core error)) →
         IsTrue (A.takes_memory || B.takes_memory)) }
     ensures sound { IfOk result
@@ -188,20 +181,14 @@ impl<A: Typed, B: Typed, C: Typed> Typed for (A, B, C) {
 
     ghost same = { SameTriple A.same B.same C.same };
 
-    ghost never_empty = { true };
-
     ghost owned = { A.owned && (B.owned && C.owned) };
 
     ghost takes_memory = { A.takes_memory || (B.takes_memory || C.takes_memory) };
 
     ghost exact = { A.exact && (B.exact && C.exact) };
 
-    fn is_never_empty() -> bool {
-        true
-    }
-
     ghost laws = { λ e. stepped_laws (behind_laws 3 (triple_laws A.reads B.reads C.reads
-        A.same B.same C.same A.never_empty B.never_empty C.never_empty
+        A.same B.same C.same true true true
         (A.laws (both A.exact (B.exact && C.exact) e).0)
         (B.laws (both B.exact C.exact (both A.exact (B.exact && C.exact) e).1).0)
         (C.laws (both B.exact C.exact (both A.exact (B.exact && C.exact) e).1).1))) };
@@ -216,8 +203,8 @@ impl<S: Source, A: Deserialize<S> + Drop, B: Deserialize<S> + Drop, C: Deseriali
         de: &mut Deserializer<S>,
     ) -> Result<(A, B, C), DecodeError<S::Error>>
         ensures moves { Moves (input S.view de.old) (input S.view de.new) (answer_of result) }
-        ensures progress { IsTrue true →
-            OnOk result ((input S.view de.new).bound + 1 ≤ (input S.view de.old).bound) }
+        ensures progress { OnOk result
+            ((input S.view de.new).bound + 1 ≤ (input S.view de.old).bound) }
         ensures memory { IfErr result (λ error. IsTrue (is_out_of_memory (as_core error)) →
             IsTrue (A.takes_memory || (B.takes_memory || C.takes_memory))) }
         ensures sound { IfOk result

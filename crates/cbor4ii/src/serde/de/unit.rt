@@ -36,17 +36,11 @@ impl Typed for () {
 
     ghost same = { any_two };
 
-    ghost never_empty = { true };
-
     ghost owned = { true };
 
     ghost takes_memory = { false };
 
     ghost exact = { true };
-
-    fn is_never_empty() -> bool {
-        true
-    }
 
     ghost laws = { λ _. unit_laws };
 }
@@ -54,13 +48,13 @@ impl Typed for () {
 impl<S: Source> Deserialize<S> for () {
     fn deserialize(alloc: Global, de: &mut Deserializer<S>) -> Result<(), DecodeError<S::Error>>
         ensures moves { Moves (input S.view de.old) (input S.view de.new) (answer_of result) }
-        ensures progress { IsTrue true →
-            OnOk result ((input S.view de.new).bound + 1 ≤ (input S.view de.old).bound) }
+        ensures progress { OnOk result
+            ((input S.view de.new).bound + 1 ≤ (input S.view de.old).bound) }
         ensures memory { IfErr result
             (λ error. IsTrue (is_out_of_memory (as_core error)) → IsTrue false) }
         ensures sound { IfOk result
             (Sound ReadsUnit (input S.view de.old) (input S.view de.new)) }
-        ensures complete { IsTrue true → IsExact true (input S.view de.old) →
+        ensures complete { IsExact true (input S.view de.old) →
             IfErr result (λ error. Refuses ReadsUnit (input S.view de.old) (as_core error)) }
         ensures stops { IfErr result (λ error. Stops StopsUnit
             (input S.view de.old) (input S.view de.new) (as_core error)) }

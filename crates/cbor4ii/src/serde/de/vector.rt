@@ -15,19 +15,15 @@ use crate::serde::de::error::DecodeError;
 use crate::serde::de::parts::{Sequence, take_sequence};
 use cbor4ii_items::types::Array;
 use cbor4ii_rw::error as core_error;
-use cbor4ii_rw::error::StaticStr;
 use cbor4ii_rw::read::Source;
 use std::alloc::Global;
 
 impl<T: Typed> Typed for Vec<T> {
-    ghost reads = { ReadsArray T.reads T.never_empty };
+    ghost reads = { ReadsArray T.reads true };
 
-    ghost stops = { StopsParts (codes "seq") (codes "array") 4 T.reads (said T.exact T.stops)
-        T.never_empty };
+    ghost stops = { StopsParts (codes "seq") (codes "array") 4 T.reads (said T.exact T.stops) };
 
     ghost same = { SameArray T.same };
-
-    ghost never_empty = { true };
 
     ghost owned = { T.owned };
 
@@ -35,14 +31,10 @@ impl<T: Typed> Typed for Vec<T> {
 
     ghost exact = { T.exact };
 
-    fn is_never_empty() -> bool {
-        true
-    }
-
     ghost laws = { λ e. record {
-      one = array_one T.reads T.same T.never_empty (T.laws e).one;
-      within = array_within T.reads T.never_empty (T.laws e).within;
-      positive = λ _. array_positive T.reads T.never_empty;
+      one = array_one T.reads T.same true (T.laws e).one;
+      within = array_within T.reads true (T.laws e).within;
+      positive = λ _. array_positive T.reads true;
     } };
 }
 
@@ -55,8 +47,6 @@ impl<S: Source, T: Deserialize<S> + Drop> Sequence<S> for Vec<T> {
 
     ghost same = { T.same };
 
-    ghost never_empty = { T.never_empty };
-
     ghost owned = { T.owned };
 
     ghost exact = { T.exact };
@@ -64,14 +54,6 @@ impl<S: Source, T: Deserialize<S> + Drop> Sequence<S> for Vec<T> {
     ghost major = { 4 };
 
     ghost name = { codes "array" };
-
-    fn name() -> StaticStr {
-        "array"
-    }
-
-    fn is_part_never_empty() -> bool {
-        T::is_never_empty()
-    }
 
     fn take_length(reader: &mut S) -> Result<Option<usize>, core_error::DecodeError<S::Error>> {
         Array::<()>::len(reader)
@@ -88,32 +70,28 @@ impl<S: Source, T: Deserialize<S> + Drop> Sequence<S> for Vec<T> {
 
 /// An array of values, counted or up to a break (RFC 8949 sections 3.1 and 3.2.2), under one step
 /// of the budget, which is given back whatever the answer is. At most 256 values have their place
-/// reserved before any of them came. An array of indefinite length, of a type that may read
-/// nothing, is read only where its break comes at once, since no reading of it would end.
+/// reserved before any of them came.
 ///
 /// Refusals, in this order, as `Core` and by the name "array" where no other is said:
 ///
 /// - no step is left: `DepthOverflow` by "seq", and nothing is taken
 /// - the head is not one of an array: `Mismatch` or `Eof`, as for every head
 /// - in the place of a value or a break there is no byte: `Eof` by "break" with 1
-/// - of a type that may read nothing, another byte than a break comes there: `RequireLength` with
-///   `Indefinite`, and the byte is left
 /// - a value is refused: its own refusal, and what it leaves
 impl<S: Source, T: Deserialize<S> + Drop> Deserialize<S> for Vec<T> {
     fn deserialize(alloc: Global, de: &mut Deserializer<S>) -> Result<Vec<T>, DecodeError<S::Error>>
         ensures moves { Moves (input S.view de.old) (input S.view de.new) (answer_of result) }
-        ensures progress { IsTrue true →
-            OnOk result ((input S.view de.new).bound + 1 ≤ (input S.view de.old).bound) }
+        ensures progress { OnOk result
+            ((input S.view de.new).bound + 1 ≤ (input S.view de.old).bound) }
         ensures memory { IfErr result
             (λ error. IsTrue (is_out_of_memory (as_core error)) → IsTrue true) }
-        ensures sound { IfOk result (Sound (ReadsArray T.reads T.never_empty)
+        ensures sound { IfOk result (Sound (ReadsArray T.reads true)
             (input S.view de.old) (input S.view de.new)) }
         ensures complete { IsTrue T.exact → IsExact T.owned (input S.view de.old) →
-            IfErr result (λ error. Refuses (ReadsArray T.reads T.never_empty)
+            IfErr result (λ error. Refuses (ReadsArray T.reads true)
             (input S.view de.old) (as_core error)) }
         ensures stops { IfErr result (λ error.
-            Stops (StopsParts (codes "seq") (codes "array") 4 T.reads (said T.exact T.stops)
-            T.never_empty)
+            Stops (StopsParts (codes "seq") (codes "array") 4 T.reads (said T.exact T.stops))
             (input S.view de.old) (input S.view de.new) (as_core error)) }
     {
         take_sequence::<S, Vec<T>>(alloc, de, "seq")

@@ -5,6 +5,6 @@ use Rattle.cbor4ii.proofs.serde.laws.fields_are_read_in_one_way.Goals as goal
 
 pub returns : goal.returns
 returns g c said_first said_second first second =
-    let behind = field_laws second no_fields (g.met.B.Typed.laws said_second) (no_field_laws any_two) in
-    let both = field_laws first (named_field second g.B.Typed.reads no_fields) (g.met.A.Typed.laws said_first) behind in
+    let behind = field_laws second no_fields (g.B.Typed.laws said_second) (no_field_laws any_two) in
+    let both = field_laws first (named_field second g.B.Typed.reads no_fields) (g.A.Typed.laws said_first) behind in
     fields_laws (SameField g.A.Typed.same (SameField g.B.Typed.same any_two)) (None, (None, no_values)) (named_field first g.A.Typed.reads (named_field second g.B.Typed.reads no_fields)) (tt, (tt, tt)) both

@@ -1,10 +1,10 @@
-use Rattle.std.proofs.Common.{refl, sym}
+use Rattle.std.proofs.Common.{true, refl}
 use Rattle.std.proofs.lemmas.Result.{err_from_is_err_and}
 use Rattle.cbor4ii_items.specs.Laws.Steps.{moves_then, moves_err, kept_then}
 use Rattle.cbor4ii_items.specs.Laws.Answering.{exact_kept}
-use Rattle.cbor4ii_items.specs.Laws.SequenceParts.{stands, open_more, open_done, open_refuses, nothing_refuses, end_refuses}
+use Rattle.cbor4ii_items.specs.Laws.SequenceParts.{stands, open_more, open_done, open_refuses, end_refuses}
 use Rattle.cbor4ii.specs.Typed.{size_of}
-use Rattle.cbor4ii.proofs.PartStops.{open_stops, nothing_stops, end_stops}
+use Rattle.cbor4ii.proofs.PartStops.{open_stops, end_stops}
 use Rattle.cbor4ii.proofs.serde.de.parts.take_open.Goals as goal
 
 pub returns-in_err-takes_break-clause-moves : goal.returns-in_err-takes_break-clause-moves
@@ -17,16 +17,9 @@ returns-in_err-takes_break-clause-complete g c said exact =
     let p = err_from_is_err_and c.from_residual.result c.from_residual.ensures.1 in
     rw (p.1, p.2) (let laws = g.met.Q.Sequence.laws said in end_refuses _ _ (size_of laws) laws.within laws.positive c.loop-parts.invariant c.in_err-takes_break.ensures.runs)
 
-pub returns-then-not-is_part_never_empty-clause-moves : goal.returns-then-not-is_part_never_empty-clause-moves
-returns-then-not-is_part_never_empty-clause-moves g c = record { by = kept_then c.loop-parts.invariant.kept c.in_ok-takes_break.ensures.runs.moves.by; depth = λ e. refl }
-
-pub returns-then-not-is_part_never_empty-clause-complete : goal.returns-then-not-is_part_never_empty-clause-complete
-returns-then-not-is_part_never_empty-clause-complete g c said exact =
-    nothing_refuses _ _ (size_of (g.met.Q.Sequence.laws said)) (sym c.if-not-is_part_never_empty.ensures) c.loop-parts.invariant (stands c.if-not-branch.true c.in_ok-takes_break.ensures.runs)
-
 pub loop-parts-preserved : goal.loop-parts-preserved
 loop-parts-preserved g c =
-    open_more _ _ (sym c.if-not-is_part_never_empty.ensures) c.loop-parts.invariant (stands c.if-not-branch.true c.in_ok-takes_break.ensures.runs) c.in_ok-add_part.ensures.sound c.in_ok-add_part.ensures.moves
+    open_more _ _ refl c.loop-parts.invariant (stands c.if-not-branch.true c.in_ok-takes_break.ensures.runs) c.in_ok-add_part.ensures.sound c.in_ok-add_part.ensures.moves
 
 pub returns-in_err-add_part-clause-moves : goal.returns-in_err-add_part-clause-moves
 returns-in_err-add_part-clause-moves g c =
@@ -48,13 +41,9 @@ returns-clause-sound g c = open_done _ _ c.if-not-branch.false c.loop-parts.inva
 pub returns-in_err-takes_break-clause-stops : goal.returns-in_err-takes_break-clause-stops
 returns-in_err-takes_break-clause-stops g c =
     let p = err_from_is_err_and c.from_residual.result c.from_residual.ensures.1 in
-    rw (p.1, p.2) (end_stops g.Q.Sequence.reads g.Q.Sequence.stops g.Q.Sequence.never_empty g.Q.Sequence.name c.loop-parts.invariant c.in_err-takes_break.ensures.runs)
-
-pub returns-then-not-is_part_never_empty-clause-stops : goal.returns-then-not-is_part_never_empty-clause-stops
-returns-then-not-is_part_never_empty-clause-stops g c =
-    rw (sym c.name.ensures) (nothing_stops g.Q.Sequence.reads g.Q.Sequence.stops g.Q.Sequence.never_empty c.name.result (sym c.if-not-is_part_never_empty.ensures) c.loop-parts.invariant (stands c.if-not-branch.true c.in_ok-takes_break.ensures.runs))
+    rw (p.1, p.2) (end_stops g.Q.Sequence.reads g.Q.Sequence.stops true g.Q.Sequence.name c.loop-parts.invariant c.in_err-takes_break.ensures.runs)
 
 pub returns-in_err-add_part-clause-stops : goal.returns-in_err-add_part-clause-stops
 returns-in_err-add_part-clause-stops g c =
     let p = err_from_is_err_and c.from_residual-in_err-add_part.result c.from_residual-in_err-add_part.ensures.1 in
-    rw (p.1, p.2) (open_stops g.Q.Sequence.reads g.Q.Sequence.stops g.Q.Sequence.never_empty g.Q.Sequence.name (sym c.if-not-is_part_never_empty.ensures) c.loop-parts.invariant (stands c.if-not-branch.true c.in_ok-takes_break.ensures.runs) c.in_err-add_part.ensures.stops)
+    rw (p.1, p.2) (open_stops g.Q.Sequence.reads g.Q.Sequence.stops true g.Q.Sequence.name refl c.loop-parts.invariant (stands c.if-not-branch.true c.in_ok-takes_break.ensures.runs) c.in_err-add_part.ensures.stops)

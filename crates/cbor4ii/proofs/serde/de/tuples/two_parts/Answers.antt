@@ -23,7 +23,7 @@ returns-in-Err-clause-moves g c = moves_then c.in_ok-first.ensures.moves.by (mov
 pub returns-in-Err-clause-complete : goal.returns-in-Err-clause-complete
 returns-in-Err-clause-complete g c said exact =
     let b = both g.A.Typed.exact g.B.Typed.exact said in
-    value_refuses _ _ _ (g.met.A.Typed.laws b.0).one c.in_ok-first.ensures.moves.by c.in_ok-first.ensures.sound
+    value_refuses _ _ _ (g.A.Typed.laws b.0).one c.in_ok-first.ensures.moves.by c.in_ok-first.ensures.sound
     (λ xs told. c.in-Err.ensures.complete b.1 (exact_kept _ _ _ xs told c.in_ok-first.ensures.moves.by (exact_both _ _ (g.S.Source.view c.args.de.now.reader) exact).1))
 
 pub returns-in_err-first-clause-stops : goal.returns-in_err-first-clause-stops

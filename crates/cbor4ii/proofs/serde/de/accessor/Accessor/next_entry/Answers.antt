@@ -20,7 +20,7 @@ pub returns-in-Err-deserialize-clause-complete : goal.returns-in-Err-deserialize
 returns-in-Err-deserialize-clause-complete g c said exact =
     let b = both g.K.Typed.exact g.V.Typed.exact said in
     let key = rw c.in-Ok-Some.field-0-is at c.in-Ok-Some.ensures.sound in
-    entry_no_value _ _ _ _ (g.met.K.Typed.laws b.0).one c.in-Ok-Some.ensures.moves.by key
+    entry_no_value _ _ _ _ (g.K.Typed.laws b.0).one c.in-Ok-Some.ensures.moves.by key
     (λ xs told. c.in-Err-deserialize.ensures.complete b.1 (exact_kept _ _ _ xs told c.in-Ok-Some.ensures.moves.by (exact_both _ _ (g.S.Source.view c.args.self.now.de.now.reader) exact).1))
 
 pub returns-in-Ok-None-clause-sound : goal.returns-in-Ok-None-clause-sound

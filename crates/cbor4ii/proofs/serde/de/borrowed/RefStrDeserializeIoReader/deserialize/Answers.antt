@@ -7,7 +7,7 @@ pub returns-clause-moves : goal.returns-clause-moves
 returns-clause-moves g c = lent_moves _ _ _ _ _ c.decode-found.result c.lent_text.result _ _ c.lent_text.ensures c.decode-found.ensures.moves
 
 pub returns-clause-progress : goal.returns-clause-progress
-returns-clause-progress g c some = lent_progress _ _ _ _ _ c.decode-found.result c.lent_text.result _ c.lent_text.ensures (c.decode-found.ensures.progress refl)
+returns-clause-progress g c = lent_progress _ _ _ _ _ c.decode-found.result c.lent_text.result _ c.lent_text.ensures (c.decode-found.ensures.progress refl)
 
 pub returns-clause-sound : goal.returns-clause-sound
 returns-clause-sound g c = lent_sound _ _ _ _ _ _ _ _ text_counted text_apart c.decode-found.result c.lent_text.result _ _ c.lent_text.ensures c.decode-found.ensures.sound c.decode-found.ensures.borrows
