@@ -1,6 +1,6 @@
 //! Records of a user's own that are typed values: a struct with an optional field, written part by
 //! part and read in one call, and an enum with variants of each kind.
-ghost use Rattle.std.specs.Prelude.{◌∷◌, ◌≡◌, ◌+◌, ◌≤◌, [], Some, OnOk, codes, true, false};
+ghost use Rattle.std.specs.Prelude.{◌∷◌, [], Some, codes, true, false};
 ghost use Rattle.cbor4ii_items.specs.Strings.{counted_string};
 ghost use Rattle.cbor4ii_ser.specs.Item.{
   field,

@@ -1,5 +1,5 @@
 //! Strings that are borrowed from the input. Each reader of `cbor4ii_rw` has them by name.
-ghost use Rattle.std.specs.Prelude.{◌≡◌, true, false, codes};
+ghost use Rattle.std.specs.Prelude.{true, false, codes};
 ghost use Rattle.std.specs.Cow.{IsBorrowedStr, IsOwnedStr};
 ghost use Rattle.cbor4ii_items.specs.Cow.{cow_text, cow_bytes, IsBorrowedBytes, IsOwnedBytes};
 ghost use Rattle.cbor4ii_items.specs.Lent.{lent_str, lent_bytes};

@@ -1,6 +1,6 @@
 //! Strings that are borrowed from the input where the reader lends them, and owned otherwise. Each
 //! reader of `cbor4ii_rw` has them by name.
-ghost use Rattle.std.specs.Prelude.{◌≡◌, true};
+ghost use Rattle.std.specs.Prelude.{true};
 ghost use Rattle.cbor4ii_items.specs.Cow.{cow_text, cow_bytes};
 ghost use Rattle.cbor4ii_items.specs.Laws.Strings.{
   two_small,

@@ -1,5 +1,5 @@
 //! What reading a typed value is.
-ghost use Rattle.std.specs.Prelude.{◌≡◌, ◌+◌, ◌≤◌, Bool, true, OnOk, IfOk, IfErr, IsTrue};
+ghost use Rattle.std.specs.Prelude.{◌+◌, ◌≤◌, Bool, true, OnOk, IfOk, IfErr, IsTrue};
 ghost use Rattle.cbor4ii_items.specs.Moves.{Moves};
 ghost use Rattle.cbor4ii_items.specs.Decoding.{Reads, StopsAt, IsExact, Sound, Refuses, Stops};
 ghost use Rattle.cbor4ii_items.specs.Refusal.{is_out_of_memory};

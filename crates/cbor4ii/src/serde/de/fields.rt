@@ -1,6 +1,5 @@
 //! Structs that are read from their named fields in one call.
 ghost use Rattle.std.specs.Prelude.{
-  ◌≡◌,
   ◌+◌,
   ◌≤◌,
   ◌&&◌,

@@ -1,17 +1,5 @@
 //! The value at the front of an input.
-ghost use Rattle.std.specs.Prelude.{
-  ◌≡◌,
-  ◌<◌,
-  ◌^◌,
-  ◌⊎◌,
-  List,
-  ℕ,
-  length,
-  Option,
-  Some,
-  true,
-  IsTrue,
-};
+ghost use Rattle.std.specs.Prelude.{◌≡◌, ◌<◌, ◌^◌, ◌⊎◌, List, ℕ, length, Some, true, IsTrue};
 ghost use Rattle.cbor4ii_rw.specs.Stream.{most_bytes, cut_known};
 ghost use Rattle.cbor4ii.specs.First.{First, FirstOf, limit};
 

@@ -1,6 +1,6 @@
 //! Items that are skipped.
-ghost use Rattle.std.specs.Prelude.{◌≡◌, true, false};
-ghost use Rattle.cbor4ii_tree.specs.Ignored.{ReadsIgnored, StopsIgnored};
+ghost use Rattle.std.specs.Prelude.{true, false};
+ghost use Rattle.cbor4ii_tree.specs.Ignored.{StopsIgnored};
 ghost use Rattle.cbor4ii_tree.specs.Laws.Ignoring.{
   ignored_one,
   ignored_within,

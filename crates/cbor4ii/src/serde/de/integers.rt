@@ -1,5 +1,5 @@
 //! Integers, read as the codec reads them.
-ghost use Rattle.std.specs.Prelude.{◌≡◌, ◌^◌, true};
+ghost use Rattle.std.specs.Prelude.{◌^◌, true};
 ghost use Rattle.cbor4ii_items.specs.Laws.Arguments.{
   unsigned_one,
   unsigned_within,

@@ -1,19 +1,5 @@
 //! Maps, read as ordered maps.
-ghost use Rattle.std.specs.Prelude.{
-  ◌≡◌,
-  ◌+◌,
-  ◌≤◌,
-  ℕ,
-  List,
-  true,
-  codes,
-  ◌&&◌,
-  ◌||◌,
-  IfOk,
-  IfErr,
-  OnOk,
-  IsTrue,
-};
+ghost use Rattle.std.specs.Prelude.{◌≡◌, ◌+◌, ◌≤◌, true, codes, ◌&&◌, IfOk, IfErr, OnOk, IsTrue};
 ghost use Rattle.std.specs.BTreeMap.{insert_entry};
 ghost use Rattle.std.specs.declared.alloc.Global.{Global};
 ghost use Rattle.cbor4ii_items.specs.Laws.Containers.{both};

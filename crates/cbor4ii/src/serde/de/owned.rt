@@ -1,5 +1,5 @@
 //! Owned texts and byte strings.
-ghost use Rattle.std.specs.Prelude.{◌≡◌, true};
+ghost use Rattle.std.specs.Prelude.{true};
 ghost use Rattle.cbor4ii_items.specs.Strings.{text_content, bytes_content};
 ghost use Rattle.cbor4ii_items.specs.Laws.Strings.{
   two_small,

@@ -1,6 +1,6 @@
 //! What a deserializer reads as texts and byte strings by name. Those that may be borrowed are
 //! there for each reader of `cbor4ii_rw` by name.
-ghost use Rattle.std.specs.Prelude.{◌≡◌, true, codes, IfOk};
+ghost use Rattle.std.specs.Prelude.{true, codes, IfOk};
 ghost use Rattle.std.specs.Cow.{
   IsBorrowedStr,
   IsOwnedStr,

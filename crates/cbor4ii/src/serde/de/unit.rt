@@ -1,15 +1,5 @@
 //! The unit.
-ghost use Rattle.std.specs.Prelude.{
-  ◌≡◌,
-  ◌+◌,
-  ◌≤◌,
-  true,
-  false,
-  OnOk,
-  IfOk,
-  IfErr,
-  IsTrue,
-};
+ghost use Rattle.std.specs.Prelude.{◌+◌, ◌≤◌, true, false, OnOk, IfOk, IfErr, IsTrue};
 ghost use Rattle.cbor4ii_items.specs.Decoding.{IsExact, Sound, Refuses, Stops};
 ghost use Rattle.cbor4ii_items.specs.Moves.{Moves};
 ghost use Rattle.cbor4ii_items.specs.Refusal.{is_out_of_memory};
