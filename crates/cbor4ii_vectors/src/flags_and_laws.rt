@@ -11,7 +11,6 @@ use cbor4ii_rw::error::Never;
 use cbor4ii_rw::slice_reader::SliceReader;
 use std::alloc::Global;
 use std::borrow::CowStr;
-use std::test::Fail;
 
 // Nothing takes no byte, and what may be nothing alone may take none.
 #[test]
