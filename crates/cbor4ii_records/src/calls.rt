@@ -11,7 +11,7 @@ use cbor4ii_trials::rows::Row;
 use cbor4ii_trials::streams::FailingStream;
 use std::alloc::Global;
 use std::fmt::{Debug, InlineText};
-use std::io::{self, ErrorKind};
+use std::io::{self, BufRead, ErrorKind};
 use std::test::Fail;
 
 #[test]
@@ -194,6 +194,20 @@ fn the_value_at_the_front(rt: HostRuntime) -> Result<(), Fail> {
     let alloc = rt.alloc();
     is_at_front::<u8>(alloc, b"\x05\xff", "5")?;
     text_is_at_front(alloc, b"\x61a", "a")
+}
+
+/// The number at the front of a stream that is lent.
+fn number_at_front<R: BufRead>(alloc: Global, stream: &mut R) -> Result<u8, Fail> {
+    let number: u8 = from_reader(alloc, stream)?;
+    Ok(number)
+}
+
+#[test]
+fn a_stream_stands_behind_the_value_that_was_read(rt: HostRuntime) -> Result<(), Fail> {
+    let mut stream: &[u8] = b"\x05\x06";
+    assert_eq!(rt; number_at_front(rt.alloc(), &mut stream)?, 5);
+    assert_eq!(rt; stream, b"\x06".as_slice());
+    Ok(())
 }
 
 #[test]

@@ -6,6 +6,7 @@ ghost use Rattle.std.specs.Prelude.{
   ◌++◌,
   [],
   Some,
+  Ok,
   IfOk,
   OnOk,
   OnErr,
@@ -235,7 +236,9 @@ impl<'a, W: Write> BoundedCollect<'a, W> {
     /// Ends the array or the map. Nothing is written, and it never fails.
     pub fn end(self) -> Result<(), EncodeError<W::Error>>
         requires { bounded_left self ≡ 0 }
-        ensures { Serializes W.whole (Some [])
+        ensures succeeds { result ≡ Ok tt }
+        ensures untouched { output W.view self.exit.0.now ≡ bounded_output W.view self.entry }
+        ensures written { Serializes W.whole (Some [])
             (bounded_output W.view self.entry) (output W.view self.exit.0.now) result }
     {
         Ok(())

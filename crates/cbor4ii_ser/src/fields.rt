@@ -12,7 +12,7 @@ use cbor4ii_rw::write::Write;
 // A call for each number of parts, since a list of them would be a type argument that names
 // several lifetimes, and the borrow checker does not cover one.
 impl<W: Write> Serializer<W> {
-    /// Writes a struct of one field, each a name and a value: a map, in this order. The struct's
+    /// Writes a struct of one field, a name and a value: a map, in this order. The struct's
     /// name is not written. It fails as the `serialize` of a value does, or where the writer failed
     /// before.
     pub fn serialize_1_field<A: Serialize>(
@@ -160,7 +160,7 @@ impl<W: Write> Serializer<W> {
         put_field(self, sixth.0, sixth.1)
     }
 
-    /// Writes a variant of one field, each a name and a value: a map of one entry, the variant's
+    /// Writes a variant of one field, a name and a value: a map of one entry, the variant's
     /// name and a map of the fields in this order. The enum's name and the variant's index are not
     /// written. It fails as the `serialize` of a value does, or where the writer failed before.
     pub fn serialize_variant_of_1_field<A: Serialize>(

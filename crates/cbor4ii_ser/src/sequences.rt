@@ -1,4 +1,4 @@
-//! Arrays and maps that are there as a whole.
+//! Arrays that are there as a whole.
 ghost use Rattle.cbor4ii_ser.specs.Item.{items_of, array_item};
 ghost use Rattle.cbor4ii_ser.specs.Serializing.{Serializes, output};
 

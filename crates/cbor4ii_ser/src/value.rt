@@ -1,5 +1,5 @@
 //! Values of the tree.
-ghost use Rattle.std.specs.Prelude.{◌≡◌, IfErr, codes};
+ghost use Rattle.std.specs.Prelude.{◌≡◌, IfErr, IsTrue, codes};
 ghost use Rattle.cbor4ii_tree.specs.View.{view, items_view, members_view};
 ghost use Rattle.cbor4ii_ser.specs.Serializing.{SaysAtMost, Serializes, output};
 ghost use Rattle.cbor4ii_ser.specs.Values.{
@@ -25,6 +25,8 @@ impl Serialize for Value {
             (SaysAtMost (codes "serialization Tag via serde is not supported")) }
         ensures written { Serializes W.whole (value_item (view self.now))
             (output W.view ser.old) (output W.view ser.new) result }
+        ensures untouched { IsTrue (holds_tag (view self.now)) →
+            output W.view ser.new ≡ output W.view ser.old }
     {
         if holds_tag(self) {
             return Err(EncodeError::Custom("serialization Tag via serde is not supported"));

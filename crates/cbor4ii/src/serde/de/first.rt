@@ -43,9 +43,10 @@ impl<'a> Input for &'a [u8] {
 ///
 /// # Errors
 ///
-/// `Core` of `OutOfMemory` where a growth was refused, of a type that takes memory. Any other error
-/// comes, of an exact type, only where no value of the type whose steps are at most 256 begins the
-/// slice, and is the one that the type's `stops` says.
+/// `Core` of `OutOfMemory` where a growth was refused, of a type that takes memory; of `Read` only
+/// over an input of a user's own whose reader may fail. Any other error comes, of an exact type,
+/// only where no value of the type whose steps are at most 256 begins the slice, and is the one
+/// that the type's `stops` says.
 pub fn from_slice<I: Input, T: Deserialize<I::Reader>>(
     alloc: Global,
     input: I,
@@ -57,7 +58,8 @@ pub fn from_slice<I: Input, T: Deserialize<I::Reader>>(
 }
 
 /// Reads the value at the front of a stream, with 256 steps. Of a stream, at most 2^64-1 bytes are
-/// read. What was taken of `reader` before an error is lost.
+/// read. What was taken of `reader` before an error is lost; after a value `reader` stands behind
+/// it, which is tested and not proved, since `reader` is gone then.
 ///
 /// # Errors
 ///

@@ -21,7 +21,7 @@ use std::alloc::Global;
 /// there, with its fields, leave what that leaves, and never answer `Custom`.
 impl<S: Source> Deserializer<S> {
     /// False or true. Refused by the name "bool": `Eof` with 1 where no byte is left, and
-    /// `Mismatch` with the first byte, which is taken, before any other item.
+    /// `Mismatch` with the next byte, which stays, where it is neither.
     pub fn deserialize_bool(&mut self, alloc: Global) -> Result<bool, DecodeError<S::Error>>
         ensures { ReadsItem ⟦<bool as Spelled>⟧.reads ⟦<bool as Spelled>⟧.stops true true
             ⟦<bool as Spelled>⟧.takes_memory
@@ -124,7 +124,9 @@ impl<S: Source> Deserializer<S> {
         take_item(alloc, self)
     }
 
-    /// A float of two bytes, as its bits, refused by the name "f16".
+    /// A float of two bytes, as its bits. Refused by the name "f16": `Eof` with 1 where no byte is
+    /// left; `Mismatch` with the next byte, which stays, where it begins no such float; `Eof` with
+    /// 2 where fewer than two bytes follow it, nothing being left then.
     pub fn deserialize_f16(&mut self, alloc: Global) -> Result<F16, DecodeError<S::Error>>
         ensures { ReadsItem ⟦<F16 as Spelled>⟧.reads ⟦<F16 as Spelled>⟧.stops true true
             ⟦<F16 as Spelled>⟧.takes_memory
@@ -133,7 +135,8 @@ impl<S: Source> Deserializer<S> {
         take_item(alloc, self)
     }
 
-    /// A float of four bytes, as its bits, refused by the name "f32".
+    /// A float of four bytes, as its bits, refused as `deserialize_f16` is, by the name "f32" and
+    /// with 4 in the place of 2.
     pub fn deserialize_f32(&mut self, alloc: Global) -> Result<F32, DecodeError<S::Error>>
         ensures { ReadsItem ⟦<F32 as Spelled>⟧.reads ⟦<F32 as Spelled>⟧.stops true true
             ⟦<F32 as Spelled>⟧.takes_memory
@@ -142,7 +145,8 @@ impl<S: Source> Deserializer<S> {
         take_item(alloc, self)
     }
 
-    /// A float of eight bytes, as its bits, refused by the name "f64".
+    /// A float of eight bytes, as its bits, refused as `deserialize_f16` is, by the name "f64" and
+    /// with 8 in the place of 2.
     pub fn deserialize_f64(&mut self, alloc: Global) -> Result<F64, DecodeError<S::Error>>
         ensures { ReadsItem ⟦<F64 as Spelled>⟧.reads ⟦<F64 as Spelled>⟧.stops true true
             ⟦<F64 as Spelled>⟧.takes_memory

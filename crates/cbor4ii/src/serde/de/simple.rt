@@ -1,4 +1,4 @@
-//! Booleans and floats, as their bits.
+//! Booleans, and floats as their bits.
 ghost use Rattle.std.specs.Prelude.{true};
 ghost use Rattle.cbor4ii_items.specs.Simple.{bool_one, bool_within, bool_positive};
 ghost use Rattle.cbor4ii_items.specs.Floats.{float_one, float_within, float_positive};

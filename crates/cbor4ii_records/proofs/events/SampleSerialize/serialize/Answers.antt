@@ -15,4 +15,4 @@ pub returns-in_err-serialize_field-3 : goal.returns-in_err-serialize_field-3
 returns-in_err-serialize_field-3 g c = serializes_at (serializes_then _ _ _ c.in_ok-fields.ensures.head (serializes_then _ _ _ c.in_ok-serialize_field.ensures.written (serializes_then _ _ _ c.in_ok-serialize_field-2.ensures.written (serializes_out _ c.from_residual-in_err-serialize_field-3.ensures.1 c.in_err-serialize_field-3.ensures.written)))) (search rules)
 
 pub returns : goal.returns
-returns g c = serializes_at (serializes_then _ _ c.end.result c.in_ok-fields.ensures.head (serializes_then _ _ c.end.result c.in_ok-serialize_field.ensures.written (serializes_then _ _ c.end.result c.in_ok-serialize_field-2.ensures.written (serializes_then _ _ c.end.result c.in_ok-serialize_field-3.ensures.written c.end.ensures)))) (search rules)
+returns g c = serializes_at (serializes_then _ _ c.end.result c.in_ok-fields.ensures.head (serializes_then _ _ c.end.result c.in_ok-serialize_field.ensures.written (serializes_then _ _ c.end.result c.in_ok-serialize_field-2.ensures.written (serializes_then _ _ c.end.result c.in_ok-serialize_field-3.ensures.written c.end.ensures.written)))) (search rules)
