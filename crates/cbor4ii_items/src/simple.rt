@@ -55,8 +55,8 @@ impl Spelled for Simple {
     }
 }
 
-/// A simple value by its number, in the first byte or the one after it; 24 to 31 too, which RFC
-/// 8949 section 3.3 keeps free.
+/// A simple value by its number, in the first byte or the one after it; there the numbers below 32
+/// too, which RFC 8949 section 3.3 calls not well-formed.
 ///
 /// Refused by the name "simple": `Eof` with 1 where no byte is left, and with k where the argument
 /// has k bytes and fewer are left, nothing being left then; `Mismatch` with the first byte, which

@@ -66,14 +66,15 @@ pub enum DecodeError<E> {
     /// The input ends too early.
     Eof {
         name: StaticStr,
-        /// Of a string's content, how many bytes are missing. Of all else, how many were asked
-        /// for, with those that are there.
+        /// Of a string's content, and of a number or a float that is skipped, how many bytes are
+        /// missing. Of all else, a bignum's content too, how many were asked for, with those that
+        /// are there.
         expect: Len,
     },
-    /// The length is not one that is read.
+    /// The length is not one that is read, or the reader lends less than that.
     RequireLength {
         name: StaticStr,
-        /// The length.
+        /// The length; of a string that is borrowed, the number of bytes that are lent or left.
         found: Len,
     },
     /// The reader does not lend the bytes as long as the input lives.

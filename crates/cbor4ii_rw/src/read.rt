@@ -1,7 +1,7 @@
 //! What a reader is.
 //!
 //! A reader shows a front of what is left, and takes bytes only when it is told to advance. It
-//! also counts the steps that nested items take (RFC 8949 section 5.3.1 leaves the limit to the
+//! also counts the steps that nested items take (RFC 8949 section 10 leaves the limit to the
 //! decoder), so that hostile input cannot drive a recursion as deep as it likes.
 ghost use Rattle.std.specs.Prelude.{
   ◌≡◌,

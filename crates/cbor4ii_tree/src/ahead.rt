@@ -79,7 +79,7 @@ pub(crate) enum Ahead {
 }
 
 // By its first byte, how many bytes an item takes that holds no other and says its size there; 0
-// where there is no such item. A row is a major type (RFC 8949 section 3.1).
+// where there is no such item. Each 32 entries are a major type (RFC 8949 section 3.1).
 static LEAF_BYTES: [u8; 256] = [
     1, 1, 1, 1, 1, 1, 1, 1, 1, 1, 1, 1, 1, 1, 1, 1, 1, 1, 1, 1, 1, 1, 1, 1, 2, 3, 5, 9, 0, 0, 0, 0,
     1, 1, 1, 1, 1, 1, 1, 1, 1, 1, 1, 1, 1, 1, 1, 1, 1, 1, 1, 1, 1, 1, 1, 1, 2, 3, 5, 9, 0, 0, 0, 0,

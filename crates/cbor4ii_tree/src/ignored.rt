@@ -55,6 +55,19 @@ impl Spelled for IgnoredAny {
     }
 }
 
+/// One item, under a step for each level of it, the item itself and the chunks of an open string
+/// too. Texts are not tested, and any items are taken as chunks.
+///
+/// By the name "ignored-any", of the item or of one inside it: `DepthOverflow` where no step is
+/// left for it, and nothing of it is taken. `Eof` where the input ends: with 1 where a first byte
+/// has to come, with what is missing of a number, a float or a string's content, and with all bytes
+/// of the argument that gives a length. `Mismatch` with a first byte of additional information 28
+/// to 31 that begins nothing, which stays where it would be an integer's and is taken otherwise.
+/// `Unsupported` with a byte of major type 7 that is none of f4 to f7 and f9 to fb, nor a break
+/// where one may come; it stays. By the name "tag": `Mismatch` with such a first byte, which is
+/// taken, and `Eof` with all bytes of the tag's number. By the name "break": `Eof` with 1 where an
+/// item or a break has to come. What is before the refused byte is taken, and at an `Eof` nothing
+/// is left.
 impl<S: Source> Decode<S> for IgnoredAny {
     fn decode(alloc: Global, reader: &mut S) -> Result<IgnoredAny, DecodeError<S::Error>>
         ensures moves { Moves (S.view reader.old) (S.view reader.new) result }
