@@ -109,6 +109,72 @@ fn variants_by_calls(ser: &mut Serializer<BufWriter>) -> Written {
 }
 
 #[test]
+fn calls_for_structs(rt: HostRuntime) -> Result<(), Fail> {
+    let mut ser = Serializer::new(BufWriter::new(Vec::new(rt.alloc())));
+    structs_by_calls(&mut ser)?;
+    let structs = b"\xa5\x61a\x01\x61b\x02\x61c\x03\x61d\x04\x61e\x05\
+\xa6\x61a\x01\x61b\x02\x61c\x03\x61d\x04\x61e\x05\x61f\x06";
+    assert_eq!(rt; ser.into_inner().buffer(), structs.as_slice());
+    Ok(())
+}
+
+fn structs_by_calls(ser: &mut Serializer<BufWriter>) -> Written {
+    ser.serialize_5_fields(
+        "Five",
+        ("a", &1u8),
+        ("b", &2u8),
+        ("c", &3u8),
+        ("d", &4u8),
+        ("e", &5u8),
+    )?;
+    ser.serialize_6_fields(
+        "Six",
+        ("a", &1u8),
+        ("b", &2u8),
+        ("c", &3u8),
+        ("d", &4u8),
+        ("e", &5u8),
+        ("f", &6u8),
+    )
+}
+
+#[test]
+fn calls_for_variants_of_fields(rt: HostRuntime) -> Result<(), Fail> {
+    let mut ser = Serializer::new(BufWriter::new(Vec::new(rt.alloc())));
+    variants_of_fields_by_calls(&mut ser)?;
+    a_struct_variant(&mut ser)?;
+    let variants = b"\xa1\x61A\xa1\x61a\x01\
+\xa1\x61B\xa3\x61a\x01\x61b\x02\x61c\x03\
+\xa1\x61C\xa4\x61a\x01\x61b\x02\x61c\x03\x61d\x04\
+\xa1\x61D\x83\x01\x02\x03\
+\xa1\x61E\xa1\x61a\x01";
+    assert_eq!(rt; ser.into_inner().buffer(), variants.as_slice());
+    Ok(())
+}
+
+fn variants_of_fields_by_calls(ser: &mut Serializer<BufWriter>) -> Written {
+    let [one, two, three, four] = &[1u8, 2, 3, 4];
+    ser.serialize_variant_of_1_field("Enum", 0, "A", ("a", one))?;
+    ser.serialize_variant_of_3_fields("Enum", 1, "B", ("a", one), ("b", two), ("c", three))?;
+    ser.serialize_variant_of_4_fields(
+        "Enum",
+        2,
+        "C",
+        ("a", one),
+        ("b", two),
+        ("c", three),
+        ("d", four),
+    )?;
+    ser.serialize_variant_of_3_items("Enum", 3, "D", one, two, three)
+}
+
+fn a_struct_variant(ser: &mut Serializer<BufWriter>) -> Written {
+    let mut fields = ser.serialize_struct_variant("Enum", 4, "E", 1)?;
+    fields.serialize_field("a", &1u8)?;
+    fields.end()
+}
+
+#[test]
 fn collects(rt: HostRuntime) -> Result<(), Fail> {
     let mut ser = Serializer::new(BufWriter::new(Vec::new(rt.alloc())));
     an_open_array(&mut ser)?;
