@@ -6,7 +6,6 @@ ghost use Rattle.std.specs.Prelude.{
   ◌≡◌,
   ◌≤◌,
   ◌<◌,
-  ℕ,
   Bool,
   take,
   length,

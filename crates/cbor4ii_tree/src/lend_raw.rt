@@ -5,17 +5,14 @@ ghost use Rattle.std.specs.Prelude.{
   ◌≤◌,
   ℕ,
   List,
-  Some,
   length,
   take,
-  true,
   false,
   IsTrue,
   IfOk,
   IfErr,
   OnOk,
 };
-ghost use Rattle.cbor4ii_rw.specs.View.{Told};
 ghost use Rattle.cbor4ii_rw.specs.Reader.{KeepsAllButBudget};
 ghost use Rattle.cbor4ii_items.specs.Decoding.{IsExact, Sound, Refuses, Stops};
 ghost use Rattle.cbor4ii_items.specs.Moves.{Moves};

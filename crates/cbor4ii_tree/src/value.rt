@@ -5,7 +5,7 @@ ghost use Rattle.std.specs.Cmp.{on_per, on_equiv, partial_equiv_from_equiv};
 ghost use Rattle.cbor4ii_tree.specs.ItemEquality.{item_eq-equivalence};
 ghost use Rattle.cbor4ii_tree.specs.View.{view, items_view, members_view, same_view};
 
-use std::alloc::{AllocError, Global};
+use std::alloc::AllocError;
 
 /// The bits of a float, in its own width (RFC 8949 section 3.3). They are compared as bits with
 /// their width, so `F16(0)` is not `F32(0)`, and a NaN equals itself.

@@ -3,7 +3,6 @@ use Rattle.std.proofs.Common.{◌≡◌, ℕ, ◌+◌, ◌≤◌, inl, inr, List
 use Rattle.cbor4ii_rw.specs.View.{View, Told}
 use Rattle.cbor4ii_rw.specs.declared.error.DecodeError.{DecodeError}
 use Rattle.cbor4ii_items.specs.Decoding.{IsExact, Sound, Refuses, Stops}
-use Rattle.cbor4ii_items.specs.Lent.{Lends}
 use Rattle.cbor4ii_items.specs.Moves.{Moves}
 use Rattle.cbor4ii_items.specs.Refusal.{is_out_of_memory}
 use Rattle.cbor4ii_tree.specs.declared.boxed_raw.BoxedRawValue.{BoxedRawValue}
@@ -13,13 +12,9 @@ use Rattle.cbor4ii_tree.specs.Refusal.{Refusal}
 use Rattle.cbor4ii_tree.specs.Spelling.{Skips}
 use Rattle.cbor4ii_tree.specs.StopsSkipping.{StopsSkipping}
 use Rattle.cbor4ii_tree.specs.Promises.{Answered, Refused}
-use Rattle.cbor4ii_tree.specs.Raw.{ReadsRaw, StopsRaw, BeginsRaw, RefusedFront, Captured}
+use Rattle.cbor4ii_tree.specs.Raw.{ReadsRaw, StopsRaw, BeginsRaw, RefusedFront}
 use Rattle.cbor4ii_tree.specs.BoxedRaw.{boxed_content, CapturesCopy, UnmovedOrLacks, SkippedTo, CopiesItem}
 use Rattle.cbor4ii_tree.proofs.raw_items.Captured.{item_at, skips_read, raw_moves, raw_progress, raw_memory, raw_unmoved, raw_refused, raw_sound, raw_refuses, raw_stops, raw_begins, raw_whole, raw_exact}
-
--- a value with the same content
-pub captured_as : {V W : Type 0} (content : V → List ℕ) (other : W → List ℕ) {v : V} {w : W} {a b : View} → other w ≡ content v → Captured content a b v → Captured other a b w
-captured_as content other {a = a} {b = b} same c = record { shown = c.shown; front = c.front; count = c.count; item = c.item; lends = subst (λ z. Lends c.count z a b) (sym same) c.lends; less = c.less }
 
 module _ {E : Type 0} (a b : View) where
   copy_moves : (r : Result BoxedRawValue (DecodeError E)) → CapturesCopy a b r → Moves a b r

@@ -17,7 +17,7 @@ use Rattle.cbor4ii_tree.specs.declared.skip.Went.{Went}
 use Rattle.cbor4ii_tree.specs.declared.skip.Went.TheVariants.{Into}
 use Rattle.cbor4ii_tree.specs.declared.ahead.Among.TheVariants as among
 use Rattle.cbor4ii_tree.proofs.parts.Joined.{join, count-join, each-join, bytes-join}
-use Rattle.cbor4ii_tree.proofs.skip_calls.Doing.{Reached, reached_start, reached_by, reached_then, reached_as, does_ok, does_err, does_around, steps_in}
+use Rattle.cbor4ii_tree.proofs.skip_calls.Doing.{Reached, reached_by, reached_then, reached_as, does_ok, does_err, does_around, steps_in}
 use Rattle.cbor4ii_tree.proofs.skip_calls.Fronts.{keeps_alike, keeps_then}
 use Rattle.cbor4ii_tree.proofs.skip_calls.Parts.{items_join, items_none, items_more, items_stop}
 use Rattle.cbor4ii_tree.proofs.skip_calls.Runs.{Same, same_start, some_items, into}
@@ -58,9 +58,6 @@ does_back A S {a = a} {b = b} {c = c} outward restored d =
     does_around A A S S (λ xs ys v h. h) (λ xs e rest h. h) (keeps_alike a a refl) (keeps_then (alike_without a.budget b) outward) (λ none. none) (λ same. restored) d
 
 -- ---- going on
-
-goes_start : (total : ℕ) (budget : Budget) (xs : List ℕ) → GoesOn total budget budget xs total xs
-goes_start total budget xs = record { skips = λ rest s. s; stops = λ e rest s. s }
 
 goes_then : (total left now : ℕ) (a m n : Budget) (xs ys zs : List ℕ) → GoesOn total a m xs left ys → GoesOn left m n ys now zs → GoesOn total a n xs now zs
 goes_then total left now a m n xs ys zs g h = record { skips = λ rest s. g.skips rest (h.skips rest s); stops = λ e rest s. g.stops e rest (h.stops e rest s) }
@@ -142,6 +139,3 @@ module _ (total left : ℕ) {a m : View} (p : Reached (λ xs ys. GoesOn total a.
   pub all_gone : {E : Type 0} → left ≡ 0 → Does {E = E} (λ xs (_ : Unit {0}) ys. SkipsItems total a.budget xs ys) (StopsItems total a.budget) a (budgeted a.budget m) (Ok tt)
   all_gone none = does_ok (λ xs (_ : Unit {0}) ys. SkipsItems total a.budget xs ys) (StopsItems total a.budget) (reached_as (λ xs ys. GoesOn total a.budget m.budget xs left ys) (SkipsItems total a.budget)
       (λ xs ys g. g.skips ys (subst (λ n. SkipsItems n m.budget ys ys) (sym none) (items_none m.budget ys))) p)
-
-pub gone_start : (total : ℕ) (a : View) → Reached (λ xs ys. GoesOn total a.budget a.budget xs total ys) a (budgeted a.budget a)
-gone_start total a = reached_start (λ xs ys. GoesOn total a.budget a.budget xs total ys) a (λ xs. goes_start total a.budget xs)

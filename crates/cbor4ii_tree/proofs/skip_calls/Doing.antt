@@ -1,11 +1,10 @@
 -- Calls of decoders whose items nest, one after another.
-use Rattle.std.proofs.Common.{◌≡◌, ℕ, zero, suc, ◌-◌, ◌<◌, List, [], ◌∷◌, drop, Option, Some, None, Result, Ok, Err, true, false, IsTrue, refl, sym, ap, ◌∙◌, subst, arith, IfSome, IfOk, IfErr}
+use Rattle.std.proofs.Common.{◌≡◌, ℕ, zero, suc, ◌-◌, ◌<◌, List, ◌∷◌, drop, Option, Some, None, Result, Ok, Err, true, false, IsTrue, refl, sym, ap, ◌∙◌, subst, arith, IfSome, IfOk, IfErr}
 use Rattle.cbor4ii_rw.specs.View.{View, Told}
 use Rattle.cbor4ii_rw.specs.Reader.{KeepsAllButBudget, StepsIn, step_back, Advances}
 use Rattle.cbor4ii_rw.specs.declared.error.DecodeError.{DecodeError}
 use Rattle.cbor4ii_rw.specs.declared.error.DecodeError.TheVariants.{OutOfMemory}
-use Rattle.cbor4ii_rw.specs.declared.error.Len.TheVariants.{Small}
-use Rattle.cbor4ii_items.specs.Refusal.{Refusal, refusal_of, is_read, is_depth_overflow, eof, depth_overflow}
+use Rattle.cbor4ii_items.specs.Refusal.{Refusal, refusal_of, is_read, is_depth_overflow, depth_overflow}
 use Rattle.cbor4ii_items.specs.Decoding.{CostFits, Sound, Stops}
 use Rattle.cbor4ii_items.specs.Moves.{Kept, Moves, is_failure}
 use Rattle.cbor4ii_items.specs.Reading.{Runs, peek_at}
@@ -15,7 +14,6 @@ use Rattle.cbor4ii_items.specs.Laws.UnderStep.{step_again, step_unbound, moves_a
 use Rattle.cbor4ii_tree.specs.Cost.{step_in}
 use Rattle.cbor4ii_tree.specs.Stops.{Stopping}
 use Rattle.cbor4ii_tree.specs.Does.{Accepting, Does}
-use Rattle.cbor4ii_tree.specs.Laws.Binds.{is_err}
 
 -- Some calls went well: what was taken is told by P.
 pub record Reached (P : List ℕ → List ℕ → Type 0) (a m : View) : Type 0 where
@@ -127,15 +125,6 @@ reached_first name expect b {c = c} p small adv = record {
       let e : h.0 ≡ b ∷ q.0 = q.2 ∙ q.1 in
       (q.0, adv.told h.0 h.1 ∙ ap (λ (zs : List ℕ). Some (drop 1 zs)) e, q.1);
 }
-
--- no byte to look at
-no_byte : (o : Option Refusal) (name : List ℕ) (expect : ℕ) (T : Stopping) (xs : List ℕ) (new : Option (List ℕ)) → (xs ≡ [] → T xs (eof name (Small expect)) [])
-    → IfSome o (λ z. (ys : List ℕ) × (new ≡ Some ys) × (peek_at name expect xs ≡ Err (z, ys))) → IfSome o (λ z. (ys : List ℕ) × (new ≡ Some ys) × T xs z ys)
-no_byte None name expect T xs new f h = tt
-no_byte (Some z) name expect T [] new f h =
-    let g = is_err {A = ℕ} _ _ _ _ h.2 in
-    (h.0, h.1, subst (λ y. T [] y h.0) (sym g.0) (subst (λ (ys : List ℕ). T [] (eof name (Small expect)) ys) (sym g.1) (f refl)))
-no_byte (Some z) name expect T (x ∷ xs) new f h = let g = h.2 in cc
 
 -- ---- steps
 

@@ -1,7 +1,7 @@
 -- What a head says of the item that it begins, where the item is skipped.
 use Rattle.std.proofs.Common.{◌≡◌, ℕ, zero, suc, ◌+◌, ◌*◌, ◌%◌, ◌<◌, ◌⊎◌, inl, inr, List, [], ◌∷◌, ◌++◌, length, refl, sym, ap, ap₂, ◌∙◌, subst, arith, append_assoc, append-nil, lt-ltb}
 use Rattle.cbor4ii_items.specs.Head.{Width, in_first, one, two, four, eight, byte_count, HeadFits, head, open_head, break}
-use Rattle.cbor4ii_items.specs.Initial.{sign_major, kind_major, precision_bytes, info_of, wide, Initial, starts_int, bad_int, starts_string, starts_chunks, bad_string, starts_array, starts_open_array, bad_array, starts_map, starts_open_map, bad_map, starts_tag, bad_tag, starts_simple, starts_bits, initial, Kind, Precision, Sign, Simple}
+use Rattle.cbor4ii_items.specs.Initial.{sign_major, kind_major, precision_bytes, info_of, wide, Initial, starts_int, starts_string, starts_chunks, bad_string, starts_array, starts_open_array, bad_array, starts_map, starts_open_map, bad_map, starts_tag, bad_tag, starts_simple, starts_bits, initial, Kind, Precision, Sign, Simple}
 use Rattle.cbor4ii_items.specs.Decoding.{CostFits}
 use Rattle.cbor4ii_items.specs.Magnitude.{number_of}
 use Rattle.cbor4ii_tree.specs.Tree.{Tree, Trees, no_trees, tree, Pairs, no_pairs, pair, int, string, chunked, array, array_open, map_of, map_open, tagged, simple, bits, count, pair_count, bytes, bytes_all, bytes_pairs, Loose, LooseAll, LoosePairs}
@@ -63,14 +63,6 @@ stops_by inner i b bs e rest is h budget step =
     (skipping_by_parts (b ∷ bs) budget e rest).1
     (subst (λ o. Stepped ignored_any o (b ∷ bs) (λ inner. SkippingStopsBy (λ part. StopsSkipping part inner) inner (initial b) b bs) e rest) (sym step)
     (subst (λ j. SkippingStopsBy (λ part. StopsSkipping part inner) inner j b bs e rest) (sym is) h))
-
--- bytes that begin nothing
-pub stays : (inner : Budget) (b : ℕ) (bs : List ℕ) → start_of (initial b) ≡ start.Stays → StopsUnder inner (b ∷ bs) (mismatch ignored_any b) (b ∷ bs)
-stays inner b bs e = by_row (initial b) refl e
-  where
-    by_row : (i : Initial) → initial b ≡ i → start_of i ≡ start.Stays → StopsUnder inner (b ∷ bs) (mismatch ignored_any b) (b ∷ bs)
-    by_row (bad_int s) is e = stops_by inner (bad_int s) b bs _ _ is (refl, refl)
-    by_row _ is e = cc
 
 pub is_taken : (inner : Budget) (b : ℕ) (bs : List ℕ) → start_of (initial b) ≡ start.Taken → StopsUnder inner (b ∷ bs) (mismatch ignored_any b) bs
 is_taken inner b bs e = by_row (initial b) refl e

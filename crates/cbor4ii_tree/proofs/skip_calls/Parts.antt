@@ -4,7 +4,7 @@ use Rattle.cbor4ii_items.specs.Head.{break}
 use Rattle.cbor4ii_items.specs.Strings.{ReadsBreak}
 use Rattle.cbor4ii_tree.specs.Tree.{Trees, no_trees, Pairs, no_pairs, bytes, bytes_all, bytes_pairs}
 use Rattle.cbor4ii_tree.specs.Cost.{Budget}
-use Rattle.cbor4ii_tree.specs.Refusal.{Refusal, eof, Small, break_name}
+use Rattle.cbor4ii_tree.specs.Refusal.{Refusal}
 use Rattle.cbor4ii_tree.specs.Stops.{Each, EachPair, NoBreak}
 use Rattle.cbor4ii_tree.specs.StopsSkipping.{Skippable}
 use Rattle.cbor4ii_tree.specs.Skipping.{SkipsOne, StopsOne, SkipsItems, StopsItems, SkipsOpen, StopsOpen, SkipsMembers, StopsMembers}
@@ -40,14 +40,6 @@ items_more n budget xs ys zs h k =
 
 pub items_stop : (i n : ℕ) (budget : Budget) (xs ys : List ℕ) (e : Refusal) (rest : List ℕ) → i < n → SkipsItems i budget xs ys → StopsOne budget ys e rest → StopsItems n budget xs e rest
 items_stop i n budget xs ys e rest lt h s = record { front = h.0; after = ys; few = omega (arith, h.1); whole = h.2; is = h.3; stopped = s }
-
-pub each_more : (budget : Budget) (xs ys zs : List ℕ) → SkippedEach budget xs ys → SkipsOne budget ys zs → SkippedEach budget xs zs
-each_more budget xs ys zs h k =
-    (push h.0 k.0, each-push (Skippable budget) h.0 k.0 h.1 (k.1.loose, k.1.fits), h.2 ∙ ap (λ r. bytes_all h.0 ++ r) k.1.begins ∙ sym (bytes-push h.0 k.0 zs))
-
--- behind the items no byte is left
-pub open_end : (budget : Budget) (xs ys : List ℕ) → SkippedEach budget xs ys → ys ≡ [] → StopsOpen budget xs (eof break_name (Small 1)) []
-open_end budget xs ys h e = record { front = h.0; after = []; whole = h.1; is = h.2 ∙ ap (λ r. bytes_all h.0 ++ r) e; stopped = (refl, refl) }
 
 pub no_break : (budget : Budget) (ys : List ℕ) (e : Refusal) (rest : List ℕ) → ys ≢ [] → (take_break : (bs : List ℕ) → ys ≡ break ∷ bs → ⊥) → StopsOne budget ys e rest → NoBreak (StopsOne budget) ys e rest
 no_break budget [] e rest some none s = absurd (some refl)
@@ -85,9 +77,6 @@ pairs_more budget xs ys ws zs h k v = (
   each-push_pair (Skippable budget) h.0 k.0 v.0 h.1 (k.1.loose, k.1.fits) (v.1.loose, v.1.fits),
   h.2 ∙ ap (λ r. bytes_pairs h.0 ++ r) (k.1.begins ∙ ap (λ r. bytes k.0 ++ r) v.1.begins) ∙ sym (bytes-push_pair h.0 k.0 v.0 zs),
 )
-
-pub members_end : (budget : Budget) (xs ys : List ℕ) → SkippedPairs budget xs ys → ys ≡ [] → StopsMembers budget xs (eof break_name (Small 1)) []
-members_end budget xs ys h e = record { front = h.0; after = []; whole = h.1; is = h.2 ∙ ap (λ r. bytes_pairs h.0 ++ r) e; stopped = inl (refl, refl) }
 
 pub key_stop : (budget : Budget) (xs ys : List ℕ) (e : Refusal) (rest : List ℕ) → SkippedPairs budget xs ys → NoBreak (StopsOne budget) ys e rest → StopsMembers budget xs e rest
 key_stop budget xs ys e rest h s = record { front = h.0; after = ys; whole = h.1; is = h.2; stopped = inl s }

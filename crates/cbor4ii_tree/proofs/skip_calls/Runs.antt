@@ -25,7 +25,7 @@ use Rattle.cbor4ii_tree.specs.declared.skip.Went.TheVariants.{Past, Into}
 use Rattle.cbor4ii_tree.specs.declared.ahead.Among.{Among}
 use Rattle.cbor4ii_tree.specs.declared.ahead.Among.TheVariants.{Items, Pairs, OpenItems, OpenPairs}
 use Rattle.cbor4ii_tree.specs.declared.ahead.Ahead.{Ahead}
-use Rattle.cbor4ii_tree.specs.declared.ahead.Ahead.TheVariants.{Run, Head, Break, Unseen}
+use Rattle.cbor4ii_tree.specs.declared.ahead.Ahead.TheVariants.{Run, Head, Unseen}
 use Rattle.cbor4ii_tree.specs.Laws.Binds.{step_up}
 use Rattle.cbor4ii_tree.specs.Laws.Budgets.{fits_zero}
 use Rattle.cbor4ii_tree.proofs.skip_calls.Doing.{Reached, reached_start, reached_by, reached_then, reached_as, reached_sound, does_after, does_ok, does_err, does_stops, does_stepped, does_refuse_by, steps_in, no_step, kept_budget}
@@ -44,12 +44,6 @@ same_stop A B S {a = a} d = does_err Same A B S S (λ xs ys z rest e s. subst (�
 
 -- ---- counts
 
-pub counts_allowed : (among : Among) (n : ℕ) → 1 ≤ n → Allows among n → Counts among n
-counts_allowed (Items most) n some h = (some, h)
-counts_allowed (Pairs most) n some h = (some, h.0)
-counts_allowed OpenItems n some h = tt
-counts_allowed OpenPairs n some h = tt
-
 pub counts_one : (among : Among) → Awaits among → Counts among 1
 counts_one (Items most) h = (omega arith, h)
 counts_one (Pairs most) h = (omega arith, omega (arith, h))
@@ -67,12 +61,6 @@ passes_some among n size old new is h = subst (λ s. Passes among s old new) is 
 
 pub passes_head : (among : Among) (size : ℕ) (behind : Behind) (old new : ℕ) {seen : Ahead} → seen ≡ Head size behind → Passes among seen old new → new + 1 ≤ old
 passes_head among size behind old new is h = subst (λ s. Passes among s old new) is h
-
-pub passes_break : (among : Among) (old new : ℕ) {seen : Ahead} → seen ≡ Break → Passes among seen old new → IsOpen among
-passes_break among old new is h = subst (λ s. Passes among s old new) is h
-
-pub passes_unseen : (among : Among) (old new : ℕ) {seen : Ahead} → seen ≡ Unseen → Passes among seen old new → new ≤ old
-passes_unseen among old new is h = subst (λ s. Passes among s old new) is h
 
 -- ---- how far an answer leads
 
@@ -200,11 +188,6 @@ pub ran : {E : Type 0} (among : Among) (n size : ℕ) {seen : Ahead} {a m : View
 ran among n size {seen = seen} {a = a} is some d = does_ok (SkipsSomeUnder among a.budget) (StopsSomeUnder among a.budget) (reached_as (λ xs ys. TakesAhead among a.budget xs seen ys) (λ xs ys. SkipsSomeUnder among a.budget xs n ys)
     (λ xs ys h budget step. inr (some, run_items n budget xs ys (step_up budget a.budget 0 step (fits_zero a.budget)) (subst (λ s. TakesAhead among a.budget xs s ys) is h))) (reached_by d))
 
--- a break was
-pub broke_here : {E : Type 0} (among : Among) {seen : Ahead} {a m : View} → seen ≡ Break → IsOpen among → Does {V = Ahead} {E = E} (TakesAhead among a.budget) NeverStops a m (Ok seen) → Does {E = E} (SkipsSomeUnder among a.budget) (StopsSomeUnder among a.budget) a m (Ok 0)
-broke_here among {seen = seen} {a = a} is here d = does_ok (SkipsSomeUnder among a.budget) (StopsSomeUnder among a.budget) (reached_as (λ xs ys. TakesAhead among a.budget xs seen ys) (λ xs ys. SkipsSomeUnder among a.budget xs 0 ys)
-    (λ xs ys h budget step. inl (here, refl, subst (λ s. TakesAhead among a.budget xs s ys) is h)) (reached_by d))
-
 -- the reader failed
 pub not_ran : {U E : Type 0} (among : Among) (A : Accepting U) (T : Stopping) {e : DecodeError E} {a b : View} → Does {V = Ahead} (TakesAhead among a.budget) NeverStops a b (Err e) → Does {V = U} A T a b (Err e)
 not_ran among A T {a = a} d = does_err Same (TakesAhead among a.budget) A NeverStops T (λ xs ys z rest u h. absurd h) (same_start a) d
@@ -233,11 +216,6 @@ module _ (among : Among) (size : ℕ) (behind : Behind) {seen : Ahead} {a m : Vi
   pub head_stopped : {E : Type 0} {e : DecodeError E} {b : View} → Does {V = Ahead} {E = E} (TakesAhead among a.budget) NeverStops a m (Ok seen) → Does {V = Unit {0}} (λ xs _ ys. SkipsBehind behind m.budget xs ys) (StopsBehind behind m.budget) m b (Err e)
       → Does {V = ℕ} (SkipsSomeUnder among a.budget) (StopsSomeUnder among a.budget) a b (Err e)
   head_stopped h d = behind_stopped among behind h.moves.by.budget (head_taken h) d
-
-  -- and its items are behind it
-  pub head_into : {E : Type 0} (n : ℕ) → behind ≡ left_behind.Items n → Does {V = Ahead} {E = E} (TakesAhead among a.budget) NeverStops a m (Ok seen) → Does {E = E} (GoesUnder among a.budget) (StopsSomeUnder among a.budget) a m (Ok (Into n))
-  head_into n holds h = does_ok (GoesUnder among a.budget) (StopsSomeUnder among a.budget) (reached_as (λ xs ys. TakesHead a.budget xs behind ys) (λ xs ys. GoesUnder among a.budget xs (Into n) ys)
-      (λ xs ys t. subst (λ z. TakesHead a.budget xs z ys) holds t) (head_taken h))
 
 -- nothing was
 pub nothing_taken : {E : Type 0} (among : Among) {seen : Ahead} {r : Result ℕ (DecodeError E)} {a m b : View} → seen ≡ Unseen → Does {V = Ahead} {E = E} (TakesAhead among a.budget) NeverStops a m (Ok seen)

@@ -102,10 +102,6 @@ same_head major n w x y h e =
     let s : w ≡ shortest n = same_width major n w (shortest n) h k first.0 in
     (s, append_cancel_left (head major n (shortest n)) x y (ap (λ u. head major n u ++ x) (sym s) ∙ e))
 
--- no head of a shortest width is open
-below_open : (n : ℕ) → n < 24 → additional (shortest n) n < 28
-below_open n h = rw (lt-ltb n 24 h) (omega arith)
-
 additional-shortest : (n : ℕ) → additional (shortest n) n < 28
 additional-shortest n =
     let P : Width → Type 0 = λ w. additional w n < 28 in
