@@ -156,11 +156,6 @@ integer_fails OutOfMemory a b held refuses steady = absurd refuses
 integer_fails kind a b held refuses steady =
     (steady.1 (λ e. cc), refl, λ xs told. (refuses xs told, no_more kind xs (refuses xs told)))
 
-begins : (command : Command) (a b : View) (held holds : Output) → Done command a b held holds
-    → Told a.told (BeginsItem command)
-begins command a b held holds done xs told = let d =
-    done.item xs told in (d.text, d.rest, d.converts)
-
 pub integer_unwritten : (integer : Integer) (a b : View) (held holds : Output)
     → ReadsInteger integer a b → Failed held.failures holds.failures
     → Fails Ints Write a b held holds

@@ -9,7 +9,7 @@ use Rattle.cbor4ii_rw.specs.View.{View, Told}
 use Rattle.cbor4ii_rw.specs.Reader.{Shows, Failed, counts}
 use Rattle.cbor4ii_rw.specs.Writer.{Output, Appends}
 use Rattle.cbor4ii_tool.specs.Item.{Converts, IsRow, together}
-use Rattle.cbor4ii_tool.specs.Run.{FaultAt, RunsOver, WantsMemory}
+use Rattle.cbor4ii_tool.specs.Run.{FaultAt, RunsOver}
 use Rattle.cbor4ii_tool.specs.Steps.{Leaves, Done, Fails, MovesFailures, Ran}
 use Rattle.cbor4ii_tool.proofs.Items.{same_bytes}
 use Rattle.cbor4ii_tool.specs.declared.command.Command.{Command}
@@ -170,12 +170,6 @@ stopped command at kind start a b c held h i ran taken shows some fails input to
 from : (a b c : ℕ) → b ≡ a → Failed b c → Failed a c
 from a b c same failed = subst (λ n. Failed n c) same failed
 
-pub unread_moves : (command : Command) (at : ℕ) (start a b : View) (held h : Output)
-    → Ran command start a held h → Failed a.failures b.failures
-    → MovesFailures (Err (record { at = at; kind = Read })) start b held h
-unread_moves command at start a b held h ran failed =
-    (from start.failures a.failures b.failures ran.failures failed, ran.unfailing)
-
 pub stopped_moves : (command : Command) (at : ℕ) (kind : Kind) (start a b c : View)
     (held h i : Output) → Ran command start a held h → Shows [] a b → Fails command kind b c h i
     → MovesFailures (Err (record { at = at; kind = kind })) start c held i
@@ -229,8 +223,3 @@ nothing_left command start a b held h ran shows end input told = let r =
     ran.over input told in shows.told r.rest r.left_is ∙ ap Some (end r.rest r.left_is)
 
 -- ---- memory
-
-pub wants_memory : (command : Command) (kind : Kind) (a b : View) (held holds : Output)
-    → Fails command kind a b held holds → WantsMemory command kind
-wants_memory command OutOfMemory a b held holds fails = fails.0
-wants_memory command _ a b held holds fails = tt

@@ -10,7 +10,6 @@ use crate::fault::{Fault, Kind};
 use crate::run::run;
 use cbor4ii::utils::{IoReader, IoWriter};
 use rows::{ROWS, Row};
-use std::alloc::Global;
 use std::io::{self, BufReader, ErrorKind};
 use std::process::Abort;
 use streams::{Input, Output};
