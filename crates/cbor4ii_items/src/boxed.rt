@@ -54,6 +54,7 @@ impl<S: Source, T: Decode<S> + Drop> Decode<S> for Box<T> {
     ghost alone = { λ e xs ys b. T.alone e xs ys b.value };
 }
 
+/// A box is written as what is in it, and fails as that does.
 impl<T: Encode> Encode for Box<T> {
     ghost bytes = { λ b. T.bytes b.value };
 

@@ -186,6 +186,8 @@ impl<S: Source> Decode<S> for F16 {
     ghost alone = { λ _ xs ys v. float_alone 0xf9 2 xs ys v.0 };
 }
 
+/// `f9`, and the bits in two bytes, most significant first (RFC 8949 section 3.3), in one push.
+/// Where that fails, a whole writer holds what it held before.
 impl Encode for F16 {
     ghost bytes = { λ v. float_bytes 0xf9 2 v.0 };
 
@@ -241,6 +243,8 @@ impl<S: Source> Decode<S> for F32 {
     ghost alone = { λ _ xs ys v. float_alone 0xfa 4 xs ys v.0 };
 }
 
+/// `fa`, and the bits in four bytes, most significant first (RFC 8949 section 3.3), in one push.
+/// Where that fails, a whole writer holds what it held before.
 impl Encode for F32 {
     ghost bytes = { λ v. float_bytes 0xfa 4 v.0 };
 
@@ -297,6 +301,8 @@ impl<S: Source> Decode<S> for F64 {
     ghost alone = { λ _ xs ys v. float_alone 0xfb 8 xs ys v.0 };
 }
 
+/// `fb`, and the bits in eight bytes, most significant first (RFC 8949 section 3.3), in one push.
+/// Where that fails, a whole writer holds what it held before.
 impl Encode for F64 {
     ghost bytes = { λ v. float_bytes 0xfb 8 v.0 };
 

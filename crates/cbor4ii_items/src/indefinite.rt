@@ -26,7 +26,8 @@ use cbor4ii_rw::read::Source;
 /// Takes a break and answers true, or takes nothing and answers false where another byte comes
 /// next.
 ///
-/// Where no byte is left it answers `Eof` by the name "break" with 1. The budget stays.
+/// `Read` where the reader failed, and `Eof` by the name "break" with 1 where no byte is left;
+/// nothing is taken then. The budget stays.
 pub fn is_break<S: Source>(reader: &mut S) -> Result<bool, DecodeError<S::Error>>
     ensures moves { Moves (S.view reader.old) (S.view reader.new) result }
     ensures memory { IfErr result (λ error. is_out_of_memory error ≡ false) }

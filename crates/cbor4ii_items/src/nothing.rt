@@ -56,6 +56,7 @@ impl<S: Source> Decode<S> for Nothing {
     ghost alone = { λ _. nothing_alone };
 }
 
+/// No byte, and no push. It never fails.
 impl Encode for Nothing {
     ghost bytes = { λ _. [] };
 

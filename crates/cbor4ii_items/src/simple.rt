@@ -76,6 +76,9 @@ impl<S: Source> Decode<S> for Simple {
     ghost alone = { λ _. simple_alone };
 }
 
+/// The shortest head of major type 7 with its number (RFC 8949 section 3.3), in one push: from 24
+/// on `f8` and the number, also of 24 to 31, which section 3.3 calls not well-formed. Where that
+/// fails, a whole writer holds what it held before.
 impl Encode for Simple {
     ghost bytes = { λ v. shortest_head 7 v.0 };
 
@@ -138,6 +141,8 @@ fn take_bool<S: Source>(reader: &mut S) -> Result<bool, DecodeError<S::Error>>
     Ok(byte == marker::TRUE)
 }
 
+/// `f4` for false and `f5` for true (RFC 8949 section 3.3), in one push. Where that fails, a whole
+/// writer holds what it held before.
 impl Encode for bool {
     ghost bytes = { λ v. bool_byte v ∷ [] };
 
@@ -151,6 +156,8 @@ impl Encode for bool {
     }
 }
 
+/// `f6` (RFC 8949 section 3.3), in one push. Where that fails, a whole writer holds what it held
+/// before.
 impl Encode for Null {
     ghost bytes = { λ _. simple_byte simple_null ∷ [] };
 
@@ -163,6 +170,8 @@ impl Encode for Null {
     }
 }
 
+/// `f7` (RFC 8949 section 3.3), in one push. Where that fails, a whole writer holds what it held
+/// before.
 impl Encode for Undefined {
     ghost bytes = { λ _. simple_byte simple_undefined ∷ [] };
 

@@ -64,6 +64,8 @@ impl BufWriter {
     }
 }
 
+/// A push appends to the vector. It fails only where the vector has no room and cannot grow, and
+/// the vector then holds what it held before.
 impl Write for BufWriter {
     type Error = TryReserveError;
 

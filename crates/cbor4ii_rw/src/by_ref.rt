@@ -2,6 +2,7 @@
 use crate::read::{Read, Reference, Source};
 use crate::write::Write;
 
+/// Each call is that of the reader behind the reference, and so is what it tells.
 impl<S: Source> Source for &mut S {
     type Error = S::Error;
 
@@ -26,12 +27,14 @@ impl<S: Source> Source for &mut S {
     ghost told_within_bound = { λ reader. S.told_within_bound reader.now };
 }
 
+/// It lends what the reader behind the reference lends.
 impl<'de, R: Read<'de>> Read<'de> for &mut R {
     fn fill<'short>(&'short mut self, want: usize) -> Result<Reference<'de, 'short>, R::Error> {
         Read::fill(&mut **self, want)
     }
 }
 
+/// Each call is that of the writer behind the reference, and so is what it tells.
 impl<W: Write> Write for &mut W {
     type Error = W::Error;
 

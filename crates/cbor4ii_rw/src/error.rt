@@ -126,6 +126,7 @@ pub enum EncodeError<E> {
     Write(E),
 }
 
+/// As `Read`.
 impl<E> From<E> for DecodeError<E> {
     ghost from_gives = { λ error result. result ≡ Read error };
 
@@ -134,6 +135,7 @@ impl<E> From<E> for DecodeError<E> {
     }
 }
 
+/// As `Write`.
 impl<E> From<E> for EncodeError<E> {
     ghost from_gives = { λ error result. result ≡ Write error };
 

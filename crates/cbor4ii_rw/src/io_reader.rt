@@ -59,6 +59,7 @@ pub struct IoReader<R: BufRead> {
     tally: Tally,
 }
 
+/// What was advanced leaves the stream.
 impl<R: BufRead + Drop> Drop for IoReader<R> {
     fn drop(self) {
         let IoReader { mut inner, tally } = self;
@@ -143,6 +144,8 @@ impl<R: BufRead> IoReader<R> {
     }
 }
 
+/// It shows what the stream has ready, whatever is wanted, up to 2^64-1 bytes in all. Where these
+/// were taken it shows none, and asks nothing of the stream.
 impl<R: BufRead> Source for IoReader<R> {
     type Error = io::Error;
 
@@ -195,6 +198,7 @@ impl<R: BufRead> Source for IoReader<R> {
         (stream_left R.Read.remaining R.consumable_len reader) };
 }
 
+/// It lends what it shows, always `Short`.
 impl<'de, R: BufRead> Read<'de> for IoReader<R> {
     // The clauses of the trait, those of `show`, and that it is always `Short`.
     fn fill<'short>(&'short mut self, want: usize) -> Result<Reference<'de, 'short>, io::Error>

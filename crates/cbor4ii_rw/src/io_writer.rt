@@ -83,6 +83,8 @@ impl<W: io::Write> IoWriter<W> {
     }
 }
 
+/// A push writes all of its input to the stream, which is then not flushed. It fails where the
+/// stream does, and a part of the input may be written then.
 impl<W: io::Write> Write for IoWriter<W> {
     type Error = io::Error;
 

@@ -84,6 +84,8 @@ impl<'de> SegmentReader<'de> {
     }
 }
 
+/// It shows the first `want` bytes of the segment that it stands in, or of the next that has bytes,
+/// or all of that segment where it has no more.
 impl Source for SegmentReader<'_> {
     type Error = Never;
 
@@ -123,6 +125,7 @@ impl Source for SegmentReader<'_> {
     ghost told_within_bound = { λ reader xs is. Prim.search rules };
 }
 
+/// It lends what it shows, always `Long`.
 impl<'de> Read<'de> for SegmentReader<'de> {
     fn fill<'short>(&'short mut self, want: usize) -> Result<Reference<'de, 'short>, Never>
         ensures front { IfOk result

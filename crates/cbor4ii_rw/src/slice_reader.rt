@@ -49,6 +49,7 @@ impl<'a> SliceReader<'a> {
     }
 }
 
+/// It shows the first `want` bytes, or all where no more are left.
 impl Source for SliceReader<'_> {
     type Error = Never;
 
@@ -90,6 +91,7 @@ impl Source for SliceReader<'_> {
     ghost told_within_bound = { λ reader xs is. Prim.search rules };
 }
 
+/// It lends what it shows, always `Long`.
 impl<'de> Read<'de> for SliceReader<'de> {
     fn fill<'short>(&'short mut self, want: usize) -> Result<Reference<'de, 'short>, Never>
         ensures front { IfOk result

@@ -34,7 +34,12 @@ use cbor4ii_rw::write::Write;
 /// variant that has such content.
 ///
 /// What was written when `end` has answered is the head and the parts in order. A call that fails
-/// does not change `left`.
+/// does not change `left`. A whole writer then holds what it held before the call and a beginning
+/// of what the call writes, some bytes where the part has no item; of another writer nothing is
+/// said.
+///
+/// One that is dropped without `end` writes nothing: the head and the parts that were written stay,
+/// and are a whole item only where all parts came.
 #[derive(Debug, Drop)]
 pub struct BoundedCollect<'a, W: Write> {
     pub(crate) ser: &'a mut Serializer<W>,

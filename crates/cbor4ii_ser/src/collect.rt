@@ -26,7 +26,12 @@ use cbor4ii_rw::write::Write;
 ///
 /// What was written when `end` has answered is the head, the parts in order, and a break where the
 /// length is indefinite. A call that fails changes neither `left` nor `owes_value`, save that an
-/// entry that fails at its value has written its key.
+/// entry that fails at its value has written its key. A whole writer then holds what it held before
+/// the call and a beginning of what the call writes, some bytes where the part has no item; of
+/// another writer nothing is said.
+///
+/// One that is dropped without `end` writes nothing: the head and the parts that were written stay,
+/// and are a whole item only where the parts were counted and all came.
 #[derive(Debug, Drop)]
 pub struct Collect<'a, W: Write> {
     pub(crate) ser: &'a mut Serializer<W>,
@@ -217,8 +222,9 @@ impl<'a, W: Write> Collect<'a, W> {
         }
     }
 
-    /// Ends the array or the map: with a break where its length is indefinite. It fails with
-    /// `Core`, and only where the writer failed.
+    /// Ends the array or the map: with a break where its length is indefinite. Where its parts were
+    /// counted nothing is written, and it never fails; else it fails with `Core`, and only where
+    /// the writer failed.
     pub fn end(self) -> Result<(), EncodeError<W::Error>>
         requires owes { owes self ≡ false }
         requires done { IsDone (left_of self) }

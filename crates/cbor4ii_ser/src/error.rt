@@ -26,6 +26,7 @@ impl<E> EncodeError<E> {
     }
 }
 
+/// As `Core`.
 impl<E> From<core_error::EncodeError<E>> for EncodeError<E> {
     ghost from_gives = { λ error result. result ≡ Core error };
 

@@ -30,7 +30,7 @@ impl Serialize for bool {
     }
 }
 
-/// As a head.
+/// As its shortest head (RFC 8949 section 3.1), in one push.
 impl Serialize for i8 {
     ghost item = { λ v. Some (signed_head v) };
 
@@ -39,7 +39,7 @@ impl Serialize for i8 {
     }
 }
 
-/// As a head.
+/// As its shortest head (RFC 8949 section 3.1), in one push.
 impl Serialize for i16 {
     ghost item = { λ v. Some (signed_head v) };
 
@@ -48,7 +48,7 @@ impl Serialize for i16 {
     }
 }
 
-/// As a head.
+/// As its shortest head (RFC 8949 section 3.1), in one push.
 impl Serialize for i32 {
     ghost item = { λ v. Some (signed_head v) };
 
@@ -57,7 +57,7 @@ impl Serialize for i32 {
     }
 }
 
-/// As a head.
+/// As its shortest head (RFC 8949 section 3.1), in one push.
 impl Serialize for i64 {
     ghost item = { λ v. Some (signed_head v) };
 
@@ -66,7 +66,7 @@ impl Serialize for i64 {
     }
 }
 
-/// As a head, or a bignum where none has room for it.
+/// As its shortest head, or as a bignum where none has room for it (RFC 8949 section 3.4.3).
 impl Serialize for i128 {
     ghost item = { λ v. Some (signed_bytes v) };
 
@@ -75,7 +75,7 @@ impl Serialize for i128 {
     }
 }
 
-/// As a head.
+/// As its shortest head (RFC 8949 section 3.1), in one push.
 impl Serialize for u8 {
     ghost item = { λ v. Some (shortest_head 0 v) };
 
@@ -84,7 +84,7 @@ impl Serialize for u8 {
     }
 }
 
-/// As a head.
+/// As its shortest head (RFC 8949 section 3.1), in one push.
 impl Serialize for u16 {
     ghost item = { λ v. Some (shortest_head 0 v) };
 
@@ -93,7 +93,7 @@ impl Serialize for u16 {
     }
 }
 
-/// As a head.
+/// As its shortest head (RFC 8949 section 3.1), in one push.
 impl Serialize for u32 {
     ghost item = { λ v. Some (shortest_head 0 v) };
 
@@ -102,7 +102,7 @@ impl Serialize for u32 {
     }
 }
 
-/// As a head.
+/// As its shortest head (RFC 8949 section 3.1), in one push.
 impl Serialize for u64 {
     ghost item = { λ v. Some (shortest_head 0 v) };
 
@@ -111,7 +111,7 @@ impl Serialize for u64 {
     }
 }
 
-/// As a head, or a bignum where none has room for it.
+/// As its shortest head, or as a bignum where none has room for it (RFC 8949 section 3.4.3).
 impl Serialize for u128 {
     ghost item = { λ v. Some (unsigned_bytes v) };
 
@@ -120,7 +120,7 @@ impl Serialize for u128 {
     }
 }
 
-/// As its bits.
+/// As its first byte and its bits, most significant first, in one push.
 impl Serialize for F16 {
     ghost item = { λ v. Some (float_bytes 0xf9 2 v.0) };
 
@@ -129,7 +129,7 @@ impl Serialize for F16 {
     }
 }
 
-/// As its bits.
+/// As its first byte and its bits, most significant first, in one push.
 impl Serialize for F32 {
     ghost item = { λ v. Some (float_bytes 0xfa 4 v.0) };
 
@@ -138,7 +138,7 @@ impl Serialize for F32 {
     }
 }
 
-/// As its bits.
+/// As its first byte and its bits, most significant first, in one push.
 impl Serialize for F64 {
     ghost item = { λ v. Some (float_bytes 0xfb 8 v.0) };
 

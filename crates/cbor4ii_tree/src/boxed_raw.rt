@@ -90,6 +90,12 @@ impl Spelled for BoxedRawValue {
     }
 }
 
+/// The item at the front of the slice is skipped in place, under a step for each level, and then
+/// taken at once and copied.
+///
+/// Refusals, with their fields, are those of `IgnoredAny`, and nothing is taken; a slice lends all
+/// its bytes, so `RequireBorrowed` never comes. `OutOfMemory` where there is no memory for the
+/// copy, and the item was taken.
 impl<'de> Decode<SliceReader<'de>> for BoxedRawValue {
     fn decode(
         alloc: Global,
@@ -109,6 +115,9 @@ impl<'de> Decode<SliceReader<'de>> for BoxedRawValue {
     ghost alone = { λ _. raw_alone boxed_content };
 }
 
+/// As over a slice, in the bytes of one segment: the one that the reader stands in, or the next
+/// that has bytes. Where the item goes on behind its end, `Eof` as `IgnoredAny` gives it there, and
+/// nothing is taken.
 impl<'de> Decode<SegmentReader<'de>> for BoxedRawValue {
     fn decode(
         alloc: Global,
@@ -128,6 +137,11 @@ impl<'de> Decode<SegmentReader<'de>> for BoxedRawValue {
     ghost alone = { λ _. raw_alone boxed_content };
 }
 
+/// A stream lends nothing, so no item is read and nothing is taken.
+///
+/// Where some bytes are left, `RequireBorrowed` by the name "raw-value". Where none is, as
+/// `IgnoredAny` is refused there, by the name "ignored-any": `DepthOverflow` where no step is left,
+/// and else `Eof` with 1. `Read` only where the stream failed.
 impl<B: BufRead> Decode<IoReader<B>> for BoxedRawValue {
     fn decode(
         alloc: Global,

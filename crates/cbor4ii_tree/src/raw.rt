@@ -63,6 +63,7 @@ impl<'de> Spelled for RawValue<'de> {
     }
 }
 
+/// It is lent by a fill that asks for all that is left. At the end of the input it is empty.
 impl<'de, R: Read<'de>> LendRaw<R> for RawValue<'de> {
     ghost content = { raw_content };
 

@@ -47,6 +47,7 @@ pub enum Value {
 #[derive(Clone, Copy, Debug, PartialEq, Eq)]
 pub struct NoMemory;
 
+/// Where memory was asked for and refused.
 impl From<AllocError> for NoMemory {
     fn from(_error: AllocError) -> NoMemory {
         NoMemory
@@ -63,6 +64,8 @@ impl Value {
     }
 }
 
+/// Two values are equal where they stand for the same value: floats by their width and bits, and
+/// maps by their pairs in order.
 impl PartialEq for Value {
     ghost eq = { same_view };
 

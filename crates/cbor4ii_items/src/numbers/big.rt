@@ -272,6 +272,9 @@ impl<S: Source> Decode<S> for u128 {
     ghost alone = { λ _. u128_alone };
 }
 
+/// Below 2^64 the shortest head of major type 0 with this argument (RFC 8949 sections 3.1 and 4.1),
+/// in one push. From 2^64 on a bignum (section 3.4.3): the head of tag 2, that of a byte string,
+/// and the number's bytes without leading zeros, each in a push.
 impl Encode for u128 {
     ghost bytes = { unsigned_bytes };
 
@@ -332,6 +335,9 @@ impl<S: Source> Decode<S> for i128 {
     ghost alone = { λ _. i128_alone };
 }
 
+/// From 0 on as a `u128`. Of -1 - n the shortest head of major type 1 with the argument n where n
+/// is below 2^64 (RFC 8949 sections 3.1 and 4.1), and else a bignum of tag 3 and n (section 3.4.3),
+/// in as many pushes as of a `u128`.
 impl Encode for i128 {
     ghost bytes = { signed_bytes };
 

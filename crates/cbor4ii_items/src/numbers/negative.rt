@@ -63,6 +63,8 @@ impl<S: Source> Decode<S> for Negative<u8> {
     ghost alone = { λ _. negative_alone 1 };
 }
 
+/// The shortest head of major type 1 with the number that it holds as its argument (RFC 8949
+/// sections 3.1 and 4.1), in one push. Where that fails, a whole writer holds what it held before.
 impl Encode for Negative<u8> {
     ghost bytes = { λ v. shortest_head 1 v.0 };
 
@@ -118,6 +120,8 @@ impl<S: Source> Decode<S> for Negative<u16> {
     ghost alone = { λ _. negative_alone 2 };
 }
 
+/// The shortest head of major type 1 with the number that it holds, in one push, as of a
+/// `Negative<u8>`.
 impl Encode for Negative<u16> {
     ghost bytes = { λ v. shortest_head 1 v.0 };
 
@@ -173,6 +177,8 @@ impl<S: Source> Decode<S> for Negative<u32> {
     ghost alone = { λ _. negative_alone 4 };
 }
 
+/// The shortest head of major type 1 with the number that it holds, in one push, as of a
+/// `Negative<u8>`.
 impl Encode for Negative<u32> {
     ghost bytes = { λ v. shortest_head 1 v.0 };
 
@@ -228,6 +234,8 @@ impl<S: Source> Decode<S> for Negative<u64> {
     ghost alone = { λ _. negative_alone 8 };
 }
 
+/// The shortest head of major type 1 with the number that it holds, in one push, as of a
+/// `Negative<u8>`.
 impl Encode for Negative<u64> {
     ghost bytes = { λ v. shortest_head 1 v.0 };
 

@@ -240,6 +240,9 @@ impl<S: Source> Decode<S> for i8 {
     ghost alone = { λ _. signed_alone 1 (2 ^ 7) };
 }
 
+/// From 0 on the shortest head of major type 0 with this argument, and of -1 - n that of major type
+/// 1 with the argument n (RFC 8949 sections 3.1 and 4.1), in one push. Where that fails, a whole
+/// writer holds what it held before.
 impl Encode for i8 {
     ghost bytes = { signed_head };
 
@@ -301,6 +304,7 @@ impl<S: Source> Decode<S> for i16 {
     ghost alone = { λ _. signed_alone 2 (2 ^ 15) };
 }
 
+/// The shortest head of major type 0 or 1, in one push, as of an `i8`.
 impl Encode for i16 {
     ghost bytes = { signed_head };
 
@@ -362,6 +366,7 @@ impl<S: Source> Decode<S> for i32 {
     ghost alone = { λ _. signed_alone 4 (2 ^ 31) };
 }
 
+/// The shortest head of major type 0 or 1, in one push, as of an `i8`.
 impl Encode for i32 {
     ghost bytes = { signed_head };
 
@@ -423,6 +428,7 @@ impl<S: Source> Decode<S> for i64 {
     ghost alone = { λ _. signed_alone 8 (2 ^ 63) };
 }
 
+/// The shortest head of major type 0 or 1, in one push, as of an `i8`.
 impl Encode for i64 {
     ghost bytes = { signed_head };
 

@@ -62,6 +62,8 @@ impl<S: Source> Decode<S> for u8 {
     ghost alone = { λ _. unsigned_alone 1 };
 }
 
+/// The shortest head of major type 0 with this argument (RFC 8949 sections 3.1 and 4.1), in one
+/// push. Where that fails, a whole writer holds what it held before.
 impl Encode for u8 {
     ghost bytes = { shortest_head 0 };
 
@@ -117,6 +119,7 @@ impl<S: Source> Decode<S> for u16 {
     ghost alone = { λ _. unsigned_alone 2 };
 }
 
+/// The shortest head of major type 0 with this argument, in one push, as of a `u8`.
 impl Encode for u16 {
     ghost bytes = { shortest_head 0 };
 
@@ -172,6 +175,7 @@ impl<S: Source> Decode<S> for u32 {
     ghost alone = { λ _. unsigned_alone 4 };
 }
 
+/// The shortest head of major type 0 with this argument, in one push, as of a `u8`.
 impl Encode for u32 {
     ghost bytes = { shortest_head 0 };
 
@@ -227,6 +231,7 @@ impl<S: Source> Decode<S> for u64 {
     ghost alone = { λ _. unsigned_alone 8 };
 }
 
+/// The shortest head of major type 0 with this argument, in one push, as of a `u8`.
 impl Encode for u64 {
     ghost bytes = { shortest_head 0 };
 

@@ -75,7 +75,8 @@ impl<S: Source, T: Decode<S> + Drop> Sequence<S> for Vec<T> {
 ///
 /// - no step is left: `DepthOverflow`, and nothing is taken
 /// - the head is not one of an array: `Mismatch` or `Eof`, as for every head
-/// - in the place of an item or a break there is no byte: `Eof` by "break" with 1
+/// - at an indefinite length, in the place of an item or a break there is no byte: `Eof` by "break"
+///   with 1
 /// - of a type that may read nothing, another byte than a break comes there: `RequireLength` with
 ///   `Indefinite`, and the byte is left
 /// - an item is refused: its own refusal, and what it leaves

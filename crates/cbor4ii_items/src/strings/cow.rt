@@ -117,6 +117,8 @@ impl<'de, R: Read<'de>> LendOrOwn<R> for CowStr<'de, Global> {
 /// - in the place of a chunk or a break there is no byte: `Eof` by "break" with 1
 /// - no step is left for a chunk: `DepthOverflow`, and the chunk is left
 /// - a chunk is of indefinite length: `RequireLength` with `Indefinite`, behind its first byte
+/// - a chunk is no string of this major type, or is cut: `Mismatch` or `Eof`, as of the string
+///   itself
 /// - it is not UTF-8: `RequireUtf8`, and the whole item is taken
 impl<'de, R: Read<'de>> Decode<R> for CowStr<'de, Global> {
     fn decode(alloc: Global, reader: &mut R) -> Result<CowStr<'de, Global>, DecodeError<R::Error>>
@@ -224,6 +226,8 @@ impl<'de, R: Read<'de>> LendOrOwn<R> for Bytes<CowSlice<'de, u8, Global>> {
 /// - in the place of a chunk or a break there is no byte: `Eof` by "break" with 1
 /// - no step is left for a chunk: `DepthOverflow`, and the chunk is left
 /// - a chunk is of indefinite length: `RequireLength` with `Indefinite`, behind its first byte
+/// - a chunk is no string of this major type, or is cut: `Mismatch` or `Eof`, as of the string
+///   itself
 impl<'de, R: Read<'de>> Decode<R> for Bytes<CowSlice<'de, u8, Global>> {
     fn decode(
         alloc: Global,
@@ -334,6 +338,8 @@ impl<'de, R: Read<'de>> LendOrOwn<R> for UncheckedStr<CowSlice<'de, u8, Global>>
 /// - in the place of a chunk or a break there is no byte: `Eof` by "break" with 1
 /// - no step is left for a chunk: `DepthOverflow`, and the chunk is left
 /// - a chunk is of indefinite length: `RequireLength` with `Indefinite`, behind its first byte
+/// - a chunk is no string of this major type, or is cut: `Mismatch` or `Eof`, as of the string
+///   itself
 impl<'de, R: Read<'de>> Decode<R> for UncheckedStr<CowSlice<'de, u8, Global>> {
     fn decode(
         alloc: Global,

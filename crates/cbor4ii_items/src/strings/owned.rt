@@ -63,6 +63,8 @@ impl Spelled for Bytes<Vec<u8>> {
 /// - in the place of a chunk or a break there is no byte: `Eof` by "break" with 1
 /// - no step is left for a chunk: `DepthOverflow`, and the chunk is left
 /// - a chunk is of indefinite length: `RequireLength` with `Indefinite`, behind its first byte
+/// - a chunk is no string of this major type, or is cut: `Mismatch` or `Eof`, as of the string
+///   itself
 impl<S: Source> Decode<S> for Bytes<Vec<u8>> {
     #[inline(always)]
     fn decode(alloc: Global, reader: &mut S) -> Result<Bytes<Vec<u8>>, DecodeError<S::Error>> {
@@ -111,6 +113,8 @@ impl Spelled for UncheckedStr<Vec<u8>> {
 /// - in the place of a chunk or a break there is no byte: `Eof` by "break" with 1
 /// - no step is left for a chunk: `DepthOverflow`, and the chunk is left
 /// - a chunk is of indefinite length: `RequireLength` with `Indefinite`, behind its first byte
+/// - a chunk is no string of this major type, or is cut: `Mismatch` or `Eof`, as of the string
+///   itself
 impl<S: Source> Decode<S> for UncheckedStr<Vec<u8>> {
     #[inline(always)]
     fn decode(
@@ -163,6 +167,8 @@ impl Spelled for String {
 /// - in the place of a chunk or a break there is no byte: `Eof` by "break" with 1
 /// - no step is left for a chunk: `DepthOverflow`, and the chunk is left
 /// - a chunk is of indefinite length: `RequireLength` with `Indefinite`, behind its first byte
+/// - a chunk is no string of this major type, or is cut: `Mismatch` or `Eof`, as of the string
+///   itself
 /// - it is not UTF-8: `RequireUtf8`, and the whole item is taken
 impl<S: Source> Decode<S> for String {
     #[inline(always)]

@@ -77,6 +77,7 @@ pub struct Accessor<'a, S: Source> {
     pub(crate) nested: bool,
 }
 
+/// The steps that it holds are given back, and nothing else moves: parts that were not read stay.
 impl<'a, S: Source> Drop for Accessor<'a, S> {
     fn drop(self)
         ensures { Closes (steps_held self.entry)
@@ -247,8 +248,10 @@ impl<S: Source> Deserializer<S> {
 }
 
 impl<'a, S: Source> Accessor<'a, S> {
-    /// Whether another item comes, or another key of a map, which the caller reads then. It is
-    /// counted off, or a break is taken, and after false the answer stays false.
+    /// Whether another item comes, or another key of a map, which the caller reads then. Where the
+    /// parts are counted it is counted off, and the reader is not asked. Where the length is
+    /// indefinite a break is taken, and before another byte nothing. After false the answer stays
+    /// false.
     ///
     /// This and `deserializer` are for a type that holds values of its own kind: a free function
     /// reads it, and calls itself where a part comes.
@@ -256,7 +259,8 @@ impl<'a, S: Source> Accessor<'a, S> {
     /// # Errors
     ///
     /// Only at an indefinite length: `Core` of `Read` where the reader failed, and of `Eof` by the
-    /// name "break" with 1 where no byte is left.
+    /// name "break" with 1 where no byte is left. Nothing is taken then, and the length stays
+    /// indefinite, so that a further call asks again. The budget is as before.
     pub fn starts_element(&mut self) -> Result<bool, DecodeError<S::Error>>
         ensures same_reference { self.new.de.ghost_name ≡ self.old.de.ghost_name }
         ensures same_steps { steps_held self.new ≡ steps_held self.old }
@@ -309,8 +313,10 @@ impl<'a, S: Source> Accessor<'a, S> {
     ///
     /// # Errors
     ///
-    /// Those of the item. At an indefinite length, `Core` of `Read` where the reader failed, and
-    /// of `Eof` by the name "break" with 1 where no byte is left.
+    /// Those of the item, with what they leave. An item that is counted was counted off before it
+    /// was read. At an indefinite length, `Core` of `Read` where the reader failed, and of `Eof` by
+    /// the name "break" with 1 where no byte is left; the length stays indefinite, whatever was
+    /// refused. The budget is as before.
     pub fn next_element<T: Deserialize<S>>(
         &mut self,
         alloc: Global,
@@ -383,7 +389,7 @@ impl<'a, S: Source> Accessor<'a, S> {
     ///
     /// # Errors
     ///
-    /// Those of the item.
+    /// Those of the item, with what they leave. The budget is as before.
     pub fn next_value<V: Deserialize<S>>(
         &mut self,
         alloc: Global,
@@ -410,7 +416,8 @@ impl<'a, S: Source> Accessor<'a, S> {
     ///
     /// # Errors
     ///
-    /// Those of `next_key`, and of the value. A key was counted off, and taken where it was whole.
+    /// Those of `next_key`, and of the value, with what they leave. Where entries are counted, this
+    /// one was counted off, and a key that was whole was taken. The budget is as before.
     pub fn next_entry<K: Deserialize<S> + Drop, V: Deserialize<S>>(
         &mut self,
         alloc: Global,

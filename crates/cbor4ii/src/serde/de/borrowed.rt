@@ -56,6 +56,8 @@ impl<'de> Deserialize<SliceReader<'de>> for &'de str {
     }
 }
 
+/// As over a slice, but that a text of which no segment holds the whole content was copied too, and
+/// so is refused.
 impl<'de> Deserialize<SegmentReader<'de>> for &'de str {
     fn deserialize(
         alloc: Global,
@@ -66,6 +68,8 @@ impl<'de> Deserialize<SegmentReader<'de>> for &'de str {
     }
 }
 
+/// As over a slice, but that a stream lends nothing: every whole text was copied, and so is
+/// refused.
 impl<'de, R: BufRead + Drop> Deserialize<IoReader<R>> for &'de str {
     fn deserialize(
         alloc: Global,
@@ -124,6 +128,8 @@ impl<'de> Deserialize<SliceReader<'de>> for Bytes<&'de [u8]> {
     }
 }
 
+/// As over a slice, but that a byte string of which no segment holds the whole content was copied
+/// too, and so is refused.
 impl<'de> Deserialize<SegmentReader<'de>> for Bytes<&'de [u8]> {
     fn deserialize(
         alloc: Global,
@@ -134,6 +140,8 @@ impl<'de> Deserialize<SegmentReader<'de>> for Bytes<&'de [u8]> {
     }
 }
 
+/// As over a slice, but that a stream lends nothing: every whole byte string was copied, and so is
+/// refused.
 impl<'de, R: BufRead + Drop> Deserialize<IoReader<R>> for Bytes<&'de [u8]> {
     fn deserialize(
         alloc: Global,

@@ -27,6 +27,10 @@ impl Typed for char {
     ghost laws = { λ _. char_laws };
 }
 
+/// A text of exactly one character, read as `Deserializer::deserialize_char` reads it.
+///
+/// Refused as a `String` is, and with what that leaves. Where the text is whole and has no
+/// character, or more than one, `Custom` of "expected one character", and the whole item is taken.
 impl<S: Source> Deserialize<S> for char {
     fn deserialize(alloc: Global, de: &mut Deserializer<S>) -> Result<char, DecodeError<S::Error>> {
         de.deserialize_char(alloc)
@@ -39,8 +43,8 @@ impl<S: Source> Deserializer<S> {
     ///
     /// # Errors
     ///
-    /// Those of a text, by the name "str". Where the text is whole and has no character, or more
-    /// than one, `Custom` of "expected one character", and the whole item is taken.
+    /// Those of `String`, with what they leave. Where the text is whole and has no character, or
+    /// more than one, `Custom` of "expected one character", and the whole item is taken.
     pub fn deserialize_char(&mut self, alloc: Global) -> Result<char, DecodeError<S::Error>>
         ensures { ReadsItem ReadsChar StopsChar true true true
             (input S.view self.old) (input S.view self.new) result }

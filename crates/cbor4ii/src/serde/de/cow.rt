@@ -59,7 +59,7 @@ impl<'de> Typed for CowStr<'de, Global> {
 }
 
 /// A text: a part of the input where its length is known, a copy of its chunks where it is not.
-/// Refused as `CowStr` is when it is decoded, by the name "str".
+/// Refused as `CowStr` is when it is decoded, by the name "str" where that has no other.
 impl<'de> Deserialize<SliceReader<'de>> for CowStr<'de, Global> {
     fn deserialize(
         alloc: Global,
@@ -149,7 +149,8 @@ impl<'de> Typed for Bytes<CowSlice<'de, u8, Global>> {
 }
 
 /// A byte string: a part of the input where its length is known, a copy of its chunks where it is
-/// not. Refused as `Bytes<CowSlice<u8>>` is when it is decoded, by the name "bytes".
+/// not. Refused as `Bytes<CowSlice<u8>>` is when it is decoded, by the name "bytes" where that has
+/// no other.
 impl<'de> Deserialize<SliceReader<'de>> for Bytes<CowSlice<'de, u8, Global>> {
     fn deserialize(
         alloc: Global,

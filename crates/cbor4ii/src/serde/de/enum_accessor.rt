@@ -70,6 +70,7 @@ pub struct EnumAccessor<'a, S: Source> {
     pub(crate) found: u8,
 }
 
+/// The step that it holds is given back, and nothing else moves.
 impl<'a, S: Source> Drop for EnumAccessor<'a, S> {
     fn drop(self)
         ensures { Closes 1 (inside_enum S.view self.entry) (input S.view self.exit.0.now) }
@@ -246,7 +247,7 @@ impl<'a, S: Source> EnumAccessor<'a, S> {
     ///
     /// # Errors
     ///
-    /// Those of the name.
+    /// Those of the name, with what they leave. The step stays taken.
     pub fn variant<V: Deserialize<S>>(&mut self, alloc: Global) -> Result<V, DecodeError<S::Error>>
         ensures same_reference { self.new.de.ghost_name ≡ self.old.de.ghost_name }
         ensures same_form { form_of self.new ≡ form_of self.old }
@@ -267,7 +268,8 @@ impl<'a, S: Source> EnumAccessor<'a, S> {
         V::deserialize(alloc, self.de)
     }
 
-    /// A variant that is its name alone: nothing more is read.
+    /// A variant that is its name alone: nothing more is read. The step is given back, whatever the
+    /// answer is.
     pub fn unit_variant(self) -> Result<(), DecodeError<S::Error>>
         ensures closes { Closes 1 (inside_enum S.view self.entry) (input S.view self.exit.0.now) }
         ensures right { (form_of self.entry).0 ≡ false → IsOk result }
@@ -284,6 +286,7 @@ impl<'a, S: Source> EnumAccessor<'a, S> {
     }
 
     /// The deserializer that the content is read from, for a content that a free function reads.
+    /// The step stays taken, whatever the answer is.
     pub fn content(&mut self) -> Result<&mut Deserializer<S>, DecodeError<S::Error>>
         ensures* writes_back { sem 𝓛 (LendsIfOk (the_enum (record { mir = named 0; lft = [] })
             S.row S.Error.row)
@@ -302,11 +305,12 @@ impl<'a, S: Source> EnumAccessor<'a, S> {
         Ok(self.de)
     }
 
-    /// A variant that holds one value, which is its content.
+    /// A variant that holds one value, which is its content. The step is given back, whatever the
+    /// answer is.
     ///
     /// # Errors
     ///
-    /// Besides, those of the value.
+    /// Besides, those of the value, with what they leave.
     pub fn newtype_variant<T: Deserialize<S>>(
         self,
         alloc: Global,

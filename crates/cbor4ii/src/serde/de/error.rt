@@ -27,6 +27,7 @@ impl<E> DecodeError<E> {
     }
 }
 
+/// As `Core`.
 impl<E> From<core_error::DecodeError<E>> for DecodeError<E> {
     ghost from_gives = { λ error result. result ≡ Core error };
 

@@ -28,6 +28,7 @@ pub trait Input {
         ensures lends { (Self.Reader.Source.view result).lends_whole ≡ true };
 }
 
+/// A slice, read by a `SliceReader`: it tells all its bytes, lends them whole, and never fails.
 impl<'a> Input for &'a [u8] {
     type Reader = SliceReader<'a>;
 

@@ -42,6 +42,12 @@ impl Typed for u8 {
     } };
 }
 
+/// An unsigned integer whose argument has at most one byte, whether or not in its shortest head
+/// (RFC 8949 section 3.1). It takes no step.
+///
+/// Refused as `Core`, by the name "u8": `Eof` with 1 where no byte is left, and with k where the
+/// argument has k bytes and fewer are left, nothing being left then; `Mismatch` with the first
+/// byte, which is taken, where it begins no head of major type 0 with at most one byte of argument.
 impl<S: Source> Deserialize<S> for u8 {
     fn deserialize(alloc: Global, de: &mut Deserializer<S>) -> Result<u8, DecodeError<S::Error>> {
         take_item(alloc, de)
@@ -68,6 +74,8 @@ impl Typed for u16 {
     } };
 }
 
+/// An unsigned integer whose argument has at most two bytes: read and refused as a `u8` is, by the
+/// name "u16", and with two bytes of argument in the place of one.
 impl<S: Source> Deserialize<S> for u16 {
     fn deserialize(alloc: Global, de: &mut Deserializer<S>) -> Result<u16, DecodeError<S::Error>> {
         take_item(alloc, de)
@@ -94,6 +102,8 @@ impl Typed for u32 {
     } };
 }
 
+/// An unsigned integer whose argument has at most four bytes: read and refused as a `u8` is, by the
+/// name "u32", and with four bytes of argument in the place of one.
 impl<S: Source> Deserialize<S> for u32 {
     fn deserialize(alloc: Global, de: &mut Deserializer<S>) -> Result<u32, DecodeError<S::Error>> {
         take_item(alloc, de)
@@ -120,6 +130,8 @@ impl Typed for u64 {
     } };
 }
 
+/// An unsigned integer whose argument has at most eight bytes: read and refused as a `u8` is, by
+/// the name "u64", and with eight bytes of argument in the place of one.
 impl<S: Source> Deserialize<S> for u64 {
     fn deserialize(alloc: Global, de: &mut Deserializer<S>) -> Result<u64, DecodeError<S::Error>> {
         take_item(alloc, de)
@@ -146,6 +158,12 @@ impl Typed for u128 {
     } };
 }
 
+/// An unsigned integer of any head, or a bignum of tag 2, of at most 16 bytes (RFC 8949 sections
+/// 3.1 and 3.4.3). It takes no step.
+///
+/// Refused as a `u128` is when it is decoded, each as `Core`, with its fields and what it leaves:
+/// by the name "u128" at the first byte and at the head of a tag, by "u64" at a head of major type
+/// 0, by "u128::tag" at a tag that is not 2, and by "u128::bytes" at the byte string.
 impl<S: Source> Deserialize<S> for u128 {
     fn deserialize(alloc: Global, de: &mut Deserializer<S>) -> Result<u128, DecodeError<S::Error>> {
         take_item(alloc, de)
@@ -172,6 +190,16 @@ impl Typed for i8 {
     } };
 }
 
+/// An integer of major type 0, or a negative one of major type 1, whose argument has at most one
+/// byte and is below 2^7 (RFC 8949 section 3.1). It takes no step.
+///
+/// Refusals, each as `Core`:
+///
+/// - no byte is left: `Eof` by the name "i8" with 1
+/// - the next byte is of another major type: `Mismatch` by "i8" with it, and it stays
+/// - the argument is cut, or has more bytes: `Eof` or `Mismatch`, as every head, by "+i8", or by
+///   "-i8" where the integer is negative
+/// - the argument is 2^7 or greater: `CastOverflow` by these names, behind the head
 impl<S: Source> Deserialize<S> for i8 {
     fn deserialize(alloc: Global, de: &mut Deserializer<S>) -> Result<i8, DecodeError<S::Error>> {
         take_item(alloc, de)
@@ -198,6 +226,9 @@ impl Typed for i16 {
     } };
 }
 
+/// An integer whose argument has at most two bytes and is below 2^15: read and refused as an `i8`
+/// is, by the names "i16", "+i16" and "-i16", and with these numbers in the place of one byte and
+/// 2^7.
 impl<S: Source> Deserialize<S> for i16 {
     fn deserialize(alloc: Global, de: &mut Deserializer<S>) -> Result<i16, DecodeError<S::Error>> {
         take_item(alloc, de)
@@ -224,6 +255,9 @@ impl Typed for i32 {
     } };
 }
 
+/// An integer whose argument has at most four bytes and is below 2^31: read and refused as an `i8`
+/// is, by the names "i32", "+i32" and "-i32", and with these numbers in the place of one byte and
+/// 2^7.
 impl<S: Source> Deserialize<S> for i32 {
     fn deserialize(alloc: Global, de: &mut Deserializer<S>) -> Result<i32, DecodeError<S::Error>> {
         take_item(alloc, de)
@@ -250,6 +284,9 @@ impl Typed for i64 {
     } };
 }
 
+/// An integer whose argument has at most eight bytes and is below 2^63: read and refused as an `i8`
+/// is, by the names "i64", "+i64" and "-i64", and with these numbers in the place of one byte and
+/// 2^7.
 impl<S: Source> Deserialize<S> for i64 {
     fn deserialize(alloc: Global, de: &mut Deserializer<S>) -> Result<i64, DecodeError<S::Error>> {
         take_item(alloc, de)
@@ -276,6 +313,13 @@ impl Typed for i128 {
     } };
 }
 
+/// An integer of any head, or a bignum of tag 2, or of tag 3 for a negative one, of at most 16
+/// bytes, whose number is below 2^127 (RFC 8949 sections 3.1 and 3.4.3). It takes no step.
+///
+/// Refused as an `i128` is when it is decoded, each as `Core`, with its fields and what it leaves:
+/// by the name "i128" at the first byte, at a head of major type 1, at the head of a tag and at a
+/// number of 2^127 or more, by "u64" at a head of major type 0, by "i128::tag" at a tag that is
+/// neither 2 nor 3, and by "+i128::bytes" or "-i128::bytes" at the byte string behind tag 2 or 3.
 impl<S: Source> Deserialize<S> for i128 {
     fn deserialize(alloc: Global, de: &mut Deserializer<S>) -> Result<i128, DecodeError<S::Error>> {
         take_item(alloc, de)

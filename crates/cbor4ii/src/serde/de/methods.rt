@@ -156,7 +156,7 @@ impl<S: Source> Deserializer<S> {
     }
 
     /// A text, of known or indefinite length; one of indefinite length needs a step for its chunks.
-    /// Refused as `String` is, by the name "str".
+    /// Refused as `String` is, by the name "str" where that has no other.
     pub fn deserialize_string(&mut self, alloc: Global) -> Result<String, DecodeError<S::Error>>
         ensures { ReadsItem ⟦<String as Spelled>⟧.reads ⟦<String as Spelled>⟧.stops true true
             ⟦<String as Spelled>⟧.takes_memory

@@ -36,9 +36,9 @@ impl<T: Typed> Typed for Option<T> {
 /// Null and undefined are none, and take no step. Before any other byte a value is read, under a
 /// step more.
 ///
-/// By the name "option": `Eof` with 1 where no byte is left, and `DepthOverflow` where a value
-/// comes and no step is left, which takes nothing. Otherwise it is refused as the value is, and
-/// leaves what the value leaves.
+/// As `Core`, by the name "option": `Eof` with 1 where no byte is left, and `DepthOverflow` where a
+/// value comes and no step is left, which takes nothing. Otherwise it is refused as the value is,
+/// and leaves what the value leaves.
 impl<S: Source, T: Deserialize<S>> Deserialize<S> for Option<T> {
     fn deserialize(
         alloc: Global,

@@ -39,6 +39,20 @@ impl Typed for String {
     } };
 }
 
+/// A text that is UTF-8, of known or of indefinite length (RFC 8949 sections 3.1 and 3.2.3). Each
+/// chunk is a text of known length, read under one step of the budget. The chunks are joined before
+/// they are tested to be UTF-8, so a character may stand across two of them. At most 16384 bytes
+/// are reserved before any came.
+///
+/// Refusals, each as `Core`, by the name "str" where no other is said:
+///
+/// - the head is not one of a text: `Mismatch` or `Eof`, as for every head
+/// - bytes are missing: `Eof` with the number of those that are missing, and nothing is left
+/// - in the place of a chunk or a break there is no byte: `Eof` by "break" with 1
+/// - no step is left for a chunk: `DepthOverflow`, and the chunk is left
+/// - a chunk is of indefinite length: `RequireLength` with `Indefinite`, behind its first byte
+/// - a chunk is no text, or is cut: `Mismatch` or `Eof`, as of the text itself
+/// - it is not UTF-8: `RequireUtf8`, and the whole item is taken
 impl<S: Source> Deserialize<S> for String {
     fn deserialize(
         alloc: Global,
@@ -68,6 +82,9 @@ impl Typed for Bytes<Vec<u8>> {
     } };
 }
 
+/// A byte string, of known or of indefinite length (RFC 8949 sections 3.1 and 3.2.3): read and
+/// refused as a `String` is, by the name "bytes" in the place of "str", but that any bytes are its
+/// content.
 impl<S: Source> Deserialize<S> for Bytes<Vec<u8>> {
     fn deserialize(
         alloc: Global,

@@ -31,6 +31,10 @@ impl Typed for bool {
     } };
 }
 
+/// False or true, in one byte (RFC 8949 section 3.3). It takes no step.
+///
+/// Refused as `Core`, by the name "bool": `Eof` with 1 where no byte is left; `Mismatch` with the
+/// next byte, which stays, where it is neither.
 impl<S: Source> Deserialize<S> for bool {
     fn deserialize(alloc: Global, de: &mut Deserializer<S>) -> Result<bool, DecodeError<S::Error>> {
         take_item(alloc, de)
@@ -57,6 +61,11 @@ impl Typed for F16 {
     } };
 }
 
+/// A float of two bytes, as its bits (RFC 8949 section 3.3). It takes no step.
+///
+/// Refused as `Core`, by the name "f16": `Eof` with 1 where no byte is left; `Mismatch` with the
+/// next byte, which stays, where it begins no float of two bytes; `Eof` with 2 where fewer than two
+/// bytes follow it, nothing being left then.
 impl<S: Source> Deserialize<S> for F16 {
     fn deserialize(alloc: Global, de: &mut Deserializer<S>) -> Result<F16, DecodeError<S::Error>> {
         take_item(alloc, de)
@@ -83,6 +92,11 @@ impl Typed for F32 {
     } };
 }
 
+/// A float of four bytes, as its bits (RFC 8949 section 3.3). It takes no step.
+///
+/// Refused as `Core`, by the name "f32": `Eof` with 1 where no byte is left; `Mismatch` with the
+/// next byte, which stays, where it begins no float of four bytes; `Eof` with 4 where fewer than
+/// four bytes follow it, nothing being left then.
 impl<S: Source> Deserialize<S> for F32 {
     fn deserialize(alloc: Global, de: &mut Deserializer<S>) -> Result<F32, DecodeError<S::Error>> {
         take_item(alloc, de)
@@ -109,6 +123,11 @@ impl Typed for F64 {
     } };
 }
 
+/// A float of eight bytes, as its bits (RFC 8949 section 3.3). It takes no step.
+///
+/// Refused as `Core`, by the name "f64": `Eof` with 1 where no byte is left; `Mismatch` with the
+/// next byte, which stays, where it begins no float of eight bytes; `Eof` with 8 where fewer than
+/// eight bytes follow it, nothing being left then.
 impl<S: Source> Deserialize<S> for F64 {
     fn deserialize(alloc: Global, de: &mut Deserializer<S>) -> Result<F64, DecodeError<S::Error>> {
         take_item(alloc, de)

@@ -47,6 +47,7 @@ pub struct SomeAccessor<'a, S: Source> {
     pub(crate) some: bool,
 }
 
+/// The step that it holds, where a value comes, is given back, and nothing else moves.
 impl<'a, S: Source> Drop for SomeAccessor<'a, S> {
     fn drop(self)
         ensures { Closes (steps_of_some (comes self.entry))
@@ -132,11 +133,11 @@ impl<'a, S: Source> SomeAccessor<'a, S> {
         self.de
     }
 
-    /// The value, or none where none comes. The step is given back.
+    /// The value, or none where none comes. The step is given back, whatever the answer is.
     ///
     /// # Errors
     ///
-    /// Those of the value.
+    /// Those of the value, with what they leave.
     pub fn value<T: Deserialize<S>>(self, alloc: Global) -> Result<Option<T>, DecodeError<S::Error>>
         ensures finishes { Finishes (steps_of_some (comes self.entry))
             (inside_some S.view self.entry) (input S.view self.exit.0.now) (answer_of result) }

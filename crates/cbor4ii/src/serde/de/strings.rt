@@ -31,7 +31,7 @@ use std::io::BufRead;
 
 impl<S: Source> Deserializer<S> {
     /// A byte string, of known or indefinite length; one of indefinite length needs a step for its
-    /// chunks. Refused as `Bytes<Vec<u8>>` is, by the name "bytes".
+    /// chunks. Refused as `Bytes<Vec<u8>>` is, by the name "bytes" where that has no other.
     pub fn deserialize_byte_buf(&mut self, alloc: Global) -> Result<Vec<u8>, DecodeError<S::Error>>
         ensures { ReadsItem (ReadsAs 2 (λ v. v.items)) (StopsString (codes "bytes") 2)
             true true true (input S.view self.old) (input S.view self.new) result }
@@ -52,8 +52,8 @@ fn unwrapped<T, E>(found: Result<Bytes<T>, core_error::DecodeError<E>>) -> Resul
 
 impl<'de> Deserializer<SliceReader<'de>> {
     /// A text: a part of the input, with no copy, where its length is known, and a copy of its
-    /// chunks where it is not, for which it needs a step. Refused as `CowStr` is, by the name
-    /// "str".
+    /// chunks where it is not, for which it needs a step. Refused as `CowStr` is, by the name "str"
+    /// where that has no other.
     pub fn deserialize_str(
         &mut self,
         alloc: Global,
@@ -83,7 +83,7 @@ impl<'de> Deserializer<SliceReader<'de>> {
 
     /// A byte string: a part of the input, with no copy, where its length is known, and a copy of
     /// its chunks where it is not, for which it needs a step. Refused as `Bytes<CowSlice<u8>>` is,
-    /// by the name "bytes".
+    /// by the name "bytes" where that has no other.
     pub fn deserialize_bytes(
         &mut self,
         alloc: Global,
@@ -102,7 +102,7 @@ impl<'de> Deserializer<SliceReader<'de>> {
 impl<'de> Deserializer<SegmentReader<'de>> {
     /// A text: a part of the input, with no copy, where its length is known and it stands in one
     /// segment, and a copy elsewhere; one of indefinite length needs a step for its chunks.
-    /// Refused as `CowStr` is, by the name "str".
+    /// Refused as `CowStr` is, by the name "str" where that has no other.
     pub fn deserialize_str(
         &mut self,
         alloc: Global,
@@ -131,7 +131,7 @@ impl<'de> Deserializer<SegmentReader<'de>> {
     }
 
     /// A byte string: borrowed and copied as a text is. Refused as `Bytes<CowSlice<u8>>` is, by the
-    /// name "bytes".
+    /// name "bytes" where that has no other.
     pub fn deserialize_bytes(
         &mut self,
         alloc: Global,
@@ -149,7 +149,7 @@ impl<'de> Deserializer<SegmentReader<'de>> {
 
 impl<R: BufRead + Drop> Deserializer<IoReader<R>> {
     /// A text, always a copy, since a stream lends nothing; one of indefinite length needs a step
-    /// for its chunks. Refused as `CowStr` is, by the name "str".
+    /// for its chunks. Refused as `CowStr` is, by the name "str" where that has no other.
     pub fn deserialize_str<'de>(
         &mut self,
         alloc: Global,
@@ -177,7 +177,8 @@ impl<R: BufRead + Drop> Deserializer<IoReader<R>> {
         self.deserialize_str(alloc)
     }
 
-    /// A byte string, always a copy. Refused as `Bytes<CowSlice<u8>>` is, by the name "bytes".
+    /// A byte string, always a copy. Refused as `Bytes<CowSlice<u8>>` is, by the name "bytes" where
+    /// that has no other.
     pub fn deserialize_bytes<'de>(
         &mut self,
         alloc: Global,

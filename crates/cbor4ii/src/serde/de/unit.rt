@@ -35,6 +35,11 @@ impl Typed for () {
     ghost laws = { λ _. unit_laws };
 }
 
+/// An array of no item, in one byte, `80` (RFC 8949 section 3.1). It takes no step and no memory.
+///
+/// Refused as `Core`, by the name "unit": `Eof` with 1 where no byte is left; `Mismatch` with the
+/// first byte, which is taken, where that is another one, also where an array of no item is spelled
+/// otherwise.
 impl<S: Source> Deserialize<S> for () {
     fn deserialize(alloc: Global, de: &mut Deserializer<S>) -> Result<(), DecodeError<S::Error>>
         ensures moves { Moves (input S.view de.old) (input S.view de.new) (answer_of result) }

@@ -76,7 +76,8 @@ impl<S: Source, T: Deserialize<S> + Drop> Sequence<S> for Vec<T> {
 ///
 /// - no step is left: `DepthOverflow` by "seq", and nothing is taken
 /// - the head is not one of an array: `Mismatch` or `Eof`, as for every head
-/// - in the place of a value or a break there is no byte: `Eof` by "break" with 1
+/// - at an indefinite length, in the place of a value or a break there is no byte: `Eof` by "break"
+///   with 1
 /// - a value is refused: its own refusal, and what it leaves
 impl<S: Source, T: Deserialize<S> + Drop> Deserialize<S> for Vec<T> {
     fn deserialize(alloc: Global, de: &mut Deserializer<S>) -> Result<Vec<T>, DecodeError<S::Error>>
