@@ -59,6 +59,7 @@ use crate::value::{FloatBits, Value};
 use cbor4ii_items::decode::{Decode, Spelled};
 use cbor4ii_items::indefinite::is_break;
 use cbor4ii_items::types::{Array, Bytes, F16, F32, F64, Map, Negative, Tag};
+use cbor4ii_items::{major, marker};
 use cbor4ii_rw::error::DecodeError;
 use cbor4ii_rw::read::Source;
 use std::alloc::Global;
@@ -166,9 +167,9 @@ fn read_inside<S: Source>(alloc: Global, reader: &mut S) -> Result<Value, Decode
 {
     let first = peek(&mut Own, reader, "value", 1)?;
     match first / 32 {
-        4 => Ok(Value::Array(read_array(alloc, reader)?)),
-        5 => Ok(Value::Map(read_map(alloc, reader)?)),
-        6 => {
+        major::ARRAY => Ok(Value::Array(read_array(alloc, reader)?)),
+        major::MAP => Ok(Value::Map(read_map(alloc, reader)?)),
+        major::TAG => {
             let number = Tag::tag(reader)?;
             let inner = read_value(alloc, reader)?;
             match Box::new(alloc, inner) {
@@ -176,7 +177,7 @@ fn read_inside<S: Source>(alloc: Global, reader: &mut S) -> Result<Value, Decode
                 Err(_) => Err(DecodeError::OutOfMemory),
             }
         }
-        7 => match simple_of(first) {
+        major::SIMPLE => match simple_of(first) {
             Some(value) => {
                 reader.advance(1);
                 Ok(value)
@@ -201,12 +202,12 @@ fn read_leaf<S: Source>(
     ensures progress { OnOk result ((S.view reader.new).bound + 1 ≤ (S.view reader.old).bound) }
 {
     match first / 32 {
-        0 => Ok(Value::Integer(u64::decode(alloc, reader)? as i128)),
-        1 => {
+        major::UNSIGNED => Ok(Value::Integer(u64::decode(alloc, reader)? as i128)),
+        major::NEGATIVE => {
             let number = Negative::<u64>::decode(alloc, reader)?;
             Ok(Value::Integer(-1 - number.0 as i128))
         }
-        2 => Ok(Value::Bytes(Bytes::<Vec<u8>>::decode(alloc, reader)?.0)),
+        major::BYTES => Ok(Value::Bytes(Bytes::<Vec<u8>>::decode(alloc, reader)?.0)),
         _ => Ok(Value::Text(String::decode(alloc, reader)?)),
     }
 }
@@ -216,10 +217,10 @@ fn simple_of(first: u8) -> Option<Value>
     ensures { SimpleOf first result }
 {
     match first {
-        0xf4 => Some(Value::Bool(false)),
-        0xf5 => Some(Value::Bool(true)),
-        0xf6 => Some(Value::Null),
-        0xf7 => Some(Value::Null),
+        marker::FALSE => Some(Value::Bool(false)),
+        marker::TRUE => Some(Value::Bool(true)),
+        marker::NULL => Some(Value::Null),
+        marker::UNDEFINED => Some(Value::Null),
         _ => None,
     }
 }
@@ -238,9 +239,9 @@ fn read_float<S: Source>(
     ensures progress { OnOk result ((S.view reader.new).bound + 1 ≤ (S.view reader.old).bound) }
 {
     match first {
-        0xf9 => Ok(Value::Float(FloatBits::F16(F16::decode(alloc, reader)?.0))),
-        0xfa => Ok(Value::Float(FloatBits::F32(F32::decode(alloc, reader)?.0))),
-        0xfb => Ok(Value::Float(FloatBits::F64(F64::decode(alloc, reader)?.0))),
+        marker::F16 => Ok(Value::Float(FloatBits::F16(F16::decode(alloc, reader)?.0))),
+        marker::F32 => Ok(Value::Float(FloatBits::F32(F32::decode(alloc, reader)?.0))),
+        marker::F64 => Ok(Value::Float(FloatBits::F64(F64::decode(alloc, reader)?.0))),
         _ => Err(DecodeError::Unsupported {
             name: "value",
             found: first,

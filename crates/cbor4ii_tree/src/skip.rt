@@ -41,6 +41,7 @@ ghost use Rattle.cbor4ii_tree.specs.Stops.{Missing};
 use crate::ahead::{Ahead, Among};
 use crate::front::Front;
 use crate::unseen::{ends, skip_bytes, skip_head};
+use cbor4ii_items::{major, marker};
 use cbor4ii_rw::error::DecodeError;
 use cbor4ii_rw::read::Source;
 
@@ -659,26 +660,26 @@ pub(crate) fn start_of(first: u8) -> Start
 {
     let info = parse_info(first % 32);
     match first / 32 {
-        0 | 1 => match info {
+        major::UNSIGNED | major::NEGATIVE => match info {
             Additional::Wide(count) => Start::Bytes(count),
             _ => Start::Stays,
         },
-        2 | 3 => match info {
+        major::BYTES | major::STRING => match info {
             Additional::Wide(_) => Start::Content,
             Additional::Open => Start::Open,
             Additional::Reserved => Start::Taken,
         },
-        4 => match info {
+        major::ARRAY => match info {
             Additional::Wide(_) => Start::Items,
             Additional::Open => Start::Open,
             Additional::Reserved => Start::Taken,
         },
-        5 => match info {
+        major::MAP => match info {
             Additional::Wide(_) => Start::Members,
             Additional::Open => Start::OpenMembers,
             Additional::Reserved => Start::Taken,
         },
-        6 => match info {
+        major::TAG => match info {
             Additional::Wide(_) => Start::Tag,
             _ => Start::NoTag,
         },
@@ -705,7 +706,7 @@ pub(crate) fn parse_info(info: u8) -> Additional
         25 => Additional::Wide(2),
         26 => Additional::Wide(4),
         27 => Additional::Wide(8),
-        31 => Additional::Open,
+        marker::START => Additional::Open,
         _ => {
             if info < 24 {
                 Additional::Wide(0)

@@ -24,8 +24,9 @@ ghost use Rattle.cbor4ii.specs.Typed.{input, answer_of, as_core};
 
 use crate::serde::de::deserializer::{Deserializer, take_item};
 use crate::serde::de::error::DecodeError;
-use cbor4ii_items::decode::{Decode, Spelled};
+use cbor4ii_items::decode::Decode;
 use cbor4ii_items::types::{Bytes, F16, F32, F64, Simple};
+use cbor4ii_items::{major, marker};
 use cbor4ii_rw::read::Source;
 use cbor4ii_tree::{FloatBits, Value};
 use std::alloc::Global;
@@ -72,13 +73,12 @@ pub(crate) fn kind_of(first: u8) -> AnyKind
     ensures { result ≡ kind first }
 {
     match first / 32 {
-        0 => AnyKind::Leaf(AnyLeaf::Integer),
-        1 => AnyKind::Leaf(AnyLeaf::Integer),
-        2 => AnyKind::Leaf(AnyLeaf::Bytes),
-        3 => AnyKind::Leaf(AnyLeaf::Text),
-        4 => AnyKind::Array,
-        5 => AnyKind::Map,
-        6 => tag_kind_of(first),
+        major::UNSIGNED | major::NEGATIVE => AnyKind::Leaf(AnyLeaf::Integer),
+        major::BYTES => AnyKind::Leaf(AnyLeaf::Bytes),
+        major::STRING => AnyKind::Leaf(AnyLeaf::Text),
+        major::ARRAY => AnyKind::Array,
+        major::MAP => AnyKind::Map,
+        major::TAG => tag_kind_of(first),
         _ => simple_kind_of(first),
     }
 }
@@ -99,13 +99,11 @@ fn simple_kind_of(first: u8) -> AnyKind
     ensures { result ≡ simple_kind first }
 {
     match first {
-        0xf4 => AnyKind::Leaf(AnyLeaf::Bool),
-        0xf5 => AnyKind::Leaf(AnyLeaf::Bool),
-        0xf6 => AnyKind::Leaf(AnyLeaf::Null),
-        0xf7 => AnyKind::Leaf(AnyLeaf::Null),
-        0xf9 => AnyKind::Leaf(AnyLeaf::F16),
-        0xfa => AnyKind::Leaf(AnyLeaf::F32),
-        0xfb => AnyKind::Leaf(AnyLeaf::F64),
+        marker::FALSE | marker::TRUE => AnyKind::Leaf(AnyLeaf::Bool),
+        marker::NULL | marker::UNDEFINED => AnyKind::Leaf(AnyLeaf::Null),
+        marker::F16 => AnyKind::Leaf(AnyLeaf::F16),
+        marker::F32 => AnyKind::Leaf(AnyLeaf::F32),
+        marker::F64 => AnyKind::Leaf(AnyLeaf::F64),
         _ => AnyKind::Other,
     }
 }
