@@ -1,8 +1,9 @@
 //! Arrays and maps that are written part by part, of so many parts or of any number.
 ghost use Rattle.std.specs.Prelude.{
   ◌≡◌,
-  [],
   Some,
+  Ok,
+  IsSome,
   IfOk,
   OnOk,
   OnErr,
@@ -228,7 +229,10 @@ impl<'a, W: Write> Collect<'a, W> {
     pub fn end(self) -> Result<(), EncodeError<W::Error>>
         requires owes { owes self ≡ false }
         requires done { IsDone (left_of self) }
-        ensures { Serializes W.whole (Some (counted_end (left_of self.entry)))
+        ensures succeeds { IsSome (left_of self.entry) → result ≡ Ok tt }
+        ensures untouched { IsSome (left_of self.entry) →
+            output W.view self.exit.0.now ≡ collected W.view self.entry }
+        ensures written { Serializes W.whole (Some (counted_end (left_of self.entry)))
             (collected W.view self.entry) (output W.view self.exit.0.now) result }
     {
         let Collect {

@@ -1,5 +1,5 @@
 //! Heads of arrays, maps and variants, and their ends.
-ghost use Rattle.std.specs.Prelude.{◌++◌, Some};
+ghost use Rattle.std.specs.Prelude.{◌≡◌, ◌++◌, Some, Ok, IsSome};
 ghost use Rattle.cbor4ii_items.specs.Numbers.{shortest_head};
 ghost use Rattle.cbor4ii_ser.specs.Counts.{counted_head, counted_end};
 ghost use Rattle.cbor4ii_ser.specs.Item.{variant_head};
@@ -49,7 +49,9 @@ impl<W: Write> Serializer<W> {
 
     /// The end of an array or a map whose length was this.
     pub(crate) fn sequence_end(&mut self, len: Option<usize>) -> Result<(), EncodeError<W::Error>>
-        ensures { Serializes W.whole (Some (counted_end len))
+        ensures succeeds { IsSome len → result ≡ Ok tt }
+        ensures untouched { IsSome len → output W.view self.new ≡ output W.view self.old }
+        ensures written { Serializes W.whole (Some (counted_end len))
             (output W.view self.old) (output W.view self.new) result }
     {
         match len {
