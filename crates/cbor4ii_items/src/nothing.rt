@@ -1,5 +1,5 @@
 //! No item at all.
-ghost use Rattle.std.specs.Prelude.{◌≡◌, [], true, false};
+ghost use Rattle.std.specs.Prelude.{◌≡◌, [], Ok, true, false};
 ghost use Rattle.cbor4ii_items.specs.Nothing.{
   ReadsNothing,
   StopsNothing,
@@ -56,12 +56,14 @@ impl<S: Source> Decode<S> for Nothing {
     ghost alone = { λ _. nothing_alone };
 }
 
-/// No byte, and no push. It never fails.
+/// No byte, and no push: it never fails, and the writer stays as it was.
 impl Encode for Nothing {
     ghost bytes = { λ _. [] };
 
     fn encode<W: Write>(&self, writer: &mut W) -> Result<(), EncodeError<W::Error>>
-        ensures { WritesWhole W.whole [] (W.view writer.old) (W.view writer.new) result }
+        ensures succeeds { result ≡ Ok tt }
+        ensures untouched { W.view writer.new ≡ W.view writer.old }
+        ensures writes { WritesWhole W.whole [] (W.view writer.old) (W.view writer.new) result }
     {
         Ok(())
     }
