@@ -1,5 +1,5 @@
 -- A text's only character.
-use Rattle.std.proofs.Common.{◌≡◌, ℕ, ◌<◌, ◌≤◌, ◌^◌, List, [], ◌∷◌, ◌++◌, length, drop, Ok, Err, refl, sym, ap, ◌∙◌, subst, arith, IsUtf8, length-append, encode_utf8}
+use Rattle.std.proofs.Common.{◌≡◌, ℕ, ◌<◌, ◌≤◌, ◌^◌, List, [], ◌++◌, length, drop, Ok, Err, refl, sym, ap, ◌∙◌, subst, arith, IsUtf8, length-append, encode_utf8}
 use denote.RawPtr.{null_ptr}
 use denote.Ref.{Bor}
 use Rattle.std.specs.Prelude.{codes}
@@ -26,11 +26,6 @@ some_bytes c = omega (arith, length-encode c, (len_utf8_bounds c).0)
 
 pub few_bytes : (c : ℕ) → length (encode_utf8 c) < 2 ^ 63
 few_bytes c = omega (arith, length-encode c, (len_utf8_bounds c).1)
-
--- behind the first character nothing is left
-pub one_character : (text rest : List ℕ) (c : ℕ) → text ≡ encode_utf8 c ++ rest → length rest ≡ 0 → text ≡ encode_utf8 c
-one_character text [] c e none = e ∙ append-nil (encode_utf8 c)
-one_character text (r ∷ rest) c e none = absurd (omega (arith, none))
 
 pub no_character : (text : List ℕ) → length text ≡ 0 → NoCharacter text
 no_character text none c e = absurd (omega (arith, none, ap length e, some_bytes c))

@@ -11,8 +11,6 @@ use Rattle.cbor4ii_items.specs.Refusal.{Refusal, mismatch}
 use Rattle.cbor4ii_items.specs.Next.{ReadsNext, StopsNext}
 use Rattle.cbor4ii_items.specs.Decoding.{Reads, StopsAt, Sound, NoneRead, Refuses, Stops}
 use Rattle.cbor4ii_items.specs.Laws.Answering.{fits_zero, refuses_as}
-use Rattle.cbor4ii_items.specs.Laws.Steps.{moves_err}
-use Rattle.cbor4ii.specs.Accessing.{Finishes}
 use Rattle.cbor4ii.specs.declared.serde.de.error.DecodeError.{DecodeError as Typed}
 use Rattle.cbor4ii.specs.Typed.{as_core, answer_of, said}
 use Rattle.cbor4ii.specs.Variants.{IsForm, ReadsForm, StopsForm, ReadsContent, StopsContent}
@@ -63,9 +61,6 @@ pub form_ended : {E : Type 0} {a m : View} {e : DecodeError E} → Stops (StopsN
 form_ended s = stopped_as (StopsNext (codes "enum")) StopsForm end_at s
 
 -- ---- the content
-
-pub finishes_err : {U V E : Type 0} {held : ℕ} {e : DecodeError E} {a b : View} → Finishes {V = U} held a b (Err e) → Finishes {V = V} held a b (Err e)
-finishes_err f = record { within = f.within; moves = moves_err f.moves; closes = f.closes }
 
 pub content_refuses : {V E : Type 0} (reads : Reads V) {content : Bool} {a : View} {e : DecodeError E} → content ≡ true → Refuses reads a e → Refuses (ReadsContent content reads) a e
 content_refuses reads is s = rw is s

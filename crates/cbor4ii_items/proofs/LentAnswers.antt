@@ -1,5 +1,5 @@
 -- A head, and then a content that is lent.
-use Rattle.std.proofs.Common.{◌≡◌, ℕ, ◌+◌, ◌<◌, ◌≤◌, inl, inr, List, length, take, drop, Option, None, Some, Result, Ok, Err, Bool, true, false, IsTrue, refl, sym, ap, ap₂, ◌∙◌, subst, arith, IfSome, IfOk, IfErr, OnOk}
+use Rattle.std.proofs.Common.{◌≡◌, ℕ, ◌+◌, ◌<◌, ◌≤◌, inl, inr, List, length, take, drop, Option, None, Some, Result, Ok, Err, Bool, false, IsTrue, refl, sym, ap, ap₂, ◌∙◌, subst, arith, IfSome, IfOk, IfErr}
 use Rattle.std.specs.Prelude.{MatchBool, IsUtf8}
 use Rattle.std.proofs.lemmas.List.{length-drop, length-take, length-take-le}
 use Rattle.cbor4ii_rw.specs.View.{View}
@@ -7,7 +7,7 @@ use Rattle.cbor4ii_rw.specs.declared.error.DecodeError.{DecodeError}
 use Rattle.cbor4ii_items.specs.declared.strings.lent.Lacks.{Lacks}
 use Rattle.cbor4ii_items.specs.declared.strings.lent.Lacks.TheVariants.{Read, Short, Few, NotUtf8}
 use Rattle.cbor4ii_items.specs.Moves.{Kept, Broke, Moves}
-use Rattle.cbor4ii_items.specs.Refusal.{Refusal, refusal_of, is_out_of_memory, require_length, len_of}
+use Rattle.cbor4ii_items.specs.Refusal.{Refusal, refusal_of, require_length, len_of}
 use Rattle.cbor4ii_items.specs.Decoding.{IsExact, Sound, NoneRead, Refuses, Stops}
 use Rattle.cbor4ii_items.specs.Heads.{ReadsHead}
 use Rattle.cbor4ii_items.specs.Laws.Heads.{head_read, head_one}
@@ -18,12 +18,6 @@ use Rattle.cbor4ii_items.specs.Lent.{ReadsLent, StopsLent, BeginsLent, begins_re
 use Rattle.cbor4ii_items.specs.Laws.Answering.{fits_zero, refuses_as}
 use Rattle.cbor4ii_items.specs.Laws.SequenceParts.{stops_as}
 use Rattle.cbor4ii_items.specs.Laws.Steps.{moves_then}
-
-pub lacks_text : {E : Type 0} (count : ℕ) (a b : View) (lack : Lacks E) → LacksContent count false a b lack → LacksContent count true a b lack
-lacks_text count a b (Read e) h = h
-lacks_text count a b Short h = h
-lacks_text count a b (Few n) h = h
-lacks_text count a b NotUtf8 h = let f = h.1 in cc
 
 -- ---- the reader
 
@@ -39,17 +33,6 @@ module _ (V E : Type 0) (name : List ℕ) (count : ℕ) (is_text : Bool) (conten
   lent_moves (Ok v) (Err e) n kept lends lacks = absurd n
   lent_moves (Err lack) (Ok w) n kept lends lacks = absurd n
   lent_moves (Err lack) (Err e) n kept lends lacks = moves_then kept (record { by = subst (λ t. MatchBool t (Broke m b) (Kept m b)) (sym n.read) (lack_moves count is_text m b lack lacks); depth = λ e. n.depth })
-
-  pub lent_progress : (o : Result V (Lacks E)) (r : Result V (DecodeError E)) → Named name o r → m.bound + 1 ≤ a.bound → IfOk o (λ v. Lends count (content v) m b) → OnOk r (b.bound + 1 ≤ a.bound)
-  lent_progress (Ok v) (Ok w) n less lends = omega (arith, less, lends.kept.bound)
-  lent_progress (Ok v) (Err e) n less lends = tt
-  lent_progress (Err lack) (Ok w) n less lends = absurd n
-  lent_progress (Err lack) (Err e) n less lends = tt
-
-  pub lent_memory : (o : Result V (Lacks E)) (r : Result V (DecodeError E)) → Named name o r → IfErr r (λ e. IsTrue (is_out_of_memory e) → IsTrue false)
-  lent_memory o (Ok w) n = tt
-  lent_memory (Ok v) (Err e) n = absurd n
-  lent_memory (Err lack) (Err e) n = λ t. let f = n.memory in cc
 
   -- ---- the content behind its head
 

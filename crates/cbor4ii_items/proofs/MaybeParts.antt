@@ -1,13 +1,13 @@
 -- Arrays of no item or one, one part after another.
-use Rattle.std.proofs.Common.{◌≡◌, ◌≢◌, ℕ, zero, suc, ◌+◌, ◌≤◌, inl, inr, List, [], length, drop, take, Option, Some, None, Ok, Err, Bool, true, false, refl, sym, ap, ◌∙◌, subst, arith, IfSome}
+use Rattle.std.proofs.Common.{◌≡◌, ℕ, zero, suc, ◌+◌, ◌≤◌, inl, inr, List, [], length, drop, take, Option, Some, None, Ok, Err, Bool, true, false, refl, sym, ap, ◌∙◌, subst, arith, IfSome}
 use Rattle.std.specs.Prelude.{codes}
 use Rattle.cbor4ii_rw.specs.View.{View}
 use Rattle.cbor4ii_rw.specs.declared.error.DecodeError.{DecodeError}
 use Rattle.cbor4ii_items.specs.declared.types.Maybe.{Maybe}
 use Rattle.cbor4ii_items.specs.Head.{IsBytes}
-use Rattle.cbor4ii_items.specs.Refusal.{Refusal, refusal_of, require_length, len_of}
+use Rattle.cbor4ii_items.specs.Refusal.{Refusal, refusal_of}
 use Rattle.cbor4ii_items.specs.Moves.{Kept}
-use Rattle.cbor4ii_items.specs.Reading.{refuse, go_on}
+use Rattle.cbor4ii_items.specs.Reading.{go_on}
 use Rattle.cbor4ii_items.specs.Decoding.{Reads, StopsAt, CostFits, NoneRead, Sound, Refuses, Stops}
 use Rattle.cbor4ii_items.specs.Laws.Outcome.{same_value, same_refusal}
 use Rattle.cbor4ii_items.specs.Heads.{ReadsHead}
@@ -24,12 +24,6 @@ use Rattle.cbor4ii_items.proofs.Leaves.{IsLeaf}
 use Rattle.cbor4ii_items.proofs.StringsRead.{no_length}
 
 -- ---- the head
-
--- a count of two and more
-pub few_by-other : (count : ℕ) → count ≢ 0 → count ≢ 1 → few_by (Some count) ≡ refuse (require_length (codes "maybe") (len_of count))
-few_by-other zero none one = absurd (none refl)
-few_by-other (suc zero) none one = absurd (one refl)
-few_by-other (suc (suc k)) none one = refl
 
 few_head : (xs ys : List ℕ) (k n : ℕ) → length_at (codes "array") 4 xs ≡ Ok (Some k, ys) → ys ≡ drop n xs → n ≤ length xs → IsBytes (take n xs) → ReadsHead 4 8 xs k n
 few_head xs ys k n e is within bytes = read_head (codes "array") 4 8 xs k n (length_some (codes "array") 4 k xs ys e ∙ ap (λ (zs : List ℕ). Ok (k, zs)) is) within bytes

@@ -60,3 +60,7 @@ lacks_step (Err e) = is_depth_overflow e
 pub record Moves {V E : Type 0} (old new : View) (answer : Result V (DecodeError E)) : Type 0 where
   pub by : MatchBool (is_failure answer) (Broke old new) (Kept old new)
   pub depth : old.budget ≡ None → lacks_step answer ≡ false
+
+-- P, where the answer says that the reader failed
+abbrev pub OnRead : {V E : Type 0} → Result V (DecodeError E) → Type 0 → Type 0
+OnRead answer P = IsTrue (is_failure answer) → P

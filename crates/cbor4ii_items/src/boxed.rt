@@ -1,5 +1,8 @@
 //! Items in a box.
-ghost use Rattle.std.specs.Prelude.{true};
+ghost use Rattle.std.specs.Prelude.{◌≡◌, ◌+◌, ◌≤◌, true, false, OnOk, IfOk, IfErr, IsTrue, Box};
+ghost use Rattle.cbor4ii_items.specs.Decoding.{IsExact, Sound, Refuses, Stops};
+ghost use Rattle.cbor4ii_items.specs.Moves.{Moves};
+ghost use Rattle.cbor4ii_items.specs.Refusal.{is_out_of_memory};
 
 use crate::decode::{Decode, Spelled};
 use crate::encode::Encode;
@@ -34,7 +37,22 @@ impl<T: Spelled> Spelled for Box<T> {
 /// `OutOfMemory`, and the item was taken.
 impl<S: Source, T: Decode<S> + Drop> Decode<S> for Box<T> {
     #[inline(always)]
-    fn decode(alloc: Global, reader: &mut S) -> Result<Box<T>, DecodeError<S::Error>> {
+    fn decode(alloc: Global, reader: &mut S) -> Result<Box<T>, DecodeError<S::Error>>
+        ensures moves { Moves (S.view reader.old) (S.view reader.new) result }
+        ensures progress { IsTrue T.never_empty →
+            OnOk result ((S.view reader.new).bound + 1 ≤ (S.view reader.old).bound) }
+        ensures memory { IfErr result (λ error. IsTrue (is_out_of_memory error) → IsTrue true) }
+        ensures sound { IfOk result
+            (Sound (λ xs b. T.reads xs b.value) (S.view reader.old) (S.view reader.new)) }
+        ensures complete { IsExact T.owned (S.view reader.old) → IfErr result
+            (Refuses (λ xs (b : Box T Global). T.reads xs b.value) (S.view reader.old)) }
+        ensures stops { IsExact T.owned (S.view reader.old) →
+            IfErr result (Stops T.stops (S.view reader.old) (S.view reader.new)) }
+        ensures begins { IfErr result (Stops T.begins (S.view reader.old) (S.view reader.new)) }
+        ensures behind { T.takes_memory ≡ false →
+            IfErr result (λ error. IsTrue (is_out_of_memory error) →
+            (v : T) × Sound T.reads (S.view reader.old) (S.view reader.new) v) }
+    {
         let value = match T::decode(alloc, reader) {
             Ok(value) => value,
             Err(error) => return Err(error),

@@ -1,7 +1,6 @@
 //! Floats, as their bits (RFC 8949 section 3.3).
 ghost use Rattle.std.specs.Prelude.{
   ◌≡◌,
-  ℕ,
   ◌+◌,
   ◌≤◌,
   ◌<◌,

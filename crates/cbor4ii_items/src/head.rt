@@ -1,7 +1,9 @@
 //! Heads, read.
-ghost use Rattle.std.specs.Prelude.{◌≡◌, ℕ, ◌+◌, ◌≤◌, ◌<◌, ◌^◌, OnOk, IfOk, IfErr, false};
+ghost use Rattle.std.specs.Prelude.{◌≡◌, ◌+◌, ◌≤◌, ◌<◌, ◌^◌, OnOk, IfOk, IfErr, false};
+ghost use Rattle.cbor4ii_rw.specs.Reader.{Breaks};
 ghost use Rattle.cbor4ii_items.specs.Decoding.{Sound, Refuses, Stops};
 ghost use Rattle.cbor4ii_items.specs.Lengths.{ReadsLength, StopsLength};
+ghost use Rattle.cbor4ii_items.specs.Moves.{OnRead};
 ghost use Rattle.cbor4ii_items.specs.Numbers.{ReadsArgument, StopsArgument};
 ghost use Rattle.cbor4ii_items.specs.Reading.{Runs, peek_at, byte_at};
 ghost use Rattle.cbor4ii_items.specs.Refusal.{is_out_of_memory};
@@ -30,6 +32,7 @@ pub(crate) fn peek<S: Source>(
     ensures memory { IfErr result (λ error. is_out_of_memory error ≡ false) }
     ensures byte { IfOk result (λ b. b < 256) }
     ensures can { OnOk result (1 ≤ (S.view reader.new).advanceable) }
+    ensures failed { OnRead result (Breaks (S.view reader.old) (S.view reader.new)) }
 {
     let mut failure = None;
     match look(reader, 1, &mut failure) {

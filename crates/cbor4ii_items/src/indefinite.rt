@@ -10,8 +10,9 @@ ghost use Rattle.std.specs.Prelude.{
   false,
   nat_lt,
 };
+ghost use Rattle.cbor4ii_rw.specs.Reader.{Breaks};
 ghost use Rattle.cbor4ii_items.specs.Decoding.{Sound, Refuses, Stops};
-ghost use Rattle.cbor4ii_items.specs.Moves.{Moves};
+ghost use Rattle.cbor4ii_items.specs.Moves.{Moves, OnRead};
 ghost use Rattle.cbor4ii_items.specs.Next.{ReadsFollows, left_then};
 ghost use Rattle.cbor4ii_items.specs.Reading.{Runs};
 ghost use Rattle.cbor4ii_items.specs.ReadStrings.{break_at};
@@ -31,6 +32,7 @@ use cbor4ii_rw::read::Source;
 pub fn is_break<S: Source>(reader: &mut S) -> Result<bool, DecodeError<S::Error>>
     ensures moves { Moves (S.view reader.old) (S.view reader.new) result }
     ensures memory { IfErr result (λ error. is_out_of_memory error ≡ false) }
+    ensures failed { OnRead result (Breaks (S.view reader.old) (S.view reader.new)) }
     ensures sound { IfOk result (Sound ReadsBreak (S.view reader.old) (S.view reader.new)) }
     ensures complete { IfErr result (Refuses ReadsBreak (S.view reader.old)) }
     ensures stops { IfErr result
@@ -49,13 +51,14 @@ pub fn is_break<S: Source>(reader: &mut S) -> Result<bool, DecodeError<S::Error>
 /// # Errors
 ///
 /// Only at an indefinite length, which then stays: `Read` where the reader failed, and `Eof` by the
-/// name "break" with 1 where no byte is left. The budget stays.
+/// name "break" with 1 where no byte is left; nothing is taken then. The budget stays.
 pub fn follows<S: Source>(
     reader: &mut S,
     len: &mut Option<usize>,
 ) -> Result<bool, DecodeError<S::Error>>
     ensures moves { Moves (S.view reader.old) (S.view reader.new) result }
     ensures memory { IfErr result (λ error. is_out_of_memory error ≡ false) }
+    ensures failed { OnRead result (Breaks (S.view reader.old) (S.view reader.new)) }
     ensures counted { IfSome len.old (λ left. result ≡ Ok (nat_lt 0 left)) }
     ensures unasked { IsSome len.old → S.view reader.new ≡ S.view reader.old }
     ensures sound { IfOk result
@@ -86,6 +89,7 @@ pub fn follows<S: Source>(
 pub(crate) fn take_break<S: Source>(reader: &mut S) -> Result<bool, DecodeError<S::Error>>
     ensures runs { Runs break_at (S.view reader.old) (S.view reader.new) result }
     ensures memory { IfErr result (λ error. is_out_of_memory error ≡ false) }
+    ensures failed { OnRead result (Breaks (S.view reader.old) (S.view reader.new)) }
 {
     let byte = peek(reader, "break", 1)?;
     if byte == marker::BREAK {

@@ -1,7 +1,8 @@
 //! The first byte of a head, and its two parts (RFC 8949 section 3).
-ghost use Rattle.std.specs.Prelude.{◌≡◌, ◌+◌, ◌*◌, ◌/◌, ◌%◌, ◌≤◌, OnOk, IfOk, IfErr, false};
+ghost use Rattle.std.specs.Prelude.{◌≡◌, ◌+◌, ◌/◌, ◌%◌, ◌≤◌, OnOk, IfOk, IfErr, false};
+ghost use Rattle.cbor4ii_rw.specs.Reader.{Breaks};
 ghost use Rattle.cbor4ii_items.specs.Decoding.{Sound, Refuses, Stops};
-ghost use Rattle.cbor4ii_items.specs.Moves.{Moves};
+ghost use Rattle.cbor4ii_items.specs.Moves.{Moves, OnRead};
 ghost use Rattle.cbor4ii_items.specs.Next.{ReadsNext, StopsNext};
 ghost use Rattle.cbor4ii_items.specs.Refusal.{is_out_of_memory};
 
@@ -14,13 +15,14 @@ use cbor4ii_rw::read::Source;
 ///
 /// # Errors
 ///
-/// `Read` where the reader failed, and `Eof` by this name with 1 where no byte is left. The budget
-/// stays.
+/// `Read` where the reader failed, and `Eof` by this name with 1 where no byte is left; nothing is
+/// taken then. The budget stays.
 #[inline(always)]
 pub fn peek<S: Source>(reader: &mut S, name: StaticStr) -> Result<u8, DecodeError<S::Error>>
     ensures moves { Moves (S.view reader.old) (S.view reader.new) result }
     ensures memory { IfErr result (λ error. is_out_of_memory error ≡ false) }
     ensures can { OnOk result (1 ≤ (S.view reader.new).advanceable) }
+    ensures failed { OnRead result (Breaks (S.view reader.old) (S.view reader.new)) }
     ensures sound { IfOk result (Sound ReadsNext (S.view reader.old) (S.view reader.new)) }
     ensures complete { IfErr result (Refuses ReadsNext (S.view reader.old)) }
     ensures stops { IfErr result

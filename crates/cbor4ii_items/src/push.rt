@@ -1,16 +1,12 @@
 //! Heads and numbers, written.
 ghost use Rattle.std.specs.Prelude.{
   ◌≡◌,
-  ℕ,
   ◌<◌,
-  ◌≤◌,
   ◌<ℤ◌,
   ◌≤ℤ◌,
   ◌++◌,
   pos,
   negsuc,
-  take,
-  length,
 };
 ghost use Rattle.cbor4ii_items.specs.Writing.{Writes, WritesWhole};
 ghost use Rattle.cbor4ii_items.specs.Magnitude.{without_leading_zeros};

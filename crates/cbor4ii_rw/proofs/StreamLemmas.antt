@@ -19,18 +19,7 @@ use Rattle.cbor4ii_rw.proofs.Told.{told_some, some_inner}
 pub told_none : (P : List ℕ → Type 0) → Told None P
 told_none P xs is = absurd (search (is, rules))
 
--- a fact of the known bytes, where there are any
-pub told_if : (P : List ℕ → Type 0) (known : Option (List ℕ)) → IfSome known P → Told known P
-told_if P None p = told_none P
-told_if P (Some bytes) p = told_some P bytes p
-
--- known bytes that stay known are kept, and cut alike they are kept too
-pub keeps_known : (old new : Option (List ℕ)) → KeepsKnown old new → Keeps old new
-keeps_known None new kept = told_none (λ xs. new ≡ Some xs)
-keeps_known (Some bytes) None kept = absurd kept
-keeps_known (Some bytes) (Some left) kept = told_some (λ xs. Some left ≡ Some xs) bytes
-    (ap Some kept)
-
+-- known bytes that stay known are kept, where they are cut alike
 pub keeps_cut : (most most' : ℕ) (old new : Option (List ℕ)) → most' ≡ most → KeepsKnown old new
     → Keeps (cut_known most old) (cut_known most' new)
 keeps_cut most most' None new same kept = told_none (λ xs. cut_known most' new ≡ Some xs)

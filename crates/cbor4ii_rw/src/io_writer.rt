@@ -1,6 +1,6 @@
 //! A writer into a stream.
 ghost use Rattle.std.specs.Prelude.{◌≡◌, OnOk, OnErr, false, true};
-ghost use Rattle.cbor4ii_rw.specs.Reader.{Failed, Keeps};
+ghost use Rattle.cbor4ii_rw.specs.Reader.{Keeps};
 ghost use Rattle.cbor4ii_rw.specs.Writer.{Appends, one_more};
 ghost use Rattle.cbor4ii_rw.specs.Written.{stream_output, is_flushed};
 

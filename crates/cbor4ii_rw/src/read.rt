@@ -5,10 +5,8 @@
 //! decoder), so that hostile input cannot drive a recursion as deep as it likes.
 ghost use Rattle.std.specs.Prelude.{
   ◌≡◌,
-  ℕ,
   ◌≤◌,
   ◌↔◌,
-  List,
   length,
   take,
   IsTrue,

@@ -1,11 +1,11 @@
 -- Integers of sixteen bytes are read exactly as they are spelled.
-use Rattle.std.proofs.Common.{◌≡◌, ◌≢◌, ℕ, zero, suc, ◌+◌, ◌*◌, ◌/◌, ◌^◌, ◌<◌, ◌≤◌, inl, inr, List, [], ◌∷◌, ◌++◌, length, drop, take, Some, Ok, false, refl, sym, ap, ◌∙◌, subst, arith, eqb, ne_eqb, ltb, le-ltb}
+use Rattle.std.proofs.Common.{◌≡◌, ℕ, zero, suc, ◌+◌, ◌*◌, ◌/◌, ◌^◌, ◌<◌, ◌≤◌, inl, inr, List, [], ◌∷◌, ◌++◌, length, drop, take, Ok, false, refl, sym, ap, ◌∙◌, subst, arith, ltb, le-ltb}
 use Rattle.std.specs.Prelude.{ℤ, pos, negsuc, codes, fold}
 use Rattle.std.proofs.lemmas.List.{length-drop, length-append, length-take-le}
-use Rattle.cbor4ii_items.specs.Head.{IsBytes, open_head}
-use Rattle.cbor4ii_items.specs.Reading.{give, go_on, ◌>=>◌}
+use Rattle.cbor4ii_items.specs.Head.{IsBytes}
+use Rattle.cbor4ii_items.specs.Reading.{go_on, ◌>=>◌}
 use Rattle.cbor4ii_items.specs.Heads.{ReadsHead}
-use Rattle.cbor4ii_items.specs.ReadHead.{head_at, head_by, length_by, length_at, number_on}
+use Rattle.cbor4ii_items.specs.ReadHead.{head_at, number_on}
 use Rattle.cbor4ii_items.specs.ReadNumber.{below, as_positive, as_negative, magnitude_by, magnitude_at, unsigned_bignum_at, u128_by, u128_at, small_magnitude_at, signed_bignum_at, i128_by, i128_at}
 use Rattle.cbor4ii_items.specs.Magnitude.{number_of}
 use Rattle.cbor4ii_items.specs.Numbers.{ReadsMagnitude, ReadsBignum, ReadsU128, ReadsI128}
@@ -21,13 +21,6 @@ pub number_taken : (name : List ℕ) (expect k high : ℕ) (xs : List ℕ) → k
 number_taken name expect zero high xs h = refl
 number_taken name expect (suc k) high [] h = absurd (omega arith)
 number_taken name expect (suc k) high (x ∷ xs) h = number_taken name expect k (high * 256 + x) xs (omega arith)
-
-counted_by : (name : List ℕ) (major b : ℕ) → b ≢ open_head major → length_by name major b ≡ (head_by name major 8 b >=> λ n. give (Some n))
-counted_by name major b other = let t : eqb b (open_head major) ≡ false = ne_eqb b (open_head major) other in rw t refl
-
-length_read : (name : List ℕ) (major : ℕ) (b : ℕ) (bs xs : List ℕ) (v n : ℕ) → xs ≡ b ∷ bs → b ≢ open_head major → head_at name major 8 xs ≡ Ok (v, drop n xs) → length_at name major xs ≡ Ok (Some v, drop n xs)
-length_read name major b bs xs v n is other e =
-    ap (length_at name major) is ∙ (ap (λ f. f bs) (counted_by name major b other) ∙ ap (λ z. go_on z (λ k. give (Some k))) (ap (head_at name major 8) (sym is) ∙ e))
 
 pub magnitude_again : (name : List ℕ) (xs : List ℕ) (v n : ℕ) → ReadsMagnitude xs v n → ReadBy (magnitude_at name) xs v n 0
 magnitude_again name xs v n p =

@@ -141,11 +141,6 @@ chunks_again (v ∷ vs) name before major budget xs n m s h =
     chunks_once name before major budget xs v h.0 m s h.2
     ∙ (rest ∙ ap₂ (chunks_at name major budget) (append_assoc before v (joined vs)) (drop_more h.1 h.0 xs ∙ ap (λ j. drop j xs) (sym h.4)))
 
-pub chunks_within : (chunks : List (List ℕ)) (major : ℕ) (xs : List ℕ) (n : ℕ) → major < 8 → ReadsChunks major chunks xs n → n ≤ length xs
-chunks_within [] major xs n m h = omega (arith, h)
-chunks_within (v ∷ vs) major xs n m h =
-    omega (arith, h.4, (counted_within major xs v h.0 m h.2).0, chunks_within vs major (drop h.0 xs) h.1 m h.3, length-drop h.0 xs)
-
 chunks_alone : (chunks : List (List ℕ)) (major : ℕ) (xs ys : List ℕ) (n : ℕ) → major < 8 → ReadsChunks major chunks xs n → ReadsChunks major chunks (take n xs ++ ys) n
 chunks_alone [] major xs ys n m h = h
 chunks_alone (v ∷ vs) major xs ys n m h =

@@ -9,7 +9,6 @@ ghost use Rattle.std.specs.Prelude.{
   IfOk,
   true,
   false,
-  codes,
   pos,
   negsuc,
   IfErr,
@@ -21,7 +20,6 @@ ghost use Rattle.cbor4ii_items.specs.ReadNumber.{
   small_magnitude_at,
   unsigned_bignum_at,
   u128_at,
-  u128_by,
   signed_bignum_at,
   i128_at,
 };

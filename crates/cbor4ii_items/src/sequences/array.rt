@@ -1,5 +1,5 @@
 //! Arrays, read (RFC 8949 sections 3.1 and 3.2.2).
-ghost use Rattle.std.specs.Prelude.{◌≡◌, true};
+ghost use Rattle.std.specs.Prelude.{true};
 ghost use Rattle.cbor4ii_items.specs.Sequences.{ReadsArray, SameArray, StopsArray};
 ghost use Rattle.cbor4ii_items.specs.Laws.Sequences.{
   array_one,

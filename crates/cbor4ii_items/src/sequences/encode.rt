@@ -1,5 +1,4 @@
 //! Arrays and maps, written.
-ghost use Rattle.std.specs.Prelude.{◌≡◌};
 ghost use Rattle.cbor4ii_items.specs.SequenceBytes.{
   items_bytes,
   array_bytes,

@@ -1,5 +1,5 @@
 //! Strings of indefinite length: chunks up to a break (RFC 8949 section 3.2.3).
-ghost use Rattle.std.specs.Prelude.{◌≡◌, ◌+◌, ◌≤◌, ◌<◌, OnOk, []};
+ghost use Rattle.std.specs.Prelude.{◌+◌, ◌≤◌, ◌<◌, OnOk, []};
 ghost use Rattle.cbor4ii_items.specs.Contents.{listed, filled};
 ghost use Rattle.cbor4ii_items.specs.Reading.{Runs};
 ghost use Rattle.cbor4ii_items.specs.ReadStrings.{chunk_inside_at, chunk_at, chunks_at};

@@ -1,5 +1,5 @@
 //! The content of strings of known or of indefinite length, taken off a reader.
-ghost use Rattle.std.specs.Prelude.{◌≡◌, ◌+◌, ◌≤◌, ◌<◌, OnOk, IfOk, IfErr, []};
+ghost use Rattle.std.specs.Prelude.{◌+◌, ◌≤◌, ◌<◌, OnOk, IfOk, IfErr, []};
 ghost use Rattle.cbor4ii_items.specs.Decoding.{Sound, Refuses, Stops};
 ghost use Rattle.cbor4ii_items.specs.Contents.{listed};
 ghost use Rattle.cbor4ii_items.specs.Reading.{Runs};

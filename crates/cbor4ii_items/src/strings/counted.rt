@@ -1,5 +1,5 @@
 //! Content of a known length, taken off a reader.
-ghost use Rattle.std.specs.Prelude.{◌≡◌, ◌≤◌, IfOk, IfErr, Err};
+ghost use Rattle.std.specs.Prelude.{◌≤◌, IfOk, IfErr, Err};
 ghost use Rattle.cbor4ii_items.specs.Contents.{TakesOnto, filled};
 ghost use Rattle.cbor4ii_items.specs.Reading.{Runs};
 ghost use Rattle.cbor4ii_items.specs.ReadStrings.{content_on};

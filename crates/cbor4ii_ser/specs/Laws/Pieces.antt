@@ -1,6 +1,6 @@
 -- Pieces, one after another.
-use Rattle.std.proofs.Common.{◌≡◌, ℕ, List, [], ◌∷◌, ◌++◌, Option, None, Some, Ok, Err, Bool, true, false, refl, sym, ap, ◌∙◌, append_assoc, subst, ◌⊎◌, inl, inr, IsSome, if◌then◌else◌, length, ◌<◌, ◌+◌, take, drop, get_or, map}
-use Rattle.std.proofs.lemmas.List.{append-nil, take_more, take-append-drop, map-append}
+use Rattle.std.proofs.Common.{◌≡◌, ℕ, List, [], ◌∷◌, ◌++◌, Option, None, Some, Ok, Err, Bool, true, false, refl, sym, ap, ◌∙◌, append_assoc, subst, ◌⊎◌, inl, inr, IsSome, if◌then◌else◌}
+use Rattle.std.proofs.lemmas.List.{append-nil}
 use Rattle.cbor4ii_rw.specs.Writer.{Output}
 use Rattle.cbor4ii_items.specs.Writing.{Writes}
 use Rattle.cbor4ii_items.specs.Laws.Written.{writes_then, writes_err, writes_as}
@@ -88,9 +88,6 @@ wrote_refused true ps qs why w = w
 wrote_refused false ps qs (inl is) w = absurd (cc)
 wrote_refused false ps qs {b = b} (inr some) w = let found = some_of b.failure some in wrote_cut qs found.0 found.1 w
 
-pub wrote_stopped : {E : Type 0} {whole : Bool} {ps : List (List ℕ)} (qs : List (List ℕ)) {a b : Seen E} → IsSome b.failure → Wrote whole ps a b → Wrote whole (ps ++ qs) a b
-wrote_stopped qs {b = b} some w = let found = some_of b.failure some in wrote_cut qs found.0 found.1 w
-
 nothing_writes : {E : Type 0} {whole : Bool} (o : Output) (f : Option E) → f ≡ None → Writes whole [] o o (outcome f)
 nothing_writes o None is = record { appends = λ held told. told ∙ ap Some (sym (append-nil held)); counts = refl; failed = tt; front = λ whole. tt }
 nothing_writes o (Some e) is = absurd (cc)
@@ -104,15 +101,3 @@ nothing_pends p (Some e) = tt
 pub wrote_nil : {E : Type 0} {whole : Bool} (a : Seen E) → Wrote whole [] a a
 unfolding written
 wrote_nil a = record { writes = λ fine. nothing_writes a.output a.failure fine; pends = λ fine. nothing_pends a.pending a.failure; stays = λ e is. refl }
-
-module _ {E V : Type 0} {whole : Bool} (f : V → List ℕ) (vs : List V) (i : ℕ) (d : V) where
-  -- one more
-  pub wrote_more : {a b c : Seen E} → i < length vs → Wrote whole (map f (take i vs)) a b → Wrote whole (f (get_or vs i d) ∷ []) b c → Wrote whole (map f (take (i + 1) vs)) a c
-  wrote_more {a = a} {c = c} h first second =
-      let more : map f (take (i + 1) vs) ≡ map f (take i vs) ++ (f (get_or vs i d) ∷ []) = ap (map f) (take_more vs i d h) ∙ map-append f (take i vs) (get_or vs i d ∷ []) in
-      subst (λ z. Wrote whole z a c) (sym more) (wrote_then first second)
-
-  -- where the writer failed, the rest is not missed
-  pub wrote_enough : {a b c : Seen E} → i < length vs → Wrote whole (map f (take i vs)) a b → Wrote whole (f (get_or vs i d) ∷ []) b c → IsSome c.failure → Wrote whole (map f vs) a c
-  wrote_enough {a = a} {c = c} h first second some =
-      subst (λ z. Wrote whole z a c) (sym (map-append f (take (i + 1) vs) (drop (i + 1) vs)) ∙ ap (map f) (take-append-drop (i + 1) vs)) (wrote_stopped (map f (drop (i + 1) vs)) some (wrote_more h first second))

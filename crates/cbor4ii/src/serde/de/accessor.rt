@@ -18,7 +18,8 @@ ghost use Rattle.std.specs.Prelude.{
 };
 ghost use Rattle.std.specs.Borrow.{sem, Lends, RestsIfErr};
 ghost use mir.Syntax.{named};
-ghost use Rattle.cbor4ii_items.specs.Moves.{Moves};
+ghost use Rattle.cbor4ii_rw.specs.Reader.{Breaks};
+ghost use Rattle.cbor4ii_items.specs.Moves.{Moves, OnRead};
 ghost use Rattle.cbor4ii_items.specs.Decoding.{IsExact, Sound, Refuses, Stops};
 ghost use Rattle.cbor4ii_items.specs.Lengths.{ReadsLength, StopsLength};
 ghost use Rattle.cbor4ii_items.specs.Refusal.{is_out_of_memory};
@@ -47,7 +48,7 @@ ghost use Rattle.cbor4ii.specs.Stepped.{Stepped, StopsStepped};
 ghost use Rattle.cbor4ii.specs.Tuples.{ReadsCountOf, StopsCountOf};
 ghost use Rattle.cbor4ii.specs.Typed.{input, answer_of, as_core, said};
 
-use crate::serde::de::deserialize::{Deserialize, Typed};
+use crate::serde::de::deserialize::Deserialize;
 use crate::serde::de::deserializer::Deserializer;
 use crate::serde::de::error::DecodeError;
 use crate::serde::de::heads::{begin_array, begin_map, begin_tuple};
@@ -267,6 +268,8 @@ impl<'a, S: Source> Accessor<'a, S> {
         ensures moves { Moves (inside S.view self.old) (inside S.view self.new)
             (answer_of result) }
         ensures memory { IfErr result (λ error. is_out_of_memory (as_core error) ≡ false) }
+        ensures failed { OnRead (answer_of result)
+            (Breaks (inside S.view self.old) (inside S.view self.new)) }
         ensures sound { IfOk result (Sound (ReadsStart (left_in self.old))
             (inside S.view self.old) (inside S.view self.new)) }
         ensures answer { IfOk result (λ more. Starts (left_in self.old) (left_in self.new) more) }

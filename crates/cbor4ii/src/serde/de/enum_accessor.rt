@@ -47,7 +47,7 @@ ghost use Rattle.cbor4ii.specs.Variants.{
 };
 
 use crate::serde::de::accessor::{Accessor, Left};
-use crate::serde::de::deserialize::{Deserialize, Typed};
+use crate::serde::de::deserialize::Deserialize;
 use crate::serde::de::deserializer::Deserializer;
 use crate::serde::de::error::DecodeError;
 use crate::serde::de::heads::{begin_map, begin_tuple};

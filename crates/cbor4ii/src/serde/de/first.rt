@@ -3,7 +3,7 @@ ghost use Rattle.std.specs.Prelude.{◌≡◌, ◌<◌, ◌^◌, ◌⊎◌, List
 ghost use Rattle.cbor4ii_rw.specs.Stream.{most_bytes, cut_known};
 ghost use Rattle.cbor4ii.specs.First.{First, FirstOf, limit};
 
-use crate::serde::de::deserialize::{Deserialize, Typed};
+use crate::serde::de::deserialize::Deserialize;
 use crate::serde::de::deserializer::Deserializer;
 use crate::serde::de::error::DecodeError;
 use cbor4ii_rw::io_reader::IoReader;

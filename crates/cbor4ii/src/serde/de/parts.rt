@@ -10,7 +10,6 @@ ghost use Rattle.std.specs.Prelude.{
   true,
   false,
   Option,
-  length,
   OnOk,
   IfOk,
   IfErr,

@@ -13,7 +13,8 @@ ghost use Rattle.std.specs.Prelude.{
 };
 ghost use Rattle.std.specs.Borrow.{sem, Lends, RestsIfErr};
 ghost use mir.Syntax.{named};
-ghost use Rattle.cbor4ii_items.specs.Moves.{Moves};
+ghost use Rattle.cbor4ii_rw.specs.Reader.{Breaks};
+ghost use Rattle.cbor4ii_items.specs.Moves.{Moves, OnRead};
 ghost use Rattle.cbor4ii_items.specs.Decoding.{IsExact, Sound, Refuses, Stops};
 ghost use Rattle.cbor4ii_items.specs.Refusal.{is_out_of_memory};
 ghost use Rattle.cbor4ii.specs.contracts.serde.de.deserializer.Deserializer.{the_row};
@@ -31,7 +32,7 @@ ghost use Rattle.cbor4ii.specs.Optional.{
 };
 ghost use Rattle.cbor4ii.specs.Typed.{input, answer_of, as_core};
 
-use crate::serde::de::deserialize::{Deserialize, Typed};
+use crate::serde::de::deserialize::Deserialize;
 use crate::serde::de::deserializer::Deserializer;
 use crate::serde::de::error::DecodeError;
 use cbor4ii_items::initial::peek;
@@ -66,13 +67,14 @@ impl<S: Source> Deserializer<S> {
     ///
     /// # Errors
     ///
-    /// `Core` of `Read` where the reader failed. By the name "option": `Core` of `Eof` with 1 where
-    /// no byte is left, and of `DepthOverflow` where a value comes and no step is left, which takes
-    /// nothing.
+    /// `Core` of `Read` where the reader failed, and nothing is taken then. By the name "option":
+    /// `Core` of `Eof` with 1 where no byte is left, and of `DepthOverflow` where a value comes and
+    /// no step is left, which takes nothing.
     pub fn deserialize_option(&mut self) -> Result<SomeAccessor<'_, S>, DecodeError<S::Error>>
         ensures* refused { sem 𝓛 (RestsIfErr (the_row S.row) self.entry
             (λ accessor. accessor.de.ghost_name) result (λ new.
             Moves (input S.view self.old) (input S.view new) (answer_of result) ×
+            OnRead (answer_of result) (Breaks (input S.view self.old) (input S.view new)) ×
             IfErr result (λ error. Stops StopsPresence
             (input S.view self.old) (input S.view new) (as_core error)))) }
         ensures same_reference { IfOk result
@@ -95,6 +97,7 @@ fn begin_option<S: Source>(reader: &mut S) -> Result<bool, core_error::DecodeErr
     ensures opened { IfOk result (OpensOption (S.view reader.old) (S.view reader.new)) }
     ensures moves { OnErr result (Moves (S.view reader.old) (S.view reader.new) result) }
     ensures memory { IfErr result (λ error. is_out_of_memory error ≡ false) }
+    ensures failed { OnRead result (Breaks (S.view reader.old) (S.view reader.new)) }
     ensures complete { IfErr result (Refuses ReadsPresence (S.view reader.old)) }
     ensures stops { IfErr result
         (Stops StopsPresence (S.view reader.old) (S.view reader.new)) }

@@ -6,7 +6,7 @@ ghost use Rattle.cbor4ii_items.specs.Decoding.{IsExact, Sound, Refuses, Stops};
 ghost use Rattle.cbor4ii.specs.Typed.{input, answer_of, as_core, said};
 ghost use Rattle.cbor4ii.specs.Stepped.{Stepped, StopsStepped};
 
-use crate::serde::de::deserialize::{Deserialize, Typed};
+use crate::serde::de::deserialize::Deserialize;
 use crate::serde::de::deserializer::Deserializer;
 use crate::serde::de::error::DecodeError;
 use cbor4ii_rw::error as core_error;
