@@ -16,6 +16,14 @@ use Rattle.cbor4ii.specs.declared.serde.de.accessor.Left.TheVariants.{Counted, O
 abbrev pub inside : {S E : Type 0} → (S → View) → Accessor S E → View
 inside view accessor = view accessor.de.now.reader
 
+-- the deserializer that the parts are read from
+abbrev pub deserializer_of : {S E : Type 0} → Accessor S E → Deserializer S
+deserializer_of accessor = accessor.de.now
+
+-- which reference an accessor holds to its deserializer
+abbrev pub lender_of : {S E : Type 0} → Accessor S E → ℕ
+lender_of accessor = accessor.de.ghost_name
+
 -- what is still to be read
 abbrev pub left_in : {S E : Type 0} → Accessor S E → Left
 left_in accessor = accessor.left

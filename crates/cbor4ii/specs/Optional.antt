@@ -13,6 +13,14 @@ use Rattle.cbor4ii.specs.Stepped.{Stepped, StopsStepped}
 abbrev pub inside_some : {S E : Type 0} → (S → View) → SomeAccessor S E → View
 inside_some view accessor = view accessor.de.now.reader
 
+-- the deserializer that the value is read from
+abbrev pub deserializer_of_some : {S E : Type 0} → SomeAccessor S E → Deserializer S
+deserializer_of_some accessor = accessor.de.now
+
+-- which reference an accessor holds to its deserializer
+abbrev pub lender_of_some : {S E : Type 0} → SomeAccessor S E → ℕ
+lender_of_some accessor = accessor.de.ghost_name
+
 -- whether a value comes
 abbrev pub comes : {S E : Type 0} → SomeAccessor S E → Bool
 comes accessor = accessor.some

@@ -1,5 +1,6 @@
 -- Variants: a name alone, or a map of one entry, from the name to the content.
 use Rattle.std.specs.Prelude.{◌≡◌, ◌≢◌, ℕ, ◌/◌, Bool, true, false, [], ◌∷◌, take, Some, Result, IsErrAnd, codes}
+use Rattle.std.specs.Borrow.{MutBor}
 use Rattle.cbor4ii_rw.specs.View.{View}
 use Rattle.cbor4ii_rw.specs.Reader.{StepsIn, KeepsAllButBudget}
 use Rattle.cbor4ii_rw.specs.declared.error.DecodeError.{DecodeError}
@@ -13,6 +14,17 @@ use Rattle.cbor4ii.specs.declared.serde.de.enum_accessor.EnumAccessor.{EnumAcces
 -- what the reader under an accessor tells
 abbrev pub inside_enum : {S E : Type 0} → (S → View) → EnumAccessor S E → View
 inside_enum view accessor = view accessor.de.now.reader
+
+-- the reference that an accessor holds to the deserializer from which name and content are read
+abbrev pub reference_of_enum : {S E : Type 0} → EnumAccessor S E → MutBor (Deserializer S)
+reference_of_enum accessor = accessor.de
+
+abbrev pub deserializer_of_enum : {S E : Type 0} → EnumAccessor S E → Deserializer S
+deserializer_of_enum accessor = accessor.de.now
+
+-- which reference that is
+abbrev pub lender_of_enum : {S E : Type 0} → EnumAccessor S E → ℕ
+lender_of_enum accessor = accessor.de.ghost_name
 
 -- whether a content follows the name, and the first byte
 abbrev pub form_of : {S E : Type 0} → EnumAccessor S E → Bool × ℕ

@@ -29,6 +29,8 @@ ghost use Rattle.cbor4ii.specs.contracts.serde.de.deserializer.Deserializer.{the
 ghost use Rattle.cbor4ii.specs.declared.serde.de.accessor.Left.TheVariants.{Counted, Open};
 ghost use Rattle.cbor4ii.specs.Accessing.{
   inside,
+  deserializer_of,
+  lender_of,
   left_in,
   steps_held,
   with_deserializer,
@@ -108,14 +110,13 @@ impl<S: Source> Deserializer<S> {
     /// then; of `Mismatch` with the first byte, which is taken, where it begins no array. The
     /// budget is as before then.
     pub fn deserialize_seq(&mut self) -> Result<Accessor<'_, S>, DecodeError<S::Error>>
-        ensures* refused { sem 𝓛 (RestsIfErr (the_row S.row) self.entry
-            (λ accessor. accessor.de.ghost_name) result (λ new.
+        ensures* refused { sem 𝓛 (RestsIfErr (the_row S.row) self.entry lender_of result (λ new.
             Moves (input S.view self.old) (input S.view new) (answer_of result) ×
             IfErr result (λ error. Stops
             (StopsStepped (codes "seq") (StopsLength (codes "array") 4))
             (input S.view self.old) (input S.view new) (as_core error)))) }
         ensures same_reference { IfOk result
-            (λ accessor. accessor.de.ghost_name ≡ self.entry.ghost_name) }
+            (λ accessor. lender_of accessor ≡ self.entry.ghost_name) }
         ensures opened { IfOk result (λ accessor. Opens 4 (input S.view self.old)
             (inside S.view accessor) (left_in accessor)) }
         ensures steps { IfOk result (λ accessor. steps_held accessor ≡ 1) }
@@ -144,13 +145,12 @@ impl<S: Source> Deserializer<S> {
         &mut self,
         len: usize,
     ) -> Result<Accessor<'_, S>, DecodeError<S::Error>>
-        ensures* refused { sem 𝓛 (RestsIfErr (the_row S.row) self.entry
-            (λ accessor. accessor.de.ghost_name) result (λ new.
+        ensures* refused { sem 𝓛 (RestsIfErr (the_row S.row) self.entry lender_of result (λ new.
             Moves (input S.view self.old) (input S.view new) (answer_of result) ×
             IfErr result (λ error. Stops (StopsStepped (codes "tuple") (StopsCountOf len))
             (input S.view self.old) (input S.view new) (as_core error)))) }
         ensures same_reference { IfOk result
-            (λ accessor. accessor.de.ghost_name ≡ self.entry.ghost_name) }
+            (λ accessor. lender_of accessor ≡ self.entry.ghost_name) }
         ensures opened { IfOk result (λ accessor. Opens 4 (input S.view self.old)
             (inside S.view accessor) (left_in accessor)) }
         ensures steps { IfOk result (λ accessor. steps_held accessor ≡ 1) }
@@ -175,13 +175,12 @@ impl<S: Source> Deserializer<S> {
     ///
     /// As `deserialize_seq`, by the name "map" in the place of "seq" and "array".
     pub fn deserialize_map(&mut self) -> Result<Accessor<'_, S>, DecodeError<S::Error>>
-        ensures* refused { sem 𝓛 (RestsIfErr (the_row S.row) self.entry
-            (λ accessor. accessor.de.ghost_name) result (λ new.
+        ensures* refused { sem 𝓛 (RestsIfErr (the_row S.row) self.entry lender_of result (λ new.
             Moves (input S.view self.old) (input S.view new) (answer_of result) ×
             IfErr result (λ error. Stops (StopsStepped (codes "map") (StopsLength (codes "map") 5))
             (input S.view self.old) (input S.view new) (as_core error)))) }
         ensures same_reference { IfOk result
-            (λ accessor. accessor.de.ghost_name ≡ self.entry.ghost_name) }
+            (λ accessor. lender_of accessor ≡ self.entry.ghost_name) }
         ensures opened { IfOk result (λ accessor. Opens 5 (input S.view self.old)
             (inside S.view accessor) (left_in accessor)) }
         ensures steps { IfOk result (λ accessor. steps_held accessor ≡ 1) }
@@ -205,13 +204,12 @@ impl<S: Source> Deserializer<S> {
         name: StaticStr,
         len: usize,
     ) -> Result<Accessor<'_, S>, DecodeError<S::Error>>
-        ensures* refused { sem 𝓛 (RestsIfErr (the_row S.row) self.entry
-            (λ accessor. accessor.de.ghost_name) result (λ new.
+        ensures* refused { sem 𝓛 (RestsIfErr (the_row S.row) self.entry lender_of result (λ new.
             Moves (input S.view self.old) (input S.view new) (answer_of result) ×
             IfErr result (λ error. Stops (StopsStepped (codes "tuple") (StopsCountOf len))
             (input S.view self.old) (input S.view new) (as_core error)))) }
         ensures same_reference { IfOk result
-            (λ accessor. accessor.de.ghost_name ≡ self.entry.ghost_name) }
+            (λ accessor. lender_of accessor ≡ self.entry.ghost_name) }
         ensures opened { IfOk result (λ accessor. Opens 4 (input S.view self.old)
             (inside S.view accessor) (left_in accessor)) }
         ensures steps { IfOk result (λ accessor. steps_held accessor ≡ 1) }
@@ -230,13 +228,12 @@ impl<S: Source> Deserializer<S> {
         name: StaticStr,
         fields: &[StaticStr],
     ) -> Result<Accessor<'_, S>, DecodeError<S::Error>>
-        ensures* refused { sem 𝓛 (RestsIfErr (the_row S.row) self.entry
-            (λ accessor. accessor.de.ghost_name) result (λ new.
+        ensures* refused { sem 𝓛 (RestsIfErr (the_row S.row) self.entry lender_of result (λ new.
             Moves (input S.view self.old) (input S.view new) (answer_of result) ×
             IfErr result (λ error. Stops (StopsStepped (codes "map") (StopsLength (codes "map") 5))
             (input S.view self.old) (input S.view new) (as_core error)))) }
         ensures same_reference { IfOk result
-            (λ accessor. accessor.de.ghost_name ≡ self.entry.ghost_name) }
+            (λ accessor. lender_of accessor ≡ self.entry.ghost_name) }
         ensures opened { IfOk result (λ accessor. Opens 5 (input S.view self.old)
             (inside S.view accessor) (left_in accessor)) }
         ensures steps { IfOk result (λ accessor. steps_held accessor ≡ 1) }
@@ -263,7 +260,7 @@ impl<'a, S: Source> Accessor<'a, S> {
     /// name "break" with 1 where no byte is left. Nothing is taken then, and the length stays
     /// indefinite, so that a further call asks again. The budget is as before.
     pub fn starts_element(&mut self) -> Result<bool, DecodeError<S::Error>>
-        ensures same_reference { self.new.de.ghost_name ≡ self.old.de.ghost_name }
+        ensures same_reference { lender_of self.new ≡ lender_of self.old }
         ensures same_steps { steps_held self.new ≡ steps_held self.old }
         ensures moves { Moves (inside S.view self.old) (inside S.view self.new)
             (answer_of result) }
@@ -306,7 +303,7 @@ impl<'a, S: Source> Accessor<'a, S> {
         ensures* writes_back { sem 𝓛 (Lends (the_accessor (record { mir = named 0; lft = [] })
             S.row S.Error.row)
             (the_row S.row) self.entry result (with_deserializer self.old)) }
-        ensures value { result.now ≡ self.old.de.now }
+        ensures value { result.now ≡ deserializer_of self.old }
     {
         self.de
     }
@@ -324,7 +321,7 @@ impl<'a, S: Source> Accessor<'a, S> {
         &mut self,
         alloc: Global,
     ) -> Result<Option<T>, DecodeError<S::Error>>
-        ensures same_reference { self.new.de.ghost_name ≡ self.old.de.ghost_name }
+        ensures same_reference { lender_of self.new ≡ lender_of self.old }
         ensures same_steps { steps_held self.new ≡ steps_held self.old }
         ensures moves { Moves (inside S.view self.old) (inside S.view self.new)
             (answer_of result) }
@@ -362,7 +359,7 @@ impl<'a, S: Source> Accessor<'a, S> {
         &mut self,
         alloc: Global,
     ) -> Result<Option<K>, DecodeError<S::Error>>
-        ensures same_reference { self.new.de.ghost_name ≡ self.old.de.ghost_name }
+        ensures same_reference { lender_of self.new ≡ lender_of self.old }
         ensures same_steps { steps_held self.new ≡ steps_held self.old }
         ensures moves { Moves (inside S.view self.old) (inside S.view self.new)
             (answer_of result) }
@@ -397,7 +394,7 @@ impl<'a, S: Source> Accessor<'a, S> {
         &mut self,
         alloc: Global,
     ) -> Result<V, DecodeError<S::Error>>
-        ensures same_reference { self.new.de.ghost_name ≡ self.old.de.ghost_name }
+        ensures same_reference { lender_of self.new ≡ lender_of self.old }
         ensures same_steps { steps_held self.new ≡ steps_held self.old }
         ensures left { left_in self.new ≡ left_in self.old }
         ensures moves { Moves (inside S.view self.old) (inside S.view self.new)
@@ -425,7 +422,7 @@ impl<'a, S: Source> Accessor<'a, S> {
         &mut self,
         alloc: Global,
     ) -> Result<Option<(K, V)>, DecodeError<S::Error>>
-        ensures same_reference { self.new.de.ghost_name ≡ self.old.de.ghost_name }
+        ensures same_reference { lender_of self.new ≡ lender_of self.old }
         ensures same_steps { steps_held self.new ≡ steps_held self.old }
         ensures moves { Moves (inside S.view self.old) (inside S.view self.new)
             (answer_of result) }

@@ -25,6 +25,7 @@ ghost use Rattle.cbor4ii.specs.contracts.serde.de.enum_accessor.EnumAccessor.{th
 ghost use Rattle.cbor4ii.specs.declared.serde.de.accessor.Left.TheVariants.{Counted};
 ghost use Rattle.cbor4ii.specs.Accessing.{
   inside,
+  lender_of,
   left_in,
   steps_held,
   Opens,
@@ -36,6 +37,9 @@ ghost use Rattle.cbor4ii.specs.Tuples.{ReadsCountOf, StopsCountOf};
 ghost use Rattle.cbor4ii.specs.Typed.{input, answer_of, as_core, said};
 ghost use Rattle.cbor4ii.specs.Variants.{
   inside_enum,
+  reference_of_enum,
+  deserializer_of_enum,
+  lender_of_enum,
   form_of,
   with_content,
   ReadsForm,
@@ -101,12 +105,12 @@ impl<S: Source> Deserializer<S> {
         variants: &[StaticStr],
     ) -> Result<EnumAccessor<'_, S>, DecodeError<S::Error>>
         ensures* refused { sem 𝓛 (RestsIfErr (the_row S.row) self.entry
-            (λ accessor. accessor.de.ghost_name) result (λ new.
+            lender_of_enum result (λ new.
             Moves (input S.view self.old) (input S.view new) (answer_of result) ×
             IfErr result (λ error. Stops (StopsStepped (codes "enum") StopsForm)
             (input S.view self.old) (input S.view new) (as_core error)))) }
         ensures same_reference { IfOk result
-            (λ accessor. accessor.de.ghost_name ≡ self.entry.ghost_name) }
+            (λ accessor. lender_of_enum accessor ≡ self.entry.ghost_name) }
         ensures opened { IfOk result (λ accessor. OpensEnum (input S.view self.old)
             (inside_enum S.view accessor) (form_of accessor)) }
         ensures memory { IfErr result (λ error. is_out_of_memory (as_core error) ≡ false) }
@@ -249,7 +253,7 @@ impl<'a, S: Source> EnumAccessor<'a, S> {
     ///
     /// Those of the name, with what they leave. The step stays taken.
     pub fn variant<V: Deserialize<S>>(&mut self, alloc: Global) -> Result<V, DecodeError<S::Error>>
-        ensures same_reference { self.new.de.ghost_name ≡ self.old.de.ghost_name }
+        ensures same_reference { lender_of_enum self.new ≡ lender_of_enum self.old }
         ensures same_form { form_of self.new ≡ form_of self.old }
         ensures moves { Moves (inside_enum S.view self.old) (inside_enum S.view self.new)
             (answer_of result) }
@@ -292,7 +296,7 @@ impl<'a, S: Source> EnumAccessor<'a, S> {
             S.row S.Error.row)
             (the_row S.row) self.entry result (with_content self.old) self.old) }
         ensures right { (form_of self.old).0 ≡ true → IsOk result }
-        ensures value { IfOk result (λ de. de.now ≡ self.old.de.now) }
+        ensures value { IfOk result (λ de. de.now ≡ deserializer_of_enum self.old) }
         ensures wrong { (form_of self.old).0 ≡ false →
             SaysOther (form_of self.old).1 (answer_of result) }
     {
@@ -350,14 +354,14 @@ impl<'a, S: Source> EnumAccessor<'a, S> {
     ///
     /// Besides, those of `deserialize_tuple`. The step of the variant is given back then.
     pub fn tuple_variant(self, len: usize) -> Result<Accessor<'a, S>, DecodeError<S::Error>>
-        ensures* refused { sem 𝓛 (RestsIfErr (the_row S.row) self.entry.de
-            (λ accessor. accessor.de.ghost_name) result (λ new.
+        ensures* refused { sem 𝓛 (RestsIfErr (the_row S.row) (reference_of_enum self.entry)
+            lender_of result (λ new.
             Finishes 1 (inside_enum S.view self.entry) (input S.view new) (answer_of result) ×
             IfErr result (λ error. Stops (StopsContent (form_of self.entry)
             (StopsStepped (codes "tuple") (StopsCountOf len)))
             (inside_enum S.view self.entry) (input S.view new) (as_core error)))) }
         ensures same_reference { IfOk result
-            (λ accessor. accessor.de.ghost_name ≡ self.entry.de.ghost_name) }
+            (λ accessor. lender_of accessor ≡ lender_of_enum self.entry) }
         ensures wrong { (form_of self.entry).0 ≡ false →
             SaysOther (form_of self.entry).1 (answer_of result) }
         ensures opened { IfOk result (λ accessor. Opens 4 (inside_enum S.view self.entry)
@@ -387,14 +391,14 @@ impl<'a, S: Source> EnumAccessor<'a, S> {
     ///
     /// Besides, those of `deserialize_map`. The step of the variant is given back then.
     pub fn struct_variant(self) -> Result<Accessor<'a, S>, DecodeError<S::Error>>
-        ensures* refused { sem 𝓛 (RestsIfErr (the_row S.row) self.entry.de
-            (λ accessor. accessor.de.ghost_name) result (λ new.
+        ensures* refused { sem 𝓛 (RestsIfErr (the_row S.row) (reference_of_enum self.entry)
+            lender_of result (λ new.
             Finishes 1 (inside_enum S.view self.entry) (input S.view new) (answer_of result) ×
             IfErr result (λ error. Stops (StopsContent (form_of self.entry)
             (StopsStepped (codes "map") (StopsLength (codes "map") 5)))
             (inside_enum S.view self.entry) (input S.view new) (as_core error)))) }
         ensures same_reference { IfOk result
-            (λ accessor. accessor.de.ghost_name ≡ self.entry.de.ghost_name) }
+            (λ accessor. lender_of accessor ≡ lender_of_enum self.entry) }
         ensures wrong { (form_of self.entry).0 ≡ false →
             SaysOther (form_of self.entry).1 (answer_of result) }
         ensures opened { IfOk result (λ accessor. Opens 5 (inside_enum S.view self.entry)

@@ -22,6 +22,8 @@ ghost use Rattle.cbor4ii.specs.contracts.serde.de.some_accessor.SomeAccessor.{th
 ghost use Rattle.cbor4ii.specs.Accessing.{Closes, Finishes};
 ghost use Rattle.cbor4ii.specs.Optional.{
   inside_some,
+  deserializer_of_some,
+  lender_of_some,
   comes,
   steps_of_some,
   with_value_from,
@@ -72,13 +74,13 @@ impl<S: Source> Deserializer<S> {
     /// no step is left, which takes nothing.
     pub fn deserialize_option(&mut self) -> Result<SomeAccessor<'_, S>, DecodeError<S::Error>>
         ensures* refused { sem 𝓛 (RestsIfErr (the_row S.row) self.entry
-            (λ accessor. accessor.de.ghost_name) result (λ new.
+            lender_of_some result (λ new.
             Moves (input S.view self.old) (input S.view new) (answer_of result) ×
             OnRead (answer_of result) (Breaks (input S.view self.old) (input S.view new)) ×
             IfErr result (λ error. Stops StopsPresence
             (input S.view self.old) (input S.view new) (as_core error)))) }
         ensures same_reference { IfOk result
-            (λ accessor. accessor.de.ghost_name ≡ self.entry.ghost_name) }
+            (λ accessor. lender_of_some accessor ≡ self.entry.ghost_name) }
         ensures opened { IfOk result (λ accessor. OpensOption (input S.view self.old)
             (inside_some S.view accessor) (comes accessor)) }
         ensures memory { IfErr result (λ error. is_out_of_memory (as_core error) ≡ false) }
@@ -131,7 +133,7 @@ impl<'a, S: Source> SomeAccessor<'a, S> {
         ensures* writes_back { sem 𝓛 (Lends (the_some (record { mir = named 0; lft = [] })
             S.row S.Error.row)
             (the_row S.row) self.entry result (with_value_from self.old)) }
-        ensures value { result.now ≡ self.old.de.now }
+        ensures value { result.now ≡ deserializer_of_some self.old }
     {
         self.de
     }
