@@ -23,7 +23,7 @@ use Rattle.cbor4ii.specs.declared.serde.de.error.DecodeError.{DecodeError as Typ
 use Rattle.cbor4ii.specs.Any.{kind, ReadsAny}
 use Rattle.cbor4ii.specs.AnyStops.{StopsBignum, KindStops, AnyStops, AnyStopsAt, StopsAny}
 use Rattle.cbor4ii.specs.Stepped.{StopsStepped}
-use Rattle.cbor4ii.specs.Typed.{as_core}
+use Rattle.cbor4ii.specs.Typed.{as_core, no_number}
 use Rattle.cbor4ii.proofs.Looking.{Saw}
 use Rattle.cbor4ii_items.specs.Laws.SequenceParts.{Begun, Opened, Stands}
 use Rattle.cbor4ii_items.specs.Laws.SequenceInside.{Counts, Opens}
@@ -85,7 +85,7 @@ step_stops (Err e) name stops a b c d takes inward outward h = stops_stepped nam
 
 -- ---- a bignum
 
-pub too_great_stops : {E : Type 0} {a b : View} {k : ℕ} (text : Bor (List ℕ)) → text.now ≡ codes "integer out of range" → 2 ^ 127 ≤ k → Sound ReadsU128 a b k → Stops {E = E} StopsBignum a b (Custom text 0)
+pub too_great_stops : {E : Type 0} {a b : View} {k : ℕ} (text : Bor (List ℕ)) → text.now ≡ codes "integer out of range" → 2 ^ 127 ≤ k → Sound ReadsU128 a b k → Stops {E = E} StopsBignum a b (Custom text no_number)
 too_great_stops {k = k} text is great s = record {
   at = λ xs told.
       let p = s.at xs told in

@@ -17,6 +17,7 @@ use Rattle.cbor4ii_items.specs.Laws.Strings.{text_one}
 use Rattle.cbor4ii_items.specs.Laws.Answering.{refuses_as}
 use Rattle.cbor4ii.specs.Character.{ReadsChar, StopsChar, NoCharacter}
 use Rattle.cbor4ii.specs.Character.StopsChar.{no_text, not_one}
+use Rattle.cbor4ii.specs.Typed.{no_number}
 use Rattle.cbor4ii.proofs.Stopped.{stopped_as}
 
 -- ---- texts of one character
@@ -56,15 +57,15 @@ pub char_stops : {E : Type 0} {a b : View} {e : DecodeError E} → Stops (StopsT
 char_stops s = stopped_as (StopsText (codes "str")) StopsChar (λ xs budget z ys h. no_text h) s
 
 module _ {E : Type 0} {a b : View} {text : String Global} (name : Bor (List ℕ)) (none : NoCharacter (text_content text)) where
-  pub other_moves : {V : Type 0} → Moves {E = E} a b (Ok text) → Moves {V = V} {E = E} a b (Err (Custom name 0))
+  pub other_moves : {V : Type 0} → Moves {E = E} a b (Ok text) → Moves {V = V} {E = E} a b (Err (Custom name no_number))
   other_moves m = record { by = m.by; depth = λ e. refl }
 
-  pub other_refuses : Sound (ReadsTextAs text_content) a b text → Refuses {E = E} ReadsChar a (Custom name 0)
+  pub other_refuses : Sound (ReadsTextAs text_content) a b text → Refuses {E = E} ReadsChar a (Custom name no_number)
   other_refuses s = record {
     at = λ xs told c n k r fits. (let p = s.at xs told in none c (text_one (λ zs. zs) xs (text_content text) (encode_utf8 c) p.count n p.cost k p.read r).2);
   }
 
-  pub other_stops : name.now ≡ codes "expected one character" → Sound (ReadsTextAs text_content) a b text → Stops {E = E} StopsChar a b (Custom name 0)
+  pub other_stops : name.now ≡ codes "expected one character" → Sound (ReadsTextAs text_content) a b text → Stops {E = E} StopsChar a b (Custom name no_number)
   other_stops named s = record {
     at = λ xs told. (let p = s.at xs told in (drop p.count xs, p.left, rw named (not_one (text_content text) p.count p.cost p.read p.fits none refl refl)));
   }

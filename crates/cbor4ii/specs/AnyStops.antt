@@ -4,7 +4,7 @@ use Rattle.cbor4ii_items.specs.Decoding.{StopsAt}
 use Rattle.cbor4ii_items.specs.Floats.{StopsFloat}
 use Rattle.cbor4ii_items.specs.Next.{StopsNext}
 use Rattle.cbor4ii_items.specs.Numbers.{ReadsU128, StopsU128, StopsI128}
-use Rattle.cbor4ii_items.specs.Refusal.{Refusal, unsupported, custom}
+use Rattle.cbor4ii_items.specs.Refusal.{Refusal, unsupported}
 use Rattle.cbor4ii_items.specs.Sequences.{ReadsPair, StopsInside, StopsPair}
 use Rattle.cbor4ii_items.specs.Simple.{StopsSimple, StopsBool}
 use Rattle.cbor4ii_items.specs.Strings.{StopsString, StopsText}
@@ -14,6 +14,7 @@ use Rattle.cbor4ii.specs.declared.serde.de.any_leaf.AnyLeaf.{AnyLeaf}
 use Rattle.cbor4ii.specs.declared.serde.de.any_leaf.AnyLeaf.TheVariants.{Integer, Bignum, Bytes, Text, Bool as Flag, Null, F16, F32, F64}
 use Rattle.cbor4ii.specs.Any.{kind, ReadsAny}
 use Rattle.cbor4ii.specs.Stepped.{StopsStepped}
+use Rattle.cbor4ii.specs.Typed.{in_words}
 
 -- a number that is none of i128, whose item is taken
 pub record TooGreat (xs : List ℕ) (refusal : Refusal) (rest : List ℕ) : Type 0 where
@@ -21,7 +22,7 @@ pub record TooGreat (xs : List ℕ) (refusal : Refusal) (rest : List ℕ) : Type
   pub size : ℕ
   pub read : ReadsU128 xs number size 0
   pub great : 2 ^ 127 ≤ number
-  pub refused : refusal ≡ custom (codes "integer out of range") 0
+  pub refused : refusal ≡ in_words (codes "integer out of range")
   pub left : rest ≡ drop size xs
 
 abbrev pub StopsBignum : StopsAt

@@ -1,9 +1,10 @@
 -- What reading a typed value answers, told in the codec's own words.
-use Rattle.std.specs.Prelude.{◌≡◌, ℕ, ◌≤◌, List, length, Bool, true, false, IsTrue, Result, Ok, Err}
+use Rattle.std.specs.Prelude.{◌≡◌, ℕ, ◌^◌, ◌≤◌, List, length, Bool, true, false, IsTrue, Result, Ok, Err}
 use Rattle.cbor4ii_rw.specs.View.{View}
 use Rattle.cbor4ii_rw.specs.declared.error.DecodeError.{DecodeError as CoreError}
 use Rattle.cbor4ii_rw.specs.declared.error.DecodeError.TheVariants.{Custom as CoreCustom}
 use Rattle.cbor4ii_items.specs.Decoding.{Reads, StopsAt}
+use Rattle.cbor4ii_items.specs.Refusal.{Refusal, custom}
 use Rattle.cbor4ii.specs.declared.serde.de.error.DecodeError.{DecodeError}
 use Rattle.cbor4ii.specs.declared.serde.de.error.DecodeError.TheVariants.{Core, Custom}
 use Rattle.cbor4ii.specs.declared.serde.de.deserializer.Deserializer.{Deserializer}
@@ -12,10 +13,18 @@ use Rattle.cbor4ii.specs.declared.serde.de.deserializer.Deserializer.{Deserializ
 abbrev pub input : {S : Type 0} → (S → View) → Deserializer S → View
 input view de = view de.reader
 
--- an error, as one of the codec's
+-- a number that no error of the codec has, since it is above u32's greatest
+abbrev pub no_number : ℕ
+no_number = 2 ^ 32
+
+-- a typed value's refusal in words, which is none of the codec's
+abbrev pub in_words : List ℕ → Refusal
+in_words text = custom text no_number
+
+-- an error, as one of the codec's; no two are told as one
 abbrev pub as_core : {E : Type 0} → DecodeError E → CoreError E
 as_core (Core error) = error
-as_core (Custom text) = CoreCustom text 0
+as_core (Custom text) = CoreCustom text no_number
 
 -- an answer, as one of the codec's
 abbrev pub answer_of : {V E : Type 0} → Result V (DecodeError E) → Result V (CoreError E)
