@@ -2,3 +2,4 @@
 pub mod Captured
 pub mod Copied
 pub mod Told
+pub mod Unlent

@@ -1,5 +1,5 @@
 -- Items that are kept as a copy of their bytes.
-use Rattle.std.specs.Prelude.{◌≡◌, ℕ, ◌+◌, ◌≤◌, ◌⊎◌, List, Some, Result, Ok, Err}
+use Rattle.std.specs.Prelude.{◌≡◌, ◌≢◌, ℕ, ◌+◌, ◌≤◌, ◌⊎◌, List, [], Some, Result, Ok, Err}
 use Rattle.std.specs.Prelude.{true, false, IsTrue, IfOk, IfErr, OnOk}
 use Rattle.cbor4ii_rw.specs.View.{View, Told}
 use Rattle.cbor4ii_rw.specs.declared.error.DecodeError.{DecodeError}
@@ -9,8 +9,11 @@ use Rattle.cbor4ii_items.specs.Moves.{Moves}
 use Rattle.cbor4ii_items.specs.Refusal.{is_out_of_memory}
 use Rattle.cbor4ii_tree.specs.declared.boxed_raw.BoxedRawValue.{BoxedRawValue}
 use Rattle.cbor4ii_tree.specs.Tree.{Tree}
+use Rattle.cbor4ii_tree.specs.Cost.{Budget}
+use Rattle.cbor4ii_tree.specs.Refusal.{Refusal, require_borrowed}
 use Rattle.cbor4ii_tree.specs.Spelling.{Skips}
-use Rattle.cbor4ii_tree.specs.Raw.{ReadsRaw, StopsRaw, BeginsRaw, Unmoved, RefusesFront}
+use Rattle.cbor4ii_tree.specs.StopsSkipping.{StopsSkipping}
+use Rattle.cbor4ii_tree.specs.Raw.{ReadsRaw, StopsRaw, BeginsRaw, Unmoved, RefusesFront, raw_value}
 use Rattle.cbor4ii_tree.specs.Raw.{TakesItem, StopsAsSkipping, Captured, NotCaptured}
 
 abbrev pub boxed_content : BoxedRawValue → List ℕ
@@ -35,6 +38,12 @@ UnmovedOrLacks old new e = IsTrue (is_out_of_memory e) ⊎ Unmoved old new e
 abbrev pub SkippedTo : View → View → List ℕ → Type 0
 SkippedTo old new xs =
     (t : Tree) × (rest : List ℕ) × Skips xs old.budget t rest × (new.told ≡ Some rest)
+
+-- Over a reader that lends nothing nothing moves: some bytes are left, or none are and skipping
+-- stops there.
+abbrev pub StopsRawUnlent : List ℕ → Budget → Refusal → List ℕ → Type 0
+StopsRawUnlent xs budget e rest = (rest ≡ xs) × (((xs ≢ []) × (e ≡ require_borrowed raw_value)) ⊎
+    ((xs ≡ []) × ((left : List ℕ) × StopsSkipping [] budget e left)))
 
 -- What reading an item as a copy of its bytes promises.
 pub record CopiesItem {E : Type 0} (old new : View)

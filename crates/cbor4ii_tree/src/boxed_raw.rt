@@ -2,23 +2,30 @@
 //!
 //! They are read and refused as `RawValue` is. Where there is no memory for the copy it is
 //! `OutOfMemory`, and the item was taken.
-ghost use Rattle.std.specs.Prelude.{◌≡◌, true, false, IfOk};
+ghost use Rattle.std.specs.Prelude.{◌≡◌, true, false, IfOk, IfErr, IsErr};
 ghost use Rattle.cbor4ii_rw.specs.Segments.{segment_view};
 ghost use Rattle.cbor4ii_rw.specs.Slice.{slice_view};
 ghost use Rattle.cbor4ii_rw.specs.Stream.{stream_view};
+ghost use Rattle.cbor4ii_items.specs.Decoding.{Stops};
 ghost use Rattle.cbor4ii_items.specs.Writing.{WritesWhole};
 ghost use Rattle.cbor4ii_tree.specs.Canonical.{canon, canon_cost, with_bignums};
 ghost use Rattle.cbor4ii_tree.specs.Spelling.{Spells};
 ghost use Rattle.cbor4ii_tree.specs.View.{view};
 ghost use Rattle.cbor4ii_tree.specs.Raw.{ReadsRaw, StopsRaw, BeginsRaw};
-ghost use Rattle.cbor4ii_tree.specs.BoxedRaw.{boxed_content, CapturesCopy, CopiesItem};
+ghost use Rattle.cbor4ii_tree.specs.BoxedRaw.{
+  boxed_content,
+  CapturesCopy,
+  CopiesItem,
+  StopsRawUnlent,
+};
 ghost use Rattle.cbor4ii_tree.specs.Laws.Capturing.{raw_one, raw_within, raw_positive, raw_alone};
 
-use crate::lend_raw::{LendRaw, capture};
+use crate::lend_raw::{LendRaw, capture, skip_lent};
 use crate::raw::RawValue;
 use crate::value::{NoMemory, Value};
 use cbor4ii_items::decode::{Decode, Spelled};
 use cbor4ii_items::encode::Encode;
+use cbor4ii_rw::ask::look;
 use cbor4ii_rw::buf_writer::BufWriter;
 use cbor4ii_rw::error::{DecodeError, EncodeError, Never, TryReserveError};
 use cbor4ii_rw::io_reader::IoReader;
@@ -31,9 +38,10 @@ use std::io::{self, BufRead};
 
 /// One item, as a copy of its bytes.
 ///
-/// It is decoded over a `SliceReader`, a `SegmentReader` and an `IoReader`, of which the last lends
-/// nothing, so that over it only the refusals of `RawValue` come. For a reader of one's own
-/// `take_boxed` does the same.
+/// It is decoded over a `SliceReader`, a `SegmentReader` and an `IoReader`. The last lends nothing,
+/// so that over it nothing is accepted: `RequireBorrowed` by the name "raw-value" where a byte is
+/// left, and where none is the refusal of `IgnoredAny`. For a reader of one's own `take_boxed` does
+/// the same as over the first two.
 #[derive(Debug, Drop, PartialEq, Eq)]
 pub struct BoxedRawValue(Vec<u8>);
 
@@ -147,12 +155,16 @@ impl<B: BufRead> Decode<IoReader<B>> for BoxedRawValue {
         alloc: Global,
         reader: &mut IoReader<B>,
     ) -> Result<BoxedRawValue, DecodeError<io::Error>>
-        ensures { CopiesItem
+        ensures copies { CopiesItem
             (stream_view B.Read.remaining B.BufRead.consumable_len reader.old)
             (stream_view B.Read.remaining B.BufRead.consumable_len reader.new)
             result }
+        ensures refused { IsErr result }
+        ensures unlent { IfErr result (Stops StopsRawUnlent
+            (stream_view B.Read.remaining B.BufRead.consumable_len reader.old)
+            (stream_view B.Read.remaining B.BufRead.consumable_len reader.new)) }
     {
-        take_boxed::<RawValue<'static>, IoReader<B>>(alloc, reader)
+        refuse_unlent(reader)
     }
 
     ghost one = { raw_one boxed_content };
@@ -181,6 +193,31 @@ pub fn take_boxed<T: LendRaw<S>, S: Source>(
     ensures { CopiesItem (S.view reader.old) (S.view reader.new) result }
 {
     copy_captured::<T, S>(alloc, reader)
+}
+
+/// As `take_boxed`, over a reader that lends nothing.
+fn refuse_unlent<S: Source>(reader: &mut S) -> Result<BoxedRawValue, DecodeError<S::Error>>
+    requires unlent { (S.view reader.old).lends_whole ≡ false }
+    ensures copies { CapturesCopy (S.view reader.old) (S.view reader.new) result }
+    ensures refused { IsErr result }
+    ensures unlent { IfErr result
+        (Stops StopsRawUnlent (S.view reader.old) (S.view reader.new)) }
+{
+    let mut failure = None;
+    match look(reader, usize::MAX, &mut failure) {
+        Some([]) => {}
+        Some(_) => return Err(DecodeError::RequireBorrowed { name: "raw-value" }),
+        None => {
+            return match failure {
+                Some(error) => Err(DecodeError::Read(error)),
+                None => unreachable!(),
+            };
+        }
+    }
+    match skip_lent(&[], reader) {
+        Ok(_) => unreachable!(),
+        Err(error) => Err(error),
+    }
 }
 
 /// As `take_boxed`, in one clause.

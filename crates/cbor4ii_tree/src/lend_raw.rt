@@ -125,7 +125,10 @@ pub(crate) fn capture<T: LendRaw<S>, S: Source>(reader: &mut S) -> Result<T, Dec
 }
 
 /// How many of the shown bytes the item at their front has, skipped under the reader's steps.
-fn skip_lent<S: Source>(shown: &[u8], reader: &mut S) -> Result<usize, DecodeError<S::Error>>
+pub(crate) fn skip_lent<S: Source>(
+    shown: &[u8],
+    reader: &mut S,
+) -> Result<usize, DecodeError<S::Error>>
     ensures skips { IfOk result (SkipsFront shown.now (S.view reader.old).budget) }
     ensures stops { IfErr result (StopsFront shown.now (S.view reader.old).budget) }
     ensures stays { KeepsAllButBudget (S.view reader.old) (S.view reader.new) }

@@ -104,7 +104,7 @@ skips_read xs n c budget p fits = record { loose = p.loose; fits = subst (λ j. 
 stops_one : (xs : List ℕ) (budget : Budget) (e f : Refusal) (x y : List ℕ) → StopsSkipping xs budget e x → StopsSkipping xs budget f y → e ≡ f
 stops_one xs budget e f x y p q = ap (λ (z : Refusal × List ℕ). z.0) (same_err (skip budget xs) (e, x) (f, y) (skip_from_Stops xs budget e x p) (skip_from_Stops xs budget f y q))
 
-if_some : (o : Option Refusal) (P Q : Refusal → Type 0) → ((z : Refusal) → P z → Q z) → IfSome o P → IfSome o Q
+pub if_some : (o : Option Refusal) (P Q : Refusal → Type 0) → ((z : Refusal) → P z → Q z) → IfSome o P → IfSome o Q
 if_some None P Q f h = tt
 if_some (Some z) P Q f h = f z h
 
@@ -241,7 +241,7 @@ module _ {V E : Type 0} (content : V → List ℕ) (a b : View) where
 
 -- ---- an empty front
 
-no_bytes : (xs : List ℕ) → length xs ≡ 0 → xs ≡ []
+pub no_bytes : (xs : List ℕ) → length xs ≡ 0 → xs ≡ []
 no_bytes [] none = refl
 no_bytes (x ∷ xs) none = absurd (omega (arith, none))
 
