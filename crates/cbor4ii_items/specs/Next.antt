@@ -24,7 +24,7 @@ ReadsFollows (Some left) xs more n c = (more ≡ nat_lt 0 left) × (n ≡ 0) × 
 ReadsFollows None xs more n c = ReadsBreak xs (not more) n c
 
 -- what is left of the length then: one part fewer, and none behind a break
-abbrev pub left_then : Option ℕ → Bool → Option ℕ
-left_then (Some left) more = Some (left - 1)
-left_then None true = None
-left_then None false = Some 0
+abbrev pub length_left : Option ℕ → Bool → Option ℕ
+length_left (Some left) more = Some (left - 1)
+length_left None true = None
+length_left None false = Some 0

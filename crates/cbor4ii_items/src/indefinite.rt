@@ -13,7 +13,7 @@ ghost use Rattle.std.specs.Prelude.{
 ghost use Rattle.cbor4ii_rw.specs.Reader.{Breaks};
 ghost use Rattle.cbor4ii_items.specs.Decoding.{Sound, Refuses, Stops};
 ghost use Rattle.cbor4ii_items.specs.Moves.{Moves, OnRead};
-ghost use Rattle.cbor4ii_items.specs.Next.{ReadsFollows, left_then};
+ghost use Rattle.cbor4ii_items.specs.Next.{ReadsFollows, length_left};
 ghost use Rattle.cbor4ii_items.specs.Reading.{Runs};
 ghost use Rattle.cbor4ii_items.specs.ReadStrings.{break_at};
 ghost use Rattle.cbor4ii_items.specs.Refusal.{is_out_of_memory};
@@ -63,7 +63,7 @@ pub fn follows<S: Source>(
     ensures unasked { IsSome len.old → S.view reader.new ≡ S.view reader.old }
     ensures sound { IfOk result
         (Sound (ReadsFollows len.old) (S.view reader.old) (S.view reader.new)) }
-    ensures left { IfOk result (λ more. len.new ≡ left_then len.old more) }
+    ensures left { IfOk result (λ more. len.new ≡ length_left len.old more) }
     ensures kept { OnErr result (len.new ≡ len.old) }
     ensures complete { IfErr result (Refuses (ReadsFollows len.old) (S.view reader.old)) }
     ensures stops { IfErr result

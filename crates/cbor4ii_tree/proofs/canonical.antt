@@ -2,3 +2,6 @@
 pub mod Decoding
 pub mod Calls
 pub mod Exactly
+pub mod Lacking
+pub mod AsValue
+pub mod Once

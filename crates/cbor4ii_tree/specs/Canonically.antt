@@ -1,5 +1,5 @@
 -- What reading a value from its canonical spelling promises of the bytes that the reader tells.
-use Rattle.std.specs.Prelude.{◌≡◌, ◌≤◌, ℕ, List, [], ◌++◌, length, take, Some, Result, IfOk, ◌⊎◌}
+use Rattle.std.specs.Prelude.{◌≡◌, ◌≤◌, ℕ, List, ◌++◌, length, take, Some, Result, IfOk, ◌⊎◌}
 use Rattle.cbor4ii_rw.specs.View.{View, Told}
 use Rattle.cbor4ii_rw.specs.declared.error.DecodeError.{DecodeError}
 use Rattle.cbor4ii_items.specs.Decoding.{CostFits, Reads as ReadsOf, StopsAt}
@@ -7,10 +7,11 @@ use Rattle.cbor4ii_items.specs.Refusal.{Refusal, not_canonical}
 use Rattle.cbor4ii_tree.specs.Item.{Item}
 use Rattle.cbor4ii_tree.specs.Cost.{Budget}
 use Rattle.cbor4ii_tree.specs.Canonical.{canon, canon_cost}
-use Rattle.cbor4ii_tree.specs.Refusal.{IsEof, IsDepthOverflow, IsFinal}
+use Rattle.cbor4ii_tree.specs.Refusal.{IsEof, IsDepthOverflow, IsFinal, MayStop}
 use Rattle.cbor4ii_tree.specs.Spelling.{IsProperFront}
 use Rattle.cbor4ii_tree.specs.Strict.{IsDecoded, SpellsStrictly, ReadsStrictly}
-use Rattle.cbor4ii_tree.specs.Strictly.{BeginsOne, Lacks}
+use Rattle.cbor4ii_tree.specs.StopsReading.{StopsReading}
+use Rattle.cbor4ii_tree.specs.StopsStrictly.{StopsStrictly}
 use Rattle.cbor4ii_tree.specs.Promises.{Answered, Refused}
 use Rattle.cbor4ii_tree.specs.View.{view}
 use Rattle.cbor4ii_tree.specs.declared.decode_canonical.Canonical.{Canonical}
@@ -23,9 +24,8 @@ pub record ReadsCanonicalItem (xs : List ℕ) (v : Item) (n c : ℕ) : Type 0 wh
 abbrev pub ReadsCanonical : ReadsOf Canonical
 ReadsCanonical xs v n c = ReadsCanonicalItem xs (view v.0) n c
 
--- what a refusal says of the bytes
 abbrev pub StopsCanonical : StopsAt
-StopsCanonical xs budget e rest = Lacks BeginsOne budget xs e rest
+StopsCanonical xs budget e rest = StopsStrictly xs budget e rest
 
 -- the refusal says that a spelling is not the canonical one
 abbrev pub IsNotCanonical : Refusal → Type 0
@@ -63,11 +63,6 @@ FrontCanonical old answer = Told old.told (λ xs. (v : Item) →
     IsDecoded v → CostFits (canon_cost v) old.budget → IsProperFront xs (canon v) →
     Answered (λ _. ⊥) IsEof answer)
 
--- an end of the input leaves nothing
-abbrev pub EofCanonical : {E : Type 0} → View → View → Result Canonical (DecodeError E) → Type 0
-EofCanonical old new answer =
-    Told old.told (λ xs. Refused (λ e. IsEof e → new.told ≡ Some []) answer)
-
 -- where no step is left, no continuation is accepted under the budget
 abbrev pub DepthCanonical : {E : Type 0} → View → Result Canonical (DecodeError E) → Type 0
 DepthCanonical old answer = Told old.told (λ xs. Refused (λ e. IsDepthOverflow e →
@@ -80,3 +75,20 @@ abbrev pub NeverCanonical : {E : Type 0} → View → Result Canonical (DecodeEr
 NeverCanonical old answer = Told old.told (λ xs.
     Refused (λ e. IsFinal e ⊎ IsNotCanonical e → (more : List ℕ) (other : Budget) (v : Item)
     (after : List ℕ) → ¬ (ReadsStrictly (xs ++ more) other v after)) answer)
+
+-- where such a reading stops, it is refused so, and leaves what is left there
+abbrev pub ExactCanonical : {E : Type 0} → View → View → Result Canonical (DecodeError E) → Type 0
+ExactCanonical old new answer = Told old.told (λ xs. (e : Refusal) (rest : List ℕ) →
+    StopsStrictly xs old.budget e rest →
+    Answered (λ _. ⊥) (λ f. (f ≡ e) × (new.told ≡ Some rest)) answer)
+
+-- no other refusal comes than those of a value, and that a spelling is not the canonical one
+abbrev pub OthersCanonical : {E : Type 0} → View → Result Canonical (DecodeError E) → Type 0
+OthersCanonical old answer =
+    Told old.told (λ xs. Refused (λ e. MayStop e ⊎ IsNotCanonical e) answer)
+
+-- each other refusal than that a spelling is not the canonical one is the one that reading the bytes
+-- as a value gives, and leaves what that leaves
+abbrev pub ValueCanonical : {E : Type 0} → View → View → Result Canonical (DecodeError E) → Type 0
+ValueCanonical old new answer = Told old.told (λ xs. Refused (λ e. ¬ (IsNotCanonical e) →
+    (rest : List ℕ) × (new.told ≡ Some rest) × StopsReading xs old.budget e rest) answer)

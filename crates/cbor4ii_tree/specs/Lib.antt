@@ -12,6 +12,7 @@ pub mod Strict
 pub mod Stops
 pub mod StopsSkipping
 pub mod StopsReading
+pub mod StopsStrictly
 pub mod View
 pub mod ItemEquality
 pub mod Encoding

@@ -101,7 +101,7 @@ FrontReads old answer = Told old.told (λ xs. (spelling : List ℕ) (v : Item) (
 
 -- an end of the input leaves nothing, and comes only on a proper front of an item whose strings
 -- join chunks of their kind
-abbrev pub EofReads : {E : Type 0} → View → View → Result Value (DecodeError E) → Type 0
+abbrev pub EofReads : {V E : Type 0} → View → View → Result V (DecodeError E) → Type 0
 EofReads old new answer = Told old.told (λ xs. Refused (λ e. IsEof e →
     (new.told ≡ Some []) × ((t : Tree) × Loose t × Joins t × IsProperFront xs (bytes t))) answer)
 

@@ -10,9 +10,11 @@ ghost use Rattle.cbor4ii_tree.specs.Canonically.{
   TakesSpelling,
   EverySpelling,
   FrontCanonical,
-  EofCanonical,
   DepthCanonical,
   NeverCanonical,
+  OthersCanonical,
+  ExactCanonical,
+  ValueCanonical,
 };
 ghost use Rattle.cbor4ii_tree.specs.Laws.CanonicalReading.{
   canonical_one,
@@ -21,22 +23,27 @@ ghost use Rattle.cbor4ii_tree.specs.Laws.CanonicalReading.{
   canonical_alone,
 };
 ghost use Rattle.cbor4ii_tree.specs.Does.{DoesUnder};
+ghost use Rattle.cbor4ii_tree.specs.Promises.{EofReads};
+ghost use Rattle.cbor4ii_tree.specs.Refusal.{array_name, map_name};
+ghost use Rattle.cbor4ii_tree.specs.StopsStrictly.{
+  StrictTextStops,
+  StrictArrayStops,
+  StrictMapStops,
+};
 ghost use Rattle.cbor4ii_tree.specs.Strictly.{
-  Lacks,
-  BeginsOne,
-  BeginsBehind,
-  BeginsText,
-  BeginsItems,
-  BeginsCounted,
-  BeginsStepped,
   ReadsExactly,
+  StopsExactly,
   ReadsBehind,
+  StopsBehind,
+  StopsBehindFirst,
+  StopsStepped,
+  TextAt,
   ExactItems,
+  StopsExactItems,
   ExactMember,
+  StopsExactMember,
   ExactMembers,
   AcceptsCount,
-  TextAt,
-  LacksFirst,
 };
 ghost use Rattle.cbor4ii_tree.specs.Valuing.{ReadsStepped, ReadsVec, SimpleOf, IsNoSimple};
 ghost use Rattle.cbor4ii_tree.specs.View.{view};
@@ -47,6 +54,7 @@ use crate::value::{FloatBits, Value};
 use cbor4ii_items::canonical::{canonical_buf, canonical_head};
 use cbor4ii_items::decode::{Decode, Spelled};
 use cbor4ii_items::types::{F16, F32, F64};
+use cbor4ii_items::{major, marker};
 use cbor4ii_rw::error::DecodeError;
 use cbor4ii_rw::read::Source;
 use std::alloc::Global;
@@ -84,8 +92,9 @@ impl Spelled for Canonical {
 ///
 /// `NotCanonical` by the name "canonical" where, before a value is refused, a head that is longer
 /// than needed is whole, the first byte of an indefinite length comes, or `f7`; what follows the
-/// head, or the byte, is left. Else what is refused is refused as `Value` is, by the same names.
-/// `Eof` leaves nothing.
+/// head, or the byte, is left. An array or a map takes its step before its head is looked at. Each
+/// other refusal is the one that `Value` gives there, by the same name and fields, and leaves what
+/// that leaves. `Eof` leaves nothing, and comes only on a proper front of an item.
 impl<S: Source> Decode<S> for Canonical {
     fn decode(alloc: Global, reader: &mut S) -> Result<Canonical, DecodeError<S::Error>>
         ensures moves { Moves (S.view reader.old) (S.view reader.new) result }
@@ -101,9 +110,12 @@ impl<S: Source> Decode<S> for Canonical {
         ensures spelling { TakesSpelling (S.view reader.old) (S.view reader.new) result }
         ensures every { EverySpelling (S.view reader.old) (S.view reader.new) result }
         ensures front { FrontCanonical (S.view reader.old) result }
-        ensures eof { EofCanonical (S.view reader.old) (S.view reader.new) result }
+        ensures eof { EofReads (S.view reader.old) (S.view reader.new) result }
         ensures depth { DepthCanonical (S.view reader.old) result }
         ensures never { NeverCanonical (S.view reader.old) result }
+        ensures others { OthersCanonical (S.view reader.old) result }
+        ensures exact { ExactCanonical (S.view reader.old) (S.view reader.new) result }
+        ensures value { ValueCanonical (S.view reader.old) (S.view reader.new) result }
     {
         Ok(Canonical(read_one(alloc, reader)?))
     }
@@ -120,7 +132,7 @@ impl<S: Source> Decode<S> for Canonical {
 /// Reads one value.
 #[cycle(strict)]
 fn read_one<S: Source>(alloc: Global, reader: &mut S) -> Result<Value, DecodeError<S::Error>>
-    ensures does { DoesUnder ReadsExactly (Lacks BeginsOne)
+    ensures does { DoesUnder ReadsExactly StopsExactly
         (S.view reader.old) (S.view reader.new) result }
     ensures progress { OnOk result ((S.view reader.new).bound + 1 ≤ (S.view reader.old).bound) }
 {
@@ -135,19 +147,19 @@ fn read_one<S: Source>(alloc: Global, reader: &mut S) -> Result<Value, DecodeErr
 /// Reads one value whose step was taken.
 #[cycle(strict)]
 fn read_inside<S: Source>(alloc: Global, reader: &mut S) -> Result<Value, DecodeError<S::Error>>
-    ensures does { DoesUnder ReadsBehind (Lacks BeginsBehind)
+    ensures does { DoesUnder ReadsBehind StopsBehind
         (S.view reader.old) (S.view reader.new) result }
     ensures progress { OnOk result ((S.view reader.new).bound + 1 ≤ (S.view reader.old).bound) }
 {
     let first = peek(&mut Own, reader, "value", 1)?;
-    if first == 0xf7 {
+    if first == marker::UNDEFINED {
         reader.advance(1);
         return Err(DecodeError::NotCanonical { name: "canonical" });
     }
     match first / 32 {
-        4 => Ok(Value::Array(read_array(alloc, reader)?)),
-        5 => Ok(Value::Map(read_map(alloc, reader)?)),
-        6 => {
+        major::ARRAY => Ok(Value::Array(read_array(alloc, reader)?)),
+        major::MAP => Ok(Value::Map(read_map(alloc, reader)?)),
+        major::TAG => {
             let number = canonical_head("tag", 6, reader)?;
             let inner = read_one(alloc, reader)?;
             match Box::new(alloc, inner) {
@@ -155,7 +167,7 @@ fn read_inside<S: Source>(alloc: Global, reader: &mut S) -> Result<Value, Decode
                 Err(_) => Err(DecodeError::OutOfMemory),
             }
         }
-        7 => match simple_of(first) {
+        major::SIMPLE => match simple_of(first) {
             Some(value) => {
                 reader.advance(1);
                 Ok(value)
@@ -174,17 +186,17 @@ fn read_leaf<S: Source>(
     first: u8,
 ) -> Result<Value, DecodeError<S::Error>>
     requires major { first / 32 ≤ 3 }
-    ensures does { DoesUnder ReadsBehind (LacksFirst first)
+    ensures does { DoesUnder ReadsBehind (StopsBehindFirst first)
         (S.view reader.old) (S.view reader.new) result }
     ensures progress { OnOk result ((S.view reader.new).bound + 1 ≤ (S.view reader.old).bound) }
 {
     match first / 32 {
-        0 => Ok(Value::Integer(canonical_head("u64", 0, reader)? as i128)),
-        1 => {
+        major::UNSIGNED => Ok(Value::Integer(canonical_head("u64", 0, reader)? as i128)),
+        major::NEGATIVE => {
             let number = canonical_head("-u64", 1, reader)?;
             Ok(Value::Integer(-1 - number as i128))
         }
-        2 => Ok(Value::Bytes(canonical_buf(alloc, "bytes", 2, reader)?)),
+        major::BYTES => Ok(Value::Bytes(canonical_buf(alloc, "bytes", 2, reader)?)),
         _ => Ok(Value::Text(read_text(alloc, reader)?)),
     }
 }
@@ -195,9 +207,9 @@ fn simple_of(first: u8) -> Option<Value>
     ensures { SimpleOf first result }
 {
     match first {
-        0xf4 => Some(Value::Bool(false)),
-        0xf5 => Some(Value::Bool(true)),
-        0xf6 => Some(Value::Null),
+        marker::FALSE => Some(Value::Bool(false)),
+        marker::TRUE => Some(Value::Bool(true)),
+        marker::NULL => Some(Value::Null),
         _ => None,
     }
 }
@@ -210,14 +222,14 @@ fn read_float<S: Source>(
 ) -> Result<Value, DecodeError<S::Error>>
     requires major { 224 ≤ first }
     requires other { IsNoSimple first }
-    ensures does { DoesUnder ReadsBehind (LacksFirst first)
+    ensures does { DoesUnder ReadsBehind (StopsBehindFirst first)
         (S.view reader.old) (S.view reader.new) result }
     ensures progress { OnOk result ((S.view reader.new).bound + 1 ≤ (S.view reader.old).bound) }
 {
     match first {
-        0xf9 => Ok(Value::Float(FloatBits::F16(F16::decode(alloc, reader)?.0))),
-        0xfa => Ok(Value::Float(FloatBits::F32(F32::decode(alloc, reader)?.0))),
-        0xfb => Ok(Value::Float(FloatBits::F64(F64::decode(alloc, reader)?.0))),
+        marker::F16 => Ok(Value::Float(FloatBits::F16(F16::decode(alloc, reader)?.0))),
+        marker::F32 => Ok(Value::Float(FloatBits::F32(F32::decode(alloc, reader)?.0))),
+        marker::F64 => Ok(Value::Float(FloatBits::F64(F64::decode(alloc, reader)?.0))),
         _ => Err(DecodeError::Unsupported {
             name: "value",
             found: first,
@@ -227,7 +239,7 @@ fn read_float<S: Source>(
 
 /// Reads a text.
 fn read_text<S: Source>(alloc: Global, reader: &mut S) -> Result<String, DecodeError<S::Error>>
-    ensures does { DoesUnder TextAt (Lacks BeginsText)
+    ensures does { DoesUnder TextAt StrictTextStops
         (S.view reader.old) (S.view reader.new) result }
     ensures progress { OnOk result ((S.view reader.new).bound + 1 ≤ (S.view reader.old).bound) }
 {
@@ -241,7 +253,7 @@ fn read_text<S: Source>(alloc: Global, reader: &mut S) -> Result<String, DecodeE
 #[cycle(strict)]
 fn read_array<S: Source>(alloc: Global, reader: &mut S) -> Result<Vec<Value>, DecodeError<S::Error>>
     ensures does { DoesUnder (ReadsStepped (ReadsVec (AcceptsCount 4 ExactItems)))
-        (Lacks (BeginsStepped (BeginsCounted 4 1)))
+        (StopsStepped array_name (StrictArrayStops StopsExactly))
         (S.view reader.old) (S.view reader.new) result }
     ensures progress { OnOk result ((S.view reader.new).bound + 1 ≤ (S.view reader.old).bound) }
 {
@@ -258,7 +270,7 @@ fn array_inside<S: Source>(
     alloc: Global,
     reader: &mut S,
 ) -> Result<Vec<Value>, DecodeError<S::Error>>
-    ensures does { DoesUnder (ReadsVec (AcceptsCount 4 ExactItems)) (Lacks (BeginsCounted 4 1))
+    ensures does { DoesUnder (ReadsVec (AcceptsCount 4 ExactItems)) (StrictArrayStops StopsExactly)
         (S.view reader.old) (S.view reader.new) result }
     ensures progress { OnOk result ((S.view reader.new).bound + 1 ≤ (S.view reader.old).bound) }
 {
@@ -272,7 +284,7 @@ fn counted_items<S: Source>(
     reader: &mut S,
     count: usize,
 ) -> Result<Vec<Value>, DecodeError<S::Error>>
-    ensures { DoesUnder (ReadsVec (ExactItems count)) (Lacks (BeginsItems count))
+    ensures { DoesUnder (ReadsVec (ExactItems count)) (StopsExactItems count)
         (S.view reader.old) (S.view reader.new) result }
 {
     let mut items = Vec::new(alloc);
@@ -295,7 +307,7 @@ fn read_map<S: Source>(
     reader: &mut S,
 ) -> Result<Vec<(Value, Value)>, DecodeError<S::Error>>
     ensures does { DoesUnder (ReadsStepped (ReadsVec (AcceptsCount 5 ExactMembers)))
-        (Lacks (BeginsStepped (BeginsCounted 5 2)))
+        (StopsStepped map_name (StrictMapStops StopsExactly))
         (S.view reader.old) (S.view reader.new) result }
     ensures progress { OnOk result ((S.view reader.new).bound + 1 ≤ (S.view reader.old).bound) }
 {
@@ -312,7 +324,7 @@ fn map_inside<S: Source>(
     alloc: Global,
     reader: &mut S,
 ) -> Result<Vec<(Value, Value)>, DecodeError<S::Error>>
-    ensures does { DoesUnder (ReadsVec (AcceptsCount 5 ExactMembers)) (Lacks (BeginsCounted 5 2))
+    ensures does { DoesUnder (ReadsVec (AcceptsCount 5 ExactMembers)) (StrictMapStops StopsExactly)
         (S.view reader.old) (S.view reader.new) result }
     ensures progress { OnOk result ((S.view reader.new).bound + 1 ≤ (S.view reader.old).bound) }
 {
@@ -326,7 +338,7 @@ fn counted_members<S: Source>(
     reader: &mut S,
     count: usize,
 ) -> Result<Vec<(Value, Value)>, DecodeError<S::Error>>
-    ensures { DoesUnder (ReadsVec (ExactMembers count)) (Lacks (BeginsItems (2 * count)))
+    ensures { DoesUnder (ReadsVec (ExactMembers count)) (StopsExactItems (2 * count))
         (S.view reader.old) (S.view reader.new) result }
 {
     let mut members = Vec::new(alloc);
@@ -348,7 +360,7 @@ fn read_member<S: Source>(
     alloc: Global,
     reader: &mut S,
 ) -> Result<(Value, Value), DecodeError<S::Error>>
-    ensures does { DoesUnder ExactMember (Lacks (BeginsItems 2))
+    ensures does { DoesUnder ExactMember StopsExactMember
         (S.view reader.old) (S.view reader.new) result }
     ensures progress { OnOk result ((S.view reader.new).bound + 1 ≤ (S.view reader.old).bound) }
 {

@@ -21,6 +21,7 @@ ghost use Rattle.cbor4ii_tree.specs.Spelling.{
 ghost use Rattle.cbor4ii_tree.specs.Strict.{Strict, IsDecoded, SpellsStrictly, ReadsStrictly};
 ghost use Rattle.cbor4ii_tree.specs.StopsSkipping.{StopsSkipping, SkippingStopsByParts};
 ghost use Rattle.cbor4ii_tree.specs.StopsReading.{StopsReading, ReadingStopsByParts};
+ghost use Rattle.cbor4ii_tree.specs.StopsStrictly.{StopsStrictly, StrictStopsByParts};
 ghost use Rattle.cbor4ii_tree.specs.Skip.{skip};
 ghost use Rattle.cbor4ii_tree.specs.Read.{read};
 ghost use Rattle.cbor4ii_tree.specs.View.{view};
@@ -99,13 +100,15 @@ pub fn reading_has_one_answer()
         IsBytes input → read budget input ≡ Err (e, rest) → StopsReading input budget e rest }
 {}
 
-/// Where skipping or reading stops goes by where it stops in the parts of the item, however deep
-/// these nest.
+/// Where skipping or reading stops, a value or its canonical spelling alone, goes by where it stops
+/// in the parts of the item, however deep these nest.
 pub fn stops_go_by_parts()
     ensures skipping { (input : List ℕ) (budget : Budget) (e : Refusal) (rest : List ℕ) →
         StopsSkipping input budget e rest ↔ SkippingStopsByParts input budget e rest }
     ensures reading { (input : List ℕ) (budget : Budget) (e : Refusal) (rest : List ℕ) →
         StopsReading input budget e rest ↔ ReadingStopsByParts input budget e rest }
+    ensures canonical { (input : List ℕ) (budget : Budget) (e : Refusal) (rest : List ℕ) →
+        StopsStrictly input budget e rest ↔ StrictStopsByParts input budget e rest }
 {}
 
 /// What a refusal of skipping says of bytes that may still come: `Eof` stands on every proper front

@@ -1,7 +1,7 @@
 -- The bound on how deep items nest takes nothing away: a stop goes by the stops of the parts, however deep these go.
-use Rattle.std.proofs.Common.{◌≡◌, ℕ, zero, suc, ◌*◌, ◌<◌, ◌≤◌, ◌⊎◌, inl, inr, ◌↔◌, List, [], ◌∷◌, ◌++◌, length, Option, Some, None, ap, arith, length-append}
+use Rattle.std.proofs.Common.{◌≡◌, ℕ, zero, suc, ◌*◌, ◌<◌, ◌≤◌, ◌⊎◌, inl, inr, ◌↔◌, ◌/◌, List, [], ◌∷◌, ◌++◌, length, Option, Some, None, ap, arith, length-append}
 use Rattle.std.specs.Int.{bytes_high_first}
-use Rattle.cbor4ii_items.specs.Head.{Width, byte_count}
+use Rattle.cbor4ii_items.specs.Head.{Width, byte_count, head, shortest}
 use Rattle.cbor4ii_items.specs.Initial.{Initial, starts_chunks, starts_array, starts_open_array, starts_map, starts_open_map, starts_tag, initial}
 use Rattle.cbor4ii_tree.specs.Tree.{Tree, bytes, bytes_all, bytes_pairs}
 use Rattle.cbor4ii_tree.specs.Cost.{Budget, step_in}
@@ -9,6 +9,7 @@ use Rattle.cbor4ii_tree.specs.Refusal.{Refusal, ignored_any, tag_name, array_nam
 use Rattle.cbor4ii_tree.specs.Stops.{Stopping, AtHead, Stepped, StopsInCount, NoBreak, OpenItems, BehindKey, OpenPairs}
 use Rattle.cbor4ii_tree.specs.StopsSkipping.{Skippable, SkippingStopsBy, SkippingStopsFrom, SkippingStopsWithin, StopsSkipping, SkippingStopsByParts}
 use Rattle.cbor4ii_tree.specs.StopsReading.{Readable, ReadingStopsBy, ReadingStopsFrom, ReadingStopsWithin, StopsReading, ReadingStopsByParts}
+use Rattle.cbor4ii_tree.specs.StopsStrictly.{Exactly, AtShortest, StrictArrayStops, StrictMapStops, StrictStopsBy, StrictStopsFrom, StrictStopsWithin, StopsStrictly, StrictStopsByParts}
 
 -- of inputs below so many bytes
 abbrev Below : ℕ → Stopping → Stopping → Type 0
@@ -118,4 +119,45 @@ reading_by_parts input budget e rest =
           (λ inner. read_from_below n inner (ReadingStopsWithin n) free (λ c bs e' rest' lt. read_within (suc (length bs)) n (suc (length bs)) c (omega arith) (omega arith) bs e' rest' (omega arith)) input e rest (omega arith)),
       stepped_by value_name (step_in budget) input (λ inner. ReadingStopsFrom free inner input) (λ inner. ReadingStopsFrom (ReadingStopsWithin n) inner input) e rest
           (λ inner. read_from_below n inner free (ReadingStopsWithin n) (λ c bs e' rest' lt. read_within (suc (length bs)) (suc (length bs)) n c (omega arith) (omega arith) bs e' rest' (omega arith)) input e rest (omega arith)),
+    )
+
+-- ---- reading a canonical spelling
+
+at_shortest_below : (k : ℕ) (name : List ℕ) (major : ℕ) (b : Budget) (s t : ℕ → Stopping) → ((n : ℕ) → Below k (s n) (t n)) → Below (suc k) (AtShortest name major b s) (AtShortest name major b t)
+at_shortest_below k name major b s t f bs e rest lt (inl x) = inl x
+at_shortest_below k name major b s t f bs e rest lt (inr x) =
+    let n = x.argument in
+    let less : length x.after < k = omega (arith, ap length x.is.1, length-append (head major n (shortest n)) x.after) in
+    inr (record { argument = n; after = x.after; is = x.is; stopped = f n x.after e rest less x.stopped })
+
+strict_by_below : (k : ℕ) (b : Budget) (s t : Budget → Stopping) → ((c : Budget) → Below k (s c) (t c)) → (major : ℕ) (a : ℕ) → Below k (StrictStopsBy s b major a) (StrictStopsBy t b major a)
+strict_by_below k b s t f (suc (suc (suc (suc zero)))) a bs e rest lt x =
+    stepped_by array_name (step_in b) (a ∷ bs) (λ inner. StrictArrayStops s inner (a ∷ bs)) (λ inner. StrictArrayStops t inner (a ∷ bs)) e rest
+    (λ inner. at_shortest_below k array_name 4 inner (StopsInCount (Exactly inner) (s inner)) (StopsInCount (Exactly inner) (t inner)) (λ n. counted_below k (Exactly inner) (s inner) (t inner) n (f inner)) (a ∷ bs) e rest (omega arith)) x
+strict_by_below k b s t f (suc (suc (suc (suc (suc zero))))) a bs e rest lt x =
+    stepped_by map_name (step_in b) (a ∷ bs) (λ inner. StrictMapStops s inner (a ∷ bs)) (λ inner. StrictMapStops t inner (a ∷ bs)) e rest
+    (λ inner. at_shortest_below k map_name 5 inner (λ n. StopsInCount (Exactly inner) (s inner) (2 * n)) (λ n. StopsInCount (Exactly inner) (t inner) (2 * n)) (λ n. counted_below k (Exactly inner) (s inner) (t inner) (2 * n) (f inner)) (a ∷ bs) e rest (omega arith)) x
+strict_by_below k b s t f (suc (suc (suc (suc (suc (suc zero)))))) a bs e rest lt x = at_shortest_below k tag_name 6 b (λ n. s b) (λ n. t b) (λ n. f b) (a ∷ bs) e rest (omega arith) x
+strict_by_below k b s t f _ a bs e rest lt x = x
+
+strict_from_below : (k : ℕ) (b : Budget) (s t : Budget → Stopping) → ((c : Budget) → Below k (s c) (t c)) → Below (suc k) (StrictStopsFrom s b) (StrictStopsFrom t b)
+strict_from_below k b s t f [] e rest lt x = x
+strict_from_below k b s t f (a ∷ bs) e rest lt x = strict_by_below k b s t f (a / 32) a bs e rest (omega arith) x
+
+strict_within : (k n m : ℕ) (b : Budget) → k ≤ n → k ≤ m → Below k (StrictStopsWithin n b) (StrictStopsWithin m b)
+strict_within zero n m b p q bs e rest lt x = absurd (omega arith)
+strict_within (suc k) zero m b p q bs e rest lt x = absurd x
+strict_within (suc k) (suc n) zero b p q bs e rest lt x = absurd (omega arith)
+strict_within (suc k) (suc n) (suc m) b p q bs e rest lt x =
+    stepped_by value_name (step_in b) bs (λ inner. StrictStopsFrom (StrictStopsWithin n) inner bs) (λ inner. StrictStopsFrom (StrictStopsWithin m) inner bs) e rest
+    (λ inner. strict_from_below k inner (StrictStopsWithin n) (StrictStopsWithin m) (λ c. strict_within k n m c (omega arith) (omega arith)) bs e rest lt) x
+
+pub strict_by_parts : (input : List ℕ) (budget : Budget) (e : Refusal) (rest : List ℕ) → StopsStrictly input budget e rest ↔ StrictStopsByParts input budget e rest
+strict_by_parts input budget e rest =
+    let n : ℕ = length input in
+    let free : Budget → Stopping = λ c bs. StopsStrictly bs c in (
+      stepped_by value_name (step_in budget) input (λ inner. StrictStopsFrom (StrictStopsWithin n) inner input) (λ inner. StrictStopsFrom free inner input) e rest
+          (λ inner. strict_from_below n inner (StrictStopsWithin n) free (λ c bs e' rest' lt. strict_within (suc (length bs)) n (suc (length bs)) c (omega arith) (omega arith) bs e' rest' (omega arith)) input e rest (omega arith)),
+      stepped_by value_name (step_in budget) input (λ inner. StrictStopsFrom free inner input) (λ inner. StrictStopsFrom (StrictStopsWithin n) inner input) e rest
+          (λ inner. strict_from_below n inner free (StrictStopsWithin n) (λ c bs e' rest' lt. strict_within (suc (length bs)) (suc (length bs)) n c (omega arith) (omega arith) bs e' rest' (omega arith)) input e rest (omega arith)),
     )

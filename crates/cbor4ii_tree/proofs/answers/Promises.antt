@@ -35,7 +35,7 @@ use Rattle.cbor4ii_tree.proofs.reading.Widen.{reading_persists}
 
 -- ---- what a refusal says
 
-if_some : (o : Option Refusal) (P Q : Refusal → Type 0) → ((z : Refusal) → o ≡ Some z → P z → Q z) → IfSome o P → IfSome o Q
+pub if_some : (o : Option Refusal) (P Q : Refusal → Type 0) → ((z : Refusal) → o ≡ Some z → P z → Q z) → IfSome o P → IfSome o Q
 if_some None P Q f p = tt
 if_some (Some z) P Q f p = f z refl p
 
@@ -59,7 +59,7 @@ taken_bytes xs n new left none h =
     let all : take n xs ≡ xs = sym (append-nil (take n xs)) ∙ ap (λ z. take n xs ++ z) (sym gone) ∙ take-append-drop n xs in
     subst IsBytes all h
 
-all_bytes : {V E : Type 0} (a b : View) (e : DecodeError E) (z : Refusal) (xs : List ℕ) → refusal_of e ≡ Some z → Moves {V = V} a b (Err e) → a.told ≡ Some xs → b.told ≡ Some [] → IsBytes xs
+pub all_bytes : {V E : Type 0} (a b : View) (e : DecodeError E) (z : Refusal) (xs : List ℕ) → refusal_of e ≡ Some z → Moves {V = V} a b (Err e) → a.told ≡ Some xs → b.told ≡ Some [] → IsBytes xs
 all_bytes a b e z xs says moves told none =
     let kept : Kept a b = subst (λ r. MatchBool r (Broke a b) (Kept a b)) (not_read e z says) moves.by in
     let took = kept.rest xs told in
@@ -132,7 +132,7 @@ as_reads budget xs v ys r = record { spelling = bytes r.0; steps = cost r.0; spe
 reading_eof_alone : (xs back : List ℕ) (budget : Budget) (w : Item) (z : Refusal) (ys : List ℕ) → Reads (xs ++ back) budget w [] → StopsReading xs budget z ys → IsEof z
 reading_eof_alone xs back budget w z ys r s = elim (reading_may_stop xs budget z ys s) [ inl q ↦ q | inr q ↦ absurd (reading.refused xs back budget w z ys (no_eof z q) r s) ]
 
-reading_eof_front : (xs : List ℕ) (budget : Budget) (z : Refusal) (ys : List ℕ) → IsEof z → IsBytes xs → StopsReading xs budget z ys → (t : Tree) × Loose t × Joins t × IsProperFront xs (bytes t)
+pub reading_eof_front : (xs : List ℕ) (budget : Budget) (z : Refusal) (ys : List ℕ) → IsEof z → IsBytes xs → StopsReading xs budget z ys → (t : Tree) × Loose t × Joins t × IsProperFront xs (bytes t)
 reading_eof_front xs budget (eof name expect) ys h bs s = let f = reading.eof_on_front xs budget name expect ys bs s in (f.0, f.1, f.2, f.4)
 reading_eof_front xs budget _ ys h bs s = absurd h
 

@@ -1,5 +1,6 @@
--- Values that are spelled in one way: what begins bytes, and what a refusal says of them.
-use Rattle.std.proofs.Common.{◌≡◌, ℕ, zero, suc, ◌+◌, ◌-◌, ◌*◌, ◌/◌, ◌^◌, ◌<◌, ◌≤◌, inl, inr, List, [], ◌∷◌, ◌++◌, length, Some, None, refl, sym, ap, ◌∙◌, subst, arith, append_assoc, append-nil}
+-- Values that are spelled in one way: what begins bytes, and what is known where nothing of this sort does.
+use Rattle.std.proofs.Common.{◌≡◌, ◌≢◌, ℕ, zero, suc, ◌+◌, ◌-◌, ◌*◌, ◌/◌, ◌^◌, ◌<◌, ◌≤◌, ◌⊎◌, inl, inr, List, [], ◌∷◌, ◌++◌, length, Some, None, refl, sym, ap, ◌∙◌, subst, arith, append_assoc, append-nil}
+use Rattle.std.specs.Prelude.{IsUtf8}
 use Rattle.std.proofs.lemmas.List.{append_cancel_left}
 use Rattle.std.specs.Int.{bytes_high_first}
 use Rattle.cbor4ii_items.specs.Head.{Width, in_first, one, two, four, eight, byte_count, HeadFits, additional, head, shortest}
@@ -11,14 +12,63 @@ use Rattle.cbor4ii_tree.specs.Tree.{Tree, int, string, chunked, array, array_ope
 use Rattle.cbor4ii_tree.specs.Cost.{Budget, step_in, cost, greatest_cost, greatest_pair_cost}
 use Rattle.cbor4ii_tree.specs.Laws.Budgets.{fits_zero, fits_less, fits_max}
 use Rattle.cbor4ii_tree.specs.Refusal.{Refusal, eof, depth_overflow}
-use Rattle.cbor4ii_tree.specs.Stops.{Each, EachPair}
+use Rattle.cbor4ii_tree.specs.Stops.{Stopping, Each, EachPair}
 use Rattle.cbor4ii_tree.specs.Strict.{Strict, StrictAll, StrictPairs, CanonicalTree}
-use Rattle.cbor4ii_tree.specs.Strictly.{Beginning, Lacks, raise, Exactly, BeginsOne, BeginsBehind, ShortestAt, BeginsHead, BeginsString, BeginsText, BeginsItems, BeginsCounted, BeginsStepped, BeginsTag, BeginsOther}
+use Rattle.cbor4ii_tree.specs.StopsStrictly.{Exactly, ShortestAt}
+use Rattle.cbor4ii_tree.specs.Strictly.{raise, StringAt}
 use Rattle.cbor4ii_tree.specs.Laws.Numbers.{additional-lt}
 use Rattle.cbor4ii_tree.specs.Laws.Ignoring.{one_spelling}
 use Rattle.cbor4ii_tree.proofs.spellings.Canonical.{shortest_fits}
 use Rattle.cbor4ii_tree.proofs.spellings.Costs.{below_from_HeadFits}
 use Rattle.cbor4ii_tree.proofs.parts.Pushed.{flat, count-flat, each-flat, bytes-flat}
+
+-- ---- what may begin bytes under a budget
+
+abbrev pub Beginning : Type 1
+Beginning = Budget → List ℕ → Type 0
+
+-- What a refusal says where something should come: at an end of the input, that it does not stand
+-- there, and nothing is left; where no step is left, that no continuation fits the budget; and else
+-- that it begins no continuation under any budget.
+abbrev pub Lacks : Beginning → Budget → Stopping
+Lacks Begins budget xs (eof name expect) rest = (rest ≡ []) × ¬ (Begins budget xs)
+Lacks Begins budget xs (depth_overflow name) rest = (more : List ℕ) → ¬ (Begins budget (xs ++ more))
+Lacks Begins budget xs _ rest = (more : List ℕ) → ¬ (Begins None (xs ++ more))
+
+abbrev pub BeginsOne : Beginning
+BeginsOne budget xs = (t : Tree) × (ys : List ℕ) × Exactly budget t × (xs ≡ bytes t ++ ys)
+
+-- where its step was taken
+abbrev pub BeginsBehind : Beginning
+BeginsBehind inner xs = BeginsOne (raise inner) xs
+
+abbrev pub BeginsHead : ℕ → Beginning
+BeginsHead major budget xs = (n : ℕ) × (ys : List ℕ) × ShortestAt major n xs ys
+
+abbrev pub BeginsString : ℕ → Beginning
+BeginsString major budget xs = (content : List ℕ) × (ys : List ℕ) × StringAt major content xs ys
+
+abbrev pub BeginsText : Beginning
+BeginsText budget xs = (content : List ℕ) × (ys : List ℕ) × IsUtf8 content × StringAt 3 content xs ys
+
+abbrev pub BeginsItems : ℕ → Beginning
+BeginsItems n budget xs = (ts : Trees) × (ys : List ℕ) × (count ts ≡ n) × Each (Exactly budget) ts × (xs ≡ bytes_all ts ++ ys)
+
+-- a head that counts items, or pairs, which are two values each
+abbrev pub BeginsCounted : ℕ → ℕ → Beginning
+BeginsCounted major each budget xs = (n : ℕ) × (between : List ℕ) × ShortestAt major n xs between × BeginsItems (each * n) budget between
+
+-- behind one more step
+abbrev pub BeginsStepped : Beginning → Beginning
+BeginsStepped Begins budget xs = (inner : Budget) × (budget ≡ raise inner) × Begins inner xs
+
+abbrev pub BeginsTag : Beginning
+BeginsTag budget xs = (n : ℕ) × (between : List ℕ) × ShortestAt 6 n xs between × BeginsOne budget between
+
+abbrev pub BeginsOther : Beginning
+BeginsOther budget xs =
+    ((s : Simple) × (ys : List ℕ) × (s ≢ simple_undefined) × (xs ≡ simple_byte s ∷ ys))
+    ⊎ ((p : Precision) × (n : ℕ) × (ys : List ℕ) × (n < 256 ^ precision_bytes p) × (xs ≡ precision_byte p ∷ (bytes_high_first (precision_bytes p) n ++ ys)))
 
 -- ---- budgets
 
@@ -76,6 +126,18 @@ pub lacks_one : (inner : Budget) (xs : List ℕ) (e : Refusal) (rest : List ℕ)
 lacks_one inner xs (eof name n) rest h = h
 lacks_one inner xs (depth_overflow name) rest h = h
 lacks_one inner xs _ rest h = h
+
+-- what does not stand there under a budget
+pub lacks_none : (B : Beginning) (budget : Budget) (xs : List ℕ) (e : Refusal) (rest : List ℕ) → (B budget xs → B None xs) → Lacks B budget xs e rest → ¬ (B budget xs)
+lacks_none B budget xs (eof name n) rest f h = h.1
+lacks_none B budget xs (depth_overflow name) rest f h = λ c. h [] (subst (B budget) (sym (append-nil xs)) c)
+lacks_none B budget xs _ rest f h = λ c. h [] (subst (B None) (sym (append-nil xs)) (f c))
+
+pub unbounded : (budget : Budget) (xs : List ℕ) → BeginsOne budget xs → BeginsOne None xs
+unbounded budget xs c = (c.0, c.1, (c.2.0, tt), c.3)
+
+pub none_begins : (budget : Budget) (xs : List ℕ) (e : Refusal) (rest : List ℕ) → Lacks BeginsOne budget xs e rest → ¬ (BeginsOne budget xs)
+none_begins budget xs e rest h = lacks_none BeginsOne budget xs e rest (unbounded budget xs) h
 
 cost_some : (t : Tree) → Strict t → 1 ≤ cost t
 cost_some (chunked k ts) h = absurd h
@@ -146,17 +208,6 @@ one_of b (tree t ts) ys zs le h e = (t, bytes_all ts ++ zs, h.0, e ∙ append_as
 
 pub one_of_items : (n : ℕ) (b : Budget) (ys : List ℕ) → 1 ≤ n → BeginsItems n b ys → BeginsOne b ys
 one_of_items n b ys le c = let counted = c.2 in one_of b c.0 ys c.1 (omega (arith, counted, le)) c.3 c.4
-
-two_of : (b : Budget) (ts : Trees) (ys zs : List ℕ) → 2 ≤ count ts → Each (Exactly b) ts → ys ≡ bytes_all ts ++ zs → BeginsItems 2 b ys
-two_of b no_trees ys zs le h e = absurd (omega (arith, le))
-two_of b (tree t no_trees) ys zs le h e = absurd (omega (arith, le))
-two_of b (tree t (tree u us)) ys zs le h e = (tree t (tree u no_trees), bytes_all us ++ zs, refl, (h.0, (h.1.0, tt)), e ∙ pulled (bytes t) (bytes u) (bytes_all us) zs)
-  where
-    pulled : (a b c z : List ℕ) → (a ++ (b ++ c)) ++ z ≡ (a ++ (b ++ [])) ++ (c ++ z)
-    pulled a b c z = simp (append_assoc, append-nil)
-
-pub two_of_items : (n : ℕ) (b : Budget) (ys : List ℕ) → 2 ≤ n → BeginsItems n b ys → BeginsItems 2 b ys
-two_of_items n b ys le c = let counted = c.2 in two_of b c.0 ys c.1 (omega (arith, counted, le)) c.3 c.4
 
 -- ---- lists of canonical trees, each by itself or all together
 

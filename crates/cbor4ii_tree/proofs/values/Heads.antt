@@ -29,7 +29,7 @@ use Rattle.cbor4ii_tree.specs.Item.{integer, float, tag}
 use Rattle.cbor4ii_tree.specs.Cost.{Budget, cost}
 use Rattle.cbor4ii_tree.specs.Laws.Binds.{step_up}
 use Rattle.cbor4ii_tree.specs.Laws.Budgets.{fits_zero}
-use Rattle.cbor4ii_tree.specs.Stops.{Stopping}
+use Rattle.cbor4ii_tree.specs.Stops.{Stopping, MissingAll}
 use Rattle.cbor4ii_tree.specs.StopsReading.{ReadingStopsBy, StopsReading}
 use Rattle.cbor4ii_tree.specs.View.{view}
 use Rattle.cbor4ii_tree.specs.Does.{Accepting, Does}
@@ -119,20 +119,20 @@ missing_bits half name = refl
 missing_bits single name = refl
 missing_bits double name = refl
 
-float_stops : (inner : Budget) (p : Precision) (b : ℕ) (bs : List ℕ) (e : Refusal) (rest : List ℕ) (budget : Budget) → b ≡ precision_byte p → StopsFloat (precision_name p) (precision_byte p) (precision_bytes p) (b ∷ bs) budget e rest → StopsUnder inner (b ∷ bs) e rest
-float_stops inner p b bs e rest budget is (inl h) = absurd (h.0 is)
-float_stops inner p b bs e rest budget is (inr h) =
+pub float_cut : (p : Precision) (b : ℕ) (bs : List ℕ) (e : Refusal) (rest : List ℕ) (budget : Budget) → b ≡ precision_byte p → StopsFloat (precision_name p) (precision_byte p) (precision_bytes p) (b ∷ bs) budget e rest → MissingAll (precision_name p) (precision_bytes p) bs e rest
+float_cut p b bs e rest budget is (inl h) = absurd (h.0 is)
+float_cut p b bs e rest budget is (inr h) =
     let i = h.is in
     let same : h.behind ≡ bs = cc in
-    at_row inner (starts_bits p) b bs e rest (ap initial is ∙ initial_bits p) (subst (λ z. length z < precision_bytes p) same h.short, (h.answer ∙ missing_bits p (precision_name p), h.left))
+    (subst (λ z. length z < precision_bytes p) same h.short, (h.answer ∙ missing_bits p (precision_name p), h.left))
 
 pub float_refused : {V E : Type 0} (p : Precision) (first : ℕ) {a c : View} {e : DecodeError E} → first ≡ precision_byte p → Moves {V = V} a c (Err e) → Stops (StopsFloat (precision_name p) (precision_byte p) (precision_bytes p)) a c e → Does {V = Value} (ReadsUnder a.budget) (StopsFirst first a.budget) a c (Err e)
-float_refused p first {a = a} is moves s = leaf_refused first (StopsFloat (precision_name p) (precision_byte p) (precision_bytes p)) (λ bs z rest h. float_stops a.budget p first bs z rest a.budget is h) moves s
+float_refused p first {a = a} is moves s = leaf_refused first (StopsFloat (precision_name p) (precision_byte p) (precision_bytes p)) (λ bs z rest h. at_row a.budget (starts_bits p) first bs z rest (ap initial is ∙ initial_bits p) (float_cut p first bs z rest a.budget is h)) moves s
 
 other_row : (i : ℕ) → i ≢ 20 → i ≢ 21 → i ≢ 22 → i ≢ 23 → i ≢ 25 → i ≢ 26 → i ≢ 27 → simple_by_info i ≡ other_simple
 other_row i a b c d e f g = rw (ne_eqb i 20 a, ne_eqb i 21 b, ne_eqb i 22 c, ne_eqb i 23 d, ne_eqb i 25 e, ne_eqb i 26 f, ne_eqb i 27 g) refl
 
-other_byte : (b : ℕ) → 224 ≤ b → b < 256 → ((s : Simple) → b ≡ simple_byte s → ⊥) → b ≢ 249 → b ≢ 250 → b ≢ 251 → initial b ≡ other_simple
+pub other_byte : (b : ℕ) → 224 ≤ b → b < 256 → ((s : Simple) → b ≡ simple_byte s → ⊥) → b ≢ 249 → b ≢ 250 → b ≢ 251 → initial b ≡ other_simple
 other_byte b low high none e f g =
     let m : b / 32 ≡ 7 = omega arith in
     initial_of b 7 m ∙ other_row (b % 32) (λ h. none simple_false (omega (arith, h))) (λ h. none simple_true (omega (arith, h))) (λ h. none simple_null (omega (arith, h))) (λ h. none simple_undefined (omega (arith, h))) (λ h. e (omega (arith, h))) (λ h. f (omega (arith, h))) (λ h. g (omega (arith, h)))

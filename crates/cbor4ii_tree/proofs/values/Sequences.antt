@@ -35,7 +35,7 @@ use Rattle.cbor4ii_tree.proofs.values.Heads.{at_row, first_is, HeadAt, head_at}
 
 -- ---- steps
 
-step_taken : (name here : List ℕ) (S : Budget → Refusal → List ℕ → Type 0) (outer inner : Budget) (e : Refusal) (rest : List ℕ) → step_in outer ≡ Some inner → S inner e rest → Stepped name (step_in outer) here S e rest
+pub step_taken : (name here : List ℕ) (S : Budget → Refusal → List ℕ → Type 0) (outer inner : Budget) (e : Refusal) (rest : List ℕ) → step_in outer ≡ Some inner → S inner e rest → Stepped name (step_in outer) here S e rest
 step_taken name here S outer inner e rest step x = subst (λ o. Stepped name o here S e rest) (sym step) x
 
 no_step_left : (name here : List ℕ) (S : Budget → Refusal → List ℕ → Type 0) (outer : Budget) → outer ≡ Some 0 → Stepped name (step_in outer) here S (depth_overflow name) here

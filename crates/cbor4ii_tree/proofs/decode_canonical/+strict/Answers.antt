@@ -1,4 +1,4 @@
-use Rattle.std.proofs.Common.{refl, ap, subst, ◌∙◌, ◌+◌, ◌*◌, ◌≡◌, arith}
+use Rattle.std.proofs.Common.{ℕ, refl, ap, subst, inl, ◌∙◌, ◌+◌, ◌*◌, ◌≡◌}
 use Rattle.std.proofs.Common.{Vec, Global}
 use Rattle.std.proofs.lemmas.Result.{err_from_is_err_and}
 use Rattle.cbor4ii_tree.specs.declared.value.Value.{Value, Array, Map, Tag}
@@ -7,12 +7,13 @@ use Rattle.cbor4ii_tree.specs.View.{view}
 use Rattle.cbor4ii_tree.specs.Refusal.{array_name, map_name, tag_name, value_name}
 use Rattle.cbor4ii_items.specs.Laws.Steps.{kept_then}
 use Rattle.cbor4ii_tree.specs.Valuing.{ReadsStepped}
-use Rattle.cbor4ii_tree.specs.Strictly.{Lacks, BeginsOne, BeginsBehind, ReadsExactly, ReadsBehind, ShortestAt, BeginsHead, BeginsTag, BeginsItems, ExactItems, ExactMember, ExactMembers, BeginsCounted, AcceptsCount, BeginsStepped}
-use Rattle.cbor4ii_tree.proofs.skip_calls.Doing.{reached_start, reached_by, does_ok, does_no_memory, does_no_step}
+use Rattle.cbor4ii_items.specs.Shortest.{StopsShortest}
+use Rattle.cbor4ii_tree.specs.StopsStrictly.{ShortestAt, StrictArrayStops, StrictMapStops}
+use Rattle.cbor4ii_tree.specs.Strictly.{ReadsExactly, StopsExactly, ReadsBehind, StopsBehind, StopsStepped, ExactItems, StopsExactItems, ExactMember, StopsExactMember, ExactMembers, AcceptsCount}
+use Rattle.cbor4ii_tree.proofs.skip_calls.Doing.{reached_start, reached_by, does_ok, does_stops, does_no_memory, does_no_step}
 use Rattle.cbor4ii_tree.proofs.values.Heads.{view-Tag}
 use Rattle.cbor4ii_tree.proofs.values.Sequences.{more, ends}
-use Rattle.cbor4ii_tree.proofs.canonical.Exactly.{no_step_one, no_step_stepped}
-use Rattle.cbor4ii_tree.proofs.canonical.Calls.{reached_shortest, does_lack_head, lacks_more, exact_ok, exact_err, exact_first, exact_tag, exact_tag_err, looked_at, peek_lacks, pushed, simple_exact, undefined_lacks, stepped_one, stepped_more, counted_does, begins_counted, items_none, items_more, item_lacks, key_lacks, value_lacks, members_none, members_more, member_lacks, array_exact, map_exact}
+use Rattle.cbor4ii_tree.proofs.canonical.Calls.{reached_shortest, call_stops, exact_ok, exact_err, exact_first, exact_tag, exact_tag_err, looked_at, peek_stops, pushed, simple_exact, undefined_stops, stepped_one, stepped_more, counted_does, items_none, items_more, item_stops, value_stops, members_none, members_more, member_stops, array_exact, map_exact}
 use Rattle.cbor4ii_tree.proofs.decode_canonical.+strict.Goals as goal
 
 pub read_one-returns-clause-does : goal.read_one-returns-clause-does
@@ -21,79 +22,79 @@ read_one-returns-clause-does g t c =
 
 pub read_one-returns-then-not-step_in-clause-does : goal.read_one-returns-then-not-step_in-clause-does
 read_one-returns-then-not-step_in-clause-does g t c =
-    does_no_step value_name (ReadsExactly (g.S.Source.view c.args.reader.now).budget) (Lacks BeginsOne (g.S.Source.view c.args.reader.now).budget) refl refl (λ none xs. rw none (no_step_one value_name xs)) c.if-not-step_in.ensures.budget c.step_in.ensures.others
+    does_no_step value_name (ReadsExactly (g.S.Source.view c.args.reader.now).budget) (StopsExactly (g.S.Source.view c.args.reader.now).budget) refl refl (λ none xs. rw none (refl, refl)) c.if-not-step_in.ensures.budget c.step_in.ensures.others
 
 pub array_inside-returns-clause-does : goal.array_inside-returns-clause-does
 array_inside-returns-clause-does g t c =
-    counted_does 4 1 c.in_ok-count.count c.in_ok-count.count (λ n o xs (v : Vec Value Global) ys. ExactItems n o xs v.items ys) (omega arith) (omega arith) (reached_shortest 4 c.in_ok-count.count c.in_ok-count.ensures.moves c.in_ok-count.ensures.sound) c.counted_items.ensures
+    counted_does array_name 4 c.in_ok-count.count (λ n o xs (v : Vec Value Global) ys. ExactItems n o xs v.items ys) (λ o n. StopsExactItems n o) (reached_shortest 4 c.in_ok-count.count c.in_ok-count.ensures.moves c.in_ok-count.ensures.sound) c.counted_items.ensures
 
 pub array_inside-returns-in_err-count-clause-does : goal.array_inside-returns-in_err-count-clause-does
 array_inside-returns-in_err-count-clause-does g t c =
     let p = err_from_is_err_and c.from_residual.result c.from_residual.ensures.1 in
-    rw (p.1, p.2) (lacks_more (λ xs (v : Unit {0}) ys. Unit {0}) (λ xs (v : Vec Value Global) ys. AcceptsCount 4 ExactItems (g.S.Source.view c.args.reader.now).budget xs v.items ys) (BeginsHead 4) (BeginsCounted 4 1) (begins_counted 4 1) (does_lack_head (λ xs (v : Unit {0}) ys. Unit {0}) array_name 4 (omega arith) c.in_err-count.ensures.moves c.in_err-count.ensures.complete c.in_err-count.ensures.stops))
+    rw (p.1, p.2) (call_stops (λ xs (v : Vec Value Global) ys. AcceptsCount 4 ExactItems (g.S.Source.view c.args.reader.now).budget xs v.items ys) (StopsShortest array_name 4) (StrictArrayStops StopsExactly (g.S.Source.view c.args.reader.now).budget) (λ xs z rest h. inl h) c.in_err-count.ensures.moves c.in_err-count.ensures.stops)
 
 pub counted_items-loop-i-init : goal.counted_items-loop-i-init
 counted_items-loop-i-init g t c = reached_start (λ xs ys. ExactItems 0 (g.S.Source.view c.args.reader.now).budget xs _ ys) _ (λ xs. items_none (g.S.Source.view c.args.reader.now).budget xs _ (cc))
 
 pub counted_items-loop-i-preserved : goal.counted_items-loop-i-preserved
 counted_items-loop-i-preserved g t c =
-    more ReadsExactly (Lacks BeginsOne) (λ xs ys. ExactItems c.loop-i.i (g.S.Source.view c.args.reader.now).budget xs c.loop-i.items.items ys) c.loop-i.invariant (λ xs ys. ExactItems (c.loop-i.i + 1) (g.S.Source.view c.args.reader.now).budget xs _ ys) (λ xs ys zs h s. items_more c.loop-i.i (g.S.Source.view c.args.reader.now).budget c.loop-i.items.items _ c.in_ok-value.value xs ys zs (pushed _ _ _ _ c.push.ensures.items c.if-is_err-2.ensures.negation) h s) c.in_ok-value.ensures.does
+    more ReadsExactly StopsExactly (λ xs ys. ExactItems c.loop-i.i (g.S.Source.view c.args.reader.now).budget xs c.loop-i.items.items ys) c.loop-i.invariant (λ xs ys. ExactItems (c.loop-i.i + 1) (g.S.Source.view c.args.reader.now).budget xs _ ys) (λ xs ys zs h s. items_more c.loop-i.i (g.S.Source.view c.args.reader.now).budget c.loop-i.items.items _ c.in_ok-value.value xs ys zs (pushed _ _ _ _ c.push.ensures.items c.if-is_err-2.ensures.negation) h s) c.in_ok-value.ensures.does
 
 pub counted_items-returns-in_err-value : goal.counted_items-returns-in_err-value
 counted_items-returns-in_err-value g t c =
     let p = err_from_is_err_and c.from_residual.result c.from_residual.ensures.1 in
-    rw (p.1, p.2) (ends ReadsExactly (Lacks BeginsOne) (λ xs ys. ExactItems c.loop-i.i (g.S.Source.view c.args.reader.now).budget xs c.loop-i.items.items ys) c.loop-i.invariant (λ xs (v : Vec Value Global) ys. ExactItems c.args.count (g.S.Source.view c.args.reader.now).budget xs v.items ys) (Lacks (BeginsItems c.args.count) (g.S.Source.view c.args.reader.now).budget) (λ xs ys z rest h s. item_lacks c.loop-i.i c.args.count (g.S.Source.view c.args.reader.now).budget c.loop-i.items.items xs ys z rest c.loop-i-test.true h s) c.in_err-value.ensures.does)
+    rw (p.1, p.2) (ends ReadsExactly StopsExactly (λ xs ys. ExactItems c.loop-i.i (g.S.Source.view c.args.reader.now).budget xs c.loop-i.items.items ys) c.loop-i.invariant (λ xs (v : Vec Value Global) ys. ExactItems c.args.count (g.S.Source.view c.args.reader.now).budget xs v.items ys) (StopsExactItems c.args.count (g.S.Source.view c.args.reader.now).budget) (λ xs ys z rest h s. item_stops c.loop-i.i c.args.count (g.S.Source.view c.args.reader.now).budget c.loop-i.items.items xs ys z rest c.loop-i-test.true h s) c.in_err-value.ensures.does)
 
 pub read_array-returns-clause-does : goal.read_array-returns-clause-does
 read_array-returns-clause-does g t c =
-    stepped_more (λ o xs (v : Vec Value Global) ys. AcceptsCount 4 ExactItems o xs v.items ys) (BeginsCounted 4 1) c.if-not-step_in.ensures.budget c.step_in.ensures.others c.array_inside-outcome.ensures.does c.step_out.ensures.budget c.step_out.ensures.others
+    stepped_more array_name (λ o xs (v : Vec Value Global) ys. AcceptsCount 4 ExactItems o xs v.items ys) (StrictArrayStops StopsExactly) c.if-not-step_in.ensures.budget c.step_in.ensures.others c.array_inside-outcome.ensures.does c.step_out.ensures.budget c.step_out.ensures.others
 
 pub read_array-returns-then-not-step_in-clause-does : goal.read_array-returns-then-not-step_in-clause-does
 read_array-returns-then-not-step_in-clause-does g t c =
-    does_no_step array_name (ReadsStepped (λ o xs (v : Vec Value Global) ys. AcceptsCount 4 ExactItems o xs v.items ys) (g.S.Source.view c.args.reader.now).budget) (Lacks (BeginsStepped (BeginsCounted 4 1)) (g.S.Source.view c.args.reader.now).budget) refl refl (λ none xs. rw none (no_step_stepped (BeginsCounted 4 1) array_name xs)) c.if-not-step_in.ensures.budget c.step_in.ensures.others
+    does_no_step array_name (ReadsStepped (λ o xs (v : Vec Value Global) ys. AcceptsCount 4 ExactItems o xs v.items ys) (g.S.Source.view c.args.reader.now).budget) (StopsStepped array_name (StrictArrayStops StopsExactly) (g.S.Source.view c.args.reader.now).budget) refl refl (λ none xs. rw none (refl, refl)) c.if-not-step_in.ensures.budget c.step_in.ensures.others
 
 pub map_inside-returns-clause-does : goal.map_inside-returns-clause-does
 map_inside-returns-clause-does g t c =
-    counted_does 5 2 c.in_ok-count.count (2 * c.in_ok-count.count) (λ n o xs (v : Vec (Value × Value) Global) ys. ExactMembers n o xs v.items ys) (omega arith) (omega arith) (reached_shortest 5 c.in_ok-count.count c.in_ok-count.ensures.moves c.in_ok-count.ensures.sound) c.counted_members.ensures
+    counted_does map_name 5 c.in_ok-count.count (λ n o xs (v : Vec (Value × Value) Global) ys. ExactMembers n o xs v.items ys) (λ o n. StopsExactItems (2 * n) o) (reached_shortest 5 c.in_ok-count.count c.in_ok-count.ensures.moves c.in_ok-count.ensures.sound) c.counted_members.ensures
 
 pub map_inside-returns-in_err-count-clause-does : goal.map_inside-returns-in_err-count-clause-does
 map_inside-returns-in_err-count-clause-does g t c =
     let p = err_from_is_err_and c.from_residual.result c.from_residual.ensures.1 in
-    rw (p.1, p.2) (lacks_more (λ xs (v : Unit {0}) ys. Unit {0}) (λ xs (v : Vec (Value × Value) Global) ys. AcceptsCount 5 ExactMembers (g.S.Source.view c.args.reader.now).budget xs v.items ys) (BeginsHead 5) (BeginsCounted 5 2) (begins_counted 5 2) (does_lack_head (λ xs (v : Unit {0}) ys. Unit {0}) map_name 5 (omega arith) c.in_err-count.ensures.moves c.in_err-count.ensures.complete c.in_err-count.ensures.stops))
+    rw (p.1, p.2) (call_stops (λ xs (v : Vec (Value × Value) Global) ys. AcceptsCount 5 ExactMembers (g.S.Source.view c.args.reader.now).budget xs v.items ys) (StopsShortest map_name 5) (StrictMapStops StopsExactly (g.S.Source.view c.args.reader.now).budget) (λ xs z rest h. inl h) c.in_err-count.ensures.moves c.in_err-count.ensures.stops)
 
 pub read_map-returns-clause-does : goal.read_map-returns-clause-does
 read_map-returns-clause-does g t c =
-    stepped_more (λ o xs (v : Vec (Value × Value) Global) ys. AcceptsCount 5 ExactMembers o xs v.items ys) (BeginsCounted 5 2) c.if-not-step_in.ensures.budget c.step_in.ensures.others c.map_inside-outcome.ensures.does c.step_out.ensures.budget c.step_out.ensures.others
+    stepped_more map_name (λ o xs (v : Vec (Value × Value) Global) ys. AcceptsCount 5 ExactMembers o xs v.items ys) (StrictMapStops StopsExactly) c.if-not-step_in.ensures.budget c.step_in.ensures.others c.map_inside-outcome.ensures.does c.step_out.ensures.budget c.step_out.ensures.others
 
 pub read_map-returns-then-not-step_in-clause-does : goal.read_map-returns-then-not-step_in-clause-does
 read_map-returns-then-not-step_in-clause-does g t c =
-    does_no_step map_name (ReadsStepped (λ o xs (v : Vec (Value × Value) Global) ys. AcceptsCount 5 ExactMembers o xs v.items ys) (g.S.Source.view c.args.reader.now).budget) (Lacks (BeginsStepped (BeginsCounted 5 2)) (g.S.Source.view c.args.reader.now).budget) refl refl (λ none xs. rw none (no_step_stepped (BeginsCounted 5 2) map_name xs)) c.if-not-step_in.ensures.budget c.step_in.ensures.others
+    does_no_step map_name (ReadsStepped (λ o xs (v : Vec (Value × Value) Global) ys. AcceptsCount 5 ExactMembers o xs v.items ys) (g.S.Source.view c.args.reader.now).budget) (StopsStepped map_name (StrictMapStops StopsExactly) (g.S.Source.view c.args.reader.now).budget) refl refl (λ none xs. rw none (refl, refl)) c.if-not-step_in.ensures.budget c.step_in.ensures.others
 
 pub counted_members-loop-i-init : goal.counted_members-loop-i-init
 counted_members-loop-i-init g t c = reached_start (λ xs ys. ExactMembers 0 (g.S.Source.view c.args.reader.now).budget xs _ ys) _ (λ xs. members_none (g.S.Source.view c.args.reader.now).budget _ xs (cc))
 
 pub counted_members-loop-i-preserved : goal.counted_members-loop-i-preserved
 counted_members-loop-i-preserved g t c =
-    more ExactMember (Lacks (BeginsItems 2)) (λ xs ys. ExactMembers c.loop-i.i (g.S.Source.view c.args.reader.now).budget xs c.loop-i.members.items ys) c.loop-i.invariant (λ xs ys. ExactMembers (c.loop-i.i + 1) (g.S.Source.view c.args.reader.now).budget xs _ ys) (λ xs ys zs h s. members_more c.loop-i.i (g.S.Source.view c.args.reader.now).budget c.loop-i.members.items _ c.in_ok-member.member xs ys zs (pushed _ _ _ _ c.push.ensures.items c.if-is_err-2.ensures.negation) h s) c.in_ok-member.ensures.does
+    more ExactMember StopsExactMember (λ xs ys. ExactMembers c.loop-i.i (g.S.Source.view c.args.reader.now).budget xs c.loop-i.members.items ys) c.loop-i.invariant (λ xs ys. ExactMembers (c.loop-i.i + 1) (g.S.Source.view c.args.reader.now).budget xs _ ys) (λ xs ys zs h s. members_more c.loop-i.i (g.S.Source.view c.args.reader.now).budget c.loop-i.members.items _ c.in_ok-member.member xs ys zs (pushed _ _ _ _ c.push.ensures.items c.if-is_err-2.ensures.negation) h s) c.in_ok-member.ensures.does
 
 pub counted_members-returns-in_err-member : goal.counted_members-returns-in_err-member
 counted_members-returns-in_err-member g t c =
     let p = err_from_is_err_and c.from_residual.result c.from_residual.ensures.1 in
-    rw (p.1, p.2) (ends ExactMember (Lacks (BeginsItems 2)) (λ xs ys. ExactMembers c.loop-i.i (g.S.Source.view c.args.reader.now).budget xs c.loop-i.members.items ys) c.loop-i.invariant (λ xs (v : Vec (Value × Value) Global) ys. ExactMembers c.args.count (g.S.Source.view c.args.reader.now).budget xs v.items ys) (Lacks (BeginsItems (2 * c.args.count)) (g.S.Source.view c.args.reader.now).budget) (λ xs ys z rest h s. member_lacks c.loop-i.i c.args.count (g.S.Source.view c.args.reader.now).budget c.loop-i.members.items xs ys z rest c.loop-i-test.true h s) c.in_err-member.ensures.does)
+    rw (p.1, p.2) (ends ExactMember StopsExactMember (λ xs ys. ExactMembers c.loop-i.i (g.S.Source.view c.args.reader.now).budget xs c.loop-i.members.items ys) c.loop-i.invariant (λ xs (v : Vec (Value × Value) Global) ys. ExactMembers c.args.count (g.S.Source.view c.args.reader.now).budget xs v.items ys) (StopsExactItems (2 * c.args.count) (g.S.Source.view c.args.reader.now).budget) (λ xs ys z rest h s. member_stops c.loop-i.i c.args.count (g.S.Source.view c.args.reader.now).budget c.loop-i.members.items xs ys z rest c.loop-i-test.true h s) c.in_err-member.ensures.does)
 
 pub read_member-returns-clause-does : goal.read_member-returns-clause-does
 read_member-returns-clause-does g t c =
-    does_ok (ExactMember (g.S.Source.view c.args.reader.now).budget) (Lacks (BeginsItems 2) (g.S.Source.view c.args.reader.now).budget) (more ReadsExactly (Lacks BeginsOne) (λ xs ys. ReadsExactly (g.S.Source.view c.args.reader.now).budget xs c.in_ok-key.key ys) (reached_by c.in_ok-key.ensures.does) (λ xs ys. ExactMember (g.S.Source.view c.args.reader.now).budget xs (c.in_ok-key.key, c.in_ok-value.value) ys) (λ xs ys zs h s. (ys, h, s)) c.in_ok-value.ensures.does)
+    does_ok (ExactMember (g.S.Source.view c.args.reader.now).budget) (StopsExactMember (g.S.Source.view c.args.reader.now).budget) (more ReadsExactly StopsExactly (λ xs ys. ReadsExactly (g.S.Source.view c.args.reader.now).budget xs c.in_ok-key.key ys) (reached_by c.in_ok-key.ensures.does) (λ xs ys. ExactMember (g.S.Source.view c.args.reader.now).budget xs (c.in_ok-key.key, c.in_ok-value.value) ys) (λ xs ys zs h s. (ys, h, s)) c.in_ok-value.ensures.does)
 
 pub read_member-returns-in_err-key-clause-does : goal.read_member-returns-in_err-key-clause-does
 read_member-returns-in_err-key-clause-does g t c =
     let p = err_from_is_err_and c.from_residual.result c.from_residual.ensures.1 in
-    rw (p.1, p.2) (ends ReadsExactly (Lacks BeginsOne) (λ xs ys. ys ≡ xs) (reached_start (λ xs ys. ys ≡ xs) _ (λ xs. refl)) (ExactMember (g.S.Source.view c.args.reader.now).budget) (Lacks (BeginsItems 2) (g.S.Source.view c.args.reader.now).budget) (λ xs ys z rest h s. key_lacks (g.S.Source.view c.args.reader.now).budget xs z rest (subst (λ x. Lacks BeginsOne (g.S.Source.view c.args.reader.now).budget x z rest) h s)) c.in_err-key.ensures.does)
+    rw (p.1, p.2) (ends ReadsExactly StopsExactly (λ xs ys. ys ≡ xs) (reached_start (λ xs ys. ys ≡ xs) _ (λ xs. refl)) (ExactMember (g.S.Source.view c.args.reader.now).budget) (StopsExactMember (g.S.Source.view c.args.reader.now).budget) (λ xs ys z rest h s. inl (subst (λ x. StopsExactly (g.S.Source.view c.args.reader.now).budget x z rest) h s)) c.in_err-key.ensures.does)
 
 pub read_member-returns-in_err-value-clause-does : goal.read_member-returns-in_err-value-clause-does
 read_member-returns-in_err-value-clause-does g t c =
     let p = err_from_is_err_and c.from_residual-in_err-value.result c.from_residual-in_err-value.ensures.1 in
-    rw (p.1, p.2) (ends ReadsExactly (Lacks BeginsOne) (λ xs ys. ReadsExactly (g.S.Source.view c.args.reader.now).budget xs c.in_ok-key.key ys) (reached_by c.in_ok-key.ensures.does) (ExactMember (g.S.Source.view c.args.reader.now).budget) (Lacks (BeginsItems 2) (g.S.Source.view c.args.reader.now).budget) (λ xs ys z rest h s. value_lacks (g.S.Source.view c.args.reader.now).budget c.in_ok-key.key xs ys z rest h s) c.in_err-value.ensures.does)
+    rw (p.1, p.2) (ends ReadsExactly StopsExactly (λ xs ys. ReadsExactly (g.S.Source.view c.args.reader.now).budget xs c.in_ok-key.key ys) (reached_by c.in_ok-key.ensures.does) (ExactMember (g.S.Source.view c.args.reader.now).budget) (StopsExactMember (g.S.Source.view c.args.reader.now).budget) (λ xs ys z rest h s. value_stops (g.S.Source.view c.args.reader.now).budget c.in_ok-key.key xs ys z rest h s) c.in_err-value.ensures.does)
 
 pub read_inside-returns-clause-does : goal.read_inside-returns-clause-does
 read_inside-returns-clause-does g t c =
@@ -106,11 +107,11 @@ read_inside-returns-in-7-clause-does g t c =
 pub read_inside-returns-in_err-first-clause-does : goal.read_inside-returns-in_err-first-clause-does
 read_inside-returns-in_err-first-clause-does g t c =
     let p = err_from_is_err_and c.from_residual.result c.from_residual.ensures.1 in
-    rw (p.1, p.2) (peek_lacks c.in_err-first.ensures.runs)
+    rw (p.1, p.2) (peek_stops c.in_err-first.ensures.runs)
 
 pub read_inside-returns-then-first-clause-does : goal.read_inside-returns-then-first-clause-does
 read_inside-returns-then-first-clause-does g t c =
-    undefined_lacks c.in_ok-first.first c.in_ok-first.ensures.runs c.in_ok-first.ensures.byte c.advance.ensures c.if-first.true refl refl refl
+    undefined_stops c.in_ok-first.first c.in_ok-first.ensures.runs c.in_ok-first.ensures.byte c.advance.ensures c.if-first.true refl refl refl
 
 pub read_inside-returns-in-4-clause-does : goal.read_inside-returns-in-4-clause-does
 read_inside-returns-in-4-clause-does g t c =
@@ -119,7 +120,7 @@ read_inside-returns-in-4-clause-does g t c =
 pub read_inside-returns-in_err-read_array-in-4-clause-does : goal.read_inside-returns-in_err-read_array-in-4-clause-does
 read_inside-returns-in_err-read_array-in-4-clause-does g t c =
     let p = err_from_is_err_and c.from_residual-in_err-read_array-in-4.result c.from_residual-in_err-read_array-in-4.ensures.1 in
-    rw (p.1, p.2) (exact_err c.in_ok-first.first c.in_ok-first.ensures.runs 4 (ReadsStepped (λ o xs (v : Vec Value Global) ys. AcceptsCount 4 ExactItems o xs v.items ys) (g.S.Source.view c.peek.new.reader).budget) c.in-4.is c.in_err-read_array-in-4.ensures.does)
+    rw (p.1, p.2) (exact_err c.in_ok-first.first c.in_ok-first.ensures.runs 4 (ReadsStepped (λ o xs (v : Vec Value Global) ys. AcceptsCount 4 ExactItems o xs v.items ys) (g.S.Source.view c.peek.new.reader).budget) (StopsStepped array_name (StrictArrayStops StopsExactly)) c.in-4.is (λ bs z rest h. h) c.in_err-read_array-in-4.ensures.does)
 
 pub read_inside-returns-in-5-clause-does : goal.read_inside-returns-in-5-clause-does
 read_inside-returns-in-5-clause-does g t c =
@@ -128,12 +129,12 @@ read_inside-returns-in-5-clause-does g t c =
 pub read_inside-returns-in_err-read_map-in-5-clause-does : goal.read_inside-returns-in_err-read_map-in-5-clause-does
 read_inside-returns-in_err-read_map-in-5-clause-does g t c =
     let p = err_from_is_err_and c.from_residual-in_err-read_map-in-5.result c.from_residual-in_err-read_map-in-5.ensures.1 in
-    rw (p.1, p.2) (exact_err c.in_ok-first.first c.in_ok-first.ensures.runs 5 (ReadsStepped (λ o xs (v : Vec (Value × Value) Global) ys. AcceptsCount 5 ExactMembers o xs v.items ys) (g.S.Source.view c.peek.new.reader).budget) c.in-5.is c.in_err-read_map-in-5.ensures.does)
+    rw (p.1, p.2) (exact_err c.in_ok-first.first c.in_ok-first.ensures.runs 5 (ReadsStepped (λ o xs (v : Vec (Value × Value) Global) ys. AcceptsCount 5 ExactMembers o xs v.items ys) (g.S.Source.view c.peek.new.reader).budget) (StopsStepped map_name (StrictMapStops StopsExactly)) c.in-5.is (λ bs z rest h. h) c.in_err-read_map-in-5.ensures.does)
 
 pub read_inside-returns-in_err-number-in-6-clause-does : goal.read_inside-returns-in_err-number-in-6-clause-does
 read_inside-returns-in_err-number-in-6-clause-does g t c =
     let p = err_from_is_err_and c.from_residual-in_err-number-in-6.result c.from_residual-in_err-number-in-6.ensures.1 in
-    rw (p.1, p.2) (exact_err c.in_ok-first.first c.in_ok-first.ensures.runs 6 (λ xs (v : Unit {0}) ys. Unit {0}) c.in-6.is (lacks_more (λ xs (v : Unit {0}) ys. Unit {0}) (λ xs (v : Unit {0}) ys. Unit {0}) (BeginsHead 6) BeginsTag (λ b xs t. (t.0, t.1, t.2)) (does_lack_head (λ xs (v : Unit {0}) ys. Unit {0}) tag_name 6 (omega arith) c.in_err-number-in-6.ensures.moves c.in_err-number-in-6.ensures.complete c.in_err-number-in-6.ensures.stops)))
+    rw (p.1, p.2) (exact_err c.in_ok-first.first c.in_ok-first.ensures.runs 6 (λ xs (v : ℕ) ys. Unit {0}) (λ o xs. StopsShortest tag_name 6 xs o) c.in-6.is (λ bs z rest h. inl h) (does_stops (λ xs (v : ℕ) ys. Unit {0}) (StopsShortest tag_name 6) c.in_err-number-in-6.ensures.moves c.in_err-number-in-6.ensures.stops))
 
 pub read_inside-returns-in_err-inner-in-6-clause-does : goal.read_inside-returns-in_err-inner-in-6-clause-does
 read_inside-returns-in_err-inner-in-6-clause-does g t c =
@@ -142,7 +143,7 @@ read_inside-returns-in_err-inner-in-6-clause-does g t c =
 
 pub read_inside-returns-in-6-clause-does : goal.read_inside-returns-in-6-clause-does
 read_inside-returns-in-6-clause-does g t c =
-    does_no_memory (ReadsBehind (g.S.Source.view c.args.reader.now).budget) (Lacks BeginsBehind (g.S.Source.view c.args.reader.now).budget) refl (kept_then (looked_at c.in_ok-first.first c.in_ok-first.ensures.runs (ShortestAt 6 c.in_ok-number-in-6.number) (reached_shortest 6 c.in_ok-number-in-6.number c.in_ok-number-in-6.ensures.moves c.in_ok-number-in-6.ensures.sound)).kept c.in_ok-inner-in-6.ensures.does.moves.by)
+    does_no_memory (ReadsBehind (g.S.Source.view c.args.reader.now).budget) (StopsBehind (g.S.Source.view c.args.reader.now).budget) refl (kept_then (looked_at c.in_ok-first.first c.in_ok-first.ensures.runs (ShortestAt 6 c.in_ok-number-in-6.number) (reached_shortest 6 c.in_ok-number-in-6.number c.in_ok-number-in-6.ensures.moves c.in_ok-number-in-6.ensures.sound)).kept c.in_ok-inner-in-6.ensures.does.moves.by)
 
 pub read_inside-returns-in-Ok-clause-does : goal.read_inside-returns-in-Ok-clause-does
 read_inside-returns-in-Ok-clause-does g t c =
@@ -154,8 +155,8 @@ read_inside-returns-in-Some-clause-does g t c =
 
 pub counted_items-returns-then-is_err-2 : goal.counted_items-returns-then-is_err-2
 counted_items-returns-then-is_err-2 g t c =
-    does_no_memory (λ xs (v : Vec Value Global) ys. ExactItems c.args.count (g.S.Source.view c.args.reader.now).budget xs v.items ys) (Lacks (BeginsItems c.args.count) (g.S.Source.view c.args.reader.now).budget) refl (kept_then c.loop-i.invariant.kept c.in_ok-value.ensures.does.moves.by)
+    does_no_memory (λ xs (v : Vec Value Global) ys. ExactItems c.args.count (g.S.Source.view c.args.reader.now).budget xs v.items ys) (StopsExactItems c.args.count (g.S.Source.view c.args.reader.now).budget) refl (kept_then c.loop-i.invariant.kept c.in_ok-value.ensures.does.moves.by)
 
 pub counted_members-returns-then-is_err-2 : goal.counted_members-returns-then-is_err-2
 counted_members-returns-then-is_err-2 g t c =
-    does_no_memory (λ xs (v : Vec (Value × Value) Global) ys. ExactMembers c.args.count (g.S.Source.view c.args.reader.now).budget xs v.items ys) (Lacks (BeginsItems (2 * c.args.count)) (g.S.Source.view c.args.reader.now).budget) refl (kept_then c.loop-i.invariant.kept c.in_ok-member.ensures.does.moves.by)
+    does_no_memory (λ xs (v : Vec (Value × Value) Global) ys. ExactMembers c.args.count (g.S.Source.view c.args.reader.now).budget xs v.items ys) (StopsExactItems (2 * c.args.count) (g.S.Source.view c.args.reader.now).budget) refl (kept_then c.loop-i.invariant.kept c.in_ok-member.ensures.does.moves.by)

@@ -1,14 +1,13 @@
-use Rattle.std.proofs.Common.{arith, inl, refl, ℕ, w8}
+use Rattle.std.proofs.Common.{arith, inl, refl, w8}
 use Rattle.std.proofs.Math.Facts.{Fits-lt-pow}
 use Rattle.std.proofs.lemmas.Result.{err_from_is_err_and}
 use Rattle.cbor4ii_items.specs.Initial.{half, single, double}
 use Rattle.cbor4ii_items.specs.declared.types.F16.{F16 as Half}
 use Rattle.cbor4ii_items.specs.declared.types.F32.{F32 as Single}
 use Rattle.cbor4ii_items.specs.declared.types.F64.{F64 as Double}
-use Rattle.cbor4ii_tree.specs.Refusal.{precision_name}
 use Rattle.cbor4ii_tree.specs.declared.value.FloatBits.TheVariants.{F16, F32, F64}
 use Rattle.cbor4ii_tree.proofs.values.Heads.{view-F16, view-F32, view-F64}
-use Rattle.cbor4ii_tree.proofs.canonical.Calls.{float_exact, float_err, no_value}
+use Rattle.cbor4ii_tree.proofs.canonical.Calls.{float_exact, float_stops, no_value}
 use Rattle.cbor4ii_tree.proofs.decode_canonical.read_float.Goals as goal
 
 pub returns-in_ok-decode-in-249-clause-does : goal.returns-in_ok-decode-in-249-clause-does
@@ -17,7 +16,7 @@ returns-in_ok-decode-in-249-clause-does g c = float_exact half (λ (v : Half). v
 pub returns-in_err-decode-in-249-clause-does : goal.returns-in_err-decode-in-249-clause-does
 returns-in_err-decode-in-249-clause-does g c =
     let p = err_from_is_err_and c.from_residual.result c.from_residual.ensures.1 in
-    rw (p.1, p.2) (float_err half (λ (v : Half). v.0) (λ (n : ℕ). record { 0 = n }) (precision_name half) c.args.first (λ n. refl) c.in-249.is c.in_err-decode-in-249.ensures.moves (c.in_err-decode-in-249.ensures.complete (inl refl)) (c.in_err-decode-in-249.ensures.stops (inl refl)))
+    rw (p.1, p.2) (float_stops half c.args.first c.in-249.is c.in_err-decode-in-249.ensures.moves (c.in_err-decode-in-249.ensures.stops (inl refl)))
 
 pub returns-in_ok-decode-in-250-clause-does : goal.returns-in_ok-decode-in-250-clause-does
 returns-in_ok-decode-in-250-clause-does g c = float_exact single (λ (v : Single). v.0) (F32 c.in_ok-decode-in-250.field-0.0) (view-F32 c.in_ok-decode-in-250.field-0.0) c.in_ok-decode-in-250.ensures.moves c.in_ok-decode-in-250.ensures.sound
@@ -25,7 +24,7 @@ returns-in_ok-decode-in-250-clause-does g c = float_exact single (λ (v : Single
 pub returns-in_err-decode-in-250-clause-does : goal.returns-in_err-decode-in-250-clause-does
 returns-in_err-decode-in-250-clause-does g c =
     let p = err_from_is_err_and c.from_residual-in_err-decode-in-250.result c.from_residual-in_err-decode-in-250.ensures.1 in
-    rw (p.1, p.2) (float_err single (λ (v : Single). v.0) (λ (n : ℕ). record { 0 = n }) (precision_name single) c.args.first (λ n. refl) c.in-250.is c.in_err-decode-in-250.ensures.moves (c.in_err-decode-in-250.ensures.complete (inl refl)) (c.in_err-decode-in-250.ensures.stops (inl refl)))
+    rw (p.1, p.2) (float_stops single c.args.first c.in-250.is c.in_err-decode-in-250.ensures.moves (c.in_err-decode-in-250.ensures.stops (inl refl)))
 
 pub returns-in_ok-decode-in-251-clause-does : goal.returns-in_ok-decode-in-251-clause-does
 returns-in_ok-decode-in-251-clause-does g c = float_exact double (λ (v : Double). v.0) (F64 c.in_ok-decode-in-251.field-0.0) (view-F64 c.in_ok-decode-in-251.field-0.0) c.in_ok-decode-in-251.ensures.moves c.in_ok-decode-in-251.ensures.sound
@@ -33,7 +32,7 @@ returns-in_ok-decode-in-251-clause-does g c = float_exact double (λ (v : Double
 pub returns-in_err-decode-in-251-clause-does : goal.returns-in_err-decode-in-251-clause-does
 returns-in_err-decode-in-251-clause-does g c =
     let p = err_from_is_err_and c.from_residual-in_err-decode-in-251.result c.from_residual-in_err-decode-in-251.ensures.1 in
-    rw (p.1, p.2) (float_err double (λ (v : Double). v.0) (λ (n : ℕ). record { 0 = n }) (precision_name double) c.args.first (λ n. refl) c.in-251.is c.in_err-decode-in-251.ensures.moves (c.in_err-decode-in-251.ensures.complete (inl refl)) (c.in_err-decode-in-251.ensures.stops (inl refl)))
+    rw (p.1, p.2) (float_stops double c.args.first c.in-251.is c.in_err-decode-in-251.ensures.moves (c.in_err-decode-in-251.ensures.stops (inl refl)))
 
 pub returns-in_default-clause-does : goal.returns-in_default-clause-does
 returns-in_default-clause-does g c = no_value c.args.first c.requires.major (Fits-lt-pow {w = w8} c.ranges.first) c.requires.other (λ h. omega (arith, h)) (λ h. omega (arith, h)) (λ h. omega (arith, h)) refl refl refl

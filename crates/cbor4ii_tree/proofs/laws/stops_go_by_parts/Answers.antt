@@ -1,4 +1,4 @@
-use Rattle.cbor4ii_tree.proofs.answers.Nesting.{skipping_by_parts, reading_by_parts}
+use Rattle.cbor4ii_tree.proofs.answers.Nesting.{skipping_by_parts, reading_by_parts, strict_by_parts}
 use Rattle.cbor4ii_tree.proofs.laws.stops_go_by_parts.Goals as goal
 
 pub returns-clause-skipping : goal.returns-clause-skipping
@@ -6,3 +6,6 @@ returns-clause-skipping c = skipping_by_parts
 
 pub returns-clause-reading : goal.returns-clause-reading
 returns-clause-reading c = reading_by_parts
+
+pub returns-clause-canonical : goal.returns-clause-canonical
+returns-clause-canonical c = strict_by_parts

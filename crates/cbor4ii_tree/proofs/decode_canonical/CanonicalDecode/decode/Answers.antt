@@ -1,6 +1,6 @@
 use Rattle.std.proofs.lemmas.Result.{err_from_is_err_and}
 use Rattle.cbor4ii_items.specs.Laws.Steps.{moves_ok, moves_err}
-use Rattle.cbor4ii_tree.proofs.canonical.Decoding.{canonical_sound, canonical_only, canonical_all, canonical_spelling, canonical_every, canonical_front, canonical_refuses, canonical_stops, refused_all, refused_every, refused_front, refused_eof, refused_depth, refused_never}
+use Rattle.cbor4ii_tree.proofs.canonical.Decoding.{canonical_sound, canonical_only, canonical_all, canonical_spelling, canonical_every, canonical_front, canonical_exact, canonical_refuses, canonical_stops, refused_all, refused_every, refused_front, refused_eof, refused_depth, refused_never, refused_others, refused_value, refused_exact}
 use Rattle.cbor4ii_tree.proofs.decode_canonical.CanonicalDecode.decode.Goals as goal
 
 pub returns-clause-sound : goal.returns-clause-sound
@@ -49,6 +49,24 @@ pub returns-in_err-read_one-clause-never : goal.returns-in_err-read_one-clause-n
 returns-in_err-read_one-clause-never g c =
     let p = err_from_is_err_and c.from_residual.result c.from_residual.ensures.1 in
     rw (p.1, p.2) (refused_never c.in_err-read_one.ensures.does)
+
+pub returns-in_err-read_one-clause-others : goal.returns-in_err-read_one-clause-others
+returns-in_err-read_one-clause-others g c =
+    let p = err_from_is_err_and c.from_residual.result c.from_residual.ensures.1 in
+    rw (p.1, p.2) (refused_others c.in_err-read_one.ensures.does)
+
+pub returns-in_err-read_one-clause-value : goal.returns-in_err-read_one-clause-value
+returns-in_err-read_one-clause-value g c =
+    let p = err_from_is_err_and c.from_residual.result c.from_residual.ensures.1 in
+    rw (p.1, p.2) (refused_value c.in_err-read_one.ensures.does)
+
+pub returns-clause-exact : goal.returns-clause-exact
+returns-clause-exact g c = canonical_exact c.in_ok-read_one.ensures.does
+
+pub returns-in_err-read_one-clause-exact : goal.returns-in_err-read_one-clause-exact
+returns-in_err-read_one-clause-exact g c =
+    let p = err_from_is_err_and c.from_residual.result c.from_residual.ensures.1 in
+    rw (p.1, p.2) (refused_exact c.in_err-read_one.ensures.does)
 
 pub returns-clause-moves : goal.returns-clause-moves
 returns-clause-moves g c = moves_ok c.in_ok-read_one.ensures.does.moves
