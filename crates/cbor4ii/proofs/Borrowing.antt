@@ -31,10 +31,10 @@ always : {Q : Type 0} (o : Option Refusal) → Q → IfSome o (λ z. Q)
 always None q = tt
 always (Some z) q = q
 
-unlent : {V W E : Type 0} {a b : View} {v : V} (found : Bor (List ℕ)) → Moves {E = E} a b (Ok v) → Moves {V = W} {E = E} a b (Err (RequireBorrowed found))
+pub unlent : {V W E : Type 0} {a b : View} {v : V} (found : Bor (List ℕ)) → Moves {E = E} a b (Ok v) → Moves {V = W} {E = E} a b (Err (RequireBorrowed found))
 unlent found m = record { by = m.by; depth = λ e. refl }
 
-lends_of : (a : View) → IsExact false a → IsTrue a.lends_whole
+pub lends_of : (a : View) → IsExact false a → IsTrue a.lends_whole
 lends_of a (inl is) = let never : false ≡ true = is in cc
 lends_of a (inr h) = h.0
 
@@ -49,6 +49,13 @@ lent_at content lent IsBorrowed IsOwned reads major is_text counted apart {v = v
       ];
 }
 
+pub unlent_stops : {V E : Type 0} (name : List ℕ) (reads : Reads V) (stops : StopsAt) (e : CoreError E) {a b : View} {v : V} → LacksLoan name e → Sound reads a b v → Stops (StopsUnlent name reads stops) a b e
+unlent_stops name reads stops e {a = a} {b = b} {v = v} lacks s =
+    let at : Stops (StopsUnlent name reads stops) a b (RequireBorrowed lacks.0) = record {
+      at = λ xs told. (let p = s.at xs told in (drop p.count xs, p.left, inr (v, p.count, p.cost, p.read, p.fits, ap require_borrowed lacks.2, refl)));
+    } in
+    subst (Stops (StopsUnlent name reads stops) a b) (sym lacks.1) at
+
 module _ {V W E : Type 0} (content : V → List ℕ) (lent : W → List ℕ) (IsBorrowed IsOwned : V → Type 0) (name : List ℕ) where
   pub lent_moves : (r : Result V (CoreError E)) (q : Result W (DecodeError E)) (a b : View) → Borrows content lent IsBorrowed IsOwned name r q → Moves a b r → Moves a b (answer_of q)
   lent_moves (Ok v) (Ok w) a b h m = moves_ok m
@@ -61,16 +68,9 @@ module _ {V W E : Type 0} (content : V → List ℕ) (lent : W → List ℕ) (Is
   lent_progress (Err f) (Ok w) P h p = absurd h.handed
   lent_progress r (Err e) P h p = tt
 
-  unlent_stops : (reads : Reads V) (stops : StopsAt) (e : CoreError E) {a b : View} {v : V} → LacksLoan name e → Sound reads a b v → Stops (StopsUnlent name reads stops) a b e
-  unlent_stops reads stops e {a = a} {b = b} {v = v} lacks s =
-      let at : Stops (StopsUnlent name reads stops) a b (RequireBorrowed lacks.0) = record {
-        at = λ xs told. (let p = s.at xs told in (drop p.count xs, p.left, inr (v, p.count, p.cost, p.read, p.fits, ap require_borrowed lacks.2, refl)));
-      } in
-      subst (Stops (StopsUnlent name reads stops) a b) (sym lacks.1) at
-
   pub lent_stops : (reads : Reads V) (stops : StopsAt) (r : Result V (CoreError E)) (q : Result W (DecodeError E)) (a b : View) → Borrows content lent IsBorrowed IsOwned name r q → IfOk r (Sound reads a b) → IfErr r (Stops stops a b) → IfErr q (λ e. Stops (StopsUnlent name reads stops) a b (as_core e))
   lent_stops reads stops r (Ok w) a b h s k = tt
-  lent_stops reads stops (Ok v) (Err e) a b h s k = unlent_stops reads stops (as_core e) h.refused.1 s
+  lent_stops reads stops (Ok v) (Err e) a b h s k = unlent_stops name reads stops (as_core e) h.refused.1 s
   lent_stops reads stops (Err f) (Err e) a b h s k = subst (Stops (StopsUnlent name reads stops) a b) (sym h.refused) (stopped_as stops (StopsUnlent name reads stops) (λ xs budget z ys t. inl t) k)
 
   module _ (reads : Reads V) (major : ℕ) (is_text : Bool) (counted : (xs : List ℕ) (v : V) (w : W) (n c : ℕ) → content v ≡ lent w → reads xs v n c → ReadsLent major is_text lent xs w n c ⊎ (take 1 xs ≡ open_head major ∷ [])) where

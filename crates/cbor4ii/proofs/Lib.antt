@@ -12,8 +12,10 @@ pub mod Units
 pub mod Going
 pub mod Presence
 pub mod Contents
+pub mod Copying
 pub mod Entries
 pub mod Borrowing
+pub mod Unlending
 pub mod Characters
 pub mod Unwrapping
 pub mod Backs

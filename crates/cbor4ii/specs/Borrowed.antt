@@ -1,12 +1,13 @@
 -- Strings that are borrowed from the input.
-use Rattle.std.specs.Prelude.{◌≡◌, ◌⊎◌, ℕ, List, drop, Result, IfOk, IfErr, IsOkAnd, IsErrAnd, MatchResult}
+use Rattle.std.specs.Prelude.{◌≡◌, ◌⊎◌, ℕ, List, drop, Result, IfOk, IfErr, IsErr, IsOkAnd, IsErrAnd, MatchResult}
 use denote.Ref.{Bor}
 use Rattle.cbor4ii_rw.specs.declared.error.DecodeError.{DecodeError as CoreError}
-use Rattle.cbor4ii_rw.specs.declared.error.DecodeError.TheVariants.{RequireBorrowed}
+use Rattle.cbor4ii_rw.specs.declared.error.DecodeError.TheVariants.{RequireBorrowed, OutOfMemory}
 use Rattle.cbor4ii_items.specs.declared.types.Bytes.{Bytes}
 use Rattle.cbor4ii_items.specs.Decoding.{Reads, StopsAt, CostFits}
 use Rattle.cbor4ii_items.specs.Refusal.{require_borrowed}
 use Rattle.cbor4ii.specs.declared.serde.de.error.DecodeError.{DecodeError}
+use Rattle.cbor4ii.specs.declared.serde.de.error.DecodeError.TheVariants.{Core}
 use Rattle.cbor4ii.specs.Typed.{as_core}
 
 -- the reader does not lend the bytes
@@ -23,6 +24,17 @@ StopsUnlent {V} name reads stops xs budget refusal rest = stops xs budget refusa
 pub record Borrows {V W E : Type 0} (content : V → List ℕ) (lent : W → List ℕ) (IsBorrowed IsOwned : V → Type 0) (name : List ℕ) (found : Result V (CoreError E)) (answer : Result W (DecodeError E)) : Type 0 where
   pub handed : IfOk answer (λ w. IsOkAnd found (λ v. IsBorrowed v × (content v ≡ lent w)))
   pub refused : IfErr answer (λ error. MatchResult found (λ v. IsOwned v × LacksLoan name (as_core error)) (λ before. as_core error ≡ before))
+
+-- A copy is refused, where the bytes are to be lent, and so is what was refused before.
+pub record RefusesCopy {V W E : Type 0} (name : List ℕ) (found : Result V (DecodeError E)) (answer : Result W (DecodeError E)) : Type 0 where
+  pub refused : IsErr answer
+  pub reason : IfErr answer (λ error. MatchResult found (λ v. LacksLoan name (as_core error)) (λ before. error ≡ before))
+
+-- What was read is handed on with its content, in memory of its own; or there was no memory for that. An error is handed
+-- on as it is.
+pub record Copies {V W E : Type 0} (content : V → List ℕ) (copy : W → List ℕ) (IsOwned : W → Type 0) (found : Result V (DecodeError E)) (answer : Result W (DecodeError E)) : Type 0 where
+  pub handed : IfOk answer (λ w. IsOkAnd found (λ v. IsOwned w × (copy w ≡ content v)))
+  pub refused : IfErr answer (λ error. MatchResult found (λ v. error ≡ Core OutOfMemory) (λ before. error ≡ before))
 
 -- what stands in the `Bytes` is handed on, and an error as it is
 pub record Unwraps {V E : Type 0} (found : Result (Bytes V) (CoreError E)) (answer : Result V (DecodeError E)) : Type 0 where

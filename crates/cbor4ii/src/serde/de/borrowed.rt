@@ -1,12 +1,15 @@
 //! Strings that are borrowed from the input. Each reader of `cbor4ii_rw` has them by name.
-ghost use Rattle.std.specs.Prelude.{true, false, codes};
+ghost use Rattle.std.specs.Prelude.{◌+◌, ◌≤◌, true, false, codes, OnOk, IfErr, IsErr};
 ghost use Rattle.std.specs.Cow.{IsBorrowedStr, IsOwnedStr};
 ghost use Rattle.cbor4ii_items.specs.Cow.{cow_text, cow_bytes, IsBorrowedBytes, IsOwnedBytes};
-ghost use Rattle.cbor4ii_items.specs.Lent.{lent_str, lent_bytes};
+ghost use Rattle.cbor4ii_items.specs.Decoding.{Stops};
+ghost use Rattle.cbor4ii_items.specs.Lent.{ReadsLent, lent_str, lent_bytes};
 ghost use Rattle.cbor4ii_items.specs.Laws.Lent.{lent_one, lent_within, lent_positive};
 ghost use Rattle.cbor4ii_items.specs.Laws.Strings.{two_small, three_small};
 ghost use Rattle.cbor4ii_items.specs.Strings.{ReadsAs, ReadsTextAs, StopsString, StopsText};
-ghost use Rattle.cbor4ii.specs.Borrowed.{Borrows, StopsUnlent};
+ghost use Rattle.cbor4ii.specs.Borrowed.{Borrows, RefusesCopy, StopsUnlent};
+ghost use Rattle.cbor4ii.specs.ItemRead.{ReadsItem};
+ghost use Rattle.cbor4ii.specs.Typed.{input, as_core};
 
 use crate::serde::de::deserialize::{Deserialize, Typed};
 use crate::serde::de::deserializer::Deserializer;
@@ -14,8 +17,9 @@ use crate::serde::de::error::DecodeError;
 use cbor4ii_items::decode::{Decode, Spelled};
 use cbor4ii_items::types::Bytes;
 use cbor4ii_rw::error as core_error;
-use cbor4ii_rw::error::Never;
+use cbor4ii_rw::error::{Never, StaticStr};
 use cbor4ii_rw::io_reader::IoReader;
+use cbor4ii_rw::read::Source;
 use cbor4ii_rw::segment_reader::SegmentReader;
 use cbor4ii_rw::slice_reader::SliceReader;
 use std::alloc::Global;
@@ -74,9 +78,24 @@ impl<'de, R: BufRead + Drop> Deserialize<IoReader<R>> for &'de str {
     fn deserialize(
         alloc: Global,
         de: &mut Deserializer<IoReader<R>>,
-    ) -> Result<&'de str, DecodeError<io::Error>> {
-        let found = CowStr::decode(alloc, &mut de.reader);
-        lent_text(found)
+    ) -> Result<&'de str, DecodeError<io::Error>>
+        ensures item { ReadsItem (ReadsLent 3 true lent_str)
+            (StopsUnlent (codes "str") (ReadsTextAs cow_text) (StopsText (codes "str")))
+            true false true
+            (input ⟦<IoReader<R> as Source>⟧.view de.old)
+            (input ⟦<IoReader<R> as Source>⟧.view de.new) result }
+        ensures progress { OnOk result
+            ((input ⟦<IoReader<R> as Source>⟧.view de.new).bound + 1
+            ≤ (input ⟦<IoReader<R> as Source>⟧.view de.old).bound) }
+        ensures stops { IfErr result (λ error. Stops
+            (StopsUnlent (codes "str") (ReadsTextAs cow_text) (StopsText (codes "str")))
+            (input ⟦<IoReader<R> as Source>⟧.view de.old)
+            (input ⟦<IoReader<R> as Source>⟧.view de.new)
+            (as_core error)) }
+        ensures refused { IsErr result }
+    {
+        let found = de.deserialize_str(alloc);
+        refuse_copy("str", found)
     }
 }
 
@@ -146,9 +165,24 @@ impl<'de, R: BufRead + Drop> Deserialize<IoReader<R>> for Bytes<&'de [u8]> {
     fn deserialize(
         alloc: Global,
         de: &mut Deserializer<IoReader<R>>,
-    ) -> Result<Bytes<&'de [u8]>, DecodeError<io::Error>> {
-        let found = <Bytes<CowSlice<'de, u8, Global>>>::decode(alloc, &mut de.reader);
-        lent_slice(found)
+    ) -> Result<Bytes<&'de [u8]>, DecodeError<io::Error>>
+        ensures item { ReadsItem (ReadsLent 2 false lent_bytes)
+            (StopsUnlent (codes "bytes") (ReadsAs 2 cow_bytes) (StopsString (codes "bytes") 2))
+            true false true
+            (input ⟦<IoReader<R> as Source>⟧.view de.old)
+            (input ⟦<IoReader<R> as Source>⟧.view de.new) result }
+        ensures progress { OnOk result
+            ((input ⟦<IoReader<R> as Source>⟧.view de.new).bound + 1
+            ≤ (input ⟦<IoReader<R> as Source>⟧.view de.old).bound) }
+        ensures stops { IfErr result (λ error. Stops
+            (StopsUnlent (codes "bytes") (ReadsAs 2 cow_bytes) (StopsString (codes "bytes") 2))
+            (input ⟦<IoReader<R> as Source>⟧.view de.old)
+            (input ⟦<IoReader<R> as Source>⟧.view de.new)
+            (as_core error)) }
+        ensures refused { IsErr result }
+    {
+        let found = <Bytes<CowSlice<'de, u8, Global>>>::deserialize(alloc, de);
+        refuse_copy("bytes", found)
     }
 }
 
@@ -165,5 +199,18 @@ fn lent_slice<'de, E>(
             core_error::DecodeError::RequireBorrowed { name: "bytes" },
         )),
         Err(error) => Err(DecodeError::Core(error)),
+    }
+}
+
+/// A copy does not stand for what is to be lent.
+fn refuse_copy<V: Drop, W, E>(
+    name: StaticStr,
+    found: Result<V, DecodeError<E>>,
+) -> Result<W, DecodeError<E>>
+    ensures { RefusesCopy name.now found result }
+{
+    match found {
+        Ok(_) => Err(DecodeError::Core(core_error::DecodeError::RequireBorrowed { name })),
+        Err(error) => Err(error),
     }
 }

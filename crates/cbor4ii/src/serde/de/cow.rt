@@ -121,10 +121,9 @@ impl<'de, R: BufRead + Drop> Deserialize<IoReader<R>> for CowStr<'de, Global> {
             (input ⟦<IoReader<R> as Source>⟧.view de.old)
             (input ⟦<IoReader<R> as Source>⟧.view de.new)
             (as_core error)) }
-        ensures borrows { IfOk result (BorrowsWhereCounted 3 IsBorrowedStr IsOwnedStr
-            (input ⟦<IoReader<R> as Source>⟧.view de.old)) }
+        ensures copied { IfOk result IsOwnedStr }
     {
-        typed(CowStr::decode(alloc, &mut de.reader))
+        de.deserialize_str(alloc)
     }
 }
 
@@ -215,9 +214,11 @@ impl<'de, R: BufRead + Drop> Deserialize<IoReader<R>> for Bytes<CowSlice<'de, u8
             (input ⟦<IoReader<R> as Source>⟧.view de.old)
             (input ⟦<IoReader<R> as Source>⟧.view de.new)
             (as_core error)) }
-        ensures borrows { IfOk result (BorrowsWhereCounted 2 IsBorrowedBytes IsOwnedBytes
-            (input ⟦<IoReader<R> as Source>⟧.view de.old)) }
+        ensures copied { IfOk result IsOwnedBytes }
     {
-        typed(<Bytes<CowSlice<'de, u8, Global>>>::decode(alloc, &mut de.reader))
+        match de.deserialize_bytes(alloc) {
+            Ok(content) => Ok(Bytes(content)),
+            Err(error) => Err(error),
+        }
     }
 }

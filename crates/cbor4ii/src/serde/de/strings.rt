@@ -8,13 +8,13 @@ ghost use Rattle.std.specs.Cow.{
   IsBorrowedSlice,
   IsOwnedSlice,
 };
-ghost use Rattle.cbor4ii_items.specs.Cow.{BorrowsWhereCounted, cow_text};
+ghost use Rattle.cbor4ii_items.specs.Cow.{BorrowsWhereCounted, cow_text, cow_bytes};
 ghost use Rattle.cbor4ii_items.specs.Strings.{ReadsAs, ReadsTextAs, StopsString, StopsText};
-ghost use Rattle.cbor4ii.specs.Borrowed.{Unwraps};
+ghost use Rattle.cbor4ii.specs.Borrowed.{Copies, Unwraps};
 ghost use Rattle.cbor4ii.specs.ItemRead.{ReadsItem};
 ghost use Rattle.cbor4ii.specs.Typed.{input};
 
-use crate::serde::de::deserializer::Deserializer;
+use crate::serde::de::deserializer::{Deserializer, take_item};
 use crate::serde::de::error::{DecodeError, typed};
 use cbor4ii_items::decode::Decode;
 use cbor4ii_items::types::Bytes;
@@ -157,10 +157,10 @@ impl<R: BufRead + Drop> Deserializer<IoReader<R>> {
         ensures item { ReadsItem (ReadsTextAs cow_text) (StopsText (codes "str")) true true true
             (input ⟦<IoReader<R> as Source>⟧.view self.old)
             (input ⟦<IoReader<R> as Source>⟧.view self.new) result }
-        ensures borrows { IfOk result (BorrowsWhereCounted 3 IsBorrowedStr IsOwnedStr
-            (input ⟦<IoReader<R> as Source>⟧.view self.old)) }
+        ensures copied { IfOk result IsOwnedStr }
     {
-        typed(CowStr::decode(alloc, &mut self.reader))
+        let found = take_item::<IoReader<R>, CowStr<'de, Global>>(alloc, self);
+        copied_text(alloc, found)
     }
 
     /// A name of a field or a variant: as `deserialize_str`.
@@ -171,8 +171,7 @@ impl<R: BufRead + Drop> Deserializer<IoReader<R>> {
         ensures item { ReadsItem (ReadsTextAs cow_text) (StopsText (codes "str")) true true true
             (input ⟦<IoReader<R> as Source>⟧.view self.old)
             (input ⟦<IoReader<R> as Source>⟧.view self.new) result }
-        ensures borrows { IfOk result (BorrowsWhereCounted 3 IsBorrowedStr IsOwnedStr
-            (input ⟦<IoReader<R> as Source>⟧.view self.old)) }
+        ensures copied { IfOk result IsOwnedStr }
     {
         self.deserialize_str(alloc)
     }
@@ -187,9 +186,41 @@ impl<R: BufRead + Drop> Deserializer<IoReader<R>> {
             true true true
             (input ⟦<IoReader<R> as Source>⟧.view self.old)
             (input ⟦<IoReader<R> as Source>⟧.view self.new) result }
-        ensures borrows { IfOk result (BorrowsWhereCounted 2 IsBorrowedSlice IsOwnedSlice
-            (input ⟦<IoReader<R> as Source>⟧.view self.old)) }
+        ensures copied { IfOk result IsOwnedSlice }
     {
-        unwrapped(<Bytes<CowSlice<'de, u8, Global>>>::decode(alloc, &mut self.reader))
+        let found = take_item::<IoReader<R>, Bytes<CowSlice<'de, u8, Global>>>(alloc, self);
+        copied_bytes(alloc, found)
+    }
+}
+
+/// A text in memory of its own: what is owned stays where it is.
+fn copied_text<'de, E>(
+    alloc: Global,
+    found: Result<CowStr<'de, Global>, DecodeError<E>>,
+) -> Result<CowStr<'de, Global>, DecodeError<E>>
+    ensures { Copies cow_text cow_text IsOwnedStr found.entry result }
+{
+    match found {
+        Ok(text) => match text.into_owned(alloc) {
+            Ok(copy) => Ok(CowStr::Owned(copy)),
+            Err(_) => Err(DecodeError::Core(core_error::DecodeError::OutOfMemory)),
+        },
+        Err(error) => Err(error),
+    }
+}
+
+/// A byte string in memory of its own, likewise.
+fn copied_bytes<'de, E>(
+    alloc: Global,
+    found: Result<Bytes<CowSlice<'de, u8, Global>>, DecodeError<E>>,
+) -> Result<CowSlice<'de, u8, Global>, DecodeError<E>>
+    ensures { Copies cow_bytes cow_slice_items IsOwnedSlice found.entry result }
+{
+    match found {
+        Ok(Bytes(content)) => match content.into_owned(alloc) {
+            Ok(copy) => Ok(CowSlice::Owned(copy)),
+            Err(_) => Err(DecodeError::Core(core_error::DecodeError::OutOfMemory)),
+        },
+        Err(error) => Err(error),
     }
 }

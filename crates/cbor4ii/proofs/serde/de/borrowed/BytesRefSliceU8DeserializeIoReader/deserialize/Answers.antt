@@ -1,19 +1,13 @@
-use Rattle.std.proofs.Common.{refl, inl}
-use Rattle.cbor4ii_items.specs.Laws.Strings.{two_small}
-use Rattle.cbor4ii.proofs.Borrowing.{lent_moves, lent_progress, lent_stops, lent_sound, lent_refuses, bytes_apart, bytes_counted, bytes_lent, bytes_spelled}
+use Rattle.std.proofs.Common.{false, refl}
+use Rattle.std.specs.Prelude.{codes}
+use Rattle.cbor4ii_items.specs.Cow.{cow_bytes}
+use Rattle.cbor4ii_items.specs.Lent.{ReadsLent, lent_bytes}
+use Rattle.cbor4ii_items.specs.Strings.{ReadsAs, StopsString}
+use Rattle.cbor4ii.proofs.Unlending.{copy_item, copy_stops}
 use Rattle.cbor4ii.proofs.serde.de.borrowed.BytesRefSliceU8DeserializeIoReader.deserialize.Goals as goal
 
-pub returns-clause-moves : goal.returns-clause-moves
-returns-clause-moves g c = lent_moves _ _ _ _ _ c.decode-found.result c.lent_slice.result _ _ c.lent_slice.ensures c.decode-found.ensures.moves
-
-pub returns-clause-progress : goal.returns-clause-progress
-returns-clause-progress g c = lent_progress _ _ _ _ _ c.decode-found.result c.lent_slice.result _ c.lent_slice.ensures (c.decode-found.ensures.progress refl)
-
-pub returns-clause-sound : goal.returns-clause-sound
-returns-clause-sound g c = lent_sound _ _ _ _ _ _ _ _ bytes_counted bytes_apart c.decode-found.result c.lent_slice.result _ _ c.lent_slice.ensures c.decode-found.ensures.sound c.decode-found.ensures.borrows
-
-pub returns-clause-complete : goal.returns-clause-complete
-returns-clause-complete g c said exact = lent_refuses _ _ _ _ _ _ _ _ bytes_counted two_small bytes_apart bytes_lent bytes_spelled c.decode-found.result c.lent_slice.result _ c.lent_slice.ensures (c.decode-found.ensures.complete (inl refl)) c.decode-found.ensures.borrows exact
+pub returns-clause-item : goal.returns-clause-item
+returns-clause-item g c = copy_item (codes "bytes") (ReadsAs 2 cow_bytes) (StopsString (codes "bytes") 2) (ReadsLent 2 false lent_bytes) c.deserialize-found.result c.refuse_copy.result _ _ refl c.refuse_copy.ensures c.deserialize-found.ensures.item
 
 pub returns-clause-stops : goal.returns-clause-stops
-returns-clause-stops g c said = lent_stops _ _ _ _ _ _ _ c.decode-found.result c.lent_slice.result _ _ c.lent_slice.ensures c.decode-found.ensures.sound c.decode-found.ensures.begins
+returns-clause-stops g c = copy_stops (codes "bytes") (ReadsAs 2 cow_bytes) (StopsString (codes "bytes") 2) c.deserialize-found.result c.refuse_copy.result _ _ c.refuse_copy.ensures c.deserialize-found.ensures.item

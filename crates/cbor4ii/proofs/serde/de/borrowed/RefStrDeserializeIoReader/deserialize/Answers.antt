@@ -1,19 +1,13 @@
-use Rattle.std.proofs.Common.{refl, inl}
-use Rattle.cbor4ii_items.specs.Laws.Strings.{three_small}
-use Rattle.cbor4ii.proofs.Borrowing.{lent_moves, lent_progress, lent_stops, lent_sound, lent_refuses, text_apart, text_counted, text_lent, text_spelled}
+use Rattle.std.proofs.Common.{true, refl}
+use Rattle.std.specs.Prelude.{codes}
+use Rattle.cbor4ii_items.specs.Cow.{cow_text}
+use Rattle.cbor4ii_items.specs.Lent.{ReadsLent, lent_str}
+use Rattle.cbor4ii_items.specs.Strings.{ReadsTextAs, StopsText}
+use Rattle.cbor4ii.proofs.Unlending.{copy_item, copy_stops}
 use Rattle.cbor4ii.proofs.serde.de.borrowed.RefStrDeserializeIoReader.deserialize.Goals as goal
 
-pub returns-clause-moves : goal.returns-clause-moves
-returns-clause-moves g c = lent_moves _ _ _ _ _ c.decode-found.result c.lent_text.result _ _ c.lent_text.ensures c.decode-found.ensures.moves
-
-pub returns-clause-progress : goal.returns-clause-progress
-returns-clause-progress g c = lent_progress _ _ _ _ _ c.decode-found.result c.lent_text.result _ c.lent_text.ensures (c.decode-found.ensures.progress refl)
-
-pub returns-clause-sound : goal.returns-clause-sound
-returns-clause-sound g c = lent_sound _ _ _ _ _ _ _ _ text_counted text_apart c.decode-found.result c.lent_text.result _ _ c.lent_text.ensures c.decode-found.ensures.sound c.decode-found.ensures.borrows
-
-pub returns-clause-complete : goal.returns-clause-complete
-returns-clause-complete g c said exact = lent_refuses _ _ _ _ _ _ _ _ text_counted three_small text_apart text_lent text_spelled c.decode-found.result c.lent_text.result _ c.lent_text.ensures (c.decode-found.ensures.complete (inl refl)) c.decode-found.ensures.borrows exact
+pub returns-clause-item : goal.returns-clause-item
+returns-clause-item g c = copy_item (codes "str") (ReadsTextAs cow_text) (StopsText (codes "str")) (ReadsLent 3 true lent_str) c.deserialize_str-found.result c.refuse_copy.result _ _ refl c.refuse_copy.ensures c.deserialize_str-found.ensures.item
 
 pub returns-clause-stops : goal.returns-clause-stops
-returns-clause-stops g c said = lent_stops _ _ _ _ _ _ _ c.decode-found.result c.lent_text.result _ _ c.lent_text.ensures c.decode-found.ensures.sound c.decode-found.ensures.begins
+returns-clause-stops g c = copy_stops (codes "str") (ReadsTextAs cow_text) (StopsText (codes "str")) c.deserialize_str-found.result c.refuse_copy.result _ _ c.refuse_copy.ensures c.deserialize_str-found.ensures.item

@@ -1,7 +1,9 @@
-use Rattle.std.proofs.Common.{refl, inl}
-use Rattle.std.specs.Cow.{cow_slice_items}
-use Rattle.cbor4ii.proofs.Unwrapping.{bare_item}
+use Rattle.std.proofs.Common.{refl}
+use Rattle.std.specs.Cow.{cow_slice_items, IsOwnedSlice}
+use Rattle.cbor4ii_items.specs.Cow.{cow_bytes}
+use Rattle.cbor4ii_items.specs.Strings.{ReadsString}
+use Rattle.cbor4ii.proofs.Copying.{copied_item}
 use Rattle.cbor4ii.proofs.serde.de.strings.Deserializer+IoReader+R.deserialize_bytes.Goals as goal
 
 pub returns-clause-item : goal.returns-clause-item
-returns-clause-item g c = (let d = c.decode.ensures in bare_item cow_slice_items c.decode.result c.unwrapped.result _ _ c.unwrapped.ensures d.moves (d.progress refl) d.sound (d.complete (inl refl)) (d.stops (inl refl)))
+returns-clause-item g c = copied_item (ReadsString 2) cow_bytes cow_slice_items IsOwnedSlice (λ w. (record { 0 = w }, refl)) c.take_item-found.result c.copied_bytes.result c.copied_bytes.ensures c.take_item-found.ensures
