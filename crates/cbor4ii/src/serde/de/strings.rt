@@ -193,7 +193,8 @@ impl<R: BufRead + Drop> Deserializer<IoReader<R>> {
     }
 }
 
-/// A text in memory of its own: what is owned stays where it is.
+/// A text in memory of its own. What is owned stays where it is, and over a stream all is, so that
+/// nothing is copied twice.
 fn copied_text<'de, E>(
     alloc: Global,
     found: Result<CowStr<'de, Global>, DecodeError<E>>,
