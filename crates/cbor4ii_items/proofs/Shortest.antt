@@ -1,5 +1,5 @@
 -- Shortest heads, and strings behind them, are read exactly as they are spelled.
-use Rattle.std.proofs.Common.{◌≡◌, ◌≢◌, ℕ, ◌+◌, ◌-◌, ◌*◌, ◌%◌, ◌^◌, ◌<◌, ◌≤◌, inl, inr, List, [], ◌∷◌, ◌++◌, length, drop, take, Option, Some, Result, Ok, Err, Bool, true, false, refl, sym, ap, ap₂, ◌∙◌, subst, arith, cond, ltb, leb, eqb, ltb-true, lt-ltb, le-ltb, leb-true, eqb-true, eq-eqb, ne_eqb, le-leb, IfOk, IfErr}
+use Rattle.std.proofs.Common.{◌≡◌, ◌≢◌, ℕ, ◌+◌, ◌-◌, ◌*◌, ◌%◌, ◌^◌, ◌<◌, ◌≤◌, inl, inr, List, [], ◌∷◌, ◌++◌, length, drop, take, Option, Some, Result, Ok, Err, Bool, true, false, refl, sym, ap, ap₂, ◌∙◌, subst, arith, cond, ltb, leb, eqb, ltb-true, le-ltb, leb-true, eqb-true, eq-eqb, ne_eqb, le-leb, IfOk, IfErr}
 use Rattle.std.specs.Int.{bytes_high_first}
 use Rattle.std.proofs.lemmas.List.{length-drop, length-take-le, length-take}
 use Rattle.std.specs.declared.vec.Vec.{Vec}
@@ -13,7 +13,7 @@ use Rattle.cbor4ii_items.specs.Reading.{Reading, give, refuse, ◌>=>◌, Runs, 
 use Rattle.cbor4ii_items.specs.Decoding.{Sound, Refuses, Stops}
 use Rattle.cbor4ii_items.specs.Laws.Outcome.{same_value, same_refusal}
 use Rattle.cbor4ii_items.specs.Heads.{ReadsHead}
-use Rattle.cbor4ii_items.specs.Laws.Heads.{read_head, head_read, additional-lt}
+use Rattle.cbor4ii_items.specs.Laws.Heads.{read_head, head_read, additional-lt, info-additional}
 use Rattle.cbor4ii_items.specs.ReadHead.{head_at}
 use Rattle.cbor4ii_items.specs.Contents.{listed}
 use Rattle.cbor4ii_items.specs.ReadStrings.{content_on}
@@ -46,13 +46,6 @@ below w_one n h = omega arith
 below two n h = omega arith
 below four n h = omega arith
 below eight n h = omega arith
-
-info-additional : (n : ℕ) (w : Width) → HeadFits w n → info_of (additional w n) ≡ wide w
-info-additional n in_first h = let t : ltb n 24 ≡ true = lt-ltb n 24 (omega arith) in rw t refl
-info-additional n w_one h = refl
-info-additional n two h = refl
-info-additional n four h = refl
-info-additional n eight h = refl
 
 same_wide : (w u : Width) → wide w ≡ wide u → w ≡ u
 same_wide w u e = cc

@@ -1,9 +1,22 @@
 //! Heads that stand whole in the front that a reader shows: one look, and one advance.
-ghost use Rattle.std.specs.Prelude.{◌+◌, ◌≤◌, ◌<◌, ◌^◌, ℕ, List, IfOk, IfSome, OnSome};
+ghost use Rattle.std.specs.Prelude.{
+  ◌≡◌,
+  ◌+◌,
+  ◌≤◌,
+  ◌<◌,
+  ◌^◌,
+  ℕ,
+  List,
+  length,
+  IfOk,
+  IfSome,
+  OnSome,
+  None,
+};
 ghost use Rattle.cbor4ii_items.specs.Front.{IsWhole, IsArgument, RunsOrStays};
-ghost use Rattle.cbor4ii_items.specs.ReadHead.{head_at};
+ghost use Rattle.cbor4ii_items.specs.ReadHead.{head_at, following};
 
-use crate::additional::{allowed, following};
+use crate::additional::allowed;
 use cbor4ii_rw::ask::look;
 use cbor4ii_rw::read::Source;
 
@@ -59,24 +72,26 @@ fn whole_head(shown: &[u8], major: u8, width: u8) -> Option<(u64, usize)>
         return None;
     }
     match shown_argument(info, rest) {
-        Some(argument) => Some((argument, 1 + following(info) as usize)),
+        Some((argument, size)) => Some((argument, 1 + size)),
         None => None,
     }
 }
 
-/// The argument that follows a first byte with this additional information.
+/// The argument that follows a first byte with this additional information, and in how many bytes.
 #[inline(always)]
-fn shown_argument(info: u8, rest: &[u8]) -> Option<u64>
+pub(crate) fn shown_argument(info: u8, rest: &[u8]) -> Option<(u64, usize)>
     requires from { 24 ≤ info }
     requires to { info < 28 }
-    ensures { IfSome result (λ argument. IsArgument info rest.now argument) }
+    ensures some { IfSome result (λ found. IsArgument info rest.now found.0) }
+    ensures size { IfSome result (λ found. found.1 ≡ following info) }
+    ensures none { result ≡ None → length rest.now < following info }
 {
     match (info, rest) {
-        (24, [a, ..]) => Some(*a as u64),
-        (25, [a, b, ..]) => Some(u16::from_be_bytes([*a, *b]) as u64),
-        (26, [a, b, c, d, ..]) => Some(u32::from_be_bytes([*a, *b, *c, *d]) as u64),
+        (24, [a, ..]) => Some((*a as u64, 1)),
+        (25, [a, b, ..]) => Some((u16::from_be_bytes([*a, *b]) as u64, 2)),
+        (26, [a, b, c, d, ..]) => Some((u32::from_be_bytes([*a, *b, *c, *d]) as u64, 4)),
         (27, [a, b, c, d, e, f, g, h, ..]) => {
-            Some(u64::from_be_bytes([*a, *b, *c, *d, *e, *f, *g, *h]))
+            Some((u64::from_be_bytes([*a, *b, *c, *d, *e, *f, *g, *h]), 8))
         }
         _ => None,
     }

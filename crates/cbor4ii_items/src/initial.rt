@@ -1,11 +1,25 @@
-//! The first byte of a head, and its two parts (RFC 8949 section 3).
-ghost use Rattle.std.specs.Prelude.{◌≡◌, ◌+◌, ◌/◌, ◌%◌, ◌≤◌, OnOk, IfOk, IfErr, false};
+//! The first byte of a head, its two parts, and the argument behind it (RFC 8949 section 3).
+ghost use Rattle.std.specs.Prelude.{
+  ◌≡◌,
+  ◌+◌,
+  ◌/◌,
+  ◌%◌,
+  ◌≤◌,
+  OnOk,
+  IfOk,
+  IfErr,
+  IfSome,
+  None,
+  false,
+};
 ghost use Rattle.cbor4ii_rw.specs.Reader.{Breaks};
 ghost use Rattle.cbor4ii_items.specs.Decoding.{Sound, Refuses, Stops};
+ghost use Rattle.cbor4ii_items.specs.Head.{ArgumentBehind, LacksArgument};
 ghost use Rattle.cbor4ii_items.specs.Moves.{Moves, OnRead};
 ghost use Rattle.cbor4ii_items.specs.Next.{ReadsNext, StopsNext};
 ghost use Rattle.cbor4ii_items.specs.Refusal.{is_out_of_memory};
 
+use crate::front::shown_argument;
 use crate::head;
 use cbor4ii_rw::error::{DecodeError, StaticStr};
 use cbor4ii_rw::read::Source;
@@ -50,4 +64,22 @@ pub fn low(byte: u8) -> u8
     ensures { result ≡ byte % 32 }
 {
     byte & 0b0001_1111
+}
+
+/// The argument of a head, by its additional information and the bytes behind its first byte, and
+/// in how many of these it stands: 0, 1, 2, 4 or 8 (RFC 8949 section 3). What stands behind the
+/// argument is not looked at. None where the additional information is over 27, which has no
+/// argument, and where the argument does not stand whole in those bytes.
+#[inline(always)]
+pub fn argument(info: u8, behind: &[u8]) -> Option<(u64, usize)>
+    ensures some { IfSome result (λ found. ArgumentBehind info behind.now found.0 found.1) }
+    ensures none { result ≡ None → LacksArgument info behind.now }
+{
+    if info < 24 {
+        return Some((info as u64, 0));
+    }
+    if info > 27 {
+        return None;
+    }
+    shown_argument(info, behind)
 }

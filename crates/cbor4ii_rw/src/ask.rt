@@ -88,12 +88,7 @@ pub fn next_byte<S: Source>(reader: &mut S) -> Result<Option<u8>, S::Error>
     let byte = match look(reader, 1, &mut failure) {
         Some([]) => return Ok(None),
         Some([byte, ..]) => *byte,
-        None => {
-            return match failure {
-                Some(error) => Err(error),
-                None => unreachable!(),
-            };
-        }
+        None => return Err(failure.unwrap()),
     };
     reader.advance(1);
     Ok(Some(byte))

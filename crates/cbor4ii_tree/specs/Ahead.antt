@@ -1,11 +1,9 @@
 -- What shown bytes begin with, where items are skipped.
-use Rattle.std.specs.Prelude.{◌≡◌, ◌≢◌, ◌+◌, ◌*◌, ◌%◌, ◌==◌, ℕ, ◌≤◌, nat_lt, if◌then◌else◌, List, [], ◌∷◌, ◌++◌, length, take, drop, get_or, Ok, Some, Bool, true, false, ◌⊎◌}
-use Rattle.cbor4ii_items.specs.Head.{Width, IsBytes, break}
-use Rattle.cbor4ii_items.specs.Initial.{initial, info_of, wide}
-use Rattle.cbor4ii_items.specs.ReadHead.{number_on, following}
+use Rattle.std.specs.Prelude.{◌≡◌, ◌≢◌, ◌+◌, ◌*◌, ◌%◌, ◌==◌, ℕ, ◌≤◌, nat_lt, if◌then◌else◌, List, [], ◌∷◌, ◌++◌, length, take, drop, get_or, Some, Bool, true, false, ◌⊎◌}
+use Rattle.cbor4ii_items.specs.Head.{IsBytes, break}
+use Rattle.cbor4ii_items.specs.Initial.{initial}
 use Rattle.cbor4ii_tree.specs.Cost.{Budget, step_in}
 use Rattle.cbor4ii_tree.specs.Refusal.{Refusal, eof, Small, break_name}
-use Rattle.cbor4ii_tree.specs.HeadParts.{ArgumentAt}
 use Rattle.cbor4ii_tree.specs.Runs.{BeginsRun, TakesRun}
 use Rattle.cbor4ii_tree.specs.Stops.{Stopping, Is, NoBreak}
 use Rattle.cbor4ii_tree.specs.Skipping.{start_of, Leads, StopsBehind, SkipsItems, StopsOne}
@@ -62,19 +60,6 @@ leaf_by _ low = 0
 -- How many bytes an item takes that begins so, where this byte says it and that the item holds no other; else 0.
 unfoldable pub leaf_bytes : ℕ → ℕ
 leaf_bytes first = leaf_by (start_of (initial first)) (first % 32)
-
--- the number that comes most significant first behind a first byte with this additional information
-pub record ShowsNumber (info : ℕ) (rest : List ℕ) (n k : ℕ) : Type 0 where
-  pub some : k ≢ 0
-  pub follows : k ≡ following info
-  pub within : k ≤ length rest
-  pub number : (name after : List ℕ) → number_on name k k 0 (rest ++ after) ≡ Ok (n, drop k rest ++ after)
-
--- the argument behind a first byte, in k bytes
-pub record ShowsArgument (first : ℕ) (rest : List ℕ) (n k : ℕ) : Type 0 where
-  pub within : k ≤ length rest
-  pub bytes : IsBytes (take k rest)
-  pub argument : (w : Width) → info_of (first % 32) ≡ wide w → (after : List ℕ) → ArgumentAt w first (rest ++ after) n (drop k rest ++ after)
 
 -- another byte than a break stands here
 abbrev pub NotBreak : List ℕ → Type 0

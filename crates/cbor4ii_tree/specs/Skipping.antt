@@ -41,6 +41,12 @@ start_of (starts_simple s) = start.Bytes 0
 start_of (starts_bits p) = start.Bytes (precision_bytes p)
 start_of other_simple = start.Unsupported
 
+-- the first byte is taken with what begins so
+abbrev pub TakesFirst : Start → Type 0
+TakesFirst start.Stays = ⊥
+TakesFirst start.Unsupported = ⊥
+TakesFirst _ = Unit {0}
+
 -- ---- items
 
 abbrev pub SkipsOne : Budget → List ℕ → List ℕ → Type 0

@@ -12,7 +12,6 @@ ghost use Rattle.std.specs.Prelude.{
   ◌∷◌,
   ◌↔◌,
   IsTrue,
-  IfSome,
   ℕ,
   List,
 };
@@ -21,13 +20,12 @@ ghost use Rattle.cbor4ii_tree.specs.Ahead.{
   Allows,
   IsOpen,
   BeginsWithBreak,
-  ShowsNumber,
-  ShowsArgument,
   Sees,
 };
 ghost use Rattle.cbor4ii_tree.specs.Runs.{IsLeafAt, IsPairAt, BeginsRun};
 
 use crate::skip::{Behind, Start, start_of};
+use cbor4ii_items::initial::argument;
 use cbor4ii_items::marker;
 
 /// Among what the next item stands.
@@ -257,19 +255,19 @@ fn head_of(shown: &[u8], among: Among) -> Ahead
 fn wide_head_of(first: u8, rest: &[u8]) -> Ahead
     ensures { (among : Among) → Sees among result (first ∷ rest.now) }
 {
-    let Some((argument, width)) = argument_of(first, rest) else {
+    let Some((argument, size)) = argument(first % 32, rest) else {
         return open_head_of(first);
     };
     match start_of(first) {
         Start::Content => {
-            if argument > (rest.len() - width) as u64 {
-                return Ahead::Head(1 + width, Behind::Bytes(argument));
+            if argument > (rest.len() - size) as u64 {
+                return Ahead::Head(1 + size, Behind::Bytes(argument));
             }
-            Ahead::Head(1 + width + argument as usize, Behind::Nothing)
+            Ahead::Head(1 + size + argument as usize, Behind::Nothing)
         }
-        Start::Items => Ahead::Head(1 + width, Behind::Items(argument)),
-        Start::Members => Ahead::Head(1 + width, Behind::Members(argument)),
-        Start::Tag => Ahead::Head(1 + width, Behind::Items(1)),
+        Start::Items => Ahead::Head(1 + size, Behind::Items(argument)),
+        Start::Members => Ahead::Head(1 + size, Behind::Members(argument)),
+        Start::Tag => Ahead::Head(1 + size, Behind::Items(1)),
         _ => Ahead::Unseen,
     }
 }
@@ -283,33 +281,5 @@ fn open_head_of(first: u8) -> Ahead
         Start::Open => Ahead::Head(1, Behind::Open),
         Start::OpenMembers => Ahead::Head(1, Behind::OpenMembers),
         _ => Ahead::Unseen,
-    }
-}
-
-/// The argument that the head's first byte and the bytes behind it tell, and in how many bytes.
-#[inline(always)]
-fn argument_of(first: u8, rest: &[u8]) -> Option<(u64, usize)>
-    ensures { IfSome result (λ found. ShowsArgument first rest.now found.0 found.1) }
-{
-    let info = first % 32;
-    if info < 24 {
-        return Some((info as u64, 0));
-    }
-    shown_number(info, rest)
-}
-
-/// The number that follows a first byte with this additional information, and in how many bytes.
-#[inline(always)]
-fn shown_number(info: u8, rest: &[u8]) -> Option<(u64, usize)>
-    ensures { IfSome result (λ found. ShowsNumber info rest.now found.0 found.1) }
-{
-    match (info, rest) {
-        (24, [a, ..]) => Some((*a as u64, 1)),
-        (25, [a, b, ..]) => Some((u16::from_be_bytes([*a, *b]) as u64, 2)),
-        (26, [a, b, c, d, ..]) => Some((u32::from_be_bytes([*a, *b, *c, *d]) as u64, 4)),
-        (27, [a, b, c, d, e, f, g, h, ..]) => {
-            Some((u64::from_be_bytes([*a, *b, *c, *d, *e, *f, *g, *h]), 8))
-        }
-        _ => None,
     }
 }

@@ -207,12 +207,7 @@ fn refuse_unlent<S: Source>(reader: &mut S) -> Result<BoxedRawValue, DecodeError
     match look(reader, usize::MAX, &mut failure) {
         Some([]) => {}
         Some(_) => return Err(DecodeError::RequireBorrowed { name: "raw-value" }),
-        None => {
-            return match failure {
-                Some(error) => Err(DecodeError::Read(error)),
-                None => unreachable!(),
-            };
-        }
+        None => return Err(DecodeError::Read(failure.unwrap())),
     }
     match skip_lent(&[], reader) {
         Ok(_) => unreachable!(),

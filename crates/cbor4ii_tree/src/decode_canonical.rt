@@ -1,5 +1,5 @@
 //! Values that are spelled in one way, read.
-ghost use Rattle.std.specs.Prelude.{◌≡◌, ◌≢◌, ◌+◌, ◌*◌, ◌≤◌, ◌/◌, OnOk, IfOk, IfErr, true};
+ghost use Rattle.std.specs.Prelude.{◌≡◌, ◌+◌, ◌*◌, ◌≤◌, ◌/◌, OnOk, IfOk, IfErr, true};
 ghost use Rattle.cbor4ii_items.specs.Decoding.{Sound, Refuses, Stops};
 ghost use Rattle.cbor4ii_items.specs.Moves.{Moves};
 ghost use Rattle.cbor4ii_tree.specs.Canonically.{
@@ -45,15 +45,15 @@ ghost use Rattle.cbor4ii_tree.specs.Strictly.{
   ExactMembers,
   AcceptsCount,
 };
-ghost use Rattle.cbor4ii_tree.specs.Valuing.{ReadsStepped, ReadsVec, SimpleOf, IsNoSimple};
+ghost use Rattle.cbor4ii_tree.specs.Valuing.{ReadsStepped, ReadsVec};
 ghost use Rattle.cbor4ii_tree.specs.View.{view};
 
 use crate::front::Own;
+use crate::simple::{read_float, simple_of};
 use crate::unseen::peek;
-use crate::value::{FloatBits, Value};
+use crate::value::Value;
 use cbor4ii_items::canonical::{canonical_buf, canonical_head};
 use cbor4ii_items::decode::{Decode, Spelled};
-use cbor4ii_items::types::{F16, F32, F64};
 use cbor4ii_items::{major, marker};
 use cbor4ii_rw::error::DecodeError;
 use cbor4ii_rw::read::Source;
@@ -198,42 +198,6 @@ fn read_leaf<S: Source>(
         }
         major::BYTES => Ok(Value::Bytes(canonical_buf(alloc, "bytes", 2, reader)?)),
         _ => Ok(Value::Text(read_text(alloc, reader)?)),
-    }
-}
-
-/// The simple value that this byte is, where it is not undefined.
-fn simple_of(first: u8) -> Option<Value>
-    requires { first ≢ 247 }
-    ensures { SimpleOf first result }
-{
-    match first {
-        marker::FALSE => Some(Value::Bool(false)),
-        marker::TRUE => Some(Value::Bool(true)),
-        marker::NULL => Some(Value::Null),
-        _ => None,
-    }
-}
-
-/// Reads a float, whose first byte is shown.
-fn read_float<S: Source>(
-    alloc: Global,
-    reader: &mut S,
-    first: u8,
-) -> Result<Value, DecodeError<S::Error>>
-    requires major { 224 ≤ first }
-    requires other { IsNoSimple first }
-    ensures does { DoesUnder ReadsBehind (StopsBehindFirst first)
-        (S.view reader.old) (S.view reader.new) result }
-    ensures progress { OnOk result ((S.view reader.new).bound + 1 ≤ (S.view reader.old).bound) }
-{
-    match first {
-        marker::F16 => Ok(Value::Float(FloatBits::F16(F16::decode(alloc, reader)?.0))),
-        marker::F32 => Ok(Value::Float(FloatBits::F32(F32::decode(alloc, reader)?.0))),
-        marker::F64 => Ok(Value::Float(FloatBits::F64(F64::decode(alloc, reader)?.0))),
-        _ => Err(DecodeError::Unsupported {
-            name: "value",
-            found: first,
-        }),
     }
 }
 

@@ -24,8 +24,6 @@ ghost use Rattle.cbor4ii_tree.specs.Valuing.{
   StopsOpenMembers,
   ReadsMember,
   StopsMember,
-  SimpleOf,
-  IsNoSimple,
 };
 ghost use Rattle.cbor4ii_items.specs.Decoding.{Sound, Refuses, Stops};
 ghost use Rattle.cbor4ii_items.specs.Moves.{Moves};
@@ -54,12 +52,13 @@ ghost use Rattle.cbor4ii_tree.specs.Laws.Values.{
 };
 
 use crate::front::Own;
+use crate::simple::{read_float, simple_of};
 use crate::unseen::peek;
-use crate::value::{FloatBits, Value};
+use crate::value::Value;
 use cbor4ii_items::decode::{Decode, Spelled};
 use cbor4ii_items::indefinite::is_break;
-use cbor4ii_items::types::{Array, Bytes, F16, F32, F64, Map, Negative, Tag};
-use cbor4ii_items::{major, marker};
+use cbor4ii_items::major;
+use cbor4ii_items::types::{Array, Bytes, Map, Negative, Tag};
 use cbor4ii_rw::error::DecodeError;
 use cbor4ii_rw::read::Source;
 use std::alloc::Global;
@@ -209,43 +208,6 @@ fn read_leaf<S: Source>(
         }
         major::BYTES => Ok(Value::Bytes(Bytes::<Vec<u8>>::decode(alloc, reader)?.0)),
         _ => Ok(Value::Text(String::decode(alloc, reader)?)),
-    }
-}
-
-/// The simple value that this byte is.
-fn simple_of(first: u8) -> Option<Value>
-    ensures { SimpleOf first result }
-{
-    match first {
-        marker::FALSE => Some(Value::Bool(false)),
-        marker::TRUE => Some(Value::Bool(true)),
-        marker::NULL => Some(Value::Null),
-        marker::UNDEFINED => Some(Value::Null),
-        _ => None,
-    }
-}
-
-/// Reads a float, whose first byte is shown.
-fn read_float<S: Source>(
-    alloc: Global,
-    reader: &mut S,
-    first: u8,
-) -> Result<Value, DecodeError<S::Error>>
-    requires major { 224 ≤ first }
-    requires other { IsNoSimple first }
-    ensures does { DoesUnder ReadsUnder (StopsFirst first)
-        (S.view reader.old) (S.view reader.new) result }
-    ensures item { IfOk result (λ v. IsItem (view v)) }
-    ensures progress { OnOk result ((S.view reader.new).bound + 1 ≤ (S.view reader.old).bound) }
-{
-    match first {
-        marker::F16 => Ok(Value::Float(FloatBits::F16(F16::decode(alloc, reader)?.0))),
-        marker::F32 => Ok(Value::Float(FloatBits::F32(F32::decode(alloc, reader)?.0))),
-        marker::F64 => Ok(Value::Float(FloatBits::F64(F64::decode(alloc, reader)?.0))),
-        _ => Err(DecodeError::Unsupported {
-            name: "value",
-            found: first,
-        }),
     }
 }
 

@@ -93,10 +93,7 @@ impl<S: Source> Front<S> for Own {
         let mut failure = None;
         match look(reader, 1, &mut failure) {
             Some(shown) => Ok(first_byte(shown)),
-            None => match failure {
-                Some(error) => Err(error),
-                None => unreachable!(),
-            },
+            None => Err(failure.unwrap()),
         }
     }
 
@@ -104,10 +101,7 @@ impl<S: Source> Front<S> for Own {
         let mut failure = None;
         match look(reader, want, &mut failure) {
             Some(shown) => Ok(front_size(shown, want)),
-            None => match failure {
-                Some(error) => Err(error),
-                None => unreachable!(),
-            },
+            None => Err(failure.unwrap()),
         }
     }
 
@@ -116,10 +110,7 @@ impl<S: Source> Front<S> for Own {
         let mut failure = None;
         match look(reader, WINDOW, &mut failure) {
             Some(shown) => Ok(ahead_of(shown, among)),
-            None => match failure {
-                Some(error) => Err(error),
-                None => unreachable!(),
-            },
+            None => Err(failure.unwrap()),
         }
     }
 

@@ -13,6 +13,7 @@ pub mod laws;
 pub mod lend_raw;
 mod range;
 pub mod raw;
+mod simple;
 mod skip;
 mod unseen;
 pub mod value;

@@ -77,10 +77,7 @@ impl<'de, R: Read<'de>> LendRaw<R> for RawValue<'de> {
                 }
                 Err(NoFront::Short)
             }
-            None => match failure {
-                Some(error) => Err(NoFront::Read(error)),
-                None => unreachable!(),
-            },
+            None => Err(NoFront::Read(failure.unwrap())),
         }
     }
 

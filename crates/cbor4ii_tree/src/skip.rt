@@ -125,10 +125,7 @@ pub(crate) fn skip_item<S: Source, F: Front<S>>(
     if skip_one(front, reader, &mut failure) {
         return Ok(());
     }
-    match failure {
-        Some(error) => Err(error),
-        None => unreachable!(),
-    }
+    Err(failure.unwrap())
 }
 
 /// Skips one item. Where it does not, the refusal goes to `failure`: no large answer is handed up

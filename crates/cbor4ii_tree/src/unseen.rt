@@ -1,6 +1,7 @@
 //! Items skipped byte by byte, where no look decides them: their heads (RFC 8949 section 3), their
 //! bytes, and breaks.
 ghost use Rattle.std.specs.Prelude.{◌≡◌, ◌+◌, ◌^◌, ◌≤◌, ◌<◌, OnOk, IfOk, IfErr, IsTrue, codes, ◌%◌};
+ghost use Rattle.cbor4ii_rw.specs.Reader.{Advances};
 ghost use Rattle.cbor4ii_items.specs.Decoding.{Sound, Stops};
 ghost use Rattle.cbor4ii_items.specs.Head.{Width, byte_count};
 ghost use Rattle.cbor4ii_items.specs.Initial.{info_of, wide};
@@ -9,7 +10,7 @@ ghost use Rattle.cbor4ii_items.specs.Reading.{Runs, peek_at, byte_at};
 ghost use Rattle.cbor4ii_items.specs.ReadStrings.{break_at};
 ghost use Rattle.cbor4ii_items.specs.Strings.{ReadsBreak, StopsBreak};
 ghost use Rattle.cbor4ii_tree.specs.Does.{Does, Spares};
-ghost use Rattle.cbor4ii_tree.specs.Skipping.{StopsUnder, Leads};
+ghost use Rattle.cbor4ii_tree.specs.Skipping.{StopsUnder, Leads, TakesFirst};
 ghost use Rattle.cbor4ii_tree.specs.Ahead.{IsOpen, EndsOrNot, StopsAtEnd};
 ghost use Rattle.cbor4ii_tree.specs.HeadParts.{ArgumentAt, DropsBytes, DropsSome};
 ghost use Rattle.cbor4ii_tree.specs.Stops.{Missing, MissingAll};
@@ -53,59 +54,54 @@ pub(crate) fn skip_head<S: Source, F: Front<S>>(
     ensures stays { IsTrue F.apart → S.view reader.new ≡ S.view reader.old }
 {
     let first = peek(front, reader, "ignored-any", 1)?;
-    match start_of(first) {
+    let start = start_of(first);
+    take_first(front, reader, start);
+    match start {
         Start::Bytes(count) => {
-            front.advance(reader, 1);
             skip_bytes(front, reader, count as u64)?;
             Ok(Behind::Nothing)
         }
-        Start::Content => {
-            front.advance(reader, 1);
-            Ok(Behind::Bytes(argument(front, reader, "ignored-any", first)?))
-        }
-        Start::Items => {
-            front.advance(reader, 1);
-            Ok(Behind::Items(argument(front, reader, "ignored-any", first)?))
-        }
-        Start::Members => {
-            front.advance(reader, 1);
-            Ok(Behind::Members(argument(front, reader, "ignored-any", first)?))
-        }
+        Start::Content => Ok(Behind::Bytes(argument(front, reader, "ignored-any", first)?)),
+        Start::Items => Ok(Behind::Items(argument(front, reader, "ignored-any", first)?)),
+        Start::Members => Ok(Behind::Members(argument(front, reader, "ignored-any", first)?)),
         Start::Tag => {
-            front.advance(reader, 1);
             argument(front, reader, "tag", first)?;
             Ok(Behind::Items(1))
         }
-        Start::Open => {
-            front.advance(reader, 1);
-            Ok(Behind::Open)
-        }
-        Start::OpenMembers => {
-            front.advance(reader, 1);
-            Ok(Behind::OpenMembers)
-        }
+        Start::Open => Ok(Behind::Open),
+        Start::OpenMembers => Ok(Behind::OpenMembers),
         Start::Stays => Err(DecodeError::Mismatch {
             name: "ignored-any",
             found: first,
         }),
-        Start::Taken => {
-            front.advance(reader, 1);
-            Err(DecodeError::Mismatch {
-                name: "ignored-any",
-                found: first,
-            })
-        }
-        Start::NoTag => {
-            front.advance(reader, 1);
-            Err(DecodeError::Mismatch {
-                name: "tag",
-                found: first,
-            })
-        }
+        Start::Taken => Err(DecodeError::Mismatch {
+            name: "ignored-any",
+            found: first,
+        }),
+        Start::NoTag => Err(DecodeError::Mismatch {
+            name: "tag",
+            found: first,
+        }),
         Start::Unsupported => Err(DecodeError::Unsupported {
             name: "ignored-any",
             found: first,
         }),
+    }
+}
+
+/// Takes the first byte, where it is taken with what begins so.
+fn take_first<S: Source, F: Front<S>>(front: &mut F, reader: &mut S, start: Start)
+    requires { 1 ≤ (F.view front.old reader.old).advanceable }
+    ensures takes { TakesFirst start →
+        Advances 1 (F.view front.old reader.old) (F.view front.new reader.new) }
+    ensures leaves { (TakesFirst start → ⊥) →
+        F.view front.new reader.new ≡ F.view front.old reader.old }
+    ensures stays { IsTrue F.apart → S.view reader.new ≡ S.view reader.old }
+{
+    match start {
+        Start::Stays => {}
+        Start::Unsupported => {}
+        _ => front.advance(reader, 1),
     }
 }
 

@@ -1,6 +1,6 @@
 //! What types say of themselves, and the laws.
 use cbor4ii_items::decode::{ArrayStart, Spelled};
-use cbor4ii_items::initial::{high, if_major, low};
+use cbor4ii_items::initial::{argument, high, if_major, low};
 use cbor4ii_items::laws::{
     arrays_are_read_back, integers_are_read_back, lengths_are_read_back, maps_are_read_back,
     no_spelling_begins_another, parts_are_read_back, shortest_is_least,
@@ -43,6 +43,25 @@ fn parts_of_a_first_byte(rt: HostRuntime) {
     assert_eq!(rt; if_major(0xd8), 6);
     assert_eq!(rt; high(0xd8), 0xc0);
     assert_eq!(rt; low(0xd8), 0x18);
+}
+
+#[test]
+fn arguments_behind_a_first_byte(rt: HostRuntime) {
+    assert_eq!(rt; argument(23, &[0xff]), Some((23, 0)));
+    assert_eq!(rt; argument(24, &[0x18, 0xff]), Some((24, 1)));
+    assert_eq!(rt; argument(25, &[1, 0]), Some((256, 2)));
+    assert_eq!(rt; argument(26, &[0, 1, 0, 0, 0xff]), Some((65_536, 4)));
+    assert_eq!(rt; argument(27, &[0, 0, 0, 1, 0, 0, 0, 0]), Some((1 << 32, 8)));
+}
+
+#[test]
+fn no_argument_stands_behind_a_first_byte(rt: HostRuntime) {
+    assert_eq!(rt; argument(24, &[]), None);
+    assert_eq!(rt; argument(25, &[1]), None);
+    assert_eq!(rt; argument(26, &[0, 1, 0]), None);
+    assert_eq!(rt; argument(27, &[0, 0, 0, 1, 0, 0, 0]), None);
+    assert_eq!(rt; argument(28, &[0, 0, 0, 1, 0, 0, 0, 0]), None);
+    assert_eq!(rt; argument(31, &[0, 0, 0, 1, 0, 0, 0, 0]), None);
 }
 
 #[test]

@@ -7,6 +7,7 @@ use Rattle.std.proofs.Math.Nat.{pow-le-pow_right}
 use Rattle.std.proofs.Math.Arith.{mod-mul}
 use Rattle.std.proofs.Math.Seq.{drop-append_seam, take-append_seam}
 use Rattle.cbor4ii_items.specs.Head.{Width, in_first, one as w_one, two, four, eight, byte_count, HeadFits, additional, head, IsBytes}
+use Rattle.cbor4ii_items.specs.Initial.{wide as in_width, info_of}
 use Rattle.cbor4ii_items.specs.Refusal.{mismatch}
 use Rattle.cbor4ii_items.specs.Reading.{give, refuse}
 use Rattle.cbor4ii_items.specs.Heads.{ReadsHead, Begins}
@@ -49,6 +50,14 @@ additional-lt n w_one h = omega arith
 additional-lt n two h = omega arith
 additional-lt n four h = omega arith
 additional-lt n eight h = omega arith
+
+-- the additional information of a head says its width
+pub info-additional : (n : ℕ) (w : Width) → HeadFits w n → info_of (additional w n) ≡ in_width w
+info-additional n in_first h = let t : ltb n 24 ≡ true = lt-ltb n 24 (omega arith) in rw t refl
+info-additional n w_one h = refl
+info-additional n two h = refl
+info-additional n four h = refl
+info-additional n eight h = refl
 
 head_again : (name : List ℕ) (w : Width) (major v width : ℕ) (ys : List ℕ) → HeadFits w v → byte_count w ≤ width → head_at name major width (head major v w ++ ys) ≡ Ok (v, ys)
 head_again name w major v width ys h le =

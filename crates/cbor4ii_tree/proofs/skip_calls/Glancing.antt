@@ -1,22 +1,23 @@
 -- Heads that stand whole in what is shown.
-use Rattle.std.proofs.Common.{◌≡◌, ◌≢◌, ℕ, suc, ◌+◌, ◌-◌, ◌%◌, ◌<◌, ◌≤◌, List, [], ◌∷◌, ◌++◌, length, take, drop, Option, Some, None, IfSome, refl, sym, ap, ◌∙◌, subst, arith, append_assoc, take-append-drop, length-drop}
-use Rattle.std.proofs.lemmas.List.{length-take-le, take-append-le}
-use Rattle.cbor4ii_items.specs.Head.{Width, in_first, one, two, four, eight, byte_count, IsBytes, break}
+use Rattle.std.proofs.Common.{◌≡◌, ◌≢◌, ℕ, suc, ◌+◌, ◌-◌, ◌%◌, ◌<◌, ◌≤◌, List, [], ◌∷◌, ◌++◌, length, take, drop, refl, sym, ap, ◌∙◌, subst, arith, append_assoc, take-append-drop, length-append, length-drop}
+use Rattle.std.proofs.lemmas.List.{length-take-le}
+use Rattle.std.specs.Int.{bytes_high_first}
+use Rattle.cbor4ii_items.specs.Head.{Width, byte_count, HeadFits, additional, ArgumentBehind, IsBytes, break}
 use Rattle.cbor4ii_items.specs.Initial.{info_of, wide, initial}
-use Rattle.cbor4ii_items.specs.ReadHead.{following}
+use Rattle.cbor4ii_items.specs.Laws.Heads.{info-additional, length-bytes_high_first}
 use Rattle.cbor4ii_items.specs.Laws.Fronts.{drop_more}
 use Rattle.cbor4ii_tree.specs.Cost.{Budget}
+use Rattle.cbor4ii_tree.specs.HeadParts.{ArgumentAt}
 use Rattle.cbor4ii_tree.specs.Runs.{IsLeafAt}
 use Rattle.cbor4ii_tree.specs.Skipping.{start_of, Leads, StopsBehind}
 use Rattle.cbor4ii_tree.specs.Refusal.{Refusal}
 use Rattle.cbor4ii_tree.specs.declared.skip.Start.{Start}
-use Rattle.cbor4ii_tree.specs.Ahead.{BeginsHead, BeginsWithBreak, ShowsNumber, ShowsArgument}
+use Rattle.cbor4ii_tree.specs.Ahead.{BeginsHead, BeginsWithBreak}
 use Rattle.cbor4ii_tree.specs.declared.skip.Behind.{Behind}
 use Rattle.cbor4ii_tree.specs.declared.skip.Behind.TheVariants.{Nothing, Bytes, Items, Members, Open, OpenMembers}
 use Rattle.cbor4ii_tree.specs.declared.skip.Start.TheVariants as start
-use Rattle.cbor4ii_tree.proofs.skip_calls.Bytes.{says_width, argument_read}
 use Rattle.cbor4ii_tree.proofs.heads.Inverse.{IsBytes-take, IsBytes-drop}
-use Rattle.cbor4ii_tree.proofs.skip_calls.Leading.{whole, argument_low, content_info, items_info, members_info, tag_info, open_leads, open_members_leads}
+use Rattle.cbor4ii_tree.proofs.skip_calls.Leading.{whole, content_info, items_info, members_info, tag_info, open_leads, open_members_leads}
 
 -- ---- an item that holds no other
 
@@ -34,30 +35,6 @@ sees_leaf size shown some l fresh = record {
       );
   item = λ inner after e rest h. absurd h;
 }
-
--- ---- arguments
-
-pub shows_low : (b : ℕ) (bs : List ℕ) → b % 32 < 24 → ShowsArgument b bs (b % 32) 0
-shows_low b bs low = record { within = omega arith; bytes = tt; argument = λ w is after. argument_low w b (bs ++ after) is low }
-
-width_follows : (w : Width) (i k : ℕ) → info_of i ≡ wide w → 24 ≤ i → k ≡ following i → byte_count w ≡ k
-width_follows in_first i k is large f = absurd (omega (arith, says_width i in_first is, large))
-width_follows one i k is large f = sym (f ∙ ap following (says_width i one is))
-width_follows two i k is large f = sym (f ∙ ap following (says_width i two is))
-width_follows four i k is large f = sym (f ∙ ap following (says_width i four is))
-width_follows eight i k is large f = sym (f ∙ ap following (says_width i eight is))
-
-pub shows_wide : (b n k : ℕ) (bs : List ℕ) → 24 ≤ b % 32 → IsBytes bs → ShowsNumber (b % 32) bs n k → ShowsArgument b bs n k
-shows_wide b n k bs large fresh s = record {
-  within = s.within;
-  bytes = IsBytes-take k bs fresh;
-  argument = λ w is after. argument_read [] w b k n k (bs ++ after) (drop k bs ++ after) is (width_follows w (b % 32) k is large s.follows) s.some
-      (subst IsBytes (sym (take-append-le k bs after s.within)) (IsBytes-take k bs fresh)) (omega arith) (s.number [] after);
-}
-
-pub shows_some : (b : ℕ) (bs : List ℕ) (o : Option (ℕ × ℕ)) → 24 ≤ b % 32 → IsBytes bs → IfSome o (λ found. ShowsNumber (b % 32) bs found.0 found.1) → IfSome o (λ found. ShowsArgument b bs found.0 found.1)
-shows_some b bs None large fresh h = tt
-shows_some b bs (Some found) large fresh h = shows_wide b found.0 found.1 bs large fresh h
 
 -- ---- heads
 
@@ -78,18 +55,35 @@ other_byte : (b : ℕ) (s : Start) → start_of (initial b) ≡ s → (s ≡ sta
 unfolding initial
 other_byte b s is f e = f (sym is ∙ ap (λ j. start_of (initial j)) e)
 
-module _ (b n k : ℕ) (bs : List ℕ) (small : b < 256) (a : ShowsArgument b bs n k) where
-  pub sees_string : start_of (initial b) ≡ start.Content → BeginsHead (1 + k) (Bytes n) (b ∷ bs)
-  sees_string s = behind_first (1 + k) k (Bytes n) b bs (omega arith) small a.within a.bytes (λ _ _ _ _ _. other_byte b start.Content s (λ u. cc))
-      (λ inner after. let i = content_info inner b small s in i.3 (bs ++ after) (drop k bs ++ after) n (a.argument i.0 i.1 after))
+-- the width that the additional information says
+wide_is : (w u : Width) → wide w ≡ wide u → w ≡ u
+wide_is w u e = cc
 
-  pub sees_content : start_of (initial b) ≡ start.Content → n ≤ length bs - k → IsBytes bs → BeginsHead (1 + k + n) Nothing (b ∷ bs)
-  sees_content s le fresh =
+module _ (b n k : ℕ) (bs : List ℕ) (small : b < 256) (fresh : IsBytes bs) (a : ArgumentBehind (b % 32) bs n k) where
+  within : k ≤ length bs
+  within = omega (arith, ap length a.is, length-append (bytes_high_first k n) (drop k bs), length-bytes_high_first k n)
+
+  -- whatever follows
+  read : (w : Width) → info_of (b % 32) ≡ wide w → (after : List ℕ) → ArgumentAt w b (bs ++ after) n (drop k bs ++ after)
+  read w is after =
+      let same : a.width ≡ w = wide_is a.width w (sym (info-additional n a.width a.fits) ∙ (ap info_of a.says ∙ is)) in
+      record {
+        fits = subst (λ u. HeadFits u n) same a.fits;
+        says = subst (λ u. additional u n ≡ b % 32) same a.says;
+        is = ap (λ r. r ++ after) a.is ∙ (append_assoc (bytes_high_first k n) (drop k bs) after ∙ ap (λ j. bytes_high_first j n ++ (drop k bs ++ after)) (a.size ∙ ap byte_count same));
+      }
+
+  pub sees_string : start_of (initial b) ≡ start.Content → BeginsHead (1 + k) (Bytes n) (b ∷ bs)
+  sees_string s = behind_first (1 + k) k (Bytes n) b bs (omega arith) small within (IsBytes-take k bs fresh) (λ _ _ _ _ _. other_byte b start.Content s (λ u. cc))
+      (λ inner after. let i = content_info inner b small s in i.3 (bs ++ after) (drop k bs ++ after) n (read i.0 i.1 after))
+
+  pub sees_content : start_of (initial b) ≡ start.Content → n ≤ length bs - k → BeginsHead (1 + k + n) Nothing (b ∷ bs)
+  sees_content s le =
       let room : n ≤ length (drop k bs) = omega (arith, length-drop k bs, le) in
-      behind_first (1 + k + n) (k + n) Nothing b bs (omega arith) small (omega (arith, le, a.within)) (IsBytes-take (k + n) bs fresh) (λ _ _ _ _ h. absurd h)
+      behind_first (1 + k + n) (k + n) Nothing b bs (omega arith) small (omega (arith, le, within)) (IsBytes-take (k + n) bs fresh) (λ _ _ _ _ h. absurd h)
       (λ inner after.
       let i = content_info inner b small s in
-      whole inner (b ∷ (bs ++ after)) (drop (k + n) bs ++ after) (i.4 (bs ++ after) (drop k bs ++ after) (drop (k + n) bs ++ after) n (a.argument i.0 i.1 after) (record {
+      whole inner (b ∷ (bs ++ after)) (drop (k + n) bs ++ after) (i.4 (bs ++ after) (drop k bs ++ after) (drop (k + n) bs ++ after) n (read i.0 i.1 after) (record {
         content = take n (drop k bs);
         size = length-take-le n (drop k bs) room;
         bytes = IsBytes-take n (drop k bs) (IsBytes-drop k bs fresh);
@@ -97,16 +91,16 @@ module _ (b n k : ℕ) (bs : List ℕ) (small : b < 256) (a : ShowsArgument b bs
       })))
 
   pub sees_items : start_of (initial b) ≡ start.Items → BeginsHead (1 + k) (Items n) (b ∷ bs)
-  sees_items s = behind_first (1 + k) k (Items n) b bs (omega arith) small a.within a.bytes (λ _ _ _ _ _. other_byte b start.Items s (λ u. cc))
-      (λ inner after. let i = items_info inner b small s in i.3 (bs ++ after) (drop k bs ++ after) n (a.argument i.0 i.1 after))
+  sees_items s = behind_first (1 + k) k (Items n) b bs (omega arith) small within (IsBytes-take k bs fresh) (λ _ _ _ _ _. other_byte b start.Items s (λ u. cc))
+      (λ inner after. let i = items_info inner b small s in i.3 (bs ++ after) (drop k bs ++ after) n (read i.0 i.1 after))
 
   pub sees_members : start_of (initial b) ≡ start.Members → BeginsHead (1 + k) (Members n) (b ∷ bs)
-  sees_members s = behind_first (1 + k) k (Members n) b bs (omega arith) small a.within a.bytes (λ _ _ _ _ _. other_byte b start.Members s (λ u. cc))
-      (λ inner after. let i = members_info inner b small s in i.3 (bs ++ after) (drop k bs ++ after) n (a.argument i.0 i.1 after))
+  sees_members s = behind_first (1 + k) k (Members n) b bs (omega arith) small within (IsBytes-take k bs fresh) (λ _ _ _ _ _. other_byte b start.Members s (λ u. cc))
+      (λ inner after. let i = members_info inner b small s in i.3 (bs ++ after) (drop k bs ++ after) n (read i.0 i.1 after))
 
   pub sees_tag : start_of (initial b) ≡ start.Tag → BeginsHead (1 + k) (Items 1) (b ∷ bs)
-  sees_tag s = behind_first (1 + k) k (Items 1) b bs (omega arith) small a.within a.bytes (λ _ _ _ _ _. other_byte b start.Tag s (λ u. cc))
-      (λ inner after. let i = tag_info inner b small s in i.3 (bs ++ after) (drop k bs ++ after) n (a.argument i.0 i.1 after))
+  sees_tag s = behind_first (1 + k) k (Items 1) b bs (omega arith) small within (IsBytes-take k bs fresh) (λ _ _ _ _ _. other_byte b start.Tag s (λ u. cc))
+      (λ inner after. let i = tag_info inner b small s in i.3 (bs ++ after) (drop k bs ++ after) n (read i.0 i.1 after))
 
 pub sees_open : (b : ℕ) (bs : List ℕ) → b < 256 → start_of (initial b) ≡ start.Open → BeginsHead 1 Open (b ∷ bs)
 sees_open b bs small s = behind_first 1 0 Open b bs refl small (omega arith) tt (λ _ _ _ _ _. other_byte b start.Open s (λ u. cc)) (λ inner after. open_leads inner b small s (bs ++ after))

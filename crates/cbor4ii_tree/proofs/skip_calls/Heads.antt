@@ -6,7 +6,8 @@ use Rattle.cbor4ii_items.specs.Refusal.{Refusal, refusal_of, is_read, is_depth_o
 use Rattle.cbor4ii_tree.specs.Cost.{Budget}
 use Rattle.cbor4ii_tree.specs.Stops.{Stopping}
 use Rattle.cbor4ii_tree.specs.Does.{Accepting, Does}
-use Rattle.cbor4ii_tree.specs.Skipping.{StopsUnder, Leads}
+use Rattle.cbor4ii_tree.specs.Skipping.{StopsUnder, Leads, TakesFirst}
+use Rattle.cbor4ii_tree.specs.declared.skip.Start.{Start}
 use Rattle.cbor4ii_tree.specs.declared.skip.Behind.{Behind}
 use Rattle.cbor4ii_tree.proofs.skip_calls.Doing.{Reached, reached_by, reached_then, reached_as, does_ok, does_err, does_refuse}
 
@@ -28,3 +29,8 @@ module _ (inner : Budget) {b : ℕ} {a c : View} (first : Reached (First b) a c)
 
   pub first_refused : {E : Type 0} (z : Refusal) {e : DecodeError E} → refusal_of e ≡ Some z → is_read e ≡ false → is_depth_overflow e ≡ false → ((bs : List ℕ) → StopsUnder inner (b ∷ bs) z bs) → Does {V = Behind} (Leads inner) (StopsUnder inner) a c (Err e)
   first_refused z says read shallow f = does_refuse (First b) (Leads inner) (StopsUnder inner) z says read shallow (λ xs ys e. subst (λ x. StopsUnder inner x z ys) (sym e) (f ys)) first
+
+-- ---- the first byte
+
+pub takes : {s : Start} (t : Start) → s ≡ t → TakesFirst t → TakesFirst s
+takes t e h = subst TakesFirst (sym e) h

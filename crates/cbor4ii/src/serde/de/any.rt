@@ -39,16 +39,13 @@ use crate::serde::de::any_leaf::{AnyKind, kind_of, take_leaf};
 use crate::serde::de::deserialize::{Deserialize, Typed};
 use crate::serde::de::deserializer::Deserializer;
 use crate::serde::de::error::DecodeError;
-use crate::serde::de::parts::takes_break;
+use crate::serde::de::parts::{RESERVED, takes_break};
 use cbor4ii_items::initial::peek;
 use cbor4ii_items::types::{Array, Map};
 use cbor4ii_rw::error as core_error;
 use cbor4ii_rw::read::Source;
 use cbor4ii_tree::Value;
 use std::alloc::Global;
-
-/// So many values, or pairs, have their place reserved, at most, before any of them came.
-const RESERVED: usize = 256;
 
 impl<S: Source> Deserializer<S> {
     /// Any item but a tag, as a value; of tags 2 and 3 (RFC 8949 section 3.4.3) in one byte the

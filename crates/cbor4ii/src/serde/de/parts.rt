@@ -43,7 +43,7 @@ use cbor4ii_rw::read::Source;
 use std::alloc::Global;
 
 /// So many parts have their place reserved, at most, before any of them came.
-const RESERVED: usize = 256;
+pub(crate) const RESERVED: usize = 256;
 
 /// A type of arrays or of maps, by its parts.
 pub(crate) trait Sequence<S: Source>: Sized {

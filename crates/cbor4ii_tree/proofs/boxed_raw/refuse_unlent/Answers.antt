@@ -6,8 +6,8 @@ use Rattle.cbor4ii_tree.proofs.boxed_raw.refuse_unlent.Goals as goal
 pub returns-in-Some-clause-unlent : goal.returns-in-Some-clause-unlent
 returns-in-Some-clause-unlent g c = some_stops c.look.result c.in-Some.field-0 c.in-Some.is c.look.follows.holds-at-none c.in-Some.ensures.front _ refl c.in-Some.len_at_least
 
-pub unreachable-requires-in-Ok : goal.unreachable-requires-in-Ok
-unreachable-requires-in-Ok g c = no_item c.in-Ok.ensures.skips
+pub unreachable-requires : goal.unreachable-requires
+unreachable-requires g c = no_item c.in-Ok.ensures.skips
 
 pub returns-clause-copies : goal.returns-clause-copies
 returns-clause-copies g c =

@@ -102,7 +102,7 @@ read_inside-returns-clause-does g t c =
 
 pub read_inside-returns-in-7-clause-does : goal.read_inside-returns-in-7-clause-does
 read_inside-returns-in-7-clause-does g t c =
-    exact_first c.in_ok-first.first c.in_ok-first.ensures.runs c.read_float.ensures.does
+    exact_first c.in_ok-first.first c.in_ok-first.ensures.runs c.read_float.ensures.exactly
 
 pub read_inside-returns-in_err-first-clause-does : goal.read_inside-returns-in_err-first-clause-does
 read_inside-returns-in_err-first-clause-does g t c =
