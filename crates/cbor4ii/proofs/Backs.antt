@@ -1,5 +1,5 @@
 -- What stands for a typed value is read back.
-use Rattle.std.proofs.Common.{◌≡◌, inl, inr, ℕ, ◌+◌, ◌<◌, ◌≤◌, ◌^◌, List, [], ◌∷◌, ◌++◌, length, drop, max, Bool, true, Option, Some, None, refl, sym, ap, ◌∙◌, subst, arith, append_assoc, append-nil, length-append, All}
+use Rattle.std.proofs.Common.{◌≡◌, inl, inr, ℕ, ◌+◌, ◌<◌, ◌≤◌, ◌^◌, List, [], ◌∷◌, ◌++◌, length, drop, max, Bool, true, Some, refl, sym, ap, ◌∙◌, subst, arith, append_assoc, append-nil, length-append, All}
 use Rattle.std.proofs.lemmas.List.Elements.{All-head, All-tail}
 use Rattle.std.proofs.Math.Seq.{drop-append_seam}
 use Rattle.std.specs.declared.cmp.Ordering.{Ordering}
@@ -19,7 +19,7 @@ use Rattle.cbor4ii_items.specs.ReadBack.{ReadsBack, greatest_cost, pair_cost}
 use Rattle.cbor4ii_items.specs.Sequences.{ReadsParts, ReadsCountedParts, ReadsSequence, ReadsPair}
 use Rattle.cbor4ii_items.specs.Laws.NumbersBack.{head_back}
 use Rattle.cbor4ii_items.specs.Laws.PartsBack.{pair_back}
-use Rattle.cbor4ii_ser.specs.Item.{followed, items_of, entry_item}
+use Rattle.cbor4ii_ser.specs.Item.{Encoding, encoded, refused, followed, items_of, entry_item}
 use Rattle.cbor4ii.specs.Built.{built, put_all, ReadsBTreeMap}
 use Rattle.cbor4ii.specs.ReadBack.{IsReadBack, BeginsOther}
 use Rattle.cbor4ii.specs.Stepped.{Stepped}
@@ -45,16 +45,16 @@ headed major count bytes rest h =
 
 -- ---- values that may be absent
 
-other_first : (bytes rest : List ℕ) → BeginsOther (Some bytes) → BeginsNull (bytes ++ rest) → ⊥
+other_first : (bytes rest : List ℕ) → BeginsOther (encoded bytes) → BeginsNull (bytes ++ rest) → ⊥
 other_first bytes rest h (inl e) = let f = h.2 in (let is : h.0 ≡ 0xf6 = cc in h.3 is)
 other_first bytes rest h (inr e) = let f = h.2 in (let is : h.0 ≡ 0xf7 = cc in h.4 is)
 
-some_first : (bytes rest : List ℕ) → BeginsOther (Some bytes) → 1 ≤ length (bytes ++ rest)
+some_first : (bytes rest : List ℕ) → BeginsOther (encoded bytes) → 1 ≤ length (bytes ++ rest)
 some_first bytes rest h = omega (arith, ap length h.2, length-append bytes rest)
 
-pub some_read_back : {V : Type 0} (reads : Reads V) (item : Option (List ℕ)) (v : V) (cost : ℕ) → IsReadBack reads item v cost → BeginsOther item → IsReadBack (ReadsOption (Stepped reads)) item (Some v) (1 + cost)
-some_read_back reads None v cost back other = tt
-some_read_back reads (Some bytes) v cost back other = λ rest. (other_first bytes rest other, some_first bytes rest other, (cost, back rest, refl))
+pub some_read_back : {V : Type 0} (reads : Reads V) (item : Encoding) (v : V) (cost : ℕ) → IsReadBack reads item v cost → BeginsOther item → IsReadBack (ReadsOption (Stepped reads)) item (Some v) (1 + cost)
+some_read_back reads (refused bytes) v cost back other = tt
+some_read_back reads (encoded bytes) v cost back other = λ rest. (other_first bytes rest other, some_first bytes rest other, (cost, back rest, refl))
 
 -- ---- tuples
 
@@ -67,22 +67,22 @@ behind_back count reads bytes v cost h back rest =
 two_back : {A B : Type 0} (first : Reads A) (second : Reads B) (xs ys : List ℕ) (p : A × B) (c d : ℕ) → ReadsBack first xs p.0 c → ReadsBack second ys p.1 d → ReadsBack (ReadsPair first second) (xs ++ ys) p (max c d)
 two_back first second xs ys p c d h k = pair_back first second (λ _. xs) (λ _. ys) (λ _. c) (λ _. d) p h k
 
-pub pair_read_back : {A B : Type 0} (first : Reads A) (second : Reads B) (a b : Option (List ℕ)) (p : A × B) (c d : ℕ) → IsReadBack first a p.0 c → IsReadBack second b p.1 d
-    → IsReadBack (Stepped (ReadsBehind 2 (ReadsPair first second))) (followed (Some (shortest_head 4 2)) (followed a (followed b (Some [])))) p (1 + max c d)
+pub pair_read_back : {A B : Type 0} (first : Reads A) (second : Reads B) (a b : Encoding) (p : A × B) (c d : ℕ) → IsReadBack first a p.0 c → IsReadBack second b p.1 d
+    → IsReadBack (Stepped (ReadsBehind 2 (ReadsPair first second))) (followed (encoded (shortest_head 4 2)) (followed a (followed b (encoded [])))) p (1 + max c d)
 unfolding followed
-pair_read_back first second None b p c d h k = tt
-pair_read_back first second (Some xs) None p c d h k = tt
-pair_read_back first second (Some xs) (Some ys) p c d h k =
+pair_read_back first second (refused xs) b p c d h k = tt
+pair_read_back first second (encoded xs) (refused ys) p c d h k = tt
+pair_read_back first second (encoded xs) (encoded ys) p c d h k =
     behind_back 2 (ReadsPair first second) (xs ++ (ys ++ [])) p (max c d) (omega arith)
     (subst (λ zs. ReadsBack (ReadsPair first second) (xs ++ zs) p (max c d)) (sym (append-nil ys)) (two_back first second xs ys p c d h k))
 
-pub triple_read_back : {A B C : Type 0} (first : Reads A) (second : Reads B) (third : Reads C) (a b c : Option (List ℕ)) (p : A × B × C) (i j k : ℕ) → IsReadBack first a p.0 i → IsReadBack second b p.1 j → IsReadBack third c p.2 k
-    → IsReadBack (Stepped (ReadsBehind 3 (ReadsTriple first second third))) (followed (Some (shortest_head 4 3)) (followed a (followed b (followed c (Some []))))) p (1 + max i (max j k))
+pub triple_read_back : {A B C : Type 0} (first : Reads A) (second : Reads B) (third : Reads C) (a b c : Encoding) (p : A × B × C) (i j k : ℕ) → IsReadBack first a p.0 i → IsReadBack second b p.1 j → IsReadBack third c p.2 k
+    → IsReadBack (Stepped (ReadsBehind 3 (ReadsTriple first second third))) (followed (encoded (shortest_head 4 3)) (followed a (followed b (followed c (encoded []))))) p (1 + max i (max j k))
 unfolding followed
-triple_read_back first second third None b c p i j k f g h = tt
-triple_read_back first second third (Some xs) None c p i j k f g h = tt
-triple_read_back first second third (Some xs) (Some ys) None p i j k f g h = tt
-triple_read_back first second third (Some xs) (Some ys) (Some zs) p i j k f g h =
+triple_read_back first second third (refused xs) b c p i j k f g h = tt
+triple_read_back first second third (encoded xs) (refused ys) c p i j k f g h = tt
+triple_read_back first second third (encoded xs) (encoded ys) (refused zs) p i j k f g h = tt
+triple_read_back first second third (encoded xs) (encoded ys) (encoded zs) p i j k f g h =
     let inner = two_back second third ys zs (p.1, p.2) j k g h in
     let whole : ReadsBack (ReadsTriple first second third) (xs ++ (ys ++ zs)) p (max i (max j k)) = two_back first (ReadsPair second third) xs (ys ++ zs) (p.0, (p.1, p.2)) i (max j k) f inner in
     behind_back 3 (ReadsTriple first second third) (xs ++ (ys ++ (zs ++ []))) p (max i (max j k)) (omega arith)
@@ -90,7 +90,7 @@ triple_read_back first second third (Some xs) (Some ys) (Some zs) p i j k f g h 
 
 -- ---- sequences
 
-module _ {P : Type 0} (reads : Reads P) (item : P → Option (List ℕ)) (cost : P → ℕ) where
+module _ {P : Type 0} (reads : Reads P) (item : P → Encoding) (cost : P → ℕ) where
   more_back : (p : P) (ps : List P) (xs ys : List ℕ) → ReadsBack reads xs p (cost p) → ReadsBack (ReadsParts reads) ys ps (greatest_cost cost ps) → ReadsBack (ReadsParts reads) (xs ++ ys) (p ∷ ps) (greatest_cost cost (p ∷ ps))
   more_back p ps xs ys h k rest =
       let b = behind xs ys rest in (
@@ -104,11 +104,11 @@ module _ {P : Type 0} (reads : Reads P) (item : P → Option (List ℕ)) (cost :
         refl,
       )
 
-  joined_back : (o q : Option (List ℕ)) (p : P) (ps : List P) → IsReadBack reads o p (cost p) → IsReadBack (ReadsParts reads) q ps (greatest_cost cost ps) → IsReadBack (ReadsParts reads) (followed o q) (p ∷ ps) (greatest_cost cost (p ∷ ps))
+  joined_back : (o q : Encoding) (p : P) (ps : List P) → IsReadBack reads o p (cost p) → IsReadBack (ReadsParts reads) q ps (greatest_cost cost ps) → IsReadBack (ReadsParts reads) (followed o q) (p ∷ ps) (greatest_cost cost (p ∷ ps))
   unfolding followed
-  joined_back None q p ps h k = tt
-  joined_back (Some xs) None p ps h k = tt
-  joined_back (Some xs) (Some ys) p ps h k = more_back p ps xs ys h k
+  joined_back (refused xs) q p ps h k = tt
+  joined_back (encoded xs) (refused ys) p ps h k = tt
+  joined_back (encoded xs) (encoded ys) p ps h k = more_back p ps xs ys h k
 
   items_back : (ps : List P) → All (λ p. IsReadBack reads (item p) p (cost p)) ps → IsReadBack (ReadsParts reads) (items_of item ps) ps (greatest_cost cost ps)
   items_back [] h = λ rest. (refl, refl)
@@ -116,29 +116,29 @@ module _ {P : Type 0} (reads : Reads P) (item : P → Option (List ℕ)) (cost :
       let Q : P → Type 0 = λ q. IsReadBack reads (item q) q (cost q) in
       joined_back (item p) (items_of item ps) p ps (All-head Q p ps h) (items_back ps (All-tail Q p ps h))
 
-  counted_back : (major : ℕ) (never_empty : Bool) (ps : List P) (o : Option (List ℕ)) → length ps < 2 ^ 64 → IsReadBack (ReadsParts reads) o ps (greatest_cost cost ps)
-      → IsReadBack (ReadsSequence major reads never_empty) (followed (Some (shortest_head major (length ps))) o) ps (1 + greatest_cost cost ps)
+  counted_back : (major : ℕ) (never_empty : Bool) (ps : List P) (o : Encoding) → length ps < 2 ^ 64 → IsReadBack (ReadsParts reads) o ps (greatest_cost cost ps)
+      → IsReadBack (ReadsSequence major reads never_empty) (followed (encoded (shortest_head major (length ps))) o) ps (1 + greatest_cost cost ps)
   unfolding followed
-  counted_back major never_empty ps None small h = tt
-  counted_back major never_empty ps (Some bytes) small h = λ rest. (
+  counted_back major never_empty ps (refused bytes) small h = tt
+  counted_back major never_empty ps (encoded bytes) small h = λ rest. (
       let start = shortest_head major (length ps) in
       let parts = subst (λ zs. ReadsParts reads zs ps (length bytes) (greatest_cost cost ps)) (sym (behind start bytes rest).left) (h rest) in
       let counted : ReadsCountedParts major reads ((start ++ bytes) ++ rest) ps (length (start ++ bytes)) (greatest_cost cost ps) = record { before = length start; head = headed major (length ps) bytes rest small; between = length bytes; parts = parts; size = length-append start bytes } in
       (greatest_cost cost ps, inl counted, refl))
 
   pub sequence_read_back : (major : ℕ) (never_empty : Bool) (ps : List P) → length ps < 2 ^ 64 → All (λ p. IsReadBack reads (item p) p (cost p)) ps
-      → IsReadBack (ReadsSequence major reads never_empty) (followed (Some (shortest_head major (length ps))) (items_of item ps)) ps (1 + greatest_cost cost ps)
+      → IsReadBack (ReadsSequence major reads never_empty) (followed (encoded (shortest_head major (length ps))) (items_of item ps)) ps (1 + greatest_cost cost ps)
   sequence_read_back major never_empty ps small h = counted_back major never_empty ps (items_of item ps) small (items_back ps h)
 
 -- ---- maps
 
-entry_back : {K V : Type 0} (first : Reads K) (second : Reads V) (a b : Option (List ℕ)) (p : K × V) (c d : ℕ) → IsReadBack first a p.0 c → IsReadBack second b p.1 d → IsReadBack (ReadsPair first second) (followed a b) p (max c d)
+entry_back : {K V : Type 0} (first : Reads K) (second : Reads V) (a b : Encoding) (p : K × V) (c d : ℕ) → IsReadBack first a p.0 c → IsReadBack second b p.1 d → IsReadBack (ReadsPair first second) (followed a b) p (max c d)
 unfolding followed
-entry_back first second None b p c d h k = tt
-entry_back first second (Some xs) None p c d h k = tt
-entry_back first second (Some xs) (Some ys) p c d h k = two_back first second xs ys p c d h k
+entry_back first second (refused xs) b p c d h k = tt
+entry_back first second (encoded xs) (refused ys) p c d h k = tt
+entry_back first second (encoded xs) (encoded ys) p c d h k = two_back first second xs ys p c d h k
 
-pub entries_back : {K V : Type 0} (first : Reads K) (second : Reads V) (key : K → Option (List ℕ)) (value : V → Option (List ℕ)) (key_cost : K → ℕ) (value_cost : V → ℕ) (ps : List (K × V))
+pub entries_back : {K V : Type 0} (first : Reads K) (second : Reads V) (key : K → Encoding) (value : V → Encoding) (key_cost : K → ℕ) (value_cost : V → ℕ) (ps : List (K × V))
     → All (λ p. IsReadBack first (key p.0) p.0 (key_cost p.0)) ps → All (λ p. IsReadBack second (value p.1) p.1 (value_cost p.1)) ps
     → All (λ p. IsReadBack (ReadsPair first second) (entry_item key value p) p (pair_cost key_cost value_cost p)) ps
 entries_back first second key value key_cost value_cost ps h k = λ i d room. entry_back first second _ _ _ _ _ (h i d room) (k i d room)
@@ -173,7 +173,7 @@ module _ {K V : Type 0} (cmp : K → K → Ordering) (total : IsTotalOrder cmp) 
   pub built_again : (es : List (K × V)) → IsStrictlySortedBy cmp (keys_of es) → built cmp es ≡ es
   built_again es h = put_again [] es h
 
-pub map_read_back : {K V M : Type 0} (entries : M → List (K × V)) (cmp : K → K → Ordering) (key : Reads K) (value : Reads V) (o : Option (List ℕ)) (m : M) (cost : ℕ) → built cmp (entries m) ≡ entries m
+pub map_read_back : {K V M : Type 0} (entries : M → List (K × V)) (cmp : K → K → Ordering) (key : Reads K) (value : Reads V) (o : Encoding) (m : M) (cost : ℕ) → built cmp (entries m) ≡ entries m
     → IsReadBack (ReadsSequence 5 (ReadsPair key value) true) o (entries m) cost → IsReadBack (ReadsBTreeMap entries cmp key value) o m cost
-map_read_back entries cmp key value None m cost e h = tt
-map_read_back entries cmp key value (Some bytes) m cost e h = λ rest. (entries m, h rest, sym e)
+map_read_back entries cmp key value (refused bytes) m cost e h = tt
+map_read_back entries cmp key value (encoded bytes) m cost e h = λ rest. (entries m, h rest, sym e)

@@ -1,5 +1,5 @@
 -- A value of the tree in which no tag stands is read back from its canonical spelling.
-use Rattle.std.proofs.Common.{◌≡◌, inl, inr, ℕ, suc, ◌+◌, ◌*◌, ◌/◌, ◌<◌, ◌≤◌, ◌^◌, List, [], ◌∷◌, ◌++◌, length, take, map, max, Bool, true, false, ◌||◌, cond, ltb, ltb-true, Option, Some, None, ℤ, pos, negsuc, refl, sym, ap, ap₂, ◌∙◌, subst, arith, rules, append_assoc, All}
+use Rattle.std.proofs.Common.{◌≡◌, inl, inr, ℕ, suc, ◌+◌, ◌*◌, ◌/◌, ◌<◌, ◌≤◌, ◌^◌, List, [], ◌∷◌, ◌++◌, length, take, map, max, Bool, true, false, ◌||◌, cond, ltb, ltb-true, ℤ, pos, negsuc, refl, sym, ap, ◌∙◌, subst, arith, rules, append_assoc, All}
 use Rattle.std.specs.Prelude.{string_bytes}
 use Rattle.std.specs.declared.alloc.Global.{Global}
 use Rattle.std.specs.declared.string.String.{String}
@@ -31,7 +31,7 @@ use Rattle.cbor4ii_tree.specs.declared.value.Value.TheOpen.{Value-F}
 use Rattle.cbor4ii_tree.specs.declared.value.Value.TheVariants as variants
 use Rattle.cbor4ii_tree.specs.Cost.{cost}
 use Rattle.cbor4ii_tree.specs.Cost as Cost
-use Rattle.cbor4ii_ser.specs.Item.{followed, items_of, entry_item}
+use Rattle.cbor4ii_ser.specs.Item.{Encoding, encoded, refused, followed, items_of, entry_item}
 use Rattle.cbor4ii_ser.specs.Values.{holds_tag, some_holds_tag, members_hold_tag, unless, value_item}
 use Rattle.cbor4ii.specs.declared.serde.de.any_leaf.AnyKind.{AnyKind}
 use Rattle.cbor4ii.specs.declared.serde.de.any_leaf.AnyKind.TheVariants.{Leaf, Array, Map}
@@ -130,24 +130,48 @@ texts_back s = as_seen (values.Text s) (text (string_bytes s)) (search (rules, t
 
 -- ---- items, one behind another
 
-joined : (s t : Bool) (xs ys : List ℕ) → followed (unless s xs) (unless t ys) ≡ unless (s || t) (xs ++ ys)
-unfolding followed
-joined true t xs ys = refl
-joined false true xs ys = refl
-joined false false xs ys = refl
+-- where the second is an item, the first is that item
+abbrev Agrees : Encoding → Encoding → Type 0
+Agrees a b = (bytes : List ℕ) → b ≡ encoded bytes → a ≡ encoded bytes
 
-abbrev own_item : Value → Option (List ℕ)
+agrees : (a b : Encoding) → a ≡ b → Agrees a b
+agrees a b e bytes is = e ∙ is
+
+agrees_on : (a b c : Encoding) → Agrees a b → Agrees b c → Agrees a c
+agrees_on a b c h k bytes is = h bytes (k bytes is)
+
+-- one behind the other
+agree_both : (a b c d : Encoding) → Agrees a c → Agrees b d → Agrees (followed a b) (followed c d)
+unfolding followed
+agree_both a b (refused xs) d h k bytes is = absurd (cc)
+agree_both a b (encoded xs) (refused ys) h k bytes is = absurd (cc)
+agree_both a b (encoded xs) (encoded ys) h k bytes is = rw (h xs refl, k ys refl) is
+
+joined : (s t : Bool) (xs ys : List ℕ) → Agrees (followed (unless s xs) (unless t ys)) (unless (s || t) (xs ++ ys))
+unfolding followed
+joined true t xs ys bytes is = absurd (cc)
+joined false true xs ys bytes is = absurd (cc)
+joined false false xs ys bytes is = is
+
+-- what is read back from an item is so where another agrees with it
+back_as : {V : Type 0} (reads : Reads V) (a b : Encoding) (v : V) (cost : ℕ) → Agrees a b → IsReadBack reads a v cost → IsReadBack reads b v cost
+back_as reads a (refused bytes) v cost h back = tt
+back_as reads a (encoded bytes) v cost h back = subst (λ o. IsReadBack reads o v cost) (h bytes refl) back
+
+abbrev own_item : Value → Encoding
 own_item v = value_item (view v)
 
-abbrev own_entry : Value × Value → Option (List ℕ)
+abbrev own_entry : Value × Value → Encoding
 own_entry = entry_item own_item own_item
 
-items_joined : (vs : List Value) → items_of own_item vs ≡ unless (some_holds_tag (items_view vs)) (bytes_all (canon_trees (items_view vs)))
-items_joined [] = refl
-items_joined (v ∷ vs) = ap (followed (own_item v)) (items_joined vs) ∙ joined (holds_tag (view v)) (some_holds_tag (items_view vs)) (canon (view v)) (bytes_all (canon_trees (items_view vs)))
+items_joined : (vs : List Value) → Agrees (items_of own_item vs) (unless (some_holds_tag (items_view vs)) (bytes_all (canon_trees (items_view vs))))
+items_joined [] = agrees _ _ refl
+items_joined (v ∷ vs) =
+    agrees_on _ _ _ (agree_both (own_item v) _ (own_item v) _ (agrees _ _ refl) (items_joined vs))
+    (joined (holds_tag (view v)) (some_holds_tag (items_view vs)) (canon (view v)) (bytes_all (canon_trees (items_view vs))))
 
-entries_joined : (ms : List (Value × Value)) → items_of own_entry ms ≡ unless (members_hold_tag (members_view ms)) (bytes_pairs (canon_pairs (members_view ms)))
-entries_joined [] = refl
+entries_joined : (ms : List (Value × Value)) → Agrees (items_of own_entry ms) (unless (members_hold_tag (members_view ms)) (bytes_pairs (canon_pairs (members_view ms))))
+entries_joined [] = agrees _ _ refl
 entries_joined (m ∷ ms) =
     let s = holds_tag (view m.0) in
     let t = holds_tag (view m.1) in
@@ -155,7 +179,8 @@ entries_joined (m ∷ ms) =
     let key = canon (view m.0) in
     let value = canon (view m.1) in
     let others = bytes_pairs (canon_pairs (members_view ms)) in
-    ap₂ followed (joined s t key value) (entries_joined ms) ∙ (joined (s || t) u (key ++ value) others ∙ ap (unless ((s || t) || u)) (append_assoc key value others))
+    agrees_on _ _ _ (agree_both (own_entry m) (items_of own_entry ms) (unless (s || t) (key ++ value)) (unless u others) (joined s t key value) (entries_joined ms))
+    (agrees_on _ _ _ (joined (s || t) u (key ++ value) others) (agrees _ _ (ap (unless ((s || t) || u)) (append_assoc key value others))))
 
 counted_items : (vs : List Value) → (item_count (items_view vs) ≡ length vs) × (count (canon_trees (items_view vs)) ≡ length vs)
 counted_items [] = (refl, refl)
@@ -166,14 +191,18 @@ counted_members [] = (refl, refl)
 counted_members (m ∷ ms) = (ap suc (counted_members ms).0, ap suc (counted_members ms).1)
 
 -- the head of a sequence counts its parts in two ways
-one_head : (major n m k : ℕ) (t : Bool) (ys : List ℕ) → m ≡ k → n ≡ k → followed (Some (shortest_head major k)) (unless t ys) ≡ unless t (head major n (shortest m) ++ ys)
+one_head : (major n m k : ℕ) (t : Bool) (ys : List ℕ) → m ≡ k → n ≡ k → Agrees (followed (encoded (shortest_head major k)) (unless t ys)) (unless t (head major n (shortest m) ++ ys))
 one_head major n m k t ys e f = rw (e, f) (joined false t (shortest_head major k) ys)
 
-array_is : (vs : List Value) → followed (Some (shortest_head 4 (length vs))) (items_of own_item vs) ≡ value_item (sequence (items_view vs))
-array_is vs = ap (followed (Some (shortest_head 4 (length vs)))) (items_joined vs) ∙ one_head 4 _ _ (length vs) (some_holds_tag (items_view vs)) (bytes_all (canon_trees (items_view vs))) (counted_items vs).0 (counted_items vs).1
+array_is : (vs : List Value) → Agrees (followed (encoded (shortest_head 4 (length vs))) (items_of own_item vs)) (value_item (sequence (items_view vs)))
+array_is vs =
+    let start = encoded (shortest_head 4 (length vs)) in
+    agrees_on _ _ _ (agree_both start _ start _ (agrees _ _ refl) (items_joined vs)) (one_head 4 _ _ (length vs) (some_holds_tag (items_view vs)) (bytes_all (canon_trees (items_view vs))) (counted_items vs).0 (counted_items vs).1)
 
-map_is : (ms : List (Value × Value)) → followed (Some (shortest_head 5 (length ms))) (items_of own_entry ms) ≡ value_item (mapping (members_view ms))
-map_is ms = ap (followed (Some (shortest_head 5 (length ms)))) (entries_joined ms) ∙ one_head 5 _ _ (length ms) (members_hold_tag (members_view ms)) (bytes_pairs (canon_pairs (members_view ms))) (counted_members ms).0 (counted_members ms).1
+map_is : (ms : List (Value × Value)) → Agrees (followed (encoded (shortest_head 5 (length ms))) (items_of own_entry ms)) (value_item (mapping (members_view ms)))
+map_is ms =
+    let start = encoded (shortest_head 5 (length ms)) in
+    agrees_on _ _ _ (agree_both start _ start _ (agrees _ _ refl) (entries_joined ms)) (one_head 5 _ _ (length ms) (members_hold_tag (members_view ms)) (bytes_pairs (canon_pairs (members_view ms))) (counted_members ms).0 (counted_members ms).1)
 
 -- ---- what they cost
 
@@ -194,9 +223,9 @@ abbrev IsBack : Value → Type 0
 IsBack v = IsReadBack ReadsAny (own_item v) v (own_cost v)
 
 under_value : {P : Type 0} (reads : Reads P) (k : AnyKind) (major : ℕ) → ((b : ℕ) → kind_by major b ≡ k) → kind (open_head major) ≡ k → (ps : List P) (v : Value) → ((xs : List ℕ) (n c : ℕ) → ReadsSequence major reads true xs ps n c → KindAs ReadsAny k xs v n c)
-    → (o : Option (List ℕ)) (c : ℕ) → IsReadBack (ReadsSequence major reads true) o ps c → IsReadBack ReadsAny o v (1 + c)
-under_value reads k major kinds opens ps v as_kind None c h = tt
-under_value reads k major kinds opens ps v as_kind (Some bytes) c h = λ rest. by_sequence reads k major kinds (bytes ++ rest) ps v (length bytes) c opens (h rest) (as_kind (bytes ++ rest) (length bytes) c (h rest))
+    → (o : Encoding) (c : ℕ) → IsReadBack (ReadsSequence major reads true) o ps c → IsReadBack ReadsAny o v (1 + c)
+under_value reads k major kinds opens ps v as_kind (refused bytes) c h = tt
+under_value reads k major kinds opens ps v as_kind (encoded bytes) c h = λ rest. by_sequence reads k major kinds (bytes ++ rest) ps v (length bytes) c opens (h rest) (as_kind (bytes ++ rest) (length bytes) c (h rest))
 
 two_steps : (c : ℕ) → 1 + (1 + c) ≡ 2 + c
 two_steps c = omega arith
@@ -205,14 +234,16 @@ array_read : (vs : Vec Value Global) → All IsBack vs.items → BackAs (sequenc
 array_read vs all h =
     let read = sequence_read_back ReadsAny own_item own_cost 4 true vs.items (omega (arith, h.0, (counted_items vs.items).0)) all in
     let value = under_value ReadsAny Array 4 (λ b. refl) refl vs.items (values.Array vs) (λ xs n c r. (vs, r, refl)) _ _ read in
-    rw (array_is vs.items, items_cost vs.items, two_steps (greatest_any_cost (items_view vs.items))) at value
+    let own = back_as ReadsAny (followed (encoded (shortest_head 4 (length vs.items))) (items_of own_item vs.items)) (value_item (sequence (items_view vs.items))) (values.Array vs) (1 + (1 + greatest_cost own_cost vs.items)) (array_is vs.items) value in
+    rw (items_cost vs.items, two_steps (greatest_any_cost (items_view vs.items))) at own
 
 map_read : (ms : Vec (Value × Value) Global) → All (λ m. IsBack m.0) ms.items → All (λ m. IsBack m.1) ms.items → BackAs (mapping (members_view ms.items)) (values.Map ms)
 map_read ms keys contents h =
     let entries = entries_back ReadsAny ReadsAny own_item own_item own_cost own_cost ms.items keys contents in
     let read = sequence_read_back (ReadsPair ReadsAny ReadsAny) own_entry (pair_cost own_cost own_cost) 5 true ms.items (omega (arith, h.0, (counted_members ms.items).0)) entries in
     let value = under_value (ReadsPair ReadsAny ReadsAny) Map 5 (λ b. refl) refl ms.items (values.Map ms) (λ xs n c r. (ms, r, refl)) _ _ read in
-    rw (map_is ms.items, members_cost ms.items, two_steps (greatest_any_pair_cost (members_view ms.items))) at value
+    let own = back_as ReadsAny (followed (encoded (shortest_head 5 (length ms.items))) (items_of own_entry ms.items)) (value_item (mapping (members_view ms.items))) (values.Map ms) (1 + (1 + greatest_cost (pair_cost own_cost own_cost) ms.items)) (map_is ms.items) value in
+    rw (members_cost ms.items, two_steps (greatest_any_pair_cost (members_view ms.items))) at own
 
 -- ---- any value
 

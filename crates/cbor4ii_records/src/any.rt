@@ -2,9 +2,6 @@
 use crate::typed::Answer::{self, Is};
 use crate::typed::{BothTold, Refused, RowTold, RowToldWithin, refuses, tells, tells_all};
 use cbor4ii::Value;
-use cbor4ii::dec::Decode;
-use cbor4ii::serde::{EncodeError, to_vec};
-use cbor4ii::utils::SliceReader;
 use cbor4ii_trials::rows::{Want, reads_by_each};
 use std::alloc::{AllocError, Global};
 use std::test::Fail;
@@ -271,36 +268,4 @@ fn depth(rt: HostRuntime) -> Result<(), Fail> {
     let alloc = rt.alloc();
     reads_nested(alloc, 127)?;
     reads_by_each(alloc, nested(alloc, 128)?, 256, &TOO_DEEP, b"\x80")
-}
-
-// Items with a tag, in an array and as a map's value too, and the text of what they decode to.
-const TAGGED: &[BothTold] = &[
-    (b"\x81\xc1\x00", "Array([Tag(1, Integer(0))])"),
-    (b"\xa1\xf6\xc1\x00", "Map([(Null, Tag(1, Integer(0)))])"),
-    (b"\xc1\x00", "Tag(1, Integer(0))"),
-];
-
-// The value that the bytes decode to is the one of the text, and is not written.
-fn is_not_written(alloc: Global, bytes: &[u8], text: &str) -> Result<(), Fail> {
-    let value = Value::decode(alloc, &mut SliceReader::new(bytes))?;
-    if format!(in alloc; "{value:?}")?.as_str() != text {
-        return Err(Fail::new(format_args!("{value:?} in the place of {text}")));
-    }
-    match to_vec(Vec::new(alloc), &value) {
-        Err(EncodeError::Custom("serialization Tag via serde is not supported")) => Ok(()),
-        Err(EncodeError::Core(error)) => Err(Fail::from(error)),
-        _ => Err(Fail::new(format_args!("not refused: {text}"))),
-    }
-}
-
-fn are_not_written(alloc: Global, rows: &[BothTold]) -> Result<(), Fail> {
-    for (bytes, text) in rows {
-        is_not_written(alloc, bytes, text)?;
-    }
-    Ok(())
-}
-
-#[test]
-fn a_tag_is_not_written(rt: HostRuntime) -> Result<(), Fail> {
-    are_not_written(rt.alloc(), TAGGED)
 }

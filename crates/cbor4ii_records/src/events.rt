@@ -1,8 +1,9 @@
 //! Records of a user's own that are typed values: a struct with an optional field, written part by
 //! part and read in one call, and an enum with variants of each kind.
-ghost use Rattle.std.specs.Prelude.{◌∷◌, [], Some, codes, true, false};
+ghost use Rattle.std.specs.Prelude.{◌∷◌, [], codes, true, false};
 ghost use Rattle.cbor4ii_items.specs.Strings.{counted_string};
 ghost use Rattle.cbor4ii_ser.specs.Item.{
+  encoded,
   field,
   struct_item,
   tuple_variant_item,
@@ -104,7 +105,7 @@ pub enum Event {
 /// The variant's name as a text, or a map of the name to the content.
 impl Serialize for Event {
     ghost item = { λ e. elim e [
-      | Started ↦ Some (counted_string 3 (codes "Started"))
+      | Started ↦ encoded (counted_string 3 (codes "Started"))
       | Sampled s ↦ variant_item (codes "Sampled") (⟦<Sample as Serialize>⟧.item s)
       | Moved x y ↦ tuple_variant_item (codes "Moved") (⟦<i32 as Serialize>⟧.item x
           ∷ ⟦<i32 as Serialize>⟧.item y ∷ [])

@@ -34,10 +34,6 @@ mod skipped;
 #[cfg(test)]
 mod strings;
 #[cfg(test)]
-mod texts;
-#[cfg(test)]
 mod typed;
 #[cfg(test)]
 mod values;
-#[cfg(test)]
-mod written;

@@ -1,8 +1,9 @@
 //! A user's own types, written and read: a struct with an optional field and an enum with variants
 //! of each kind.
-ghost use Rattle.std.specs.Prelude.{◌∷◌, [], Some, codes, true, false};
+ghost use Rattle.std.specs.Prelude.{◌∷◌, [], codes, true, false};
 ghost use Rattle.cbor4ii_items.specs.Strings.{counted_string};
 ghost use Rattle.cbor4ii_ser.specs.Item.{
+  encoded,
   field,
   struct_item,
   tuple_variant_item,
@@ -88,7 +89,7 @@ pub enum Enum {
 
 impl Serialize for Enum {
     ghost item = { λ e. elim e [
-      | Unit ↦ Some (counted_string 3 (codes "Unit"))
+      | Unit ↦ encoded (counted_string 3 (codes "Unit"))
       | NewType n ↦ variant_item (codes "NewType") (⟦<u32 as Serialize>⟧.item n)
       | Tuple s b ↦ tuple_variant_item (codes "Tuple") (⟦<String as Serialize>⟧.item s
           ∷ ⟦<bool as Serialize>⟧.item b ∷ [])

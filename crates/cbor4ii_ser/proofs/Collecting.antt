@@ -1,5 +1,6 @@
 -- A text in pieces, as an item.
 use Rattle.std.proofs.Common.{◌≡◌, ℕ, List, ◌++◌, Option, None, Some, Result, Ok, Err, Bool, true, false, refl, sym, ap, subst, ◌⊎◌, inl, inr, IsSome}
+use Rattle.std.proofs.Math.Seq.{take-length}
 use Rattle.cbor4ii_rw.specs.Writer.{Output}
 use Rattle.cbor4ii_rw.specs.declared.error.EncodeError as core
 use Rattle.cbor4ii_items.specs.Writing.{Writes}
@@ -7,7 +8,7 @@ use Rattle.cbor4ii_items.specs.Laws.Written.{writes_then, writes_err, writes_as}
 use Rattle.cbor4ii_ser.specs.declared.error.EncodeError.TheVariants.{Core, Custom}
 use Rattle.cbor4ii_ser.specs.Serializing.{Serializes}
 use Rattle.cbor4ii_ser.specs.Pieces.{Pending, nothing_yet, written, after, last_bytes, text_bytes}
-use Rattle.cbor4ii_ser.specs.TextState.{Seen, Wrote, Flushes, Pends, outcome, text_item}
+use Rattle.cbor4ii_ser.specs.TextState.{Seen, Wrote, Flushes, Pends, outcome, text_item, unended_bytes}
 
 flushed_on : {E : Type 0} {whole : Bool} (ps : List (List ℕ)) (p q : Pending) (o m n : Output) (g : Option E) (r : Result (Unit {0}) E) → Writes whole (written p ps) o m (outcome g) → Pends ps p q g → (g ≡ None → Writes whole (last_bytes q) m n r) → ((e : E) → g ≡ Some e → (r ≡ Err e) × (n ≡ m)) → Writes whole (written p ps ++ last_bytes (after p ps)) o n r
 flushed_on ps p q o m n None r first is ends fails =
@@ -32,20 +33,24 @@ module _ {E : Type 0} {whole : Bool} where
   collected_ok true ps is w = absurd (cc)
   collected_ok false ps is w = record { appends = w.appends; counts = w.counts; failed = tt; front = λ whole. tt }
 
-  pub collected_err : (refuses : Bool) (ps : List (List ℕ)) {o n : Output} {e : core.EncodeError E} → Writes {T = Unit {0}} whole (text_bytes ps) o n (Err e) → Serializes {T = Unit {0}} {E = E} whole (text_item refuses ps) o n (Err (Core e))
-  collected_err true ps w = record { appends = tt; counts = tt; failed = w.failed; front = λ whole held told. let f = w.front whole held told in (f.0, tt, f.2) }
-  collected_err false ps w = record { appends = tt; counts = tt; failed = w.failed; front = λ whole held told. let f = w.front whole held told in (f.0, f.1, f.2) }
+  -- the writer failed at the end of the text
+  pub collected_err : (refuses : Bool) (ps : List (List ℕ)) {o n : Output} {e : core.EncodeError E} → refuses ≡ false → Writes {T = Unit {0}} whole (text_bytes ps) o n (Err e) → Serializes {T = Unit {0}} {E = E} whole (text_item refuses ps) o n (Err (Core e))
+  collected_err true ps is w = absurd (cc)
+  collected_err false ps is w = record { appends = tt; counts = tt; failed = w.failed; front = w.front }
 
   -- the writer failed in one of the pieces
   pub collected_failed : (refuses : Bool) {ps : List (List ℕ)} {a b : Seen (core.EncodeError E)} (e : core.EncodeError E) → b.failure ≡ Some e → a.failure ≡ None → a.pending ≡ nothing_yet → Wrote whole ps a b → Serializes {T = Unit {0}} {E = E} whole (text_item refuses ps) a.output b.output (Err (Core e))
-  collected_failed refuses {ps = ps} {a = a} {b = b} e is fine start w =
+  collected_failed true {ps = ps} {a = a} {b = b} e is fine start w =
+      let at : Writes whole (unended_bytes ps) a.output b.output (Err e) = subst (λ z. Writes whole (unended_bytes ps) a.output b.output (outcome z)) is (subst (λ z. Writes whole (written z ps) a.output b.output (outcome b.failure)) start (w.writes fine)) in
+      record { appends = tt; counts = tt; failed = at.failed; front = at.front }
+  collected_failed false {ps = ps} {a = a} {b = b} e is fine start w =
       let at : Writes whole (written a.pending ps) a.output b.output (outcome (Some e)) = subst (λ z. Writes whole (written a.pending ps) a.output b.output (outcome z)) is (w.writes fine) in
-      collected_err refuses ps (writes_as (Err e) (ap (λ z. written z ps ++ last_bytes (after z ps)) start) (writes_err (last_bytes (after a.pending ps)) at))
+      collected_err false ps refl (writes_as (Err e) (ap (λ z. written z ps ++ last_bytes (after z ps)) start) (writes_err (last_bytes (after a.pending ps)) at))
 
   -- it refused by itself
-  pub collected_refused : (refuses : Bool) {ps : List (List ℕ)} {a b : Seen (core.EncodeError E)} (text : _) → b.failure ≡ None → a.failure ≡ None → (refuses ≡ true) ⊎ IsSome b.failure → Wrote whole ps a b → Serializes {T = Unit {0}} {E = E} whole (text_item refuses ps) a.output b.output (Err (Custom text))
-  collected_refused true {ps = ps} {a = a} {b = b} text is fine why w =
-      let at : Writes whole (written a.pending ps) a.output b.output (Ok tt) = subst (λ z. Writes whole (written a.pending ps) a.output b.output (outcome z)) is (w.writes fine) in
-      record { appends = tt; counts = tt; failed = (refl, at.counts); front = λ whole held told. (written a.pending ps, tt, at.appends held told) }
-  collected_refused false text is fine (inl h) w = absurd (cc)
-  collected_refused false {b = b} text is fine (inr h) w = absurd (none_some b.failure is h)
+  pub collected_refused : (refuses : Bool) {ps : List (List ℕ)} {a b : Seen (core.EncodeError E)} (text : _) → b.failure ≡ None → a.failure ≡ None → a.pending ≡ nothing_yet → (refuses ≡ true) ⊎ IsSome b.failure → Wrote whole ps a b → Serializes {T = Unit {0}} {E = E} whole (text_item refuses ps) a.output b.output (Err (Custom text))
+  collected_refused true {ps = ps} {a = a} {b = b} text is fine start why w =
+      let at : Writes whole (unended_bytes ps) a.output b.output (Ok tt) = subst (λ z. Writes whole (unended_bytes ps) a.output b.output (outcome z)) is (subst (λ z. Writes whole (written z ps) a.output b.output (outcome b.failure)) start (w.writes fine)) in
+      record { appends = tt; counts = tt; failed = (at.appends, at.counts); front = λ whole held told. (unended_bytes ps, take-length (unended_bytes ps), at.appends held told) }
+  collected_refused false text is fine start (inl h) w = absurd (cc)
+  collected_refused false {b = b} text is fine start (inr h) w = absurd (none_some b.failure is h)

@@ -1,7 +1,8 @@
 -- Values of the tree as typed values: those that hold no tag have an item, their canonical spelling.
-use Rattle.std.specs.Prelude.{ℕ, List, Bool, true, false, ◌||◌, Option, None, Some}
+use Rattle.std.specs.Prelude.{ℕ, List, [], Bool, true, false, ◌||◌}
 use Rattle.cbor4ii_tree.specs.Item.{Item, null, boolean, integer, float, bytes_item, text, sequence, mapping, tag, Items, no_items, item, Members, no_members, member}
 use Rattle.cbor4ii_tree.specs.Canonical.{canon}
+use Rattle.cbor4ii_ser.specs.Item.{Encoding, encoded, refused}
 
 -- a tag stands somewhere in it
 abbrev mutual
@@ -24,10 +25,10 @@ abbrev mutual
   members_hold_tag no_members = false
   members_hold_tag (member k v ms) = (holds_tag k || holds_tag v) || members_hold_tag ms
 
--- the bytes, where there is an item
-abbrev pub unless : Bool → List ℕ → Option (List ℕ)
-unless true bytes = None
-unless false bytes = Some bytes
+-- an item of these bytes, or refused before any of them
+abbrev pub unless : Bool → List ℕ → Encoding
+unless true bytes = refused []
+unless false bytes = encoded bytes
 
-abbrev pub value_item : Item → Option (List ℕ)
+abbrev pub value_item : Item → Encoding
 value_item v = unless (holds_tag v) (canon v)

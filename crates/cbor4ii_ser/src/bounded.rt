@@ -5,7 +5,6 @@ ghost use Rattle.std.specs.Prelude.{
   ◌-◌,
   ◌++◌,
   [],
-  Some,
   Ok,
   IfOk,
   OnOk,
@@ -22,7 +21,7 @@ ghost use Rattle.cbor4ii_ser.specs.Collecting.{
   bounded_output,
   bounded_lender,
 };
-ghost use Rattle.cbor4ii_ser.specs.Item.{field, variant_head};
+ghost use Rattle.cbor4ii_ser.specs.Item.{encoded, field, variant_head};
 ghost use Rattle.cbor4ii_ser.specs.Serializing.{Serializes, output};
 
 use crate::error::EncodeError;
@@ -34,9 +33,9 @@ use cbor4ii_rw::write::Write;
 /// variant that has such content.
 ///
 /// What was written when `end` has answered is the head and the parts in order. A call that fails
-/// does not change `left`. A whole writer then holds what it held before the call and a beginning
-/// of what the call writes, some bytes where the part has no item; of another writer nothing is
-/// said.
+/// does not change `left`. Where the part is refused, exactly what stands before its refusal is
+/// appended; where the writer failed, a whole one holds what it held before the call and a
+/// beginning of what the call writes, and of another writer nothing is said.
 ///
 /// One that is dropped without `end` writes nothing: the head and the parts that were written stay,
 /// and are a whole item only where all parts came.
@@ -56,12 +55,12 @@ impl<W: Write> Serializer<W> {
         len: usize,
     ) -> Result<BoundedCollect<'_, W>, EncodeError<W::Error>>
         ensures* refused { sem 𝓛 (RestsIfErr (the_row W.row) self.entry bounded_lender result
-            (λ new. Serializes W.whole (Some (shortest_head 4 len))
+            (λ new. Serializes W.whole (encoded (shortest_head 4 len))
             (output W.view self.old) (output W.view new) result)) }
         ensures same_reference { IfOk result (λ c. bounded_lender c ≡ self.entry.ghost_name) }
         ensures left { IfOk result (λ c. bounded_left c ≡ len) }
         ensures keyed { IfOk result (λ c. bounded_keyed c ≡ false) }
-        ensures head { IfOk result (λ c. Serializes W.whole (Some (shortest_head 4 len))
+        ensures head { IfOk result (λ c. Serializes W.whole (encoded (shortest_head 4 len))
             (output W.view self.old) (bounded_output W.view c) result) }
     {
         self.array_head(len)?;
@@ -82,12 +81,12 @@ impl<W: Write> Serializer<W> {
         len: usize,
     ) -> Result<BoundedCollect<'_, W>, EncodeError<W::Error>>
         ensures* refused { sem 𝓛 (RestsIfErr (the_row W.row) self.entry bounded_lender result
-            (λ new. Serializes W.whole (Some (shortest_head 4 len))
+            (λ new. Serializes W.whole (encoded (shortest_head 4 len))
             (output W.view self.old) (output W.view new) result)) }
         ensures same_reference { IfOk result (λ c. bounded_lender c ≡ self.entry.ghost_name) }
         ensures left { IfOk result (λ c. bounded_left c ≡ len) }
         ensures keyed { IfOk result (λ c. bounded_keyed c ≡ false) }
-        ensures head { IfOk result (λ c. Serializes W.whole (Some (shortest_head 4 len))
+        ensures head { IfOk result (λ c. Serializes W.whole (encoded (shortest_head 4 len))
             (output W.view self.old) (bounded_output W.view c) result) }
     {
         self.array_head(len)?;
@@ -110,13 +109,13 @@ impl<W: Write> Serializer<W> {
         len: usize,
     ) -> Result<BoundedCollect<'_, W>, EncodeError<W::Error>>
         ensures* refused { sem 𝓛 (RestsIfErr (the_row W.row) self.entry bounded_lender result
-            (λ new. Serializes W.whole (Some (variant_head variant.now ++ shortest_head 4 len))
+            (λ new. Serializes W.whole (encoded (variant_head variant.now ++ shortest_head 4 len))
             (output W.view self.old) (output W.view new) result)) }
         ensures same_reference { IfOk result (λ c. bounded_lender c ≡ self.entry.ghost_name) }
         ensures left { IfOk result (λ c. bounded_left c ≡ len) }
         ensures keyed { IfOk result (λ c. bounded_keyed c ≡ false) }
         ensures head { IfOk result (λ c. Serializes W.whole
-            (Some (variant_head variant.now ++ shortest_head 4 len))
+            (encoded (variant_head variant.now ++ shortest_head 4 len))
             (output W.view self.old) (bounded_output W.view c) result) }
     {
         self.tuple_variant_head(variant, len)?;
@@ -137,12 +136,12 @@ impl<W: Write> Serializer<W> {
         len: usize,
     ) -> Result<BoundedCollect<'_, W>, EncodeError<W::Error>>
         ensures* refused { sem 𝓛 (RestsIfErr (the_row W.row) self.entry bounded_lender result
-            (λ new. Serializes W.whole (Some (shortest_head 5 len))
+            (λ new. Serializes W.whole (encoded (shortest_head 5 len))
             (output W.view self.old) (output W.view new) result)) }
         ensures same_reference { IfOk result (λ c. bounded_lender c ≡ self.entry.ghost_name) }
         ensures left { IfOk result (λ c. bounded_left c ≡ len) }
         ensures keyed { IfOk result (λ c. bounded_keyed c ≡ true) }
-        ensures head { IfOk result (λ c. Serializes W.whole (Some (shortest_head 5 len))
+        ensures head { IfOk result (λ c. Serializes W.whole (encoded (shortest_head 5 len))
             (output W.view self.old) (bounded_output W.view c) result) }
     {
         self.map_head(len)?;
@@ -165,13 +164,13 @@ impl<W: Write> Serializer<W> {
         len: usize,
     ) -> Result<BoundedCollect<'_, W>, EncodeError<W::Error>>
         ensures* refused { sem 𝓛 (RestsIfErr (the_row W.row) self.entry bounded_lender result
-            (λ new. Serializes W.whole (Some (variant_head variant.now ++ shortest_head 5 len))
+            (λ new. Serializes W.whole (encoded (variant_head variant.now ++ shortest_head 5 len))
             (output W.view self.old) (output W.view new) result)) }
         ensures same_reference { IfOk result (λ c. bounded_lender c ≡ self.entry.ghost_name) }
         ensures left { IfOk result (λ c. bounded_left c ≡ len) }
         ensures keyed { IfOk result (λ c. bounded_keyed c ≡ true) }
         ensures head { IfOk result (λ c. Serializes W.whole
-            (Some (variant_head variant.now ++ shortest_head 5 len))
+            (encoded (variant_head variant.now ++ shortest_head 5 len))
             (output W.view self.old) (bounded_output W.view c) result) }
     {
         self.struct_variant_head(variant, len)?;
@@ -243,7 +242,7 @@ impl<'a, W: Write> BoundedCollect<'a, W> {
         requires { bounded_left self ≡ 0 }
         ensures succeeds { result ≡ Ok tt }
         ensures untouched { output W.view self.exit.0.now ≡ bounded_output W.view self.entry }
-        ensures written { Serializes W.whole (Some [])
+        ensures written { Serializes W.whole (encoded [])
             (bounded_output W.view self.entry) (output W.view self.exit.0.now) result }
     {
         Ok(())

@@ -1,7 +1,6 @@
 //! Arrays and maps that are written part by part, of so many parts or of any number.
 ghost use Rattle.std.specs.Prelude.{
   ◌≡◌,
-  Some,
   Ok,
   IsSome,
   IfOk,
@@ -14,7 +13,7 @@ ghost use Rattle.std.specs.Borrow.{sem, RestsIfErr};
 ghost use Rattle.cbor4ii_ser.specs.contracts.serializer.Serializer.{the_row};
 ghost use Rattle.cbor4ii_ser.specs.Collecting.{left_of, is_keyed, owes, collected, lender_of};
 ghost use Rattle.cbor4ii_ser.specs.Counts.{counted_head, counted_end, IsReady, IsDone, less};
-ghost use Rattle.cbor4ii_ser.specs.Item.{followed};
+ghost use Rattle.cbor4ii_ser.specs.Item.{encoded, followed};
 ghost use Rattle.cbor4ii_ser.specs.Serializing.{Serializes, StopsAtValue, output};
 
 use crate::error::EncodeError;
@@ -27,9 +26,9 @@ use cbor4ii_rw::write::Write;
 ///
 /// What was written when `end` has answered is the head, the parts in order, and a break where the
 /// length is indefinite. A call that fails changes neither `left` nor `owes_value`, save that an
-/// entry that fails at its value has written its key. A whole writer then holds what it held before
-/// the call and a beginning of what the call writes, some bytes where the part has no item; of
-/// another writer nothing is said.
+/// entry that fails at its value has written its key. Where a part is refused, exactly what stands
+/// before its refusal is appended; where the writer failed, a whole one holds what it held before
+/// the call and a beginning of what the call writes, and of another writer nothing is said.
 ///
 /// One that is dropped without `end` writes nothing: the head and the parts that were written stay,
 /// and are a whole item only where the parts were counted and all came.
@@ -51,13 +50,13 @@ impl<W: Write> Serializer<W> {
         len: Option<usize>,
     ) -> Result<Collect<'_, W>, EncodeError<W::Error>>
         ensures* refused { sem 𝓛 (RestsIfErr (the_row W.row) self.entry lender_of result
-            (λ new. Serializes W.whole (Some (counted_head 4 len))
+            (λ new. Serializes W.whole (encoded (counted_head 4 len))
             (output W.view self.old) (output W.view new) result)) }
         ensures same_reference { IfOk result (λ c. lender_of c ≡ self.entry.ghost_name) }
         ensures left { IfOk result (λ c. left_of c ≡ len) }
         ensures keyed { IfOk result (λ c. is_keyed c ≡ false) }
         ensures owes { IfOk result (λ c. owes c ≡ false) }
-        ensures head { IfOk result (λ c. Serializes W.whole (Some (counted_head 4 len))
+        ensures head { IfOk result (λ c. Serializes W.whole (encoded (counted_head 4 len))
             (output W.view self.old) (collected W.view c) result) }
     {
         self.seq_head(len)?;
@@ -78,13 +77,13 @@ impl<W: Write> Serializer<W> {
         len: Option<usize>,
     ) -> Result<Collect<'_, W>, EncodeError<W::Error>>
         ensures* refused { sem 𝓛 (RestsIfErr (the_row W.row) self.entry lender_of result
-            (λ new. Serializes W.whole (Some (counted_head 5 len))
+            (λ new. Serializes W.whole (encoded (counted_head 5 len))
             (output W.view self.old) (output W.view new) result)) }
         ensures same_reference { IfOk result (λ c. lender_of c ≡ self.entry.ghost_name) }
         ensures left { IfOk result (λ c. left_of c ≡ len) }
         ensures keyed { IfOk result (λ c. is_keyed c ≡ true) }
         ensures owes { IfOk result (λ c. owes c ≡ false) }
-        ensures head { IfOk result (λ c. Serializes W.whole (Some (counted_head 5 len))
+        ensures head { IfOk result (λ c. Serializes W.whole (encoded (counted_head 5 len))
             (output W.view self.old) (collected W.view c) result) }
     {
         self.entries_head(len)?;
@@ -232,7 +231,7 @@ impl<'a, W: Write> Collect<'a, W> {
         ensures succeeds { IsSome (left_of self.entry) → result ≡ Ok tt }
         ensures untouched { IsSome (left_of self.entry) →
             output W.view self.exit.0.now ≡ collected W.view self.entry }
-        ensures written { Serializes W.whole (Some (counted_end (left_of self.entry)))
+        ensures written { Serializes W.whole (encoded (counted_end (left_of self.entry)))
             (collected W.view self.entry) (output W.view self.exit.0.now) result }
     {
         let Collect {

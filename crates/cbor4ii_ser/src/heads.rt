@@ -1,8 +1,8 @@
 //! Heads of arrays, maps and variants, and their ends.
-ghost use Rattle.std.specs.Prelude.{◌≡◌, ◌++◌, Some, Ok, IsSome};
+ghost use Rattle.std.specs.Prelude.{◌≡◌, ◌++◌, Ok, IsSome};
 ghost use Rattle.cbor4ii_items.specs.Numbers.{shortest_head};
 ghost use Rattle.cbor4ii_ser.specs.Counts.{counted_head, counted_end};
-ghost use Rattle.cbor4ii_ser.specs.Item.{variant_head};
+ghost use Rattle.cbor4ii_ser.specs.Item.{encoded, variant_head};
 ghost use Rattle.cbor4ii_ser.specs.Serializing.{Serializes, output};
 
 use crate::error::EncodeError;
@@ -12,14 +12,14 @@ use cbor4ii_rw::write::Write;
 
 impl<W: Write> Serializer<W> {
     pub(crate) fn array_head(&mut self, len: usize) -> Result<(), EncodeError<W::Error>>
-        ensures { Serializes W.whole (Some (shortest_head 4 len))
+        ensures { Serializes W.whole (encoded (shortest_head 4 len))
             (output W.view self.old) (output W.view self.new) result }
     {
         Ok(Array::<()>::bounded(len, &mut self.writer)?)
     }
 
     pub(crate) fn map_head(&mut self, len: usize) -> Result<(), EncodeError<W::Error>>
-        ensures { Serializes W.whole (Some (shortest_head 5 len))
+        ensures { Serializes W.whole (encoded (shortest_head 5 len))
             (output W.view self.old) (output W.view self.new) result }
     {
         Ok(Map::<()>::bounded(len, &mut self.writer)?)
@@ -27,7 +27,7 @@ impl<W: Write> Serializer<W> {
 
     /// The head of an array, of an indefinite length where none is known.
     pub(crate) fn seq_head(&mut self, len: Option<usize>) -> Result<(), EncodeError<W::Error>>
-        ensures { Serializes W.whole (Some (counted_head 4 len))
+        ensures { Serializes W.whole (encoded (counted_head 4 len))
             (output W.view self.old) (output W.view self.new) result }
     {
         match len {
@@ -38,7 +38,7 @@ impl<W: Write> Serializer<W> {
 
     /// The head of a map, of an indefinite length where none is known.
     pub(crate) fn entries_head(&mut self, len: Option<usize>) -> Result<(), EncodeError<W::Error>>
-        ensures { Serializes W.whole (Some (counted_head 5 len))
+        ensures { Serializes W.whole (encoded (counted_head 5 len))
             (output W.view self.old) (output W.view self.new) result }
     {
         match len {
@@ -51,7 +51,7 @@ impl<W: Write> Serializer<W> {
     pub(crate) fn sequence_end(&mut self, len: Option<usize>) -> Result<(), EncodeError<W::Error>>
         ensures succeeds { IsSome len → result ≡ Ok tt }
         ensures untouched { IsSome len → output W.view self.new ≡ output W.view self.old }
-        ensures written { Serializes W.whole (Some (counted_end len))
+        ensures written { Serializes W.whole (encoded (counted_end len))
             (output W.view self.old) (output W.view self.new) result }
     {
         match len {
@@ -62,7 +62,7 @@ impl<W: Write> Serializer<W> {
 
     /// A map of one entry, and its key: the variant's name.
     pub(crate) fn variant_head(&mut self, name: &str) -> Result<(), EncodeError<W::Error>>
-        ensures { Serializes W.whole (Some (variant_head name.now))
+        ensures { Serializes W.whole (encoded (variant_head name.now))
             (output W.view self.old) (output W.view self.new) result }
     {
         self.map_head(1)?;
@@ -75,7 +75,7 @@ impl<W: Write> Serializer<W> {
         name: &str,
         len: usize,
     ) -> Result<(), EncodeError<W::Error>>
-        ensures { Serializes W.whole (Some (variant_head name.now ++ shortest_head 4 len))
+        ensures { Serializes W.whole (encoded (variant_head name.now ++ shortest_head 4 len))
             (output W.view self.old) (output W.view self.new) result }
     {
         self.variant_head(name)?;
@@ -88,7 +88,7 @@ impl<W: Write> Serializer<W> {
         name: &str,
         len: usize,
     ) -> Result<(), EncodeError<W::Error>>
-        ensures { Serializes W.whole (Some (variant_head name.now ++ shortest_head 5 len))
+        ensures { Serializes W.whole (encoded (variant_head name.now ++ shortest_head 5 len))
             (output W.view self.old) (output W.view self.new) result }
     {
         self.variant_head(name)?;

@@ -7,7 +7,6 @@ ghost use Rattle.std.specs.Prelude.{
   ◌^◌,
   ℕ,
   List,
-  Option,
   All,
   length,
   string_bytes,
@@ -18,6 +17,7 @@ ghost use Rattle.std.specs.declared.string.String.{String};
 ghost use Rattle.cbor4ii_items.specs.ReadBack.{ReadsBack};
 ghost use Rattle.cbor4ii_items.specs.Strings.{joined};
 ghost use Rattle.cbor4ii_ser.specs.Item.{
+  Encoding,
   tuple_item,
   struct_item,
   variant_item,
@@ -45,8 +45,8 @@ pub fn pieces_are_read_back()
 
 /// A variant that is written part by part is the variant with the same tuple or struct as content.
 pub fn variants_have_content()
-    ensures tuple { (name : List ℕ) (parts : List (Option (List ℕ))) →
+    ensures tuple { (name : List ℕ) (parts : List Encoding) →
         tuple_variant_item name parts ≡ variant_item name (tuple_item parts) }
-    ensures fields { (name : List ℕ) (fields : List (Option (List ℕ))) →
+    ensures fields { (name : List ℕ) (fields : List Encoding) →
         struct_variant_item name fields ≡ variant_item name (struct_item fields) }
 {}

@@ -1,5 +1,5 @@
 //! Values that are one item, and values that wrap one.
-ghost use Rattle.std.specs.Prelude.{Some, ◌∷◌, [], string_bytes};
+ghost use Rattle.std.specs.Prelude.{◌∷◌, [], string_bytes};
 ghost use Rattle.std.specs.Char.{encode_utf8};
 ghost use Rattle.cbor4ii_items.specs.Cow.{cow_text};
 ghost use Rattle.cbor4ii_items.specs.Floats.{float_bytes};
@@ -11,7 +11,7 @@ ghost use Rattle.cbor4ii_items.specs.Numbers.{
 };
 ghost use Rattle.cbor4ii_items.specs.Simple.{bool_byte};
 ghost use Rattle.cbor4ii_items.specs.Strings.{counted_string};
-ghost use Rattle.cbor4ii_ser.specs.Item.{option_item};
+ghost use Rattle.cbor4ii_ser.specs.Item.{encoded, option_item};
 
 use crate::error::EncodeError;
 use crate::serialize::Serialize;
@@ -23,7 +23,7 @@ use std::borrow::CowStr;
 
 /// False or true, in one byte.
 impl Serialize for bool {
-    ghost item = { λ v. Some (bool_byte v ∷ []) };
+    ghost item = { λ v. encoded (bool_byte v ∷ []) };
 
     fn serialize<W: Write>(&self, ser: &mut Serializer<W>) -> Result<(), EncodeError<W::Error>> {
         ser.serialize_bool(*self)
@@ -32,7 +32,7 @@ impl Serialize for bool {
 
 /// As its shortest head (RFC 8949 section 3.1), in one push.
 impl Serialize for i8 {
-    ghost item = { λ v. Some (signed_head v) };
+    ghost item = { λ v. encoded (signed_head v) };
 
     fn serialize<W: Write>(&self, ser: &mut Serializer<W>) -> Result<(), EncodeError<W::Error>> {
         ser.serialize_i8(*self)
@@ -41,7 +41,7 @@ impl Serialize for i8 {
 
 /// As its shortest head (RFC 8949 section 3.1), in one push.
 impl Serialize for i16 {
-    ghost item = { λ v. Some (signed_head v) };
+    ghost item = { λ v. encoded (signed_head v) };
 
     fn serialize<W: Write>(&self, ser: &mut Serializer<W>) -> Result<(), EncodeError<W::Error>> {
         ser.serialize_i16(*self)
@@ -50,7 +50,7 @@ impl Serialize for i16 {
 
 /// As its shortest head (RFC 8949 section 3.1), in one push.
 impl Serialize for i32 {
-    ghost item = { λ v. Some (signed_head v) };
+    ghost item = { λ v. encoded (signed_head v) };
 
     fn serialize<W: Write>(&self, ser: &mut Serializer<W>) -> Result<(), EncodeError<W::Error>> {
         ser.serialize_i32(*self)
@@ -59,7 +59,7 @@ impl Serialize for i32 {
 
 /// As its shortest head (RFC 8949 section 3.1), in one push.
 impl Serialize for i64 {
-    ghost item = { λ v. Some (signed_head v) };
+    ghost item = { λ v. encoded (signed_head v) };
 
     fn serialize<W: Write>(&self, ser: &mut Serializer<W>) -> Result<(), EncodeError<W::Error>> {
         ser.serialize_i64(*self)
@@ -68,7 +68,7 @@ impl Serialize for i64 {
 
 /// As its shortest head, or as a bignum where none has room for it (RFC 8949 section 3.4.3).
 impl Serialize for i128 {
-    ghost item = { λ v. Some (signed_bytes v) };
+    ghost item = { λ v. encoded (signed_bytes v) };
 
     fn serialize<W: Write>(&self, ser: &mut Serializer<W>) -> Result<(), EncodeError<W::Error>> {
         ser.serialize_i128(*self)
@@ -77,7 +77,7 @@ impl Serialize for i128 {
 
 /// As its shortest head (RFC 8949 section 3.1), in one push.
 impl Serialize for u8 {
-    ghost item = { λ v. Some (shortest_head 0 v) };
+    ghost item = { λ v. encoded (shortest_head 0 v) };
 
     fn serialize<W: Write>(&self, ser: &mut Serializer<W>) -> Result<(), EncodeError<W::Error>> {
         ser.serialize_u8(*self)
@@ -86,7 +86,7 @@ impl Serialize for u8 {
 
 /// As its shortest head (RFC 8949 section 3.1), in one push.
 impl Serialize for u16 {
-    ghost item = { λ v. Some (shortest_head 0 v) };
+    ghost item = { λ v. encoded (shortest_head 0 v) };
 
     fn serialize<W: Write>(&self, ser: &mut Serializer<W>) -> Result<(), EncodeError<W::Error>> {
         ser.serialize_u16(*self)
@@ -95,7 +95,7 @@ impl Serialize for u16 {
 
 /// As its shortest head (RFC 8949 section 3.1), in one push.
 impl Serialize for u32 {
-    ghost item = { λ v. Some (shortest_head 0 v) };
+    ghost item = { λ v. encoded (shortest_head 0 v) };
 
     fn serialize<W: Write>(&self, ser: &mut Serializer<W>) -> Result<(), EncodeError<W::Error>> {
         ser.serialize_u32(*self)
@@ -104,7 +104,7 @@ impl Serialize for u32 {
 
 /// As its shortest head (RFC 8949 section 3.1), in one push.
 impl Serialize for u64 {
-    ghost item = { λ v. Some (shortest_head 0 v) };
+    ghost item = { λ v. encoded (shortest_head 0 v) };
 
     fn serialize<W: Write>(&self, ser: &mut Serializer<W>) -> Result<(), EncodeError<W::Error>> {
         ser.serialize_u64(*self)
@@ -113,7 +113,7 @@ impl Serialize for u64 {
 
 /// As its shortest head, or as a bignum where none has room for it (RFC 8949 section 3.4.3).
 impl Serialize for u128 {
-    ghost item = { λ v. Some (unsigned_bytes v) };
+    ghost item = { λ v. encoded (unsigned_bytes v) };
 
     fn serialize<W: Write>(&self, ser: &mut Serializer<W>) -> Result<(), EncodeError<W::Error>> {
         ser.serialize_u128(*self)
@@ -122,7 +122,7 @@ impl Serialize for u128 {
 
 /// As its first byte and its bits, most significant first, in one push.
 impl Serialize for F16 {
-    ghost item = { λ v. Some (float_bytes 0xf9 2 v.0) };
+    ghost item = { λ v. encoded (float_bytes 0xf9 2 v.0) };
 
     fn serialize<W: Write>(&self, ser: &mut Serializer<W>) -> Result<(), EncodeError<W::Error>> {
         ser.serialize_f16(self.0)
@@ -131,7 +131,7 @@ impl Serialize for F16 {
 
 /// As its first byte and its bits, most significant first, in one push.
 impl Serialize for F32 {
-    ghost item = { λ v. Some (float_bytes 0xfa 4 v.0) };
+    ghost item = { λ v. encoded (float_bytes 0xfa 4 v.0) };
 
     fn serialize<W: Write>(&self, ser: &mut Serializer<W>) -> Result<(), EncodeError<W::Error>> {
         ser.serialize_f32(self.0)
@@ -140,7 +140,7 @@ impl Serialize for F32 {
 
 /// As its first byte and its bits, most significant first, in one push.
 impl Serialize for F64 {
-    ghost item = { λ v. Some (float_bytes 0xfb 8 v.0) };
+    ghost item = { λ v. encoded (float_bytes 0xfb 8 v.0) };
 
     fn serialize<W: Write>(&self, ser: &mut Serializer<W>) -> Result<(), EncodeError<W::Error>> {
         ser.serialize_f64(self.0)
@@ -149,7 +149,7 @@ impl Serialize for F64 {
 
 /// A text of one character.
 impl Serialize for char {
-    ghost item = { λ v. Some (counted_string 3 (encode_utf8 v)) };
+    ghost item = { λ v. encoded (counted_string 3 (encode_utf8 v)) };
 
     fn serialize<W: Write>(&self, ser: &mut Serializer<W>) -> Result<(), EncodeError<W::Error>> {
         ser.serialize_char(*self)
@@ -158,7 +158,7 @@ impl Serialize for char {
 
 /// A text.
 impl<'a> Serialize for &'a str {
-    ghost item = { λ v. Some (counted_string 3 v.now) };
+    ghost item = { λ v. encoded (counted_string 3 v.now) };
 
     fn serialize<W: Write>(&self, ser: &mut Serializer<W>) -> Result<(), EncodeError<W::Error>> {
         ser.serialize_str(self)
@@ -167,7 +167,7 @@ impl<'a> Serialize for &'a str {
 
 /// A text.
 impl Serialize for String {
-    ghost item = { λ v. Some (counted_string 3 (string_bytes v)) };
+    ghost item = { λ v. encoded (counted_string 3 (string_bytes v)) };
 
     fn serialize<W: Write>(&self, ser: &mut Serializer<W>) -> Result<(), EncodeError<W::Error>> {
         ser.serialize_str(self.as_str())
@@ -176,7 +176,7 @@ impl Serialize for String {
 
 /// A text, whether borrowed or owned.
 impl<'a> Serialize for CowStr<'a, Global> {
-    ghost item = { λ v. Some (counted_string 3 (cow_text v)) };
+    ghost item = { λ v. encoded (counted_string 3 (cow_text v)) };
 
     fn serialize<W: Write>(&self, ser: &mut Serializer<W>) -> Result<(), EncodeError<W::Error>> {
         ser.serialize_str(self)
@@ -185,7 +185,7 @@ impl<'a> Serialize for CowStr<'a, Global> {
 
 /// A byte string.
 impl<'a> Serialize for Bytes<&'a [u8]> {
-    ghost item = { λ v. Some (counted_string 2 v.0.now) };
+    ghost item = { λ v. encoded (counted_string 2 v.0.now) };
 
     fn serialize<W: Write>(&self, ser: &mut Serializer<W>) -> Result<(), EncodeError<W::Error>> {
         ser.serialize_bytes(self.0)
@@ -194,7 +194,7 @@ impl<'a> Serialize for Bytes<&'a [u8]> {
 
 /// An array of no item.
 impl Serialize for () {
-    ghost item = { λ _. Some (shortest_head 4 0) };
+    ghost item = { λ _. encoded (shortest_head 4 0) };
 
     fn serialize<W: Write>(&self, ser: &mut Serializer<W>) -> Result<(), EncodeError<W::Error>> {
         ser.serialize_unit()

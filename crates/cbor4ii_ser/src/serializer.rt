@@ -1,5 +1,5 @@
 //! A writer of typed values.
-ghost use Rattle.std.specs.Prelude.{◌≡◌, ◌∷◌, [], Some, false};
+ghost use Rattle.std.specs.Prelude.{◌≡◌, ◌∷◌, [], false};
 ghost use Rattle.std.specs.Char.{encode_utf8};
 ghost use Rattle.cbor4ii_items.specs.Floats.{float_bytes};
 ghost use Rattle.cbor4ii_items.specs.Numbers.{
@@ -10,7 +10,7 @@ ghost use Rattle.cbor4ii_items.specs.Numbers.{
 };
 ghost use Rattle.cbor4ii_items.specs.Simple.{bool_byte};
 ghost use Rattle.cbor4ii_items.specs.Strings.{counted_string};
-ghost use Rattle.cbor4ii_ser.specs.Item.{variant_item};
+ghost use Rattle.cbor4ii_ser.specs.Item.{encoded, variant_item};
 ghost use Rattle.cbor4ii_ser.specs.Serializing.{Serializes, output};
 
 use crate::error::EncodeError;
@@ -54,7 +54,7 @@ impl<W: Write> Serializer<W> {
 
     /// Writes an item that is never missing.
     pub(crate) fn put<T: Encode>(&mut self, value: &T) -> Result<(), EncodeError<W::Error>>
-        ensures { Serializes W.whole (Some (T.bytes value.now))
+        ensures { Serializes W.whole (encoded (T.bytes value.now))
             (output W.view self.old) (output W.view self.new) result }
     {
         Ok(value.encode(&mut self.writer)?)
@@ -62,7 +62,7 @@ impl<W: Write> Serializer<W> {
 
     /// False or true, in one byte.
     pub fn serialize_bool(&mut self, value: bool) -> Result<(), EncodeError<W::Error>>
-        ensures { Serializes W.whole (Some (bool_byte value ∷ []))
+        ensures { Serializes W.whole (encoded (bool_byte value ∷ []))
             (output W.view self.old) (output W.view self.new) result }
     {
         self.put(&value)
@@ -70,7 +70,7 @@ impl<W: Write> Serializer<W> {
 
     /// An integer, as a head.
     pub fn serialize_i8(&mut self, value: i8) -> Result<(), EncodeError<W::Error>>
-        ensures { Serializes W.whole (Some (signed_head value))
+        ensures { Serializes W.whole (encoded (signed_head value))
             (output W.view self.old) (output W.view self.new) result }
     {
         self.put(&value)
@@ -78,7 +78,7 @@ impl<W: Write> Serializer<W> {
 
     /// An integer, as a head.
     pub fn serialize_i16(&mut self, value: i16) -> Result<(), EncodeError<W::Error>>
-        ensures { Serializes W.whole (Some (signed_head value))
+        ensures { Serializes W.whole (encoded (signed_head value))
             (output W.view self.old) (output W.view self.new) result }
     {
         self.put(&value)
@@ -86,7 +86,7 @@ impl<W: Write> Serializer<W> {
 
     /// An integer, as a head.
     pub fn serialize_i32(&mut self, value: i32) -> Result<(), EncodeError<W::Error>>
-        ensures { Serializes W.whole (Some (signed_head value))
+        ensures { Serializes W.whole (encoded (signed_head value))
             (output W.view self.old) (output W.view self.new) result }
     {
         self.put(&value)
@@ -94,7 +94,7 @@ impl<W: Write> Serializer<W> {
 
     /// An integer, as a head.
     pub fn serialize_i64(&mut self, value: i64) -> Result<(), EncodeError<W::Error>>
-        ensures { Serializes W.whole (Some (signed_head value))
+        ensures { Serializes W.whole (encoded (signed_head value))
             (output W.view self.old) (output W.view self.new) result }
     {
         self.put(&value)
@@ -102,7 +102,7 @@ impl<W: Write> Serializer<W> {
 
     /// An integer, as a head; below -2^64 and from 2^64 on as a bignum (RFC 8949 section 3.4.3).
     pub fn serialize_i128(&mut self, value: i128) -> Result<(), EncodeError<W::Error>>
-        ensures { Serializes W.whole (Some (signed_bytes value))
+        ensures { Serializes W.whole (encoded (signed_bytes value))
             (output W.view self.old) (output W.view self.new) result }
     {
         self.put(&value)
@@ -110,7 +110,7 @@ impl<W: Write> Serializer<W> {
 
     /// An integer from 0 on, as a head.
     pub fn serialize_u8(&mut self, value: u8) -> Result<(), EncodeError<W::Error>>
-        ensures { Serializes W.whole (Some (shortest_head 0 value))
+        ensures { Serializes W.whole (encoded (shortest_head 0 value))
             (output W.view self.old) (output W.view self.new) result }
     {
         self.put(&value)
@@ -118,7 +118,7 @@ impl<W: Write> Serializer<W> {
 
     /// An integer from 0 on, as a head.
     pub fn serialize_u16(&mut self, value: u16) -> Result<(), EncodeError<W::Error>>
-        ensures { Serializes W.whole (Some (shortest_head 0 value))
+        ensures { Serializes W.whole (encoded (shortest_head 0 value))
             (output W.view self.old) (output W.view self.new) result }
     {
         self.put(&value)
@@ -126,7 +126,7 @@ impl<W: Write> Serializer<W> {
 
     /// An integer from 0 on, as a head.
     pub fn serialize_u32(&mut self, value: u32) -> Result<(), EncodeError<W::Error>>
-        ensures { Serializes W.whole (Some (shortest_head 0 value))
+        ensures { Serializes W.whole (encoded (shortest_head 0 value))
             (output W.view self.old) (output W.view self.new) result }
     {
         self.put(&value)
@@ -134,7 +134,7 @@ impl<W: Write> Serializer<W> {
 
     /// An integer from 0 on, as a head.
     pub fn serialize_u64(&mut self, value: u64) -> Result<(), EncodeError<W::Error>>
-        ensures { Serializes W.whole (Some (shortest_head 0 value))
+        ensures { Serializes W.whole (encoded (shortest_head 0 value))
             (output W.view self.old) (output W.view self.new) result }
     {
         self.put(&value)
@@ -142,7 +142,7 @@ impl<W: Write> Serializer<W> {
 
     /// An integer from 0 on, as a head; from 2^64 on as a bignum (RFC 8949 section 3.4.3).
     pub fn serialize_u128(&mut self, value: u128) -> Result<(), EncodeError<W::Error>>
-        ensures { Serializes W.whole (Some (unsigned_bytes value))
+        ensures { Serializes W.whole (encoded (unsigned_bytes value))
             (output W.view self.old) (output W.view self.new) result }
     {
         self.put(&value)
@@ -150,7 +150,7 @@ impl<W: Write> Serializer<W> {
 
     /// A float of two bytes, as its bits.
     pub fn serialize_f16(&mut self, bits: u16) -> Result<(), EncodeError<W::Error>>
-        ensures { Serializes W.whole (Some (float_bytes 0xf9 2 bits))
+        ensures { Serializes W.whole (encoded (float_bytes 0xf9 2 bits))
             (output W.view self.old) (output W.view self.new) result }
     {
         self.put(&F16(bits))
@@ -158,7 +158,7 @@ impl<W: Write> Serializer<W> {
 
     /// A float of four bytes, as its bits.
     pub fn serialize_f32(&mut self, bits: u32) -> Result<(), EncodeError<W::Error>>
-        ensures { Serializes W.whole (Some (float_bytes 0xfa 4 bits))
+        ensures { Serializes W.whole (encoded (float_bytes 0xfa 4 bits))
             (output W.view self.old) (output W.view self.new) result }
     {
         self.put(&F32(bits))
@@ -166,7 +166,7 @@ impl<W: Write> Serializer<W> {
 
     /// A float of eight bytes, as its bits.
     pub fn serialize_f64(&mut self, bits: u64) -> Result<(), EncodeError<W::Error>>
-        ensures { Serializes W.whole (Some (float_bytes 0xfb 8 bits))
+        ensures { Serializes W.whole (encoded (float_bytes 0xfb 8 bits))
             (output W.view self.old) (output W.view self.new) result }
     {
         self.put(&F64(bits))
@@ -174,7 +174,7 @@ impl<W: Write> Serializer<W> {
 
     /// A text of one character.
     pub fn serialize_char(&mut self, value: char) -> Result<(), EncodeError<W::Error>>
-        ensures { Serializes W.whole (Some (counted_string 3 (encode_utf8 value)))
+        ensures { Serializes W.whole (encoded (counted_string 3 (encode_utf8 value)))
             (output W.view self.old) (output W.view self.new) result }
     {
         let mut bytes = [0; 4];
@@ -183,7 +183,7 @@ impl<W: Write> Serializer<W> {
 
     /// A text of a known length.
     pub fn serialize_str(&mut self, value: &str) -> Result<(), EncodeError<W::Error>>
-        ensures { Serializes W.whole (Some (counted_string 3 value.now))
+        ensures { Serializes W.whole (encoded (counted_string 3 value.now))
             (output W.view self.old) (output W.view self.new) result }
     {
         self.put(&value)
@@ -191,7 +191,7 @@ impl<W: Write> Serializer<W> {
 
     /// A byte string of a known length.
     pub fn serialize_bytes(&mut self, value: &[u8]) -> Result<(), EncodeError<W::Error>>
-        ensures { Serializes W.whole (Some (counted_string 2 value.now))
+        ensures { Serializes W.whole (encoded (counted_string 2 value.now))
             (output W.view self.old) (output W.view self.new) result }
     {
         self.put(&Bytes(value))
@@ -199,7 +199,7 @@ impl<W: Write> Serializer<W> {
 
     /// Null, which is none.
     pub fn serialize_none(&mut self) -> Result<(), EncodeError<W::Error>>
-        ensures { Serializes W.whole (Some (0xf6 ∷ []))
+        ensures { Serializes W.whole (encoded (0xf6 ∷ []))
             (output W.view self.old) (output W.view self.new) result }
     {
         self.put(&Null)
@@ -215,7 +215,7 @@ impl<W: Write> Serializer<W> {
 
     /// An array of no item.
     pub fn serialize_unit(&mut self) -> Result<(), EncodeError<W::Error>>
-        ensures { Serializes W.whole (Some (shortest_head 4 0))
+        ensures { Serializes W.whole (encoded (shortest_head 4 0))
             (output W.view self.old) (output W.view self.new) result }
     {
         self.array_head(0)
@@ -223,7 +223,7 @@ impl<W: Write> Serializer<W> {
 
     /// An array of no item; the struct's name is not written.
     pub fn serialize_unit_struct(&mut self, _name: &str) -> Result<(), EncodeError<W::Error>>
-        ensures { Serializes W.whole (Some (shortest_head 4 0))
+        ensures { Serializes W.whole (encoded (shortest_head 4 0))
             (output W.view self.old) (output W.view self.new) result }
     {
         self.serialize_unit()
@@ -236,7 +236,7 @@ impl<W: Write> Serializer<W> {
         _variant_index: u32,
         variant: &str,
     ) -> Result<(), EncodeError<W::Error>>
-        ensures { Serializes W.whole (Some (counted_string 3 variant.now))
+        ensures { Serializes W.whole (encoded (counted_string 3 variant.now))
             (output W.view self.old) (output W.view self.new) result }
     {
         self.serialize_str(variant)

@@ -1,6 +1,7 @@
 //! One value, written whole.
-ghost use Rattle.std.specs.Prelude.{◌≡◌, ◌++◌, IfOk, IfErr, IsSomeAnd};
+ghost use Rattle.std.specs.Prelude.{◌≡◌, ◌++◌, IfOk, IfErr};
 ghost use Rattle.cbor4ii_rw.specs.Writer.{Appends};
+ghost use Rattle.cbor4ii_ser.specs.Item.{IsEncodedAnd};
 ghost use Rattle.cbor4ii_ser.specs.Serializing.{NoItem};
 
 use crate::error::EncodeError;
@@ -21,7 +22,7 @@ pub fn to_vec<T: Serialize>(
     buf: Vec<u8>,
     value: &T,
 ) -> Result<Vec<u8>, EncodeError<TryReserveError>>
-    ensures appends { IfOk result (λ v. IsSomeAnd (T.item value.now)
+    ensures appends { IfOk result (λ v. IsEncodedAnd (T.item value.now)
         (λ bytes. v.items ≡ buf.items ++ bytes)) }
     ensures custom { IfErr result (NoItem (T.item value.now)) }
 {
@@ -41,7 +42,7 @@ pub fn to_writer<W: io::Write + Drop, T: Serialize>(
     writer: W,
     value: &T,
 ) -> Result<W, EncodeError<io::Error>>
-    ensures appends { IfOk result (λ stream. IsSomeAnd (T.item value.now)
+    ensures appends { IfOk result (λ stream. IsEncodedAnd (T.item value.now)
         (λ bytes. Appends bytes (W.contents writer) (W.contents stream))) }
     ensures custom { IfErr result (NoItem (T.item value.now)) }
 {

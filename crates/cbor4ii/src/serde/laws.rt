@@ -43,6 +43,7 @@ ghost use Rattle.cbor4ii_tree.specs.Canonical.{canon_cost};
 ghost use Rattle.cbor4ii_tree.specs.Item.{Item, IsItem};
 ghost use Rattle.cbor4ii_tree.specs.View.{view};
 ghost use Rattle.cbor4ii_tree.specs.declared.value.Value.{Value as AnyValue};
+ghost use Rattle.cbor4ii_ser.specs.Item.{encoded};
 ghost use Rattle.cbor4ii.specs.AnyCost.{any_cost};
 ghost use Rattle.cbor4ii.specs.Fields.{ReadsFields, SameField, named_field, no_fields, no_values};
 ghost use Rattle.cbor4ii.specs.ReadBack.{IsReadBack, BeginsOther};
@@ -180,11 +181,11 @@ pub fn fields_are_read_in_one_way<A: Typed, B: Typed>()
 /// budget has the cost, no refusal of the bytes.
 pub fn what_is_written_is_read<T: Typed + Serialize, E>()
     ensures accepted { IsTrue T.exact → (bytes rest : List ℕ) (v w : T) (cost : ℕ)
-        (old new : View) → T.item v ≡ Some bytes → IsReadBack T.reads (T.item v) v cost →
+        (old new : View) → T.item v ≡ encoded bytes → IsReadBack T.reads (T.item v) v cost →
         old.told ≡ Some (bytes ++ rest) → Sound T.reads old new w →
         T.same v w × (new.told ≡ Some rest) }
     ensures not_refused { (bytes rest : List ℕ) (v : T) (cost : ℕ) (old : View)
-        (error : DecodeError E) → T.item v ≡ Some bytes →
+        (error : DecodeError E) → T.item v ≡ encoded bytes →
         IsReadBack T.reads (T.item v) v cost → CostFits cost old.budget →
         old.told ≡ Some (bytes ++ rest) → Refuses T.reads old error → refusal_of error ≡ None }
 {}

@@ -1,10 +1,13 @@
 //! Texts in pieces.
 ghost use Rattle.std.specs.Prelude.{◌∷◌, [], codes, true};
 
-use cbor4ii::serde::{EncodeError, Serializer, Text, TextFault, TextWriter};
+use crate::pieces::{Parts, joined, letters};
 use cbor4ii_rw::buf_writer::BufWriter;
 use cbor4ii_rw::error::TryReserveError;
 use cbor4ii_rw::write::Write;
+use cbor4ii_ser::error::EncodeError;
+use cbor4ii_ser::serializer::Serializer;
+use cbor4ii_ser::text::{Text, TextFault, TextWriter};
 use std::alloc::Global;
 use std::test::Fail;
 
@@ -13,21 +16,6 @@ fn written<T: Text>(alloc: Global, text: &T) -> Result<Vec<u8>, EncodeError<TryR
     let mut ser = Serializer::new(BufWriter::new(Vec::new(alloc)));
     ser.collect_str(text)?;
     Ok(ser.into_inner().into_inner())
-}
-
-/// What is written: each part some bytes and so many letters.
-pub type Parts<'a> = &'a [(&'a [u8], usize)];
-
-/// The bytes of the parts.
-pub fn joined(alloc: Global, parts: Parts<'_>) -> Result<Vec<u8>, Fail> {
-    let mut bytes = Vec::new(alloc);
-    for (head, count) in parts {
-        bytes.extend_from_slice(head)?;
-        for _ in 0..*count {
-            bytes.push(b'a')?;
-        }
-    }
-    Ok(bytes)
 }
 
 fn is_joined(alloc: Global, bytes: &[u8], parts: Parts<'_>) -> Result<(), Fail> {
@@ -40,15 +28,6 @@ fn is_joined(alloc: Global, bytes: &[u8], parts: Parts<'_>) -> Result<(), Fail> 
 /// The text is written as these parts.
 fn writes_text<T: Text>(alloc: Global, text: &T, parts: Parts<'_>) -> Result<(), Fail> {
     is_joined(alloc, &written(alloc, text)?, parts)
-}
-
-/// So many letters.
-pub fn letters(alloc: Global, count: usize) -> Result<String, Fail> {
-    let mut text = String::new(alloc);
-    for _ in 0..count {
-        text.push_str("a")?;
-    }
-    Ok(text)
 }
 
 // As `writes_text`, for a text of so many letters.

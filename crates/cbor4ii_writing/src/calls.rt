@@ -1,9 +1,11 @@
 //! Values of Rust's own types, and each call of a serializer.
-use crate::typed::Answer::Is;
-use cbor4ii::serde::{EncodeError, Serializer, to_writer};
+use crate::typed::Typed;
 use cbor4ii_rw::buf_writer::BufWriter;
 use cbor4ii_rw::error as core_error;
 use cbor4ii_rw::error::TryReserveError;
+use cbor4ii_ser::error::EncodeError;
+use cbor4ii_ser::serializer::Serializer;
+use cbor4ii_ser::write_all::to_writer;
 use cbor4ii_trials::rows::writes;
 use std::alloc::{AllocError, Global};
 use std::borrow::CowStr;
@@ -14,9 +16,9 @@ use std::test::Fail;
 #[test]
 fn texts_that_are_borrowed(rt: HostRuntime) -> Result<(), Fail> {
     let alloc = rt.alloc();
-    writes(alloc, &Is("IETF"), b"\x64IETF")?;
-    writes(alloc, &Is(&"IETF"), b"\x64IETF")?;
-    writes(alloc, &Is(CowStr::Borrowed("IETF")), b"\x64IETF")?;
+    writes(alloc, &Typed("IETF"), b"\x64IETF")?;
+    writes(alloc, &Typed(&"IETF"), b"\x64IETF")?;
+    writes(alloc, &Typed(CowStr::Borrowed("IETF")), b"\x64IETF")?;
     Ok(())
 }
 
@@ -33,11 +35,11 @@ fn map_of_maps(alloc: Global) -> Result<BTreeMap<u8, BTreeMap<&'static str, u8>>
 #[test]
 fn tuples_of_texts_and_maps_in_the_order_of_their_keys(rt: HostRuntime) -> Result<(), Fail> {
     let alloc = rt.alloc();
-    writes(alloc, &Is((1u8, "a")), b"\x82\x01\x61a")?;
-    writes(alloc, &Is((1u8, "a", false)), b"\x83\x01\x61a\xf4")?;
+    writes(alloc, &Typed((1u8, "a")), b"\x82\x01\x61a")?;
+    writes(alloc, &Typed((1u8, "a", false)), b"\x83\x01\x61a\xf4")?;
     writes(
         alloc,
-        &Is(map_of_maps(alloc)?),
+        &Typed(map_of_maps(alloc)?),
         b"\xa1\x07\xa2\x61a\x01\x61b\x02",
     )?;
     Ok(())

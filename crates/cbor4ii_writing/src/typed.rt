@@ -1,0 +1,21 @@
+//! Typed values, as rows of what is written.
+use cbor4ii_rw::error as core_error;
+use cbor4ii_rw::write::Write;
+use cbor4ii_ser::error::EncodeError;
+use cbor4ii_ser::serialize::Serialize;
+use cbor4ii_ser::serializer::Serializer;
+use cbor4ii_trials::rows::WriteTo;
+
+/// A typed value.
+#[derive(Drop)]
+pub struct Typed<T>(pub T);
+
+/// Of a value that is refused no more is written, so that its row fails.
+impl<T: Serialize> WriteTo for Typed<T> {
+    fn write_to<W: Write>(&self, writer: &mut W) -> Result<(), core_error::EncodeError<W::Error>> {
+        match self.0.serialize(&mut Serializer::new(writer)) {
+            Ok(()) | Err(EncodeError::Custom(_)) => Ok(()),
+            Err(EncodeError::Core(error)) => Err(error),
+        }
+    }
+}
