@@ -1,7 +1,6 @@
 //! Typed values as rows: read over each reader for tests, and written into each writer for tests.
 use cbor4ii::serde::{
-    DecodeError, Deserialize, Deserializer, EncodeError, Serialize, Serializer, from_reader,
-    from_slice, to_vec,
+    DecodeError, Deserialize, Deserializer, Serialize, from_reader, from_slice, to_vec,
 };
 use cbor4ii_rw::error as core_error;
 use cbor4ii_rw::error::StaticStr;
@@ -13,6 +12,7 @@ use cbor4ii_trials::rows::{
     ReadFrom, Row, RowWithin, Want, WriteTo, ends_at_each_front, reads, reads_rows,
     reads_rows_within, reads_texts, reads_texts_within, reads_within, writes,
 };
+use cbor4ii_writing::typed::write_typed;
 use std::alloc::Global;
 use std::fmt::Debug;
 use std::test::Fail;
@@ -53,15 +53,12 @@ impl<T: Take> ReadFrom for Answer<T> {
     }
 }
 
-/// Of a value that is refused no more is written, so that its row fails.
+/// A refusal in words writes nothing.
 impl<T: Serialize> WriteTo for Answer<T> {
     fn write_to<W: Write>(&self, writer: &mut W) -> Result<(), core_error::EncodeError<W::Error>> {
-        let Answer::Is(value) = self else {
-            return Ok(());
-        };
-        match value.serialize(&mut Serializer::new(writer)) {
-            Ok(()) | Err(EncodeError::Custom(_)) => Ok(()),
-            Err(EncodeError::Core(error)) => Err(error),
+        match self {
+            Answer::Is(value) => write_typed(value, writer),
+            Answer::Custom(_) => Ok(()),
         }
     }
 }

@@ -14,5 +14,4 @@ pub mod pieces;
 mod refused;
 #[cfg(test)]
 mod texts;
-#[cfg(test)]
-mod typed;
+pub mod typed;

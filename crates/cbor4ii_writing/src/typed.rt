@@ -6,16 +6,24 @@ use cbor4ii_ser::serialize::Serialize;
 use cbor4ii_ser::serializer::Serializer;
 use cbor4ii_trials::rows::WriteTo;
 
+/// Writes the value behind what `writer` holds. Of one that is refused no more is written, so that
+/// its row fails.
+pub fn write_typed<T: Serialize, W: Write>(
+    value: &T,
+    writer: &mut W,
+) -> Result<(), core_error::EncodeError<W::Error>> {
+    match value.serialize(&mut Serializer::new(writer)) {
+        Ok(()) | Err(EncodeError::Custom(_)) => Ok(()),
+        Err(EncodeError::Core(error)) => Err(error),
+    }
+}
+
 /// A typed value.
 #[derive(Drop)]
 pub struct Typed<T>(pub T);
 
-/// Of a value that is refused no more is written, so that its row fails.
 impl<T: Serialize> WriteTo for Typed<T> {
     fn write_to<W: Write>(&self, writer: &mut W) -> Result<(), core_error::EncodeError<W::Error>> {
-        match self.0.serialize(&mut Serializer::new(writer)) {
-            Ok(()) | Err(EncodeError::Custom(_)) => Ok(()),
-            Err(EncodeError::Core(error)) => Err(error),
-        }
+        write_typed(&self.0, writer)
     }
 }
