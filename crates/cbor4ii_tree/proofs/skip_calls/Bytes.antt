@@ -1,7 +1,6 @@
 -- Bytes that are skipped, front by front, and the arguments of heads.
-use Rattle.std.proofs.Common.{◌≡◌, ◌≢◌, ℕ, zero, suc, ◌+◌, ◌-◌, ◌*◌, ◌%◌, ◌^◌, ◌<◌, ◌≤◌, List, [], ◌∷◌, ◌++◌, length, take, drop, Option, Some, None, Ok, Err, true, false, refl, sym, ap, ◌∙◌, subst, arith, IfSome, append_assoc, length-append, take-append-drop, ltb, ltb-true, ltb-false, Bool}
+use Rattle.std.proofs.Common.{◌≡◌, ℕ, zero, suc, ◌+◌, ◌-◌, ◌*◌, ◌<◌, ◌≤◌, List, [], ◌∷◌, ◌++◌, length, take, drop, Option, Some, None, Ok, Err, true, false, refl, sym, ap, ◌∙◌, subst, arith, IfSome, append_assoc, length-append, take-append-drop, ltb, ltb-true, ltb-false, Bool}
 use Rattle.std.proofs.lemmas.List.{length-take-le}
-use Rattle.std.specs.Int.{bytes_high_first}
 use denote.Ref.{Bor}
 use Rattle.cbor4ii_rw.specs.View.{View, Told}
 use Rattle.cbor4ii_rw.specs.Reader.{Shows, Advances, IsFront}
@@ -9,9 +8,8 @@ use Rattle.cbor4ii_rw.specs.declared.error.Len.{Len}
 use Rattle.cbor4ii_rw.specs.declared.error.Len.TheVariants.{Small, Big}
 use Rattle.cbor4ii_rw.specs.declared.error.DecodeError.{DecodeError}
 use Rattle.cbor4ii_rw.specs.declared.error.DecodeError.TheVariants.{Eof}
-use Rattle.cbor4ii_items.specs.Head.{Width, in_first, one, two, four, eight, byte_count, additional, HeadFits, IsBytes}
+use Rattle.cbor4ii_items.specs.Head.{Width, in_first, one, two, four, eight, byte_count, IsBytes}
 use Rattle.cbor4ii_items.specs.Initial.{info_of, wide}
-use Rattle.cbor4ii_items.specs.Laws.Heads.{number_is, IsBytes-take}
 use Rattle.cbor4ii_items.specs.ReadHead.{number_on}
 use Rattle.cbor4ii_items.specs.Reading.{Runs}
 use Rattle.cbor4ii_items.specs.Refusal.{Refusal, refusal_of, eof, len_of}
@@ -100,32 +98,8 @@ number_cut name expect (suc k) high (b ∷ bs) e rest h = let r = number_cut nam
 pub says_width : (i : ℕ) (w : Width) → info_of i ≡ wide w → WidthSays w i
 says_width i w e = subst (InfoSays i) e (info_says i)
 
-additional_is : (i : ℕ) (w : Width) (n : ℕ) → WidthSays w i → byte_count w ≢ 0 → additional w n ≡ i
-additional_is i in_first n h some = absurd (some refl)
-additional_is i one n h some = sym h
-additional_is i two n h some = sym h
-additional_is i four n h some = sym h
-additional_is i eight n h some = sym h
-
-number_fits : (w : Width) (n : ℕ) → byte_count w ≢ 0 → n < 256 ^ byte_count w → HeadFits w n
-number_fits in_first n some h = absurd (some refl)
-number_fits one n some h = omega (arith, h)
-number_fits two n some h = h
-number_fits four n some h = h
-number_fits eight n some h = h
-
 pub width_is : (w : Width) (i k : ℕ) (a : Additional) → info_of i ≡ wide w → a ≡ additional_of (info_of i) → a ≡ Wide k → byte_count w ≡ k
 width_is w i k a is by at = let e : additional_of (info_of i) ≡ Wide (byte_count w) = ap additional_of is in cc
-
-pub argument_read : (name : List ℕ) (w : Width) (first k v n : ℕ) (bs ys : List ℕ) → info_of (first % 32) ≡ wide w → byte_count w ≡ k → k ≢ 0 → IsBytes (take n bs) → k ≤ n → number_on name k k 0 bs ≡ Ok (v, ys) → ArgumentAt w first bs v ys
-argument_read name w first k v n bs ys is size some bytes le e =
-    let h = number_is name k k v bs ys (IsBytes-take k n bs le bytes) e in
-    let more : byte_count w ≢ 0 = λ z. some (sym size ∙ z) in
-    record {
-      fits = number_fits w v more (subst (λ j. v < 256 ^ j) (sym size) h.1);
-      says = additional_is (first % 32) w v (says_width (first % 32) w is) more;
-      is = h.0 ∙ ap (λ j. bytes_high_first j v ++ ys) (sym size);
-    }
 
 cut_at : (o : Option Refusal) (name : List ℕ) (k : ℕ) (w : Width) (xs : List ℕ) (new : Option (List ℕ)) → byte_count w ≡ k → IfSome o (λ z. (ys : List ℕ) × (new ≡ Some ys) × (number_on name k k 0 xs ≡ Err (z, ys)))
     → IfSome o (λ z. (ys : List ℕ) × (new ≡ Some ys) × MissingAll name (byte_count w) xs z ys)

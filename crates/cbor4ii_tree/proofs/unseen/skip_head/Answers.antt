@@ -1,6 +1,6 @@
-use Rattle.std.proofs.Common.{◌≡◌, ℕ, List, refl, arith, sym, ◌∙◌, ◌∷◌}
+use Rattle.std.proofs.Common.{refl, arith, sym, ◌∙◌}
 use Rattle.std.proofs.lemmas.Result.{err_from_is_err_and}
-use Rattle.cbor4ii_items.specs.Head.{Width, byte_count}
+use Rattle.cbor4ii_items.specs.Head.{byte_count}
 use Rattle.cbor4ii_items.specs.Refusal.{mismatch}
 use Rattle.cbor4ii_tree.specs.HeadParts.{ArgumentAt, DropsBytes}
 use Rattle.cbor4ii_tree.specs.Stops.{Missing, MissingAll}
@@ -11,10 +11,6 @@ use Rattle.cbor4ii_tree.proofs.skip_calls.Doing.{reached_first}
 use Rattle.cbor4ii_tree.proofs.skip_calls.Leading.{leads_bytes, bytes_cut, content_info, items_info, members_info, tag_info, open_leads, open_members_leads, is_taken, no_tag}
 use Rattle.cbor4ii_tree.proofs.skip_calls.Heads.{first_err, first_ok, first_alone, first_refused, takes}
 use Rattle.cbor4ii_tree.proofs.unseen.skip_head.Goals as goal
-
--- a first byte and its argument
-abbrev Counts : Width → ℕ → ℕ → List ℕ → List ℕ → Type 0
-Counts w b n xs ys = (bs : List ℕ) × (xs ≡ b ∷ bs) × ArgumentAt w b bs n ys
 
 pub returns-in_err-skip_bytes-in-Bytes-clause-does : goal.returns-in_err-skip_bytes-in-Bytes-clause-does
 returns-in_err-skip_bytes-in-Bytes-clause-does g c =
