@@ -15,6 +15,7 @@ fn laws_are_called(rt: HostRuntime) -> Result<(), Fail> {
     laws::reading_tells_what_may_come();
     laws::canonical_spelling_reads_back();
     laws::skipping_takes_what_reading_takes();
+    laws::canonical_trees_are_canonical_spellings();
     laws::values_are_items(&Value::Tag(1, Box::new(rt.alloc(), Value::Null)?));
     Ok(())
 }

@@ -71,6 +71,6 @@ pub record TakesContent {V E : Type 0} (program : Reading (List ℕ)) (is_text :
 abbrev pub IsBorrowedWhereWhole : {V : Type 0} → (V → Type 0) → View → V → Type 0
 IsBorrowedWhereWhole IsBorrowed old v = IsTrue old.lends_whole → Told old.told (λ xs. IsBorrowed v)
 
--- bytes are no text
-pub no_text : {m n : ℕ} → IsTrue false → m ≡ n
-no_text f = cc
+-- of bytes nothing is owed that is owed of texts
+pub nothing_to_test : {m n : ℕ} → IsTrue false → m ≡ n
+nothing_to_test f = cc

@@ -47,8 +47,9 @@ pub fn canonical_head<S: Source>(
     take_shortest(reader, name, major)
 }
 
-/// Takes a string of the major type `major`, its length in a head as `canonical_head` takes it, and
-/// answers its content. At most 16384 bytes are reserved before any came. The budget stays.
+/// Takes a string of the major type `major`, 0 to 6, its length in a head as `canonical_head` takes
+/// it, and answers its content; of 2 or 3 it is a string of RFC 8949 section 3.1. At most 16384
+/// bytes are reserved before any came. The budget stays.
 ///
 /// The head is refused as `canonical_head` refuses it. Where bytes of the content are missing:
 /// `Eof` by `name` with the number of those that are missing, and nothing is left. `OutOfMemory`

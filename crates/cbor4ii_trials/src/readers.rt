@@ -12,8 +12,8 @@ use cbor4ii_rw::read::{Read, Reference, Source};
 pub struct Failure;
 
 /// Shows one byte at a time or all that is left, which outlives the fill or does not, counts steps
-/// or lets items nest without a limit, and may fail at one show. It goes on after that, so that a
-/// decoder which passes over a failure is found out.
+/// or lets items nest without a limit, and may fail at one show, or where nothing is left. It goes
+/// on after that, so that a decoder which passes over a failure is found out.
 #[derive(Drop)]
 pub struct TestReader<'a> {
     bytes: &'a [u8],
@@ -23,6 +23,7 @@ pub struct TestReader<'a> {
     is_long: bool,
     // How often it shows before it fails.
     shows: usize,
+    fails_at_end: bool,
     failures: u64,
 }
 
@@ -79,6 +80,7 @@ impl<'a> TestReader<'a> {
             is_whole,
             is_long,
             shows: usize::MAX,
+            fails_at_end: false,
             failures: 0,
         }
     }
@@ -88,6 +90,16 @@ impl<'a> TestReader<'a> {
         ensures { test_view result ≡ test_view self.entry }
     {
         TestReader { shows, ..self }
+    }
+
+    /// The same reader, which fails in the place of showing that nothing is left.
+    pub fn failing_at_end(self) -> TestReader<'a>
+        ensures { test_view result ≡ test_view self.entry }
+    {
+        TestReader {
+            fails_at_end: true,
+            ..self
+        }
     }
 
     /// The bytes that are left.
@@ -120,7 +132,8 @@ impl<'a> TestReader<'a> {
         ensures counted { IsTrue result → self.old.failures < self.new.failures }
         ensures others { result ≡ false → self.new.failures ≡ self.old.failures }
     {
-        if self.shows == 0 && self.failures == 0 {
+        let is_told = self.shows == 0 || (self.fails_at_end && self.bytes.is_empty());
+        if is_told && self.failures == 0 {
             self.failures = 1;
             return true;
         }

@@ -231,7 +231,8 @@ where
     reads_whole(alloc, bytes, limit, want, rest)?;
     reads_in_segments(alloc, bytes, limit, want, rest)?;
     fails_at_each_show::<T>(alloc, bytes, limit)?;
-    fails_at_each_look::<T>(alloc, bytes, limit)
+    fails_at_each_look::<T>(alloc, bytes, limit)?;
+    asks_nothing_behind(alloc, item_of(bytes, rest), limit, want)
 }
 
 // Over each reader, with no fault and in one piece.
@@ -321,7 +322,8 @@ where
     let mut whole = TestReader::whole(bytes, STEPS);
     reads_over(alloc, &mut whole, bytes, &want, rest)?;
     fails_at_each_show::<T>(alloc, bytes, STEPS)?;
-    fails_at_each_look::<T>(alloc, bytes, STEPS)
+    fails_at_each_look::<T>(alloc, bytes, STEPS)?;
+    asks_whole_nothing_behind(alloc, item_of(bytes, rest), STEPS, &want)
 }
 
 /// As `reads`, for a borrowed value over each reader whose bytes do not outlive the fill.
@@ -526,6 +528,54 @@ fn fails_at_look<T: ReadBy<Stream> + Debug + Drop>(
         return Ok(is_read);
     }
     Err(Fail::new(format_args!("{got:?} where look {looks} fails, of {bytes:?}")))
+}
+
+// The item of a row that is read, alone, over readers that fail in the place of showing that
+// nothing is left: the answer is the same, since an item says itself where it ends. A row that
+// takes no byte is no such row, since what follows may say what it is.
+fn asks_nothing_behind<T>(
+    alloc: Global,
+    item: &'static [u8],
+    limit: usize,
+    want: &Want<T>,
+) -> Result<(), Fail>
+where
+    T: ReadBy<TestReader<'static>> + ReadBy<Stream> + PartialEq + Debug + Drop,
+{
+    if want.is_err() || item.is_empty() {
+        return Ok(());
+    }
+    asks_whole_nothing_behind(alloc, item, limit, want)?;
+    let mut short = TestReader::short(item, limit).failing_at_end();
+    is_same(T::read_by(alloc, &mut short), item, want)?;
+    for most in [1, usize::MAX] {
+        let stream = FailingStream::new(item, most, usize::MAX).failing_at_end();
+        let mut reader = IoReader::with_limit(stream, limit);
+        is_same(T::read_by(alloc, &mut reader), item, want)?;
+    }
+    Ok(())
+}
+
+// As `asks_nothing_behind`, over the reader that shows all that is left.
+fn asks_whole_nothing_behind<T>(
+    alloc: Global,
+    item: &'static [u8],
+    limit: usize,
+    want: &Want<T>,
+) -> Result<(), Fail>
+where
+    T: ReadBy<TestReader<'static>> + PartialEq + Debug + Drop,
+{
+    if want.is_err() {
+        return Ok(());
+    }
+    let mut whole = TestReader::whole(item, limit).failing_at_end();
+    is_same(T::read_by(alloc, &mut whole), item, want)
+}
+
+// What a row takes of its bytes, of which `rest` is left.
+fn item_of(bytes: &'static [u8], rest: &[u8]) -> &'static [u8] {
+    &bytes[..bytes.len().saturating_sub(rest.len())]
 }
 
 /// What a row writes: a value, or an item in parts.

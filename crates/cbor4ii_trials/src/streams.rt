@@ -1,13 +1,16 @@
 //! Streams that fail, for the readers and writers over streams.
 use std::io::{self, BufRead, ErrorKind, Read, Write};
 
-/// A stream that shows at most so many bytes at a time, fails at one look and goes on after it.
+/// A stream that shows at most so many bytes at a time, fails at one look or where nothing is left,
+/// and goes on after it.
 #[derive(Drop)]
 pub struct FailingStream<'a> {
     bytes: &'a [u8],
     most: usize,
     // How often it shows bytes before it fails.
     looks: usize,
+    fails_at_end: bool,
+    kind: ErrorKind,
     has_failed: bool,
 }
 
@@ -18,8 +21,23 @@ impl<'a> FailingStream<'a> {
             bytes,
             most,
             looks,
+            fails_at_end: false,
+            kind: ErrorKind::Other,
             has_failed: false,
         }
+    }
+
+    /// The same stream, which fails in the place of showing that nothing is left.
+    pub fn failing_at_end(self) -> FailingStream<'a> {
+        FailingStream {
+            fails_at_end: true,
+            ..self
+        }
+    }
+
+    /// The same stream, which fails with an error of this kind.
+    pub fn failing_with(self, kind: ErrorKind) -> FailingStream<'a> {
+        FailingStream { kind, ..self }
     }
 
     /// The bytes that are left.
@@ -41,9 +59,10 @@ impl Read for FailingStream<'_> {
 
 impl BufRead for FailingStream<'_> {
     fn fill_buf(&mut self) -> io::Result<&[u8]> {
-        if self.looks == 0 && !self.has_failed {
+        let is_told = self.looks == 0 || (self.fails_at_end && self.bytes.is_empty());
+        if is_told && !self.has_failed {
             self.has_failed = true;
-            return Err(io::Error::from(ErrorKind::Other));
+            return Err(io::Error::from(self.kind));
         }
         self.looks = self.looks.saturating_sub(1);
         Ok(&self.bytes[..self.bytes.len().min(self.most)])
@@ -55,6 +74,7 @@ impl BufRead for FailingStream<'_> {
 }
 
 /// A stream that takes one byte at a time into memory, fails at one of them and goes on after it.
+/// It may fail at each flush.
 #[derive(Drop)]
 pub struct FailingSink {
     bytes: Vec<u8>,
@@ -62,6 +82,8 @@ pub struct FailingSink {
     room: usize,
     has_failed: bool,
     flushes: usize,
+    // Why a flush fails, or none where it does not.
+    flush_failure: Option<ErrorKind>,
 }
 
 impl FailingSink {
@@ -72,6 +94,15 @@ impl FailingSink {
             room,
             has_failed: false,
             flushes: 0,
+            flush_failure: None,
+        }
+    }
+
+    /// The same stream, of which each flush fails with an error of this kind.
+    pub fn failing_at_flush(self, kind: ErrorKind) -> FailingSink {
+        FailingSink {
+            flush_failure: Some(kind),
+            ..self
         }
     }
 
@@ -109,6 +140,9 @@ impl Write for FailingSink {
 
     fn flush(&mut self) -> io::Result<()> {
         self.flushes = self.flushes.saturating_add(1);
-        Ok(())
+        match self.flush_failure {
+            Some(kind) => Err(io::Error::from(kind)),
+            None => Ok(()),
+        }
     }
 }

@@ -100,7 +100,32 @@ const STRINGS_BEHIND_SHORTEST_HEADS: &[Row<&str>] = &[
     (b"\x5f\x40\xff", Err(OTHER), b"\x40\xff"),
 ];
 
+// A text behind a shortest head, as its bytes.
+#[derive(Debug, Drop)]
+struct TextContent(Vec<u8>);
+
+impl ReadFrom for TextContent {
+    fn read_from<S: Source>(
+        alloc: Global,
+        reader: &mut S,
+    ) -> Result<TextContent, DecodeError<S::Error>> {
+        Ok(TextContent(canonical_buf(alloc, "str", 3, reader)?))
+    }
+}
+
+const TEXTS_BEHIND_SHORTEST_HEADS: &[Row<&str>] = &[
+    (b"\x63abc", Ok("TextContent([97, 98, 99])"), b""),
+    (
+        b"\x43abc",
+        Err("Mismatch { name: \"str\", found: 67 }"),
+        b"abc",
+    ),
+    (b"\x78\x01a", Err(OTHER), b"a"),
+];
+
 #[test]
 fn strings_behind_shortest_heads(rt: HostRuntime) -> Result<(), Fail> {
-    reads_texts::<Content>(rt.alloc(), STRINGS_BEHIND_SHORTEST_HEADS)
+    let alloc = rt.alloc();
+    reads_texts::<Content>(alloc, STRINGS_BEHIND_SHORTEST_HEADS)?;
+    reads_texts::<TextContent>(alloc, TEXTS_BEHIND_SHORTEST_HEADS)
 }

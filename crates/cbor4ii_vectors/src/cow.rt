@@ -116,21 +116,82 @@ fn decodes_whole(
     decodes(kind, alloc, &mut whole, bytes, want, rest)
 }
 
-// Readers that fail at the first show, at the second, and so on until none is left to fail: an end
-// of the bytes is left, and the steps are as before.
+// Readers that fail at the first show, at the second, and so on until none is left to fail.
 fn fails_at_each_show(kind: Kind, alloc: Global, bytes: &[u8]) -> Result<(), Fail> {
     for shows in 0..64 {
-        let mut reader = TestReader::short(bytes, 1).failing_after(shows);
-        let is_read = decode(kind, alloc, &mut reader).is_ok();
-        let is_told = is_read == (reader.failures() == 0);
-        if !is_told || reader.steps() != Some(1) || !bytes.ends_with(reader.remaining()) {
-            return Err(Fail::new(format_args!("show {shows} of {bytes:?} fails")));
-        }
-        if is_read {
+        if !fails(
+            kind,
+            alloc,
+            TestReader::short(bytes, 1).failing_after(shows),
+            bytes,
+        )? {
             return Ok(());
         }
     }
     Err(Fail::new(format_args!("too many shows of {bytes:?}")))
+}
+
+// Whether the reader failed. Then the answer is its error, and else a value. An end of the bytes is
+// left, and the steps are as before.
+fn fails(
+    kind: Kind,
+    alloc: Global,
+    mut reader: TestReader<'_>,
+    bytes: &[u8],
+) -> Result<bool, Fail> {
+    let has_failed = match decode(kind, alloc, &mut reader) {
+        Ok(_) => false,
+        Err(text) => is_failure(&text, "Read(Failure)")?,
+    };
+    let is_kept = has_failed == (reader.failures() == 1)
+        && reader.steps() == Some(1)
+        && bytes.ends_with(reader.remaining());
+    if is_kept {
+        return Ok(has_failed);
+    }
+    Err(Fail::new(format_args!("not a failed show of {bytes:?}")))
+}
+
+// That the refusal is the reader's error, which has this text. Where memory was refused the row
+// says nothing.
+fn is_failure(refusal: &InlineText<128>, error: &str) -> Result<bool, Fail> {
+    let text = refusal.as_str();
+    if text == "OutOfMemory" {
+        return Err(Fail::from(DecodeError::<Never>::OutOfMemory));
+    }
+    if text == error {
+        return Ok(true);
+    }
+    Err(Fail::new(format_args!("{text} in the place of {error}")))
+}
+
+// A stream that fails at the first look, at the second, and so on until none is left to fail.
+fn fails_at_each_look(kind: Kind, alloc: Global, bytes: &[u8]) -> Result<(), Fail> {
+    for looks in 0..64 {
+        if !fails_at_look(kind, alloc, bytes, looks)? {
+            return Ok(());
+        }
+    }
+    Err(Fail::new(format_args!("too many looks of {bytes:?}")))
+}
+
+// Whether the stream failed. Then the answer is its error, and else a value. The steps are as
+// before, and the stream has lost what the reader over it took, and no byte more.
+fn fails_at_look(kind: Kind, alloc: Global, bytes: &[u8], looks: usize) -> Result<bool, Fail> {
+    let mut reader = IoReader::new(FailingStream::new(bytes, 2, looks));
+    let budget = steps(&mut reader);
+    let has_failed = match decode(kind, alloc, &mut reader) {
+        Ok(_) => false,
+        Err(text) => is_failure(&text, "Read(Kind(Other))")?,
+    };
+    let is_kept = steps(&mut reader) == budget;
+    let taken = reader.taken() as usize;
+    let stream = reader.into_inner();
+    let is_left = bytes.get(taken..) == Some(stream.remaining());
+    if is_kept && is_left && has_failed == stream.has_failed() {
+        return Ok(has_failed);
+    }
+    Err(Fail::new(format_args!("not a failed look {looks} of {bytes:?}")))
 }
 
 const READ: &[(Kind, &[u8], &[u8], Lender)] = &[
@@ -156,6 +217,7 @@ fn borrowed_or_owned(rt: HostRuntime) -> Result<(), Fail> {
         decodes(kind, alloc, &mut long, bytes, by_byte, b"")?;
         decodes_short(kind, alloc, bytes, Ok((content, false)), b"")?;
         fails_at_each_show(kind, alloc, bytes)?;
+        fails_at_each_look(kind, alloc, bytes)?;
     }
     Ok(())
 }

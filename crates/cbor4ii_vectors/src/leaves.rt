@@ -1,7 +1,7 @@
 //! Rows of simple values, floats, tags, optional items, boxes and nothing.
 use cbor4ii_items::decode::Decode;
 use cbor4ii_items::types::{Bytes, F16, F32, F64, Maybe, Nothing, Null, Simple, Tag, Undefined};
-use cbor4ii_trials::readers::Counting;
+use cbor4ii_trials::readers::{Counting, TestReader};
 use cbor4ii_trials::rows::{
     Row, RowWithin, reads_rows, reads_rows_within, reads_texts, reads_texts_within,
     rows_go_both_ways, texts_go_both_ways, writes_in, writes_rows,
@@ -433,14 +433,22 @@ fn nothing(rt: HostRuntime) -> Result<(), Fail> {
     reads_rows(alloc, NOTHING)
 }
 
-// A number takes a look at its first byte and one at what follows, and a float that stands whole
-// in front takes one.
+// A reader that fails at its first show is not asked for it, and has no step to give.
+#[test]
+fn nothing_asks_nothing(rt: HostRuntime) -> Result<(), Fail> {
+    let mut reader = TestReader::whole(b"\x05", 0).failing_after(0);
+    assert_eq!(rt; Nothing::decode(rt.alloc(), &mut reader)?, Nothing);
+    assert_eq!(rt; reader.failures(), 0);
+    Ok(())
+}
+
+// A number and a float that stand whole in front take one look each.
 #[test]
 fn looks(rt: HostRuntime) -> Result<(), Fail> {
     let alloc = rt.alloc();
     let mut reader = Counting::new(b"\x1b\x01\x02\x03\x04\x05\x06\x07\x08");
     assert_eq!(rt; u64::decode(alloc, &mut reader)?, 72623859790382856);
-    assert!(rt; reader.shows() <= 2);
+    assert_eq!(rt; reader.shows(), 1);
     let mut reader = Counting::new(b"\xfb\x3f\xf1\x99\x99\x99\x99\x99\x9a");
     assert_eq!(rt;
         F64::decode(alloc, &mut reader)?,

@@ -9,7 +9,7 @@ use std::test::Fail;
 
 const ONE_AFTER_ANOTHER: &[u8] = b"\x1a\x00\x0f\x42\x40\x20";
 
-// The README's example, read and written.
+// Two numbers of different types, read and then written.
 #[test]
 fn numbers_one_after_another(rt: HostRuntime) -> Result<(), Fail> {
     let alloc = rt.alloc();

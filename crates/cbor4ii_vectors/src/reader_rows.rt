@@ -1,5 +1,7 @@
 //! Rows of the readers themselves: what they show, what they take, and how they count steps.
+use cbor4ii_items::decode::Decode;
 use cbor4ii_rw::ask::{self, lend, look};
+use cbor4ii_rw::error::DecodeError;
 use cbor4ii_rw::io_reader::IoReader;
 use cbor4ii_rw::read::{Read, Reference, Source};
 use cbor4ii_rw::segment_reader::SegmentReader;
@@ -7,7 +9,7 @@ use cbor4ii_rw::slice_reader::SliceReader;
 use cbor4ii_trials::rows::{Want, reads_over, steps};
 use cbor4ii_trials::streams::FailingStream;
 use std::alloc::Global;
-use std::io::{BufReader, ErrorKind};
+use std::io::{self, BufReader, ErrorKind};
 use std::process::Abort;
 use std::test::Fail;
 
@@ -136,6 +138,20 @@ fn a_dropped_reader_keeps_what_was_not_taken(rt: HostRuntime) {
     assert_eq!(rt; stream, b"de".as_slice());
 }
 
+// The byte that was taken before the failure left the stream at that look, and the one that was
+// taken after it leaves when the reader is dropped.
+#[test]
+fn a_dropped_reader_that_failed_keeps_what_was_not_taken(rt: HostRuntime) {
+    let mut stream = FailingStream::new(b"abc", 2, 1);
+    {
+        let mut reader = IoReader::new(&mut stream);
+        assert!(rt; takes(&mut reader, Some(b'a')));
+        assert!(rt; ask::next_byte(&mut reader).is_err());
+        assert!(rt; takes(&mut reader, Some(b'b')));
+    }
+    assert_eq!(rt; stream.remaining(), b"c".as_slice());
+}
+
 // Two bytes are shown, one is taken, and the next look fails: the stream has lost that one byte.
 #[test]
 fn a_stream_that_fails_loses_no_byte(rt: HostRuntime) {
@@ -158,6 +174,44 @@ fn a_stream_goes_on_behind_a_failure(rt: HostRuntime) {
         assert!(rt; takes(&mut reader, want));
     }
     assert_eq!(rt; reader.taken(), 3);
+}
+
+// A stream that fails at its first look, with another error than test streams have by themselves.
+fn reset() -> IoReader<FailingStream<'static>> {
+    IoReader::new(FailingStream::new(b"\x05", 1, 0).failing_with(ErrorKind::ConnectionReset))
+}
+
+fn is_reset(error: &io::Error) -> bool {
+    error.kind() == ErrorKind::ConnectionReset
+}
+
+// A look that fails puts the stream's error into this slot.
+fn look_is_reset(mut failure: Option<io::Error>) -> bool {
+    let mut reader = reset();
+    look(&mut reader, 1, &mut failure).is_none()
+        && matches!(&failure, Some(error) if is_reset(error))
+}
+
+// The same of a fill.
+fn lend_is_reset(mut failure: Option<io::Error>) -> bool {
+    let mut reader = reset();
+    lend(&mut reader, 1, &mut failure).is_none()
+        && matches!(&failure, Some(error) if is_reset(error))
+}
+
+// Also where the slot holds the error of another look.
+#[test]
+fn the_error_of_a_stream_is_handed_on(rt: HostRuntime) {
+    assert!(rt; look_is_reset(None));
+    assert!(rt; lend_is_reset(None));
+    assert!(rt; look_is_reset(Some(io::Error::from(ErrorKind::TimedOut))));
+    assert!(rt; lend_is_reset(Some(io::Error::from(ErrorKind::TimedOut))));
+}
+
+#[test]
+fn a_decoder_hands_the_error_of_a_stream_on(rt: HostRuntime) {
+    let fault = u8::decode(rt.alloc(), &mut reset());
+    assert!(rt; matches!(&fault, Err(DecodeError::Read(error)) if is_reset(error)));
 }
 
 // A stream behind a buffer of std, whatever its capacity.

@@ -1,4 +1,4 @@
-//! The README's example of a record that is decoded by hand.
+//! A record that is decoded by hand out of an open map, its fields in any order, with no contract.
 use cbor4ii_items::decode::Decode;
 use cbor4ii_items::indefinite::is_break;
 use cbor4ii_items::types::{Map, Tag};

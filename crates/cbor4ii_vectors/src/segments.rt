@@ -131,19 +131,81 @@ fn owned_texts_of_segments(rt: HostRuntime) -> Result<(), Fail> {
     reads_segments::<String>(rt.alloc(), OWNED)
 }
 
-// Segments of the text "aa", and whether it is borrowed from them.
-const BORROWED_OR_OWNED: &[(&[&[u8]], bool)] = &[
-    (&[b"", b"\x62aa", b""], true),
-    (&[b"\x62", b"aa"], true),
-    (&[b"\x62a", b"a"], false),
+// Segments of a string, its bytes, its content, and whether that is borrowed from them.
+const BORROWED_OR_OWNED: &[(Kind, &[&[u8]], &[u8], &[u8], bool)] = &[
+    (Kind::Text, &[b"", b"\x62aa", b""], b"\x62aa", b"aa", true),
+    (Kind::Text, &[b"\x62", b"aa"], b"\x62aa", b"aa", true),
+    (Kind::Text, &[b"\x62a", b"a"], b"\x62aa", b"aa", false),
+    (
+        Kind::Unchecked,
+        &[b"", b"\x62\xffa", b""],
+        b"\x62\xffa",
+        b"\xffa",
+        true,
+    ),
+    (
+        Kind::Unchecked,
+        &[b"\x62", b"\xffa"],
+        b"\x62\xffa",
+        b"\xffa",
+        true,
+    ),
+    (
+        Kind::Unchecked,
+        &[b"\x62\xff", b"a"],
+        b"\x62\xffa",
+        b"\xffa",
+        false,
+    ),
+    (
+        Kind::Unchecked,
+        &[b"\x7f\x61", b"a\xff"],
+        b"\x7f\x61a\xff",
+        b"a",
+        false,
+    ),
+    (
+        Kind::Bytes,
+        &[b"", b"\x42\x01\x02", b""],
+        b"\x42\x01\x02",
+        b"\x01\x02",
+        true,
+    ),
+    (
+        Kind::Bytes,
+        &[b"\x42", b"\x01\x02"],
+        b"\x42\x01\x02",
+        b"\x01\x02",
+        true,
+    ),
+    (
+        Kind::Bytes,
+        &[b"\x42\x01", b"\x02"],
+        b"\x42\x01\x02",
+        b"\x01\x02",
+        false,
+    ),
+    (
+        Kind::Bytes,
+        &[b"\x5f\x41", b"\x01\xff"],
+        b"\x5f\x41\x01\xff",
+        b"\x01",
+        false,
+    ),
 ];
 
 #[test]
-fn texts_borrowed_or_owned_of_segments(rt: HostRuntime) -> Result<(), Fail> {
-    for (segments, is_borrowed) in BORROWED_OR_OWNED {
+fn strings_borrowed_or_owned_of_segments(rt: HostRuntime) -> Result<(), Fail> {
+    for &(kind, segments, bytes, content, is_borrowed) in BORROWED_OR_OWNED {
         let mut reader = SegmentReader::new(segments);
-        let want = Ok((b"aa".as_slice(), *is_borrowed));
-        decodes(Kind::Text, rt.alloc(), &mut reader, b"\x62aa", want, b"")?;
+        decodes(
+            kind,
+            rt.alloc(),
+            &mut reader,
+            bytes,
+            Ok((content, is_borrowed)),
+            b"",
+        )?;
     }
     Ok(())
 }

@@ -15,7 +15,7 @@ use cbor4ii_trials::writers::FailingWriter;
 use std::alloc::Global;
 use std::test::Fail;
 
-// The README's example.
+// A text that is a part of the input, and one that is joined from the chunks of a stream.
 #[test]
 fn a_borrowed_text_and_a_text_of_a_stream(rt: HostRuntime) -> Result<(), Fail> {
     let alloc = rt.alloc();
@@ -253,7 +253,8 @@ const LENGTHS_WITHOUT_BYTES: &[Row<&str>] = &[
     ),
 ];
 
-// A length that the bytes do not carry takes no memory: no machine has so much.
+// A length that the bytes do not carry reserves no more than 16384 bytes, whatever it says: no
+// machine has so much.
 #[test]
 fn lengths_without_bytes(rt: HostRuntime) -> Result<(), Fail> {
     reads_texts::<Bytes<Vec<u8>>>(rt.alloc(), LENGTHS_WITHOUT_BYTES)

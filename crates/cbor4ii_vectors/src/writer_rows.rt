@@ -55,6 +55,17 @@ fn a_write_that_fails_is_told(rt: HostRuntime) -> Result<(), Fail> {
     Ok(())
 }
 
+// Which error a flush hands on, no clause says.
+#[test]
+fn a_flush_that_fails_is_told(rt: HostRuntime) {
+    let sink = FailingSink::new(Vec::new(rt.alloc()), 0).failing_at_flush(ErrorKind::TimedOut);
+    let mut writer = IoWriter::new(sink);
+    let failed = writer.flush();
+    assert!(rt; matches!(failed, Err(error) if error.kind() == ErrorKind::TimedOut));
+    assert!(rt; !writer.is_flushed());
+    assert_eq!(rt; writer.into_inner().flushes(), 1);
+}
+
 // No clause says that a flush reaches the stream.
 #[test]
 fn a_flush_reaches_the_stream(rt: HostRuntime) -> Result<(), Fail> {

@@ -11,7 +11,7 @@ ghost use Rattle.cbor4ii_items.specs.Cow.{
   IsOwnedBytes,
   IsBorrowedUnchecked,
   IsOwnedUnchecked,
-  no_text,
+  nothing_to_test,
 };
 ghost use Rattle.cbor4ii_items.specs.Decoding.{IsExact, Sound, Refuses, Stops};
 ghost use Rattle.cbor4ii_items.specs.Moves.{Moves};
@@ -210,7 +210,7 @@ impl<'de, R: Read<'de>> LendOrOwn<R> for Bytes<CowSlice<'de, u8, Global>> {
 
     ghost small = { two_small };
 
-    ghost text = { no_text };
+    ghost text = { nothing_to_test };
 }
 
 /// A byte string, of known or of indefinite length (RFC 8949 sections 3.1 and 3.2.3). One of known
