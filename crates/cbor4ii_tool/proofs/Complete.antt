@@ -11,7 +11,7 @@ use Rattle.cbor4ii_tree.specs.Laws.Ignoring.{one_spelling}
 use Rattle.cbor4ii_tree.specs.Laws.Initials.{length-bytes-pos}
 use Rattle.cbor4ii_tool.specs.Integer.{IntegerHead, shortest_spelling}
 use Rattle.cbor4ii_tool.specs.Item.{Converts, BeginsItem, IsRow, together}
-use Rattle.cbor4ii_tool.specs.Run.{FaultAt, RunsOver, Completes, IsExcused}
+use Rattle.cbor4ii_tool.specs.Run.{FaultAt, RunsOver, ConvertsWhole, IsExcused}
 use Rattle.cbor4ii_tool.specs.Fault.{Outcome}
 use Rattle.cbor4ii_tool.specs.declared.command.Command.{Command}
 use Rattle.cbor4ii_tool.specs.declared.command.Command.TheVariants.{Ints, Canon, Lens, Strict}
@@ -100,7 +100,7 @@ none_at_end command rest end (text, left, item) =
     (subst (λ (xs : List ℕ). Converts command xs text left) end item)
 
 completes : (command : Command) (input : List ℕ) (old new : Option (List ℕ)) (outcome : Outcome)
-    → RunsOver command input old new outcome → Completes command input old new outcome
+    → RunsOver command input old new outcome → ConvertsWhole command input old new outcome
 completes command input old new (Ok _) runs others whole =
     let same = only_row command runs.texts others input runs.rest runs.row whole
     (none_at_end command runs.rest runs.ok.0) in
@@ -110,6 +110,6 @@ completes command input old new (Err fault) runs others whole =
 
 pub complete : (command : Command) (told old new : Option (List ℕ)) (outcome : Outcome)
     → Told told (λ input. RunsOver command input old new outcome)
-    → Told told (λ input. Completes command input old new outcome)
+    → Told told (λ input. ConvertsWhole command input old new outcome)
 complete command told old new outcome runs input is =
     completes command input old new outcome (runs input is)

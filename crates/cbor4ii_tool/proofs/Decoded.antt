@@ -14,9 +14,9 @@ use Rattle.cbor4ii_items.specs.Moves.{Took, Moves}
 use Rattle.cbor4ii_items.specs.Decoding.{Stops}
 use Rattle.cbor4ii_items.specs.Numbers.{StopsArgument}
 use Rattle.cbor4ii_tool.specs.Fault.{kind_of}
-use Rattle.cbor4ii_tool.specs.Integer.{IntegerHead, IsInteger, BeginsOther, IsCutInteger}
-use Rattle.cbor4ii_tool.specs.Reading.{major_of, argument_of, BeginsNegative, TakesInteger, ReadsInteger}
-use Rattle.cbor4ii_tool.specs.Reading.{RefusesInteger}
+use Rattle.cbor4ii_tool.specs.Integer.{IntegerHead, IsIntegerHead, BeginsNoInteger, IsCutInteger}
+use Rattle.cbor4ii_tool.specs.Reading.{integer_major, integer_argument, BeginsNegative}
+use Rattle.cbor4ii_tool.specs.Reading.{TakesInteger, ReadsInteger, RefusesInteger}
 use Rattle.cbor4ii_tool.specs.declared.integer.Integer.{Integer}
 use Rattle.cbor4ii_tool.specs.declared.integer.Integer.TheVariants.{Unsigned, Negative}
 use Rattle.cbor4ii_tool.proofs.Integers.{at_most_eight}
@@ -43,25 +43,26 @@ at_first (s ∷ ss) (x ∷ xs) major front h e =
 
 -- ---- a head that is read
 
-major_small : (integer : Integer) → major_of integer ≤ 1
+major_small : (integer : Integer) → integer_major integer ≤ 1
 major_small (Unsigned n) = omega arith
 major_small (Negative n) = omega arith
 
 taken : (integer : Integer) (xs : List ℕ) (n : ℕ) (new : Option (List ℕ))
-    → ReadsHead (major_of integer) 8 xs (argument_of integer) n → new ≡ Some (drop n xs)
+    → ReadsHead (integer_major integer) 8 xs (integer_argument integer) n → new ≡ Some (drop n xs)
     → TakesInteger integer xs new
 taken integer xs n new h left = record {
   width = h.wide;
   valid = record { major = major_small integer; fits = h.fits };
   rest = h.rest;
   joined = h.is;
-  left = left ∙ ap Some (after_head (major_of integer) 8 xs (argument_of integer) n h);
+  left = left ∙ ap Some (after_head (integer_major integer) 8 xs (integer_argument integer) n h);
 }
 
 -- an integer of the program's, read behind a look at the first byte
 pub accepted : {V E : Type 0} (integer : Integer) (v : V) (shown : List ℕ) (a b c : View)
     → Shows shown a b → Moves {E = E} b c (Ok v) → c.bound + 1 ≤ b.bound
-    → Told b.told (λ xs. (n : ℕ) × ReadsHead (major_of integer) 8 xs (argument_of integer) n
+    → Told b.told (λ xs. (n : ℕ)
+    × ReadsHead (integer_major integer) 8 xs (integer_argument integer) n
     × (c.told ≡ Some (drop n xs))) → ReadsInteger integer a c
 accepted integer v shown a b c shows moves progress reads = record {
   takes = λ xs told. let h = reads xs (shows.told xs told) in taken integer xs h.0 c.told h.1 h.2;
@@ -74,7 +75,7 @@ accepted integer v shown a b c shows moves progress reads = record {
 -- an integer that begins with the first byte has this major type
 abbrev pub IsOnly : ℕ → List ℕ → Type 0
 IsOnly major [] = Unit {0}
-IsOnly major (b ∷ bs) = (item : IntegerHead) → IsInteger item
+IsOnly major (b ∷ bs) = (item : IntegerHead) → IsIntegerHead item
     → b ≡ 32 * item.major + additional item.width item.argument → item.major ≡ major
 
 pub only_negative : (xs : List ℕ) → BeginsNegative xs → IsOnly 1 xs
@@ -91,7 +92,7 @@ only_unsigned (b ∷ bs) none = λ item I is.
 
 -- what a refusal says of the bytes
 abbrev Says : Refusal → List ℕ → Type 0
-Says (mismatch name found) xs = BeginsOther xs
+Says (mismatch name found) xs = BeginsNoInteger xs
 Says (eof name expect) xs = IsCutInteger xs
 Says _ xs = ⊥
 
@@ -106,7 +107,7 @@ cut_nothing = record {
 }
 
 other : (name : List ℕ) (major b : ℕ) (bs : List ℕ) (refusal : Refusal) (rest : List ℕ)
-    → IsOnly major (b ∷ bs) → NotAHead name major 8 b bs refusal rest → BeginsOther (b ∷ bs)
+    → IsOnly major (b ∷ bs) → NotAHead name major 8 b bs refusal rest → BeginsNoInteger (b ∷ bs)
 other name major b bs refusal rest only h = record {
   first = b;
   more = bs;

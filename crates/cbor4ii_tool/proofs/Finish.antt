@@ -7,19 +7,19 @@ use Rattle.cbor4ii_rw.specs.View.{View, Told}
 use Rattle.cbor4ii_rw.specs.Reader.{Failed, Keeps}
 use Rattle.cbor4ii_rw.specs.Writer.{Output, Appends, one_more}
 use Rattle.cbor4ii_tool.specs.Item.{together}
-use Rattle.cbor4ii_tool.specs.Run.{FaultAt, RunsOver, WantsMemory, Blames, BlamesAt, Hands}
-use Rattle.cbor4ii_tool.specs.Steps.{MovesFailures, FailsAt, Flushes, Finishes}
+use Rattle.cbor4ii_tool.specs.Run.{FaultAt, RunsOver, WantsMemory, RunBlames, BlamesAt, Hands}
+use Rattle.cbor4ii_tool.specs.Steps.{MovesFailures, FailsAt, FlushCounts, EndsRun}
 use Rattle.cbor4ii_tool.specs.Fault.{Outcome}
 use Rattle.cbor4ii_tool.specs.declared.command.Command.{Command}
 use Rattle.cbor4ii_tool.specs.declared.fault.Fault.{Fault}
 use Rattle.cbor4ii_tool.specs.declared.fault.Kind.{Kind}
 use Rattle.cbor4ii_tool.specs.declared.fault.Kind.TheVariants.{Read, OutOfMemory, Write}
 
-pub flushes : {E : Type 0} (answer : Result (Unit {0}) E) (flushed : Bool) (old new : ℕ)
+pub flush_counts : {E : Type 0} (answer : Result (Unit {0}) E) (flushed : Bool) (old new : ℕ)
     → OnOk answer (flushed ≡ true) → OnOk answer (new ≡ old) → OnErr answer (new ≡ one_more old)
-    → Flushes flushed old new
-flushes (Ok _) flushed old new set same more = inl (set, same)
-flushes (Err _) flushed old new set same more = inr more
+    → FlushCounts flushed old new
+flush_counts (Ok _) flushed old new set same more = inl (set, same)
+flush_counts (Err _) flushed old new set same more = inr more
 
 -- ---- what is written
 
@@ -41,7 +41,7 @@ kept_fault command _ texts rest old mid new keeps fault =
 finished : (command : Command) (input : List ℕ) (old mid new : Option (List ℕ))
     (outcome answer : Outcome) (at : ℕ) (flushed : Bool) (m n : ℕ) → Keeps mid new
     → RunsOver command input old mid outcome → OnOk outcome (at ≡ length input)
-    → Finishes outcome answer at flushed m n → RunsOver command input old new answer
+    → EndsRun outcome answer at flushed m n → RunsOver command input old new answer
 finished command input old mid new (Err fault) answer at flushed m n keeps runs all finishes =
     let same : RunsOver command input old new (Err fault) = record {
       texts = runs.texts;
@@ -86,7 +86,7 @@ pub finished_run : (command : Command) (told old mid new : Option (List ℕ))
     (outcome answer : Outcome) (at : ℕ) (flushed : Bool) (m n : ℕ) (taken : Option ℕ)
     → Told told (λ input. RunsOver command input old mid outcome)
     → OnOk outcome (Told told (λ input. taken ≡ Some (length input)))
-    → taken ≡ Some at → Keeps mid new → Finishes outcome answer at flushed m n
+    → taken ≡ Some at → Keeps mid new → EndsRun outcome answer at flushed m n
     → Told told (λ input. RunsOver command input old new answer)
 finished_run command told old mid new outcome answer at flushed m n taken runs all count keeps
     finishes input is =
@@ -95,7 +95,7 @@ finished_run command told old mid new outcome answer at flushed m n taken runs a
     (ok_at outcome input told (λ (xs : List ℕ). taken ≡ Some (length xs)) is all)) finishes
 
 pub finished_ok : (outcome answer : Outcome) (at : ℕ) (flushed : Bool) (m n : ℕ) (P : Type 0)
-    → OnOk outcome P → Finishes outcome answer at flushed m n → OnOk answer P
+    → OnOk outcome P → EndsRun outcome answer at flushed m n → OnOk answer P
 finished_ok (Err fault) answer at flushed m n P holds finishes =
     subst (λ (r : Outcome). OnOk r P) (sym finishes.0) tt
 finished_ok (Ok _) (Ok _) at flushed m n P holds finishes = holds
@@ -103,7 +103,7 @@ finished_ok (Ok _) (Err fault) at flushed m n P holds finishes = tt
 
 pub finished_memory : (command : Command) (outcome answer : Outcome) (at : ℕ) (flushed : Bool)
     (m n : ℕ) → IfErr outcome (λ fault. WantsMemory command fault.kind)
-    → Finishes outcome answer at flushed m n
+    → EndsRun outcome answer at flushed m n
     → IfErr answer (λ fault. WantsMemory command fault.kind)
 finished_memory command (Err fault) answer at flushed m n wants finishes =
     subst (λ (r : Outcome). IfErr r (λ fault. WantsMemory command fault.kind)) (sym finishes.0)
@@ -131,7 +131,7 @@ failed_more a b c (inl less) (inr up) =
     elim (raised b c up) [ inl more ↦ inl (omega (arith, less, more)) | inr most ↦ inr most ]
 failed_more a b c (inr most) (inr up) = inr (omega (arith, most, up))
 
-moved : (flushed : Bool) (mid holds : ℕ) → Flushes flushed mid holds
+moved : (flushed : Bool) (mid holds : ℕ) → FlushCounts flushed mid holds
     → (holds ≡ mid) ⊎ Raised mid holds
 moved flushed mid holds (inl kept) = inl kept.1
 moved flushed mid holds (inr more) = inr more
@@ -146,10 +146,10 @@ blamed_at _ old new held mid holds fails move = fails.0
 
 pub finished_blames : (outcome answer : Outcome) (at : ℕ) (flushed : Bool) (old new : View)
     (held mid holds : Output) → MovesFailures outcome old new held mid
-    → Finishes outcome answer at flushed mid.failures holds.failures
-    → Blames answer old new held holds
+    → EndsRun outcome answer at flushed mid.failures holds.failures
+    → RunBlames answer old new held holds
 finished_blames (Err fault) answer at flushed old new held mid holds moves finishes =
-    subst (λ (r : Outcome). Blames r old new held holds) (sym finishes.0)
+    subst (λ (r : Outcome). RunBlames r old new held holds) (sym finishes.0)
     (blamed_at fault.kind old new held mid holds moves
     (moved flushed mid.failures holds.failures finishes.1))
 finished_blames (Ok _) (Ok _) at flushed old new held mid holds moves finishes =
@@ -173,7 +173,7 @@ lost_at _ old new held mid holds fails failed =
     (raised mid.failures holds.failures failed)
 
 handed : (kind : Kind) (flushed : Bool) (old new : View) (held mid holds : Output)
-    → FailsAt kind old new held mid → Flushes flushed mid.failures holds.failures
+    → FailsAt kind old new held mid → FlushCounts flushed mid.failures holds.failures
     → (flushed ≡ true) ⊎ Failed held.failures holds.failures
 handed kind flushed old new held mid holds moves (inl kept) = inl kept.0
 handed kind flushed old new held mid holds moves (inr more) =
@@ -181,7 +181,7 @@ handed kind flushed old new held mid holds moves (inr more) =
 
 pub finished_hands : (outcome answer : Outcome) (at : ℕ) (flushed : Bool) (old new : View)
     (held mid holds : Output) → MovesFailures outcome old new held mid
-    → Finishes outcome answer at flushed mid.failures holds.failures
+    → EndsRun outcome answer at flushed mid.failures holds.failures
     → Hands answer flushed held holds
 finished_hands (Err fault) answer at flushed old new held mid holds moves finishes =
     subst (λ (r : Outcome). Hands r flushed held holds) (sym finishes.0)

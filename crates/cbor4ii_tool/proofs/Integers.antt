@@ -4,13 +4,13 @@ use Rattle.std.proofs.Common.{◌∙◌, subst, arith, append_assoc, append-nil}
 use Rattle.cbor4ii_items.specs.Head.{Width, in_first, one, two, four, eight, byte_count, additional}
 use Rattle.cbor4ii_items.specs.Heads.{ReadsHead}
 use Rattle.cbor4ii_items.specs.Laws.Heads.{additional-lt, head_one, after_head}
-use Rattle.cbor4ii_tool.specs.Integer.{IntegerHead, IsInteger, spelling, BeginsInteger, BeginsOther}
-use Rattle.cbor4ii_tool.specs.Integer.{IsCutInteger}
+use Rattle.cbor4ii_tool.specs.Integer.{IntegerHead, IsIntegerHead, spelling, BeginsInteger}
+use Rattle.cbor4ii_tool.specs.Integer.{BeginsNoInteger, IsCutInteger}
 
 same_first : {x y : ℕ} {xs ys : List ℕ} → x ∷ xs ≡ y ∷ ys → x ≡ y
 same_first e = cc
 
-same_major : (p q : IntegerHead) → IsInteger p → IsInteger q
+same_major : (p q : IntegerHead) → IsIntegerHead p → IsIntegerHead q
     → 32 * p.major + additional p.width p.argument ≡ 32 * q.major + additional q.width q.argument
     → p.major ≡ q.major
 same_major p q P Q first =
@@ -26,7 +26,7 @@ at_most_eight four = omega arith
 at_most_eight eight = omega arith
 
 -- as the codec reads it
-abbrev as_head : (p : IntegerHead) → IsInteger p → (xs rest : List ℕ) → xs ≡ spelling p ++ rest
+abbrev as_head : (p : IntegerHead) → IsIntegerHead p → (xs rest : List ℕ) → xs ≡ spelling p ++ rest
     → ReadsHead p.major 8 xs p.argument (suc (byte_count p.width))
 as_head p P xs rest e =
     record {
@@ -40,7 +40,7 @@ as_head p P xs rest e =
     }
 
 -- two integers at the front of the same bytes say the same, and neither is longer
-pub one_head : (p q : IntegerHead) → IsInteger p → IsInteger q → (xs ys : List ℕ)
+pub one_head : (p q : IntegerHead) → IsIntegerHead p → IsIntegerHead q → (xs ys : List ℕ)
     → spelling p ++ xs ≡ spelling q ++ ys → (p.major ≡ q.major) × (p.argument ≡ q.argument)
     × (xs ≡ ys)
 one_head p q P Q xs ys e =
@@ -58,7 +58,7 @@ one_head p q P Q xs ys e =
           ∙ after_head q.major 8 all q.argument (suc (byte_count q.width)) b),
     )
 
-pub none_begins_other : (bytes : List ℕ) → BeginsOther bytes → ¬ BeginsInteger bytes
+pub none_begins_other : (bytes : List ℕ) → BeginsNoInteger bytes → ¬ BeginsInteger bytes
 none_begins_other bytes begins front =
     begins.other front.item front.integer (same_first (sym begins.is ∙ front.is))
 

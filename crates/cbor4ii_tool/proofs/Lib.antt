@@ -5,3 +5,4 @@ pub mod Items
 pub mod Loop
 pub mod Finish
 pub mod Complete
+pub mod Buffers

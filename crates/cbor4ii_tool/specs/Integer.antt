@@ -9,7 +9,7 @@ pub record IntegerHead : Type 0 where
   pub width : Width
 
 -- it is the head of an integer
-pub record IsInteger (item : IntegerHead) : Type 0 where
+pub record IsIntegerHead (item : IntegerHead) : Type 0 where
   pub major : item.major ≤ 1
   pub fits : HeadFits item.width item.argument
 
@@ -24,22 +24,22 @@ shortest_spelling item = head item.major item.argument (shortest item.argument)
 -- an integer stands at the front of these bytes
 pub record BeginsInteger (bytes : List ℕ) : Type 0 where
   pub item : IntegerHead
-  pub integer : IsInteger item
+  pub integer : IsIntegerHead item
   pub more : List ℕ
   pub is : bytes ≡ spelling item ++ more
 
 -- the first byte is one with which no integer begins
-pub record BeginsOther (bytes : List ℕ) : Type 0 where
+pub record BeginsNoInteger (bytes : List ℕ) : Type 0 where
   pub first : ℕ
   pub more : List ℕ
   pub is : bytes ≡ first ∷ more
-  pub other : (item : IntegerHead) → IsInteger item
+  pub other : (item : IntegerHead) → IsIntegerHead item
       → first ≢ 32 * item.major + additional item.width item.argument
 
 -- these bytes begin an integer, and end inside it
 pub record IsCutInteger (bytes : List ℕ) : Type 0 where
   pub item : IntegerHead
-  pub integer : IsInteger item
+  pub integer : IsIntegerHead item
   pub missing : List ℕ
   pub some : missing ≢ []
   pub joined : spelling item ≡ bytes ++ missing

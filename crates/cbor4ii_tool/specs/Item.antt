@@ -10,7 +10,7 @@ use Rattle.cbor4ii_tree.specs.Strict.{ReadsStrictly}
 use Rattle.cbor4ii_tree.specs.Canonically.{StopsCanonical}
 use Rattle.cbor4ii_tree.specs.StopsSkipping.{StopsSkipping}
 use Rattle.cbor4ii_tree.specs.StopsReading.{StopsReading}
-use Rattle.cbor4ii_tool.specs.Integer.{IntegerHead, IsInteger, spelling, shortest_spelling}
+use Rattle.cbor4ii_tool.specs.Integer.{IntegerHead, IsIntegerHead, spelling, shortest_spelling}
 use Rattle.cbor4ii_tool.specs.Fault.{kind_of_refusal}
 use Rattle.cbor4ii_tool.specs.Reading.{RefusesAt}
 use Rattle.cbor4ii_tool.specs.declared.command.Command.{Command}
@@ -26,7 +26,7 @@ steps = Some 256
 -- and of an item that is skipped its length in bytes, in decimal and with a newline.
 abbrev pub Converts : Command → List ℕ → List ℕ → List ℕ → Type 0
 Converts Ints input text rest =
-    (item : IntegerHead) × IsInteger item × (input ≡ spelling item ++ rest)
+    (item : IntegerHead) × IsIntegerHead item × (input ≡ spelling item ++ rest)
     × (text ≡ shortest_spelling item)
 Converts Canon input text rest = (v : Item) × Reads input steps v rest × (text ≡ canon v)
 Converts Strict input text rest =

@@ -3,7 +3,8 @@ use Rattle.std.specs.Prelude.{◌≡◌, ℕ, ◌+◌, ◌/◌, ◌≤◌, List,
 use Rattle.cbor4ii_rw.specs.View.{View, Told}
 use Rattle.cbor4ii_rw.specs.Reader.{Failed}
 use Rattle.cbor4ii_items.specs.Head.{Width, head, shortest}
-use Rattle.cbor4ii_tool.specs.Integer.{IntegerHead, IsInteger, spelling, BeginsOther, IsCutInteger}
+use Rattle.cbor4ii_tool.specs.Integer.{IntegerHead, IsIntegerHead, spelling, BeginsNoInteger}
+use Rattle.cbor4ii_tool.specs.Integer.{IsCutInteger}
 use Rattle.cbor4ii_tool.specs.declared.fault.Kind.{Kind}
 use Rattle.cbor4ii_tool.specs.declared.fault.Kind.TheVariants.{Read, Mismatch, Eof, OutOfMemory}
 use Rattle.cbor4ii_tool.specs.declared.integer.Integer.{Integer}
@@ -11,23 +12,23 @@ use Rattle.cbor4ii_tool.specs.declared.integer.Integer.TheVariants.{Unsigned, Ne
 
 -- ---- integers
 
-abbrev pub major_of : Integer → ℕ
-major_of (Unsigned n) = 0
-major_of (Negative n) = 1
+abbrev pub integer_major : Integer → ℕ
+integer_major (Unsigned n) = 0
+integer_major (Negative n) = 1
 
-abbrev pub argument_of : Integer → ℕ
-argument_of (Unsigned n) = n
-argument_of (Negative n) = n.0
+abbrev pub integer_argument : Integer → ℕ
+integer_argument (Unsigned n) = n
+integer_argument (Negative n) = n.0
 
 -- its head in this width
 abbrev pub in_width : Width → Integer → IntegerHead
 in_width width integer =
-    record { major = major_of integer; argument = argument_of integer; width = width }
+    record { major = integer_major integer; argument = integer_argument integer; width = width }
 
 -- its head in the least width that its argument has
 abbrev pub written_bytes : Integer → List ℕ
 written_bytes integer =
-    head (major_of integer) (argument_of integer) (shortest (argument_of integer))
+    head (integer_major integer) (integer_argument integer) (shortest (integer_argument integer))
 
 -- ---- reading
 
@@ -39,7 +40,7 @@ BeginsNegative (b ∷ bs) = b / 32 ≡ 1
 -- the integer stands at the front of the bytes xs in some width, and what stands behind it is left
 pub record TakesInteger (integer : Integer) (xs : List ℕ) (new : Option (List ℕ)) : Type 0 where
   pub width : Width
-  pub valid : IsInteger (in_width width integer)
+  pub valid : IsIntegerHead (in_width width integer)
   pub rest : List ℕ
   pub joined : xs ≡ spelling (in_width width integer) ++ rest
   pub left : new ≡ Some rest
@@ -52,7 +53,7 @@ pub record ReadsInteger (integer : Integer) (old new : View) : Type 0 where
 
 -- what each kind says of the bytes
 abbrev pub RefusesAt : Kind → List ℕ → Type 0
-RefusesAt Mismatch xs = BeginsOther xs
+RefusesAt Mismatch xs = BeginsNoInteger xs
 RefusesAt Eof xs = IsCutInteger xs
 RefusesAt _ xs = ⊥
 

@@ -43,8 +43,8 @@ IsExcused _ = ⊥
 
 -- Where the input as a whole is a row of items with these texts, they are written, and no fault of
 -- the input comes.
-abbrev pub Completes : Command → List ℕ → Option (List ℕ) → Option (List ℕ) → Outcome → Type 0
-Completes command input old new outcome =
+abbrev pub ConvertsWhole : Command → List ℕ → Option (List ℕ) → Option (List ℕ) → Outcome → Type 0
+ConvertsWhole command input old new outcome =
     (texts : List (List ℕ)) → IsRow command texts input []
     → MatchResult outcome (λ _. Appends (together texts) old new) (λ fault. IsExcused fault.kind)
 
@@ -62,9 +62,10 @@ BlamesAt Write old new held holds =
 BlamesAt _ old new held holds = new.failures ≡ old.failures
 
 -- without a fault nobody failed
-abbrev pub Blames : Outcome → View → View → Output → Output → Type 0
-Blames (Ok _) old new held holds = (new.failures ≡ old.failures) × (holds.failures ≡ held.failures)
-Blames (Err fault) old new held holds = BlamesAt fault.kind old new held holds
+abbrev pub RunBlames : Outcome → View → View → Output → Output → Type 0
+RunBlames (Ok _) old new held holds =
+    (new.failures ≡ old.failures) × (holds.failures ≡ held.failures)
+RunBlames (Err fault) old new held holds = BlamesAt fault.kind old new held holds
 
 -- what was written was handed to the stream; after a fault it was, or the writer failed
 abbrev pub Hands : Outcome → Bool → Output → Output → Type 0

@@ -86,12 +86,12 @@ MovesFailures (Err fault) old new held holds = FailsAt fault.kind old new held h
 -- ---- the flush
 
 -- a flush succeeds, or is one failure more
-abbrev pub Flushes : Bool → ℕ → ℕ → Type 0
-Flushes flushed old new = ((flushed ≡ true) × (new ≡ old)) ⊎ (new ≡ one_more old)
+abbrev pub FlushCounts : Bool → ℕ → ℕ → Type 0
+FlushCounts flushed old new = ((flushed ≡ true) × (new ≡ old)) ⊎ (new ≡ one_more old)
 
 -- a fault of the items stands, and else a flush that fails is the fault
-abbrev pub Finishes : Outcome → Outcome → ℕ → Bool → ℕ → ℕ → Type 0
-Finishes (Err fault) answer at flushed old new = (answer ≡ Err fault) × Flushes flushed old new
-Finishes (Ok _) (Ok _) at flushed old new = (flushed ≡ true) × (new ≡ old)
-Finishes (Ok _) (Err fault) at flushed old new =
+abbrev pub EndsRun : Outcome → Outcome → ℕ → Bool → ℕ → ℕ → Type 0
+EndsRun (Err fault) answer at flushed old new = (answer ≡ Err fault) × FlushCounts flushed old new
+EndsRun (Ok _) (Ok _) at flushed old new = (flushed ≡ true) × (new ≡ old)
+EndsRun (Ok _) (Err fault) at flushed old new =
     (fault ≡ record { at = at; kind = Write }) × (new ≡ one_more old)

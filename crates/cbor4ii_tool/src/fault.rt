@@ -32,7 +32,7 @@ pub enum Kind {
     DepthOverflow,
     /// A decoder of a user's own refused.
     Custom,
-    /// There was no memory for what was read.
+    /// There was no memory for the words of the command line, for a buffer, or for what was read.
     OutOfMemory,
     /// An item stands there, or may, and not by its canonical spelling.
     NotCanonical,

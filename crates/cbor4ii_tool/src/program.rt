@@ -1,5 +1,8 @@
 //! The program, over its arguments and its three streams.
-ghost use Rattle.std.specs.Prelude.{◌≡◌, IfErr};
+ghost use Rattle.std.specs.Prelude.{◌≡◌, ◌⊎◌, List, ℕ, Option, IfErr};
+ghost use Rattle.cbor4ii_rw.specs.View.{Told};
+ghost use Rattle.cbor4ii_rw.specs.Stream.{most_bytes, cut_known};
+ghost use Rattle.cbor4ii_tool.specs.Run.{RunsOver, WantsMemory};
 
 use crate::arguments::command;
 use crate::command::Command;
@@ -16,8 +19,10 @@ pub const USAGE: &str = "usage: cbor4ii_tool ints|canon|lens|strict";
 pub const USAGE_STATUS: u8 = 2;
 
 /// Runs the command that `words` name from `input` to `output`, and answers the exit status: 0, or
-/// 1 after a fault, whose line goes to `errors`. Where the words name none, the usage line goes
-/// there, nothing is read or written, and the status is 2. An error of `errors` itself is not told.
+/// 1 after a fault, whose line goes to `errors`. Where `words` or a buffer found no memory, the
+/// line is `fault at 0: OutOfMemory`, and nothing is read or written. Where the words name no
+/// command, the usage line goes there, nothing is read or written, and the status is 2. An error of
+/// `errors` itself is not told.
 pub fn program<R: Read + Drop, W: Write + Drop, E: Write>(
     alloc: Global,
     words: io::Result<Vec<String>>,
@@ -54,13 +59,19 @@ fn chosen(words: io::Result<Vec<String>>) -> Result<Option<Command>, Fault>
     }
 }
 
-// Runs the command over both streams, each through a buffer.
+// Runs the command over both streams, each through a buffer. Where a buffer finds no memory,
+// nothing is read or written.
 fn stream<R: Read + Drop, W: Write + Drop>(
     alloc: Global,
     command: Command,
     input: R,
     output: W,
-) -> Result<(), Fault> {
+) -> Result<(), Fault>
+    ensures runs { Told (cut_known most_bytes (R.remaining input)) (λ bytes.
+        (holds : Option (List ℕ)) × RunsOver command bytes (W.contents output) holds result) }
+    ensures memory { IfErr result (λ fault.
+        WantsMemory command fault.kind ⊎ (fault.at ≡ 0)) }
+{
     let (Ok(reader), Ok(writer)) = (BufReader::new(alloc, input), BufWriter::new(alloc, output))
     else {
         return Err(Fault {

@@ -5,8 +5,8 @@ ghost use Rattle.cbor4ii_rw.specs.Reader.{Shows, Breaks, Keeps};
 ghost use Rattle.cbor4ii_rw.specs.Stream.{stream_view};
 ghost use Rattle.cbor4ii_rw.specs.Written.{stream_output, is_flushed};
 ghost use Rattle.cbor4ii_items.specs.Moves.{EndsOrForgets};
-ghost use Rattle.cbor4ii_tool.specs.Run.{RunsOver, Completes, WantsMemory, Blames, Hands};
-ghost use Rattle.cbor4ii_tool.specs.Steps.{Leaves, Finishes, MovesFailures};
+ghost use Rattle.cbor4ii_tool.specs.Run.{RunsOver, ConvertsWhole, WantsMemory, RunBlames, Hands};
+ghost use Rattle.cbor4ii_tool.specs.Steps.{Leaves, EndsRun, MovesFailures};
 ghost use Rattle.cbor4ii_tool.specs.declared.fault.Kind.TheVariants.{Read};
 
 use crate::command::Command;
@@ -48,7 +48,7 @@ pub fn run<R: BufRead, W: io::Write>(
         RunsOver command input (stream_output W.contents writer.old).written
         (stream_output W.contents writer.new).written result) }
     ensures complete { Told (stream_view R.Read.remaining R.consumable_len reader.old).told
-        (λ input. Completes command input (stream_output W.contents writer.old).written
+        (λ input. ConvertsWhole command input (stream_output W.contents writer.old).written
         (stream_output W.contents writer.new).written result) }
     ensures memory { IfErr result (λ fault. WantsMemory command fault.kind) }
     ensures ended { OnOk result
@@ -59,7 +59,7 @@ pub fn run<R: BufRead, W: io::Write>(
         (stream_view R.Read.remaining R.consumable_len reader.new).told }
     ensures steps { (stream_view R.Read.remaining R.consumable_len reader.new).budget
         ≡ Some 256 }
-    ensures blames { Blames result
+    ensures blames { RunBlames result
         (stream_view R.Read.remaining R.consumable_len reader.old)
         (stream_view R.Read.remaining R.consumable_len reader.new)
         (stream_output W.contents writer.old) (stream_output W.contents writer.new) }
@@ -71,7 +71,7 @@ pub fn run<R: BufRead, W: io::Write>(
 }
 
 // Flushes the writer, behind a fault too, and answers the first fault, if there is one.
-#[tactic(auto, using(crate::proofs::Finish::flushes))]
+#[tactic(auto, using(crate::proofs::Finish::flush_counts))]
 fn finish<W: io::Write>(
     outcome: Result<(), Fault>,
     writer: &mut IoWriter<W>,
@@ -79,7 +79,7 @@ fn finish<W: io::Write>(
 ) -> Result<(), Fault>
     ensures keeps { Keeps (stream_output W.contents writer.old).written
         (stream_output W.contents writer.new).written }
-    ensures finishes { Finishes outcome result at (is_flushed writer.new)
+    ensures finishes { EndsRun outcome result at (is_flushed writer.new)
         (stream_output W.contents writer.old).failures
         (stream_output W.contents writer.new).failures }
 {

@@ -1,6 +1,7 @@
 //! The program as a whole: its status, and what it writes to its two outputs.
 use super::rows::{ROWS, Row};
 use super::streams::{Input, Output};
+use super::takes_memory;
 use crate::command::Command;
 use crate::program::program;
 use std::alloc::{AllocError, Global};
@@ -8,6 +9,8 @@ use std::io::{self, ErrorKind};
 use std::process::Abort;
 
 const USAGE: &[u8] = b"usage: cbor4ii_tool ints|canon|lens|strict\n";
+
+const NO_MEMORY: &[u8] = b"fault at 0: OutOfMemory\n";
 
 fn words(alloc: Global, words: &[&str]) -> Result<Vec<String>, AllocError> {
     let mut owned = Vec::new(alloc);
@@ -24,11 +27,6 @@ fn input(left: &'static [u8]) -> Input {
     }
 }
 
-// No buffer and no value found memory.
-fn lacks_memory(errors: &[u8]) -> bool {
-    errors.ends_with(b": OutOfMemory\n")
-}
-
 fn name(command: Command) -> &'static str {
     match command {
         Command::Ints => "ints",
@@ -38,15 +36,34 @@ fn name(command: Command) -> &'static str {
     }
 }
 
-fn runs_row(rt: &(impl Abort + AllocGlobal), row: &Row) -> io::Result<()> {
-    let words = words(rt.alloc(), &[name(row.command)])?;
-    let mut output = Output::new(rt.alloc())?;
+// Runs the command, and answers its status and what its two outputs hold.
+fn runs(
+    rt: &(impl Abort + AllocGlobal),
+    command: Command,
+    input: Input,
+    mut output: Output,
+) -> io::Result<(u8, Output, Output)> {
+    let words = words(rt.alloc(), &[name(command)])?;
     let mut errors = Output::new(rt.alloc())?;
-    let input = input(row.input);
     let status = program(rt.alloc(), Ok(words), input, &mut output, &mut errors);
-    if lacks_memory(&errors.written) {
+    if errors.written.ends_with(b": OutOfMemory\n") {
+        check_memory(rt, command, status, &errors.written);
         return Err(io::Error::from(ErrorKind::OutOfMemory));
     }
+    Ok((status, output, errors))
+}
+
+// Where no item takes memory, only a buffer can lack it, before the first item.
+fn check_memory(rt: &impl Abort, command: Command, status: u8, errors: &[u8]) {
+    assert_eq!(rt; status, 1);
+    if !takes_memory(command) {
+        assert_eq!(rt; errors, NO_MEMORY);
+    }
+}
+
+fn runs_row(rt: &(impl Abort + AllocGlobal), row: &Row) -> io::Result<()> {
+    let output = Output::new(rt.alloc())?;
+    let (status, output, errors) = runs(rt, row.command, input(row.input), output)?;
     assert_eq!(rt; errors.written.as_slice(), row.errors, "at {:?}", row.input);
     assert_eq!(rt; status, row.fault.is_some() as u8, "at {:?}", row.input);
     assert_eq!(rt;
@@ -62,6 +79,71 @@ fn runs_row(rt: &(impl Abort + AllocGlobal), row: &Row) -> io::Result<()> {
 fn rows(rt: HostRuntime) -> io::Result<()> {
     for row in ROWS {
         runs_row(&rt, row)?;
+    }
+    Ok(())
+}
+
+// Streams that fail, where `ints` runs over an integer of two bytes.
+struct Failing {
+    good_reads: usize,
+    good_writes: usize,
+    stays: bool,
+    errors: &'static [u8],
+    /// What is written, where that is promised.
+    written: Option<&'static [u8]>,
+}
+
+// What is written waits in the buffer for the flush, when both bytes were taken.
+const FAILING: &[Failing] = &[
+    Failing {
+        good_reads: 0,
+        good_writes: usize::MAX,
+        stays: false,
+        errors: b"fault at 0: Read\n",
+        written: Some(b""),
+    },
+    Failing {
+        good_reads: 1,
+        good_writes: usize::MAX,
+        stays: false,
+        errors: b"fault at 2: Read\n",
+        written: Some(b"\x05"),
+    },
+    Failing {
+        good_reads: usize::MAX,
+        good_writes: 0,
+        stays: false,
+        errors: b"fault at 2: Write\n",
+        written: None,
+    },
+    Failing {
+        good_reads: usize::MAX,
+        good_writes: usize::MAX,
+        stays: true,
+        errors: b"fault at 2: Write\n",
+        written: Some(b"\x05"),
+    },
+];
+
+fn runs_failing(rt: &(impl Abort + AllocGlobal), row: &Failing) -> io::Result<()> {
+    let mut input = input(b"\x18\x05");
+    input.good_reads = row.good_reads;
+    let mut output = Output::new(rt.alloc())?;
+    output.good_writes = row.good_writes;
+    output.stays = row.stays;
+    let (status, output, errors) = runs(rt, Command::Ints, input, output)?;
+    assert_eq!(rt; errors.written.as_slice(), row.errors);
+    assert_eq!(rt; status, 1);
+    if let Some(written) = row.written {
+        assert_eq!(rt; output.written.as_slice(), written);
+    }
+    Ok(())
+}
+
+#[test]
+fn streams_fail(rt: HostRuntime) -> io::Result<()> {
+    for row in FAILING {
+        runs_failing(&rt, row)?;
     }
     Ok(())
 }
@@ -106,10 +188,7 @@ fn words_find_no_memory(rt: HostRuntime) -> io::Result<()> {
     let words = Err(io::Error::from(ErrorKind::OutOfMemory));
     let status = program(rt.alloc(), words, input(b"\x00"), &mut output, &mut errors);
     assert_eq!(rt; status, 1);
-    assert_eq!(rt;
-        errors.written.as_slice(),
-        b"fault at 0: OutOfMemory\n".as_slice()
-    );
+    assert_eq!(rt; errors.written.as_slice(), NO_MEMORY);
     assert!(rt; output.written.is_empty());
     Ok(())
 }
