@@ -19,7 +19,7 @@ use Rattle.cbor4ii_items.specs.Sequences.{ReadsPair, SamePair}
 use Rattle.cbor4ii.specs.declared.serde.de.any_leaf.AnyKind.{AnyKind}
 use Rattle.cbor4ii.specs.declared.serde.de.any_leaf.AnyKind.TheVariants.{Other}
 use Rattle.cbor4ii.specs.declared.serde.de.error.DecodeError.{DecodeError as Typed}
-use Rattle.cbor4ii.specs.Any.{kind, Formed, ReadsBignum, of_bignum, KindAs, AnyInside, ReadsAny, SameView}
+use Rattle.cbor4ii.specs.Any.{kind, Formed, ReadsSmallU128, of_bignum, KindAs, AnyInside, ReadsAny, SameView}
 use Rattle.cbor4ii.specs.Laws.Any.{any_laws, any_of_inside, inside_of_any}
 use Rattle.cbor4ii.specs.Stepped.{Stepped}
 use Rattle.cbor4ii.specs.Tuples.{pair_laws}
@@ -37,18 +37,18 @@ formed_refuses reads form s = refuses_as reads (Formed reads form) (λ xs budget
 
 -- ---- bignums
 
-pub bignum_sound : {a b : View} {k : ℕ} → k < 2 ^ 127 → Sound ReadsU128 a b k → Sound (Formed ReadsBignum of_bignum) a b (values.Integer (to_z w128 k))
+pub bignum_sound : {a b : View} {k : ℕ} → k < 2 ^ 127 → Sound ReadsU128 a b k → Sound (Formed ReadsSmallU128 of_bignum) a b (values.Integer (to_z w128 k))
 bignum_sound {k = k} less s = record {
   at = λ xs told.
       let p = s.at xs told in
       record { count = p.count; cost = p.cost; read = (k, (p.read, less), ap (λ z. values.Integer z) (to_z-of_z w128 (pos k) (record { sfits = less }))); fits = p.fits; left = p.left };
 }
 
-pub bignum_refuses : {E : Type 0} {a : View} {e : DecodeError E} → Refuses ReadsU128 a e → Refuses (Formed ReadsBignum of_bignum) a e
-bignum_refuses s = refuses_as ReadsU128 (Formed ReadsBignum of_bignum) (λ xs budget none v n c p fits. none p.0 n c p.1.0 fits) s
+pub bignum_refuses : {E : Type 0} {a : View} {e : DecodeError E} → Refuses ReadsU128 a e → Refuses (Formed ReadsSmallU128 of_bignum) a e
+bignum_refuses s = refuses_as ReadsU128 (Formed ReadsSmallU128 of_bignum) (λ xs budget none v n c p fits. none p.0 n c p.1.0 fits) s
 
 -- the number that stands there is the only one
-pub too_great : {E : Type 0} {a b : View} {k : ℕ} {e : DecodeError E} → 2 ^ 127 ≤ k → Sound ReadsU128 a b k → Refuses (Formed ReadsBignum of_bignum) a e
+pub too_great : {E : Type 0} {a b : View} {k : ℕ} {e : DecodeError E} → 2 ^ 127 ≤ k → Sound ReadsU128 a b k → Refuses (Formed ReadsSmallU128 of_bignum) a e
 too_great {k = k} {e = e} great s = record {
   at = λ xs told.
       let p = s.at xs told in

@@ -1,5 +1,5 @@
 -- What stands for a typed value is read back.
-use Rattle.std.proofs.Common.{◌≡◌, inl, inr, ℕ, ◌+◌, ◌<◌, ◌≤◌, ◌^◌, List, [], ◌∷◌, ◌++◌, length, drop, max, Bool, true, Some, refl, sym, ap, ◌∙◌, subst, arith, append_assoc, append-nil, length-append, All}
+use Rattle.std.proofs.Common.{◌≡◌, ◌⊎◌, inl, inr, ℕ, ◌+◌, ◌<◌, ◌≤◌, ◌^◌, List, [], ◌∷◌, ◌++◌, length, drop, max, Bool, true, Some, None, refl, sym, ap, ◌∙◌, subst, arith, append_assoc, append-nil, length-append, All}
 use Rattle.std.proofs.lemmas.List.Elements.{All-head, All-tail}
 use Rattle.std.proofs.Math.Seq.{drop-append_seam}
 use Rattle.std.specs.declared.cmp.Ordering.{Ordering}
@@ -21,7 +21,7 @@ use Rattle.cbor4ii_items.specs.Laws.NumbersBack.{head_back}
 use Rattle.cbor4ii_items.specs.Laws.PartsBack.{pair_back}
 use Rattle.cbor4ii_ser.specs.Item.{Encoding, encoded, refused, followed, items_of, entry_item}
 use Rattle.cbor4ii.specs.Built.{built, put_all, ReadsBTreeMap}
-use Rattle.cbor4ii.specs.ReadBack.{IsReadBack, BeginsOther}
+use Rattle.cbor4ii.specs.ReadBack.{IsReadBack, BeginsOther, IsNullItem}
 use Rattle.cbor4ii.specs.Stepped.{Stepped}
 use Rattle.cbor4ii.specs.Tuples.{ReadsBehind, ReadsTriple}
 
@@ -53,8 +53,16 @@ some_first : (bytes rest : List ℕ) → BeginsOther (encoded bytes) → 1 ≤ l
 some_first bytes rest h = omega (arith, ap length h.2, length-append bytes rest)
 
 pub some_read_back : {V : Type 0} (reads : Reads V) (item : Encoding) (v : V) (cost : ℕ) → IsReadBack reads item v cost → BeginsOther item → IsReadBack (ReadsOption (Stepped reads)) item (Some v) (1 + cost)
-some_read_back reads (refused bytes) v cost back other = tt
+some_read_back reads (refused bytes words) v cost back other = tt
 some_read_back reads (encoded bytes) v cost back other = λ rest. (other_first bytes rest other, some_first bytes rest other, (cost, back rest, refl))
+
+null_at : {V : Type 0} (reads : Reads V) (b : ℕ) (item : Encoding) → (b ≡ 0xf6) ⊎ (b ≡ 0xf7) → item ≡ encoded (b ∷ []) → IsReadBack (ReadsOption (Stepped reads)) item None 0
+null_at reads b item (inl is) e = rw (e, is) (λ rest. (inl refl, refl, refl))
+null_at reads b item (inr is) e = rw (e, is) (λ rest. (inr refl, refl, refl))
+
+pub null_read_back : {V : Type 0} (reads : Reads V) (item : Encoding) → IsNullItem item → IsReadBack (ReadsOption (Stepped reads)) item None 0
+null_read_back reads item (inl e) = null_at reads 0xf6 item (inl refl) e
+null_read_back reads item (inr e) = null_at reads 0xf7 item (inr refl) e
 
 -- ---- tuples
 
@@ -70,8 +78,8 @@ two_back first second xs ys p c d h k = pair_back first second (λ _. xs) (λ _.
 pub pair_read_back : {A B : Type 0} (first : Reads A) (second : Reads B) (a b : Encoding) (p : A × B) (c d : ℕ) → IsReadBack first a p.0 c → IsReadBack second b p.1 d
     → IsReadBack (Stepped (ReadsBehind 2 (ReadsPair first second))) (followed (encoded (shortest_head 4 2)) (followed a (followed b (encoded [])))) p (1 + max c d)
 unfolding followed
-pair_read_back first second (refused xs) b p c d h k = tt
-pair_read_back first second (encoded xs) (refused ys) p c d h k = tt
+pair_read_back first second (refused xs words) b p c d h k = tt
+pair_read_back first second (encoded xs) (refused ys words) p c d h k = tt
 pair_read_back first second (encoded xs) (encoded ys) p c d h k =
     behind_back 2 (ReadsPair first second) (xs ++ (ys ++ [])) p (max c d) (omega arith)
     (subst (λ zs. ReadsBack (ReadsPair first second) (xs ++ zs) p (max c d)) (sym (append-nil ys)) (two_back first second xs ys p c d h k))
@@ -79,9 +87,9 @@ pair_read_back first second (encoded xs) (encoded ys) p c d h k =
 pub triple_read_back : {A B C : Type 0} (first : Reads A) (second : Reads B) (third : Reads C) (a b c : Encoding) (p : A × B × C) (i j k : ℕ) → IsReadBack first a p.0 i → IsReadBack second b p.1 j → IsReadBack third c p.2 k
     → IsReadBack (Stepped (ReadsBehind 3 (ReadsTriple first second third))) (followed (encoded (shortest_head 4 3)) (followed a (followed b (followed c (encoded []))))) p (1 + max i (max j k))
 unfolding followed
-triple_read_back first second third (refused xs) b c p i j k f g h = tt
-triple_read_back first second third (encoded xs) (refused ys) c p i j k f g h = tt
-triple_read_back first second third (encoded xs) (encoded ys) (refused zs) p i j k f g h = tt
+triple_read_back first second third (refused xs words) b c p i j k f g h = tt
+triple_read_back first second third (encoded xs) (refused ys words) c p i j k f g h = tt
+triple_read_back first second third (encoded xs) (encoded ys) (refused zs words) p i j k f g h = tt
 triple_read_back first second third (encoded xs) (encoded ys) (encoded zs) p i j k f g h =
     let inner = two_back second third ys zs (p.1, p.2) j k g h in
     let whole : ReadsBack (ReadsTriple first second third) (xs ++ (ys ++ zs)) p (max i (max j k)) = two_back first (ReadsPair second third) xs (ys ++ zs) (p.0, (p.1, p.2)) i (max j k) f inner in
@@ -106,8 +114,8 @@ module _ {P : Type 0} (reads : Reads P) (item : P → Encoding) (cost : P → �
 
   joined_back : (o q : Encoding) (p : P) (ps : List P) → IsReadBack reads o p (cost p) → IsReadBack (ReadsParts reads) q ps (greatest_cost cost ps) → IsReadBack (ReadsParts reads) (followed o q) (p ∷ ps) (greatest_cost cost (p ∷ ps))
   unfolding followed
-  joined_back (refused xs) q p ps h k = tt
-  joined_back (encoded xs) (refused ys) p ps h k = tt
+  joined_back (refused xs words) q p ps h k = tt
+  joined_back (encoded xs) (refused ys words) p ps h k = tt
   joined_back (encoded xs) (encoded ys) p ps h k = more_back p ps xs ys h k
 
   items_back : (ps : List P) → All (λ p. IsReadBack reads (item p) p (cost p)) ps → IsReadBack (ReadsParts reads) (items_of item ps) ps (greatest_cost cost ps)
@@ -119,7 +127,7 @@ module _ {P : Type 0} (reads : Reads P) (item : P → Encoding) (cost : P → �
   counted_back : (major : ℕ) (never_empty : Bool) (ps : List P) (o : Encoding) → length ps < 2 ^ 64 → IsReadBack (ReadsParts reads) o ps (greatest_cost cost ps)
       → IsReadBack (ReadsSequence major reads never_empty) (followed (encoded (shortest_head major (length ps))) o) ps (1 + greatest_cost cost ps)
   unfolding followed
-  counted_back major never_empty ps (refused bytes) small h = tt
+  counted_back major never_empty ps (refused bytes words) small h = tt
   counted_back major never_empty ps (encoded bytes) small h = λ rest. (
       let start = shortest_head major (length ps) in
       let parts = subst (λ zs. ReadsParts reads zs ps (length bytes) (greatest_cost cost ps)) (sym (behind start bytes rest).left) (h rest) in
@@ -134,8 +142,8 @@ module _ {P : Type 0} (reads : Reads P) (item : P → Encoding) (cost : P → �
 
 entry_back : {K V : Type 0} (first : Reads K) (second : Reads V) (a b : Encoding) (p : K × V) (c d : ℕ) → IsReadBack first a p.0 c → IsReadBack second b p.1 d → IsReadBack (ReadsPair first second) (followed a b) p (max c d)
 unfolding followed
-entry_back first second (refused xs) b p c d h k = tt
-entry_back first second (encoded xs) (refused ys) p c d h k = tt
+entry_back first second (refused xs words) b p c d h k = tt
+entry_back first second (encoded xs) (refused ys words) p c d h k = tt
 entry_back first second (encoded xs) (encoded ys) p c d h k = two_back first second xs ys p c d h k
 
 pub entries_back : {K V : Type 0} (first : Reads K) (second : Reads V) (key : K → Encoding) (value : V → Encoding) (key_cost : K → ℕ) (value_cost : V → ℕ) (ps : List (K × V))
@@ -175,5 +183,5 @@ module _ {K V : Type 0} (cmp : K → K → Ordering) (total : IsTotalOrder cmp) 
 
 pub map_read_back : {K V M : Type 0} (entries : M → List (K × V)) (cmp : K → K → Ordering) (key : Reads K) (value : Reads V) (o : Encoding) (m : M) (cost : ℕ) → built cmp (entries m) ≡ entries m
     → IsReadBack (ReadsSequence 5 (ReadsPair key value) true) o (entries m) cost → IsReadBack (ReadsBTreeMap entries cmp key value) o m cost
-map_read_back entries cmp key value (refused bytes) m cost e h = tt
+map_read_back entries cmp key value (refused bytes words) m cost e h = tt
 map_read_back entries cmp key value (encoded bytes) m cost e h = λ rest. (entries m, h rest, sym e)

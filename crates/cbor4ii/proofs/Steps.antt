@@ -1,7 +1,7 @@
 -- What is read under one step, and what is not.
-use Rattle.std.proofs.Common.{◌≡◌, ◌≢◌, inl, inr, false, ℕ, ◌+◌, ◌-◌, ◌≤◌, true, List, Option, Some, None, Result, Ok, Err, refl, sym, ap, ◌∙◌, subst, arith, IfSome, IfOk, IfErr}
+use Rattle.std.proofs.Common.{◌≡◌, ◌≢◌, IsTrue, inl, inr, false, ℕ, ◌+◌, ◌-◌, ◌≤◌, true, List, Option, Some, None, Result, Ok, Err, refl, sym, ap, ◌∙◌, subst, arith, IfSome, IfOk, IfErr}
 use Rattle.cbor4ii_rw.specs.View.{View}
-use Rattle.cbor4ii_rw.specs.Reader.{StepsIn, KeepsAllButBudget}
+use Rattle.cbor4ii_rw.specs.Reader.{Breaks, Failed, StepsIn, KeepsAllButBudget, step_back}
 use Rattle.cbor4ii_rw.specs.declared.error.DecodeError.{DecodeError}
 use Rattle.cbor4ii.specs.declared.serde.de.error.DecodeError.{DecodeError as Typed}
 use Rattle.cbor4ii.specs.Typed.{as_core}
@@ -9,6 +9,7 @@ use Rattle.cbor4ii.specs.Stepped.{Stepped, StopsStepped}
 use Rattle.cbor4ii_items.specs.Refusal.{Refusal, refusal_of}
 use Rattle.cbor4ii_items.specs.Decoding.{CostFits, Sound, Refuses, Stops}
 use Rattle.cbor4ii_items.specs.Laws.Answering.{if_some}
+use Rattle.cbor4ii_items.specs.Laws.UnderStep.{step_again}
 use Rattle.cbor4ii.proofs.Stopped.{stops_as}
 use Rattle.cbor4ii_items.specs.Sequences.{after_step}
 use Rattle.cbor4ii_rw.specs.declared.error.DecodeError.TheVariants.{DepthOverflow}
@@ -21,6 +22,19 @@ fits_step (Some left) new c h f = let g : c ≤ left - 1 = subst (CostFits c) h.
 fits_inside : (old new : Option ℕ) (c : ℕ) → StepsIn old new true → CostFits (1 + c) old → CostFits c new
 fits_inside None new c h f = subst (CostFits c) (sym h) tt
 fits_inside (Some left) new c h f = subst (CostFits c) (sym h.2) (omega (arith, f))
+
+-- the reader failed under the step that was taken, and the step is given back
+pub breaks_stepped : {a b c d : View} → StepsIn a.budget b.budget true → KeepsAllButBudget a b → Breaks b c → d.budget ≡ step_back c.budget → KeepsAllButBudget c d → Breaks a d
+breaks_stepped {a = a} {b = b} {d = d} takes i k gives o = record {
+  told = λ xs told ys left. k.told xs (i.told ∙ told) ys (sym o.told ∙ left);
+  kept = λ is xs told. o.told ∙ k.kept (subst IsTrue (sym i.remembers) is) xs (i.told ∙ told);
+  bound = omega (arith, k.bound, i.bound, o.bound);
+  budget = gives ∙ (ap step_back k.budget ∙ step_again a.budget b.budget takes);
+  failures = subst (λ n. Failed n d.failures) i.failures (subst (λ n. Failed b.failures n) (sym o.failures) k.failures);
+  taken = o.taken ∙ (k.taken ∙ i.taken);
+  lends_whole = λ h. subst IsTrue (sym o.lends_whole) (k.lends_whole (subst IsTrue (sym i.lends_whole) h));
+  remembers = λ h. subst IsTrue (sym o.remembers) (k.remembers (subst IsTrue (sym i.remembers) h));
+}
 
 -- a refusal under the step that was taken
 pub refuses_stepped : {V E : Type 0} (reads : List ℕ → V → ℕ → ℕ → Type 0) {a b : View} {e : DecodeError E} → StepsIn a.budget b.budget true → KeepsAllButBudget a b → Refuses reads b e → Refuses (Stepped reads) a e

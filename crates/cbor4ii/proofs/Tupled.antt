@@ -9,7 +9,8 @@ use Rattle.cbor4ii_rw.specs.View.{View}
 use Rattle.cbor4ii_rw.specs.declared.error.DecodeError.{DecodeError}
 use Rattle.cbor4ii.specs.declared.serde.de.error.DecodeError.{DecodeError as Typed}
 use Rattle.cbor4ii.specs.Typed.{as_core}
-use Rattle.cbor4ii.specs.Tuples.{ReadsBehind, ReadsCountOf, StopsCountOf, told_length, four_is_small}
+use Rattle.cbor4ii.specs.Sequence.{four_small}
+use Rattle.cbor4ii.specs.Tuples.{ReadsBehind, ReadsCountOf, StopsCountOf, told_length}
 use Rattle.cbor4ii_items.specs.Refusal.{Refusal, refusal_of, len_of}
 use Rattle.cbor4ii_items.specs.Moves.{Kept}
 use Rattle.cbor4ii_items.specs.Laws.Fronts.{drop_more}
@@ -32,8 +33,8 @@ pub count_sound : {count found : ℕ} {l : Option ℕ} {a m : View} → l ≡ So
 count_sound {a = a} {m = m} is same s = so_many (subst (Sound (ReadsLength 4) a m) (is ∙ ap Some same) s)
 
 other : (count : ℕ) (l : Option ℕ) (xs : List ℕ) (n c : ℕ) (budget : Option ℕ) → (l ≡ Some count → ⊥) → ReadsLength 4 xs l n c → NoneRead (ReadsCountOf count) xs budget
-other count None xs n c budget not h v k d r fits = head_not_open 4 xs count k four_is_small r.0 h.0
-other count (Some found) xs n c budget not h v k d r fits = not (ap Some (head_one 4 8 xs found count n k four_is_small h.0 r.0).1)
+other count None xs n c budget not h v k d r fits = head_not_open 4 xs count k four_small r.0 h.0
+other count (Some found) xs n c budget not h v k d r fits = not (ap Some (head_one 4 8 xs found count n k four_small h.0 r.0).1)
 
 pub count_other : {E : Type 0} {count : ℕ} {l : Option ℕ} {a m : View} {e : DecodeError E} → (l ≡ Some count → ⊥) → Sound (ReadsLength 4) a m l → Refuses (ReadsCountOf count) a e
 count_other {count = count} {l = l} {a = a} {e = e} not s = record { at = λ xs told. (let p = s.at xs told in always (refusal_of e) (other count l xs p.count p.cost a.budget not p.read)) }
@@ -91,7 +92,7 @@ module _ {V : Type 0} (count : ℕ) (reads : List ℕ → V → ℕ → ℕ → 
 
   no_parts : (xs : List ℕ) (n c : ℕ) (old mid : Option ℕ) → ReadsCountOf count xs tt n c → mid ≡ old → NoneRead reads (drop n xs) mid → NoneRead (ReadsBehind count reads) xs old
   no_parts xs n c old mid h e none v k d r fits =
-      let same = (head_one 4 8 xs count count r.before n four_is_small r.head h.0).0 in
+      let same = (head_one 4 8 xs count count r.before n four_small r.head h.0).0 in
       none v r.between d (subst (λ j. reads (drop j xs) v r.between d) same r.parts) (subst (CostFits d) (sym e) fits)
 
   refused_at : {E : Type 0} {a m : View} {e : DecodeError E} → Kept a m → Sound (ReadsCountOf count) a m tt → ((xs : List ℕ) → a.told ≡ Some xs → Refuses reads m e) → Refuses (ReadsBehind count reads) a e

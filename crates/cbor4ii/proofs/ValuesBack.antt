@@ -143,8 +143,8 @@ agrees_on a b c h k bytes is = h bytes (k bytes is)
 -- one behind the other
 agree_both : (a b c d : Encoding) → Agrees a c → Agrees b d → Agrees (followed a b) (followed c d)
 unfolding followed
-agree_both a b (refused xs) d h k bytes is = absurd (cc)
-agree_both a b (encoded xs) (refused ys) h k bytes is = absurd (cc)
+agree_both a b (refused xs words) d h k bytes is = absurd (cc)
+agree_both a b (encoded xs) (refused ys words) h k bytes is = absurd (cc)
 agree_both a b (encoded xs) (encoded ys) h k bytes is = rw (h xs refl, k ys refl) is
 
 joined : (s t : Bool) (xs ys : List ℕ) → Agrees (followed (unless s xs) (unless t ys)) (unless (s || t) (xs ++ ys))
@@ -155,7 +155,7 @@ joined false false xs ys bytes is = is
 
 -- what is read back from an item is so where another agrees with it
 back_as : {V : Type 0} (reads : Reads V) (a b : Encoding) (v : V) (cost : ℕ) → Agrees a b → IsReadBack reads a v cost → IsReadBack reads b v cost
-back_as reads a (refused bytes) v cost h back = tt
+back_as reads a (refused bytes words) v cost h back = tt
 back_as reads a (encoded bytes) v cost h back = subst (λ o. IsReadBack reads o v cost) (h bytes refl) back
 
 abbrev own_item : Value → Encoding
@@ -224,7 +224,7 @@ IsBack v = IsReadBack ReadsAny (own_item v) v (own_cost v)
 
 under_value : {P : Type 0} (reads : Reads P) (k : AnyKind) (major : ℕ) → ((b : ℕ) → kind_by major b ≡ k) → kind (open_head major) ≡ k → (ps : List P) (v : Value) → ((xs : List ℕ) (n c : ℕ) → ReadsSequence major reads true xs ps n c → KindAs ReadsAny k xs v n c)
     → (o : Encoding) (c : ℕ) → IsReadBack (ReadsSequence major reads true) o ps c → IsReadBack ReadsAny o v (1 + c)
-under_value reads k major kinds opens ps v as_kind (refused bytes) c h = tt
+under_value reads k major kinds opens ps v as_kind (refused bytes words) c h = tt
 under_value reads k major kinds opens ps v as_kind (encoded bytes) c h = λ rest. by_sequence reads k major kinds (bytes ++ rest) ps v (length bytes) c opens (h rest) (as_kind (bytes ++ rest) (length bytes) c (h rest))
 
 two_steps : (c : ℕ) → 1 + (1 + c) ≡ 2 + c

@@ -37,9 +37,9 @@ abbrev pub with_deserializer : {S E : Type 0} → Accessor S E → Deserializer 
 with_deserializer accessor last = record accessor { de = record accessor.de { now = last } }
 
 -- what is left behind a head
-abbrev pub left_of : Option ℕ → Left
-left_of None = Open
-left_of (Some count) = Counted count
+abbrev pub left_behind : Option ℕ → Left
+left_behind None = Open
+left_behind (Some count) = Counted count
 
 -- A step was taken, and then the head of an array or a map: so much is left of it.
 pub record Opens (major : ℕ) (old new : View) (left : Left) : Type 0 where
@@ -50,7 +50,7 @@ pub record Opens (major : ℕ) (old new : View) (left : Left) : Type 0 where
   pub progress : new.bound + 1 ≤ old.bound
   pub length : Option ℕ
   pub head : Sound (ReadsLength major) within new length
-  pub begun : left ≡ left_of length
+  pub begun : left ≡ left_behind length
 
 -- so many steps more
 abbrev pub steps_back : ℕ → Option ℕ → Option ℕ

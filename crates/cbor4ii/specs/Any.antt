@@ -87,8 +87,8 @@ abbrev pub of_f64 : Double → Value
 of_f64 f = values.Float (float_bits.F64 f.0)
 
 -- an unsigned integer that is one of i128
-abbrev pub ReadsBignum : Reads ℕ
-ReadsBignum xs k n c = ReadsU128 xs k n c × (k < 2 ^ 127)
+abbrev pub ReadsSmallU128 : Reads ℕ
+ReadsSmallU128 xs k n c = ReadsU128 xs k n c × (k < 2 ^ 127)
 
 -- a bignum, as an integer
 abbrev pub of_bignum : ℕ → Value
@@ -97,7 +97,7 @@ of_bignum k = values.Integer (pos k)
 -- what each is read as: null and undefined are simple values, read as null
 abbrev pub LeafAs : AnyLeaf → Reads Value
 LeafAs Integer = Formed ReadsI128 of_integer
-LeafAs Bignum = Formed ReadsBignum of_bignum
+LeafAs Bignum = Formed ReadsSmallU128 of_bignum
 LeafAs Bytes = Formed (ReadsAs 2 bytes_content) of_bytes
 LeafAs Text = Formed (ReadsTextAs text_content) of_text
 LeafAs Flag = Formed ReadsBool of_bool

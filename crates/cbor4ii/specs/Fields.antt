@@ -1,5 +1,5 @@
 -- Structs that are read from their named fields: maps from names to values, in any order.
-use Rattle.std.proofs.Common.{◌≡◌, ◌≢◌, ◌⊎◌, inl, inr, ℕ, ◌<◌, ◌≤◌, List, [], ◌∷◌, length, drop, Option, Some, Bool, true, false, sym, subst, arith}
+use Rattle.std.proofs.Common.{◌≡◌, ◌≢◌, ◌⊎◌, inl, inr, ℕ, ◌≤◌, List, [], ◌∷◌, length, drop, Option, Some, Bool, true, false, sym, subst}
 use denote.Ref.{Bor}
 use Rattle.cbor4ii_rw.specs.View.{View}
 use Rattle.std.specs.Prelude.{◌&&◌, codes}
@@ -15,6 +15,7 @@ use Rattle.cbor4ii_items.specs.Laws.Sequences.{sequence_one, sequence_within, se
 use Rattle.cbor4ii_items.specs.Laws.Strings.{text_one, text_within, text_positive}
 use Rattle.cbor4ii_tree.specs.Ignored.{ReadsTree, StopsIgnored}
 use Rattle.cbor4ii_tree.specs.Laws.Ignoring.{tree_one, tree_within}
+use Rattle.cbor4ii.specs.Sequence.{five_small}
 use Rattle.cbor4ii.specs.Tuples.{pair_laws}
 use Rattle.cbor4ii.specs.Typed.{Lawful, not_exact}
 
@@ -187,17 +188,14 @@ changed_same same v w [] (h ∷ hs) s p = absurd p
 changed_same same v w (g ∷ gs) [] s p = absurd p
 changed_same same v w (g ∷ gs) (h ∷ hs) s p = changed_same same (g v) (h w) gs hs (p.0 v w s) p.1
 
-five_is_small : 5 < 8
-five_is_small = omega arith
-
 -- One input is read in one way, as values that mean the same. A struct that is made of the values may be exact by it.
 pub fields_laws : {V : Type 0} (same : V → V → Type 0) (first : V) (named : ReadsNamed V) → same first first → NamedLaws same named → Lawful (ReadsFields first named) same true
 fields_laws {V} same first named is laws =
     let entry = entry_laws same named laws in
     record {
       one = λ xs v w n m c d p q. (
-          let e = sequence_one 5 five_is_small (ReadsEntry named) true (SameChange same) entry.one xs p.0 q.0 n m c d p.1 q.1 in
+          let e = sequence_one 5 five_small (ReadsEntry named) true (SameChange same) entry.one xs p.0 q.0 n m c d p.1 q.1 in
           (e.0, e.1, subst (λ (z : V). same z w) (sym p.2) (subst (λ (z : V). same (changed first p.0) z) (sym q.2) (changed_same same first first p.0 q.0 is e.2))));
-      within = λ xs v n c p. sequence_within 5 five_is_small (ReadsEntry named) true entry.within xs p.0 n c p.1;
-      positive = λ e xs v n c p. sequence_positive 5 five_is_small (ReadsEntry named) true xs p.0 n c p.1;
+      within = λ xs v n c p. sequence_within 5 five_small (ReadsEntry named) true entry.within xs p.0 n c p.1;
+      positive = λ e xs v n c p. sequence_positive 5 five_small (ReadsEntry named) true xs p.0 n c p.1;
     }

@@ -1,5 +1,5 @@
 -- Units and tuples.
-use Rattle.std.proofs.Common.{◌≡◌, ℕ, ◌+◌, ◌<◌, ◌≤◌, List, [], ◌∷◌, length, take, drop, max, Bool, true, sym, ap, ◌∙◌, subst, arith}
+use Rattle.std.proofs.Common.{◌≡◌, ℕ, ◌+◌, ◌≤◌, List, [], ◌∷◌, length, take, drop, max, Bool, true, sym, ap, ◌∙◌, subst, arith}
 use Rattle.std.proofs.lemmas.List.{length-drop}
 use Rattle.std.specs.Prelude.{◌||◌, ◌≢◌, ◌⊎◌, Option, Some, None, codes}
 use Rattle.cbor4ii_rw.specs.declared.error.Len.{Len}
@@ -11,6 +11,7 @@ use Rattle.cbor4ii_items.specs.Heads.{ReadsHead}
 use Rattle.cbor4ii_items.specs.Laws.Heads.{head_one, head_read}
 use Rattle.cbor4ii_items.specs.Sequences.{ReadsPair, SamePair}
 use Rattle.cbor4ii_items.specs.Laws.Sequences.{pair_within, pair_positive}
+use Rattle.cbor4ii.specs.Sequence.{four_small}
 use Rattle.cbor4ii.specs.Typed.{Lawful, any_two}
 
 -- an array of no item, in one byte
@@ -41,20 +42,17 @@ pub record ReadsBehind {V : Type 0} (count : ℕ) (reads : List ℕ → V → �
   pub parts : reads (drop before xs) v between c
   pub size : n ≡ before + between
 
-pub four_is_small : 4 < 8
-four_is_small = omega arith
-
 pub behind_laws : {V : Type 0} (count : ℕ) {reads : List ℕ → V → ℕ → ℕ → Type 0} {same : V → V → Type 0} {never_empty : Bool} → Lawful reads same never_empty → Lawful (ReadsBehind count reads) same true
 behind_laws count {reads = reads} h = record {
   one = λ xs v w n m c d p q. (
-      let s = (head_one 4 8 xs count count p.before q.before four_is_small p.head q.head).0 in
+      let s = (head_one 4 8 xs count count p.before q.before four_small p.head q.head).0 in
       let e = h.one (drop q.before xs) v w p.between q.between c d (subst (λ j. reads (drop j xs) v p.between c) s p.parts) q.parts in
       (omega (arith, s, p.size, q.size, e.0), e.1, e.2));
   within = λ xs v n c p. (
-      let s = head_read [] 4 8 xs count p.before four_is_small p.head in
+      let s = head_read [] 4 8 xs count p.before four_small p.head in
       omega (arith, s.1, p.size, length-drop p.before xs, h.within (drop p.before xs) v p.between c p.parts));
   positive = λ e xs v n c p. (
-      let s = head_read [] 4 8 xs count p.before four_is_small p.head in
+      let s = head_read [] 4 8 xs count p.before four_small p.head in
       omega (arith, s.2, p.size));
 }
 

@@ -1,2 +1,4 @@
 -- What a variant leaves that was read.
 pub mod Variants
+-- A type that holds values of its own kind.
+pub mod Nests

@@ -2,7 +2,7 @@
 use crate::typed::Answer::{self, Custom, Is};
 use crate::typed::{Take, reads_all};
 use cbor4ii::dec::IgnoredAny;
-use cbor4ii::serde::{DecodeError, Deserializer, EnumAccessor};
+use cbor4ii::serde::{DecodeError, Deserialize, Deserializer, EnumAccessor};
 use cbor4ii_rw::error as core_error;
 use cbor4ii_rw::read::Source;
 use cbor4ii_trials::rows::{Row, RowWithin};
@@ -60,6 +60,31 @@ const DROPPED_OPTIONS: &[Row<Answer<Comes>>] = &[
     (b"\x05", Ok(Is(Comes(true))), b"\x05"),
     (b"\xf6\x05", Ok(Is(Comes(false))), b"\x05"),
 ];
+
+/// A number that is read from what an option lends, whether or not a value comes.
+#[derive(Debug, PartialEq, Drop)]
+struct Lent(u8);
+
+impl Take for Lent {
+    fn take<S: Source>(
+        alloc: Global,
+        de: &mut Deserializer<S>,
+    ) -> Result<Lent, DecodeError<S::Error>> {
+        let mut option = de.deserialize_option()?;
+        Ok(Lent(u8::deserialize(alloc, option.deserializer())?))
+    }
+}
+
+const LENT_WITHIN: &[RowWithin<Answer<Lent>>] = &[
+    (b"\x05\x06", 1, Ok(Is(Lent(5))), b"\x06"),
+    // No value comes: the next item is read, under no step.
+    (b"\xf6\x05\x06", 0, Ok(Is(Lent(5))), b"\x06"),
+];
+
+#[test]
+fn what_an_option_lends(rt: HostRuntime) -> Result<(), Fail> {
+    reads_all(rt.alloc(), &[], LENT_WITHIN)
+}
 
 #[test]
 fn options(rt: HostRuntime) -> Result<(), Fail> {

@@ -1,7 +1,9 @@
 //! Items that are read as values, whatever they are, and values that are written.
 use crate::typed::Answer::{self, Is};
-use crate::typed::{BothTold, Refused, RowTold, RowToldWithin, refuses, tells, tells_all};
+use crate::typed::{BothTold, Refused, RowTold, RowToldWithin, Take, refuses, tells, tells_all};
 use cbor4ii::Value;
+use cbor4ii::serde::{DecodeError, Deserializer};
+use cbor4ii_rw::read::Source;
 use cbor4ii_trials::rows::{Want, reads_by_each};
 use std::alloc::{AllocError, Global};
 use std::test::Fail;
@@ -268,4 +270,63 @@ fn depth(rt: HostRuntime) -> Result<(), Fail> {
     let alloc = rt.alloc();
     reads_nested(alloc, 127)?;
     reads_by_each(alloc, nested(alloc, 128)?, 256, &TOO_DEEP, b"\x80")
+}
+
+/// An item that is read by the call for any item.
+#[derive(Debug, PartialEq, Drop)]
+struct ByCall(Value);
+
+impl Take for ByCall {
+    fn take<S: Source>(
+        alloc: Global,
+        de: &mut Deserializer<S>,
+    ) -> Result<ByCall, DecodeError<S::Error>> {
+        Ok(ByCall(de.deserialize_any(alloc)?))
+    }
+}
+
+const BY_CALL: &[RowTold] = &[
+    // 2^64 - 1, and 2^64.
+    (
+        b"\xc2\x48\xff\xff\xff\xff\xff\xff\xff\xff\x00",
+        Ok("Is(ByCall(Integer(18446744073709551615)))"),
+        b"\x00",
+    ),
+    (
+        b"\xc2\x49\x01\x00\x00\x00\x00\x00\x00\x00\x00",
+        Ok("Is(ByCall(Integer(18446744073709551616)))"),
+        b"",
+    ),
+    (
+        b"\xc2\x50\x80\x00\x00\x00\x00\x00\x00\x00\x00\x00\x00\x00\x00\x00\x00\x00",
+        Ok("Custom(\"integer out of range\")"),
+        b"",
+    ),
+    (
+        b"\xd8\x02\x41\x05",
+        Err("Unsupported { name: \"any\", found: 216 }"),
+        b"\xd8\x02\x41\x05",
+    ),
+    (b"", Err("Eof { name: \"any\", expect: Small(1) }"), b""),
+];
+
+const BY_CALL_WITHIN: &[RowToldWithin] = &[
+    (b"\x05", 0, Err("DepthOverflow { name: \"any\" }"), b"\x05"),
+    (b"\x80", 1, Err("DepthOverflow { name: \"seq\" }"), b"\x80"),
+    (b"\x80", 2, Ok("Is(ByCall(Array([])))"), b""),
+];
+
+#[test]
+fn the_call_for_any_item(rt: HostRuntime) -> Result<(), Fail> {
+    tells_all::<Answer<ByCall>>(rt.alloc(), BY_CALL, BY_CALL_WITHIN)
+}
+
+const TOO_DEEP_BY_CALL: Want<Answer<ByCall>> = Err("DepthOverflow { name: \"any\" }");
+
+#[test]
+fn depth_of_the_call_for_any_item(rt: HostRuntime) -> Result<(), Fail> {
+    let alloc = rt.alloc();
+    let value = Ok(Is(ByCall(nested_value(alloc, 127)?)));
+    reads_by_each(alloc, nested(alloc, 127)?, 256, &value, b"")?;
+    reads_by_each(alloc, nested(alloc, 128)?, 256, &TOO_DEEP_BY_CALL, b"\x80")
 }

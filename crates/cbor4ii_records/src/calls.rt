@@ -210,15 +210,25 @@ fn a_stream_stands_behind_the_value_that_was_read(rt: HostRuntime) -> Result<(),
     Ok(())
 }
 
+// Each byte is shown alone: the first of the value's leaves the stream at the look behind it, and
+// the second when the reader is dropped.
+#[test]
+fn a_stream_of_single_bytes_stands_behind_the_value(rt: HostRuntime) -> Result<(), Fail> {
+    let mut stream = FailingStream::new(b"\x18\x05\x06", 1, usize::MAX);
+    assert_eq!(rt; number_at_front(rt.alloc(), &mut stream)?, 5);
+    assert_eq!(rt; stream.remaining(), b"\x06".as_slice());
+    Ok(())
+}
+
 #[test]
 fn a_fault_before_the_value_at_the_front(rt: HostRuntime) -> Result<(), Fail> {
-    let stream = FailingStream::new(b"\x19\x00\x05", 1, 1);
+    let stream = FailingStream::new(b"\x19\x00\x05", 1, 1).failing_with(ErrorKind::ConnectionReset);
     let fault: Result<u16, DecodeError<io::Error>> = from_reader(rt.alloc(), stream);
     assert!(rt;
         matches!(
             &fault,
             Err(DecodeError::Core(core_error::DecodeError::Read(error)))
-                if error.kind() == ErrorKind::Other
+                if error.kind() == ErrorKind::ConnectionReset
         )
     );
     Ok(())

@@ -1,7 +1,7 @@
 //! Rows of typed values that hold others: options, boxes, tuples, vectors and maps.
 use crate::typed::Answer::{self, Is};
 use crate::typed::{Both, BothTold, RowTold, RowToldWithin, tells, tries};
-use cbor4ii_trials::rows::{Row, RowWithin};
+use cbor4ii_trials::rows::{Row, RowWithin, writes};
 use std::collections::BTreeMap;
 use std::test::Fail;
 
@@ -29,6 +29,12 @@ const OPTIONS_WITHIN: &[RowWithin<Answer<Option<u8>>>] = &[
     (b"\x05", 1, Ok(Is(Some(5))), b""),
 ];
 
+// Null is the outer option's none: a none inside is written as it, and not read back.
+const NESTED_OPTIONS: &[Both<Option<Option<u8>>>] = &[
+    (b"\xf6", Ok(Is(None))),
+    (b"\x05", Ok(Is(Some(Some(5))))),
+];
+
 const OPTIONAL_UNITS: &[Both<Option<()>>] = &[(b"\x80", Ok(Is(Some(()))))];
 
 const BOXES: &[BothTold] = &[(b"\x0a", "Is(10)")];
@@ -45,6 +51,8 @@ const BOXES_WITHIN: &[RowToldWithin] = &[(b"\x05\x06", 0, Ok("Is(5)"), b"\x06")]
 fn options_and_boxes(rt: HostRuntime) -> Result<(), Fail> {
     let alloc = rt.alloc();
     tries(alloc, OPTIONS, OPTIONS_READ, OPTIONS_WITHIN)?;
+    tries(alloc, NESTED_OPTIONS, &[], &[])?;
+    writes(alloc, &Is(Some(None::<u8>)), b"\xf6")?;
     tries(alloc, OPTIONAL_UNITS, &[], &[])?;
     tells::<Answer<Box<u32>>>(alloc, BOXES, BOXES_READ, BOXES_WITHIN)
 }
@@ -61,6 +69,17 @@ const PAIRS_READ: &[Row<Answer<(u8, u8)>>] = &[
         b"\x9f\x01\x02\xff",
         Err("RequireLength { name: \"tuple\", found: Indefinite }"),
         b"\x01\x02\xff",
+    ),
+    // 65535 and 65536 items.
+    (
+        b"\x99\xff\xff\x01",
+        Err("RequireLength { name: \"tuple\", found: Small(65535) }"),
+        b"\x01",
+    ),
+    (
+        b"\x9a\x00\x01\x00\x00\x01",
+        Err("RequireLength { name: \"tuple\", found: Big }"),
+        b"\x01",
     ),
     (
         b"\x82\x01\x61",

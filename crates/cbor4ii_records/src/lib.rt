@@ -22,8 +22,9 @@ pub mod events;
 mod failures;
 #[cfg(test)]
 mod leaves;
+pub mod nest;
 #[cfg(test)]
-mod nest;
+mod nest_rows;
 #[cfg(test)]
 mod paths;
 #[cfg(test)]

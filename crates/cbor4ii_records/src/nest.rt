@@ -1,22 +1,38 @@
-//! A type that holds values of its own kind, read.
+//! A type that holds values of its own kind, written and read.
 ghost use Rattle.std.specs.Prelude.{◌+◌, ◌≤◌, OnOk};
 ghost use Rattle.cbor4ii_items.specs.Moves.{Moves};
 ghost use Rattle.cbor4ii.specs.Typed.{input, answer_of};
+ghost use Rattle.cbor4ii_records.specs.Nest.{nest_item};
 
-use crate::typed::{Answer, RowTold, RowToldWithin, Take, tells_all};
-use cbor4ii::serde::{DecodeError, Deserializer};
+use cbor4ii::serde::{DecodeError, Deserializer, EncodeError, Serialize, Serializer};
 use cbor4ii_rw::error as core_error;
 use cbor4ii_rw::read::Source;
+use cbor4ii_rw::write::Write;
 use std::alloc::Global;
-use std::test::Fail;
 
-/// A type that holds values of its own kind.
+/// Lists in a list: a type that holds values of its own kind.
 #[derive(Debug, PartialEq, Drop)]
-struct Nest {
-    inner: Vec<Nest>,
+pub struct Nest {
+    /// The lists inside.
+    pub inner: Vec<Nest>,
 }
 
-fn read_nest<S: Source>(
+/// An array of arrays.
+impl Serialize for Nest {
+    ghost item = { nest_item };
+
+    fn serialize<W: Write>(&self, ser: &mut Serializer<W>) -> Result<(), EncodeError<W::Error>> {
+        self.inner.serialize(ser)
+    }
+}
+
+/// Reads an array of arrays, each under a step of its own, which is given back.
+///
+/// # Errors
+///
+/// As `deserialize_seq` and `starts_element` refuse the array at which reading stops; `Core` of
+/// `OutOfMemory` where there is no memory for a list.
+pub fn read_nest<S: Source>(
     alloc: Global,
     de: &mut Deserializer<S>,
 ) -> Result<Nest, DecodeError<S::Error>>
@@ -33,31 +49,4 @@ fn read_nest<S: Source>(
         }
     }
     Ok(Nest { inner })
-}
-
-impl Take for Nest {
-    fn take<S: Source>(
-        alloc: Global,
-        de: &mut Deserializer<S>,
-    ) -> Result<Nest, DecodeError<S::Error>> {
-        read_nest(alloc, de)
-    }
-}
-
-const NESTS: &[RowTold] = &[(
-    b"\x82\x80\x9f\x80\xff\x01",
-    Ok("Is(Nest { inner: [Nest { inner: [] }, Nest { inner: [Nest { inner: [] }] }] })"),
-    b"\x01",
-)];
-
-const NESTS_WITHIN: &[RowToldWithin] = &[(
-    b"\x81\x81\x80",
-    2,
-    Err("DepthOverflow { name: \"seq\" }"),
-    b"\x80",
-)];
-
-#[test]
-fn a_recursive_type(rt: HostRuntime) -> Result<(), Fail> {
-    tells_all::<Answer<Nest>>(rt.alloc(), NESTS, NESTS_WITHIN)
 }

@@ -82,8 +82,19 @@ const POINTS_READ: &[RowTold] = &[
         Ok("Is(Point { x: 5, name: \"a\", y: Some(-1) })"),
         b"\xff",
     ),
+    // Only y may be missing.
+    (
+        b"\xa2\x61x\x05\x64name\x61a",
+        Ok("Is(Point { x: 5, name: \"a\", y: None })"),
+        b"",
+    ),
     (
         b"\xa2\x61x\x05\x61y\xf6",
+        Ok("Custom(\"a field is missing\")"),
+        b"",
+    ),
+    (
+        b"\xa2\x64name\x61a\x61y\x20",
         Ok("Custom(\"a field is missing\")"),
         b"",
     ),

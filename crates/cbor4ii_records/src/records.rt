@@ -69,8 +69,12 @@ impl<S: Source> Deserialize<S> for Point {
         de: &mut Deserializer<S>,
     ) -> Result<Point, DecodeError<S::Error>> {
         match de.deserialize_3_fields(alloc, "Point", "x", "name", "y") {
-            Ok((x, name, y)) => match (x, name, y) {
-                (Some(x), Some(name), Some(y)) => Ok(Point { x, name, y }),
+            Ok((x, name, y)) => match (x, name) {
+                (Some(x), Some(name)) => Ok(Point {
+                    x,
+                    name,
+                    y: y.unwrap_or(None),
+                }),
                 _ => Err(DecodeError::Custom("a field is missing")),
             },
             Err(error) => Err(error),

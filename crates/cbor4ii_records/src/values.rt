@@ -199,6 +199,15 @@ impl Take for Option<u8> {
     }
 }
 
+impl Take for Option<Option<u8>> {
+    fn take<S: Source>(
+        alloc: Global,
+        de: &mut Deserializer<S>,
+    ) -> Result<Self, DecodeError<S::Error>> {
+        Self::deserialize(alloc, de)
+    }
+}
+
 impl Take for Option<()> {
     fn take<S: Source>(
         alloc: Global,

@@ -1,6 +1,8 @@
 -- A text in pieces, as an item.
 use Rattle.std.proofs.Common.{◌≡◌, ℕ, List, ◌++◌, Option, None, Some, Result, Ok, Err, Bool, true, false, refl, sym, ap, subst, ◌⊎◌, inl, inr, IsSome}
 use Rattle.std.proofs.Math.Seq.{take-length}
+use Rattle.std.specs.Prelude.{codes}
+use denote.Ref.{Bor}
 use Rattle.cbor4ii_rw.specs.Writer.{Output}
 use Rattle.cbor4ii_rw.specs.declared.error.EncodeError as core
 use Rattle.cbor4ii_items.specs.Writing.{Writes}
@@ -48,9 +50,9 @@ module _ {E : Type 0} {whole : Bool} where
       collected_err false ps refl (writes_as (Err e) (ap (λ z. written z ps ++ last_bytes (after z ps)) start) (writes_err (last_bytes (after a.pending ps)) at))
 
   -- it refused by itself
-  pub collected_refused : (refuses : Bool) {ps : List (List ℕ)} {a b : Seen (core.EncodeError E)} (text : _) → b.failure ≡ None → a.failure ≡ None → a.pending ≡ nothing_yet → (refuses ≡ true) ⊎ IsSome b.failure → Wrote whole ps a b → Serializes {T = Unit {0}} {E = E} whole (text_item refuses ps) a.output b.output (Err (Custom text))
-  collected_refused true {ps = ps} {a = a} {b = b} text is fine start why w =
+  pub collected_refused : (refuses : Bool) {ps : List (List ℕ)} {a b : Seen (core.EncodeError E)} (text : Bor (List ℕ)) → text.now ≡ codes "text refused" → b.failure ≡ None → a.failure ≡ None → a.pending ≡ nothing_yet → (refuses ≡ true) ⊎ IsSome b.failure → Wrote whole ps a b → Serializes {T = Unit {0}} {E = E} whole (text_item refuses ps) a.output b.output (Err (Custom text))
+  collected_refused true {ps = ps} {a = a} {b = b} text said is fine start why w =
       let at : Writes whole (unended_bytes ps) a.output b.output (Ok tt) = subst (λ z. Writes whole (unended_bytes ps) a.output b.output (outcome z)) is (subst (λ z. Writes whole (written z ps) a.output b.output (outcome b.failure)) start (w.writes fine)) in
-      record { appends = tt; counts = tt; failed = (at.appends, at.counts); front = λ whole held told. (unended_bytes ps, take-length (unended_bytes ps), at.appends held told) }
-  collected_refused false text is fine start (inl h) w = absurd (cc)
-  collected_refused false {b = b} text is fine start (inr h) w = absurd (none_some b.failure is h)
+      record { appends = tt; counts = tt; failed = ((at.appends, said), at.counts); front = λ whole held told. (unended_bytes ps, take-length (unended_bytes ps), at.appends held told) }
+  collected_refused false text said is fine start (inl h) w = absurd (cc)
+  collected_refused false {b = b} text said is fine start (inr h) w = absurd (none_some b.failure is h)

@@ -1,36 +1,37 @@
--- What is written for a typed value: its item; or, of a value that is refused, what stands before the refusal.
+-- What is written for a typed value: its item; or, of a value that is refused, what stands before that, and the words that say why.
 use Rattle.std.specs.Prelude.{ℕ, List, [], ◌∷◌, ◌++◌, length, Option, None, Some}
 use Rattle.cbor4ii_items.specs.Numbers.{shortest_head}
 use Rattle.cbor4ii_items.specs.Strings.{counted_string}
 
--- the bytes of an item (RFC 8949 section 1.2: encoded data item); or those before the place at which it is refused
+-- all the bytes, of an item (RFC 8949 section 1.2: encoded data item) or of a part of one; or those before the place at which the value is refused, and the refusal's words
 pub data Encoding : Type 0 where
-  encoded refused : List ℕ → Encoding
+  encoded : List ℕ → Encoding
+  refused : List ℕ → List ℕ → Encoding
 
 -- what is written, wherever it ends
 abbrev pub bytes_written : Encoding → List ℕ
 bytes_written (encoded bytes) = bytes
-bytes_written (refused bytes) = bytes
+bytes_written (refused bytes words) = bytes
 
 -- there is an item, and its bytes are such
 abbrev pub IsEncodedAnd : Encoding → (List ℕ → Type 0) → Type 0
 IsEncodedAnd (encoded bytes) P = P bytes
-IsEncodedAnd (refused bytes) P = ⊥
+IsEncodedAnd (refused bytes words) P = ⊥
 
 -- where there is an item, its bytes are such
 abbrev pub IfEncoded : Encoding → (List ℕ → Type 0) → Type 0
 IfEncoded (encoded bytes) P = P bytes
-IfEncoded (refused bytes) P = Unit {0}
+IfEncoded (refused bytes words) P = Unit {0}
 
--- it is refused, and the bytes before are such
-abbrev pub IsRefusedAnd : Encoding → (List ℕ → Type 0) → Type 0
+-- it is refused, and the bytes before that and its words are such
+abbrev pub IsRefusedAnd : Encoding → (List ℕ → List ℕ → Type 0) → Type 0
 IsRefusedAnd (encoded bytes) P = ⊥
-IsRefusedAnd (refused bytes) P = P bytes
+IsRefusedAnd (refused bytes words) P = P bytes words
 
 -- one behind the other; nothing stands behind a refusal
 unfoldable pub followed : Encoding → Encoding → Encoding
-followed (refused xs) second = refused xs
-followed (encoded xs) (refused ys) = refused (xs ++ ys)
+followed (refused xs words) second = refused xs words
+followed (encoded xs) (refused ys words) = refused (xs ++ ys) words
 followed (encoded xs) (encoded ys) = encoded (xs ++ ys)
 
 -- ---- arrays

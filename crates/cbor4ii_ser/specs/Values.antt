@@ -1,5 +1,5 @@
 -- Values of the tree as typed values: those that hold no tag have an item, their canonical spelling.
-use Rattle.std.specs.Prelude.{ℕ, List, [], Bool, true, false, ◌||◌}
+use Rattle.std.specs.Prelude.{ℕ, List, [], Bool, true, false, ◌||◌, codes}
 use Rattle.cbor4ii_tree.specs.Item.{Item, null, boolean, integer, float, bytes_item, text, sequence, mapping, tag, Items, no_items, item, Members, no_members, member}
 use Rattle.cbor4ii_tree.specs.Canonical.{canon}
 use Rattle.cbor4ii_ser.specs.Item.{Encoding, encoded, refused}
@@ -25,9 +25,9 @@ abbrev mutual
   members_hold_tag no_members = false
   members_hold_tag (member k v ms) = (holds_tag k || holds_tag v) || members_hold_tag ms
 
--- an item of these bytes, or refused before any of them
+-- an item of these bytes, or refused before any of them, since a tag stands in it
 abbrev pub unless : Bool → List ℕ → Encoding
-unless true bytes = refused []
+unless true bytes = refused [] (codes "serialization Tag via serde is not supported")
 unless false bytes = encoded bytes
 
 abbrev pub value_item : Item → Encoding

@@ -32,9 +32,10 @@ use cbor4ii_rw::write::Write;
 /// An array or a map of a known number of parts that is being written: a tuple, a struct, or a
 /// variant that has such content.
 ///
-/// What was written when `end` has answered is the head and the parts in order. A call that fails
-/// does not change `left`. Where the part is refused, exactly what stands before its refusal is
-/// appended; where the writer failed, a whole one holds what it held before the call and a
+/// Where no call failed, what was written when `end` has answered is the head and the parts in
+/// order. A call that fails does not change `left`. Where the part is refused, exactly what stands
+/// before its refusal is appended, and stays: an array or a map in which a part was refused is no
+/// item any more. Where the writer failed, a whole one holds what it held before the call and a
 /// beginning of what the call writes, and of another writer nothing is said.
 ///
 /// One that is dropped without `end` writes nothing: the head and the parts that were written stay,

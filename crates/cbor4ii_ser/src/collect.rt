@@ -24,11 +24,13 @@ use cbor4ii_rw::write::Write;
 /// An array or a map that is being written: of so many parts, or of any number up to its end (RFC
 /// 8949 sections 3.1 and 3.2.2).
 ///
-/// What was written when `end` has answered is the head, the parts in order, and a break where the
-/// length is indefinite. A call that fails changes neither `left` nor `owes_value`, save that an
-/// entry that fails at its value has written its key. Where a part is refused, exactly what stands
-/// before its refusal is appended; where the writer failed, a whole one holds what it held before
-/// the call and a beginning of what the call writes, and of another writer nothing is said.
+/// Where no call failed, what was written when `end` has answered is the head, the parts in order,
+/// and a break where the length is indefinite. A call that fails changes neither `left` nor
+/// `owes_value`, save that an entry that fails at its value has written its key. Where a part is
+/// refused, exactly what stands before its refusal is appended, and stays: an array or a map in
+/// which a part was refused is no item any more. Where the writer failed, a whole one holds what it
+/// held before the call and a beginning of what the call writes, and of another writer nothing is
+/// said.
 ///
 /// One that is dropped without `end` writes nothing: the head and the parts that were written stay,
 /// and are a whole item only where the parts were counted and all came.

@@ -9,7 +9,9 @@ use cbor4ii_rw::write::Write;
 /// A type whose values are written as items.
 pub trait Serialize {
     // What is written for a value: the bytes of the item that stands for it, every head the
-    // shortest; or, where none does, those before the place at which it is refused.
+    // shortest; or, where none does, those before the place at which it is refused, and the words
+    // that say why. That the bytes are one item is not asked of a type: a container holds what its
+    // parts write.
     ghost item: { Self → Encoding };
 
     /// Appends the value's item to what the writer holds.
@@ -18,8 +20,8 @@ pub trait Serialize {
     ///
     /// `Core`, and only where the writer failed in the call: a whole writer then holds what it held
     /// before and a beginning of the item, or of what stands before the refusal of a value that has
-    /// none; of another writer nothing is said. `Custom` where the value has no item, and exactly
-    /// what stands before its refusal is appended.
+    /// none; of another writer nothing is said. `Custom` where the value has no item, with the
+    /// words of its refusal, and exactly what stands before that is appended.
     fn serialize<W: Write>(&self, ser: &mut Serializer<W>) -> Result<(), EncodeError<W::Error>>
         ensures { Serializes W.whole (item self.now)
             (output W.view ser.old) (output W.view ser.new) result };

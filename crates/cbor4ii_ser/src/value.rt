@@ -1,7 +1,7 @@
 //! Values of the tree.
-ghost use Rattle.std.specs.Prelude.{◌≡◌, IfErr, IsTrue, codes};
+ghost use Rattle.std.specs.Prelude.{◌≡◌, IsTrue};
 ghost use Rattle.cbor4ii_tree.specs.View.{view, items_view, members_view};
-ghost use Rattle.cbor4ii_ser.specs.Serializing.{SaysAtMost, Serializes, output};
+ghost use Rattle.cbor4ii_ser.specs.Serializing.{Serializes, output};
 ghost use Rattle.cbor4ii_ser.specs.Values.{
   holds_tag,
   some_holds_tag,
@@ -21,8 +21,6 @@ impl Serialize for Value {
     ghost item = { λ v. value_item (view v) };
 
     fn serialize<W: Write>(&self, ser: &mut Serializer<W>) -> Result<(), EncodeError<W::Error>>
-        ensures refusal { IfErr result
-            (SaysAtMost (codes "serialization Tag via serde is not supported")) }
         ensures written { Serializes W.whole (value_item (view self.now))
             (output W.view ser.old) (output W.view ser.new) result }
         ensures untouched { IsTrue (holds_tag (view self.now)) →

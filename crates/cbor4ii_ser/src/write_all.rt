@@ -2,7 +2,7 @@
 ghost use Rattle.std.specs.Prelude.{◌≡◌, ◌++◌, IfOk, IfErr};
 ghost use Rattle.cbor4ii_rw.specs.Writer.{Appends};
 ghost use Rattle.cbor4ii_ser.specs.Item.{IsEncodedAnd};
-ghost use Rattle.cbor4ii_ser.specs.Serializing.{NoItem};
+ghost use Rattle.cbor4ii_ser.specs.Serializing.{SaysWhy};
 
 use crate::error::EncodeError;
 use crate::serialize::Serialize;
@@ -24,7 +24,7 @@ pub fn to_vec<T: Serialize>(
 ) -> Result<Vec<u8>, EncodeError<TryReserveError>>
     ensures appends { IfOk result (λ v. IsEncodedAnd (T.item value.now)
         (λ bytes. v.items ≡ buf.items ++ bytes)) }
-    ensures custom { IfErr result (NoItem (T.item value.now)) }
+    ensures custom { IfErr result (SaysWhy (T.item value.now)) }
 {
     let mut ser = Serializer::new(BufWriter::new(buf));
     value.serialize(&mut ser)?;
@@ -44,7 +44,7 @@ pub fn to_writer<W: io::Write + Drop, T: Serialize>(
 ) -> Result<W, EncodeError<io::Error>>
     ensures appends { IfOk result (λ stream. IsEncodedAnd (T.item value.now)
         (λ bytes. Appends bytes (W.contents writer) (W.contents stream))) }
-    ensures custom { IfErr result (NoItem (T.item value.now)) }
+    ensures custom { IfErr result (SaysWhy (T.item value.now)) }
 {
     let mut ser = Serializer::new(IoWriter::new(writer));
     value.serialize(&mut ser)?;

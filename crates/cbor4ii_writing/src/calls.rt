@@ -1,12 +1,17 @@
 //! Values of Rust's own types, and each call of a serializer.
 use crate::typed::Typed;
+use cbor4ii_items::types::{F16, F32, F64};
 use cbor4ii_rw::buf_writer::BufWriter;
 use cbor4ii_rw::error as core_error;
 use cbor4ii_rw::error::TryReserveError;
 use cbor4ii_ser::error::EncodeError;
+use cbor4ii_ser::serialize::Serialize;
 use cbor4ii_ser::serializer::Serializer;
 use cbor4ii_ser::write_all::to_writer;
+use cbor4ii_trials::readers::Failure;
 use cbor4ii_trials::rows::writes;
+use cbor4ii_trials::streams::FailingSink;
+use cbor4ii_trials::writers::PushLengths;
 use std::alloc::{AllocError, Global};
 use std::borrow::CowStr;
 use std::collections::BTreeMap;
@@ -114,13 +119,16 @@ fn variants_by_calls(ser: &mut Serializer<BufWriter>) -> Written {
 fn calls_for_structs(rt: HostRuntime) -> Result<(), Fail> {
     let mut ser = Serializer::new(BufWriter::new(Vec::new(rt.alloc())));
     structs_by_calls(&mut ser)?;
-    let structs = b"\xa5\x61a\x01\x61b\x02\x61c\x03\x61d\x04\x61e\x05\
+    let structs = b"\xa1\x61a\x01\xa2\x61a\x01\x61b\x02\
+\xa5\x61a\x01\x61b\x02\x61c\x03\x61d\x04\x61e\x05\
 \xa6\x61a\x01\x61b\x02\x61c\x03\x61d\x04\x61e\x05\x61f\x06";
     assert_eq!(rt; ser.into_inner().buffer(), structs.as_slice());
     Ok(())
 }
 
 fn structs_by_calls(ser: &mut Serializer<BufWriter>) -> Written {
+    ser.serialize_1_field("One", ("a", &1u8))?;
+    ser.serialize_2_fields("Two", ("a", &1u8), ("b", &2u8))?;
     ser.serialize_5_fields(
         "Five",
         ("a", &1u8),
@@ -276,5 +284,41 @@ fn into_a_stream(rt: HostRuntime) -> Result<(), Fail> {
     let mut room = [0xffu8; 4];
     assert!(rt; to_writer(room.as_mut_slice(), &("", 1u8)).is_ok());
     assert_eq!(rt; room.as_slice(), b"\x82\x60\x01\xff".as_slice());
+    Ok(())
+}
+
+#[test]
+fn a_stream_is_not_flushed(rt: HostRuntime) -> Result<(), Fail> {
+    let sink = to_writer(
+        FailingSink::new(Vec::with_capacity(rt.alloc(), 1)?, 1),
+        &5u8,
+    )?;
+    assert_eq!(rt; sink.flushes(), 0);
+    assert_eq!(rt; sink.buffer(), b"\x05".as_slice());
+    Ok(())
+}
+
+// The greatest number of each width.
+fn greatest_numbers(ser: &mut Serializer<PushLengths>) -> Result<(), EncodeError<Failure>> {
+    u8::MAX.serialize(ser)?;
+    u16::MAX.serialize(ser)?;
+    u32::MAX.serialize(ser)?;
+    u64::MAX.serialize(ser)?;
+    i8::MAX.serialize(ser)?;
+    i16::MAX.serialize(ser)?;
+    i32::MAX.serialize(ser)?;
+    i64::MAX.serialize(ser)?;
+    F16(u16::MAX).serialize(ser)?;
+    F32(u32::MAX).serialize(ser)?;
+    F64(u64::MAX).serialize(ser)
+}
+
+// A push has all bytes of a number, the first one and those behind it.
+#[test]
+fn numbers_in_one_push(rt: HostRuntime) -> Result<(), Fail> {
+    let mut ser = Serializer::new(PushLengths::new(rt.alloc()));
+    greatest_numbers(&mut ser)?;
+    let lengths = [2, 3, 5, 9, 2, 3, 5, 9, 3, 5, 9];
+    assert_eq!(rt; ser.into_inner().lengths(), lengths.as_slice());
     Ok(())
 }

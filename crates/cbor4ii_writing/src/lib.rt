@@ -1,5 +1,5 @@
-//! Rows of typed values that are only written, as tests: each call of a serializer, texts in pieces,
-//! values that are refused, and writers that fail.
+//! Rows of typed values that are only written, as tests: each call of a serializer, texts in
+//! pieces, values that are refused, and writers that fail.
 //!
 //! The rows' values come from RFC 8949 and from worked examples, never from this codec's own
 //! answers.
@@ -9,6 +9,8 @@
 mod calls;
 #[cfg(test)]
 mod failures;
+#[cfg(test)]
+mod laws;
 pub mod pieces;
 #[cfg(test)]
 mod refused;

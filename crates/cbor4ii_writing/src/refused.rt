@@ -1,10 +1,12 @@
 //! Values that have no item, and what stands before the place at which they are refused.
 use cbor4ii_items::decode::Decode;
 use cbor4ii_rw::buf_writer::BufWriter;
+use cbor4ii_rw::error::TryReserveError;
 use cbor4ii_rw::slice_reader::SliceReader;
 use cbor4ii_ser::error::EncodeError;
 use cbor4ii_ser::serialize::Serialize;
 use cbor4ii_ser::serializer::Serializer;
+use cbor4ii_ser::write_all::to_vec;
 use cbor4ii_tree::Value;
 use std::alloc::{AllocError, Global};
 use std::collections::BTreeMap;
@@ -17,19 +19,29 @@ const TAGGED: &[(&[u8], &str)] = &[
     (b"\xc1\x00", "Tag(1, Integer(0))"),
 ];
 
-// The value is refused by its tag, and these bytes stand before that.
-fn is_refused_behind<T: Serialize>(alloc: Global, value: &T, bytes: &[u8]) -> Result<(), Fail> {
-    let mut ser = Serializer::new(BufWriter::new(Vec::new(alloc)));
-    match value.serialize(&mut ser) {
-        Err(EncodeError::Custom("serialization Tag via serde is not supported")) => {}
-        Err(EncodeError::Core(error)) => return Err(Fail::from(error)),
-        _ => return Err(Fail::new("not refused by its tag")),
+// The answer is that a tag is refused.
+fn is_refused<T: Drop>(answer: Result<T, EncodeError<TryReserveError>>) -> Result<(), Fail> {
+    match answer {
+        Err(EncodeError::Custom("serialization Tag via serde is not supported")) => Ok(()),
+        Err(EncodeError::Core(error)) => Err(Fail::from(error)),
+        _ => Err(Fail::new("not refused by its tag")),
     }
+}
+
+// These bytes were written.
+fn has_written(ser: Serializer<BufWriter>, bytes: &[u8]) -> Result<(), Fail> {
     let written = ser.into_inner();
     if written.buffer() == bytes {
         return Ok(());
     }
     Err(Fail::new(format_args!("{written:?} in the place of {bytes:?}")))
+}
+
+// The value is refused by its tag, and these bytes stand before that.
+fn is_refused_behind<T: Serialize>(alloc: Global, value: &T, bytes: &[u8]) -> Result<(), Fail> {
+    let mut ser = Serializer::new(BufWriter::new(Vec::new(alloc)));
+    is_refused(value.serialize(&mut ser))?;
+    has_written(ser, bytes)
 }
 
 // The value that the bytes decode to is the one of the text, and is not written.
@@ -67,4 +79,61 @@ fn what_stands_before_a_tag(rt: HostRuntime) -> Result<(), Fail> {
     let mut map = BTreeMap::new(alloc);
     map.insert(1u8, tagged(alloc)?)?;
     is_refused_behind(alloc, &map, b"\xa1\x01")
+}
+
+// What an option, a box and a triple write before a part that is refused.
+#[test]
+fn what_holds_a_tag(rt: HostRuntime) -> Result<(), Fail> {
+    let alloc = rt.alloc();
+    is_refused_behind(alloc, &Some(tagged(alloc)?), b"")?;
+    is_refused_behind(alloc, &Box::new(alloc, tagged(alloc)?)?, b"")?;
+    is_refused_behind(alloc, &(1u8, 2u8, tagged(alloc)?), b"\x83\x01\x02")
+}
+
+fn calls_are_refused(ser: &mut Serializer<BufWriter>, tagged: &Value) -> Result<(), Fail> {
+    is_refused(ser.serialize_2_fields("Struct", ("a", &1u8), ("b", tagged)))?;
+    is_refused(ser.serialize_newtype_variant("Enum", 0, "N", tagged))
+}
+
+#[test]
+fn calls_for_what_holds_a_tag(rt: HostRuntime) -> Result<(), Fail> {
+    let alloc = rt.alloc();
+    let value = tagged(alloc)?;
+    let mut ser = Serializer::new(BufWriter::new(Vec::new(alloc)));
+    calls_are_refused(&mut ser, &value)?;
+    has_written(ser, b"\xa2\x61a\x01\x61b\xa1\x61N")?;
+    is_refused(to_vec(Vec::new(alloc), &value))
+}
+
+// Whether an array whose second item is refused still wants that item.
+fn an_array_wants_it(ser: &mut Serializer<BufWriter>, tagged: &Value) -> Result<bool, Fail> {
+    let mut items = ser.serialize_seq(Some(2))?;
+    items.serialize_element(&1u8)?;
+    is_refused(items.serialize_element(tagged))?;
+    Ok(items.left() == Some(1))
+}
+
+// Whether a map whose only value is refused has its key, and still wants that value.
+fn a_map_wants_it(ser: &mut Serializer<BufWriter>, tagged: &Value) -> Result<bool, Fail> {
+    let mut entries = ser.serialize_map(Some(1))?;
+    is_refused(entries.serialize_entry(&1u8, tagged))?;
+    Ok(entries.left() == Some(0) && entries.owes_value())
+}
+
+// Whether a struct whose only field is refused still wants that field.
+fn a_struct_wants_it(ser: &mut Serializer<BufWriter>, tagged: &Value) -> Result<bool, Fail> {
+    let mut fields = ser.serialize_struct("Struct", 1)?;
+    is_refused(fields.serialize_field("a", tagged))?;
+    Ok(fields.left() == 1)
+}
+
+#[test]
+fn what_a_collect_says_after_a_tag(rt: HostRuntime) -> Result<(), Fail> {
+    let alloc = rt.alloc();
+    let value = tagged(alloc)?;
+    let mut ser = Serializer::new(BufWriter::new(Vec::new(alloc)));
+    assert!(rt; an_array_wants_it(&mut ser, &value)?);
+    assert!(rt; a_map_wants_it(&mut ser, &value)?);
+    assert!(rt; a_struct_wants_it(&mut ser, &value)?);
+    has_written(ser, b"\x82\x01\xa1\x01\xa1\x61a")
 }

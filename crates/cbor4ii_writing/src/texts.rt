@@ -1,5 +1,5 @@
 //! Texts in pieces.
-ghost use Rattle.std.specs.Prelude.{◌∷◌, [], codes, true};
+ghost use Rattle.std.specs.Prelude.{◌∷◌, [], true};
 
 use crate::pieces::{Parts, joined, letters};
 use cbor4ii_rw::buf_writer::BufWriter;
@@ -60,6 +60,13 @@ fn short_texts(rt: HostRuntime) -> Result<(), Fail> {
     writes_two(alloc, 200, 55, ONE_CHUNK)
 }
 
+#[test]
+fn a_text_of_no_piece(rt: HostRuntime) -> Result<(), Fail> {
+    let mut out = BufWriter::new(Vec::new(rt.alloc()));
+    TextWriter::new(&mut out).flush()?;
+    is_joined(rt.alloc(), out.buffer(), EMPTY)
+}
+
 const TWO_CHUNKS: Parts<'static> = &[(b"\x7f\x78\xc8", 200), (b"\x78\x38", 56), (b"\xff", 0)];
 
 const LONG: Parts<'static> = &[(b"\x7f\x79\x01\x2c", 300), (b"\xff", 0)];
@@ -109,24 +116,49 @@ fn a_long_piece_and_many_short_ones(rt: HostRuntime) -> Result<(), Fail> {
     is_joined(alloc, &in_pieces(alloc, 257)?, PIECES)
 }
 
-/// A text that refuses behind its first piece.
-#[derive(Drop)]
-struct Refusing;
+// The text refuses by itself, and these parts stand before that.
+fn is_refused_behind<T: Text>(alloc: Global, text: &T, parts: Parts<'_>) -> Result<(), Fail> {
+    let mut ser = Serializer::new(BufWriter::new(Vec::new(alloc)));
+    match ser.collect_str(text) {
+        Err(EncodeError::Custom("text refused")) => {}
+        Err(EncodeError::Core(error)) => return Err(Fail::from(error)),
+        _ => return Err(Fail::new("not refused by itself")),
+    }
+    is_joined(alloc, ser.into_inner().buffer(), parts)
+}
 
-impl Text for Refusing {
-    ghost pieces = { λ _. codes "ab" ∷ [] };
+/// A text that refuses behind one piece.
+#[derive(Drop)]
+struct Refusing<'a>(&'a str);
+
+impl<'a> Text for Refusing<'a> {
+    ghost pieces = { λ text. text.0.now ∷ [] };
 
     ghost refuses = { λ _. true };
 
     fn write_to<W: Write>(&self, out: &mut TextWriter<'_, W>) -> Result<(), TextFault> {
-        out.write_str("ab")?;
+        out.write_str(self.0)?;
         Err(TextFault)
     }
 }
 
+const FIRST_CHUNK: Parts<'static> = &[(b"\x7f\x78\xc8", 200)];
+
 #[test]
 fn a_text_that_refuses(rt: HostRuntime) -> Result<(), Fail> {
-    let refused = written(rt.alloc(), &Refusing);
-    assert!(rt; matches!(refused, Err(EncodeError::Custom("text refused"))));
-    Ok(())
+    let alloc = rt.alloc();
+    is_refused_behind(alloc, &Refusing("ab"), &[])?;
+    let second = letters(alloc, 56)?;
+    is_refused_behind(
+        alloc,
+        &(letters(alloc, 200)?, Refusing(&second)),
+        FIRST_CHUNK,
+    )
+}
+
+// Of the second nothing is written, though it is too long to be held back.
+#[test]
+fn a_text_behind_one_that_refuses(rt: HostRuntime) -> Result<(), Fail> {
+    let alloc = rt.alloc();
+    is_refused_behind(alloc, &(Refusing("ab"), letters(alloc, 256)?), &[])
 }

@@ -6,14 +6,19 @@ use cbor4ii_ser::serialize::Serialize;
 use cbor4ii_ser::serializer::Serializer;
 use cbor4ii_trials::rows::WriteTo;
 
-/// Writes the value behind what `writer` holds. Of one that is refused no more is written, so that
-/// its row fails.
+/// Writes the value behind what `writer` holds. Of one that is refused the byte `1c` is written
+/// last, with which no item begins (RFC 8949 section 3), so that its row fails.
 pub fn write_typed<T: Serialize, W: Write>(
     value: &T,
     writer: &mut W,
 ) -> Result<(), core_error::EncodeError<W::Error>> {
-    match value.serialize(&mut Serializer::new(writer)) {
-        Ok(()) | Err(EncodeError::Custom(_)) => Ok(()),
+    let mut ser = Serializer::new(writer);
+    match value.serialize(&mut ser) {
+        Ok(()) => Ok(()),
+        Err(EncodeError::Custom(_)) => match ser.into_inner().push(b"\x1c") {
+            Ok(()) => Ok(()),
+            Err(error) => Err(core_error::EncodeError::Write(error)),
+        },
         Err(EncodeError::Core(error)) => Err(error),
     }
 }

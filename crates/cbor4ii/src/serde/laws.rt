@@ -46,7 +46,7 @@ ghost use Rattle.cbor4ii_tree.specs.declared.value.Value.{Value as AnyValue};
 ghost use Rattle.cbor4ii_ser.specs.Item.{encoded};
 ghost use Rattle.cbor4ii.specs.AnyCost.{any_cost};
 ghost use Rattle.cbor4ii.specs.Fields.{ReadsFields, SameField, named_field, no_fields, no_values};
-ghost use Rattle.cbor4ii.specs.ReadBack.{IsReadBack, BeginsOther};
+ghost use Rattle.cbor4ii.specs.ReadBack.{IsReadBack, BeginsOther, IsNullItem};
 ghost use Rattle.cbor4ii.specs.Typed.{Lawful, any_two};
 
 use crate::serde::de::deserialize::Typed;
@@ -119,6 +119,8 @@ pub fn wrapped_values_are_read_back<T: Typed + Serialize>()
         BeginsOther (T.item v) →
         IsReadBack ⟦<Option<T> as Typed>⟧.reads (⟦<Option<T> as Serialize>⟧.item (Some v))
         (Some v) (1 + cost) }
+    ensures null { (v : T) → IsNullItem (T.item v) →
+        IsReadBack ⟦<Option<T> as Typed>⟧.reads (⟦<Option<T> as Serialize>⟧.item (Some v)) None 0 }
 {}
 
 /// The unit is read from its own item without a step, and a pair and a triple wherever each part

@@ -8,55 +8,56 @@ use Rattle.cbor4ii_rw.specs.Writer.{Output, Appends}
 use Rattle.cbor4ii_items.specs.Laws.Written.{appends_then, starts_then, starts_more}
 use Rattle.cbor4ii_ser.specs.declared.error.EncodeError.{EncodeError}
 use Rattle.cbor4ii_ser.specs.declared.error.EncodeError.TheVariants.{Core, Custom}
-use Rattle.cbor4ii_ser.specs.Item.{Encoding, encoded, refused, followed, items_of}
-use Rattle.cbor4ii_ser.specs.Serializing.{Serializes, Begins, Blames}
+use Rattle.cbor4ii_items.specs.Writing.{AppendsFront}
+use Rattle.cbor4ii_ser.specs.Item.{Encoding, encoded, refused, bytes_written, followed, items_of}
+use Rattle.cbor4ii_ser.specs.Serializing.{Serializes, Blames}
 
 pub followed_assoc : (a b c : Encoding) → followed (followed a b) c ≡ followed a (followed b c)
 unfolding followed
-followed_assoc (refused xs) b c = refl
-followed_assoc (encoded xs) (refused ys) c = refl
-followed_assoc (encoded xs) (encoded ys) (refused zs) = ap refused (append_assoc xs ys zs)
+followed_assoc (refused xs words) b c = refl
+followed_assoc (encoded xs) (refused ys words) c = refl
+followed_assoc (encoded xs) (encoded ys) (refused zs words) = ap (λ (bytes : List ℕ). refused bytes words) (append_assoc xs ys zs)
 followed_assoc (encoded xs) (encoded ys) (encoded zs) = ap encoded (append_assoc xs ys zs)
 
 nil_followed : (a : Encoding) → followed (encoded []) a ≡ a
 unfolding followed
-nil_followed (refused xs) = refl
+nil_followed (refused xs words) = refl
 nil_followed (encoded xs) = refl
 
 pub followed_nil : (a : Encoding) → followed a (encoded []) ≡ a
 unfolding followed
-followed_nil (refused xs) = refl
+followed_nil (refused xs words) = refl
 followed_nil (encoded xs) = ap encoded (append-nil xs)
 
 pub followed_both : (xs ys : List ℕ) (b : Encoding) → followed (encoded (xs ++ ys)) b ≡ followed (encoded xs) (followed (encoded ys) b)
 unfolding followed
-followed_both xs ys (refused zs) = ap refused (append_assoc xs ys zs)
+followed_both xs ys (refused zs words) = ap (λ (bytes : List ℕ). refused bytes words) (append_assoc xs ys zs)
 followed_both xs ys (encoded zs) = ap encoded (append_assoc xs ys zs)
 
-begins_then : (xs : List ℕ) (b : Encoding) (old mid new : Option (List ℕ)) → Appends xs old mid → Begins b mid new → Begins (followed (encoded xs) b) old new
+begins_then : (xs : List ℕ) (b : Encoding) (old mid new : Option (List ℕ)) → Appends xs old mid → AppendsFront (bytes_written b) mid new → AppendsFront (bytes_written (followed (encoded xs) b)) old new
 unfolding followed
-begins_then xs (refused ys) old mid new p q held told =
+begins_then xs (refused ys words) old mid new p q held told =
     let f = q (held ++ xs) (p held told) in (xs ++ f.0, starts_then xs ys f.0 f.1, f.2 ∙ ap Some (append_assoc held xs f.0))
 begins_then xs (encoded ys) old mid new p q held told =
     let f = q (held ++ xs) (p held told) in (xs ++ f.0, starts_then xs ys f.0 f.1, f.2 ∙ ap Some (append_assoc held xs f.0))
 
-begins_more : (a b : Encoding) (old new : Option (List ℕ)) → Begins a old new → Begins (followed a b) old new
+begins_more : (a b : Encoding) (old new : Option (List ℕ)) → AppendsFront (bytes_written a) old new → AppendsFront (bytes_written (followed a b)) old new
 unfolding followed
-begins_more (refused xs) b old new p held told = p held told
-begins_more (encoded xs) (refused ys) old new p held told = let f = p held told in (f.0, starts_more xs ys f.0 f.1, f.2)
+begins_more (refused xs words) b old new p held told = p held told
+begins_more (encoded xs) (refused ys words) old new p held told = let f = p held told in (f.0, starts_more xs ys f.0 f.1, f.2)
 begins_more (encoded xs) (encoded ys) old new p held told = let f = p held told in (f.0, starts_more xs ys f.0 f.1, f.2)
 
 blames_more : {E : Type 0} (a b : Encoding) (old new : Output) (e : EncodeError E) → Blames a old new e → Blames (followed a b) old new e
 unfolding followed
 blames_more a b old new (Core error) p = p
-blames_more (refused xs) b old new (Custom text) p = p
+blames_more (refused xs words) b old new (Custom text) p = p
 blames_more (encoded xs) b old new (Custom text) p = absurd p.0
 
 blames_then : {E : Type 0} (xs : List ℕ) (b : Encoding) (old mid new : Output) (e : EncodeError E) → Appends xs old.written mid.written → mid.failures ≡ old.failures → Blames b mid new e → Blames (followed (encoded xs) b) old new e
 unfolding followed
 blames_then xs b old mid new (Core error) first is p = subst (λ n. Failed n new.failures) is p
 blames_then xs (encoded ys) old mid new (Custom text) first is p = absurd p.0
-blames_then xs (refused ys) old mid new (Custom text) first is p = (appends_then xs ys old.written mid.written new.written first p.0, p.1 ∙ is)
+blames_then xs (refused ys words) old mid new (Custom text) first is p = ((appends_then xs ys old.written mid.written new.written first p.0.0, p.0.1), p.1 ∙ is)
 
 -- where one part fails, there is no other
 pub serializes_err : {T U E : Type 0} {whole : Bool} (a b : Encoding) {old new : Output} {e : EncodeError E} → Serializes {T = T} whole a old new (Err e) → Serializes {T = U} whole (followed a b) old new (Err e)
@@ -76,8 +77,8 @@ serializes_out {whole = whole} {a = a} b {old = old} {new = new} {answer = answe
 -- one part, and then another
 pub serializes_then : {T U E : Type 0} {whole : Bool} (a b : Encoding) {old mid new : Output} {t : T} (r : Result U (EncodeError E)) → Serializes {E = E} whole a old mid (Ok t) → Serializes whole b mid new r → Serializes whole (followed a b) old new r
 unfolding followed
-serializes_then (refused xs) b r p q = absurd p.appends
-serializes_then (encoded xs) (refused ys) {old = old} {mid = mid} {new = new} (Ok u) p q = absurd q.appends
+serializes_then (refused xs words) b r p q = absurd p.appends
+serializes_then (encoded xs) (refused ys words) {old = old} {mid = mid} {new = new} (Ok u) p q = absurd q.appends
 serializes_then (encoded xs) (encoded ys) {old = old} {mid = mid} {new = new} (Ok u) p q = record {
   appends = appends_then xs ys old.written mid.written new.written p.appends q.appends;
   counts = q.counts ∙ p.counts;

@@ -87,17 +87,3 @@ pub wrote_refused : {E : Type 0} {whole : Bool} (refuses : Bool) (ps qs : List (
 wrote_refused true ps qs why w = w
 wrote_refused false ps qs (inl is) w = absurd (cc)
 wrote_refused false ps qs {b = b} (inr some) w = let found = some_of b.failure some in wrote_cut qs found.0 found.1 w
-
-nothing_writes : {E : Type 0} {whole : Bool} (o : Output) (f : Option E) → f ≡ None → Writes whole [] o o (outcome f)
-nothing_writes o None is = record { appends = λ held told. told ∙ ap Some (sym (append-nil held)); counts = refl; failed = tt; front = λ whole. tt }
-nothing_writes o (Some e) is = absurd (cc)
-
-nothing_pends : {E : Type 0} (p : Pending) (f : Option E) → Pends [] p p f
-unfolding after
-nothing_pends p None = refl
-nothing_pends p (Some e) = tt
-
--- no piece
-pub wrote_nil : {E : Type 0} {whole : Bool} (a : Seen E) → Wrote whole [] a a
-unfolding written
-wrote_nil a = record { writes = λ fine. nothing_writes a.output a.failure fine; pends = λ fine. nothing_pends a.pending a.failure; stays = λ e is. refl }

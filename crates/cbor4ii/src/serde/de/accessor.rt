@@ -139,8 +139,8 @@ impl<S: Source> Deserializer<S> {
     /// # Errors
     ///
     /// As `deserialize_seq`, by the name "tuple" in the place of "seq". Besides, by that name,
-    /// `Core` of `RequireLength` with the length where it is another, and with `Indefinite` where
-    /// it is indefinite; the head is taken then.
+    /// `Core` of `RequireLength` with the length where it is another, as `Big` from 65536 on, and
+    /// with `Indefinite` where it is indefinite; the head is taken then.
     pub fn deserialize_tuple(
         &mut self,
         len: usize,

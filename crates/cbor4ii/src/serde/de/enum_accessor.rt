@@ -16,7 +16,8 @@ ghost use Rattle.std.specs.Prelude.{
 };
 ghost use Rattle.std.specs.Borrow.{sem, LendsIfOk, RestsIfErr};
 ghost use mir.Syntax.{named};
-ghost use Rattle.cbor4ii_items.specs.Moves.{Moves};
+ghost use Rattle.cbor4ii_rw.specs.Reader.{Breaks};
+ghost use Rattle.cbor4ii_items.specs.Moves.{Moves, OnRead};
 ghost use Rattle.cbor4ii_items.specs.Decoding.{IsExact, Sound, Refuses, Stops};
 ghost use Rattle.cbor4ii_items.specs.Lengths.{ReadsLength, StopsLength};
 ghost use Rattle.cbor4ii_items.specs.Refusal.{is_out_of_memory};
@@ -107,6 +108,7 @@ impl<S: Source> Deserializer<S> {
         ensures* refused { sem 𝓛 (RestsIfErr (the_row S.row) self.entry
             lender_of_enum result (λ new.
             Moves (input S.view self.old) (input S.view new) (answer_of result) ×
+            OnRead (answer_of result) (Breaks (input S.view self.old) (input S.view new)) ×
             IfErr result (λ error. Stops (StopsStepped (codes "enum") StopsForm)
             (input S.view self.old) (input S.view new) (as_core error)))) }
         ensures same_reference { IfOk result
@@ -133,6 +135,7 @@ fn begin_enum<S: Source>(reader: &mut S) -> Result<(bool, u8), core_error::Decod
     ensures opened { IfOk result (OpensEnum (S.view reader.old) (S.view reader.new)) }
     ensures moves { OnErr result (Moves (S.view reader.old) (S.view reader.new) result) }
     ensures memory { IfErr result (λ error. is_out_of_memory error ≡ false) }
+    ensures failed { OnRead result (Breaks (S.view reader.old) (S.view reader.new)) }
     ensures complete { IfErr result (Refuses (Stepped ReadsForm) (S.view reader.old)) }
     ensures stops { IfErr result (Stops (StopsStepped (codes "enum") StopsForm)
         (S.view reader.old) (S.view reader.new)) }
@@ -153,6 +156,7 @@ fn begin_enum<S: Source>(reader: &mut S) -> Result<(bool, u8), core_error::Decod
 fn take_form<S: Source>(reader: &mut S) -> Result<(bool, u8), core_error::DecodeError<S::Error>>
     ensures moves { Moves (S.view reader.old) (S.view reader.new) result }
     ensures memory { IfErr result (λ error. is_out_of_memory error ≡ false) }
+    ensures failed { OnRead result (Breaks (S.view reader.old) (S.view reader.new)) }
     ensures sound { IfOk result (Sound ReadsForm (S.view reader.old) (S.view reader.new)) }
     ensures complete { IfErr result (Refuses ReadsForm (S.view reader.old)) }
     ensures stops { IfErr result
@@ -243,7 +247,7 @@ fn begin_map_content<S: Source>(
     }
 }
 
-/// First the name, by `variant`, and then one of the others. Each of these asks which form the
+/// First the name, by `variant`, and then one of the others. Each of the others asks which form the
 /// variant has before anything else: where it has the other one, it is `Core` of `Mismatch` by the
 /// name "enum" with the first byte of the variant, and nothing is taken.
 impl<'a, S: Source> EnumAccessor<'a, S> {

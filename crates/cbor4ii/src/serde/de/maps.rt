@@ -80,7 +80,7 @@ impl<S: Source, K: Deserialize<S> + Ord + Drop, V: Deserialize<S> + Drop> Sequen
 /// key and its value.
 ///
 /// Refused as a vector of its pairs is, by the name "map" in the place of "seq" and "array". Where
-/// there is no memory for the map, it is `Core` of `OutOfMemory`, and the pairs were taken.
+/// there is no memory for the map, it is `Core` of `OutOfMemory`.
 impl<S: Source, K: Deserialize<S> + Ord + Drop, V: Deserialize<S> + Drop> Deserialize<S>
     for BTreeMap<K, V> {
     fn deserialize(

@@ -128,7 +128,8 @@ impl<'a, S: Source> SomeAccessor<'a, S> {
     }
 
     /// The deserializer that the value is read from, where one comes, for a value that a free
-    /// function reads.
+    /// function reads. Where none comes it stands behind the null or undefined, under no step: what
+    /// is read from it then is the next item.
     pub fn deserializer(&mut self) -> &mut Deserializer<S>
         ensures* writes_back { sem 𝓛 (Lends (the_some (record { mir = named 0; lft = [] })
             S.row S.Error.row)

@@ -62,9 +62,9 @@ impl<A: Typed, B: Typed> Typed for (A, B) {
 /// An array of a known length of 2, under one step, which is given back.
 ///
 /// As `Core`, by the name "tuple": `DepthOverflow` where no step is left, and nothing is taken;
-/// behind the head, `RequireLength` with a length that is not 2, or `Indefinite`. A head that is
-/// not one of an array is refused by the name "array", as every length is, and a part as the part
-/// is.
+/// behind the head, `RequireLength` with a length that is not 2, as `Big` from 65536 on, or with
+/// `Indefinite`. A head that is not one of an array is refused by the name "array", as every length
+/// is, and a part as the part is.
 impl<S: Source, A: Deserialize<S> + Drop, B: Deserialize<S>> Deserialize<S> for (A, B) {
     fn deserialize(alloc: Global, de: &mut Deserializer<S>) -> Result<(A, B), DecodeError<S::Error>>
         ensures moves { Moves (input S.view de.old) (input S.view de.new) (answer_of result) }

@@ -1,5 +1,5 @@
 use Rattle.std.proofs.Common.{inl, refl}
-use Rattle.cbor4ii.proofs.Backs.{some_read_back}
+use Rattle.cbor4ii.proofs.Backs.{some_read_back, null_read_back}
 use Rattle.cbor4ii.proofs.serde.laws.wrapped_values_are_read_back.Goals as goal
 
 pub returns-clause-boxed : goal.returns-clause-boxed
@@ -10,3 +10,6 @@ returns-clause-none g c rest = (inl refl, refl, refl)
 
 pub returns-clause-some : goal.returns-clause-some
 returns-clause-some g c v cost back other = some_read_back g.T.Typed.reads (g.T.Serialize.item v) v cost back other
+
+pub returns-clause-null : goal.returns-clause-null
+returns-clause-null g c v null = null_read_back g.T.Typed.reads (g.T.Serialize.item v) null

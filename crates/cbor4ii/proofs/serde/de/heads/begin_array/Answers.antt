@@ -1,7 +1,7 @@
 use Rattle.std.proofs.Common.{ap, sym, arith, Err}
 use Rattle.cbor4ii_items.specs.Laws.Steps.{moves_err}
 use Rattle.cbor4ii_items.specs.Laws.UnderStep.{moves_stepped}
-use Rattle.cbor4ii.specs.Accessing.{left_of}
+use Rattle.cbor4ii.specs.Accessing.{left_behind}
 use Rattle.cbor4ii.proofs.Steps.{refuses_stepped, stops_stepped}
 use Rattle.cbor4ii.proofs.serde.de.heads.begin_array.Goals as goal
 
@@ -23,7 +23,7 @@ returns-in-Ok-Some-clause-opened g c = record {
   progress = omega (arith, c.in-Ok-Some.ensures.progress, c.step_in.ensures.others.bound);
   length = c.in-Ok-Some.field-0;
   head = c.in-Ok-Some.ensures.sound;
-  begun = sym (ap left_of c.in-Ok-Some.field-0-is);
+  begun = sym (ap left_behind c.in-Ok-Some.field-0-is);
 }
 
 pub returns-in-Ok-None-clause-opened : goal.returns-in-Ok-None-clause-opened
@@ -35,5 +35,5 @@ returns-in-Ok-None-clause-opened g c = record {
   progress = omega (arith, c.in-Ok-None.ensures.progress, c.step_in.ensures.others.bound);
   length = c.in-Ok-None.field-0;
   head = c.in-Ok-None.ensures.sound;
-  begun = sym (ap left_of c.in-Ok-None.field-0-is);
+  begun = sym (ap left_behind c.in-Ok-None.field-0-is);
 }
