@@ -1,8 +1,8 @@
 use Rattle.std.proofs.Common.{rules, arith, ℕ, ◌≤◌, List, [], ◌∷◌, length, slice_index_or, subst}
-use Rattle.std.proofs.Common.{ap}
+use Rattle.std.proofs.Common.{ap, ◌∙◌}
 use Rattle.std.specs.Prelude.{MatchOption}
 use Rattle.std.specs.Io.{StartsWith}
-use Rattle.cbor4ii_rw.specs.Reader.{Shows, Breaks}
+use Rattle.cbor4ii_rw.specs.Reader.{Shows, Breaks, counts}
 use Rattle.cbor4ii_rw.proofs.ask.next_byte.Goals as goal
 
 first_begins : (bytes xs : List ℕ) → 1 ≤ length bytes → StartsWith xs bytes
@@ -29,7 +29,7 @@ returns-clause-byte g c =
       bound = omega (arith, by.bound, shows.bound);
       budget = cc (by.budget, shows.budget);
       failures = cc (by.failures, shows.failures);
-      taken = search (by.taken, shows.taken, rules);
+      taken = by.taken ∙ ap (counts 1) shows.taken;
       lends_whole = λ is. by.lends_whole (shows.lends_whole is);
       remembers = λ is. by.remembers (shows.remembers is);
     }
