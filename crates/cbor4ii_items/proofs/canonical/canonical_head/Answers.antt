@@ -11,3 +11,12 @@ returns-clause-complete g c = leaf_complete (shortest_leaf c.args.name.now _ (om
 
 pub returns-clause-stops : goal.returns-clause-stops
 returns-clause-stops g c = leaf_stops (shortest_leaf _ _ (omega (arith, c.requires))) c.take_shortest.result c.take_shortest.ensures.runs
+
+pub returns-clause-moves : goal.returns-clause-moves
+returns-clause-moves g c = c.take_shortest.ensures.runs.moves
+
+pub returns-clause-memory : goal.returns-clause-memory
+returns-clause-memory g c = c.take_shortest.ensures.memory
+
+pub returns-clause-progress : goal.returns-clause-progress
+returns-clause-progress g c = c.take_shortest.ensures.progress

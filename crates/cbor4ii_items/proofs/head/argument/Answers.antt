@@ -1,4 +1,4 @@
-use Rattle.std.proofs.Common.{arith, sym, ◌≤◌}
+use Rattle.std.proofs.Common.{rules, arith, sym, ◌≤◌}
 use Rattle.cbor4ii_items.specs.Laws.ReadingHeads.{small_argument, allowed_le, wider}
 use Rattle.cbor4ii_items.proofs.head.argument.Goals as goal
 
@@ -9,3 +9,6 @@ pub returns-clause-fits : goal.returns-clause-fits
 returns-clause-fits g c h =
     let le : c.following.result ≤ c.args.width = rw c.following.ensures (allowed_le _ _ (sym c.if-not-allowed.ensures)) in
     wider _ _ _ le c.in_ok-number.ensures.fits
+
+pub returns-clause-runs : goal.returns-clause-runs
+returns-clause-runs g c = search rules

@@ -1,4 +1,4 @@
-use Rattle.std.proofs.Common.{true, false}
+use Rattle.std.proofs.Common.{true, false, refl}
 use Rattle.std.proofs.lemmas.Result.{err_from_is_err_and}
 use Rattle.cbor4ii_items.proofs.NextByte.{open_says, open_refuses}
 use Rattle.cbor4ii_items.proofs.indefinite.follows.Goals as goal
@@ -14,3 +14,6 @@ returns-then-branch-clause-sound g c = open_says false c.in-None.is c.if-branch.
 
 pub returns-else-branch-clause-sound : goal.returns-else-branch-clause-sound
 returns-else-branch-clause-sound g c = open_says true c.in-None.is c.if-branch.false c.in_ok-is_break-in-None.ensures.sound
+
+pub returns-in-Some-clause-left : goal.returns-in-Some-clause-left
+returns-in-Some-clause-left g c = rw c.in-Some.is refl

@@ -1,6 +1,13 @@
+use Rattle.std.proofs.Common.{rules}
 use Rattle.cbor4ii_items.specs.Laws.Running.{runs_byte}
 use Rattle.cbor4ii_items.specs.Laws.Breaks.{runs_break}
 use Rattle.cbor4ii_items.proofs.indefinite.take_break.Goals as goal
 
 pub returns-then-byte-clause-runs : goal.returns-then-byte-clause-runs
 returns-then-byte-clause-runs g c = runs_break c.if-byte.true (runs_byte c.in_ok-byte.ensures.runs c.in_ok-byte.ensures.byte c.advance.ensures)
+
+pub returns-then-byte-clause-memory : goal.returns-then-byte-clause-memory
+returns-then-byte-clause-memory g c = tt
+
+pub returns-then-byte-clause-failed : goal.returns-then-byte-clause-failed
+returns-then-byte-clause-failed g c = search rules

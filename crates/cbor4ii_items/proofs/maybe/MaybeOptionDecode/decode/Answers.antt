@@ -39,3 +39,12 @@ returns-in_err-take_maybe_head-clause-begins g c =
 
 pub returns-in-Err-clause-begins : goal.returns-in-Err-clause-begins
 returns-in-Err-clause-begins g c = maybe_stops _ _ _ _ _ _ c.if-not-branch.false c.in_ok-take_maybe_head.ensures.runs.moves.by c.in_ok-take_maybe_head.ensures.sound (λ xs told. c.in-Err.ensures.begins)
+
+pub returns-then-not-branch-clause-complete : goal.returns-then-not-branch-clause-complete
+returns-then-not-branch-clause-complete g c exact = tt
+
+pub returns-then-not-branch-clause-stops : goal.returns-then-not-branch-clause-stops
+returns-then-not-branch-clause-stops g c exact = tt
+
+pub returns-then-not-branch-clause-begins : goal.returns-then-not-branch-clause-begins
+returns-then-not-branch-clause-begins g c = tt

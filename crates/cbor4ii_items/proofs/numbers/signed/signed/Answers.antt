@@ -1,4 +1,4 @@
-use Rattle.std.proofs.Common.{[], arith}
+use Rattle.std.proofs.Common.{rules, [], arith}
 use Rattle.cbor4ii_items.proofs.WholeHeads.{found_some, found_none, runs_stayed, progress_stayed, runs_broke}
 use Rattle.cbor4ii_items.proofs.SignedRuns.{plus_read, plus_refused, positive_is}
 use Rattle.cbor4ii_items.proofs.numbers.signed.signed.Goals as goal
@@ -19,3 +19,9 @@ returns-in-Ok-None-clause-progress g c = progress_stayed _ _ (found_none _ _ _ c
 
 pub returns-in-Err-clause-runs : goal.returns-in-Err-clause-runs
 returns-in-Err-clause-runs g c = runs_broke (c.in-Err.ensures.runs [])
+
+pub returns-else-argument-limit-clause-range : goal.returns-else-argument-limit-clause-range
+returns-else-argument-limit-clause-range g c = search rules
+
+pub returns-in-Ok-None-clause-range : goal.returns-in-Ok-None-clause-range
+returns-in-Ok-None-clause-range g c = c.signed_below_zero.ensures.range

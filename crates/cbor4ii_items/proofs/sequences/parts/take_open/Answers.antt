@@ -72,3 +72,6 @@ returns-in_err-add_part-clause-begins g c =
     let p = err_from_is_err_and c.from_residual-in_err-add_part.result c.from_residual-in_err-add_part.ensures.1 in
     let kept = kept_then c.loop-parts.invariant.kept c.in_ok-take_break.ensures.runs.moves.by in
     rw (p.1, p.2) (open_stops _ _ _ _ (sym c.if-not-is_part_never_empty.ensures) c.loop-parts.invariant (stands c.if-not-branch.true c.in_ok-take_break.ensures.runs) (λ xs told. c.in_err-add_part.ensures.begins))
+
+pub returns-then-not-is_part_never_empty-clause-sound : goal.returns-then-not-is_part_never_empty-clause-sound
+returns-then-not-is_part_never_empty-clause-sound g c = tt

@@ -1,3 +1,4 @@
+use Rattle.std.proofs.Common.{rules}
 use Rattle.cbor4ii_items.proofs.SequenceAnswers.{stepped_sound, stepped_refuses, stepped_stops}
 use Rattle.cbor4ii_items.proofs.sequences.parts.take_sequence.Goals as goal
 use Rattle.cbor4ii_items.specs.Laws.UnderStep.{exact_step, moves_stepped}
@@ -19,3 +20,12 @@ returns-clause-stops g c exact =
 pub returns-clause-begins : goal.returns-clause-begins
 returns-clause-begins g c =
     stepped_stops _ _ _ c.take_inside-outcome.result _ _ c.if-not-step_in.ensures.budget c.step_in.ensures.others _ _ _ _ c.step_out.ensures.others (c.take_inside-outcome.ensures.begins)
+
+pub returns-then-not-step_in-clause-moves : goal.returns-then-not-step_in-clause-moves
+returns-then-not-step_in-clause-moves g c = search rules
+
+pub returns-then-not-step_in-clause-progress : goal.returns-then-not-step_in-clause-progress
+returns-then-not-step_in-clause-progress g c = tt
+
+pub returns-then-not-step_in-clause-sound : goal.returns-then-not-step_in-clause-sound
+returns-then-not-step_in-clause-sound g c = tt

@@ -25,3 +25,6 @@ returns-clause-complete g c = utf8_refuses text_content (λ u. let f = c.in-Err.
 
 pub returns-clause-stops : goal.returns-clause-stops
 returns-clause-stops g c = utf8_stops (λ u. let f = c.in-Err.ensures.succeeds u in cc) c.in_ok-lone_string.ensures.sound
+
+pub returns-clause-sound : goal.returns-clause-sound
+returns-clause-sound g c = tt
