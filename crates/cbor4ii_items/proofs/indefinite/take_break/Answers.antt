@@ -1,4 +1,4 @@
-use Rattle.std.proofs.Common.{rules}
+use Rattle.std.proofs.Common.{IsTrue, false}
 use Rattle.cbor4ii_items.specs.Laws.Running.{runs_byte}
 use Rattle.cbor4ii_items.specs.Laws.Breaks.{runs_break}
 use Rattle.cbor4ii_items.proofs.indefinite.take_break.Goals as goal
@@ -10,4 +10,4 @@ pub returns-then-byte-clause-memory : goal.returns-then-byte-clause-memory
 returns-then-byte-clause-memory g c = tt
 
 pub returns-then-byte-clause-failed : goal.returns-then-byte-clause-failed
-returns-then-byte-clause-failed g c = search rules
+returns-then-byte-clause-failed g c = λ (f : IsTrue false). absurd (cc)

@@ -4,4 +4,5 @@ use Rattle.cbor4ii_items.proofs.Leaves.{sound_as}
 use Rattle.cbor4ii_items.proofs.floats.F16Decode.decode.Goals as goal
 
 pub returns-clause-sound : goal.returns-clause-sound
-returns-clause-sound g c = sound_as (ReadsFloat 0xf9 2) (λ v. v.0) refl c.in_ok-lone_float.ensures.sound
+returns-clause-sound g c =
+    sound_as (ReadsFloat 0xf9 2) (λ v. v.0) refl c.in_ok-lone_float.ensures.sound
