@@ -1,4 +1,4 @@
-use Rattle.std.proofs.Common.{refl, ◌-◌, ◌*◌, ◌∙◌, arith}
+use Rattle.std.proofs.Common.{refl, ◌-◌, ◌*◌, ◌∙◌, arith, rules}
 use Rattle.cbor4ii_tree.specs.Skipping.{SkipsItems, StopsItems, SkipsOpen, StopsOpen, SkipsMembers, StopsMembers}
 use Rattle.cbor4ii_tree.specs.Ahead.{StopsSomeUnder, GoesUnder}
 use Rattle.cbor4ii_tree.specs.declared.skip.Behind.TheVariants as behind
@@ -50,6 +50,15 @@ skip_some-returns-clause-progress g t c =
     let inward = moved c.args.front.now _ _ c.step_in.ensures.others in
     let outward = moved c.some_inside-outcome.new.front _ _ c.step_out.ensures.others in
     progress_around _ _ _ _ _ c.some_inside-outcome.ensures.progress (omega (arith, inward.bound)) (omega (arith, outward.bound))
+
+pub skip_some-returns-clause-spares : goal.skip_some-returns-clause-spares
+skip_some-returns-clause-spares g t c = c.some_inside-outcome.ensures.spares
+
+pub skip_some-returns-clause-counts : goal.skip_some-returns-clause-counts
+skip_some-returns-clause-counts g t c = c.some_inside-outcome.ensures.counts
+
+pub skip_some-returns-clause-stays : goal.skip_some-returns-clause-stays
+skip_some-returns-clause-stays g t c = λ apart. keeps_then c.step_in.ensures.others (keeps_then (c.some_inside-outcome.ensures.stays apart) c.step_out.ensures.others)
 
 pub go_some-returns-in-None-clause-does : goal.go_some-returns-in-None-clause-does
 go_some-returns-in-None-clause-does g t c = not_ran c.args.among (GoesUnder c.args.among (g.F.Front.view c.args.front.now c.args.reader.now).budget) (StopsSomeUnder c.args.among (g.F.Front.view c.args.front.now c.args.reader.now).budget) c.in-None.ensures.does
@@ -115,6 +124,12 @@ skip_next-returns-then-depth-lt18446744073709551615-clause-does g t c =
     let same = g.met.F.Front.same_budget in
     let moved = g.met.F.Front.moved in
     gone_into c.args.left (same _ _) (same _ _) c.if-not-step_in.ensures.budget (moved _ _ _ c.step_in.ensures.others) c.in-Some-Into.count (omega (arith, c.if-left-eq1.true)) c.in-Some-Into.field-0-is c.in-Some-Into.ensures.does
+
+pub skip_next-returns-then-depth-lt18446744073709551615-clause-deeper : goal.skip_next-returns-then-depth-lt18446744073709551615-clause-deeper
+skip_next-returns-then-depth-lt18446744073709551615-clause-deeper g t c = search rules
+
+pub skip_next-returns-then-depth-lt18446744073709551615-clause-stays : goal.skip_next-returns-then-depth-lt18446744073709551615-clause-stays
+skip_next-returns-then-depth-lt18446744073709551615-clause-stays g t c = λ apart. keeps_then c.step_in.ensures.others (c.in-Some-Into.ensures.stays apart)
 
 pub skip_next-returns-then-done-clause-does : goal.skip_next-returns-then-done-clause-does
 skip_next-returns-then-done-clause-does g t c =

@@ -89,6 +89,15 @@ pub returns-in-Open-clause-does : goal.returns-in-Open-clause-does
 returns-in-Open-clause-does g c =
     first_alone (g.F.Front.view c.args.front.now c.args.reader.now).budget (reached_first ignored_any 1 c.in_ok-first.first c.in_ok-first.ensures.runs c.in_ok-first.ensures.byte (c.take_first.ensures.takes (takes start.Open c.in-Open.is tt))) behind.Open (open_leads (g.F.Front.view c.args.front.now c.args.reader.now).budget c.in_ok-first.first c.in_ok-first.ensures.byte (sym c.start_of-start.ensures ∙ c.in-Open.is))
 
+pub returns-in-Open-clause-spares : goal.returns-in-Open-clause-spares
+returns-in-Open-clause-spares g c = tt
+
+pub returns-in-Open-clause-progress : goal.returns-in-Open-clause-progress
+returns-in-Open-clause-progress g c = omega (arith, c.in_ok-first.ensures.runs.moves.by.bound, (c.take_first.ensures.takes (takes start.Open c.in-Open.is tt)).bound)
+
+pub returns-in-Open-clause-stays : goal.returns-in-Open-clause-stays
+returns-in-Open-clause-stays g c = λ apart. c.take_first.ensures.stays apart ∙ c.in_ok-first.ensures.stays apart
+
 pub returns-in-OpenMembers-clause-does : goal.returns-in-OpenMembers-clause-does
 returns-in-OpenMembers-clause-does g c =
     first_alone (g.F.Front.view c.args.front.now c.args.reader.now).budget (reached_first ignored_any 1 c.in_ok-first.first c.in_ok-first.ensures.runs c.in_ok-first.ensures.byte (c.take_first.ensures.takes (takes start.OpenMembers c.in-OpenMembers.is tt))) behind.OpenMembers (open_members_leads (g.F.Front.view c.args.front.now c.args.reader.now).budget c.in_ok-first.first c.in_ok-first.ensures.byte (sym c.start_of-start.ensures ∙ c.in-OpenMembers.is))
