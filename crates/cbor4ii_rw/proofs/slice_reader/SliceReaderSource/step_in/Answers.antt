@@ -2,4 +2,4 @@ use Rattle.std.proofs.Common.{rules}
 use Rattle.cbor4ii_rw.proofs.slice_reader.SliceReaderSource.step_in.Goals as goal
 
 pub returns : goal.returns
-returns c = record { budget = c.step_in.ensures; others = search rules }
+returns c = search rules
