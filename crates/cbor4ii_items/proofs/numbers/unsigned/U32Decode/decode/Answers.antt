@@ -1,0 +1,4 @@
+use Rattle.cbor4ii_items.proofs.numbers.unsigned.U32Decode.decode.Goals as goal
+
+pub returns-clause-sound : goal.returns-clause-sound
+returns-clause-sound g c = c.in_ok-lone_head.ensures.sound
