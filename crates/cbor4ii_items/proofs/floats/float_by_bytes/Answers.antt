@@ -1,7 +1,7 @@
 use Rattle.std.proofs.Common.{◌<◌, ◌^◌, arith}
 use Rattle.std.proofs.lemmas.Result.{err_from_is_err_and}
 use Rattle.cbor4ii_items.specs.ReadHead.{number_on}
-use Rattle.cbor4ii_items.specs.Laws.Running.{runs_then}
+use Rattle.cbor4ii_items.specs.Laws.Running.{runs_err, runs_then}
 use Rattle.cbor4ii_items.specs.Laws.ReadingHeads.{wider}
 use Rattle.cbor4ii_items.proofs.floats.float_by_bytes.Goals as goal
 
@@ -15,3 +15,8 @@ overflow_cast-result g c = let h : c.in_ok-number.field-0 < 256 ^ 8 = wider _ _ 
 
 pub returns-clause-runs : goal.returns-clause-runs
 returns-clause-runs g c = runs_then (λ b. number_on c.args.name.now c.args.bytes c.args.bytes 0) c.in_ok-marked.ensures.runs c.in_ok-number.ensures.runs
+
+pub returns-in_err-marked-clause-runs : goal.returns-in_err-marked-clause-runs
+returns-in_err-marked-clause-runs g c =
+    let p = err_from_is_err_and c.from_residual.result c.from_residual.ensures.1 in
+    rw (p.1, p.2) (runs_err _ c.in_err-marked.ensures.runs)

@@ -33,3 +33,8 @@ returns-in_err-tag-clause-runs g c =
 
 pub returns-clause-runs : goal.returns-clause-runs
 returns-clause-runs g c = runs_i128_tag _ (λ e. c.if-major-eq-UNSIGNED.false (c.if_major-major.ensures ∙ e)) (λ e. c.if-major-eq-NEGATIVE.false (c.if_major-major.ensures ∙ e)) c.in_ok-peek.ensures.runs (runs_then signed_bignum_at c.in_ok-tag.ensures.runs c.signed_bignum.ensures.runs)
+
+pub returns-in_err-peek-clause-runs : goal.returns-in_err-peek-clause-runs
+returns-in_err-peek-clause-runs g c =
+    let p = err_from_is_err_and c.from_residual.result c.from_residual.ensures.1 in
+    rw (p.1, p.2) (runs_err _ c.in_err-peek.ensures.runs)

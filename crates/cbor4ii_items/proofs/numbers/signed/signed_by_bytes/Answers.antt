@@ -25,3 +25,8 @@ pub returns-in_ok-argument-in-1-clause-runs : goal.returns-in_ok-argument-in-1-c
 returns-in_ok-argument-in-1-clause-runs g c =
     let e = negative_is c.negative.result c.in_ok-argument-in-1.argument (omega (arith, c.in_ok-argument-in-1.ensures.below, c.requires)) c.negative.ensures in
     runs_negative _ _ _ _ _ _ (sym c.if_major.ensures ∙ c.in-1.is) c.in_ok-first.ensures.runs (runs_with negsuc e c.in_ok-argument-in-1.ensures.runs)
+
+pub returns-in_err-first-clause-runs : goal.returns-in_err-first-clause-runs
+returns-in_err-first-clause-runs g c =
+    let p = err_from_is_err_and c.from_residual.result c.from_residual.ensures.1 in
+    rw (p.1, p.2) (runs_err _ c.in_err-first.ensures.runs)
