@@ -9,3 +9,13 @@ returns-in_err-lone_head-clause-complete g c exact =
 
 pub returns-clause-sound : goal.returns-clause-sound
 returns-clause-sound g c = negative_sound c.in_ok-lone_head.ensures.sound
+
+pub returns-in_err-lone_head-clause-stops : goal.returns-in_err-lone_head-clause-stops
+returns-in_err-lone_head-clause-stops g c exact =
+    let p = err_from_is_err_and c.from_residual.result c.from_residual.ensures.1 in
+    rw (p.1, p.2) c.in_err-lone_head.ensures.stops
+
+pub returns-in_err-lone_head-clause-begins : goal.returns-in_err-lone_head-clause-begins
+returns-in_err-lone_head-clause-begins g c =
+    let p = err_from_is_err_and c.from_residual.result c.from_residual.ensures.1 in
+    rw (p.1, p.2) c.in_err-lone_head.ensures.stops
