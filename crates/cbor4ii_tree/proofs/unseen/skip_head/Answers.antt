@@ -109,3 +109,103 @@ returns-in-Taken-clause-does g c =
 pub returns-in-NoTag-clause-does : goal.returns-in-NoTag-clause-does
 returns-in-NoTag-clause-does g c =
     first_refused (g.F.Front.view c.args.front.now c.args.reader.now).budget (reached_first ignored_any 1 c.in_ok-first.first c.in_ok-first.ensures.runs c.in_ok-first.ensures.byte (c.take_first.ensures.takes (takes start.NoTag c.in-NoTag.is tt))) (mismatch tag_name c.in_ok-first.first) refl refl refl (λ bs. no_tag (g.F.Front.view c.args.front.now c.args.reader.now).budget c.in_ok-first.first bs (sym c.start_of-start.ensures ∙ c.in-NoTag.is))
+
+pub returns-in_err-argument-in-Content-clause-spares : goal.returns-in_err-argument-in-Content-clause-spares
+returns-in_err-argument-in-Content-clause-spares g c =
+    let p = err_from_is_err_and c.from_residual-in_err-argument-in-Content.result c.from_residual-in_err-argument-in-Content.ensures.1 in
+    rw (p.1, p.2) c.in_err-argument-in-Content.ensures.spares
+
+pub returns-in_err-argument-in-Content-clause-stays : goal.returns-in_err-argument-in-Content-clause-stays
+returns-in_err-argument-in-Content-clause-stays g c = λ apart. c.in_err-argument-in-Content.ensures.stays apart ∙ (c.take_first.ensures.stays apart ∙ c.in_ok-first.ensures.stays apart)
+
+pub returns-in_ok-argument-in-Content-clause-spares : goal.returns-in_ok-argument-in-Content-clause-spares
+returns-in_ok-argument-in-Content-clause-spares g c = tt
+
+pub returns-in_ok-argument-in-Content-clause-stays : goal.returns-in_ok-argument-in-Content-clause-stays
+returns-in_ok-argument-in-Content-clause-stays g c = λ apart. c.in_ok-argument-in-Content.ensures.stays apart ∙ (c.take_first.ensures.stays apart ∙ c.in_ok-first.ensures.stays apart)
+
+pub returns-in_err-argument-in-Items-clause-spares : goal.returns-in_err-argument-in-Items-clause-spares
+returns-in_err-argument-in-Items-clause-spares g c =
+    let p = err_from_is_err_and c.from_residual-in_err-argument-in-Items.result c.from_residual-in_err-argument-in-Items.ensures.1 in
+    rw (p.1, p.2) c.in_err-argument-in-Items.ensures.spares
+
+pub returns-in_err-argument-in-Items-clause-stays : goal.returns-in_err-argument-in-Items-clause-stays
+returns-in_err-argument-in-Items-clause-stays g c = λ apart. c.in_err-argument-in-Items.ensures.stays apart ∙ (c.take_first.ensures.stays apart ∙ c.in_ok-first.ensures.stays apart)
+
+pub returns-in_ok-argument-in-Items-clause-spares : goal.returns-in_ok-argument-in-Items-clause-spares
+returns-in_ok-argument-in-Items-clause-spares g c = tt
+
+pub returns-in_ok-argument-in-Items-clause-stays : goal.returns-in_ok-argument-in-Items-clause-stays
+returns-in_ok-argument-in-Items-clause-stays g c = λ apart. c.in_ok-argument-in-Items.ensures.stays apart ∙ (c.take_first.ensures.stays apart ∙ c.in_ok-first.ensures.stays apart)
+
+pub returns-in_err-argument-in-Members-clause-spares : goal.returns-in_err-argument-in-Members-clause-spares
+returns-in_err-argument-in-Members-clause-spares g c =
+    let p = err_from_is_err_and c.from_residual-in_err-argument-in-Members.result c.from_residual-in_err-argument-in-Members.ensures.1 in
+    rw (p.1, p.2) c.in_err-argument-in-Members.ensures.spares
+
+pub returns-in_err-argument-in-Members-clause-stays : goal.returns-in_err-argument-in-Members-clause-stays
+returns-in_err-argument-in-Members-clause-stays g c = λ apart. c.in_err-argument-in-Members.ensures.stays apart ∙ (c.take_first.ensures.stays apart ∙ c.in_ok-first.ensures.stays apart)
+
+pub returns-in_ok-argument-in-Members-clause-spares : goal.returns-in_ok-argument-in-Members-clause-spares
+returns-in_ok-argument-in-Members-clause-spares g c = tt
+
+pub returns-in_ok-argument-in-Members-clause-stays : goal.returns-in_ok-argument-in-Members-clause-stays
+returns-in_ok-argument-in-Members-clause-stays g c = λ apart. c.in_ok-argument-in-Members.ensures.stays apart ∙ (c.take_first.ensures.stays apart ∙ c.in_ok-first.ensures.stays apart)
+
+pub returns-in_err-argument-in-Tag-clause-spares : goal.returns-in_err-argument-in-Tag-clause-spares
+returns-in_err-argument-in-Tag-clause-spares g c =
+    let p = err_from_is_err_and c.from_residual-in_err-argument-in-Tag.result c.from_residual-in_err-argument-in-Tag.ensures.1 in
+    rw (p.1, p.2) c.in_err-argument-in-Tag.ensures.spares
+
+pub returns-in_err-argument-in-Tag-clause-stays : goal.returns-in_err-argument-in-Tag-clause-stays
+returns-in_err-argument-in-Tag-clause-stays g c = λ apart. c.in_err-argument-in-Tag.ensures.stays apart ∙ (c.take_first.ensures.stays apart ∙ c.in_ok-first.ensures.stays apart)
+
+pub returns-in_ok-argument-in-Tag-clause-spares : goal.returns-in_ok-argument-in-Tag-clause-spares
+returns-in_ok-argument-in-Tag-clause-spares g c = tt
+
+pub returns-in_ok-argument-in-Tag-clause-stays : goal.returns-in_ok-argument-in-Tag-clause-stays
+returns-in_ok-argument-in-Tag-clause-stays g c = λ apart. c.in_ok-argument-in-Tag.ensures.stays apart ∙ (c.take_first.ensures.stays apart ∙ c.in_ok-first.ensures.stays apart)
+
+pub returns-in-NoTag-clause-spares : goal.returns-in-NoTag-clause-spares
+returns-in-NoTag-clause-spares g c = refl
+
+pub returns-in-NoTag-clause-stays : goal.returns-in-NoTag-clause-stays
+returns-in-NoTag-clause-stays g c = λ apart. c.take_first.ensures.stays apart ∙ c.in_ok-first.ensures.stays apart
+
+pub returns-in-Taken-clause-spares : goal.returns-in-Taken-clause-spares
+returns-in-Taken-clause-spares g c = refl
+
+pub returns-in-Taken-clause-stays : goal.returns-in-Taken-clause-stays
+returns-in-Taken-clause-stays g c = λ apart. c.take_first.ensures.stays apart ∙ c.in_ok-first.ensures.stays apart
+
+pub returns-in-Stays-clause-spares : goal.returns-in-Stays-clause-spares
+returns-in-Stays-clause-spares g c = refl
+
+pub returns-in-Stays-clause-stays : goal.returns-in-Stays-clause-stays
+returns-in-Stays-clause-stays g c = λ apart. c.take_first.ensures.stays apart ∙ c.in_ok-first.ensures.stays apart
+
+pub returns-in-Unsupported-clause-spares : goal.returns-in-Unsupported-clause-spares
+returns-in-Unsupported-clause-spares g c = refl
+
+pub returns-in-Unsupported-clause-stays : goal.returns-in-Unsupported-clause-stays
+returns-in-Unsupported-clause-stays g c = λ apart. c.take_first.ensures.stays apart ∙ c.in_ok-first.ensures.stays apart
+
+pub returns-in-OpenMembers-clause-spares : goal.returns-in-OpenMembers-clause-spares
+returns-in-OpenMembers-clause-spares g c = tt
+
+pub returns-in-OpenMembers-clause-stays : goal.returns-in-OpenMembers-clause-stays
+returns-in-OpenMembers-clause-stays g c = λ apart. c.take_first.ensures.stays apart ∙ c.in_ok-first.ensures.stays apart
+
+pub returns-in_err-skip_bytes-in-Bytes-clause-spares : goal.returns-in_err-skip_bytes-in-Bytes-clause-spares
+returns-in_err-skip_bytes-in-Bytes-clause-spares g c =
+    let p = err_from_is_err_and c.from_residual-in_err-skip_bytes-in-Bytes.result c.from_residual-in_err-skip_bytes-in-Bytes.ensures.1 in
+    rw (p.1, p.2) c.in_err-skip_bytes-in-Bytes.ensures.spares
+
+pub returns-in_err-skip_bytes-in-Bytes-clause-stays : goal.returns-in_err-skip_bytes-in-Bytes-clause-stays
+returns-in_err-skip_bytes-in-Bytes-clause-stays g c = λ apart. c.in_err-skip_bytes-in-Bytes.ensures.stays apart ∙ (c.take_first.ensures.stays apart ∙ c.in_ok-first.ensures.stays apart)
+
+pub returns-in_ok-skip_bytes-in-Bytes-clause-spares : goal.returns-in_ok-skip_bytes-in-Bytes-clause-spares
+returns-in_ok-skip_bytes-in-Bytes-clause-spares g c = tt
+
+pub returns-in_ok-skip_bytes-in-Bytes-clause-stays : goal.returns-in_ok-skip_bytes-in-Bytes-clause-stays
+returns-in_ok-skip_bytes-in-Bytes-clause-stays g c = λ apart. c.in_ok-skip_bytes-in-Bytes.ensures.stays apart ∙ (c.take_first.ensures.stays apart ∙ c.in_ok-first.ensures.stays apart)
