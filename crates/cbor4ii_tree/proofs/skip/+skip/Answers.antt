@@ -269,3 +269,343 @@ skip_open_members-loop-some-preserved g t c = record {
   reached = more_some SkippedPairs c.loop-some.invariant.reached among.OpenPairs c.in-Some.some (SkippedPairs (g.F.Front.view c.args.front.now c.args.reader.now).budget) (λ xs ys zs h s. pairs_join c.in-Some.some (g.F.Front.view c.args.front.now c.args.reader.now).budget xs ys zs (omega (arith, c.if-some-eq1.false)) h s) (omega (arith, c.if-some-eq0.false)) c.in-Some.ensures.does;
   stays = λ apart. keeps_then (c.loop-some.invariant.stays apart) (c.in-Some.ensures.stays apart);
 }
+
+pub skip_one-returns-in-Some-clause-spares : goal.skip_one-returns-in-Some-clause-spares
+skip_one-returns-in-Some-clause-spares g t c = tt
+
+pub skip_one-returns-in-Some-clause-stays : goal.skip_one-returns-in-Some-clause-stays
+skip_one-returns-in-Some-clause-stays g t c = c.in-Some.ensures.stays
+
+pub skip_one-returns-in-None-clause-spares : goal.skip_one-returns-in-None-clause-spares
+skip_one-returns-in-None-clause-spares g t c = c.in-None.ensures.spares
+
+pub skip_one-returns-in-None-clause-stays : goal.skip_one-returns-in-None-clause-stays
+skip_one-returns-in-None-clause-stays g t c = c.in-None.ensures.stays
+
+pub skip_some-returns-then-not-step_in-clause-spares : goal.skip_some-returns-then-not-step_in-clause-spares
+skip_some-returns-then-not-step_in-clause-spares g t c = c.skip_without_step.ensures.spares
+
+pub skip_some-returns-then-not-step_in-clause-counts : goal.skip_some-returns-then-not-step_in-clause-counts
+skip_some-returns-then-not-step_in-clause-counts g t c = c.skip_without_step.ensures.counts
+
+pub some_inside-returns-in-Some-Past-clause-does : goal.some_inside-returns-in-Some-Past-clause-does
+some_inside-returns-in-Some-Past-clause-does g t c = was_past c.args.among c.in-Some-Past.count c.in-Some-Past.field-0-is c.in-Some-Past.ensures.does
+
+pub some_inside-returns-in-Some-Past-clause-spares : goal.some_inside-returns-in-Some-Past-clause-spares
+some_inside-returns-in-Some-Past-clause-spares g t c = tt
+
+pub some_inside-returns-in-Some-Past-clause-counts : goal.some_inside-returns-in-Some-Past-clause-counts
+some_inside-returns-in-Some-Past-clause-counts g t c = counts_past c.args.among c.in-Some-Past.count c.in-Some-Past.field-0-is c.in-Some-Past.ensures.counts
+
+pub some_inside-returns-in-Some-Past-clause-progress : goal.some_inside-returns-in-Some-Past-clause-progress
+some_inside-returns-in-Some-Past-clause-progress g t c = rw c.in-Some-Past.field-0-is at c.in-Some-Past.ensures.progress
+
+pub some_inside-returns-in-Some-Past-clause-stays : goal.some_inside-returns-in-Some-Past-clause-stays
+some_inside-returns-in-Some-Past-clause-stays g t c = c.in-Some-Past.ensures.stays
+
+pub some_inside-returns-then-skip_items-clause-spares : goal.some_inside-returns-then-skip_items-clause-spares
+some_inside-returns-then-skip_items-clause-spares g t c = tt
+
+pub some_inside-returns-then-skip_items-clause-counts : goal.some_inside-returns-then-skip_items-clause-counts
+some_inside-returns-then-skip_items-clause-counts g t c = counts_one c.args.among c.requires
+
+pub some_inside-returns-then-skip_items-clause-progress : goal.some_inside-returns-then-skip_items-clause-progress
+some_inside-returns-then-skip_items-clause-progress g t c =
+    let gained = rw c.in-Some-Into.field-0-is at c.in-Some-Into.ensures.progress in
+    λ _. omega (arith, gained, c.if-skip_items.ensures.does.moves.by.bound)
+
+pub some_inside-returns-then-skip_items-clause-stays : goal.some_inside-returns-then-skip_items-clause-stays
+some_inside-returns-then-skip_items-clause-stays g t c = λ apart. keeps_then (c.in-Some-Into.ensures.stays apart) (c.if-skip_items.ensures.stays apart)
+
+pub some_inside-returns-else-skip_items-clause-spares : goal.some_inside-returns-else-skip_items-clause-spares
+some_inside-returns-else-skip_items-clause-spares g t c = c.if-skip_items.ensures.spares
+
+pub some_inside-returns-else-skip_items-clause-counts : goal.some_inside-returns-else-skip_items-clause-counts
+some_inside-returns-else-skip_items-clause-counts g t c = tt
+
+pub some_inside-returns-else-skip_items-clause-progress : goal.some_inside-returns-else-skip_items-clause-progress
+some_inside-returns-else-skip_items-clause-progress g t c = tt
+
+pub some_inside-returns-else-skip_items-clause-stays : goal.some_inside-returns-else-skip_items-clause-stays
+some_inside-returns-else-skip_items-clause-stays g t c = λ apart. keeps_then (c.in-Some-Into.ensures.stays apart) (c.if-skip_items.ensures.stays apart)
+
+pub some_inside-returns-in-None-clause-does : goal.some_inside-returns-in-None-clause-does
+some_inside-returns-in-None-clause-does g t c = was_nowhere c.args.among c.in-None.ensures.does
+
+pub some_inside-returns-in-None-clause-spares : goal.some_inside-returns-in-None-clause-spares
+some_inside-returns-in-None-clause-spares g t c = c.in-None.ensures.spares
+
+pub some_inside-returns-in-None-clause-counts : goal.some_inside-returns-in-None-clause-counts
+some_inside-returns-in-None-clause-counts g t c = tt
+
+pub some_inside-returns-in-None-clause-progress : goal.some_inside-returns-in-None-clause-progress
+some_inside-returns-in-None-clause-progress g t c = tt
+
+pub some_inside-returns-in-None-clause-stays : goal.some_inside-returns-in-None-clause-stays
+some_inside-returns-in-None-clause-stays g t c = c.in-None.ensures.stays
+
+pub go_some-returns-in-Some-Run-clause-spares : goal.go_some-returns-in-Some-Run-clause-spares
+go_some-returns-in-Some-Run-clause-spares g t c = tt
+
+pub go_some-returns-in-Some-Run-clause-progress : goal.go_some-returns-in-Some-Run-clause-progress
+go_some-returns-in-Some-Run-clause-progress g t c =
+    let k = passes_some c.args.among c.in-Some-Run.count _ _ _ c.in-Some-Run.field-0-is c.in-Some-Run.ensures.passes in
+    λ _. k.2
+
+pub go_some-returns-in-Some-Run-clause-stays : goal.go_some-returns-in-Some-Run-clause-stays
+go_some-returns-in-Some-Run-clause-stays g t c = λ apart. keeps_alike _ _ (c.in-Some-Run.ensures.stays apart)
+
+pub go_some-returns-then-skip_behind-clause-spares : goal.go_some-returns-then-skip_behind-clause-spares
+go_some-returns-then-skip_behind-clause-spares g t c = tt
+
+pub go_some-returns-then-skip_behind-clause-stays : goal.go_some-returns-then-skip_behind-clause-stays
+go_some-returns-then-skip_behind-clause-stays g t c = λ apart. keeps_then (keeps_alike _ _ (c.in-Some-Head.ensures.stays apart)) (c.if-skip_behind.ensures.stays apart)
+
+pub go_some-returns-else-skip_behind-clause-spares : goal.go_some-returns-else-skip_behind-clause-spares
+go_some-returns-else-skip_behind-clause-spares g t c = c.if-skip_behind.ensures.spares
+
+pub go_some-returns-else-skip_behind-clause-counts : goal.go_some-returns-else-skip_behind-clause-counts
+go_some-returns-else-skip_behind-clause-counts g t c = tt
+
+pub go_some-returns-else-skip_behind-clause-progress : goal.go_some-returns-else-skip_behind-clause-progress
+go_some-returns-else-skip_behind-clause-progress g t c = tt
+
+pub go_some-returns-else-skip_behind-clause-stays : goal.go_some-returns-else-skip_behind-clause-stays
+go_some-returns-else-skip_behind-clause-stays g t c = λ apart. keeps_then (keeps_alike _ _ (c.in-Some-Head.ensures.stays apart)) (c.if-skip_behind.ensures.stays apart)
+
+pub go_some-returns-in-Some-Head-default-Items-clause-spares : goal.go_some-returns-in-Some-Head-default-Items-clause-spares
+go_some-returns-in-Some-Head-default-Items-clause-spares g t c = tt
+
+pub go_some-returns-in-Some-Head-default-Items-clause-counts : goal.go_some-returns-in-Some-Head-default-Items-clause-counts
+go_some-returns-in-Some-Head-default-Items-clause-counts g t c = tt
+
+pub go_some-returns-in-Some-Break-clause-spares : goal.go_some-returns-in-Some-Break-clause-spares
+go_some-returns-in-Some-Break-clause-spares g t c = tt
+
+pub go_some-returns-in-Some-Break-clause-stays : goal.go_some-returns-in-Some-Break-clause-stays
+go_some-returns-in-Some-Break-clause-stays g t c = λ apart. keeps_alike _ _ (c.in-Some-Break.ensures.stays apart)
+
+pub go_some-returns-in-Some-clause-spares : goal.go_some-returns-in-Some-clause-spares
+go_some-returns-in-Some-clause-spares g t c = tt
+
+pub go_some-returns-in-Some-clause-counts : goal.go_some-returns-in-Some-clause-counts
+go_some-returns-in-Some-clause-counts g t c = c.in-Some.ensures.counts
+
+pub go_some-returns-in-Some-clause-stays : goal.go_some-returns-in-Some-clause-stays
+go_some-returns-in-Some-clause-stays g t c = λ apart. keeps_then (keeps_alike _ _ (c.in-Some-Unseen.ensures.stays apart)) (c.in-Some.ensures.stays apart)
+
+pub go_some-returns-in-None-skip_unseen-clause-spares : goal.go_some-returns-in-None-skip_unseen-clause-spares
+go_some-returns-in-None-skip_unseen-clause-spares g t c = c.in-None-skip_unseen.ensures.spares
+
+pub go_some-returns-in-None-skip_unseen-clause-counts : goal.go_some-returns-in-None-skip_unseen-clause-counts
+go_some-returns-in-None-skip_unseen-clause-counts g t c = tt
+
+pub go_some-returns-in-None-skip_unseen-clause-progress : goal.go_some-returns-in-None-skip_unseen-clause-progress
+go_some-returns-in-None-skip_unseen-clause-progress g t c = tt
+
+pub go_some-returns-in-None-skip_unseen-clause-stays : goal.go_some-returns-in-None-skip_unseen-clause-stays
+go_some-returns-in-None-skip_unseen-clause-stays g t c = λ apart. keeps_then (keeps_alike _ _ (c.in-Some-Unseen.ensures.stays apart)) (c.in-None-skip_unseen.ensures.stays apart)
+
+pub go_some-returns-in-None-clause-spares : goal.go_some-returns-in-None-clause-spares
+go_some-returns-in-None-clause-spares g t c = c.in-None.ensures.spares
+
+pub go_some-returns-in-None-clause-counts : goal.go_some-returns-in-None-clause-counts
+go_some-returns-in-None-clause-counts g t c = tt
+
+pub go_some-returns-in-None-clause-progress : goal.go_some-returns-in-None-clause-progress
+go_some-returns-in-None-clause-progress g t c = tt
+
+pub go_some-returns-in-None-clause-stays : goal.go_some-returns-in-None-clause-stays
+go_some-returns-in-None-clause-stays g t c = λ apart. keeps_alike _ _ (c.in-None.ensures.stays apart)
+
+pub skip_behind-returns-in-Nothing-clause-spares : goal.skip_behind-returns-in-Nothing-clause-spares
+skip_behind-returns-in-Nothing-clause-spares g t c = tt
+
+pub skip_behind-returns-in-Nothing-clause-stays : goal.skip_behind-returns-in-Nothing-clause-stays
+skip_behind-returns-in-Nothing-clause-stays g t c = λ _. keeps_alike _ _ refl
+
+pub skip_behind-returns-in-Bytes-clause-spares : goal.skip_behind-returns-in-Bytes-clause-spares
+skip_behind-returns-in-Bytes-clause-spares g t c = c.skip_content.ensures.spares
+
+pub skip_behind-returns-in-Items-clause-spares : goal.skip_behind-returns-in-Items-clause-spares
+skip_behind-returns-in-Items-clause-spares g t c = c.skip_items.ensures.spares
+
+pub skip_behind-returns-in-Items-clause-stays : goal.skip_behind-returns-in-Items-clause-stays
+skip_behind-returns-in-Items-clause-stays g t c = c.skip_items.ensures.stays
+
+pub skip_behind-returns-in-Members-clause-spares : goal.skip_behind-returns-in-Members-clause-spares
+skip_behind-returns-in-Members-clause-spares g t c = c.skip_members.ensures.spares
+
+pub skip_behind-returns-in-Members-clause-stays : goal.skip_behind-returns-in-Members-clause-stays
+skip_behind-returns-in-Members-clause-stays g t c = c.skip_members.ensures.stays
+
+pub skip_behind-returns-in-Open-clause-spares : goal.skip_behind-returns-in-Open-clause-spares
+skip_behind-returns-in-Open-clause-spares g t c = c.skip_open.ensures.spares
+
+pub skip_behind-returns-in-Open-clause-stays : goal.skip_behind-returns-in-Open-clause-stays
+skip_behind-returns-in-Open-clause-stays g t c = c.skip_open.ensures.stays
+
+pub skip_behind-returns-in-OpenMembers-clause-spares : goal.skip_behind-returns-in-OpenMembers-clause-spares
+skip_behind-returns-in-OpenMembers-clause-spares g t c = c.skip_open_members.ensures.spares
+
+pub skip_behind-returns-in-OpenMembers-clause-stays : goal.skip_behind-returns-in-OpenMembers-clause-stays
+skip_behind-returns-in-OpenMembers-clause-stays g t c = c.skip_open_members.ensures.stays
+
+pub skip_inside-returns-in-Some-clause-spares : goal.skip_inside-returns-in-Some-clause-spares
+skip_inside-returns-in-Some-clause-spares g t c = c.skip_behind.ensures.spares
+
+pub skip_inside-returns-in-Some-clause-stays : goal.skip_inside-returns-in-Some-clause-stays
+skip_inside-returns-in-Some-clause-stays g t c = λ apart. keeps_then (keeps_alike _ _ (c.skip_head.ensures.stays apart)) (c.skip_behind.ensures.stays apart)
+
+pub skip_inside-returns-in-None-clause-spares : goal.skip_inside-returns-in-None-clause-spares
+skip_inside-returns-in-None-clause-spares g t c = rw c.in-None.ensures at c.skip_head.ensures.spares
+
+pub skip_inside-returns-in-None-clause-stays : goal.skip_inside-returns-in-None-clause-stays
+skip_inside-returns-in-None-clause-stays g t c = λ apart. keeps_alike _ _ (c.skip_head.ensures.stays apart)
+
+pub skip_inward-returns-in-None-clause-spares : goal.skip_inward-returns-in-None-clause-spares
+skip_inward-returns-in-None-clause-spares g t c = c.in-None.ensures.spares
+
+pub skip_inward-returns-in-None-clause-deeper : goal.skip_inward-returns-in-None-clause-deeper
+skip_inward-returns-in-None-clause-deeper g t c = c.in-None.ensures.deeper _ c.loop-left.invariant.deeper
+
+pub skip_inward-returns-in-None-clause-stays : goal.skip_inward-returns-in-None-clause-stays
+skip_inward-returns-in-None-clause-stays g t c = λ apart. keeps_then (c.loop-left.invariant.stays apart) (c.in-None.ensures.stays apart)
+
+pub skip_inward-returns-clause-spares : goal.skip_inward-returns-clause-spares
+skip_inward-returns-clause-spares g t c = tt
+
+pub skip_inward-returns-clause-deeper : goal.skip_inward-returns-clause-deeper
+skip_inward-returns-clause-deeper g t c = c.loop-left.invariant.deeper
+
+pub skip_inward-returns-clause-stays : goal.skip_inward-returns-clause-stays
+skip_inward-returns-clause-stays g t c = c.loop-left.invariant.stays
+
+pub skip_items-returns-clause-spares : goal.skip_items-returns-clause-spares
+skip_items-returns-clause-spares g t c = c.skip_inward-done.ensures.spares
+
+pub skip_items-returns-clause-stays : goal.skip_items-returns-clause-stays
+skip_items-returns-clause-stays g t c = λ apart. keeps_then (c.skip_inward-done.ensures.stays apart) c.give_back.ensures.others
+
+pub skip_members-returns-in-None-clause-spares : goal.skip_members-returns-in-None-clause-spares
+skip_members-returns-in-None-clause-spares g t c = c.in-None.ensures.spares
+
+pub skip_members-returns-in-None-clause-stays : goal.skip_members-returns-in-None-clause-stays
+skip_members-returns-in-None-clause-stays g t c = λ apart. keeps_then (c.loop-left.invariant.stays apart) (c.in-None.ensures.stays apart)
+
+pub skip_members-returns-then-not-skip_one-clause-spares : goal.skip_members-returns-then-not-skip_one-clause-spares
+skip_members-returns-then-not-skip_one-clause-spares g t c = c.if-not-skip_one.ensures.spares
+
+pub skip_members-returns-then-not-skip_one-clause-stays : goal.skip_members-returns-then-not-skip_one-clause-stays
+skip_members-returns-then-not-skip_one-clause-stays g t c = λ apart. keeps_then (c.loop-left.invariant.stays apart) (keeps_then (c.in-Some.ensures.stays apart) (c.if-not-skip_one.ensures.stays apart))
+
+pub skip_members-returns-clause-spares : goal.skip_members-returns-clause-spares
+skip_members-returns-clause-spares g t c = tt
+
+pub skip_members-returns-clause-stays : goal.skip_members-returns-clause-stays
+skip_members-returns-clause-stays g t c = c.loop-left.invariant.stays
+
+pub skip_next-returns-then-not-step_in-clause-spares : goal.skip_next-returns-then-not-step_in-clause-spares
+skip_next-returns-then-not-step_in-clause-spares g t c = c.skip_without_step.ensures.spares
+
+pub skip_next-returns-then-not-step_in-clause-stays : goal.skip_next-returns-then-not-step_in-clause-stays
+skip_next-returns-then-not-step_in-clause-stays g t c = λ apart. keeps_then c.step_in.ensures.others (keeps_alike _ _ (c.skip_without_step.ensures.stays apart))
+
+pub skip_next-returns-then-depth-lt18446744073709551615-clause-spares : goal.skip_next-returns-then-depth-lt18446744073709551615-clause-spares
+skip_next-returns-then-depth-lt18446744073709551615-clause-spares g t c = tt
+
+pub skip_next-returns-then-done-clause-spares : goal.skip_next-returns-then-done-clause-spares
+skip_next-returns-then-done-clause-spares g t c = tt
+
+pub skip_next-returns-then-done-clause-stays : goal.skip_next-returns-then-done-clause-stays
+skip_next-returns-then-done-clause-stays g t c = λ apart. keeps_then c.step_in.ensures.others (keeps_then (c.in-Some-Into.ensures.stays apart) (keeps_then (c.if-done.ensures.stays apart) c.step_out.ensures.others))
+
+pub skip_next-returns-else-done-clause-spares : goal.skip_next-returns-else-done-clause-spares
+skip_next-returns-else-done-clause-spares g t c = c.if-done.ensures.spares
+
+pub skip_next-returns-else-done-clause-progress : goal.skip_next-returns-else-done-clause-progress
+skip_next-returns-else-done-clause-progress g t c = tt
+
+pub skip_next-returns-else-done-clause-stays : goal.skip_next-returns-else-done-clause-stays
+skip_next-returns-else-done-clause-stays g t c = λ apart. keeps_then c.step_in.ensures.others (keeps_then (c.in-Some-Into.ensures.stays apart) (keeps_then (c.if-done.ensures.stays apart) c.step_out.ensures.others))
+
+pub skip_next-returns-in-Some-Past-clause-stays : goal.skip_next-returns-in-Some-Past-clause-stays
+skip_next-returns-in-Some-Past-clause-stays g t c = λ apart. keeps_then c.step_in.ensures.others (keeps_then (c.in-Some-Past.ensures.stays apart) c.step_out-in-Some-Past.ensures.others)
+
+pub skip_next-returns-in-None-clause-stays : goal.skip_next-returns-in-None-clause-stays
+skip_next-returns-in-None-clause-stays g t c = λ apart. keeps_then c.step_in.ensures.others (keeps_then (c.in-None.ensures.stays apart) c.step_out-in-None.ensures.others)
+
+pub skip_next-returns-in-Some-Past-clause-spares : goal.skip_next-returns-in-Some-Past-clause-spares
+skip_next-returns-in-Some-Past-clause-spares g t c = tt
+
+pub skip_next-returns-in-None-clause-spares : goal.skip_next-returns-in-None-clause-spares
+skip_next-returns-in-None-clause-spares g t c = c.in-None.ensures.spares
+
+pub skip_next-returns-in-None-clause-progress : goal.skip_next-returns-in-None-clause-progress
+skip_next-returns-in-None-clause-progress g t c = tt
+
+pub skip_open-returns-in-Some-eq0-clause-spares : goal.skip_open-returns-in-Some-eq0-clause-spares
+skip_open-returns-in-Some-eq0-clause-spares g t c = tt
+
+pub skip_open-returns-in-Some-eq0-clause-stays : goal.skip_open-returns-in-Some-eq0-clause-stays
+skip_open-returns-in-Some-eq0-clause-stays g t c = λ apart. keeps_then (c.loop.invariant.stays apart) (c.in-Some-eq0.ensures.stays apart)
+
+pub skip_open-returns-in-None-clause-spares : goal.skip_open-returns-in-None-clause-spares
+skip_open-returns-in-None-clause-spares g t c = c.in-None.ensures.spares
+
+pub skip_open-returns-in-None-clause-stays : goal.skip_open-returns-in-None-clause-stays
+skip_open-returns-in-None-clause-stays g t c = λ apart. keeps_then (c.loop.invariant.stays apart) (c.in-None.ensures.stays apart)
+
+pub skip_open_members-returns-in-None-clause-spares : goal.skip_open_members-returns-in-None-clause-spares
+skip_open_members-returns-in-None-clause-spares g t c = c.in-None.ensures.spares
+
+pub skip_open_members-returns-in-None-clause-stays : goal.skip_open_members-returns-in-None-clause-stays
+skip_open_members-returns-in-None-clause-stays g t c = λ apart. keeps_then (c.loop-some.invariant.stays apart) (c.in-None.ensures.stays apart)
+
+pub skip_open_members-returns-then-some-eq0-clause-spares : goal.skip_open_members-returns-then-some-eq0-clause-spares
+skip_open_members-returns-then-some-eq0-clause-spares g t c = tt
+
+pub skip_open_members-returns-then-some-eq0-clause-stays : goal.skip_open_members-returns-then-some-eq0-clause-stays
+skip_open_members-returns-then-some-eq0-clause-stays g t c = λ apart. keeps_then (c.loop-some.invariant.stays apart) (c.in-Some.ensures.stays apart)
+
+pub skip_open_members-returns-then-not-skip_one-clause-spares : goal.skip_open_members-returns-then-not-skip_one-clause-spares
+skip_open_members-returns-then-not-skip_one-clause-spares g t c = c.if-not-skip_one.ensures.spares
+
+pub skip_open_members-returns-then-not-skip_one-clause-stays : goal.skip_open_members-returns-then-not-skip_one-clause-stays
+skip_open_members-returns-then-not-skip_one-clause-stays g t c = λ apart. keeps_then (c.loop-some.invariant.stays apart) (keeps_then (c.in-Some.ensures.stays apart) (c.if-not-skip_one.ensures.stays apart))
+
+pub skip_unseen-returns-in-None-clause-spares : goal.skip_unseen-returns-in-None-clause-spares
+skip_unseen-returns-in-None-clause-spares g t c = rw c.in-None.ensures at c.ends.ensures.spares
+
+pub skip_unseen-returns-in-None-clause-counts : goal.skip_unseen-returns-in-None-clause-counts
+skip_unseen-returns-in-None-clause-counts g t c = tt
+
+pub skip_unseen-returns-in-None-clause-progress : goal.skip_unseen-returns-in-None-clause-progress
+skip_unseen-returns-in-None-clause-progress g t c = tt
+
+pub skip_unseen-returns-in-None-clause-stays : goal.skip_unseen-returns-in-None-clause-stays
+skip_unseen-returns-in-None-clause-stays g t c = λ apart. keeps_alike _ _ (c.ends.ensures.stays apart)
+
+pub skip_unseen-returns-then-ended-clause-spares : goal.skip_unseen-returns-then-ended-clause-spares
+skip_unseen-returns-then-ended-clause-spares g t c = tt
+
+pub skip_unseen-returns-then-ended-clause-stays : goal.skip_unseen-returns-then-ended-clause-stays
+skip_unseen-returns-then-ended-clause-stays g t c = λ apart. keeps_alike _ _ (c.ends.ensures.stays apart)
+
+pub skip_unseen-returns-then-skip_inside-clause-spares : goal.skip_unseen-returns-then-skip_inside-clause-spares
+skip_unseen-returns-then-skip_inside-clause-spares g t c = tt
+
+pub skip_unseen-returns-then-skip_inside-clause-stays : goal.skip_unseen-returns-then-skip_inside-clause-stays
+skip_unseen-returns-then-skip_inside-clause-stays g t c = λ apart. keeps_then (keeps_alike _ _ (c.ends.ensures.stays apart)) (c.if-skip_inside.ensures.stays apart)
+
+pub skip_unseen-returns-clause-spares : goal.skip_unseen-returns-clause-spares
+skip_unseen-returns-clause-spares g t c = c.if-skip_inside.ensures.spares
+
+pub skip_unseen-returns-clause-counts : goal.skip_unseen-returns-clause-counts
+skip_unseen-returns-clause-counts g t c = tt
+
+pub skip_unseen-returns-clause-progress : goal.skip_unseen-returns-clause-progress
+skip_unseen-returns-clause-progress g t c = tt
+
+pub skip_unseen-returns-clause-stays : goal.skip_unseen-returns-clause-stays
+skip_unseen-returns-clause-stays g t c = λ apart. keeps_then (keeps_alike _ _ (c.ends.ensures.stays apart)) (c.if-skip_inside.ensures.stays apart)
