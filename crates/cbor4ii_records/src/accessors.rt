@@ -2,7 +2,7 @@
 use crate::typed::Answer::{self, Custom, Is};
 use crate::typed::{Take, reads_all};
 use cbor4ii::dec::IgnoredAny;
-use cbor4ii::serde::{DecodeError, Deserialize, Deserializer, EnumAccessor};
+use cbor4ii::serde::{Accessor, DecodeError, Deserialize, Deserializer, EnumAccessor};
 use cbor4ii_rw::error as core_error;
 use cbor4ii_rw::read::Source;
 use cbor4ii_trials::rows::{Row, RowWithin};
@@ -557,6 +557,26 @@ const YS: &[Row<Answer<Y>>] = &[
 #[derive(Debug, PartialEq, Drop)]
 struct Both(u8, i16);
 
+impl Both {
+    /// Reads an entry into the field whose key it has, and answers whether there was one.
+    fn read_field<S: Source>(
+        alloc: Global,
+        fields: &mut Accessor<'_, S>,
+        x: &mut Option<u8>,
+        y: &mut Option<i16>,
+    ) -> Result<bool, DecodeError<S::Error>> {
+        let Some(key) = fields.next_key::<String>(alloc)? else {
+            return Ok(false);
+        };
+        match key.as_str() {
+            "x" => *x = Some(fields.next_value(alloc)?),
+            "y" => *y = Some(fields.next_value(alloc)?),
+            _ => return Err(DecodeError::Custom("another field")),
+        }
+        Ok(true)
+    }
+}
+
 impl Take for Both {
     fn take<S: Source>(
         alloc: Global,
@@ -566,13 +586,8 @@ impl Take for Both {
         let mut y = None;
         let mut fields = de.deserialize_struct("Struct", &["x", "y"])?;
         for _ in 0..2 {
-            match fields.next_key::<String>(alloc)? {
-                Some(key) => match key.as_str() {
-                    "x" => x = Some(fields.next_value(alloc)?),
-                    "y" => y = Some(fields.next_value(alloc)?),
-                    _ => return Err(DecodeError::Custom("another field")),
-                },
-                None => break,
+            if !Both::read_field(alloc, &mut fields, &mut x, &mut y)? {
+                break;
             }
         }
         match (x, y) {

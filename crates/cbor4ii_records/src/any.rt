@@ -323,10 +323,20 @@ fn the_call_for_any_item(rt: HostRuntime) -> Result<(), Fail> {
 
 const TOO_DEEP_BY_CALL: Want<Answer<ByCall>> = Err("DepthOverflow { name: \"any\" }");
 
+// So many arrays, one in another, by the call for any item.
+fn reads_nested_by_call(
+    alloc: Global,
+    arrays: usize,
+    want: &Want<Answer<ByCall>>,
+    rest: &[u8],
+) -> Result<(), Fail> {
+    reads_by_each(alloc, nested(alloc, arrays)?, 256, want, rest)
+}
+
 #[test]
 fn depth_of_the_call_for_any_item(rt: HostRuntime) -> Result<(), Fail> {
     let alloc = rt.alloc();
     let value = Ok(Is(ByCall(nested_value(alloc, 127)?)));
-    reads_by_each(alloc, nested(alloc, 127)?, 256, &value, b"")?;
-    reads_by_each(alloc, nested(alloc, 128)?, 256, &TOO_DEEP_BY_CALL, b"\x80")
+    reads_nested_by_call(alloc, 127, &value, b"")?;
+    reads_nested_by_call(alloc, 128, &TOO_DEEP_BY_CALL, b"\x80")
 }

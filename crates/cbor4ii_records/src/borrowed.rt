@@ -11,7 +11,7 @@ use cbor4ii_trials::rows::{leaves, steps};
 use cbor4ii_trials::streams::FailingStream;
 use std::alloc::Global;
 use std::borrow::{CowSlice, CowStr};
-use std::fmt::InlineText;
+use std::fmt::{Debug, InlineText};
 use std::io::{self, ErrorKind};
 use std::test::Fail;
 
@@ -137,6 +137,18 @@ fn borrowed_alone(kind: Kind, want: Want) -> Want {
     }
 }
 
+/// Whether this was to be read.
+fn is_wanted<E: Debug + Drop>(
+    got: &Result<CowSlice<'static, u8, Global>, DecodeError<E>>,
+    want: Want,
+) -> bool {
+    match got {
+        Ok(CowSlice::Borrowed(found)) => want == Ok((*found, true)),
+        Ok(CowSlice::Owned(found)) => want == Ok((found.as_slice(), false)),
+        Err(error) => want == Err(InlineText::<128>::of(error).as_str()),
+    }
+}
+
 /// The answer over this reader, the bytes that are left, and the steps as before.
 fn reads<S: Strings + Drop>(
     kind: Kind,
@@ -151,16 +163,11 @@ fn reads<S: Strings + Drop>(
     let got = S::string(kind, alloc, &mut de);
     let mut reader = de.into_inner();
     let want = borrowed_alone(kind, want);
-    let is_wanted = match &got {
-        Ok(CowSlice::Borrowed(found)) => want == Ok((*found, true)),
-        Ok(CowSlice::Owned(found)) => want == Ok((found.as_slice(), false)),
-        Err(DecodeError::Core(core_error::DecodeError::OutOfMemory)) => {
-            return Err(Fail::from(core_error::DecodeError::<Never>::OutOfMemory));
-        }
-        Err(error) => want == Err(InlineText::<128>::of(error).as_str()),
-    };
-    if is_wanted && steps(&mut reader) == budget {
+    if is_wanted(&got, want) && steps(&mut reader) == budget {
         return leaves(&mut reader, bytes, rest);
+    }
+    if let Err(DecodeError::Core(core_error::DecodeError::OutOfMemory)) = &got {
+        return Err(Fail::from(core_error::DecodeError::<Never>::OutOfMemory));
     }
     Err(Fail::new(format_args!("not {want:?} of {bytes:?}")))
 }
@@ -221,22 +228,32 @@ fn reads_of_streams(
         reads(kind, alloc, IoReader::new(stream), bytes, want, rest)?;
     }
     for looks in 0..64 {
-        let stream = FailingStream::new(bytes, 1, looks);
-        let mut de = Deserializer::new(IoReader::new(stream));
-        let got = <IoReader<FailingStream<'static>>>::string(kind, alloc, &mut de);
-        let is_fault = matches!(
-            &got,
-            Err(DecodeError::Core(core_error::DecodeError::Read(error)))
-                if error.kind() == ErrorKind::Other
-        );
-        if is_fault != de.into_inner().into_inner().has_failed() {
-            return Err(Fail::new(format_args!("not a fault at look {looks} of {bytes:?}")));
-        }
-        if !is_fault {
+        if !fails_at_look(kind, alloc, bytes, looks)? {
             return Ok(());
         }
     }
     Err(Fail::new(format_args!("too many looks of {bytes:?}")))
+}
+
+/// Whether a stream that fails at this look does, which is the answer then.
+fn fails_at_look(
+    kind: Kind,
+    alloc: Global,
+    bytes: &'static [u8],
+    looks: usize,
+) -> Result<bool, Fail> {
+    let stream = FailingStream::new(bytes, 1, looks);
+    let mut de = Deserializer::new(IoReader::new(stream));
+    let is_fault = match <IoReader<FailingStream<'static>>>::string(kind, alloc, &mut de) {
+        Err(DecodeError::Core(core_error::DecodeError::Read(error))) => {
+            error.kind() == ErrorKind::Other
+        }
+        _ => false,
+    };
+    if is_fault == de.into_inner().into_inner().has_failed() {
+        return Ok(is_fault);
+    }
+    Err(Fail::new(format_args!("not a fault at look {looks} of {bytes:?}")))
 }
 
 /// Bytes of a string that is borrowed where its content is lent whole, its content, and what is

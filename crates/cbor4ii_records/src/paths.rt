@@ -50,12 +50,16 @@ fn canonical_values(rt: HostRuntime) -> Result<(), Fail> {
 }
 
 #[test]
-fn raw_items(rt: HostRuntime) -> Result<(), Fail> {
-    let alloc = rt.alloc();
-    let lent = RawValue::decode(alloc, &mut SliceReader::new(b"\x18\x05\x00"))?;
-    assert_eq!(rt; lent.as_bytes(), b"\x18\x05".as_slice());
-    let kept = BoxedRawValue::decode(alloc, &mut SliceReader::new(b"\x18\x05\x00"))?;
-    assert_eq!(rt; kept.as_bytes(), b"\x18\x05".as_slice());
+fn lent_items(rt: HostRuntime) -> Result<(), Fail> {
+    let item = RawValue::decode(rt.alloc(), &mut SliceReader::new(b"\x18\x05\x00"))?;
+    assert_eq!(rt; item.as_bytes(), b"\x18\x05".as_slice());
+    Ok(())
+}
+
+#[test]
+fn kept_items(rt: HostRuntime) -> Result<(), Fail> {
+    let item = BoxedRawValue::decode(rt.alloc(), &mut SliceReader::new(b"\x18\x05\x00"))?;
+    assert_eq!(rt; item.as_bytes(), b"\x18\x05".as_slice());
     Ok(())
 }
 
@@ -87,12 +91,16 @@ fn refusals(rt: HostRuntime) -> Result<(), Fail> {
 
 #[test]
 fn heads(rt: HostRuntime) -> Result<(), Fail> {
-    let mut reader = SliceReader::new(b"\x05");
-    assert_eq!(rt; canonical_head("u64", major::UNSIGNED, &mut reader)?, 5);
+    let argument = canonical_head("u64", major::UNSIGNED, &mut SliceReader::new(b"\x05"))?;
+    assert_eq!(rt; argument, 5);
+    Ok(())
+}
+
+#[test]
+fn parts_of_a_first_byte(rt: HostRuntime) {
     assert_eq!(rt; if_major(0x9f), 4);
     assert_eq!(rt; high(0x9f), 0x80);
     assert_eq!(rt; low(0x9f), 0x1f);
-    Ok(())
 }
 
 #[test]
@@ -127,11 +135,16 @@ fn lending(rt: HostRuntime) -> Result<(), Fail> {
 }
 
 #[test]
-fn typed_values(rt: HostRuntime) -> Result<(), Fail> {
+fn written_typed_values(rt: HostRuntime) -> Result<(), Fail> {
     let alloc = rt.alloc();
     let bytes = to_vec(vec![in alloc; 0xff]?, &5u8)?;
     assert_eq!(rt; bytes.as_slice(), b"\xff\x05".as_slice());
-    let number: u8 = from_slice(alloc, b"\x05\xff".as_slice())?;
+    Ok(())
+}
+
+#[test]
+fn read_typed_values(rt: HostRuntime) -> Result<(), Fail> {
+    let number: u8 = from_slice(rt.alloc(), b"\x05\xff".as_slice())?;
     assert_eq!(rt; number, 5);
     Ok(())
 }

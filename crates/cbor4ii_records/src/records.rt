@@ -18,7 +18,7 @@ ghost use Rattle.cbor4ii_records.specs.declared.records.Enum.TheVariants.{
 };
 
 use cbor4ii::serde::{
-    DecodeError, Deserialize, Deserializer, EncodeError, Serialize, Serializer, Typed,
+    DecodeError, Deserialize, Deserializer, EncodeError, EnumAccessor, Serialize, Serializer, Typed,
 };
 use cbor4ii_rw::read::Source;
 use cbor4ii_rw::write::Write;
@@ -128,22 +128,34 @@ pub fn read_enum<S: Source>(
             Ok(Enum::Unit)
         }
         "NewType" => Ok(Enum::NewType(variant.newtype_variant(alloc)?)),
-        "Tuple" => {
-            let mut items = variant.tuple_variant(2)?;
-            let text = items.next_element(alloc)?;
-            let flag = items.next_element(alloc)?;
-            match (text, flag) {
-                (Some(text), Some(flag)) => Ok(Enum::Tuple(text, flag)),
-                _ => Err(DecodeError::Custom("an item is missing")),
-            }
-        }
-        "Struct" => match variant
-            .content()?
-            .deserialize_2_fields(alloc, "Struct", "x", "y")?
-        {
-            (Some(x), Some(y)) => Ok(Enum::Struct { x, y }),
-            _ => Err(DecodeError::Custom("a field is missing")),
-        },
+        "Tuple" => read_tuple(alloc, variant),
+        "Struct" => read_struct(alloc, variant),
         _ => Err(DecodeError::Custom("another variant")),
+    }
+}
+
+/// Reads the items of `Enum::Tuple`.
+fn read_tuple<S: Source>(
+    alloc: Global,
+    variant: EnumAccessor<'_, S>,
+) -> Result<Enum, DecodeError<S::Error>> {
+    let mut items = variant.tuple_variant(2)?;
+    let text = items.next_element(alloc)?;
+    let flag = items.next_element(alloc)?;
+    match (text, flag) {
+        (Some(text), Some(flag)) => Ok(Enum::Tuple(text, flag)),
+        _ => Err(DecodeError::Custom("an item is missing")),
+    }
+}
+
+/// Reads the fields of `Enum::Struct`.
+fn read_struct<S: Source>(
+    alloc: Global,
+    mut variant: EnumAccessor<'_, S>,
+) -> Result<Enum, DecodeError<S::Error>> {
+    let fields = variant.content()?;
+    match fields.deserialize_2_fields(alloc, "Struct", "x", "y")? {
+        (Some(x), Some(y)) => Ok(Enum::Struct { x, y }),
+        _ => Err(DecodeError::Custom("a field is missing")),
     }
 }
