@@ -246,27 +246,30 @@ fn fails(
     Err(Fail::new(format_args!("not a failed show of {bytes:?}")))
 }
 
-// A stream that fails at the first look, at the second, and so on until none is left to fail. The
-// answer is its error then, the budget is as before, and of the stream no more is taken than what
-// the reader over it took.
+// A stream that fails at the first look, at the second, and so on until none is left to fail.
 fn fails_at_each_look(kind: Kind, alloc: Global, bytes: &[u8]) -> Result<(), Fail> {
     for looks in 0..MOST_CALLS {
-        let stream = FailingStream::new(bytes, 2, looks);
-        let mut reader = IoReader::with_limit(stream, STEPS);
-        let budget = steps(&mut reader);
-        let is_read = answer(kind, alloc, &mut reader)
-            .as_str()
-            .starts_with("Read(");
-        let is_kept = steps(&mut reader) == budget;
-        let taken = reader.taken() as usize;
-        let stream = reader.into_inner();
-        let is_left = bytes.get(taken..) == Some(stream.remaining());
-        if !is_kept || !is_left || is_read != stream.has_failed() {
-            return Err(Fail::new(format_args!("not a failed look {looks} of {bytes:?}")));
-        }
-        if !is_read {
+        if !fails_at_look(kind, alloc, bytes, looks)? {
             return Ok(());
         }
     }
     Err(Fail::new(format_args!("too many looks of {bytes:?}")))
+}
+
+// Whether a stream that fails at this look does. The answer is its error then, the budget is as
+// before, and of the stream no more is taken than what the reader over it took.
+fn fails_at_look(kind: Kind, alloc: Global, bytes: &[u8], looks: usize) -> Result<bool, Fail> {
+    let mut reader = IoReader::with_limit(FailingStream::new(bytes, 2, looks), STEPS);
+    let budget = steps(&mut reader);
+    let is_read = answer(kind, alloc, &mut reader)
+        .as_str()
+        .starts_with("Read(");
+    let is_kept = steps(&mut reader) == budget;
+    let taken = reader.taken() as usize;
+    let stream = reader.into_inner();
+    let is_left = bytes.get(taken..) == Some(stream.remaining());
+    if is_kept && is_left && is_read == stream.has_failed() {
+        return Ok(is_read);
+    }
+    Err(Fail::new(format_args!("not a failed look {looks} of {bytes:?}")))
 }

@@ -11,7 +11,7 @@ use cbor4ii_trials::rows::{Want, leaves, reads_alike, steps};
 use cbor4ii_trials::streams::FailingStream;
 use std::alloc::Global;
 use std::borrow::{CowSlice, CowStr};
-use std::fmt::InlineText;
+use std::fmt::{Debug, InlineText};
 use std::test::Fail;
 
 /// What is read.
@@ -30,6 +30,21 @@ enum Lender {
     ByByte,
 }
 
+// The answer, or the text of the refusal.
+fn told<T: Drop, E: Debug + Drop>(got: Result<T, DecodeError<E>>) -> Result<T, InlineText<128>> {
+    match got {
+        Ok(found) => Ok(found),
+        Err(error) => Err(InlineText::of(error)),
+    }
+}
+
+fn content(text: CowStr<'_, Global>) -> CowSlice<'_, u8, Global> {
+    match text {
+        CowStr::Borrowed(text) => CowSlice::Borrowed(text.as_bytes()),
+        CowStr::Owned(text) => CowSlice::Owned(text.into_bytes()),
+    }
+}
+
 // What is read, or the text of the refusal.
 fn decode<'de, R: Read<'de>>(
     kind: Kind,
@@ -37,19 +52,11 @@ fn decode<'de, R: Read<'de>>(
     reader: &mut R,
 ) -> Result<CowSlice<'de, u8, Global>, InlineText<128>> {
     match kind {
-        Kind::Text => match CowStr::<'de, Global>::decode(alloc, reader) {
-            Ok(CowStr::Borrowed(text)) => Ok(CowSlice::Borrowed(text.as_bytes())),
-            Ok(CowStr::Owned(text)) => Ok(CowSlice::Owned(text.into_bytes())),
-            Err(error) => Err(InlineText::of(error)),
-        },
-        Kind::Unchecked => match UncheckedStr::<CowSlice<'de, u8, Global>>::decode(alloc, reader) {
-            Ok(found) => Ok(found.0),
-            Err(error) => Err(InlineText::of(error)),
-        },
-        Kind::Bytes => match Bytes::<CowSlice<'de, u8, Global>>::decode(alloc, reader) {
-            Ok(found) => Ok(found.0),
-            Err(error) => Err(InlineText::of(error)),
-        },
+        Kind::Text => Ok(content(told(CowStr::decode(alloc, reader))?)),
+        Kind::Unchecked => {
+            Ok(told(UncheckedStr::<CowSlice<'de, u8, Global>>::decode(alloc, reader))?.0)
+        }
+        Kind::Bytes => Ok(told(Bytes::<CowSlice<'de, u8, Global>>::decode(alloc, reader))?.0),
     }
 }
 

@@ -13,6 +13,27 @@ use std::io::{self, BufReader, ErrorKind};
 use std::process::Abort;
 use std::test::Fail;
 
+// Takes what one fill gives where `want` bytes are wanted; whether it was `Long`.
+fn give_some<'de, R: Read<'de>>(
+    reader: &mut R,
+    want: usize,
+    bytes: &mut Vec<u8>,
+) -> Result<Option<bool>, Fail> {
+    let (taken, long) = match lend(reader, want, &mut None) {
+        Some(Reference::Long(shown)) => {
+            bytes.extend_from_slice(shown)?;
+            (shown.len(), true)
+        }
+        Some(Reference::Short(shown)) => {
+            bytes.extend_from_slice(shown)?;
+            (shown.len(), false)
+        }
+        None => return Ok(None),
+    };
+    reader.advance(taken);
+    Ok(Some(long))
+}
+
 // The reader gives "abcde", `want` bytes at a time, in at most 20 fills, and nothing behind it;
 // whether every front was `Long`.
 fn gives<'de, R: Read<'de>>(
@@ -24,22 +45,9 @@ fn gives<'de, R: Read<'de>>(
     let mut bytes = Vec::new(alloc);
     let mut long = true;
     for _ in 0..20 {
-        let mut failure = None;
-        let front = lend(reader, want, &mut failure);
-        assert!(rt; front.is_some());
-        let n = match front {
-            Some(Reference::Long(shown)) => {
-                bytes.extend_from_slice(shown)?;
-                shown.len()
-            }
-            Some(Reference::Short(shown)) => {
-                long = false;
-                bytes.extend_from_slice(shown)?;
-                shown.len()
-            }
-            None => 0,
-        };
-        reader.advance(n);
+        let given = give_some(reader, want, &mut bytes)?;
+        assert!(rt; given.is_some());
+        long = long && given == Some(true);
     }
     assert_eq!(rt; bytes.as_slice(), b"abcde".as_slice());
     Ok(long)

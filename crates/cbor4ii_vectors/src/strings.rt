@@ -15,18 +15,21 @@ use cbor4ii_trials::writers::FailingWriter;
 use std::alloc::Global;
 use std::test::Fail;
 
-// A text that is a part of the input, and one that is joined from the chunks of a stream.
+// A text that is a part of the input.
 #[test]
-fn a_borrowed_text_and_a_text_of_a_stream(rt: HostRuntime) -> Result<(), Fail> {
-    let alloc = rt.alloc();
-    let buffer = b"\x64IETF\x01";
-    let mut reader = SliceReader::new(buffer);
-    let borrowed = <&str>::decode(alloc, &mut reader)?;
-    let mut stream = IoReader::new(b"\x7f\x65strea\x64ming\xff".as_slice());
-    let owned = String::decode(alloc, &mut stream)?;
-    assert_eq!(rt; borrowed, "IETF");
+fn a_borrowed_text(rt: HostRuntime) -> Result<(), Fail> {
+    let mut reader = SliceReader::new(b"\x64IETF\x01");
+    assert_eq!(rt; <&str>::decode(rt.alloc(), &mut reader)?, "IETF");
     assert_eq!(rt; reader.remaining(), b"\x01".as_slice());
-    assert_eq!(rt; owned.as_str(), "streaming");
+    Ok(())
+}
+
+// A text that is joined from the chunks of a stream.
+#[test]
+fn a_text_of_a_stream(rt: HostRuntime) -> Result<(), Fail> {
+    let mut stream = IoReader::new(b"\x7f\x65strea\x64ming\xff".as_slice());
+    let text = String::decode(rt.alloc(), &mut stream)?;
+    assert_eq!(rt; text.as_str(), "streaming");
     assert_eq!(rt; stream.taken(), 13);
     Ok(())
 }
@@ -321,19 +324,23 @@ fn read<T: Decode<S>, S: Source>(alloc: Global, reader: &mut S) -> Result<T, Fai
 }
 
 #[test]
-fn references_to_readers_and_writers(rt: HostRuntime) -> Result<(), Fail> {
+fn references_to_readers(rt: HostRuntime) -> Result<(), Fail> {
     let alloc = rt.alloc();
-    let bytes = b"\x63123\x61a";
-    let mut slice = SliceReader::new(bytes);
-    let borrowed: &str = read(alloc, &mut &mut slice)?;
+    let mut reader = SliceReader::new(b"\x63123\x61a");
+    let borrowed: &str = read(alloc, &mut &mut reader)?;
     assert_eq!(rt; borrowed, "123");
-    assert_eq!(rt; slice.remaining(), b"\x61a".as_slice());
-    let owned: String = read(alloc, &mut &mut slice)?;
+    assert_eq!(rt; reader.remaining(), b"\x61a".as_slice());
+    let owned: String = read(alloc, &mut &mut reader)?;
     assert_eq!(rt; owned.as_str(), "a");
-    assert!(rt; slice.remaining().is_empty());
-    let mut writer = BufWriter::new(Vec::new(alloc));
+    assert!(rt; reader.remaining().is_empty());
+    Ok(())
+}
+
+#[test]
+fn references_to_writers(rt: HostRuntime) -> Result<(), Fail> {
+    let mut writer = BufWriter::new(Vec::new(rt.alloc()));
     "123".encode(&mut &mut writer)?;
-    owned.encode(&mut &mut writer)?;
-    assert_eq!(rt; writer.buffer(), bytes.as_slice());
+    "a".encode(&mut &mut writer)?;
+    assert_eq!(rt; writer.buffer(), b"\x63123\x61a".as_slice());
     Ok(())
 }
