@@ -1,4 +1,6 @@
-use Rattle.std.proofs.Common.{true, refl, arith}
+use Rattle.cbor4ii_items.specs.Laws.Running.{kept_alike}
+use Rattle.cbor4ii_items.specs.Laws.Answering.{fits_zero}
+use Rattle.std.proofs.Common.{true, refl, arith, inl}
 use Rattle.std.proofs.lemmas.Result.{err_from_is_err_and}
 use Rattle.cbor4ii_items.specs.Laws.Steps.{moves_then, moves_ok, moves_err, kept_then}
 use Rattle.cbor4ii_items.specs.Laws.UnderStep.{moves_stepped}
@@ -325,3 +327,311 @@ read_pair-returns-in_err-key-clause-stops g t c =
 
 pub read_pair-returns-in-Err-clause-stops : goal.read_pair-returns-in-Err-clause-stops
 read_pair-returns-in-Err-clause-stops g t c = value_stops c.in_ok-key.ensures.moves.by c.in_ok-key.ensures.sound c.in-Err.ensures.stops
+
+pub add_pair-returns-in_err-pair-clause-moves : goal.add_pair-returns-in_err-pair-clause-moves
+add_pair-returns-in_err-pair-clause-moves g t c =
+    let p = err_from_is_err_and c.from_residual.result c.from_residual.ensures.1 in
+    rw (p.1, p.2) (moves_err c.in_err-pair.ensures.moves)
+
+pub add_pair-returns-in_err-pair-clause-progress : goal.add_pair-returns-in_err-pair-clause-progress
+add_pair-returns-in_err-pair-clause-progress g t c = rw (err_from_is_err_and c.from_residual.result c.from_residual.ensures.1).1 tt
+
+pub add_pair-returns-in_err-pair-clause-sound : goal.add_pair-returns-in_err-pair-clause-sound
+add_pair-returns-in_err-pair-clause-sound g t c = rw (err_from_is_err_and c.from_residual.result c.from_residual.ensures.1).1 tt
+
+pub add_pair-returns-in_err-pair-clause-complete : goal.add_pair-returns-in_err-pair-clause-complete
+add_pair-returns-in_err-pair-clause-complete g t c =
+    let p = err_from_is_err_and c.from_residual.result c.from_residual.ensures.1 in
+    rw (p.1, p.2) c.in_err-pair.ensures.complete
+
+pub add_pair-returns-in_err-pair-clause-stops : goal.add_pair-returns-in_err-pair-clause-stops
+add_pair-returns-in_err-pair-clause-stops g t c =
+    let p = err_from_is_err_and c.from_residual.result c.from_residual.ensures.1 in
+    rw (p.1, p.2) c.in_err-pair.ensures.stops
+
+pub add_pair-returns-then-not-keep-clause-moves : goal.add_pair-returns-then-not-keep-clause-moves
+add_pair-returns-then-not-keep-clause-moves g t c = record { by = c.in_ok-pair.ensures.moves.by; depth = λ e. refl }
+
+pub add_pair-returns-then-not-keep-clause-progress : goal.add_pair-returns-then-not-keep-clause-progress
+add_pair-returns-then-not-keep-clause-progress g t c = tt
+
+pub add_pair-returns-then-not-keep-clause-sound : goal.add_pair-returns-then-not-keep-clause-sound
+add_pair-returns-then-not-keep-clause-sound g t c = tt
+
+pub add_pair-returns-then-not-keep-clause-complete : goal.add_pair-returns-then-not-keep-clause-complete
+add_pair-returns-then-not-keep-clause-complete g t c = record { at = λ xs told. tt }
+
+pub add_pair-returns-then-not-keep-clause-stops : goal.add_pair-returns-then-not-keep-clause-stops
+add_pair-returns-then-not-keep-clause-stops g t c = record { at = λ xs told. tt }
+
+pub add_pair-returns-clause-moves : goal.add_pair-returns-clause-moves
+add_pair-returns-clause-moves g t c = record { by = c.in_ok-pair.ensures.moves.by; depth = λ e. refl }
+
+pub add_pair-returns-clause-progress : goal.add_pair-returns-clause-progress
+add_pair-returns-clause-progress g t c = c.in_ok-pair.ensures.progress
+
+pub add_pair-returns-clause-complete : goal.add_pair-returns-clause-complete
+add_pair-returns-clause-complete g t c = tt
+
+pub add_pair-returns-clause-stops : goal.add_pair-returns-clause-stops
+add_pair-returns-clause-stops g t c = tt
+
+pub add_value-returns-in_err-value-clause-moves : goal.add_value-returns-in_err-value-clause-moves
+add_value-returns-in_err-value-clause-moves g t c =
+    let p = err_from_is_err_and c.from_residual.result c.from_residual.ensures.1 in
+    rw (p.1, p.2) (moves_err c.in_err-value.ensures.moves)
+
+pub add_value-returns-in_err-value-clause-progress : goal.add_value-returns-in_err-value-clause-progress
+add_value-returns-in_err-value-clause-progress g t c = rw (err_from_is_err_and c.from_residual.result c.from_residual.ensures.1).1 tt
+
+pub add_value-returns-in_err-value-clause-sound : goal.add_value-returns-in_err-value-clause-sound
+add_value-returns-in_err-value-clause-sound g t c = rw (err_from_is_err_and c.from_residual.result c.from_residual.ensures.1).1 tt
+
+pub add_value-returns-in_err-value-clause-complete : goal.add_value-returns-in_err-value-clause-complete
+add_value-returns-in_err-value-clause-complete g t c =
+    let p = err_from_is_err_and c.from_residual.result c.from_residual.ensures.1 in
+    rw (p.1, p.2) c.in_err-value.ensures.complete
+
+pub add_value-returns-in_err-value-clause-stops : goal.add_value-returns-in_err-value-clause-stops
+add_value-returns-in_err-value-clause-stops g t c =
+    let p = err_from_is_err_and c.from_residual.result c.from_residual.ensures.1 in
+    rw (p.1, p.2) c.in_err-value.ensures.stops
+
+pub add_value-returns-then-not-keep-clause-moves : goal.add_value-returns-then-not-keep-clause-moves
+add_value-returns-then-not-keep-clause-moves g t c = record { by = c.in_ok-value.ensures.moves.by; depth = λ e. refl }
+
+pub add_value-returns-then-not-keep-clause-progress : goal.add_value-returns-then-not-keep-clause-progress
+add_value-returns-then-not-keep-clause-progress g t c = tt
+
+pub add_value-returns-then-not-keep-clause-sound : goal.add_value-returns-then-not-keep-clause-sound
+add_value-returns-then-not-keep-clause-sound g t c = tt
+
+pub add_value-returns-then-not-keep-clause-complete : goal.add_value-returns-then-not-keep-clause-complete
+add_value-returns-then-not-keep-clause-complete g t c = record { at = λ xs told. tt }
+
+pub add_value-returns-then-not-keep-clause-stops : goal.add_value-returns-then-not-keep-clause-stops
+add_value-returns-then-not-keep-clause-stops g t c = record { at = λ xs told. tt }
+
+pub add_value-returns-clause-moves : goal.add_value-returns-clause-moves
+add_value-returns-clause-moves g t c = record { by = c.in_ok-value.ensures.moves.by; depth = λ e. refl }
+
+pub add_value-returns-clause-progress : goal.add_value-returns-clause-progress
+add_value-returns-clause-progress g t c = c.in_ok-value.ensures.progress
+
+pub add_value-returns-clause-complete : goal.add_value-returns-clause-complete
+add_value-returns-clause-complete g t c = tt
+
+pub add_value-returns-clause-stops : goal.add_value-returns-clause-stops
+add_value-returns-clause-stops g t c = tt
+
+pub add_value-returns-clause-sound : goal.add_value-returns-clause-sound
+add_value-returns-clause-sound g t c = record { part = c.in_ok-value.value; read = c.in_ok-value.ensures.sound; added = c.if-not-keep.ensures refl }
+
+pub any_array-returns-then-not-step_in-clause-progress : goal.any_array-returns-then-not-step_in-clause-progress
+any_array-returns-then-not-step_in-clause-progress g t c = tt
+
+pub any_array-returns-then-not-step_in-clause-sound : goal.any_array-returns-then-not-step_in-clause-sound
+any_array-returns-then-not-step_in-clause-sound g t c = tt
+
+pub any_array-returns-clause-progress : goal.any_array-returns-clause-progress
+any_array-returns-clause-progress g t c = rw (c.step_out.ensures.others.bound, ← c.step_in.ensures.others.bound) c.array_inside-outcome.ensures.progress
+
+pub any_map-returns-then-not-step_in-clause-progress : goal.any_map-returns-then-not-step_in-clause-progress
+any_map-returns-then-not-step_in-clause-progress g t c = tt
+
+pub any_map-returns-then-not-step_in-clause-sound : goal.any_map-returns-then-not-step_in-clause-sound
+any_map-returns-then-not-step_in-clause-sound g t c = tt
+
+pub any_map-returns-clause-progress : goal.any_map-returns-clause-progress
+any_map-returns-clause-progress g t c = rw (c.step_out.ensures.others.bound, ← c.step_in.ensures.others.bound) c.map_inside-outcome.ensures.progress
+
+pub read_any-returns-then-not-step_in-clause-progress : goal.read_any-returns-then-not-step_in-clause-progress
+read_any-returns-then-not-step_in-clause-progress g t c = tt
+
+pub read_any-returns-then-not-step_in-clause-sound : goal.read_any-returns-then-not-step_in-clause-sound
+read_any-returns-then-not-step_in-clause-sound g t c = tt
+
+pub read_any-returns-clause-progress : goal.read_any-returns-clause-progress
+read_any-returns-clause-progress g t c = rw (c.step_out.ensures.others.bound, ← c.step_in.ensures.others.bound) c.any_inside-outcome.ensures.progress
+
+pub any_inside-returns-in-Err-clause-moves : goal.any_inside-returns-in-Err-clause-moves
+any_inside-returns-in-Err-clause-moves g t c = moves_err c.in-Err.ensures.moves
+
+pub any_inside-returns-in-Err-clause-progress : goal.any_inside-returns-in-Err-clause-progress
+any_inside-returns-in-Err-clause-progress g t c = tt
+
+pub any_inside-returns-in-Err-clause-sound : goal.any_inside-returns-in-Err-clause-sound
+any_inside-returns-in-Err-clause-sound g t c = tt
+
+pub any_inside-returns-in-Ok-any_array-clause-progress : goal.any_inside-returns-in-Ok-any_array-clause-progress
+any_inside-returns-in-Ok-any_array-clause-progress g t c = omega (arith, c.in-Ok-any_array.ensures.progress, c.in-Ok.ensures.moves.by.bound)
+
+pub any_inside-returns-in-Ok-any_array-clause-complete : goal.any_inside-returns-in-Ok-any_array-clause-complete
+any_inside-returns-in-Ok-any_array-clause-complete g t c = tt
+
+pub any_inside-returns-in-Ok-any_array-clause-stops : goal.any_inside-returns-in-Ok-any_array-clause-stops
+any_inside-returns-in-Ok-any_array-clause-stops g t c = tt
+
+pub any_inside-returns-in-Err-any_array-clause-progress : goal.any_inside-returns-in-Err-any_array-clause-progress
+any_inside-returns-in-Err-any_array-clause-progress g t c = tt
+
+pub any_inside-returns-in-Err-any_array-clause-sound : goal.any_inside-returns-in-Err-any_array-clause-sound
+any_inside-returns-in-Err-any_array-clause-sound g t c = tt
+
+pub any_inside-returns-in-Ok-any_map-clause-progress : goal.any_inside-returns-in-Ok-any_map-clause-progress
+any_inside-returns-in-Ok-any_map-clause-progress g t c = omega (arith, c.in-Ok-any_map.ensures.progress, c.in-Ok.ensures.moves.by.bound)
+
+pub any_inside-returns-in-Ok-any_map-clause-complete : goal.any_inside-returns-in-Ok-any_map-clause-complete
+any_inside-returns-in-Ok-any_map-clause-complete g t c = tt
+
+pub any_inside-returns-in-Ok-any_map-clause-stops : goal.any_inside-returns-in-Ok-any_map-clause-stops
+any_inside-returns-in-Ok-any_map-clause-stops g t c = tt
+
+pub any_inside-returns-in-Err-any_map-clause-progress : goal.any_inside-returns-in-Err-any_map-clause-progress
+any_inside-returns-in-Err-any_map-clause-progress g t c = tt
+
+pub any_inside-returns-in-Err-any_map-clause-sound : goal.any_inside-returns-in-Err-any_map-clause-sound
+any_inside-returns-in-Err-any_map-clause-sound g t c = tt
+
+pub any_inside-returns-in-Other-clause-moves : goal.any_inside-returns-in-Other-clause-moves
+any_inside-returns-in-Other-clause-moves g t c = record { by = c.in-Ok.ensures.moves.by; depth = λ e. refl }
+
+pub any_inside-returns-in-Other-clause-progress : goal.any_inside-returns-in-Other-clause-progress
+any_inside-returns-in-Other-clause-progress g t c = tt
+
+pub any_inside-returns-in-Other-clause-sound : goal.any_inside-returns-in-Other-clause-sound
+any_inside-returns-in-Other-clause-sound g t c = tt
+
+pub array_inside-returns-in-Err-clause-moves : goal.array_inside-returns-in-Err-clause-moves
+array_inside-returns-in-Err-clause-moves g t c = moves_err c.in-Err.ensures.moves
+
+pub array_inside-returns-in-Err-clause-progress : goal.array_inside-returns-in-Err-clause-progress
+array_inside-returns-in-Err-clause-progress g t c = tt
+
+pub array_inside-returns-in-Err-clause-sound : goal.array_inside-returns-in-Err-clause-sound
+array_inside-returns-in-Err-clause-sound g t c = tt
+
+pub map_inside-returns-in-Err-clause-moves : goal.map_inside-returns-in-Err-clause-moves
+map_inside-returns-in-Err-clause-moves g t c = moves_err c.in-Err.ensures.moves
+
+pub map_inside-returns-in-Err-clause-progress : goal.map_inside-returns-in-Err-clause-progress
+map_inside-returns-in-Err-clause-progress g t c = tt
+
+pub map_inside-returns-in-Err-clause-sound : goal.map_inside-returns-in-Err-clause-sound
+map_inside-returns-in-Err-clause-sound g t c = tt
+
+pub counted_pairs-returns-then-is_err-clause-moves : goal.counted_pairs-returns-then-is_err-clause-moves
+counted_pairs-returns-then-is_err-clause-moves g t c = record { by = kept_alike _; depth = λ e. refl }
+
+pub counted_pairs-returns-then-is_err-clause-sound : goal.counted_pairs-returns-then-is_err-clause-sound
+counted_pairs-returns-then-is_err-clause-sound g t c = tt
+
+pub counted_pairs-returns-then-is_err-clause-complete : goal.counted_pairs-returns-then-is_err-clause-complete
+counted_pairs-returns-then-is_err-clause-complete g t c = record { at = λ xs told. tt }
+
+pub counted_pairs-returns-then-is_err-clause-stops : goal.counted_pairs-returns-then-is_err-clause-stops
+counted_pairs-returns-then-is_err-clause-stops g t c = record { at = λ xs told. tt }
+
+pub counted_pairs-loop-i-init : goal.counted_pairs-loop-i-init
+counted_pairs-loop-i-init g t c = rw (c.reserve.ensures.items, c.new-pairs.ensures.items) (record { count = refl; parts = record { at = λ xs told. record { count = 0; cost = 0; read = (refl, refl); fits = fits_zero _; left = told } }; kept = kept_alike _ })
+
+pub open_pairs-loop-pairs-init : goal.open_pairs-loop-pairs-init
+open_pairs-loop-pairs-init g t c = rw c.new-pairs.ensures.items (record { allowed = inl refl; parts = record { at = λ xs told. record { count = 0; cost = 0; read = (refl, refl); fits = fits_zero _; left = told } }; kept = kept_alike _ })
+
+pub counted_pairs-returns-in_err-add_pair-clause-sound : goal.counted_pairs-returns-in_err-add_pair-clause-sound
+counted_pairs-returns-in_err-add_pair-clause-sound g t c = rw (err_from_is_err_and c.from_residual.result c.from_residual.ensures.1).1 tt
+
+pub counted_pairs-returns-clause-moves : goal.counted_pairs-returns-clause-moves
+counted_pairs-returns-clause-moves g t c = record { by = c.loop-i.invariant.kept; depth = λ e. refl }
+
+pub counted_pairs-returns-clause-complete : goal.counted_pairs-returns-clause-complete
+counted_pairs-returns-clause-complete g t c = tt
+
+pub counted_pairs-returns-clause-stops : goal.counted_pairs-returns-clause-stops
+counted_pairs-returns-clause-stops g t c = tt
+
+pub open_pairs-returns-in_err-takes_break-clause-sound : goal.open_pairs-returns-in_err-takes_break-clause-sound
+open_pairs-returns-in_err-takes_break-clause-sound g t c = rw (err_from_is_err_and c.from_residual.result c.from_residual.ensures.1).1 tt
+
+pub open_pairs-returns-in_err-add_pair-clause-sound : goal.open_pairs-returns-in_err-add_pair-clause-sound
+open_pairs-returns-in_err-add_pair-clause-sound g t c = rw (err_from_is_err_and c.from_residual-in_err-add_pair.result c.from_residual-in_err-add_pair.ensures.1).1 tt
+
+pub open_pairs-returns-clause-complete : goal.open_pairs-returns-clause-complete
+open_pairs-returns-clause-complete g t c = tt
+
+pub open_pairs-returns-clause-stops : goal.open_pairs-returns-clause-stops
+open_pairs-returns-clause-stops g t c = tt
+
+pub open_pairs-loop-pairs-smaller : goal.open_pairs-loop-pairs-smaller
+open_pairs-loop-pairs-smaller g t c = omega (arith, c.in_ok-add_pair.ensures.progress, c.in_ok-takes_break.ensures.runs.moves.by.bound)
+
+pub counted_values-returns-then-is_err-clause-moves : goal.counted_values-returns-then-is_err-clause-moves
+counted_values-returns-then-is_err-clause-moves g t c = record { by = kept_alike _; depth = λ e. refl }
+
+pub counted_values-returns-then-is_err-clause-sound : goal.counted_values-returns-then-is_err-clause-sound
+counted_values-returns-then-is_err-clause-sound g t c = tt
+
+pub counted_values-returns-then-is_err-clause-complete : goal.counted_values-returns-then-is_err-clause-complete
+counted_values-returns-then-is_err-clause-complete g t c = record { at = λ xs told. tt }
+
+pub counted_values-returns-then-is_err-clause-stops : goal.counted_values-returns-then-is_err-clause-stops
+counted_values-returns-then-is_err-clause-stops g t c = record { at = λ xs told. tt }
+
+pub counted_values-loop-i-init : goal.counted_values-loop-i-init
+counted_values-loop-i-init g t c = rw (c.reserve.ensures.items, c.new-values.ensures.items) (record { count = refl; parts = record { at = λ xs told. record { count = 0; cost = 0; read = (refl, refl); fits = fits_zero _; left = told } }; kept = kept_alike _ })
+
+pub open_values-loop-values-init : goal.open_values-loop-values-init
+open_values-loop-values-init g t c = rw c.new-values.ensures.items (record { allowed = inl refl; parts = record { at = λ xs told. record { count = 0; cost = 0; read = (refl, refl); fits = fits_zero _; left = told } }; kept = kept_alike _ })
+
+pub counted_values-returns-in_err-add_value-clause-sound : goal.counted_values-returns-in_err-add_value-clause-sound
+counted_values-returns-in_err-add_value-clause-sound g t c = rw (err_from_is_err_and c.from_residual.result c.from_residual.ensures.1).1 tt
+
+pub counted_values-returns-clause-moves : goal.counted_values-returns-clause-moves
+counted_values-returns-clause-moves g t c = record { by = c.loop-i.invariant.kept; depth = λ e. refl }
+
+pub counted_values-returns-clause-complete : goal.counted_values-returns-clause-complete
+counted_values-returns-clause-complete g t c = tt
+
+pub counted_values-returns-clause-stops : goal.counted_values-returns-clause-stops
+counted_values-returns-clause-stops g t c = tt
+
+pub open_values-returns-in_err-takes_break-clause-sound : goal.open_values-returns-in_err-takes_break-clause-sound
+open_values-returns-in_err-takes_break-clause-sound g t c = rw (err_from_is_err_and c.from_residual.result c.from_residual.ensures.1).1 tt
+
+pub open_values-returns-in_err-add_value-clause-sound : goal.open_values-returns-in_err-add_value-clause-sound
+open_values-returns-in_err-add_value-clause-sound g t c = rw (err_from_is_err_and c.from_residual-in_err-add_value.result c.from_residual-in_err-add_value.ensures.1).1 tt
+
+pub open_values-returns-clause-complete : goal.open_values-returns-clause-complete
+open_values-returns-clause-complete g t c = tt
+
+pub open_values-returns-clause-stops : goal.open_values-returns-clause-stops
+open_values-returns-clause-stops g t c = tt
+
+pub open_values-loop-values-smaller : goal.open_values-loop-values-smaller
+open_values-loop-values-smaller g t c = omega (arith, c.in_ok-add_value.ensures.progress, c.in_ok-takes_break.ensures.runs.moves.by.bound)
+
+pub read_pair-returns-in_err-key-clause-moves : goal.read_pair-returns-in_err-key-clause-moves
+read_pair-returns-in_err-key-clause-moves g t c =
+    let p = err_from_is_err_and c.from_residual.result c.from_residual.ensures.1 in
+    rw (p.1, p.2) (moves_err c.in_err-key.ensures.moves)
+
+pub read_pair-returns-in_err-key-clause-progress : goal.read_pair-returns-in_err-key-clause-progress
+read_pair-returns-in_err-key-clause-progress g t c = rw (err_from_is_err_and c.from_residual.result c.from_residual.ensures.1).1 tt
+
+pub read_pair-returns-in_err-key-clause-sound : goal.read_pair-returns-in_err-key-clause-sound
+read_pair-returns-in_err-key-clause-sound g t c = rw (err_from_is_err_and c.from_residual.result c.from_residual.ensures.1).1 tt
+
+pub read_pair-returns-in-Ok-clause-progress : goal.read_pair-returns-in-Ok-clause-progress
+read_pair-returns-in-Ok-clause-progress g t c = omega (arith, c.in-Ok.ensures.progress, c.in_ok-key.ensures.progress)
+
+pub read_pair-returns-in-Ok-clause-complete : goal.read_pair-returns-in-Ok-clause-complete
+read_pair-returns-in-Ok-clause-complete g t c = tt
+
+pub read_pair-returns-in-Ok-clause-stops : goal.read_pair-returns-in-Ok-clause-stops
+read_pair-returns-in-Ok-clause-stops g t c = tt
+
+pub read_pair-returns-in-Err-clause-progress : goal.read_pair-returns-in-Err-clause-progress
+read_pair-returns-in-Err-clause-progress g t c = tt
+
+pub read_pair-returns-in-Err-clause-sound : goal.read_pair-returns-in-Err-clause-sound
+read_pair-returns-in-Err-clause-sound g t c = tt
