@@ -1,4 +1,4 @@
-use Rattle.std.proofs.Common.{refl, true}
+use Rattle.std.proofs.Common.{refl, true, arith}
 use Rattle.std.specs.Prelude.{codes}
 use Rattle.std.proofs.lemmas.Result.{err_from_is_err_and}
 use Rattle.cbor4ii_items.specs.Laws.Steps.{moves_then, moves_err, kept_then}
@@ -51,3 +51,18 @@ returns-clause-moves g c = record { by = kept_then c.loop-alloc.invariant.opened
 
 pub returns-clause-sound : goal.returns-clause-sound
 returns-clause-sound g c = unended_done (g.V.Values.named c.args.names.now) c.if-not-branch.false c.loop-alloc.invariant c.in_ok-takes_break.ensures.runs
+
+pub returns-in_err-takes_break-clause-sound : goal.returns-in_err-takes_break-clause-sound
+returns-in_err-takes_break-clause-sound g c = rw (err_from_is_err_and c.from_residual.result c.from_residual.ensures.1).1 tt
+
+pub returns-in_err-take_field-clause-sound : goal.returns-in_err-take_field-clause-sound
+returns-in_err-take_field-clause-sound g c = rw (err_from_is_err_and c.from_residual-in_err-take_field.result c.from_residual-in_err-take_field.ensures.1).1 tt
+
+pub returns-clause-complete : goal.returns-clause-complete
+returns-clause-complete g c said exact = tt
+
+pub returns-clause-stops : goal.returns-clause-stops
+returns-clause-stops g c = tt
+
+pub loop-alloc-smaller : goal.loop-alloc-smaller
+loop-alloc-smaller g c = omega (arith, c.in_ok-take_field.ensures.progress, c.in_ok-takes_break.ensures.runs.moves.by.bound)

@@ -37,3 +37,93 @@ returns-in-Ok-clause-still g c not is = cc
 
 pub returns-in-Ok-false-clause-still : goal.returns-in-Ok-false-clause-still
 returns-in-Ok-false-clause-still g c not is = c.in-Ok-false.ensures.still not
+
+pub returns-in-Ok-clause-same_reference : goal.returns-in-Ok-clause-same_reference
+returns-in-Ok-clause-same_reference g c = c.in-Ok-true.ensures.same_reference
+
+pub returns-in-Ok-clause-same_steps : goal.returns-in-Ok-clause-same_steps
+returns-in-Ok-clause-same_steps g c = c.in-Ok-true.ensures.same_steps
+
+pub returns-in-Ok-clause-memory : goal.returns-in-Ok-clause-memory
+returns-in-Ok-clause-memory g c = tt
+
+pub returns-in-Ok-clause-tried : goal.returns-in-Ok-clause-tried
+returns-in-Ok-clause-tried g c = tt
+
+pub returns-in-Ok-clause-complete : goal.returns-in-Ok-clause-complete
+returns-in-Ok-clause-complete g c said exact = tt
+
+pub returns-in-Ok-clause-stops : goal.returns-in-Ok-clause-stops
+returns-in-Ok-clause-stops g c = tt
+
+pub returns-in-Err-deserialize-clause-same_reference : goal.returns-in-Err-deserialize-clause-same_reference
+returns-in-Err-deserialize-clause-same_reference g c = c.in-Ok-true.ensures.same_reference
+
+pub returns-in-Err-deserialize-clause-same_steps : goal.returns-in-Err-deserialize-clause-same_steps
+returns-in-Err-deserialize-clause-same_steps g c = c.in-Ok-true.ensures.same_steps
+
+pub returns-in-Err-deserialize-clause-memory : goal.returns-in-Err-deserialize-clause-memory
+returns-in-Err-deserialize-clause-memory g c = c.in-Err-deserialize.ensures.memory
+
+pub returns-in-Err-deserialize-clause-sound : goal.returns-in-Err-deserialize-clause-sound
+returns-in-Err-deserialize-clause-sound g c = tt
+
+pub returns-in-Err-deserialize-clause-left : goal.returns-in-Err-deserialize-clause-left
+returns-in-Err-deserialize-clause-left g c = tt
+
+pub returns-in-Err-deserialize-clause-still : goal.returns-in-Err-deserialize-clause-still
+returns-in-Err-deserialize-clause-still g c not = tt
+
+pub returns-in-Err-deserialize-clause-shrinks : goal.returns-in-Err-deserialize-clause-shrinks
+returns-in-Err-deserialize-clause-shrinks g c = tt
+
+pub returns-in-Ok-false-clause-same_reference : goal.returns-in-Ok-false-clause-same_reference
+returns-in-Ok-false-clause-same_reference g c = c.in-Ok-false.ensures.same_reference
+
+pub returns-in-Ok-false-clause-same_steps : goal.returns-in-Ok-false-clause-same_steps
+returns-in-Ok-false-clause-same_steps g c = c.in-Ok-false.ensures.same_steps
+
+pub returns-in-Ok-false-clause-moves : goal.returns-in-Ok-false-clause-moves
+returns-in-Ok-false-clause-moves g c = moves_ok c.in-Ok-false.ensures.moves
+
+pub returns-in-Ok-false-clause-memory : goal.returns-in-Ok-false-clause-memory
+returns-in-Ok-false-clause-memory g c = tt
+
+pub returns-in-Ok-false-clause-tried : goal.returns-in-Ok-false-clause-tried
+returns-in-Ok-false-clause-tried g c = tt
+
+pub returns-in-Ok-false-clause-complete : goal.returns-in-Ok-false-clause-complete
+returns-in-Ok-false-clause-complete g c said exact = tt
+
+pub returns-in-Ok-false-clause-stops : goal.returns-in-Ok-false-clause-stops
+returns-in-Ok-false-clause-stops g c = tt
+
+pub returns-in-Ok-false-clause-shrinks : goal.returns-in-Ok-false-clause-shrinks
+returns-in-Ok-false-clause-shrinks g c = tt
+
+pub returns-in-Err-clause-same_reference : goal.returns-in-Err-clause-same_reference
+returns-in-Err-clause-same_reference g c = c.in-Err.ensures.same_reference
+
+pub returns-in-Err-clause-same_steps : goal.returns-in-Err-clause-same_steps
+returns-in-Err-clause-same_steps g c = c.in-Err.ensures.same_steps
+
+pub returns-in-Err-clause-moves : goal.returns-in-Err-clause-moves
+returns-in-Err-clause-moves g c = moves_err c.in-Err.ensures.moves
+
+pub returns-in-Err-clause-memory : goal.returns-in-Err-clause-memory
+returns-in-Err-clause-memory g c is = let no = c.in-Err.ensures.memory in cc
+
+pub returns-in-Err-clause-sound : goal.returns-in-Err-clause-sound
+returns-in-Err-clause-sound g c = tt
+
+pub returns-in-Err-clause-left : goal.returns-in-Err-clause-left
+returns-in-Err-clause-left g c = tt
+
+pub returns-in-Err-clause-tried : goal.returns-in-Err-clause-tried
+returns-in-Err-clause-tried g c = rw c.in-Err.ensures.asked c.in-Err.ensures.kept
+
+pub returns-in-Err-clause-still : goal.returns-in-Err-clause-still
+returns-in-Err-clause-still g c not = tt
+
+pub returns-in-Err-clause-shrinks : goal.returns-in-Err-clause-shrinks
+returns-in-Err-clause-shrinks g c = tt

@@ -44,3 +44,87 @@ returns-in-Err-deserialize-clause-stops g c =
 
 pub returns-in-Err-clause-stops : goal.returns-in-Err-clause-stops
 returns-in-Err-clause-stops g c = entry_key_stops _ _ _ _ c.in-Err.ensures.stops
+
+pub returns-in-Ok-clause-same_reference : goal.returns-in-Ok-clause-same_reference
+returns-in-Ok-clause-same_reference g c = c.in-Ok-Some.ensures.same_reference
+
+pub returns-in-Ok-clause-same_steps : goal.returns-in-Ok-clause-same_steps
+returns-in-Ok-clause-same_steps g c = c.in-Ok-Some.ensures.same_steps
+
+pub returns-in-Ok-clause-memory : goal.returns-in-Ok-clause-memory
+returns-in-Ok-clause-memory g c = tt
+
+pub returns-in-Ok-clause-tried : goal.returns-in-Ok-clause-tried
+returns-in-Ok-clause-tried g c = tt
+
+pub returns-in-Ok-clause-complete : goal.returns-in-Ok-clause-complete
+returns-in-Ok-clause-complete g c said exact = tt
+
+pub returns-in-Ok-clause-stops : goal.returns-in-Ok-clause-stops
+returns-in-Ok-clause-stops g c = tt
+
+pub returns-in-Err-deserialize-clause-same_reference : goal.returns-in-Err-deserialize-clause-same_reference
+returns-in-Err-deserialize-clause-same_reference g c = c.in-Ok-Some.ensures.same_reference
+
+pub returns-in-Err-deserialize-clause-same_steps : goal.returns-in-Err-deserialize-clause-same_steps
+returns-in-Err-deserialize-clause-same_steps g c = c.in-Ok-Some.ensures.same_steps
+
+pub returns-in-Err-deserialize-clause-sound : goal.returns-in-Err-deserialize-clause-sound
+returns-in-Err-deserialize-clause-sound g c = tt
+
+pub returns-in-Err-deserialize-clause-left : goal.returns-in-Err-deserialize-clause-left
+returns-in-Err-deserialize-clause-left g c = tt
+
+pub returns-in-Err-deserialize-clause-still : goal.returns-in-Err-deserialize-clause-still
+returns-in-Err-deserialize-clause-still g c not = tt
+
+pub returns-in-Err-deserialize-clause-shrinks : goal.returns-in-Err-deserialize-clause-shrinks
+returns-in-Err-deserialize-clause-shrinks g c = tt
+
+pub returns-in-Ok-None-clause-same_reference : goal.returns-in-Ok-None-clause-same_reference
+returns-in-Ok-None-clause-same_reference g c = c.in-Ok-None.ensures.same_reference
+
+pub returns-in-Ok-None-clause-same_steps : goal.returns-in-Ok-None-clause-same_steps
+returns-in-Ok-None-clause-same_steps g c = c.in-Ok-None.ensures.same_steps
+
+pub returns-in-Ok-None-clause-moves : goal.returns-in-Ok-None-clause-moves
+returns-in-Ok-None-clause-moves g c = moves_ok c.in-Ok-None.ensures.moves
+
+pub returns-in-Ok-None-clause-memory : goal.returns-in-Ok-None-clause-memory
+returns-in-Ok-None-clause-memory g c = tt
+
+pub returns-in-Ok-None-clause-tried : goal.returns-in-Ok-None-clause-tried
+returns-in-Ok-None-clause-tried g c = tt
+
+pub returns-in-Ok-None-clause-complete : goal.returns-in-Ok-None-clause-complete
+returns-in-Ok-None-clause-complete g c said exact = tt
+
+pub returns-in-Ok-None-clause-stops : goal.returns-in-Ok-None-clause-stops
+returns-in-Ok-None-clause-stops g c = tt
+
+pub returns-in-Ok-None-clause-shrinks : goal.returns-in-Ok-None-clause-shrinks
+returns-in-Ok-None-clause-shrinks g c = tt
+
+pub returns-in-Err-clause-same_reference : goal.returns-in-Err-clause-same_reference
+returns-in-Err-clause-same_reference g c = c.in-Err.ensures.same_reference
+
+pub returns-in-Err-clause-same_steps : goal.returns-in-Err-clause-same_steps
+returns-in-Err-clause-same_steps g c = c.in-Err.ensures.same_steps
+
+pub returns-in-Err-clause-moves : goal.returns-in-Err-clause-moves
+returns-in-Err-clause-moves g c = moves_err c.in-Err.ensures.moves
+
+pub returns-in-Err-clause-sound : goal.returns-in-Err-clause-sound
+returns-in-Err-clause-sound g c = tt
+
+pub returns-in-Err-clause-left : goal.returns-in-Err-clause-left
+returns-in-Err-clause-left g c = tt
+
+pub returns-in-Err-clause-tried : goal.returns-in-Err-clause-tried
+returns-in-Err-clause-tried g c = c.in-Err.ensures.tried
+
+pub returns-in-Err-clause-still : goal.returns-in-Err-clause-still
+returns-in-Err-clause-still g c not = tt
+
+pub returns-in-Err-clause-shrinks : goal.returns-in-Err-clause-shrinks
+returns-in-Err-clause-shrinks g c = tt

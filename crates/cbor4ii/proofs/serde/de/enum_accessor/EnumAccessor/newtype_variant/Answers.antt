@@ -9,3 +9,15 @@ returns-clause-complete g c said exact = content_err _ c.deserialize.result _ c.
 
 pub returns-clause-stops : goal.returns-clause-stops
 returns-clause-stops g c = content_said _ _ _ c.deserialize.result _ _ _ c.if-not-self.false c.drop-self-2.ensures.others c.deserialize.ensures.moves c.deserialize.ensures.stops
+
+pub returns-clause-finishes : goal.returns-clause-finishes
+returns-clause-finishes g c = record { within = _; moves = c.deserialize.ensures.moves; closes = c.drop-self-2.ensures }
+
+pub returns-clause-wrong : goal.returns-clause-wrong
+returns-clause-wrong g c is = let has = c.if-not-self.false in cc
+
+pub returns-clause-memory : goal.returns-clause-memory
+returns-clause-memory g c = c.deserialize.ensures.memory
+
+pub returns-clause-progress : goal.returns-clause-progress
+returns-clause-progress g c = rw c.drop-self-2.ensures.others.bound c.deserialize.ensures.progress

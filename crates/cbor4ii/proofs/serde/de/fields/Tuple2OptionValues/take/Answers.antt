@@ -1,4 +1,5 @@
 use Rattle.std.proofs.Common.{inl, refl}
+use Rattle.cbor4ii_items.specs.Laws.Steps.{moves_ok, moves_err}
 use Rattle.cbor4ii_items.specs.Laws.Containers.{both}
 use Rattle.cbor4ii_items.specs.Laws.Pairs.{exact_both}
 use Rattle.cbor4ii.proofs.Filling.{differs, agrees, first_here, another, none_has, first_refuses, another_refuses, none_refuses}
@@ -37,3 +38,21 @@ returns-in-empty-clause-stops g c = none_stopped (said g.T.Typed.exact g.T.Typed
 
 pub returns-in-Err-clause-stops : goal.returns-in-Err-clause-stops
 returns-in-Err-clause-stops g c = first_stopped (said g.T.Typed.exact g.T.Typed.stops) g.V.Values.stops c.args.names.now c.args.name.now (g.S.Source.view c.args.de.now.reader) (g.S.Source.view c.deserialize.new.de.reader) _ c.in-len1-up.len_at_least (agrees c.args.name.now _ c.if-ne.ensures) (said_left _ _ c.in-Err.ensures.moves c.in-Err.ensures.stops)
+
+pub returns-in-Ok-clause-moves : goal.returns-in-Ok-clause-moves
+returns-in-Ok-clause-moves g c = moves_ok c.in-Ok.ensures.moves
+
+pub returns-in-Ok-clause-complete : goal.returns-in-Ok-clause-complete
+returns-in-Ok-clause-complete g c said exact = tt
+
+pub returns-in-Ok-clause-stops : goal.returns-in-Ok-clause-stops
+returns-in-Ok-clause-stops g c = tt
+
+pub returns-in-Err-clause-moves : goal.returns-in-Err-clause-moves
+returns-in-Err-clause-moves g c = moves_err c.in-Err.ensures.moves
+
+pub returns-in-Err-clause-sound : goal.returns-in-Err-clause-sound
+returns-in-Err-clause-sound g c = tt
+
+pub returns-then-ne-clause-moves : goal.returns-then-ne-clause-moves
+returns-then-ne-clause-moves g c = c.take.ensures.moves
