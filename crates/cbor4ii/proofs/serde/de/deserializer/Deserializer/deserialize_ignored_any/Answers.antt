@@ -25,3 +25,51 @@ returns-in-Err-clause-item g c = record {
   complete = λ e. refuses_as ReadsIgnored ReadsSkipped (λ xs budget none v. none record {}) (c.in-Err.ensures.complete (inl refl));
   stopped = λ e. c.in-Err.ensures.stops (inl refl);
 }
+
+pub returns-in-Ok-clause-only : goal.returns-in-Ok-clause-only
+returns-in-Ok-clause-only g c = c.in-Ok.ensures.only
+
+pub returns-in-Ok-clause-all : goal.returns-in-Ok-clause-all
+returns-in-Ok-clause-all g c = c.in-Ok.ensures.all
+
+pub returns-in-Ok-clause-front : goal.returns-in-Ok-clause-front
+returns-in-Ok-clause-front g c = c.in-Ok.ensures.front
+
+pub returns-in-Ok-clause-eof : goal.returns-in-Ok-clause-eof
+returns-in-Ok-clause-eof g c = c.in-Ok.ensures.eof
+
+pub returns-in-Ok-clause-depth : goal.returns-in-Ok-clause-depth
+returns-in-Ok-clause-depth g c = c.in-Ok.ensures.depth
+
+pub returns-in-Ok-clause-never : goal.returns-in-Ok-clause-never
+returns-in-Ok-clause-never g c = c.in-Ok.ensures.never
+
+pub returns-in-Ok-clause-others : goal.returns-in-Ok-clause-others
+returns-in-Ok-clause-others g c = c.in-Ok.ensures.others
+
+pub returns-in-Ok-clause-exact : goal.returns-in-Ok-clause-exact
+returns-in-Ok-clause-exact g c = c.in-Ok.ensures.exact
+
+pub returns-in-Err-clause-only : goal.returns-in-Err-clause-only
+returns-in-Err-clause-only g c = c.in-Err.ensures.only
+
+pub returns-in-Err-clause-all : goal.returns-in-Err-clause-all
+returns-in-Err-clause-all g c = c.in-Err.ensures.all
+
+pub returns-in-Err-clause-front : goal.returns-in-Err-clause-front
+returns-in-Err-clause-front g c = c.in-Err.ensures.front
+
+pub returns-in-Err-clause-eof : goal.returns-in-Err-clause-eof
+returns-in-Err-clause-eof g c = c.in-Err.ensures.eof
+
+pub returns-in-Err-clause-depth : goal.returns-in-Err-clause-depth
+returns-in-Err-clause-depth g c = c.in-Err.ensures.depth
+
+pub returns-in-Err-clause-never : goal.returns-in-Err-clause-never
+returns-in-Err-clause-never g c = c.in-Err.ensures.never
+
+pub returns-in-Err-clause-others : goal.returns-in-Err-clause-others
+returns-in-Err-clause-others g c = c.in-Err.ensures.others
+
+pub returns-in-Err-clause-exact : goal.returns-in-Err-clause-exact
+returns-in-Err-clause-exact g c = c.in-Err.ensures.exact
