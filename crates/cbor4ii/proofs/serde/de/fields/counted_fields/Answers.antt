@@ -1,4 +1,4 @@
-use Rattle.std.proofs.Common.{arith}
+use Rattle.std.proofs.Common.{arith, refl}
 use Rattle.std.proofs.lemmas.Result.{err_from_is_err_and}
 use Rattle.cbor4ii_items.specs.Laws.Steps.{moves_then, moves_err}
 use Rattle.cbor4ii_items.specs.Laws.Answering.{exact_kept}
@@ -30,3 +30,15 @@ loop-i-preserved g c = counted_more (g.V.Values.named c.args.names.now) c.loop-i
 
 pub returns-clause-sound : goal.returns-clause-sound
 returns-clause-sound g c = counted_done (g.V.Values.named c.args.names.now) c.loop-i.invariant (omega (arith, c.loop-i-test.false, c.loop-i.auto.i-end))
+
+pub returns-in_err-take_field-clause-sound : goal.returns-in_err-take_field-clause-sound
+returns-in_err-take_field-clause-sound g c = rw (err_from_is_err_and c.from_residual.result c.from_residual.ensures.1).1 tt
+
+pub returns-clause-moves : goal.returns-clause-moves
+returns-clause-moves g c = record { by = c.loop-i.invariant.begun.kept; depth = λ e. refl }
+
+pub returns-clause-complete : goal.returns-clause-complete
+returns-clause-complete g c said exact = tt
+
+pub returns-clause-stops : goal.returns-clause-stops
+returns-clause-stops g c = tt

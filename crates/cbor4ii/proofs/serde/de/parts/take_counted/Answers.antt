@@ -1,7 +1,8 @@
-use Rattle.std.proofs.Common.{arith}
+use Rattle.cbor4ii_items.specs.Laws.Running.{kept_alike}
+use Rattle.std.proofs.Common.{arith, refl}
 use Rattle.std.proofs.lemmas.Result.{err_from_is_err_and}
 use Rattle.cbor4ii_items.specs.Laws.Steps.{moves_then, moves_err}
-use Rattle.cbor4ii_items.specs.Laws.Answering.{exact_kept}
+use Rattle.cbor4ii_items.specs.Laws.Answering.{exact_kept, fits_zero}
 use Rattle.cbor4ii_items.specs.Laws.SequenceParts.{count_more, count_done, count_refuses}
 use Rattle.cbor4ii.specs.Typed.{size_of}
 use Rattle.cbor4ii.proofs.PartStops.{count_stops}
@@ -27,3 +28,30 @@ pub returns-in_err-add_part-clause-stops : goal.returns-in_err-add_part-clause-s
 returns-in_err-add_part-clause-stops g c =
     let p = err_from_is_err_and c.from_residual.result c.from_residual.ensures.1 in
     rw (p.1, p.2) (count_stops _ _ c.loop-i.invariant c.loop-i-test.true c.in_err-add_part.ensures.stops)
+
+pub returns-then-is_err-clause-moves : goal.returns-then-is_err-clause-moves
+returns-then-is_err-clause-moves g c = record { by = kept_alike _; depth = λ e. refl }
+
+pub returns-then-is_err-clause-sound : goal.returns-then-is_err-clause-sound
+returns-then-is_err-clause-sound g c = tt
+
+pub returns-then-is_err-clause-complete : goal.returns-then-is_err-clause-complete
+returns-then-is_err-clause-complete g c said exact = record { at = λ xs told. tt }
+
+pub returns-then-is_err-clause-stops : goal.returns-then-is_err-clause-stops
+returns-then-is_err-clause-stops g c = record { at = λ xs told. tt }
+
+pub loop-i-init : goal.loop-i-init
+loop-i-init g c = rw (c.reserve.ensures.items, c.new-parts.ensures.items) (record { count = refl; parts = record { at = λ xs told. record { count = 0; cost = 0; read = (refl, refl); fits = fits_zero _; left = told } }; kept = kept_alike _ })
+
+pub returns-in_err-add_part-clause-sound : goal.returns-in_err-add_part-clause-sound
+returns-in_err-add_part-clause-sound g c = rw (err_from_is_err_and c.from_residual.result c.from_residual.ensures.1).1 tt
+
+pub returns-clause-moves : goal.returns-clause-moves
+returns-clause-moves g c = record { by = c.loop-i.invariant.kept; depth = λ e. refl }
+
+pub returns-clause-complete : goal.returns-clause-complete
+returns-clause-complete g c said exact = tt
+
+pub returns-clause-stops : goal.returns-clause-stops
+returns-clause-stops g c = tt

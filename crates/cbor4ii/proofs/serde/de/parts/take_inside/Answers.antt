@@ -1,4 +1,4 @@
-use Rattle.cbor4ii_items.specs.Laws.Steps.{moves_then}
+use Rattle.cbor4ii_items.specs.Laws.Steps.{moves_then, moves_err}
 use Rattle.cbor4ii_items.specs.Laws.Answering.{exact_kept}
 use Rattle.cbor4ii.proofs.Sequences.{counted_sound, counted_refuses, opened_sound, opened_refuses}
 use Rattle.cbor4ii_items.specs.Laws.SequenceInside.{counts_of, opens_of, no_length}
@@ -40,3 +40,12 @@ returns-in-Ok-None-clause-stops g c = opened_stops _ _ _ _ _ c.take_open.result 
 
 pub returns-in-Err-clause-stops : goal.returns-in-Err-clause-stops
 returns-in-Err-clause-stops g c = head_stops _ _ _ _ _ c.in-Err.ensures.stops
+
+pub returns-in-Err-clause-moves : goal.returns-in-Err-clause-moves
+returns-in-Err-clause-moves g c = moves_err c.in-Err.ensures.moves
+
+pub returns-in-Err-clause-progress : goal.returns-in-Err-clause-progress
+returns-in-Err-clause-progress g c = tt
+
+pub returns-in-Err-clause-sound : goal.returns-in-Err-clause-sound
+returns-in-Err-clause-sound g c = tt

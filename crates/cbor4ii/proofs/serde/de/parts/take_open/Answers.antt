@@ -1,7 +1,8 @@
-use Rattle.std.proofs.Common.{true, refl}
+use Rattle.cbor4ii_items.specs.Laws.Running.{kept_alike}
+use Rattle.std.proofs.Common.{true, refl, arith, inl}
 use Rattle.std.proofs.lemmas.Result.{err_from_is_err_and}
 use Rattle.cbor4ii_items.specs.Laws.Steps.{moves_then, moves_err, kept_then}
-use Rattle.cbor4ii_items.specs.Laws.Answering.{exact_kept}
+use Rattle.cbor4ii_items.specs.Laws.Answering.{exact_kept, fits_zero}
 use Rattle.cbor4ii_items.specs.Laws.SequenceParts.{stands, open_more, open_done, open_refuses, end_refuses}
 use Rattle.cbor4ii.specs.Typed.{size_of}
 use Rattle.cbor4ii.proofs.PartStops.{open_stops, end_stops}
@@ -47,3 +48,21 @@ pub returns-in_err-add_part-clause-stops : goal.returns-in_err-add_part-clause-s
 returns-in_err-add_part-clause-stops g c =
     let p = err_from_is_err_and c.from_residual-in_err-add_part.result c.from_residual-in_err-add_part.ensures.1 in
     rw (p.1, p.2) (open_stops g.Q.Sequence.reads g.Q.Sequence.stops true g.Q.Sequence.name refl c.loop-parts.invariant (stands c.if-not-branch.true c.in_ok-takes_break.ensures.runs) c.in_err-add_part.ensures.stops)
+
+pub loop-parts-init : goal.loop-parts-init
+loop-parts-init g c = rw c.new-parts.ensures.items (record { allowed = inl refl; parts = record { at = λ xs told. record { count = 0; cost = 0; read = (refl, refl); fits = fits_zero _; left = told } }; kept = kept_alike _ })
+
+pub returns-in_err-takes_break-clause-sound : goal.returns-in_err-takes_break-clause-sound
+returns-in_err-takes_break-clause-sound g c = rw (err_from_is_err_and c.from_residual.result c.from_residual.ensures.1).1 tt
+
+pub returns-in_err-add_part-clause-sound : goal.returns-in_err-add_part-clause-sound
+returns-in_err-add_part-clause-sound g c = rw (err_from_is_err_and c.from_residual-in_err-add_part.result c.from_residual-in_err-add_part.ensures.1).1 tt
+
+pub returns-clause-complete : goal.returns-clause-complete
+returns-clause-complete g c said exact = tt
+
+pub returns-clause-stops : goal.returns-clause-stops
+returns-clause-stops g c = tt
+
+pub loop-parts-smaller : goal.loop-parts-smaller
+loop-parts-smaller g c = omega (arith, c.in_ok-add_part.ensures.progress, c.in_ok-takes_break.ensures.runs.moves.by.bound)

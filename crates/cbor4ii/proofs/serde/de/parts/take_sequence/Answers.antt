@@ -15,3 +15,12 @@ returns-clause-complete g c said exact = step_refuses c.take_inside-outcome.resu
 
 pub returns-clause-stops : goal.returns-clause-stops
 returns-clause-stops g c = step_stops _ _ c.take_inside-outcome.result c.if-not-step_in.ensures.budget c.step_in.ensures.others c.step_out.ensures.others c.take_inside-outcome.ensures.stops
+
+pub returns-then-not-step_in-clause-progress : goal.returns-then-not-step_in-clause-progress
+returns-then-not-step_in-clause-progress g c = tt
+
+pub returns-then-not-step_in-clause-sound : goal.returns-then-not-step_in-clause-sound
+returns-then-not-step_in-clause-sound g c = tt
+
+pub returns-clause-progress : goal.returns-clause-progress
+returns-clause-progress g c = rw (c.step_out.ensures.others.bound, ← c.step_in.ensures.others.bound) c.take_inside-outcome.ensures.progress

@@ -1,3 +1,4 @@
+use Rattle.cbor4ii_items.specs.Laws.Steps.{moves_err}
 use Rattle.std.proofs.Common.{refl, inl, inr, rules, arith}
 use Rattle.cbor4ii.proofs.Looking.{kept_next, saw, no_option}
 use Rattle.cbor4ii.proofs.Presence.{null_coming, value_coming, no_step_refuses, no_step_stops, presence_ended, no_null}
@@ -38,3 +39,54 @@ returns-else-not-step_in-clause-opened g c = record {
   progress = λ e. absurd (no_null e);
   held = (c.if-not-step_in.ensures.budget, c.step_in.ensures.others);
 }
+
+pub returns-then-first-clause-moves : goal.returns-then-first-clause-moves
+returns-then-first-clause-moves g c = tt
+
+pub returns-then-first-clause-memory : goal.returns-then-first-clause-memory
+returns-then-first-clause-memory g c = tt
+
+pub returns-then-first-clause-complete : goal.returns-then-first-clause-complete
+returns-then-first-clause-complete g c = tt
+
+pub returns-then-first-clause-stops : goal.returns-then-first-clause-stops
+returns-then-first-clause-stops g c = tt
+
+pub returns-then-first-clause-failed : goal.returns-then-first-clause-failed
+returns-then-first-clause-failed g c is = cc
+
+pub returns-else-not-step_in-clause-moves : goal.returns-else-not-step_in-clause-moves
+returns-else-not-step_in-clause-moves g c = tt
+
+pub returns-else-not-step_in-clause-memory : goal.returns-else-not-step_in-clause-memory
+returns-else-not-step_in-clause-memory g c = tt
+
+pub returns-else-not-step_in-clause-complete : goal.returns-else-not-step_in-clause-complete
+returns-else-not-step_in-clause-complete g c = tt
+
+pub returns-else-not-step_in-clause-stops : goal.returns-else-not-step_in-clause-stops
+returns-else-not-step_in-clause-stops g c = tt
+
+pub returns-else-not-step_in-clause-failed : goal.returns-else-not-step_in-clause-failed
+returns-else-not-step_in-clause-failed g c is = cc
+
+pub returns-then-not-step_in-clause-opened : goal.returns-then-not-step_in-clause-opened
+returns-then-not-step_in-clause-opened g c = tt
+
+pub returns-then-not-step_in-clause-memory : goal.returns-then-not-step_in-clause-memory
+returns-then-not-step_in-clause-memory g c = refl
+
+pub returns-then-not-step_in-clause-failed : goal.returns-then-not-step_in-clause-failed
+returns-then-not-step_in-clause-failed g c is = cc
+
+pub returns-in-Err-clause-opened : goal.returns-in-Err-clause-opened
+returns-in-Err-clause-opened g c = tt
+
+pub returns-in-Err-clause-moves : goal.returns-in-Err-clause-moves
+returns-in-Err-clause-moves g c = moves_err c.in-Err.ensures.moves
+
+pub returns-in-Err-clause-memory : goal.returns-in-Err-clause-memory
+returns-in-Err-clause-memory g c = c.in-Err.ensures.memory
+
+pub returns-in-Err-clause-failed : goal.returns-in-Err-clause-failed
+returns-in-Err-clause-failed g c = c.in-Err.ensures.failed

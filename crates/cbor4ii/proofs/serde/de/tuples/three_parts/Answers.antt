@@ -34,3 +34,23 @@ returns-in_err-first-clause-stops g c =
 
 pub returns-in-Err-clause-stops : goal.returns-in-Err-clause-stops
 returns-in-Err-clause-stops g c = value_stops_pair _ _ _ c.in_ok-first.ensures.moves.by c.in_ok-first.ensures.sound (λ xs told. c.in-Err.ensures.stops)
+
+pub returns-in_err-first-clause-moves : goal.returns-in_err-first-clause-moves
+returns-in_err-first-clause-moves g c =
+    let p = err_from_is_err_and c.from_residual.result c.from_residual.ensures.1 in
+    rw (p.1, p.2) (moves_err c.in_err-first.ensures.moves)
+
+pub returns-in_err-first-clause-sound : goal.returns-in_err-first-clause-sound
+returns-in_err-first-clause-sound g c = rw (err_from_is_err_and c.from_residual.result c.from_residual.ensures.1).1 tt
+
+pub returns-in-Ok-clause-memory : goal.returns-in-Ok-clause-memory
+returns-in-Ok-clause-memory g c = tt
+
+pub returns-in-Ok-clause-complete : goal.returns-in-Ok-clause-complete
+returns-in-Ok-clause-complete g c said exact = tt
+
+pub returns-in-Ok-clause-stops : goal.returns-in-Ok-clause-stops
+returns-in-Ok-clause-stops g c = tt
+
+pub returns-in-Err-clause-sound : goal.returns-in-Err-clause-sound
+returns-in-Err-clause-sound g c = tt

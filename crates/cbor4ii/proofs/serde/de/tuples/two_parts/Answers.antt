@@ -1,3 +1,4 @@
+use Rattle.std.proofs.Common.{arith}
 use Rattle.std.proofs.lemmas.Result.{err_from_is_err_and}
 use Rattle.cbor4ii_items.specs.Laws.Steps.{moves_then, moves_ok, moves_err}
 use Rattle.cbor4ii_items.specs.Laws.Answering.{exact_kept}
@@ -33,3 +34,32 @@ returns-in_err-first-clause-stops g c =
 
 pub returns-in-Err-clause-stops : goal.returns-in-Err-clause-stops
 returns-in-Err-clause-stops g c = value_stops_pair _ _ _ c.in_ok-first.ensures.moves.by c.in_ok-first.ensures.sound (λ xs told. (said_left _ _ c.in-Err.ensures.moves c.in-Err.ensures.stops))
+
+pub returns-in_err-first-clause-moves : goal.returns-in_err-first-clause-moves
+returns-in_err-first-clause-moves g c =
+    let p = err_from_is_err_and c.from_residual.result c.from_residual.ensures.1 in
+    rw (p.1, p.2) (moves_err c.in_err-first.ensures.moves)
+
+pub returns-in_err-first-clause-progress : goal.returns-in_err-first-clause-progress
+returns-in_err-first-clause-progress g c = rw (err_from_is_err_and c.from_residual.result c.from_residual.ensures.1).1 tt
+
+pub returns-in_err-first-clause-sound : goal.returns-in_err-first-clause-sound
+returns-in_err-first-clause-sound g c = rw (err_from_is_err_and c.from_residual.result c.from_residual.ensures.1).1 tt
+
+pub returns-in-Ok-clause-progress : goal.returns-in-Ok-clause-progress
+returns-in-Ok-clause-progress g c = omega (arith, c.in-Ok.ensures.progress, c.in_ok-first.ensures.progress)
+
+pub returns-in-Ok-clause-memory : goal.returns-in-Ok-clause-memory
+returns-in-Ok-clause-memory g c = tt
+
+pub returns-in-Ok-clause-complete : goal.returns-in-Ok-clause-complete
+returns-in-Ok-clause-complete g c said exact = tt
+
+pub returns-in-Ok-clause-stops : goal.returns-in-Ok-clause-stops
+returns-in-Ok-clause-stops g c = tt
+
+pub returns-in-Err-clause-progress : goal.returns-in-Err-clause-progress
+returns-in-Err-clause-progress g c = tt
+
+pub returns-in-Err-clause-sound : goal.returns-in-Err-clause-sound
+returns-in-Err-clause-sound g c = tt

@@ -1,4 +1,4 @@
-use Rattle.std.proofs.Common.{refl, inl, inr, rules}
+use Rattle.std.proofs.Common.{refl, inl, inr, rules, arith}
 use Rattle.cbor4ii_items.specs.Laws.Steps.{moves_then, moves_ok, moves_err}
 use Rattle.cbor4ii_items.specs.Laws.Answering.{exact_kept}
 use Rattle.cbor4ii.specs.Typed.{said}
@@ -40,3 +40,48 @@ returns-in-Err-under_step-clause-stops g c = option_stops _ (saw c.in-Ok.ensures
 
 pub returns-in-Err-clause-stops : goal.returns-in-Err-clause-stops
 returns-in-Err-clause-stops g c = option_ended (StopsStepped (codes "option") (said g.T.Typed.exact g.T.Typed.stops)) c.in-Err.ensures.stops
+
+pub returns-then-first-clause-progress : goal.returns-then-first-clause-progress
+returns-then-first-clause-progress g c = omega (arith, c.advance.ensures.bound, c.in-Ok.ensures.moves.by.bound)
+
+pub returns-then-first-clause-memory : goal.returns-then-first-clause-memory
+returns-then-first-clause-memory g c = tt
+
+pub returns-then-first-clause-complete : goal.returns-then-first-clause-complete
+returns-then-first-clause-complete g c is exact = tt
+
+pub returns-then-first-clause-stops : goal.returns-then-first-clause-stops
+returns-then-first-clause-stops g c = tt
+
+pub returns-in-Ok-under_step-clause-progress : goal.returns-in-Ok-under_step-clause-progress
+returns-in-Ok-under_step-clause-progress g c = omega (arith, c.in-Ok-under_step.ensures.progress, c.in-Ok.ensures.moves.by.bound)
+
+pub returns-in-Ok-under_step-clause-memory : goal.returns-in-Ok-under_step-clause-memory
+returns-in-Ok-under_step-clause-memory g c = tt
+
+pub returns-in-Ok-under_step-clause-complete : goal.returns-in-Ok-under_step-clause-complete
+returns-in-Ok-under_step-clause-complete g c is exact = tt
+
+pub returns-in-Ok-under_step-clause-stops : goal.returns-in-Ok-under_step-clause-stops
+returns-in-Ok-under_step-clause-stops g c = tt
+
+pub returns-in-Err-under_step-clause-progress : goal.returns-in-Err-under_step-clause-progress
+returns-in-Err-under_step-clause-progress g c = tt
+
+pub returns-in-Err-under_step-clause-sound : goal.returns-in-Err-under_step-clause-sound
+returns-in-Err-under_step-clause-sound g c = tt
+
+pub returns-in-Err-under_step-clause-memory : goal.returns-in-Err-under_step-clause-memory
+returns-in-Err-under_step-clause-memory g c = c.in-Err-under_step.ensures.memory
+
+pub returns-in-Err-clause-moves : goal.returns-in-Err-clause-moves
+returns-in-Err-clause-moves g c = moves_err c.in-Err.ensures.moves
+
+pub returns-in-Err-clause-progress : goal.returns-in-Err-clause-progress
+returns-in-Err-clause-progress g c = tt
+
+pub returns-in-Err-clause-sound : goal.returns-in-Err-clause-sound
+returns-in-Err-clause-sound g c = tt
+
+pub returns-in-Err-clause-memory : goal.returns-in-Err-clause-memory
+returns-in-Err-clause-memory g c is = let no = c.in-Err.ensures.memory in cc

@@ -10,3 +10,36 @@ returns-clause-complete g c said exact = value_refuses _ c.if-not-self.false (c.
 
 pub returns-clause-stops : goal.returns-clause-stops
 returns-clause-stops g c said = stopped_behind _ c.drop-self-2.ensures.others (c.in-Err.ensures.stops said)
+
+pub returns-in-Ok-clause-memory : goal.returns-in-Ok-clause-memory
+returns-in-Ok-clause-memory g c = tt
+
+pub returns-in-Ok-clause-progress : goal.returns-in-Ok-clause-progress
+returns-in-Ok-clause-progress g c = rw c.drop-self-in-Ok.ensures.others.bound c.in-Ok.ensures.progress
+
+pub returns-in-Ok-clause-complete : goal.returns-in-Ok-clause-complete
+returns-in-Ok-clause-complete g c said exact = tt
+
+pub returns-in-Ok-clause-stops : goal.returns-in-Ok-clause-stops
+returns-in-Ok-clause-stops g c said = tt
+
+pub returns-clause-memory : goal.returns-clause-memory
+returns-clause-memory g c = c.in-Err.ensures.memory
+
+pub returns-clause-progress : goal.returns-clause-progress
+returns-clause-progress g c = tt
+
+pub returns-clause-sound : goal.returns-clause-sound
+returns-clause-sound g c = tt
+
+pub returns-then-not-self-clause-memory : goal.returns-then-not-self-clause-memory
+returns-then-not-self-clause-memory g c = tt
+
+pub returns-then-not-self-clause-progress : goal.returns-then-not-self-clause-progress
+returns-then-not-self-clause-progress g c = tt
+
+pub returns-then-not-self-clause-complete : goal.returns-then-not-self-clause-complete
+returns-then-not-self-clause-complete g c said exact = tt
+
+pub returns-then-not-self-clause-stops : goal.returns-then-not-self-clause-stops
+returns-then-not-self-clause-stops g c said = tt

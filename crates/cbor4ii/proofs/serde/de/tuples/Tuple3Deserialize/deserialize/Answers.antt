@@ -15,3 +15,18 @@ returns-clause-complete g c said exact = step_refuses c.triple_behind-outcome.re
 
 pub returns-clause-stops : goal.returns-clause-stops
 returns-clause-stops g c = step_stops _ _ c.triple_behind-outcome.result c.if-not-step_in.ensures.budget c.step_in.ensures.others c.step_out.ensures.others c.triple_behind-outcome.ensures.stops
+
+pub returns-then-not-step_in-clause-progress : goal.returns-then-not-step_in-clause-progress
+returns-then-not-step_in-clause-progress g c = tt
+
+pub returns-then-not-step_in-clause-sound : goal.returns-then-not-step_in-clause-sound
+returns-then-not-step_in-clause-sound g c = tt
+
+pub returns-clause-progress : goal.returns-clause-progress
+returns-clause-progress g c = rw (c.step_out.ensures.others.bound, ← c.step_in.ensures.others.bound) c.triple_behind-outcome.ensures.progress
+
+pub returns-then-not-step_in-clause-memory : goal.returns-then-not-step_in-clause-memory
+returns-then-not-step_in-clause-memory g c is = cc
+
+pub returns-clause-memory : goal.returns-clause-memory
+returns-clause-memory g c = c.triple_behind-outcome.ensures.memory
