@@ -1,3 +1,4 @@
+use Rattle.cbor4ii_items.specs.Laws.Steps.{moves_err, moves_ok}
 use Rattle.std.proofs.Common.{inl}
 use Rattle.cbor4ii.proofs.AnyForms.{formed_sound, formed_refuses}
 use Rattle.cbor4ii.proofs.serde.de.any_leaf.take_as.Goals as goal
@@ -10,3 +11,24 @@ returns-in-Err-clause-complete g c owned = formed_refuses g.T.Spelled.reads g.T.
 
 pub returns-in-Err-clause-stops : goal.returns-in-Err-clause-stops
 returns-in-Err-clause-stops g c owned = c.in-Err.ensures.stopped (inl owned)
+
+pub returns-in-Ok-clause-moves : goal.returns-in-Ok-clause-moves
+returns-in-Ok-clause-moves g c = moves_ok c.in-Ok.ensures.moves
+
+pub returns-in-Ok-clause-progress : goal.returns-in-Ok-clause-progress
+returns-in-Ok-clause-progress g c = c.in-Ok.ensures.progress
+
+pub returns-in-Ok-clause-complete : goal.returns-in-Ok-clause-complete
+returns-in-Ok-clause-complete g c owned = tt
+
+pub returns-in-Ok-clause-stops : goal.returns-in-Ok-clause-stops
+returns-in-Ok-clause-stops g c owned = tt
+
+pub returns-in-Err-clause-moves : goal.returns-in-Err-clause-moves
+returns-in-Err-clause-moves g c = moves_err c.in-Err.ensures.moves
+
+pub returns-in-Err-clause-progress : goal.returns-in-Err-clause-progress
+returns-in-Err-clause-progress g c never = tt
+
+pub returns-in-Err-clause-sound : goal.returns-in-Err-clause-sound
+returns-in-Err-clause-sound g c = tt

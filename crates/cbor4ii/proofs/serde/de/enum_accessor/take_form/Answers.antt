@@ -1,3 +1,4 @@
+use Rattle.cbor4ii_items.specs.Laws.Steps.{moves_err}
 use Rattle.std.proofs.Common.{refl, rules}
 use Rattle.cbor4ii.proofs.Looking.{kept_next, saw}
 use Rattle.cbor4ii.proofs.Contents.{entry_sound, name_sound, other_refuses, other_stops, form_missing, form_ended}
@@ -23,3 +24,54 @@ returns-else-first-eq-STRING-clause-complete g c = other_refuses (saw c.in-Ok.en
 
 pub returns-else-first-eq-STRING-clause-stops : goal.returns-else-first-eq-STRING-clause-stops
 returns-else-first-eq-STRING-clause-stops g c = other_stops refl (saw c.in-Ok.ensures.moves c.in-Ok.ensures.sound) c.if-first.false c.if-first-eq-STRING.false
+
+pub returns-then-first-clause-memory : goal.returns-then-first-clause-memory
+returns-then-first-clause-memory g c = tt
+
+pub returns-then-first-clause-complete : goal.returns-then-first-clause-complete
+returns-then-first-clause-complete g c = tt
+
+pub returns-then-first-clause-stops : goal.returns-then-first-clause-stops
+returns-then-first-clause-stops g c = tt
+
+pub returns-then-first-clause-failed : goal.returns-then-first-clause-failed
+returns-then-first-clause-failed g c is = cc
+
+pub returns-then-first-eq-STRING-clause-moves : goal.returns-then-first-eq-STRING-clause-moves
+returns-then-first-eq-STRING-clause-moves g c = record { by = c.in-Ok.ensures.moves.by; depth = λ e. refl }
+
+pub returns-then-first-eq-STRING-clause-memory : goal.returns-then-first-eq-STRING-clause-memory
+returns-then-first-eq-STRING-clause-memory g c = tt
+
+pub returns-then-first-eq-STRING-clause-complete : goal.returns-then-first-eq-STRING-clause-complete
+returns-then-first-eq-STRING-clause-complete g c = tt
+
+pub returns-then-first-eq-STRING-clause-stops : goal.returns-then-first-eq-STRING-clause-stops
+returns-then-first-eq-STRING-clause-stops g c = tt
+
+pub returns-then-first-eq-STRING-clause-failed : goal.returns-then-first-eq-STRING-clause-failed
+returns-then-first-eq-STRING-clause-failed g c is = cc
+
+pub returns-else-first-eq-STRING-clause-moves : goal.returns-else-first-eq-STRING-clause-moves
+returns-else-first-eq-STRING-clause-moves g c = record { by = c.in-Ok.ensures.moves.by; depth = λ e. refl }
+
+pub returns-else-first-eq-STRING-clause-memory : goal.returns-else-first-eq-STRING-clause-memory
+returns-else-first-eq-STRING-clause-memory g c = refl
+
+pub returns-else-first-eq-STRING-clause-failed : goal.returns-else-first-eq-STRING-clause-failed
+returns-else-first-eq-STRING-clause-failed g c is = cc
+
+pub returns-else-first-eq-STRING-clause-sound : goal.returns-else-first-eq-STRING-clause-sound
+returns-else-first-eq-STRING-clause-sound g c = tt
+
+pub returns-in-Err-clause-moves : goal.returns-in-Err-clause-moves
+returns-in-Err-clause-moves g c = moves_err c.in-Err.ensures.moves
+
+pub returns-in-Err-clause-memory : goal.returns-in-Err-clause-memory
+returns-in-Err-clause-memory g c = c.in-Err.ensures.memory
+
+pub returns-in-Err-clause-failed : goal.returns-in-Err-clause-failed
+returns-in-Err-clause-failed g c = c.in-Err.ensures.failed
+
+pub returns-in-Err-clause-sound : goal.returns-in-Err-clause-sound
+returns-in-Err-clause-sound g c = tt

@@ -1,5 +1,5 @@
 use Rattle.cbor4ii_items.specs.Laws.Answering.{exact_kept}
-use Rattle.cbor4ii_items.specs.Laws.Steps.{moves_then}
+use Rattle.cbor4ii_items.specs.Laws.Steps.{moves_then, moves_err}
 use Rattle.cbor4ii.proofs.Filling.{entry_changes, no_name, no_value}
 use Rattle.std.proofs.Common.{inl, refl}
 use Rattle.cbor4ii.proofs.FieldStops.{name_stopped, value_stopped}
@@ -22,3 +22,12 @@ returns-in-Ok-clause-stops g c = value_stopped (g.V.Values.stops c.args.names.no
 
 pub returns-in-Err-clause-stops : goal.returns-in-Err-clause-stops
 returns-in-Err-clause-stops g c = name_stopped _ (c.in-Err.ensures.stops refl)
+
+pub returns-in-Err-clause-moves : goal.returns-in-Err-clause-moves
+returns-in-Err-clause-moves g c = moves_err c.in-Err.ensures.moves
+
+pub returns-in-Err-clause-progress : goal.returns-in-Err-clause-progress
+returns-in-Err-clause-progress g c = tt
+
+pub returns-in-Err-clause-sound : goal.returns-in-Err-clause-sound
+returns-in-Err-clause-sound g c = tt

@@ -1,3 +1,4 @@
+use Rattle.std.proofs.lemmas.Result.{err_from_is_err_and}
 use Rattle.std.proofs.Common.{◌≡◌, List, [], ◌∷◌, ◌++◌, refl, ap, sym, ◌∙◌}
 use Rattle.std.specs.declared.cmp.Ordering.{Ordering}
 use Rattle.std.specs.BTreeMap.{insert_entry}
@@ -13,3 +14,6 @@ loop-key-preserved g c =
     c.in_ok-put.ensures
     ∙ (ap (λ es. insert_entry g.K.Ord.cmp es c.in-Some.key c.in-Some.value) c.loop-key.invariant
     ∙ sym (put-last g.K.Ord.cmp [] c.loop-key.yielded (c.in-Some.key, c.in-Some.value)))
+
+pub returns-in_err-put : goal.returns-in_err-put
+returns-in_err-put g c = rw (err_from_is_err_and c.from_residual.result c.from_residual.ensures.1).1 tt

@@ -1,4 +1,4 @@
-use Rattle.cbor4ii_items.specs.Laws.Steps.{moves_then}
+use Rattle.cbor4ii_items.specs.Laws.Steps.{moves_then, moves_err}
 use Rattle.cbor4ii_items.specs.Laws.Answering.{exact_kept}
 use Rattle.cbor4ii.proofs.Tupled.{behind_sound, behind_refuses, behind_no_head}
 use Rattle.cbor4ii_items.specs.Laws.Pairs.{key_stops_pair}
@@ -23,3 +23,18 @@ returns-in-Ok-clause-stops g c = behind_stops _ _ _ c.two_parts.result _ c.in-Ok
 
 pub returns-in-Err-clause-stops : goal.returns-in-Err-clause-stops
 returns-in-Err-clause-stops g c = key_stops_pair _ _ _ c.in-Err.ensures.stops
+
+pub returns-in-Err-clause-moves : goal.returns-in-Err-clause-moves
+returns-in-Err-clause-moves g c = moves_err c.in-Err.ensures.moves
+
+pub returns-in-Err-clause-memory : goal.returns-in-Err-clause-memory
+returns-in-Err-clause-memory g c is = let no = c.in-Err.ensures.memory in cc
+
+pub returns-in-Err-clause-progress : goal.returns-in-Err-clause-progress
+returns-in-Err-clause-progress g c = tt
+
+pub returns-in-Err-clause-sound : goal.returns-in-Err-clause-sound
+returns-in-Err-clause-sound g c = tt
+
+pub returns-in-Ok-clause-memory : goal.returns-in-Ok-clause-memory
+returns-in-Ok-clause-memory g c = c.two_parts.ensures.memory

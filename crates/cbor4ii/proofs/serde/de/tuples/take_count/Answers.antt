@@ -1,3 +1,4 @@
+use Rattle.cbor4ii_items.specs.Laws.Steps.{moves_err}
 use Rattle.std.proofs.Common.{refl}
 use Rattle.cbor4ii.proofs.Tupled.{count_sound, count_other, count_none, not_count, not_open, count_missing, count_differs, counted_len, open_len}
 use Rattle.cbor4ii.proofs.serde.de.tuples.take_count.Goals as goal
@@ -22,3 +23,54 @@ returns-in-Ok-None-clause-stops g c = count_differs refl (not_open c.in-Ok-None.
 
 pub returns-in-Err-clause-stops : goal.returns-in-Err-clause-stops
 returns-in-Err-clause-stops g c = count_missing c.in-Err.ensures.stops
+
+pub returns-then-found-count-clause-moves : goal.returns-then-found-count-clause-moves
+returns-then-found-count-clause-moves g c = record { by = c.in-Ok-Some.ensures.moves.by; depth = λ e. refl }
+
+pub returns-then-found-count-clause-progress : goal.returns-then-found-count-clause-progress
+returns-then-found-count-clause-progress g c = c.in-Ok-Some.ensures.progress
+
+pub returns-then-found-count-clause-memory : goal.returns-then-found-count-clause-memory
+returns-then-found-count-clause-memory g c = tt
+
+pub returns-then-found-count-clause-complete : goal.returns-then-found-count-clause-complete
+returns-then-found-count-clause-complete g c = tt
+
+pub returns-then-found-count-clause-stops : goal.returns-then-found-count-clause-stops
+returns-then-found-count-clause-stops g c = tt
+
+pub returns-else-found-count-clause-moves : goal.returns-else-found-count-clause-moves
+returns-else-found-count-clause-moves g c = record { by = c.in-Ok-Some.ensures.moves.by; depth = λ e. refl }
+
+pub returns-else-found-count-clause-memory : goal.returns-else-found-count-clause-memory
+returns-else-found-count-clause-memory g c = refl
+
+pub returns-else-found-count-clause-progress : goal.returns-else-found-count-clause-progress
+returns-else-found-count-clause-progress g c = tt
+
+pub returns-else-found-count-clause-sound : goal.returns-else-found-count-clause-sound
+returns-else-found-count-clause-sound g c = tt
+
+pub returns-in-Ok-None-clause-moves : goal.returns-in-Ok-None-clause-moves
+returns-in-Ok-None-clause-moves g c = record { by = c.in-Ok-None.ensures.moves.by; depth = λ e. refl }
+
+pub returns-in-Ok-None-clause-memory : goal.returns-in-Ok-None-clause-memory
+returns-in-Ok-None-clause-memory g c = refl
+
+pub returns-in-Ok-None-clause-progress : goal.returns-in-Ok-None-clause-progress
+returns-in-Ok-None-clause-progress g c = tt
+
+pub returns-in-Ok-None-clause-sound : goal.returns-in-Ok-None-clause-sound
+returns-in-Ok-None-clause-sound g c = tt
+
+pub returns-in-Err-clause-moves : goal.returns-in-Err-clause-moves
+returns-in-Err-clause-moves g c = moves_err c.in-Err.ensures.moves
+
+pub returns-in-Err-clause-memory : goal.returns-in-Err-clause-memory
+returns-in-Err-clause-memory g c = c.in-Err.ensures.memory
+
+pub returns-in-Err-clause-progress : goal.returns-in-Err-clause-progress
+returns-in-Err-clause-progress g c = tt
+
+pub returns-in-Err-clause-sound : goal.returns-in-Err-clause-sound
+returns-in-Err-clause-sound g c = tt
