@@ -1,11 +1,11 @@
 use Rattle.cbor4ii_items.specs.Laws.Steps.{moves_err}
-use Rattle.std.proofs.Common.{refl, rules}
+use Rattle.std.proofs.Common.{refl, arith}
 use Rattle.cbor4ii.proofs.Looking.{kept_next, saw}
 use Rattle.cbor4ii.proofs.Contents.{entry_sound, name_sound, other_refuses, other_stops, form_missing, form_ended}
 use Rattle.cbor4ii.proofs.serde.de.enum_accessor.take_form.Goals as goal
 
 pub returns-then-first-clause-moves : goal.returns-then-first-clause-moves
-returns-then-first-clause-moves g c = record { by = kept_next c.in-Ok.ensures.moves c.in-Ok.ensures.sound (search rules) c.advance.ensures; depth = λ e. refl }
+returns-then-first-clause-moves g c = record { by = kept_next c.in-Ok.ensures.moves c.in-Ok.ensures.sound (omega (arith, c.if-first.true)) c.advance.ensures; depth = λ e. refl }
 
 pub returns-then-first-clause-sound : goal.returns-then-first-clause-sound
 returns-then-first-clause-sound g c = entry_sound (saw c.in-Ok.ensures.moves c.in-Ok.ensures.sound) c.if-first.true c.advance.ensures

@@ -1,5 +1,5 @@
 use Rattle.cbor4ii_items.specs.Laws.Steps.{moves_err}
-use Rattle.std.proofs.Common.{refl, inl, inr, rules, arith}
+use Rattle.std.proofs.Common.{refl, inl, inr, arith}
 use Rattle.cbor4ii.proofs.Looking.{kept_next, saw, no_option}
 use Rattle.cbor4ii.proofs.Presence.{null_coming, value_coming, no_step_refuses, no_step_stops, presence_ended, no_null}
 use Rattle.cbor4ii.proofs.serde.de.some_accessor.begin_option.Goals.{then-first-via-then-first, then-first-via-else-first+then-first-2}
@@ -10,7 +10,7 @@ returns-then-first-clause-opened g c =
     let seen = saw c.in-Ok.ensures.moves c.in-Ok.ensures.sound in
     record {
       within = g.S.Source.view c.advance.new.self;
-      kept = kept_next c.in-Ok.ensures.moves c.in-Ok.ensures.sound (search rules) c.advance.ensures;
+      kept = kept_next c.in-Ok.ensures.moves c.in-Ok.ensures.sound (elim c.then-first.branch [ then-first-via-then-first w ↦ omega (arith, w.if-first.true) | then-first-via-else-first+then-first-2 w ↦ omega (arith, w.if-first-2.true) ]) c.advance.ensures;
       coming = elim c.then-first.branch [
         | then-first-via-then-first w ↦ null_coming seen (inl w.if-first.true) c.advance.ensures
         | then-first-via-else-first+then-first-2 w ↦ null_coming seen (inr w.if-first-2.true) c.advance.ensures

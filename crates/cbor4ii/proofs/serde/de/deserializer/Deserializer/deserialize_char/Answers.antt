@@ -1,4 +1,4 @@
-use Rattle.std.proofs.Common.{refl, inl, rules, sym, ◌∙◌, subst}
+use Rattle.std.proofs.Common.{refl, inl, sym, ◌∙◌, subst}
 use Rattle.cbor4ii_items.specs.Laws.Steps.{moves_ok, moves_err}
 use Rattle.cbor4ii.specs.Character.{NoCharacter}
 use Rattle.cbor4ii.proofs.Characters.{char_sound, char_refuses, char_stops, other_moves, other_refuses, other_stops}
@@ -18,7 +18,7 @@ pub returns-in-Ok : goal.returns-in-Ok
 returns-in-Ok g c = record {
   moves = other_moves _ (subst NoCharacter c.as_str.ensures.value (c.in-None.ensures.other refl)) c.in-Ok.ensures.moves;
   progress = λ e. tt;
-  memory = λ no. search rules;
+  memory = λ no. refl;
   sound = tt;
   complete = λ e. other_refuses _ (subst NoCharacter c.as_str.ensures.value (c.in-None.ensures.other refl)) c.in-Ok.ensures.sound;
   stopped = λ e. other_stops _ (subst NoCharacter c.as_str.ensures.value (c.in-None.ensures.other refl)) refl c.in-Ok.ensures.sound;

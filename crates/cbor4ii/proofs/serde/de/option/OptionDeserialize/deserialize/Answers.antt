@@ -1,4 +1,4 @@
-use Rattle.std.proofs.Common.{refl, inl, inr, rules, arith}
+use Rattle.std.proofs.Common.{refl, inl, inr, arith}
 use Rattle.cbor4ii_items.specs.Laws.Steps.{moves_then, moves_ok, moves_err}
 use Rattle.cbor4ii_items.specs.Laws.Answering.{exact_kept}
 use Rattle.cbor4ii.specs.Typed.{said}
@@ -10,7 +10,7 @@ use Rattle.cbor4ii.proofs.serde.de.option.OptionDeserialize.deserialize.Goals.{t
 use Rattle.cbor4ii.proofs.serde.de.option.OptionDeserialize.deserialize.Goals as goal
 
 pub returns-then-first-clause-moves : goal.returns-then-first-clause-moves
-returns-then-first-clause-moves g c = record { by = kept_next c.in-Ok.ensures.moves c.in-Ok.ensures.sound (search rules) c.advance.ensures; depth = λ e. refl }
+returns-then-first-clause-moves g c = record { by = kept_next c.in-Ok.ensures.moves c.in-Ok.ensures.sound (elim c.then-first.branch [ then-first-via-then-first w ↦ omega (arith, w.if-first.true) | then-first-via-else-first+then-first-2 w ↦ omega (arith, w.if-first-2.true) ]) c.advance.ensures; depth = λ e. refl }
 
 pub returns-then-first-clause-sound : goal.returns-then-first-clause-sound
 returns-then-first-clause-sound g c =
