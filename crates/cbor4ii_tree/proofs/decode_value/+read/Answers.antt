@@ -1,10 +1,10 @@
-use Rattle.std.proofs.Common.{inl, refl, ap, subst, ◌∙◌, ◌+◌, ◌∷◌, ◌≡◌}
+use Rattle.std.proofs.Common.{inl, refl, ap, subst, arith, ◌∙◌, ◌+◌, ◌∷◌, ◌≡◌, ◌≤◌, ℕ, Result, Ok, Err, OnOk}
 use Rattle.std.proofs.lemmas.Result.{err_from_is_err_and}
 use Rattle.cbor4ii_tree.specs.Valuing.{ReadsOne, StopsOne, ReadsMember, StopsMember, StopsMembers, StopsFirst, ReadsStepped, StopsOf, ReadsItems, StopsItems, ReadsArray, ReadsMap, StopsMajor, ReadsMembers, ReadsOpen, StopsOpen, ReadsOpenMembers, StopsOpenMembers, ReadsUnder, StopsUnder}
 use Rattle.cbor4ii_tree.specs.declared.value.Value.{Array, Map, Tag}
 use Rattle.cbor4ii_tree.specs.Item.{tag}
 use Rattle.cbor4ii_tree.specs.View.{view}
-use Rattle.cbor4ii_tree.specs.Refusal.{array_name, map_name, tag_name}
+use Rattle.cbor4ii_tree.specs.Refusal.{array_name, map_name, tag_name, value_name}
 use Rattle.cbor4ii_items.specs.Numbers.{StopsArgument}
 use Rattle.cbor4ii_items.specs.Laws.Steps.{kept_then}
 use Rattle.cbor4ii_tree.proofs.skip_calls.Doing.{reached_start, reached_by, does_ok, does_no_memory, does_no_step}
@@ -14,7 +14,23 @@ use Rattle.cbor4ii_tree.proofs.values.Calls.{stepped, none, counted_more, counte
 use Rattle.cbor4ii_tree.proofs.values.Heads.{arm_ok, arm_err, arm_does, call_err, simple_read, reached_tag, tag_read, tag_stops, tag_stopped, view-Tag}
 use Rattle.cbor4ii_tree.proofs.values.Sequences.{major_stepped, array_no_step, map_no_step, array_length_stops, map_length_stops, length_refused, reached_length, reached_open, array_counted, array_opened, array_reads, map_counted, map_opened, map_reads, each_none, each_more, open_end, open_stop, open_done, members_none, members_more, member_stop, pairs_none, pairs_more, members_end, pair_stop, value_stop, members_done, more, ends}
 use Rattle.cbor4ii_tree.proofs.values.Items.{items_none, items_are, members_none_are, members_are, array_item, map_item}
+use Rattle.cbor4ii_rw.specs.View.{View}
+use Rattle.cbor4ii_rw.specs.declared.error.DecodeError.{DecodeError}
+use Rattle.cbor4ii_items.specs.Moves.{Moves}
+use Rattle.cbor4ii_items.specs.Laws.Running.{kept_alike}
 use Rattle.cbor4ii_tree.proofs.decode_value.+read.Goals as goal
+
+went_on : {V E : Type 0} (a : ℕ) {m b : View} {r : Result V (DecodeError E)} → m.bound + 1 ≤ a → Moves m b r → OnOk r (b.bound + 1 ≤ a)
+went_on a {r = Ok v} h k = omega (arith, h, k.by.bound)
+went_on a {r = Err e} h k = tt
+
+around : {V E : Type 0} (a m n b : ℕ) (r : Result V E) → m ≡ a → b ≡ n → OnOk r (n + 1 ≤ m) → OnOk r (b + 1 ≤ a)
+around a m n b (Ok v) e f h = omega (arith, e, f, h)
+around a m n b (Err x) e f h = tt
+
+behind : {V E : Type 0} (a m b : ℕ) (r : Result V E) → m ≤ a → OnOk r (b + 1 ≤ m) → OnOk r (b + 1 ≤ a)
+behind a m b (Ok v) e h = omega (arith, e, h)
+behind a m b (Err x) e h = tt
 
 pub array_inside-returns-in-None-clause-does : goal.array_inside-returns-in-None-clause-does
 array_inside-returns-in-None-clause-does g t c =
@@ -233,3 +249,257 @@ read_inside-returns-in-4-clause-item g t c = array_item c.in_ok-read_array-in-4.
 
 pub read_inside-returns-in-5-clause-item : goal.read_inside-returns-in-5-clause-item
 read_inside-returns-in-5-clause-item g t c = map_item c.in_ok-read_map-in-5.field-0 c.in_ok-read_map-in-5.ensures.items
+
+pub array_inside-returns-in_err-count-clause-items : goal.array_inside-returns-in_err-count-clause-items
+array_inside-returns-in_err-count-clause-items g t c =
+    let p = err_from_is_err_and c.from_residual.result c.from_residual.ensures.1 in rw p.1 tt
+
+pub array_inside-returns-in_err-count-clause-progress : goal.array_inside-returns-in_err-count-clause-progress
+array_inside-returns-in_err-count-clause-progress g t c =
+    let p = err_from_is_err_and c.from_residual.result c.from_residual.ensures.1 in rw p.1 tt
+
+pub counted_items-returns-then-is_err-clause-items : goal.counted_items-returns-then-is_err-clause-items
+counted_items-returns-then-is_err-clause-items g t c = tt
+
+pub counted_items-returns-in_err-value-clause-items : goal.counted_items-returns-in_err-value-clause-items
+counted_items-returns-in_err-value-clause-items g t c =
+    let p = err_from_is_err_and c.from_residual.result c.from_residual.ensures.1 in rw p.1 tt
+
+pub counted_items-returns-in_err-keep-clause-items : goal.counted_items-returns-in_err-keep-clause-items
+counted_items-returns-in_err-keep-clause-items g t c =
+    let p = err_from_is_err_and c.from_residual-in_err-keep.result c.from_residual-in_err-keep.ensures.1 in rw p.1 tt
+
+pub counted_members-returns-then-is_err-clause-items : goal.counted_members-returns-then-is_err-clause-items
+counted_members-returns-then-is_err-clause-items g t c = tt
+
+pub counted_members-returns-in_err-member-clause-items : goal.counted_members-returns-in_err-member-clause-items
+counted_members-returns-in_err-member-clause-items g t c =
+    let p = err_from_is_err_and c.from_residual.result c.from_residual.ensures.1 in rw p.1 tt
+
+pub counted_members-returns-in_err-keep-clause-items : goal.counted_members-returns-in_err-keep-clause-items
+counted_members-returns-in_err-keep-clause-items g t c =
+    let p = err_from_is_err_and c.from_residual-in_err-keep.result c.from_residual-in_err-keep.ensures.1 in rw p.1 tt
+
+pub map_inside-returns-in_err-count-clause-items : goal.map_inside-returns-in_err-count-clause-items
+map_inside-returns-in_err-count-clause-items g t c =
+    let p = err_from_is_err_and c.from_residual.result c.from_residual.ensures.1 in rw p.1 tt
+
+pub map_inside-returns-in_err-count-clause-progress : goal.map_inside-returns-in_err-count-clause-progress
+map_inside-returns-in_err-count-clause-progress g t c =
+    let p = err_from_is_err_and c.from_residual.result c.from_residual.ensures.1 in rw p.1 tt
+
+pub open_items-returns-in_err-is_break-clause-items : goal.open_items-returns-in_err-is_break-clause-items
+open_items-returns-in_err-is_break-clause-items g t c =
+    let p = err_from_is_err_and c.from_residual.result c.from_residual.ensures.1 in rw p.1 tt
+
+pub open_items-returns-in_err-value-clause-items : goal.open_items-returns-in_err-value-clause-items
+open_items-returns-in_err-value-clause-items g t c =
+    let p = err_from_is_err_and c.from_residual-in_err-value.result c.from_residual-in_err-value.ensures.1 in rw p.1 tt
+
+pub open_items-returns-in_err-keep-clause-items : goal.open_items-returns-in_err-keep-clause-items
+open_items-returns-in_err-keep-clause-items g t c =
+    let p = err_from_is_err_and c.from_residual-in_err-keep.result c.from_residual-in_err-keep.ensures.1 in rw p.1 tt
+
+pub open_members-returns-in_err-is_break-clause-items : goal.open_members-returns-in_err-is_break-clause-items
+open_members-returns-in_err-is_break-clause-items g t c =
+    let p = err_from_is_err_and c.from_residual.result c.from_residual.ensures.1 in rw p.1 tt
+
+pub open_members-returns-in_err-member-clause-items : goal.open_members-returns-in_err-member-clause-items
+open_members-returns-in_err-member-clause-items g t c =
+    let p = err_from_is_err_and c.from_residual-in_err-member.result c.from_residual-in_err-member.ensures.1 in rw p.1 tt
+
+pub open_members-returns-in_err-keep-clause-items : goal.open_members-returns-in_err-keep-clause-items
+open_members-returns-in_err-keep-clause-items g t c =
+    let p = err_from_is_err_and c.from_residual-in_err-keep.result c.from_residual-in_err-keep.ensures.1 in rw p.1 tt
+
+pub read_array-returns-then-not-step_in-clause-items : goal.read_array-returns-then-not-step_in-clause-items
+read_array-returns-then-not-step_in-clause-items g t c = tt
+
+pub read_array-returns-then-not-step_in-clause-progress : goal.read_array-returns-then-not-step_in-clause-progress
+read_array-returns-then-not-step_in-clause-progress g t c = tt
+
+pub read_inside-returns-in_err-first-clause-item : goal.read_inside-returns-in_err-first-clause-item
+read_inside-returns-in_err-first-clause-item g t c =
+    let p = err_from_is_err_and c.from_residual.result c.from_residual.ensures.1 in rw p.1 tt
+
+pub read_inside-returns-in_err-first-clause-progress : goal.read_inside-returns-in_err-first-clause-progress
+read_inside-returns-in_err-first-clause-progress g t c =
+    let p = err_from_is_err_and c.from_residual.result c.from_residual.ensures.1 in rw p.1 tt
+
+pub read_inside-returns-in_err-read_array-in-4-clause-item : goal.read_inside-returns-in_err-read_array-in-4-clause-item
+read_inside-returns-in_err-read_array-in-4-clause-item g t c =
+    let p = err_from_is_err_and c.from_residual-in_err-read_array-in-4.result c.from_residual-in_err-read_array-in-4.ensures.1 in rw p.1 tt
+
+pub read_inside-returns-in_err-read_array-in-4-clause-progress : goal.read_inside-returns-in_err-read_array-in-4-clause-progress
+read_inside-returns-in_err-read_array-in-4-clause-progress g t c =
+    let p = err_from_is_err_and c.from_residual-in_err-read_array-in-4.result c.from_residual-in_err-read_array-in-4.ensures.1 in rw p.1 tt
+
+pub read_inside-returns-in_err-read_map-in-5-clause-item : goal.read_inside-returns-in_err-read_map-in-5-clause-item
+read_inside-returns-in_err-read_map-in-5-clause-item g t c =
+    let p = err_from_is_err_and c.from_residual-in_err-read_map-in-5.result c.from_residual-in_err-read_map-in-5.ensures.1 in rw p.1 tt
+
+pub read_inside-returns-in_err-read_map-in-5-clause-progress : goal.read_inside-returns-in_err-read_map-in-5-clause-progress
+read_inside-returns-in_err-read_map-in-5-clause-progress g t c =
+    let p = err_from_is_err_and c.from_residual-in_err-read_map-in-5.result c.from_residual-in_err-read_map-in-5.ensures.1 in rw p.1 tt
+
+pub read_inside-returns-in_err-number-in-6-clause-item : goal.read_inside-returns-in_err-number-in-6-clause-item
+read_inside-returns-in_err-number-in-6-clause-item g t c =
+    let p = err_from_is_err_and c.from_residual-in_err-number-in-6.result c.from_residual-in_err-number-in-6.ensures.1 in rw p.1 tt
+
+pub read_inside-returns-in_err-number-in-6-clause-progress : goal.read_inside-returns-in_err-number-in-6-clause-progress
+read_inside-returns-in_err-number-in-6-clause-progress g t c =
+    let p = err_from_is_err_and c.from_residual-in_err-number-in-6.result c.from_residual-in_err-number-in-6.ensures.1 in rw p.1 tt
+
+pub read_inside-returns-in_err-inner-in-6-clause-item : goal.read_inside-returns-in_err-inner-in-6-clause-item
+read_inside-returns-in_err-inner-in-6-clause-item g t c =
+    let p = err_from_is_err_and c.from_residual-in_err-inner-in-6.result c.from_residual-in_err-inner-in-6.ensures.1 in rw p.1 tt
+
+pub read_inside-returns-in_err-inner-in-6-clause-progress : goal.read_inside-returns-in_err-inner-in-6-clause-progress
+read_inside-returns-in_err-inner-in-6-clause-progress g t c =
+    let p = err_from_is_err_and c.from_residual-in_err-inner-in-6.result c.from_residual-in_err-inner-in-6.ensures.1 in rw p.1 tt
+
+pub read_inside-returns-in-6-clause-item : goal.read_inside-returns-in-6-clause-item
+read_inside-returns-in-6-clause-item g t c = tt
+
+pub read_inside-returns-in-6-clause-progress : goal.read_inside-returns-in-6-clause-progress
+read_inside-returns-in-6-clause-progress g t c = tt
+
+pub read_map-returns-then-not-step_in-clause-items : goal.read_map-returns-then-not-step_in-clause-items
+read_map-returns-then-not-step_in-clause-items g t c = tt
+
+pub read_map-returns-then-not-step_in-clause-progress : goal.read_map-returns-then-not-step_in-clause-progress
+read_map-returns-then-not-step_in-clause-progress g t c = tt
+
+pub read_member-returns-in_err-key-clause-key : goal.read_member-returns-in_err-key-clause-key
+read_member-returns-in_err-key-clause-key g t c =
+    let p = err_from_is_err_and c.from_residual.result c.from_residual.ensures.1 in rw p.1 tt
+
+pub read_member-returns-in_err-key-clause-value : goal.read_member-returns-in_err-key-clause-value
+read_member-returns-in_err-key-clause-value g t c =
+    let p = err_from_is_err_and c.from_residual.result c.from_residual.ensures.1 in rw p.1 tt
+
+pub read_member-returns-in_err-key-clause-progress : goal.read_member-returns-in_err-key-clause-progress
+read_member-returns-in_err-key-clause-progress g t c =
+    let p = err_from_is_err_and c.from_residual.result c.from_residual.ensures.1 in rw p.1 tt
+
+pub read_member-returns-in_err-value-clause-key : goal.read_member-returns-in_err-value-clause-key
+read_member-returns-in_err-value-clause-key g t c =
+    let p = err_from_is_err_and c.from_residual-in_err-value.result c.from_residual-in_err-value.ensures.1 in rw p.1 tt
+
+pub read_member-returns-in_err-value-clause-value : goal.read_member-returns-in_err-value-clause-value
+read_member-returns-in_err-value-clause-value g t c =
+    let p = err_from_is_err_and c.from_residual-in_err-value.result c.from_residual-in_err-value.ensures.1 in rw p.1 tt
+
+pub read_member-returns-in_err-value-clause-progress : goal.read_member-returns-in_err-value-clause-progress
+read_member-returns-in_err-value-clause-progress g t c =
+    let p = err_from_is_err_and c.from_residual-in_err-value.result c.from_residual-in_err-value.ensures.1 in rw p.1 tt
+
+pub read_value-returns-then-not-step_in-clause-item : goal.read_value-returns-then-not-step_in-clause-item
+read_value-returns-then-not-step_in-clause-item g t c = tt
+
+pub read_value-returns-then-not-step_in-clause-progress : goal.read_value-returns-then-not-step_in-clause-progress
+read_value-returns-then-not-step_in-clause-progress g t c = tt
+
+pub counted_items-returns-then-is_err-clause-does : goal.counted_items-returns-then-is_err-clause-does
+counted_items-returns-then-is_err-clause-does g t c =
+    does_no_memory (λ xs v ys. ReadsItems c.args.count (g.S.Source.view c.args.reader.now).budget xs v.items ys) (StopsItems c.args.count (g.S.Source.view c.args.reader.now).budget) refl (kept_alike _)
+
+pub counted_members-returns-then-is_err-clause-does : goal.counted_members-returns-then-is_err-clause-does
+counted_members-returns-then-is_err-clause-does g t c =
+    does_no_memory (λ xs v ys. ReadsMembers c.args.count (g.S.Source.view c.args.reader.now).budget xs v.items ys) (StopsMembers c.args.count (g.S.Source.view c.args.reader.now).budget) refl (kept_alike _)
+
+pub counted_items-returns-clause-items : goal.counted_items-returns-clause-items
+counted_items-returns-clause-items g t c = c.loop-i.invariant.items
+
+pub counted_members-returns-clause-items : goal.counted_members-returns-clause-items
+counted_members-returns-clause-items g t c = c.loop-i.invariant.items
+
+pub open_items-returns-clause-items : goal.open_items-returns-clause-items
+open_items-returns-clause-items g t c = c.loop-items.invariant.items
+
+pub open_members-returns-clause-items : goal.open_members-returns-clause-items
+open_members-returns-clause-items g t c = c.loop-members.invariant.items
+
+pub array_inside-returns-in-Some-clause-items : goal.array_inside-returns-in-Some-clause-items
+array_inside-returns-in-Some-clause-items g t c = c.counted_items.ensures.items
+
+pub array_inside-returns-in-Some-clause-progress : goal.array_inside-returns-in-Some-clause-progress
+array_inside-returns-in-Some-clause-progress g t c = went_on _ c.in_ok-count.ensures.progress c.counted_items.ensures.does.moves
+
+pub array_inside-returns-in-None-clause-items : goal.array_inside-returns-in-None-clause-items
+array_inside-returns-in-None-clause-items g t c = c.open_items.ensures.items
+
+pub array_inside-returns-in-None-clause-progress : goal.array_inside-returns-in-None-clause-progress
+array_inside-returns-in-None-clause-progress g t c = went_on _ c.in_ok-count.ensures.progress c.open_items.ensures.does.moves
+
+pub map_inside-returns-in-Some-clause-items : goal.map_inside-returns-in-Some-clause-items
+map_inside-returns-in-Some-clause-items g t c = c.counted_members.ensures.items
+
+pub map_inside-returns-in-Some-clause-progress : goal.map_inside-returns-in-Some-clause-progress
+map_inside-returns-in-Some-clause-progress g t c = went_on _ c.in_ok-count.ensures.progress c.counted_members.ensures.does.moves
+
+pub map_inside-returns-in-None-clause-items : goal.map_inside-returns-in-None-clause-items
+map_inside-returns-in-None-clause-items g t c = c.open_members.ensures.items
+
+pub map_inside-returns-in-None-clause-progress : goal.map_inside-returns-in-None-clause-progress
+map_inside-returns-in-None-clause-progress g t c = went_on _ c.in_ok-count.ensures.progress c.open_members.ensures.does.moves
+
+pub read_array-returns-clause-items : goal.read_array-returns-clause-items
+read_array-returns-clause-items g t c = c.array_inside-outcome.ensures.items
+
+pub read_array-returns-clause-progress : goal.read_array-returns-clause-progress
+read_array-returns-clause-progress g t c =
+    around _ _ _ _ _ c.step_in.ensures.others.bound c.step_out.ensures.others.bound c.array_inside-outcome.ensures.progress
+
+pub read_map-returns-clause-items : goal.read_map-returns-clause-items
+read_map-returns-clause-items g t c = c.map_inside-outcome.ensures.items
+
+pub read_map-returns-clause-progress : goal.read_map-returns-clause-progress
+read_map-returns-clause-progress g t c =
+    around _ _ _ _ _ c.step_in.ensures.others.bound c.step_out.ensures.others.bound c.map_inside-outcome.ensures.progress
+
+pub read_value-returns-clause-item : goal.read_value-returns-clause-item
+read_value-returns-clause-item g t c = c.read_inside-outcome.ensures.item
+
+pub read_value-returns-clause-progress : goal.read_value-returns-clause-progress
+read_value-returns-clause-progress g t c =
+    around _ _ _ _ _ c.step_in.ensures.others.bound c.step_out.ensures.others.bound c.read_inside-outcome.ensures.progress
+
+pub read_value-returns-then-not-step_in-clause-does : goal.read_value-returns-then-not-step_in-clause-does
+read_value-returns-then-not-step_in-clause-does g t c =
+    does_no_step value_name (ReadsOne (g.S.Source.view c.args.reader.now).budget) (StopsOne (g.S.Source.view c.args.reader.now).budget) refl refl (λ none xs. rw none (refl, refl)) c.if-not-step_in.ensures.budget c.step_in.ensures.others
+
+pub read_member-returns-clause-key : goal.read_member-returns-clause-key
+read_member-returns-clause-key g t c = c.in_ok-key.ensures.item
+
+pub read_member-returns-clause-value : goal.read_member-returns-clause-value
+read_member-returns-clause-value g t c = c.in_ok-value.ensures.item
+
+pub read_member-returns-clause-progress : goal.read_member-returns-clause-progress
+read_member-returns-clause-progress g t c = omega (arith, c.in_ok-key.ensures.progress, c.in_ok-value.ensures.progress)
+
+pub read_inside-returns-in-4-clause-progress : goal.read_inside-returns-in-4-clause-progress
+read_inside-returns-in-4-clause-progress g t c =
+    omega (arith, c.in_ok-first.ensures.runs.moves.by.bound, c.in_ok-read_array-in-4.ensures.progress)
+
+pub read_inside-returns-in-5-clause-progress : goal.read_inside-returns-in-5-clause-progress
+read_inside-returns-in-5-clause-progress g t c =
+    omega (arith, c.in_ok-first.ensures.runs.moves.by.bound, c.in_ok-read_map-in-5.ensures.progress)
+
+pub read_inside-returns-in-Ok-clause-progress : goal.read_inside-returns-in-Ok-clause-progress
+read_inside-returns-in-Ok-clause-progress g t c =
+    omega (arith, c.in_ok-first.ensures.runs.moves.by.bound, c.in_ok-number-in-6.ensures.progress, c.in_ok-inner-in-6.ensures.progress)
+
+pub read_inside-returns-in-7-clause-item : goal.read_inside-returns-in-7-clause-item
+read_inside-returns-in-7-clause-item g t c = c.read_float.ensures.item
+
+pub read_inside-returns-in-7-clause-progress : goal.read_inside-returns-in-7-clause-progress
+read_inside-returns-in-7-clause-progress g t c =
+    behind _ _ _ _ c.in_ok-first.ensures.runs.moves.by.bound c.read_float.ensures.progress
+
+pub read_inside-returns-clause-item : goal.read_inside-returns-clause-item
+read_inside-returns-clause-item g t c = c.read_leaf.ensures.item
+
+pub read_inside-returns-clause-progress : goal.read_inside-returns-clause-progress
+read_inside-returns-clause-progress g t c =
+    behind _ _ _ _ c.in_ok-first.ensures.runs.moves.by.bound c.read_leaf.ensures.progress
