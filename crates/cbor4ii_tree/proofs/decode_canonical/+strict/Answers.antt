@@ -1,4 +1,4 @@
-use Rattle.std.proofs.Common.{ℕ, refl, ap, subst, inl, ◌∙◌, ◌+◌, ◌*◌, ◌≡◌}
+use Rattle.std.proofs.Common.{ℕ, refl, ap, subst, inl, arith, ◌∙◌, ◌+◌, ◌*◌, ◌≡◌, ◌≤◌, Result, Ok, Err, OnOk}
 use Rattle.std.proofs.Common.{Vec, Global}
 use Rattle.std.proofs.lemmas.Result.{err_from_is_err_and}
 use Rattle.cbor4ii_tree.specs.declared.value.Value.{Value, Array, Map, Tag}
@@ -14,7 +14,23 @@ use Rattle.cbor4ii_tree.proofs.skip_calls.Doing.{reached_start, reached_by, does
 use Rattle.cbor4ii_tree.proofs.values.Heads.{view-Tag}
 use Rattle.cbor4ii_tree.proofs.values.Sequences.{more, ends}
 use Rattle.cbor4ii_tree.proofs.canonical.Calls.{reached_shortest, call_stops, exact_ok, exact_err, exact_first, exact_tag, exact_tag_err, looked_at, peek_stops, pushed, simple_exact, undefined_stops, stepped_one, stepped_more, counted_does, items_none, items_more, item_stops, value_stops, members_none, members_more, member_stops, array_exact, map_exact}
+use Rattle.cbor4ii_rw.specs.View.{View}
+use Rattle.cbor4ii_rw.specs.declared.error.DecodeError.{DecodeError}
+use Rattle.cbor4ii_items.specs.Moves.{Moves}
+use Rattle.cbor4ii_items.specs.Laws.Running.{kept_alike}
 use Rattle.cbor4ii_tree.proofs.decode_canonical.+strict.Goals as goal
+
+went_on : {V E : Type 0} (a : ℕ) {m b : View} {r : Result V (DecodeError E)} → m.bound + 1 ≤ a → Moves m b r → OnOk r (b.bound + 1 ≤ a)
+went_on a {r = Ok v} h k = omega (arith, h, k.by.bound)
+went_on a {r = Err e} h k = tt
+
+around : {V E : Type 0} (a m n b : ℕ) (r : Result V E) → m ≡ a → b ≡ n → OnOk r (n + 1 ≤ m) → OnOk r (b + 1 ≤ a)
+around a m n b (Ok v) e f h = omega (arith, e, f, h)
+around a m n b (Err x) e f h = tt
+
+behind : {V E : Type 0} (a m b : ℕ) (r : Result V E) → m ≤ a → OnOk r (b + 1 ≤ m) → OnOk r (b + 1 ≤ a)
+behind a m b (Ok v) e h = omega (arith, e, h)
+behind a m b (Err x) e h = tt
 
 pub read_one-returns-clause-does : goal.read_one-returns-clause-does
 read_one-returns-clause-does g t c =
@@ -160,3 +176,103 @@ counted_items-returns-then-is_err-2 g t c =
 pub counted_members-returns-then-is_err-2 : goal.counted_members-returns-then-is_err-2
 counted_members-returns-then-is_err-2 g t c =
     does_no_memory (λ xs (v : Vec (Value × Value) Global) ys. ExactMembers c.args.count (g.S.Source.view c.args.reader.now).budget xs v.items ys) (StopsExactItems (2 * c.args.count) (g.S.Source.view c.args.reader.now).budget) refl (kept_then c.loop-i.invariant.kept c.in_ok-member.ensures.does.moves.by)
+
+pub array_inside-returns-in_err-count-clause-progress : goal.array_inside-returns-in_err-count-clause-progress
+array_inside-returns-in_err-count-clause-progress g t c =
+    let p = err_from_is_err_and c.from_residual.result c.from_residual.ensures.1 in rw p.1 tt
+
+pub map_inside-returns-in_err-count-clause-progress : goal.map_inside-returns-in_err-count-clause-progress
+map_inside-returns-in_err-count-clause-progress g t c =
+    let p = err_from_is_err_and c.from_residual.result c.from_residual.ensures.1 in rw p.1 tt
+
+pub read_member-returns-in_err-key-clause-progress : goal.read_member-returns-in_err-key-clause-progress
+read_member-returns-in_err-key-clause-progress g t c =
+    let p = err_from_is_err_and c.from_residual.result c.from_residual.ensures.1 in rw p.1 tt
+
+pub read_member-returns-in_err-value-clause-progress : goal.read_member-returns-in_err-value-clause-progress
+read_member-returns-in_err-value-clause-progress g t c =
+    let p = err_from_is_err_and c.from_residual-in_err-value.result c.from_residual-in_err-value.ensures.1 in rw p.1 tt
+
+pub read_inside-returns-in_err-first-clause-progress : goal.read_inside-returns-in_err-first-clause-progress
+read_inside-returns-in_err-first-clause-progress g t c =
+    let p = err_from_is_err_and c.from_residual.result c.from_residual.ensures.1 in rw p.1 tt
+
+pub read_inside-returns-in_err-read_array-in-4-clause-progress : goal.read_inside-returns-in_err-read_array-in-4-clause-progress
+read_inside-returns-in_err-read_array-in-4-clause-progress g t c =
+    let p = err_from_is_err_and c.from_residual-in_err-read_array-in-4.result c.from_residual-in_err-read_array-in-4.ensures.1 in rw p.1 tt
+
+pub read_inside-returns-in_err-read_map-in-5-clause-progress : goal.read_inside-returns-in_err-read_map-in-5-clause-progress
+read_inside-returns-in_err-read_map-in-5-clause-progress g t c =
+    let p = err_from_is_err_and c.from_residual-in_err-read_map-in-5.result c.from_residual-in_err-read_map-in-5.ensures.1 in rw p.1 tt
+
+pub read_inside-returns-in_err-number-in-6-clause-progress : goal.read_inside-returns-in_err-number-in-6-clause-progress
+read_inside-returns-in_err-number-in-6-clause-progress g t c =
+    let p = err_from_is_err_and c.from_residual-in_err-number-in-6.result c.from_residual-in_err-number-in-6.ensures.1 in rw p.1 tt
+
+pub read_inside-returns-in_err-inner-in-6-clause-progress : goal.read_inside-returns-in_err-inner-in-6-clause-progress
+read_inside-returns-in_err-inner-in-6-clause-progress g t c =
+    let p = err_from_is_err_and c.from_residual-in_err-inner-in-6.result c.from_residual-in_err-inner-in-6.ensures.1 in rw p.1 tt
+
+pub read_one-returns-then-not-step_in-clause-progress : goal.read_one-returns-then-not-step_in-clause-progress
+read_one-returns-then-not-step_in-clause-progress g t c = tt
+
+pub read_one-returns-clause-progress : goal.read_one-returns-clause-progress
+read_one-returns-clause-progress g t c =
+    around _ _ _ _ _ c.step_in.ensures.others.bound c.step_out.ensures.others.bound c.read_inside-outcome.ensures.progress
+
+pub read_array-returns-then-not-step_in-clause-progress : goal.read_array-returns-then-not-step_in-clause-progress
+read_array-returns-then-not-step_in-clause-progress g t c = tt
+
+pub read_array-returns-clause-progress : goal.read_array-returns-clause-progress
+read_array-returns-clause-progress g t c =
+    around _ _ _ _ _ c.step_in.ensures.others.bound c.step_out.ensures.others.bound c.array_inside-outcome.ensures.progress
+
+pub read_map-returns-then-not-step_in-clause-progress : goal.read_map-returns-then-not-step_in-clause-progress
+read_map-returns-then-not-step_in-clause-progress g t c = tt
+
+pub read_map-returns-clause-progress : goal.read_map-returns-clause-progress
+read_map-returns-clause-progress g t c =
+    around _ _ _ _ _ c.step_in.ensures.others.bound c.step_out.ensures.others.bound c.map_inside-outcome.ensures.progress
+
+pub array_inside-returns-clause-progress : goal.array_inside-returns-clause-progress
+array_inside-returns-clause-progress g t c = went_on _ c.in_ok-count.ensures.progress c.counted_items.ensures.moves
+
+pub map_inside-returns-clause-progress : goal.map_inside-returns-clause-progress
+map_inside-returns-clause-progress g t c = went_on _ c.in_ok-count.ensures.progress c.counted_members.ensures.moves
+
+pub read_member-returns-clause-progress : goal.read_member-returns-clause-progress
+read_member-returns-clause-progress g t c = omega (arith, c.in_ok-key.ensures.progress, c.in_ok-value.ensures.progress)
+
+pub read_inside-returns-then-first-clause-progress : goal.read_inside-returns-then-first-clause-progress
+read_inside-returns-then-first-clause-progress g t c = tt
+
+pub read_inside-returns-in-6-clause-progress : goal.read_inside-returns-in-6-clause-progress
+read_inside-returns-in-6-clause-progress g t c = tt
+
+pub read_inside-returns-in-4-clause-progress : goal.read_inside-returns-in-4-clause-progress
+read_inside-returns-in-4-clause-progress g t c =
+    omega (arith, c.in_ok-first.ensures.runs.moves.by.bound, c.in_ok-read_array-in-4.ensures.progress)
+
+pub read_inside-returns-in-5-clause-progress : goal.read_inside-returns-in-5-clause-progress
+read_inside-returns-in-5-clause-progress g t c =
+    omega (arith, c.in_ok-first.ensures.runs.moves.by.bound, c.in_ok-read_map-in-5.ensures.progress)
+
+pub read_inside-returns-in-Ok-clause-progress : goal.read_inside-returns-in-Ok-clause-progress
+read_inside-returns-in-Ok-clause-progress g t c =
+    omega (arith, c.in_ok-first.ensures.runs.moves.by.bound, c.in_ok-number-in-6.ensures.progress, c.in_ok-inner-in-6.ensures.progress)
+
+pub read_inside-returns-in-7-clause-progress : goal.read_inside-returns-in-7-clause-progress
+read_inside-returns-in-7-clause-progress g t c =
+    behind _ _ _ _ c.in_ok-first.ensures.runs.moves.by.bound c.read_float.ensures.progress
+
+pub read_inside-returns-clause-progress : goal.read_inside-returns-clause-progress
+read_inside-returns-clause-progress g t c =
+    behind _ _ _ _ c.in_ok-first.ensures.runs.moves.by.bound c.read_leaf.ensures.progress
+
+pub counted_items-returns-then-is_err : goal.counted_items-returns-then-is_err
+counted_items-returns-then-is_err g t c =
+    does_no_memory (λ xs (v : Vec Value Global) ys. ExactItems c.args.count (g.S.Source.view c.args.reader.now).budget xs v.items ys) (StopsExactItems c.args.count (g.S.Source.view c.args.reader.now).budget) refl (kept_alike _)
+
+pub counted_members-returns-then-is_err : goal.counted_members-returns-then-is_err
+counted_members-returns-then-is_err g t c =
+    does_no_memory (λ xs (v : Vec (Value × Value) Global) ys. ExactMembers c.args.count (g.S.Source.view c.args.reader.now).budget xs v.items ys) (StopsExactItems (2 * c.args.count) (g.S.Source.view c.args.reader.now).budget) refl (kept_alike _)
