@@ -43,3 +43,31 @@ returns-in_ok-canonical_buf-in-2-clause-does g c = leaf_exact c.args.first (Stri
 
 pub returns-in_ok-read_text-in_default-clause-does : goal.returns-in_ok-read_text-in_default-clause-does
 returns-in_ok-read_text-in_default-clause-does g c = leaf_exact c.args.first (λ xs ys. TextAt (g.S.Source.view c.args.reader.now).budget xs c.in_ok-read_text-in_default.field-0 ys) (Text c.in_ok-read_text-in_default.field-0) (λ xs ys h. text_exact (g.S.Source.view c.args.reader.now).budget c.in_ok-read_text-in_default.field-0 xs ys (IsUtf8-string_bytes c.in_ok-read_text-in_default.field-0) h) (reached_by c.in_ok-read_text-in_default.ensures.does)
+
+pub returns-in_err-canonical_head-in-0-clause-progress : goal.returns-in_err-canonical_head-in-0-clause-progress
+returns-in_err-canonical_head-in-0-clause-progress g c =
+    let p = err_from_is_err_and c.from_residual.result c.from_residual.ensures.1 in rw p.1 tt
+
+pub returns-in_err-number-in-1-clause-progress : goal.returns-in_err-number-in-1-clause-progress
+returns-in_err-number-in-1-clause-progress g c =
+    let p = err_from_is_err_and c.from_residual-in_err-number-in-1.result c.from_residual-in_err-number-in-1.ensures.1 in rw p.1 tt
+
+pub returns-in_err-canonical_buf-in-2-clause-progress : goal.returns-in_err-canonical_buf-in-2-clause-progress
+returns-in_err-canonical_buf-in-2-clause-progress g c =
+    let p = err_from_is_err_and c.from_residual-in_err-canonical_buf-in-2.result c.from_residual-in_err-canonical_buf-in-2.ensures.1 in rw p.1 tt
+
+pub returns-in_err-read_text-in_default-clause-progress : goal.returns-in_err-read_text-in_default-clause-progress
+returns-in_err-read_text-in_default-clause-progress g c =
+    let p = err_from_is_err_and c.from_residual-in_err-read_text-in_default.result c.from_residual-in_err-read_text-in_default.ensures.1 in rw p.1 tt
+
+pub returns-in_ok-canonical_head-in-0-clause-progress : goal.returns-in_ok-canonical_head-in-0-clause-progress
+returns-in_ok-canonical_head-in-0-clause-progress g c = c.in_ok-canonical_head-in-0.ensures.progress
+
+pub returns-in_ok-number-in-1-clause-progress : goal.returns-in_ok-number-in-1-clause-progress
+returns-in_ok-number-in-1-clause-progress g c = c.in_ok-number-in-1.ensures.progress
+
+pub returns-in_ok-canonical_buf-in-2-clause-progress : goal.returns-in_ok-canonical_buf-in-2-clause-progress
+returns-in_ok-canonical_buf-in-2-clause-progress g c = c.in_ok-canonical_buf-in-2.ensures.progress
+
+pub returns-in_ok-read_text-in_default-clause-progress : goal.returns-in_ok-read_text-in_default-clause-progress
+returns-in_ok-read_text-in_default-clause-progress g c = c.in_ok-read_text-in_default.ensures.progress

@@ -46,3 +46,47 @@ returns-in_ok-decode-in_default-clause-does g c = leaf_read (ReadsTextAs text_co
 
 pub returns-in_ok-decode-in_default-clause-item : goal.returns-in_ok-decode-in_default-clause-item
 returns-in_ok-decode-in_default-clause-item g c = text_item c.in_ok-decode-in_default.field-0
+
+pub returns-in_err-decode-in-0-clause-item : goal.returns-in_err-decode-in-0-clause-item
+returns-in_err-decode-in-0-clause-item g c =
+    let p = err_from_is_err_and c.from_residual.result c.from_residual.ensures.1 in rw p.1 tt
+
+pub returns-in_err-decode-in-0-clause-progress : goal.returns-in_err-decode-in-0-clause-progress
+returns-in_err-decode-in-0-clause-progress g c =
+    let p = err_from_is_err_and c.from_residual.result c.from_residual.ensures.1 in rw p.1 tt
+
+pub returns-in_err-number-in-1-clause-item : goal.returns-in_err-number-in-1-clause-item
+returns-in_err-number-in-1-clause-item g c =
+    let p = err_from_is_err_and c.from_residual-in_err-number-in-1.result c.from_residual-in_err-number-in-1.ensures.1 in rw p.1 tt
+
+pub returns-in_err-number-in-1-clause-progress : goal.returns-in_err-number-in-1-clause-progress
+returns-in_err-number-in-1-clause-progress g c =
+    let p = err_from_is_err_and c.from_residual-in_err-number-in-1.result c.from_residual-in_err-number-in-1.ensures.1 in rw p.1 tt
+
+pub returns-in_err-decode-in-2-clause-item : goal.returns-in_err-decode-in-2-clause-item
+returns-in_err-decode-in-2-clause-item g c =
+    let p = err_from_is_err_and c.from_residual-in_err-decode-in-2.result c.from_residual-in_err-decode-in-2.ensures.1 in rw p.1 tt
+
+pub returns-in_err-decode-in-2-clause-progress : goal.returns-in_err-decode-in-2-clause-progress
+returns-in_err-decode-in-2-clause-progress g c =
+    let p = err_from_is_err_and c.from_residual-in_err-decode-in-2.result c.from_residual-in_err-decode-in-2.ensures.1 in rw p.1 tt
+
+pub returns-in_err-decode-in_default-clause-item : goal.returns-in_err-decode-in_default-clause-item
+returns-in_err-decode-in_default-clause-item g c =
+    let p = err_from_is_err_and c.from_residual-in_err-decode-in_default.result c.from_residual-in_err-decode-in_default.ensures.1 in rw p.1 tt
+
+pub returns-in_err-decode-in_default-clause-progress : goal.returns-in_err-decode-in_default-clause-progress
+returns-in_err-decode-in_default-clause-progress g c =
+    let p = err_from_is_err_and c.from_residual-in_err-decode-in_default.result c.from_residual-in_err-decode-in_default.ensures.1 in rw p.1 tt
+
+pub returns-in_ok-decode-in-0-clause-progress : goal.returns-in_ok-decode-in-0-clause-progress
+returns-in_ok-decode-in-0-clause-progress g c = c.in_ok-decode-in-0.ensures.progress refl
+
+pub returns-in_ok-number-in-1-clause-progress : goal.returns-in_ok-number-in-1-clause-progress
+returns-in_ok-number-in-1-clause-progress g c = c.in_ok-number-in-1.ensures.progress refl
+
+pub returns-in_ok-decode-in-2-clause-progress : goal.returns-in_ok-decode-in-2-clause-progress
+returns-in_ok-decode-in-2-clause-progress g c = c.in_ok-decode-in-2.ensures.progress refl
+
+pub returns-in_ok-decode-in_default-clause-progress : goal.returns-in_ok-decode-in_default-clause-progress
+returns-in_ok-decode-in_default-clause-progress g c = c.in_ok-decode-in_default.ensures.progress refl

@@ -71,3 +71,42 @@ returns-in_err-decode-in-251-clause-exactly g c =
 
 pub returns-in_default-clause-exactly : goal.returns-in_default-clause-exactly
 returns-in_default-clause-exactly g c = strict.no_value c.args.first c.requires.major (Fits-lt-pow {w = w8} c.ranges.first) c.requires.other (λ h. omega (arith, h)) (λ h. omega (arith, h)) (λ h. omega (arith, h)) refl refl refl
+
+pub returns-in_err-decode-in-249-clause-item : goal.returns-in_err-decode-in-249-clause-item
+returns-in_err-decode-in-249-clause-item g c =
+    let p = err_from_is_err_and c.from_residual.result c.from_residual.ensures.1 in rw p.1 tt
+
+pub returns-in_err-decode-in-249-clause-progress : goal.returns-in_err-decode-in-249-clause-progress
+returns-in_err-decode-in-249-clause-progress g c =
+    let p = err_from_is_err_and c.from_residual.result c.from_residual.ensures.1 in rw p.1 tt
+
+pub returns-in_err-decode-in-250-clause-item : goal.returns-in_err-decode-in-250-clause-item
+returns-in_err-decode-in-250-clause-item g c =
+    let p = err_from_is_err_and c.from_residual-in_err-decode-in-250.result c.from_residual-in_err-decode-in-250.ensures.1 in rw p.1 tt
+
+pub returns-in_err-decode-in-250-clause-progress : goal.returns-in_err-decode-in-250-clause-progress
+returns-in_err-decode-in-250-clause-progress g c =
+    let p = err_from_is_err_and c.from_residual-in_err-decode-in-250.result c.from_residual-in_err-decode-in-250.ensures.1 in rw p.1 tt
+
+pub returns-in_err-decode-in-251-clause-item : goal.returns-in_err-decode-in-251-clause-item
+returns-in_err-decode-in-251-clause-item g c =
+    let p = err_from_is_err_and c.from_residual-in_err-decode-in-251.result c.from_residual-in_err-decode-in-251.ensures.1 in rw p.1 tt
+
+pub returns-in_err-decode-in-251-clause-progress : goal.returns-in_err-decode-in-251-clause-progress
+returns-in_err-decode-in-251-clause-progress g c =
+    let p = err_from_is_err_and c.from_residual-in_err-decode-in-251.result c.from_residual-in_err-decode-in-251.ensures.1 in rw p.1 tt
+
+pub returns-in_ok-decode-in-249-clause-progress : goal.returns-in_ok-decode-in-249-clause-progress
+returns-in_ok-decode-in-249-clause-progress g c = c.in_ok-decode-in-249.ensures.progress refl
+
+pub returns-in_ok-decode-in-250-clause-progress : goal.returns-in_ok-decode-in-250-clause-progress
+returns-in_ok-decode-in-250-clause-progress g c = c.in_ok-decode-in-250.ensures.progress refl
+
+pub returns-in_ok-decode-in-251-clause-progress : goal.returns-in_ok-decode-in-251-clause-progress
+returns-in_ok-decode-in-251-clause-progress g c = c.in_ok-decode-in-251.ensures.progress refl
+
+pub returns-in_default-clause-item : goal.returns-in_default-clause-item
+returns-in_default-clause-item g c = tt
+
+pub returns-in_default-clause-progress : goal.returns-in_default-clause-progress
+returns-in_default-clause-progress g c = tt
