@@ -10,7 +10,7 @@ use Rattle.cbor4ii_tree.specs.Valuing.{ReadsStepped}
 use Rattle.cbor4ii_items.specs.Shortest.{StopsShortest}
 use Rattle.cbor4ii_tree.specs.StopsStrictly.{ShortestAt, StrictArrayStops, StrictMapStops}
 use Rattle.cbor4ii_tree.specs.Strictly.{ReadsExactly, StopsExactly, ReadsBehind, StopsBehind, StopsStepped, ExactItems, StopsExactItems, ExactMember, StopsExactMember, ExactMembers, AcceptsCount}
-use Rattle.cbor4ii_tree.proofs.skip_calls.Doing.{reached_start, reached_by, does_ok, does_stops, does_no_memory, does_no_step}
+use Rattle.cbor4ii_tree.proofs.skip_calls.Doing.{Reached, reached_start, reached_by, does_ok, does_stops, does_no_memory, does_no_step}
 use Rattle.cbor4ii_tree.proofs.values.Heads.{view-Tag}
 use Rattle.cbor4ii_tree.proofs.values.Sequences.{more, ends}
 use Rattle.cbor4ii_tree.proofs.canonical.Calls.{reached_shortest, call_stops, exact_ok, exact_err, exact_first, exact_tag, exact_tag_err, looked_at, peek_stops, pushed, simple_exact, undefined_stops, stepped_one, stepped_more, counted_does, items_none, items_more, item_stops, value_stops, members_none, members_more, member_stops, array_exact, map_exact}
@@ -276,3 +276,39 @@ counted_items-returns-then-is_err g t c =
 pub counted_members-returns-then-is_err : goal.counted_members-returns-then-is_err
 counted_members-returns-then-is_err g t c =
     does_no_memory (λ xs (v : Vec (Value × Value) Global) ys. ExactMembers c.args.count (g.S.Source.view c.args.reader.now).budget xs v.items ys) (StopsExactItems (2 * c.args.count) (g.S.Source.view c.args.reader.now).budget) refl (kept_alike _)
+
+pub read_inside-read_float-requires-clause-other : goal.read_inside-read_float-requires-clause-other
+read_inside-read_float-requires-clause-other g t c = c.in-None.ensures
+
+pub read_inside-read_float-requires-clause-major : goal.read_inside-read_float-requires-clause-major
+read_inside-read_float-requires-clause-major g t c = omega (arith, c.in-7.is)
+
+pub read_inside-simple_of-requires : goal.read_inside-simple_of-requires
+read_inside-simple_of-requires g t c = tt
+
+pub counted_items-min-requires : goal.counted_items-min-requires
+counted_items-min-requires g t c = tt
+
+pub counted_members-min-requires : goal.counted_members-min-requires
+counted_members-min-requires g t c = tt
+
+pub counted_items-loop-i-smaller : goal.counted_items-loop-i-smaller
+counted_items-loop-i-smaller g t c = omega (arith, c.loop-i-test.true)
+
+pub counted_members-loop-i-smaller : goal.counted_members-loop-i-smaller
+counted_members-loop-i-smaller g t c = omega (arith, c.loop-i-test.true)
+
+pub read_inside-returns-in-Some-clause-progress : goal.read_inside-returns-in-Some-clause-progress
+read_inside-returns-in-Some-clause-progress g t c =
+    omega (arith, c.in_ok-first.ensures.runs.moves.by.bound, c.advance-in-Some.ensures.bound)
+
+pub counted_items-returns : goal.counted_items-returns
+counted_items-returns g t c =
+    let e : c.loop-i.i ≡ c.args.count = omega (arith, c.loop-i-test.false, c.loop-i.auto.i-end) in does_ok (λ xs (v : Vec Value Global) ys. ExactItems c.args.count (g.S.Source.view c.args.reader.now).budget xs v.items ys) (StopsExactItems c.args.count (g.S.Source.view c.args.reader.now).budget) (subst (λ n. Reached (λ xs ys. ExactItems n (g.S.Source.view c.args.reader.now).budget xs c.loop-i.items.items ys) (g.S.Source.view c.args.reader.now) (g.S.Source.view c.loop-i.reader)) e c.loop-i.invariant)
+
+pub counted_members-returns : goal.counted_members-returns
+counted_members-returns g t c =
+    let e : c.loop-i.i ≡ c.args.count = omega (arith, c.loop-i-test.false, c.loop-i.auto.i-end) in does_ok (λ xs (v : Vec (Value × Value) Global) ys. ExactMembers c.args.count (g.S.Source.view c.args.reader.now).budget xs v.items ys) (StopsExactItems (2 * c.args.count) (g.S.Source.view c.args.reader.now).budget) (subst (λ n. Reached (λ xs ys. ExactMembers n (g.S.Source.view c.args.reader.now).budget xs c.loop-i.members.items ys) (g.S.Source.view c.args.reader.now) (g.S.Source.view c.loop-i.reader)) e c.loop-i.invariant)
+
+pub read_inside-advance-requires-in-Some : goal.read_inside-advance-requires-in-Some
+read_inside-advance-requires-in-Some g t c = c.in_ok-first.ensures.can

@@ -1,13 +1,18 @@
-use Rattle.std.proofs.Common.{inl, refl, ap, subst, arith, ◌∙◌, ◌+◌, ◌∷◌, ◌≡◌, ◌≤◌, ℕ, Result, Ok, Err, OnOk}
+use Rattle.std.proofs.Common.{inl, refl, ap, subst, arith, ◌∙◌, ◌+◌, ◌∷◌, ◌≡◌, ◌≤◌, ℕ, List, [], Option, Some, None, Result, Ok, Err, OnOk, IfSome}
 use Rattle.std.proofs.lemmas.Result.{err_from_is_err_and}
 use Rattle.cbor4ii_tree.specs.Valuing.{ReadsOne, StopsOne, ReadsMember, StopsMember, StopsMembers, StopsFirst, ReadsStepped, StopsOf, ReadsItems, StopsItems, ReadsArray, ReadsMap, StopsMajor, ReadsMembers, ReadsOpen, StopsOpen, ReadsOpenMembers, StopsOpenMembers, ReadsUnder, StopsUnder}
-use Rattle.cbor4ii_tree.specs.declared.value.Value.{Array, Map, Tag}
+use Rattle.cbor4ii_tree.specs.declared.value.Value.{Value, Array, Map, Tag}
 use Rattle.cbor4ii_tree.specs.Item.{tag}
 use Rattle.cbor4ii_tree.specs.View.{view}
-use Rattle.cbor4ii_tree.specs.Refusal.{array_name, map_name, tag_name, value_name}
+use Rattle.cbor4ii_tree.specs.Refusal.{Refusal, eof, Small, array_name, map_name, tag_name, value_name}
+use Rattle.cbor4ii_items.specs.Refusal.{refusal_of}
+use Rattle.cbor4ii_items.specs.Reading.{Runs, peek_at}
+use Rattle.cbor4ii_tree.specs.Laws.Binds.{is_err}
+use Rattle.cbor4ii_tree.specs.Cost.{Budget}
+use Rattle.cbor4ii_tree.specs.Does.{Does}
 use Rattle.cbor4ii_items.specs.Numbers.{StopsArgument}
-use Rattle.cbor4ii_items.specs.Laws.Steps.{kept_then}
-use Rattle.cbor4ii_tree.proofs.skip_calls.Doing.{reached_start, reached_by, does_ok, does_no_memory, does_no_step}
+use Rattle.cbor4ii_items.specs.Laws.Steps.{kept_then, moves_err}
+use Rattle.cbor4ii_tree.proofs.skip_calls.Doing.{Reached, reached_start, reached_by, does_ok, does_no_memory, does_no_step}
 use Rattle.cbor4ii_tree.proofs.skip_calls.Calls.{Before, broke, other, at_end}
 use Rattle.cbor4ii_tree.proofs.values.Parts.{ReadEach, ReadPairs}
 use Rattle.cbor4ii_tree.proofs.values.Calls.{stepped, none, counted_more, counted_stop}
@@ -31,6 +36,14 @@ around a m n b (Err x) e f h = tt
 behind : {V E : Type 0} (a m b : ℕ) (r : Result V E) → m ≤ a → OnOk r (b + 1 ≤ m) → OnOk r (b + 1 ≤ a)
 behind a m b (Ok v) e h = omega (arith, e, h)
 behind a m b (Err x) e h = tt
+
+at_end_of : (o : Option Refusal) (xs : List ℕ) (budget : Budget) (new : Option (List ℕ)) → IfSome o (λ z. (ys : List ℕ) × (new ≡ Some ys) × (peek_at value_name 1 xs ≡ Err (z, ys))) → IfSome o (λ z. (ys : List ℕ) × (new ≡ Some ys) × StopsUnder budget xs z ys)
+at_end_of None xs budget new h = tt
+at_end_of (Some z) [] budget new h = (h.0, h.1, is_err {A = ℕ} (eof value_name (Small 1)) [] z h.0 h.2)
+at_end_of (Some z) (x ∷ xs) budget new h = let g = h.2 in cc
+
+nothing_there : {E : Type 0} {e : DecodeError E} {a c : View} → Runs {V = ℕ} (peek_at value_name 1) a c (Err e) → Does {V = Value} (ReadsUnder a.budget) (StopsUnder a.budget) a c (Err e)
+nothing_there {e = e} {a = a} {c = c} p = record { moves = moves_err p.moves; ok = tt; err = λ xs told. at_end_of (refusal_of e) xs a.budget c.told (p.answers xs told) }
 
 pub array_inside-returns-in-None-clause-does : goal.array_inside-returns-in-None-clause-does
 array_inside-returns-in-None-clause-does g t c =
@@ -503,3 +516,52 @@ read_inside-returns-clause-item g t c = c.read_leaf.ensures.item
 pub read_inside-returns-clause-progress : goal.read_inside-returns-clause-progress
 read_inside-returns-clause-progress g t c =
     behind _ _ _ _ c.in_ok-first.ensures.runs.moves.by.bound c.read_leaf.ensures.progress
+
+pub read_inside-advance-requires : goal.read_inside-advance-requires
+read_inside-advance-requires g t c = c.in_ok-first.ensures.can
+
+pub read_inside-read_float-requires-clause-other : goal.read_inside-read_float-requires-clause-other
+read_inside-read_float-requires-clause-other g t c = c.in-None.ensures
+
+pub read_inside-read_float-requires-clause-major : goal.read_inside-read_float-requires-clause-major
+read_inside-read_float-requires-clause-major g t c = omega (arith, c.in-7.is)
+
+pub read_inside-simple_of-requires : goal.read_inside-simple_of-requires
+read_inside-simple_of-requires g t c = tt
+
+pub counted_items-min-requires : goal.counted_items-min-requires
+counted_items-min-requires g t c = tt
+
+pub counted_members-min-requires : goal.counted_members-min-requires
+counted_members-min-requires g t c = tt
+
+pub counted_items-loop-i-smaller : goal.counted_items-loop-i-smaller
+counted_items-loop-i-smaller g t c = omega (arith, c.loop-i-test.true)
+
+pub counted_members-loop-i-smaller : goal.counted_members-loop-i-smaller
+counted_members-loop-i-smaller g t c = omega (arith, c.loop-i-test.true)
+
+pub read_inside-returns-in-Some-clause-progress : goal.read_inside-returns-in-Some-clause-progress
+read_inside-returns-in-Some-clause-progress g t c =
+    omega (arith, c.in_ok-first.ensures.runs.moves.by.bound, c.advance.ensures.bound)
+
+pub counted_items-returns-clause-does : goal.counted_items-returns-clause-does
+counted_items-returns-clause-does g t c =
+    let e : c.loop-i.i ≡ c.args.count = omega (arith, c.loop-i-test.false, c.loop-i.auto.i-end) in does_ok (λ xs v ys. ReadsItems c.args.count (g.S.Source.view c.args.reader.now).budget xs v.items ys) (StopsItems c.args.count (g.S.Source.view c.args.reader.now).budget) (subst (λ n. Reached (λ xs ys. ReadsItems n (g.S.Source.view c.args.reader.now).budget xs c.loop-i.items.items ys) (g.S.Source.view c.args.reader.now) (g.S.Source.view c.loop-i.reader)) e c.loop-i.invariant.reached)
+
+pub counted_members-returns-clause-does : goal.counted_members-returns-clause-does
+counted_members-returns-clause-does g t c =
+    let e : c.loop-i.i ≡ c.args.count = omega (arith, c.loop-i-test.false, c.loop-i.auto.i-end) in does_ok (λ xs v ys. ReadsMembers c.args.count (g.S.Source.view c.args.reader.now).budget xs v.items ys) (StopsMembers c.args.count (g.S.Source.view c.args.reader.now).budget) (subst (λ n. Reached (λ xs ys. ReadsMembers n (g.S.Source.view c.args.reader.now).budget xs c.loop-i.members.items ys) (g.S.Source.view c.args.reader.now) (g.S.Source.view c.loop-i.reader)) e c.loop-i.invariant.reached)
+
+pub read_inside-returns-in_err-first-clause-does : goal.read_inside-returns-in_err-first-clause-does
+read_inside-returns-in_err-first-clause-does g t c =
+    let p = err_from_is_err_and c.from_residual.result c.from_residual.ensures.1 in
+    rw (p.1, p.2) (nothing_there c.in_err-first.ensures.runs)
+
+pub open_items-loop-items-smaller : goal.open_items-loop-items-smaller
+open_items-loop-items-smaller g t c =
+    omega (arith, c.in_ok-is_break.ensures.moves.by.bound, c.in_ok-value.ensures.progress)
+
+pub open_members-loop-members-smaller : goal.open_members-loop-members-smaller
+open_members-loop-members-smaller g t c =
+    omega (arith, c.in_ok-is_break.ensures.moves.by.bound, c.in_ok-member.ensures.progress)
