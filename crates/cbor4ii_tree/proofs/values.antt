@@ -9,3 +9,5 @@ pub mod Decoding
 pub mod Encoding
 pub mod InRange
 pub mod Views
+pub mod Progress
+pub mod Ends

@@ -40,6 +40,7 @@ use Rattle.cbor4ii_tree.proofs.spellings.Canonical.{shortest_fits}
 use Rattle.cbor4ii_tree.proofs.spellings.Costs.{below_from_HeadFits}
 use Rattle.cbor4ii_tree.proofs.answers.Nesting.{strict_by_parts}
 use Rattle.cbor4ii_tree.proofs.canonical.Exactly.{raised, fits_raise, all_exactly, all_pairs_exactly, precision_major}
+use Rattle.cbor4ii_tree.proofs.values.Ends.{nothing_there}
 use Rattle.cbor4ii_tree.proofs.values.Calls.{Peeked, small_z, view-Integer, values-push}
 use Rattle.cbor4ii_tree.proofs.values.Heads.{negative_z, float_cut, other_byte}
 use Rattle.cbor4ii_tree.proofs.values.Sequences.{view-Array, values-push_pair}
@@ -318,14 +319,8 @@ map_exact inner v xs ys h =
 
 -- ---- the end of the input, and vectors
 
-at_end : (o : Option Refusal) (xs : List ℕ) (budget : Budget) (new : Option (List ℕ)) → IfSome o (λ z. (ys : List ℕ) × (new ≡ Some ys) × (peek_at value_name 1 xs ≡ Err (z, ys)))
-    → IfSome o (λ z. (ys : List ℕ) × (new ≡ Some ys) × StopsBehind budget xs z ys)
-at_end None xs budget new h = tt
-at_end (Some z) [] budget new h = (h.0, h.1, is_err {A = ℕ} (eof value_name (Small 1)) [] z h.0 h.2)
-at_end (Some z) (x ∷ xs) budget new h = let g = h.2 in cc
-
 pub peek_stops : {E : Type 0} {e : DecodeError E} {a c : View} → Runs {V = ℕ} (peek_at value_name 1) a c (Err e) → Does {V = Value} (ReadsBehind a.budget) (StopsBehind a.budget) a c (Err e)
-peek_stops {e = e} {a = a} {c = c} p = record { moves = moves_err p.moves; ok = tt; err = λ xs told. at_end (refusal_of e) xs a.budget c.told (p.answers xs told) }
+peek_stops {a = a} p = nothing_there (ReadsBehind a.budget) (StopsBehind a.budget) (λ z rest is. is) p
 
 pub pushed : {A : Type 0} (b : Bool) (x y z : List A) → z ≡ cond b x y → b ≡ true → z ≡ x
 pushed true x y z e h = e

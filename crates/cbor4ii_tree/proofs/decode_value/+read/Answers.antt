@@ -23,27 +23,9 @@ use Rattle.cbor4ii_rw.specs.View.{View}
 use Rattle.cbor4ii_rw.specs.declared.error.DecodeError.{DecodeError}
 use Rattle.cbor4ii_items.specs.Moves.{Moves}
 use Rattle.cbor4ii_items.specs.Laws.Running.{kept_alike}
+use Rattle.cbor4ii_tree.proofs.values.Progress.{went_on, around, behind}
+use Rattle.cbor4ii_tree.proofs.values.Ends.{nothing_there}
 use Rattle.cbor4ii_tree.proofs.decode_value.+read.Goals as goal
-
-went_on : {V E : Type 0} (a : ℕ) {m b : View} {r : Result V (DecodeError E)} → m.bound + 1 ≤ a → Moves m b r → OnOk r (b.bound + 1 ≤ a)
-went_on a {r = Ok v} h k = omega (arith, h, k.by.bound)
-went_on a {r = Err e} h k = tt
-
-around : {V E : Type 0} (a m n b : ℕ) (r : Result V E) → m ≡ a → b ≡ n → OnOk r (n + 1 ≤ m) → OnOk r (b + 1 ≤ a)
-around a m n b (Ok v) e f h = omega (arith, e, f, h)
-around a m n b (Err x) e f h = tt
-
-behind : {V E : Type 0} (a m b : ℕ) (r : Result V E) → m ≤ a → OnOk r (b + 1 ≤ m) → OnOk r (b + 1 ≤ a)
-behind a m b (Ok v) e h = omega (arith, e, h)
-behind a m b (Err x) e h = tt
-
-at_end_of : (o : Option Refusal) (xs : List ℕ) (budget : Budget) (new : Option (List ℕ)) → IfSome o (λ z. (ys : List ℕ) × (new ≡ Some ys) × (peek_at value_name 1 xs ≡ Err (z, ys))) → IfSome o (λ z. (ys : List ℕ) × (new ≡ Some ys) × StopsUnder budget xs z ys)
-at_end_of None xs budget new h = tt
-at_end_of (Some z) [] budget new h = (h.0, h.1, is_err {A = ℕ} (eof value_name (Small 1)) [] z h.0 h.2)
-at_end_of (Some z) (x ∷ xs) budget new h = let g = h.2 in cc
-
-nothing_there : {E : Type 0} {e : DecodeError E} {a c : View} → Runs {V = ℕ} (peek_at value_name 1) a c (Err e) → Does {V = Value} (ReadsUnder a.budget) (StopsUnder a.budget) a c (Err e)
-nothing_there {e = e} {a = a} {c = c} p = record { moves = moves_err p.moves; ok = tt; err = λ xs told. at_end_of (refusal_of e) xs a.budget c.told (p.answers xs told) }
 
 pub array_inside-returns-in-None-clause-does : goal.array_inside-returns-in-None-clause-does
 array_inside-returns-in-None-clause-does g t c =
@@ -556,7 +538,8 @@ counted_members-returns-clause-does g t c =
 pub read_inside-returns-in_err-first-clause-does : goal.read_inside-returns-in_err-first-clause-does
 read_inside-returns-in_err-first-clause-does g t c =
     let p = err_from_is_err_and c.from_residual.result c.from_residual.ensures.1 in
-    rw (p.1, p.2) (nothing_there c.in_err-first.ensures.runs)
+    let budget = (g.S.Source.view c.args.reader.now).budget in
+    rw (p.1, p.2) (nothing_there (ReadsUnder budget) (StopsUnder budget) (λ z rest is. is) c.in_err-first.ensures.runs)
 
 pub open_items-loop-items-smaller : goal.open_items-loop-items-smaller
 open_items-loop-items-smaller g t c =
