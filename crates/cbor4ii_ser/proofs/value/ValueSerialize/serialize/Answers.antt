@@ -1,8 +1,16 @@
-use Rattle.std.proofs.Common.{refl, rules}
+use Rattle.std.proofs.lemmas.List.{append-nil}
+use Rattle.std.proofs.Common.{refl, ap, Some, [], ◌≡◌, false, true, sym, ◌∙◌}
 use Rattle.cbor4ii_ser.proofs.value.ValueSerialize.serialize.Goals as goal
 
 pub returns-then-holds_tag-clause-untouched : goal.returns-then-holds_tag-clause-untouched
 returns-then-holds_tag-clause-untouched g c = λ _. refl
 
 pub returns-then-holds_tag-clause-written : goal.returns-then-holds_tag-clause-written
-returns-then-holds_tag-clause-written g c = search rules
+returns-then-holds_tag-clause-written g c =
+    rw (sym c.if-holds_tag.ensures) (record { appends = tt; counts = tt; failed = ((λ held told. told ∙ ap Some (sym (append-nil held)), refl), refl); front = λ whole held told. ([], refl, told ∙ ap Some (sym (append-nil held))) })
+
+pub returns-clause-written : goal.returns-clause-written
+returns-clause-written g c = rw (sym c.if-holds_tag.ensures) c.put.ensures
+
+pub returns-clause-untouched : goal.returns-clause-untouched
+returns-clause-untouched g c = λ h. absurd (let k : false ≡ true = c.if-holds_tag.ensures ∙ h in cc)
