@@ -1,6 +1,6 @@
-use Rattle.std.proofs.Common.{◌++◌, ◌∷◌, [], sym, ap, ◌∙◌, append_assoc, refl}
+use Rattle.std.proofs.Common.{◌++◌, ◌∷◌, [], sym, ap, ◌∙◌, append_assoc}
 use Rattle.cbor4ii_ser.specs.Item.{items_of, entry_item}
-use Rattle.cbor4ii_ser.specs.Laws.Joining.{serializes_then, serializes_out, serializes_as, items_turn, items_push, serializes_nil}
+use Rattle.cbor4ii_ser.specs.Laws.Joining.{serializes_then, serializes_out, serializes_as, items_turn, items_push}
 use Rattle.cbor4ii_ser.proofs.maps.put_entries.Goals as goal
 
 pub loop-key-preserved : goal.loop-key-preserved
@@ -19,6 +19,3 @@ returns-in_err-put_entry g c =
     let e : g.row.K.Denot × g.row.V.Denot = (c.in-Some.key.now, c.in-Some.value.now) in
     let all = c.loop-key.invariant.1 ∙ ap (λ z. done ++ z) c.in-Some.ensures.steps in
     serializes_as _ (items_turn item done e c.next.new.self ∙ sym (ap (items_of item) all)) (serializes_then _ _ _ c.loop-key.invariant.2 (serializes_out (items_of item c.next.new.self) c.from_residual.ensures.1 c.in_err-put_entry.ensures))
-
-pub loop-key-init : goal.loop-key-init
-loop-key-init g c = ([], refl, serializes_nil _)
