@@ -1,4 +1,4 @@
-use Rattle.std.proofs.Common.{[], arith}
+use Rattle.std.proofs.Common.{[], arith, refl}
 use Rattle.cbor4ii_items.proofs.WholeHeads.{found_some, found_none, runs_stayed, progress_stayed, runs_broke}
 use Rattle.cbor4ii_items.proofs.SignedRuns.{minus_read, minus_refused, negative_is}
 use Rattle.cbor4ii_items.proofs.numbers.signed.signed_below_zero.Goals as goal
@@ -19,3 +19,20 @@ returns-in-Ok-None-clause-progress g c = progress_stayed _ _ (found_none _ _ _ c
 
 pub returns-in-Err-clause-runs : goal.returns-in-Err-clause-runs
 returns-in-Err-clause-runs g c = runs_broke (c.in-Err.ensures.runs [])
+
+pub returns-then-argument-limit-clause-memory : goal.returns-then-argument-limit-clause-memory
+returns-then-argument-limit-clause-memory g c = refl
+
+pub returns-else-argument-limit-clause-range : goal.returns-else-argument-limit-clause-range
+returns-else-argument-limit-clause-range g c =
+    let e = negative_is c.negative.result c.in-Ok-Some.argument (omega (arith, c.if-argument-limit.false, c.requires)) c.negative.ensures in
+    rw e (omega (arith, c.if-argument-limit.false))
+
+pub returns-in-Ok-None-clause-memory : goal.returns-in-Ok-None-clause-memory
+returns-in-Ok-None-clause-memory g c = c.signed_by_bytes.ensures.memory
+
+pub returns-in-Ok-None-clause-range : goal.returns-in-Ok-None-clause-range
+returns-in-Ok-None-clause-range g c = c.signed_by_bytes.ensures.range
+
+pub returns-in-Err-clause-memory : goal.returns-in-Err-clause-memory
+returns-in-Err-clause-memory g c = refl

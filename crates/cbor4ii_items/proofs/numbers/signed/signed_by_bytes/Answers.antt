@@ -1,4 +1,4 @@
-use Rattle.std.proofs.Common.{sym, ◌∙◌, arith}
+use Rattle.std.proofs.Common.{sym, ◌∙◌, arith, refl}
 use Rattle.std.specs.Prelude.{pos, negsuc}
 use Rattle.std.proofs.lemmas.Result.{err_from_is_err_and}
 use Rattle.cbor4ii_items.specs.ReadNumber.{as_positive, as_negative}
@@ -30,3 +30,55 @@ pub returns-in_err-first-clause-runs : goal.returns-in_err-first-clause-runs
 returns-in_err-first-clause-runs g c =
     let p = err_from_is_err_and c.from_residual.result c.from_residual.ensures.1 in
     rw (p.1, p.2) (runs_err _ c.in_err-first.ensures.runs)
+
+pub returns-in_err-first-clause-memory : goal.returns-in_err-first-clause-memory
+returns-in_err-first-clause-memory g c =
+    let p = err_from_is_err_and c.from_residual.result c.from_residual.ensures.1 in
+    rw (p.1, p.2) c.in_err-first.ensures.memory
+
+pub returns-in_err-first-clause-range : goal.returns-in_err-first-clause-range
+returns-in_err-first-clause-range g c = rw (err_from_is_err_and c.from_residual.result c.from_residual.ensures.1).1 tt
+
+pub returns-in_err-first-clause-progress : goal.returns-in_err-first-clause-progress
+returns-in_err-first-clause-progress g c = rw (err_from_is_err_and c.from_residual.result c.from_residual.ensures.1).1 tt
+
+pub returns-in_err-argument-in-0-clause-memory : goal.returns-in_err-argument-in-0-clause-memory
+returns-in_err-argument-in-0-clause-memory g c =
+    let p = err_from_is_err_and c.from_residual-in_err-argument-in-0.result c.from_residual-in_err-argument-in-0.ensures.1 in
+    rw (p.1, p.2) c.in_err-argument-in-0.ensures.memory
+
+pub returns-in_err-argument-in-0-clause-range : goal.returns-in_err-argument-in-0-clause-range
+returns-in_err-argument-in-0-clause-range g c = rw (err_from_is_err_and c.from_residual-in_err-argument-in-0.result c.from_residual-in_err-argument-in-0.ensures.1).1 tt
+
+pub returns-in_err-argument-in-0-clause-progress : goal.returns-in_err-argument-in-0-clause-progress
+returns-in_err-argument-in-0-clause-progress g c = rw (err_from_is_err_and c.from_residual-in_err-argument-in-0.result c.from_residual-in_err-argument-in-0.ensures.1).1 tt
+
+pub returns-in_err-argument-in-1-clause-memory : goal.returns-in_err-argument-in-1-clause-memory
+returns-in_err-argument-in-1-clause-memory g c =
+    let p = err_from_is_err_and c.from_residual-in_err-argument-in-1.result c.from_residual-in_err-argument-in-1.ensures.1 in
+    rw (p.1, p.2) c.in_err-argument-in-1.ensures.memory
+
+pub returns-in_err-argument-in-1-clause-range : goal.returns-in_err-argument-in-1-clause-range
+returns-in_err-argument-in-1-clause-range g c = rw (err_from_is_err_and c.from_residual-in_err-argument-in-1.result c.from_residual-in_err-argument-in-1.ensures.1).1 tt
+
+pub returns-in_err-argument-in-1-clause-progress : goal.returns-in_err-argument-in-1-clause-progress
+returns-in_err-argument-in-1-clause-progress g c = rw (err_from_is_err_and c.from_residual-in_err-argument-in-1.result c.from_residual-in_err-argument-in-1.ensures.1).1 tt
+
+pub returns-in_ok-argument-in-0-clause-range : goal.returns-in_ok-argument-in-0-clause-range
+returns-in_ok-argument-in-0-clause-range g c =
+    let e = positive_is c.positive.result c.in_ok-argument-in-0.argument (omega (arith, c.in_ok-argument-in-0.ensures.below, c.requires)) c.positive.ensures in
+    rw e c.in_ok-argument-in-0.ensures.below
+
+pub returns-in_ok-argument-in-1-clause-range : goal.returns-in_ok-argument-in-1-clause-range
+returns-in_ok-argument-in-1-clause-range g c =
+    let e = negative_is c.negative.result c.in_ok-argument-in-1.argument (omega (arith, c.in_ok-argument-in-1.ensures.below, c.requires)) c.negative.ensures in
+    rw e c.in_ok-argument-in-1.ensures.below
+
+pub returns-in_ok-argument-in-0-clause-progress : goal.returns-in_ok-argument-in-0-clause-progress
+returns-in_ok-argument-in-0-clause-progress g c = omega (arith, c.in_ok-argument-in-0.ensures.progress, c.in_ok-first.ensures.runs.moves.by.bound)
+
+pub returns-in_ok-argument-in-1-clause-progress : goal.returns-in_ok-argument-in-1-clause-progress
+returns-in_ok-argument-in-1-clause-progress g c = omega (arith, c.in_ok-argument-in-1.ensures.progress, c.in_ok-first.ensures.runs.moves.by.bound)
+
+pub returns-in_default-clause-memory : goal.returns-in_default-clause-memory
+returns-in_default-clause-memory g c = refl
