@@ -18,3 +18,22 @@ returns-then-first-shortest_info-clause-runs g c =
 pub returns-clause-runs : goal.returns-clause-runs
 returns-clause-runs g c =
     runs_shortest c.args.name.now c.args.major c.in_ok-first.first c.in_ok-first.ensures.runs (sym c.is_open.ensures ∙ c.if-is_open.false) c.in_ok-argument.ensures.runs (c.if-first-shortest_info.false ∙ c.shortest_info.ensures)
+
+pub returns-in_err-first-clause-memory : goal.returns-in_err-first-clause-memory
+returns-in_err-first-clause-memory g c =
+    let p = err_from_is_err_and c.from_residual.result c.from_residual.ensures.1 in
+    rw (p.1, p.2) c.in_err-first.ensures.memory
+
+pub returns-in_err-first-clause-progress : goal.returns-in_err-first-clause-progress
+returns-in_err-first-clause-progress g c = rw (err_from_is_err_and c.from_residual.result c.from_residual.ensures.1).1 tt
+
+pub returns-in_err-argument-clause-memory : goal.returns-in_err-argument-clause-memory
+returns-in_err-argument-clause-memory g c =
+    let p = err_from_is_err_and c.from_residual-in_err-argument.result c.from_residual-in_err-argument.ensures.1 in
+    rw (p.1, p.2) c.in_err-argument.ensures.memory
+
+pub returns-in_err-argument-clause-progress : goal.returns-in_err-argument-clause-progress
+returns-in_err-argument-clause-progress g c = rw (err_from_is_err_and c.from_residual-in_err-argument.result c.from_residual-in_err-argument.ensures.1).1 tt
+
+pub returns-then-first-shortest_info-clause-memory : goal.returns-then-first-shortest_info-clause-memory
+returns-then-first-shortest_info-clause-memory g c = refl
