@@ -1,5 +1,5 @@
 -- The calls of reading a value that is spelled in one way, one behind another.
-use Rattle.std.proofs.Common.{◌≡◌, ◌≢◌, ℕ, suc, ◌+◌, ◌-◌, ◌*◌, ◌/◌, ◌<◌, ◌≤◌, inl, inr, List, [], ◌∷◌, ◌++◌, length, drop, Option, Some, None, Result, Ok, Err, Bool, cond, true, false, refl, sym, ap, ap₂, ◌∙◌, subst, arith, append_assoc, IfSome, take-append-drop, Vec, Global, String, negsuc, ◌-ℤ◌}
+use Rattle.std.proofs.Common.{◌≡◌, ◌≢◌, ℕ, suc, ◌+◌, ◌-◌, ◌*◌, ◌/◌, ◌<◌, ◌≤◌, inl, inr, List, [], ◌∷◌, ◌++◌, length, drop, Option, Some, None, Result, Ok, Err, Bool, cond, true, false, refl, sym, ap, ap₂, ◌∙◌, subst, arith, append_assoc, take-append-drop, Vec, Global, String, negsuc, ◌-ℤ◌}
 use Rattle.std.specs.Prelude.{IsUtf8, string_bytes}
 use Rattle.std.proofs.Math.Seq.{drop-append_seam}
 use mir.Val.{to_z, of_z}
@@ -7,8 +7,7 @@ use mir.Syntax.{w128}
 use Rattle.cbor4ii_rw.specs.View.{View}
 use Rattle.cbor4ii_rw.specs.Reader.{Advances, KeepsAllButBudget, StepsIn, step_back}
 use Rattle.cbor4ii_rw.specs.declared.error.DecodeError.{DecodeError}
-use Rattle.cbor4ii_rw.specs.declared.error.Len.TheVariants.{Small}
-use Rattle.cbor4ii_items.specs.Refusal.{Refusal, refusal_of, is_read, is_depth_overflow, eof, not_canonical}
+use Rattle.cbor4ii_items.specs.Refusal.{Refusal, refusal_of, is_read, is_depth_overflow, not_canonical}
 use Rattle.cbor4ii_items.specs.Head.{HeadFits, head, shortest}
 use Rattle.cbor4ii_items.specs.Heads.{ReadsHead}
 use Rattle.cbor4ii_items.specs.Laws.Heads.{after_head, length-bytes_high_first}
@@ -19,14 +18,12 @@ use Rattle.cbor4ii_items.specs.Decoding.{CostFits, Sound, Stops}
 use Rattle.cbor4ii_items.specs.Reading.{Runs, peek_at}
 use Rattle.cbor4ii_items.specs.Shortest.{canonical_name, ReadsShortest, ReadsShortestString}
 use Rattle.cbor4ii_items.specs.Initial.{unsigned, negative, byte_string, text_string, Simple, simple_undefined, simple_byte, Precision, precision_byte, precision_bytes, initial}
-use Rattle.cbor4ii_items.specs.Laws.Steps.{moves_err}
 use Rattle.cbor4ii_tree.specs.declared.value.Value.{Value, Integer, Float, Bytes, Text, Array, Map}
 use Rattle.cbor4ii_tree.specs.declared.value.FloatBits.{FloatBits}
 use Rattle.cbor4ii_tree.specs.Tree.{no_trees, no_pairs, int, string, array, map_of, tagged, simple, bits, count, bytes, bytes_all, bytes_pairs}
 use Rattle.cbor4ii_tree.specs.Item.{integer, float, sequence, mapping, tag}
 use Rattle.cbor4ii_tree.specs.Cost.{Budget, cost, greatest_cost, greatest_pair_cost}
 use Rattle.cbor4ii_tree.specs.Laws.Budgets.{fits_zero}
-use Rattle.cbor4ii_tree.specs.Laws.Binds.{is_err}
 use Rattle.cbor4ii_tree.specs.Laws.Initials.{initial_simple, initial_bits}
 use Rattle.cbor4ii_tree.specs.Refusal.{value_name, kind_name, precision_name, unsupported, require_utf8}
 use Rattle.cbor4ii_tree.specs.Stops.{Stopping, Stepped}

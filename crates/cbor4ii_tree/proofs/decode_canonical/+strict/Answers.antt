@@ -1,4 +1,4 @@
-use Rattle.std.proofs.Common.{ℕ, refl, ap, subst, inl, arith, ◌∙◌, ◌+◌, ◌*◌, ◌≡◌, ◌≤◌, Result, Ok, Err, OnOk}
+use Rattle.std.proofs.Common.{ℕ, refl, ap, subst, inl, arith, ◌∙◌, ◌+◌, ◌*◌, ◌≡◌}
 use Rattle.std.proofs.Common.{Vec, Global}
 use Rattle.std.proofs.lemmas.Result.{err_from_is_err_and}
 use Rattle.cbor4ii_tree.specs.declared.value.Value.{Value, Array, Map, Tag}
@@ -14,9 +14,6 @@ use Rattle.cbor4ii_tree.proofs.skip_calls.Doing.{Reached, reached_start, reached
 use Rattle.cbor4ii_tree.proofs.values.Heads.{view-Tag}
 use Rattle.cbor4ii_tree.proofs.values.Sequences.{more, ends}
 use Rattle.cbor4ii_tree.proofs.canonical.Calls.{reached_shortest, call_stops, exact_ok, exact_err, exact_first, exact_tag, exact_tag_err, looked_at, peek_stops, pushed, simple_exact, undefined_stops, stepped_one, stepped_more, counted_does, items_none, items_more, item_stops, value_stops, members_none, members_more, member_stops, array_exact, map_exact}
-use Rattle.cbor4ii_rw.specs.View.{View}
-use Rattle.cbor4ii_rw.specs.declared.error.DecodeError.{DecodeError}
-use Rattle.cbor4ii_items.specs.Moves.{Moves}
 use Rattle.cbor4ii_items.specs.Laws.Running.{kept_alike}
 use Rattle.cbor4ii_tree.proofs.values.Progress.{went_on, around, behind}
 use Rattle.cbor4ii_tree.proofs.decode_canonical.+strict.Goals as goal
