@@ -34,8 +34,8 @@ const FRONTS: &[CutOff] = table! {
     (b"\x5f\x42\x01\x02\x43\x03\x04\x05", eof!("break", 1), eof!("break", 1)),
 };
 
-// Fronts of other items.
-const CUT_OFF: &[CutOff] = table! {
+// Fronts of integers and of other strings.
+const LEAVES: &[CutOff] = table! {
     (b"\x18", eof!("u64", 1), eof!("ignored-any", 1)),
     (b"\x19\x00", eof!("u64", 2), eof!("ignored-any", 1)),
     (b"\x1a\x86", eof!("u64", 4), eof!("ignored-any", 3)),
@@ -59,6 +59,10 @@ const CUT_OFF: &[CutOff] = table! {
     (b"\x7f", eof!("break", 1), eof!("break", 1)),
     (b"\x7f\x61\xff", eof!("break", 1), eof!("break", 1)),
     (b"\x7f\x62\xc3", eof!("str", 1), eof!("ignored-any", 1)),
+};
+
+// Fronts of arrays and maps, and of what begins with a greater byte.
+const CONTAINERS: &[CutOff] = table! {
     (b"\x81\x62\xff", eof!("str", 1), eof!("ignored-any", 1)),
     (b"\x82\x01\x62\x61", eof!("str", 1), eof!("ignored-any", 1)),
     (b"\x83\x01\x02", eof!("value", 1), eof!("ignored-any", 1)),
@@ -99,7 +103,7 @@ type Refused = (
     &'static [u8],
 );
 
-const REFUSED: &[Refused] = table! {
+const REFUSED_LEAVES: &[Refused] = table! {
     (b"\x1c\x00", mismatch!("u64", 0x1c), b"\x00", mismatch!("ignored-any", 0x1c), b"\x1c\x00"),
     (b"\x1e", mismatch!("u64", 0x1e), b"", mismatch!("ignored-any", 0x1e), b"\x1e"),
     (b"\x3c\x00", mismatch!("-u64", 0x3c), b"\x00", mismatch!("ignored-any", 0x3c), b"\x3c\x00"),
@@ -120,6 +124,9 @@ const REFUSED: &[Refused] = table! {
     (b"\x7e\x61", mismatch!("str", 0x7e), b"\x61", mismatch!("ignored-any", 0x7e), b"\x61"),
     (b"\x7f\x01", mismatch!("str", 0x01), b"", eof!("break", 1), b""),
     (b"\x7f\x61\xff\x1c", mismatch!("str", 0x1c), b"", mismatch!("ignored-any", 0x1c), b"\x1c"),
+};
+
+const REFUSED_CONTAINERS: &[Refused] = table! {
     (b"\x81\xff", READ_BREAK, b"\xff", SKIPPED_BREAK, b"\xff"),
     (b"\x82\x00\xf3", unsupported!("value", 0xf3), b"\xf3",
         unsupported!("ignored-any", 0xf3), b"\xf3"),
@@ -140,6 +147,9 @@ const REFUSED: &[Refused] = table! {
     (b"\xbf\x01\xff", READ_BREAK, b"\xff", SKIPPED_BREAK, b"\xff"),
     (b"\xbf\x5f\xff\xff", READ_BREAK, b"\xff", SKIPPED_BREAK, b"\xff"),
     (b"\xbf\x81\xff\xff", READ_BREAK, b"\xff\xff", SKIPPED_BREAK, b"\xff\xff"),
+};
+
+const REFUSED_OTHERS: &[Refused] = table! {
     (b"\xc1\xdf\x00", mismatch!("tag", 0xdf), b"\x00", mismatch!("tag", 0xdf), b"\x00"),
     (b"\xc1\xff", READ_BREAK, b"\xff", SKIPPED_BREAK, b"\xff"),
     (b"\xdc\x00", mismatch!("tag", 0xdc), b"\x00", mismatch!("tag", 0xdc), b"\x00"),
@@ -187,7 +197,7 @@ type RefusedWithin = (
     &'static [u8],
 );
 
-const REFUSED_WITHIN: &[RefusedWithin] = table! {
+const LEAVES_WITHIN: &[RefusedWithin] = table! {
     (b"", 0, no_step!("value"), b"", no_step!("ignored-any"), b""),
     (b"", 1, eof!("value", 1), b"", eof!("ignored-any", 1), b""),
     (b"\x00", 0, no_step!("value"), b"\x00", no_step!("ignored-any"), b"\x00"),
@@ -211,6 +221,9 @@ const REFUSED_WITHIN: &[RefusedWithin] = table! {
     (b"\x7f\x61\xc3\x61", 2, eof!("str", 1), b"", eof!("ignored-any", 1), b""),
     (b"\x7f\x78", 1, no_step!("str"), b"\x78", no_step!("ignored-any"), b"\x78"),
     (b"\x7f\x78", 2, eof!("str", 1), b"", eof!("ignored-any", 1), b""),
+};
+
+const CONTAINERS_WITHIN: &[RefusedWithin] = table! {
     (b"\x81", 2, no_step!("value"), b"", eof!("ignored-any", 1), b""),
     (b"\x81", 3, eof!("value", 1), b"", eof!("ignored-any", 1), b""),
     (b"\x81\x00", 1, no_step!("array"), b"\x81\x00", no_step!("ignored-any"), b"\x00"),
@@ -242,6 +255,9 @@ const REFUSED_WITHIN: &[RefusedWithin] = table! {
         no_step!("ignored-any"), b"\x00\x01\xff"),
     (b"\xbf\x00\xff", 2, no_step!("value"), b"\x00\xff", SKIPPED_BREAK, b"\xff"),
     (b"\xbf\x00\xff", 3, READ_BREAK, b"\xff", SKIPPED_BREAK, b"\xff"),
+};
+
+const OTHERS_WITHIN: &[RefusedWithin] = table! {
     (b"\xc1", 1, no_step!("value"), b"", no_step!("ignored-any"), b""),
     (b"\xc1", 2, eof!("value", 1), b"", eof!("ignored-any", 1), b""),
     (b"\xc1\x00", 1, no_step!("value"), b"\x00", no_step!("ignored-any"), b"\x00"),
@@ -361,10 +377,15 @@ fn cuts_off(alloc: Global, rows: &[CutOff]) -> Result<(), Fail> {
 }
 
 #[test]
-fn cut_off(rt: HostRuntime) -> Result<(), Fail> {
+fn cut_off_leaves(rt: HostRuntime) -> Result<(), Fail> {
     let alloc = rt.alloc();
     cuts_off(alloc, FRONTS)?;
-    cuts_off(alloc, CUT_OFF)
+    cuts_off(alloc, LEAVES)
+}
+
+#[test]
+fn cut_off_containers(rt: HostRuntime) -> Result<(), Fail> {
+    cuts_off(rt.alloc(), CONTAINERS)
 }
 
 fn refuses_rows(alloc: Global, rows: &[Refused]) -> Result<(), Fail> {
@@ -376,8 +397,18 @@ fn refuses_rows(alloc: Global, rows: &[Refused]) -> Result<(), Fail> {
 }
 
 #[test]
-fn refused(rt: HostRuntime) -> Result<(), Fail> {
-    refuses_rows(rt.alloc(), REFUSED)
+fn refused_leaves(rt: HostRuntime) -> Result<(), Fail> {
+    refuses_rows(rt.alloc(), REFUSED_LEAVES)
+}
+
+#[test]
+fn refused_containers(rt: HostRuntime) -> Result<(), Fail> {
+    refuses_rows(rt.alloc(), REFUSED_CONTAINERS)
+}
+
+#[test]
+fn refused_tags_and_simple_values(rt: HostRuntime) -> Result<(), Fail> {
+    refuses_rows(rt.alloc(), REFUSED_OTHERS)
 }
 
 fn skips_rows(alloc: Global, rows: &[Skipped]) -> Result<(), Fail> {
@@ -410,8 +441,21 @@ fn skips_rows_within(alloc: Global, rows: &[SkippedWithin]) -> Result<(), Fail> 
 }
 
 #[test]
-fn refused_within_a_limit(rt: HostRuntime) -> Result<(), Fail> {
-    let alloc = rt.alloc();
-    refuses_rows_within(alloc, REFUSED_WITHIN)?;
-    skips_rows_within(alloc, SKIPPED_WITHIN)
+fn leaves_within_a_limit(rt: HostRuntime) -> Result<(), Fail> {
+    refuses_rows_within(rt.alloc(), LEAVES_WITHIN)
+}
+
+#[test]
+fn containers_within_a_limit(rt: HostRuntime) -> Result<(), Fail> {
+    refuses_rows_within(rt.alloc(), CONTAINERS_WITHIN)
+}
+
+#[test]
+fn tags_and_simple_values_within_a_limit(rt: HostRuntime) -> Result<(), Fail> {
+    refuses_rows_within(rt.alloc(), OTHERS_WITHIN)
+}
+
+#[test]
+fn refused_and_skipped_within_a_limit(rt: HostRuntime) -> Result<(), Fail> {
+    skips_rows_within(rt.alloc(), SKIPPED_WITHIN)
 }
