@@ -1,5 +1,6 @@
-use Rattle.std.proofs.Common.{rules, arith, sym, ◌≤◌}
+use Rattle.std.proofs.Common.{rules, arith, sym, ◌≤◌, refl}
 use Rattle.cbor4ii_items.specs.Laws.ReadingHeads.{small_argument, allowed_le, wider}
+use Rattle.std.proofs.lemmas.Result.{err_from_is_err_and}
 use Rattle.cbor4ii_items.proofs.head.argument.Goals as goal
 
 pub returns-then-info-lt24-clause-fits : goal.returns-then-info-lt24-clause-fits
@@ -12,3 +13,23 @@ returns-clause-fits g c h =
 
 pub returns-clause-runs : goal.returns-clause-runs
 returns-clause-runs g c = search rules
+
+pub returns-then-info-lt24-clause-memory : goal.returns-then-info-lt24-clause-memory
+returns-then-info-lt24-clause-memory g c = tt
+
+pub returns-then-not-allowed-clause-memory : goal.returns-then-not-allowed-clause-memory
+returns-then-not-allowed-clause-memory g c = refl
+
+pub returns-then-not-allowed-clause-fits : goal.returns-then-not-allowed-clause-fits
+returns-then-not-allowed-clause-fits g c = λ wide. tt
+
+pub returns-in_err-number-clause-memory : goal.returns-in_err-number-clause-memory
+returns-in_err-number-clause-memory g c =
+    let p = err_from_is_err_and c.from_residual.result c.from_residual.ensures.1 in
+    rw (p.1, p.2) c.in_err-number.ensures.memory
+
+pub returns-in_err-number-clause-fits : goal.returns-in_err-number-clause-fits
+returns-in_err-number-clause-fits g c = λ wide. rw (err_from_is_err_and c.from_residual.result c.from_residual.ensures.1).1 tt
+
+pub returns-clause-memory : goal.returns-clause-memory
+returns-clause-memory g c = tt

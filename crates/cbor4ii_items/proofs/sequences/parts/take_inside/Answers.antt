@@ -1,8 +1,8 @@
 use Rattle.std.proofs.lemmas.Result.{err_from_is_err_and}
 use Rattle.cbor4ii_items.specs.Laws.Steps.{moves_then}
 use Rattle.cbor4ii_items.proofs.SequenceAnswers.{counts, opens, head_refuses, head_stops, counted_sound, counted_refuses, counted_stops, opened_sound, opened_refuses, opened_stops}
-use Rattle.cbor4ii_items.proofs.sequences.parts.take_inside.Goals as goal
 use Rattle.cbor4ii_items.specs.Laws.Answering.{exact_kept}
+use Rattle.cbor4ii_items.proofs.sequences.parts.take_inside.Goals as goal
 
 pub returns-in_err-count-clause-complete : goal.returns-in_err-count-clause-complete
 returns-in_err-count-clause-complete g c exact =
@@ -54,3 +54,9 @@ returns-in-Some-clause-begins g c =
 pub returns-in-None-clause-begins : goal.returns-in-None-clause-begins
 returns-in-None-clause-begins g c =
     opened_stops _ _ _ _ _ c.take_open.result _ _ _ (opens _ _ c.in-None.is c.in_ok-count.ensures.runs) (λ xs told. c.take_open.ensures.begins)
+
+pub returns-in_err-count-clause-progress : goal.returns-in_err-count-clause-progress
+returns-in_err-count-clause-progress g c = rw (err_from_is_err_and c.from_residual.result c.from_residual.ensures.1).1 tt
+
+pub returns-in_err-count-clause-sound : goal.returns-in_err-count-clause-sound
+returns-in_err-count-clause-sound g c = rw (err_from_is_err_and c.from_residual.result c.from_residual.ensures.1).1 tt

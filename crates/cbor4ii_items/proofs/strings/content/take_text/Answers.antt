@@ -28,3 +28,21 @@ returns-clause-stops g c = utf8_stops (λ u. let f = c.in-Err.ensures.succeeds u
 
 pub returns-clause-sound : goal.returns-clause-sound
 returns-clause-sound g c = tt
+
+pub returns-in_err-lone_string-clause-progress : goal.returns-in_err-lone_string-clause-progress
+returns-in_err-lone_string-clause-progress g c = rw (err_from_is_err_and c.from_residual.result c.from_residual.ensures.1).1 tt
+
+pub returns-in_err-lone_string-clause-sound : goal.returns-in_err-lone_string-clause-sound
+returns-in_err-lone_string-clause-sound g c = rw (err_from_is_err_and c.from_residual.result c.from_residual.ensures.1).1 tt
+
+pub returns-in-Ok-clause-progress : goal.returns-in-Ok-clause-progress
+returns-in-Ok-clause-progress g c = c.in_ok-lone_string.ensures.progress
+
+pub returns-in-Ok-clause-complete : goal.returns-in-Ok-clause-complete
+returns-in-Ok-clause-complete g c = tt
+
+pub returns-in-Ok-clause-stops : goal.returns-in-Ok-clause-stops
+returns-in-Ok-clause-stops g c = tt
+
+pub returns-clause-progress : goal.returns-clause-progress
+returns-clause-progress g c = tt
