@@ -6,3 +6,4 @@ pub mod Loop
 pub mod Finish
 pub mod Complete
 pub mod Buffers
+pub mod Chosen

@@ -1,5 +1,5 @@
 -- What an error of the codec is called.
-use Rattle.std.specs.Prelude.{Result}
+use Rattle.std.specs.Prelude.{ℕ, Result, is_ok, if◌then◌else◌}
 use Rattle.cbor4ii_items.specs.Refusal.{Refusal, mismatch, unsupported, eof, require_length}
 use Rattle.cbor4ii_items.specs.Refusal.{require_borrowed, require_utf8, length_overflow}
 use Rattle.cbor4ii_items.specs.Refusal.{cast_overflow, arithmetic_overflow, depth_overflow, custom}
@@ -51,3 +51,7 @@ kind_of_refusal (not_canonical name) = kind.NotCanonical
 -- what a run answers: nothing, or where it stopped and why
 abbrev pub Outcome : Type 0
 Outcome = Result (Unit {0}) Fault
+
+-- the exit status: 0 after a run without a fault, 1 after one with
+abbrev pub status_of : Outcome → ℕ
+status_of outcome = if is_ok outcome then 0 else 1

@@ -5,3 +5,4 @@ pub mod Reading
 pub mod Item
 pub mod Run
 pub mod Steps
+pub mod Program

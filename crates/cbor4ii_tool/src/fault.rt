@@ -1,6 +1,6 @@
 //! Why a run stopped.
-ghost use Rattle.std.specs.Prelude.{◌≡◌, is_ok, if◌then◌else◌};
-ghost use Rattle.cbor4ii_tool.specs.Fault.{kind_of};
+ghost use Rattle.std.specs.Prelude.{◌≡◌};
+ghost use Rattle.cbor4ii_tool.specs.Fault.{kind_of, status_of};
 
 use cbor4ii::error::DecodeError;
 use std::fmt;
@@ -81,7 +81,7 @@ impl fmt::Display for Fault {
 
 /// The exit status: 0 after a run without a fault, 1 after one with.
 pub fn status(outcome: &Result<(), Fault>) -> u8
-    ensures { result ≡ (if is_ok outcome.now then 0 else 1) }
+    ensures { result ≡ status_of outcome.now }
 {
     match outcome {
         Ok(()) => 0,

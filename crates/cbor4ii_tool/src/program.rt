@@ -1,8 +1,11 @@
 //! The program, over its arguments and its three streams.
-ghost use Rattle.std.specs.Prelude.{◌≡◌, ◌⊎◌, List, ℕ, Option, IfErr};
+ghost use Rattle.std.specs.Prelude.{◌≡◌, ◌≢◌, ◌⊎◌, List, ℕ, Option, Ok, None};
+ghost use Rattle.std.specs.Prelude.{IfOk, IfErr, IsErr, IsOkAnd};
+ghost use Rattle.std.specs.IoError.{error_kind};
 ghost use Rattle.cbor4ii_rw.specs.View.{Told};
 ghost use Rattle.cbor4ii_rw.specs.Stream.{most_bytes, cut_known};
 ghost use Rattle.cbor4ii_tool.specs.Run.{RunsOver, WantsMemory};
+ghost use Rattle.cbor4ii_tool.specs.Program.{Names, NamesNone, EndsIn, Chooses};
 
 use crate::arguments::command;
 use crate::command::Command;
@@ -29,7 +32,15 @@ pub fn program<R: Read + Drop, W: Write + Drop, E: Write>(
     input: R,
     output: W,
     errors: &mut E,
-) -> u8 {
+) -> u8
+    ensures runs { IfOk words (λ words. (command : Command) → Names words.items command
+        → EndsIn command (cut_known most_bytes (R.remaining input)) (W.contents output) result) }
+    ensures usage { IfOk words (λ words. NamesNone words.items → result ≡ 2) }
+    ensures no_text { IfErr words (λ error.
+        (error_kind error ≢ ErrorKind.OutOfMemory) → result ≡ 2) }
+    ensures memory { IfErr words (λ error.
+        (error_kind error ≡ ErrorKind.OutOfMemory) → result ≡ 1) }
+{
     let outcome = match chosen(words) {
         Ok(Some(command)) => stream(alloc, command, input, output),
         Ok(None) => {
@@ -46,6 +57,11 @@ pub fn program<R: Read + Drop, W: Write + Drop, E: Write>(
 
 // The command that the arguments name, if any. Arguments that are no text name none.
 fn chosen(words: io::Result<Vec<String>>) -> Result<Option<Command>, Fault>
+    ensures chooses { IfOk words (λ words. IsOkAnd result (Chooses words.items)) }
+    ensures no_text { IfErr words (λ error.
+        (error_kind error ≢ ErrorKind.OutOfMemory) → result ≡ Ok None) }
+    ensures memory { IfErr words (λ error.
+        (error_kind error ≡ ErrorKind.OutOfMemory) → IsErr result) }
     ensures at { IfErr result (λ fault. fault.at ≡ 0) }
     ensures kind { IfErr result (λ fault. fault.kind ≡ Kind.OutOfMemory) }
 {

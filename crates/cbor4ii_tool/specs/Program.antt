@@ -1,0 +1,30 @@
+-- What the program makes of its words.
+use Rattle.std.specs.Prelude.{◌≡◌, ◌↔◌, ℕ, List, [], ◌∷◌, map, codes, string_bytes}
+use Rattle.std.specs.Prelude.{Option, Some, String}
+use Rattle.std.specs.declared.alloc.Global.{Global}
+use Rattle.cbor4ii_rw.specs.View.{Told}
+use Rattle.cbor4ii_tool.specs.Run.{RunsOver}
+use Rattle.cbor4ii_tool.specs.Fault.{Outcome, status_of}
+use Rattle.cbor4ii_tool.specs.declared.command.Command.{Command}
+use Rattle.cbor4ii_tool.specs.declared.command.Command.TheVariants.{Ints, Canon, Lens, Strict}
+
+-- the words are one, the command's
+abbrev pub Names : List (String Global) → Command → Type 0
+Names words Ints = map string_bytes words ≡ codes "ints" ∷ []
+Names words Canon = map string_bytes words ≡ codes "canon" ∷ []
+Names words Lens = map string_bytes words ≡ codes "lens" ∷ []
+Names words Strict = map string_bytes words ≡ codes "strict" ∷ []
+
+-- the words name no command
+abbrev pub NamesNone : List (String Global) → Type 0
+NamesNone words = (command : Command) → ¬ (Names words command)
+
+-- what the command makes of an input that is known, behind what the output held, ends in the status
+abbrev pub EndsIn : Command → Option (List ℕ) → Option (List ℕ) → ℕ → Type 0
+EndsIn command input held status = Told input (λ bytes. (holds : Option (List ℕ))
+    × (outcome : Outcome) × RunsOver command bytes held holds outcome
+    × (status ≡ status_of outcome))
+
+-- the choice is the command that the words name, if any
+abbrev pub Chooses : List (String Global) → Option Command → Type 0
+Chooses words choice = (command : Command) → (choice ≡ Some command) ↔ Names words command
