@@ -1,8 +1,12 @@
 //! Rows of the records that are written and read as typed values.
 use crate::events::{Event, Sample};
-use crate::typed::{
-    Answer, BothTold, Refused, RowTold, RowToldWithin, comes_back, refuses, tells, tells_all,
+use cbor4ii::serde::{DecodeError, Deserialize, Deserializer, EncodeError, Serialize, Serializer};
+use cbor4ii_reading::typed::{
+    Answer, BothTold, Refused, RowTold, RowToldWithin, Take, comes_back, refuses, tells, tells_all,
 };
+use cbor4ii_rw::read::Source;
+use cbor4ii_rw::write::Write;
+use std::alloc::Global;
 use std::collections::BTreeMap;
 use std::test::Fail;
 
@@ -148,16 +152,37 @@ fn what_is_written_is_read_back(rt: HostRuntime) -> Result<(), Fail> {
     comes_back::<Vec<Event>>(rt.alloc(), ARRAY_OF_EVENTS, ARRAY_OF_EVENTS_TOLD)
 }
 
+/// Events by their numbers.
+#[derive(Debug, Drop)]
+struct Log(BTreeMap<u8, Event>);
+
+impl Serialize for Log {
+    ghost item = { λ log. ⟦<BTreeMap<u8, Event> as Serialize>⟧.item log.0 };
+
+    fn serialize<W: Write>(&self, ser: &mut Serializer<W>) -> Result<(), EncodeError<W::Error>> {
+        self.0.serialize(ser)
+    }
+}
+
+impl Take for Log {
+    fn take<S: Source>(
+        alloc: Global,
+        de: &mut Deserializer<S>,
+    ) -> Result<Self, DecodeError<S::Error>> {
+        Ok(Log(BTreeMap::deserialize(alloc, de)?))
+    }
+}
+
 const MAPS_OF_EVENTS: &[BothTold] = &[(
     b"\xa4\x01\x67Started\x02\
 \xa1\x67Sampled\xa3\x66sensor\x62t1\x65value\x38\x63\x64note\xf6\x03\
 \xa1\x65Moved\x82\x01\x20\x04\
 \xa1\x65Named\xa2\x62id\x19\x01\xf4\x64name\x61a",
-    "Is({1: Started, 2: Sampled(Sample { sensor: \"t1\", value: -100, note: None }), \
-3: Moved(1, -1), 4: Named { id: 500, name: \"a\" }})",
+    "Is(Log({1: Started, 2: Sampled(Sample { sensor: \"t1\", value: -100, note: None }), \
+3: Moved(1, -1), 4: Named { id: 500, name: \"a\" }}))",
 )];
 
 #[test]
 fn a_map_of_events(rt: HostRuntime) -> Result<(), Fail> {
-    tells::<Answer<BTreeMap<u8, Event>>>(rt.alloc(), MAPS_OF_EVENTS, &[], &[])
+    tells::<Answer<Log>>(rt.alloc(), MAPS_OF_EVENTS, &[], &[])
 }

@@ -3,8 +3,8 @@ ghost use Rattle.std.specs.Prelude.{◌∷◌, [], false, string_bytes};
 ghost use Rattle.cbor4ii_ser.specs.TextState.{text_item};
 
 use crate::records::{Enum, Point};
-use crate::typed::Answer::Is;
 use cbor4ii::serde::{EncodeError, Serialize, Serializer};
+use cbor4ii_reading::typed::Answer::Is;
 use cbor4ii_rw::write::Write;
 use cbor4ii_trials::rows::writes_in;
 use cbor4ii_writing::pieces::{Parts, joined, letters};

@@ -1,7 +1,7 @@
 //! Rows of a type that holds values of its own kind.
 use crate::nest::{Nest, read_nest};
-use crate::typed::{Answer, BothTold, RowTold, RowToldWithin, Take, tells};
 use cbor4ii::serde::{DecodeError, Deserializer};
+use cbor4ii_reading::typed::{Answer, BothTold, RowTold, RowToldWithin, Take, tells};
 use cbor4ii_rw::read::Source;
 use std::alloc::Global;
 use std::test::Fail;

@@ -4,13 +4,13 @@ ghost use Rattle.cbor4ii_ser.specs.Item.{field, struct_item, variant_item};
 ghost use Rattle.cbor4ii_records.specs.declared.record_rows.Letters.TheVariants.{A};
 
 use crate::records::{Enum, Point, read_enum};
-use crate::typed::Answer::{self, Is};
-use crate::typed::{
+use cbor4ii::serde::{DecodeError, Deserializer, EncodeError, Serialize, Serializer, to_writer};
+use cbor4ii::types::F64;
+use cbor4ii_reading::typed::Answer::{self, Is};
+use cbor4ii_reading::typed::{
     BothTold, Refused, RowTold, RowToldWithin, Take, comes_back, reads_all, refuses, tells,
     tells_all,
 };
-use cbor4ii::serde::{DecodeError, Deserializer, EncodeError, Serialize, Serializer, to_writer};
-use cbor4ii::types::F64;
 use cbor4ii_rw::read::Source;
 use cbor4ii_rw::write::Write;
 use cbor4ii_trials::rows::Row;
