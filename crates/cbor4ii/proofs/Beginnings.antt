@@ -12,12 +12,13 @@ use Rattle.cbor4ii_items.specs.Next.{StopsNext}
 use Rattle.cbor4ii_items.specs.Refusal.{Refusal, refusal_of, is_read}
 use Rattle.cbor4ii_items.specs.Sequences.{StopsPair}
 use Rattle.cbor4ii_items.specs.Laws.Pairs.{value_stops_pair}
+use Rattle.cbor4ii_items.specs.Laws.SequenceParts.{stops_as}
 use Rattle.cbor4ii.specs.declared.serde.de.error.DecodeError.{DecodeError as Typed}
 use Rattle.cbor4ii.specs.Stepped.{StopsStepped}
 use Rattle.cbor4ii.specs.Typed.{as_core, answer_of, not_exact, unsaid_stops, said}
 use Rattle.cbor4ii.proofs.Looking.{Saw}
 use Rattle.cbor4ii.proofs.Steps.{stops_stepped}
-use Rattle.cbor4ii.proofs.Stopped.{stopped_as, stops_as}
+use Rattle.cbor4ii.proofs.Stopped.{stopped_as}
 
 not_read : {E : Type 0} (e : DecodeError E) (z : Refusal) → refusal_of e ≡ Some z → is_read e ≡ false
 not_read (Read x) z h = cc

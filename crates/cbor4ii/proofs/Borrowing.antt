@@ -1,5 +1,5 @@
 -- Strings that are borrowed from the input, read as those that may be.
-use Rattle.std.proofs.Common.{◌≡◌, ℕ, ◌<◌, ◌⊎◌, inl, inr, List, [], ◌∷◌, length, take, drop, Option, Some, None, Bool, true, false, Result, Ok, Err, refl, sym, ap, subst, IfSome, IfOk, IfErr}
+use Rattle.std.proofs.Common.{◌≡◌, ℕ, ◌<◌, ◌⊎◌, inl, inr, List, [], ◌∷◌, length, take, drop, Bool, true, false, Result, Ok, Err, refl, sym, ap, subst, IfOk, IfErr}
 use Rattle.std.specs.Prelude.{OnOk, IsTrue, IsUtf8}
 use denote.Ref.{Bor}
 use Rattle.std.specs.declared.alloc.Global.{Global}
@@ -13,7 +13,7 @@ use Rattle.cbor4ii_rw.specs.View.{View}
 use Rattle.cbor4ii_rw.specs.declared.error.DecodeError.{DecodeError as CoreError}
 use Rattle.cbor4ii_rw.specs.declared.error.DecodeError.TheVariants.{RequireBorrowed}
 use Rattle.cbor4ii_items.specs.Head.{open_head}
-use Rattle.cbor4ii_items.specs.Refusal.{Refusal, refusal_of, require_borrowed}
+use Rattle.cbor4ii_items.specs.Refusal.{refusal_of, require_borrowed}
 use Rattle.cbor4ii_items.specs.Moves.{Moves}
 use Rattle.cbor4ii_items.specs.Cow.{BorrowsWhereCounted, cow_text, cow_bytes, IsBorrowedBytes, IsOwnedBytes}
 use Rattle.cbor4ii_items.specs.Strings.{ReadsCountedString, ReadsAs, ReadsTextAs}
@@ -22,14 +22,11 @@ use Rattle.cbor4ii_items.specs.Lent.{ReadsLent, lent_str, lent_bytes}
 use Rattle.cbor4ii_items.specs.Laws.Strings.{head_not_open}
 use Rattle.cbor4ii_items.specs.Laws.Answering.{refuses_as}
 use Rattle.cbor4ii_items.specs.Laws.Steps.{moves_ok, moves_err}
+use Rattle.cbor4ii_items.specs.Laws.SequenceParts.{always}
 use Rattle.cbor4ii.specs.declared.serde.de.error.DecodeError.{DecodeError}
 use Rattle.cbor4ii.specs.Borrowed.{Borrows, LacksLoan, StopsUnlent}
 use Rattle.cbor4ii.specs.Typed.{as_core, answer_of, not_exact}
 use Rattle.cbor4ii.proofs.Stopped.{stopped_as}
-
-always : {Q : Type 0} (o : Option Refusal) → Q → IfSome o (λ z. Q)
-always None q = tt
-always (Some z) q = q
 
 pub unlent : {V W E : Type 0} {a b : View} {v : V} (found : Bor (List ℕ)) → Moves {E = E} a b (Ok v) → Moves {V = W} {E = E} a b (Err (RequireBorrowed found))
 unlent found m = record { by = m.by; depth = λ e. refl }

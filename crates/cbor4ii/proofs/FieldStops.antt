@@ -12,11 +12,12 @@ use Rattle.cbor4ii_items.specs.Moves.{Kept}
 use Rattle.cbor4ii_items.specs.Refusal.{refusal_of}
 use Rattle.cbor4ii_items.specs.Strings.{StopsText, text_content}
 use Rattle.cbor4ii_items.specs.Laws.SequenceInside.{if_err}
+use Rattle.cbor4ii_items.specs.Laws.SequenceParts.{stops_as}
 use Rattle.cbor4ii_tree.specs.Ignored.{StopsIgnored}
 use Rattle.cbor4ii.specs.declared.serde.de.error.DecodeError.{DecodeError as Typed}
 use Rattle.cbor4ii.specs.Fields.{StopsNamed, no_field_stops, field_stops, stops_by, ReadsName, StopsEntry}
 use Rattle.cbor4ii.specs.Typed.{as_core}
-use Rattle.cbor4ii.proofs.Stopped.{stops_as, stopped_as}
+use Rattle.cbor4ii.proofs.Stopped.{stopped_as}
 
 module _ (stops : StopsAt) (others : List (Bor (List ℕ)) → StopsNamed) where
   by_first : (names : List (Bor (List ℕ))) (d : Bor (List ℕ)) → 1 ≤ length names → stops_by stops others names ≡ field_stops (get_or names 0 d).now stops (others (take (length names - 1) (drop 1 names)))

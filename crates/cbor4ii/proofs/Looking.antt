@@ -12,6 +12,7 @@ use Rattle.cbor4ii_items.specs.Decoding.{Reads, CostFits, Sound, NoneRead, Refus
 use Rattle.cbor4ii_items.specs.Containers.{BeginsNull, ReadsOption}
 use Rattle.cbor4ii_items.specs.Laws.Answering.{fits_zero, if_some, refuses_as}
 use Rattle.cbor4ii_items.specs.Laws.Running.{kept_taken}
+use Rattle.cbor4ii.specs.Tuples.{one_there}
 
 peeks : (name : List ℕ) (b : ℕ) (xs : List ℕ) → take 1 xs ≡ b ∷ [] → peek_at name 1 xs ≡ Ok (b, xs)
 peeks name b [] e = cc
@@ -32,13 +33,9 @@ pub record Saw (a m : View) (b : ℕ) : Type 0 where
   pub first : Told a.told (λ xs. (m.told ≡ Some xs) × (take 1 xs ≡ b ∷ []) × (1 ≤ length xs))
   pub budget : m.budget ≡ a.budget
 
-some_byte : (b : ℕ) (xs : List ℕ) → take 1 xs ≡ b ∷ [] → 1 ≤ length xs
-some_byte b [] e = cc
-some_byte b (x ∷ xs) e = omega arith
-
 pub saw : {E : Type 0} {b : ℕ} {a m : View} → Moves {E = E} a m (Ok b) → Sound ReadsNext a m b → Saw a m b
 saw {b = b} m s = record {
-  first = λ xs told. (let p = s.at xs told in (p.left ∙ ap (λ n. Some (drop n xs)) p.read.1, p.read.0, some_byte b xs p.read.0));
+  first = λ xs told. (let p = s.at xs told in (p.left ∙ ap (λ n. Some (drop n xs)) p.read.1, p.read.0, one_there xs b p.read.0));
   budget = m.by.budget;
 }
 

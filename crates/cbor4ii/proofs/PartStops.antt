@@ -11,9 +11,9 @@ use Rattle.cbor4ii_items.specs.Refusal.{refusal_of}
 use Rattle.cbor4ii_items.specs.Sequences.{StopsCount, StopsPlace, no_byte, part_refused, StopsUpToBreak, StopsInside, length_refused, counted_refused, open_refused}
 use Rattle.cbor4ii.specs.declared.serde.de.error.DecodeError.{DecodeError as Typed}
 use Rattle.cbor4ii.specs.Typed.{as_core}
-use Rattle.cbor4ii_items.specs.Laws.SequenceParts.{Begun, Opened, Stands}
+use Rattle.cbor4ii_items.specs.Laws.SequenceParts.{Begun, Opened, Stands, stops_as}
 use Rattle.cbor4ii_items.specs.Laws.SequenceInside.{Counts, Opens}
-use Rattle.cbor4ii.proofs.Stopped.{stops_as, stopped_as}
+use Rattle.cbor4ii.proofs.Stopped.{stopped_as}
 
 module _ {P : Type 0} (reads : Reads P) (stops : StopsAt) where
   -- fewer parts than are counted are whole

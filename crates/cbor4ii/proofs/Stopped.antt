@@ -1,16 +1,11 @@
 -- One way to be refused as another.
-use Rattle.std.proofs.Common.{◌≡◌, ℕ, List, Option, Some, None, sym, subst, IfSome}
+use Rattle.std.proofs.Common.{◌≡◌, ℕ, List, Option, Some, sym, subst, IfSome}
 use Rattle.cbor4ii_rw.specs.View.{View}
 use Rattle.cbor4ii_rw.specs.Reader.{KeepsAllButBudget}
 use Rattle.cbor4ii_rw.specs.declared.error.DecodeError.{DecodeError}
 use Rattle.cbor4ii_items.specs.Refusal.{Refusal, refusal_of}
 use Rattle.cbor4ii_items.specs.Decoding.{StopsAt, Stops}
-
--- another relation says why, where the first one does
-pub stops_as : (o : Option Refusal) (left : Option (List ℕ)) (f g : Refusal → List ℕ → Type 0) → ((z : Refusal) (ys : List ℕ) → f z ys → g z ys)
-    → IfSome o (λ z. (ys : List ℕ) × (left ≡ Some ys) × f z ys) → IfSome o (λ z. (ys : List ℕ) × (left ≡ Some ys) × g z ys)
-stops_as None left f g means h = tt
-stops_as (Some z) left f g means h = (h.0, h.1, means z h.0 h.2)
+use Rattle.cbor4ii_items.specs.Laws.SequenceParts.{stops_as}
 
 pub stopped_as : {E : Type 0} {e : DecodeError E} {a b : View} (f g : StopsAt) → ((xs : List ℕ) (budget : Option ℕ) (z : Refusal) (ys : List ℕ) → f xs budget z ys → g xs budget z ys) → Stops f a b e → Stops g a b e
 stopped_as {e = e} {a = a} {b = b} f g means s = record { at = λ xs told. stops_as (refusal_of e) b.told (f xs a.budget) (g xs a.budget) (means xs a.budget) (s.at xs told) }

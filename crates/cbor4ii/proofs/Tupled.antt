@@ -1,5 +1,5 @@
 -- A head that counts so many, and what stands behind it.
-use Rattle.std.proofs.Common.{◌≡◌, ℕ, ◌+◌, ◌<◌, ◌≤◌, inl, inr, List, drop, Option, Some, None, Bool, true, false, Result, Ok, Err, refl, sym, ap, ◌∙◌, subst, IfSome, IfOk, IfErr, ltb, ltb-true, ltb-false}
+use Rattle.std.proofs.Common.{◌≡◌, ℕ, ◌+◌, ◌<◌, ◌≤◌, inl, inr, List, drop, Option, Some, None, Bool, true, false, Result, Ok, Err, refl, sym, ap, ◌∙◌, subst, IfOk, IfErr, ltb, ltb-true, ltb-false}
 use Rattle.std.specs.Prelude.{codes}
 use denote.Ref.{Bor}
 use Rattle.cbor4ii_rw.specs.declared.error.Len.{Len}
@@ -11,7 +11,7 @@ use Rattle.cbor4ii.specs.declared.serde.de.error.DecodeError.{DecodeError as Typ
 use Rattle.cbor4ii.specs.Typed.{as_core}
 use Rattle.cbor4ii.specs.Sequence.{four_small}
 use Rattle.cbor4ii.specs.Tuples.{ReadsBehind, ReadsCountOf, StopsCountOf, told_length}
-use Rattle.cbor4ii_items.specs.Refusal.{Refusal, refusal_of, len_of}
+use Rattle.cbor4ii_items.specs.Refusal.{refusal_of, len_of}
 use Rattle.cbor4ii_items.specs.Moves.{Kept}
 use Rattle.cbor4ii_items.specs.Laws.Fronts.{drop_more}
 use Rattle.cbor4ii_items.specs.Laws.Heads.{head_one}
@@ -20,11 +20,8 @@ use Rattle.cbor4ii_items.specs.Lengths.{ReadsLength, StopsLength}
 use Rattle.cbor4ii_items.specs.Decoding.{CostFits, Sound, NoneRead, Refuses, Stops}
 use Rattle.cbor4ii_items.specs.Laws.Answering.{if_some}
 use Rattle.cbor4ii_items.specs.Laws.Answering.{fits_zero}
+use Rattle.cbor4ii_items.specs.Laws.SequenceParts.{always}
 use Rattle.cbor4ii.proofs.Stopped.{stopped_as}
-
-always : {Q : Type 0} (o : Option Refusal) → Q → IfSome o (λ z. Q)
-always None q = tt
-always (Some z) q = q
 
 so_many : {count : ℕ} {a m : View} → Sound (ReadsLength 4) a m (Some count) → Sound (ReadsCountOf count) a m tt
 so_many s = record { at = λ xs told. (let p = s.at xs told in record { count = p.count; cost = p.cost; read = p.read; fits = p.fits; left = p.left }) }

@@ -1,5 +1,5 @@
 -- The unit.
-use Rattle.std.proofs.Common.{◌≡◌, ◌≢◌, ℕ, List, [], ◌∷◌, take, drop, Option, Some, None, refl, sym, ap, ◌∙◌, IfSome}
+use Rattle.std.proofs.Common.{◌≡◌, ◌≢◌, ℕ, List, [], ◌∷◌, take, drop, Option, refl, sym, ap, ◌∙◌}
 use Rattle.std.specs.Prelude.{codes}
 use denote.Ref.{Bor}
 use Rattle.cbor4ii_rw.specs.View.{View}
@@ -10,6 +10,7 @@ use Rattle.cbor4ii_items.specs.Refusal.{Refusal, refusal_of, mismatch}
 use Rattle.cbor4ii_items.specs.Next.{ReadsNext, StopsNext}
 use Rattle.cbor4ii_items.specs.Decoding.{NoneRead, Sound, Refuses, Stops}
 use Rattle.cbor4ii_items.specs.Laws.Answering.{fits_zero, refuses_as}
+use Rattle.cbor4ii_items.specs.Laws.SequenceParts.{always}
 use Rattle.cbor4ii.specs.Tuples.{ReadsUnit, StopsUnit}
 use Rattle.cbor4ii.proofs.Looking.{Saw, none_begins}
 use Rattle.cbor4ii.proofs.Stopped.{stopped_as}
@@ -18,10 +19,6 @@ pub unit_sound : {a m c : View} {b : ℕ} → Saw a m b → b ≡ 0x80 → Advan
 unit_sound {a = a} s is adv = record {
   at = λ xs told. (let f = s.first xs told in record { count = 1; cost = 0; read = (f.1 ∙ ap (λ z. z ∷ []) is, refl, refl); fits = fits_zero a.budget; left = adv.told xs f.0 });
 }
-
-always : {Q : Type 0} (o : Option Refusal) → Q → IfSome o (λ z. Q)
-always None q = tt
-always (Some z) q = q
 
 pub unit_other : {E : Type 0} {a m : View} {b : ℕ} {e : DecodeError E} → Saw a m b → b ≢ 0x80 → Refuses ReadsUnit a e
 unit_other {b = b} {e = e} s not = record {

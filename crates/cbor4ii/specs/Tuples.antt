@@ -23,7 +23,7 @@ abbrev pub StopsUnit : StopsAt
 StopsUnit [] budget refusal rest = (refusal ≡ eof (codes "unit") (Small 1)) × (rest ≡ [])
 StopsUnit (b ∷ bs) budget refusal rest = (b ≢ 0x80) × (refusal ≡ mismatch (codes "unit") b) × (rest ≡ bs)
 
-one_there : (xs : List ℕ) (b : ℕ) → take 1 xs ≡ b ∷ [] → 1 ≤ length xs
+pub one_there : (xs : List ℕ) (b : ℕ) → take 1 xs ≡ b ∷ [] → 1 ≤ length xs
 one_there [] b e = cc
 one_there (x ∷ xs) b e = omega arith
 

@@ -14,6 +14,7 @@ use Rattle.cbor4ii_tool.specs.declared.command.Command.{Command}
 use Rattle.cbor4ii_tool.specs.declared.fault.Fault.{Fault}
 use Rattle.cbor4ii_tool.specs.declared.fault.Kind.{Kind}
 use Rattle.cbor4ii_tool.specs.declared.fault.Kind.TheVariants.{Read, OutOfMemory, Write}
+use Rattle.cbor4ii_tool.proofs.Loop.{failed_from}
 
 pub flush_counts : {E : Type 0} (answer : Result (Unit {0}) E) (flushed : Bool) (old new : ℕ)
     → OnOk answer (flushed ≡ true) → OnOk answer (new ≡ old) → OnErr answer (new ≡ one_more old)
@@ -118,9 +119,6 @@ finished_memory command (Ok _) (Err fault) at flushed m n wants finishes =
 abbrev pub Raised : ℕ → ℕ → Type 0
 Raised b c = c ≡ one_more b
 
-from : (a b c : ℕ) → b ≡ a → Failed b c → Failed a c
-from a b c same failed = subst (λ n. Failed n c) same failed
-
 raised : (b c : ℕ) → Raised b c → Failed b c
 raised b c up = elim (cases_lt b (2 ^ 64 - 1))
     [ inl small ↦ inl (omega (arith, up, small)) | inr great ↦ inr (omega (arith, up, great)) ]
@@ -157,19 +155,19 @@ finished_blames (Ok _) (Ok _) at flushed old new held mid holds moves finishes =
 finished_blames (Ok _) (Err fault) at flushed old new held mid holds moves finishes =
     subst (λ (f : Fault). BlamesAt f.kind old new held holds) (sym finishes.0) (
       moves.0,
-      from held.failures mid.failures holds.failures moves.1
+      failed_from held.failures mid.failures holds.failures moves.1
           (raised mid.failures holds.failures finishes.1),
     )
 
 lost_at : (kind : Kind) (old new : View) (held mid holds : Output) → FailsAt kind old new held mid
     → Raised mid.failures holds.failures → Failed held.failures holds.failures
 lost_at Read old new held mid holds fails failed =
-    from held.failures mid.failures holds.failures fails.1
+    failed_from held.failures mid.failures holds.failures fails.1
     (raised mid.failures holds.failures failed)
 lost_at Write old new held mid holds fails failed =
     failed_more held.failures mid.failures holds.failures fails.1 (inr failed)
 lost_at _ old new held mid holds fails failed =
-    from held.failures mid.failures holds.failures fails.1
+    failed_from held.failures mid.failures holds.failures fails.1
     (raised mid.failures holds.failures failed)
 
 handed : (kind : Kind) (flushed : Bool) (old new : View) (held mid holds : Output)
@@ -188,5 +186,5 @@ finished_hands (Err fault) answer at flushed old new held mid holds moves finish
     (handed fault.kind flushed old new held mid holds moves finishes.1)
 finished_hands (Ok _) (Ok _) at flushed old new held mid holds moves finishes = finishes.0
 finished_hands (Ok _) (Err fault) at flushed old new held mid holds moves finishes =
-    inr (from held.failures mid.failures holds.failures moves.1
+    inr (failed_from held.failures mid.failures holds.failures moves.1
     (raised mid.failures holds.failures finishes.1))

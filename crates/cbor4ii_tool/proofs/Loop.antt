@@ -2,7 +2,7 @@
 use Rattle.std.proofs.Common.{◌≡◌, ◌≢◌, ℕ, ◌+◌, List, [], ◌∷◌, ◌++◌}
 use Rattle.std.proofs.Common.{length, drop, Bool, IsTrue}
 use Rattle.std.proofs.Common.{Option, Some, Ok, Err, true, false, refl, sym, ap, ◌∙◌, subst}
-use Rattle.std.proofs.Common.{arith, append_assoc, append-nil}
+use Rattle.std.proofs.Common.{arith, append-nil}
 use Rattle.std.proofs.lemmas.Grind.{flat_map-append}
 use Rattle.std.proofs.lemmas.List.{drop-drop, length-drop}
 use Rattle.cbor4ii_rw.specs.View.{View, Told}
@@ -15,6 +15,7 @@ use Rattle.cbor4ii_tool.proofs.Items.{same_bytes}
 use Rattle.cbor4ii_tool.specs.declared.command.Command.{Command}
 use Rattle.cbor4ii_tool.specs.declared.fault.Kind.{Kind}
 use Rattle.cbor4ii_tool.specs.declared.fault.Kind.TheVariants.{Read, OutOfMemory, Write}
+use Rattle.cbor4ii_items.specs.Laws.Written.{appends_then}
 
 -- ---- rows
 
@@ -31,10 +32,6 @@ pub together_more : (texts : List (List ℕ)) (text : List ℕ)
 together_more texts text =
     flat_map-append (λ (xs : List ℕ). xs) texts (text ∷ [])
     ∙ ap (λ xs. together texts ++ xs) (append-nil text)
-
-appends_then : (xs ys : List ℕ) (a b c : Option (List ℕ)) → Appends xs a b → Appends ys b c
-    → Appends (xs ++ ys) a c
-appends_then xs ys a b c p q = λ zs told. q (zs ++ xs) (p zs told) ∙ ap Some (append_assoc zs xs ys)
 
 appends_nothing : (a : Option (List ℕ)) → Appends [] a a
 appends_nothing a = λ xs told. told ∙ ap Some (sym (append-nil xs))
@@ -167,20 +164,20 @@ stopped command at kind start a b c held h i ran taken shows some fails input to
 
 -- ---- failures
 
-from : (a b c : ℕ) → b ≡ a → Failed b c → Failed a c
-from a b c same failed = subst (λ n. Failed n c) same failed
+pub failed_from : (a b c : ℕ) → b ≡ a → Failed b c → Failed a c
+failed_from a b c same failed = subst (λ n. Failed n c) same failed
 
 pub stopped_moves : (command : Command) (at : ℕ) (kind : Kind) (start a b c : View)
     (held h i : Output) → Ran command start a held h → Shows [] a b → Fails command kind b c h i
     → MovesFailures (Err (record { at = at; kind = kind })) start c held i
 stopped_moves command at Read start a b c held h i ran shows fails = (
-  from start.failures b.failures c.failures (shows.failures ∙ ran.failures) fails.0,
+  failed_from start.failures b.failures c.failures (shows.failures ∙ ran.failures) fails.0,
   ap
       (λ (o : Output). o.failures) fails.1 ∙ ran.unfailing,
 )
 stopped_moves command at Write start a b c held h i ran shows fails = (
   fails.1 ∙ (shows.failures ∙ ran.failures),
-  from held.failures h.failures i.failures
+  failed_from held.failures h.failures i.failures
       ran.unfailing fails.0,
 )
 stopped_moves command at OutOfMemory start a b c held h i ran shows fails = (

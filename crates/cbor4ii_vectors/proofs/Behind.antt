@@ -8,16 +8,8 @@ use Rattle.cbor4ii_items.specs.Moves.{Kept}
 use Rattle.cbor4ii_items.specs.Decoding.{Reads, StopsAt, CostFits, NoneRead, Sound, Refuses, Stops}
 use Rattle.cbor4ii_items.specs.Laws.Fronts.{drop_more}
 use Rattle.cbor4ii_items.specs.Laws.Answering.{if_some, refuses_as}
+use Rattle.cbor4ii_items.specs.Laws.SequenceParts.{fits_max, fits_less}
 use Rattle.cbor4ii_vectors.specs.Then.{ReadsThen, StopsThen, InOneWay, Carries}
-
-fits_max : (c d : ℕ) (budget : Option ℕ) → CostFits c budget → CostFits d budget
-    → CostFits (max c d) budget
-fits_max c d None p q = tt
-fits_max c d (Some b) p q = omega (arith, p, q)
-
-fits_less : (c d : ℕ) (budget : Option ℕ) → c ≤ d → CostFits d budget → CostFits c budget
-fits_less c d None h p = tt
-fits_less c d (Some b) h p = omega (arith, h, p)
 
 max_left : (c d e : ℕ) → c ≡ max d e → d ≤ c
 max_left c d e h = omega arith

@@ -1,6 +1,6 @@
 -- What a station is made of, one call behind another.
 use Rattle.std.proofs.Common.{◌≡◌, ◌≢◌, ℕ, ◌<◌, ◌≤◌, inl, inr, List, drop, Option, Some, None, Bool}
-use Rattle.std.proofs.Common.{true, false, refl, sym, ap, ◌∙◌, subst, arith, IfSome, Bor}
+use Rattle.std.proofs.Common.{true, false, refl, sym, ap, ◌∙◌, subst, arith, Bor}
 use Rattle.std.proofs.Common.{ltb, ltb-true, ltb-false}
 use Rattle.std.specs.Prelude.{codes}
 use Rattle.std.specs.declared.alloc.Global.{Global}
@@ -10,7 +10,7 @@ use Rattle.cbor4ii_rw.specs.declared.error.DecodeError.{DecodeError}
 use Rattle.cbor4ii_rw.specs.declared.error.DecodeError.TheVariants.{RequireLength}
 use Rattle.cbor4ii_rw.specs.declared.error.Len.{Len}
 use Rattle.cbor4ii_rw.specs.declared.error.Len.TheVariants.{Small, Big, Indefinite}
-use Rattle.cbor4ii_items.specs.Refusal.{Refusal, refusal_of, require_length, len_of}
+use Rattle.cbor4ii_items.specs.Refusal.{refusal_of, require_length, len_of}
 use Rattle.cbor4ii_items.specs.Moves.{Kept}
 use Rattle.cbor4ii_items.specs.Decoding.{NoneRead, Sound, Refuses, Stops}
 use Rattle.cbor4ii_items.specs.Heads.{ReadsHead}
@@ -22,6 +22,7 @@ use Rattle.cbor4ii_items.specs.Numbers.{ReadsUnsigned, StopsUnsigned}
 use Rattle.cbor4ii_items.specs.Strings.{ReadsTextAs, StopsText, text_content}
 use Rattle.cbor4ii_items.specs.Strings.{ReadsBreak, StopsBreak}
 use Rattle.cbor4ii_items.specs.Laws.Strings.{head_not_open, text_one}
+use Rattle.cbor4ii_items.specs.Laws.SequenceParts.{always}
 use Rattle.cbor4ii_vectors.specs.Then.{ReadsThen}
 use Rattle.cbor4ii_vectors.specs.Station.{ReadsOpening, ReadsEnd, ReadsNamed, ReadsNumbered}
 use Rattle.cbor4ii_vectors.specs.Station.{ReadsStation, StopsOpening, StopsEnd, StopsNamed}
@@ -65,10 +66,6 @@ other_opens xs count k false n c other head h =
     other (sym (head_one 4 8 xs 2 count n k (omega arith) h.0 head).1)
 other_opens xs count k true n c other head h = head_not_open 4 xs count k (omega arith) head h.0
 
-for_any : {P : Type 0} (o : Option Refusal) → P → IfSome o (λ z. P)
-for_any None p = tt
-for_any (Some z) p = p
-
 pub other_refused : {E : Type 0} {e : DecodeError E} {o : Option ℕ} {a b : View} (count : ℕ)
     → count ≢ 2 → o ≡ Some count → Sound (ReadsLength 4) a b o → Refuses ReadsOpening a e
 other_refused {e = e} count other is s =
@@ -76,7 +73,7 @@ other_refused {e = e} count other is s =
     record {
       at = λ xs told.
           let p = t.at xs told in
-          for_any (refusal_of e)
+          always (refusal_of e)
           (λ v n c h fits. other_opens xs count p.count v n c other p.read.0 h);
     }
 
@@ -139,7 +136,7 @@ other_end_refused true {e = e} opens is s =
     record {
       at = λ xs told.
           let p = t.at xs told in
-          for_any (refusal_of e) (λ u n c h fits. p.read.1 h.0);
+          always (refusal_of e) (λ u n c h fits. p.read.1 h.0);
     }
 other_end_refused false opens is s = cc
 

@@ -25,13 +25,14 @@ use Rattle.cbor4ii_tree.specs.Promises.{Others, AllSkips, FrontSkips, EofSkips, 
 use Rattle.cbor4ii_tree.proofs.spellings.Canonical.{canon_spells}
 use Rattle.cbor4ii_tree.proofs.answers.MayStop.{skipping_may_stop, skipping_leaves_nothing, reading_may_stop, reading_leaves_nothing}
 use Rattle.cbor4ii_tree.proofs.spellings.Sizes.{size-spelled}
-use Rattle.cbor4ii_tree.proofs.skipping.Answer.{one_skipping, one_spelling}
+use Rattle.cbor4ii_tree.proofs.skipping.Answer.{one_skipping}
 use Rattle.cbor4ii_tree.proofs.skipping.Laws.{none_left}
 use Rattle.cbor4ii_tree.proofs.skipping.Laws as skipping
 use Rattle.cbor4ii_tree.proofs.skipping.Widen.{skipping_persists}
 use Rattle.cbor4ii_tree.proofs.reading.Answer.{one_reading}
 use Rattle.cbor4ii_tree.proofs.reading.Laws as reading
 use Rattle.cbor4ii_tree.proofs.reading.Widen.{reading_persists}
+use Rattle.cbor4ii_tree.specs.Laws.Ignoring.{one_spelling}
 
 -- ---- what a refusal says
 

@@ -1,5 +1,5 @@
 -- The calls of reading a value that is spelled in one way, one behind another.
-use Rattle.std.proofs.Common.{◌≡◌, ◌≢◌, ℕ, suc, ◌+◌, ◌-◌, ◌*◌, ◌/◌, ◌<◌, ◌≤◌, inl, inr, List, [], ◌∷◌, ◌++◌, length, drop, Option, Some, None, Result, Ok, Err, Bool, cond, true, false, refl, sym, ap, ap₂, ◌∙◌, subst, arith, append_assoc, take-append-drop, Vec, Global, String, negsuc, ◌-ℤ◌}
+use Rattle.std.proofs.Common.{◌≡◌, ◌≢◌, ℕ, suc, ◌+◌, ◌*◌, ◌/◌, ◌<◌, ◌≤◌, inl, inr, List, [], ◌∷◌, ◌++◌, length, drop, Option, Some, None, Result, Ok, Err, Bool, cond, true, false, refl, sym, ap, ap₂, ◌∙◌, subst, arith, append_assoc, take-append-drop, Vec, Global, String, negsuc, ◌-ℤ◌}
 use Rattle.std.specs.Prelude.{IsUtf8, string_bytes}
 use Rattle.std.proofs.Math.Seq.{drop-append_seam}
 use mir.Val.{to_z, of_z}
@@ -18,12 +18,12 @@ use Rattle.cbor4ii_items.specs.Decoding.{CostFits, Sound, Stops}
 use Rattle.cbor4ii_items.specs.Reading.{Runs, peek_at}
 use Rattle.cbor4ii_items.specs.Shortest.{canonical_name, ReadsShortest, ReadsShortestString}
 use Rattle.cbor4ii_items.specs.Initial.{unsigned, negative, byte_string, text_string, Simple, simple_undefined, simple_byte, Precision, precision_byte, precision_bytes, initial}
+use Rattle.cbor4ii_items.specs.Laws.Answering.{fits_zero}
 use Rattle.cbor4ii_tree.specs.declared.value.Value.{Value, Integer, Float, Bytes, Text, Array, Map}
 use Rattle.cbor4ii_tree.specs.declared.value.FloatBits.{FloatBits}
 use Rattle.cbor4ii_tree.specs.Tree.{no_trees, no_pairs, int, string, array, map_of, tagged, simple, bits, count, bytes, bytes_all, bytes_pairs}
 use Rattle.cbor4ii_tree.specs.Item.{integer, float, sequence, mapping, tag}
 use Rattle.cbor4ii_tree.specs.Cost.{Budget, cost, greatest_cost, greatest_pair_cost}
-use Rattle.cbor4ii_tree.specs.Laws.Budgets.{fits_zero}
 use Rattle.cbor4ii_tree.specs.Laws.Initials.{initial_simple, initial_bits}
 use Rattle.cbor4ii_tree.specs.Refusal.{value_name, kind_name, precision_name, unsupported, require_utf8}
 use Rattle.cbor4ii_tree.specs.Stops.{Stopping, Stepped}
@@ -38,12 +38,13 @@ use Rattle.cbor4ii_tree.proofs.spellings.Costs.{below_from_HeadFits}
 use Rattle.cbor4ii_tree.proofs.answers.Nesting.{strict_by_parts}
 use Rattle.cbor4ii_tree.proofs.canonical.Exactly.{raised, fits_raise, all_exactly, all_pairs_exactly, precision_major}
 use Rattle.cbor4ii_tree.proofs.values.Ends.{nothing_there}
-use Rattle.cbor4ii_tree.proofs.values.Calls.{Peeked, small_z, view-Integer, values-push}
+use Rattle.cbor4ii_tree.proofs.values.Calls.{Peeked, small_z, values-push}
 use Rattle.cbor4ii_tree.proofs.values.Heads.{negative_z, float_cut, other_byte}
-use Rattle.cbor4ii_tree.proofs.values.Sequences.{view-Array, values-push_pair}
+use Rattle.cbor4ii_tree.proofs.values.Sequences.{values-push_pair}
 use Rattle.cbor4ii_tree.proofs.values.Strings.{view-Bytes, view-Text}
 use Rattle.cbor4ii_tree.proofs.values.Views.{view-Map}
 use Rattle.cbor4ii_tree.proofs.parts.Pushed.{push, count-push, each-push, bytes-push, push_pair, count-push_pair, each-push_pair, bytes-push_pair, flat, count-flat, each-flat, bytes-flat}
+use Rattle.cbor4ii_tree.proofs.values.Encoding.{view-Array, view-Integer}
 
 -- ---- a shortest head
 

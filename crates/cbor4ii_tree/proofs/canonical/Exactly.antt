@@ -8,9 +8,10 @@ use Rattle.cbor4ii_items.specs.Heads.{ReadsHead}
 use Rattle.cbor4ii_items.specs.Laws.Heads.{head_one}
 use Rattle.cbor4ii_items.specs.Decoding.{CostFits}
 use Rattle.cbor4ii_items.specs.Initial.{unsigned, negative, byte_string, text_string, Simple, simple_false, simple_true, simple_null, simple_undefined, simple_byte, Precision, half, single, double, precision_byte, precision_bytes}
+use Rattle.cbor4ii_items.specs.Laws.Answering.{fits_zero}
+use Rattle.cbor4ii_items.specs.Laws.SequenceParts.{fits_less, fits_max}
 use Rattle.cbor4ii_tree.specs.Tree.{Tree, int, string, chunked, array, array_open, map_of, map_open, tagged, simple, bits, Trees, no_trees, tree, Pairs, no_pairs, pair, count, pair_count, bytes, bytes_all, bytes_pairs, LooseAll, LoosePairs, SoundStringsAll, SoundStringsPairs}
 use Rattle.cbor4ii_tree.specs.Cost.{Budget, step_in, cost, greatest_cost, greatest_pair_cost}
-use Rattle.cbor4ii_tree.specs.Laws.Budgets.{fits_zero, fits_less, fits_max}
 use Rattle.cbor4ii_tree.specs.Refusal.{Refusal, eof, depth_overflow}
 use Rattle.cbor4ii_tree.specs.Stops.{Stopping, Each, EachPair}
 use Rattle.cbor4ii_tree.specs.Strict.{Strict, StrictAll, StrictPairs, CanonicalTree}

@@ -11,6 +11,7 @@ use Rattle.cbor4ii_tree.specs.Refusal.{Refusal, IsEof}
 use Rattle.cbor4ii_tree.specs.Stops.{Stopping, Stepped, Each, EachPair, NoBreak, BehindKey}
 use Rattle.cbor4ii_tree.proofs.heads.Inverse.{number_of_bytes}
 use Rattle.cbor4ii_tree.proofs.heads.Means.{WidthSays, HeadByte}
+use Rattle.cbor4ii_tree.proofs.parts.Joined.{join, count-join, each-join, join_pairs, each-join_pairs}
 
 -- bytes that are behind others
 abbrev pub IsMore : List ℕ → Type 0
@@ -103,20 +104,6 @@ with_head top b bs after content more e f = ap (λ r. top ++ r) f ∙ sym (appen
 
 -- ---- lists of trees
 
-join : Trees → Trees → Trees
-join no_trees us = us
-join (tree t ts) us = tree t (join ts us)
-
-count-join : (ts us : Trees) → count (join ts us) ≡ count ts + count us
-unfolding join
-count-join no_trees us = omega arith
-count-join (tree t ts) us = omega (arith, count-join ts us)
-
-each-join : (Good : Tree → Type 0) (ts us : Trees) → Each Good ts → Each Good us → Each Good (join ts us)
-unfolding join
-each-join Good no_trees us h k = k
-each-join Good (tree t ts) us h k = (h.0, each-join Good ts us h.1 k)
-
 bytes-join : (ts us : Trees) → bytes_all (join ts us) ≡ bytes_all ts ++ bytes_all us
 unfolding join
 bytes-join no_trees us = refl
@@ -208,30 +195,21 @@ open_front Good stops g bs front (b ∷ after) e rest h eo l is st =
     regroup : (a c d : List ℕ) → (a ++ ((c ++ d) ++ [])) ++ break ∷ [] ≡ (a ++ c) ++ (d ++ break ∷ [])
     regroup a c d = simp (append_assoc, append-nil)
 
-pairs_join : Pairs → Pairs → Pairs
-pairs_join no_pairs qs = qs
-pairs_join (pair k v ps) qs = pair k v (pairs_join ps qs)
-
-each-pairs_join : (Good : Tree → Type 0) (ps qs : Pairs) → EachPair Good ps → EachPair Good qs → EachPair Good (pairs_join ps qs)
-unfolding pairs_join
-each-pairs_join Good no_pairs qs h k = k
-each-pairs_join Good (pair k v ps) qs h j = (h.0, h.1, each-pairs_join Good ps qs h.2 j)
-
-bytes-pairs_join : (ps qs : Pairs) → bytes_pairs (pairs_join ps qs) ≡ bytes_pairs ps ++ bytes_pairs qs
-unfolding pairs_join
-bytes-pairs_join no_pairs qs = refl
-bytes-pairs_join (pair k v ps) qs = ap (λ r. bytes k ++ (bytes v ++ r)) (bytes-pairs_join ps qs) ∙ simp append_assoc
+bytes-join_pairs : (ps qs : Pairs) → bytes_pairs (join_pairs ps qs) ≡ bytes_pairs ps ++ bytes_pairs qs
+unfolding join_pairs
+bytes-join_pairs no_pairs qs = refl
+bytes-join_pairs (pair k v ps) qs = ap (λ r. bytes k ++ (bytes v ++ r)) (bytes-join_pairs ps qs) ∙ simp append_assoc
 
 -- one more pair, of which the first bytes are there
 open_pair : (Good : Tree → Type 0) (bs : List ℕ) (front : Pairs) (after : List ℕ) (k v : Tree) (more : List ℕ) → EachPair Good front → Good k → Good v → bs ≡ bytes_pairs front ++ after → IsMore more → bytes k ++ bytes v ≡ after ++ more
     → (ps : Pairs) × EachPair Good ps × (more' : List ℕ) × IsMore more' × (bytes_pairs ps ++ break ∷ [] ≡ bs ++ more')
 open_pair Good bs front after k v more l lk lv is some e =
     let last : Pairs = pair k v no_pairs in (
-      pairs_join front last,
-      each-pairs_join Good front last l (lk, lv, tt),
+      join_pairs front last,
+      each-join_pairs Good front last l (lk, lv, tt),
       more ++ break ∷ [],
       then_some more (break ∷ []) some break_some.1,
-      ap (λ r. r ++ break ∷ []) (bytes-pairs_join front last) ∙ regroup (bytes_pairs front) (bytes k) (bytes v) ∙ ap (λ r. bytes_pairs front ++ (r ++ break ∷ [])) e ∙ regroup2 (bytes_pairs front) after more ∙ ap (λ r. r ++ (more ++ break ∷ [])) (sym is),
+      ap (λ r. r ++ break ∷ []) (bytes-join_pairs front last) ∙ regroup (bytes_pairs front) (bytes k) (bytes v) ∙ ap (λ r. bytes_pairs front ++ (r ++ break ∷ [])) e ∙ regroup2 (bytes_pairs front) after more ∙ ap (λ r. r ++ (more ++ break ∷ [])) (sym is),
     )
   where
     regroup : (a b c : List ℕ) → (a ++ (b ++ (c ++ []))) ++ break ∷ [] ≡ a ++ ((b ++ c) ++ break ∷ [])

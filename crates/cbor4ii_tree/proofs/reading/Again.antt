@@ -5,6 +5,7 @@ use Rattle.cbor4ii_items.specs.Head.{byte_count, break}
 use Rattle.cbor4ii_items.specs.Initial.{sign_major, Kind, precision_bytes, Initial, initial}
 use Rattle.cbor4ii_tree.specs.Tree.{Tree, int, string, chunked, array, array_open, map_of, map_open, tagged, simple, bits, Trees, no_trees, tree, count, pair_count, bytes, bytes_all, bytes_pairs, joined_chunks, Loose, SoundStrings, AreChunks}
 use Rattle.cbor4ii_items.specs.Decoding.{CostFits}
+use Rattle.cbor4ii_items.specs.Laws.SequenceParts.{fits_less}
 use Rattle.cbor4ii_tree.specs.Cost.{Budget, cost, chunks_cost, greatest_cost, greatest_pair_cost}
 use Rattle.cbor4ii_tree.specs.Refusal.{sign_name, precision_name, array_name, map_name, tag_name}
 use Rattle.cbor4ii_tree.specs.Stops.{Each}
@@ -12,7 +13,7 @@ use Rattle.cbor4ii_tree.specs.StopsReading.{Readable, ReadableChunk}
 use Rattle.cbor4ii_tree.specs.Parse.{Parser}
 use Rattle.cbor4ii_tree.specs.Read.{chunk_tree_at, read_by, read_from, read_within}
 use Rattle.cbor4ii_tree.specs.Laws.Binds.{left, step_left}
-use Rattle.cbor4ii_tree.specs.Laws.Budgets.{fits_left, fits_less, fits_two}
+use Rattle.cbor4ii_tree.specs.Laws.Budgets.{fits_left, fits_two}
 use Rattle.cbor4ii_tree.specs.Laws.Initials.{initial_int, initial_string, initial_array, initial_map, initial_tag, initial_chunks, initial_simple, initial_bits, initial_open_array, initial_open_map, begins}
 use Rattle.cbor4ii_tree.specs.Laws.HeadsAgain.{argument_again, number_again}
 use Rattle.cbor4ii_tree.specs.Laws.PartsAgain.{Again, Starts, trees_again, pairs_again, open_trees_again, open_pairs_again}

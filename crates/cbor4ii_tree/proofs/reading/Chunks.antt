@@ -6,6 +6,7 @@ use Rattle.cbor4ii_items.specs.Head.{Width, HeadFits, additional, byte_count, he
 use Rattle.cbor4ii_items.specs.Initial.{Kind, byte_string, text_string, kind_major, Initial, starts_string, starts_chunks, initial}
 use Rattle.cbor4ii_tree.specs.Tree.{Tree, int, string, chunked, array, array_open, map_of, map_open, tagged, simple, bits, TextIsUtf8}
 use Rattle.cbor4ii_items.specs.Decoding.{CostFits}
+use Rattle.cbor4ii_items.specs.Laws.Answering.{fits_zero}
 use Rattle.cbor4ii_tree.specs.Cost.{Budget, step_in}
 use Rattle.cbor4ii_tree.specs.Refusal.{Refusal, kind_name}
 use Rattle.cbor4ii_tree.specs.Stops.{Missing}
@@ -13,7 +14,6 @@ use Rattle.cbor4ii_tree.specs.StopsReading.{ReadableChunk, CutString, ChunkStops
 use Rattle.cbor4ii_tree.specs.Parse.{◌>>=◌, front_at, argument_of_width}
 use Rattle.cbor4ii_tree.specs.Read.{tested, counted_string_at, chunk_tree_by, chunk_tree_at}
 use Rattle.cbor4ii_tree.specs.Laws.Binds.{bind_ok, bind_err, same_ok, no_ok, no_err, is_err, err, then_err, step_left, step_up, stepped_ok, stepped_err, stepped_stops}
-use Rattle.cbor4ii_tree.specs.Laws.Budgets.{fits_zero}
 use Rattle.cbor4ii_tree.specs.Laws.Initials.{initial_string, begins}
 use Rattle.cbor4ii_tree.proofs.heads.Inverse.{front_inverse}
 use Rattle.cbor4ii_tree.proofs.heads.Means.{HeadByte, Means, means, argument_inverse}

@@ -5,21 +5,21 @@ use Rattle.cbor4ii_tree.specs.Tree.{Tree, bytes, Loose, Joins}
 use Rattle.cbor4ii_tree.specs.Item.{Item, IsItem}
 use Rattle.cbor4ii_tree.specs.Meaning.{value}
 use Rattle.cbor4ii_items.specs.Decoding.{CostFits}
+use Rattle.cbor4ii_items.specs.Laws.SequenceParts.{fits_less}
 use Rattle.cbor4ii_tree.specs.Cost.{Budget, skip_cost, cost}
 use Rattle.cbor4ii_tree.specs.Canonical.{canon, canon_cost, with_bignums}
 use Rattle.cbor4ii_tree.specs.Refusal.{Refusal, eof, mismatch, unsupported, require_length, require_utf8, depth_overflow, Len, IsEof, IsFinal}
 use Rattle.cbor4ii_tree.specs.Spelling.{Spells, Reads, Skips, IsProperFront}
 use Rattle.cbor4ii_tree.specs.StopsReading.{StopsReading}
-use Rattle.cbor4ii_tree.specs.Laws.Budgets.{fits_less}
 use Rattle.cbor4ii_tree.proofs.spellings.Canonical.{canon_spells, with_bignums-value}
 use Rattle.cbor4ii_tree.proofs.spellings.Costs.{skip_cost-le, cost-canon}
 use Rattle.cbor4ii_tree.proofs.parts.Fronts.{whole_bytes}
-use Rattle.cbor4ii_tree.proofs.skipping.Answer.{one_spelling}
 use Rattle.cbor4ii_tree.proofs.skipping.Laws.{none_left}
 use Rattle.cbor4ii_tree.proofs.reading.Answer.{some_reading, not_both}
 use Rattle.cbor4ii_tree.proofs.reading.Fronts.{reading_front}
 use Rattle.cbor4ii_tree.proofs.reading.Widen.{reading_persists, reading_unbounded}
 use Rattle.cbor4ii_tree.proofs.spellings.Sizes.{IsItem-value}
+use Rattle.cbor4ii_tree.specs.Laws.Ignoring.{one_spelling}
 
 abbrev StopsAtEnd : List ℕ → Budget → Type 0
 StopsAtEnd front budget = (name : List ℕ) × (expect : Len) × StopsReading front budget (eof name expect) []

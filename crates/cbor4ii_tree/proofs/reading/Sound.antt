@@ -6,6 +6,8 @@ use Rattle.cbor4ii_items.specs.Head.{HeadFits, IsBytes}
 use Rattle.cbor4ii_items.specs.Initial.{sign_major, Kind, byte_string, text_string, precision_bytes, Initial, starts_int, bad_int, starts_string, starts_chunks, bad_string, starts_array, starts_open_array, bad_array, starts_map, starts_open_map, bad_map, starts_tag, bad_tag, starts_simple, starts_bits, other_simple, initial}
 use Rattle.cbor4ii_tree.specs.Tree.{Tree, int, string, chunked, array, array_open, map_of, map_open, tagged, simple, bits, Trees, no_trees, tree, count, pair_count, bytes, bytes_all, bytes_pairs, joined_chunks, TextIsUtf8}
 use Rattle.cbor4ii_items.specs.Decoding.{CostFits}
+use Rattle.cbor4ii_items.specs.Laws.Answering.{fits_zero}
+use Rattle.cbor4ii_items.specs.Laws.SequenceParts.{fits_less}
 use Rattle.cbor4ii_tree.specs.Cost.{Budget, step_in, chunks_cost}
 use Rattle.cbor4ii_tree.specs.Refusal.{sign_name, precision_name, array_name, map_name, tag_name, value_name}
 use Rattle.cbor4ii_tree.specs.Stops.{Each}
@@ -13,7 +15,6 @@ use Rattle.cbor4ii_tree.specs.StopsReading.{Readable, ReadableChunk}
 use Rattle.cbor4ii_tree.specs.Parse.{Parser, ◌>>=◌, number_at, argument_of_width, trees_at, pairs_at, open_trees_at, open_pairs_at}
 use Rattle.cbor4ii_tree.specs.Read.{tested, counted_string_at, chunk_tree_at, read_by, read_from, read_within}
 use Rattle.cbor4ii_tree.specs.Laws.Binds.{bind_ok, same_ok, no_ok, chosen, stepped_ok, step_up}
-use Rattle.cbor4ii_tree.specs.Laws.Budgets.{fits_zero, fits_less}
 use Rattle.cbor4ii_tree.proofs.heads.Inverse.{number_inverse}
 use Rattle.cbor4ii_tree.proofs.heads.Means.{Means, means, argument_inverse}
 use Rattle.cbor4ii_tree.proofs.parts.Sound.{Took, IsSound, trees_sound, pairs_sound, open_trees_sound, open_pairs_sound, counted}

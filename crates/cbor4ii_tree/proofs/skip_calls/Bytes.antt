@@ -25,6 +25,7 @@ use Rattle.cbor4ii_tree.specs.Does.{Does}
 use Rattle.cbor4ii_tree.specs.HeadParts.{ArgumentAt, DropsBytes, DropsSome}
 use Rattle.cbor4ii_tree.specs.Laws.Binds.{is_err, no_err}
 use Rattle.cbor4ii_tree.proofs.skip_calls.Doing.{does_ok, does_refuse}
+use Rattle.cbor4ii_tree.proofs.parts.Fronts.{IsBytes-append}
 
 pub len_is : (n : ℕ) (l : Len) → (n < 65536 → l ≡ Small n) → (65536 ≤ n → l ≡ Big) → l ≡ len_of n
 len_is n l s b = by_size (ltb n 65536) refl
@@ -59,10 +60,6 @@ some_shown {name = name} missing {n = n} {shown = shown} s front some most withi
 -- so many are missing yet
 abbrev pub Dropped : ℕ → ℕ → List ℕ → List ℕ → Type 0
 Dropped count missing xs ys = (n : ℕ) × (n + missing ≡ count) × DropsBytes n xs ys
-
-IsBytes-append : (xs ys : List ℕ) → IsBytes xs → IsBytes ys → IsBytes (xs ++ ys)
-IsBytes-append [] ys p q = q
-IsBytes-append (x ∷ xs) ys p q = (p.0, IsBytes-append xs ys p.1 q)
 
 pub dropped_none : (count : ℕ) (xs : List ℕ) → Dropped count count xs xs
 dropped_none count xs = (0, omega arith, record { content = []; size = refl; bytes = tt; is = refl })

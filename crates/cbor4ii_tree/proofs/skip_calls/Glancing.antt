@@ -18,6 +18,7 @@ use Rattle.cbor4ii_tree.specs.declared.skip.Behind.TheVariants.{Nothing, Bytes, 
 use Rattle.cbor4ii_tree.specs.declared.skip.Start.TheVariants as start
 use Rattle.cbor4ii_tree.proofs.heads.Inverse.{IsBytes-take, IsBytes-drop}
 use Rattle.cbor4ii_tree.proofs.skip_calls.Leading.{whole, content_info, items_info, members_info, tag_info, open_leads, open_members_leads}
+use Rattle.cbor4ii_tree.proofs.spellings.Strict.{same_wide}
 
 -- ---- an item that holds no other
 
@@ -55,10 +56,6 @@ other_byte : (b : ℕ) (s : Start) → start_of (initial b) ≡ s → (s ≡ sta
 unfolding initial
 other_byte b s is f e = f (sym is ∙ ap (λ j. start_of (initial j)) e)
 
--- the width that the additional information says
-wide_is : (w u : Width) → wide w ≡ wide u → w ≡ u
-wide_is w u e = cc
-
 module _ (b n k : ℕ) (bs : List ℕ) (small : b < 256) (fresh : IsBytes bs) (a : ArgumentBehind (b % 32) bs n k) where
   within : k ≤ length bs
   within = omega (arith, ap length a.is, length-append (bytes_high_first k n) (drop k bs), length-bytes_high_first k n)
@@ -66,7 +63,7 @@ module _ (b n k : ℕ) (bs : List ℕ) (small : b < 256) (fresh : IsBytes bs) (a
   -- whatever follows
   read : (w : Width) → info_of (b % 32) ≡ wide w → (after : List ℕ) → ArgumentAt w b (bs ++ after) n (drop k bs ++ after)
   read w is after =
-      let same : a.width ≡ w = wide_is a.width w (sym (info-additional n a.width a.fits) ∙ (ap info_of a.says ∙ is)) in
+      let same : a.width ≡ w = same_wide a.width w (sym (info-additional n a.width a.fits) ∙ (ap info_of a.says ∙ is)) in
       record {
         fits = subst (λ u. HeadFits u n) same a.fits;
         says = subst (λ u. additional u n ≡ b % 32) same a.says;

@@ -4,6 +4,7 @@ use Rattle.cbor4ii_items.specs.Head.{Width, in_first, one, two, four, eight, byt
 use Rattle.cbor4ii_items.specs.Initial.{sign_major, kind_major, precision_bytes, info_of, wide, Initial, starts_int, starts_string, starts_chunks, bad_string, starts_array, starts_open_array, bad_array, starts_map, starts_open_map, bad_map, starts_tag, bad_tag, starts_simple, starts_bits, initial, Kind, Precision, Sign, Simple}
 use Rattle.cbor4ii_items.specs.Decoding.{CostFits}
 use Rattle.cbor4ii_items.specs.Magnitude.{number_of}
+use Rattle.cbor4ii_items.specs.Laws.Answering.{fits_zero}
 use Rattle.cbor4ii_tree.specs.Tree.{Tree, Trees, no_trees, tree, Pairs, no_pairs, pair, int, string, chunked, array, array_open, map_of, map_open, tagged, simple, bits, count, pair_count, bytes, bytes_all, bytes_pairs, Loose, LooseAll, LoosePairs}
 use Rattle.cbor4ii_tree.specs.Cost.{Budget, skip_cost, greatest_skip_cost, greatest_pair_skip_cost}
 use Rattle.cbor4ii_tree.specs.Refusal.{Refusal, mismatch, tag_name, ignored_any}
@@ -15,7 +16,6 @@ use Rattle.cbor4ii_tree.specs.Skipping.{start_of, SkipsItems, StopsItems, SkipsU
 use Rattle.cbor4ii_tree.specs.declared.skip.Behind.TheVariants.{Nothing, Bytes, Items, Members, Open, OpenMembers}
 use Rattle.cbor4ii_tree.specs.declared.skip.Start.TheVariants as start
 use Rattle.cbor4ii_tree.specs.Laws.Binds.{step_up}
-use Rattle.cbor4ii_tree.specs.Laws.Budgets.{fits_zero}
 use Rattle.cbor4ii_tree.proofs.answers.Nesting.{skipping_by_parts}
 use Rattle.cbor4ii_tree.proofs.heads.Inverse.{number_of_bytes}
 use Rattle.cbor4ii_tree.proofs.heads.Means.{Means, means, HeadByte, WidthSays}

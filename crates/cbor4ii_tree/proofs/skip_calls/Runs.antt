@@ -10,6 +10,7 @@ use Rattle.cbor4ii_items.specs.Moves.{Moves}
 use Rattle.cbor4ii_items.specs.Decoding.{Sound, Stops}
 use Rattle.cbor4ii_items.specs.Strings.{ReadsBreak, StopsBreak}
 use Rattle.cbor4ii_items.specs.Refusal.{Refusal}
+use Rattle.cbor4ii_items.specs.Laws.Answering.{fits_zero}
 use Rattle.cbor4ii_tree.specs.Refusal.{depth_overflow, ignored_any}
 use Rattle.cbor4ii_tree.specs.Tree.{no_trees, tree, bytes}
 use Rattle.cbor4ii_tree.specs.Cost.{Budget}
@@ -27,7 +28,6 @@ use Rattle.cbor4ii_tree.specs.declared.ahead.Among.TheVariants.{Items, Pairs, Op
 use Rattle.cbor4ii_tree.specs.declared.ahead.Ahead.{Ahead}
 use Rattle.cbor4ii_tree.specs.declared.ahead.Ahead.TheVariants.{Run, Head, Unseen}
 use Rattle.cbor4ii_tree.specs.Laws.Binds.{step_up}
-use Rattle.cbor4ii_tree.specs.Laws.Budgets.{fits_zero}
 use Rattle.cbor4ii_tree.proofs.skip_calls.Doing.{Reached, reached_start, reached_by, reached_then, reached_as, reached_sound, does_after, does_ok, does_err, does_stops, does_stepped, does_refuse_by, steps_in, no_step, kept_budget}
 use Rattle.cbor4ii_tree.proofs.skip_calls.Leaves.{run_items}
 use Rattle.cbor4ii_tree.proofs.skip_calls.Parts.{IsOther, after_break, other_byte, no_break, items_none, items_more, Left, left_some, left_none, left_stop}

@@ -1,5 +1,5 @@
 -- Skipping has one answer for each input and budget, and no spelling begins another.
-use Rattle.std.proofs.Common.{◌≡◌, ℕ, suc, List, [], ◌++◌, length, Ok, Err, None, refl, sym, ◌∙◌, arith, append-nil}
+use Rattle.std.proofs.Common.{◌≡◌, ℕ, suc, List, [], ◌++◌, length, Ok, Err, sym, ◌∙◌, arith, append-nil}
 use Rattle.cbor4ii_items.specs.Head.{IsBytes}
 use Rattle.cbor4ii_tree.specs.Tree.{Tree, bytes, Loose}
 use Rattle.cbor4ii_tree.specs.Cost.{Budget}
@@ -8,11 +8,12 @@ use Rattle.cbor4ii_tree.specs.Spelling.{Skips, SomeAnswer, AtMostOne}
 use Rattle.cbor4ii_tree.specs.StopsSkipping.{StopsSkipping}
 use Rattle.cbor4ii_tree.specs.Skip.{skip}
 use Rattle.cbor4ii_tree.proofs.answers.Answers.{some_answer_of, at_most_one_of}
-use Rattle.cbor4ii_tree.specs.Laws.Binds.{parts, apart}
+use Rattle.cbor4ii_tree.specs.Laws.Binds.{apart}
 use Rattle.cbor4ii_tree.specs.Laws.SkippingAgain.{skip_again}
 use Rattle.cbor4ii_tree.proofs.skipping.Sound.{skip_sound}
 use Rattle.cbor4ii_tree.proofs.skipping.Refuses.{skip_refuses}
 use Rattle.cbor4ii_tree.proofs.skipping.Stops.{skip_stops}
+use Rattle.cbor4ii_tree.specs.Laws.Ignoring.{one_spelling}
 
 pub skip_from_Skips : (input : List ℕ) (budget : Budget) (t : Tree) (rest : List ℕ) → Skips input budget t rest → skip budget input ≡ Ok (t, rest)
 skip_from_Skips input budget t rest s = rw s.begins (skip_again (suc (length (bytes t ++ rest))) budget t rest (s.loose, s.fits) (omega arith))
@@ -38,13 +39,6 @@ one_skipping input budget = at_most_one_of (skip budget input) (Skips input budg
 -- what is accepted does not stop, of any numbers
 pub not_both : (input : List ℕ) (budget : Budget) (t : Tree) (x : List ℕ) (e : Refusal) (y : List ℕ) → Skips input budget t x → StopsSkipping input budget e y → ⊥
 not_both input budget t x e y s u = apart (skip budget input) (t, x) (e, y) (skip_from_Skips input budget t x s) (skip_from_Stops input budget e y u)
-
--- where two spellings begin one text they are one, with one rest
-pub one_spelling : (t u : Tree) (x y : List ℕ) → Loose t → Loose u → bytes t ++ x ≡ bytes u ++ y → (t ≡ u) × (x ≡ y)
-one_spelling t u x y l m e =
-    let one : Skips (bytes t ++ x) None t x = record { loose = l; fits = tt; begins = refl } in
-    let other : Skips (bytes t ++ x) None u y = record { loose = m; fits = tt; begins = e } in
-    parts (skip None (bytes t ++ x)) t u x y (skip_from_Skips (bytes t ++ x) None t x one) (skip_from_Skips (bytes t ++ x) None u y other)
 
 pub prefix_free : (t u : Tree) (more : List ℕ) → Loose t → Loose u → bytes t ++ more ≡ bytes u → t ≡ u
 prefix_free t u more l m e = (one_spelling t u more [] l m (e ∙ sym (append-nil (bytes u)))).0

@@ -8,9 +8,10 @@ use Rattle.cbor4ii_tree.specs.Refusal.{Refusal, eof, mismatch, unsupported, requ
 use Rattle.cbor4ii_tree.specs.Spelling.{Skips, IsProperFront}
 use Rattle.cbor4ii_tree.specs.StopsSkipping.{StopsSkipping}
 use Rattle.cbor4ii_tree.proofs.parts.Fronts.{whole_bytes}
-use Rattle.cbor4ii_tree.proofs.skipping.Answer.{some_skipping, not_both, one_spelling}
+use Rattle.cbor4ii_tree.proofs.skipping.Answer.{some_skipping, not_both}
 use Rattle.cbor4ii_tree.proofs.skipping.Fronts.{skipping_front}
 use Rattle.cbor4ii_tree.proofs.skipping.Widen.{skipping_persists, skipping_unbounded}
+use Rattle.cbor4ii_tree.specs.Laws.Ignoring.{one_spelling}
 
 pub none_left : (xs ys : List ℕ) → xs ++ ys ≡ [] → ys ≡ []
 none_left [] ys e = e

@@ -4,13 +4,13 @@ use Rattle.cbor4ii_items.specs.Head.{HeadFits, IsBytes}
 use Rattle.cbor4ii_items.specs.Initial.{sign_major, kind_major, precision_bytes, Initial, starts_int, bad_int, starts_string, starts_chunks, bad_string, starts_array, starts_open_array, bad_array, starts_map, starts_open_map, bad_map, starts_tag, bad_tag, starts_simple, starts_bits, other_simple, initial}
 use Rattle.cbor4ii_tree.specs.Tree.{Tree, int, string, chunked, array, array_open, map_of, map_open, tagged, simple, bits, count, pair_count, bytes, bytes_all, bytes_pairs}
 use Rattle.cbor4ii_items.specs.Decoding.{CostFits}
+use Rattle.cbor4ii_items.specs.Laws.Answering.{fits_zero}
 use Rattle.cbor4ii_tree.specs.Cost.{Budget, step_in}
 use Rattle.cbor4ii_tree.specs.Refusal.{ignored_any, tag_name}
 use Rattle.cbor4ii_tree.specs.StopsSkipping.{Skippable}
 use Rattle.cbor4ii_tree.specs.Parse.{Parser, ◌>>=◌, front_at, argument_of_width, trees_at, pairs_at, open_trees_at, open_pairs_at}
 use Rattle.cbor4ii_tree.specs.Skip.{whole_number_at, whole_argument_at, skip_by, skip_from, skip_within}
 use Rattle.cbor4ii_tree.specs.Laws.Binds.{bind_ok, same_ok, no_ok, stepped_ok, step_up}
-use Rattle.cbor4ii_tree.specs.Laws.Budgets.{fits_zero}
 use Rattle.cbor4ii_tree.proofs.heads.Inverse.{front_inverse, whole_number_inverse}
 use Rattle.cbor4ii_tree.proofs.heads.Means.{Means, means, argument_inverse, whole_argument_inverse}
 use Rattle.cbor4ii_tree.proofs.parts.Sound.{Took, IsSound, trees_sound, pairs_sound, open_trees_sound, open_pairs_sound, counted}

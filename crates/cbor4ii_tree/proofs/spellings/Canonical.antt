@@ -3,6 +3,7 @@ use Rattle.std.proofs.Common.{◌≡◌, ℕ, zero, suc, ◌^◌, ◌<◌, ◌�
 use Rattle.std.specs.Int.{bytes_high_first}
 use Rattle.cbor4ii_items.specs.Head.{Width, HeadFits, shortest}
 use Rattle.cbor4ii_items.specs.Initial.{Sign, unsigned, negative, Kind, byte_string, text_string, simple_false, simple_true, simple_null, simple_undefined}
+use Rattle.cbor4ii_items.specs.Laws.Heads.{length-bytes_high_first}
 use Rattle.cbor4ii_tree.specs.Tree.{Tree, int, string, chunked, array, array_open, map_of, map_open, tagged, simple, bits, Trees, no_trees, tree, Pairs, no_pairs, pair, joined_chunks, count, pair_count, Loose, LooseAll, LoosePairs, SoundStrings, SoundStringsAll, SoundStringsPairs}
 use Rattle.cbor4ii_tree.specs.Item.{Item, null, boolean, integer, float, bytes_item, text, sequence, mapping, tag, Items, no_items, item, Members, no_members, member, item_count, member_count, IsItem, AreItems, AreMembers}
 use Rattle.cbor4ii_tree.specs.Meaning.{value, values, member_values, number, content_item}
@@ -11,7 +12,6 @@ use Rattle.cbor4ii_tree.specs.Canonical.{canon, canon_tree, canon_trees, canon_p
 use Rattle.cbor4ii_tree.specs.Spelling.{Spells}
 use Rattle.cbor4ii_tree.specs.Laws.Binds.{if_cases}
 use Rattle.cbor4ii_tree.proofs.spellings.Costs.{below_from_HeadFits}
-use Rattle.cbor4ii_tree.specs.Laws.Numbers.{length-bytes_high_first}
 
 pub shortest_fits : (n : ℕ) → n < 2 ^ 64 → HeadFits (shortest n) n
 shortest_fits n h =

@@ -86,7 +86,7 @@ mutual
 pub same_first : (a b : ℕ) (x y : List ℕ) → a ∷ x ≡ b ∷ y → (a ≡ b) × (x ≡ y)
 same_first a b x y e = (cc, cc)
 
-same_wide : (w u : Width) → wide w ≡ wide u → w ≡ u
+pub same_wide : (w u : Width) → wide w ≡ wide u → w ≡ u
 same_wide w u e = cc
 
 -- of one argument and one first byte the head is one

@@ -12,12 +12,11 @@ use Rattle.std.specs.Prelude.{pos, ◌^◌}
 use Rattle.std.proofs.lemmas.Int.{to_z-of_z}
 use mir.Val.{to_z}
 use mir.Syntax.{w128}
-use Rattle.cbor4ii_tree.specs.declared.value.Value.{Integer, the_lemmas}
-use Rattle.std.proofs.Common.{rules, ℤ}
+use Rattle.cbor4ii_tree.specs.declared.value.Value.{Integer}
 use Rattle.cbor4ii_tree.specs.Item.{integer}
 use Rattle.cbor4ii_tree.specs.Laws.Binds.{step_up}
-use Rattle.cbor4ii_tree.specs.Laws.Budgets.{fits_zero}
 use Rattle.cbor4ii_items.specs.Initial.{Info, wide, open_ended, reserved, info_of, initial, by_major, int_by_info, Sign, unsigned, negative, sign_major}
+use Rattle.cbor4ii_items.specs.Laws.Answering.{fits_zero}
 use Rattle.cbor4ii_tree.specs.Refusal.{eof, mismatch, Small, len_of, sign_name}
 use Rattle.cbor4ii_tree.specs.Laws.Numbers.{additional-lt, info-additional}
 use Rattle.cbor4ii_tree.proofs.heads.Means.{WidthSays, InfoSays, info_says}
@@ -36,6 +35,7 @@ use Rattle.cbor4ii_tree.specs.Valuing.{ReadsOne, StopsOne, ReadsUnder, StopsUnde
 use Rattle.cbor4ii_tree.proofs.skip_calls.Doing.{Reached, reached_by, reached_then, does_err, does_stepped, steps_in}
 use Rattle.cbor4ii_tree.proofs.answers.Nesting.{reading_by_parts}
 use Rattle.cbor4ii_tree.proofs.parts.Pushed.{push, count-push, each-push, bytes-push}
+use Rattle.cbor4ii_tree.proofs.values.Encoding.{view-Integer}
 
 -- ---- a step
 
@@ -150,9 +150,6 @@ Peeked b xs ys = (bs : List ℕ) × (xs ≡ b ∷ bs) × (ys ≡ xs)
 
 pub small_z : (v : ℕ) → v < 2 ^ 127 → to_z w128 v ≡ pos v
 small_z v h = to_z-of_z w128 (pos v) (record { sfits = h })
-
-pub view-Integer : (z : ℤ) → view (Integer z) ≡ integer z
-view-Integer z = search (rules, the_lemmas)
 
 pub fits_less : (w : Width) (v : ℕ) → HeadFits w v → v < 2 ^ 127
 fits_less in_first v h = omega arith

@@ -11,15 +11,15 @@ use Rattle.cbor4ii_rw.specs.declared.error.DecodeError.{DecodeError}
 use Rattle.cbor4ii_items.specs.Refusal.{Refusal, refusal_of, is_read, is_depth_overflow}
 use Rattle.cbor4ii_items.specs.Head.{Width, byte_count, additional, HeadFits, head}
 use Rattle.cbor4ii_items.specs.Heads.{StopsHead, ReadsHead}
-use Rattle.cbor4ii_items.specs.Laws.Heads.{after_head}
+use Rattle.cbor4ii_items.specs.Laws.Heads.{after_head, length-bytes_high_first}
 use Rattle.cbor4ii_items.specs.Numbers.{ReadsArgument}
 use Rattle.cbor4ii_items.specs.Floats.{ReadsFloat, StopsFloat, float_bytes}
 use Rattle.cbor4ii_items.specs.Moves.{Moves}
 use Rattle.cbor4ii_items.specs.Decoding.{CostFits, Sound, Stops}
 use Rattle.cbor4ii_items.specs.Reading.{Runs, peek_at}
 use Rattle.cbor4ii_items.specs.Initial.{Initial, Info, wide, open_ended, reserved, info_of, initial, simple_by_info, tag_by_info, negative, Simple, simple_byte, Precision, half, single, double, precision_byte, precision_bytes, starts_tag, starts_bits, other_simple, simple_false, simple_true, simple_null, simple_undefined}
+use Rattle.cbor4ii_items.specs.Laws.Answering.{fits_zero}
 use Rattle.cbor4ii_tree.specs.Refusal.{eof, unsupported, Small, len_of, precision_name, tag_name, value_name}
-use Rattle.cbor4ii_tree.specs.Laws.Numbers.{length-bytes_high_first}
 use Rattle.cbor4ii_tree.specs.Laws.Initials.{initial_tag, initial_bits}
 use Rattle.cbor4ii_tree.specs.declared.value.Value.{Value, Integer, Float, Tag, the_lemmas}
 use Rattle.cbor4ii_tree.specs.declared.value.FloatBits.{FloatBits}
@@ -28,14 +28,14 @@ use Rattle.cbor4ii_tree.specs.Tree.{int, tagged, simple, bits, bytes}
 use Rattle.cbor4ii_tree.specs.Item.{integer, float, tag}
 use Rattle.cbor4ii_tree.specs.Cost.{Budget, cost}
 use Rattle.cbor4ii_tree.specs.Laws.Binds.{step_up}
-use Rattle.cbor4ii_tree.specs.Laws.Budgets.{fits_zero}
 use Rattle.cbor4ii_tree.specs.Stops.{Stopping, MissingAll}
 use Rattle.cbor4ii_tree.specs.StopsReading.{ReadingStopsBy, StopsReading}
 use Rattle.cbor4ii_tree.specs.View.{view}
 use Rattle.cbor4ii_tree.specs.Does.{Accepting, Does}
 use Rattle.cbor4ii_tree.specs.Valuing.{ReadsOne, StopsOne, ReadsUnder, StopsUnder, StopsFirst, SimpleOf}
 use Rattle.cbor4ii_tree.proofs.skip_calls.Doing.{Reached, reached_start, reached_by, reached_then, reached_as, does_ok, does_err, does_after, does_refuse, does_stops, reached_peek, reached_first, reached_sound}
-use Rattle.cbor4ii_tree.proofs.values.Calls.{Peeked, head_cut, no_head, initial_of, small_z, view-Integer, fits_less}
+use Rattle.cbor4ii_tree.proofs.values.Calls.{Peeked, head_cut, no_head, initial_of, small_z, fits_less}
+use Rattle.cbor4ii_tree.proofs.values.Encoding.{view-Integer}
 
 -- ---- behind a byte that was looked at
 

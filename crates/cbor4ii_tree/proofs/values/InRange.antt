@@ -1,13 +1,14 @@
 -- Values of the program are in range.
-use Rattle.std.proofs.Common.{◌≡◌, ℕ, ◌+◌, ◌<◌, ◌^◌, List, [], ◌∷◌, ◌++◌, length, take, get_or, sym, ap, ◌∙◌, arith, subst, rules, Vec, Global, String}
+use Rattle.std.proofs.Common.{◌≡◌, ℕ, ◌+◌, ◌<◌, ◌^◌, List, [], ◌∷◌, ◌++◌, length, take, get_or, sym, ap, ◌∙◌, arith, subst, Vec, Global, String}
 use Rattle.std.specs.Prelude.{string_bytes}
 use Rattle.std.proofs.lemmas.List.{take_more}
 use Rattle.std.proofs.lemmas.Str.{IsUtf8-string_bytes}
 use Rattle.cbor4ii_tree.specs.Item.{IsItem, AreItems, AreMembers, text}
 use Rattle.cbor4ii_tree.specs.View.{view, items_view, members_view}
-use Rattle.cbor4ii_tree.specs.declared.value.Value.{Value, Text, Array, Map, the_lemmas}
+use Rattle.cbor4ii_tree.specs.declared.value.Value.{Value, Text, Array, Map}
 use Rattle.cbor4ii_tree.proofs.values.Views.{item_count-items_view, member_count-members_view, view-Map}
 use Rattle.cbor4ii_tree.proofs.values.Encoding.{view-Array}
+use Rattle.cbor4ii_tree.proofs.values.Strings.{view-Text}
 
 pub AreItems-push : (vs : List Value) (v : Value) → AreItems (items_view vs) → IsItem (view v) → AreItems (items_view (vs ++ v ∷ []))
 AreItems-push [] v h k = (k, tt)
@@ -28,9 +29,6 @@ array_in_range value v vs e same small h = subst IsItem (sym (ap view e ∙ view
 
 pub map_in_range : (value : Value) (v : Vec (Value × Value) Global) (vs : List (Value × Value)) → value ≡ Map v → vs ≡ v.items → length vs < 2 ^ 64 → AreMembers (members_view vs) → IsItem (view value)
 map_in_range value v vs e same small h = subst IsItem (sym (ap view e ∙ view-Map v)) (subst (λ ws. IsItem (Rattle.cbor4ii_tree.specs.Item.mapping (members_view ws))) same (omega (arith, member_count-members_view vs), h))
-
-view-Text : (s : String Global) → view (Text s) ≡ text (string_bytes s)
-view-Text s = search (rules, the_lemmas)
 
 pub text_in_range : (value : Value) (s : String Global) → value ≡ Text s → length (string_bytes s) < 2 ^ 64 → IsItem (view value)
 text_in_range value s e small = subst IsItem (sym (ap view e ∙ view-Text s)) (small, IsUtf8-string_bytes s)

@@ -5,18 +5,15 @@ use Rattle.cbor4ii_tree.specs.declared.value.Value.{Value, Array, Map, Text}
 use Rattle.cbor4ii_tree.specs.Item.{IsItem, AreItems, AreMembers}
 use Rattle.cbor4ii_tree.specs.View.{view, items_view, members_view}
 use Rattle.cbor4ii_tree.proofs.values.Views.{item_count-items_view, member_count-members_view, view-Map}
-use Rattle.cbor4ii_tree.proofs.values.Sequences.{view-Array}
 use Rattle.cbor4ii_tree.proofs.values.Strings.{view-Text}
+use Rattle.cbor4ii_tree.proofs.values.InRange.{AreItems-push}
+use Rattle.cbor4ii_tree.proofs.values.Encoding.{view-Array}
 
 pub items_none : {vs : List Value} → vs ≡ [] → AreItems (items_view vs)
 items_none e = rw e tt
 
-items_push : (vs : List Value) (v : Value) → AreItems (items_view vs) → IsItem (view v) → AreItems (items_view (vs ++ v ∷ []))
-items_push [] v h i = (i, tt)
-items_push (w ∷ vs) v h i = (h.0, items_push vs v h.1 i)
-
 pub items_are : (ws vs : List Value) (v : Value) → ws ≡ vs ++ v ∷ [] → AreItems (items_view vs) → IsItem (view v) → AreItems (items_view ws)
-items_are ws vs v e h i = subst (λ x. AreItems (items_view x)) (sym e) (items_push vs v h i)
+items_are ws vs v e h i = subst (λ x. AreItems (items_view x)) (sym e) (AreItems-push vs v h i)
 
 pub members_none_are : {ms : List (Value × Value)} → ms ≡ [] → AreMembers (members_view ms)
 members_none_are e = rw e tt

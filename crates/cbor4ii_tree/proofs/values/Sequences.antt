@@ -1,5 +1,5 @@
 -- Arrays and maps of values.
-use Rattle.std.proofs.Common.{◌≡◌, ◌≢◌, ℕ, ◌+◌, ◌*◌, ◌/◌, ◌%◌, ◌<◌, List, [], ◌∷◌, ◌++◌, drop, take, Option, Some, None, Result, Ok, Err, true, refl, sym, ap, ap₂, ◌∙◌, subst, arith, append_assoc, inl, inr, rules, Vec, Global}
+use Rattle.std.proofs.Common.{◌≡◌, ◌≢◌, ℕ, ◌+◌, ◌*◌, ◌/◌, ◌%◌, ◌<◌, List, [], ◌∷◌, ◌++◌, drop, take, Option, Some, None, Result, Ok, Err, true, refl, sym, ap, ap₂, ◌∙◌, subst, arith, append_assoc, inl, inr, Vec, Global}
 use Rattle.std.specs.Int.{bytes_high_first}
 use Rattle.cbor4ii_rw.specs.View.{View}
 use Rattle.cbor4ii_rw.specs.Reader.{KeepsAllButBudget, StepsIn, step_back}
@@ -11,16 +11,16 @@ use Rattle.cbor4ii_items.specs.Lengths.{ReadsLength, StopsLength}
 use Rattle.cbor4ii_items.specs.Moves.{Moves}
 use Rattle.cbor4ii_items.specs.Decoding.{CostFits, Sound, Stops}
 use Rattle.cbor4ii_items.specs.Initial.{Info, wide, open_ended, reserved, info_of, array_by_info, map_by_info, starts_array, starts_open_array, starts_map, starts_open_map}
+use Rattle.cbor4ii_items.specs.Laws.SequenceParts.{fits_less}
 use Rattle.cbor4ii_tree.specs.Refusal.{eof, mismatch, depth_overflow, Small, array_name, map_name, break_name}
 use Rattle.cbor4ii_tree.specs.Laws.Initials.{initial_array, initial_map, initial_open_array, initial_open_map}
 use Rattle.cbor4ii_tree.specs.Laws.Wholes.{all_readable, all_pairs_readable}
-use Rattle.cbor4ii_tree.specs.declared.value.Value.{Value, Array, Map, the_lemmas}
+use Rattle.cbor4ii_tree.specs.declared.value.Value.{Value, Array, Map}
 use Rattle.cbor4ii_tree.specs.Tree.{Tree, no_trees, Pairs, no_pairs, pair, array, array_open, map_of, map_open, bytes, bytes_all, bytes_pairs}
 use Rattle.cbor4ii_tree.specs.Item.{no_members, member, sequence, mapping}
 use Rattle.cbor4ii_tree.specs.Meaning.{value, member_values}
 use Rattle.cbor4ii_tree.specs.Cost.{Budget, step_in, greatest_cost, greatest_pair_cost}
 use Rattle.cbor4ii_tree.specs.Laws.Binds.{step_up}
-use Rattle.cbor4ii_tree.specs.Laws.Budgets.{fits_less}
 use Rattle.cbor4ii_tree.specs.Stops.{Stopping, Is, AtHead, Stepped, StopsInCount, OpenItems, OpenPairs, NoBreak}
 use Rattle.cbor4ii_tree.specs.StopsReading.{Readable, ReadingStopsBy, StopsReading}
 use Rattle.cbor4ii_tree.specs.View.{view, items_view, members_view}
@@ -32,6 +32,7 @@ use Rattle.cbor4ii_tree.proofs.values.Parts.{ReadEach, ReadPairs}
 use Rattle.cbor4ii_tree.proofs.values.Calls.{head_cut, no_head, initial_of, values-push, open_byte}
 use Rattle.cbor4ii_tree.proofs.parts.Pushed.{push, count-push, each-push, bytes-push, push_pair, count-push_pair, each-push_pair, bytes-push_pair, flat, count-flat, each-flat, bytes-flat}
 use Rattle.cbor4ii_tree.proofs.values.Heads.{at_row, first_is, HeadAt, head_at}
+use Rattle.cbor4ii_tree.proofs.values.Encoding.{view-Array}
 
 -- ---- steps
 
@@ -155,9 +156,6 @@ array_tree budget inner deep vs xs ys s t (inr q) =
       ap sequence i.2,
       q.1 ∙ ap (λ r. open_head 4 ∷ r) (i.3 ∙ sym (append_assoc (bytes_all i.0) (break ∷ []) ys)),
     )
-
-pub view-Array : (v : Vec Value Global) → view (Array v) ≡ sequence (items_view v.items)
-view-Array v = search (rules, the_lemmas)
 
 pub array_reads : (inner : Budget) (v : Vec Value Global) (xs ys : List ℕ) → ReadsStepped (λ o xs (v : Vec Value Global) ys. ReadsArray o xs v.items ys) inner xs v ys → ReadsUnder inner xs (Array v) ys
 array_reads inner v xs ys h budget step =

@@ -4,22 +4,21 @@ use Rattle.std.specs.Int.{bytes_high_first}
 use Rattle.cbor4ii_items.specs.Refusal.{Refusal}
 use Rattle.cbor4ii_items.specs.Head.{Width, byte_count, additional, head, open_head, break}
 use Rattle.cbor4ii_items.specs.Heads.{StopsHead, Begins, CutHead}
-use Rattle.cbor4ii_items.specs.Laws.Heads.{after_head}
+use Rattle.cbor4ii_items.specs.Laws.Heads.{after_head, length-bytes_high_first}
 use Rattle.cbor4ii_items.specs.Laws.Fronts.{drop_more}
 use Rattle.cbor4ii_items.specs.Decoding.{CostFits}
 use Rattle.cbor4ii_items.specs.Strings as strings
 use Rattle.cbor4ii_items.specs.Strings.{ReadsCountedString, ReadsChunks, chunk_cost, ReadsString, CutContent, StopsChunk, no_chunk_byte, no_step, chunk_open, chunk_refused, chunk_cut, StopsString, string_head_refused, string_cut, string_open, StopsText, no_string, no_utf8}
 use Rattle.cbor4ii_items.specs.Initial.{Initial, Info, wide, open_ended, reserved, info_of, initial, by_major, int_by_info, string_by_info, array_by_info, map_by_info, tag_by_info, simple_by_info, unsigned, negative, Sign, Kind, byte_string, text_string, kind_major, Simple, Precision, starts_string, starts_chunks, bad_string, starts_simple, starts_bits, other_simple, simple_false, simple_true, simple_null, simple_undefined, half, single, double}
+use Rattle.cbor4ii_items.specs.Laws.Answering.{fits_zero}
 use Rattle.cbor4ii_tree.specs.Refusal.{eof, mismatch, require_length, require_utf8, Indefinite, len_of, kind_name}
 use Rattle.cbor4ii_tree.specs.Laws.Initials.{initial_string, initial_chunks, head_below, kind_below}
-use Rattle.cbor4ii_tree.specs.Laws.Numbers.{length-bytes_high_first}
 use Rattle.cbor4ii_tree.specs.declared.value.Value.{Bytes, Text, the_lemmas}
 use Rattle.cbor4ii_tree.specs.Tree.{Tree, Trees, no_trees, tree, string, chunked, bytes, bytes_all, LooseAll, AreChunks, joined_chunks, TextIsUtf8}
 use Rattle.cbor4ii_tree.specs.Item.{bytes_item, text}
 use Rattle.cbor4ii_tree.specs.Meaning.{value, content_item}
 use Rattle.cbor4ii_tree.specs.Cost.{Budget, step_in, chunks_cost}
 use Rattle.cbor4ii_tree.specs.Laws.Binds.{step_up}
-use Rattle.cbor4ii_tree.specs.Laws.Budgets.{fits_zero}
 use Rattle.cbor4ii_tree.specs.Stops.{Is, Stepped, Each, NoBreak}
 use Rattle.cbor4ii_tree.specs.StopsReading.{Readable, ReadableChunk, CutString, ChunkStopsBy, ChunkStops, ReadingStopsBy, StopsReading}
 use Rattle.cbor4ii_tree.specs.View.{view}

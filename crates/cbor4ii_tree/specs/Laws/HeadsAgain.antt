@@ -2,9 +2,10 @@
 use Rattle.std.proofs.Common.{◌≡◌, ℕ, ◌+◌, ◌*◌, ◌%◌, ◌^◌, ◌<◌, ◌≤◌, List, ◌∷◌, ◌++◌, length, Ok, refl, arith, le-ltb, length-append, take_at, drop_at, mod-eq_of_lt}
 use Rattle.std.specs.Int.{bytes_high_first}
 use Rattle.cbor4ii_items.specs.Head.{Width, in_first, one, two, four, eight, HeadFits, additional, byte_count, head}
+use Rattle.cbor4ii_items.specs.Laws.Heads.{length-bytes_high_first}
 use Rattle.cbor4ii_tree.specs.Parse.{front_at, number_at, argument_of_width}
 use Rattle.cbor4ii_tree.specs.Skip.{whole_number_at, whole_argument_at}
-use Rattle.cbor4ii_tree.specs.Laws.Numbers.{length-bytes_high_first, low_bytes}
+use Rattle.cbor4ii_tree.specs.Laws.Numbers.{low_bytes}
 
 pub front_again : (name : List ℕ) (k : ℕ) (xs x : List ℕ) → length xs ≡ k → front_at name k (xs ++ x) ≡ Ok (xs, x)
 front_again name k xs x e =

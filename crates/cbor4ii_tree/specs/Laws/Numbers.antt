@@ -1,5 +1,5 @@
 -- Heads, read back.
-use Rattle.std.proofs.Common.{◌≡◌, ℕ, zero, suc, ◌+◌, ◌*◌, ◌/◌, ◌%◌, ◌^◌, ◌<◌, length, fold, refl, ap, ◌∙◌, arith, pow-suc, mul_comm, lt-ltb}
+use Rattle.std.proofs.Common.{◌≡◌, ℕ, zero, suc, ◌+◌, ◌*◌, ◌/◌, ◌%◌, ◌^◌, ◌<◌, fold, refl, ◌∙◌, arith, pow-suc, mul_comm, lt-ltb}
 use Rattle.std.proofs.Math.Nat.{pow-le-pow_right}
 use Rattle.std.proofs.Math.Arith.{mod-mul}
 use Rattle.std.specs.Int.{byte_at, bytes_high_first}
@@ -22,10 +22,6 @@ bytes_read (suc k) n high = bytes_read k n (high * 256 + byte_at k n) ∙ byte_o
 
 pub low_bytes : (k n : ℕ) → number_of (bytes_high_first k n) ≡ n % 256 ^ k
 low_bytes k n = bytes_read k n 0 ∙ omega arith
-
-pub length-bytes_high_first : (k n : ℕ) → length (bytes_high_first k n) ≡ k
-length-bytes_high_first zero n = refl
-length-bytes_high_first (suc k) n = ap suc (length-bytes_high_first k n)
 
 pub additional-lt : (n : ℕ) (w : Width) → HeadFits w n → additional w n < 32
 additional-lt n in_first h = omega arith

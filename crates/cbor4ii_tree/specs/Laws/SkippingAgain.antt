@@ -5,13 +5,14 @@ use Rattle.cbor4ii_items.specs.Head.{byte_count, break}
 use Rattle.cbor4ii_items.specs.Initial.{sign_major, kind_major, precision_bytes, Initial, initial}
 use Rattle.cbor4ii_tree.specs.Tree.{Tree, int, string, chunked, array, array_open, map_of, map_open, tagged, simple, bits, count, pair_count, bytes, bytes_all, bytes_pairs, Loose}
 use Rattle.cbor4ii_items.specs.Decoding.{CostFits}
+use Rattle.cbor4ii_items.specs.Laws.SequenceParts.{fits_less}
 use Rattle.cbor4ii_tree.specs.Cost.{Budget, skip_cost}
 use Rattle.cbor4ii_tree.specs.Refusal.{ignored_any, tag_name}
 use Rattle.cbor4ii_tree.specs.StopsSkipping.{Skippable}
 use Rattle.cbor4ii_tree.specs.Parse.{Parser}
 use Rattle.cbor4ii_tree.specs.Skip.{skip_by, skip_from, skip_within}
 use Rattle.cbor4ii_tree.specs.Laws.Binds.{left, step_left}
-use Rattle.cbor4ii_tree.specs.Laws.Budgets.{fits_left, fits_less}
+use Rattle.cbor4ii_tree.specs.Laws.Budgets.{fits_left}
 use Rattle.cbor4ii_tree.specs.Laws.Initials.{initial_int, initial_string, initial_array, initial_map, initial_tag, initial_chunks, initial_simple, initial_bits, initial_open_array, initial_open_map, begins}
 use Rattle.cbor4ii_tree.specs.Laws.HeadsAgain.{front_again, argument_again, whole_argument_again, whole_number_again}
 use Rattle.cbor4ii_tree.specs.Laws.PartsAgain.{Again, Starts, trees_again, pairs_again, open_trees_again, open_pairs_again}

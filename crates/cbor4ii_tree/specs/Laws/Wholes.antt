@@ -3,11 +3,12 @@ use Rattle.std.proofs.Common.{arith}
 use Rattle.cbor4ii_items.specs.Initial.{Kind}
 use Rattle.cbor4ii_tree.specs.Tree.{Trees, no_trees, tree, Pairs, no_pairs, pair, LooseAll, LoosePairs, SoundStringsAll, SoundStringsPairs, AreChunks}
 use Rattle.cbor4ii_items.specs.Decoding.{CostFits}
+use Rattle.cbor4ii_items.specs.Laws.Answering.{fits_zero}
+use Rattle.cbor4ii_items.specs.Laws.SequenceParts.{fits_less, fits_max}
 use Rattle.cbor4ii_tree.specs.Cost.{Budget, cost, greatest_cost, greatest_pair_cost, skip_cost, greatest_skip_cost, greatest_pair_skip_cost}
 use Rattle.cbor4ii_tree.specs.Stops.{Each, EachPair}
 use Rattle.cbor4ii_tree.specs.StopsSkipping.{Skippable}
 use Rattle.cbor4ii_tree.specs.StopsReading.{Readable, ReadableChunk}
-use Rattle.cbor4ii_tree.specs.Laws.Budgets.{fits_zero, fits_less, fits_max}
 
 pub each_skippable : (ts : Trees) (b : Budget) → LooseAll ts → CostFits (greatest_skip_cost ts) b → Each (Skippable b) ts
 each_skippable no_trees b l f = tt

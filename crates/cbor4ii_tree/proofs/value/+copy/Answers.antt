@@ -3,8 +3,8 @@ use Rattle.std.proofs.lemmas.Result.{err_from_is_err_and}
 use Rattle.cbor4ii_tree.specs.Item.{sequence, mapping}
 use Rattle.cbor4ii_tree.specs.View.{view}
 use Rattle.cbor4ii_tree.proofs.values.Views.{view-Map}
-use Rattle.cbor4ii_tree.proofs.values.Sequences.{view-Array}
 use Rattle.cbor4ii_tree.proofs.value.+copy.Goals as goal
+use Rattle.cbor4ii_tree.proofs.values.Encoding.{view-Array}
 
 pub copy_items-returns-in_err-copies : goal.copy_items-returns-in_err-copies
 copy_items-returns-in_err-copies t c =
