@@ -19,11 +19,11 @@ Names words Strict = map string_bytes words ≡ codes "strict" ∷ []
 abbrev pub NamesNone : List (String Global) → Type 0
 NamesNone words = (command : Command) → ¬ (Names words command)
 
--- what the command makes of an input that is known, behind what the output held, ends in the status
+-- The status is that of an outcome, 0 or 1, and where the input is known, a run of the command over
+-- it may have this outcome, behind what the output held.
 abbrev pub EndsIn : Command → Option (List ℕ) → Option (List ℕ) → ℕ → Type 0
-EndsIn command input held status = Told input (λ bytes. (holds : Option (List ℕ))
-    × (outcome : Outcome) × RunsOver command bytes held holds outcome
-    × (status ≡ status_of outcome))
+EndsIn command input held status = (outcome : Outcome) × (status ≡ status_of outcome)
+    × Told input (λ bytes. (holds : Option (List ℕ)) × RunsOver command bytes held holds outcome)
 
 -- the choice is the command that the words name, if any
 abbrev pub Chooses : List (String Global) → Option Command → Type 0

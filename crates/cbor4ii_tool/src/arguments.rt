@@ -1,5 +1,6 @@
 //! What the arguments ask for.
-ghost use Rattle.std.specs.Prelude.{◌≡◌, ◌↔◌, [], ◌∷◌, map, codes, string_bytes};
+ghost use Rattle.std.specs.Prelude.{◌≡◌, ◌↔◌};
+ghost use Rattle.cbor4ii_tool.specs.Program.{Names};
 
 use crate::command::Command;
 use std::rt::Env;
@@ -13,14 +14,10 @@ pub fn words(rt: &(impl Env + AllocGlobal)) -> io::Result<Vec<String>> {
 
 /// The command that the arguments `words` name; none where they are not one of its words alone.
 pub fn command(words: &[String]) -> Option<Command>
-    ensures ints { (result ≡ Some Command.Ints) ↔
-        (map string_bytes words.now ≡ codes "ints" ∷ []) }
-    ensures canon { (result ≡ Some Command.Canon) ↔
-        (map string_bytes words.now ≡ codes "canon" ∷ []) }
-    ensures lens { (result ≡ Some Command.Lens) ↔
-        (map string_bytes words.now ≡ codes "lens" ∷ []) }
-    ensures strict { (result ≡ Some Command.Strict) ↔
-        (map string_bytes words.now ≡ codes "strict" ∷ []) }
+    ensures ints { (result ≡ Some Command.Ints) ↔ Names words.now Command.Ints }
+    ensures canon { (result ≡ Some Command.Canon) ↔ Names words.now Command.Canon }
+    ensures lens { (result ≡ Some Command.Lens) ↔ Names words.now Command.Lens }
+    ensures strict { (result ≡ Some Command.Strict) ↔ Names words.now Command.Strict }
 {
     match words {
         [word] if word.as_str() == "ints" => Some(Command::Ints),

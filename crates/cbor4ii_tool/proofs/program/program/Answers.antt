@@ -11,16 +11,14 @@ returns-clause-runs g c = elim c.match-chosen.branch [
   | in-Ok-Some w ↦ is_named (λ command. EndsIn command
       (cut_known most_bytes (g.R.Read.remaining c.args.input))
       (g.W.Write.contents c.args.output) c.status.result) _ _ _ c.chosen.ensures.chooses
-      (w.in-Ok-Some.is ∙ ap Ok w.in-Ok-Some.field-0-is)
-      (λ bytes known. (
-        (w.stream-outcome.ensures.runs bytes known).0,
+      (w.in-Ok-Some.is ∙ ap Ok w.in-Ok-Some.field-0-is) (
         _,
-        (w.stream-outcome.ensures.runs bytes known).1,
         c.status.ensures ∙ ap status_of ((elim c.match-outcome.branch [
           | in-Err-outcome v ↦ v.outcome-is ∙ sym v.in-Err-outcome.is
           | in_default v ↦ v.outcome-is
         ]) ∙ w.outcome-is),
-      ))
+        w.stream-outcome.ensures.runs,
+      )
   | in-Err w ↦ not_refused _ _ _ _ c.chosen.ensures.chooses w.in-Err.is
 ]
 
