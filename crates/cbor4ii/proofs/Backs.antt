@@ -1,5 +1,7 @@
 -- What stands for a typed value is read back.
-use Rattle.std.proofs.Common.{◌≡◌, ◌⊎◌, inl, inr, ℕ, ◌+◌, ◌<◌, ◌≤◌, ◌^◌, List, [], ◌∷◌, ◌++◌, length, drop, max, Bool, true, Some, None, refl, sym, ap, ◌∙◌, subst, arith, append_assoc, append-nil, length-append, All}
+use Rattle.std.proofs.Common.{◌≡◌, ◌⊎◌, inl, inr, ℕ, ◌+◌, ◌<◌, ◌≤◌, ◌^◌, List, [], ◌∷◌, ◌++◌}
+use Rattle.std.proofs.Common.{length, drop, max, Bool, true, Some, None, refl, sym, ap, ◌∙◌, subst}
+use Rattle.std.proofs.Common.{arith, append_assoc, append-nil, length-append, All}
 use Rattle.std.proofs.lemmas.List.Elements.{All-head, All-tail}
 use Rattle.std.proofs.Math.Seq.{drop-append_seam}
 use Rattle.std.specs.declared.cmp.Ordering.{Ordering}
@@ -19,7 +21,7 @@ use Rattle.cbor4ii_items.specs.ReadBack.{ReadsBack, greatest_cost, pair_cost}
 use Rattle.cbor4ii_items.specs.Sequences.{ReadsParts, ReadsCountedParts, ReadsSequence, ReadsPair}
 use Rattle.cbor4ii_items.specs.Laws.NumbersBack.{head_back}
 use Rattle.cbor4ii_items.specs.Laws.PartsBack.{pair_back}
-use Rattle.cbor4ii_ser.specs.Item.{Encoding, encoded, refused, followed, items_of, entry_item}
+use Rattle.cbor4ii_ser.specs.Item.{Encoding, encoded, refused, followed, each_item, entry_item}
 use Rattle.cbor4ii.specs.Built.{built, put_all, ReadsBTreeMap}
 use Rattle.cbor4ii.specs.ReadBack.{IsReadBack, BeginsOther, IsNullItem}
 use Rattle.cbor4ii.specs.Stepped.{Stepped}
@@ -38,10 +40,12 @@ behind front bytes rest =
     record { whole = e; left = ap (drop (length front)) e ∙ drop-append_seam front (bytes ++ rest) }
 
 -- a head that counts so many, whatever stands behind it
-headed : (major count : ℕ) (bytes rest : List ℕ) → count < 2 ^ 64 → ReadsHead major 8 ((shortest_head major count ++ bytes) ++ rest) count (length (shortest_head major count))
+headed : (major count : ℕ) (bytes rest : List ℕ) → count < 2 ^ 64 → ReadsHead major 8
+    ((shortest_head major count ++ bytes) ++ rest) count (length (shortest_head major count))
 headed major count bytes rest h =
     let start = shortest_head major count in
-    subst (λ zs. ReadsHead major 8 zs count (length start)) (sym (behind start bytes rest).whole) (head_back major eight count h (bytes ++ rest))
+    subst (λ zs. ReadsHead major 8 zs count (length start)) (sym (behind start bytes rest).whole)
+    (head_back major eight count h (bytes ++ rest))
 
 -- ---- values that may be absent
 
@@ -52,54 +56,88 @@ other_first bytes rest h (inr e) = let f = h.2 in (let is : h.0 ≡ 0xf7 = cc in
 some_first : (bytes rest : List ℕ) → BeginsOther (encoded bytes) → 1 ≤ length (bytes ++ rest)
 some_first bytes rest h = omega (arith, ap length h.2, length-append bytes rest)
 
-pub some_read_back : {V : Type 0} (reads : Reads V) (item : Encoding) (v : V) (cost : ℕ) → IsReadBack reads item v cost → BeginsOther item → IsReadBack (ReadsOption (Stepped reads)) item (Some v) (1 + cost)
+pub some_read_back : {V : Type 0} (reads : Reads V) (item : Encoding) (v : V) (cost : ℕ)
+    → IsReadBack reads item v cost → BeginsOther item
+    → IsReadBack (ReadsOption (Stepped reads)) item (Some v) (1 + cost)
 some_read_back reads (refused bytes words) v cost back other = tt
-some_read_back reads (encoded bytes) v cost back other = λ rest. (other_first bytes rest other, some_first bytes rest other, (cost, back rest, refl))
+some_read_back reads (encoded bytes) v cost back other =
+    λ rest. (other_first bytes rest other, some_first bytes rest other, (cost, back rest, refl))
 
-null_at : {V : Type 0} (reads : Reads V) (b : ℕ) (item : Encoding) → (b ≡ 0xf6) ⊎ (b ≡ 0xf7) → item ≡ encoded (b ∷ []) → IsReadBack (ReadsOption (Stepped reads)) item None 0
+null_at : {V : Type 0} (reads : Reads V) (b : ℕ) (item : Encoding) → (b ≡ 0xf6) ⊎ (b ≡ 0xf7)
+    → item ≡ encoded (b ∷ []) → IsReadBack (ReadsOption (Stepped reads)) item None 0
 null_at reads b item (inl is) e = rw (e, is) (λ rest. (inl refl, refl, refl))
 null_at reads b item (inr is) e = rw (e, is) (λ rest. (inr refl, refl, refl))
 
-pub null_read_back : {V : Type 0} (reads : Reads V) (item : Encoding) → IsNullItem item → IsReadBack (ReadsOption (Stepped reads)) item None 0
+pub null_read_back : {V : Type 0} (reads : Reads V) (item : Encoding) → IsNullItem item
+    → IsReadBack (ReadsOption (Stepped reads)) item None 0
 null_read_back reads item (inl e) = null_at reads 0xf6 item (inl refl) e
 null_read_back reads item (inr e) = null_at reads 0xf7 item (inr refl) e
 
 -- ---- tuples
 
-behind_back : {V : Type 0} (count : ℕ) (reads : Reads V) (bytes : List ℕ) (v : V) (cost : ℕ) → count < 2 ^ 64 → ReadsBack reads bytes v cost → ReadsBack (Stepped (ReadsBehind count reads)) (shortest_head 4 count ++ bytes) v (1 + cost)
+behind_back : {V : Type 0} (count : ℕ) (reads : Reads V) (bytes : List ℕ) (v : V) (cost : ℕ)
+    → count < 2 ^ 64 → ReadsBack reads bytes v cost
+    → ReadsBack (Stepped (ReadsBehind count reads)) (shortest_head 4 count ++ bytes) v (1 + cost)
 behind_back count reads bytes v cost h back rest =
     let start = shortest_head 4 count in
-    let parts = subst (λ zs. reads zs v (length bytes) cost) (sym (behind start bytes rest).left) (back rest) in
-    (cost, record { before = length start; head = headed 4 count bytes rest h; between = length bytes; parts = parts; size = length-append start bytes }, refl)
+    let parts = subst (λ zs. reads zs v (length bytes) cost) (sym (behind start bytes rest).left)
+    (back rest) in (
+      cost,
+      record {
+        before = length start;
+        head = headed 4 count bytes rest h;
+        between = length bytes;
+        parts = parts;
+        size = length-append start bytes;
+      },
+      refl,
+    )
 
-two_back : {A B : Type 0} (first : Reads A) (second : Reads B) (xs ys : List ℕ) (p : A × B) (c d : ℕ) → ReadsBack first xs p.0 c → ReadsBack second ys p.1 d → ReadsBack (ReadsPair first second) (xs ++ ys) p (max c d)
-two_back first second xs ys p c d h k = pair_back first second (λ _. xs) (λ _. ys) (λ _. c) (λ _. d) p h k
+two_back : {A B : Type 0} (first : Reads A) (second : Reads B) (xs ys : List ℕ) (p : A × B)
+    (c d : ℕ) → ReadsBack first xs p.0 c → ReadsBack second ys p.1 d
+    → ReadsBack (ReadsPair first second) (xs ++ ys) p (max c d)
+two_back first second xs ys p c d h k =
+    pair_back first second (λ _. xs) (λ _. ys) (λ _. c) (λ _. d) p h k
 
-pub pair_read_back : {A B : Type 0} (first : Reads A) (second : Reads B) (a b : Encoding) (p : A × B) (c d : ℕ) → IsReadBack first a p.0 c → IsReadBack second b p.1 d
-    → IsReadBack (Stepped (ReadsBehind 2 (ReadsPair first second))) (followed (encoded (shortest_head 4 2)) (followed a (followed b (encoded [])))) p (1 + max c d)
+pub pair_read_back : {A B : Type 0} (first : Reads A) (second : Reads B) (a b : Encoding)
+    (p : A × B) (c d : ℕ) → IsReadBack first a p.0 c → IsReadBack second b p.1 d
+    → IsReadBack (Stepped (ReadsBehind 2 (ReadsPair first second)))
+    (followed (encoded (shortest_head 4 2)) (followed a (followed b (encoded [])))) p
+    (1 + max c d)
 unfolding followed
 pair_read_back first second (refused xs words) b p c d h k = tt
 pair_read_back first second (encoded xs) (refused ys words) p c d h k = tt
 pair_read_back first second (encoded xs) (encoded ys) p c d h k =
     behind_back 2 (ReadsPair first second) (xs ++ (ys ++ [])) p (max c d) (omega arith)
-    (subst (λ zs. ReadsBack (ReadsPair first second) (xs ++ zs) p (max c d)) (sym (append-nil ys)) (two_back first second xs ys p c d h k))
+    (subst (λ zs. ReadsBack (ReadsPair first second) (xs ++ zs) p (max c d)) (sym (append-nil ys))
+    (two_back first second xs ys p c d h k))
 
-pub triple_read_back : {A B C : Type 0} (first : Reads A) (second : Reads B) (third : Reads C) (a b c : Encoding) (p : A × B × C) (i j k : ℕ) → IsReadBack first a p.0 i → IsReadBack second b p.1 j → IsReadBack third c p.2 k
-    → IsReadBack (Stepped (ReadsBehind 3 (ReadsTriple first second third))) (followed (encoded (shortest_head 4 3)) (followed a (followed b (followed c (encoded []))))) p (1 + max i (max j k))
+pub triple_read_back : {A B C : Type 0} (first : Reads A) (second : Reads B) (third : Reads C)
+    (a b c : Encoding) (p : A × B × C) (i j k : ℕ) → IsReadBack first a p.0 i
+    → IsReadBack second b p.1 j → IsReadBack third c p.2 k
+    → IsReadBack (Stepped (ReadsBehind 3 (ReadsTriple first second third)))
+    (followed (encoded (shortest_head 4 3)) (followed a (followed b (followed c (encoded [])))))
+    p (1 + max i (max j k))
 unfolding followed
 triple_read_back first second third (refused xs words) b c p i j k f g h = tt
 triple_read_back first second third (encoded xs) (refused ys words) c p i j k f g h = tt
 triple_read_back first second third (encoded xs) (encoded ys) (refused zs words) p i j k f g h = tt
 triple_read_back first second third (encoded xs) (encoded ys) (encoded zs) p i j k f g h =
     let inner = two_back second third ys zs (p.1, p.2) j k g h in
-    let whole : ReadsBack (ReadsTriple first second third) (xs ++ (ys ++ zs)) p (max i (max j k)) = two_back first (ReadsPair second third) xs (ys ++ zs) (p.0, (p.1, p.2)) i (max j k) f inner in
-    behind_back 3 (ReadsTriple first second third) (xs ++ (ys ++ (zs ++ []))) p (max i (max j k)) (omega arith)
-    (subst (λ ws. ReadsBack (ReadsTriple first second third) (xs ++ (ys ++ ws)) p (max i (max j k))) (sym (append-nil zs)) whole)
+    let whole : ReadsBack (ReadsTriple first second third) (xs ++ (ys ++ zs)) p (max i (max j k)) =
+    two_back first (ReadsPair second third) xs (ys ++ zs)
+    (p.0, (p.1, p.2)) i (max j k) f inner in
+    behind_back 3 (ReadsTriple first second third) (xs ++ (ys ++ (zs ++ []))) p (max i (max j k))
+    (omega arith)
+    (subst (λ ws. ReadsBack (ReadsTriple first second third)
+    (xs ++ (ys ++ ws)) p (max i (max j k))) (sym (append-nil zs)) whole)
 
 -- ---- sequences
 
 module _ {P : Type 0} (reads : Reads P) (item : P → Encoding) (cost : P → ℕ) where
-  more_back : (p : P) (ps : List P) (xs ys : List ℕ) → ReadsBack reads xs p (cost p) → ReadsBack (ReadsParts reads) ys ps (greatest_cost cost ps) → ReadsBack (ReadsParts reads) (xs ++ ys) (p ∷ ps) (greatest_cost cost (p ∷ ps))
+  more_back : (p : P) (ps : List P) (xs ys : List ℕ) → ReadsBack reads xs p (cost p)
+      → ReadsBack (ReadsParts reads) ys ps (greatest_cost cost ps)
+      → ReadsBack (ReadsParts reads) (xs ++ ys) (p ∷ ps) (greatest_cost cost (p ∷ ps))
   more_back p ps xs ys h k rest =
       let b = behind xs ys rest in (
         length xs,
@@ -107,49 +145,75 @@ module _ {P : Type 0} (reads : Reads P) (item : P → Encoding) (cost : P → �
         length ys,
         greatest_cost cost ps,
         subst (λ zs. reads zs p (length xs) (cost p)) (sym b.whole) (h (ys ++ rest)),
-        subst (λ zs. ReadsParts reads zs ps (length ys) (greatest_cost cost ps)) (sym b.left) (k rest),
+        subst (λ zs. ReadsParts reads zs ps (length ys) (greatest_cost cost ps)) (sym b.left)
+            (k rest),
         length-append xs ys,
         refl,
       )
 
-  joined_back : (o q : Encoding) (p : P) (ps : List P) → IsReadBack reads o p (cost p) → IsReadBack (ReadsParts reads) q ps (greatest_cost cost ps) → IsReadBack (ReadsParts reads) (followed o q) (p ∷ ps) (greatest_cost cost (p ∷ ps))
+  joined_back : (o q : Encoding) (p : P) (ps : List P) → IsReadBack reads o p (cost p)
+      → IsReadBack (ReadsParts reads) q ps (greatest_cost cost ps)
+      → IsReadBack (ReadsParts reads) (followed o q) (p ∷ ps) (greatest_cost cost (p ∷ ps))
   unfolding followed
   joined_back (refused xs words) q p ps h k = tt
   joined_back (encoded xs) (refused ys words) p ps h k = tt
   joined_back (encoded xs) (encoded ys) p ps h k = more_back p ps xs ys h k
 
-  items_back : (ps : List P) → All (λ p. IsReadBack reads (item p) p (cost p)) ps → IsReadBack (ReadsParts reads) (items_of item ps) ps (greatest_cost cost ps)
+  items_back : (ps : List P) → All (λ p. IsReadBack reads (item p) p (cost p)) ps
+      → IsReadBack (ReadsParts reads) (each_item item ps) ps (greatest_cost cost ps)
   items_back [] h = λ rest. (refl, refl)
   items_back (p ∷ ps) h =
       let Q : P → Type 0 = λ q. IsReadBack reads (item q) q (cost q) in
-      joined_back (item p) (items_of item ps) p ps (All-head Q p ps h) (items_back ps (All-tail Q p ps h))
+      joined_back (item p) (each_item item ps) p ps (All-head Q p ps h)
+      (items_back ps (All-tail Q p ps h))
 
-  counted_back : (major : ℕ) (never_empty : Bool) (ps : List P) (o : Encoding) → length ps < 2 ^ 64 → IsReadBack (ReadsParts reads) o ps (greatest_cost cost ps)
-      → IsReadBack (ReadsSequence major reads never_empty) (followed (encoded (shortest_head major (length ps))) o) ps (1 + greatest_cost cost ps)
+  counted_back : (major : ℕ) (never_empty : Bool) (ps : List P) (o : Encoding) → length ps < 2 ^ 64
+      → IsReadBack (ReadsParts reads) o ps (greatest_cost cost ps)
+      → IsReadBack (ReadsSequence major reads never_empty)
+      (followed (encoded (shortest_head major (length ps))) o) ps (1 + greatest_cost cost ps)
   unfolding followed
   counted_back major never_empty ps (refused bytes words) small h = tt
   counted_back major never_empty ps (encoded bytes) small h = λ rest. (
       let start = shortest_head major (length ps) in
-      let parts = subst (λ zs. ReadsParts reads zs ps (length bytes) (greatest_cost cost ps)) (sym (behind start bytes rest).left) (h rest) in
-      let counted : ReadsCountedParts major reads ((start ++ bytes) ++ rest) ps (length (start ++ bytes)) (greatest_cost cost ps) = record { before = length start; head = headed major (length ps) bytes rest small; between = length bytes; parts = parts; size = length-append start bytes } in
+      let parts = subst (λ zs. ReadsParts reads zs ps (length bytes) (greatest_cost cost ps))
+      (sym (behind start bytes rest).left) (h rest) in
+      let counted : ReadsCountedParts major reads ((start ++ bytes) ++ rest) ps
+      (length (start ++ bytes)) (greatest_cost cost ps) =
+      record {
+        before = length start;
+        head = headed major (length ps) bytes rest small;
+        between = length bytes;
+        parts = parts;
+        size = length-append start bytes;
+      } in
       (greatest_cost cost ps, inl counted, refl))
 
-  pub sequence_read_back : (major : ℕ) (never_empty : Bool) (ps : List P) → length ps < 2 ^ 64 → All (λ p. IsReadBack reads (item p) p (cost p)) ps
-      → IsReadBack (ReadsSequence major reads never_empty) (followed (encoded (shortest_head major (length ps))) (items_of item ps)) ps (1 + greatest_cost cost ps)
-  sequence_read_back major never_empty ps small h = counted_back major never_empty ps (items_of item ps) small (items_back ps h)
+  pub sequence_read_back : (major : ℕ) (never_empty : Bool) (ps : List P) → length ps < 2 ^ 64
+      → All (λ p. IsReadBack reads (item p) p (cost p)) ps
+      → IsReadBack (ReadsSequence major reads never_empty)
+      (followed (encoded (shortest_head major (length ps))) (each_item item ps)) ps
+      (1 + greatest_cost cost ps)
+  sequence_read_back major never_empty ps small h =
+      counted_back major never_empty ps (each_item item ps) small (items_back ps h)
 
 -- ---- maps
 
-entry_back : {K V : Type 0} (first : Reads K) (second : Reads V) (a b : Encoding) (p : K × V) (c d : ℕ) → IsReadBack first a p.0 c → IsReadBack second b p.1 d → IsReadBack (ReadsPair first second) (followed a b) p (max c d)
+entry_back : {K V : Type 0} (first : Reads K) (second : Reads V) (a b : Encoding) (p : K × V)
+    (c d : ℕ) → IsReadBack first a p.0 c → IsReadBack second b p.1 d
+    → IsReadBack (ReadsPair first second) (followed a b) p (max c d)
 unfolding followed
 entry_back first second (refused xs words) b p c d h k = tt
 entry_back first second (encoded xs) (refused ys words) p c d h k = tt
 entry_back first second (encoded xs) (encoded ys) p c d h k = two_back first second xs ys p c d h k
 
-pub entries_back : {K V : Type 0} (first : Reads K) (second : Reads V) (key : K → Encoding) (value : V → Encoding) (key_cost : K → ℕ) (value_cost : V → ℕ) (ps : List (K × V))
-    → All (λ p. IsReadBack first (key p.0) p.0 (key_cost p.0)) ps → All (λ p. IsReadBack second (value p.1) p.1 (value_cost p.1)) ps
-    → All (λ p. IsReadBack (ReadsPair first second) (entry_item key value p) p (pair_cost key_cost value_cost p)) ps
-entries_back first second key value key_cost value_cost ps h k = λ i d room. entry_back first second _ _ _ _ _ (h i d room) (k i d room)
+pub entries_back : {K V : Type 0} (first : Reads K) (second : Reads V) (key : K → Encoding)
+    (value : V → Encoding) (key_cost : K → ℕ) (value_cost : V → ℕ) (ps : List (K × V))
+    → All (λ p. IsReadBack first (key p.0) p.0 (key_cost p.0)) ps
+    → All (λ p. IsReadBack second (value p.1) p.1 (value_cost p.1)) ps
+    → All (λ p. IsReadBack (ReadsPair first second)
+    (entry_item key value p) p (pair_cost key_cost value_cost p)) ps
+entries_back first second key value key_cost value_cost ps h k =
+    λ i d room. entry_back first second _ _ _ _ _ (h i d room) (k i d room)
 
 -- ---- the map that its own entries build
 
@@ -159,29 +223,38 @@ module _ {K : Type 0} (cmp : K → K → Ordering) (total : IsTotalOrder cmp) wh
 
 module _ {K V : Type 0} (cmp : K → K → Ordering) (total : IsTotalOrder cmp) where
   -- an entry behind all others is put at the end
-  at_end : (es : List (K × V)) (p : K × V) → AllByRecursion (λ e. cmp e.0 p.0 ≡ Less) es → insert_entry cmp es p.0 p.1 ≡ es ++ p ∷ []
+  at_end : (es : List (K × V)) (p : K × V) → AllByRecursion (λ e. cmp e.0 p.0 ≡ Less) es
+      → insert_entry cmp es p.0 p.1 ≡ es ++ p ∷ []
   at_end [] p h = refl
-  at_end (e ∷ es) p h = rw (after cmp total (cmp p.0 e.0) p.0 e.0 refl h.0) (ap (λ zs. e ∷ zs) (at_end es p h.1))
+  at_end (e ∷ es) p h =
+      rw (after cmp total (cmp p.0 e.0) p.0 e.0 refl h.0) (ap (λ zs. e ∷ zs) (at_end es p h.1))
 
-  all_at : (P : K → Type 0) (es ps : List (K × V)) (p : K × V) → AllByRecursion P (keys_of (es ++ p ∷ ps)) → P p.0
+  all_at : (P : K → Type 0) (es ps : List (K × V)) (p : K × V)
+      → AllByRecursion P (keys_of (es ++ p ∷ ps)) → P p.0
   all_at P [] ps p h = h.0
   all_at P (e ∷ es) ps p h = all_at P es ps p h.1
 
-  before : (es ps : List (K × V)) (p : K × V) → IsStrictlySortedBy cmp (keys_of (es ++ p ∷ ps)) → AllByRecursion (λ e. cmp e.0 p.0 ≡ Less) es
+  before : (es ps : List (K × V)) (p : K × V) → IsStrictlySortedBy cmp (keys_of (es ++ p ∷ ps))
+      → AllByRecursion (λ e. cmp e.0 p.0 ≡ Less) es
   unfolding IsStrictlySortedBy
   before [] ps p h = tt
   before (e ∷ es) ps p h = (all_at (λ y. cmp e.0 y ≡ Less) es ps p h.0, before es ps p h.1)
 
-  put_again : (es ps : List (K × V)) → IsStrictlySortedBy cmp (keys_of (es ++ ps)) → put_all cmp es ps ≡ es ++ ps
+  put_again : (es ps : List (K × V)) → IsStrictlySortedBy cmp (keys_of (es ++ ps))
+      → put_all cmp es ps ≡ es ++ ps
   put_again es [] h = sym (append-nil es)
   put_again es (p ∷ ps) h =
       ap (λ zs. put_all cmp zs ps) (at_end es p (before es ps p h))
-      ∙ (put_again (es ++ p ∷ []) ps (subst (λ zs. IsStrictlySortedBy cmp (keys_of zs)) (sym (append_assoc es (p ∷ []) ps)) h) ∙ append_assoc es (p ∷ []) ps)
+      ∙ (put_again (es ++ p ∷ []) ps (subst (λ zs. IsStrictlySortedBy cmp (keys_of zs))
+      (sym (append_assoc es (p ∷ []) ps)) h) ∙ append_assoc es (p ∷ []) ps)
 
   pub built_again : (es : List (K × V)) → IsStrictlySortedBy cmp (keys_of es) → built cmp es ≡ es
   built_again es h = put_again [] es h
 
-pub map_read_back : {K V M : Type 0} (entries : M → List (K × V)) (cmp : K → K → Ordering) (key : Reads K) (value : Reads V) (o : Encoding) (m : M) (cost : ℕ) → built cmp (entries m) ≡ entries m
-    → IsReadBack (ReadsSequence 5 (ReadsPair key value) true) o (entries m) cost → IsReadBack (ReadsBTreeMap entries cmp key value) o m cost
+pub map_read_back : {K V M : Type 0} (entries : M → List (K × V)) (cmp : K → K → Ordering)
+    (key : Reads K) (value : Reads V) (o : Encoding) (m : M) (cost : ℕ)
+    → built cmp (entries m) ≡ entries m
+    → IsReadBack (ReadsSequence 5 (ReadsPair key value) true) o (entries m) cost
+    → IsReadBack (ReadsBTreeMap entries cmp key value) o m cost
 map_read_back entries cmp key value (refused bytes words) m cost e h = tt
 map_read_back entries cmp key value (encoded bytes) m cost e h = λ rest. (entries m, h rest, sym e)

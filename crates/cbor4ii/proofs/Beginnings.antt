@@ -1,5 +1,6 @@
 -- How a value of several parts is refused.
-use Rattle.std.proofs.Common.{◌≡◌, ℕ, List, [], ◌∷◌, drop, take, Option, Some, None, Result, Ok, Err, Bool, true, false, refl, subst, IfSome, IfErr}
+use Rattle.std.proofs.Common.{◌≡◌, ℕ, List, [], ◌∷◌, drop, take, Option, Some, None, Result, Ok}
+use Rattle.std.proofs.Common.{Err, Bool, true, false, refl, subst, IfSome, IfErr}
 use Rattle.std.specs.Prelude.{MatchBool, IsTrue, codes}
 use Rattle.cbor4ii_rw.specs.View.{View}
 use Rattle.cbor4ii_rw.specs.Reader.{StepsIn, KeepsAllButBudget}
@@ -20,7 +21,8 @@ use Rattle.cbor4ii.proofs.Looking.{Saw}
 use Rattle.cbor4ii.proofs.Steps.{stops_stepped}
 use Rattle.cbor4ii.proofs.Stopped.{stopped_as}
 
-not_read : {E : Type 0} (e : DecodeError E) (z : Refusal) → refusal_of e ≡ Some z → is_read e ≡ false
+not_read : {E : Type 0} (e : DecodeError E) (z : Refusal) → refusal_of e ≡ Some z
+    → is_read e ≡ false
 not_read (Read x) z h = cc
 not_read e z h = refl
 
@@ -29,55 +31,81 @@ kept_of true a b e k = cc
 kept_of false a b e k = k
 
 -- a refusal of which no more is asked than that an end of the bytes is left
-left_by : {V E : Type 0} (e : DecodeError E) (a b : View) (Q : Type 0) → Moves {V = V} a b (Err e) → (xs : List ℕ) → a.told ≡ Some xs → (o : Option Refusal) → refusal_of e ≡ o → Q → IfSome o (λ z. (ys : List ℕ) × (b.told ≡ Some ys) × Q)
+left_by : {V E : Type 0} (e : DecodeError E) (a b : View) (Q : Type 0) → Moves {V = V} a b (Err e)
+    → (xs : List ℕ) → a.told ≡ Some xs → (o : Option Refusal) → refusal_of e ≡ o → Q
+    → IfSome o (λ z. (ys : List ℕ) × (b.told ≡ Some ys) × Q)
 left_by e a b Q m xs told None says q = tt
-left_by e a b Q m xs told (Some z) says q = let k = kept_of (is_read e) a b (not_read e z says) m.by in let t = k.rest xs told in (drop t.0 xs, t.1.left, q)
+left_by e a b Q m xs told (Some z) says q =
+    let k = kept_of (is_read e) a b (not_read e z says) m.by in
+    let t = k.rest xs told in
+    (drop t.0 xs, t.1.left, q)
 
-pub unsaid_left : {V E : Type 0} {e : DecodeError E} {a b : View} → Moves {V = V} a b (Err e) → Stops unsaid_stops a b e
-unsaid_left {e = e} {a = a} {b = b} m = record { at = λ xs told. left_by e a b (Unit {0}) m xs told (refusal_of e) refl tt }
+pub unsaid_left : {V E : Type 0} {e : DecodeError E} {a b : View} → Moves {V = V} a b (Err e)
+    → Stops unsaid_stops a b e
+unsaid_left {e = e} {a = a} {b = b} m =
+    record { at = λ xs told. left_by e a b (Unit {0}) m xs told (refusal_of e) refl tt }
 
 -- ---- a part
 
 -- what the part's type says of it, where it is exact
-pub said_left : {V E : Type 0} (exact : Bool) (stops : StopsAt) {e : DecodeError E} {a b : View} → Moves {V = V} a b (Err e) → (IsTrue exact → Stops stops a b e) → Stops (said exact stops) a b e
+pub said_left : {V E : Type 0} (exact : Bool) (stops : StopsAt) {e : DecodeError E} {a b : View}
+    → Moves {V = V} a b (Err e) → (IsTrue exact → Stops stops a b e)
+    → Stops (said exact stops) a b e
 said_left true stops m s = stopped_as stops (said true stops) (λ xs budget z ys h is. h) (s refl)
-said_left false stops m s = stopped_as unsaid_stops (said false stops) (λ xs budget z ys h is. not_exact is) (unsaid_left m)
+said_left false stops m s =
+    stopped_as unsaid_stops (said false stops) (λ xs budget z ys h is. not_exact is) (unsaid_left m)
 
-pub said_stops : {V E : Type 0} (exact : Bool) (stops : StopsAt) (r : Result V (Typed E)) {a b : View} → Moves a b (answer_of r) → (IsTrue exact → IfErr r (λ e. Stops stops a b (as_core e))) → IfErr r (λ e. Stops (said exact stops) a b (as_core e))
+pub said_stops : {V E : Type 0} (exact : Bool) (stops : StopsAt) (r : Result V (Typed E))
+    {a b : View} → Moves a b (answer_of r)
+    → (IsTrue exact → IfErr r (λ e. Stops stops a b (as_core e)))
+    → IfErr r (λ e. Stops (said exact stops) a b (as_core e))
 said_stops exact stops (Ok v) m s = tt
 said_stops exact stops (Err e) m s = said_left exact stops m s
 
 -- ---- a head
 
 -- what stands behind a whole head is refused
-pub behind_stops : {V W E : Type 0} (reads : Reads V) (head stops : StopsAt) (r : Result W (Typed E)) (b : View) {a m : View} {v : V} → Kept a m → Sound reads a m v → IfErr r (λ e. Stops stops m b (as_core e)) → IfErr r (λ e. Stops (StopsPair reads head stops) a b (as_core e))
+pub behind_stops : {V W E : Type 0} (reads : Reads V) (head stops : StopsAt)
+    (r : Result W (Typed E)) (b : View) {a m : View} {v : V} → Kept a m → Sound reads a m v
+    → IfErr r (λ e. Stops stops m b (as_core e))
+    → IfErr r (λ e. Stops (StopsPair reads head stops) a b (as_core e))
 behind_stops reads head stops (Ok w) b k h s = tt
 behind_stops reads head stops (Err e) b k h s = value_stops_pair reads head stops k h (λ xs told. s)
 
 -- ---- a step
 
 -- what is refused under the step that was taken
-pub step_stops : {V E : Type 0} (name : List ℕ) (stops : StopsAt) (r : Result V (Typed E)) {a b c d : View} → StepsIn a.budget b.budget true → KeepsAllButBudget a b → KeepsAllButBudget c d → IfErr r (λ e. Stops stops b c (as_core e)) → IfErr r (λ e. Stops (StopsStepped name stops) a d (as_core e))
+pub step_stops : {V E : Type 0} (name : List ℕ) (stops : StopsAt) (r : Result V (Typed E))
+    {a b c d : View} → StepsIn a.budget b.budget true → KeepsAllButBudget a b
+    → KeepsAllButBudget c d → IfErr r (λ e. Stops stops b c (as_core e))
+    → IfErr r (λ e. Stops (StopsStepped name stops) a d (as_core e))
 step_stops name stops (Ok v) takes inward outward s = tt
-step_stops name stops (Err e) takes inward outward s = stops_stepped name stops takes inward outward s
+step_stops name stops (Err e) takes inward outward s =
+    stops_stepped name stops takes inward outward s
 
 -- ---- a value that may be absent
 
-some_at : (stops : StopsAt) (b : ℕ) (xs : List ℕ) (budget : Option ℕ) (z : Refusal) (ys : List ℕ) → take 1 xs ≡ b ∷ [] → stops xs budget z ys → StopsOption stops xs budget z ys
+some_at : (stops : StopsAt) (b : ℕ) (xs : List ℕ) (budget : Option ℕ) (z : Refusal) (ys : List ℕ)
+    → take 1 xs ≡ b ∷ [] → stops xs budget z ys → StopsOption stops xs budget z ys
 some_at stops b [] budget z ys e h = cc
 some_at stops b (x ∷ xs) budget z ys e h = h
 
 -- behind the byte that was seen
-pub option_stops : {E : Type 0} (stops : StopsAt) {e : DecodeError E} {a m b : View} {first : ℕ} → Saw a m first → Stops stops m b e → Stops (StopsOption stops) a b e
+pub option_stops : {E : Type 0} (stops : StopsAt) {e : DecodeError E} {a m b : View} {first : ℕ}
+    → Saw a m first → Stops stops m b e → Stops (StopsOption stops) a b e
 option_stops stops {e = e} {a = a} {m = m} {b = b} {first = first} seen s = record {
   at = λ xs told.
       let f = seen.first xs told in
-      stops_as (refusal_of e) b.told (stops xs m.budget) (StopsOption stops xs a.budget) (λ z ys h. some_at stops first xs a.budget z ys f.1 (subst (λ k. stops xs k z ys) seen.budget h)) (s.at xs f.0);
+      stops_as (refusal_of e) b.told (stops xs m.budget) (StopsOption stops xs a.budget) (λ z ys h.
+      some_at stops first xs a.budget z ys f.1 (subst (λ k. stops xs k z ys) seen.budget h))
+      (s.at xs f.0);
 }
 
-none_at : (stops : StopsAt) (xs : List ℕ) (budget : Option ℕ) (z : Refusal) (ys : List ℕ) → StopsNext (codes "option") xs budget z ys → StopsOption stops xs budget z ys
+none_at : (stops : StopsAt) (xs : List ℕ) (budget : Option ℕ) (z : Refusal) (ys : List ℕ)
+    → StopsNext (codes "option") xs budget z ys → StopsOption stops xs budget z ys
 none_at stops [] budget z ys h = (h.1, h.2)
 none_at stops (x ∷ xs) budget z ys h = let no = h.0 in cc
 
-pub option_ended : {E : Type 0} (stops : StopsAt) {e : DecodeError E} {a b : View} → Stops (StopsNext (codes "option")) a b e → Stops (StopsOption stops) a b e
+pub option_ended : {E : Type 0} (stops : StopsAt) {e : DecodeError E} {a b : View}
+    → Stops (StopsNext (codes "option")) a b e → Stops (StopsOption stops) a b e
 option_ended stops s = stopped_as (StopsNext (codes "option")) (StopsOption stops) (none_at stops) s

@@ -1,5 +1,6 @@
 -- Strings that are borrowed from the input, read as those that may be.
-use Rattle.std.proofs.Common.{◌≡◌, ℕ, ◌<◌, ◌⊎◌, inl, inr, List, [], ◌∷◌, length, take, drop, Bool, true, false, Result, Ok, Err, refl, sym, ap, subst, IfOk, IfErr}
+use Rattle.std.proofs.Common.{◌≡◌, ℕ, ◌<◌, ◌⊎◌, inl, inr, List, [], ◌∷◌, length, take, drop, Bool}
+use Rattle.std.proofs.Common.{true, false, Result, Ok, Err, refl, sym, ap, subst, IfOk, IfErr}
 use Rattle.std.specs.Prelude.{OnOk, IsTrue, IsUtf8}
 use denote.Ref.{Bor}
 use Rattle.std.specs.declared.alloc.Global.{Global}
@@ -15,7 +16,8 @@ use Rattle.cbor4ii_rw.specs.declared.error.DecodeError.TheVariants.{RequireBorro
 use Rattle.cbor4ii_items.specs.Head.{open_head}
 use Rattle.cbor4ii_items.specs.Refusal.{refusal_of, require_borrowed}
 use Rattle.cbor4ii_items.specs.Moves.{Moves}
-use Rattle.cbor4ii_items.specs.Cow.{BorrowsWhereCounted, cow_text, cow_bytes, IsBorrowedBytes, IsOwnedBytes}
+use Rattle.cbor4ii_items.specs.Cow.{BorrowsWhereCounted, cow_text, cow_bytes, IsBorrowedBytes}
+use Rattle.cbor4ii_items.specs.Cow.{IsOwnedBytes}
 use Rattle.cbor4ii_items.specs.Strings.{ReadsCountedString, ReadsAs, ReadsTextAs}
 use Rattle.cbor4ii_items.specs.Decoding.{Reads, StopsAt, IsExact, Sound, Refuses, Stops}
 use Rattle.cbor4ii_items.specs.Lent.{ReadsLent, lent_str, lent_bytes}
@@ -28,64 +30,111 @@ use Rattle.cbor4ii.specs.Borrowed.{Borrows, LacksLoan, StopsUnlent}
 use Rattle.cbor4ii.specs.Typed.{as_core, answer_of, not_exact}
 use Rattle.cbor4ii.proofs.Stopped.{stopped_as}
 
-pub unlent : {V W E : Type 0} {a b : View} {v : V} (found : Bor (List ℕ)) → Moves {E = E} a b (Ok v) → Moves {V = W} {E = E} a b (Err (RequireBorrowed found))
+pub unlent : {V W E : Type 0} {a b : View} {v : V} (found : Bor (List ℕ)) → Moves {E = E} a b (Ok v)
+    → Moves {V = W} {E = E} a b (Err (RequireBorrowed found))
 unlent found m = record { by = m.by; depth = λ e. refl }
 
 pub lends_of : (a : View) → IsExact false a → IsTrue a.lends_whole
 lends_of a (inl is) = let never : false ≡ true = is in cc
 lends_of a (inr h) = h.0
 
-lent_at : {V W : Type 0} (content : V → List ℕ) (lent : W → List ℕ) (IsBorrowed IsOwned : V → Type 0) (reads : Reads V) (major : ℕ) (is_text : Bool) → ((xs : List ℕ) (v : V) (w : W) (n c : ℕ) → content v ≡ lent w → reads xs v n c → ReadsLent major is_text lent xs w n c ⊎ (take 1 xs ≡ open_head major ∷ []))
-    → ((v : V) → IsBorrowed v → IsOwned v → ⊥) → {a b : View} {v : V} {w : W} → IsBorrowed v → content v ≡ lent w → Sound reads a b v → BorrowsWhereCounted major IsBorrowed IsOwned a v → Sound (ReadsLent major is_text lent) a b w
-lent_at content lent IsBorrowed IsOwned reads major is_text counted apart {v = v} {w = w} borrowed same s k = record {
-  at = λ xs told.
-      let p = s.at xs told in
-      elim (counted xs v w p.count p.cost same p.read) [
-        | inl r ↦ record { count = p.count; cost = p.cost; read = r; fits = p.fits; left = p.left }
-        | inr is_open ↦ absurd (apart v borrowed (k.indefinite xs told is_open))
-      ];
-}
+lent_at : {V W : Type 0} (content : V → List ℕ) (lent : W → List ℕ)
+    (IsBorrowed IsOwned : V → Type 0) (reads : Reads V) (major : ℕ) (is_text : Bool)
+    → ((xs : List ℕ) (v : V) (w : W) (n c : ℕ) → content v ≡ lent w → reads xs v n c
+    → ReadsLent major is_text lent xs w n c ⊎ (take 1 xs ≡ open_head major ∷ []))
+    → ((v : V) → IsBorrowed v → IsOwned v → ⊥) → {a b : View} {v : V} {w : W} → IsBorrowed v
+    → content v ≡ lent w → Sound reads a b v → BorrowsWhereCounted major IsBorrowed IsOwned a v
+    → Sound (ReadsLent major is_text lent) a b w
+lent_at content lent IsBorrowed IsOwned reads major is_text counted apart {v = v}
+    {w = w} borrowed same s k = record {
+      at = λ xs told.
+          let p = s.at xs told in
+          elim (counted xs v w p.count p.cost same p.read) [
+            | inl r ↦
+                record { count = p.count; cost = p.cost; read = r; fits = p.fits; left = p.left }
+            | inr is_open ↦ absurd (apart v borrowed (k.indefinite xs told is_open))
+          ];
+    }
 
-pub unlent_stops : {V E : Type 0} (name : List ℕ) (reads : Reads V) (stops : StopsAt) (e : CoreError E) {a b : View} {v : V} → LacksLoan name e → Sound reads a b v → Stops (StopsUnlent name reads stops) a b e
+pub unlent_stops : {V E : Type 0} (name : List ℕ) (reads : Reads V) (stops : StopsAt)
+    (e : CoreError E) {a b : View} {v : V} → LacksLoan name e → Sound reads a b v
+    → Stops (StopsUnlent name reads stops) a b e
 unlent_stops name reads stops e {a = a} {b = b} {v = v} lacks s =
     let at : Stops (StopsUnlent name reads stops) a b (RequireBorrowed lacks.0) = record {
-      at = λ xs told. (let p = s.at xs told in (drop p.count xs, p.left, inr (v, p.count, p.cost, p.read, p.fits, ap require_borrowed lacks.2, refl)));
+      at = λ xs told. (let p = s.at xs told in (
+        drop p.count xs,
+        p.left,
+        inr (v, p.count, p.cost, p.read, p.fits, ap require_borrowed lacks.2, refl),
+      ));
     } in
     subst (Stops (StopsUnlent name reads stops) a b) (sym lacks.1) at
 
-module _ {V W E : Type 0} (content : V → List ℕ) (lent : W → List ℕ) (IsBorrowed IsOwned : V → Type 0) (name : List ℕ) where
-  pub lent_moves : (r : Result V (CoreError E)) (q : Result W (DecodeError E)) (a b : View) → Borrows content lent IsBorrowed IsOwned name r q → Moves a b r → Moves a b (answer_of q)
+module _ {V W E : Type 0} (content : V → List ℕ) (lent : W → List ℕ)
+    (IsBorrowed IsOwned : V → Type 0) (name : List ℕ) where
+  pub lent_moves : (r : Result V (CoreError E)) (q : Result W (DecodeError E)) (a b : View)
+      → Borrows content lent IsBorrowed IsOwned name r q → Moves a b r → Moves a b (answer_of q)
   lent_moves (Ok v) (Ok w) a b h m = moves_ok m
   lent_moves (Err f) (Ok w) a b h m = absurd h.handed
-  lent_moves (Ok v) (Err e) a b h m = let k = h.refused in subst (λ z. Moves {V = W} a b (Err z)) (sym k.1.1) (unlent k.1.0 m)
-  lent_moves (Err f) (Err e) a b h m = subst (λ z. Moves {V = W} a b (Err z)) (sym h.refused) (moves_err m)
+  lent_moves (Ok v) (Err e) a b h m =
+      let k = h.refused in subst (λ z. Moves {V = W} a b (Err z)) (sym k.1.1) (unlent k.1.0 m)
+  lent_moves (Err f) (Err e) a b h m =
+      subst (λ z. Moves {V = W} a b (Err z)) (sym h.refused) (moves_err m)
 
-  pub lent_progress : (r : Result V (CoreError E)) (q : Result W (DecodeError E)) (P : Type 0) → Borrows content lent IsBorrowed IsOwned name r q → OnOk r P → OnOk q P
+  pub lent_progress : (r : Result V (CoreError E)) (q : Result W (DecodeError E)) (P : Type 0)
+      → Borrows content lent IsBorrowed IsOwned name r q → OnOk r P → OnOk q P
   lent_progress (Ok v) (Ok w) P h p = p
   lent_progress (Err f) (Ok w) P h p = absurd h.handed
   lent_progress r (Err e) P h p = tt
 
-  pub lent_stops : (reads : Reads V) (stops : StopsAt) (r : Result V (CoreError E)) (q : Result W (DecodeError E)) (a b : View) → Borrows content lent IsBorrowed IsOwned name r q → IfOk r (Sound reads a b) → IfErr r (Stops stops a b) → IfErr q (λ e. Stops (StopsUnlent name reads stops) a b (as_core e))
+  pub lent_stops : (reads : Reads V) (stops : StopsAt) (r : Result V (CoreError E))
+      (q : Result W (DecodeError E)) (a b : View) → Borrows content lent IsBorrowed IsOwned name r q
+      → IfOk r (Sound reads a b) → IfErr r (Stops stops a b)
+      → IfErr q (λ e. Stops (StopsUnlent name reads stops) a b (as_core e))
   lent_stops reads stops r (Ok w) a b h s k = tt
-  lent_stops reads stops (Ok v) (Err e) a b h s k = unlent_stops name reads stops (as_core e) h.refused.1 s
-  lent_stops reads stops (Err f) (Err e) a b h s k = subst (Stops (StopsUnlent name reads stops) a b) (sym h.refused) (stopped_as stops (StopsUnlent name reads stops) (λ xs budget z ys t. inl t) k)
+  lent_stops reads stops (Ok v) (Err e) a b h s k =
+      unlent_stops name reads stops (as_core e) h.refused.1 s
+  lent_stops reads stops (Err f) (Err e) a b h s k =
+      subst (Stops (StopsUnlent name reads stops) a b) (sym h.refused)
+      (stopped_as stops (StopsUnlent name reads stops) (λ xs budget z ys t. inl t) k)
 
-  module _ (reads : Reads V) (major : ℕ) (is_text : Bool) (counted : (xs : List ℕ) (v : V) (w : W) (n c : ℕ) → content v ≡ lent w → reads xs v n c → ReadsLent major is_text lent xs w n c ⊎ (take 1 xs ≡ open_head major ∷ [])) where
-    pub lent_sound : (apart : (v : V) → IsBorrowed v → IsOwned v → ⊥) (r : Result V (CoreError E)) (q : Result W (DecodeError E)) (a b : View) → Borrows content lent IsBorrowed IsOwned name r q → IfOk r (Sound reads a b) → IfOk r (BorrowsWhereCounted major IsBorrowed IsOwned a) → IfOk q (Sound (ReadsLent major is_text lent) a b)
-    lent_sound apart (Ok v) (Ok w) a b h s k = let t = h.handed in lent_at content lent IsBorrowed IsOwned reads major is_text counted apart t.0 t.1 s k
+  module _ (reads : Reads V) (major : ℕ) (is_text : Bool)
+      (counted : (xs : List ℕ) (v : V) (w : W) (n c : ℕ) → content v ≡ lent w → reads xs v n c
+      → ReadsLent major is_text lent xs w n c ⊎ (take 1 xs ≡ open_head major ∷ [])) where
+    pub lent_sound : (apart : (v : V) → IsBorrowed v → IsOwned v → ⊥) (r : Result V (CoreError E))
+        (q : Result W (DecodeError E)) (a b : View)
+        → Borrows content lent IsBorrowed IsOwned name r q → IfOk r (Sound reads a b)
+        → IfOk r (BorrowsWhereCounted major IsBorrowed IsOwned a)
+        → IfOk q (Sound (ReadsLent major is_text lent) a b)
+    lent_sound apart (Ok v) (Ok w) a b h s k =
+        let t = h.handed in
+        lent_at content lent IsBorrowed IsOwned reads major is_text counted apart t.0 t.1 s k
     lent_sound apart (Err f) (Ok w) a b h s k = absurd h.handed
     lent_sound apart r (Err e) a b h s k = tt
 
-    owned_at : major < 8 → (apart : (v : V) → IsBorrowed v → IsOwned v → ⊥) {a : View} {v : V} (e : CoreError E) → IsOwned v → IsTrue a.lends_whole → BorrowsWhereCounted major IsBorrowed IsOwned a v → Refuses (ReadsLent major is_text lent) a e
+    owned_at : major < 8
+        → (apart : (v : V) → IsBorrowed v → IsOwned v → ⊥) {a : View} {v : V} (e : CoreError E)
+        → IsOwned v → IsTrue a.lends_whole → BorrowsWhereCounted major IsBorrowed IsOwned a v
+        → Refuses (ReadsLent major is_text lent) a e
     owned_at small apart {v = v} e owned lends k = record {
-      at = λ xs told. always (refusal_of e) (λ w n c r fits. apart v (k.counted lends xs told (λ is_open. head_not_open major xs (length (lent w)) r.0.before small r.0.head is_open)) owned);
+      at = λ xs told. always (refusal_of e)
+          (λ w n c r fits. apart v (k.counted lends xs told (λ is_open.
+          head_not_open major xs (length (lent w)) r.0.before small r.0.head is_open)) owned);
     }
 
-    pub lent_refuses : major < 8 → (apart : (v : V) → IsBorrowed v → IsOwned v → ⊥) (back : W → V) (spelled : (xs : List ℕ) (w : W) (n c : ℕ) → ReadsLent major is_text lent xs w n c → reads xs (back w) n c)
-        → (r : Result V (CoreError E)) (q : Result W (DecodeError E)) (a : View) → Borrows content lent IsBorrowed IsOwned name r q → IfErr r (Refuses reads a) → IfOk r (BorrowsWhereCounted major IsBorrowed IsOwned a) → IsExact false a → IfErr q (λ e. Refuses (ReadsLent major is_text lent) a (as_core e))
+    pub lent_refuses : major < 8 → (apart : (v : V) → IsBorrowed v → IsOwned v → ⊥) (back : W → V)
+        (spelled : (xs : List ℕ) (w : W) (n c : ℕ) → ReadsLent major is_text lent xs w n c
+        → reads xs (back w) n c)
+        → (r : Result V (CoreError E)) (q : Result W (DecodeError E)) (a : View)
+        → Borrows content lent IsBorrowed IsOwned name r q → IfErr r (Refuses reads a)
+        → IfOk r (BorrowsWhereCounted major IsBorrowed IsOwned a) → IsExact false a
+        → IfErr q (λ e. Refuses (ReadsLent major is_text lent) a (as_core e))
     lent_refuses small apart back spelled r (Ok w) a h s k exact = tt
-    lent_refuses small apart back spelled (Ok v) (Err e) a h s k exact = owned_at small apart (as_core e) h.refused.0 (lends_of a exact) k
-    lent_refuses small apart back spelled (Err f) (Err e) a h s k exact = subst (Refuses (ReadsLent major is_text lent) a) (sym h.refused) (refuses_as reads (ReadsLent major is_text lent) (λ xs budget none w n c r fits. none (back w) n c (spelled xs w n c r) fits) s)
+    lent_refuses small apart back spelled (Ok v) (Err e) a h s k exact =
+        owned_at small apart (as_core e) h.refused.0 (lends_of a exact) k
+    lent_refuses small apart back spelled (Err f) (Err e) a h s k exact =
+        subst (Refuses (ReadsLent major is_text lent) a) (sym h.refused)
+        (refuses_as reads (ReadsLent major is_text lent)
+        (λ xs budget none w n c r fits. none (back w) n c (spelled xs w n c r) fits) s)
 
 -- ---- texts
 
@@ -93,16 +142,20 @@ pub text_apart : (v : CowStr Global) → IsBorrowedStr v → IsOwnedStr v → �
 text_apart (text.Borrowed t) b o = o
 text_apart (text.Owned t) b o = b
 
-pub text_counted : (xs : List ℕ) (v : CowStr Global) (w : Bor (List ℕ)) (n c : ℕ) → cow_text v ≡ lent_str w → ReadsTextAs cow_text xs v n c → ReadsLent 3 true lent_str xs w n c ⊎ (take 1 xs ≡ open_head 3 ∷ [])
+pub text_counted : (xs : List ℕ) (v : CowStr Global) (w : Bor (List ℕ)) (n c : ℕ)
+    → cow_text v ≡ lent_str w → ReadsTextAs cow_text xs v n c
+    → ReadsLent 3 true lent_str xs w n c ⊎ (take 1 xs ≡ open_head 3 ∷ [])
 text_counted xs v w n c same r = elim r.0 [
-  | inl s ↦ inl (subst (λ z. ReadsCountedString 3 xs z n) same s.0, s.1, (λ is. subst IsUtf8 same r.1))
+  | inl s ↦
+      inl (subst (λ z. ReadsCountedString 3 xs z n) same s.0, s.1, (λ is. subst IsUtf8 same r.1))
   | inr s ↦ inr s.begins
 ]
 
 abbrev pub text_lent : Bor (List ℕ) → CowStr Global
 text_lent w = text.Borrowed w
 
-pub text_spelled : (xs : List ℕ) (w : Bor (List ℕ)) (n c : ℕ) → ReadsLent 3 true lent_str xs w n c → ReadsTextAs cow_text xs (text_lent w) n c
+pub text_spelled : (xs : List ℕ) (w : Bor (List ℕ)) (n c : ℕ) → ReadsLent 3 true lent_str xs w n c
+    → ReadsTextAs cow_text xs (text_lent w) n c
 text_spelled xs w n c r = (inl (r.0, r.1), r.2 refl)
 
 -- ---- byte strings
@@ -114,7 +167,9 @@ slice_apart (slice.Owned t) b o = b
 pub bytes_apart : (v : Bytes (CowSlice ℕ Global)) → IsBorrowedBytes v → IsOwnedBytes v → ⊥
 bytes_apart v b o = slice_apart v.0 b o
 
-pub bytes_counted : (xs : List ℕ) (v : Bytes (CowSlice ℕ Global)) (w : Bytes (Bor (List ℕ))) (n c : ℕ) → cow_bytes v ≡ lent_bytes w → ReadsAs 2 cow_bytes xs v n c → ReadsLent 2 false lent_bytes xs w n c ⊎ (take 1 xs ≡ open_head 2 ∷ [])
+pub bytes_counted : (xs : List ℕ) (v : Bytes (CowSlice ℕ Global)) (w : Bytes (Bor (List ℕ)))
+    (n c : ℕ) → cow_bytes v ≡ lent_bytes w → ReadsAs 2 cow_bytes xs v n c
+    → ReadsLent 2 false lent_bytes xs w n c ⊎ (take 1 xs ≡ open_head 2 ∷ [])
 bytes_counted xs v w n c same r = elim r [
   | inl s ↦ inl (subst (λ z. ReadsCountedString 2 xs z n) same s.0, s.1, not_exact)
   | inr s ↦ inr s.begins
@@ -123,5 +178,6 @@ bytes_counted xs v w n c same r = elim r [
 abbrev pub bytes_lent : Bytes (Bor (List ℕ)) → Bytes (CowSlice ℕ Global)
 bytes_lent w = record { 0 = slice.Borrowed w.0 }
 
-pub bytes_spelled : (xs : List ℕ) (w : Bytes (Bor (List ℕ))) (n c : ℕ) → ReadsLent 2 false lent_bytes xs w n c → ReadsAs 2 cow_bytes xs (bytes_lent w) n c
+pub bytes_spelled : (xs : List ℕ) (w : Bytes (Bor (List ℕ))) (n c : ℕ)
+    → ReadsLent 2 false lent_bytes xs w n c → ReadsAs 2 cow_bytes xs (bytes_lent w) n c
 bytes_spelled xs w n c r = inl (r.0, r.1)

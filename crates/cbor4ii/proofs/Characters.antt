@@ -1,5 +1,6 @@
 -- A text's only character.
-use Rattle.std.proofs.Common.{◌≡◌, ℕ, ◌<◌, ◌≤◌, ◌^◌, List, [], ◌++◌, length, drop, Ok, Err, refl, sym, ap, ◌∙◌, subst, arith, IsUtf8, length-append, encode_utf8}
+use Rattle.std.proofs.Common.{◌≡◌, ℕ, ◌<◌, ◌≤◌, ◌^◌, List, [], ◌++◌, length, drop, Ok, Err, refl}
+use Rattle.std.proofs.Common.{sym, ap, ◌∙◌, subst, arith, IsUtf8, length-append, encode_utf8}
 use denote.RawPtr.{null_ptr}
 use denote.Ref.{Bor}
 use Rattle.std.specs.Prelude.{codes}
@@ -31,41 +32,78 @@ few_bytes c = omega (arith, length-encode c, (len_utf8_bounds c).1)
 pub no_character : (text : List ℕ) → length text ≡ 0 → NoCharacter text
 no_character text none c e = absurd (omega (arith, none, ap length e, some_bytes c))
 
-pub two_characters : (text middle rest : List ℕ) (c d : ℕ) → text ≡ encode_utf8 c ++ middle → middle ≡ encode_utf8 d ++ rest → NoCharacter text
+pub two_characters : (text middle rest : List ℕ) (c d : ℕ) → text ≡ encode_utf8 c ++ middle
+    → middle ≡ encode_utf8 d ++ rest → NoCharacter text
 two_characters text middle rest c d e f only is =
     let same = encode_same only c [] middle (append-nil (encode_utf8 only) ∙ (sym is ∙ e)) in
-    absurd (omega (arith, ap length same.1, ap length f, length-append (encode_utf8 d) rest, some_bytes d))
+    absurd (omega (
+      arith,
+      ap length same.1,
+      ap length f,
+      length-append (encode_utf8 d) rest,
+      some_bytes d,
+    ))
 
 -- ---- what is answered
 
-pub char_sound : {a b : View} {text : String Global} {c : ℕ} → text_content text ≡ encode_utf8 c → Sound (ReadsTextAs text_content) a b text → Sound ReadsChar a b c
+pub char_sound : {a b : View} {text : String Global} {c : ℕ} → text_content text ≡ encode_utf8 c
+    → Sound (ReadsTextAs text_content) a b text → Sound ReadsChar a b c
 char_sound is s = record {
-  at = λ xs told. (let p = s.at xs told in record { count = p.count; cost = p.cost; read = subst (λ zs. ReadsText xs zs p.count p.cost) is p.read; fits = p.fits; left = p.left });
+  at = λ xs told. (let p = s.at xs told in record {
+    count = p.count;
+    cost = p.cost;
+    read =
+        subst (λ zs. ReadsText xs zs p.count p.cost) is p.read;
+    fits = p.fits;
+    left = p.left;
+  });
 }
 
 -- the text of one character
 abbrev text_of : Global → (c : ℕ) → IsUtf8 (encode_utf8 c) → String Global
 text_of alloc c utf8 = record {
-  bytes = record { ptr = null_ptr; len = length (encode_utf8 c); cap = length (encode_utf8 c); alloc = alloc; items = encode_utf8 c; ok = (refl, omega arith); small = few_bytes c };
+  bytes = record {
+    ptr = null_ptr;
+    len = length (encode_utf8 c);
+    cap = length (encode_utf8 c);
+    alloc = alloc;
+    items = encode_utf8 c;
+    ok = (refl, omega arith);
+    small = few_bytes c;
+  };
   ok = ∣ utf8 ∣₁;
 }
 
-pub char_refuses : {E : Type 0} {a : View} {e : DecodeError E} → Global → Refuses (ReadsTextAs text_content) a e → Refuses ReadsChar a e
-char_refuses alloc s = refuses_as (ReadsTextAs text_content) ReadsChar (λ xs budget none c n k r fits. none (text_of alloc c r.1) n k r fits) s
+pub char_refuses : {E : Type 0} {a : View} {e : DecodeError E} → Global
+    → Refuses (ReadsTextAs text_content) a e → Refuses ReadsChar a e
+char_refuses alloc s =
+    refuses_as (ReadsTextAs text_content) ReadsChar
+    (λ xs budget none c n k r fits. none (text_of alloc c r.1) n k r fits) s
 
-pub char_stops : {E : Type 0} {a b : View} {e : DecodeError E} → Stops (StopsText (codes "str")) a b e → Stops StopsChar a b e
+pub char_stops : {E : Type 0} {a b : View} {e : DecodeError E}
+    → Stops (StopsText (codes "str")) a b e → Stops StopsChar a b e
 char_stops s = stopped_as (StopsText (codes "str")) StopsChar (λ xs budget z ys h. no_text h) s
 
-module _ {E : Type 0} {a b : View} {text : String Global} (name : Bor (List ℕ)) (none : NoCharacter (text_content text)) where
-  pub other_moves : {V : Type 0} → Moves {E = E} a b (Ok text) → Moves {V = V} {E = E} a b (Err (Custom name no_number))
+module _ {E : Type 0} {a b : View} {text : String Global} (name : Bor (List ℕ))
+    (none : NoCharacter (text_content text)) where
+  pub other_moves : {V : Type 0} → Moves {E = E} a b (Ok text)
+      → Moves {V = V} {E = E} a b (Err (Custom name no_number))
   other_moves m = record { by = m.by; depth = λ e. refl }
 
-  pub other_refuses : Sound (ReadsTextAs text_content) a b text → Refuses {E = E} ReadsChar a (Custom name no_number)
+  pub other_refuses : Sound (ReadsTextAs text_content) a b text
+      → Refuses {E = E} ReadsChar a (Custom name no_number)
   other_refuses s = record {
-    at = λ xs told c n k r fits. (let p = s.at xs told in none c (text_one (λ zs. zs) xs (text_content text) (encode_utf8 c) p.count n p.cost k p.read r).2);
+    at = λ xs told c n k r fits. (let p = s.at xs told in none c (text_one (λ zs. zs) xs
+        (text_content text) (encode_utf8 c) p.count n p.cost k p.read r).2);
   }
 
-  pub other_stops : name.now ≡ codes "expected one character" → Sound (ReadsTextAs text_content) a b text → Stops {E = E} StopsChar a b (Custom name no_number)
+  pub other_stops : name.now ≡ codes "expected one character"
+      → Sound (ReadsTextAs text_content) a b text
+      → Stops {E = E} StopsChar a b (Custom name no_number)
   other_stops named s = record {
-    at = λ xs told. (let p = s.at xs told in (drop p.count xs, p.left, rw named (not_one (text_content text) p.count p.cost p.read p.fits none refl refl)));
+    at = λ xs told. (let p = s.at xs told in (
+      drop p.count xs,
+      p.left,
+      rw named (not_one (text_content text) p.count p.cost p.read p.fits none refl refl),
+    ));
   }

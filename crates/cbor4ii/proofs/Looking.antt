@@ -1,5 +1,6 @@
 -- The byte that comes next, looked at and then taken.
-use Rattle.std.proofs.Common.{◌≡◌, ◌≢◌, ◌⊎◌, inl, inr, ℕ, ◌<◌, ◌≤◌, List, [], ◌∷◌, length, take, drop, Option, Some, None, Ok, refl, sym, ap, ◌∙◌, subst, arith}
+use Rattle.std.proofs.Common.{◌≡◌, ◌≢◌, ◌⊎◌, inl, inr, ℕ, ◌<◌, ◌≤◌, List, [], ◌∷◌, length, take}
+use Rattle.std.proofs.Common.{drop, Option, Some, None, Ok, refl, sym, ap, ◌∙◌, subst, arith}
 use Rattle.std.specs.Prelude.{codes}
 use Rattle.cbor4ii_rw.specs.View.{View, Told}
 use Rattle.cbor4ii_rw.specs.Reader.{Advances}
@@ -18,14 +19,17 @@ peeks : (name : List ℕ) (b : ℕ) (xs : List ℕ) → take 1 xs ≡ b ∷ [] �
 peeks name b [] e = cc
 peeks name b (x ∷ xs) e = let is : x ≡ b = cc in ap (λ z. Ok (z, x ∷ xs)) is
 
-next_runs : {E : Type 0} (name : List ℕ) {b : ℕ} {a m : View} → Moves {E = E} a m (Ok b) → Sound ReadsNext a m b → Runs {E = E} (peek_at name 1) a m (Ok b)
+next_runs : {E : Type 0} (name : List ℕ) {b : ℕ} {a m : View} → Moves {E = E} a m (Ok b)
+    → Sound ReadsNext a m b → Runs {E = E} (peek_at name 1) a m (Ok b)
 next_runs name {b = b} m s = record {
   moves = m;
-  answers = λ xs told. (let p = s.at xs told in (xs, p.left ∙ ap (λ n. Some (drop n xs)) p.read.1, peeks name b xs p.read.0));
+  answers = λ xs told. (let p = s.at xs told in
+      (xs, p.left ∙ ap (λ n. Some (drop n xs)) p.read.1, peeks name b xs p.read.0));
 }
 
 -- it was taken
-pub kept_next : {E : Type 0} {b : ℕ} {a m c : View} → Moves {E = E} a m (Ok b) → Sound ReadsNext a m b → b < 256 → Advances 1 m c → Kept a c
+pub kept_next : {E : Type 0} {b : ℕ} {a m c : View} → Moves {E = E} a m (Ok b)
+    → Sound ReadsNext a m b → b < 256 → Advances 1 m c → Kept a c
 kept_next m s byte adv = kept_taken (next_runs (codes "") m s) byte adv
 
 -- what a call saw of the next byte, which stayed
@@ -33,43 +37,68 @@ pub record Saw (a m : View) (b : ℕ) : Type 0 where
   pub first : Told a.told (λ xs. (m.told ≡ Some xs) × (take 1 xs ≡ b ∷ []) × (1 ≤ length xs))
   pub budget : m.budget ≡ a.budget
 
-pub saw : {E : Type 0} {b : ℕ} {a m : View} → Moves {E = E} a m (Ok b) → Sound ReadsNext a m b → Saw a m b
+pub saw : {E : Type 0} {b : ℕ} {a m : View} → Moves {E = E} a m (Ok b) → Sound ReadsNext a m b
+    → Saw a m b
 saw {b = b} m s = record {
-  first = λ xs told. (let p = s.at xs told in (p.left ∙ ap (λ n. Some (drop n xs)) p.read.1, p.read.0, one_there xs b p.read.0));
+  first = λ xs told. (let p = s.at xs told in
+      (p.left ∙ ap (λ n. Some (drop n xs)) p.read.1, p.read.0, one_there xs b p.read.0));
   budget = m.by.budget;
 }
 
 -- ---- a value or none
 
 pub not_null : (xs : List ℕ) (b : ℕ) → take 1 xs ≡ b ∷ [] → b ≢ 0xf6 → b ≢ 0xf7 → BeginsNull xs → ⊥
-not_null xs b e p q h = elim h [ inl f ↦ (let g : b ≡ 0xf6 = cc in p g) | inr f ↦ (let g : b ≡ 0xf7 = cc in q g) ]
+not_null xs b e p q h =
+    elim h [ inl f ↦ (let g : b ≡ 0xf6 = cc in p g) | inr f ↦ (let g : b ≡ 0xf7 = cc in q g) ]
 
-pub some_sound : {V : Type 0} (reads : Reads V) {a m b : View} {v : V} {first : ℕ} → Saw a m first → first ≢ 0xf6 → first ≢ 0xf7 → Sound reads m b v → Sound (ReadsOption reads) a b (Some v)
+pub some_sound : {V : Type 0} (reads : Reads V) {a m b : View} {v : V} {first : ℕ} → Saw a m first
+    → first ≢ 0xf6 → first ≢ 0xf7 → Sound reads m b v → Sound (ReadsOption reads) a b (Some v)
 some_sound reads {first = first} s p q h = record {
   at = λ xs told.
       let f = s.first xs told in
       let t = h.at xs f.0 in
-      record { count = t.count; cost = t.cost; read = (not_null xs first f.1 p q, f.2, t.read); fits = subst (CostFits t.cost) s.budget t.fits; left = t.left };
+      record {
+        count = t.count;
+        cost = t.cost;
+        read = (not_null xs first f.1 p q, f.2, t.read);
+        fits = subst (CostFits t.cost) s.budget t.fits;
+        left = t.left;
+      };
 }
 
-pub begins_null : (xs : List ℕ) (b : ℕ) → take 1 xs ≡ b ∷ [] → (b ≡ 0xf6) ⊎ (b ≡ 0xf7) → BeginsNull xs
+pub begins_null : (xs : List ℕ) (b : ℕ) → take 1 xs ≡ b ∷ [] → (b ≡ 0xf6) ⊎ (b ≡ 0xf7)
+    → BeginsNull xs
 begins_null xs b e (inl is) = inl (e ∙ ap (λ z. z ∷ []) is)
 begins_null xs b e (inr is) = inr (e ∙ ap (λ z. z ∷ []) is)
 
-pub null_sound : {V : Type 0} (reads : Reads V) {a m c : View} {b : ℕ} → Saw a m b → (b ≡ 0xf6) ⊎ (b ≡ 0xf7) → Advances 1 m c → Sound (ReadsOption reads) a c None
+pub null_sound : {V : Type 0} (reads : Reads V) {a m c : View} {b : ℕ} → Saw a m b
+    → (b ≡ 0xf6) ⊎ (b ≡ 0xf7) → Advances 1 m c → Sound (ReadsOption reads) a c None
 null_sound reads {a = a} {b = b} s is adv = record {
-  at = λ xs told. (let f = s.first xs told in record { count = 1; cost = 0; read = (begins_null xs b f.1 is, refl, refl); fits = fits_zero a.budget; left = adv.told xs f.0 });
+  at = λ xs told. (let f = s.first xs told in
+      record {
+        count = 1;
+        cost = 0;
+        read = (begins_null xs b f.1 is, refl, refl);
+        fits = fits_zero a.budget;
+        left = adv.told xs f.0;
+      });
 }
 
-no_some : {V : Type 0} (reads : Reads V) (xs : List ℕ) (old new : Option ℕ) → old ≡ new → (BeginsNull xs → ⊥) → NoneRead reads xs old → (o : Option V) (k c : ℕ) → ReadsOption reads xs o k c → CostFits c new → ⊥
+no_some : {V : Type 0} (reads : Reads V) (xs : List ℕ) (old new : Option ℕ) → old ≡ new
+    → (BeginsNull xs → ⊥) → NoneRead reads xs old → (o : Option V) (k c : ℕ)
+    → ReadsOption reads xs o k c → CostFits c new → ⊥
 no_some reads xs old new e n h None k c r fits = n r.0
 no_some reads xs old new e n h (Some v) k c r fits = h v k c r.2 (subst (CostFits c) (sym e) fits)
 
-pub some_refuses : {V E : Type 0} (reads : Reads V) {a m : View} {e : DecodeError E} {first : ℕ} → Saw a m first → first ≢ 0xf6 → first ≢ 0xf7 → ((xs : List ℕ) → a.told ≡ Some xs → Refuses reads m e) → Refuses (ReadsOption reads) a e
+pub some_refuses : {V E : Type 0} (reads : Reads V) {a m : View} {e : DecodeError E} {first : ℕ}
+    → Saw a m first → first ≢ 0xf6 → first ≢ 0xf7
+    → ((xs : List ℕ) → a.told ≡ Some xs → Refuses reads m e) → Refuses (ReadsOption reads) a e
 some_refuses reads {a = a} {m = m} {e = e} {first = first} s p q h = record {
   at = λ xs told.
       let f = s.first xs told in
-      if_some (refusal_of e) (no_some reads xs m.budget a.budget s.budget (not_null xs first f.1 p q)) ((h xs told).at xs f.0);
+      if_some (refusal_of e)
+      (no_some reads xs m.budget a.budget s.budget (not_null xs first f.1 p q))
+      ((h xs told).at xs f.0);
 }
 
 -- ---- no byte
@@ -78,12 +107,16 @@ none_first : (xs : List ℕ) (budget : Option ℕ) → NoneRead ReadsNext xs bud
 none_first [] budget none some = omega (arith, some)
 none_first (x ∷ xs) budget none some = none x 0 0 (refl, refl, refl) (fits_zero budget)
 
-pub none_begins : (xs : List ℕ) (b : ℕ) (budget : Option ℕ) → NoneRead ReadsNext xs budget → take 1 xs ≡ b ∷ [] → ⊥
+pub none_begins : (xs : List ℕ) (b : ℕ) (budget : Option ℕ) → NoneRead ReadsNext xs budget
+    → take 1 xs ≡ b ∷ [] → ⊥
 none_begins xs b budget none e = none b 0 0 (e, refl, refl) (fits_zero budget)
 
-none_option : {V : Type 0} (reads : Reads V) (xs : List ℕ) (budget : Option ℕ) → NoneRead ReadsNext xs budget → NoneRead (ReadsOption reads) xs budget
-none_option reads xs budget none None n c r fits = elim r.0 [ inl e ↦ none_begins xs 0xf6 budget none e | inr e ↦ none_begins xs 0xf7 budget none e ]
+none_option : {V : Type 0} (reads : Reads V) (xs : List ℕ) (budget : Option ℕ)
+    → NoneRead ReadsNext xs budget → NoneRead (ReadsOption reads) xs budget
+none_option reads xs budget none None n c r fits = elim r.0
+    [ inl e ↦ none_begins xs 0xf6 budget none e | inr e ↦ none_begins xs 0xf7 budget none e ]
 none_option reads xs budget none (Some v) n c r fits = none_first xs budget none r.1
 
-pub no_option : {V E : Type 0} (reads : Reads V) {a : View} {e : DecodeError E} → Refuses ReadsNext a e → Refuses (ReadsOption reads) a e
+pub no_option : {V E : Type 0} (reads : Reads V) {a : View} {e : DecodeError E}
+    → Refuses ReadsNext a e → Refuses (ReadsOption reads) a e
 no_option reads s = refuses_as ReadsNext (ReadsOption reads) (none_option reads) s

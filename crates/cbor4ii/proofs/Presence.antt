@@ -1,5 +1,6 @@
 -- Whether a value comes, and that value.
-use Rattle.std.proofs.Common.{◌≡◌, ◌≢◌, ◌⊎◌, inl, ℕ, ◌+◌, ◌≤◌, List, [], ◌∷◌, length, take, Option, Some, None, Bool, true, false, refl, sym, ap, ◌∙◌, subst, arith}
+use Rattle.std.proofs.Common.{◌≡◌, ◌≢◌, ◌⊎◌, inl, ℕ, ◌+◌, ◌≤◌, List, [], ◌∷◌, length, take, Option}
+use Rattle.std.proofs.Common.{Some, None, Bool, true, false, refl, sym, ap, ◌∙◌, subst, arith}
 use Rattle.std.specs.Prelude.{codes}
 use denote.Ref.{Bor}
 use Rattle.cbor4ii_rw.specs.View.{View}
@@ -10,20 +11,35 @@ use Rattle.cbor4ii_items.specs.Refusal.{Refusal, depth_overflow}
 use Rattle.cbor4ii_items.specs.Next.{StopsNext}
 use Rattle.cbor4ii_items.specs.Decoding.{Reads, CostFits, Sound, NoneRead, Refuses, Stops}
 use Rattle.cbor4ii_items.specs.Laws.Answering.{fits_zero, refuses_as}
-use Rattle.cbor4ii.specs.Optional.{ReadsPresence, StopsPresence, ReadsComing, ReadsValue}
+use Rattle.cbor4ii.specs.Optional.{ReadsPresence, StopsPresence, ReadsComing, ReadsComingValue}
 use Rattle.cbor4ii.proofs.Looking.{Saw, not_null, begins_null}
 use Rattle.cbor4ii.proofs.Stopped.{stopped_as}
 
 -- ---- whether it comes
 
-pub null_coming : {a m c : View} {b : ℕ} → Saw a m b → (b ≡ 0xf6) ⊎ (b ≡ 0xf7) → Advances 1 m c → Sound ReadsComing a c false
+pub null_coming : {a m c : View} {b : ℕ} → Saw a m b → (b ≡ 0xf6) ⊎ (b ≡ 0xf7) → Advances 1 m c
+    → Sound ReadsComing a c false
 null_coming {a = a} {b = b} s is adv = record {
-  at = λ xs told. (let f = s.first xs told in record { count = 1; cost = 0; read = (begins_null xs b f.1 is, refl, refl); fits = fits_zero a.budget; left = adv.told xs f.0 });
+  at = λ xs told. (let f = s.first xs told in
+      record {
+        count = 1;
+        cost = 0;
+        read = (begins_null xs b f.1 is, refl, refl);
+        fits = fits_zero a.budget;
+        left = adv.told xs f.0;
+      });
 }
 
-pub value_coming : {a m : View} {b : ℕ} → Saw a m b → b ≢ 0xf6 → b ≢ 0xf7 → Sound ReadsComing a m true
+pub value_coming : {a m : View} {b : ℕ} → Saw a m b → b ≢ 0xf6 → b ≢ 0xf7
+    → Sound ReadsComing a m true
 value_coming {a = a} {b = b} s p q = record {
-  at = λ xs told. (let f = s.first xs told in record { count = 0; cost = 0; read = (not_null xs b f.1 p q, f.2, refl, refl); fits = fits_zero a.budget; left = f.0 });
+  at = λ xs told. (let f = s.first xs told in record {
+    count = 0;
+    cost = 0;
+    read = (not_null xs b f.1 p q, f.2, refl, refl);
+    fits = fits_zero a.budget;
+    left = f.0;
+  });
 }
 
 -- where a value comes, none does not
@@ -40,42 +56,70 @@ over_none : (budget : Option ℕ) (c : ℕ) → budget ≡ Some 0 → CostFits (
 over_none None c e fits = cc
 over_none (Some left) c e fits = let z : left ≡ 0 = cc in omega (arith, z, fits)
 
-none_present : (xs : List ℕ) (b : ℕ) (budget : Option ℕ) → take 1 xs ≡ b ∷ [] → b ≢ 0xf6 → b ≢ 0xf7 → budget ≡ Some 0 → NoneRead ReadsPresence xs budget
+none_present : (xs : List ℕ) (b : ℕ) (budget : Option ℕ) → take 1 xs ≡ b ∷ [] → b ≢ 0xf6 → b ≢ 0xf7
+    → budget ≡ Some 0 → NoneRead ReadsPresence xs budget
 none_present xs b budget e p q zero None n c r fits = not_null xs b e p q r.0
-none_present xs b budget e p q zero (Some v) n c r fits = over_none budget r.2.0 zero (subst (λ k. CostFits k budget) r.2.2 fits)
+none_present xs b budget e p q zero (Some v) n c r fits =
+    over_none budget r.2.0 zero (subst (λ k. CostFits k budget) r.2.2 fits)
 
-pub no_step_refuses : {E : Type 0} {name : Bor (List ℕ)} {a m : View} {b : ℕ} (left : Option ℕ) → Saw a m b → b ≢ 0xf6 → b ≢ 0xf7 → StepsIn m.budget left false → Refuses {E = E} ReadsPresence a (DepthOverflow name)
+pub no_step_refuses : {E : Type 0} {name : Bor (List ℕ)} {a m : View} {b : ℕ} (left : Option ℕ)
+    → Saw a m b → b ≢ 0xf6 → b ≢ 0xf7 → StepsIn m.budget left false
+    → Refuses {E = E} ReadsPresence a (DepthOverflow name)
 no_step_refuses {a = a} {m = m} {b = b} left s p q none = record {
-  at = λ xs told. none_present xs b a.budget (s.first xs told).1 p q (sym s.budget ∙ (none_left m.budget left none).0);
+  at = λ xs told. none_present xs b a.budget (s.first xs told).1 p q
+      (sym s.budget ∙ (none_left m.budget left none).0);
 }
 
-stops_there : (name : Bor (List ℕ)) (xs : List ℕ) (budget : Option ℕ) → name.now ≡ codes "option" → 1 ≤ length xs → budget ≡ Some 0 → StopsPresence xs budget (depth_overflow name.now) xs
+stops_there : (name : Bor (List ℕ)) (xs : List ℕ) (budget : Option ℕ) → name.now ≡ codes "option"
+    → 1 ≤ length xs → budget ≡ Some 0 → StopsPresence xs budget (depth_overflow name.now) xs
 stops_there name [] budget named some zero = absurd (omega (arith, some))
 stops_there name (x ∷ xs) budget named some zero = inl (zero, ap depth_overflow named, refl)
 
-pub no_step_stops : {E : Type 0} {name : Bor (List ℕ)} {a m n : View} {b : ℕ} → name.now ≡ codes "option" → Saw a m b → StepsIn m.budget n.budget false → KeepsAllButBudget m n → Stops {E = E} StopsPresence a n (DepthOverflow name)
+pub no_step_stops : {E : Type 0} {name : Bor (List ℕ)} {a m n : View} {b : ℕ}
+    → name.now ≡ codes "option" → Saw a m b → StepsIn m.budget n.budget false
+    → KeepsAllButBudget m n → Stops {E = E} StopsPresence a n (DepthOverflow name)
 no_step_stops {name = name} {a = a} {m = m} {n = n} named s none k = record {
-  at = λ xs told. (let f = s.first xs told in (xs, k.told ∙ f.0, stops_there name xs a.budget named f.2 (sym s.budget ∙ (none_left m.budget n.budget none).0)));
+  at = λ xs told. (let f = s.first xs told in (
+    xs,
+    k.told ∙ f.0,
+    stops_there name xs a.budget named
+        f.2 (sym s.budget ∙ (none_left m.budget n.budget none).0),
+  ));
 }
 
 -- ---- no byte is left
 
-end_at : (xs : List ℕ) (budget : Option ℕ) (z : Refusal) (ys : List ℕ) → StopsNext (codes "option") xs budget z ys → StopsPresence xs budget z ys
+end_at : (xs : List ℕ) (budget : Option ℕ) (z : Refusal) (ys : List ℕ)
+    → StopsNext (codes "option") xs budget z ys → StopsPresence xs budget z ys
 end_at [] budget z ys h = (h.1, h.2)
 end_at (x ∷ xs) budget z ys h = let no = h.0 in cc
 
-pub presence_ended : {E : Type 0} {a m : View} {e : DecodeError E} → Stops (StopsNext (codes "option")) a m e → Stops StopsPresence a m e
+pub presence_ended : {E : Type 0} {a m : View} {e : DecodeError E}
+    → Stops (StopsNext (codes "option")) a m e → Stops StopsPresence a m e
 presence_ended s = stopped_as (StopsNext (codes "option")) StopsPresence end_at s
 
 -- ---- the value
 
-none_value : {V : Type 0} (reads : Reads V) (xs : List ℕ) (budget : Option ℕ) → NoneRead reads xs budget → NoneRead (ReadsValue true reads) xs budget
+none_value : {V : Type 0} (reads : Reads V) (xs : List ℕ) (budget : Option ℕ)
+    → NoneRead reads xs budget → NoneRead (ReadsComingValue true reads) xs budget
 none_value reads xs budget none None n c r fits = r
 none_value reads xs budget none (Some v) n c r fits = none v n c r fits
 
-pub value_refuses : {V E : Type 0} (reads : Reads V) {some : Bool} {a : View} {e : DecodeError E} → some ≡ true → Refuses reads a e → Refuses (ReadsValue some reads) a e
-value_refuses reads is s = rw is (refuses_as reads (ReadsValue true reads) (none_value reads) s)
+pub value_refuses : {V E : Type 0} (reads : Reads V) {some : Bool} {a : View} {e : DecodeError E}
+    → some ≡ true → Refuses reads a e → Refuses (ReadsComingValue some reads) a e
+value_refuses reads is s =
+    rw is (refuses_as reads (ReadsComingValue true reads) (none_value reads) s)
 
 -- the step is given back, and what was taken stays taken
-pub value_sound : {V : Type 0} (reads : Reads V) {some : Bool} {a b d : View} {v : V} → some ≡ true → KeepsAllButBudget b d → Sound reads a b v → Sound (ReadsValue some reads) a d (Some v)
-value_sound reads is k s = rw is (record { at = λ xs told. (let p = s.at xs told in record { count = p.count; cost = p.cost; read = p.read; fits = p.fits; left = k.told ∙ p.left }) })
+pub value_sound : {V : Type 0} (reads : Reads V) {some : Bool} {a b d : View} {v : V} → some ≡ true
+    → KeepsAllButBudget b d → Sound reads a b v → Sound (ReadsComingValue some reads) a d (Some v)
+value_sound reads is k s =
+    rw is (record {
+      at = λ xs told. (let p = s.at xs told in record {
+        count = p.count;
+        cost = p.cost;
+        read = p.read;
+        fits = p.fits;
+        left = k.told ∙ p.left;
+      });
+    })

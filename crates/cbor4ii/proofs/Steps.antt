@@ -1,5 +1,7 @@
 -- What is read under one step, and what is not.
-use Rattle.std.proofs.Common.{◌≡◌, ◌≢◌, IsTrue, inl, inr, false, ℕ, ◌+◌, ◌-◌, ◌≤◌, true, List, Option, Some, None, Result, Ok, Err, refl, sym, ap, ◌∙◌, subst, arith, IfSome, IfOk, IfErr}
+use Rattle.std.proofs.Common.{◌≡◌, ◌≢◌, IsTrue, inl, inr, false, ℕ, ◌+◌, ◌-◌, ◌≤◌, true, List}
+use Rattle.std.proofs.Common.{Option, Some, None, Result, Ok, Err, refl, sym, ap, ◌∙◌, subst, arith}
+use Rattle.std.proofs.Common.{IfSome, IfOk, IfErr}
 use Rattle.cbor4ii_rw.specs.View.{View}
 use Rattle.cbor4ii_rw.specs.Reader.{Breaks, Failed, StepsIn, KeepsAllButBudget, step_back}
 use Rattle.cbor4ii_rw.specs.declared.error.DecodeError.{DecodeError}
@@ -15,74 +17,111 @@ use Rattle.cbor4ii_items.specs.Laws.SequenceParts.{stops_as}
 use Rattle.cbor4ii_rw.specs.declared.error.DecodeError.TheVariants.{DepthOverflow}
 use denote.Ref.{Bor}
 
-fits_step : (old new : Option ℕ) (c : ℕ) → StepsIn old new true → CostFits c new → CostFits (1 + c) old
+fits_step : (old new : Option ℕ) (c : ℕ) → StepsIn old new true → CostFits c new
+    → CostFits (1 + c) old
 fits_step None new c h f = tt
-fits_step (Some left) new c h f = let g : c ≤ left - 1 = subst (CostFits c) h.2 f in omega (arith, h.0, g)
+fits_step (Some left) new c h f =
+    let g : c ≤ left - 1 = subst (CostFits c) h.2 f in omega (arith, h.0, g)
 
-fits_inside : (old new : Option ℕ) (c : ℕ) → StepsIn old new true → CostFits (1 + c) old → CostFits c new
+fits_inside : (old new : Option ℕ) (c : ℕ) → StepsIn old new true → CostFits (1 + c) old
+    → CostFits c new
 fits_inside None new c h f = subst (CostFits c) (sym h) tt
 fits_inside (Some left) new c h f = subst (CostFits c) (sym h.2) (omega (arith, f))
 
 -- the reader failed under the step that was taken, and the step is given back
-pub breaks_stepped : {a b c d : View} → StepsIn a.budget b.budget true → KeepsAllButBudget a b → Breaks b c → d.budget ≡ step_back c.budget → KeepsAllButBudget c d → Breaks a d
+pub breaks_stepped : {a b c d : View} → StepsIn a.budget b.budget true → KeepsAllButBudget a b
+    → Breaks b c → d.budget ≡ step_back c.budget → KeepsAllButBudget c d → Breaks a d
 breaks_stepped {a = a} {b = b} {d = d} takes i k gives o = record {
   told = λ xs told ys left. k.told xs (i.told ∙ told) ys (sym o.told ∙ left);
   kept = λ is xs told. o.told ∙ k.kept (subst IsTrue (sym i.remembers) is) xs (i.told ∙ told);
   bound = omega (arith, k.bound, i.bound, o.bound);
   budget = gives ∙ (ap step_back k.budget ∙ step_again a.budget b.budget takes);
-  failures = subst (λ n. Failed n d.failures) i.failures (subst (λ n. Failed b.failures n) (sym o.failures) k.failures);
+  failures =
+      subst (λ n. Failed n d.failures) i.failures
+      (subst (λ n. Failed b.failures n) (sym o.failures) k.failures);
   taken = o.taken ∙ (k.taken ∙ i.taken);
-  lends_whole = λ h. subst IsTrue (sym o.lends_whole) (k.lends_whole (subst IsTrue (sym i.lends_whole) h));
+  lends_whole =
+      λ h. subst IsTrue (sym o.lends_whole) (k.lends_whole (subst IsTrue (sym i.lends_whole) h));
   remembers = λ h. subst IsTrue (sym o.remembers) (k.remembers (subst IsTrue (sym i.remembers) h));
 }
 
 -- a refusal under the step that was taken
-pub refuses_stepped : {V E : Type 0} (reads : List ℕ → V → ℕ → ℕ → Type 0) {a b : View} {e : DecodeError E} → StepsIn a.budget b.budget true → KeepsAllButBudget a b → Refuses reads b e → Refuses (Stepped reads) a e
+pub refuses_stepped : {V E : Type 0} (reads : List ℕ → V → ℕ → ℕ → Type 0) {a b : View}
+    {e : DecodeError E} → StepsIn a.budget b.budget true → KeepsAllButBudget a b → Refuses reads b e
+    → Refuses (Stepped reads) a e
 refuses_stepped reads {a = a} {b = b} {e = e} takes inward w = record {
   at = λ xs told. if_some (refusal_of e)
-      (λ none v n c read fits. none v n read.0 read.1 (fits_inside a.budget b.budget read.0 takes (subst (λ k. CostFits k a.budget) read.2 fits))) (w.at xs (inward.told ∙ told));
+      (λ none v n c read fits. none v n read.0 read.1 (fits_inside a.budget b.budget read.0 takes
+      (subst (λ k. CostFits k a.budget) read.2 fits))) (w.at xs (inward.told ∙ told));
 }
 
-module _ {V W E : Type 0} (r : Result W (Typed E)) (form : W → V) (reads : List ℕ → V → ℕ → ℕ → Type 0) (a b : View) (takes : StepsIn a.budget b.budget true) (inward : KeepsAllButBudget a b) where
-  sound_at : (c d : View) (v : V) → KeepsAllButBudget c d → Sound reads b c v → Sound (Stepped reads) a d v
+module _ {V W E : Type 0} (r : Result W (Typed E)) (form : W → V)
+    (reads : List ℕ → V → ℕ → ℕ → Type 0) (a b : View) (takes : StepsIn a.budget b.budget true)
+    (inward : KeepsAllButBudget a b) where
+  sound_at : (c d : View) (v : V) → KeepsAllButBudget c d → Sound reads b c v
+      → Sound (Stepped reads) a d v
   sound_at c d v outward w = record {
     at = λ xs told.
         let t = w.at xs (inward.told ∙ told) in
-        record { count = t.count; cost = 1 + t.cost; read = (t.cost, t.read, refl); fits = fits_step a.budget b.budget t.cost takes t.fits; left = outward.told ∙ t.left };
+        record {
+          count = t.count;
+          cost = 1 + t.cost;
+          read = (t.cost, t.read, refl);
+          fits = fits_step a.budget b.budget t.cost takes t.fits;
+          left = outward.told ∙ t.left;
+        };
   }
 
-  pub formed_sound : (c d : View) → KeepsAllButBudget c d → IfOk r (λ w. Sound reads b c (form w)) → IfOk r (λ w. Sound (Stepped reads) a d (form w))
-  formed_sound c d outward s = elim r as (λ t. IfOk t (λ w. Sound reads b c (form w)) → IfOk t (λ w. Sound (Stepped reads) a d (form w))) [
-    | Ok v ↦ (λ w. sound_at c d (form v) outward w)
-    | Err e ↦ (λ w. tt)
-  ] s
+  pub formed_sound : (c d : View) → KeepsAllButBudget c d → IfOk r (λ w. Sound reads b c (form w))
+      → IfOk r (λ w. Sound (Stepped reads) a d (form w))
+  formed_sound c d outward s = elim r as (λ t. IfOk t (λ w. Sound reads b c (form w))
+      → IfOk t (λ w. Sound (Stepped reads) a d (form w))) [
+        | Ok v ↦ (λ w. sound_at c d (form v) outward w)
+        | Err e ↦ (λ w. tt)
+      ] s
 
-module _ {V W E : Type 0} (r : Result W (Typed E)) (reads : List ℕ → V → ℕ → ℕ → Type 0) (a b : View) (takes : StepsIn a.budget b.budget true) (inward : KeepsAllButBudget a b) where
-  pub step_refuses : IfErr r (λ e. Refuses reads b (as_core e)) → IfErr r (λ e. Refuses (Stepped reads) a (as_core e))
-  step_refuses s = elim r as (λ t. IfErr t (λ e. Refuses reads b (as_core e)) → IfErr t (λ e. Refuses (Stepped reads) a (as_core e))) [
-    | Ok v ↦ (λ w. tt)
-    | Err e ↦ (λ w. refuses_stepped reads takes inward w)
-  ] s
+module _ {V W E : Type 0} (r : Result W (Typed E)) (reads : List ℕ → V → ℕ → ℕ → Type 0)
+    (a b : View) (takes : StepsIn a.budget b.budget true) (inward : KeepsAllButBudget a b) where
+  pub step_refuses : IfErr r (λ e. Refuses reads b (as_core e))
+      → IfErr r (λ e. Refuses (Stepped reads) a (as_core e))
+  step_refuses s = elim r as (λ t. IfErr t (λ e. Refuses reads b (as_core e))
+      → IfErr t (λ e. Refuses (Stepped reads) a (as_core e))) [
+        | Ok v ↦ (λ w. tt)
+        | Err e ↦ (λ w. refuses_stepped reads takes inward w)
+      ] s
 
-module _ {V E : Type 0} (r : Result V (Typed E)) (reads : List ℕ → V → ℕ → ℕ → Type 0) (a b : View) (takes : StepsIn a.budget b.budget true) (inward : KeepsAllButBudget a b) where
-  pub step_sound : (c d : View) → KeepsAllButBudget c d → IfOk r (Sound reads b c) → IfOk r (Sound (Stepped reads) a d)
+module _ {V E : Type 0} (r : Result V (Typed E)) (reads : List ℕ → V → ℕ → ℕ → Type 0) (a b : View)
+    (takes : StepsIn a.budget b.budget true) (inward : KeepsAllButBudget a b) where
+  pub step_sound : (c d : View) → KeepsAllButBudget c d → IfOk r (Sound reads b c)
+      → IfOk r (Sound (Stepped reads) a d)
   step_sound c d outward s = formed_sound r (λ v. v) reads a b takes inward c d outward s
 
 stepped : (old new : Option ℕ) → StepsIn old new true → (old ≢ Some 0) × (new ≡ after_step old)
 stepped None new h = ((λ e. cc), h)
 stepped (Some left) new h = ((λ e. let f : left ≡ 0 = cc in omega (arith, h.0, f)), h.2)
 
-pub stops_stepped : {E : Type 0} (name : List ℕ) (stops : List ℕ → Option ℕ → Refusal → List ℕ → Type 0) {a b c d : View} {e : DecodeError E} → StepsIn a.budget b.budget true → KeepsAllButBudget a b → KeepsAllButBudget c d → Stops stops b c e → Stops (StopsStepped name stops) a d e
+pub stops_stepped : {E : Type 0} (name : List ℕ)
+    (stops : List ℕ → Option ℕ → Refusal → List ℕ → Type 0) {a b c d : View} {e : DecodeError E}
+    → StepsIn a.budget b.budget true → KeepsAllButBudget a b → KeepsAllButBudget c d
+    → Stops stops b c e → Stops (StopsStepped name stops) a d e
 stops_stepped name stops {a = a} {b = b} {c = c} {d = d} {e = e} takes inward outward s = record {
   at = λ xs told.
       let h = stepped a.budget b.budget takes in
-      subst (λ left. IfSome (refusal_of e) (λ z. (ys : List ℕ) × (left ≡ Some ys) × StopsStepped name stops xs a.budget z ys)) (sym outward.told)
-      (stops_as (refusal_of e) c.told (stops xs b.budget) (StopsStepped name stops xs a.budget) (λ z ys t. inr (h.0, subst (λ k. stops xs k z ys) h.1 t)) (s.at xs (inward.told ∙ told)));
+      subst (λ left. IfSome (refusal_of e)
+      (λ z. (ys : List ℕ) × (left ≡ Some ys) × StopsStepped name stops xs a.budget z ys))
+      (sym outward.told)
+      (stops_as (refusal_of e) c.told (stops xs b.budget) (StopsStepped name stops xs a.budget)
+      (λ z ys t. inr (h.0, subst (λ k. stops xs k z ys) h.1 t))
+      (s.at xs (inward.told ∙ told)));
 }
 
 none_left : (old new : Option ℕ) → StepsIn old new false → old ≡ Some 0
 none_left None new h = absurd h
 none_left (Some left) new h = ap Some h.0
 
-pub stops_no_step : {E : Type 0} (name : Bor (List ℕ)) (stops : List ℕ → Option ℕ → Refusal → List ℕ → Type 0) {a b : View} → StepsIn a.budget b.budget false → KeepsAllButBudget a b → Stops {E = E} (StopsStepped name.now stops) a b (DepthOverflow name)
-stops_no_step name stops {a = a} {b = b} h k = record { at = λ xs told. (xs, k.told ∙ told, inl (none_left a.budget b.budget h, refl, refl)) }
+pub stops_no_step : {E : Type 0} (name : Bor (List ℕ))
+    (stops : List ℕ → Option ℕ → Refusal → List ℕ → Type 0) {a b : View}
+    → StepsIn a.budget b.budget false → KeepsAllButBudget a b
+    → Stops {E = E} (StopsStepped name.now stops) a b (DepthOverflow name)
+stops_no_step name stops {a = a} {b = b} h k =
+    record { at = λ xs told. (xs, k.told ∙ told, inl (none_left a.budget b.budget h, refl, refl)) }

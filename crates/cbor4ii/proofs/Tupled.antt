@@ -1,5 +1,7 @@
 -- A head that counts so many, and what stands behind it.
-use Rattle.std.proofs.Common.{◌≡◌, ℕ, ◌+◌, ◌<◌, ◌≤◌, inl, inr, List, drop, Option, Some, None, Bool, true, false, Result, Ok, Err, refl, sym, ap, ◌∙◌, subst, IfOk, IfErr, ltb, ltb-true, ltb-false}
+use Rattle.std.proofs.Common.{◌≡◌, ℕ, ◌+◌, ◌<◌, ◌≤◌, inl, inr, List, drop, Option, Some, None, Bool}
+use Rattle.std.proofs.Common.{true, false, Result, Ok, Err, refl, sym, ap, ◌∙◌, subst, IfOk, IfErr}
+use Rattle.std.proofs.Common.{ltb, ltb-true, ltb-false}
 use Rattle.std.specs.Prelude.{codes}
 use denote.Ref.{Bor}
 use Rattle.cbor4ii_rw.specs.declared.error.Len.{Len}
@@ -23,57 +25,102 @@ use Rattle.cbor4ii_items.specs.Laws.Answering.{fits_zero}
 use Rattle.cbor4ii_items.specs.Laws.SequenceParts.{always}
 use Rattle.cbor4ii.proofs.Stopped.{stopped_as}
 
-so_many : {count : ℕ} {a m : View} → Sound (ReadsLength 4) a m (Some count) → Sound (ReadsCountOf count) a m tt
-so_many s = record { at = λ xs told. (let p = s.at xs told in record { count = p.count; cost = p.cost; read = p.read; fits = p.fits; left = p.left }) }
+so_many : {count : ℕ} {a m : View} → Sound (ReadsLength 4) a m (Some count)
+    → Sound (ReadsCountOf count) a m tt
+so_many s = record {
+  at = λ xs told. (let p = s.at xs told in
+      record { count = p.count; cost = p.cost; read = p.read; fits = p.fits; left = p.left });
+}
 
-pub count_sound : {count found : ℕ} {l : Option ℕ} {a m : View} → l ≡ Some found → found ≡ count → Sound (ReadsLength 4) a m l → Sound (ReadsCountOf count) a m tt
-count_sound {a = a} {m = m} is same s = so_many (subst (Sound (ReadsLength 4) a m) (is ∙ ap Some same) s)
+pub count_sound : {count found : ℕ} {l : Option ℕ} {a m : View} → l ≡ Some found → found ≡ count
+    → Sound (ReadsLength 4) a m l → Sound (ReadsCountOf count) a m tt
+count_sound {a = a} {m = m} is same s =
+    so_many (subst (Sound (ReadsLength 4) a m) (is ∙ ap Some same) s)
 
-other : (count : ℕ) (l : Option ℕ) (xs : List ℕ) (n c : ℕ) (budget : Option ℕ) → (l ≡ Some count → ⊥) → ReadsLength 4 xs l n c → NoneRead (ReadsCountOf count) xs budget
+other : (count : ℕ) (l : Option ℕ) (xs : List ℕ) (n c : ℕ) (budget : Option ℕ)
+    → (l ≡ Some count → ⊥) → ReadsLength 4 xs l n c → NoneRead (ReadsCountOf count) xs budget
 other count None xs n c budget not h v k d r fits = head_not_open 4 xs count k four_small r.0 h.0
-other count (Some found) xs n c budget not h v k d r fits = not (ap Some (head_one 4 8 xs found count n k four_small h.0 r.0).1)
+other count (Some found) xs n c budget not h v k d r fits =
+    not (ap Some (head_one 4 8 xs found count n k four_small h.0 r.0).1)
 
-pub count_other : {E : Type 0} {count : ℕ} {l : Option ℕ} {a m : View} {e : DecodeError E} → (l ≡ Some count → ⊥) → Sound (ReadsLength 4) a m l → Refuses (ReadsCountOf count) a e
-count_other {count = count} {l = l} {a = a} {e = e} not s = record { at = λ xs told. (let p = s.at xs told in always (refusal_of e) (other count l xs p.count p.cost a.budget not p.read)) }
+pub count_other : {E : Type 0} {count : ℕ} {l : Option ℕ} {a m : View} {e : DecodeError E}
+    → (l ≡ Some count → ⊥) → Sound (ReadsLength 4) a m l → Refuses (ReadsCountOf count) a e
+count_other {count = count} {l = l} {a = a} {e = e} not s =
+    record {
+      at = λ xs told. (let p = s.at xs told in
+          always (refusal_of e) (other count l xs p.count p.cost a.budget not p.read));
+    }
 
-pub count_none : {E : Type 0} {count : ℕ} {a : View} {e : DecodeError E} → Refuses (ReadsLength 4) a e → Refuses (ReadsCountOf count) a e
-count_none {count = count} {e = e} s = record { at = λ xs told. if_some (refusal_of e) (λ none v n c r fits. none (Some count) n c r fits) (s.at xs told) }
+pub count_none : {E : Type 0} {count : ℕ} {a : View} {e : DecodeError E}
+    → Refuses (ReadsLength 4) a e → Refuses (ReadsCountOf count) a e
+count_none {count = count} {e = e} s = record {
+  at = λ xs told. if_some (refusal_of e)
+      (λ none v n c r fits. none (Some count) n c r fits) (s.at xs told);
+}
 
-pub count_missing : {E : Type 0} {count : ℕ} {a m : View} {e : DecodeError E} → Stops (StopsLength (codes "array") 4) a m e → Stops (StopsCountOf count) a m e
-count_missing {count = count} s = stopped_as (StopsLength (codes "array") 4) (StopsCountOf count) (λ xs budget z ys h. inl h) s
+pub count_missing : {E : Type 0} {count : ℕ} {a m : View} {e : DecodeError E}
+    → Stops (StopsLength (codes "array") 4) a m e → Stops (StopsCountOf count) a m e
+count_missing {count = count} s =
+    stopped_as (StopsLength (codes "array") 4) (StopsCountOf count) (λ xs budget z ys h. inl h) s
 
-len_by : (t : Bool) (n : ℕ) (l : Len) → ltb n 65536 ≡ t → (n < 65536 → l ≡ Small n) → (65536 ≤ n → l ≡ Big) → l ≡ len_of n
+len_by : (t : Bool) (n : ℕ) (l : Len) → ltb n 65536 ≡ t → (n < 65536 → l ≡ Small n)
+    → (65536 ≤ n → l ≡ Big) → l ≡ len_of n
 len_by true n l e small big = rw e (small (ltb-true n 65536 e))
 len_by false n l e small big = rw e (big (ltb-false n 65536 e))
 
-pub counted_len : {l : Option ℕ} {found : ℕ} {len : Len} → l ≡ Some found → (found < 65536 → len ≡ Small found) → (65536 ≤ found → len ≡ Big) → len ≡ told_length l
-counted_len {found = found} {len = len} is small big = rw is (len_by (ltb found 65536) found len refl small big)
+pub counted_len : {l : Option ℕ} {found : ℕ} {len : Len} → l ≡ Some found
+    → (found < 65536 → len ≡ Small found) → (65536 ≤ found → len ≡ Big) → len ≡ told_length l
+counted_len {found = found} {len = len} is small big =
+    rw is (len_by (ltb found 65536) found len refl small big)
 
 pub open_len : {l : Option ℕ} → l ≡ None → Indefinite ≡ told_length l
 open_len is = rw is refl
 
-pub count_differs : {E : Type 0} {count : ℕ} {l : Option ℕ} {len : Len} {name : Bor (List ℕ)} {a m : View} → name.now ≡ codes "tuple" → (l ≡ Some count → ⊥) → len ≡ told_length l → Sound (ReadsLength 4) a m l → Stops {E = E} (StopsCountOf count) a m (RequireLength name len)
+pub count_differs : {E : Type 0} {count : ℕ} {l : Option ℕ} {len : Len} {name : Bor (List ℕ)}
+    {a m : View} → name.now ≡ codes "tuple" → (l ≡ Some count → ⊥) → len ≡ told_length l
+    → Sound (ReadsLength 4) a m l → Stops {E = E} (StopsCountOf count) a m (RequireLength name len)
 count_differs {count = count} {l = l} named not is s = record {
-  at = λ xs told. (let p = s.at xs told in (drop p.count xs, p.left, inr (record { found = l; size = p.count; cost = p.cost; head = p.read; other = not; refused = rw (named, is) refl; left = refl })));
+  at = λ xs told. (let p = s.at xs told in (
+    drop p.count xs,
+    p.left,
+    inr (record {
+      found = l;
+      size = p.count;
+      cost = p.cost;
+      head = p.read;
+      other = not;
+      refused = rw (named, is) refl;
+      left = refl;
+    }),
+  ));
 }
 
-pub count_length : {count : ℕ} {a m : View} → Sound (ReadsCountOf count) a m tt → Sound (ReadsLength 4) a m (Some count)
-count_length s = record { at = λ xs told. (let p = s.at xs told in record { count = p.count; cost = p.cost; read = p.read; fits = p.fits; left = p.left }) }
+pub count_length : {count : ℕ} {a m : View} → Sound (ReadsCountOf count) a m tt
+    → Sound (ReadsLength 4) a m (Some count)
+count_length s = record {
+  at = λ xs told. (let p = s.at xs told in
+      record { count = p.count; cost = p.cost; read = p.read; fits = p.fits; left = p.left });
+}
 
-pub not_count : {found count : ℕ} {l : Option ℕ} → l ≡ Some found → (found ≡ count → ⊥) → l ≡ Some count → ⊥
+pub not_count : {found count : ℕ} {l : Option ℕ} → l ≡ Some found → (found ≡ count → ⊥)
+    → l ≡ Some count → ⊥
 not_count {found = found} {count = count} is not e = let f : found ≡ count = cc in not f
 
 pub not_open : {count : ℕ} {l : Option ℕ} → l ≡ None → l ≡ Some count → ⊥
 not_open is e = cc
 
 module _ {V : Type 0} (count : ℕ) (reads : List ℕ → V → ℕ → ℕ → Type 0) where
-  no_head : (xs : List ℕ) (budget : Option ℕ) → NoneRead (ReadsCountOf count) xs budget → NoneRead (ReadsBehind count reads) xs budget
+  no_head : (xs : List ℕ) (budget : Option ℕ) → NoneRead (ReadsCountOf count) xs budget
+      → NoneRead (ReadsBehind count reads) xs budget
   no_head xs budget none v n c r fits = none tt r.before 0 (r.head, refl) (fits_zero budget)
 
-  pub behind_no_head : {E : Type 0} {a : View} {e : DecodeError E} → Refuses (ReadsCountOf count) a e → Refuses (ReadsBehind count reads) a e
-  behind_no_head {a = a} {e = e} s = record { at = λ xs told. if_some (refusal_of e) (no_head xs a.budget) (s.at xs told) }
+  pub behind_no_head : {E : Type 0} {a : View} {e : DecodeError E}
+      → Refuses (ReadsCountOf count) a e → Refuses (ReadsBehind count reads) a e
+  behind_no_head {a = a} {e = e} s =
+      record { at = λ xs told. if_some (refusal_of e) (no_head xs a.budget) (s.at xs told) }
 
-  behind_at : {a m b : View} {v : V} → Kept a m → Sound (ReadsCountOf count) a m tt → Sound reads m b v → Sound (ReadsBehind count reads) a b v
+  behind_at : {a m b : View} {v : V} → Kept a m → Sound (ReadsCountOf count) a m tt
+      → Sound reads m b v → Sound (ReadsBehind count reads) a b v
   behind_at {a = a} kept h s = record {
     at = λ xs told.
         let p = h.at xs told in
@@ -81,33 +128,50 @@ module _ {V : Type 0} (count : ℕ) (reads : List ℕ → V → ℕ → ℕ → 
         record {
           count = p.count + q.count;
           cost = q.cost;
-          read = record { before = p.count; head = p.read.0; between = q.count; parts = q.read; size = refl };
+          read = record {
+            before = p.count;
+            head = p.read.0;
+            between = q.count;
+            parts = q.read;
+            size = refl;
+          };
           fits = subst (CostFits q.cost) kept.budget q.fits;
           left = q.left ∙ ap Some (drop_more q.count p.count xs);
         };
   }
 
-  no_parts : (xs : List ℕ) (n c : ℕ) (old mid : Option ℕ) → ReadsCountOf count xs tt n c → mid ≡ old → NoneRead reads (drop n xs) mid → NoneRead (ReadsBehind count reads) xs old
+  no_parts : (xs : List ℕ) (n c : ℕ) (old mid : Option ℕ) → ReadsCountOf count xs tt n c → mid ≡ old
+      → NoneRead reads (drop n xs) mid → NoneRead (ReadsBehind count reads) xs old
   no_parts xs n c old mid h e none v k d r fits =
       let same = (head_one 4 8 xs count count r.before n four_small r.head h.0).0 in
-      none v r.between d (subst (λ j. reads (drop j xs) v r.between d) same r.parts) (subst (CostFits d) (sym e) fits)
+      none v r.between d (subst (λ j. reads (drop j xs) v r.between d) same r.parts)
+      (subst (CostFits d) (sym e) fits)
 
-  refused_at : {E : Type 0} {a m : View} {e : DecodeError E} → Kept a m → Sound (ReadsCountOf count) a m tt → ((xs : List ℕ) → a.told ≡ Some xs → Refuses reads m e) → Refuses (ReadsBehind count reads) a e
+  refused_at : {E : Type 0} {a m : View} {e : DecodeError E} → Kept a m
+      → Sound (ReadsCountOf count) a m tt → ((xs : List ℕ) → a.told ≡ Some xs → Refuses reads m e)
+      → Refuses (ReadsBehind count reads) a e
   refused_at {a = a} {m = m} {e = e} kept h s = record {
     at = λ xs told.
         let p = h.at xs told in
-        if_some (refusal_of e) (no_parts xs p.count p.cost a.budget m.budget p.read kept.budget) ((s xs told).at (drop p.count xs) p.left);
+        if_some (refusal_of e) (no_parts xs p.count p.cost a.budget m.budget p.read kept.budget)
+        ((s xs told).at (drop p.count xs) p.left);
   }
 
   module _ {E : Type 0} (r : Result V (Typed E)) where
-    pub behind_sound : {a m : View} (b : View) → Kept a m → Sound (ReadsCountOf count) a m tt → IfOk r (Sound reads m b) → IfOk r (Sound (ReadsBehind count reads) a b)
-    behind_sound {a = a} {m = m} b kept h s = elim r as (λ t. IfOk t (Sound reads m b) → IfOk t (Sound (ReadsBehind count reads) a b)) [
-      | Ok v ↦ (λ w. behind_at kept h w)
-      | Err e ↦ (λ w. tt)
-    ] s
+    pub behind_sound : {a m : View} (b : View) → Kept a m → Sound (ReadsCountOf count) a m tt
+        → IfOk r (Sound reads m b) → IfOk r (Sound (ReadsBehind count reads) a b)
+    behind_sound {a = a} {m = m} b kept h s =
+        elim r as (λ t. IfOk t (Sound reads m b) → IfOk t (Sound (ReadsBehind count reads) a b)) [
+          | Ok v ↦ (λ w. behind_at kept h w)
+          | Err e ↦ (λ w. tt)
+        ] s
 
-    pub behind_refuses : {a m : View} → Kept a m → Sound (ReadsCountOf count) a m tt → ((xs : List ℕ) → a.told ≡ Some xs → IfErr r (λ e. Refuses reads m (as_core e))) → IfErr r (λ e. Refuses (ReadsBehind count reads) a (as_core e))
-    behind_refuses {a = a} {m = m} kept h s = elim r as (λ t. ((xs : List ℕ) → a.told ≡ Some xs → IfErr t (λ e. Refuses reads m (as_core e))) → IfErr t (λ e. Refuses (ReadsBehind count reads) a (as_core e))) [
-      | Ok v ↦ (λ w. tt)
-      | Err e ↦ (λ w. refused_at kept h w)
-    ] s
+    pub behind_refuses : {a m : View} → Kept a m → Sound (ReadsCountOf count) a m tt
+        → ((xs : List ℕ) → a.told ≡ Some xs → IfErr r (λ e. Refuses reads m (as_core e)))
+        → IfErr r (λ e. Refuses (ReadsBehind count reads) a (as_core e))
+    behind_refuses {a = a} {m = m} kept h s = elim r as (λ t.
+        ((xs : List ℕ) → a.told ≡ Some xs → IfErr t (λ e. Refuses reads m (as_core e)))
+        → IfErr t (λ e. Refuses (ReadsBehind count reads) a (as_core e))) [
+          | Ok v ↦ (λ w. tt)
+          | Err e ↦ (λ w. refused_at kept h w)
+        ] s

@@ -1,5 +1,6 @@
 -- How an accessor goes over the parts of an array or a map.
-use Rattle.std.specs.Prelude.{◌≡◌, ℕ, zero, suc, ◌+◌, ◌-◌, ◌<◌, ◌≤◌, ◌⊎◌, Bool, true, false, not, if◌then◌else◌, Option, Some, None, Result}
+use Rattle.std.specs.Prelude.{◌≡◌, ℕ, zero, suc, ◌+◌, ◌-◌, ◌<◌, ◌≤◌, ◌⊎◌, Bool, true, false, not}
+use Rattle.std.specs.Prelude.{if◌then◌else◌, Option, Some, None, Result}
 use Rattle.cbor4ii_rw.specs.View.{View}
 use Rattle.cbor4ii_rw.specs.Reader.{StepsIn, KeepsAllButBudget, step_back}
 use Rattle.cbor4ii_rw.specs.declared.error.DecodeError.{DecodeError}
@@ -42,7 +43,7 @@ left_behind None = Open
 left_behind (Some count) = Counted count
 
 -- A step was taken, and then the head of an array or a map: so much is left of it.
-pub record Opens (major : ℕ) (old new : View) (left : Left) : Type 0 where
+pub record OpensParts (major : ℕ) (old new : View) (left : Left) : Type 0 where
   pub within : View
   pub step : StepsIn old.budget within.budget true
   pub others : KeepsAllButBudget old within
@@ -63,13 +64,14 @@ pub record Closes (held : ℕ) (old new : View) : Type 0 where
   pub others : KeepsAllButBudget old new
 
 -- a call, and then the steps that were held are given back
-pub record Finishes {V E : Type 0} (held : ℕ) (old new : View) (answer : Result V (DecodeError E)) : Type 0 where
+pub record Finishes {V E : Type 0} (held : ℕ) (old new : View)
+    (answer : Result V (DecodeError E)) : Type 0 where
   pub within : View
   pub moves : Moves old within answer
   pub closes : Closes held within new
 
--- Whether a part comes, by what is left: where parts are counted, while some are left; where the length is indefinite,
--- before another byte than a break, which is taken; behind the break none.
+-- Whether a part comes, by what is left: where parts are counted, while some are left; where the
+-- length is indefinite, before another byte than a break, which is taken; behind the break none.
 abbrev pub ReadsStart : Left → Reads Bool
 ReadsStart (Counted zero) xs true n c = ⊥
 ReadsStart (Counted zero) xs false n c = (n ≡ 0) × (c ≡ 0)
@@ -86,17 +88,17 @@ StopsStart Open xs budget refusal rest = StopsBreak xs budget refusal rest
 StopsStart Ended xs budget refusal rest = ⊥
 
 -- what is left then
-abbrev pub Starts : Left → Left → Bool → Type 0
-Starts (Counted k) new true = (0 < k) × (new ≡ Counted (k - 1))
-Starts (Counted k) new false = (k ≡ 0) × (new ≡ Counted 0)
-Starts Open new true = new ≡ Open
-Starts Open new false = new ≡ Ended
-Starts Ended new true = ⊥
-Starts Ended new false = new ≡ Ended
+abbrev pub LeftAfterStart : Left → Left → Bool → Type 0
+LeftAfterStart (Counted k) new true = (0 < k) × (new ≡ Counted (k - 1))
+LeftAfterStart (Counted k) new false = (k ≡ 0) × (new ≡ Counted 0)
+LeftAfterStart Open new true = new ≡ Open
+LeftAfterStart Open new false = new ≡ Ended
+LeftAfterStart Ended new true = ⊥
+LeftAfterStart Ended new false = new ≡ Ended
 
--- What comes next is read as a part, or as the end, by what is left. Where parts are counted, one comes while some are
--- left. Where the length is indefinite, a break is the end, and another byte begins a part; behind the break nothing is
--- looked at.
+-- What comes next is read as a part, or as the end, by what is left. Where parts are counted, one
+-- comes while some are left. Where the length is indefinite, a break is the end, and another byte
+-- begins a part; behind the break nothing is looked at.
 abbrev pub Next : {V : Type 0} → Reads V → Left → Reads (Option V)
 Next reads (Counted zero) xs None n c = (n ≡ 0) × (c ≡ 0)
 Next reads (Counted zero) xs (Some v) n c = ⊥
@@ -109,7 +111,9 @@ Next reads Ended xs (Some v) n c = ⊥
 
 -- how that is refused: nothing comes, or what comes is refused as a part
 abbrev pub StopsElement : StopsAt → Left → StopsAt
-StopsElement stops left xs budget refusal rest = StopsStart left xs budget refusal rest ⊎ (ReadsStart left xs true 0 0 × stops xs budget refusal rest)
+StopsElement stops left xs budget refusal rest =
+    StopsStart left xs budget refusal rest
+    ⊎ (ReadsStart left xs true 0 0 × stops xs budget refusal rest)
 
 -- what is left then
 abbrev pub left_then : {V : Type 0} → Left → Option V → Left

@@ -1,6 +1,7 @@
--- Any item, read as a value (RFC 8949 section 3): every item but a tag, and the bignums of section 3.4.3 whose tag stands
--- in one byte, as integers.
-use Rattle.std.specs.Prelude.{◌≡◌, ℕ, zero, suc, ◌/◌, ◌^◌, ◌<◌, ◌==◌, ℤ, pos, [], ◌∷◌, take, Bool, true, if◌then◌else◌}
+-- Any item, read as a value (RFC 8949 section 3): every item but a tag, and the bignums of section
+-- 3.4.3 whose tag stands in one byte, as integers.
+use Rattle.std.specs.Prelude.{◌≡◌, ℕ, zero, suc, ◌/◌, ◌^◌, ◌<◌, ◌==◌, ℤ, pos, [], ◌∷◌, take, Bool}
+use Rattle.std.specs.Prelude.{true, if◌then◌else◌}
 use Rattle.std.specs.declared.alloc.Global.{Global}
 use Rattle.std.specs.declared.string.String.{String}
 use Rattle.std.specs.declared.vec.Vec.{Vec}
@@ -22,7 +23,9 @@ use Rattle.cbor4ii_tree.specs.declared.value.Value as values
 use Rattle.cbor4ii.specs.declared.serde.de.any_leaf.AnyKind.{AnyKind}
 use Rattle.cbor4ii.specs.declared.serde.de.any_leaf.AnyKind.TheVariants.{Leaf, Array, Map, Other}
 use Rattle.cbor4ii.specs.declared.serde.de.any_leaf.AnyLeaf.{AnyLeaf}
-use Rattle.cbor4ii.specs.declared.serde.de.any_leaf.AnyLeaf.TheVariants.{Integer, Bignum, Bytes, Text, Bool as Flag, Null, F16, F32, F64}
+use Rattle.cbor4ii.specs.declared.serde.de.any_leaf.AnyLeaf.TheVariants.{Integer, Bignum, Bytes}
+use Rattle.cbor4ii.specs.declared.serde.de.any_leaf.AnyLeaf.TheVariants.{Text, Bool as Flag, Null}
+use Rattle.cbor4ii.specs.declared.serde.de.any_leaf.AnyLeaf.TheVariants.{F16, F32, F64}
 use Rattle.cbor4ii.specs.Stepped.{Stepped}
 
 -- ---- what a first byte begins

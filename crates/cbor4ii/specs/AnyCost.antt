@@ -1,7 +1,9 @@
--- The steps that reading any item takes at its deepest place: one for a value, and one more for an array or a map. A bignum
--- is an integer, and takes one.
+-- The steps that reading any item takes at its deepest place: one for a value, and one more for an
+-- array or a map. A bignum is an integer, and takes one.
 use Rattle.std.specs.Prelude.{ℕ, ◌+◌, max}
-use Rattle.cbor4ii_tree.specs.Item.{Item, null, boolean, integer, float, bytes_item, text, sequence, mapping, tag, Items, no_items, item, Members, no_members, member}
+use Rattle.cbor4ii_tree.specs.Item.{Item, null, boolean, integer, float, bytes_item, text, sequence}
+use Rattle.cbor4ii_tree.specs.Item.{mapping, tag, Items, no_items, item, Members, no_members}
+use Rattle.cbor4ii_tree.specs.Item.{member}
 
 abbrev mutual
   pub any_cost : Item → ℕ
@@ -21,4 +23,5 @@ abbrev mutual
 
   pub greatest_any_pair_cost : Members → ℕ
   greatest_any_pair_cost no_members = 0
-  greatest_any_pair_cost (member k v ms) = max (max (any_cost k) (any_cost v)) (greatest_any_pair_cost ms)
+  greatest_any_pair_cost (member k v ms) =
+      max (max (any_cost k) (any_cost v)) (greatest_any_pair_cost ms)

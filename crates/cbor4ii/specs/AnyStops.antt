@@ -1,5 +1,6 @@
 -- How any item is refused where it is read as a value.
-use Rattle.std.specs.Prelude.{◌≡◌, ℕ, zero, suc, ◌^◌, ◌≤◌, ◌⊎◌, List, [], ◌∷◌, take, drop, true, codes}
+use Rattle.std.specs.Prelude.{◌≡◌, ℕ, zero, suc, ◌^◌, ◌≤◌, ◌⊎◌, List, [], ◌∷◌, take, drop, true}
+use Rattle.std.specs.Prelude.{codes}
 use Rattle.cbor4ii_items.specs.Decoding.{StopsAt}
 use Rattle.cbor4ii_items.specs.Floats.{StopsFloat}
 use Rattle.cbor4ii_items.specs.Next.{StopsNext}
@@ -11,7 +12,9 @@ use Rattle.cbor4ii_items.specs.Strings.{StopsString, StopsText}
 use Rattle.cbor4ii.specs.declared.serde.de.any_leaf.AnyKind.{AnyKind}
 use Rattle.cbor4ii.specs.declared.serde.de.any_leaf.AnyKind.TheVariants.{Leaf, Array, Map, Other}
 use Rattle.cbor4ii.specs.declared.serde.de.any_leaf.AnyLeaf.{AnyLeaf}
-use Rattle.cbor4ii.specs.declared.serde.de.any_leaf.AnyLeaf.TheVariants.{Integer, Bignum, Bytes, Text, Bool as Flag, Null, F16, F32, F64}
+use Rattle.cbor4ii.specs.declared.serde.de.any_leaf.AnyLeaf.TheVariants.{Integer, Bignum, Bytes}
+use Rattle.cbor4ii.specs.declared.serde.de.any_leaf.AnyLeaf.TheVariants.{Text, Bool as Flag, Null}
+use Rattle.cbor4ii.specs.declared.serde.de.any_leaf.AnyLeaf.TheVariants.{F16, F32, F64}
 use Rattle.cbor4ii.specs.Any.{kind, ReadsAny}
 use Rattle.cbor4ii.specs.Stepped.{StopsStepped}
 use Rattle.cbor4ii.specs.Typed.{in_words}
@@ -42,23 +45,30 @@ LeafStops F64 = StopsFloat (codes "f64") 0xfb 8
 
 -- the first byte is none that is read, and stays
 abbrev pub StopsOther : StopsAt
-StopsOther xs budget refusal rest = (b : ℕ) × (take 1 xs ≡ b ∷ []) × (refusal ≡ unsupported (codes "any") b) × (rest ≡ xs)
+StopsOther xs budget refusal rest =
+    (b : ℕ) × (take 1 xs ≡ b ∷ []) × (refusal ≡ unsupported (codes "any") b) × (rest ≡ xs)
 
 -- an item of this kind, where the values inside it are refused by `inner`
 abbrev pub KindStops : StopsAt → AnyKind → StopsAt
 KindStops inner (Leaf leaf) = LeafStops leaf
-KindStops inner Array = StopsStepped (codes "seq") (StopsInside (codes "array") 4 ReadsAny inner true)
-KindStops inner Map = StopsStepped (codes "map") (StopsInside (codes "map") 5 (ReadsPair ReadsAny ReadsAny) (StopsPair ReadsAny inner inner) true)
+KindStops inner Array =
+    StopsStepped (codes "seq") (StopsInside (codes "array") 4 ReadsAny inner true)
+KindStops inner Map =
+    StopsStepped (codes "map") (StopsInside (codes "map") 5 (ReadsPair ReadsAny ReadsAny)
+    (StopsPair ReadsAny inner inner) true)
 KindStops inner Other = StopsOther
 
 -- there is no byte, or an item of the kind that the first byte begins is refused
 abbrev pub AnyStops : StopsAt → StopsAt
-AnyStops inner xs budget refusal rest = StopsNext (codes "any") xs budget refusal rest ⊎ ((b : ℕ) × (take 1 xs ≡ b ∷ []) × KindStops inner (kind b) xs budget refusal rest)
+AnyStops inner xs budget refusal rest =
+    StopsNext (codes "any") xs budget refusal rest
+    ⊎ ((b : ℕ) × (take 1 xs ≡ b ∷ []) × KindStops inner (kind b) xs budget refusal rest)
 
 -- at most so many items within one another, each under one step
 abbrev pub AnyStopsAt : ℕ → StopsAt
 AnyStopsAt zero xs budget refusal rest = ⊥
-AnyStopsAt (suc k) xs budget refusal rest = StopsStepped (codes "any") (AnyStops (AnyStopsAt k)) xs budget refusal rest
+AnyStopsAt (suc k) xs budget refusal rest =
+    StopsStepped (codes "any") (AnyStops (AnyStopsAt k)) xs budget refusal rest
 
 -- however deep items nest
 abbrev pub StopsAny : StopsAt

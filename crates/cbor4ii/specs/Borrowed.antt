@@ -1,5 +1,6 @@
 -- Strings that are borrowed from the input.
-use Rattle.std.specs.Prelude.{◌≡◌, ◌⊎◌, ℕ, List, drop, Result, IfOk, IfErr, IsErr, IsOkAnd, IsErrAnd, MatchResult}
+use Rattle.std.specs.Prelude.{◌≡◌, ◌⊎◌, ℕ, List, drop, Result, IfOk, IfErr, IsErr, IsOkAnd}
+use Rattle.std.specs.Prelude.{IsErrAnd, MatchResult}
 use denote.Ref.{Bor}
 use Rattle.cbor4ii_rw.specs.declared.error.DecodeError.{DecodeError as CoreError}
 use Rattle.cbor4ii_rw.specs.declared.error.DecodeError.TheVariants.{RequireBorrowed, OutOfMemory}
@@ -14,29 +15,39 @@ use Rattle.cbor4ii.specs.Typed.{as_core}
 abbrev pub LacksLoan : {E : Type 0} → List ℕ → CoreError E → Type 0
 LacksLoan name error = (found : Bor (List ℕ)) × (error ≡ RequireBorrowed found) × (found.now ≡ name)
 
--- A string that is to be borrowed is refused as one that may be a copy, or it was read with a cost that fits, and is a
--- copy: it is taken then.
+-- A string that is to be borrowed is refused as one that may be a copy, or it was read with a cost
+-- that fits, and is a copy: it is taken then.
 abbrev pub StopsUnlent : {V : Type 0} → List ℕ → Reads V → StopsAt → StopsAt
-StopsUnlent {V} name reads stops xs budget refusal rest = stops xs budget refusal rest ⊎ ((v : V) × (n c : ℕ) × reads xs v n c × CostFits c budget × (refusal ≡ require_borrowed name) × (rest ≡ drop n xs))
+StopsUnlent {V} name reads stops xs budget refusal rest =
+    stops xs budget refusal rest ⊎ ((v : V) × (n c : ℕ) × reads xs v n c × CostFits c budget
+    × (refusal ≡ require_borrowed name) × (rest ≡ drop n xs))
 
--- A string that was borrowed is handed on with its content. One that was copied is refused, and so is what was refused
--- before.
-pub record Borrows {V W E : Type 0} (content : V → List ℕ) (lent : W → List ℕ) (IsBorrowed IsOwned : V → Type 0) (name : List ℕ) (found : Result V (CoreError E)) (answer : Result W (DecodeError E)) : Type 0 where
+-- A string that was borrowed is handed on with its content. One that was copied is refused, and so
+-- is what was refused before.
+pub record Borrows {V W E : Type 0} (content : V → List ℕ) (lent : W → List ℕ)
+    (IsBorrowed IsOwned : V → Type 0) (name : List ℕ) (found : Result V (CoreError E))
+    (answer : Result W (DecodeError E)) : Type 0 where
   pub handed : IfOk answer (λ w. IsOkAnd found (λ v. IsBorrowed v × (content v ≡ lent w)))
-  pub refused : IfErr answer (λ error. MatchResult found (λ v. IsOwned v × LacksLoan name (as_core error)) (λ before. as_core error ≡ before))
+  pub refused : IfErr answer (λ error. MatchResult found
+      (λ v. IsOwned v × LacksLoan name (as_core error)) (λ before. as_core error ≡ before))
 
 -- A copy is refused, where the bytes are to be lent, and so is what was refused before.
-pub record RefusesCopy {V W E : Type 0} (name : List ℕ) (found : Result V (DecodeError E)) (answer : Result W (DecodeError E)) : Type 0 where
+pub record RefusesCopy {V W E : Type 0} (name : List ℕ) (found : Result V (DecodeError E))
+    (answer : Result W (DecodeError E)) : Type 0 where
   pub refused : IsErr answer
-  pub reason : IfErr answer (λ error. MatchResult found (λ v. LacksLoan name (as_core error)) (λ before. error ≡ before))
+  pub reason : IfErr answer
+      (λ error. MatchResult found (λ v. LacksLoan name (as_core error)) (λ before. error ≡ before))
 
--- What was read is handed on with its content, in memory of its own; or there was no memory for that. An error is handed
--- on as it is.
-pub record Copies {V W E : Type 0} (content : V → List ℕ) (copy : W → List ℕ) (IsOwned : W → Type 0) (found : Result V (DecodeError E)) (answer : Result W (DecodeError E)) : Type 0 where
+-- What was read is handed on with its content, in memory of its own; or there was no memory for
+-- that. An error is handed on as it is.
+pub record Copies {V W E : Type 0} (content : V → List ℕ) (copy : W → List ℕ) (IsOwned : W → Type 0)
+    (found : Result V (DecodeError E)) (answer : Result W (DecodeError E)) : Type 0 where
   pub handed : IfOk answer (λ w. IsOkAnd found (λ v. IsOwned w × (copy w ≡ content v)))
-  pub refused : IfErr answer (λ error. MatchResult found (λ v. error ≡ Core OutOfMemory) (λ before. error ≡ before))
+  pub refused : IfErr answer
+      (λ error. MatchResult found (λ v. error ≡ Core OutOfMemory) (λ before. error ≡ before))
 
 -- what stands in the `Bytes` is handed on, and an error as it is
-pub record Unwraps {V E : Type 0} (found : Result (Bytes V) (CoreError E)) (answer : Result V (DecodeError E)) : Type 0 where
+pub record Unwraps {V E : Type 0} (found : Result (Bytes V) (CoreError E))
+    (answer : Result V (DecodeError E)) : Type 0 where
   pub handed : IfOk answer (λ w. IsOkAnd found (λ v. v.0 ≡ w))
   pub refused : IfErr answer (λ error. IsErrAnd found (λ before. as_core error ≡ before))

@@ -18,16 +18,20 @@ abbrev pub NoCharacter : List ℕ → Type 0
 NoCharacter text = (only : ℕ) → text ≡ encode_utf8 only → ⊥
 
 -- the text is refused, or it is whole and is not that of one character, and is taken
-pub data StopsChar (xs : List ℕ) (budget : Option ℕ) (refusal : Refusal) (rest : List ℕ) : Type 0 where
+pub data StopsChar (xs : List ℕ) (budget : Option ℕ) (refusal : Refusal)
+    (rest : List ℕ) : Type 0 where
   no_text : StopsText (codes "str") xs budget refusal rest → StopsChar xs budget refusal rest
-  not_one : (text : List ℕ) (n c : ℕ) → ReadsText xs text n c → CostFits c budget → NoCharacter text → refusal ≡ in_words (codes "expected one character") → rest ≡ drop n xs → StopsChar xs budget refusal rest
+  not_one : (text : List ℕ) (n c : ℕ) → ReadsText xs text n c → CostFits c budget → NoCharacter text
+      → refusal ≡ in_words (codes "expected one character") → rest ≡ drop n xs
+      → StopsChar xs budget refusal rest
 
 char_same : (v w : ℕ) → encode_utf8 v ≡ encode_utf8 w → v ≡ w
 char_same v w e = (encode_same v w [] [] (ap (λ zs. zs ++ []) e)).0
 
 pub char_laws : Lawful ReadsChar (λ v w. v ≡ w) true
 char_laws = record {
-  one = λ xs v w n m c d p q. (let e = text_one encode_utf8 xs v w n m c d p q in (e.0, e.1, char_same v w e.2));
+  one = λ xs v w n m c d p q.
+      (let e = text_one encode_utf8 xs v w n m c d p q in (e.0, e.1, char_same v w e.2));
   within = text_within encode_utf8;
   positive = λ _. text_positive encode_utf8;
 }

@@ -1,5 +1,6 @@
 -- Structs that are read from their named fields: maps from names to values, in any order.
-use Rattle.std.proofs.Common.{◌≡◌, ◌≢◌, ◌⊎◌, inl, inr, ℕ, ◌≤◌, List, [], ◌∷◌, length, drop, Option, Some, Bool, true, false, sym, subst}
+use Rattle.std.proofs.Common.{◌≡◌, ◌≢◌, ◌⊎◌, inl, inr, ℕ, ◌≤◌, List, [], ◌∷◌, length, drop, Option}
+use Rattle.std.proofs.Common.{Some, Bool, true, false, sym, subst}
 use denote.Ref.{Bor}
 use Rattle.cbor4ii_rw.specs.View.{View}
 use Rattle.std.specs.Prelude.{◌&&◌, codes}
@@ -34,19 +35,23 @@ no_fields = no_field
 abbrev pub no_values : Unit {0}
 no_values = tt
 
--- A field of this name stands before others. Behind its name it is read, whatever it was before; behind another name it
--- stays, and one of the others is read.
-abbrev pub named_field : {T V : Type 0} → List ℕ → Reads T → ReadsNamed V → ReadsNamed (Option T × V)
+-- A field of this name stands before others. Behind its name it is read, whatever it was before;
+-- behind another name it stays, and one of the others is read.
+abbrev pub named_field : {T V : Type 0} → List ℕ → Reads T → ReadsNamed V
+    → ReadsNamed (Option T × V)
 named_field {T} {V} own reads others name xs change n c =
-    ((name ≡ own) × (v : T) × reads xs v n c × (change ≡ λ (values : Option T × V). (Some v, values.1)))
-    ⊎ ((name ≢ own) × (below : V → V) × others name xs below n c × (change ≡ λ (values : Option T × V). (values.0, below values.1)))
+    ((name ≡ own) × (v : T) × reads xs v n c
+    × (change ≡ λ (values : Option T × V). (Some v, values.1)))
+    ⊎ ((name ≢ own) × (below : V → V) × others name xs below n c
+    × (change ≡ λ (values : Option T × V). (values.0, below values.1)))
 
 -- an entry: a name, which is a text, and what stands behind it
 abbrev pub ReadsName : Reads (String Global)
 ReadsName = ReadsTextAs text_content
 
 abbrev pub ReadsEntry : {V : Type 0} → ReadsNamed V → Reads (V → V)
-ReadsEntry named xs change n c = (name : String Global) × ReadsPair ReadsName (named (text_content name)) xs (name, change) n c
+ReadsEntry named xs change n c =
+    (name : String Global) × ReadsPair ReadsName (named (text_content name)) xs (name, change) n c
 
 -- changes, one behind another
 abbrev pub changed : {V : Type 0} → V → List (V → V) → V
@@ -55,7 +60,9 @@ changed values (change ∷ changes) = changed (change values) changes
 
 -- a map of entries, from the values that are there before any of them
 abbrev pub ReadsFields : {V : Type 0} → V → ReadsNamed V → Reads V
-ReadsFields {V} first named xs values n c = (changes : List (V → V)) × ReadsSequence 5 (ReadsEntry named) true xs changes n c × (values ≡ changed first changes)
+ReadsFields {V} first named xs values n c =
+    (changes : List (V → V)) × ReadsSequence 5 (ReadsEntry named) true xs changes n c
+    × (values ≡ changed first changes)
 
 -- how what stands behind a name is refused
 abbrev pub StopsNamed : Type 1
@@ -67,10 +74,13 @@ no_field_stops name = StopsIgnored
 
 -- behind the field's name as the field, and behind another name as one of the others
 abbrev pub field_stops : List ℕ → StopsAt → StopsNamed → StopsNamed
-field_stops own stops others name xs budget refusal rest = ((name ≡ own) × stops xs budget refusal rest) ⊎ ((name ≢ own) × others name xs budget refusal rest)
+field_stops own stops others name xs budget refusal rest =
+    ((name ≡ own) × stops xs budget refusal rest)
+    ⊎ ((name ≢ own) × others name xs budget refusal rest)
 
 -- a name is whole, and what stands behind it is refused
-pub record StopsBehindName (stops : StopsNamed) (xs : List ℕ) (budget : Option ℕ) (refusal : Refusal) (rest : List ℕ) : Type 0 where
+pub record StopsBehindName (stops : StopsNamed) (xs : List ℕ) (budget : Option ℕ)
+    (refusal : Refusal) (rest : List ℕ) : Type 0 where
   pub whole : String Global
   pub size : ℕ
   pub cost : ℕ
@@ -80,12 +90,14 @@ pub record StopsBehindName (stops : StopsNamed) (xs : List ℕ) (budget : Option
 
 -- the name's refusal, or that of what stands behind it
 abbrev pub StopsEntry : StopsNamed → StopsAt
-StopsEntry stops xs budget refusal rest = StopsText (codes "str") xs budget refusal rest ⊎ StopsBehindName stops xs budget refusal rest
+StopsEntry stops xs budget refusal rest =
+    StopsText (codes "str") xs budget refusal rest ⊎ StopsBehindName stops xs budget refusal rest
 
--- How it is refused: no step is left, or the head of a map is refused, or behind some whole entries no byte is left, or an
--- entry is refused.
+-- How it is refused: no step is left, or the head of a map is refused, or behind some whole entries
+-- no byte is left, or an entry is refused.
 abbrev pub StopsFields : {V : Type 0} → ReadsNamed V → StopsNamed → StopsAt
-StopsFields named stops = StopsParts (codes "map") (codes "map") 5 (ReadsEntry named) (StopsEntry stops)
+StopsFields named stops =
+    StopsParts (codes "map") (codes "map") 5 (ReadsEntry named) (StopsEntry stops)
 
 -- each of them is so
 abbrev pub every : List Bool → Bool
@@ -95,23 +107,27 @@ every (b ∷ bs) = b && every bs
 -- ---- what calls make of the values
 
 -- a change was read, and made
-pub record Changes {V : Type 0} (reads : Reads (V → V)) (first last : V) (old new : View) : Type 0 where
+pub record Changes {V : Type 0} (reads : Reads (V → V)) (first last : V)
+    (old new : View) : Type 0 where
   pub change : V → V
   pub read : Sound reads old new change
   pub is : last ≡ change first
 
 -- changes were read, and made one behind another
-pub record Fills {V : Type 0} (reads : Reads (List (V → V))) (first last : V) (old new : View) : Type 0 where
+pub record Fills {V : Type 0} (reads : Reads (List (V → V))) (first last : V)
+    (old new : View) : Type 0 where
   pub changes : List (V → V)
   pub read : Sound reads old new changes
   pub is : last ≡ changed first changes
 
 -- fields by their names: of a type, and then others
-abbrev pub fields_by : {T V : Type 0} → Reads T → (List (Bor (List ℕ)) → ReadsNamed V) → List (Bor (List ℕ)) → ReadsNamed (Option T × V)
+abbrev pub fields_by : {T V : Type 0} → Reads T → (List (Bor (List ℕ)) → ReadsNamed V)
+    → List (Bor (List ℕ)) → ReadsNamed (Option T × V)
 fields_by reads others [] = no_field
 fields_by reads others (own ∷ behind) = named_field own.now reads (others behind)
 
-abbrev pub stops_by : StopsAt → (List (Bor (List ℕ)) → StopsNamed) → List (Bor (List ℕ)) → StopsNamed
+abbrev pub stops_by : StopsAt → (List (Bor (List ℕ)) → StopsNamed) → List (Bor (List ℕ))
+    → StopsNamed
 stops_by stops others [] = no_field_stops
 stops_by stops others (own ∷ behind) = field_stops own.now stops (others behind)
 
@@ -126,76 +142,125 @@ abbrev pub NamedLaws : {V : Type 0} → (V → V → Type 0) → ReadsNamed V �
 NamedLaws same named = (name : List ℕ) → Lawful (named name) (SameChange same) false
 
 -- the values of two fields, and of those behind them, mean the same
-abbrev pub SameField : {T V : Type 0} → (T → T → Type 0) → (V → V → Type 0) → Option T × V → Option T × V → Type 0
+abbrev pub SameField : {T V : Type 0} → (T → T → Type 0) → (V → V → Type 0) → Option T × V
+    → Option T × V → Type 0
 SameField same others = SamePair (SameOption same) others
 
 -- where neither is changed, they mean the same as before
-unchanged : {V : Type 0} (same : V → V → Type 0) (g h : V → V) → g ≡ (λ (values : V). values) → h ≡ (λ (values : V). values) → SameChange same g h
-unchanged {V} same g h e f v w s = subst (λ (k : V → V). same (k v) (h w)) (sym e) (subst (λ (k : V → V). same v (k w)) (sym f) s)
+unchanged : {V : Type 0} (same : V → V → Type 0) (g h : V → V) → g ≡ (λ (values : V). values)
+    → h ≡ (λ (values : V). values) → SameChange same g h
+unchanged {V} same g h e f v w s =
+    subst (λ (k : V → V). same (k v) (h w)) (sym e) (subst (λ (k : V → V). same v (k w)) (sym f) s)
 
 pub no_field_laws : {V : Type 0} (same : V → V → Type 0) → NamedLaws same (no_field {V = V})
 no_field_laws same name = record {
-  one = λ xs g h n m c d p q. (let e = tree_one xs n m c d p.0 q.0 in (e.0, e.1, unchanged same g h p.1 q.1));
+  one = λ xs g h n m c d p q.
+      (let e = tree_one xs n m c d p.0 q.0 in (e.0, e.1, unchanged same g h p.1 q.1));
   within = λ xs g n c p. tree_within xs n c p.0;
   positive = λ e xs g n c p. not_exact e;
 }
 
-module _ {T V : Type 0} (own : List ℕ) {reads : Reads T} {same : T → T → Type 0} {never_empty : Bool} (others : ReadsNamed V) {same_others : V → V → Type 0} (laws : Lawful reads same never_empty) (behind : NamedLaws same_others others) where
-  field_one : (name xs : List ℕ) (g h : (Option T × V) → (Option T × V)) (n m c d : ℕ) → named_field own reads others name xs g n c → named_field own reads others name xs h m d → (n ≡ m) × (c ≡ d) × SameChange (SameField same same_others) g h
+module _ {T V : Type 0} (own : List ℕ) {reads : Reads T} {same : T → T → Type 0}
+    {never_empty : Bool} (others : ReadsNamed V) {same_others : V → V → Type 0}
+    (laws : Lawful reads same never_empty) (behind : NamedLaws same_others others) where
+  field_one : (name xs : List ℕ) (g h : (Option T × V) → (Option T × V)) (n m c d : ℕ)
+      → named_field own reads others name xs g n c → named_field own reads others name xs h m d
+      → (n ≡ m) × (c ≡ d) × SameChange (SameField same same_others) g h
   field_one name xs g h n m c d (inl p) (inl q) =
-      let e = laws.one xs p.1 q.1 n m c d p.2 q.2 in
-      (e.0, e.1, λ v w s. subst (λ (k : (Option T × V) → (Option T × V)). SameField same same_others (k v) (h w)) (sym p.3) (subst (λ (k : (Option T × V) → (Option T × V)). SameField same same_others (Some p.1, v.1) (k w)) (sym q.3) (e.2, s.1)))
+      let e = laws.one xs p.1 q.1 n m c d p.2 q.2 in (
+        e.0,
+        e.1,
+        λ v w s. subst (λ (k : (Option T × V) → (Option T × V)). SameField same
+            same_others (k v) (h w)) (sym p.3) (subst (λ (k : (Option T × V) → (Option T × V)).
+            SameField same same_others (Some p.1, v.1) (k w)) (sym q.3) (e.2, s.1)),
+      )
   field_one name xs g h n m c d (inl p) (inr q) = absurd (q.0 p.0)
   field_one name xs g h n m c d (inr p) (inl q) = absurd (p.0 q.0)
   field_one name xs g h n m c d (inr p) (inr q) =
-      let e = (behind name).one xs p.1 q.1 n m c d p.2 q.2 in
-      (e.0, e.1, λ v w s. subst (λ (k : (Option T × V) → (Option T × V)). SameField same same_others (k v) (h w)) (sym p.3) (subst (λ (k : (Option T × V) → (Option T × V)). SameField same same_others (v.0, p.1 v.1) (k w)) (sym q.3) (s.0, e.2 v.1 w.1 s.1)))
+      let e = (behind name).one xs p.1 q.1 n m c d p.2 q.2 in (
+        e.0,
+        e.1,
+        λ v w s. subst (λ (k : (Option T × V) → (Option T × V)). SameField same
+            same_others (k v) (h w)) (sym p.3) (subst (λ (k : (Option T × V) → (Option T × V)).
+            SameField same same_others (v.0, p.1 v.1) (k w)) (sym q.3) (s.0, e.2 v.1 w.1 s.1)),
+      )
 
-  field_within : (name xs : List ℕ) (g : (Option T × V) → (Option T × V)) (n c : ℕ) → named_field own reads others name xs g n c → n ≤ length xs
+  field_within : (name xs : List ℕ) (g : (Option T × V) → (Option T × V)) (n c : ℕ)
+      → named_field own reads others name xs g n c → n ≤ length xs
   field_within name xs g n c (inl p) = laws.within xs p.1 n c p.2
   field_within name xs g n c (inr p) = (behind name).within xs p.1 n c p.2
 
   pub field_laws : NamedLaws (SameField same same_others) (named_field own reads others)
-  field_laws name = record { one = field_one name; within = field_within name; positive = λ e xs g n c p. not_exact e }
+  field_laws name = record {
+    one = field_one name;
+    within = field_within name;
+    positive = λ e xs g n c p. not_exact e;
+  }
 
-pub fields_by_laws : {T V : Type 0} {reads : Reads T} {same : T → T → Type 0} {never_empty : Bool} (others : List (Bor (List ℕ)) → ReadsNamed V) (same_others : V → V → Type 0) → Lawful reads same never_empty → ((names : List (Bor (List ℕ))) → NamedLaws same_others (others names))
-    → (names : List (Bor (List ℕ))) → NamedLaws (SameField same same_others) (fields_by reads others names)
-fields_by_laws {same = same} others same_others laws behind [] = no_field_laws (SameField same same_others)
-fields_by_laws others same_others laws behind (own ∷ names) = field_laws own.now (others names) laws (behind names)
+pub fields_by_laws : {T V : Type 0} {reads : Reads T} {same : T → T → Type 0} {never_empty : Bool}
+    (others : List (Bor (List ℕ)) → ReadsNamed V) (same_others : V → V → Type 0)
+    → Lawful reads same never_empty
+    → ((names : List (Bor (List ℕ))) → NamedLaws same_others (others names))
+    → (names : List (Bor (List ℕ)))
+    → NamedLaws (SameField same same_others) (fields_by reads others names)
+fields_by_laws {same = same} others same_others laws behind [] =
+    no_field_laws (SameField same same_others)
+fields_by_laws others same_others laws behind (own ∷ names) =
+    field_laws own.now (others names) laws (behind names)
 
 abbrev pub SameName : String Global → String Global → Type 0
 SameName s t = text_content s ≡ text_content t
 
 pub name_laws : Lawful ReadsName SameName true
-name_laws = record { one = text_one text_content; within = text_within text_content; positive = λ e. text_positive text_content }
+name_laws = record {
+  one = text_one text_content;
+  within = text_within text_content;
+  positive = λ e. text_positive text_content;
+}
 
-pub entry_laws : {V : Type 0} (same : V → V → Type 0) (named : ReadsNamed V) → NamedLaws same named → Lawful (ReadsEntry named) (SameChange same) true
+pub entry_laws : {V : Type 0} (same : V → V → Type 0) (named : ReadsNamed V) → NamedLaws same named
+    → Lawful (ReadsEntry named) (SameChange same) true
 entry_laws {V} same named laws =
-    let pair : (name : List ℕ) → Lawful (ReadsPair ReadsName (named name)) (SamePair SameName (SameChange same)) true = λ name. pair_laws ReadsName (named name) SameName (SameChange same) true false name_laws (laws name) in
+    let pair : (name : List ℕ) → Lawful (ReadsPair ReadsName (named name))
+    (SamePair SameName (SameChange same)) true = λ name. pair_laws ReadsName (named name)
+    SameName (SameChange same) true false name_laws (laws name) in
     record {
       one = λ xs g h n m c d p q. (
-          let is = (name_laws.one xs p.0 q.0 p.1.key_size q.1.key_size p.1.key_cost q.1.key_cost p.1.key q.1.key).2 in
-          let e = (pair (text_content q.0)).one xs (p.0, g) (q.0, h) n m c d (subst (λ name. ReadsPair ReadsName (named name) xs (p.0, g) n c) is p.1) q.1 in
+          let is = (name_laws.one xs p.0 q.0 p.1.key_size q.1.key_size p.1.key_cost q.1.key_cost
+          p.1.key q.1.key).2 in
+          let e = (pair (text_content q.0)).one xs (p.0, g) (q.0, h) n m c d
+          (subst (λ name. ReadsPair ReadsName (named name) xs (p.0, g) n c) is p.1) q.1 in
           (e.0, e.1, e.2.1));
       within = λ xs g n c p. (pair (text_content p.0)).within xs (p.0, g) n c p.1;
       positive = λ e xs g n c p. (pair (text_content p.0)).positive e xs (p.0, g) n c p.1;
     }
 
 -- the same changes of the same values make the same values
-changed_same : {V : Type 0} (same : V → V → Type 0) (v w : V) (gs hs : List (V → V)) → same v w → SameParts (SameChange same) gs hs → same (changed v gs) (changed w hs)
+changed_same : {V : Type 0} (same : V → V → Type 0) (v w : V) (gs hs : List (V → V)) → same v w
+    → SameParts (SameChange same) gs hs → same (changed v gs) (changed w hs)
 changed_same same v w [] [] s p = s
 changed_same same v w [] (h ∷ hs) s p = absurd p
 changed_same same v w (g ∷ gs) [] s p = absurd p
 changed_same same v w (g ∷ gs) (h ∷ hs) s p = changed_same same (g v) (h w) gs hs (p.0 v w s) p.1
 
--- One input is read in one way, as values that mean the same. A struct that is made of the values may be exact by it.
-pub fields_laws : {V : Type 0} (same : V → V → Type 0) (first : V) (named : ReadsNamed V) → same first first → NamedLaws same named → Lawful (ReadsFields first named) same true
+-- One input is read in one way, as values that mean the same. A struct that is made of the values
+-- may be exact by it.
+pub fields_laws : {V : Type 0} (same : V → V → Type 0) (first : V) (named : ReadsNamed V)
+    → same first first → NamedLaws same named → Lawful (ReadsFields first named) same true
 fields_laws {V} same first named is laws =
     let entry = entry_laws same named laws in
     record {
       one = λ xs v w n m c d p q. (
-          let e = sequence_one 5 five_small (ReadsEntry named) true (SameChange same) entry.one xs p.0 q.0 n m c d p.1 q.1 in
-          (e.0, e.1, subst (λ (z : V). same z w) (sym p.2) (subst (λ (z : V). same (changed first p.0) z) (sym q.2) (changed_same same first first p.0 q.0 is e.2))));
-      within = λ xs v n c p. sequence_within 5 five_small (ReadsEntry named) true entry.within xs p.0 n c p.1;
-      positive = λ e xs v n c p. sequence_positive 5 five_small (ReadsEntry named) true xs p.0 n c p.1;
+          let e = sequence_one 5 five_small (ReadsEntry named) true (SameChange same) entry.one xs
+          p.0 q.0 n m c d p.1 q.1 in (
+            e.0,
+            e.1,
+            subst (λ (z : V). same z w) (sym p.2)
+                (subst (λ (z : V). same (changed first p.0) z) (sym q.2)
+                (changed_same same first first p.0 q.0 is e.2)),
+          ));
+      within = λ xs v n c p.
+          sequence_within 5 five_small (ReadsEntry named) true entry.within xs p.0 n c p.1;
+      positive =
+          λ e xs v n c p. sequence_positive 5 five_small (ReadsEntry named) true xs p.0 n c p.1;
     }

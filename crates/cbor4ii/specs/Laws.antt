@@ -1,3 +1,4 @@
--- Laws of the definitions, and of how calls compose: what the proofs of this crate and of the crates above cite.
+-- Laws of the definitions, and of how calls compose: what the proofs of this crate and of the
+-- crates above cite.
 pub mod Accessors
 pub mod Any

@@ -1,5 +1,6 @@
 -- A value that may be absent, of which first is read whether it comes.
-use Rattle.std.specs.Prelude.{◌≡◌, ℕ, ◌+◌, ◌≤◌, Bool, true, false, if◌then◌else◌, length, Option, Some, None, codes}
+use Rattle.std.specs.Prelude.{◌≡◌, ℕ, ◌+◌, ◌≤◌, Bool, true, false, if◌then◌else◌, length, Option}
+use Rattle.std.specs.Prelude.{Some, None, codes}
 use Rattle.cbor4ii_rw.specs.View.{View}
 use Rattle.cbor4ii_rw.specs.Reader.{StepsIn, KeepsAllButBudget}
 use Rattle.cbor4ii_items.specs.Moves.{Kept}
@@ -55,9 +56,9 @@ ReadsComing xs true n c = (BeginsNull xs → ⊥) × (1 ≤ length xs) × (n ≡
 ReadsComing xs false n c = BeginsNull xs × (n ≡ 1) × (c ≡ 0)
 
 -- where a value comes a step is taken
-abbrev pub Holds : Bool → View → View → Type 0
-Holds true old new = StepsIn old.budget new.budget true × KeepsAllButBudget old new
-Holds false old new = new ≡ old
+abbrev pub HoldsStep : Bool → View → View → Type 0
+HoldsStep true old new = StepsIn old.budget new.budget true × KeepsAllButBudget old new
+HoldsStep false old new = new ≡ old
 
 -- It was read whether a value comes, and where one does a step was taken.
 pub record OpensOption (old new : View) (some : Bool) : Type 0 where
@@ -65,11 +66,11 @@ pub record OpensOption (old new : View) (some : Bool) : Type 0 where
   pub kept : Kept old within
   pub coming : Sound ReadsComing old within some
   pub progress : some ≡ false → within.bound + 1 ≤ old.bound
-  pub held : Holds some within new
+  pub held : HoldsStep some within new
 
 -- what is read then
-abbrev pub ReadsValue : {V : Type 0} → Bool → Reads V → Reads (Option V)
-ReadsValue true reads xs (Some v) n c = reads xs v n c
-ReadsValue true reads xs None n c = ⊥
-ReadsValue false reads xs (Some v) n c = ⊥
-ReadsValue false reads xs None n c = (n ≡ 0) × (c ≡ 0)
+abbrev pub ReadsComingValue : {V : Type 0} → Bool → Reads V → Reads (Option V)
+ReadsComingValue true reads xs (Some v) n c = reads xs v n c
+ReadsComingValue true reads xs None n c = ⊥
+ReadsComingValue false reads xs (Some v) n c = ⊥
+ReadsComingValue false reads xs None n c = (n ≡ 0) × (c ≡ 0)

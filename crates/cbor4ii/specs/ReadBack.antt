@@ -10,7 +10,8 @@ IsReadBack reads item v cost = IfEncoded item (λ bytes. ReadsBack reads bytes v
 
 -- the item, where there is one, begins with another byte than null and undefined
 abbrev pub BeginsOther : Encoding → Type 0
-BeginsOther item = IfEncoded item (λ bytes. (b : ℕ) × (bs : List ℕ) × (bytes ≡ b ∷ bs) × (b ≢ 0xf6) × (b ≢ 0xf7))
+BeginsOther item =
+    IfEncoded item (λ bytes. (b : ℕ) × (bs : List ℕ) × (bytes ≡ b ∷ bs) × (b ≢ 0xf6) × (b ≢ 0xf7))
 
 -- the item is null or undefined (RFC 8949 section 3.3)
 abbrev pub IsNullItem : Encoding → Type 0

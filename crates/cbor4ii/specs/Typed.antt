@@ -1,5 +1,6 @@
 -- What reading a typed value answers, told in the codec's own words.
-use Rattle.std.specs.Prelude.{◌≡◌, ℕ, ◌^◌, ◌≤◌, List, length, Bool, true, false, IsTrue, Result, Ok, Err}
+use Rattle.std.specs.Prelude.{◌≡◌, ℕ, ◌^◌, ◌≤◌, List, length, Bool, true, false, IsTrue, Result, Ok}
+use Rattle.std.specs.Prelude.{Err}
 use Rattle.cbor4ii_rw.specs.View.{View}
 use Rattle.cbor4ii_rw.specs.declared.error.DecodeError.{DecodeError as CoreError}
 use Rattle.cbor4ii_rw.specs.declared.error.DecodeError.TheVariants.{Custom as CoreCustom}
@@ -47,9 +48,12 @@ said exact stops xs budget refusal rest = IsTrue exact → stops xs budget refus
 abbrev pub any_two : {V : Type 0} → V → V → Type 0
 any_two v w = Unit {0}
 
--- One input is read in one way, what is read stands in the input, and where no reading is empty a byte is read.
-pub record Lawful {V : Type 0} (reads : List ℕ → V → ℕ → ℕ → Type 0) (same : V → V → Type 0) (never_empty : Bool) : Type 0 where
-  pub one : (xs : List ℕ) (v w : V) (n m c d : ℕ) → reads xs v n c → reads xs w m d → (n ≡ m) × (c ≡ d) × same v w
+-- One input is read in one way, what is read stands in the input, and where no reading is empty a
+-- byte is read.
+pub record Lawful {V : Type 0} (reads : List ℕ → V → ℕ → ℕ → Type 0) (same : V → V → Type 0)
+    (never_empty : Bool) : Type 0 where
+  pub one : (xs : List ℕ) (v w : V) (n m c d : ℕ) → reads xs v n c → reads xs w m d
+      → (n ≡ m) × (c ≡ d) × same v w
   pub within : (xs : List ℕ) (v : V) (n c : ℕ) → reads xs v n c → n ≤ length xs
   pub positive : IsTrue never_empty → (xs : List ℕ) (v : V) (n c : ℕ) → reads xs v n c → 1 ≤ n
 
@@ -58,5 +62,7 @@ pub not_exact : {Q : Type 0} → IsTrue false → Q
 not_exact h = let no : false ≡ true = h in cc
 
 -- one input is read to one end
-pub size_of : {V : Type 0} {reads : Reads V} {same : V → V → Type 0} {never_empty : Bool} → Lawful reads same never_empty → (xs : List ℕ) (p q : V) (n m c d : ℕ) → reads xs p n c → reads xs q m d → n ≡ m
+pub size_of : {V : Type 0} {reads : Reads V} {same : V → V → Type 0} {never_empty : Bool}
+    → Lawful reads same never_empty → (xs : List ℕ) (p q : V) (n m c d : ℕ) → reads xs p n c
+    → reads xs q m d → n ≡ m
 size_of h xs p q n m c d r s = (h.one xs p q n m c d r s).0

@@ -1,5 +1,6 @@
 -- Variants: a name alone, or a map of one entry, from the name to the content.
-use Rattle.std.specs.Prelude.{◌≡◌, ◌≢◌, ℕ, ◌/◌, Bool, true, false, [], ◌∷◌, take, Some, Result, IsErrAnd, codes}
+use Rattle.std.specs.Prelude.{◌≡◌, ◌≢◌, ℕ, ◌/◌, Bool, true, false, [], ◌∷◌, take, Some, Result}
+use Rattle.std.specs.Prelude.{IsErrAnd, codes}
 use Rattle.std.specs.Borrow.{MutBor}
 use Rattle.cbor4ii_rw.specs.View.{View}
 use Rattle.cbor4ii_rw.specs.Reader.{StepsIn, KeepsAllButBudget}
@@ -46,7 +47,8 @@ ReadsForm xs form n c = (take 1 xs ≡ form.1 ∷ []) × IsForm form.0 form.1 n 
 -- no byte is left, or the first one begins neither, and stays
 abbrev pub StopsForm : StopsAt
 StopsForm [] budget refusal rest = (refusal ≡ eof (codes "enum") (Small 1)) × (rest ≡ [])
-StopsForm (b ∷ bs) budget refusal rest = (b ≢ 0xa1) × (b / 32 ≢ 3) × (refusal ≡ mismatch (codes "enum") b) × (rest ≡ b ∷ bs)
+StopsForm (b ∷ bs) budget refusal rest =
+    (b ≢ 0xa1) × (b / 32 ≢ 3) × (refusal ≡ mismatch (codes "enum") b) × (rest ≡ b ∷ bs)
 
 -- A step was taken, and then it was read which form the variant has.
 pub record OpensEnum (old new : View) (form : Bool × ℕ) : Type 0 where
@@ -63,7 +65,8 @@ ReadsContent false reads xs v n c = ⊥
 
 -- the answer is that the variant has the other form, by its first byte
 abbrev pub SaysOther : {V E : Type 0} → ℕ → Result V (DecodeError E) → Type 0
-SaysOther first answer = IsErrAnd answer (λ error. refusal_of error ≡ Some (mismatch (codes "enum") first))
+SaysOther first answer =
+    IsErrAnd answer (λ error. refusal_of error ≡ Some (mismatch (codes "enum") first))
 
 -- the variant has no content, and nothing is taken; or its content is refused
 abbrev pub StopsContent : Bool × ℕ → StopsAt → StopsAt

@@ -2,7 +2,7 @@
 ghost use Rattle.std.specs.Prelude.{◌≡◌, IfOk, Some};
 ghost use Rattle.cbor4ii_tree.specs.Canonical.{canon};
 ghost use Rattle.cbor4ii_tree.specs.Item.{Item};
-ghost use Rattle.cbor4ii_tree.specs.Spelling.{Reads};
+ghost use Rattle.cbor4ii_tree.specs.Spelling.{ReadsPlainly};
 
 #[cfg(test)]
 mod tests;
@@ -21,7 +21,7 @@ use std::io::{self, BufRead};
 /// The canonical spelling of the item at the front of `input`, and what follows that item.
 pub fn canonical(alloc: Global, input: &[u8]) -> Result<(Vec<u8>, &[u8]), DecodeError<Never>>
     ensures { IfOk result (λ parts. (v : Item) ×
-        Reads input.now (Some 256) v parts.1.now × (parts.0.items ≡ canon v)) }
+        ReadsPlainly input.now (Some 256) v parts.1.now × (parts.0.items ≡ canon v)) }
 {
     let mut reader = SliceReader::new(input);
     let value = Value::decode(alloc, &mut reader)?;

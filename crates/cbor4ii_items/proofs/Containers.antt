@@ -1,5 +1,6 @@
 -- Optional and tagged items, one part after another.
-use Rattle.std.proofs.Common.{◌≡◌, ◌≢◌, ℕ, ◌+◌, ◌≤◌, inl, inr, List, [], ◌∷◌, length, drop, take, Option, Some, None, Ok, Err, refl, sym, ap, ◌∙◌, subst, arith, IfSome}
+use Rattle.std.proofs.Common.{◌≡◌, ◌≢◌, ℕ, ◌+◌, ◌≤◌, inl, inr, List, [], ◌∷◌, length, drop, take}
+use Rattle.std.proofs.Common.{Option, Some, None, Ok, Err, refl, sym, ap, ◌∙◌, subst, arith, IfSome}
 use Rattle.std.specs.Prelude.{codes}
 use Rattle.cbor4ii_rw.specs.View.{View, Told}
 use Rattle.cbor4ii_rw.specs.declared.error.DecodeError.{DecodeError}
@@ -29,7 +30,8 @@ first_of : (b : ℕ) (rest xs : List ℕ) → xs ≡ b ∷ rest → (take 1 xs �
 first_of b rest [] e = cc
 first_of b rest (x ∷ xs) e = let f : x ≡ b = cc in (ap (λ z. z ∷ []) f, omega arith)
 
-pub saw : {E : Type 0} (name : List ℕ) (expect b : ℕ) {a m : View} → Runs {E = E} (peek_at name expect) a m (Ok b) → Saw a m b
+pub saw : {E : Type 0} (name : List ℕ) (expect b : ℕ) {a m : View}
+    → Runs {E = E} (peek_at name expect) a m (Ok b) → Saw a m b
 saw name expect b p = record {
   first = λ xs told.
       let h = p.answers xs told in
@@ -40,74 +42,107 @@ saw name expect b p = record {
 }
 
 not_null : (xs : List ℕ) (b : ℕ) → take 1 xs ≡ b ∷ [] → b ≢ 0xf6 → b ≢ 0xf7 → BeginsNull xs → ⊥
-not_null xs b e p q h = elim h [ inl f ↦ (let g : b ≡ 0xf6 = cc in p g) | inr f ↦ (let g : b ≡ 0xf7 = cc in q g) ]
+not_null xs b e p q h =
+    elim h [ inl f ↦ (let g : b ≡ 0xf6 = cc in p g) | inr f ↦ (let g : b ≡ 0xf7 = cc in q g) ]
 
 -- ---- some item
 
-pub some_sound : {V : Type 0} (reads : Reads V) (a m b : View) (v : V) (first : ℕ) → Saw a m first → first ≢ 0xf6 → first ≢ 0xf7 → Sound reads m b v → Sound (ReadsOption reads) a b (Some v)
+pub some_sound : {V : Type 0} (reads : Reads V) (a m b : View) (v : V) (first : ℕ) → Saw a m first
+    → first ≢ 0xf6 → first ≢ 0xf7 → Sound reads m b v → Sound (ReadsOption reads) a b (Some v)
 some_sound reads a m b v first s p q h = record {
   at = λ xs told.
       let f = s.first xs told in
       let t = h.at xs f.0 in
-      record { count = t.count; cost = t.cost; read = (not_null xs first f.1 p q, f.2, t.read); fits = subst (CostFits t.cost) s.budget t.fits; left = t.left };
+      record {
+        count = t.count;
+        cost = t.cost;
+        read = (not_null xs first f.1 p q, f.2, t.read);
+        fits = subst (CostFits t.cost) s.budget t.fits;
+        left = t.left;
+      };
 }
 
-no_option : {V : Type 0} (reads : Reads V) (xs : List ℕ) (old new : Option ℕ) → old ≡ new → (BeginsNull xs → ⊥) → NoneRead reads xs old → (o : Option V) (k c : ℕ) → ReadsOption reads xs o k c → CostFits c new → ⊥
+no_option : {V : Type 0} (reads : Reads V) (xs : List ℕ) (old new : Option ℕ) → old ≡ new
+    → (BeginsNull xs → ⊥) → NoneRead reads xs old → (o : Option V) (k c : ℕ)
+    → ReadsOption reads xs o k c → CostFits c new → ⊥
 no_option reads xs old new e n h None k c r fits = n r.0
 no_option reads xs old new e n h (Some v) k c r fits = h v k c r.2 (subst (CostFits c) (sym e) fits)
 
-pub some_refuses : {V E : Type 0} (reads : Reads V) (a m : View) (e : DecodeError E) (first : ℕ) → Saw a m first → first ≢ 0xf6 → first ≢ 0xf7 → ((xs : List ℕ) → a.told ≡ Some xs → Refuses reads m e) → Refuses (ReadsOption reads) a e
+pub some_refuses : {V E : Type 0} (reads : Reads V) (a m : View) (e : DecodeError E) (first : ℕ)
+    → Saw a m first → first ≢ 0xf6 → first ≢ 0xf7
+    → ((xs : List ℕ) → a.told ≡ Some xs → Refuses reads m e) → Refuses (ReadsOption reads) a e
 some_refuses reads a m e first s p q h = record {
   at = λ xs told.
       let f = s.first xs told in
-      if_some (refusal_of e) (no_option reads xs m.budget a.budget s.budget (not_null xs first f.1 p q)) ((h xs told).at xs f.0);
+      if_some (refusal_of e)
+      (no_option reads xs m.budget a.budget s.budget (not_null xs first f.1 p q))
+      ((h xs told).at xs f.0);
 }
 
-stops_some : (o : Option Refusal) (stops : StopsAt) (xs : List ℕ) (old new : Option ℕ) (left : Option (List ℕ)) → old ≡ new → 1 ≤ length xs
-    → IfSome o (λ z. (ys : List ℕ) × (left ≡ Some ys) × stops xs old z ys) → IfSome o (λ z. (ys : List ℕ) × (left ≡ Some ys) × StopsOption stops xs new z ys)
+stops_some : (o : Option Refusal) (stops : StopsAt) (xs : List ℕ) (old new : Option ℕ)
+    (left : Option (List ℕ)) → old ≡ new → 1 ≤ length xs
+    → IfSome o (λ z. (ys : List ℕ) × (left ≡ Some ys) × stops xs old z ys)
+    → IfSome o (λ z. (ys : List ℕ) × (left ≡ Some ys) × StopsOption stops xs new z ys)
 stops_some None stops xs old new left e n h = tt
 stops_some (Some z) stops [] old new left e n h = absurd (omega arith)
-stops_some (Some z) stops (x ∷ xs) old new left e n h = (h.0, h.1, subst (λ k. stops (x ∷ xs) k z h.0) e h.2)
+stops_some (Some z) stops (x ∷ xs) old new left e n h =
+    (h.0, h.1, subst (λ k. stops (x ∷ xs) k z h.0) e h.2)
 
-pub some_stops : {E : Type 0} (stops : StopsAt) (a m b : View) (e : DecodeError E) (first : ℕ) → Saw a m first → ((xs : List ℕ) → a.told ≡ Some xs → Stops stops m b e) → Stops (StopsOption stops) a b e
+pub some_stops : {E : Type 0} (stops : StopsAt) (a m b : View) (e : DecodeError E) (first : ℕ)
+    → Saw a m first → ((xs : List ℕ) → a.told ≡ Some xs → Stops stops m b e)
+    → Stops (StopsOption stops) a b e
 some_stops stops a m b e first s h = record {
   at = λ xs told.
       let f = s.first xs told in
-      stops_some (refusal_of e) stops xs m.budget a.budget b.told s.budget f.2 ((h xs told).at xs f.0);
+      stops_some (refusal_of e) stops xs m.budget a.budget b.told s.budget f.2
+      ((h xs told).at xs f.0);
 }
 
 -- ---- the end of the input
 
-no_bytes : {V : Type 0} (reads : Reads V) (budget : Option ℕ) (o : Option V) (n c : ℕ) → ReadsOption reads [] o n c → CostFits c budget → ⊥
+no_bytes : {V : Type 0} (reads : Reads V) (budget : Option ℕ) (o : Option V) (n c : ℕ)
+    → ReadsOption reads [] o n c → CostFits c budget → ⊥
 no_bytes reads budget None n c r fits = elim r.0 [ inl e ↦ cc | inr e ↦ cc ]
 no_bytes reads budget (Some v) n c r fits = absurd (omega (arith, r.1))
 
-end_read : {V : Type 0} (o : Option Refusal) (reads : Reads V) (name : List ℕ) (expect : ℕ) (xs : List ℕ) (budget : Option ℕ) (left : Option (List ℕ))
-    → IfSome o (λ z. (ys : List ℕ) × (left ≡ Some ys) × (peek_at name expect xs ≡ Err (z, ys))) → IfSome o (λ z. NoneRead (ReadsOption reads) xs budget)
+end_read : {V : Type 0} (o : Option Refusal) (reads : Reads V) (name : List ℕ) (expect : ℕ)
+    (xs : List ℕ) (budget : Option ℕ) (left : Option (List ℕ))
+    → IfSome o (λ z. (ys : List ℕ) × (left ≡ Some ys) × (peek_at name expect xs ≡ Err (z, ys)))
+    → IfSome o (λ z. NoneRead (ReadsOption reads) xs budget)
 end_read None reads name expect xs budget left h = tt
 end_read (Some z) reads name expect (x ∷ xs) budget left h = let e = h.2 in cc
 end_read (Some z) reads name expect [] budget left h = no_bytes reads budget
 
-pub end_refuses : {V E : Type 0} (reads : Reads V) (name : List ℕ) (expect : ℕ) (e : DecodeError E) {a m : View} → Runs {V = ℕ} (peek_at name expect) a m (Err e) → Refuses (ReadsOption reads) a e
-end_refuses reads name expect e {a = a} {m = m} p = record { at = λ xs told. end_read (refusal_of e) reads name expect xs a.budget m.told (p.answers xs told) }
+pub end_refuses : {V E : Type 0} (reads : Reads V) (name : List ℕ) (expect : ℕ) (e : DecodeError E)
+    {a m : View} → Runs {V = ℕ} (peek_at name expect) a m (Err e) → Refuses (ReadsOption reads) a e
+end_refuses reads name expect e {a = a} {m = m} p = record {
+  at = λ xs told.
+      end_read (refusal_of e) reads name expect xs a.budget m.told (p.answers xs told);
+}
 
-stops_end : (o : Option Refusal) (stops : StopsAt) (xs : List ℕ) (budget : Option ℕ) (left : Option (List ℕ))
-    → IfSome o (λ z. (ys : List ℕ) × (left ≡ Some ys) × (peek_at (codes "option") 1 xs ≡ Err (z, ys))) → IfSome o (λ z. (ys : List ℕ) × (left ≡ Some ys) × StopsOption stops xs budget z ys)
+stops_end : (o : Option Refusal) (stops : StopsAt) (xs : List ℕ) (budget : Option ℕ)
+    (left : Option (List ℕ))
+    → IfSome o
+    (λ z. (ys : List ℕ) × (left ≡ Some ys) × (peek_at (codes "option") 1 xs ≡ Err (z, ys)))
+    → IfSome o (λ z. (ys : List ℕ) × (left ≡ Some ys) × StopsOption stops xs budget z ys)
 stops_end None stops xs budget left h = tt
 stops_end (Some z) stops (x ∷ xs) budget left h = let e = h.2 in cc
 stops_end (Some z) stops [] budget left h =
     let r = same_refusal (peek_at (codes "option") 1 []) refl h.2 in
     (h.0, h.1, (sym r.0, sym r.1))
 
-pub end_stops : {E : Type 0} (stops : StopsAt) (e : DecodeError E) {a m : View} → Runs {V = ℕ} (peek_at (codes "option") 1) a m (Err e) → Stops (StopsOption stops) a m e
-end_stops stops e {a = a} {m = m} p = record { at = λ xs told. stops_end (refusal_of e) stops xs a.budget m.told (p.answers xs told) }
+pub end_stops : {E : Type 0} (stops : StopsAt) (e : DecodeError E) {a m : View}
+    → Runs {V = ℕ} (peek_at (codes "option") 1) a m (Err e) → Stops (StopsOption stops) a m e
+end_stops stops e {a = a} {m = m} p =
+    record { at = λ xs told. stops_end (refusal_of e) stops xs a.budget m.told (p.answers xs told) }
 
 -- ---- tags
 
 abbrev pub TagOf : {V : Type 0} → Reads V → Reads (Tag V)
 TagOf reads xs v n c = ReadsTag reads xs v.0 v.1 n c
 
-pub tag_sound : {V : Type 0} (reads : Reads V) (a m b : View) (t : Tag V) → Kept a m → Sound (ReadsArgument 6 8) a m t.0 → Sound reads m b t.1 → Sound (TagOf reads) a b t
+pub tag_sound : {V : Type 0} (reads : Reads V) (a m b : View) (t : Tag V) → Kept a m
+    → Sound (ReadsArgument 6 8) a m t.0 → Sound reads m b t.1 → Sound (TagOf reads) a b t
 tag_sound reads a m b t kept h s = record {
   at = λ xs told.
       let p = h.at xs told in
@@ -115,40 +150,71 @@ tag_sound reads a m b t kept h s = record {
       record {
         count = p.count + u.count;
         cost = u.cost;
-        read = record { before = p.count; head = p.read.0; count = u.count; item = u.read; bytes = refl };
+        read = record {
+          before = p.count;
+          head = p.read.0;
+          count = u.count;
+          item = u.read;
+          bytes = refl;
+        };
         fits = subst (CostFits u.cost) kept.budget u.fits;
         left = u.left ∙ ap Some (drop_more u.count p.count xs);
       };
 }
 
-pub tag_refuses : {V E : Type 0} (reads : Reads V) (e : DecodeError E) (a m : View) (k : ℕ) → Kept a m → Sound (ReadsArgument 6 8) a m k → ((xs : List ℕ) → a.told ≡ Some xs → Refuses reads m e) → Refuses (TagOf reads) a e
+pub tag_refuses : {V E : Type 0} (reads : Reads V) (e : DecodeError E) (a m : View) (k : ℕ)
+    → Kept a m → Sound (ReadsArgument 6 8) a m k
+    → ((xs : List ℕ) → a.told ≡ Some xs → Refuses reads m e) → Refuses (TagOf reads) a e
 tag_refuses reads e a m k kept h r = record {
   at = λ xs told.
       let p = h.at xs told in
       if_some (refusal_of e) (λ none t n c q fits.
       let same = head_one 6 8 xs t.0 k q.before p.count (omega arith) q.head p.read.0 in
-      none t.1 q.count c (subst (λ i. reads (drop i xs) t.1 q.count c) same.0 q.item) (subst (CostFits c) (sym kept.budget) fits)) ((r xs told).at (drop p.count xs) p.left);
+      none t.1 q.count c (subst (λ i. reads (drop i xs) t.1 q.count c) same.0 q.item)
+      (subst (CostFits c) (sym kept.budget) fits)) ((r xs told).at (drop p.count xs) p.left);
 }
 
-pub tag_no_head : {V E : Type 0} (reads : Reads V) (e : DecodeError E) (a : View) → Refuses (ReadsArgument 6 8) a e → Refuses (TagOf reads) a e
-tag_no_head reads e a h = record { at = λ xs told. if_some (refusal_of e) (λ none t n c q fits. none t.0 q.before 0 (q.head, refl) (fits_zero a.budget)) (h.at xs told) }
+pub tag_no_head : {V E : Type 0} (reads : Reads V) (e : DecodeError E) (a : View)
+    → Refuses (ReadsArgument 6 8) a e → Refuses (TagOf reads) a e
+tag_no_head reads e a h = record {
+  at = λ xs told. if_some (refusal_of e)
+      (λ none t n c q fits. none t.0 q.before 0 (q.head, refl) (fits_zero a.budget)) (h.at xs told);
+}
 
-stops_item : (o : Option Refusal) (stops : StopsAt) (xs : List ℕ) (k n : ℕ) (old mid : Option ℕ) (left : Option (List ℕ)) → mid ≡ old → ReadsHead 6 8 xs k n
-    → IfSome o (λ z. (ys : List ℕ) × (left ≡ Some ys) × stops (drop n xs) mid z ys) → IfSome o (λ z. (ys : List ℕ) × (left ≡ Some ys) × StopsTag stops xs old z ys)
+stops_item : (o : Option Refusal) (stops : StopsAt) (xs : List ℕ) (k n : ℕ) (old mid : Option ℕ)
+    (left : Option (List ℕ)) → mid ≡ old → ReadsHead 6 8 xs k n
+    → IfSome o (λ z. (ys : List ℕ) × (left ≡ Some ys) × stops (drop n xs) mid z ys)
+    → IfSome o (λ z. (ys : List ℕ) × (left ≡ Some ys) × StopsTag stops xs old z ys)
 stops_item None stops xs k n old mid left e f h = tt
-stops_item (Some z) stops xs k n old mid left e f h = (h.0, h.1, inr (record { number = k; before = n; head = f; item = subst (λ b. stops (drop n xs) b z h.0) e h.2 }))
+stops_item (Some z) stops xs k n old mid left e f h = (
+  h.0,
+  h.1,
+  inr (record {
+    number = k;
+    before = n;
+    head = f;
+    item = subst (λ b. stops (drop n xs) b z h.0) e h.2;
+  }),
+)
 
-pub tag_stops : {E : Type 0} (stops : StopsAt) (a m b : View) (e : DecodeError E) (k : ℕ) → Kept a m → Sound (ReadsArgument 6 8) a m k → ((xs : List ℕ) → a.told ≡ Some xs → Stops stops m b e) → Stops (StopsTag stops) a b e
+pub tag_stops : {E : Type 0} (stops : StopsAt) (a m b : View) (e : DecodeError E) (k : ℕ) → Kept a m
+    → Sound (ReadsArgument 6 8) a m k → ((xs : List ℕ) → a.told ≡ Some xs → Stops stops m b e)
+    → Stops (StopsTag stops) a b e
 tag_stops stops a m b e k kept h s = record {
   at = λ xs told.
       let p = h.at xs told in
-      stops_item (refusal_of e) stops xs k p.count a.budget m.budget b.told kept.budget p.read.0 ((s xs told).at (drop p.count xs) p.left);
+      stops_item (refusal_of e) stops xs k p.count a.budget m.budget b.told kept.budget p.read.0
+      ((s xs told).at (drop p.count xs) p.left);
 }
 
-stops_head : (o : Option Refusal) (stops : StopsAt) (xs : List ℕ) (budget : Option ℕ) (left : Option (List ℕ))
-    → IfSome o (λ z. (ys : List ℕ) × (left ≡ Some ys) × StopsHead (codes "tag") 6 8 xs z ys) → IfSome o (λ z. (ys : List ℕ) × (left ≡ Some ys) × StopsTag stops xs budget z ys)
+stops_head : (o : Option Refusal) (stops : StopsAt) (xs : List ℕ) (budget : Option ℕ)
+    (left : Option (List ℕ))
+    → IfSome o (λ z. (ys : List ℕ) × (left ≡ Some ys) × StopsHead (codes "tag") 6 8 xs z ys)
+    → IfSome o (λ z. (ys : List ℕ) × (left ≡ Some ys) × StopsTag stops xs budget z ys)
 stops_head None stops xs budget left h = tt
 stops_head (Some z) stops xs budget left h = (h.0, h.1, inl h.2)
 
-pub tag_head_stops : {E : Type 0} (stops : StopsAt) (a b : View) (e : DecodeError E) → Stops (StopsArgument (codes "tag") 6 8) a b e → Stops (StopsTag stops) a b e
-tag_head_stops stops a b e h = record { at = λ xs told. stops_head (refusal_of e) stops xs a.budget b.told (h.at xs told) }
+pub tag_head_stops : {E : Type 0} (stops : StopsAt) (a b : View) (e : DecodeError E)
+    → Stops (StopsArgument (codes "tag") 6 8) a b e → Stops (StopsTag stops) a b e
+tag_head_stops stops a b e h =
+    record { at = λ xs told. stops_head (refusal_of e) stops xs a.budget b.told (h.at xs told) }

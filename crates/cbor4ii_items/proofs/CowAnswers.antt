@@ -1,5 +1,7 @@
 -- A content that is lent, or copied, as what the owned strings read.
-use Rattle.std.proofs.Common.{◌≡◌, ℕ, ◌<◌, List, [], length, drop, Option, None, Some, Result, Ok, Err, Bool, true, false, IsTrue, refl, sym, ap, ◌∙◌, subst, arith, IfSome, IfOk}
+use Rattle.std.proofs.Common.{◌≡◌, ℕ, ◌<◌, List, [], length, drop, Option, None, Some, Result, Ok}
+use Rattle.std.proofs.Common.{Err, Bool, true, false, IsTrue, refl, sym, ap, ◌∙◌, subst, arith}
+use Rattle.std.proofs.Common.{IfSome, IfOk}
 use denote.Ref.{Bor}
 use Rattle.cbor4ii_rw.specs.View.{View, Told}
 use Rattle.cbor4ii_rw.specs.declared.error.DecodeError.{DecodeError}
@@ -14,29 +16,42 @@ use Rattle.cbor4ii_items.specs.Laws.ProgramEnds.{length_none, content_inverse}
 use Rattle.cbor4ii_items.specs.Laws.Strings.{length_open}
 use Rattle.cbor4ii_items.specs.Strings.{ReadsString, StopsString, StopsText}
 use Rattle.cbor4ii_items.specs.Lent.{Lends, Stays}
-use Rattle.cbor4ii_items.specs.Cow.{ReadsEither, StopsEither, TakesContent, BorrowsWhereCounted, IsBorrowedWhereWhole}
+use Rattle.cbor4ii_items.specs.Cow.{ReadsEither, StopsEither, TakesContent, BorrowsWhereCounted}
+use Rattle.cbor4ii_items.specs.Cow.{IsBorrowedWhereWhole}
 use Rattle.cbor4ii_items.proofs.OpenStrings.{string_known}
 use Rattle.cbor4ii_items.proofs.WholeHeads.{runs_stayed}
-use Rattle.cbor4ii_items.proofs.StringAnswers.{content_sound, content_refuses, content_stops, as_sound, as_refuses, text_sound, text_refuses, text_stops, utf8_refuses, utf8_stops}
+use Rattle.cbor4ii_items.proofs.StringAnswers.{content_sound, content_refuses, content_stops}
+use Rattle.cbor4ii_items.proofs.StringAnswers.{as_sound, as_refuses, text_sound, text_refuses}
+use Rattle.cbor4ii_items.proofs.StringAnswers.{text_stops, utf8_refuses, utf8_stops}
 
 -- ---- a content of a known length
 
 -- what is lent is what the program reads
-pub lends_runs : {E : Type 0} (name : List ℕ) {count : ℕ} {content : List ℕ} {a b : View} → Lends count content a b → Runs {E = E} (content_on name count []) a b (Ok content)
+pub lends_runs : {E : Type 0} (name : List ℕ) {count : ℕ} {content : List ℕ} {a b : View}
+    → Lends count content a b → Runs {E = E} (content_on name count []) a b (Ok content)
 lends_runs name {count = count} l = record {
   moves = record { by = l.kept; depth = λ e. refl };
   answers = λ xs told.
-      let t = l.at xs told in
-      (drop count xs, t.1, content_whole name count [] xs t.0 ∙ ap (λ (z : List ℕ). Ok (z, drop count xs)) (sym t.2));
+      let t = l.at xs told in (
+        drop count xs,
+        t.1,
+        content_whole name count [] xs t.0
+            ∙ ap (λ (z : List ℕ). Ok (z, drop count xs)) (sym t.2),
+      );
 }
 
-pub takes_still : {V E : Type 0} {program : Reading (List ℕ)} (is_text : Bool) (content : V → List ℕ) {a m b : View} (r : Result (Option V) (DecodeError E)) → Stays a m → TakesContent program is_text content m b r → TakesContent program is_text content a b r
+pub takes_still : {V E : Type 0} {program : Reading (List ℕ)} (is_text : Bool)
+    (content : V → List ℕ) {a m b : View} (r : Result (Option V) (DecodeError E)) → Stays a m
+    → TakesContent program is_text content m b r → TakesContent program is_text content a b r
 takes_still is_text content (Ok value) s t = record { by = (t.by.0, runs_stayed s t.by.1, t.by.2) }
 takes_still is_text content (Err e) s t = record { by = runs_stayed s t.by }
 
 -- where the bytes are fewer, there is no value
-pub few_borrows : {V E : Type 0} (name : List ℕ) (count : ℕ) (is_text : Bool) (content : V → List ℕ) (IsBorrowed : V → Type 0) {a m b : View} (r : Result (Option V) (DecodeError E)) → Stays a m → (IsTrue a.lends_whole → Told a.told (λ xs. length xs < count))
-    → TakesContent (content_on name count []) is_text content m b r → IfOk r (λ value. IfSome value (IsBorrowedWhereWhole IsBorrowed a))
+pub few_borrows : {V E : Type 0} (name : List ℕ) (count : ℕ) (is_text : Bool) (content : V → List ℕ)
+    (IsBorrowed : V → Type 0) {a m b : View} (r : Result (Option V) (DecodeError E)) → Stays a m
+    → (IsTrue a.lends_whole → Told a.told (λ xs. length xs < count))
+    → TakesContent (content_on name count []) is_text content m b r
+    → IfOk r (λ value. IfSome value (IsBorrowedWhereWhole IsBorrowed a))
 few_borrows name count is_text content IsBorrowed (Ok (Some v)) s few t = λ whole xs told.
     let h = t.by.1.answers xs (s.told xs told) in
     let long = (content_inverse name count [] xs t.by.0 h.0 h.2).0 in
@@ -46,56 +61,94 @@ few_borrows name count is_text content IsBorrowed (Err e) s few t = tt
 
 -- ---- a string
 
-module _ {V E : Type 0} (name : List ℕ) (major : ℕ) (is_text : Bool) (content : V → List ℕ) {a b : View} where
+module _ {V E : Type 0} (name : List ℕ) (major : ℕ) (is_text : Bool) (content : V → List ℕ)
+    {a b : View} where
   -- behind a head that says the length
-  pub either_known : {l : Option ℕ} {count : ℕ} {m : View} (r : Result (Option V) (DecodeError E)) → Runs {E = E} (length_at name major) a m (Ok l) → l ≡ Some count → TakesContent (content_on name count []) is_text content m b r
+  pub either_known : {l : Option ℕ} {count : ℕ} {m : View} (r : Result (Option V) (DecodeError E))
+      → Runs {E = E} (length_at name major) a m (Ok l) → l ≡ Some count
+      → TakesContent (content_on name count []) is_text content m b r
       → TakesContent (string_at name major a.budget) is_text content a b r
-  either_known (Ok value) run is t = record { by = (t.by.0, string_known name major run is t.by.1, t.by.2) }
+  either_known (Ok value) run is t =
+      record { by = (t.by.0, string_known name major run is t.by.1, t.by.2) }
   either_known (Err e) run is t = record { by = string_known name major run is t.by }
 
 -- of a text the major type is 3
-pub either_stops : {E : Type 0} (name : List ℕ) {a b : View} (is_text : Bool) (major : ℕ) {e : DecodeError E} → (IsTrue is_text → major ≡ 3) → Runs {V = List ℕ} (string_at name major a.budget) a b (Err e) → Stops (StopsEither is_text name major) a b e
-either_stops name {a = a} {b = b} true major {e = e} text f = text_stops (subst (λ (j : ℕ). Stops (StopsString name j) a b e) (text refl) (content_stops name major f))
+pub either_stops : {E : Type 0} (name : List ℕ) {a b : View} (is_text : Bool) (major : ℕ)
+    {e : DecodeError E} → (IsTrue is_text → major ≡ 3) → Runs {V = List ℕ}
+    (string_at name major a.budget) a b (Err e) → Stops (StopsEither is_text name major) a b e
+either_stops name {a = a} {b = b} true major {e = e} text f =
+    text_stops (subst (λ (j : ℕ). Stops (StopsString name j) a b e) (text refl)
+    (content_stops name major f))
 either_stops name false major text f = content_stops name major f
 
 module _ {V E : Type 0} (name : List ℕ) (content : V → List ℕ) {a b : View} where
-  pub either_sound : (is_text : Bool) (major : ℕ) {v : V} → (IsTrue is_text → major ≡ 3) → TakesContent {E = E} (string_at name major a.budget) is_text content a b (Ok (Some v)) → Sound (ReadsEither is_text major content) a b v
-  either_sound true major text t = text_sound content (sym t.by.2.0) (t.by.2.1 refl) (subst (λ (j : ℕ). Sound (ReadsString j) a b t.by.0) (text refl) (content_sound name major t.by.1))
-  either_sound false major text t = as_sound major content (subst (λ z. Sound (ReadsString major) a b z) (sym t.by.2.0) (content_sound name major t.by.1))
+  pub either_sound : (is_text : Bool) (major : ℕ) {v : V} → (IsTrue is_text → major ≡ 3)
+      → TakesContent {E = E} (string_at name major a.budget) is_text content a b (Ok (Some v))
+      → Sound (ReadsEither is_text major content) a b v
+  either_sound true major text t =
+      text_sound content (sym t.by.2.0) (t.by.2.1 refl)
+      (subst (λ (j : ℕ). Sound (ReadsString j) a b t.by.0) (text refl)
+      (content_sound name major t.by.1))
+  either_sound false major text t =
+      as_sound major content (subst (λ z. Sound (ReadsString major) a b z) (sym t.by.2.0)
+      (content_sound name major t.by.1))
 
-  pub either_refuses : (is_text : Bool) (major : ℕ) {e : DecodeError E} → (IsTrue is_text → major ≡ 3) → major < 8 → Runs {V = List ℕ} (string_at name major a.budget) a b (Err e) → Refuses (ReadsEither is_text major content) a e
-  either_refuses true major {e = e} text small f = text_refuses content (subst (λ (j : ℕ). Refuses (ReadsString j) a e) (text refl) (content_refuses name major small f))
-  either_refuses false major text small f = as_refuses major content (content_refuses name major small f)
+  pub either_refuses : (is_text : Bool) (major : ℕ) {e : DecodeError E}
+      → (IsTrue is_text → major ≡ 3) → major < 8 → Runs {V = List ℕ}
+      (string_at name major a.budget) a b (Err e) → Refuses (ReadsEither is_text major content) a e
+  either_refuses true major {e = e} text small f =
+      text_refuses content (subst (λ (j : ℕ). Refuses (ReadsString j) a e) (text refl)
+      (content_refuses name major small f))
+  either_refuses false major text small f =
+      as_refuses major content (content_refuses name major small f)
 
   -- a content that is to be UTF-8 and is not
-  pub other_refuses : (is_text : Bool) (major : ℕ) {found : Bor (List ℕ)} → (IsTrue is_text → major ≡ 3) → TakesContent {E = E} (string_at name major a.budget) is_text content a b (Ok None) → Refuses {E = E} (ReadsEither is_text major content) a (RequireUtf8 found)
-  other_refuses true major text t = utf8_refuses content t.by.2.1 (subst (λ (j : ℕ). Sound (ReadsString j) a b t.by.0) (text refl) (content_sound name major t.by.1))
+  pub other_refuses : (is_text : Bool) (major : ℕ) {found : Bor (List ℕ)}
+      → (IsTrue is_text → major ≡ 3)
+      → TakesContent {E = E} (string_at name major a.budget) is_text content a b (Ok None)
+      → Refuses {E = E} (ReadsEither is_text major content) a (RequireUtf8 found)
+  other_refuses true major text t =
+      utf8_refuses content t.by.2.1 (subst (λ (j : ℕ). Sound (ReadsString j) a b t.by.0) (text refl)
+      (content_sound name major t.by.1))
   other_refuses false major text t = let f = t.by.2.0 in cc
 
-  pub other_stops : (is_text : Bool) (major : ℕ) {found : Bor (List ℕ)} → found.now ≡ name → (IsTrue is_text → major ≡ 3) → TakesContent {E = E} (string_at name major a.budget) is_text content a b (Ok None) → Stops {E = E} (StopsEither is_text name major) a b (RequireUtf8 found)
+  pub other_stops : (is_text : Bool) (major : ℕ) {found : Bor (List ℕ)} → found.now ≡ name
+      → (IsTrue is_text → major ≡ 3)
+      → TakesContent {E = E} (string_at name major a.budget) is_text content a b (Ok None)
+      → Stops {E = E} (StopsEither is_text name major) a b (RequireUtf8 found)
   other_stops true major {found = found} named text t =
-      subst (λ z. Stops {E = E} (StopsText z) a b (RequireUtf8 found)) named (utf8_stops t.by.2.1 (subst (λ (j : ℕ). Sound (ReadsString j) a b t.by.0) (text refl) (content_sound name major t.by.1)))
+      subst (λ z. Stops {E = E} (StopsText z) a b (RequireUtf8 found)) named
+      (utf8_stops t.by.2.1 (subst (λ (j : ℕ). Sound (ReadsString j) a b t.by.0) (text refl)
+      (content_sound name major t.by.1)))
   other_stops false major named text t = let f = t.by.2.0 in cc
 
 -- ---- which strings are borrowed
 
-module _ {V E : Type 0} (name : List ℕ) (major : ℕ) (IsBorrowed IsOwned : V → Type 0) {a m : View} {l : Option ℕ} (run : Runs {E = E} (length_at name major) a m (Ok l)) where
-  counted_borrows : {count : ℕ} (v : V) → l ≡ Some count → IsBorrowedWhereWhole IsBorrowed m v → BorrowsWhereCounted major IsBorrowed IsOwned a v
+module _ {V E : Type 0} (name : List ℕ) (major : ℕ) (IsBorrowed IsOwned : V → Type 0) {a m : View}
+    {l : Option ℕ} (run : Runs {E = E} (length_at name major) a m (Ok l)) where
+  counted_borrows : {count : ℕ} (v : V) → l ≡ Some count → IsBorrowedWhereWhole IsBorrowed m v
+      → BorrowsWhereCounted major IsBorrowed IsOwned a v
   counted_borrows v is h = record {
-    indefinite = λ xs told begins. let f = length_open name major xs begins in let g = (same_value _ f (run.answers xs told).2).0 in cc;
-    counted = λ whole xs told other. let g = run.answers xs told in h (run.moves.by.lends_whole whole) g.0 g.1;
+    indefinite = λ xs told begins. let f = length_open name major xs begins in
+        let g = (same_value _ f (run.answers xs told).2).0 in cc;
+    counted = λ whole xs told other. let g = run.answers xs told in
+        h (run.moves.by.lends_whole whole) g.0 g.1;
   }
 
-  pub known_borrows : {count : ℕ} (r : Result (Option V) (DecodeError E)) → l ≡ Some count → IfOk r (λ value. IfSome value (IsBorrowedWhereWhole IsBorrowed m)) → IfOk r (λ value. IfSome value (BorrowsWhereCounted major IsBorrowed IsOwned a))
+  pub known_borrows : {count : ℕ} (r : Result (Option V) (DecodeError E)) → l ≡ Some count
+      → IfOk r (λ value. IfSome value (IsBorrowedWhereWhole IsBorrowed m))
+      → IfOk r (λ value. IfSome value (BorrowsWhereCounted major IsBorrowed IsOwned a))
   known_borrows (Ok (Some v)) is h = counted_borrows v is h
   known_borrows (Ok None) is h = tt
   known_borrows (Err e) is h = tt
 
-  pub joined_owns : (value : Option V) → l ≡ None → IfSome value IsOwned → IfSome value (BorrowsWhereCounted major IsBorrowed IsOwned a)
+  pub joined_owns : (value : Option V) → l ≡ None → IfSome value IsOwned
+      → IfSome value (BorrowsWhereCounted major IsBorrowed IsOwned a)
   joined_owns (Some v) is h = record {
     indefinite = λ xs told begins. h;
     counted = λ whole xs told other.
         let g = run.answers xs told in
-        absurd (other (length_none name major xs g.0 (g.2 ∙ ap (λ (z : Option ℕ). Ok (z, g.0)) is)).0);
+        absurd
+        (other (length_none name major xs g.0 (g.2 ∙ ap (λ (z : Option ℕ). Ok (z, g.0)) is)).0);
   }
   joined_owns None is h = tt

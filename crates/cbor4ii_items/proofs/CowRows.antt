@@ -15,4 +15,6 @@ abbrev pub slice_row : Lft → RattleType
 slice_row κ = CowSlice.the_row (record { mir = erased; lft = κ }) u8 Global.the_row ghosts
 
 pub slice_laws : (κ : Lft) → Laws (slice_row κ)
-slice_laws κ = CowSliceLaws.the_row_laws (record { mir = erased; lft = κ }) u8 Global.the_row ghosts byte_laws GlobalLaws.the_row_laws
+slice_laws κ =
+    CowSliceLaws.the_row_laws (record { mir = erased; lft = κ }) u8 Global.the_row ghosts byte_laws
+    GlobalLaws.the_row_laws

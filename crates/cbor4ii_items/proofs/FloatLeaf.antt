@@ -1,5 +1,7 @@
 -- Floats, read as their bits.
-use Rattle.std.proofs.Common.{◌≡◌, ℕ, suc, ◌^◌, ◌<◌, ◌≤◌, inl, inr, List, [], ◌∷◌, ◌++◌, length, get_or, drop, take, Ok, refl, sym, ap₂, ap, ◌∙◌, subst, arith, length-append}
+use Rattle.std.proofs.Common.{◌≡◌, ℕ, suc, ◌^◌, ◌<◌, ◌≤◌, inl, inr, List, [], ◌∷◌, ◌++◌, length}
+use Rattle.std.proofs.Common.{get_or, drop, take, Ok, refl, sym, ap₂, ap, ◌∙◌, subst, arith}
+use Rattle.std.proofs.Common.{length-append}
 use Rattle.std.specs.Int.{bytes_high_first}
 use Rattle.std.proofs.lemmas.List.{length-drop, length-take-le, take-append-drop}
 use Rattle.cbor4ii_rw.specs.View.{View, Told}
@@ -11,7 +13,8 @@ use Rattle.cbor4ii_items.specs.Laws.Heads.{number_is, number_inverse, onto-lt, b
 use Rattle.cbor4ii_items.specs.Magnitude.{number_of}
 use Rattle.cbor4ii_items.specs.Reading.{Runs}
 use Rattle.cbor4ii_items.specs.Marked.{marked_at}
-use Rattle.cbor4ii_items.specs.Floats.{float_bytes, IsInFront, ReadsFloat, CutFloat, StopsFloat, float_at, float_again}
+use Rattle.cbor4ii_items.specs.Floats.{float_bytes, IsInFront, ReadsFloat, CutFloat, StopsFloat}
+use Rattle.cbor4ii_items.specs.Floats.{float_at, float_again}
 use Rattle.cbor4ii_items.specs.Laws.ProgramEnds.{ok_parts, err_parts, ErrParts}
 use Rattle.cbor4ii_items.specs.Laws.Contents.{lends_front}
 use Rattle.cbor4ii_items.proofs.Leaves.{IsLeaf}
@@ -19,37 +22,67 @@ use Rattle.cbor4ii_items.proofs.Stopping.{number_cut}
 use Rattle.cbor4ii_items.proofs.Marked.{marked_value, marked_stays}
 
 module _ (name : List ℕ) (marker count : ℕ) where
-  float_means : (xs : List ℕ) (v n : ℕ) → float_at name marker count xs ≡ Ok (v, drop n xs) → n ≤ length xs → IsBytes (take n xs) → ReadsFloat marker count xs v n 0
+  float_means : (xs : List ℕ) (v n : ℕ) → float_at name marker count xs ≡ Ok (v, drop n xs)
+      → n ≤ length xs → IsBytes (take n xs) → ReadsFloat marker count xs v n 0
   float_means xs v n e within bytes =
-      let h = ok_parts (marked_at name marker marker xs) (λ b. number_on name count count 0) v (drop n xs) e in
+      let h = ok_parts (marked_at name marker marker xs)
+      (λ b. number_on name count count 0) v (drop n xs) e in
       let m = marked_value name marker marker h.value xs h.rest h.begun in
       let i = number_inverse name count count 0 v h.rest (drop n xs) h.ended in
-      let many : suc count ≡ n = omega (arith, ap length m.0, ap length i.0, length-append (take count h.rest) (drop n xs), i.1, length-drop n xs) in
-      let seen : IsBytes (take count h.rest) = (subst (λ j. IsBytes (take j (h.value ∷ h.rest))) (sym many) (subst (λ zs. IsBytes (take n zs)) m.0 bytes)).1 in
+      let many : suc count ≡ n = omega (
+        arith,
+        ap length m.0,
+        ap length i.0,
+        length-append (take count h.rest) (drop n xs),
+        i.1,
+        length-drop n xs,
+      ) in
+      let seen : IsBytes (take count h.rest) = (subst (λ j. IsBytes (take j (h.value ∷ h.rest)))
+      (sym many) (subst (λ zs. IsBytes (take n zs)) m.0 bytes)).1 in
       let r = number_is name count count v h.rest (drop n xs) seen h.ended in
       let first : h.value ≡ marker = omega (arith, m.1, m.2) in
-      record { fits = r.1; rest = drop n xs; is = m.0 ∙ ap₂ ◌∷◌ first r.0; size = sym many; cost = refl }
+      record {
+        fits = r.1;
+        rest = drop n xs;
+        is = m.0 ∙ ap₂ ◌∷◌ first r.0;
+        size = sym many;
+        cost = refl;
+      }
 
-  float_cut : (xs : List ℕ) (z : Refusal) (ys : List ℕ) → ErrParts (marked_at name marker marker xs) (λ b. number_on name count count 0) z ys → CutFloat name marker count xs z ys
+  float_cut : (xs : List ℕ) (z : Refusal) (ys : List ℕ) → ErrParts (marked_at name marker marker xs)
+      (λ b. number_on name count count 0) z ys → CutFloat name marker count xs z ys
   float_cut xs z ys h =
       let m = marked_value name marker marker h.value xs h.rest h.begun in
       let r = number_cut name count count 0 h.rest z ys h.ended in
       let first : h.value ≡ marker = omega (arith, m.1, m.2) in
-      record { behind = h.rest; is = m.0 ∙ ap (λ b. b ∷ h.rest) first; short = r.0; answer = r.1; left = r.2 }
+      record {
+        behind = h.rest;
+        is = m.0 ∙ ap (λ b. b ∷ h.rest) first;
+        short = r.0;
+        answer = r.1;
+        left = r.2;
+      }
 
-  pub float_leaf : IsLeaf (float_at name marker count) (ReadsFloat marker count) (StopsFloat name marker count)
+  pub float_leaf : IsLeaf (float_at name marker count) (ReadsFloat marker count)
+      (StopsFloat name marker count)
   float_leaf = record {
     means = float_means;
     again = float_again name marker count;
     refuses = λ xs budget z n e within bytes.
-        elim (err_parts (marked_at name marker marker xs) (λ b. number_on name count count 0) z (drop n xs) e)
-        [ inl f ↦ inl (marked_stays name marker marker (λ b. b ≡ marker) (λ b f. (omega (arith, f), omega (arith, f))) xs z (drop n xs) f) | inr h ↦ inr (float_cut xs z (drop n xs) h) ];
+        elim (err_parts (marked_at name marker marker xs)
+        (λ b. number_on name count count 0) z (drop n xs) e) [
+          | inl f ↦ inl (marked_stays name marker marker (λ b. b ≡ marker)
+              (λ b f. (omega (arith, f), omega (arith, f))) xs z (drop n xs) f)
+          | inr h ↦ inr (float_cut xs z (drop n xs) h)
+        ];
   }
 
 -- ---- a front that was shown
 
 -- a marker and a number's bytes behind it
-pub front_is_float : (marker count : ℕ) (front content : List ℕ) → content ≡ take count (drop 1 front) → suc count ≤ length front → get_or front 0 0 ≡ marker → marker < 256 → IsBytes content → IsInFront marker count front (number_of content)
+pub front_is_float : (marker count : ℕ) (front content : List ℕ)
+    → content ≡ take count (drop 1 front) → suc count ≤ length front → get_or front 0 0 ≡ marker
+    → marker < 256 → IsBytes content → IsInFront marker count front (number_of content)
 front_is_float marker count [] content behind long first small bytes = absurd (omega arith)
 front_is_float marker count (b ∷ bs) content behind long first small bytes =
     let size : length content ≡ count = ap length behind ∙ length-take-le count bs (omega arith) in
@@ -57,21 +90,39 @@ front_is_float marker count (b ∷ bs) content behind long first small bytes =
       long = long;
       bytes = (omega (arith, first, small), subst IsBytes behind bytes);
       fits = subst (λ k. number_of content < 256 ^ k) size (onto-lt content bytes);
-      is = ap₂ ◌∷◌ first (sym behind ∙ (sym (bytes_onto content 0 bytes) ∙ ap (λ k. bytes_high_first k (number_of content)) size));
+      is =
+          ap₂ ◌∷◌ first (sym behind ∙ (sym (bytes_onto content 0 bytes)
+          ∙ ap (λ k. bytes_high_first k (number_of content)) size));
     }
 
-float_shown : {marker count bits : ℕ} (n : ℕ) {front xs : List ℕ} → n ≡ suc count → IsInFront marker count front bits → take n front ≡ take n xs → ReadsFloat marker count xs bits n 0
+float_shown : {marker count bits : ℕ} (n : ℕ) {front xs : List ℕ} → n ≡ suc count
+    → IsInFront marker count front bits → take n front ≡ take n xs
+    → ReadsFloat marker count xs bits n 0
 float_shown {marker = marker} {count = count} {bits = bits} n {front = front} {xs = xs} e f same =
-    let whole : take n xs ≡ float_bytes marker count bits = sym same ∙ (ap (λ k. take k front) e ∙ f.is) in
-    record { fits = f.fits; rest = drop n xs; is = sym (take-append-drop n xs) ∙ ap (λ zs. zs ++ drop n xs) whole; size = e; cost = refl }
+    let whole : take n xs ≡ float_bytes marker count bits =
+    sym same ∙ (ap (λ k. take k front) e ∙ f.is) in
+    record {
+      fits = f.fits;
+      rest = drop n xs;
+      is = sym (take-append-drop n xs) ∙ ap (λ zs. zs ++ drop n xs) whole;
+      size = e;
+      cost = refl;
+    }
 
-pub runs_float : {E : Type 0} (name : List ℕ) {marker count bits n : ℕ} {front : List ℕ} {a m b : View} → n ≡ suc count → Shows front a m → Told a.told (IsFront n front) → IsInFront marker count front bits → Advances n m b
+pub runs_float : {E : Type 0} (name : List ℕ) {marker count bits n : ℕ} {front : List ℕ}
+    {a m b : View} → n ≡ suc count → Shows front a m → Told a.told (IsFront n front)
+    → IsInFront marker count front bits → Advances n m b
     → Runs {E = E} (float_at name marker count) a b (Ok bits)
-runs_float name {marker = marker} {count = count} {bits = bits} {n = n} {front = front} e shows told_front f adv =
-    let lends = lends_front shows told_front (omega (arith, f.long)) (subst (λ k. IsBytes (take k front)) (sym e) f.bytes) refl adv in
+runs_float name {marker = marker} {count = count} {bits = bits} {n = n}
+    {front = front} e shows told_front f adv =
+    let lends = lends_front shows told_front (omega (arith, f.long))
+    (subst (λ k. IsBytes (take k front)) (sym e) f.bytes) refl adv in
     record {
       moves = record { by = lends.kept; depth = λ e. refl };
       answers = λ xs told.
-          let h = lends.at xs told in
-          (drop n xs, h.1, (float_again name marker count xs bits n 0 (float_shown n e f h.2)).answer);
+          let h = lends.at xs told in (
+            drop n xs,
+            h.1,
+            (float_again name marker count xs bits n 0 (float_shown n e f h.2)).answer,
+          );
     }

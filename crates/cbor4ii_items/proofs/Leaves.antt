@@ -1,5 +1,6 @@
 -- A call that does what a program does reads what the program reads.
-use Rattle.std.proofs.Common.{◌≡◌, ℕ, ◌≤◌, List, length, drop, take, Option, Result, Ok, Err, refl, sym, subst, IfOk, IfErr}
+use Rattle.std.proofs.Common.{◌≡◌, ℕ, ◌≤◌, List, length, drop, take, Option, Result, Ok, Err, refl}
+use Rattle.std.proofs.Common.{sym, subst, IfOk, IfErr}
 use Rattle.cbor4ii_rw.specs.View.{View}
 use Rattle.cbor4ii_rw.specs.declared.error.DecodeError.{DecodeError}
 use Rattle.cbor4ii_items.specs.Head.{IsBytes}
@@ -9,31 +10,59 @@ use Rattle.cbor4ii_items.specs.Decoding.{Reads, StopsAt, Sound, Refuses, Stops}
 use Rattle.cbor4ii_items.specs.Laws.Answering.{fits_zero, sound_at, refuses_by, stops_at}
 use Rattle.cbor4ii_items.specs.Laws.Arguments.{ReadBy}
 
--- The program reads what the relation says, and refuses what the other relation says. The bytes that it takes are bytes.
-pub record IsLeaf {V : Type 0} (program : Reading V) (reads : Reads V) (stops : StopsAt) : Type 0 where
-  pub means : (xs : List ℕ) (v : V) (n : ℕ) → program xs ≡ Ok (v, drop n xs) → n ≤ length xs → IsBytes (take n xs) → reads xs v n 0
+-- The program reads what the relation says, and refuses what the other relation says. The bytes
+-- that it takes are bytes.
+pub record IsLeaf {V : Type 0} (program : Reading V) (reads : Reads V)
+    (stops : StopsAt) : Type 0 where
+  pub means : (xs : List ℕ) (v : V) (n : ℕ) → program xs ≡ Ok (v, drop n xs) → n ≤ length xs
+      → IsBytes (take n xs) → reads xs v n 0
   pub again : (xs : List ℕ) (v : V) (n c : ℕ) → reads xs v n c → ReadBy program xs v n c
-  pub refuses : (xs : List ℕ) (budget : Option ℕ) (z : Refusal) (n : ℕ) → program xs ≡ Err (z, drop n xs) → n ≤ length xs → IsBytes (take n xs) → stops xs budget z (drop n xs)
+  pub refuses : (xs : List ℕ) (budget : Option ℕ) (z : Refusal) (n : ℕ)
+      → program xs ≡ Err (z, drop n xs) → n ≤ length xs → IsBytes (take n xs)
+      → stops xs budget z (drop n xs)
 
-leaf_read : {V E : Type 0} {program : Reading V} {reads : Reads V} {stops : StopsAt} {v : V} {a b : View} → IsLeaf program reads stops → Runs {E = E} program a b (Ok v) → Sound reads a b v
+leaf_read : {V E : Type 0} {program : Reading V} {reads : Reads V} {stops : StopsAt} {v : V}
+    {a b : View} → IsLeaf program reads stops → Runs {E = E} program a b (Ok v) → Sound reads a b v
 leaf_read {reads = reads} {v = v} {a = a} leaf p =
-    sound_at reads (λ xs n is within bytes. record { count = n; cost = 0; read = leaf.means xs v n is within bytes; fits = fits_zero a.budget; left = refl }) p
+    sound_at reads (λ xs n is within bytes. record {
+      count = n;
+      cost = 0;
+      read = leaf.means xs v n is within bytes;
+      fits = fits_zero a.budget;
+      left = refl;
+    }) p
 
 -- ---- whatever the call answers
 
-module _ {V E : Type 0} {program : Reading V} {reads : Reads V} {stops : StopsAt} (leaf : IsLeaf program reads stops) (r : Result V (DecodeError E)) {a b : View} where
+module _ {V E : Type 0} {program : Reading V} {reads : Reads V} {stops : StopsAt}
+    (leaf : IsLeaf program reads stops) (r : Result V (DecodeError E)) {a b : View} where
   pub leaf_sound : Runs program a b r → IfOk r (Sound reads a b)
-  leaf_sound p = elim r as (λ t. Runs program a b t → IfOk t (Sound reads a b)) [ Ok v ↦ (λ q. leaf_read leaf q) | Err e ↦ (λ q. tt) ] p
+  leaf_sound p = elim r as (λ t. Runs program a b t → IfOk t (Sound reads a b))
+      [ Ok v ↦ (λ q. leaf_read leaf q) | Err e ↦ (λ q. tt) ] p
 
   pub leaf_complete : Runs program a b r → IfErr r (Refuses reads a)
-  leaf_complete p = elim r as (λ t. Runs program a b t → IfErr t (Refuses reads a)) [ Ok v ↦ (λ q. tt) | Err e ↦ (λ q. refuses_by reads (λ xs v n c read fits. (leaf.again xs v n c read).answer) q) ] p
+  leaf_complete p = elim r as (λ t. Runs program a b t → IfErr t (Refuses reads a)) [
+    | Ok v ↦ (λ q. tt)
+    | Err e ↦
+        (λ q. refuses_by reads (λ xs v n c read fits. (leaf.again xs v n c read).answer) q)
+  ] p
 
   pub leaf_stops : Runs program a b r → IfErr r (Stops stops a b)
-  leaf_stops p = elim r as (λ t. Runs program a b t → IfErr t (Stops stops a b)) [ Ok v ↦ (λ q. tt) | Err e ↦ (λ q. stops_at stops (λ xs z n. leaf.refuses xs a.budget z n) q) ] p
+  leaf_stops p = elim r as (λ t. Runs program a b t → IfErr t (Stops stops a b)) [
+    | Ok v ↦ (λ q. tt)
+    | Err e ↦ (λ q. stops_at stops (λ xs z n. leaf.refuses xs a.budget z n) q)
+  ] p
 
 -- ---- one type as another
 
-pub sound_as : {U V : Type 0} (reads : Reads U) (part : V → U) {u : U} {v : V} {a b : View} → part v ≡ u → Sound reads a b u → Sound (λ xs v. reads xs (part v)) a b v
+pub sound_as : {U V : Type 0} (reads : Reads U) (part : V → U) {u : U} {v : V} {a b : View}
+    → part v ≡ u → Sound reads a b u → Sound (λ xs v. reads xs (part v)) a b v
 sound_as reads part e s = record {
-  at = λ xs told. let t = s.at xs told in record { count = t.count; cost = t.cost; read = subst (λ z. reads xs z t.count t.cost) (sym e) t.read; fits = t.fits; left = t.left };
+  at = λ xs told. let t = s.at xs told in record {
+    count = t.count;
+    cost = t.cost;
+    read = subst (λ z. reads xs z t.count t.cost) (sym e) t.read;
+    fits = t.fits;
+    left = t.left;
+  };
 }

@@ -1,5 +1,6 @@
 -- Lengths are read exactly as they are spelled.
-use Rattle.std.proofs.Common.{◌≡◌, ℕ, ◌<◌, ◌≤◌, List, [], ◌∷◌, length, drop, take, Option, None, Some, Result, Ok, refl, sym, ap, ◌∙◌, subst, arith}
+use Rattle.std.proofs.Common.{◌≡◌, ℕ, ◌<◌, ◌≤◌, List, [], ◌∷◌, length, drop, take, Option, None}
+use Rattle.std.proofs.Common.{Some, Result, Ok, refl, sym, ap, ◌∙◌, subst, arith}
 use Rattle.std.proofs.lemmas.List.{length-drop}
 use Rattle.cbor4ii_rw.specs.View.{View}
 use Rattle.cbor4ii_rw.specs.declared.error.DecodeError.{DecodeError}
@@ -14,12 +15,16 @@ use Rattle.cbor4ii_items.specs.Laws.Arguments.{ReadBy}
 use Rattle.cbor4ii_items.proofs.Leaves.{IsLeaf}
 use Rattle.cbor4ii_items.proofs.StringsRead.{no_length}
 
-one_byte : (b n : ℕ) (xs : List ℕ) → take 1 xs ≡ b ∷ [] → n ≤ length xs → drop n xs ≡ drop 1 xs → n ≡ 1
+one_byte : (b n : ℕ) (xs : List ℕ) → take 1 xs ≡ b ∷ [] → n ≤ length xs → drop n xs ≡ drop 1 xs
+    → n ≡ 1
 one_byte b n [] first within e = cc
 one_byte b n (x ∷ xs) first within e = omega (arith, ap length e, length-drop n (x ∷ xs))
 
-length_means : (name : List ℕ) (major : ℕ) (xs : List ℕ) (v : Option ℕ) (n : ℕ) → length_at name major xs ≡ Ok (v, drop n xs) → n ≤ length xs → IsBytes (take n xs) → ReadsLength major xs v n 0
-length_means name major xs (Some v) n e within bytes = (read_head name major 8 xs v n (length_some name major v xs (drop n xs) e) within bytes, refl)
+length_means : (name : List ℕ) (major : ℕ) (xs : List ℕ) (v : Option ℕ) (n : ℕ)
+    → length_at name major xs ≡ Ok (v, drop n xs) → n ≤ length xs → IsBytes (take n xs)
+    → ReadsLength major xs v n 0
+length_means name major xs (Some v) n e within bytes =
+    (read_head name major 8 xs v n (length_some name major v xs (drop n xs) e) within bytes, refl)
 length_means name major xs None n e within bytes =
     let o = length_none name major xs (drop n xs) e in
     (o.0, one_byte (open_head major) n xs o.0 within o.1, refl)
@@ -28,10 +33,16 @@ some_byte : (b : ℕ) (xs : List ℕ) → take 1 xs ≡ b ∷ [] → 1 ≤ lengt
 some_byte b [] e = cc
 some_byte b (x ∷ xs) e = omega arith
 
-pub length_again : (name : List ℕ) (major : ℕ) → major < 8 → (xs : List ℕ) (v : Option ℕ) (n c : ℕ) → ReadsLength major xs v n c → ReadBy (length_at name major) xs v n c
+pub length_again : (name : List ℕ) (major : ℕ) → major < 8 → (xs : List ℕ) (v : Option ℕ) (n c : ℕ)
+    → ReadsLength major xs v n c → ReadBy (length_at name major) xs v n c
 length_again name major m xs (Some v) n c p =
     let h = head_read name major 8 xs v n m p.0 in
-    record { answer = length_known name major xs v n m p.0; within = h.1; positive = h.2; cost = p.1 }
+    record {
+      answer = length_known name major xs v n m p.0;
+      within = h.1;
+      positive = h.2;
+      cost = p.1;
+    }
 length_again name major m xs None n c p = record {
   answer = length_open name major xs p.0 ∙ ap (λ (k : ℕ). Ok (None, drop k xs)) (sym p.1);
   within = omega (arith, p.1, some_byte (open_head major) xs p.0);
@@ -39,7 +50,8 @@ length_again name major m xs None n c p = record {
   cost = p.2;
 }
 
-pub length_leaf : (name : List ℕ) (major : ℕ) → major < 8 → IsLeaf (length_at name major) (ReadsLength major) (StopsLength name major)
+pub length_leaf : (name : List ℕ) (major : ℕ) → major < 8
+    → IsLeaf (length_at name major) (ReadsLength major) (StopsLength name major)
 length_leaf name major m = record {
   means = length_means name major;
   again = length_again name major m;
@@ -48,5 +60,6 @@ length_leaf name major m = record {
 
 -- ---- whatever the call answers
 
-pub runs_same : {V E : Type 0} {f : Reading V} {a b : View} {r t : Result V (DecodeError E)} → r ≡ t → Runs f a b t → Runs f a b r
+pub runs_same : {V E : Type 0} {f : Reading V} {a b : View} {r t : Result V (DecodeError E)} → r ≡ t
+    → Runs f a b t → Runs f a b r
 runs_same {f = f} {a = a} {b = b} e p = subst (λ z. Runs f a b z) (sym e) p

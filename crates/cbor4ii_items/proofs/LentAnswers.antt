@@ -1,5 +1,7 @@
 -- A head, and then a content that is lent.
-use Rattle.std.proofs.Common.{◌≡◌, ℕ, ◌+◌, ◌<◌, ◌≤◌, inl, inr, List, length, take, drop, Option, None, Some, Result, Ok, Err, Bool, false, IsTrue, refl, sym, ap, ap₂, ◌∙◌, subst, arith, IfSome, IfOk, IfErr}
+use Rattle.std.proofs.Common.{◌≡◌, ℕ, ◌+◌, ◌<◌, ◌≤◌, inl, inr, List, length, take, drop, Option}
+use Rattle.std.proofs.Common.{None, Some, Result, Ok, Err, Bool, false, IsTrue, refl, sym, ap, ap₂}
+use Rattle.std.proofs.Common.{◌∙◌, subst, arith, IfSome, IfOk, IfErr}
 use Rattle.std.specs.Prelude.{MatchBool, IsUtf8}
 use Rattle.std.proofs.lemmas.List.{length-drop, length-take, length-take-le}
 use Rattle.cbor4ii_rw.specs.View.{View}
@@ -14,29 +16,44 @@ use Rattle.cbor4ii_items.specs.Laws.Heads.{head_read, head_one}
 use Rattle.cbor4ii_items.specs.Numbers.{ReadsArgument, StopsArgument}
 use Rattle.cbor4ii_items.specs.Laws.Fronts.{drop_more}
 use Rattle.cbor4ii_items.specs.Strings.{ReadsCountedString}
-use Rattle.cbor4ii_items.specs.Lent.{ReadsLent, StopsLent, BeginsLent, begins_refused, none_is_lent, few_are_lent, begins_no_utf8, lent_head_refused, too_few, lent_no_utf8, Lends, LacksContent, lack_refusal, lack_is_read, Named}
+use Rattle.cbor4ii_items.specs.Lent.{ReadsLent, StopsLent, BeginsLent, begins_refused, none_is_lent}
+use Rattle.cbor4ii_items.specs.Lent.{few_are_lent, begins_no_utf8, lent_head_refused, too_few}
+use Rattle.cbor4ii_items.specs.Lent.{lent_no_utf8, Lends, LacksContent, lack_refusal, lack_is_read}
+use Rattle.cbor4ii_items.specs.Lent.{Named}
 use Rattle.cbor4ii_items.specs.Laws.Answering.{fits_zero, refuses_as}
 use Rattle.cbor4ii_items.specs.Laws.SequenceParts.{stops_as}
 use Rattle.cbor4ii_items.specs.Laws.Steps.{moves_then}
 
 -- ---- the reader
 
-lack_moves : {E : Type 0} (count : ℕ) (is_text : Bool) (m b : View) (lack : Lacks E) → LacksContent count is_text m b lack → MatchBool (lack_is_read lack) (Broke m b) (Kept m b)
+lack_moves : {E : Type 0} (count : ℕ) (is_text : Bool) (m b : View) (lack : Lacks E)
+    → LacksContent count is_text m b lack → MatchBool (lack_is_read lack) (Broke m b) (Kept m b)
 lack_moves count is_text m b (Read e) h = h
 lack_moves count is_text m b Short h = h.0.kept
 lack_moves count is_text m b (Few n) h = h.0.kept
 lack_moves count is_text m b NotUtf8 h = h.2.kept
 
-module _ (V E : Type 0) (name : List ℕ) (count : ℕ) (is_text : Bool) (content : V → List ℕ) (a m b : View) where
-  pub lent_moves : (o : Result V (Lacks E)) (r : Result V (DecodeError E)) → Named name o r → Kept a m → IfOk o (λ v. Lends count (content v) m b) → IfErr o (LacksContent count is_text m b) → Moves a b r
-  lent_moves (Ok v) (Ok w) n kept lends lacks = moves_then kept (record { by = lends.kept; depth = λ e. refl })
+module _ (V E : Type 0) (name : List ℕ) (count : ℕ) (is_text : Bool) (content : V → List ℕ)
+    (a m b : View) where
+  pub lent_moves : (o : Result V (Lacks E)) (r : Result V (DecodeError E)) → Named name o r
+      → Kept a m → IfOk o (λ v. Lends count (content v) m b)
+      → IfErr o (LacksContent count is_text m b) → Moves a b r
+  lent_moves (Ok v) (Ok w) n kept lends lacks =
+      moves_then kept (record { by = lends.kept; depth = λ e. refl })
   lent_moves (Ok v) (Err e) n kept lends lacks = absurd n
   lent_moves (Err lack) (Ok w) n kept lends lacks = absurd n
-  lent_moves (Err lack) (Err e) n kept lends lacks = moves_then kept (record { by = subst (λ t. MatchBool t (Broke m b) (Kept m b)) (sym n.read) (lack_moves count is_text m b lack lacks); depth = λ e. n.depth })
+  lent_moves (Err lack) (Err e) n kept lends lacks =
+      moves_then kept (record {
+        by = subst (λ t. MatchBool t (Broke m b) (Kept m b)) (sym n.read)
+            (lack_moves count is_text m b lack lacks);
+        depth = λ e. n.depth;
+      })
 
   -- ---- the content behind its head
 
-  counted : (major : ℕ) (xs v : List ℕ) (before : ℕ) → ReadsHead major 8 xs count before → count ≤ length (drop before xs) → v ≡ take count (drop before xs) → ReadsCountedString major xs v (before + count)
+  counted : (major : ℕ) (xs v : List ℕ) (before : ℕ) → ReadsHead major 8 xs count before
+      → count ≤ length (drop before xs) → v ≡ take count (drop before xs)
+      → ReadsCountedString major xs v (before + count)
   counted major xs v before h room is =
       let long : length v ≡ count = ap length is ∙ length-take-le count (drop before xs) room in
       record {
@@ -46,7 +63,9 @@ module _ (V E : Type 0) (name : List ℕ) (count : ℕ) (is_text : Bool) (conten
         size = ap (λ j. before + j) (sym long);
       }
 
-  lent_at : (major : ℕ) (v : V) → Sound (ReadsArgument major 8) a m count → Lends count (content v) m b → (IsTrue is_text → IsUtf8 (content v)) → Sound (ReadsLent major is_text content) a b v
+  lent_at : (major : ℕ) (v : V) → Sound (ReadsArgument major 8) a m count
+      → Lends count (content v) m b → (IsTrue is_text → IsUtf8 (content v))
+      → Sound (ReadsLent major is_text content) a b v
   lent_at major v s l utf8 = record {
     at = λ xs told.
         let h = s.at xs told in
@@ -60,23 +79,33 @@ module _ (V E : Type 0) (name : List ℕ) (count : ℕ) (is_text : Bool) (conten
         };
   }
 
-  pub lent_sound : (major : ℕ) (o : Result V (Lacks E)) (r : Result V (DecodeError E)) → Named name o r → Sound (ReadsArgument major 8) a m count → IfOk o (λ v. Lends count (content v) m b) → IfOk o (λ v. IsTrue is_text → IsUtf8 (content v))
+  pub lent_sound : (major : ℕ) (o : Result V (Lacks E)) (r : Result V (DecodeError E))
+      → Named name o r → Sound (ReadsArgument major 8) a m count
+      → IfOk o (λ v. Lends count (content v) m b)
+      → IfOk o (λ v. IsTrue is_text → IsUtf8 (content v))
       → IfOk r (Sound (ReadsLent major is_text content) a b)
-  lent_sound major (Ok v) (Ok w) n s lends utf8 = subst (λ z. Sound (ReadsLent major is_text content) a b z) n (lent_at major v s lends utf8)
+  lent_sound major (Ok v) (Ok w) n s lends utf8 =
+      subst (λ z. Sound (ReadsLent major is_text content) a b z) n (lent_at major v s lends utf8)
   lent_sound major (Ok v) (Err e) n s lends utf8 = tt
   lent_sound major (Err lack) (Ok w) n s lends utf8 = absurd n
   lent_sound major (Err lack) (Err e) n s lends utf8 = tt
 
   -- what is read behind this head
-  the_content : (major : ℕ) (xs : List ℕ) (v : V) (before n c : ℕ) → major < 8 → ReadsHead major 8 xs count before → ReadsLent major is_text content xs v n c → (count ≤ length (drop before xs)) × (content v ≡ take count (drop before xs))
+  the_content : (major : ℕ) (xs : List ℕ) (v : V) (before n c : ℕ) → major < 8
+      → ReadsHead major 8 xs count before → ReadsLent major is_text content xs v n c
+      → (count ≤ length (drop before xs)) × (content v ≡ take count (drop before xs))
   the_content major xs v before n c small h r =
       let q = r.0 in
       let same = head_one major 8 xs (length (content v)) count q.before before small q.head h in
-      let is : take count (drop before xs) ≡ content v = ap₂ (λ i j. take j (drop i xs)) (sym same.0) (sym same.1) ∙ q.stands in
+      let is : take count (drop before xs) ≡ content v =
+      ap₂ (λ i j. take j (drop i xs)) (sym same.0) (sym same.1) ∙ q.stands in
       (omega (arith, same.1, ap length is, length-take count (drop before xs)), sym is)
 
-  none_lent : (major : ℕ) (lack : Lacks E) (xs : List ℕ) (before : ℕ) → major < 8 → ReadsHead major 8 xs count before → m.told ≡ Some (drop before xs) → IsTrue m.lends_whole → LacksContent count is_text m b lack
-      → IfSome (lack_refusal name lack) (λ _. NoneRead (ReadsLent major is_text content) xs a.budget)
+  none_lent : (major : ℕ) (lack : Lacks E) (xs : List ℕ) (before : ℕ) → major < 8
+      → ReadsHead major 8 xs count before → m.told ≡ Some (drop before xs) → IsTrue m.lends_whole
+      → LacksContent count is_text m b lack
+      → IfSome (lack_refusal name lack)
+      (λ _. NoneRead (ReadsLent major is_text content) xs a.budget)
   none_lent major (Read e) xs before small h told whole lacks = tt
   none_lent major Short xs before small h told whole lacks = absurd (lacks.1 whole)
   none_lent major (Few k) xs before small h told whole lacks = λ v n c r fits.
@@ -84,9 +113,12 @@ module _ (V E : Type 0) (name : List ℕ) (count : ℕ) (is_text : Bool) (conten
       omega (arith, few.0, (the_content major xs v before n c small h r).0)
   none_lent major NotUtf8 xs before small h told whole lacks = λ v n c r fits.
       let l = lacks.2.at (drop before xs) told in
-      lacks.3 (subst IsUtf8 ((the_content major xs v before n c small h r).1 ∙ sym l.2) (r.2 lacks.1))
+      lacks.3
+      (subst IsUtf8 ((the_content major xs v before n c small h r).1 ∙ sym l.2) (r.2 lacks.1))
 
-  pub lent_refuses : (major : ℕ) (o : Result V (Lacks E)) (r : Result V (DecodeError E)) → major < 8 → Named name o r → Kept a m → Sound (ReadsArgument major 8) a m count → IsExact false a → IfErr o (LacksContent count is_text m b)
+  pub lent_refuses : (major : ℕ) (o : Result V (Lacks E)) (r : Result V (DecodeError E)) → major < 8
+      → Named name o r → Kept a m → Sound (ReadsArgument major 8) a m count → IsExact false a
+      → IfErr o (LacksContent count is_text m b)
       → IfErr r (Refuses (ReadsLent major is_text content) a)
   lent_refuses major o (Ok w) small n kept s (inl f) lacks = tt
   lent_refuses major o (Ok w) small n kept s (inr whole) lacks = tt
@@ -95,22 +127,36 @@ module _ (V E : Type 0) (name : List ℕ) (count : ℕ) (is_text : Bool) (conten
   lent_refuses major (Err lack) (Err e) small n kept s (inr whole) lacks = record {
     at = λ xs told.
         let h = s.at xs told in
-        subst (λ z. IfSome z (λ _. NoneRead (ReadsLent major is_text content) xs a.budget)) (sym n.refusal)
+        subst (λ z. IfSome z (λ _. NoneRead (ReadsLent major is_text content) xs a.budget))
+        (sym n.refusal)
         (none_lent major lack xs h.count small h.read.0 h.left (kept.lends_whole whole.0) lacks);
   }
 
-  stop_at : (major : ℕ) (lack : Lacks E) (xs : List ℕ) (before : ℕ) → ReadsHead major 8 xs count before → before ≤ length xs → m.told ≡ Some (drop before xs) → IsTrue m.lends_whole → LacksContent count is_text m b lack
-      → IfSome (lack_refusal name lack) (λ z. (rest : List ℕ) × (b.told ≡ Some rest) × StopsLent name major is_text xs a.budget z rest)
+  stop_at : (major : ℕ) (lack : Lacks E) (xs : List ℕ) (before : ℕ)
+      → ReadsHead major 8 xs count before → before ≤ length xs → m.told ≡ Some (drop before xs)
+      → IsTrue m.lends_whole → LacksContent count is_text m b lack
+      → IfSome (lack_refusal name lack) (λ z. (rest : List ℕ) × (b.told ≡ Some rest)
+      × StopsLent name major is_text xs a.budget z rest)
   stop_at major (Read e) xs before h room told whole lacks = tt
   stop_at major Short xs before h room told whole lacks = absurd (lacks.1 whole)
   stop_at major (Few k) xs before h room told whole lacks =
-      let few = lacks.1 whole (drop before xs) told in
-      (drop before xs, lacks.0.told (drop before xs) told, too_few count before h (omega (arith, few.0, room, length-drop before xs)) (ap (λ j. require_length name (len_of j)) few.1) refl)
+      let few = lacks.1 whole (drop before xs) told in (
+        drop before xs,
+        lacks.0.told (drop before xs) told,
+        too_few count before h (omega (arith, few.0, room, length-drop before xs))
+            (ap (λ j. require_length name (len_of j)) few.1) refl,
+      )
   stop_at major NotUtf8 xs before h room told whole lacks =
-      let l = lacks.2.at (drop before xs) told in
-      (drop (before + count) xs, l.1 ∙ ap Some (drop_more count before xs), lent_no_utf8 lacks.0 (before + count) lacks.1 (counted major xs lacks.0 before h l.0 l.2) lacks.3 refl refl)
+      let l = lacks.2.at (drop before xs) told in (
+        drop (before + count) xs,
+        l.1 ∙ ap Some (drop_more count before xs),
+        lent_no_utf8 lacks.0 (before + count) lacks.1
+            (counted major xs lacks.0 before h l.0 l.2) lacks.3 refl refl,
+      )
 
-  pub lent_stops : (major : ℕ) (o : Result V (Lacks E)) (r : Result V (DecodeError E)) → major < 8 → Named name o r → Kept a m → Sound (ReadsArgument major 8) a m count → IsExact false a → IfErr o (LacksContent count is_text m b)
+  pub lent_stops : (major : ℕ) (o : Result V (Lacks E)) (r : Result V (DecodeError E)) → major < 8
+      → Named name o r → Kept a m → Sound (ReadsArgument major 8) a m count → IsExact false a
+      → IfErr o (LacksContent count is_text m b)
       → IfErr r (Stops (StopsLent name major is_text) a b)
   lent_stops major o (Ok w) small n kept s (inl f) lacks = tt
   lent_stops major o (Ok w) small n kept s (inr whole) lacks = tt
@@ -119,45 +165,77 @@ module _ (V E : Type 0) (name : List ℕ) (count : ℕ) (is_text : Bool) (conten
   lent_stops major (Err lack) (Err e) small n kept s (inr whole) lacks = record {
     at = λ xs told.
         let h = s.at xs told in
-        let room : h.count ≤ length xs = (head_read name major 8 xs count h.count small h.read.0).1 in
-        subst (λ z. IfSome z (λ refusal. (rest : List ℕ) × (b.told ≡ Some rest) × StopsLent name major is_text xs a.budget refusal rest)) (sym n.refusal)
+        let room : h.count ≤ length xs =
+        (head_read name major 8 xs count h.count small h.read.0).1 in
+        subst (λ z. IfSome z (λ refusal. (rest : List ℕ) × (b.told ≡ Some rest)
+        × StopsLent name major is_text xs a.budget refusal rest)) (sym n.refusal)
         (stop_at major lack xs h.count h.read.0 room h.left (kept.lends_whole whole.0) lacks);
   }
 
-  begin_at : (major : ℕ) (lack : Lacks E) (xs : List ℕ) (before : ℕ) → ReadsHead major 8 xs count before → m.told ≡ Some (drop before xs) → LacksContent count is_text m b lack
-      → IfSome (lack_refusal name lack) (λ z. (rest : List ℕ) × (b.told ≡ Some rest) × BeginsLent name major is_text xs a.budget z rest)
+  begin_at : (major : ℕ) (lack : Lacks E) (xs : List ℕ) (before : ℕ)
+      → ReadsHead major 8 xs count before → m.told ≡ Some (drop before xs)
+      → LacksContent count is_text m b lack
+      → IfSome (lack_refusal name lack) (λ z. (rest : List ℕ) × (b.told ≡ Some rest)
+      × BeginsLent name major is_text xs a.budget z rest)
   begin_at major (Read e) xs before h told lacks = tt
-  begin_at major Short xs before h told lacks = (drop before xs, lacks.0.told (drop before xs) told, none_is_lent count before h refl refl)
-  begin_at major (Few k) xs before h told lacks = (drop before xs, lacks.0.told (drop before xs) told, few_are_lent count before k h lacks.2 refl refl)
+  begin_at major Short xs before h told lacks =
+      (drop before xs, lacks.0.told (drop before xs) told, none_is_lent count before h refl refl)
+  begin_at major (Few k) xs before h told lacks = (
+    drop before xs,
+    lacks.0.told (drop before xs) told,
+    few_are_lent count before k h lacks.2 refl refl,
+  )
   begin_at major NotUtf8 xs before h told lacks =
-      let l = lacks.2.at (drop before xs) told in
-      (drop (before + count) xs, l.1 ∙ ap Some (drop_more count before xs), begins_no_utf8 lacks.0 (before + count) lacks.1 (counted major xs lacks.0 before h l.0 l.2) lacks.3 refl refl)
+      let l = lacks.2.at (drop before xs) told in (
+        drop (before + count) xs,
+        l.1 ∙ ap Some (drop_more count before xs),
+        begins_no_utf8 lacks.0 (before + count) lacks.1
+            (counted major xs lacks.0 before h l.0 l.2) lacks.3 refl refl,
+      )
 
-  pub lent_begins : (major : ℕ) (o : Result V (Lacks E)) (r : Result V (DecodeError E)) → Named name o r → Sound (ReadsArgument major 8) a m count → IfErr o (LacksContent count is_text m b) → IfErr r (Stops (BeginsLent name major is_text) a b)
+  pub lent_begins : (major : ℕ) (o : Result V (Lacks E)) (r : Result V (DecodeError E))
+      → Named name o r → Sound (ReadsArgument major 8) a m count
+      → IfErr o (LacksContent count is_text m b)
+      → IfErr r (Stops (BeginsLent name major is_text) a b)
   lent_begins major o (Ok w) n s lacks = tt
   lent_begins major (Ok v) (Err e) n s lacks = absurd n
   lent_begins major (Err lack) (Err e) n s lacks = record {
     at = λ xs told.
         let h = s.at xs told in
-        subst (λ z. IfSome z (λ refusal. (rest : List ℕ) × (b.told ≡ Some rest) × BeginsLent name major is_text xs a.budget refusal rest)) (sym n.refusal)
+        subst (λ z. IfSome z (λ refusal. (rest : List ℕ) × (b.told ≡ Some rest)
+        × BeginsLent name major is_text xs a.budget refusal rest)) (sym n.refusal)
         (begin_at major lack xs h.count h.read.0 h.left lacks);
   }
 
 -- ---- the head is refused
 
-pub head_lends_none : {V E : Type 0} (major : ℕ) (is_text : Bool) (content : V → List ℕ) {e : DecodeError E} {a : View} → Refuses (ReadsArgument major 8) a e → Refuses (ReadsLent major is_text content) a e
+pub head_lends_none : {V E : Type 0} (major : ℕ) (is_text : Bool) (content : V → List ℕ)
+    {e : DecodeError E} {a : View} → Refuses (ReadsArgument major 8) a e
+    → Refuses (ReadsLent major is_text content) a e
 head_lends_none major is_text content p =
-    refuses_as (ReadsArgument major 8) (ReadsLent major is_text content) (λ xs budget none v n c h fits. none (length (content v)) h.0.before 0 (h.0.head, refl) (fits_zero budget)) p
+    refuses_as (ReadsArgument major 8) (ReadsLent major is_text content)
+    (λ xs budget none v n c h fits. none (length (content v)) h.0.before 0 (h.0.head, refl)
+    (fits_zero budget)) p
 
-still : (name : List ℕ) (major : ℕ) (is_text : Bool) (xs : List ℕ) (budget : Option ℕ) (left : Option (List ℕ)) (o : Option Refusal) → IfSome o (λ z. (ys : List ℕ) × (left ≡ Some ys) × StopsArgument name major 8 xs budget z ys)
+still : (name : List ℕ) (major : ℕ) (is_text : Bool) (xs : List ℕ) (budget : Option ℕ)
+    (left : Option (List ℕ)) (o : Option Refusal)
+    → IfSome o (λ z. (ys : List ℕ) × (left ≡ Some ys) × StopsArgument name major 8 xs budget z ys)
     → IfSome o (λ z. (ys : List ℕ) × (left ≡ Some ys) × StopsLent name major is_text xs budget z ys)
 still name major is_text xs budget left None h = tt
 still name major is_text xs budget left (Some z) h = (h.0, h.1, lent_head_refused h.2)
 
-pub head_stops_lent : {E : Type 0} (name : List ℕ) (major : ℕ) (is_text : Bool) {e : DecodeError E} {a b : View} → Stops (StopsArgument name major 8) a b e → Stops (StopsLent name major is_text) a b e
-head_stops_lent name major is_text {e = e} {a = a} {b = b} p = record { at = λ xs told. still name major is_text xs a.budget b.told (refusal_of e) (p.at xs told) }
+pub head_stops_lent : {E : Type 0} (name : List ℕ) (major : ℕ) (is_text : Bool) {e : DecodeError E}
+    {a b : View} → Stops (StopsArgument name major 8) a b e
+    → Stops (StopsLent name major is_text) a b e
+head_stops_lent name major is_text {e = e} {a = a} {b = b} p = record {
+  at = λ xs told.
+      still name major is_text xs a.budget b.told (refusal_of e) (p.at xs told);
+}
 
-pub head_begins_lent : {E : Type 0} (name : List ℕ) (major : ℕ) (is_text : Bool) {e : DecodeError E} {a b : View} → Stops (StopsArgument name major 8) a b e → Stops (BeginsLent name major is_text) a b e
+pub head_begins_lent : {E : Type 0} (name : List ℕ) (major : ℕ) (is_text : Bool) {e : DecodeError E}
+    {a b : View} → Stops (StopsArgument name major 8) a b e
+    → Stops (BeginsLent name major is_text) a b e
 head_begins_lent name major is_text {e = e} {a = a} {b = b} p = record {
-  at = λ xs told. stops_as (refusal_of e) b.told (StopsArgument name major 8 xs a.budget) (BeginsLent name major is_text xs a.budget) (λ z ys h. begins_refused h) (p.at xs told);
+  at = λ xs told. stops_as (refusal_of e) b.told (StopsArgument name major 8 xs a.budget)
+      (BeginsLent name major is_text xs a.budget) (λ z ys h. begins_refused h) (p.at xs told);
 }

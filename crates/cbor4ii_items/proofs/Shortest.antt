@@ -1,13 +1,19 @@
 -- Shortest heads, and strings behind them, are read exactly as they are spelled.
-use Rattle.std.proofs.Common.{◌≡◌, ◌≢◌, ℕ, ◌+◌, ◌-◌, ◌*◌, ◌%◌, ◌^◌, ◌<◌, ◌≤◌, inl, inr, List, [], ◌∷◌, ◌++◌, length, drop, take, Option, Some, Result, Ok, Err, Bool, true, false, refl, sym, ap, ap₂, ◌∙◌, subst, arith, cond, ltb, leb, eqb, ltb-true, le-ltb, leb-true, eqb-true, eq-eqb, ne_eqb, le-leb, IfOk, IfErr}
+use Rattle.std.proofs.Common.{◌≡◌, ◌≢◌, ℕ, ◌+◌, ◌-◌, ◌*◌, ◌%◌, ◌^◌, ◌<◌, ◌≤◌, inl, inr, List, []}
+use Rattle.std.proofs.Common.{◌∷◌, ◌++◌, length, drop, take, Option, Some, Result, Ok, Err, Bool}
+use Rattle.std.proofs.Common.{true, false, refl, sym, ap, ap₂, ◌∙◌, subst, arith, cond, ltb, leb}
+use Rattle.std.proofs.Common.{eqb, ltb-true, le-ltb, leb-true, eqb-true, eq-eqb, ne_eqb, le-leb}
+use Rattle.std.proofs.Common.{IfOk, IfErr}
 use Rattle.std.specs.Int.{bytes_high_first}
 use Rattle.std.proofs.lemmas.List.{length-drop, length-take-le, length-take}
 use Rattle.std.specs.declared.vec.Vec.{Vec}
 use Rattle.cbor4ii_rw.specs.View.{View}
 use Rattle.cbor4ii_rw.specs.Reader.{Advances}
 use Rattle.cbor4ii_rw.specs.declared.error.DecodeError.{DecodeError}
-use Rattle.cbor4ii_items.specs.Head.{Width, in_first, one as w_one, two, four, eight, byte_count, HeadFits, additional, head, open_head, shortest, IsBytes}
-use Rattle.cbor4ii_items.specs.Refusal.{Refusal, refusal_of, is_read, is_depth_overflow, eof, len_of, not_canonical}
+use Rattle.cbor4ii_items.specs.Head.{Width, in_first, one as w_one, two, four, eight, byte_count}
+use Rattle.cbor4ii_items.specs.Head.{HeadFits, additional, head, open_head, shortest, IsBytes}
+use Rattle.cbor4ii_items.specs.Refusal.{Refusal, refusal_of, is_read, is_depth_overflow, eof}
+use Rattle.cbor4ii_items.specs.Refusal.{len_of, not_canonical}
 use Rattle.cbor4ii_items.specs.Initial.{wide, info_of}
 use Rattle.cbor4ii_items.specs.Reading.{Reading, give, refuse, ◌>=>◌, Runs, peek_at}
 use Rattle.cbor4ii_items.specs.Decoding.{Sound, Refuses, Stops}
@@ -17,27 +23,37 @@ use Rattle.cbor4ii_items.specs.Laws.Heads.{read_head, head_read, additional-lt, 
 use Rattle.cbor4ii_items.specs.ReadHead.{head_at}
 use Rattle.cbor4ii_items.specs.Contents.{listed}
 use Rattle.cbor4ii_items.specs.ReadStrings.{content_on}
-use Rattle.cbor4ii_items.specs.ReadShortest.{is_open_head, shortest_by, shortest_at, shortest_string_at}
-use Rattle.cbor4ii_items.specs.Shortest.{canonical_name, OpensLength, ReadsShortest, StopsShortest, shortest_refused, shortest_open, too_long, ReadsShortestString, StopsShortestString, length_refused, content_cut}
-use Rattle.cbor4ii_items.specs.Laws.ProgramEnds.{Passed, ok_parts, err_parts, head_leaves, content_inverse}
+use Rattle.cbor4ii_items.specs.ReadShortest.{is_open_head, shortest_by, shortest_at}
+use Rattle.cbor4ii_items.specs.ReadShortest.{shortest_string_at}
+use Rattle.cbor4ii_items.specs.Shortest.{canonical_name, OpensLength, ReadsShortest, StopsShortest}
+use Rattle.cbor4ii_items.specs.Shortest.{shortest_refused, shortest_open, too_long}
+use Rattle.cbor4ii_items.specs.Shortest.{ReadsShortestString, StopsShortestString, length_refused}
+use Rattle.cbor4ii_items.specs.Shortest.{content_cut}
+use Rattle.cbor4ii_items.specs.Laws.ProgramEnds.{Passed, ok_parts, err_parts, head_leaves}
+use Rattle.cbor4ii_items.specs.Laws.ProgramEnds.{content_inverse}
 use Rattle.cbor4ii_items.specs.Laws.Fronts.{drop_more}
-use Rattle.cbor4ii_items.specs.Laws.Answering.{Seen, seen_of, Found, fits_zero, sound_by, refuses_by, stops_by}
+use Rattle.cbor4ii_items.specs.Laws.Answering.{Seen, seen_of, Found, fits_zero, sound_by}
+use Rattle.cbor4ii_items.specs.Laws.Answering.{refuses_by, stops_by}
 use Rattle.cbor4ii_items.specs.Laws.Arguments.{ReadBy}
-use Rattle.cbor4ii_items.specs.Laws.Running.{as_of, peeked, runs_as, runs_then, runs_err, runs_give, runs_refuse, runs_byte}
+use Rattle.cbor4ii_items.specs.Laws.Running.{as_of, peeked, runs_as, runs_then, runs_err, runs_give}
+use Rattle.cbor4ii_items.specs.Laws.Running.{runs_refuse, runs_byte}
 use Rattle.cbor4ii_items.proofs.Leaves.{IsLeaf}
 use Rattle.cbor4ii_items.proofs.Stopping.{head_stops}
 use Rattle.cbor4ii_items.proofs.StringsRead.{content_refused}
 
 -- ---- the width that a first byte says
 
-if_cases : {A : Type 0} (P : A → Type 0) (b : Bool) (x y : A) → (b ≡ true → P x) → (b ≡ false → P y) → P (cond b x y)
+if_cases : {A : Type 0} (P : A → Type 0) (b : Bool) (x y : A) → (b ≡ true → P x) → (b ≡ false → P y)
+    → P (cond b x y)
 if_cases P true x y f g = f refl
 if_cases P false x y f g = g refl
 
 shortest_fits : (n : ℕ) → n < 2 ^ 64 → HeadFits (shortest n) n
 shortest_fits n h =
     let P : Width → Type 0 = λ w. HeadFits w n in
-    if_cases P (ltb n 24) _ _ (λ e. let lt = ltb-true n 24 e in omega (arith, lt)) (λ _. if_cases P (ltb n 256) _ _ (λ e. ltb-true n 256 e) (λ _. if_cases P (ltb n (256 ^ 2)) _ _ (λ e. ltb-true n (256 ^ 2) e)
+    if_cases P (ltb n 24) _ _ (λ e. let lt = ltb-true n 24 e in omega (arith, lt))
+    (λ _. if_cases P (ltb n 256) _ _ (λ e. ltb-true n 256 e)
+    (λ _. if_cases P (ltb n (256 ^ 2)) _ _ (λ e. ltb-true n (256 ^ 2) e)
     (λ _. if_cases P (ltb n (256 ^ 4)) _ _ (λ e. ltb-true n (256 ^ 4) e) (λ _. h))))
 
 below : (w : Width) (n : ℕ) → HeadFits w n → n < 2 ^ 64
@@ -50,23 +66,32 @@ below eight n h = omega arith
 same_wide : (w u : Width) → wide w ≡ wide u → w ≡ u
 same_wide w u e = cc
 
-same_width : (n : ℕ) (w u : Width) → HeadFits w n → HeadFits u n → additional w n ≡ additional u n → w ≡ u
-same_width n w u h k e = same_wide w u (sym (info-additional n w h) ∙ ap info_of e ∙ info-additional n u k)
+same_width : (n : ℕ) (w u : Width) → HeadFits w n → HeadFits u n → additional w n ≡ additional u n
+    → w ≡ u
+same_width n w u h k e =
+    same_wide w u (sym (info-additional n w h) ∙ ap info_of e ∙ info-additional n u k)
 
 -- the first byte of a head says its width
-says : (major n : ℕ) (w : Width) → HeadFits w n → (32 * major + additional w n) % 32 ≡ additional w n
+says : (major n : ℕ) (w : Width) → HeadFits w n
+    → (32 * major + additional w n) % 32 ≡ additional w n
 says major n w h = omega (arith, additional-lt n w h)
 
 -- a head whose first byte says the least width has it
-least_width : (major v n : ℕ) (xs : List ℕ) → (h : ReadsHead major 8 xs v n) → ((b : ℕ) (bs : List ℕ) → xs ≡ b ∷ bs → b % 32 ≡ additional (shortest v) v) → h.wide ≡ shortest v
+least_width : (major v n : ℕ) (xs : List ℕ) → (h : ReadsHead major 8 xs v n)
+    → ((b : ℕ) (bs : List ℕ) → xs ≡ b ∷ bs → b % 32 ≡ additional (shortest v) v)
+    → h.wide ≡ shortest v
 least_width major v n xs h first =
-    let low = first (32 * major + additional h.wide v) (bytes_high_first (byte_count h.wide) v ++ h.rest) h.is in
-    same_width v h.wide (shortest v) h.fits (shortest_fits v (below h.wide v h.fits)) (sym (says major v h.wide h.fits) ∙ low)
+    let low = first (32 * major + additional h.wide v)
+    (bytes_high_first (byte_count h.wide) v ++ h.rest) h.is in
+    same_width v h.wide (shortest v) h.fits (shortest_fits v (below h.wide v h.fits))
+    (sym (says major v h.wide h.fits) ∙ low)
 
 -- ---- the first byte of an indefinite length
 
-opens_by : (s t : Bool) (major b : ℕ) → leb 2 major ≡ s → leb major 5 ≡ t → cond s (cond t (eqb b (open_head major)) false) false ≡ true → OpensLength major b
-opens_by true true major b p q e = (leb-true 2 major p, leb-true major 5 q, eqb-true b (open_head major) e)
+opens_by : (s t : Bool) (major b : ℕ) → leb 2 major ≡ s → leb major 5 ≡ t
+    → cond s (cond t (eqb b (open_head major)) false) false ≡ true → OpensLength major b
+opens_by true true major b p q e =
+    (leb-true 2 major p, leb-true major 5 q, eqb-true b (open_head major) e)
 opens_by true false major b p q e = cc
 opens_by false t major b p q e = cc
 
@@ -83,12 +108,14 @@ opened major b h =
 no_opening : (major b : ℕ) → is_open_head major b ≡ false → ¬ (OpensLength major b)
 no_opening major b e h = let f = opened major b h in cc
 
-not_opened_by : (t : Bool) (major b : ℕ) → is_open_head major b ≡ t → ¬ (OpensLength major b) → t ≡ false
+not_opened_by : (t : Bool) (major b : ℕ) → is_open_head major b ≡ t → ¬ (OpensLength major b)
+    → t ≡ false
 not_opened_by true major b e none = absurd (none (opens major b e))
 not_opened_by false major b e none = refl
 
 -- no head begins so
-head_opens_none : (major v : ℕ) (w : Width) → HeadFits w v → ¬ (OpensLength major (32 * major + additional w v))
+head_opens_none : (major v : ℕ) (w : Width) → HeadFits w v
+    → ¬ (OpensLength major (32 * major + additional w v))
 head_opens_none major v w h o = omega (arith, o.2, additional-lt v w h)
 
 -- ---- heads that are read
@@ -96,27 +123,40 @@ head_opens_none major v w h o = omega (arith, o.2, additional-lt v w h)
 abbrev Longer : Refusal
 Longer = not_canonical canonical_name
 
-given : (t : Bool) (n v : ℕ) (us ys : List ℕ) → cond t (give n) (refuse Longer) us ≡ Ok (v, ys) → (n ≡ v) × (us ≡ ys) × (t ≡ true)
+given : (t : Bool) (n v : ℕ) (us ys : List ℕ) → cond t (give n) (refuse Longer) us ≡ Ok (v, ys)
+    → (n ≡ v) × (us ≡ ys) × (t ≡ true)
 given true n v us ys e = let p = same_value (give n us) refl e in (p.0, p.1, refl)
 given false n v us ys e = cc
 
-read_from : (t : Bool) (name : List ℕ) (major b v : ℕ) (bs ys : List ℕ) → cond t (λ xs. Err (Longer, bs)) (head_at name major 8 >=> shortest_by b) (b ∷ bs) ≡ Ok (v, ys)
+read_from : (t : Bool) (name : List ℕ) (major b v : ℕ) (bs ys : List ℕ)
+    → cond t (λ xs. Err (Longer, bs)) (head_at name major 8 >=> shortest_by b) (b ∷ bs) ≡ Ok (v, ys)
     → (head_at name major 8 (b ∷ bs) ≡ Ok (v, ys)) × (b % 32 ≡ additional (shortest v) v)
 read_from true name major b v bs ys e = cc
 read_from false name major b v bs ys e =
     let g = ok_parts (head_at name major 8 (b ∷ bs)) (shortest_by b) v ys e in
-    let f = given (eqb (b % 32) (additional (shortest g.value) g.value)) g.value v g.rest ys g.ended in
-    (g.begun ∙ ap₂ (λ (j : ℕ) (zs : List ℕ). Ok (j, zs)) f.0 f.1, subst (λ j. b % 32 ≡ additional (shortest j) j) f.0 (eqb-true (b % 32) (additional (shortest g.value) g.value) f.2))
+    let f =
+    given (eqb (b % 32) (additional (shortest g.value) g.value)) g.value v g.rest ys g.ended in (
+      g.begun ∙ ap₂ (λ (j : ℕ) (zs : List ℕ). Ok (j, zs)) f.0 f.1,
+      subst (λ j. b % 32 ≡ additional
+          (shortest j) j) f.0 (eqb-true (b % 32) (additional (shortest g.value) g.value) f.2),
+    )
 
 -- a shortest head is a head, and its first byte says the least width
-shortest_ok : (name : List ℕ) (major v : ℕ) (xs ys : List ℕ) → shortest_at name major xs ≡ Ok (v, ys)
-    → (head_at name major 8 xs ≡ Ok (v, ys)) × ((b : ℕ) (bs : List ℕ) → xs ≡ b ∷ bs → b % 32 ≡ additional (shortest v) v)
+shortest_ok : (name : List ℕ) (major v : ℕ) (xs ys : List ℕ)
+    → shortest_at name major xs ≡ Ok (v, ys)
+    → (head_at name major 8 xs ≡ Ok (v, ys))
+    × ((b : ℕ) (bs : List ℕ) → xs ≡ b ∷ bs → b % 32 ≡ additional (shortest v) v)
 shortest_ok name major v [] ys e = cc
 shortest_ok name major v (b ∷ bs) ys e =
-    let p = read_from (is_open_head major b) name major b v bs ys e in
-    (p.0, λ c cs is. (let same : b ≡ c = cc in subst (λ j. j % 32 ≡ additional (shortest v) v) same p.1))
+    let p = read_from (is_open_head major b) name major b v bs ys e in (
+      p.0,
+      λ c cs is.
+          (let same : b ≡ c = cc in subst (λ j. j % 32 ≡ additional (shortest v) v) same p.1),
+    )
 
-pub shortest_means : (name : List ℕ) (major : ℕ) (xs : List ℕ) (v n : ℕ) → shortest_at name major xs ≡ Ok (v, drop n xs) → n ≤ length xs → IsBytes (take n xs) → ReadsShortest major xs v n 0
+pub shortest_means : (name : List ℕ) (major : ℕ) (xs : List ℕ) (v n : ℕ)
+    → shortest_at name major xs ≡ Ok (v, drop n xs) → n ≤ length xs → IsBytes (take n xs)
+    → ReadsShortest major xs v n 0
 shortest_means name major xs v n e room bytes =
     let p = shortest_ok name major v xs (drop n xs) e in
     let h = read_head name major 8 xs v n p.0 room bytes in
@@ -124,23 +164,31 @@ shortest_means name major xs v n e room bytes =
 
 -- ---- and read back
 
-back_from : (t : Bool) (name : List ℕ) (major b v : ℕ) (bs ys : List ℕ) → t ≡ false → head_at name major 8 (b ∷ bs) ≡ Ok (v, ys) → eqb (b % 32) (additional (shortest v) v) ≡ true
+back_from : (t : Bool) (name : List ℕ) (major b v : ℕ) (bs ys : List ℕ) → t ≡ false
+    → head_at name major 8 (b ∷ bs) ≡ Ok (v, ys) → eqb (b % 32) (additional (shortest v) v) ≡ true
     → cond t (λ xs. Err (Longer, bs)) (head_at name major 8 >=> shortest_by b) (b ∷ bs) ≡ Ok (v, ys)
 back_from true name major b v bs ys e h k = cc
 back_from false name major b v bs ys e h k = rw (h, k) refl
 
-back_at : (name : List ℕ) (major v : ℕ) (w : Width) (rest ys : List ℕ) → HeadFits w v → w ≡ shortest v → head_at name major 8 (head major v w ++ rest) ≡ Ok (v, ys) → shortest_at name major (head major v w ++ rest) ≡ Ok (v, ys)
+back_at : (name : List ℕ) (major v : ℕ) (w : Width) (rest ys : List ℕ) → HeadFits w v
+    → w ≡ shortest v → head_at name major 8 (head major v w ++ rest) ≡ Ok (v, ys)
+    → shortest_at name major (head major v w ++ rest) ≡ Ok (v, ys)
 back_at name major v w rest ys h s e =
     let b = 32 * major + additional w v in
     let low : b % 32 ≡ additional (shortest v) v = says major v w h ∙ ap (λ u. additional u v) s in
-    back_from (is_open_head major b) name major b v (bytes_high_first (byte_count w) v ++ rest) ys (not_opened_by (is_open_head major b) major b refl (head_opens_none major v w h)) e (eq-eqb (b % 32) (additional (shortest v) v) low)
+    back_from (is_open_head major b) name major b v (bytes_high_first (byte_count w) v ++ rest) ys
+    (not_opened_by (is_open_head major b) major b refl (head_opens_none major v w h)) e
+    (eq-eqb (b % 32) (additional (shortest v) v) low)
 
-pub shortest_again : (name : List ℕ) (major : ℕ) → major < 8 → (xs : List ℕ) (v n c : ℕ) → ReadsShortest major xs v n c → ReadBy (shortest_at name major) xs v n c
+pub shortest_again : (name : List ℕ) (major : ℕ) → major < 8 → (xs : List ℕ) (v n c : ℕ)
+    → ReadsShortest major xs v n c → ReadBy (shortest_at name major) xs v n c
 shortest_again name major m xs v n c r =
     let h = r.0 in
     let p = head_read name major 8 xs v n m h in
     record {
-      answer = ap (shortest_at name major) h.is ∙ back_at name major v h.wide h.rest (drop n xs) h.fits r.1 (ap (head_at name major 8) (sym h.is) ∙ p.0);
+      answer =
+          ap (shortest_at name major) h.is ∙ back_at name major v h.wide h.rest (drop n xs) h.fits
+          r.1 (ap (head_at name major 8) (sym h.is) ∙ p.0);
       within = p.1;
       positive = p.2;
       cost = r.2;
@@ -148,73 +196,119 @@ shortest_again name major m xs v n c r =
 
 -- ---- heads that are refused
 
-refused_by : (t : Bool) (n : ℕ) (us : List ℕ) (z : Refusal) (ys : List ℕ) → cond t (give n) (refuse Longer) us ≡ Err (z, ys) → (z ≡ Longer) × (us ≡ ys) × (t ≡ false)
+refused_by : (t : Bool) (n : ℕ) (us : List ℕ) (z : Refusal) (ys : List ℕ)
+    → cond t (give n) (refuse Longer) us ≡ Err (z, ys) → (z ≡ Longer) × (us ≡ ys) × (t ≡ false)
 refused_by true n us z ys e = cc
-refused_by false n us z ys e = let p = same_refusal (refuse {V = ℕ} Longer us) refl e in (sym p.0, p.1, refl)
+refused_by false n us z ys e =
+    let p = same_refusal (refuse {V = ℕ} Longer us) refl e in (sym p.0, p.1, refl)
 
-stops_from : (t : Bool) (name : List ℕ) (major b : ℕ) (bs : List ℕ) (budget : Option ℕ) (z : Refusal) (ys : List ℕ) → is_open_head major b ≡ t → Seen (b ∷ bs) ys
-    → cond {A = Reading ℕ} t (λ xs. Err (Longer, bs)) (head_at name major 8 >=> shortest_by b) (b ∷ bs) ≡ Err (z, ys) → StopsShortest name major (b ∷ bs) budget z ys
+stops_from : (t : Bool) (name : List ℕ) (major b : ℕ) (bs : List ℕ) (budget : Option ℕ)
+    (z : Refusal) (ys : List ℕ) → is_open_head major b ≡ t → Seen (b ∷ bs) ys
+    → cond {A = Reading ℕ} t (λ xs. Err (Longer, bs)) (head_at name major 8 >=> shortest_by b)
+    (b ∷ bs) ≡ Err (z, ys) → StopsShortest name major (b ∷ bs) budget z ys
 stops_from true name major b bs budget z ys opening seen e =
     let o : Result (ℕ × List ℕ) (Refusal × List ℕ) = Err (Longer, bs) in
     let p = same_refusal o refl e in
     shortest_open b (opens major b opening) (ap (λ us. b ∷ us) p.1) (sym p.0)
 stops_from false name major b bs budget z ys opening seen e =
     elim (err_parts (head_at name major 8 (b ∷ bs)) (shortest_by b) z ys e) [
-      | inl f ↦ shortest_refused (λ c cs is. (let same : c ≡ b = cc in subst (λ j. ¬ (OpensLength major j)) (sym same) (no_opening major b opening))) (head_stops name major 8 (b ∷ bs) z ys f)
+      | inl f ↦ shortest_refused (λ c cs is. (let same : c ≡ b = cc in
+          subst (λ j. ¬ (OpensLength major j)) (sym same) (no_opening major b opening)))
+          (head_stops name major 8 (b ∷ bs) z ys f)
       | inr g ↦
-          let r = refused_by (eqb (b % 32) (additional (shortest g.value) g.value)) g.value g.rest z ys g.ended in
-          let passed : Passed (b ∷ bs) ys = (head_leaves name major 8).ok (b ∷ bs) g.value ys (g.begun ∙ ap (λ (zs : List ℕ). Ok (g.value, zs)) r.1) in
+          let r = refused_by (eqb (b % 32) (additional (shortest g.value) g.value)) g.value g.rest z
+          ys g.ended in
+          let passed : Passed (b ∷ bs) ys = (head_leaves name major 8).ok (b ∷ bs) g.value ys
+          (g.begun ∙ ap (λ (zs : List ℕ). Ok (g.value, zs)) r.1) in
           let n = passed.count in
           let room = passed.within in
-          let read : head_at name major 8 (b ∷ bs) ≡ Ok (g.value, drop n (b ∷ bs)) = g.begun ∙ ap (λ (zs : List ℕ). Ok (g.value, zs)) (r.1 ∙ passed.left) in
-          let h = read_head name major 8 (b ∷ bs) g.value n read room (seen n (omega (arith, room, ap length passed.left, length-drop n (b ∷ bs)))) in
-          too_long g.value n h (λ least. not_least major b g.value h.wide bs h.rest h.fits h.is least r.2) r.0 passed.left
+          let read : head_at name major 8 (b ∷ bs) ≡ Ok (g.value, drop n (b ∷ bs)) =
+          g.begun ∙ ap (λ (zs : List ℕ). Ok (g.value, zs)) (r.1 ∙ passed.left) in
+          let h = read_head name major 8 (b ∷ bs) g.value n read room
+          (seen n (omega (arith, room, ap length passed.left, length-drop n (b ∷ bs)))) in
+          too_long g.value n h (λ least.
+          not_least major b g.value h.wide bs h.rest h.fits h.is least r.2) r.0 passed.left
     ]
   where
-    not_least : (major b v : ℕ) (w : Width) (bs rest : List ℕ) → HeadFits w v → b ∷ bs ≡ head major v w ++ rest → w ≡ shortest v → eqb (b % 32) (additional (shortest v) v) ≡ false → ⊥
+    not_least : (major b v : ℕ) (w : Width) (bs rest : List ℕ) → HeadFits w v
+        → b ∷ bs ≡ head major v w ++ rest → w ≡ shortest v
+        → eqb (b % 32) (additional (shortest v) v) ≡ false → ⊥
     not_least major b v w bs rest h is least e =
         let first : b ≡ 32 * major + additional w v = cc in
-        let low : b % 32 ≡ additional (shortest v) v = ap (λ j. j % 32) first ∙ says major v w h ∙ ap (λ u. additional u v) least in
+        let low : b % 32 ≡ additional (shortest v) v =
+        ap (λ j. j % 32) first ∙ says major v w h ∙ ap (λ u. additional u v) least in
         let t = eq-eqb (b % 32) (additional (shortest v) v) low in
         cc
 
-pub shortest_stops : (name : List ℕ) (major : ℕ) (xs : List ℕ) (budget : Option ℕ) (z : Refusal) (ys : List ℕ) → shortest_at name major xs ≡ Err (z, ys) → Seen xs ys → StopsShortest name major xs budget z ys
+pub shortest_stops : (name : List ℕ) (major : ℕ) (xs : List ℕ) (budget : Option ℕ) (z : Refusal)
+    (ys : List ℕ) → shortest_at name major xs ≡ Err (z, ys) → Seen xs ys
+    → StopsShortest name major xs budget z ys
 shortest_stops name major [] budget z ys e seen =
     let p = same_refusal (shortest_at name major []) refl e in
     shortest_refused (λ b bs is. cc) (sym p.0, sym p.1)
-shortest_stops name major (b ∷ bs) budget z ys e seen = stops_from (is_open_head major b) name major b bs budget z ys refl seen e
+shortest_stops name major (b ∷ bs) budget z ys e seen =
+    stops_from (is_open_head major b) name major b bs budget z ys refl seen e
 
-pub shortest_leaf : (name : List ℕ) (major : ℕ) → major < 8 → IsLeaf (shortest_at name major) (ReadsShortest major) (StopsShortest name major)
+pub shortest_leaf : (name : List ℕ) (major : ℕ) → major < 8
+    → IsLeaf (shortest_at name major) (ReadsShortest major) (StopsShortest name major)
 shortest_leaf name major m = record {
   means = shortest_means name major;
   again = shortest_again name major m;
-  refuses = λ xs budget z n e within bytes. shortest_stops name major xs budget z (drop n xs) e (seen_of xs (drop n xs) n within bytes refl);
+  refuses = λ xs budget z n e within bytes. shortest_stops name major xs budget z (drop n xs) e
+      (seen_of xs (drop n xs) n within bytes refl);
 }
 
 -- ---- strings
 
-string_found : (name : List ℕ) (major : ℕ) (budget : Option ℕ) (xs v ys : List ℕ) → shortest_string_at name major xs ≡ Ok (v, ys) → Seen xs ys → Found (ReadsShortestString major) budget xs v ys
+string_found : (name : List ℕ) (major : ℕ) (budget : Option ℕ) (xs v ys : List ℕ)
+    → shortest_string_at name major xs ≡ Ok (v, ys) → Seen xs ys
+    → Found (ReadsShortestString major) budget xs v ys
 string_found name major budget xs v ys e seen =
     let g = ok_parts (shortest_at name major xs) (λ n. content_on name n []) v ys e in
     let o = shortest_ok name major g.value xs g.rest g.begun in
     let c = content_inverse name g.value [] g.rest v ys g.ended in
     let p : Passed xs g.rest = (head_leaves name major 8).ok xs g.value g.rest o.0 in
     let long : length v ≡ g.value = ap length c.1 ∙ length-take-le g.value g.rest c.0 in
-    let first : (b : ℕ) (bs : List ℕ) → xs ≡ b ∷ bs → b % 32 ≡ additional (shortest (length v)) (length v) = subst (λ j. (b : ℕ) (bs : List ℕ) → xs ≡ b ∷ bs → b % 32 ≡ additional (shortest j) j) (sym long) o.1 in
-    let read : head_at name major 8 xs ≡ Ok (length v, drop p.count xs) = o.0 ∙ ap₂ (λ (j : ℕ) (zs : List ℕ). Ok (j, zs)) (sym long) p.left in
-    let h = read_head name major 8 xs (length v) p.count read p.within (seen p.count (omega (arith, p.within, ap length c.2, length-drop g.value g.rest, ap length p.left, length-drop p.count xs))) in
+    let first : (b : ℕ) (bs : List ℕ) → xs ≡ b ∷ bs
+    → b % 32 ≡ additional (shortest (length v)) (length v) =
+    subst (λ j. (b : ℕ) (bs : List ℕ) → xs ≡ b ∷ bs → b % 32 ≡ additional (shortest j) j)
+    (sym long) o.1 in
+    let read : head_at name major 8 xs ≡ Ok (length v, drop p.count xs) =
+    o.0 ∙ ap₂ (λ (j : ℕ) (zs : List ℕ). Ok (j, zs)) (sym long) p.left in
+    let h = read_head name major 8 xs (length v) p.count read p.within
+    (seen p.count (omega (
+      arith,
+      p.within,
+      ap length c.2,
+      length-drop g.value g.rest,
+      ap length p.left,
+      length-drop p.count xs,
+    ))) in
     record {
       count = p.count + length v;
       cost = 0;
-      read = (record { before = p.count; head = h; stands = ap₂ take long (sym p.left) ∙ sym c.1; size = refl }, least_width major (length v) p.count xs h first, refl);
+      read = (
+        record {
+          before = p.count;
+          head = h;
+          stands = ap₂ take long (sym p.left) ∙ sym c.1;
+          size = refl;
+        },
+        least_width major (length v) p.count xs h first,
+        refl,
+      );
       fits = fits_zero budget;
-      left = c.2 ∙ (ap (drop g.value) p.left ∙ (drop_more g.value p.count xs ∙ ap (λ j. drop (p.count + j) xs) (sym long)));
+      left =
+          c.2 ∙ (ap (drop g.value) p.left
+          ∙ (drop_more g.value p.count xs ∙ ap (λ j. drop (p.count + j) xs) (sym long)));
     }
 
-content_back : (name : List ℕ) (n : ℕ) (us : List ℕ) → n ≤ length us → content_on name n [] us ≡ Ok (take n us, drop n us)
+content_back : (name : List ℕ) (n : ℕ) (us : List ℕ) → n ≤ length us
+    → content_on name n [] us ≡ Ok (take n us, drop n us)
 content_back name n us h = let t : ltb (length us) n ≡ false = le-ltb (length us) n h in rw t refl
 
-string_again : (name : List ℕ) (major : ℕ) → major < 8 → (xs v : List ℕ) (n c : ℕ) → ReadsShortestString major xs v n c → shortest_string_at name major xs ≡ Ok (v, drop n xs)
+string_again : (name : List ℕ) (major : ℕ) → major < 8 → (xs v : List ℕ) (n c : ℕ)
+    → ReadsShortestString major xs v n c → shortest_string_at name major xs ≡ Ok (v, drop n xs)
 string_again name major m xs v n c r =
     let s = r.0 in
     let k = length v in
@@ -223,10 +317,13 @@ string_again name major m xs v n c r =
     let room : k ≤ length us = omega (arith, ap length s.stands, length-take k us) in
     let all : take k us ≡ v = s.stands in
     let left : drop k us ≡ drop n xs = drop_more k s.before xs ∙ ap (λ j. drop j xs) (sym s.size) in
-    let answer : content_on name k [] us ≡ Ok (v, drop n xs) = content_back name k us room ∙ ap₂ (λ (w zs : List ℕ). Ok (w, zs)) all left in
+    let answer : content_on name k [] us ≡ Ok (v, drop n xs) =
+    content_back name k us room ∙ ap₂ (λ (w zs : List ℕ). Ok (w, zs)) all left in
     rw h.answer answer
 
-string_stops : (name : List ℕ) (major : ℕ) (budget : Option ℕ) (xs : List ℕ) (z : Refusal) (ys : List ℕ) → shortest_string_at name major xs ≡ Err (z, ys) → Seen xs ys → StopsShortestString name major xs budget z ys
+string_stops : (name : List ℕ) (major : ℕ) (budget : Option ℕ) (xs : List ℕ) (z : Refusal)
+    (ys : List ℕ) → shortest_string_at name major xs ≡ Err (z, ys) → Seen xs ys
+    → StopsShortestString name major xs budget z ys
 string_stops name major budget xs z ys e seen =
     elim (err_parts (shortest_at name major xs) (λ n. content_on name n []) z ys e) [
       | inl f ↦ length_refused (shortest_stops name major xs budget z ys f seen)
@@ -235,29 +332,53 @@ string_stops name major budget xs z ys e seen =
           let c = content_refused name g.value [] g.rest z ys g.ended in
           let p : Passed xs g.rest = (head_leaves name major 8).ok xs g.value g.rest o.0 in
           let i = p.count in
-          let h = shortest_means name major xs g.value i (g.begun ∙ ap (λ (zs : List ℕ). Ok (g.value, zs)) p.left) p.within (seen i (omega (arith, p.within, ap length c.2))) in
+          let h = shortest_means name major xs g.value i
+          (g.begun ∙ ap (λ (zs : List ℕ). Ok (g.value, zs)) p.left) p.within
+          (seen i (omega (arith, p.within, ap length c.2))) in
           let short : length g.rest ≡ length xs - i = ap length p.left ∙ length-drop i xs in
-          let gap : g.value - length g.rest ≡ i + g.value - length xs = omega (arith, p.within, short) in
-          content_cut (record { count = g.value; before = i; head = h.0; short = omega (arith, c.0, p.within, short); answer = c.1 ∙ ap (λ j. eof name (len_of j)) gap; left = c.2 }) h.1
+          let gap : g.value - length g.rest ≡ i + g.value - length xs =
+          omega (arith, p.within, short) in
+          content_cut (record {
+            count = g.value;
+            before = i;
+            head = h.0;
+            short = omega (arith, c.0, p.within, short);
+            answer = c.1 ∙ ap (λ j. eof name (len_of j)) gap;
+            left = c.2;
+          }) h.1
     ]
 
 module _ {E Z : Type 0} (name : List ℕ) (major : ℕ) {a b : View} where
-  pub string_sound : (r : Result (Vec ℕ Z) (DecodeError E)) → Runs (shortest_string_at name major) a b (listed r) → IfOk r (λ v. Sound (ReadsShortestString major) a b v.items)
-  string_sound (Ok v) p = sound_by (ReadsShortestString major) (λ xs ys e seen. string_found name major a.budget xs v.items ys e seen) p
+  pub string_sound : (r : Result (Vec ℕ Z) (DecodeError E))
+      → Runs (shortest_string_at name major) a b (listed r)
+      → IfOk r (λ v. Sound (ReadsShortestString major) a b v.items)
+  string_sound (Ok v) p =
+      sound_by (ReadsShortestString major)
+      (λ xs ys e seen. string_found name major a.budget xs v.items ys e seen) p
   string_sound (Err e) p = tt
 
-  pub string_complete : (r : Result (Vec ℕ Z) (DecodeError E)) → major < 8 → Runs (shortest_string_at name major) a b (listed r) → IfErr r (Refuses (ReadsShortestString major) a)
+  pub string_complete : (r : Result (Vec ℕ Z) (DecodeError E)) → major < 8
+      → Runs (shortest_string_at name major) a b (listed r)
+      → IfErr r (Refuses (ReadsShortestString major) a)
   string_complete (Ok v) m p = tt
-  string_complete (Err e) m p = refuses_by (ReadsShortestString major) (λ xs v n c h fits. string_again name major m xs v n c h) p
+  string_complete (Err e) m p =
+      refuses_by (ReadsShortestString major)
+      (λ xs v n c h fits. string_again name major m xs v n c h) p
 
-  pub string_refused : (r : Result (Vec ℕ Z) (DecodeError E)) → Runs (shortest_string_at name major) a b (listed r) → IfErr r (Stops (StopsShortestString name major) a b)
+  pub string_refused : (r : Result (Vec ℕ Z) (DecodeError E))
+      → Runs (shortest_string_at name major) a b (listed r)
+      → IfErr r (Stops (StopsShortestString name major) a b)
   string_refused (Ok v) p = tt
-  string_refused (Err e) p = stops_by (StopsShortestString name major) (λ xs z ys f seen. string_stops name major a.budget xs z ys f seen) p
+  string_refused (Err e) p =
+      stops_by (StopsShortestString name major)
+      (λ xs z ys f seen. string_stops name major a.budget xs z ys f seen) p
 
 -- ---- the calls
 
 -- what a program does where this byte comes first
-pub runs_when : {V E : Type 0} {f g : Reading V} (name : List ℕ) (b : ℕ) {a m c : View} {r : Result V (DecodeError E)} → Runs {E = E} (peek_at name 1) a m (Ok b) → ((bs : List ℕ) → f (b ∷ bs) ≡ g (b ∷ bs)) → Runs g a c r → Runs f a c r
+pub runs_when : {V E : Type 0} {f g : Reading V} (name : List ℕ) (b : ℕ) {a m c : View}
+    {r : Result V (DecodeError E)} → Runs {E = E} (peek_at name 1) a m (Ok b)
+    → ((bs : List ℕ) → f (b ∷ bs) ≡ g (b ∷ bs)) → Runs g a c r → Runs f a c r
 runs_when {f = f} {g = g} name b {c = c} {r = r} first same p = record {
   moves = p.moves;
   answers = λ xs told.
@@ -266,38 +387,55 @@ runs_when {f = f} {g = g} name b {c = c} {r = r} first same p = record {
       as_of (f xs) (g xs) c.told r (ap f is.1 ∙ same is.0 ∙ ap g (sym is.1)) (p.answers xs told);
 }
 
-module _ {E : Type 0} (name : List ℕ) (major b : ℕ) {a m : View} (first : Runs {E = E} (peek_at name 1) a m (Ok b)) where
-  opening_is : (t : Bool) (bs : List ℕ) → t ≡ true → cond {A = Reading ℕ} t (λ xs. Err (Longer, bs)) (head_at name major 8 >=> shortest_by b) (b ∷ bs) ≡ Err (Longer, bs)
+module _ {E : Type 0} (name : List ℕ) (major b : ℕ) {a m : View}
+    (first : Runs {E = E} (peek_at name 1) a m (Ok b)) where
+  opening_is : (t : Bool) (bs : List ℕ) → t ≡ true → cond {A = Reading ℕ} t (λ xs. Err (Longer, bs))
+      (head_at name major 8 >=> shortest_by b) (b ∷ bs) ≡ Err (Longer, bs)
   opening_is true bs e = refl
   opening_is false bs e = cc
 
   -- the first byte of an indefinite length
-  pub runs_opening : {c : View} {e : DecodeError E} → b < 256 → Advances 1 m c → is_open_head major b ≡ true → refusal_of e ≡ Some Longer → is_read e ≡ false → is_depth_overflow e ≡ false
+  pub runs_opening : {c : View} {e : DecodeError E} → b < 256 → Advances 1 m c
+      → is_open_head major b ≡ true → refusal_of e ≡ Some Longer → is_read e ≡ false
+      → is_depth_overflow e ≡ false
       → Runs {V = ℕ} (shortest_at name major) a c (Err e)
   runs_opening {c = c} byte advances opening says read depth =
-      runs_when name b first (λ bs. opening_is (is_open_head major b) bs opening) (runs_then (λ _. refuse Longer) (runs_byte first byte advances) (runs_refuse Longer c says read depth))
+      runs_when name b first (λ bs. opening_is (is_open_head major b) bs opening)
+      (runs_then (λ _. refuse Longer) (runs_byte first byte advances)
+      (runs_refuse Longer c says read depth))
 
-  head_is : (t : Bool) (bs : List ℕ) → t ≡ false → cond {A = Reading ℕ} t (λ xs. Err (Longer, bs)) (head_at name major 8 >=> shortest_by b) (b ∷ bs) ≡ (head_at name major 8 >=> shortest_by b) (b ∷ bs)
+  head_is : (t : Bool) (bs : List ℕ) → t ≡ false
+      → cond {A = Reading ℕ} t (λ xs. Err (Longer, bs)) (head_at name major 8 >=> shortest_by b)
+      (b ∷ bs) ≡ (head_at name major 8 >=> shortest_by b) (b ∷ bs)
   head_is true bs e = cc
   head_is false bs e = refl
 
   module _ (closed : is_open_head major b ≡ false) where
-    runs_closed : {c : View} {r : Result ℕ (DecodeError E)} → Runs (head_at name major 8 >=> shortest_by b) m c r → Runs (shortest_at name major) a c r
-    runs_closed p = runs_when name b first (λ bs. head_is (is_open_head major b) bs closed) (runs_then (λ _. head_at name major 8 >=> shortest_by b) first p)
+    runs_closed : {c : View} {r : Result ℕ (DecodeError E)}
+        → Runs (head_at name major 8 >=> shortest_by b) m c r → Runs (shortest_at name major) a c r
+    runs_closed p =
+        runs_when name b first (λ bs. head_is (is_open_head major b) bs closed)
+        (runs_then (λ _. head_at name major 8 >=> shortest_by b) first p)
 
-    pub runs_head_err : {c : View} {e : DecodeError E} → Runs {V = ℕ} (head_at name major 8) m c (Err e) → Runs {V = ℕ} (shortest_at name major) a c (Err e)
+    pub runs_head_err : {c : View} {e : DecodeError E} → Runs {V = ℕ}
+        (head_at name major 8) m c (Err e) → Runs {V = ℕ} (shortest_at name major) a c (Err e)
     runs_head_err p = runs_closed (runs_err (shortest_by b) p)
 
     module _ {n : ℕ} {c : View} (p : Runs {E = E} (head_at name major 8) m c (Ok n)) where
-      pub runs_shortest : b % 32 ≡ additional (shortest n) n → Runs {E = E} (shortest_at name major) a c (Ok n)
+      pub runs_shortest : b % 32 ≡ additional (shortest n) n
+          → Runs {E = E} (shortest_at name major) a c (Ok n)
       runs_shortest e =
-          let t : eqb (b % 32) (additional (shortest n) n) ≡ true = eq-eqb (b % 32) (additional (shortest n) n) e in
+          let t : eqb (b % 32) (additional (shortest n) n) ≡ true =
+          eq-eqb (b % 32) (additional (shortest n) n) e in
           let here : shortest_by b n ≡ give n = rw t refl in
           runs_closed (runs_then (shortest_by b) p (runs_as here (runs_give n c)))
 
-      pub runs_too_long : {e : DecodeError E} → b % 32 ≢ additional (shortest n) n → refusal_of e ≡ Some Longer → is_read e ≡ false → is_depth_overflow e ≡ false
+      pub runs_too_long : {e : DecodeError E} → b % 32 ≢ additional (shortest n) n
+          → refusal_of e ≡ Some Longer → is_read e ≡ false → is_depth_overflow e ≡ false
           → Runs {V = ℕ} (shortest_at name major) a c (Err e)
       runs_too_long other says read depth =
-          let t : eqb (b % 32) (additional (shortest n) n) ≡ false = ne_eqb (b % 32) (additional (shortest n) n) other in
+          let t : eqb (b % 32) (additional (shortest n) n) ≡ false =
+          ne_eqb (b % 32) (additional (shortest n) n) other in
           let here : shortest_by b n ≡ refuse Longer = rw t refl in
-          runs_closed (runs_then (shortest_by b) p (runs_as here (runs_refuse Longer c says read depth)))
+          runs_closed
+          (runs_then (shortest_by b) p (runs_as here (runs_refuse Longer c says read depth)))

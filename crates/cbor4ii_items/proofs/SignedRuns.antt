@@ -1,5 +1,6 @@
 -- Signed integers of at most eight bytes, one part after another.
-use Rattle.std.proofs.Common.{◌≡◌, ℕ, ◌/◌, ◌==◌, ◌^◌, ◌<◌, ◌≤◌, List, [], ◌∷◌, Bool, true, false, if◌then◌else◌, Result, Ok, Err, refl, ap, ◌∙◌}
+use Rattle.std.proofs.Common.{◌≡◌, ℕ, ◌/◌, ◌==◌, ◌^◌, ◌<◌, ◌≤◌, List, [], ◌∷◌, Bool, true, false}
+use Rattle.std.proofs.Common.{if◌then◌else◌, Result, Ok, Err, refl, ap, ◌∙◌}
 use Rattle.std.proofs.lemmas.Bool.{eqb-true, lt-ltb, le-ltb}
 use Rattle.std.specs.Prelude.{ℤ, pos, negsuc}
 use Rattle.std.proofs.lemmas.Int.{to_z-of_z}
@@ -12,67 +13,113 @@ use denote.Ref.{Bor}
 use Rattle.cbor4ii_items.specs.Refusal.{Refusal, cast_overflow}
 use Rattle.cbor4ii_items.specs.Reading.{Reading, Runs, refuse, peek_at, ◌>=>◌}
 use Rattle.cbor4ii_items.specs.ReadHead.{head_at, argument_at}
-use Rattle.cbor4ii_items.specs.ReadNumber.{below, head_below_at, signed_by, signed_at, as_positive, as_negative}
-use Rattle.cbor4ii_items.specs.Laws.Running.{as_of, runs_as, runs_then, runs_err, runs_with, runs_give, runs_refuse}
+use Rattle.cbor4ii_items.specs.ReadNumber.{below, head_below_at, signed_by, signed_at, as_positive}
+use Rattle.cbor4ii_items.specs.ReadNumber.{as_negative}
+use Rattle.cbor4ii_items.specs.Laws.Running.{as_of, runs_as, runs_then, runs_err, runs_with}
+use Rattle.cbor4ii_items.specs.Laws.Running.{runs_give, runs_refuse}
 use Rattle.cbor4ii_items.specs.Laws.Signed.{signed_positive_by, signed_negative_by}
 
-pub runs_positive : {E : Type 0} (name plus minus : List ℕ) (width limit b : ℕ) {a m c : View} {r : Result ℤ (DecodeError E)} → b / 32 ≡ 0 → Runs {E = E} (peek_at name 1) a m (Ok b) → Runs (head_below_at plus 0 width limit >=> as_positive) m c r → Runs (signed_at name plus minus width limit) a c r
-runs_positive name plus minus width limit b e p q = runs_then (signed_by name plus minus width limit) p (runs_as (signed_positive_by name plus minus width limit b e) q)
+pub runs_positive : {E : Type 0} (name plus minus : List ℕ) (width limit b : ℕ) {a m c : View}
+    {r : Result ℤ (DecodeError E)} → b / 32 ≡ 0 → Runs {E = E} (peek_at name 1) a m (Ok b)
+    → Runs (head_below_at plus 0 width limit >=> as_positive) m c r
+    → Runs (signed_at name plus minus width limit) a c r
+runs_positive name plus minus width limit b e p q =
+    runs_then (signed_by name plus minus width limit) p
+    (runs_as (signed_positive_by name plus minus width limit b e) q)
 
-pub runs_negative : {E : Type 0} (name plus minus : List ℕ) (width limit b : ℕ) {a m c : View} {r : Result ℤ (DecodeError E)} → b / 32 ≡ 1 → Runs {E = E} (peek_at name 1) a m (Ok b) → Runs (head_below_at minus 1 width limit >=> as_negative) m c r → Runs (signed_at name plus minus width limit) a c r
-runs_negative name plus minus width limit b e p q = runs_then (signed_by name plus minus width limit) p (runs_as (signed_negative_by name plus minus width limit b e) q)
+pub runs_negative : {E : Type 0} (name plus minus : List ℕ) (width limit b : ℕ) {a m c : View}
+    {r : Result ℤ (DecodeError E)} → b / 32 ≡ 1 → Runs {E = E} (peek_at name 1) a m (Ok b)
+    → Runs (head_below_at minus 1 width limit >=> as_negative) m c r
+    → Runs (signed_at name plus minus width limit) a c r
+runs_negative name plus minus width limit b e p q =
+    runs_then (signed_by name plus minus width limit) p
+    (runs_as (signed_negative_by name plus minus width limit b e) q)
 
 -- ---- numbers as signed ones
 
 pub positive_is : (r : ℤ) (k : ℕ) → k < 2 ^ 63 → r ≡ pos k → to_z w64 (of_z w64 r) ≡ pos k
-positive_is r k h e = ap (λ z. to_z w64 (of_z w64 z)) e ∙ to_z-of_z w64 (pos k) (record { sfits = h })
+positive_is r k h e =
+    ap (λ z. to_z w64 (of_z w64 z)) e ∙ to_z-of_z w64 (pos k) (record { sfits = h })
 
 pub negative_is : (r : ℤ) (k : ℕ) → k < 2 ^ 63 → r ≡ negsuc k → to_z w64 (of_z w64 r) ≡ negsuc k
-negative_is r k h e = ap (λ z. to_z w64 (of_z w64 z)) e ∙ to_z-of_z w64 (negsuc k) (record { sfits = h })
+negative_is r k h e =
+    ap (λ z. to_z w64 (of_z w64 z)) e ∙ to_z-of_z w64 (negsuc k) (record { sfits = h })
 
 -- ---- a head that was taken whole
 
-read_where : (t : Bool) (f : Reading ℕ) (refusal : Refusal) (xs ys : List ℕ) (v : ℕ) → (if t then f else refuse refusal) xs ≡ Ok (v, ys) → t ≡ true
+read_where : (t : Bool) (f : Reading ℕ) (refusal : Refusal) (xs ys : List ℕ) (v : ℕ)
+    → (if t then f else refuse refusal) xs ≡ Ok (v, ys) → t ≡ true
 read_where true f refusal xs ys v e = refl
 read_where false f refusal xs ys v e = cc
 
 -- a head that is read begins with its major type
-pub first_major : (name : List ℕ) (major width v b : ℕ) (bs ys : List ℕ) → head_at name major width (b ∷ bs) ≡ Ok (v, ys) → b / 32 ≡ major
-first_major name major width v b bs ys e = eqb-true (b / 32) major (read_where ((b / 32) == major) (argument_at name width b) _ bs ys v e)
+pub first_major : (name : List ℕ) (major width v b : ℕ) (bs ys : List ℕ)
+    → head_at name major width (b ∷ bs) ≡ Ok (v, ys) → b / 32 ≡ major
+first_major name major width v b bs ys e =
+    eqb-true (b / 32) major (read_where ((b / 32) == major) (argument_at name width b) _ bs ys v e)
 
 -- where a head of major type 0 is read, a signed number begins with it
-as_plus : (name plus minus : List ℕ) (width limit v : ℕ) (xs ys : List ℕ) → head_at plus 0 width xs ≡ Ok (v, ys) → signed_at name plus minus width limit xs ≡ (head_below_at plus 0 width limit >=> as_positive) xs
+as_plus : (name plus minus : List ℕ) (width limit v : ℕ) (xs ys : List ℕ)
+    → head_at plus 0 width xs ≡ Ok (v, ys) → signed_at name plus minus width limit xs
+    ≡ (head_below_at plus 0 width limit >=> as_positive) xs
 as_plus name plus minus width limit v [] ys e = cc
 as_plus name plus minus width limit v (b ∷ bs) ys e =
-    ap (λ f. f (b ∷ bs)) (signed_positive_by name plus minus width limit b (first_major plus 0 width v b bs ys e))
+    ap (λ f. f (b ∷ bs))
+    (signed_positive_by name plus minus width limit b (first_major plus 0 width v b bs ys e))
 
-as_minus : (name plus minus : List ℕ) (width limit v : ℕ) (xs ys : List ℕ) → head_at minus 1 width xs ≡ Ok (v, ys) → signed_at name plus minus width limit xs ≡ (head_below_at minus 1 width limit >=> as_negative) xs
+as_minus : (name plus minus : List ℕ) (width limit v : ℕ) (xs ys : List ℕ)
+    → head_at minus 1 width xs ≡ Ok (v, ys) → signed_at name plus minus width limit xs
+    ≡ (head_below_at minus 1 width limit >=> as_negative) xs
 as_minus name plus minus width limit v [] ys e = cc
 as_minus name plus minus width limit v (b ∷ bs) ys e =
-    ap (λ f. f (b ∷ bs)) (signed_negative_by name plus minus width limit b (first_major minus 1 width v b bs ys e))
+    ap (λ f. f (b ∷ bs))
+    (signed_negative_by name plus minus width limit b (first_major minus 1 width v b bs ys e))
 
-pub runs_where : {V E : Type 0} {f g : Reading V} {a b : View} {r : Result V (DecodeError E)} → Told a.told (λ xs. f xs ≡ g xs) → Runs g a b r → Runs f a b r
-runs_where {f = f} {g = g} {b = b} {r = r} same q = record { moves = q.moves; answers = λ xs told. as_of (f xs) (g xs) b.told r (same xs told) (q.answers xs told) }
+pub runs_where : {V E : Type 0} {f g : Reading V} {a b : View} {r : Result V (DecodeError E)}
+    → Told a.told (λ xs. f xs ≡ g xs) → Runs g a b r → Runs f a b r
+runs_where {f = f} {g = g} {b = b} {r = r} same q = record {
+  moves = q.moves;
+  answers = λ xs told. as_of (f xs) (g xs) b.told r (same xs told) (q.answers xs told);
+}
 
-runs_below : {E : Type 0} (name : List ℕ) (limit v : ℕ) (m : View) → v < limit → Runs {E = E} (below name limit v) m m (Ok v)
+runs_below : {E : Type 0} (name : List ℕ) (limit v : ℕ) (m : View) → v < limit
+    → Runs {E = E} (below name limit v) m m (Ok v)
 runs_below name limit v m h = let t = lt-ltb v limit h in runs_as (rw t refl) (runs_give v m)
 
-runs_above : {E : Type 0} (name : Bor (List ℕ)) (limit v : ℕ) (m : View) → limit ≤ v → Runs {V = ℕ} {E = E} (below name.now limit v) m m (Err (CastOverflow name))
-runs_above name limit v m h = let t = le-ltb v limit h in runs_as (rw t refl) (runs_refuse (cast_overflow name.now) m refl refl refl)
+runs_above : {E : Type 0} (name : Bor (List ℕ)) (limit v : ℕ) (m : View) → limit ≤ v
+    → Runs {V = ℕ} {E = E} (below name.now limit v) m m (Err (CastOverflow name))
+runs_above name limit v m h =
+    let t = le-ltb v limit h in
+    runs_as (rw t refl) (runs_refuse (cast_overflow name.now) m refl refl refl)
 
-module _ {E : Type 0} (name : List ℕ) (half : Bor (List ℕ)) (other : List ℕ) (width limit : ℕ) {v : ℕ} {a m : View} where
-  pub plus_read : {z : ℤ} → z ≡ pos v → v < limit → Runs {E = E} (head_at half.now 0 width) a m (Ok v) → Runs {E = E} (signed_at name half.now other width limit) a m (Ok z)
-  plus_read e h p = runs_where (λ xs told. let s = p.answers xs told in as_plus name half.now other width limit v xs s.0 s.2)
+module _ {E : Type 0} (name : List ℕ) (half : Bor (List ℕ)) (other : List ℕ) (width limit : ℕ)
+    {v : ℕ} {a m : View} where
+  pub plus_read : {z : ℤ} → z ≡ pos v → v < limit
+      → Runs {E = E} (head_at half.now 0 width) a m (Ok v)
+      → Runs {E = E} (signed_at name half.now other width limit) a m (Ok z)
+  plus_read e h p =
+      runs_where (λ xs told. let s = p.answers xs told in
+      as_plus name half.now other width limit v xs s.0 s.2)
       (runs_with pos e (runs_then (below half.now limit) p (runs_below half.now limit v m h)))
 
-  pub plus_refused : limit ≤ v → Runs {E = E} (head_at half.now 0 width) a m (Ok v) → Runs {E = E} (signed_at name half.now other width limit) a m (Err (CastOverflow half))
-  plus_refused h p = runs_where (λ xs told. let s = p.answers xs told in as_plus name half.now other width limit v xs s.0 s.2)
+  pub plus_refused : limit ≤ v → Runs {E = E} (head_at half.now 0 width) a m (Ok v)
+      → Runs {E = E} (signed_at name half.now other width limit) a m (Err (CastOverflow half))
+  plus_refused h p =
+      runs_where (λ xs told. let s = p.answers xs told in
+      as_plus name half.now other width limit v xs s.0 s.2)
       (runs_err as_positive (runs_then (below half.now limit) p (runs_above half limit v m h)))
 
-  pub minus_read : {z : ℤ} → z ≡ negsuc v → v < limit → Runs {E = E} (head_at half.now 1 width) a m (Ok v) → Runs {E = E} (signed_at name other half.now width limit) a m (Ok z)
-  minus_read e h p = runs_where (λ xs told. let s = p.answers xs told in as_minus name other half.now width limit v xs s.0 s.2)
+  pub minus_read : {z : ℤ} → z ≡ negsuc v → v < limit
+      → Runs {E = E} (head_at half.now 1 width) a m (Ok v)
+      → Runs {E = E} (signed_at name other half.now width limit) a m (Ok z)
+  minus_read e h p =
+      runs_where (λ xs told. let s = p.answers xs told in
+      as_minus name other half.now width limit v xs s.0 s.2)
       (runs_with negsuc e (runs_then (below half.now limit) p (runs_below half.now limit v m h)))
 
-  pub minus_refused : limit ≤ v → Runs {E = E} (head_at half.now 1 width) a m (Ok v) → Runs {E = E} (signed_at name other half.now width limit) a m (Err (CastOverflow half))
-  minus_refused h p = runs_where (λ xs told. let s = p.answers xs told in as_minus name other half.now width limit v xs s.0 s.2)
+  pub minus_refused : limit ≤ v → Runs {E = E} (head_at half.now 1 width) a m (Ok v)
+      → Runs {E = E} (signed_at name other half.now width limit) a m (Err (CastOverflow half))
+  minus_refused h p =
+      runs_where (λ xs told. let s = p.answers xs told in
+      as_minus name other half.now width limit v xs s.0 s.2)
       (runs_err as_negative (runs_then (below half.now limit) p (runs_above half limit v m h)))

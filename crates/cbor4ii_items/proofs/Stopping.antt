@@ -1,8 +1,11 @@
 -- How a head is refused.
-use Rattle.std.proofs.Common.{◌≡◌, ◌≢◌, ℕ, zero, suc, ◌+◌, ◌*◌, ◌/◌, ◌%◌, ◌<◌, ◌≤◌, inl, inr, List, [], ◌∷◌, length, Err, Bool, true, false, refl, sym, ap, ◌∙◌, arith, ltb, leb, lt-ltb, le-leb, eqb, eq-eqb, eqb-true, ltb-false, cond}
+use Rattle.std.proofs.Common.{◌≡◌, ◌≢◌, ℕ, zero, suc, ◌+◌, ◌*◌, ◌/◌, ◌%◌, ◌<◌, ◌≤◌, inl, inr, List}
+use Rattle.std.proofs.Common.{[], ◌∷◌, length, Err, Bool, true, false, refl, sym, ap, ◌∙◌, arith}
+use Rattle.std.proofs.Common.{ltb, leb, lt-ltb, le-leb, eqb, eq-eqb, eqb-true, ltb-false, cond}
 use Rattle.std.proofs.Math.Nat.{pow-le-pow_right}
 use Rattle.cbor4ii_rw.specs.declared.error.Len.TheVariants.{Small}
-use Rattle.cbor4ii_items.specs.Head.{Width, in_first, one as w_one, two, four, eight, byte_count, HeadFits, additional}
+use Rattle.cbor4ii_items.specs.Head.{Width, in_first, one as w_one, two, four, eight, byte_count}
+use Rattle.cbor4ii_items.specs.Head.{HeadFits, additional}
 use Rattle.cbor4ii_items.specs.Refusal.{Refusal, mismatch, eof}
 use Rattle.cbor4ii_items.specs.Reading.{give, refuse, byte_at}
 use Rattle.cbor4ii_items.specs.Laws.Outcome.{same_refusal}
@@ -11,7 +14,9 @@ use Rattle.cbor4ii_items.specs.ReadHead.{head_at, argument_at, number_on, follow
 use Rattle.cbor4ii_items.specs.Laws.Heads.{additional-lt, allowed_parts, two_parts, wide_of}
 
 -- a number is refused only where too few bytes follow
-pub number_cut : (name : List ℕ) (expect k high : ℕ) (bs : List ℕ) (z : Refusal) (ys : List ℕ) → number_on name expect k high bs ≡ Err (z, ys) → (length bs < k) × (z ≡ eof name (Small expect)) × (ys ≡ [])
+pub number_cut : (name : List ℕ) (expect k high : ℕ) (bs : List ℕ) (z : Refusal) (ys : List ℕ)
+    → number_on name expect k high bs ≡ Err (z, ys)
+    → (length bs < k) × (z ≡ eof name (Small expect)) × (ys ≡ [])
 number_cut name expect zero high bs z ys e = cc
 number_cut name expect (suc k) high [] z ys e =
     let p = same_refusal (byte_at name expect []) refl e in
@@ -20,7 +25,8 @@ number_cut name expect (suc k) high (b ∷ bs) z ys e =
     let r = number_cut name expect k (high * 256 + b) bs z ys e in
     (omega (arith, r.0), r.1, r.2)
 
-parts_of : (major width b : ℕ) (wide : Width) (h : Begins major width b wide) → (b / 32 ≡ major) × (b % 32 ≡ additional wide h.argument)
+parts_of : (major width b : ℕ) (wide : Width) (h : Begins major width b wide)
+    → (b / 32 ≡ major) × (b % 32 ≡ additional wide h.argument)
 parts_of major width b wide h =
     let small : additional wide h.argument < 28 = additional-lt h.argument wide h.fits in
     (omega (arith, h.is, small), omega (arith, h.is, small))
@@ -32,57 +38,87 @@ allowed_at width i k lt e le =
     rw (s, e, t) refl
 
 -- a width that the head's byte says is allowed
-begun_allowed : (wide : Width) (width i n : ℕ) → 24 ≤ i → i ≡ additional wide n → HeadFits wide n → byte_count wide ≤ width → allowed width i ≡ true
+begun_allowed : (wide : Width) (width i n : ℕ) → 24 ≤ i → i ≡ additional wide n → HeadFits wide n
+    → byte_count wide ≤ width → allowed width i ≡ true
 begun_allowed in_first width i n lo e fits le = absurd (omega arith)
 begun_allowed w_one width i n lo e fits le = rw e (allowed_at width 24 1 (omega arith) refl le)
 begun_allowed two width i n lo e fits le = rw e (allowed_at width 25 2 (omega arith) refl le)
 begun_allowed four width i n lo e fits le = rw e (allowed_at width 26 4 (omega arith) refl le)
 begun_allowed eight width i n lo e fits le = rw e (allowed_at width 27 8 (omega arith) refl le)
 
-cut_at : (name : List ℕ) (major width b : ℕ) (bs : List ℕ) (z : Refusal) (ys : List ℕ) → b / 32 ≡ major → 24 ≤ b % 32 → b % 32 < 28 → following (b % 32) ≤ width
-    → number_on name (following (b % 32)) (following (b % 32)) 0 bs ≡ Err (z, ys) → CutHead name major width b bs z ys
+cut_at : (name : List ℕ) (major width b : ℕ) (bs : List ℕ) (z : Refusal) (ys : List ℕ)
+    → b / 32 ≡ major → 24 ≤ b % 32 → b % 32 < 28 → following (b % 32) ≤ width
+    → number_on name (following (b % 32)) (following (b % 32)) 0 bs ≡ Err (z, ys)
+    → CutHead name major width b bs z ys
 cut_at name major width b bs z ys m lo hi le e =
     let w = wide_of (b % 32) lo hi in
     let k = following (b % 32) in
     let r = number_cut name k k 0 bs z ys e in
     record {
       wide = w.wide;
-      begins = record { argument = 0; fits = w.fits 0 (pow-le-pow_right {n = 256} (omega arith) {i = 0} {j = k} (omega arith)); allowed = omega (arith, w.count, le); is = two_parts b major m ∙ ap (λ j. 32 * major + j) (sym (w.info 0)) };
+      begins = record {
+        argument = 0;
+        fits = w.fits 0 (pow-le-pow_right {n = 256} (omega arith)
+            {i = 0} {j = k} (omega arith));
+        allowed = omega (arith, w.count, le);
+        is = two_parts b major m ∙ ap (λ j. 32 * major + j) (sym (w.info 0));
+      };
       short = omega (arith, r.0, w.count);
       answer = r.1 ∙ ap (λ j. eof name (Small j)) (sym w.count);
       left = r.2;
     }
 
-not_allowed : (name : List ℕ) (major width b : ℕ) (bs : List ℕ) (z : Refusal) (ys : List ℕ) → 24 ≤ b % 32 → allowed width (b % 32) ≡ false → refuse {V = ℕ} (mismatch name b) bs ≡ Err (z, ys) → NotAHead name major width b bs z ys
+not_allowed : (name : List ℕ) (major width b : ℕ) (bs : List ℕ) (z : Refusal) (ys : List ℕ)
+    → 24 ≤ b % 32 → allowed width (b % 32) ≡ false
+    → refuse {V = ℕ} (mismatch name b) bs ≡ Err (z, ys) → NotAHead name major width b bs z ys
 not_allowed name major width b bs z ys lo other e =
     let p = same_refusal (refuse {V = ℕ} (mismatch name b) bs) refl e in
     record {
       none = λ wide h.
-          let yes : allowed width (b % 32) ≡ true = begun_allowed wide width (b % 32) h.argument lo (parts_of major width b wide h).1 h.fits h.allowed in
+          let yes : allowed width (b % 32) ≡ true = begun_allowed wide width (b % 32) h.argument lo
+          (parts_of major width b wide h).1 h.fits h.allowed in
           cc;
       answer = sym p.0;
       left = sym p.1;
     }
 
-argument_stops : (s t : Bool) (name : List ℕ) (major width b : ℕ) (bs : List ℕ) (z : Refusal) (ys : List ℕ) → ltb (b % 32) 24 ≡ s → allowed width (b % 32) ≡ t → b / 32 ≡ major
-    → cond s (give (b % 32)) (cond t (number_on name (following (b % 32)) (following (b % 32)) 0) (refuse (mismatch name b))) bs ≡ Err (z, ys) → StopsHead name major width (b ∷ bs) z ys
+argument_stops : (s t : Bool) (name : List ℕ) (major width b : ℕ) (bs : List ℕ) (z : Refusal)
+    (ys : List ℕ) → ltb (b % 32) 24 ≡ s → allowed width (b % 32) ≡ t → b / 32 ≡ major
+    → cond s (give (b % 32)) (cond t (number_on name (following (b % 32)) (following (b % 32)) 0)
+    (refuse (mismatch name b))) bs ≡ Err (z, ys) → StopsHead name major width (b ∷ bs) z ys
 argument_stops true t name major width b bs z ys es et m e = cc
-argument_stops false false name major width b bs z ys es et m e = inl (not_allowed name major width b bs z ys (ltb-false (b % 32) 24 es) et e)
+argument_stops false false name major width b bs z ys es et m e =
+    inl (not_allowed name major width b bs z ys (ltb-false (b % 32) 24 es) et e)
 argument_stops false true name major width b bs z ys es et m e =
     let a = allowed_parts width (b % 32) et in
     inr (cut_at name major width b bs z ys m (ltb-false (b % 32) 24 es) a.0 a.1 e)
 
-other_major : (name : List ℕ) (major width b : ℕ) (bs : List ℕ) (z : Refusal) (ys : List ℕ) → b / 32 ≢ major → refuse {V = ℕ} (mismatch name b) bs ≡ Err (z, ys) → NotAHead name major width b bs z ys
+other_major : (name : List ℕ) (major width b : ℕ) (bs : List ℕ) (z : Refusal) (ys : List ℕ)
+    → b / 32 ≢ major → refuse {V = ℕ} (mismatch name b) bs ≡ Err (z, ys)
+    → NotAHead name major width b bs z ys
 other_major name major width b bs z ys other e =
     let p = same_refusal (refuse {V = ℕ} (mismatch name b) bs) refl e in
-    record { none = λ wide h. other (parts_of major width b wide h).0; answer = sym p.0; left = sym p.1 }
+    record {
+      none = λ wide h. other (parts_of major width b wide h).0;
+      answer = sym p.0;
+      left = sym p.1;
+    }
 
-head_by_stops : (t : Bool) (name : List ℕ) (major width b : ℕ) (bs : List ℕ) (z : Refusal) (ys : List ℕ) → eqb (b / 32) major ≡ t
-    → cond t (argument_at name width b) (refuse (mismatch name b)) bs ≡ Err (z, ys) → StopsHead name major width (b ∷ bs) z ys
-head_by_stops true name major width b bs z ys h e = argument_stops (ltb (b % 32) 24) (allowed width (b % 32)) name major width b bs z ys refl refl (eqb-true (b / 32) major h) e
-head_by_stops false name major width b bs z ys h e = inl (other_major name major width b bs z ys (λ same. let t = eq-eqb (b / 32) major same in cc) e)
+head_by_stops : (t : Bool) (name : List ℕ) (major width b : ℕ) (bs : List ℕ) (z : Refusal)
+    (ys : List ℕ) → eqb (b / 32) major ≡ t
+    → cond t (argument_at name width b) (refuse (mismatch name b)) bs ≡ Err (z, ys)
+    → StopsHead name major width (b ∷ bs) z ys
+head_by_stops true name major width b bs z ys h e =
+    argument_stops (ltb (b % 32) 24)
+    (allowed width (b % 32)) name major width b bs z ys refl refl (eqb-true (b / 32) major h) e
+head_by_stops false name major width b bs z ys h e =
+    inl (other_major name major width b bs z ys (λ same. let t = eq-eqb (b / 32) major same in cc)
+    e)
 
 -- a refusal of the program is the head's
-pub head_stops : (name : List ℕ) (major width : ℕ) (xs : List ℕ) (z : Refusal) (ys : List ℕ) → head_at name major width xs ≡ Err (z, ys) → StopsHead name major width xs z ys
-head_stops name major width [] z ys e = let p = same_refusal (byte_at name 1 []) refl e in (sym p.0, sym p.1)
-head_stops name major width (b ∷ bs) z ys e = head_by_stops (eqb (b / 32) major) name major width b bs z ys refl e
+pub head_stops : (name : List ℕ) (major width : ℕ) (xs : List ℕ) (z : Refusal) (ys : List ℕ)
+    → head_at name major width xs ≡ Err (z, ys) → StopsHead name major width xs z ys
+head_stops name major width [] z ys e =
+    let p = same_refusal (byte_at name 1 []) refl e in (sym p.0, sym p.1)
+head_stops name major width (b ∷ bs) z ys e =
+    head_by_stops (eqb (b / 32) major) name major width b bs z ys refl e

@@ -1,5 +1,8 @@
 -- A head that stands whole in a front that was shown.
-use Rattle.std.proofs.Common.{◌≡◌, ◌≢◌, ℕ, suc, ◌+◌, ◌-◌, ◌<◌, ◌≤◌, ◌/◌, ◌%◌, List, [], ◌∷◌, ◌++◌, length, take, drop, Option, Some, None, Result, Ok, Err, true, false, refl, sym, ap, ◌∙◌, OnOk, subst, arith, eqb, eq-eqb, ltb, lt-ltb, le-ltb, slice_index_or}
+use Rattle.std.proofs.Common.{◌≡◌, ◌≢◌, ℕ, suc, ◌+◌, ◌-◌, ◌<◌, ◌≤◌, ◌/◌, ◌%◌, List, [], ◌∷◌, ◌++◌}
+use Rattle.std.proofs.Common.{length, take, drop, Option, Some, None, Result, Ok, Err, true, false}
+use Rattle.std.proofs.Common.{refl, sym, ap, ◌∙◌, OnOk, subst, arith, eqb, eq-eqb, ltb, lt-ltb}
+use Rattle.std.proofs.Common.{le-ltb, slice_index_or}
 use Rattle.std.proofs.lemmas.List.{take-append-drop, drop-append-le}
 use Rattle.std.proofs.Math.Seq.{take-length}
 use Rattle.std.proofs.lemmas.Bool.{ne_eqb}
@@ -24,19 +27,26 @@ use Rattle.cbor4ii_items.specs.Laws.ReadingHeads.{small_argument, allowed_le, wi
 behind : (b : ℕ) (bs : List ℕ) → take (length (b ∷ bs) - 1) (drop 1 (b ∷ bs)) ≡ bs
 behind b bs = let e : length (b ∷ bs) - 1 ≡ length bs = omega arith in rw e (take-length bs)
 
-in_first_byte : (name rest : List ℕ) (major width b : ℕ) → b / 32 ≡ major → b % 32 < 24 → head_by name major width b rest ≡ Ok (b % 32, rest)
+in_first_byte : (name rest : List ℕ) (major width b : ℕ) → b / 32 ≡ major → b % 32 < 24
+    → head_by name major width b rest ≡ Ok (b % 32, rest)
 in_first_byte name rest major width b m small =
     let t : eqb (b / 32) major ≡ true = eq-eqb (b / 32) major m in
     let u : ltb (b % 32) 24 ≡ true = lt-ltb (b % 32) 24 small in
     rw (t, u) refl
 
-in_following : (name rest : List ℕ) (major width b : ℕ) → b / 32 ≡ major → 24 ≤ b % 32 → allowed width (b % 32) ≡ true → head_by name major width b rest ≡ number_on name (following (b % 32)) (following (b % 32)) 0 rest
+in_following : (name rest : List ℕ) (major width b : ℕ) → b / 32 ≡ major → 24 ≤ b % 32
+    → allowed width (b % 32) ≡ true
+    → head_by name major width b rest ≡ number_on name (following (b % 32))
+    (following (b % 32)) 0 rest
 in_following name rest major width b m large may =
     let t : eqb (b / 32) major ≡ true = eq-eqb (b / 32) major m in
     let u : ltb (b % 32) 24 ≡ false = le-ltb (b % 32) 24 large in
     rw (t, u, may) refl
 
-pub whole_in_first : (major width : ℕ) (shown : List ℕ) → 1 ≤ length shown → slice_index_or shown 0 0 < 256 → slice_index_or shown 0 0 / 32 ≡ major → slice_index_or shown 0 0 % 32 < 24 → IsWhole major width shown (slice_index_or shown 0 0 % 32) 1
+pub whole_in_first : (major width : ℕ) (shown : List ℕ) → 1 ≤ length shown
+    → slice_index_or shown 0 0 < 256 → slice_index_or shown 0 0 / 32 ≡ major
+    → slice_index_or shown 0 0 % 32 < 24
+    → IsWhole major width shown (slice_index_or shown 0 0 % 32) 1
 whole_in_first major width [] some byte m small = absurd (omega arith)
 whole_in_first major width (b ∷ bs) some byte m small = record {
   some = omega arith;
@@ -46,78 +56,107 @@ whole_in_first major width (b ∷ bs) some byte m small = record {
   head = λ name rest. in_first_byte name (bs ++ rest) major width b m small;
 }
 
-pub whole_behind : (major width argument : ℕ) (shown : List ℕ) → 1 ≤ length shown → slice_index_or shown 0 0 < 256 → slice_index_or shown 0 0 / 32 ≡ major → 24 ≤ slice_index_or shown 0 0 % 32 → allowed width (slice_index_or shown 0 0 % 32) ≡ true
-    → IsArgument (slice_index_or shown 0 0 % 32) (take (length shown - 1) (drop 1 shown)) argument → IsWhole major width shown argument (1 + following (slice_index_or shown 0 0 % 32))
+pub whole_behind : (major width argument : ℕ) (shown : List ℕ) → 1 ≤ length shown
+    → slice_index_or shown 0 0 < 256 → slice_index_or shown 0 0 / 32 ≡ major
+    → 24 ≤ slice_index_or shown 0 0 % 32 → allowed width (slice_index_or shown 0 0 % 32) ≡ true
+    → IsArgument (slice_index_or shown 0 0 % 32) (take (length shown - 1) (drop 1 shown)) argument
+    → IsWhole major width shown argument (1 + following (slice_index_or shown 0 0 % 32))
 whole_behind major width argument [] some byte m large may a = absurd (omega arith)
 whole_behind major width argument (b ∷ bs) some byte m large may a =
-    let p : IsArgument (b % 32) bs argument = subst (λ zs. IsArgument (b % 32) zs argument) (behind b bs) a in
+    let p : IsArgument (b % 32) bs argument =
+    subst (λ zs. IsArgument (b % 32) zs argument) (behind b bs) a in
     let e : suc (following (b % 32)) ≡ 1 + following (b % 32) = omega arith in
     subst (IsWhole major width (b ∷ bs) argument) e (record {
       some = omega arith;
       within = omega (arith, p.within);
       fits = λ w. wider argument (following (b % 32)) width (allowed_le width (b % 32) may) p.fits;
       bytes = (byte, p.bytes);
-      head = λ name rest. in_following name (bs ++ rest) major width b m large may ∙ p.number name rest;
+      head = λ name rest. in_following name (bs ++ rest) major width b m large may
+          ∙ p.number name rest;
     })
 
 -- ---- a head that a reader shows
 
 -- the bytes begin with what was shown, so they begin with the head
-begins_whole : (name : List ℕ) (major width want argument n : ℕ) (shown xs : List ℕ) → IsFront want shown xs → IsWhole major width shown argument n → head_at name major width xs ≡ Ok (argument, drop n xs)
+begins_whole : (name : List ℕ) (major width want argument n : ℕ) (shown xs : List ℕ)
+    → IsFront want shown xs → IsWhole major width shown argument n
+    → head_at name major width xs ≡ Ok (argument, drop n xs)
 begins_whole name major width want argument n shown xs front h =
     let rest = drop (length shown) xs in
-    let whole : xs ≡ shown ++ rest = sym (take-append-drop (length shown) xs) ∙ ap (λ zs. zs ++ rest) front.begins in
-    ap (head_at name major width) whole ∙ (h.head name rest ∙ ap (λ (zs : List ℕ). Ok (argument, zs)) (sym (drop-append-le n shown rest h.within) ∙ ap (drop n) (sym whole)))
+    let whole : xs ≡ shown ++ rest =
+    sym (take-append-drop (length shown) xs) ∙ ap (λ zs. zs ++ rest) front.begins in
+    ap (head_at name major width) whole
+    ∙ (h.head name rest ∙ ap (λ (zs : List ℕ). Ok (argument, zs))
+    (sym (drop-append-le n shown rest h.within) ∙ ap (drop n) (sym whole)))
 
-pub runs_whole : {E : Type 0} (name : List ℕ) {major width want argument n : ℕ} {shown : List ℕ} {a m b : View} → Shows shown a m → Told a.told (IsFront want shown) → IsWhole major width shown argument n → Advances n m b
+pub runs_whole : {E : Type 0} (name : List ℕ) {major width want argument n : ℕ} {shown : List ℕ}
+    {a m b : View} → Shows shown a m → Told a.told (IsFront want shown)
+    → IsWhole major width shown argument n → Advances n m b
     → Runs {E = E} (head_at name major width) a b (Ok argument)
-runs_whole name {major = major} {width = width} {want = want} {argument = argument} {n = n} {shown = shown} s front h adv =
+runs_whole name {major = major} {width = width} {want = want} {argument = argument} {n = n}
+    {shown = shown} s front h adv =
     let l = lends_front {content = take n shown} s front h.within h.bytes refl adv in
     record {
       moves = record { by = l.kept; depth = λ e. refl };
-      answers = λ xs told. (drop n xs, (l.at xs told).1, begins_whole name major width want argument n shown xs (front xs told) h);
+      answers = λ xs told. (
+        drop n xs,
+        (l.at xs told).1,
+        begins_whole name major width want argument n shown xs (front xs told) h,
+      );
     }
 
 -- a call after one that took nothing
-pub runs_stayed : {V E : Type 0} {f : Reading V} {a m b : View} {r : Result V (DecodeError E)} → Stays a m → Runs f m b r → Runs f a b r
+pub runs_stayed : {V E : Type 0} {f : Reading V} {a m b : View} {r : Result V (DecodeError E)}
+    → Stays a m → Runs f m b r → Runs f a b r
 runs_stayed {m = m} {b = b} {r = r} s p = record {
   moves = moves_then s.kept p.moves;
   answers = λ xs told. p.answers xs (s.told xs told);
 }
 
-pub progress_stayed : {V E : Type 0} {a m : View} (bound : ℕ) (r : Result V (DecodeError E)) → Stays a m → OnOk r (bound + 1 ≤ m.bound) → OnOk r (bound + 1 ≤ a.bound)
+pub progress_stayed : {V E : Type 0} {a m : View} (bound : ℕ) (r : Result V (DecodeError E))
+    → Stays a m → OnOk r (bound + 1 ≤ m.bound) → OnOk r (bound + 1 ≤ a.bound)
 progress_stayed bound (Ok v) s h = omega (arith, h, s.kept.bound)
 progress_stayed bound (Err e) s h = tt
 
 -- what a call found
-pub found_some : {V E : Type 0} (p : Reading V) {a b : View} (o : Option V) {v : V} → o ≡ Some v → RunsOrStays {E = E} p a b (Ok o) → Runs {E = E} p a b (Ok v)
+pub found_some : {V E : Type 0} (p : Reading V) {a b : View} (o : Option V) {v : V} → o ≡ Some v
+    → RunsOrStays {E = E} p a b (Ok o) → Runs {E = E} p a b (Ok v)
 found_some p None e h = cc
-found_some {E = E} p {a = a} {b = b} (Some u) e h = let f : u ≡ _ = cc in subst (λ w. Runs {E = E} p a b (Ok w)) f h
+found_some {E = E} p {a = a} {b = b} (Some u) e h =
+    let f : u ≡ _ = cc in subst (λ w. Runs {E = E} p a b (Ok w)) f h
 
-pub found_none : {V : Type 0} (E : Type 0) (p : Reading V) {a b : View} (o : Option V) → o ≡ None → RunsOrStays {E = E} p a b (Ok o) → Stays a b
+pub found_none : {V : Type 0} (E : Type 0) (p : Reading V) {a b : View} (o : Option V) → o ≡ None
+    → RunsOrStays {E = E} p a b (Ok o) → Stays a b
 found_none E p None e h = h
 found_none E p (Some u) e h = cc
 
-pub runs_broke : {V E : Type 0} {f : Reading V} {a b : View} {e : E} → Broke a b → Runs f a b (Err (Read e))
+pub runs_broke : {V E : Type 0} {f : Reading V} {a b : View} {e : E} → Broke a b
+    → Runs f a b (Err (Read e))
 runs_broke p = record { moves = record { by = p; depth = λ n. refl }; answers = λ xs told. tt }
 
 -- ---- a length that stands whole
 
-not_open : (name : List ℕ) (major b n : ℕ) (bs ys : List ℕ) → major < 8 → head_by name major 8 b bs ≡ Ok (n, ys) → b ≢ open_head major
+not_open : (name : List ℕ) (major b n : ℕ) (bs ys : List ℕ) → major < 8
+    → head_by name major 8 b bs ≡ Ok (n, ys) → b ≢ open_head major
 not_open name major b n bs ys m e is =
     let t : eqb (b / 32) major ≡ true = eq-eqb (b / 32) major (omega (arith, is)) in
     let i : b % 32 ≡ 31 = omega (arith, is) in
     let f : head_by name major 8 b bs ≡ Err (mismatch name b, bs) = rw (t, i) refl in
     cc
 
-length_read : (name : List ℕ) (major n : ℕ) (xs ys : List ℕ) → major < 8 → head_at name major 8 xs ≡ Ok (n, ys) → length_at name major xs ≡ Ok (Some n, ys)
+length_read : (name : List ℕ) (major n : ℕ) (xs ys : List ℕ) → major < 8
+    → head_at name major 8 xs ≡ Ok (n, ys) → length_at name major xs ≡ Ok (Some n, ys)
 length_read name major n [] ys m e = cc
 length_read name major n (b ∷ bs) ys m e =
-    let t : eqb b (open_head major) ≡ false = ne_eqb b (open_head major) (not_open name major b n bs ys m e) in
+    let t : eqb b (open_head major) ≡ false =
+    ne_eqb b (open_head major) (not_open name major b n bs ys m e) in
     rw t (ap (λ r. go_on r (λ k. give (Some k))) e)
 
-pub runs_counted : {E : Type 0} (name : List ℕ) (major : ℕ) {n : ℕ} {a b : View} → major < 8 → Runs {E = E} (head_at name major 8) a b (Ok n) → Runs {E = E} (length_at name major) a b (Ok (Some n))
+pub runs_counted : {E : Type 0} (name : List ℕ) (major : ℕ) {n : ℕ} {a b : View} → major < 8
+    → Runs {E = E} (head_at name major 8) a b (Ok n)
+    → Runs {E = E} (length_at name major) a b (Ok (Some n))
 runs_counted name major {n = n} m p = record {
   moves = moves_ok p.moves;
-  answers = λ xs told. let h = p.answers xs told in (h.0, h.1, length_read name major n xs h.0 m h.2);
+  answers =
+      λ xs told. let h = p.answers xs told in (h.0, h.1, length_read name major n xs h.0 m h.2);
 }

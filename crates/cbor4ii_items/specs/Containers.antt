@@ -1,5 +1,6 @@
 -- What an optional item and a tagged item are spelled as, and how they are refused.
-use Rattle.std.specs.Prelude.{◌≡◌, ℕ, ◌+◌, ◌≤◌, ◌⊎◌, List, [], ◌∷◌, length, take, drop, None, Some, Option, codes}
+use Rattle.std.specs.Prelude.{◌≡◌, ℕ, ◌+◌, ◌≤◌, ◌⊎◌, List, [], ◌∷◌, length, take, drop, None, Some}
+use Rattle.std.specs.Prelude.{Option, codes}
 use Rattle.cbor4ii_rw.specs.declared.error.Len.TheVariants.{Small}
 use Rattle.cbor4ii_items.specs.Refusal.{Refusal, eof}
 use Rattle.cbor4ii_items.specs.Heads.{ReadsHead, StopsHead}
@@ -29,7 +30,8 @@ SameOption same (Some v) (Some w) = same v w
 -- ---- a tagged item (RFC 8949 section 3.4)
 
 -- a tag's head, and what the type reads behind it
-pub record ReadsTag {V : Type 0} (reads : Reads V) (xs : List ℕ) (number : ℕ) (v : V) (n c : ℕ) : Type 0 where
+pub record ReadsTag {V : Type 0} (reads : Reads V) (xs : List ℕ) (number : ℕ) (v : V)
+    (n c : ℕ) : Type 0 where
   pub before : ℕ
   pub head : ReadsHead 6 8 xs number before
   pub count : ℕ
@@ -37,7 +39,8 @@ pub record ReadsTag {V : Type 0} (reads : Reads V) (xs : List ℕ) (number : ℕ
   pub bytes : n ≡ before + count
 
 -- behind a tag's head the item is refused
-pub record StopsBehindTag (stops : StopsAt) (xs : List ℕ) (budget : Option ℕ) (refusal : Refusal) (rest : List ℕ) : Type 0 where
+pub record StopsBehindTag (stops : StopsAt) (xs : List ℕ) (budget : Option ℕ) (refusal : Refusal)
+    (rest : List ℕ) : Type 0 where
   pub number : ℕ
   pub before : ℕ
   pub head : ReadsHead 6 8 xs number before
@@ -45,4 +48,5 @@ pub record StopsBehindTag (stops : StopsAt) (xs : List ℕ) (budget : Option ℕ
 
 -- the head's refusal, or the item's
 abbrev pub StopsTag : StopsAt → StopsAt
-StopsTag stops xs budget refusal rest = StopsHead (codes "tag") 6 8 xs refusal rest ⊎ StopsBehindTag stops xs budget refusal rest
+StopsTag stops xs budget refusal rest =
+    StopsHead (codes "tag") 6 8 xs refusal rest ⊎ StopsBehindTag stops xs budget refusal rest

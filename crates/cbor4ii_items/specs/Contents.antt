@@ -14,9 +14,11 @@ abbrev pub filled : {T E : Type 0} → List ℕ → Result T E → Result (List 
 filled items (Ok t) = Ok items
 filled items (Err e) = Err e
 
--- n of the missing bytes were taken, at least one, and stand behind the items that were there before
+-- n of the missing bytes were taken, at least one, and stand behind the items that were there
+-- before
 pub record TakesOnto (missing n : ℕ) (before after : List ℕ) (old new : View) : Type 0 where
   pub kept : Kept old new
   pub some : 1 ≤ n
   pub most : n ≤ missing
-  pub at : Told old.told (λ xs. (n ≤ length xs) × (new.told ≡ Some (drop n xs)) × (after ≡ before ++ take n xs))
+  pub at : Told old.told
+      (λ xs. (n ≤ length xs) × (new.told ≡ Some (drop n xs)) × (after ≡ before ++ take n xs))

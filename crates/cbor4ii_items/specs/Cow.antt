@@ -1,5 +1,6 @@
 -- Strings that are borrowed from the input or owned (RFC 8949 sections 3.1 and 3.2.3).
-use Rattle.std.specs.Prelude.{◌≡◌, ℕ, Bool, true, false, List, [], ◌∷◌, take, Option, None, Some, Result, Ok, Err, IsTrue, IsUtf8}
+use Rattle.std.specs.Prelude.{◌≡◌, ℕ, Bool, true, false, List, [], ◌∷◌, take, Option, None, Some}
+use Rattle.std.specs.Prelude.{Result, Ok, Err, IsTrue, IsUtf8}
 use Rattle.std.specs.declared.alloc.Global.{Global}
 use Rattle.std.specs.declared.borrow.CowStr.{CowStr}
 use Rattle.std.specs.declared.borrow.CowSlice.{CowSlice}
@@ -15,10 +16,13 @@ use Rattle.cbor4ii_items.specs.Decoding.{Reads, StopsAt}
 
 -- ---- which strings are borrowed
 
--- A string of indefinite length is owned, over any reader. One of known length is borrowed, where the reader lends whole.
-pub record BorrowsWhereCounted {V : Type 0} (major : ℕ) (IsBorrowed IsOwned : V → Type 0) (old : View) (v : V) : Type 0 where
+-- A string of indefinite length is owned, over any reader. One of known length is borrowed, where
+-- the reader lends whole.
+pub record BorrowsWhereCounted {V : Type 0} (major : ℕ) (IsBorrowed IsOwned : V → Type 0)
+    (old : View) (v : V) : Type 0 where
   pub indefinite : Told old.told (λ xs. take 1 xs ≡ open_head major ∷ [] → IsOwned v)
-  pub counted : IsTrue old.lends_whole → Told old.told (λ xs. (take 1 xs ≡ open_head major ∷ [] → ⊥) → IsBorrowed v)
+  pub counted : IsTrue old.lends_whole
+      → Told old.told (λ xs. (take 1 xs ≡ open_head major ∷ [] → ⊥) → IsBorrowed v)
 
 -- ---- the types: the content, and whether it is borrowed
 
@@ -59,12 +63,17 @@ Holds is_text content items (Some v) = (content v ≡ items) × (IsTrue is_text 
 Holds is_text content items None = IsTrue is_text × (IsUtf8 items → ⊥)
 
 -- the program's content was read, and the answer holds it; or the program was refused
-abbrev pub TakesBy : {V E : Type 0} → Reading (List ℕ) → Bool → (V → List ℕ) → View → View → Result (Option V) (DecodeError E) → Type 0
-TakesBy {E = E} program is_text content old new (Ok value) = (items : List ℕ) × Runs {E = E} program old new (Ok items) × Holds is_text content items value
+abbrev pub TakesBy : {V E : Type 0} → Reading (List ℕ) → Bool → (V → List ℕ) → View → View
+    → Result (Option V) (DecodeError E) → Type 0
+TakesBy {E = E} program is_text content old new (Ok value) =
+    (items : List ℕ) × Runs {E = E} program old new (Ok items) × Holds is_text content items value
 TakesBy {E = E} program is_text content old new (Err e) = Runs {E = E} program old new (Err e)
 
--- a call that does what the program does where there is memory, and then makes a value of the content
-pub record TakesContent {V E : Type 0} (program : Reading (List ℕ)) (is_text : Bool) (content : V → List ℕ) (old new : View) (answer : Result (Option V) (DecodeError E)) : Type 0 where
+-- a call that does what the program does where there is memory, and then makes a value of the
+-- content
+pub record TakesContent {V E : Type 0} (program : Reading (List ℕ)) (is_text : Bool)
+    (content : V → List ℕ) (old new : View)
+    (answer : Result (Option V) (DecodeError E)) : Type 0 where
   pub by : TakesBy program is_text content old new answer
 
 -- where the reader lends whole and tells its bytes, the value is borrowed

@@ -1,6 +1,7 @@
--- Floats as their bits, and the laws of their spellings: a byte that says the precision, and the bits of IEEE 754 in two,
--- four or eight bytes, most significant first (RFC 8949 section 3.3).
-use Rattle.std.proofs.Common.{◌≡◌, ℕ, suc, ◌≤◌, ◌<◌, ◌^◌, ◌⊎◌, List, [], ◌∷◌, ◌++◌, length, drop, take, Ok, true, sym, ap, ap₂, ◌∙◌, arith, length-append}
+-- Floats as their bits, and the laws of their spellings: a byte that says the precision, and the
+-- bits of IEEE 754 in two, four or eight bytes, most significant first (RFC 8949 section 3.3).
+use Rattle.std.proofs.Common.{◌≡◌, ℕ, suc, ◌≤◌, ◌<◌, ◌^◌, ◌⊎◌, List, [], ◌∷◌, ◌++◌, length, drop}
+use Rattle.std.proofs.Common.{take, Ok, true, sym, ap, ap₂, ◌∙◌, arith, length-append}
 use Rattle.std.specs.Prelude.{◌&&◌, nat_le}
 use Rattle.std.specs.Int.{bytes_high_first}
 use Rattle.std.proofs.Math.Seq.{drop-append_seam, take-append_seam}
@@ -34,7 +35,8 @@ pub record IsInFront (marker count : ℕ) (front : List ℕ) (bits : ℕ) : Type
   pub is : take (suc count) front ≡ float_bytes marker count bits
 
 -- fewer bytes follow the first than the bits have, and nothing is left
-pub record CutFloat (name : List ℕ) (marker count : ℕ) (xs : List ℕ) (refusal : Refusal) (rest : List ℕ) : Type 0 where
+pub record CutFloat (name : List ℕ) (marker count : ℕ) (xs : List ℕ) (refusal : Refusal)
+    (rest : List ℕ) : Type 0 where
   pub behind : List ℕ
   pub is : xs ≡ marker ∷ behind
   pub short : length behind < count
@@ -42,39 +44,60 @@ pub record CutFloat (name : List ℕ) (marker count : ℕ) (xs : List ℕ) (refu
   pub left : rest ≡ []
 
 abbrev pub StopsFloat : List ℕ → ℕ → ℕ → StopsAt
-StopsFloat name marker count xs budget refusal rest = NoneBegins name (λ b. b ≡ marker) xs refusal rest ⊎ CutFloat name marker count xs refusal rest
+StopsFloat name marker count xs budget refusal rest =
+    NoneBegins name (λ b. b ≡ marker) xs refusal rest ⊎ CutFloat name marker count xs refusal rest
 
 abbrev pub float_at : List ℕ → ℕ → ℕ → Reading ℕ
 float_at name marker count = marked_at name marker marker >=> λ b. number_on name count count 0
 
-length-float : (marker count bits n : ℕ) → n ≡ suc count → length (float_bytes marker count bits) ≡ n
+length-float : (marker count bits n : ℕ) → n ≡ suc count
+    → length (float_bytes marker count bits) ≡ n
 length-float marker count bits n e = ap suc (length-bytes_high_first count bits) ∙ sym e
 
-pub float_again : (name : List ℕ) (marker count : ℕ) (xs : List ℕ) (v n c : ℕ) → ReadsFloat marker count xs v n c → ReadBy (float_at name marker count) xs v n c
+pub float_again : (name : List ℕ) (marker count : ℕ) (xs : List ℕ) (v n c : ℕ)
+    → ReadsFloat marker count xs v n c → ReadBy (float_at name marker count) xs v n c
 float_again name marker count xs v n c h =
     let front = float_bytes marker count v in
     let long : length front ≡ n = length-float marker count v n h.size in
     let left : drop n xs ≡ h.rest = ap₂ drop (sym long) h.is ∙ drop-append_seam front h.rest in
-    let t : (nat_le marker marker && nat_le marker marker) ≡ true = within_marks marker marker marker (omega arith) (omega arith) in
-    let a : float_at name marker count (front ++ h.rest) ≡ Ok (v, h.rest) = rw t (number_again name count count v h.rest h.fits) in
+    let t : (nat_le marker marker && nat_le marker marker) ≡ true =
+    within_marks marker marker marker (omega arith) (omega arith) in
+    let a : float_at name marker count (front ++ h.rest) ≡ Ok (v, h.rest) =
+    rw t (number_again name count count v h.rest h.fits) in
     record {
-      answer = ap (float_at name marker count) h.is ∙ (a ∙ ap (λ (zs : List ℕ). Ok (v, zs)) (sym left));
+      answer =
+          ap (float_at name marker count) h.is ∙ (a ∙ ap (λ (zs : List ℕ). Ok (v, zs)) (sym left));
       within = omega (arith, ap length h.is, length-append front h.rest, long);
       positive = omega (arith, h.size);
       cost = h.cost;
     }
 
-pub float_one : (marker count : ℕ) (xs : List ℕ) (v w n m c d : ℕ) → ReadsFloat marker count xs v n c → ReadsFloat marker count xs w m d → (n ≡ m) × (c ≡ d) × (v ≡ w)
-float_one marker count = leaf_one (float_at [] marker count) (ReadsFloat marker count) (float_again [] marker count)
+pub float_one : (marker count : ℕ) (xs : List ℕ) (v w n m c d : ℕ)
+    → ReadsFloat marker count xs v n c → ReadsFloat marker count xs w m d
+    → (n ≡ m) × (c ≡ d) × (v ≡ w)
+float_one marker count =
+    leaf_one (float_at [] marker count) (ReadsFloat marker count) (float_again [] marker count)
 
-pub float_within : (marker count : ℕ) (xs : List ℕ) (v n c : ℕ) → ReadsFloat marker count xs v n c → n ≤ length xs
-float_within marker count = leaf_within (float_at [] marker count) (ReadsFloat marker count) (float_again [] marker count)
+pub float_within : (marker count : ℕ) (xs : List ℕ) (v n c : ℕ) → ReadsFloat marker count xs v n c
+    → n ≤ length xs
+float_within marker count =
+    leaf_within (float_at [] marker count) (ReadsFloat marker count) (float_again [] marker count)
 
-pub float_positive : (marker count : ℕ) (xs : List ℕ) (v n c : ℕ) → ReadsFloat marker count xs v n c → 1 ≤ n
-float_positive marker count = leaf_positive (float_at [] marker count) (ReadsFloat marker count) (float_again [] marker count)
+pub float_positive : (marker count : ℕ) (xs : List ℕ) (v n c : ℕ) → ReadsFloat marker count xs v n c
+    → 1 ≤ n
+float_positive marker count =
+    leaf_positive (float_at [] marker count) (ReadsFloat marker count) (float_again [] marker count)
 
-pub float_alone : (marker count : ℕ) (xs ys : List ℕ) (v n c : ℕ) → ReadsFloat marker count xs v n c → ReadsFloat marker count (take n xs ++ ys) v n c
+pub float_alone : (marker count : ℕ) (xs ys : List ℕ) (v n c : ℕ) → ReadsFloat marker count xs v n c
+    → ReadsFloat marker count (take n xs ++ ys) v n c
 float_alone marker count xs ys v n c h =
     let front = float_bytes marker count v in
     let long : length front ≡ n = length-float marker count v n h.size in
-    record { fits = h.fits; rest = ys; is = ap (λ zs. zs ++ ys) (ap₂ take (sym long) h.is ∙ take-append_seam front h.rest); size = h.size; cost = h.cost }
+    record {
+      fits = h.fits;
+      rest = ys;
+      is = ap (λ zs. zs ++ ys)
+          (ap₂ take (sym long) h.is ∙ take-append_seam front h.rest);
+      size = h.size;
+      cost = h.cost;
+    }

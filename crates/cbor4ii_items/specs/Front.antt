@@ -1,5 +1,6 @@
 -- Heads that stand whole in a front of the bytes.
-use Rattle.std.specs.Prelude.{◌≡◌, ℕ, ◌<◌, ◌≤◌, ◌^◌, ◌++◌, List, length, take, drop, Option, Some, None, Result, Ok, Err}
+use Rattle.std.specs.Prelude.{◌≡◌, ℕ, ◌<◌, ◌≤◌, ◌^◌, ◌++◌, List, length, take, drop, Option, Some}
+use Rattle.std.specs.Prelude.{None, Result, Ok, Err}
 use Rattle.cbor4ii_rw.specs.View.{View}
 use Rattle.cbor4ii_items.specs.Moves.{Broke}
 use Rattle.cbor4ii_items.specs.Head.{IsBytes}
@@ -12,7 +13,8 @@ pub record IsArgument (info : ℕ) (shown : List ℕ) (argument : ℕ) : Type 0 
   pub within : following info ≤ length shown
   pub fits : argument < 256 ^ following info
   pub bytes : IsBytes (take (following info) shown)
-  pub number : (name rest : List ℕ) → number_on name (following info) (following info) 0 (shown ++ rest) ≡ Ok (argument, drop (following info) shown ++ rest)
+  pub number : (name rest : List ℕ) → number_on name (following info)
+      (following info) 0 (shown ++ rest) ≡ Ok (argument, drop (following info) shown ++ rest)
 
 -- a head of this major type, n bytes long, with other bytes behind it
 pub record IsWhole (major width : ℕ) (shown : List ℕ) (argument n : ℕ) : Type 0 where
@@ -20,7 +22,8 @@ pub record IsWhole (major width : ℕ) (shown : List ℕ) (argument n : ℕ) : T
   pub within : n ≤ length shown
   pub fits : 1 ≤ width → argument < 256 ^ width
   pub bytes : IsBytes (take n shown)
-  pub head : (name rest : List ℕ) → head_at name major width (shown ++ rest) ≡ Ok (argument, drop n shown ++ rest)
+  pub head : (name rest : List ℕ)
+      → head_at name major width (shown ++ rest) ≡ Ok (argument, drop n shown ++ rest)
 
 -- what the program reads was taken, or nothing was; or the reader failed
 abbrev pub RunsOrStays : {V E : Type 0} → Reading V → View → View → Result (Option V) E → Type 0

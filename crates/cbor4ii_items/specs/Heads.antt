@@ -1,10 +1,12 @@
--- Heads at the front of bytes: which one is read there, and how one is refused (RFC 8949 section 3).
+-- Heads at the front of bytes: which one is read there, and how one is refused (RFC 8949 section
+-- 3).
 use Rattle.std.specs.Prelude.{◌≡◌, ℕ, suc, ◌+◌, ◌*◌, ◌<◌, ◌≤◌, ◌⊎◌, List, [], ◌∷◌, ◌++◌, length}
 use Rattle.cbor4ii_rw.specs.declared.error.Len.TheVariants.{Small}
 use Rattle.cbor4ii_items.specs.Head.{Width, byte_count, HeadFits, additional, head}
 use Rattle.cbor4ii_items.specs.Refusal.{Refusal, mismatch, eof}
 
--- the bytes begin with a head of this major type, of at most so many bytes of argument; v is its argument, n its length
+-- the bytes begin with a head of this major type, of at most so many bytes of argument; v is its
+-- argument, n its length
 pub record ReadsHead (major width : ℕ) (xs : List ℕ) (v n : ℕ) : Type 0 where
   pub wide : Width
   pub allowed : byte_count wide ≤ width
@@ -21,13 +23,15 @@ pub record Begins (major width b : ℕ) (wide : Width) : Type 0 where
   pub is : b ≡ 32 * major + additional wide argument
 
 -- no such head begins with the byte b, which is taken
-pub record NotAHead (name : List ℕ) (major width b : ℕ) (bs : List ℕ) (refusal : Refusal) (rest : List ℕ) : Type 0 where
+pub record NotAHead (name : List ℕ) (major width b : ℕ) (bs : List ℕ) (refusal : Refusal)
+    (rest : List ℕ) : Type 0 where
   pub none : (wide : Width) → Begins major width b wide → ⊥
   pub answer : refusal ≡ mismatch name b
   pub left : rest ≡ bs
 
 -- fewer bytes follow than the argument has, and nothing is left
-pub record CutHead (name : List ℕ) (major width b : ℕ) (bs : List ℕ) (refusal : Refusal) (rest : List ℕ) : Type 0 where
+pub record CutHead (name : List ℕ) (major width b : ℕ) (bs : List ℕ) (refusal : Refusal)
+    (rest : List ℕ) : Type 0 where
   pub wide : Width
   pub begins : Begins major width b wide
   pub short : length bs < byte_count wide
@@ -37,4 +41,5 @@ pub record CutHead (name : List ℕ) (major width b : ℕ) (bs : List ℕ) (refu
 -- how a head is refused, and which bytes are left then
 abbrev pub StopsHead : List ℕ → ℕ → ℕ → List ℕ → Refusal → List ℕ → Type 0
 StopsHead name major width [] refusal rest = (refusal ≡ eof name (Small 1)) × (rest ≡ [])
-StopsHead name major width (b ∷ bs) refusal rest = NotAHead name major width b bs refusal rest ⊎ CutHead name major width b bs refusal rest
+StopsHead name major width (b ∷ bs) refusal rest =
+    NotAHead name major width b bs refusal rest ⊎ CutHead name major width b bs refusal rest

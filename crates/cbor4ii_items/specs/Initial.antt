@@ -1,5 +1,6 @@
--- What the initial byte of an encoded data item says, as the jump table of RFC 8949 appendix B does. The reserved
--- additional information, and what this codec does not read of major type 7, have rows of their own.
+-- What the initial byte of an encoded data item says, as the jump table of RFC 8949 appendix B
+-- does. The reserved additional information, and what this codec does not read of major type 7,
+-- have rows of their own.
 use Rattle.std.specs.Prelude.{ℕ, zero, suc, ◌/◌, ◌%◌, ◌==◌, nat_lt, if◌then◌else◌}
 use Rattle.cbor4ii_items.specs.Head.{Width, in_first, one, two, four, eight}
 
@@ -42,7 +43,8 @@ precision_bytes half = 2
 precision_bytes single = 4
 precision_bytes double = 8
 
--- The additional information of major types 0 to 6: a width, 31, or the reserved 28 to 30 (section 3).
+-- The additional information of major types 0 to 6: a width, 31, or the reserved 28 to 30 (section
+-- 3).
 pub data Info : Type 0 where
   wide : Width → Info
   open_ended reserved : Info
@@ -95,7 +97,8 @@ abbrev pub tag_by_info : Info → Initial
 tag_by_info (wide w) = starts_tag w
 tag_by_info _ = bad_tag
 
--- Major type 7 (section 3.3): the other simple values and a break that stands where an item should are `other_simple`.
+-- Major type 7 (section 3.3): the other simple values and a break that stands where an item should
+-- are `other_simple`.
 abbrev pub simple_by_info : ℕ → Initial
 simple_by_info i =
     if i == 20 then starts_simple simple_false

@@ -1,4 +1,5 @@
--- The length that an array or a map begins with: what is read, and how it is refused (RFC 8949 sections 3 and 3.2.2).
+-- The length that an array or a map begins with: what is read, and how it is refused (RFC 8949
+-- sections 3 and 3.2.2).
 use Rattle.std.specs.Prelude.{◌≡◌, ℕ, List, [], ◌∷◌, take, Option, Some, None}
 use Rattle.cbor4ii_items.specs.Head.{open_head}
 use Rattle.cbor4ii_items.specs.Heads.{ReadsHead, StopsHead}
@@ -11,4 +12,5 @@ ReadsLength major xs None n c = (take 1 xs ≡ open_head major ∷ []) × (n ≡
 
 -- what is no first byte of an indefinite length is refused as a head is
 abbrev pub StopsLength : List ℕ → ℕ → StopsAt
-StopsLength name major xs budget refusal rest = (take 1 xs ≡ open_head major ∷ [] → ⊥) × StopsHead name major 8 xs refusal rest
+StopsLength name major xs budget refusal rest =
+    (take 1 xs ≡ open_head major ∷ [] → ⊥) × StopsHead name major 8 xs refusal rest

@@ -1,12 +1,15 @@
 -- Borrowed strings: parts of the input (RFC 8949 section 3.1).
-use Rattle.std.specs.Prelude.{◌≡◌, ℕ, ◌+◌, ◌<◌, ◌≤◌, Bool, true, false, List, length, take, drop, None, Some, Option, Result, Ok, Err, IsTrue, IsUtf8}
+use Rattle.std.specs.Prelude.{◌≡◌, ℕ, ◌+◌, ◌<◌, ◌≤◌, Bool, true, false, List, length, take, drop}
+use Rattle.std.specs.Prelude.{None, Some, Option, Result, Ok, Err, IsTrue, IsUtf8}
 use Rattle.cbor4ii_rw.specs.View.{View, Told}
 use Rattle.cbor4ii_rw.specs.Reader.{Keeps}
 use Rattle.cbor4ii_rw.specs.declared.error.DecodeError.{DecodeError}
 use Rattle.cbor4ii_items.specs.declared.strings.lent.Lacks.{Lacks}
 use Rattle.cbor4ii_items.specs.declared.strings.lent.Lacks.TheVariants.{Read, Short, Few, NotUtf8}
 use Rattle.cbor4ii_items.specs.Moves.{Kept, Broke}
-use Rattle.cbor4ii_items.specs.Refusal.{Refusal, refusal_of, is_read, is_out_of_memory, is_depth_overflow, require_length, require_borrowed, require_utf8, len_of}
+use Rattle.cbor4ii_items.specs.Refusal.{Refusal, refusal_of, is_read, is_out_of_memory}
+use Rattle.cbor4ii_items.specs.Refusal.{is_depth_overflow, require_length, require_borrowed}
+use Rattle.cbor4ii_items.specs.Refusal.{require_utf8, len_of}
 use Rattle.cbor4ii_items.specs.Heads.{ReadsHead, StopsHead}
 use Rattle.cbor4ii_items.specs.Strings.{ReadsCountedString}
 use denote.Ref.{Bor}
@@ -18,28 +21,45 @@ use Rattle.cbor4ii_items.specs.Decoding.{Reads}
 
 -- a string of known length, whose content a value has; a text is UTF-8
 abbrev pub ReadsLent : {V : Type 0} → ℕ → Bool → (V → List ℕ) → Reads V
-ReadsLent major is_text content xs v n c = ReadsCountedString major xs (content v) n × (c ≡ 0) × (IsTrue is_text → IsUtf8 (content v))
+ReadsLent major is_text content xs v n c =
+    ReadsCountedString major xs (content v) n × (c ≡ 0) × (IsTrue is_text → IsUtf8 (content v))
 
--- the head; too few bytes, and what is behind the head is left; no UTF-8, and what is behind the item is left
-pub data StopsLent (name : List ℕ) (major : ℕ) (is_text : Bool) (xs : List ℕ) (budget : Option ℕ) (refusal : Refusal) (rest : List ℕ) : Type 0 where
-  lent_head_refused : StopsHead name major 8 xs refusal rest → StopsLent name major is_text xs budget refusal rest
-  too_few : (count before : ℕ) → ReadsHead major 8 xs count before → length xs < before + count → refusal ≡ require_length name (len_of (length (drop before xs))) → rest ≡ drop before xs → StopsLent name major is_text xs budget refusal rest
-  lent_no_utf8 : (content : List ℕ) (n : ℕ) → IsTrue is_text → ReadsCountedString major xs content n → (IsUtf8 content → ⊥) → refusal ≡ require_utf8 name → rest ≡ drop n xs → StopsLent name major is_text xs budget refusal rest
+-- the head; too few bytes, and what is behind the head is left; no UTF-8, and what is behind the
+-- item is left
+pub data StopsLent (name : List ℕ) (major : ℕ) (is_text : Bool) (xs : List ℕ) (budget : Option ℕ)
+    (refusal : Refusal) (rest : List ℕ) : Type 0 where
+  lent_head_refused : StopsHead name major 8 xs refusal rest
+      → StopsLent name major is_text xs budget refusal rest
+  too_few : (count before : ℕ) → ReadsHead major 8 xs count before → length xs < before + count
+      → refusal ≡ require_length name (len_of (length (drop before xs))) → rest ≡ drop before xs
+      → StopsLent name major is_text xs budget refusal rest
+  lent_no_utf8 : (content : List ℕ) (n : ℕ) → IsTrue is_text → ReadsCountedString major xs content n
+      → (IsUtf8 content → ⊥) → refusal ≡ require_utf8 name → rest ≡ drop n xs
+      → StopsLent name major is_text xs budget refusal rest
 
--- Over any reader: the head; no content is lent, or too little, and what is behind the head is left; no UTF-8, and what is
--- behind the item is left.
-pub data BeginsLent (name : List ℕ) (major : ℕ) (is_text : Bool) (xs : List ℕ) (budget : Option ℕ) (refusal : Refusal) (rest : List ℕ) : Type 0 where
-  begins_refused : StopsHead name major 8 xs refusal rest → BeginsLent name major is_text xs budget refusal rest
-  none_is_lent : (count before : ℕ) → ReadsHead major 8 xs count before → refusal ≡ require_borrowed name → rest ≡ drop before xs → BeginsLent name major is_text xs budget refusal rest
-  few_are_lent : (count before shown : ℕ) → ReadsHead major 8 xs count before → shown < count → refusal ≡ require_length name (len_of shown) → rest ≡ drop before xs → BeginsLent name major is_text xs budget refusal rest
-  begins_no_utf8 : (content : List ℕ) (n : ℕ) → IsTrue is_text → ReadsCountedString major xs content n → (IsUtf8 content → ⊥) → refusal ≡ require_utf8 name → rest ≡ drop n xs → BeginsLent name major is_text xs budget refusal rest
+-- Over any reader: the head; no content is lent, or too little, and what is behind the head is
+-- left; no UTF-8, and what is behind the item is left.
+pub data BeginsLent (name : List ℕ) (major : ℕ) (is_text : Bool) (xs : List ℕ) (budget : Option ℕ)
+    (refusal : Refusal) (rest : List ℕ) : Type 0 where
+  begins_refused : StopsHead name major 8 xs refusal rest
+      → BeginsLent name major is_text xs budget refusal rest
+  none_is_lent : (count before : ℕ) → ReadsHead major 8 xs count before
+      → refusal ≡ require_borrowed name → rest ≡ drop before xs
+      → BeginsLent name major is_text xs budget refusal rest
+  few_are_lent : (count before shown : ℕ) → ReadsHead major 8 xs count before → shown < count
+      → refusal ≡ require_length name (len_of shown) → rest ≡ drop before xs
+      → BeginsLent name major is_text xs budget refusal rest
+  begins_no_utf8 : (content : List ℕ) (n : ℕ) → IsTrue is_text
+      → ReadsCountedString major xs content n → (IsUtf8 content → ⊥) → refusal ≡ require_utf8 name
+      → rest ≡ drop n xs → BeginsLent name major is_text xs budget refusal rest
 
 -- ---- a content that is lent
 
 -- so many bytes were taken, and are the content
 pub record Lends (count : ℕ) (content : List ℕ) (old new : View) : Type 0 where
   pub kept : Kept old new
-  pub at : Told old.told (λ xs. (count ≤ length xs) × (new.told ≡ Some (drop count xs)) × (content ≡ take count xs))
+  pub at : Told old.told
+      (λ xs. (count ≤ length xs) × (new.told ≡ Some (drop count xs)) × (content ≡ take count xs))
 
 -- nothing was taken
 pub record Stays (old new : View) : Type 0 where
@@ -50,8 +70,12 @@ pub record Stays (old new : View) : Type 0 where
 abbrev pub LacksContent : {E : Type 0} → ℕ → Bool → View → View → Lacks E → Type 0
 LacksContent count is_text old new (Read e) = Broke old new
 LacksContent count is_text old new Short = Stays old new × (IsTrue old.lends_whole → ⊥)
-LacksContent count is_text old new (Few n) = Stays old new × (IsTrue old.lends_whole → Told old.told (λ xs. (length xs < count) × (n ≡ length xs))) × (n < count)
-LacksContent count is_text old new NotUtf8 = (content : List ℕ) × IsTrue is_text × Lends count content old new × (IsUtf8 content → ⊥)
+LacksContent count is_text old new (Few n) =
+    Stays old new
+    × (IsTrue old.lends_whole → Told old.told (λ xs. (length xs < count) × (n ≡ length xs)))
+    × (n < count)
+LacksContent count is_text old new NotUtf8 =
+    (content : List ℕ) × IsTrue is_text × Lends count content old new × (IsUtf8 content → ⊥)
 
 -- ---- what is lacking, with its name
 

@@ -8,14 +8,17 @@ use Rattle.cbor4ii_items.specs.Reading.{Reading}
 -- no byte is left, or another byte comes next, which stays
 abbrev pub NoneBegins : List ℕ → (ℕ → Type 0) → List ℕ → Refusal → List ℕ → Type 0
 NoneBegins name begins [] refusal rest = (refusal ≡ eof name (Small 1)) × (rest ≡ [])
-NoneBegins name begins (b ∷ bs) refusal rest = (begins b → ⊥) × (refusal ≡ mismatch name b) × (rest ≡ b ∷ bs)
+NoneBegins name begins (b ∷ bs) refusal rest =
+    (begins b → ⊥) × (refusal ≡ mismatch name b) × (rest ≡ b ∷ bs)
 
 -- the next byte, taken where it is from the least to the greatest
 abbrev pub marked_at : List ℕ → ℕ → ℕ → Reading ℕ
 marked_at name least greatest [] = Err (eof name (Small 1), [])
-marked_at name least greatest (b ∷ bs) = if nat_le least b && nat_le b greatest then Ok (b, bs) else Err (mismatch name b, b ∷ bs)
+marked_at name least greatest (b ∷ bs) =
+    if nat_le least b && nat_le b greatest then Ok (b, bs) else Err (mismatch name b, b ∷ bs)
 
-pub within_marks : (least greatest b : ℕ) → least ≤ b → b ≤ greatest → (nat_le least b && nat_le b greatest) ≡ true
+pub within_marks : (least greatest b : ℕ) → least ≤ b → b ≤ greatest
+    → (nat_le least b && nat_le b greatest) ≡ true
 within_marks least greatest b p q =
     let s : nat_le least b ≡ true = le-leb least b p in
     let t : nat_le b greatest ≡ true = le-leb b greatest q in

@@ -1,5 +1,7 @@
--- An optional item as an array of no item or one: what it is spelled as, and how it is refused (RFC 8949 section 3.1).
-use Rattle.std.specs.Prelude.{◌≡◌, ◌≢◌, ℕ, zero, suc, ◌+◌, List, [], ◌∷◌, ◌++◌, take, drop, Bool, true, false, Option, Some, None, codes}
+-- An optional item as an array of no item or one: what it is spelled as, and how it is refused (RFC
+-- 8949 section 3.1).
+use Rattle.std.specs.Prelude.{◌≡◌, ◌≢◌, ℕ, zero, suc, ◌+◌, List, [], ◌∷◌, ◌++◌, take, drop, Bool}
+use Rattle.std.specs.Prelude.{true, false, Option, Some, None, codes}
 use Rattle.cbor4ii_rw.specs.declared.error.Len.TheVariants.{Indefinite}
 use Rattle.cbor4ii_items.specs.Head.{open_head}
 use Rattle.cbor4ii_items.specs.Refusal.{Refusal, require_length, len_of}
@@ -33,15 +35,22 @@ ReadsMaybe reads xs (Some v) n c = ReadsOne reads xs v n c
 -- ---- how it is refused
 
 -- no array's head; an open length, or a count of two and more, behind the head
-pub data StopsFew (xs : List ℕ) (budget : Option ℕ) (refusal : Refusal) (rest : List ℕ) : Type 0 where
-  few_head_refused : StopsLength (codes "array") 4 xs budget refusal rest → StopsFew xs budget refusal rest
-  few_open : take 1 xs ≡ open_head 4 ∷ [] → refusal ≡ require_length (codes "maybe") Indefinite → rest ≡ drop 1 xs → StopsFew xs budget refusal rest
-  few_other : (count before : ℕ) → ReadsHead 4 8 xs count before → count ≢ 0 → count ≢ 1 → refusal ≡ require_length (codes "maybe") (len_of count) → rest ≡ drop before xs → StopsFew xs budget refusal rest
+pub data StopsFew (xs : List ℕ) (budget : Option ℕ) (refusal : Refusal)
+    (rest : List ℕ) : Type 0 where
+  few_head_refused : StopsLength (codes "array") 4 xs budget refusal rest
+      → StopsFew xs budget refusal rest
+  few_open : take 1 xs ≡ open_head 4 ∷ [] → refusal ≡ require_length (codes "maybe") Indefinite
+      → rest ≡ drop 1 xs → StopsFew xs budget refusal rest
+  few_other : (count before : ℕ) → ReadsHead 4 8 xs count before → count ≢ 0 → count ≢ 1
+      → refusal ≡ require_length (codes "maybe") (len_of count) → rest ≡ drop before xs
+      → StopsFew xs budget refusal rest
 
 -- the head's refusal, or the item's
-pub data StopsMaybe (stops : StopsAt) (xs : List ℕ) (budget : Option ℕ) (refusal : Refusal) (rest : List ℕ) : Type 0 where
+pub data StopsMaybe (stops : StopsAt) (xs : List ℕ) (budget : Option ℕ) (refusal : Refusal)
+    (rest : List ℕ) : Type 0 where
   maybe_head_refused : StopsFew xs budget refusal rest → StopsMaybe stops xs budget refusal rest
-  maybe_item_refused : (before : ℕ) → ReadsHead 4 8 xs 1 before → stops (drop before xs) budget refusal rest → StopsMaybe stops xs budget refusal rest
+  maybe_item_refused : (before : ℕ) → ReadsHead 4 8 xs 1 before
+      → stops (drop before xs) budget refusal rest → StopsMaybe stops xs budget refusal rest
 
 -- ---- the head, read off the front of bytes
 

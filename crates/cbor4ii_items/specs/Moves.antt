@@ -1,5 +1,6 @@
 -- How a decoding call leaves the reader, whatever it answers and whether or not the bytes are told.
-use Rattle.std.specs.Prelude.{◌≡◌, ℕ, ◌+◌, ◌≤◌, Bool, false, List, length, take, drop, None, Some, Option, Result, Ok, Err, IsTrue, MatchBool}
+use Rattle.std.specs.Prelude.{◌≡◌, ℕ, ◌+◌, ◌≤◌, Bool, false, List, length, take, drop, None, Some}
+use Rattle.std.specs.Prelude.{Option, Result, Ok, Err, IsTrue, MatchBool}
 use Rattle.cbor4ii_rw.specs.View.{View, Told}
 use Rattle.cbor4ii_rw.specs.Reader.{Failed, counts}
 use Rattle.cbor4ii_rw.specs.declared.error.DecodeError.{DecodeError}
@@ -20,10 +21,12 @@ Ends old new = Told old (λ xs. (n : ℕ) × Took xs new n)
 abbrev pub EndsOrForgets : Option (List ℕ) → Option (List ℕ) → Type 0
 EndsOrForgets old new = Told old (λ xs. Told new (λ ys. (n : ℕ) × (ys ≡ drop n xs)))
 
--- where the bytes are told before and after, the count of those that were taken, if there is one, rises by as many as
--- are gone
+-- where the bytes are told before and after, the count of those that were taken, if there is one,
+-- rises by as many as are gone
 abbrev pub Counted : View → View → Type 0
-Counted old new = Told old.told (λ xs. Told new.told (λ ys. (n : ℕ) → n + length ys ≡ length xs → new.taken ≡ counts n old.taken))
+Counted old new =
+    Told old.told (λ xs. Told new.told
+    (λ ys. (n : ℕ) → n + length ys ≡ length xs → new.taken ≡ counts n old.taken))
 
 -- The reader did not fail: what is left is an end, and the budget is as before.
 pub record Kept (old new : View) : Type 0 where
@@ -35,8 +38,8 @@ pub record Kept (old new : View) : Type 0 where
   pub lends_whole : IsTrue old.lends_whole → IsTrue new.lends_whole
   pub remembers : IsTrue old.remembers → IsTrue new.remembers
 
--- The reader failed: what is left, where still told, is an end, and a reader that remembers still tells it; the budget is
--- as before.
+-- The reader failed: what is left, where still told, is an end, and a reader that remembers still
+-- tells it; the budget is as before.
 pub record Broke (old new : View) : Type 0 where
   pub rest : EndsOrForgets old.told new.told
   pub left : IsTrue old.remembers → Ends old.told new.told
@@ -56,7 +59,8 @@ abbrev pub lacks_step : {V E : Type 0} → Result V (DecodeError E) → Bool
 lacks_step (Ok v) = false
 lacks_step (Err e) = is_depth_overflow e
 
--- `Read` is answered exactly where the reader failed in the call, and a step is lacking only where there is a budget
+-- `Read` is answered exactly where the reader failed in the call, and a step is lacking only where
+-- there is a budget
 pub record Moves {V E : Type 0} (old new : View) (answer : Result V (DecodeError E)) : Type 0 where
   pub by : MatchBool (is_failure answer) (Broke old new) (Kept old new)
   pub depth : old.budget ≡ None → lacks_step answer ≡ false

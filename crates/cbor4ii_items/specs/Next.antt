@@ -1,5 +1,7 @@
--- The next byte, which stays, and whether another part of an array or a map follows (RFC 8949 sections 3 and 3.2.2).
-use Rattle.std.specs.Prelude.{◌≡◌, ℕ, ◌-◌, List, [], ◌∷◌, take, Bool, true, false, not, Option, Some, None, nat_lt}
+-- The next byte, which stays, and whether another part of an array or a map follows (RFC 8949
+-- sections 3 and 3.2.2).
+use Rattle.std.specs.Prelude.{◌≡◌, ℕ, ◌-◌, List, [], ◌∷◌, take, Bool, true, false, not, Option}
+use Rattle.std.specs.Prelude.{Some, None, nat_lt}
 use Rattle.cbor4ii_rw.specs.declared.error.Len.TheVariants.{Small}
 use Rattle.cbor4ii_items.specs.Decoding.{Reads, StopsAt}
 use Rattle.cbor4ii_items.specs.Refusal.{eof}
@@ -17,8 +19,9 @@ StopsNext name xs budget refusal rest = (xs ≡ []) × (refusal ≡ eof name (Sm
 
 -- ---- whether a part follows
 
--- Whether a part follows, by what is left of the length. Where parts are counted, one follows while some are left, and no
--- byte is taken. Else a break is taken, and another byte begins a part and stays.
+-- Whether a part follows, by what is left of the length. Where parts are counted, one follows while
+-- some are left, and no byte is taken. Else a break is taken, and another byte begins a part and
+-- stays.
 abbrev pub ReadsFollows : Option ℕ → Reads Bool
 ReadsFollows (Some left) xs more n c = (more ≡ nat_lt 0 left) × (n ≡ 0) × (c ≡ 0)
 ReadsFollows None xs more n c = ReadsBreak xs (not more) n c

@@ -1,9 +1,11 @@
 -- What numbers are spelled as, and how they are refused (RFC 8949 sections 3.1 and 3.4.3).
-use Rattle.std.specs.Prelude.{◌≡◌, ◌≢◌, ℕ, ◌+◌, ◌/◌, ◌^◌, ◌<◌, ◌≤◌, ◌⊎◌, ◌++◌, List, [], ◌∷◌, length, take, drop, ℤ, pos, negsuc, codes, nat_lt, if◌then◌else◌}
+use Rattle.std.specs.Prelude.{◌≡◌, ◌≢◌, ℕ, ◌+◌, ◌/◌, ◌^◌, ◌<◌, ◌≤◌, ◌⊎◌, ◌++◌, List, [], ◌∷◌}
+use Rattle.std.specs.Prelude.{length, take, drop, ℤ, pos, negsuc, codes, nat_lt, if◌then◌else◌}
 use Rattle.cbor4ii_rw.specs.declared.error.Len.TheVariants.{Small, Indefinite}
 use Rattle.cbor4ii_items.specs.declared.types.Negative.{Negative}
 use Rattle.cbor4ii_items.specs.Head.{head, open_head, shortest, IsBytes}
-use Rattle.cbor4ii_items.specs.Refusal.{Refusal, mismatch, eof, require_length, length_overflow, cast_overflow, len_of}
+use Rattle.cbor4ii_items.specs.Refusal.{Refusal, mismatch, eof, require_length, length_overflow}
+use Rattle.cbor4ii_items.specs.Refusal.{cast_overflow, len_of}
 use Rattle.cbor4ii_items.specs.Heads.{ReadsHead, StopsHead}
 use Rattle.cbor4ii_items.specs.Magnitude.{number_of, magnitude}
 use Rattle.cbor4ii_items.specs.Decoding.{Reads, StopsAt}
@@ -44,16 +46,28 @@ IsWithin limit (pos k) = k < limit
 IsWithin limit (negsuc k) = k < limit
 
 -- a head that is refused, or whose argument is out of range
-pub data StopsHalf (name : List ℕ) (major width limit : ℕ) (xs : List ℕ) (refusal : Refusal) (rest : List ℕ) : Type 0 where
-  head_refused : StopsHead name major width xs refusal rest → StopsHalf name major width limit xs refusal rest
-  argument_too_great : (v n : ℕ) → ReadsHead major width xs v n → limit ≤ v → refusal ≡ cast_overflow name → rest ≡ drop n xs → StopsHalf name major width limit xs refusal rest
+pub data StopsHalf (name : List ℕ) (major width limit : ℕ) (xs : List ℕ) (refusal : Refusal)
+    (rest : List ℕ) : Type 0 where
+  head_refused : StopsHead name major width xs refusal rest
+      → StopsHalf name major width limit xs refusal rest
+  argument_too_great : (v n : ℕ) → ReadsHead major width xs v n → limit ≤ v
+      → refusal ≡ cast_overflow name → rest ≡ drop n xs
+      → StopsHalf name major width limit xs refusal rest
 
--- the first byte by the type's name, numbers from 0 on by a second name, and negative ones by a third
-pub data StopsSigned (name plus minus : List ℕ) (width limit : ℕ) (xs : List ℕ) (refusal : Refusal) (rest : List ℕ) : Type 0 where
-  no_signed_byte : xs ≡ [] → refusal ≡ eof name (Small 1) → rest ≡ [] → StopsSigned name plus minus width limit xs refusal rest
-  no_signed_head : (b : ℕ) (bs : List ℕ) → xs ≡ b ∷ bs → 2 ≤ b / 32 → refusal ≡ mismatch name b → rest ≡ xs → StopsSigned name plus minus width limit xs refusal rest
-  positive_refused : (b : ℕ) (bs : List ℕ) → xs ≡ b ∷ bs → b / 32 ≡ 0 → StopsHalf plus 0 width limit xs refusal rest → StopsSigned name plus minus width limit xs refusal rest
-  negative_refused : (b : ℕ) (bs : List ℕ) → xs ≡ b ∷ bs → b / 32 ≡ 1 → StopsHalf minus 1 width limit xs refusal rest → StopsSigned name plus minus width limit xs refusal rest
+-- the first byte by the type's name, numbers from 0 on by a second name, and negative ones by a
+-- third
+pub data StopsSigned (name plus minus : List ℕ) (width limit : ℕ) (xs : List ℕ) (refusal : Refusal)
+    (rest : List ℕ) : Type 0 where
+  no_signed_byte : xs ≡ [] → refusal ≡ eof name (Small 1) → rest ≡ []
+      → StopsSigned name plus minus width limit xs refusal rest
+  no_signed_head : (b : ℕ) (bs : List ℕ) → xs ≡ b ∷ bs → 2 ≤ b / 32 → refusal ≡ mismatch name b
+      → rest ≡ xs → StopsSigned name plus minus width limit xs refusal rest
+  positive_refused : (b : ℕ) (bs : List ℕ) → xs ≡ b ∷ bs → b / 32 ≡ 0
+      → StopsHalf plus 0 width limit xs refusal rest
+      → StopsSigned name plus minus width limit xs refusal rest
+  negative_refused : (b : ℕ) (bs : List ℕ) → xs ≡ b ∷ bs → b / 32 ≡ 1
+      → StopsHalf minus 1 width limit xs refusal rest
+      → StopsSigned name plus minus width limit xs refusal rest
 
 -- ---- bignums of at most sixteen bytes
 
@@ -76,11 +90,18 @@ pub record ReadsBignum (tag : ℕ) (xs : List ℕ) (v n : ℕ) : Type 0 where
   pub magnitude : ReadsMagnitude (drop before xs) v size
   pub total : n ≡ before + size
 
-pub data StopsMagnitude (name : List ℕ) (xs : List ℕ) (refusal : Refusal) (rest : List ℕ) : Type 0 where
-  length_refused : (take 1 xs ≡ open_head 2 ∷ [] → ⊥) → StopsHead name 2 8 xs refusal rest → StopsMagnitude name xs refusal rest
-  length_open : xs ≡ open_head 2 ∷ rest → refusal ≡ require_length name Indefinite → StopsMagnitude name xs refusal rest
-  length_too_great : (count before : ℕ) → ReadsHead 2 8 xs count before → 16 < count → refusal ≡ length_overflow name (len_of count) → rest ≡ drop before xs → StopsMagnitude name xs refusal rest
-  content_cut : (count before : ℕ) → ReadsHead 2 8 xs count before → count ≤ 16 → length xs < before + count → refusal ≡ eof name (Small count) → rest ≡ [] → StopsMagnitude name xs refusal rest
+pub data StopsMagnitude (name : List ℕ) (xs : List ℕ) (refusal : Refusal)
+    (rest : List ℕ) : Type 0 where
+  length_refused : (take 1 xs ≡ open_head 2 ∷ [] → ⊥) → StopsHead name 2 8 xs refusal rest
+      → StopsMagnitude name xs refusal rest
+  length_open : xs ≡ open_head 2 ∷ rest → refusal ≡ require_length name Indefinite
+      → StopsMagnitude name xs refusal rest
+  length_too_great : (count before : ℕ) → ReadsHead 2 8 xs count before → 16 < count
+      → refusal ≡ length_overflow name (len_of count) → rest ≡ drop before xs
+      → StopsMagnitude name xs refusal rest
+  content_cut : (count before : ℕ) → ReadsHead 2 8 xs count before → count ≤ 16
+      → length xs < before + count → refusal ≡ eof name (Small count) → rest ≡ []
+      → StopsMagnitude name xs refusal rest
 
 -- ---- u128
 
@@ -88,27 +109,46 @@ abbrev pub ReadsU128 : Reads ℕ
 ReadsU128 xs v n c = (ReadsHead 0 8 xs v n ⊎ ReadsBignum 2 xs v n) × (c ≡ 0)
 
 pub data StopsU128 (xs : List ℕ) (refusal : Refusal) (rest : List ℕ) : Type 0 where
-  no_u128_byte : xs ≡ [] → refusal ≡ eof (codes "u128") (Small 1) → rest ≡ [] → StopsU128 xs refusal rest
-  u128_head_refused : (b : ℕ) (bs : List ℕ) → xs ≡ b ∷ bs → b / 32 ≡ 0 → StopsHead (codes "u64") 0 8 xs refusal rest → StopsU128 xs refusal rest
-  u128_tag_refused : (b : ℕ) (bs : List ℕ) → xs ≡ b ∷ bs → b / 32 ≢ 0 → StopsHead (codes "u128") 6 1 xs refusal rest → StopsU128 xs refusal rest
-  other_u128_tag : (tag before : ℕ) → ReadsHead 6 1 xs tag before → tag ≢ 2 → refusal ≡ mismatch (codes "u128::tag") tag → rest ≡ drop before xs → StopsU128 xs refusal rest
-  u128_bytes_refused : (before : ℕ) → ReadsHead 6 1 xs 2 before → StopsMagnitude (codes "u128::bytes") (drop before xs) refusal rest → StopsU128 xs refusal rest
+  no_u128_byte : xs ≡ [] → refusal ≡ eof (codes "u128") (Small 1) → rest ≡ []
+      → StopsU128 xs refusal rest
+  u128_head_refused : (b : ℕ) (bs : List ℕ) → xs ≡ b ∷ bs → b / 32 ≡ 0
+      → StopsHead (codes "u64") 0 8 xs refusal rest → StopsU128 xs refusal rest
+  u128_tag_refused : (b : ℕ) (bs : List ℕ) → xs ≡ b ∷ bs → b / 32 ≢ 0
+      → StopsHead (codes "u128") 6 1 xs refusal rest → StopsU128 xs refusal rest
+  other_u128_tag : (tag before : ℕ) → ReadsHead 6 1 xs tag before → tag ≢ 2
+      → refusal ≡ mismatch (codes "u128::tag") tag → rest ≡ drop before xs
+      → StopsU128 xs refusal rest
+  u128_bytes_refused : (before : ℕ) → ReadsHead 6 1 xs 2 before
+      → StopsMagnitude (codes "u128::bytes") (drop before xs) refusal rest
+      → StopsU128 xs refusal rest
 
 -- ---- i128
 
 abbrev pub ReadsI128 : Reads ℤ
 ReadsI128 xs (pos k) n c = (ReadsHead 0 8 xs k n ⊎ (ReadsBignum 2 xs k n × (k < 2 ^ 127))) × (c ≡ 0)
-ReadsI128 xs (negsuc k) n c = (ReadsHead 1 8 xs k n ⊎ (ReadsBignum 3 xs k n × (k < 2 ^ 127))) × (c ≡ 0)
+ReadsI128 xs (negsuc k) n c =
+    (ReadsHead 1 8 xs k n ⊎ (ReadsBignum 3 xs k n × (k < 2 ^ 127))) × (c ≡ 0)
 
 pub data StopsI128 (xs : List ℕ) (refusal : Refusal) (rest : List ℕ) : Type 0 where
-  no_i128_byte : xs ≡ [] → refusal ≡ eof (codes "i128") (Small 1) → rest ≡ [] → StopsI128 xs refusal rest
-  i128_head_refused : (b : ℕ) (bs : List ℕ) → xs ≡ b ∷ bs → b / 32 ≡ 0 → StopsHead (codes "u64") 0 8 xs refusal rest → StopsI128 xs refusal rest
-  i128_negative_refused : (b : ℕ) (bs : List ℕ) → xs ≡ b ∷ bs → b / 32 ≡ 1 → StopsHead (codes "i128") 1 8 xs refusal rest → StopsI128 xs refusal rest
-  i128_tag_refused : (b : ℕ) (bs : List ℕ) → xs ≡ b ∷ bs → 2 ≤ b / 32 → StopsHead (codes "i128") 6 1 xs refusal rest → StopsI128 xs refusal rest
-  other_i128_tag : (tag before : ℕ) → ReadsHead 6 1 xs tag before → tag ≢ 2 → tag ≢ 3 → refusal ≡ mismatch (codes "i128::tag") tag → rest ≡ drop before xs → StopsI128 xs refusal rest
-  i128_bytes_refused : (before : ℕ) → ReadsHead 6 1 xs 2 before → StopsMagnitude (codes "+i128::bytes") (drop before xs) refusal rest → StopsI128 xs refusal rest
-  i128_negative_bytes_refused : (before : ℕ) → ReadsHead 6 1 xs 3 before → StopsMagnitude (codes "-i128::bytes") (drop before xs) refusal rest → StopsI128 xs refusal rest
-  i128_too_great : (tag v n : ℕ) → (tag ≡ 2) ⊎ (tag ≡ 3) → ReadsBignum tag xs v n → 2 ^ 127 ≤ v → refusal ≡ cast_overflow (codes "i128") → rest ≡ drop n xs → StopsI128 xs refusal rest
+  no_i128_byte : xs ≡ [] → refusal ≡ eof (codes "i128") (Small 1) → rest ≡ []
+      → StopsI128 xs refusal rest
+  i128_head_refused : (b : ℕ) (bs : List ℕ) → xs ≡ b ∷ bs → b / 32 ≡ 0
+      → StopsHead (codes "u64") 0 8 xs refusal rest → StopsI128 xs refusal rest
+  i128_negative_refused : (b : ℕ) (bs : List ℕ) → xs ≡ b ∷ bs → b / 32 ≡ 1
+      → StopsHead (codes "i128") 1 8 xs refusal rest → StopsI128 xs refusal rest
+  i128_tag_refused : (b : ℕ) (bs : List ℕ) → xs ≡ b ∷ bs → 2 ≤ b / 32
+      → StopsHead (codes "i128") 6 1 xs refusal rest → StopsI128 xs refusal rest
+  other_i128_tag : (tag before : ℕ) → ReadsHead 6 1 xs tag before → tag ≢ 2 → tag ≢ 3
+      → refusal ≡ mismatch (codes "i128::tag") tag → rest ≡ drop before xs
+      → StopsI128 xs refusal rest
+  i128_bytes_refused : (before : ℕ) → ReadsHead 6 1 xs 2 before
+      → StopsMagnitude (codes "+i128::bytes") (drop before xs) refusal rest
+      → StopsI128 xs refusal rest
+  i128_negative_bytes_refused : (before : ℕ) → ReadsHead 6 1 xs 3 before
+      → StopsMagnitude (codes "-i128::bytes") (drop before xs) refusal rest
+      → StopsI128 xs refusal rest
+  i128_too_great : (tag v n : ℕ) → (tag ≡ 2) ⊎ (tag ≡ 3) → ReadsBignum tag xs v n → 2 ^ 127 ≤ v
+      → refusal ≡ cast_overflow (codes "i128") → rest ≡ drop n xs → StopsI128 xs refusal rest
 
 -- ---- what is written
 
@@ -135,7 +175,8 @@ abbrev pub signed_head : ℤ → List ℕ
 signed_head (pos n) = shortest_head 0 n
 signed_head (negsuc n) = shortest_head 1 n
 
--- from 0 on an unsigned integer, and -1 - n as the argument n of major type 1, or as a negative bignum
+-- from 0 on an unsigned integer, and -1 - n as the argument n of major type 1, or as a negative
+-- bignum
 abbrev pub signed_bytes : ℤ → List ℕ
 signed_bytes (pos n) = integer_bytes 0 2 n
 signed_bytes (negsuc n) = integer_bytes 1 3 n

@@ -1,5 +1,6 @@
 -- Heads, read off the front of bytes one byte at a time.
-use Rattle.std.specs.Prelude.{ℕ, zero, suc, ◌+◌, ◌*◌, ◌/◌, ◌%◌, ◌==◌, List, Bool, false, Option, Some, None, nat_lt, nat_le, if◌then◌else◌}
+use Rattle.std.specs.Prelude.{ℕ, zero, suc, ◌+◌, ◌*◌, ◌/◌, ◌%◌, ◌==◌, List, Bool, false, Option}
+use Rattle.std.specs.Prelude.{Some, None, nat_lt, nat_le, if◌then◌else◌}
 use Rattle.cbor4ii_items.specs.Head.{open_head}
 use Rattle.cbor4ii_items.specs.Refusal.{mismatch}
 use Rattle.cbor4ii_items.specs.Reading.{Reading, give, refuse, byte_at, ◌>=>◌}
@@ -7,7 +8,8 @@ use Rattle.cbor4ii_items.specs.Reading.{Reading, give, refuse, byte_at, ◌>=>�
 -- k bytes, most significant first, behind a number
 abbrev pub number_on : List ℕ → ℕ → ℕ → ℕ → Reading ℕ
 number_on name expect zero high = give high
-number_on name expect (suc k) high = byte_at name expect >=> λ b. number_on name expect k (high * 256 + b)
+number_on name expect (suc k) high =
+    byte_at name expect >=> λ b. number_on name expect k (high * 256 + b)
 
 -- in how many bytes the argument follows, by an additional information of 24 to 27
 abbrev pub following : ℕ → ℕ
@@ -25,7 +27,8 @@ argument_at name width b =
 
 -- the argument of a head of this major type that begins with b
 abbrev pub head_by : List ℕ → ℕ → ℕ → ℕ → Reading ℕ
-head_by name major width b = if (b / 32) == major then argument_at name width b else refuse (mismatch name b)
+head_by name major width b =
+    if (b / 32) == major then argument_at name width b else refuse (mismatch name b)
 
 -- a head of this major type, of at most so many bytes of argument
 abbrev pub head_at : List ℕ → ℕ → ℕ → Reading ℕ
@@ -33,7 +36,8 @@ head_at name major width = byte_at name 1 >=> head_by name major width
 
 -- a length: none where it is open
 abbrev pub length_by : List ℕ → ℕ → ℕ → Reading (Option ℕ)
-length_by name major b = if b == open_head major then give None else (head_by name major 8 b >=> λ n. give (Some n))
+length_by name major b =
+    if b == open_head major then give None else (head_by name major 8 b >=> λ n. give (Some n))
 
 abbrev pub length_at : List ℕ → ℕ → Reading (Option ℕ)
 length_at name major = byte_at name 1 >=> length_by name major

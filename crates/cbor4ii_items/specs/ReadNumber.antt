@@ -1,7 +1,9 @@
 -- Numbers, read off the front of bytes.
-use Rattle.std.specs.Prelude.{ℕ, ◌/◌, ◌^◌, ◌==◌, List, Option, Some, None, nat_lt, if◌then◌else◌, ℤ, pos, negsuc, codes}
+use Rattle.std.specs.Prelude.{ℕ, ◌/◌, ◌^◌, ◌==◌, List, Option, Some, None, nat_lt, if◌then◌else◌, ℤ}
+use Rattle.std.specs.Prelude.{pos, negsuc, codes}
 use Rattle.cbor4ii_rw.specs.declared.error.Len.TheVariants.{Indefinite}
-use Rattle.cbor4ii_items.specs.Refusal.{mismatch, require_length, length_overflow, cast_overflow, len_of}
+use Rattle.cbor4ii_items.specs.Refusal.{mismatch, require_length, length_overflow, cast_overflow}
+use Rattle.cbor4ii_items.specs.Refusal.{len_of}
 use Rattle.cbor4ii_items.specs.Reading.{Reading, give, refuse, peek_at, ◌>=>◌}
 use Rattle.cbor4ii_items.specs.ReadHead.{head_at, length_at, number_on}
 
@@ -32,16 +34,22 @@ signed_at name plus minus width limit = peek_at name 1 >=> signed_by name plus m
 -- a byte string of this length, as a number
 abbrev pub magnitude_by : List ℕ → Option ℕ → Reading ℕ
 magnitude_by name None = refuse (require_length name Indefinite)
-magnitude_by name (Some count) = if nat_lt 16 count then refuse (length_overflow name (len_of count)) else number_on name count count 0
+magnitude_by name (Some count) =
+    if nat_lt 16 count then refuse (length_overflow name (len_of count)) else number_on name count
+    count 0
 
 abbrev pub magnitude_at : List ℕ → Reading ℕ
 magnitude_at name = length_at name 2 >=> magnitude_by name
 
 abbrev pub unsigned_bignum_at : ℕ → Reading ℕ
-unsigned_bignum_at tag = if tag == 2 then magnitude_at (codes "u128::bytes") else refuse (mismatch (codes "u128::tag") tag)
+unsigned_bignum_at tag =
+    if tag == 2 then magnitude_at (codes "u128::bytes") else refuse
+    (mismatch (codes "u128::tag") tag)
 
 abbrev pub u128_by : ℕ → Reading ℕ
-u128_by b = if (b / 32) == 0 then head_at (codes "u64") 0 8 else (head_at (codes "u128") 6 1 >=> unsigned_bignum_at)
+u128_by b =
+    if (b / 32) == 0 then head_at (codes "u64") 0 8 else
+    (head_at (codes "u128") 6 1 >=> unsigned_bignum_at)
 
 abbrev pub u128_at : Reading ℕ
 u128_at = peek_at (codes "u128") 1 >=> u128_by

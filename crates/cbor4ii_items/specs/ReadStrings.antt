@@ -1,5 +1,6 @@
 -- Strings, read off the front of bytes: what the decoders do, without the reader.
-use Rattle.std.specs.Prelude.{ℕ, zero, suc, ◌-◌, ◌==◌, List, [], ◌++◌, Bool, true, false, length, take, drop, Option, Some, None, Ok, Err, nat_lt, if◌then◌else◌, codes}
+use Rattle.std.specs.Prelude.{ℕ, zero, suc, ◌-◌, ◌==◌, List, [], ◌++◌, Bool, true, false, length}
+use Rattle.std.specs.Prelude.{take, drop, Option, Some, None, Ok, Err, nat_lt, if◌then◌else◌, codes}
 use Rattle.cbor4ii_rw.specs.declared.error.Len.TheVariants.{Indefinite}
 use Rattle.cbor4ii_items.specs.Head.{break}
 use Rattle.cbor4ii_items.specs.Refusal.{eof, require_length, depth_overflow, len_of}
@@ -8,7 +9,8 @@ use Rattle.cbor4ii_items.specs.ReadHead.{length_at}
 
 -- ---- content of a known length
 
--- so many bytes, behind a content; where fewer are left, nothing is, and the refusal says how many are missing
+-- so many bytes, behind a content; where fewer are left, nothing is, and the refusal says how many
+-- are missing
 abbrev pub content_on : List ℕ → ℕ → List ℕ → Reading (List ℕ)
 content_on name count content xs =
     if nat_lt (length xs) count then Err (eof name (len_of (count - length xs)), [])

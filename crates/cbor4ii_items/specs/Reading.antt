@@ -18,7 +18,8 @@ give v xs = Ok (v, xs)
 abbrev pub refuse : {V : Type 0} → Refusal → Reading V
 refuse refusal xs = Err (refusal, xs)
 
-abbrev pub go_on : {U V : Type 0} → Result (U × List ℕ) (Refusal × List ℕ) → (U → Reading V) → Result (V × List ℕ) (Refusal × List ℕ)
+abbrev pub go_on : {U V : Type 0} → Result (U × List ℕ) (Refusal × List ℕ) → (U → Reading V)
+    → Result (V × List ℕ) (Refusal × List ℕ)
 go_on (Ok p) next = next p.0 p.1
 go_on (Err e) next = Err e
 
@@ -38,17 +39,22 @@ byte_at name expect [] = Err (eof name (Small expect), [])
 byte_at name expect (b ∷ bs) = Ok (b, bs)
 
 -- the answer is that of the program, and so are the bytes that are left
-abbrev pub AnswersAs : {V E : Type 0} → Result (V × List ℕ) (Refusal × List ℕ) → Option (List ℕ) → Result V (DecodeError E) → Type 0
+abbrev pub AnswersAs : {V E : Type 0} → Result (V × List ℕ) (Refusal × List ℕ) → Option (List ℕ)
+    → Result V (DecodeError E) → Type 0
 AnswersAs outcome new (Ok v) = (ys : List ℕ) × (new ≡ Some ys) × (outcome ≡ Ok (v, ys))
-AnswersAs outcome new (Err e) = IfSome (refusal_of e) (λ refusal. (ys : List ℕ) × (new ≡ Some ys) × (outcome ≡ Err (refusal, ys)))
+AnswersAs outcome new (Err e) =
+    IfSome (refusal_of e)
+    (λ refusal. (ys : List ℕ) × (new ≡ Some ys) × (outcome ≡ Err (refusal, ys)))
 
--- A call that does what the program does: over any reader it leaves the reader as a decoding call does, and over told
--- bytes it answers as the program, unless there was no memory.
-pub record Runs {V E : Type 0} (program : Reading V) (old new : View) (answer : Result V (DecodeError E)) : Type 0 where
+-- A call that does what the program does: over any reader it leaves the reader as a decoding call
+-- does, and over told bytes it answers as the program, unless there was no memory.
+pub record Runs {V E : Type 0} (program : Reading V) (old new : View)
+    (answer : Result V (DecodeError E)) : Type 0 where
   pub moves : Moves old new answer
   pub answers : Told old.told (λ xs. AnswersAs (program xs) new.told answer)
 
--- A call that is under way: it took some bytes of what the whole program reads, and the program next is left to do.
+-- A call that is under way: it took some bytes of what the whole program reads, and the program
+-- next is left to do.
 pub record Reaches {V : Type 0} (whole next : Reading V) (old new : View) : Type 0 where
   pub kept : Kept old new
   pub leads : Told old.told (λ xs. (ys : List ℕ) × (new.told ≡ Some ys) × (whole xs ≡ next ys))

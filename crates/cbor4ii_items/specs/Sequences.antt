@@ -1,6 +1,8 @@
--- What arrays and maps are spelled as, and how they are refused (RFC 8949 sections 3.1, 3.2.1 and 3.2.2). Both are
--- sequences of parts: a part of an array is an item, and a part of a map is a key and its value.
-use Rattle.std.specs.Prelude.{◌≡◌, ◌≢◌, ℕ, ◌+◌, ◌-◌, ◌<◌, ◌⊎◌, List, [], ◌∷◌, ◌++◌, length, take, drop, max, Bool, false, Option, None, Some, IsTrue, codes}
+-- What arrays and maps are spelled as, and how they are refused (RFC 8949 sections 3.1, 3.2.1 and
+-- 3.2.2). Both are sequences of parts: a part of an array is an item, and a part of a map is a key
+-- and its value.
+use Rattle.std.specs.Prelude.{◌≡◌, ◌≢◌, ℕ, ◌+◌, ◌-◌, ◌<◌, ◌⊎◌, List, [], ◌∷◌, ◌++◌, length, take}
+use Rattle.std.specs.Prelude.{drop, max, Bool, false, Option, None, Some, IsTrue, codes}
 use Rattle.std.specs.declared.alloc.Global.{Global}
 use Rattle.std.specs.declared.vec.Vec.{Vec}
 use Rattle.cbor4ii_rw.specs.declared.error.Len.TheVariants.{Small, Indefinite}
@@ -16,7 +18,9 @@ use Rattle.cbor4ii_items.specs.Refusal.{Refusal, eof, require_length, depth_over
 -- parts, one behind another: n bytes in all, at the greatest cost of one
 abbrev pub ReadsParts : {P : Type 0} → Reads P → Reads (List P)
 ReadsParts reads xs [] n c = (n ≡ 0) × (c ≡ 0)
-ReadsParts reads xs (p ∷ ps) n c = (k d m e : ℕ) × reads xs p k d × ReadsParts reads (drop k xs) ps m e × (n ≡ k + m) × (c ≡ max d e)
+ReadsParts reads xs (p ∷ ps) n c =
+    (k d m e : ℕ) × reads xs p k d × ReadsParts reads (drop k xs) ps m e × (n ≡ k + m)
+    × (c ≡ max d e)
 
 -- so many parts
 abbrev pub ReadsCount : {P : Type 0} → Reads P → ℕ → Reads (List P)
@@ -26,8 +30,10 @@ ReadsCount reads count xs ps n c = (length ps ≡ count) × ReadsParts reads xs 
 abbrev pub Unbroken : {P : Type 0} → Reads P → Reads P
 Unbroken reads xs p n c = (take 1 xs ≡ break ∷ [] → ⊥) × reads xs p n c
 
--- parts up to the first break that stands in a part's place, and the break; no part where one may read nothing
-pub record ReadsUpToBreak {P : Type 0} (reads : Reads P) (never_empty : Bool) (xs : List ℕ) (ps : List P) (n c : ℕ) : Type 0 where
+-- parts up to the first break that stands in a part's place, and the break; no part where one may
+-- read nothing
+pub record ReadsUpToBreak {P : Type 0} (reads : Reads P) (never_empty : Bool) (xs : List ℕ)
+    (ps : List P) (n c : ℕ) : Type 0 where
   pub allowed : IsTrue never_empty ⊎ (ps ≡ [])
   pub between : ℕ
   pub parts : ReadsParts (Unbroken reads) xs ps between c
@@ -35,7 +41,8 @@ pub record ReadsUpToBreak {P : Type 0} (reads : Reads P) (never_empty : Bool) (x
   pub size : n ≡ between + 1
 
 -- a head of this major type that counts the parts, and the parts
-pub record ReadsCountedParts {P : Type 0} (major : ℕ) (reads : Reads P) (xs : List ℕ) (ps : List P) (n c : ℕ) : Type 0 where
+pub record ReadsCountedParts {P : Type 0} (major : ℕ) (reads : Reads P) (xs : List ℕ) (ps : List P)
+    (n c : ℕ) : Type 0 where
   pub before : ℕ
   pub head : ReadsHead major 8 xs (length ps) before
   pub between : ℕ
@@ -43,7 +50,8 @@ pub record ReadsCountedParts {P : Type 0} (major : ℕ) (reads : Reads P) (xs : 
   pub size : n ≡ before + between
 
 -- the first byte of an indefinite length, and parts up to a break
-pub record ReadsOpenParts {P : Type 0} (major : ℕ) (reads : Reads P) (never_empty : Bool) (xs : List ℕ) (ps : List P) (n c : ℕ) : Type 0 where
+pub record ReadsOpenParts {P : Type 0} (major : ℕ) (reads : Reads P) (never_empty : Bool)
+    (xs : List ℕ) (ps : List P) (n c : ℕ) : Type 0 where
   pub begins : take 1 xs ≡ open_head major ∷ []
   pub between : ℕ
   pub parts : ReadsUpToBreak reads never_empty (drop 1 xs) ps between c
@@ -51,11 +59,13 @@ pub record ReadsOpenParts {P : Type 0} (major : ℕ) (reads : Reads P) (never_em
 
 -- parts that are counted, or that a break ends
 abbrev pub ReadsInside : {P : Type 0} → ℕ → Reads P → Bool → Reads (List P)
-ReadsInside major reads never_empty xs ps n c = ReadsCountedParts major reads xs ps n c ⊎ ReadsOpenParts major reads never_empty xs ps n c
+ReadsInside major reads never_empty xs ps n c =
+    ReadsCountedParts major reads xs ps n c ⊎ ReadsOpenParts major reads never_empty xs ps n c
 
 -- the same under one step
 abbrev pub ReadsSequence : {P : Type 0} → ℕ → Reads P → Bool → Reads (List P)
-ReadsSequence major reads never_empty xs ps n c = (d : ℕ) × ReadsInside major reads never_empty xs ps n d × (c ≡ 1 + d)
+ReadsSequence major reads never_empty xs ps n c =
+    (d : ℕ) × ReadsInside major reads never_empty xs ps n d × (c ≡ 1 + d)
 
 -- the two lists have as many parts, and these are the same one by one
 abbrev pub SameParts : {P : Type 0} → (P → P → Type 0) → List P → List P → Type 0
@@ -67,7 +77,8 @@ SameParts same (p ∷ ps) (q ∷ qs) = same p q × SameParts same ps qs
 -- ---- how it is refused
 
 -- so many parts should come: fewer are whole, and the next one is refused
-pub record StopsCount {P : Type 0} (reads : Reads P) (stops : StopsAt) (count : ℕ) (xs : List ℕ) (budget : Option ℕ) (refusal : Refusal) (rest : List ℕ) : Type 0 where
+pub record StopsCount {P : Type 0} (reads : Reads P) (stops : StopsAt) (count : ℕ) (xs : List ℕ)
+    (budget : Option ℕ) (refusal : Refusal) (rest : List ℕ) : Type 0 where
   pub whole : List P
   pub fewer : length whole < count
   pub between : ℕ
@@ -77,13 +88,20 @@ pub record StopsCount {P : Type 0} (reads : Reads P) (stops : StopsAt) (count : 
   pub stop : stops (drop between xs) budget refusal rest
 
 -- where a part or a break should come
-pub data StopsPlace (name : List ℕ) (stops : StopsAt) (never_empty : Bool) (xs : List ℕ) (budget : Option ℕ) (refusal : Refusal) (rest : List ℕ) : Type 0 where
-  no_byte : xs ≡ [] → refusal ≡ eof (codes "break") (Small 1) → rest ≡ [] → StopsPlace name stops never_empty xs budget refusal rest
-  may_read_nothing : xs ≢ [] → (take 1 xs ≡ break ∷ [] → ⊥) → never_empty ≡ false → refusal ≡ require_length name Indefinite → rest ≡ xs → StopsPlace name stops never_empty xs budget refusal rest
-  part_refused : xs ≢ [] → (take 1 xs ≡ break ∷ [] → ⊥) → IsTrue never_empty → stops xs budget refusal rest → StopsPlace name stops never_empty xs budget refusal rest
+pub data StopsPlace (name : List ℕ) (stops : StopsAt) (never_empty : Bool) (xs : List ℕ)
+    (budget : Option ℕ) (refusal : Refusal) (rest : List ℕ) : Type 0 where
+  no_byte : xs ≡ [] → refusal ≡ eof (codes "break") (Small 1) → rest ≡ []
+      → StopsPlace name stops never_empty xs budget refusal rest
+  may_read_nothing : xs ≢ [] → (take 1 xs ≡ break ∷ [] → ⊥) → never_empty ≡ false
+      → refusal ≡ require_length name Indefinite → rest ≡ xs
+      → StopsPlace name stops never_empty xs budget refusal rest
+  part_refused : xs ≢ [] → (take 1 xs ≡ break ∷ [] → ⊥) → IsTrue never_empty
+      → stops xs budget refusal rest → StopsPlace name stops never_empty xs budget refusal rest
 
 -- some parts are whole, and then comes the refusal
-pub record StopsUpToBreak {P : Type 0} (name : List ℕ) (reads : Reads P) (stops : StopsAt) (never_empty : Bool) (xs : List ℕ) (budget : Option ℕ) (refusal : Refusal) (rest : List ℕ) : Type 0 where
+pub record StopsUpToBreak {P : Type 0} (name : List ℕ) (reads : Reads P) (stops : StopsAt)
+    (never_empty : Bool) (xs : List ℕ) (budget : Option ℕ) (refusal : Refusal)
+    (rest : List ℕ) : Type 0 where
   pub whole : List P
   pub allowed : IsTrue never_empty ⊎ (whole ≡ [])
   pub between : ℕ
@@ -93,10 +111,17 @@ pub record StopsUpToBreak {P : Type 0} (name : List ℕ) (reads : Reads P) (stop
   pub stop : StopsPlace name stops never_empty (drop between xs) budget refusal rest
 
 -- the head is refused, or the parts behind it
-pub data StopsInside {P : Type 0} (name : List ℕ) (major : ℕ) (reads : Reads P) (stops : StopsAt) (never_empty : Bool) (xs : List ℕ) (budget : Option ℕ) (refusal : Refusal) (rest : List ℕ) : Type 0 where
-  length_refused : (take 1 xs ≡ open_head major ∷ [] → ⊥) → StopsHead name major 8 xs refusal rest → StopsInside name major reads stops never_empty xs budget refusal rest
-  counted_refused : (count before : ℕ) → ReadsHead major 8 xs count before → StopsCount reads stops count (drop before xs) budget refusal rest → StopsInside name major reads stops never_empty xs budget refusal rest
-  open_refused : take 1 xs ≡ open_head major ∷ [] → StopsUpToBreak name reads stops never_empty (drop 1 xs) budget refusal rest → StopsInside name major reads stops never_empty xs budget refusal rest
+pub data StopsInside {P : Type 0} (name : List ℕ) (major : ℕ) (reads : Reads P) (stops : StopsAt)
+    (never_empty : Bool) (xs : List ℕ) (budget : Option ℕ) (refusal : Refusal)
+    (rest : List ℕ) : Type 0 where
+  length_refused : (take 1 xs ≡ open_head major ∷ [] → ⊥) → StopsHead name major 8 xs refusal rest
+      → StopsInside name major reads stops never_empty xs budget refusal rest
+  counted_refused : (count before : ℕ) → ReadsHead major 8 xs count before
+      → StopsCount reads stops count (drop before xs) budget refusal rest
+      → StopsInside name major reads stops never_empty xs budget refusal rest
+  open_refused : take 1 xs ≡ open_head major ∷ []
+      → StopsUpToBreak name reads stops never_empty (drop 1 xs) budget refusal rest
+      → StopsInside name major reads stops never_empty xs budget refusal rest
 
 -- a budget after one step
 abbrev pub after_step : Option ℕ → Option ℕ
@@ -104,14 +129,20 @@ after_step None = None
 after_step (Some left) = Some (left - 1)
 
 -- no step is left and nothing moves, or the sequence is refused under what is left
-pub data StopsSequence {P : Type 0} (name : List ℕ) (major : ℕ) (reads : Reads P) (stops : StopsAt) (never_empty : Bool) (xs : List ℕ) (budget : Option ℕ) (refusal : Refusal) (rest : List ℕ) : Type 0 where
-  no_step : budget ≡ Some 0 → refusal ≡ depth_overflow name → rest ≡ xs → StopsSequence name major reads stops never_empty xs budget refusal rest
-  under_step : budget ≢ Some 0 → StopsInside name major reads stops never_empty xs (after_step budget) refusal rest → StopsSequence name major reads stops never_empty xs budget refusal rest
+pub data StopsSequence {P : Type 0} (name : List ℕ) (major : ℕ) (reads : Reads P) (stops : StopsAt)
+    (never_empty : Bool) (xs : List ℕ) (budget : Option ℕ) (refusal : Refusal)
+    (rest : List ℕ) : Type 0 where
+  no_step : budget ≡ Some 0 → refusal ≡ depth_overflow name → rest ≡ xs
+      → StopsSequence name major reads stops never_empty xs budget refusal rest
+  under_step : budget ≢ Some 0
+      → StopsInside name major reads stops never_empty xs (after_step budget) refusal rest
+      → StopsSequence name major reads stops never_empty xs budget refusal rest
 
 -- ---- what a decoding call adds
 
 -- one part was read, and stands behind those that were there
-pub record AddsPart {P : Type 0} (reads : Reads P) (before after : List P) (old new : View) : Type 0 where
+pub record AddsPart {P : Type 0} (reads : Reads P) (before after : List P)
+    (old new : View) : Type 0 where
   pub part : P
   pub read : Sound reads old new part
   pub added : after ≡ before ++ part ∷ []
@@ -130,7 +161,8 @@ StopsArray reads stops never_empty = StopsSequence (codes "array") 4 reads stops
 -- ---- maps
 
 -- a key, and its value behind it, at the greater cost of the two
-pub record ReadsPair {K V : Type 0} (key_reads : Reads K) (value_reads : Reads V) (xs : List ℕ) (pair : K × V) (n c : ℕ) : Type 0 where
+pub record ReadsPair {K V : Type 0} (key_reads : Reads K) (value_reads : Reads V) (xs : List ℕ)
+    (pair : K × V) (n c : ℕ) : Type 0 where
   pub key_size : ℕ
   pub key_cost : ℕ
   pub key : key_reads xs pair.0 key_size key_cost
@@ -141,7 +173,8 @@ pub record ReadsPair {K V : Type 0} (key_reads : Reads K) (value_reads : Reads V
   pub cost : c ≡ max key_cost value_cost
 
 -- a key is whole, and its value is refused
-pub record StopsBehindKey {K : Type 0} (key_reads : Reads K) (stops : StopsAt) (xs : List ℕ) (budget : Option ℕ) (refusal : Refusal) (rest : List ℕ) : Type 0 where
+pub record StopsBehindKey {K : Type 0} (key_reads : Reads K) (stops : StopsAt) (xs : List ℕ)
+    (budget : Option ℕ) (refusal : Refusal) (rest : List ℕ) : Type 0 where
   pub whole : K
   pub size : ℕ
   pub cost : ℕ
@@ -151,16 +184,21 @@ pub record StopsBehindKey {K : Type 0} (key_reads : Reads K) (stops : StopsAt) (
 
 -- the key's refusal, or its value's
 abbrev pub StopsPair : {K : Type 0} → Reads K → StopsAt → StopsAt → StopsAt
-StopsPair key_reads key_stops value_stops xs budget refusal rest = key_stops xs budget refusal rest ⊎ StopsBehindKey key_reads value_stops xs budget refusal rest
+StopsPair key_reads key_stops value_stops xs budget refusal rest =
+    key_stops xs budget refusal rest ⊎ StopsBehindKey key_reads value_stops xs budget refusal rest
 
 abbrev pub SamePair : {K V : Type 0} → (K → K → Type 0) → (V → V → Type 0) → K × V → K × V → Type 0
 SamePair same_key same_value p q = same_key p.0 q.0 × same_value p.1 q.1
 
 abbrev pub ReadsMap : {K V : Type 0} → Reads K → Reads V → Bool → Reads (Map (Vec (K × V) Global))
-ReadsMap key_reads value_reads never_empty xs v n c = ReadsSequence 5 (ReadsPair key_reads value_reads) never_empty xs v.0.items n c
+ReadsMap key_reads value_reads never_empty xs v n c =
+    ReadsSequence 5 (ReadsPair key_reads value_reads) never_empty xs v.0.items n c
 
-abbrev pub SameMap : {K V : Type 0} → (K → K → Type 0) → (V → V → Type 0) → Map (Vec (K × V) Global) → Map (Vec (K × V) Global) → Type 0
+abbrev pub SameMap : {K V : Type 0} → (K → K → Type 0) → (V → V → Type 0) → Map (Vec (K × V) Global)
+    → Map (Vec (K × V) Global) → Type 0
 SameMap same_key same_value v w = SameParts (SamePair same_key same_value) v.0.items w.0.items
 
 abbrev pub StopsMap : {K V : Type 0} → Reads K → Reads V → StopsAt → StopsAt → Bool → StopsAt
-StopsMap key_reads value_reads key_stops value_stops never_empty = StopsSequence (codes "map") 5 (ReadsPair key_reads value_reads) (StopsPair key_reads key_stops value_stops) never_empty
+StopsMap key_reads value_reads key_stops value_stops never_empty =
+    StopsSequence (codes "map") 5 (ReadsPair key_reads value_reads)
+    (StopsPair key_reads key_stops value_stops) never_empty

@@ -20,17 +20,26 @@ ReadsShortest major xs v n c = (h : ReadsHead major 8 xs v n) × (h.wide ≡ sho
 
 -- A head that is refused as every head is, the first byte of an indefinite length, or a whole head
 -- that is longer than needed. What follows the byte, or the head, is left.
-pub data StopsShortest (name : List ℕ) (major : ℕ) (xs : List ℕ) (budget : Option ℕ) (refusal : Refusal) (rest : List ℕ) : Type 0 where
-  shortest_refused : ((b : ℕ) (bs : List ℕ) → xs ≡ b ∷ bs → ¬ (OpensLength major b)) → StopsHead name major 8 xs refusal rest → StopsShortest name major xs budget refusal rest
-  shortest_open : (b : ℕ) → OpensLength major b → xs ≡ b ∷ rest → refusal ≡ not_canonical canonical_name → StopsShortest name major xs budget refusal rest
-  too_long : (v n : ℕ) (h : ReadsHead major 8 xs v n) → h.wide ≢ shortest v → refusal ≡ not_canonical canonical_name → rest ≡ drop n xs → StopsShortest name major xs budget refusal rest
+pub data StopsShortest (name : List ℕ) (major : ℕ) (xs : List ℕ) (budget : Option ℕ)
+    (refusal : Refusal) (rest : List ℕ) : Type 0 where
+  shortest_refused : ((b : ℕ) (bs : List ℕ) → xs ≡ b ∷ bs → ¬ (OpensLength major b))
+      → StopsHead name major 8 xs refusal rest → StopsShortest name major xs budget refusal rest
+  shortest_open : (b : ℕ) → OpensLength major b → xs ≡ b ∷ rest
+      → refusal ≡ not_canonical canonical_name → StopsShortest name major xs budget refusal rest
+  too_long : (v n : ℕ) (h : ReadsHead major 8 xs v n) → h.wide ≢ shortest v
+      → refusal ≡ not_canonical canonical_name → rest ≡ drop n xs
+      → StopsShortest name major xs budget refusal rest
 
 -- a shortest head of this major type that says the content's length, and the content
 abbrev pub ReadsShortestString : ℕ → Reads (List ℕ)
 ReadsShortestString major xs content n c =
-    (s : ReadsCountedString major xs content n) × (s.head.wide ≡ shortest (length content)) × (c ≡ 0)
+    (s : ReadsCountedString major xs content n) × (s.head.wide ≡ shortest (length content))
+    × (c ≡ 0)
 
 -- a head that is refused, or a shortest one and fewer bytes than it says
-pub data StopsShortestString (name : List ℕ) (major : ℕ) (xs : List ℕ) (budget : Option ℕ) (refusal : Refusal) (rest : List ℕ) : Type 0 where
-  length_refused : StopsShortest name major xs budget refusal rest → StopsShortestString name major xs budget refusal rest
-  content_cut : (c : CutContent name major xs refusal rest) → c.head.wide ≡ shortest c.count → StopsShortestString name major xs budget refusal rest
+pub data StopsShortestString (name : List ℕ) (major : ℕ) (xs : List ℕ) (budget : Option ℕ)
+    (refusal : Refusal) (rest : List ℕ) : Type 0 where
+  length_refused : StopsShortest name major xs budget refusal rest
+      → StopsShortestString name major xs budget refusal rest
+  content_cut : (c : CutContent name major xs refusal rest) → c.head.wide ≡ shortest c.count
+      → StopsShortestString name major xs budget refusal rest

@@ -1,12 +1,14 @@
 -- Simple values, and the laws of their spellings (RFC 8949 section 3.3).
-use Rattle.std.proofs.Common.{◌≡◌, ℕ, ◌≤◌, List, [], ◌∷◌, ◌++◌, length, take, Bool, true, false, refl, sym, ap, ◌∙◌, arith}
+use Rattle.std.proofs.Common.{◌≡◌, ℕ, ◌≤◌, List, [], ◌∷◌, ◌++◌, length, take, Bool, true, false}
+use Rattle.std.proofs.Common.{refl, sym, ap, ◌∙◌, arith}
 use Rattle.std.specs.Prelude.{codes, ◌==◌}
 use Rattle.cbor4ii_items.specs.declared.types.Simple.{Simple}
 use Rattle.cbor4ii_items.specs.Initial.{simple_byte, simple_false, simple_true}
 use Rattle.cbor4ii_items.specs.Reading.{Reading, give, ◌>=>◌}
 use Rattle.cbor4ii_items.specs.Marked.{NoneBegins, marked_at}
 use Rattle.cbor4ii_items.specs.Numbers.{ReadsArgument, StopsArgument}
-use Rattle.cbor4ii_items.specs.Laws.Arguments.{argument_one, argument_within, argument_positive, argument_alone}
+use Rattle.cbor4ii_items.specs.Laws.Arguments.{argument_one, argument_within, argument_positive}
+use Rattle.cbor4ii_items.specs.Laws.Arguments.{argument_alone}
 use Rattle.cbor4ii_items.specs.Decoding.{Reads, StopsAt}
 
 -- ---- any simple value, by its number
@@ -18,7 +20,8 @@ ReadsSimple xs v n c = ReadsArgument 7 1 xs v.0 n c
 abbrev pub StopsSimple : StopsAt
 StopsSimple = StopsArgument (codes "simple") 7 1
 
-pub simple_one : (xs : List ℕ) (v w : Simple) (n m c d : ℕ) → ReadsSimple xs v n c → ReadsSimple xs w m d → (n ≡ m) × (c ≡ d) × (v ≡ w)
+pub simple_one : (xs : List ℕ) (v w : Simple) (n m c d : ℕ) → ReadsSimple xs v n c
+    → ReadsSimple xs w m d → (n ≡ m) × (c ≡ d) × (v ≡ w)
 simple_one xs v w n m c d p q =
     let same = argument_one 7 1 (omega arith) xs v.0 w.0 n m c d p q in
     (same.0, same.1, ap (λ (k : ℕ). record { 0 = k }) same.2)
@@ -29,7 +32,8 @@ simple_within xs v = argument_within 7 1 (omega arith) xs v.0
 pub simple_positive : (xs : List ℕ) (v : Simple) (n c : ℕ) → ReadsSimple xs v n c → 1 ≤ n
 simple_positive xs v = argument_positive 7 1 (omega arith) xs v.0
 
-pub simple_alone : (xs ys : List ℕ) (v : Simple) (n c : ℕ) → ReadsSimple xs v n c → ReadsSimple (take n xs ++ ys) v n c
+pub simple_alone : (xs ys : List ℕ) (v : Simple) (n c : ℕ) → ReadsSimple xs v n c
+    → ReadsSimple (take n xs ++ ys) v n c
 simple_alone xs ys v = argument_alone 7 1 xs ys v.0
 
 -- ---- false and true
@@ -57,8 +61,13 @@ same_bool true true e = refl
 same_bool false true e = absurd (omega (arith, e))
 same_bool true false e = absurd (omega (arith, e))
 
-pub bool_one : (xs : List ℕ) (v w : Bool) (n m c d : ℕ) → ReadsBool xs v n c → ReadsBool xs w m d → (n ≡ m) × (c ≡ d) × (v ≡ w)
-bool_one xs v w n m c d p q = let f = p.0 in let g = q.0 in let e : bool_byte v ≡ bool_byte w = cc in (p.1 ∙ sym q.1, p.2 ∙ sym q.2, same_bool v w e)
+pub bool_one : (xs : List ℕ) (v w : Bool) (n m c d : ℕ) → ReadsBool xs v n c → ReadsBool xs w m d
+    → (n ≡ m) × (c ≡ d) × (v ≡ w)
+bool_one xs v w n m c d p q =
+    let f = p.0 in
+    let g = q.0 in
+    let e : bool_byte v ≡ bool_byte w = cc in
+    (p.1 ∙ sym q.1, p.2 ∙ sym q.2, same_bool v w e)
 
 pub bool_within : (xs : List ℕ) (v : Bool) (n c : ℕ) → ReadsBool xs v n c → n ≤ length xs
 bool_within [] v n c p = let f = p.0 in cc
@@ -67,6 +76,7 @@ bool_within (x ∷ xs) v n c p = omega (arith, p.1)
 pub bool_positive : (xs : List ℕ) (v : Bool) (n c : ℕ) → ReadsBool xs v n c → 1 ≤ n
 bool_positive xs v n c p = omega (arith, p.1)
 
-pub bool_alone : (xs ys : List ℕ) (v : Bool) (n c : ℕ) → ReadsBool xs v n c → ReadsBool (take n xs ++ ys) v n c
+pub bool_alone : (xs ys : List ℕ) (v : Bool) (n c : ℕ) → ReadsBool xs v n c
+    → ReadsBool (take n xs ++ ys) v n c
 bool_alone [] ys v n c p = let f = p.0 in cc
 bool_alone (x ∷ xs) ys v n c p = rw p.1 (p.0, refl, p.2)

@@ -1,8 +1,10 @@
 -- What strings are spelled as, and how they are refused (RFC 8949 sections 3.1, 3.2.1 and 3.2.3).
-use Rattle.std.specs.Prelude.{◌≡◌, ◌≢◌, ℕ, ◌+◌, ◌-◌, ◌<◌, ◌⊎◌, ◌++◌, List, [], ◌∷◌, length, take, drop, Bool, true, false, Option, Some, codes, IsUtf8}
+use Rattle.std.specs.Prelude.{◌≡◌, ◌≢◌, ℕ, ◌+◌, ◌-◌, ◌<◌, ◌⊎◌, ◌++◌, List, [], ◌∷◌, length, take}
+use Rattle.std.specs.Prelude.{drop, Bool, true, false, Option, Some, codes, IsUtf8}
 use Rattle.cbor4ii_rw.specs.declared.error.Len.TheVariants.{Small, Indefinite}
 use Rattle.cbor4ii_items.specs.Head.{break, open_head}
-use Rattle.cbor4ii_items.specs.Refusal.{Refusal, eof, require_length, require_utf8, depth_overflow, len_of}
+use Rattle.cbor4ii_items.specs.Refusal.{Refusal, eof, require_length, require_utf8, depth_overflow}
+use Rattle.cbor4ii_items.specs.Refusal.{len_of}
 use Rattle.cbor4ii_items.specs.Decoding.{Reads, StopsAt, CostFits}
 use Rattle.cbor4ii_items.specs.Heads.{ReadsHead, StopsHead}
 pub use Rattle.cbor4ii_items.specs.Numbers.{counted_string}
@@ -35,7 +37,9 @@ pub record ReadsCountedString (major : ℕ) (xs content : List ℕ) (n : ℕ) : 
 -- strings of a known length, one behind another
 abbrev pub ReadsChunks : ℕ → List (List ℕ) → List ℕ → ℕ → Type 0
 ReadsChunks major [] xs n = n ≡ 0
-ReadsChunks major (chunk ∷ chunks) xs n = (k : ℕ) × (m : ℕ) × ReadsCountedString major xs chunk k × ReadsChunks major chunks (drop k xs) m × (n ≡ k + m)
+ReadsChunks major (chunk ∷ chunks) xs n =
+    (k : ℕ) × (m : ℕ) × ReadsCountedString major xs chunk k × ReadsChunks major chunks (drop k xs) m
+    × (n ≡ k + m)
 
 -- the contents of the chunks, joined
 abbrev pub joined : List (List ℕ) → List ℕ
@@ -60,7 +64,8 @@ pub record ReadsOpenString (major : ℕ) (xs content : List ℕ) (n c : ℕ) : T
 
 -- a string of this major type, of known or of indefinite length
 abbrev pub ReadsString : ℕ → Reads (List ℕ)
-ReadsString major xs content n c = (ReadsCountedString major xs content n × (c ≡ 0)) ⊎ ReadsOpenString major xs content n c
+ReadsString major xs content n c =
+    (ReadsCountedString major xs content n × (c ≡ 0)) ⊎ ReadsOpenString major xs content n c
 
 -- a text string that is UTF-8
 abbrev pub ReadsText : Reads (List ℕ)
@@ -88,7 +93,8 @@ text_content v = string_bytes v
 -- ---- how strings are refused
 
 -- fewer bytes follow than the head says, and nothing is left
-pub record CutContent (name : List ℕ) (major : ℕ) (xs : List ℕ) (refusal : Refusal) (rest : List ℕ) : Type 0 where
+pub record CutContent (name : List ℕ) (major : ℕ) (xs : List ℕ) (refusal : Refusal)
+    (rest : List ℕ) : Type 0 where
   pub count : ℕ
   pub before : ℕ
   pub head : ReadsHead major 8 xs count before
@@ -97,30 +103,46 @@ pub record CutContent (name : List ℕ) (major : ℕ) (xs : List ℕ) (refusal :
   pub left : rest ≡ []
 
 -- where a chunk or a break should come
-pub data StopsChunk (name : List ℕ) (major : ℕ) (xs : List ℕ) (budget : Option ℕ) (refusal : Refusal) (rest : List ℕ) : Type 0 where
-  no_chunk_byte : xs ≡ [] → refusal ≡ eof (codes "break") (Small 1) → rest ≡ [] → StopsChunk name major xs budget refusal rest
-  no_step : xs ≢ [] → (take 1 xs ≡ break ∷ [] → ⊥) → budget ≡ Some 0 → refusal ≡ depth_overflow name → rest ≡ xs → StopsChunk name major xs budget refusal rest
-  chunk_open : budget ≢ Some 0 → xs ≡ open_head major ∷ rest → refusal ≡ require_length name Indefinite → StopsChunk name major xs budget refusal rest
-  chunk_refused : budget ≢ Some 0 → (take 1 xs ≡ break ∷ [] → ⊥) → (take 1 xs ≡ open_head major ∷ [] → ⊥) → xs ≢ [] → StopsHead name major 8 xs refusal rest → StopsChunk name major xs budget refusal rest
-  chunk_cut : budget ≢ Some 0 → CutContent name major xs refusal rest → StopsChunk name major xs budget refusal rest
+pub data StopsChunk (name : List ℕ) (major : ℕ) (xs : List ℕ) (budget : Option ℕ)
+    (refusal : Refusal) (rest : List ℕ) : Type 0 where
+  no_chunk_byte : xs ≡ [] → refusal ≡ eof (codes "break") (Small 1) → rest ≡ []
+      → StopsChunk name major xs budget refusal rest
+  no_step : xs ≢ [] → (take 1 xs ≡ break ∷ [] → ⊥) → budget ≡ Some 0 → refusal ≡ depth_overflow name
+      → rest ≡ xs → StopsChunk name major xs budget refusal rest
+  chunk_open : budget ≢ Some 0 → xs ≡ open_head major ∷ rest
+      → refusal ≡ require_length name Indefinite → StopsChunk name major xs budget refusal rest
+  chunk_refused : budget ≢ Some 0 → (take 1 xs ≡ break ∷ [] → ⊥)
+      → (take 1 xs ≡ open_head major ∷ [] → ⊥) → xs ≢ [] → StopsHead name major 8 xs refusal rest
+      → StopsChunk name major xs budget refusal rest
+  chunk_cut : budget ≢ Some 0 → CutContent name major xs refusal rest
+      → StopsChunk name major xs budget refusal rest
 
--- behind the first byte of a string of indefinite length: some chunks are whole and fit the budget, and then comes the refusal
-pub record StopsOpen (name : List ℕ) (major : ℕ) (xs : List ℕ) (budget : Option ℕ) (refusal : Refusal) (rest : List ℕ) : Type 0 where
+-- behind the first byte of a string of indefinite length: some chunks are whole and fit the budget,
+-- and then comes the refusal
+pub record StopsOpen (name : List ℕ) (major : ℕ) (xs : List ℕ) (budget : Option ℕ)
+    (refusal : Refusal) (rest : List ℕ) : Type 0 where
   pub chunks : List (List ℕ)
   pub between : ℕ
   pub read : ReadsChunks major chunks xs between
   pub fits : CostFits (chunk_cost chunks) budget
   pub stop : StopsChunk name major (drop between xs) budget refusal rest
 
-pub data StopsString (name : List ℕ) (major : ℕ) (xs : List ℕ) (budget : Option ℕ) (refusal : Refusal) (rest : List ℕ) : Type 0 where
-  string_head_refused : (take 1 xs ≡ open_head major ∷ [] → ⊥) → StopsHead name major 8 xs refusal rest → StopsString name major xs budget refusal rest
+pub data StopsString (name : List ℕ) (major : ℕ) (xs : List ℕ) (budget : Option ℕ)
+    (refusal : Refusal) (rest : List ℕ) : Type 0 where
+  string_head_refused : (take 1 xs ≡ open_head major ∷ [] → ⊥)
+      → StopsHead name major 8 xs refusal rest → StopsString name major xs budget refusal rest
   string_cut : CutContent name major xs refusal rest → StopsString name major xs budget refusal rest
-  string_open : take 1 xs ≡ open_head major ∷ [] → StopsOpen name major (drop 1 xs) budget refusal rest → StopsString name major xs budget refusal rest
+  string_open : take 1 xs ≡ open_head major ∷ []
+      → StopsOpen name major (drop 1 xs) budget refusal rest
+      → StopsString name major xs budget refusal rest
 
 -- a text string whose content is not UTF-8 is taken whole
-pub data StopsText (name : List ℕ) (xs : List ℕ) (budget : Option ℕ) (refusal : Refusal) (rest : List ℕ) : Type 0 where
+pub data StopsText (name : List ℕ) (xs : List ℕ) (budget : Option ℕ) (refusal : Refusal)
+    (rest : List ℕ) : Type 0 where
   no_string : StopsString name 3 xs budget refusal rest → StopsText name xs budget refusal rest
-  no_utf8 : (content : List ℕ) (n c : ℕ) → ReadsString 3 xs content n c → CostFits c budget → (IsUtf8 content → ⊥) → refusal ≡ require_utf8 name → rest ≡ drop n xs → StopsText name xs budget refusal rest
+  no_utf8 : (content : List ℕ) (n c : ℕ) → ReadsString 3 xs content n c → CostFits c budget
+      → (IsUtf8 content → ⊥) → refusal ≡ require_utf8 name → rest ≡ drop n xs
+      → StopsText name xs budget refusal rest
 
 -- ---- breaks
 
@@ -130,4 +152,5 @@ ReadsBreak xs true n c = (take 1 xs ≡ break ∷ []) × (n ≡ 1) × (c ≡ 0)
 ReadsBreak xs false n c = (xs ≢ []) × (take 1 xs ≡ break ∷ [] → ⊥) × (n ≡ 0) × (c ≡ 0)
 
 abbrev pub StopsBreak : StopsAt
-StopsBreak xs budget refusal rest = (xs ≡ []) × (refusal ≡ eof (codes "break") (Small 1)) × (rest ≡ [])
+StopsBreak xs budget refusal rest =
+    (xs ≡ []) × (refusal ≡ eof (codes "break") (Small 1)) × (rest ≡ [])

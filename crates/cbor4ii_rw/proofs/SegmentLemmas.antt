@@ -36,11 +36,13 @@ full_zero (byte ∷ bytes) none = absurd (search (none, rules))
 none_full : (others : List (Bor (List ℕ))) → full_count others ≡ 0 → joined_segments others ≡ []
 none_full [] none = refl
 none_full (segment ∷ others) none =
-    nothing_left segment.now (joined_segments others) (ap length (full_zero segment.now (omega arith)))
+    nothing_left segment.now (joined_segments others)
+    (ap length (full_zero segment.now (omega arith)))
     (none_full others (omega arith))
 
 last_full : (current : List ℕ) (others : List (Bor (List ℕ)))
-    → (length current ≡ 0 → current ++ joined_segments others ≡ []) → full current + full_count others < 2
+    → (length current ≡ 0 → current ++ joined_segments others ≡ [])
+    → full current + full_count others < 2
     → joined_segments others ≡ []
 last_full [] others end one = end refl
 last_full (byte ∷ bytes) others end one = none_full others (omega arith)
@@ -55,7 +57,8 @@ current_is_enough want n current others is end one =
     let none_behind : joined_segments others ≡ [] = last_full current others end few in
     omega (arith, is, long, length-append current (joined_segments others), ap length none_behind)
 
-nothing_full : (others : List (Bor (List ℕ))) → length (joined_segments others) ≡ 0 → first_full others ≡ []
+nothing_full : (others : List (Bor (List ℕ))) → length (joined_segments others) ≡ 0
+    → first_full others ≡ []
 nothing_full [] none = refl
 nothing_full (segment ∷ others) none =
     ap (λ bytes. first_of bytes (first_full others))

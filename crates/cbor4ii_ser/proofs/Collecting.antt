@@ -1,5 +1,6 @@
 -- A text in pieces, as an item.
-use Rattle.std.proofs.Common.{◌≡◌, ℕ, List, ◌++◌, Option, None, Some, Result, Ok, Err, Bool, true, false, refl, sym, ap, subst, ◌⊎◌, inl, inr, IsSome}
+use Rattle.std.proofs.Common.{◌≡◌, ℕ, List, ◌++◌, Option, None, Some, Result, Ok, Err, Bool, true}
+use Rattle.std.proofs.Common.{false, refl, sym, ap, subst, ◌⊎◌, inl, inr, IsSome}
 use Rattle.std.proofs.Math.Seq.{take-length}
 use Rattle.std.specs.Prelude.{codes}
 use denote.Ref.{Bor}
@@ -10,49 +11,89 @@ use Rattle.cbor4ii_items.specs.Laws.Written.{writes_then, writes_err, writes_as}
 use Rattle.cbor4ii_ser.specs.declared.error.EncodeError.TheVariants.{Core, Custom}
 use Rattle.cbor4ii_ser.specs.Serializing.{Serializes}
 use Rattle.cbor4ii_ser.specs.Pieces.{Pending, nothing_yet, written, after, last_bytes, text_bytes}
-use Rattle.cbor4ii_ser.specs.TextState.{Seen, Wrote, Flushes, Pends, outcome, text_item, unended_bytes}
+use Rattle.cbor4ii_ser.specs.TextState.{TextSeen, Wrote, Flushes, Pends, outcome, text_item}
+use Rattle.cbor4ii_ser.specs.TextState.{unended_bytes}
 
-flushed_on : {E : Type 0} {whole : Bool} (ps : List (List ℕ)) (p q : Pending) (o m n : Output) (g : Option E) (r : Result (Unit {0}) E) → Writes whole (written p ps) o m (outcome g) → Pends ps p q g → (g ≡ None → Writes whole (last_bytes q) m n r) → ((e : E) → g ≡ Some e → (r ≡ Err e) × (n ≡ m)) → Writes whole (written p ps ++ last_bytes (after p ps)) o n r
+flushed_on : {E : Type 0} {whole : Bool} (ps : List (List ℕ)) (p q : Pending) (o m n : Output)
+    (g : Option E) (r : Result (Unit {0}) E) → Writes whole (written p ps) o m (outcome g)
+    → Pends ps p q g → (g ≡ None → Writes whole (last_bytes q) m n r)
+    → ((e : E) → g ≡ Some e → (r ≡ Err e) × (n ≡ m))
+    → Writes whole (written p ps ++ last_bytes (after p ps)) o n r
 flushed_on ps p q o m n None r first is ends fails =
-    writes_as r (ap (λ z. written p ps ++ last_bytes z) is) (writes_then {t = tt} r first (ends refl))
+    writes_as r (ap (λ z. written p ps ++ last_bytes z) is)
+    (writes_then {t = tt} r first (ends refl))
 flushed_on {whole = whole} ps p q o m n (Some e) r first is ends fails =
     let at = fails e refl in
     subst (λ z. Writes whole (written p ps ++ last_bytes (after p ps)) o z r) (sym at.1)
-    (subst (λ z. Writes whole (written p ps ++ last_bytes (after p ps)) o m z) (sym at.0) (writes_err (last_bytes (after p ps)) first))
+    (subst (λ z. Writes whole (written p ps ++ last_bytes (after p ps)) o m z) (sym at.0)
+    (writes_err (last_bytes (after p ps)) first))
 
 -- the pieces from the first on, and the end
-pub flushed : {E : Type 0} {whole : Bool} {ps : List (List ℕ)} {a b : Seen E} {n : Output} {r : Result (Unit {0}) E} → a.failure ≡ None → a.pending ≡ nothing_yet → Wrote whole ps a b → Flushes whole b n r → Writes whole (text_bytes ps) a.output n r
+pub flushed : {E : Type 0} {whole : Bool} {ps : List (List ℕ)} {a b : TextSeen E} {n : Output}
+    {r : Result (Unit {0}) E} → a.failure ≡ None → a.pending ≡ nothing_yet → Wrote whole ps a b
+    → Flushes whole b n r → Writes whole (text_bytes ps) a.output n r
 flushed {whole = whole} {ps = ps} {a = a} {b = b} {n = n} {r = r} fine start w f =
     writes_as r (ap (λ z. written z ps ++ last_bytes (after z ps)) start)
-    (flushed_on ps a.pending b.pending a.output b.output n b.failure r (w.writes fine) (w.pends fine) f.ends f.fails)
+    (flushed_on ps a.pending b.pending a.output b.output n b.failure r (w.writes fine)
+    (w.pends fine) f.ends f.fails)
 
 none_some : {E : Type 0} (o : Option E) → o ≡ None → IsSome o → ⊥
 none_some None is h = cc
 none_some (Some e) is h = cc
 
 module _ {E : Type 0} {whole : Bool} where
-  pub collected_ok : (refuses : Bool) (ps : List (List ℕ)) {o n : Output} {u : Unit {0}} → refuses ≡ false → Writes {E = core.EncodeError E} whole (text_bytes ps) o n (Ok u) → Serializes {T = Unit {0}} {E = E} whole (text_item refuses ps) o n (Ok tt)
+  pub collected_ok : (refuses : Bool) (ps : List (List ℕ)) {o n : Output} {u : Unit {0}}
+      → refuses ≡ false → Writes {E = core.EncodeError E} whole (text_bytes ps) o n (Ok u)
+      → Serializes {T = Unit {0}} {E = E} whole (text_item refuses ps) o n (Ok tt)
   collected_ok true ps is w = absurd (cc)
-  collected_ok false ps is w = record { appends = w.appends; counts = w.counts; failed = tt; front = λ whole. tt }
+  collected_ok false ps is w =
+      record { appends = w.appends; counts = w.counts; failed = tt; front = λ whole. tt }
 
   -- the writer failed at the end of the text
-  pub collected_err : (refuses : Bool) (ps : List (List ℕ)) {o n : Output} {e : core.EncodeError E} → refuses ≡ false → Writes {T = Unit {0}} whole (text_bytes ps) o n (Err e) → Serializes {T = Unit {0}} {E = E} whole (text_item refuses ps) o n (Err (Core e))
+  pub collected_err : (refuses : Bool) (ps : List (List ℕ)) {o n : Output} {e : core.EncodeError E}
+      → refuses ≡ false → Writes {T = Unit {0}} whole (text_bytes ps) o n (Err e)
+      → Serializes {T = Unit {0}} {E = E} whole (text_item refuses ps) o n (Err (Core e))
   collected_err true ps is w = absurd (cc)
-  collected_err false ps is w = record { appends = tt; counts = tt; failed = w.failed; front = w.front }
+  collected_err false ps is w =
+      record { appends = tt; counts = tt; failed = w.failed; front = w.front }
 
   -- the writer failed in one of the pieces
-  pub collected_failed : (refuses : Bool) {ps : List (List ℕ)} {a b : Seen (core.EncodeError E)} (e : core.EncodeError E) → b.failure ≡ Some e → a.failure ≡ None → a.pending ≡ nothing_yet → Wrote whole ps a b → Serializes {T = Unit {0}} {E = E} whole (text_item refuses ps) a.output b.output (Err (Core e))
+  pub collected_failed : (refuses : Bool) {ps : List (List ℕ)} {a b : TextSeen (core.EncodeError E)}
+      (e : core.EncodeError E) → b.failure ≡ Some e → a.failure ≡ None → a.pending ≡ nothing_yet
+      → Wrote whole ps a b → Serializes {T = Unit {0}}
+      {E = E} whole (text_item refuses ps) a.output b.output (Err (Core e))
   collected_failed true {ps = ps} {a = a} {b = b} e is fine start w =
-      let at : Writes whole (unended_bytes ps) a.output b.output (Err e) = subst (λ z. Writes whole (unended_bytes ps) a.output b.output (outcome z)) is (subst (λ z. Writes whole (written z ps) a.output b.output (outcome b.failure)) start (w.writes fine)) in
+      let at : Writes whole (unended_bytes ps) a.output b.output (Err e) =
+      subst (λ z. Writes whole (unended_bytes ps) a.output b.output (outcome z)) is
+      (subst (λ z. Writes whole (written z ps) a.output b.output (outcome b.failure)) start
+      (w.writes fine)) in
       record { appends = tt; counts = tt; failed = at.failed; front = at.front }
   collected_failed false {ps = ps} {a = a} {b = b} e is fine start w =
-      let at : Writes whole (written a.pending ps) a.output b.output (outcome (Some e)) = subst (λ z. Writes whole (written a.pending ps) a.output b.output (outcome z)) is (w.writes fine) in
-      collected_err false ps refl (writes_as (Err e) (ap (λ z. written z ps ++ last_bytes (after z ps)) start) (writes_err (last_bytes (after a.pending ps)) at))
+      let at : Writes whole (written a.pending ps) a.output b.output (outcome (Some e)) =
+      subst (λ z. Writes whole (written a.pending ps) a.output b.output (outcome z)) is
+      (w.writes fine) in
+      collected_err false ps refl
+      (writes_as (Err e) (ap (λ z. written z ps ++ last_bytes (after z ps)) start)
+      (writes_err (last_bytes (after a.pending ps)) at))
 
   -- it refused by itself
-  pub collected_refused : (refuses : Bool) {ps : List (List ℕ)} {a b : Seen (core.EncodeError E)} (text : Bor (List ℕ)) → text.now ≡ codes "text refused" → b.failure ≡ None → a.failure ≡ None → a.pending ≡ nothing_yet → (refuses ≡ true) ⊎ IsSome b.failure → Wrote whole ps a b → Serializes {T = Unit {0}} {E = E} whole (text_item refuses ps) a.output b.output (Err (Custom text))
+  pub collected_refused : (refuses : Bool) {ps : List (List ℕ)}
+      {a b : TextSeen (core.EncodeError E)} (text : Bor (List ℕ)) → text.now ≡ codes "text refused"
+      → b.failure ≡ None → a.failure ≡ None → a.pending ≡ nothing_yet
+      → (refuses ≡ true) ⊎ IsSome b.failure → Wrote whole ps a b → Serializes {T = Unit {0}}
+      {E = E} whole (text_item refuses ps) a.output b.output (Err (Custom text))
   collected_refused true {ps = ps} {a = a} {b = b} text said is fine start why w =
-      let at : Writes whole (unended_bytes ps) a.output b.output (Ok tt) = subst (λ z. Writes whole (unended_bytes ps) a.output b.output (outcome z)) is (subst (λ z. Writes whole (written z ps) a.output b.output (outcome b.failure)) start (w.writes fine)) in
-      record { appends = tt; counts = tt; failed = ((at.appends, said), at.counts); front = λ whole held told. (unended_bytes ps, take-length (unended_bytes ps), at.appends held told) }
+      let at : Writes whole (unended_bytes ps) a.output b.output (Ok tt) =
+      subst (λ z. Writes whole (unended_bytes ps) a.output b.output (outcome z)) is
+      (subst (λ z. Writes whole (written z ps) a.output b.output (outcome b.failure)) start
+      (w.writes fine)) in
+      record {
+        appends = tt;
+        counts = tt;
+        failed = ((at.appends, said), at.counts);
+        front = λ whole held told.
+            (unended_bytes ps, take-length (unended_bytes ps), at.appends held told);
+      }
   collected_refused false text said is fine start (inl h) w = absurd (cc)
-  collected_refused false {b = b} text said is fine start (inr h) w = absurd (none_some b.failure is h)
+  collected_refused false {b = b} text said is fine start (inr h) w =
+      absurd (none_some b.failure is h)

@@ -1,11 +1,14 @@
 -- The pieces determine the chunks.
-use Rattle.std.proofs.Common.{◌≡◌, ℕ, ◌+◌, ◌<◌, List, [], ◌∷◌, ◌++◌, length, refl, sym, ap, ap₂, ◌∙◌, inl, inr, arith, append_assoc, length-append, subst}
+use Rattle.std.proofs.Common.{◌≡◌, ℕ, ◌+◌, ◌<◌, List, [], ◌∷◌, ◌++◌, length, refl, sym, ap, ap₂}
+use Rattle.std.proofs.Common.{◌∙◌, inl, inr, arith, append_assoc, length-append, subst}
 use Rattle.cbor4ii_items.specs.Strings.{joined, opening, closing}
-use Rattle.cbor4ii_ser.specs.Pieces.{most, without_empty, IsFull, IsChunk, IsCut, Chunks, one, several, counted_chunks}
+use Rattle.cbor4ii_ser.specs.Pieces.{chunk_most, without_empty, IsFull, IsChunkOf, IsCut, Chunks}
+use Rattle.cbor4ii_ser.specs.Pieces.{one, several, counted_chunks}
 
 pub joined_append : (ps qs : List (List ℕ)) → joined (ps ++ qs) ≡ joined ps ++ joined qs
 joined_append [] qs = refl
-joined_append (p ∷ ps) qs = ap (λ z. p ++ z) (joined_append ps qs) ∙ sym (append_assoc p (joined ps) (joined qs))
+joined_append (p ∷ ps) qs =
+    ap (λ z. p ++ z) (joined_append ps qs) ∙ sym (append_assoc p (joined ps) (joined qs))
 
 -- two fronts of one list: they are the same, or one goes on behind the other
 data Fronts (a b c d : List (List ℕ)) : Type 0 where
@@ -13,7 +16,8 @@ data Fronts (a b c d : List (List ℕ)) : Type 0 where
   longer : (x : List ℕ) (t : List (List ℕ)) → c ≡ a ++ (x ∷ t) → b ≡ x ∷ (t ++ d) → Fronts a b c d
   shorter : (x : List ℕ) (t : List (List ℕ)) → a ≡ c ++ (x ∷ t) → d ≡ x ∷ (t ++ b) → Fronts a b c d
 
-fronts_more : (x y : List ℕ) (a b c d : List (List ℕ)) → x ≡ y → Fronts a b c d → Fronts (x ∷ a) b (y ∷ c) d
+fronts_more : (x y : List ℕ) (a b c d : List (List ℕ)) → x ≡ y → Fronts a b c d
+    → Fronts (x ∷ a) b (y ∷ c) d
 fronts_more x y a b c d e (same p q) = same (ap₂ (λ u v. u ∷ v) e p) q
 fronts_more x y a b c d e (longer z t p q) = longer z t (ap₂ (λ u v. u ∷ v) (sym e) p) q
 fronts_more x y a b c d e (shorter z t p q) = shorter z t (ap₂ (λ u v. u ∷ v) e p) q
@@ -22,37 +26,53 @@ fronts : (a b c d : List (List ℕ)) → a ++ b ≡ c ++ d → Fronts a b c d
 fronts [] b [] d e = same refl e
 fronts [] b (y ∷ c) d e = longer y c refl e
 fronts (x ∷ a) b [] d e = shorter x a refl (sym e)
-fronts (x ∷ a) b (y ∷ c) d e = fronts_more x y a b c d (let h : x ≡ y = cc in h) (fronts a b c d (let h : a ++ b ≡ c ++ d = cc in h))
+fronts (x ∷ a) b (y ∷ c) d e =
+    fronts_more x y a b c d (let h : x ≡ y = cc in h)
+    (fronts a b c d (let h : a ++ b ≡ c ++ d = cc in h))
 
 -- a run that goes on behind a full chunk is too long
-too_long : (chunk other : List ℕ) (run more t : List (List ℕ)) (x : List ℕ) (rest : List (List ℕ)) → IsChunk chunk run → IsChunk other more → more ≡ run ++ (x ∷ t) → IsFull chunk (x ∷ rest) → ⊥
+too_long : (chunk other : List ℕ) (run more t : List (List ℕ)) (x : List ℕ) (rest : List (List ℕ))
+    → IsChunkOf chunk run → IsChunkOf other more → more ≡ run ++ (x ∷ t) → IsFull chunk (x ∷ rest)
+    → ⊥
 too_long chunk other run more t x rest is are e full =
     let bytes : length other ≡ length (joined run) + (length x + length (joined t)) =
-    ap length (are.joins ∙ (ap joined e ∙ joined_append run (x ∷ t))) ∙ (length-append (joined run) (x ++ joined t) ∙ ap (λ n. length (joined run) + n) (length-append x (joined t))) in
-    let runs : length more ≡ length run + length (x ∷ t) = ap length e ∙ length-append run (x ∷ t) in
+    ap length (are.joins ∙ (ap joined e ∙ joined_append run (x ∷ t))) ∙ (length-append (joined run)
+    (x ++ joined t) ∙ ap (λ n. length (joined run) + n) (length-append x (joined t))) in
+    let runs : length more ≡ length run + length (x ∷ t) =
+    ap length e ∙ length-append run (x ∷ t) in
     let one_more : 0 < length (x ∷ t) = omega arith in
     let some : 0 < length run = is.some in
-    let long : most < length chunk + length x = omega (arith, full, length-append chunk x) in
+    let long : chunk_most < length chunk + length x = omega (arith, full, length-append chunk x) in
     let is_run : length chunk ≡ length (joined run) = ap length is.joins in
-    elim are.short [ inl short ↦ omega (arith, short, bytes, long, is_run) | inr single ↦ omega (arith, single, runs, some, one_more) ]
+    elim are.short [
+      | inl short ↦ omega (arith, short, bytes, long, is_run)
+      | inr single ↦ omega (arith, single, runs, some, one_more)
+    ]
 
 no_run : (run rest : List (List ℕ)) → [] ≡ run ++ rest → 0 < length run → ⊥
 no_run run rest e h = omega (arith, h, ap length e, length-append run rest)
 
-pub cut_same : (pieces : List (List ℕ)) (cs ds : List (List ℕ)) → IsCut pieces cs → IsCut pieces ds → cs ≡ ds
+pub cut_same : (pieces : List (List ℕ)) (cs ds : List (List ℕ)) → IsCut pieces cs → IsCut pieces ds
+    → cs ≡ ds
 cut_same pieces [] [] p q = refl
 cut_same pieces [] (d ∷ ds) p q = absurd (no_run q.0 q.1 (sym p ∙ q.2) q.3.some)
 cut_same pieces (c ∷ cs) [] p q = absurd (no_run p.0 p.1 (sym q ∙ p.2) p.3.some)
 cut_same pieces (c ∷ cs) (d ∷ ds) p q =
     elim (fronts p.0 p.1 q.0 q.1 (sym p.2 ∙ q.2)) [
-      | same e f ↦ ap₂ (λ u v. u ∷ v) (p.3.joins ∙ (ap joined e ∙ sym q.3.joins)) (cut_same q.1 cs ds (subst (λ z. IsCut z cs) f p.5) q.5)
-      | longer x t e f ↦ absurd (too_long c d p.0 q.0 t x (t ++ q.1) p.3 q.3 e (subst (λ z. IsFull c z) f p.4))
-      | shorter x t e f ↦ absurd (too_long d c q.0 p.0 t x (t ++ p.1) q.3 p.3 e (subst (λ z. IsFull d z) f q.4))
+      | same e f ↦ ap₂ (λ u v. u ∷ v) (p.3.joins ∙ (ap joined e ∙ sym q.3.joins))
+          (cut_same q.1 cs ds (subst (λ z. IsCut z cs) f p.5) q.5)
+      | longer x t e f ↦
+          absurd (too_long c d p.0 q.0 t x (t ++ q.1) p.3 q.3 e (subst (λ z. IsFull c z) f p.4))
+      | shorter x t e f ↦
+          absurd (too_long d c q.0 p.0 t x (t ++ p.1) q.3 p.3 e (subst (λ z. IsFull d z) f q.4))
     ]
 
 -- of the same pieces there are no two texts
-pub chunks_same : (pieces : List (List ℕ)) (a b : List ℕ) → Chunks pieces a → Chunks pieces b → a ≡ b
+pub chunks_same : (pieces : List (List ℕ)) (a b : List ℕ) → Chunks pieces a → Chunks pieces b
+    → a ≡ b
 chunks_same pieces a b (one h e) (one k f) = e ∙ sym f
 chunks_same pieces a b (one h e) (several cs k cut f) = absurd (omega (arith, h, k))
 chunks_same pieces a b (several cs h cut e) (one k f) = absurd (omega (arith, h, k))
-chunks_same pieces a b (several cs h cut e) (several ds k other f) = e ∙ (ap (λ z. opening 3 ++ counted_chunks z ++ closing) (cut_same (without_empty pieces) cs ds cut other) ∙ sym f)
+chunks_same pieces a b (several cs h cut e) (several ds k other f) =
+    e ∙ (ap (λ z. opening 3 ++ counted_chunks z ++ closing)
+    (cut_same (without_empty pieces) cs ds cut other) ∙ sym f)

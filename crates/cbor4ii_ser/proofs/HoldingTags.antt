@@ -1,5 +1,6 @@
 -- Whether a tag stands in one of several values.
-use Rattle.std.proofs.Common.{◌≡◌, ℕ, ◌+◌, ◌<◌, List, [], ◌∷◌, ◌++◌, length, take, drop, get_or, Bool, true, false, ◌||◌, refl, sym, ap, ap₂, ◌∙◌}
+use Rattle.std.proofs.Common.{◌≡◌, ℕ, ◌+◌, ◌<◌, List, [], ◌∷◌, ◌++◌, length, take, drop, get_or}
+use Rattle.std.proofs.Common.{Bool, true, false, ◌||◌, refl, sym, ap, ap₂, ◌∙◌}
 use Rattle.std.proofs.lemmas.List.{take_more, take-append-drop}
 use Rattle.cbor4ii_tree.specs.View.{view, items_view, members_view}
 use Rattle.cbor4ii_tree.specs.declared.value.Value.{Value}
@@ -24,20 +25,27 @@ module _ {V : Type 0} (test : V → Bool) where
 
   some_append : (us ws : List V) → some (us ++ ws) ≡ (some us || some ws)
   some_append [] ws = refl
-  some_append (u ∷ us) ws = ap (λ z. test u || z) (some_append us ws) ∙ sym (or_assoc (test u) (some us) (some ws))
+  some_append (u ∷ us) ws =
+      ap (λ z. test u || z) (some_append us ws) ∙ sym (or_assoc (test u) (some us) (some ws))
 
-  some_more : (xs : List V) (i : ℕ) (x : V) → i < length xs → x ≡ get_or xs i x → some (take (i + 1) xs) ≡ (some (take i xs) || test x)
+  some_more : (xs : List V) (i : ℕ) (x : V) → i < length xs → x ≡ get_or xs i x
+      → some (take (i + 1) xs) ≡ (some (take i xs) || test x)
   some_more xs i x lt is =
-      ap some (take_more xs i x lt) ∙ (some_append (take i xs) (get_or xs i x ∷ []) ∙ ap (λ z. some (take i xs) || z) (or_false (test (get_or xs i x)) ∙ ap test (sym is)))
+      ap some (take_more xs i x lt)
+      ∙ (some_append (take i xs) (get_or xs i x ∷ []) ∙ ap (λ z. some (take i xs) || z)
+      (or_false (test (get_or xs i x)) ∙ ap test (sym is)))
 
-  none_more : (xs : List V) (i : ℕ) (x : V) → i < length xs → x ≡ get_or xs i x → some (take i xs) ≡ false → test x ≡ false → some (take (i + 1) xs) ≡ false
+  none_more : (xs : List V) (i : ℕ) (x : V) → i < length xs → x ≡ get_or xs i x
+      → some (take i xs) ≡ false → test x ≡ false → some (take (i + 1) xs) ≡ false
   none_more xs i x lt is h k = some_more xs i x lt is ∙ ap₂ (λ a b. a || b) h k
 
-  one_found : (xs : List V) (i : ℕ) (x : V) → i < length xs → x ≡ get_or xs i x → test x ≡ true → some xs ≡ true
+  one_found : (xs : List V) (i : ℕ) (x : V) → i < length xs → x ≡ get_or xs i x → test x ≡ true
+      → some xs ≡ true
   one_found xs i x lt is h =
       sym (ap some (take-append-drop (i + 1) xs))
       ∙ (some_append (take (i + 1) xs) (drop (i + 1) xs)
-      ∙ ap (λ z. z || some (drop (i + 1) xs)) (some_more xs i x lt is ∙ (ap (λ z. some (take i xs) || z) h ∙ or_true (some (take i xs)))))
+      ∙ ap (λ z. z || some (drop (i + 1) xs)) (some_more xs i x lt is
+      ∙ (ap (λ z. some (take i xs) || z) h ∙ or_true (some (take i xs)))))
 
 -- ---- values
 
@@ -45,24 +53,40 @@ items_some : (vs : List Value) → some_holds_tag (items_view vs) ≡ some (λ v
 items_some [] = refl
 items_some (v ∷ vs) = ap (λ z. holds_tag (view v) || z) (items_some vs)
 
-pub items_none : (xs : List Value) (i : ℕ) (x : Value) → i < length xs → x ≡ get_or xs i x → some_holds_tag (items_view (take i xs)) ≡ false → holds_tag (view x) ≡ false → some_holds_tag (items_view (take (i + 1) xs)) ≡ false
-items_none xs i x lt is h k = items_some (take (i + 1) xs) ∙ none_more (λ v. holds_tag (view v)) xs i x lt is (sym (items_some (take i xs)) ∙ h) k
+pub items_none : (xs : List Value) (i : ℕ) (x : Value) → i < length xs → x ≡ get_or xs i x
+    → some_holds_tag (items_view (take i xs)) ≡ false → holds_tag (view x) ≡ false
+    → some_holds_tag (items_view (take (i + 1) xs)) ≡ false
+items_none xs i x lt is h k =
+    items_some (take (i + 1) xs)
+    ∙ none_more (λ v. holds_tag (view v)) xs i x lt is (sym (items_some (take i xs)) ∙ h) k
 
-pub items_found : (xs : List Value) (i : ℕ) (x : Value) → i < length xs → x ≡ get_or xs i x → holds_tag (view x) ≡ true → some_holds_tag (items_view xs) ≡ true
+pub items_found : (xs : List Value) (i : ℕ) (x : Value) → i < length xs → x ≡ get_or xs i x
+    → holds_tag (view x) ≡ true → some_holds_tag (items_view xs) ≡ true
 items_found xs i x lt is h = items_some xs ∙ one_found (λ v. holds_tag (view v)) xs i x lt is h
 
 -- ---- entries
 
-members_some : (ms : List (Value × Value)) → members_hold_tag (members_view ms) ≡ some (λ m. holds_tag (view m.0) || holds_tag (view m.1)) ms
+members_some : (ms : List (Value × Value)) → members_hold_tag (members_view ms) ≡ some
+    (λ m. holds_tag (view m.0) || holds_tag (view m.1)) ms
 members_some [] = refl
-members_some (m ∷ ms) = ap (λ z. (holds_tag (view m.0) || holds_tag (view m.1)) || z) (members_some ms)
+members_some (m ∷ ms) =
+    ap (λ z. (holds_tag (view m.0) || holds_tag (view m.1)) || z) (members_some ms)
 
-module _ (xs : List (Value × Value)) (i : ℕ) (x : Value × Value) (lt : i < length xs) (is : x ≡ get_or xs i x) where
-  pub members_none : members_hold_tag (members_view (take i xs)) ≡ false → holds_tag (view x.0) ≡ false → holds_tag (view x.1) ≡ false → members_hold_tag (members_view (take (i + 1) xs)) ≡ false
-  members_none h k l = members_some (take (i + 1) xs) ∙ none_more (λ m. holds_tag (view m.0) || holds_tag (view m.1)) xs i x lt is (sym (members_some (take i xs)) ∙ h) (ap₂ (λ a b. a || b) k l)
+module _ (xs : List (Value × Value)) (i : ℕ) (x : Value × Value) (lt : i < length xs)
+    (is : x ≡ get_or xs i x) where
+  pub members_none : members_hold_tag (members_view (take i xs)) ≡ false
+      → holds_tag (view x.0) ≡ false → holds_tag (view x.1) ≡ false
+      → members_hold_tag (members_view (take (i + 1) xs)) ≡ false
+  members_none h k l =
+      members_some (take (i + 1) xs) ∙ none_more (λ m. holds_tag (view m.0) || holds_tag (view m.1))
+      xs i x lt is (sym (members_some (take i xs)) ∙ h) (ap₂ (λ a b. a || b) k l)
 
   pub key_found : holds_tag (view x.0) ≡ true → members_hold_tag (members_view xs) ≡ true
-  key_found h = members_some xs ∙ one_found (λ m. holds_tag (view m.0) || holds_tag (view m.1)) xs i x lt is (ap (λ a. a || holds_tag (view x.1)) h)
+  key_found h =
+      members_some xs ∙ one_found (λ m. holds_tag (view m.0) || holds_tag (view m.1)) xs i x lt is
+      (ap (λ a. a || holds_tag (view x.1)) h)
 
   pub value_found : holds_tag (view x.1) ≡ true → members_hold_tag (members_view xs) ≡ true
-  value_found h = members_some xs ∙ one_found (λ m. holds_tag (view m.0) || holds_tag (view m.1)) xs i x lt is (ap (λ b. holds_tag (view x.0) || b) h ∙ or_true (holds_tag (view x.0)))
+  value_found h =
+      members_some xs ∙ one_found (λ m. holds_tag (view m.0) || holds_tag (view m.1)) xs i x lt is
+      (ap (λ b. holds_tag (view x.0) || b) h ∙ or_true (holds_tag (view x.0)))

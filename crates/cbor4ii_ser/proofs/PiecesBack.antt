@@ -1,14 +1,19 @@
 -- A text in pieces is read as the pieces joined.
-use Rattle.std.proofs.Common.{◌≡◌, ℕ, suc, ◌+◌, ◌<◌, ◌≤◌, ◌^◌, List, [], ◌∷◌, ◌++◌, length, take, drop, refl, sym, ap, ap₂, ◌∙◌, inl, inr, arith, append_assoc, length-append, subst}
+use Rattle.std.proofs.Common.{◌≡◌, ℕ, suc, ◌+◌, ◌<◌, ◌≤◌, ◌^◌, List, [], ◌∷◌, ◌++◌, length, take}
+use Rattle.std.proofs.Common.{drop, refl, sym, ap, ap₂, ◌∙◌, inl, inr, arith, append_assoc}
+use Rattle.std.proofs.Common.{length-append, subst}
 use Rattle.std.specs.Prelude.{All, IsUtf8}
 use Rattle.std.proofs.Math.Seq.{drop-append_seam}
 use Rattle.std.proofs.lemmas.List.{append-nil}
 use Rattle.std.proofs.lemmas.List.Elements.{All-head, All-tail}
 use Rattle.std.proofs.lemmas.Str.{IsUtf8-nil, IsUtf8-append}
-use Rattle.cbor4ii_items.specs.Strings.{joined, counted_string, opening, closing, ReadsCountedString, ReadsChunks, ReadsOpenString, ReadsTextAs, chunk_cost}
+use Rattle.cbor4ii_items.specs.Strings.{joined, counted_string, opening, closing}
+use Rattle.cbor4ii_items.specs.Strings.{ReadsCountedString, ReadsChunks, ReadsOpenString}
+use Rattle.cbor4ii_items.specs.Strings.{ReadsTextAs, chunk_cost}
 use Rattle.cbor4ii_items.specs.ReadBack.{ReadsBack}
 use Rattle.cbor4ii_items.specs.Laws.LeavesBack.{counted_back}
-use Rattle.cbor4ii_ser.specs.Pieces.{without_empty, IsChunk, IsCut, Chunks, one, several, counted_chunks}
+use Rattle.cbor4ii_ser.specs.Pieces.{without_empty, IsChunkOf, IsCut, Chunks, one, several}
+use Rattle.cbor4ii_ser.specs.Pieces.{counted_chunks}
 use Rattle.cbor4ii_ser.proofs.Determined.{joined_append}
 use Rattle.cbor4ii_ser.proofs.Greedy.{joined_without_empty}
 
@@ -25,17 +30,26 @@ all_short (p ∷ ps) h =
 
 utf8_joined : (ps : List (List ℕ)) → All IsUtf8 ps → IsUtf8 (joined ps)
 utf8_joined [] h = IsUtf8-nil
-utf8_joined (p ∷ ps) h = IsUtf8-append p (joined ps) (All-head IsUtf8 p ps h) (utf8_joined ps (All-tail IsUtf8 p ps h))
+utf8_joined (p ∷ ps) h =
+    IsUtf8-append p (joined ps) (All-head IsUtf8 p ps h) (utf8_joined ps (All-tail IsUtf8 p ps h))
 
-chunks_back : (cs : List (List ℕ)) (rest : List ℕ) → AllShort cs → ReadsChunks 3 cs (counted_chunks cs ++ rest) (length (counted_chunks cs))
+chunks_back : (cs : List (List ℕ)) (rest : List ℕ) → AllShort cs
+    → ReadsChunks 3 cs (counted_chunks cs ++ rest) (length (counted_chunks cs))
 chunks_back [] rest h = refl
 chunks_back (c ∷ cs) rest h =
-    let whole : (counted_string 3 c ++ counted_chunks cs) ++ rest ≡ counted_string 3 c ++ (counted_chunks cs ++ rest) = append_assoc (counted_string 3 c) (counted_chunks cs) rest in
-    let left : drop (length (counted_string 3 c)) ((counted_string 3 c ++ counted_chunks cs) ++ rest) ≡ counted_chunks cs ++ rest = ap (drop (length (counted_string 3 c))) whole ∙ drop-append_seam (counted_string 3 c) (counted_chunks cs ++ rest) in (
+    let whole : (counted_string 3 c ++ counted_chunks cs) ++ rest ≡ counted_string 3 c
+    ++ (counted_chunks cs ++ rest) =
+    append_assoc (counted_string 3 c) (counted_chunks cs) rest in
+    let left : drop (length (counted_string 3 c))
+    ((counted_string 3 c ++ counted_chunks cs) ++ rest) ≡ counted_chunks cs ++ rest =
+    ap (drop (length (counted_string 3 c))) whole
+    ∙ drop-append_seam (counted_string 3 c) (counted_chunks cs ++ rest) in (
       length (counted_string 3 c),
       length (counted_chunks cs),
-      subst (λ z. ReadsCountedString 3 z c (length (counted_string 3 c))) (sym whole) (counted_back 3 c (counted_chunks cs ++ rest) h.0),
-      subst (λ z. ReadsChunks 3 cs z (length (counted_chunks cs))) (sym left) (chunks_back cs rest h.1),
+      subst (λ z. ReadsCountedString 3 z c (length (counted_string 3 c))) (sym whole)
+          (counted_back 3 c (counted_chunks cs ++ rest) h.0),
+      subst (λ z. ReadsChunks 3 cs z (length (counted_chunks cs))) (sym left)
+          (chunks_back cs rest h.1),
       length-append (counted_string 3 c) (counted_chunks cs),
     )
 
@@ -52,13 +66,18 @@ short_without_empty [] h = tt
 short_without_empty ([] ∷ ps) h = short_without_empty ps h.1
 short_without_empty ((b ∷ bs) ∷ ps) h = (h.0, short_without_empty ps h.1)
 
-short_one : (c : List ℕ) (run : List (List ℕ)) → length run ≡ 1 → c ≡ joined run → AllShort run → length c < 2 ^ 64
+short_one : (c : List ℕ) (run : List (List ℕ)) → length run ≡ 1 → c ≡ joined run → AllShort run
+    → length c < 2 ^ 64
 short_one c [] e is h = absurd (omega (arith, e))
 short_one c (p ∷ []) e is h = omega (arith, h.0, ap length (is ∙ append-nil p))
 short_one c (p ∷ (q ∷ run)) e is h = absurd (omega (arith, e))
 
-short_chunk : (c : List ℕ) (run : List (List ℕ)) → IsChunk c run → AllShort run → length c < 2 ^ 64
-short_chunk c run is h = elim is.short [ inl short ↦ omega (arith, short) | inr single ↦ short_one c run single is.joins h ]
+short_chunk : (c : List ℕ) (run : List (List ℕ)) → IsChunkOf c run → AllShort run
+    → length c < 2 ^ 64
+short_chunk c run is h = elim is.short [
+  | inl short ↦ omega (arith, short)
+  | inr single ↦ short_one c run single is.joins h
+]
 
 short_cut : (ps cs : List (List ℕ)) → IsCut ps cs → AllShort ps → AllShort cs
 short_cut ps [] p h = tt
@@ -68,16 +87,22 @@ short_cut ps (c ∷ cs) p h =
 
 joined_cut : (ps cs : List (List ℕ)) → IsCut ps cs → joined ps ≡ joined cs
 joined_cut ps [] p = ap joined p
-joined_cut ps (c ∷ cs) p = ap joined p.2 ∙ (joined_append p.0 p.1 ∙ ap₂ (λ u v. u ++ v) (sym p.3.joins) (joined_cut p.1 cs p.5))
+joined_cut ps (c ∷ cs) p =
+    ap joined p.2
+    ∙ (joined_append p.0 p.1 ∙ ap₂ (λ u v. u ++ v) (sym p.3.joins) (joined_cut p.1 cs p.5))
 
 drop_behind : (b : ℕ) (xs : List ℕ) (n : ℕ) → drop (1 + n) (b ∷ xs) ≡ drop n xs
 drop_behind b xs n = let e : 1 + n ≡ suc n = omega arith in ap (λ j. drop j (b ∷ xs)) e
 
-open_back : (ps cs : List (List ℕ)) (rest : List ℕ) → joined ps ≡ joined cs → AllShort cs → ReadsOpenString 3 ((opening 3 ++ counted_chunks cs ++ closing) ++ rest) (joined ps) (length (opening 3 ++ counted_chunks cs ++ closing)) (chunk_cost cs)
+open_back : (ps cs : List (List ℕ)) (rest : List ℕ) → joined ps ≡ joined cs → AllShort cs
+    → ReadsOpenString 3 ((opening 3 ++ counted_chunks cs ++ closing) ++ rest) (joined ps)
+    (length (opening 3 ++ counted_chunks cs ++ closing)) (chunk_cost cs)
 open_back ps cs rest is h =
     let n = length (counted_chunks cs) in
-    let whole : (counted_chunks cs ++ closing) ++ rest ≡ counted_chunks cs ++ (closing ++ rest) = append_assoc (counted_chunks cs) closing rest in
-    let left : drop n ((counted_chunks cs ++ closing) ++ rest) ≡ closing ++ rest = ap (drop n) whole ∙ drop-append_seam (counted_chunks cs) (closing ++ rest) in
+    let whole : (counted_chunks cs ++ closing) ++ rest ≡ counted_chunks cs ++ (closing ++ rest) =
+    append_assoc (counted_chunks cs) closing rest in
+    let left : drop n ((counted_chunks cs ++ closing) ++ rest) ≡ closing ++ rest =
+    ap (drop n) whole ∙ drop-append_seam (counted_chunks cs) (closing ++ rest) in
     record {
       begins = refl;
       chunks = cs;
@@ -85,7 +110,9 @@ open_back ps cs rest is h =
       read = subst (λ z. ReadsChunks 3 cs z n) (sym whole) (chunks_back cs (closing ++ rest) h);
       ends = ap (take 1) (drop_behind 127 ((counted_chunks cs ++ closing) ++ rest) n ∙ left);
       value = is;
-      size = (let m : length (counted_chunks cs ++ closing) ≡ n + 1 = length-append (counted_chunks cs) closing in omega (arith, m));
+      size =
+          (let m : length (counted_chunks cs ++ closing) ≡ n + 1 =
+          length-append (counted_chunks cs) closing in omega (arith, m));
       cost = refl;
     }
 
@@ -98,19 +125,31 @@ abbrev pub pieces_cost : (pieces : List (List ℕ)) (bytes : List ℕ) → Chunk
 pieces_cost pieces bytes (one short e) = 0
 pieces_cost pieces bytes (several cs long cut e) = chunk_cost cs
 
-pub pieces_cost_small : (pieces : List (List ℕ)) (bytes : List ℕ) (is : Chunks pieces bytes) → pieces_cost pieces bytes is ≤ 1
+pub pieces_cost_small : (pieces : List (List ℕ)) (bytes : List ℕ) (is : Chunks pieces bytes)
+    → pieces_cost pieces bytes is ≤ 1
 pieces_cost_small pieces bytes (one short e) = omega arith
 pieces_cost_small pieces bytes (several cs long cut e) = one_step cs
 
-module _ {V : Type 0} (content : V → List ℕ) (v : V) (pieces : List (List ℕ)) (bytes : List ℕ) (fits : length (joined pieces) < 2 ^ 64) where
-  pub pieces_back : content v ≡ joined pieces → All IsUtf8 pieces → (is : Chunks pieces bytes) → ReadsBack (ReadsTextAs content) bytes v (pieces_cost pieces bytes is)
+module _ {V : Type 0} (content : V → List ℕ) (v : V) (pieces : List (List ℕ)) (bytes : List ℕ)
+    (fits : length (joined pieces) < 2 ^ 64) where
+  pub pieces_back : content v ≡ joined pieces → All IsUtf8 pieces → (is : Chunks pieces bytes)
+      → ReadsBack (ReadsTextAs content) bytes v (pieces_cost pieces bytes is)
   pieces_back has utf8 (one short e) rest = (
-    inl (subst (λ z. ReadsCountedString 3 (bytes ++ rest) z (length bytes)) (sym has) (subst (λ z. ReadsCountedString 3 (z ++ rest) (joined pieces) (length z)) (sym e) (counted_back 3 (joined pieces) rest fits)), refl),
+    inl (
+      subst (λ z. ReadsCountedString 3 (bytes ++ rest) z (length bytes)) (sym has)
+          (subst (λ z. ReadsCountedString 3 (z ++ rest) (joined pieces) (length z)) (sym e)
+          (counted_back 3 (joined pieces) rest fits)),
+      refl,
+    ),
     subst IsUtf8 (sym has) (utf8_joined pieces utf8),
   )
   pieces_back has utf8 (several cs long cut e) rest =
-      let is : joined pieces ≡ joined cs = sym (joined_without_empty pieces) ∙ joined_cut (without_empty pieces) cs cut in
-      let read = open_back pieces cs rest is (short_cut (without_empty pieces) cs cut (short_without_empty pieces (all_short pieces fits))) in (
-        inr (subst (λ z. ReadsOpenString 3 (bytes ++ rest) z (length bytes) (chunk_cost cs)) (sym has) (subst (λ z. ReadsOpenString 3 (z ++ rest) (joined pieces) (length z) (chunk_cost cs)) (sym e) read)),
+      let is : joined pieces ≡ joined cs =
+      sym (joined_without_empty pieces) ∙ joined_cut (without_empty pieces) cs cut in
+      let read = open_back pieces cs rest is (short_cut (without_empty pieces) cs cut
+      (short_without_empty pieces (all_short pieces fits))) in (
+        inr (subst (λ z. ReadsOpenString 3 (bytes ++ rest) z (length bytes) (chunk_cost cs))
+            (sym has) (subst (λ z. ReadsOpenString 3 (z ++ rest) (joined pieces) (length z)
+            (chunk_cost cs)) (sym e) read)),
         subst IsUtf8 (sym has) (utf8_joined pieces utf8),
       )

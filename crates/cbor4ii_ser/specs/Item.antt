@@ -1,9 +1,11 @@
--- What is written for a typed value: its item; or, of a value that is refused, what stands before that, and the words that say why.
+-- What is written for a typed value: its item; or, of a value that is refused, what stands before
+-- that, and the words that say why.
 use Rattle.std.specs.Prelude.{ℕ, List, [], ◌∷◌, ◌++◌, length, Option, None, Some}
 use Rattle.cbor4ii_items.specs.Numbers.{shortest_head}
 use Rattle.cbor4ii_items.specs.Strings.{counted_string}
 
--- all the bytes, of an item (RFC 8949 section 1.2: encoded data item) or of a part of one; or those before the place at which the value is refused, and the refusal's words
+-- all the bytes, of an item (RFC 8949 section 1.2: encoded data item) or of a part of one; or those
+-- before the place at which the value is refused, and the refusal's words
 pub data Encoding : Type 0 where
   encoded : List ℕ → Encoding
   refused : List ℕ → List ℕ → Encoding
@@ -37,13 +39,13 @@ followed (encoded xs) (encoded ys) = encoded (xs ++ ys)
 -- ---- arrays
 
 -- each value's item, in order
-abbrev pub items_of : {V : Type 0} → (V → Encoding) → List V → Encoding
-items_of item [] = encoded []
-items_of item (v ∷ vs) = followed (item v) (items_of item vs)
+abbrev pub each_item : {V : Type 0} → (V → Encoding) → List V → Encoding
+each_item item [] = encoded []
+each_item item (v ∷ vs) = followed (item v) (each_item item vs)
 
 -- parts, one behind another
 abbrev pub parts : List Encoding → Encoding
-parts = items_of (λ part. part)
+parts = each_item (λ part. part)
 
 -- an array of so many parts (RFC 8949 section 3.1)
 abbrev pub tuple_item : List Encoding → Encoding
@@ -51,7 +53,7 @@ tuple_item ps = followed (encoded (shortest_head 4 (length ps))) (parts ps)
 
 -- an array of values
 abbrev pub array_item : {V : Type 0} → (V → Encoding) → List V → Encoding
-array_item item vs = followed (encoded (shortest_head 4 (length vs))) (items_of item vs)
+array_item item vs = followed (encoded (shortest_head 4 (length vs))) (each_item item vs)
 
 -- ---- maps
 
@@ -61,7 +63,8 @@ entry_item key value entry = followed (key entry.0) (value entry.1)
 
 -- a map of keys to values, in the order of the list
 abbrev pub map_item : {K V : Type 0} → (K → Encoding) → (V → Encoding) → List (K × V) → Encoding
-map_item key value entries = followed (encoded (shortest_head 5 (length entries))) (items_of (entry_item key value) entries)
+map_item key value entries =
+    followed (encoded (shortest_head 5 (length entries))) (each_item (entry_item key value) entries)
 
 -- a name as a text, and its value behind it
 abbrev pub field : List ℕ → Encoding → Encoding
@@ -88,8 +91,10 @@ variant_item name content = followed (encoded (variant_head name)) content
 
 -- a variant whose content is an array of so many parts
 abbrev pub tuple_variant_item : List ℕ → List Encoding → Encoding
-tuple_variant_item name ps = followed (encoded (variant_head name ++ shortest_head 4 (length ps))) (parts ps)
+tuple_variant_item name ps =
+    followed (encoded (variant_head name ++ shortest_head 4 (length ps))) (parts ps)
 
 -- a variant whose content is a map of so many fields
 abbrev pub struct_variant_item : List ℕ → List Encoding → Encoding
-struct_variant_item name fields = followed (encoded (variant_head name ++ shortest_head 5 (length fields))) (parts fields)
+struct_variant_item name fields =
+    followed (encoded (variant_head name ++ shortest_head 5 (length fields))) (parts fields)

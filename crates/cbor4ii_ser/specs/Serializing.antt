@@ -12,18 +12,24 @@ use Rattle.cbor4ii_ser.specs.declared.serializer.Serializer.{Serializer}
 abbrev pub output : {W : Type 0} → (W → Output) → Serializer W → Output
 output view ser = view ser.writer
 
--- why a call failed: the writer did; or the value is refused in these words, what stands before that is appended, and the writer did not fail
+-- why a call failed: the writer did; or the value is refused in these words, what stands before
+-- that is appended, and the writer did not fail
 abbrev pub Blames : {E : Type 0} → Encoding → Output → Output → EncodeError E → Type 0
 Blames item old new (Core error) = Failed old.failures new.failures
-Blames item old new (Custom text) = IsRefusedAnd item (λ bytes words. Appends bytes old.written new.written × (text.now ≡ words)) × (new.failures ≡ old.failures)
+Blames item old new (Custom text) =
+    IsRefusedAnd item (λ bytes words. Appends bytes old.written new.written × (text.now ≡ words))
+    × (new.failures ≡ old.failures)
 
--- The call wrote the item; or the writer failed in it; or the value is refused, and it says so in its words behind exactly what stands before that. Where
--- the writer failed, one that is whole has a beginning of all that.
-pub record Serializes {T E : Type 0} (whole : Bool) (item : Encoding) (old new : Output) (answer : Result T (EncodeError E)) : Type 0 where
+-- The call wrote the item; or the writer failed in it; or the value is refused, and it says so in
+-- its words behind exactly what stands before that. Where the writer failed, one that is whole has
+-- a beginning of all that.
+pub record Serializes {T E : Type 0} (whole : Bool) (item : Encoding) (old new : Output)
+    (answer : Result T (EncodeError E)) : Type 0 where
   pub appends : OnOk answer (IsEncodedAnd item (λ bytes. Appends bytes old.written new.written))
   pub counts : OnOk answer (new.failures ≡ old.failures)
   pub failed : IfErr answer (Blames item old new)
-  pub front : IsTrue whole → OnErr answer (AppendsFront (bytes_written item) old.written new.written)
+  pub front : IsTrue whole
+      → OnErr answer (AppendsFront (bytes_written item) old.written new.written)
 
 -- where the answer is a text, the value is refused in these words
 abbrev pub SaysWhy : {E : Type 0} → Encoding → EncodeError E → Type 0
@@ -31,7 +37,8 @@ SaysWhy item (Core error) = Unit {0}
 SaysWhy item (Custom text) = IsRefusedAnd item (λ bytes words. text.now ≡ words)
 
 -- The key is written, and the call stopped in the value behind it.
-pub record StopsAtValue {E : Type 0} (whole : Bool) (key value : Encoding) (old new : Output) (answer : Result (Unit {0}) (EncodeError E)) : Type 0 where
+pub record StopsAtValue {E : Type 0} (whole : Bool) (key value : Encoding) (old new : Output)
+    (answer : Result (Unit {0}) (EncodeError E)) : Type 0 where
   pub between : Output
   pub first : Serializes {T = Unit {0}} {E = E} whole key old between (Ok tt)
   pub second : Serializes whole value between new answer

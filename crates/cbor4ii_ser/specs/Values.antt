@@ -1,6 +1,9 @@
--- Values of the tree as typed values: those that hold no tag have an item, their canonical spelling.
+-- Values of the tree as typed values: those that hold no tag have an item, their canonical
+-- spelling.
 use Rattle.std.specs.Prelude.{ℕ, List, [], Bool, true, false, ◌||◌, codes}
-use Rattle.cbor4ii_tree.specs.Item.{Item, null, boolean, integer, float, bytes_item, text, sequence, mapping, tag, Items, no_items, item, Members, no_members, member}
+use Rattle.cbor4ii_tree.specs.Item.{Item, null, boolean, integer, float, bytes_item, text, sequence}
+use Rattle.cbor4ii_tree.specs.Item.{mapping, tag, Items, no_items, item, Members, no_members}
+use Rattle.cbor4ii_tree.specs.Item.{member}
 use Rattle.cbor4ii_tree.specs.Canonical.{canon}
 use Rattle.cbor4ii_ser.specs.Item.{Encoding, encoded, refused}
 

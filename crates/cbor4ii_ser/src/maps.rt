@@ -1,5 +1,5 @@
 //! Maps that are there as a whole.
-ghost use Rattle.cbor4ii_ser.specs.Item.{followed, items_of, entry_item, map_item};
+ghost use Rattle.cbor4ii_ser.specs.Item.{followed, each_item, entry_item, map_item};
 ghost use Rattle.cbor4ii_ser.specs.Serializing.{Serializes, output};
 
 use crate::error::EncodeError;
@@ -32,7 +32,7 @@ fn put_entries<W: Write, K: Serialize + Ord, V: Serialize>(
     ser: &mut Serializer<W>,
     map: &BTreeMap<K, V>,
 ) -> Result<(), EncodeError<W::Error>>
-    ensures { Serializes W.whole (items_of (entry_item K.item V.item) map.now.entries)
+    ensures { Serializes W.whole (each_item (entry_item K.item V.item) map.now.entries)
         (output W.view ser.old) (output W.view ser.new) result }
 {
     for (key, value) in map {

@@ -1,5 +1,5 @@
 //! Arrays that are there as a whole.
-ghost use Rattle.cbor4ii_ser.specs.Item.{items_of, array_item};
+ghost use Rattle.cbor4ii_ser.specs.Item.{each_item, array_item};
 ghost use Rattle.cbor4ii_ser.specs.Serializing.{Serializes, output};
 
 use crate::error::EncodeError;
@@ -31,7 +31,7 @@ fn put_items<W: Write, T: Serialize>(
     ser: &mut Serializer<W>,
     items: &[T],
 ) -> Result<(), EncodeError<W::Error>>
-    ensures { Serializes W.whole (items_of T.item items.now)
+    ensures { Serializes W.whole (each_item T.item items.now)
         (output W.view ser.old) (output W.view ser.new) result }
 {
     for item in items {

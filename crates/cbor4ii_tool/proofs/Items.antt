@@ -12,7 +12,7 @@ use Rattle.cbor4ii_items.specs.Moves.{Moves, Kept}
 use Rattle.cbor4ii_items.specs.Decoding.{Stops as StopsBy}
 use Rattle.cbor4ii_items.specs.Refusal.{Refusal, refusal_of, is_out_of_memory}
 use Rattle.cbor4ii_tree.specs.Tree.{Tree, bytes}
-use Rattle.cbor4ii_tree.specs.Spelling.{Skips, Reads}
+use Rattle.cbor4ii_tree.specs.Spelling.{Skips, ReadsPlainly}
 use Rattle.cbor4ii_tree.specs.Canonical.{canon}
 use Rattle.cbor4ii_tree.specs.View.{view}
 use Rattle.cbor4ii_tree.specs.Promises.{AllReads, AllSkips}
@@ -219,7 +219,7 @@ no_value (ReadError e) a b budget all xs told = tt
 no_value NoMemory a b budget all xs told = tt
 no_value _ a b budget all xs told =
     λ (w, ys, (v, reads, is)).
-    all xs told v ys (subst (λ (left : Option ℕ). Reads xs left v ys) (sym budget) reads)
+    all xs told v ys (subst (λ (left : Option ℕ). ReadsPlainly xs left v ys) (sym budget) reads)
 
 pub value_fails : {E : Type 0} (error : DecodeError E) (a b : View) (held : Output)
     → a.budget ≡ Some 256 → Moves {V = Value} a b (Err error) → StopsBy StopsReading a b error
@@ -230,7 +230,8 @@ value_fails error a b held budget moves stop all =
 
 pub value_done : (v : Value) (a b : View) (held holds : Output) → a.budget ≡ Some 256 → Kept a b
     → b.bound + 1 ≤ a.bound
-    → Told a.told (λ xs. (rest : List ℕ) × (b.told ≡ Some rest) × Reads xs a.budget (view v) rest)
+    → Told a.told
+    (λ xs. (rest : List ℕ) × (b.told ≡ Some rest) × ReadsPlainly xs a.budget (view v) rest)
     → Appends (canon (view v)) held.written holds.written → holds.failures ≡ held.failures
     → Done Canon a b held holds
 value_done v a b held holds budget kept bound reads appends same = record {
@@ -239,7 +240,7 @@ value_done v a b held holds budget kept bound reads appends same = record {
   failures = same;
   item = λ xs told.
       let r = reads xs told in
-      let value = subst (λ (left : Option ℕ). Reads xs left (view v) r.0) budget r.2 in
+      let value = subst (λ (left : Option ℕ). ReadsPlainly xs left (view v) r.0) budget r.2 in
       record {
         text = canon (view v);
         rest = r.0;
@@ -251,7 +252,7 @@ value_done v a b held holds budget kept bound reads appends same = record {
 
 pub value_unwritten : (v : Value) (a b : View) (held holds : Output) → a.budget ≡ Some 256
     → Kept a b → Told a.told
-    (λ xs. (rest : List ℕ) × (b.told ≡ Some rest) × Reads xs a.budget (view v) rest)
+    (λ xs. (rest : List ℕ) × (b.told ≡ Some rest) × ReadsPlainly xs a.budget (view v) rest)
     → Failed held.failures holds.failures → Fails Canon Write a b held holds
 value_unwritten v a b held holds budget kept reads failed = (
   failed,
@@ -259,7 +260,7 @@ value_unwritten v a b held holds budget kept reads failed = (
   λ xs told. let r = reads xs told in (
     canon (view v),
     r.0,
-    (view v, subst (λ (left : Option ℕ). Reads xs left (view v) r.0) budget r.2, refl),
+    (view v, subst (λ (left : Option ℕ). ReadsPlainly xs left (view v) r.0) budget r.2, refl),
   ),
 )
 
@@ -281,9 +282,11 @@ canonical_fails error a b held budget moves stop all =
     refused_by {V = Canonical} Strict StopsCanonical error a b held budget moves (λ _. tt) stop
     (no_canonical error a b budget all) (λ xs e rest s. (e, rest, s, refl))
 
-pub canonical_done : (v : Canonical) (a b : View) (held holds : Output) → a.budget ≡ Some 256 → Kept a b
+pub canonical_done : (v : Canonical) (a b : View) (held holds : Output) → a.budget ≡ Some 256
+    → Kept a b
     → b.bound + 1 ≤ a.bound
-    → Told a.told (λ xs. (rest : List ℕ) × (b.told ≡ Some rest) × ReadsStrictly xs a.budget (view v.0) rest)
+    → Told a.told
+    (λ xs. (rest : List ℕ) × (b.told ≡ Some rest) × ReadsStrictly xs a.budget (view v.0) rest)
     → Appends (canon (view v.0)) held.written holds.written → holds.failures ≡ held.failures
     → Done Strict a b held holds
 canonical_done v a b held holds budget kept bound reads appends same = record {

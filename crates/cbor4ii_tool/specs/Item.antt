@@ -5,7 +5,7 @@ use Rattle.cbor4ii_items.specs.Refusal.{Refusal}
 use Rattle.cbor4ii_tree.specs.Tree.{Tree, bytes}
 use Rattle.cbor4ii_tree.specs.Item.{Item}
 use Rattle.cbor4ii_tree.specs.Canonical.{canon}
-use Rattle.cbor4ii_tree.specs.Spelling.{Reads, Skips}
+use Rattle.cbor4ii_tree.specs.Spelling.{ReadsPlainly, Skips}
 use Rattle.cbor4ii_tree.specs.Strict.{ReadsStrictly}
 use Rattle.cbor4ii_tree.specs.Canonically.{StopsCanonical}
 use Rattle.cbor4ii_tree.specs.StopsSkipping.{StopsSkipping}
@@ -28,7 +28,7 @@ abbrev pub Converts : Command → List ℕ → List ℕ → List ℕ → Type 0
 Converts Ints input text rest =
     (item : IntegerHead) × IsIntegerHead item × (input ≡ spelling item ++ rest)
     × (text ≡ shortest_spelling item)
-Converts Canon input text rest = (v : Item) × Reads input steps v rest × (text ≡ canon v)
+Converts Canon input text rest = (v : Item) × ReadsPlainly input steps v rest × (text ≡ canon v)
 Converts Strict input text rest =
     (v : Item) × ReadsStrictly input steps v rest × (text ≡ canon v)
 Converts Lens input text rest =

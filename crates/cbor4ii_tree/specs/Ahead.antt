@@ -1,12 +1,15 @@
 -- What shown bytes begin with, where items are skipped.
-use Rattle.std.specs.Prelude.{◌≡◌, ◌≢◌, ◌+◌, ◌*◌, ◌%◌, ◌==◌, ℕ, ◌≤◌, nat_lt, if◌then◌else◌, List, [], ◌∷◌, ◌++◌, length, take, drop, get_or, Some, Bool, true, false, ◌⊎◌}
+use Rattle.std.specs.Prelude.{◌≡◌, ◌≢◌, ◌+◌, ◌*◌, ◌%◌, ◌==◌, ℕ, ◌≤◌, nat_lt, if◌then◌else◌, List}
+use Rattle.std.specs.Prelude.{[], ◌∷◌, ◌++◌, length, take, drop, get_or, Some, Bool, true, false}
+use Rattle.std.specs.Prelude.{◌⊎◌}
 use Rattle.cbor4ii_items.specs.Head.{IsBytes, break}
 use Rattle.cbor4ii_items.specs.Initial.{initial}
 use Rattle.cbor4ii_tree.specs.Cost.{Budget, step_in}
 use Rattle.cbor4ii_tree.specs.Refusal.{Refusal, eof, Small, break_name}
 use Rattle.cbor4ii_tree.specs.Runs.{BeginsRun, TakesRun}
 use Rattle.cbor4ii_tree.specs.Stops.{Stopping, Is, NoBreak}
-use Rattle.cbor4ii_tree.specs.Skipping.{start_of, Leads, StopsBehind, SkipsItems, StopsOne}
+use Rattle.cbor4ii_tree.specs.Skipping.{start_of, Leads, StopsSkippingBehind, SkipsItems}
+use Rattle.cbor4ii_tree.specs.Skipping.{StopsSkippingOne}
 use Rattle.cbor4ii_tree.specs.declared.skip.Behind.{Behind}
 use Rattle.cbor4ii_tree.specs.declared.skip.Behind.TheVariants as behind
 use Rattle.cbor4ii_tree.specs.declared.skip.Went.{Went}
@@ -35,11 +38,11 @@ Awaits OpenItems = Unit {0}
 Awaits OpenPairs = Unit {0}
 
 -- so many of them were skipped
-abbrev pub Counts : Among → ℕ → Type 0
-Counts (Items most) n = (1 ≤ n) × (n ≤ most)
-Counts (Pairs most) n = (1 ≤ n) × (n ≤ 2 * most)
-Counts OpenItems n = Unit {0}
-Counts OpenPairs n = Unit {0}
+abbrev pub CountsAmong : Among → ℕ → Type 0
+CountsAmong (Items most) n = (1 ≤ n) × (n ≤ most)
+CountsAmong (Pairs most) n = (1 ≤ n) × (n ≤ 2 * most)
+CountsAmong OpenItems n = Unit {0}
+CountsAmong OpenPairs n = Unit {0}
 
 -- a break may come in its place
 abbrev pub IsOpen : Among → Type 0
@@ -57,7 +60,8 @@ leaf_by start.Items low = if low == 0 then 1 else 0
 leaf_by start.Members low = if low == 0 then 1 else 0
 leaf_by _ low = 0
 
--- How many bytes an item takes that begins so, where this byte says it and that the item holds no other; else 0.
+-- How many bytes an item takes that begins so, where this byte says it and that the item holds no
+-- other; else 0.
 unfoldable pub leaf_bytes : ℕ → ℕ
 leaf_bytes first = leaf_by (start_of (initial first)) (first % 32)
 
@@ -70,8 +74,11 @@ pub record BeginsHead (size : ℕ) (behind : Behind) (shown : List ℕ) : Type 0
   pub some : 1 ≤ size
   pub within : size ≤ length shown
   pub bytes : IsBytes (take size shown)
-  pub leads : (inner : Budget) (after : List ℕ) → Leads inner (shown ++ after) behind (drop size shown ++ after)
-  pub item : (inner : Budget) (after : List ℕ) (e : Refusal) (rest : List ℕ) → StopsBehind behind inner (drop size shown ++ after) e rest → NotBreak (shown ++ after)
+  pub leads : (inner : Budget) (after : List ℕ)
+      → Leads inner (shown ++ after) behind (drop size shown ++ after)
+  pub item : (inner : Budget) (after : List ℕ) (e : Refusal) (rest : List ℕ)
+      → StopsSkippingBehind behind inner (drop size shown ++ after) e rest
+      → NotBreak (shown ++ after)
 
 -- a run that may be taken at once
 pub record SeesRun (among : Among) (n size : ℕ) (shown : List ℕ) : Type 0 where
@@ -95,7 +102,8 @@ Sees among Unseen shown = Unit {0}
 -- a head, and what is left of its item behind it
 pub record TakesHead (inner : Budget) (xs : List ℕ) (behind : Behind) (ys : List ℕ) : Type 0 where
   pub leads : Leads inner xs behind ys
-  pub item : (e : Refusal) (rest : List ℕ) → StopsBehind behind inner ys e rest → NotBreak xs
+  pub item : (e : Refusal) (rest : List ℕ) → StopsSkippingBehind behind inner ys e rest
+      → NotBreak xs
 
 -- under the budget that is left for the item
 abbrev pub TakesAhead : Among → Budget → List ℕ → Ahead → List ℕ → Type 0
@@ -115,20 +123,23 @@ Passes among Unseen old new = new ≤ old
 
 -- a break and no item, or so many items
 abbrev pub SkipsSome : Among → Budget → List ℕ → ℕ → List ℕ → Type 0
-SkipsSome among budget xs n ys = (IsOpen among × (n ≡ 0) × (xs ≡ break ∷ ys)) ⊎ ((1 ≤ n) × SkipsItems n budget xs ys)
+SkipsSome among budget xs n ys =
+    (IsOpen among × (n ≡ 0) × (xs ≡ break ∷ ys)) ⊎ ((1 ≤ n) × SkipsItems n budget xs ys)
 
 abbrev pub StopsSome : Among → Budget → Stopping
-StopsSome (Items most) budget = StopsOne budget
-StopsSome (Pairs most) budget = StopsOne budget
-StopsSome OpenItems budget = NoBreak (StopsOne budget)
-StopsSome OpenPairs budget = NoBreak (StopsOne budget)
+StopsSome (Items most) budget = StopsSkippingOne budget
+StopsSome (Pairs most) budget = StopsSkippingOne budget
+StopsSome OpenItems budget = NoBreak (StopsSkippingOne budget)
+StopsSome OpenPairs budget = NoBreak (StopsSkippingOne budget)
 
 -- the same under a step that leaves this budget
 abbrev pub SkipsSomeUnder : Among → Budget → List ℕ → ℕ → List ℕ → Type 0
-SkipsSomeUnder among inner xs n ys = (budget : Budget) → step_in budget ≡ Some inner → SkipsSome among budget xs n ys
+SkipsSomeUnder among inner xs n ys =
+    (budget : Budget) → step_in budget ≡ Some inner → SkipsSome among budget xs n ys
 
 abbrev pub StopsSomeUnder : Among → Budget → Stopping
-StopsSomeUnder among inner xs e rest = (budget : Budget) → step_in budget ≡ Some inner → StopsSome among budget xs e rest
+StopsSomeUnder among inner xs e rest =
+    (budget : Budget) → step_in budget ≡ Some inner → StopsSome among budget xs e rest
 
 -- some were skipped, or the head of one was taken that holds so many
 abbrev pub GoesUnder : Among → Budget → List ℕ → Went → List ℕ → Type 0
@@ -136,7 +147,7 @@ GoesUnder among inner xs (Past n) ys = SkipsSomeUnder among inner xs n ys
 GoesUnder among inner xs (Into n) ys = TakesHead inner xs (behind.Items n) ys
 
 abbrev pub CountsWent : Among → Went → Type 0
-CountsWent among (Past n) = Counts among n
+CountsWent among (Past n) = CountsAmong among n
 CountsWent among (Into n) = Unit {0}
 
 -- how far that leads
@@ -144,7 +155,8 @@ abbrev pub Gains : Went → ℕ → ℕ → Type 0
 Gains (Past n) old new = 1 ≤ n → new + 1 ≤ old
 Gains (Into n) old new = new + 1 ≤ old
 
--- a break was taken where one may come; or nothing was taken, and where a break may come another byte stands
+-- a break was taken where one may come; or nothing was taken, and where a break may come another
+-- byte stands
 abbrev pub EndsOrNot : Among → List ℕ → Bool → List ℕ → Type 0
 EndsOrNot among xs true ys = IsOpen among × (xs ≡ break ∷ ys)
 EndsOrNot among xs false ys = (ys ≡ xs) × (IsOpen among → NotBreak ys)

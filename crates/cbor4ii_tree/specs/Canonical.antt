@@ -2,13 +2,18 @@
 -- null for null and floats in their own width (preferred serialization, RFC 8949 section 4.1),
 -- and bignums for integers beyond 64 bits. Map keys keep their order, so it is not the whole of
 -- section 4.2.
-use Rattle.std.specs.Prelude.{ℕ, ◌^◌, List, length, Bool, true, false, nat_lt, if◌then◌else◌, pos, negsuc}
+use Rattle.std.specs.Prelude.{ℕ, ◌^◌, List, length, Bool, true, false, nat_lt, if◌then◌else◌, pos}
+use Rattle.std.specs.Prelude.{negsuc}
 use Rattle.cbor4ii_items.specs.Head.{shortest}
 pub use Rattle.cbor4ii_items.specs.Magnitude.{without_leading_zeros, magnitude}
-use Rattle.cbor4ii_items.specs.Initial.{unsigned, negative, Sign, byte_string, text_string, simple_false, simple_true, simple_null, Simple}
-use Rattle.cbor4ii_tree.specs.Tree.{Tree, int, string, array, map_of, tagged, simple, bits, Trees, no_trees, tree, Pairs, no_pairs, pair, bytes}
+use Rattle.cbor4ii_items.specs.Initial.{unsigned, negative, Sign, byte_string, text_string}
+use Rattle.cbor4ii_items.specs.Initial.{simple_false, simple_true, simple_null, Simple}
+use Rattle.cbor4ii_tree.specs.Tree.{Tree, int, string, array, map_of, tagged, simple, bits, Trees}
+use Rattle.cbor4ii_tree.specs.Tree.{no_trees, tree, Pairs, no_pairs, pair, bytes}
 use Rattle.cbor4ii_tree.specs.Cost.{cost}
-use Rattle.cbor4ii_tree.specs.Item.{Item, null, boolean, integer, float, bytes_item, text, sequence, mapping, tag, Items, no_items, item, item_count, Members, no_members, member, member_count}
+use Rattle.cbor4ii_tree.specs.Item.{Item, null, boolean, integer, float, bytes_item, text, sequence}
+use Rattle.cbor4ii_tree.specs.Item.{mapping, tag, Items, no_items, item, item_count, Members}
+use Rattle.cbor4ii_tree.specs.Item.{no_members, member, member_count}
 
 abbrev pub sign_tag : Sign → ℕ
 sign_tag unsigned = 2

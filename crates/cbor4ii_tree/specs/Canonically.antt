@@ -87,8 +87,8 @@ abbrev pub OthersCanonical : {E : Type 0} → View → Result Canonical (DecodeE
 OthersCanonical old answer =
     Told old.told (λ xs. Refused (λ e. MayStop e ⊎ IsNotCanonical e) answer)
 
--- each other refusal than that a spelling is not the canonical one is the one that reading the bytes
--- as a value gives, and leaves what that leaves
+-- each other refusal than that a spelling is not the canonical one is the one that reading the
+-- bytes as a value gives, and leaves what that leaves
 abbrev pub ValueCanonical : {E : Type 0} → View → View → Result Canonical (DecodeError E) → Type 0
 ValueCanonical old new answer = Told old.told (λ xs. Refused (λ e. ¬ (IsNotCanonical e) →
     (rest : List ℕ) × (new.told ≡ Some rest) × StopsReading xs old.budget e rest) answer)

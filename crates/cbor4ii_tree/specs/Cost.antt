@@ -1,6 +1,8 @@
 -- Steps: what a budget bounds, so that hostile nesting ends (RFC 8949 section 10).
 use Rattle.std.specs.Prelude.{ℕ, zero, suc, ◌+◌, max, Option, Some, None}
-use Rattle.cbor4ii_tree.specs.Tree.{Tree, int, string, chunked, array, array_open, map_of, map_open, tagged, simple, bits, Trees, no_trees, tree, Pairs, no_pairs, pair}
+use Rattle.cbor4ii_tree.specs.Tree.{Tree, int, string, chunked, array, array_open, map_of, map_open}
+use Rattle.cbor4ii_tree.specs.Tree.{tagged, simple, bits, Trees, no_trees, tree, Pairs, no_pairs}
+use Rattle.cbor4ii_tree.specs.Tree.{pair}
 
 -- how many steps are left; None: as many as it takes
 abbrev pub Budget : Type 0

@@ -1,12 +1,24 @@
 -- Where skipped bytes come from: a reader, or bytes that were lent.
-use Rattle.std.specs.Prelude.{◌≡◌, ◌≢◌, ℕ, List, Option, Some, None, length, take, min, get_or, true}
+use Rattle.std.specs.Prelude.{◌≡◌, ◌≢◌, ℕ, List, Option, Some, None, length, take, min, get_or}
+use Rattle.std.specs.Prelude.{true}
 use Rattle.cbor4ii_rw.specs.View.{View, Told}
 use Rattle.cbor4ii_rw.specs.Reader.{Shows, IsFront}
 use Rattle.cbor4ii_items.specs.Head.{IsBytes}
 
--- lent bytes, read under the steps of a reader: all of them are told, nothing fails, and the reader's own bytes count for nothing
+-- lent bytes, read under the steps of a reader: all of them are told, nothing fails, and the
+-- reader's own bytes count for nothing
 abbrev pub lent_view : List ℕ → View → View
-lent_view bytes reader = record { told = Some bytes; bound = length bytes; advanceable = length bytes; budget = reader.budget; failures = 0; taken = None; lends_whole = true; remembers = true }
+lent_view bytes reader =
+    record {
+      told = Some bytes;
+      bound = length bytes;
+      advanceable = length bytes;
+      budget = reader.budget;
+      failures = 0;
+      taken = None;
+      lends_whole = true;
+      remembers = true;
+    }
 
 -- a front was shown, of which P holds
 pub record Offers (want : ℕ) (P : List ℕ → Type 0) (old new : View) : Type 0 where
@@ -16,9 +28,9 @@ pub record Offers (want : ℕ) (P : List ℕ → Type 0) (old new : View) : Type
   pub is : P shown
 
 -- the first byte, or none
-abbrev pub BeginsWith : Option ℕ → List ℕ → Type 0
-BeginsWith None shown = length shown ≡ 0
-BeginsWith (Some b) shown = (length shown ≢ 0) × (b ≡ get_or shown 0 0)
+abbrev pub FirstByteIs : Option ℕ → List ℕ → Type 0
+FirstByteIs None shown = length shown ≡ 0
+FirstByteIs (Some b) shown = (length shown ≢ 0) × (b ≡ get_or shown 0 0)
 
 -- so many bytes may be taken, of so many that are wanted
 abbrev pub Ready : ℕ → ℕ → List ℕ → Type 0

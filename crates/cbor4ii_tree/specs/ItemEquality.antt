@@ -4,9 +4,12 @@ use Rattle.std.specs.Prelude.{◌≡◌, ℕ, ◌==◌, List, [], ◌∷◌, Boo
 use Rattle.std.proofs.Common.{refl, sym, subst, ap, ap₂, ◌∙◌}
 use Rattle.std.specs.Bool.{Decides, beq}
 use Rattle.std.specs.Ordering.{int_eq}
-use Rattle.std.specs.Cmp.{IsEquivalence, decided, first_so, second_so, unsigned_Decides, signed_Decides, booleans_Decides}
+use Rattle.std.specs.Cmp.{IsEquivalence, decided, first_so, second_so, unsigned_Decides}
+use Rattle.std.specs.Cmp.{signed_Decides, booleans_Decides}
 use Rattle.cbor4ii_items.specs.Initial.{Precision, half, single, double}
-use Rattle.cbor4ii_tree.specs.Item.{Item, null, boolean, integer, float, bytes_item, text, sequence, mapping, tag, Items, no_items, item, Members, no_members, member}
+use Rattle.cbor4ii_tree.specs.Item.{Item, null, boolean, integer, float, bytes_item, text, sequence}
+use Rattle.cbor4ii_tree.specs.Item.{mapping, tag, Items, no_items, item, Members, no_members}
+use Rattle.cbor4ii_tree.specs.Item.{member}
 
 abbrev pub precision_eq : Precision → Precision → Bool
 precision_eq half half = true
@@ -67,39 +70,50 @@ precision_itself double = refl
 
 text_same : (bs cs : List ℕ) → text_eq bs cs ≡ true → bs ≡ cs
 text_same [] [] e = refl
-text_same (b ∷ bs) (c ∷ cs) e = ap₂ ◌∷◌ ((unsigned_Decides b c).0 (first_so (b == c) (text_eq bs cs) e)) (text_same bs cs (second_so (b == c) (text_eq bs cs) e))
+text_same (b ∷ bs) (c ∷ cs) e =
+    ap₂ ◌∷◌ ((unsigned_Decides b c).0 (first_so (b == c) (text_eq bs cs) e))
+    (text_same bs cs (second_so (b == c) (text_eq bs cs) e))
 text_same [] (c ∷ cs) e = no_truth e
 text_same (b ∷ bs) [] e = no_truth e
 
 text_itself : (bs : List ℕ) → text_eq bs bs ≡ true
 text_itself [] = refl
-text_itself (b ∷ bs) = together (b == b) (text_eq bs bs) ((unsigned_Decides b b).1 refl) (text_itself bs)
+text_itself (b ∷ bs) =
+    together (b == b) (text_eq bs bs) ((unsigned_Decides b b).1 refl) (text_itself bs)
 
 mutual
   pub item_same : (v w : Item) → item_eq v w ≡ true → v ≡ w
   item_same null null e = refl
   item_same (boolean b) (boolean c) e = ap boolean ((booleans_Decides b c).0 e)
   item_same (integer y) (integer z) e = ap integer ((signed_Decides y z).0 e)
-  item_same (float p m) (float q n) e = ap₂ float (precision_same p q (first_so (precision_eq p q) (m == n) e)) ((unsigned_Decides m n).0 (second_so (precision_eq p q) (m == n) e))
+  item_same (float p m) (float q n) e =
+      ap₂ float (precision_same p q (first_so (precision_eq p q) (m == n) e))
+      ((unsigned_Decides m n).0 (second_so (precision_eq p q) (m == n) e))
   item_same (bytes_item bs) (bytes_item cs) e = ap bytes_item (text_same bs cs e)
   item_same (text bs) (text cs) e = ap text (text_same bs cs e)
   item_same (sequence vs) (sequence ws) e = ap sequence (items_same vs ws e)
   item_same (mapping ms) (mapping ns) e = ap mapping (members_same ms ns e)
-  item_same (tag m v) (tag n w) e = ap₂ tag ((unsigned_Decides m n).0 (first_so (m == n) (item_eq v w) e)) (item_same v w (second_so (m == n) (item_eq v w) e))
+  item_same (tag m v) (tag n w) e =
+      ap₂ tag ((unsigned_Decides m n).0 (first_so (m == n) (item_eq v w) e))
+      (item_same v w (second_so (m == n) (item_eq v w) e))
   item_same _ _ e = no_truth e
 
   items_same : (vs ws : Items) → items_eq vs ws ≡ true → vs ≡ ws
   items_same no_items no_items e = refl
-  items_same (item v vs) (item w ws) e = ap₂ item (item_same v w (first_so (item_eq v w) (items_eq vs ws) e)) (items_same vs ws (second_so (item_eq v w) (items_eq vs ws) e))
+  items_same (item v vs) (item w ws) e =
+      ap₂ item (item_same v w (first_so (item_eq v w) (items_eq vs ws) e))
+      (items_same vs ws (second_so (item_eq v w) (items_eq vs ws) e))
   items_same _ _ e = no_truth e
 
   members_same : (ms ns : Members) → members_eq ms ns ≡ true → ms ≡ ns
   members_same no_members no_members e = refl
   members_same (member k v ms) (member l w ns) e =
       let rest = second_so (item_eq k l) (item_eq v w && members_eq ms ns) e in
-      let key : k ≡ l = item_same k l (first_so (item_eq k l) (item_eq v w && members_eq ms ns) e) in
+      let key : k ≡ l =
+      item_same k l (first_so (item_eq k l) (item_eq v w && members_eq ms ns) e) in
       let value : v ≡ w = item_same v w (first_so (item_eq v w) (members_eq ms ns) rest) in
-      ap (λ x. member x v ms) key ∙ (ap (λ x. member l x ms) value ∙ ap (member l w) (members_same ms ns (second_so (item_eq v w) (members_eq ms ns) rest)))
+      ap (λ x. member x v ms) key ∙ (ap (λ x. member l x ms) value ∙ ap (member l w)
+      (members_same ms ns (second_so (item_eq v w) (members_eq ms ns) rest)))
   members_same _ _ e = no_truth e
 
 mutual
@@ -107,20 +121,25 @@ mutual
   item_itself null = refl
   item_itself (boolean b) = (booleans_Decides b b).1 refl
   item_itself (integer z) = (signed_Decides z z).1 refl
-  item_itself (float p n) = together (precision_eq p p) (n == n) (precision_itself p) ((unsigned_Decides n n).1 refl)
+  item_itself (float p n) =
+      together (precision_eq p p) (n == n) (precision_itself p) ((unsigned_Decides n n).1 refl)
   item_itself (bytes_item bs) = text_itself bs
   item_itself (text bs) = text_itself bs
   item_itself (sequence vs) = items_itself vs
   item_itself (mapping ms) = members_itself ms
-  item_itself (tag n v) = together (n == n) (item_eq v v) ((unsigned_Decides n n).1 refl) (item_itself v)
+  item_itself (tag n v) =
+      together (n == n) (item_eq v v) ((unsigned_Decides n n).1 refl) (item_itself v)
 
   items_itself : (vs : Items) → items_eq vs vs ≡ true
   items_itself no_items = refl
-  items_itself (item v vs) = together (item_eq v v) (items_eq vs vs) (item_itself v) (items_itself vs)
+  items_itself (item v vs) =
+      together (item_eq v v) (items_eq vs vs) (item_itself v) (items_itself vs)
 
   members_itself : (ms : Members) → members_eq ms ms ≡ true
   members_itself no_members = refl
-  members_itself (member k v ms) = together (item_eq k k) (item_eq v v && members_eq ms ms) (item_itself k) (together (item_eq v v) (members_eq ms ms) (item_itself v) (members_itself ms))
+  members_itself (member k v ms) =
+      together (item_eq k k) (item_eq v v && members_eq ms ms) (item_itself k)
+      (together (item_eq v v) (members_eq ms ms) (item_itself v) (members_itself ms))
 
 pub item_eq-Decides : (v w : Item) → Decides (item_eq v w) (v ≡ w)
 item_eq-Decides v w = (item_same v w, λ e. subst (λ x. item_eq v x ≡ true) e (item_itself v))

@@ -1,4 +1,5 @@
--- Laws of the definitions, and of how calls compose: what the proofs of this crate and of the crates above cite.
+-- Laws of the definitions, and of how calls compose: what the proofs of this crate and of the
+-- crates above cite.
 pub mod Ignoring
 pub mod Binds
 pub mod Budgets

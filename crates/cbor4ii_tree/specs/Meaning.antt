@@ -1,8 +1,14 @@
 -- What a tree means, by RFC 8949 sections 3.1 to 3.3.
 use Rattle.std.specs.Prelude.{ℕ, List, pos, negsuc, ℤ, true, false}
-use Rattle.cbor4ii_items.specs.Initial.{Sign, unsigned, negative, Kind, byte_string, text_string, Simple, simple_false, simple_true, simple_null, simple_undefined}
-use Rattle.cbor4ii_tree.specs.Tree.{Tree, int, string, chunked, array, array_open, map_of, map_open, tagged, simple, bits, Trees, no_trees, tree, Pairs, no_pairs, pair, joined_chunks}
-use Rattle.cbor4ii_tree.specs.Item.{Item, null, boolean, integer, float, bytes_item, text, sequence, mapping, tag, Items, no_items, item, Members, no_members, member}
+use Rattle.cbor4ii_items.specs.Initial.{Sign, unsigned, negative, Kind, byte_string, text_string}
+use Rattle.cbor4ii_items.specs.Initial.{Simple, simple_false, simple_true, simple_null}
+use Rattle.cbor4ii_items.specs.Initial.{simple_undefined}
+use Rattle.cbor4ii_tree.specs.Tree.{Tree, int, string, chunked, array, array_open, map_of, map_open}
+use Rattle.cbor4ii_tree.specs.Tree.{tagged, simple, bits, Trees, no_trees, tree, Pairs, no_pairs}
+use Rattle.cbor4ii_tree.specs.Tree.{pair, joined_chunks}
+use Rattle.cbor4ii_tree.specs.Item.{Item, null, boolean, integer, float, bytes_item, text, sequence}
+use Rattle.cbor4ii_tree.specs.Item.{mapping, tag, Items, no_items, item, Members, no_members}
+use Rattle.cbor4ii_tree.specs.Item.{member}
 
 -- n, or -1 - n (section 3.1, major types 0 and 1)
 abbrev pub number : Sign → ℕ → ℤ

@@ -1,6 +1,7 @@
 -- The parts of the plain programs on lists. They compute, so that a row of bytes can be tried;
 -- the laws tie them to trees and stops.
-use Rattle.std.specs.Prelude.{ℕ, zero, suc, ◌-◌, ◌%◌, ◌==◌, List, [], ◌∷◌, length, take, drop, Option, Some, None, Result, Ok, Err, nat_lt, if◌then◌else◌}
+use Rattle.std.specs.Prelude.{ℕ, zero, suc, ◌-◌, ◌%◌, ◌==◌, List, [], ◌∷◌, length, take, drop}
+use Rattle.std.specs.Prelude.{Option, Some, None, Result, Ok, Err, nat_lt, if◌then◌else◌}
 use Rattle.cbor4ii_items.specs.Head.{Width, in_first, one, two, four, eight, break}
 use Rattle.cbor4ii_items.specs.Magnitude.{number_of}
 use Rattle.cbor4ii_items.specs.Reading.{Reading, go_on}
@@ -21,11 +22,15 @@ first >>= next = go_on first (λ value left. next (value, left))
 
 -- k bytes; where some are missing, as many are asked for
 abbrev pub front_at : List ℕ → ℕ → Parser (List ℕ)
-front_at name k bs = if nat_lt (length bs) k then Err (eof name (len_of (k - length bs)), []) else Ok (take k bs, drop k bs)
+front_at name k bs =
+    if nat_lt (length bs) k then Err (eof name (len_of (k - length bs)), []) else Ok
+    (take k bs, drop k bs)
 
 -- the number in k bytes; where some are missing, all are asked for
 abbrev pub number_at : List ℕ → ℕ → Parser ℕ
-number_at name k bs = if nat_lt (length bs) k then Err (eof name (len_of k), []) else Ok (number_of (take k bs), drop k bs)
+number_at name k bs =
+    if nat_lt (length bs) k then Err (eof name (len_of k), []) else Ok
+    (number_of (take k bs), drop k bs)
 
 -- the argument of a head whose initial byte is b
 unfoldable pub argument_of_width : List ℕ → Width → ℕ → Parser ℕ
@@ -46,7 +51,8 @@ trees_at item (suc n) bs = item bs >>= λ p. trees_at item n p.1 >>= λ q. Ok (t
 
 unfoldable pub pairs_at : Parser Tree → ℕ → Parser Pairs
 pairs_at item zero bs = Ok (no_pairs, bs)
-pairs_at item (suc n) bs = item bs >>= λ k. item k.1 >>= λ v. pairs_at item n v.1 >>= λ q. Ok (pair k.0 v.0 q.0, q.1)
+pairs_at item (suc n) bs =
+    item bs >>= λ k. item k.1 >>= λ v. pairs_at item n v.1 >>= λ q. Ok (pair k.0 v.0 q.0, q.1)
 
 -- Items up to a break. The number bounds the turns: more than the count of the bytes is enough.
 unfoldable pub open_trees_at : Parser Tree → ℕ → Parser Trees
@@ -61,4 +67,5 @@ open_pairs_at item n [] = Err (eof break_name (Small 1), [])
 open_pairs_at item zero (b ∷ bs) = Err (eof break_name (Small 1), [])
 open_pairs_at item (suc n) (b ∷ bs) =
     if b == break then Ok (no_pairs, bs)
-    else (item (b ∷ bs) >>= λ k. item k.1 >>= λ v. open_pairs_at item n v.1 >>= λ q. Ok (pair k.0 v.0 q.0, q.1))
+    else (item (b ∷ bs) >>= λ k. item k.1 >>= λ v. open_pairs_at item n v.1
+    >>= λ q. Ok (pair k.0 v.0 q.0, q.1))

@@ -10,7 +10,7 @@ use Rattle.cbor4ii_tree.specs.Cost.{Budget, skip_cost}
 use Rattle.cbor4ii_tree.specs.Canonical.{canon, canon_cost, with_bignums}
 use Rattle.cbor4ii_tree.specs.Refusal.{Refusal, IsEof, IsDepthOverflow, IsFinal, MayStop}
 use Rattle.cbor4ii_items.specs.Refusal.{refusal_of}
-use Rattle.cbor4ii_tree.specs.Spelling.{Spells, Reads, Skips, IsProperFront}
+use Rattle.cbor4ii_tree.specs.Spelling.{Spells, ReadsPlainly, Skips, IsProperFront}
 use Rattle.cbor4ii_tree.specs.StopsSkipping.{StopsSkipping}
 use Rattle.cbor4ii_tree.specs.StopsReading.{StopsReading}
 use Rattle.cbor4ii_tree.specs.View.{view}
@@ -85,12 +85,12 @@ ExactSkips old new answer = Told old.told (λ xs. (e : Refusal) (rest : List ℕ
 -- what is accepted is a value of which a spelling that fits begins the bytes, and that is taken
 abbrev pub OnlyReads : {E : Type 0} → View → View → Result Value (DecodeError E) → Type 0
 OnlyReads old new answer = Told old.told (λ xs. IfOk answer (λ v.
-    (rest : List ℕ) × (new.told ≡ Some rest) × Reads xs old.budget (view v) rest))
+    (rest : List ℕ) × (new.told ≡ Some rest) × ReadsPlainly xs old.budget (view v) rest))
 
 -- a value of which a spelling that fits begins the bytes is accepted, and that spelling is taken
 abbrev pub AllReads : {E : Type 0} → View → View → Result Value (DecodeError E) → Type 0
 AllReads old new answer = Told old.told (λ xs. (v : Item) (rest : List ℕ) →
-    Reads xs old.budget v rest →
+    ReadsPlainly xs old.budget v rest →
     Answered (λ w. (view w ≡ v) × (new.told ≡ Some rest)) (λ _. ⊥) answer)
 
 -- a proper front of a spelling that fits is an end of the input
@@ -109,13 +109,13 @@ EofReads old new answer = Told old.told (λ xs. Refused (λ e. IsEof e →
 abbrev pub DepthReads : {E : Type 0} → View → Result Value (DecodeError E) → Type 0
 DepthReads old answer = Told old.told (λ xs. Refused (λ e. IsDepthOverflow e →
     (more : List ℕ) (v : Item) (after : List ℕ) →
-    ¬ (Reads (xs ++ more) old.budget v after)) answer)
+    ¬ (ReadsPlainly (xs ++ more) old.budget v after)) answer)
 
 -- after the others no continuation fits any budget
 abbrev pub FinalReads : {E : Type 0} → View → Result Value (DecodeError E) → Type 0
 FinalReads old answer = Told old.told (λ xs. Refused (λ e. IsFinal e →
     (more : List ℕ) (other : Budget) (v : Item) (after : List ℕ) →
-    ¬ (Reads (xs ++ more) other v after)) answer)
+    ¬ (ReadsPlainly (xs ++ more) other v after)) answer)
 
 -- where reading stops, it is refused so, and leaves what is left there
 abbrev pub ExactReads : {E : Type 0} → View → View → Result Value (DecodeError E) → Type 0
@@ -139,7 +139,7 @@ pub record IsCanonical (budget : Budget) (v : Item) : Type 0 where
   pub same : with_bignums v ≡ v
   pub spells : Spells (canon v) v (canon_cost v)
   pub least : (spelling : List ℕ) (steps : ℕ) → Spells spelling v steps → canon_cost v ≤ steps
-  pub reads : (more : List ℕ) → Reads (canon v ++ more) budget v more
+  pub reads : (more : List ℕ) → ReadsPlainly (canon v ++ more) budget v more
 
 abbrev pub CanonicalReads : {E : Type 0} → View → Result Value (DecodeError E) → Type 0
 CanonicalReads old answer =

@@ -2,8 +2,21 @@
 use Rattle.std.specs.Prelude.{ℕ, List, ◌⊎◌, codes}
 pub use Rattle.cbor4ii_rw.specs.declared.error.Len.{Len}
 pub use Rattle.cbor4ii_rw.specs.declared.error.Len.TheVariants.{Indefinite, Small, Big}
-pub use Rattle.cbor4ii_items.specs.Refusal.{Refusal, eof, mismatch, unsupported, require_length, require_borrowed, require_utf8, length_overflow, cast_overflow, depth_overflow, len_of}
-use Rattle.cbor4ii_items.specs.Initial.{Sign, unsigned, negative, Kind, byte_string, text_string, Precision, half, single, double}
+pub use Rattle.cbor4ii_items.specs.Refusal.{
+  Refusal,
+  eof,
+  mismatch,
+  unsupported,
+  require_length,
+  require_borrowed,
+  require_utf8,
+  length_overflow,
+  cast_overflow,
+  depth_overflow,
+  len_of,
+}
+use Rattle.cbor4ii_items.specs.Initial.{Sign, unsigned, negative, Kind, byte_string, text_string}
+use Rattle.cbor4ii_items.specs.Initial.{Precision, half, single, double}
 
 -- A refusal that no further bytes and no larger budget mend.
 abbrev pub IsFinal : Refusal → Type 0

@@ -16,7 +16,7 @@ pub record Spells (spelling : List ℕ) (v : Item) (steps : ℕ) : Type 0 where
   pub cost_is : cost spelled ≡ steps
 
 -- A spelling of the value whose cost fits begins the input, and the rest follows it.
-pub record Reads (input : List ℕ) (budget : Budget) (v : Item) (rest : List ℕ) : Type 0 where
+pub record ReadsPlainly (input : List ℕ) (budget : Budget) (v : Item) (rest : List ℕ) : Type 0 where
   pub spelling : List ℕ
   pub steps : ℕ
   pub spells : Spells spelling v steps

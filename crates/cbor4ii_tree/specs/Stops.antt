@@ -1,8 +1,10 @@
 -- The parts of a stop that skipping and reading a value share. A stop is a relation between an
 -- input, a refusal and the rest that it leaves, stated by heads and trees.
-use Rattle.std.specs.Prelude.{◌≡◌, ◌≢◌, ℕ, ◌-◌, ◌<◌, List, [], ◌∷◌, ◌++◌, length, ◌⊎◌, Option, Some, None}
+use Rattle.std.specs.Prelude.{◌≡◌, ◌≢◌, ℕ, ◌-◌, ◌<◌, List, [], ◌∷◌, ◌++◌, length, ◌⊎◌, Option, Some}
+use Rattle.std.specs.Prelude.{None}
 use Rattle.cbor4ii_items.specs.Head.{Width, byte_count, HeadFits, head, break}
-use Rattle.cbor4ii_tree.specs.Tree.{Tree, Trees, no_trees, tree, Pairs, no_pairs, pair, count, bytes, bytes_all, bytes_pairs}
+use Rattle.cbor4ii_tree.specs.Tree.{Tree, Trees, no_trees, tree, Pairs, no_pairs, pair, count}
+use Rattle.cbor4ii_tree.specs.Tree.{bytes, bytes_all, bytes_pairs}
 use Rattle.cbor4ii_tree.specs.Cost.{Budget}
 use Rattle.cbor4ii_tree.specs.Refusal.{Refusal, eof, depth_overflow, len_of, Small, break_name}
 
@@ -23,7 +25,8 @@ MissingAll name k bs e rest = (length bs < k) × Is (eof name (len_of k)) [] e r
 
 -- A whole head of the major type, whose initial byte is b, and behind it the bytes stop as its
 -- argument says (section 3).
-pub record BehindHead (major : ℕ) (w : Width) (b : ℕ) (then : ℕ → Stopping) (bs : List ℕ) (e : Refusal) (rest : List ℕ) : Type 0 where
+pub record BehindHead (major : ℕ) (w : Width) (b : ℕ) (then : ℕ → Stopping) (bs : List ℕ)
+    (e : Refusal) (rest : List ℕ) : Type 0 where
   pub argument : ℕ
   pub after : List ℕ
   pub fits : HeadFits w argument
@@ -32,13 +35,15 @@ pub record BehindHead (major : ℕ) (w : Width) (b : ℕ) (then : ℕ → Stoppi
 
 -- a head whose argument is cut, or a whole one and what stops behind it
 abbrev pub AtHead : List ℕ → ℕ → Width → ℕ → (ℕ → Stopping) → Stopping
-AtHead name major w b then bs e rest = MissingAll name (byte_count w) bs e rest ⊎ BehindHead major w b then bs e rest
+AtHead name major w b then bs e rest =
+    MissingAll name (byte_count w) bs e rest ⊎ BehindHead major w b then bs e rest
 
 -- One more step is asked for: none is left, and nothing moves, or the bytes stop under what is
 -- left then.
-abbrev pub Stepped : List ℕ → Option Budget → List ℕ → (Budget → Refusal → List ℕ → Type 0) → Refusal → List ℕ → Type 0
-Stepped name None here stops e rest = Is (depth_overflow name) here e rest
-Stepped name (Some inner) here stops e rest = stops inner e rest
+abbrev pub StopsAtStep : List ℕ → Option Budget → List ℕ → (Budget → Refusal → List ℕ → Type 0)
+    → Refusal → List ℕ → Type 0
+StopsAtStep name None here stops e rest = Is (depth_overflow name) here e rest
+StopsAtStep name (Some inner) here stops e rest = stops inner e rest
 
 abbrev pub Each : (Tree → Type 0) → Trees → Type 0
 Each Whole no_trees = Unit {0}
@@ -50,7 +55,8 @@ EachPair Whole (pair k v ps) = Whole k × Whole v × EachPair Whole ps
 
 -- Whole items, fewer than n, and then one that stops. The items of a map are its keys and values
 -- in turn (section 3.1).
-pub record StopsInCount (Whole : Tree → Type 0) (stops : Stopping) (n : ℕ) (bs : List ℕ) (e : Refusal) (rest : List ℕ) : Type 0 where
+pub record StopsInCount (Whole : Tree → Type 0) (stops : Stopping) (n : ℕ) (bs : List ℕ)
+    (e : Refusal) (rest : List ℕ) : Type 0 where
   pub front : Trees
   pub after : List ℕ
   pub few : count front < n
@@ -65,7 +71,8 @@ NoBreak stops [] e rest = Is (eof break_name (Small 1)) [] e rest
 NoBreak stops (b ∷ bs) e rest = (b ≢ break) × stops (b ∷ bs) e rest
 
 -- whole items, and then no break (section 3.2.2)
-pub record OpenItems (Whole : Tree → Type 0) (stops : Stopping) (bs : List ℕ) (e : Refusal) (rest : List ℕ) : Type 0 where
+pub record OpenItems (Whole : Tree → Type 0) (stops : Stopping) (bs : List ℕ) (e : Refusal)
+    (rest : List ℕ) : Type 0 where
   pub front : Trees
   pub after : List ℕ
   pub whole : Each Whole front
@@ -73,7 +80,8 @@ pub record OpenItems (Whole : Tree → Type 0) (stops : Stopping) (bs : List ℕ
   pub stopped : NoBreak stops after e rest
 
 -- A whole key, and a value that stops. No break is looked for between the two (section 3.2.2).
-pub record BehindKey (Whole : Tree → Type 0) (stops : Stopping) (bs : List ℕ) (e : Refusal) (rest : List ℕ) : Type 0 where
+pub record BehindKey (Whole : Tree → Type 0) (stops : Stopping) (bs : List ℕ) (e : Refusal)
+    (rest : List ℕ) : Type 0 where
   pub key : Tree
   pub after : List ℕ
   pub whole : Whole key
@@ -81,7 +89,8 @@ pub record BehindKey (Whole : Tree → Type 0) (stops : Stopping) (bs : List ℕ
   pub stopped : stops after e rest
 
 -- whole pairs, and then no break and a key that stops, or a value that does
-pub record OpenPairs (Whole : Tree → Type 0) (stops : Stopping) (bs : List ℕ) (e : Refusal) (rest : List ℕ) : Type 0 where
+pub record OpenPairs (Whole : Tree → Type 0) (stops : Stopping) (bs : List ℕ) (e : Refusal)
+    (rest : List ℕ) : Type 0 where
   pub front : Pairs
   pub after : List ℕ
   pub whole : EachPair Whole front

@@ -5,7 +5,9 @@ use Rattle.std.specs.Prelude.{◌≡◌, ◌≢◌, ℕ, List, ◌++◌, length}
 use Rattle.cbor4ii_items.specs.Head.{shortest}
 use Rattle.cbor4ii_items.specs.Initial.{simple_undefined}
 use Rattle.cbor4ii_items.specs.Decoding.{CostFits}
-use Rattle.cbor4ii_tree.specs.Tree.{Tree, int, string, chunked, array, array_open, map_of, map_open, tagged, simple, bits, Trees, no_trees, tree, Pairs, no_pairs, pair, count, pair_count, bytes, Plain}
+use Rattle.cbor4ii_tree.specs.Tree.{Tree, int, string, chunked, array, array_open, map_of, map_open}
+use Rattle.cbor4ii_tree.specs.Tree.{tagged, simple, bits, Trees, no_trees, tree, Pairs, no_pairs}
+use Rattle.cbor4ii_tree.specs.Tree.{pair, count, pair_count, bytes, Plain}
 use Rattle.cbor4ii_tree.specs.Item.{Item, IsItem}
 use Rattle.cbor4ii_tree.specs.Meaning.{value}
 use Rattle.cbor4ii_tree.specs.Cost.{cost, Budget}
@@ -49,7 +51,8 @@ pub record SpellsStrictly (spelling : List ℕ) (v : Item) (steps : ℕ) : Type 
   pub cost_is : cost spelled ≡ steps
 
 -- The bytes of a canonical tree whose cost fits begin the input, and the rest follows them.
-pub record ReadsStrictly (input : List ℕ) (budget : Budget) (v : Item) (rest : List ℕ) : Type 0 where
+pub record ReadsStrictly (input : List ℕ) (budget : Budget) (v : Item)
+    (rest : List ℕ) : Type 0 where
   pub spelling : List ℕ
   pub steps : ℕ
   pub spells : SpellsStrictly spelling v steps

@@ -1,10 +1,11 @@
 -- What the parts of reading a value that is spelled in one way accept, and where they stop.
 use Rattle.std.specs.Prelude.{◌≡◌, ℕ, suc, ◌⊎◌, List, ◌∷◌, ◌++◌, length, Some, None, string_bytes}
 use Rattle.cbor4ii_tree.specs.Does.{Accepting}
-use Rattle.cbor4ii_tree.specs.Tree.{Tree, Trees, Pairs, count, pair_count, bytes, bytes_all, bytes_pairs}
+use Rattle.cbor4ii_tree.specs.Tree.{Tree, Trees, Pairs, count, pair_count, bytes, bytes_all}
+use Rattle.cbor4ii_tree.specs.Tree.{bytes_pairs}
 use Rattle.cbor4ii_tree.specs.Meaning.{value, values, member_values}
 use Rattle.cbor4ii_tree.specs.Cost.{Budget, step_in}
-use Rattle.cbor4ii_tree.specs.Stops.{Stopping, Each, EachPair, Stepped, StopsInCount, BehindKey}
+use Rattle.cbor4ii_tree.specs.Stops.{Stopping, Each, EachPair, StopsAtStep, StopsInCount, BehindKey}
 use Rattle.cbor4ii_tree.specs.StopsStrictly.{Exactly, ShortestAt, StrictStopsFrom, StopsStrictly}
 use Rattle.cbor4ii_tree.specs.View.{view, items_view, members_view}
 use Rattle.std.specs.declared.alloc.Global.{Global}
@@ -26,21 +27,21 @@ abbrev pub StopsExactly : Budget → Stopping
 StopsExactly budget xs = StopsStrictly xs budget
 
 -- the same where its step was taken
-abbrev pub ReadsBehind : Budget → Accepting Value
-ReadsBehind inner xs v ys = ReadsExactly (raise inner) xs v ys
+abbrev pub ReadsExactlyUnder : Budget → Accepting Value
+ReadsExactlyUnder inner xs v ys = ReadsExactly (raise inner) xs v ys
 
-abbrev pub StopsBehind : Budget → Stopping
-StopsBehind inner xs e rest = StrictStopsFrom StopsExactly inner xs e rest
+abbrev pub StopsExactlyUnder : Budget → Stopping
+StopsExactlyUnder inner xs e rest = StrictStopsFrom StopsExactly inner xs e rest
 
 -- behind this first byte
 abbrev pub StopsBehindFirst : ℕ → Budget → Stopping
 StopsBehindFirst first budget xs e rest =
-    (bs : List ℕ) → xs ≡ first ∷ bs → StopsBehind budget xs e rest
+    (bs : List ℕ) → xs ≡ first ∷ bs → StopsExactlyUnder budget xs e rest
 
 -- where one more step is taken
-abbrev pub StopsStepped : List ℕ → (Budget → Stopping) → Budget → Stopping
-StopsStepped name stops budget xs e rest =
-    Stepped name (step_in budget) xs (λ inner. stops inner xs) e rest
+abbrev pub StopsExactlyStepped : List ℕ → (Budget → Stopping) → Budget → Stopping
+StopsExactlyStepped name stops budget xs e rest =
+    StopsAtStep name (step_in budget) xs (λ inner. stops inner xs) e rest
 
 -- ---- strings
 

@@ -4,7 +4,9 @@
 use Rattle.std.specs.Prelude.{◌≡◌, ℕ, suc, ◌^◌, ◌<◌, List, [], ◌∷◌, ◌++◌, length, IsUtf8}
 use Rattle.std.specs.Int.{bytes_high_first}
 use Rattle.cbor4ii_items.specs.Head.{Width, HeadFits, head, open_head, break}
-use Rattle.cbor4ii_items.specs.Initial.{Sign, sign_major, Kind, byte_string, text_string, kind_major, Simple, simple_byte, Precision, precision_byte, precision_bytes}
+use Rattle.cbor4ii_items.specs.Initial.{Sign, sign_major, Kind, byte_string, text_string}
+use Rattle.cbor4ii_items.specs.Initial.{kind_major, Simple, simple_byte, Precision, precision_byte}
+use Rattle.cbor4ii_items.specs.Initial.{precision_bytes}
 
 mutual
   pub data Tree : Type 0 where

@@ -15,15 +15,17 @@ use Rattle.cbor4ii_tree.specs.Stops.{BehindKey, OpenPairs}
 use Rattle.cbor4ii_tree.specs.StopsReading.{Readable, ReadingStopsFrom, StopsReading}
 use Rattle.cbor4ii_tree.specs.View.{view, items_view, members_view}
 
-abbrev pub ReadsOne : Budget → List ℕ → Value → List ℕ → Type 0
-ReadsOne budget xs v ys = (t : Tree) × Readable budget t × (value t ≡ view v) × (xs ≡ bytes t ++ ys)
+abbrev pub ReadsOneValue : Budget → List ℕ → Value → List ℕ → Type 0
+ReadsOneValue budget xs v ys =
+    (t : Tree) × Readable budget t × (value t ≡ view v) × (xs ≡ bytes t ++ ys)
 
-abbrev pub StopsOne : Budget → Stopping
-StopsOne budget xs = StopsReading xs budget
+abbrev pub StopsOneValue : Budget → Stopping
+StopsOneValue budget xs = StopsReading xs budget
 
 -- a value whose step was taken
 abbrev pub ReadsUnder : Budget → List ℕ → Value → List ℕ → Type 0
-ReadsUnder inner xs v ys = (budget : Budget) → step_in budget ≡ Some inner → ReadsOne budget xs v ys
+ReadsUnder inner xs v ys =
+    (budget : Budget) → step_in budget ≡ Some inner → ReadsOneValue budget xs v ys
 
 abbrev pub StopsUnder : Budget → Stopping
 StopsUnder inner xs e rest = ReadingStopsFrom (λ left part. StopsReading part left) inner xs e rest
@@ -34,24 +36,24 @@ ReadsItems n budget xs vs ys = (ts : Trees) × (count ts ≡ n) × Each (Readabl
     (values ts ≡ items_view vs) × (xs ≡ bytes_all ts ++ ys)
 
 abbrev pub StopsItems : ℕ → Budget → Stopping
-StopsItems n budget = StopsInCount (Readable budget) (StopsOne budget) n
+StopsItems n budget = StopsInCount (Readable budget) (StopsOneValue budget) n
 
 -- values up to a break, which is taken
-abbrev pub ReadsOpen : Budget → List ℕ → List Value → List ℕ → Type 0
-ReadsOpen budget xs vs ys = (ts : Trees) × Each (Readable budget) ts ×
+abbrev pub ReadsOpenItems : Budget → List ℕ → List Value → List ℕ → Type 0
+ReadsOpenItems budget xs vs ys = (ts : Trees) × Each (Readable budget) ts ×
     (values ts ≡ items_view vs) × (xs ≡ bytes_all ts ++ (break ∷ ys))
 
-abbrev pub StopsOpen : Budget → Stopping
-StopsOpen budget = OpenItems (Readable budget) (StopsOne budget)
+abbrev pub StopsOpenItems : Budget → Stopping
+StopsOpenItems budget = OpenItems (Readable budget) (StopsOneValue budget)
 
 -- a key, and its value behind it
 abbrev pub ReadsMember : Budget → List ℕ → Value × Value → List ℕ → Type 0
 ReadsMember budget xs m ys = (between : List ℕ) ×
-    ReadsOne budget xs m.0 between × ReadsOne budget between m.1 ys
+    ReadsOneValue budget xs m.0 between × ReadsOneValue budget between m.1 ys
 
 abbrev pub StopsMember : Budget → Stopping
 StopsMember budget xs e rest =
-    StopsOne budget xs e rest ⊎ BehindKey (Readable budget) (StopsOne budget) xs e rest
+    StopsOneValue budget xs e rest ⊎ BehindKey (Readable budget) (StopsOneValue budget) xs e rest
 
 -- so many pairs
 abbrev pub ReadsMembers : ℕ → Budget → List ℕ → List (Value × Value) → List ℕ → Type 0
@@ -68,14 +70,14 @@ abbrev pub StopsMembers : ℕ → Budget → Stopping
 StopsMembers n = StopsItems (2 * n)
 
 abbrev pub StopsOpenMembers : Budget → Stopping
-StopsOpenMembers budget = OpenPairs (Readable budget) (StopsOne budget)
+StopsOpenMembers budget = OpenPairs (Readable budget) (StopsOneValue budget)
 
 -- an array whose two steps were taken
-abbrev pub ReadsArray : Budget → List ℕ → List Value → List ℕ → Type 0
-ReadsArray budget xs vs ys =
+abbrev pub ReadsArrayInside : Budget → List ℕ → List Value → List ℕ → Type 0
+ReadsArrayInside budget xs vs ys =
     ((w : Width) × (n : ℕ) × (between : List ℕ) × HeadFits w n ×
     (xs ≡ head 4 n w ++ between) × ReadsItems n budget between vs ys)
-    ⊎ ((between : List ℕ) × (xs ≡ open_head 4 ∷ between) × ReadsOpen budget between vs ys)
+    ⊎ ((between : List ℕ) × (xs ≡ open_head 4 ∷ between) × ReadsOpenItems budget between vs ys)
 
 -- What it is for an array, or a map, to stop is what it is for a value whose first byte is one of
 -- its major type.
@@ -84,8 +86,8 @@ StopsMajor major inner xs e rest = (b : ℕ) (bs : List ℕ) → xs ≡ b ∷ bs
     (outer : Budget) → step_in outer ≡ Some inner →
     ReadingStopsFrom (λ left part. StopsReading part left) outer xs e rest
 
-abbrev pub ReadsMap : Budget → List ℕ → List (Value × Value) → List ℕ → Type 0
-ReadsMap budget xs ms ys =
+abbrev pub ReadsMapInside : Budget → List ℕ → List (Value × Value) → List ℕ → Type 0
+ReadsMapInside budget xs ms ys =
     ((w : Width) × (n : ℕ) × (between : List ℕ) × HeadFits w n ×
     (xs ≡ head 5 n w ++ between) × ReadsMembers n budget between ms ys)
     ⊎ ((between : List ℕ) × (xs ≡ open_head 5 ∷ between) × ReadsOpenMembers budget between ms ys)

@@ -2,7 +2,9 @@
 use Rattle.std.specs.Prelude.{List, [], ◌∷◌, Bool, map, string_bytes}
 use Rattle.std.specs.Ordering.{on}
 use Rattle.cbor4ii_items.specs.Initial.{half, single, double}
-use Rattle.cbor4ii_tree.specs.Item.{Item, null, boolean, integer, float, bytes_item, text, sequence, mapping, tag, Items, no_items, item, Members, no_members, member}
+use Rattle.cbor4ii_tree.specs.Item.{Item, null, boolean, integer, float, bytes_item, text, sequence}
+use Rattle.cbor4ii_tree.specs.Item.{mapping, tag, Items, no_items, item, Members, no_members}
+use Rattle.cbor4ii_tree.specs.Item.{member}
 use Rattle.cbor4ii_tree.specs.ItemEquality.{item_eq}
 use Rattle.cbor4ii_tree.specs.declared.value.FloatBits.{FloatBits}
 use Rattle.cbor4ii_tree.specs.declared.value.FloatBits.TheVariants.{F16, F32, F64}

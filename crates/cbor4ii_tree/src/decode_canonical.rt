@@ -33,10 +33,10 @@ ghost use Rattle.cbor4ii_tree.specs.StopsStrictly.{
 ghost use Rattle.cbor4ii_tree.specs.Strictly.{
   ReadsExactly,
   StopsExactly,
-  ReadsBehind,
-  StopsBehind,
+  ReadsExactlyUnder,
+  StopsExactlyUnder,
   StopsBehindFirst,
-  StopsStepped,
+  StopsExactlyStepped,
   TextAt,
   ExactItems,
   StopsExactItems,
@@ -147,7 +147,7 @@ fn read_one<S: Source>(alloc: Global, reader: &mut S) -> Result<Value, DecodeErr
 /// Reads one value whose step was taken.
 #[cycle(strict)]
 fn read_inside<S: Source>(alloc: Global, reader: &mut S) -> Result<Value, DecodeError<S::Error>>
-    ensures does { DoesUnder ReadsBehind StopsBehind
+    ensures does { DoesUnder ReadsExactlyUnder StopsExactlyUnder
         (S.view reader.old) (S.view reader.new) result }
     ensures progress { OnOk result ((S.view reader.new).bound + 1 ≤ (S.view reader.old).bound) }
 {
@@ -186,7 +186,7 @@ fn read_leaf<S: Source>(
     first: u8,
 ) -> Result<Value, DecodeError<S::Error>>
     requires major { first / 32 ≤ 3 }
-    ensures does { DoesUnder ReadsBehind (StopsBehindFirst first)
+    ensures does { DoesUnder ReadsExactlyUnder (StopsBehindFirst first)
         (S.view reader.old) (S.view reader.new) result }
     ensures progress { OnOk result ((S.view reader.new).bound + 1 ≤ (S.view reader.old).bound) }
 {
@@ -217,7 +217,7 @@ fn read_text<S: Source>(alloc: Global, reader: &mut S) -> Result<String, DecodeE
 #[cycle(strict)]
 fn read_array<S: Source>(alloc: Global, reader: &mut S) -> Result<Vec<Value>, DecodeError<S::Error>>
     ensures does { DoesUnder (ReadsStepped (ReadsVec (AcceptsCount 4 ExactItems)))
-        (StopsStepped array_name (StrictArrayStops StopsExactly))
+        (StopsExactlyStepped array_name (StrictArrayStops StopsExactly))
         (S.view reader.old) (S.view reader.new) result }
     ensures progress { OnOk result ((S.view reader.new).bound + 1 ≤ (S.view reader.old).bound) }
 {
@@ -271,7 +271,7 @@ fn read_map<S: Source>(
     reader: &mut S,
 ) -> Result<Vec<(Value, Value)>, DecodeError<S::Error>>
     ensures does { DoesUnder (ReadsStepped (ReadsVec (AcceptsCount 5 ExactMembers)))
-        (StopsStepped map_name (StrictMapStops StopsExactly))
+        (StopsExactlyStepped map_name (StrictMapStops StopsExactly))
         (S.view reader.old) (S.view reader.new) result }
     ensures progress { OnOk result ((S.view reader.new).bound + 1 ≤ (S.view reader.old).bound) }
 {

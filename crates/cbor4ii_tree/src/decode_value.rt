@@ -3,8 +3,8 @@ ghost use Rattle.std.specs.Prelude.{◌≡◌, ◌+◌, ◌≤◌, ◌/◌, [], 
 ghost use Rattle.cbor4ii_rw.specs.declared.error.DecodeError.TheVariants.{OutOfMemory};
 ghost use Rattle.cbor4ii_tree.specs.Does.{DoesUnder};
 ghost use Rattle.cbor4ii_tree.specs.Valuing.{
-  ReadsOne,
-  StopsOne,
+  ReadsOneValue,
+  StopsOneValue,
   ReadsUnder,
   StopsUnder,
   ReadsStepped,
@@ -12,12 +12,12 @@ ghost use Rattle.cbor4ii_tree.specs.Valuing.{
   StopsMajor,
   StopsFirst,
   ReadsVec,
-  ReadsArray,
+  ReadsArrayInside,
   ReadsItems,
   StopsItems,
-  ReadsOpen,
-  StopsOpen,
-  ReadsMap,
+  ReadsOpenItems,
+  StopsOpenItems,
+  ReadsMapInside,
   ReadsMembers,
   StopsMembers,
   ReadsOpenMembers,
@@ -144,7 +144,8 @@ impl<S: Source> Decode<S> for Value {
 /// Reads one value.
 #[cycle(read)]
 fn read_value<S: Source>(alloc: Global, reader: &mut S) -> Result<Value, DecodeError<S::Error>>
-    ensures does { DoesUnder ReadsOne StopsOne (S.view reader.old) (S.view reader.new) result }
+    ensures does { DoesUnder ReadsOneValue StopsOneValue (S.view reader.old) (S.view reader.new)
+        result }
     ensures item { IfOk result (λ v. IsItem (view v)) }
     ensures progress { OnOk result ((S.view reader.new).bound + 1 ≤ (S.view reader.old).bound) }
 {
@@ -214,7 +215,7 @@ fn read_leaf<S: Source>(
 /// Reads an array's values, under one step.
 #[cycle(read)]
 fn read_array<S: Source>(alloc: Global, reader: &mut S) -> Result<Vec<Value>, DecodeError<S::Error>>
-    ensures does { DoesUnder (ReadsStepped (ReadsVec ReadsArray)) (StopsOf 4)
+    ensures does { DoesUnder (ReadsStepped (ReadsVec ReadsArrayInside)) (StopsOf 4)
         (S.view reader.old) (S.view reader.new) result }
     ensures items { IfOk result (λ v. AreItems (items_view v.items)) }
     ensures progress { OnOk result ((S.view reader.new).bound + 1 ≤ (S.view reader.old).bound) }
@@ -232,7 +233,7 @@ fn array_inside<S: Source>(
     alloc: Global,
     reader: &mut S,
 ) -> Result<Vec<Value>, DecodeError<S::Error>>
-    ensures does { DoesUnder (ReadsVec ReadsArray) (StopsMajor 4)
+    ensures does { DoesUnder (ReadsVec ReadsArrayInside) (StopsMajor 4)
         (S.view reader.old) (S.view reader.new) result }
     ensures items { IfOk result (λ v. AreItems (items_view v.items)) }
     ensures progress { OnOk result ((S.view reader.new).bound + 1 ≤ (S.view reader.old).bound) }
@@ -266,7 +267,7 @@ fn counted_items<S: Source>(
 
 #[cycle(read)]
 fn open_items<S: Source>(alloc: Global, reader: &mut S) -> Result<Vec<Value>, DecodeError<S::Error>>
-    ensures does { DoesUnder (ReadsVec ReadsOpen) StopsOpen
+    ensures does { DoesUnder (ReadsVec ReadsOpenItems) StopsOpenItems
         (S.view reader.old) (S.view reader.new) result }
     ensures items { IfOk result (λ v. AreItems (items_view v.items)) }
 {
@@ -284,7 +285,7 @@ fn read_map<S: Source>(
     alloc: Global,
     reader: &mut S,
 ) -> Result<Vec<(Value, Value)>, DecodeError<S::Error>>
-    ensures does { DoesUnder (ReadsStepped (ReadsVec ReadsMap)) (StopsOf 5)
+    ensures does { DoesUnder (ReadsStepped (ReadsVec ReadsMapInside)) (StopsOf 5)
         (S.view reader.old) (S.view reader.new) result }
     ensures items { IfOk result (λ v. AreMembers (members_view v.items)) }
     ensures progress { OnOk result ((S.view reader.new).bound + 1 ≤ (S.view reader.old).bound) }
@@ -302,7 +303,7 @@ fn map_inside<S: Source>(
     alloc: Global,
     reader: &mut S,
 ) -> Result<Vec<(Value, Value)>, DecodeError<S::Error>>
-    ensures does { DoesUnder (ReadsVec ReadsMap) (StopsMajor 5)
+    ensures does { DoesUnder (ReadsVec ReadsMapInside) (StopsMajor 5)
         (S.view reader.old) (S.view reader.new) result }
     ensures items { IfOk result (λ v. AreMembers (members_view v.items)) }
     ensures progress { OnOk result ((S.view reader.new).bound + 1 ≤ (S.view reader.old).bound) }

@@ -5,7 +5,7 @@ ghost use Rattle.cbor4ii_items.specs.SequenceBytes.{items_bytes};
 ghost use Rattle.cbor4ii_items.specs.Decoding.{CostFits};
 ghost use Rattle.cbor4ii_tree.specs.Cost.{Budget};
 ghost use Rattle.cbor4ii_tree.specs.Canonical.{canon, canon_cost, with_bignums};
-ghost use Rattle.cbor4ii_tree.specs.Spelling.{Spells, Reads};
+ghost use Rattle.cbor4ii_tree.specs.Spelling.{Spells, ReadsPlainly};
 ghost use Rattle.cbor4ii_tree.specs.Encoding.{value_bytes, member_bytes};
 ghost use Rattle.cbor4ii_tree.specs.View.{view, items_view, members_view, float_view};
 ghost use Rattle.cbor4ii_tree.specs.Item.{IsItem, AreItems, AreMembers, integer};
@@ -35,7 +35,8 @@ impl Encode for Value {
             (canon (view self.now)) (with_bignums (view self.now)) (canon_cost (view self.now))) }
         ensures reads_back { OnOk result ((budget : Budget) (more : List ℕ) →
             CostFits (canon_cost (view self.now)) budget →
-            Reads (canon (view self.now) ++ more) budget (with_bignums (view self.now)) more) }
+            ReadsPlainly (canon (view self.now) ++ more) budget (with_bignums (view self.now))
+            more) }
     {
         put_value(writer, self)
     }

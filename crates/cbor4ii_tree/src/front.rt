@@ -20,7 +20,7 @@ ghost use Rattle.std.specs.Prelude.{
 ghost use Rattle.cbor4ii_rw.specs.View.{View};
 ghost use Rattle.cbor4ii_rw.specs.Reader.{Breaks, Advances, KeepsAllButBudget};
 ghost use Rattle.cbor4ii_items.specs.Head.{IsBytes};
-ghost use Rattle.cbor4ii_tree.specs.Front.{lent_view, Offers, BeginsWith, Ready};
+ghost use Rattle.cbor4ii_tree.specs.Front.{lent_view, Offers, FirstByteIs, Ready};
 ghost use Rattle.cbor4ii_tree.specs.Ahead.{Sees};
 ghost use Rattle.cbor4ii_tree.specs.Laws.Fronts.{own_budget, own_moved, lent_budget, lent_moved};
 
@@ -41,7 +41,7 @@ pub(crate) trait Front<S: Source>: Sized {
 
     /// The next byte, which stays; none at the end.
     fn peek(&mut self, reader: &mut S) -> Result<Option<u8>, S::Error>
-        ensures offers { IfOk result (λ found. Offers 1 (BeginsWith found)
+        ensures offers { IfOk result (λ found. Offers 1 (FirstByteIs found)
             (view self.old reader.old) (view self.new reader.new)) }
         ensures byte { IfOk result (λ found. IfSome found (λ b. b < 256)) }
         ensures breaks { OnErr result
@@ -160,7 +160,7 @@ impl<S: Source> Front<S> for Lent<'_> {
 
 /// The first of the shown bytes.
 fn first_byte(shown: &[u8]) -> Option<u8>
-    ensures begins { BeginsWith result shown.now }
+    ensures begins { FirstByteIs result shown.now }
     ensures byte { IfSome result (λ b. b < 256) }
 {
     if shown.len() == 0 {

@@ -12,7 +12,7 @@ ghost use Rattle.cbor4ii_tree.specs.Canonical.{canon, canon_cost, with_bignums};
 ghost use Rattle.cbor4ii_tree.specs.Refusal.{Refusal, Len, eof, depth_overflow, IsFinal, MayStop};
 ghost use Rattle.cbor4ii_tree.specs.Spelling.{
   Spells,
-  Reads,
+  ReadsPlainly,
   Skips,
   SomeAnswer,
   AtMostOne,
@@ -87,15 +87,15 @@ pub fn skipping_has_one_answer()
 /// it. An input of bytes has an answer, the one that the program computes.
 pub fn reading_has_one_answer()
     ensures at_most_one { (input : List ℕ) (budget : Budget) →
-        AtMostOne (Reads input budget) (StopsReading input budget) }
+        AtMostOne (ReadsPlainly input budget) (StopsReading input budget) }
     ensures some { (input : List ℕ) (budget : Budget) →
-        IsBytes input → SomeAnswer (Reads input budget) (StopsReading input budget) }
+        IsBytes input → SomeAnswer (ReadsPlainly input budget) (StopsReading input budget) }
     ensures computes { (input : List ℕ) (budget : Budget) (v : Item) (rest : List ℕ) →
-        Reads input budget v rest → read budget input ≡ Ok (v, rest) }
+        ReadsPlainly input budget v rest → read budget input ≡ Ok (v, rest) }
     ensures computes_refusal { (input : List ℕ) (budget : Budget) (e : Refusal) (rest : List ℕ) →
         StopsReading input budget e rest → read budget input ≡ Err (e, rest) }
     ensures means { (input : List ℕ) (budget : Budget) (v : Item) (rest : List ℕ) →
-        IsBytes input → read budget input ≡ Ok (v, rest) → Reads input budget v rest }
+        IsBytes input → read budget input ≡ Ok (v, rest) → ReadsPlainly input budget v rest }
     ensures means_refusal { (input : List ℕ) (budget : Budget) (e : Refusal) (rest : List ℕ) →
         IsBytes input → read budget input ≡ Err (e, rest) → StopsReading input budget e rest }
 {}
@@ -156,10 +156,11 @@ pub fn reading_tells_what_may_come()
     ensures no_steps { (input more : List ℕ) (budget : Budget)
         (name rest : List ℕ) (v : Item) (after : List ℕ) →
         StopsReading input budget (depth_overflow name) rest →
-        ¬ (Reads (input ++ more) budget v after) }
+        ¬ (ReadsPlainly (input ++ more) budget v after) }
     ensures never { (input more : List ℕ) (budget other : Budget)
         (e : Refusal) (rest : List ℕ) (v : Item) (after : List ℕ) →
-        IsFinal e → StopsReading input budget e rest → ¬ (Reads (input ++ more) other v after) }
+        IsFinal e → StopsReading input budget e rest
+        → ¬ (ReadsPlainly (input ++ more) other v after) }
     ensures no_others { (input : List ℕ) (budget : Budget) (e : Refusal) (rest : List ℕ) →
         StopsReading input budget e rest → MayStop e }
 {}
@@ -171,16 +172,16 @@ pub fn canonical_spelling_reads_back()
     ensures same_value { (spelling : List ℕ) (v : Item) (steps : ℕ)
         (budget : Budget) (more : List ℕ) →
         IsItem v → Spells spelling v steps → CostFits steps budget →
-        Reads (canon v ++ more) budget v more }
+        ReadsPlainly (canon v ++ more) budget v more }
     ensures tagged { (v : Item) (budget : Budget) (more : List ℕ) →
         IsItem v → CostFits (canon_cost v) budget →
-        Reads (canon v ++ more) budget (with_bignums v) more }
+        ReadsPlainly (canon v ++ more) budget (with_bignums v) more }
 {}
 
 /// Where a value is read, skipping takes the same bytes under the same budget.
 pub fn skipping_takes_what_reading_takes()
     ensures { (input : List ℕ) (budget : Budget) (v : Item) (rest : List ℕ) →
-        Reads input budget v rest → (t : Tree) × Skips input budget t rest }
+        ReadsPlainly input budget v rest → (t : Tree) × Skips input budget t rest }
 {}
 
 /// Every value of the program is one that canonical spellings speak of: its integers, floats,

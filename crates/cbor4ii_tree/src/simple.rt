@@ -2,7 +2,7 @@
 ghost use Rattle.std.specs.Prelude.{◌+◌, ◌≤◌, OnOk, IfOk};
 ghost use Rattle.cbor4ii_tree.specs.Does.{DoesUnder};
 ghost use Rattle.cbor4ii_tree.specs.Item.{IsItem};
-ghost use Rattle.cbor4ii_tree.specs.Strictly.{ReadsBehind, StopsBehindFirst};
+ghost use Rattle.cbor4ii_tree.specs.Strictly.{ReadsExactlyUnder, StopsBehindFirst};
 ghost use Rattle.cbor4ii_tree.specs.Valuing.{ReadsUnder, StopsFirst, SimpleOf, IsNoSimple};
 ghost use Rattle.cbor4ii_tree.specs.View.{view};
 
@@ -38,7 +38,7 @@ pub(crate) fn read_float<S: Source>(
     requires other { IsNoSimple first }
     ensures does { DoesUnder ReadsUnder (StopsFirst first)
         (S.view reader.old) (S.view reader.new) result }
-    ensures exactly { DoesUnder ReadsBehind (StopsBehindFirst first)
+    ensures exactly { DoesUnder ReadsExactlyUnder (StopsBehindFirst first)
         (S.view reader.old) (S.view reader.new) result }
     ensures item { IfOk result (λ v. IsItem (view v)) }
     ensures progress { OnOk result ((S.view reader.new).bound + 1 ≤ (S.view reader.old).bound) }

@@ -9,21 +9,21 @@ ghost use Rattle.cbor4ii_tree.specs.Skipping.{
   additional_of,
   start_of,
   SkipsOne,
-  StopsOne,
+  StopsSkippingOne,
   SkipsItems,
-  StopsItems,
+  StopsSkippingItems,
   SkipsOpen,
-  StopsOpen,
+  StopsSkippingOpen,
   SkipsMembers,
-  StopsMembers,
+  StopsSkippingMembers,
   SkipsUnder,
-  StopsUnder,
+  StopsSkippingUnder,
   SkipsBehind,
-  StopsBehind,
+  StopsSkippingBehind,
 };
 ghost use Rattle.cbor4ii_tree.specs.Ahead.{
   Awaits,
-  Counts,
+  CountsAmong,
   TakesAhead,
   Passes,
   SkipsSome,
@@ -114,7 +114,7 @@ pub(crate) fn skip_item<S: Source, F: Front<S>>(
     reader: &mut S,
 ) -> Result<(), DecodeError<S::Error>>
     ensures does { Does (λ xs _ ys. SkipsOne (F.view front.old reader.old).budget xs ys)
-        (StopsOne (F.view front.old reader.old).budget)
+        (StopsSkippingOne (F.view front.old reader.old).budget)
         (F.view front.old reader.old) (F.view front.new reader.new) result }
     ensures spares { Spares result }
     ensures progress { OnOk result
@@ -137,7 +137,7 @@ fn skip_one<S: Source, F: Front<S>>(
     failure: &mut Option<DecodeError<S::Error>>,
 ) -> bool
     ensures does { Does (λ xs _ ys. SkipsOne (F.view front.old reader.old).budget xs ys)
-        (StopsOne (F.view front.old reader.old).budget)
+        (StopsSkippingOne (F.view front.old reader.old).budget)
         (F.view front.old reader.old) (F.view front.new reader.new) (done result failure.new) }
     ensures spares { Spares (done result failure.new) }
     ensures progress { IsTrue result →
@@ -165,7 +165,7 @@ fn skip_some<S: Source, F: Front<S>>(
         (F.view front.old reader.old) (F.view front.new reader.new)
         (answered result failure.new) }
     ensures spares { Spares (answered result failure.new) }
-    ensures counts { IfSome result (λ n. Counts among n) }
+    ensures counts { IfSome result (λ n. CountsAmong among n) }
     ensures progress { IfSome result (λ n. 1 ≤ n →
         (F.view front.new reader.new).bound + 1 ≤ (F.view front.old reader.old).bound) }
     ensures stays { IsTrue F.apart → KeepsAllButBudget (S.view reader.old) (S.view reader.new) }
@@ -193,7 +193,7 @@ fn some_inside<S: Source, F: Front<S>>(
         (F.view front.old reader.old) (F.view front.new reader.new)
         (answered result failure.new) }
     ensures spares { Spares (answered result failure.new) }
-    ensures counts { IfSome result (λ n. Counts among n) }
+    ensures counts { IfSome result (λ n. CountsAmong among n) }
     ensures progress { IfSome result (λ n. 1 ≤ n →
         (F.view front.new reader.new).bound + 1 ≤ (F.view front.old reader.old).bound) }
     ensures stays { IsTrue F.apart → KeepsAllButBudget (S.view reader.old) (S.view reader.new) }
@@ -260,7 +260,7 @@ fn skip_behind<S: Source, F: Front<S>>(
     failure: &mut Option<DecodeError<S::Error>>,
 ) -> bool
     ensures does { Does (λ xs _ ys. SkipsBehind behind (F.view front.old reader.old).budget xs ys)
-        (StopsBehind behind (F.view front.old reader.old).budget)
+        (StopsSkippingBehind behind (F.view front.old reader.old).budget)
         (F.view front.old reader.old) (F.view front.new reader.new)
         (done result failure.new) }
     ensures spares { Spares (done result failure.new) }
@@ -304,7 +304,7 @@ fn skip_items<S: Source, F: Front<S>>(
     failure: &mut Option<DecodeError<S::Error>>,
 ) -> bool
     ensures does { Does (λ xs _ ys. SkipsItems count (F.view front.old reader.old).budget xs ys)
-        (StopsItems count (F.view front.old reader.old).budget)
+        (StopsSkippingItems count (F.view front.old reader.old).budget)
         (F.view front.old reader.old) (F.view front.new reader.new)
         (done result failure.new) }
     ensures spares { Spares (done result failure.new) }
@@ -326,7 +326,8 @@ fn skip_inward<S: Source, F: Front<S>>(
     failure: &mut Option<DecodeError<S::Error>>,
 ) -> (bool, u64)
     ensures does { Does (λ xs _ ys. SkipsItems count (F.view front.old reader.old).budget xs ys)
-        (StopsItems count (F.view front.old reader.old).budget) (F.view front.old reader.old)
+        (StopsSkippingItems count (F.view front.old reader.old).budget)
+        (F.view front.old reader.old)
         (budgeted (F.view front.old reader.old).budget (F.view front.new reader.new))
         (done result.0 failure.new) }
     ensures spares { Spares (done result.0 failure.new) }
@@ -360,7 +361,7 @@ fn skip_next<S: Source, F: Front<S>>(
     requires { 1 ≤ left }
     ensures does { Does
         (GoesOn left (F.view front.old reader.old).budget (F.view front.new reader.new).budget)
-        (StopsItems left (F.view front.old reader.old).budget) (F.view front.old reader.old)
+        (StopsSkippingItems left (F.view front.old reader.old).budget) (F.view front.old reader.old)
         (budgeted (F.view front.old reader.old).budget (F.view front.new reader.new))
         (answered result failure.new) }
     ensures spares { Spares (answered result failure.new) }
@@ -419,7 +420,7 @@ fn skip_members<S: Source, F: Front<S>>(
 ) -> bool
     ensures does { Does
         (λ xs _ ys. SkipsItems (2 * count) (F.view front.old reader.old).budget xs ys)
-        (StopsItems (2 * count) (F.view front.old reader.old).budget)
+        (StopsSkippingItems (2 * count) (F.view front.old reader.old).budget)
         (F.view front.old reader.old) (F.view front.new reader.new)
         (done result failure.new) }
     ensures spares { Spares (done result failure.new) }
@@ -450,7 +451,7 @@ fn skip_open<S: Source, F: Front<S>>(
     failure: &mut Option<DecodeError<S::Error>>,
 ) -> bool
     ensures does { Does (λ xs _ ys. SkipsOpen (F.view front.old reader.old).budget xs ys)
-        (StopsOpen (F.view front.old reader.old).budget)
+        (StopsSkippingOpen (F.view front.old reader.old).budget)
         (F.view front.old reader.old) (F.view front.new reader.new)
         (done result failure.new) }
     ensures spares { Spares (done result failure.new) }
@@ -473,7 +474,7 @@ fn skip_open_members<S: Source, F: Front<S>>(
     failure: &mut Option<DecodeError<S::Error>>,
 ) -> bool
     ensures does { Does (λ xs _ ys. SkipsMembers (F.view front.old reader.old).budget xs ys)
-        (StopsMembers (F.view front.old reader.old).budget)
+        (StopsSkippingMembers (F.view front.old reader.old).budget)
         (F.view front.old reader.old) (F.view front.new reader.new)
         (done result failure.new) }
     ensures spares { Spares (done result failure.new) }
@@ -549,7 +550,7 @@ fn skip_unseen<S: Source, F: Front<S>>(
         (F.view front.old reader.old) (F.view front.new reader.new)
         (answered result failure.new) }
     ensures spares { Spares (answered result failure.new) }
-    ensures counts { IfSome result (λ n. Counts among n) }
+    ensures counts { IfSome result (λ n. CountsAmong among n) }
     ensures progress { IfSome result (λ n. 1 ≤ n →
         (F.view front.new reader.new).bound + 1 ≤ (F.view front.old reader.old).bound) }
     ensures stays { IsTrue F.apart → KeepsAllButBudget (S.view reader.old) (S.view reader.new) }
@@ -575,7 +576,7 @@ fn skip_inside<S: Source, F: Front<S>>(
     failure: &mut Option<DecodeError<S::Error>>,
 ) -> bool
     ensures does { Does (λ xs _ ys. SkipsUnder (F.view front.old reader.old).budget xs ys)
-        (StopsUnder (F.view front.old reader.old).budget)
+        (StopsSkippingUnder (F.view front.old reader.old).budget)
         (F.view front.old reader.old) (F.view front.new reader.new)
         (done result failure.new) }
     ensures spares { Spares (done result failure.new) }
@@ -604,7 +605,7 @@ fn skip_without_step<S: Source, F: Front<S>>(
         (F.view front.old reader.old) (F.view front.new reader.new)
         (answered result failure.new) }
     ensures spares { Spares (answered result failure.new) }
-    ensures counts { IfSome result (λ n. Counts among n) }
+    ensures counts { IfSome result (λ n. CountsAmong among n) }
     ensures none { IfSome result (λ n. n ≡ 0) }
     ensures stays { IsTrue F.apart → S.view reader.new ≡ S.view reader.old }
 {

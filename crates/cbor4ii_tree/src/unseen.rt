@@ -10,7 +10,7 @@ ghost use Rattle.cbor4ii_items.specs.Reading.{Runs, peek_at, byte_at};
 ghost use Rattle.cbor4ii_items.specs.ReadStrings.{break_at};
 ghost use Rattle.cbor4ii_items.specs.Strings.{ReadsBreak, StopsBreak};
 ghost use Rattle.cbor4ii_tree.specs.Does.{Does, Spares};
-ghost use Rattle.cbor4ii_tree.specs.Skipping.{StopsUnder, Leads, TakesFirst};
+ghost use Rattle.cbor4ii_tree.specs.Skipping.{StopsSkippingUnder, Leads, TakesFirst};
 ghost use Rattle.cbor4ii_tree.specs.Ahead.{IsOpen, EndsOrNot, StopsAtEnd};
 ghost use Rattle.cbor4ii_tree.specs.HeadParts.{ArgumentAt, DropsBytes, DropsSome};
 ghost use Rattle.cbor4ii_tree.specs.Stops.{Missing, MissingAll};
@@ -46,7 +46,7 @@ pub(crate) fn skip_head<S: Source, F: Front<S>>(
     reader: &mut S,
 ) -> Result<Behind, DecodeError<S::Error>>
     ensures does { Does (Leads (F.view front.old reader.old).budget)
-        (StopsUnder (F.view front.old reader.old).budget)
+        (StopsSkippingUnder (F.view front.old reader.old).budget)
         (F.view front.old reader.old) (F.view front.new reader.new) result }
     ensures spares { Spares result }
     ensures progress { OnOk result

@@ -24,9 +24,10 @@ use Rattle.cbor4ii_items.specs.Strings.{ReadsBreak, StopsBreak}
 use Rattle.cbor4ii_items.specs.Laws.Strings.{head_not_open, text_one}
 use Rattle.cbor4ii_items.specs.Laws.SequenceParts.{always}
 use Rattle.cbor4ii_vectors.specs.Then.{ReadsThen}
-use Rattle.cbor4ii_vectors.specs.Station.{ReadsOpening, ReadsEnd, ReadsNamed, ReadsNumbered}
-use Rattle.cbor4ii_vectors.specs.Station.{ReadsStation, StopsOpening, StopsEnd, StopsNamed}
-use Rattle.cbor4ii_vectors.specs.Station.{StopsNumbered, StopsStation}
+use Rattle.cbor4ii_vectors.specs.Station.{ReadsOpening, ReadsEnd, ReadsAfterNumber}
+use Rattle.cbor4ii_vectors.specs.Station.{ReadsAfterOpening}
+use Rattle.cbor4ii_vectors.specs.Station.{ReadsStation, StopsOpening, StopsEnd, StopsAfterNumber}
+use Rattle.cbor4ii_vectors.specs.Station.{StopsAfterOpening, StopsStation}
 use Rattle.cbor4ii_vectors.specs.StationLaws.{opening_one, carried}
 use Rattle.cbor4ii_vectors.proofs.Behind.{sound_as, stops_as, then_sound, first_refuses}
 use Rattle.cbor4ii_vectors.proofs.Behind.{second_refuses, first_stopped, second_stopped}
@@ -158,22 +159,22 @@ other_end_stopped false opens named is s = cc
 -- ---- a station
 
 as_station : {E : Type 0} {e : DecodeError E} {a : View}
-    → Refuses (ReadsThen ReadsOpening ReadsNumbered) a e → Refuses ReadsStation a e
+    → Refuses (ReadsThen ReadsOpening ReadsAfterOpening) a e → Refuses ReadsStation a e
 as_station s =
-    refuses_as (ReadsThen ReadsOpening ReadsNumbered) ReadsStation
+    refuses_as (ReadsThen ReadsOpening ReadsAfterOpening) ReadsStation
     (λ xs budget none v n c h fits. none (h.0, (v.id, (v.name, tt))) n c h.1 fits) s
 
 behind_id : {E : Type 0} {e : DecodeError E} {a m : View} (indefinite : Bool) {id : ℕ} → Kept a m
-    → Sound (ReadsUnsigned 8) a m id → Refuses (ReadsNamed indefinite id) m e
-    → Refuses (ReadsNumbered indefinite) a e
+    → Sound (ReadsUnsigned 8) a m id → Refuses (ReadsAfterNumber indefinite id) m e
+    → Refuses (ReadsAfterOpening indefinite) a e
 behind_id indefinite kept s r =
-    second_refuses (ReadsUnsigned 8) (ReadsNamed indefinite) (λ v w. v ≡ w)
-    (λ v w xs u n c e h. subst (λ id. ReadsNamed indefinite id xs u n c) e h)
+    second_refuses (ReadsUnsigned 8) (ReadsAfterNumber indefinite) (λ v w. v ≡ w)
+    (λ v w xs u n c e h. subst (λ id. ReadsAfterNumber indefinite id xs u n c) e h)
     (unsigned_one 8) kept s r
 
 behind_name : {E : Type 0} {e : DecodeError E} {a m : View} (indefinite : Bool) (id : ℕ)
     {name : String Global} → Kept a m → Sound (ReadsTextAs text_content) a m name
-    → Refuses (ReadsEnd indefinite) m e → Refuses (ReadsNamed indefinite id) a e
+    → Refuses (ReadsEnd indefinite) m e → Refuses (ReadsAfterNumber indefinite id) a e
 behind_name indefinite id kept s r =
     second_refuses (ReadsTextAs text_content) (λ name. ReadsEnd indefinite)
     (λ v w. text_content v ≡ text_content w) (λ v w xs u n c e h. h)
@@ -181,17 +182,17 @@ behind_name indefinite id kept s r =
 
 pub no_opening : {E : Type 0} {e : DecodeError E} {a : View} → Refuses ReadsOpening a e
     → Refuses ReadsStation a e
-no_opening s = as_station (first_refuses ReadsOpening ReadsNumbered s)
+no_opening s = as_station (first_refuses ReadsOpening ReadsAfterOpening s)
 
 module _ {E : Type 0} {e : DecodeError E} {a i : View} (indefinite : Bool) (opened : Kept a i)
     (opening : Sound ReadsOpening a i indefinite) where
-  behind_opening : Refuses (ReadsNumbered indefinite) i e → Refuses ReadsStation a e
+  behind_opening : Refuses (ReadsAfterOpening indefinite) i e → Refuses ReadsStation a e
   behind_opening r =
-      as_station (second_refuses ReadsOpening ReadsNumbered (λ v w. v ≡ w) carried opening_one
+      as_station (second_refuses ReadsOpening ReadsAfterOpening (λ v w. v ≡ w) carried opening_one
       opened opening r)
 
   pub no_id : Refuses (ReadsUnsigned 8) i e → Refuses ReadsStation a e
-  no_id r = behind_opening (first_refuses (ReadsUnsigned 8) (ReadsNamed indefinite) r)
+  no_id r = behind_opening (first_refuses (ReadsUnsigned 8) (ReadsAfterNumber indefinite) r)
 
   module _ {j : View} (id : ℕ) (numbered : Kept i j) (number : Sound (ReadsUnsigned 8) i j id) where
     pub no_name : Refuses (ReadsTextAs text_content) j e → Refuses ReadsStation a e
@@ -208,24 +209,24 @@ module _ {E : Type 0} {e : DecodeError E} {a i : View} (indefinite : Bool) (open
 
 pub no_opening_stopped : {E : Type 0} {e : DecodeError E} {a b : View} → Stops StopsOpening a b e
     → Stops StopsStation a b e
-no_opening_stopped s = first_stopped ReadsOpening StopsOpening StopsNumbered s
+no_opening_stopped s = first_stopped ReadsOpening StopsOpening StopsAfterOpening s
 
 module _ {E : Type 0} {e : DecodeError E} {a i b : View} (indefinite : Bool) (opened : Kept a i)
     (opening : Sound ReadsOpening a i indefinite) where
-  behind_opening_stopped : Stops (StopsNumbered indefinite) i b e → Stops StopsStation a b e
+  behind_opening_stopped : Stops (StopsAfterOpening indefinite) i b e → Stops StopsStation a b e
   behind_opening_stopped s =
-      second_stopped ReadsOpening StopsOpening StopsNumbered opened opening s
+      second_stopped ReadsOpening StopsOpening StopsAfterOpening opened opening s
 
   pub no_id_stopped : Stops (StopsUnsigned (codes "u64") 8) i b e → Stops StopsStation a b e
   no_id_stopped s =
       behind_opening_stopped (first_stopped (ReadsUnsigned 8) (StopsUnsigned (codes "u64") 8)
-      (StopsNamed indefinite) s)
+      (StopsAfterNumber indefinite) s)
 
   module _ {j : View} (id : ℕ) (numbered : Kept i j) (number : Sound (ReadsUnsigned 8) i j id) where
-    behind_id_stopped : Stops (StopsNamed indefinite id) j b e → Stops StopsStation a b e
+    behind_id_stopped : Stops (StopsAfterNumber indefinite id) j b e → Stops StopsStation a b e
     behind_id_stopped s =
         behind_opening_stopped (second_stopped (ReadsUnsigned 8) (StopsUnsigned (codes "u64") 8)
-        (StopsNamed indefinite) numbered number s)
+        (StopsAfterNumber indefinite) numbered number s)
 
     pub no_name_stopped : Stops (StopsText (codes "str")) j b e → Stops StopsStation a b e
     no_name_stopped s =
@@ -245,7 +246,7 @@ pub station_sound : {a i j k b : View} (indefinite : Bool) (id : ℕ) (name : St
     → Sound ReadsStation a b (record { id = id; name = name })
 station_sound indefinite id name opened opening numbered number named text end =
     let last = then_sound (ReadsTextAs text_content) (λ name. ReadsEnd indefinite) named text end in
-    let behind = then_sound (ReadsUnsigned 8) (ReadsNamed indefinite) numbered number last in
-    let whole = then_sound ReadsOpening ReadsNumbered opened opening behind in
-    sound_as (ReadsThen ReadsOpening ReadsNumbered) ReadsStation
+    let behind = then_sound (ReadsUnsigned 8) (ReadsAfterNumber indefinite) numbered number last in
+    let whole = then_sound ReadsOpening ReadsAfterOpening opened opening behind in
+    sound_as (ReadsThen ReadsOpening ReadsAfterOpening) ReadsStation
     (λ xs n c h. (indefinite, h)) whole

@@ -35,24 +35,24 @@ ReadsEnd false xs u n c = (n ≡ 0) × (c ≡ 0)
 ReadsEnd true xs u n c = ReadsBreak xs true n c
 
 -- what is read behind the number, and behind the opening
-abbrev pub Named : Type 0
-Named = String Global × Unit {0}
+abbrev pub AfterNumber : Type 0
+AfterNumber = String Global × Unit {0}
 
-abbrev pub Numbered : Type 0
-Numbered = ℕ × Named
+abbrev pub AfterOpening : Type 0
+AfterOpening = ℕ × AfterNumber
 
 -- the name, and the end
-abbrev pub ReadsNamed : Bool → ℕ → Reads Named
-ReadsNamed indefinite id = ReadsThen (ReadsTextAs text_content) (λ name. ReadsEnd indefinite)
+abbrev pub ReadsAfterNumber : Bool → ℕ → Reads AfterNumber
+ReadsAfterNumber indefinite id = ReadsThen (ReadsTextAs text_content) (λ name. ReadsEnd indefinite)
 
 -- the number, the name, and the end
-abbrev pub ReadsNumbered : Bool → Reads Numbered
-ReadsNumbered indefinite = ReadsThen (ReadsUnsigned 8) (ReadsNamed indefinite)
+abbrev pub ReadsAfterOpening : Bool → Reads AfterOpening
+ReadsAfterOpening indefinite = ReadsThen (ReadsUnsigned 8) (ReadsAfterNumber indefinite)
 
 -- the opening, the number, the name and the end
 abbrev pub ReadsStation : Reads Station
 ReadsStation xs v n c = (indefinite : Bool)
-    × ReadsThen ReadsOpening ReadsNumbered xs (indefinite, (v.id, (v.name, tt))) n c
+    × ReadsThen ReadsOpening ReadsAfterOpening xs (indefinite, (v.id, (v.name, tt))) n c
 
 -- the same number and the same name
 abbrev pub SameStation : Station → Station → Type 0
@@ -73,13 +73,13 @@ StopsEnd true xs budget refusal rest = StopsBreak xs budget refusal rest
     ⊎ ((xs ≢ []) × (take 1 xs ≡ break ∷ [] → ⊥)
     × (refusal ≡ require_length (codes "station") Indefinite) × (rest ≡ xs))
 
-abbrev pub StopsNamed : Bool → ℕ → StopsAt
-StopsNamed indefinite id =
+abbrev pub StopsAfterNumber : Bool → ℕ → StopsAt
+StopsAfterNumber indefinite id =
     StopsThen (ReadsTextAs text_content) (StopsText (codes "str")) (λ name. StopsEnd indefinite)
 
-abbrev pub StopsNumbered : Bool → StopsAt
-StopsNumbered indefinite =
-    StopsThen (ReadsUnsigned 8) (StopsUnsigned (codes "u64") 8) (StopsNamed indefinite)
+abbrev pub StopsAfterOpening : Bool → StopsAt
+StopsAfterOpening indefinite =
+    StopsThen (ReadsUnsigned 8) (StopsUnsigned (codes "u64") 8) (StopsAfterNumber indefinite)
 
 abbrev pub StopsStation : StopsAt
-StopsStation = StopsThen ReadsOpening StopsOpening StopsNumbered
+StopsStation = StopsThen ReadsOpening StopsOpening StopsAfterOpening

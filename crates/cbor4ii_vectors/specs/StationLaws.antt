@@ -11,8 +11,9 @@ use Rattle.cbor4ii_items.specs.Laws.Containers.{first_kept}
 use Rattle.cbor4ii_vectors.specs.declared.station.Station.{Station}
 use Rattle.cbor4ii_vectors.specs.Then.{InOneWay, Within, Positive, Alone, Carries}
 use Rattle.cbor4ii_vectors.specs.Then.{then_one, then_within, then_positive, then_alone}
-use Rattle.cbor4ii_vectors.specs.Station.{ReadsOpening, ReadsEnd, Named, Numbered, ReadsNamed}
-use Rattle.cbor4ii_vectors.specs.Station.{ReadsNumbered, ReadsStation, SameStation}
+use Rattle.cbor4ii_vectors.specs.Station.{ReadsOpening, ReadsEnd, AfterNumber, AfterOpening}
+use Rattle.cbor4ii_vectors.specs.Station.{ReadsAfterNumber}
+use Rattle.cbor4ii_vectors.specs.Station.{ReadsAfterOpening, ReadsStation, SameStation}
 
 -- ---- the opening
 
@@ -60,69 +61,71 @@ end_alone true xs ys v n c p = (byte_alone break n xs ys p.0 p.1, p.1, p.2)
 
 -- ---- one part behind another
 
-abbrev pub SameNamed : Named → Named → Type 0
+abbrev pub SameNamed : AfterNumber → AfterNumber → Type 0
 SameNamed v w = (text_content v.0 ≡ text_content w.0) × Unit {0}
 
-abbrev pub SameNumbered : Numbered → Numbered → Type 0
+abbrev pub SameNumbered : AfterOpening → AfterOpening → Type 0
 SameNumbered v w = (v.0 ≡ w.0) × SameNamed v.1 w.1
 
-named_one : (indefinite : Bool) (id : ℕ) → InOneWay (ReadsNamed indefinite id) SameNamed
+named_one : (indefinite : Bool) (id : ℕ) → InOneWay (ReadsAfterNumber indefinite id) SameNamed
 named_one indefinite id =
     then_one (ReadsTextAs text_content) (λ name. ReadsEnd indefinite)
     (λ v w. text_content v ≡ text_content w) (λ v w. Unit {0}) (λ a b xs v n c e h. h)
     (text_one text_content) (λ name. end_one indefinite)
 
-numbered_one : (indefinite : Bool) → InOneWay (ReadsNumbered indefinite) SameNumbered
+numbered_one : (indefinite : Bool) → InOneWay (ReadsAfterOpening indefinite) SameNumbered
 numbered_one indefinite =
-    then_one (ReadsUnsigned 8) (ReadsNamed indefinite) (λ v w. v ≡ w) SameNamed
-    (λ a b xs v n c e h. subst (λ id. ReadsNamed indefinite id xs v n c) e h)
+    then_one (ReadsUnsigned 8) (ReadsAfterNumber indefinite) (λ v w. v ≡ w) SameNamed
+    (λ a b xs v n c e h. subst (λ id. ReadsAfterNumber indefinite id xs v n c) e h)
     (unsigned_one 8) (named_one indefinite)
 
-named_within : (indefinite : Bool) (id : ℕ) → Within (ReadsNamed indefinite id)
+named_within : (indefinite : Bool) (id : ℕ) → Within (ReadsAfterNumber indefinite id)
 named_within indefinite id =
     then_within (ReadsTextAs text_content) (λ name. ReadsEnd indefinite)
     (text_within text_content) (λ name. end_within indefinite)
 
-numbered_within : (indefinite : Bool) → Within (ReadsNumbered indefinite)
+numbered_within : (indefinite : Bool) → Within (ReadsAfterOpening indefinite)
 numbered_within indefinite =
-    then_within (ReadsUnsigned 8) (ReadsNamed indefinite)
+    then_within (ReadsUnsigned 8) (ReadsAfterNumber indefinite)
     (unsigned_within 8) (named_within indefinite)
 
-named_alone : (indefinite : Bool) (id : ℕ) → Alone (ReadsNamed indefinite id)
+named_alone : (indefinite : Bool) (id : ℕ) → Alone (ReadsAfterNumber indefinite id)
 named_alone indefinite id =
     then_alone (ReadsTextAs text_content) (λ name. ReadsEnd indefinite)
     (text_within text_content) (text_alone text_content) (λ name. end_alone indefinite)
 
-numbered_alone : (indefinite : Bool) → Alone (ReadsNumbered indefinite)
+numbered_alone : (indefinite : Bool) → Alone (ReadsAfterOpening indefinite)
 numbered_alone indefinite =
-    then_alone (ReadsUnsigned 8) (ReadsNamed indefinite)
+    then_alone (ReadsUnsigned 8) (ReadsAfterNumber indefinite)
     (unsigned_within 8) (unsigned_alone 8) (named_alone indefinite)
 
 -- what is read behind an opening is read behind the same opening
-pub carried : Carries (λ a b. a ≡ b) ReadsNumbered
-carried a b xs v n c e h = subst (λ indefinite. ReadsNumbered indefinite xs v n c) e h
+pub carried : Carries (λ a b. a ≡ b) ReadsAfterOpening
+carried a b xs v n c e h = subst (λ indefinite. ReadsAfterOpening indefinite xs v n c) e h
 
 -- ---- a station
 
-abbrev parts : Bool → Station → Bool × Numbered
+abbrev parts : Bool → Station → Bool × AfterOpening
 parts indefinite v = (indefinite, (v.id, (v.name, tt)))
 
 pub station_one : InOneWay ReadsStation SameStation
 station_one xs v w n m c d p q =
-    let whole = then_one ReadsOpening ReadsNumbered (λ a b. a ≡ b) SameNumbered carried
+    let whole = then_one ReadsOpening ReadsAfterOpening (λ a b. a ≡ b) SameNumbered carried
     opening_one numbered_one in
     let r = whole xs (parts p.0 v) (parts q.0 w) n m c d p.1 q.1 in
     (r.0, r.1, (r.2.1.0, r.2.1.1.0))
 
 pub station_within : Within ReadsStation
 station_within xs v n c p =
-    then_within ReadsOpening ReadsNumbered opening_within numbered_within xs (parts p.0 v) n c p.1
+    then_within ReadsOpening ReadsAfterOpening opening_within numbered_within xs (parts p.0 v) n c
+    p.1
 
 pub station_positive : Positive ReadsStation
 station_positive xs v n c p =
-    then_positive ReadsOpening ReadsNumbered opening_positive xs (parts p.0 v) n c p.1
+    then_positive ReadsOpening ReadsAfterOpening opening_positive xs (parts p.0 v) n c p.1
 
 pub station_alone : Alone ReadsStation
 station_alone xs ys v n c p =
-    let whole = then_alone ReadsOpening ReadsNumbered opening_within opening_alone numbered_alone in
+    let whole =
+    then_alone ReadsOpening ReadsAfterOpening opening_within opening_alone numbered_alone in
     (p.0, whole xs ys (parts p.0 v) n c p.1)

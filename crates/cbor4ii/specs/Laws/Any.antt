@@ -1,14 +1,19 @@
 -- One input is read as one value, however deep items nest.
-use Rattle.std.proofs.Common.{◌≡◌, ℕ, zero, suc, ◌+◌, ◌≤◌, inl, inr, List, [], ◌∷◌, take, drop, true, refl, sym, ap, ap₂, ◌∙◌, subst, arith, rules}
+use Rattle.std.proofs.Common.{◌≡◌, ℕ, zero, suc, ◌+◌, ◌≤◌, inl, inr, List, [], ◌∷◌, take, drop}
+use Rattle.std.proofs.Common.{true, refl, sym, ap, ap₂, ◌∙◌, subst, arith, rules}
 use Rattle.std.specs.declared.alloc.Global.{Global}
 use Rattle.std.specs.declared.vec.Vec.{Vec}
 use Rattle.cbor4ii_items.specs.Decoding.{Reads}
 use Rattle.cbor4ii_items.specs.Floats.{float_one, float_within, float_positive}
-use Rattle.cbor4ii_items.specs.Laws.Bignums.{u128_one, u128_within, u128_positive, i128_one, i128_within, i128_positive}
-use Rattle.cbor4ii_items.specs.Sequences.{ReadsParts, Unbroken, ReadsInside, ReadsSequence, ReadsPair, SamePair, SameParts}
+use Rattle.cbor4ii_items.specs.Laws.Bignums.{u128_one, u128_within, u128_positive, i128_one}
+use Rattle.cbor4ii_items.specs.Laws.Bignums.{i128_within, i128_positive}
+use Rattle.cbor4ii_items.specs.Sequences.{ReadsParts, Unbroken, ReadsInside, ReadsSequence}
+use Rattle.cbor4ii_items.specs.Sequences.{ReadsPair, SamePair, SameParts}
 use Rattle.cbor4ii_items.specs.Laws.Sequences.{sequence_one, sequence_within, sequence_positive}
-use Rattle.cbor4ii_items.specs.Simple.{simple_one, simple_within, simple_positive, bool_one, bool_within, bool_positive}
-use Rattle.cbor4ii_items.specs.Laws.Strings.{two_small, as_one, as_within, as_positive, text_one, text_within, text_positive}
+use Rattle.cbor4ii_items.specs.Simple.{simple_one, simple_within, simple_positive, bool_one}
+use Rattle.cbor4ii_items.specs.Simple.{bool_within, bool_positive}
+use Rattle.cbor4ii_items.specs.Laws.Strings.{two_small, as_one, as_within, as_positive, text_one}
+use Rattle.cbor4ii_items.specs.Laws.Strings.{text_within, text_positive}
 use Rattle.cbor4ii_items.specs.Strings.{bytes_content, text_content}
 use Rattle.cbor4ii_tree.specs.Item.{item, bytes_item, text, sequence, mapping}
 use Rattle.cbor4ii_tree.specs.View.{view, items_view, members_view}
@@ -16,8 +21,12 @@ use Rattle.cbor4ii_tree.specs.declared.value.Value.{Value, the_lemmas}
 use Rattle.cbor4ii.specs.declared.serde.de.any_leaf.AnyKind.{AnyKind}
 use Rattle.cbor4ii.specs.declared.serde.de.any_leaf.AnyKind.TheVariants.{Leaf, Array, Map, Other}
 use Rattle.cbor4ii.specs.declared.serde.de.any_leaf.AnyLeaf.{AnyLeaf}
-use Rattle.cbor4ii.specs.declared.serde.de.any_leaf.AnyLeaf.TheVariants.{Integer, Bignum, Bytes, Text, Bool as Flag, Null, F16, F32, F64}
-use Rattle.cbor4ii.specs.Any.{kind, Formed, of_integer, of_bignum, of_bytes, of_text, of_bool, of_null, of_f16, of_f32, of_f64, of_array, of_map, LeafAs, ReadsValues, ReadsPairs, KindAs, AnyInside, AnyAt, ReadsAny, SameView}
+use Rattle.cbor4ii.specs.declared.serde.de.any_leaf.AnyLeaf.TheVariants.{Integer, Bignum, Bytes}
+use Rattle.cbor4ii.specs.declared.serde.de.any_leaf.AnyLeaf.TheVariants.{Text, Bool as Flag, Null}
+use Rattle.cbor4ii.specs.declared.serde.de.any_leaf.AnyLeaf.TheVariants.{F16, F32, F64}
+use Rattle.cbor4ii.specs.Any.{kind, Formed, of_integer, of_bignum, of_bytes, of_text, of_bool}
+use Rattle.cbor4ii.specs.Any.{of_null, of_f16, of_f32, of_f64, of_array, of_map, LeafAs}
+use Rattle.cbor4ii.specs.Any.{ReadsValues, ReadsPairs, KindAs, AnyInside, AnyAt, ReadsAny, SameView}
 use Rattle.cbor4ii.specs.Sequence.{four_small, five_small}
 use Rattle.cbor4ii.specs.Stepped.{Stepped, stepped_laws}
 use Rattle.cbor4ii.specs.Tuples.{pair_laws}
@@ -43,19 +52,22 @@ items_same [] (w ∷ ws) h = absurd h
 items_same (v ∷ vs) [] h = absurd h
 items_same (v ∷ vs) (w ∷ ws) h = ap₂ item h.0 (items_same vs ws h.1)
 
-members_same : (ps qs : List (Value × Value)) → SameParts (SamePair SameView SameView) ps qs → members_view ps ≡ members_view qs
+members_same : (ps qs : List (Value × Value)) → SameParts (SamePair SameView SameView) ps qs
+    → members_view ps ≡ members_view qs
 members_same [] [] h = refl
 members_same [] (q ∷ qs) h = absurd h
 members_same (p ∷ ps) [] h = absurd h
 members_same (p ∷ ps) (q ∷ qs) h = cc (h.0.0, h.0.1, members_same ps qs h.1)
 
-view_array : (vs ws : Vec Value Global) → items_view vs.items ≡ items_view ws.items → SameView (of_array vs) (of_array ws)
+view_array : (vs ws : Vec Value Global) → items_view vs.items ≡ items_view ws.items
+    → SameView (of_array vs) (of_array ws)
 view_array vs ws e =
     let f : view (of_array vs) ≡ sequence (items_view vs.items) = search (rules, the_lemmas) in
     let g : view (of_array ws) ≡ sequence (items_view ws.items) = search (rules, the_lemmas) in
     f ∙ ap sequence e ∙ sym g
 
-view_map : (ps qs : Vec (Value × Value) Global) → members_view ps.items ≡ members_view qs.items → SameView (of_map ps) (of_map qs)
+view_map : (ps qs : Vec (Value × Value) Global) → members_view ps.items ≡ members_view qs.items
+    → SameView (of_map ps) (of_map qs)
 view_map ps qs e =
     let f : view (of_map ps) ≡ mapping (members_view ps.items) = search (rules, the_lemmas) in
     let g : view (of_map qs) ≡ mapping (members_view qs.items) = search (rules, the_lemmas) in
@@ -63,7 +75,9 @@ view_map ps qs e =
 
 -- ---- items that hold no other
 
-formed_laws : {W : Type 0} {reads : Reads W} {same : W → W → Type 0} (form : W → Value) → ((v w : W) → same v w → SameView (form v) (form w)) → Lawful reads same true → Lawful (Formed reads form) SameView true
+formed_laws : {W : Type 0} {reads : Reads W} {same : W → W → Type 0} (form : W → Value)
+    → ((v w : W) → same v w → SameView (form v) (form w)) → Lawful reads same true
+    → Lawful (Formed reads form) SameView true
 formed_laws form alike h = record {
   one = λ xs v w n m c d p q. (
       let e = h.one xs p.0 q.0 n m c d p.1 q.1 in
@@ -72,81 +86,168 @@ formed_laws form alike h = record {
   positive = λ e xs v n c p. h.positive e xs p.0 n c p.1;
 }
 
-formed_by : {W : Type 0} {reads : Reads W} (form : W → Value) → Lawful reads (λ v w. v ≡ w) true → Lawful (Formed reads form) SameView true
+formed_by : {W : Type 0} {reads : Reads W} (form : W → Value) → Lawful reads (λ v w. v ≡ w) true
+    → Lawful (Formed reads form) SameView true
 formed_by form h = formed_laws form (λ v w e. ap (λ z. view (form z)) e) h
 
 leaf_laws : (leaf : AnyLeaf) → Lawful (LeafAs leaf) SameView true
-leaf_laws Integer = formed_by of_integer (record { one = i128_one; within = i128_within; positive = λ _. i128_positive })
-leaf_laws Bignum = formed_by of_bignum (record { one = λ xs v w n m c d p q. u128_one xs v w n m c d p.0 q.0; within = λ xs v n c p. u128_within xs v n c p.0; positive = λ _ xs v n c p. u128_positive xs v n c p.0 })
-leaf_laws Bytes = formed_laws of_bytes view_bytes (record { one = as_one 2 two_small bytes_content; within = as_within 2 two_small bytes_content; positive = λ _. as_positive 2 two_small bytes_content })
-leaf_laws Text = formed_laws of_text view_text (record { one = text_one text_content; within = text_within text_content; positive = λ _. text_positive text_content })
-leaf_laws Flag = formed_by of_bool (record { one = bool_one; within = bool_within; positive = λ _. bool_positive })
-leaf_laws Null = formed_by of_null (record { one = simple_one; within = simple_within; positive = λ _. simple_positive })
-leaf_laws F16 = formed_laws of_f16 (λ v w e. ap (λ k. view (of_f16 (record { 0 = k }))) e) (record { one = λ xs v w. float_one 0xf9 2 xs v.0 w.0; within = λ xs v. float_within 0xf9 2 xs v.0; positive = λ _ xs v. float_positive 0xf9 2 xs v.0 })
-leaf_laws F32 = formed_laws of_f32 (λ v w e. ap (λ k. view (of_f32 (record { 0 = k }))) e) (record { one = λ xs v w. float_one 0xfa 4 xs v.0 w.0; within = λ xs v. float_within 0xfa 4 xs v.0; positive = λ _ xs v. float_positive 0xfa 4 xs v.0 })
-leaf_laws F64 = formed_laws of_f64 (λ v w e. ap (λ k. view (of_f64 (record { 0 = k }))) e) (record { one = λ xs v w. float_one 0xfb 8 xs v.0 w.0; within = λ xs v. float_within 0xfb 8 xs v.0; positive = λ _ xs v. float_positive 0xfb 8 xs v.0 })
+leaf_laws Integer =
+    formed_by of_integer
+    (record { one = i128_one; within = i128_within; positive = λ _. i128_positive })
+leaf_laws Bignum =
+    formed_by of_bignum (record {
+      one = λ xs v w n m c d p q. u128_one xs v w n m c d p.0 q.0;
+      within = λ xs v n c p. u128_within xs v n c p.0;
+      positive = λ _ xs v n c p. u128_positive xs v n c p.0;
+    })
+leaf_laws Bytes =
+    formed_laws of_bytes view_bytes
+    (record {
+      one = as_one 2 two_small bytes_content;
+      within = as_within 2 two_small
+          bytes_content;
+      positive = λ _. as_positive 2 two_small bytes_content;
+    })
+leaf_laws Text =
+    formed_laws of_text view_text (record {
+      one = text_one text_content;
+      within = text_within text_content;
+      positive = λ _. text_positive text_content;
+    })
+leaf_laws Flag =
+    formed_by of_bool
+    (record { one = bool_one; within = bool_within; positive = λ _. bool_positive })
+leaf_laws Null =
+    formed_by of_null
+    (record { one = simple_one; within = simple_within; positive = λ _. simple_positive })
+leaf_laws F16 =
+    formed_laws of_f16 (λ v w e. ap (λ k. view (of_f16 (record { 0 = k }))) e)
+    (record {
+      one = λ xs v w. float_one 0xf9 2 xs v.0 w.0;
+      within = λ xs v.
+          float_within 0xf9 2 xs v.0;
+      positive = λ _ xs v. float_positive 0xf9 2 xs v.0;
+    })
+leaf_laws F32 =
+    formed_laws of_f32 (λ v w e. ap (λ k. view (of_f32 (record { 0 = k }))) e)
+    (record {
+      one = λ xs v w. float_one 0xfa 4 xs v.0 w.0;
+      within = λ xs v.
+          float_within 0xfa 4 xs v.0;
+      positive = λ _ xs v. float_positive 0xfa 4 xs v.0;
+    })
+leaf_laws F64 =
+    formed_laws of_f64 (λ v w e. ap (λ k. view (of_f64 (record { 0 = k }))) e)
+    (record {
+      one = λ xs v w. float_one 0xfb 8 xs v.0 w.0;
+      within = λ xs v.
+          float_within 0xfb 8 xs v.0;
+      positive = λ _ xs v. float_positive 0xfb 8 xs v.0;
+    })
 
 -- ---- items that hold others
 
 module _ {inner : Reads Value} (h : Lawful inner SameView true) where
   kind_laws : (k : AnyKind) → Lawful (KindAs inner k) SameView true
   kind_laws (Leaf leaf) = leaf_laws leaf
-  kind_laws Array = formed_laws {reads = ReadsValues inner} of_array (λ vs ws e. view_array vs ws (items_same vs.items ws.items e)) (record {
-    one = λ xs v w. sequence_one 4 four_small inner true SameView h.one xs v.items w.items;
-    within = λ xs v. sequence_within 4 four_small inner true h.within xs v.items;
-    positive = λ _ xs v. sequence_positive 4 four_small inner true xs v.items;
-  })
+  kind_laws Array =
+      formed_laws {reads = ReadsValues inner} of_array
+      (λ vs ws e. view_array vs ws (items_same vs.items ws.items e)) (record {
+        one = λ xs v w. sequence_one 4 four_small inner true SameView h.one xs v.items w.items;
+        within = λ xs v. sequence_within 4 four_small inner true h.within xs v.items;
+        positive = λ _ xs v. sequence_positive 4 four_small inner true xs v.items;
+      })
   kind_laws Map =
       let pair = pair_laws inner inner SameView SameView true true h h in
-      formed_laws {reads = ReadsPairs inner} of_map (λ ps qs e. view_map ps qs (members_same ps.items qs.items e)) (record {
-        one = λ xs v w. sequence_one 5 five_small (ReadsPair inner inner) true (SamePair SameView SameView) pair.one xs v.items w.items;
-        within = λ xs v. sequence_within 5 five_small (ReadsPair inner inner) true pair.within xs v.items;
+      formed_laws {reads = ReadsPairs inner} of_map
+      (λ ps qs e. view_map ps qs (members_same ps.items qs.items e)) (record {
+        one = λ xs v w. sequence_one 5 five_small (ReadsPair inner inner) true
+            (SamePair SameView SameView) pair.one xs v.items w.items;
+        within = λ xs v.
+            sequence_within 5 five_small (ReadsPair inner inner) true pair.within xs v.items;
         positive = λ _ xs v. sequence_positive 5 five_small (ReadsPair inner inner) true xs v.items;
       })
-  kind_laws Other = record { one = λ xs v w n m c d p q. absurd p; within = λ xs v n c p. absurd p; positive = λ e xs v n c p. absurd p }
+  kind_laws Other = record {
+    one = λ xs v w n m c d p q. absurd p;
+    within = λ xs v n c p. absurd p;
+    positive = λ e xs v n c p. absurd p;
+  }
 
   -- the first byte is one
-  same_kind : (xs : List ℕ) (v : Value) (n c b d : ℕ) → take 1 xs ≡ b ∷ [] → take 1 xs ≡ d ∷ [] → KindAs inner (kind b) xs v n c → KindAs inner (kind d) xs v n c
-  same_kind xs v n c b d e f r = let is : b ≡ d = cc in subst (λ z. KindAs inner (kind z) xs v n c) is r
+  same_kind : (xs : List ℕ) (v : Value) (n c b d : ℕ) → take 1 xs ≡ b ∷ [] → take 1 xs ≡ d ∷ []
+      → KindAs inner (kind b) xs v n c → KindAs inner (kind d) xs v n c
+  same_kind xs v n c b d e f r =
+      let is : b ≡ d = cc in subst (λ z. KindAs inner (kind z) xs v n c) is r
 
   inside_laws : Lawful (AnyInside inner) SameView true
   inside_laws = record {
-    one = λ xs v w n m c d p q. (kind_laws (kind q.0)).one xs v w n m c d (same_kind xs v n c p.0 q.0 p.1 q.1 p.2) q.2;
+    one = λ xs v w n m c d p q.
+        (kind_laws (kind q.0)).one xs v w n m c d (same_kind xs v n c p.0 q.0 p.1 q.1 p.2) q.2;
     within = λ xs v n c p. (kind_laws (kind p.0)).within xs v n c p.2;
     positive = λ e xs v n c p. (kind_laws (kind p.0)).positive e xs v n c p.2;
   }
 
 at_laws : (k : ℕ) → Lawful (AnyAt k) SameView true
-at_laws zero = record { one = λ xs v w n m c d p q. absurd p; within = λ xs v n c p. absurd p; positive = λ e xs v n c p. absurd p }
+at_laws zero = record {
+  one = λ xs v w n m c d p q. absurd p;
+  within = λ xs v n c p. absurd p;
+  positive = λ e xs v n c p. absurd p;
+}
 at_laws (suc k) = stepped_laws (inside_laws (at_laws k))
 
 -- ---- more is read where more of the parts is
 
-abbrev Within : {V : Type 0} → Reads V → Reads V → Type 0
-Within {V} f g = (xs : List ℕ) (v : V) (n c : ℕ) → f xs v n c → g xs v n c
+abbrev ReadsMore : {V : Type 0} → Reads V → Reads V → Type 0
+ReadsMore {V} f g = (xs : List ℕ) (v : V) (n c : ℕ) → f xs v n c → g xs v n c
 
-parts_more : {P : Type 0} {f g : Reads P} → Within f g → Within (ReadsParts f) (ReadsParts g)
+parts_more : {P : Type 0} {f g : Reads P} → ReadsMore f g → ReadsMore (ReadsParts f) (ReadsParts g)
 parts_more more xs [] n c h = h
-parts_more more xs (p ∷ ps) n c h = (h.0, h.1, h.2, h.3, more xs p h.0 h.1 h.4, parts_more more (drop h.0 xs) ps h.2 h.3 h.5, h.6, h.7)
+parts_more more xs (p ∷ ps) n c h = (
+  h.0,
+  h.1,
+  h.2,
+  h.3,
+  more xs p h.0 h.1 h.4,
+  parts_more more (drop h.0 xs) ps h.2 h.3 h.5,
+  h.6,
+  h.7,
+)
 
-unbroken_more : {P : Type 0} {f g : Reads P} → Within f g → Within (Unbroken f) (Unbroken g)
+unbroken_more : {P : Type 0} {f g : Reads P} → ReadsMore f g → ReadsMore (Unbroken f) (Unbroken g)
 unbroken_more more xs p n c h = (h.0, more xs p n c h.1)
 
-inside_more : {P : Type 0} {f g : Reads P} (major : ℕ) → Within f g → Within (ReadsInside major f true) (ReadsInside major g true)
-inside_more major more xs ps n c (inl h) = inl (record { before = h.before; head = h.head; between = h.between; parts = parts_more more (drop h.before xs) ps h.between c h.parts; size = h.size })
+inside_more : {P : Type 0} {f g : Reads P} (major : ℕ) → ReadsMore f g
+    → ReadsMore (ReadsInside major f true) (ReadsInside major g true)
+inside_more major more xs ps n c (inl h) =
+    inl (record {
+      before = h.before;
+      head = h.head;
+      between = h.between;
+      parts = parts_more more (drop h.before xs) ps h.between c h.parts;
+      size = h.size;
+    })
 inside_more major more xs ps n c (inr h) =
     let u = h.parts in
     inr (record {
       begins = h.begins;
       between = h.between;
-      parts = record { allowed = u.allowed; between = u.between; parts = parts_more (unbroken_more more) (drop 1 xs) ps u.between c u.parts; ends = u.ends; size = u.size };
+      parts =
+          record {
+            allowed = u.allowed;
+            between = u.between;
+            parts = parts_more (unbroken_more more)
+                (drop 1 xs) ps u.between c u.parts;
+            ends = u.ends;
+            size = u.size;
+          };
       size = h.size;
     })
 
-sequence_more : {P : Type 0} {f g : Reads P} (major : ℕ) → Within f g → Within (ReadsSequence major f true) (ReadsSequence major g true)
+sequence_more : {P : Type 0} {f g : Reads P} (major : ℕ) → ReadsMore f g
+    → ReadsMore (ReadsSequence major f true) (ReadsSequence major g true)
 sequence_more major more xs ps n c h = (h.0, inside_more major more xs ps n h.0 h.1, h.2)
 
-pair_more : {f g : Reads Value} → Within f g → Within (ReadsPair f f) (ReadsPair g g)
+pair_more : {f g : Reads Value} → ReadsMore f g → ReadsMore (ReadsPair f f) (ReadsPair g g)
 pair_more more xs p n c h = record {
   key_size = h.key_size;
   key_cost = h.key_cost;
@@ -158,59 +259,105 @@ pair_more more xs p n c h = record {
   cost = h.cost;
 }
 
-kind_more : {f g : Reads Value} → Within f g → (k : AnyKind) → Within (KindAs f k) (KindAs g k)
+kind_more : {f g : Reads Value} → ReadsMore f g → (k : AnyKind)
+    → ReadsMore (KindAs f k) (KindAs g k)
 kind_more more (Leaf leaf) xs v n c h = h
 kind_more more Array xs v n c h = (h.0, sequence_more 4 more xs h.0.items n c h.1, h.2)
 kind_more more Map xs v n c h = (h.0, sequence_more 5 (pair_more more) xs h.0.items n c h.1, h.2)
 kind_more more Other xs v n c h = h
 
-any_more : {f g : Reads Value} → Within f g → Within (AnyInside f) (AnyInside g)
+any_more : {f g : Reads Value} → ReadsMore f g → ReadsMore (AnyInside f) (AnyInside g)
 any_more more xs v n c h = (h.0, h.1, kind_more more (kind h.0) xs v n c h.2)
 
 -- where items may nest deeper
-deeper : (k j : ℕ) → k ≤ j → Within (AnyAt k) (AnyAt j)
+deeper : (k j : ℕ) → k ≤ j → ReadsMore (AnyAt k) (AnyAt j)
 deeper zero j le xs v n c h = absurd h
 deeper (suc k) zero le xs v n c h = absurd (omega arith)
-deeper (suc k) (suc j) le xs v n c h = (h.0, any_more (deeper k j (omega arith)) xs v n h.0 h.1, h.2)
+deeper (suc k) (suc j) le xs v n c h =
+    (h.0, any_more (deeper k j (omega arith)) xs v n h.0 h.1, h.2)
 
 pub any_laws : Lawful ReadsAny SameView true
 any_laws = record {
-  one = λ xs v w n m c d p q. (at_laws (p.0 + q.0)).one xs v w n m c d (deeper p.0 (p.0 + q.0) (omega arith) xs v n c p.1) (deeper q.0 (p.0 + q.0) (omega arith) xs w m d q.1);
+  one = λ xs v w n m c d p q.
+      (at_laws (p.0 + q.0)).one xs v w n m c d (deeper p.0 (p.0 + q.0) (omega arith) xs v n c p.1)
+      (deeper q.0 (p.0 + q.0) (omega arith) xs w m d q.1);
   within = λ xs v n c p. (at_laws p.0).within xs v n c p.1;
   positive = λ e xs v n c p. (at_laws p.0).positive e xs v n c p.1;
 }
 
 -- ---- parts that nest, each so deep, nest no deeper than some depth
 
-module _ {P : Type 0} (reads : Reads P) (to : ℕ → Reads P) (more : (k j : ℕ) → k ≤ j → Within (to k) (to j)) where
+module _ {P : Type 0} (reads : Reads P) (to : ℕ → Reads P)
+    (more : (k j : ℕ) → k ≤ j → ReadsMore (to k) (to j)) where
   abbrev Bounded : Type 0
   Bounded = (xs : List ℕ) (p : P) (n c : ℕ) → reads xs p n c → (k : ℕ) × to k xs p n c
 
-  parts_in : Bounded → (xs : List ℕ) (ps : List P) (n c : ℕ) → ReadsParts reads xs ps n c → (k : ℕ) × ReadsParts (to k) xs ps n c
+  parts_in : Bounded → (xs : List ℕ) (ps : List P) (n c : ℕ) → ReadsParts reads xs ps n c
+      → (k : ℕ) × ReadsParts (to k) xs ps n c
   parts_in bound xs [] n c h = (0, h)
   parts_in bound xs (p ∷ ps) n c h =
       let s = bound xs p h.0 h.1 h.4 in
       let r = parts_in bound (drop h.0 xs) ps h.2 h.3 h.5 in
-      let k = s.0 + r.0 in
-      (k, (h.0, h.1, h.2, h.3, more s.0 k (omega arith) xs p h.0 h.1 s.1, parts_more (more r.0 k (omega arith)) (drop h.0 xs) ps h.2 h.3 r.1, h.6, h.7))
+      let k = s.0 + r.0 in (
+        k,
+        (
+          h.0,
+          h.1,
+          h.2,
+          h.3,
+          more s.0 k (omega arith) xs p h.0 h.1 s.1,
+          parts_more (more r.0 k (omega arith)) (drop h.0 xs) ps h.2 h.3 r.1,
+          h.6,
+          h.7,
+        ),
+      )
 
-module _ {P : Type 0} (reads : Reads P) (to : ℕ → Reads P) (more : (k j : ℕ) → k ≤ j → Within (to k) (to j)) (bound : (xs : List ℕ) (p : P) (n c : ℕ) → reads xs p n c → (k : ℕ) × to k xs p n c) where
-  unbroken_in : (xs : List ℕ) (p : P) (n c : ℕ) → Unbroken reads xs p n c → (k : ℕ) × Unbroken (to k) xs p n c
+module _ {P : Type 0} (reads : Reads P) (to : ℕ → Reads P)
+    (more : (k j : ℕ) → k ≤ j → ReadsMore (to k) (to j))
+    (bound : (xs : List ℕ) (p : P) (n c : ℕ) → reads xs p n c → (k : ℕ) × to k xs p n c) where
+  unbroken_in : (xs : List ℕ) (p : P) (n c : ℕ) → Unbroken reads xs p n c
+      → (k : ℕ) × Unbroken (to k) xs p n c
   unbroken_in xs p n c h = let s = bound xs p n c h.1 in (s.0, (h.0, s.1))
 
-  inside_in : (major : ℕ) (xs : List ℕ) (ps : List P) (n c : ℕ) → ReadsInside major reads true xs ps n c → (k : ℕ) × ReadsInside major (to k) true xs ps n c
+  inside_in : (major : ℕ) (xs : List ℕ) (ps : List P) (n c : ℕ)
+      → ReadsInside major reads true xs ps n c → (k : ℕ) × ReadsInside major (to k) true xs ps n c
   inside_in major xs ps n c (inl h) =
-      let s = parts_in reads to more bound (drop h.before xs) ps h.between c h.parts in
-      (s.0, inl (record { before = h.before; head = h.head; between = h.between; parts = s.1; size = h.size }))
+      let s = parts_in reads to more bound (drop h.before xs) ps h.between c h.parts in (
+        s.0,
+        inl (record {
+          before = h.before;
+          head = h.head;
+          between = h.between;
+          parts = s.1;
+          size = h.size;
+        }),
+      )
   inside_in major xs ps n c (inr h) =
       let u = h.parts in
-      let s = parts_in (Unbroken reads) (λ k. Unbroken (to k)) (λ k j le. unbroken_more (more k j le)) unbroken_in (drop 1 xs) ps u.between c u.parts in
-      (s.0, inr (record { begins = h.begins; between = h.between; parts = record { allowed = u.allowed; between = u.between; parts = s.1; ends = u.ends; size = u.size }; size = h.size }))
+      let s = parts_in (Unbroken reads) (λ k. Unbroken (to k))
+      (λ k j le. unbroken_more (more k j le)) unbroken_in (drop 1 xs) ps u.between c u.parts in (
+        s.0,
+        inr (record {
+          begins = h.begins;
+          between = h.between;
+          parts = record {
+            allowed = u.allowed;
+            between = u.between;
+            parts = s.1;
+            ends = u.ends;
+            size = u.size;
+          };
+          size = h.size;
+        }),
+      )
 
-  sequence_in : (major : ℕ) (xs : List ℕ) (ps : List P) (n c : ℕ) → ReadsSequence major reads true xs ps n c → (k : ℕ) × ReadsSequence major (to k) true xs ps n c
+  sequence_in : (major : ℕ) (xs : List ℕ) (ps : List P) (n c : ℕ)
+      → ReadsSequence major reads true xs ps n c
+      → (k : ℕ) × ReadsSequence major (to k) true xs ps n c
   sequence_in major xs ps n c h = let s = inside_in major xs ps n h.0 h.1 in (s.0, (h.0, s.1, h.2))
 
-pair_in : (xs : List ℕ) (p : Value × Value) (n c : ℕ) → ReadsPair ReadsAny ReadsAny xs p n c → (k : ℕ) × ReadsPair (AnyAt k) (AnyAt k) xs p n c
+pair_in : (xs : List ℕ) (p : Value × Value) (n c : ℕ) → ReadsPair ReadsAny ReadsAny xs p n c
+    → (k : ℕ) × ReadsPair (AnyAt k) (AnyAt k) xs p n c
 pair_in xs p n c h =
     let k = h.key.0 + h.value.0 in (
       k,
@@ -220,25 +367,37 @@ pair_in xs p n c h =
         key = deeper h.key.0 k (omega arith) xs p.0 h.key_size h.key_cost h.key.1;
         value_size = h.value_size;
         value_cost = h.value_cost;
-        value = deeper h.value.0 k (omega arith) (drop h.key_size xs) p.1 h.value_size h.value_cost h.value.1;
+        value =
+            deeper h.value.0 k (omega arith)
+            (drop h.key_size xs) p.1 h.value_size h.value_cost h.value.1;
         size = h.size;
         cost = h.cost;
       },
     )
 
-kind_in : (k : AnyKind) (xs : List ℕ) (v : Value) (n c : ℕ) → KindAs ReadsAny k xs v n c → (j : ℕ) × KindAs (AnyAt j) k xs v n c
+kind_in : (k : AnyKind) (xs : List ℕ) (v : Value) (n c : ℕ) → KindAs ReadsAny k xs v n c
+    → (j : ℕ) × KindAs (AnyAt j) k xs v n c
 kind_in (Leaf leaf) xs v n c h = (0, h)
-kind_in Array xs v n c h = let s = sequence_in ReadsAny AnyAt deeper (λ xs v n c r. r) 4 xs h.0.items n c h.1 in (s.0, (h.0, s.1, h.2))
-kind_in Map xs v n c h = let s = sequence_in (ReadsPair ReadsAny ReadsAny) (λ k. ReadsPair (AnyAt k) (AnyAt k)) (λ k j le. pair_more (deeper k j le)) pair_in 5 xs h.0.items n c h.1 in (s.0, (h.0, s.1, h.2))
+kind_in Array xs v n c h =
+    let s = sequence_in ReadsAny AnyAt deeper (λ xs v n c r. r) 4 xs h.0.items n c h.1 in
+    (s.0, (h.0, s.1, h.2))
+kind_in Map xs v n c h =
+    let s = sequence_in (ReadsPair ReadsAny ReadsAny) (λ k. ReadsPair (AnyAt k) (AnyAt k))
+    (λ k j le. pair_more (deeper k j le)) pair_in 5 xs h.0.items n c h.1 in
+    (s.0, (h.0, s.1, h.2))
 kind_in Other xs v n c h = absurd h
 
 -- a value under its step is any value
-pub any_of_inside : (xs : List ℕ) (v : Value) (n c : ℕ) → Stepped (AnyInside ReadsAny) xs v n c → ReadsAny xs v n c
-any_of_inside xs v n c h = let s = kind_in (kind h.1.0) xs v n h.0 h.1.2 in (suc s.0, (h.0, (h.1.0, h.1.1, s.1), h.2))
+pub any_of_inside : (xs : List ℕ) (v : Value) (n c : ℕ) → Stepped (AnyInside ReadsAny) xs v n c
+    → ReadsAny xs v n c
+any_of_inside xs v n c h =
+    let s = kind_in (kind h.1.0) xs v n h.0 h.1.2 in (suc s.0, (h.0, (h.1.0, h.1.1, s.1), h.2))
 
-inside_at : (k : ℕ) (xs : List ℕ) (v : Value) (n c : ℕ) → AnyAt k xs v n c → Stepped (AnyInside ReadsAny) xs v n c
+inside_at : (k : ℕ) (xs : List ℕ) (v : Value) (n c : ℕ) → AnyAt k xs v n c
+    → Stepped (AnyInside ReadsAny) xs v n c
 inside_at zero xs v n c h = absurd h
 inside_at (suc k) xs v n c h = (h.0, any_more (λ ys w m d r. (k, r)) xs v n h.0 h.1, h.2)
 
-pub inside_of_any : (xs : List ℕ) (v : Value) (n c : ℕ) → ReadsAny xs v n c → Stepped (AnyInside ReadsAny) xs v n c
+pub inside_of_any : (xs : List ℕ) (v : Value) (n c : ℕ) → ReadsAny xs v n c
+    → Stepped (AnyInside ReadsAny) xs v n c
 inside_of_any xs v n c h = inside_at h.0 xs v n c h.1

@@ -1,12 +1,16 @@
 -- Integers of sixteen bytes are read exactly as they are spelled.
-use Rattle.std.proofs.Common.{◌≡◌, ℕ, zero, suc, ◌+◌, ◌*◌, ◌/◌, ◌^◌, ◌<◌, ◌≤◌, inl, inr, List, [], ◌∷◌, ◌++◌, length, drop, take, Ok, false, refl, sym, ap, ◌∙◌, subst, arith, ltb, le-ltb}
+use Rattle.std.proofs.Common.{◌≡◌, ℕ, zero, suc, ◌+◌, ◌*◌, ◌/◌, ◌^◌, ◌<◌, ◌≤◌, inl, inr, List, []}
+use Rattle.std.proofs.Common.{◌∷◌, ◌++◌, length, drop, take, Ok, false, refl, sym, ap, ◌∙◌, subst}
+use Rattle.std.proofs.Common.{arith, ltb, le-ltb}
 use Rattle.std.specs.Prelude.{ℤ, pos, negsuc, codes, fold}
 use Rattle.std.proofs.lemmas.List.{length-drop, length-append, length-take-le}
 use Rattle.cbor4ii_items.specs.Head.{IsBytes}
 use Rattle.cbor4ii_items.specs.Reading.{go_on, ◌>=>◌}
 use Rattle.cbor4ii_items.specs.Heads.{ReadsHead}
 use Rattle.cbor4ii_items.specs.ReadHead.{head_at, number_on}
-use Rattle.cbor4ii_items.specs.ReadNumber.{below, as_positive, as_negative, magnitude_by, magnitude_at, unsigned_bignum_at, u128_by, u128_at, small_magnitude_at, signed_bignum_at, i128_by, i128_at}
+use Rattle.cbor4ii_items.specs.ReadNumber.{below, as_positive, as_negative, magnitude_by}
+use Rattle.cbor4ii_items.specs.ReadNumber.{magnitude_at, unsigned_bignum_at, u128_by, u128_at}
+use Rattle.cbor4ii_items.specs.ReadNumber.{small_magnitude_at, signed_bignum_at, i128_by, i128_at}
 use Rattle.cbor4ii_items.specs.Magnitude.{number_of}
 use Rattle.cbor4ii_items.specs.Numbers.{ReadsMagnitude, ReadsBignum, ReadsU128, ReadsI128}
 use Rattle.cbor4ii_items.specs.Laws.Fronts.{drop_more, two_fronts, behind_front, the_front}
@@ -17,38 +21,60 @@ use Rattle.cbor4ii_items.specs.Laws.Signed.{starts, peek_first, below_again}
 
 -- ---- byte strings as numbers
 
-pub number_taken : (name : List ℕ) (expect k high : ℕ) (xs : List ℕ) → k ≤ length xs → number_on name expect k high xs ≡ Ok (fold (λ h b. h * 256 + b) high (take k xs), drop k xs)
+pub number_taken : (name : List ℕ) (expect k high : ℕ) (xs : List ℕ) → k ≤ length xs
+    → number_on name expect k high xs ≡ Ok (fold (λ h b. h * 256 + b) high (take k xs), drop k xs)
 number_taken name expect zero high xs h = refl
 number_taken name expect (suc k) high [] h = absurd (omega arith)
-number_taken name expect (suc k) high (x ∷ xs) h = number_taken name expect k (high * 256 + x) xs (omega arith)
+number_taken name expect (suc k) high (x ∷ xs) h =
+    number_taken name expect k (high * 256 + x) xs (omega arith)
 
-pub magnitude_again : (name : List ℕ) (xs : List ℕ) (v n : ℕ) → ReadsMagnitude xs v n → ReadBy (magnitude_at name) xs v n 0
+pub magnitude_again : (name : List ℕ) (xs : List ℕ) (v n : ℕ) → ReadsMagnitude xs v n
+    → ReadBy (magnitude_at name) xs v n 0
 magnitude_again name xs v n p =
     let h = head_read name 2 8 xs p.count p.before (omega arith) p.counted in
     let t : ltb 16 p.count ≡ false = le-ltb 16 p.count p.short in
-    let long : p.count ≤ length (drop p.before xs) = omega (arith, length-drop p.before xs, p.within) in
-    let taken : number_on name p.count p.count 0 (drop p.before xs) ≡ Ok (v, drop n xs) = number_taken name p.count p.count 0 (drop p.before xs) long ∙ (ap (λ (k : ℕ). Ok (k, drop p.count (drop p.before xs))) (sym p.value) ∙ ap (λ (zs : List ℕ). Ok (v, zs)) (drop_more p.count p.before xs ∙ ap (λ j. drop j xs) (sym p.size))) in
+    let long : p.count ≤ length (drop p.before xs) =
+    omega (arith, length-drop p.before xs, p.within) in
+    let taken : number_on name p.count p.count 0 (drop p.before xs) ≡ Ok (v, drop n xs) =
+    number_taken name p.count p.count 0 (drop p.before xs) long
+    ∙ (ap (λ (k : ℕ). Ok (k, drop p.count (drop p.before xs))) (sym p.value)
+    ∙ ap (λ (zs : List ℕ). Ok (v, zs))
+    (drop_more p.count p.before xs ∙ ap (λ j. drop j xs) (sym p.size))) in
     record {
-      answer = ap (λ z. go_on z (magnitude_by name)) (length_known name 2 xs p.count p.before (omega arith) p.counted) ∙ rw t taken;
+      answer =
+          ap (λ z. go_on z (magnitude_by name))
+          (length_known name 2 xs p.count p.before (omega arith) p.counted) ∙ rw t taken;
       within = omega (arith, p.size, p.within);
       positive = omega (arith, p.size, h.2);
       cost = refl;
     }
 
-magnitude_alone : (xs ys : List ℕ) (v n : ℕ) → ReadsMagnitude xs v n → ReadsMagnitude (take n xs ++ ys) v n
+magnitude_alone : (xs ys : List ℕ) (v n : ℕ) → ReadsMagnitude xs v n
+    → ReadsMagnitude (take n xs ++ ys) v n
 magnitude_alone xs ys v n p =
     let h = (head_read [] 2 8 xs p.count p.before (omega arith) p.counted).1 in
     let behind = drop p.before xs in
     let long : p.count ≤ length behind = omega (arith, length-drop p.before xs, p.within) in
-    let same : take n xs ++ ys ≡ take p.before xs ++ (take p.count behind ++ ys) = two_fronts p.before p.count n xs ys p.size in
-    let left : drop p.before (take n xs ++ ys) ≡ take p.count behind ++ ys = ap (drop p.before) same ∙ behind_front p.before xs (take p.count behind ++ ys) h in
-    let content : take p.count (drop p.before (take n xs ++ ys)) ≡ take p.count behind = ap (take p.count) left ∙ the_front p.count behind ys long in
+    let same : take n xs ++ ys ≡ take p.before xs ++ (take p.count behind ++ ys) =
+    two_fronts p.before p.count n xs ys p.size in
+    let left : drop p.before (take n xs ++ ys) ≡ take p.count behind ++ ys =
+    ap (drop p.before) same ∙ behind_front p.before xs (take p.count behind ++ ys) h in
+    let content : take p.count (drop p.before (take n xs ++ ys)) ≡ take p.count behind =
+    ap (take p.count) left ∙ the_front p.count behind ys long in
     record {
       count = p.count;
       before = p.before;
-      counted = subst (λ zs. ReadsHead 2 8 zs p.count p.before) (sym same) (head_alone 2 8 xs (take p.count behind ++ ys) p.count p.before p.counted);
+      counted =
+          subst (λ zs. ReadsHead 2 8 zs p.count p.before) (sym same)
+          (head_alone 2 8 xs (take p.count behind ++ ys) p.count p.before p.counted);
       short = p.short;
-      within = omega (arith, length-append (take n xs) ys, length-take-le n xs (omega (arith, p.size, p.within)), p.size);
+      within =
+          omega (
+            arith,
+            length-append (take n xs) ys,
+            length-take-le n xs (omega (arith, p.size, p.within)),
+            p.size,
+          );
       bytes = subst IsBytes (sym content) p.bytes;
       value = p.value ∙ ap number_of (sym content);
       size = p.size;
@@ -67,26 +93,35 @@ bignum_read : (tag : ℕ) (xs : List ℕ) (v n : ℕ) → ReadsBignum tag xs v n
 bignum_read tag xs v n p =
     let h = head_read [] 6 1 xs tag p.before (omega arith) p.tagged in
     let m = magnitude_again [] (drop p.before xs) v p.size p.magnitude in
-    let rest : drop p.size (drop p.before xs) ≡ drop n xs = drop_more p.size p.before xs ∙ ap (λ j. drop j xs) (sym p.total) in
+    let rest : drop p.size (drop p.before xs) ≡ drop n xs =
+    drop_more p.size p.before xs ∙ ap (λ j. drop j xs) (sym p.total) in
     record {
       before = p.before;
       tagged = λ name. (head_read name 6 1 xs tag p.before (omega arith) p.tagged).0;
-      inner = λ name. (magnitude_again name (drop p.before xs) v p.size p.magnitude).answer ∙ ap (λ (zs : List ℕ). Ok (v, zs)) rest;
+      inner = λ name. (magnitude_again name (drop p.before xs) v p.size p.magnitude).answer
+          ∙ ap (λ (zs : List ℕ). Ok (v, zs)) rest;
       within = omega (arith, p.total, m.within, h.1, length-drop p.before xs);
       positive = omega (arith, p.total, h.2);
     }
 
-bignum_alone : (tag : ℕ) (xs ys : List ℕ) (v n : ℕ) → ReadsBignum tag xs v n → ReadsBignum tag (take n xs ++ ys) v n
+bignum_alone : (tag : ℕ) (xs ys : List ℕ) (v n : ℕ) → ReadsBignum tag xs v n
+    → ReadsBignum tag (take n xs ++ ys) v n
 bignum_alone tag xs ys v n p =
     let h = (head_read [] 6 1 xs tag p.before (omega arith) p.tagged).1 in
     let behind = drop p.before xs in
-    let same : take n xs ++ ys ≡ take p.before xs ++ (take p.size behind ++ ys) = two_fronts p.before p.size n xs ys p.total in
-    let left : drop p.before (take n xs ++ ys) ≡ take p.size behind ++ ys = ap (drop p.before) same ∙ behind_front p.before xs (take p.size behind ++ ys) h in
+    let same : take n xs ++ ys ≡ take p.before xs ++ (take p.size behind ++ ys) =
+    two_fronts p.before p.size n xs ys p.total in
+    let left : drop p.before (take n xs ++ ys) ≡ take p.size behind ++ ys =
+    ap (drop p.before) same ∙ behind_front p.before xs (take p.size behind ++ ys) h in
     record {
       before = p.before;
-      tagged = subst (λ zs. ReadsHead 6 1 zs tag p.before) (sym same) (head_alone 6 1 xs (take p.size behind ++ ys) tag p.before p.tagged);
+      tagged =
+          subst (λ zs. ReadsHead 6 1 zs tag p.before) (sym same)
+          (head_alone 6 1 xs (take p.size behind ++ ys) tag p.before p.tagged);
       size = p.size;
-      magnitude = subst (λ zs. ReadsMagnitude zs v p.size) (sym left) (magnitude_alone behind ys v p.size p.magnitude);
+      magnitude =
+          subst (λ zs. ReadsMagnitude zs v p.size) (sym left)
+          (magnitude_alone behind ys v p.size p.magnitude);
       total = p.total;
     }
 
@@ -103,7 +138,9 @@ u128_again xs v n c (inl h, cost) =
     let s = starts 0 8 xs v n h in
     let r = head_read (codes "u64") 0 8 xs v n (omega arith) h in
     record {
-      answer = ap (λ z. go_on z u128_by) (peek_first (codes "u128") s.first s.others xs s.is) ∙ (ap (λ f. f xs) (u128_unsigned s.first s.type) ∙ r.0);
+      answer =
+          ap (λ z. go_on z u128_by) (peek_first (codes "u128") s.first s.others xs s.is)
+          ∙ (ap (λ f. f xs) (u128_unsigned s.first s.type) ∙ r.0);
       within = r.1;
       positive = r.2;
       cost = cost;
@@ -112,13 +149,17 @@ u128_again xs v n c (inr p, cost) =
     let s = starts 6 1 xs 2 p.before p.tagged in
     let r = bignum_read 2 xs v n p in
     record {
-      answer = ap (λ z. go_on z u128_by) (peek_first (codes "u128") s.first s.others xs s.is) ∙ (ap (λ f. f xs) (u128_bignum s.first s.type) ∙ (ap (λ z. go_on z unsigned_bignum_at) (r.tagged (codes "u128")) ∙ r.inner (codes "u128::bytes")));
+      answer =
+          ap (λ z. go_on z u128_by) (peek_first (codes "u128") s.first s.others xs s.is)
+          ∙ (ap (λ f. f xs) (u128_bignum s.first s.type) ∙ (ap (λ z. go_on z unsigned_bignum_at)
+          (r.tagged (codes "u128")) ∙ r.inner (codes "u128::bytes")));
       within = r.within;
       positive = r.positive;
       cost = cost;
     }
 
-pub u128_one : (xs : List ℕ) (v w n m c d : ℕ) → ReadsU128 xs v n c → ReadsU128 xs w m d → (n ≡ m) × (c ≡ d) × (v ≡ w)
+pub u128_one : (xs : List ℕ) (v w n m c d : ℕ) → ReadsU128 xs v n c → ReadsU128 xs w m d
+    → (n ≡ m) × (c ≡ d) × (v ≡ w)
 u128_one = leaf_one u128_at ReadsU128 u128_again
 
 pub u128_within : (xs : List ℕ) (v n c : ℕ) → ReadsU128 xs v n c → n ≤ length xs
@@ -127,30 +168,39 @@ u128_within = leaf_within u128_at ReadsU128 u128_again
 pub u128_positive : (xs : List ℕ) (v n c : ℕ) → ReadsU128 xs v n c → 1 ≤ n
 u128_positive = leaf_positive u128_at ReadsU128 u128_again
 
-pub u128_alone : (xs ys : List ℕ) (v n c : ℕ) → ReadsU128 xs v n c → ReadsU128 (take n xs ++ ys) v n c
+pub u128_alone : (xs ys : List ℕ) (v n c : ℕ) → ReadsU128 xs v n c
+    → ReadsU128 (take n xs ++ ys) v n c
 u128_alone xs ys v n c (inl h, cost) = (inl (head_alone 0 8 xs ys v n h), cost)
 u128_alone xs ys v n c (inr p, cost) = (inr (bignum_alone 2 xs ys v n p), cost)
 
 -- ---- i128
 
-pub i128_positive_by : (b : ℕ) → b / 32 ≡ 0 → i128_by b ≡ (head_at (codes "u64") 0 8 >=> as_positive)
+pub i128_positive_by : (b : ℕ) → b / 32 ≡ 0
+    → i128_by b ≡ (head_at (codes "u64") 0 8 >=> as_positive)
 i128_positive_by b e = let t : b / 32 ≡ 0 = e in rw t refl
 
-pub i128_negative_by : (b : ℕ) → b / 32 ≡ 1 → i128_by b ≡ (head_at (codes "i128") 1 8 >=> as_negative)
+pub i128_negative_by : (b : ℕ) → b / 32 ≡ 1
+    → i128_by b ≡ (head_at (codes "i128") 1 8 >=> as_negative)
 i128_negative_by b e = let t : b / 32 ≡ 1 = e in rw t refl
 
 i128_bignum : (b : ℕ) → b / 32 ≡ 6 → i128_by b ≡ (head_at (codes "i128") 6 1 >=> signed_bignum_at)
 i128_bignum b e = let t : b / 32 ≡ 6 = e in rw t refl
 
-small_again : (name : List ℕ) (xs : List ℕ) (v : ℕ) (ys : List ℕ) → magnitude_at name xs ≡ Ok (v, ys) → v < 2 ^ 127 → small_magnitude_at name xs ≡ Ok (v, ys)
-small_again name xs v ys e small = ap (λ z. go_on z (below (codes "i128") (2 ^ 127))) e ∙ below_again (codes "i128") (2 ^ 127) v ys small
+small_again : (name : List ℕ) (xs : List ℕ) (v : ℕ) (ys : List ℕ)
+    → magnitude_at name xs ≡ Ok (v, ys) → v < 2 ^ 127 → small_magnitude_at name xs ≡ Ok (v, ys)
+small_again name xs v ys e small =
+    ap (λ z. go_on z (below (codes "i128") (2 ^ 127))) e
+    ∙ below_again (codes "i128") (2 ^ 127) v ys small
 
 pub i128_again : (xs : List ℕ) (v : ℤ) (n c : ℕ) → ReadsI128 xs v n c → ReadBy i128_at xs v n c
 i128_again xs (pos k) n c (inl h, cost) =
     let s = starts 0 8 xs k n h in
     let r = head_read (codes "u64") 0 8 xs k n (omega arith) h in
     record {
-      answer = ap (λ z. go_on z i128_by) (peek_first (codes "i128") s.first s.others xs s.is) ∙ (ap (λ f. f xs) (i128_positive_by s.first s.type) ∙ ap (λ z. go_on z as_positive) r.0);
+      answer =
+          ap (λ z. go_on z i128_by) (peek_first (codes "i128") s.first s.others xs s.is)
+          ∙ (ap (λ f. f xs) (i128_positive_by s.first s.type)
+          ∙ ap (λ z. go_on z as_positive) r.0);
       within = r.1;
       positive = r.2;
       cost = cost;
@@ -159,8 +209,12 @@ i128_again xs (pos k) n c (inr p, cost) =
     let s = starts 6 1 xs 2 p.0.before p.0.tagged in
     let r = bignum_read 2 xs k n p.0 in
     record {
-      answer = ap (λ z. go_on z i128_by) (peek_first (codes "i128") s.first s.others xs s.is) ∙ (ap (λ f. f xs) (i128_bignum s.first s.type) ∙ (ap (λ z. go_on z signed_bignum_at) (r.tagged (codes "i128"))
-          ∙ ap (λ z. go_on z as_positive) (small_again (codes "+i128::bytes") (drop r.before xs) k (drop n xs) (r.inner (codes "+i128::bytes")) p.1)));
+      answer =
+          ap (λ z. go_on z i128_by) (peek_first (codes "i128") s.first s.others xs s.is)
+          ∙ (ap (λ f. f xs) (i128_bignum s.first s.type)
+          ∙ (ap (λ z. go_on z signed_bignum_at) (r.tagged (codes "i128"))
+          ∙ ap (λ z. go_on z as_positive) (small_again (codes "+i128::bytes")
+          (drop r.before xs) k (drop n xs) (r.inner (codes "+i128::bytes")) p.1)));
       within = r.within;
       positive = r.positive;
       cost = cost;
@@ -169,7 +223,10 @@ i128_again xs (negsuc k) n c (inl h, cost) =
     let s = starts 1 8 xs k n h in
     let r = head_read (codes "i128") 1 8 xs k n (omega arith) h in
     record {
-      answer = ap (λ z. go_on z i128_by) (peek_first (codes "i128") s.first s.others xs s.is) ∙ (ap (λ f. f xs) (i128_negative_by s.first s.type) ∙ ap (λ z. go_on z as_negative) r.0);
+      answer =
+          ap (λ z. go_on z i128_by) (peek_first (codes "i128") s.first s.others xs s.is)
+          ∙ (ap (λ f. f xs) (i128_negative_by s.first s.type)
+          ∙ ap (λ z. go_on z as_negative) r.0);
       within = r.1;
       positive = r.2;
       cost = cost;
@@ -178,14 +235,19 @@ i128_again xs (negsuc k) n c (inr p, cost) =
     let s = starts 6 1 xs 3 p.0.before p.0.tagged in
     let r = bignum_read 3 xs k n p.0 in
     record {
-      answer = ap (λ z. go_on z i128_by) (peek_first (codes "i128") s.first s.others xs s.is) ∙ (ap (λ f. f xs) (i128_bignum s.first s.type) ∙ (ap (λ z. go_on z signed_bignum_at) (r.tagged (codes "i128"))
-          ∙ ap (λ z. go_on z as_negative) (small_again (codes "-i128::bytes") (drop r.before xs) k (drop n xs) (r.inner (codes "-i128::bytes")) p.1)));
+      answer =
+          ap (λ z. go_on z i128_by) (peek_first (codes "i128") s.first s.others xs s.is)
+          ∙ (ap (λ f. f xs) (i128_bignum s.first s.type)
+          ∙ (ap (λ z. go_on z signed_bignum_at) (r.tagged (codes "i128"))
+          ∙ ap (λ z. go_on z as_negative) (small_again (codes "-i128::bytes")
+          (drop r.before xs) k (drop n xs) (r.inner (codes "-i128::bytes")) p.1)));
       within = r.within;
       positive = r.positive;
       cost = cost;
     }
 
-pub i128_one : (xs : List ℕ) (v w : ℤ) (n m c d : ℕ) → ReadsI128 xs v n c → ReadsI128 xs w m d → (n ≡ m) × (c ≡ d) × (v ≡ w)
+pub i128_one : (xs : List ℕ) (v w : ℤ) (n m c d : ℕ) → ReadsI128 xs v n c → ReadsI128 xs w m d
+    → (n ≡ m) × (c ≡ d) × (v ≡ w)
 i128_one = leaf_one i128_at ReadsI128 i128_again
 
 pub i128_within : (xs : List ℕ) (v : ℤ) (n c : ℕ) → ReadsI128 xs v n c → n ≤ length xs
@@ -194,7 +256,8 @@ i128_within = leaf_within i128_at ReadsI128 i128_again
 pub i128_positive : (xs : List ℕ) (v : ℤ) (n c : ℕ) → ReadsI128 xs v n c → 1 ≤ n
 i128_positive = leaf_positive i128_at ReadsI128 i128_again
 
-pub i128_alone : (xs ys : List ℕ) (v : ℤ) (n c : ℕ) → ReadsI128 xs v n c → ReadsI128 (take n xs ++ ys) v n c
+pub i128_alone : (xs ys : List ℕ) (v : ℤ) (n c : ℕ) → ReadsI128 xs v n c
+    → ReadsI128 (take n xs ++ ys) v n c
 i128_alone xs ys (pos k) n c (inl h, cost) = (inl (head_alone 0 8 xs ys k n h), cost)
 i128_alone xs ys (pos k) n c (inr p, cost) = (inr (bignum_alone 2 xs ys k n p.0, p.1), cost)
 i128_alone xs ys (negsuc k) n c (inl h, cost) = (inl (head_alone 1 8 xs ys k n h), cost)

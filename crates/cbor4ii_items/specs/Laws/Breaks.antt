@@ -1,5 +1,6 @@
 -- Breaks: what is left to do at one, and what is answered.
-use Rattle.std.proofs.Common.{◌≡◌, ◌≢◌, ℕ, List, [], ◌∷◌, drop, take, Option, Result, Ok, Err, Bool, true, false, refl, sym, ap, ◌∙◌, IfOk, IfErr, eqb, ne_eqb, eq-eqb}
+use Rattle.std.proofs.Common.{◌≡◌, ◌≢◌, ℕ, List, [], ◌∷◌, drop, take, Option, Result, Ok, Err, Bool}
+use Rattle.std.proofs.Common.{true, false, refl, sym, ap, ◌∙◌, IfOk, IfErr, eqb, ne_eqb, eq-eqb}
 use Rattle.std.specs.Prelude.{codes}
 use Rattle.cbor4ii_rw.specs.View.{View}
 use Rattle.cbor4ii_rw.specs.declared.error.DecodeError.{DecodeError}
@@ -13,14 +14,16 @@ use Rattle.cbor4ii_items.specs.Laws.Strings.{break_again}
 use Rattle.cbor4ii_items.specs.Laws.Answering.{Found, fits_zero, sound_by, refuses_by, stops_by}
 use Rattle.cbor4ii_items.specs.Laws.Outcome.{same_value}
 
-broken : (b : ℕ) (xs ys : List ℕ) → b ≡ break → byte_at (codes "break") 1 xs ≡ Ok (b, ys) → break_at xs ≡ Ok (true, ys)
+broken : (b : ℕ) (xs ys : List ℕ) → b ≡ break → byte_at (codes "break") 1 xs ≡ Ok (b, ys)
+    → break_at xs ≡ Ok (true, ys)
 broken b [] ys is e = cc
 broken b (x ∷ xs) ys is e =
     let p = same_value (byte_at (codes "break") 1 (x ∷ xs)) refl e in
     let t : eqb x break ≡ true = eq-eqb x break (p.0 ∙ is) in
     rw t (ap (λ (z : List ℕ). Ok (true, z)) p.1)
 
-pub runs_break : {E : Type 0} {b : ℕ} {a c : View} → b ≡ break → Runs {E = E} (byte_at (codes "break") 1) a c (Ok b) → Runs {E = E} break_at a c (Ok true)
+pub runs_break : {E : Type 0} {b : ℕ} {a c : View} → b ≡ break
+    → Runs {E = E} (byte_at (codes "break") 1) a c (Ok b) → Runs {E = E} break_at a c (Ok true)
 runs_break {b = b} is p = record {
   moves = record { by = p.moves.by; depth = p.moves.depth };
   answers = λ xs told. let h = p.answers xs told in (h.0, h.1, broken b xs h.0 is h.2);
@@ -28,9 +31,20 @@ runs_break {b = b} is p = record {
 
 -- ---- what is answered
 
-break_found : (budget : Option ℕ) (v : Bool) (xs ys : List ℕ) → break_at xs ≡ Ok (v, ys) → Found ReadsBreak budget xs v ys
-break_found budget true xs ys e = let b = break_yes xs ys e in record { count = 1; cost = 0; read = (b.0, refl, refl); fits = fits_zero budget; left = b.1 }
-break_found budget false xs ys e = let b = break_no xs ys e in record { count = 0; cost = 0; read = (b.0, b.1, refl, refl); fits = fits_zero budget; left = b.2 }
+break_found : (budget : Option ℕ) (v : Bool) (xs ys : List ℕ) → break_at xs ≡ Ok (v, ys)
+    → Found ReadsBreak budget xs v ys
+break_found budget true xs ys e =
+    let b = break_yes xs ys e in
+    record { count = 1; cost = 0; read = (b.0, refl, refl); fits = fits_zero budget; left = b.1 }
+break_found budget false xs ys e =
+    let b = break_no xs ys e in
+    record {
+      count = 0;
+      cost = 0;
+      read = (b.0, b.1, refl, refl);
+      fits = fits_zero budget;
+      left = b.2;
+    }
 
 stays : (xs : List ℕ) → xs ≢ [] → (take 1 xs ≡ break ∷ [] → ⊥) → break_at xs ≡ Ok (false, xs)
 stays [] some other = absurd (some refl)
@@ -38,18 +52,23 @@ stays (b ∷ bs) some other =
     let t : eqb b break ≡ false = ne_eqb b break (λ is. other (ap (λ z. z ∷ []) is)) in
     rw t refl
 
-break_read : (xs : List ℕ) (v : Bool) (n c : ℕ) → ReadsBreak xs v n c → break_at xs ≡ Ok (v, drop n xs)
+break_read : (xs : List ℕ) (v : Bool) (n c : ℕ) → ReadsBreak xs v n c
+    → break_at xs ≡ Ok (v, drop n xs)
 break_read xs true n c h = break_again xs h.0 ∙ ap (λ j. Ok (true, drop j xs)) (sym h.1)
 break_read xs false n c h = stays xs h.0 h.1 ∙ ap (λ j. Ok (false, drop j xs)) (sym h.2)
 
-pub break_sound : {E : Type 0} {a b : View} (r : Result Bool (DecodeError E)) → Runs break_at a b r → IfOk r (Sound ReadsBreak a b)
-break_sound {a = a} (Ok v) p = sound_by ReadsBreak (λ xs ys e seen. break_found a.budget v xs ys e) p
+pub break_sound : {E : Type 0} {a b : View} (r : Result Bool (DecodeError E)) → Runs break_at a b r
+    → IfOk r (Sound ReadsBreak a b)
+break_sound {a = a} (Ok v) p =
+    sound_by ReadsBreak (λ xs ys e seen. break_found a.budget v xs ys e) p
 break_sound (Err e) p = tt
 
-pub break_refuses : {E : Type 0} {a b : View} (r : Result Bool (DecodeError E)) → Runs break_at a b r → IfErr r (Refuses ReadsBreak a)
+pub break_refuses : {E : Type 0} {a b : View} (r : Result Bool (DecodeError E))
+    → Runs break_at a b r → IfErr r (Refuses ReadsBreak a)
 break_refuses (Ok v) p = tt
 break_refuses (Err e) p = refuses_by ReadsBreak (λ xs v n c h fits. break_read xs v n c h) p
 
-pub break_stops : {E : Type 0} {a b : View} (r : Result Bool (DecodeError E)) → Runs break_at a b r → IfErr r (Stops StopsBreak a b)
+pub break_stops : {E : Type 0} {a b : View} (r : Result Bool (DecodeError E)) → Runs break_at a b r
+    → IfErr r (Stops StopsBreak a b)
 break_stops (Ok v) p = tt
 break_stops (Err e) p = stops_by StopsBreak (λ xs z ys f seen. break_refused xs ys z f) p

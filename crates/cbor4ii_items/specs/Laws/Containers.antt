@@ -1,5 +1,7 @@
 -- An optional item and a tagged item are read as their item is.
-use Rattle.std.proofs.Common.{◌≡◌, ℕ, zero, suc, ◌≤◌, inl, inr, List, [], ◌∷◌, ◌++◌, length, drop, take, Option, Some, None, Bool, true, false, IsTrue, refl, sym, ap, ◌∙◌, subst, arith}
+use Rattle.std.proofs.Common.{◌≡◌, ℕ, zero, suc, ◌≤◌, inl, inr, List, [], ◌∷◌, ◌++◌, length, drop}
+use Rattle.std.proofs.Common.{take, Option, Some, None, Bool, true, false, IsTrue, refl, sym, ap}
+use Rattle.std.proofs.Common.{◌∙◌, subst, arith}
 use Rattle.std.specs.Prelude.{◌&&◌}
 use Rattle.std.proofs.lemmas.List.{length-drop}
 use Rattle.cbor4ii_items.specs.Containers.{BeginsNull, ReadsOption, SameOption, ReadsTag}
@@ -13,8 +15,10 @@ use Rattle.cbor4ii_items.specs.Decoding.{Reads}
 null_or_not : {A : Type 0} (xs : List ℕ) → BeginsNull xs → (BeginsNull xs → ⊥) → A
 null_or_not xs p q = absurd (q p)
 
-pub option_one : {V : Type 0} (reads : Reads V) (same : V → V → Type 0) → ((xs : List ℕ) (v w : V) (n m c d : ℕ) → reads xs v n c → reads xs w m d → (n ≡ m) × (c ≡ d) × same v w)
-    → (xs : List ℕ) (v w : Option V) (n m c d : ℕ) → ReadsOption reads xs v n c → ReadsOption reads xs w m d → (n ≡ m) × (c ≡ d) × SameOption same v w
+pub option_one : {V : Type 0} (reads : Reads V) (same : V → V → Type 0) → ((xs : List ℕ) (v w : V)
+    (n m c d : ℕ) → reads xs v n c → reads xs w m d → (n ≡ m) × (c ≡ d) × same v w)
+    → (xs : List ℕ) (v w : Option V) (n m c d : ℕ) → ReadsOption reads xs v n c
+    → ReadsOption reads xs w m d → (n ≡ m) × (c ≡ d) × SameOption same v w
 option_one reads same one xs None None n m c d p q = (p.1 ∙ sym q.1, p.2 ∙ sym q.2, tt)
 option_one reads same one xs None (Some w) n m c d p q = null_or_not xs p.0 q.0
 option_one reads same one xs (Some v) None n m c d p q = null_or_not xs q.0 p.0
@@ -24,11 +28,16 @@ null_long : (xs : List ℕ) → BeginsNull xs → 1 ≤ length xs
 null_long [] h = elim h [ inl e ↦ cc | inr e ↦ cc ]
 null_long (x ∷ xs) h = omega arith
 
-pub option_within : {V : Type 0} (reads : Reads V) → ((xs : List ℕ) (v : V) (n c : ℕ) → reads xs v n c → n ≤ length xs) → (xs : List ℕ) (v : Option V) (n c : ℕ) → ReadsOption reads xs v n c → n ≤ length xs
+pub option_within : {V : Type 0} (reads : Reads V)
+    → ((xs : List ℕ) (v : V) (n c : ℕ) → reads xs v n c → n ≤ length xs)
+    → (xs : List ℕ) (v : Option V) (n c : ℕ) → ReadsOption reads xs v n c → n ≤ length xs
 option_within reads within xs None n c p = omega (arith, p.1, null_long xs p.0)
 option_within reads within xs (Some v) n c p = within xs v n c p.2
 
-pub option_positive : {V : Type 0} (reads : Reads V) (never_empty : Bool) → (IsTrue never_empty → (xs : List ℕ) (v : V) (n c : ℕ) → reads xs v n c → 1 ≤ n) → IsTrue never_empty → (xs : List ℕ) (v : Option V) (n c : ℕ) → ReadsOption reads xs v n c → 1 ≤ n
+pub option_positive : {V : Type 0} (reads : Reads V) (never_empty : Bool)
+    → (IsTrue never_empty → (xs : List ℕ) (v : V) (n c : ℕ) → reads xs v n c → 1 ≤ n)
+    → IsTrue never_empty → (xs : List ℕ) (v : Option V) (n c : ℕ) → ReadsOption reads xs v n c
+    → 1 ≤ n
 option_positive reads never_empty positive e xs None n c p = omega (arith, p.1)
 option_positive reads never_empty positive e xs (Some v) n c p = positive e xs v n c p.2
 
@@ -38,7 +47,8 @@ both true false e = cc
 both false b e = cc
 
 -- a front with at least one byte has the first byte
-pub first_kept : (n : ℕ) (xs ys : List ℕ) → 1 ≤ n → n ≤ length xs → take 1 (take n xs ++ ys) ≡ take 1 xs
+pub first_kept : (n : ℕ) (xs ys : List ℕ) → 1 ≤ n → n ≤ length xs
+    → take 1 (take n xs ++ ys) ≡ take 1 xs
 first_kept zero xs ys some within = absurd (omega arith)
 first_kept (suc n) [] ys some within = absurd (omega arith)
 first_kept (suc n) (x ∷ xs) ys some within = refl
@@ -51,42 +61,72 @@ some_byte zero xs ys some within = absurd (omega arith)
 some_byte (suc n) [] ys some within = absurd (omega arith)
 some_byte (suc n) (x ∷ xs) ys some within = omega arith
 
-pub option_alone : {V : Type 0} (reads : Reads V) (closed never_empty : Bool) → ((xs : List ℕ) (v : V) (n c : ℕ) → reads xs v n c → n ≤ length xs) → (IsTrue never_empty → (xs : List ℕ) (v : V) (n c : ℕ) → reads xs v n c → 1 ≤ n)
-    → (IsTrue closed → (xs ys : List ℕ) (v : V) (n c : ℕ) → reads xs v n c → reads (take n xs ++ ys) v n c)
-    → IsTrue (closed && never_empty) → (xs ys : List ℕ) (v : Option V) (n c : ℕ) → ReadsOption reads xs v n c → ReadsOption reads (take n xs ++ ys) v n c
-option_alone reads closed never_empty within positive alone e xs ys None n c p =
-    (null_kept (take n xs ++ ys) xs (first_kept n xs ys (omega (arith, p.1)) (omega (arith, p.1, null_long xs p.0))) p.0, p.1, p.2)
+pub option_alone : {V : Type 0} (reads : Reads V) (closed never_empty : Bool)
+    → ((xs : List ℕ) (v : V) (n c : ℕ) → reads xs v n c → n ≤ length xs)
+    → (IsTrue never_empty → (xs : List ℕ) (v : V) (n c : ℕ) → reads xs v n c → 1 ≤ n)
+    → (IsTrue closed → (xs ys : List ℕ) (v : V) (n c : ℕ) → reads xs v n c
+    → reads (take n xs ++ ys) v n c)
+    → IsTrue (closed && never_empty) → (xs ys : List ℕ) (v : Option V) (n c : ℕ)
+    → ReadsOption reads xs v n c → ReadsOption reads (take n xs ++ ys) v n c
+option_alone reads closed never_empty within positive alone e xs ys None n c p = (
+  null_kept (take n xs ++ ys) xs (first_kept n xs ys (omega (arith, p.1))
+      (omega (arith, p.1, null_long xs p.0))) p.0,
+  p.1,
+  p.2,
+)
 option_alone reads closed never_empty within positive alone e xs ys (Some v) n c p =
     let flags = both closed never_empty e in
     let some = positive flags.1 xs v n c p.2 in
-    let room = within xs v n c p.2 in
-    (λ null. p.0 (null_kept xs (take n xs ++ ys) (sym (first_kept n xs ys some room)) null), some_byte n xs ys some room, alone flags.0 xs ys v n c p.2)
+    let room = within xs v n c p.2 in (
+      λ null. p.0 (null_kept xs (take n xs ++ ys) (sym (first_kept n xs ys some room)) null),
+      some_byte n xs ys some room,
+      alone flags.0 xs ys v n c p.2,
+    )
 
 -- ---- a tagged item
 
 module _ {V : Type 0} (reads : Reads V) where
-  pub tag_one : (same : V → V → Type 0) → ((xs : List ℕ) (v w : V) (n m c d : ℕ) → reads xs v n c → reads xs w m d → (n ≡ m) × (c ≡ d) × same v w)
-      → (xs : List ℕ) (i : ℕ) (v : V) (j : ℕ) (w : V) (n m c d : ℕ) → ReadsTag reads xs i v n c → ReadsTag reads xs j w m d → (n ≡ m) × (c ≡ d) × ((i ≡ j) × same v w)
+  pub tag_one : (same : V → V → Type 0) → ((xs : List ℕ) (v w : V) (n m c d : ℕ) → reads xs v n c
+      → reads xs w m d → (n ≡ m) × (c ≡ d) × same v w)
+      → (xs : List ℕ) (i : ℕ) (v : V) (j : ℕ) (w : V) (n m c d : ℕ) → ReadsTag reads xs i v n c
+      → ReadsTag reads xs j w m d → (n ≡ m) × (c ≡ d) × ((i ≡ j) × same v w)
   tag_one same one xs i v j w n m c d p q =
       let h = head_one 6 8 xs i j p.before q.before (omega arith) p.head q.head in
-      let o = one (drop p.before xs) v w p.count q.count c d p.item (subst (λ k. reads (drop k xs) w q.count d) (sym h.0) q.item) in
+      let o = one (drop p.before xs) v w p.count q.count c d p.item
+      (subst (λ k. reads (drop k xs) w q.count d) (sym h.0) q.item) in
       (omega (arith, p.bytes, q.bytes, h.0, o.0), o.1, (h.1, o.2))
 
-  pub tag_within : ((xs : List ℕ) (v : V) (n c : ℕ) → reads xs v n c → n ≤ length xs) → (xs : List ℕ) (i : ℕ) (v : V) (n c : ℕ) → ReadsTag reads xs i v n c → n ≤ length xs
-  tag_within within xs i v n c p = omega (arith, p.bytes, (head_read [] 6 8 xs i p.before (omega arith) p.head).1, within (drop p.before xs) v p.count c p.item, length-drop p.before xs)
+  pub tag_within : ((xs : List ℕ) (v : V) (n c : ℕ) → reads xs v n c → n ≤ length xs)
+      → (xs : List ℕ) (i : ℕ) (v : V) (n c : ℕ) → ReadsTag reads xs i v n c → n ≤ length xs
+  tag_within within xs i v n c p =
+      omega (
+        arith,
+        p.bytes,
+        (head_read [] 6 8 xs i p.before (omega arith) p.head).1,
+        within (drop p.before xs) v p.count c p.item,
+        length-drop p.before xs,
+      )
 
   pub tag_positive : (xs : List ℕ) (i : ℕ) (v : V) (n c : ℕ) → ReadsTag reads xs i v n c → 1 ≤ n
-  tag_positive xs i v n c p = omega (arith, p.bytes, (head_read [] 6 8 xs i p.before (omega arith) p.head).2)
+  tag_positive xs i v n c p =
+      omega (arith, p.bytes, (head_read [] 6 8 xs i p.before (omega arith) p.head).2)
 
-  pub tag_alone : (closed : Bool) → (IsTrue closed → (xs ys : List ℕ) (v : V) (n c : ℕ) → reads xs v n c → reads (take n xs ++ ys) v n c) → IsTrue closed → (xs ys : List ℕ) (i : ℕ) (v : V) (n c : ℕ) → ReadsTag reads xs i v n c → ReadsTag reads (take n xs ++ ys) i v n c
+  pub tag_alone : (closed : Bool) → (IsTrue closed → (xs ys : List ℕ) (v : V) (n c : ℕ)
+      → reads xs v n c → reads (take n xs ++ ys) v n c) → IsTrue closed
+      → (xs ys : List ℕ) (i : ℕ) (v : V) (n c : ℕ) → ReadsTag reads xs i v n c
+      → ReadsTag reads (take n xs ++ ys) i v n c
   tag_alone closed alone e xs ys i v n c p =
       let h = (head_read [] 6 8 xs i p.before (omega arith) p.head).1 in
       let behind = drop p.before xs in
-      let same : take n xs ++ ys ≡ take p.before xs ++ (take p.count behind ++ ys) = two_fronts p.before p.count n xs ys p.bytes in
-      let left : drop p.before (take n xs ++ ys) ≡ take p.count behind ++ ys = ap (drop p.before) same ∙ behind_front p.before xs (take p.count behind ++ ys) h in
+      let same : take n xs ++ ys ≡ take p.before xs ++ (take p.count behind ++ ys) =
+      two_fronts p.before p.count n xs ys p.bytes in
+      let left : drop p.before (take n xs ++ ys) ≡ take p.count behind ++ ys =
+      ap (drop p.before) same ∙ behind_front p.before xs (take p.count behind ++ ys) h in
       record {
         before = p.before;
-        head = subst (λ zs. ReadsHead 6 8 zs i p.before) (sym same) (head_alone 6 8 xs (take p.count behind ++ ys) i p.before p.head);
+        head =
+            subst (λ zs. ReadsHead 6 8 zs i p.before) (sym same)
+            (head_alone 6 8 xs (take p.count behind ++ ys) i p.before p.head);
         count = p.count;
         item = subst (λ zs. reads zs v p.count c) (sym left) (alone e behind ys v p.count c p.item);
         bytes = p.bytes;

@@ -1,5 +1,8 @@
 -- Content of a known length, front by front.
-use Rattle.std.proofs.Common.{◌≡◌, ℕ, zero, suc, ◌+◌, ◌-◌, ◌<◌, ◌≤◌, List, [], ◌∷◌, ◌++◌, length, get_or, take, drop, Option, Some, Ok, Err, Bool, true, false, refl, sym, ap, ap₂, ◌∙◌, subst, arith, ltb, ltb-true, ltb-false, append_assoc}
+use Rattle.std.proofs.Common.{◌≡◌, ℕ, zero, suc, ◌+◌, ◌-◌, ◌<◌, ◌≤◌, List, [], ◌∷◌, ◌++◌, length}
+use Rattle.std.proofs.Common.{get_or, take, drop, Option, Some, Ok, Err, Bool, true, false, refl}
+use Rattle.std.proofs.Common.{sym, ap, ap₂, ◌∙◌, subst, arith, ltb, ltb-true, ltb-false}
+use Rattle.std.proofs.Common.{append_assoc}
 use Rattle.std.proofs.lemmas.List.{length-drop, append-nil}
 use Rattle.std.proofs.Math.Seq.{take-add}
 use Rattle.cbor4ii_rw.specs.View.{View}
@@ -21,54 +24,81 @@ use Rattle.cbor4ii_items.specs.Laws.CountedContent.{content_short, content_whole
 use Rattle.cbor4ii_items.specs.Laws.Fronts.{drop_more}
 use Rattle.cbor4ii_items.specs.Laws.Steps.{kept_then}
 
-two_parts : (i count : ℕ) (before xs : List ℕ) → i ≤ count → (before ++ take i xs) ++ take (count - i) (drop i xs) ≡ before ++ take count xs
+two_parts : (i count : ℕ) (before xs : List ℕ) → i ≤ count
+    → (before ++ take i xs) ++ take (count - i) (drop i xs) ≡ before ++ take count xs
 two_parts i count before xs h =
     let e : i + (count - i) ≡ count = omega (arith, h) in
-    append_assoc before (take i xs) (take (count - i) (drop i xs)) ∙ ap (λ z. before ++ z) (sym (take-add i (count - i) xs) ∙ ap (λ j. take j xs) e)
+    append_assoc before (take i xs) (take (count - i) (drop i xs))
+    ∙ ap (λ z. before ++ z) (sym (take-add i (count - i) xs) ∙ ap (λ j. take j xs) e)
 
-more_by : (t : Bool) (name : List ℕ) (count i : ℕ) (before xs : List ℕ) → i ≤ count → i ≤ length xs → ltb (length xs) count ≡ t
-    → content_on name count before xs ≡ content_on name (count - i) (before ++ take i xs) (drop i xs)
+more_by : (t : Bool) (name : List ℕ) (count i : ℕ) (before xs : List ℕ) → i ≤ count → i ≤ length xs
+    → ltb (length xs) count ≡ t
+    → content_on name count before xs ≡ content_on name (count - i) (before ++ take i xs)
+    (drop i xs)
 more_by true name count i before xs h k e =
     let short : length xs < count = ltb-true (length xs) count e in
-    let gap : (count - i) - length (drop i xs) ≡ count - length xs = omega (arith, h, k, short, length-drop i xs) in
-    content_short name count before xs short ∙ (ap (λ (j : ℕ). Err (eof name (len_of j), [])) (sym gap) ∙ sym (content_short name (count - i) (before ++ take i xs) (drop i xs) (omega (arith, h, k, short, length-drop i xs))))
+    let gap : (count - i) - length (drop i xs) ≡ count - length xs =
+    omega (arith, h, k, short, length-drop i xs) in
+    content_short name count before xs short ∙ (ap (λ (j : ℕ). Err (eof name (len_of j), []))
+    (sym gap) ∙ sym (content_short name (count - i) (before ++ take i xs) (drop i xs)
+    (omega (arith, h, k, short, length-drop i xs))))
 more_by false name count i before xs h k e =
     let long : count ≤ length xs = ltb-false (length xs) count e in
     let whole : i + (count - i) ≡ count = omega (arith, h) in
     content_whole name count before xs long
-    ∙ (ap₂ (λ (us vs : List ℕ). Ok (us, vs)) (sym (two_parts i count before xs h)) (sym (drop_more (count - i) i xs ∙ ap (λ j. drop j xs) whole))
-    ∙ sym (content_whole name (count - i) (before ++ take i xs) (drop i xs) (omega (arith, long, h, length-drop i xs))))
+    ∙ (ap₂ (λ (us vs : List ℕ). Ok (us, vs)) (sym (two_parts i count before xs h))
+    (sym (drop_more (count - i) i xs ∙ ap (λ j. drop j xs) whole))
+    ∙ sym (content_whole name (count - i) (before ++ take i xs) (drop i xs)
+    (omega (arith, long, h, length-drop i xs))))
 
 -- a front of the content was taken
-pub content_more : (name : List ℕ) (count i : ℕ) (before xs : List ℕ) → i ≤ count → i ≤ length xs → content_on name count before xs ≡ content_on name (count - i) (before ++ take i xs) (drop i xs)
-content_more name count i before xs h k = more_by (ltb (length xs) count) name count i before xs h k refl
+pub content_more : (name : List ℕ) (count i : ℕ) (before xs : List ℕ) → i ≤ count → i ≤ length xs
+    → content_on name count before xs ≡ content_on name (count - i) (before ++ take i xs)
+    (drop i xs)
+content_more name count i before xs h k =
+    more_by (ltb (length xs) count) name count i before xs h k refl
 
-pub content_none : (name : List ℕ) (before xs : List ℕ) → content_on name 0 before xs ≡ Ok (before, xs)
-content_none name before xs = content_whole name 0 before xs (omega arith) ∙ ap (λ (us : List ℕ). Ok (us, xs)) (append-nil before)
+pub content_none : (name : List ℕ) (before xs : List ℕ)
+    → content_on name 0 before xs ≡ Ok (before, xs)
+content_none name before xs =
+    content_whole name 0 before xs (omega arith)
+    ∙ ap (λ (us : List ℕ). Ok (us, xs)) (append-nil before)
 
-pub reaches_content : {f : Reading (List ℕ)} (name : List ℕ) {missing n : ℕ} {before after : List ℕ} {a m b : View} → Reaches f (content_on name missing before) a m → TakesOnto missing n before after m b
+pub reaches_content : {f : Reading (List ℕ)} (name : List ℕ) {missing n : ℕ} {before after : List ℕ}
+    {a m b : View} → Reaches f (content_on name missing before) a m
+    → TakesOnto missing n before after m b
     → Reaches f (content_on name (missing - n) after) a b
 reaches_content name {missing = missing} {n = n} {before = before} {after = after} p t = record {
   kept = kept_then p.kept t.kept;
   leads = λ xs told.
       let s = p.leads xs told in
-      let u = t.at s.0 s.1 in
-      (drop n s.0, u.1, s.2 ∙ (content_more name missing n before s.0 t.most u.0 ∙ ap (λ z. content_on name (missing - n) z (drop n s.0)) (sym u.2)));
+      let u = t.at s.0 s.1 in (
+        drop n s.0,
+        u.1,
+        s.2 ∙ (content_more name missing n before s.0 t.most u.0
+            ∙ ap (λ z. content_on name (missing - n) z (drop n s.0)) (sym u.2)),
+      );
 }
 
-pub content_ends : {E : Type 0} {f : Reading (List ℕ)} (name : List ℕ) {missing : ℕ} {content : List ℕ} {a b : View} → missing ≡ 0 → Reaches f (content_on name missing content) a b → Runs {E = E} f a b (Ok content)
+pub content_ends : {E : Type 0} {f : Reading (List ℕ)} (name : List ℕ) {missing : ℕ}
+    {content : List ℕ} {a b : View} → missing ≡ 0 → Reaches f (content_on name missing content) a b
+    → Runs {E = E} f a b (Ok content)
 content_ends name {missing = missing} {content = content} none p = record {
   moves = record { by = p.kept; depth = λ e. refl };
   answers = λ xs told.
-      let s = p.leads xs told in
-      (s.0, s.1, s.2 ∙ (ap (λ j. content_on name j content s.0) none ∙ content_none name content s.0));
+      let s = p.leads xs told in (
+        s.0,
+        s.1,
+        s.2 ∙ (ap (λ j. content_on name j content s.0) none ∙ content_none name content s.0),
+      );
 }
 
 -- ---- a front that was shown and taken
 
 pub IsBytes-from : (bs : List ℕ) → ((i d : ℕ) → i < length bs → get_or bs i d < 256) → IsBytes bs
 IsBytes-from [] f = tt
-IsBytes-from (b ∷ bs) f = (f 0 0 (omega arith), IsBytes-from bs (λ i d h. f (suc i) d (omega (arith, h))))
+IsBytes-from (b ∷ bs) f =
+    (f 0 0 (omega arith), IsBytes-from bs (λ i d h. f (suc i) d (omega (arith, h))))
 
 pub IsBytes-append : (xs ys : List ℕ) → IsBytes (xs ++ ys) → IsBytes ys
 IsBytes-append [] ys h = h
@@ -80,33 +110,46 @@ take_take (suc n) zero xs h = absurd (omega arith)
 take_take (suc n) (suc m) [] h = refl
 take_take (suc n) (suc m) (x ∷ xs) h = ap (λ zs. x ∷ zs) (take_take n m xs (omega arith))
 
-front_is : (want n : ℕ) (shown xs : List ℕ) → IsFront want shown xs → n ≤ length shown → take n shown ≡ take n xs
+front_is : (want n : ℕ) (shown xs : List ℕ) → IsFront want shown xs → n ≤ length shown
+    → take n shown ≡ take n xs
 front_is want n shown xs front h =
     let cut : take n (take (length shown) xs) ≡ take n xs = take_take n (length shown) xs h in
     ap (take n) (sym front.begins) ∙ cut
 
-took_front : (want n : ℕ) (shown xs : List ℕ) (new : Option (List ℕ)) → IsFront want shown xs → n ≤ length shown → IsBytes (take n shown) → new ≡ Some (drop n xs) → Took xs new n
+took_front : (want n : ℕ) (shown xs : List ℕ) (new : Option (List ℕ)) → IsFront want shown xs
+    → n ≤ length shown → IsBytes (take n shown) → new ≡ Some (drop n xs) → Took xs new n
 took_front want n shown xs new front h bytes left = record {
   left = left;
   within = omega (arith, h, front.within);
   bytes = subst IsBytes (front_is want n shown xs front h) bytes;
 }
 
-counts_front : (n : ℕ) (xs ys : List ℕ) (a m b : View) → n ≤ length xs → ys ≡ drop n xs → m.taken ≡ a.taken → b.taken ≡ counts n m.taken → (k : ℕ) → k + length ys ≡ length xs → b.taken ≡ counts k a.taken
+counts_front : (n : ℕ) (xs ys : List ℕ) (a m b : View) → n ≤ length xs → ys ≡ drop n xs
+    → m.taken ≡ a.taken → b.taken ≡ counts n m.taken → (k : ℕ) → k + length ys ≡ length xs
+    → b.taken ≡ counts k a.taken
 counts_front n xs ys a m b h e first second k gone =
     let same : n ≡ k = omega (arith, h, gone, ap length e, length-drop n xs) in
     second ∙ ap₂ counts same first
 
-pub takes_front : {missing n : ℕ} {shown before after : List ℕ} {a m b : View} → Shows shown a m → Told a.told (IsFront missing shown) → 1 ≤ n → n ≤ missing → n ≤ length shown → IsBytes after → after ≡ before ++ take n shown → Advances n m b
+pub takes_front : {missing n : ℕ} {shown before after : List ℕ} {a m b : View} → Shows shown a m
+    → Told a.told (IsFront missing shown) → 1 ≤ n → n ≤ missing → n ≤ length shown → IsBytes after
+    → after ≡ before ++ take n shown → Advances n m b
     → TakesOnto missing n before after a b
-takes_front {missing = missing} {n = n} {shown = shown} {before = before} {after = after} {a = a} {m = m} {b = b} s front some most within bytes is adv =
-    let fresh : IsBytes (take n shown) = IsBytes-append before (take n shown) (subst IsBytes is bytes) in
+takes_front {missing = missing} {n = n} {shown = shown} {before = before} {after = after} {a = a}
+    {m = m} {b = b} s front some most within bytes is adv =
+    let fresh : IsBytes (take n shown) =
+    IsBytes-append before (take n shown) (subst IsBytes is bytes) in
     record {
       kept = record {
-        rest = λ xs told. (n, took_front missing n shown xs b.told (front xs told) within fresh (adv.told xs (s.told xs told)));
+        rest = λ xs told. (
+          n,
+          took_front missing n shown xs b.told (front xs told) within fresh
+              (adv.told xs (s.told xs told)),
+        );
         counted = λ xs told ys left k gone.
             let e : ys ≡ drop n xs = let d = adv.told xs (s.told xs told) in cc in
-            counts_front n xs ys a m b (omega (arith, within, (front xs told).within)) e s.taken adv.taken k gone;
+            counts_front n xs ys a m b (omega (arith, within, (front xs told).within)) e s.taken
+            adv.taken k gone;
         bound = omega (arith, s.bound, adv.bound);
         budget = adv.budget ∙ s.budget;
         failures = adv.failures ∙ s.failures;
@@ -115,29 +158,49 @@ takes_front {missing = missing} {n = n} {shown = shown} {before = before} {after
       };
       some = some;
       most = most;
-      at = λ xs told. (omega (arith, within, (front xs told).within), adv.told xs (s.told xs told), is ∙ ap (λ z. before ++ z) (front_is missing n shown xs (front xs told) within));
+      at = λ xs told. (
+        omega (arith, within, (front xs told).within),
+        adv.told xs (s.told xs told),
+        is ∙ ap (λ z. before ++ z) (front_is missing n shown xs (front xs told) within),
+      );
     }
 
 -- ---- a front that was lent and taken
 
-pub front_shown : (a b : View) (answer : Option Reference) (lent : Reference) (shown : Bor (List ℕ)) → answer ≡ Some lent → lent ≡ Long shown → MatchOption answer (Breaks a b) (λ s. Shows (bytes_of s) a b) → Shows shown.now a b
-front_shown a b answer lent shown e f h = subst (λ (s : Reference). Shows (bytes_of s) a b) f (subst (λ o. MatchOption o (Breaks a b) (λ s. Shows (bytes_of s) a b)) e h)
+pub front_shown : (a b : View) (answer : Option Reference) (lent : Reference) (shown : Bor (List ℕ))
+    → answer ≡ Some lent → lent ≡ Long shown
+    → MatchOption answer (Breaks a b) (λ s. Shows (bytes_of s) a b) → Shows shown.now a b
+front_shown a b answer lent shown e f h =
+    subst (λ (s : Reference). Shows (bytes_of s) a b) f
+    (subst (λ o. MatchOption o (Breaks a b) (λ s. Shows (bytes_of s) a b)) e h)
 
-pub lends_front : {want n : ℕ} {shown content : List ℕ} {a m b : View} → Shows shown a m → Told a.told (IsFront want shown) → n ≤ length shown → IsBytes (take n shown) → content ≡ take n shown → Advances n m b → Lends n content a b
-lends_front {want = want} {n = n} {shown = shown} {a = a} {m = m} {b = b} s front within fresh is adv = record {
-  kept = record {
-    rest = λ xs told. (n, took_front want n shown xs b.told (front xs told) within fresh (adv.told xs (s.told xs told)));
-    counted = λ xs told ys left k gone.
-        let e : ys ≡ drop n xs = let d = adv.told xs (s.told xs told) in cc in
-        counts_front n xs ys a m b (omega (arith, within, (front xs told).within)) e s.taken adv.taken k gone;
-    bound = omega (arith, s.bound, adv.bound);
-    budget = adv.budget ∙ s.budget;
-    failures = adv.failures ∙ s.failures;
-    lends_whole = λ h. adv.lends_whole (s.lends_whole h);
-    remembers = λ h. adv.remembers (s.remembers h);
-  };
-  at = λ xs told. (omega (arith, within, (front xs told).within), adv.told xs (s.told xs told), is ∙ front_is want n shown xs (front xs told) within);
-}
+pub lends_front : {want n : ℕ} {shown content : List ℕ} {a m b : View} → Shows shown a m
+    → Told a.told (IsFront want shown) → n ≤ length shown → IsBytes (take n shown)
+    → content ≡ take n shown → Advances n m b → Lends n content a b
+lends_front {want = want} {n = n} {shown = shown} {a = a} {m = m}
+    {b = b} s front within fresh is adv = record {
+      kept = record {
+        rest = λ xs told. (
+          n,
+          took_front want n shown xs b.told (front xs told) within fresh
+              (adv.told xs (s.told xs told)),
+        );
+        counted = λ xs told ys left k gone.
+            let e : ys ≡ drop n xs = let d = adv.told xs (s.told xs told) in cc in
+            counts_front n xs ys a m b (omega (arith, within, (front xs told).within)) e s.taken
+            adv.taken k gone;
+        bound = omega (arith, s.bound, adv.bound);
+        budget = adv.budget ∙ s.budget;
+        failures = adv.failures ∙ s.failures;
+        lends_whole = λ h. adv.lends_whole (s.lends_whole h);
+        remembers = λ h. adv.remembers (s.remembers h);
+      };
+      at = λ xs told. (
+        omega (arith, within, (front xs told).within),
+        adv.told xs (s.told xs told),
+        is ∙ front_is want n shown xs (front xs told) within,
+      );
+    }
 
 pub first_bytes : (k : ℕ) (bs : List ℕ) → ((i : ℕ) → get_or bs i 0 < 256) → IsBytes (take k bs)
 first_bytes zero bs f = tt

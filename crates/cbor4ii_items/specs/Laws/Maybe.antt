@@ -1,5 +1,6 @@
 -- An array of no item or one is read as its item is.
-use Rattle.std.proofs.Common.{◌≡◌, ℕ, ◌≤◌, List, [], ◌++◌, length, drop, take, Option, Some, None, Bool, IsTrue, sym, ap, ◌∙◌, subst, arith}
+use Rattle.std.proofs.Common.{◌≡◌, ℕ, ◌≤◌, List, [], ◌++◌, length, drop, take, Option, Some, None}
+use Rattle.std.proofs.Common.{Bool, IsTrue, sym, ap, ◌∙◌, subst, arith}
 use Rattle.std.proofs.lemmas.List.{length-drop}
 use Rattle.cbor4ii_items.specs.Containers.{SameOption}
 use Rattle.cbor4ii_items.specs.Heads.{ReadsHead}
@@ -9,38 +10,60 @@ use Rattle.cbor4ii_items.specs.Maybe.{ReadsMaybe}
 use Rattle.cbor4ii_items.specs.Decoding.{Reads}
 
 -- an array has one count
-pub two_counts : {A : Type 0} (xs : List ℕ) (n m : ℕ) → ReadsHead 4 8 xs 0 n → ReadsHead 4 8 xs 1 m → A
-two_counts xs n m p q = let h = head_one 4 8 xs 0 1 n m (omega arith) p q in absurd (omega (arith, h.1))
+pub two_counts : {A : Type 0} (xs : List ℕ) (n m : ℕ) → ReadsHead 4 8 xs 0 n → ReadsHead 4 8 xs 1 m
+    → A
+two_counts xs n m p q =
+    let h = head_one 4 8 xs 0 1 n m (omega arith) p q in absurd (omega (arith, h.1))
 
 module _ {V : Type 0} (reads : Reads V) where
-  pub maybe_one : (same : V → V → Type 0) → ((xs : List ℕ) (v w : V) (n m c d : ℕ) → reads xs v n c → reads xs w m d → (n ≡ m) × (c ≡ d) × same v w)
-      → (xs : List ℕ) (v w : Option V) (n m c d : ℕ) → ReadsMaybe reads xs v n c → ReadsMaybe reads xs w m d → (n ≡ m) × (c ≡ d) × SameOption same v w
-  maybe_one same one xs None None n m c d p q = let h = head_one 4 8 xs 0 0 n m (omega arith) p.0 q.0 in (h.0, p.1 ∙ sym q.1, tt)
+  pub maybe_one : (same : V → V → Type 0) → ((xs : List ℕ) (v w : V) (n m c d : ℕ) → reads xs v n c
+      → reads xs w m d → (n ≡ m) × (c ≡ d) × same v w)
+      → (xs : List ℕ) (v w : Option V) (n m c d : ℕ) → ReadsMaybe reads xs v n c
+      → ReadsMaybe reads xs w m d → (n ≡ m) × (c ≡ d) × SameOption same v w
+  maybe_one same one xs None None n m c d p q =
+      let h = head_one 4 8 xs 0 0 n m (omega arith) p.0 q.0 in (h.0, p.1 ∙ sym q.1, tt)
   maybe_one same one xs None (Some w) n m c d p q = two_counts xs n q.before p.0 q.head
   maybe_one same one xs (Some v) None n m c d p q = two_counts xs m p.before q.0 p.head
   maybe_one same one xs (Some v) (Some w) n m c d p q =
       let h = head_one 4 8 xs 1 1 p.before q.before (omega arith) p.head q.head in
-      let o = one (drop p.before xs) v w p.count q.count c d p.item (subst (λ k. reads (drop k xs) w q.count d) (sym h.0) q.item) in
+      let o = one (drop p.before xs) v w p.count q.count c d p.item
+      (subst (λ k. reads (drop k xs) w q.count d) (sym h.0) q.item) in
       (omega (arith, p.bytes, q.bytes, h.0, o.0), o.1, o.2)
 
-  pub maybe_within : ((xs : List ℕ) (v : V) (n c : ℕ) → reads xs v n c → n ≤ length xs) → (xs : List ℕ) (v : Option V) (n c : ℕ) → ReadsMaybe reads xs v n c → n ≤ length xs
+  pub maybe_within : ((xs : List ℕ) (v : V) (n c : ℕ) → reads xs v n c → n ≤ length xs)
+      → (xs : List ℕ) (v : Option V) (n c : ℕ) → ReadsMaybe reads xs v n c → n ≤ length xs
   maybe_within within xs None n c p = (head_read [] 4 8 xs 0 n (omega arith) p.0).1
-  maybe_within within xs (Some v) n c p = omega (arith, p.bytes, (head_read [] 4 8 xs 1 p.before (omega arith) p.head).1, within (drop p.before xs) v p.count c p.item, length-drop p.before xs)
+  maybe_within within xs (Some v) n c p =
+      omega (
+        arith,
+        p.bytes,
+        (head_read [] 4 8 xs 1 p.before (omega arith) p.head).1,
+        within (drop p.before xs) v p.count c p.item,
+        length-drop p.before xs,
+      )
 
   pub maybe_positive : (xs : List ℕ) (v : Option V) (n c : ℕ) → ReadsMaybe reads xs v n c → 1 ≤ n
   maybe_positive xs None n c p = (head_read [] 4 8 xs 0 n (omega arith) p.0).2
-  maybe_positive xs (Some v) n c p = omega (arith, p.bytes, (head_read [] 4 8 xs 1 p.before (omega arith) p.head).2)
+  maybe_positive xs (Some v) n c p =
+      omega (arith, p.bytes, (head_read [] 4 8 xs 1 p.before (omega arith) p.head).2)
 
-  pub maybe_alone : (closed : Bool) → (IsTrue closed → (xs ys : List ℕ) (v : V) (n c : ℕ) → reads xs v n c → reads (take n xs ++ ys) v n c) → IsTrue closed → (xs ys : List ℕ) (v : Option V) (n c : ℕ) → ReadsMaybe reads xs v n c → ReadsMaybe reads (take n xs ++ ys) v n c
+  pub maybe_alone : (closed : Bool) → (IsTrue closed → (xs ys : List ℕ) (v : V) (n c : ℕ)
+      → reads xs v n c → reads (take n xs ++ ys) v n c) → IsTrue closed
+      → (xs ys : List ℕ) (v : Option V) (n c : ℕ) → ReadsMaybe reads xs v n c
+      → ReadsMaybe reads (take n xs ++ ys) v n c
   maybe_alone closed alone e xs ys None n c p = (head_alone 4 8 xs ys 0 n p.0, p.1)
   maybe_alone closed alone e xs ys (Some v) n c p =
       let h = (head_read [] 4 8 xs 1 p.before (omega arith) p.head).1 in
       let behind = drop p.before xs in
-      let same : take n xs ++ ys ≡ take p.before xs ++ (take p.count behind ++ ys) = two_fronts p.before p.count n xs ys p.bytes in
-      let left : drop p.before (take n xs ++ ys) ≡ take p.count behind ++ ys = ap (drop p.before) same ∙ behind_front p.before xs (take p.count behind ++ ys) h in
+      let same : take n xs ++ ys ≡ take p.before xs ++ (take p.count behind ++ ys) =
+      two_fronts p.before p.count n xs ys p.bytes in
+      let left : drop p.before (take n xs ++ ys) ≡ take p.count behind ++ ys =
+      ap (drop p.before) same ∙ behind_front p.before xs (take p.count behind ++ ys) h in
       record {
         before = p.before;
-        head = subst (λ zs. ReadsHead 4 8 zs 1 p.before) (sym same) (head_alone 4 8 xs (take p.count behind ++ ys) 1 p.before p.head);
+        head =
+            subst (λ zs. ReadsHead 4 8 zs 1 p.before) (sym same)
+            (head_alone 4 8 xs (take p.count behind ++ ys) 1 p.before p.head);
         count = p.count;
         item = subst (λ zs. reads zs v p.count c) (sym left) (alone e behind ys v p.count c p.item);
         bytes = p.bytes;

@@ -1,14 +1,21 @@
 -- Numbers are read back from what is written.
-use Rattle.std.proofs.Common.{◌≡◌, ℕ, zero, suc, ◌^◌, ◌<◌, ◌≤◌, ◌⊎◌, inl, inr, List, [], ◌∷◌, ◌++◌, length, drop, take, Bool, true, false, IsTrue, refl, sym, ap, ◌∙◌, subst, arith, append_assoc, cond, Option, Some, None, IfSome, ltb, ltb-true, ltb-false, length-append}
+use Rattle.std.proofs.Common.{◌≡◌, ℕ, zero, suc, ◌^◌, ◌<◌, ◌≤◌, ◌⊎◌, inl, inr, List, [], ◌∷◌, ◌++◌}
+use Rattle.std.proofs.Common.{length, drop, take, Bool, true, false, IsTrue, refl, sym, ap, ◌∙◌}
+use Rattle.std.proofs.Common.{subst, arith, append_assoc, cond, Option, Some, None, IfSome, ltb}
+use Rattle.std.proofs.Common.{ltb-true, ltb-false, length-append}
 use Rattle.std.specs.Prelude.{ℤ, pos, negsuc}
 use Rattle.std.specs.Int.{byte_at as number_byte, bytes_high_first}
 use Rattle.std.proofs.Math.Seq.{take-append_seam, drop-append_seam, take-length}
-use Rattle.cbor4ii_items.specs.Head.{Width, in_first, one as w_one, two, four, eight, byte_count, HeadFits, shortest, IsBytes}
+use Rattle.cbor4ii_items.specs.Head.{Width, in_first, one as w_one, two, four, eight, byte_count}
+use Rattle.cbor4ii_items.specs.Head.{HeadFits, shortest, IsBytes}
 use Rattle.cbor4ii_items.specs.Heads.{ReadsHead}
 use Rattle.cbor4ii_items.specs.Laws.Heads.{length-bytes_high_first, number_again}
 use Rattle.cbor4ii_items.specs.ReadHead.{number_on}
 use Rattle.cbor4ii_items.specs.Magnitude.{number_of, without_leading_zeros, magnitude}
-use Rattle.cbor4ii_items.specs.Numbers.{ReadsArgument, ReadsSigned, IsWithin, ReadsMagnitude, ReadsBignum, ReadsU128, ReadsI128, shortest_head, signed_head, counted_string, bignum_bytes, unsigned_bytes, signed_bytes}
+use Rattle.cbor4ii_items.specs.Numbers.{ReadsArgument, ReadsSigned, IsWithin, ReadsMagnitude}
+use Rattle.cbor4ii_items.specs.Numbers.{ReadsBignum, ReadsU128, ReadsI128, shortest_head}
+use Rattle.cbor4ii_items.specs.Numbers.{signed_head, counted_string, bignum_bytes, unsigned_bytes}
+use Rattle.cbor4ii_items.specs.Numbers.{signed_bytes}
 use Rattle.cbor4ii_items.specs.ReadBack.{ReadsBack, NoneBeginsAnother}
 use Rattle.cbor4ii_items.specs.Laws.Outcome.{same_value}
 use Rattle.cbor4ii_items.specs.Refusal.{Refusal, refusal_of}
@@ -59,25 +66,45 @@ record IsShortest (v : ℕ) (width wide : Width) : Type 0 where
   fits : HeadFits width v
   least : byte_count width ≤ byte_count wide
 
-shortest_by : (a b c d : Bool) (v : ℕ) (wide : Width) → ltb v 24 ≡ a → ltb v 256 ≡ b → ltb v (256 ^ 2) ≡ c → ltb v (256 ^ 4) ≡ d → v < 256 ^ byte_count wide
+shortest_by : (a b c d : Bool) (v : ℕ) (wide : Width) → ltb v 24 ≡ a → ltb v 256 ≡ b
+    → ltb v (256 ^ 2) ≡ c → ltb v (256 ^ 4) ≡ d → v < 256 ^ byte_count wide
     → IsShortest v (cond a in_first (cond b w_one (cond c two (cond d four eight)))) wide
-shortest_by true b c d v wide p q r s h = let small : v < 24 = ltb-true v 24 p in record { fits = omega (arith, small); least = omega arith }
-shortest_by false true c d v wide p q r s h = record { fits = ltb-true v 256 q; least = least_one v wide (ltb-false v 24 p) h }
-shortest_by false false true d v wide p q r s h = record { fits = ltb-true v (256 ^ 2) r; least = least_two v wide (ltb-false v 256 q) h }
-shortest_by false false false true v wide p q r s h = record { fits = ltb-true v (256 ^ 4) s; least = least_four v wide (ltb-false v (256 ^ 2) r) h }
-shortest_by false false false false v wide p q r s h = record { fits = greatest v wide h; least = least_eight v wide (ltb-false v (256 ^ 4) s) h }
+shortest_by true b c d v wide p q r s h =
+    let small : v < 24 = ltb-true v 24 p in
+    record { fits = omega (arith, small); least = omega arith }
+shortest_by false true c d v wide p q r s h =
+    record { fits = ltb-true v 256 q; least = least_one v wide (ltb-false v 24 p) h }
+shortest_by false false true d v wide p q r s h =
+    record { fits = ltb-true v (256 ^ 2) r; least = least_two v wide (ltb-false v 256 q) h }
+shortest_by false false false true v wide p q r s h =
+    record { fits = ltb-true v (256 ^ 4) s; least = least_four v wide (ltb-false v (256 ^ 2) r) h }
+shortest_by false false false false v wide p q r s h =
+    record { fits = greatest v wide h; least = least_eight v wide (ltb-false v (256 ^ 4) s) h }
 
-pub head_back : (major : ℕ) (wide : Width) (v : ℕ) → v < 256 ^ byte_count wide → (rest : List ℕ) → ReadsHead major (byte_count wide) (shortest_head major v ++ rest) v (length (shortest_head major v))
+pub head_back : (major : ℕ) (wide : Width) (v : ℕ) → v < 256 ^ byte_count wide → (rest : List ℕ)
+    → ReadsHead major (byte_count wide)
+    (shortest_head major v ++ rest) v (length (shortest_head major v))
 head_back major wide v h rest =
-    let s : IsShortest v (shortest v) wide = shortest_by (ltb v 24) (ltb v 256) (ltb v (256 ^ 2)) (ltb v (256 ^ 4)) v wide refl refl refl refl h in
-    record { wide = shortest v; allowed = s.least; fits = s.fits; rest = rest; is = refl; count = ap suc (length-bytes_high_first (byte_count (shortest v)) v) }
+    let s : IsShortest v (shortest v) wide = shortest_by (ltb v 24) (ltb v 256) (ltb v (256 ^ 2))
+    (ltb v (256 ^ 4)) v wide refl refl refl refl h in
+    record {
+      wide = shortest v;
+      allowed = s.least;
+      fits = s.fits;
+      rest = rest;
+      is = refl;
+      count = ap suc (length-bytes_high_first (byte_count (shortest v)) v);
+    }
 
-pub argument_back : (major : ℕ) (wide : Width) (v : ℕ) → v < 256 ^ byte_count wide → ReadsBack (ReadsArgument major (byte_count wide)) (shortest_head major v) v 0
+pub argument_back : (major : ℕ) (wide : Width) (v : ℕ) → v < 256 ^ byte_count wide
+    → ReadsBack (ReadsArgument major (byte_count wide)) (shortest_head major v) v 0
 argument_back major wide v h rest = (head_back major wide v h rest, refl)
 
-pub signed_back : (wide : Width) (limit : ℕ) (v : ℤ) → limit ≤ 256 ^ byte_count wide → IsWithin limit v → ReadsBack (ReadsSigned (byte_count wide) limit) (signed_head v) v 0
+pub signed_back : (wide : Width) (limit : ℕ) (v : ℤ) → limit ≤ 256 ^ byte_count wide
+    → IsWithin limit v → ReadsBack (ReadsSigned (byte_count wide) limit) (signed_head v) v 0
 signed_back wide limit (pos k) le h rest = (head_back 0 wide k (omega (arith, le, h)) rest, h, refl)
-signed_back wide limit (negsuc k) le h rest = (head_back 1 wide k (omega (arith, le, h)) rest, h, refl)
+signed_back wide limit (negsuc k) le h rest =
+    (head_back 1 wide k (omega (arith, le, h)) rest, h, refl)
 
 -- ---- byte strings without leading zeros
 
@@ -108,50 +135,84 @@ number_of_bytes : (k n : ℕ) → n < 256 ^ k → number_of (bytes_high_first k 
 number_of_bytes k n h =
     let bs = bytes_high_first k n in
     let long : length bs ≡ k = length-bytes_high_first k n in
-    let front : take k (bs ++ []) ≡ bs = ap (λ j. take j (bs ++ [])) (sym long) ∙ take-append_seam bs [] in
+    let front : take k (bs ++ []) ≡ bs =
+    ap (λ j. take j (bs ++ [])) (sym long) ∙ take-append_seam bs [] in
     let room : k ≤ length (bs ++ []) = omega (arith, length-append bs [], long) in
-    let same = same_value (number_on [] 0 k 0 (bs ++ [])) (number_again [] 0 k n [] h) (number_taken [] 0 k 0 (bs ++ []) room) in
+    let same = same_value (number_on [] 0 k 0 (bs ++ [])) (number_again [] 0 k n [] h)
+    (number_taken [] 0 k 0 (bs ++ []) room) in
     sym (same.0 ∙ ap number_of front)
 
-string_back : (content rest : List ℕ) → length content ≤ 16 → IsBytes content → ReadsMagnitude (counted_string 2 content ++ rest) (number_of content) (length (counted_string 2 content))
+string_back : (content rest : List ℕ) → length content ≤ 16 → IsBytes content
+    → ReadsMagnitude (counted_string 2 content ++ rest) (number_of content)
+    (length (counted_string 2 content))
 string_back content rest short bytes =
     let start = shortest_head 2 (length content) in
-    let whole : counted_string 2 content ++ rest ≡ start ++ (content ++ rest) = append_assoc start content rest in
-    let behind : drop (length start) (counted_string 2 content ++ rest) ≡ content ++ rest = ap (drop (length start)) whole ∙ drop-append_seam start (content ++ rest) in
-    let inner : take (length content) (drop (length start) (counted_string 2 content ++ rest)) ≡ content = ap (take (length content)) behind ∙ take-append_seam content rest in
+    let whole : counted_string 2 content ++ rest ≡ start ++ (content ++ rest) =
+    append_assoc start content rest in
+    let behind : drop (length start) (counted_string 2 content ++ rest) ≡ content ++ rest =
+    ap (drop (length start)) whole ∙ drop-append_seam start (content ++ rest) in
+    let inner : take (length content)
+    (drop (length start) (counted_string 2 content ++ rest)) ≡ content =
+    ap (take (length content)) behind ∙ take-append_seam content rest in
     let small : length content < 256 ^ 8 = omega (arith, short) in
     record {
       count = length content;
       before = length start;
-      counted = subst (λ zs. ReadsHead 2 8 zs (length content) (length start)) (sym whole) (head_back 2 eight (length content) small (content ++ rest));
+      counted =
+          subst (λ zs. ReadsHead 2 8 zs (length content) (length start)) (sym whole)
+          (head_back 2 eight (length content) small (content ++ rest));
       short = short;
-      within = omega (arith, ap length whole, length-append start (content ++ rest), length-append content rest);
+      within =
+          omega (
+            arith,
+            ap length whole,
+            length-append start (content ++ rest),
+            length-append content rest,
+          );
       bytes = subst IsBytes (sym inner) bytes;
       value = ap number_of (sym inner);
       size = length-append start content;
     }
 
-bignum_back : (tag v : ℕ) → tag < 256 → v < 256 ^ 16 → (rest : List ℕ) → ReadsBignum tag (bignum_bytes tag v ++ rest) v (length (bignum_bytes tag v))
+bignum_back : (tag v : ℕ) → tag < 256 → v < 256 ^ 16 → (rest : List ℕ)
+    → ReadsBignum tag (bignum_bytes tag v ++ rest) v (length (bignum_bytes tag v))
 bignum_back tag v small fits rest =
     let start = shortest_head 6 tag in
     let content = magnitude v in
-    let whole : bignum_bytes tag v ++ rest ≡ start ++ (counted_string 2 content ++ rest) = append_assoc start (counted_string 2 content) rest in
-    let behind : drop (length start) (bignum_bytes tag v ++ rest) ≡ counted_string 2 content ++ rest = ap (drop (length start)) whole ∙ drop-append_seam start (counted_string 2 content ++ rest) in
-    let number : number_of content ≡ v = number_kept (bytes_high_first 16 v) ∙ number_of_bytes 16 v fits in
-    let short : length content ≤ 16 = omega (arith, no_longer (bytes_high_first 16 v), length-bytes_high_first 16 v) in
-    let back = string_back content rest short (still_bytes (bytes_high_first 16 v) (all_bytes 16 v)) in
+    let whole : bignum_bytes tag v ++ rest ≡ start ++ (counted_string 2 content ++ rest) =
+    append_assoc start (counted_string 2 content) rest in
+    let behind : drop (length start)
+    (bignum_bytes tag v ++ rest) ≡ counted_string 2 content ++ rest =
+    ap (drop (length start)) whole
+    ∙ drop-append_seam start (counted_string 2 content ++ rest) in
+    let number : number_of content ≡ v =
+    number_kept (bytes_high_first 16 v) ∙ number_of_bytes 16 v fits in
+    let short : length content ≤ 16 =
+    omega (arith, no_longer (bytes_high_first 16 v), length-bytes_high_first 16 v) in
+    let back =
+    string_back content rest short (still_bytes (bytes_high_first 16 v) (all_bytes 16 v)) in
     record {
       before = length start;
-      tagged = subst (λ zs. ReadsHead 6 1 zs tag (length start)) (sym whole) (head_back 6 w_one tag small (counted_string 2 content ++ rest));
+      tagged =
+          subst (λ zs. ReadsHead 6 1 zs tag (length start)) (sym whole)
+          (head_back 6 w_one tag small (counted_string 2 content ++ rest));
       size = length (counted_string 2 content);
-      magnitude = subst (λ zs. ReadsMagnitude zs v (length (counted_string 2 content))) (sym behind) (subst (λ k. ReadsMagnitude (counted_string 2 content ++ rest) k (length (counted_string 2 content))) number back);
+      magnitude =
+          subst (λ zs. ReadsMagnitude zs v (length (counted_string 2 content))) (sym behind)
+          (subst (λ k. ReadsMagnitude (counted_string 2 content ++ rest) k
+          (length (counted_string 2 content))) number back);
       total = length-append start (counted_string 2 content);
     }
 
 -- an integer as a head's argument where it fits, else as a bignum
-integer_back : (t : Bool) (major tag v : ℕ) → ltb v (2 ^ 64) ≡ t → tag < 256 → v < 256 ^ 16 → (rest : List ℕ)
-    → let bytes = cond t (shortest_head major v) (bignum_bytes tag v) in ReadsHead major 8 (bytes ++ rest) v (length bytes) ⊎ ReadsBignum tag (bytes ++ rest) v (length bytes)
-integer_back true major tag v e small fits rest = inl (head_back major eight v (ltb-true v (2 ^ 64) e) rest)
+integer_back : (t : Bool) (major tag v : ℕ) → ltb v (2 ^ 64) ≡ t → tag < 256 → v < 256 ^ 16
+    → (rest : List ℕ)
+    → let bytes =
+    cond t (shortest_head major v) (bignum_bytes tag v) in
+    ReadsHead major 8 (bytes ++ rest) v (length bytes)
+    ⊎ ReadsBignum tag (bytes ++ rest) v (length bytes)
+integer_back true major tag v e small fits rest =
+    inl (head_back major eight v (ltb-true v (2 ^ 64) e) rest)
 integer_back false major tag v e small fits rest = inr (bignum_back tag v small fits rest)
 
 pub u128_back : (v : ℕ) → v < 2 ^ 128 → ReadsBack ReadsU128 (unsigned_bytes v) v 0
@@ -162,8 +223,14 @@ in_range k h (inl a) = inl a
 in_range k h (inr b) = inr (b, h)
 
 pub i128_back : (v : ℤ) → IsWithin (2 ^ 127) v → ReadsBack ReadsI128 (signed_bytes v) v 0
-i128_back (pos k) h rest = (in_range k h (integer_back (ltb k (2 ^ 64)) 0 2 k refl (omega arith) (omega (arith, h)) rest), refl)
-i128_back (negsuc k) h rest = (in_range k h (integer_back (ltb k (2 ^ 64)) 1 3 k refl (omega arith) (omega (arith, h)) rest), refl)
+i128_back (pos k) h rest = (
+  in_range k h (integer_back (ltb k (2 ^ 64)) 0 2 k refl (omega arith) (omega (arith, h)) rest),
+  refl,
+)
+i128_back (negsuc k) h rest = (
+  in_range k h (integer_back (ltb k (2 ^ 64)) 1 3 k refl (omega arith) (omega (arith, h)) rest),
+  refl,
+)
 
 -- ---- no spelling begins another
 
@@ -171,27 +238,40 @@ nothing_more : (xs more : List ℕ) → length xs ≡ length (xs ++ more) → mo
 nothing_more xs [] e = refl
 nothing_more xs (m ∷ more) e = absurd (omega (arith, e, length-append xs (m ∷ more)))
 
-pub none_begins : {V : Type 0} (reads : Reads V) (same : V → V → Type 0) (closed : Bool) → ((xs : List ℕ) (v w : V) (n m c d : ℕ) → reads xs v n c → reads xs w m d → (n ≡ m) × (c ≡ d) × same v w)
-    → (IsTrue closed → (xs ys : List ℕ) (v : V) (n c : ℕ) → reads xs v n c → reads (take n xs ++ ys) v n c) → IsTrue closed → NoneBeginsAnother reads
+pub none_begins : {V : Type 0} (reads : Reads V) (same : V → V → Type 0) (closed : Bool)
+    → ((xs : List ℕ) (v w : V) (n m c d : ℕ) → reads xs v n c → reads xs w m d
+    → (n ≡ m) × (c ≡ d) × same v w)
+    → (IsTrue closed → (xs ys : List ℕ) (v : V) (n c : ℕ) → reads xs v n c
+    → reads (take n xs ++ ys) v n c) → IsTrue closed → NoneBeginsAnother reads
 none_begins reads same closed one alone e xs more v w c d p q =
     let whole : take (length xs) xs ≡ xs = take-length xs in
-    let p' = subst (λ zs. reads (zs ++ more) v (length xs) c) whole (alone e xs more v (length xs) c p) in
+    let p' = subst (λ zs. reads (zs ++ more) v (length xs) c) whole
+    (alone e xs more v (length xs) c p) in
     nothing_more xs more (one (xs ++ more) v w (length xs) (length (xs ++ more)) c d p' q).0
 
 -- ---- what is written is decoded
 
 module _ {V : Type 0} (reads : Reads V) where
-  pub decoded : (same : V → V → Type 0) → ((xs : List ℕ) (v w : V) (n m c d : ℕ) → reads xs v n c → reads xs w m d → (n ≡ m) × (c ≡ d) × same v w)
-      → (bytes rest : List ℕ) (v w : V) (cost : ℕ) (old new : View) → ReadsBack reads bytes v cost → old.told ≡ Some (bytes ++ rest) → Sound reads old new w → same v w × (new.told ≡ Some rest)
+  pub decoded : (same : V → V → Type 0) → ((xs : List ℕ) (v w : V) (n m c d : ℕ) → reads xs v n c
+      → reads xs w m d → (n ≡ m) × (c ≡ d) × same v w)
+      → (bytes rest : List ℕ) (v w : V) (cost : ℕ) (old new : View) → ReadsBack reads bytes v cost
+      → old.told ≡ Some (bytes ++ rest) → Sound reads old new w → same v w × (new.told ≡ Some rest)
   decoded same one bytes rest v w cost old new back told sound =
       let t = sound.at (bytes ++ rest) told in
-      let s = one (bytes ++ rest) v w (length bytes) t.count cost t.cost (back rest) t.read in
-      (s.2, t.left ∙ ap (λ n. Some (drop n (bytes ++ rest))) (sym s.0) ∙ ap Some (drop-append_seam bytes rest))
+      let s = one (bytes ++ rest) v w (length bytes) t.count cost t.cost (back rest) t.read in (
+        s.2,
+        t.left ∙ ap (λ n. Some (drop n (bytes ++ rest))) (sym s.0)
+            ∙ ap Some (drop-append_seam bytes rest),
+      )
 
-  refused_none : (o : Option Refusal) (xs : List ℕ) (budget : Option ℕ) (v : V) (n c : ℕ) → reads xs v n c → CostFits c budget → IfSome o (λ z. NoneRead reads xs budget) → o ≡ None
+  refused_none : (o : Option Refusal) (xs : List ℕ) (budget : Option ℕ) (v : V) (n c : ℕ)
+      → reads xs v n c → CostFits c budget → IfSome o (λ z. NoneRead reads xs budget) → o ≡ None
   refused_none None xs budget v n c r fits none = refl
   refused_none (Some z) xs budget v n c r fits none = absurd (none v n c r fits)
 
-  pub not_refused : {E : Type 0} (bytes rest : List ℕ) (v : V) (cost : ℕ) (old : View) (error : DecodeError E) → ReadsBack reads bytes v cost → CostFits cost old.budget → old.told ≡ Some (bytes ++ rest) → Refuses reads old error → refusal_of error ≡ None
+  pub not_refused : {E : Type 0} (bytes rest : List ℕ) (v : V) (cost : ℕ) (old : View)
+      (error : DecodeError E) → ReadsBack reads bytes v cost → CostFits cost old.budget
+      → old.told ≡ Some (bytes ++ rest) → Refuses reads old error → refusal_of error ≡ None
   not_refused bytes rest v cost old error back fits told refuses =
-      refused_none (refusal_of error) (bytes ++ rest) old.budget v (length bytes) cost (back rest) fits (refuses.at (bytes ++ rest) told)
+      refused_none (refusal_of error) (bytes ++ rest) old.budget v (length bytes) cost (back rest)
+      fits (refuses.at (bytes ++ rest) told)

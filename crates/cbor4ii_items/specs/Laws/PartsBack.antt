@@ -1,5 +1,7 @@
 -- Lengths, items behind a head, and sequences are read back from what is written.
-use Rattle.std.proofs.Common.{◌≡◌, ℕ, ◌+◌, ◌<◌, ◌^◌, List, [], ◌∷◌, ◌++◌, length, drop, Bool, Some, None, inl, refl, sym, ap, ◌∙◌, subst, arith, append_assoc, length-append}
+use Rattle.std.proofs.Common.{◌≡◌, ℕ, ◌+◌, ◌<◌, ◌^◌, List, [], ◌∷◌, ◌++◌, length, drop, Bool, Some}
+use Rattle.std.proofs.Common.{None, inl, refl, sym, ap, ◌∙◌, subst, arith, append_assoc}
+use Rattle.std.proofs.Common.{length-append}
 use Rattle.std.specs.Prelude.{All}
 use Rattle.std.proofs.lemmas.List.Elements.{All-head, All-tail}
 use Rattle.std.proofs.Math.Seq.{drop-append_seam}
@@ -16,7 +18,8 @@ use Rattle.cbor4ii_items.specs.Sequences.{ReadsParts, ReadsCountedParts, ReadsSe
 use Rattle.cbor4ii_items.specs.Strings.{opening}
 use Rattle.cbor4ii_items.specs.Laws.NumbersBack.{head_back}
 
-pub length_back : (major len : ℕ) → len < 2 ^ 64 → ReadsBack (ReadsLength major) (shortest_head major len) (Some len) 0
+pub length_back : (major len : ℕ) → len < 2 ^ 64
+    → ReadsBack (ReadsLength major) (shortest_head major len) (Some len) 0
 length_back major len h rest = (head_back major eight len h rest, refl)
 
 pub open_back : (major : ℕ) → ReadsBack (ReadsLength major) (opening major) None 0
@@ -34,22 +37,28 @@ behind front bytes rest =
 
 -- a head of eight bytes of argument at most, whatever stands behind it
 headed : (major k : ℕ) (bytes rest : List ℕ) → k < 2 ^ 64
-    → ReadsHead major 8 ((shortest_head major k ++ bytes) ++ rest) k (length (shortest_head major k))
+    → ReadsHead major 8 ((shortest_head major k ++ bytes) ++ rest) k
+    (length (shortest_head major k))
 headed major k bytes rest h =
     let start = shortest_head major k in
-    subst (λ zs. ReadsHead major 8 zs k (length start)) (sym (behind start bytes rest).whole) (head_back major eight k h (bytes ++ rest))
+    subst (λ zs. ReadsHead major 8 zs k (length start)) (sym (behind start bytes rest).whole)
+    (head_back major eight k h (bytes ++ rest))
 
 -- what is read back, behind a front
-item_behind : {V : Type 0} (reads : Reads V) (front bytes : List ℕ) (v : V) (cost : ℕ) → ReadsBack reads bytes v cost
+item_behind : {V : Type 0} (reads : Reads V) (front bytes : List ℕ) (v : V) (cost : ℕ)
+    → ReadsBack reads bytes v cost
     → (rest : List ℕ) → reads (drop (length front) ((front ++ bytes) ++ rest)) v (length bytes) cost
 item_behind reads front bytes v cost back rest =
     subst (λ zs. reads zs v (length bytes) cost) (sym (behind front bytes rest).left) (back rest)
 
 -- ---- items behind a head
 
-module _ {V : Type 0} (reads : Reads V) (bytes : List ℕ) (v : V) (cost : ℕ) (back : ReadsBack reads bytes v cost) where
+module _ {V : Type 0} (reads : Reads V) (bytes : List ℕ) (v : V) (cost : ℕ)
+    (back : ReadsBack reads bytes v cost) where
   pub tag_back : (number : ℕ) → number < 2 ^ 64 → (rest : List ℕ)
-      → let tagged = shortest_head 6 number ++ bytes in ReadsTag reads (tagged ++ rest) number v (length tagged) cost
+      → let tagged =
+      shortest_head 6 number ++ bytes in
+      ReadsTag reads (tagged ++ rest) number v (length tagged) cost
   tag_back number h rest =
       let start = shortest_head 6 number in
       record {
@@ -71,14 +80,16 @@ module _ {V : Type 0} (reads : Reads V) (bytes : List ℕ) (v : V) (cost : ℕ) 
         bytes = length-append start bytes;
       }
 
-pub none_back : {V : Type 0} (reads : Reads V) → ReadsBack (ReadsMaybe reads) (shortest_head 4 0) None 0
+pub none_back : {V : Type 0} (reads : Reads V)
+    → ReadsBack (ReadsMaybe reads) (shortest_head 4 0) None 0
 none_back reads rest = (head_back 4 eight 0 (omega arith) rest, refl)
 
 -- ---- sequences
 
 module _ {P : Type 0} (reads : Reads P) (bytes : P → List ℕ) (cost : P → ℕ) where
   parts_back : (ps : List P) → All (λ p. ReadsBack reads (bytes p) p (cost p)) ps → (rest : List ℕ)
-      → ReadsParts reads (items_bytes bytes ps ++ rest) ps (length (items_bytes bytes ps)) (greatest_cost cost ps)
+      → ReadsParts reads (items_bytes bytes ps ++ rest) ps (length (items_bytes bytes ps))
+      (greatest_cost cost ps)
   parts_back [] back rest = (refl, refl)
   parts_back (p ∷ ps) back rest =
       let P : P → Type 0 = λ q. ReadsBack reads (bytes q) q (cost q) in
@@ -91,31 +102,48 @@ module _ {P : Type 0} (reads : Reads P) (bytes : P → List ℕ) (cost : P → �
         length others,
         greatest_cost cost ps,
         subst (λ zs. reads zs p n (cost p)) (sym b.whole) (All-head P p ps back (others ++ rest)),
-        subst (λ zs. ReadsParts reads zs ps (length others) (greatest_cost cost ps)) (sym b.left) tail,
+        subst (λ zs. ReadsParts reads zs ps (length others) (greatest_cost cost ps))
+            (sym b.left) tail,
         length-append (bytes p) others,
         refl,
       )
 
   pub sequence_back : (major : ℕ) (never_empty : Bool) (ps : List P) → length ps < 2 ^ 64
       → All (λ p. ReadsBack reads (bytes p) p (cost p)) ps
-      → ReadsBack (ReadsSequence major reads never_empty) (shortest_head major (length ps) ++ items_bytes bytes ps) ps (1 + greatest_cost cost ps)
+      → ReadsBack (ReadsSequence major reads never_empty)
+      (shortest_head major (length ps) ++ items_bytes bytes ps) ps (1 + greatest_cost cost ps)
   sequence_back major never_empty ps h back rest =
       let start = shortest_head major (length ps) in
       let inside = items_bytes bytes ps in
-      let parts = subst (λ zs. ReadsParts reads zs ps (length inside) (greatest_cost cost ps)) (sym (behind start inside rest).left) (parts_back ps back rest) in
-      let counted : ReadsCountedParts major reads ((start ++ inside) ++ rest) ps (length (start ++ inside)) (greatest_cost cost ps) = record { before = length start; head = headed major (length ps) inside rest h; between = length inside; parts = parts; size = length-append start inside } in
+      let parts = subst (λ zs. ReadsParts reads zs ps (length inside) (greatest_cost cost ps))
+      (sym (behind start inside rest).left) (parts_back ps back rest) in
+      let counted : ReadsCountedParts major reads ((start ++ inside) ++ rest) ps
+      (length (start ++ inside)) (greatest_cost cost ps) =
+      record {
+        before = length start;
+        head = headed major (length ps) inside rest h;
+        between = length inside;
+        parts = parts;
+        size = length-append start inside;
+      } in
       (greatest_cost cost ps, inl counted, refl)
 
-pub pair_back : {K V : Type 0} (key_reads : Reads K) (value_reads : Reads V) (key_bytes : K → List ℕ) (value_bytes : V → List ℕ) (key_cost : K → ℕ) (value_cost : V → ℕ) (p : K × V)
-    → ReadsBack key_reads (key_bytes p.0) p.0 (key_cost p.0) → ReadsBack value_reads (value_bytes p.1) p.1 (value_cost p.1)
-    → ReadsBack (ReadsPair key_reads value_reads) (pair_bytes key_bytes value_bytes p) p (pair_cost key_cost value_cost p)
+pub pair_back : {K V : Type 0} (key_reads : Reads K) (value_reads : Reads V)
+    (key_bytes : K → List ℕ) (value_bytes : V → List ℕ) (key_cost : K → ℕ) (value_cost : V → ℕ)
+    (p : K × V)
+    → ReadsBack key_reads (key_bytes p.0) p.0 (key_cost p.0)
+    → ReadsBack value_reads (value_bytes p.1) p.1 (value_cost p.1)
+    → ReadsBack (ReadsPair key_reads value_reads)
+    (pair_bytes key_bytes value_bytes p) p (pair_cost key_cost value_cost p)
 pair_back key_reads value_reads key_bytes value_bytes key_cost value_cost p key value rest =
     let first = key_bytes p.0 in
     let second = value_bytes p.1 in
     record {
       key_size = length first;
       key_cost = key_cost p.0;
-      key = subst (λ zs. key_reads zs p.0 (length first) (key_cost p.0)) (sym (behind first second rest).whole) (key (second ++ rest));
+      key =
+          subst (λ zs. key_reads zs p.0 (length first) (key_cost p.0))
+          (sym (behind first second rest).whole) (key (second ++ rest));
       value_size = length second;
       value_cost = value_cost p.1;
       value = item_behind value_reads first second p.1 (value_cost p.1) value rest;

@@ -1,5 +1,7 @@
 -- Arrays and maps are read as their parts are.
-use Rattle.std.proofs.Common.{◌≡◌, ℕ, ◌<◌, ◌≤◌, ◌⊎◌, inl, inr, List, [], ◌∷◌, ◌++◌, length, drop, take, Bool, true, false, IsTrue, refl, sym, ap, ◌∙◌, subst, arith, max}
+use Rattle.std.proofs.Common.{◌≡◌, ℕ, ◌<◌, ◌≤◌, ◌⊎◌, inl, inr, List, [], ◌∷◌, ◌++◌, length, drop}
+use Rattle.std.proofs.Common.{take, Bool, true, false, IsTrue, refl, sym, ap, ◌∙◌, subst, arith}
+use Rattle.std.proofs.Common.{max}
 use Rattle.std.specs.Prelude.{◌&&◌, ◌||◌}
 use Rattle.std.proofs.lemmas.List.{length-drop}
 use Rattle.std.specs.declared.alloc.Global.{Global}
@@ -11,7 +13,10 @@ use Rattle.cbor4ii_items.specs.Laws.Heads.{head_one, head_read, head_alone}
 use Rattle.cbor4ii_items.specs.Laws.Strings.{BeginsWith, head_not_open}
 use Rattle.cbor4ii_items.specs.Laws.Containers.{both, first_kept}
 use Rattle.cbor4ii_items.specs.Laws.Fronts.{drop_more, two_fronts, behind_front}
-use Rattle.cbor4ii_items.specs.Sequences.{ReadsParts, Unbroken, ReadsUpToBreak, ReadsCountedParts, ReadsOpenParts, ReadsInside, ReadsSequence, SameParts, ReadsArray, SameArray, ReadsPair, SamePair, ReadsMap, SameMap}
+use Rattle.cbor4ii_items.specs.Sequences.{ReadsParts, Unbroken, ReadsUpToBreak, ReadsCountedParts}
+use Rattle.cbor4ii_items.specs.Sequences.{ReadsOpenParts, ReadsInside, ReadsSequence, SameParts}
+use Rattle.cbor4ii_items.specs.Sequences.{ReadsArray, SameArray, ReadsPair, SamePair, ReadsMap}
+use Rattle.cbor4ii_items.specs.Sequences.{SameMap}
 use Rattle.cbor4ii_items.specs.Decoding.{Reads}
 
 pub not_less : (m n : ℕ) → (n < m → ⊥) → m ≤ n
@@ -27,116 +32,184 @@ one_byte (x ∷ xs) b e = omega arith
 -- ---- parts
 
 module _ {P : Type 0} (reads : Reads P) where
-  pub parts_within : ((xs : List ℕ) (p : P) (n c : ℕ) → reads xs p n c → n ≤ length xs) → (xs : List ℕ) (ps : List P) (n c : ℕ) → ReadsParts reads xs ps n c → n ≤ length xs
+  pub parts_within : ((xs : List ℕ) (p : P) (n c : ℕ) → reads xs p n c → n ≤ length xs)
+      → (xs : List ℕ) (ps : List P) (n c : ℕ) → ReadsParts reads xs ps n c → n ≤ length xs
   parts_within within xs [] n c h = omega (arith, h.0)
-  parts_within within xs (p ∷ ps) n c h = omega (arith, h.6, within xs p h.0 h.1 h.4, parts_within within (drop h.0 xs) ps h.2 h.3 h.5, length-drop h.0 xs)
+  parts_within within xs (p ∷ ps) n c h =
+      omega (
+        arith,
+        h.6,
+        within xs p h.0 h.1 h.4,
+        parts_within within (drop h.0 xs) ps h.2 h.3 h.5,
+        length-drop h.0 xs,
+      )
 
   -- where more parts are read, one is read behind the first ones, at no more cost
-  pub next_part : ((xs : List ℕ) (p q : P) (n m c d : ℕ) → reads xs p n c → reads xs q m d → n ≡ m) → (xs : List ℕ) (ps qs : List P) (n c m d : ℕ) → ReadsParts reads xs ps n c → ReadsParts reads xs qs m d → length ps < length qs
+  pub next_part : ((xs : List ℕ) (p q : P) (n m c d : ℕ) → reads xs p n c → reads xs q m d → n ≡ m)
+      → (xs : List ℕ) (ps qs : List P) (n c m d : ℕ) → ReadsParts reads xs ps n c
+      → ReadsParts reads xs qs m d → length ps < length qs
       → (q : P) × (k : ℕ) × (e : ℕ) × reads (drop n xs) q k e × (e ≤ d)
   next_part one xs [] [] n c m d g h less = absurd (omega arith)
   next_part one xs (p ∷ ps) [] n c m d g h less = absurd (omega arith)
-  next_part one xs [] (q ∷ qs) n c m d g h less = (q, h.0, h.1, subst (λ j. reads (drop j xs) q h.0 h.1) (sym g.0) h.4, omega (arith, h.7))
+  next_part one xs [] (q ∷ qs) n c m d g h less =
+      (q, h.0, h.1, subst (λ j. reads (drop j xs) q h.0 h.1) (sym g.0) h.4, omega (arith, h.7))
   next_part one xs (p ∷ ps) (q ∷ qs) n c m d g h less =
       let first : g.0 ≡ h.0 = one xs p q g.0 h.0 g.1 h.1 g.4 h.4 in
-      let r = next_part one (drop g.0 xs) ps qs g.2 g.3 h.2 h.3 g.5 (subst (λ j. ReadsParts reads (drop j xs) qs h.2 h.3) (sym first) h.5) (omega arith) in
-      let e : drop g.2 (drop g.0 xs) ≡ drop n xs = drop_more g.2 g.0 xs ∙ ap (λ j. drop j xs) (sym g.6) in
+      let r = next_part one (drop g.0 xs) ps qs g.2 g.3 h.2 h.3 g.5
+      (subst (λ j. ReadsParts reads (drop j xs) qs h.2 h.3) (sym first) h.5) (omega arith) in
+      let e : drop g.2 (drop g.0 xs) ≡ drop n xs =
+      drop_more g.2 g.0 xs ∙ ap (λ j. drop j xs) (sym g.6) in
       (r.0, r.1, r.2, subst (λ ys. reads ys r.0 r.1 r.2) e r.3, omega (arith, r.4, h.7))
 
   -- as many parts take as many bytes
-  pub parts_size : ((xs : List ℕ) (p q : P) (n m c d : ℕ) → reads xs p n c → reads xs q m d → n ≡ m) → (xs : List ℕ) (ps qs : List P) (n m c d : ℕ) → ReadsParts reads xs ps n c → ReadsParts reads xs qs m d → length ps ≡ length qs → n ≡ m
+  pub parts_size : ((xs : List ℕ) (p q : P) (n m c d : ℕ) → reads xs p n c → reads xs q m d → n ≡ m)
+      → (xs : List ℕ) (ps qs : List P) (n m c d : ℕ) → ReadsParts reads xs ps n c
+      → ReadsParts reads xs qs m d → length ps ≡ length qs → n ≡ m
   parts_size one xs [] [] n m c d g h e = g.0 ∙ sym h.0
   parts_size one xs [] (q ∷ qs) n m c d g h e = absurd (omega arith)
   parts_size one xs (p ∷ ps) [] n m c d g h e = absurd (omega arith)
   parts_size one xs (p ∷ ps) (q ∷ qs) n m c d g h e =
       let first : g.0 ≡ h.0 = one xs p q g.0 h.0 g.1 h.1 g.4 h.4 in
-      let rest = parts_size one (drop g.0 xs) ps qs g.2 h.2 g.3 h.3 g.5 (subst (λ j. ReadsParts reads (drop j xs) qs h.2 h.3) (sym first) h.5) (omega arith) in
+      let rest = parts_size one (drop g.0 xs) ps qs g.2 h.2 g.3 h.3 g.5
+      (subst (λ j. ReadsParts reads (drop j xs) qs h.2 h.3) (sym first) h.5) (omega arith) in
       omega (arith, g.6, h.6, first, rest)
 
-  parts_one : (same : P → P → Type 0) → ((xs : List ℕ) (p q : P) (n m c d : ℕ) → reads xs p n c → reads xs q m d → (n ≡ m) × (c ≡ d) × same p q)
-      → (xs : List ℕ) (ps qs : List P) (n m c d : ℕ) → ReadsParts reads xs ps n c → ReadsParts reads xs qs m d → length ps ≡ length qs → (n ≡ m) × (c ≡ d) × SameParts same ps qs
+  parts_one : (same : P → P → Type 0) → ((xs : List ℕ) (p q : P) (n m c d : ℕ) → reads xs p n c
+      → reads xs q m d → (n ≡ m) × (c ≡ d) × same p q)
+      → (xs : List ℕ) (ps qs : List P) (n m c d : ℕ) → ReadsParts reads xs ps n c
+      → ReadsParts reads xs qs m d → length ps ≡ length qs
+      → (n ≡ m) × (c ≡ d) × SameParts same ps qs
   parts_one same one xs [] [] n m c d g h e = (g.0 ∙ sym h.0, g.1 ∙ sym h.1, tt)
   parts_one same one xs [] (q ∷ qs) n m c d g h e = absurd (omega arith)
   parts_one same one xs (p ∷ ps) [] n m c d g h e = absurd (omega arith)
   parts_one same one xs (p ∷ ps) (q ∷ qs) n m c d g h e =
       let first = one xs p q g.0 h.0 g.1 h.1 g.4 h.4 in
-      let rest = parts_one same one (drop g.0 xs) ps qs g.2 h.2 g.3 h.3 g.5 (subst (λ j. ReadsParts reads (drop j xs) qs h.2 h.3) (sym first.0) h.5) (omega arith) in
-      (omega (arith, g.6, h.6, first.0, rest.0), same_max c d g.1 h.1 g.3 h.3 g.7 h.7 first.1 rest.1, (first.2, rest.2))
+      let rest = parts_one same one (drop g.0 xs) ps qs g.2 h.2 g.3 h.3 g.5
+      (subst (λ j. ReadsParts reads (drop j xs) qs h.2 h.3) (sym first.0) h.5) (omega arith) in (
+        omega (arith, g.6, h.6, first.0, rest.0),
+        same_max c d g.1 h.1 g.3 h.3 g.7 h.7 first.1 rest.1,
+        (first.2, rest.2),
+      )
 
-  parts_alone : ((xs : List ℕ) (p : P) (n c : ℕ) → reads xs p n c → n ≤ length xs) → ((xs ys : List ℕ) (p : P) (n c : ℕ) → reads xs p n c → reads (take n xs ++ ys) p n c)
-      → (xs ys : List ℕ) (ps : List P) (n c : ℕ) → ReadsParts reads xs ps n c → ReadsParts reads (take n xs ++ ys) ps n c
+  parts_alone : ((xs : List ℕ) (p : P) (n c : ℕ) → reads xs p n c → n ≤ length xs)
+      → ((xs ys : List ℕ) (p : P) (n c : ℕ) → reads xs p n c → reads (take n xs ++ ys) p n c)
+      → (xs ys : List ℕ) (ps : List P) (n c : ℕ) → ReadsParts reads xs ps n c
+      → ReadsParts reads (take n xs ++ ys) ps n c
   parts_alone within alone xs ys [] n c h = h
   parts_alone within alone xs ys (p ∷ ps) n c h =
       let behind = drop h.0 xs in
       let tail = take h.2 behind ++ ys in
       let whole : take n xs ++ ys ≡ take h.0 xs ++ tail = two_fronts h.0 h.2 n xs ys h.6 in
-      let left : drop h.0 (take n xs ++ ys) ≡ tail = ap (drop h.0) whole ∙ behind_front h.0 xs tail (within xs p h.0 h.1 h.4) in (
+      let left : drop h.0 (take n xs ++ ys) ≡ tail =
+      ap (drop h.0) whole ∙ behind_front h.0 xs tail (within xs p h.0 h.1 h.4) in (
         h.0,
         h.1,
         h.2,
         h.3,
         subst (λ zs. reads zs p h.0 h.1) (sym whole) (alone xs tail p h.0 h.1 h.4),
-        subst (λ zs. ReadsParts reads zs ps h.2 h.3) (sym left) (parts_alone within alone behind ys ps h.2 h.3 h.5),
+        subst (λ zs. ReadsParts reads zs ps h.2 h.3) (sym left)
+            (parts_alone within alone behind ys ps h.2 h.3 h.5),
         h.6,
         h.7,
       )
 
-  no_parts : (xs zs : List ℕ) (ps : List P) (n c : ℕ) → ps ≡ [] → ReadsParts reads xs ps n c → ReadsParts reads zs ps n c
+  no_parts : (xs zs : List ℕ) (ps : List P) (n c : ℕ) → ps ≡ [] → ReadsParts reads xs ps n c
+      → ReadsParts reads zs ps n c
   no_parts xs zs [] n c e h = h
   no_parts xs zs (p ∷ ps) n c e h = cc
 
 -- ---- parts up to a break
 
 module _ {P : Type 0} (reads : Reads P) where
-  pub unbroken_size : ((xs : List ℕ) (p q : P) (n m c d : ℕ) → reads xs p n c → reads xs q m d → n ≡ m) → (xs : List ℕ) (p q : P) (n m c d : ℕ) → Unbroken reads xs p n c → Unbroken reads xs q m d → n ≡ m
+  pub unbroken_size :
+      ((xs : List ℕ) (p q : P) (n m c d : ℕ) → reads xs p n c → reads xs q m d → n ≡ m)
+      → (xs : List ℕ) (p q : P) (n m c d : ℕ) → Unbroken reads xs p n c → Unbroken reads xs q m d
+      → n ≡ m
   unbroken_size one xs p q n m c d g h = one xs p q n m c d g.1 h.1
 
   -- at a break no more parts are read
-  pub ends_at_break : ((xs : List ℕ) (p q : P) (n m c d : ℕ) → reads xs p n c → reads xs q m d → n ≡ m) → (xs : List ℕ) (ps qs : List P) (n c m d : ℕ) → ReadsParts (Unbroken reads) xs ps n c → BeginsWith (drop n xs) break → ReadsParts (Unbroken reads) xs qs m d → length qs ≤ length ps
+  pub ends_at_break :
+      ((xs : List ℕ) (p q : P) (n m c d : ℕ) → reads xs p n c → reads xs q m d → n ≡ m)
+      → (xs : List ℕ) (ps qs : List P) (n c m d : ℕ) → ReadsParts (Unbroken reads) xs ps n c
+      → BeginsWith (drop n xs) break → ReadsParts (Unbroken reads) xs qs m d → length qs ≤ length ps
   ends_at_break one xs ps qs n c m d g ends h = not_less (length qs) (length ps) (λ less.
       let r = next_part (Unbroken reads) (unbroken_size one) xs ps qs n c m d g h less in
       r.3.0 ends)
 
-  whole_size : (same : P → P → Type 0) → ((xs : List ℕ) (p q : P) (n m c d : ℕ) → reads xs p n c → reads xs q m d → (n ≡ m) × (c ≡ d) × same p q) → (xs : List ℕ) (p q : P) (n m c d : ℕ) → reads xs p n c → reads xs q m d → n ≡ m
+  whole_size : (same : P → P → Type 0) → ((xs : List ℕ) (p q : P) (n m c d : ℕ) → reads xs p n c
+      → reads xs q m d → (n ≡ m) × (c ≡ d) × same p q) → (xs : List ℕ) (p q : P) (n m c d : ℕ)
+      → reads xs p n c → reads xs q m d → n ≡ m
   whole_size same one xs p q n m c d g h = (one xs p q n m c d g h).0
 
-  until_one : (same : P → P → Type 0) → ((xs : List ℕ) (p q : P) (n m c d : ℕ) → reads xs p n c → reads xs q m d → (n ≡ m) × (c ≡ d) × same p q)
-      → (never_empty : Bool) (xs : List ℕ) (ps qs : List P) (n m c d : ℕ) → ReadsUpToBreak reads never_empty xs ps n c → ReadsUpToBreak reads never_empty xs qs m d → (n ≡ m) × (c ≡ d) × SameParts same ps qs
+  until_one : (same : P → P → Type 0) → ((xs : List ℕ) (p q : P) (n m c d : ℕ) → reads xs p n c
+      → reads xs q m d → (n ≡ m) × (c ≡ d) × same p q)
+      → (never_empty : Bool) (xs : List ℕ) (ps qs : List P) (n m c d : ℕ)
+      → ReadsUpToBreak reads never_empty xs ps n c → ReadsUpToBreak reads never_empty xs qs m d
+      → (n ≡ m) × (c ≡ d) × SameParts same ps qs
   until_one same one never_empty xs ps qs n m c d g h =
       let size = whole_size same one in
       let more = ends_at_break size xs ps qs g.between c h.between d g.parts g.ends h.parts in
       let less = ends_at_break size xs qs ps h.between d g.between c h.parts h.ends g.parts in
-      let r = parts_one (Unbroken reads) same (λ xs p q n m c d u w. one xs p q n m c d u.1 w.1) xs ps qs g.between h.between c d g.parts h.parts (omega (arith, more, less)) in
+      let r = parts_one (Unbroken reads) same (λ xs p q n m c d u w. one xs p q n m c d u.1 w.1) xs
+      ps qs g.between h.between c d g.parts h.parts (omega (arith, more, less)) in
       (omega (arith, g.size, h.size, r.0), r.1, r.2)
 
-  unbroken_within : ((xs : List ℕ) (p : P) (n c : ℕ) → reads xs p n c → n ≤ length xs) → (xs : List ℕ) (p : P) (n c : ℕ) → Unbroken reads xs p n c → n ≤ length xs
+  unbroken_within : ((xs : List ℕ) (p : P) (n c : ℕ) → reads xs p n c → n ≤ length xs)
+      → (xs : List ℕ) (p : P) (n c : ℕ) → Unbroken reads xs p n c → n ≤ length xs
   unbroken_within within xs p n c h = within xs p n c h.1
 
-  until_within : ((xs : List ℕ) (p : P) (n c : ℕ) → reads xs p n c → n ≤ length xs) → (never_empty : Bool) (xs : List ℕ) (ps : List P) (n c : ℕ) → ReadsUpToBreak reads never_empty xs ps n c → n ≤ length xs
+  until_within : ((xs : List ℕ) (p : P) (n c : ℕ) → reads xs p n c → n ≤ length xs)
+      → (never_empty : Bool) (xs : List ℕ) (ps : List P) (n c : ℕ)
+      → ReadsUpToBreak reads never_empty xs ps n c → n ≤ length xs
   until_within within never_empty xs ps n c h =
-      omega (arith, h.size, parts_within (Unbroken reads) (unbroken_within within) xs ps h.between c h.parts, one_byte (drop h.between xs) break h.ends, length-drop h.between xs)
+      omega (
+        arith,
+        h.size,
+        parts_within (Unbroken reads) (unbroken_within within) xs ps h.between c
+            h.parts,
+        one_byte (drop h.between xs) break h.ends,
+        length-drop h.between xs,
+      )
 
-  module _ (within : (xs : List ℕ) (p : P) (n c : ℕ) → reads xs p n c → n ≤ length xs) (alone : (xs ys : List ℕ) (p : P) (n c : ℕ) → reads xs p n c → reads (take n xs ++ ys) p n c) (never_empty : Bool)
-      (positive : IsTrue never_empty → (xs : List ℕ) (p : P) (n c : ℕ) → reads xs p n c → 1 ≤ n) where
-    unbroken_alone : IsTrue never_empty → (xs ys : List ℕ) (p : P) (n c : ℕ) → Unbroken reads xs p n c → Unbroken reads (take n xs ++ ys) p n c
-    unbroken_alone some xs ys p n c h =
-        (λ ends. h.0 (sym (first_kept n xs ys (positive some xs p n c h.1) (within xs p n c h.1)) ∙ ends), alone xs ys p n c h.1)
+  module _ (within : (xs : List ℕ) (p : P) (n c : ℕ) → reads xs p n c → n ≤ length xs)
+      (alone : (xs ys : List ℕ) (p : P) (n c : ℕ) → reads xs p n c → reads (take n xs ++ ys) p n c)
+      (never_empty : Bool)
+      (positive : IsTrue never_empty → (xs : List ℕ) (p : P) (n c : ℕ) → reads xs p n c
+      → 1 ≤ n) where
+    unbroken_alone : IsTrue never_empty → (xs ys : List ℕ) (p : P) (n c : ℕ)
+        → Unbroken reads xs p n c → Unbroken reads (take n xs ++ ys) p n c
+    unbroken_alone some xs ys p n c h = (
+      λ ends. h.0 (sym (first_kept n xs ys (positive some xs p n c h.1) (within xs p n c h.1))
+          ∙ ends),
+      alone xs ys p n c h.1,
+    )
 
-    allowed_alone : (xs ys : List ℕ) (ps : List P) (n c : ℕ) → IsTrue never_empty ⊎ (ps ≡ []) → ReadsParts (Unbroken reads) xs ps n c → ReadsParts (Unbroken reads) (take n xs ++ ys) ps n c
-    allowed_alone xs ys ps n c (inl some) h = parts_alone (Unbroken reads) (unbroken_within within) (unbroken_alone some) xs ys ps n c h
-    allowed_alone xs ys ps n c (inr none) h = no_parts (Unbroken reads) xs (take n xs ++ ys) ps n c none h
+    allowed_alone : (xs ys : List ℕ) (ps : List P) (n c : ℕ) → IsTrue never_empty ⊎ (ps ≡ [])
+        → ReadsParts (Unbroken reads) xs ps n c
+        → ReadsParts (Unbroken reads) (take n xs ++ ys) ps n c
+    allowed_alone xs ys ps n c (inl some) h =
+        parts_alone (Unbroken reads) (unbroken_within within) (unbroken_alone some) xs ys ps n c h
+    allowed_alone xs ys ps n c (inr none) h =
+        no_parts (Unbroken reads) xs (take n xs ++ ys) ps n c none h
 
-    until_alone : (xs ys : List ℕ) (ps : List P) (n c : ℕ) → ReadsUpToBreak reads never_empty xs ps n c → ReadsUpToBreak reads never_empty (take n xs ++ ys) ps n c
+    until_alone : (xs ys : List ℕ) (ps : List P) (n c : ℕ)
+        → ReadsUpToBreak reads never_empty xs ps n c
+        → ReadsUpToBreak reads never_empty (take n xs ++ ys) ps n c
     until_alone xs ys ps n c h =
         let behind = drop h.between xs in
         let tail = take 1 behind ++ ys in
-        let whole : take n xs ++ ys ≡ take h.between xs ++ tail = two_fronts h.between 1 n xs ys h.size in
-        let room = parts_within (Unbroken reads) (unbroken_within within) xs ps h.between c h.parts in
-        let left : drop h.between (take n xs ++ ys) ≡ tail = ap (drop h.between) whole ∙ behind_front h.between xs tail room in
+        let whole : take n xs ++ ys ≡ take h.between xs ++ tail =
+        two_fronts h.between 1 n xs ys h.size in
+        let room =
+        parts_within (Unbroken reads) (unbroken_within within) xs ps h.between c h.parts in
+        let left : drop h.between (take n xs ++ ys) ≡ tail =
+        ap (drop h.between) whole ∙ behind_front h.between xs tail room in
         record {
           allowed = h.allowed;
           between = h.between;
-          parts = subst (λ zs. ReadsParts (Unbroken reads) zs ps h.between c) (sym whole) (allowed_alone xs tail ps h.between c h.allowed h.parts);
+          parts =
+              subst (λ zs. ReadsParts (Unbroken reads) zs ps h.between c) (sym whole)
+              (allowed_alone xs tail ps h.between c h.allowed h.parts);
           ends = ap (take 1) left ∙ ap (λ (zs : List ℕ). take 1 (zs ++ ys)) h.ends;
           size = h.size;
         }
@@ -144,77 +217,129 @@ module _ {P : Type 0} (reads : Reads P) where
 -- ---- sequences
 
 module _ {P : Type 0} (major : ℕ) (small : major < 8) (reads : Reads P) (never_empty : Bool) where
-  counted_one : (same : P → P → Type 0) → ((xs : List ℕ) (p q : P) (n m c d : ℕ) → reads xs p n c → reads xs q m d → (n ≡ m) × (c ≡ d) × same p q)
-      → (xs : List ℕ) (ps qs : List P) (n m c d : ℕ) → ReadsCountedParts major reads xs ps n c → ReadsCountedParts major reads xs qs m d → (n ≡ m) × (c ≡ d) × SameParts same ps qs
+  counted_one : (same : P → P → Type 0) → ((xs : List ℕ) (p q : P) (n m c d : ℕ) → reads xs p n c
+      → reads xs q m d → (n ≡ m) × (c ≡ d) × same p q)
+      → (xs : List ℕ) (ps qs : List P) (n m c d : ℕ) → ReadsCountedParts major reads xs ps n c
+      → ReadsCountedParts major reads xs qs m d → (n ≡ m) × (c ≡ d) × SameParts same ps qs
   counted_one same one xs ps qs n m c d g h =
       let e = head_one major 8 xs (length ps) (length qs) g.before h.before small g.head h.head in
-      let r = parts_one reads same one (drop g.before xs) ps qs g.between h.between c d g.parts (subst (λ j. ReadsParts reads (drop j xs) qs h.between d) (sym e.0) h.parts) e.1 in
+      let r = parts_one reads same one (drop g.before xs) ps qs g.between h.between c d g.parts
+      (subst (λ j. ReadsParts reads (drop j xs) qs h.between d) (sym e.0) h.parts) e.1 in
       (omega (arith, g.size, h.size, e.0, r.0), r.1, r.2)
 
-  inside_one : (same : P → P → Type 0) → ((xs : List ℕ) (p q : P) (n m c d : ℕ) → reads xs p n c → reads xs q m d → (n ≡ m) × (c ≡ d) × same p q)
-      → (xs : List ℕ) (ps qs : List P) (n m c d : ℕ) → ReadsInside major reads never_empty xs ps n c → ReadsInside major reads never_empty xs qs m d → (n ≡ m) × (c ≡ d) × SameParts same ps qs
+  inside_one : (same : P → P → Type 0) → ((xs : List ℕ) (p q : P) (n m c d : ℕ) → reads xs p n c
+      → reads xs q m d → (n ≡ m) × (c ≡ d) × same p q)
+      → (xs : List ℕ) (ps qs : List P) (n m c d : ℕ) → ReadsInside major reads never_empty xs ps n c
+      → ReadsInside major reads never_empty xs qs m d → (n ≡ m) × (c ≡ d) × SameParts same ps qs
   inside_one same one xs ps qs n m c d (inl g) (inl h) = counted_one same one xs ps qs n m c d g h
-  inside_one same one xs ps qs n m c d (inl g) (inr h) = absurd (head_not_open major xs (length ps) g.before small g.head h.begins)
-  inside_one same one xs ps qs n m c d (inr g) (inl h) = absurd (head_not_open major xs (length qs) h.before small h.head g.begins)
+  inside_one same one xs ps qs n m c d (inl g) (inr h) =
+      absurd (head_not_open major xs (length ps) g.before small g.head h.begins)
+  inside_one same one xs ps qs n m c d (inr g) (inl h) =
+      absurd (head_not_open major xs (length qs) h.before small h.head g.begins)
   inside_one same one xs ps qs n m c d (inr g) (inr h) =
-      let r = until_one reads same one never_empty (drop 1 xs) ps qs g.between h.between c d g.parts h.parts in
+      let r = until_one reads same one never_empty (drop 1 xs) ps qs g.between h.between c d g.parts
+      h.parts in
       (omega (arith, g.size, h.size, r.0), r.1, r.2)
 
-  pub sequence_one : (same : P → P → Type 0) → ((xs : List ℕ) (p q : P) (n m c d : ℕ) → reads xs p n c → reads xs q m d → (n ≡ m) × (c ≡ d) × same p q)
-      → (xs : List ℕ) (ps qs : List P) (n m c d : ℕ) → ReadsSequence major reads never_empty xs ps n c → ReadsSequence major reads never_empty xs qs m d → (n ≡ m) × (c ≡ d) × SameParts same ps qs
+  pub sequence_one : (same : P → P → Type 0) → ((xs : List ℕ) (p q : P) (n m c d : ℕ)
+      → reads xs p n c → reads xs q m d → (n ≡ m) × (c ≡ d) × same p q)
+      → (xs : List ℕ) (ps qs : List P) (n m c d : ℕ)
+      → ReadsSequence major reads never_empty xs ps n c
+      → ReadsSequence major reads never_empty xs qs m d → (n ≡ m) × (c ≡ d) × SameParts same ps qs
   sequence_one same one xs ps qs n m c d g h =
       let r = inside_one same one xs ps qs n m g.0 h.0 g.1 h.1 in
       (r.0, omega (arith, g.2, h.2, r.1), r.2)
 
-  inside_within : ((xs : List ℕ) (p : P) (n c : ℕ) → reads xs p n c → n ≤ length xs) → (xs : List ℕ) (ps : List P) (n c : ℕ) → ReadsInside major reads never_empty xs ps n c → n ≤ length xs
+  inside_within : ((xs : List ℕ) (p : P) (n c : ℕ) → reads xs p n c → n ≤ length xs) → (xs : List ℕ)
+      (ps : List P) (n c : ℕ) → ReadsInside major reads never_empty xs ps n c → n ≤ length xs
   inside_within within xs ps n c (inl h) =
-      omega (arith, h.size, (head_read [] major 8 xs (length ps) h.before small h.head).1, parts_within reads within (drop h.before xs) ps h.between c h.parts, length-drop h.before xs)
-  inside_within within xs ps n c (inr h) = omega (arith, h.size, one_byte xs _ h.begins, until_within reads within never_empty (drop 1 xs) ps h.between c h.parts, length-drop 1 xs)
+      omega (
+        arith,
+        h.size,
+        (head_read [] major 8 xs (length ps) h.before small h.head).1,
+        parts_within reads within (drop h.before xs) ps h.between c h.parts,
+        length-drop h.before xs,
+      )
+  inside_within within xs ps n c (inr h) =
+      omega (
+        arith,
+        h.size,
+        one_byte xs _ h.begins,
+        until_within reads within never_empty
+            (drop 1 xs) ps h.between c h.parts,
+        length-drop 1 xs,
+      )
 
-  pub sequence_within : ((xs : List ℕ) (p : P) (n c : ℕ) → reads xs p n c → n ≤ length xs) → (xs : List ℕ) (ps : List P) (n c : ℕ) → ReadsSequence major reads never_empty xs ps n c → n ≤ length xs
+  pub sequence_within : ((xs : List ℕ) (p : P) (n c : ℕ) → reads xs p n c → n ≤ length xs)
+      → (xs : List ℕ) (ps : List P) (n c : ℕ) → ReadsSequence major reads never_empty xs ps n c
+      → n ≤ length xs
   sequence_within within xs ps n c h = inside_within within xs ps n h.0 h.1
 
-  inside_positive : (xs : List ℕ) (ps : List P) (n c : ℕ) → ReadsInside major reads never_empty xs ps n c → 1 ≤ n
-  inside_positive xs ps n c (inl h) = omega (arith, h.size, (head_read [] major 8 xs (length ps) h.before small h.head).2)
+  inside_positive : (xs : List ℕ) (ps : List P) (n c : ℕ)
+      → ReadsInside major reads never_empty xs ps n c → 1 ≤ n
+  inside_positive xs ps n c (inl h) =
+      omega (arith, h.size, (head_read [] major 8 xs (length ps) h.before small h.head).2)
   inside_positive xs ps n c (inr h) = omega (arith, h.size)
 
-  pub sequence_positive : (xs : List ℕ) (ps : List P) (n c : ℕ) → ReadsSequence major reads never_empty xs ps n c → 1 ≤ n
+  pub sequence_positive : (xs : List ℕ) (ps : List P) (n c : ℕ)
+      → ReadsSequence major reads never_empty xs ps n c → 1 ≤ n
   sequence_positive xs ps n c h = inside_positive xs ps n h.0 h.1
 
-  module _ (within : (xs : List ℕ) (p : P) (n c : ℕ) → reads xs p n c → n ≤ length xs) (alone : (xs ys : List ℕ) (p : P) (n c : ℕ) → reads xs p n c → reads (take n xs ++ ys) p n c)
-      (positive : IsTrue never_empty → (xs : List ℕ) (p : P) (n c : ℕ) → reads xs p n c → 1 ≤ n) where
-    counted_alone : (xs ys : List ℕ) (ps : List P) (n c : ℕ) → ReadsCountedParts major reads xs ps n c → ReadsCountedParts major reads (take n xs ++ ys) ps n c
+  module _ (within : (xs : List ℕ) (p : P) (n c : ℕ) → reads xs p n c → n ≤ length xs)
+      (alone : (xs ys : List ℕ) (p : P) (n c : ℕ) → reads xs p n c → reads (take n xs ++ ys) p n c)
+      (positive : IsTrue never_empty → (xs : List ℕ) (p : P) (n c : ℕ) → reads xs p n c
+      → 1 ≤ n) where
+    counted_alone : (xs ys : List ℕ) (ps : List P) (n c : ℕ)
+        → ReadsCountedParts major reads xs ps n c
+        → ReadsCountedParts major reads (take n xs ++ ys) ps n c
     counted_alone xs ys ps n c h =
         let room = (head_read [] major 8 xs (length ps) h.before small h.head).1 in
         let behind = drop h.before xs in
         let tail = take h.between behind ++ ys in
-        let whole : take n xs ++ ys ≡ take h.before xs ++ tail = two_fronts h.before h.between n xs ys h.size in
-        let left : drop h.before (take n xs ++ ys) ≡ tail = ap (drop h.before) whole ∙ behind_front h.before xs tail room in
+        let whole : take n xs ++ ys ≡ take h.before xs ++ tail =
+        two_fronts h.before h.between n xs ys h.size in
+        let left : drop h.before (take n xs ++ ys) ≡ tail =
+        ap (drop h.before) whole ∙ behind_front h.before xs tail room in
         record {
           before = h.before;
-          head = subst (λ zs. ReadsHead major 8 zs (length ps) h.before) (sym whole) (head_alone major 8 xs tail (length ps) h.before h.head);
+          head =
+              subst (λ zs. ReadsHead major 8 zs (length ps) h.before) (sym whole)
+              (head_alone major 8 xs tail (length ps) h.before h.head);
           between = h.between;
-          parts = subst (λ zs. ReadsParts reads zs ps h.between c) (sym left) (parts_alone reads within alone behind ys ps h.between c h.parts);
+          parts =
+              subst (λ zs. ReadsParts reads zs ps h.between c) (sym left)
+              (parts_alone reads within alone behind ys ps h.between c h.parts);
           size = h.size;
         }
 
-    open_alone : (xs ys : List ℕ) (ps : List P) (n c : ℕ) → ReadsOpenParts major reads never_empty xs ps n c → ReadsOpenParts major reads never_empty (take n xs ++ ys) ps n c
+    open_alone : (xs ys : List ℕ) (ps : List P) (n c : ℕ)
+        → ReadsOpenParts major reads never_empty xs ps n c
+        → ReadsOpenParts major reads never_empty (take n xs ++ ys) ps n c
     open_alone xs ys ps n c h =
         let room = inside_within within xs ps n c (inr h) in
         let tail = take h.between (drop 1 xs) ++ ys in
-        let left : drop 1 (take n xs ++ ys) ≡ tail = ap (drop 1) (two_fronts 1 h.between n xs ys h.size) ∙ behind_front 1 xs tail (one_byte xs _ h.begins) in
+        let left : drop 1 (take n xs ++ ys) ≡ tail =
+        ap (drop 1) (two_fronts 1 h.between n xs ys h.size)
+        ∙ behind_front 1 xs tail (one_byte xs _ h.begins) in
         record {
           begins = first_kept n xs ys (omega (arith, h.size)) room ∙ h.begins;
           between = h.between;
-          parts = subst (λ zs. ReadsUpToBreak reads never_empty zs ps h.between c) (sym left) (until_alone reads within alone never_empty positive (drop 1 xs) ys ps h.between c h.parts);
+          parts =
+              subst (λ zs. ReadsUpToBreak reads never_empty zs ps h.between c) (sym left)
+              (until_alone reads within alone never_empty positive (drop 1 xs) ys ps h.between c
+              h.parts);
           size = h.size;
         }
 
-    inside_alone : (xs ys : List ℕ) (ps : List P) (n c : ℕ) → ReadsInside major reads never_empty xs ps n c → ReadsInside major reads never_empty (take n xs ++ ys) ps n c
+    inside_alone : (xs ys : List ℕ) (ps : List P) (n c : ℕ)
+        → ReadsInside major reads never_empty xs ps n c
+        → ReadsInside major reads never_empty (take n xs ++ ys) ps n c
     inside_alone xs ys ps n c (inl h) = inl (counted_alone xs ys ps n c h)
     inside_alone xs ys ps n c (inr h) = inr (open_alone xs ys ps n c h)
 
-    pub sequence_alone : (xs ys : List ℕ) (ps : List P) (n c : ℕ) → ReadsSequence major reads never_empty xs ps n c → ReadsSequence major reads never_empty (take n xs ++ ys) ps n c
+    pub sequence_alone : (xs ys : List ℕ) (ps : List P) (n c : ℕ)
+        → ReadsSequence major reads never_empty xs ps n c
+        → ReadsSequence major reads never_empty (take n xs ++ ys) ps n c
     sequence_alone xs ys ps n c h = (h.0, inside_alone xs ys ps n h.0 h.1, h.2)
 
 -- ---- arrays
@@ -223,19 +348,33 @@ four_small : 4 < 8
 four_small = omega arith
 
 module _ {V : Type 0} (reads : Reads V) where
-  pub array_one : (same : V → V → Type 0) (never_empty : Bool) → ((xs : List ℕ) (v w : V) (n m c d : ℕ) → reads xs v n c → reads xs w m d → (n ≡ m) × (c ≡ d) × same v w)
-      → (xs : List ℕ) (v w : Vec V Global) (n m c d : ℕ) → ReadsArray reads never_empty xs v n c → ReadsArray reads never_empty xs w m d → (n ≡ m) × (c ≡ d) × SameArray same v w
-  array_one same never_empty one xs v w n m c d g h = sequence_one 4 four_small reads never_empty same one xs v.items w.items n m c d g h
+  pub array_one : (same : V → V → Type 0) (never_empty : Bool) → ((xs : List ℕ) (v w : V)
+      (n m c d : ℕ) → reads xs v n c → reads xs w m d → (n ≡ m) × (c ≡ d) × same v w)
+      → (xs : List ℕ) (v w : Vec V Global) (n m c d : ℕ) → ReadsArray reads never_empty xs v n c
+      → ReadsArray reads never_empty xs w m d → (n ≡ m) × (c ≡ d) × SameArray same v w
+  array_one same never_empty one xs v w n m c d g h =
+      sequence_one 4 four_small reads never_empty same one xs v.items w.items n m c d g h
 
-  pub array_within : (never_empty : Bool) → ((xs : List ℕ) (v : V) (n c : ℕ) → reads xs v n c → n ≤ length xs) → (xs : List ℕ) (v : Vec V Global) (n c : ℕ) → ReadsArray reads never_empty xs v n c → n ≤ length xs
-  array_within never_empty within xs v n c h = sequence_within 4 four_small reads never_empty within xs v.items n c h
+  pub array_within : (never_empty : Bool)
+      → ((xs : List ℕ) (v : V) (n c : ℕ) → reads xs v n c → n ≤ length xs) → (xs : List ℕ)
+      (v : Vec V Global) (n c : ℕ) → ReadsArray reads never_empty xs v n c → n ≤ length xs
+  array_within never_empty within xs v n c h =
+      sequence_within 4 four_small reads never_empty within xs v.items n c h
 
-  pub array_positive : (never_empty : Bool) (xs : List ℕ) (v : Vec V Global) (n c : ℕ) → ReadsArray reads never_empty xs v n c → 1 ≤ n
-  array_positive never_empty xs v n c h = sequence_positive 4 four_small reads never_empty xs v.items n c h
+  pub array_positive : (never_empty : Bool) (xs : List ℕ) (v : Vec V Global) (n c : ℕ)
+      → ReadsArray reads never_empty xs v n c → 1 ≤ n
+  array_positive never_empty xs v n c h =
+      sequence_positive 4 four_small reads never_empty xs v.items n c h
 
-  pub array_alone : (never_empty closed : Bool) → ((xs : List ℕ) (v : V) (n c : ℕ) → reads xs v n c → n ≤ length xs) → (IsTrue never_empty → (xs : List ℕ) (v : V) (n c : ℕ) → reads xs v n c → 1 ≤ n)
-      → (IsTrue closed → (xs ys : List ℕ) (v : V) (n c : ℕ) → reads xs v n c → reads (take n xs ++ ys) v n c) → IsTrue closed → (xs ys : List ℕ) (v : Vec V Global) (n c : ℕ) → ReadsArray reads never_empty xs v n c → ReadsArray reads never_empty (take n xs ++ ys) v n c
-  array_alone never_empty closed within positive alone e xs ys v n c h = sequence_alone 4 four_small reads never_empty within (alone e) positive xs ys v.items n c h
+  pub array_alone : (never_empty closed : Bool)
+      → ((xs : List ℕ) (v : V) (n c : ℕ) → reads xs v n c → n ≤ length xs)
+      → (IsTrue never_empty → (xs : List ℕ) (v : V) (n c : ℕ) → reads xs v n c → 1 ≤ n)
+      → (IsTrue closed → (xs ys : List ℕ) (v : V) (n c : ℕ) → reads xs v n c
+      → reads (take n xs ++ ys) v n c) → IsTrue closed
+      → (xs ys : List ℕ) (v : Vec V Global) (n c : ℕ) → ReadsArray reads never_empty xs v n c
+      → ReadsArray reads never_empty (take n xs ++ ys) v n c
+  array_alone never_empty closed within positive alone e xs ys v n c h =
+      sequence_alone 4 four_small reads never_empty within (alone e) positive xs ys v.items n c h
 
 -- ---- maps
 
@@ -247,68 +386,137 @@ either true b e = inl refl
 either false b e = inr e
 
 module _ {K V : Type 0} (key_reads : Reads K) (value_reads : Reads V) where
-  pair_one : (same_key : K → K → Type 0) (same_value : V → V → Type 0) → ((xs : List ℕ) (v w : K) (n m c d : ℕ) → key_reads xs v n c → key_reads xs w m d → (n ≡ m) × (c ≡ d) × same_key v w)
-      → ((xs : List ℕ) (v w : V) (n m c d : ℕ) → value_reads xs v n c → value_reads xs w m d → (n ≡ m) × (c ≡ d) × same_value v w)
-      → (xs : List ℕ) (p q : K × V) (n m c d : ℕ) → ReadsPair key_reads value_reads xs p n c → ReadsPair key_reads value_reads xs q m d → (n ≡ m) × (c ≡ d) × SamePair same_key same_value p q
+  pair_one : (same_key : K → K → Type 0) (same_value : V → V → Type 0)
+      → ((xs : List ℕ) (v w : K) (n m c d : ℕ) → key_reads xs v n c → key_reads xs w m d
+      → (n ≡ m) × (c ≡ d) × same_key v w)
+      → ((xs : List ℕ) (v w : V) (n m c d : ℕ) → value_reads xs v n c → value_reads xs w m d
+      → (n ≡ m) × (c ≡ d) × same_value v w)
+      → (xs : List ℕ) (p q : K × V) (n m c d : ℕ) → ReadsPair key_reads value_reads xs p n c
+      → ReadsPair key_reads value_reads xs q m d
+      → (n ≡ m) × (c ≡ d) × SamePair same_key same_value p q
   pair_one same_key same_value one_key one_value xs p q n m c d g h =
       let k = one_key xs p.0 q.0 g.key_size h.key_size g.key_cost h.key_cost g.key h.key in
-      let v = one_value (drop g.key_size xs) p.1 q.1 g.value_size h.value_size g.value_cost h.value_cost g.value (subst (λ j. value_reads (drop j xs) q.1 h.value_size h.value_cost) (sym k.0) h.value) in
-      (omega (arith, g.size, h.size, k.0, v.0), same_max c d g.key_cost h.key_cost g.value_cost h.value_cost g.cost h.cost k.1 v.1, (k.2, v.2))
+      let v = one_value (drop g.key_size xs) p.1 q.1 g.value_size h.value_size g.value_cost
+      h.value_cost g.value
+      (subst (λ j. value_reads (drop j xs) q.1 h.value_size h.value_cost) (sym k.0) h.value) in (
+        omega (arith, g.size, h.size, k.0, v.0),
+        same_max c d g.key_cost h.key_cost g.value_cost
+            h.value_cost g.cost h.cost k.1 v.1,
+        (k.2, v.2),
+      )
 
-  pub pair_size : (same_key : K → K → Type 0) (same_value : V → V → Type 0) → ((xs : List ℕ) (v w : K) (n m c d : ℕ) → key_reads xs v n c → key_reads xs w m d → (n ≡ m) × (c ≡ d) × same_key v w)
-      → ((xs : List ℕ) (v w : V) (n m c d : ℕ) → value_reads xs v n c → value_reads xs w m d → (n ≡ m) × (c ≡ d) × same_value v w)
-      → (xs : List ℕ) (p q : K × V) (n m c d : ℕ) → ReadsPair key_reads value_reads xs p n c → ReadsPair key_reads value_reads xs q m d → n ≡ m
-  pair_size same_key same_value one_key one_value xs p q n m c d g h = (pair_one same_key same_value one_key one_value xs p q n m c d g h).0
+  pub pair_size : (same_key : K → K → Type 0) (same_value : V → V → Type 0)
+      → ((xs : List ℕ) (v w : K) (n m c d : ℕ) → key_reads xs v n c → key_reads xs w m d
+      → (n ≡ m) × (c ≡ d) × same_key v w)
+      → ((xs : List ℕ) (v w : V) (n m c d : ℕ) → value_reads xs v n c → value_reads xs w m d
+      → (n ≡ m) × (c ≡ d) × same_value v w)
+      → (xs : List ℕ) (p q : K × V) (n m c d : ℕ) → ReadsPair key_reads value_reads xs p n c
+      → ReadsPair key_reads value_reads xs q m d → n ≡ m
+  pair_size same_key same_value one_key one_value xs p q n m c d g h =
+      (pair_one same_key same_value one_key one_value xs p q n m c d g h).0
 
-  pub pair_within : ((xs : List ℕ) (v : K) (n c : ℕ) → key_reads xs v n c → n ≤ length xs) → ((xs : List ℕ) (v : V) (n c : ℕ) → value_reads xs v n c → n ≤ length xs)
-      → (xs : List ℕ) (p : K × V) (n c : ℕ) → ReadsPair key_reads value_reads xs p n c → n ≤ length xs
+  pub pair_within : ((xs : List ℕ) (v : K) (n c : ℕ) → key_reads xs v n c → n ≤ length xs)
+      → ((xs : List ℕ) (v : V) (n c : ℕ) → value_reads xs v n c → n ≤ length xs)
+      → (xs : List ℕ) (p : K × V) (n c : ℕ) → ReadsPair key_reads value_reads xs p n c
+      → n ≤ length xs
   pair_within key_within value_within xs p n c h =
-      omega (arith, h.size, key_within xs p.0 h.key_size h.key_cost h.key, value_within (drop h.key_size xs) p.1 h.value_size h.value_cost h.value, length-drop h.key_size xs)
+      omega (
+        arith,
+        h.size,
+        key_within xs p.0 h.key_size h.key_cost h.key,
+        value_within
+            (drop h.key_size xs) p.1 h.value_size h.value_cost h.value,
+        length-drop h.key_size xs,
+      )
 
-  pub pair_positive : (key_some value_some : Bool) → (IsTrue key_some → (xs : List ℕ) (v : K) (n c : ℕ) → key_reads xs v n c → 1 ≤ n) → (IsTrue value_some → (xs : List ℕ) (v : V) (n c : ℕ) → value_reads xs v n c → 1 ≤ n)
-      → IsTrue (key_some || value_some) → (xs : List ℕ) (p : K × V) (n c : ℕ) → ReadsPair key_reads value_reads xs p n c → 1 ≤ n
-  pair_positive key_some value_some key_positive value_positive e xs p n c h = elim (either key_some value_some e) [
-    | inl t ↦ omega (arith, h.size, key_positive t xs p.0 h.key_size h.key_cost h.key)
-    | inr t ↦ omega (arith, h.size, value_positive t (drop h.key_size xs) p.1 h.value_size h.value_cost h.value)
-  ]
+  pub pair_positive : (key_some value_some : Bool)
+      → (IsTrue key_some → (xs : List ℕ) (v : K) (n c : ℕ) → key_reads xs v n c → 1 ≤ n)
+      → (IsTrue value_some → (xs : List ℕ) (v : V) (n c : ℕ) → value_reads xs v n c → 1 ≤ n)
+      → IsTrue (key_some || value_some) → (xs : List ℕ) (p : K × V) (n c : ℕ)
+      → ReadsPair key_reads value_reads xs p n c → 1 ≤ n
+  pair_positive key_some value_some key_positive value_positive e xs p n c h =
+      elim (either key_some value_some e) [
+        | inl t ↦ omega (arith, h.size, key_positive t xs p.0 h.key_size h.key_cost h.key)
+        | inr t ↦ omega (
+          arith,
+          h.size,
+          value_positive t (drop h.key_size xs) p.1 h.value_size h.value_cost h.value,
+        )
+      ]
 
-  pair_alone : ((xs : List ℕ) (v : K) (n c : ℕ) → key_reads xs v n c → n ≤ length xs) → ((xs ys : List ℕ) (v : K) (n c : ℕ) → key_reads xs v n c → key_reads (take n xs ++ ys) v n c)
-      → ((xs ys : List ℕ) (v : V) (n c : ℕ) → value_reads xs v n c → value_reads (take n xs ++ ys) v n c)
-      → (xs ys : List ℕ) (p : K × V) (n c : ℕ) → ReadsPair key_reads value_reads xs p n c → ReadsPair key_reads value_reads (take n xs ++ ys) p n c
+  pair_alone : ((xs : List ℕ) (v : K) (n c : ℕ) → key_reads xs v n c → n ≤ length xs)
+      → ((xs ys : List ℕ) (v : K) (n c : ℕ) → key_reads xs v n c
+      → key_reads (take n xs ++ ys) v n c)
+      → ((xs ys : List ℕ) (v : V) (n c : ℕ) → value_reads xs v n c
+      → value_reads (take n xs ++ ys) v n c)
+      → (xs ys : List ℕ) (p : K × V) (n c : ℕ) → ReadsPair key_reads value_reads xs p n c
+      → ReadsPair key_reads value_reads (take n xs ++ ys) p n c
   pair_alone key_within key_alone value_alone xs ys p n c h =
       let behind = drop h.key_size xs in
       let tail = take h.value_size behind ++ ys in
-      let whole : take n xs ++ ys ≡ take h.key_size xs ++ tail = two_fronts h.key_size h.value_size n xs ys h.size in
-      let left : drop h.key_size (take n xs ++ ys) ≡ tail = ap (drop h.key_size) whole ∙ behind_front h.key_size xs tail (key_within xs p.0 h.key_size h.key_cost h.key) in
+      let whole : take n xs ++ ys ≡ take h.key_size xs ++ tail =
+      two_fronts h.key_size h.value_size n xs ys h.size in
+      let left : drop h.key_size (take n xs ++ ys) ≡ tail = ap (drop h.key_size) whole
+      ∙ behind_front h.key_size xs tail (key_within xs p.0 h.key_size h.key_cost h.key) in
       record {
         key_size = h.key_size;
         key_cost = h.key_cost;
-        key = subst (λ zs. key_reads zs p.0 h.key_size h.key_cost) (sym whole) (key_alone xs tail p.0 h.key_size h.key_cost h.key);
+        key =
+            subst (λ zs. key_reads zs p.0 h.key_size h.key_cost) (sym whole)
+            (key_alone xs tail p.0 h.key_size h.key_cost h.key);
         value_size = h.value_size;
         value_cost = h.value_cost;
-        value = subst (λ zs. value_reads zs p.1 h.value_size h.value_cost) (sym left) (value_alone behind ys p.1 h.value_size h.value_cost h.value);
+        value =
+            subst (λ zs. value_reads zs p.1 h.value_size h.value_cost) (sym left)
+            (value_alone behind ys p.1 h.value_size h.value_cost h.value);
         size = h.size;
         cost = h.cost;
       }
 
-  pub map_one : (same_key : K → K → Type 0) (same_value : V → V → Type 0) (never_empty : Bool) → ((xs : List ℕ) (v w : K) (n m c d : ℕ) → key_reads xs v n c → key_reads xs w m d → (n ≡ m) × (c ≡ d) × same_key v w)
-      → ((xs : List ℕ) (v w : V) (n m c d : ℕ) → value_reads xs v n c → value_reads xs w m d → (n ≡ m) × (c ≡ d) × same_value v w)
-      → (xs : List ℕ) (v w : Map (Vec (K × V) Global)) (n m c d : ℕ) → ReadsMap key_reads value_reads never_empty xs v n c → ReadsMap key_reads value_reads never_empty xs w m d → (n ≡ m) × (c ≡ d) × SameMap same_key same_value v w
+  pub map_one : (same_key : K → K → Type 0) (same_value : V → V → Type 0) (never_empty : Bool)
+      → ((xs : List ℕ) (v w : K) (n m c d : ℕ) → key_reads xs v n c → key_reads xs w m d
+      → (n ≡ m) × (c ≡ d) × same_key v w)
+      → ((xs : List ℕ) (v w : V) (n m c d : ℕ) → value_reads xs v n c → value_reads xs w m d
+      → (n ≡ m) × (c ≡ d) × same_value v w)
+      → (xs : List ℕ) (v w : Map (Vec (K × V) Global)) (n m c d : ℕ)
+      → ReadsMap key_reads value_reads never_empty xs v n c
+      → ReadsMap key_reads value_reads never_empty xs w m d
+      → (n ≡ m) × (c ≡ d) × SameMap same_key same_value v w
   map_one same_key same_value never_empty one_key one_value xs v w n m c d g h =
-      sequence_one 5 five_small (ReadsPair key_reads value_reads) never_empty (SamePair same_key same_value) (pair_one same_key same_value one_key one_value) xs v.0.items w.0.items n m c d g h
+      sequence_one 5 five_small (ReadsPair key_reads value_reads) never_empty
+      (SamePair same_key same_value)
+      (pair_one same_key same_value one_key one_value) xs v.0.items w.0.items n m c d g h
 
-  pub map_within : (never_empty : Bool) → ((xs : List ℕ) (v : K) (n c : ℕ) → key_reads xs v n c → n ≤ length xs) → ((xs : List ℕ) (v : V) (n c : ℕ) → value_reads xs v n c → n ≤ length xs)
-      → (xs : List ℕ) (v : Map (Vec (K × V) Global)) (n c : ℕ) → ReadsMap key_reads value_reads never_empty xs v n c → n ≤ length xs
-  map_within never_empty key_within value_within xs v n c h = sequence_within 5 five_small (ReadsPair key_reads value_reads) never_empty (pair_within key_within value_within) xs v.0.items n c h
+  pub map_within : (never_empty : Bool)
+      → ((xs : List ℕ) (v : K) (n c : ℕ) → key_reads xs v n c → n ≤ length xs)
+      → ((xs : List ℕ) (v : V) (n c : ℕ) → value_reads xs v n c → n ≤ length xs)
+      → (xs : List ℕ) (v : Map (Vec (K × V) Global)) (n c : ℕ)
+      → ReadsMap key_reads value_reads never_empty xs v n c → n ≤ length xs
+  map_within never_empty key_within value_within xs v n c h =
+      sequence_within 5 five_small (ReadsPair key_reads value_reads) never_empty
+      (pair_within key_within value_within) xs v.0.items n c h
 
-  pub map_positive : (never_empty : Bool) (xs : List ℕ) (v : Map (Vec (K × V) Global)) (n c : ℕ) → ReadsMap key_reads value_reads never_empty xs v n c → 1 ≤ n
-  map_positive never_empty xs v n c h = sequence_positive 5 five_small (ReadsPair key_reads value_reads) never_empty xs v.0.items n c h
+  pub map_positive : (never_empty : Bool) (xs : List ℕ) (v : Map (Vec (K × V) Global)) (n c : ℕ)
+      → ReadsMap key_reads value_reads never_empty xs v n c → 1 ≤ n
+  map_positive never_empty xs v n c h =
+      sequence_positive 5 five_small (ReadsPair key_reads value_reads) never_empty xs v.0.items n c
+      h
 
-  pub map_alone : (key_some value_some key_closed value_closed : Bool) → ((xs : List ℕ) (v : K) (n c : ℕ) → key_reads xs v n c → n ≤ length xs) → ((xs : List ℕ) (v : V) (n c : ℕ) → value_reads xs v n c → n ≤ length xs)
-      → (IsTrue key_some → (xs : List ℕ) (v : K) (n c : ℕ) → key_reads xs v n c → 1 ≤ n) → (IsTrue value_some → (xs : List ℕ) (v : V) (n c : ℕ) → value_reads xs v n c → 1 ≤ n)
-      → (IsTrue key_closed → (xs ys : List ℕ) (v : K) (n c : ℕ) → key_reads xs v n c → key_reads (take n xs ++ ys) v n c) → (IsTrue value_closed → (xs ys : List ℕ) (v : V) (n c : ℕ) → value_reads xs v n c → value_reads (take n xs ++ ys) v n c)
-      → IsTrue (key_closed && value_closed) → (xs ys : List ℕ) (v : Map (Vec (K × V) Global)) (n c : ℕ) → ReadsMap key_reads value_reads (key_some || value_some) xs v n c → ReadsMap key_reads value_reads (key_some || value_some) (take n xs ++ ys) v n c
-  map_alone key_some value_some key_closed value_closed key_within value_within key_positive value_positive key_alone value_alone e xs ys v n c h =
+  pub map_alone : (key_some value_some key_closed value_closed : Bool)
+      → ((xs : List ℕ) (v : K) (n c : ℕ) → key_reads xs v n c → n ≤ length xs)
+      → ((xs : List ℕ) (v : V) (n c : ℕ) → value_reads xs v n c → n ≤ length xs)
+      → (IsTrue key_some → (xs : List ℕ) (v : K) (n c : ℕ) → key_reads xs v n c → 1 ≤ n)
+      → (IsTrue value_some → (xs : List ℕ) (v : V) (n c : ℕ) → value_reads xs v n c → 1 ≤ n)
+      → (IsTrue key_closed → (xs ys : List ℕ) (v : K) (n c : ℕ) → key_reads xs v n c
+      → key_reads (take n xs ++ ys) v n c) → (IsTrue value_closed → (xs ys : List ℕ) (v : V)
+      (n c : ℕ) → value_reads xs v n c → value_reads (take n xs ++ ys) v n c)
+      → IsTrue (key_closed && value_closed) → (xs ys : List ℕ) (v : Map (Vec (K × V) Global))
+      (n c : ℕ) → ReadsMap key_reads value_reads (key_some || value_some) xs v n c
+      → ReadsMap key_reads value_reads (key_some || value_some) (take n xs ++ ys) v n c
+  map_alone key_some value_some key_closed value_closed key_within value_within key_positive
+      value_positive key_alone value_alone e xs ys v n c h =
       let closed = both key_closed value_closed e in
-      sequence_alone 5 five_small (ReadsPair key_reads value_reads) (key_some || value_some) (pair_within key_within value_within) (pair_alone key_within (key_alone closed.0) (value_alone closed.1))
+      sequence_alone 5 five_small (ReadsPair key_reads value_reads) (key_some || value_some)
+      (pair_within key_within value_within)
+      (pair_alone key_within (key_alone closed.0) (value_alone closed.1))
       (pair_positive key_some value_some key_positive value_positive) xs ys v.0.items n c h

@@ -1,11 +1,13 @@
 -- Signed integers are read exactly as they are spelled.
-use Rattle.std.proofs.Common.{◌≡◌, ℕ, ◌+◌, ◌*◌, ◌/◌, ◌<◌, ◌≤◌, List, [], ◌∷◌, ◌++◌, length, drop, take, Ok, true, refl, sym, ap, ◌∙◌, arith, eqb, eq-eqb, ltb, lt-ltb}
+use Rattle.std.proofs.Common.{◌≡◌, ℕ, ◌+◌, ◌*◌, ◌/◌, ◌<◌, ◌≤◌, List, [], ◌∷◌, ◌++◌, length, drop}
+use Rattle.std.proofs.Common.{take, Ok, true, refl, sym, ap, ◌∙◌, arith, eqb, eq-eqb, ltb, lt-ltb}
 use Rattle.std.specs.Prelude.{ℤ, pos, negsuc}
 use Rattle.std.specs.Int.{bytes_high_first}
 use Rattle.cbor4ii_items.specs.Head.{byte_count, additional}
 use Rattle.cbor4ii_items.specs.Reading.{peek_at, go_on, ◌>=>◌}
 use Rattle.cbor4ii_items.specs.Heads.{ReadsHead}
-use Rattle.cbor4ii_items.specs.ReadNumber.{below, head_below_at, as_positive, as_negative, signed_by, signed_at}
+use Rattle.cbor4ii_items.specs.ReadNumber.{below, head_below_at, as_positive, as_negative}
+use Rattle.cbor4ii_items.specs.ReadNumber.{signed_by, signed_at}
 use Rattle.cbor4ii_items.specs.Numbers.{ReadsSigned}
 use Rattle.cbor4ii_items.specs.Laws.Heads.{head_read, head_alone, additional-lt}
 use Rattle.cbor4ii_items.specs.Laws.Arguments.{ReadBy, leaf_one, leaf_within, leaf_positive}
@@ -17,32 +19,54 @@ pub record Starts (major : ℕ) (xs : List ℕ) : Type 0 where
   pub is : xs ≡ first ∷ others
   pub type : first / 32 ≡ major
 
-pub starts : (major width : ℕ) (xs : List ℕ) (v n : ℕ) → ReadsHead major width xs v n → Starts major xs
+pub starts : (major width : ℕ) (xs : List ℕ) (v n : ℕ) → ReadsHead major width xs v n
+    → Starts major xs
 starts major width xs v n h =
     let small : additional h.wide v < 28 = additional-lt v h.wide h.fits in
-    record { first = 32 * major + additional h.wide v; others = bytes_high_first (byte_count h.wide) v ++ h.rest; is = h.is; type = omega (arith, small) }
+    record {
+      first = 32 * major + additional h.wide v;
+      others =
+          bytes_high_first (byte_count h.wide) v ++ h.rest;
+      is = h.is;
+      type = omega (arith, small);
+    }
 
-pub peek_first : (name : List ℕ) (b : ℕ) (bs xs : List ℕ) → xs ≡ b ∷ bs → peek_at name 1 xs ≡ Ok (b, xs)
+pub peek_first : (name : List ℕ) (b : ℕ) (bs xs : List ℕ) → xs ≡ b ∷ bs
+    → peek_at name 1 xs ≡ Ok (b, xs)
 peek_first name b bs xs e = ap (peek_at name 1) e ∙ ap (λ (zs : List ℕ). Ok (b, zs)) (sym e)
 
-pub below_again : (name : List ℕ) (limit v : ℕ) (ys : List ℕ) → v < limit → below name limit v ys ≡ Ok (v, ys)
+pub below_again : (name : List ℕ) (limit v : ℕ) (ys : List ℕ) → v < limit
+    → below name limit v ys ≡ Ok (v, ys)
 below_again name limit v ys h = let t : ltb v limit ≡ true = lt-ltb v limit h in rw t refl
 
-half_again : (name : List ℕ) (major width limit : ℕ) (xs : List ℕ) (v n : ℕ) → major < 8 → ReadsHead major width xs v n → v < limit → head_below_at name major width limit xs ≡ Ok (v, drop n xs)
-half_again name major width limit xs v n m h small = ap (λ z. go_on z (below name limit)) (head_read name major width xs v n m h).0 ∙ below_again name limit v (drop n xs) small
+half_again : (name : List ℕ) (major width limit : ℕ) (xs : List ℕ) (v n : ℕ) → major < 8
+    → ReadsHead major width xs v n → v < limit
+    → head_below_at name major width limit xs ≡ Ok (v, drop n xs)
+half_again name major width limit xs v n m h small =
+    ap (λ z. go_on z (below name limit)) (head_read name major width xs v n m h).0
+    ∙ below_again name limit v (drop n xs) small
 
-pub signed_positive_by : (name plus minus : List ℕ) (width limit b : ℕ) → b / 32 ≡ 0 → signed_by name plus minus width limit b ≡ (head_below_at plus 0 width limit >=> as_positive)
-signed_positive_by name plus minus width limit b e = let t : eqb (b / 32) 0 ≡ true = eq-eqb (b / 32) 0 e in rw t refl
+pub signed_positive_by : (name plus minus : List ℕ) (width limit b : ℕ) → b / 32 ≡ 0
+    → signed_by name plus minus width limit b ≡ (head_below_at plus 0 width limit >=> as_positive)
+signed_positive_by name plus minus width limit b e =
+    let t : eqb (b / 32) 0 ≡ true = eq-eqb (b / 32) 0 e in rw t refl
 
-pub signed_negative_by : (name plus minus : List ℕ) (width limit b : ℕ) → b / 32 ≡ 1 → signed_by name plus minus width limit b ≡ (head_below_at minus 1 width limit >=> as_negative)
+pub signed_negative_by : (name plus minus : List ℕ) (width limit b : ℕ) → b / 32 ≡ 1
+    → signed_by name plus minus width limit b ≡ (head_below_at minus 1 width limit >=> as_negative)
 signed_negative_by name plus minus width limit b e = let t : b / 32 ≡ 1 = e in rw t refl
 
-pub signed_again : (name plus minus : List ℕ) (width limit : ℕ) (xs : List ℕ) (v : ℤ) (n c : ℕ) → ReadsSigned width limit xs v n c → ReadBy (signed_at name plus minus width limit) xs v n c
+pub signed_again : (name plus minus : List ℕ) (width limit : ℕ) (xs : List ℕ) (v : ℤ) (n c : ℕ)
+    → ReadsSigned width limit xs v n c → ReadBy (signed_at name plus minus width limit) xs v n c
 signed_again name plus minus width limit xs (pos k) n c p =
     let s = starts 0 width xs k n p.0 in
     let h = head_read plus 0 width xs k n (omega arith) p.0 in
     record {
-      answer = ap (λ z. go_on z (signed_by name plus minus width limit)) (peek_first name s.first s.others xs s.is) ∙ (ap (λ f. f xs) (signed_positive_by name plus minus width limit s.first s.type) ∙ ap (λ z. go_on z as_positive) (half_again plus 0 width limit xs k n (omega arith) p.0 p.1));
+      answer =
+          ap (λ z. go_on z (signed_by name plus minus width limit))
+          (peek_first name s.first s.others xs s.is)
+          ∙ (ap (λ f. f xs) (signed_positive_by name plus minus width limit s.first s.type)
+          ∙ ap (λ z. go_on z as_positive)
+          (half_again plus 0 width limit xs k n (omega arith) p.0 p.1));
       within = h.1;
       positive = h.2;
       cost = p.2;
@@ -51,21 +75,37 @@ signed_again name plus minus width limit xs (negsuc k) n c p =
     let s = starts 1 width xs k n p.0 in
     let h = head_read minus 1 width xs k n (omega arith) p.0 in
     record {
-      answer = ap (λ z. go_on z (signed_by name plus minus width limit)) (peek_first name s.first s.others xs s.is) ∙ (ap (λ f. f xs) (signed_negative_by name plus minus width limit s.first s.type) ∙ ap (λ z. go_on z as_negative) (half_again minus 1 width limit xs k n (omega arith) p.0 p.1));
+      answer =
+          ap (λ z. go_on z (signed_by name plus minus width limit))
+          (peek_first name s.first s.others xs s.is)
+          ∙ (ap (λ f. f xs) (signed_negative_by name plus minus width limit s.first s.type)
+          ∙ ap (λ z. go_on z as_negative)
+          (half_again minus 1 width limit xs k n (omega arith) p.0 p.1));
       within = h.1;
       positive = h.2;
       cost = p.2;
     }
 
-pub signed_one : (width limit : ℕ) (xs : List ℕ) (v w : ℤ) (n m c d : ℕ) → ReadsSigned width limit xs v n c → ReadsSigned width limit xs w m d → (n ≡ m) × (c ≡ d) × (v ≡ w)
-signed_one width limit = leaf_one (signed_at [] [] [] width limit) (ReadsSigned width limit) (signed_again [] [] [] width limit)
+pub signed_one : (width limit : ℕ) (xs : List ℕ) (v w : ℤ) (n m c d : ℕ)
+    → ReadsSigned width limit xs v n c → ReadsSigned width limit xs w m d
+    → (n ≡ m) × (c ≡ d) × (v ≡ w)
+signed_one width limit =
+    leaf_one (signed_at [] [] [] width limit) (ReadsSigned width limit)
+    (signed_again [] [] [] width limit)
 
-pub signed_within : (width limit : ℕ) (xs : List ℕ) (v : ℤ) (n c : ℕ) → ReadsSigned width limit xs v n c → n ≤ length xs
-signed_within width limit = leaf_within (signed_at [] [] [] width limit) (ReadsSigned width limit) (signed_again [] [] [] width limit)
+pub signed_within : (width limit : ℕ) (xs : List ℕ) (v : ℤ) (n c : ℕ)
+    → ReadsSigned width limit xs v n c → n ≤ length xs
+signed_within width limit =
+    leaf_within (signed_at [] [] [] width limit) (ReadsSigned width limit)
+    (signed_again [] [] [] width limit)
 
-pub signed_positive : (width limit : ℕ) (xs : List ℕ) (v : ℤ) (n c : ℕ) → ReadsSigned width limit xs v n c → 1 ≤ n
-signed_positive width limit = leaf_positive (signed_at [] [] [] width limit) (ReadsSigned width limit) (signed_again [] [] [] width limit)
+pub signed_positive : (width limit : ℕ) (xs : List ℕ) (v : ℤ) (n c : ℕ)
+    → ReadsSigned width limit xs v n c → 1 ≤ n
+signed_positive width limit =
+    leaf_positive (signed_at [] [] [] width limit) (ReadsSigned width limit)
+    (signed_again [] [] [] width limit)
 
-pub signed_alone : (width limit : ℕ) (xs ys : List ℕ) (v : ℤ) (n c : ℕ) → ReadsSigned width limit xs v n c → ReadsSigned width limit (take n xs ++ ys) v n c
+pub signed_alone : (width limit : ℕ) (xs ys : List ℕ) (v : ℤ) (n c : ℕ)
+    → ReadsSigned width limit xs v n c → ReadsSigned width limit (take n xs ++ ys) v n c
 signed_alone width limit xs ys (pos k) n c p = (head_alone 0 width xs ys k n p.0, p.1, p.2)
 signed_alone width limit xs ys (negsuc k) n c p = (head_alone 1 width xs ys k n p.0, p.1, p.2)

@@ -1,5 +1,7 @@
 -- How one call after another leaves the reader.
-use Rattle.std.proofs.Common.{◌≡◌, ℕ, zero, suc, ◌+◌, List, [], ◌∷◌, length, take, drop, Option, None, Some, Result, Ok, Err, Bool, true, false, refl, sym, ap, ◌∙◌, arith}
+use Rattle.std.proofs.Common.{◌≡◌, ℕ, zero, suc, ◌+◌, List, [], ◌∷◌, length, take, drop, Option}
+use Rattle.std.proofs.Common.{None, Some, Result, Ok, Err, Bool, true, false, refl, sym, ap, ◌∙◌}
+use Rattle.std.proofs.Common.{arith}
 use Rattle.std.specs.Prelude.{MatchBool}
 use Rattle.std.proofs.lemmas.List.{length-drop}
 use Rattle.cbor4ii_rw.specs.View.{View}
@@ -7,14 +9,18 @@ use Rattle.cbor4ii_rw.specs.Reader.{counts}
 use Rattle.cbor4ii_rw.specs.declared.error.DecodeError.{DecodeError}
 use Rattle.cbor4ii_items.specs.Head.{IsBytes}
 use Rattle.cbor4ii_items.specs.Laws.Fronts.{drop_more}
-use Rattle.cbor4ii_items.specs.Moves.{Took, Ends, Counted, EndsOrForgets, Kept, Broke, Moves, is_failure}
+use Rattle.cbor4ii_items.specs.Moves.{Took, Ends, Counted, EndsOrForgets, Kept, Broke, Moves}
+use Rattle.cbor4ii_items.specs.Moves.{is_failure}
 
-bytes_more : (n m : ℕ) (xs : List ℕ) → IsBytes (take n xs) → IsBytes (take m (drop n xs)) → IsBytes (take (n + m) xs)
+bytes_more : (n m : ℕ) (xs : List ℕ) → IsBytes (take n xs) → IsBytes (take m (drop n xs))
+    → IsBytes (take (n + m) xs)
 bytes_more zero m xs p q = let e : 0 + m ≡ m = omega arith in rw e q
 bytes_more (suc n) m [] p q = let e : suc n + m ≡ suc (n + m) = omega arith in rw e tt
-bytes_more (suc n) m (x ∷ xs) p q = let e : suc n + m ≡ suc (n + m) = omega arith in rw e (p.0, bytes_more n m xs p.1 q)
+bytes_more (suc n) m (x ∷ xs) p q =
+    let e : suc n + m ≡ suc (n + m) = omega arith in rw e (p.0, bytes_more n m xs p.1 q)
 
-took_more : (xs : List ℕ) (b c : Option (List ℕ)) (n m : ℕ) → Took xs b n → Took (drop n xs) c m → Took xs c (n + m)
+took_more : (xs : List ℕ) (b c : Option (List ℕ)) (n m : ℕ) → Took xs b n → Took (drop n xs) c m
+    → Took xs c (n + m)
 took_more xs b c n m p q = record {
   left = q.left ∙ ap Some (drop_more m n xs);
   within = omega (arith, p.within, q.within, length-drop n xs);
@@ -37,24 +43,37 @@ counts_none : (n : ℕ) (taken : Option ℕ) → n ≡ 0 → counts n taken ≡ 
 counts_none n None none = refl
 counts_none n (Some k) none = let e : k + n ≡ k = omega (arith, none) in ap Some e
 
-pub counts_more : (n m k : ℕ) (taken : Option ℕ) → n + m ≡ k → counts m (counts n taken) ≡ counts k taken
+pub counts_more : (n m k : ℕ) (taken : Option ℕ) → n + m ≡ k
+    → counts m (counts n taken) ≡ counts k taken
 counts_more n m k None sum = refl
 counts_more n m k (Some t) sum = let e : (t + n) + m ≡ t + k = omega (arith, sum) in ap Some e
 
 -- where no byte is gone, the count stays
-pub counted_none : (a b : View) → ((xs : List ℕ) → a.told ≡ Some xs → b.told ≡ Some xs) → b.taken ≡ a.taken → Counted a b
+pub counted_none : (a b : View) → ((xs : List ℕ) → a.told ≡ Some xs → b.told ≡ Some xs)
+    → b.taken ≡ a.taken → Counted a b
 counted_none a b same stays xs told ys left n gone =
     let e : xs ≡ ys = let p = same xs told in cc in
     stays ∙ sym (counts_none n a.taken (omega (arith, gone, ap length e)))
 
-counted_then : (a b c : View) → Ends a.told b.told → Ends b.told c.told → Counted a b → Counted b c → Counted a c
+counted_then : (a b c : View) → Ends a.told b.told → Ends b.told c.told → Counted a b → Counted b c
+    → Counted a c
 counted_then a b c p q first second xs told zs left n gone =
     let u = p xs told in
     let v = q (drop u.0 xs) u.1.left in
     let e : drop v.0 (drop u.0 xs) ≡ zs = let l = v.1.left in cc in
-    let one = first xs told (drop u.0 xs) u.1.left u.0 (omega (arith, length-drop u.0 xs, u.1.within)) in
-    let two = second (drop u.0 xs) u.1.left zs left v.0 (omega (arith, ap length e, length-drop v.0 (drop u.0 xs), v.1.within)) in
-    two ∙ ap (counts v.0) one ∙ counts_more u.0 v.0 n a.taken (omega (arith, gone, ap length e, length-drop u.0 xs, length-drop v.0 (drop u.0 xs), u.1.within, v.1.within))
+    let one =
+    first xs told (drop u.0 xs) u.1.left u.0 (omega (arith, length-drop u.0 xs, u.1.within)) in
+    let two = second (drop u.0 xs) u.1.left zs left v.0
+    (omega (arith, ap length e, length-drop v.0 (drop u.0 xs), v.1.within)) in
+    two ∙ ap (counts v.0) one ∙ counts_more u.0 v.0 n a.taken (omega (
+      arith,
+      gone,
+      ap length e,
+      length-drop u.0 xs,
+      length-drop v.0 (drop u.0 xs),
+      u.1.within,
+      v.1.within,
+    ))
 
 pub kept_then : {a b c : View} → Kept a b → Kept b c → Kept a c
 kept_then {a = a} {b = b} {c = c} p q = record {
@@ -78,18 +97,26 @@ broke_then {a = a} {b = b} {c = c} p q = record {
   remembers = λ h. q.remembers (p.remembers h);
 }
 
-by_failure : (t : Bool) (a b c : View) → Kept a b → MatchBool t (Broke b c) (Kept b c) → MatchBool t (Broke a c) (Kept a c)
+by_failure : (t : Bool) (a b c : View) → Kept a b → MatchBool t (Broke b c) (Kept b c)
+    → MatchBool t (Broke a c) (Kept a c)
 by_failure true a b c p q = broke_then p q
 by_failure false a b c p q = kept_then p q
 
 -- after a call that kept the reader, another one
-pub moves_then : {V E : Type 0} {r : Result V (DecodeError E)} {a b c : View} → Kept a b → Moves b c r → Moves a c r
-moves_then {r = r} {a = a} {b = b} {c = c} p q = record { by = by_failure (is_failure r) a b c p q.by; depth = λ none. q.depth (p.budget ∙ none) }
+pub moves_then : {V E : Type 0} {r : Result V (DecodeError E)} {a b c : View} → Kept a b
+    → Moves b c r → Moves a c r
+moves_then {r = r} {a = a} {b = b} {c = c} p q =
+    record {
+      by = by_failure (is_failure r) a b c p q.by;
+      depth = λ none. q.depth (p.budget ∙ none);
+    }
 
 -- a value of one call, as that of another
-pub moves_ok : {U V E : Type 0} {u : U} {v : V} {a b : View} → Moves {V = U} {E = E} a b (Ok u) → Moves {V = V} {E = E} a b (Ok v)
+pub moves_ok : {U V E : Type 0} {u : U} {v : V} {a b : View} → Moves {V = U} {E = E} a b (Ok u)
+    → Moves {V = V} {E = E} a b (Ok v)
 moves_ok p = record { by = p.by; depth = λ e. refl }
 
 -- an error of one call, as that of another
-pub moves_err : {U V E : Type 0} {e : DecodeError E} {a b : View} → Moves {V = U} a b (Err e) → Moves {V = V} a b (Err e)
+pub moves_err : {U V E : Type 0} {e : DecodeError E} {a b : View} → Moves {V = U} a b (Err e)
+    → Moves {V = V} a b (Err e)
 moves_err p = record { by = p.by; depth = p.depth }

@@ -1,5 +1,7 @@
 -- Strings are read exactly as they are spelled.
-use Rattle.std.proofs.Common.{◌≡◌, ◌≢◌, ℕ, zero, suc, ◌+◌, ◌*◌, ◌<◌, ◌≤◌, inl, inr, List, [], ◌∷◌, ◌++◌, length, drop, take, Option, None, Some, Ok, true, false, refl, sym, ap, ap₂, ◌∙◌, subst, arith, eqb, eq-eqb, ne_eqb, append_assoc}
+use Rattle.std.proofs.Common.{◌≡◌, ◌≢◌, ℕ, zero, suc, ◌+◌, ◌*◌, ◌<◌, ◌≤◌, inl, inr, List, [], ◌∷◌}
+use Rattle.std.proofs.Common.{◌++◌, length, drop, take, Option, None, Some, Ok, true, false, refl}
+use Rattle.std.proofs.Common.{sym, ap, ap₂, ◌∙◌, subst, arith, eqb, eq-eqb, ne_eqb, append_assoc}
 use Rattle.std.specs.Int.{bytes_high_first}
 use Rattle.std.proofs.lemmas.List.{length-drop, append-nil, length-take}
 use Rattle.cbor4ii_items.specs.Head.{byte_count, additional, break, open_head}
@@ -9,11 +11,13 @@ use Rattle.cbor4ii_items.specs.Laws.Outcome.{same_value}
 use Rattle.cbor4ii_items.specs.Heads.{ReadsHead}
 use Rattle.cbor4ii_items.specs.Laws.Heads.{head_read, head_alone, additional-lt}
 use Rattle.cbor4ii_items.specs.ReadHead.{head_at, length_at}
-use Rattle.cbor4ii_items.specs.ReadStrings.{content_on, break_at, chunk_by, chunk_inside_at, chunk_at, chunks_at, string_by, string_at}
+use Rattle.cbor4ii_items.specs.ReadStrings.{content_on, break_at, chunk_by, chunk_inside_at}
+use Rattle.cbor4ii_items.specs.ReadStrings.{chunk_at, chunks_at, string_by, string_at}
 use Rattle.cbor4ii_items.specs.Laws.Chunks.{chunks_by, chunks_more}
 use Rattle.cbor4ii_items.specs.Laws.CountedContent.{content_whole}
 use Rattle.cbor4ii_items.specs.Laws.Fronts.{drop_more, two_fronts, behind_front, the_front}
-use Rattle.cbor4ii_items.specs.Strings.{ReadsCountedString, ReadsChunks, joined, chunk_cost, ReadsOpenString, ReadsString, ReadsAs, ReadsTextAs}
+use Rattle.cbor4ii_items.specs.Strings.{ReadsCountedString, ReadsChunks, joined, chunk_cost}
+use Rattle.cbor4ii_items.specs.Strings.{ReadsOpenString, ReadsString, ReadsAs, ReadsTextAs}
 
 -- ---- the first byte
 
@@ -21,20 +25,28 @@ use Rattle.cbor4ii_items.specs.Strings.{ReadsCountedString, ReadsChunks, joined,
 abbrev pub BeginsWith : List ℕ → ℕ → Type 0
 BeginsWith xs b = take 1 xs ≡ b ∷ []
 
-pub head_first : (major : ℕ) (xs : List ℕ) (v n : ℕ) → major < 8 → ReadsHead major 8 xs v n → (b : ℕ) × (bs : List ℕ) × (xs ≡ b ∷ bs) × (b ≢ open_head major) × (b ≢ break)
+pub head_first : (major : ℕ) (xs : List ℕ) (v n : ℕ) → major < 8 → ReadsHead major 8 xs v n
+    → (b : ℕ) × (bs : List ℕ) × (xs ≡ b ∷ bs) × (b ≢ open_head major) × (b ≢ break)
 head_first major xs v n m h =
-    let small : additional h.wide v < 28 = additional-lt v h.wide h.fits in
-    (32 * major + additional h.wide v, bytes_high_first (byte_count h.wide) v ++ h.rest, h.is, (λ e. omega (arith, small, e)), (λ e. omega (arith, small, e, m)))
+    let small : additional h.wide v < 28 = additional-lt v h.wide h.fits in (
+      32 * major + additional h.wide v,
+      bytes_high_first (byte_count h.wide) v ++ h.rest,
+      h.is,
+      (λ e. omega (arith, small, e)),
+      (λ e. omega (arith, small, e, m)),
+    )
 
 -- a head is neither an open length nor a break
-pub head_not_open : (major : ℕ) (xs : List ℕ) (v n : ℕ) → major < 8 → ReadsHead major 8 xs v n → BeginsWith xs (open_head major) → ⊥
+pub head_not_open : (major : ℕ) (xs : List ℕ) (v n : ℕ) → major < 8 → ReadsHead major 8 xs v n
+    → BeginsWith xs (open_head major) → ⊥
 head_not_open major xs v n m h e =
     let f = head_first major xs v n m h in
     let first : take 1 xs ≡ f.0 ∷ [] = ap (take 1) f.2 in
     let same : f.0 ≡ open_head major = cc in
     f.3 same
 
-pub head_not_break : (major : ℕ) (xs : List ℕ) (v n : ℕ) → major < 8 → ReadsHead major 8 xs v n → BeginsWith xs break → ⊥
+pub head_not_break : (major : ℕ) (xs : List ℕ) (v n : ℕ) → major < 8 → ReadsHead major 8 xs v n
+    → BeginsWith xs break → ⊥
 head_not_break major xs v n m h e =
     let f = head_first major xs v n m h in
     let first : take 1 xs ≡ f.0 ∷ [] = ap (take 1) f.2 in
@@ -43,18 +55,22 @@ head_not_break major xs v n m h e =
 
 -- ---- lengths
 
-length_by_head : (name : List ℕ) (major v b : ℕ) (bs ys : List ℕ) → b ≢ open_head major → head_at name major 8 (b ∷ bs) ≡ Ok (v, ys) → length_at name major (b ∷ bs) ≡ Ok (Some v, ys)
+length_by_head : (name : List ℕ) (major v b : ℕ) (bs ys : List ℕ) → b ≢ open_head major
+    → head_at name major 8 (b ∷ bs) ≡ Ok (v, ys) → length_at name major (b ∷ bs) ≡ Ok (Some v, ys)
 length_by_head name major v b bs ys other e =
     let t : eqb b (open_head major) ≡ false = ne_eqb b (open_head major) other in
     rw t (ap (λ z. go_on z (λ (n : ℕ). give (Some n))) e)
 
-pub length_known : (name : List ℕ) (major : ℕ) (xs : List ℕ) (v n : ℕ) → major < 8 → ReadsHead major 8 xs v n → length_at name major xs ≡ Ok (Some v, drop n xs)
+pub length_known : (name : List ℕ) (major : ℕ) (xs : List ℕ) (v n : ℕ) → major < 8
+    → ReadsHead major 8 xs v n → length_at name major xs ≡ Ok (Some v, drop n xs)
 length_known name major xs v n m h =
     let f = head_first major xs v n m h in
-    let e : head_at name major 8 (f.0 ∷ f.1) ≡ Ok (v, drop n xs) = ap (head_at name major 8) (sym f.2) ∙ (head_read name major 8 xs v n m h).0 in
+    let e : head_at name major 8 (f.0 ∷ f.1) ≡ Ok (v, drop n xs) =
+    ap (head_at name major 8) (sym f.2) ∙ (head_read name major 8 xs v n m h).0 in
     ap (length_at name major) f.2 ∙ length_by_head name major v f.0 f.1 (drop n xs) f.3 e
 
-pub length_open : (name : List ℕ) (major : ℕ) (xs : List ℕ) → BeginsWith xs (open_head major) → length_at name major xs ≡ Ok (None, drop 1 xs)
+pub length_open : (name : List ℕ) (major : ℕ) (xs : List ℕ) → BeginsWith xs (open_head major)
+    → length_at name major xs ≡ Ok (None, drop 1 xs)
 length_open name major [] h = cc
 length_open name major (b ∷ bs) h =
     let is : b ≡ open_head major = cc in
@@ -71,42 +87,73 @@ break_again (b ∷ bs) h =
 no_break : (b : ℕ) (bs xs : List ℕ) → xs ≡ b ∷ bs → b ≢ break → break_at xs ≡ Ok (false, xs)
 no_break b bs xs is other =
     let t : eqb b break ≡ false = ne_eqb b break other in
-    ap break_at is ∙ (let e : break_at (b ∷ bs) ≡ Ok (false, b ∷ bs) = rw t refl in e ∙ ap (λ (z : List ℕ). Ok (false, z)) (sym is))
+    ap break_at is ∙ (let e : break_at (b ∷ bs) ≡ Ok (false, b ∷ bs) = rw t refl in
+    e ∙ ap (λ (z : List ℕ). Ok (false, z)) (sym is))
 
 -- ---- strings of known length
 
 fits_content : (v ys : List ℕ) → take (length v) ys ≡ v → length v ≤ length ys
 fits_content v ys e = omega (arith, ap length e, length-take (length v) ys)
 
-pub counted_within : (major : ℕ) (xs v : List ℕ) (n : ℕ) → major < 8 → ReadsCountedString major xs v n → (n ≤ length xs) × (1 ≤ n)
+pub counted_within : (major : ℕ) (xs v : List ℕ) (n : ℕ) → major < 8
+    → ReadsCountedString major xs v n → (n ≤ length xs) × (1 ≤ n)
 counted_within major xs v n m h =
-    let r = head_read [] major 8 xs (length v) h.before m h.head in
-    (omega (arith, h.size, r.1, fits_content v (drop h.before xs) h.stands, length-drop h.before xs), omega (arith, h.size, r.2))
+    let r = head_read [] major 8 xs (length v) h.before m h.head in (
+      omega (
+        arith,
+        h.size,
+        r.1,
+        fits_content v (drop h.before xs) h.stands,
+        length-drop h.before xs,
+      ),
+      omega (arith, h.size, r.2),
+    )
 
 -- the content behind its head
-counted_content : (name before : List ℕ) (major : ℕ) (xs v : List ℕ) (n : ℕ) → (h : ReadsCountedString major xs v n) → content_on name (length v) before (drop h.before xs) ≡ Ok (before ++ v, drop n xs)
+counted_content : (name before : List ℕ) (major : ℕ) (xs v : List ℕ) (n : ℕ)
+    → (h : ReadsCountedString major xs v n)
+    → content_on name (length v) before (drop h.before xs) ≡ Ok (before ++ v, drop n xs)
 counted_content name before major xs v n h =
-    content_whole name (length v) before (drop h.before xs) (fits_content v (drop h.before xs) h.stands)
-    ∙ ap₂ (λ (us ws : List ℕ). Ok (us, ws)) (ap (λ z. before ++ z) h.stands) (drop_more (length v) h.before xs ∙ ap (λ j. drop j xs) (sym h.size))
+    content_whole name (length v) before (drop h.before xs)
+    (fits_content v (drop h.before xs) h.stands)
+    ∙ ap₂ (λ (us ws : List ℕ). Ok (us, ws)) (ap (λ z. before ++ z) h.stands)
+    (drop_more (length v) h.before xs ∙ ap (λ j. drop j xs) (sym h.size))
 
-inside_again : (name before : List ℕ) (major : ℕ) (xs v : List ℕ) (n : ℕ) → major < 8 → ReadsCountedString major xs v n → chunk_inside_at name major before xs ≡ Ok (before ++ v, drop n xs)
-inside_again name before major xs v n m h = ap (λ z. go_on z (chunk_by name before)) (length_known name major xs (length v) h.before m h.head) ∙ counted_content name before major xs v n h
+inside_again : (name before : List ℕ) (major : ℕ) (xs v : List ℕ) (n : ℕ) → major < 8
+    → ReadsCountedString major xs v n
+    → chunk_inside_at name major before xs ≡ Ok (before ++ v, drop n xs)
+inside_again name before major xs v n m h =
+    ap (λ z. go_on z (chunk_by name before))
+    (length_known name major xs (length v) h.before m h.head)
+    ∙ counted_content name before major xs v n h
 
-pub counted_again : (name : List ℕ) (major : ℕ) (budget : Option ℕ) (xs v : List ℕ) (n : ℕ) → major < 8 → ReadsCountedString major xs v n → string_at name major budget xs ≡ Ok (v, drop n xs)
-counted_again name major budget xs v n m h = ap (λ z. go_on z (string_by name major budget)) (length_known name major xs (length v) h.before m h.head) ∙ counted_content name [] major xs v n h
+pub counted_again : (name : List ℕ) (major : ℕ) (budget : Option ℕ) (xs v : List ℕ) (n : ℕ)
+    → major < 8 → ReadsCountedString major xs v n
+    → string_at name major budget xs ≡ Ok (v, drop n xs)
+counted_again name major budget xs v n m h =
+    ap (λ z. go_on z (string_by name major budget))
+    (length_known name major xs (length v) h.before m h.head)
+    ∙ counted_content name [] major xs v n h
 
 -- with other bytes behind it
-pub counted_alone : (major : ℕ) (xs ys v : List ℕ) (n : ℕ) → major < 8 → ReadsCountedString major xs v n → ReadsCountedString major (take n xs ++ ys) v n
+pub counted_alone : (major : ℕ) (xs ys v : List ℕ) (n : ℕ) → major < 8
+    → ReadsCountedString major xs v n → ReadsCountedString major (take n xs ++ ys) v n
 counted_alone major xs ys v n m h =
     let i = h.before in
     let k = length v in
     let r = head_read [] major 8 xs k i m h.head in
-    let e : take n xs ++ ys ≡ take i xs ++ (take k (drop i xs) ++ ys) = two_fronts i k n xs ys h.size in
-    let behind : drop i (take n xs ++ ys) ≡ take k (drop i xs) ++ ys = ap (drop i) e ∙ behind_front i xs (take k (drop i xs) ++ ys) r.1 in
+    let e : take n xs ++ ys ≡ take i xs ++ (take k (drop i xs) ++ ys) =
+    two_fronts i k n xs ys h.size in
+    let behind : drop i (take n xs ++ ys) ≡ take k (drop i xs) ++ ys =
+    ap (drop i) e ∙ behind_front i xs (take k (drop i xs) ++ ys) r.1 in
     record {
       before = i;
-      head = subst (λ zs. ReadsHead major 8 zs k i) (sym e) (head_alone major 8 xs (take k (drop i xs) ++ ys) k i h.head);
-      stands = ap (take k) behind ∙ (the_front k (drop i xs) ys (fits_content v (drop i xs) h.stands) ∙ h.stands);
+      head =
+          subst (λ zs. ReadsHead major 8 zs k i) (sym e)
+          (head_alone major 8 xs (take k (drop i xs) ++ ys) k i h.head);
+      stands =
+          ap (take k) behind
+          ∙ (the_front k (drop i xs) ys (fits_content v (drop i xs) h.stands) ∙ h.stands);
       size = h.size;
     }
 
@@ -116,39 +163,62 @@ counted_alone major xs ys v n m h =
 abbrev pub HasStep : Option ℕ → Type 0
 HasStep budget = CostFits 1 budget
 
-chunk_again : (name before : List ℕ) (major : ℕ) (budget : Option ℕ) (xs v : List ℕ) (n : ℕ) → major < 8 → HasStep budget → ReadsCountedString major xs v n → chunk_at name major budget before xs ≡ Ok (before ++ v, drop n xs)
+chunk_again : (name before : List ℕ) (major : ℕ) (budget : Option ℕ) (xs v : List ℕ) (n : ℕ)
+    → major < 8 → HasStep budget → ReadsCountedString major xs v n
+    → chunk_at name major budget before xs ≡ Ok (before ++ v, drop n xs)
 chunk_again name before major None xs v n m s h = inside_again name before major xs v n m h
 chunk_again name before major (Some zero) xs v n m s h = absurd (omega (arith, s))
-chunk_again name before major (Some (suc left)) xs v n m s h = inside_again name before major xs v n m h
+chunk_again name before major (Some (suc left)) xs v n m s h =
+    inside_again name before major xs v n m h
 
-chunks_once : (name before : List ℕ) (major : ℕ) (budget : Option ℕ) (xs v : List ℕ) (n : ℕ) → major < 8 → HasStep budget → ReadsCountedString major xs v n → chunks_at name major budget before xs ≡ chunks_at name major budget (before ++ v) (drop n xs)
+chunks_once : (name before : List ℕ) (major : ℕ) (budget : Option ℕ) (xs v : List ℕ) (n : ℕ)
+    → major < 8 → HasStep budget → ReadsCountedString major xs v n
+    → chunks_at name major budget before xs ≡ chunks_at name major budget (before ++ v) (drop n xs)
 chunks_once name before major budget xs v n m s h =
     let f = head_first major xs (length v) h.before m h.head in
     ap (λ p. p xs) (chunks_more name major budget before)
-    ∙ (ap (λ z. go_on z (chunks_by name major budget before (chunks_at name major budget))) (no_break f.0 f.1 xs f.2 f.4)
-    ∙ ap (λ z. go_on z (chunks_at name major budget)) (chunk_again name before major budget xs v n m s h))
+    ∙ (ap (λ z. go_on z (chunks_by name major budget before (chunks_at name major budget)))
+    (no_break f.0 f.1 xs f.2 f.4)
+    ∙ ap (λ z. go_on z (chunks_at name major budget))
+    (chunk_again name before major budget xs v n m s h))
 
 fewer : (vs : List (List ℕ)) (budget : Option ℕ) → HasStep budget → CostFits (chunk_cost vs) budget
 fewer [] None h = tt
 fewer [] (Some left) h = omega arith
 fewer (v ∷ vs) budget h = h
 
-chunks_again : (chunks : List (List ℕ)) (name before : List ℕ) (major : ℕ) (budget : Option ℕ) (xs : List ℕ) (n : ℕ) → major < 8 → CostFits (chunk_cost chunks) budget → ReadsChunks major chunks xs n
-    → chunks_at name major budget before xs ≡ chunks_at name major budget (before ++ joined chunks) (drop n xs)
-chunks_again [] name before major budget xs n m s h = ap₂ (chunks_at name major budget) (sym (append-nil before)) (sym (ap (λ j. drop j xs) h))
+chunks_again : (chunks : List (List ℕ)) (name before : List ℕ) (major : ℕ) (budget : Option ℕ)
+    (xs : List ℕ) (n : ℕ) → major < 8 → CostFits (chunk_cost chunks) budget
+    → ReadsChunks major chunks xs n
+    → chunks_at name major budget before xs ≡ chunks_at name major budget (before ++ joined chunks)
+    (drop n xs)
+chunks_again [] name before major budget xs n m s h =
+    ap₂ (chunks_at name major budget) (sym (append-nil before)) (sym (ap (λ j. drop j xs) h))
 chunks_again (v ∷ vs) name before major budget xs n m s h =
-    let rest = chunks_again vs name (before ++ v) major budget (drop h.0 xs) h.1 m (fewer vs budget s) h.3 in
+    let rest = chunks_again vs name (before ++ v) major budget (drop h.0 xs) h.1 m
+    (fewer vs budget s) h.3 in
     chunks_once name before major budget xs v h.0 m s h.2
-    ∙ (rest ∙ ap₂ (chunks_at name major budget) (append_assoc before v (joined vs)) (drop_more h.1 h.0 xs ∙ ap (λ j. drop j xs) (sym h.4)))
+    ∙ (rest ∙ ap₂ (chunks_at name major budget) (append_assoc before v (joined vs))
+    (drop_more h.1 h.0 xs ∙ ap (λ j. drop j xs) (sym h.4)))
 
-chunks_alone : (chunks : List (List ℕ)) (major : ℕ) (xs ys : List ℕ) (n : ℕ) → major < 8 → ReadsChunks major chunks xs n → ReadsChunks major chunks (take n xs ++ ys) n
+chunks_alone : (chunks : List (List ℕ)) (major : ℕ) (xs ys : List ℕ) (n : ℕ) → major < 8
+    → ReadsChunks major chunks xs n → ReadsChunks major chunks (take n xs ++ ys) n
 chunks_alone [] major xs ys n m h = h
 chunks_alone (v ∷ vs) major xs ys n m h =
     let i = h.0 in
     let j = h.1 in
-    let e : take n xs ++ ys ≡ take i xs ++ (take j (drop i xs) ++ ys) = two_fronts i j n xs ys h.4 in
-    let behind : drop i (take n xs ++ ys) ≡ take j (drop i xs) ++ ys = ap (drop i) e ∙ behind_front i xs (take j (drop i xs) ++ ys) (counted_within major xs v i m h.2).0 in
-    (i, j, subst (λ zs. ReadsCountedString major zs v i) (sym e) (counted_alone major xs (take j (drop i xs) ++ ys) v i m h.2), subst (λ zs. ReadsChunks major vs zs j) (sym behind) (chunks_alone vs major (drop i xs) ys j m h.3), h.4)
+    let e : take n xs ++ ys ≡ take i xs ++ (take j (drop i xs) ++ ys) =
+    two_fronts i j n xs ys h.4 in
+    let behind : drop i (take n xs ++ ys) ≡ take j (drop i xs) ++ ys = ap (drop i) e
+    ∙ behind_front i xs (take j (drop i xs) ++ ys) (counted_within major xs v i m h.2).0 in (
+      i,
+      j,
+      subst (λ zs. ReadsCountedString major zs v i) (sym e)
+          (counted_alone major xs (take j (drop i xs) ++ ys) v i m h.2),
+      subst (λ zs. ReadsChunks major vs zs j) (sym behind)
+          (chunks_alone vs major (drop i xs) ys j m h.3),
+      h.4,
+    )
 
 -- ---- strings of indefinite length
 
@@ -156,79 +226,134 @@ some_byte : (b : ℕ) (ys : List ℕ) → BeginsWith ys b → 1 ≤ length ys
 some_byte b [] h = cc
 some_byte b (y ∷ ys) h = omega arith
 
-pub open_within : (major : ℕ) (xs v : List ℕ) (n c : ℕ) → ReadsOpenString major xs v n c → n ≤ length xs
-open_within major xs v n c h = omega (arith, h.size, some_byte break (drop (1 + h.between) xs) h.ends, length-drop (1 + h.between) xs)
+pub open_within : (major : ℕ) (xs v : List ℕ) (n c : ℕ) → ReadsOpenString major xs v n c
+    → n ≤ length xs
+open_within major xs v n c h =
+    omega (
+      arith,
+      h.size,
+      some_byte break (drop (1 + h.between) xs) h.ends,
+      length-drop (1 + h.between) xs,
+    )
 
-pub open_again : (name : List ℕ) (major : ℕ) (budget : Option ℕ) (xs v : List ℕ) (n c : ℕ) → major < 8 → ReadsOpenString major xs v n c → CostFits c budget → string_at name major budget xs ≡ Ok (v, drop n xs)
+pub open_again : (name : List ℕ) (major : ℕ) (budget : Option ℕ) (xs v : List ℕ) (n c : ℕ)
+    → major < 8 → ReadsOpenString major xs v n c → CostFits c budget
+    → string_at name major budget xs ≡ Ok (v, drop n xs)
 open_again name major budget xs v n c m h fits =
     let k = h.between in
-    let steps : CostFits (chunk_cost h.chunks) budget = subst (λ (j : ℕ). CostFits j budget) h.cost fits in
+    let steps : CostFits (chunk_cost h.chunks) budget =
+    subst (λ (j : ℕ). CostFits j budget) h.cost fits in
     let there : drop k (drop 1 xs) ≡ drop (1 + k) xs = drop_more k 1 xs in
-    let ended : break_at (drop k (drop 1 xs)) ≡ Ok (true, drop 1 (drop k (drop 1 xs))) = break_again (drop k (drop 1 xs)) (ap (take 1) there ∙ h.ends) in
-    let last : drop 1 (drop k (drop 1 xs)) ≡ drop n xs = ap (drop 1) there ∙ (drop_more 1 (1 + k) xs ∙ ap (λ j. drop j xs) (let e : (1 + k) + 1 ≡ n = omega (arith, h.size) in e)) in
+    let ended : break_at (drop k (drop 1 xs)) ≡ Ok (true, drop 1 (drop k (drop 1 xs))) =
+    break_again (drop k (drop 1 xs)) (ap (take 1) there ∙ h.ends) in
+    let last : drop 1 (drop k (drop 1 xs)) ≡ drop n xs = ap (drop 1) there ∙ (drop_more 1 (1 + k) xs
+    ∙ ap (λ j. drop j xs) (let e : (1 + k) + 1 ≡ n = omega (arith, h.size) in e)) in
     ap (λ z. go_on z (string_by name major budget)) (length_open name major xs h.begins)
     ∙ (chunks_again h.chunks name [] major budget (drop 1 xs) k m steps h.read
     ∙ (ap (λ p. p (drop k (drop 1 xs))) (chunks_more name major budget (joined h.chunks))
-    ∙ (ap (λ z. go_on z (chunks_by name major budget (joined h.chunks) (chunks_at name major budget))) ended
+    ∙ (ap (λ z. go_on z
+    (chunks_by name major budget (joined h.chunks) (chunks_at name major budget))) ended
     ∙ ap₂ (λ (us ws : List ℕ). Ok (us, ws)) (sym h.value) last)))
 
-open_alone : (major : ℕ) (xs ys v : List ℕ) (n c : ℕ) → major < 8 → ReadsOpenString major xs v n c → ReadsOpenString major (take n xs ++ ys) v n c
+open_alone : (major : ℕ) (xs ys v : List ℕ) (n c : ℕ) → major < 8 → ReadsOpenString major xs v n c
+    → ReadsOpenString major (take n xs ++ ys) v n c
 open_alone major xs ys v n c m h =
     let k = h.between in
     let tail = take 1 (drop (1 + k) xs) ++ ys in
     let long = open_within major xs v n c h in
-    let e : take n xs ++ ys ≡ take (1 + k) xs ++ tail = two_fronts (1 + k) 1 n xs ys (omega (arith, h.size)) in
-    let f : take (1 + k) xs ++ tail ≡ take 1 xs ++ (take k (drop 1 xs) ++ tail) = two_fronts 1 k (1 + k) xs tail refl in
-    let first : take 1 (take n xs ++ ys) ≡ take 1 xs = ap (take 1) (e ∙ f) ∙ the_front 1 xs (take k (drop 1 xs) ++ tail) (omega (arith, long, h.size)) in
-    let behind : drop 1 (take n xs ++ ys) ≡ take k (drop 1 xs) ++ tail = ap (drop 1) (e ∙ f) ∙ behind_front 1 xs (take k (drop 1 xs) ++ tail) (omega (arith, long, h.size)) in
-    let end : drop (1 + k) (take n xs ++ ys) ≡ tail = ap (drop (1 + k)) e ∙ behind_front (1 + k) xs tail (omega (arith, long, h.size)) in
+    let e : take n xs ++ ys ≡ take (1 + k) xs ++ tail =
+    two_fronts (1 + k) 1 n xs ys (omega (arith, h.size)) in
+    let f : take (1 + k) xs ++ tail ≡ take 1 xs ++ (take k (drop 1 xs) ++ tail) =
+    two_fronts 1 k (1 + k) xs tail refl in
+    let first : take 1 (take n xs ++ ys) ≡ take 1 xs = ap (take 1) (e ∙ f)
+    ∙ the_front 1 xs (take k (drop 1 xs) ++ tail) (omega (arith, long, h.size)) in
+    let behind : drop 1 (take n xs ++ ys) ≡ take k (drop 1 xs) ++ tail = ap (drop 1) (e ∙ f)
+    ∙ behind_front 1 xs (take k (drop 1 xs) ++ tail) (omega (arith, long, h.size)) in
+    let end : drop (1 + k) (take n xs ++ ys) ≡ tail =
+    ap (drop (1 + k)) e ∙ behind_front (1 + k) xs tail (omega (arith, long, h.size)) in
     record {
       begins = first ∙ h.begins;
       chunks = h.chunks;
       between = k;
-      read = subst (λ zs. ReadsChunks major h.chunks zs k) (sym behind) (chunks_alone h.chunks major (drop 1 xs) tail k m h.read);
-      ends = ap (take 1) end ∙ (the_front 1 (drop (1 + k) xs) ys (some_byte break (drop (1 + k) xs) h.ends) ∙ h.ends);
+      read =
+          subst (λ zs. ReadsChunks major h.chunks zs k) (sym behind)
+          (chunks_alone h.chunks major (drop 1 xs) tail k m h.read);
+      ends =
+          ap (take 1) end
+          ∙ (the_front 1 (drop (1 + k) xs) ys (some_byte break (drop (1 + k) xs) h.ends)
+          ∙ h.ends);
       value = h.value;
       size = h.size;
       cost = h.cost;
     }
 
 -- a break comes at once, or a chunk does
-cost_one : (vs ws : List (List ℕ)) (major : ℕ) (xs : List ℕ) (j k : ℕ) → major < 8 → ReadsChunks major vs xs j → BeginsWith (drop j xs) break → ReadsChunks major ws xs k → BeginsWith (drop k xs) break → chunk_cost vs ≡ chunk_cost ws
+cost_one : (vs ws : List (List ℕ)) (major : ℕ) (xs : List ℕ) (j k : ℕ) → major < 8
+    → ReadsChunks major vs xs j → BeginsWith (drop j xs) break → ReadsChunks major ws xs k
+    → BeginsWith (drop k xs) break → chunk_cost vs ≡ chunk_cost ws
 cost_one [] [] major xs j k m p a q b = refl
-cost_one [] (w ∷ ws) major xs j k m p a q b = absurd (head_not_break major xs (length w) q.2.before m q.2.head (ap (λ i. take 1 (drop i xs)) (sym p) ∙ a))
-cost_one (v ∷ vs) [] major xs j k m p a q b = absurd (head_not_break major xs (length v) p.2.before m p.2.head (ap (λ i. take 1 (drop i xs)) (sym q) ∙ b))
+cost_one [] (w ∷ ws) major xs j k m p a q b =
+    absurd (head_not_break major xs (length w) q.2.before m q.2.head
+    (ap (λ i. take 1 (drop i xs)) (sym p) ∙ a))
+cost_one (v ∷ vs) [] major xs j k m p a q b =
+    absurd (head_not_break major xs (length v) p.2.before m p.2.head
+    (ap (λ i. take 1 (drop i xs)) (sym q) ∙ b))
 cost_one (v ∷ vs) (w ∷ ws) major xs j k m p a q b = refl
 
 -- ---- strings
 
-pub string_again : (name : List ℕ) (major : ℕ) (budget : Option ℕ) (xs v : List ℕ) (n c : ℕ) → major < 8 → ReadsString major xs v n c → CostFits c budget → string_at name major budget xs ≡ Ok (v, drop n xs)
-string_again name major budget xs v n c m (inl h) fits = counted_again name major budget xs v n m h.0
-string_again name major budget xs v n c m (inr h) fits = open_again name major budget xs v n c m h fits
+pub string_again : (name : List ℕ) (major : ℕ) (budget : Option ℕ) (xs v : List ℕ) (n c : ℕ)
+    → major < 8 → ReadsString major xs v n c → CostFits c budget
+    → string_at name major budget xs ≡ Ok (v, drop n xs)
+string_again name major budget xs v n c m (inl h) fits =
+    counted_again name major budget xs v n m h.0
+string_again name major budget xs v n c m (inr h) fits =
+    open_again name major budget xs v n c m h fits
 
-pub string_within : (major : ℕ) (xs v : List ℕ) (n c : ℕ) → major < 8 → ReadsString major xs v n c → n ≤ length xs
+pub string_within : (major : ℕ) (xs v : List ℕ) (n c : ℕ) → major < 8 → ReadsString major xs v n c
+    → n ≤ length xs
 string_within major xs v n c m (inl h) = (counted_within major xs v n m h.0).0
 string_within major xs v n c m (inr h) = open_within major xs v n c h
 
-pub string_positive : (major : ℕ) (xs v : List ℕ) (n c : ℕ) → major < 8 → ReadsString major xs v n c → 1 ≤ n
+pub string_positive : (major : ℕ) (xs v : List ℕ) (n c : ℕ) → major < 8 → ReadsString major xs v n c
+    → 1 ≤ n
 string_positive major xs v n c m (inl h) = (counted_within major xs v n m h.0).1
 string_positive major xs v n c m (inr h) = omega (arith, h.size)
 
-pub string_alone : (major : ℕ) (xs ys v : List ℕ) (n c : ℕ) → major < 8 → ReadsString major xs v n c → ReadsString major (take n xs ++ ys) v n c
+pub string_alone : (major : ℕ) (xs ys v : List ℕ) (n c : ℕ) → major < 8 → ReadsString major xs v n c
+    → ReadsString major (take n xs ++ ys) v n c
 string_alone major xs ys v n c m (inl h) = inl (counted_alone major xs ys v n m h.0, h.1)
 string_alone major xs ys v n c m (inr h) = inr (open_alone major xs ys v n c m h)
 
-same_cost : (major : ℕ) (xs v w : List ℕ) (n k c d : ℕ) → major < 8 → ReadsString major xs v n c → ReadsString major xs w k d → c ≡ d
+same_cost : (major : ℕ) (xs v w : List ℕ) (n k c d : ℕ) → major < 8 → ReadsString major xs v n c
+    → ReadsString major xs w k d → c ≡ d
 same_cost major xs v w n k c d m (inl p) (inl q) = p.1 ∙ sym q.1
-same_cost major xs v w n k c d m (inl p) (inr q) = absurd (head_not_open major xs (length v) p.0.before m p.0.head q.begins)
-same_cost major xs v w n k c d m (inr p) (inl q) = absurd (head_not_open major xs (length w) q.0.before m q.0.head p.begins)
+same_cost major xs v w n k c d m (inl p) (inr q) =
+    absurd (head_not_open major xs (length v) p.0.before m p.0.head q.begins)
+same_cost major xs v w n k c d m (inr p) (inl q) =
+    absurd (head_not_open major xs (length w) q.0.before m q.0.head p.begins)
 same_cost major xs v w n k c d m (inr p) (inr q) =
-    p.cost ∙ (cost_one p.chunks q.chunks major (drop 1 xs) p.between q.between m p.read (ap (take 1) (drop_more p.between 1 xs) ∙ p.ends) q.read (ap (take 1) (drop_more q.between 1 xs) ∙ q.ends) ∙ sym q.cost)
+    p.cost ∙ (cost_one p.chunks q.chunks major (drop 1 xs) p.between q.between m p.read
+    (ap (take 1) (drop_more p.between 1 xs) ∙ p.ends) q.read
+    (ap (take 1) (drop_more q.between 1 xs) ∙ q.ends) ∙ sym q.cost)
 
-pub string_one : (major : ℕ) (xs v w : List ℕ) (n k c d : ℕ) → major < 8 → ReadsString major xs v n c → ReadsString major xs w k d → (n ≡ k) × (c ≡ d) × (v ≡ w)
+pub string_one : (major : ℕ) (xs v w : List ℕ) (n k c d : ℕ) → major < 8
+    → ReadsString major xs v n c → ReadsString major xs w k d → (n ≡ k) × (c ≡ d) × (v ≡ w)
 string_one major xs v w n k c d m p q =
-    let same = same_value (string_at [] major None xs) (string_again [] major None xs v n c m p tt) (string_again [] major None xs w k d m q tt) in
-    (omega (arith, ap length same.1, length-drop n xs, length-drop k xs, string_within major xs v n c m p, string_within major xs w k d m q), same_cost major xs v w n k c d m p q, same.0)
+    let same = same_value (string_at [] major None xs) (string_again [] major None xs v n c m p tt)
+    (string_again [] major None xs w k d m q tt) in (
+      omega (
+        arith,
+        ap length same.1,
+        length-drop n xs,
+        length-drop k xs,
+        string_within major xs v n
+            c m p,
+        string_within major xs w k d m q,
+      ),
+      same_cost major xs v w n k c d m p q,
+      same.0,
+    )
 
 -- ---- values that have a content
 
@@ -239,7 +364,8 @@ pub three_small : 3 < 8
 three_small = omega arith
 
 module _ {V : Type 0} (major : ℕ) (small : major < 8) (content : V → List ℕ) where
-  pub as_one : (xs : List ℕ) (v w : V) (n k c d : ℕ) → ReadsAs major content xs v n c → ReadsAs major content xs w k d → (n ≡ k) × (c ≡ d) × (content v ≡ content w)
+  pub as_one : (xs : List ℕ) (v w : V) (n k c d : ℕ) → ReadsAs major content xs v n c
+      → ReadsAs major content xs w k d → (n ≡ k) × (c ≡ d) × (content v ≡ content w)
   as_one xs v w n k c d p q = string_one major xs (content v) (content w) n k c d small p q
 
   pub as_within : (xs : List ℕ) (v : V) (n c : ℕ) → ReadsAs major content xs v n c → n ≤ length xs
@@ -248,11 +374,13 @@ module _ {V : Type 0} (major : ℕ) (small : major < 8) (content : V → List �
   pub as_positive : (xs : List ℕ) (v : V) (n c : ℕ) → ReadsAs major content xs v n c → 1 ≤ n
   as_positive xs v n c p = string_positive major xs (content v) n c small p
 
-  pub as_alone : (xs ys : List ℕ) (v : V) (n c : ℕ) → ReadsAs major content xs v n c → ReadsAs major content (take n xs ++ ys) v n c
+  pub as_alone : (xs ys : List ℕ) (v : V) (n c : ℕ) → ReadsAs major content xs v n c
+      → ReadsAs major content (take n xs ++ ys) v n c
   as_alone xs ys v n c p = string_alone major xs ys (content v) n c small p
 
 module _ {V : Type 0} (content : V → List ℕ) where
-  pub text_one : (xs : List ℕ) (v w : V) (n k c d : ℕ) → ReadsTextAs content xs v n c → ReadsTextAs content xs w k d → (n ≡ k) × (c ≡ d) × (content v ≡ content w)
+  pub text_one : (xs : List ℕ) (v w : V) (n k c d : ℕ) → ReadsTextAs content xs v n c
+      → ReadsTextAs content xs w k d → (n ≡ k) × (c ≡ d) × (content v ≡ content w)
   text_one xs v w n k c d p q = string_one 3 xs (content v) (content w) n k c d three_small p.0 q.0
 
   pub text_within : (xs : List ℕ) (v : V) (n c : ℕ) → ReadsTextAs content xs v n c → n ≤ length xs
@@ -261,5 +389,6 @@ module _ {V : Type 0} (content : V → List ℕ) where
   pub text_positive : (xs : List ℕ) (v : V) (n c : ℕ) → ReadsTextAs content xs v n c → 1 ≤ n
   text_positive xs v n c p = string_positive 3 xs (content v) n c three_small p.0
 
-  pub text_alone : (xs ys : List ℕ) (v : V) (n c : ℕ) → ReadsTextAs content xs v n c → ReadsTextAs content (take n xs ++ ys) v n c
+  pub text_alone : (xs ys : List ℕ) (v : V) (n c : ℕ) → ReadsTextAs content xs v n c
+      → ReadsTextAs content (take n xs ++ ys) v n c
   text_alone xs ys v n c p = (string_alone 3 xs ys (content v) n c three_small p.0, p.1)

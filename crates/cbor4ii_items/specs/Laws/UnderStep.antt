@@ -1,5 +1,7 @@
 -- A call under one step.
-use Rattle.std.proofs.Common.{◌≡◌, ℕ, ◌+◌, ◌-◌, ◌<◌, ◌^◌, Option, None, Some, Result, Bool, true, false, IsTrue, refl, sym, ap, ◌∙◌, subst, arith, ltb, lt-ltb, inl, inr}
+use Rattle.std.proofs.Common.{◌≡◌, ℕ, ◌+◌, ◌-◌, ◌<◌, ◌^◌, Option, None, Some, Result, Bool, true}
+use Rattle.std.proofs.Common.{false, IsTrue, refl, sym, ap, ◌∙◌, subst, arith, ltb, lt-ltb, inl}
+use Rattle.std.proofs.Common.{inr}
 use Rattle.std.specs.Prelude.{MatchBool}
 use Rattle.cbor4ii_rw.specs.View.{View}
 use Rattle.cbor4ii_rw.specs.Reader.{Failed, KeepsAllButBudget, StepsIn, step_back, counts}
@@ -10,7 +12,8 @@ use Rattle.cbor4ii_items.specs.Decoding.{IsExact}
 
 again : (left : ℕ) → 0 < left → left < 2 ^ 64 → step_back (Some (left - 1)) ≡ Some left
 again left some most =
-    let t : ltb (left - 1) (2 ^ 64 - 1) ≡ true = lt-ltb (left - 1) (2 ^ 64 - 1) (omega (arith, some, most)) in
+    let t : ltb (left - 1) (2 ^ 64 - 1) ≡ true =
+    lt-ltb (left - 1) (2 ^ 64 - 1) (omega (arith, some, most)) in
     let e : left - 1 + 1 ≡ left = omega (arith, some) in
     rw (t, e) refl
 
@@ -26,41 +29,66 @@ step_unbound (Some left) new h e = cc
 module _ {a b c d : View} (i : KeepsAllButBudget a b) (o : KeepsAllButBudget c d) where
   kept_around : (c.budget ≡ b.budget → d.budget ≡ a.budget) → Kept b c → Kept a d
   kept_around same k = record {
-    rest = λ xs told. let u = k.rest xs (i.told ∙ told) in (u.0, record { left = o.told ∙ u.1.left; within = u.1.within; bytes = u.1.bytes });
-    counted = λ xs told ys left n gone. o.taken ∙ (k.counted xs (i.told ∙ told) ys (sym o.told ∙ left) n gone ∙ ap (counts n) i.taken);
+    rest = λ xs told. let u = k.rest xs (i.told ∙ told) in
+        (u.0, record { left = o.told ∙ u.1.left; within = u.1.within; bytes = u.1.bytes });
+    counted = λ xs told ys left n gone. o.taken
+        ∙ (k.counted xs (i.told ∙ told) ys (sym o.told ∙ left) n gone ∙ ap (counts n) i.taken);
     bound = omega (arith, k.bound, i.bound, o.bound);
     budget = same k.budget;
     failures = o.failures ∙ (k.failures ∙ i.failures);
-    lends_whole = λ h. subst IsTrue (sym o.lends_whole) (k.lends_whole (subst IsTrue (sym i.lends_whole) h));
-    remembers = λ h. subst IsTrue (sym o.remembers) (k.remembers (subst IsTrue (sym i.remembers) h));
+    lends_whole =
+        λ h. subst IsTrue (sym o.lends_whole) (k.lends_whole (subst IsTrue (sym i.lends_whole) h));
+    remembers =
+        λ h. subst IsTrue (sym o.remembers) (k.remembers (subst IsTrue (sym i.remembers) h));
   }
 
   broke_around : (c.budget ≡ b.budget → d.budget ≡ a.budget) → Broke b c → Broke a d
   broke_around same k = record {
     rest = λ xs told ys left. k.rest xs (i.told ∙ told) ys (sym o.told ∙ left);
-    left = λ is xs told. let u = k.left (subst IsTrue (sym i.remembers) is) xs (i.told ∙ told) in (u.0, record { left = o.told ∙ u.1.left; within = u.1.within; bytes = u.1.bytes });
+    left = λ is xs told. let u = k.left (subst IsTrue (sym i.remembers) is) xs (i.told ∙ told) in
+        (u.0, record { left = o.told ∙ u.1.left; within = u.1.within; bytes = u.1.bytes });
     bound = omega (arith, k.bound, i.bound, o.bound);
     budget = same k.budget;
-    failures = subst (λ n. Failed n d.failures) i.failures (subst (λ n. Failed b.failures n) (sym o.failures) k.failures);
-    lends_whole = λ h. subst IsTrue (sym o.lends_whole) (k.lends_whole (subst IsTrue (sym i.lends_whole) h));
-    remembers = λ h. subst IsTrue (sym o.remembers) (k.remembers (subst IsTrue (sym i.remembers) h));
+    failures =
+        subst (λ n. Failed n d.failures) i.failures
+        (subst (λ n. Failed b.failures n) (sym o.failures) k.failures);
+    lends_whole =
+        λ h. subst IsTrue (sym o.lends_whole) (k.lends_whole (subst IsTrue (sym i.lends_whole) h));
+    remembers =
+        λ h. subst IsTrue (sym o.remembers) (k.remembers (subst IsTrue (sym i.remembers) h));
   }
 
-  pub moves_around : (t : Bool) → (c.budget ≡ b.budget → d.budget ≡ a.budget) → MatchBool t (Broke b c) (Kept b c) → MatchBool t (Broke a d) (Kept a d)
+  pub moves_around : (t : Bool) → (c.budget ≡ b.budget → d.budget ≡ a.budget)
+      → MatchBool t (Broke b c) (Kept b c) → MatchBool t (Broke a d) (Kept a d)
   moves_around true same k = broke_around same k
   moves_around false same k = kept_around same k
 
-  pub runs_around : {V E : Type 0} {p : Reading V} {r : Result V (DecodeError E)} → (a.budget ≡ None → b.budget ≡ None) → (c.budget ≡ b.budget → d.budget ≡ a.budget) → Runs p b c r → Runs p a d r
+  pub runs_around : {V E : Type 0} {p : Reading V} {r : Result V (DecodeError E)}
+      → (a.budget ≡ None → b.budget ≡ None) → (c.budget ≡ b.budget → d.budget ≡ a.budget)
+      → Runs p b c r → Runs p a d r
   runs_around {p = p} {r = r} inner same f = record {
-    moves = record { by = moves_around (is_failure r) same f.moves.by; depth = λ none. f.moves.depth (inner none) };
-    answers = λ xs told. subst (λ new. AnswersAs (p xs) new r) (sym o.told) (f.answers xs (i.told ∙ told));
+    moves = record {
+      by = moves_around (is_failure r) same f.moves.by;
+      depth = λ none. f.moves.depth (inner none);
+    };
+    answers = λ xs told. subst (λ new. AnswersAs (p xs) new r) (sym o.told)
+        (f.answers xs (i.told ∙ told));
   }
 
 -- acceptance stays exact
-pub exact_step : (owned : Bool) (a b : View) → KeepsAllButBudget a b → IsExact owned a → IsExact owned b
+pub exact_step : (owned : Bool) (a b : View) → KeepsAllButBudget a b → IsExact owned a
+    → IsExact owned b
 exact_step owned a b k (inl e) = inl e
-exact_step owned a b k (inr e) = inr (subst IsTrue (sym k.lends_whole) e.0, λ xs told. e.1 xs (sym k.told ∙ told))
+exact_step owned a b k (inr e) =
+    inr (subst IsTrue (sym k.lends_whole) e.0, λ xs told. e.1 xs (sym k.told ∙ told))
 
 -- a call whose step was taken and given back
-pub moves_stepped : {V E : Type 0} (r : Result V (DecodeError E)) (a b c d : View) → StepsIn a.budget b.budget true → KeepsAllButBudget a b → Moves b c r → d.budget ≡ step_back c.budget → KeepsAllButBudget c d → Moves a d r
-moves_stepped r a b c d takes inward m gives outward = record { by = moves_around inward outward (is_failure r) (λ same. gives ∙ (ap step_back same ∙ step_again a.budget b.budget takes)) m.by; depth = λ none. m.depth (step_unbound a.budget b.budget takes none) }
+pub moves_stepped : {V E : Type 0} (r : Result V (DecodeError E)) (a b c d : View)
+    → StepsIn a.budget b.budget true → KeepsAllButBudget a b → Moves b c r
+    → d.budget ≡ step_back c.budget → KeepsAllButBudget c d → Moves a d r
+moves_stepped r a b c d takes inward m gives outward =
+    record {
+      by = moves_around inward outward (is_failure r)
+          (λ same. gives ∙ (ap step_back same ∙ step_again a.budget b.budget takes)) m.by;
+      depth = λ none. m.depth (step_unbound a.budget b.budget takes none);
+    }

@@ -1,5 +1,6 @@
 -- One push after another.
-use Rattle.std.proofs.Common.{◌≡◌, ℕ, ◌≤◌, List, ◌++◌, length, take, Option, Some, Result, Ok, Err, Bool, ap, ◌∙◌, append_assoc, subst, length-append, arith}
+use Rattle.std.proofs.Common.{◌≡◌, ℕ, ◌≤◌, List, ◌++◌, length, take, Option, Some, Result, Ok, Err}
+use Rattle.std.proofs.Common.{Bool, ap, ◌∙◌, append_assoc, subst, length-append, arith}
 use Rattle.std.specs.Io.{StartsWith}
 use Rattle.std.proofs.Math.Seq.{take-append-add}
 use Rattle.std.proofs.lemmas.List.{take-append-le, length-take}
@@ -7,19 +8,26 @@ use Rattle.cbor4ii_rw.specs.Reader.{Failed}
 use Rattle.cbor4ii_rw.specs.Writer.{Output, Appends}
 use Rattle.cbor4ii_items.specs.Writing.{AppendsFront, Writes}
 
-pub appends_then : (xs ys : List ℕ) (a m b : Option (List ℕ)) → Appends xs a m → Appends ys m b → Appends (xs ++ ys) a b
-appends_then xs ys a m b p q held told = q (held ++ xs) (p held told) ∙ ap Some (append_assoc held xs ys)
+pub appends_then : (xs ys : List ℕ) (a m b : Option (List ℕ)) → Appends xs a m → Appends ys m b
+    → Appends (xs ++ ys) a b
+appends_then xs ys a m b p q held told =
+    q (held ++ xs) (p held told) ∙ ap Some (append_assoc held xs ys)
 
 pub starts_then : (xs ys front : List ℕ) → StartsWith ys front → StartsWith (xs ++ ys) (xs ++ front)
-starts_then xs ys front h = ap (λ n. take n (xs ++ ys)) (length-append xs front) ∙ (take-append-add xs ys (length front) ∙ ap (λ z. xs ++ z) h)
+starts_then xs ys front h =
+    ap (λ n. take n (xs ++ ys)) (length-append xs front)
+    ∙ (take-append-add xs ys (length front) ∙ ap (λ z. xs ++ z) h)
 
-front_then : (xs ys : List ℕ) (a m b : Option (List ℕ)) → Appends xs a m → AppendsFront ys m b → AppendsFront (xs ++ ys) a b
+front_then : (xs ys : List ℕ) (a m b : Option (List ℕ)) → Appends xs a m → AppendsFront ys m b
+    → AppendsFront (xs ++ ys) a b
 front_then xs ys a m b p q held told =
     let f = q (held ++ xs) (p held told) in
     (xs ++ f.0, starts_then xs ys f.0 f.1, f.2 ∙ ap Some (append_assoc held xs f.0))
 
 -- the bytes of one call, and then those of another
-pub writes_then : {T U E : Type 0} {whole : Bool} {xs ys : List ℕ} {a m b : Output} {t : T} (r : Result U E) → Writes {E = E} whole xs a m (Ok t) → Writes whole ys m b r → Writes whole (xs ++ ys) a b r
+pub writes_then : {T U E : Type 0} {whole : Bool} {xs ys : List ℕ} {a m b : Output} {t : T}
+    (r : Result U E) → Writes {E = E} whole xs a m (Ok t) → Writes whole ys m b r
+    → Writes whole (xs ++ ys) a b r
 writes_then {xs = xs} {ys = ys} {a = a} {m = m} {b = b} (Ok u) p q = record {
   appends = appends_then xs ys a.written m.written b.written p.appends q.appends;
   counts = q.counts ∙ p.counts;
@@ -35,17 +43,21 @@ writes_then {xs = xs} {ys = ys} {a = a} {m = m} {b = b} (Err e) p q = record {
 
 pub starts_more : (xs ys front : List ℕ) → StartsWith xs front → StartsWith (xs ++ ys) front
 starts_more xs ys front h =
-    let long : length front ≤ length xs = omega (arith, ap length h, length-take (length front) xs) in
+    let long : length front ≤ length xs =
+    omega (arith, ap length h, length-take (length front) xs) in
     take-append-le (length front) xs ys long ∙ h
 
 -- where the first call fails, there is no other
-pub writes_err : {T U E : Type 0} {whole : Bool} {xs : List ℕ} (ys : List ℕ) {a b : Output} {e : E} → Writes {T = T} whole xs a b (Err e) → Writes {T = U} whole (xs ++ ys) a b (Err e)
+pub writes_err : {T U E : Type 0} {whole : Bool} {xs : List ℕ} (ys : List ℕ) {a b : Output} {e : E}
+    → Writes {T = T} whole xs a b (Err e) → Writes {T = U} whole (xs ++ ys) a b (Err e)
 writes_err {xs = xs} ys p = record {
   appends = tt;
   counts = tt;
   failed = p.failed;
-  front = λ whole held told. let f = p.front whole held told in (f.0, starts_more xs ys f.0 f.1, f.2);
+  front =
+      λ whole held told. let f = p.front whole held told in (f.0, starts_more xs ys f.0 f.1, f.2);
 }
 
-pub writes_as : {T E : Type 0} {whole : Bool} {xs ys : List ℕ} {a b : Output} (r : Result T E) → xs ≡ ys → Writes whole xs a b r → Writes whole ys a b r
+pub writes_as : {T E : Type 0} {whole : Bool} {xs ys : List ℕ} {a b : Output} (r : Result T E)
+    → xs ≡ ys → Writes whole xs a b r → Writes whole ys a b r
 writes_as {whole = whole} {a = a} {b = b} r e p = subst (λ z. Writes whole z a b r) e p

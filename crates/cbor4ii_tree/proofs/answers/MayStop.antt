@@ -1,13 +1,24 @@
--- No other refusal stops than an end of the input, which leaves nothing, a want of steps, or one that nothing mends.
-use Rattle.std.proofs.Common.{◌≡◌, ℕ, zero, suc, ◌*◌, inl, inr, List, [], ◌∷◌, length, Option, Some, None, sym, subst}
+-- No other refusal stops than an end of the input, which leaves nothing, a want of steps, or one
+-- that nothing mends.
+use Rattle.std.proofs.Common.{◌≡◌, ℕ, zero, suc, ◌*◌, inl, inr, List, [], ◌∷◌, length, Option, Some}
+use Rattle.std.proofs.Common.{None, sym, subst}
 use Rattle.cbor4ii_items.specs.Head.{Width}
-use Rattle.cbor4ii_items.specs.Initial.{Kind, byte_string, text_string, kind_major, Initial, starts_int, bad_int, starts_string, starts_chunks, bad_string, starts_array, starts_open_array, bad_array, starts_map, starts_open_map, bad_map, starts_tag, bad_tag, starts_simple, starts_bits, other_simple, initial}
+use Rattle.cbor4ii_items.specs.Initial.{Kind, byte_string, text_string, kind_major, Initial}
+use Rattle.cbor4ii_items.specs.Initial.{starts_int, bad_int, starts_string, starts_chunks}
+use Rattle.cbor4ii_items.specs.Initial.{bad_string, starts_array, starts_open_array, bad_array}
+use Rattle.cbor4ii_items.specs.Initial.{starts_map, starts_open_map, bad_map, starts_tag, bad_tag}
+use Rattle.cbor4ii_items.specs.Initial.{starts_simple, starts_bits, other_simple, initial}
 use Rattle.cbor4ii_tree.specs.Tree.{Tree}
 use Rattle.cbor4ii_tree.specs.Cost.{Budget, step_in}
-use Rattle.cbor4ii_tree.specs.Refusal.{Refusal, Len, eof, mismatch, MayStop, IsEof, ignored_any, tag_name, array_name, map_name, kind_name}
-use Rattle.cbor4ii_tree.specs.Stops.{Stopping, Is, Missing, AtHead, StopsInCount, Stepped, NoBreak, OpenItems, OpenPairs}
-use Rattle.cbor4ii_tree.specs.StopsSkipping.{Skippable, SkippingStopsBy, SkippingStopsFrom, SkippingStopsWithin, StopsSkipping}
-use Rattle.cbor4ii_tree.specs.StopsReading.{Readable, CutString, ChunkStopsBy, ChunkStops, ReadingStopsBy, ReadingStopsFrom, ReadingStopsWithin, StopsReading}
+use Rattle.cbor4ii_tree.specs.Refusal.{Refusal, Len, eof, mismatch, MayStop, IsEof, ignored_any}
+use Rattle.cbor4ii_tree.specs.Refusal.{tag_name, array_name, map_name, kind_name}
+use Rattle.cbor4ii_tree.specs.Stops.{Stopping, Is, Missing, AtHead, StopsInCount, StopsAtStep}
+use Rattle.cbor4ii_tree.specs.Stops.{NoBreak, OpenItems, OpenPairs}
+use Rattle.cbor4ii_tree.specs.StopsSkipping.{Skippable, SkippingStopsBy, SkippingStopsFrom}
+use Rattle.cbor4ii_tree.specs.StopsSkipping.{SkippingStopsWithin, StopsSkipping}
+use Rattle.cbor4ii_tree.specs.StopsReading.{Readable, CutString, ChunkStopsBy, ChunkStops}
+use Rattle.cbor4ii_tree.specs.StopsReading.{ReadingStopsBy, ReadingStopsFrom, ReadingStopsWithin}
+use Rattle.cbor4ii_tree.specs.StopsReading.{StopsReading}
 
 -- the refusal is one of these, and an end of the input leaves nothing
 abbrev Says : Refusal → List ℕ → Type 0
@@ -16,17 +27,22 @@ Says e rest = MayStop e × (IsEof e → rest ≡ [])
 abbrev Known : Stopping → Type 0
 Known stops = (bs : List ℕ) (e : Refusal) (rest : List ℕ) → stops bs e rest → Says e rest
 
-ended : (name : List ℕ) (expect : Len) (e : Refusal) (rest : List ℕ) → e ≡ eof name expect → rest ≡ [] → Says e rest
+ended : (name : List ℕ) (expect : Len) (e : Refusal) (rest : List ℕ) → e ≡ eof name expect
+    → rest ≡ [] → Says e rest
 ended name expect e rest is left = (subst MayStop (sym is) (inl tt), λ h. left)
 
 other : (f e : Refusal) (rest : List ℕ) → e ≡ f → MayStop f → ¬ (IsEof f) → Says e rest
 other f e rest is h n = (subst MayStop (sym is) h, λ q. absurd (n (subst IsEof is q)))
 
-at_head_known : (name : List ℕ) (major : ℕ) (w : Width) (b : ℕ) (then : ℕ → Stopping) → ((n : ℕ) → Known (then n)) → Known (AtHead name major w b then)
+at_head_known : (name : List ℕ) (major : ℕ) (w : Width) (b : ℕ) (then : ℕ → Stopping)
+    → ((n : ℕ) → Known (then n)) → Known (AtHead name major w b then)
 at_head_known name major w b then k bs e rest (inl x) = ended _ _ e rest x.1.0 x.1.1
 at_head_known name major w b then k bs e rest (inr x) = k x.argument x.after e rest x.stopped
 
-stepped_known : (name : List ℕ) (step : Option Budget) (here : List ℕ) (s : Budget → Refusal → List ℕ → Type 0) (e : Refusal) (rest : List ℕ) → ((inner : Budget) → s inner e rest → Says e rest) → Stepped name step here s e rest → Says e rest
+stepped_known : (name : List ℕ) (step : Option Budget) (here : List ℕ)
+    (s : Budget → Refusal → List ℕ → Type 0) (e : Refusal) (rest : List ℕ)
+    → ((inner : Budget) → s inner e rest → Says e rest) → StopsAtStep name step here s e rest
+    → Says e rest
 stepped_known name None here s e rest k x = other _ e rest x.0 (inr (inl tt)) (λ h. h)
 stepped_known name (Some inner) here s e rest k x = k inner x
 
@@ -38,21 +54,32 @@ items_known : (W : Tree → Type 0) (s : Stopping) → Known s → Known (OpenIt
 items_known W s k bs e rest x = no_break_known s k x.after e rest x.stopped
 
 pairs_known : (W : Tree → Type 0) (s : Stopping) → Known s → Known (OpenPairs W s)
-pairs_known W s k bs e rest x = elim x.stopped [ inl y ↦ no_break_known s k x.after e rest y | inr y ↦ k y.after e rest y.stopped ]
+pairs_known W s k bs e rest x = elim x.stopped [
+  | inl y ↦ no_break_known s k x.after e rest y
+  | inr y ↦ k y.after e rest y.stopped
+]
 
-by_known : (b : Budget) (s : Stopping) → Known s → (i : Initial) (a : ℕ) → Known (SkippingStopsBy s b i a)
+by_known : (b : Budget) (s : Stopping) → Known s → (i : Initial) (a : ℕ)
+    → Known (SkippingStopsBy s b i a)
 by_known b s k (starts_int sg v) a bs e rest x = ended _ _ e rest x.1.0 x.1.1
 by_known b s k (bad_int sg) a bs e rest x = other _ e rest x.0 (inr (inr tt)) (λ h. h)
-by_known b s k (starts_string kd v) a bs e rest x = at_head_known ignored_any (kind_major kd) v a (Missing ignored_any) (λ n bs' e' rest' y. ended _ _ e' rest' y.1.0 y.1.1) bs e rest x
+by_known b s k (starts_string kd v) a bs e rest x =
+    at_head_known ignored_any (kind_major kd) v a (Missing ignored_any)
+    (λ n bs' e' rest' y. ended _ _ e' rest' y.1.0 y.1.1) bs e rest x
 by_known b s k (starts_chunks kd) a bs e rest x = items_known _ s k bs e rest x
 by_known b s k (bad_string kd) a bs e rest x = other _ e rest x.0 (inr (inr tt)) (λ h. h)
-by_known b s k (starts_array v) a bs e rest x = at_head_known ignored_any 4 v a (StopsInCount (Skippable b) s) (λ n bs' e' rest' y. k y.after e' rest' y.stopped) bs e rest x
+by_known b s k (starts_array v) a bs e rest x =
+    at_head_known ignored_any 4 v a (StopsInCount (Skippable b) s)
+    (λ n bs' e' rest' y. k y.after e' rest' y.stopped) bs e rest x
 by_known b s k starts_open_array a bs e rest x = items_known _ s k bs e rest x
 by_known b s k bad_array a bs e rest x = other _ e rest x.0 (inr (inr tt)) (λ h. h)
-by_known b s k (starts_map v) a bs e rest x = at_head_known ignored_any 5 v a (λ n. StopsInCount (Skippable b) s (2 * n)) (λ n bs' e' rest' y. k y.after e' rest' y.stopped) bs e rest x
+by_known b s k (starts_map v) a bs e rest x =
+    at_head_known ignored_any 5 v a (λ n. StopsInCount (Skippable b) s (2 * n))
+    (λ n bs' e' rest' y. k y.after e' rest' y.stopped) bs e rest x
 by_known b s k starts_open_map a bs e rest x = pairs_known _ s k bs e rest x
 by_known b s k bad_map a bs e rest x = other _ e rest x.0 (inr (inr tt)) (λ h. h)
-by_known b s k (starts_tag v) a bs e rest x = at_head_known tag_name 6 v a (λ n. s) (λ n. k) bs e rest x
+by_known b s k (starts_tag v) a bs e rest x =
+    at_head_known tag_name 6 v a (λ n. s) (λ n. k) bs e rest x
 by_known b s k bad_tag a bs e rest x = other _ e rest x.0 (inr (inr tt)) (λ h. h)
 by_known b s k (starts_simple v) a bs e rest x = absurd x
 by_known b s k (starts_bits p) a bs e rest x = ended _ _ e rest x.1.0 x.1.1
@@ -65,64 +92,111 @@ from_known b s k (a ∷ bs) e rest x = by_known b s k (initial a) a bs e rest x
 skipping_known : (n : ℕ) (b : Budget) → Known (SkippingStopsWithin n b)
 skipping_known zero b bs e rest x = absurd x
 skipping_known (suc n) b bs e rest x =
-    stepped_known _ (step_in b) bs (λ inner. SkippingStopsFrom (SkippingStopsWithin n inner) inner bs) e rest (λ inner y. from_known inner (SkippingStopsWithin n inner) (skipping_known n inner) bs e rest y) x
+    stepped_known _ (step_in b) bs
+    (λ inner. SkippingStopsFrom (SkippingStopsWithin n inner) inner bs) e rest (λ inner y.
+    from_known inner (SkippingStopsWithin n inner) (skipping_known n inner) bs e rest y) x
 
-pub skipping_may_stop : (input : List ℕ) (budget : Budget) (e : Refusal) (rest : List ℕ) → StopsSkipping input budget e rest → MayStop e
-skipping_may_stop input budget e rest s = (skipping_known (suc (length input)) budget input e rest s).0
+pub skipping_may_stop : (input : List ℕ) (budget : Budget) (e : Refusal) (rest : List ℕ)
+    → StopsSkipping input budget e rest → MayStop e
+skipping_may_stop input budget e rest s =
+    (skipping_known (suc (length input)) budget input e rest s).0
 
 -- of any numbers
-pub skipping_leaves_nothing : (input : List ℕ) (budget : Budget) (e : Refusal) (rest : List ℕ) → IsEof e → StopsSkipping input budget e rest → rest ≡ []
-skipping_leaves_nothing input budget e rest h s = (skipping_known (suc (length input)) budget input e rest s).1 h
+pub skipping_leaves_nothing : (input : List ℕ) (budget : Budget) (e : Refusal) (rest : List ℕ)
+    → IsEof e → StopsSkipping input budget e rest → rest ≡ []
+skipping_leaves_nothing input budget e rest h s =
+    (skipping_known (suc (length input)) budget input e rest s).1 h
 
 cut_known : (k : Kind) (w : Width) (b : ℕ) → Known (CutString k w b)
-cut_known k w b bs e rest x = at_head_known (kind_name k) (kind_major k) w b (Missing (kind_name k)) (λ n bs' e' rest' y. ended _ _ e' rest' y.1.0 y.1.1) bs e rest x
+cut_known k w b bs e rest x =
+    at_head_known (kind_name k) (kind_major k) w b (Missing (kind_name k))
+    (λ n bs' e' rest' y. ended _ _ e' rest' y.1.0 y.1.1) bs e rest x
 
 chunk_by_known : (k : Kind) (i : Initial) (a : ℕ) → Known (ChunkStopsBy k i a)
-chunk_by_known byte_string (starts_string byte_string v) a bs e rest x = cut_known byte_string v a bs e rest x
-chunk_by_known text_string (starts_string text_string v) a bs e rest x = cut_known text_string v a bs e rest x
-chunk_by_known byte_string (starts_string text_string v) a bs e rest x = other _ e rest x.0 (inr (inr tt)) (λ h. h)
-chunk_by_known text_string (starts_string byte_string v) a bs e rest x = other _ e rest x.0 (inr (inr tt)) (λ h. h)
-chunk_by_known byte_string (starts_chunks byte_string) a bs e rest x = other _ e rest x.0 (inr (inr tt)) (λ h. h)
-chunk_by_known text_string (starts_chunks text_string) a bs e rest x = other _ e rest x.0 (inr (inr tt)) (λ h. h)
-chunk_by_known byte_string (starts_chunks text_string) a bs e rest x = other _ e rest x.0 (inr (inr tt)) (λ h. h)
-chunk_by_known text_string (starts_chunks byte_string) a bs e rest x = other _ e rest x.0 (inr (inr tt)) (λ h. h)
+chunk_by_known byte_string (starts_string byte_string v) a bs e rest x =
+    cut_known byte_string v a bs e rest x
+chunk_by_known text_string (starts_string text_string v) a bs e rest x =
+    cut_known text_string v a bs e rest x
+chunk_by_known byte_string (starts_string text_string v) a bs e rest x =
+    other _ e rest x.0 (inr (inr tt)) (λ h. h)
+chunk_by_known text_string (starts_string byte_string v) a bs e rest x =
+    other _ e rest x.0 (inr (inr tt)) (λ h. h)
+chunk_by_known byte_string (starts_chunks byte_string) a bs e rest x =
+    other _ e rest x.0 (inr (inr tt)) (λ h. h)
+chunk_by_known text_string (starts_chunks text_string) a bs e rest x =
+    other _ e rest x.0 (inr (inr tt)) (λ h. h)
+chunk_by_known byte_string (starts_chunks text_string) a bs e rest x =
+    other _ e rest x.0 (inr (inr tt)) (λ h. h)
+chunk_by_known text_string (starts_chunks byte_string) a bs e rest x =
+    other _ e rest x.0 (inr (inr tt)) (λ h. h)
 chunk_by_known byte_string _ a bs e rest x = other _ e rest x.0 (inr (inr tt)) (λ h. h)
 chunk_by_known text_string _ a bs e rest x = other _ e rest x.0 (inr (inr tt)) (λ h. h)
 
 chunk_known : (k : Kind) (b : Budget) → Known (ChunkStops k b)
 chunk_known k b [] e rest x = ended _ _ e rest x.0 x.1
-chunk_known k b (a ∷ bs) e rest x = stepped_known _ (step_in b) (a ∷ bs) (λ inner. ChunkStopsBy k (initial a) a bs) e rest (λ inner y. chunk_by_known k (initial a) a bs e rest y) x
+chunk_known k b (a ∷ bs) e rest x =
+    stepped_known _ (step_in b) (a ∷ bs) (λ inner. ChunkStopsBy k (initial a) a bs) e rest
+    (λ inner y. chunk_by_known k (initial a) a bs e rest y) x
 
-reading_by_known : (b : Budget) (s : Budget → Stopping) → ((c : Budget) → Known (s c)) → (i : Initial) (a : ℕ) → Known (ReadingStopsBy s b i a)
+reading_by_known : (b : Budget) (s : Budget → Stopping) → ((c : Budget) → Known (s c))
+    → (i : Initial) (a : ℕ) → Known (ReadingStopsBy s b i a)
 reading_by_known b s k (starts_int sg v) a bs e rest x = ended _ _ e rest x.1.0 x.1.1
 reading_by_known b s k (bad_int sg) a bs e rest x = other _ e rest x.0 (inr (inr tt)) (λ h. h)
 reading_by_known b s k (starts_string kd v) a bs e rest (inl x) = cut_known kd v a bs e rest x
-reading_by_known b s k (starts_string kd v) a bs e rest (inr x) = other _ e rest x.stopped.refusal (inr (inr tt)) (λ h. h)
-reading_by_known b s k (starts_chunks kd) a bs e rest (inl x) = items_known _ (ChunkStops kd b) (chunk_known kd b) bs e rest x
-reading_by_known b s k (starts_chunks kd) a bs e rest (inr x) = other _ e rest x.refusal (inr (inr tt)) (λ h. h)
+reading_by_known b s k (starts_string kd v) a bs e rest (inr x) =
+    other _ e rest x.stopped.refusal (inr (inr tt)) (λ h. h)
+reading_by_known b s k (starts_chunks kd) a bs e rest (inl x) =
+    items_known _ (ChunkStops kd b) (chunk_known kd b) bs e rest x
+reading_by_known b s k (starts_chunks kd) a bs e rest (inr x) =
+    other _ e rest x.refusal (inr (inr tt)) (λ h. h)
 reading_by_known b s k (bad_string kd) a bs e rest x = other _ e rest x.0 (inr (inr tt)) (λ h. h)
-reading_by_known b s k (starts_array v) a bs e rest x = stepped_known _ (step_in b) (a ∷ bs) (λ inner. AtHead array_name 4 v a (StopsInCount (Readable inner) (s inner)) bs) e rest (λ inner z. at_head_known array_name 4 v a (StopsInCount (Readable inner) (s inner)) (λ n bs' e' rest' y. k inner y.after e' rest' y.stopped) bs e rest z) x
-reading_by_known b s k starts_open_array a bs e rest x = stepped_known _ (step_in b) (a ∷ bs) (λ inner. OpenItems (Readable inner) (s inner) bs) e rest (λ inner z. items_known (Readable inner) (s inner) (k inner) bs e rest z) x
-reading_by_known b s k bad_array a bs e rest x = stepped_known _ (step_in b) (a ∷ bs) (λ inner. Is (mismatch array_name a) bs) e rest (λ inner z. other _ e rest z.0 (inr (inr tt)) (λ h. h)) x
-reading_by_known b s k (starts_map v) a bs e rest x = stepped_known _ (step_in b) (a ∷ bs) (λ inner. AtHead map_name 5 v a (λ n. StopsInCount (Readable inner) (s inner) (2 * n)) bs) e rest (λ inner z. at_head_known map_name 5 v a (λ n. StopsInCount (Readable inner) (s inner) (2 * n)) (λ n bs' e' rest' y. k inner y.after e' rest' y.stopped) bs e rest z) x
-reading_by_known b s k starts_open_map a bs e rest x = stepped_known _ (step_in b) (a ∷ bs) (λ inner. OpenPairs (Readable inner) (s inner) bs) e rest (λ inner z. pairs_known (Readable inner) (s inner) (k inner) bs e rest z) x
-reading_by_known b s k bad_map a bs e rest x = stepped_known _ (step_in b) (a ∷ bs) (λ inner. Is (mismatch map_name a) bs) e rest (λ inner z. other _ e rest z.0 (inr (inr tt)) (λ h. h)) x
-reading_by_known b s k (starts_tag v) a bs e rest x = at_head_known tag_name 6 v a (λ n. s b) (λ n. k b) bs e rest x
+reading_by_known b s k (starts_array v) a bs e rest x =
+    stepped_known _ (step_in b) (a ∷ bs)
+    (λ inner. AtHead array_name 4 v a (StopsInCount (Readable inner) (s inner)) bs) e rest
+    (λ inner z. at_head_known array_name 4 v a (StopsInCount (Readable inner) (s inner))
+    (λ n bs' e' rest' y. k inner y.after e' rest' y.stopped) bs e rest z) x
+reading_by_known b s k starts_open_array a bs e rest x =
+    stepped_known _ (step_in b) (a ∷ bs) (λ inner. OpenItems (Readable inner) (s inner) bs) e rest
+    (λ inner z. items_known (Readable inner) (s inner) (k inner) bs e rest z) x
+reading_by_known b s k bad_array a bs e rest x =
+    stepped_known _ (step_in b) (a ∷ bs) (λ inner. Is (mismatch array_name a) bs) e rest
+    (λ inner z. other _ e rest z.0 (inr (inr tt)) (λ h. h)) x
+reading_by_known b s k (starts_map v) a bs e rest x =
+    stepped_known _ (step_in b) (a ∷ bs)
+    (λ inner. AtHead map_name 5 v a (λ n. StopsInCount (Readable inner) (s inner) (2 * n)) bs) e
+    rest (λ inner z. at_head_known map_name 5 v a (λ n. StopsInCount (Readable inner) (s inner)
+    (2 * n)) (λ n bs' e' rest' y. k inner y.after e' rest' y.stopped) bs e rest z) x
+reading_by_known b s k starts_open_map a bs e rest x =
+    stepped_known _ (step_in b) (a ∷ bs) (λ inner. OpenPairs (Readable inner) (s inner) bs) e rest
+    (λ inner z. pairs_known (Readable inner) (s inner) (k inner) bs e rest z) x
+reading_by_known b s k bad_map a bs e rest x =
+    stepped_known _ (step_in b) (a ∷ bs) (λ inner. Is (mismatch map_name a) bs) e rest
+    (λ inner z. other _ e rest z.0 (inr (inr tt)) (λ h. h)) x
+reading_by_known b s k (starts_tag v) a bs e rest x =
+    at_head_known tag_name 6 v a (λ n. s b) (λ n. k b) bs e rest x
 reading_by_known b s k bad_tag a bs e rest x = other _ e rest x.0 (inr (inr tt)) (λ h. h)
 reading_by_known b s k (starts_simple v) a bs e rest x = absurd x
 reading_by_known b s k (starts_bits p) a bs e rest x = ended _ _ e rest x.1.0 x.1.1
 reading_by_known b s k other_simple a bs e rest x = other _ e rest x.0 (inr (inr tt)) (λ h. h)
 
-reading_from_known : (b : Budget) (s : Budget → Stopping) → ((c : Budget) → Known (s c)) → Known (ReadingStopsFrom s b)
+reading_from_known : (b : Budget) (s : Budget → Stopping) → ((c : Budget) → Known (s c))
+    → Known (ReadingStopsFrom s b)
 reading_from_known b s k [] e rest x = ended _ _ e rest x.0 x.1
 reading_from_known b s k (a ∷ bs) e rest x = reading_by_known b s k (initial a) a bs e rest x
 
 reading_known : (n : ℕ) (b : Budget) → Known (ReadingStopsWithin n b)
 reading_known zero b bs e rest x = absurd x
-reading_known (suc n) b bs e rest x = stepped_known _ (step_in b) bs (λ inner. ReadingStopsFrom (ReadingStopsWithin n) inner bs) e rest (λ inner y. reading_from_known inner (ReadingStopsWithin n) (reading_known n) bs e rest y) x
+reading_known (suc n) b bs e rest x =
+    stepped_known _ (step_in b) bs (λ inner. ReadingStopsFrom (ReadingStopsWithin n) inner bs) e
+    rest
+    (λ inner y. reading_from_known inner (ReadingStopsWithin n) (reading_known n) bs e rest y) x
 
-pub reading_may_stop : (input : List ℕ) (budget : Budget) (e : Refusal) (rest : List ℕ) → StopsReading input budget e rest → MayStop e
-reading_may_stop input budget e rest s = (reading_known (suc (length input)) budget input e rest s).0
+pub reading_may_stop : (input : List ℕ) (budget : Budget) (e : Refusal) (rest : List ℕ)
+    → StopsReading input budget e rest → MayStop e
+reading_may_stop input budget e rest s =
+    (reading_known (suc (length input)) budget input e rest s).0
 
-pub reading_leaves_nothing : (input : List ℕ) (budget : Budget) (e : Refusal) (rest : List ℕ) → IsEof e → StopsReading input budget e rest → rest ≡ []
-reading_leaves_nothing input budget e rest h s = (reading_known (suc (length input)) budget input e rest s).1 h
+pub reading_leaves_nothing : (input : List ℕ) (budget : Budget) (e : Refusal) (rest : List ℕ)
+    → IsEof e → StopsReading input budget e rest → rest ≡ []
+reading_leaves_nothing input budget e rest h s =
+    (reading_known (suc (length input)) budget input e rest s).1 h

@@ -1,5 +1,8 @@
 -- The calls of reading a value that is spelled in one way, one behind another.
-use Rattle.std.proofs.Common.{◌≡◌, ◌≢◌, ℕ, suc, ◌+◌, ◌*◌, ◌/◌, ◌<◌, ◌≤◌, inl, inr, List, [], ◌∷◌, ◌++◌, length, drop, Option, Some, None, Result, Ok, Err, Bool, cond, true, false, refl, sym, ap, ap₂, ◌∙◌, subst, arith, append_assoc, take-append-drop, Vec, Global, String, negsuc, ◌-ℤ◌}
+use Rattle.std.proofs.Common.{◌≡◌, ◌≢◌, ℕ, suc, ◌+◌, ◌*◌, ◌/◌, ◌<◌, ◌≤◌, inl, inr, List, [], ◌∷◌}
+use Rattle.std.proofs.Common.{◌++◌, length, drop, Option, Some, None, Result, Ok, Err, Bool, cond}
+use Rattle.std.proofs.Common.{true, false, refl, sym, ap, ap₂, ◌∙◌, subst, arith, append_assoc}
+use Rattle.std.proofs.Common.{take-append-drop, Vec, Global, String, negsuc, ◌-ℤ◌}
 use Rattle.std.specs.Prelude.{IsUtf8, string_bytes}
 use Rattle.std.proofs.Math.Seq.{drop-append_seam}
 use mir.Val.{to_z, of_z}
@@ -7,7 +10,8 @@ use mir.Syntax.{w128}
 use Rattle.cbor4ii_rw.specs.View.{View}
 use Rattle.cbor4ii_rw.specs.Reader.{Advances, KeepsAllButBudget, StepsIn, step_back}
 use Rattle.cbor4ii_rw.specs.declared.error.DecodeError.{DecodeError}
-use Rattle.cbor4ii_items.specs.Refusal.{Refusal, refusal_of, is_read, is_depth_overflow, not_canonical}
+use Rattle.cbor4ii_items.specs.Refusal.{Refusal, refusal_of, is_read, is_depth_overflow}
+use Rattle.cbor4ii_items.specs.Refusal.{not_canonical}
 use Rattle.cbor4ii_items.specs.Head.{HeadFits, head, shortest}
 use Rattle.cbor4ii_items.specs.Heads.{ReadsHead}
 use Rattle.cbor4ii_items.specs.Laws.Heads.{after_head, length-bytes_high_first}
@@ -17,241 +21,447 @@ use Rattle.cbor4ii_items.specs.Moves.{Moves}
 use Rattle.cbor4ii_items.specs.Decoding.{CostFits, Sound, Stops}
 use Rattle.cbor4ii_items.specs.Reading.{Runs, peek_at}
 use Rattle.cbor4ii_items.specs.Shortest.{canonical_name, ReadsShortest, ReadsShortestString}
-use Rattle.cbor4ii_items.specs.Initial.{unsigned, negative, byte_string, text_string, Simple, simple_undefined, simple_byte, Precision, precision_byte, precision_bytes, initial}
+use Rattle.cbor4ii_items.specs.Initial.{unsigned, negative, byte_string, text_string, Simple}
+use Rattle.cbor4ii_items.specs.Initial.{simple_undefined, simple_byte, Precision, precision_byte}
+use Rattle.cbor4ii_items.specs.Initial.{precision_bytes, initial}
 use Rattle.cbor4ii_items.specs.Laws.Answering.{fits_zero}
 use Rattle.cbor4ii_tree.specs.declared.value.Value.{Value, Integer, Float, Bytes, Text, Array, Map}
 use Rattle.cbor4ii_tree.specs.declared.value.FloatBits.{FloatBits}
-use Rattle.cbor4ii_tree.specs.Tree.{no_trees, no_pairs, int, string, array, map_of, tagged, simple, bits, count, bytes, bytes_all, bytes_pairs}
+use Rattle.cbor4ii_tree.specs.Tree.{no_trees, no_pairs, int, string, array, map_of, tagged, simple}
+use Rattle.cbor4ii_tree.specs.Tree.{bits, count, bytes, bytes_all, bytes_pairs}
 use Rattle.cbor4ii_tree.specs.Item.{integer, float, sequence, mapping, tag}
 use Rattle.cbor4ii_tree.specs.Cost.{Budget, cost, greatest_cost, greatest_pair_cost}
 use Rattle.cbor4ii_tree.specs.Laws.Initials.{initial_simple, initial_bits}
-use Rattle.cbor4ii_tree.specs.Refusal.{value_name, kind_name, precision_name, unsupported, require_utf8}
-use Rattle.cbor4ii_tree.specs.Stops.{Stopping, Stepped}
+use Rattle.cbor4ii_tree.specs.Refusal.{value_name, kind_name, precision_name, unsupported}
+use Rattle.cbor4ii_tree.specs.Refusal.{require_utf8}
+use Rattle.cbor4ii_tree.specs.Stops.{Stopping, StopsAtStep}
 use Rattle.cbor4ii_tree.specs.View.{view, items_view, members_view}
 use Rattle.cbor4ii_tree.specs.Does.{Accepting, Does}
 use Rattle.cbor4ii_tree.specs.Valuing.{ReadsStepped, SimpleOf}
-use Rattle.cbor4ii_tree.specs.StopsStrictly.{Exactly, ShortestAt, AtShortest, StrictTextStops, StrictOtherStops, StrictStopsBy}
-use Rattle.cbor4ii_tree.specs.Strictly.{raise, ReadsExactly, StopsExactly, ReadsBehind, StopsBehind, StopsBehindFirst, StopsStepped, StringAt, ExactItems, StopsExactItems, ExactMember, StopsExactMember, ExactMembers, AcceptsCount}
-use Rattle.cbor4ii_tree.proofs.skip_calls.Doing.{Reached, reached_start, reached_by, reached_then, reached_as, does_ok, does_err, does_after, does_refuse, does_stops, does_stepped, reached_peek, reached_first, reached_sound, steps_in}
+use Rattle.cbor4ii_tree.specs.StopsStrictly.{Exactly, ShortestAt, AtShortest, StrictTextStops}
+use Rattle.cbor4ii_tree.specs.StopsStrictly.{StrictOtherStops, StrictStopsBy}
+use Rattle.cbor4ii_tree.specs.Strictly.{raise, ReadsExactly, StopsExactly, ReadsExactlyUnder}
+use Rattle.cbor4ii_tree.specs.Strictly.{StopsExactlyUnder, StopsBehindFirst, StopsExactlyStepped}
+use Rattle.cbor4ii_tree.specs.Strictly.{StringAt, ExactItems, StopsExactItems, ExactMember}
+use Rattle.cbor4ii_tree.specs.Strictly.{StopsExactMember, ExactMembers, AcceptsCount}
+use Rattle.cbor4ii_tree.proofs.skip_calls.Doing.{Reached, reached_start, reached_by, reached_then}
+use Rattle.cbor4ii_tree.proofs.skip_calls.Doing.{reached_as, does_ok, does_err, does_after}
+use Rattle.cbor4ii_tree.proofs.skip_calls.Doing.{does_refuse, does_stops, does_stepped}
+use Rattle.cbor4ii_tree.proofs.skip_calls.Doing.{reached_peek, reached_first, reached_sound}
+use Rattle.cbor4ii_tree.proofs.skip_calls.Doing.{steps_in}
 use Rattle.cbor4ii_tree.proofs.spellings.Canonical.{shortest_fits}
 use Rattle.cbor4ii_tree.proofs.spellings.Costs.{below_from_HeadFits}
 use Rattle.cbor4ii_tree.proofs.answers.Nesting.{strict_by_parts}
-use Rattle.cbor4ii_tree.proofs.canonical.Exactly.{raised, fits_raise, all_exactly, all_pairs_exactly, precision_major}
+use Rattle.cbor4ii_tree.proofs.canonical.Exactly.{raised, fits_raise, all_exactly}
+use Rattle.cbor4ii_tree.proofs.canonical.Exactly.{all_pairs_exactly, precision_major}
 use Rattle.cbor4ii_tree.proofs.values.Ends.{nothing_there}
 use Rattle.cbor4ii_tree.proofs.values.Calls.{Peeked, small_z, values-push}
 use Rattle.cbor4ii_tree.proofs.values.Heads.{negative_z, float_cut, other_byte}
 use Rattle.cbor4ii_tree.proofs.values.Sequences.{values-push_pair}
 use Rattle.cbor4ii_tree.proofs.values.Strings.{view-Bytes, view-Text}
 use Rattle.cbor4ii_tree.proofs.values.Views.{view-Map}
-use Rattle.cbor4ii_tree.proofs.parts.Pushed.{push, count-push, each-push, bytes-push, push_pair, count-push_pair, each-push_pair, bytes-push_pair, flat, count-flat, each-flat, bytes-flat}
+use Rattle.cbor4ii_tree.proofs.parts.Pushed.{push, count-push, each-push, bytes-push, push_pair}
+use Rattle.cbor4ii_tree.proofs.parts.Pushed.{count-push_pair, each-push_pair, bytes-push_pair, flat}
+use Rattle.cbor4ii_tree.proofs.parts.Pushed.{count-flat, each-flat, bytes-flat}
 use Rattle.cbor4ii_tree.proofs.values.Encoding.{view-Array, view-Integer}
 
 -- ---- a shortest head
 
-shortest_of : (major n : ℕ) (xs : List ℕ) (k : ℕ) → (h : ReadsHead major 8 xs n k) → h.wide ≡ shortest n → ShortestAt major n xs (drop k xs)
-shortest_of major n xs k h s =
-    (below_from_HeadFits h.wide n h.fits, h.is ∙ ap (λ u. head major n u ++ h.rest) s ∙ ap (λ z. head major n (shortest n) ++ z) (sym (after_head major 8 xs n k h)))
+shortest_of : (major n : ℕ) (xs : List ℕ) (k : ℕ) → (h : ReadsHead major 8 xs n k)
+    → h.wide ≡ shortest n → ShortestAt major n xs (drop k xs)
+shortest_of major n xs k h s = (
+  below_from_HeadFits h.wide n h.fits,
+  h.is ∙ ap (λ u. head major n u ++ h.rest) s
+      ∙ ap (λ z. head major n (shortest n) ++ z) (sym (after_head major 8 xs n k h)),
+)
 
-pub reached_shortest : {E : Type 0} (major n : ℕ) {a m : View} → Moves {E = E} a m (Ok n) → Sound (ReadsShortest major) a m n → Reached (ShortestAt major n) a m
-reached_shortest major n moves s = reached_sound (ReadsShortest major) (ShortestAt major n) (λ xs k c _ r. shortest_of major n xs k r.0 r.1) moves s
+pub reached_shortest : {E : Type 0} (major n : ℕ) {a m : View} → Moves {E = E} a m (Ok n)
+    → Sound (ReadsShortest major) a m n → Reached (ShortestAt major n) a m
+reached_shortest major n moves s =
+    reached_sound (ReadsShortest major) (ShortestAt major n)
+    (λ xs k c _ r. shortest_of major n xs k r.0 r.1) moves s
 
 -- ---- strings
 
-string_of : (major : ℕ) (content xs : List ℕ) (n c : ℕ) → ReadsShortestString major xs content n c → StringAt major content xs (drop n xs)
+string_of : (major : ℕ) (content xs : List ℕ) (n c : ℕ) → ReadsShortestString major xs content n c
+    → StringAt major content xs (drop n xs)
 string_of major content xs n c r =
     let s = r.0 in
     let k = length content in
     let h = shortest_of major k xs s.before s.head r.1 in
-    let left : drop s.before xs ≡ content ++ drop n xs = sym (take-append-drop k (drop s.before xs)) ∙ ap₂ ◌++◌ s.stands (drop_more k s.before xs ∙ ap (λ j. drop j xs) (sym s.size)) in
+    let left : drop s.before xs ≡ content ++ drop n xs = sym (take-append-drop k (drop s.before xs))
+    ∙ ap₂ ◌++◌ s.stands (drop_more k s.before xs ∙ ap (λ j. drop j xs) (sym s.size)) in
     (h.0, h.1 ∙ ap (λ z. head major k (shortest k) ++ z) left)
 
-pub reached_string : {E : Type 0} (major : ℕ) (v : Vec ℕ Global) {a m : View} → Moves {E = E} a m (Ok v) → Sound (ReadsShortestString major) a m v.items → Reached (StringAt major v.items) a m
+pub reached_string : {E : Type 0} (major : ℕ) (v : Vec ℕ Global) {a m : View}
+    → Moves {E = E} a m (Ok v) → Sound (ReadsShortestString major) a m v.items
+    → Reached (StringAt major v.items) a m
 reached_string {E = E} major v {a = a} {m = m} moves s = record {
   kept = moves.by;
-  at = λ xs told. let t = s.at xs told in (drop t.count xs, t.left, string_of major v.items xs t.count t.cost t.read);
+  at = λ xs told. let t = s.at xs told in
+      (drop t.count xs, t.left, string_of major v.items xs t.count t.cost t.read);
 }
 
 -- a whole text that is no UTF-8
-pub no_text : (budget : Budget) (content xs ys : List ℕ) → ¬ (IsUtf8 content) → StringAt 3 content xs ys → StrictTextStops budget xs (require_utf8 (kind_name text_string)) ys
+pub no_text : (budget : Budget) (content xs ys : List ℕ) → ¬ (IsUtf8 content)
+    → StringAt 3 content xs ys → StrictTextStops budget xs (require_utf8 (kind_name text_string)) ys
 no_text budget content xs ys invalid h =
-    inr (record { argument = length content; after = content ++ ys; is = h; stopped = record { content = content; long = refl; invalid = invalid; is = refl; refusal = refl } })
+    inr (record {
+      argument = length content;
+      after = content ++ ys;
+      is = h;
+      stopped = record {
+        content = content;
+        long = refl;
+        invalid = invalid;
+        is = refl;
+        refusal = refl;
+      };
+    })
 
 -- ---- a call that is refused
 
 -- of the crate below
-pub call_stops : {U V E : Type 0} (B : Accepting V) (S : List ℕ → Option ℕ → Refusal → List ℕ → Type 0) (T : Stopping) {e : DecodeError E} {a c : View} → ((xs : List ℕ) (z : Refusal) (rest : List ℕ) → S xs a.budget z rest → T xs z rest) → Moves {V = U} a c (Err e) → Stops S a c e
+pub call_stops : {U V E : Type 0} (B : Accepting V)
+    (S : List ℕ → Option ℕ → Refusal → List ℕ → Type 0) (T : Stopping) {e : DecodeError E}
+    {a c : View}
+    → ((xs : List ℕ) (z : Refusal) (rest : List ℕ) → S xs a.budget z rest → T xs z rest)
+    → Moves {V = U} a c (Err e) → Stops S a c e
     → Does {V = V} B T a c (Err e)
 call_stops {U = U} B S T {a = a} f moves s =
-    does_err (λ xs ys. xs ≡ ys) (λ xs (v : U) ys. Unit {0}) B (λ xs. S xs a.budget) T (λ xs ys z rest e h. subst (λ x. T x z rest) (sym e) (f ys z rest h)) (reached_start (λ xs ys. xs ≡ ys) a (λ xs. refl)) (does_stops (λ xs (v : U) ys. Unit {0}) S moves s)
+    does_err (λ xs ys. xs ≡ ys) (λ xs (v : U) ys. Unit {0}) B (λ xs. S xs a.budget) T
+    (λ xs ys z rest e h. subst (λ x. T x z rest) (sym e) (f ys z rest h))
+    (reached_start (λ xs ys. xs ≡ ys) a (λ xs. refl))
+    (does_stops (λ xs (v : U) ys. Unit {0}) S moves s)
 
 -- what stops by the major type of the first byte
-pub at_major : (k : ℕ) (budget : Budget) (b : ℕ) (bs : List ℕ) (e : Refusal) (rest : List ℕ) → b / 32 ≡ k → StrictStopsBy StopsExactly budget k b bs e rest → StopsBehind budget (b ∷ bs) e rest
-at_major k budget b bs e rest is h = subst (λ j. StrictStopsBy StopsExactly budget j b bs e rest) (sym is) h
+pub at_major : (k : ℕ) (budget : Budget) (b : ℕ) (bs : List ℕ) (e : Refusal) (rest : List ℕ)
+    → b / 32 ≡ k → StrictStopsBy StopsExactly budget k b bs e rest
+    → StopsExactlyUnder budget (b ∷ bs) e rest
+at_major k budget b bs e rest is h =
+    subst (λ j. StrictStopsBy StopsExactly budget j b bs e rest) (sym is) h
 
 -- ---- behind a byte that was looked at
 
-module _ (b : ℕ) {E : Type 0} {a m : View} (first : Runs {E = E} (peek_at value_name 1) a m (Ok b)) where
+module _ (b : ℕ) {E : Type 0} {a m : View}
+    (first : Runs {E = E} (peek_at value_name 1) a m (Ok b)) where
   pub looked_at : {c : View} (P : List ℕ → List ℕ → Type 0) → Reached P m c → Reached P a c
-  looked_at P p = reached_then (Peeked b) P P (λ xs ys zs q h. subst (λ x. P x zs) q.2 h) (reached_peek value_name 1 b first) p
+  looked_at P p =
+      reached_then (Peeked b) P P (λ xs ys zs q h. subst (λ x. P x zs) q.2 h)
+      (reached_peek value_name 1 b first) p
 
-  pub exact_ok : {c : View} (P : List ℕ → List ℕ → Type 0) (w : Value) → ((xs ys : List ℕ) → P xs ys → ReadsBehind a.budget xs w ys) → Reached P m c → Does {E = E} (ReadsBehind a.budget) (StopsBehind a.budget) a c (Ok w)
-  exact_ok P w f p = does_ok (ReadsBehind a.budget) (StopsBehind a.budget) (reached_as P (λ xs ys. ReadsBehind a.budget xs w ys) f (looked_at P p))
+  pub exact_ok : {c : View} (P : List ℕ → List ℕ → Type 0) (w : Value)
+      → ((xs ys : List ℕ) → P xs ys → ReadsExactlyUnder a.budget xs w ys) → Reached P m c
+      → Does {E = E} (ReadsExactlyUnder a.budget) (StopsExactlyUnder a.budget) a c (Ok w)
+  exact_ok P w f p =
+      does_ok (ReadsExactlyUnder a.budget) (StopsExactlyUnder a.budget)
+      (reached_as P (λ xs ys. ReadsExactlyUnder a.budget xs w ys) f (looked_at P p))
 
-  pub exact_err : {V : Type 0} (k : ℕ) (A : Accepting V) (S : Budget → Stopping) {e : DecodeError E} {c : View} → b / 32 ≡ k → ((bs : List ℕ) (z : Refusal) (rest : List ℕ) → S a.budget (b ∷ bs) z rest → StrictStopsBy StopsExactly a.budget k b bs z rest) → Does {V = V} A (S m.budget) m c (Err e)
-      → Does {V = Value} (ReadsBehind a.budget) (StopsBehind a.budget) a c (Err e)
-  exact_err k A S is f d = does_err (Peeked b) A (ReadsBehind a.budget) (S m.budget) (StopsBehind a.budget)
-      (λ xs ys z rest p h. subst (λ x. StopsBehind a.budget x z rest) (sym p.1)
-      (at_major k a.budget b p.0 z rest is (f p.0 z rest (subst (λ o. S o (b ∷ p.0) z rest) first.moves.by.budget (subst (λ x. S m.budget x z rest) (p.2 ∙ p.1) h)))))
+  pub exact_err : {V : Type 0} (k : ℕ) (A : Accepting V) (S : Budget → Stopping) {e : DecodeError E}
+      {c : View} → b / 32 ≡ k → ((bs : List ℕ) (z : Refusal) (rest : List ℕ)
+      → S a.budget (b ∷ bs) z rest → StrictStopsBy StopsExactly a.budget k b bs z rest)
+      → Does {V = V} A (S m.budget) m c (Err e)
+      → Does {V = Value} (ReadsExactlyUnder a.budget) (StopsExactlyUnder a.budget) a c (Err e)
+  exact_err k A S is f d =
+      does_err (Peeked b) A (ReadsExactlyUnder a.budget) (S m.budget) (StopsExactlyUnder a.budget)
+      (λ xs ys z rest p h. subst (λ x. StopsExactlyUnder a.budget x z rest) (sym p.1)
+      (at_major k a.budget b p.0 z rest is (f p.0 z rest (subst (λ o. S o (b ∷ p.0) z rest)
+      first.moves.by.budget (subst (λ x. S m.budget x z rest) (p.2 ∙ p.1) h)))))
       (reached_peek value_name 1 b first) d
 
   -- what a first byte tells
-  pub exact_first : {r : Result Value (DecodeError E)} {c : View} → Does (ReadsBehind m.budget) (StopsBehindFirst b m.budget) m c r → Does (ReadsBehind a.budget) (StopsBehind a.budget) a c r
-  exact_first d = does_after (Peeked b) (ReadsBehind m.budget) (ReadsBehind a.budget) (StopsBehindFirst b m.budget) (StopsBehind a.budget)
-      (λ xs ys zs v p h. subst (λ o. ReadsBehind o xs v zs) first.moves.by.budget (subst (λ x. ReadsBehind m.budget x v zs) p.2 h))
-      (λ xs ys z rest p h. subst (λ o. StopsBehind o xs z rest) first.moves.by.budget (subst (λ x. StopsBehind m.budget x z rest) p.2 (h p.0 (p.2 ∙ p.1))))
+  pub exact_first : {r : Result Value (DecodeError E)} {c : View}
+      → Does (ReadsExactlyUnder m.budget) (StopsBehindFirst b m.budget) m c r
+      → Does (ReadsExactlyUnder a.budget) (StopsExactlyUnder a.budget) a c r
+  exact_first d =
+      does_after (Peeked b) (ReadsExactlyUnder m.budget) (ReadsExactlyUnder a.budget)
+      (StopsBehindFirst b m.budget) (StopsExactlyUnder a.budget)
+      (λ xs ys zs v p h. subst (λ o. ReadsExactlyUnder o xs v zs) first.moves.by.budget
+      (subst (λ x. ReadsExactlyUnder m.budget x v zs) p.2 h))
+      (λ xs ys z rest p h. subst (λ o. StopsExactlyUnder o xs z rest) first.moves.by.budget
+      (subst (λ x. StopsExactlyUnder m.budget x z rest) p.2 (h p.0 (p.2 ∙ p.1))))
       (reached_peek value_name 1 b first) d
 
   -- behind a tag's head
-  tag_at : (n : ℕ) {c : View} → Reached (ShortestAt 6 n) m c → Reached (λ xs ys. ((bs : List ℕ) × (xs ≡ b ∷ bs)) × ShortestAt 6 n xs ys) a c
-  tag_at n p = reached_then (Peeked b) (ShortestAt 6 n) (λ xs ys. ((bs : List ℕ) × (xs ≡ b ∷ bs)) × ShortestAt 6 n xs ys) (λ xs ys zs q h. ((q.0, q.1), subst (λ x. ShortestAt 6 n x zs) q.2 h)) (reached_peek value_name 1 b first) p
+  tag_at : (n : ℕ) {c : View} → Reached (ShortestAt 6 n) m c
+      → Reached (λ xs ys. ((bs : List ℕ) × (xs ≡ b ∷ bs)) × ShortestAt 6 n xs ys) a c
+  tag_at n p =
+      reached_then (Peeked b) (ShortestAt 6 n)
+      (λ xs ys. ((bs : List ℕ) × (xs ≡ b ∷ bs)) × ShortestAt 6 n xs ys)
+      (λ xs ys zs q h. ((q.0, q.1), subst (λ x. ShortestAt 6 n x zs) q.2 h))
+      (reached_peek value_name 1 b first) p
 
-  pub exact_tag : (n : ℕ) {v : Value} {l c : View} (w : Value) → view w ≡ tag n (view v) → Reached (ShortestAt 6 n) m l → Does {E = E} (ReadsExactly l.budget) (StopsExactly l.budget) l c (Ok v) → Does {E = E} (ReadsBehind a.budget) (StopsBehind a.budget) a c (Ok w)
+  pub exact_tag : (n : ℕ) {v : Value} {l c : View} (w : Value) → view w ≡ tag n (view v)
+      → Reached (ShortestAt 6 n) m l
+      → Does {E = E} (ReadsExactly l.budget) (StopsExactly l.budget) l c (Ok v)
+      → Does {E = E} (ReadsExactlyUnder a.budget) (StopsExactlyUnder a.budget) a c (Ok w)
   exact_tag n {v = v} {l = l} w is p d =
       let q = tag_at n p in
-      does_ok (ReadsBehind a.budget) (StopsBehind a.budget)
-      (reached_then (λ xs ys. ((bs : List ℕ) × (xs ≡ b ∷ bs)) × ShortestAt 6 n xs ys) (λ xs ys. ReadsExactly l.budget xs v ys) (λ xs ys. ReadsBehind a.budget xs w ys)
+      does_ok (ReadsExactlyUnder a.budget) (StopsExactlyUnder a.budget)
+      (reached_then (λ xs ys. ((bs : List ℕ) × (xs ≡ b ∷ bs)) × ShortestAt 6 n xs ys)
+      (λ xs ys. ReadsExactly l.budget xs v ys) (λ xs ys. ReadsExactlyUnder a.budget xs w ys)
       (λ xs ys zs h s0.
       let s = subst (λ o. ReadsExactly o ys v zs) q.kept.budget s0 in
-      let wide = shortest n in
-      (tagged n wide s.0, ((((shortest_fits n h.1.0, s.1.0.0.0), s.1.0.0.1), (refl, s.1.0.1)), fits_raise (cost s.0) a.budget s.1.1), ap (tag n) s.2 ∙ sym is, h.1.1 ∙ ap (λ r. head 6 n wide ++ r) s.3 ∙ sym (append_assoc (head 6 n wide) (bytes s.0) zs))) q (reached_by d))
+      let wide = shortest n in (
+        tagged n wide s.0,
+        (
+          (((shortest_fits n h.1.0, s.1.0.0.0), s.1.0.0.1), (refl, s.1.0.1)),
+          fits_raise (cost s.0) a.budget s.1.1,
+        ),
+        ap (tag n) s.2 ∙ sym is,
+        h.1.1 ∙ ap (λ r. head 6 n wide ++ r) s.3
+            ∙ sym (append_assoc (head 6 n wide) (bytes s.0) zs),
+      )) q (reached_by d))
 
-  pub exact_tag_err : (n : ℕ) {l c : View} {e : DecodeError E} → b / 32 ≡ 6 → Reached (ShortestAt 6 n) m l → Does {V = Value} (ReadsExactly l.budget) (StopsExactly l.budget) l c (Err e) → Does {V = Value} (ReadsBehind a.budget) (StopsBehind a.budget) a c (Err e)
+  pub exact_tag_err : (n : ℕ) {l c : View} {e : DecodeError E} → b / 32 ≡ 6
+      → Reached (ShortestAt 6 n) m l
+      → Does {V = Value} (ReadsExactly l.budget) (StopsExactly l.budget) l c (Err e)
+      → Does {V = Value} (ReadsExactlyUnder a.budget) (StopsExactlyUnder a.budget) a c (Err e)
   exact_tag_err n {l = l} is p d =
       let q = tag_at n p in
-      does_err (λ xs ys. ((bs : List ℕ) × (xs ≡ b ∷ bs)) × ShortestAt 6 n xs ys) (ReadsExactly l.budget) (ReadsBehind a.budget) (StopsExactly l.budget) (StopsBehind a.budget)
+      does_err (λ xs ys. ((bs : List ℕ) × (xs ≡ b ∷ bs)) × ShortestAt 6 n xs ys)
+      (ReadsExactly l.budget) (ReadsExactlyUnder a.budget) (StopsExactly l.budget)
+      (StopsExactlyUnder a.budget)
       (λ xs ys z rest h s.
-      subst (λ x. StopsBehind a.budget x z rest) (sym h.0.1) (at_major 6 a.budget b h.0.0 z rest is
-      (inr (record { argument = n; after = ys; is = subst (λ x. ShortestAt 6 n x ys) h.0.1 h.1; stopped = subst (λ o. StopsExactly o ys z rest) q.kept.budget s })))) q d
+      subst (λ x. StopsExactlyUnder a.budget x z rest) (sym h.0.1)
+      (at_major 6 a.budget b h.0.0 z rest is
+      (inr (record {
+        argument = n;
+        after = ys;
+        is = subst (λ x. ShortestAt 6 n x ys) h.0.1 h.1;
+        stopped = subst (λ o. StopsExactly o ys z rest) q.kept.budget s;
+      })))) q d
 
 -- ---- what a first byte tells
 
-pub leaf_exact : {E : Type 0} (b : ℕ) (P : List ℕ → List ℕ → Type 0) (w : Value) {a c : View} → ((xs ys : List ℕ) → P xs ys → ReadsBehind a.budget xs w ys) → Reached P a c → Does {E = E} (ReadsBehind a.budget) (StopsBehindFirst b a.budget) a c (Ok w)
-leaf_exact b P w {a = a} f p = does_ok (ReadsBehind a.budget) (StopsBehindFirst b a.budget) (reached_as P (λ xs ys. ReadsBehind a.budget xs w ys) f p)
+pub leaf_exact : {E : Type 0} (b : ℕ) (P : List ℕ → List ℕ → Type 0) (w : Value) {a c : View}
+    → ((xs ys : List ℕ) → P xs ys → ReadsExactlyUnder a.budget xs w ys) → Reached P a c
+    → Does {E = E} (ReadsExactlyUnder a.budget) (StopsBehindFirst b a.budget) a c (Ok w)
+leaf_exact b P w {a = a} f p =
+    does_ok (ReadsExactlyUnder a.budget) (StopsBehindFirst b a.budget)
+    (reached_as P (λ xs ys. ReadsExactlyUnder a.budget xs w ys) f p)
 
-pub leaf_err : {V E : Type 0} (b k : ℕ) (A : Accepting V) (S : Stopping) {e : DecodeError E} {a c : View} → b / 32 ≡ k → ((bs : List ℕ) (z : Refusal) (rest : List ℕ) → S (b ∷ bs) z rest → StrictStopsBy StopsExactly a.budget k b bs z rest) → Does {V = V} A S a c (Err e)
-    → Does {V = Value} (ReadsBehind a.budget) (StopsBehindFirst b a.budget) a c (Err e)
+pub leaf_err : {V E : Type 0} (b k : ℕ) (A : Accepting V) (S : Stopping) {e : DecodeError E}
+    {a c : View} → b / 32 ≡ k → ((bs : List ℕ) (z : Refusal) (rest : List ℕ) → S (b ∷ bs) z rest
+    → StrictStopsBy StopsExactly a.budget k b bs z rest) → Does {V = V} A S a c (Err e)
+    → Does {V = Value} (ReadsExactlyUnder a.budget) (StopsBehindFirst b a.budget) a c (Err e)
 leaf_err b k A S {a = a} is f d =
-    does_err (λ xs ys. ys ≡ xs) A (ReadsBehind a.budget) S (StopsBehindFirst b a.budget)
-    (λ xs ys z rest p h bs i. subst (λ x. StopsBehind a.budget x z rest) (sym i) (at_major k a.budget b bs z rest is (f bs z rest (subst (λ x. S x z rest) (p ∙ i) h))))
+    does_err (λ xs ys. ys ≡ xs) A (ReadsExactlyUnder a.budget) S (StopsBehindFirst b a.budget)
+    (λ xs ys z rest p h bs i. subst (λ x. StopsExactlyUnder a.budget x z rest) (sym i)
+    (at_major k a.budget b bs z rest is (f bs z rest (subst (λ x. S x z rest) (p ∙ i) h))))
     (reached_start (λ xs ys. ys ≡ xs) a (λ xs. refl)) d
 
 -- a head or a string of the crate below
-pub leaf_stops : {U E : Type 0} (b k : ℕ) (S : List ℕ → Option ℕ → Refusal → List ℕ → Type 0) {e : DecodeError E} {a c : View} → b / 32 ≡ k → ((bs : List ℕ) (z : Refusal) (rest : List ℕ) → S (b ∷ bs) a.budget z rest → StrictStopsBy StopsExactly a.budget k b bs z rest)
-    → Moves {V = U} a c (Err e) → Stops S a c e → Does {V = Value} (ReadsBehind a.budget) (StopsBehindFirst b a.budget) a c (Err e)
-leaf_stops {U = U} b k S {a = a} is f moves s = leaf_err b k (λ xs (v : U) ys. Unit {0}) (λ xs. S xs a.budget) is f (does_stops (λ xs (v : U) ys. Unit {0}) S moves s)
+pub leaf_stops : {U E : Type 0} (b k : ℕ) (S : List ℕ → Option ℕ → Refusal → List ℕ → Type 0)
+    {e : DecodeError E} {a c : View} → b / 32 ≡ k → ((bs : List ℕ) (z : Refusal) (rest : List ℕ)
+    → S (b ∷ bs) a.budget z rest → StrictStopsBy StopsExactly a.budget k b bs z rest)
+    → Moves {V = U} a c (Err e) → Stops S a c e
+    → Does {V = Value} (ReadsExactlyUnder a.budget) (StopsBehindFirst b a.budget) a c (Err e)
+leaf_stops {U = U} b k S {a = a} is f moves s =
+    leaf_err b k (λ xs (v : U) ys. Unit {0})
+    (λ xs. S xs a.budget) is f (does_stops (λ xs (v : U) ys. Unit {0}) S moves s)
 
 -- ---- values that are a head, a string, or a simple value
 
-pub unsigned_exact : (inner : Budget) (n : ℕ) (xs ys : List ℕ) → ShortestAt 0 n xs ys → ReadsBehind inner xs (Integer (to_z w128 n)) ys
-unsigned_exact inner n xs ys h = let small = h.0 in
-    (int unsigned n (shortest n), (((shortest_fits n h.0, tt), refl), fits_raise 0 inner (fits_zero inner)), ap integer (sym (small_z n (omega (arith, small)))) ∙ sym (view-Integer (to_z w128 n)), h.1)
+pub unsigned_exact : (inner : Budget) (n : ℕ) (xs ys : List ℕ) → ShortestAt 0 n xs ys
+    → ReadsExactlyUnder inner xs (Integer (to_z w128 n)) ys
+unsigned_exact inner n xs ys h = let small = h.0 in (
+  int unsigned n (shortest n),
+  (((shortest_fits n h.0, tt), refl), fits_raise 0 inner (fits_zero inner)),
+  ap integer
+      (sym (small_z n (omega (arith, small)))) ∙ sym (view-Integer (to_z w128 n)),
+  h.1,
+)
 
-pub negative_exact : (inner : Budget) (n : ℕ) (xs ys : List ℕ) → ShortestAt 1 n xs ys → ReadsBehind inner xs (Integer (to_z w128 (of_z w128 (negsuc 0 -ℤ to_z w128 n)))) ys
-negative_exact inner n xs ys h = let small = h.0 in
-    (int negative n (shortest n), (((shortest_fits n h.0, tt), refl), fits_raise 0 inner (fits_zero inner)), ap integer (sym (negative_z n (omega (arith, small)))) ∙ sym (view-Integer _), h.1)
+pub negative_exact : (inner : Budget) (n : ℕ) (xs ys : List ℕ) → ShortestAt 1 n xs ys
+    → ReadsExactlyUnder inner xs (Integer (to_z w128 (of_z w128 (negsuc 0 -ℤ to_z w128 n)))) ys
+negative_exact inner n xs ys h = let small = h.0 in (
+  int negative n (shortest n),
+  (((shortest_fits n h.0, tt), refl), fits_raise 0 inner (fits_zero inner)),
+  ap integer (sym (negative_z n (omega (arith, small)))) ∙ sym (view-Integer _),
+  h.1,
+)
 
-pub bytes_exact : (inner : Budget) (v : Vec ℕ Global) (xs ys : List ℕ) → StringAt 2 v.items xs ys → ReadsBehind inner xs (Bytes v) ys
+pub bytes_exact : (inner : Budget) (v : Vec ℕ Global) (xs ys : List ℕ) → StringAt 2 v.items xs ys
+    → ReadsExactlyUnder inner xs (Bytes v) ys
 bytes_exact inner v xs ys h =
-    let k = length v.items in
-    (string byte_string (shortest k) v.items, (((shortest_fits k h.0, tt), refl), fits_raise 0 inner (fits_zero inner)), sym (view-Bytes v), h.1 ∙ sym (append_assoc (head 2 k (shortest k)) v.items ys))
+    let k = length v.items in (
+      string byte_string (shortest k) v.items,
+      (((shortest_fits k h.0, tt), refl), fits_raise 0 inner (fits_zero inner)),
+      sym (view-Bytes v),
+      h.1 ∙ sym (append_assoc (head 2 k (shortest k)) v.items ys),
+    )
 
-pub text_exact : (inner : Budget) (v : String Global) (xs ys : List ℕ) → IsUtf8 (string_bytes v) → StringAt 3 (string_bytes v) xs ys → ReadsBehind inner xs (Text v) ys
+pub text_exact : (inner : Budget) (v : String Global) (xs ys : List ℕ) → IsUtf8 (string_bytes v)
+    → StringAt 3 (string_bytes v) xs ys → ReadsExactlyUnder inner xs (Text v) ys
 text_exact inner v xs ys valid h =
-    let k = length (string_bytes v) in
-    (string text_string (shortest k) (string_bytes v), (((shortest_fits k h.0, valid), refl), fits_raise 0 inner (fits_zero inner)), sym (view-Text v), h.1 ∙ sym (append_assoc (head 3 k (shortest k)) (string_bytes v) ys))
+    let k = length (string_bytes v) in (
+      string text_string (shortest k) (string_bytes v),
+      (((shortest_fits k h.0, valid), refl), fits_raise 0 inner (fits_zero inner)),
+      sym (view-Text v),
+      h.1 ∙ sym (append_assoc (head 3 k (shortest k)) (string_bytes v) ys),
+    )
 
-pub simple_exact : {E : Type 0} (b : ℕ) {a m c : View} {v : Value} → Runs {E = E} (peek_at value_name 1) a m (Ok b) → b < 256 → Advances 1 m c → b ≢ 247 → SimpleOf b (Some v) → Does {E = E} (ReadsBehind a.budget) (StopsBehind a.budget) a c (Ok v)
-simple_exact b {a = a} {v = v} first small adv other s = does_ok (ReadsBehind a.budget) (StopsBehind a.budget)
-    (reached_as (λ xs ys. xs ≡ b ∷ ys) (λ xs ys. ReadsBehind a.budget xs v ys)
-    (λ xs ys e. (simple s.0, (((tt, tt), λ u. other (s.1 ∙ ap simple_byte u)), fits_raise 0 a.budget (fits_zero a.budget)), s.2, e ∙ ap (λ j. j ∷ ys) s.1)) (reached_first value_name 1 b first small adv))
+pub simple_exact : {E : Type 0} (b : ℕ) {a m c : View} {v : Value} → Runs {E = E}
+    (peek_at value_name 1) a m (Ok b) → b < 256 → Advances 1 m c → b ≢ 247 → SimpleOf b (Some v)
+    → Does {E = E} (ReadsExactlyUnder a.budget) (StopsExactlyUnder a.budget) a c (Ok v)
+simple_exact b {a = a} {v = v} first small adv other s =
+    does_ok (ReadsExactlyUnder a.budget) (StopsExactlyUnder a.budget)
+    (reached_as (λ xs ys. xs ≡ b ∷ ys) (λ xs ys. ReadsExactlyUnder a.budget xs v ys)
+    (λ xs ys e. (
+      simple s.0,
+      (
+        ((tt, tt), λ u. other (s.1 ∙ ap simple_byte u)),
+        fits_raise 0 a.budget (fits_zero a.budget),
+      ),
+      s.2,
+      e ∙ ap (λ j. j ∷ ys) s.1,
+    ))
+    (reached_first value_name 1 b first small adv))
 
 -- undefined is not canonical
-pub undefined_stops : {E : Type 0} (b : ℕ) {e : DecodeError E} {a m c : View} → Runs {E = E} (peek_at value_name 1) a m (Ok b) → b < 256 → Advances 1 m c → b ≡ 247 → refusal_of e ≡ Some (not_canonical canonical_name) → is_read e ≡ false → is_depth_overflow e ≡ false
-    → Does {V = Value} (ReadsBehind a.budget) (StopsBehind a.budget) a c (Err e)
+pub undefined_stops : {E : Type 0} (b : ℕ) {e : DecodeError E} {a m c : View}
+    → Runs {E = E} (peek_at value_name 1) a m (Ok b) → b < 256 → Advances 1 m c → b ≡ 247
+    → refusal_of e ≡ Some (not_canonical canonical_name) → is_read e ≡ false
+    → is_depth_overflow e ≡ false
+    → Does {V = Value} (ReadsExactlyUnder a.budget) (StopsExactlyUnder a.budget) a c (Err e)
 undefined_stops b {a = a} first small adv is says read shallow =
-    does_refuse (λ xs ys. xs ≡ b ∷ ys) (ReadsBehind a.budget) (StopsBehind a.budget) (not_canonical canonical_name) says read shallow
-    (λ xs ys e. subst (λ x. StopsBehind a.budget x (not_canonical canonical_name) ys) (sym e) (at_major 7 a.budget b ys (not_canonical canonical_name) ys (omega (arith, is))
-    (subst (λ i. StrictOtherStops i b ys (not_canonical canonical_name) ys) (sym (ap initial is ∙ initial_simple simple_undefined)) (refl, refl)))) (reached_first value_name 1 b first small adv)
+    does_refuse (λ xs ys. xs ≡ b ∷ ys) (ReadsExactlyUnder a.budget) (StopsExactlyUnder a.budget)
+    (not_canonical canonical_name) says read shallow
+    (λ xs ys e. subst (λ x. StopsExactlyUnder a.budget x (not_canonical canonical_name) ys) (sym e)
+    (at_major 7 a.budget b ys (not_canonical canonical_name) ys (omega (arith, is))
+    (subst (λ i. StrictOtherStops i b ys (not_canonical canonical_name) ys)
+    (sym (ap initial is ∙ initial_simple simple_undefined)) (refl, refl))))
+    (reached_first value_name 1 b first small adv)
 
 -- ---- floats
 
-pub float_exact : {E : Type 0} (p : Precision) {V : Type 0} (content : V → ℕ) {v : V} (f : FloatBits) {S : Stopping} {a c : View} → float p (content v) ≡ view (Float f) → Moves {E = E} a c (Ok v) → Sound (λ xs v. ReadsFloat (precision_byte p) (precision_bytes p) xs (content v)) a c v
-    → Does {E = E} (ReadsBehind a.budget) S a c (Ok (Float f))
-float_exact p content {v = v} f {S = S} {a = a} is moves s = does_ok (ReadsBehind a.budget) S (reached_sound (λ xs v. ReadsFloat (precision_byte p) (precision_bytes p) xs (content v)) (λ xs ys. ReadsBehind a.budget xs (Float f) ys)
+pub float_exact : {E : Type 0} (p : Precision) {V : Type 0} (content : V → ℕ) {v : V}
+    (f : FloatBits) {S : Stopping} {a c : View} → float p (content v) ≡ view (Float f)
+    → Moves {E = E} a c (Ok v)
+    → Sound (λ xs v. ReadsFloat (precision_byte p) (precision_bytes p) xs (content v)) a c v
+    → Does {E = E} (ReadsExactlyUnder a.budget) S a c (Ok (Float f))
+float_exact p content {v = v} f {S = S} {a = a} is moves s =
+    does_ok (ReadsExactlyUnder a.budget) S
+    (reached_sound (λ xs v. ReadsFloat (precision_byte p) (precision_bytes p) xs (content v))
+    (λ xs ys. ReadsExactlyUnder a.budget xs (Float f) ys)
     (λ xs n k _ r.
     let front = float_bytes (precision_byte p) (precision_bytes p) (content v) in
-    let left : drop n xs ≡ r.rest = ap (drop n) r.is ∙ ap (λ j. drop j (front ++ r.rest)) (r.size ∙ sym (ap suc (length-bytes_high_first (precision_bytes p) (content v)))) ∙ drop-append_seam front r.rest in
-    (bits p (content v), (((r.fits, tt), tt), fits_raise 0 a.budget (fits_zero a.budget)), is, r.is ∙ ap (λ z. front ++ z) (sym left))) moves s)
+    let left : drop n xs ≡ r.rest = ap (drop n) r.is ∙ ap (λ j. drop j (front ++ r.rest))
+    (r.size ∙ sym (ap suc (length-bytes_high_first (precision_bytes p) (content v))))
+    ∙ drop-append_seam front r.rest in (
+      bits p (content v),
+      (((r.fits, tt), tt), fits_raise 0 a.budget (fits_zero a.budget)),
+      is,
+      r.is ∙ ap (λ z. front ++ z) (sym left),
+    )) moves s)
 
-pub float_stops : {U E : Type 0} (p : Precision) (b : ℕ) {e : DecodeError E} {a c : View} → b ≡ precision_byte p → Moves {V = U} a c (Err e) → Stops (StopsFloat (precision_name p) (precision_byte p) (precision_bytes p)) a c e
-    → Does {V = Value} (ReadsBehind a.budget) (StopsBehindFirst b a.budget) a c (Err e)
+pub float_stops : {U E : Type 0} (p : Precision) (b : ℕ) {e : DecodeError E} {a c : View}
+    → b ≡ precision_byte p → Moves {V = U} a c (Err e)
+    → Stops (StopsFloat (precision_name p) (precision_byte p) (precision_bytes p)) a c e
+    → Does {V = Value} (ReadsExactlyUnder a.budget) (StopsBehindFirst b a.budget) a c (Err e)
 float_stops p b {a = a} is moves s =
-    leaf_stops b 7 (StopsFloat (precision_name p) (precision_byte p) (precision_bytes p)) (ap (λ j. j / 32) is ∙ precision_major p)
-    (λ bs z rest h. subst (λ i. StrictOtherStops i b bs z rest) (sym (ap initial is ∙ initial_bits p)) (float_cut p b bs z rest a.budget is h)) moves s
+    leaf_stops b 7 (StopsFloat (precision_name p) (precision_byte p) (precision_bytes p))
+    (ap (λ j. j / 32) is ∙ precision_major p)
+    (λ bs z rest h. subst (λ i. StrictOtherStops i b bs z rest)
+    (sym (ap initial is ∙ initial_bits p)) (float_cut p b bs z rest a.budget is h)) moves s
 
-pub no_value : {E : Type 0} (b : ℕ) {e : DecodeError E} {a : View} → 224 ≤ b → b < 256 → ((s : Simple) → b ≡ simple_byte s → ⊥) → b ≢ 249 → b ≢ 250 → b ≢ 251 → refusal_of e ≡ Some (unsupported value_name b) → is_read e ≡ false → is_depth_overflow e ≡ false
-    → Does {V = Value} (ReadsBehind a.budget) (StopsBehindFirst b a.budget) a a (Err e)
+pub no_value : {E : Type 0} (b : ℕ) {e : DecodeError E} {a : View} → 224 ≤ b → b < 256
+    → ((s : Simple) → b ≡ simple_byte s → ⊥) → b ≢ 249 → b ≢ 250 → b ≢ 251
+    → refusal_of e ≡ Some (unsupported value_name b) → is_read e ≡ false
+    → is_depth_overflow e ≡ false
+    → Does {V = Value} (ReadsExactlyUnder a.budget) (StopsBehindFirst b a.budget) a a (Err e)
 no_value b {a = a} low high none f g h says read shallow =
-    does_refuse (λ xs ys. xs ≡ ys) (ReadsBehind a.budget) (StopsBehindFirst b a.budget) (unsupported value_name b) says read shallow
-    (λ xs ys e bs is. subst (λ x. StopsBehind a.budget x (unsupported value_name b) ys) (sym is) (at_major 7 a.budget b bs (unsupported value_name b) ys (omega (arith, low, high))
-    (subst (λ i. StrictOtherStops i b bs (unsupported value_name b) ys) (sym (other_byte b low high none f g h)) (refl, sym e ∙ is))))
+    does_refuse (λ xs ys. xs ≡ ys) (ReadsExactlyUnder a.budget) (StopsBehindFirst b a.budget)
+    (unsupported value_name b) says read shallow
+    (λ xs ys e bs is. subst (λ x. StopsExactlyUnder a.budget x (unsupported value_name b) ys)
+    (sym is)
+    (at_major 7 a.budget b bs (unsupported value_name b) ys (omega (arith, low, high))
+    (subst (λ i. StrictOtherStops i b bs (unsupported value_name b) ys)
+    (sym (other_byte b low high none f g h)) (refl, sym e ∙ is))))
     (reached_start (λ xs ys. xs ≡ ys) a (λ xs. refl))
 
 -- ---- steps
 
-pub stepped_one : {E : Type 0} {r : Result Value (DecodeError E)} {a b c d : View} → StepsIn a.budget b.budget true → KeepsAllButBudget a b → Does (ReadsBehind b.budget) (StopsBehind b.budget) b c r → d.budget ≡ step_back c.budget → KeepsAllButBudget c d
+pub stepped_one : {E : Type 0} {r : Result Value (DecodeError E)} {a b c d : View}
+    → StepsIn a.budget b.budget true → KeepsAllButBudget a b → Does (ReadsExactlyUnder b.budget)
+    (StopsExactlyUnder b.budget) b c r → d.budget ≡ step_back c.budget → KeepsAllButBudget c d
     → Does (ReadsExactly a.budget) (StopsExactly a.budget) a d r
 stepped_one {a = a} {b = b} takes inward w gives outward =
     let step = steps_in a.budget b.budget takes in
     let up : a.budget ≡ raise b.budget = raised a.budget b.budget step in
-    does_stepped (ReadsBehind b.budget) (ReadsExactly a.budget) (StopsBehind b.budget) (StopsExactly a.budget) (λ xs ys v h. subst (λ o. ReadsExactly o xs v ys) (sym up) h)
-    (λ xs e rest h. (strict_by_parts xs a.budget e rest).1 (subst (λ o. Stepped value_name o xs (λ inner. StopsBehind inner xs) e rest) (sym step) h)) takes inward w gives outward
+    does_stepped (ReadsExactlyUnder b.budget) (ReadsExactly a.budget) (StopsExactlyUnder b.budget)
+    (StopsExactly a.budget) (λ xs ys v h. subst (λ o. ReadsExactly o xs v ys) (sym up) h)
+    (λ xs e rest h. (strict_by_parts xs a.budget e rest).1
+    (subst (λ o. StopsAtStep value_name o xs (λ inner. StopsExactlyUnder inner xs) e rest)
+    (sym step) h)) takes inward w gives outward
 
-pub stepped_more : {V E : Type 0} (name : List ℕ) (reads : Budget → Accepting V) (S : Budget → Stopping) {r : Result V (DecodeError E)} {a b c d : View} → StepsIn a.budget b.budget true → KeepsAllButBudget a b → Does (reads b.budget) (S b.budget) b c r → d.budget ≡ step_back c.budget → KeepsAllButBudget c d
-    → Does (ReadsStepped reads a.budget) (StopsStepped name S a.budget) a d r
+pub stepped_more : {V E : Type 0} (name : List ℕ) (reads : Budget → Accepting V)
+    (S : Budget → Stopping) {r : Result V (DecodeError E)} {a b c d : View}
+    → StepsIn a.budget b.budget true → KeepsAllButBudget a b → Does (reads b.budget)
+    (S b.budget) b c r → d.budget ≡ step_back c.budget → KeepsAllButBudget c d
+    → Does (ReadsStepped reads a.budget) (StopsExactlyStepped name S a.budget) a d r
 stepped_more name reads S {a = a} {b = b} takes inward w gives outward =
     let step = steps_in a.budget b.budget takes in
-    does_stepped (reads b.budget) (ReadsStepped reads a.budget) (S b.budget) (StopsStepped name S a.budget) (λ xs ys v h. (b.budget, step, h))
-    (λ xs e rest h. subst (λ o. Stepped name o xs (λ inner. S inner xs) e rest) (sym step) h) takes inward w gives outward
+    does_stepped (reads b.budget) (ReadsStepped reads a.budget) (S b.budget)
+    (StopsExactlyStepped name S a.budget) (λ xs ys v h. (b.budget, step, h))
+    (λ xs e rest h. subst (λ o. StopsAtStep name o xs (λ inner. S inner xs) e rest) (sym step) h)
+    takes inward w gives outward
 
 -- ---- heads that count what follows
 
-pub counted_does : {V E : Type 0} (name : List ℕ) (major n : ℕ) (reads : ℕ → Budget → Accepting V) (S : Budget → ℕ → Stopping) {r : Result V (DecodeError E)} {a m c : View} → Reached (ShortestAt major n) a m → Does (reads n m.budget) (S m.budget n) m c r
+pub counted_does : {V E : Type 0} (name : List ℕ) (major n : ℕ) (reads : ℕ → Budget → Accepting V)
+    (S : Budget → ℕ → Stopping) {r : Result V (DecodeError E)} {a m c : View}
+    → Reached (ShortestAt major n) a m → Does (reads n m.budget) (S m.budget n) m c r
     → Does (AcceptsCount major reads a.budget) (AtShortest name major a.budget (S a.budget)) a c r
 counted_does name major n reads S {a = a} {m = m} p d =
-    does_after (ShortestAt major n) (reads n m.budget) (AcceptsCount major reads a.budget) (S m.budget n) (AtShortest name major a.budget (S a.budget))
+    does_after (ShortestAt major n) (reads n m.budget) (AcceptsCount major reads a.budget)
+    (S m.budget n) (AtShortest name major a.budget (S a.budget))
     (λ xs ys zs v h s. (n, ys, h, subst (λ o. reads n o ys v zs) p.kept.budget s))
-    (λ xs ys e rest h s. inr (record { argument = n; after = ys; is = h; stopped = subst (λ o. S o n ys e rest) p.kept.budget s })) p d
+    (λ xs ys e rest h s. inr (record {
+      argument = n;
+      after = ys;
+      is = h;
+      stopped = subst (λ o. S o n ys e rest) p.kept.budget s;
+    })) p d
 
 -- ---- values, one behind another
 
-pub items_none : (budget : Budget) (xs : List ℕ) (vs : List Value) → vs ≡ [] → ExactItems 0 budget xs vs xs
+pub items_none : (budget : Budget) (xs : List ℕ) (vs : List Value) → vs ≡ []
+    → ExactItems 0 budget xs vs xs
 items_none budget xs vs e = (no_trees, refl, tt, sym (ap items_view e), refl)
 
-pub items_more : (n : ℕ) (budget : Budget) (vs ws : List Value) (v : Value) (xs ys zs : List ℕ) → ws ≡ vs ++ v ∷ [] → ExactItems n budget xs vs ys → ReadsExactly budget ys v zs → ExactItems (n + 1) budget xs ws zs
-items_more n budget vs ws v xs ys zs is h k =
-    (push h.0 k.0, count-push h.0 k.0 ∙ ap (λ j. j + 1) h.1, each-push (Exactly budget) h.0 k.0 h.2 k.1, values-push h.0 k.0 vs v h.3 k.2 ∙ sym (ap items_view is), h.4 ∙ ap (λ r. bytes_all h.0 ++ r) k.3 ∙ sym (bytes-push h.0 k.0 zs))
+pub items_more : (n : ℕ) (budget : Budget) (vs ws : List Value) (v : Value) (xs ys zs : List ℕ)
+    → ws ≡ vs ++ v ∷ [] → ExactItems n budget xs vs ys → ReadsExactly budget ys v zs
+    → ExactItems (n + 1) budget xs ws zs
+items_more n budget vs ws v xs ys zs is h k = (
+  push h.0 k.0,
+  count-push h.0 k.0 ∙ ap (λ j. j + 1) h.1,
+  each-push (Exactly budget) h.0 k.0
+      h.2 k.1,
+  values-push h.0 k.0 vs v h.3 k.2 ∙ sym (ap items_view is),
+  h.4 ∙ ap (λ r. bytes_all h.0 ++ r) k.3 ∙ sym (bytes-push h.0 k.0 zs),
+)
 
-pub item_stops : (i n : ℕ) (budget : Budget) (vs : List Value) (xs ys : List ℕ) (e : Refusal) (rest : List ℕ) → i < n → ExactItems i budget xs vs ys → StopsExactly budget ys e rest → StopsExactItems n budget xs e rest
-item_stops i n budget vs xs ys e rest lt h s = record { front = h.0; after = ys; few = omega (arith, h.1); whole = h.2; is = h.4; stopped = s }
+pub item_stops : (i n : ℕ) (budget : Budget) (vs : List Value) (xs ys : List ℕ) (e : Refusal)
+    (rest : List ℕ) → i < n → ExactItems i budget xs vs ys → StopsExactly budget ys e rest
+    → StopsExactItems n budget xs e rest
+item_stops i n budget vs xs ys e rest lt h s =
+    record { front = h.0; after = ys; few = omega (arith, h.1); whole = h.2; is = h.4; stopped = s }
 
-pub value_stops : (budget : Budget) (key : Value) (xs ys : List ℕ) (e : Refusal) (rest : List ℕ) → ReadsExactly budget xs key ys → StopsExactly budget ys e rest → StopsExactMember budget xs e rest
-value_stops budget key xs ys e rest h s = inr (record { key = h.0; after = ys; whole = h.1; is = h.3; stopped = s })
+pub value_stops : (budget : Budget) (key : Value) (xs ys : List ℕ) (e : Refusal) (rest : List ℕ)
+    → ReadsExactly budget xs key ys → StopsExactly budget ys e rest
+    → StopsExactMember budget xs e rest
+value_stops budget key xs ys e rest h s =
+    inr (record { key = h.0; after = ys; whole = h.1; is = h.3; stopped = s })
 
-pub members_none : (budget : Budget) (ms : List (Value × Value)) (xs : List ℕ) → ms ≡ [] → ExactMembers 0 budget xs ms xs
+pub members_none : (budget : Budget) (ms : List (Value × Value)) (xs : List ℕ) → ms ≡ []
+    → ExactMembers 0 budget xs ms xs
 members_none budget ms xs e = (no_pairs, refl, tt, sym (ap members_view e), refl)
 
-pub members_more : (n : ℕ) (budget : Budget) (ms ns : List (Value × Value)) (m : Value × Value) (xs ys zs : List ℕ) → ns ≡ ms ++ m ∷ [] → ExactMembers n budget xs ms ys → ExactMember budget ys m zs → ExactMembers (n + 1) budget xs ns zs
+pub members_more : (n : ℕ) (budget : Budget) (ms ns : List (Value × Value)) (m : Value × Value)
+    (xs ys zs : List ℕ) → ns ≡ ms ++ m ∷ [] → ExactMembers n budget xs ms ys
+    → ExactMember budget ys m zs → ExactMembers (n + 1) budget xs ns zs
 members_more n budget ms ns m xs ys zs is h w =
     let k = w.1 in
     let v = w.2 in (
@@ -259,14 +469,25 @@ members_more n budget ms ns m xs ys zs is h w =
       count-push_pair h.0 k.0 v.0 ∙ ap (λ j. j + 1) h.1,
       each-push_pair (Exactly budget) h.0 k.0 v.0 h.2 k.1 v.1,
       values-push_pair h.0 k.0 v.0 ms m.0 m.1 h.3 k.2 v.2 ∙ sym (ap members_view is),
-      h.4 ∙ ap (λ r. bytes_pairs h.0 ++ r) (k.3 ∙ ap (λ r. bytes k.0 ++ r) v.3) ∙ sym (bytes-push_pair h.0 k.0 v.0 zs),
+      h.4 ∙ ap (λ r. bytes_pairs h.0 ++ r) (k.3 ∙ ap (λ r. bytes k.0 ++ r) v.3)
+          ∙ sym (bytes-push_pair h.0 k.0 v.0 zs),
     )
 
-pub member_stops : (i n : ℕ) (budget : Budget) (ms : List (Value × Value)) (xs ys : List ℕ) (e : Refusal) (rest : List ℕ) → i < n → ExactMembers i budget xs ms ys → StopsExactMember budget ys e rest → StopsExactItems (2 * n) budget xs e rest
+pub member_stops : (i n : ℕ) (budget : Budget) (ms : List (Value × Value)) (xs ys : List ℕ)
+    (e : Refusal) (rest : List ℕ) → i < n → ExactMembers i budget xs ms ys
+    → StopsExactMember budget ys e rest → StopsExactItems (2 * n) budget xs e rest
 member_stops i n budget ms xs ys e rest lt h (inl s) =
     let ts = flat h.0 in
     let many : count ts ≡ 2 * i = count-flat h.0 ∙ ap (λ j. 2 * j) h.1 in
-    record { front = ts; after = ys; few = omega (arith, many); whole = each-flat (Exactly budget) h.0 h.2; is = h.4 ∙ ap (λ r. r ++ ys) (sym (bytes-flat h.0)); stopped = s }
+    record {
+      front = ts;
+      after = ys;
+      few = omega (arith, many);
+      whole = each-flat (Exactly budget)
+          h.0 h.2;
+      is = h.4 ∙ ap (λ r. r ++ ys) (sym (bytes-flat h.0));
+      stopped = s;
+    }
 member_stops i n budget ms xs ys e rest lt h (inr s) =
     let ts = flat h.0 in
     let many : count ts ≡ 2 * i = count-flat h.0 ∙ ap (λ j. 2 * j) h.1 in
@@ -275,7 +496,8 @@ member_stops i n budget ms xs ys e rest lt h (inr s) =
       after = s.after;
       few = omega (arith, count-push ts s.key, many);
       whole = each-push (Exactly budget) ts s.key (each-flat (Exactly budget) h.0 h.2) s.whole;
-      is = h.4 ∙ ap₂ (λ r z. r ++ z) (sym (bytes-flat h.0)) s.is ∙ sym (bytes-push ts s.key s.after);
+      is =
+          h.4 ∙ ap₂ (λ r z. r ++ z) (sym (bytes-flat h.0)) s.is ∙ sym (bytes-push ts s.key s.after);
       stopped = s.stopped;
     }
 
@@ -285,7 +507,9 @@ fits_two : (c : ℕ) (b : Budget) → CostFits c b → CostFits (2 + c) (raise (
 fits_two c None h = tt
 fits_two c (Some n) h = omega arith
 
-pub array_exact : (inner : Budget) (v : Vec Value Global) (xs ys : List ℕ) → ReadsStepped (λ o xs (v : Vec Value Global) ys. AcceptsCount 4 ExactItems o xs v.items ys) inner xs v ys → ReadsBehind inner xs (Array v) ys
+pub array_exact : (inner : Budget) (v : Vec Value Global) (xs ys : List ℕ) → ReadsStepped
+    (λ o xs (v : Vec Value Global) ys. AcceptsCount 4 ExactItems o xs v.items ys) inner xs v ys
+    → ReadsExactlyUnder inner xs (Array v) ys
 array_exact inner v xs ys h =
     let deep = h.0 in
     let c = h.2 in
@@ -295,12 +519,23 @@ array_exact inner v xs ys h =
     let w = shortest n in
     let up : inner ≡ raise deep = raised inner deep h.1 in (
       array w i.0,
-      ((((subst (HeadFits w) (sym i.1) (shortest_fits n c.2.0), all.0.0), all.0.1), (ap shortest (sym i.1), all.1)), subst (λ o. CostFits (2 + greatest_cost i.0) (raise o)) (sym up) (fits_two (greatest_cost i.0) deep all.2)),
+      (
+        (
+          ((subst (HeadFits w) (sym i.1) (shortest_fits n c.2.0), all.0.0), all.0.1),
+          (ap shortest (sym i.1), all.1),
+        ),
+        subst (λ o. CostFits (2 + greatest_cost i.0)
+            (raise o)) (sym up) (fits_two (greatest_cost i.0) deep all.2),
+      ),
       ap sequence i.3 ∙ sym (view-Array v),
-      c.2.1 ∙ ap (λ r. head 4 n w ++ r) i.4 ∙ sym (append_assoc (head 4 n w) (bytes_all i.0) ys) ∙ ap (λ j. (head 4 j w ++ bytes_all i.0) ++ ys) (sym i.1),
+      c.2.1 ∙ ap (λ r. head 4 n w ++ r) i.4 ∙ sym (append_assoc (head 4 n w) (bytes_all i.0) ys)
+          ∙ ap (λ j. (head 4 j w ++ bytes_all i.0) ++ ys) (sym i.1),
     )
 
-pub map_exact : (inner : Budget) (v : Vec (Value × Value) Global) (xs ys : List ℕ) → ReadsStepped (λ o xs (v : Vec (Value × Value) Global) ys. AcceptsCount 5 ExactMembers o xs v.items ys) inner xs v ys → ReadsBehind inner xs (Map v) ys
+pub map_exact : (inner : Budget) (v : Vec (Value × Value) Global) (xs ys : List ℕ)
+    → ReadsStepped (λ o xs (v : Vec (Value × Value) Global) ys.
+    AcceptsCount 5 ExactMembers o xs v.items ys) inner xs v ys
+    → ReadsExactlyUnder inner xs (Map v) ys
 map_exact inner v xs ys h =
     let deep = h.0 in
     let c = h.2 in
@@ -310,15 +545,26 @@ map_exact inner v xs ys h =
     let w = shortest n in
     let up : inner ≡ raise deep = raised inner deep h.1 in (
       map_of w i.0,
-      ((((subst (HeadFits w) (sym i.1) (shortest_fits n c.2.0), all.0.0), all.0.1), (ap shortest (sym i.1), all.1)), subst (λ o. CostFits (2 + greatest_pair_cost i.0) (raise o)) (sym up) (fits_two (greatest_pair_cost i.0) deep all.2)),
+      (
+        (
+          ((subst (HeadFits w) (sym i.1) (shortest_fits n c.2.0), all.0.0), all.0.1),
+          (ap shortest (sym i.1), all.1),
+        ),
+        subst (λ o. CostFits (2 + greatest_pair_cost i.0)
+            (raise o)) (sym up) (fits_two (greatest_pair_cost i.0) deep all.2),
+      ),
       ap mapping i.3 ∙ sym (view-Map v),
-      c.2.1 ∙ ap (λ r. head 5 n w ++ r) i.4 ∙ sym (append_assoc (head 5 n w) (bytes_pairs i.0) ys) ∙ ap (λ j. (head 5 j w ++ bytes_pairs i.0) ++ ys) (sym i.1),
+      c.2.1 ∙ ap (λ r. head 5 n w ++ r) i.4 ∙ sym (append_assoc (head 5 n w) (bytes_pairs i.0) ys)
+          ∙ ap (λ j. (head 5 j w ++ bytes_pairs i.0) ++ ys) (sym i.1),
     )
 
 -- ---- the end of the input, and vectors
 
-pub peek_stops : {E : Type 0} {e : DecodeError E} {a c : View} → Runs {V = ℕ} (peek_at value_name 1) a c (Err e) → Does {V = Value} (ReadsBehind a.budget) (StopsBehind a.budget) a c (Err e)
-peek_stops {a = a} p = nothing_there (ReadsBehind a.budget) (StopsBehind a.budget) (λ z rest is. is) p
+pub peek_stops : {E : Type 0} {e : DecodeError E} {a c : View}
+    → Runs {V = ℕ} (peek_at value_name 1) a c (Err e)
+    → Does {V = Value} (ReadsExactlyUnder a.budget) (StopsExactlyUnder a.budget) a c (Err e)
+peek_stops {a = a} p =
+    nothing_there (ReadsExactlyUnder a.budget) (StopsExactlyUnder a.budget) (λ z rest is. is) p
 
 pub pushed : {A : Type 0} (b : Bool) (x y z : List A) → z ≡ cond b x y → b ≡ true → z ≡ x
 pushed true x y z e h = e

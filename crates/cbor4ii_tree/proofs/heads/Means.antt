@@ -1,7 +1,16 @@
 -- What an initial byte says, read backwards.
-use Rattle.std.proofs.Common.{◌≡◌, ℕ, zero, suc, ◌+◌, ◌*◌, ◌/◌, ◌%◌, ◌<◌, List, ◌∷◌, ◌++◌, Ok, refl, ap, ap₂, ◌∙◌, arith, ltb, eqb, ltb-true, eqb-true, subst}
-use Rattle.cbor4ii_items.specs.Head.{Width, in_first, one, two, four, eight, HeadFits, additional, byte_count, head, open_head, IsBytes}
-use Rattle.cbor4ii_items.specs.Initial.{Sign, unsigned, negative, sign_major, Kind, byte_string, text_string, kind_major, simple_byte, precision_byte, Info, wide, open_ended, reserved, info_of, Initial, starts_int, starts_string, starts_chunks, starts_array, starts_open_array, starts_map, starts_open_map, starts_tag, starts_simple, starts_bits, initial, int_by_info, string_by_info, array_by_info, map_by_info, tag_by_info, simple_by_info, by_major}
+use Rattle.std.proofs.Common.{◌≡◌, ℕ, zero, suc, ◌+◌, ◌*◌, ◌/◌, ◌%◌, ◌<◌, List, ◌∷◌, ◌++◌, Ok, refl}
+use Rattle.std.proofs.Common.{ap, ap₂, ◌∙◌, arith, ltb, eqb, ltb-true, eqb-true, subst}
+use Rattle.cbor4ii_items.specs.Head.{Width, in_first, one, two, four, eight, HeadFits, additional}
+use Rattle.cbor4ii_items.specs.Head.{byte_count, head, open_head, IsBytes}
+use Rattle.cbor4ii_items.specs.Initial.{Sign, unsigned, negative, sign_major, Kind, byte_string}
+use Rattle.cbor4ii_items.specs.Initial.{text_string, kind_major, simple_byte, precision_byte, Info}
+use Rattle.cbor4ii_items.specs.Initial.{wide, open_ended, reserved, info_of, Initial, starts_int}
+use Rattle.cbor4ii_items.specs.Initial.{starts_string, starts_chunks, starts_array}
+use Rattle.cbor4ii_items.specs.Initial.{starts_open_array, starts_map, starts_open_map, starts_tag}
+use Rattle.cbor4ii_items.specs.Initial.{starts_simple, starts_bits, initial, int_by_info}
+use Rattle.cbor4ii_items.specs.Initial.{string_by_info, array_by_info, map_by_info, tag_by_info}
+use Rattle.cbor4ii_items.specs.Initial.{simple_by_info, by_major}
 use Rattle.cbor4ii_tree.specs.Parse.{argument_of_width}
 use Rattle.cbor4ii_tree.specs.Skip.{whole_argument_at}
 use Rattle.cbor4ii_tree.specs.Laws.Binds.{parts, if_cases}
@@ -38,27 +47,37 @@ Means b _ = Unit {0}
 pub info_says : (i : ℕ) → InfoSays i (info_of i)
 info_says i =
     let P = InfoSays i in
-    if_cases P (ltb i 24) _ _ (λ h. ltb-true i 24 h) (λ _. if_cases P (eqb i 24) _ _ (λ h. eqb-true i 24 h) (λ _. if_cases P (eqb i 25) _ _ (λ h. eqb-true i 25 h)
-    (λ _. if_cases P (eqb i 26) _ _ (λ h. eqb-true i 26 h) (λ _. if_cases P (eqb i 27) _ _ (λ h. eqb-true i 27 h) (λ _. if_cases P (eqb i 31) _ _ (λ h. eqb-true i 31 h) (λ _. tt))))))
+    if_cases P (ltb i 24) _ _ (λ h. ltb-true i 24 h)
+    (λ _. if_cases P (eqb i 24) _ _ (λ h. eqb-true i 24 h)
+    (λ _. if_cases P (eqb i 25) _ _ (λ h. eqb-true i 25 h)
+    (λ _. if_cases P (eqb i 26) _ _ (λ h. eqb-true i 26 h) (λ _. if_cases P (eqb i 27) _ _ (λ h.
+    eqb-true i 27 h) (λ _. if_cases P (eqb i 31) _ _ (λ h. eqb-true i 31 h) (λ _. tt))))))
 
 simple_says : (i b : ℕ) → b ≡ 224 + i → Means b (simple_by_info i)
 simple_says i b e =
     let P = Means b in
-    if_cases P (eqb i 20) _ _ (λ h. omega (arith, eqb-true i 20 h)) (λ _. if_cases P (eqb i 21) _ _ (λ h. omega (arith, eqb-true i 21 h)) (λ _. if_cases P (eqb i 22) _ _ (λ h. omega (arith, eqb-true i 22 h))
-    (λ _. if_cases P (eqb i 23) _ _ (λ h. omega (arith, eqb-true i 23 h)) (λ _. if_cases P (eqb i 25) _ _ (λ h. omega (arith, eqb-true i 25 h)) (λ _. if_cases P (eqb i 26) _ _ (λ h. omega (arith, eqb-true i 26 h))
+    if_cases P (eqb i 20) _ _ (λ h. omega (arith, eqb-true i 20 h))
+    (λ _. if_cases P (eqb i 21) _ _ (λ h. omega (arith, eqb-true i 21 h))
+    (λ _. if_cases P (eqb i 22) _ _ (λ h. omega (arith, eqb-true i 22 h))
+    (λ _. if_cases P (eqb i 23) _ _ (λ h. omega (arith, eqb-true i 23 h))
+    (λ _. if_cases P (eqb i 25) _ _ (λ h. omega (arith, eqb-true i 25 h))
+    (λ _. if_cases P (eqb i 26) _ _ (λ h. omega (arith, eqb-true i 26 h))
     (λ _. if_cases P (eqb i 27) _ _ (λ h. omega (arith, eqb-true i 27 h)) (λ _. tt)))))))
 
-int_says : (s : Sign) (i b : ℕ) (info : Info) → b ≡ 32 * sign_major s + i → InfoSays i info → Means b (int_by_info s info)
+int_says : (s : Sign) (i b : ℕ) (info : Info) → b ≡ 32 * sign_major s + i → InfoSays i info
+    → Means b (int_by_info s info)
 int_says s i b (wide w) e h = (i, e, h)
 int_says s i b open_ended e h = tt
 int_says s i b reserved e h = tt
 
-string_says : (k : Kind) (i b : ℕ) (info : Info) → b ≡ 32 * kind_major k + i → InfoSays i info → Means b (string_by_info k info)
+string_says : (k : Kind) (i b : ℕ) (info : Info) → b ≡ 32 * kind_major k + i → InfoSays i info
+    → Means b (string_by_info k info)
 string_says k i b (wide w) e h = (i, e, h)
 string_says k i b open_ended e h = e ∙ ap (λ j. 32 * kind_major k + j) h
 string_says k i b reserved e h = tt
 
-array_says : (i b : ℕ) (info : Info) → b ≡ 32 * 4 + i → InfoSays i info → Means b (array_by_info info)
+array_says : (i b : ℕ) (info : Info) → b ≡ 32 * 4 + i → InfoSays i info
+    → Means b (array_by_info info)
 array_says i b (wide w) e h = (i, e, h)
 array_says i b open_ended e h = omega arith
 array_says i b reserved e h = tt
@@ -80,7 +99,8 @@ major_says (suc (suc zero)) i b h e = string_says byte_string i b (info_of i) e 
 major_says (suc (suc (suc zero))) i b h e = string_says text_string i b (info_of i) e (info_says i)
 major_says (suc (suc (suc (suc zero)))) i b h e = array_says i b (info_of i) e (info_says i)
 major_says (suc (suc (suc (suc (suc zero))))) i b h e = map_says i b (info_of i) e (info_says i)
-major_says (suc (suc (suc (suc (suc (suc zero)))))) i b h e = tag_says i b (info_of i) e (info_says i)
+major_says (suc (suc (suc (suc (suc (suc zero)))))) i b h e =
+    tag_says i b (info_of i) e (info_says i)
 major_says (suc (suc (suc (suc (suc (suc (suc m))))))) i b h e = simple_says i b (omega arith)
 
 pub means : (b : ℕ) → b < 256 → Means b (initial b)
@@ -93,25 +113,55 @@ pub record Headed (major n : ℕ) (w : Width) (b : ℕ) (bs after : List ℕ) : 
   pub fits : HeadFits w n
   pub more : IsBytes after
 
-headed : (major n : ℕ) (w : Width) (b : ℕ) (bs after : List ℕ) → b ≡ 32 * major + additional w n → HeadFits w n → Whole (byte_count w) n bs after → Headed major n w b bs after
+headed : (major n : ℕ) (w : Width) (b : ℕ) (bs after : List ℕ) → b ≡ 32 * major + additional w n
+    → HeadFits w n → Whole (byte_count w) n bs after → Headed major n w b bs after
 headed major n w b bs after e fits h = record { is = ap₂ ◌∷◌ e h.is; fits = fits; more = h.more }
 
-first_headed : (major n b : ℕ) (bs after : List ℕ) → IsBytes bs → HeadByte major in_first b → (b % 32 ≡ n) × (bs ≡ after) → Headed major n in_first b bs after
+first_headed : (major n b : ℕ) (bs after : List ℕ) → IsBytes bs → HeadByte major in_first b
+    → (b % 32 ≡ n) × (bs ≡ after) → Headed major n in_first b bs after
 first_headed major n b bs after more h e =
-    record { is = ap₂ ◌∷◌ (omega (arith, h.1, h.2, e.0)) e.1; fits = omega (arith, h.1, h.2, e.0); more = subst IsBytes e.1 more }
+    record {
+      is = ap₂ ◌∷◌ (omega (arith, h.1, h.2, e.0)) e.1;
+      fits = omega (arith, h.1, h.2, e.0);
+      more = subst IsBytes e.1 more;
+    }
 
-pub argument_inverse : (name : List ℕ) (major n : ℕ) (w : Width) (b : ℕ) (bs after : List ℕ) → IsBytes bs → HeadByte major w b → argument_of_width name w b bs ≡ Ok (n, after) → Headed major n w b bs after
+pub argument_inverse : (name : List ℕ) (major n : ℕ) (w : Width) (b : ℕ) (bs after : List ℕ)
+    → IsBytes bs → HeadByte major w b → argument_of_width name w b bs ≡ Ok (n, after)
+    → Headed major n w b bs after
 unfolding argument_of_width
-argument_inverse name major n in_first b bs after more h e = first_headed major n b bs after more h (parts _ (b % 32) n bs after refl e)
-argument_inverse name major n one b bs after more h e = let whole = number_inverse name 1 n bs after more e in headed major n one b bs after (h.1 ∙ ap (λ j. 32 * major + j) h.2) (omega (arith, whole.below)) whole
-argument_inverse name major n two b bs after more h e = let whole = number_inverse name 2 n bs after more e in headed major n two b bs after (h.1 ∙ ap (λ j. 32 * major + j) h.2) whole.below whole
-argument_inverse name major n four b bs after more h e = let whole = number_inverse name 4 n bs after more e in headed major n four b bs after (h.1 ∙ ap (λ j. 32 * major + j) h.2) whole.below whole
-argument_inverse name major n eight b bs after more h e = let whole = number_inverse name 8 n bs after more e in headed major n eight b bs after (h.1 ∙ ap (λ j. 32 * major + j) h.2) whole.below whole
+argument_inverse name major n in_first b bs after more h e =
+    first_headed major n b bs after more h (parts _ (b % 32) n bs after refl e)
+argument_inverse name major n one b bs after more h e =
+    let whole = number_inverse name 1 n bs after more e in
+    headed major n one b bs after (h.1 ∙ ap (λ j. 32 * major + j) h.2)
+    (omega (arith, whole.below)) whole
+argument_inverse name major n two b bs after more h e =
+    let whole = number_inverse name 2 n bs after more e in
+    headed major n two b bs after (h.1 ∙ ap (λ j. 32 * major + j) h.2) whole.below whole
+argument_inverse name major n four b bs after more h e =
+    let whole = number_inverse name 4 n bs after more e in
+    headed major n four b bs after (h.1 ∙ ap (λ j. 32 * major + j) h.2) whole.below whole
+argument_inverse name major n eight b bs after more h e =
+    let whole = number_inverse name 8 n bs after more e in
+    headed major n eight b bs after (h.1 ∙ ap (λ j. 32 * major + j) h.2) whole.below whole
 
-pub whole_argument_inverse : (name : List ℕ) (major n : ℕ) (w : Width) (b : ℕ) (bs after : List ℕ) → IsBytes bs → HeadByte major w b → whole_argument_at name w b bs ≡ Ok (n, after) → Headed major n w b bs after
+pub whole_argument_inverse : (name : List ℕ) (major n : ℕ) (w : Width) (b : ℕ) (bs after : List ℕ)
+    → IsBytes bs → HeadByte major w b → whole_argument_at name w b bs ≡ Ok (n, after)
+    → Headed major n w b bs after
 unfolding whole_argument_at
-whole_argument_inverse name major n in_first b bs after more h e = first_headed major n b bs after more h (parts _ (b % 32) n bs after refl e)
-whole_argument_inverse name major n one b bs after more h e = let whole = whole_number_inverse name 1 n bs after more e in headed major n one b bs after (h.1 ∙ ap (λ j. 32 * major + j) h.2) (omega (arith, whole.below)) whole
-whole_argument_inverse name major n two b bs after more h e = let whole = whole_number_inverse name 2 n bs after more e in headed major n two b bs after (h.1 ∙ ap (λ j. 32 * major + j) h.2) whole.below whole
-whole_argument_inverse name major n four b bs after more h e = let whole = whole_number_inverse name 4 n bs after more e in headed major n four b bs after (h.1 ∙ ap (λ j. 32 * major + j) h.2) whole.below whole
-whole_argument_inverse name major n eight b bs after more h e = let whole = whole_number_inverse name 8 n bs after more e in headed major n eight b bs after (h.1 ∙ ap (λ j. 32 * major + j) h.2) whole.below whole
+whole_argument_inverse name major n in_first b bs after more h e =
+    first_headed major n b bs after more h (parts _ (b % 32) n bs after refl e)
+whole_argument_inverse name major n one b bs after more h e =
+    let whole = whole_number_inverse name 1 n bs after more e in
+    headed major n one b bs after (h.1 ∙ ap (λ j. 32 * major + j) h.2)
+    (omega (arith, whole.below)) whole
+whole_argument_inverse name major n two b bs after more h e =
+    let whole = whole_number_inverse name 2 n bs after more e in
+    headed major n two b bs after (h.1 ∙ ap (λ j. 32 * major + j) h.2) whole.below whole
+whole_argument_inverse name major n four b bs after more h e =
+    let whole = whole_number_inverse name 4 n bs after more e in
+    headed major n four b bs after (h.1 ∙ ap (λ j. 32 * major + j) h.2) whole.below whole
+whole_argument_inverse name major n eight b bs after more h e =
+    let whole = whole_number_inverse name 8 n bs after more e in
+    headed major n eight b bs after (h.1 ∙ ap (λ j. 32 * major + j) h.2) whole.below whole

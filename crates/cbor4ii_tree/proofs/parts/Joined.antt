@@ -1,6 +1,7 @@
 -- Items behind others, and pairs behind others.
 use Rattle.std.proofs.Common.{◌≡◌, ℕ, ◌+◌, List, ◌++◌, refl, sym, ap, ◌∙◌, arith, append_assoc}
-use Rattle.cbor4ii_tree.specs.Tree.{Tree, Trees, no_trees, tree, Pairs, no_pairs, pair, count, bytes, bytes_all, bytes_pairs}
+use Rattle.cbor4ii_tree.specs.Tree.{Tree, Trees, no_trees, tree, Pairs, no_pairs, pair, count}
+use Rattle.cbor4ii_tree.specs.Tree.{bytes, bytes_all, bytes_pairs}
 use Rattle.cbor4ii_tree.specs.Stops.{Each, EachPair}
 
 unfoldable pub join : Trees → Trees → Trees
@@ -17,21 +18,27 @@ unfolding join
 each-join W no_trees us h k = k
 each-join W (tree t ts) us h k = (h.0, each-join W ts us h.1 k)
 
-pub bytes-join : (ts us : Trees) (x : List ℕ) → bytes_all (join ts us) ++ x ≡ bytes_all ts ++ (bytes_all us ++ x)
+pub bytes-join : (ts us : Trees) (x : List ℕ)
+    → bytes_all (join ts us) ++ x ≡ bytes_all ts ++ (bytes_all us ++ x)
 unfolding join
 bytes-join no_trees us x = refl
-bytes-join (tree t ts) us x = append_assoc (bytes t) (bytes_all (join ts us)) x ∙ ap (λ r. bytes t ++ r) (bytes-join ts us x) ∙ sym (append_assoc (bytes t) (bytes_all ts) (bytes_all us ++ x))
+bytes-join (tree t ts) us x =
+    append_assoc (bytes t) (bytes_all (join ts us)) x ∙ ap (λ r. bytes t ++ r) (bytes-join ts us x)
+    ∙ sym (append_assoc (bytes t) (bytes_all ts) (bytes_all us ++ x))
 
 unfoldable pub join_pairs : Pairs → Pairs → Pairs
 join_pairs no_pairs qs = qs
 join_pairs (pair k v ps) qs = pair k v (join_pairs ps qs)
 
-pub each-join_pairs : (W : Tree → Type 0) (ps qs : Pairs) → EachPair W ps → EachPair W qs → EachPair W (join_pairs ps qs)
+pub each-join_pairs : (W : Tree → Type 0) (ps qs : Pairs) → EachPair W ps → EachPair W qs
+    → EachPair W (join_pairs ps qs)
 unfolding join_pairs
 each-join_pairs W no_pairs qs h k = k
 each-join_pairs W (pair j u ps) qs h k = (h.0, h.1, each-join_pairs W ps qs h.2 k)
 
-pub bytes-join_pairs : (ps qs : Pairs) (x : List ℕ) → bytes_pairs (join_pairs ps qs) ++ x ≡ bytes_pairs ps ++ (bytes_pairs qs ++ x)
+pub bytes-join_pairs : (ps qs : Pairs) (x : List ℕ)
+    → bytes_pairs (join_pairs ps qs) ++ x ≡ bytes_pairs ps ++ (bytes_pairs qs ++ x)
 unfolding join_pairs
 bytes-join_pairs no_pairs qs x = refl
-bytes-join_pairs (pair j u ps) qs x = simp append_assoc (ap (λ r. bytes j ++ (bytes u ++ r)) (bytes-join_pairs ps qs x))
+bytes-join_pairs (pair j u ps) qs x =
+    simp append_assoc (ap (λ r. bytes j ++ (bytes u ++ r)) (bytes-join_pairs ps qs x))

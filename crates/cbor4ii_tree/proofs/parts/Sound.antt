@@ -1,9 +1,12 @@
 -- What is read as a sequence is whole items, one after another.
-use Rattle.std.proofs.Common.{◌≡◌, ℕ, zero, suc, List, [], ◌∷◌, ◌++◌, inl, inr, Ok, refl, sym, ap, ap₂, ◌∙◌, eqb, eqb-true, subst, append_assoc}
+use Rattle.std.proofs.Common.{◌≡◌, ℕ, zero, suc, List, [], ◌∷◌, ◌++◌, inl, inr, Ok, refl, sym, ap}
+use Rattle.std.proofs.Common.{ap₂, ◌∙◌, eqb, eqb-true, subst, append_assoc}
 use Rattle.cbor4ii_items.specs.Head.{Width, head, break, IsBytes}
-use Rattle.cbor4ii_tree.specs.Tree.{Tree, Trees, no_trees, tree, Pairs, no_pairs, pair, count, pair_count, bytes, bytes_all, bytes_pairs}
+use Rattle.cbor4ii_tree.specs.Tree.{Tree, Trees, no_trees, tree, Pairs, no_pairs, pair, count}
+use Rattle.cbor4ii_tree.specs.Tree.{pair_count, bytes, bytes_all, bytes_pairs}
 use Rattle.cbor4ii_tree.specs.Stops.{Each, EachPair}
-use Rattle.cbor4ii_tree.specs.Parse.{Parser, ◌>>=◌, trees_at, pairs_at, open_trees_at, open_pairs_at}
+use Rattle.cbor4ii_tree.specs.Parse.{Parser, ◌>>=◌, trees_at, pairs_at, open_trees_at}
+use Rattle.cbor4ii_tree.specs.Parse.{open_pairs_at}
 use Rattle.cbor4ii_tree.specs.Laws.Binds.{bind_ok, same_ok, chosen, no_ok}
 
 pub record Took (Whole : Tree → Type 0) (bs : List ℕ) (p : Tree × List ℕ) : Type 0 where
@@ -17,7 +20,8 @@ pub record TookAll (Whole : Tree → Type 0) (n : ℕ) (bs : List ℕ) (p : Tree
   pub is : bs ≡ bytes_all p.0 ++ p.1
   pub more : IsBytes p.1
 
-pub record TookPairs (Whole : Tree → Type 0) (n : ℕ) (bs : List ℕ) (p : Pairs × List ℕ) : Type 0 where
+pub record TookPairs (Whole : Tree → Type 0) (n : ℕ) (bs : List ℕ)
+    (p : Pairs × List ℕ) : Type 0 where
   pub number : pair_count p.0 ≡ n
   pub whole : EachPair Whole p.0
   pub is : bs ≡ bytes_pairs p.0 ++ p.1
@@ -35,11 +39,16 @@ pub record TookOpenPairs (Whole : Tree → Type 0) (bs : List ℕ) (p : Pairs ×
   pub more : IsBytes p.1
 
 abbrev pub IsSound : Parser Tree → (Tree → Type 0) → Type 0
-IsSound item Whole = (bs : List ℕ) (p : Tree × List ℕ) → IsBytes bs → item bs ≡ Ok p → Took Whole bs p
+IsSound item Whole =
+    (bs : List ℕ) (p : Tree × List ℕ) → IsBytes bs → item bs ≡ Ok p → Took Whole bs p
 
-pub trees_sound : (item : Parser Tree) (Whole : Tree → Type 0) → IsSound item Whole → (n : ℕ) (bs : List ℕ) (p : Trees × List ℕ) → IsBytes bs → trees_at item n bs ≡ Ok p → TookAll Whole n bs p
+pub trees_sound : (item : Parser Tree) (Whole : Tree → Type 0) → IsSound item Whole
+    → (n : ℕ) (bs : List ℕ) (p : Trees × List ℕ) → IsBytes bs → trees_at item n bs ≡ Ok p
+    → TookAll Whole n bs p
 unfolding trees_at
-trees_sound item Whole s zero bs p h e = subst (TookAll Whole zero bs) (same_ok _ (no_trees, bs) p refl e) (record { number = refl; whole = tt; is = refl; more = h })
+trees_sound item Whole s zero bs p h e =
+    subst (TookAll Whole zero bs) (same_ok _ (no_trees, bs) p refl e)
+    (record { number = refl; whole = tt; is = refl; more = h })
 trees_sound item Whole s (suc n) bs p h e =
     let x = bind_ok (item bs) (λ y. trees_at item n y.1 >>= λ q. Ok (tree y.0 q.0, q.1)) p e in
     let y = bind_ok (trees_at item n x.0.1) (λ q. Ok (tree x.0.0 q.0, q.1)) p x.2 in
@@ -48,45 +57,62 @@ trees_sound item Whole s (suc n) bs p h e =
     subst (TookAll Whole (suc n) bs) (same_ok _ (tree x.0.0 y.0.0, y.0.1) p refl y.2) (record {
       number = ap suc all.number;
       whole = (one.whole, all.whole);
-      is = one.is ∙ ap (λ r. bytes x.0.0 ++ r) all.is ∙ sym (append_assoc (bytes x.0.0) (bytes_all y.0.0) y.0.1);
+      is =
+          one.is ∙ ap (λ r. bytes x.0.0 ++ r) all.is
+          ∙ sym (append_assoc (bytes x.0.0) (bytes_all y.0.0) y.0.1);
       more = all.more;
     })
 
-pub pairs_sound : (item : Parser Tree) (Whole : Tree → Type 0) → IsSound item Whole → (n : ℕ) (bs : List ℕ) (p : Pairs × List ℕ) → IsBytes bs → pairs_at item n bs ≡ Ok p → TookPairs Whole n bs p
+pub pairs_sound : (item : Parser Tree) (Whole : Tree → Type 0) → IsSound item Whole
+    → (n : ℕ) (bs : List ℕ) (p : Pairs × List ℕ) → IsBytes bs → pairs_at item n bs ≡ Ok p
+    → TookPairs Whole n bs p
 unfolding pairs_at
-pairs_sound item Whole s zero bs p h e = subst (TookPairs Whole zero bs) (same_ok _ (no_pairs, bs) p refl e) (record { number = refl; whole = tt; is = refl; more = h })
+pairs_sound item Whole s zero bs p h e =
+    subst (TookPairs Whole zero bs) (same_ok _ (no_pairs, bs) p refl e)
+    (record { number = refl; whole = tt; is = refl; more = h })
 pairs_sound item Whole s (suc n) bs p h e =
-    let k = bind_ok (item bs) (λ k. item k.1 >>= λ v. pairs_at item n v.1 >>= λ q. Ok (pair k.0 v.0 q.0, q.1)) p e in
-    let v = bind_ok (item k.0.1) (λ v. pairs_at item n v.1 >>= λ q. Ok (pair k.0.0 v.0 q.0, q.1)) p k.2 in
+    let k = bind_ok (item bs)
+    (λ k. item k.1 >>= λ v. pairs_at item n v.1 >>= λ q. Ok (pair k.0 v.0 q.0, q.1)) p e in
+    let v = bind_ok (item k.0.1)
+    (λ v. pairs_at item n v.1 >>= λ q. Ok (pair k.0.0 v.0 q.0, q.1)) p k.2 in
     let y = bind_ok (pairs_at item n v.0.1) (λ q. Ok (pair k.0.0 v.0.0 q.0, q.1)) p v.2 in
     let key = s bs k.0 h k.1 in
     let val = s k.0.1 v.0 key.more v.1 in
     let all = pairs_sound item Whole s n v.0.1 y.0 val.more y.1 in
-    subst (TookPairs Whole (suc n) bs) (same_ok _ (pair k.0.0 v.0.0 y.0.0, y.0.1) p refl y.2) (record {
+    subst (TookPairs Whole (suc n) bs) (same_ok _ (pair k.0.0 v.0.0 y.0.0, y.0.1) p refl y.2)
+    (record {
       number = ap suc all.number;
       whole = (key.whole, val.whole, all.whole);
-      is = key.is ∙ ap (λ r. bytes k.0.0 ++ r) (val.is ∙ ap (λ r. bytes v.0.0 ++ r) all.is) ∙ regroup (bytes k.0.0) (bytes v.0.0) (bytes_pairs y.0.0) y.0.1;
+      is =
+          key.is ∙ ap (λ r. bytes k.0.0 ++ r) (val.is ∙ ap (λ r. bytes v.0.0 ++ r) all.is)
+          ∙ regroup (bytes k.0.0) (bytes v.0.0) (bytes_pairs y.0.0) y.0.1;
       more = all.more;
     })
   where
     regroup : (a b c x : List ℕ) → a ++ (b ++ (c ++ x)) ≡ (a ++ (b ++ c)) ++ x
     regroup a b c x = simp append_assoc
 
-pub open_trees_sound : (item : Parser Tree) (Whole : Tree → Type 0) → IsSound item Whole → (n : ℕ) (bs : List ℕ) (p : Trees × List ℕ) → IsBytes bs → open_trees_at item n bs ≡ Ok p → TookOpen Whole bs p
+pub open_trees_sound : (item : Parser Tree) (Whole : Tree → Type 0) → IsSound item Whole
+    → (n : ℕ) (bs : List ℕ) (p : Trees × List ℕ) → IsBytes bs → open_trees_at item n bs ≡ Ok p
+    → TookOpen Whole bs p
 unfolding open_trees_at
 open_trees_sound item Whole s n [] p h e = absurd (no_ok {A = Trees} _ p e)
 open_trees_sound item Whole s zero (b ∷ bs) p h e = absurd (no_ok {A = Trees} _ p e)
 open_trees_sound item Whole s (suc n) (b ∷ bs) p h e =
     elim (chosen (eqb b break) (Ok (no_trees, bs)) _ (Ok p) e) [
-      | inl f ↦ subst (TookOpen Whole (b ∷ bs)) (same_ok _ (no_trees, bs) p refl f.1) (record { whole = tt; is = ap (λ c. c ∷ bs) (eqb-true b break f.0); more = h.1 })
+      | inl f ↦ subst (TookOpen Whole (b ∷ bs)) (same_ok _ (no_trees, bs) p refl f.1)
+          (record { whole = tt; is = ap (λ c. c ∷ bs) (eqb-true b break f.0); more = h.1 })
       | inr f ↦
-          let x = bind_ok (item (b ∷ bs)) (λ y. open_trees_at item n y.1 >>= λ q. Ok (tree y.0 q.0, q.1)) p f.1 in
+          let x = bind_ok (item (b ∷ bs))
+          (λ y. open_trees_at item n y.1 >>= λ q. Ok (tree y.0 q.0, q.1)) p f.1 in
           let y = bind_ok (open_trees_at item n x.0.1) (λ q. Ok (tree x.0.0 q.0, q.1)) p x.2 in
           let one = s (b ∷ bs) x.0 h x.1 in
           let all = open_trees_sound item Whole s n x.0.1 y.0 one.more y.1 in
           subst (TookOpen Whole (b ∷ bs)) (same_ok _ (tree x.0.0 y.0.0, y.0.1) p refl y.2) (record {
             whole = (one.whole, all.whole);
-            is = one.is ∙ ap (λ r. bytes x.0.0 ++ r) all.is ∙ regroup (bytes x.0.0) (bytes_all y.0.0) y.0.1;
+            is =
+                one.is ∙ ap (λ r. bytes x.0.0 ++ r) all.is
+                ∙ regroup (bytes x.0.0) (bytes_all y.0.0) y.0.1;
             more = all.more;
           })
     ]
@@ -94,30 +120,43 @@ open_trees_sound item Whole s (suc n) (b ∷ bs) p h e =
     regroup : (a b x : List ℕ) → a ++ ((b ++ break ∷ []) ++ x) ≡ ((a ++ b) ++ break ∷ []) ++ x
     regroup a b x = simp append_assoc
 
-pub open_pairs_sound : (item : Parser Tree) (Whole : Tree → Type 0) → IsSound item Whole → (n : ℕ) (bs : List ℕ) (p : Pairs × List ℕ) → IsBytes bs → open_pairs_at item n bs ≡ Ok p → TookOpenPairs Whole bs p
+pub open_pairs_sound : (item : Parser Tree) (Whole : Tree → Type 0) → IsSound item Whole
+    → (n : ℕ) (bs : List ℕ) (p : Pairs × List ℕ) → IsBytes bs → open_pairs_at item n bs ≡ Ok p
+    → TookOpenPairs Whole bs p
 unfolding open_pairs_at
 open_pairs_sound item Whole s n [] p h e = absurd (no_ok {A = Pairs} _ p e)
 open_pairs_sound item Whole s zero (b ∷ bs) p h e = absurd (no_ok {A = Pairs} _ p e)
 open_pairs_sound item Whole s (suc n) (b ∷ bs) p h e =
     elim (chosen (eqb b break) (Ok (no_pairs, bs)) _ (Ok p) e) [
-      | inl f ↦ subst (TookOpenPairs Whole (b ∷ bs)) (same_ok _ (no_pairs, bs) p refl f.1) (record { whole = tt; is = ap (λ c. c ∷ bs) (eqb-true b break f.0); more = h.1 })
+      | inl f ↦ subst (TookOpenPairs Whole (b ∷ bs)) (same_ok _ (no_pairs, bs) p refl f.1)
+          (record { whole = tt; is = ap (λ c. c ∷ bs) (eqb-true b break f.0); more = h.1 })
       | inr f ↦
-          let k = bind_ok (item (b ∷ bs)) (λ k. item k.1 >>= λ v. open_pairs_at item n v.1 >>= λ q. Ok (pair k.0 v.0 q.0, q.1)) p f.1 in
-          let v = bind_ok (item k.0.1) (λ v. open_pairs_at item n v.1 >>= λ q. Ok (pair k.0.0 v.0 q.0, q.1)) p k.2 in
-          let y = bind_ok (open_pairs_at item n v.0.1) (λ q. Ok (pair k.0.0 v.0.0 q.0, q.1)) p v.2 in
+          let k = bind_ok (item (b ∷ bs)) (λ k. item k.1 >>= λ v. open_pairs_at item n v.1
+          >>= λ q. Ok (pair k.0 v.0 q.0, q.1)) p f.1 in
+          let v = bind_ok (item k.0.1)
+          (λ v. open_pairs_at item n v.1 >>= λ q. Ok (pair k.0.0 v.0 q.0, q.1)) p k.2 in
+          let y =
+          bind_ok (open_pairs_at item n v.0.1) (λ q. Ok (pair k.0.0 v.0.0 q.0, q.1)) p v.2 in
           let key = s (b ∷ bs) k.0 h k.1 in
           let val = s k.0.1 v.0 key.more v.1 in
           let all = open_pairs_sound item Whole s n v.0.1 y.0 val.more y.1 in
-          subst (TookOpenPairs Whole (b ∷ bs)) (same_ok _ (pair k.0.0 v.0.0 y.0.0, y.0.1) p refl y.2) (record {
+          subst (TookOpenPairs Whole (b ∷ bs))
+          (same_ok _ (pair k.0.0 v.0.0 y.0.0, y.0.1) p refl y.2) (record {
             whole = (key.whole, val.whole, all.whole);
-            is = key.is ∙ ap (λ r. bytes k.0.0 ++ r) (val.is ∙ ap (λ r. bytes v.0.0 ++ r) all.is) ∙ regroup (bytes k.0.0) (bytes v.0.0) (bytes_pairs y.0.0) y.0.1;
+            is =
+                key.is ∙ ap (λ r. bytes k.0.0 ++ r) (val.is ∙ ap (λ r. bytes v.0.0 ++ r) all.is)
+                ∙ regroup (bytes k.0.0) (bytes v.0.0) (bytes_pairs y.0.0) y.0.1;
             more = all.more;
           })
     ]
   where
-    regroup : (a b c x : List ℕ) → a ++ (b ++ ((c ++ break ∷ []) ++ x)) ≡ ((a ++ (b ++ c)) ++ break ∷ []) ++ x
+    regroup : (a b c x : List ℕ)
+        → a ++ (b ++ ((c ++ break ∷ []) ++ x)) ≡ ((a ++ (b ++ c)) ++ break ∷ []) ++ x
     regroup a b c x = simp append_assoc
 
 -- behind a head whose argument counts what follows
-pub counted : (major n m : ℕ) (w : Width) (b : ℕ) (bs after part rest : List ℕ) → b ∷ bs ≡ head major n w ++ after → m ≡ n → after ≡ part ++ rest → b ∷ bs ≡ (head major m w ++ part) ++ rest
-counted major n m w b bs after part rest e f g = e ∙ ap₂ (λ j r. head major j w ++ r) (sym f) g ∙ sym (append_assoc (head major m w) part rest)
+pub counted : (major n m : ℕ) (w : Width) (b : ℕ) (bs after part rest : List ℕ)
+    → b ∷ bs ≡ head major n w ++ after → m ≡ n → after ≡ part ++ rest
+    → b ∷ bs ≡ (head major m w ++ part) ++ rest
+counted major n m w b bs after part rest e f g =
+    e ∙ ap₂ (λ j r. head major j w ++ r) (sym f) g ∙ sym (append_assoc (head major m w) part rest)

@@ -1,12 +1,16 @@
--- What stops goes on to stop: behind further bytes, unless it is at the end of the input, and under a larger budget,
--- unless for want of a step.
-use Rattle.std.proofs.Common.{◌≡◌, ℕ, zero, suc, ◌⊎◌, inl, inr, List, [], ◌∷◌, ◌++◌, Some, None, refl, sym, ap, ◌∙◌, arith, subst, append_assoc, append-nil}
+-- What stops goes on to stop: behind further bytes, unless it is at the end of the input, and under
+-- a larger budget, unless for want of a step.
+use Rattle.std.proofs.Common.{◌≡◌, ℕ, zero, suc, ◌⊎◌, inl, inr, List, [], ◌∷◌, ◌++◌, Some, None}
+use Rattle.std.proofs.Common.{refl, sym, ap, ◌∙◌, arith, subst, append_assoc, append-nil}
 use Rattle.cbor4ii_items.specs.Head.{Width, byte_count, head}
-use Rattle.cbor4ii_tree.specs.Tree.{Tree, Trees, no_trees, tree, Pairs, no_pairs, pair, bytes, bytes_all, bytes_pairs}
+use Rattle.cbor4ii_tree.specs.Tree.{Tree, Trees, no_trees, tree, Pairs, no_pairs, pair, bytes}
+use Rattle.cbor4ii_tree.specs.Tree.{bytes_all, bytes_pairs}
 use Rattle.cbor4ii_items.specs.Decoding.{CostFits}
 use Rattle.cbor4ii_tree.specs.Cost.{Budget, step_in}
 use Rattle.cbor4ii_tree.specs.Refusal.{Refusal, eof, Len, IsEof, IsDepthOverflow}
-use Rattle.cbor4ii_tree.specs.Stops.{Stopping, Is, Missing, MissingAll, BehindHead, AtHead, Stepped, Each, EachPair, StopsInCount, NoBreak, OpenItems, BehindKey, OpenPairs}
+use Rattle.cbor4ii_tree.specs.Stops.{Stopping, Is, Missing, MissingAll, BehindHead, AtHead}
+use Rattle.cbor4ii_tree.specs.Stops.{StopsAtStep, Each, EachPair, StopsInCount, NoBreak, OpenItems}
+use Rattle.cbor4ii_tree.specs.Stops.{BehindKey, OpenPairs}
 
 -- of one refusal, before what comes later
 abbrev pub Goes : Refusal → List ℕ → Stopping → Stopping → Type 0
@@ -44,12 +48,14 @@ pub each_covers : (V W : Tree → Type 0) → Covers V W → (ts : Trees) → Ea
 each_covers V W c no_trees h = tt
 each_covers V W c (tree t ts) h = (c t h.0, each_covers V W c ts h.1)
 
-pub each_pair_covers : (V W : Tree → Type 0) → Covers V W → (ps : Pairs) → EachPair V ps → EachPair W ps
+pub each_pair_covers : (V W : Tree → Type 0) → Covers V W → (ps : Pairs) → EachPair V ps
+    → EachPair W ps
 each_pair_covers V W c no_pairs h = tt
 each_pair_covers V W c (pair k v ps) h = (c k h.0, c v h.1, each_pair_covers V W c ps h.2)
 
 -- at the end of the input nothing is behind it
-pub at_end : (S : Stopping) (e : Refusal) (more bs rest : List ℕ) → more ≡ [] → S bs e rest → S (bs ++ more) e (rest ++ more)
+pub at_end : (S : Stopping) (e : Refusal) (more bs rest : List ℕ) → more ≡ [] → S bs e rest
+    → S (bs ++ more) e (rest ++ more)
 at_end S e more bs rest is s =
     let nothing : (xs : List ℕ) → xs ++ more ≡ xs = λ xs. ap (λ m. xs ++ m) is ∙ append-nil xs in
     rw (nothing bs, nothing rest) s
@@ -60,32 +66,55 @@ eof_is f e h is = subst IsEof (sym is) h
 depth_is : (f e : Refusal) → IsDepthOverflow f → e ≡ f → IsDepthOverflow e
 depth_is f e h is = subst IsDepthOverflow (sym is) h
 
-pub is_goes : (f e : Refusal) (left rest more : List ℕ) → Is f left e rest → Is f (left ++ more) e (rest ++ more)
+pub is_goes : (f e : Refusal) (left rest more : List ℕ) → Is f left e rest
+    → Is f (left ++ more) e (rest ++ more)
 is_goes f e left rest more h = (h.0, ap (λ r. r ++ more) h.1)
 
-pub missing_goes : (name : List ℕ) (k : ℕ) (e : Refusal) (more : List ℕ) → Calm e more → Goes e more (Missing name k) (Missing name k)
-missing_goes name k e more calm bs rest s = at_end (Missing name k) e more bs rest (calm (eof_is _ e tt s.1.0)) s
+pub missing_goes : (name : List ℕ) (k : ℕ) (e : Refusal) (more : List ℕ) → Calm e more
+    → Goes e more (Missing name k) (Missing name k)
+missing_goes name k e more calm bs rest s =
+    at_end (Missing name k) e more bs rest (calm (eof_is _ e tt s.1.0)) s
 
-pub missing_all_goes : (name : List ℕ) (k : ℕ) (e : Refusal) (more : List ℕ) → Calm e more → Goes e more (MissingAll name k) (MissingAll name k)
-missing_all_goes name k e more calm bs rest s = at_end (MissingAll name k) e more bs rest (calm (eof_is _ e tt s.1.0)) s
+pub missing_all_goes : (name : List ℕ) (k : ℕ) (e : Refusal) (more : List ℕ) → Calm e more
+    → Goes e more (MissingAll name k) (MissingAll name k)
+missing_all_goes name k e more calm bs rest s =
+    at_end (MissingAll name k) e more bs rest (calm (eof_is _ e tt s.1.0)) s
 
 -- no byte where an item should begin
-pub no_byte_goes : (name : List ℕ) (n : Len) (S : Stopping) (e : Refusal) (rest more : List ℕ) → Calm e more → Is (eof name n) [] e rest → S [] e rest → S ([] ++ more) e (rest ++ more)
+pub no_byte_goes : (name : List ℕ) (n : Len) (S : Stopping) (e : Refusal) (rest more : List ℕ)
+    → Calm e more → Is (eof name n) [] e rest → S [] e rest → S ([] ++ more) e (rest ++ more)
 no_byte_goes name n S e rest more calm is s = at_end S e more [] rest (calm (eof_is _ e tt is.0)) s
 
-onward : (bs front after more : List ℕ) → bs ≡ front ++ after → bs ++ more ≡ front ++ (after ++ more)
+onward : (bs front after more : List ℕ) → bs ≡ front ++ after
+    → bs ++ more ≡ front ++ (after ++ more)
 onward bs front after more h = ap (λ r. r ++ more) h ∙ append_assoc front after more
 
-pub behind_head_goes : (major : ℕ) (w : Width) (b : ℕ) (e : Refusal) (more : List ℕ) (s t : ℕ → Stopping) → ((n : ℕ) → Goes e more (s n) (t n)) → Goes e more (BehindHead major w b s) (BehindHead major w b t)
+pub behind_head_goes : (major : ℕ) (w : Width) (b : ℕ) (e : Refusal) (more : List ℕ)
+    (s t : ℕ → Stopping) → ((n : ℕ) → Goes e more (s n) (t n))
+    → Goes e more (BehindHead major w b s) (BehindHead major w b t)
 behind_head_goes major w b e more s t k bs rest x =
-    record { argument = x.argument; after = x.after ++ more; fits = x.fits; is = onward (b ∷ bs) (head major x.argument w) x.after more x.is; stopped = k x.argument x.after rest x.stopped }
+    record {
+      argument = x.argument;
+      after = x.after ++ more;
+      fits = x.fits;
+      is = onward (b ∷ bs)
+          (head major x.argument w) x.after more x.is;
+      stopped = k x.argument x.after rest x.stopped;
+    }
 
-pub at_head_goes : (name : List ℕ) (major : ℕ) (w : Width) (b : ℕ) (e : Refusal) (more : List ℕ) (s t : ℕ → Stopping) → Calm e more → ((n : ℕ) → Goes e more (s n) (t n)) → Goes e more (AtHead name major w b s) (AtHead name major w b t)
-at_head_goes name major w b e more s t calm k bs rest (inl x) = inl (missing_all_goes name (byte_count w) e more calm bs rest x)
-at_head_goes name major w b e more s t calm k bs rest (inr x) = inr (behind_head_goes major w b e more s t k bs rest x)
+pub at_head_goes : (name : List ℕ) (major : ℕ) (w : Width) (b : ℕ) (e : Refusal) (more : List ℕ)
+    (s t : ℕ → Stopping) → Calm e more → ((n : ℕ) → Goes e more (s n) (t n))
+    → Goes e more (AtHead name major w b s) (AtHead name major w b t)
+at_head_goes name major w b e more s t calm k bs rest (inl x) =
+    inl (missing_all_goes name (byte_count w) e more calm bs rest x)
+at_head_goes name major w b e more s t calm k bs rest (inr x) =
+    inr (behind_head_goes major w b e more s t k bs rest x)
 
-pub stepped_goes : (name : List ℕ) (b c : Budget) (e : Refusal) (here rest more : List ℕ) (s t : Budget → Refusal → List ℕ → Type 0) → Widens e b c → ((x y : Budget) → Widens e x y → s x e rest → t y e (rest ++ more)) → Stepped name (step_in b) here s e rest
-    → Stepped name (step_in c) (here ++ more) t e (rest ++ more)
+pub stepped_goes : (name : List ℕ) (b c : Budget) (e : Refusal) (here rest more : List ℕ)
+    (s t : Budget → Refusal → List ℕ → Type 0) → Widens e b c
+    → ((x y : Budget) → Widens e x y → s x e rest → t y e (rest ++ more))
+    → StopsAtStep name (step_in b) here s e rest
+    → StopsAtStep name (step_in c) (here ++ more) t e (rest ++ more)
 stepped_goes name None None e here rest more s t w k x = k None None tt x
 stepped_goes name None (Some m) e here rest more s t w k x = absurd w
 stepped_goes name (Some zero) None e here rest more s t w k x = absurd (w (depth_is _ e tt x.0))
@@ -93,24 +122,59 @@ stepped_goes name (Some (suc n)) None e here rest more s t w k x = k (Some n) No
 stepped_goes name (Some zero) (Some zero) e here rest more s t w k x = is_goes _ e here rest more x
 stepped_goes name (Some zero) (Some (suc m)) e here rest more s t w k x = absurd (omega arith)
 stepped_goes name (Some (suc n)) (Some zero) e here rest more s t w k x = absurd (omega arith)
-stepped_goes name (Some (suc n)) (Some (suc m)) e here rest more s t w k x = k (Some n) (Some m) (omega arith) x
+stepped_goes name (Some (suc n)) (Some (suc m)) e here rest more s t w k x =
+    k (Some n) (Some m) (omega arith) x
 
-pub counted_goes : (V W : Tree → Type 0) (e : Refusal) (more : List ℕ) (s t : Stopping) (n : ℕ) → Covers V W → Goes e more s t → Goes e more (StopsInCount V s n) (StopsInCount W t n)
+pub counted_goes : (V W : Tree → Type 0) (e : Refusal) (more : List ℕ) (s t : Stopping) (n : ℕ)
+    → Covers V W → Goes e more s t → Goes e more (StopsInCount V s n) (StopsInCount W t n)
 counted_goes V W e more s t n c k bs rest x =
-    record { front = x.front; after = x.after ++ more; few = x.few; whole = each_covers V W c x.front x.whole; is = onward bs (bytes_all x.front) x.after more x.is; stopped = k x.after rest x.stopped }
+    record {
+      front = x.front;
+      after = x.after ++ more;
+      few = x.few;
+      whole = each_covers V W c x.front x.whole;
+      is = onward bs (bytes_all x.front) x.after more x.is;
+      stopped = k x.after rest x.stopped;
+    }
 
-no_break_goes : (e : Refusal) (more : List ℕ) (s t : Stopping) → Calm e more → Goes e more s t → Goes e more (NoBreak s) (NoBreak t)
-no_break_goes e more s t calm k [] rest x = at_end (NoBreak t) e more [] rest (calm (eof_is _ e tt x.0)) x
+no_break_goes : (e : Refusal) (more : List ℕ) (s t : Stopping) → Calm e more → Goes e more s t
+    → Goes e more (NoBreak s) (NoBreak t)
+no_break_goes e more s t calm k [] rest x =
+    at_end (NoBreak t) e more [] rest (calm (eof_is _ e tt x.0)) x
 no_break_goes e more s t calm k (b ∷ bs) rest x = (x.0, k (b ∷ bs) rest x.1)
 
-pub items_goes : (V W : Tree → Type 0) (e : Refusal) (more : List ℕ) (s t : Stopping) → Calm e more → Covers V W → Goes e more s t → Goes e more (OpenItems V s) (OpenItems W t)
+pub items_goes : (V W : Tree → Type 0) (e : Refusal) (more : List ℕ) (s t : Stopping) → Calm e more
+    → Covers V W → Goes e more s t → Goes e more (OpenItems V s) (OpenItems W t)
 items_goes V W e more s t calm c k bs rest x =
-    record { front = x.front; after = x.after ++ more; whole = each_covers V W c x.front x.whole; is = onward bs (bytes_all x.front) x.after more x.is; stopped = no_break_goes e more s t calm k x.after rest x.stopped }
+    record {
+      front = x.front;
+      after = x.after ++ more;
+      whole = each_covers V W c x.front x.whole;
+      is = onward bs (bytes_all x.front) x.after more x.is;
+      stopped = no_break_goes e more s t calm k x.after rest x.stopped;
+    }
 
-pub pairs_goes : (V W : Tree → Type 0) (e : Refusal) (more : List ℕ) (s t : Stopping) → Calm e more → Covers V W → Goes e more s t → Goes e more (OpenPairs V s) (OpenPairs W t)
+pub pairs_goes : (V W : Tree → Type 0) (e : Refusal) (more : List ℕ) (s t : Stopping) → Calm e more
+    → Covers V W → Goes e more s t → Goes e more (OpenPairs V s) (OpenPairs W t)
 pairs_goes V W e more s t calm c k bs rest x =
-    record { front = x.front; after = x.after ++ more; whole = each_pair_covers V W c x.front x.whole; is = onward bs (bytes_pairs x.front) x.after more x.is; stopped = by_end x.after x.stopped }
+    record {
+      front = x.front;
+      after = x.after ++ more;
+      whole = each_pair_covers V W c x.front x.whole;
+      is = onward bs (bytes_pairs x.front) x.after more x.is;
+      stopped = by_end x.after x.stopped;
+    }
   where
-    by_end : (after : List ℕ) → NoBreak s after e rest ⊎ BehindKey V s after e rest → NoBreak t (after ++ more) e (rest ++ more) ⊎ BehindKey W t (after ++ more) e (rest ++ more)
+    by_end : (after : List ℕ) → NoBreak s after e rest ⊎ BehindKey V s after e rest
+        → NoBreak t (after ++ more) e (rest ++ more)
+        ⊎ BehindKey W t (after ++ more) e (rest ++ more)
     by_end after (inl y) = inl (no_break_goes e more s t calm k after rest y)
-    by_end after (inr y) = inr (record { key = y.key; after = y.after ++ more; whole = c y.key y.whole; is = onward after (bytes y.key) y.after more y.is; stopped = k y.after rest y.stopped })
+    by_end after (inr y) =
+        inr (record {
+          key = y.key;
+          after = y.after ++ more;
+          whole = c y.key y.whole;
+          is =
+              onward after (bytes y.key) y.after more y.is;
+          stopped = k y.after rest y.stopped;
+        })

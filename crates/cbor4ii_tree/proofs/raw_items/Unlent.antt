@@ -1,5 +1,6 @@
 -- What is said of an item that is to be kept, where the reader lends nothing.
-use Rattle.std.proofs.Common.{◌≡◌, ℕ, ◌<◌, ◌≤◌, inl, inr, List, [], length, drop, Option, Some, false, true, refl, sym, ap, ◌∙◌, subst, arith, length-append}
+use Rattle.std.proofs.Common.{◌≡◌, ℕ, ◌<◌, ◌≤◌, inl, inr, List, [], length, drop, Option, Some}
+use Rattle.std.proofs.Common.{false, true, refl, sym, ap, ◌∙◌, subst, arith, length-append}
 use Rattle.std.specs.Prelude.{MatchOption}
 use denote.Ref.{Bor}
 use Rattle.cbor4ii_rw.specs.View.{View, Told}
@@ -19,9 +20,17 @@ use Rattle.cbor4ii_tree.proofs.raw_items.Captured.{if_some, no_bytes}
 
 -- no item stands in no bytes
 pub no_item : {budget : Budget} {n : ℕ} → SkipsFront [] budget n → ⊥
-no_item {n = n} i = absurd (omega (arith, ap length i.skips.begins, length-append (bytes i.skipped) (drop n []), length-bytes-pos i.skipped))
+no_item {n = n} i =
+    absurd (omega (
+      arith,
+      ap length i.skips.begins,
+      length-append (bytes i.skipped) (drop n []),
+      length-bytes-pos i.skipped,
+    ))
 
-module _ {a b : View} (answer : Option (Bor (List ℕ))) (shown : Bor (List ℕ)) (is : answer ≡ Some shown) (moved : MatchOption answer (Breaks a b) (λ s. Shows s.now a b)) (front : Told a.told (IsFront most shown.now)) where
+module _ {a b : View} (answer : Option (Bor (List ℕ))) (shown : Bor (List ℕ))
+    (is : answer ≡ Some shown) (moved : MatchOption answer (Breaks a b) (λ s. Shows s.now a b))
+    (front : Told a.told (IsFront most shown.now)) where
   shows : Shows shown.now a b
   shows = subst (λ o. MatchOption o (Breaks a b) (λ s. Shows s.now a b)) is moved
 
@@ -36,15 +45,38 @@ module _ {a b : View} (answer : Option (Bor (List ℕ))) (shown : Bor (List ℕ)
       }
 
   -- some bytes are left
-  pub some_stops : {E : Type 0} (name : Bor (List ℕ)) → name.now ≡ raw_value → 1 ≤ length shown.now → Stops {E = E} StopsRawUnlent a b (RequireBorrowed name)
+  pub some_stops : {E : Type 0} (name : Bor (List ℕ)) → name.now ≡ raw_value → 1 ≤ length shown.now
+      → Stops {E = E} StopsRawUnlent a b (RequireBorrowed name)
   some_stops name named some = record {
-    at = λ xs told. (xs, shows.told xs told, (refl, inl ((λ none. omega (arith, some, (front xs told).within, ap length none)), ap require_borrowed named)));
+    at = λ xs told. (
+      xs,
+      shows.told xs told,
+      (
+        refl,
+        inl (
+          (λ none. omega (arith, some, (front xs told).within, ap length none)),
+          ap require_borrowed named,
+        ),
+      ),
+    );
   }
 
 -- no byte is left
-pub none_stops : {E : Type 0} {a m k : View} {e : DecodeError E} → LendsFront [] a m → StopsFront [] m.budget e → KeepsAllButBudget m k → Stops StopsRawUnlent a k e
+pub none_stops : {E : Type 0} {a m k : View} {e : DecodeError E} → LendsFront [] a m
+    → StopsFront [] m.budget e → KeepsAllButBudget m k → Stops StopsRawUnlent a k e
 none_stops {a = a} {m = m} {k = k} {e = e} l s same = record {
   at = λ xs told.
-      if_some (refusal_of e) (λ z. (left : List ℕ) × StopsSkipping [] m.budget z left) (λ z. (rest : List ℕ) × (k.told ≡ Some rest) × StopsRawUnlent xs a.budget z rest)
-      (λ z h. (xs, same.told ∙ l.shows.told xs told, (refl, inr ((l.front xs told).ends (omega arith) refl, (h.0, subst (λ o. StopsSkipping [] o z h.0) l.shows.budget h.1))))) s.stops;
+      if_some (refusal_of e) (λ z. (left : List ℕ) × StopsSkipping [] m.budget z left)
+      (λ z. (rest : List ℕ) × (k.told ≡ Some rest) × StopsRawUnlent xs a.budget z rest)
+      (λ z h. (
+        xs,
+        same.told ∙ l.shows.told xs told,
+        (
+          refl,
+          inr (
+            (l.front xs told).ends (omega arith) refl,
+            (h.0, subst (λ o. StopsSkipping [] o z h.0) l.shows.budget h.1),
+          ),
+        ),
+      )) s.stops;
 }

@@ -1,5 +1,8 @@
 -- Bytes that are skipped, front by front, and the arguments of heads.
-use Rattle.std.proofs.Common.{◌≡◌, ℕ, zero, suc, ◌+◌, ◌-◌, ◌*◌, ◌<◌, ◌≤◌, List, [], ◌∷◌, ◌++◌, length, take, drop, Option, Some, None, Ok, Err, true, false, refl, sym, ap, ◌∙◌, subst, arith, IfSome, append_assoc, length-append, take-append-drop, ltb, ltb-true, ltb-false, Bool}
+use Rattle.std.proofs.Common.{◌≡◌, ℕ, zero, suc, ◌+◌, ◌-◌, ◌*◌, ◌<◌, ◌≤◌, List, [], ◌∷◌, ◌++◌}
+use Rattle.std.proofs.Common.{length, take, drop, Option, Some, None, Ok, Err, true, false, refl}
+use Rattle.std.proofs.Common.{sym, ap, ◌∙◌, subst, arith, IfSome, append_assoc, length-append}
+use Rattle.std.proofs.Common.{take-append-drop, ltb, ltb-true, ltb-false, Bool}
 use Rattle.std.proofs.lemmas.List.{length-take-le}
 use denote.Ref.{Bor}
 use Rattle.cbor4ii_rw.specs.View.{View, Told}
@@ -36,23 +39,47 @@ len_is n l s b = by_size (ltb n 65536) refl
 
 -- ---- what is shown
 
-pub none_shown : {E : Type 0} {name : Bor (List ℕ)} (missing : ℕ) {l : Len} {shown : List ℕ} {a b : View} → 1 ≤ missing → Shows shown a b → Told a.told (IsFront missing shown) → length shown ≡ 0 → (missing < 65536 → l ≡ Small missing) → (65536 ≤ missing → l ≡ Big)
+pub none_shown : {E : Type 0} {name : Bor (List ℕ)} (missing : ℕ) {l : Len} {shown : List ℕ}
+    {a b : View} → 1 ≤ missing → Shows shown a b → Told a.told (IsFront missing shown)
+    → length shown ≡ 0 → (missing < 65536 → l ≡ Small missing) → (65536 ≤ missing → l ≡ Big)
     → Does {V = ℕ} {E = E} (DropsSome missing) (Missing name.now missing) a b (Err (Eof name l))
 none_shown {name = name} missing {l = l} {a = a} {b = b} some s front none small big =
     let is : l ≡ len_of missing = len_is missing l small big in
-    does_refuse (λ xs ys. (xs ≡ []) × (ys ≡ [])) (DropsSome missing) (Missing name.now missing) (eof name.now l) refl refl refl
-    (λ xs ys e. let z : length xs ≡ 0 = ap length e.0 in let gap : missing - length xs ≡ missing = omega (arith, z) in (omega (arith, z), (ap (eof name.now) (is ∙ ap len_of (sym gap)), e.1)))
-    (record { kept = shows_kept s; at = λ xs told. let e = (front xs told).ends (omega (arith, some)) none in (xs, s.told xs told, (e, e)) })
+    does_refuse (λ xs ys. (xs ≡ []) × (ys ≡ [])) (DropsSome missing) (Missing name.now missing)
+    (eof name.now l) refl refl refl
+    (λ xs ys e. let z : length xs ≡ 0 = ap length e.0 in
+    let gap : missing - length xs ≡ missing = omega (arith, z) in
+    (omega (arith, z), (ap (eof name.now) (is ∙ ap len_of (sym gap)), e.1)))
+    (record {
+      kept = shows_kept s;
+      at = λ xs told. let e =
+          (front xs told).ends (omega (arith, some)) none in (xs, s.told xs told, (e, e));
+    })
 
-pub some_shown : {E : Type 0} {name : List ℕ} (missing : ℕ) {n : ℕ} {shown : List ℕ} {a m b : View} → Shows shown a m → Told a.told (IsFront missing shown) → 1 ≤ n → n ≤ missing → n ≤ length shown → IsBytes (take n shown) → Advances n m b
+pub some_shown : {E : Type 0} {name : List ℕ} (missing : ℕ) {n : ℕ} {shown : List ℕ} {a m b : View}
+    → Shows shown a m → Told a.told (IsFront missing shown) → 1 ≤ n → n ≤ missing → n ≤ length shown
+    → IsBytes (take n shown) → Advances n m b
     → Does {V = ℕ} {E = E} (DropsSome missing) (Missing name missing) a b (Ok n)
 some_shown {name = name} missing {n = n} {shown = shown} s front some most within bytes adv =
     let l = lends_front s front within bytes refl adv in
     does_ok (DropsSome missing) (Missing name missing) (record {
       kept = l.kept;
       at = λ xs told.
-          let t = l.at xs told in
-          (drop n xs, t.1, (some, most, record { content = take n xs; size = length-take-le n xs t.0; bytes = subst IsBytes t.2 bytes; is = sym (take-append-drop n xs) }));
+          let t = l.at xs told in (
+            drop n xs,
+            t.1,
+            (
+              some,
+              most,
+              record {
+                content = take n xs;
+                size = length-take-le n xs
+                    t.0;
+                bytes = subst IsBytes t.2 bytes;
+                is = sym (take-append-drop n xs);
+              },
+            ),
+          );
     })
 
 -- ---- bytes one front after another
@@ -62,9 +89,11 @@ abbrev pub Dropped : ℕ → ℕ → List ℕ → List ℕ → Type 0
 Dropped count missing xs ys = (n : ℕ) × (n + missing ≡ count) × DropsBytes n xs ys
 
 pub dropped_none : (count : ℕ) (xs : List ℕ) → Dropped count count xs xs
-dropped_none count xs = (0, omega arith, record { content = []; size = refl; bytes = tt; is = refl })
+dropped_none count xs =
+    (0, omega arith, record { content = []; size = refl; bytes = tt; is = refl })
 
-pub dropped_more : (count missing n : ℕ) (xs ys zs : List ℕ) → Dropped count missing xs ys → DropsSome missing ys n zs → Dropped count (missing - n) xs zs
+pub dropped_more : (count missing n : ℕ) (xs ys zs : List ℕ) → Dropped count missing xs ys
+    → DropsSome missing ys n zs → Dropped count (missing - n) xs zs
 dropped_more count missing n xs ys zs d s = (
   d.0 + n,
   omega (arith, d.1, s.1),
@@ -76,29 +105,45 @@ dropped_more count missing n xs ys zs d s = (
   },
 )
 
-pub dropped_cut : (name : List ℕ) (count missing : ℕ) (xs ys : List ℕ) (e : Refusal) (rest : List ℕ) → Dropped count missing xs ys → Missing name missing ys e rest → Missing name count xs e rest
+pub dropped_cut : (name : List ℕ) (count missing : ℕ) (xs ys : List ℕ) (e : Refusal) (rest : List ℕ)
+    → Dropped count missing xs ys → Missing name missing ys e rest → Missing name count xs e rest
 dropped_cut name count missing xs ys e rest d m =
-    let size : length xs ≡ d.0 + length ys = omega (arith, ap length d.2.is, length-append d.2.content ys, d.2.size) in
+    let size : length xs ≡ d.0 + length ys =
+    omega (arith, ap length d.2.is, length-append d.2.content ys, d.2.size) in
     let gap : missing - length ys ≡ count - length xs = omega (arith, size, d.1, m.0) in
     (omega (arith, size, d.1, m.0), (m.1.0 ∙ ap (λ j. eof name (len_of j)) gap, m.1.1))
 
-pub dropped_all : (count missing : ℕ) (xs ys : List ℕ) → missing ≡ 0 → Dropped count missing xs ys → DropsBytes count xs ys
-dropped_all count missing xs ys none d = record { content = d.2.content; size = omega (arith, d.2.size, d.1, none); bytes = d.2.bytes; is = d.2.is }
+pub dropped_all : (count missing : ℕ) (xs ys : List ℕ) → missing ≡ 0 → Dropped count missing xs ys
+    → DropsBytes count xs ys
+dropped_all count missing xs ys none d = record {
+  content = d.2.content;
+  size = omega (arith, d.2.size, d.1, none);
+  bytes = d.2.bytes;
+  is = d.2.is;
+}
 
 -- ---- arguments
 
-number_cut : (name : List ℕ) (expect k high : ℕ) (bs : List ℕ) (e : Refusal) (rest : List ℕ) → number_on name expect k high bs ≡ Err (e, rest) → (length bs < k) × (e ≡ eof name (Small expect)) × (rest ≡ [])
+number_cut : (name : List ℕ) (expect k high : ℕ) (bs : List ℕ) (e : Refusal) (rest : List ℕ)
+    → number_on name expect k high bs ≡ Err (e, rest)
+    → (length bs < k) × (e ≡ eof name (Small expect)) × (rest ≡ [])
 number_cut name expect zero high bs e rest h = absurd (no_err _ _ h)
-number_cut name expect (suc k) high [] e rest h = let g = is_err {A = ℕ} _ _ _ _ h in (omega arith, g.0, g.1)
-number_cut name expect (suc k) high (b ∷ bs) e rest h = let r = number_cut name expect k (high * 256 + b) bs e rest h in (omega (arith, r.0), r.1, r.2)
+number_cut name expect (suc k) high [] e rest h =
+    let g = is_err {A = ℕ} _ _ _ _ h in (omega arith, g.0, g.1)
+number_cut name expect (suc k) high (b ∷ bs) e rest h =
+    let r = number_cut name expect k (high * 256 + b) bs e rest h in (omega (arith, r.0), r.1, r.2)
 
 pub says_width : (i : ℕ) (w : Width) → info_of i ≡ wide w → WidthSays w i
 says_width i w e = subst (InfoSays i) e (info_says i)
 
-pub width_is : (w : Width) (i k : ℕ) (a : Additional) → info_of i ≡ wide w → a ≡ additional_of (info_of i) → a ≡ Wide k → byte_count w ≡ k
-width_is w i k a is by at = let e : additional_of (info_of i) ≡ Wide (byte_count w) = ap additional_of is in cc
+pub width_is : (w : Width) (i k : ℕ) (a : Additional) → info_of i ≡ wide w
+    → a ≡ additional_of (info_of i) → a ≡ Wide k → byte_count w ≡ k
+width_is w i k a is by at =
+    let e : additional_of (info_of i) ≡ Wide (byte_count w) = ap additional_of is in cc
 
-cut_at : (o : Option Refusal) (name : List ℕ) (k : ℕ) (w : Width) (xs : List ℕ) (new : Option (List ℕ)) → byte_count w ≡ k → IfSome o (λ z. (ys : List ℕ) × (new ≡ Some ys) × (number_on name k k 0 xs ≡ Err (z, ys)))
+cut_at : (o : Option Refusal) (name : List ℕ) (k : ℕ) (w : Width) (xs : List ℕ)
+    (new : Option (List ℕ)) → byte_count w ≡ k
+    → IfSome o (λ z. (ys : List ℕ) × (new ≡ Some ys) × (number_on name k k 0 xs ≡ Err (z, ys)))
     → IfSome o (λ z. (ys : List ℕ) × (new ≡ Some ys) × MissingAll name (byte_count w) xs z ys)
 cut_at None name k w xs new size h = tt
 cut_at (Some z) name k w xs new size h =
@@ -112,7 +157,9 @@ cut_at (Some z) name k w xs new size h =
     small four k e = ap Small (sym e)
     small eight k e = ap Small (sym e)
 
-pub argument_cut : {E : Type 0} (name : List ℕ) (w : Width) (first k : ℕ) {a b : View} {e : DecodeError E} → byte_count w ≡ k → Runs {V = ℕ} (number_on name k k 0) a b (Err e) → Does {V = ℕ} (ArgumentAt w first) (MissingAll name (byte_count w)) a b (Err e)
+pub argument_cut : {E : Type 0} (name : List ℕ) (w : Width) (first k : ℕ) {a b : View}
+    {e : DecodeError E} → byte_count w ≡ k → Runs {V = ℕ} (number_on name k k 0) a b (Err e)
+    → Does {V = ℕ} (ArgumentAt w first) (MissingAll name (byte_count w)) a b (Err e)
 argument_cut name w first k {b = b} {e = e} size p = record {
   moves = moves_err p.moves;
   ok = tt;

@@ -1,5 +1,6 @@
 -- The calls of skipping, one behind another.
-use Rattle.std.proofs.Common.{◌≡◌, ◌≢◌, ℕ, List, [], ◌∷◌, Result, Ok, Err, Bool, true, false, sym, subst}
+use Rattle.std.proofs.Common.{◌≡◌, ◌≢◌, ℕ, List, [], ◌∷◌, Result, Ok, Err, Bool, true, false, sym}
+use Rattle.std.proofs.Common.{subst}
 use Rattle.cbor4ii_rw.specs.View.{View}
 use Rattle.cbor4ii_rw.specs.declared.error.DecodeError.{DecodeError}
 use Rattle.cbor4ii_items.specs.Head.{break}
@@ -11,20 +12,29 @@ use Rattle.cbor4ii_tree.specs.Refusal.{eof, Small, break_name}
 use Rattle.cbor4ii_tree.specs.Cost.{Budget}
 use Rattle.cbor4ii_tree.specs.Stops.{Stopping}
 use Rattle.cbor4ii_tree.specs.Does.{Accepting, Does}
-use Rattle.cbor4ii_tree.specs.Skipping.{SkipsOne, StopsOne, SkipsUnder, StopsUnder, SkipsBehind, StopsBehind, Leads}
+use Rattle.cbor4ii_tree.specs.Skipping.{SkipsOne, StopsSkippingOne, SkipsUnder, StopsSkippingUnder}
+use Rattle.cbor4ii_tree.specs.Skipping.{SkipsBehind, StopsSkippingBehind, Leads}
 use Rattle.cbor4ii_tree.specs.declared.skip.Behind.{Behind}
-use Rattle.cbor4ii_tree.proofs.skip_calls.Doing.{Reached, reached_by, reached_then, does_after, does_err, does_stops, reached_sound}
+use Rattle.cbor4ii_tree.proofs.skip_calls.Doing.{Reached, reached_by, reached_then, does_after}
+use Rattle.cbor4ii_tree.proofs.skip_calls.Doing.{does_err, does_stops, reached_sound}
 use Rattle.cbor4ii_tree.proofs.skip_calls.Parts.{SkippedPairs, IsOther, after_break, other_byte}
 
 -- ---- behind a head
 
-pub went_on : {E : Type 0} (behind : Behind) {v : Behind} {r : Result (Unit {0}) (DecodeError E)} {a m b : View} → v ≡ behind → Does {E = E} (Leads a.budget) (StopsUnder a.budget) a m (Ok v) → Does (λ xs _ ys. SkipsBehind behind m.budget xs ys) (StopsBehind behind m.budget) m b r
-    → Does (λ xs _ ys. SkipsUnder a.budget xs ys) (StopsUnder a.budget) a b r
+pub went_on : {E : Type 0} (behind : Behind) {v : Behind} {r : Result (Unit {0}) (DecodeError E)}
+    {a m b : View} → v ≡ behind → Does {E = E} (Leads a.budget)
+    (StopsSkippingUnder a.budget) a m (Ok v) → Does (λ xs _ ys. SkipsBehind behind m.budget xs ys)
+    (StopsSkippingBehind behind m.budget) m b r
+    → Does (λ xs _ ys. SkipsUnder a.budget xs ys) (StopsSkippingUnder a.budget) a b r
 went_on behind {v = v} {a = a} {m = m} is h d =
     let same : m.budget ≡ a.budget = h.moves.by.budget in
-    does_after (λ xs ys. Leads a.budget xs v ys) (λ xs _ ys. SkipsBehind behind m.budget xs ys) (λ xs _ ys. SkipsUnder a.budget xs ys) (StopsBehind behind m.budget) (StopsUnder a.budget)
-    (λ xs ys zs w l s. (subst (λ z. Leads a.budget xs z ys) is l).skips zs (subst (λ o. SkipsBehind behind o ys zs) same s))
-    (λ xs ys e rest l s. (subst (λ z. Leads a.budget xs z ys) is l).stops e rest (subst (λ o. StopsBehind behind o ys e rest) same s)) (reached_by h) d
+    does_after (λ xs ys. Leads a.budget xs v ys) (λ xs _ ys. SkipsBehind behind m.budget xs ys)
+    (λ xs _ ys. SkipsUnder a.budget xs ys) (StopsSkippingBehind behind m.budget)
+    (StopsSkippingUnder a.budget)
+    (λ xs ys zs w l s. (subst (λ z. Leads a.budget xs z ys) is l).skips zs
+    (subst (λ o. SkipsBehind behind o ys zs) same s))
+    (λ xs ys e rest l s. (subst (λ z. Leads a.budget xs z ys) is l).stops e rest
+    (subst (λ o. StopsSkippingBehind behind o ys e rest) same s)) (reached_by h) d
 
 -- ---- one more item
 
@@ -34,30 +44,54 @@ Before P budget xs ys = P budget xs ys × (ys ≢ []) × ((bs : List ℕ) → ys
 
 module _ (P : Budget → List ℕ → List ℕ → Type 0) {a m : View} (p : Reached (P a.budget) a m) where
   -- it was skipped
-  pub more : {E : Type 0} (Q : List ℕ → List ℕ → Type 0) {v : Unit {0}} {b : View} → ((xs ys zs : List ℕ) → P a.budget xs ys → SkipsOne a.budget ys zs → Q xs zs) → Does {E = E} (λ xs _ ys. SkipsOne m.budget xs ys) (StopsOne m.budget) m b (Ok v) → Reached Q a b
+  pub more : {E : Type 0} (Q : List ℕ → List ℕ → Type 0) {v : Unit {0}} {b : View}
+      → ((xs ys zs : List ℕ) → P a.budget xs ys → SkipsOne a.budget ys zs → Q xs zs) → Does {E = E}
+      (λ xs _ ys. SkipsOne m.budget xs ys) (StopsSkippingOne m.budget) m b (Ok v) → Reached Q a b
   more Q {v = v} f d =
-      reached_then (P a.budget) (SkipsOne m.budget) Q (λ xs ys zs h s. f xs ys zs h (subst (λ o. SkipsOne o ys zs) p.kept.budget s)) p (reached_by d)
+      reached_then (P a.budget) (SkipsOne m.budget) Q (λ xs ys zs h s.
+      f xs ys zs h (subst (λ o. SkipsOne o ys zs) p.kept.budget s)) p (reached_by d)
 
   -- it stopped
-  pub ends : {U E : Type 0} (B : Accepting U) (T : Stopping) {e : DecodeError E} {b : View} → ((xs ys : List ℕ) (z : Refusal) (rest : List ℕ) → P a.budget xs ys → StopsOne a.budget ys z rest → T xs z rest)
-      → Does {V = Unit {0}} (λ xs _ ys. SkipsOne m.budget xs ys) (StopsOne m.budget) m b (Err e) → Does {V = U} B T a b (Err e)
-  ends B T f d = does_err (P a.budget) (λ xs _ ys. SkipsOne m.budget xs ys) B (StopsOne m.budget) T (λ xs ys z rest h s. f xs ys z rest h (subst (λ o. StopsOne o ys z rest) p.kept.budget s)) p d
+  pub ends : {U E : Type 0} (B : Accepting U) (T : Stopping) {e : DecodeError E} {b : View}
+      → ((xs ys : List ℕ) (z : Refusal) (rest : List ℕ) → P a.budget xs ys
+      → StopsSkippingOne a.budget ys z rest → T xs z rest)
+      → Does {V = Unit {0}} (λ xs _ ys. SkipsOne m.budget xs ys)
+      (StopsSkippingOne m.budget) m b (Err e) → Does {V = U} B T a b (Err e)
+  ends B T f d =
+      does_err (P a.budget)
+      (λ xs _ ys. SkipsOne m.budget xs ys) B (StopsSkippingOne m.budget) T (λ xs ys z rest h s.
+      f xs ys z rest h (subst (λ o. StopsSkippingOne o ys z rest) p.kept.budget s)) p d
 
   -- a break
-  pub broke : {E : Type 0} (Q : List ℕ → List ℕ → Type 0) {v : Bool} {b : View} → ((xs ys zs : List ℕ) → P a.budget xs ys → ys ≡ break ∷ zs → Q xs zs) → v ≡ true → Moves {E = E} m b (Ok v) → Sound ReadsBreak m b v → Reached Q a b
+  pub broke : {E : Type 0} (Q : List ℕ → List ℕ → Type 0) {v : Bool} {b : View}
+      → ((xs ys zs : List ℕ) → P a.budget xs ys → ys ≡ break ∷ zs → Q xs zs) → v ≡ true
+      → Moves {E = E} m b (Ok v) → Sound ReadsBreak m b v → Reached Q a b
   broke Q f is moves s =
-      reached_then (P a.budget) (λ xs ys. xs ≡ break ∷ ys) Q f p (reached_sound ReadsBreak (λ xs ys. xs ≡ break ∷ ys) (λ xs n c _ r. after_break xs n c (subst (λ z. ReadsBreak xs z n c) is r)) moves s)
+      reached_then (P a.budget)
+      (λ xs ys. xs ≡ break ∷ ys) Q f p (reached_sound ReadsBreak (λ xs ys. xs ≡ break ∷ ys)
+      (λ xs n c _ r. after_break xs n c (subst (λ z. ReadsBreak xs z n c) is r)) moves s)
 
   -- another byte
-  pub other : {E : Type 0} {v : Bool} {b : View} → v ≡ false → Moves {E = E} m b (Ok v) → Sound ReadsBreak m b v → Reached (Before P a.budget) a b
+  pub other : {E : Type 0} {v : Bool} {b : View} → v ≡ false → Moves {E = E} m b (Ok v)
+      → Sound ReadsBreak m b v → Reached (Before P a.budget) a b
   other is moves s =
-      reached_then (P a.budget) IsOther (Before P a.budget) (λ xs ys zs h o. (subst (P a.budget xs) (sym o.0) h, subst (λ ws. ws ≢ []) (sym o.0) o.1, subst (λ ws. (bs : List ℕ) → ws ≡ break ∷ bs → ⊥) (sym o.0) o.2)) p
-      (reached_sound ReadsBreak IsOther (λ xs n c _ r. other_byte xs n c (subst (λ z. ReadsBreak xs z n c) is r)) moves s)
+      reached_then (P a.budget) IsOther (Before P a.budget)
+      (λ xs ys zs h o. (
+        subst (P a.budget xs) (sym o.0) h,
+        subst (λ ws. ws ≢ []) (sym o.0) o.1,
+        subst (λ ws. (bs : List ℕ) → ws ≡ break ∷ bs → ⊥) (sym o.0) o.2,
+      )) p
+      (reached_sound ReadsBreak IsOther
+      (λ xs n c _ r. other_byte xs n c (subst (λ z. ReadsBreak xs z n c) is r)) moves s)
 
   -- neither
-  pub at_end : {U E : Type 0} (B : Accepting U) (T : Stopping) {e : DecodeError E} {b : View} → ((xs ys : List ℕ) → P a.budget xs ys → ys ≡ [] → T xs (eof break_name (Small 1)) []) → Moves {V = Bool} m b (Err e) → Stops StopsBreak m b e → Does {V = U} B T a b (Err e)
+  pub at_end : {U E : Type 0} (B : Accepting U) (T : Stopping) {e : DecodeError E} {b : View}
+      → ((xs ys : List ℕ) → P a.budget xs ys → ys ≡ [] → T xs (eof break_name (Small 1)) [])
+      → Moves {V = Bool} m b (Err e) → Stops StopsBreak m b e → Does {V = U} B T a b (Err e)
   at_end B T f moves s =
-      does_err (P a.budget) (λ xs (_ : Bool) ys. Unit {0}) B (λ xs. StopsBreak xs m.budget) T (λ xs ys z rest h k. subst (λ y. T xs y rest) (sym k.1) (subst (T xs (eof break_name (Small 1))) (sym k.2) (f xs ys h k.0))) p
+      does_err (P a.budget) (λ xs (_ : Bool) ys. Unit {0}) B (λ xs. StopsBreak xs m.budget) T
+      (λ xs ys z rest h k. subst (λ y. T xs y rest) (sym k.1)
+      (subst (T xs (eof break_name (Small 1))) (sym k.2) (f xs ys h k.0))) p
       (does_stops (λ xs (_ : Bool) ys. Unit {0}) StopsBreak moves s)
 
 -- whole pairs, and a key

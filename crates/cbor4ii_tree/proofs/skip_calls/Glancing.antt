@@ -1,28 +1,34 @@
 -- Heads that stand whole in what is shown.
-use Rattle.std.proofs.Common.{◌≡◌, ◌≢◌, ℕ, suc, ◌+◌, ◌-◌, ◌%◌, ◌<◌, ◌≤◌, List, [], ◌∷◌, ◌++◌, length, take, drop, refl, sym, ap, ◌∙◌, subst, arith, append_assoc, take-append-drop, length-append, length-drop}
+use Rattle.std.proofs.Common.{◌≡◌, ◌≢◌, ℕ, suc, ◌+◌, ◌-◌, ◌%◌, ◌<◌, ◌≤◌, List, [], ◌∷◌, ◌++◌}
+use Rattle.std.proofs.Common.{length, take, drop, refl, sym, ap, ◌∙◌, subst, arith, append_assoc}
+use Rattle.std.proofs.Common.{take-append-drop, length-append, length-drop}
 use Rattle.std.proofs.lemmas.List.{length-take-le}
 use Rattle.std.specs.Int.{bytes_high_first}
-use Rattle.cbor4ii_items.specs.Head.{Width, byte_count, HeadFits, additional, ArgumentBehind, IsBytes, break}
+use Rattle.cbor4ii_items.specs.Head.{Width, byte_count, HeadFits, additional, ArgumentBehind}
+use Rattle.cbor4ii_items.specs.Head.{IsBytes, break}
 use Rattle.cbor4ii_items.specs.Initial.{info_of, wide, initial}
 use Rattle.cbor4ii_items.specs.Laws.Heads.{info-additional, length-bytes_high_first}
 use Rattle.cbor4ii_items.specs.Laws.Fronts.{drop_more}
 use Rattle.cbor4ii_tree.specs.Cost.{Budget}
 use Rattle.cbor4ii_tree.specs.HeadParts.{ArgumentAt}
 use Rattle.cbor4ii_tree.specs.Runs.{IsLeafAt}
-use Rattle.cbor4ii_tree.specs.Skipping.{start_of, Leads, StopsBehind}
+use Rattle.cbor4ii_tree.specs.Skipping.{start_of, Leads, StopsSkippingBehind}
 use Rattle.cbor4ii_tree.specs.Refusal.{Refusal}
 use Rattle.cbor4ii_tree.specs.declared.skip.Start.{Start}
 use Rattle.cbor4ii_tree.specs.Ahead.{BeginsHead, BeginsWithBreak}
 use Rattle.cbor4ii_tree.specs.declared.skip.Behind.{Behind}
-use Rattle.cbor4ii_tree.specs.declared.skip.Behind.TheVariants.{Nothing, Bytes, Items, Members, Open, OpenMembers}
+use Rattle.cbor4ii_tree.specs.declared.skip.Behind.TheVariants.{Nothing, Bytes, Items, Members}
+use Rattle.cbor4ii_tree.specs.declared.skip.Behind.TheVariants.{Open, OpenMembers}
 use Rattle.cbor4ii_tree.specs.declared.skip.Start.TheVariants as start
 use Rattle.cbor4ii_tree.proofs.heads.Inverse.{IsBytes-take, IsBytes-drop}
-use Rattle.cbor4ii_tree.proofs.skip_calls.Leading.{whole, content_info, items_info, members_info, tag_info, open_leads, open_members_leads}
+use Rattle.cbor4ii_tree.proofs.skip_calls.Leading.{whole, content_info, items_info, members_info}
+use Rattle.cbor4ii_tree.proofs.skip_calls.Leading.{tag_info, open_leads, open_members_leads}
 use Rattle.cbor4ii_tree.proofs.spellings.Strict.{same_wide}
 
 -- ---- an item that holds no other
 
-pub sees_leaf : (size : ℕ) (shown : List ℕ) → size ≢ 0 → IsLeafAt 0 size shown → IsBytes (take size shown) → BeginsHead size Nothing shown
+pub sees_leaf : (size : ℕ) (shown : List ℕ) → size ≢ 0 → IsLeafAt 0 size shown
+    → IsBytes (take size shown) → BeginsHead size Nothing shown
 sees_leaf size shown some l fresh = record {
   some = omega (arith, some);
   within = omega (arith, l.within);
@@ -32,7 +38,8 @@ sees_leaf size shown some l fresh = record {
       whole inner (shown ++ after) (rest ++ after) (
         l.leaf.0,
         l.leaf.1,
-        ap (λ r. r ++ after) (sym (take-append-drop size shown)) ∙ (append_assoc (take size shown) rest after ∙ ap (λ r. r ++ (rest ++ after)) l.leaf.2),
+        ap (λ r. r ++ after) (sym (take-append-drop size shown))
+            ∙ (append_assoc (take size shown) rest after ∙ ap (λ r. r ++ (rest ++ after)) l.leaf.2),
       );
   item = λ inner after e rest h. absurd h;
 }
@@ -40,73 +47,123 @@ sees_leaf size shown some l fresh = record {
 -- ---- heads
 
 -- so many bytes behind the first
-behind_first : (size k : ℕ) (behind : Behind) (b : ℕ) (bs : List ℕ) → size ≡ suc k → b < 256 → k ≤ length bs → IsBytes (take k bs)
-    → ((inner : Budget) (ys : List ℕ) (e : Refusal) (rest : List ℕ) → StopsBehind behind inner ys e rest → b ≢ break)
-    → ((inner : Budget) (after : List ℕ) → Leads inner (b ∷ (bs ++ after)) behind (drop k bs ++ after)) → BeginsHead size behind (b ∷ bs)
-behind_first size k behind b bs e small h fresh other f = subst (λ j. BeginsHead j behind (b ∷ bs)) (sym e) (record {
-  some = omega arith;
-  within = omega (arith, h);
-  bytes = (small, fresh);
-  leads = f;
-  item = λ inner after e rest s. ((λ z. cc), λ ws z. let same : b ≡ break = cc in other inner (drop k bs ++ after) e rest s same);
-})
+behind_first : (size k : ℕ) (behind : Behind) (b : ℕ) (bs : List ℕ) → size ≡ suc k → b < 256
+    → k ≤ length bs → IsBytes (take k bs)
+    → ((inner : Budget) (ys : List ℕ) (e : Refusal) (rest : List ℕ)
+    → StopsSkippingBehind behind inner ys e rest → b ≢ break)
+    → ((inner : Budget) (after : List ℕ)
+    → Leads inner (b ∷ (bs ++ after)) behind (drop k bs ++ after))
+    → BeginsHead size behind (b ∷ bs)
+behind_first size k behind b bs e small h fresh other f =
+    subst (λ j. BeginsHead j behind (b ∷ bs)) (sym e) (record {
+      some = omega arith;
+      within = omega (arith, h);
+      bytes = (small, fresh);
+      leads = f;
+      item = λ inner after e rest s. (
+        (λ z. cc),
+        λ ws z. let same : b ≡ break = cc in
+            other inner (drop k bs ++ after) e rest s same,
+      );
+    })
 
 -- a byte that begins an item is no break
-other_byte : (b : ℕ) (s : Start) → start_of (initial b) ≡ s → (s ≡ start.Unsupported → ⊥) → b ≢ break
+other_byte : (b : ℕ) (s : Start) → start_of (initial b) ≡ s → (s ≡ start.Unsupported → ⊥)
+    → b ≢ break
 unfolding initial
 other_byte b s is f e = f (sym is ∙ ap (λ j. start_of (initial j)) e)
 
-module _ (b n k : ℕ) (bs : List ℕ) (small : b < 256) (fresh : IsBytes bs) (a : ArgumentBehind (b % 32) bs n k) where
+module _ (b n k : ℕ) (bs : List ℕ) (small : b < 256) (fresh : IsBytes bs)
+    (a : ArgumentBehind (b % 32) bs n k) where
   within : k ≤ length bs
-  within = omega (arith, ap length a.is, length-append (bytes_high_first k n) (drop k bs), length-bytes_high_first k n)
+  within =
+      omega (
+        arith,
+        ap length a.is,
+        length-append (bytes_high_first k n) (drop k bs),
+        length-bytes_high_first k n,
+      )
 
   -- whatever follows
-  read : (w : Width) → info_of (b % 32) ≡ wide w → (after : List ℕ) → ArgumentAt w b (bs ++ after) n (drop k bs ++ after)
+  read : (w : Width) → info_of (b % 32) ≡ wide w → (after : List ℕ)
+      → ArgumentAt w b (bs ++ after) n (drop k bs ++ after)
   read w is after =
-      let same : a.width ≡ w = same_wide a.width w (sym (info-additional n a.width a.fits) ∙ (ap info_of a.says ∙ is)) in
+      let same : a.width ≡ w =
+      same_wide a.width w (sym (info-additional n a.width a.fits) ∙ (ap info_of a.says ∙ is)) in
       record {
         fits = subst (λ u. HeadFits u n) same a.fits;
         says = subst (λ u. additional u n ≡ b % 32) same a.says;
-        is = ap (λ r. r ++ after) a.is ∙ (append_assoc (bytes_high_first k n) (drop k bs) after ∙ ap (λ j. bytes_high_first j n ++ (drop k bs ++ after)) (a.size ∙ ap byte_count same));
+        is =
+            ap (λ r. r ++ after) a.is ∙ (append_assoc (bytes_high_first k n) (drop k bs) after
+            ∙ ap (λ j. bytes_high_first j n ++ (drop k bs ++ after))
+            (a.size ∙ ap byte_count same));
       }
 
   pub sees_string : start_of (initial b) ≡ start.Content → BeginsHead (1 + k) (Bytes n) (b ∷ bs)
-  sees_string s = behind_first (1 + k) k (Bytes n) b bs (omega arith) small within (IsBytes-take k bs fresh) (λ _ _ _ _ _. other_byte b start.Content s (λ u. cc))
-      (λ inner after. let i = content_info inner b small s in i.3 (bs ++ after) (drop k bs ++ after) n (read i.0 i.1 after))
+  sees_string s =
+      behind_first (1 + k) k (Bytes n) b bs (omega arith) small within (IsBytes-take k bs fresh)
+      (λ _ _ _ _ _. other_byte b start.Content s (λ u. cc))
+      (λ inner after. let i = content_info inner b small s in
+      i.3 (bs ++ after) (drop k bs ++ after) n (read i.0 i.1 after))
 
-  pub sees_content : start_of (initial b) ≡ start.Content → n ≤ length bs - k → BeginsHead (1 + k + n) Nothing (b ∷ bs)
+  pub sees_content : start_of (initial b) ≡ start.Content → n ≤ length bs - k
+      → BeginsHead (1 + k + n) Nothing (b ∷ bs)
   sees_content s le =
       let room : n ≤ length (drop k bs) = omega (arith, length-drop k bs, le) in
-      behind_first (1 + k + n) (k + n) Nothing b bs (omega arith) small (omega (arith, le, within)) (IsBytes-take (k + n) bs fresh) (λ _ _ _ _ h. absurd h)
+      behind_first (1 + k + n) (k + n) Nothing b bs (omega arith) small (omega (arith, le, within))
+      (IsBytes-take (k + n) bs fresh) (λ _ _ _ _ h. absurd h)
       (λ inner after.
       let i = content_info inner b small s in
-      whole inner (b ∷ (bs ++ after)) (drop (k + n) bs ++ after) (i.4 (bs ++ after) (drop k bs ++ after) (drop (k + n) bs ++ after) n (read i.0 i.1 after) (record {
+      whole inner (b ∷ (bs ++ after)) (drop (k + n) bs ++ after) (i.4 (bs ++ after)
+      (drop k bs ++ after) (drop (k + n) bs ++ after) n (read i.0 i.1 after) (record {
         content = take n (drop k bs);
         size = length-take-le n (drop k bs) room;
         bytes = IsBytes-take n (drop k bs) (IsBytes-drop k bs fresh);
-        is = ap (λ r. r ++ after) (sym (take-append-drop n (drop k bs))) ∙ (append_assoc (take n (drop k bs)) (drop n (drop k bs)) after ∙ ap (λ r. take n (drop k bs) ++ (r ++ after)) (drop_more n k bs));
+        is =
+            ap (λ r. r ++ after) (sym (take-append-drop n (drop k bs)))
+            ∙ (append_assoc (take n (drop k bs)) (drop n (drop k bs)) after
+            ∙ ap (λ r. take n (drop k bs) ++ (r ++ after)) (drop_more n k bs));
       })))
 
   pub sees_items : start_of (initial b) ≡ start.Items → BeginsHead (1 + k) (Items n) (b ∷ bs)
-  sees_items s = behind_first (1 + k) k (Items n) b bs (omega arith) small within (IsBytes-take k bs fresh) (λ _ _ _ _ _. other_byte b start.Items s (λ u. cc))
-      (λ inner after. let i = items_info inner b small s in i.3 (bs ++ after) (drop k bs ++ after) n (read i.0 i.1 after))
+  sees_items s =
+      behind_first (1 + k) k (Items n) b bs (omega arith) small within (IsBytes-take k bs fresh)
+      (λ _ _ _ _ _. other_byte b start.Items s (λ u. cc))
+      (λ inner after. let i = items_info inner b small s in
+      i.3 (bs ++ after) (drop k bs ++ after) n (read i.0 i.1 after))
 
   pub sees_members : start_of (initial b) ≡ start.Members → BeginsHead (1 + k) (Members n) (b ∷ bs)
-  sees_members s = behind_first (1 + k) k (Members n) b bs (omega arith) small within (IsBytes-take k bs fresh) (λ _ _ _ _ _. other_byte b start.Members s (λ u. cc))
-      (λ inner after. let i = members_info inner b small s in i.3 (bs ++ after) (drop k bs ++ after) n (read i.0 i.1 after))
+  sees_members s =
+      behind_first (1 + k) k (Members n) b bs (omega arith) small within (IsBytes-take k bs fresh)
+      (λ _ _ _ _ _. other_byte b start.Members s (λ u. cc))
+      (λ inner after. let i = members_info inner b small s in
+      i.3 (bs ++ after) (drop k bs ++ after) n (read i.0 i.1 after))
 
   pub sees_tag : start_of (initial b) ≡ start.Tag → BeginsHead (1 + k) (Items 1) (b ∷ bs)
-  sees_tag s = behind_first (1 + k) k (Items 1) b bs (omega arith) small within (IsBytes-take k bs fresh) (λ _ _ _ _ _. other_byte b start.Tag s (λ u. cc))
-      (λ inner after. let i = tag_info inner b small s in i.3 (bs ++ after) (drop k bs ++ after) n (read i.0 i.1 after))
+  sees_tag s =
+      behind_first (1 + k) k (Items 1) b bs (omega arith) small within (IsBytes-take k bs fresh)
+      (λ _ _ _ _ _. other_byte b start.Tag s (λ u. cc))
+      (λ inner after. let i = tag_info inner b small s in
+      i.3 (bs ++ after) (drop k bs ++ after) n (read i.0 i.1 after))
 
-pub sees_open : (b : ℕ) (bs : List ℕ) → b < 256 → start_of (initial b) ≡ start.Open → BeginsHead 1 Open (b ∷ bs)
-sees_open b bs small s = behind_first 1 0 Open b bs refl small (omega arith) tt (λ _ _ _ _ _. other_byte b start.Open s (λ u. cc)) (λ inner after. open_leads inner b small s (bs ++ after))
+pub sees_open : (b : ℕ) (bs : List ℕ) → b < 256 → start_of (initial b) ≡ start.Open
+    → BeginsHead 1 Open (b ∷ bs)
+sees_open b bs small s =
+    behind_first 1 0 Open b bs refl small (omega arith) tt
+    (λ _ _ _ _ _. other_byte b start.Open s (λ u. cc))
+    (λ inner after. open_leads inner b small s (bs ++ after))
 
-pub sees_open_members : (b : ℕ) (bs : List ℕ) → b < 256 → start_of (initial b) ≡ start.OpenMembers → BeginsHead 1 OpenMembers (b ∷ bs)
-sees_open_members b bs small s = behind_first 1 0 OpenMembers b bs refl small (omega arith) tt (λ _ _ _ _ _. other_byte b start.OpenMembers s (λ u. cc)) (λ inner after. open_members_leads inner b small s (bs ++ after))
+pub sees_open_members : (b : ℕ) (bs : List ℕ) → b < 256 → start_of (initial b) ≡ start.OpenMembers
+    → BeginsHead 1 OpenMembers (b ∷ bs)
+sees_open_members b bs small s =
+    behind_first 1 0 OpenMembers b bs refl small (omega arith) tt
+    (λ _ _ _ _ _. other_byte b start.OpenMembers s (λ u. cc))
+    (λ inner after. open_members_leads inner b small s (bs ++ after))
 
 -- ---- a break
 
-pub first_break : (shown : List ℕ) → BeginsWithBreak shown → (take 1 shown ≡ break ∷ []) × IsBytes (take 1 shown)
+pub first_break : (shown : List ℕ) → BeginsWithBreak shown
+    → (take 1 shown ≡ break ∷ []) × IsBytes (take 1 shown)
 first_break [] h = absurd (omega (arith, h.some))
-first_break (b ∷ bs) h = (ap (λ j. j ∷ []) h.is, (subst (λ j. j < 256) (sym h.is) (omega arith), tt))
+first_break (b ∷ bs) h =
+    (ap (λ j. j ∷ []) h.is, (subst (λ j. j < 256) (sym h.is) (omega arith), tt))

@@ -6,29 +6,48 @@ use Rattle.cbor4ii_items.specs.Refusal.{Refusal, refusal_of, is_read, is_depth_o
 use Rattle.cbor4ii_tree.specs.Cost.{Budget}
 use Rattle.cbor4ii_tree.specs.Stops.{Stopping}
 use Rattle.cbor4ii_tree.specs.Does.{Accepting, Does}
-use Rattle.cbor4ii_tree.specs.Skipping.{StopsUnder, Leads, TakesFirst}
+use Rattle.cbor4ii_tree.specs.Skipping.{StopsSkippingUnder, Leads, TakesFirst}
 use Rattle.cbor4ii_tree.specs.declared.skip.Start.{Start}
 use Rattle.cbor4ii_tree.specs.declared.skip.Behind.{Behind}
-use Rattle.cbor4ii_tree.proofs.skip_calls.Doing.{Reached, reached_by, reached_then, reached_as, does_ok, does_err, does_refuse}
+use Rattle.cbor4ii_tree.proofs.skip_calls.Doing.{Reached, reached_by, reached_then, reached_as}
+use Rattle.cbor4ii_tree.proofs.skip_calls.Doing.{does_ok, does_err, does_refuse}
 
 abbrev pub First : ℕ → List ℕ → List ℕ → Type 0
 First b xs ys = xs ≡ b ∷ ys
 
 module _ (inner : Budget) {b : ℕ} {a c : View} (first : Reached (First b) a c) where
-  pub first_err : {U E : Type 0} (A : Accepting U) (S : Stopping) {e : DecodeError E} {d : View} → ((bs : List ℕ) (z : Refusal) (rest : List ℕ) → S bs z rest → StopsUnder inner (b ∷ bs) z rest) → Does {V = U} A S c d (Err e)
-      → Does {V = Behind} (Leads inner) (StopsUnder inner) a d (Err e)
-  first_err A S f d = does_err (First b) A (Leads inner) S (StopsUnder inner) (λ xs ys z rest e m. subst (λ x. StopsUnder inner x z rest) (sym e) (f ys z rest m)) first d
+  pub first_err : {U E : Type 0} (A : Accepting U) (S : Stopping) {e : DecodeError E} {d : View}
+      → ((bs : List ℕ) (z : Refusal) (rest : List ℕ) → S bs z rest
+      → StopsSkippingUnder inner (b ∷ bs) z rest) → Does {V = U} A S c d (Err e)
+      → Does {V = Behind} (Leads inner) (StopsSkippingUnder inner) a d (Err e)
+  first_err A S f d =
+      does_err (First b) A (Leads inner) S (StopsSkippingUnder inner) (λ xs ys z rest e m.
+      subst (λ x. StopsSkippingUnder inner x z rest) (sym e) (f ys z rest m)) first d
 
-  pub first_ok : {U E : Type 0} (A : Accepting U) (S : Stopping) (behind : Behind) {u : U} {d : View} → ((bs ys : List ℕ) → A bs u ys → Leads inner (b ∷ bs) behind ys) → Does {E = E} A S c d (Ok u)
-      → Does {E = E} (Leads inner) (StopsUnder inner) a d (Ok behind)
-  first_ok A S behind {u = u} f d = does_ok (Leads inner) (StopsUnder inner)
-      (reached_then (First b) (λ xs ys. A xs u ys) (λ xs ys. Leads inner xs behind ys) (λ xs ys zs e h. subst (λ x. Leads inner x behind zs) (sym e) (f ys zs h)) first (reached_by d))
+  pub first_ok : {U E : Type 0} (A : Accepting U) (S : Stopping) (behind : Behind) {u : U}
+      {d : View} → ((bs ys : List ℕ) → A bs u ys → Leads inner (b ∷ bs) behind ys)
+      → Does {E = E} A S c d (Ok u)
+      → Does {E = E} (Leads inner) (StopsSkippingUnder inner) a d (Ok behind)
+  first_ok A S behind {u = u} f d = does_ok (Leads inner) (StopsSkippingUnder inner)
+      (reached_then (First b) (λ xs ys. A xs u ys) (λ xs ys. Leads inner xs behind ys)
+      (λ xs ys zs e h. subst (λ x. Leads inner x behind zs) (sym e) (f ys zs h)) first
+      (reached_by d))
 
-  pub first_alone : {E : Type 0} (behind : Behind) → ((bs : List ℕ) → Leads inner (b ∷ bs) behind bs) → Does {E = E} (Leads inner) (StopsUnder inner) a c (Ok behind)
-  first_alone behind f = does_ok (Leads inner) (StopsUnder inner) (reached_as (First b) (λ xs ys. Leads inner xs behind ys) (λ xs ys e. subst (λ x. Leads inner x behind ys) (sym e) (f ys)) first)
+  pub first_alone : {E : Type 0} (behind : Behind)
+      → ((bs : List ℕ) → Leads inner (b ∷ bs) behind bs)
+      → Does {E = E} (Leads inner) (StopsSkippingUnder inner) a c (Ok behind)
+  first_alone behind f =
+      does_ok (Leads inner) (StopsSkippingUnder inner)
+      (reached_as (First b) (λ xs ys. Leads inner xs behind ys)
+      (λ xs ys e. subst (λ x. Leads inner x behind ys) (sym e) (f ys)) first)
 
-  pub first_refused : {E : Type 0} (z : Refusal) {e : DecodeError E} → refusal_of e ≡ Some z → is_read e ≡ false → is_depth_overflow e ≡ false → ((bs : List ℕ) → StopsUnder inner (b ∷ bs) z bs) → Does {V = Behind} (Leads inner) (StopsUnder inner) a c (Err e)
-  first_refused z says read shallow f = does_refuse (First b) (Leads inner) (StopsUnder inner) z says read shallow (λ xs ys e. subst (λ x. StopsUnder inner x z ys) (sym e) (f ys)) first
+  pub first_refused : {E : Type 0} (z : Refusal) {e : DecodeError E} → refusal_of e ≡ Some z
+      → is_read e ≡ false → is_depth_overflow e ≡ false
+      → ((bs : List ℕ) → StopsSkippingUnder inner (b ∷ bs) z bs)
+      → Does {V = Behind} (Leads inner) (StopsSkippingUnder inner) a c (Err e)
+  first_refused z says read shallow f =
+      does_refuse (First b) (Leads inner) (StopsSkippingUnder inner) z says read shallow
+      (λ xs ys e. subst (λ x. StopsSkippingUnder inner x z ys) (sym e) (f ys)) first
 
 -- ---- the first byte
 

@@ -1,5 +1,6 @@
 -- Skipping, as a decoding call.
-use Rattle.std.proofs.Common.{◌≡◌, ℕ, List, ◌++◌, length, drop, Option, None, Some, Ok, Err, refl, sym, ap, ◌∙◌, subst, IfSome}
+use Rattle.std.proofs.Common.{◌≡◌, ℕ, List, ◌++◌, length, drop, Option, None, Some, Ok, Err, refl}
+use Rattle.std.proofs.Common.{sym, ap, ◌∙◌, subst, IfSome}
 use Rattle.std.proofs.Math.Seq.{drop-append_seam}
 use Rattle.cbor4ii_rw.specs.View.{View}
 use Rattle.cbor4ii_rw.specs.declared.error.DecodeError.{DecodeError}
@@ -10,28 +11,47 @@ use Rattle.cbor4ii_tree.specs.Tree.{bytes}
 use Rattle.cbor4ii_tree.specs.Cost.{skip_cost}
 use Rattle.cbor4ii_tree.specs.Does.{Does}
 use Rattle.cbor4ii_tree.specs.Ignored.{ReadsIgnored}
-use Rattle.cbor4ii_tree.specs.Skipping.{SkipsOne, StopsOne}
+use Rattle.cbor4ii_tree.specs.Skipping.{SkipsOne, StopsSkippingOne}
 use Rattle.cbor4ii_tree.specs.StopsSkipping.{StopsSkipping}
 use Rattle.cbor4ii_tree.proofs.skipping.Answer.{not_both}
 
-pub ignored_sound : {E : Type 0} (v : IgnoredAny) {u : Unit {0}} {a b : View} → Does {E = E} (λ xs _ ys. SkipsOne a.budget xs ys) (StopsOne a.budget) a b (Ok u) → Sound ReadsIgnored a b v
+pub ignored_sound : {E : Type 0} (v : IgnoredAny) {u : Unit {0}} {a b : View}
+    → Does {E = E} (λ xs _ ys. SkipsOne a.budget xs ys) (StopsSkippingOne a.budget) a b (Ok u)
+    → Sound ReadsIgnored a b v
 ignored_sound v d = record {
   at = λ xs told.
       let s = d.ok xs told in
       let t = s.2.0 in
-      let behind : drop (length (bytes t)) xs ≡ s.0 = ap (drop (length (bytes t))) s.2.1.begins ∙ drop-append_seam (bytes t) s.0 in
+      let behind : drop (length (bytes t)) xs ≡ s.0 =
+      ap (drop (length (bytes t))) s.2.1.begins ∙ drop-append_seam (bytes t) s.0 in
       record {
         count = length (bytes t);
         cost = skip_cost t;
-        read = record { spelled = t; loose = s.2.1.loose; begins = s.2.1.begins ∙ ap (λ z. bytes t ++ z) (sym behind); size = refl; cost = refl };
+        read = record {
+          spelled = t;
+          loose = s.2.1.loose;
+          begins = s.2.1.begins ∙ ap (λ z. bytes t ++ z) (sym behind);
+          size = refl;
+          cost = refl;
+        };
         fits = s.2.1.fits;
         left = s.1 ∙ ap Some (sym behind);
       };
 }
 
-none_skipped : (o : Option Refusal) (xs : List ℕ) (budget : Option ℕ) (new : Option (List ℕ)) → IfSome o (λ z. (ys : List ℕ) × (new ≡ Some ys) × StopsSkipping xs budget z ys) → IfSome o (λ z. NoneRead ReadsIgnored xs budget)
+none_skipped : (o : Option Refusal) (xs : List ℕ) (budget : Option ℕ) (new : Option (List ℕ))
+    → IfSome o (λ z. (ys : List ℕ) × (new ≡ Some ys) × StopsSkipping xs budget z ys)
+    → IfSome o (λ z. NoneRead ReadsIgnored xs budget)
 none_skipped None xs budget new h = tt
-none_skipped (Some z) xs budget new h = λ v n c r fits. not_both xs budget r.spelled (drop n xs) z h.0 (record { loose = r.loose; fits = subst (λ j. CostFits j budget) r.cost fits; begins = r.begins }) h.2
+none_skipped (Some z) xs budget new h =
+    λ v n c r fits. not_both xs budget r.spelled (drop n xs) z h.0 (record {
+      loose = r.loose;
+      fits = subst (λ j. CostFits j budget) r.cost fits;
+      begins = r.begins;
+    }) h.2
 
-pub ignored_refuses : {U E : Type 0} {e : DecodeError E} {a b : View} → Does {V = U} (λ xs _ ys. SkipsOne a.budget xs ys) (StopsOne a.budget) a b (Err e) → Refuses ReadsIgnored a e
-ignored_refuses {e = e} {a = a} {b = b} d = record { at = λ xs told. none_skipped (refusal_of e) xs a.budget b.told (d.err xs told) }
+pub ignored_refuses : {U E : Type 0} {e : DecodeError E} {a b : View}
+    → Does {V = U} (λ xs _ ys. SkipsOne a.budget xs ys) (StopsSkippingOne a.budget) a b (Err e)
+    → Refuses ReadsIgnored a e
+ignored_refuses {e = e} {a = a} {b = b} d =
+    record { at = λ xs told. none_skipped (refusal_of e) xs a.budget b.told (d.err xs told) }

@@ -1,19 +1,32 @@
 -- What a head says of the item that it begins, where the item is skipped.
-use Rattle.std.proofs.Common.{◌≡◌, ℕ, zero, suc, ◌+◌, ◌*◌, ◌%◌, ◌<◌, ◌⊎◌, inl, inr, List, [], ◌∷◌, ◌++◌, length, refl, sym, ap, ap₂, ◌∙◌, subst, arith, append_assoc, append-nil, lt-ltb}
-use Rattle.cbor4ii_items.specs.Head.{Width, in_first, one, two, four, eight, byte_count, HeadFits, head, open_head, break}
-use Rattle.cbor4ii_items.specs.Initial.{sign_major, kind_major, precision_bytes, info_of, wide, Initial, starts_int, starts_string, starts_chunks, bad_string, starts_array, starts_open_array, bad_array, starts_map, starts_open_map, bad_map, starts_tag, bad_tag, starts_simple, starts_bits, initial, Kind, Precision, Sign, Simple}
+use Rattle.std.proofs.Common.{◌≡◌, ℕ, zero, suc, ◌+◌, ◌*◌, ◌%◌, ◌<◌, ◌⊎◌, inl, inr, List, [], ◌∷◌}
+use Rattle.std.proofs.Common.{◌++◌, length, refl, sym, ap, ap₂, ◌∙◌, subst, arith, append_assoc}
+use Rattle.std.proofs.Common.{append-nil, lt-ltb}
+use Rattle.cbor4ii_items.specs.Head.{Width, in_first, one, two, four, eight, byte_count, HeadFits}
+use Rattle.cbor4ii_items.specs.Head.{head, open_head, break}
+use Rattle.cbor4ii_items.specs.Initial.{sign_major, kind_major, precision_bytes, info_of, wide}
+use Rattle.cbor4ii_items.specs.Initial.{Initial, starts_int, starts_string, starts_chunks}
+use Rattle.cbor4ii_items.specs.Initial.{bad_string, starts_array, starts_open_array, bad_array}
+use Rattle.cbor4ii_items.specs.Initial.{starts_map, starts_open_map, bad_map, starts_tag, bad_tag}
+use Rattle.cbor4ii_items.specs.Initial.{starts_simple, starts_bits, initial, Kind, Precision, Sign}
+use Rattle.cbor4ii_items.specs.Initial.{Simple}
 use Rattle.cbor4ii_items.specs.Decoding.{CostFits}
 use Rattle.cbor4ii_items.specs.Magnitude.{number_of}
 use Rattle.cbor4ii_items.specs.Laws.Answering.{fits_zero}
-use Rattle.cbor4ii_tree.specs.Tree.{Tree, Trees, no_trees, tree, Pairs, no_pairs, pair, int, string, chunked, array, array_open, map_of, map_open, tagged, simple, bits, count, pair_count, bytes, bytes_all, bytes_pairs, Loose, LooseAll, LoosePairs}
+use Rattle.cbor4ii_tree.specs.Tree.{Tree, Trees, no_trees, tree, Pairs, no_pairs, pair, int, string}
+use Rattle.cbor4ii_tree.specs.Tree.{chunked, array, array_open, map_of, map_open, tagged, simple}
+use Rattle.cbor4ii_tree.specs.Tree.{bits, count, pair_count, bytes, bytes_all, bytes_pairs, Loose}
+use Rattle.cbor4ii_tree.specs.Tree.{LooseAll, LoosePairs}
 use Rattle.cbor4ii_tree.specs.Cost.{Budget, skip_cost, greatest_skip_cost, greatest_pair_skip_cost}
 use Rattle.cbor4ii_tree.specs.Refusal.{Refusal, mismatch, tag_name, ignored_any}
-use Rattle.cbor4ii_tree.specs.Stops.{Missing, MissingAll, Stepped}
+use Rattle.cbor4ii_tree.specs.Stops.{Missing, MissingAll, StopsAtStep}
 use Rattle.cbor4ii_tree.specs.StopsSkipping.{SkippingStopsBy, StopsSkipping}
 use Rattle.cbor4ii_tree.specs.HeadParts.{ArgumentAt, DropsBytes}
 use Rattle.cbor4ii_tree.specs.Runs.{TakesLeaf}
-use Rattle.cbor4ii_tree.specs.Skipping.{start_of, SkipsItems, StopsItems, SkipsUnder, StopsUnder, Leads}
-use Rattle.cbor4ii_tree.specs.declared.skip.Behind.TheVariants.{Nothing, Bytes, Items, Members, Open, OpenMembers}
+use Rattle.cbor4ii_tree.specs.Skipping.{start_of, SkipsItems, StopsSkippingItems, SkipsUnder}
+use Rattle.cbor4ii_tree.specs.Skipping.{StopsSkippingUnder, Leads}
+use Rattle.cbor4ii_tree.specs.declared.skip.Behind.TheVariants.{Nothing, Bytes, Items, Members}
+use Rattle.cbor4ii_tree.specs.declared.skip.Behind.TheVariants.{Open, OpenMembers}
 use Rattle.cbor4ii_tree.specs.declared.skip.Start.TheVariants as start
 use Rattle.cbor4ii_tree.specs.Laws.Binds.{step_up}
 use Rattle.cbor4ii_tree.proofs.answers.Nesting.{skipping_by_parts}
@@ -25,13 +38,17 @@ use Rattle.cbor4ii_tree.specs.Laws.Wholes.{all_skippable, all_pairs_skippable}
 
 -- ---- which row
 
-pub starts_bytes : (i : Initial) (k : ℕ) → start_of i ≡ start.Bytes k → ((s : Sign) × (w : Width) × (i ≡ starts_int s w) × (byte_count w ≡ k)) ⊎ (((s : Simple) × (i ≡ starts_simple s) × (k ≡ 0)) ⊎ ((p : Precision) × (i ≡ starts_bits p) × (precision_bytes p ≡ k)))
+pub starts_bytes : (i : Initial) (k : ℕ) → start_of i ≡ start.Bytes k
+    → ((s : Sign) × (w : Width) × (i ≡ starts_int s w) × (byte_count w ≡ k))
+    ⊎ (((s : Simple) × (i ≡ starts_simple s) × (k ≡ 0))
+    ⊎ ((p : Precision) × (i ≡ starts_bits p) × (precision_bytes p ≡ k)))
 starts_bytes (starts_int s w) k e = inl (s, w, refl, (cc))
 starts_bytes (starts_simple s) k e = inr (inl (s, refl, (cc)))
 starts_bytes (starts_bits p) k e = inr (inr (p, refl, (cc)))
 starts_bytes _ k e = cc
 
-pub starts_content : (i : Initial) → start_of i ≡ start.Content → (k : Kind) × (w : Width) × (i ≡ starts_string k w)
+pub starts_content : (i : Initial) → start_of i ≡ start.Content
+    → (k : Kind) × (w : Width) × (i ≡ starts_string k w)
 starts_content (starts_string k w) e = (k, w, refl)
 starts_content _ e = cc
 
@@ -47,7 +64,8 @@ pub starts_a_tag : (i : Initial) → start_of i ≡ start.Tag → (w : Width) ×
 starts_a_tag (starts_tag w) e = (w, refl)
 starts_a_tag _ e = cc
 
-pub starts_open : (i : Initial) → start_of i ≡ start.Open → ((k : Kind) × (i ≡ starts_chunks k)) ⊎ (i ≡ starts_open_array)
+pub starts_open : (i : Initial) → start_of i ≡ start.Open
+    → ((k : Kind) × (i ≡ starts_chunks k)) ⊎ (i ≡ starts_open_array)
 starts_open (starts_chunks k) e = inl (k, refl)
 starts_open starts_open_array e = inr refl
 starts_open _ e = cc
@@ -58,25 +76,33 @@ starts_open_members _ e = cc
 
 -- ---- where it stops
 
-pub stops_by : (inner : Budget) (i : Initial) (b : ℕ) (bs : List ℕ) (e : Refusal) (rest : List ℕ) → initial b ≡ i → SkippingStopsBy (λ part. StopsSkipping part inner) inner i b bs e rest → StopsUnder inner (b ∷ bs) e rest
+pub stops_by : (inner : Budget) (i : Initial) (b : ℕ) (bs : List ℕ) (e : Refusal) (rest : List ℕ)
+    → initial b ≡ i → SkippingStopsBy (λ part. StopsSkipping part inner) inner i b bs e rest
+    → StopsSkippingUnder inner (b ∷ bs) e rest
 stops_by inner i b bs e rest is h budget step =
     (skipping_by_parts (b ∷ bs) budget e rest).1
-    (subst (λ o. Stepped ignored_any o (b ∷ bs) (λ inner. SkippingStopsBy (λ part. StopsSkipping part inner) inner (initial b) b bs) e rest) (sym step)
-    (subst (λ j. SkippingStopsBy (λ part. StopsSkipping part inner) inner j b bs e rest) (sym is) h))
+    (subst (λ o. StopsAtStep ignored_any o (b ∷ bs) (λ inner. SkippingStopsBy
+    (λ part. StopsSkipping part inner) inner (initial b) b bs) e rest) (sym step)
+    (subst (λ j. SkippingStopsBy (λ part. StopsSkipping part inner) inner j b bs e rest)
+    (sym is) h))
 
-pub is_taken : (inner : Budget) (b : ℕ) (bs : List ℕ) → start_of (initial b) ≡ start.Taken → StopsUnder inner (b ∷ bs) (mismatch ignored_any b) bs
+pub is_taken : (inner : Budget) (b : ℕ) (bs : List ℕ) → start_of (initial b) ≡ start.Taken
+    → StopsSkippingUnder inner (b ∷ bs) (mismatch ignored_any b) bs
 is_taken inner b bs e = by_row (initial b) refl e
   where
-    by_row : (i : Initial) → initial b ≡ i → start_of i ≡ start.Taken → StopsUnder inner (b ∷ bs) (mismatch ignored_any b) bs
+    by_row : (i : Initial) → initial b ≡ i → start_of i ≡ start.Taken
+        → StopsSkippingUnder inner (b ∷ bs) (mismatch ignored_any b) bs
     by_row (bad_string k) is e = stops_by inner (bad_string k) b bs _ _ is (refl, refl)
     by_row bad_array is e = stops_by inner bad_array b bs _ _ is (refl, refl)
     by_row bad_map is e = stops_by inner bad_map b bs _ _ is (refl, refl)
     by_row _ is e = cc
 
-pub no_tag : (inner : Budget) (b : ℕ) (bs : List ℕ) → start_of (initial b) ≡ start.NoTag → StopsUnder inner (b ∷ bs) (mismatch tag_name b) bs
+pub no_tag : (inner : Budget) (b : ℕ) (bs : List ℕ) → start_of (initial b) ≡ start.NoTag
+    → StopsSkippingUnder inner (b ∷ bs) (mismatch tag_name b) bs
 no_tag inner b bs e = by_row (initial b) refl e
   where
-    by_row : (i : Initial) → initial b ≡ i → start_of i ≡ start.NoTag → StopsUnder inner (b ∷ bs) (mismatch tag_name b) bs
+    by_row : (i : Initial) → initial b ≡ i → start_of i ≡ start.NoTag
+        → StopsSkippingUnder inner (b ∷ bs) (mismatch tag_name b) bs
     by_row bad_tag is e = stops_by inner bad_tag b bs _ _ is (refl, refl)
     by_row _ is e = cc
 
@@ -92,7 +118,8 @@ width_below two i h = omega arith
 width_below four i h = omega arith
 width_below eight i h = omega arith
 
-says_at : (major : ℕ) (w : Width) (b : ℕ) → HeadByte major w b → (b % 32 ≡ b % 32) × WidthSays w (b % 32) × (b ≡ 32 * major + b % 32)
+says_at : (major : ℕ) (w : Width) (b : ℕ) → HeadByte major w b
+    → (b % 32 ≡ b % 32) × WidthSays w (b % 32) × (b ≡ 32 * major + b % 32)
 says_at major w b h =
     let low : b % 32 ≡ h.0 = low_byte major h.0 b h.1 (width_below w h.0 h.2) in
     (refl, subst (WidthSays w) (sym low) h.2, h.1 ∙ ap (λ j. 32 * major + j) (sym low))
@@ -108,20 +135,50 @@ info_by eight i h = rw h refl
 pub head_info : (major : ℕ) (w : Width) (b : ℕ) → HeadByte major w b → info_of (b % 32) ≡ wide w
 head_info major w b h = info_by w (b % 32) (says_at major w b h).1
 
-pub head_is : (major : ℕ) (w : Width) (b n : ℕ) (bs ys : List ℕ) → HeadByte major w b → ArgumentAt w b bs n ys → b ∷ bs ≡ head major n w ++ ys
-head_is major w b n bs ys h a = ap₂ ◌∷◌ ((says_at major w b h).2 ∙ ap (λ j. 32 * major + j) (sym a.says)) a.is
+pub head_is : (major : ℕ) (w : Width) (b n : ℕ) (bs ys : List ℕ) → HeadByte major w b
+    → ArgumentAt w b bs n ys → b ∷ bs ≡ head major n w ++ ys
+head_is major w b n bs ys h a =
+    ap₂ ◌∷◌ ((says_at major w b h).2 ∙ ap (λ j. 32 * major + j) (sym a.says)) a.is
 
 -- the bytes that follow are an argument
-bytes_argument : (w : Width) (b : ℕ) (bs ys : List ℕ) → WidthSays w (b % 32) → DropsBytes (byte_count w) bs ys → (n : ℕ) × ArgumentAt w b bs n ys
-bytes_argument in_first b bs ys h d = (b % 32, record { fits = omega (arith, h); says = refl; is = d.is ∙ ap (λ c. c ++ ys) (none d.content d.size) })
+bytes_argument : (w : Width) (b : ℕ) (bs ys : List ℕ) → WidthSays w (b % 32)
+    → DropsBytes (byte_count w) bs ys → (n : ℕ) × ArgumentAt w b bs n ys
+bytes_argument in_first b bs ys h d = (
+  b % 32,
+  record {
+    fits = omega (arith, h);
+    says = refl;
+    is = d.is ∙ ap (λ c. c ++ ys) (none d.content d.size);
+  },
+)
   where
     none : (c : List ℕ) → length c ≡ 0 → c ≡ []
     none [] e = refl
     none (x ∷ c) e = absurd (omega (arith, e))
-bytes_argument one b bs ys h d = let p = number_of_bytes 1 d.content d.size d.bytes in (number_of d.content, record { fits = omega (arith, p.1); says = sym h; is = d.is ∙ ap (λ c. c ++ ys) (sym p.0) })
-bytes_argument two b bs ys h d = let p = number_of_bytes 2 d.content d.size d.bytes in (number_of d.content, record { fits = p.1; says = sym h; is = d.is ∙ ap (λ c. c ++ ys) (sym p.0) })
-bytes_argument four b bs ys h d = let p = number_of_bytes 4 d.content d.size d.bytes in (number_of d.content, record { fits = p.1; says = sym h; is = d.is ∙ ap (λ c. c ++ ys) (sym p.0) })
-bytes_argument eight b bs ys h d = let p = number_of_bytes 8 d.content d.size d.bytes in (number_of d.content, record { fits = p.1; says = sym h; is = d.is ∙ ap (λ c. c ++ ys) (sym p.0) })
+bytes_argument one b bs ys h d =
+    let p = number_of_bytes 1 d.content d.size d.bytes in (
+      number_of d.content,
+      record {
+        fits = omega (arith, p.1);
+        says = sym h;
+        is = d.is ∙ ap (λ c. c ++ ys) (sym p.0);
+      },
+    )
+bytes_argument two b bs ys h d =
+    let p = number_of_bytes 2 d.content d.size d.bytes in (
+      number_of d.content,
+      record { fits = p.1; says = sym h; is = d.is ∙ ap (λ c. c ++ ys) (sym p.0) },
+    )
+bytes_argument four b bs ys h d =
+    let p = number_of_bytes 4 d.content d.size d.bytes in (
+      number_of d.content,
+      record { fits = p.1; says = sym h; is = d.is ∙ ap (λ c. c ++ ys) (sym p.0) },
+    )
+bytes_argument eight b bs ys h d =
+    let p = number_of_bytes 8 d.content d.size d.bytes in (
+      number_of d.content,
+      record { fits = p.1; says = sym h; is = d.is ∙ ap (λ c. c ++ ys) (sym p.0) },
+    )
 
 row : (b : ℕ) (i : Initial) → b < 256 → initial b ≡ i → Means b i
 row b i small is = subst (Means b) is (means b small)
@@ -130,23 +187,39 @@ row b i small is = subst (Means b) is (means b small)
 
 pub whole : (inner : Budget) (xs ys : List ℕ) → TakesLeaf xs ys → Leads inner xs Nothing ys
 whole inner xs ys (t, l, is) = record {
-  skips = λ rest e budget step. (t, record { loose = l.0; fits = subst (λ c. CostFits c budget) (sym l.1) (step_up budget inner 0 step (fits_zero inner)); begins = is ∙ ap (λ r. bytes t ++ r) (sym e) });
+  skips = λ rest e budget step. (
+    t,
+    record {
+      loose = l.0;
+      fits = subst (λ c. CostFits c budget)
+          (sym l.1) (step_up budget inner 0 step (fits_zero inner));
+      begins = is ∙ ap (λ r. bytes t ++ r) (sym e);
+    },
+  );
   stops = λ e rest h. absurd h;
 }
 
 -- so many bytes behind the first are all of the item
-pub bytes_leaf : (b k : ℕ) (bs ys : List ℕ) → b < 256 → start_of (initial b) ≡ start.Bytes k → DropsBytes k bs ys → TakesLeaf (b ∷ bs) ys
+pub bytes_leaf : (b k : ℕ) (bs ys : List ℕ) → b < 256 → start_of (initial b) ≡ start.Bytes k
+    → DropsBytes k bs ys → TakesLeaf (b ∷ bs) ys
 bytes_leaf b k bs ys small e d = elim (starts_bytes (initial b) k e) [
   | inl x ↦
       let m = row b (starts_int x.0 x.1) small x.2 in
-      let a = bytes_argument x.1 b bs ys (says_at (sign_major x.0) x.1 b m).1 (subst (λ j. DropsBytes j bs ys) (sym x.3) d) in
+      let a = bytes_argument x.1 b bs ys (says_at (sign_major x.0) x.1 b m).1
+      (subst (λ j. DropsBytes j bs ys) (sym x.3) d) in
       (int x.0 a.0 x.1, (a.1.fits, refl), head_is (sign_major x.0) x.1 b a.0 bs ys m a.1)
   | inr y ↦ elim y [
-    | inl x ↦ (let m : Means b (starts_simple x.0) = row b (starts_simple x.0) small x.1 in
-        (simple x.0, (tt, refl), ap₂ ◌∷◌ m (d.is ∙ ap (λ c. c ++ ys) (none d.content (d.size ∙ x.2)))))
+    | inl x ↦ (let m : Means b (starts_simple x.0) = row b (starts_simple x.0) small x.1 in (
+      simple x.0,
+      (tt, refl),
+      ap₂ ◌∷◌ m (d.is ∙ ap (λ c. c ++ ys) (none d.content (d.size ∙ x.2))),
+    ))
     | inr x ↦ (let m : Means b (starts_bits x.0) = row b (starts_bits x.0) small x.1 in
-        let p = number_of_bytes (precision_bytes x.0) d.content (d.size ∙ sym x.2) d.bytes in
-        (bits x.0 (number_of d.content), (p.1, refl), ap₂ ◌∷◌ m (d.is ∙ ap (λ c. c ++ ys) (sym p.0))))
+        let p = number_of_bytes (precision_bytes x.0) d.content (d.size ∙ sym x.2) d.bytes in (
+          bits x.0 (number_of d.content),
+          (p.1, refl),
+          ap₂ ◌∷◌ m (d.is ∙ ap (λ c. c ++ ys) (sym p.0)),
+        ))
   ]
 ]
   where
@@ -154,21 +227,27 @@ bytes_leaf b k bs ys small e d = elim (starts_bytes (initial b) k e) [
     none [] e = refl
     none (x ∷ c) e = absurd (omega (arith, e))
 
-pub leads_bytes : (inner : Budget) (b k : ℕ) (bs ys : List ℕ) → b < 256 → start_of (initial b) ≡ start.Bytes k → DropsBytes k bs ys → Leads inner (b ∷ bs) Nothing ys
+pub leads_bytes : (inner : Budget) (b k : ℕ) (bs ys : List ℕ) → b < 256
+    → start_of (initial b) ≡ start.Bytes k → DropsBytes k bs ys → Leads inner (b ∷ bs) Nothing ys
 leads_bytes inner b k bs ys small e d = whole inner (b ∷ bs) ys (bytes_leaf b k bs ys small e d)
 
-pub bytes_cut : (inner : Budget) (b k : ℕ) (bs : List ℕ) (e : Refusal) (rest : List ℕ) → start_of (initial b) ≡ start.Bytes k → Missing ignored_any k bs e rest → StopsUnder inner (b ∷ bs) e rest
+pub bytes_cut : (inner : Budget) (b k : ℕ) (bs : List ℕ) (e : Refusal) (rest : List ℕ)
+    → start_of (initial b) ≡ start.Bytes k → Missing ignored_any k bs e rest
+    → StopsSkippingUnder inner (b ∷ bs) e rest
 bytes_cut inner b k bs e rest s h = elim (starts_bytes (initial b) k s) [
-  | inl x ↦ stops_by inner (starts_int x.0 x.1) b bs e rest x.2 (subst (λ j. Missing ignored_any j bs e rest) (sym x.3) h)
+  | inl x ↦ stops_by inner (starts_int x.0 x.1) b bs e rest x.2
+      (subst (λ j. Missing ignored_any j bs e rest) (sym x.3) h)
   | inr y ↦ elim y [
     | inl x ↦ absurd (omega (arith, h.0, x.2))
-    | inr x ↦ stops_by inner (starts_bits x.0) b bs e rest x.1 (subst (λ j. Missing ignored_any j bs e rest) (sym x.2) h)
+    | inr x ↦ stops_by inner (starts_bits x.0) b bs e rest x.1
+        (subst (λ j. Missing ignored_any j bs e rest) (sym x.2) h)
   ]
 ]
 
 -- ---- arguments in the first byte
 
-pub argument_low : (w : Width) (b : ℕ) (bs : List ℕ) → info_of (b % 32) ≡ wide w → b % 32 < 24 → ArgumentAt w b bs (b % 32) bs
+pub argument_low : (w : Width) (b : ℕ) (bs : List ℕ) → info_of (b % 32) ≡ wide w → b % 32 < 24
+    → ArgumentAt w b bs (b % 32) bs
 argument_low in_first b bs is low = record { fits = omega (arith, low); says = refl; is = refl }
 argument_low one b bs is low = absurd (omega (arith, says_width (b % 32) one is, low))
 argument_low two b bs is low = absurd (omega (arith, says_width (b % 32) two is, low))
@@ -176,50 +255,76 @@ argument_low four b bs is low = absurd (omega (arith, says_width (b % 32) four i
 argument_low eight b bs is low = absurd (omega (arith, says_width (b % 32) eight is, low))
 
 -- a head alone
-emptied : (major n : ℕ) (w : Width) (b : ℕ) (bs : List ℕ) → n ≡ 0 → b ∷ bs ≡ head major n w ++ bs → b ∷ bs ≡ (head major 0 w ++ []) ++ bs
-emptied major n w b bs none is = is ∙ (ap (λ j. head major j w ++ bs) none ∙ ap (λ r. r ++ bs) (sym (append-nil (head major 0 w))))
+emptied : (major n : ℕ) (w : Width) (b : ℕ) (bs : List ℕ) → n ≡ 0 → b ∷ bs ≡ head major n w ++ bs
+    → b ∷ bs ≡ (head major 0 w ++ []) ++ bs
+emptied major n w b bs none is =
+    is ∙ (ap (λ j. head major j w ++ bs) none
+    ∙ ap (λ r. r ++ bs) (sym (append-nil (head major 0 w))))
 
-pub empty_items : (b : ℕ) (bs : List ℕ) → b < 256 → start_of (initial b) ≡ start.Items → b % 32 ≡ 0 → TakesLeaf (b ∷ bs) bs
+pub empty_items : (b : ℕ) (bs : List ℕ) → b < 256 → start_of (initial b) ≡ start.Items → b % 32 ≡ 0
+    → TakesLeaf (b ∷ bs) bs
 empty_items b bs small s none =
     let x = starts_items (initial b) s in
     let m = row b (starts_array x.0) small x.1 in
-    let a = argument_low x.0 b bs (head_info 4 x.0 b m) (omega (arith, none)) in
-    (array x.0 no_trees, ((subst (HeadFits x.0) none a.fits, tt), refl), emptied 4 (b % 32) x.0 b bs none (head_is 4 x.0 b (b % 32) bs bs m a))
+    let a = argument_low x.0 b bs (head_info 4 x.0 b m) (omega (arith, none)) in (
+      array x.0 no_trees,
+      ((subst (HeadFits x.0) none a.fits, tt), refl),
+      emptied 4 (b % 32) x.0 b bs none (head_is 4 x.0 b (b % 32) bs bs m a),
+    )
 
-pub empty_members : (b : ℕ) (bs : List ℕ) → b < 256 → start_of (initial b) ≡ start.Members → b % 32 ≡ 0 → TakesLeaf (b ∷ bs) bs
+pub empty_members : (b : ℕ) (bs : List ℕ) → b < 256 → start_of (initial b) ≡ start.Members
+    → b % 32 ≡ 0 → TakesLeaf (b ∷ bs) bs
 empty_members b bs small s none =
     let x = starts_members (initial b) s in
     let m = row b (starts_map x.0) small x.1 in
-    let a = argument_low x.0 b bs (head_info 5 x.0 b m) (omega (arith, none)) in
-    (map_of x.0 no_pairs, ((subst (HeadFits x.0) none a.fits, tt), refl), emptied 5 (b % 32) x.0 b bs none (head_is 5 x.0 b (b % 32) bs bs m a))
+    let a = argument_low x.0 b bs (head_info 5 x.0 b m) (omega (arith, none)) in (
+      map_of x.0 no_pairs,
+      ((subst (HeadFits x.0) none a.fits, tt), refl),
+      emptied 5 (b % 32) x.0 b bs none (head_is 5 x.0 b (b % 32) bs bs m a),
+    )
 
 module _ (inner : Budget) (b : ℕ) (small : b < 256) where
   -- strings
   module _ (s : start_of (initial b) ≡ start.Content) where
-    pub content_info : (w : Width) × (info_of (b % 32) ≡ wide w) × ((bs : List ℕ) (e : Refusal) (rest : List ℕ) → MissingAll ignored_any (byte_count w) bs e rest → StopsUnder inner (b ∷ bs) e rest)
+    pub content_info : (w : Width) × (info_of (b % 32) ≡ wide w)
+        × ((bs : List ℕ) (e : Refusal) (rest : List ℕ) → MissingAll ignored_any (byte_count w) bs e
+        rest → StopsSkippingUnder inner (b ∷ bs) e rest)
         × ((bs ys : List ℕ) (n : ℕ) → ArgumentAt w b bs n ys → Leads inner (b ∷ bs) (Bytes n) ys)
-        × ((bs ys zs : List ℕ) (n : ℕ) → ArgumentAt w b bs n ys → DropsBytes n ys zs → TakesLeaf (b ∷ bs) zs)
+        × ((bs ys zs : List ℕ) (n : ℕ) → ArgumentAt w b bs n ys → DropsBytes n ys zs
+        → TakesLeaf (b ∷ bs) zs)
     content_info =
         let x = starts_content (initial b) s in
         let m = row b (starts_string x.0 x.1) small x.2 in
-        let leaf : ((bs ys zs : List ℕ) (n : ℕ) → ArgumentAt x.1 b bs n ys → DropsBytes n ys zs → TakesLeaf (b ∷ bs) zs) = λ bs ys zs n a d. (
+        let leaf : ((bs ys zs : List ℕ) (n : ℕ) → ArgumentAt x.1 b bs n ys → DropsBytes n ys zs
+        → TakesLeaf (b ∷ bs) zs) = λ bs ys zs n a d. (
           string x.0 x.1 d.content,
           (subst (HeadFits x.1) (sym d.size) a.fits, refl),
-          counted (kind_major x.0) n (length d.content) x.1 b bs ys d.content zs (head_is (kind_major x.0) x.1 b n bs ys m a) d.size d.is,
+          counted (kind_major x.0) n (length d.content) x.1 b bs ys d.content zs
+              (head_is (kind_major x.0) x.1 b n bs ys m a) d.size d.is,
         ) in (
           x.1,
           head_info (kind_major x.0) x.1 b m,
           λ bs e rest h. stops_by inner (starts_string x.0 x.1) b bs e rest x.2 (inl h),
           λ bs ys n a. record {
             skips = λ rest d. (whole inner (b ∷ bs) rest (leaf bs ys rest n a d)).skips rest refl;
-            stops = λ e rest h. stops_by inner (starts_string x.0 x.1) b bs e rest x.2 (inr (record { argument = n; after = ys; fits = a.fits; is = head_is (kind_major x.0) x.1 b n bs ys m a; stopped = h }));
+            stops = λ e rest h. stops_by inner (starts_string x.0 x.1) b bs e rest x.2
+                (inr (record {
+                  argument = n;
+                  after = ys;
+                  fits = a.fits;
+                  is = head_is (kind_major x.0) x.1 b n bs ys m a;
+                  stopped = h;
+                }));
           },
           leaf,
         )
 
   -- so many items behind a head
-  items_lead : (major n : ℕ) (w : Width) (bs ys : List ℕ) (make : Trees → Tree) → b ∷ bs ≡ head major n w ++ ys
-      → ((ts : Trees) → count ts ≡ n → LooseAll ts → Loose (make ts) × (skip_cost (make ts) ≡ 1 + greatest_skip_cost ts) × (bytes (make ts) ≡ head major n w ++ bytes_all ts))
+  items_lead : (major n : ℕ) (w : Width) (bs ys : List ℕ) (make : Trees → Tree)
+      → b ∷ bs ≡ head major n w ++ ys
+      → ((ts : Trees) → count ts ≡ n → LooseAll ts
+      → Loose (make ts) × (skip_cost (make ts) ≡ 1 + greatest_skip_cost ts)
+      × (bytes (make ts) ≡ head major n w ++ bytes_all ts))
       → (rest : List ℕ) → SkipsItems n inner ys rest → SkipsUnder inner (b ∷ bs) rest
   items_lead major n w bs ys make is made rest h budget step =
       let all = all_skippable h.0 inner h.2 in
@@ -228,12 +333,16 @@ module _ (inner : Budget) (b : ℕ) (small : b < 256) where
         record {
           loose = t.0;
           fits = subst (λ c. CostFits c budget) (sym t.1) (step_up budget inner _ step all.1);
-          begins = is ∙ (ap (λ r. head major n w ++ r) h.3 ∙ (sym (append_assoc (head major n w) (bytes_all h.0) rest) ∙ ap (λ r. r ++ rest) (sym t.2)));
+          begins =
+              is ∙ (ap (λ r. head major n w ++ r) h.3 ∙ (sym (append_assoc (head major n w)
+              (bytes_all h.0) rest) ∙ ap (λ r. r ++ rest) (sym t.2)));
         },
       )
 
   module _ (s : start_of (initial b) ≡ start.Items) where
-    pub items_info : (w : Width) × (info_of (b % 32) ≡ wide w) × ((bs : List ℕ) (e : Refusal) (rest : List ℕ) → MissingAll ignored_any (byte_count w) bs e rest → StopsUnder inner (b ∷ bs) e rest)
+    pub items_info : (w : Width) × (info_of (b % 32) ≡ wide w)
+        × ((bs : List ℕ) (e : Refusal) (rest : List ℕ) → MissingAll ignored_any (byte_count w) bs e
+        rest → StopsSkippingUnder inner (b ∷ bs) e rest)
         × ((bs ys : List ℕ) (n : ℕ) → ArgumentAt w b bs n ys → Leads inner (b ∷ bs) (Items n) ys)
     items_info =
         let x = starts_items (initial b) s in
@@ -242,18 +351,40 @@ module _ (inner : Budget) (b : ℕ) (small : b < 256) where
           head_info 4 x.0 b m,
           λ bs e rest h. stops_by inner (starts_array x.0) b bs e rest x.1 (inl h),
           λ bs ys n a. record {
-            skips = items_lead 4 n x.0 bs ys (array x.0) (head_is 4 x.0 b n bs ys m a) (λ ts c l. ((subst (HeadFits x.0) (sym c) a.fits, l), refl, ap (λ j. head 4 j x.0 ++ bytes_all ts) c));
-            stops = λ e rest h. stops_by inner (starts_array x.0) b bs e rest x.1 (inr (record { argument = n; after = ys; fits = a.fits; is = head_is 4 x.0 b n bs ys m a; stopped = h }));
+            skips =
+                items_lead 4 n x.0 bs ys (array x.0) (head_is 4 x.0 b n bs ys m a)
+                (λ ts c l. (
+                  (subst (HeadFits x.0) (sym c) a.fits, l),
+                  refl,
+                  ap (λ j. head 4 j x.0 ++ bytes_all ts) c,
+                ));
+            stops = λ e rest h.
+                stops_by inner (starts_array x.0) b bs e rest x.1 (inr (record {
+                  argument = n;
+                  after = ys;
+                  fits = a.fits;
+                  is = head_is 4 x.0 b n bs ys m a;
+                  stopped = h;
+                }));
           },
         )
 
   module _ (s : start_of (initial b) ≡ start.Tag) where
-    one_tree : (w : Width) (n : ℕ) → HeadFits w n → (ts : Trees) → count ts ≡ 1 → LooseAll ts → (t : Tree) × Loose t × (skip_cost t ≡ 1 + greatest_skip_cost ts) × (bytes t ≡ head 6 n w ++ bytes_all ts)
+    one_tree : (w : Width) (n : ℕ) → HeadFits w n → (ts : Trees) → count ts ≡ 1 → LooseAll ts
+        → (t : Tree) × Loose t × (skip_cost t ≡ 1 + greatest_skip_cost ts)
+        × (bytes t ≡ head 6 n w ++ bytes_all ts)
     one_tree w n f no_trees c l = absurd (omega (arith, c))
-    one_tree w n f (tree t no_trees) c l = (tagged n w t, (f, l.0), omega arith, ap (λ r. head 6 n w ++ r) (sym (append-nil (bytes t))))
+    one_tree w n f (tree t no_trees) c l = (
+      tagged n w t,
+      (f, l.0),
+      omega arith,
+      ap (λ r. head 6 n w ++ r) (sym (append-nil (bytes t))),
+    )
     one_tree w n f (tree t (tree u us)) c l = absurd (omega (arith, c))
 
-    pub tag_info : (w : Width) × (info_of (b % 32) ≡ wide w) × ((bs : List ℕ) (e : Refusal) (rest : List ℕ) → MissingAll tag_name (byte_count w) bs e rest → StopsUnder inner (b ∷ bs) e rest)
+    pub tag_info : (w : Width) × (info_of (b % 32) ≡ wide w)
+        × ((bs : List ℕ) (e : Refusal) (rest : List ℕ) → MissingAll tag_name (byte_count w) bs e
+        rest → StopsSkippingUnder inner (b ∷ bs) e rest)
         × ((bs ys : List ℕ) (n : ℕ) → ArgumentAt w b bs n ys → Leads inner (b ∷ bs) (Items 1) ys)
     tag_info =
         let x = starts_a_tag (initial b) s in
@@ -268,33 +399,56 @@ module _ (inner : Budget) (b : ℕ) (small : b < 256) where
                   t.0,
                   record {
                     loose = t.1;
-                    fits = subst (λ c. CostFits c budget) (sym t.2) (step_up budget inner _ step all.1);
-                    begins = head_is 6 x.0 b n bs ys m a ∙ (ap (λ r. head 6 n x.0 ++ r) h.3 ∙ (sym (append_assoc (head 6 n x.0) (bytes_all h.0) rest) ∙ ap (λ r. r ++ rest) (sym t.3)));
+                    fits =
+                        subst (λ c. CostFits c budget) (sym t.2)
+                        (step_up budget inner _ step all.1);
+                    begins =
+                        head_is 6 x.0 b n bs ys m a ∙ (ap (λ r. head 6 n x.0 ++ r) h.3
+                        ∙ (sym (append_assoc (head 6 n x.0) (bytes_all h.0) rest)
+                        ∙ ap (λ r. r ++ rest) (sym t.3)));
                   },
                 );
-            stops = λ e rest h. stops_by inner (starts_tag x.0) b bs e rest x.1 (inr (record { argument = n; after = ys; fits = a.fits; is = head_is 6 x.0 b n bs ys m a; stopped = only ys e rest h }));
+            stops = λ e rest h. stops_by inner (starts_tag x.0) b bs e rest x.1
+                (inr (record {
+                  argument = n;
+                  after = ys;
+                  fits = a.fits;
+                  is = head_is 6 x.0 b n bs ys m a;
+                  stopped = only ys e rest h;
+                }));
           },
         )
       where
-        only : (ys : List ℕ) (e : Refusal) (rest : List ℕ) → StopsItems 1 inner ys e rest → StopsSkipping ys inner e rest
+        only : (ys : List ℕ) (e : Refusal) (rest : List ℕ) → StopsSkippingItems 1 inner ys e rest
+            → StopsSkipping ys inner e rest
         only ys e rest h = at_front h.front h.few h.is
           where
-            at_front : (ts : Trees) → count ts < 1 → ys ≡ bytes_all ts ++ h.after → StopsSkipping ys inner e rest
+            at_front : (ts : Trees) → count ts < 1 → ys ≡ bytes_all ts ++ h.after
+                → StopsSkipping ys inner e rest
             at_front no_trees f is = subst (λ x. StopsSkipping x inner e rest) (sym is) h.stopped
             at_front (tree t ts) f is = absurd (omega (arith, f))
 
   -- keys and values in turn
-  paired : (n : ℕ) (ts : Trees) → count ts ≡ 2 * n → LooseAll ts → (ps : Pairs) × (pair_count ps ≡ n) × LoosePairs ps × (greatest_pair_skip_cost ps ≡ greatest_skip_cost ts) × (bytes_pairs ps ≡ bytes_all ts)
+  paired : (n : ℕ) (ts : Trees) → count ts ≡ 2 * n → LooseAll ts
+      → (ps : Pairs) × (pair_count ps ≡ n) × LoosePairs ps
+      × (greatest_pair_skip_cost ps ≡ greatest_skip_cost ts) × (bytes_pairs ps ≡ bytes_all ts)
   paired zero no_trees c l = (no_pairs, refl, tt, refl, refl)
   paired zero (tree t ts) c l = absurd (omega (arith, c))
   paired (suc n) no_trees c l = absurd (omega (arith, c))
   paired (suc n) (tree k no_trees) c l = absurd (omega (arith, c))
   paired (suc n) (tree k (tree v ts)) c l =
-      let r = paired n ts (omega (arith, c)) l.1.1 in
-      (pair k v r.0, ap suc r.1, (l.0, l.1.0, r.2), omega (arith, r.3), ap (λ x. bytes k ++ (bytes v ++ x)) r.4)
+      let r = paired n ts (omega (arith, c)) l.1.1 in (
+        pair k v r.0,
+        ap suc r.1,
+        (l.0, l.1.0, r.2),
+        omega (arith, r.3),
+        ap (λ x. bytes k ++ (bytes v ++ x)) r.4,
+      )
 
   module _ (s : start_of (initial b) ≡ start.Members) where
-    pub members_info : (w : Width) × (info_of (b % 32) ≡ wide w) × ((bs : List ℕ) (e : Refusal) (rest : List ℕ) → MissingAll ignored_any (byte_count w) bs e rest → StopsUnder inner (b ∷ bs) e rest)
+    pub members_info : (w : Width) × (info_of (b % 32) ≡ wide w)
+        × ((bs : List ℕ) (e : Refusal) (rest : List ℕ) → MissingAll ignored_any (byte_count w) bs e
+        rest → StopsSkippingUnder inner (b ∷ bs) e rest)
         × ((bs ys : List ℕ) (n : ℕ) → ArgumentAt w b bs n ys → Leads inner (b ∷ bs) (Members n) ys)
     members_info =
         let x = starts_members (initial b) s in
@@ -309,11 +463,22 @@ module _ (inner : Budget) (b : ℕ) (small : b < 256) where
                   map_of x.0 t.0,
                   record {
                     loose = (subst (HeadFits x.0) (sym t.1) a.fits, t.2);
-                    fits = subst (λ c. CostFits (1 + c) budget) (sym t.3) (step_up budget inner _ step all.1);
-                    begins = counted 5 n (pair_count t.0) x.0 b bs ys (bytes_pairs t.0) rest (head_is 5 x.0 b n bs ys m a) t.1 (h.3 ∙ ap (λ r. r ++ rest) (sym t.4));
+                    fits =
+                        subst (λ c. CostFits (1 + c) budget) (sym t.3)
+                        (step_up budget inner _ step all.1);
+                    begins =
+                        counted 5 n (pair_count t.0) x.0 b bs ys (bytes_pairs t.0) rest
+                        (head_is 5 x.0 b n bs ys m a) t.1 (h.3 ∙ ap (λ r. r ++ rest) (sym t.4));
                   },
                 );
-            stops = λ e rest h. stops_by inner (starts_map x.0) b bs e rest x.1 (inr (record { argument = n; after = ys; fits = a.fits; is = head_is 5 x.0 b n bs ys m a; stopped = h }));
+            stops = λ e rest h.
+                stops_by inner (starts_map x.0) b bs e rest x.1 (inr (record {
+                  argument = n;
+                  after = ys;
+                  fits = a.fits;
+                  is = head_is 5 x.0 b n bs ys m a;
+                  stopped = h;
+                }));
           },
         )
 
@@ -321,22 +486,46 @@ module _ (inner : Budget) (b : ℕ) (small : b < 256) where
   pub open_leads : start_of (initial b) ≡ start.Open → (ys : List ℕ) → Leads inner (b ∷ ys) Open ys
   open_leads s ys = elim (starts_open (initial b) s) [
     | inl x ↦ (let m : Means b (starts_chunks x.0) = row b (starts_chunks x.0) small x.1 in record {
-      skips = λ rest h budget step. let all = all_skippable h.0 inner h.1 in (chunked x.0 h.0, record { loose = all.0; fits = step_up budget inner _ step all.1; begins = ended (open_head (kind_major x.0)) (bytes_all h.0) ys rest m h.2 });
+      skips = λ rest h budget step. let all = all_skippable h.0 inner h.1 in (
+        chunked x.0 h.0,
+        record {
+          loose = all.0;
+          fits = step_up budget inner _ step all.1;
+          begins = ended (open_head (kind_major x.0)) (bytes_all h.0) ys rest m h.2;
+        },
+      );
       stops = λ e rest h. stops_by inner (starts_chunks x.0) b ys e rest x.1 h;
     })
     | inr x ↦ (let m : Means b starts_open_array = row b starts_open_array small x in record {
-      skips = λ rest h budget step. let all = all_skippable h.0 inner h.1 in (array_open h.0, record { loose = all.0; fits = step_up budget inner _ step all.1; begins = ended (open_head 4) (bytes_all h.0) ys rest m h.2 });
+      skips = λ rest h budget step. let all = all_skippable h.0 inner h.1 in (
+        array_open h.0,
+        record {
+          loose = all.0;
+          fits = step_up budget inner _ step all.1;
+          begins = ended (open_head 4) (bytes_all h.0) ys rest m h.2;
+        },
+      );
       stops = λ e rest h. stops_by inner starts_open_array b ys e rest x h;
     })
   ]
     where
-      ended : (o : ℕ) (part ys rest : List ℕ) → b ≡ o → ys ≡ part ++ (break ∷ rest) → b ∷ ys ≡ (o ∷ (part ++ break ∷ [])) ++ rest
+      ended : (o : ℕ) (part ys rest : List ℕ) → b ≡ o → ys ≡ part ++ (break ∷ rest)
+          → b ∷ ys ≡ (o ∷ (part ++ break ∷ [])) ++ rest
       ended o part ys rest e f = ap₂ ◌∷◌ e (f ∙ sym (append_assoc part (break ∷ []) rest))
 
-  pub open_members_leads : start_of (initial b) ≡ start.OpenMembers → (ys : List ℕ) → Leads inner (b ∷ ys) OpenMembers ys
+  pub open_members_leads : start_of (initial b) ≡ start.OpenMembers → (ys : List ℕ)
+      → Leads inner (b ∷ ys) OpenMembers ys
   open_members_leads s ys =
       let x = starts_open_members (initial b) s in
       let m : Means b starts_open_map = row b starts_open_map small x in record {
-        skips = λ rest h budget step. let all = all_pairs_skippable h.0 inner h.1 in (map_open h.0, record { loose = all.0; fits = step_up budget inner _ step all.1; begins = ap₂ ◌∷◌ m (h.2 ∙ sym (append_assoc (bytes_pairs h.0) (break ∷ []) rest)) });
+        skips = λ rest h budget step. let all = all_pairs_skippable h.0 inner h.1 in (
+          map_open h.0,
+          record {
+            loose = all.0;
+            fits = step_up budget inner _ step all.1;
+            begins =
+                ap₂ ◌∷◌ m (h.2 ∙ sym (append_assoc (bytes_pairs h.0) (break ∷ []) rest));
+          },
+        );
         stops = λ e rest h. stops_by inner starts_open_map b ys e rest x h;
       }

@@ -1,5 +1,8 @@
 -- Items that hold no other, one behind another.
-use Rattle.std.proofs.Common.{◌≡◌, ◌≢◌, ℕ, zero, suc, ◌+◌, ◌-◌, ◌*◌, ◌%◌, ◌<◌, ◌≤◌, ◌&&◌, List, [], ◌∷◌, ◌++◌, length, get_or, take, drop, None, refl, sym, ap, ap₂, ◌∙◌, subst, arith, true, false, Bool, cond, ltb, ltb-true, eqb, eqb-true, append-nil, inl, inr, nat_eq, drop-cons, length-drop}
+use Rattle.std.proofs.Common.{◌≡◌, ◌≢◌, ℕ, zero, suc, ◌+◌, ◌-◌, ◌*◌, ◌%◌, ◌<◌, ◌≤◌, ◌&&◌, List, []}
+use Rattle.std.proofs.Common.{◌∷◌, ◌++◌, length, get_or, take, drop, None, refl, sym, ap, ap₂, ◌∙◌}
+use Rattle.std.proofs.Common.{subst, arith, true, false, Bool, cond, ltb, ltb-true, eqb, eqb-true}
+use Rattle.std.proofs.Common.{append-nil, inl, inr, nat_eq, drop-cons, length-drop}
 use Rattle.std.proofs.Math.Seq.{take-add, take-length}
 use Rattle.std.proofs.lemmas.List.{length-take-le}
 use Rattle.std.proofs.lemmas.Bool.{cases_eq}
@@ -19,7 +22,8 @@ use Rattle.cbor4ii_tree.specs.Ahead.{leaf_by, leaf_bytes}
 use Rattle.cbor4ii_tree.specs.declared.ahead.TheConstants.{LEAF_BYTES}
 use Rattle.cbor4ii_tree.specs.declared.skip.Start.{Start}
 use Rattle.cbor4ii_tree.specs.declared.skip.Start.TheVariants as start
-use Rattle.cbor4ii_tree.proofs.skip_calls.Leading.{bytes_leaf, content_info, argument_low, empty_items, empty_members}
+use Rattle.cbor4ii_tree.proofs.skip_calls.Leading.{bytes_leaf, content_info, argument_low}
+use Rattle.cbor4ii_tree.proofs.skip_calls.Leading.{empty_items, empty_members}
 use Rattle.cbor4ii_tree.proofs.parts.Pushed.{push, count-push, each-push, bytes-push}
 
 -- ---- a first byte that says how long the item is
@@ -28,7 +32,8 @@ no_bytes : (bs : List ℕ) (k : ℕ) → length bs ≡ k → k ≡ 0 → bs ≡ 
 no_bytes [] k e z = refl
 no_bytes (b ∷ bs) k e z = absurd (omega (arith, e, z))
 
-low_is : (t : Bool) (low k : ℕ) → ltb low 24 ≡ t → cond t (low + 1) 0 ≡ suc k → (k ≡ low) × (low < 24)
+low_is : (t : Bool) (low k : ℕ) → ltb low 24 ≡ t → cond t (low + 1) 0 ≡ suc k
+    → (k ≡ low) × (low < 24)
 low_is true low k e h = (omega (arith, h), ltb-true low 24 e)
 low_is false low k e h = absurd (omega (arith, h))
 
@@ -37,7 +42,8 @@ zero_is true low k e h = (omega (arith, h), eqb-true low 0 e)
 zero_is false low k e h = absurd (omega (arith, h))
 
 -- the first byte, and as many behind it as it says
-leaf_here : (b k : ℕ) (bs : List ℕ) → b < 256 → leaf_bytes b ≡ suc k → length bs ≡ k → IsBytes bs → TakesLeaf (b ∷ bs) []
+leaf_here : (b k : ℕ) (bs : List ℕ) → b < 256 → leaf_bytes b ≡ suc k → length bs ≡ k → IsBytes bs
+    → TakesLeaf (b ∷ bs) []
 unfolding leaf_bytes
 leaf_here b k bs small is size fresh = by_start (start_of (initial b)) refl is
   where
@@ -47,26 +53,35 @@ leaf_here b k bs small is size fresh = by_start (start_of (initial b)) refl is
     nothing : k ≡ 0 → TakesLeaf (b ∷ bs) bs → TakesLeaf (b ∷ bs) []
     nothing e l = subst (TakesLeaf (b ∷ bs)) (no_bytes bs k size e) l
 
-    by_start : (s : Start) → start_of (initial b) ≡ s → leaf_by s (b % 32) ≡ suc k → TakesLeaf (b ∷ bs) []
+    by_start : (s : Start) → start_of (initial b) ≡ s → leaf_by s (b % 32) ≡ suc k
+        → TakesLeaf (b ∷ bs) []
     by_start (start.Bytes j) e h = bytes_leaf b j bs [] small e (all j (omega (arith, h)))
     by_start start.Content e h =
         let l = low_is (ltb (b % 32) 24) (b % 32) k refl h in
         let i = content_info None b small e in
         i.4 bs bs [] (b % 32) (argument_low i.0 b bs i.1 l.1) (all (b % 32) l.0)
-    by_start start.Items e h = let z = zero_is (eqb (b % 32) 0) (b % 32) k refl h in nothing z.0 (empty_items b bs small e z.1)
-    by_start start.Members e h = let z = zero_is (eqb (b % 32) 0) (b % 32) k refl h in nothing z.0 (empty_members b bs small e z.1)
+    by_start start.Items e h =
+        let z = zero_is (eqb (b % 32) 0) (b % 32) k refl h in
+        nothing z.0 (empty_items b bs small e z.1)
+    by_start start.Members e h =
+        let z = zero_is (eqb (b % 32) 0) (b % 32) k refl h in
+        nothing z.0 (empty_members b bs small e z.1)
     by_start _ e h = absurd (omega (arith, h))
 
 pub shown_bytes : (shown : List ℕ) → ((i : ℕ) → get_or shown i 0 < 256) → IsBytes shown
 shown_bytes shown f = subst IsBytes (take-length shown) (first_bytes (length shown) shown f)
 
-pub leaf_at : (at size : ℕ) (shown : List ℕ) → at < length shown → size ≡ leaf_bytes (get_or shown at 0) → size ≤ length shown - at → ((i : ℕ) → get_or shown i 0 < 256) → size ≢ 0 → IsLeafAt at size shown
+pub leaf_at : (at size : ℕ) (shown : List ℕ) → at < length shown
+    → size ≡ leaf_bytes (get_or shown at 0) → size ≤ length shown - at
+    → ((i : ℕ) → get_or shown i 0 < 256) → size ≢ 0 → IsLeafAt at size shown
 leaf_at at zero shown lt is le small some = absurd (some refl)
 leaf_at at (suc k) shown lt is le small some =
     let bs = drop (suc at) shown in
     let split : drop at shown ≡ get_or shown at 0 ∷ bs = drop-cons shown at 0 lt in
     let room : k ≤ length bs = omega (arith, length-drop (suc at) shown, le, lt) in
-    let leaf = leaf_here (get_or shown at 0) k (take k bs) (small at) (sym is) (length-take-le k bs room) (IsBytes-take k bs (IsBytes-drop (suc at) shown (shown_bytes shown small))) in
+    let leaf =
+    leaf_here (get_or shown at 0) k (take k bs) (small at) (sym is) (length-take-le k bs room)
+    (IsBytes-take k bs (IsBytes-drop (suc at) shown (shown_bytes shown small))) in
     record {
       within = omega (arith, le, lt);
       leaf = (leaf.0, leaf.1, ap (take (suc k)) split ∙ (leaf.2 ∙ append-nil (bytes leaf.0)));
@@ -75,14 +90,17 @@ leaf_at at (suc k) shown lt is le small some =
 -- ---- runs
 
 pub run_none : (shown : List ℕ) → BeginsRun 0 0 shown
-run_none shown = record { within = omega arith; few = omega arith; run = (no_trees, refl, tt, refl) }
+run_none shown =
+    record { within = omega arith; few = omega arith; run = (no_trees, refl, tt, refl) }
 
-pub run_more : (n at size : ℕ) (shown : List ℕ) → size ≢ 0 → BeginsRun n at shown → IsLeafAt at size shown → BeginsRun (n + 1) (at + size) shown
+pub run_more : (n at size : ℕ) (shown : List ℕ) → size ≢ 0 → BeginsRun n at shown
+    → IsLeafAt at size shown → BeginsRun (n + 1) (at + size) shown
 run_more n at size shown some h l =
     let ts = h.run.0 in
     let t = l.leaf.0 in
     let joined : bytes_all (push ts t) ≡ bytes_all ts ++ bytes t =
-    sym (append-nil (bytes_all (push ts t))) ∙ (bytes-push ts t [] ∙ ap (λ r. bytes_all ts ++ r) (append-nil (bytes t))) in
+    sym (append-nil (bytes_all (push ts t)))
+    ∙ (bytes-push ts t [] ∙ ap (λ r. bytes_all ts ++ r) (append-nil (bytes t))) in
     record {
       within = l.within;
       few = omega (arith, h.few, some);
@@ -95,30 +113,48 @@ run_more n at size shown some h l =
     }
 
 -- two of one byte each
-pub run_two : (n at size : ℕ) (shown : List ℕ) → size ≡ 1 → BeginsRun n at shown → IsLeafAt at size shown → IsLeafAt (at + 1) 1 shown → BeginsRun (n + 2) (at + 2) shown
+pub run_two : (n at size : ℕ) (shown : List ℕ) → size ≡ 1 → BeginsRun n at shown
+    → IsLeafAt at size shown → IsLeafAt (at + 1) 1 shown → BeginsRun (n + 2) (at + 2) shown
 run_two n at size shown one h l m =
     let first = run_more n at 1 shown (omega arith) h (subst (λ k. IsLeafAt at k shown) one l) in
     let both = run_more (n + 1) (at + 1) 1 shown (omega arith) first m in
     let count : n + 1 + 1 ≡ n + 2 = omega arith in
     let end : at + 1 + 1 ≡ at + 2 = omega arith in
-    subst (λ j. BeginsRun j (at + 2) shown) count (subst (λ j. BeginsRun (n + 1 + 1) j shown) end both)
+    subst (λ j. BeginsRun j (at + 2) shown) count
+    (subst (λ j. BeginsRun (n + 1 + 1) j shown) end both)
 
-pub pair_at : (at key value : ℕ) (shown : List ℕ) → key ≢ 0 → value ≢ 0 → IsLeafAt at key shown → IsLeafAt (at + key) value shown → IsPairAt at (key + value) shown
-pair_at at key value shown some more h k = record { key = key; value = value; sizes = refl; some = omega (arith, some); more = omega (arith, more); first = h; second = k }
+pub pair_at : (at key value : ℕ) (shown : List ℕ) → key ≢ 0 → value ≢ 0 → IsLeafAt at key shown
+    → IsLeafAt (at + key) value shown → IsPairAt at (key + value) shown
+pair_at at key value shown some more h k = record {
+  key = key;
+  value = value;
+  sizes = refl;
+  some = omega (arith, some);
+  more = omega (arith, more);
+  first = h;
+  second = k;
+}
 
-pub run_pair : (n at size : ℕ) (shown : List ℕ) → BeginsRun (2 * n) at shown → IsPairAt at size shown → BeginsRun (2 * (n + 1)) (at + size) shown
+pub run_pair : (n at size : ℕ) (shown : List ℕ) → BeginsRun (2 * n) at shown
+    → IsPairAt at size shown → BeginsRun (2 * (n + 1)) (at + size) shown
 run_pair n at size shown h p =
-    let both = run_more (2 * n + 1) (at + p.key) p.value shown (omega (arith, p.more)) (run_more (2 * n) at p.key shown (omega (arith, p.some)) h p.first) p.second in
+    let both = run_more (2 * n + 1) (at + p.key) p.value shown (omega (arith, p.more))
+    (run_more (2 * n) at p.key shown (omega (arith, p.some)) h p.first) p.second in
     let count : 2 * n + 1 + 1 ≡ 2 * (n + 1) = omega arith in
     let end : at + p.key + p.value ≡ at + size = omega (arith, p.sizes) in
-    subst (λ j. BeginsRun j (at + size) shown) count (subst (λ j. BeginsRun (2 * n + 1 + 1) j shown) end both)
+    subst (λ j. BeginsRun j (at + size) shown) count
+    (subst (λ j. BeginsRun (2 * n + 1 + 1) j shown) end both)
 
-leaves_fit : (budget : Budget) (ts : Trees) → CostFits 1 budget → Each IsLeaf ts → Each (Skippable budget) ts
+leaves_fit : (budget : Budget) (ts : Trees) → CostFits 1 budget → Each IsLeaf ts
+    → Each (Skippable budget) ts
 leaves_fit budget no_trees fits h = tt
-leaves_fit budget (tree t ts) fits h = ((h.0.0, subst (λ c. CostFits c budget) (sym h.0.1) fits), leaves_fit budget ts fits h.1)
+leaves_fit budget (tree t ts) fits h =
+    ((h.0.0, subst (λ c. CostFits c budget) (sym h.0.1) fits), leaves_fit budget ts fits h.1)
 
-pub run_items : (n : ℕ) (budget : Budget) (xs ys : List ℕ) → CostFits 1 budget → TakesRun n xs ys → SkipsItems n budget xs ys
-run_items n budget xs ys fits (ts, count, each, is) = (ts, count, leaves_fit budget ts fits each, is)
+pub run_items : (n : ℕ) (budget : Budget) (xs ys : List ℕ) → CostFits 1 budget → TakesRun n xs ys
+    → SkipsItems n budget xs ys
+run_items n budget xs ys fits (ts, count, each, is) =
+    (ts, count, leaves_fit budget ts fits each, is)
 
 -- ---- the table
 
@@ -135,9 +171,13 @@ unfolding agree_below
 agree_at f g zero h b lt = absurd (omega arith)
 agree_at f g (suc n) h b lt =
     let both = both_of (nat_eq (f n) (g n)) (agree_below f g n) h in
-    elim (cases_eq b n) [ inl same ↦ rw same (eqb-true (f n) (g n) both.0) | inr other ↦ agree_at f g n both.1 b (omega arith) ]
+    elim (cases_eq b n) [
+      | inl same ↦ rw same (eqb-true (f n) (g n) both.0)
+      | inr other ↦ agree_at f g n both.1 b (omega arith)
+    ]
 
-from_table : (table : List ℕ) → agree_below (λ k. get_or table k 0) leaf_bytes 256 ≡ true → (b : ℕ) → b < 256 → get_or table b 0 ≡ leaf_bytes b
+from_table : (table : List ℕ) → agree_below (λ k. get_or table k 0) leaf_bytes 256 ≡ true → (b : ℕ)
+    → b < 256 → get_or table b 0 ≡ leaf_bytes b
 from_table table h b lt = agree_at _ _ 256 h b lt
 
 -- the table is held against the definition at each of the 256 bytes, by computing

@@ -1,5 +1,6 @@
 -- Items that are skipped one behind another.
-use Rattle.std.proofs.Common.{◌≡◌, ◌≢◌, ℕ, ◌+◌, ◌<◌, inl, inr, List, [], ◌∷◌, ◌++◌, true, false, refl, sym, ap, ap₂, ◌∙◌, take, drop, arith, subst, ◌≤◌}
+use Rattle.std.proofs.Common.{◌≡◌, ◌≢◌, ℕ, ◌+◌, ◌<◌, inl, inr, List, [], ◌∷◌, ◌++◌, true, false}
+use Rattle.std.proofs.Common.{refl, sym, ap, ap₂, ◌∙◌, take, drop, arith, subst, ◌≤◌}
 use Rattle.cbor4ii_items.specs.Head.{break}
 use Rattle.cbor4ii_items.specs.Strings.{ReadsBreak}
 use Rattle.cbor4ii_tree.specs.Tree.{Trees, no_trees, Pairs, no_pairs, bytes, bytes_all, bytes_pairs}
@@ -7,23 +8,38 @@ use Rattle.cbor4ii_tree.specs.Cost.{Budget}
 use Rattle.cbor4ii_tree.specs.Refusal.{Refusal}
 use Rattle.cbor4ii_tree.specs.Stops.{Each, EachPair, NoBreak}
 use Rattle.cbor4ii_tree.specs.StopsSkipping.{Skippable}
-use Rattle.cbor4ii_tree.specs.Skipping.{SkipsOne, StopsOne, SkipsItems, StopsItems, SkipsOpen, StopsOpen, SkipsMembers, StopsMembers}
+use Rattle.cbor4ii_tree.specs.Skipping.{SkipsOne, StopsSkippingOne, SkipsItems, StopsSkippingItems}
+use Rattle.cbor4ii_tree.specs.Skipping.{SkipsOpen, StopsSkippingOpen, SkipsMembers}
+use Rattle.cbor4ii_tree.specs.Skipping.{StopsSkippingMembers}
 use Rattle.cbor4ii_tree.proofs.parts.Joined.{join, count-join, each-join, bytes-join}
-use Rattle.cbor4ii_tree.proofs.parts.Pushed.{push, count-push, each-push, bytes-push, push_pair, each-push_pair, bytes-push_pair}
+use Rattle.cbor4ii_tree.proofs.parts.Pushed.{push, count-push, each-push, bytes-push, push_pair}
+use Rattle.cbor4ii_tree.proofs.parts.Pushed.{each-push_pair, bytes-push_pair}
 
 -- whole items
 abbrev pub SkippedEach : Budget → List ℕ → List ℕ → Type 0
 SkippedEach budget xs ys = (ts : Trees) × Each (Skippable budget) ts × (xs ≡ bytes_all ts ++ ys)
 
 abbrev pub SkippedPairs : Budget → List ℕ → List ℕ → Type 0
-SkippedPairs budget xs ys = (ps : Pairs) × EachPair (Skippable budget) ps × (xs ≡ bytes_pairs ps ++ ys)
+SkippedPairs budget xs ys =
+    (ps : Pairs) × EachPair (Skippable budget) ps × (xs ≡ bytes_pairs ps ++ ys)
 
-pub items_join : (n m : ℕ) (budget : Budget) (xs ys zs : List ℕ) → SkipsItems n budget xs ys → SkipsItems m budget ys zs → SkipsItems (n + m) budget xs zs
-items_join n m budget xs ys zs h k =
-    (join h.0 k.0, count-join h.0 k.0 ∙ ap₂ ◌+◌ h.1 k.1, each-join (Skippable budget) h.0 k.0 h.2 k.2, h.3 ∙ ap (λ r. bytes_all h.0 ++ r) k.3 ∙ sym (bytes-join h.0 k.0 zs))
+pub items_join : (n m : ℕ) (budget : Budget) (xs ys zs : List ℕ) → SkipsItems n budget xs ys
+    → SkipsItems m budget ys zs → SkipsItems (n + m) budget xs zs
+items_join n m budget xs ys zs h k = (
+  join h.0 k.0,
+  count-join h.0 k.0 ∙ ap₂ ◌+◌ h.1 k.1,
+  each-join (Skippable budget) h.0 k.0 h.2
+      k.2,
+  h.3 ∙ ap (λ r. bytes_all h.0 ++ r) k.3 ∙ sym (bytes-join h.0 k.0 zs),
+)
 
-pub each_join : (m : ℕ) (budget : Budget) (xs ys zs : List ℕ) → SkippedEach budget xs ys → SkipsItems m budget ys zs → SkippedEach budget xs zs
-each_join m budget xs ys zs h k = (join h.0 k.0, each-join (Skippable budget) h.0 k.0 h.1 k.2, h.2 ∙ ap (λ r. bytes_all h.0 ++ r) k.3 ∙ sym (bytes-join h.0 k.0 zs))
+pub each_join : (m : ℕ) (budget : Budget) (xs ys zs : List ℕ) → SkippedEach budget xs ys
+    → SkipsItems m budget ys zs → SkippedEach budget xs zs
+each_join m budget xs ys zs h k = (
+  join h.0 k.0,
+  each-join (Skippable budget) h.0 k.0 h.1 k.2,
+  h.2 ∙ ap (λ r. bytes_all h.0 ++ r) k.3 ∙ sym (bytes-join h.0 k.0 zs),
+)
 
 pub items_none : (budget : Budget) (xs : List ℕ) → SkipsItems 0 budget xs xs
 items_none budget xs = (no_trees, refl, tt, refl)
@@ -34,21 +50,35 @@ each_none budget xs = (no_trees, tt, refl)
 pub pairs_none : (budget : Budget) (xs : List ℕ) → SkippedPairs budget xs xs
 pairs_none budget xs = (no_pairs, tt, refl)
 
-pub items_more : (n : ℕ) (budget : Budget) (xs ys zs : List ℕ) → SkipsItems n budget xs ys → SkipsOne budget ys zs → SkipsItems (n + 1) budget xs zs
-items_more n budget xs ys zs h k =
-    (push h.0 k.0, count-push h.0 k.0 ∙ ap (λ j. j + 1) h.1, each-push (Skippable budget) h.0 k.0 h.2 (k.1.loose, k.1.fits), h.3 ∙ ap (λ r. bytes_all h.0 ++ r) k.1.begins ∙ sym (bytes-push h.0 k.0 zs))
+pub items_more : (n : ℕ) (budget : Budget) (xs ys zs : List ℕ) → SkipsItems n budget xs ys
+    → SkipsOne budget ys zs → SkipsItems (n + 1) budget xs zs
+items_more n budget xs ys zs h k = (
+  push h.0 k.0,
+  count-push h.0 k.0 ∙ ap (λ j. j + 1) h.1,
+  each-push (Skippable budget) h.0 k.0 h.2 (k.1.loose, k.1.fits),
+  h.3 ∙ ap (λ r. bytes_all h.0 ++ r) k.1.begins ∙ sym (bytes-push h.0 k.0 zs),
+)
 
-pub items_stop : (i n : ℕ) (budget : Budget) (xs ys : List ℕ) (e : Refusal) (rest : List ℕ) → i < n → SkipsItems i budget xs ys → StopsOne budget ys e rest → StopsItems n budget xs e rest
-items_stop i n budget xs ys e rest lt h s = record { front = h.0; after = ys; few = omega (arith, h.1); whole = h.2; is = h.3; stopped = s }
+pub items_stop : (i n : ℕ) (budget : Budget) (xs ys : List ℕ) (e : Refusal) (rest : List ℕ) → i < n
+    → SkipsItems i budget xs ys → StopsSkippingOne budget ys e rest
+    → StopsSkippingItems n budget xs e rest
+items_stop i n budget xs ys e rest lt h s =
+    record { front = h.0; after = ys; few = omega (arith, h.1); whole = h.2; is = h.3; stopped = s }
 
-pub no_break : (budget : Budget) (ys : List ℕ) (e : Refusal) (rest : List ℕ) → ys ≢ [] → (take_break : (bs : List ℕ) → ys ≡ break ∷ bs → ⊥) → StopsOne budget ys e rest → NoBreak (StopsOne budget) ys e rest
+pub no_break : (budget : Budget) (ys : List ℕ) (e : Refusal) (rest : List ℕ) → ys ≢ []
+    → (take_break : (bs : List ℕ) → ys ≡ break ∷ bs → ⊥) → StopsSkippingOne budget ys e rest
+    → NoBreak (StopsSkippingOne budget) ys e rest
 no_break budget [] e rest some none s = absurd (some refl)
 no_break budget (b ∷ bs) e rest some none s = ((λ f. none bs (ap (λ c. c ∷ bs) f)), s)
 
-pub open_stop : (budget : Budget) (xs ys : List ℕ) (e : Refusal) (rest : List ℕ) → SkippedEach budget xs ys → NoBreak (StopsOne budget) ys e rest → StopsOpen budget xs e rest
-open_stop budget xs ys e rest h s = record { front = h.0; after = ys; whole = h.1; is = h.2; stopped = s }
+pub open_stop : (budget : Budget) (xs ys : List ℕ) (e : Refusal) (rest : List ℕ)
+    → SkippedEach budget xs ys → NoBreak (StopsSkippingOne budget) ys e rest
+    → StopsSkippingOpen budget xs e rest
+open_stop budget xs ys e rest h s =
+    record { front = h.0; after = ys; whole = h.1; is = h.2; stopped = s }
 
-pub open_done : (budget : Budget) (xs ys zs : List ℕ) → SkippedEach budget xs ys → ys ≡ break ∷ zs → SkipsOpen budget xs zs
+pub open_done : (budget : Budget) (xs ys zs : List ℕ) → SkippedEach budget xs ys → ys ≡ break ∷ zs
+    → SkipsOpen budget xs zs
 open_done budget xs ys zs h e = (h.0, h.1, h.2 ∙ ap (λ r. bytes_all h.0 ++ r) e)
 
 -- ---- some at once
@@ -60,39 +90,67 @@ Left total left budget xs ys = (n : ℕ) × (n + left ≡ total) × SkipsItems n
 pub left_all : (total : ℕ) (budget : Budget) (xs : List ℕ) → Left total total budget xs xs
 left_all total budget xs = (0, omega arith, items_none budget xs)
 
-pub left_some : (total left less m : ℕ) (budget : Budget) (xs ys zs : List ℕ) → less + m ≡ left → Left total left budget xs ys → SkipsItems m budget ys zs → Left total less budget xs zs
-left_some total left less m budget xs ys zs e h k = (h.0 + m, omega (arith, h.1, e), items_join h.0 m budget xs ys zs h.2 k)
+pub left_some : (total left less m : ℕ) (budget : Budget) (xs ys zs : List ℕ) → less + m ≡ left
+    → Left total left budget xs ys → SkipsItems m budget ys zs → Left total less budget xs zs
+left_some total left less m budget xs ys zs e h k =
+    (h.0 + m, omega (arith, h.1, e), items_join h.0 m budget xs ys zs h.2 k)
 
-pub left_none : (total left : ℕ) (budget : Budget) (xs ys : List ℕ) → left ≡ 0 → Left total left budget xs ys → SkipsItems total budget xs ys
-left_none total left budget xs ys none h = subst (λ n. SkipsItems n budget xs ys) (omega (arith, h.1, none)) h.2
+pub left_none : (total left : ℕ) (budget : Budget) (xs ys : List ℕ) → left ≡ 0
+    → Left total left budget xs ys → SkipsItems total budget xs ys
+left_none total left budget xs ys none h =
+    subst (λ n. SkipsItems n budget xs ys) (omega (arith, h.1, none)) h.2
 
-pub left_stop : (total left : ℕ) (budget : Budget) (xs ys : List ℕ) (e : Refusal) (rest : List ℕ) → 1 ≤ left → Left total left budget xs ys → StopsOne budget ys e rest → StopsItems total budget xs e rest
-left_stop total left budget xs ys e rest some h s = items_stop h.0 total budget xs ys e rest (omega (arith, h.1, some)) h.2 s
+pub left_stop : (total left : ℕ) (budget : Budget) (xs ys : List ℕ) (e : Refusal) (rest : List ℕ)
+    → 1 ≤ left → Left total left budget xs ys → StopsSkippingOne budget ys e rest
+    → StopsSkippingItems total budget xs e rest
+left_stop total left budget xs ys e rest some h s =
+    items_stop h.0 total budget xs ys e rest (omega (arith, h.1, some)) h.2 s
 
 -- ---- pairs
 
-pub pairs_more : (budget : Budget) (xs ys ws zs : List ℕ) → SkippedPairs budget xs ys → SkipsOne budget ys ws → SkipsOne budget ws zs → SkippedPairs budget xs zs
+pub pairs_more : (budget : Budget) (xs ys ws zs : List ℕ) → SkippedPairs budget xs ys
+    → SkipsOne budget ys ws → SkipsOne budget ws zs → SkippedPairs budget xs zs
 pairs_more budget xs ys ws zs h k v = (
   push_pair h.0 k.0 v.0,
   each-push_pair (Skippable budget) h.0 k.0 v.0 h.1 (k.1.loose, k.1.fits) (v.1.loose, v.1.fits),
-  h.2 ∙ ap (λ r. bytes_pairs h.0 ++ r) (k.1.begins ∙ ap (λ r. bytes k.0 ++ r) v.1.begins) ∙ sym (bytes-push_pair h.0 k.0 v.0 zs),
+  h.2 ∙ ap (λ r. bytes_pairs h.0 ++ r) (k.1.begins ∙ ap (λ r. bytes k.0 ++ r) v.1.begins)
+      ∙ sym (bytes-push_pair h.0 k.0 v.0 zs),
 )
 
-pub key_stop : (budget : Budget) (xs ys : List ℕ) (e : Refusal) (rest : List ℕ) → SkippedPairs budget xs ys → NoBreak (StopsOne budget) ys e rest → StopsMembers budget xs e rest
-key_stop budget xs ys e rest h s = record { front = h.0; after = ys; whole = h.1; is = h.2; stopped = inl s }
+pub key_stop : (budget : Budget) (xs ys : List ℕ) (e : Refusal) (rest : List ℕ)
+    → SkippedPairs budget xs ys → NoBreak (StopsSkippingOne budget) ys e rest
+    → StopsSkippingMembers budget xs e rest
+key_stop budget xs ys e rest h s =
+    record { front = h.0; after = ys; whole = h.1; is = h.2; stopped = inl s }
 
-pub value_stop : (budget : Budget) (xs ys ws : List ℕ) (e : Refusal) (rest : List ℕ) → SkippedPairs budget xs ys → SkipsOne budget ys ws → StopsOne budget ws e rest → StopsMembers budget xs e rest
+pub value_stop : (budget : Budget) (xs ys ws : List ℕ) (e : Refusal) (rest : List ℕ)
+    → SkippedPairs budget xs ys → SkipsOne budget ys ws → StopsSkippingOne budget ws e rest
+    → StopsSkippingMembers budget xs e rest
 value_stop budget xs ys ws e rest h k s =
-    record { front = h.0; after = ys; whole = h.1; is = h.2; stopped = inr (record { key = k.0; after = ws; whole = (k.1.loose, k.1.fits); is = k.1.begins; stopped = s }) }
+    record {
+      front = h.0;
+      after = ys;
+      whole = h.1;
+      is = h.2;
+      stopped = inr (record {
+        key = k.0;
+        after = ws;
+        whole = (k.1.loose, k.1.fits);
+        is = k.1.begins;
+        stopped = s;
+      });
+    }
 
-pub members_done : (budget : Budget) (xs ys zs : List ℕ) → SkippedPairs budget xs ys → ys ≡ break ∷ zs → SkipsMembers budget xs zs
+pub members_done : (budget : Budget) (xs ys zs : List ℕ) → SkippedPairs budget xs ys
+    → ys ≡ break ∷ zs → SkipsMembers budget xs zs
 members_done budget xs ys zs h e = (h.0, h.1, h.2 ∙ ap (λ r. bytes_pairs h.0 ++ r) e)
 
 -- ---- breaks
 
 pub after_break : (xs : List ℕ) (n c : ℕ) → ReadsBreak xs true n c → xs ≡ break ∷ drop n xs
 after_break [] n c r = let e = r.0 in cc
-after_break (x ∷ xs) n c r = let e = r.0 in let f : x ≡ break = cc in ap₂ ◌∷◌ f (ap (λ j. drop j (x ∷ xs)) (sym r.1))
+after_break (x ∷ xs) n c r =
+    let e = r.0 in let f : x ≡ break = cc in ap₂ ◌∷◌ f (ap (λ j. drop j (x ∷ xs)) (sym r.1))
 
 abbrev pub IsOther : List ℕ → List ℕ → Type 0
 IsOther xs ys = (ys ≡ xs) × (xs ≢ []) × ((bs : List ℕ) → xs ≡ break ∷ bs → ⊥)

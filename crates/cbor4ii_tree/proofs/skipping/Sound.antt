@@ -1,106 +1,145 @@
 -- What is skipped is a loose tree whose skip cost fits.
-use Rattle.std.proofs.Common.{◌≡◌, ℕ, zero, suc, ◌+◌, List, [], ◌∷◌, length, Ok, refl, sym, ap, ap₂, subst}
+use Rattle.std.proofs.Common.{◌≡◌, ℕ, zero, suc, ◌+◌, List, [], ◌∷◌, length, Ok, refl, sym, ap, ap₂}
+use Rattle.std.proofs.Common.{subst}
 use Rattle.cbor4ii_items.specs.Head.{HeadFits, IsBytes}
-use Rattle.cbor4ii_items.specs.Initial.{sign_major, kind_major, precision_bytes, Initial, starts_int, bad_int, starts_string, starts_chunks, bad_string, starts_array, starts_open_array, bad_array, starts_map, starts_open_map, bad_map, starts_tag, bad_tag, starts_simple, starts_bits, other_simple, initial}
-use Rattle.cbor4ii_tree.specs.Tree.{Tree, int, string, chunked, array, array_open, map_of, map_open, tagged, simple, bits, count, pair_count, bytes, bytes_all, bytes_pairs}
+use Rattle.cbor4ii_items.specs.Initial.{sign_major, kind_major, precision_bytes, Initial}
+use Rattle.cbor4ii_items.specs.Initial.{starts_int, bad_int, starts_string, starts_chunks}
+use Rattle.cbor4ii_items.specs.Initial.{bad_string, starts_array, starts_open_array, bad_array}
+use Rattle.cbor4ii_items.specs.Initial.{starts_map, starts_open_map, bad_map, starts_tag, bad_tag}
+use Rattle.cbor4ii_items.specs.Initial.{starts_simple, starts_bits, other_simple, initial}
+use Rattle.cbor4ii_tree.specs.Tree.{Tree, int, string, chunked, array, array_open, map_of, map_open}
+use Rattle.cbor4ii_tree.specs.Tree.{tagged, simple, bits, count, pair_count, bytes, bytes_all}
+use Rattle.cbor4ii_tree.specs.Tree.{bytes_pairs}
 use Rattle.cbor4ii_items.specs.Decoding.{CostFits}
 use Rattle.cbor4ii_items.specs.Laws.Answering.{fits_zero}
 use Rattle.cbor4ii_tree.specs.Cost.{Budget, step_in}
 use Rattle.cbor4ii_tree.specs.Refusal.{ignored_any, tag_name}
 use Rattle.cbor4ii_tree.specs.StopsSkipping.{Skippable}
-use Rattle.cbor4ii_tree.specs.Parse.{Parser, ◌>>=◌, front_at, argument_of_width, trees_at, pairs_at, open_trees_at, open_pairs_at}
-use Rattle.cbor4ii_tree.specs.Skip.{whole_number_at, whole_argument_at, skip_by, skip_from, skip_within}
+use Rattle.cbor4ii_tree.specs.Parse.{Parser, ◌>>=◌, front_at, argument_of_width, trees_at, pairs_at}
+use Rattle.cbor4ii_tree.specs.Parse.{open_trees_at, open_pairs_at}
+use Rattle.cbor4ii_tree.specs.Skip.{whole_number_at, whole_argument_at, skip_by, skip_from}
+use Rattle.cbor4ii_tree.specs.Skip.{skip_within}
 use Rattle.cbor4ii_tree.specs.Laws.Binds.{bind_ok, same_ok, no_ok, stepped_ok, step_up}
 use Rattle.cbor4ii_tree.proofs.heads.Inverse.{front_inverse, whole_number_inverse}
 use Rattle.cbor4ii_tree.proofs.heads.Means.{Means, means, argument_inverse, whole_argument_inverse}
-use Rattle.cbor4ii_tree.proofs.parts.Sound.{Took, IsSound, trees_sound, pairs_sound, open_trees_sound, open_pairs_sound, counted}
+use Rattle.cbor4ii_tree.proofs.parts.Sound.{Took, IsSound, trees_sound, pairs_sound}
+use Rattle.cbor4ii_tree.proofs.parts.Sound.{open_trees_sound, open_pairs_sound, counted}
 use Rattle.cbor4ii_tree.specs.Laws.Wholes.{all_skippable, all_pairs_skippable}
 
 abbrev Up : Budget → Budget → Type 0
 Up inner outer = (c : ℕ) → CostFits c inner → CostFits (1 + c) outer
 
-by_sound : (item : Parser Tree) (inner outer : Budget) → IsSound item (Skippable inner) → Up inner outer → (i : Initial) (b : ℕ) (bs : List ℕ) (p : Tree × List ℕ) → Means b i → IsBytes bs → skip_by item i b bs ≡ Ok p → Took (Skippable outer) (b ∷ bs) p
+by_sound : (item : Parser Tree) (inner outer : Budget) → IsSound item (Skippable inner)
+    → Up inner outer → (i : Initial) (b : ℕ) (bs : List ℕ) (p : Tree × List ℕ) → Means b i
+    → IsBytes bs → skip_by item i b bs ≡ Ok p → Took (Skippable outer) (b ∷ bs) p
 by_sound item inner outer s up (starts_int sg w) b bs p m h e =
     let x = bind_ok (whole_argument_at ignored_any w b bs) (λ n. Ok (int sg n.0 w, n.1)) p e in
     let top = whole_argument_inverse ignored_any (sign_major sg) x.0.0 w b bs x.0.1 h m x.1 in
-    subst (Took (Skippable outer) (b ∷ bs)) (same_ok _ (int sg x.0.0 w, x.0.1) p refl x.2) (record { whole = (top.fits, up 0 (fits_zero inner)); is = top.is; more = top.more })
+    subst (Took (Skippable outer) (b ∷ bs)) (same_ok _ (int sg x.0.0 w, x.0.1) p refl x.2)
+    (record { whole = (top.fits, up 0 (fits_zero inner)); is = top.is; more = top.more })
 by_sound item inner outer s up (bad_int sg) b bs p m h e = absurd (no_ok {A = Tree} _ p e)
 by_sound item inner outer s up (starts_string k w) b bs p m h e =
-    let x = bind_ok (argument_of_width ignored_any w b bs) (λ n. front_at ignored_any n.0 n.1 >>= λ q. Ok (string k w q.0, q.1)) p e in
+    let x = bind_ok (argument_of_width ignored_any w b bs)
+    (λ n. front_at ignored_any n.0 n.1 >>= λ q. Ok (string k w q.0, q.1)) p e in
     let y = bind_ok (front_at ignored_any x.0.0 x.0.1) (λ q. Ok (string k w q.0, q.1)) p x.2 in
     let top = argument_inverse ignored_any (kind_major k) x.0.0 w b bs x.0.1 h m x.1 in
     let part = front_inverse ignored_any x.0.0 x.0.1 y.0.0 y.0.1 top.more y.1 in
-    subst (Took (Skippable outer) (b ∷ bs)) (same_ok _ (string k w y.0.0, y.0.1) p refl y.2) (record {
+    subst (Took (Skippable outer) (b ∷ bs)) (same_ok _ (string k w y.0.0, y.0.1) p refl y.2)
+    (record {
       whole = (subst (HeadFits w) (sym part.1) top.fits, up 0 (fits_zero inner));
-      is = counted (kind_major k) x.0.0 (length y.0.0) w b bs x.0.1 y.0.0 y.0.1 top.is part.1 part.0;
+      is =
+          counted (kind_major k) x.0.0 (length y.0.0) w b bs x.0.1 y.0.0 y.0.1 top.is part.1 part.0;
       more = part.3;
     })
 by_sound item inner outer s up (starts_chunks k) b bs p m h e =
     let y = bind_ok (open_trees_at item (suc (length bs)) bs) (λ q. Ok (chunked k q.0, q.1)) p e in
     let all = open_trees_sound item (Skippable inner) s (suc (length bs)) bs y.0 h y.1 in
     let w = all_skippable y.0.0 inner all.whole in
-    subst (Took (Skippable outer) (b ∷ bs)) (same_ok _ (chunked k y.0.0, y.0.1) p refl y.2) (record { whole = (w.0, up _ w.1); is = ap₂ ◌∷◌ m all.is; more = all.more })
+    subst (Took (Skippable outer) (b ∷ bs)) (same_ok _ (chunked k y.0.0, y.0.1) p refl y.2)
+    (record { whole = (w.0, up _ w.1); is = ap₂ ◌∷◌ m all.is; more = all.more })
 by_sound item inner outer s up (bad_string k) b bs p m h e = absurd (no_ok {A = Tree} _ p e)
 by_sound item inner outer s up (starts_array w) b bs p m h e =
-    let x = bind_ok (argument_of_width ignored_any w b bs) (λ n. trees_at item n.0 n.1 >>= λ q. Ok (array w q.0, q.1)) p e in
+    let x = bind_ok (argument_of_width ignored_any w b bs)
+    (λ n. trees_at item n.0 n.1 >>= λ q. Ok (array w q.0, q.1)) p e in
     let y = bind_ok (trees_at item x.0.0 x.0.1) (λ q. Ok (array w q.0, q.1)) p x.2 in
     let top = argument_inverse ignored_any 4 x.0.0 w b bs x.0.1 h m x.1 in
     let all = trees_sound item (Skippable inner) s x.0.0 x.0.1 y.0 top.more y.1 in
     let each = all_skippable y.0.0 inner all.whole in
     subst (Took (Skippable outer) (b ∷ bs)) (same_ok _ (array w y.0.0, y.0.1) p refl y.2) (record {
       whole = ((subst (HeadFits w) (sym all.number) top.fits, each.0), up _ each.1);
-      is = counted 4 x.0.0 (count y.0.0) w b bs x.0.1 (bytes_all y.0.0) y.0.1 top.is all.number all.is;
+      is =
+          counted 4 x.0.0 (count y.0.0) w b bs x.0.1 (bytes_all y.0.0) y.0.1 top.is all.number
+          all.is;
       more = all.more;
     })
 by_sound item inner outer s up starts_open_array b bs p m h e =
     let y = bind_ok (open_trees_at item (suc (length bs)) bs) (λ q. Ok (array_open q.0, q.1)) p e in
     let all = open_trees_sound item (Skippable inner) s (suc (length bs)) bs y.0 h y.1 in
     let w = all_skippable y.0.0 inner all.whole in
-    subst (Took (Skippable outer) (b ∷ bs)) (same_ok _ (array_open y.0.0, y.0.1) p refl y.2) (record { whole = (w.0, up _ w.1); is = ap₂ ◌∷◌ m all.is; more = all.more })
+    subst (Took (Skippable outer) (b ∷ bs)) (same_ok _ (array_open y.0.0, y.0.1) p refl y.2)
+    (record { whole = (w.0, up _ w.1); is = ap₂ ◌∷◌ m all.is; more = all.more })
 by_sound item inner outer s up bad_array b bs p m h e = absurd (no_ok {A = Tree} _ p e)
 by_sound item inner outer s up (starts_map w) b bs p m h e =
-    let x = bind_ok (argument_of_width ignored_any w b bs) (λ n. pairs_at item n.0 n.1 >>= λ q. Ok (map_of w q.0, q.1)) p e in
+    let x = bind_ok (argument_of_width ignored_any w b bs)
+    (λ n. pairs_at item n.0 n.1 >>= λ q. Ok (map_of w q.0, q.1)) p e in
     let y = bind_ok (pairs_at item x.0.0 x.0.1) (λ q. Ok (map_of w q.0, q.1)) p x.2 in
     let top = argument_inverse ignored_any 5 x.0.0 w b bs x.0.1 h m x.1 in
     let all = pairs_sound item (Skippable inner) s x.0.0 x.0.1 y.0 top.more y.1 in
     let each = all_pairs_skippable y.0.0 inner all.whole in
     subst (Took (Skippable outer) (b ∷ bs)) (same_ok _ (map_of w y.0.0, y.0.1) p refl y.2) (record {
       whole = ((subst (HeadFits w) (sym all.number) top.fits, each.0), up _ each.1);
-      is = counted 5 x.0.0 (pair_count y.0.0) w b bs x.0.1 (bytes_pairs y.0.0) y.0.1 top.is all.number all.is;
+      is =
+          counted 5 x.0.0 (pair_count y.0.0) w b bs x.0.1 (bytes_pairs y.0.0) y.0.1 top.is
+          all.number all.is;
       more = all.more;
     })
 by_sound item inner outer s up starts_open_map b bs p m h e =
     let y = bind_ok (open_pairs_at item (suc (length bs)) bs) (λ q. Ok (map_open q.0, q.1)) p e in
     let all = open_pairs_sound item (Skippable inner) s (suc (length bs)) bs y.0 h y.1 in
     let w = all_pairs_skippable y.0.0 inner all.whole in
-    subst (Took (Skippable outer) (b ∷ bs)) (same_ok _ (map_open y.0.0, y.0.1) p refl y.2) (record { whole = (w.0, up _ w.1); is = ap₂ ◌∷◌ m all.is; more = all.more })
+    subst (Took (Skippable outer) (b ∷ bs)) (same_ok _ (map_open y.0.0, y.0.1) p refl y.2)
+    (record { whole = (w.0, up _ w.1); is = ap₂ ◌∷◌ m all.is; more = all.more })
 by_sound item inner outer s up bad_map b bs p m h e = absurd (no_ok {A = Tree} _ p e)
 by_sound item inner outer s up (starts_tag w) b bs p m h e =
-    let x = bind_ok (argument_of_width tag_name w b bs) (λ n. item n.1 >>= λ q. Ok (tagged n.0 w q.0, q.1)) p e in
+    let x = bind_ok (argument_of_width tag_name w b bs)
+    (λ n. item n.1 >>= λ q. Ok (tagged n.0 w q.0, q.1)) p e in
     let y = bind_ok (item x.0.1) (λ q. Ok (tagged x.0.0 w q.0, q.1)) p x.2 in
     let top = argument_inverse tag_name 6 x.0.0 w b bs x.0.1 h m x.1 in
     let part = s x.0.1 y.0 top.more y.1 in
-    subst (Took (Skippable outer) (b ∷ bs)) (same_ok _ (tagged x.0.0 w y.0.0, y.0.1) p refl y.2) (record {
+    subst (Took (Skippable outer) (b ∷ bs)) (same_ok _ (tagged x.0.0 w y.0.0, y.0.1) p refl y.2)
+    (record {
       whole = ((top.fits, part.whole.0), up _ part.whole.1);
       is = counted 6 x.0.0 x.0.0 w b bs x.0.1 (bytes y.0.0) y.0.1 top.is refl part.is;
       more = part.more;
     })
 by_sound item inner outer s up bad_tag b bs p m h e = absurd (no_ok {A = Tree} _ p e)
 by_sound item inner outer s up (starts_simple sg) b bs p m h e =
-    subst (Took (Skippable outer) (b ∷ bs)) (same_ok _ (simple sg, bs) p refl e) (record { whole = (tt, up 0 (fits_zero inner)); is = ap (λ c. c ∷ bs) m; more = h })
+    subst (Took (Skippable outer) (b ∷ bs)) (same_ok _ (simple sg, bs) p refl e)
+    (record { whole = (tt, up 0 (fits_zero inner)); is = ap (λ c. c ∷ bs) m; more = h })
 by_sound item inner outer s up (starts_bits q) b bs p m h e =
-    let x = bind_ok (whole_number_at ignored_any (precision_bytes q) bs) (λ n. Ok (bits q n.0, n.1)) p e in
+    let x = bind_ok (whole_number_at ignored_any (precision_bytes q) bs)
+    (λ n. Ok (bits q n.0, n.1)) p e in
     let whole = whole_number_inverse ignored_any (precision_bytes q) x.0.0 bs x.0.1 h x.1 in
-    subst (Took (Skippable outer) (b ∷ bs)) (same_ok _ (bits q x.0.0, x.0.1) p refl x.2) (record { whole = (whole.below, up 0 (fits_zero inner)); is = ap₂ ◌∷◌ m whole.is; more = whole.more })
+    subst (Took (Skippable outer) (b ∷ bs)) (same_ok _ (bits q x.0.0, x.0.1) p refl x.2)
+    (record {
+      whole = (whole.below, up 0 (fits_zero inner));
+      is = ap₂ ◌∷◌ m whole.is;
+      more = whole.more;
+    })
 by_sound item inner outer s up other_simple b bs p m h e = absurd (no_ok {A = Tree} _ p e)
 
-from_sound : (item : Parser Tree) (inner outer : Budget) → IsSound item (Skippable inner) → Up inner outer → (bs : List ℕ) (p : Tree × List ℕ) → IsBytes bs → skip_from item bs ≡ Ok p → Took (Skippable outer) bs p
+from_sound : (item : Parser Tree) (inner outer : Budget) → IsSound item (Skippable inner)
+    → Up inner outer → (bs : List ℕ) (p : Tree × List ℕ) → IsBytes bs → skip_from item bs ≡ Ok p
+    → Took (Skippable outer) bs p
 from_sound item inner outer s up [] p h e = absurd (no_ok {A = Tree} _ p e)
-from_sound item inner outer s up (b ∷ bs) p h e = by_sound item inner outer s up (initial b) b bs p (means b h.0) h.1 e
+from_sound item inner outer s up (b ∷ bs) p h e =
+    by_sound item inner outer s up (initial b) b bs p (means b h.0) h.1 e
 
 pub skip_sound : (n : ℕ) (budget : Budget) → IsSound (skip_within n budget) (Skippable budget)
 unfolding skip_within
 skip_sound zero budget bs p h e = absurd (no_ok {A = Tree} _ p e)
 skip_sound (suc n) budget bs p h e =
-    let t = stepped_ok ignored_any (step_in budget) bs (λ inner. skip_from (skip_within n inner) bs) p e in
-    from_sound (skip_within n t.0) t.0 budget (skip_sound n t.0) (λ c f. step_up budget t.0 c t.1 f) bs p h t.2
+    let t = stepped_ok ignored_any (step_in budget) bs (λ inner. skip_from (skip_within n inner) bs)
+    p e in
+    from_sound (skip_within n t.0) t.0 budget (skip_sound n t.0)
+    (λ c f. step_up budget t.0 c t.1 f) bs p h t.2

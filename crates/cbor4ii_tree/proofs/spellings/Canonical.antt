@@ -1,14 +1,25 @@
 -- The canonical spelling is a spelling.
-use Rattle.std.proofs.Common.{◌≡◌, ℕ, zero, suc, ◌^◌, ◌<◌, ◌≤◌, List, [], ◌∷◌, length, Bool, true, false, cond, ltb, ltb-true, lt-ltb, pos, negsuc, refl, sym, ap, ap₂, arith, subst}
+use Rattle.std.proofs.Common.{◌≡◌, ℕ, zero, suc, ◌^◌, ◌<◌, ◌≤◌, List, [], ◌∷◌, length, Bool, true}
+use Rattle.std.proofs.Common.{false, cond, ltb, ltb-true, lt-ltb, pos, negsuc, refl, sym, ap, ap₂}
+use Rattle.std.proofs.Common.{arith, subst}
 use Rattle.std.specs.Int.{bytes_high_first}
 use Rattle.cbor4ii_items.specs.Head.{Width, HeadFits, shortest}
-use Rattle.cbor4ii_items.specs.Initial.{Sign, unsigned, negative, Kind, byte_string, text_string, simple_false, simple_true, simple_null, simple_undefined}
+use Rattle.cbor4ii_items.specs.Initial.{Sign, unsigned, negative, Kind, byte_string, text_string}
+use Rattle.cbor4ii_items.specs.Initial.{simple_false, simple_true, simple_null, simple_undefined}
 use Rattle.cbor4ii_items.specs.Laws.Heads.{length-bytes_high_first}
-use Rattle.cbor4ii_tree.specs.Tree.{Tree, int, string, chunked, array, array_open, map_of, map_open, tagged, simple, bits, Trees, no_trees, tree, Pairs, no_pairs, pair, joined_chunks, count, pair_count, Loose, LooseAll, LoosePairs, SoundStrings, SoundStringsAll, SoundStringsPairs}
-use Rattle.cbor4ii_tree.specs.Item.{Item, null, boolean, integer, float, bytes_item, text, sequence, mapping, tag, Items, no_items, item, Members, no_members, member, item_count, member_count, IsItem, AreItems, AreMembers}
+use Rattle.cbor4ii_tree.specs.Tree.{Tree, int, string, chunked, array, array_open, map_of, map_open}
+use Rattle.cbor4ii_tree.specs.Tree.{tagged, simple, bits, Trees, no_trees, tree, Pairs, no_pairs}
+use Rattle.cbor4ii_tree.specs.Tree.{pair, joined_chunks, count, pair_count, Loose, LooseAll}
+use Rattle.cbor4ii_tree.specs.Tree.{LoosePairs, SoundStrings, SoundStringsAll, SoundStringsPairs}
+use Rattle.cbor4ii_tree.specs.Item.{Item, null, boolean, integer, float, bytes_item, text, sequence}
+use Rattle.cbor4ii_tree.specs.Item.{mapping, tag, Items, no_items, item, Members, no_members}
+use Rattle.cbor4ii_tree.specs.Item.{member, item_count, member_count, IsItem, AreItems, AreMembers}
 use Rattle.cbor4ii_tree.specs.Meaning.{value, values, member_values, number, content_item}
 use Rattle.cbor4ii_tree.specs.Cost.{cost}
-use Rattle.cbor4ii_tree.specs.Canonical.{canon, canon_tree, canon_trees, canon_pairs, integer_tree, bignum, magnitude, without_leading_zeros, sign_tag, with_bignums, with_bignums_all, with_bignums_members, tagged_integer}
+use Rattle.cbor4ii_tree.specs.Canonical.{canon, canon_tree, canon_trees, canon_pairs, integer_tree}
+use Rattle.cbor4ii_tree.specs.Canonical.{bignum, magnitude, without_leading_zeros, sign_tag}
+use Rattle.cbor4ii_tree.specs.Canonical.{with_bignums, with_bignums_all, with_bignums_members}
+use Rattle.cbor4ii_tree.specs.Canonical.{tagged_integer}
 use Rattle.cbor4ii_tree.specs.Spelling.{Spells}
 use Rattle.cbor4ii_tree.specs.Laws.Binds.{if_cases}
 use Rattle.cbor4ii_tree.proofs.spellings.Costs.{below_from_HeadFits}
@@ -16,7 +27,9 @@ use Rattle.cbor4ii_tree.proofs.spellings.Costs.{below_from_HeadFits}
 pub shortest_fits : (n : ℕ) → n < 2 ^ 64 → HeadFits (shortest n) n
 shortest_fits n h =
     let P : Width → Type 0 = λ w. HeadFits w n in
-    if_cases P (ltb n 24) _ _ (λ e. let lt = ltb-true n 24 e in omega arith) (λ _. if_cases P (ltb n 256) _ _ (λ e. ltb-true n 256 e) (λ _. if_cases P (ltb n (256 ^ 2)) _ _ (λ e. ltb-true n (256 ^ 2) e)
+    if_cases P (ltb n 24) _ _ (λ e. let lt = ltb-true n 24 e in omega arith)
+    (λ _. if_cases P (ltb n 256) _ _ (λ e. ltb-true n 256 e)
+    (λ _. if_cases P (ltb n (256 ^ 2)) _ _ (λ e. ltb-true n (256 ^ 2) e)
     (λ _. if_cases P (ltb n (256 ^ 4)) _ _ (λ e. ltb-true n (256 ^ 4) e) (λ _. h))))
 
 length-without_leading_zeros : (bs : List ℕ) → length (without_leading_zeros bs) ≤ length bs
@@ -25,11 +38,17 @@ length-without_leading_zeros (zero ∷ bs) = omega (arith, length-without_leadin
 length-without_leading_zeros (suc b ∷ bs) = omega arith
 
 length-magnitude : (n : ℕ) → length (magnitude n) < 2 ^ 64
-length-magnitude n = omega (arith, length-without_leading_zeros (bytes_high_first 16 n), length-bytes_high_first 16 n)
+length-magnitude n =
+    omega
+    (arith, length-without_leading_zeros (bytes_high_first 16 n), length-bytes_high_first 16 n)
 
 loose_integer : (s : Sign) (n : ℕ) → Loose (integer_tree s n)
-loose_integer unsigned n = if_cases Loose (ltb n (2 ^ 64)) _ _ (λ e. shortest_fits n (ltb-true n (2 ^ 64) e)) (λ e. (omega arith, shortest_fits (length (magnitude n)) (length-magnitude n)))
-loose_integer negative n = if_cases Loose (ltb n (2 ^ 64)) _ _ (λ e. shortest_fits n (ltb-true n (2 ^ 64) e)) (λ e. (omega arith, shortest_fits (length (magnitude n)) (length-magnitude n)))
+loose_integer unsigned n =
+    if_cases Loose (ltb n (2 ^ 64)) _ _ (λ e. shortest_fits n (ltb-true n (2 ^ 64) e))
+    (λ e. (omega arith, shortest_fits (length (magnitude n)) (length-magnitude n)))
+loose_integer negative n =
+    if_cases Loose (ltb n (2 ^ 64)) _ _ (λ e. shortest_fits n (ltb-true n (2 ^ 64) e))
+    (λ e. (omega arith, shortest_fits (length (magnitude n)) (length-magnitude n)))
 
 sound_integer : (s : Sign) (n : ℕ) → SoundStrings (integer_tree s n)
 sound_integer s n = if_cases SoundStrings (ltb n (2 ^ 64)) _ _ (λ e. tt) (λ e. tt)
@@ -64,7 +83,8 @@ mutual
 
   loose_canon_pairs : (ms : Members) → AreMembers ms → LoosePairs (canon_pairs ms)
   loose_canon_pairs no_members h = tt
-  loose_canon_pairs (member k v ms) h = (loose_canon k h.0, loose_canon v h.1, loose_canon_pairs ms h.2)
+  loose_canon_pairs (member k v ms) h =
+      (loose_canon k h.0, loose_canon v h.1, loose_canon_pairs ms h.2)
 
 mutual
   pub sound_canon : (v : Item) → IsItem v → SoundStrings (canon_tree v)
@@ -85,12 +105,16 @@ mutual
 
   sound_canon_pairs : (ms : Members) → AreMembers ms → SoundStringsPairs (canon_pairs ms)
   sound_canon_pairs no_members h = tt
-  sound_canon_pairs (member k v ms) h = (sound_canon k h.0, sound_canon v h.1, sound_canon_pairs ms h.2)
+  sound_canon_pairs (member k v ms) h =
+      (sound_canon k h.0, sound_canon v h.1, sound_canon_pairs ms h.2)
 
-value_integer : (s : Sign) (n : ℕ) → value (integer_tree s n) ≡ tagged_integer s n (integer (number s n))
+value_integer : (s : Sign) (n : ℕ)
+    → value (integer_tree s n) ≡ tagged_integer s n (integer (number s n))
 value_integer s n = value_if (ltb n (2 ^ 64))
   where
-    value_if : (b : Bool) → value (cond b (Tree.int s n (shortest n)) (bignum s n)) ≡ cond b (integer (number s n)) (tag (sign_tag s) (bytes_item (magnitude n)))
+    value_if : (b : Bool)
+        → value (cond b (Tree.int s n (shortest n)) (bignum s n)) ≡ cond b (integer (number s n))
+        (tag (sign_tag s) (bytes_item (magnitude n)))
     value_if true = refl
     value_if false = refl
 
@@ -118,18 +142,27 @@ mutual
 
 -- the canonical spelling is read back, with each large integer as its bignum
 pub canon_spells : (v : Item) → IsItem v → Spells (canon v) (with_bignums v) (cost (canon_tree v))
-canon_spells v h = record { spelled = canon_tree v; plain = (loose_canon v h, sound_canon v h); bytes_are = refl; value_is = value-canon v; cost_is = refl }
+canon_spells v h = record {
+  spelled = canon_tree v;
+  plain = (loose_canon v h, sound_canon v h);
+  bytes_are = refl;
+  value_is = value-canon v;
+  cost_is = refl;
+}
 
 -- ---- what is read is no integer beyond its heads
 
-tagged_integer-small : (s : Sign) (n : ℕ) → n < 2 ^ 64 → tagged_integer s n (integer (number s n)) ≡ integer (number s n)
+tagged_integer-small : (s : Sign) (n : ℕ) → n < 2 ^ 64
+    → tagged_integer s n (integer (number s n)) ≡ integer (number s n)
 tagged_integer-small s n h = rw (lt-ltb n (2 ^ 64) h) refl
 
-with_bignums-number : (s : Sign) (n : ℕ) → n < 2 ^ 64 → with_bignums (integer (number s n)) ≡ integer (number s n)
+with_bignums-number : (s : Sign) (n : ℕ) → n < 2 ^ 64
+    → with_bignums (integer (number s n)) ≡ integer (number s n)
 with_bignums-number unsigned n h = tagged_integer-small unsigned n h
 with_bignums-number negative n h = tagged_integer-small negative n h
 
-with_bignums-content : (k : Kind) (content : List ℕ) → with_bignums (content_item k content) ≡ content_item k content
+with_bignums-content : (k : Kind) (content : List ℕ)
+    → with_bignums (content_item k content) ≡ content_item k content
 with_bignums-content byte_string content = refl
 with_bignums-content text_string content = refl
 
@@ -151,8 +184,11 @@ mutual
 
   with_bignums-values : (ts : Trees) → LooseAll ts → with_bignums_all (values ts) ≡ values ts
   with_bignums-values no_trees h = refl
-  with_bignums-values (tree t ts) h = ap₂ item (with_bignums-value t h.0) (with_bignums-values ts h.1)
+  with_bignums-values (tree t ts) h =
+      ap₂ item (with_bignums-value t h.0) (with_bignums-values ts h.1)
 
-  with_bignums-member_values : (ps : Pairs) → LoosePairs ps → with_bignums_members (member_values ps) ≡ member_values ps
+  with_bignums-member_values : (ps : Pairs) → LoosePairs ps
+      → with_bignums_members (member_values ps) ≡ member_values ps
   with_bignums-member_values no_pairs h = refl
-  with_bignums-member_values (pair k v ps) h = cc (with_bignums-value k h.0, with_bignums-value v h.1, with_bignums-member_values ps h.2)
+  with_bignums-member_values (pair k v ps) h =
+      cc (with_bignums-value k h.0, with_bignums-value v h.1, with_bignums-member_values ps h.2)

@@ -1,17 +1,22 @@
--- Worked rows: what RFC 8949 appendix A and this codec's rules say of bytes, each an equation that the plain programs
--- compute. The laws tie these programs to the definitions, so that a row is one of the definitions. A text of
--- hexadecimal digits stands for its bytes; where no budget is given, it is 256 steps.
-use Rattle.std.proofs.Common.{◌≡◌, ℕ, zero, suc, ◌+◌, ◌-◌, ◌*◌, List, [], ◌∷◌, ◌++◌, Ok, Err, Result, None, Some, refl, pos, negsuc, codes, replicate, true, false}
+-- Worked rows: what RFC 8949 appendix A and this codec's rules say of bytes, each an equation that
+-- the plain programs compute. The laws tie these programs to the definitions, so that a row is one
+-- of the definitions. A text of hexadecimal digits stands for its bytes; where no budget is given,
+-- it is 256 steps.
+use Rattle.std.proofs.Common.{◌≡◌, ℕ, zero, suc, ◌+◌, ◌-◌, ◌*◌, List, [], ◌∷◌, ◌++◌, Ok, Err}
+use Rattle.std.proofs.Common.{Result, None, Some, refl, pos, negsuc, codes, replicate, true, false}
 use Prim.Native.String.{String}
 use Rattle.std.specs.Prelude.{nat_lt, if◌then◌else◌}
 use Rattle.std.specs.Str.{is_utf8, chars}
 use Rattle.cbor4ii_items.specs.Initial.{half, single, double, initial}
 use Rattle.cbor4ii_tree.specs.Tree.{Tree}
-use Rattle.cbor4ii_tree.specs.Item.{Item, null, boolean, integer, float, bytes_item, text, sequence, mapping, tag, size}
+use Rattle.cbor4ii_tree.specs.Item.{Item, null, boolean, integer, float, bytes_item, text, sequence}
+use Rattle.cbor4ii_tree.specs.Item.{mapping, tag, size}
 use Rattle.cbor4ii_tree.specs.Canonical.{canon, canon_cost, with_bignums}
 use Rattle.cbor4ii_tree.specs.Cost.{cost, skip_cost}
-use Rattle.cbor4ii_tree.specs.Refusal.{Refusal, eof, mismatch, unsupported, require_length, require_utf8, depth_overflow, Small, Big, Indefinite}
-use Rattle.cbor4ii_tree.specs.Parse.{Answer, argument_of_width, trees_at, pairs_at, open_trees_at, open_pairs_at}
+use Rattle.cbor4ii_tree.specs.Refusal.{Refusal, eof, mismatch, unsupported, require_length}
+use Rattle.cbor4ii_tree.specs.Refusal.{require_utf8, depth_overflow, Small, Big, Indefinite}
+use Rattle.cbor4ii_tree.specs.Parse.{Answer, argument_of_width, trees_at, pairs_at, open_trees_at}
+use Rattle.cbor4ii_tree.specs.Parse.{open_pairs_at}
 use Rattle.cbor4ii_tree.specs.Skip.{skip, skip_within, whole_argument_at}
 use Rattle.cbor4ii_tree.specs.Read.{read, read_tree, read_within}
 use Rattle.cbor4ii_tree.specs.View.{items_of, members_of}
@@ -96,7 +101,8 @@ IntegersRows =
     × (Reads "19 03 e8" (number 1000) "19 03 e8")
     × (Reads "1a 00 0f 42 40" (number 1000000) "1a 00 0f 42 40")
     × (Reads "1b 00 00 00 e8 d4 a5 10 00" (number 1000000000000) "1b 00 00 00 e8 d4 a5 10 00")
-    × (Reads "1b ff ff ff ff ff ff ff ff" (number 18446744073709551615) "1b ff ff ff ff ff ff ff ff")
+    × (Reads "1b ff ff ff ff ff ff ff ff" (number 18446744073709551615)
+    "1b ff ff ff ff ff ff ff ff")
     × (Reads "20" (integer (negsuc 0)) "20")
     × (Reads "29" (integer (negsuc 9)) "29")
     × (Reads "38 63" (integer (negsuc 99)) "38 63")
@@ -104,17 +110,48 @@ IntegersRows =
     × (Reads "39 03 e7" (integer (negsuc 999)) "39 03 e7")
     × (Reads "39 ff ff" (integer (negsuc 65535)) "39 ff ff")
     × (Reads "3a ff ff ff ff" (integer (negsuc 4294967295)) "3a ff ff ff ff")
-    × (Reads "3b ff ff ff ff ff ff ff ff" (integer (negsuc 18446744073709551615)) "3b ff ff ff ff ff ff ff ff")
-    × (Reads "c2 49 01 00 00 00 00 00 00 00 00" (tag 2 (bytes_item (hex "01 00 00 00 00 00 00 00 00"))) "c2 49 01 00 00 00 00 00 00 00 00")
-    × (Reads "c3 49 01 00 00 00 00 00 00 00 00" (tag 3 (bytes_item (hex "01 00 00 00 00 00 00 00 00"))) "c3 49 01 00 00 00 00 00 00 00 00")
+    × (Reads "3b ff ff ff ff ff ff ff ff" (integer (negsuc 18446744073709551615))
+    "3b ff ff ff ff ff ff ff ff")
+    × (Reads "c2 49 01 00 00 00 00 00 00 00 00" (tag 2
+    (bytes_item (hex "01 00 00 00 00 00 00 00 00"))) "c2 49 01 00 00 00 00 00 00 00 00")
+    × (Reads "c3 49 01 00 00 00 00 00 00 00 00" (tag 3
+    (bytes_item (hex "01 00 00 00 00 00 00 00 00"))) "c3 49 01 00 00 00 00 00 00 00 00")
     × (Writes (number 18446744073709551616) "c2 49 01 00 00 00 00 00 00 00 00")
     × (Writes (integer (negsuc 18446744073709551616)) "c3 49 01 00 00 00 00 00 00 00 00")
     × (Writes (number 18446744073709551714) "c2 49 01 00 00 00 00 00 00 00 62")
-    × (Writes (integer (negsuc 170141183460469231731687303715884105727)) "c3 50 7f ff ff ff ff ff ff ff ff ff ff ff ff ff ff ff")
+    × (Writes (integer (negsuc 170141183460469231731687303715884105727))
+    "c3 50 7f ff ff ff ff ff ff ff ff ff ff ff ff ff ff ff")
 
 pub integers_rows : IntegersRows
-unfolding read_within skip_within trees_at pairs_at open_trees_at open_pairs_at argument_of_width whole_argument_at initial is_utf8 chars lib.Utf8.encode
-integers_rows = ((refl, refl), (refl, refl), (refl, refl), (refl, refl), (refl, refl), (refl, refl), (refl, refl), (refl, refl), (refl, refl), (refl, refl), (refl, refl), (refl, refl), (refl, refl), (refl, refl), (refl, refl), (refl, refl), (refl, refl), (refl, refl), (refl, refl), (refl, refl), (refl, refl), refl, refl, refl, refl)
+unfolding read_within skip_within trees_at pairs_at open_trees_at open_pairs_at argument_of_width
+    whole_argument_at initial is_utf8 chars lib.Utf8.encode
+integers_rows = (
+  (refl, refl),
+  (refl, refl),
+  (refl, refl),
+  (refl, refl),
+  (refl, refl),
+  (refl, refl),
+  (refl, refl),
+  (refl, refl),
+  (refl, refl),
+  (refl, refl),
+  (refl, refl),
+  (refl, refl),
+  (refl, refl),
+  (refl, refl),
+  (refl, refl),
+  (refl, refl),
+  (refl, refl),
+  (refl, refl),
+  (refl, refl),
+  (refl, refl),
+  (refl, refl),
+  refl,
+  refl,
+  refl,
+  refl,
+)
 
 -- Heads longer than needed are read, and written short (section 4.1).
 abbrev LongerRows : Type 0
@@ -128,12 +165,26 @@ LongerRows =
     × (Reads "b8 01 01 02" (mapping (members_of (((number 1), (number 2)) ∷ []))) "a1 01 02")
     × (Reads "db 00 00 00 00 00 00 00 2a 00" (tag 42 (number 0)) "d8 2a 00")
     × (Reads "99 00 01 05" (sequence (items_of ((number 5) ∷ []))) "81 05")
-    × (Reads "bb 00 00 00 00 00 00 00 01 01 02" (mapping (members_of (((number 1), (number 2)) ∷ []))) "a1 01 02")
+    × (Reads "bb 00 00 00 00 00 00 00 01 01 02"
+    (mapping (members_of (((number 1), (number 2)) ∷ []))) "a1 01 02")
     × (Reads "59 00 01 61" (bytes_item (hex "61")) "41 61")
 
 pub longer_rows : LongerRows
-unfolding read_within skip_within trees_at pairs_at open_trees_at open_pairs_at argument_of_width whole_argument_at initial is_utf8 chars lib.Utf8.encode
-longer_rows = ((refl, refl), (refl, refl), (refl, refl), (refl, refl), (refl, refl), (refl, refl), (refl, refl), (refl, refl), (refl, refl), (refl, refl), (refl, refl))
+unfolding read_within skip_within trees_at pairs_at open_trees_at open_pairs_at argument_of_width
+    whole_argument_at initial is_utf8 chars lib.Utf8.encode
+longer_rows = (
+  (refl, refl),
+  (refl, refl),
+  (refl, refl),
+  (refl, refl),
+  (refl, refl),
+  (refl, refl),
+  (refl, refl),
+  (refl, refl),
+  (refl, refl),
+  (refl, refl),
+  (refl, refl),
+)
 
 -- Simple values and floats, whose bits are kept with their width (section 3.3). Undefined is null.
 abbrev SimplesRows : Type 0
@@ -151,13 +202,34 @@ SimplesRows =
     × (Reads "fa 47 c3 50 00" (float single 0x47c35000) "fa 47 c3 50 00")
     × (Reads "fa 7f 80 00 00" (float single 0x7f800000) "fa 7f 80 00 00")
     × (Reads "fa 7f c0 00 00" (float single 0x7fc00000) "fa 7f c0 00 00")
-    × (Reads "fb 3f f1 99 99 99 99 99 9a" (float double 0x3ff199999999999a) "fb 3f f1 99 99 99 99 99 9a")
-    × (Reads "fb 7e 37 e4 3c 88 00 75 9c" (float double 0x7e37e43c8800759c) "fb 7e 37 e4 3c 88 00 75 9c")
-    × (Reads "fb c0 10 66 66 66 66 66 66" (float double 0xc010666666666666) "fb c0 10 66 66 66 66 66 66")
+    × (Reads "fb 3f f1 99 99 99 99 99 9a" (float double 0x3ff199999999999a)
+    "fb 3f f1 99 99 99 99 99 9a")
+    × (Reads "fb 7e 37 e4 3c 88 00 75 9c" (float double 0x7e37e43c8800759c)
+    "fb 7e 37 e4 3c 88 00 75 9c")
+    × (Reads "fb c0 10 66 66 66 66 66 66" (float double 0xc010666666666666)
+    "fb c0 10 66 66 66 66 66 66")
 
 pub simples_rows : SimplesRows
-unfolding read_within skip_within trees_at pairs_at open_trees_at open_pairs_at argument_of_width whole_argument_at initial is_utf8 chars lib.Utf8.encode
-simples_rows = ((refl, refl), (refl, refl), (refl, refl), (refl, refl), (refl, refl), (refl, refl), (refl, refl), (refl, refl), (refl, refl), (refl, refl), (refl, refl), (refl, refl), (refl, refl), (refl, refl), (refl, refl), (refl, refl))
+unfolding read_within skip_within trees_at pairs_at open_trees_at open_pairs_at argument_of_width
+    whole_argument_at initial is_utf8 chars lib.Utf8.encode
+simples_rows = (
+  (refl, refl),
+  (refl, refl),
+  (refl, refl),
+  (refl, refl),
+  (refl, refl),
+  (refl, refl),
+  (refl, refl),
+  (refl, refl),
+  (refl, refl),
+  (refl, refl),
+  (refl, refl),
+  (refl, refl),
+  (refl, refl),
+  (refl, refl),
+  (refl, refl),
+  (refl, refl),
+)
 
 -- Byte strings, texts and tags (appendix A).
 abbrev StringsRows : Type 0
@@ -171,60 +243,143 @@ StringsRows =
     × (Reads "62 c3 bc" (text (hex "c3 bc")) "62 c3 bc")
     × (Reads "63 e6 b0 b4" (text (hex "e6 b0 b4")) "63 e6 b0 b4")
     × (Reads "64 f0 90 85 91" (text (hex "f0 90 85 91")) "64 f0 90 85 91")
-    × (Reads "c0 74 32 30 31 33 2d 30 33 2d 32 31 54 32 30 3a 30 34 3a 30 30 5a" (tag 0 (str "2013-03-21T20:04:00Z")) "c0 74 32 30 31 33 2d 30 33 2d 32 31 54 32 30 3a 30 34 3a 30 30 5a")
+    × (Reads "c0 74 32 30 31 33 2d 30 33 2d 32 31 54 32 30 3a 30 34 3a 30 30 5a"
+    (tag 0 (str "2013-03-21T20:04:00Z"))
+    "c0 74 32 30 31 33 2d 30 33 2d 32 31 54 32 30 3a 30 34 3a 30 30 5a")
     × (Reads "c1 1a 51 4b 67 b0" (tag 1 (number 1363896240)) "c1 1a 51 4b 67 b0")
-    × (Reads "c1 fb 41 d4 52 d9 ec 20 00 00" (tag 1 (float double 0x41d452d9ec200000)) "c1 fb 41 d4 52 d9 ec 20 00 00")
+    × (Reads "c1 fb 41 d4 52 d9 ec 20 00 00" (tag 1 (float double 0x41d452d9ec200000))
+    "c1 fb 41 d4 52 d9 ec 20 00 00")
     × (Reads "d7 44 01 02 03 04" (tag 23 (bytes_item (hex "01 02 03 04"))) "d7 44 01 02 03 04")
-    × (Reads "d8 18 45 64 49 45 54 46" (tag 24 (bytes_item (hex "64 49 45 54 46"))) "d8 18 45 64 49 45 54 46")
-    × (Reads "d8 20 76 68 74 74 70 3a 2f 2f 77 77 77 2e 65 78 61 6d 70 6c 65 2e 63 6f 6d" (tag 32 (str "http://www.example.com")) "d8 20 76 68 74 74 70 3a 2f 2f 77 77 77 2e 65 78 61 6d 70 6c 65 2e 63 6f 6d")
+    × (Reads "d8 18 45 64 49 45 54 46" (tag 24 (bytes_item (hex "64 49 45 54 46")))
+    "d8 18 45 64 49 45 54 46")
+    × (Reads "d8 20 76 68 74 74 70 3a 2f 2f 77 77 77 2e 65 78 61 6d 70 6c 65 2e 63 6f 6d"
+    (tag 32 (str "http://www.example.com"))
+    "d8 20 76 68 74 74 70 3a 2f 2f 77 77 77 2e 65 78 61 6d 70 6c 65 2e 63 6f 6d")
 
 pub strings_rows : StringsRows
-unfolding read_within skip_within trees_at pairs_at open_trees_at open_pairs_at argument_of_width whole_argument_at initial is_utf8 chars lib.Utf8.encode
-strings_rows = ((refl, refl), (refl, refl), (refl, refl), (refl, refl), (refl, refl), (refl, refl), (refl, refl), (refl, refl), (refl, refl), (refl, refl), (refl, refl), (refl, refl), (refl, refl), (refl, refl), (refl, refl))
+unfolding read_within skip_within trees_at pairs_at open_trees_at open_pairs_at argument_of_width
+    whole_argument_at initial is_utf8 chars lib.Utf8.encode
+strings_rows = (
+  (refl, refl),
+  (refl, refl),
+  (refl, refl),
+  (refl, refl),
+  (refl, refl),
+  (refl, refl),
+  (refl, refl),
+  (refl, refl),
+  (refl, refl),
+  (refl, refl),
+  (refl, refl),
+  (refl, refl),
+  (refl, refl),
+  (refl, refl),
+  (refl, refl),
+)
 
 -- Arrays and maps (appendix A). Pairs keep their order, and equal keys are kept.
 abbrev SequencesRows : Type 0
 SequencesRows =
     (Reads "80" (sequence (items_of [])) "80")
-    × (Reads "83 01 02 03" (sequence (items_of ((number 1) ∷ (number 2) ∷ (number 3) ∷ []))) "83 01 02 03")
-    × (Reads "83 01 82 02 03 82 04 05" (sequence (items_of ((number 1) ∷ (sequence (items_of ((number 2) ∷ (number 3) ∷ []))) ∷ (sequence (items_of ((number 4) ∷ (number 5) ∷ []))) ∷ []))) "83 01 82 02 03 82 04 05")
-    × (Reads "98 19 01 02 03 04 05 06 07 08 09 0a 0b 0c 0d 0e 0f 10 11 12 13 14 15 16 17 18 18 18 19" (sequence (items_of (numbers_from 1 25))) "98 19 01 02 03 04 05 06 07 08 09 0a 0b 0c 0d 0e 0f 10 11 12 13 14 15 16 17 18 18 18 19")
+    × (Reads "83 01 02 03" (sequence (items_of ((number 1) ∷ (number 2) ∷ (number 3) ∷ [])))
+    "83 01 02 03")
+    × (Reads "83 01 82 02 03 82 04 05" (sequence
+    (items_of ((number 1) ∷ (sequence (items_of ((number 2) ∷ (number 3) ∷ []))) ∷ (sequence
+    (items_of ((number 4) ∷ (number 5) ∷ []))) ∷ []))) "83 01 82 02 03 82 04 05")
+    × (Reads "98 19 01 02 03 04 05 06 07 08 09 0a 0b 0c 0d 0e 0f 10 11 12 13 14 15 16 17 18 18 18 19"
+    (sequence (items_of (numbers_from 1 25)))
+    "98 19 01 02 03 04 05 06 07 08 09 0a 0b 0c 0d 0e 0f 10 11 12 13 14 15 16 17 18 18 18 19")
     × (Reads "a0" (mapping (members_of [])) "a0")
-    × (Reads "a2 01 02 03 04" (mapping (members_of (((number 1), (number 2)) ∷ ((number 3), (number 4)) ∷ []))) "a2 01 02 03 04")
-    × (Reads "a2 61 61 01 61 62 82 02 03" (mapping (members_of (((str "a"), (number 1)) ∷ ((str "b"), (sequence (items_of ((number 2) ∷ (number 3) ∷ [])))) ∷ []))) "a2 61 61 01 61 62 82 02 03")
-    × (Reads "82 61 61 a1 61 62 61 63" (sequence (items_of ((str "a") ∷ (mapping (members_of (((str "b"), (str "c")) ∷ []))) ∷ []))) "82 61 61 a1 61 62 61 63")
-    × (Reads "a2 03 04 01 02" (mapping (members_of (((number 3), (number 4)) ∷ ((number 1), (number 2)) ∷ []))) "a2 03 04 01 02")
-    × (Reads "a2 01 02 01 03" (mapping (members_of (((number 1), (number 2)) ∷ ((number 1), (number 3)) ∷ []))) "a2 01 02 01 03")
+    × (Reads "a2 01 02 03 04" (mapping (members_of
+    (((number 1), (number 2)) ∷ ((number 3), (number 4)) ∷ []))) "a2 01 02 03 04")
+    × (Reads "a2 61 61 01 61 62 82 02 03" (mapping (members_of (((str "a"), (number 1))
+    ∷ ((str "b"), (sequence (items_of ((number 2) ∷ (number 3) ∷ [])))) ∷ [])))
+    "a2 61 61 01 61 62 82 02 03")
+    × (Reads "82 61 61 a1 61 62 61 63" (sequence
+    (items_of ((str "a") ∷ (mapping (members_of (((str "b"), (str "c")) ∷ []))) ∷ [])))
+    "82 61 61 a1 61 62 61 63")
+    × (Reads "a2 03 04 01 02" (mapping (members_of
+    (((number 3), (number 4)) ∷ ((number 1), (number 2)) ∷ []))) "a2 03 04 01 02")
+    × (Reads "a2 01 02 01 03" (mapping (members_of
+    (((number 1), (number 2)) ∷ ((number 1), (number 3)) ∷ []))) "a2 01 02 01 03")
 
 pub sequences_rows : SequencesRows
-unfolding read_within skip_within trees_at pairs_at open_trees_at open_pairs_at argument_of_width whole_argument_at initial is_utf8 chars lib.Utf8.encode
-sequences_rows = ((refl, refl), (refl, refl), (refl, refl), (refl, refl), (refl, refl), (refl, refl), (refl, refl), (refl, refl), (refl, refl), (refl, refl))
+unfolding read_within skip_within trees_at pairs_at open_trees_at open_pairs_at argument_of_width
+    whole_argument_at initial is_utf8 chars lib.Utf8.encode
+sequences_rows = (
+  (refl, refl),
+  (refl, refl),
+  (refl, refl),
+  (refl, refl),
+  (refl, refl),
+  (refl, refl),
+  (refl, refl),
+  (refl, refl),
+  (refl, refl),
+  (refl, refl),
+)
 
--- Items without a length are read, and written with one (section 3.2). The text of a string is what its chunks join to.
+-- Items without a length are read, and written with one (section 3.2). The text of a string is what
+-- its chunks join to.
 abbrev OpensRows : Type 0
 OpensRows =
     (Reads "5f 42 01 02 43 03 04 05 ff" (bytes_item (hex "01 02 03 04 05")) "45 01 02 03 04 05")
-    × (Reads "7f 65 73 74 72 65 61 64 6d 69 6e 67 ff" (str "streaming") "69 73 74 72 65 61 6d 69 6e 67")
+    × (Reads "7f 65 73 74 72 65 61 64 6d 69 6e 67 ff" (str "streaming")
+    "69 73 74 72 65 61 6d 69 6e 67")
     × (Reads "7f 61 c3 61 a9 ff" (text (hex "c3 a9")) "62 c3 a9")
     × (Reads "7f ff" (text []) "60")
     × (Reads "9f ff" (sequence (items_of [])) "80")
-    × (Reads "9f 01 82 02 03 9f 04 05 ff ff" (sequence (items_of ((number 1) ∷ (sequence (items_of ((number 2) ∷ (number 3) ∷ []))) ∷ (sequence (items_of ((number 4) ∷ (number 5) ∷ []))) ∷ []))) "83 01 82 02 03 82 04 05")
-    × (Reads "9f 01 82 02 03 82 04 05 ff" (sequence (items_of ((number 1) ∷ (sequence (items_of ((number 2) ∷ (number 3) ∷ []))) ∷ (sequence (items_of ((number 4) ∷ (number 5) ∷ []))) ∷ []))) "83 01 82 02 03 82 04 05")
-    × (Reads "83 01 82 02 03 9f 04 05 ff" (sequence (items_of ((number 1) ∷ (sequence (items_of ((number 2) ∷ (number 3) ∷ []))) ∷ (sequence (items_of ((number 4) ∷ (number 5) ∷ []))) ∷ []))) "83 01 82 02 03 82 04 05")
-    × (Reads "83 01 9f 02 03 ff 82 04 05" (sequence (items_of ((number 1) ∷ (sequence (items_of ((number 2) ∷ (number 3) ∷ []))) ∷ (sequence (items_of ((number 4) ∷ (number 5) ∷ []))) ∷ []))) "83 01 82 02 03 82 04 05")
+    × (Reads "9f 01 82 02 03 9f 04 05 ff ff" (sequence
+    (items_of ((number 1) ∷ (sequence (items_of ((number 2) ∷ (number 3) ∷ []))) ∷ (sequence
+    (items_of ((number 4) ∷ (number 5) ∷ []))) ∷ []))) "83 01 82 02 03 82 04 05")
+    × (Reads "9f 01 82 02 03 82 04 05 ff" (sequence
+    (items_of ((number 1) ∷ (sequence (items_of ((number 2) ∷ (number 3) ∷ []))) ∷ (sequence
+    (items_of ((number 4) ∷ (number 5) ∷ []))) ∷ []))) "83 01 82 02 03 82 04 05")
+    × (Reads "83 01 82 02 03 9f 04 05 ff" (sequence
+    (items_of ((number 1) ∷ (sequence (items_of ((number 2) ∷ (number 3) ∷ []))) ∷ (sequence
+    (items_of ((number 4) ∷ (number 5) ∷ []))) ∷ []))) "83 01 82 02 03 82 04 05")
+    × (Reads "83 01 9f 02 03 ff 82 04 05" (sequence
+    (items_of ((number 1) ∷ (sequence (items_of ((number 2) ∷ (number 3) ∷ []))) ∷ (sequence
+    (items_of ((number 4) ∷ (number 5) ∷ []))) ∷ []))) "83 01 82 02 03 82 04 05")
     × (Reads "bf ff" (mapping (members_of [])) "a0")
-    × (Reads "bf 61 61 01 61 62 9f 02 03 ff ff" (mapping (members_of (((str "a"), (number 1)) ∷ ((str "b"), (sequence (items_of ((number 2) ∷ (number 3) ∷ [])))) ∷ []))) "a2 61 61 01 61 62 82 02 03")
-    × (Reads "82 61 61 bf 61 62 61 63 ff" (sequence (items_of ((str "a") ∷ (mapping (members_of (((str "b"), (str "c")) ∷ []))) ∷ []))) "82 61 61 a1 61 62 61 63")
-    × (Reads "bf 63 46 75 6e f5 63 41 6d 74 21 ff" (mapping (members_of (((str "Fun"), boolean true) ∷ ((str "Amt"), (integer (negsuc 1))) ∷ []))) "a2 63 46 75 6e f5 63 41 6d 74 21")
+    × (Reads "bf 61 61 01 61 62 9f 02 03 ff ff" (mapping (members_of (((str "a"), (number 1))
+    ∷ ((str "b"), (sequence (items_of ((number 2) ∷ (number 3) ∷ [])))) ∷ [])))
+    "a2 61 61 01 61 62 82 02 03")
+    × (Reads "82 61 61 bf 61 62 61 63 ff" (sequence
+    (items_of ((str "a") ∷ (mapping (members_of (((str "b"), (str "c")) ∷ []))) ∷ [])))
+    "82 61 61 a1 61 62 61 63")
+    × (Reads "bf 63 46 75 6e f5 63 41 6d 74 21 ff" (mapping (members_of (((str "Fun"), boolean true)
+    ∷ ((str "Amt"), (integer (negsuc 1))) ∷ []))) "a2 63 46 75 6e f5 63 41 6d 74 21")
     × (Reads "9f 7f ff 61 61 ff" (sequence (items_of (text [] ∷ (str "a") ∷ []))) "82 60 61 61")
-    × (Reads "a1 7f 61 6b ff 01" (mapping (members_of (((str "k"), (number 1)) ∷ []))) "a1 61 6b 01")
-    × (Reads "9f 5f 41 01 ff 41 02 ff" (sequence (items_of ((bytes_item (hex "01")) ∷ (bytes_item (hex "02")) ∷ []))) "82 41 01 41 02")
+    × (Reads "a1 7f 61 6b ff 01" (mapping (members_of (((str "k"), (number 1)) ∷ [])))
+    "a1 61 6b 01")
+    × (Reads "9f 5f 41 01 ff 41 02 ff" (sequence
+    (items_of ((bytes_item (hex "01")) ∷ (bytes_item (hex "02")) ∷ []))) "82 41 01 41 02")
 
 pub opens_rows : OpensRows
-unfolding read_within skip_within trees_at pairs_at open_trees_at open_pairs_at argument_of_width whole_argument_at initial is_utf8 chars lib.Utf8.encode
-opens_rows = ((refl, refl), (refl, refl), (refl, refl), (refl, refl), (refl, refl), (refl, refl), (refl, refl), (refl, refl), (refl, refl), (refl, refl), (refl, refl), (refl, refl), (refl, refl), (refl, refl), (refl, refl), (refl, refl))
+unfolding read_within skip_within trees_at pairs_at open_trees_at open_pairs_at argument_of_width
+    whole_argument_at initial is_utf8 chars lib.Utf8.encode
+opens_rows = (
+  (refl, refl),
+  (refl, refl),
+  (refl, refl),
+  (refl, refl),
+  (refl, refl),
+  (refl, refl),
+  (refl, refl),
+  (refl, refl),
+  (refl, refl),
+  (refl, refl),
+  (refl, refl),
+  (refl, refl),
+  (refl, refl),
+  (refl, refl),
+  (refl, refl),
+  (refl, refl),
+)
 
--- The input ends: of a number, a float, a length or a tag the whole argument is asked for, of a content what is missing.
+-- The input ends: of a number, a float, a length or a tag the whole argument is asked for, of a
+-- content what is missing.
 abbrev EndsRows : Type 0
 EndsRows =
     (Refuses "" (eof (codes "value") (Small 1)) "")
@@ -270,8 +425,51 @@ EndsRows =
     × (Refuses "5a 00 01 00 00" (eof (codes "bytes") Big) "")
 
 pub ends_rows : EndsRows
-unfolding read_within skip_within trees_at pairs_at open_trees_at open_pairs_at argument_of_width whole_argument_at initial is_utf8 chars lib.Utf8.encode
-ends_rows = (refl, refl, refl, refl, refl, refl, refl, refl, refl, refl, refl, refl, refl, refl, refl, refl, refl, refl, refl, refl, refl, refl, refl, refl, refl, refl, refl, refl, refl, refl, refl, refl, refl, refl, refl, refl, refl, refl, refl, refl, refl)
+unfolding read_within skip_within trees_at pairs_at open_trees_at open_pairs_at argument_of_width
+    whole_argument_at initial is_utf8 chars lib.Utf8.encode
+ends_rows = (
+  refl,
+  refl,
+  refl,
+  refl,
+  refl,
+  refl,
+  refl,
+  refl,
+  refl,
+  refl,
+  refl,
+  refl,
+  refl,
+  refl,
+  refl,
+  refl,
+  refl,
+  refl,
+  refl,
+  refl,
+  refl,
+  refl,
+  refl,
+  refl,
+  refl,
+  refl,
+  refl,
+  refl,
+  refl,
+  refl,
+  refl,
+  refl,
+  refl,
+  refl,
+  refl,
+  refl,
+  refl,
+  refl,
+  refl,
+  refl,
+  refl,
+)
 
 -- Bytes that no continuation mends, and what they leave.
 abbrev FaultsRows : Type 0
@@ -318,8 +516,50 @@ FaultsRows =
     × (Refuses "9f 62 ff ff 00 ff" (require_utf8 (codes "str")) "00 ff")
 
 pub faults_rows : FaultsRows
-unfolding read_within skip_within trees_at pairs_at open_trees_at open_pairs_at argument_of_width whole_argument_at initial is_utf8 chars lib.Utf8.encode
-faults_rows = (refl, refl, refl, refl, refl, refl, refl, refl, refl, refl, refl, refl, refl, refl, refl, refl, refl, refl, refl, refl, refl, refl, refl, refl, refl, refl, refl, refl, refl, refl, refl, refl, refl, refl, refl, refl, refl, refl, refl, refl)
+unfolding read_within skip_within trees_at pairs_at open_trees_at open_pairs_at argument_of_width
+    whole_argument_at initial is_utf8 chars lib.Utf8.encode
+faults_rows = (
+  refl,
+  refl,
+  refl,
+  refl,
+  refl,
+  refl,
+  refl,
+  refl,
+  refl,
+  refl,
+  refl,
+  refl,
+  refl,
+  refl,
+  refl,
+  refl,
+  refl,
+  refl,
+  refl,
+  refl,
+  refl,
+  refl,
+  refl,
+  refl,
+  refl,
+  refl,
+  refl,
+  refl,
+  refl,
+  refl,
+  refl,
+  refl,
+  refl,
+  refl,
+  refl,
+  refl,
+  refl,
+  refl,
+  refl,
+  refl,
+)
 
 -- What a budget allows: one step a value, one more for an array or a map, one for a chunk.
 abbrev BudgetsRows : Type 0
@@ -353,10 +593,40 @@ BudgetsRows =
     × (ReadsAtAnyDepth "c1 c1 00" (tag 1 (tag 1 (number 0))))
 
 pub budgets_rows : BudgetsRows
-unfolding read_within skip_within trees_at pairs_at open_trees_at open_pairs_at argument_of_width whole_argument_at initial is_utf8 chars lib.Utf8.encode
-budgets_rows = (refl, refl, refl, refl, refl, refl, refl, refl, refl, refl, refl, refl, refl, refl, refl, refl, refl, refl, refl, refl, refl, refl, refl, refl, refl, refl, refl)
+unfolding read_within skip_within trees_at pairs_at open_trees_at open_pairs_at argument_of_width
+    whole_argument_at initial is_utf8 chars lib.Utf8.encode
+budgets_rows = (
+  refl,
+  refl,
+  refl,
+  refl,
+  refl,
+  refl,
+  refl,
+  refl,
+  refl,
+  refl,
+  refl,
+  refl,
+  refl,
+  refl,
+  refl,
+  refl,
+  refl,
+  refl,
+  refl,
+  refl,
+  refl,
+  refl,
+  refl,
+  refl,
+  refl,
+  refl,
+  refl,
+)
 
--- Skipping tests no text, and takes any items as chunks. What is missing is told of a number, a float and a content.
+-- Skipping tests no text, and takes any items as chunks. What is missing is told of a number, a
+-- float and a content.
 abbrev SkippingRows : Type 0
 SkippingRows =
     (SkipsTo "00" "")
@@ -421,11 +691,74 @@ SkippingRows =
     × (SkipsAtAnyDepth "c1 c1 00" "")
 
 pub skipping_rows : SkippingRows
-unfolding read_within skip_within trees_at pairs_at open_trees_at open_pairs_at argument_of_width whole_argument_at initial is_utf8 chars lib.Utf8.encode
-skipping_rows = (refl, refl, refl, refl, refl, refl, refl, refl, refl, refl, refl, refl, refl, refl, refl, refl, refl, refl, refl, refl, refl, refl, refl, refl, refl, refl, refl, refl, refl, refl, refl, refl, refl, refl, refl, refl, refl, refl, refl, refl, refl, refl, refl, refl, refl, refl, refl, refl, refl, refl, refl, refl, refl, refl, refl, refl, refl, refl, refl, refl)
+unfolding read_within skip_within trees_at pairs_at open_trees_at open_pairs_at argument_of_width
+    whole_argument_at initial is_utf8 chars lib.Utf8.encode
+skipping_rows = (
+  refl,
+  refl,
+  refl,
+  refl,
+  refl,
+  refl,
+  refl,
+  refl,
+  refl,
+  refl,
+  refl,
+  refl,
+  refl,
+  refl,
+  refl,
+  refl,
+  refl,
+  refl,
+  refl,
+  refl,
+  refl,
+  refl,
+  refl,
+  refl,
+  refl,
+  refl,
+  refl,
+  refl,
+  refl,
+  refl,
+  refl,
+  refl,
+  refl,
+  refl,
+  refl,
+  refl,
+  refl,
+  refl,
+  refl,
+  refl,
+  refl,
+  refl,
+  refl,
+  refl,
+  refl,
+  refl,
+  refl,
+  refl,
+  refl,
+  refl,
+  refl,
+  refl,
+  refl,
+  refl,
+  refl,
+  refl,
+  refl,
+  refl,
+  refl,
+  refl,
+)
 
--- What values and trees measure. The size counts each value once and the bytes of texts and byte strings. Reading takes a
--- step a value, one more for an array or a map, one for chunks; skipping one a level. A bignum is a tag over bytes.
+-- What values and trees measure. The size counts each value once and the bytes of texts and byte
+-- strings. Reading takes a step a value, one more for an array or a map, one for chunks; skipping
+-- one a level. A bignum is a tag over bytes.
 abbrev item_at : Answer Tree → (Tree → ℕ) → Result ℕ (Refusal × List ℕ)
 item_at (Ok p) measure = Ok (measure p.0)
 item_at (Err z) measure = Err z
@@ -453,50 +786,87 @@ MeasuresRows =
     × (canon_cost (mapping (members_of ((number 0, sequence (items_of (number 0 ∷ []))) ∷ []))) ≡ 5)
     × (canon_cost (number 18446744073709551616) ≡ 2)
     × (with_bignums (number 18446744073709551615) ≡ number 18446744073709551615)
-    × (with_bignums (number 18446744073709551616) ≡ tag 2 (bytes_item (hex "01 00 00 00 00 00 00 00 00")))
-    × (with_bignums (integer (negsuc 18446744073709551616)) ≡ tag 3 (bytes_item (hex "01 00 00 00 00 00 00 00 00")))
+    × (with_bignums (number 18446744073709551616) ≡ tag 2
+    (bytes_item (hex "01 00 00 00 00 00 00 00 00")))
+    × (with_bignums (integer (negsuc 18446744073709551616)) ≡ tag 3
+    (bytes_item (hex "01 00 00 00 00 00 00 00 00")))
 
 pub measures_rows : MeasuresRows
-unfolding read_within skip_within trees_at pairs_at open_trees_at open_pairs_at argument_of_width whole_argument_at initial is_utf8 chars lib.Utf8.encode
-measures_rows = ((refl, refl), (refl, refl), (refl, refl), (refl, refl), (refl, refl), (refl, refl), (refl, refl), (refl, refl), refl, refl, refl, refl, refl, refl, refl, refl, refl, refl)
+unfolding read_within skip_within trees_at pairs_at open_trees_at open_pairs_at argument_of_width
+    whole_argument_at initial is_utf8 chars lib.Utf8.encode
+measures_rows = (
+  (refl, refl),
+  (refl, refl),
+  (refl, refl),
+  (refl, refl),
+  (refl, refl),
+  (refl, refl),
+  (refl, refl),
+  (refl, refl),
+  refl,
+  refl,
+  refl,
+  refl,
+  refl,
+  refl,
+  refl,
+  refl,
+  refl,
+  refl,
+)
 
--- How deep a budget of 256 steps goes: two steps an array, one step a tag, one a level for skipping.
+-- How deep a budget of 256 steps goes: two steps an array, one step a tag, one a level for
+-- skipping.
 abbrev rest_read : Answer Item → Result (List ℕ) (Refusal × List ℕ)
 rest_read (Ok p) = Ok p.1
 rest_read (Err z) = Err z
 
 pub arrays_fit : rest_read (read (Some 256) (replicate 127 0x81 ++ hex "80")) ≡ Ok []
-unfolding read_within skip_within trees_at pairs_at open_trees_at open_pairs_at argument_of_width whole_argument_at initial is_utf8 chars lib.Utf8.encode
+unfolding read_within skip_within trees_at pairs_at open_trees_at open_pairs_at argument_of_width
+    whole_argument_at initial is_utf8 chars lib.Utf8.encode
 arrays_fit = refl
 
-pub arrays_are_too_deep : read (Some 256) (replicate 128 0x81 ++ hex "80") ≡ Err (depth_overflow (codes "value"), hex "80")
-unfolding read_within skip_within trees_at pairs_at open_trees_at open_pairs_at argument_of_width whole_argument_at initial is_utf8 chars lib.Utf8.encode
+pub arrays_are_too_deep : read (Some 256)
+    (replicate 128 0x81 ++ hex "80") ≡ Err (depth_overflow (codes "value"), hex "80")
+unfolding read_within skip_within trees_at pairs_at open_trees_at open_pairs_at argument_of_width
+    whole_argument_at initial is_utf8 chars lib.Utf8.encode
 arrays_are_too_deep = refl
 
 pub skipped_arrays_fit : rest_of (skip (Some 256) (replicate 255 0x81 ++ hex "80")) ≡ Ok []
-unfolding read_within skip_within trees_at pairs_at open_trees_at open_pairs_at argument_of_width whole_argument_at initial is_utf8 chars lib.Utf8.encode
+unfolding read_within skip_within trees_at pairs_at open_trees_at open_pairs_at argument_of_width
+    whole_argument_at initial is_utf8 chars lib.Utf8.encode
 skipped_arrays_fit = refl
 
-pub skipped_arrays_are_too_deep : skip (Some 256) (replicate 256 0x81 ++ hex "80") ≡ Err (depth_overflow (codes "ignored-any"), hex "80")
-unfolding read_within skip_within trees_at pairs_at open_trees_at open_pairs_at argument_of_width whole_argument_at initial is_utf8 chars lib.Utf8.encode
+pub skipped_arrays_are_too_deep : skip (Some 256)
+    (replicate 256 0x81 ++ hex "80") ≡ Err (depth_overflow (codes "ignored-any"), hex "80")
+unfolding read_within skip_within trees_at pairs_at open_trees_at open_pairs_at argument_of_width
+    whole_argument_at initial is_utf8 chars lib.Utf8.encode
 skipped_arrays_are_too_deep = refl
 
 pub tags_fit : rest_read (read (Some 256) (replicate 254 0xc1 ++ hex "7f 61 61 ff")) ≡ Ok []
-unfolding read_within skip_within trees_at pairs_at open_trees_at open_pairs_at argument_of_width whole_argument_at initial is_utf8 chars lib.Utf8.encode
+unfolding read_within skip_within trees_at pairs_at open_trees_at open_pairs_at argument_of_width
+    whole_argument_at initial is_utf8 chars lib.Utf8.encode
 tags_fit = refl
 
-pub tags_are_too_deep : read (Some 256) (replicate 255 0xc1 ++ hex "7f 61 61 ff") ≡ Err (depth_overflow (codes "str"), hex "61 61 ff")
-unfolding read_within skip_within trees_at pairs_at open_trees_at open_pairs_at argument_of_width whole_argument_at initial is_utf8 chars lib.Utf8.encode
+pub tags_are_too_deep : read (Some 256)
+    (replicate 255 0xc1 ++ hex "7f 61 61 ff") ≡ Err (depth_overflow (codes "str"), hex "61 61 ff")
+unfolding read_within skip_within trees_at pairs_at open_trees_at open_pairs_at argument_of_width
+    whole_argument_at initial is_utf8 chars lib.Utf8.encode
 tags_are_too_deep = refl
 
 pub skipped_tags_fit : rest_of (skip (Some 256) (replicate 255 0xc1 ++ hex "80")) ≡ Ok []
-unfolding read_within skip_within trees_at pairs_at open_trees_at open_pairs_at argument_of_width whole_argument_at initial is_utf8 chars lib.Utf8.encode
+unfolding read_within skip_within trees_at pairs_at open_trees_at open_pairs_at argument_of_width
+    whole_argument_at initial is_utf8 chars lib.Utf8.encode
 skipped_tags_fit = refl
 
-pub skipped_chunks_are_too_deep : skip (Some 256) (replicate 255 0xc1 ++ hex "7f 61 61 ff") ≡ Err (depth_overflow (codes "ignored-any"), hex "61 61 ff")
-unfolding read_within skip_within trees_at pairs_at open_trees_at open_pairs_at argument_of_width whole_argument_at initial is_utf8 chars lib.Utf8.encode
+pub skipped_chunks_are_too_deep : skip (Some 256) (replicate 255 0xc1 ++ hex "7f 61 61 ff") ≡ Err
+    (depth_overflow (codes "ignored-any"), hex "61 61 ff")
+unfolding read_within skip_within trees_at pairs_at open_trees_at open_pairs_at argument_of_width
+    whole_argument_at initial is_utf8 chars lib.Utf8.encode
 skipped_chunks_are_too_deep = refl
 
-pub array_under_tags_is_too_deep : read (Some 256) (replicate 255 0xc1 ++ hex "80") ≡ Err (depth_overflow (codes "array"), hex "80")
-unfolding read_within skip_within trees_at pairs_at open_trees_at open_pairs_at argument_of_width whole_argument_at initial is_utf8 chars lib.Utf8.encode
+pub array_under_tags_is_too_deep : read (Some 256)
+    (replicate 255 0xc1 ++ hex "80") ≡ Err (depth_overflow (codes "array"), hex "80")
+unfolding read_within skip_within trees_at pairs_at open_trees_at open_pairs_at argument_of_width
+    whole_argument_at initial is_utf8 chars lib.Utf8.encode
 array_under_tags_is_too_deep = refl

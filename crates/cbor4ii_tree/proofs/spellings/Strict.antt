@@ -1,24 +1,40 @@
 -- A canonical tree is the one whose bytes are the canonical spelling of its value.
-use Rattle.std.proofs.Common.{◌≡◌, ℕ, ◌+◌, ◌*◌, ◌^◌, ◌<◌, List, [], ◌∷◌, ◌++◌, length, true, false, ltb, ltb-true, lt-ltb, pos, negsuc, refl, sym, ap, ap₂, ◌∙◌, subst, arith, append_assoc}
+use Rattle.std.proofs.Common.{◌≡◌, ℕ, ◌+◌, ◌*◌, ◌^◌, ◌<◌, List, [], ◌∷◌, ◌++◌, length, true, false}
+use Rattle.std.proofs.Common.{ltb, ltb-true, lt-ltb, pos, negsuc, refl, sym, ap, ap₂, ◌∙◌, subst}
+use Rattle.std.proofs.Common.{arith, append_assoc}
 use Rattle.std.specs.Int.{bytes_high_first}
 use Rattle.std.proofs.lemmas.List.{append_cancel_left}
 use Rattle.std.specs.Prelude.{◌↔◌}
-use Rattle.cbor4ii_items.specs.Head.{Width, byte_count, HeadFits, additional, head, open_head, shortest, break}
-use Rattle.cbor4ii_items.specs.Initial.{Sign, unsigned, negative, sign_major, Kind, byte_string, text_string, kind_major, simple_false, simple_true, simple_null, simple_undefined, simple_byte, wide, info_of}
+use Rattle.cbor4ii_items.specs.Head.{Width, byte_count, HeadFits, additional, head, open_head}
+use Rattle.cbor4ii_items.specs.Head.{shortest, break}
+use Rattle.cbor4ii_items.specs.Initial.{Sign, unsigned, negative, sign_major, Kind, byte_string}
+use Rattle.cbor4ii_items.specs.Initial.{text_string, kind_major, simple_false, simple_true}
+use Rattle.cbor4ii_items.specs.Initial.{simple_null, simple_undefined, simple_byte, wide, info_of}
 use Rattle.cbor4ii_items.specs.Decoding.{CostFits}
-use Rattle.cbor4ii_tree.specs.Tree.{Tree, int, string, chunked, array, array_open, map_of, map_open, tagged, simple, bits, Trees, no_trees, tree, Pairs, no_pairs, pair, count, pair_count, joined_chunks, bytes, bytes_all, bytes_pairs, Loose, LooseAll, LoosePairs, SoundStrings, SoundStringsAll, SoundStringsPairs, Plain}
-use Rattle.cbor4ii_tree.specs.Item.{Item, null, boolean, integer, float, bytes_item, text, sequence, mapping, tag, Items, no_items, item, Members, no_members, member, item_count, member_count, IsItem, AreItems, AreMembers}
+use Rattle.cbor4ii_tree.specs.Tree.{Tree, int, string, chunked, array, array_open, map_of, map_open}
+use Rattle.cbor4ii_tree.specs.Tree.{tagged, simple, bits, Trees, no_trees, tree, Pairs, no_pairs}
+use Rattle.cbor4ii_tree.specs.Tree.{pair, count, pair_count, joined_chunks, bytes, bytes_all}
+use Rattle.cbor4ii_tree.specs.Tree.{bytes_pairs, Loose, LooseAll, LoosePairs, SoundStrings}
+use Rattle.cbor4ii_tree.specs.Tree.{SoundStringsAll, SoundStringsPairs, Plain}
+use Rattle.cbor4ii_tree.specs.Item.{Item, null, boolean, integer, float, bytes_item, text, sequence}
+use Rattle.cbor4ii_tree.specs.Item.{mapping, tag, Items, no_items, item, Members, no_members}
+use Rattle.cbor4ii_tree.specs.Item.{member, item_count, member_count, IsItem, AreItems, AreMembers}
 use Rattle.cbor4ii_tree.specs.Meaning.{value, values, member_values, number, content_item}
 use Rattle.cbor4ii_tree.specs.Cost.{cost, Budget}
-use Rattle.cbor4ii_tree.specs.Canonical.{canon, canon_cost, canon_tree, canon_trees, canon_pairs, integer_tree, with_bignums}
-use Rattle.cbor4ii_tree.specs.Strict.{Strict, StrictAll, StrictPairs, IsDecoded, SpellsStrictly, ReadsStrictly}
+use Rattle.cbor4ii_tree.specs.Canonical.{canon, canon_cost, canon_tree, canon_trees, canon_pairs}
+use Rattle.cbor4ii_tree.specs.Canonical.{integer_tree, with_bignums}
+use Rattle.cbor4ii_tree.specs.Strict.{Strict, StrictAll, StrictPairs, IsDecoded, SpellsStrictly}
+use Rattle.cbor4ii_tree.specs.Strict.{ReadsStrictly}
 use Rattle.cbor4ii_tree.specs.Laws.Numbers.{info-additional}
 use Rattle.cbor4ii_tree.specs.Laws.PartsAgain.{pair_split}
 use Rattle.cbor4ii_tree.specs.Laws.Ignoring.{one_spelling}
 use Rattle.cbor4ii_tree.specs.Laws.Binds.{if_cases}
-use Rattle.cbor4ii_tree.proofs.spellings.Canonical.{shortest_fits, count-canon, count-pairs, loose_canon, sound_canon, value-canon, with_bignums-value}
+use Rattle.cbor4ii_tree.proofs.spellings.Canonical.{shortest_fits, count-canon, count-pairs}
+use Rattle.cbor4ii_tree.proofs.spellings.Canonical.{loose_canon, sound_canon, value-canon}
+use Rattle.cbor4ii_tree.proofs.spellings.Canonical.{with_bignums-value}
 use Rattle.cbor4ii_tree.proofs.spellings.Costs.{below_from_HeadFits}
-use Rattle.cbor4ii_tree.proofs.spellings.Sizes.{integer-value, content-value, item_count-values, member_count-values}
+use Rattle.cbor4ii_tree.proofs.spellings.Sizes.{integer-value, content-value, item_count-values}
+use Rattle.cbor4ii_tree.proofs.spellings.Sizes.{member_count-values}
 
 -- ---- what encoders write is strict
 
@@ -49,22 +65,28 @@ mutual
 
 -- ---- a strict tree is what encoders write
 
-canon-integer : (s : Sign) (n : ℕ) → n < 2 ^ 64 → canon_tree (integer (number s n)) ≡ int s n (shortest n)
+canon-integer : (s : Sign) (n : ℕ) → n < 2 ^ 64
+    → canon_tree (integer (number s n)) ≡ int s n (shortest n)
 canon-integer unsigned n h = rw (lt-ltb n (2 ^ 64) h) refl
 canon-integer negative n h = rw (lt-ltb n (2 ^ 64) h) refl
 
-canon-content : (k : Kind) (content : List ℕ) → canon_tree (content_item k content) ≡ string k (shortest (length content)) content
+canon-content : (k : Kind) (content : List ℕ)
+    → canon_tree (content_item k content) ≡ string k (shortest (length content)) content
 canon-content byte_string content = refl
 canon-content text_string content = refl
 
 mutual
   pub canon_of_strict : (t : Tree) → Loose t → Strict t → canon_tree (value t) ≡ t
-  canon_of_strict (int s n w) l h = canon-integer s n (below_from_HeadFits w n l) ∙ ap (int s n) (sym h)
-  canon_of_strict (string k w content) l h = canon-content k content ∙ ap (λ u. string k u content) (sym h)
+  canon_of_strict (int s n w) l h =
+      canon-integer s n (below_from_HeadFits w n l) ∙ ap (int s n) (sym h)
+  canon_of_strict (string k w content) l h =
+      canon-content k content ∙ ap (λ u. string k u content) (sym h)
   canon_of_strict (chunked k ts) l h = absurd h
-  canon_of_strict (array w ts) l h = ap₂ array (ap shortest (item_count-values ts) ∙ sym h.0) (canon_of_strict_all ts l.1 h.1)
+  canon_of_strict (array w ts) l h =
+      ap₂ array (ap shortest (item_count-values ts) ∙ sym h.0) (canon_of_strict_all ts l.1 h.1)
   canon_of_strict (array_open ts) l h = absurd h
-  canon_of_strict (map_of w ps) l h = ap₂ map_of (ap shortest (member_count-values ps) ∙ sym h.0) (canon_of_strict_pairs ps l.1 h.1)
+  canon_of_strict (map_of w ps) l h =
+      ap₂ map_of (ap shortest (member_count-values ps) ∙ sym h.0) (canon_of_strict_pairs ps l.1 h.1)
   canon_of_strict (map_open ps) l h = absurd h
   canon_of_strict (tagged n w t) l h = ap₂ (tagged n) (sym h.0) (canon_of_strict t l.1 h.1)
   canon_of_strict (simple simple_false) l h = refl
@@ -75,11 +97,14 @@ mutual
 
   canon_of_strict_all : (ts : Trees) → LooseAll ts → StrictAll ts → canon_trees (values ts) ≡ ts
   canon_of_strict_all no_trees l h = refl
-  canon_of_strict_all (tree t ts) l h = ap₂ tree (canon_of_strict t l.0 h.0) (canon_of_strict_all ts l.1 h.1)
+  canon_of_strict_all (tree t ts) l h =
+      ap₂ tree (canon_of_strict t l.0 h.0) (canon_of_strict_all ts l.1 h.1)
 
-  canon_of_strict_pairs : (ps : Pairs) → LoosePairs ps → StrictPairs ps → canon_pairs (member_values ps) ≡ ps
+  canon_of_strict_pairs : (ps : Pairs) → LoosePairs ps → StrictPairs ps
+      → canon_pairs (member_values ps) ≡ ps
   canon_of_strict_pairs no_pairs l h = refl
-  canon_of_strict_pairs (pair k v ps) l h = cc (canon_of_strict k l.0 h.0, canon_of_strict v l.1 h.1, canon_of_strict_pairs ps l.2 h.2)
+  canon_of_strict_pairs (pair k v ps) l h =
+      cc (canon_of_strict k l.0 h.0, canon_of_strict v l.1 h.1, canon_of_strict_pairs ps l.2 h.2)
 
 -- ---- what is spelled as encoders write is strict
 
@@ -90,92 +115,133 @@ pub same_wide : (w u : Width) → wide w ≡ wide u → w ≡ u
 same_wide w u e = cc
 
 -- of one argument and one first byte the head is one
-pub same_width : (major n : ℕ) (w u : Width) → HeadFits w n → HeadFits u n → 32 * major + additional w n ≡ 32 * major + additional u n → w ≡ u
+pub same_width : (major n : ℕ) (w u : Width) → HeadFits w n → HeadFits u n
+    → 32 * major + additional w n ≡ 32 * major + additional u n → w ≡ u
 same_width major n w u h k e =
     let low : additional w n ≡ additional u n = omega (arith, e) in
     same_wide w u (sym (info-additional n w h) ∙ ap info_of low ∙ info-additional n u k)
 
-same_head : (major n : ℕ) (w : Width) (x y : List ℕ) → HeadFits w n → head major n w ++ x ≡ head major n (shortest n) ++ y → (w ≡ shortest n) × (x ≡ y)
+same_head : (major n : ℕ) (w : Width) (x y : List ℕ) → HeadFits w n
+    → head major n w ++ x ≡ head major n (shortest n) ++ y → (w ≡ shortest n) × (x ≡ y)
 same_head major n w x y h e =
     let k = shortest_fits n (below_from_HeadFits w n h) in
-    let first = same_first (32 * major + additional w n) (32 * major + additional (shortest n) n) (bytes_high_first (byte_count w) n ++ x) (bytes_high_first (byte_count (shortest n)) n ++ y) e in
-    let s : w ≡ shortest n = same_width major n w (shortest n) h k first.0 in
-    (s, append_cancel_left (head major n (shortest n)) x y (ap (λ u. head major n u ++ x) (sym s) ∙ e))
+    let first = same_first (32 * major + additional w n) (32 * major + additional (shortest n) n)
+    (bytes_high_first (byte_count w) n ++ x)
+    (bytes_high_first (byte_count (shortest n)) n ++ y) e in
+    let s : w ≡ shortest n = same_width major n w (shortest n) h k first.0 in (
+      s,
+      append_cancel_left (head major n (shortest n)) x y
+          (ap (λ u. head major n u ++ x) (sym s) ∙ e),
+    )
 
 additional-shortest : (n : ℕ) → additional (shortest n) n < 28
 additional-shortest n =
     let P : Width → Type 0 = λ w. additional w n < 28 in
-    if_cases P (ltb n 24) _ _ (λ e. let lt = ltb-true n 24 e in omega (arith, lt)) (λ _. if_cases P (ltb n 256) _ _ (λ _. omega arith) (λ _. if_cases P (ltb n (256 ^ 2)) _ _ (λ _. omega arith)
+    if_cases P (ltb n 24) _ _ (λ e. let lt = ltb-true n 24 e in omega (arith, lt))
+    (λ _. if_cases P (ltb n 256) _ _ (λ _. omega arith)
+    (λ _. if_cases P (ltb n (256 ^ 2)) _ _ (λ _. omega arith)
     (λ _. if_cases P (ltb n (256 ^ 4)) _ _ (λ _. omega arith) (λ _. omega arith))))
 
 not_open : (major n : ℕ) (x y : List ℕ) → open_head major ∷ x ≡ head major n (shortest n) ++ y → ⊥
 not_open major n x y e =
-    let first = same_first (open_head major) (32 * major + additional (shortest n) n) x (bytes_high_first (byte_count (shortest n)) n ++ y) e in
+    let first = same_first (open_head major) (32 * major + additional (shortest n) n) x
+    (bytes_high_first (byte_count (shortest n)) n ++ y) e in
     omega (arith, first.0, additional-shortest n)
 
 mutual
-  pub strict_of_canon : (t : Tree) (x y : List ℕ) → Loose t → bytes t ++ x ≡ canon (value t) ++ y → Strict t × (x ≡ y)
+  pub strict_of_canon : (t : Tree) (x y : List ℕ) → Loose t → bytes t ++ x ≡ canon (value t) ++ y
+      → Strict t × (x ≡ y)
   strict_of_canon (int s n w) x y l e =
-      same_head (sign_major s) n w x y l (e ∙ ap (λ u. bytes u ++ y) (canon-integer s n (below_from_HeadFits w n l)))
+      same_head (sign_major s) n w x y l
+      (e ∙ ap (λ u. bytes u ++ y) (canon-integer s n (below_from_HeadFits w n l)))
   strict_of_canon (string k w content) x y l e =
       let n = length content in
       let same = e ∙ ap (λ u. bytes u ++ y) (canon-content k content) in
-      let heads = same_head (kind_major k) n w (content ++ x) (content ++ y) l (sym (append_assoc (head (kind_major k) n w) content x) ∙ same ∙ append_assoc (head (kind_major k) n (shortest n)) content y) in
+      let heads = same_head (kind_major k) n w (content ++ x)
+      (content ++ y) l (sym (append_assoc (head (kind_major k) n w) content x) ∙ same
+      ∙ append_assoc (head (kind_major k) n (shortest n)) content y) in
       (heads.0, append_cancel_left content x y heads.1)
   strict_of_canon (chunked k ts) x y l e =
       let content = joined_chunks ts in
       let n = length content in
-      let same = e ∙ ap (λ u. bytes u ++ y) (canon-content k content) ∙ append_assoc (head (kind_major k) n (shortest n)) content y in
+      let same = e ∙ ap (λ u. bytes u ++ y) (canon-content k content)
+      ∙ append_assoc (head (kind_major k) n (shortest n)) content y in
       absurd (not_open (kind_major k) n ((bytes_all ts ++ break ∷ []) ++ x) (content ++ y) same)
   strict_of_canon (array w ts) x y l e =
       let n = count ts in
       let c : item_count (values ts) ≡ n = item_count-values ts in
       let behind = bytes_all (canon_trees (values ts)) in
-      let same : (head 4 n w ++ bytes_all ts) ++ x ≡ (head 4 n (shortest n) ++ behind) ++ y = e ∙ ap (λ m. (head 4 (count (canon_trees (values ts))) (shortest m) ++ behind) ++ y) c ∙ ap (λ m. (head 4 m (shortest n) ++ behind) ++ y) (count-canon (values ts) ∙ c) in
-      let heads = same_head 4 n w (bytes_all ts ++ x) (behind ++ y) l.0 (sym (append_assoc (head 4 n w) (bytes_all ts) x) ∙ same ∙ append_assoc (head 4 n (shortest n)) behind y) in
+      let same : (head 4 n w ++ bytes_all ts) ++ x ≡ (head 4 n (shortest n) ++ behind) ++ y =
+      e ∙ ap (λ m. (head 4 (count (canon_trees (values ts))) (shortest m) ++ behind) ++ y) c
+      ∙ ap (λ m. (head 4 m (shortest n) ++ behind) ++ y) (count-canon (values ts) ∙ c) in
+      let heads = same_head 4 n w (bytes_all ts ++ x)
+      (behind ++ y) l.0 (sym (append_assoc (head 4 n w) (bytes_all ts) x) ∙ same
+      ∙ append_assoc (head 4 n (shortest n)) behind y) in
       let rest = strict_of_canon_all ts x y l.1 heads.1 in
       ((heads.0, rest.0), rest.1)
   strict_of_canon (array_open ts) x y l e =
       let vs = values ts in
       let n = item_count vs in
       let behind = bytes_all (canon_trees vs) in
-      absurd (not_open 4 n ((bytes_all ts ++ break ∷ []) ++ x) (behind ++ y) (e ∙ ap (λ m. (head 4 m (shortest n) ++ behind) ++ y) (count-canon vs) ∙ append_assoc (head 4 n (shortest n)) behind y))
+      absurd (not_open 4 n ((bytes_all ts ++ break ∷ []) ++ x) (behind ++ y)
+      (e ∙ ap (λ m. (head 4 m (shortest n) ++ behind) ++ y) (count-canon vs)
+      ∙ append_assoc (head 4 n (shortest n)) behind y))
   strict_of_canon (map_of w ps) x y l e =
       let n = pair_count ps in
       let c : member_count (member_values ps) ≡ n = member_count-values ps in
       let behind = bytes_pairs (canon_pairs (member_values ps)) in
-      let same : (head 5 n w ++ bytes_pairs ps) ++ x ≡ (head 5 n (shortest n) ++ behind) ++ y = e ∙ ap (λ m. (head 5 (pair_count (canon_pairs (member_values ps))) (shortest m) ++ behind) ++ y) c ∙ ap (λ m. (head 5 m (shortest n) ++ behind) ++ y) (count-pairs (member_values ps) ∙ c) in
-      let heads = same_head 5 n w (bytes_pairs ps ++ x) (behind ++ y) l.0 (sym (append_assoc (head 5 n w) (bytes_pairs ps) x) ∙ same ∙ append_assoc (head 5 n (shortest n)) behind y) in
+      let same : (head 5 n w ++ bytes_pairs ps) ++ x ≡ (head 5 n (shortest n) ++ behind) ++ y =
+      e ∙ ap (λ m.
+      (head 5 (pair_count (canon_pairs (member_values ps))) (shortest m) ++ behind) ++ y) c
+      ∙ ap (λ m. (head 5 m (shortest n) ++ behind) ++ y) (count-pairs (member_values ps) ∙ c) in
+      let heads = same_head 5 n w (bytes_pairs ps ++ x)
+      (behind ++ y) l.0 (sym (append_assoc (head 5 n w) (bytes_pairs ps) x) ∙ same
+      ∙ append_assoc (head 5 n (shortest n)) behind y) in
       let rest = strict_of_canon_pairs ps x y l.1 heads.1 in
       ((heads.0, rest.0), rest.1)
   strict_of_canon (map_open ps) x y l e =
       let ms = member_values ps in
       let n = member_count ms in
       let behind = bytes_pairs (canon_pairs ms) in
-      absurd (not_open 5 n ((bytes_pairs ps ++ break ∷ []) ++ x) (behind ++ y) (e ∙ ap (λ m. (head 5 m (shortest n) ++ behind) ++ y) (count-pairs ms) ∙ append_assoc (head 5 n (shortest n)) behind y))
+      absurd (not_open 5 n ((bytes_pairs ps ++ break ∷ []) ++ x) (behind ++ y)
+      (e ∙ ap (λ m. (head 5 m (shortest n) ++ behind) ++ y) (count-pairs ms)
+      ∙ append_assoc (head 5 n (shortest n)) behind y))
   strict_of_canon (tagged n w t) x y l e =
-      let heads = same_head 6 n w (bytes t ++ x) (canon (value t) ++ y) l.0 (sym (append_assoc (head 6 n w) (bytes t) x) ∙ e ∙ append_assoc (head 6 n (shortest n)) (canon (value t)) y) in
+      let heads = same_head 6 n w (bytes t ++ x)
+      (canon (value t) ++ y) l.0 (sym (append_assoc (head 6 n w) (bytes t) x) ∙ e
+      ∙ append_assoc (head 6 n (shortest n)) (canon (value t)) y) in
       let rest = strict_of_canon t x y l.1 heads.1 in
       ((heads.0, rest.0), rest.1)
   strict_of_canon (simple simple_false) x y l e = (λ u. cc, (same_first _ _ _ _ e).1)
   strict_of_canon (simple simple_true) x y l e = (λ u. cc, (same_first _ _ _ _ e).1)
   strict_of_canon (simple simple_null) x y l e = (λ u. cc, (same_first _ _ _ _ e).1)
-  strict_of_canon (simple simple_undefined) x y l e = absurd (omega (arith, (same_first (simple_byte simple_undefined) (simple_byte simple_null) x y e).0))
+  strict_of_canon (simple simple_undefined) x y l e =
+      absurd (omega (
+        arith,
+        (same_first (simple_byte simple_undefined) (simple_byte simple_null) x y e).0,
+      ))
   strict_of_canon (bits p n) x y l e = (tt, append_cancel_left (bytes (bits p n)) x y e)
 
-  strict_of_canon_all : (ts : Trees) (x y : List ℕ) → LooseAll ts → bytes_all ts ++ x ≡ bytes_all (canon_trees (values ts)) ++ y → StrictAll ts × (x ≡ y)
+  strict_of_canon_all : (ts : Trees) (x y : List ℕ) → LooseAll ts
+      → bytes_all ts ++ x ≡ bytes_all (canon_trees (values ts)) ++ y → StrictAll ts × (x ≡ y)
   strict_of_canon_all no_trees x y l e = (tt, e)
   strict_of_canon_all (tree t ts) x y l e =
       let behind = bytes_all (canon_trees (values ts)) in
-      let first = strict_of_canon t (bytes_all ts ++ x) (behind ++ y) l.0 (sym (append_assoc (bytes t) (bytes_all ts) x) ∙ e ∙ append_assoc (canon (value t)) behind y) in
+      let first = strict_of_canon t (bytes_all ts ++ x)
+      (behind ++ y) l.0 (sym (append_assoc (bytes t) (bytes_all ts) x) ∙ e
+      ∙ append_assoc (canon (value t)) behind y) in
       let rest = strict_of_canon_all ts x y l.1 first.1 in
       ((first.0, rest.0), rest.1)
 
-  strict_of_canon_pairs : (ps : Pairs) (x y : List ℕ) → LoosePairs ps → bytes_pairs ps ++ x ≡ bytes_pairs (canon_pairs (member_values ps)) ++ y → StrictPairs ps × (x ≡ y)
+  strict_of_canon_pairs : (ps : Pairs) (x y : List ℕ) → LoosePairs ps
+      → bytes_pairs ps ++ x ≡ bytes_pairs (canon_pairs (member_values ps)) ++ y
+      → StrictPairs ps × (x ≡ y)
   strict_of_canon_pairs no_pairs x y l e = (tt, e)
   strict_of_canon_pairs (pair k v ps) x y l e =
       let behind = bytes_pairs (canon_pairs (member_values ps)) in
-      let key = strict_of_canon k (bytes v ++ (bytes_pairs ps ++ x)) (canon (value v) ++ (behind ++ y)) l.0 (sym (pair_split (bytes k) (bytes v) (bytes_pairs ps) x) ∙ e ∙ pair_split (canon (value k)) (canon (value v)) behind y) in
+      let key = strict_of_canon k (bytes v ++ (bytes_pairs ps ++ x))
+      (canon (value v) ++ (behind ++ y)) l.0 (sym (pair_split (bytes k) (bytes v)
+      (bytes_pairs ps) x) ∙ e ∙ pair_split (canon (value k)) (canon (value v)) behind y) in
       let val = strict_of_canon v (bytes_pairs ps ++ x) (behind ++ y) l.1 key.1 in
       let rest = strict_of_canon_pairs ps x y l.2 val.1 in
       ((key.0, val.0, rest.0), rest.1)
@@ -192,11 +258,19 @@ strict_iff_canon t p = (
 mutual
   pub item_of_strict : (t : Tree) → Loose t → SoundStrings t → Strict t → IsItem (value t)
   item_of_strict (int s n w) l u h = integer-value s n (below_from_HeadFits w n l)
-  item_of_strict (string k w content) l u h = content-value k content u (below_from_HeadFits w (length content) l)
+  item_of_strict (string k w content) l u h =
+      content-value k content u (below_from_HeadFits w (length content) l)
   item_of_strict (chunked k ts) l u h = absurd h
-  item_of_strict (array w ts) l u h = (subst (λ n. n < 2 ^ 64) (sym (item_count-values ts)) (below_from_HeadFits w (count ts) l.0), items_of_strict ts l.1 u h.1)
+  item_of_strict (array w ts) l u h = (
+    subst (λ n. n < 2 ^ 64) (sym (item_count-values ts)) (below_from_HeadFits w (count ts) l.0),
+    items_of_strict ts l.1 u h.1,
+  )
   item_of_strict (array_open ts) l u h = absurd h
-  item_of_strict (map_of w ps) l u h = (subst (λ n. n < 2 ^ 64) (sym (member_count-values ps)) (below_from_HeadFits w (pair_count ps) l.0), members_of_strict ps l.1 u h.1)
+  item_of_strict (map_of w ps) l u h = (
+    subst (λ n. n < 2 ^ 64) (sym (member_count-values ps))
+        (below_from_HeadFits w (pair_count ps) l.0),
+    members_of_strict ps l.1 u h.1,
+  )
   item_of_strict (map_open ps) l u h = absurd h
   item_of_strict (tagged n w t) l u h = (below_from_HeadFits w n l.0, item_of_strict t l.1 u h.1)
   item_of_strict (simple simple_false) l u h = tt
@@ -205,40 +279,72 @@ mutual
   item_of_strict (simple simple_undefined) l u h = tt
   item_of_strict (bits p n) l u h = l
 
-  items_of_strict : (ts : Trees) → LooseAll ts → SoundStringsAll ts → StrictAll ts → AreItems (values ts)
+  items_of_strict : (ts : Trees) → LooseAll ts → SoundStringsAll ts → StrictAll ts
+      → AreItems (values ts)
   items_of_strict no_trees l u h = tt
   items_of_strict (tree t ts) l u h = (item_of_strict t l.0 u.0 h.0, items_of_strict ts l.1 u.1 h.1)
 
-  members_of_strict : (ps : Pairs) → LoosePairs ps → SoundStringsPairs ps → StrictPairs ps → AreMembers (member_values ps)
+  members_of_strict : (ps : Pairs) → LoosePairs ps → SoundStringsPairs ps → StrictPairs ps
+      → AreMembers (member_values ps)
   members_of_strict no_pairs l u h = tt
-  members_of_strict (pair k v ps) l u h = (item_of_strict k l.0 u.0 h.0, item_of_strict v l.1 u.1 h.1, members_of_strict ps l.2 u.2 h.2)
+  members_of_strict (pair k v ps) l u h =
+      (item_of_strict k l.0 u.0 h.0, item_of_strict v l.1 u.1 h.1, members_of_strict ps l.2 u.2 h.2)
 
 -- the tree of a value is the one that encoders write
-pub strictly_canon : (spelling : List ℕ) (v : Item) (steps : ℕ) → (s : SpellsStrictly spelling v steps) → canon_tree v ≡ s.spelled
-strictly_canon spelling v steps s = ap canon_tree (sym s.value_is) ∙ canon_of_strict s.spelled s.canonical.0.0 s.canonical.1
+pub strictly_canon : (spelling : List ℕ) (v : Item) (steps : ℕ)
+    → (s : SpellsStrictly spelling v steps) → canon_tree v ≡ s.spelled
+strictly_canon spelling v steps s =
+    ap canon_tree (sym s.value_is) ∙ canon_of_strict s.spelled s.canonical.0.0 s.canonical.1
 
 -- what is spelled so is the canonical spelling of a value that reading gives, at its cost
-pub strictly_spelled : (spelling : List ℕ) (v : Item) (steps : ℕ) → SpellsStrictly spelling v steps → IsDecoded v × (spelling ≡ canon v) × (steps ≡ canon_cost v)
+pub strictly_spelled : (spelling : List ℕ) (v : Item) (steps : ℕ) → SpellsStrictly spelling v steps
+    → IsDecoded v × (spelling ≡ canon v) × (steps ≡ canon_cost v)
 strictly_spelled spelling v steps s =
     let same = strictly_canon spelling v steps s in
-    let p = s.canonical.0 in
-    ((subst IsItem s.value_is (item_of_strict s.spelled p.0 p.1 s.canonical.1), subst (λ w. with_bignums w ≡ w) s.value_is (with_bignums-value s.spelled p.0)), sym s.bytes_are ∙ ap bytes (sym same), sym s.cost_is ∙ ap cost (sym same))
+    let p = s.canonical.0 in (
+      (
+        subst IsItem s.value_is (item_of_strict s.spelled p.0 p.1 s.canonical.1),
+        subst (λ w. with_bignums w ≡ w) s.value_is (with_bignums-value s.spelled p.0),
+      ),
+      sym s.bytes_are ∙ ap bytes (sym same),
+      sym s.cost_is ∙ ap cost (sym same),
+    )
 
 -- the canonical spelling of a value that reading gives is one
 pub canon_strictly : (v : Item) → IsDecoded v → SpellsStrictly (canon v) v (canon_cost v)
-canon_strictly v h = record { spelled = canon_tree v; canonical = ((loose_canon v h.0, sound_canon v h.0), strict_canon v); bytes_are = refl; value_is = value-canon v ∙ h.1; cost_is = refl }
+canon_strictly v h = record {
+  spelled = canon_tree v;
+  canonical = ((loose_canon v h.0, sound_canon v h.0), strict_canon v);
+  bytes_are = refl;
+  value_is = value-canon v ∙ h.1;
+  cost_is = refl;
+}
 
-pub reads_strictly_iff : (input : List ℕ) (budget : Budget) (v : Item) (rest : List ℕ) → ReadsStrictly input budget v rest ↔ (IsDecoded v × CostFits (canon_cost v) budget × (input ≡ canon v ++ rest))
+pub reads_strictly_iff : (input : List ℕ) (budget : Budget) (v : Item) (rest : List ℕ)
+    → ReadsStrictly input budget v rest
+    ↔ (IsDecoded v × CostFits (canon_cost v) budget × (input ≡ canon v ++ rest))
 reads_strictly_iff input budget v rest = (
-  λ r. let s = strictly_spelled r.spelling v r.steps r.spells in (s.0, subst (λ c. CostFits c budget) s.2 r.fits, r.begins ∙ ap (λ x. x ++ rest) s.1),
-  λ h. record { spelling = canon v; steps = canon_cost v; spells = canon_strictly v h.0; fits = h.1; begins = h.2 },
+  λ r. let s =
+      strictly_spelled r.spelling v r.steps r.spells in
+      (s.0, subst (λ c. CostFits c budget) s.2 r.fits, r.begins ∙ ap (λ x. x ++ rest) s.1),
+  λ h. record {
+    spelling = canon v;
+    steps = canon_cost v;
+    spells = canon_strictly v h.0;
+    fits = h.1;
+    begins = h.2;
+  },
 )
 
 -- two values are equal exactly where their bytes are
-pub equal_iff_bytes : (s t : List ℕ) (v w : Item) (c d : ℕ) → SpellsStrictly s v c → SpellsStrictly t w d → ((v ≡ w) ↔ (s ≡ t))
+pub equal_iff_bytes : (s t : List ℕ) (v w : Item) (c d : ℕ) → SpellsStrictly s v c
+    → SpellsStrictly t w d → ((v ≡ w) ↔ (s ≡ t))
 equal_iff_bytes s t v w c d p q =
     let a = strictly_spelled s v c p in
     let b = strictly_spelled t w d q in (
       λ e. a.1 ∙ ap canon e ∙ sym b.1,
-      λ e. let same = one_spelling p.spelled q.spelled [] [] p.canonical.0.0 q.canonical.0.0 (ap (λ r. r ++ []) (p.bytes_are ∙ e ∙ sym q.bytes_are)) in sym p.value_is ∙ ap value same.0 ∙ q.value_is,
+      λ e. let same =
+          one_spelling p.spelled q.spelled [] [] p.canonical.0.0 q.canonical.0.0
+          (ap (λ r. r ++ []) (p.bytes_are ∙ e ∙ sym q.bytes_are)) in
+          sym p.value_is ∙ ap value same.0 ∙ q.value_is,
     )

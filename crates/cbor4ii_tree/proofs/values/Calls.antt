@@ -1,10 +1,12 @@
 -- The calls of reading a value, one behind another.
-use Rattle.std.proofs.Common.{◌≡◌, ℕ, ◌+◌, ◌/◌, ◌%◌, ◌<◌, List, [], ◌∷◌, ◌++◌, drop, Some, Result, Ok, Err, true, refl, sym, ap, ◌∙◌, subst, arith, inl, inr}
+use Rattle.std.proofs.Common.{◌≡◌, ℕ, ◌+◌, ◌/◌, ◌%◌, ◌<◌, List, [], ◌∷◌, ◌++◌, drop, Some, Result}
+use Rattle.std.proofs.Common.{Ok, Err, true, refl, sym, ap, ◌∙◌, subst, arith, inl, inr}
 use Rattle.cbor4ii_rw.specs.View.{View}
 use Rattle.cbor4ii_rw.specs.Reader.{KeepsAllButBudget, StepsIn, step_back}
 use Rattle.cbor4ii_rw.specs.declared.error.DecodeError.{DecodeError}
 use Rattle.cbor4ii_items.specs.Refusal.{Refusal}
-use Rattle.cbor4ii_items.specs.Head.{Width, in_first, one, two, four, eight, byte_count, additional, HeadFits, head, open_head}
+use Rattle.cbor4ii_items.specs.Head.{Width, in_first, one, two, four, eight, byte_count, additional}
+use Rattle.cbor4ii_items.specs.Head.{HeadFits, head, open_head}
 use Rattle.cbor4ii_items.specs.Heads.{StopsHead, Begins}
 use Rattle.cbor4ii_items.specs.Laws.Heads.{after_head}
 use Rattle.cbor4ii_items.specs.Numbers.{ReadsUnsigned}
@@ -15,7 +17,8 @@ use mir.Syntax.{w128}
 use Rattle.cbor4ii_tree.specs.declared.value.Value.{Integer}
 use Rattle.cbor4ii_tree.specs.Item.{integer}
 use Rattle.cbor4ii_tree.specs.Laws.Binds.{step_up}
-use Rattle.cbor4ii_items.specs.Initial.{Info, wide, open_ended, reserved, info_of, initial, by_major, int_by_info, Sign, unsigned, negative, sign_major}
+use Rattle.cbor4ii_items.specs.Initial.{Info, wide, open_ended, reserved, info_of, initial}
+use Rattle.cbor4ii_items.specs.Initial.{by_major, int_by_info, Sign, unsigned, negative, sign_major}
 use Rattle.cbor4ii_items.specs.Laws.Answering.{fits_zero}
 use Rattle.cbor4ii_tree.specs.Refusal.{eof, mismatch, Small, len_of, sign_name}
 use Rattle.cbor4ii_tree.specs.Laws.Numbers.{additional-lt, info-additional}
@@ -27,31 +30,41 @@ use Rattle.cbor4ii_tree.specs.Item.{no_items, item}
 use Rattle.cbor4ii_tree.specs.Meaning.{value, values}
 use Rattle.cbor4ii_tree.specs.Cost.{Budget, step_in}
 use Rattle.cbor4ii_tree.specs.Refusal.{value_name}
-use Rattle.cbor4ii_tree.specs.Stops.{Stepped, Is, MissingAll}
-use Rattle.cbor4ii_tree.specs.StopsReading.{Readable, ReadingStopsFrom, ReadingStopsBy, StopsReading}
+use Rattle.cbor4ii_tree.specs.Stops.{StopsAtStep, Is, MissingAll}
+use Rattle.cbor4ii_tree.specs.StopsReading.{Readable, ReadingStopsFrom, ReadingStopsBy}
+use Rattle.cbor4ii_tree.specs.StopsReading.{StopsReading}
 use Rattle.cbor4ii_tree.specs.View.{view, items_view}
 use Rattle.cbor4ii_tree.specs.Does.{Accepting, Does}
-use Rattle.cbor4ii_tree.specs.Valuing.{ReadsOne, StopsOne, ReadsUnder, StopsUnder, ReadsItems, StopsItems}
-use Rattle.cbor4ii_tree.proofs.skip_calls.Doing.{Reached, reached_by, reached_then, does_err, does_stepped, steps_in}
+use Rattle.cbor4ii_tree.specs.Valuing.{ReadsOneValue, StopsOneValue, ReadsUnder, StopsUnder}
+use Rattle.cbor4ii_tree.specs.Valuing.{ReadsItems, StopsItems}
+use Rattle.cbor4ii_tree.proofs.skip_calls.Doing.{Reached, reached_by, reached_then, does_err}
+use Rattle.cbor4ii_tree.proofs.skip_calls.Doing.{does_stepped, steps_in}
 use Rattle.cbor4ii_tree.proofs.answers.Nesting.{reading_by_parts}
 use Rattle.cbor4ii_tree.proofs.parts.Pushed.{push, count-push, each-push, bytes-push}
 use Rattle.cbor4ii_tree.proofs.values.Encoding.{view-Integer}
 
 -- ---- a step
 
-stops_under : (inner budget : Budget) (xs : List ℕ) (e : Refusal) (rest : List ℕ) → step_in budget ≡ Some inner → StopsUnder inner xs e rest → StopsOne budget xs e rest
+stops_under : (inner budget : Budget) (xs : List ℕ) (e : Refusal) (rest : List ℕ)
+    → step_in budget ≡ Some inner → StopsUnder inner xs e rest → StopsOneValue budget xs e rest
 stops_under inner budget xs e rest step h =
-    (reading_by_parts xs budget e rest).1 (subst (λ o. Stepped value_name o xs (λ inner. ReadingStopsFrom (λ left part. StopsReading part left) inner xs) e rest) (sym step) h)
+    (reading_by_parts xs budget e rest).1 (subst (λ o. StopsAtStep value_name o xs (λ inner.
+    ReadingStopsFrom (λ left part. StopsReading part left) inner xs) e rest) (sym step) h)
 
-pub stepped : {E : Type 0} {r : Result Value (DecodeError E)} {a b c d : View} → StepsIn a.budget b.budget true → KeepsAllButBudget a b → Does (ReadsUnder b.budget) (StopsUnder b.budget) b c r → d.budget ≡ step_back c.budget → KeepsAllButBudget c d
-    → Does (ReadsOne a.budget) (StopsOne a.budget) a d r
+pub stepped : {E : Type 0} {r : Result Value (DecodeError E)} {a b c d : View}
+    → StepsIn a.budget b.budget true → KeepsAllButBudget a b → Does (ReadsUnder b.budget)
+    (StopsUnder b.budget) b c r → d.budget ≡ step_back c.budget → KeepsAllButBudget c d
+    → Does (ReadsOneValue a.budget) (StopsOneValue a.budget) a d r
 stepped {a = a} {b = b} takes inward w gives outward =
-    does_stepped (ReadsUnder b.budget) (ReadsOne a.budget) (StopsUnder b.budget) (StopsOne a.budget) (λ xs ys v h. h a.budget (steps_in a.budget b.budget takes))
-    (λ xs e rest h. stops_under b.budget a.budget xs e rest (steps_in a.budget b.budget takes) h) takes inward w gives outward
+    does_stepped (ReadsUnder b.budget) (ReadsOneValue a.budget) (StopsUnder b.budget)
+    (StopsOneValue a.budget) (λ xs ys v h. h a.budget (steps_in a.budget b.budget takes))
+    (λ xs e rest h. stops_under b.budget a.budget xs e rest (steps_in a.budget b.budget takes) h)
+    takes inward w gives outward
 
 -- ---- items, one behind another
 
-pub values-push : (ts : Trees) (t : Tree) (vs : List Value) (v : Value) → values ts ≡ items_view vs → value t ≡ view v → values (push ts t) ≡ items_view (vs ++ v ∷ [])
+pub values-push : (ts : Trees) (t : Tree) (vs : List Value) (v : Value) → values ts ≡ items_view vs
+    → value t ≡ view v → values (push ts t) ≡ items_view (vs ++ v ∷ [])
 unfolding push
 values-push no_trees t [] v e f = ap (λ i. item i no_items) f
 values-push no_trees t (w ∷ vs) v e f = cc
@@ -62,83 +75,129 @@ values-push (tree u us) t (w ∷ vs) v e f =
     let more = values-push us t vs v tail f in
     ap (λ i. item i (values (push us t))) head ∙ ap (item (view w)) more
 
-pub none : (budget : Budget) (xs : List ℕ) (vs : List Value) → vs ≡ [] → ReadsItems 0 budget xs vs xs
+pub none : (budget : Budget) (xs : List ℕ) (vs : List Value) → vs ≡ []
+    → ReadsItems 0 budget xs vs xs
 none budget xs vs e = (no_trees, refl, tt, sym (ap items_view e), refl)
 
-items_more : (n : ℕ) (budget : Budget) (vs ws : List Value) (v : Value) (xs ys zs : List ℕ) → ws ≡ vs ++ v ∷ [] → ReadsItems n budget xs vs ys → ReadsOne budget ys v zs → ReadsItems (n + 1) budget xs ws zs
-items_more n budget vs ws v xs ys zs is h k =
-    (push h.0 k.0, count-push h.0 k.0 ∙ ap (λ j. j + 1) h.1, each-push (Readable budget) h.0 k.0 h.2 k.1, values-push h.0 k.0 vs v h.3 k.2 ∙ sym (ap items_view is), h.4 ∙ ap (λ r. bytes_all h.0 ++ r) k.3 ∙ sym (bytes-push h.0 k.0 zs))
+items_more : (n : ℕ) (budget : Budget) (vs ws : List Value) (v : Value) (xs ys zs : List ℕ)
+    → ws ≡ vs ++ v ∷ [] → ReadsItems n budget xs vs ys → ReadsOneValue budget ys v zs
+    → ReadsItems (n + 1) budget xs ws zs
+items_more n budget vs ws v xs ys zs is h k = (
+  push h.0 k.0,
+  count-push h.0 k.0 ∙ ap (λ j. j + 1) h.1,
+  each-push (Readable budget) h.0 k.0
+      h.2 k.1,
+  values-push h.0 k.0 vs v h.3 k.2 ∙ sym (ap items_view is),
+  h.4 ∙ ap (λ r. bytes_all h.0 ++ r) k.3 ∙ sym (bytes-push h.0 k.0 zs),
+)
 
-items_stop : (i n : ℕ) (budget : Budget) (vs : List Value) (xs ys : List ℕ) (e : Refusal) (rest : List ℕ) → i < n → ReadsItems i budget xs vs ys → StopsOne budget ys e rest → StopsItems n budget xs e rest
-items_stop i n budget vs xs ys e rest lt h s = record { front = h.0; after = ys; few = omega (arith, h.1); whole = h.2; is = h.4; stopped = s }
+items_stop : (i n : ℕ) (budget : Budget) (vs : List Value) (xs ys : List ℕ) (e : Refusal)
+    (rest : List ℕ) → i < n → ReadsItems i budget xs vs ys → StopsOneValue budget ys e rest
+    → StopsItems n budget xs e rest
+items_stop i n budget vs xs ys e rest lt h s =
+    record { front = h.0; after = ys; few = omega (arith, h.1); whole = h.2; is = h.4; stopped = s }
 
-module _ (n : ℕ) (vs : List Value) {a m : View} (p : Reached (λ xs ys. ReadsItems n a.budget xs vs ys) a m) where
-  pub counted_more : {E : Type 0} (ws : List Value) {v : Value} {b : View} → ws ≡ vs ++ v ∷ [] → Does {E = E} (ReadsOne m.budget) (StopsOne m.budget) m b (Ok v) → Reached (λ xs ys. ReadsItems (n + 1) a.budget xs ws ys) a b
+module _ (n : ℕ) (vs : List Value) {a m : View}
+    (p : Reached (λ xs ys. ReadsItems n a.budget xs vs ys) a m) where
+  pub counted_more : {E : Type 0} (ws : List Value) {v : Value} {b : View} → ws ≡ vs ++ v ∷ []
+      → Does {E = E} (ReadsOneValue m.budget) (StopsOneValue m.budget) m b (Ok v)
+      → Reached (λ xs ys. ReadsItems (n + 1) a.budget xs ws ys) a b
   counted_more ws {v = v} is d =
-      reached_then (λ xs ys. ReadsItems n a.budget xs vs ys) (λ xs ys. ReadsOne m.budget xs v ys) (λ xs ys. ReadsItems (n + 1) a.budget xs ws ys)
-      (λ xs ys zs h s. items_more n a.budget vs ws v xs ys zs is h (subst (λ o. ReadsOne o ys v zs) p.kept.budget s)) p (reached_by d)
+      reached_then (λ xs ys. ReadsItems n a.budget xs vs ys)
+      (λ xs ys. ReadsOneValue m.budget xs v ys) (λ xs ys. ReadsItems (n + 1) a.budget xs ws ys)
+      (λ xs ys zs h s. items_more n a.budget vs ws v xs ys zs is h
+      (subst (λ o. ReadsOneValue o ys v zs) p.kept.budget s)) p (reached_by d)
 
-  pub counted_stop : {U E : Type 0} (B : Accepting U) (count : ℕ) {e : DecodeError E} {b : View} → n < count → Does {V = Value} (ReadsOne m.budget) (StopsOne m.budget) m b (Err e) → Does {V = U} B (StopsItems count a.budget) a b (Err e)
+  pub counted_stop : {U E : Type 0} (B : Accepting U) (count : ℕ) {e : DecodeError E} {b : View}
+      → n < count → Does {V = Value} (ReadsOneValue m.budget) (StopsOneValue m.budget) m b (Err e)
+      → Does {V = U} B (StopsItems count a.budget) a b (Err e)
   counted_stop B count lt d =
-      does_err (λ xs ys. ReadsItems n a.budget xs vs ys) (ReadsOne m.budget) B (StopsOne m.budget) (StopsItems count a.budget)
-      (λ xs ys z rest h s. items_stop n count a.budget vs xs ys z rest lt h (subst (λ o. StopsOne o ys z rest) p.kept.budget s)) p d
+      does_err (λ xs ys. ReadsItems n a.budget xs vs ys)
+      (ReadsOneValue m.budget) B (StopsOneValue m.budget) (StopsItems count a.budget)
+      (λ xs ys z rest h s. items_stop n count a.budget vs xs ys z rest lt h
+      (subst (λ o. StopsOneValue o ys z rest) p.kept.budget s)) p d
 
 -- ---- heads that are refused
 
-pub small_count : (name : List ℕ) (w : Width) → eof name (Small (byte_count w)) ≡ eof name (len_of (byte_count w))
+pub small_count : (name : List ℕ) (w : Width)
+    → eof name (Small (byte_count w)) ≡ eof name (len_of (byte_count w))
 small_count name in_first = refl
 small_count name one = refl
 small_count name two = refl
 small_count name four = refl
 small_count name eight = refl
 
-pub width_begins : (major b : ℕ) (w : Width) → b / 32 ≡ major → info_of (b % 32) ≡ wide w → Begins major 8 b w
+pub width_begins : (major b : ℕ) (w : Width) → b / 32 ≡ major → info_of (b % 32) ≡ wide w
+    → Begins major 8 b w
 width_begins major b w m is = by_width w (says_width (b % 32) w is)
   where
     by_width : (w : Width) → WidthSays w (b % 32) → Begins major 8 b w
-    by_width in_first h = record { argument = b % 32; fits = omega (arith, h); allowed = omega arith; is = omega (arith, m) }
-    by_width one h = record { argument = 0; fits = omega arith; allowed = omega arith; is = omega (arith, m, h) }
-    by_width two h = record { argument = 0; fits = omega arith; allowed = omega arith; is = omega (arith, m, h) }
-    by_width four h = record { argument = 0; fits = omega arith; allowed = omega arith; is = omega (arith, m, h) }
-    by_width eight h = record { argument = 0; fits = omega arith; allowed = omega arith; is = omega (arith, m, h) }
+    by_width in_first h = record {
+      argument = b % 32;
+      fits = omega (arith, h);
+      allowed = omega arith;
+      is = omega (arith, m);
+    }
+    by_width one h =
+        record { argument = 0; fits = omega arith; allowed = omega arith; is = omega (arith, m, h) }
+    by_width two h =
+        record { argument = 0; fits = omega arith; allowed = omega arith; is = omega (arith, m, h) }
+    by_width four h =
+        record { argument = 0; fits = omega arith; allowed = omega arith; is = omega (arith, m, h) }
+    by_width eight h =
+        record { argument = 0; fits = omega arith; allowed = omega arith; is = omega (arith, m, h) }
 
 pub begins_width : (major b : ℕ) (w : Width) → Begins major 8 b w → info_of (b % 32) ≡ wide w
 begins_width major b w h =
-    let low : b % 32 ≡ additional w h.argument = omega (arith, h.is, additional-lt h.argument w h.fits) in
+    let low : b % 32 ≡ additional w h.argument =
+    omega (arith, h.is, additional-lt h.argument w h.fits) in
     ap info_of low ∙ info-additional h.argument w h.fits
 
 same_width : (w v : Width) (i : Info) → i ≡ wide w → i ≡ wide v → w ≡ v
 same_width w v i p q = cc
 
 -- a head of this row is cut
-pub head_cut : (name : List ℕ) (major b : ℕ) (bs : List ℕ) (w : Width) (e : Refusal) (rest : List ℕ) → b / 32 ≡ major → info_of (b % 32) ≡ wide w → StopsHead name major 8 (b ∷ bs) e rest → MissingAll name (byte_count w) bs e rest
+pub head_cut : (name : List ℕ) (major b : ℕ) (bs : List ℕ) (w : Width) (e : Refusal) (rest : List ℕ)
+    → b / 32 ≡ major → info_of (b % 32) ≡ wide w → StopsHead name major 8 (b ∷ bs) e rest
+    → MissingAll name (byte_count w) bs e rest
 head_cut name major b bs w e rest m is (inl h) = absurd (h.none w (width_begins major b w m is))
 head_cut name major b bs w e rest m is (inr h) =
-    let same : h.wide ≡ w = same_width h.wide w (info_of (b % 32)) (begins_width major b h.wide h.begins) is in
-    subst (λ v. MissingAll name (byte_count v) bs e rest) same (h.short, (h.answer ∙ small_count name h.wide, h.left))
+    let same : h.wide ≡ w =
+    same_width h.wide w (info_of (b % 32)) (begins_width major b h.wide h.begins) is in
+    subst (λ v. MissingAll name (byte_count v) bs e rest) same
+    (h.short, (h.answer ∙ small_count name h.wide, h.left))
 
 -- a byte that is no head's
-pub no_head : (name : List ℕ) (major b : ℕ) (bs : List ℕ) (e : Refusal) (rest : List ℕ) → ((w : Width) → info_of (b % 32) ≡ wide w → ⊥) → StopsHead name major 8 (b ∷ bs) e rest → Is (mismatch name b) bs e rest
+pub no_head : (name : List ℕ) (major b : ℕ) (bs : List ℕ) (e : Refusal) (rest : List ℕ)
+    → ((w : Width) → info_of (b % 32) ≡ wide w → ⊥) → StopsHead name major 8 (b ∷ bs) e rest
+    → Is (mismatch name b) bs e rest
 no_head name major b bs e rest none (inl h) = (h.answer, h.left)
-no_head name major b bs e rest none (inr h) = absurd (none h.wide (begins_width major b h.wide h.begins))
+no_head name major b bs e rest none (inr h) =
+    absurd (none h.wide (begins_width major b h.wide h.begins))
 
 pub initial_of : (b major : ℕ) → b / 32 ≡ major → initial b ≡ by_major major (b % 32)
 unfolding initial
 initial_of b major m = ap (λ j. by_major j (b % 32)) m
 
 pub open_byte : (major b : ℕ) → b / 32 ≡ major → info_of (b % 32) ≡ open_ended → b ≡ open_head major
-open_byte major b m is = let low : b % 32 ≡ 31 = subst (InfoSays (b % 32)) is (info_says (b % 32)) in omega (arith, low, m)
+open_byte major b m is =
+    let low : b % 32 ≡ 31 = subst (InfoSays (b % 32)) is (info_says (b % 32)) in
+    omega (arith, low, m)
 
 -- an integer's head is refused
-pub int_stops : (inner : Budget) (s : Sign) (b : ℕ) (bs : List ℕ) (e : Refusal) (rest : List ℕ) → b / 32 ≡ sign_major s → StopsHead (sign_name s) (sign_major s) 8 (b ∷ bs) e rest → StopsUnder inner (b ∷ bs) e rest
+pub int_stops : (inner : Budget) (s : Sign) (b : ℕ) (bs : List ℕ) (e : Refusal) (rest : List ℕ)
+    → b / 32 ≡ sign_major s → StopsHead (sign_name s) (sign_major s) 8 (b ∷ bs) e rest
+    → StopsUnder inner (b ∷ bs) e rest
 int_stops inner s b bs e rest m h =
-    subst (λ i. ReadingStopsBy (λ left part. StopsReading part left) inner i b bs e rest) (sym (initial_of b (sign_major s) m ∙ row s (b % 32))) (by_info (info_of (b % 32)) refl)
+    subst (λ i. ReadingStopsBy (λ left part. StopsReading part left) inner i b bs e rest)
+    (sym (initial_of b (sign_major s) m ∙ row s (b % 32))) (by_info (info_of (b % 32)) refl)
   where
     row : (s : Sign) (i : ℕ) → by_major (sign_major s) i ≡ int_by_info s (info_of i)
     row unsigned i = refl
     row negative i = refl
 
-    by_info : (i : Info) → info_of (b % 32) ≡ i → ReadingStopsBy (λ left part. StopsReading part left) inner (int_by_info s i) b bs e rest
+    by_info : (i : Info) → info_of (b % 32) ≡ i
+        → ReadingStopsBy (λ left part. StopsReading part left) inner (int_by_info s i) b bs e rest
     by_info (wide w) is = head_cut (sign_name s) (sign_major s) b bs w e rest m is h
     by_info open_ended is = no_head (sign_name s) (sign_major s) b bs e rest (λ w f. cc) h
     by_info reserved is = no_head (sign_name s) (sign_major s) b bs e rest (λ w f. cc) h
@@ -158,6 +217,12 @@ fits_less two v h = omega arith
 fits_less four v h = omega arith
 fits_less eight v h = omega arith
 
-pub unsigned_reads : (inner : Budget) (v n c : ℕ) (xs : List ℕ) → ReadsUnsigned 8 xs v n c → ReadsUnder inner xs (Integer (to_z w128 v)) (drop n xs)
-unsigned_reads inner v n c xs r budget step =
-    (int unsigned v r.0.wide, ((r.0.fits, tt), step_up budget inner 0 step (fits_zero inner)), ap integer (sym (small_z v (fits_less r.0.wide v r.0.fits))) ∙ sym (view-Integer (to_z w128 v)), r.0.is ∙ ap (λ z. head 0 v r.0.wide ++ z) (sym (after_head 0 8 xs v n r.0)))
+pub unsigned_reads : (inner : Budget) (v n c : ℕ) (xs : List ℕ) → ReadsUnsigned 8 xs v n c
+    → ReadsUnder inner xs (Integer (to_z w128 v)) (drop n xs)
+unsigned_reads inner v n c xs r budget step = (
+  int unsigned v r.0.wide,
+  ((r.0.fits, tt), step_up budget inner 0 step (fits_zero inner)),
+  ap integer (sym (small_z v (fits_less r.0.wide v r.0.fits)))
+      ∙ sym (view-Integer (to_z w128 v)),
+  r.0.is ∙ ap (λ z. head 0 v r.0.wide ++ z) (sym (after_head 0 8 xs v n r.0)),
+)

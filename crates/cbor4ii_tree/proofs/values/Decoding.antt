@@ -1,5 +1,7 @@
 -- Reading a value, as a decoding call, and what its answer says of the bytes.
-use Rattle.std.proofs.Common.{◌≡◌, ℕ, List, length, take, drop, Option, None, Some, Result, Ok, Err, refl, sym, ap, ◌∙◌, IfSome, IfOk, IfErr, arith, length-append, take-append-drop}
+use Rattle.std.proofs.Common.{◌≡◌, ℕ, List, length, take, drop, Option, None, Some, Result, Ok, Err}
+use Rattle.std.proofs.Common.{refl, sym, ap, ◌∙◌, IfSome, IfOk, IfErr, arith, length-append}
+use Rattle.std.proofs.Common.{take-append-drop}
 use Rattle.std.proofs.Math.Seq.{drop-append_seam, take-append_seam}
 use Rattle.cbor4ii_rw.specs.View.{View}
 use Rattle.cbor4ii_rw.specs.declared.error.DecodeError.{DecodeError}
@@ -9,27 +11,36 @@ use Rattle.cbor4ii_tree.specs.declared.value.Value.{Value}
 use Rattle.cbor4ii_tree.specs.Tree.{bytes}
 use Rattle.cbor4ii_tree.specs.Item.{Item}
 use Rattle.cbor4ii_tree.specs.Cost.{Budget, cost}
-use Rattle.cbor4ii_tree.specs.Spelling.{Reads}
+use Rattle.cbor4ii_tree.specs.Spelling.{ReadsPlainly}
 use Rattle.cbor4ii_tree.specs.View.{view}
 use Rattle.cbor4ii_tree.specs.Does.{Does}
 use Rattle.cbor4ii_tree.specs.Promises.{ReadsValue}
-use Rattle.cbor4ii_tree.specs.Valuing.{ReadsOne, StopsOne}
+use Rattle.cbor4ii_tree.specs.Valuing.{ReadsOneValue, StopsOneValue}
 use Rattle.cbor4ii_tree.specs.StopsReading.{StopsReading}
 use Rattle.cbor4ii_tree.proofs.reading.Answer.{not_both}
 
 -- ---- in the words of the definitions
 
-reads_front : (budget : Budget) (xs : List ℕ) (v : Item) (n c : ℕ) → ReadsValue xs v n c → CostFits c budget → Reads xs budget v (drop n xs)
-reads_front budget xs v n c r fits = record { spelling = take n xs; steps = c; spells = r.spells; fits = fits; begins = sym (take-append-drop n xs) }
+reads_front : (budget : Budget) (xs : List ℕ) (v : Item) (n c : ℕ) → ReadsValue xs v n c
+    → CostFits c budget → ReadsPlainly xs budget v (drop n xs)
+reads_front budget xs v n c r fits = record {
+  spelling = take n xs;
+  steps = c;
+  spells = r.spells;
+  fits = fits;
+  begins = sym (take-append-drop n xs);
+}
 
-by_refusal : (o : Option Refusal) (P Q : Refusal → Type 0) → ((z : Refusal) → P z → Q z) → IfSome o P → IfSome o Q
+by_refusal : (o : Option Refusal) (P Q : Refusal → Type 0) → ((z : Refusal) → P z → Q z)
+    → IfSome o P → IfSome o Q
 by_refusal None P Q f h = tt
 by_refusal (Some z) P Q f h = f z h
 
 -- ---- what a decoding call promises
 
 module _ {E : Type 0} {a b : View} where
-  pub value_sound : (r : Result Value (DecodeError E)) → Does (ReadsOne a.budget) (StopsOne a.budget) a b r → IfOk r (Sound (λ xs (v : Value). ReadsValue xs (view v)) a b)
+  pub value_sound : (r : Result Value (DecodeError E)) → Does (ReadsOneValue a.budget)
+      (StopsOneValue a.budget) a b r → IfOk r (Sound (λ xs (v : Value). ReadsValue xs (view v)) a b)
   value_sound (Err e) d = tt
   value_sound (Ok v) d = record {
     at = λ xs told.
@@ -41,19 +52,35 @@ module _ {E : Type 0} {a b : View} where
         record {
           count = n;
           cost = cost t;
-          read = record { within = omega (arith, ap length s.2.3, length-append (bytes t) s.0); spells = record { spelled = t; plain = s.2.1.0; bytes_are = sym front; value_is = s.2.2; cost_is = refl } };
+          read = record {
+            within = omega (arith, ap length s.2.3, length-append (bytes t) s.0);
+            spells = record {
+              spelled = t;
+              plain = s.2.1.0;
+              bytes_are = sym front;
+              value_is = s.2.2;
+              cost_is = refl;
+            };
+          };
           fits = s.2.1.1;
           left = s.1 ∙ ap Some (sym behind);
         };
   }
 
-  pub value_refuses : (r : Result Value (DecodeError E)) → Does (ReadsOne a.budget) (StopsOne a.budget) a b r → IfErr r (Refuses (λ xs (v : Value). ReadsValue xs (view v)) a)
+  pub value_refuses : (r : Result Value (DecodeError E))
+      → Does (ReadsOneValue a.budget) (StopsOneValue a.budget) a b r
+      → IfErr r (Refuses (λ xs (v : Value). ReadsValue xs (view v)) a)
   value_refuses (Ok v) d = tt
   value_refuses (Err e) d = record {
-    at = λ xs told. by_refusal (refusal_of e) (λ z. (ys : List ℕ) × (b.told ≡ Some ys) × StopsReading xs a.budget z ys) (λ z. NoneRead (λ xs (v : Value). ReadsValue xs (view v)) xs a.budget)
-        (λ z h v n c r fits. not_both xs a.budget (view v) (drop n xs) z h.0 (reads_front a.budget xs (view v) n c r fits) h.2) (d.err xs told);
+    at = λ xs told. by_refusal (refusal_of e)
+        (λ z. (ys : List ℕ) × (b.told ≡ Some ys) × StopsReading xs a.budget z ys)
+        (λ z. NoneRead (λ xs (v : Value). ReadsValue xs (view v)) xs a.budget)
+        (λ z h v n c r fits. not_both xs a.budget (view v)
+        (drop n xs) z h.0 (reads_front a.budget xs (view v) n c r fits) h.2)
+        (d.err xs told);
   }
 
-  pub value_stops : (r : Result Value (DecodeError E)) → Does (ReadsOne a.budget) (StopsOne a.budget) a b r → IfErr r (Stops StopsReading a b)
+  pub value_stops : (r : Result Value (DecodeError E)) → Does (ReadsOneValue a.budget)
+      (StopsOneValue a.budget) a b r → IfErr r (Stops StopsReading a b)
   value_stops (Ok v) d = tt
   value_stops (Err e) d = record { at = λ xs told. d.err xs told }

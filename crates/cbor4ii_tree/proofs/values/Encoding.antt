@@ -1,5 +1,7 @@
 -- What values are written as, in the words of the calls that write the parts.
-use Rattle.std.proofs.Common.{◌≡◌, ℕ, ◌^◌, List, [], ◌∷◌, ◌++◌, length, Bool, true, false, cond, ltb, ℤ, pos, negsuc, refl, sym, ap, ◌∙◌, append_assoc, rules, Vec, Global, Box}
+use Rattle.std.proofs.Common.{◌≡◌, ℕ, ◌^◌, List, [], ◌∷◌, ◌++◌, length, Bool, true, false, cond}
+use Rattle.std.proofs.Common.{ltb, ℤ, pos, negsuc, refl, sym, ap, ◌∙◌, append_assoc, rules, Vec}
+use Rattle.std.proofs.Common.{Global, Box}
 use Rattle.std.specs.Prelude.{Result, Ok, Err, OnOk}
 use Rattle.std.proofs.lemmas.List.{append-nil}
 use Rattle.cbor4ii_items.specs.Head.{shortest, head}
@@ -8,17 +10,22 @@ use Rattle.cbor4ii_items.specs.Numbers.{shortest_head, bignum_bytes, signed_byte
 use Rattle.cbor4ii_items.specs.Simple.{bool_byte}
 use Rattle.cbor4ii_items.specs.SequenceBytes.{items_bytes}
 use Rattle.cbor4ii_tree.specs.Tree.{int, bytes, bytes_all, bytes_pairs, count, pair_count}
-use Rattle.cbor4ii_tree.specs.Item.{boolean, integer, sequence, mapping, tag, item_count, member_count}
+use Rattle.cbor4ii_tree.specs.Item.{boolean, integer, sequence, mapping, tag, item_count}
+use Rattle.cbor4ii_tree.specs.Item.{member_count}
 use Rattle.cbor4ii_tree.specs.Canonical.{canon, canon_trees, canon_pairs, bignum, sign_tag}
 use Rattle.cbor4ii_tree.specs.View.{view, items_view, members_view}
 use Rattle.cbor4ii_tree.specs.Encoding.{value_bytes, member_bytes}
-use Rattle.cbor4ii_tree.specs.declared.value.Value.{Value, Bool as VBool, Integer, Array, Map, Tag, the_lemmas}
+use Rattle.cbor4ii_tree.specs.declared.value.Value.{Value, Bool as VBool, Integer, Array, Map, Tag}
+use Rattle.cbor4ii_tree.specs.declared.value.Value.{the_lemmas}
 use Rattle.cbor4ii_tree.proofs.spellings.Canonical.{count-canon, count-pairs}
-use Rattle.cbor4ii_tree.proofs.values.Views.{item_count-items_view, member_count-members_view, view-Map}
+use Rattle.cbor4ii_tree.proofs.values.Views.{item_count-items_view, member_count-members_view}
+use Rattle.cbor4ii_tree.proofs.values.Views.{view-Map}
 
 -- ---- integers
 
-by_size : (b : Bool) (s : Sign) (n : ℕ) → bytes (cond b (int s n (shortest n)) (bignum s n)) ≡ cond b (shortest_head (sign_major s) n) (bignum_bytes (sign_tag s) n)
+by_size : (b : Bool) (s : Sign) (n : ℕ)
+    → bytes (cond b (int s n (shortest n)) (bignum s n)) ≡ cond b (shortest_head (sign_major s) n)
+    (bignum_bytes (sign_tag s) n)
 by_size true s n = refl
 by_size false s n = refl
 
@@ -28,23 +35,36 @@ signed-canon (negsuc n) = sym (by_size (ltb n (2 ^ 64)) negative n)
 
 -- ---- arrays and maps
 
-pub items-canon : (vs : List Value) → items_bytes value_bytes vs ≡ bytes_all (canon_trees (items_view vs))
+pub items-canon : (vs : List Value)
+    → items_bytes value_bytes vs ≡ bytes_all (canon_trees (items_view vs))
 items-canon [] = refl
 items-canon (v ∷ vs) = ap (λ z. value_bytes v ++ z) (items-canon vs)
 
-pub members-canon : (ms : List (Value × Value)) → items_bytes member_bytes ms ≡ bytes_pairs (canon_pairs (members_view ms))
+pub members-canon : (ms : List (Value × Value))
+    → items_bytes member_bytes ms ≡ bytes_pairs (canon_pairs (members_view ms))
 members-canon [] = refl
-members-canon (m ∷ ms) = append_assoc (value_bytes m.0) (value_bytes m.1) (items_bytes member_bytes ms) ∙ ap (λ z. value_bytes m.0 ++ (value_bytes m.1 ++ z)) (members-canon ms)
+members-canon (m ∷ ms) =
+    append_assoc (value_bytes m.0) (value_bytes m.1) (items_bytes member_bytes ms)
+    ∙ ap (λ z. value_bytes m.0 ++ (value_bytes m.1 ++ z)) (members-canon ms)
 
 -- the shortest head with the count of the items, which is told in two ways
-headed : (major n m k : ℕ) (xs ys : List ℕ) → n ≡ k → m ≡ k → xs ≡ ys → shortest_head major n ++ xs ≡ head major m (shortest k) ++ ys
+headed : (major n m k : ℕ) (xs ys : List ℕ) → n ≡ k → m ≡ k → xs ≡ ys
+    → shortest_head major n ++ xs ≡ head major m (shortest k) ++ ys
 headed major n m k xs ys e f g = rw (e, f, g) refl
 
-pub sequence-canon : (n : ℕ) (vs : List Value) → n ≡ length vs → shortest_head 4 n ++ items_bytes value_bytes vs ≡ canon (sequence (items_view vs))
-sequence-canon n vs e = headed 4 n (count (canon_trees (items_view vs))) (item_count (items_view vs)) _ _ (e ∙ sym (item_count-items_view vs)) (count-canon (items_view vs)) (items-canon vs)
+pub sequence-canon : (n : ℕ) (vs : List Value) → n ≡ length vs
+    → shortest_head 4 n ++ items_bytes value_bytes vs ≡ canon (sequence (items_view vs))
+sequence-canon n vs e =
+    headed 4 n (count (canon_trees (items_view vs)))
+    (item_count (items_view vs)) _ _ (e ∙ sym (item_count-items_view vs))
+    (count-canon (items_view vs)) (items-canon vs)
 
-pub mapping-canon : (n : ℕ) (ms : List (Value × Value)) → n ≡ length ms → shortest_head 5 n ++ items_bytes member_bytes ms ≡ canon (mapping (members_view ms))
-mapping-canon n ms e = headed 5 n (pair_count (canon_pairs (members_view ms))) (member_count (members_view ms)) _ _ (e ∙ sym (member_count-members_view ms)) (count-pairs (members_view ms)) (members-canon ms)
+pub mapping-canon : (n : ℕ) (ms : List (Value × Value)) → n ≡ length ms
+    → shortest_head 5 n ++ items_bytes member_bytes ms ≡ canon (mapping (members_view ms))
+mapping-canon n ms e =
+    headed 5 n (pair_count (canon_pairs (members_view ms)))
+    (member_count (members_view ms)) _ _ (e ∙ sym (member_count-members_view ms))
+    (count-pairs (members_view ms)) (members-canon ms)
 
 -- ---- values
 
@@ -61,11 +81,19 @@ bool-canon true = refl
 pub Bool-bytes : (value : Value) (b : Bool) → value ≡ VBool b → bool_byte b ∷ [] ≡ value_bytes value
 Bool-bytes value b e = bool-canon b ∙ sym (ap canon (ap view e ∙ view-Bool b))
 
-pub Array-bytes : (value : Value) (v : Vec Value Global) (n : ℕ) (vs : List Value) → value ≡ Array v → vs ≡ v.items → n ≡ length vs → shortest_head 4 n ++ items_bytes value_bytes vs ≡ value_bytes value
-Array-bytes value v n vs e same len = sequence-canon n vs len ∙ ap (λ l. canon (sequence (items_view l))) same ∙ sym (ap canon (ap view e ∙ view-Array v))
+pub Array-bytes : (value : Value) (v : Vec Value Global) (n : ℕ) (vs : List Value) → value ≡ Array v
+    → vs ≡ v.items → n ≡ length vs
+    → shortest_head 4 n ++ items_bytes value_bytes vs ≡ value_bytes value
+Array-bytes value v n vs e same len =
+    sequence-canon n vs len ∙ ap (λ l. canon (sequence (items_view l))) same
+    ∙ sym (ap canon (ap view e ∙ view-Array v))
 
-pub Map-bytes : (value : Value) (v : Vec (Value × Value) Global) (n : ℕ) (ms : List (Value × Value)) → value ≡ Map v → ms ≡ v.items → n ≡ length ms → shortest_head 5 n ++ items_bytes member_bytes ms ≡ value_bytes value
-Map-bytes value v n ms e same len = mapping-canon n ms len ∙ ap (λ l. canon (mapping (members_view l))) same ∙ sym (ap canon (ap view e ∙ view-Map v))
+pub Map-bytes : (value : Value) (v : Vec (Value × Value) Global) (n : ℕ) (ms : List (Value × Value))
+    → value ≡ Map v → ms ≡ v.items → n ≡ length ms
+    → shortest_head 5 n ++ items_bytes member_bytes ms ≡ value_bytes value
+Map-bytes value v n ms e same len =
+    mapping-canon n ms len ∙ ap (λ l. canon (mapping (members_view l))) same
+    ∙ sym (ap canon (ap view e ∙ view-Map v))
 
 pub view-Integer : (z : ℤ) → view (Integer z) ≡ integer z
 view-Integer z = search (rules, the_lemmas)
@@ -74,8 +102,12 @@ pub view-Tag : (n : ℕ) (b : Box Value Global) → view (Tag n b) ≡ tag n (vi
 view-Tag n b = search (rules, the_lemmas)
 
 -- the head alone is written as a tag on nothing
-pub Tag-bytes : (value inner : Value) (n : ℕ) (b : Box Value Global) → value ≡ Tag n b → inner ≡ b.value → (shortest_head 6 n ++ []) ++ value_bytes inner ≡ value_bytes value
-Tag-bytes value inner n b e same = ap (λ z. z ++ value_bytes inner) (append-nil (shortest_head 6 n)) ∙ ap (λ w. shortest_head 6 n ++ value_bytes w) same ∙ sym (ap canon (ap view e ∙ view-Tag n b))
+pub Tag-bytes : (value inner : Value) (n : ℕ) (b : Box Value Global) → value ≡ Tag n b
+    → inner ≡ b.value → (shortest_head 6 n ++ []) ++ value_bytes inner ≡ value_bytes value
+Tag-bytes value inner n b e same =
+    ap (λ z. z ++ value_bytes inner) (append-nil (shortest_head 6 n))
+    ∙ ap (λ w. shortest_head 6 n ++ value_bytes w) same
+    ∙ sym (ap canon (ap view e ∙ view-Tag n b))
 
 -- ---- calls
 

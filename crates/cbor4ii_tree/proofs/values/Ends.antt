@@ -14,12 +14,19 @@ use Rattle.cbor4ii_tree.specs.Does.{Accepting, Does}
 abbrev pub Ending : Stopping → Type 0
 Ending T = (z : Refusal) (rest : List ℕ) → Is (eof value_name (Small 1)) [] z rest → T [] z rest
 
-at_end : (T : Stopping) → Ending T → (o : Option Refusal) (xs : List ℕ) (new : Option (List ℕ)) → IfSome o (λ z. (ys : List ℕ) × (new ≡ Some ys) × (peek_at value_name 1 xs ≡ Err (z, ys)))
+at_end : (T : Stopping) → Ending T → (o : Option Refusal) (xs : List ℕ) (new : Option (List ℕ))
+    → IfSome o (λ z. (ys : List ℕ) × (new ≡ Some ys) × (peek_at value_name 1 xs ≡ Err (z, ys)))
     → IfSome o (λ z. (ys : List ℕ) × (new ≡ Some ys) × T xs z ys)
 at_end T ends None xs new h = tt
-at_end T ends (Some z) [] new h = (h.0, h.1, ends z h.0 (is_err {A = ℕ} (eof value_name (Small 1)) [] z h.0 h.2))
+at_end T ends (Some z) [] new h =
+    (h.0, h.1, ends z h.0 (is_err {A = ℕ} (eof value_name (Small 1)) [] z h.0 h.2))
 at_end T ends (Some z) (x ∷ xs) new h = let g = h.2 in cc
 
 pub nothing_there : {V E : Type 0} (A : Accepting V) (T : Stopping) → Ending T
-    → {e : DecodeError E} {a c : View} → Runs {V = ℕ} (peek_at value_name 1) a c (Err e) → Does {V = V} A T a c (Err e)
-nothing_there A T ends {e = e} {a = a} {c = c} p = record { moves = moves_err p.moves; ok = tt; err = λ xs told. at_end T ends (refusal_of e) xs c.told (p.answers xs told) }
+    → {e : DecodeError E} {a c : View} → Runs {V = ℕ} (peek_at value_name 1) a c (Err e)
+    → Does {V = V} A T a c (Err e)
+nothing_there A T ends {e = e} {a = a} {c = c} p = record {
+  moves = moves_err p.moves;
+  ok = tt;
+  err = λ xs told. at_end T ends (refusal_of e) xs c.told (p.answers xs told);
+}

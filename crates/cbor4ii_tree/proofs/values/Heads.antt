@@ -1,5 +1,8 @@
 -- The parts of a value that are heads alone, and tags.
-use Rattle.std.proofs.Common.{◌≡◌, ◌≢◌, ℕ, zero, suc, ◌+◌, ◌*◌, ◌/◌, ◌%◌, ◌<◌, ◌≤◌, ◌^◌, List, [], ◌∷◌, ◌++◌, length, drop, take, Option, Some, Result, Ok, Err, false, refl, sym, ap, ◌∙◌, subst, arith, append_assoc, inl, inr, rules, pos, negsuc, ◌-ℤ◌, ne_eqb}
+use Rattle.std.proofs.Common.{◌≡◌, ◌≢◌, ℕ, zero, suc, ◌+◌, ◌*◌, ◌/◌, ◌%◌, ◌<◌, ◌≤◌, ◌^◌, List, []}
+use Rattle.std.proofs.Common.{◌∷◌, ◌++◌, length, drop, take, Option, Some, Result, Ok, Err, false}
+use Rattle.std.proofs.Common.{refl, sym, ap, ◌∙◌, subst, arith, append_assoc, inl, inr, rules, pos}
+use Rattle.std.proofs.Common.{negsuc, ◌-ℤ◌, ne_eqb}
 use Rattle.std.proofs.Math.Seq.{drop-append_seam}
 use Rattle.std.specs.Int.{bytes_high_first}
 use Rattle.std.proofs.lemmas.Int.{to_z-of_z}
@@ -17,9 +20,14 @@ use Rattle.cbor4ii_items.specs.Floats.{ReadsFloat, StopsFloat, float_bytes}
 use Rattle.cbor4ii_items.specs.Moves.{Moves}
 use Rattle.cbor4ii_items.specs.Decoding.{CostFits, Sound, Stops}
 use Rattle.cbor4ii_items.specs.Reading.{Runs, peek_at}
-use Rattle.cbor4ii_items.specs.Initial.{Initial, Info, wide, open_ended, reserved, info_of, initial, simple_by_info, tag_by_info, negative, Simple, simple_byte, Precision, half, single, double, precision_byte, precision_bytes, starts_tag, starts_bits, other_simple, simple_false, simple_true, simple_null, simple_undefined}
+use Rattle.cbor4ii_items.specs.Initial.{Initial, Info, wide, open_ended, reserved, info_of, initial}
+use Rattle.cbor4ii_items.specs.Initial.{simple_by_info, tag_by_info, negative, Simple, simple_byte}
+use Rattle.cbor4ii_items.specs.Initial.{Precision, half, single, double, precision_byte}
+use Rattle.cbor4ii_items.specs.Initial.{precision_bytes, starts_tag, starts_bits, other_simple}
+use Rattle.cbor4ii_items.specs.Initial.{simple_false, simple_true, simple_null, simple_undefined}
 use Rattle.cbor4ii_items.specs.Laws.Answering.{fits_zero}
-use Rattle.cbor4ii_tree.specs.Refusal.{eof, unsupported, Small, len_of, precision_name, tag_name, value_name}
+use Rattle.cbor4ii_tree.specs.Refusal.{eof, unsupported, Small, len_of, precision_name, tag_name}
+use Rattle.cbor4ii_tree.specs.Refusal.{value_name}
 use Rattle.cbor4ii_tree.specs.Laws.Initials.{initial_tag, initial_bits}
 use Rattle.cbor4ii_tree.specs.declared.value.Value.{Value, Integer, Float, Tag, the_lemmas}
 use Rattle.cbor4ii_tree.specs.declared.value.FloatBits.{FloatBits}
@@ -32,37 +40,68 @@ use Rattle.cbor4ii_tree.specs.Stops.{Stopping, MissingAll}
 use Rattle.cbor4ii_tree.specs.StopsReading.{ReadingStopsBy, StopsReading}
 use Rattle.cbor4ii_tree.specs.View.{view}
 use Rattle.cbor4ii_tree.specs.Does.{Accepting, Does}
-use Rattle.cbor4ii_tree.specs.Valuing.{ReadsOne, StopsOne, ReadsUnder, StopsUnder, StopsFirst, SimpleOf}
-use Rattle.cbor4ii_tree.proofs.skip_calls.Doing.{Reached, reached_start, reached_by, reached_then, reached_as, does_ok, does_err, does_after, does_refuse, does_stops, reached_peek, reached_first, reached_sound}
-use Rattle.cbor4ii_tree.proofs.values.Calls.{Peeked, head_cut, no_head, initial_of, small_z, fits_less}
+use Rattle.cbor4ii_tree.specs.Valuing.{ReadsOneValue, StopsOneValue, ReadsUnder, StopsUnder}
+use Rattle.cbor4ii_tree.specs.Valuing.{StopsFirst, SimpleOf}
+use Rattle.cbor4ii_tree.proofs.skip_calls.Doing.{Reached, reached_start, reached_by, reached_then}
+use Rattle.cbor4ii_tree.proofs.skip_calls.Doing.{reached_as, does_ok, does_err, does_after}
+use Rattle.cbor4ii_tree.proofs.skip_calls.Doing.{does_refuse, does_stops, reached_peek}
+use Rattle.cbor4ii_tree.proofs.skip_calls.Doing.{reached_first, reached_sound}
+use Rattle.cbor4ii_tree.proofs.values.Calls.{Peeked, head_cut, no_head, initial_of, small_z}
+use Rattle.cbor4ii_tree.proofs.values.Calls.{fits_less}
 use Rattle.cbor4ii_tree.proofs.values.Encoding.{view-Integer}
 
 -- ---- behind a byte that was looked at
 
-pub at_row : (inner : Budget) (i : Initial) (b : ℕ) (bs : List ℕ) (e : Refusal) (rest : List ℕ) → initial b ≡ i → ReadingStopsBy (λ left part. StopsReading part left) inner i b bs e rest → StopsUnder inner (b ∷ bs) e rest
-at_row inner i b bs e rest is h = subst (λ j. ReadingStopsBy (λ left part. StopsReading part left) inner j b bs e rest) (sym is) h
+pub at_row : (inner : Budget) (i : Initial) (b : ℕ) (bs : List ℕ) (e : Refusal) (rest : List ℕ)
+    → initial b ≡ i → ReadingStopsBy (λ left part. StopsReading part left) inner i b bs e rest
+    → StopsUnder inner (b ∷ bs) e rest
+at_row inner i b bs e rest is h =
+    subst (λ j. ReadingStopsBy (λ left part. StopsReading part left) inner j b bs e rest) (sym is) h
 
-module _ (b : ℕ) {E : Type 0} {a m : View} (first : Runs {E = E} (peek_at value_name 1) a m (Ok b)) where
-  pub arm_ok : {V : Type 0} (A : Accepting V) (S : Stopping) {v : V} {c : View} (w : Value) → ((bs ys : List ℕ) → A (b ∷ bs) v ys → ReadsUnder a.budget (b ∷ bs) w ys) → Does {E = E} A S m c (Ok v) → Does {E = E} (ReadsUnder a.budget) (StopsUnder a.budget) a c (Ok w)
+module _ (b : ℕ) {E : Type 0} {a m : View}
+    (first : Runs {E = E} (peek_at value_name 1) a m (Ok b)) where
+  pub arm_ok : {V : Type 0} (A : Accepting V) (S : Stopping) {v : V} {c : View} (w : Value)
+      → ((bs ys : List ℕ) → A (b ∷ bs) v ys → ReadsUnder a.budget (b ∷ bs) w ys)
+      → Does {E = E} A S m c (Ok v)
+      → Does {E = E} (ReadsUnder a.budget) (StopsUnder a.budget) a c (Ok w)
   arm_ok A S {v = v} w f d = does_ok (ReadsUnder a.budget) (StopsUnder a.budget)
-      (reached_then (Peeked b) (λ xs ys. A xs v ys) (λ xs ys. ReadsUnder a.budget xs w ys) (λ xs ys zs p h. subst (λ x. ReadsUnder a.budget x w zs) (sym p.1) (f p.0 zs (subst (λ x. A x v zs) (p.2 ∙ p.1) h))) (reached_peek value_name 1 b first) (reached_by d))
+      (reached_then (Peeked b) (λ xs ys. A xs v ys) (λ xs ys. ReadsUnder a.budget xs w ys)
+      (λ xs ys zs p h. subst (λ x. ReadsUnder a.budget x w zs) (sym p.1)
+      (f p.0 zs (subst (λ x. A x v zs) (p.2 ∙ p.1) h))) (reached_peek value_name 1 b first)
+      (reached_by d))
 
-  pub arm_err : {V : Type 0} (A : Accepting V) (S : Stopping) {e : DecodeError E} {c : View} → ((bs : List ℕ) (z : Refusal) (rest : List ℕ) → S (b ∷ bs) z rest → StopsUnder a.budget (b ∷ bs) z rest) → Does {V = V} A S m c (Err e) → Does {V = Value} (ReadsUnder a.budget) (StopsUnder a.budget) a c (Err e)
+  pub arm_err : {V : Type 0} (A : Accepting V) (S : Stopping) {e : DecodeError E} {c : View}
+      → ((bs : List ℕ) (z : Refusal) (rest : List ℕ) → S (b ∷ bs) z rest
+      → StopsUnder a.budget (b ∷ bs) z rest) → Does {V = V} A S m c (Err e)
+      → Does {V = Value} (ReadsUnder a.budget) (StopsUnder a.budget) a c (Err e)
   arm_err A S f d = does_err (Peeked b) A (ReadsUnder a.budget) S (StopsUnder a.budget)
-      (λ xs ys z rest p h. subst (λ x. StopsUnder a.budget x z rest) (sym p.1) (f p.0 z rest (subst (λ x. S x z rest) (p.2 ∙ p.1) h))) (reached_peek value_name 1 b first) d
+      (λ xs ys z rest p h. subst (λ x. StopsUnder a.budget x z rest) (sym p.1)
+      (f p.0 z rest (subst (λ x. S x z rest) (p.2 ∙ p.1) h)))
+      (reached_peek value_name 1 b first) d
 
-  pub arm_does : (A : Accepting Value) (S : Stopping) {r : Result Value (DecodeError E)} {c : View} → ((bs ys : List ℕ) (v : Value) → A (b ∷ bs) v ys → ReadsUnder a.budget (b ∷ bs) v ys) → ((bs : List ℕ) (z : Refusal) (rest : List ℕ) → S (b ∷ bs) z rest → StopsUnder a.budget (b ∷ bs) z rest)
+  pub arm_does : (A : Accepting Value) (S : Stopping) {r : Result Value (DecodeError E)} {c : View}
+      → ((bs ys : List ℕ) (v : Value) → A (b ∷ bs) v ys → ReadsUnder a.budget (b ∷ bs) v ys)
+      → ((bs : List ℕ) (z : Refusal) (rest : List ℕ) → S (b ∷ bs) z rest
+      → StopsUnder a.budget (b ∷ bs) z rest)
       → Does A S m c r → Does (ReadsUnder a.budget) (StopsUnder a.budget) a c r
   arm_does A S f g d = does_after (Peeked b) A (ReadsUnder a.budget) S (StopsUnder a.budget)
-      (λ xs ys zs v p h. subst (λ x. ReadsUnder a.budget x v zs) (sym p.1) (f p.0 zs v (subst (λ x. A x v zs) (p.2 ∙ p.1) h)))
-      (λ xs ys z rest p h. subst (λ x. StopsUnder a.budget x z rest) (sym p.1) (g p.0 z rest (subst (λ x. S x z rest) (p.2 ∙ p.1) h))) (reached_peek value_name 1 b first) d
+      (λ xs ys zs v p h. subst (λ x. ReadsUnder a.budget x v zs) (sym p.1)
+      (f p.0 zs v (subst (λ x. A x v zs) (p.2 ∙ p.1) h)))
+      (λ xs ys z rest p h. subst (λ x. StopsUnder a.budget x z rest) (sym p.1)
+      (g p.0 z rest (subst (λ x. S x z rest) (p.2 ∙ p.1) h)))
+      (reached_peek value_name 1 b first) d
 
   -- a decoding call of the crate below that is refused
-  pub call_err : {V : Type 0} (S : List ℕ → Option ℕ → Refusal → List ℕ → Type 0) {e : DecodeError E} {c : View} → ((bs : List ℕ) (z : Refusal) (rest : List ℕ) → S (b ∷ bs) a.budget z rest → StopsUnder a.budget (b ∷ bs) z rest) → Moves {V = V} m c (Err e) → Stops S m c e
+  pub call_err : {V : Type 0} (S : List ℕ → Option ℕ → Refusal → List ℕ → Type 0)
+      {e : DecodeError E} {c : View} → ((bs : List ℕ) (z : Refusal) (rest : List ℕ)
+      → S (b ∷ bs) a.budget z rest → StopsUnder a.budget (b ∷ bs) z rest)
+      → Moves {V = V} m c (Err e) → Stops S m c e
       → Does {V = Value} (ReadsUnder a.budget) (StopsUnder a.budget) a c (Err e)
   call_err {V = V} S f moves s =
       let p = reached_peek value_name 1 b first in
-      arm_err (λ xs (v : V) ys. Unit {0}) (λ xs. S xs m.budget) (λ bs z rest h. f bs z rest (subst (λ o. S (b ∷ bs) o z rest) p.kept.budget h)) (does_stops (λ xs v ys. Unit {0}) S moves s)
+      arm_err (λ xs (v : V) ys. Unit {0}) (λ xs. S xs m.budget)
+      (λ bs z rest h. f bs z rest (subst (λ o. S (b ∷ bs) o z rest) p.kept.budget h))
+      (does_stops (λ xs v ys. Unit {0}) S moves s)
 
 -- ---- negative integers
 
@@ -71,29 +110,61 @@ below_zero zero = refl
 below_zero (suc v) = let e : 0 + v ≡ v = omega arith in ap (λ j. negsuc (suc j)) e
 
 pub negative_z : (v : ℕ) → v < 2 ^ 127 → to_z w128 (of_z w128 (negsuc 0 -ℤ to_z w128 v)) ≡ negsuc v
-negative_z v h = ap (λ z. to_z w128 (of_z w128 (negsuc 0 -ℤ z))) (small_z v h) ∙ ap (λ z. to_z w128 (of_z w128 z)) (below_zero v) ∙ to_z-of_z w128 (negsuc v) (record { sfits = h })
+negative_z v h =
+    ap (λ z. to_z w128 (of_z w128 (negsuc 0 -ℤ z))) (small_z v h)
+    ∙ ap (λ z. to_z w128 (of_z w128 z)) (below_zero v)
+    ∙ to_z-of_z w128 (negsuc v) (record { sfits = h })
 
-pub negative_reads : (inner : Budget) (v n c : ℕ) (xs : List ℕ) → ReadsArgument 1 8 xs v n c → ReadsUnder inner xs (Integer (to_z w128 (of_z w128 (negsuc 0 -ℤ to_z w128 v)))) (drop n xs)
-negative_reads inner v n c xs r budget step =
-    (int negative v r.0.wide, ((r.0.fits, tt), step_up budget inner 0 step (fits_zero inner)), ap integer (sym (negative_z v (fits_less r.0.wide v r.0.fits))) ∙ sym (view-Integer _), r.0.is ∙ ap (λ z. head 1 v r.0.wide ++ z) (sym (after_head 1 8 xs v n r.0)))
+pub negative_reads : (inner : Budget) (v n c : ℕ) (xs : List ℕ) → ReadsArgument 1 8 xs v n c
+    → ReadsUnder inner xs (Integer (to_z w128 (of_z w128 (negsuc 0 -ℤ to_z w128 v)))) (drop n xs)
+negative_reads inner v n c xs r budget step = (
+  int negative v r.0.wide,
+  ((r.0.fits, tt), step_up budget inner 0 step (fits_zero inner)),
+  ap integer (sym (negative_z v (fits_less r.0.wide v r.0.fits))) ∙ sym (view-Integer _),
+  r.0.is ∙ ap (λ z. head 1 v r.0.wide ++ z) (sym (after_head 1 8 xs v n r.0)),
+)
 
 -- ---- simple values
 
-pub simple_read : {E : Type 0} (b : ℕ) {a m c : View} {v : Value} → Runs {E = E} (peek_at value_name 1) a m (Ok b) → b < 256 → Advances 1 m c → SimpleOf b (Some v) → Does {E = E} (ReadsUnder a.budget) (StopsUnder a.budget) a c (Ok v)
-simple_read b {a = a} {v = v} first small adv s = does_ok (ReadsUnder a.budget) (StopsUnder a.budget)
+pub simple_read : {E : Type 0} (b : ℕ) {a m c : View} {v : Value}
+    → Runs {E = E} (peek_at value_name 1) a m (Ok b) → b < 256 → Advances 1 m c
+    → SimpleOf b (Some v) → Does {E = E} (ReadsUnder a.budget) (StopsUnder a.budget) a c (Ok v)
+simple_read b {a = a} {v = v} first small adv s =
+    does_ok (ReadsUnder a.budget) (StopsUnder a.budget)
     (reached_as (λ xs ys. xs ≡ b ∷ ys) (λ xs ys. ReadsUnder a.budget xs v ys)
-    (λ xs ys e budget step. (simple s.0, ((tt, tt), step_up budget a.budget 0 step (fits_zero a.budget)), s.2, e ∙ ap (λ j. j ∷ ys) s.1)) (reached_first value_name 1 b first small adv))
+    (λ xs ys e budget step. (
+      simple s.0,
+      (
+        (tt, tt),
+        step_up budget a.budget 0 step (fits_zero a.budget),
+      ),
+      s.2,
+      e ∙ ap (λ j. j ∷ ys) s.1,
+    ))
+    (reached_first value_name 1 b first small adv))
 
 -- ---- what a first byte tells
 
-pub leaf_read : {V E : Type 0} (R : List ℕ → V → ℕ → ℕ → Type 0) {v : V} (w : Value) {S : Stopping} {a c : View} → ((xs : List ℕ) (n k : ℕ) → CostFits k a.budget → R xs v n k → ReadsUnder a.budget xs w (drop n xs)) → Moves {E = E} a c (Ok v) → Sound R a c v → Does {E = E} (ReadsUnder a.budget) S a c (Ok w)
-leaf_read R w {S = S} {a = a} f moves s = does_ok (ReadsUnder a.budget) S (reached_sound R (λ xs ys. ReadsUnder a.budget xs w ys) f moves s)
+pub leaf_read : {V E : Type 0} (R : List ℕ → V → ℕ → ℕ → Type 0) {v : V} (w : Value) {S : Stopping}
+    {a c : View} → ((xs : List ℕ) (n k : ℕ) → CostFits k a.budget → R xs v n k
+    → ReadsUnder a.budget xs w (drop n xs)) → Moves {E = E} a c (Ok v) → Sound R a c v
+    → Does {E = E} (ReadsUnder a.budget) S a c (Ok w)
+leaf_read R w {S = S} {a = a} f moves s =
+    does_ok (ReadsUnder a.budget) S
+    (reached_sound R (λ xs ys. ReadsUnder a.budget xs w ys) f moves s)
 
-pub leaf_refused : {V E : Type 0} (first : ℕ) (S : List ℕ → Option ℕ → Refusal → List ℕ → Type 0) {a c : View} {e : DecodeError E} → ((bs : List ℕ) (z : Refusal) (rest : List ℕ) → S (first ∷ bs) a.budget z rest → StopsUnder a.budget (first ∷ bs) z rest) → Moves {V = V} a c (Err e) → Stops S a c e → Does {V = Value} (ReadsUnder a.budget) (StopsFirst first a.budget) a c (Err e)
+pub leaf_refused : {V E : Type 0} (first : ℕ) (S : List ℕ → Option ℕ → Refusal → List ℕ → Type 0)
+    {a c : View} {e : DecodeError E} → ((bs : List ℕ) (z : Refusal) (rest : List ℕ)
+    → S (first ∷ bs) a.budget z rest → StopsUnder a.budget (first ∷ bs) z rest)
+    → Moves {V = V} a c (Err e) → Stops S a c e
+    → Does {V = Value} (ReadsUnder a.budget) (StopsFirst first a.budget) a c (Err e)
 leaf_refused {V = V} first S {a = a} f moves s =
-    does_err (λ xs ys. xs ≡ ys) (λ xs (v : V) ys. Unit {0}) (ReadsUnder a.budget) (λ xs. S xs a.budget) (StopsFirst first a.budget)
-    (λ xs ys z rest e h bs is. subst (λ x. StopsUnder a.budget x z rest) (sym is) (f bs z rest (subst (λ x. S x a.budget z rest) (sym e ∙ is) h)))
-    (reached_start (λ xs ys. xs ≡ ys) a (λ xs. refl)) (does_stops (λ xs (v : V) ys. Unit {0}) S moves s)
+    does_err (λ xs ys. xs ≡ ys) (λ xs (v : V) ys. Unit {0}) (ReadsUnder a.budget)
+    (λ xs. S xs a.budget) (StopsFirst first a.budget)
+    (λ xs ys z rest e h bs is. subst (λ x. StopsUnder a.budget x z rest) (sym is)
+    (f bs z rest (subst (λ x. S x a.budget z rest) (sym e ∙ is) h)))
+    (reached_start (λ xs ys. xs ≡ ys) a (λ xs. refl))
+    (does_stops (λ xs (v : V) ys. Unit {0}) S moves s)
 
 -- ---- floats
 
@@ -106,42 +177,83 @@ view-F32 n = search (rules, the_lemmas)
 pub view-F64 : (n : ℕ) → float double n ≡ view (Float (F64 n))
 view-F64 n = search (rules, the_lemmas)
 
-pub float_read : {E : Type 0} (p : Precision) {V : Type 0} (content : V → ℕ) {v : V} (f : FloatBits) {S : Stopping} {a c : View} → float p (content v) ≡ view (Float f) → Moves {E = E} a c (Ok v) → Sound (λ xs v. ReadsFloat (precision_byte p) (precision_bytes p) xs (content v)) a c v
+pub float_read : {E : Type 0} (p : Precision) {V : Type 0} (content : V → ℕ) {v : V} (f : FloatBits)
+    {S : Stopping} {a c : View} → float p (content v) ≡ view (Float f) → Moves {E = E} a c (Ok v)
+    → Sound (λ xs v. ReadsFloat (precision_byte p) (precision_bytes p) xs (content v)) a c v
     → Does {E = E} (ReadsUnder a.budget) S a c (Ok (Float f))
-float_read p content {v = v} f {a = a} is moves s = leaf_read (λ xs v. ReadsFloat (precision_byte p) (precision_bytes p) xs (content v)) (Float f)
+float_read p content {v = v} f {a = a} is moves s =
+    leaf_read (λ xs v. ReadsFloat (precision_byte p) (precision_bytes p) xs (content v)) (Float f)
     (λ xs n k _ r budget step.
     let front = float_bytes (precision_byte p) (precision_bytes p) (content v) in
-    let left : drop n xs ≡ r.rest = ap (drop n) r.is ∙ ap (λ j. drop j (front ++ r.rest)) (r.size ∙ sym (ap suc (length-bytes_high_first (precision_bytes p) (content v)))) ∙ drop-append_seam front r.rest in
-    (bits p (content v), ((r.fits, tt), step_up budget a.budget 0 step (fits_zero a.budget)), is, r.is ∙ ap (λ z. front ++ z) (sym left))) moves s
+    let left : drop n xs ≡ r.rest = ap (drop n) r.is ∙ ap (λ j. drop j (front ++ r.rest))
+    (r.size ∙ sym (ap suc (length-bytes_high_first (precision_bytes p) (content v))))
+    ∙ drop-append_seam front r.rest in (
+      bits p (content v),
+      ((r.fits, tt), step_up budget a.budget 0 step (fits_zero a.budget)),
+      is,
+      r.is ∙ ap (λ z. front ++ z) (sym left),
+    )) moves s
 
-missing_bits : (p : Precision) (name : List ℕ) → eof name (Small (precision_bytes p)) ≡ eof name (len_of (precision_bytes p))
+missing_bits : (p : Precision) (name : List ℕ)
+    → eof name (Small (precision_bytes p)) ≡ eof name (len_of (precision_bytes p))
 missing_bits half name = refl
 missing_bits single name = refl
 missing_bits double name = refl
 
-pub float_cut : (p : Precision) (b : ℕ) (bs : List ℕ) (e : Refusal) (rest : List ℕ) (budget : Budget) → b ≡ precision_byte p → StopsFloat (precision_name p) (precision_byte p) (precision_bytes p) (b ∷ bs) budget e rest → MissingAll (precision_name p) (precision_bytes p) bs e rest
+pub float_cut : (p : Precision) (b : ℕ) (bs : List ℕ) (e : Refusal) (rest : List ℕ)
+    (budget : Budget) → b ≡ precision_byte p
+    → StopsFloat (precision_name p) (precision_byte p) (precision_bytes p) (b ∷ bs) budget e rest
+    → MissingAll (precision_name p) (precision_bytes p) bs e rest
 float_cut p b bs e rest budget is (inl h) = absurd (h.0 is)
 float_cut p b bs e rest budget is (inr h) =
     let i = h.is in
-    let same : h.behind ≡ bs = cc in
-    (subst (λ z. length z < precision_bytes p) same h.short, (h.answer ∙ missing_bits p (precision_name p), h.left))
+    let same : h.behind ≡ bs = cc in (
+      subst (λ z. length z < precision_bytes p) same h.short,
+      (h.answer ∙ missing_bits p (precision_name p), h.left),
+    )
 
-pub float_refused : {V E : Type 0} (p : Precision) (first : ℕ) {a c : View} {e : DecodeError E} → first ≡ precision_byte p → Moves {V = V} a c (Err e) → Stops (StopsFloat (precision_name p) (precision_byte p) (precision_bytes p)) a c e → Does {V = Value} (ReadsUnder a.budget) (StopsFirst first a.budget) a c (Err e)
-float_refused p first {a = a} is moves s = leaf_refused first (StopsFloat (precision_name p) (precision_byte p) (precision_bytes p)) (λ bs z rest h. at_row a.budget (starts_bits p) first bs z rest (ap initial is ∙ initial_bits p) (float_cut p first bs z rest a.budget is h)) moves s
+pub float_refused : {V E : Type 0} (p : Precision) (first : ℕ) {a c : View} {e : DecodeError E}
+    → first ≡ precision_byte p → Moves {V = V} a c (Err e)
+    → Stops (StopsFloat (precision_name p) (precision_byte p) (precision_bytes p)) a c e
+    → Does {V = Value} (ReadsUnder a.budget) (StopsFirst first a.budget) a c (Err e)
+float_refused p first {a = a} is moves s =
+    leaf_refused first (StopsFloat (precision_name p) (precision_byte p) (precision_bytes p))
+    (λ bs z rest h. at_row a.budget (starts_bits p) first bs z rest
+    (ap initial is ∙ initial_bits p) (float_cut p first bs z rest a.budget is h)) moves s
 
-other_row : (i : ℕ) → i ≢ 20 → i ≢ 21 → i ≢ 22 → i ≢ 23 → i ≢ 25 → i ≢ 26 → i ≢ 27 → simple_by_info i ≡ other_simple
-other_row i a b c d e f g = rw (ne_eqb i 20 a, ne_eqb i 21 b, ne_eqb i 22 c, ne_eqb i 23 d, ne_eqb i 25 e, ne_eqb i 26 f, ne_eqb i 27 g) refl
+other_row : (i : ℕ) → i ≢ 20 → i ≢ 21 → i ≢ 22 → i ≢ 23 → i ≢ 25 → i ≢ 26 → i ≢ 27
+    → simple_by_info i ≡ other_simple
+other_row i a b c d e f g =
+    rw (
+      ne_eqb i 20 a,
+      ne_eqb i 21 b,
+      ne_eqb i 22 c,
+      ne_eqb i 23 d,
+      ne_eqb i 25 e,
+      ne_eqb i 26 f,
+      ne_eqb i 27 g,
+    ) refl
 
-pub other_byte : (b : ℕ) → 224 ≤ b → b < 256 → ((s : Simple) → b ≡ simple_byte s → ⊥) → b ≢ 249 → b ≢ 250 → b ≢ 251 → initial b ≡ other_simple
+pub other_byte : (b : ℕ) → 224 ≤ b → b < 256 → ((s : Simple) → b ≡ simple_byte s → ⊥) → b ≢ 249
+    → b ≢ 250 → b ≢ 251 → initial b ≡ other_simple
 other_byte b low high none e f g =
     let m : b / 32 ≡ 7 = omega arith in
-    initial_of b 7 m ∙ other_row (b % 32) (λ h. none simple_false (omega (arith, h))) (λ h. none simple_true (omega (arith, h))) (λ h. none simple_null (omega (arith, h))) (λ h. none simple_undefined (omega (arith, h))) (λ h. e (omega (arith, h))) (λ h. f (omega (arith, h))) (λ h. g (omega (arith, h)))
+    initial_of b 7 m ∙ other_row (b % 32) (λ h. none simple_false (omega (arith, h)))
+    (λ h. none simple_true (omega (arith, h))) (λ h. none simple_null (omega (arith, h)))
+    (λ h. none simple_undefined (omega (arith, h))) (λ h. e (omega (arith, h)))
+    (λ h. f (omega (arith, h))) (λ h. g (omega (arith, h)))
 
-pub no_value : {E : Type 0} (first : ℕ) {e : DecodeError E} {a : View} → 224 ≤ first → first < 256 → ((s : Simple) → first ≡ simple_byte s → ⊥) → first ≢ 249 → first ≢ 250 → first ≢ 251 → refusal_of e ≡ Some (unsupported value_name first) → is_read e ≡ false → is_depth_overflow e ≡ false
+pub no_value : {E : Type 0} (first : ℕ) {e : DecodeError E} {a : View} → 224 ≤ first → first < 256
+    → ((s : Simple) → first ≡ simple_byte s → ⊥) → first ≢ 249 → first ≢ 250 → first ≢ 251
+    → refusal_of e ≡ Some (unsupported value_name first) → is_read e ≡ false
+    → is_depth_overflow e ≡ false
     → Does {V = Value} (ReadsUnder a.budget) (StopsFirst first a.budget) a a (Err e)
 no_value first {a = a} low high none f g h says read shallow =
-    does_refuse (λ xs ys. xs ≡ ys) (ReadsUnder a.budget) (StopsFirst first a.budget) (unsupported value_name first) says read shallow
-    (λ xs ys e bs is. subst (λ x. StopsUnder a.budget x (unsupported value_name first) ys) (sym is) (at_row a.budget other_simple first bs _ ys (other_byte first low high none f g h) (refl, sym e ∙ is)))
+    does_refuse (λ xs ys. xs ≡ ys) (ReadsUnder a.budget) (StopsFirst first a.budget)
+    (unsupported value_name first) says read shallow
+    (λ xs ys e bs is. subst (λ x. StopsUnder a.budget x (unsupported value_name first) ys) (sym is)
+    (at_row a.budget other_simple first bs _ ys (other_byte first low high none f g h)
+    (refl, sym e ∙ is)))
     (reached_start (λ xs ys. xs ≡ ys) a (λ xs. refl))
 
 -- ---- heads that something follows
@@ -149,8 +261,10 @@ no_value first {a = a} low high none f g h says read shallow =
 abbrev pub HeadAt : ℕ → ℕ → List ℕ → List ℕ → Type 0
 HeadAt major n xs ys = (w : Width) × HeadFits w n × (xs ≡ head major n w ++ ys)
 
-pub head_at : (major n : ℕ) (xs : List ℕ) (k : ℕ) → ReadsHead major 8 xs n k → HeadAt major n xs (drop k xs)
-head_at major n xs k h = (h.wide, h.fits, h.is ∙ ap (λ z. head major n h.wide ++ z) (sym (after_head major 8 xs n k h)))
+pub head_at : (major n : ℕ) (xs : List ℕ) (k : ℕ) → ReadsHead major 8 xs n k
+    → HeadAt major n xs (drop k xs)
+head_at major n xs k h =
+    (h.wide, h.fits, h.is ∙ ap (λ z. head major n h.wide ++ z) (sym (after_head major 8 xs n k h)))
 
 pub first_is : (b : ℕ) (xs : List ℕ) → take 1 xs ≡ b ∷ [] → xs ≡ b ∷ drop 1 xs
 first_is b [] e = cc
@@ -158,32 +272,55 @@ first_is b (x ∷ xs) e = let f : x ≡ b = cc in ap (λ c. c ∷ xs) f
 
 -- ---- tags
 
-pub reached_tag : {E : Type 0} (b n : ℕ) {a m c : View} → Runs {E = E} (peek_at value_name 1) a m (Ok b) → Moves {E = E} m c (Ok n) → Sound (ReadsArgument 6 8) m c n → Reached (HeadAt 6 n) a c
+pub reached_tag : {E : Type 0} (b n : ℕ) {a m c : View}
+    → Runs {E = E} (peek_at value_name 1) a m (Ok b) → Moves {E = E} m c (Ok n)
+    → Sound (ReadsArgument 6 8) m c n → Reached (HeadAt 6 n) a c
 reached_tag b n first moves s =
-    reached_then (Peeked b) (HeadAt 6 n) (HeadAt 6 n) (λ xs ys zs p h. subst (λ x. HeadAt 6 n x zs) p.2 h) (reached_peek value_name 1 b first)
+    reached_then (Peeked b) (HeadAt 6 n) (HeadAt 6 n)
+    (λ xs ys zs p h. subst (λ x. HeadAt 6 n x zs) p.2 h) (reached_peek value_name 1 b first)
     (reached_sound (ReadsArgument 6 8) (HeadAt 6 n) (λ xs k c _ r. head_at 6 n xs k r.0) moves s)
 
-pub view-Tag : (n : ℕ) (v : Rattle.std.proofs.Common.Box Value Rattle.std.proofs.Common.Global) → view (Tag n v) ≡ tag n (view v.value)
+pub view-Tag : (n : ℕ) (v : Rattle.std.proofs.Common.Box Value Rattle.std.proofs.Common.Global)
+    → view (Tag n v) ≡ tag n (view v.value)
 view-Tag n v = search (rules, the_lemmas)
 
-pub tag_read : {E : Type 0} (n : ℕ) {v : Value} {a m c : View} (w : Value) → view w ≡ tag n (view v) → Reached (HeadAt 6 n) a m → Does {E = E} (ReadsOne m.budget) (StopsOne m.budget) m c (Ok v) → Does {E = E} (ReadsUnder a.budget) (StopsUnder a.budget) a c (Ok w)
+pub tag_read : {E : Type 0} (n : ℕ) {v : Value} {a m c : View} (w : Value) → view w ≡ tag n (view v)
+    → Reached (HeadAt 6 n) a m
+    → Does {E = E} (ReadsOneValue m.budget) (StopsOneValue m.budget) m c (Ok v)
+    → Does {E = E} (ReadsUnder a.budget) (StopsUnder a.budget) a c (Ok w)
 tag_read n {v = v} {a = a} {m = m} w is p d = does_ok (ReadsUnder a.budget) (StopsUnder a.budget)
-    (reached_then (HeadAt 6 n) (λ xs ys. ReadsOne m.budget xs v ys) (λ xs ys. ReadsUnder a.budget xs w ys)
+    (reached_then (HeadAt 6 n) (λ xs ys. ReadsOneValue m.budget xs v ys)
+    (λ xs ys. ReadsUnder a.budget xs w ys)
     (λ xs ys zs h s0 budget step.
-    let s = subst (λ o. ReadsOne o ys v zs) p.kept.budget s0 in
-    (tagged n h.0 s.0, (((h.1, s.1.0.0), s.1.0.1), step_up budget a.budget (cost s.0) step s.1.1), ap (tag n) s.2 ∙ sym is, h.2 ∙ ap (λ r. head 6 n h.0 ++ r) s.3 ∙ sym (append_assoc (head 6 n h.0) (bytes s.0) zs))) p (reached_by d))
+    let s = subst (λ o. ReadsOneValue o ys v zs) p.kept.budget s0 in (
+      tagged n h.0 s.0,
+      (((h.1, s.1.0.0), s.1.0.1), step_up budget a.budget (cost s.0) step s.1.1),
+      ap (tag n) s.2 ∙ sym is,
+      h.2 ∙ ap (λ r. head 6 n h.0 ++ r) s.3
+          ∙ sym (append_assoc (head 6 n h.0) (bytes s.0) zs),
+    )) p (reached_by d))
 
-pub tag_stopped : {E : Type 0} (n : ℕ) {a m c : View} {e : DecodeError E} → Reached (HeadAt 6 n) a m → Does {V = Value} (ReadsOne m.budget) (StopsOne m.budget) m c (Err e) → Does {V = Value} (ReadsUnder a.budget) (StopsUnder a.budget) a c (Err e)
+pub tag_stopped : {E : Type 0} (n : ℕ) {a m c : View} {e : DecodeError E} → Reached (HeadAt 6 n) a m
+    → Does {V = Value} (ReadsOneValue m.budget) (StopsOneValue m.budget) m c (Err e)
+    → Does {V = Value} (ReadsUnder a.budget) (StopsUnder a.budget) a c (Err e)
 tag_stopped n {a = a} {m = m} p d =
-    does_err (HeadAt 6 n) (ReadsOne m.budget) (ReadsUnder a.budget) (StopsOne m.budget) (StopsUnder a.budget)
+    does_err (HeadAt 6 n) (ReadsOneValue m.budget) (ReadsUnder a.budget) (StopsOneValue m.budget)
+    (StopsUnder a.budget)
     (λ xs ys z rest h s0.
-    let s = subst (λ o. StopsOne o ys z rest) p.kept.budget s0 in
-    subst (λ x. StopsUnder a.budget x z rest) (sym h.2) (at_row a.budget (starts_tag h.0) (32 * 6 + additional h.0 n) (bytes_high_first (byte_count h.0) n ++ ys) z rest (initial_tag n h.0 h.1) (inr (record { argument = n; after = ys; fits = h.1; is = refl; stopped = s })))) p d
+    let s = subst (λ o. StopsOneValue o ys z rest) p.kept.budget s0 in
+    subst (λ x. StopsUnder a.budget x z rest) (sym h.2)
+    (at_row a.budget (starts_tag h.0) (32 * 6 + additional h.0 n)
+    (bytes_high_first (byte_count h.0) n ++ ys) z rest (initial_tag n h.0 h.1)
+    (inr (record { argument = n; after = ys; fits = h.1; is = refl; stopped = s })))) p d
 
-pub tag_stops : (inner : Budget) (b : ℕ) (bs : List ℕ) (e : Refusal) (rest : List ℕ) → b / 32 ≡ 6 → StopsHead tag_name 6 8 (b ∷ bs) e rest → StopsUnder inner (b ∷ bs) e rest
-tag_stops inner b bs e rest m h = at_row inner (tag_by_info (info_of (b % 32))) b bs e rest (initial_of b 6 m) (by_info (info_of (b % 32)) refl)
+pub tag_stops : (inner : Budget) (b : ℕ) (bs : List ℕ) (e : Refusal) (rest : List ℕ) → b / 32 ≡ 6
+    → StopsHead tag_name 6 8 (b ∷ bs) e rest → StopsUnder inner (b ∷ bs) e rest
+tag_stops inner b bs e rest m h =
+    at_row inner (tag_by_info (info_of (b % 32))) b bs e rest (initial_of b 6 m)
+    (by_info (info_of (b % 32)) refl)
   where
-    by_info : (i : Info) → info_of (b % 32) ≡ i → ReadingStopsBy (λ left part. StopsReading part left) inner (tag_by_info i) b bs e rest
+    by_info : (i : Info) → info_of (b % 32) ≡ i
+        → ReadingStopsBy (λ left part. StopsReading part left) inner (tag_by_info i) b bs e rest
     by_info (wide w) is = inl (head_cut tag_name 6 b bs w e rest m is h)
     by_info open_ended is = no_head tag_name 6 b bs e rest (λ w f. cc) h
     by_info reserved is = no_head tag_name 6 b bs e rest (λ w f. cc) h

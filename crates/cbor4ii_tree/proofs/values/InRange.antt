@@ -1,34 +1,53 @@
 -- Values of the program are in range.
-use Rattle.std.proofs.Common.{◌≡◌, ℕ, ◌+◌, ◌<◌, ◌^◌, List, [], ◌∷◌, ◌++◌, length, take, get_or, sym, ap, ◌∙◌, arith, subst, Vec, Global, String}
+use Rattle.std.proofs.Common.{◌≡◌, ℕ, ◌+◌, ◌<◌, ◌^◌, List, [], ◌∷◌, ◌++◌, length, take, get_or, sym}
+use Rattle.std.proofs.Common.{ap, ◌∙◌, arith, subst, Vec, Global, String}
 use Rattle.std.specs.Prelude.{string_bytes}
 use Rattle.std.proofs.lemmas.List.{take_more}
 use Rattle.std.proofs.lemmas.Str.{IsUtf8-string_bytes}
 use Rattle.cbor4ii_tree.specs.Item.{IsItem, AreItems, AreMembers, text}
 use Rattle.cbor4ii_tree.specs.View.{view, items_view, members_view}
 use Rattle.cbor4ii_tree.specs.declared.value.Value.{Value, Text, Array, Map}
-use Rattle.cbor4ii_tree.proofs.values.Views.{item_count-items_view, member_count-members_view, view-Map}
+use Rattle.cbor4ii_tree.proofs.values.Views.{item_count-items_view, member_count-members_view}
+use Rattle.cbor4ii_tree.proofs.values.Views.{view-Map}
 use Rattle.cbor4ii_tree.proofs.values.Encoding.{view-Array}
 use Rattle.cbor4ii_tree.proofs.values.Strings.{view-Text}
 
-pub AreItems-push : (vs : List Value) (v : Value) → AreItems (items_view vs) → IsItem (view v) → AreItems (items_view (vs ++ v ∷ []))
+pub AreItems-push : (vs : List Value) (v : Value) → AreItems (items_view vs) → IsItem (view v)
+    → AreItems (items_view (vs ++ v ∷ []))
 AreItems-push [] v h k = (k, tt)
 AreItems-push (w ∷ vs) v h k = (h.0, AreItems-push vs v h.1 k)
 
-pub AreMembers-push : (ms : List (Value × Value)) (m : Value × Value) → AreMembers (members_view ms) → IsItem (view m.0) → IsItem (view m.1) → AreMembers (members_view (ms ++ m ∷ []))
+pub AreMembers-push : (ms : List (Value × Value)) (m : Value × Value) → AreMembers (members_view ms)
+    → IsItem (view m.0) → IsItem (view m.1) → AreMembers (members_view (ms ++ m ∷ []))
 AreMembers-push [] m h k l = (k, l, tt)
 AreMembers-push (n ∷ ms) m h k l = (h.0, h.1, AreMembers-push ms m h.2 k l)
 
-pub items_step : (xs : List Value) (i : ℕ) (x : Value) → i < length xs → x ≡ get_or xs i x → AreItems (items_view (take i xs)) → IsItem (view x) → AreItems (items_view (take (i + 1) xs))
+pub items_step : (xs : List Value) (i : ℕ) (x : Value) → i < length xs → x ≡ get_or xs i x
+    → AreItems (items_view (take i xs)) → IsItem (view x) → AreItems (items_view (take (i + 1) xs))
 items_step xs i x lt is h k = rw (take_more xs i x lt, ← is) (AreItems-push (take i xs) x h k)
 
-pub members_step : (xs : List (Value × Value)) (i : ℕ) (x : Value × Value) → i < length xs → x ≡ get_or xs i x → AreMembers (members_view (take i xs)) → IsItem (view x.0) → IsItem (view x.1) → AreMembers (members_view (take (i + 1) xs))
-members_step xs i x lt is h k l = rw (take_more xs i x lt, ← is) (AreMembers-push (take i xs) x h k l)
+pub members_step : (xs : List (Value × Value)) (i : ℕ) (x : Value × Value) → i < length xs
+    → x ≡ get_or xs i x → AreMembers (members_view (take i xs)) → IsItem (view x.0)
+    → IsItem (view x.1) → AreMembers (members_view (take (i + 1) xs))
+members_step xs i x lt is h k l =
+    rw (take_more xs i x lt, ← is) (AreMembers-push (take i xs) x h k l)
 
-pub array_in_range : (value : Value) (v : Vec Value Global) (vs : List Value) → value ≡ Array v → vs ≡ v.items → length vs < 2 ^ 64 → AreItems (items_view vs) → IsItem (view value)
-array_in_range value v vs e same small h = subst IsItem (sym (ap view e ∙ view-Array v)) (subst (λ ws. IsItem (Rattle.cbor4ii_tree.specs.Item.sequence (items_view ws))) same (omega (arith, item_count-items_view vs), h))
+pub array_in_range : (value : Value) (v : Vec Value Global) (vs : List Value) → value ≡ Array v
+    → vs ≡ v.items → length vs < 2 ^ 64 → AreItems (items_view vs) → IsItem (view value)
+array_in_range value v vs e same small h =
+    subst IsItem (sym (ap view e ∙ view-Array v))
+    (subst (λ ws. IsItem (Rattle.cbor4ii_tree.specs.Item.sequence (items_view ws))) same
+    (omega (arith, item_count-items_view vs), h))
 
-pub map_in_range : (value : Value) (v : Vec (Value × Value) Global) (vs : List (Value × Value)) → value ≡ Map v → vs ≡ v.items → length vs < 2 ^ 64 → AreMembers (members_view vs) → IsItem (view value)
-map_in_range value v vs e same small h = subst IsItem (sym (ap view e ∙ view-Map v)) (subst (λ ws. IsItem (Rattle.cbor4ii_tree.specs.Item.mapping (members_view ws))) same (omega (arith, member_count-members_view vs), h))
+pub map_in_range : (value : Value) (v : Vec (Value × Value) Global) (vs : List (Value × Value))
+    → value ≡ Map v → vs ≡ v.items → length vs < 2 ^ 64 → AreMembers (members_view vs)
+    → IsItem (view value)
+map_in_range value v vs e same small h =
+    subst IsItem (sym (ap view e ∙ view-Map v))
+    (subst (λ ws. IsItem (Rattle.cbor4ii_tree.specs.Item.mapping (members_view ws))) same
+    (omega (arith, member_count-members_view vs), h))
 
-pub text_in_range : (value : Value) (s : String Global) → value ≡ Text s → length (string_bytes s) < 2 ^ 64 → IsItem (view value)
-text_in_range value s e small = subst IsItem (sym (ap view e ∙ view-Text s)) (small, IsUtf8-string_bytes s)
+pub text_in_range : (value : Value) (s : String Global) → value ≡ Text s
+    → length (string_bytes s) < 2 ^ 64 → IsItem (view value)
+text_in_range value s e small =
+    subst IsItem (sym (ap view e ∙ view-Text s)) (small, IsUtf8-string_bytes s)

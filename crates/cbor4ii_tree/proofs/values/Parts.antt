@@ -9,7 +9,11 @@ use Rattle.cbor4ii_tree.specs.StopsReading.{Readable}
 use Rattle.cbor4ii_tree.specs.View.{items_view, members_view}
 
 abbrev pub ReadEach : List Value → Budget → List ℕ → List ℕ → Type 0
-ReadEach vs budget xs ys = (ts : Trees) × Each (Readable budget) ts × (values ts ≡ items_view vs) × (xs ≡ bytes_all ts ++ ys)
+ReadEach vs budget xs ys =
+    (ts : Trees) × Each (Readable budget) ts × (values ts ≡ items_view vs)
+    × (xs ≡ bytes_all ts ++ ys)
 
 abbrev pub ReadPairs : List (Value × Value) → Budget → List ℕ → List ℕ → Type 0
-ReadPairs ms budget xs ys = (ps : Pairs) × EachPair (Readable budget) ps × (member_values ps ≡ members_view ms) × (xs ≡ bytes_pairs ps ++ ys)
+ReadPairs ms budget xs ys =
+    (ps : Pairs) × EachPair (Readable budget) ps × (member_values ps ≡ members_view ms)
+    × (xs ≡ bytes_pairs ps ++ ys)

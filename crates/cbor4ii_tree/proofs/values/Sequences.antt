@@ -1,5 +1,7 @@
 -- Arrays and maps of values.
-use Rattle.std.proofs.Common.{◌≡◌, ◌≢◌, ℕ, ◌+◌, ◌*◌, ◌/◌, ◌%◌, ◌<◌, List, [], ◌∷◌, ◌++◌, drop, take, Option, Some, None, Result, Ok, Err, true, refl, sym, ap, ap₂, ◌∙◌, subst, arith, append_assoc, inl, inr, Vec, Global}
+use Rattle.std.proofs.Common.{◌≡◌, ◌≢◌, ℕ, ◌+◌, ◌*◌, ◌/◌, ◌%◌, ◌<◌, List, [], ◌∷◌, ◌++◌, drop, take}
+use Rattle.std.proofs.Common.{Option, Some, None, Result, Ok, Err, true, refl, sym, ap, ap₂, ◌∙◌}
+use Rattle.std.proofs.Common.{subst, arith, append_assoc, inl, inr, Vec, Global}
 use Rattle.std.specs.Int.{bytes_high_first}
 use Rattle.cbor4ii_rw.specs.View.{View}
 use Rattle.cbor4ii_rw.specs.Reader.{KeepsAllButBudget, StepsIn, step_back}
@@ -10,106 +12,190 @@ use Rattle.cbor4ii_items.specs.Heads.{StopsHead}
 use Rattle.cbor4ii_items.specs.Lengths.{ReadsLength, StopsLength}
 use Rattle.cbor4ii_items.specs.Moves.{Moves}
 use Rattle.cbor4ii_items.specs.Decoding.{CostFits, Sound, Stops}
-use Rattle.cbor4ii_items.specs.Initial.{Info, wide, open_ended, reserved, info_of, array_by_info, map_by_info, starts_array, starts_open_array, starts_map, starts_open_map}
+use Rattle.cbor4ii_items.specs.Initial.{Info, wide, open_ended, reserved, info_of, array_by_info}
+use Rattle.cbor4ii_items.specs.Initial.{map_by_info, starts_array, starts_open_array, starts_map}
+use Rattle.cbor4ii_items.specs.Initial.{starts_open_map}
 use Rattle.cbor4ii_items.specs.Laws.SequenceParts.{fits_less}
-use Rattle.cbor4ii_tree.specs.Refusal.{eof, mismatch, depth_overflow, Small, array_name, map_name, break_name}
-use Rattle.cbor4ii_tree.specs.Laws.Initials.{initial_array, initial_map, initial_open_array, initial_open_map}
+use Rattle.cbor4ii_tree.specs.Refusal.{eof, mismatch, depth_overflow, Small, array_name, map_name}
+use Rattle.cbor4ii_tree.specs.Refusal.{break_name}
+use Rattle.cbor4ii_tree.specs.Laws.Initials.{initial_array, initial_map, initial_open_array}
+use Rattle.cbor4ii_tree.specs.Laws.Initials.{initial_open_map}
 use Rattle.cbor4ii_tree.specs.Laws.Wholes.{all_readable, all_pairs_readable}
 use Rattle.cbor4ii_tree.specs.declared.value.Value.{Value, Array, Map}
-use Rattle.cbor4ii_tree.specs.Tree.{Tree, no_trees, Pairs, no_pairs, pair, array, array_open, map_of, map_open, bytes, bytes_all, bytes_pairs}
+use Rattle.cbor4ii_tree.specs.Tree.{Tree, no_trees, Pairs, no_pairs, pair, array, array_open}
+use Rattle.cbor4ii_tree.specs.Tree.{map_of, map_open, bytes, bytes_all, bytes_pairs}
 use Rattle.cbor4ii_tree.specs.Item.{no_members, member, sequence, mapping}
 use Rattle.cbor4ii_tree.specs.Meaning.{value, member_values}
 use Rattle.cbor4ii_tree.specs.Cost.{Budget, step_in, greatest_cost, greatest_pair_cost}
 use Rattle.cbor4ii_tree.specs.Laws.Binds.{step_up}
-use Rattle.cbor4ii_tree.specs.Stops.{Stopping, Is, AtHead, Stepped, StopsInCount, OpenItems, OpenPairs, NoBreak}
+use Rattle.cbor4ii_tree.specs.Stops.{Stopping, Is, AtHead, StopsAtStep, StopsInCount, OpenItems}
+use Rattle.cbor4ii_tree.specs.Stops.{OpenPairs, NoBreak}
 use Rattle.cbor4ii_tree.specs.StopsReading.{Readable, ReadingStopsBy, StopsReading}
 use Rattle.cbor4ii_tree.specs.View.{view, items_view, members_view}
 use Rattle.cbor4ii_tree.specs.Does.{Accepting, Does}
-use Rattle.cbor4ii_tree.specs.Valuing.{ReadsOne, StopsOne, ReadsUnder, StopsUnder, ReadsItems, StopsItems, ReadsOpen, StopsOpen, ReadsMembers, ReadsOpenMembers, StopsOpenMembers, ReadsMember, StopsMember, StopsMembers, ReadsArray, ReadsMap, StopsMajor, StopsOf, ReadsStepped}
-use Rattle.cbor4ii_tree.proofs.skip_calls.Doing.{Reached, reached_start, reached_by, reached_then, does_err, does_after, does_stops, does_stepped, reached_sound, steps_in}
+use Rattle.cbor4ii_tree.specs.Valuing.{ReadsOneValue, StopsOneValue, ReadsUnder, StopsUnder}
+use Rattle.cbor4ii_tree.specs.Valuing.{ReadsItems, StopsItems, ReadsOpenItems, StopsOpenItems}
+use Rattle.cbor4ii_tree.specs.Valuing.{ReadsMembers, ReadsOpenMembers, StopsOpenMembers}
+use Rattle.cbor4ii_tree.specs.Valuing.{ReadsMember, StopsMember, StopsMembers, ReadsArrayInside}
+use Rattle.cbor4ii_tree.specs.Valuing.{ReadsMapInside, StopsMajor, StopsOf, ReadsStepped}
+use Rattle.cbor4ii_tree.proofs.skip_calls.Doing.{Reached, reached_start, reached_by, reached_then}
+use Rattle.cbor4ii_tree.proofs.skip_calls.Doing.{does_err, does_after, does_stops, does_stepped}
+use Rattle.cbor4ii_tree.proofs.skip_calls.Doing.{reached_sound, steps_in}
 use Rattle.cbor4ii_tree.proofs.values.Views.{view-Map}
 use Rattle.cbor4ii_tree.proofs.values.Parts.{ReadEach, ReadPairs}
 use Rattle.cbor4ii_tree.proofs.values.Calls.{head_cut, no_head, initial_of, values-push, open_byte}
-use Rattle.cbor4ii_tree.proofs.parts.Pushed.{push, count-push, each-push, bytes-push, push_pair, count-push_pair, each-push_pair, bytes-push_pair, flat, count-flat, each-flat, bytes-flat}
+use Rattle.cbor4ii_tree.proofs.parts.Pushed.{push, count-push, each-push, bytes-push, push_pair}
+use Rattle.cbor4ii_tree.proofs.parts.Pushed.{count-push_pair, each-push_pair, bytes-push_pair, flat}
+use Rattle.cbor4ii_tree.proofs.parts.Pushed.{count-flat, each-flat, bytes-flat}
 use Rattle.cbor4ii_tree.proofs.values.Heads.{at_row, first_is, HeadAt, head_at}
 use Rattle.cbor4ii_tree.proofs.values.Encoding.{view-Array}
 
 -- ---- steps
 
-pub step_taken : (name here : List ℕ) (S : Budget → Refusal → List ℕ → Type 0) (outer inner : Budget) (e : Refusal) (rest : List ℕ) → step_in outer ≡ Some inner → S inner e rest → Stepped name (step_in outer) here S e rest
-step_taken name here S outer inner e rest step x = subst (λ o. Stepped name o here S e rest) (sym step) x
+pub step_taken : (name here : List ℕ) (S : Budget → Refusal → List ℕ → Type 0)
+    (outer inner : Budget) (e : Refusal) (rest : List ℕ) → step_in outer ≡ Some inner
+    → S inner e rest → StopsAtStep name (step_in outer) here S e rest
+step_taken name here S outer inner e rest step x =
+    subst (λ o. StopsAtStep name o here S e rest) (sym step) x
 
-no_step_left : (name here : List ℕ) (S : Budget → Refusal → List ℕ → Type 0) (outer : Budget) → outer ≡ Some 0 → Stepped name (step_in outer) here S (depth_overflow name) here
-no_step_left name here S outer none = subst (λ o. Stepped name (step_in o) here S (depth_overflow name) here) (sym none) (refl, refl)
+no_step_left : (name here : List ℕ) (S : Budget → Refusal → List ℕ → Type 0) (outer : Budget)
+    → outer ≡ Some 0 → StopsAtStep name (step_in outer) here S (depth_overflow name) here
+no_step_left name here S outer none =
+    subst (λ o. StopsAtStep name (step_in o) here S (depth_overflow name) here) (sym none)
+    (refl, refl)
 
-pub major_stepped : {V : Type 0} (reads : Budget → Accepting V) (major : ℕ) {E : Type 0} {r : Result V (DecodeError E)} {a b c d : View} → StepsIn a.budget b.budget true → KeepsAllButBudget a b → Does (reads b.budget) (StopsMajor major b.budget) b c r → d.budget ≡ step_back c.budget → KeepsAllButBudget c d
+pub major_stepped : {V : Type 0} (reads : Budget → Accepting V) (major : ℕ) {E : Type 0}
+    {r : Result V (DecodeError E)} {a b c d : View} → StepsIn a.budget b.budget true
+    → KeepsAllButBudget a b → Does (reads b.budget) (StopsMajor major b.budget) b c r
+    → d.budget ≡ step_back c.budget → KeepsAllButBudget c d
     → Does (ReadsStepped reads a.budget) (StopsOf major a.budget) a d r
 major_stepped reads major {a = a} {b = b} takes inward w gives outward =
     let step = steps_in a.budget b.budget takes in
-    does_stepped (reads b.budget) (ReadsStepped reads a.budget) (StopsMajor major b.budget) (StopsOf major a.budget) (λ xs ys v h. (b.budget, step, h)) (λ xs e rest h first bs is m. h first bs is m a.budget step) takes inward w gives outward
+    does_stepped (reads b.budget) (ReadsStepped reads a.budget) (StopsMajor major b.budget)
+    (StopsOf major a.budget) (λ xs ys v h. (b.budget, step, h))
+    (λ xs e rest h first bs is m. h first bs is m a.budget step) takes inward w gives outward
 
-array_deep : (outer : Budget) (b : ℕ) (bs : List ℕ) → outer ≡ Some 0 → b / 32 ≡ 4 → StopsUnder outer (b ∷ bs) (depth_overflow array_name) (b ∷ bs)
-array_deep outer b bs none m = at_row outer (array_by_info (info_of (b % 32))) b bs _ _ (initial_of b 4 m) (by_info (info_of (b % 32)))
+array_deep : (outer : Budget) (b : ℕ) (bs : List ℕ) → outer ≡ Some 0 → b / 32 ≡ 4
+    → StopsUnder outer (b ∷ bs) (depth_overflow array_name) (b ∷ bs)
+array_deep outer b bs none m =
+    at_row outer (array_by_info (info_of (b % 32))) b bs _ _ (initial_of b 4 m)
+    (by_info (info_of (b % 32)))
   where
-    by_info : (i : Info) → ReadingStopsBy (λ left part. StopsReading part left) outer (array_by_info i) b bs (depth_overflow array_name) (b ∷ bs)
-    by_info (wide w) = no_step_left array_name (b ∷ bs) (λ inner. AtHead array_name 4 w b (StopsInCount (Readable inner) (λ part. StopsReading part inner)) bs) outer none
-    by_info open_ended = no_step_left array_name (b ∷ bs) (λ inner. OpenItems (Readable inner) (λ part. StopsReading part inner) bs) outer none
-    by_info reserved = no_step_left array_name (b ∷ bs) (λ inner. Is (mismatch array_name b) bs) outer none
+    by_info : (i : Info) → ReadingStopsBy (λ left part. StopsReading part left) outer
+        (array_by_info i) b bs (depth_overflow array_name) (b ∷ bs)
+    by_info (wide w) =
+        no_step_left array_name (b ∷ bs) (λ inner. AtHead array_name 4 w b
+        (StopsInCount (Readable inner) (λ part. StopsReading part inner)) bs) outer none
+    by_info open_ended =
+        no_step_left array_name (b ∷ bs)
+        (λ inner. OpenItems (Readable inner) (λ part. StopsReading part inner) bs) outer none
+    by_info reserved =
+        no_step_left array_name (b ∷ bs) (λ inner. Is (mismatch array_name b) bs) outer none
 
-map_deep : (outer : Budget) (b : ℕ) (bs : List ℕ) → outer ≡ Some 0 → b / 32 ≡ 5 → StopsUnder outer (b ∷ bs) (depth_overflow map_name) (b ∷ bs)
-map_deep outer b bs none m = at_row outer (map_by_info (info_of (b % 32))) b bs _ _ (initial_of b 5 m) (by_info (info_of (b % 32)))
+map_deep : (outer : Budget) (b : ℕ) (bs : List ℕ) → outer ≡ Some 0 → b / 32 ≡ 5
+    → StopsUnder outer (b ∷ bs) (depth_overflow map_name) (b ∷ bs)
+map_deep outer b bs none m =
+    at_row outer (map_by_info (info_of (b % 32))) b bs _ _ (initial_of b 5 m)
+    (by_info (info_of (b % 32)))
   where
-    by_info : (i : Info) → ReadingStopsBy (λ left part. StopsReading part left) outer (map_by_info i) b bs (depth_overflow map_name) (b ∷ bs)
-    by_info (wide w) = no_step_left map_name (b ∷ bs) (λ inner. AtHead map_name 5 w b (λ n. StopsInCount (Readable inner) (λ part. StopsReading part inner) (2 * n)) bs) outer none
-    by_info open_ended = no_step_left map_name (b ∷ bs) (λ inner. OpenPairs (Readable inner) (λ part. StopsReading part inner) bs) outer none
-    by_info reserved = no_step_left map_name (b ∷ bs) (λ inner. Is (mismatch map_name b) bs) outer none
+    by_info : (i : Info) → ReadingStopsBy (λ left part. StopsReading part left) outer
+        (map_by_info i) b bs (depth_overflow map_name) (b ∷ bs)
+    by_info (wide w) =
+        no_step_left map_name (b ∷ bs)
+        (λ inner. AtHead map_name 5 w b (λ n. StopsInCount (Readable inner)
+        (λ part. StopsReading part inner) (2 * n)) bs) outer none
+    by_info open_ended =
+        no_step_left map_name (b ∷ bs)
+        (λ inner. OpenPairs (Readable inner) (λ part. StopsReading part inner) bs) outer none
+    by_info reserved =
+        no_step_left map_name (b ∷ bs) (λ inner. Is (mismatch map_name b) bs) outer none
 
-pub array_no_step : (budget : Budget) → budget ≡ Some 0 → (xs : List ℕ) → StopsOf 4 budget xs (depth_overflow array_name) xs
-array_no_step budget none xs b bs is m = subst (λ x. StopsUnder budget x (depth_overflow array_name) x) (sym is) (array_deep budget b bs none m)
+pub array_no_step : (budget : Budget) → budget ≡ Some 0 → (xs : List ℕ)
+    → StopsOf 4 budget xs (depth_overflow array_name) xs
+array_no_step budget none xs b bs is m =
+    subst (λ x. StopsUnder budget x (depth_overflow array_name) x) (sym is)
+    (array_deep budget b bs none m)
 
-pub map_no_step : (budget : Budget) → budget ≡ Some 0 → (xs : List ℕ) → StopsOf 5 budget xs (depth_overflow map_name) xs
-map_no_step budget none xs b bs is m = subst (λ x. StopsUnder budget x (depth_overflow map_name) x) (sym is) (map_deep budget b bs none m)
+pub map_no_step : (budget : Budget) → budget ≡ Some 0 → (xs : List ℕ)
+    → StopsOf 5 budget xs (depth_overflow map_name) xs
+map_no_step budget none xs b bs is m =
+    subst (λ x. StopsUnder budget x (depth_overflow map_name) x) (sym is)
+    (map_deep budget b bs none m)
 
 -- ---- heads
 
-array_head_stops : (inner outer : Budget) (b : ℕ) (bs : List ℕ) (e : Refusal) (rest : List ℕ) → step_in outer ≡ Some inner → b / 32 ≡ 4 → (take 1 (b ∷ bs) ≡ open_head 4 ∷ [] → ⊥) → StopsHead array_name 4 8 (b ∷ bs) e rest → StopsUnder outer (b ∷ bs) e rest
-array_head_stops inner outer b bs e rest step m closed h = at_row outer (array_by_info (info_of (b % 32))) b bs e rest (initial_of b 4 m) (by_info (info_of (b % 32)) refl)
+array_head_stops : (inner outer : Budget) (b : ℕ) (bs : List ℕ) (e : Refusal) (rest : List ℕ)
+    → step_in outer ≡ Some inner → b / 32 ≡ 4 → (take 1 (b ∷ bs) ≡ open_head 4 ∷ [] → ⊥)
+    → StopsHead array_name 4 8 (b ∷ bs) e rest → StopsUnder outer (b ∷ bs) e rest
+array_head_stops inner outer b bs e rest step m closed h =
+    at_row outer (array_by_info (info_of (b % 32))) b bs e rest (initial_of b 4 m)
+    (by_info (info_of (b % 32)) refl)
   where
-    by_info : (i : Info) → info_of (b % 32) ≡ i → ReadingStopsBy (λ left part. StopsReading part left) outer (array_by_info i) b bs e rest
-    by_info (wide w) is = step_taken array_name (b ∷ bs) (λ inner. AtHead array_name 4 w b (StopsInCount (Readable inner) (λ part. StopsReading part inner)) bs) outer inner e rest step (inl (head_cut array_name 4 b bs w e rest m is h))
+    by_info : (i : Info) → info_of (b % 32) ≡ i
+        → ReadingStopsBy (λ left part. StopsReading part left) outer (array_by_info i) b bs e rest
+    by_info (wide w) is =
+        step_taken array_name (b ∷ bs) (λ inner. AtHead array_name 4 w b
+        (StopsInCount (Readable inner) (λ part. StopsReading part inner)) bs) outer inner e
+        rest step (inl (head_cut array_name 4 b bs w e rest m is h))
     by_info open_ended is = absurd (closed (ap (λ c. c ∷ []) (open_byte 4 b m is)))
-    by_info reserved is = step_taken array_name (b ∷ bs) (λ inner. Is (mismatch array_name b) bs) outer inner e rest step (no_head array_name 4 b bs e rest (λ w f. cc) h)
+    by_info reserved is =
+        step_taken array_name (b ∷ bs) (λ inner. Is (mismatch array_name b) bs) outer inner e rest
+        step (no_head array_name 4 b bs e rest (λ w f. cc) h)
 
-map_head_stops : (inner outer : Budget) (b : ℕ) (bs : List ℕ) (e : Refusal) (rest : List ℕ) → step_in outer ≡ Some inner → b / 32 ≡ 5 → (take 1 (b ∷ bs) ≡ open_head 5 ∷ [] → ⊥) → StopsHead map_name 5 8 (b ∷ bs) e rest → StopsUnder outer (b ∷ bs) e rest
-map_head_stops inner outer b bs e rest step m closed h = at_row outer (map_by_info (info_of (b % 32))) b bs e rest (initial_of b 5 m) (by_info (info_of (b % 32)) refl)
+map_head_stops : (inner outer : Budget) (b : ℕ) (bs : List ℕ) (e : Refusal) (rest : List ℕ)
+    → step_in outer ≡ Some inner → b / 32 ≡ 5 → (take 1 (b ∷ bs) ≡ open_head 5 ∷ [] → ⊥)
+    → StopsHead map_name 5 8 (b ∷ bs) e rest → StopsUnder outer (b ∷ bs) e rest
+map_head_stops inner outer b bs e rest step m closed h =
+    at_row outer (map_by_info (info_of (b % 32))) b bs e rest (initial_of b 5 m)
+    (by_info (info_of (b % 32)) refl)
   where
-    by_info : (i : Info) → info_of (b % 32) ≡ i → ReadingStopsBy (λ left part. StopsReading part left) outer (map_by_info i) b bs e rest
-    by_info (wide w) is = step_taken map_name (b ∷ bs) (λ inner. AtHead map_name 5 w b (λ n. StopsInCount (Readable inner) (λ part. StopsReading part inner) (2 * n)) bs) outer inner e rest step (inl (head_cut map_name 5 b bs w e rest m is h))
+    by_info : (i : Info) → info_of (b % 32) ≡ i
+        → ReadingStopsBy (λ left part. StopsReading part left) outer (map_by_info i) b bs e rest
+    by_info (wide w) is =
+        step_taken map_name (b ∷ bs) (λ inner. AtHead map_name 5 w b
+        (λ n. StopsInCount (Readable inner) (λ part. StopsReading part inner) (2 * n)) bs)
+        outer inner e rest step (inl (head_cut map_name 5 b bs w e rest m is h))
     by_info open_ended is = absurd (closed (ap (λ c. c ∷ []) (open_byte 5 b m is)))
-    by_info reserved is = step_taken map_name (b ∷ bs) (λ inner. Is (mismatch map_name b) bs) outer inner e rest step (no_head map_name 5 b bs e rest (λ w f. cc) h)
+    by_info reserved is =
+        step_taken map_name (b ∷ bs) (λ inner. Is (mismatch map_name b) bs) outer inner e rest step
+        (no_head map_name 5 b bs e rest (λ w f. cc) h)
 
-pub array_length_stops : (inner : Budget) (xs : List ℕ) (budget : Budget) (e : Refusal) (rest : List ℕ) → StopsLength array_name 4 xs budget e rest → StopsMajor 4 inner xs e rest
+pub array_length_stops : (inner : Budget) (xs : List ℕ) (budget : Budget) (e : Refusal)
+    (rest : List ℕ) → StopsLength array_name 4 xs budget e rest → StopsMajor 4 inner xs e rest
 array_length_stops inner xs budget e rest h b bs is m outer step =
     let k = subst (λ x. StopsLength array_name 4 x budget e rest) is h in
-    subst (λ x. StopsUnder outer x e rest) (sym is) (array_head_stops inner outer b bs e rest step m k.0 k.1)
+    subst (λ x. StopsUnder outer x e rest) (sym is)
+    (array_head_stops inner outer b bs e rest step m k.0 k.1)
 
-pub map_length_stops : (inner : Budget) (xs : List ℕ) (budget : Budget) (e : Refusal) (rest : List ℕ) → StopsLength map_name 5 xs budget e rest → StopsMajor 5 inner xs e rest
+pub map_length_stops : (inner : Budget) (xs : List ℕ) (budget : Budget) (e : Refusal)
+    (rest : List ℕ) → StopsLength map_name 5 xs budget e rest → StopsMajor 5 inner xs e rest
 map_length_stops inner xs budget e rest h b bs is m outer step =
     let k = subst (λ x. StopsLength map_name 5 x budget e rest) is h in
-    subst (λ x. StopsUnder outer x e rest) (sym is) (map_head_stops inner outer b bs e rest step m k.0 k.1)
+    subst (λ x. StopsUnder outer x e rest) (sym is)
+    (map_head_stops inner outer b bs e rest step m k.0 k.1)
 
-pub length_refused : {U V E : Type 0} (name : List ℕ) (major : ℕ) (A : Accepting V) (T : Stopping) {a c : View} {e : DecodeError E} → ((xs : List ℕ) (z : Refusal) (rest : List ℕ) → StopsLength name major xs a.budget z rest → T xs z rest) → Moves {V = U} a c (Err e) → Stops (StopsLength name major) a c e → Does {V = V} A T a c (Err e)
+pub length_refused : {U V E : Type 0} (name : List ℕ) (major : ℕ) (A : Accepting V) (T : Stopping)
+    {a c : View} {e : DecodeError E} → ((xs : List ℕ) (z : Refusal) (rest : List ℕ)
+    → StopsLength name major xs a.budget z rest → T xs z rest) → Moves {V = U} a c (Err e)
+    → Stops (StopsLength name major) a c e → Does {V = V} A T a c (Err e)
 length_refused {U = U} name major A T {a = a} f moves s =
-    does_err (λ xs ys. xs ≡ ys) (λ xs (v : U) ys. Unit {0}) A (λ xs. StopsLength name major xs a.budget) T (λ xs ys z rest e h. subst (λ x. T x z rest) (sym e) (f ys z rest h)) (reached_start (λ xs ys. xs ≡ ys) a (λ xs. refl)) (does_stops (λ xs (v : U) ys. Unit {0}) (StopsLength name major) moves s)
+    does_err (λ xs ys. xs ≡ ys)
+    (λ xs (v : U) ys. Unit {0}) A (λ xs. StopsLength name major xs a.budget) T
+    (λ xs ys z rest e h. subst (λ x. T x z rest) (sym e) (f ys z rest h))
+    (reached_start (λ xs ys. xs ≡ ys) a (λ xs. refl))
+    (does_stops (λ xs (v : U) ys. Unit {0}) (StopsLength name major) moves s)
 
-pub reached_length : {E : Type 0} (major n : ℕ) {o : Option ℕ} {a m : View} → o ≡ Some n → Moves {E = E} a m (Ok o) → Sound (ReadsLength major) a m o → Reached (HeadAt major n) a m
+pub reached_length : {E : Type 0} (major n : ℕ) {o : Option ℕ} {a m : View} → o ≡ Some n
+    → Moves {E = E} a m (Ok o) → Sound (ReadsLength major) a m o → Reached (HeadAt major n) a m
 reached_length major n is moves s =
-    reached_sound (ReadsLength major) (HeadAt major n) (λ xs k c _ r. head_at major n xs k (subst (λ z. ReadsLength major xs z k c) is r).0) moves s
+    reached_sound (ReadsLength major) (HeadAt major n) (λ xs k c _ r.
+    head_at major n xs k (subst (λ z. ReadsLength major xs z k c) is r).0) moves s
 
 abbrev pub OpenAt : ℕ → List ℕ → List ℕ → Type 0
 OpenAt major xs ys = xs ≡ open_head major ∷ ys
 
-pub reached_open : {E : Type 0} (major : ℕ) {o : Option ℕ} {a m : View} → o ≡ None → Moves {E = E} a m (Ok o) → Sound (ReadsLength major) a m o → Reached (OpenAt major) a m
+pub reached_open : {E : Type 0} (major : ℕ) {o : Option ℕ} {a m : View} → o ≡ None
+    → Moves {E = E} a m (Ok o) → Sound (ReadsLength major) a m o → Reached (OpenAt major) a m
 reached_open major is moves s =
     reached_sound (ReadsLength major) (OpenAt major) (λ xs k c _ r.
     let h = subst (λ z. ReadsLength major xs z k c) is r in
@@ -117,36 +203,67 @@ reached_open major is moves s =
 
 -- ---- arrays
 
-pub array_counted : {E : Type 0} (n : ℕ) {r : Result (Vec Value Global) (DecodeError E)} {a m b : View} → Reached (HeadAt 4 n) a m → Does (λ xs v ys. ReadsItems n m.budget xs v.items ys) (StopsItems n m.budget) m b r
-    → Does (λ xs v ys. ReadsArray a.budget xs v.items ys) (StopsMajor 4 a.budget) a b r
+pub array_counted : {E : Type 0} (n : ℕ) {r : Result (Vec Value Global) (DecodeError E)}
+    {a m b : View} → Reached (HeadAt 4 n) a m
+    → Does (λ xs v ys. ReadsItems n m.budget xs v.items ys) (StopsItems n m.budget) m b r
+    → Does (λ xs v ys. ReadsArrayInside a.budget xs v.items ys) (StopsMajor 4 a.budget) a b r
 array_counted n {a = a} {m = m} p d =
-    does_after (HeadAt 4 n) (λ xs v ys. ReadsItems n m.budget xs v.items ys) (λ xs v ys. ReadsArray a.budget xs v.items ys) (StopsItems n m.budget) (StopsMajor 4 a.budget)
-    (λ xs ys zs v h s. inl (h.0, n, ys, h.1, h.2, subst (λ o. ReadsItems n o ys v.items zs) p.kept.budget s))
+    does_after (HeadAt 4 n) (λ xs v ys. ReadsItems n m.budget xs v.items ys)
+    (λ xs v ys. ReadsArrayInside a.budget xs v.items ys) (StopsItems n m.budget)
+    (StopsMajor 4 a.budget)
+    (λ xs ys zs v h s.
+    inl (h.0, n, ys, h.1, h.2, subst (λ o. ReadsItems n o ys v.items zs) p.kept.budget s))
     (λ xs ys e rest h s b bs is major outer step. subst (λ x. StopsUnder outer x e rest) (sym h.2)
-    (at_row outer (starts_array h.0) (32 * 4 + additional h.0 n) (bytes_high_first (byte_count h.0) n ++ ys) e rest (initial_array n h.0 h.1)
-    (step_taken array_name (head 4 n h.0 ++ ys) (λ inner. AtHead array_name 4 h.0 (32 * 4 + additional h.0 n) (StopsInCount (Readable inner) (λ part. StopsReading part inner)) (bytes_high_first (byte_count h.0) n ++ ys)) outer a.budget e rest step
-    (inr (record { argument = n; after = ys; fits = h.1; is = refl; stopped = subst (λ o. StopsItems n o ys e rest) p.kept.budget s }))))) p d
+    (at_row outer (starts_array h.0) (32 * 4 + additional h.0 n)
+    (bytes_high_first (byte_count h.0) n ++ ys) e rest (initial_array n h.0 h.1)
+    (step_taken array_name (head 4 n h.0 ++ ys)
+    (λ inner. AtHead array_name 4 h.0 (32 * 4 + additional h.0 n)
+    (StopsInCount (Readable inner) (λ part. StopsReading part inner))
+    (bytes_high_first (byte_count h.0) n ++ ys)) outer a.budget e rest step
+    (inr (record {
+      argument = n;
+      after = ys;
+      fits = h.1;
+      is = refl;
+      stopped = subst (λ o. StopsItems n o ys e rest) p.kept.budget s;
+    }))))) p d
 
-pub array_opened : {E : Type 0} {r : Result (Vec Value Global) (DecodeError E)} {a m b : View} → Reached (OpenAt 4) a m → Does (λ xs v ys. ReadsOpen m.budget xs v.items ys) (StopsOpen m.budget) m b r
-    → Does (λ xs v ys. ReadsArray a.budget xs v.items ys) (StopsMajor 4 a.budget) a b r
+pub array_opened : {E : Type 0} {r : Result (Vec Value Global) (DecodeError E)} {a m b : View}
+    → Reached (OpenAt 4) a m
+    → Does (λ xs v ys. ReadsOpenItems m.budget xs v.items ys) (StopsOpenItems m.budget) m b r
+    → Does (λ xs v ys. ReadsArrayInside a.budget xs v.items ys) (StopsMajor 4 a.budget) a b r
 array_opened {a = a} {m = m} p d =
-    does_after (OpenAt 4) (λ xs v ys. ReadsOpen m.budget xs v.items ys) (λ xs v ys. ReadsArray a.budget xs v.items ys) (StopsOpen m.budget) (StopsMajor 4 a.budget)
-    (λ xs ys zs v h s. inr (ys, h, subst (λ o. ReadsOpen o ys v.items zs) p.kept.budget s))
+    does_after (OpenAt 4) (λ xs v ys. ReadsOpenItems m.budget xs v.items ys)
+    (λ xs v ys. ReadsArrayInside a.budget xs v.items ys) (StopsOpenItems m.budget)
+    (StopsMajor 4 a.budget)
+    (λ xs ys zs v h s. inr (ys, h, subst (λ o. ReadsOpenItems o ys v.items zs) p.kept.budget s))
     (λ xs ys e rest h s b bs is major outer step. subst (λ x. StopsUnder outer x e rest) (sym h)
     (at_row outer starts_open_array (open_head 4) ys e rest initial_open_array
-    (step_taken array_name (open_head 4 ∷ ys) (λ inner. OpenItems (Readable inner) (λ part. StopsReading part inner) ys) outer a.budget e rest step (subst (λ o. StopsOpen o ys e rest) p.kept.budget s)))) p d
+    (step_taken array_name (open_head 4 ∷ ys)
+    (λ inner. OpenItems (Readable inner) (λ part. StopsReading part inner) ys) outer
+    a.budget e rest step (subst (λ o. StopsOpenItems o ys e rest) p.kept.budget s)))) p d
 
-two_steps : (c : ℕ) (budget inner deep : Budget) → step_in budget ≡ Some inner → step_in inner ≡ Some deep → CostFits c deep → CostFits (2 + c) budget
-two_steps c budget inner deep s t f = fits_less (2 + c) (1 + (1 + c)) budget (omega arith) (step_up budget inner (1 + c) s (step_up inner deep c t f))
+two_steps : (c : ℕ) (budget inner deep : Budget) → step_in budget ≡ Some inner
+    → step_in inner ≡ Some deep → CostFits c deep → CostFits (2 + c) budget
+two_steps c budget inner deep s t f =
+    fits_less (2 + c) (1 + (1 + c)) budget (omega arith)
+    (step_up budget inner (1 + c) s (step_up inner deep c t f))
 
-array_tree : (budget inner deep : Budget) (vs : List Value) (xs ys : List ℕ) → step_in budget ≡ Some inner → step_in inner ≡ Some deep → ReadsArray deep xs vs ys → (t : Tree) × Readable budget t × (value t ≡ sequence (items_view vs)) × (xs ≡ bytes t ++ ys)
+array_tree : (budget inner deep : Budget) (vs : List Value) (xs ys : List ℕ)
+    → step_in budget ≡ Some inner → step_in inner ≡ Some deep → ReadsArrayInside deep xs vs ys
+    → (t : Tree) × Readable budget t × (value t ≡ sequence (items_view vs)) × (xs ≡ bytes t ++ ys)
 array_tree budget inner deep vs xs ys s t (inl q) =
     let i = q.5 in
     let all = all_readable i.0 deep i.2 in (
       array q.0 i.0,
-      (((subst (HeadFits q.0) (sym i.1) q.3, all.0.0), all.0.1), two_steps (greatest_cost i.0) budget inner deep s t all.1),
+      (
+        ((subst (HeadFits q.0) (sym i.1) q.3, all.0.0), all.0.1),
+        two_steps (greatest_cost i.0) budget inner deep s t all.1,
+      ),
       ap sequence i.3,
-      q.4 ∙ ap (λ r. head 4 q.1 q.0 ++ r) i.4 ∙ sym (append_assoc (head 4 q.1 q.0) (bytes_all i.0) ys) ∙ ap (λ j. (head 4 j q.0 ++ bytes_all i.0) ++ ys) (sym i.1),
+      q.4 ∙ ap (λ r. head 4 q.1 q.0 ++ r) i.4
+          ∙ sym (append_assoc (head 4 q.1 q.0) (bytes_all i.0) ys)
+          ∙ ap (λ j. (head 4 j q.0 ++ bytes_all i.0) ++ ys) (sym i.1),
     )
 array_tree budget inner deep vs xs ys s t (inr q) =
     let i = q.2 in
@@ -157,36 +274,65 @@ array_tree budget inner deep vs xs ys s t (inr q) =
       q.1 ∙ ap (λ r. open_head 4 ∷ r) (i.3 ∙ sym (append_assoc (bytes_all i.0) (break ∷ []) ys)),
     )
 
-pub array_reads : (inner : Budget) (v : Vec Value Global) (xs ys : List ℕ) → ReadsStepped (λ o xs (v : Vec Value Global) ys. ReadsArray o xs v.items ys) inner xs v ys → ReadsUnder inner xs (Array v) ys
+pub array_reads : (inner : Budget) (v : Vec Value Global) (xs ys : List ℕ) → ReadsStepped
+    (λ o xs (v : Vec Value Global) ys. ReadsArrayInside o xs v.items ys) inner xs v ys
+    → ReadsUnder inner xs (Array v) ys
 array_reads inner v xs ys h budget step =
     let t = array_tree budget inner h.0 v.items xs ys step h.1 h.2 in
     (t.0, t.1, t.2 ∙ sym (view-Array v), t.3)
 
 -- ---- values one behind another, up to a break
 
-pub each_none : (budget : Budget) (vs : List Value) (xs : List ℕ) → vs ≡ [] → ReadEach vs budget xs xs
+pub each_none : (budget : Budget) (vs : List Value) (xs : List ℕ) → vs ≡ []
+    → ReadEach vs budget xs xs
 each_none budget vs xs e = (no_trees, tt, sym (ap items_view e), refl)
 
-pub each_more : (budget : Budget) (vs ws : List Value) (v : Value) (xs ys zs : List ℕ) → ws ≡ vs ++ v ∷ [] → ReadEach vs budget xs ys → ReadsOne budget ys v zs → ReadEach ws budget xs zs
-each_more budget vs ws v xs ys zs is h k =
-    (push h.0 k.0, each-push (Readable budget) h.0 k.0 h.1 k.1, values-push h.0 k.0 vs v h.2 k.2 ∙ sym (ap items_view is), h.3 ∙ ap (λ r. bytes_all h.0 ++ r) k.3 ∙ sym (bytes-push h.0 k.0 zs))
+pub each_more : (budget : Budget) (vs ws : List Value) (v : Value) (xs ys zs : List ℕ)
+    → ws ≡ vs ++ v ∷ [] → ReadEach vs budget xs ys → ReadsOneValue budget ys v zs
+    → ReadEach ws budget xs zs
+each_more budget vs ws v xs ys zs is h k = (
+  push h.0 k.0,
+  each-push (Readable budget) h.0 k.0 h.1 k.1,
+  values-push h.0 k.0 vs v h.2 k.2 ∙ sym (ap items_view is),
+  h.3 ∙ ap (λ r. bytes_all h.0 ++ r) k.3 ∙ sym (bytes-push h.0 k.0 zs),
+)
 
-pub open_end : (budget : Budget) (vs : List Value) (xs ys : List ℕ) → ReadEach vs budget xs ys → ys ≡ [] → StopsOpen budget xs (eof break_name (Small 1)) []
-open_end budget vs xs ys h e = record { front = h.0; after = []; whole = h.1; is = h.3 ∙ ap (λ r. bytes_all h.0 ++ r) e; stopped = (refl, refl) }
+pub open_end : (budget : Budget) (vs : List Value) (xs ys : List ℕ) → ReadEach vs budget xs ys
+    → ys ≡ [] → StopsOpenItems budget xs (eof break_name (Small 1)) []
+open_end budget vs xs ys h e = record {
+  front = h.0;
+  after = [];
+  whole = h.1;
+  is = h.3 ∙ ap (λ r. bytes_all h.0 ++ r) e;
+  stopped = (refl, refl);
+}
 
-no_break : (budget : Budget) (ys : List ℕ) (e : Refusal) (rest : List ℕ) → ys ≢ [] → ((bs : List ℕ) → ys ≡ break ∷ bs → ⊥) → StopsOne budget ys e rest → NoBreak (StopsOne budget) ys e rest
+no_break : (budget : Budget) (ys : List ℕ) (e : Refusal) (rest : List ℕ) → ys ≢ []
+    → ((bs : List ℕ) → ys ≡ break ∷ bs → ⊥) → StopsOneValue budget ys e rest
+    → NoBreak (StopsOneValue budget) ys e rest
 no_break budget [] e rest some none s = absurd (some refl)
 no_break budget (b ∷ bs) e rest some none s = ((λ f. none bs (ap (λ c. c ∷ bs) f)), s)
 
-pub open_stop : (budget : Budget) (vs : List Value) (xs ys : List ℕ) (e : Refusal) (rest : List ℕ) → ys ≢ [] → ((bs : List ℕ) → ys ≡ break ∷ bs → ⊥) → ReadEach vs budget xs ys → StopsOne budget ys e rest → StopsOpen budget xs e rest
-open_stop budget vs xs ys e rest some none h s = record { front = h.0; after = ys; whole = h.1; is = h.3; stopped = no_break budget ys e rest some none s }
+pub open_stop : (budget : Budget) (vs : List Value) (xs ys : List ℕ) (e : Refusal) (rest : List ℕ)
+    → ys ≢ [] → ((bs : List ℕ) → ys ≡ break ∷ bs → ⊥) → ReadEach vs budget xs ys
+    → StopsOneValue budget ys e rest → StopsOpenItems budget xs e rest
+open_stop budget vs xs ys e rest some none h s = record {
+  front = h.0;
+  after = ys;
+  whole = h.1;
+  is = h.3;
+  stopped = no_break budget ys e rest some none s;
+}
 
-pub open_done : (budget : Budget) (vs : List Value) (xs ys zs : List ℕ) → ReadEach vs budget xs ys → ys ≡ break ∷ zs → ReadsOpen budget xs vs zs
+pub open_done : (budget : Budget) (vs : List Value) (xs ys zs : List ℕ) → ReadEach vs budget xs ys
+    → ys ≡ break ∷ zs → ReadsOpenItems budget xs vs zs
 open_done budget vs xs ys zs h e = (h.0, h.1, h.2, h.3 ∙ ap (λ r. bytes_all h.0 ++ r) e)
 
 -- ---- pairs
 
-pub values-push_pair : (ps : Pairs) (k v : Tree) (ms : List (Value × Value)) (x y : Value) → member_values ps ≡ members_view ms → value k ≡ view x → value v ≡ view y → member_values (push_pair ps k v) ≡ members_view (ms ++ (x, y) ∷ [])
+pub values-push_pair : (ps : Pairs) (k v : Tree) (ms : List (Value × Value)) (x y : Value)
+    → member_values ps ≡ members_view ms → value k ≡ view x → value v ≡ view y
+    → member_values (push_pair ps k v) ≡ members_view (ms ++ (x, y) ∷ [])
 unfolding push_pair
 values-push_pair no_pairs k v [] x y e f g = ap₂ (λ a b. member a b no_members) f g
 values-push_pair no_pairs k v (m ∷ ms) x y e f g = cc
@@ -198,10 +344,13 @@ values-push_pair (pair j u ps) k v (m ∷ ms) x y e f g =
     let more = values-push_pair ps k v ms x y tail f g in
     cc more
 
-pub members_none : (budget : Budget) (ms : List (Value × Value)) (xs : List ℕ) → ms ≡ [] → ReadsMembers 0 budget xs ms xs
+pub members_none : (budget : Budget) (ms : List (Value × Value)) (xs : List ℕ) → ms ≡ []
+    → ReadsMembers 0 budget xs ms xs
 members_none budget ms xs e = (no_pairs, refl, tt, sym (ap members_view e), refl)
 
-pub members_more : (n : ℕ) (budget : Budget) (ms ns : List (Value × Value)) (m : Value × Value) (xs ys zs : List ℕ) → ns ≡ ms ++ m ∷ [] → ReadsMembers n budget xs ms ys → ReadsMember budget ys m zs → ReadsMembers (n + 1) budget xs ns zs
+pub members_more : (n : ℕ) (budget : Budget) (ms ns : List (Value × Value)) (m : Value × Value)
+    (xs ys zs : List ℕ) → ns ≡ ms ++ m ∷ [] → ReadsMembers n budget xs ms ys
+    → ReadsMember budget ys m zs → ReadsMembers (n + 1) budget xs ns zs
 members_more n budget ms ns m xs ys zs is h w =
     let k = w.1 in
     let v = w.2 in (
@@ -209,74 +358,137 @@ members_more n budget ms ns m xs ys zs is h w =
       count-push_pair h.0 k.0 v.0 ∙ ap (λ j. j + 1) h.1,
       each-push_pair (Readable budget) h.0 k.0 v.0 h.2 k.1 v.1,
       values-push_pair h.0 k.0 v.0 ms m.0 m.1 h.3 k.2 v.2 ∙ sym (ap members_view is),
-      h.4 ∙ ap (λ r. bytes_pairs h.0 ++ r) (k.3 ∙ ap (λ r. bytes k.0 ++ r) v.3) ∙ sym (bytes-push_pair h.0 k.0 v.0 zs),
+      h.4 ∙ ap (λ r. bytes_pairs h.0 ++ r) (k.3 ∙ ap (λ r. bytes k.0 ++ r) v.3)
+          ∙ sym (bytes-push_pair h.0 k.0 v.0 zs),
     )
 
-pub member_stop : (i n : ℕ) (budget : Budget) (ms : List (Value × Value)) (xs ys : List ℕ) (e : Refusal) (rest : List ℕ) → i < n → ReadsMembers i budget xs ms ys → StopsMember budget ys e rest → StopsMembers n budget xs e rest
+pub member_stop : (i n : ℕ) (budget : Budget) (ms : List (Value × Value)) (xs ys : List ℕ)
+    (e : Refusal) (rest : List ℕ) → i < n → ReadsMembers i budget xs ms ys
+    → StopsMember budget ys e rest → StopsMembers n budget xs e rest
 member_stop i n budget ms xs ys e rest lt h (inl s) =
-    record { front = flat h.0; after = ys; few = omega (arith, count-flat h.0, h.1, lt); whole = each-flat (Readable budget) h.0 h.2; is = h.4 ∙ ap (λ r. r ++ ys) (sym (bytes-flat h.0)); stopped = s }
+    record {
+      front = flat h.0;
+      after = ys;
+      few = omega (arith, count-flat h.0, h.1, lt);
+      whole = each-flat (Readable budget) h.0 h.2;
+      is = h.4 ∙ ap (λ r. r ++ ys) (sym (bytes-flat h.0));
+      stopped = s;
+    }
 member_stop i n budget ms xs ys e rest lt h (inr k) =
     record {
       front = push (flat h.0) k.key;
       after = k.after;
       few = omega (arith, count-push (flat h.0) k.key, count-flat h.0, h.1, lt);
-      whole = each-push (Readable budget) (flat h.0) k.key (each-flat (Readable budget) h.0 h.2) k.whole;
-      is = h.4 ∙ ap (λ r. r ++ ys) (sym (bytes-flat h.0)) ∙ ap (λ r. bytes_all (flat h.0) ++ r) k.is ∙ sym (bytes-push (flat h.0) k.key k.after);
+      whole =
+          each-push (Readable budget)
+          (flat h.0) k.key (each-flat (Readable budget) h.0 h.2) k.whole;
+      is =
+          h.4 ∙ ap (λ r. r ++ ys) (sym (bytes-flat h.0)) ∙ ap (λ r. bytes_all (flat h.0) ++ r) k.is
+          ∙ sym (bytes-push (flat h.0) k.key k.after);
       stopped = k.stopped;
     }
 
-pub pairs_none : (budget : Budget) (ms : List (Value × Value)) (xs : List ℕ) → ms ≡ [] → ReadPairs ms budget xs xs
+pub pairs_none : (budget : Budget) (ms : List (Value × Value)) (xs : List ℕ) → ms ≡ []
+    → ReadPairs ms budget xs xs
 pairs_none budget ms xs e = (no_pairs, tt, sym (ap members_view e), refl)
 
-pub pairs_more : (budget : Budget) (ms ns : List (Value × Value)) (m : Value × Value) (xs ys zs : List ℕ) → ns ≡ ms ++ m ∷ [] → ReadPairs ms budget xs ys → ReadsMember budget ys m zs → ReadPairs ns budget xs zs
+pub pairs_more : (budget : Budget) (ms ns : List (Value × Value)) (m : Value × Value)
+    (xs ys zs : List ℕ) → ns ≡ ms ++ m ∷ [] → ReadPairs ms budget xs ys → ReadsMember budget ys m zs
+    → ReadPairs ns budget xs zs
 pairs_more budget ms ns m xs ys zs is h w =
     let k = w.1 in
     let v = w.2 in (
       push_pair h.0 k.0 v.0,
       each-push_pair (Readable budget) h.0 k.0 v.0 h.1 k.1 v.1,
       values-push_pair h.0 k.0 v.0 ms m.0 m.1 h.2 k.2 v.2 ∙ sym (ap members_view is),
-      h.3 ∙ ap (λ r. bytes_pairs h.0 ++ r) (k.3 ∙ ap (λ r. bytes k.0 ++ r) v.3) ∙ sym (bytes-push_pair h.0 k.0 v.0 zs),
+      h.3 ∙ ap (λ r. bytes_pairs h.0 ++ r) (k.3 ∙ ap (λ r. bytes k.0 ++ r) v.3)
+          ∙ sym (bytes-push_pair h.0 k.0 v.0 zs),
     )
 
-pub members_end : (budget : Budget) (ms : List (Value × Value)) (xs ys : List ℕ) → ReadPairs ms budget xs ys → ys ≡ [] → StopsOpenMembers budget xs (eof break_name (Small 1)) []
-members_end budget ms xs ys h e = record { front = h.0; after = []; whole = h.1; is = h.3 ∙ ap (λ r. bytes_pairs h.0 ++ r) e; stopped = inl (refl, refl) }
+pub members_end : (budget : Budget) (ms : List (Value × Value)) (xs ys : List ℕ)
+    → ReadPairs ms budget xs ys → ys ≡ [] → StopsOpenMembers budget xs (eof break_name (Small 1)) []
+members_end budget ms xs ys h e = record {
+  front = h.0;
+  after = [];
+  whole = h.1;
+  is = h.3 ∙ ap (λ r. bytes_pairs h.0 ++ r) e;
+  stopped = inl (refl, refl);
+}
 
-pub pair_stop : (budget : Budget) (ms : List (Value × Value)) (xs ys : List ℕ) (e : Refusal) (rest : List ℕ) → ys ≢ [] → ((bs : List ℕ) → ys ≡ break ∷ bs → ⊥) → ReadPairs ms budget xs ys → StopsMember budget ys e rest → StopsOpenMembers budget xs e rest
-pair_stop budget ms xs ys e rest some none h (inl s) = record { front = h.0; after = ys; whole = h.1; is = h.3; stopped = inl (no_break budget ys e rest some none s) }
-pair_stop budget ms xs ys e rest some none h (inr k) = record { front = h.0; after = ys; whole = h.1; is = h.3; stopped = inr k }
+pub pair_stop : (budget : Budget) (ms : List (Value × Value)) (xs ys : List ℕ) (e : Refusal)
+    (rest : List ℕ) → ys ≢ [] → ((bs : List ℕ) → ys ≡ break ∷ bs → ⊥) → ReadPairs ms budget xs ys
+    → StopsMember budget ys e rest → StopsOpenMembers budget xs e rest
+pair_stop budget ms xs ys e rest some none h (inl s) = record {
+  front = h.0;
+  after = ys;
+  whole = h.1;
+  is = h.3;
+  stopped = inl (no_break budget ys e rest some none s);
+}
+pair_stop budget ms xs ys e rest some none h (inr k) =
+    record { front = h.0; after = ys; whole = h.1; is = h.3; stopped = inr k }
 
-pub members_done : (budget : Budget) (ms : List (Value × Value)) (xs ys zs : List ℕ) → ReadPairs ms budget xs ys → ys ≡ break ∷ zs → ReadsOpenMembers budget xs ms zs
+pub members_done : (budget : Budget) (ms : List (Value × Value)) (xs ys zs : List ℕ)
+    → ReadPairs ms budget xs ys → ys ≡ break ∷ zs → ReadsOpenMembers budget xs ms zs
 members_done budget ms xs ys zs h e = (h.0, h.1, h.2, h.3 ∙ ap (λ r. bytes_pairs h.0 ++ r) e)
 
 -- ---- maps
 
-pub map_counted : {E : Type 0} (n : ℕ) {r : Result (Vec (Value × Value) Global) (DecodeError E)} {a m b : View} → Reached (HeadAt 5 n) a m → Does (λ xs v ys. ReadsMembers n m.budget xs v.items ys) (StopsMembers n m.budget) m b r
-    → Does (λ xs v ys. ReadsMap a.budget xs v.items ys) (StopsMajor 5 a.budget) a b r
+pub map_counted : {E : Type 0} (n : ℕ) {r : Result (Vec (Value × Value) Global) (DecodeError E)}
+    {a m b : View} → Reached (HeadAt 5 n) a m
+    → Does (λ xs v ys. ReadsMembers n m.budget xs v.items ys) (StopsMembers n m.budget) m b r
+    → Does (λ xs v ys. ReadsMapInside a.budget xs v.items ys) (StopsMajor 5 a.budget) a b r
 map_counted n {a = a} {m = m} p d =
-    does_after (HeadAt 5 n) (λ xs v ys. ReadsMembers n m.budget xs v.items ys) (λ xs v ys. ReadsMap a.budget xs v.items ys) (StopsMembers n m.budget) (StopsMajor 5 a.budget)
-    (λ xs ys zs v h s. inl (h.0, n, ys, h.1, h.2, subst (λ o. ReadsMembers n o ys v.items zs) p.kept.budget s))
+    does_after (HeadAt 5 n) (λ xs v ys. ReadsMembers n m.budget xs v.items ys)
+    (λ xs v ys. ReadsMapInside a.budget xs v.items ys) (StopsMembers n m.budget)
+    (StopsMajor 5 a.budget)
+    (λ xs ys zs v h s.
+    inl (h.0, n, ys, h.1, h.2, subst (λ o. ReadsMembers n o ys v.items zs) p.kept.budget s))
     (λ xs ys e rest h s b bs is major outer step. subst (λ x. StopsUnder outer x e rest) (sym h.2)
-    (at_row outer (starts_map h.0) (32 * 5 + additional h.0 n) (bytes_high_first (byte_count h.0) n ++ ys) e rest (initial_map n h.0 h.1)
-    (step_taken map_name (head 5 n h.0 ++ ys) (λ inner. AtHead map_name 5 h.0 (32 * 5 + additional h.0 n) (λ n. StopsInCount (Readable inner) (λ part. StopsReading part inner) (2 * n)) (bytes_high_first (byte_count h.0) n ++ ys)) outer a.budget e rest step
-    (inr (record { argument = n; after = ys; fits = h.1; is = refl; stopped = subst (λ o. StopsMembers n o ys e rest) p.kept.budget s }))))) p d
+    (at_row outer (starts_map h.0) (32 * 5 + additional h.0 n)
+    (bytes_high_first (byte_count h.0) n ++ ys) e rest (initial_map n h.0 h.1)
+    (step_taken map_name (head 5 n h.0 ++ ys)
+    (λ inner. AtHead map_name 5 h.0 (32 * 5 + additional h.0 n)
+    (λ n. StopsInCount (Readable inner) (λ part. StopsReading part inner) (2 * n))
+    (bytes_high_first (byte_count h.0) n ++ ys)) outer a.budget e rest step
+    (inr (record {
+      argument = n;
+      after = ys;
+      fits = h.1;
+      is = refl;
+      stopped = subst (λ o. StopsMembers n o ys e rest) p.kept.budget s;
+    }))))) p d
 
-pub map_opened : {E : Type 0} {r : Result (Vec (Value × Value) Global) (DecodeError E)} {a m b : View} → Reached (OpenAt 5) a m → Does (λ xs v ys. ReadsOpenMembers m.budget xs v.items ys) (StopsOpenMembers m.budget) m b r
-    → Does (λ xs v ys. ReadsMap a.budget xs v.items ys) (StopsMajor 5 a.budget) a b r
+pub map_opened : {E : Type 0} {r : Result (Vec (Value × Value) Global) (DecodeError E)}
+    {a m b : View} → Reached (OpenAt 5) a m
+    → Does (λ xs v ys. ReadsOpenMembers m.budget xs v.items ys) (StopsOpenMembers m.budget) m b r
+    → Does (λ xs v ys. ReadsMapInside a.budget xs v.items ys) (StopsMajor 5 a.budget) a b r
 map_opened {a = a} {m = m} p d =
-    does_after (OpenAt 5) (λ xs v ys. ReadsOpenMembers m.budget xs v.items ys) (λ xs v ys. ReadsMap a.budget xs v.items ys) (StopsOpenMembers m.budget) (StopsMajor 5 a.budget)
+    does_after (OpenAt 5) (λ xs v ys. ReadsOpenMembers m.budget xs v.items ys)
+    (λ xs v ys. ReadsMapInside a.budget xs v.items ys) (StopsOpenMembers m.budget)
+    (StopsMajor 5 a.budget)
     (λ xs ys zs v h s. inr (ys, h, subst (λ o. ReadsOpenMembers o ys v.items zs) p.kept.budget s))
     (λ xs ys e rest h s b bs is major outer step. subst (λ x. StopsUnder outer x e rest) (sym h)
     (at_row outer starts_open_map (open_head 5) ys e rest initial_open_map
-    (step_taken map_name (open_head 5 ∷ ys) (λ inner. OpenPairs (Readable inner) (λ part. StopsReading part inner) ys) outer a.budget e rest step (subst (λ o. StopsOpenMembers o ys e rest) p.kept.budget s)))) p d
+    (step_taken map_name (open_head 5 ∷ ys)
+    (λ inner. OpenPairs (Readable inner) (λ part. StopsReading part inner) ys) outer
+    a.budget e rest step (subst (λ o. StopsOpenMembers o ys e rest) p.kept.budget s)))) p d
 
-map_tree : (budget inner deep : Budget) (ms : List (Value × Value)) (xs ys : List ℕ) → step_in budget ≡ Some inner → step_in inner ≡ Some deep → ReadsMap deep xs ms ys → (t : Tree) × Readable budget t × (value t ≡ mapping (members_view ms)) × (xs ≡ bytes t ++ ys)
+map_tree : (budget inner deep : Budget) (ms : List (Value × Value)) (xs ys : List ℕ)
+    → step_in budget ≡ Some inner → step_in inner ≡ Some deep → ReadsMapInside deep xs ms ys
+    → (t : Tree) × Readable budget t × (value t ≡ mapping (members_view ms)) × (xs ≡ bytes t ++ ys)
 map_tree budget inner deep ms xs ys s t (inl q) =
     let i = q.5 in
     let all = all_pairs_readable i.0 deep i.2 in (
       map_of q.0 i.0,
-      (((subst (HeadFits q.0) (sym i.1) q.3, all.0.0), all.0.1), two_steps (greatest_pair_cost i.0) budget inner deep s t all.1),
+      (
+        ((subst (HeadFits q.0) (sym i.1) q.3, all.0.0), all.0.1),
+        two_steps (greatest_pair_cost i.0) budget inner deep s t all.1,
+      ),
       ap mapping i.3,
-      q.4 ∙ ap (λ r. head 5 q.1 q.0 ++ r) i.4 ∙ sym (append_assoc (head 5 q.1 q.0) (bytes_pairs i.0) ys) ∙ ap (λ j. (head 5 j q.0 ++ bytes_pairs i.0) ++ ys) (sym i.1),
+      q.4 ∙ ap (λ r. head 5 q.1 q.0 ++ r) i.4
+          ∙ sym (append_assoc (head 5 q.1 q.0) (bytes_pairs i.0) ys)
+          ∙ ap (λ j. (head 5 j q.0 ++ bytes_pairs i.0) ++ ys) (sym i.1),
     )
 map_tree budget inner deep ms xs ys s t (inr q) =
     let i = q.2 in
@@ -287,22 +499,36 @@ map_tree budget inner deep ms xs ys s t (inr q) =
       q.1 ∙ ap (λ r. open_head 5 ∷ r) (i.3 ∙ sym (append_assoc (bytes_pairs i.0) (break ∷ []) ys)),
     )
 
-pub map_reads : (inner : Budget) (v : Vec (Value × Value) Global) (xs ys : List ℕ) → ReadsStepped (λ o xs (v : Vec (Value × Value) Global) ys. ReadsMap o xs v.items ys) inner xs v ys → ReadsUnder inner xs (Map v) ys
+pub map_reads : (inner : Budget) (v : Vec (Value × Value) Global) (xs ys : List ℕ) → ReadsStepped
+    (λ o xs (v : Vec (Value × Value) Global) ys. ReadsMapInside o xs v.items ys) inner xs v ys
+    → ReadsUnder inner xs (Map v) ys
 map_reads inner v xs ys h budget step =
     let t = map_tree budget inner h.0 v.items xs ys step h.1 h.2 in
     (t.0, t.1, t.2 ∙ sym (view-Map v), t.3)
 
 -- ---- a pair
 
-pub value_stop : (budget : Budget) (key : Value) (xs ys : List ℕ) (e : Refusal) (rest : List ℕ) → ReadsOne budget xs key ys → StopsOne budget ys e rest → StopsMember budget xs e rest
-value_stop budget key xs ys e rest k s = inr (record { key = k.0; after = ys; whole = k.1; is = k.3; stopped = s })
+pub value_stop : (budget : Budget) (key : Value) (xs ys : List ℕ) (e : Refusal) (rest : List ℕ)
+    → ReadsOneValue budget xs key ys → StopsOneValue budget ys e rest → StopsMember budget xs e rest
+value_stop budget key xs ys e rest k s =
+    inr (record { key = k.0; after = ys; whole = k.1; is = k.3; stopped = s })
 
 -- ---- calls
 
 -- one more of what is read so
-module _ {V : Type 0} (reads : Budget → Accepting V) (stops : Budget → Stopping) (P : List ℕ → List ℕ → Type 0) {a m : View} (p : Reached P a m) where
-  pub more : {E : Type 0} (Q : List ℕ → List ℕ → Type 0) {v : V} {b : View} → ((xs ys zs : List ℕ) → P xs ys → reads a.budget ys v zs → Q xs zs) → Does {E = E} (reads m.budget) (stops m.budget) m b (Ok v) → Reached Q a b
-  more Q {v = v} f d = reached_then P (λ xs ys. reads m.budget xs v ys) Q (λ xs ys zs h s. f xs ys zs h (subst (λ o. reads o ys v zs) p.kept.budget s)) p (reached_by d)
+module _ {V : Type 0} (reads : Budget → Accepting V) (stops : Budget → Stopping)
+    (P : List ℕ → List ℕ → Type 0) {a m : View} (p : Reached P a m) where
+  pub more : {E : Type 0} (Q : List ℕ → List ℕ → Type 0) {v : V} {b : View}
+      → ((xs ys zs : List ℕ) → P xs ys → reads a.budget ys v zs → Q xs zs)
+      → Does {E = E} (reads m.budget) (stops m.budget) m b (Ok v) → Reached Q a b
+  more Q {v = v} f d =
+      reached_then P (λ xs ys. reads m.budget xs v ys) Q (λ xs ys zs h s.
+      f xs ys zs h (subst (λ o. reads o ys v zs) p.kept.budget s)) p (reached_by d)
 
-  pub ends : {U E : Type 0} (B : Accepting U) (T : Stopping) {e : DecodeError E} {b : View} → ((xs ys : List ℕ) (z : Refusal) (rest : List ℕ) → P xs ys → stops a.budget ys z rest → T xs z rest) → Does {V = V} (reads m.budget) (stops m.budget) m b (Err e) → Does {V = U} B T a b (Err e)
-  ends B T f d = does_err P (reads m.budget) B (stops m.budget) T (λ xs ys z rest h s. f xs ys z rest h (subst (λ o. stops o ys z rest) p.kept.budget s)) p d
+  pub ends : {U E : Type 0} (B : Accepting U) (T : Stopping) {e : DecodeError E} {b : View}
+      → ((xs ys : List ℕ) (z : Refusal) (rest : List ℕ) → P xs ys → stops a.budget ys z rest
+      → T xs z rest) → Does {V = V} (reads m.budget) (stops m.budget) m b (Err e)
+      → Does {V = U} B T a b (Err e)
+  ends B T f d =
+      does_err P (reads m.budget) B (stops m.budget) T (λ xs ys z rest h s.
+      f xs ys z rest h (subst (λ o. stops o ys z rest) p.kept.budget s)) p d

@@ -1,9 +1,11 @@
 -- Lists of values beside what they stand for.
-use Rattle.std.proofs.Common.{◌≡◌, ℕ, zero, suc, ◌<◌, List, [], ◌∷◌, ◌++◌, length, take, get_or, ◌+◌, refl, sym, ap, ap₂, ◌∙◌, arith, ◌↔◌}
+use Rattle.std.proofs.Common.{◌≡◌, ℕ, zero, suc, ◌<◌, List, [], ◌∷◌, ◌++◌, length, take, get_or}
+use Rattle.std.proofs.Common.{◌+◌, refl, sym, ap, ap₂, ◌∙◌, arith, ◌↔◌}
 use Rattle.std.specs.Prelude.{Vec}
 use Rattle.std.proofs.lemmas.List.{take_more, get_or_default}
 use Rattle.std.proofs.Common.{Global}
-use Rattle.cbor4ii_tree.specs.Item.{Item, Items, item, no_items, item_count, member_count, mapping, Members, member}
+use Rattle.cbor4ii_tree.specs.Item.{Item, Items, item, no_items, item_count, member_count, mapping}
+use Rattle.cbor4ii_tree.specs.Item.{Members, member}
 use Rattle.cbor4ii_tree.specs.View.{view, items_view, members_view}
 use Rattle.cbor4ii_tree.specs.declared.value.Value.{Value, Map, the_lemmas}
 use Rattle.std.proofs.Common.{rules}
@@ -12,15 +14,19 @@ pub item_count-items_view : (vs : List Value) → item_count (items_view vs) ≡
 item_count-items_view [] = refl
 item_count-items_view (v ∷ vs) = ap suc (item_count-items_view vs)
 
-pub member_count-members_view : (ms : List (Value × Value)) → member_count (members_view ms) ≡ length ms
+pub member_count-members_view : (ms : List (Value × Value))
+    → member_count (members_view ms) ≡ length ms
 member_count-members_view [] = refl
 member_count-members_view (m ∷ ms) = ap suc (member_count-members_view ms)
 
 pub length-items_view : (vs ws : List Value) → items_view vs ≡ items_view ws → length vs ≡ length ws
-length-items_view vs ws e = sym (item_count-items_view vs) ∙ ap item_count e ∙ item_count-items_view ws
+length-items_view vs ws e =
+    sym (item_count-items_view vs) ∙ ap item_count e ∙ item_count-items_view ws
 
-pub length-members_view : (ms ns : List (Value × Value)) → members_view ms ≡ members_view ns → length ms ≡ length ns
-length-members_view ms ns e = sym (member_count-members_view ms) ∙ ap member_count e ∙ member_count-members_view ns
+pub length-members_view : (ms ns : List (Value × Value)) → members_view ms ≡ members_view ns
+    → length ms ≡ length ns
+length-members_view ms ns e =
+    sym (member_count-members_view ms) ∙ ap member_count e ∙ member_count-members_view ns
 
 pub view-Map : (v : Vec (Value × Value) Global) → view (Map v) ≡ mapping (members_view v.items)
 view-Map v = search (rules, the_lemmas)
@@ -29,46 +35,74 @@ item_injective : (v w : Item) (vs ws : Items) → item v vs ≡ item w ws → (v
 item_injective v w vs ws e = (cc, cc)
 
 -- equal views at a place
-pub view_at : (vs ws : List Value) (i : ℕ) (d e : Value) → items_view vs ≡ items_view ws → i < length vs → view (get_or vs i d) ≡ view (get_or ws i e)
+pub view_at : (vs ws : List Value) (i : ℕ) (d e : Value) → items_view vs ≡ items_view ws
+    → i < length vs → view (get_or vs i d) ≡ view (get_or ws i e)
 view_at [] ws i d e h lt = absurd (omega arith)
 view_at (v ∷ vs) [] i d e h lt = cc
-view_at (v ∷ vs) (w ∷ ws) zero d e h lt = (item_injective (view v) (view w) (items_view vs) (items_view ws) h).0
-view_at (v ∷ vs) (w ∷ ws) (suc i) d e h lt = view_at vs ws i d e (item_injective (view v) (view w) (items_view vs) (items_view ws) h).1 (omega arith)
+view_at (v ∷ vs) (w ∷ ws) zero d e h lt =
+    (item_injective (view v) (view w) (items_view vs) (items_view ws) h).0
+view_at (v ∷ vs) (w ∷ ws) (suc i) d e h lt =
+    view_at vs ws i d e (item_injective (view v) (view w) (items_view vs) (items_view ws) h).1
+    (omega arith)
 
-pub items_view-push : (vs ws : List Value) (v w : Value) → items_view vs ≡ items_view ws → view v ≡ view w → items_view (vs ++ v ∷ []) ≡ items_view (ws ++ w ∷ [])
+pub items_view-push : (vs ws : List Value) (v w : Value) → items_view vs ≡ items_view ws
+    → view v ≡ view w → items_view (vs ++ v ∷ []) ≡ items_view (ws ++ w ∷ [])
 items_view-push [] [] v w h e = ap (λ x. item x no_items) e
 items_view-push [] (x ∷ ws) v w h e = cc
 items_view-push (x ∷ vs) [] v w h e = cc
-items_view-push (x ∷ vs) (y ∷ ws) v w h e = let p = item_injective (view x) (view y) (items_view vs) (items_view ws) h in ap₂ item p.0 (items_view-push vs ws v w p.1 e)
+items_view-push (x ∷ vs) (y ∷ ws) v w h e =
+    let p = item_injective (view x) (view y) (items_view vs) (items_view ws) h in
+    ap₂ item p.0 (items_view-push vs ws v w p.1 e)
 
-member_injective : (k l v w : Item) (ms ns : Members) → member k v ms ≡ member l w ns → (k ≡ l) × (v ≡ w) × (ms ≡ ns)
+member_injective : (k l v w : Item) (ms ns : Members) → member k v ms ≡ member l w ns
+    → (k ≡ l) × (v ≡ w) × (ms ≡ ns)
 member_injective k l v w ms ns e = (cc, cc, cc)
 
-pub views_at : (ms ns : List (Value × Value)) (i : ℕ) (d e : Value × Value) → members_view ms ≡ members_view ns → i < length ms → (view (get_or ms i d).0 ≡ view (get_or ns i e).0) × (view (get_or ms i d).1 ≡ view (get_or ns i e).1)
+pub views_at : (ms ns : List (Value × Value)) (i : ℕ) (d e : Value × Value)
+    → members_view ms ≡ members_view ns → i < length ms
+    → (view (get_or ms i d).0 ≡ view (get_or ns i e).0)
+    × (view (get_or ms i d).1 ≡ view (get_or ns i e).1)
 views_at [] ns i d e h lt = absurd (omega arith)
 views_at (m ∷ ms) [] i d e h lt = cc
-views_at (m ∷ ms) (n ∷ ns) zero d e h lt = let p = member_injective (view m.0) (view n.0) (view m.1) (view n.1) (members_view ms) (members_view ns) h in (p.0, p.1)
-views_at (m ∷ ms) (n ∷ ns) (suc i) d e h lt = views_at ms ns i d e (member_injective (view m.0) (view n.0) (view m.1) (view n.1) (members_view ms) (members_view ns) h).2 (omega arith)
+views_at (m ∷ ms) (n ∷ ns) zero d e h lt =
+    let p = member_injective (view m.0) (view n.0) (view m.1) (view n.1) (members_view ms)
+    (members_view ns) h in
+    (p.0, p.1)
+views_at (m ∷ ms) (n ∷ ns) (suc i) d e h lt =
+    views_at ms ns i d e (member_injective (view m.0) (view n.0) (view m.1) (view n.1)
+    (members_view ms) (members_view ns) h).2 (omega arith)
 
-pub members_view-push : (ms ns : List (Value × Value)) (m n : Value × Value) → members_view ms ≡ members_view ns → view m.0 ≡ view n.0 → view m.1 ≡ view n.1 → members_view (ms ++ m ∷ []) ≡ members_view (ns ++ n ∷ [])
+pub members_view-push : (ms ns : List (Value × Value)) (m n : Value × Value)
+    → members_view ms ≡ members_view ns → view m.0 ≡ view n.0 → view m.1 ≡ view n.1
+    → members_view (ms ++ m ∷ []) ≡ members_view (ns ++ n ∷ [])
 members_view-push [] [] m n h e f = cc
 members_view-push [] (x ∷ ns) m n h e f = cc
 members_view-push (x ∷ ms) [] m n h e f = cc
 members_view-push (x ∷ ms) (y ∷ ns) m n h e f =
-    let p = member_injective (view x.0) (view y.0) (view x.1) (view y.1) (members_view ms) (members_view ns) h in
+    let p = member_injective (view x.0) (view y.0) (view x.1) (view y.1) (members_view ms)
+    (members_view ns) h in
     cc (p.0, p.1, members_view-push ms ns m n p.2 e f)
 
-pub mapping_same : (a b : List (Value × Value)) (v w : Vec (Value × Value) Global) (x y : Value) → x ≡ Map v → y ≡ Map w → a ≡ v.items → b ≡ w.items → (members_view a ≡ members_view b) ↔ (view x ≡ view y)
+pub mapping_same : (a b : List (Value × Value)) (v w : Vec (Value × Value) Global) (x y : Value)
+    → x ≡ Map v → y ≡ Map w → a ≡ v.items → b ≡ w.items
+    → (members_view a ≡ members_view b) ↔ (view x ≡ view y)
 mapping_same a b v w x y p q r s =
-    let f : view x ≡ mapping (members_view a) = ap view p ∙ view-Map v ∙ ap (λ l. mapping (members_view l)) (sym r) in
-    let g : view y ≡ mapping (members_view b) = ap view q ∙ view-Map w ∙ ap (λ l. mapping (members_view l)) (sym s) in
+    let f : view x ≡ mapping (members_view a) =
+    ap view p ∙ view-Map v ∙ ap (λ l. mapping (members_view l)) (sym r) in
+    let g : view y ≡ mapping (members_view b) =
+    ap view q ∙ view-Map w ∙ ap (λ l. mapping (members_view l)) (sym s) in
     (λ e. f ∙ ap mapping e ∙ sym g, λ e. mapping_injective (sym f ∙ e ∙ g))
   where
     mapping_injective : {m n : Members} → mapping m ≡ mapping n → m ≡ n
     mapping_injective e = cc
 
-pub members_more : (a b : List (Value × Value)) (i : ℕ) (x y u v : Value × Value) → i < length a → i < length b → members_view (take i a) ≡ members_view (take i b) → view (get_or a i x).0 ≡ view (get_or b i y).0
-    → view (get_or a i u).1 ≡ view (get_or b i v).1 → members_view (take (i + 1) a) ≡ members_view (take (i + 1) b)
+pub members_more : (a b : List (Value × Value)) (i : ℕ) (x y u v : Value × Value) → i < length a
+    → i < length b → members_view (take i a) ≡ members_view (take i b)
+    → view (get_or a i x).0 ≡ view (get_or b i y).0
+    → view (get_or a i u).1 ≡ view (get_or b i v).1
+    → members_view (take (i + 1) a) ≡ members_view (take (i + 1) b)
 members_more a b i x y u v in_a in_b h e f =
     rw (take_more a i x in_a, take_more b i y in_b)
-    (members_view-push (take i a) (take i b) (get_or a i x) (get_or b i y) h e (ap (λ (m : Value × Value). view m.1) (get_or_default a i x u in_a) ∙ f ∙ ap (λ (m : Value × Value). view m.1) (get_or_default b i v y in_b)))
+    (members_view-push (take i a) (take i b) (get_or a i x)
+    (get_or b i y) h e (ap (λ (m : Value × Value). view m.1) (get_or_default a i x u in_a)
+    ∙ f ∙ ap (λ (m : Value × Value). view m.1) (get_or_default b i v y in_b)))

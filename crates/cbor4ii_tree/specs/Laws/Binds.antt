@@ -1,10 +1,11 @@
 -- Answers of the plain programs, taken apart and put together.
-use Rattle.std.proofs.Common.{◌≡◌, ℕ, zero, suc, ◌+◌, ◌-◌, ◌⊎◌, inl, inr, List, Option, Some, None, Ok, Err, Result, refl, sym, ap, arith, cond, true, false, Bool}
+use Rattle.std.proofs.Common.{◌≡◌, ℕ, zero, suc, ◌+◌, ◌-◌, ◌⊎◌, inl, inr, List, Option, Some, None}
+use Rattle.std.proofs.Common.{Ok, Err, Result, refl, sym, ap, arith, cond, true, false, Bool}
 use Rattle.cbor4ii_items.specs.Decoding.{CostFits}
 use Rattle.cbor4ii_items.specs.Reading.{Reading, go_on}
 use Rattle.cbor4ii_tree.specs.Cost.{Budget, step_in}
 use Rattle.cbor4ii_tree.specs.Refusal.{Refusal}
-use Rattle.cbor4ii_tree.specs.Stops.{Is, Stepped}
+use Rattle.cbor4ii_tree.specs.Stops.{Is, StopsAtStep}
 use Rattle.cbor4ii_tree.specs.Parse.{Answer, ◌>>=◌, stepped}
 
 pub same_ok : {A E : Type 0} (r : Result A E) (x y : A) → r ≡ Ok x → r ≡ Ok y → x ≡ y
@@ -16,48 +17,63 @@ same_err r x y p q = cc
 pub apart : {A E : Type 0} (r : Result A E) (x : A) (y : E) → r ≡ Ok x → r ≡ Err y → ⊥
 apart r x y p q = cc
 
-pub no_err : {A : Type 0} (x : A × List ℕ) (z : Refusal × List ℕ) → ◌≡◌ {A = Answer A} (Ok x) (Err z) → ⊥
+pub no_err : {A : Type 0} (x : A × List ℕ) (z : Refusal × List ℕ)
+    → ◌≡◌ {A = Answer A} (Ok x) (Err z) → ⊥
 no_err x z e = cc
 
-pub no_ok : {A : Type 0} (z : Refusal × List ℕ) (x : A × List ℕ) → ◌≡◌ {A = Answer A} (Err z) (Ok x) → ⊥
+pub no_ok : {A : Type 0} (z : Refusal × List ℕ) (x : A × List ℕ) → ◌≡◌ {A = Answer A} (Err z) (Ok x)
+    → ⊥
 no_ok z x e = cc
 
-pub bind_ok : {A B : Type 0} (r : Answer A) (f : A × List ℕ → Answer B) (y : B × List ℕ) → (r >>= f) ≡ Ok y → (x : A × List ℕ) × (r ≡ Ok x) × (f x ≡ Ok y)
+pub bind_ok : {A B : Type 0} (r : Answer A) (f : A × List ℕ → Answer B) (y : B × List ℕ)
+    → (r >>= f) ≡ Ok y → (x : A × List ℕ) × (r ≡ Ok x) × (f x ≡ Ok y)
 bind_ok (Ok x) f y e = (x, refl, e)
 bind_ok {B = B} (Err z) f y e = absurd (no_ok {A = B} z y e)
 
-pub bind_err : {A B : Type 0} (r : Answer A) (f : A × List ℕ → Answer B) (z : Refusal × List ℕ) → (r >>= f) ≡ Err z → (r ≡ Err z) ⊎ ((x : A × List ℕ) × (r ≡ Ok x) × (f x ≡ Err z))
+pub bind_err : {A B : Type 0} (r : Answer A) (f : A × List ℕ → Answer B) (z : Refusal × List ℕ)
+    → (r >>= f) ≡ Err z → (r ≡ Err z) ⊎ ((x : A × List ℕ) × (r ≡ Ok x) × (f x ≡ Err z))
 bind_err (Ok x) f z e = inr (x, refl, e)
 bind_err {B = B} (Err y) f z e = inl (ap Err (same_err {A = B × List ℕ} (Err y) y z refl e))
 
-pub then_err : {A B : Type 0} (r : Answer A) (next : A → Reading B) (z : Refusal × List ℕ) → r ≡ Err z → go_on r next ≡ Err z
+pub then_err : {A B : Type 0} (r : Answer A) (next : A → Reading B) (z : Refusal × List ℕ)
+    → r ≡ Err z → go_on r next ≡ Err z
 then_err r next z e = rw e refl
 
-pub guard_ok : {A : Type 0} (b : Bool) (z : Refusal × List ℕ) (x y : A × List ℕ) → ◌≡◌ {A = Answer A} (cond b (Err z) (Ok x)) (Ok y) → (b ≡ false) × (x ≡ y)
+pub guard_ok : {A : Type 0} (b : Bool) (z : Refusal × List ℕ) (x y : A × List ℕ)
+    → ◌≡◌ {A = Answer A} (cond b (Err z) (Ok x)) (Ok y) → (b ≡ false) × (x ≡ y)
 guard_ok {A} true z x y e = absurd (no_ok {A = A} z y e)
 guard_ok {A} false z x y e = (refl, same_ok {E = Refusal × List ℕ} (Ok x) x y refl e)
 
-pub is_err : {A : Type 0} (f : Refusal) (left : List ℕ) (e : Refusal) (rest : List ℕ) → ◌≡◌ {A = Answer A} (Err (f, left)) (Err (e, rest)) → Is f left e rest
+pub is_err : {A : Type 0} (f : Refusal) (left : List ℕ) (e : Refusal) (rest : List ℕ)
+    → ◌≡◌ {A = Answer A} (Err (f, left)) (Err (e, rest)) → Is f left e rest
 is_err {A} f left e rest h =
     let s = same_err {A = A × List ℕ} (Err (f, left)) (f, left) (e, rest) refl h in
     (sym (ap (λ (p : Refusal × List ℕ). p.0) s), sym (ap (λ (p : Refusal × List ℕ). p.1) s))
 
-pub err : {A : Type 0} (f : Refusal) (left : List ℕ) (e : Refusal) (rest : List ℕ) → Is f left e rest → ◌≡◌ {A = Answer A} (Err (f, left)) (Err (e, rest))
+pub err : {A : Type 0} (f : Refusal) (left : List ℕ) (e : Refusal) (rest : List ℕ)
+    → Is f left e rest → ◌≡◌ {A = Answer A} (Err (f, left)) (Err (e, rest))
 err f left e rest h = cc
 
-pub guard_err : {A : Type 0} (b : Bool) (f : Refusal) (left : List ℕ) (x : A × List ℕ) (e : Refusal) (rest : List ℕ) → ◌≡◌ {A = Answer A} (cond b (Err (f, left)) (Ok x)) (Err (e, rest)) → (b ≡ true) × Is f left e rest
+pub guard_err : {A : Type 0} (b : Bool) (f : Refusal) (left : List ℕ) (x : A × List ℕ) (e : Refusal)
+    (rest : List ℕ) → ◌≡◌ {A = Answer A} (cond b (Err (f, left)) (Ok x)) (Err (e, rest))
+    → (b ≡ true) × Is f left e rest
 guard_err {A} true f left x e rest h = (refl, is_err {A = A} f left e rest h)
 guard_err {A} false f left x e rest h = absurd (no_err {A = A} x (e, rest) h)
 
 -- the answer's two parts
-pub parts : {A : Type 0} (r : Answer A) (a c : A) (b d : List ℕ) → r ≡ Ok (a, b) → r ≡ Ok (c, d) → (a ≡ c) × (b ≡ d)
-parts {A} r a c b d p q = let e = same_ok r (a, b) (c, d) p q in (ap (λ (x : A × List ℕ). x.0) e, ap (λ (x : A × List ℕ). x.1) e)
+pub parts : {A : Type 0} (r : Answer A) (a c : A) (b d : List ℕ) → r ≡ Ok (a, b) → r ≡ Ok (c, d)
+    → (a ≡ c) × (b ≡ d)
+parts {A} r a c b d p q =
+    let e = same_ok r (a, b) (c, d) p q in
+    (ap (λ (x : A × List ℕ). x.0) e, ap (λ (x : A × List ℕ). x.1) e)
 
-pub if_cases : {A : Type 0} (P : A → Type 0) (b : Bool) (x y : A) → (b ≡ true → P x) → (b ≡ false → P y) → P (cond b x y)
+pub if_cases : {A : Type 0} (P : A → Type 0) (b : Bool) (x y : A) → (b ≡ true → P x)
+    → (b ≡ false → P y) → P (cond b x y)
 if_cases P true x y f g = f refl
 if_cases P false x y f g = g refl
 
-pub chosen : {A : Type 0} (c : Bool) (x y z : A) → cond c x y ≡ z → ((c ≡ true) × (x ≡ z)) ⊎ ((c ≡ false) × (y ≡ z))
+pub chosen : {A : Type 0} (c : Bool) (x y z : A) → cond c x y ≡ z
+    → ((c ≡ true) × (x ≡ z)) ⊎ ((c ≡ false) × (y ≡ z))
 chosen true x y z e = inl (refl, e)
 chosen false x y z e = inr (refl, e)
 
@@ -74,22 +90,31 @@ step_left (Some zero) h = absurd (omega arith)
 step_left (Some (suc n)) h = let e : suc n - 1 ≡ n = omega arith in rw e refl
 
 -- a cost that fits one step later fits with that step
-pub step_up : (b inner : Budget) (c : ℕ) → step_in b ≡ Some inner → CostFits c inner → CostFits (1 + c) b
+pub step_up : (b inner : Budget) (c : ℕ) → step_in b ≡ Some inner → CostFits c inner
+    → CostFits (1 + c) b
 step_up None inner c e f = tt
 step_up (Some zero) inner c e f = cc
 step_up (Some (suc n)) None c e f = cc
 step_up (Some (suc n)) (Some m) c e f = let s : n ≡ m = cc in omega arith
 
-pub stepped_ok : {A : Type 0} (name : List ℕ) (step : Option Budget) (here : List ℕ) (next : Budget → Answer A) (x : A × List ℕ) → stepped name step here next ≡ Ok x → (inner : Budget) × (step ≡ Some inner) × (next inner ≡ Ok x)
+pub stepped_ok : {A : Type 0} (name : List ℕ) (step : Option Budget) (here : List ℕ)
+    (next : Budget → Answer A) (x : A × List ℕ) → stepped name step here next ≡ Ok x
+    → (inner : Budget) × (step ≡ Some inner) × (next inner ≡ Ok x)
 stepped_ok {A} name None here next x e = absurd (no_ok {A = A} _ x e)
 stepped_ok name (Some inner) here next x e = (inner, refl, e)
 
-pub stepped_err : {A : Type 0} (name : List ℕ) (step : Option Budget) (here : List ℕ) (next : Budget → Answer A) (stops : Budget → Refusal → List ℕ → Type 0) (e : Refusal) (rest : List ℕ)
-    → ((inner : Budget) → step ≡ Some inner → next inner ≡ Err (e, rest) → stops inner e rest) → stepped name step here next ≡ Err (e, rest) → Stepped name step here stops e rest
+pub stepped_err : {A : Type 0} (name : List ℕ) (step : Option Budget) (here : List ℕ)
+    (next : Budget → Answer A) (stops : Budget → Refusal → List ℕ → Type 0) (e : Refusal)
+    (rest : List ℕ)
+    → ((inner : Budget) → step ≡ Some inner → next inner ≡ Err (e, rest) → stops inner e rest)
+    → stepped name step here next ≡ Err (e, rest) → StopsAtStep name step here stops e rest
 stepped_err {A} name None here next stops e rest k x = is_err {A = A} _ _ _ _ x
 stepped_err name (Some inner) here next stops e rest k x = k inner refl x
 
-pub stepped_stops : {A : Type 0} (name : List ℕ) (step : Option Budget) (here : List ℕ) (next : Budget → Answer A) (stops : Budget → Refusal → List ℕ → Type 0) (e : Refusal) (rest : List ℕ)
-    → ((inner : Budget) → step ≡ Some inner → stops inner e rest → next inner ≡ Err (e, rest)) → Stepped name step here stops e rest → stepped name step here next ≡ Err (e, rest)
+pub stepped_stops : {A : Type 0} (name : List ℕ) (step : Option Budget) (here : List ℕ)
+    (next : Budget → Answer A) (stops : Budget → Refusal → List ℕ → Type 0) (e : Refusal)
+    (rest : List ℕ)
+    → ((inner : Budget) → step ≡ Some inner → stops inner e rest → next inner ≡ Err (e, rest))
+    → StopsAtStep name step here stops e rest → stepped name step here next ≡ Err (e, rest)
 stepped_stops name None here next stops e rest k x = err _ _ _ _ x
 stepped_stops name (Some inner) here next stops e rest k x = k inner refl x

@@ -9,6 +9,7 @@ fits_left c None h = tt
 fits_left c (Some n) h = omega arith
 
 -- two steps, one after another
-pub fits_two : (c : ℕ) (b : Budget) → CostFits (2 + c) b → CostFits 1 (left b) × CostFits c (left (left b))
+pub fits_two : (c : ℕ) (b : Budget) → CostFits (2 + c) b
+    → CostFits 1 (left b) × CostFits c (left (left b))
 fits_two c None h = (tt, tt)
 fits_two c (Some n) h = (omega arith, omega arith)

@@ -13,5 +13,14 @@ own_moved old new k = k
 pub lent_budget : (bytes : List ℕ) (reader : View) → (lent_view bytes reader).budget ≡ reader.budget
 lent_budget bytes reader = refl
 
-pub lent_moved : (bytes : List ℕ) (old new : View) → KeepsAllButBudget old new → KeepsAllButBudget (lent_view bytes old) (lent_view bytes new)
-lent_moved bytes old new k = record { told = refl; bound = refl; advanceable = refl; failures = refl; taken = refl; lends_whole = refl; remembers = refl }
+pub lent_moved : (bytes : List ℕ) (old new : View) → KeepsAllButBudget old new
+    → KeepsAllButBudget (lent_view bytes old) (lent_view bytes new)
+lent_moved bytes old new k = record {
+  told = refl;
+  bound = refl;
+  advanceable = refl;
+  failures = refl;
+  taken = refl;
+  lends_whole = refl;
+  remembers = refl;
+}

@@ -1,5 +1,6 @@
 -- One input is skipped in one way.
-use Rattle.std.proofs.Common.{◌≡◌, ℕ, suc, None, Ok, subst, ◌≤◌, List, ◌++◌, length, take, drop, IsTrue, true, refl, sym, ap, ◌∙◌, arith, length-append}
+use Rattle.std.proofs.Common.{◌≡◌, ℕ, suc, None, Ok, subst, ◌≤◌, List, ◌++◌, length, take, drop}
+use Rattle.std.proofs.Common.{IsTrue, true, refl, sym, ap, ◌∙◌, arith, length-append}
 use Rattle.std.proofs.Math.Seq.{take-append_seam, drop-append_seam}
 use Rattle.cbor4ii_tree.specs.declared.ignored.IgnoredAny.{IgnoredAny}
 use Rattle.cbor4ii_tree.specs.Tree.{Tree, bytes, Loose}
@@ -13,25 +14,34 @@ use Rattle.cbor4ii_tree.specs.Laws.Initials.{length-bytes-pos}
 spelling_again : (t : Tree) (x : List ℕ) → Loose t → skip None (bytes t ++ x) ≡ Ok (t, x)
 spelling_again t x l = skip_again (suc (length (bytes t ++ x))) None t x (l, tt) (omega arith)
 
-pub one_spelling : (t u : Tree) (x y : List ℕ) → Loose t → Loose u → bytes t ++ x ≡ bytes u ++ y → (t ≡ u) × (x ≡ y)
-one_spelling t u x y l m e = parts (skip None (bytes t ++ x)) t u x y (spelling_again t x l) (subst (λ (z : List ℕ). skip None z ≡ Ok (u, y)) (sym e) (spelling_again u y m))
+pub one_spelling : (t u : Tree) (x y : List ℕ) → Loose t → Loose u → bytes t ++ x ≡ bytes u ++ y
+    → (t ≡ u) × (x ≡ y)
+one_spelling t u x y l m e =
+    parts (skip None (bytes t ++ x)) t u x y (spelling_again t x l)
+    (subst (λ (z : List ℕ). skip None z ≡ Ok (u, y)) (sym e) (spelling_again u y m))
 
 -- ---- a tree at the front
 
 pub tree_one : (xs : List ℕ) (n m c d : ℕ) → ReadsTree xs n c → ReadsTree xs m d → (n ≡ m) × (c ≡ d)
 tree_one xs n m c d p q =
-    let same = one_spelling p.spelled q.spelled (drop n xs) (drop m xs) p.loose q.loose (sym p.begins ∙ q.begins) in
-    (p.size ∙ ap (λ t. length (bytes t)) same.0 ∙ sym q.size, p.cost ∙ ap skip_cost same.0 ∙ sym q.cost)
+    let same = one_spelling p.spelled q.spelled (drop n xs)
+    (drop m xs) p.loose q.loose (sym p.begins ∙ q.begins) in (
+      p.size ∙ ap (λ t. length (bytes t)) same.0 ∙ sym q.size,
+      p.cost ∙ ap skip_cost same.0 ∙ sym q.cost,
+    )
 
 pub tree_within : (xs : List ℕ) (n c : ℕ) → ReadsTree xs n c → n ≤ length xs
-tree_within xs n c p = omega (arith, ap length p.begins, length-append (bytes p.spelled) (drop n xs), p.size)
+tree_within xs n c p =
+    omega (arith, ap length p.begins, length-append (bytes p.spelled) (drop n xs), p.size)
 
 pub tree_positive : (xs : List ℕ) (n c : ℕ) → ReadsTree xs n c → 1 ≤ n
 tree_positive xs n c p = omega (arith, p.size, length-bytes-pos p.spelled)
 
 -- its bytes are the first n
 pub tree_front : (xs : List ℕ) (n c : ℕ) (p : ReadsTree xs n c) → take n xs ≡ bytes p.spelled
-tree_front xs n c p = let t = bytes p.spelled in ap (take n) p.begins ∙ ap (λ j. take j (t ++ drop n xs)) p.size ∙ take-append_seam t (drop n xs)
+tree_front xs n c p =
+    let t = bytes p.spelled in
+    ap (take n) p.begins ∙ ap (λ j. take j (t ++ drop n xs)) p.size ∙ take-append_seam t (drop n xs)
 
 pub tree_alone : (xs ys : List ℕ) (n c : ℕ) → ReadsTree xs n c → ReadsTree (take n xs ++ ys) n c
 tree_alone xs ys n c p =
@@ -40,21 +50,27 @@ tree_alone xs ys n c p =
     record {
       spelled = p.spelled;
       loose = p.loose;
-      begins = all ∙ ap (λ z. t ++ z) (sym (ap (drop n) all ∙ ap (λ j. drop j (t ++ ys)) p.size ∙ drop-append_seam t ys));
+      begins =
+          all ∙ ap (λ z. t ++ z)
+          (sym (ap (drop n) all ∙ ap (λ j. drop j (t ++ ys)) p.size ∙ drop-append_seam t ys));
       size = p.size;
       cost = p.cost;
     }
 
 -- ---- of which nothing is kept
 
-pub ignored_one : (xs : List ℕ) (v w : IgnoredAny) (n m c d : ℕ) → ReadsIgnored xs v n c → ReadsIgnored xs w m d → (n ≡ m) × (c ≡ d) × (v ≡ w)
+pub ignored_one : (xs : List ℕ) (v w : IgnoredAny) (n m c d : ℕ) → ReadsIgnored xs v n c
+    → ReadsIgnored xs w m d → (n ≡ m) × (c ≡ d) × (v ≡ w)
 ignored_one xs v w n m c d p q = let s = tree_one xs n m c d p q in (s.0, s.1, refl)
 
-pub ignored_within : (xs : List ℕ) (v : IgnoredAny) (n c : ℕ) → ReadsIgnored xs v n c → n ≤ length xs
+pub ignored_within : (xs : List ℕ) (v : IgnoredAny) (n c : ℕ) → ReadsIgnored xs v n c
+    → n ≤ length xs
 ignored_within xs v n c p = tree_within xs n c p
 
-pub ignored_positive : IsTrue true → (xs : List ℕ) (v : IgnoredAny) (n c : ℕ) → ReadsIgnored xs v n c → 1 ≤ n
+pub ignored_positive : IsTrue true → (xs : List ℕ) (v : IgnoredAny) (n c : ℕ)
+    → ReadsIgnored xs v n c → 1 ≤ n
 ignored_positive e xs v n c p = tree_positive xs n c p
 
-pub ignored_alone : IsTrue true → (xs ys : List ℕ) (v : IgnoredAny) (n c : ℕ) → ReadsIgnored xs v n c → ReadsIgnored (take n xs ++ ys) v n c
+pub ignored_alone : IsTrue true → (xs ys : List ℕ) (v : IgnoredAny) (n c : ℕ)
+    → ReadsIgnored xs v n c → ReadsIgnored (take n xs ++ ys) v n c
 ignored_alone e xs ys v n c p = tree_alone xs ys n c p

@@ -1,25 +1,42 @@
 -- The initial bytes of trees.
 use Rattle.std.proofs.Common.{◌≡◌, ℕ, ◌+◌, ◌*◌, ◌<◌, ◌≤◌, List, ◌∷◌, length, refl, ap, ◌∙◌, arith}
 use Rattle.cbor4ii_items.specs.Head.{Width, HeadFits, additional, open_head}
-use Rattle.cbor4ii_items.specs.Initial.{Sign, unsigned, negative, sign_major, Kind, byte_string, text_string, kind_major, Simple, simple_false, simple_true, simple_null, simple_undefined, simple_byte, Precision, half, single, double, precision_byte, starts_int, starts_string, starts_chunks, starts_array, starts_open_array, starts_map, starts_open_map, starts_tag, starts_simple, starts_bits, initial, int_by_info, string_by_info, array_by_info, map_by_info, tag_by_info}
-use Rattle.cbor4ii_tree.specs.Tree.{Tree, int, string, chunked, array, array_open, map_of, map_open, tagged, simple, bits, count, pair_count, bytes, Loose}
+use Rattle.cbor4ii_items.specs.Initial.{Sign, unsigned, negative, sign_major, Kind, byte_string}
+use Rattle.cbor4ii_items.specs.Initial.{text_string, kind_major, Simple, simple_false, simple_true}
+use Rattle.cbor4ii_items.specs.Initial.{simple_null, simple_undefined, simple_byte, Precision, half}
+use Rattle.cbor4ii_items.specs.Initial.{single, double, precision_byte, starts_int, starts_string}
+use Rattle.cbor4ii_items.specs.Initial.{starts_chunks, starts_array, starts_open_array, starts_map}
+use Rattle.cbor4ii_items.specs.Initial.{starts_open_map, starts_tag, starts_simple, starts_bits}
+use Rattle.cbor4ii_items.specs.Initial.{initial, int_by_info, string_by_info, array_by_info}
+use Rattle.cbor4ii_items.specs.Initial.{map_by_info, tag_by_info}
+use Rattle.cbor4ii_tree.specs.Tree.{Tree, int, string, chunked, array, array_open, map_of, map_open}
+use Rattle.cbor4ii_tree.specs.Tree.{tagged, simple, bits, count, pair_count, bytes, Loose}
 use Rattle.cbor4ii_tree.specs.Laws.Numbers.{additional-lt, info-additional, initial-head}
 
-pub initial_int : (s : Sign) (n : ℕ) (w : Width) → HeadFits w n → initial (32 * sign_major s + additional w n) ≡ starts_int s w
-initial_int unsigned n w h = initial-head 0 n w h ∙ ap (int_by_info unsigned) (info-additional n w h)
-initial_int negative n w h = initial-head 1 n w h ∙ ap (int_by_info negative) (info-additional n w h)
+pub initial_int : (s : Sign) (n : ℕ) (w : Width) → HeadFits w n
+    → initial (32 * sign_major s + additional w n) ≡ starts_int s w
+initial_int unsigned n w h =
+    initial-head 0 n w h ∙ ap (int_by_info unsigned) (info-additional n w h)
+initial_int negative n w h =
+    initial-head 1 n w h ∙ ap (int_by_info negative) (info-additional n w h)
 
-pub initial_string : (k : Kind) (n : ℕ) (w : Width) → HeadFits w n → initial (32 * kind_major k + additional w n) ≡ starts_string k w
-initial_string byte_string n w h = initial-head 2 n w h ∙ ap (string_by_info byte_string) (info-additional n w h)
-initial_string text_string n w h = initial-head 3 n w h ∙ ap (string_by_info text_string) (info-additional n w h)
+pub initial_string : (k : Kind) (n : ℕ) (w : Width) → HeadFits w n
+    → initial (32 * kind_major k + additional w n) ≡ starts_string k w
+initial_string byte_string n w h =
+    initial-head 2 n w h ∙ ap (string_by_info byte_string) (info-additional n w h)
+initial_string text_string n w h =
+    initial-head 3 n w h ∙ ap (string_by_info text_string) (info-additional n w h)
 
-pub initial_array : (n : ℕ) (w : Width) → HeadFits w n → initial (32 * 4 + additional w n) ≡ starts_array w
+pub initial_array : (n : ℕ) (w : Width) → HeadFits w n
+    → initial (32 * 4 + additional w n) ≡ starts_array w
 initial_array n w h = initial-head 4 n w h ∙ ap array_by_info (info-additional n w h)
 
-pub initial_map : (n : ℕ) (w : Width) → HeadFits w n → initial (32 * 5 + additional w n) ≡ starts_map w
+pub initial_map : (n : ℕ) (w : Width) → HeadFits w n
+    → initial (32 * 5 + additional w n) ≡ starts_map w
 initial_map n w h = initial-head 5 n w h ∙ ap map_by_info (info-additional n w h)
 
-pub initial_tag : (n : ℕ) (w : Width) → HeadFits w n → initial (32 * 6 + additional w n) ≡ starts_tag w
+pub initial_tag : (n : ℕ) (w : Width) → HeadFits w n
+    → initial (32 * 6 + additional w n) ≡ starts_tag w
 initial_tag n w h = initial-head 6 n w h ∙ ap tag_by_info (info-additional n w h)
 
 pub initial_chunks : (k : Kind) → initial (open_head (kind_major k)) ≡ starts_chunks k
@@ -50,10 +67,11 @@ initial_open_map = refl
 
 -- ---- the first byte of a tree is no break
 
-abbrev pub Begins : List ℕ → Type 0
-Begins bs = (b : ℕ) × (rest : List ℕ) × (bs ≡ b ∷ rest) × (b < 255)
+abbrev pub BeginsNoBreak : List ℕ → Type 0
+BeginsNoBreak bs = (b : ℕ) × (rest : List ℕ) × (bs ≡ b ∷ rest) × (b < 255)
 
-pub head_below : (major n : ℕ) (w : Width) → major < 7 → HeadFits w n → 32 * major + additional w n < 255
+pub head_below : (major n : ℕ) (w : Width) → major < 7 → HeadFits w n
+    → 32 * major + additional w n < 255
 head_below major n w m h = omega (arith, additional-lt n w h)
 
 pub kind_below : (k : Kind) → kind_major k < 7
@@ -75,9 +93,10 @@ precision_below half = omega arith
 precision_below single = omega arith
 precision_below double = omega arith
 
-pub begins : (t : Tree) → Loose t → Begins (bytes t)
+pub begins : (t : Tree) → Loose t → BeginsNoBreak (bytes t)
 begins (int s n w) l = (_, _, refl, head_below (sign_major s) n w (sign_below s) l)
-begins (string k w content) l = (_, _, refl, head_below (kind_major k) (length content) w (kind_below k) l)
+begins (string k w content) l =
+    (_, _, refl, head_below (kind_major k) (length content) w (kind_below k) l)
 begins (chunked k ts) l = (_, _, refl, omega (arith, kind_below k))
 begins (array w ts) l = (_, _, refl, head_below 4 (count ts) w (omega arith) l.0)
 begins (array_open ts) l = (_, _, refl, omega arith)

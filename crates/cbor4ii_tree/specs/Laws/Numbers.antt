@@ -1,5 +1,6 @@
 -- Heads, read back.
-use Rattle.std.proofs.Common.{◌≡◌, ℕ, zero, suc, ◌+◌, ◌*◌, ◌/◌, ◌%◌, ◌^◌, ◌<◌, fold, refl, ◌∙◌, arith, pow-suc, mul_comm, lt-ltb}
+use Rattle.std.proofs.Common.{◌≡◌, ℕ, zero, suc, ◌+◌, ◌*◌, ◌/◌, ◌%◌, ◌^◌, ◌<◌, fold, refl, ◌∙◌}
+use Rattle.std.proofs.Common.{arith, pow-suc, mul_comm, lt-ltb}
 use Rattle.std.proofs.Math.Nat.{pow-le-pow_right}
 use Rattle.std.proofs.Math.Arith.{mod-mul}
 use Rattle.std.specs.Int.{byte_at, bytes_high_first}
@@ -8,15 +9,18 @@ use Rattle.cbor4ii_items.specs.Initial.{wide, info_of, initial, by_major}
 use Rattle.cbor4ii_items.specs.Magnitude.{number_of}
 
 -- one more byte in front of the low k bytes
-byte_on : (k n high : ℕ) → (high * 256 + byte_at k n) * 256 ^ k + n % 256 ^ k ≡ high * 256 ^ suc k + n % 256 ^ suc k
+byte_on : (k n high : ℕ)
+    → (high * 256 + byte_at k n) * 256 ^ k + n % 256 ^ k ≡ high * 256 ^ suc k + n % 256 ^ suc k
 byte_on zero n high = omega arith
 byte_on (suc k) n high =
     let unit = 256 ^ suc k in
     let wider : 256 ^ suc (suc k) ≡ 256 * unit = pow-suc 256 (suc k) ∙ mul_comm unit 256 in
-    let some : 0 < unit = pow-le-pow_right {n = 256} (omega arith) {i = 0} {j = suc k} (omega arith) in
+    let some : 0 < unit =
+    pow-le-pow_right {n = 256} (omega arith) {i = 0} {j = suc k} (omega arith) in
     rw (wider, mod-mul n {m = 256} {c = unit} (omega arith) some) (omega arith)
 
-bytes_read : (k n high : ℕ) → fold (λ h byte. h * 256 + byte) high (bytes_high_first k n) ≡ high * 256 ^ k + n % 256 ^ k
+bytes_read : (k n high : ℕ)
+    → fold (λ h byte. h * 256 + byte) high (bytes_high_first k n) ≡ high * 256 ^ k + n % 256 ^ k
 bytes_read zero n high = omega arith
 bytes_read (suc k) n high = bytes_read k n (high * 256 + byte_at k n) ∙ byte_on k n high
 
@@ -45,5 +49,6 @@ initial_parts major i h =
     let low : (32 * major + i) % 32 ≡ i = omega arith in
     rw (high, low) refl
 
-pub initial-head : (major n : ℕ) (w : Width) → HeadFits w n → initial (32 * major + additional w n) ≡ by_major major (additional w n)
+pub initial-head : (major n : ℕ) (w : Width) → HeadFits w n
+    → initial (32 * major + additional w n) ≡ by_major major (additional w n)
 initial-head major n w h = initial_parts major (additional w n) (additional-lt n w h)

@@ -1,17 +1,22 @@
 -- Whole items, one after another, are read back, whatever follows them.
-use Rattle.std.proofs.Common.{◌≡◌, ℕ, zero, suc, ◌<◌, ◌≤◌, List, ◌∷◌, ◌++◌, length, Ok, refl, ap, ◌∙◌, arith, subst, ne_eqb, append_assoc, length-append}
+use Rattle.std.proofs.Common.{◌≡◌, ℕ, zero, suc, ◌<◌, ◌≤◌, List, ◌∷◌, ◌++◌, length, Ok, refl, ap}
+use Rattle.std.proofs.Common.{◌∙◌, arith, subst, ne_eqb, append_assoc, length-append}
 use Rattle.cbor4ii_items.specs.Head.{break}
-use Rattle.cbor4ii_tree.specs.Tree.{Tree, Trees, no_trees, tree, Pairs, no_pairs, pair, count, pair_count, bytes, bytes_all, bytes_pairs}
+use Rattle.cbor4ii_tree.specs.Tree.{Tree, Trees, no_trees, tree, Pairs, no_pairs, pair, count}
+use Rattle.cbor4ii_tree.specs.Tree.{pair_count, bytes, bytes_all, bytes_pairs}
 use Rattle.cbor4ii_tree.specs.Stops.{Each, EachPair}
-use Rattle.cbor4ii_tree.specs.Parse.{Parser, ◌>>=◌, trees_at, pairs_at, open_trees_at, open_pairs_at}
-use Rattle.cbor4ii_tree.specs.Laws.Initials.{Begins, length-bytes-pos}
+use Rattle.cbor4ii_tree.specs.Parse.{Parser, ◌>>=◌, trees_at, pairs_at, open_trees_at}
+use Rattle.cbor4ii_tree.specs.Parse.{open_pairs_at}
+use Rattle.cbor4ii_tree.specs.Laws.Initials.{BeginsNoBreak, length-bytes-pos}
 
 -- below so many bytes, whole items are read back
 abbrev pub Again : Parser Tree → (Tree → Type 0) → ℕ → Type 0
-Again item Whole bound = (t : Tree) (x : List ℕ) → Whole t → length (bytes t ++ x) < bound → item (bytes t ++ x) ≡ Ok (t, x)
+Again item Whole bound =
+    (t : Tree) (x : List ℕ) → Whole t → length (bytes t ++ x) < bound
+    → item (bytes t ++ x) ≡ Ok (t, x)
 
-abbrev pub Starts : (Tree → Type 0) → Type 0
-Starts Whole = (t : Tree) → Whole t → Begins (bytes t)
+abbrev pub StartNoBreak : (Tree → Type 0) → Type 0
+StartNoBreak Whole = (t : Tree) → Whole t → BeginsNoBreak (bytes t)
 
 pub shorter : (a b : List ℕ) (bound : ℕ) → length (a ++ b) < bound → length b < bound
 shorter a b bound h = omega (arith, length-append a b)
@@ -20,64 +25,114 @@ pub pair_split : (a b c x : List ℕ) → (a ++ (b ++ c)) ++ x ≡ a ++ (b ++ (c
 pair_split a b c x = simp append_assoc
 
 -- a turn of an open sequence reads an item
-pub open_turn : (item : Parser Tree) (n : ℕ) (bs x : List ℕ) → Begins bs → open_trees_at item (suc n) (bs ++ x) ≡ (item (bs ++ x) >>= λ p. open_trees_at item n p.1 >>= λ q. Ok (tree p.0 q.0, q.1))
+pub open_turn : (item : Parser Tree) (n : ℕ) (bs x : List ℕ) → BeginsNoBreak bs
+    → open_trees_at item (suc n)
+    (bs ++ x) ≡ (item (bs ++ x) >>= λ p. open_trees_at item n p.1 >>= λ q. Ok (tree p.0 q.0, q.1))
 unfolding open_trees_at
 open_turn item n bs x h = rw (h.2, ne_eqb h.0 255 (omega arith)) refl
 
-pub open_pair_turn : (item : Parser Tree) (n : ℕ) (bs x : List ℕ) → Begins bs
-    → open_pairs_at item (suc n) (bs ++ x) ≡ (item (bs ++ x) >>= λ k. item k.1 >>= λ v. open_pairs_at item n v.1 >>= λ q. Ok (pair k.0 v.0 q.0, q.1))
+pub open_pair_turn : (item : Parser Tree) (n : ℕ) (bs x : List ℕ) → BeginsNoBreak bs
+    → open_pairs_at item (suc n) (bs ++ x) ≡ (item (bs ++ x) >>= λ k. item k.1
+    >>= λ v. open_pairs_at item n v.1 >>= λ q. Ok (pair k.0 v.0 q.0, q.1))
 unfolding open_pairs_at
 open_pair_turn item n bs x h = rw (h.2, ne_eqb h.0 255 (omega arith)) refl
 
-pub trees_again : (item : Parser Tree) (Whole : Tree → Type 0) (bound : ℕ) → Again item Whole bound → (ts : Trees) (x : List ℕ) → Each Whole ts → length (bytes_all ts ++ x) < bound → trees_at item (count ts) (bytes_all ts ++ x) ≡ Ok (ts, x)
+pub trees_again : (item : Parser Tree) (Whole : Tree → Type 0) (bound : ℕ) → Again item Whole bound
+    → (ts : Trees) (x : List ℕ) → Each Whole ts → length (bytes_all ts ++ x) < bound
+    → trees_at item (count ts) (bytes_all ts ++ x) ≡ Ok (ts, x)
 unfolding trees_at
 trees_again item Whole bound a no_trees x w lt = refl
 trees_again item Whole bound a (tree t ts) x w lt =
-    let lt2 : length (bytes t ++ (bytes_all ts ++ x)) < bound = subst (λ y. length y < bound) (append_assoc (bytes t) (bytes_all ts) x) lt in
-    rw (append_assoc (bytes t) (bytes_all ts) x, a t (bytes_all ts ++ x) w.0 lt2, trees_again item Whole bound a ts x w.1 (shorter (bytes t) (bytes_all ts ++ x) bound lt2)) refl
+    let lt2 : length (bytes t ++ (bytes_all ts ++ x)) < bound =
+    subst (λ y. length y < bound) (append_assoc (bytes t) (bytes_all ts) x) lt in
+    rw (
+      append_assoc (bytes t) (bytes_all ts) x,
+      a t (bytes_all ts ++ x) w.0 lt2,
+      trees_again item
+          Whole bound a ts x w.1 (shorter (bytes t) (bytes_all ts ++ x) bound lt2),
+    ) refl
 
-pub pairs_again : (item : Parser Tree) (Whole : Tree → Type 0) (bound : ℕ) → Again item Whole bound → (ps : Pairs) (x : List ℕ) → EachPair Whole ps → length (bytes_pairs ps ++ x) < bound → pairs_at item (pair_count ps) (bytes_pairs ps ++ x) ≡ Ok (ps, x)
+pub pairs_again : (item : Parser Tree) (Whole : Tree → Type 0) (bound : ℕ) → Again item Whole bound
+    → (ps : Pairs) (x : List ℕ) → EachPair Whole ps → length (bytes_pairs ps ++ x) < bound
+    → pairs_at item (pair_count ps) (bytes_pairs ps ++ x) ≡ Ok (ps, x)
 unfolding pairs_at
 pairs_again item Whole bound a no_pairs x w lt = refl
 pairs_again item Whole bound a (pair k v ps) x w lt =
     let rest : List ℕ = bytes_pairs ps ++ x in
     let same = pair_split (bytes k) (bytes v) (bytes_pairs ps) x in
-    let lt2 : length (bytes k ++ (bytes v ++ rest)) < bound = subst (λ y. length y < bound) same lt in
+    let lt2 : length (bytes k ++ (bytes v ++ rest)) < bound =
+    subst (λ y. length y < bound) same lt in
     let lt3 : length (bytes v ++ rest) < bound = shorter (bytes k) (bytes v ++ rest) bound lt2 in
-    rw (same, a k (bytes v ++ rest) w.0 lt2, a v rest w.1 lt3, pairs_again item Whole bound a ps x w.2 (shorter (bytes v) rest bound lt3)) refl
+    rw (
+      same,
+      a k (bytes v ++ rest) w.0 lt2,
+      a v rest w.1 lt3,
+      pairs_again item Whole bound a ps x w.2 (shorter (bytes v) rest bound lt3),
+    ) refl
 
-open_end : (item : Parser Tree) (n : ℕ) (x : List ℕ) → open_trees_at item (suc n) (break ∷ x) ≡ Ok (no_trees, x)
+open_end : (item : Parser Tree) (n : ℕ) (x : List ℕ)
+    → open_trees_at item (suc n) (break ∷ x) ≡ Ok (no_trees, x)
 unfolding open_trees_at
 open_end item n x = refl
 
-open_pairs_end : (item : Parser Tree) (n : ℕ) (x : List ℕ) → open_pairs_at item (suc n) (break ∷ x) ≡ Ok (no_pairs, x)
+open_pairs_end : (item : Parser Tree) (n : ℕ) (x : List ℕ)
+    → open_pairs_at item (suc n) (break ∷ x) ≡ Ok (no_pairs, x)
 unfolding open_pairs_at
 open_pairs_end item n x = refl
 
 -- where the bytes are no more than the turns, these are enough
-pub open_trees_again : (item : Parser Tree) (Whole : Tree → Type 0) (bound : ℕ) → Again item Whole bound → Starts Whole → (ts : Trees) (n : ℕ) (x : List ℕ) → Each Whole ts → length (bytes_all ts ++ break ∷ x) ≤ n
-    → length (bytes_all ts ++ break ∷ x) < bound → open_trees_at item n (bytes_all ts ++ break ∷ x) ≡ Ok (ts, x)
+pub open_trees_again : (item : Parser Tree) (Whole : Tree → Type 0) (bound : ℕ)
+    → Again item Whole bound → StartNoBreak Whole → (ts : Trees) (n : ℕ) (x : List ℕ)
+    → Each Whole ts → length (bytes_all ts ++ break ∷ x) ≤ n
+    → length (bytes_all ts ++ break ∷ x) < bound
+    → open_trees_at item n (bytes_all ts ++ break ∷ x) ≡ Ok (ts, x)
 open_trees_again item Whole bound a s no_trees zero x w more lt = absurd (omega arith)
 open_trees_again item Whole bound a s no_trees (suc n) x w more lt = open_end item n x
-open_trees_again item Whole bound a s (tree t ts) zero x w more lt = absurd (omega (arith, length-append (bytes t ++ bytes_all ts) (break ∷ x)))
+open_trees_again item Whole bound a s (tree t ts) zero x w more lt =
+    absurd (omega (arith, length-append (bytes t ++ bytes_all ts) (break ∷ x)))
 open_trees_again item Whole bound a s (tree t ts) (suc n) x w more lt =
     let rest : List ℕ = bytes_all ts ++ break ∷ x in
-    let same : (bytes t ++ bytes_all ts) ++ break ∷ x ≡ bytes t ++ rest = append_assoc (bytes t) (bytes_all ts) (break ∷ x) in
+    let same : (bytes t ++ bytes_all ts) ++ break ∷ x ≡ bytes t ++ rest =
+    append_assoc (bytes t) (bytes_all ts) (break ∷ x) in
     let lt2 : length (bytes t ++ rest) < bound = subst (λ y. length y < bound) same lt in
-    let fewer : length rest ≤ n = omega (arith, ap length same, length-append (bytes t) rest, length-bytes-pos t) in
+    let fewer : length rest ≤ n =
+    omega (arith, ap length same, length-append (bytes t) rest, length-bytes-pos t) in
     ap (open_trees_at item (suc n)) same
-    ∙ (open_turn item n (bytes t) rest (s t w.0) ∙ rw (a t rest w.0 lt2, open_trees_again item Whole bound a s ts n x w.1 fewer (shorter (bytes t) rest bound lt2)) refl)
+    ∙ (open_turn item n (bytes t) rest (s t w.0) ∙ rw (
+      a t rest w.0 lt2,
+      open_trees_again item Whole
+          bound a s ts n x w.1 fewer (shorter (bytes t) rest bound lt2),
+    ) refl)
 
-pub open_pairs_again : (item : Parser Tree) (Whole : Tree → Type 0) (bound : ℕ) → Again item Whole bound → Starts Whole → (ps : Pairs) (n : ℕ) (x : List ℕ) → EachPair Whole ps → length (bytes_pairs ps ++ break ∷ x) ≤ n
-    → length (bytes_pairs ps ++ break ∷ x) < bound → open_pairs_at item n (bytes_pairs ps ++ break ∷ x) ≡ Ok (ps, x)
+pub open_pairs_again : (item : Parser Tree) (Whole : Tree → Type 0) (bound : ℕ)
+    → Again item Whole bound → StartNoBreak Whole → (ps : Pairs) (n : ℕ) (x : List ℕ)
+    → EachPair Whole ps → length (bytes_pairs ps ++ break ∷ x) ≤ n
+    → length (bytes_pairs ps ++ break ∷ x) < bound
+    → open_pairs_at item n (bytes_pairs ps ++ break ∷ x) ≡ Ok (ps, x)
 open_pairs_again item Whole bound a s no_pairs zero x w more lt = absurd (omega arith)
 open_pairs_again item Whole bound a s no_pairs (suc n) x w more lt = open_pairs_end item n x
-open_pairs_again item Whole bound a s (pair k v ps) zero x w more lt = absurd (omega (arith, length-append (bytes k ++ (bytes v ++ bytes_pairs ps)) (break ∷ x)))
+open_pairs_again item Whole bound a s (pair k v ps) zero x w more lt =
+    absurd (omega (arith, length-append (bytes k ++ (bytes v ++ bytes_pairs ps)) (break ∷ x)))
 open_pairs_again item Whole bound a s (pair k v ps) (suc n) x w more lt =
     let rest : List ℕ = bytes_pairs ps ++ break ∷ x in
-    let same : (bytes k ++ (bytes v ++ bytes_pairs ps)) ++ break ∷ x ≡ bytes k ++ (bytes v ++ rest) = pair_split (bytes k) (bytes v) (bytes_pairs ps) (break ∷ x) in
-    let lt2 : length (bytes k ++ (bytes v ++ rest)) < bound = subst (λ y. length y < bound) same lt in
+    let same : (bytes k ++ (bytes v ++ bytes_pairs ps)) ++ break ∷ x ≡ bytes k
+    ++ (bytes v ++ rest) = pair_split (bytes k) (bytes v) (bytes_pairs ps) (break ∷ x) in
+    let lt2 : length (bytes k ++ (bytes v ++ rest)) < bound =
+    subst (λ y. length y < bound) same lt in
     let lt3 : length (bytes v ++ rest) < bound = shorter (bytes k) (bytes v ++ rest) bound lt2 in
-    let fewer : length rest ≤ n = omega (arith, ap length same, length-append (bytes k) (bytes v ++ rest), length-append (bytes v) rest, length-bytes-pos k) in
+    let fewer : length rest ≤ n = omega (
+      arith,
+      ap length same,
+      length-append (bytes k)
+          (bytes v ++ rest),
+      length-append (bytes v) rest,
+      length-bytes-pos k,
+    ) in
     ap (open_pairs_at item (suc n)) same
-    ∙ (open_pair_turn item n (bytes k) (bytes v ++ rest) (s k w.0) ∙ rw (a k (bytes v ++ rest) w.0 lt2, a v rest w.1 lt3, open_pairs_again item Whole bound a s ps n x w.2 fewer (shorter (bytes v) rest bound lt3)) refl)
+    ∙ (open_pair_turn item n (bytes k) (bytes v ++ rest) (s k w.0)
+    ∙ rw (
+      a k (bytes v ++ rest) w.0 lt2,
+      a v rest w.1 lt3,
+      open_pairs_again item Whole bound
+          a s ps n x w.2 fewer (shorter (bytes v) rest bound lt3),
+    ) refl)

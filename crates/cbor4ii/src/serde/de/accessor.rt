@@ -34,10 +34,10 @@ ghost use Rattle.cbor4ii.specs.Accessing.{
   left_in,
   steps_held,
   with_deserializer,
-  Opens,
+  OpensParts,
   Closes,
   Next,
-  Starts,
+  LeftAfterStart,
   ReadsStart,
   StopsStart,
   StopsElement,
@@ -117,7 +117,7 @@ impl<S: Source> Deserializer<S> {
             (input S.view self.old) (input S.view new) (as_core error)))) }
         ensures same_reference { IfOk result
             (λ accessor. lender_of accessor ≡ self.entry.ghost_name) }
-        ensures opened { IfOk result (λ accessor. Opens 4 (input S.view self.old)
+        ensures opened { IfOk result (λ accessor. OpensParts 4 (input S.view self.old)
             (inside S.view accessor) (left_in accessor)) }
         ensures steps { IfOk result (λ accessor. steps_held accessor ≡ 1) }
         ensures memory { IfErr result (λ error. is_out_of_memory (as_core error) ≡ false) }
@@ -151,7 +151,7 @@ impl<S: Source> Deserializer<S> {
             (input S.view self.old) (input S.view new) (as_core error)))) }
         ensures same_reference { IfOk result
             (λ accessor. lender_of accessor ≡ self.entry.ghost_name) }
-        ensures opened { IfOk result (λ accessor. Opens 4 (input S.view self.old)
+        ensures opened { IfOk result (λ accessor. OpensParts 4 (input S.view self.old)
             (inside S.view accessor) (left_in accessor)) }
         ensures steps { IfOk result (λ accessor. steps_held accessor ≡ 1) }
         ensures left { IfOk result (λ accessor. left_in accessor ≡ Counted len) }
@@ -181,7 +181,7 @@ impl<S: Source> Deserializer<S> {
             (input S.view self.old) (input S.view new) (as_core error)))) }
         ensures same_reference { IfOk result
             (λ accessor. lender_of accessor ≡ self.entry.ghost_name) }
-        ensures opened { IfOk result (λ accessor. Opens 5 (input S.view self.old)
+        ensures opened { IfOk result (λ accessor. OpensParts 5 (input S.view self.old)
             (inside S.view accessor) (left_in accessor)) }
         ensures steps { IfOk result (λ accessor. steps_held accessor ≡ 1) }
         ensures memory { IfErr result (λ error. is_out_of_memory (as_core error) ≡ false) }
@@ -210,7 +210,7 @@ impl<S: Source> Deserializer<S> {
             (input S.view self.old) (input S.view new) (as_core error)))) }
         ensures same_reference { IfOk result
             (λ accessor. lender_of accessor ≡ self.entry.ghost_name) }
-        ensures opened { IfOk result (λ accessor. Opens 4 (input S.view self.old)
+        ensures opened { IfOk result (λ accessor. OpensParts 4 (input S.view self.old)
             (inside S.view accessor) (left_in accessor)) }
         ensures steps { IfOk result (λ accessor. steps_held accessor ≡ 1) }
         ensures left { IfOk result (λ accessor. left_in accessor ≡ Counted len) }
@@ -234,7 +234,7 @@ impl<S: Source> Deserializer<S> {
             (input S.view self.old) (input S.view new) (as_core error)))) }
         ensures same_reference { IfOk result
             (λ accessor. lender_of accessor ≡ self.entry.ghost_name) }
-        ensures opened { IfOk result (λ accessor. Opens 5 (input S.view self.old)
+        ensures opened { IfOk result (λ accessor. OpensParts 5 (input S.view self.old)
             (inside S.view accessor) (left_in accessor)) }
         ensures steps { IfOk result (λ accessor. steps_held accessor ≡ 1) }
         ensures memory { IfErr result (λ error. is_out_of_memory (as_core error) ≡ false) }
@@ -269,7 +269,8 @@ impl<'a, S: Source> Accessor<'a, S> {
             (Breaks (inside S.view self.old) (inside S.view self.new)) }
         ensures sound { IfOk result (Sound (ReadsStart (left_in self.old))
             (inside S.view self.old) (inside S.view self.new)) }
-        ensures answer { IfOk result (λ more. Starts (left_in self.old) (left_in self.new) more) }
+        ensures answer { IfOk result (λ more.
+            LeftAfterStart (left_in self.old) (left_in self.new) more) }
         ensures asked { OnErr result (left_in self.old ≡ Open) }
         ensures kept { OnErr result (left_in self.new ≡ Open) }
         ensures complete { IfErr result (λ error. Refuses (ReadsStart (left_in self.old))

@@ -29,7 +29,7 @@ ghost use Rattle.cbor4ii.specs.Accessing.{
   lender_of,
   left_in,
   steps_held,
-  Opens,
+  OpensParts,
   Closes,
   Finishes,
 };
@@ -188,7 +188,8 @@ fn begin_tuple_content<S: Source>(
     found: u8,
     len: usize,
 ) -> Result<(), core_error::DecodeError<S::Error>>
-    ensures opened { OnOk result (Opens 4 (S.view reader.old) (S.view reader.new) (Counted len)) }
+    ensures opened { OnOk result
+        (OpensParts 4 (S.view reader.old) (S.view reader.new) (Counted len)) }
     ensures finishes { OnErr result (Finishes 1 (S.view reader.old) (S.view reader.new) result) }
     ensures wrong { content ≡ false → SaysOther found result }
     ensures memory { IfErr result (λ error. is_out_of_memory error ≡ false) }
@@ -221,7 +222,8 @@ fn begin_map_content<S: Source>(
     content: bool,
     found: u8,
 ) -> Result<Left, core_error::DecodeError<S::Error>>
-    ensures opened { IfOk result (λ left. Opens 5 (S.view reader.old) (S.view reader.new) left) }
+    ensures opened { IfOk result (λ left.
+        OpensParts 5 (S.view reader.old) (S.view reader.new) left) }
     ensures finishes { OnErr result (Finishes 1 (S.view reader.old) (S.view reader.new) result) }
     ensures wrong { content ≡ false → SaysOther found result }
     ensures memory { IfErr result (λ error. is_out_of_memory error ≡ false) }
@@ -368,7 +370,7 @@ impl<'a, S: Source> EnumAccessor<'a, S> {
             (λ accessor. lender_of accessor ≡ lender_of_enum self.entry) }
         ensures wrong { (form_of self.entry).0 ≡ false →
             SaysOther (form_of self.entry).1 (answer_of result) }
-        ensures opened { IfOk result (λ accessor. Opens 4 (inside_enum S.view self.entry)
+        ensures opened { IfOk result (λ accessor. OpensParts 4 (inside_enum S.view self.entry)
             (inside S.view accessor) (left_in accessor)) }
         ensures steps { IfOk result (λ accessor. steps_held accessor ≡ 2) }
         ensures left { IfOk result (λ accessor. left_in accessor ≡ Counted len) }
@@ -405,7 +407,7 @@ impl<'a, S: Source> EnumAccessor<'a, S> {
             (λ accessor. lender_of accessor ≡ lender_of_enum self.entry) }
         ensures wrong { (form_of self.entry).0 ≡ false →
             SaysOther (form_of self.entry).1 (answer_of result) }
-        ensures opened { IfOk result (λ accessor. Opens 5 (inside_enum S.view self.entry)
+        ensures opened { IfOk result (λ accessor. OpensParts 5 (inside_enum S.view self.entry)
             (inside S.view accessor) (left_in accessor)) }
         ensures steps { IfOk result (λ accessor. steps_held accessor ≡ 2) }
         ensures memory { IfErr result (λ error. is_out_of_memory (as_core error) ≡ false) }

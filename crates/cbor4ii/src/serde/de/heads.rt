@@ -5,7 +5,7 @@ ghost use Rattle.cbor4ii_items.specs.Decoding.{Refuses, Stops};
 ghost use Rattle.cbor4ii_items.specs.Lengths.{ReadsLength, StopsLength};
 ghost use Rattle.cbor4ii_items.specs.Refusal.{is_out_of_memory};
 ghost use Rattle.cbor4ii.specs.declared.serde.de.accessor.Left.TheVariants.{Counted};
-ghost use Rattle.cbor4ii.specs.Accessing.{Opens};
+ghost use Rattle.cbor4ii.specs.Accessing.{OpensParts};
 ghost use Rattle.cbor4ii.specs.Stepped.{Stepped, StopsStepped};
 ghost use Rattle.cbor4ii.specs.Tuples.{ReadsCountOf, StopsCountOf};
 
@@ -17,7 +17,8 @@ use cbor4ii_rw::read::Source;
 
 /// An array of any length. Where it is refused, the step is given back.
 pub(crate) fn begin_array<S: Source>(reader: &mut S) -> Result<Left, DecodeError<S::Error>>
-    ensures opened { IfOk result (λ left. Opens 4 (S.view reader.old) (S.view reader.new) left) }
+    ensures opened { IfOk result (λ left.
+        OpensParts 4 (S.view reader.old) (S.view reader.new) left) }
     ensures moves { OnErr result (Moves (S.view reader.old) (S.view reader.new) result) }
     ensures memory { IfErr result (λ error. is_out_of_memory error ≡ false) }
     ensures complete { IfErr result (Refuses (Stepped (ReadsLength 4)) (S.view reader.old)) }
@@ -40,7 +41,8 @@ pub(crate) fn begin_array<S: Source>(reader: &mut S) -> Result<Left, DecodeError
 
 /// A map of any length. Where it is refused, the step is given back.
 pub(crate) fn begin_map<S: Source>(reader: &mut S) -> Result<Left, DecodeError<S::Error>>
-    ensures opened { IfOk result (λ left. Opens 5 (S.view reader.old) (S.view reader.new) left) }
+    ensures opened { IfOk result (λ left.
+        OpensParts 5 (S.view reader.old) (S.view reader.new) left) }
     ensures moves { OnErr result (Moves (S.view reader.old) (S.view reader.new) result) }
     ensures memory { IfErr result (λ error. is_out_of_memory error ≡ false) }
     ensures complete { IfErr result (Refuses (Stepped (ReadsLength 5)) (S.view reader.old)) }
@@ -66,7 +68,8 @@ pub(crate) fn begin_tuple<S: Source>(
     reader: &mut S,
     len: usize,
 ) -> Result<(), DecodeError<S::Error>>
-    ensures opened { OnOk result (Opens 4 (S.view reader.old) (S.view reader.new) (Counted len)) }
+    ensures opened { OnOk result
+        (OpensParts 4 (S.view reader.old) (S.view reader.new) (Counted len)) }
     ensures moves { OnErr result (Moves (S.view reader.old) (S.view reader.new) result) }
     ensures memory { IfErr result (λ error. is_out_of_memory error ≡ false) }
     ensures complete { IfErr result (Refuses (Stepped (ReadsCountOf len)) (S.view reader.old)) }

@@ -30,7 +30,7 @@ ghost use Rattle.cbor4ii.specs.Optional.{
   ReadsPresence,
   StopsPresence,
   OpensOption,
-  ReadsValue,
+  ReadsComingValue,
 };
 ghost use Rattle.cbor4ii.specs.Typed.{input, answer_of, as_core};
 
@@ -152,10 +152,10 @@ impl<'a, S: Source> SomeAccessor<'a, S> {
         ensures progress { IfOk result (λ value. OnSome value
             ((input S.view self.exit.0.now).bound + 1
             ≤ (inside_some S.view self.entry).bound)) }
-        ensures sound { IfOk result (Sound (ReadsValue (comes self.entry) T.reads)
+        ensures sound { IfOk result (Sound (ReadsComingValue (comes self.entry) T.reads)
             (inside_some S.view self.entry) (input S.view self.exit.0.now)) }
         ensures complete { IsTrue T.exact → IsExact T.owned (inside_some S.view self.entry) →
-            IfErr result (λ error. Refuses (ReadsValue (comes self.entry) T.reads)
+            IfErr result (λ error. Refuses (ReadsComingValue (comes self.entry) T.reads)
             (inside_some S.view self.entry) (as_core error)) }
         ensures stops { IsTrue T.exact → IfErr result (λ error. Stops T.stops
             (inside_some S.view self.entry) (input S.view self.exit.0.now) (as_core error)) }

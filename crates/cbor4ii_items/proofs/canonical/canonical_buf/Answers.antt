@@ -10,7 +10,8 @@ pub returns-clause-sound : goal.returns-clause-sound
 returns-clause-sound g c = string_sound _ _ _ c.take_shortest_string.ensures.runs
 
 pub returns-clause-complete : goal.returns-clause-complete
-returns-clause-complete g c = string_complete _ _ _ (omega (arith, c.requires)) c.take_shortest_string.ensures.runs
+returns-clause-complete g c =
+    string_complete _ _ _ (omega (arith, c.requires)) c.take_shortest_string.ensures.runs
 
 pub returns-clause-stops : goal.returns-clause-stops
 returns-clause-stops g c = string_refused _ _ _ c.take_shortest_string.ensures.runs

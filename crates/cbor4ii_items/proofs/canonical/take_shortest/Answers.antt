@@ -4,20 +4,30 @@ use Rattle.cbor4ii_items.proofs.Shortest.{runs_opening, runs_head_err, runs_shor
 use Rattle.cbor4ii_items.proofs.canonical.take_shortest.Goals as goal
 
 pub returns-then-is_open-clause-runs : goal.returns-then-is_open-clause-runs
-returns-then-is_open-clause-runs g c = runs_opening c.args.name.now c.args.major c.in_ok-first.first c.in_ok-first.ensures.runs c.in_ok-first.ensures.byte c.advance.ensures (sym c.is_open.ensures ∙ c.if-is_open.true) refl refl refl
+returns-then-is_open-clause-runs g c =
+    runs_opening c.args.name.now c.args.major c.in_ok-first.first c.in_ok-first.ensures.runs
+    c.in_ok-first.ensures.byte c.advance.ensures (sym c.is_open.ensures ∙ c.if-is_open.true)
+    refl refl refl
 
 pub returns-in_err-argument-clause-runs : goal.returns-in_err-argument-clause-runs
 returns-in_err-argument-clause-runs g c =
-    let p = err_from_is_err_and c.from_residual-in_err-argument.result c.from_residual-in_err-argument.ensures.1 in
-    rw (p.1, p.2) (runs_head_err c.args.name.now c.args.major c.in_ok-first.first c.in_ok-first.ensures.runs (sym c.is_open.ensures ∙ c.if-is_open.false) c.in_err-argument.ensures.runs)
+    let p = err_from_is_err_and c.from_residual-in_err-argument.result
+    c.from_residual-in_err-argument.ensures.1 in
+    rw (p.1, p.2)
+    (runs_head_err c.args.name.now c.args.major c.in_ok-first.first c.in_ok-first.ensures.runs
+    (sym c.is_open.ensures ∙ c.if-is_open.false) c.in_err-argument.ensures.runs)
 
 pub returns-then-first-shortest_info-clause-runs : goal.returns-then-first-shortest_info-clause-runs
 returns-then-first-shortest_info-clause-runs g c =
-    runs_too_long c.args.name.now c.args.major c.in_ok-first.first c.in_ok-first.ensures.runs (sym c.is_open.ensures ∙ c.if-is_open.false) c.in_ok-argument.ensures.runs (λ e. c.if-first-shortest_info.true (e ∙ sym c.shortest_info.ensures)) refl refl refl
+    runs_too_long c.args.name.now c.args.major c.in_ok-first.first c.in_ok-first.ensures.runs
+    (sym c.is_open.ensures ∙ c.if-is_open.false) c.in_ok-argument.ensures.runs
+    (λ e. c.if-first-shortest_info.true (e ∙ sym c.shortest_info.ensures)) refl refl refl
 
 pub returns-clause-runs : goal.returns-clause-runs
 returns-clause-runs g c =
-    runs_shortest c.args.name.now c.args.major c.in_ok-first.first c.in_ok-first.ensures.runs (sym c.is_open.ensures ∙ c.if-is_open.false) c.in_ok-argument.ensures.runs (c.if-first-shortest_info.false ∙ c.shortest_info.ensures)
+    runs_shortest c.args.name.now c.args.major c.in_ok-first.first c.in_ok-first.ensures.runs
+    (sym c.is_open.ensures ∙ c.if-is_open.false) c.in_ok-argument.ensures.runs
+    (c.if-first-shortest_info.false ∙ c.shortest_info.ensures)
 
 pub returns-in_err-first-clause-memory : goal.returns-in_err-first-clause-memory
 returns-in_err-first-clause-memory g c =
@@ -25,15 +35,20 @@ returns-in_err-first-clause-memory g c =
     rw (p.1, p.2) c.in_err-first.ensures.memory
 
 pub returns-in_err-first-clause-progress : goal.returns-in_err-first-clause-progress
-returns-in_err-first-clause-progress g c = rw (err_from_is_err_and c.from_residual.result c.from_residual.ensures.1).1 tt
+returns-in_err-first-clause-progress g c =
+    rw (err_from_is_err_and c.from_residual.result c.from_residual.ensures.1).1 tt
 
 pub returns-in_err-argument-clause-memory : goal.returns-in_err-argument-clause-memory
 returns-in_err-argument-clause-memory g c =
-    let p = err_from_is_err_and c.from_residual-in_err-argument.result c.from_residual-in_err-argument.ensures.1 in
+    let p = err_from_is_err_and c.from_residual-in_err-argument.result
+    c.from_residual-in_err-argument.ensures.1 in
     rw (p.1, p.2) c.in_err-argument.ensures.memory
 
 pub returns-in_err-argument-clause-progress : goal.returns-in_err-argument-clause-progress
-returns-in_err-argument-clause-progress g c = rw (err_from_is_err_and c.from_residual-in_err-argument.result c.from_residual-in_err-argument.ensures.1).1 tt
+returns-in_err-argument-clause-progress g c =
+    rw (err_from_is_err_and c.from_residual-in_err-argument.result
+    c.from_residual-in_err-argument.ensures.1).1 tt
 
-pub returns-then-first-shortest_info-clause-memory : goal.returns-then-first-shortest_info-clause-memory
+pub returns-then-first-shortest_info-clause-memory :
+    goal.returns-then-first-shortest_info-clause-memory
 returns-then-first-shortest_info-clause-memory g c = refl

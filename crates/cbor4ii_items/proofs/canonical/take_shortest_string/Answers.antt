@@ -5,7 +5,8 @@ use Rattle.cbor4ii_items.specs.Laws.Running.{runs_err, runs_then}
 use Rattle.cbor4ii_items.proofs.canonical.take_shortest_string.Goals as goal
 
 pub returns-clause-runs : goal.returns-clause-runs
-returns-clause-runs g c = runs_then (λ n. content_on c.args.name.now n []) c.in_ok-count.ensures.runs c.take_known.ensures
+returns-clause-runs g c =
+    runs_then (λ n. content_on c.args.name.now n []) c.in_ok-count.ensures.runs c.take_known.ensures
 
 pub returns-in_err-count-clause-runs : goal.returns-in_err-count-clause-runs
 returns-in_err-count-clause-runs g c =

@@ -9,15 +9,20 @@ use Rattle.cbor4ii_items.proofs.floats.number_of.Goals as goal
 pub overflow_mul-number : goal.overflow_mul-number
 overflow_mul-number c =
     let more = one_more _ 0 _ c.loop-byte.invariant.small (omega arith) in
-    let h : c.loop-byte.number * 256 + 0 < 256 ^ 8 = wider _ (c.loop-byte.byte-index + 1) 8 (omega arith) more in
+    let h : c.loop-byte.number * 256 + 0 < 256 ^ 8 =
+    wider _ (c.loop-byte.byte-index + 1) 8 (omega arith) more in
     omega (arith, h)
 
 pub overflow_add-number : goal.overflow_add-number
 overflow_add-number c =
     let byte = slice_index_or c.args.bytes.now c.loop-byte.byte-index 0 in
-    let more = one_more _ byte _ c.loop-byte.invariant.small (Fits-lt-pow {w = w8} (c.type_inv.bytes c.loop-byte.byte-index)) in
-    let h : c.loop-byte.number * 256 + byte < 256 ^ 8 = wider _ (c.loop-byte.byte-index + 1) 8 (omega arith) more in
+    let more = one_more _ byte _ c.loop-byte.invariant.small
+    (Fits-lt-pow {w = w8} (c.type_inv.bytes c.loop-byte.byte-index)) in
+    let h : c.loop-byte.number * 256 + byte < 256 ^ 8 =
+    wider _ (c.loop-byte.byte-index + 1) 8 (omega arith) more in
     omega (arith, h)
 
 pub returns-clause-bytes : goal.returns-clause-bytes
-returns-clause-bytes c = subst IsBytes (take-length c.args.bytes.now) (first_bytes _ _ (λ i. Fits-lt-pow {w = w8} (c.type_inv.bytes i)))
+returns-clause-bytes c =
+    subst IsBytes (take-length c.args.bytes.now)
+    (first_bytes _ _ (λ i. Fits-lt-pow {w = w8} (c.type_inv.bytes i)))

@@ -6,7 +6,8 @@ use Rattle.cbor4ii_items.proofs.floats.take_float.Goals as goal
 
 pub returns-in-Some-in_front-clause-runs : goal.returns-in-Some-in_front-clause-runs
 returns-in-Some-in_front-clause-runs g c =
-    runs_float _ (omega arith) (looked _ _ _ _ c.in-Some.is c.look.follows.holds-at-none) c.in-Some.ensures.front c.in-Some-in_front.ensures c.advance.ensures
+    runs_float _ (omega arith) (looked _ _ _ _ c.in-Some.is c.look.follows.holds-at-none)
+    c.in-Some.ensures.front c.in-Some-in_front.ensures c.advance.ensures
 
 pub returns-in-Some-clause-runs : goal.returns-in-Some-clause-runs
 returns-in-Some-clause-runs g c =

@@ -4,7 +4,9 @@ use Rattle.cbor4ii_items.proofs.WholeHeads.{runs_whole}
 use Rattle.cbor4ii_items.proofs.front.take_head.Goals as goal
 
 pub returns-in-Some-head-clause-runs : goal.returns-in-Some-head-clause-runs
-returns-in-Some-head-clause-runs g c name = runs_whole name (looked _ _ _ _ c.in-Some.is c.look.follows.holds-at-none) c.in-Some.ensures.front c.in-Some-head.ensures c.advance.ensures
+returns-in-Some-head-clause-runs g c name =
+    runs_whole name (looked _ _ _ _ c.in-Some.is c.look.follows.holds-at-none)
+    c.in-Some.ensures.front c.in-Some-head.ensures c.advance.ensures
 
 pub returns-in-Some-head-clause-fits : goal.returns-in-Some-head-clause-fits
 returns-in-Some-head-clause-fits g c w = let h = c.in-Some-head.ensures in h.fits w

@@ -8,7 +8,8 @@ returns-then-info-lt24-clause-fits g c h = small_argument _ _ (omega arith) h
 
 pub returns-clause-fits : goal.returns-clause-fits
 returns-clause-fits g c h =
-    let le : c.following.result ≤ c.args.width = rw c.following.ensures (allowed_le _ _ (sym c.if-not-allowed.ensures)) in
+    let le : c.following.result ≤ c.args.width =
+    rw c.following.ensures (allowed_le _ _ (sym c.if-not-allowed.ensures)) in
     wider _ _ _ le c.in_ok-number.ensures.fits
 
 pub returns-clause-runs : goal.returns-clause-runs
@@ -29,7 +30,8 @@ returns-in_err-number-clause-memory g c =
     rw (p.1, p.2) c.in_err-number.ensures.memory
 
 pub returns-in_err-number-clause-fits : goal.returns-in_err-number-clause-fits
-returns-in_err-number-clause-fits g c = λ wide. rw (err_from_is_err_and c.from_residual.result c.from_residual.ensures.1).1 tt
+returns-in_err-number-clause-fits g c =
+    λ wide. rw (err_from_is_err_and c.from_residual.result c.from_residual.ensures.1).1 tt
 
 pub returns-clause-memory : goal.returns-clause-memory
 returns-clause-memory g c = tt

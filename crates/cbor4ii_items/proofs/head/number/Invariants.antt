@@ -6,6 +6,8 @@ use Rattle.cbor4ii_items.proofs.head.number.Given as goal
 -- some bytes were read, and the others are left to read
 abbrev pub invariant-loop-i : goal.invariant-loop-i
 invariant-loop-i g l = record {
-  read : Reaches (number_on l.name l.bytes l.bytes 0) (number_on l.name l.bytes (l.bytes - l.i) l.value) (g.S.Source.view l.fn.reader) (g.S.Source.view l.reader);
+  read : Reaches (number_on l.name l.bytes l.bytes 0)
+      (number_on l.name l.bytes (l.bytes - l.i) l.value) (g.S.Source.view l.fn.reader)
+      (g.S.Source.view l.reader);
   small : l.value < 256 ^ l.i;
 }

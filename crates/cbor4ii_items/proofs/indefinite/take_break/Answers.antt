@@ -5,7 +5,9 @@ use Rattle.cbor4ii_items.specs.Laws.Breaks.{runs_break}
 use Rattle.cbor4ii_items.proofs.indefinite.take_break.Goals as goal
 
 pub returns-then-byte-clause-runs : goal.returns-then-byte-clause-runs
-returns-then-byte-clause-runs g c = runs_break c.if-byte.true (runs_byte c.in_ok-byte.ensures.runs c.in_ok-byte.ensures.byte c.advance.ensures)
+returns-then-byte-clause-runs g c =
+    runs_break c.if-byte.true
+    (runs_byte c.in_ok-byte.ensures.runs c.in_ok-byte.ensures.byte c.advance.ensures)
 
 pub returns-then-byte-clause-memory : goal.returns-then-byte-clause-memory
 returns-then-byte-clause-memory g c = tt

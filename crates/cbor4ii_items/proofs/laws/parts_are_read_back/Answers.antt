@@ -2,7 +2,8 @@ use Rattle.cbor4ii_items.specs.Laws.PartsBack.{tag_back, none_back, some_back}
 use Rattle.cbor4ii_items.proofs.laws.parts_are_read_back.Goals as goal
 
 pub returns-clause-tagged : goal.returns-clause-tagged
-returns-clause-tagged g c v cost h back = tag_back g.T.Spelled.reads (g.T.Encode.bytes v.1) v.1 cost back v.0 h
+returns-clause-tagged g c v cost h back =
+    tag_back g.T.Spelled.reads (g.T.Encode.bytes v.1) v.1 cost back v.0 h
 
 pub returns-clause-none : goal.returns-clause-none
 returns-clause-none g c = none_back g.T.Spelled.reads

@@ -8,7 +8,8 @@ pub returns-clause-bytes : goal.returns-clause-bytes
 returns-clause-bytes g c v h = lent_back lent_bytes v h 2 false (λ (f : IsTrue false). absurd (cc))
 
 pub returns-clause-unchecked : goal.returns-clause-unchecked
-returns-clause-unchecked g c v h = lent_back lent_unchecked v h 3 false (λ (f : IsTrue false). absurd (cc))
+returns-clause-unchecked g c v h =
+    lent_back lent_unchecked v h 3 false (λ (f : IsTrue false). absurd (cc))
 
 pub returns-clause-text : goal.returns-clause-text
 returns-clause-text g c v h utf8 = lent_back lent_str v h 3 true (λ _. utf8)

@@ -8,4 +8,5 @@ returns-in_err-push_head g c =
     rw (p.1, p.2) (writes_err _ c.in_err-push_head.ensures.writes)
 
 pub returns : goal.returns
-returns g c = writes_then c.push_bytes.result c.in_ok-push_head.ensures.writes c.push_bytes.ensures.writes
+returns g c =
+    writes_then c.push_bytes.result c.in_ok-push_head.ensures.writes c.push_bytes.ensures.writes

@@ -1,6 +1,7 @@
 use Rattle.std.proofs.Common.{◌++◌, ◌∷◌, [], sym, ap, ◌∙◌, append_assoc}
-use Rattle.cbor4ii_ser.specs.Item.{items_of, entry_item}
-use Rattle.cbor4ii_ser.specs.Laws.Joining.{serializes_then, serializes_out, serializes_as, items_turn, items_push}
+use Rattle.cbor4ii_ser.specs.Item.{each_item, entry_item}
+use Rattle.cbor4ii_ser.specs.Laws.Joining.{serializes_then, serializes_out, serializes_as}
+use Rattle.cbor4ii_ser.specs.Laws.Joining.{items_turn, items_push}
 use Rattle.cbor4ii_ser.proofs.maps.put_entries.Goals as goal
 
 pub loop-key-preserved : goal.loop-key-preserved
@@ -8,8 +9,10 @@ loop-key-preserved g c =
     let done = c.loop-key.invariant.0 in
     let e : g.row.K.Denot × g.row.V.Denot = (c.in-Some.key.now, c.in-Some.value.now) in (
       done ++ (e ∷ []),
-      c.loop-key.invariant.1 ∙ (ap (λ z. done ++ z) c.in-Some.ensures.steps ∙ sym (append_assoc done (e ∷ []) c.next.new.self)),
-      serializes_as _ (items_push (entry_item g.K.Serialize.item g.V.Serialize.item) done e) (serializes_then _ _ _ c.loop-key.invariant.2 c.in_ok-put_entry.ensures),
+      c.loop-key.invariant.1 ∙ (ap (λ z. done ++ z) c.in-Some.ensures.steps
+          ∙ sym (append_assoc done (e ∷ []) c.next.new.self)),
+      serializes_as _ (items_push (entry_item g.K.Serialize.item g.V.Serialize.item) done e)
+          (serializes_then _ _ _ c.loop-key.invariant.2 c.in_ok-put_entry.ensures),
     )
 
 pub returns-in_err-put_entry : goal.returns-in_err-put_entry
@@ -18,4 +21,6 @@ returns-in_err-put_entry g c =
     let done = c.loop-key.invariant.0 in
     let e : g.row.K.Denot × g.row.V.Denot = (c.in-Some.key.now, c.in-Some.value.now) in
     let all = c.loop-key.invariant.1 ∙ ap (λ z. done ++ z) c.in-Some.ensures.steps in
-    serializes_as _ (items_turn item done e c.next.new.self ∙ sym (ap (items_of item) all)) (serializes_then _ _ _ c.loop-key.invariant.2 (serializes_out (items_of item c.next.new.self) c.from_residual.ensures.1 c.in_err-put_entry.ensures))
+    serializes_as _ (items_turn item done e c.next.new.self ∙ sym (ap (each_item item) all))
+    (serializes_then _ _ _ c.loop-key.invariant.2 (serializes_out
+    (each_item item c.next.new.self) c.from_residual.ensures.1 c.in_err-put_entry.ensures))

@@ -1,8 +1,12 @@
 use Rattle.std.proofs.Common.{◌≡◌, ◌++◌, List, Ok}
-use Rattle.cbor4ii_ser.specs.Item.{items_of, entry_item}
+use Rattle.cbor4ii_ser.specs.Item.{each_item, entry_item}
 use Rattle.cbor4ii_ser.specs.Serializing.{Serializes, output}
 use Rattle.cbor4ii_ser.proofs.maps.put_entries.Given as goal
 
 -- so many entries are written, and the others are still to come
 abbrev pub invariant-loop-key : goal.invariant-loop-key
-invariant-loop-key g l = (done : List (g.row.K.Denot × g.row.V.Denot)) × (l.map.entries ≡ done ++ l.key-iterator) × Serializes {T = Unit {0}} {E = g.row.W-Error.Denot} g.W.Write.whole (items_of (entry_item g.K.Serialize.item g.V.Serialize.item) done) (output g.W.Write.view l.fn.ser) (output g.W.Write.view l.ser) (Ok tt)
+invariant-loop-key g l =
+    (done : List (g.row.K.Denot × g.row.V.Denot)) × (l.map.entries ≡ done ++ l.key-iterator)
+    × Serializes {T = Unit {0}} {E = g.row.W-Error.Denot} g.W.Write.whole
+    (each_item (entry_item g.K.Serialize.item g.V.Serialize.item) done)
+    (output g.W.Write.view l.fn.ser) (output g.W.Write.view l.ser) (Ok tt)

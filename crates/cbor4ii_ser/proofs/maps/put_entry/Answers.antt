@@ -5,4 +5,5 @@ pub returns-in_err-serialize : goal.returns-in_err-serialize
 returns-in_err-serialize g c = serializes_out _ c.from_residual.ensures.1 c.in_err-serialize.ensures
 
 pub returns : goal.returns
-returns g c = serializes_then _ _ c.serialize-2.result c.in_ok-serialize.ensures c.serialize-2.ensures
+returns g c =
+    serializes_then _ _ c.serialize-2.result c.in_ok-serialize.ensures c.serialize-2.ensures

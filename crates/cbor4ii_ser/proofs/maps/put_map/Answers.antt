@@ -2,7 +2,10 @@ use Rattle.cbor4ii_ser.specs.Laws.Joining.{serializes_then, serializes_out}
 use Rattle.cbor4ii_ser.proofs.maps.put_map.Goals as goal
 
 pub returns-in_err-map_head : goal.returns-in_err-map_head
-returns-in_err-map_head g c = rw (← c.len.ensures.len) (serializes_out _ c.from_residual.ensures.1 c.in_err-map_head.ensures)
+returns-in_err-map_head g c =
+    rw (← c.len.ensures.len) (serializes_out _ c.from_residual.ensures.1 c.in_err-map_head.ensures)
 
 pub returns : goal.returns
-returns g c = rw (← c.len.ensures.len) (serializes_then _ _ c.put_entries.result c.in_ok-map_head.ensures c.put_entries.ensures)
+returns g c =
+    rw (← c.len.ensures.len)
+    (serializes_then _ _ c.put_entries.result c.in_ok-map_head.ensures c.put_entries.ensures)

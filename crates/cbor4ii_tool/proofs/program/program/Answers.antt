@@ -3,7 +3,8 @@ use Rattle.cbor4ii_rw.specs.Stream.{most_bytes, cut_known}
 use Rattle.cbor4ii_tool.specs.Fault.{status_of}
 use Rattle.cbor4ii_tool.specs.Program.{EndsIn}
 use Rattle.cbor4ii_tool.proofs.Chosen.{named, is_named, not_refused}
-use Rattle.cbor4ii_tool.proofs.program.program.Goals.{in-Ok-Some, in-Err, in-Err-outcome, in_default}
+use Rattle.cbor4ii_tool.proofs.program.program.Goals.{in-Ok-Some, in-Err, in-Err-outcome}
+use Rattle.cbor4ii_tool.proofs.program.program.Goals.{in_default}
 use Rattle.cbor4ii_tool.proofs.program.program.Goals as goal
 
 pub returns-clause-runs : goal.returns-clause-runs

@@ -13,7 +13,10 @@ returns-in-Ok-copy g c =
       front = taken.front;
       count = taken.count;
       item = taken.item;
-      lends = subst (λ z. Lends taken.count z (g.S.Source.view c.args.reader.now) (g.S.Source.view c.capture.new.reader)) (sym (c.in-Ok-copy.ensures.items ∙ c.front.ensures)) taken.lends;
+      lends =
+          subst (λ z. Lends taken.count z (g.S.Source.view c.args.reader.now)
+          (g.S.Source.view c.capture.new.reader))
+          (sym (c.in-Ok-copy.ensures.items ∙ c.front.ensures)) taken.lends;
       less = taken.less;
     }
 
@@ -23,5 +26,12 @@ returns-in-Err-copy g c =
     inr (record {
       lacks = refl;
       item = g.T.LendRaw.content c.in-Ok.item;
-      captured = record { shown = taken.shown; front = taken.front; count = taken.count; item = taken.item; lends = taken.lends; less = taken.less };
+      captured = record {
+        shown = taken.shown;
+        front = taken.front;
+        count = taken.count;
+        item = taken.item;
+        lends = taken.lends;
+        less = taken.less;
+      };
     })

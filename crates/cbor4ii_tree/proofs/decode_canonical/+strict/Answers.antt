@@ -9,94 +9,183 @@ use Rattle.cbor4ii_items.specs.Laws.Steps.{kept_then}
 use Rattle.cbor4ii_tree.specs.Valuing.{ReadsStepped}
 use Rattle.cbor4ii_items.specs.Shortest.{StopsShortest}
 use Rattle.cbor4ii_tree.specs.StopsStrictly.{ShortestAt, StrictArrayStops, StrictMapStops}
-use Rattle.cbor4ii_tree.specs.Strictly.{ReadsExactly, StopsExactly, ReadsBehind, StopsBehind, StopsStepped, ExactItems, StopsExactItems, ExactMember, StopsExactMember, ExactMembers, AcceptsCount}
-use Rattle.cbor4ii_tree.proofs.skip_calls.Doing.{Reached, reached_start, reached_by, does_ok, does_stops, does_no_memory, does_no_step}
+use Rattle.cbor4ii_tree.specs.Strictly.{ReadsExactly, StopsExactly, ReadsExactlyUnder}
+use Rattle.cbor4ii_tree.specs.Strictly.{StopsExactlyUnder, StopsExactlyStepped, ExactItems}
+use Rattle.cbor4ii_tree.specs.Strictly.{StopsExactItems, ExactMember, StopsExactMember}
+use Rattle.cbor4ii_tree.specs.Strictly.{ExactMembers, AcceptsCount}
+use Rattle.cbor4ii_tree.proofs.skip_calls.Doing.{Reached, reached_start, reached_by, does_ok}
+use Rattle.cbor4ii_tree.proofs.skip_calls.Doing.{does_stops, does_no_memory, does_no_step}
 use Rattle.cbor4ii_tree.proofs.values.Heads.{view-Tag}
 use Rattle.cbor4ii_tree.proofs.values.Sequences.{more, ends}
-use Rattle.cbor4ii_tree.proofs.canonical.Calls.{reached_shortest, call_stops, exact_ok, exact_err, exact_first, exact_tag, exact_tag_err, looked_at, peek_stops, pushed, simple_exact, undefined_stops, stepped_one, stepped_more, counted_does, items_none, items_more, item_stops, value_stops, members_none, members_more, member_stops, array_exact, map_exact}
+use Rattle.cbor4ii_tree.proofs.canonical.Calls.{reached_shortest, call_stops, exact_ok, exact_err}
+use Rattle.cbor4ii_tree.proofs.canonical.Calls.{exact_first, exact_tag, exact_tag_err, looked_at}
+use Rattle.cbor4ii_tree.proofs.canonical.Calls.{peek_stops, pushed, simple_exact, undefined_stops}
+use Rattle.cbor4ii_tree.proofs.canonical.Calls.{stepped_one, stepped_more, counted_does, items_none}
+use Rattle.cbor4ii_tree.proofs.canonical.Calls.{items_more, item_stops, value_stops, members_none}
+use Rattle.cbor4ii_tree.proofs.canonical.Calls.{members_more, member_stops, array_exact, map_exact}
 use Rattle.cbor4ii_items.specs.Laws.Running.{kept_alike}
 use Rattle.cbor4ii_tree.proofs.values.Progress.{went_on, around, behind}
 use Rattle.cbor4ii_tree.proofs.decode_canonical.+strict.Goals as goal
 
 pub read_one-returns-clause-does : goal.read_one-returns-clause-does
 read_one-returns-clause-does g t c =
-    stepped_one c.if-not-step_in.ensures.budget c.step_in.ensures.others c.read_inside-outcome.ensures.does c.step_out.ensures.budget c.step_out.ensures.others
+    stepped_one c.if-not-step_in.ensures.budget c.step_in.ensures.others
+    c.read_inside-outcome.ensures.does c.step_out.ensures.budget c.step_out.ensures.others
 
-pub read_one-returns-then-not-step_in-clause-does : goal.read_one-returns-then-not-step_in-clause-does
+pub read_one-returns-then-not-step_in-clause-does :
+    goal.read_one-returns-then-not-step_in-clause-does
 read_one-returns-then-not-step_in-clause-does g t c =
-    does_no_step value_name (ReadsExactly (g.S.Source.view c.args.reader.now).budget) (StopsExactly (g.S.Source.view c.args.reader.now).budget) refl refl (λ none xs. rw none (refl, refl)) c.if-not-step_in.ensures.budget c.step_in.ensures.others
+    does_no_step value_name (ReadsExactly (g.S.Source.view c.args.reader.now).budget)
+    (StopsExactly (g.S.Source.view c.args.reader.now).budget) refl refl
+    (λ none xs. rw none (refl, refl)) c.if-not-step_in.ensures.budget c.step_in.ensures.others
 
 pub array_inside-returns-clause-does : goal.array_inside-returns-clause-does
 array_inside-returns-clause-does g t c =
-    counted_does array_name 4 c.in_ok-count.count (λ n o xs (v : Vec Value Global) ys. ExactItems n o xs v.items ys) (λ o n. StopsExactItems n o) (reached_shortest 4 c.in_ok-count.count c.in_ok-count.ensures.moves c.in_ok-count.ensures.sound) c.counted_items.ensures
+    counted_does array_name 4 c.in_ok-count.count
+    (λ n o xs (v : Vec Value Global) ys. ExactItems n o xs v.items ys)
+    (λ o n. StopsExactItems n o) (reached_shortest 4 c.in_ok-count.count
+    c.in_ok-count.ensures.moves c.in_ok-count.ensures.sound) c.counted_items.ensures
 
-pub array_inside-returns-in_err-count-clause-does : goal.array_inside-returns-in_err-count-clause-does
+pub array_inside-returns-in_err-count-clause-does :
+    goal.array_inside-returns-in_err-count-clause-does
 array_inside-returns-in_err-count-clause-does g t c =
     let p = err_from_is_err_and c.from_residual.result c.from_residual.ensures.1 in
-    rw (p.1, p.2) (call_stops (λ xs (v : Vec Value Global) ys. AcceptsCount 4 ExactItems (g.S.Source.view c.args.reader.now).budget xs v.items ys) (StopsShortest array_name 4) (StrictArrayStops StopsExactly (g.S.Source.view c.args.reader.now).budget) (λ xs z rest h. inl h) c.in_err-count.ensures.moves c.in_err-count.ensures.stops)
+    rw (p.1, p.2) (call_stops (λ xs (v : Vec Value Global) ys. AcceptsCount 4 ExactItems
+    (g.S.Source.view c.args.reader.now).budget xs v.items ys) (StopsShortest array_name 4)
+    (StrictArrayStops StopsExactly (g.S.Source.view c.args.reader.now).budget)
+    (λ xs z rest h. inl h) c.in_err-count.ensures.moves c.in_err-count.ensures.stops)
 
 pub counted_items-loop-i-init : goal.counted_items-loop-i-init
-counted_items-loop-i-init g t c = reached_start (λ xs ys. ExactItems 0 (g.S.Source.view c.args.reader.now).budget xs _ ys) _ (λ xs. items_none (g.S.Source.view c.args.reader.now).budget xs _ (cc))
+counted_items-loop-i-init g t c =
+    reached_start (λ xs ys. ExactItems 0 (g.S.Source.view c.args.reader.now).budget xs _ ys) _
+    (λ xs. items_none (g.S.Source.view c.args.reader.now).budget xs _ (cc))
 
 pub counted_items-loop-i-preserved : goal.counted_items-loop-i-preserved
 counted_items-loop-i-preserved g t c =
-    more ReadsExactly StopsExactly (λ xs ys. ExactItems c.loop-i.i (g.S.Source.view c.args.reader.now).budget xs c.loop-i.items.items ys) c.loop-i.invariant (λ xs ys. ExactItems (c.loop-i.i + 1) (g.S.Source.view c.args.reader.now).budget xs _ ys) (λ xs ys zs h s. items_more c.loop-i.i (g.S.Source.view c.args.reader.now).budget c.loop-i.items.items _ c.in_ok-value.value xs ys zs (pushed _ _ _ _ c.push.ensures.items c.if-is_err-2.ensures.negation) h s) c.in_ok-value.ensures.does
+    more ReadsExactly StopsExactly (λ xs ys. ExactItems c.loop-i.i (g.S.Source.view
+    c.args.reader.now).budget xs c.loop-i.items.items ys) c.loop-i.invariant
+    (λ xs ys. ExactItems (c.loop-i.i + 1) (g.S.Source.view c.args.reader.now).budget xs _ ys)
+    (λ xs ys zs h s. items_more c.loop-i.i (g.S.Source.view c.args.reader.now).budget
+    c.loop-i.items.items _ c.in_ok-value.value xs ys zs (pushed _ _ _ _ c.push.ensures.items
+    c.if-is_err-2.ensures.negation) h s) c.in_ok-value.ensures.does
 
 pub counted_items-returns-in_err-value : goal.counted_items-returns-in_err-value
 counted_items-returns-in_err-value g t c =
     let p = err_from_is_err_and c.from_residual.result c.from_residual.ensures.1 in
-    rw (p.1, p.2) (ends ReadsExactly StopsExactly (λ xs ys. ExactItems c.loop-i.i (g.S.Source.view c.args.reader.now).budget xs c.loop-i.items.items ys) c.loop-i.invariant (λ xs (v : Vec Value Global) ys. ExactItems c.args.count (g.S.Source.view c.args.reader.now).budget xs v.items ys) (StopsExactItems c.args.count (g.S.Source.view c.args.reader.now).budget) (λ xs ys z rest h s. item_stops c.loop-i.i c.args.count (g.S.Source.view c.args.reader.now).budget c.loop-i.items.items xs ys z rest c.loop-i-test.true h s) c.in_err-value.ensures.does)
+    rw (p.1, p.2) (ends ReadsExactly StopsExactly (λ xs ys. ExactItems c.loop-i.i
+    (g.S.Source.view c.args.reader.now).budget xs c.loop-i.items.items ys)
+    c.loop-i.invariant (λ xs (v : Vec Value Global) ys.
+    ExactItems c.args.count (g.S.Source.view c.args.reader.now).budget xs v.items ys)
+    (StopsExactItems c.args.count (g.S.Source.view c.args.reader.now).budget)
+    (λ xs ys z rest h s.
+    item_stops c.loop-i.i c.args.count (g.S.Source.view c.args.reader.now).budget
+    c.loop-i.items.items xs ys z rest c.loop-i-test.true h s) c.in_err-value.ensures.does)
 
 pub read_array-returns-clause-does : goal.read_array-returns-clause-does
 read_array-returns-clause-does g t c =
-    stepped_more array_name (λ o xs (v : Vec Value Global) ys. AcceptsCount 4 ExactItems o xs v.items ys) (StrictArrayStops StopsExactly) c.if-not-step_in.ensures.budget c.step_in.ensures.others c.array_inside-outcome.ensures.does c.step_out.ensures.budget c.step_out.ensures.others
+    stepped_more array_name
+    (λ o xs (v : Vec Value Global) ys. AcceptsCount 4 ExactItems o xs v.items ys)
+    (StrictArrayStops StopsExactly) c.if-not-step_in.ensures.budget c.step_in.ensures.others
+    c.array_inside-outcome.ensures.does c.step_out.ensures.budget c.step_out.ensures.others
 
-pub read_array-returns-then-not-step_in-clause-does : goal.read_array-returns-then-not-step_in-clause-does
+pub read_array-returns-then-not-step_in-clause-does :
+    goal.read_array-returns-then-not-step_in-clause-does
 read_array-returns-then-not-step_in-clause-does g t c =
-    does_no_step array_name (ReadsStepped (λ o xs (v : Vec Value Global) ys. AcceptsCount 4 ExactItems o xs v.items ys) (g.S.Source.view c.args.reader.now).budget) (StopsStepped array_name (StrictArrayStops StopsExactly) (g.S.Source.view c.args.reader.now).budget) refl refl (λ none xs. rw none (refl, refl)) c.if-not-step_in.ensures.budget c.step_in.ensures.others
+    does_no_step array_name (ReadsStepped (λ o xs (v : Vec Value Global) ys.
+    AcceptsCount 4 ExactItems o xs v.items ys) (g.S.Source.view c.args.reader.now).budget)
+    (StopsExactlyStepped array_name (StrictArrayStops StopsExactly)
+    (g.S.Source.view c.args.reader.now).budget) refl refl (λ none xs. rw none (refl, refl))
+    c.if-not-step_in.ensures.budget c.step_in.ensures.others
 
 pub map_inside-returns-clause-does : goal.map_inside-returns-clause-does
 map_inside-returns-clause-does g t c =
-    counted_does map_name 5 c.in_ok-count.count (λ n o xs (v : Vec (Value × Value) Global) ys. ExactMembers n o xs v.items ys) (λ o n. StopsExactItems (2 * n) o) (reached_shortest 5 c.in_ok-count.count c.in_ok-count.ensures.moves c.in_ok-count.ensures.sound) c.counted_members.ensures
+    counted_does map_name 5 c.in_ok-count.count
+    (λ n o xs (v : Vec (Value × Value) Global) ys. ExactMembers n o xs v.items ys)
+    (λ o n. StopsExactItems (2 * n) o) (reached_shortest 5 c.in_ok-count.count
+    c.in_ok-count.ensures.moves c.in_ok-count.ensures.sound) c.counted_members.ensures
 
 pub map_inside-returns-in_err-count-clause-does : goal.map_inside-returns-in_err-count-clause-does
 map_inside-returns-in_err-count-clause-does g t c =
     let p = err_from_is_err_and c.from_residual.result c.from_residual.ensures.1 in
-    rw (p.1, p.2) (call_stops (λ xs (v : Vec (Value × Value) Global) ys. AcceptsCount 5 ExactMembers (g.S.Source.view c.args.reader.now).budget xs v.items ys) (StopsShortest map_name 5) (StrictMapStops StopsExactly (g.S.Source.view c.args.reader.now).budget) (λ xs z rest h. inl h) c.in_err-count.ensures.moves c.in_err-count.ensures.stops)
+    rw (p.1, p.2)
+    (call_stops (λ xs (v : Vec (Value × Value) Global) ys. AcceptsCount 5 ExactMembers
+    (g.S.Source.view c.args.reader.now).budget xs v.items ys) (StopsShortest map_name 5)
+    (StrictMapStops StopsExactly (g.S.Source.view c.args.reader.now).budget)
+    (λ xs z rest h. inl h) c.in_err-count.ensures.moves c.in_err-count.ensures.stops)
 
 pub read_map-returns-clause-does : goal.read_map-returns-clause-does
 read_map-returns-clause-does g t c =
-    stepped_more map_name (λ o xs (v : Vec (Value × Value) Global) ys. AcceptsCount 5 ExactMembers o xs v.items ys) (StrictMapStops StopsExactly) c.if-not-step_in.ensures.budget c.step_in.ensures.others c.map_inside-outcome.ensures.does c.step_out.ensures.budget c.step_out.ensures.others
+    stepped_more map_name
+    (λ o xs (v : Vec (Value × Value) Global) ys. AcceptsCount 5 ExactMembers o xs v.items ys)
+    (StrictMapStops StopsExactly) c.if-not-step_in.ensures.budget c.step_in.ensures.others
+    c.map_inside-outcome.ensures.does c.step_out.ensures.budget c.step_out.ensures.others
 
-pub read_map-returns-then-not-step_in-clause-does : goal.read_map-returns-then-not-step_in-clause-does
+pub read_map-returns-then-not-step_in-clause-does :
+    goal.read_map-returns-then-not-step_in-clause-does
 read_map-returns-then-not-step_in-clause-does g t c =
-    does_no_step map_name (ReadsStepped (λ o xs (v : Vec (Value × Value) Global) ys. AcceptsCount 5 ExactMembers o xs v.items ys) (g.S.Source.view c.args.reader.now).budget) (StopsStepped map_name (StrictMapStops StopsExactly) (g.S.Source.view c.args.reader.now).budget) refl refl (λ none xs. rw none (refl, refl)) c.if-not-step_in.ensures.budget c.step_in.ensures.others
+    does_no_step map_name (ReadsStepped (λ o xs (v : Vec (Value × Value) Global) ys.
+    AcceptsCount 5 ExactMembers o xs v.items ys) (g.S.Source.view c.args.reader.now).budget)
+    (StopsExactlyStepped map_name (StrictMapStops StopsExactly)
+    (g.S.Source.view c.args.reader.now).budget) refl refl (λ none xs. rw none (refl, refl))
+    c.if-not-step_in.ensures.budget c.step_in.ensures.others
 
 pub counted_members-loop-i-init : goal.counted_members-loop-i-init
-counted_members-loop-i-init g t c = reached_start (λ xs ys. ExactMembers 0 (g.S.Source.view c.args.reader.now).budget xs _ ys) _ (λ xs. members_none (g.S.Source.view c.args.reader.now).budget _ xs (cc))
+counted_members-loop-i-init g t c =
+    reached_start (λ xs ys. ExactMembers 0 (g.S.Source.view c.args.reader.now).budget xs _ ys) _
+    (λ xs. members_none (g.S.Source.view c.args.reader.now).budget _ xs (cc))
 
 pub counted_members-loop-i-preserved : goal.counted_members-loop-i-preserved
 counted_members-loop-i-preserved g t c =
-    more ExactMember StopsExactMember (λ xs ys. ExactMembers c.loop-i.i (g.S.Source.view c.args.reader.now).budget xs c.loop-i.members.items ys) c.loop-i.invariant (λ xs ys. ExactMembers (c.loop-i.i + 1) (g.S.Source.view c.args.reader.now).budget xs _ ys) (λ xs ys zs h s. members_more c.loop-i.i (g.S.Source.view c.args.reader.now).budget c.loop-i.members.items _ c.in_ok-member.member xs ys zs (pushed _ _ _ _ c.push.ensures.items c.if-is_err-2.ensures.negation) h s) c.in_ok-member.ensures.does
+    more ExactMember StopsExactMember (λ xs ys. ExactMembers c.loop-i.i (g.S.Source.view
+    c.args.reader.now).budget xs c.loop-i.members.items ys) c.loop-i.invariant
+    (λ xs ys. ExactMembers (c.loop-i.i + 1) (g.S.Source.view c.args.reader.now).budget xs _ ys)
+    (λ xs ys zs h s. members_more c.loop-i.i (g.S.Source.view c.args.reader.now).budget
+    c.loop-i.members.items _ c.in_ok-member.member xs ys zs (pushed _ _ _ _
+    c.push.ensures.items c.if-is_err-2.ensures.negation) h s) c.in_ok-member.ensures.does
 
 pub counted_members-returns-in_err-member : goal.counted_members-returns-in_err-member
 counted_members-returns-in_err-member g t c =
     let p = err_from_is_err_and c.from_residual.result c.from_residual.ensures.1 in
-    rw (p.1, p.2) (ends ExactMember StopsExactMember (λ xs ys. ExactMembers c.loop-i.i (g.S.Source.view c.args.reader.now).budget xs c.loop-i.members.items ys) c.loop-i.invariant (λ xs (v : Vec (Value × Value) Global) ys. ExactMembers c.args.count (g.S.Source.view c.args.reader.now).budget xs v.items ys) (StopsExactItems (2 * c.args.count) (g.S.Source.view c.args.reader.now).budget) (λ xs ys z rest h s. member_stops c.loop-i.i c.args.count (g.S.Source.view c.args.reader.now).budget c.loop-i.members.items xs ys z rest c.loop-i-test.true h s) c.in_err-member.ensures.does)
+    rw (p.1, p.2) (ends ExactMember StopsExactMember (λ xs ys. ExactMembers c.loop-i.i
+    (g.S.Source.view c.args.reader.now).budget xs c.loop-i.members.items ys)
+    c.loop-i.invariant (λ xs (v : Vec (Value × Value) Global) ys.
+    ExactMembers c.args.count (g.S.Source.view c.args.reader.now).budget xs v.items ys)
+    (StopsExactItems (2 * c.args.count) (g.S.Source.view c.args.reader.now).budget)
+    (λ xs ys z rest h s. member_stops c.loop-i.i c.args.count (g.S.Source.view
+    c.args.reader.now).budget c.loop-i.members.items xs ys z rest c.loop-i-test.true h s)
+    c.in_err-member.ensures.does)
 
 pub read_member-returns-clause-does : goal.read_member-returns-clause-does
 read_member-returns-clause-does g t c =
-    does_ok (ExactMember (g.S.Source.view c.args.reader.now).budget) (StopsExactMember (g.S.Source.view c.args.reader.now).budget) (more ReadsExactly StopsExactly (λ xs ys. ReadsExactly (g.S.Source.view c.args.reader.now).budget xs c.in_ok-key.key ys) (reached_by c.in_ok-key.ensures.does) (λ xs ys. ExactMember (g.S.Source.view c.args.reader.now).budget xs (c.in_ok-key.key, c.in_ok-value.value) ys) (λ xs ys zs h s. (ys, h, s)) c.in_ok-value.ensures.does)
+    does_ok (ExactMember (g.S.Source.view c.args.reader.now).budget)
+    (StopsExactMember (g.S.Source.view c.args.reader.now).budget)
+    (more ReadsExactly StopsExactly
+    (λ xs ys. ReadsExactly (g.S.Source.view c.args.reader.now).budget xs c.in_ok-key.key ys)
+    (reached_by c.in_ok-key.ensures.does) (λ xs ys. ExactMember
+    (g.S.Source.view c.args.reader.now).budget xs (c.in_ok-key.key, c.in_ok-value.value) ys)
+    (λ xs ys zs h s. (ys, h, s)) c.in_ok-value.ensures.does)
 
 pub read_member-returns-in_err-key-clause-does : goal.read_member-returns-in_err-key-clause-does
 read_member-returns-in_err-key-clause-does g t c =
     let p = err_from_is_err_and c.from_residual.result c.from_residual.ensures.1 in
-    rw (p.1, p.2) (ends ReadsExactly StopsExactly (λ xs ys. ys ≡ xs) (reached_start (λ xs ys. ys ≡ xs) _ (λ xs. refl)) (ExactMember (g.S.Source.view c.args.reader.now).budget) (StopsExactMember (g.S.Source.view c.args.reader.now).budget) (λ xs ys z rest h s. inl (subst (λ x. StopsExactly (g.S.Source.view c.args.reader.now).budget x z rest) h s)) c.in_err-key.ensures.does)
+    rw (p.1, p.2) (ends ReadsExactly StopsExactly (λ xs ys. ys ≡ xs)
+    (reached_start (λ xs ys. ys ≡ xs) _ (λ xs. refl))
+    (ExactMember (g.S.Source.view c.args.reader.now).budget)
+    (StopsExactMember (g.S.Source.view c.args.reader.now).budget) (λ xs ys z rest h s.
+    inl (subst (λ x. StopsExactly (g.S.Source.view c.args.reader.now).budget x z rest) h s))
+    c.in_err-key.ensures.does)
 
 pub read_member-returns-in_err-value-clause-does : goal.read_member-returns-in_err-value-clause-does
 read_member-returns-in_err-value-clause-does g t c =
-    let p = err_from_is_err_and c.from_residual-in_err-value.result c.from_residual-in_err-value.ensures.1 in
-    rw (p.1, p.2) (ends ReadsExactly StopsExactly (λ xs ys. ReadsExactly (g.S.Source.view c.args.reader.now).budget xs c.in_ok-key.key ys) (reached_by c.in_ok-key.ensures.does) (ExactMember (g.S.Source.view c.args.reader.now).budget) (StopsExactMember (g.S.Source.view c.args.reader.now).budget) (λ xs ys z rest h s. value_stops (g.S.Source.view c.args.reader.now).budget c.in_ok-key.key xs ys z rest h s) c.in_err-value.ensures.does)
+    let p = err_from_is_err_and c.from_residual-in_err-value.result
+    c.from_residual-in_err-value.ensures.1 in
+    rw (p.1, p.2) (ends ReadsExactly StopsExactly
+    (λ xs ys. ReadsExactly (g.S.Source.view c.args.reader.now).budget xs c.in_ok-key.key ys)
+    (reached_by c.in_ok-key.ensures.does)
+    (ExactMember (g.S.Source.view c.args.reader.now).budget)
+    (StopsExactMember (g.S.Source.view c.args.reader.now).budget)
+    (λ xs ys z rest h s. value_stops (g.S.Source.view c.args.reader.now).budget
+    c.in_ok-key.key xs ys z rest h s) c.in_err-value.ensures.does)
 
 pub read_inside-returns-clause-does : goal.read_inside-returns-clause-does
 read_inside-returns-clause-does g t c =
@@ -113,123 +202,208 @@ read_inside-returns-in_err-first-clause-does g t c =
 
 pub read_inside-returns-then-first-clause-does : goal.read_inside-returns-then-first-clause-does
 read_inside-returns-then-first-clause-does g t c =
-    undefined_stops c.in_ok-first.first c.in_ok-first.ensures.runs c.in_ok-first.ensures.byte c.advance.ensures c.if-first.true refl refl refl
+    undefined_stops c.in_ok-first.first c.in_ok-first.ensures.runs c.in_ok-first.ensures.byte
+    c.advance.ensures c.if-first.true refl refl refl
 
 pub read_inside-returns-in-4-clause-does : goal.read_inside-returns-in-4-clause-does
 read_inside-returns-in-4-clause-does g t c =
-    exact_ok c.in_ok-first.first c.in_ok-first.ensures.runs (λ xs ys. ReadsStepped (λ o xs (v : Vec Value Global) ys. AcceptsCount 4 ExactItems o xs v.items ys) (g.S.Source.view c.peek.new.reader).budget xs c.in_ok-read_array-in-4.field-0 ys) (Array c.in_ok-read_array-in-4.field-0) (λ xs ys h. array_exact (g.S.Source.view c.args.reader.now).budget c.in_ok-read_array-in-4.field-0 xs ys (subst (λ o. ReadsStepped (λ o xs (v : Vec Value Global) ys. AcceptsCount 4 ExactItems o xs v.items ys) o xs c.in_ok-read_array-in-4.field-0 ys) c.in_ok-first.ensures.runs.moves.by.budget h)) (reached_by c.in_ok-read_array-in-4.ensures.does)
+    exact_ok c.in_ok-first.first c.in_ok-first.ensures.runs (λ xs ys. ReadsStepped
+    (λ o xs (v : Vec Value Global) ys. AcceptsCount 4 ExactItems o xs v.items ys)
+    (g.S.Source.view c.peek.new.reader).budget xs c.in_ok-read_array-in-4.field-0 ys)
+    (Array c.in_ok-read_array-in-4.field-0)
+    (λ xs ys h. array_exact (g.S.Source.view c.args.reader.now).budget
+    c.in_ok-read_array-in-4.field-0 xs ys (subst (λ o. ReadsStepped
+    (λ o xs (v : Vec Value Global) ys. AcceptsCount 4 ExactItems o xs v.items ys) o xs
+    c.in_ok-read_array-in-4.field-0 ys) c.in_ok-first.ensures.runs.moves.by.budget h))
+    (reached_by c.in_ok-read_array-in-4.ensures.does)
 
-pub read_inside-returns-in_err-read_array-in-4-clause-does : goal.read_inside-returns-in_err-read_array-in-4-clause-does
+pub read_inside-returns-in_err-read_array-in-4-clause-does :
+    goal.read_inside-returns-in_err-read_array-in-4-clause-does
 read_inside-returns-in_err-read_array-in-4-clause-does g t c =
-    let p = err_from_is_err_and c.from_residual-in_err-read_array-in-4.result c.from_residual-in_err-read_array-in-4.ensures.1 in
-    rw (p.1, p.2) (exact_err c.in_ok-first.first c.in_ok-first.ensures.runs 4 (ReadsStepped (λ o xs (v : Vec Value Global) ys. AcceptsCount 4 ExactItems o xs v.items ys) (g.S.Source.view c.peek.new.reader).budget) (StopsStepped array_name (StrictArrayStops StopsExactly)) c.in-4.is (λ bs z rest h. h) c.in_err-read_array-in-4.ensures.does)
+    let p = err_from_is_err_and c.from_residual-in_err-read_array-in-4.result
+    c.from_residual-in_err-read_array-in-4.ensures.1 in
+    rw (p.1, p.2) (exact_err c.in_ok-first.first c.in_ok-first.ensures.runs 4 (ReadsStepped
+    (λ o xs (v : Vec Value Global) ys. AcceptsCount 4 ExactItems o xs v.items ys)
+    (g.S.Source.view c.peek.new.reader).budget)
+    (StopsExactlyStepped array_name (StrictArrayStops StopsExactly)) c.in-4.is
+    (λ bs z rest h. h) c.in_err-read_array-in-4.ensures.does)
 
 pub read_inside-returns-in-5-clause-does : goal.read_inside-returns-in-5-clause-does
 read_inside-returns-in-5-clause-does g t c =
-    exact_ok c.in_ok-first.first c.in_ok-first.ensures.runs (λ xs ys. ReadsStepped (λ o xs (v : Vec (Value × Value) Global) ys. AcceptsCount 5 ExactMembers o xs v.items ys) (g.S.Source.view c.peek.new.reader).budget xs c.in_ok-read_map-in-5.field-0 ys) (Map c.in_ok-read_map-in-5.field-0) (λ xs ys h. map_exact (g.S.Source.view c.args.reader.now).budget c.in_ok-read_map-in-5.field-0 xs ys (subst (λ o. ReadsStepped (λ o xs (v : Vec (Value × Value) Global) ys. AcceptsCount 5 ExactMembers o xs v.items ys) o xs c.in_ok-read_map-in-5.field-0 ys) c.in_ok-first.ensures.runs.moves.by.budget h)) (reached_by c.in_ok-read_map-in-5.ensures.does)
+    exact_ok c.in_ok-first.first c.in_ok-first.ensures.runs (λ xs ys. ReadsStepped
+    (λ o xs (v : Vec (Value × Value) Global) ys. AcceptsCount 5 ExactMembers o xs v.items
+    ys) (g.S.Source.view c.peek.new.reader).budget xs c.in_ok-read_map-in-5.field-0 ys)
+    (Map c.in_ok-read_map-in-5.field-0) (λ xs ys h.
+    map_exact (g.S.Source.view c.args.reader.now).budget c.in_ok-read_map-in-5.field-0 xs ys
+    (subst (λ o. ReadsStepped (λ o xs (v : Vec (Value × Value) Global) ys.
+    AcceptsCount 5 ExactMembers o xs v.items ys) o xs c.in_ok-read_map-in-5.field-0 ys)
+    c.in_ok-first.ensures.runs.moves.by.budget h))
+    (reached_by c.in_ok-read_map-in-5.ensures.does)
 
-pub read_inside-returns-in_err-read_map-in-5-clause-does : goal.read_inside-returns-in_err-read_map-in-5-clause-does
+pub read_inside-returns-in_err-read_map-in-5-clause-does :
+    goal.read_inside-returns-in_err-read_map-in-5-clause-does
 read_inside-returns-in_err-read_map-in-5-clause-does g t c =
-    let p = err_from_is_err_and c.from_residual-in_err-read_map-in-5.result c.from_residual-in_err-read_map-in-5.ensures.1 in
-    rw (p.1, p.2) (exact_err c.in_ok-first.first c.in_ok-first.ensures.runs 5 (ReadsStepped (λ o xs (v : Vec (Value × Value) Global) ys. AcceptsCount 5 ExactMembers o xs v.items ys) (g.S.Source.view c.peek.new.reader).budget) (StopsStepped map_name (StrictMapStops StopsExactly)) c.in-5.is (λ bs z rest h. h) c.in_err-read_map-in-5.ensures.does)
+    let p = err_from_is_err_and c.from_residual-in_err-read_map-in-5.result
+    c.from_residual-in_err-read_map-in-5.ensures.1 in
+    rw (p.1, p.2) (exact_err c.in_ok-first.first c.in_ok-first.ensures.runs 5
+    (ReadsStepped (λ o xs (v : Vec (Value × Value) Global) ys.
+    AcceptsCount 5 ExactMembers o xs v.items ys) (g.S.Source.view c.peek.new.reader).budget)
+    (StopsExactlyStepped map_name (StrictMapStops StopsExactly)) c.in-5.is
+    (λ bs z rest h. h) c.in_err-read_map-in-5.ensures.does)
 
-pub read_inside-returns-in_err-number-in-6-clause-does : goal.read_inside-returns-in_err-number-in-6-clause-does
+pub read_inside-returns-in_err-number-in-6-clause-does :
+    goal.read_inside-returns-in_err-number-in-6-clause-does
 read_inside-returns-in_err-number-in-6-clause-does g t c =
-    let p = err_from_is_err_and c.from_residual-in_err-number-in-6.result c.from_residual-in_err-number-in-6.ensures.1 in
-    rw (p.1, p.2) (exact_err c.in_ok-first.first c.in_ok-first.ensures.runs 6 (λ xs (v : ℕ) ys. Unit {0}) (λ o xs. StopsShortest tag_name 6 xs o) c.in-6.is (λ bs z rest h. inl h) (does_stops (λ xs (v : ℕ) ys. Unit {0}) (StopsShortest tag_name 6) c.in_err-number-in-6.ensures.moves c.in_err-number-in-6.ensures.stops))
+    let p = err_from_is_err_and c.from_residual-in_err-number-in-6.result
+    c.from_residual-in_err-number-in-6.ensures.1 in
+    rw (p.1, p.2)
+    (exact_err c.in_ok-first.first c.in_ok-first.ensures.runs 6 (λ xs (v : ℕ) ys. Unit {0})
+    (λ o xs. StopsShortest tag_name 6 xs o) c.in-6.is (λ bs z rest h. inl h)
+    (does_stops (λ xs (v : ℕ) ys. Unit {0}) (StopsShortest tag_name 6)
+    c.in_err-number-in-6.ensures.moves c.in_err-number-in-6.ensures.stops))
 
-pub read_inside-returns-in_err-inner-in-6-clause-does : goal.read_inside-returns-in_err-inner-in-6-clause-does
+pub read_inside-returns-in_err-inner-in-6-clause-does :
+    goal.read_inside-returns-in_err-inner-in-6-clause-does
 read_inside-returns-in_err-inner-in-6-clause-does g t c =
-    let p = err_from_is_err_and c.from_residual-in_err-inner-in-6.result c.from_residual-in_err-inner-in-6.ensures.1 in
-    rw (p.1, p.2) (exact_tag_err c.in_ok-first.first c.in_ok-first.ensures.runs c.in_ok-number-in-6.number c.in-6.is (reached_shortest 6 c.in_ok-number-in-6.number c.in_ok-number-in-6.ensures.moves c.in_ok-number-in-6.ensures.sound) c.in_err-inner-in-6.ensures.does)
+    let p = err_from_is_err_and c.from_residual-in_err-inner-in-6.result
+    c.from_residual-in_err-inner-in-6.ensures.1 in
+    rw (p.1, p.2) (exact_tag_err c.in_ok-first.first c.in_ok-first.ensures.runs
+    c.in_ok-number-in-6.number c.in-6.is (reached_shortest 6 c.in_ok-number-in-6.number
+    c.in_ok-number-in-6.ensures.moves c.in_ok-number-in-6.ensures.sound)
+    c.in_err-inner-in-6.ensures.does)
 
 pub read_inside-returns-in-6-clause-does : goal.read_inside-returns-in-6-clause-does
 read_inside-returns-in-6-clause-does g t c =
-    does_no_memory (ReadsBehind (g.S.Source.view c.args.reader.now).budget) (StopsBehind (g.S.Source.view c.args.reader.now).budget) refl (kept_then (looked_at c.in_ok-first.first c.in_ok-first.ensures.runs (ShortestAt 6 c.in_ok-number-in-6.number) (reached_shortest 6 c.in_ok-number-in-6.number c.in_ok-number-in-6.ensures.moves c.in_ok-number-in-6.ensures.sound)).kept c.in_ok-inner-in-6.ensures.does.moves.by)
+    does_no_memory (ReadsExactlyUnder (g.S.Source.view c.args.reader.now).budget)
+    (StopsExactlyUnder (g.S.Source.view c.args.reader.now).budget) refl (kept_then (looked_at
+    c.in_ok-first.first c.in_ok-first.ensures.runs (ShortestAt 6 c.in_ok-number-in-6.number)
+    (reached_shortest 6 c.in_ok-number-in-6.number c.in_ok-number-in-6.ensures.moves
+    c.in_ok-number-in-6.ensures.sound)).kept c.in_ok-inner-in-6.ensures.does.moves.by)
 
 pub read_inside-returns-in-Ok-clause-does : goal.read_inside-returns-in-Ok-clause-does
 read_inside-returns-in-Ok-clause-does g t c =
-    exact_tag c.in_ok-first.first c.in_ok-first.ensures.runs c.in_ok-number-in-6.number (Tag c.in_ok-number-in-6.number c.in-Ok.boxed) (view-Tag c.in_ok-number-in-6.number c.in-Ok.boxed ∙ ap (λ x. tag c.in_ok-number-in-6.number (view x)) c.in-Ok.ensures.ok) (reached_shortest 6 c.in_ok-number-in-6.number c.in_ok-number-in-6.ensures.moves c.in_ok-number-in-6.ensures.sound) c.in_ok-inner-in-6.ensures.does
+    exact_tag c.in_ok-first.first c.in_ok-first.ensures.runs c.in_ok-number-in-6.number
+    (Tag c.in_ok-number-in-6.number c.in-Ok.boxed)
+    (view-Tag c.in_ok-number-in-6.number c.in-Ok.boxed
+    ∙ ap (λ x. tag c.in_ok-number-in-6.number (view x)) c.in-Ok.ensures.ok)
+    (reached_shortest 6 c.in_ok-number-in-6.number c.in_ok-number-in-6.ensures.moves
+    c.in_ok-number-in-6.ensures.sound) c.in_ok-inner-in-6.ensures.does
 
 pub read_inside-returns-in-Some-clause-does : goal.read_inside-returns-in-Some-clause-does
 read_inside-returns-in-Some-clause-does g t c =
-    simple_exact c.in_ok-first.first c.in_ok-first.ensures.runs c.in_ok-first.ensures.byte c.advance-in-Some.ensures c.if-first.false c.in-Some.ensures
+    simple_exact c.in_ok-first.first c.in_ok-first.ensures.runs c.in_ok-first.ensures.byte
+    c.advance-in-Some.ensures c.if-first.false c.in-Some.ensures
 
 pub counted_items-returns-then-is_err-2 : goal.counted_items-returns-then-is_err-2
 counted_items-returns-then-is_err-2 g t c =
-    does_no_memory (λ xs (v : Vec Value Global) ys. ExactItems c.args.count (g.S.Source.view c.args.reader.now).budget xs v.items ys) (StopsExactItems c.args.count (g.S.Source.view c.args.reader.now).budget) refl (kept_then c.loop-i.invariant.kept c.in_ok-value.ensures.does.moves.by)
+    does_no_memory (λ xs (v : Vec Value Global) ys.
+    ExactItems c.args.count (g.S.Source.view c.args.reader.now).budget xs v.items ys)
+    (StopsExactItems c.args.count (g.S.Source.view c.args.reader.now).budget) refl
+    (kept_then c.loop-i.invariant.kept c.in_ok-value.ensures.does.moves.by)
 
 pub counted_members-returns-then-is_err-2 : goal.counted_members-returns-then-is_err-2
 counted_members-returns-then-is_err-2 g t c =
-    does_no_memory (λ xs (v : Vec (Value × Value) Global) ys. ExactMembers c.args.count (g.S.Source.view c.args.reader.now).budget xs v.items ys) (StopsExactItems (2 * c.args.count) (g.S.Source.view c.args.reader.now).budget) refl (kept_then c.loop-i.invariant.kept c.in_ok-member.ensures.does.moves.by)
+    does_no_memory (λ xs (v : Vec (Value × Value) Global) ys.
+    ExactMembers c.args.count (g.S.Source.view c.args.reader.now).budget xs v.items ys)
+    (StopsExactItems (2 * c.args.count) (g.S.Source.view c.args.reader.now).budget) refl
+    (kept_then c.loop-i.invariant.kept c.in_ok-member.ensures.does.moves.by)
 
-pub array_inside-returns-in_err-count-clause-progress : goal.array_inside-returns-in_err-count-clause-progress
+pub array_inside-returns-in_err-count-clause-progress :
+    goal.array_inside-returns-in_err-count-clause-progress
 array_inside-returns-in_err-count-clause-progress g t c =
     let p = err_from_is_err_and c.from_residual.result c.from_residual.ensures.1 in rw p.1 tt
 
-pub map_inside-returns-in_err-count-clause-progress : goal.map_inside-returns-in_err-count-clause-progress
+pub map_inside-returns-in_err-count-clause-progress :
+    goal.map_inside-returns-in_err-count-clause-progress
 map_inside-returns-in_err-count-clause-progress g t c =
     let p = err_from_is_err_and c.from_residual.result c.from_residual.ensures.1 in rw p.1 tt
 
-pub read_member-returns-in_err-key-clause-progress : goal.read_member-returns-in_err-key-clause-progress
+pub read_member-returns-in_err-key-clause-progress :
+    goal.read_member-returns-in_err-key-clause-progress
 read_member-returns-in_err-key-clause-progress g t c =
     let p = err_from_is_err_and c.from_residual.result c.from_residual.ensures.1 in rw p.1 tt
 
-pub read_member-returns-in_err-value-clause-progress : goal.read_member-returns-in_err-value-clause-progress
+pub read_member-returns-in_err-value-clause-progress :
+    goal.read_member-returns-in_err-value-clause-progress
 read_member-returns-in_err-value-clause-progress g t c =
-    let p = err_from_is_err_and c.from_residual-in_err-value.result c.from_residual-in_err-value.ensures.1 in rw p.1 tt
+    let p = err_from_is_err_and c.from_residual-in_err-value.result
+    c.from_residual-in_err-value.ensures.1 in
+    rw p.1 tt
 
-pub read_inside-returns-in_err-first-clause-progress : goal.read_inside-returns-in_err-first-clause-progress
+pub read_inside-returns-in_err-first-clause-progress :
+    goal.read_inside-returns-in_err-first-clause-progress
 read_inside-returns-in_err-first-clause-progress g t c =
     let p = err_from_is_err_and c.from_residual.result c.from_residual.ensures.1 in rw p.1 tt
 
-pub read_inside-returns-in_err-read_array-in-4-clause-progress : goal.read_inside-returns-in_err-read_array-in-4-clause-progress
+pub read_inside-returns-in_err-read_array-in-4-clause-progress :
+    goal.read_inside-returns-in_err-read_array-in-4-clause-progress
 read_inside-returns-in_err-read_array-in-4-clause-progress g t c =
-    let p = err_from_is_err_and c.from_residual-in_err-read_array-in-4.result c.from_residual-in_err-read_array-in-4.ensures.1 in rw p.1 tt
+    let p = err_from_is_err_and c.from_residual-in_err-read_array-in-4.result
+    c.from_residual-in_err-read_array-in-4.ensures.1 in
+    rw p.1 tt
 
-pub read_inside-returns-in_err-read_map-in-5-clause-progress : goal.read_inside-returns-in_err-read_map-in-5-clause-progress
+pub read_inside-returns-in_err-read_map-in-5-clause-progress :
+    goal.read_inside-returns-in_err-read_map-in-5-clause-progress
 read_inside-returns-in_err-read_map-in-5-clause-progress g t c =
-    let p = err_from_is_err_and c.from_residual-in_err-read_map-in-5.result c.from_residual-in_err-read_map-in-5.ensures.1 in rw p.1 tt
+    let p = err_from_is_err_and c.from_residual-in_err-read_map-in-5.result
+    c.from_residual-in_err-read_map-in-5.ensures.1 in
+    rw p.1 tt
 
-pub read_inside-returns-in_err-number-in-6-clause-progress : goal.read_inside-returns-in_err-number-in-6-clause-progress
+pub read_inside-returns-in_err-number-in-6-clause-progress :
+    goal.read_inside-returns-in_err-number-in-6-clause-progress
 read_inside-returns-in_err-number-in-6-clause-progress g t c =
-    let p = err_from_is_err_and c.from_residual-in_err-number-in-6.result c.from_residual-in_err-number-in-6.ensures.1 in rw p.1 tt
+    let p = err_from_is_err_and c.from_residual-in_err-number-in-6.result
+    c.from_residual-in_err-number-in-6.ensures.1 in
+    rw p.1 tt
 
-pub read_inside-returns-in_err-inner-in-6-clause-progress : goal.read_inside-returns-in_err-inner-in-6-clause-progress
+pub read_inside-returns-in_err-inner-in-6-clause-progress :
+    goal.read_inside-returns-in_err-inner-in-6-clause-progress
 read_inside-returns-in_err-inner-in-6-clause-progress g t c =
-    let p = err_from_is_err_and c.from_residual-in_err-inner-in-6.result c.from_residual-in_err-inner-in-6.ensures.1 in rw p.1 tt
+    let p = err_from_is_err_and c.from_residual-in_err-inner-in-6.result
+    c.from_residual-in_err-inner-in-6.ensures.1 in
+    rw p.1 tt
 
-pub read_one-returns-then-not-step_in-clause-progress : goal.read_one-returns-then-not-step_in-clause-progress
+pub read_one-returns-then-not-step_in-clause-progress :
+    goal.read_one-returns-then-not-step_in-clause-progress
 read_one-returns-then-not-step_in-clause-progress g t c = tt
 
 pub read_one-returns-clause-progress : goal.read_one-returns-clause-progress
 read_one-returns-clause-progress g t c =
-    around _ _ _ _ _ c.step_in.ensures.others.bound c.step_out.ensures.others.bound c.read_inside-outcome.ensures.progress
+    around _ _ _ _ _ c.step_in.ensures.others.bound c.step_out.ensures.others.bound
+    c.read_inside-outcome.ensures.progress
 
-pub read_array-returns-then-not-step_in-clause-progress : goal.read_array-returns-then-not-step_in-clause-progress
+pub read_array-returns-then-not-step_in-clause-progress :
+    goal.read_array-returns-then-not-step_in-clause-progress
 read_array-returns-then-not-step_in-clause-progress g t c = tt
 
 pub read_array-returns-clause-progress : goal.read_array-returns-clause-progress
 read_array-returns-clause-progress g t c =
-    around _ _ _ _ _ c.step_in.ensures.others.bound c.step_out.ensures.others.bound c.array_inside-outcome.ensures.progress
+    around _ _ _ _ _ c.step_in.ensures.others.bound c.step_out.ensures.others.bound
+    c.array_inside-outcome.ensures.progress
 
-pub read_map-returns-then-not-step_in-clause-progress : goal.read_map-returns-then-not-step_in-clause-progress
+pub read_map-returns-then-not-step_in-clause-progress :
+    goal.read_map-returns-then-not-step_in-clause-progress
 read_map-returns-then-not-step_in-clause-progress g t c = tt
 
 pub read_map-returns-clause-progress : goal.read_map-returns-clause-progress
 read_map-returns-clause-progress g t c =
-    around _ _ _ _ _ c.step_in.ensures.others.bound c.step_out.ensures.others.bound c.map_inside-outcome.ensures.progress
+    around _ _ _ _ _ c.step_in.ensures.others.bound c.step_out.ensures.others.bound
+    c.map_inside-outcome.ensures.progress
 
 pub array_inside-returns-clause-progress : goal.array_inside-returns-clause-progress
-array_inside-returns-clause-progress g t c = went_on _ c.in_ok-count.ensures.progress c.counted_items.ensures.moves
+array_inside-returns-clause-progress g t c =
+    went_on _ c.in_ok-count.ensures.progress c.counted_items.ensures.moves
 
 pub map_inside-returns-clause-progress : goal.map_inside-returns-clause-progress
-map_inside-returns-clause-progress g t c = went_on _ c.in_ok-count.ensures.progress c.counted_members.ensures.moves
+map_inside-returns-clause-progress g t c =
+    went_on _ c.in_ok-count.ensures.progress c.counted_members.ensures.moves
 
 pub read_member-returns-clause-progress : goal.read_member-returns-clause-progress
-read_member-returns-clause-progress g t c = omega (arith, c.in_ok-key.ensures.progress, c.in_ok-value.ensures.progress)
+read_member-returns-clause-progress g t c =
+    omega (arith, c.in_ok-key.ensures.progress, c.in_ok-value.ensures.progress)
 
-pub read_inside-returns-then-first-clause-progress : goal.read_inside-returns-then-first-clause-progress
+pub read_inside-returns-then-first-clause-progress :
+    goal.read_inside-returns-then-first-clause-progress
 read_inside-returns-then-first-clause-progress g t c = tt
 
 pub read_inside-returns-in-6-clause-progress : goal.read_inside-returns-in-6-clause-progress
@@ -237,7 +411,8 @@ read_inside-returns-in-6-clause-progress g t c = tt
 
 pub read_inside-returns-in-4-clause-progress : goal.read_inside-returns-in-4-clause-progress
 read_inside-returns-in-4-clause-progress g t c =
-    omega (arith, c.in_ok-first.ensures.runs.moves.by.bound, c.in_ok-read_array-in-4.ensures.progress)
+    omega
+    (arith, c.in_ok-first.ensures.runs.moves.by.bound, c.in_ok-read_array-in-4.ensures.progress)
 
 pub read_inside-returns-in-5-clause-progress : goal.read_inside-returns-in-5-clause-progress
 read_inside-returns-in-5-clause-progress g t c =
@@ -245,7 +420,12 @@ read_inside-returns-in-5-clause-progress g t c =
 
 pub read_inside-returns-in-Ok-clause-progress : goal.read_inside-returns-in-Ok-clause-progress
 read_inside-returns-in-Ok-clause-progress g t c =
-    omega (arith, c.in_ok-first.ensures.runs.moves.by.bound, c.in_ok-number-in-6.ensures.progress, c.in_ok-inner-in-6.ensures.progress)
+    omega (
+      arith,
+      c.in_ok-first.ensures.runs.moves.by.bound,
+      c.in_ok-number-in-6.ensures.progress,
+      c.in_ok-inner-in-6.ensures.progress,
+    )
 
 pub read_inside-returns-in-7-clause-progress : goal.read_inside-returns-in-7-clause-progress
 read_inside-returns-in-7-clause-progress g t c =
@@ -257,11 +437,17 @@ read_inside-returns-clause-progress g t c =
 
 pub counted_items-returns-then-is_err : goal.counted_items-returns-then-is_err
 counted_items-returns-then-is_err g t c =
-    does_no_memory (λ xs (v : Vec Value Global) ys. ExactItems c.args.count (g.S.Source.view c.args.reader.now).budget xs v.items ys) (StopsExactItems c.args.count (g.S.Source.view c.args.reader.now).budget) refl (kept_alike _)
+    does_no_memory (λ xs (v : Vec Value Global) ys.
+    ExactItems c.args.count (g.S.Source.view c.args.reader.now).budget xs v.items ys)
+    (StopsExactItems c.args.count (g.S.Source.view c.args.reader.now).budget) refl
+    (kept_alike _)
 
 pub counted_members-returns-then-is_err : goal.counted_members-returns-then-is_err
 counted_members-returns-then-is_err g t c =
-    does_no_memory (λ xs (v : Vec (Value × Value) Global) ys. ExactMembers c.args.count (g.S.Source.view c.args.reader.now).budget xs v.items ys) (StopsExactItems (2 * c.args.count) (g.S.Source.view c.args.reader.now).budget) refl (kept_alike _)
+    does_no_memory (λ xs (v : Vec (Value × Value) Global) ys.
+    ExactMembers c.args.count (g.S.Source.view c.args.reader.now).budget xs v.items ys)
+    (StopsExactItems (2 * c.args.count) (g.S.Source.view c.args.reader.now).budget) refl
+    (kept_alike _)
 
 pub read_inside-read_float-requires-clause-other : goal.read_inside-read_float-requires-clause-other
 read_inside-read_float-requires-clause-other g t c = c.in-None.ensures
@@ -290,11 +476,23 @@ read_inside-returns-in-Some-clause-progress g t c =
 
 pub counted_items-returns : goal.counted_items-returns
 counted_items-returns g t c =
-    let e : c.loop-i.i ≡ c.args.count = omega (arith, c.loop-i-test.false, c.loop-i.auto.i-end) in does_ok (λ xs (v : Vec Value Global) ys. ExactItems c.args.count (g.S.Source.view c.args.reader.now).budget xs v.items ys) (StopsExactItems c.args.count (g.S.Source.view c.args.reader.now).budget) (subst (λ n. Reached (λ xs ys. ExactItems n (g.S.Source.view c.args.reader.now).budget xs c.loop-i.items.items ys) (g.S.Source.view c.args.reader.now) (g.S.Source.view c.loop-i.reader)) e c.loop-i.invariant)
+    let e : c.loop-i.i ≡ c.args.count = omega (arith, c.loop-i-test.false, c.loop-i.auto.i-end) in
+    does_ok (λ xs (v : Vec Value Global) ys.
+    ExactItems c.args.count (g.S.Source.view c.args.reader.now).budget xs v.items ys)
+    (StopsExactItems c.args.count (g.S.Source.view c.args.reader.now).budget)
+    (subst (λ n. Reached (λ xs ys. ExactItems n (g.S.Source.view c.args.reader.now).budget xs
+    c.loop-i.items.items ys) (g.S.Source.view c.args.reader.now)
+    (g.S.Source.view c.loop-i.reader)) e c.loop-i.invariant)
 
 pub counted_members-returns : goal.counted_members-returns
 counted_members-returns g t c =
-    let e : c.loop-i.i ≡ c.args.count = omega (arith, c.loop-i-test.false, c.loop-i.auto.i-end) in does_ok (λ xs (v : Vec (Value × Value) Global) ys. ExactMembers c.args.count (g.S.Source.view c.args.reader.now).budget xs v.items ys) (StopsExactItems (2 * c.args.count) (g.S.Source.view c.args.reader.now).budget) (subst (λ n. Reached (λ xs ys. ExactMembers n (g.S.Source.view c.args.reader.now).budget xs c.loop-i.members.items ys) (g.S.Source.view c.args.reader.now) (g.S.Source.view c.loop-i.reader)) e c.loop-i.invariant)
+    let e : c.loop-i.i ≡ c.args.count = omega (arith, c.loop-i-test.false, c.loop-i.auto.i-end) in
+    does_ok (λ xs (v : Vec (Value × Value) Global) ys.
+    ExactMembers c.args.count (g.S.Source.view c.args.reader.now).budget xs v.items ys)
+    (StopsExactItems (2 * c.args.count) (g.S.Source.view c.args.reader.now).budget)
+    (subst (λ n. Reached (λ xs ys. ExactMembers n (g.S.Source.view c.args.reader.now).budget xs
+    c.loop-i.members.items ys) (g.S.Source.view c.args.reader.now)
+    (g.S.Source.view c.loop-i.reader)) e c.loop-i.invariant)
 
 pub read_inside-advance-requires-in-Some : goal.read_inside-advance-requires-in-Some
 read_inside-advance-requires-in-Some g t c = c.in_ok-first.ensures.can

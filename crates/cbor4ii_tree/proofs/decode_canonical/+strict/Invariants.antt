@@ -31,7 +31,11 @@ abbrev pub decreases-read_member : goal.decreases-read_member
 decreases-read_member g l = 6 * (g.S.Source.view l.reader.now).bound + 4
 
 abbrev pub invariant-counted_items-loop-i : goal.invariant-counted_items-loop-i
-invariant-counted_items-loop-i g l = Reached (λ xs ys. ExactItems l.i (g.S.Source.view l.fn.reader).budget xs l.items.items ys) (g.S.Source.view l.fn.reader) (g.S.Source.view l.reader)
+invariant-counted_items-loop-i g l =
+    Reached (λ xs ys. ExactItems l.i (g.S.Source.view l.fn.reader).budget xs l.items.items ys)
+    (g.S.Source.view l.fn.reader) (g.S.Source.view l.reader)
 
 abbrev pub invariant-counted_members-loop-i : goal.invariant-counted_members-loop-i
-invariant-counted_members-loop-i g l = Reached (λ xs ys. ExactMembers l.i (g.S.Source.view l.fn.reader).budget xs l.members.items ys) (g.S.Source.view l.fn.reader) (g.S.Source.view l.reader)
+invariant-counted_members-loop-i g l =
+    Reached (λ xs ys. ExactMembers l.i (g.S.Source.view l.fn.reader).budget xs l.members.items ys)
+    (g.S.Source.view l.fn.reader) (g.S.Source.view l.reader)

@@ -8,66 +8,117 @@ use Rattle.cbor4ii_items.specs.Shortest.{StopsShortest, StopsShortestString}
 use Rattle.cbor4ii_tree.specs.StopsStrictly.{ShortestAt, StrictTextStops}
 use Rattle.cbor4ii_tree.specs.Strictly.{StringAt, TextAt}
 use Rattle.cbor4ii_tree.proofs.skip_calls.Doing.{reached_by}
-use Rattle.cbor4ii_tree.proofs.canonical.Calls.{reached_shortest, reached_string, leaf_exact, leaf_err, leaf_stops, unsigned_exact, negative_exact, bytes_exact, text_exact}
+use Rattle.cbor4ii_tree.proofs.canonical.Calls.{reached_shortest, reached_string, leaf_exact}
+use Rattle.cbor4ii_tree.proofs.canonical.Calls.{leaf_err, leaf_stops, unsigned_exact}
+use Rattle.cbor4ii_tree.proofs.canonical.Calls.{negative_exact, bytes_exact, text_exact}
 use Rattle.cbor4ii_tree.proofs.decode_canonical.read_leaf.Goals as goal
 
-pub returns-in_err-canonical_head-in-0-clause-does : goal.returns-in_err-canonical_head-in-0-clause-does
+pub returns-in_err-canonical_head-in-0-clause-does :
+    goal.returns-in_err-canonical_head-in-0-clause-does
 returns-in_err-canonical_head-in-0-clause-does g c =
     let p = err_from_is_err_and c.from_residual.result c.from_residual.ensures.1 in
-    rw (p.1, p.2) (leaf_stops c.args.first 0 (StopsShortest (sign_name unsigned) 0) c.in-0.is (λ bs z rest h. h) c.in_err-canonical_head-in-0.ensures.moves c.in_err-canonical_head-in-0.ensures.stops)
+    rw (p.1, p.2) (leaf_stops c.args.first 0 (StopsShortest (sign_name unsigned) 0) c.in-0.is
+    (λ bs z rest h. h) c.in_err-canonical_head-in-0.ensures.moves
+    c.in_err-canonical_head-in-0.ensures.stops)
 
 pub returns-in_err-number-in-1-clause-does : goal.returns-in_err-number-in-1-clause-does
 returns-in_err-number-in-1-clause-does g c =
-    let p = err_from_is_err_and c.from_residual-in_err-number-in-1.result c.from_residual-in_err-number-in-1.ensures.1 in
-    rw (p.1, p.2) (leaf_stops c.args.first 1 (StopsShortest (sign_name negative) 1) c.in-1.is (λ bs z rest h. h) c.in_err-number-in-1.ensures.moves c.in_err-number-in-1.ensures.stops)
+    let p = err_from_is_err_and c.from_residual-in_err-number-in-1.result
+    c.from_residual-in_err-number-in-1.ensures.1 in
+    rw (p.1, p.2)
+    (leaf_stops c.args.first 1 (StopsShortest (sign_name negative) 1) c.in-1.is (λ bs z rest h.
+    h) c.in_err-number-in-1.ensures.moves c.in_err-number-in-1.ensures.stops)
 
-pub returns-in_err-canonical_buf-in-2-clause-does : goal.returns-in_err-canonical_buf-in-2-clause-does
+pub returns-in_err-canonical_buf-in-2-clause-does :
+    goal.returns-in_err-canonical_buf-in-2-clause-does
 returns-in_err-canonical_buf-in-2-clause-does g c =
-    let p = err_from_is_err_and c.from_residual-in_err-canonical_buf-in-2.result c.from_residual-in_err-canonical_buf-in-2.ensures.1 in
-    rw (p.1, p.2) (leaf_stops c.args.first 2 (StopsShortestString (kind_name byte_string) 2) c.in-2.is (λ bs z rest h. h) c.in_err-canonical_buf-in-2.ensures.moves c.in_err-canonical_buf-in-2.ensures.stops)
+    let p = err_from_is_err_and c.from_residual-in_err-canonical_buf-in-2.result
+    c.from_residual-in_err-canonical_buf-in-2.ensures.1 in
+    rw (p.1, p.2) (leaf_stops c.args.first 2 (StopsShortestString (kind_name byte_string) 2)
+    c.in-2.is (λ bs z rest h. h) c.in_err-canonical_buf-in-2.ensures.moves
+    c.in_err-canonical_buf-in-2.ensures.stops)
 
-pub returns-in_err-read_text-in_default-clause-does : goal.returns-in_err-read_text-in_default-clause-does
+pub returns-in_err-read_text-in_default-clause-does :
+    goal.returns-in_err-read_text-in_default-clause-does
 returns-in_err-read_text-in_default-clause-does g c =
-    let p = err_from_is_err_and c.from_residual-in_err-read_text-in_default.result c.from_residual-in_err-read_text-in_default.ensures.1 in
+    let p = err_from_is_err_and c.from_residual-in_err-read_text-in_default.result
+    c.from_residual-in_err-read_text-in_default.ensures.1 in
     let major : c.args.first / 32 ≡ 3 = omega (arith, c.requires.major, c.in_default) in
-    rw (p.1, p.2) (leaf_err c.args.first 3 (TextAt (g.S.Source.view c.args.reader.now).budget) (StrictTextStops (g.S.Source.view c.args.reader.now).budget) major (λ bs z rest h. h) c.in_err-read_text-in_default.ensures.does)
+    rw (p.1, p.2) (leaf_err c.args.first 3 (TextAt (g.S.Source.view c.args.reader.now).budget)
+    (StrictTextStops (g.S.Source.view c.args.reader.now).budget) major (λ bs z rest h. h)
+    c.in_err-read_text-in_default.ensures.does)
 
-pub returns-in_ok-canonical_head-in-0-clause-does : goal.returns-in_ok-canonical_head-in-0-clause-does
-returns-in_ok-canonical_head-in-0-clause-does g c = leaf_exact c.args.first (ShortestAt 0 c.in_ok-canonical_head-in-0.field-0) _ (λ xs ys h. unsigned_exact (g.S.Source.view c.args.reader.now).budget c.in_ok-canonical_head-in-0.field-0 xs ys h) (reached_shortest 0 c.in_ok-canonical_head-in-0.field-0 c.in_ok-canonical_head-in-0.ensures.moves c.in_ok-canonical_head-in-0.ensures.sound)
+pub returns-in_ok-canonical_head-in-0-clause-does :
+    goal.returns-in_ok-canonical_head-in-0-clause-does
+returns-in_ok-canonical_head-in-0-clause-does g c =
+    leaf_exact c.args.first (ShortestAt 0 c.in_ok-canonical_head-in-0.field-0) _
+    (λ xs ys h. unsigned_exact (g.S.Source.view c.args.reader.now).budget
+    c.in_ok-canonical_head-in-0.field-0 xs ys h)
+    (reached_shortest 0 c.in_ok-canonical_head-in-0.field-0
+    c.in_ok-canonical_head-in-0.ensures.moves c.in_ok-canonical_head-in-0.ensures.sound)
 
 pub returns-in_ok-number-in-1-clause-does : goal.returns-in_ok-number-in-1-clause-does
-returns-in_ok-number-in-1-clause-does g c = leaf_exact c.args.first (ShortestAt 1 c.in_ok-number-in-1.number) _ (λ xs ys h. negative_exact (g.S.Source.view c.args.reader.now).budget c.in_ok-number-in-1.number xs ys h) (reached_shortest 1 c.in_ok-number-in-1.number c.in_ok-number-in-1.ensures.moves c.in_ok-number-in-1.ensures.sound)
+returns-in_ok-number-in-1-clause-does g c =
+    leaf_exact c.args.first (ShortestAt 1 c.in_ok-number-in-1.number) _ (λ xs ys h. negative_exact
+    (g.S.Source.view c.args.reader.now).budget c.in_ok-number-in-1.number xs ys h)
+    (reached_shortest 1 c.in_ok-number-in-1.number c.in_ok-number-in-1.ensures.moves
+    c.in_ok-number-in-1.ensures.sound)
 
 pub returns-in_ok-canonical_buf-in-2-clause-does : goal.returns-in_ok-canonical_buf-in-2-clause-does
-returns-in_ok-canonical_buf-in-2-clause-does g c = leaf_exact c.args.first (StringAt 2 c.in_ok-canonical_buf-in-2.field-0.items) (Bytes c.in_ok-canonical_buf-in-2.field-0) (λ xs ys h. bytes_exact (g.S.Source.view c.args.reader.now).budget c.in_ok-canonical_buf-in-2.field-0 xs ys h) (reached_string 2 c.in_ok-canonical_buf-in-2.field-0 c.in_ok-canonical_buf-in-2.ensures.moves c.in_ok-canonical_buf-in-2.ensures.sound)
+returns-in_ok-canonical_buf-in-2-clause-does g c =
+    leaf_exact c.args.first (StringAt 2 c.in_ok-canonical_buf-in-2.field-0.items)
+    (Bytes c.in_ok-canonical_buf-in-2.field-0) (λ xs ys h. bytes_exact
+    (g.S.Source.view c.args.reader.now).budget c.in_ok-canonical_buf-in-2.field-0 xs ys h)
+    (reached_string 2 c.in_ok-canonical_buf-in-2.field-0
+    c.in_ok-canonical_buf-in-2.ensures.moves c.in_ok-canonical_buf-in-2.ensures.sound)
 
-pub returns-in_ok-read_text-in_default-clause-does : goal.returns-in_ok-read_text-in_default-clause-does
-returns-in_ok-read_text-in_default-clause-does g c = leaf_exact c.args.first (λ xs ys. TextAt (g.S.Source.view c.args.reader.now).budget xs c.in_ok-read_text-in_default.field-0 ys) (Text c.in_ok-read_text-in_default.field-0) (λ xs ys h. text_exact (g.S.Source.view c.args.reader.now).budget c.in_ok-read_text-in_default.field-0 xs ys (IsUtf8-string_bytes c.in_ok-read_text-in_default.field-0) h) (reached_by c.in_ok-read_text-in_default.ensures.does)
+pub returns-in_ok-read_text-in_default-clause-does :
+    goal.returns-in_ok-read_text-in_default-clause-does
+returns-in_ok-read_text-in_default-clause-does g c =
+    leaf_exact c.args.first (λ xs ys. TextAt (g.S.Source.view c.args.reader.now).budget xs
+    c.in_ok-read_text-in_default.field-0 ys) (Text c.in_ok-read_text-in_default.field-0)
+    (λ xs ys h. text_exact (g.S.Source.view c.args.reader.now).budget
+    c.in_ok-read_text-in_default.field-0 xs ys
+    (IsUtf8-string_bytes c.in_ok-read_text-in_default.field-0) h)
+    (reached_by c.in_ok-read_text-in_default.ensures.does)
 
-pub returns-in_err-canonical_head-in-0-clause-progress : goal.returns-in_err-canonical_head-in-0-clause-progress
+pub returns-in_err-canonical_head-in-0-clause-progress :
+    goal.returns-in_err-canonical_head-in-0-clause-progress
 returns-in_err-canonical_head-in-0-clause-progress g c =
     let p = err_from_is_err_and c.from_residual.result c.from_residual.ensures.1 in rw p.1 tt
 
 pub returns-in_err-number-in-1-clause-progress : goal.returns-in_err-number-in-1-clause-progress
 returns-in_err-number-in-1-clause-progress g c =
-    let p = err_from_is_err_and c.from_residual-in_err-number-in-1.result c.from_residual-in_err-number-in-1.ensures.1 in rw p.1 tt
+    let p = err_from_is_err_and c.from_residual-in_err-number-in-1.result
+    c.from_residual-in_err-number-in-1.ensures.1 in
+    rw p.1 tt
 
-pub returns-in_err-canonical_buf-in-2-clause-progress : goal.returns-in_err-canonical_buf-in-2-clause-progress
+pub returns-in_err-canonical_buf-in-2-clause-progress :
+    goal.returns-in_err-canonical_buf-in-2-clause-progress
 returns-in_err-canonical_buf-in-2-clause-progress g c =
-    let p = err_from_is_err_and c.from_residual-in_err-canonical_buf-in-2.result c.from_residual-in_err-canonical_buf-in-2.ensures.1 in rw p.1 tt
+    let p = err_from_is_err_and c.from_residual-in_err-canonical_buf-in-2.result
+    c.from_residual-in_err-canonical_buf-in-2.ensures.1 in
+    rw p.1 tt
 
-pub returns-in_err-read_text-in_default-clause-progress : goal.returns-in_err-read_text-in_default-clause-progress
+pub returns-in_err-read_text-in_default-clause-progress :
+    goal.returns-in_err-read_text-in_default-clause-progress
 returns-in_err-read_text-in_default-clause-progress g c =
-    let p = err_from_is_err_and c.from_residual-in_err-read_text-in_default.result c.from_residual-in_err-read_text-in_default.ensures.1 in rw p.1 tt
+    let p = err_from_is_err_and c.from_residual-in_err-read_text-in_default.result
+    c.from_residual-in_err-read_text-in_default.ensures.1 in
+    rw p.1 tt
 
-pub returns-in_ok-canonical_head-in-0-clause-progress : goal.returns-in_ok-canonical_head-in-0-clause-progress
+pub returns-in_ok-canonical_head-in-0-clause-progress :
+    goal.returns-in_ok-canonical_head-in-0-clause-progress
 returns-in_ok-canonical_head-in-0-clause-progress g c = c.in_ok-canonical_head-in-0.ensures.progress
 
 pub returns-in_ok-number-in-1-clause-progress : goal.returns-in_ok-number-in-1-clause-progress
 returns-in_ok-number-in-1-clause-progress g c = c.in_ok-number-in-1.ensures.progress
 
-pub returns-in_ok-canonical_buf-in-2-clause-progress : goal.returns-in_ok-canonical_buf-in-2-clause-progress
+pub returns-in_ok-canonical_buf-in-2-clause-progress :
+    goal.returns-in_ok-canonical_buf-in-2-clause-progress
 returns-in_ok-canonical_buf-in-2-clause-progress g c = c.in_ok-canonical_buf-in-2.ensures.progress
 
-pub returns-in_ok-read_text-in_default-clause-progress : goal.returns-in_ok-read_text-in_default-clause-progress
-returns-in_ok-read_text-in_default-clause-progress g c = c.in_ok-read_text-in_default.ensures.progress
+pub returns-in_ok-read_text-in_default-clause-progress :
+    goal.returns-in_ok-read_text-in_default-clause-progress
+returns-in_ok-read_text-in_default-clause-progress g c =
+    c.in_ok-read_text-in_default.ensures.progress

@@ -12,16 +12,30 @@ use Rattle.cbor4ii_tree.proofs.decode_canonical.read_text.Goals as goal
 pub returns-in_err-canonical_buf-clause-does : goal.returns-in_err-canonical_buf-clause-does
 returns-in_err-canonical_buf-clause-does g c =
     let p = err_from_is_err_and c.from_residual.result c.from_residual.ensures.1 in
-    rw (p.1, p.2) (call_stops (TextAt (g.S.Source.view c.args.reader.now).budget) (StopsShortestString (kind_name text_string) 3) (StrictTextStops (g.S.Source.view c.args.reader.now).budget) (λ xs z rest h. inl h) c.in_err-canonical_buf.ensures.moves c.in_err-canonical_buf.ensures.stops)
+    rw (p.1, p.2) (call_stops (TextAt (g.S.Source.view c.args.reader.now).budget)
+    (StopsShortestString (kind_name text_string) 3)
+    (StrictTextStops (g.S.Source.view c.args.reader.now).budget) (λ xs z rest h. inl h)
+    c.in_err-canonical_buf.ensures.moves c.in_err-canonical_buf.ensures.stops)
 
 pub returns-in-Ok-clause-does : goal.returns-in-Ok-clause-does
 returns-in-Ok-clause-does g c =
-    does_ok (TextAt (g.S.Source.view c.args.reader.now).budget) (StrictTextStops (g.S.Source.view c.args.reader.now).budget)
-    (reached_as (StringAt 3 c.in_ok-canonical_buf.field-0.items) (λ xs ys. TextAt (g.S.Source.view c.args.reader.now).budget xs c.in-Ok.text ys) (λ xs ys h. subst (λ content. StringAt 3 content xs ys) (ap (λ (v : Vec ℕ Global). v.items) (sym c.in-Ok.ensures.ok)) h)
-    (reached_string 3 c.in_ok-canonical_buf.field-0 c.in_ok-canonical_buf.ensures.moves c.in_ok-canonical_buf.ensures.sound))
+    does_ok (TextAt (g.S.Source.view c.args.reader.now).budget)
+    (StrictTextStops (g.S.Source.view c.args.reader.now).budget)
+    (reached_as (StringAt 3 c.in_ok-canonical_buf.field-0.items)
+    (λ xs ys. TextAt (g.S.Source.view c.args.reader.now).budget xs c.in-Ok.text ys)
+    (λ xs ys h. subst (λ content. StringAt 3 content xs ys)
+    (ap (λ (v : Vec ℕ Global). v.items) (sym c.in-Ok.ensures.ok)) h)
+    (reached_string 3 c.in_ok-canonical_buf.field-0 c.in_ok-canonical_buf.ensures.moves
+    c.in_ok-canonical_buf.ensures.sound))
 
 pub returns-clause-does : goal.returns-clause-does
 returns-clause-does g c =
-    does_refuse (StringAt 3 c.in_ok-canonical_buf.field-0.items) (TextAt (g.S.Source.view c.args.reader.now).budget) (StrictTextStops (g.S.Source.view c.args.reader.now).budget) (require_utf8 (kind_name text_string)) refl refl refl
-    (λ xs ys h. no_text (g.S.Source.view c.args.reader.now).budget c.in_ok-canonical_buf.field-0.items xs ys (λ u. let f = c.in-Err.ensures.succeeds u in cc) h)
-    (reached_string 3 c.in_ok-canonical_buf.field-0 c.in_ok-canonical_buf.ensures.moves c.in_ok-canonical_buf.ensures.sound)
+    does_refuse (StringAt 3 c.in_ok-canonical_buf.field-0.items)
+    (TextAt (g.S.Source.view c.args.reader.now).budget)
+    (StrictTextStops (g.S.Source.view c.args.reader.now).budget)
+    (require_utf8 (kind_name text_string)) refl refl refl
+    (λ xs ys h.
+    no_text (g.S.Source.view c.args.reader.now).budget c.in_ok-canonical_buf.field-0.items
+    xs ys (λ u. let f = c.in-Err.ensures.succeeds u in cc) h)
+    (reached_string 3 c.in_ok-canonical_buf.field-0 c.in_ok-canonical_buf.ensures.moves
+    c.in_ok-canonical_buf.ensures.sound)

@@ -1,19 +1,35 @@
 use Rattle.std.proofs.Common.{inl, refl, ap, subst, arith, ◌∙◌, ◌+◌, ◌∷◌, ◌≡◌}
 use Rattle.std.proofs.lemmas.Result.{err_from_is_err_and}
-use Rattle.cbor4ii_tree.specs.Valuing.{ReadsOne, StopsOne, ReadsMember, StopsMember, StopsMembers, StopsFirst, ReadsStepped, StopsOf, ReadsItems, StopsItems, ReadsArray, ReadsMap, StopsMajor, ReadsMembers, ReadsOpen, StopsOpen, ReadsOpenMembers, StopsOpenMembers, ReadsUnder, StopsUnder}
+use Rattle.cbor4ii_tree.specs.Valuing.{ReadsOneValue, StopsOneValue, ReadsMember, StopsMember}
+use Rattle.cbor4ii_tree.specs.Valuing.{StopsMembers, StopsFirst, ReadsStepped, StopsOf, ReadsItems}
+use Rattle.cbor4ii_tree.specs.Valuing.{StopsItems, ReadsArrayInside, ReadsMapInside, StopsMajor}
+use Rattle.cbor4ii_tree.specs.Valuing.{ReadsMembers, ReadsOpenItems, StopsOpenItems}
+use Rattle.cbor4ii_tree.specs.Valuing.{ReadsOpenMembers, StopsOpenMembers, ReadsUnder, StopsUnder}
 use Rattle.cbor4ii_tree.specs.declared.value.Value.{Array, Map, Tag}
 use Rattle.cbor4ii_tree.specs.Item.{tag}
 use Rattle.cbor4ii_tree.specs.View.{view}
 use Rattle.cbor4ii_tree.specs.Refusal.{array_name, map_name, tag_name, value_name}
 use Rattle.cbor4ii_items.specs.Numbers.{StopsArgument}
 use Rattle.cbor4ii_items.specs.Laws.Steps.{kept_then}
-use Rattle.cbor4ii_tree.proofs.skip_calls.Doing.{Reached, reached_start, reached_by, does_ok, does_no_memory, does_no_step}
+use Rattle.cbor4ii_tree.proofs.skip_calls.Doing.{Reached, reached_start, reached_by, does_ok}
+use Rattle.cbor4ii_tree.proofs.skip_calls.Doing.{does_no_memory, does_no_step}
 use Rattle.cbor4ii_tree.proofs.skip_calls.Calls.{Before, broke, other, at_end}
 use Rattle.cbor4ii_tree.proofs.values.Parts.{ReadEach, ReadPairs}
 use Rattle.cbor4ii_tree.proofs.values.Calls.{stepped, none, counted_more, counted_stop}
-use Rattle.cbor4ii_tree.proofs.values.Heads.{arm_ok, arm_err, arm_does, call_err, simple_read, reached_tag, tag_read, tag_stops, tag_stopped, view-Tag}
-use Rattle.cbor4ii_tree.proofs.values.Sequences.{major_stepped, array_no_step, map_no_step, array_length_stops, map_length_stops, length_refused, reached_length, reached_open, array_counted, array_opened, array_reads, map_counted, map_opened, map_reads, each_none, each_more, open_end, open_stop, open_done, members_none, members_more, member_stop, pairs_none, pairs_more, members_end, pair_stop, value_stop, members_done, more, ends}
-use Rattle.cbor4ii_tree.proofs.values.Items.{items_none, items_are, members_none_are, members_are, array_item, map_item}
+use Rattle.cbor4ii_tree.proofs.values.Heads.{arm_ok, arm_err, arm_does, call_err, simple_read}
+use Rattle.cbor4ii_tree.proofs.values.Heads.{reached_tag, tag_read, tag_stops, tag_stopped}
+use Rattle.cbor4ii_tree.proofs.values.Heads.{view-Tag}
+use Rattle.cbor4ii_tree.proofs.values.Sequences.{major_stepped, array_no_step, map_no_step}
+use Rattle.cbor4ii_tree.proofs.values.Sequences.{array_length_stops, map_length_stops}
+use Rattle.cbor4ii_tree.proofs.values.Sequences.{length_refused, reached_length, reached_open}
+use Rattle.cbor4ii_tree.proofs.values.Sequences.{array_counted, array_opened, array_reads}
+use Rattle.cbor4ii_tree.proofs.values.Sequences.{map_counted, map_opened, map_reads, each_none}
+use Rattle.cbor4ii_tree.proofs.values.Sequences.{each_more, open_end, open_stop, open_done}
+use Rattle.cbor4ii_tree.proofs.values.Sequences.{members_none, members_more, member_stop}
+use Rattle.cbor4ii_tree.proofs.values.Sequences.{pairs_none, pairs_more, members_end, pair_stop}
+use Rattle.cbor4ii_tree.proofs.values.Sequences.{value_stop, members_done, more, ends}
+use Rattle.cbor4ii_tree.proofs.values.Items.{items_none, items_are, members_none_are, members_are}
+use Rattle.cbor4ii_tree.proofs.values.Items.{array_item, map_item}
 use Rattle.cbor4ii_items.specs.Laws.Running.{kept_alike}
 use Rattle.cbor4ii_tree.proofs.values.Progress.{went_on, around, behind}
 use Rattle.cbor4ii_tree.proofs.values.Ends.{nothing_there}
@@ -21,329 +37,605 @@ use Rattle.cbor4ii_tree.proofs.decode_value.+read.Goals as goal
 
 pub array_inside-returns-in-None-clause-does : goal.array_inside-returns-in-None-clause-does
 array_inside-returns-in-None-clause-does g t c =
-    array_opened (reached_open 4 c.in-None.is c.in_ok-count.ensures.moves c.in_ok-count.ensures.sound) c.open_items.ensures.does
+    array_opened (reached_open 4 c.in-None.is c.in_ok-count.ensures.moves
+    c.in_ok-count.ensures.sound) c.open_items.ensures.does
 
 pub array_inside-returns-in-Some-clause-does : goal.array_inside-returns-in-Some-clause-does
 array_inside-returns-in-Some-clause-does g t c =
-    array_counted c.in-Some.count (reached_length 4 c.in-Some.count c.in-Some.is c.in_ok-count.ensures.moves c.in_ok-count.ensures.sound) c.counted_items.ensures.does
+    array_counted c.in-Some.count (reached_length 4 c.in-Some.count c.in-Some.is
+    c.in_ok-count.ensures.moves c.in_ok-count.ensures.sound) c.counted_items.ensures.does
 
-pub array_inside-returns-in_err-count-clause-does : goal.array_inside-returns-in_err-count-clause-does
+pub array_inside-returns-in_err-count-clause-does :
+    goal.array_inside-returns-in_err-count-clause-does
 array_inside-returns-in_err-count-clause-does g t c =
     let p = err_from_is_err_and c.from_residual.result c.from_residual.ensures.1 in
-    rw (p.1, p.2) (length_refused array_name 4 (λ xs v ys. ReadsArray (g.S.Source.view c.args.reader.now).budget xs v.items ys) (StopsMajor 4 (g.S.Source.view c.args.reader.now).budget) (λ xs z rest. array_length_stops (g.S.Source.view c.args.reader.now).budget xs (g.S.Source.view c.args.reader.now).budget z rest) c.in_err-count.ensures.moves c.in_err-count.ensures.stops)
+    rw (p.1, p.2) (length_refused array_name 4
+    (λ xs v ys. ReadsArrayInside (g.S.Source.view c.args.reader.now).budget xs v.items ys)
+    (StopsMajor 4 (g.S.Source.view c.args.reader.now).budget)
+    (λ xs z rest. array_length_stops (g.S.Source.view c.args.reader.now).budget xs
+    (g.S.Source.view c.args.reader.now).budget z rest) c.in_err-count.ensures.moves
+    c.in_err-count.ensures.stops)
 
 pub counted_items-loop-i-init : goal.counted_items-loop-i-init
 counted_items-loop-i-init g t c = record {
-  reached = reached_start (λ xs ys. ReadsItems 0 (g.S.Source.view c.args.reader.now).budget xs _ ys) _ (λ xs. none (g.S.Source.view c.args.reader.now).budget xs _ (cc));
+  reached =
+      reached_start (λ xs ys. ReadsItems 0 (g.S.Source.view c.args.reader.now).budget xs _ ys) _
+      (λ xs. none (g.S.Source.view c.args.reader.now).budget xs _ (cc));
   items = items_none (cc);
 }
 
 pub counted_items-loop-i-preserved : goal.counted_items-loop-i-preserved
 counted_items-loop-i-preserved g t c = record {
-  reached = counted_more c.loop-i.i c.loop-i.items.items c.loop-i.invariant.reached _ c.in_ok-keep.ensures.kept c.in_ok-value.ensures.does;
-  items = items_are _ c.loop-i.items.items c.in_ok-value.value c.in_ok-keep.ensures.kept c.loop-i.invariant.items c.in_ok-value.ensures.item;
+  reached =
+      counted_more c.loop-i.i c.loop-i.items.items c.loop-i.invariant.reached _
+      c.in_ok-keep.ensures.kept c.in_ok-value.ensures.does;
+  items =
+      items_are _ c.loop-i.items.items c.in_ok-value.value c.in_ok-keep.ensures.kept
+      c.loop-i.invariant.items c.in_ok-value.ensures.item;
 }
 
-pub counted_items-returns-in_err-value-clause-does : goal.counted_items-returns-in_err-value-clause-does
+pub counted_items-returns-in_err-value-clause-does :
+    goal.counted_items-returns-in_err-value-clause-does
 counted_items-returns-in_err-value-clause-does g t c =
     let p = err_from_is_err_and c.from_residual.result c.from_residual.ensures.1 in
-    rw (p.1, p.2) (counted_stop c.loop-i.i c.loop-i.items.items c.loop-i.invariant.reached (λ xs v ys. ReadsItems c.args.count (g.S.Source.view c.args.reader.now).budget xs v.items ys) c.args.count c.loop-i-test.true c.in_err-value.ensures.does)
+    rw (p.1, p.2) (counted_stop c.loop-i.i c.loop-i.items.items c.loop-i.invariant.reached
+    (λ xs v ys. ReadsItems c.args.count (g.S.Source.view c.args.reader.now).budget xs
+    v.items ys) c.args.count c.loop-i-test.true c.in_err-value.ensures.does)
 
 pub counted_members-loop-i-init : goal.counted_members-loop-i-init
 counted_members-loop-i-init g t c = record {
-  reached = reached_start (λ xs ys. ReadsMembers 0 (g.S.Source.view c.args.reader.now).budget xs _ ys) _ (λ xs. members_none (g.S.Source.view c.args.reader.now).budget _ xs (cc));
+  reached =
+      reached_start (λ xs ys. ReadsMembers 0 (g.S.Source.view c.args.reader.now).budget xs _ ys) _
+      (λ xs. members_none (g.S.Source.view c.args.reader.now).budget _ xs (cc));
   items = members_none_are (cc);
 }
 
 pub counted_members-loop-i-preserved : goal.counted_members-loop-i-preserved
 counted_members-loop-i-preserved g t c = record {
-  reached = more ReadsMember StopsMember (λ xs ys. ReadsMembers c.loop-i.i (g.S.Source.view c.args.reader.now).budget xs c.loop-i.members.items ys) c.loop-i.invariant.reached (λ xs ys. ReadsMembers (c.loop-i.i + 1) (g.S.Source.view c.args.reader.now).budget xs _ ys) (λ xs ys zs h s. members_more c.loop-i.i (g.S.Source.view c.args.reader.now).budget c.loop-i.members.items _ c.in_ok-member.member xs ys zs c.in_ok-keep.ensures.kept h s) c.in_ok-member.ensures.does;
-  items = members_are _ c.loop-i.members.items c.in_ok-member.member.0 c.in_ok-member.member.1 c.in_ok-keep.ensures.kept c.loop-i.invariant.items c.in_ok-member.ensures.key c.in_ok-member.ensures.value;
+  reached =
+      more ReadsMember StopsMember (λ xs ys. ReadsMembers c.loop-i.i
+      (g.S.Source.view c.args.reader.now).budget xs c.loop-i.members.items ys)
+      c.loop-i.invariant.reached (λ xs ys. ReadsMembers (c.loop-i.i + 1)
+      (g.S.Source.view c.args.reader.now).budget xs _ ys)
+      (λ xs ys zs h s. members_more c.loop-i.i (g.S.Source.view c.args.reader.now).budget
+      c.loop-i.members.items _ c.in_ok-member.member xs ys zs c.in_ok-keep.ensures.kept h s)
+      c.in_ok-member.ensures.does;
+  items =
+      members_are _ c.loop-i.members.items c.in_ok-member.member.0 c.in_ok-member.member.1
+      c.in_ok-keep.ensures.kept c.loop-i.invariant.items c.in_ok-member.ensures.key
+      c.in_ok-member.ensures.value;
 }
 
-pub counted_members-returns-in_err-member-clause-does : goal.counted_members-returns-in_err-member-clause-does
+pub counted_members-returns-in_err-member-clause-does :
+    goal.counted_members-returns-in_err-member-clause-does
 counted_members-returns-in_err-member-clause-does g t c =
     let p = err_from_is_err_and c.from_residual.result c.from_residual.ensures.1 in
-    rw (p.1, p.2) (ends ReadsMember StopsMember (λ xs ys. ReadsMembers c.loop-i.i (g.S.Source.view c.args.reader.now).budget xs c.loop-i.members.items ys) c.loop-i.invariant.reached (λ xs v ys. ReadsMembers c.args.count (g.S.Source.view c.args.reader.now).budget xs v.items ys) (StopsMembers c.args.count (g.S.Source.view c.args.reader.now).budget) (λ xs ys z rest h s. member_stop c.loop-i.i c.args.count (g.S.Source.view c.args.reader.now).budget c.loop-i.members.items xs ys z rest c.loop-i-test.true h s) c.in_err-member.ensures.does)
+    rw (p.1, p.2) (ends ReadsMember StopsMember (λ xs ys. ReadsMembers c.loop-i.i (g.S.Source.view
+    c.args.reader.now).budget xs c.loop-i.members.items ys) c.loop-i.invariant.reached
+    (λ xs v ys. ReadsMembers c.args.count (g.S.Source.view c.args.reader.now).budget xs
+    v.items ys) (StopsMembers c.args.count (g.S.Source.view c.args.reader.now).budget)
+    (λ xs ys z rest h s. member_stop c.loop-i.i c.args.count (g.S.Source.view
+    c.args.reader.now).budget c.loop-i.members.items xs ys z rest c.loop-i-test.true h s)
+    c.in_err-member.ensures.does)
 
 pub map_inside-returns-in-None-clause-does : goal.map_inside-returns-in-None-clause-does
 map_inside-returns-in-None-clause-does g t c =
-    map_opened (reached_open 5 c.in-None.is c.in_ok-count.ensures.moves c.in_ok-count.ensures.sound) c.open_members.ensures.does
+    map_opened (reached_open 5 c.in-None.is c.in_ok-count.ensures.moves c.in_ok-count.ensures.sound)
+    c.open_members.ensures.does
 
 pub map_inside-returns-in-Some-clause-does : goal.map_inside-returns-in-Some-clause-does
 map_inside-returns-in-Some-clause-does g t c =
-    map_counted c.in-Some.count (reached_length 5 c.in-Some.count c.in-Some.is c.in_ok-count.ensures.moves c.in_ok-count.ensures.sound) c.counted_members.ensures.does
+    map_counted c.in-Some.count (reached_length 5 c.in-Some.count c.in-Some.is
+    c.in_ok-count.ensures.moves c.in_ok-count.ensures.sound) c.counted_members.ensures.does
 
 pub map_inside-returns-in_err-count-clause-does : goal.map_inside-returns-in_err-count-clause-does
 map_inside-returns-in_err-count-clause-does g t c =
     let p = err_from_is_err_and c.from_residual.result c.from_residual.ensures.1 in
-    rw (p.1, p.2) (length_refused map_name 5 (λ xs v ys. ReadsMap (g.S.Source.view c.args.reader.now).budget xs v.items ys) (StopsMajor 5 (g.S.Source.view c.args.reader.now).budget) (λ xs z rest. map_length_stops (g.S.Source.view c.args.reader.now).budget xs (g.S.Source.view c.args.reader.now).budget z rest) c.in_err-count.ensures.moves c.in_err-count.ensures.stops)
+    rw (p.1, p.2) (length_refused map_name 5
+    (λ xs v ys. ReadsMapInside (g.S.Source.view c.args.reader.now).budget xs v.items ys)
+    (StopsMajor 5 (g.S.Source.view c.args.reader.now).budget) (λ xs z rest. map_length_stops
+    (g.S.Source.view c.args.reader.now).budget xs (g.S.Source.view c.args.reader.now).budget
+    z rest) c.in_err-count.ensures.moves c.in_err-count.ensures.stops)
 
 pub open_items-loop-items-init : goal.open_items-loop-items-init
 open_items-loop-items-init g t c = record {
-  reached = reached_start (ReadEach _ (g.S.Source.view c.args.reader.now).budget) _ (λ xs. each_none (g.S.Source.view c.args.reader.now).budget _ xs (cc));
+  reached =
+      reached_start (ReadEach _ (g.S.Source.view c.args.reader.now).budget) _
+      (λ xs. each_none (g.S.Source.view c.args.reader.now).budget _ xs (cc));
   items = items_none (cc);
 }
 
 pub open_items-loop-items-preserved : goal.open_items-loop-items-preserved
 open_items-loop-items-preserved g t c = record {
-  reached = more ReadsOne StopsOne (Before (ReadEach c.loop-items.items.items) (g.S.Source.view c.args.reader.now).budget) (other (ReadEach c.loop-items.items.items) c.loop-items.invariant.reached c.if-not-branch.true c.in_ok-is_break.ensures.moves c.in_ok-is_break.ensures.sound) (ReadEach _ (g.S.Source.view c.args.reader.now).budget) (λ xs ys zs h s. each_more (g.S.Source.view c.args.reader.now).budget c.loop-items.items.items _ c.in_ok-value.value xs ys zs c.in_ok-keep.ensures.kept h.0 s) c.in_ok-value.ensures.does;
-  items = items_are _ c.loop-items.items.items c.in_ok-value.value c.in_ok-keep.ensures.kept c.loop-items.invariant.items c.in_ok-value.ensures.item;
+  reached =
+      more ReadsOneValue StopsOneValue
+      (Before (ReadEach c.loop-items.items.items) (g.S.Source.view c.args.reader.now).budget)
+      (other (ReadEach c.loop-items.items.items) c.loop-items.invariant.reached
+      c.if-not-branch.true c.in_ok-is_break.ensures.moves c.in_ok-is_break.ensures.sound)
+      (ReadEach _ (g.S.Source.view c.args.reader.now).budget)
+      (λ xs ys zs h s. each_more (g.S.Source.view c.args.reader.now).budget
+      c.loop-items.items.items _ c.in_ok-value.value xs ys zs c.in_ok-keep.ensures.kept h.0
+      s) c.in_ok-value.ensures.does;
+  items =
+      items_are _ c.loop-items.items.items c.in_ok-value.value c.in_ok-keep.ensures.kept
+      c.loop-items.invariant.items c.in_ok-value.ensures.item;
 }
 
 pub open_items-returns-clause-does : goal.open_items-returns-clause-does
-open_items-returns-clause-does g t c = (does_ok (λ xs v ys. ReadsOpen (g.S.Source.view c.args.reader.now).budget xs v.items ys) (StopsOpen (g.S.Source.view c.args.reader.now).budget) (broke (ReadEach c.loop-items.items.items) c.loop-items.invariant.reached (λ xs ys. ReadsOpen (g.S.Source.view c.args.reader.now).budget xs c.loop-items.items.items ys) (λ xs ys zs h e. open_done (g.S.Source.view c.args.reader.now).budget c.loop-items.items.items xs ys zs h e) c.if-not-branch.false c.in_ok-is_break.ensures.moves c.in_ok-is_break.ensures.sound))
+open_items-returns-clause-does g t c =
+    (does_ok (λ xs v ys. ReadsOpenItems (g.S.Source.view c.args.reader.now).budget xs v.items ys)
+    (StopsOpenItems (g.S.Source.view c.args.reader.now).budget)
+    (broke (ReadEach c.loop-items.items.items) c.loop-items.invariant.reached
+    (λ xs ys. ReadsOpenItems (g.S.Source.view c.args.reader.now).budget xs
+    c.loop-items.items.items ys) (λ xs ys zs h e. open_done
+    (g.S.Source.view c.args.reader.now).budget c.loop-items.items.items xs ys zs h e)
+    c.if-not-branch.false c.in_ok-is_break.ensures.moves c.in_ok-is_break.ensures.sound))
 
-pub open_items-returns-in_err-is_break-clause-does : goal.open_items-returns-in_err-is_break-clause-does
+pub open_items-returns-in_err-is_break-clause-does :
+    goal.open_items-returns-in_err-is_break-clause-does
 open_items-returns-in_err-is_break-clause-does g t c =
     let p = err_from_is_err_and c.from_residual.result c.from_residual.ensures.1 in
-    rw (p.1, p.2) (at_end (ReadEach c.loop-items.items.items) c.loop-items.invariant.reached (λ xs v ys. ReadsOpen (g.S.Source.view c.args.reader.now).budget xs v.items ys) (StopsOpen (g.S.Source.view c.args.reader.now).budget) (λ xs ys h e. open_end (g.S.Source.view c.args.reader.now).budget c.loop-items.items.items xs ys h e) c.in_err-is_break.ensures.moves c.in_err-is_break.ensures.stops)
+    rw (p.1, p.2) (at_end (ReadEach c.loop-items.items.items) c.loop-items.invariant.reached
+    (λ xs v ys. ReadsOpenItems (g.S.Source.view c.args.reader.now).budget xs v.items ys)
+    (StopsOpenItems (g.S.Source.view c.args.reader.now).budget) (λ xs ys h e.
+    open_end (g.S.Source.view c.args.reader.now).budget c.loop-items.items.items xs ys h e)
+    c.in_err-is_break.ensures.moves c.in_err-is_break.ensures.stops)
 
 pub open_items-returns-in_err-value-clause-does : goal.open_items-returns-in_err-value-clause-does
 open_items-returns-in_err-value-clause-does g t c =
-    let p = err_from_is_err_and c.from_residual-in_err-value.result c.from_residual-in_err-value.ensures.1 in
-    rw (p.1, p.2) (ends ReadsOne StopsOne (Before (ReadEach c.loop-items.items.items) (g.S.Source.view c.args.reader.now).budget) (other (ReadEach c.loop-items.items.items) c.loop-items.invariant.reached c.if-not-branch.true c.in_ok-is_break.ensures.moves c.in_ok-is_break.ensures.sound) (λ xs v ys. ReadsOpen (g.S.Source.view c.args.reader.now).budget xs v.items ys) (StopsOpen (g.S.Source.view c.args.reader.now).budget) (λ xs ys z rest h s. open_stop (g.S.Source.view c.args.reader.now).budget c.loop-items.items.items xs ys z rest h.1 h.2 h.0 s) c.in_err-value.ensures.does)
+    let p = err_from_is_err_and c.from_residual-in_err-value.result
+    c.from_residual-in_err-value.ensures.1 in
+    rw (p.1, p.2) (ends ReadsOneValue StopsOneValue
+    (Before (ReadEach c.loop-items.items.items) (g.S.Source.view c.args.reader.now).budget)
+    (other (ReadEach c.loop-items.items.items) c.loop-items.invariant.reached
+    c.if-not-branch.true c.in_ok-is_break.ensures.moves c.in_ok-is_break.ensures.sound)
+    (λ xs v ys. ReadsOpenItems (g.S.Source.view c.args.reader.now).budget xs v.items ys)
+    (StopsOpenItems (g.S.Source.view c.args.reader.now).budget)
+    (λ xs ys z rest h s. open_stop (g.S.Source.view c.args.reader.now).budget
+    c.loop-items.items.items xs ys z rest h.1 h.2 h.0 s) c.in_err-value.ensures.does)
 
 pub open_members-loop-members-init : goal.open_members-loop-members-init
 open_members-loop-members-init g t c = record {
-  reached = reached_start (ReadPairs _ (g.S.Source.view c.args.reader.now).budget) _ (λ xs. pairs_none (g.S.Source.view c.args.reader.now).budget _ xs (cc));
+  reached =
+      reached_start (ReadPairs _ (g.S.Source.view c.args.reader.now).budget) _
+      (λ xs. pairs_none (g.S.Source.view c.args.reader.now).budget _ xs (cc));
   items = members_none_are (cc);
 }
 
 pub open_members-loop-members-preserved : goal.open_members-loop-members-preserved
 open_members-loop-members-preserved g t c = record {
-  reached = more ReadsMember StopsMember (Before (ReadPairs c.loop-members.members.items) (g.S.Source.view c.args.reader.now).budget) (other (ReadPairs c.loop-members.members.items) c.loop-members.invariant.reached c.if-not-branch.true c.in_ok-is_break.ensures.moves c.in_ok-is_break.ensures.sound) (ReadPairs _ (g.S.Source.view c.args.reader.now).budget) (λ xs ys zs h s. pairs_more (g.S.Source.view c.args.reader.now).budget c.loop-members.members.items _ c.in_ok-member.member xs ys zs c.in_ok-keep.ensures.kept h.0 s) c.in_ok-member.ensures.does;
-  items = members_are _ c.loop-members.members.items c.in_ok-member.member.0 c.in_ok-member.member.1 c.in_ok-keep.ensures.kept c.loop-members.invariant.items c.in_ok-member.ensures.key c.in_ok-member.ensures.value;
+  reached =
+      more ReadsMember StopsMember (Before (ReadPairs c.loop-members.members.items)
+      (g.S.Source.view c.args.reader.now).budget)
+      (other (ReadPairs c.loop-members.members.items) c.loop-members.invariant.reached
+      c.if-not-branch.true c.in_ok-is_break.ensures.moves c.in_ok-is_break.ensures.sound)
+      (ReadPairs _ (g.S.Source.view c.args.reader.now).budget)
+      (λ xs ys zs h s. pairs_more (g.S.Source.view c.args.reader.now).budget
+      c.loop-members.members.items _ c.in_ok-member.member xs ys zs
+      c.in_ok-keep.ensures.kept h.0 s) c.in_ok-member.ensures.does;
+  items =
+      members_are _ c.loop-members.members.items c.in_ok-member.member.0 c.in_ok-member.member.1
+      c.in_ok-keep.ensures.kept c.loop-members.invariant.items c.in_ok-member.ensures.key
+      c.in_ok-member.ensures.value;
 }
 
 pub open_members-returns-clause-does : goal.open_members-returns-clause-does
-open_members-returns-clause-does g t c = (does_ok (λ xs v ys. ReadsOpenMembers (g.S.Source.view c.args.reader.now).budget xs v.items ys) (StopsOpenMembers (g.S.Source.view c.args.reader.now).budget) (broke (ReadPairs c.loop-members.members.items) c.loop-members.invariant.reached (λ xs ys. ReadsOpenMembers (g.S.Source.view c.args.reader.now).budget xs c.loop-members.members.items ys) (λ xs ys zs h e. members_done (g.S.Source.view c.args.reader.now).budget c.loop-members.members.items xs ys zs h e) c.if-not-branch.false c.in_ok-is_break.ensures.moves c.in_ok-is_break.ensures.sound))
+open_members-returns-clause-does g t c =
+    (does_ok (λ xs v ys. ReadsOpenMembers (g.S.Source.view c.args.reader.now).budget xs v.items ys)
+    (StopsOpenMembers (g.S.Source.view c.args.reader.now).budget)
+    (broke (ReadPairs c.loop-members.members.items) c.loop-members.invariant.reached
+    (λ xs ys. ReadsOpenMembers (g.S.Source.view c.args.reader.now).budget xs
+    c.loop-members.members.items ys) (λ xs ys zs h e. members_done
+    (g.S.Source.view c.args.reader.now).budget c.loop-members.members.items xs ys zs h e)
+    c.if-not-branch.false c.in_ok-is_break.ensures.moves c.in_ok-is_break.ensures.sound))
 
-pub open_members-returns-in_err-is_break-clause-does : goal.open_members-returns-in_err-is_break-clause-does
+pub open_members-returns-in_err-is_break-clause-does :
+    goal.open_members-returns-in_err-is_break-clause-does
 open_members-returns-in_err-is_break-clause-does g t c =
     let p = err_from_is_err_and c.from_residual.result c.from_residual.ensures.1 in
-    rw (p.1, p.2) (at_end (ReadPairs c.loop-members.members.items) c.loop-members.invariant.reached (λ xs v ys. ReadsOpenMembers (g.S.Source.view c.args.reader.now).budget xs v.items ys) (StopsOpenMembers (g.S.Source.view c.args.reader.now).budget) (λ xs ys h e. members_end (g.S.Source.view c.args.reader.now).budget c.loop-members.members.items xs ys h e) c.in_err-is_break.ensures.moves c.in_err-is_break.ensures.stops)
+    rw (p.1, p.2) (at_end (ReadPairs c.loop-members.members.items) c.loop-members.invariant.reached
+    (λ xs v ys. ReadsOpenMembers (g.S.Source.view c.args.reader.now).budget xs v.items ys)
+    (StopsOpenMembers (g.S.Source.view c.args.reader.now).budget) (λ xs ys h e. members_end
+    (g.S.Source.view c.args.reader.now).budget c.loop-members.members.items xs ys h e)
+    c.in_err-is_break.ensures.moves c.in_err-is_break.ensures.stops)
 
-pub open_members-returns-in_err-member-clause-does : goal.open_members-returns-in_err-member-clause-does
+pub open_members-returns-in_err-member-clause-does :
+    goal.open_members-returns-in_err-member-clause-does
 open_members-returns-in_err-member-clause-does g t c =
-    let p = err_from_is_err_and c.from_residual-in_err-member.result c.from_residual-in_err-member.ensures.1 in
-    rw (p.1, p.2) (ends ReadsMember StopsMember (Before (ReadPairs c.loop-members.members.items) (g.S.Source.view c.args.reader.now).budget) (other (ReadPairs c.loop-members.members.items) c.loop-members.invariant.reached c.if-not-branch.true c.in_ok-is_break.ensures.moves c.in_ok-is_break.ensures.sound) (λ xs v ys. ReadsOpenMembers (g.S.Source.view c.args.reader.now).budget xs v.items ys) (StopsOpenMembers (g.S.Source.view c.args.reader.now).budget) (λ xs ys z rest h s. pair_stop (g.S.Source.view c.args.reader.now).budget c.loop-members.members.items xs ys z rest h.1 h.2 h.0 s) c.in_err-member.ensures.does)
+    let p = err_from_is_err_and c.from_residual-in_err-member.result
+    c.from_residual-in_err-member.ensures.1 in
+    rw (p.1, p.2) (ends ReadsMember StopsMember (Before (ReadPairs c.loop-members.members.items)
+    (g.S.Source.view c.args.reader.now).budget)
+    (other (ReadPairs c.loop-members.members.items) c.loop-members.invariant.reached
+    c.if-not-branch.true c.in_ok-is_break.ensures.moves c.in_ok-is_break.ensures.sound)
+    (λ xs v ys. ReadsOpenMembers (g.S.Source.view c.args.reader.now).budget xs v.items ys)
+    (StopsOpenMembers (g.S.Source.view c.args.reader.now).budget)
+    (λ xs ys z rest h s. pair_stop (g.S.Source.view c.args.reader.now).budget
+    c.loop-members.members.items xs ys z rest h.1 h.2 h.0 s) c.in_err-member.ensures.does)
 
 pub read_member-returns-clause-does : goal.read_member-returns-clause-does
 read_member-returns-clause-does g t c =
-    does_ok (ReadsMember (g.S.Source.view c.args.reader.now).budget) (StopsMember (g.S.Source.view c.args.reader.now).budget) (more ReadsOne StopsOne (λ xs ys. ReadsOne (g.S.Source.view c.args.reader.now).budget xs c.in_ok-key.key ys) (reached_by c.in_ok-key.ensures.does) (λ xs ys. ReadsMember (g.S.Source.view c.args.reader.now).budget xs (c.in_ok-key.key, c.in_ok-value.value) ys) (λ xs ys zs h s. (ys, h, s)) c.in_ok-value.ensures.does)
+    does_ok (ReadsMember (g.S.Source.view c.args.reader.now).budget)
+    (StopsMember (g.S.Source.view c.args.reader.now).budget)
+    (more ReadsOneValue StopsOneValue (λ xs ys.
+    ReadsOneValue (g.S.Source.view c.args.reader.now).budget xs c.in_ok-key.key ys)
+    (reached_by c.in_ok-key.ensures.does) (λ xs ys. ReadsMember
+    (g.S.Source.view c.args.reader.now).budget xs (c.in_ok-key.key, c.in_ok-value.value) ys)
+    (λ xs ys zs h s. (ys, h, s)) c.in_ok-value.ensures.does)
 
 pub read_member-returns-in_err-key-clause-does : goal.read_member-returns-in_err-key-clause-does
 read_member-returns-in_err-key-clause-does g t c =
     let p = err_from_is_err_and c.from_residual.result c.from_residual.ensures.1 in
-    rw (p.1, p.2) (ends ReadsOne StopsOne (λ xs ys. ys ≡ xs) (reached_start (λ xs ys. ys ≡ xs) _ (λ xs. refl)) (ReadsMember (g.S.Source.view c.args.reader.now).budget) (StopsMember (g.S.Source.view c.args.reader.now).budget) (λ xs ys z rest h s. inl (subst (λ x. StopsOne (g.S.Source.view c.args.reader.now).budget x z rest) h s)) c.in_err-key.ensures.does)
+    rw (p.1, p.2) (ends ReadsOneValue StopsOneValue (λ xs ys. ys ≡ xs)
+    (reached_start (λ xs ys. ys ≡ xs) _ (λ xs. refl))
+    (ReadsMember (g.S.Source.view c.args.reader.now).budget)
+    (StopsMember (g.S.Source.view c.args.reader.now).budget) (λ xs ys z rest h s. inl
+    (subst (λ x. StopsOneValue (g.S.Source.view c.args.reader.now).budget x z rest) h s))
+    c.in_err-key.ensures.does)
 
 pub read_member-returns-in_err-value-clause-does : goal.read_member-returns-in_err-value-clause-does
 read_member-returns-in_err-value-clause-does g t c =
-    let p = err_from_is_err_and c.from_residual-in_err-value.result c.from_residual-in_err-value.ensures.1 in
-    rw (p.1, p.2) (ends ReadsOne StopsOne (λ xs ys. ReadsOne (g.S.Source.view c.args.reader.now).budget xs c.in_ok-key.key ys) (reached_by c.in_ok-key.ensures.does) (ReadsMember (g.S.Source.view c.args.reader.now).budget) (StopsMember (g.S.Source.view c.args.reader.now).budget) (λ xs ys z rest h s. value_stop (g.S.Source.view c.args.reader.now).budget c.in_ok-key.key xs ys z rest h s) c.in_err-value.ensures.does)
+    let p = err_from_is_err_and c.from_residual-in_err-value.result
+    c.from_residual-in_err-value.ensures.1 in
+    rw (p.1, p.2) (ends ReadsOneValue StopsOneValue (λ xs ys. ReadsOneValue (g.S.Source.view
+    c.args.reader.now).budget xs c.in_ok-key.key ys) (reached_by c.in_ok-key.ensures.does)
+    (ReadsMember (g.S.Source.view c.args.reader.now).budget)
+    (StopsMember (g.S.Source.view c.args.reader.now).budget)
+    (λ xs ys z rest h s. value_stop (g.S.Source.view c.args.reader.now).budget
+    c.in_ok-key.key xs ys z rest h s) c.in_err-value.ensures.does)
 
 pub read_array-returns-clause-does : goal.read_array-returns-clause-does
 read_array-returns-clause-does g t c =
-    major_stepped (λ o xs v ys. ReadsArray o xs v.items ys) 4 c.if-not-step_in.ensures.budget c.step_in.ensures.others c.array_inside-outcome.ensures.does c.step_out.ensures.budget c.step_out.ensures.others
+    major_stepped (λ o xs v ys. ReadsArrayInside o xs v.items ys) 4 c.if-not-step_in.ensures.budget
+    c.step_in.ensures.others c.array_inside-outcome.ensures.does c.step_out.ensures.budget
+    c.step_out.ensures.others
 
-pub read_array-returns-then-not-step_in-clause-does : goal.read_array-returns-then-not-step_in-clause-does
+pub read_array-returns-then-not-step_in-clause-does :
+    goal.read_array-returns-then-not-step_in-clause-does
 read_array-returns-then-not-step_in-clause-does g t c =
-    does_no_step array_name (ReadsStepped (λ o xs v ys. ReadsArray o xs v.items ys) (g.S.Source.view c.args.reader.now).budget) (StopsOf 4 (g.S.Source.view c.args.reader.now).budget) refl refl (λ none xs. array_no_step (g.S.Source.view c.args.reader.now).budget none xs) c.if-not-step_in.ensures.budget c.step_in.ensures.others
+    does_no_step array_name (ReadsStepped (λ o xs v ys. ReadsArrayInside o xs v.items ys)
+    (g.S.Source.view c.args.reader.now).budget)
+    (StopsOf 4 (g.S.Source.view c.args.reader.now).budget) refl refl
+    (λ none xs. array_no_step (g.S.Source.view c.args.reader.now).budget none xs)
+    c.if-not-step_in.ensures.budget c.step_in.ensures.others
 
 pub read_inside-returns-clause-does : goal.read_inside-returns-clause-does
 read_inside-returns-clause-does g t c =
-    arm_does c.in_ok-first.first c.in_ok-first.ensures.runs (λ xs v ys. ReadsUnder (g.S.Source.view c.peek.new.reader).budget xs v ys) (StopsFirst c.in_ok-first.first (g.S.Source.view c.peek.new.reader).budget) (λ bs ys v h. subst (λ o. ReadsUnder o (c.in_ok-first.first ∷ bs) v ys) c.in_ok-first.ensures.runs.moves.by.budget h) (λ bs z rest h. subst (λ o. StopsUnder o (c.in_ok-first.first ∷ bs) z rest) c.in_ok-first.ensures.runs.moves.by.budget (h bs refl)) c.read_leaf.ensures.does
+    arm_does c.in_ok-first.first c.in_ok-first.ensures.runs
+    (λ xs v ys. ReadsUnder (g.S.Source.view c.peek.new.reader).budget xs v ys)
+    (StopsFirst c.in_ok-first.first (g.S.Source.view c.peek.new.reader).budget)
+    (λ bs ys v h. subst (λ o. ReadsUnder o (c.in_ok-first.first ∷ bs) v ys)
+    c.in_ok-first.ensures.runs.moves.by.budget h)
+    (λ bs z rest h. subst (λ o. StopsUnder o (c.in_ok-first.first ∷ bs) z rest)
+    c.in_ok-first.ensures.runs.moves.by.budget (h bs refl)) c.read_leaf.ensures.does
 
 pub read_inside-returns-in-7-clause-does : goal.read_inside-returns-in-7-clause-does
 read_inside-returns-in-7-clause-does g t c =
-    arm_does c.in_ok-first.first c.in_ok-first.ensures.runs (λ xs v ys. ReadsUnder (g.S.Source.view c.peek.new.reader).budget xs v ys) (StopsFirst c.in_ok-first.first (g.S.Source.view c.peek.new.reader).budget) (λ bs ys v h. subst (λ o. ReadsUnder o (c.in_ok-first.first ∷ bs) v ys) c.in_ok-first.ensures.runs.moves.by.budget h) (λ bs z rest h. subst (λ o. StopsUnder o (c.in_ok-first.first ∷ bs) z rest) c.in_ok-first.ensures.runs.moves.by.budget (h bs refl)) c.read_float.ensures.does
+    arm_does c.in_ok-first.first c.in_ok-first.ensures.runs
+    (λ xs v ys. ReadsUnder (g.S.Source.view c.peek.new.reader).budget xs v ys)
+    (StopsFirst c.in_ok-first.first (g.S.Source.view c.peek.new.reader).budget)
+    (λ bs ys v h. subst (λ o. ReadsUnder o (c.in_ok-first.first ∷ bs) v ys)
+    c.in_ok-first.ensures.runs.moves.by.budget h)
+    (λ bs z rest h. subst (λ o. StopsUnder o (c.in_ok-first.first ∷ bs) z rest)
+    c.in_ok-first.ensures.runs.moves.by.budget (h bs refl)) c.read_float.ensures.does
 
 pub read_inside-returns-in-4-clause-does : goal.read_inside-returns-in-4-clause-does
 read_inside-returns-in-4-clause-does g t c =
-    arm_ok c.in_ok-first.first c.in_ok-first.ensures.runs (ReadsStepped (λ o xs v ys. ReadsArray o xs v.items ys) (g.S.Source.view c.peek.new.reader).budget) (StopsOf 4 (g.S.Source.view c.peek.new.reader).budget) (Array c.in_ok-read_array-in-4.field-0) (λ bs ys h. array_reads (g.S.Source.view c.args.reader.now).budget c.in_ok-read_array-in-4.field-0 (c.in_ok-first.first ∷ bs) ys (subst (λ o. ReadsStepped (λ o xs v ys. ReadsArray o xs v.items ys) o (c.in_ok-first.first ∷ bs) c.in_ok-read_array-in-4.field-0 ys) c.in_ok-first.ensures.runs.moves.by.budget h)) c.in_ok-read_array-in-4.ensures.does
+    arm_ok c.in_ok-first.first c.in_ok-first.ensures.runs (ReadsStepped (λ o xs v ys.
+    ReadsArrayInside o xs v.items ys) (g.S.Source.view c.peek.new.reader).budget)
+    (StopsOf 4 (g.S.Source.view c.peek.new.reader).budget)
+    (Array c.in_ok-read_array-in-4.field-0) (λ bs ys h.
+    array_reads (g.S.Source.view c.args.reader.now).budget c.in_ok-read_array-in-4.field-0
+    (c.in_ok-first.first ∷ bs) ys (subst (λ o. ReadsStepped (λ o xs v ys. ReadsArrayInside o
+    xs v.items ys) o (c.in_ok-first.first ∷ bs) c.in_ok-read_array-in-4.field-0 ys)
+    c.in_ok-first.ensures.runs.moves.by.budget h)) c.in_ok-read_array-in-4.ensures.does
 
 pub read_inside-returns-in-5-clause-does : goal.read_inside-returns-in-5-clause-does
 read_inside-returns-in-5-clause-does g t c =
-    arm_ok c.in_ok-first.first c.in_ok-first.ensures.runs (ReadsStepped (λ o xs v ys. ReadsMap o xs v.items ys) (g.S.Source.view c.peek.new.reader).budget) (StopsOf 5 (g.S.Source.view c.peek.new.reader).budget) (Map c.in_ok-read_map-in-5.field-0) (λ bs ys h. map_reads (g.S.Source.view c.args.reader.now).budget c.in_ok-read_map-in-5.field-0 (c.in_ok-first.first ∷ bs) ys (subst (λ o. ReadsStepped (λ o xs v ys. ReadsMap o xs v.items ys) o (c.in_ok-first.first ∷ bs) c.in_ok-read_map-in-5.field-0 ys) c.in_ok-first.ensures.runs.moves.by.budget h)) c.in_ok-read_map-in-5.ensures.does
+    arm_ok c.in_ok-first.first c.in_ok-first.ensures.runs (ReadsStepped (λ o xs v ys.
+    ReadsMapInside o xs v.items ys) (g.S.Source.view c.peek.new.reader).budget)
+    (StopsOf 5 (g.S.Source.view c.peek.new.reader).budget) (Map c.in_ok-read_map-in-5.field-0)
+    (λ bs ys h. map_reads (g.S.Source.view c.args.reader.now).budget
+    c.in_ok-read_map-in-5.field-0 (c.in_ok-first.first ∷ bs) ys (subst (λ o.
+    ReadsStepped (λ o xs v ys. ReadsMapInside o xs v.items ys) o (c.in_ok-first.first ∷ bs)
+    c.in_ok-read_map-in-5.field-0 ys) c.in_ok-first.ensures.runs.moves.by.budget h))
+    c.in_ok-read_map-in-5.ensures.does
 
 pub read_inside-returns-in-6-clause-does : goal.read_inside-returns-in-6-clause-does
 read_inside-returns-in-6-clause-does g t c =
-    does_no_memory (ReadsUnder (g.S.Source.view c.args.reader.now).budget) (StopsUnder (g.S.Source.view c.args.reader.now).budget) refl (kept_then (reached_tag c.in_ok-first.first c.in_ok-number-in-6.number c.in_ok-first.ensures.runs c.in_ok-number-in-6.ensures.moves c.in_ok-number-in-6.ensures.sound).kept c.in_ok-inner-in-6.ensures.does.moves.by)
+    does_no_memory (ReadsUnder (g.S.Source.view c.args.reader.now).budget)
+    (StopsUnder (g.S.Source.view c.args.reader.now).budget) refl (kept_then
+    (reached_tag c.in_ok-first.first c.in_ok-number-in-6.number c.in_ok-first.ensures.runs
+    c.in_ok-number-in-6.ensures.moves c.in_ok-number-in-6.ensures.sound).kept
+    c.in_ok-inner-in-6.ensures.does.moves.by)
 
 pub read_inside-returns-in-Ok-clause-does : goal.read_inside-returns-in-Ok-clause-does
 read_inside-returns-in-Ok-clause-does g t c =
-    tag_read c.in_ok-number-in-6.number (Tag c.in_ok-number-in-6.number c.in-Ok.boxed) (view-Tag c.in_ok-number-in-6.number c.in-Ok.boxed ∙ ap (λ x. tag c.in_ok-number-in-6.number (view x)) c.in-Ok.ensures.ok) (reached_tag c.in_ok-first.first c.in_ok-number-in-6.number c.in_ok-first.ensures.runs c.in_ok-number-in-6.ensures.moves c.in_ok-number-in-6.ensures.sound) c.in_ok-inner-in-6.ensures.does
+    tag_read c.in_ok-number-in-6.number (Tag c.in_ok-number-in-6.number c.in-Ok.boxed)
+    (view-Tag c.in_ok-number-in-6.number c.in-Ok.boxed
+    ∙ ap (λ x. tag c.in_ok-number-in-6.number (view x)) c.in-Ok.ensures.ok)
+    (reached_tag c.in_ok-first.first c.in_ok-number-in-6.number c.in_ok-first.ensures.runs
+    c.in_ok-number-in-6.ensures.moves c.in_ok-number-in-6.ensures.sound)
+    c.in_ok-inner-in-6.ensures.does
 
-pub read_inside-returns-in_err-inner-in-6-clause-does : goal.read_inside-returns-in_err-inner-in-6-clause-does
+pub read_inside-returns-in_err-inner-in-6-clause-does :
+    goal.read_inside-returns-in_err-inner-in-6-clause-does
 read_inside-returns-in_err-inner-in-6-clause-does g t c =
-    let p = err_from_is_err_and c.from_residual-in_err-inner-in-6.result c.from_residual-in_err-inner-in-6.ensures.1 in
-    rw (p.1, p.2) (tag_stopped c.in_ok-number-in-6.number (reached_tag c.in_ok-first.first c.in_ok-number-in-6.number c.in_ok-first.ensures.runs c.in_ok-number-in-6.ensures.moves c.in_ok-number-in-6.ensures.sound) c.in_err-inner-in-6.ensures.does)
+    let p = err_from_is_err_and c.from_residual-in_err-inner-in-6.result
+    c.from_residual-in_err-inner-in-6.ensures.1 in
+    rw (p.1, p.2) (tag_stopped c.in_ok-number-in-6.number (reached_tag c.in_ok-first.first
+    c.in_ok-number-in-6.number c.in_ok-first.ensures.runs c.in_ok-number-in-6.ensures.moves
+    c.in_ok-number-in-6.ensures.sound) c.in_err-inner-in-6.ensures.does)
 
-pub read_inside-returns-in_err-number-in-6-clause-does : goal.read_inside-returns-in_err-number-in-6-clause-does
+pub read_inside-returns-in_err-number-in-6-clause-does :
+    goal.read_inside-returns-in_err-number-in-6-clause-does
 read_inside-returns-in_err-number-in-6-clause-does g t c =
-    let p = err_from_is_err_and c.from_residual-in_err-number-in-6.result c.from_residual-in_err-number-in-6.ensures.1 in
-    rw (p.1, p.2) (call_err c.in_ok-first.first c.in_ok-first.ensures.runs (StopsArgument tag_name 6 8) (λ bs z rest h. tag_stops (g.S.Source.view c.args.reader.now).budget c.in_ok-first.first bs z rest c.in-6.is h) c.in_err-number-in-6.ensures.moves c.in_err-number-in-6.ensures.stops)
+    let p = err_from_is_err_and c.from_residual-in_err-number-in-6.result
+    c.from_residual-in_err-number-in-6.ensures.1 in
+    rw (p.1, p.2)
+    (call_err c.in_ok-first.first c.in_ok-first.ensures.runs (StopsArgument tag_name 6 8)
+    (λ bs z rest h. tag_stops (g.S.Source.view c.args.reader.now).budget c.in_ok-first.first
+    bs z rest c.in-6.is h) c.in_err-number-in-6.ensures.moves
+    c.in_err-number-in-6.ensures.stops)
 
-pub read_inside-returns-in_err-read_array-in-4-clause-does : goal.read_inside-returns-in_err-read_array-in-4-clause-does
+pub read_inside-returns-in_err-read_array-in-4-clause-does :
+    goal.read_inside-returns-in_err-read_array-in-4-clause-does
 read_inside-returns-in_err-read_array-in-4-clause-does g t c =
-    let p = err_from_is_err_and c.from_residual-in_err-read_array-in-4.result c.from_residual-in_err-read_array-in-4.ensures.1 in
-    rw (p.1, p.2) (arm_err c.in_ok-first.first c.in_ok-first.ensures.runs (ReadsStepped (λ o xs v ys. ReadsArray o xs v.items ys) (g.S.Source.view c.peek.new.reader).budget) (StopsOf 4 (g.S.Source.view c.peek.new.reader).budget) (λ bs z rest h. subst (λ o. StopsUnder o (c.in_ok-first.first ∷ bs) z rest) c.in_ok-first.ensures.runs.moves.by.budget (h c.in_ok-first.first bs refl c.in-4.is)) c.in_err-read_array-in-4.ensures.does)
+    let p = err_from_is_err_and c.from_residual-in_err-read_array-in-4.result
+    c.from_residual-in_err-read_array-in-4.ensures.1 in
+    rw (p.1, p.2)
+    (arm_err c.in_ok-first.first c.in_ok-first.ensures.runs (ReadsStepped (λ o xs v ys.
+    ReadsArrayInside o xs v.items ys) (g.S.Source.view c.peek.new.reader).budget)
+    (StopsOf 4 (g.S.Source.view c.peek.new.reader).budget)
+    (λ bs z rest h. subst (λ o. StopsUnder o (c.in_ok-first.first ∷ bs) z rest)
+    c.in_ok-first.ensures.runs.moves.by.budget (h c.in_ok-first.first bs refl c.in-4.is))
+    c.in_err-read_array-in-4.ensures.does)
 
-pub read_inside-returns-in_err-read_map-in-5-clause-does : goal.read_inside-returns-in_err-read_map-in-5-clause-does
+pub read_inside-returns-in_err-read_map-in-5-clause-does :
+    goal.read_inside-returns-in_err-read_map-in-5-clause-does
 read_inside-returns-in_err-read_map-in-5-clause-does g t c =
-    let p = err_from_is_err_and c.from_residual-in_err-read_map-in-5.result c.from_residual-in_err-read_map-in-5.ensures.1 in
-    rw (p.1, p.2) (arm_err c.in_ok-first.first c.in_ok-first.ensures.runs (ReadsStepped (λ o xs v ys. ReadsMap o xs v.items ys) (g.S.Source.view c.peek.new.reader).budget) (StopsOf 5 (g.S.Source.view c.peek.new.reader).budget) (λ bs z rest h. subst (λ o. StopsUnder o (c.in_ok-first.first ∷ bs) z rest) c.in_ok-first.ensures.runs.moves.by.budget (h c.in_ok-first.first bs refl c.in-5.is)) c.in_err-read_map-in-5.ensures.does)
+    let p = err_from_is_err_and c.from_residual-in_err-read_map-in-5.result
+    c.from_residual-in_err-read_map-in-5.ensures.1 in
+    rw (p.1, p.2)
+    (arm_err c.in_ok-first.first c.in_ok-first.ensures.runs (ReadsStepped (λ o xs v ys.
+    ReadsMapInside o xs v.items ys) (g.S.Source.view c.peek.new.reader).budget)
+    (StopsOf 5 (g.S.Source.view c.peek.new.reader).budget)
+    (λ bs z rest h. subst (λ o. StopsUnder o (c.in_ok-first.first ∷ bs) z rest)
+    c.in_ok-first.ensures.runs.moves.by.budget (h c.in_ok-first.first bs refl c.in-5.is))
+    c.in_err-read_map-in-5.ensures.does)
 
 pub read_map-returns-clause-does : goal.read_map-returns-clause-does
 read_map-returns-clause-does g t c =
-    major_stepped (λ o xs v ys. ReadsMap o xs v.items ys) 5 c.if-not-step_in.ensures.budget c.step_in.ensures.others c.map_inside-outcome.ensures.does c.step_out.ensures.budget c.step_out.ensures.others
+    major_stepped (λ o xs v ys. ReadsMapInside o xs v.items ys) 5 c.if-not-step_in.ensures.budget
+    c.step_in.ensures.others c.map_inside-outcome.ensures.does c.step_out.ensures.budget
+    c.step_out.ensures.others
 
-pub read_map-returns-then-not-step_in-clause-does : goal.read_map-returns-then-not-step_in-clause-does
+pub read_map-returns-then-not-step_in-clause-does :
+    goal.read_map-returns-then-not-step_in-clause-does
 read_map-returns-then-not-step_in-clause-does g t c =
-    does_no_step map_name (ReadsStepped (λ o xs v ys. ReadsMap o xs v.items ys) (g.S.Source.view c.args.reader.now).budget) (StopsOf 5 (g.S.Source.view c.args.reader.now).budget) refl refl (λ none xs. map_no_step (g.S.Source.view c.args.reader.now).budget none xs) c.if-not-step_in.ensures.budget c.step_in.ensures.others
+    does_no_step map_name (ReadsStepped (λ o xs v ys. ReadsMapInside o xs v.items ys)
+    (g.S.Source.view c.args.reader.now).budget)
+    (StopsOf 5 (g.S.Source.view c.args.reader.now).budget) refl refl
+    (λ none xs. map_no_step (g.S.Source.view c.args.reader.now).budget none xs)
+    c.if-not-step_in.ensures.budget c.step_in.ensures.others
 
 pub read_value-returns-clause-does : goal.read_value-returns-clause-does
 read_value-returns-clause-does g t c =
-    stepped c.if-not-step_in.ensures.budget c.step_in.ensures.others c.read_inside-outcome.ensures.does c.step_out.ensures.budget c.step_out.ensures.others
+    stepped c.if-not-step_in.ensures.budget c.step_in.ensures.others
+    c.read_inside-outcome.ensures.does c.step_out.ensures.budget c.step_out.ensures.others
 
-pub counted_items-returns-in_err-keep-clause-does : goal.counted_items-returns-in_err-keep-clause-does
+pub counted_items-returns-in_err-keep-clause-does :
+    goal.counted_items-returns-in_err-keep-clause-does
 counted_items-returns-in_err-keep-clause-does g t c =
-    let p = err_from_is_err_and c.from_residual-in_err-keep.result c.from_residual-in_err-keep.ensures.1 in
-    rw (p.1, p.2) (does_no_memory (λ xs v ys. ReadsItems c.args.count (g.S.Source.view c.args.reader.now).budget xs v.items ys) (StopsItems c.args.count (g.S.Source.view c.args.reader.now).budget) c.in_err-keep.ensures.memory (kept_then c.loop-i.invariant.reached.kept c.in_ok-value.ensures.does.moves.by))
+    let p = err_from_is_err_and c.from_residual-in_err-keep.result
+    c.from_residual-in_err-keep.ensures.1 in
+    rw (p.1, p.2) (does_no_memory (λ xs v ys. ReadsItems c.args.count
+    (g.S.Source.view c.args.reader.now).budget xs v.items ys) (StopsItems c.args.count
+    (g.S.Source.view c.args.reader.now).budget) c.in_err-keep.ensures.memory
+    (kept_then c.loop-i.invariant.reached.kept c.in_ok-value.ensures.does.moves.by))
 
-pub counted_members-returns-in_err-keep-clause-does : goal.counted_members-returns-in_err-keep-clause-does
+pub counted_members-returns-in_err-keep-clause-does :
+    goal.counted_members-returns-in_err-keep-clause-does
 counted_members-returns-in_err-keep-clause-does g t c =
-    let p = err_from_is_err_and c.from_residual-in_err-keep.result c.from_residual-in_err-keep.ensures.1 in
-    rw (p.1, p.2) (does_no_memory (λ xs v ys. ReadsMembers c.args.count (g.S.Source.view c.args.reader.now).budget xs v.items ys) (StopsMembers c.args.count (g.S.Source.view c.args.reader.now).budget) c.in_err-keep.ensures.memory (kept_then c.loop-i.invariant.reached.kept c.in_ok-member.ensures.does.moves.by))
+    let p = err_from_is_err_and c.from_residual-in_err-keep.result
+    c.from_residual-in_err-keep.ensures.1 in
+    rw (p.1, p.2) (does_no_memory (λ xs v ys. ReadsMembers c.args.count
+    (g.S.Source.view c.args.reader.now).budget xs v.items ys) (StopsMembers c.args.count
+    (g.S.Source.view c.args.reader.now).budget) c.in_err-keep.ensures.memory
+    (kept_then c.loop-i.invariant.reached.kept c.in_ok-member.ensures.does.moves.by))
 
 pub open_items-returns-in_err-keep-clause-does : goal.open_items-returns-in_err-keep-clause-does
 open_items-returns-in_err-keep-clause-does g t c =
-    let p = err_from_is_err_and c.from_residual-in_err-keep.result c.from_residual-in_err-keep.ensures.1 in
-    rw (p.1, p.2) (does_no_memory (λ xs v ys. ReadsOpen (g.S.Source.view c.args.reader.now).budget xs v.items ys) (StopsOpen (g.S.Source.view c.args.reader.now).budget) c.in_err-keep.ensures.memory (kept_then (kept_then c.loop-items.invariant.reached.kept c.in_ok-is_break.ensures.moves.by) c.in_ok-value.ensures.does.moves.by))
+    let p = err_from_is_err_and c.from_residual-in_err-keep.result
+    c.from_residual-in_err-keep.ensures.1 in
+    rw (p.1, p.2) (does_no_memory
+    (λ xs v ys. ReadsOpenItems (g.S.Source.view c.args.reader.now).budget xs v.items ys)
+    (StopsOpenItems (g.S.Source.view c.args.reader.now).budget) c.in_err-keep.ensures.memory
+    (kept_then (kept_then c.loop-items.invariant.reached.kept
+    c.in_ok-is_break.ensures.moves.by) c.in_ok-value.ensures.does.moves.by))
 
 pub open_members-returns-in_err-keep-clause-does : goal.open_members-returns-in_err-keep-clause-does
 open_members-returns-in_err-keep-clause-does g t c =
-    let p = err_from_is_err_and c.from_residual-in_err-keep.result c.from_residual-in_err-keep.ensures.1 in
-    rw (p.1, p.2) (does_no_memory (λ xs v ys. ReadsOpenMembers (g.S.Source.view c.args.reader.now).budget xs v.items ys) (StopsOpenMembers (g.S.Source.view c.args.reader.now).budget) c.in_err-keep.ensures.memory (kept_then (kept_then c.loop-members.invariant.reached.kept c.in_ok-is_break.ensures.moves.by) c.in_ok-member.ensures.does.moves.by))
+    let p = err_from_is_err_and c.from_residual-in_err-keep.result
+    c.from_residual-in_err-keep.ensures.1 in
+    rw (p.1, p.2) (does_no_memory
+    (λ xs v ys. ReadsOpenMembers (g.S.Source.view c.args.reader.now).budget xs v.items ys)
+    (StopsOpenMembers (g.S.Source.view c.args.reader.now).budget)
+    c.in_err-keep.ensures.memory (kept_then (kept_then c.loop-members.invariant.reached.kept
+    c.in_ok-is_break.ensures.moves.by) c.in_ok-member.ensures.does.moves.by))
 
 pub read_inside-returns-in-Some-clause-does : goal.read_inside-returns-in-Some-clause-does
 read_inside-returns-in-Some-clause-does g t c =
-    simple_read c.in_ok-first.first c.in_ok-first.ensures.runs c.in_ok-first.ensures.byte c.advance.ensures c.in-Some.ensures
+    simple_read c.in_ok-first.first c.in_ok-first.ensures.runs c.in_ok-first.ensures.byte
+    c.advance.ensures c.in-Some.ensures
 
 pub read_inside-returns-in-4-clause-item : goal.read_inside-returns-in-4-clause-item
-read_inside-returns-in-4-clause-item g t c = array_item c.in_ok-read_array-in-4.field-0 c.in_ok-read_array-in-4.ensures.items
+read_inside-returns-in-4-clause-item g t c =
+    array_item c.in_ok-read_array-in-4.field-0 c.in_ok-read_array-in-4.ensures.items
 
 pub read_inside-returns-in-5-clause-item : goal.read_inside-returns-in-5-clause-item
-read_inside-returns-in-5-clause-item g t c = map_item c.in_ok-read_map-in-5.field-0 c.in_ok-read_map-in-5.ensures.items
+read_inside-returns-in-5-clause-item g t c =
+    map_item c.in_ok-read_map-in-5.field-0 c.in_ok-read_map-in-5.ensures.items
 
-pub array_inside-returns-in_err-count-clause-items : goal.array_inside-returns-in_err-count-clause-items
+pub array_inside-returns-in_err-count-clause-items :
+    goal.array_inside-returns-in_err-count-clause-items
 array_inside-returns-in_err-count-clause-items g t c =
     let p = err_from_is_err_and c.from_residual.result c.from_residual.ensures.1 in rw p.1 tt
 
-pub array_inside-returns-in_err-count-clause-progress : goal.array_inside-returns-in_err-count-clause-progress
+pub array_inside-returns-in_err-count-clause-progress :
+    goal.array_inside-returns-in_err-count-clause-progress
 array_inside-returns-in_err-count-clause-progress g t c =
     let p = err_from_is_err_and c.from_residual.result c.from_residual.ensures.1 in rw p.1 tt
 
-pub counted_items-returns-then-is_err-clause-items : goal.counted_items-returns-then-is_err-clause-items
+pub counted_items-returns-then-is_err-clause-items :
+    goal.counted_items-returns-then-is_err-clause-items
 counted_items-returns-then-is_err-clause-items g t c = tt
 
-pub counted_items-returns-in_err-value-clause-items : goal.counted_items-returns-in_err-value-clause-items
+pub counted_items-returns-in_err-value-clause-items :
+    goal.counted_items-returns-in_err-value-clause-items
 counted_items-returns-in_err-value-clause-items g t c =
     let p = err_from_is_err_and c.from_residual.result c.from_residual.ensures.1 in rw p.1 tt
 
-pub counted_items-returns-in_err-keep-clause-items : goal.counted_items-returns-in_err-keep-clause-items
+pub counted_items-returns-in_err-keep-clause-items :
+    goal.counted_items-returns-in_err-keep-clause-items
 counted_items-returns-in_err-keep-clause-items g t c =
-    let p = err_from_is_err_and c.from_residual-in_err-keep.result c.from_residual-in_err-keep.ensures.1 in rw p.1 tt
+    let p = err_from_is_err_and c.from_residual-in_err-keep.result
+    c.from_residual-in_err-keep.ensures.1 in
+    rw p.1 tt
 
-pub counted_members-returns-then-is_err-clause-items : goal.counted_members-returns-then-is_err-clause-items
+pub counted_members-returns-then-is_err-clause-items :
+    goal.counted_members-returns-then-is_err-clause-items
 counted_members-returns-then-is_err-clause-items g t c = tt
 
-pub counted_members-returns-in_err-member-clause-items : goal.counted_members-returns-in_err-member-clause-items
+pub counted_members-returns-in_err-member-clause-items :
+    goal.counted_members-returns-in_err-member-clause-items
 counted_members-returns-in_err-member-clause-items g t c =
     let p = err_from_is_err_and c.from_residual.result c.from_residual.ensures.1 in rw p.1 tt
 
-pub counted_members-returns-in_err-keep-clause-items : goal.counted_members-returns-in_err-keep-clause-items
+pub counted_members-returns-in_err-keep-clause-items :
+    goal.counted_members-returns-in_err-keep-clause-items
 counted_members-returns-in_err-keep-clause-items g t c =
-    let p = err_from_is_err_and c.from_residual-in_err-keep.result c.from_residual-in_err-keep.ensures.1 in rw p.1 tt
+    let p = err_from_is_err_and c.from_residual-in_err-keep.result
+    c.from_residual-in_err-keep.ensures.1 in
+    rw p.1 tt
 
 pub map_inside-returns-in_err-count-clause-items : goal.map_inside-returns-in_err-count-clause-items
 map_inside-returns-in_err-count-clause-items g t c =
     let p = err_from_is_err_and c.from_residual.result c.from_residual.ensures.1 in rw p.1 tt
 
-pub map_inside-returns-in_err-count-clause-progress : goal.map_inside-returns-in_err-count-clause-progress
+pub map_inside-returns-in_err-count-clause-progress :
+    goal.map_inside-returns-in_err-count-clause-progress
 map_inside-returns-in_err-count-clause-progress g t c =
     let p = err_from_is_err_and c.from_residual.result c.from_residual.ensures.1 in rw p.1 tt
 
-pub open_items-returns-in_err-is_break-clause-items : goal.open_items-returns-in_err-is_break-clause-items
+pub open_items-returns-in_err-is_break-clause-items :
+    goal.open_items-returns-in_err-is_break-clause-items
 open_items-returns-in_err-is_break-clause-items g t c =
     let p = err_from_is_err_and c.from_residual.result c.from_residual.ensures.1 in rw p.1 tt
 
 pub open_items-returns-in_err-value-clause-items : goal.open_items-returns-in_err-value-clause-items
 open_items-returns-in_err-value-clause-items g t c =
-    let p = err_from_is_err_and c.from_residual-in_err-value.result c.from_residual-in_err-value.ensures.1 in rw p.1 tt
+    let p = err_from_is_err_and c.from_residual-in_err-value.result
+    c.from_residual-in_err-value.ensures.1 in
+    rw p.1 tt
 
 pub open_items-returns-in_err-keep-clause-items : goal.open_items-returns-in_err-keep-clause-items
 open_items-returns-in_err-keep-clause-items g t c =
-    let p = err_from_is_err_and c.from_residual-in_err-keep.result c.from_residual-in_err-keep.ensures.1 in rw p.1 tt
+    let p = err_from_is_err_and c.from_residual-in_err-keep.result
+    c.from_residual-in_err-keep.ensures.1 in
+    rw p.1 tt
 
-pub open_members-returns-in_err-is_break-clause-items : goal.open_members-returns-in_err-is_break-clause-items
+pub open_members-returns-in_err-is_break-clause-items :
+    goal.open_members-returns-in_err-is_break-clause-items
 open_members-returns-in_err-is_break-clause-items g t c =
     let p = err_from_is_err_and c.from_residual.result c.from_residual.ensures.1 in rw p.1 tt
 
-pub open_members-returns-in_err-member-clause-items : goal.open_members-returns-in_err-member-clause-items
+pub open_members-returns-in_err-member-clause-items :
+    goal.open_members-returns-in_err-member-clause-items
 open_members-returns-in_err-member-clause-items g t c =
-    let p = err_from_is_err_and c.from_residual-in_err-member.result c.from_residual-in_err-member.ensures.1 in rw p.1 tt
+    let p = err_from_is_err_and c.from_residual-in_err-member.result
+    c.from_residual-in_err-member.ensures.1 in
+    rw p.1 tt
 
-pub open_members-returns-in_err-keep-clause-items : goal.open_members-returns-in_err-keep-clause-items
+pub open_members-returns-in_err-keep-clause-items :
+    goal.open_members-returns-in_err-keep-clause-items
 open_members-returns-in_err-keep-clause-items g t c =
-    let p = err_from_is_err_and c.from_residual-in_err-keep.result c.from_residual-in_err-keep.ensures.1 in rw p.1 tt
+    let p = err_from_is_err_and c.from_residual-in_err-keep.result
+    c.from_residual-in_err-keep.ensures.1 in
+    rw p.1 tt
 
-pub read_array-returns-then-not-step_in-clause-items : goal.read_array-returns-then-not-step_in-clause-items
+pub read_array-returns-then-not-step_in-clause-items :
+    goal.read_array-returns-then-not-step_in-clause-items
 read_array-returns-then-not-step_in-clause-items g t c = tt
 
-pub read_array-returns-then-not-step_in-clause-progress : goal.read_array-returns-then-not-step_in-clause-progress
+pub read_array-returns-then-not-step_in-clause-progress :
+    goal.read_array-returns-then-not-step_in-clause-progress
 read_array-returns-then-not-step_in-clause-progress g t c = tt
 
 pub read_inside-returns-in_err-first-clause-item : goal.read_inside-returns-in_err-first-clause-item
 read_inside-returns-in_err-first-clause-item g t c =
     let p = err_from_is_err_and c.from_residual.result c.from_residual.ensures.1 in rw p.1 tt
 
-pub read_inside-returns-in_err-first-clause-progress : goal.read_inside-returns-in_err-first-clause-progress
+pub read_inside-returns-in_err-first-clause-progress :
+    goal.read_inside-returns-in_err-first-clause-progress
 read_inside-returns-in_err-first-clause-progress g t c =
     let p = err_from_is_err_and c.from_residual.result c.from_residual.ensures.1 in rw p.1 tt
 
-pub read_inside-returns-in_err-read_array-in-4-clause-item : goal.read_inside-returns-in_err-read_array-in-4-clause-item
+pub read_inside-returns-in_err-read_array-in-4-clause-item :
+    goal.read_inside-returns-in_err-read_array-in-4-clause-item
 read_inside-returns-in_err-read_array-in-4-clause-item g t c =
-    let p = err_from_is_err_and c.from_residual-in_err-read_array-in-4.result c.from_residual-in_err-read_array-in-4.ensures.1 in rw p.1 tt
+    let p = err_from_is_err_and c.from_residual-in_err-read_array-in-4.result
+    c.from_residual-in_err-read_array-in-4.ensures.1 in
+    rw p.1 tt
 
-pub read_inside-returns-in_err-read_array-in-4-clause-progress : goal.read_inside-returns-in_err-read_array-in-4-clause-progress
+pub read_inside-returns-in_err-read_array-in-4-clause-progress :
+    goal.read_inside-returns-in_err-read_array-in-4-clause-progress
 read_inside-returns-in_err-read_array-in-4-clause-progress g t c =
-    let p = err_from_is_err_and c.from_residual-in_err-read_array-in-4.result c.from_residual-in_err-read_array-in-4.ensures.1 in rw p.1 tt
+    let p = err_from_is_err_and c.from_residual-in_err-read_array-in-4.result
+    c.from_residual-in_err-read_array-in-4.ensures.1 in
+    rw p.1 tt
 
-pub read_inside-returns-in_err-read_map-in-5-clause-item : goal.read_inside-returns-in_err-read_map-in-5-clause-item
+pub read_inside-returns-in_err-read_map-in-5-clause-item :
+    goal.read_inside-returns-in_err-read_map-in-5-clause-item
 read_inside-returns-in_err-read_map-in-5-clause-item g t c =
-    let p = err_from_is_err_and c.from_residual-in_err-read_map-in-5.result c.from_residual-in_err-read_map-in-5.ensures.1 in rw p.1 tt
+    let p = err_from_is_err_and c.from_residual-in_err-read_map-in-5.result
+    c.from_residual-in_err-read_map-in-5.ensures.1 in
+    rw p.1 tt
 
-pub read_inside-returns-in_err-read_map-in-5-clause-progress : goal.read_inside-returns-in_err-read_map-in-5-clause-progress
+pub read_inside-returns-in_err-read_map-in-5-clause-progress :
+    goal.read_inside-returns-in_err-read_map-in-5-clause-progress
 read_inside-returns-in_err-read_map-in-5-clause-progress g t c =
-    let p = err_from_is_err_and c.from_residual-in_err-read_map-in-5.result c.from_residual-in_err-read_map-in-5.ensures.1 in rw p.1 tt
+    let p = err_from_is_err_and c.from_residual-in_err-read_map-in-5.result
+    c.from_residual-in_err-read_map-in-5.ensures.1 in
+    rw p.1 tt
 
-pub read_inside-returns-in_err-number-in-6-clause-item : goal.read_inside-returns-in_err-number-in-6-clause-item
+pub read_inside-returns-in_err-number-in-6-clause-item :
+    goal.read_inside-returns-in_err-number-in-6-clause-item
 read_inside-returns-in_err-number-in-6-clause-item g t c =
-    let p = err_from_is_err_and c.from_residual-in_err-number-in-6.result c.from_residual-in_err-number-in-6.ensures.1 in rw p.1 tt
+    let p = err_from_is_err_and c.from_residual-in_err-number-in-6.result
+    c.from_residual-in_err-number-in-6.ensures.1 in
+    rw p.1 tt
 
-pub read_inside-returns-in_err-number-in-6-clause-progress : goal.read_inside-returns-in_err-number-in-6-clause-progress
+pub read_inside-returns-in_err-number-in-6-clause-progress :
+    goal.read_inside-returns-in_err-number-in-6-clause-progress
 read_inside-returns-in_err-number-in-6-clause-progress g t c =
-    let p = err_from_is_err_and c.from_residual-in_err-number-in-6.result c.from_residual-in_err-number-in-6.ensures.1 in rw p.1 tt
+    let p = err_from_is_err_and c.from_residual-in_err-number-in-6.result
+    c.from_residual-in_err-number-in-6.ensures.1 in
+    rw p.1 tt
 
-pub read_inside-returns-in_err-inner-in-6-clause-item : goal.read_inside-returns-in_err-inner-in-6-clause-item
+pub read_inside-returns-in_err-inner-in-6-clause-item :
+    goal.read_inside-returns-in_err-inner-in-6-clause-item
 read_inside-returns-in_err-inner-in-6-clause-item g t c =
-    let p = err_from_is_err_and c.from_residual-in_err-inner-in-6.result c.from_residual-in_err-inner-in-6.ensures.1 in rw p.1 tt
+    let p = err_from_is_err_and c.from_residual-in_err-inner-in-6.result
+    c.from_residual-in_err-inner-in-6.ensures.1 in
+    rw p.1 tt
 
-pub read_inside-returns-in_err-inner-in-6-clause-progress : goal.read_inside-returns-in_err-inner-in-6-clause-progress
+pub read_inside-returns-in_err-inner-in-6-clause-progress :
+    goal.read_inside-returns-in_err-inner-in-6-clause-progress
 read_inside-returns-in_err-inner-in-6-clause-progress g t c =
-    let p = err_from_is_err_and c.from_residual-in_err-inner-in-6.result c.from_residual-in_err-inner-in-6.ensures.1 in rw p.1 tt
+    let p = err_from_is_err_and c.from_residual-in_err-inner-in-6.result
+    c.from_residual-in_err-inner-in-6.ensures.1 in
+    rw p.1 tt
 
 pub read_inside-returns-in-6-clause-item : goal.read_inside-returns-in-6-clause-item
 read_inside-returns-in-6-clause-item g t c = tt
@@ -351,10 +643,12 @@ read_inside-returns-in-6-clause-item g t c = tt
 pub read_inside-returns-in-6-clause-progress : goal.read_inside-returns-in-6-clause-progress
 read_inside-returns-in-6-clause-progress g t c = tt
 
-pub read_map-returns-then-not-step_in-clause-items : goal.read_map-returns-then-not-step_in-clause-items
+pub read_map-returns-then-not-step_in-clause-items :
+    goal.read_map-returns-then-not-step_in-clause-items
 read_map-returns-then-not-step_in-clause-items g t c = tt
 
-pub read_map-returns-then-not-step_in-clause-progress : goal.read_map-returns-then-not-step_in-clause-progress
+pub read_map-returns-then-not-step_in-clause-progress :
+    goal.read_map-returns-then-not-step_in-clause-progress
 read_map-returns-then-not-step_in-clause-progress g t c = tt
 
 pub read_member-returns-in_err-key-clause-key : goal.read_member-returns-in_err-key-clause-key
@@ -365,35 +659,52 @@ pub read_member-returns-in_err-key-clause-value : goal.read_member-returns-in_er
 read_member-returns-in_err-key-clause-value g t c =
     let p = err_from_is_err_and c.from_residual.result c.from_residual.ensures.1 in rw p.1 tt
 
-pub read_member-returns-in_err-key-clause-progress : goal.read_member-returns-in_err-key-clause-progress
+pub read_member-returns-in_err-key-clause-progress :
+    goal.read_member-returns-in_err-key-clause-progress
 read_member-returns-in_err-key-clause-progress g t c =
     let p = err_from_is_err_and c.from_residual.result c.from_residual.ensures.1 in rw p.1 tt
 
 pub read_member-returns-in_err-value-clause-key : goal.read_member-returns-in_err-value-clause-key
 read_member-returns-in_err-value-clause-key g t c =
-    let p = err_from_is_err_and c.from_residual-in_err-value.result c.from_residual-in_err-value.ensures.1 in rw p.1 tt
+    let p = err_from_is_err_and c.from_residual-in_err-value.result
+    c.from_residual-in_err-value.ensures.1 in
+    rw p.1 tt
 
-pub read_member-returns-in_err-value-clause-value : goal.read_member-returns-in_err-value-clause-value
+pub read_member-returns-in_err-value-clause-value :
+    goal.read_member-returns-in_err-value-clause-value
 read_member-returns-in_err-value-clause-value g t c =
-    let p = err_from_is_err_and c.from_residual-in_err-value.result c.from_residual-in_err-value.ensures.1 in rw p.1 tt
+    let p = err_from_is_err_and c.from_residual-in_err-value.result
+    c.from_residual-in_err-value.ensures.1 in
+    rw p.1 tt
 
-pub read_member-returns-in_err-value-clause-progress : goal.read_member-returns-in_err-value-clause-progress
+pub read_member-returns-in_err-value-clause-progress :
+    goal.read_member-returns-in_err-value-clause-progress
 read_member-returns-in_err-value-clause-progress g t c =
-    let p = err_from_is_err_and c.from_residual-in_err-value.result c.from_residual-in_err-value.ensures.1 in rw p.1 tt
+    let p = err_from_is_err_and c.from_residual-in_err-value.result
+    c.from_residual-in_err-value.ensures.1 in
+    rw p.1 tt
 
-pub read_value-returns-then-not-step_in-clause-item : goal.read_value-returns-then-not-step_in-clause-item
+pub read_value-returns-then-not-step_in-clause-item :
+    goal.read_value-returns-then-not-step_in-clause-item
 read_value-returns-then-not-step_in-clause-item g t c = tt
 
-pub read_value-returns-then-not-step_in-clause-progress : goal.read_value-returns-then-not-step_in-clause-progress
+pub read_value-returns-then-not-step_in-clause-progress :
+    goal.read_value-returns-then-not-step_in-clause-progress
 read_value-returns-then-not-step_in-clause-progress g t c = tt
 
-pub counted_items-returns-then-is_err-clause-does : goal.counted_items-returns-then-is_err-clause-does
+pub counted_items-returns-then-is_err-clause-does :
+    goal.counted_items-returns-then-is_err-clause-does
 counted_items-returns-then-is_err-clause-does g t c =
-    does_no_memory (λ xs v ys. ReadsItems c.args.count (g.S.Source.view c.args.reader.now).budget xs v.items ys) (StopsItems c.args.count (g.S.Source.view c.args.reader.now).budget) refl (kept_alike _)
+    does_no_memory (λ xs v ys.
+    ReadsItems c.args.count (g.S.Source.view c.args.reader.now).budget xs v.items ys)
+    (StopsItems c.args.count (g.S.Source.view c.args.reader.now).budget) refl (kept_alike _)
 
-pub counted_members-returns-then-is_err-clause-does : goal.counted_members-returns-then-is_err-clause-does
+pub counted_members-returns-then-is_err-clause-does :
+    goal.counted_members-returns-then-is_err-clause-does
 counted_members-returns-then-is_err-clause-does g t c =
-    does_no_memory (λ xs v ys. ReadsMembers c.args.count (g.S.Source.view c.args.reader.now).budget xs v.items ys) (StopsMembers c.args.count (g.S.Source.view c.args.reader.now).budget) refl (kept_alike _)
+    does_no_memory (λ xs v ys.
+    ReadsMembers c.args.count (g.S.Source.view c.args.reader.now).budget xs v.items ys)
+    (StopsMembers c.args.count (g.S.Source.view c.args.reader.now).budget) refl (kept_alike _)
 
 pub counted_items-returns-clause-items : goal.counted_items-returns-clause-items
 counted_items-returns-clause-items g t c = c.loop-i.invariant.items
@@ -411,50 +722,60 @@ pub array_inside-returns-in-Some-clause-items : goal.array_inside-returns-in-Som
 array_inside-returns-in-Some-clause-items g t c = c.counted_items.ensures.items
 
 pub array_inside-returns-in-Some-clause-progress : goal.array_inside-returns-in-Some-clause-progress
-array_inside-returns-in-Some-clause-progress g t c = went_on _ c.in_ok-count.ensures.progress c.counted_items.ensures.does.moves
+array_inside-returns-in-Some-clause-progress g t c =
+    went_on _ c.in_ok-count.ensures.progress c.counted_items.ensures.does.moves
 
 pub array_inside-returns-in-None-clause-items : goal.array_inside-returns-in-None-clause-items
 array_inside-returns-in-None-clause-items g t c = c.open_items.ensures.items
 
 pub array_inside-returns-in-None-clause-progress : goal.array_inside-returns-in-None-clause-progress
-array_inside-returns-in-None-clause-progress g t c = went_on _ c.in_ok-count.ensures.progress c.open_items.ensures.does.moves
+array_inside-returns-in-None-clause-progress g t c =
+    went_on _ c.in_ok-count.ensures.progress c.open_items.ensures.does.moves
 
 pub map_inside-returns-in-Some-clause-items : goal.map_inside-returns-in-Some-clause-items
 map_inside-returns-in-Some-clause-items g t c = c.counted_members.ensures.items
 
 pub map_inside-returns-in-Some-clause-progress : goal.map_inside-returns-in-Some-clause-progress
-map_inside-returns-in-Some-clause-progress g t c = went_on _ c.in_ok-count.ensures.progress c.counted_members.ensures.does.moves
+map_inside-returns-in-Some-clause-progress g t c =
+    went_on _ c.in_ok-count.ensures.progress c.counted_members.ensures.does.moves
 
 pub map_inside-returns-in-None-clause-items : goal.map_inside-returns-in-None-clause-items
 map_inside-returns-in-None-clause-items g t c = c.open_members.ensures.items
 
 pub map_inside-returns-in-None-clause-progress : goal.map_inside-returns-in-None-clause-progress
-map_inside-returns-in-None-clause-progress g t c = went_on _ c.in_ok-count.ensures.progress c.open_members.ensures.does.moves
+map_inside-returns-in-None-clause-progress g t c =
+    went_on _ c.in_ok-count.ensures.progress c.open_members.ensures.does.moves
 
 pub read_array-returns-clause-items : goal.read_array-returns-clause-items
 read_array-returns-clause-items g t c = c.array_inside-outcome.ensures.items
 
 pub read_array-returns-clause-progress : goal.read_array-returns-clause-progress
 read_array-returns-clause-progress g t c =
-    around _ _ _ _ _ c.step_in.ensures.others.bound c.step_out.ensures.others.bound c.array_inside-outcome.ensures.progress
+    around _ _ _ _ _ c.step_in.ensures.others.bound c.step_out.ensures.others.bound
+    c.array_inside-outcome.ensures.progress
 
 pub read_map-returns-clause-items : goal.read_map-returns-clause-items
 read_map-returns-clause-items g t c = c.map_inside-outcome.ensures.items
 
 pub read_map-returns-clause-progress : goal.read_map-returns-clause-progress
 read_map-returns-clause-progress g t c =
-    around _ _ _ _ _ c.step_in.ensures.others.bound c.step_out.ensures.others.bound c.map_inside-outcome.ensures.progress
+    around _ _ _ _ _ c.step_in.ensures.others.bound c.step_out.ensures.others.bound
+    c.map_inside-outcome.ensures.progress
 
 pub read_value-returns-clause-item : goal.read_value-returns-clause-item
 read_value-returns-clause-item g t c = c.read_inside-outcome.ensures.item
 
 pub read_value-returns-clause-progress : goal.read_value-returns-clause-progress
 read_value-returns-clause-progress g t c =
-    around _ _ _ _ _ c.step_in.ensures.others.bound c.step_out.ensures.others.bound c.read_inside-outcome.ensures.progress
+    around _ _ _ _ _ c.step_in.ensures.others.bound c.step_out.ensures.others.bound
+    c.read_inside-outcome.ensures.progress
 
-pub read_value-returns-then-not-step_in-clause-does : goal.read_value-returns-then-not-step_in-clause-does
+pub read_value-returns-then-not-step_in-clause-does :
+    goal.read_value-returns-then-not-step_in-clause-does
 read_value-returns-then-not-step_in-clause-does g t c =
-    does_no_step value_name (ReadsOne (g.S.Source.view c.args.reader.now).budget) (StopsOne (g.S.Source.view c.args.reader.now).budget) refl refl (λ none xs. rw none (refl, refl)) c.if-not-step_in.ensures.budget c.step_in.ensures.others
+    does_no_step value_name (ReadsOneValue (g.S.Source.view c.args.reader.now).budget)
+    (StopsOneValue (g.S.Source.view c.args.reader.now).budget) refl refl
+    (λ none xs. rw none (refl, refl)) c.if-not-step_in.ensures.budget c.step_in.ensures.others
 
 pub read_member-returns-clause-key : goal.read_member-returns-clause-key
 read_member-returns-clause-key g t c = c.in_ok-key.ensures.item
@@ -463,11 +784,13 @@ pub read_member-returns-clause-value : goal.read_member-returns-clause-value
 read_member-returns-clause-value g t c = c.in_ok-value.ensures.item
 
 pub read_member-returns-clause-progress : goal.read_member-returns-clause-progress
-read_member-returns-clause-progress g t c = omega (arith, c.in_ok-key.ensures.progress, c.in_ok-value.ensures.progress)
+read_member-returns-clause-progress g t c =
+    omega (arith, c.in_ok-key.ensures.progress, c.in_ok-value.ensures.progress)
 
 pub read_inside-returns-in-4-clause-progress : goal.read_inside-returns-in-4-clause-progress
 read_inside-returns-in-4-clause-progress g t c =
-    omega (arith, c.in_ok-first.ensures.runs.moves.by.bound, c.in_ok-read_array-in-4.ensures.progress)
+    omega
+    (arith, c.in_ok-first.ensures.runs.moves.by.bound, c.in_ok-read_array-in-4.ensures.progress)
 
 pub read_inside-returns-in-5-clause-progress : goal.read_inside-returns-in-5-clause-progress
 read_inside-returns-in-5-clause-progress g t c =
@@ -475,7 +798,12 @@ read_inside-returns-in-5-clause-progress g t c =
 
 pub read_inside-returns-in-Ok-clause-progress : goal.read_inside-returns-in-Ok-clause-progress
 read_inside-returns-in-Ok-clause-progress g t c =
-    omega (arith, c.in_ok-first.ensures.runs.moves.by.bound, c.in_ok-number-in-6.ensures.progress, c.in_ok-inner-in-6.ensures.progress)
+    omega (
+      arith,
+      c.in_ok-first.ensures.runs.moves.by.bound,
+      c.in_ok-number-in-6.ensures.progress,
+      c.in_ok-inner-in-6.ensures.progress,
+    )
 
 pub read_inside-returns-in-7-clause-item : goal.read_inside-returns-in-7-clause-item
 read_inside-returns-in-7-clause-item g t c = c.read_float.ensures.item
@@ -521,17 +849,28 @@ read_inside-returns-in-Some-clause-progress g t c =
 
 pub counted_items-returns-clause-does : goal.counted_items-returns-clause-does
 counted_items-returns-clause-does g t c =
-    let e : c.loop-i.i ≡ c.args.count = omega (arith, c.loop-i-test.false, c.loop-i.auto.i-end) in does_ok (λ xs v ys. ReadsItems c.args.count (g.S.Source.view c.args.reader.now).budget xs v.items ys) (StopsItems c.args.count (g.S.Source.view c.args.reader.now).budget) (subst (λ n. Reached (λ xs ys. ReadsItems n (g.S.Source.view c.args.reader.now).budget xs c.loop-i.items.items ys) (g.S.Source.view c.args.reader.now) (g.S.Source.view c.loop-i.reader)) e c.loop-i.invariant.reached)
+    let e : c.loop-i.i ≡ c.args.count = omega (arith, c.loop-i-test.false, c.loop-i.auto.i-end) in
+    does_ok (λ xs v ys. ReadsItems c.args.count (g.S.Source.view c.args.reader.now).budget xs
+    v.items ys) (StopsItems c.args.count (g.S.Source.view c.args.reader.now).budget)
+    (subst (λ n. Reached (λ xs ys. ReadsItems n (g.S.Source.view c.args.reader.now).budget xs
+    c.loop-i.items.items ys) (g.S.Source.view c.args.reader.now)
+    (g.S.Source.view c.loop-i.reader)) e c.loop-i.invariant.reached)
 
 pub counted_members-returns-clause-does : goal.counted_members-returns-clause-does
 counted_members-returns-clause-does g t c =
-    let e : c.loop-i.i ≡ c.args.count = omega (arith, c.loop-i-test.false, c.loop-i.auto.i-end) in does_ok (λ xs v ys. ReadsMembers c.args.count (g.S.Source.view c.args.reader.now).budget xs v.items ys) (StopsMembers c.args.count (g.S.Source.view c.args.reader.now).budget) (subst (λ n. Reached (λ xs ys. ReadsMembers n (g.S.Source.view c.args.reader.now).budget xs c.loop-i.members.items ys) (g.S.Source.view c.args.reader.now) (g.S.Source.view c.loop-i.reader)) e c.loop-i.invariant.reached)
+    let e : c.loop-i.i ≡ c.args.count = omega (arith, c.loop-i-test.false, c.loop-i.auto.i-end) in
+    does_ok (λ xs v ys. ReadsMembers c.args.count (g.S.Source.view c.args.reader.now).budget xs
+    v.items ys) (StopsMembers c.args.count (g.S.Source.view c.args.reader.now).budget)
+    (subst (λ n. Reached (λ xs ys. ReadsMembers n (g.S.Source.view c.args.reader.now).budget xs
+    c.loop-i.members.items ys) (g.S.Source.view c.args.reader.now)
+    (g.S.Source.view c.loop-i.reader)) e c.loop-i.invariant.reached)
 
 pub read_inside-returns-in_err-first-clause-does : goal.read_inside-returns-in_err-first-clause-does
 read_inside-returns-in_err-first-clause-does g t c =
     let p = err_from_is_err_and c.from_residual.result c.from_residual.ensures.1 in
     let budget = (g.S.Source.view c.args.reader.now).budget in
-    rw (p.1, p.2) (nothing_there (ReadsUnder budget) (StopsUnder budget) (λ z rest is. is) c.in_err-first.ensures.runs)
+    rw (p.1, p.2) (nothing_there (ReadsUnder budget) (StopsUnder budget)
+    (λ z rest is. is) c.in_err-first.ensures.runs)
 
 pub open_items-loop-items-smaller : goal.open_items-loop-items-smaller
 open_items-loop-items-smaller g t c =

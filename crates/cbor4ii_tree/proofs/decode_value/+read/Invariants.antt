@@ -40,19 +40,39 @@ abbrev pub decreases-read_member : goal.decreases-read_member
 decreases-read_member g l = 6 * (g.S.Source.view l.reader.now).bound + 4
 
 abbrev pub invariant-counted_items-loop-i : goal.invariant-counted_items-loop-i
-invariant-counted_items-loop-i g l = record { reached : Reached (λ xs ys. ReadsItems l.i (g.S.Source.view l.fn.reader).budget xs l.items.items ys) (g.S.Source.view l.fn.reader) (g.S.Source.view l.reader); items : AreItems (items_view l.items.items) }
+invariant-counted_items-loop-i g l = record {
+  reached : Reached (λ xs ys. ReadsItems l.i
+      (g.S.Source.view l.fn.reader).budget xs l.items.items ys) (g.S.Source.view l.fn.reader)
+      (g.S.Source.view l.reader);
+  items : AreItems (items_view l.items.items);
+}
 
 abbrev pub invariant-counted_members-loop-i : goal.invariant-counted_members-loop-i
-invariant-counted_members-loop-i g l = record { reached : Reached (λ xs ys. ReadsMembers l.i (g.S.Source.view l.fn.reader).budget xs l.members.items ys) (g.S.Source.view l.fn.reader) (g.S.Source.view l.reader); items : AreMembers (members_view l.members.items) }
+invariant-counted_members-loop-i g l = record {
+  reached : Reached (λ xs ys. ReadsMembers l.i
+      (g.S.Source.view l.fn.reader).budget xs l.members.items ys) (g.S.Source.view l.fn.reader)
+      (g.S.Source.view l.reader);
+  items : AreMembers (members_view l.members.items);
+}
 
 abbrev pub invariant-open_items-loop-items : goal.invariant-open_items-loop-items
-invariant-open_items-loop-items g l = record { reached : Reached (ReadEach l.items.items (g.S.Source.view l.fn.reader).budget) (g.S.Source.view l.fn.reader) (g.S.Source.view l.reader); items : AreItems (items_view l.items.items) }
+invariant-open_items-loop-items g l =
+    record {
+      reached : Reached (ReadEach l.items.items (g.S.Source.view l.fn.reader).budget)
+          (g.S.Source.view l.fn.reader) (g.S.Source.view l.reader);
+      items : AreItems (items_view l.items.items);
+    }
 
 abbrev pub decreases-open_items-loop-items : goal.decreases-open_items-loop-items
 decreases-open_items-loop-items g l = (g.S.Source.view l.reader).bound
 
 abbrev pub invariant-open_members-loop-members : goal.invariant-open_members-loop-members
-invariant-open_members-loop-members g l = record { reached : Reached (ReadPairs l.members.items (g.S.Source.view l.fn.reader).budget) (g.S.Source.view l.fn.reader) (g.S.Source.view l.reader); items : AreMembers (members_view l.members.items) }
+invariant-open_members-loop-members g l =
+    record {
+      reached : Reached (ReadPairs l.members.items (g.S.Source.view l.fn.reader).budget)
+          (g.S.Source.view l.fn.reader) (g.S.Source.view l.reader);
+      items : AreMembers (members_view l.members.items);
+    }
 
 abbrev pub decreases-open_members-loop-members : goal.decreases-open_members-loop-members
 decreases-open_members-loop-members g l = (g.S.Source.view l.reader).bound

@@ -2,7 +2,8 @@ use Rattle.std.proofs.Common.{◌/◌, ◌≡◌, arith, inl, refl}
 use Rattle.std.proofs.lemmas.Result.{err_from_is_err_and}
 use Rattle.cbor4ii_items.specs.Initial.{unsigned, negative, byte_string, text_string}
 use Rattle.cbor4ii_items.specs.Numbers.{ReadsUnsigned, StopsUnsigned, ReadsNegative, StopsNegative}
-use Rattle.cbor4ii_items.specs.Strings.{ReadsAs, ReadsTextAs, StopsString, StopsText, bytes_content, text_content}
+use Rattle.cbor4ii_items.specs.Strings.{ReadsAs, ReadsTextAs, StopsString, StopsText, bytes_content}
+use Rattle.cbor4ii_items.specs.Strings.{text_content}
 use Rattle.cbor4ii_tree.specs.Refusal.{sign_name, kind_name}
 use Rattle.cbor4ii_tree.specs.declared.value.Value.{Bytes, Text}
 use Rattle.cbor4ii_tree.proofs.values.Calls.{unsigned_reads, int_stops}
@@ -14,35 +15,63 @@ use Rattle.cbor4ii_tree.proofs.decode_value.read_leaf.Goals as goal
 pub returns-in_err-decode-in-0-clause-does : goal.returns-in_err-decode-in-0-clause-does
 returns-in_err-decode-in-0-clause-does g c =
     let p = err_from_is_err_and c.from_residual.result c.from_residual.ensures.1 in
-    rw (p.1, p.2) (leaf_refused c.args.first (StopsUnsigned (sign_name unsigned) 8) (λ bs z rest h. int_stops (g.S.Source.view c.args.reader.now).budget unsigned c.args.first bs z rest c.in-0.is h) c.in_err-decode-in-0.ensures.moves (c.in_err-decode-in-0.ensures.stops (inl refl)))
+    rw (p.1, p.2)
+    (leaf_refused c.args.first (StopsUnsigned (sign_name unsigned) 8) (λ bs z rest h. int_stops
+    (g.S.Source.view c.args.reader.now).budget unsigned c.args.first bs z rest c.in-0.is h)
+    c.in_err-decode-in-0.ensures.moves (c.in_err-decode-in-0.ensures.stops (inl refl)))
 
 pub returns-in_err-number-in-1-clause-does : goal.returns-in_err-number-in-1-clause-does
 returns-in_err-number-in-1-clause-does g c =
-    let p = err_from_is_err_and c.from_residual-in_err-number-in-1.result c.from_residual-in_err-number-in-1.ensures.1 in
-    rw (p.1, p.2) (leaf_refused c.args.first (StopsNegative (sign_name negative) 8) (λ bs z rest h. int_stops (g.S.Source.view c.args.reader.now).budget negative c.args.first bs z rest c.in-1.is h) c.in_err-number-in-1.ensures.moves (c.in_err-number-in-1.ensures.stops (inl refl)))
+    let p = err_from_is_err_and c.from_residual-in_err-number-in-1.result
+    c.from_residual-in_err-number-in-1.ensures.1 in
+    rw (p.1, p.2)
+    (leaf_refused c.args.first (StopsNegative (sign_name negative) 8) (λ bs z rest h. int_stops
+    (g.S.Source.view c.args.reader.now).budget negative c.args.first bs z rest c.in-1.is h)
+    c.in_err-number-in-1.ensures.moves (c.in_err-number-in-1.ensures.stops (inl refl)))
 
 pub returns-in_err-decode-in-2-clause-does : goal.returns-in_err-decode-in-2-clause-does
 returns-in_err-decode-in-2-clause-does g c =
-    let p = err_from_is_err_and c.from_residual-in_err-decode-in-2.result c.from_residual-in_err-decode-in-2.ensures.1 in
-    rw (p.1, p.2) (leaf_refused c.args.first (StopsString (kind_name byte_string) 2) (λ bs z rest h. string_stops (g.S.Source.view c.args.reader.now).budget byte_string c.args.first bs z rest c.in-2.is h) c.in_err-decode-in-2.ensures.moves (c.in_err-decode-in-2.ensures.stops (inl refl)))
+    let p = err_from_is_err_and c.from_residual-in_err-decode-in-2.result
+    c.from_residual-in_err-decode-in-2.ensures.1 in
+    rw (p.1, p.2) (leaf_refused c.args.first (StopsString (kind_name byte_string) 2)
+    (λ bs z rest h. string_stops (g.S.Source.view c.args.reader.now).budget byte_string
+    c.args.first bs z rest c.in-2.is h) c.in_err-decode-in-2.ensures.moves
+    (c.in_err-decode-in-2.ensures.stops (inl refl)))
 
 pub returns-in_err-decode-in_default-clause-does : goal.returns-in_err-decode-in_default-clause-does
 returns-in_err-decode-in_default-clause-does g c =
-    let p = err_from_is_err_and c.from_residual-in_err-decode-in_default.result c.from_residual-in_err-decode-in_default.ensures.1 in
+    let p = err_from_is_err_and c.from_residual-in_err-decode-in_default.result
+    c.from_residual-in_err-decode-in_default.ensures.1 in
     let major : c.args.first / 32 ≡ 3 = omega (arith, c.requires.major, c.in_default) in
-    rw (p.1, p.2) (leaf_refused c.args.first (StopsText (kind_name text_string)) (λ bs z rest h. text_stops (g.S.Source.view c.args.reader.now).budget c.args.first bs z rest major h) c.in_err-decode-in_default.ensures.moves (c.in_err-decode-in_default.ensures.stops (inl refl)))
+    rw (p.1, p.2) (leaf_refused c.args.first (StopsText (kind_name text_string))
+    (λ bs z rest h. text_stops (g.S.Source.view c.args.reader.now).budget c.args.first bs z
+    rest major h) c.in_err-decode-in_default.ensures.moves
+    (c.in_err-decode-in_default.ensures.stops (inl refl)))
 
 pub returns-in_ok-decode-in-0-clause-does : goal.returns-in_ok-decode-in-0-clause-does
-returns-in_ok-decode-in-0-clause-does g c = leaf_read (ReadsUnsigned 8) _ (λ xs n k _ r. unsigned_reads (g.S.Source.view c.args.reader.now).budget c.in_ok-decode-in-0.field-0 n k xs r) c.in_ok-decode-in-0.ensures.moves c.in_ok-decode-in-0.ensures.sound
+returns-in_ok-decode-in-0-clause-does g c =
+    leaf_read (ReadsUnsigned 8) _ (λ xs n k _ r. unsigned_reads
+    (g.S.Source.view c.args.reader.now).budget c.in_ok-decode-in-0.field-0 n k xs r)
+    c.in_ok-decode-in-0.ensures.moves c.in_ok-decode-in-0.ensures.sound
 
 pub returns-in_ok-number-in-1-clause-does : goal.returns-in_ok-number-in-1-clause-does
-returns-in_ok-number-in-1-clause-does g c = leaf_read (ReadsNegative 8) _ (λ xs n k _ r. negative_reads (g.S.Source.view c.args.reader.now).budget c.in_ok-number-in-1.number.0 n k xs r) c.in_ok-number-in-1.ensures.moves c.in_ok-number-in-1.ensures.sound
+returns-in_ok-number-in-1-clause-does g c =
+    leaf_read (ReadsNegative 8) _ (λ xs n k _ r. negative_reads
+    (g.S.Source.view c.args.reader.now).budget c.in_ok-number-in-1.number.0 n k xs r)
+    c.in_ok-number-in-1.ensures.moves c.in_ok-number-in-1.ensures.sound
 
 pub returns-in_ok-decode-in-2-clause-does : goal.returns-in_ok-decode-in-2-clause-does
-returns-in_ok-decode-in-2-clause-does g c = leaf_read (ReadsAs 2 bytes_content) (Bytes c.in_ok-decode-in-2.field-0.0) (λ xs n k fits r. bytes_reads (g.S.Source.view c.args.reader.now).budget c.in_ok-decode-in-2.field-0.0 xs n k fits r) c.in_ok-decode-in-2.ensures.moves c.in_ok-decode-in-2.ensures.sound
+returns-in_ok-decode-in-2-clause-does g c =
+    leaf_read (ReadsAs 2 bytes_content) (Bytes c.in_ok-decode-in-2.field-0.0) (λ xs n k fits r.
+    bytes_reads (g.S.Source.view c.args.reader.now).budget c.in_ok-decode-in-2.field-0.0 xs
+    n k fits r) c.in_ok-decode-in-2.ensures.moves c.in_ok-decode-in-2.ensures.sound
 
 pub returns-in_ok-decode-in_default-clause-does : goal.returns-in_ok-decode-in_default-clause-does
-returns-in_ok-decode-in_default-clause-does g c = leaf_read (ReadsTextAs text_content) (Text c.in_ok-decode-in_default.field-0) (λ xs n k fits r. text_reads (g.S.Source.view c.args.reader.now).budget c.in_ok-decode-in_default.field-0 xs n k fits r.0 r.1) c.in_ok-decode-in_default.ensures.moves c.in_ok-decode-in_default.ensures.sound
+returns-in_ok-decode-in_default-clause-does g c =
+    leaf_read (ReadsTextAs text_content) (Text c.in_ok-decode-in_default.field-0)
+    (λ xs n k fits r. text_reads (g.S.Source.view c.args.reader.now).budget
+    c.in_ok-decode-in_default.field-0 xs n k fits r.0 r.1)
+    c.in_ok-decode-in_default.ensures.moves c.in_ok-decode-in_default.ensures.sound
 
 pub returns-in_ok-decode-in_default-clause-item : goal.returns-in_ok-decode-in_default-clause-item
 returns-in_ok-decode-in_default-clause-item g c = text_item c.in_ok-decode-in_default.field-0
@@ -57,27 +86,40 @@ returns-in_err-decode-in-0-clause-progress g c =
 
 pub returns-in_err-number-in-1-clause-item : goal.returns-in_err-number-in-1-clause-item
 returns-in_err-number-in-1-clause-item g c =
-    let p = err_from_is_err_and c.from_residual-in_err-number-in-1.result c.from_residual-in_err-number-in-1.ensures.1 in rw p.1 tt
+    let p = err_from_is_err_and c.from_residual-in_err-number-in-1.result
+    c.from_residual-in_err-number-in-1.ensures.1 in
+    rw p.1 tt
 
 pub returns-in_err-number-in-1-clause-progress : goal.returns-in_err-number-in-1-clause-progress
 returns-in_err-number-in-1-clause-progress g c =
-    let p = err_from_is_err_and c.from_residual-in_err-number-in-1.result c.from_residual-in_err-number-in-1.ensures.1 in rw p.1 tt
+    let p = err_from_is_err_and c.from_residual-in_err-number-in-1.result
+    c.from_residual-in_err-number-in-1.ensures.1 in
+    rw p.1 tt
 
 pub returns-in_err-decode-in-2-clause-item : goal.returns-in_err-decode-in-2-clause-item
 returns-in_err-decode-in-2-clause-item g c =
-    let p = err_from_is_err_and c.from_residual-in_err-decode-in-2.result c.from_residual-in_err-decode-in-2.ensures.1 in rw p.1 tt
+    let p = err_from_is_err_and c.from_residual-in_err-decode-in-2.result
+    c.from_residual-in_err-decode-in-2.ensures.1 in
+    rw p.1 tt
 
 pub returns-in_err-decode-in-2-clause-progress : goal.returns-in_err-decode-in-2-clause-progress
 returns-in_err-decode-in-2-clause-progress g c =
-    let p = err_from_is_err_and c.from_residual-in_err-decode-in-2.result c.from_residual-in_err-decode-in-2.ensures.1 in rw p.1 tt
+    let p = err_from_is_err_and c.from_residual-in_err-decode-in-2.result
+    c.from_residual-in_err-decode-in-2.ensures.1 in
+    rw p.1 tt
 
 pub returns-in_err-decode-in_default-clause-item : goal.returns-in_err-decode-in_default-clause-item
 returns-in_err-decode-in_default-clause-item g c =
-    let p = err_from_is_err_and c.from_residual-in_err-decode-in_default.result c.from_residual-in_err-decode-in_default.ensures.1 in rw p.1 tt
+    let p = err_from_is_err_and c.from_residual-in_err-decode-in_default.result
+    c.from_residual-in_err-decode-in_default.ensures.1 in
+    rw p.1 tt
 
-pub returns-in_err-decode-in_default-clause-progress : goal.returns-in_err-decode-in_default-clause-progress
+pub returns-in_err-decode-in_default-clause-progress :
+    goal.returns-in_err-decode-in_default-clause-progress
 returns-in_err-decode-in_default-clause-progress g c =
-    let p = err_from_is_err_and c.from_residual-in_err-decode-in_default.result c.from_residual-in_err-decode-in_default.ensures.1 in rw p.1 tt
+    let p = err_from_is_err_and c.from_residual-in_err-decode-in_default.result
+    c.from_residual-in_err-decode-in_default.ensures.1 in
+    rw p.1 tt
 
 pub returns-in_ok-decode-in-0-clause-progress : goal.returns-in_ok-decode-in-0-clause-progress
 returns-in_ok-decode-in-0-clause-progress g c = c.in_ok-decode-in-0.ensures.progress refl
@@ -88,5 +130,7 @@ returns-in_ok-number-in-1-clause-progress g c = c.in_ok-number-in-1.ensures.prog
 pub returns-in_ok-decode-in-2-clause-progress : goal.returns-in_ok-decode-in-2-clause-progress
 returns-in_ok-decode-in-2-clause-progress g c = c.in_ok-decode-in-2.ensures.progress refl
 
-pub returns-in_ok-decode-in_default-clause-progress : goal.returns-in_ok-decode-in_default-clause-progress
-returns-in_ok-decode-in_default-clause-progress g c = c.in_ok-decode-in_default.ensures.progress refl
+pub returns-in_ok-decode-in_default-clause-progress :
+    goal.returns-in_ok-decode-in_default-clause-progress
+returns-in_ok-decode-in_default-clause-progress g c =
+    c.in_ok-decode-in_default.ensures.progress refl

@@ -10,5 +10,7 @@ use Rattle.cbor4ii_tree.proofs.encode_value.put_integer.Goals as goal
 
 pub returns-clause-writes : goal.returns-clause-writes
 returns-clause-writes g c =
-    let back : to_z w128 (of_z w128 c.args.number) ≡ c.args.number = to_z-of_z w128 c.args.number c.ranges.number in
-    writes_as c.encode.result (signed-canon (to_z w128 (of_z w128 c.args.number)) ∙ ap (λ z. canon (integer z)) back) c.encode.ensures
+    let back : to_z w128 (of_z w128 c.args.number) ≡ c.args.number =
+    to_z-of_z w128 c.args.number c.ranges.number in
+    writes_as c.encode.result (signed-canon (to_z w128 (of_z w128 c.args.number))
+    ∙ ap (λ z. canon (integer z)) back) c.encode.ensures

@@ -1,4 +1,5 @@
-use Rattle.cbor4ii_tree.proofs.spellings.Strict.{strict_iff_canon, reads_strictly_iff, equal_iff_bytes}
+use Rattle.cbor4ii_tree.proofs.spellings.Strict.{strict_iff_canon, reads_strictly_iff}
+use Rattle.cbor4ii_tree.proofs.spellings.Strict.{equal_iff_bytes}
 use Rattle.cbor4ii_tree.proofs.laws.canonical_trees_are_canonical_spellings.Goals as goal
 
 pub returns-clause-tree : goal.returns-clause-tree

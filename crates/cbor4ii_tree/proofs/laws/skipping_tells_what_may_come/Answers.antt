@@ -7,7 +7,8 @@ pub returns-clause-front : goal.returns-clause-front
 returns-clause-front c = lemmas.front_stops
 
 pub returns-clause-nothing_left : goal.returns-clause-nothing_left
-returns-clause-nothing_left c = λ input budget name expect rest. skipping_leaves_nothing input budget (eof name expect) rest tt
+returns-clause-nothing_left c =
+    λ input budget name expect rest. skipping_leaves_nothing input budget (eof name expect) rest tt
 
 pub returns-clause-only_fronts : goal.returns-clause-only_fronts
 returns-clause-only_fronts c = lemmas.eof_on_front

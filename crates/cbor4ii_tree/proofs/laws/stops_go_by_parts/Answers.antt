@@ -1,4 +1,5 @@
-use Rattle.cbor4ii_tree.proofs.answers.Nesting.{skipping_by_parts, reading_by_parts, strict_by_parts}
+use Rattle.cbor4ii_tree.proofs.answers.Nesting.{skipping_by_parts, reading_by_parts}
+use Rattle.cbor4ii_tree.proofs.answers.Nesting.{strict_by_parts}
 use Rattle.cbor4ii_tree.proofs.laws.stops_go_by_parts.Goals as goal
 
 pub returns-clause-skipping : goal.returns-clause-skipping

@@ -1,11 +1,14 @@
-use Rattle.cbor4ii_tree.proofs.raw_items.Captured.{raw_moves, raw_progress, raw_memory, raw_sound, raw_refuses, raw_stops, raw_begins, raw_whole, raw_exact, raw_unmoved, raw_refused}
+use Rattle.cbor4ii_tree.proofs.raw_items.Captured.{raw_moves, raw_progress, raw_memory, raw_sound}
+use Rattle.cbor4ii_tree.proofs.raw_items.Captured.{raw_refuses, raw_stops, raw_begins, raw_whole}
+use Rattle.cbor4ii_tree.proofs.raw_items.Captured.{raw_exact, raw_unmoved, raw_refused}
 use Rattle.cbor4ii_tree.proofs.lend_raw.take_raw.Goals as goal
 
 pub returns-clause-moves : goal.returns-clause-moves
 returns-clause-moves g c = raw_moves g.T.LendRaw.content _ _ c.capture.result c.capture.ensures
 
 pub returns-clause-progress : goal.returns-clause-progress
-returns-clause-progress g c = raw_progress g.T.LendRaw.content _ _ c.capture.result c.capture.ensures
+returns-clause-progress g c =
+    raw_progress g.T.LendRaw.content _ _ c.capture.result c.capture.ensures
 
 pub returns-clause-memory : goal.returns-clause-memory
 returns-clause-memory g c = raw_memory g.T.LendRaw.content _ _ c.capture.result c.capture.ensures

@@ -6,7 +6,8 @@ use Rattle.cbor4ii_items.specs.declared.types.F16.{F16 as Half}
 use Rattle.cbor4ii_items.specs.declared.types.F32.{F32 as Single}
 use Rattle.cbor4ii_items.specs.declared.types.F64.{F64 as Double}
 use Rattle.cbor4ii_tree.proofs.canonical.Calls as strict
-use Rattle.cbor4ii_tree.proofs.values.Heads.{float_read, float_refused, no_value, view-F16, view-F32, view-F64}
+use Rattle.cbor4ii_tree.proofs.values.Heads.{float_read, float_refused, no_value, view-F16}
+use Rattle.cbor4ii_tree.proofs.values.Heads.{view-F32, view-F64}
 use Rattle.cbor4ii_tree.specs.declared.value.FloatBits.TheVariants.{F16, F32, F64}
 use Rattle.cbor4ii_tree.proofs.simple.read_float.Goals as goal
 
@@ -14,63 +15,92 @@ use Rattle.cbor4ii_tree.proofs.simple.read_float.Goals as goal
 
 pub returns-in_ok-decode-in-249-clause-does : goal.returns-in_ok-decode-in-249-clause-does
 returns-in_ok-decode-in-249-clause-does g c =
-    float_read half (λ v. v.0) (F16 c.in_ok-decode-in-249.field-0.0) (view-F16 c.in_ok-decode-in-249.field-0.0) c.in_ok-decode-in-249.ensures.moves c.in_ok-decode-in-249.ensures.sound
+    float_read half (λ v. v.0) (F16 c.in_ok-decode-in-249.field-0.0)
+    (view-F16 c.in_ok-decode-in-249.field-0.0) c.in_ok-decode-in-249.ensures.moves
+    c.in_ok-decode-in-249.ensures.sound
 
 pub returns-in_ok-decode-in-250-clause-does : goal.returns-in_ok-decode-in-250-clause-does
 returns-in_ok-decode-in-250-clause-does g c =
-    float_read single (λ v. v.0) (F32 c.in_ok-decode-in-250.field-0.0) (view-F32 c.in_ok-decode-in-250.field-0.0) c.in_ok-decode-in-250.ensures.moves c.in_ok-decode-in-250.ensures.sound
+    float_read single (λ v. v.0) (F32 c.in_ok-decode-in-250.field-0.0)
+    (view-F32 c.in_ok-decode-in-250.field-0.0) c.in_ok-decode-in-250.ensures.moves
+    c.in_ok-decode-in-250.ensures.sound
 
 pub returns-in_ok-decode-in-251-clause-does : goal.returns-in_ok-decode-in-251-clause-does
 returns-in_ok-decode-in-251-clause-does g c =
-    float_read double (λ v. v.0) (F64 c.in_ok-decode-in-251.field-0.0) (view-F64 c.in_ok-decode-in-251.field-0.0) c.in_ok-decode-in-251.ensures.moves c.in_ok-decode-in-251.ensures.sound
+    float_read double (λ v. v.0) (F64 c.in_ok-decode-in-251.field-0.0)
+    (view-F64 c.in_ok-decode-in-251.field-0.0) c.in_ok-decode-in-251.ensures.moves
+    c.in_ok-decode-in-251.ensures.sound
 
 pub returns-in_err-decode-in-249-clause-does : goal.returns-in_err-decode-in-249-clause-does
 returns-in_err-decode-in-249-clause-does g c =
     let p = err_from_is_err_and c.from_residual.result c.from_residual.ensures.1 in
-    rw (p.1, p.2) (float_refused half c.args.first c.in-249.is c.in_err-decode-in-249.ensures.moves (c.in_err-decode-in-249.ensures.stops (inl refl)))
+    rw (p.1, p.2) (float_refused half c.args.first c.in-249.is c.in_err-decode-in-249.ensures.moves
+    (c.in_err-decode-in-249.ensures.stops (inl refl)))
 
 pub returns-in_err-decode-in-250-clause-does : goal.returns-in_err-decode-in-250-clause-does
 returns-in_err-decode-in-250-clause-does g c =
-    let p = err_from_is_err_and c.from_residual-in_err-decode-in-250.result c.from_residual-in_err-decode-in-250.ensures.1 in
-    rw (p.1, p.2) (float_refused single c.args.first c.in-250.is c.in_err-decode-in-250.ensures.moves (c.in_err-decode-in-250.ensures.stops (inl refl)))
+    let p = err_from_is_err_and c.from_residual-in_err-decode-in-250.result
+    c.from_residual-in_err-decode-in-250.ensures.1 in
+    rw (p.1, p.2) (float_refused single c.args.first c.in-250.is
+    c.in_err-decode-in-250.ensures.moves (c.in_err-decode-in-250.ensures.stops (inl refl)))
 
 pub returns-in_err-decode-in-251-clause-does : goal.returns-in_err-decode-in-251-clause-does
 returns-in_err-decode-in-251-clause-does g c =
-    let p = err_from_is_err_and c.from_residual-in_err-decode-in-251.result c.from_residual-in_err-decode-in-251.ensures.1 in
-    rw (p.1, p.2) (float_refused double c.args.first c.in-251.is c.in_err-decode-in-251.ensures.moves (c.in_err-decode-in-251.ensures.stops (inl refl)))
+    let p = err_from_is_err_and c.from_residual-in_err-decode-in-251.result
+    c.from_residual-in_err-decode-in-251.ensures.1 in
+    rw (p.1, p.2) (float_refused double c.args.first c.in-251.is
+    c.in_err-decode-in-251.ensures.moves (c.in_err-decode-in-251.ensures.stops (inl refl)))
 
 pub returns-in_default-clause-does : goal.returns-in_default-clause-does
 returns-in_default-clause-does g c =
-    no_value c.args.first c.requires.major (Fits-lt-pow {w = w8} c.ranges.first) c.requires.other (λ h. omega (arith, h)) (λ h. omega (arith, h)) (λ h. omega (arith, h)) refl refl refl
+    no_value c.args.first c.requires.major (Fits-lt-pow {w = w8} c.ranges.first) c.requires.other
+    (λ h. omega (arith, h)) (λ h. omega (arith, h)) (λ h. omega (arith, h)) refl refl refl
 
 -- where they are canonical
 
 pub returns-in_ok-decode-in-249-clause-exactly : goal.returns-in_ok-decode-in-249-clause-exactly
-returns-in_ok-decode-in-249-clause-exactly g c = strict.float_exact half (λ (v : Half). v.0) (F16 c.in_ok-decode-in-249.field-0.0) (view-F16 c.in_ok-decode-in-249.field-0.0) c.in_ok-decode-in-249.ensures.moves c.in_ok-decode-in-249.ensures.sound
+returns-in_ok-decode-in-249-clause-exactly g c =
+    strict.float_exact half (λ (v : Half). v.0) (F16 c.in_ok-decode-in-249.field-0.0)
+    (view-F16 c.in_ok-decode-in-249.field-0.0) c.in_ok-decode-in-249.ensures.moves
+    c.in_ok-decode-in-249.ensures.sound
 
 pub returns-in_err-decode-in-249-clause-exactly : goal.returns-in_err-decode-in-249-clause-exactly
 returns-in_err-decode-in-249-clause-exactly g c =
     let p = err_from_is_err_and c.from_residual.result c.from_residual.ensures.1 in
-    rw (p.1, p.2) (strict.float_stops half c.args.first c.in-249.is c.in_err-decode-in-249.ensures.moves (c.in_err-decode-in-249.ensures.stops (inl refl)))
+    rw (p.1, p.2) (strict.float_stops half c.args.first c.in-249.is
+    c.in_err-decode-in-249.ensures.moves (c.in_err-decode-in-249.ensures.stops (inl refl)))
 
 pub returns-in_ok-decode-in-250-clause-exactly : goal.returns-in_ok-decode-in-250-clause-exactly
-returns-in_ok-decode-in-250-clause-exactly g c = strict.float_exact single (λ (v : Single). v.0) (F32 c.in_ok-decode-in-250.field-0.0) (view-F32 c.in_ok-decode-in-250.field-0.0) c.in_ok-decode-in-250.ensures.moves c.in_ok-decode-in-250.ensures.sound
+returns-in_ok-decode-in-250-clause-exactly g c =
+    strict.float_exact single (λ (v : Single). v.0) (F32 c.in_ok-decode-in-250.field-0.0)
+    (view-F32 c.in_ok-decode-in-250.field-0.0) c.in_ok-decode-in-250.ensures.moves
+    c.in_ok-decode-in-250.ensures.sound
 
 pub returns-in_err-decode-in-250-clause-exactly : goal.returns-in_err-decode-in-250-clause-exactly
 returns-in_err-decode-in-250-clause-exactly g c =
-    let p = err_from_is_err_and c.from_residual-in_err-decode-in-250.result c.from_residual-in_err-decode-in-250.ensures.1 in
-    rw (p.1, p.2) (strict.float_stops single c.args.first c.in-250.is c.in_err-decode-in-250.ensures.moves (c.in_err-decode-in-250.ensures.stops (inl refl)))
+    let p = err_from_is_err_and c.from_residual-in_err-decode-in-250.result
+    c.from_residual-in_err-decode-in-250.ensures.1 in
+    rw (p.1, p.2) (strict.float_stops single c.args.first c.in-250.is
+    c.in_err-decode-in-250.ensures.moves (c.in_err-decode-in-250.ensures.stops (inl refl)))
 
 pub returns-in_ok-decode-in-251-clause-exactly : goal.returns-in_ok-decode-in-251-clause-exactly
-returns-in_ok-decode-in-251-clause-exactly g c = strict.float_exact double (λ (v : Double). v.0) (F64 c.in_ok-decode-in-251.field-0.0) (view-F64 c.in_ok-decode-in-251.field-0.0) c.in_ok-decode-in-251.ensures.moves c.in_ok-decode-in-251.ensures.sound
+returns-in_ok-decode-in-251-clause-exactly g c =
+    strict.float_exact double (λ (v : Double). v.0) (F64 c.in_ok-decode-in-251.field-0.0)
+    (view-F64 c.in_ok-decode-in-251.field-0.0) c.in_ok-decode-in-251.ensures.moves
+    c.in_ok-decode-in-251.ensures.sound
 
 pub returns-in_err-decode-in-251-clause-exactly : goal.returns-in_err-decode-in-251-clause-exactly
 returns-in_err-decode-in-251-clause-exactly g c =
-    let p = err_from_is_err_and c.from_residual-in_err-decode-in-251.result c.from_residual-in_err-decode-in-251.ensures.1 in
-    rw (p.1, p.2) (strict.float_stops double c.args.first c.in-251.is c.in_err-decode-in-251.ensures.moves (c.in_err-decode-in-251.ensures.stops (inl refl)))
+    let p = err_from_is_err_and c.from_residual-in_err-decode-in-251.result
+    c.from_residual-in_err-decode-in-251.ensures.1 in
+    rw (p.1, p.2) (strict.float_stops double c.args.first c.in-251.is
+    c.in_err-decode-in-251.ensures.moves (c.in_err-decode-in-251.ensures.stops (inl refl)))
 
 pub returns-in_default-clause-exactly : goal.returns-in_default-clause-exactly
-returns-in_default-clause-exactly g c = strict.no_value c.args.first c.requires.major (Fits-lt-pow {w = w8} c.ranges.first) c.requires.other (λ h. omega (arith, h)) (λ h. omega (arith, h)) (λ h. omega (arith, h)) refl refl refl
+returns-in_default-clause-exactly g c =
+    strict.no_value c.args.first c.requires.major (Fits-lt-pow {w = w8} c.ranges.first)
+    c.requires.other (λ h. omega (arith, h)) (λ h. omega (arith, h))
+    (λ h. omega (arith, h)) refl refl refl
 
 pub returns-in_err-decode-in-249-clause-item : goal.returns-in_err-decode-in-249-clause-item
 returns-in_err-decode-in-249-clause-item g c =
@@ -82,19 +112,27 @@ returns-in_err-decode-in-249-clause-progress g c =
 
 pub returns-in_err-decode-in-250-clause-item : goal.returns-in_err-decode-in-250-clause-item
 returns-in_err-decode-in-250-clause-item g c =
-    let p = err_from_is_err_and c.from_residual-in_err-decode-in-250.result c.from_residual-in_err-decode-in-250.ensures.1 in rw p.1 tt
+    let p = err_from_is_err_and c.from_residual-in_err-decode-in-250.result
+    c.from_residual-in_err-decode-in-250.ensures.1 in
+    rw p.1 tt
 
 pub returns-in_err-decode-in-250-clause-progress : goal.returns-in_err-decode-in-250-clause-progress
 returns-in_err-decode-in-250-clause-progress g c =
-    let p = err_from_is_err_and c.from_residual-in_err-decode-in-250.result c.from_residual-in_err-decode-in-250.ensures.1 in rw p.1 tt
+    let p = err_from_is_err_and c.from_residual-in_err-decode-in-250.result
+    c.from_residual-in_err-decode-in-250.ensures.1 in
+    rw p.1 tt
 
 pub returns-in_err-decode-in-251-clause-item : goal.returns-in_err-decode-in-251-clause-item
 returns-in_err-decode-in-251-clause-item g c =
-    let p = err_from_is_err_and c.from_residual-in_err-decode-in-251.result c.from_residual-in_err-decode-in-251.ensures.1 in rw p.1 tt
+    let p = err_from_is_err_and c.from_residual-in_err-decode-in-251.result
+    c.from_residual-in_err-decode-in-251.ensures.1 in
+    rw p.1 tt
 
 pub returns-in_err-decode-in-251-clause-progress : goal.returns-in_err-decode-in-251-clause-progress
 returns-in_err-decode-in-251-clause-progress g c =
-    let p = err_from_is_err_and c.from_residual-in_err-decode-in-251.result c.from_residual-in_err-decode-in-251.ensures.1 in rw p.1 tt
+    let p = err_from_is_err_and c.from_residual-in_err-decode-in-251.result
+    c.from_residual-in_err-decode-in-251.ensures.1 in
+    rw p.1 tt
 
 pub returns-in_ok-decode-in-249-clause-progress : goal.returns-in_ok-decode-in-249-clause-progress
 returns-in_ok-decode-in-249-clause-progress g c = c.in_ok-decode-in-249.ensures.progress refl

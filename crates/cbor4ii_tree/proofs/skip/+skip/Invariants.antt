@@ -37,9 +37,14 @@ decreases-skip_inside g l = 9 * (g.F.Front.view l.front.now l.reader.now).bound
 
 abbrev pub invariant-skip_inward-loop-left : goal.invariant-skip_inward-loop-left
 invariant-skip_inward-loop-left g l = record {
-  reached : Reached (λ xs ys. GoesOn l.count (g.F.Front.view l.fn.front l.fn.reader).budget (g.F.Front.view l.front l.reader).budget xs l.left ys) (g.F.Front.view l.fn.front l.fn.reader) (budgeted (g.F.Front.view l.fn.front l.fn.reader).budget (g.F.Front.view l.front l.reader));
-  deeper : Deeper l.depth (g.F.Front.view l.fn.front l.fn.reader).budget (g.F.Front.view l.front l.reader).budget;
-  stays : IsTrue g.F.Front.apart → KeepsAllButBudget (g.S.Source.view l.fn.reader) (g.S.Source.view l.reader);
+  reached : Reached (λ xs ys. GoesOn l.count (g.F.Front.view l.fn.front l.fn.reader).budget
+      (g.F.Front.view l.front l.reader).budget xs l.left ys)
+      (g.F.Front.view l.fn.front l.fn.reader)
+      (budgeted (g.F.Front.view l.fn.front l.fn.reader).budget (g.F.Front.view l.front l.reader));
+  deeper : Deeper l.depth (g.F.Front.view l.fn.front l.fn.reader).budget
+      (g.F.Front.view l.front l.reader).budget;
+  stays : IsTrue g.F.Front.apart
+      → KeepsAllButBudget (g.S.Source.view l.fn.reader) (g.S.Source.view l.reader);
 }
 
 abbrev pub decreases-skip_inward-loop-left : goal.decreases-skip_inward-loop-left
@@ -47,8 +52,10 @@ decreases-skip_inward-loop-left g l = (g.F.Front.view l.front l.reader).bound
 
 abbrev pub invariant-skip_members-loop-left : goal.invariant-skip_members-loop-left
 invariant-skip_members-loop-left g l = record {
-  reached : Reached (Left (2 * l.count) (2 * l.left) (g.F.Front.view l.fn.front l.fn.reader).budget) (g.F.Front.view l.fn.front l.fn.reader) (g.F.Front.view l.front l.reader);
-  stays : IsTrue g.F.Front.apart → KeepsAllButBudget (g.S.Source.view l.fn.reader) (g.S.Source.view l.reader);
+  reached : Reached (Left (2 * l.count) (2 * l.left) (g.F.Front.view l.fn.front l.fn.reader).budget)
+      (g.F.Front.view l.fn.front l.fn.reader) (g.F.Front.view l.front l.reader);
+  stays : IsTrue g.F.Front.apart
+      → KeepsAllButBudget (g.S.Source.view l.fn.reader) (g.S.Source.view l.reader);
 }
 
 abbrev pub decreases-skip_members-loop-left : goal.decreases-skip_members-loop-left
@@ -56,8 +63,10 @@ decreases-skip_members-loop-left g l = l.left
 
 abbrev pub invariant-skip_open-loop : goal.invariant-skip_open-loop
 invariant-skip_open-loop g l = record {
-  reached : Reached (SkippedEach (g.F.Front.view l.fn.front l.fn.reader).budget) (g.F.Front.view l.fn.front l.fn.reader) (g.F.Front.view l.front l.reader);
-  stays : IsTrue g.F.Front.apart → KeepsAllButBudget (g.S.Source.view l.fn.reader) (g.S.Source.view l.reader);
+  reached : Reached (SkippedEach (g.F.Front.view l.fn.front l.fn.reader).budget)
+      (g.F.Front.view l.fn.front l.fn.reader) (g.F.Front.view l.front l.reader);
+  stays : IsTrue g.F.Front.apart
+      → KeepsAllButBudget (g.S.Source.view l.fn.reader) (g.S.Source.view l.reader);
 }
 
 abbrev pub decreases-skip_open-loop : goal.decreases-skip_open-loop
@@ -65,8 +74,10 @@ decreases-skip_open-loop g l = (g.F.Front.view l.front l.reader).bound
 
 abbrev pub invariant-skip_open_members-loop-some : goal.invariant-skip_open_members-loop-some
 invariant-skip_open_members-loop-some g l = record {
-  reached : Reached (SkippedPairs (g.F.Front.view l.fn.front l.fn.reader).budget) (g.F.Front.view l.fn.front l.fn.reader) (g.F.Front.view l.front l.reader);
-  stays : IsTrue g.F.Front.apart → KeepsAllButBudget (g.S.Source.view l.fn.reader) (g.S.Source.view l.reader);
+  reached : Reached (SkippedPairs (g.F.Front.view l.fn.front l.fn.reader).budget)
+      (g.F.Front.view l.fn.front l.fn.reader) (g.F.Front.view l.front l.reader);
+  stays : IsTrue g.F.Front.apart
+      → KeepsAllButBudget (g.S.Source.view l.fn.reader) (g.S.Source.view l.reader);
 }
 
 abbrev pub decreases-skip_open_members-loop-some : goal.decreases-skip_open_members-loop-some

@@ -8,6 +8,7 @@ loop-left-init g c = record { deeper = λ outer kept. kept; others = keeps_alike
 
 pub loop-left-preserved : goal.loop-left-preserved
 loop-left-preserved g c = record {
-  deeper = λ outer kept. one_back _ _ outer _ _ (omega (arith, c.loop-left-test.true)) refl c.step_out.ensures.budget (c.loop-left.invariant.deeper outer kept);
+  deeper = λ outer kept. one_back _ _ outer _ _ (omega (arith, c.loop-left-test.true)) refl
+      c.step_out.ensures.budget (c.loop-left.invariant.deeper outer kept);
   others = keeps_then c.loop-left.invariant.others c.step_out.ensures.others;
 }

@@ -5,7 +5,8 @@ use Rattle.cbor4ii_tree.proofs.skip.give_back.Given as goal
 
 abbrev pub invariant-loop-left : goal.invariant-loop-left
 invariant-loop-left g l = record {
-  deeper : (outer : Budget) → Deeper l.depth outer (g.S.Source.view l.fn.reader).budget → Deeper l.left outer (g.S.Source.view l.reader).budget;
+  deeper : (outer : Budget) → Deeper l.depth outer (g.S.Source.view l.fn.reader).budget
+      → Deeper l.left outer (g.S.Source.view l.reader).budget;
   others : KeepsAllButBudget (g.S.Source.view l.fn.reader) (g.S.Source.view l.reader);
 }
 

@@ -1,5 +1,8 @@
-use Rattle.std.proofs.Common.{◌≡◌, ℕ, zero, suc, ◌+◌, ◌-◌, ◌<◌, ◌≤◌, ◌/◌, ◌%◌, refl, sym, ap, ◌∙◌, subst, arith}
-use Rattle.cbor4ii_items.specs.Initial.{Info, wide, open_ended, reserved, info_of, int_by_info, string_by_info, Sign, unsigned, negative, Kind, byte_string, text_string, simple_by_info, by_major, initial}
+use Rattle.std.proofs.Common.{◌≡◌, ℕ, zero, suc, ◌+◌, ◌-◌, ◌<◌, ◌≤◌, ◌/◌, ◌%◌, refl, sym, ap, ◌∙◌}
+use Rattle.std.proofs.Common.{subst, arith}
+use Rattle.cbor4ii_items.specs.Initial.{Info, wide, open_ended, reserved, info_of, int_by_info}
+use Rattle.cbor4ii_items.specs.Initial.{string_by_info, Sign, unsigned, negative, Kind, byte_string}
+use Rattle.cbor4ii_items.specs.Initial.{text_string, simple_by_info, by_major, initial}
 use Rattle.cbor4ii_tree.specs.Skipping.{additional_of, start_of}
 use Rattle.cbor4ii_tree.specs.declared.skip.Start.TheVariants.{Bytes, Content}
 use Rattle.cbor4ii_tree.specs.declared.skip.Additional.TheVariants.{Wide}
@@ -9,22 +12,26 @@ by_parts : (b : ℕ) → initial b ≡ by_major (b / 32) (b % 32)
 unfolding initial
 by_parts b = refl
 
-int_starts : (s : Sign) (i : Info) (count : ℕ) → Wide count ≡ additional_of i → Bytes count ≡ start_of (int_by_info s i)
+int_starts : (s : Sign) (i : Info) (count : ℕ) → Wide count ≡ additional_of i
+    → Bytes count ≡ start_of (int_by_info s i)
 int_starts s (wide w) count e = cc
 int_starts s open_ended count e = cc
 int_starts s reserved count e = cc
 
-string_starts : (k : Kind) (i : Info) (count : ℕ) → Wide count ≡ additional_of i → Content ≡ start_of (string_by_info k i)
+string_starts : (k : Kind) (i : Info) (count : ℕ) → Wide count ≡ additional_of i
+    → Content ≡ start_of (string_by_info k i)
 string_starts k (wide w) count e = refl
 string_starts k open_ended count e = cc
 string_starts k reserved count e = cc
 
-low_starts : (major i count : ℕ) → major < 2 → Wide count ≡ additional_of (info_of i) → Bytes count ≡ start_of (by_major major i)
+low_starts : (major i count : ℕ) → major < 2 → Wide count ≡ additional_of (info_of i)
+    → Bytes count ≡ start_of (by_major major i)
 low_starts zero i count lt e = int_starts unsigned (info_of i) count e
 low_starts (suc zero) i count lt e = int_starts negative (info_of i) count e
 low_starts (suc (suc major)) i count lt e = absurd (omega arith)
 
-middle_starts : (major i count : ℕ) → 2 ≤ major → major < 4 → Wide count ≡ additional_of (info_of i) → Content ≡ start_of (by_major major i)
+middle_starts : (major i count : ℕ) → 2 ≤ major → major < 4 → Wide count ≡ additional_of (info_of i)
+    → Content ≡ start_of (by_major major i)
 middle_starts zero i count le lt e = absurd (omega arith)
 middle_starts (suc zero) i count le lt e = absurd (omega arith)
 middle_starts (suc (suc zero)) i count le lt e = string_starts byte_string (info_of i) count e
@@ -51,13 +58,21 @@ simple_starts (suc (suc (suc (suc k)))) lt = absurd (omega arith)
 high_starts : (major i : ℕ) → 7 ≤ major → 20 ≤ i → i < 24 → Bytes 0 ≡ start_of (by_major major i)
 high_starts major i top low lt =
     let j : 20 + (i - 20) ≡ i = omega arith in
-    subst (λ n. Bytes 0 ≡ start_of (simple_by_info n)) j (simple_starts (i - 20) (omega arith)) ∙ ap start_of (sym (top_starts major i top))
+    subst (λ n. Bytes 0 ≡ start_of (simple_by_info n)) j (simple_starts (i - 20) (omega arith))
+    ∙ ap start_of (sym (top_starts major i top))
 
 pub returns-in-Wide-info-3 : goal.returns-in-Wide-info-3
-returns-in-Wide-info-3 c = low_starts (c.args.first / 32) (c.args.first % 32) c.in-Wide-info-3.count (omega arith) c.in-Wide-info-3.ensures ∙ ap start_of (sym (by_parts c.args.first))
+returns-in-Wide-info-3 c =
+    low_starts (c.args.first / 32)
+    (c.args.first % 32) c.in-Wide-info-3.count (omega arith) c.in-Wide-info-3.ensures
+    ∙ ap start_of (sym (by_parts c.args.first))
 
 pub returns-in-Wide-info-4 : goal.returns-in-Wide-info-4
-returns-in-Wide-info-4 c = middle_starts (c.args.first / 32) (c.args.first % 32) c.in-Wide-info-4.field-0 (omega arith) (omega arith) c.in-Wide-info-4.ensures ∙ ap start_of (sym (by_parts c.args.first))
+returns-in-Wide-info-4 c =
+    middle_starts (c.args.first / 32) (c.args.first % 32) c.in-Wide-info-4.field-0 (omega arith)
+    (omega arith) c.in-Wide-info-4.ensures ∙ ap start_of (sym (by_parts c.args.first))
 
 pub returns-in-20 : goal.returns-in-20
-returns-in-20 c = high_starts (c.args.first / 32) (c.args.first % 32) (omega arith) (omega arith) (omega arith) ∙ ap start_of (sym (by_parts c.args.first))
+returns-in-20 c =
+    high_starts (c.args.first / 32) (c.args.first % 32) (omega arith) (omega arith) (omega arith)
+    ∙ ap start_of (sym (by_parts c.args.first))

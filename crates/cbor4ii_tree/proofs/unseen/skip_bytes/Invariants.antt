@@ -5,7 +5,8 @@ use Rattle.cbor4ii_tree.proofs.unseen.skip_bytes.Given as goal
 
 abbrev pub invariant-loop-missing : goal.invariant-loop-missing
 invariant-loop-missing g l = record {
-  reached : Reached (Dropped l.count l.missing) (g.F.Front.view l.fn.front l.fn.reader) (g.F.Front.view l.front l.reader);
+  reached : Reached (Dropped l.count l.missing) (g.F.Front.view l.fn.front l.fn.reader)
+      (g.F.Front.view l.front l.reader);
   stays : IsTrue g.F.Front.apart → g.S.Source.view l.reader ≡ g.S.Source.view l.fn.reader;
 }
 

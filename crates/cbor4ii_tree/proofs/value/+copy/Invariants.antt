@@ -3,7 +3,8 @@ use Rattle.cbor4ii_tree.specs.View.{view, pair_view}
 use Rattle.cbor4ii_tree.proofs.value.+copy.Given as goal
 
 abbrev pub invariant-copy_items-loop-item : goal.invariant-copy_items-loop-item
-invariant-copy_items-loop-item l = map view l.copies.items ≡ map view (take l.item-index l.item-items)
+invariant-copy_items-loop-item l =
+    map view l.copies.items ≡ map view (take l.item-index l.item-items)
 
 abbrev pub invariant-copy_members-loop-member : goal.invariant-copy_members-loop-member
 invariant-copy_members-loop-member l =

@@ -1,19 +1,26 @@
 use Rattle.std.proofs.Common.{◌<◌, arith, length, sym, ap, ◌∙◌, refl}
 use Rattle.std.proofs.lemmas.List.{take_more}
 use Rattle.cbor4ii_tree.specs.View.{view}
-use Rattle.cbor4ii_tree.proofs.values.Views.{length-items_view, length-members_view, view_at, items_view-push, views_at, members_more, mapping_same}
+use Rattle.cbor4ii_tree.proofs.values.Views.{length-items_view, length-members_view, view_at}
+use Rattle.cbor4ii_tree.proofs.values.Views.{items_view-push, views_at, members_more, mapping_same}
 use Rattle.cbor4ii_tree.proofs.value.+same.Goals as goal
 
 pub same_value-returns-in-Map-Map : goal.same_value-returns-in-Map-Map
 same_value-returns-in-Map-Map t c =
-    let m = mapping_same c.deref-in-Map-Map.result.now c.deref-in-Map-Map-2.result.now c.in-Map-Map.x c.in-Map-Map.y c.args.a.now c.args.b.now c.in-Map-Map.is-0 c.in-Map-Map.is-1 c.deref-in-Map-Map.ensures.value c.deref-in-Map-Map-2.ensures.value in
+    let m = mapping_same c.deref-in-Map-Map.result.now c.deref-in-Map-Map-2.result.now
+    c.in-Map-Map.x c.in-Map-Map.y c.args.a.now c.args.b.now c.in-Map-Map.is-0 c.in-Map-Map.is-1
+    c.deref-in-Map-Map.ensures.value c.deref-in-Map-Map-2.ensures.value in
     (λ h. m.0 (c.same_members.ensures.0 h), λ e. c.same_members.ensures.1 (m.1 e))
 
 pub same_items-returns-then-a-b : goal.same_items-returns-then-a-b
-same_items-returns-then-a-b t c = let f = length-items_view c.args.a.now c.args.b.now in (λ h. absurd (cc h), λ e. absurd (c.if-a-b.true (f e)))
+same_items-returns-then-a-b t c =
+    let f = length-items_view c.args.a.now c.args.b.now in
+    (λ h. absurd (cc h), λ e. absurd (c.if-a-b.true (f e)))
 
 pub same_members-returns-then-a-b : goal.same_members-returns-then-a-b
-same_members-returns-then-a-b t c = let f = length-members_view c.args.a.now c.args.b.now in (λ h. absurd (cc h), λ e. absurd (c.if-a-b.true (f e)))
+same_members-returns-then-a-b t c =
+    let f = length-members_view c.args.a.now c.args.b.now in
+    (λ h. absurd (cc h), λ e. absurd (c.if-a-b.true (f e)))
 
 pub same_items-returns-then-not-same_value : goal.same_items-returns-then-not-same_value
 same_items-returns-then-not-same_value t c =
@@ -22,23 +29,35 @@ same_items-returns-then-not-same_value t c =
       λ h. absurd (cc h),
       λ e.
           let at = view_at c.args.a.now c.args.b.now c.loop-i.i x y e c.loop-i-test.true in
-          c.if-not-same_value.ensures.1 (ap view c.index-a-i.is ∙ at ∙ sym (ap view c.index-b-i.is)),
+          c.if-not-same_value.ensures.1
+          (ap view c.index-a-i.is ∙ at ∙ sym (ap view c.index-b-i.is)),
     )
 
 pub same_items-loop-i-preserved : goal.same_items-loop-i-preserved
 same_items-loop-i-preserved t c =
     let x = c.index-a-i.result in
     let y = c.index-b-i.result in
-    rw (take_more c.args.a.now c.loop-i.i x c.loop-i-test.true, take_more c.args.b.now c.loop-i.i y (omega arith), ← c.index-a-i.is, ← c.index-b-i.is)
+    rw (
+      take_more c.args.a.now c.loop-i.i x c.loop-i-test.true,
+      take_more c.args.b.now c.loop-i.i y (omega arith),
+      ← c.index-a-i.is,
+      ← c.index-b-i.is,
+    )
     (items_view-push _ _ x y c.loop-i.invariant (c.if-not-same_value.ensures.0 refl))
 
 pub same_members-returns-then-not-same_value : goal.same_members-returns-then-not-same_value
-same_members-returns-then-not-same_value t c =
-    (λ h. absurd (cc h), λ e. c.if-not-same_value.ensures.1 (views_at c.args.a.now c.args.b.now c.loop-i.i c.index-a-i.result c.index-b-i.result e c.loop-i-test.true).0)
+same_members-returns-then-not-same_value t c = (
+  λ h. absurd (cc h),
+  λ e. c.if-not-same_value.ensures.1 (views_at c.args.a.now c.args.b.now
+      c.loop-i.i c.index-a-i.result c.index-b-i.result e c.loop-i-test.true).0,
+)
 
 pub same_members-returns-then-not-same_value-2 : goal.same_members-returns-then-not-same_value-2
-same_members-returns-then-not-same_value-2 t c =
-    (λ h. absurd (cc h), λ e. c.if-not-same_value-2.ensures.1 (views_at c.args.a.now c.args.b.now c.loop-i.i c.index-a-i-in-loop-i.result c.index-b-i-in-loop-i.result e c.loop-i-test.true).1)
+same_members-returns-then-not-same_value-2 t c = (
+  λ h. absurd (cc h),
+  λ e. c.if-not-same_value-2.ensures.1 (views_at c.args.a.now c.args.b.now c.loop-i.i
+      c.index-a-i-in-loop-i.result c.index-b-i-in-loop-i.result e c.loop-i-test.true).1,
+)
 
 pub same_members-loop-i-preserved : goal.same_members-loop-i-preserved
 same_members-loop-i-preserved t c =
@@ -47,4 +66,6 @@ same_members-loop-i-preserved t c =
     let i = c.loop-i.i in
     let in_a : i < length a = c.loop-i-test.true in
     let in_b : i < length b = omega arith in
-    members_more a b i c.index-a-i.result c.index-b-i.result c.index-a-i-in-loop-i.result c.index-b-i-in-loop-i.result in_a in_b c.loop-i.invariant (c.if-not-same_value.ensures.0 refl) (c.if-not-same_value-2.ensures.0 refl)
+    members_more a b i c.index-a-i.result c.index-b-i.result c.index-a-i-in-loop-i.result
+    c.index-b-i-in-loop-i.result in_a in_b c.loop-i.invariant
+    (c.if-not-same_value.ensures.0 refl) (c.if-not-same_value-2.ensures.0 refl)

@@ -9,13 +9,16 @@ use Rattle.cbor4ii.proofs.Characters.{few_bytes}
 use Rattle.cbor4ii.proofs.serde.laws.strings_are_read_back.Goals as goal
 
 pub returns-clause-character : goal.returns-clause-character
-returns-clause-character c v h = text_back encode_utf8 v (omega (arith, few_bytes v)) (IsUtf8-encode v h)
+returns-clause-character c v h =
+    text_back encode_utf8 v (omega (arith, few_bytes v)) (IsUtf8-encode v h)
 
 pub returns-clause-text : goal.returns-clause-text
 returns-clause-text c v h utf8 = lent_back lent_str v h 3 true (λ _. utf8)
 
 pub returns-clause-owned_text : goal.returns-clause-owned_text
-returns-clause-owned_text c v = text_back text_content v (omega (arith, v.bytes.ok.0, v.bytes.ok.1, v.bytes.small)) (IsUtf8-string_bytes v)
+returns-clause-owned_text c v =
+    text_back text_content v (omega (arith, v.bytes.ok.0, v.bytes.ok.1, v.bytes.small))
+    (IsUtf8-string_bytes v)
 
 pub returns-clause-cow_text : goal.returns-clause-cow_text
 returns-clause-cow_text c = text_back cow_text

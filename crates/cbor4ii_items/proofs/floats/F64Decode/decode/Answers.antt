@@ -15,7 +15,8 @@ returns-in_err-lone_float-clause-moves g c =
     rw (p.1, p.2) (moves_err c.in_err-lone_float.ensures.runs.moves)
 
 pub returns-in_err-lone_float-clause-progress : goal.returns-in_err-lone_float-clause-progress
-returns-in_err-lone_float-clause-progress g c = λ never. rw (err_from_is_err_and c.from_residual.result c.from_residual.ensures.1).1 tt
+returns-in_err-lone_float-clause-progress g c =
+    λ never. rw (err_from_is_err_and c.from_residual.result c.from_residual.ensures.1).1 tt
 
 pub returns-in_err-lone_float-clause-memory : goal.returns-in_err-lone_float-clause-memory
 returns-in_err-lone_float-clause-memory g c =
@@ -23,7 +24,8 @@ returns-in_err-lone_float-clause-memory g c =
     rw (p.1, p.2) (λ h. sym c.in_err-lone_float.ensures.memory ∙ h)
 
 pub returns-in_err-lone_float-clause-sound : goal.returns-in_err-lone_float-clause-sound
-returns-in_err-lone_float-clause-sound g c = rw (err_from_is_err_and c.from_residual.result c.from_residual.ensures.1).1 tt
+returns-in_err-lone_float-clause-sound g c =
+    rw (err_from_is_err_and c.from_residual.result c.from_residual.ensures.1).1 tt
 
 pub returns-in_err-lone_float-clause-stops : goal.returns-in_err-lone_float-clause-stops
 returns-in_err-lone_float-clause-stops g c exact =

@@ -7,4 +7,7 @@ pub returns-clause-moves : goal.returns-clause-moves
 returns-clause-moves g c = record { by = kept_alike _; depth = λ e. refl }
 
 pub returns-clause-sound : goal.returns-clause-sound
-returns-clause-sound g c = record { at = λ xs told. record { count = 0; cost = 0; read = (refl, refl); fits = fits_zero _; left = told } }
+returns-clause-sound g c = record {
+  at = λ xs told.
+      record { count = 0; cost = 0; read = (refl, refl); fits = fits_zero _; left = told };
+}

@@ -1,21 +1,30 @@
 use Rattle.std.proofs.Common.{[], arith, refl}
-use Rattle.cbor4ii_items.proofs.WholeHeads.{found_some, found_none, runs_stayed, progress_stayed, runs_broke}
+use Rattle.cbor4ii_items.proofs.WholeHeads.{found_some, found_none, runs_stayed, progress_stayed}
+use Rattle.cbor4ii_items.proofs.WholeHeads.{runs_broke}
 use Rattle.cbor4ii_items.proofs.SignedRuns.{minus_read, minus_refused, negative_is}
 use Rattle.cbor4ii_items.proofs.numbers.signed.signed_below_zero.Goals as goal
 
 pub returns-then-argument-limit-clause-runs : goal.returns-then-argument-limit-clause-runs
-returns-then-argument-limit-clause-runs g c = minus_refused _ _ _ _ _ c.if-argument-limit.true (found_some _ _ c.in-Ok-Some.field-0-is (c.in-Ok-Some.ensures.runs c.args.minus.now))
+returns-then-argument-limit-clause-runs g c =
+    minus_refused _ _ _ _ _ c.if-argument-limit.true
+    (found_some _ _ c.in-Ok-Some.field-0-is (c.in-Ok-Some.ensures.runs c.args.minus.now))
 
 pub returns-else-argument-limit-clause-runs : goal.returns-else-argument-limit-clause-runs
 returns-else-argument-limit-clause-runs g c =
-    let e = negative_is c.negative.result c.in-Ok-Some.argument (omega (arith, c.if-argument-limit.false, c.requires)) c.negative.ensures in
-    minus_read c.args.name.now c.args.minus _ _ _ e c.if-argument-limit.false (found_some _ _ c.in-Ok-Some.field-0-is (c.in-Ok-Some.ensures.runs c.args.minus.now))
+    let e = negative_is c.negative.result c.in-Ok-Some.argument
+    (omega (arith, c.if-argument-limit.false, c.requires)) c.negative.ensures in
+    minus_read c.args.name.now c.args.minus _ _ _ e c.if-argument-limit.false
+    (found_some _ _ c.in-Ok-Some.field-0-is (c.in-Ok-Some.ensures.runs c.args.minus.now))
 
 pub returns-in-Ok-None-clause-runs : goal.returns-in-Ok-None-clause-runs
-returns-in-Ok-None-clause-runs g c = runs_stayed (found_none _ _ _ c.in-Ok-None.field-0-is (c.in-Ok-None.ensures.runs [])) c.signed_by_bytes.ensures.runs
+returns-in-Ok-None-clause-runs g c =
+    runs_stayed (found_none _ _ _ c.in-Ok-None.field-0-is (c.in-Ok-None.ensures.runs []))
+    c.signed_by_bytes.ensures.runs
 
 pub returns-in-Ok-None-clause-progress : goal.returns-in-Ok-None-clause-progress
-returns-in-Ok-None-clause-progress g c = progress_stayed _ _ (found_none _ _ _ c.in-Ok-None.field-0-is (c.in-Ok-None.ensures.runs [])) c.signed_by_bytes.ensures.progress
+returns-in-Ok-None-clause-progress g c =
+    progress_stayed _ _ (found_none _ _ _ c.in-Ok-None.field-0-is (c.in-Ok-None.ensures.runs []))
+    c.signed_by_bytes.ensures.progress
 
 pub returns-in-Err-clause-runs : goal.returns-in-Err-clause-runs
 returns-in-Err-clause-runs g c = runs_broke (c.in-Err.ensures.runs [])
@@ -25,7 +34,8 @@ returns-then-argument-limit-clause-memory g c = refl
 
 pub returns-else-argument-limit-clause-range : goal.returns-else-argument-limit-clause-range
 returns-else-argument-limit-clause-range g c =
-    let e = negative_is c.negative.result c.in-Ok-Some.argument (omega (arith, c.if-argument-limit.false, c.requires)) c.negative.ensures in
+    let e = negative_is c.negative.result c.in-Ok-Some.argument
+    (omega (arith, c.if-argument-limit.false, c.requires)) c.negative.ensures in
     rw e (omega (arith, c.if-argument-limit.false))
 
 pub returns-in-Ok-None-clause-memory : goal.returns-in-Ok-None-clause-memory

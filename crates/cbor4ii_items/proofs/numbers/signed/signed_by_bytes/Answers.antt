@@ -8,23 +8,31 @@ use Rattle.cbor4ii_items.proofs.numbers.signed.signed_by_bytes.Goals as goal
 
 pub returns-in_err-argument-in-0-clause-runs : goal.returns-in_err-argument-in-0-clause-runs
 returns-in_err-argument-in-0-clause-runs g c =
-    let p = err_from_is_err_and c.from_residual-in_err-argument-in-0.result c.from_residual-in_err-argument-in-0.ensures.1 in
-    rw (p.1, p.2) (runs_positive _ _ _ _ _ _ (sym c.if_major.ensures ∙ c.in-0.is) c.in_ok-first.ensures.runs (runs_err as_positive c.in_err-argument-in-0.ensures.runs))
+    let p = err_from_is_err_and c.from_residual-in_err-argument-in-0.result
+    c.from_residual-in_err-argument-in-0.ensures.1 in
+    rw (p.1, p.2) (runs_positive _ _ _ _ _ _ (sym c.if_major.ensures ∙ c.in-0.is)
+    c.in_ok-first.ensures.runs (runs_err as_positive c.in_err-argument-in-0.ensures.runs))
 
 pub returns-in_err-argument-in-1-clause-runs : goal.returns-in_err-argument-in-1-clause-runs
 returns-in_err-argument-in-1-clause-runs g c =
-    let p = err_from_is_err_and c.from_residual-in_err-argument-in-1.result c.from_residual-in_err-argument-in-1.ensures.1 in
-    rw (p.1, p.2) (runs_negative _ _ _ _ _ _ (sym c.if_major.ensures ∙ c.in-1.is) c.in_ok-first.ensures.runs (runs_err as_negative c.in_err-argument-in-1.ensures.runs))
+    let p = err_from_is_err_and c.from_residual-in_err-argument-in-1.result
+    c.from_residual-in_err-argument-in-1.ensures.1 in
+    rw (p.1, p.2) (runs_negative _ _ _ _ _ _ (sym c.if_major.ensures ∙ c.in-1.is)
+    c.in_ok-first.ensures.runs (runs_err as_negative c.in_err-argument-in-1.ensures.runs))
 
 pub returns-in_ok-argument-in-0-clause-runs : goal.returns-in_ok-argument-in-0-clause-runs
 returns-in_ok-argument-in-0-clause-runs g c =
-    let e = positive_is c.positive.result c.in_ok-argument-in-0.argument (omega (arith, c.in_ok-argument-in-0.ensures.below, c.requires)) c.positive.ensures in
-    runs_positive _ _ _ _ _ _ (sym c.if_major.ensures ∙ c.in-0.is) c.in_ok-first.ensures.runs (runs_with pos e c.in_ok-argument-in-0.ensures.runs)
+    let e = positive_is c.positive.result c.in_ok-argument-in-0.argument
+    (omega (arith, c.in_ok-argument-in-0.ensures.below, c.requires)) c.positive.ensures in
+    runs_positive _ _ _ _ _ _ (sym c.if_major.ensures ∙ c.in-0.is) c.in_ok-first.ensures.runs
+    (runs_with pos e c.in_ok-argument-in-0.ensures.runs)
 
 pub returns-in_ok-argument-in-1-clause-runs : goal.returns-in_ok-argument-in-1-clause-runs
 returns-in_ok-argument-in-1-clause-runs g c =
-    let e = negative_is c.negative.result c.in_ok-argument-in-1.argument (omega (arith, c.in_ok-argument-in-1.ensures.below, c.requires)) c.negative.ensures in
-    runs_negative _ _ _ _ _ _ (sym c.if_major.ensures ∙ c.in-1.is) c.in_ok-first.ensures.runs (runs_with negsuc e c.in_ok-argument-in-1.ensures.runs)
+    let e = negative_is c.negative.result c.in_ok-argument-in-1.argument
+    (omega (arith, c.in_ok-argument-in-1.ensures.below, c.requires)) c.negative.ensures in
+    runs_negative _ _ _ _ _ _ (sym c.if_major.ensures ∙ c.in-1.is) c.in_ok-first.ensures.runs
+    (runs_with negsuc e c.in_ok-argument-in-1.ensures.runs)
 
 pub returns-in_err-first-clause-runs : goal.returns-in_err-first-clause-runs
 returns-in_err-first-clause-runs g c =
@@ -37,48 +45,64 @@ returns-in_err-first-clause-memory g c =
     rw (p.1, p.2) c.in_err-first.ensures.memory
 
 pub returns-in_err-first-clause-range : goal.returns-in_err-first-clause-range
-returns-in_err-first-clause-range g c = rw (err_from_is_err_and c.from_residual.result c.from_residual.ensures.1).1 tt
+returns-in_err-first-clause-range g c =
+    rw (err_from_is_err_and c.from_residual.result c.from_residual.ensures.1).1 tt
 
 pub returns-in_err-first-clause-progress : goal.returns-in_err-first-clause-progress
-returns-in_err-first-clause-progress g c = rw (err_from_is_err_and c.from_residual.result c.from_residual.ensures.1).1 tt
+returns-in_err-first-clause-progress g c =
+    rw (err_from_is_err_and c.from_residual.result c.from_residual.ensures.1).1 tt
 
 pub returns-in_err-argument-in-0-clause-memory : goal.returns-in_err-argument-in-0-clause-memory
 returns-in_err-argument-in-0-clause-memory g c =
-    let p = err_from_is_err_and c.from_residual-in_err-argument-in-0.result c.from_residual-in_err-argument-in-0.ensures.1 in
+    let p = err_from_is_err_and c.from_residual-in_err-argument-in-0.result
+    c.from_residual-in_err-argument-in-0.ensures.1 in
     rw (p.1, p.2) c.in_err-argument-in-0.ensures.memory
 
 pub returns-in_err-argument-in-0-clause-range : goal.returns-in_err-argument-in-0-clause-range
-returns-in_err-argument-in-0-clause-range g c = rw (err_from_is_err_and c.from_residual-in_err-argument-in-0.result c.from_residual-in_err-argument-in-0.ensures.1).1 tt
+returns-in_err-argument-in-0-clause-range g c =
+    rw (err_from_is_err_and c.from_residual-in_err-argument-in-0.result
+    c.from_residual-in_err-argument-in-0.ensures.1).1 tt
 
 pub returns-in_err-argument-in-0-clause-progress : goal.returns-in_err-argument-in-0-clause-progress
-returns-in_err-argument-in-0-clause-progress g c = rw (err_from_is_err_and c.from_residual-in_err-argument-in-0.result c.from_residual-in_err-argument-in-0.ensures.1).1 tt
+returns-in_err-argument-in-0-clause-progress g c =
+    rw (err_from_is_err_and c.from_residual-in_err-argument-in-0.result
+    c.from_residual-in_err-argument-in-0.ensures.1).1 tt
 
 pub returns-in_err-argument-in-1-clause-memory : goal.returns-in_err-argument-in-1-clause-memory
 returns-in_err-argument-in-1-clause-memory g c =
-    let p = err_from_is_err_and c.from_residual-in_err-argument-in-1.result c.from_residual-in_err-argument-in-1.ensures.1 in
+    let p = err_from_is_err_and c.from_residual-in_err-argument-in-1.result
+    c.from_residual-in_err-argument-in-1.ensures.1 in
     rw (p.1, p.2) c.in_err-argument-in-1.ensures.memory
 
 pub returns-in_err-argument-in-1-clause-range : goal.returns-in_err-argument-in-1-clause-range
-returns-in_err-argument-in-1-clause-range g c = rw (err_from_is_err_and c.from_residual-in_err-argument-in-1.result c.from_residual-in_err-argument-in-1.ensures.1).1 tt
+returns-in_err-argument-in-1-clause-range g c =
+    rw (err_from_is_err_and c.from_residual-in_err-argument-in-1.result
+    c.from_residual-in_err-argument-in-1.ensures.1).1 tt
 
 pub returns-in_err-argument-in-1-clause-progress : goal.returns-in_err-argument-in-1-clause-progress
-returns-in_err-argument-in-1-clause-progress g c = rw (err_from_is_err_and c.from_residual-in_err-argument-in-1.result c.from_residual-in_err-argument-in-1.ensures.1).1 tt
+returns-in_err-argument-in-1-clause-progress g c =
+    rw (err_from_is_err_and c.from_residual-in_err-argument-in-1.result
+    c.from_residual-in_err-argument-in-1.ensures.1).1 tt
 
 pub returns-in_ok-argument-in-0-clause-range : goal.returns-in_ok-argument-in-0-clause-range
 returns-in_ok-argument-in-0-clause-range g c =
-    let e = positive_is c.positive.result c.in_ok-argument-in-0.argument (omega (arith, c.in_ok-argument-in-0.ensures.below, c.requires)) c.positive.ensures in
+    let e = positive_is c.positive.result c.in_ok-argument-in-0.argument
+    (omega (arith, c.in_ok-argument-in-0.ensures.below, c.requires)) c.positive.ensures in
     rw e c.in_ok-argument-in-0.ensures.below
 
 pub returns-in_ok-argument-in-1-clause-range : goal.returns-in_ok-argument-in-1-clause-range
 returns-in_ok-argument-in-1-clause-range g c =
-    let e = negative_is c.negative.result c.in_ok-argument-in-1.argument (omega (arith, c.in_ok-argument-in-1.ensures.below, c.requires)) c.negative.ensures in
+    let e = negative_is c.negative.result c.in_ok-argument-in-1.argument
+    (omega (arith, c.in_ok-argument-in-1.ensures.below, c.requires)) c.negative.ensures in
     rw e c.in_ok-argument-in-1.ensures.below
 
 pub returns-in_ok-argument-in-0-clause-progress : goal.returns-in_ok-argument-in-0-clause-progress
-returns-in_ok-argument-in-0-clause-progress g c = omega (arith, c.in_ok-argument-in-0.ensures.progress, c.in_ok-first.ensures.runs.moves.by.bound)
+returns-in_ok-argument-in-0-clause-progress g c =
+    omega (arith, c.in_ok-argument-in-0.ensures.progress, c.in_ok-first.ensures.runs.moves.by.bound)
 
 pub returns-in_ok-argument-in-1-clause-progress : goal.returns-in_ok-argument-in-1-clause-progress
-returns-in_ok-argument-in-1-clause-progress g c = omega (arith, c.in_ok-argument-in-1.ensures.progress, c.in_ok-first.ensures.runs.moves.by.bound)
+returns-in_ok-argument-in-1-clause-progress g c =
+    omega (arith, c.in_ok-argument-in-1.ensures.progress, c.in_ok-first.ensures.runs.moves.by.bound)
 
 pub returns-in_default-clause-memory : goal.returns-in_default-clause-memory
 returns-in_default-clause-memory g c = refl

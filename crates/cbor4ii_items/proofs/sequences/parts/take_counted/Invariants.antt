@@ -2,4 +2,6 @@ use Rattle.cbor4ii_items.specs.Laws.SequenceParts.{Begun}
 use Rattle.cbor4ii_items.proofs.sequences.parts.take_counted.Given as goal
 
 abbrev pub invariant-loop-i : goal.invariant-loop-i
-invariant-loop-i g l = Begun g.Q.Sequence.reads l.i (g.S.Source.view l.fn.reader) (g.S.Source.view l.reader) l.parts.items
+invariant-loop-i g l =
+    Begun g.Q.Sequence.reads l.i (g.S.Source.view l.fn.reader)
+    (g.S.Source.view l.reader) l.parts.items

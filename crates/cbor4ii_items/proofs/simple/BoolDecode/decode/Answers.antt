@@ -6,7 +6,8 @@ pub returns-clause-sound : goal.returns-clause-sound
 returns-clause-sound g c = leaf_sound bool_leaf c.take_bool.result c.take_bool.ensures.runs
 
 pub returns-clause-complete : goal.returns-clause-complete
-returns-clause-complete g c exact = leaf_complete bool_leaf c.take_bool.result c.take_bool.ensures.runs
+returns-clause-complete g c exact =
+    leaf_complete bool_leaf c.take_bool.result c.take_bool.ensures.runs
 
 pub returns-clause-stops : goal.returns-clause-stops
 returns-clause-stops g c exact = leaf_stops bool_leaf c.take_bool.result c.take_bool.ensures.runs

@@ -9,12 +9,17 @@ returns-in_err-take_break g c =
     rw (p.1, p.2) (open_ended _ _ _ c.loop-content.invariant c.in_err-take_break.ensures.runs)
 
 pub loop-content-preserved : goal.loop-content-preserved
-loop-content-preserved g c = open_more _ _ _ c.loop-content.invariant c.if-not-branch.true c.in_ok-take_break.ensures.runs refl c.in_ok-take_chunk.ensures.runs
+loop-content-preserved g c =
+    open_more _ _ _ c.loop-content.invariant c.if-not-branch.true c.in_ok-take_break.ensures.runs
+    refl c.in_ok-take_chunk.ensures.runs
 
 pub returns-in_err-take_chunk : goal.returns-in_err-take_chunk
 returns-in_err-take_chunk g c =
-    let p = err_from_is_err_and c.from_residual-in_err-take_chunk.result c.from_residual-in_err-take_chunk.ensures.1 in
-    rw (p.1, p.2) (open_refused _ _ _ c.loop-content.invariant c.if-not-branch.true c.in_ok-take_break.ensures.runs refl c.in_err-take_chunk.ensures.runs)
+    let p = err_from_is_err_and c.from_residual-in_err-take_chunk.result
+    c.from_residual-in_err-take_chunk.ensures.1 in
+    rw (p.1, p.2) (open_refused _ _ _ c.loop-content.invariant c.if-not-branch.true
+    c.in_ok-take_break.ensures.runs refl c.in_err-take_chunk.ensures.runs)
 
 pub returns : goal.returns
-returns g c = open_done _ _ _ c.loop-content.invariant c.if-not-branch.false c.in_ok-take_break.ensures.runs
+returns g c =
+    open_done _ _ _ c.loop-content.invariant c.if-not-branch.false c.in_ok-take_break.ensures.runs

@@ -1,4 +1,5 @@
-use Rattle.cbor4ii_items.proofs.StringAnswers.{listed_moves, string_sound, string_refuses, string_refused}
+use Rattle.cbor4ii_items.proofs.StringAnswers.{listed_moves, string_sound, string_refuses}
+use Rattle.cbor4ii_items.proofs.StringAnswers.{string_refused}
 use Rattle.cbor4ii_items.proofs.strings.content.lone_string.Goals as goal
 
 pub returns-clause-moves : goal.returns-clause-moves

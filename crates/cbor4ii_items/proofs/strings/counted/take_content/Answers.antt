@@ -10,7 +10,8 @@ returns-in_err-missing g c =
     rw (p.1, p.2) (reaches_end c.loop-missing.invariant c.in_err-missing.ensures.refused)
 
 pub loop-missing-preserved : goal.loop-missing-preserved
-loop-missing-preserved g c = reaches_content _ c.loop-missing.invariant c.in_ok-missing.ensures.taken
+loop-missing-preserved g c =
+    reaches_content _ c.loop-missing.invariant c.in_ok-missing.ensures.taken
 
 pub returns : goal.returns
 returns g c = content_ends _ (omega (arith, c.loop-missing-test.false)) c.loop-missing.invariant

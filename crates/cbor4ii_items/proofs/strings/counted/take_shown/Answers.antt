@@ -6,8 +6,10 @@ use Rattle.cbor4ii_items.proofs.strings.counted.take_shown.Goals as goal
 pub returns-else-is_err-clause-taken : goal.returns-else-is_err-clause-taken
 returns-else-is_err-clause-taken g c =
     takes_front (looked _ _ _ _ c.in-Some.is c.look.follows.holds-at-none) c.in-Some.ensures.front
-    (omega (arith, c.if-count-eq0.false)) (omega (arith, c.min-count.ensures)) (omega (arith, c.min-count.ensures))
-    (IsBytes-from _ c.type_inv.content) (rw c.if-is_err.ensures.negation at c.extend_from_slice.ensures.items) c.advance.ensures
+    (omega (arith, c.if-count-eq0.false)) (omega (arith, c.min-count.ensures))
+    (omega (arith, c.min-count.ensures))
+    (IsBytes-from _ c.type_inv.content)
+    (rw c.if-is_err.ensures.negation at c.extend_from_slice.ensures.items) c.advance.ensures
 
 pub returns-then-count-eq0-clause-refused : goal.returns-then-count-eq0-clause-refused
 returns-then-count-eq0-clause-refused g c = search rules

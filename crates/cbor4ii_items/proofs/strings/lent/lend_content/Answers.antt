@@ -4,5 +4,8 @@ use Rattle.cbor4ii_items.proofs.strings.lent.lend_content.Goals as goal
 
 pub returns-in-Some-Long-clause-lent : goal.returns-in-Some-Long-clause-lent
 returns-in-Some-Long-clause-lent g c =
-    lends_front (front_shown _ _ _ _ _ c.in-Some-Long.is c.in-Some-Long.field-0-is c.lend.follows.holds-at-none) (rw c.in-Some-Long.field-0-is at c.in-Some-Long.ensures.front)
-    (omega (arith, c.if-shown-want.false)) c.front.ensures.bytes c.front.ensures.value c.advance.ensures
+    lends_front (front_shown _ _ _ _ _ c.in-Some-Long.is c.in-Some-Long.field-0-is
+    c.lend.follows.holds-at-none)
+    (rw c.in-Some-Long.field-0-is at c.in-Some-Long.ensures.front)
+    (omega (arith, c.if-shown-want.false)) c.front.ensures.bytes c.front.ensures.value
+    c.advance.ensures

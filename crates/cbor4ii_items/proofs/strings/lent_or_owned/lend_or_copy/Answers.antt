@@ -4,7 +4,10 @@ use Rattle.cbor4ii_items.proofs.WholeHeads.{runs_broke}
 use Rattle.cbor4ii_items.proofs.strings.lent_or_owned.lend_or_copy.Goals as goal
 
 pub returns-in-Ok-clause-takes : goal.returns-in-Ok-clause-takes
-returns-in-Ok-clause-takes g c = record { by = (_, lends_runs g.T.LendOrOwn.name c.in-Ok.ensures.lent, (refl, c.in-Ok.ensures.utf8)) }
+returns-in-Ok-clause-takes g c = record {
+  by =
+      (_, lends_runs g.T.LendOrOwn.name c.in-Ok.ensures.lent, (refl, c.in-Ok.ensures.utf8));
+}
 
 pub returns-in-Err-NotUtf8-clause-takes : goal.returns-in-Err-NotUtf8-clause-takes
 returns-in-Err-NotUtf8-clause-takes g c =
@@ -24,7 +27,9 @@ returns-in-Err-Few-clause-takes g c =
 pub returns-in-Err-Few-clause-borrows : goal.returns-in-Err-Few-clause-borrows
 returns-in-Err-Few-clause-borrows g c =
     let l = rw c.in-Err-Few.field-0-is at c.in-Err-Few.ensures.lacks in
-    few_borrows g.T.LendOrOwn.name c.args.count _ _ g.T.LendOrOwn.IsBorrowed c.copy-in-Err-Few.result l.0 (λ whole xs told. (l.1 whole xs told).0) c.copy-in-Err-Few.ensures.takes
+    few_borrows g.T.LendOrOwn.name c.args.count _ _ g.T.LendOrOwn.IsBorrowed
+    c.copy-in-Err-Few.result l.0 (λ whole xs told. (l.1 whole xs told).0)
+    c.copy-in-Err-Few.ensures.takes
 
 pub returns-in-Err-Read-clause-takes : goal.returns-in-Err-Read-clause-takes
 returns-in-Err-Read-clause-takes g c =

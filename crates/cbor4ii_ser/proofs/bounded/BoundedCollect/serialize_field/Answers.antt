@@ -2,17 +2,21 @@ use Rattle.std.proofs.lemmas.Result.{err_from_is_err_and}
 use Rattle.std.proofs.Common.{refl}
 use Rattle.cbor4ii_ser.proofs.bounded.BoundedCollect.serialize_field.Goals as goal
 
-pub returns-in_err-put_field-clause-same_reference : goal.returns-in_err-put_field-clause-same_reference
+pub returns-in_err-put_field-clause-same_reference :
+    goal.returns-in_err-put_field-clause-same_reference
 returns-in_err-put_field-clause-same_reference g c = refl
 
 pub returns-in_err-put_field-clause-keyed : goal.returns-in_err-put_field-clause-keyed
 returns-in_err-put_field-clause-keyed g c = refl
 
 pub returns-in_err-put_field-clause-left : goal.returns-in_err-put_field-clause-left
-returns-in_err-put_field-clause-left g c = rw (err_from_is_err_and c.from_residual.result c.from_residual.ensures.1).1 tt
+returns-in_err-put_field-clause-left g c =
+    rw (err_from_is_err_and c.from_residual.result c.from_residual.ensures.1).1 tt
 
-pub returns-in_err-put_field-clause-left_at_refusal : goal.returns-in_err-put_field-clause-left_at_refusal
-returns-in_err-put_field-clause-left_at_refusal g c = rw (err_from_is_err_and c.from_residual.result c.from_residual.ensures.1).1 refl
+pub returns-in_err-put_field-clause-left_at_refusal :
+    goal.returns-in_err-put_field-clause-left_at_refusal
+returns-in_err-put_field-clause-left_at_refusal g c =
+    rw (err_from_is_err_and c.from_residual.result c.from_residual.ensures.1).1 refl
 
 pub returns-in_err-put_field-clause-written : goal.returns-in_err-put_field-clause-written
 returns-in_err-put_field-clause-written g c =

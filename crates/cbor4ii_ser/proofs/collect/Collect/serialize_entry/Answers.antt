@@ -4,10 +4,13 @@ use Rattle.cbor4ii_ser.specs.Laws.Joining.{serializes_then, serializes_out}
 use Rattle.cbor4ii_ser.proofs.collect.Collect.serialize_entry.Goals as goal
 
 pub returns-in_err-serialize_key-clause-written : goal.returns-in_err-serialize_key-clause-written
-returns-in_err-serialize_key-clause-written g c = serializes_out _ c.from_residual.ensures.1 c.in_err-serialize_key.ensures.written
+returns-in_err-serialize_key-clause-written g c =
+    serializes_out _ c.from_residual.ensures.1 c.in_err-serialize_key.ensures.written
 
 pub returns-clause-written : goal.returns-clause-written
-returns-clause-written g c = serializes_then _ _ c.serialize_value.result c.in_ok-serialize_key.ensures.written c.serialize_value.ensures.written
+returns-clause-written g c =
+    serializes_then _ _ c.serialize_value.result c.in_ok-serialize_key.ensures.written
+    c.serialize_value.ensures.written
 
 pub serialize_key-requires-clause-keyed : goal.serialize_key-requires-clause-keyed
 serialize_key-requires-clause-keyed g c = c.requires.keyed
@@ -18,27 +21,37 @@ serialize_key-requires-clause-owes g c = c.requires.owes
 pub serialize_key-requires-clause-left : goal.serialize_key-requires-clause-left
 serialize_key-requires-clause-left g c = c.requires.left
 
-pub returns-in_err-serialize_key-clause-same_reference : goal.returns-in_err-serialize_key-clause-same_reference
-returns-in_err-serialize_key-clause-same_reference g c = c.in_err-serialize_key.ensures.same_reference
+pub returns-in_err-serialize_key-clause-same_reference :
+    goal.returns-in_err-serialize_key-clause-same_reference
+returns-in_err-serialize_key-clause-same_reference g c =
+    c.in_err-serialize_key.ensures.same_reference
 
 pub returns-in_err-serialize_key-clause-keyed : goal.returns-in_err-serialize_key-clause-keyed
 returns-in_err-serialize_key-clause-keyed g c = c.in_err-serialize_key.ensures.keyed
 
 pub returns-in_err-serialize_key-clause-owes : goal.returns-in_err-serialize_key-clause-owes
-returns-in_err-serialize_key-clause-owes g c = rw (err_from_is_err_and c.from_residual.result c.from_residual.ensures.1).1 tt
+returns-in_err-serialize_key-clause-owes g c =
+    rw (err_from_is_err_and c.from_residual.result c.from_residual.ensures.1).1 tt
 
 pub returns-in_err-serialize_key-clause-left : goal.returns-in_err-serialize_key-clause-left
-returns-in_err-serialize_key-clause-left g c = rw (err_from_is_err_and c.from_residual.result c.from_residual.ensures.1).1 tt
+returns-in_err-serialize_key-clause-left g c =
+    rw (err_from_is_err_and c.from_residual.result c.from_residual.ensures.1).1 tt
 
-pub returns-in_err-serialize_key-clause-refused_at_key : goal.returns-in_err-serialize_key-clause-refused_at_key
+pub returns-in_err-serialize_key-clause-refused_at_key :
+    goal.returns-in_err-serialize_key-clause-refused_at_key
 returns-in_err-serialize_key-clause-refused_at_key g c =
     let p = err_from_is_err_and c.from_residual.result c.from_residual.ensures.1 in
-    rw (p.1, p.2) (λ _. (c.in_err-serialize_key.ensures.left_at_refusal, c.in_err-serialize_key.ensures.written))
+    rw (p.1, p.2) (λ _. (
+      c.in_err-serialize_key.ensures.left_at_refusal,
+      c.in_err-serialize_key.ensures.written,
+    ))
 
-pub returns-in_err-serialize_key-clause-refused_at_value : goal.returns-in_err-serialize_key-clause-refused_at_value
+pub returns-in_err-serialize_key-clause-refused_at_value :
+    goal.returns-in_err-serialize_key-clause-refused_at_value
 returns-in_err-serialize_key-clause-refused_at_value g c =
     let p = err_from_is_err_and c.from_residual.result c.from_residual.ensures.1 in
-    rw (p.1, p.2) (λ t. absurd (let h : false ≡ true = sym c.requires.owes ∙ (sym c.in_err-serialize_key.ensures.owes_at_refusal ∙ t) in cc))
+    rw (p.1, p.2) (λ t. absurd (let h : false ≡ true = sym c.requires.owes
+    ∙ (sym c.in_err-serialize_key.ensures.owes_at_refusal ∙ t) in cc))
 
 pub serialize_value-requires-clause-keyed : goal.serialize_value-requires-clause-keyed
 serialize_value-requires-clause-keyed g c = c.in_ok-serialize_key.ensures.keyed ∙ c.requires.keyed
@@ -47,7 +60,8 @@ pub serialize_value-requires-clause-owes : goal.serialize_value-requires-clause-
 serialize_value-requires-clause-owes g c = c.in_ok-serialize_key.ensures.owes
 
 pub returns-clause-same_reference : goal.returns-clause-same_reference
-returns-clause-same_reference g c = c.serialize_value.ensures.same_reference ∙ c.in_ok-serialize_key.ensures.same_reference
+returns-clause-same_reference g c =
+    c.serialize_value.ensures.same_reference ∙ c.in_ok-serialize_key.ensures.same_reference
 
 pub returns-clause-keyed : goal.returns-clause-keyed
 returns-clause-keyed g c = c.serialize_value.ensures.keyed ∙ c.in_ok-serialize_key.ensures.keyed

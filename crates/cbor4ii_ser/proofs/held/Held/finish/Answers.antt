@@ -8,4 +8,5 @@ returns-in_err-put_run g c =
     rw (c.if-self.true, p.1, p.2) (writes_err _ c.in_err-put_run.ensures)
 
 pub returns-in_ok-put_run : goal.returns-in_ok-put_run
-returns-in_ok-put_run g c = rw c.if-self.true (writes_then c.end.result c.in_ok-put_run.ensures c.end.ensures.writes)
+returns-in_ok-put_run g c =
+    rw c.if-self.true (writes_then c.end.result c.in_ok-put_run.ensures c.end.ensures.writes)

@@ -5,4 +5,6 @@ pub returns-in_err-map_head : goal.returns-in_err-map_head
 returns-in_err-map_head g c = serializes_out _ c.from_residual.ensures.1 c.in_err-map_head.ensures
 
 pub returns : goal.returns
-returns g c = serializes_then _ _ c.put_field.result c.in_ok-map_head.ensures (serializes_last c.put_field.result c.put_field.ensures)
+returns g c =
+    serializes_then _ _ c.put_field.result c.in_ok-map_head.ensures
+    (serializes_last c.put_field.result c.put_field.ensures)

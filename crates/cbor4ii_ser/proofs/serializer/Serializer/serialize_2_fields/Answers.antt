@@ -5,7 +5,12 @@ pub returns-in_err-map_head : goal.returns-in_err-map_head
 returns-in_err-map_head g c = serializes_out _ c.from_residual.ensures.1 c.in_err-map_head.ensures
 
 pub returns-in_err-put_field : goal.returns-in_err-put_field
-returns-in_err-put_field g c = serializes_then _ _ _ c.in_ok-map_head.ensures (serializes_out _ c.from_residual-in_err-put_field.ensures.1 c.in_err-put_field.ensures)
+returns-in_err-put_field g c =
+    serializes_then _ _ _ c.in_ok-map_head.ensures
+    (serializes_out _ c.from_residual-in_err-put_field.ensures.1 c.in_err-put_field.ensures)
 
 pub returns : goal.returns
-returns g c = serializes_then _ _ c.put_field-2.result c.in_ok-map_head.ensures (serializes_then _ _ c.put_field-2.result c.in_ok-put_field.ensures (serializes_last c.put_field-2.result c.put_field-2.ensures))
+returns g c =
+    serializes_then _ _ c.put_field-2.result c.in_ok-map_head.ensures
+    (serializes_then _ _ c.put_field-2.result c.in_ok-put_field.ensures
+    (serializes_last c.put_field-2.result c.put_field-2.ensures))

@@ -5,16 +5,34 @@ pub returns-in_err-map_head : goal.returns-in_err-map_head
 returns-in_err-map_head g c = serializes_out _ c.from_residual.ensures.1 c.in_err-map_head.ensures
 
 pub returns-in_err-put_field : goal.returns-in_err-put_field
-returns-in_err-put_field g c = serializes_then _ _ _ c.in_ok-map_head.ensures (serializes_out _ c.from_residual-in_err-put_field.ensures.1 c.in_err-put_field.ensures)
+returns-in_err-put_field g c =
+    serializes_then _ _ _ c.in_ok-map_head.ensures
+    (serializes_out _ c.from_residual-in_err-put_field.ensures.1 c.in_err-put_field.ensures)
 
 pub returns-in_err-put_field-2 : goal.returns-in_err-put_field-2
-returns-in_err-put_field-2 g c = serializes_then _ _ _ c.in_ok-map_head.ensures (serializes_then _ _ _ c.in_ok-put_field.ensures (serializes_out _ c.from_residual-in_err-put_field-2.ensures.1 c.in_err-put_field-2.ensures))
+returns-in_err-put_field-2 g c =
+    serializes_then _ _ _ c.in_ok-map_head.ensures
+    (serializes_then _ _ _ c.in_ok-put_field.ensures (serializes_out _
+    c.from_residual-in_err-put_field-2.ensures.1 c.in_err-put_field-2.ensures))
 
 pub returns-in_err-put_field-3 : goal.returns-in_err-put_field-3
-returns-in_err-put_field-3 g c = serializes_then _ _ _ c.in_ok-map_head.ensures (serializes_then _ _ _ c.in_ok-put_field.ensures (serializes_then _ _ _ c.in_ok-put_field-2.ensures (serializes_out _ c.from_residual-in_err-put_field-3.ensures.1 c.in_err-put_field-3.ensures)))
+returns-in_err-put_field-3 g c =
+    serializes_then _ _ _ c.in_ok-map_head.ensures (serializes_then _ _ _ c.in_ok-put_field.ensures
+    (serializes_then _ _ _ c.in_ok-put_field-2.ensures (serializes_out _
+    c.from_residual-in_err-put_field-3.ensures.1 c.in_err-put_field-3.ensures)))
 
 pub returns-in_err-put_field-4 : goal.returns-in_err-put_field-4
-returns-in_err-put_field-4 g c = serializes_then _ _ _ c.in_ok-map_head.ensures (serializes_then _ _ _ c.in_ok-put_field.ensures (serializes_then _ _ _ c.in_ok-put_field-2.ensures (serializes_then _ _ _ c.in_ok-put_field-3.ensures (serializes_out _ c.from_residual-in_err-put_field-4.ensures.1 c.in_err-put_field-4.ensures))))
+returns-in_err-put_field-4 g c =
+    serializes_then _ _ _ c.in_ok-map_head.ensures (serializes_then _ _ _ c.in_ok-put_field.ensures
+    (serializes_then _ _ _ c.in_ok-put_field-2.ensures
+    (serializes_then _ _ _ c.in_ok-put_field-3.ensures (serializes_out _
+    c.from_residual-in_err-put_field-4.ensures.1 c.in_err-put_field-4.ensures))))
 
 pub returns : goal.returns
-returns g c = serializes_then _ _ c.put_field-5.result c.in_ok-map_head.ensures (serializes_then _ _ c.put_field-5.result c.in_ok-put_field.ensures (serializes_then _ _ c.put_field-5.result c.in_ok-put_field-2.ensures (serializes_then _ _ c.put_field-5.result c.in_ok-put_field-3.ensures (serializes_then _ _ c.put_field-5.result c.in_ok-put_field-4.ensures (serializes_last c.put_field-5.result c.put_field-5.ensures)))))
+returns g c =
+    serializes_then _ _ c.put_field-5.result c.in_ok-map_head.ensures
+    (serializes_then _ _ c.put_field-5.result c.in_ok-put_field.ensures
+    (serializes_then _ _ c.put_field-5.result c.in_ok-put_field-2.ensures
+    (serializes_then _ _ c.put_field-5.result c.in_ok-put_field-3.ensures
+    (serializes_then _ _ c.put_field-5.result c.in_ok-put_field-4.ensures
+    (serializes_last c.put_field-5.result c.put_field-5.ensures)))))

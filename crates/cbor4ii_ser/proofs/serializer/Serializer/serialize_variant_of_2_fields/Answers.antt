@@ -2,7 +2,10 @@ use Rattle.cbor4ii_ser.specs.Laws.Joining.{serializes_then, serializes_out}
 use Rattle.cbor4ii_ser.proofs.serializer.Serializer.serialize_variant_of_2_fields.Goals as goal
 
 pub returns-in_err-variant_head : goal.returns-in_err-variant_head
-returns-in_err-variant_head g c = serializes_out _ c.from_residual.ensures.1 c.in_err-variant_head.ensures
+returns-in_err-variant_head g c =
+    serializes_out _ c.from_residual.ensures.1 c.in_err-variant_head.ensures
 
 pub returns : goal.returns
-returns g c = serializes_then _ _ c.serialize_2_fields.result c.in_ok-variant_head.ensures c.serialize_2_fields.ensures
+returns g c =
+    serializes_then _ _ c.serialize_2_fields.result c.in_ok-variant_head.ensures
+    c.serialize_2_fields.ensures

@@ -7,7 +7,12 @@ returns-then-holds_tag-clause-untouched g c = λ _. refl
 
 pub returns-then-holds_tag-clause-written : goal.returns-then-holds_tag-clause-written
 returns-then-holds_tag-clause-written g c =
-    rw (sym c.if-holds_tag.ensures) (record { appends = tt; counts = tt; failed = ((λ held told. told ∙ ap Some (sym (append-nil held)), refl), refl); front = λ whole held told. ([], refl, told ∙ ap Some (sym (append-nil held))) })
+    rw (sym c.if-holds_tag.ensures) (record {
+      appends = tt;
+      counts = tt;
+      failed = ((λ held told. told ∙ ap Some (sym (append-nil held)), refl), refl);
+      front = λ whole held told. ([], refl, told ∙ ap Some (sym (append-nil held)));
+    })
 
 pub returns-clause-written : goal.returns-clause-written
 returns-clause-written g c = rw (sym c.if-holds_tag.ensures) c.put.ensures

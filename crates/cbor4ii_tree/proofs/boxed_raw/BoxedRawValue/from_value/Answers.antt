@@ -6,9 +6,13 @@ use Rattle.cbor4ii_tree.proofs.boxed_raw.BoxedRawValue.from_value.Goals as goal
 
 pub returns-clause-content : goal.returns-clause-content
 returns-clause-content c =
-    let wrote = c.in_ok-encode.ensures.writes.appends [] (c.new-writer.ensures.written ∙ ap Some c.new.ensures.items) in
+    let wrote = c.in_ok-encode.ensures.writes.appends []
+    (c.new-writer.ensures.written ∙ ap Some c.new.ensures.items) in
     let inside = c.into_inner.ensures in
     cc
 
 pub returns-clause-spells : goal.returns-clause-spells
-returns-clause-spells c = subst (λ bs. Spells bs (with_bignums (view c.args.value.now)) (canon_cost (view c.args.value.now))) (sym (returns-clause-content c)) c.in_ok-encode.ensures.spells
+returns-clause-spells c =
+    subst (λ bs. Spells bs (with_bignums (view c.args.value.now))
+    (canon_cost (view c.args.value.now)))
+    (sym (returns-clause-content c)) c.in_ok-encode.ensures.spells

@@ -1,6 +1,12 @@
 use Rattle.std.proofs.lemmas.Result.{err_from_is_err_and}
 use Rattle.cbor4ii_items.specs.Laws.Steps.{moves_ok, moves_err}
-use Rattle.cbor4ii_tree.proofs.canonical.Decoding.{canonical_sound, canonical_only, canonical_all, canonical_spelling, canonical_every, canonical_front, canonical_exact, canonical_refuses, canonical_stops, refused_all, refused_every, refused_front, refused_eof, refused_depth, refused_never, refused_others, refused_value, refused_exact}
+use Rattle.cbor4ii_tree.proofs.canonical.Decoding.{canonical_sound, canonical_only, canonical_all}
+use Rattle.cbor4ii_tree.proofs.canonical.Decoding.{canonical_spelling, canonical_every}
+use Rattle.cbor4ii_tree.proofs.canonical.Decoding.{canonical_front, canonical_exact}
+use Rattle.cbor4ii_tree.proofs.canonical.Decoding.{canonical_refuses, canonical_stops, refused_all}
+use Rattle.cbor4ii_tree.proofs.canonical.Decoding.{refused_every, refused_front, refused_eof}
+use Rattle.cbor4ii_tree.proofs.canonical.Decoding.{refused_depth, refused_never, refused_others}
+use Rattle.cbor4ii_tree.proofs.canonical.Decoding.{refused_value, refused_exact}
 use Rattle.cbor4ii_tree.proofs.decode_canonical.CanonicalDecode.decode.Goals as goal
 
 pub returns-clause-sound : goal.returns-clause-sound

@@ -1,5 +1,7 @@
 use Rattle.cbor4ii_tree.proofs.values.Decoding.{value_sound, value_refuses, value_stops}
-use Rattle.cbor4ii_tree.proofs.answers.Promises.{only_reads, all_reads, front_reads, eof_reads, depth_reads, final_reads, others_reads, size_reads, exact_reads, skips_reads, canonical_reads}
+use Rattle.cbor4ii_tree.proofs.answers.Promises.{only_reads, all_reads, front_reads, eof_reads}
+use Rattle.cbor4ii_tree.proofs.answers.Promises.{depth_reads, final_reads, others_reads, size_reads}
+use Rattle.cbor4ii_tree.proofs.answers.Promises.{exact_reads, skips_reads, canonical_reads}
 use Rattle.cbor4ii_tree.proofs.decode_value.ValueDecode.decode.Goals as goal
 
 pub returns-clause-sound : goal.returns-clause-sound

@@ -1,6 +1,7 @@
 use Rattle.cbor4ii_tree.proofs.skip_calls.Ignoring.{ignored_sound, ignored_refuses}
 use Rattle.std.proofs.Common.{Ok, Err, refl}
-use Rattle.cbor4ii_tree.proofs.answers.Promises.{all_skips, front_skips, eof_skips, depth_skips, final_skips, others_skips, exact_skips}
+use Rattle.cbor4ii_tree.proofs.answers.Promises.{all_skips, front_skips, eof_skips, depth_skips}
+use Rattle.cbor4ii_tree.proofs.answers.Promises.{final_skips, others_skips, exact_skips}
 use Rattle.cbor4ii_tree.proofs.ignored.IgnoredAnyDecode.decode.Goals as goal
 
 pub returns-in-Ok-clause-moves : goal.returns-in-Ok-clause-moves
@@ -30,7 +31,8 @@ pub returns-in-Ok-clause-exact : goal.returns-in-Ok-clause-exact
 returns-in-Ok-clause-exact g c = exact_skips (Ok c.in-Ok.field-0) c.in-Ok.ensures.does
 
 pub returns-in-Err-clause-moves : goal.returns-in-Err-clause-moves
-returns-in-Err-clause-moves g c = record { by = c.in-Err.ensures.does.moves.by; depth = c.in-Err.ensures.does.moves.depth }
+returns-in-Err-clause-moves g c =
+    record { by = c.in-Err.ensures.does.moves.by; depth = c.in-Err.ensures.does.moves.depth }
 
 pub returns-in-Err-clause-stops : goal.returns-in-Err-clause-stops
 returns-in-Err-clause-stops g c exact = record { at = c.in-Err.ensures.does.err }

@@ -2,7 +2,10 @@ use Rattle.cbor4ii_tree.proofs.raw_items.Captured.{lends_nothing}
 use Rattle.cbor4ii_tree.proofs.raw.RawValueLendRaw.lend_front.Goals as goal
 
 pub returns-then-front-eq0-clause-lent : goal.returns-then-front-eq0-clause-lent
-returns-then-front-eq0-clause-lent g c = lends_nothing _ _ _ _ _ c.in-Some-Short.is c.in-Some-Short.field-0-is c.lend.follows.holds-at-none c.in-Some-Short.ensures.front c.in-Some-Short.ensures.long c.if-front-eq0.true
+returns-then-front-eq0-clause-lent g c =
+    lends_nothing _ _ _ _ _ c.in-Some-Short.is c.in-Some-Short.field-0-is
+    c.lend.follows.holds-at-none c.in-Some-Short.ensures.front c.in-Some-Short.ensures.long
+    c.if-front-eq0.true
 
 pub returns-in-Some-Long-clause-lacks : goal.returns-in-Some-Long-clause-lacks
 returns-in-Some-Long-clause-lacks g c = tt

@@ -7,4 +7,5 @@ pub returns-clause-answer : goal.returns-clause-answer
 returns-clause-answer c =
     let a = view c.args.self.now in
     let b = view c.args.other.now in
-    same_from_decides c.same_value.result (item_eq a b) (c.same_value.ensures.0, c.same_value.ensures.1) (item_eq-Decides a b)
+    same_from_decides c.same_value.result (item_eq a b)
+    (c.same_value.ensures.0, c.same_value.ensures.1) (item_eq-Decides a b)

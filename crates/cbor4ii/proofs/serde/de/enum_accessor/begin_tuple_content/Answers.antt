@@ -5,10 +5,12 @@ use Rattle.cbor4ii.proofs.Contents.{content_refuses, content_stops}
 use Rattle.cbor4ii.proofs.serde.de.enum_accessor.begin_tuple_content.Goals as goal
 
 pub returns-in-Err-clause-complete : goal.returns-in-Err-clause-complete
-returns-in-Err-clause-complete g c = content_refuses _ c.if-not-content.false c.in-Err.ensures.complete
+returns-in-Err-clause-complete g c =
+    content_refuses _ c.if-not-content.false c.in-Err.ensures.complete
 
 pub returns-in-Err-clause-stops : goal.returns-in-Err-clause-stops
-returns-in-Err-clause-stops g c = content_stops _ _ c.if-not-content.false c.step_out-in-Err.ensures.others c.in-Err.ensures.stops
+returns-in-Err-clause-stops g c =
+    content_stops _ _ c.if-not-content.false c.step_out-in-Err.ensures.others c.in-Err.ensures.stops
 
 pub returns-then-not-content-clause-opened : goal.returns-then-not-content-clause-opened
 returns-then-not-content-clause-opened g c = tt
@@ -17,7 +19,12 @@ pub returns-then-not-content-clause-memory : goal.returns-then-not-content-claus
 returns-then-not-content-clause-memory g c = refl
 
 pub returns-then-not-content-clause-finishes : goal.returns-then-not-content-clause-finishes
-returns-then-not-content-clause-finishes g c = record { within = _; moves = record { by = kept_alike _; depth = λ e. refl }; closes = record { budget = c.step_out.ensures.budget; others = c.step_out.ensures.others } }
+returns-then-not-content-clause-finishes g c =
+    record {
+      within = _;
+      moves = record { by = kept_alike _; depth = λ e. refl };
+      closes = record { budget = c.step_out.ensures.budget; others = c.step_out.ensures.others };
+    }
 
 pub returns-in-Ok-clause-finishes : goal.returns-in-Ok-clause-finishes
 returns-in-Ok-clause-finishes g c = tt
@@ -47,4 +54,13 @@ pub returns-in-Err-clause-memory : goal.returns-in-Err-clause-memory
 returns-in-Err-clause-memory g c = c.in-Err.ensures.memory
 
 pub returns-in-Err-clause-finishes : goal.returns-in-Err-clause-finishes
-returns-in-Err-clause-finishes g c = record { within = _; moves = moves_err c.in-Err.ensures.moves; closes = record { budget = c.step_out-in-Err.ensures.budget; others = c.step_out-in-Err.ensures.others } }
+returns-in-Err-clause-finishes g c =
+    record {
+      within = _;
+      moves = moves_err c.in-Err.ensures.moves;
+      closes = record {
+        budget =
+            c.step_out-in-Err.ensures.budget;
+        others = c.step_out-in-Err.ensures.others;
+      };
+    }

@@ -1,17 +1,24 @@
 use Rattle.cbor4ii_items.specs.Laws.Steps.{moves_err}
 use Rattle.std.proofs.Common.{refl, arith}
 use Rattle.cbor4ii.proofs.Looking.{kept_next, saw}
-use Rattle.cbor4ii.proofs.Contents.{entry_sound, name_sound, other_refuses, other_stops, form_missing, form_ended}
+use Rattle.cbor4ii.proofs.Contents.{entry_sound, name_sound, other_refuses, other_stops}
+use Rattle.cbor4ii.proofs.Contents.{form_missing, form_ended}
 use Rattle.cbor4ii.proofs.serde.de.enum_accessor.take_form.Goals as goal
 
 pub returns-then-first-clause-moves : goal.returns-then-first-clause-moves
-returns-then-first-clause-moves g c = record { by = kept_next c.in-Ok.ensures.moves c.in-Ok.ensures.sound (omega (arith, c.if-first.true)) c.advance.ensures; depth = λ e. refl }
+returns-then-first-clause-moves g c = record {
+  by = kept_next c.in-Ok.ensures.moves
+      c.in-Ok.ensures.sound (omega (arith, c.if-first.true)) c.advance.ensures;
+  depth = λ e. refl;
+}
 
 pub returns-then-first-clause-sound : goal.returns-then-first-clause-sound
-returns-then-first-clause-sound g c = entry_sound (saw c.in-Ok.ensures.moves c.in-Ok.ensures.sound) c.if-first.true c.advance.ensures
+returns-then-first-clause-sound g c =
+    entry_sound (saw c.in-Ok.ensures.moves c.in-Ok.ensures.sound) c.if-first.true c.advance.ensures
 
 pub returns-then-first-eq-STRING-clause-sound : goal.returns-then-first-eq-STRING-clause-sound
-returns-then-first-eq-STRING-clause-sound g c = name_sound (saw c.in-Ok.ensures.moves c.in-Ok.ensures.sound) c.if-first-eq-STRING.true
+returns-then-first-eq-STRING-clause-sound g c =
+    name_sound (saw c.in-Ok.ensures.moves c.in-Ok.ensures.sound) c.if-first-eq-STRING.true
 
 pub returns-in-Err-clause-complete : goal.returns-in-Err-clause-complete
 returns-in-Err-clause-complete g c = form_missing c.in-Err.ensures.complete
@@ -20,10 +27,14 @@ pub returns-in-Err-clause-stops : goal.returns-in-Err-clause-stops
 returns-in-Err-clause-stops g c = form_ended c.in-Err.ensures.stops
 
 pub returns-else-first-eq-STRING-clause-complete : goal.returns-else-first-eq-STRING-clause-complete
-returns-else-first-eq-STRING-clause-complete g c = other_refuses (saw c.in-Ok.ensures.moves c.in-Ok.ensures.sound) c.if-first.false c.if-first-eq-STRING.false
+returns-else-first-eq-STRING-clause-complete g c =
+    other_refuses (saw c.in-Ok.ensures.moves c.in-Ok.ensures.sound) c.if-first.false
+    c.if-first-eq-STRING.false
 
 pub returns-else-first-eq-STRING-clause-stops : goal.returns-else-first-eq-STRING-clause-stops
-returns-else-first-eq-STRING-clause-stops g c = other_stops refl (saw c.in-Ok.ensures.moves c.in-Ok.ensures.sound) c.if-first.false c.if-first-eq-STRING.false
+returns-else-first-eq-STRING-clause-stops g c =
+    other_stops refl (saw c.in-Ok.ensures.moves c.in-Ok.ensures.sound) c.if-first.false
+    c.if-first-eq-STRING.false
 
 pub returns-then-first-clause-memory : goal.returns-then-first-clause-memory
 returns-then-first-clause-memory g c = tt
@@ -38,7 +49,8 @@ pub returns-then-first-clause-failed : goal.returns-then-first-clause-failed
 returns-then-first-clause-failed g c is = cc
 
 pub returns-then-first-eq-STRING-clause-moves : goal.returns-then-first-eq-STRING-clause-moves
-returns-then-first-eq-STRING-clause-moves g c = record { by = c.in-Ok.ensures.moves.by; depth = λ e. refl }
+returns-then-first-eq-STRING-clause-moves g c =
+    record { by = c.in-Ok.ensures.moves.by; depth = λ e. refl }
 
 pub returns-then-first-eq-STRING-clause-memory : goal.returns-then-first-eq-STRING-clause-memory
 returns-then-first-eq-STRING-clause-memory g c = tt
@@ -53,7 +65,8 @@ pub returns-then-first-eq-STRING-clause-failed : goal.returns-then-first-eq-STRI
 returns-then-first-eq-STRING-clause-failed g c is = cc
 
 pub returns-else-first-eq-STRING-clause-moves : goal.returns-else-first-eq-STRING-clause-moves
-returns-else-first-eq-STRING-clause-moves g c = record { by = c.in-Ok.ensures.moves.by; depth = λ e. refl }
+returns-else-first-eq-STRING-clause-moves g c =
+    record { by = c.in-Ok.ensures.moves.by; depth = λ e. refl }
 
 pub returns-else-first-eq-STRING-clause-memory : goal.returns-else-first-eq-STRING-clause-memory
 returns-else-first-eq-STRING-clause-memory g c = refl

@@ -2,4 +2,6 @@ use Rattle.cbor4ii.proofs.Firsts.{first_lent}
 use Rattle.cbor4ii.proofs.serde.de.first.from_slice.Goals as goal
 
 pub returns : goal.returns
-returns g c = first_lent _ _ _ _ _ c.read_first.result _ (c.read_first.ensures c.reader.ensures.budget) c.reader.ensures.told c.reader.ensures.lends
+returns g c =
+    first_lent _ _ _ _ _ c.read_first.result _ (c.read_first.ensures c.reader.ensures.budget)
+    c.reader.ensures.told c.reader.ensures.lends

@@ -19,13 +19,20 @@ returns-in-Ok-clause-opened g c = record {
 }
 
 pub returns-in-Err-clause-moves : goal.returns-in-Err-clause-moves
-returns-in-Err-clause-moves g c = moves_stepped (Err c.in-Err.error) _ _ _ _ c.if-not-step_in.ensures.budget c.step_in.ensures.others (moves_err c.in-Err.ensures.moves) c.step_out.ensures.budget c.step_out.ensures.others
+returns-in-Err-clause-moves g c =
+    moves_stepped (Err c.in-Err.error) _ _ _ _ c.if-not-step_in.ensures.budget
+    c.step_in.ensures.others (moves_err c.in-Err.ensures.moves) c.step_out.ensures.budget
+    c.step_out.ensures.others
 
 pub returns-in-Err-clause-complete : goal.returns-in-Err-clause-complete
-returns-in-Err-clause-complete g c = refuses_stepped _ c.if-not-step_in.ensures.budget c.step_in.ensures.others c.in-Err.ensures.complete
+returns-in-Err-clause-complete g c =
+    refuses_stepped _ c.if-not-step_in.ensures.budget c.step_in.ensures.others
+    c.in-Err.ensures.complete
 
 pub returns-in-Err-clause-stops : goal.returns-in-Err-clause-stops
-returns-in-Err-clause-stops g c = stops_stepped _ _ c.if-not-step_in.ensures.budget c.step_in.ensures.others c.step_out.ensures.others c.in-Err.ensures.stops
+returns-in-Err-clause-stops g c =
+    stops_stepped _ _ c.if-not-step_in.ensures.budget c.step_in.ensures.others
+    c.step_out.ensures.others c.in-Err.ensures.stops
 
 pub returns-then-not-step_in-clause-opened : goal.returns-then-not-step_in-clause-opened
 returns-then-not-step_in-clause-opened g c = tt
@@ -34,7 +41,9 @@ pub returns-then-not-step_in-clause-memory : goal.returns-then-not-step_in-claus
 returns-then-not-step_in-clause-memory g c = refl
 
 pub returns-then-not-step_in-clause-stops : goal.returns-then-not-step_in-clause-stops
-returns-then-not-step_in-clause-stops g c = stops_no_step _ (StopsCountOf c.args.len) c.if-not-step_in.ensures.budget c.step_in.ensures.others
+returns-then-not-step_in-clause-stops g c =
+    stops_no_step _ (StopsCountOf c.args.len) c.if-not-step_in.ensures.budget
+    c.step_in.ensures.others
 
 pub returns-in-Err-clause-opened : goal.returns-in-Err-clause-opened
 returns-in-Err-clause-opened g c = tt

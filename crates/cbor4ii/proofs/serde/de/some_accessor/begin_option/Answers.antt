@@ -1,7 +1,8 @@
 use Rattle.cbor4ii_items.specs.Laws.Steps.{moves_err}
 use Rattle.std.proofs.Common.{refl, inl, inr, arith}
 use Rattle.cbor4ii.proofs.Looking.{kept_next, saw, no_option}
-use Rattle.cbor4ii.proofs.Presence.{null_coming, value_coming, no_step_refuses, no_step_stops, presence_ended, no_null}
+use Rattle.cbor4ii.proofs.Presence.{null_coming, value_coming, no_step_refuses, no_step_stops}
+use Rattle.cbor4ii.proofs.Presence.{presence_ended, no_null}
 use Rattle.cbor4ii.proofs.serde.de.some_accessor.begin_option.Goals.{then-first-via-then-first, then-first-via-else-first+then-first-2}
 use Rattle.cbor4ii.proofs.serde.de.some_accessor.begin_option.Goals as goal
 
@@ -10,20 +11,30 @@ returns-then-first-clause-opened g c =
     let seen = saw c.in-Ok.ensures.moves c.in-Ok.ensures.sound in
     record {
       within = g.S.Source.view c.advance.new.self;
-      kept = kept_next c.in-Ok.ensures.moves c.in-Ok.ensures.sound (elim c.then-first.branch [ then-first-via-then-first w ↦ omega (arith, w.if-first.true) | then-first-via-else-first+then-first-2 w ↦ omega (arith, w.if-first-2.true) ]) c.advance.ensures;
+      kept =
+          kept_next c.in-Ok.ensures.moves c.in-Ok.ensures.sound (elim c.then-first.branch [
+            | then-first-via-then-first w ↦ omega (arith, w.if-first.true)
+            | then-first-via-else-first+then-first-2 w ↦ omega (arith, w.if-first-2.true)
+          ])
+          c.advance.ensures;
       coming = elim c.then-first.branch [
         | then-first-via-then-first w ↦ null_coming seen (inl w.if-first.true) c.advance.ensures
-        | then-first-via-else-first+then-first-2 w ↦ null_coming seen (inr w.if-first-2.true) c.advance.ensures
+        | then-first-via-else-first+then-first-2 w ↦
+            null_coming seen (inr w.if-first-2.true) c.advance.ensures
       ];
       progress = λ e. omega (arith, c.advance.ensures.bound, c.in-Ok.ensures.moves.by.bound);
       held = refl;
     }
 
 pub returns-then-not-step_in-clause-complete : goal.returns-then-not-step_in-clause-complete
-returns-then-not-step_in-clause-complete g c = no_step_refuses _ (saw c.in-Ok.ensures.moves c.in-Ok.ensures.sound) c.if-first.false c.if-first-2.false c.if-not-step_in.ensures.budget
+returns-then-not-step_in-clause-complete g c =
+    no_step_refuses _ (saw c.in-Ok.ensures.moves c.in-Ok.ensures.sound) c.if-first.false
+    c.if-first-2.false c.if-not-step_in.ensures.budget
 
 pub returns-then-not-step_in-clause-stops : goal.returns-then-not-step_in-clause-stops
-returns-then-not-step_in-clause-stops g c = no_step_stops refl (saw c.in-Ok.ensures.moves c.in-Ok.ensures.sound) c.if-not-step_in.ensures.budget c.step_in.ensures.others
+returns-then-not-step_in-clause-stops g c =
+    no_step_stops refl (saw c.in-Ok.ensures.moves c.in-Ok.ensures.sound)
+    c.if-not-step_in.ensures.budget c.step_in.ensures.others
 
 pub returns-in-Err-clause-complete : goal.returns-in-Err-clause-complete
 returns-in-Err-clause-complete g c = no_option _ c.in-Err.ensures.complete
@@ -35,7 +46,9 @@ pub returns-else-not-step_in-clause-opened : goal.returns-else-not-step_in-claus
 returns-else-not-step_in-clause-opened g c = record {
   within = g.S.Source.view c.peek.new.reader;
   kept = c.in-Ok.ensures.moves.by;
-  coming = value_coming (saw c.in-Ok.ensures.moves c.in-Ok.ensures.sound) c.if-first.false c.if-first-2.false;
+  coming =
+      value_coming (saw c.in-Ok.ensures.moves c.in-Ok.ensures.sound) c.if-first.false
+      c.if-first-2.false;
   progress = λ e. absurd (no_null e);
   held = (c.if-not-step_in.ensures.budget, c.step_in.ensures.others);
 }

@@ -1,31 +1,42 @@
 use Rattle.cbor4ii_items.specs.Laws.Steps.{moves_err}
 use Rattle.std.proofs.Common.{refl}
-use Rattle.cbor4ii.proofs.Tupled.{count_sound, count_other, count_none, not_count, not_open, count_missing, count_differs, counted_len, open_len}
+use Rattle.cbor4ii.proofs.Tupled.{count_sound, count_other, count_none, not_count, not_open}
+use Rattle.cbor4ii.proofs.Tupled.{count_missing, count_differs, counted_len, open_len}
 use Rattle.cbor4ii.proofs.serde.de.tuples.take_count.Goals as goal
 
 pub returns-then-found-count-clause-sound : goal.returns-then-found-count-clause-sound
-returns-then-found-count-clause-sound g c = count_sound c.in-Ok-Some.field-0-is c.if-found-count.true c.in-Ok-Some.ensures.sound
+returns-then-found-count-clause-sound g c =
+    count_sound c.in-Ok-Some.field-0-is c.if-found-count.true c.in-Ok-Some.ensures.sound
 
 pub returns-else-found-count-clause-complete : goal.returns-else-found-count-clause-complete
-returns-else-found-count-clause-complete g c = count_other (not_count c.in-Ok-Some.field-0-is c.if-found-count.false) c.in-Ok-Some.ensures.sound
+returns-else-found-count-clause-complete g c =
+    count_other (not_count c.in-Ok-Some.field-0-is c.if-found-count.false)
+    c.in-Ok-Some.ensures.sound
 
 pub returns-in-Ok-None-clause-complete : goal.returns-in-Ok-None-clause-complete
-returns-in-Ok-None-clause-complete g c = count_other (not_open c.in-Ok-None.field-0-is) c.in-Ok-None.ensures.sound
+returns-in-Ok-None-clause-complete g c =
+    count_other (not_open c.in-Ok-None.field-0-is) c.in-Ok-None.ensures.sound
 
 pub returns-in-Err-clause-complete : goal.returns-in-Err-clause-complete
 returns-in-Err-clause-complete g c = count_none c.in-Err.ensures.complete
 
 pub returns-else-found-count-clause-stops : goal.returns-else-found-count-clause-stops
-returns-else-found-count-clause-stops g c = count_differs refl (not_count c.in-Ok-Some.field-0-is c.if-found-count.false) (counted_len c.in-Ok-Some.field-0-is c.new.ensures.small c.new.ensures.big) c.in-Ok-Some.ensures.sound
+returns-else-found-count-clause-stops g c =
+    count_differs refl (not_count c.in-Ok-Some.field-0-is c.if-found-count.false)
+    (counted_len c.in-Ok-Some.field-0-is c.new.ensures.small c.new.ensures.big)
+    c.in-Ok-Some.ensures.sound
 
 pub returns-in-Ok-None-clause-stops : goal.returns-in-Ok-None-clause-stops
-returns-in-Ok-None-clause-stops g c = count_differs refl (not_open c.in-Ok-None.field-0-is) (open_len c.in-Ok-None.field-0-is) c.in-Ok-None.ensures.sound
+returns-in-Ok-None-clause-stops g c =
+    count_differs refl (not_open c.in-Ok-None.field-0-is)
+    (open_len c.in-Ok-None.field-0-is) c.in-Ok-None.ensures.sound
 
 pub returns-in-Err-clause-stops : goal.returns-in-Err-clause-stops
 returns-in-Err-clause-stops g c = count_missing c.in-Err.ensures.stops
 
 pub returns-then-found-count-clause-moves : goal.returns-then-found-count-clause-moves
-returns-then-found-count-clause-moves g c = record { by = c.in-Ok-Some.ensures.moves.by; depth = λ e. refl }
+returns-then-found-count-clause-moves g c =
+    record { by = c.in-Ok-Some.ensures.moves.by; depth = λ e. refl }
 
 pub returns-then-found-count-clause-progress : goal.returns-then-found-count-clause-progress
 returns-then-found-count-clause-progress g c = c.in-Ok-Some.ensures.progress
@@ -40,7 +51,8 @@ pub returns-then-found-count-clause-stops : goal.returns-then-found-count-clause
 returns-then-found-count-clause-stops g c = tt
 
 pub returns-else-found-count-clause-moves : goal.returns-else-found-count-clause-moves
-returns-else-found-count-clause-moves g c = record { by = c.in-Ok-Some.ensures.moves.by; depth = λ e. refl }
+returns-else-found-count-clause-moves g c =
+    record { by = c.in-Ok-Some.ensures.moves.by; depth = λ e. refl }
 
 pub returns-else-found-count-clause-memory : goal.returns-else-found-count-clause-memory
 returns-else-found-count-clause-memory g c = refl
@@ -52,7 +64,8 @@ pub returns-else-found-count-clause-sound : goal.returns-else-found-count-clause
 returns-else-found-count-clause-sound g c = tt
 
 pub returns-in-Ok-None-clause-moves : goal.returns-in-Ok-None-clause-moves
-returns-in-Ok-None-clause-moves g c = record { by = c.in-Ok-None.ensures.moves.by; depth = λ e. refl }
+returns-in-Ok-None-clause-moves g c =
+    record { by = c.in-Ok-None.ensures.moves.by; depth = λ e. refl }
 
 pub returns-in-Ok-None-clause-memory : goal.returns-in-Ok-None-clause-memory
 returns-in-Ok-None-clause-memory g c = refl

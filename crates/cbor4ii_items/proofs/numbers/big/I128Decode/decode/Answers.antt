@@ -6,7 +6,8 @@ pub returns-clause-sound : goal.returns-clause-sound
 returns-clause-sound g c = leaf_sound i128_leaf c.take_i128.result c.take_i128.ensures.runs
 
 pub returns-clause-complete : goal.returns-clause-complete
-returns-clause-complete g c exact = leaf_complete i128_leaf c.take_i128.result c.take_i128.ensures.runs
+returns-clause-complete g c exact =
+    leaf_complete i128_leaf c.take_i128.result c.take_i128.ensures.runs
 
 pub returns-clause-stops : goal.returns-clause-stops
 returns-clause-stops g c exact = leaf_stops i128_leaf c.take_i128.result c.take_i128.ensures.runs

@@ -29,7 +29,8 @@ returns-in_err-lone_head-clause-moves g c =
     rw (p.1, p.2) (moves_err c.in_err-lone_head.ensures.runs.moves)
 
 pub returns-in_err-lone_head-clause-progress : goal.returns-in_err-lone_head-clause-progress
-returns-in_err-lone_head-clause-progress g c = λ never. rw (err_from_is_err_and c.from_residual.result c.from_residual.ensures.1).1 tt
+returns-in_err-lone_head-clause-progress g c =
+    λ never. rw (err_from_is_err_and c.from_residual.result c.from_residual.ensures.1).1 tt
 
 pub returns-in_err-lone_head-clause-memory : goal.returns-in_err-lone_head-clause-memory
 returns-in_err-lone_head-clause-memory g c =
@@ -37,7 +38,8 @@ returns-in_err-lone_head-clause-memory g c =
     rw (p.1, p.2) (λ h. sym c.in_err-lone_head.ensures.memory ∙ h)
 
 pub returns-in_err-lone_head-clause-sound : goal.returns-in_err-lone_head-clause-sound
-returns-in_err-lone_head-clause-sound g c = rw (err_from_is_err_and c.from_residual.result c.from_residual.ensures.1).1 tt
+returns-in_err-lone_head-clause-sound g c =
+    rw (err_from_is_err_and c.from_residual.result c.from_residual.ensures.1).1 tt
 
 pub returns-clause-moves : goal.returns-clause-moves
 returns-clause-moves g c = moves_ok c.in_ok-lone_head.ensures.runs.moves

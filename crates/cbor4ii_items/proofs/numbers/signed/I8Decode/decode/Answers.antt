@@ -28,7 +28,8 @@ returns-in_err-lone_signed-clause-moves g c =
     rw (p.1, p.2) (moves_err c.in_err-lone_signed.ensures.runs.moves)
 
 pub returns-in_err-lone_signed-clause-progress : goal.returns-in_err-lone_signed-clause-progress
-returns-in_err-lone_signed-clause-progress g c = λ never. rw (err_from_is_err_and c.from_residual.result c.from_residual.ensures.1).1 tt
+returns-in_err-lone_signed-clause-progress g c =
+    λ never. rw (err_from_is_err_and c.from_residual.result c.from_residual.ensures.1).1 tt
 
 pub returns-in_err-lone_signed-clause-memory : goal.returns-in_err-lone_signed-clause-memory
 returns-in_err-lone_signed-clause-memory g c =
@@ -36,7 +37,8 @@ returns-in_err-lone_signed-clause-memory g c =
     rw (p.1, p.2) (λ h. sym c.in_err-lone_signed.ensures.memory ∙ h)
 
 pub returns-in_err-lone_signed-clause-sound : goal.returns-in_err-lone_signed-clause-sound
-returns-in_err-lone_signed-clause-sound g c = rw (err_from_is_err_and c.from_residual.result c.from_residual.ensures.1).1 tt
+returns-in_err-lone_signed-clause-sound g c =
+    rw (err_from_is_err_and c.from_residual.result c.from_residual.ensures.1).1 tt
 
 pub returns-clause-moves : goal.returns-clause-moves
 returns-clause-moves g c = moves_ok c.in_ok-lone_signed.ensures.runs.moves
@@ -46,6 +48,15 @@ returns-clause-progress g c = λ never. c.in_ok-lone_signed.ensures.progress
 
 pub overflow_cast-result : goal.overflow_cast-result
 overflow_cast-result g c =
-    let fits : FitsSigned w8 c.in_ok-lone_signed.field-0 = (elim c.in_ok-lone_signed.field-0 as (λ z. IsWithin (2 ^ 7) z → FitsSigned w8 z) [ pos k ↦ λ h. record { sfits = h } | negsuc k ↦ λ h. record { sfits = h } ]) c.in_ok-lone_signed.ensures.range in
-    let wide : to_z w64 (of_z w64 c.in_ok-lone_signed.field-0) ≡ c.in_ok-lone_signed.field-0 = to_z-of_z w64 c.in_ok-lone_signed.field-0 ((elim c.in_ok-lone_signed.field-0 as (λ z. IsWithin (2 ^ 7) z → FitsSigned w64 z) [ pos k ↦ λ h. record { sfits = omega (arith, h) } | negsuc k ↦ λ h. record { sfits = omega (arith, h) } ]) c.in_ok-lone_signed.ensures.range) in
+    let fits : FitsSigned w8 c.in_ok-lone_signed.field-0 =
+    (elim c.in_ok-lone_signed.field-0 as (λ z. IsWithin (2 ^ 7) z → FitsSigned w8 z)
+    [ pos k ↦ λ h. record { sfits = h } | negsuc k ↦ λ h. record { sfits = h } ])
+    c.in_ok-lone_signed.ensures.range in
+    let wide : to_z w64 (of_z w64 c.in_ok-lone_signed.field-0) ≡ c.in_ok-lone_signed.field-0 =
+    to_z-of_z w64 c.in_ok-lone_signed.field-0
+    ((elim c.in_ok-lone_signed.field-0 as (λ z. IsWithin (2 ^ 7) z → FitsSigned w64 z) [
+      | pos k ↦ λ h. record { sfits = omega (arith, h) }
+      | negsuc k ↦ λ h.
+          record { sfits = omega (arith, h) }
+    ]) c.in_ok-lone_signed.ensures.range) in
     subst (FitsSigned w8) (sym wide) fits

@@ -5,4 +5,5 @@ pub returns-clause-sound : goal.returns-clause-sound
 returns-clause-sound g c = vec_sound c.take_sequence.result _ _ _ c.take_sequence.ensures.sound
 
 pub returns-clause-complete : goal.returns-clause-complete
-returns-clause-complete g c exact = vec_refuses c.take_sequence.result _ _ (c.take_sequence.ensures.complete exact)
+returns-clause-complete g c exact =
+    vec_refuses c.take_sequence.result _ _ (c.take_sequence.ensures.complete exact)

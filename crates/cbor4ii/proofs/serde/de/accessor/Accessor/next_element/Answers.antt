@@ -1,33 +1,43 @@
 use Rattle.cbor4ii_items.specs.Laws.Answering.{exact_kept}
 use Rattle.cbor4ii_items.specs.Laws.Steps.{moves_then, moves_ok, moves_err}
-use Rattle.cbor4ii.proofs.Going.{next_end, next_part, next_no_start, next_no_part, none_stops, part_stops}
+use Rattle.cbor4ii.proofs.Going.{next_end, next_part, next_no_start, next_no_part, none_stops}
+use Rattle.cbor4ii.proofs.Going.{part_stops}
 use Rattle.cbor4ii.proofs.Beginnings.{said_left}
 use Rattle.cbor4ii.proofs.serde.de.accessor.Accessor.next_element.Goals as goal
 
 pub returns-in-Ok-clause-moves : goal.returns-in-Ok-clause-moves
-returns-in-Ok-clause-moves g c = moves_then c.in-Ok-true.ensures.moves.by (moves_ok c.in-Ok.ensures.moves)
+returns-in-Ok-clause-moves g c =
+    moves_then c.in-Ok-true.ensures.moves.by (moves_ok c.in-Ok.ensures.moves)
 
 pub returns-in-Ok-clause-sound : goal.returns-in-Ok-clause-sound
-returns-in-Ok-clause-sound g c = next_part _ _ c.in-Ok-true.ensures.moves.by (rw c.in-Ok-true.field-0-test at c.in-Ok-true.ensures.sound) c.in-Ok.ensures.sound
+returns-in-Ok-clause-sound g c =
+    next_part _ _ c.in-Ok-true.ensures.moves.by
+    (rw c.in-Ok-true.field-0-test at c.in-Ok-true.ensures.sound) c.in-Ok.ensures.sound
 
 pub returns-in-Err-deserialize-clause-moves : goal.returns-in-Err-deserialize-clause-moves
-returns-in-Err-deserialize-clause-moves g c = moves_then c.in-Ok-true.ensures.moves.by (moves_err c.in-Err-deserialize.ensures.moves)
+returns-in-Err-deserialize-clause-moves g c =
+    moves_then c.in-Ok-true.ensures.moves.by (moves_err c.in-Err-deserialize.ensures.moves)
 
 pub returns-in-Err-deserialize-clause-complete : goal.returns-in-Err-deserialize-clause-complete
 returns-in-Err-deserialize-clause-complete g c said exact =
     let stands = rw c.in-Ok-true.field-0-test at c.in-Ok-true.ensures.sound in
-    next_no_part _ _ c.in-Ok-true.ensures.moves.by stands (λ xs told. c.in-Err-deserialize.ensures.complete said (exact_kept _ _ _ xs told c.in-Ok-true.ensures.moves.by exact))
+    next_no_part _ _ c.in-Ok-true.ensures.moves.by stands
+    (λ xs told. c.in-Err-deserialize.ensures.complete said
+    (exact_kept _ _ _ xs told c.in-Ok-true.ensures.moves.by exact))
 
 pub returns-in-Err-deserialize-clause-stops : goal.returns-in-Err-deserialize-clause-stops
 returns-in-Err-deserialize-clause-stops g c =
-    let part = said_left _ _ c.in-Err-deserialize.ensures.moves c.in-Err-deserialize.ensures.stops in
-    part_stops _ _ c.in-Ok-true.ensures.moves.by (rw c.in-Ok-true.field-0-test at c.in-Ok-true.ensures.sound) part
+    let part =
+    said_left _ _ c.in-Err-deserialize.ensures.moves c.in-Err-deserialize.ensures.stops in
+    part_stops _ _ c.in-Ok-true.ensures.moves.by
+    (rw c.in-Ok-true.field-0-test at c.in-Ok-true.ensures.sound) part
 
 pub returns-in-Err-clause-stops : goal.returns-in-Err-clause-stops
 returns-in-Err-clause-stops g c = none_stops _ _ c.in-Err.ensures.stops
 
 pub returns-in-Ok-false-clause-sound : goal.returns-in-Ok-false-clause-sound
-returns-in-Ok-false-clause-sound g c = next_end _ _ (rw c.in-Ok-false.field-0-test at c.in-Ok-false.ensures.sound)
+returns-in-Ok-false-clause-sound g c =
+    next_end _ _ (rw c.in-Ok-false.field-0-test at c.in-Ok-false.ensures.sound)
 
 pub returns-in-Err-clause-complete : goal.returns-in-Err-clause-complete
 returns-in-Err-clause-complete g c said exact = next_no_start _ _ c.in-Err.ensures.complete
@@ -56,7 +66,8 @@ returns-in-Ok-clause-complete g c said exact = tt
 pub returns-in-Ok-clause-stops : goal.returns-in-Ok-clause-stops
 returns-in-Ok-clause-stops g c = tt
 
-pub returns-in-Err-deserialize-clause-same_reference : goal.returns-in-Err-deserialize-clause-same_reference
+pub returns-in-Err-deserialize-clause-same_reference :
+    goal.returns-in-Err-deserialize-clause-same_reference
 returns-in-Err-deserialize-clause-same_reference g c = c.in-Ok-true.ensures.same_reference
 
 pub returns-in-Err-deserialize-clause-same_steps : goal.returns-in-Err-deserialize-clause-same_steps

@@ -4,10 +4,12 @@ use Rattle.cbor4ii.proofs.Going.{start_break, start_other, start_refuses}
 use Rattle.cbor4ii.proofs.serde.de.accessor.Accessor.starts_element.Goals as goal
 
 pub returns-in-Ok-true-clause-sound : goal.returns-in-Ok-true-clause-sound
-returns-in-Ok-true-clause-sound g c = rw c.in-Open.is (start_break (rw c.in-Ok-true.field-0-test at c.in-Ok-true.ensures.sound))
+returns-in-Ok-true-clause-sound g c =
+    rw c.in-Open.is (start_break (rw c.in-Ok-true.field-0-test at c.in-Ok-true.ensures.sound))
 
 pub returns-in-Ok-false-clause-sound : goal.returns-in-Ok-false-clause-sound
-returns-in-Ok-false-clause-sound g c = rw c.in-Open.is (start_other (rw c.in-Ok-false.field-0-test at c.in-Ok-false.ensures.sound))
+returns-in-Ok-false-clause-sound g c =
+    rw c.in-Open.is (start_other (rw c.in-Ok-false.field-0-test at c.in-Ok-false.ensures.sound))
 
 pub returns-in-Err-clause-complete : goal.returns-in-Err-clause-complete
 returns-in-Err-clause-complete g c = rw c.in-Open.is (start_refuses c.in-Err.ensures.complete)
@@ -73,19 +75,22 @@ pub returns-in-Counted-clause-still : goal.returns-in-Counted-clause-still
 returns-in-Counted-clause-still g c not = refl
 
 pub returns-in-Ok-true-clause-moves : goal.returns-in-Ok-true-clause-moves
-returns-in-Ok-true-clause-moves g c = record { by = c.in-Ok-true.ensures.moves.by; depth = λ e. refl }
+returns-in-Ok-true-clause-moves g c =
+    record { by = c.in-Ok-true.ensures.moves.by; depth = λ e. refl }
 
 pub returns-in-Ok-true-clause-failed : goal.returns-in-Ok-true-clause-failed
 returns-in-Ok-true-clause-failed g c is = cc
 
 pub returns-in-Ok-false-clause-moves : goal.returns-in-Ok-false-clause-moves
-returns-in-Ok-false-clause-moves g c = record { by = c.in-Ok-false.ensures.moves.by; depth = λ e. refl }
+returns-in-Ok-false-clause-moves g c =
+    record { by = c.in-Ok-false.ensures.moves.by; depth = λ e. refl }
 
 pub returns-in-Ok-false-clause-failed : goal.returns-in-Ok-false-clause-failed
 returns-in-Ok-false-clause-failed g c is = cc
 
 pub returns-in-Err-clause-moves : goal.returns-in-Err-clause-moves
-returns-in-Err-clause-moves g c = record { by = c.in-Err.ensures.moves.by; depth = c.in-Err.ensures.moves.depth }
+returns-in-Err-clause-moves g c =
+    record { by = c.in-Err.ensures.moves.by; depth = c.in-Err.ensures.moves.depth }
 
 pub returns-in-Err-clause-memory : goal.returns-in-Err-clause-memory
 returns-in-Err-clause-memory g c = c.in-Err.ensures.memory

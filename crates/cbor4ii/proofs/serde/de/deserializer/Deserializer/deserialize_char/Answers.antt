@@ -1,7 +1,8 @@
 use Rattle.std.proofs.Common.{refl, inl, sym, ◌∙◌, subst}
 use Rattle.cbor4ii_items.specs.Laws.Steps.{moves_ok, moves_err}
 use Rattle.cbor4ii.specs.Character.{NoCharacter}
-use Rattle.cbor4ii.proofs.Characters.{char_sound, char_refuses, char_stops, other_moves, other_refuses, other_stops}
+use Rattle.cbor4ii.proofs.Characters.{char_sound, char_refuses, char_stops, other_moves}
+use Rattle.cbor4ii.proofs.Characters.{other_refuses, other_stops}
 use Rattle.cbor4ii.proofs.serde.de.deserializer.Deserializer.deserialize_char.Goals as goal
 
 pub returns-in-Some : goal.returns-in-Some
@@ -16,12 +17,18 @@ returns-in-Some g c = record {
 
 pub returns-in-Ok : goal.returns-in-Ok
 returns-in-Ok g c = record {
-  moves = other_moves _ (subst NoCharacter c.as_str.ensures.value (c.in-None.ensures.other refl)) c.in-Ok.ensures.moves;
+  moves =
+      other_moves _ (subst NoCharacter c.as_str.ensures.value (c.in-None.ensures.other refl))
+      c.in-Ok.ensures.moves;
   progress = λ e. tt;
   memory = λ no. refl;
   sound = tt;
-  complete = λ e. other_refuses _ (subst NoCharacter c.as_str.ensures.value (c.in-None.ensures.other refl)) c.in-Ok.ensures.sound;
-  stopped = λ e. other_stops _ (subst NoCharacter c.as_str.ensures.value (c.in-None.ensures.other refl)) refl c.in-Ok.ensures.sound;
+  complete =
+      λ e. other_refuses _ (subst NoCharacter c.as_str.ensures.value (c.in-None.ensures.other refl))
+      c.in-Ok.ensures.sound;
+  stopped =
+      λ e. other_stops _ (subst NoCharacter c.as_str.ensures.value (c.in-None.ensures.other refl))
+      refl c.in-Ok.ensures.sound;
 }
 
 pub returns : goal.returns

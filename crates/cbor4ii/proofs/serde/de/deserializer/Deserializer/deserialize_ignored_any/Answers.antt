@@ -22,7 +22,8 @@ returns-in-Err-clause-item g c = record {
   progress = λ e. tt;
   memory = c.in-Err.ensures.memory;
   sound = tt;
-  complete = λ e. refuses_as ReadsIgnored ReadsSkipped (λ xs budget none v. none record {}) (c.in-Err.ensures.complete (inl refl));
+  complete = λ e. refuses_as ReadsIgnored ReadsSkipped (λ xs budget none v. none record {})
+      (c.in-Err.ensures.complete (inl refl));
   stopped = λ e. c.in-Err.ensures.stops (inl refl);
 }
 

@@ -5,5 +5,13 @@ use Rattle.cbor4ii.proofs.serde.de.deserializer.Deserializer.deserialize_tuple.G
 pub returns-in-Err : goal.returns-in-Err
 returns-in-Err g c = (
   (refl, (λ w. tt), (moves_err c.in-Err.ensures.moves, c.in-Err.ensures.stops)),
-  record { refused = tt; same_reference = tt; opened = tt; steps = tt; left = tt; memory = c.in-Err.ensures.memory; complete = c.in-Err.ensures.complete },
+  record {
+    refused = tt;
+    same_reference = tt;
+    opened = tt;
+    steps = tt;
+    left = tt;
+    memory = c.in-Err.ensures.memory;
+    complete = c.in-Err.ensures.complete;
+  },
 )

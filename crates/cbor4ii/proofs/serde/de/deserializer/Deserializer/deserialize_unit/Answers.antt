@@ -6,22 +6,33 @@ use Rattle.cbor4ii.proofs.serde.de.deserializer.Deserializer.deserialize_unit.Go
 
 pub returns-then-first : goal.returns-then-first
 returns-then-first g c = record {
-  moves = record { by = kept_next c.in-Ok.ensures.moves c.in-Ok.ensures.sound (omega (arith, c.if-first.true)) c.advance.ensures; depth = λ e. refl };
+  moves = record {
+    by = kept_next c.in-Ok.ensures.moves c.in-Ok.ensures.sound
+        (omega (arith, c.if-first.true)) c.advance.ensures;
+    depth = λ e. refl;
+  };
   progress = λ e. omega (arith, c.advance.ensures.bound, c.in-Ok.ensures.moves.by.bound);
   memory = tt;
-  sound = unit_sound (saw c.in-Ok.ensures.moves c.in-Ok.ensures.sound) c.if-first.true c.advance.ensures;
+  sound =
+      unit_sound (saw c.in-Ok.ensures.moves c.in-Ok.ensures.sound) c.if-first.true
+      c.advance.ensures;
   complete = λ e. tt;
   stopped = λ e. tt;
 }
 
 pub returns-else-first : goal.returns-else-first
 returns-else-first g c = record {
-  moves = record { by = kept_next c.in-Ok.ensures.moves c.in-Ok.ensures.sound (search rules) c.advance.ensures; depth = λ e. refl };
+  moves = record {
+    by = kept_next c.in-Ok.ensures.moves c.in-Ok.ensures.sound (search rules)
+        c.advance.ensures;
+    depth = λ e. refl;
+  };
   progress = λ e. tt;
   memory = λ no. cc;
   sound = tt;
   complete = λ e. unit_other (saw c.in-Ok.ensures.moves c.in-Ok.ensures.sound) c.if-first.false;
-  stopped = λ e. unit_mismatch (saw c.in-Ok.ensures.moves c.in-Ok.ensures.sound) c.if-first.false c.advance.ensures refl;
+  stopped = λ e. unit_mismatch (saw c.in-Ok.ensures.moves c.in-Ok.ensures.sound) c.if-first.false
+      c.advance.ensures refl;
 }
 
 pub returns-in-Err : goal.returns-in-Err

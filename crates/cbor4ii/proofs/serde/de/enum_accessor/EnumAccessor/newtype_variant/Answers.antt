@@ -2,16 +2,23 @@ use Rattle.cbor4ii.proofs.Contents.{content_ok, content_err, content_said}
 use Rattle.cbor4ii.proofs.serde.de.enum_accessor.EnumAccessor.newtype_variant.Goals as goal
 
 pub returns-clause-sound : goal.returns-clause-sound
-returns-clause-sound g c = content_ok _ c.deserialize.result _ _ _ c.if-not-self.false c.drop-self-2.ensures.others c.deserialize.ensures.sound
+returns-clause-sound g c =
+    content_ok _ c.deserialize.result _ _ _ c.if-not-self.false c.drop-self-2.ensures.others
+    c.deserialize.ensures.sound
 
 pub returns-clause-complete : goal.returns-clause-complete
-returns-clause-complete g c said exact = content_err _ c.deserialize.result _ c.if-not-self.false (c.deserialize.ensures.complete said exact)
+returns-clause-complete g c said exact =
+    content_err _ c.deserialize.result _ c.if-not-self.false
+    (c.deserialize.ensures.complete said exact)
 
 pub returns-clause-stops : goal.returns-clause-stops
-returns-clause-stops g c = content_said _ _ _ c.deserialize.result _ _ _ c.if-not-self.false c.drop-self-2.ensures.others c.deserialize.ensures.moves c.deserialize.ensures.stops
+returns-clause-stops g c =
+    content_said _ _ _ c.deserialize.result _ _ _ c.if-not-self.false c.drop-self-2.ensures.others
+    c.deserialize.ensures.moves c.deserialize.ensures.stops
 
 pub returns-clause-finishes : goal.returns-clause-finishes
-returns-clause-finishes g c = record { within = _; moves = c.deserialize.ensures.moves; closes = c.drop-self-2.ensures }
+returns-clause-finishes g c =
+    record { within = _; moves = c.deserialize.ensures.moves; closes = c.drop-self-2.ensures }
 
 pub returns-clause-wrong : goal.returns-clause-wrong
 returns-clause-wrong g c is = let has = c.if-not-self.false in cc

@@ -5,12 +5,41 @@ use Rattle.cbor4ii.proofs.serde.de.enum_accessor.EnumAccessor.tuple_variant.Goal
 pub returns-in-Ok : goal.returns-in-Ok
 returns-in-Ok g c = (
   (refl, (λ w. refl), tt),
-  record { refused = tt; same_reference = refl; wrong = c.in-Ok.ensures.wrong; opened = c.in-Ok.ensures.opened; steps = refl; left = refl; memory = tt; complete = tt },
+  record {
+    refused = tt;
+    same_reference = refl;
+    wrong = c.in-Ok.ensures.wrong;
+    opened = c.in-Ok.ensures.opened;
+    steps = refl;
+    left = refl;
+    memory = tt;
+    complete = tt;
+  },
 )
 
 pub returns-in-Err : goal.returns-in-Err
 returns-in-Err g c =
     let f = c.in-Err.ensures.finishes in (
-      (refl, (λ w. tt), (record { within = f.within; moves = moves_err f.moves; closes = f.closes }, c.in-Err.ensures.stops)),
-      record { refused = tt; same_reference = tt; wrong = c.in-Err.ensures.wrong; opened = tt; steps = tt; left = tt; memory = c.in-Err.ensures.memory; complete = c.in-Err.ensures.complete },
+      (
+        refl,
+        (λ w. tt),
+        (
+          record {
+            within = f.within;
+            moves = moves_err f.moves;
+            closes = f.closes;
+          },
+          c.in-Err.ensures.stops,
+        ),
+      ),
+      record {
+        refused = tt;
+        same_reference = tt;
+        wrong = c.in-Err.ensures.wrong;
+        opened = tt;
+        steps = tt;
+        left = tt;
+        memory = c.in-Err.ensures.memory;
+        complete = c.in-Err.ensures.complete;
+      },
     )

@@ -4,10 +4,12 @@ use Rattle.cbor4ii.proofs.Mapped.{map_sound, map_refuses}
 use Rattle.cbor4ii.proofs.serde.de.maps.BTreeMapDeserialize.deserialize.Goals as goal
 
 pub returns-in-Ok-put_all-clause-sound : goal.returns-in-Ok-put_all-clause-sound
-returns-in-Ok-put_all-clause-sound g c = map_sound _ _ _ _ _ _ c.in-Ok-put_all.ensures c.in-Ok.ensures.sound
+returns-in-Ok-put_all-clause-sound g c =
+    map_sound _ _ _ _ _ _ c.in-Ok-put_all.ensures c.in-Ok.ensures.sound
 
 pub returns-in-Err-clause-complete : goal.returns-in-Err-clause-complete
-returns-in-Err-clause-complete g c said exact = map_refuses _ _ _ _ (c.in-Err.ensures.complete said exact)
+returns-in-Err-clause-complete g c said exact =
+    map_refuses _ _ _ _ (c.in-Err.ensures.complete said exact)
 
 pub returns-in-Ok-put_all-clause-moves : goal.returns-in-Ok-put_all-clause-moves
 returns-in-Ok-put_all-clause-moves g c = moves_ok c.in-Ok.ensures.moves
@@ -25,7 +27,8 @@ pub returns-in-Ok-put_all-clause-stops : goal.returns-in-Ok-put_all-clause-stops
 returns-in-Ok-put_all-clause-stops g c = tt
 
 pub returns-in-Err-put_all-clause-moves : goal.returns-in-Err-put_all-clause-moves
-returns-in-Err-put_all-clause-moves g c = record { by = c.in-Ok.ensures.moves.by; depth = λ e. refl }
+returns-in-Err-put_all-clause-moves g c =
+    record { by = c.in-Ok.ensures.moves.by; depth = λ e. refl }
 
 pub returns-in-Err-put_all-clause-progress : goal.returns-in-Err-put_all-clause-progress
 returns-in-Err-put_all-clause-progress g c = tt

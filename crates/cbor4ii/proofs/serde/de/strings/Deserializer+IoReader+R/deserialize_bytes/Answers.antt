@@ -6,4 +6,7 @@ use Rattle.cbor4ii.proofs.Copying.{copied_item}
 use Rattle.cbor4ii.proofs.serde.de.strings.Deserializer+IoReader+R.deserialize_bytes.Goals as goal
 
 pub returns-clause-item : goal.returns-clause-item
-returns-clause-item g c = copied_item (ReadsString 2) cow_bytes cow_slice_items IsOwnedSlice (λ w. (record { 0 = w }, refl)) c.take_item-found.result c.copied_bytes.result c.copied_bytes.ensures c.take_item-found.ensures
+returns-clause-item g c =
+    copied_item (ReadsString 2) cow_bytes cow_slice_items IsOwnedSlice
+    (λ w. (record { 0 = w }, refl)) c.take_item-found.result c.copied_bytes.result
+    c.copied_bytes.ensures c.take_item-found.ensures

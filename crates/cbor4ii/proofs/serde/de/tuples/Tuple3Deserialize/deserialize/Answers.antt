@@ -5,16 +5,26 @@ use Rattle.cbor4ii.proofs.Beginnings.{step_stops}
 use Rattle.cbor4ii.proofs.serde.de.tuples.Tuple3Deserialize.deserialize.Goals as goal
 
 pub returns-clause-moves : goal.returns-clause-moves
-returns-clause-moves g c = moves_stepped (answer_of c.triple_behind-outcome.result) _ _ _ _ c.if-not-step_in.ensures.budget c.step_in.ensures.others c.triple_behind-outcome.ensures.moves c.step_out.ensures.budget c.step_out.ensures.others
+returns-clause-moves g c =
+    moves_stepped (answer_of c.triple_behind-outcome.result) _ _ _ _ c.if-not-step_in.ensures.budget
+    c.step_in.ensures.others c.triple_behind-outcome.ensures.moves c.step_out.ensures.budget
+    c.step_out.ensures.others
 
 pub returns-clause-sound : goal.returns-clause-sound
-returns-clause-sound g c = step_sound c.triple_behind-outcome.result _ _ _ c.if-not-step_in.ensures.budget c.step_in.ensures.others _ _ c.step_out.ensures.others c.triple_behind-outcome.ensures.sound
+returns-clause-sound g c =
+    step_sound c.triple_behind-outcome.result _ _ _ c.if-not-step_in.ensures.budget
+    c.step_in.ensures.others _ _ c.step_out.ensures.others c.triple_behind-outcome.ensures.sound
 
 pub returns-clause-complete : goal.returns-clause-complete
-returns-clause-complete g c said exact = step_refuses c.triple_behind-outcome.result _ _ _ c.if-not-step_in.ensures.budget c.step_in.ensures.others (c.triple_behind-outcome.ensures.complete said (exact_step _ _ _ c.step_in.ensures.others exact))
+returns-clause-complete g c said exact =
+    step_refuses c.triple_behind-outcome.result _ _ _ c.if-not-step_in.ensures.budget
+    c.step_in.ensures.others (c.triple_behind-outcome.ensures.complete said
+    (exact_step _ _ _ c.step_in.ensures.others exact))
 
 pub returns-clause-stops : goal.returns-clause-stops
-returns-clause-stops g c = step_stops _ _ c.triple_behind-outcome.result c.if-not-step_in.ensures.budget c.step_in.ensures.others c.step_out.ensures.others c.triple_behind-outcome.ensures.stops
+returns-clause-stops g c =
+    step_stops _ _ c.triple_behind-outcome.result c.if-not-step_in.ensures.budget
+    c.step_in.ensures.others c.step_out.ensures.others c.triple_behind-outcome.ensures.stops
 
 pub returns-then-not-step_in-clause-progress : goal.returns-then-not-step_in-clause-progress
 returns-then-not-step_in-clause-progress g c = tt
@@ -23,7 +33,9 @@ pub returns-then-not-step_in-clause-sound : goal.returns-then-not-step_in-clause
 returns-then-not-step_in-clause-sound g c = tt
 
 pub returns-clause-progress : goal.returns-clause-progress
-returns-clause-progress g c = rw (c.step_out.ensures.others.bound, ← c.step_in.ensures.others.bound) c.triple_behind-outcome.ensures.progress
+returns-clause-progress g c =
+    rw (c.step_out.ensures.others.bound, ← c.step_in.ensures.others.bound)
+    c.triple_behind-outcome.ensures.progress
 
 pub returns-then-not-step_in-clause-memory : goal.returns-then-not-step_in-clause-memory
 returns-then-not-step_in-clause-memory g c is = cc

@@ -5,7 +5,8 @@ pub returns-clause-sound : goal.returns-clause-sound
 returns-clause-sound g c = vec_sound c.take_sequence.result _ _ _ c.take_sequence.ensures.sound
 
 pub returns-clause-complete : goal.returns-clause-complete
-returns-clause-complete g c said exact = vec_refuses c.take_sequence.result _ _ (c.take_sequence.ensures.complete said exact)
+returns-clause-complete g c said exact =
+    vec_refuses c.take_sequence.result _ _ (c.take_sequence.ensures.complete said exact)
 
 pub returns-clause-moves : goal.returns-clause-moves
 returns-clause-moves g c = c.take_sequence.ensures.moves
