@@ -1,9 +1,8 @@
 -- What stands for a typed value is read back.
 use Rattle.std.proofs.Common.{◌≡◌, ◌⊎◌, inl, inr, ℕ, ◌+◌, ◌<◌, ◌≤◌, ◌^◌, List, [], ◌∷◌, ◌++◌}
-use Rattle.std.proofs.Common.{length, drop, max, Bool, true, Some, None, refl, sym, ap, ◌∙◌, subst}
+use Rattle.std.proofs.Common.{length, max, Bool, true, Some, None, refl, sym, ap, ◌∙◌, subst}
 use Rattle.std.proofs.Common.{arith, append_assoc, append-nil, length-append, All}
 use Rattle.std.proofs.lemmas.List.Elements.{All-head, All-tail}
-use Rattle.std.proofs.Math.Seq.{drop-append_seam}
 use Rattle.std.specs.declared.cmp.Ordering.{Ordering}
 use Rattle.std.specs.declared.cmp.Ordering.TheVariants.{Less, Greater}
 use Rattle.std.specs.Ordering.{ordering_reverse}
@@ -14,13 +13,10 @@ use Rattle.std.specs.List.Sorted.{IsStrictlySortedBy}
 use Rattle.std.specs.Map.{keys_of}
 use Rattle.cbor4ii_items.specs.Containers.{BeginsNull, ReadsOption}
 use Rattle.cbor4ii_items.specs.Decoding.{Reads}
-use Rattle.cbor4ii_items.specs.Head.{eight}
-use Rattle.cbor4ii_items.specs.Heads.{ReadsHead}
 use Rattle.cbor4ii_items.specs.Numbers.{shortest_head}
 use Rattle.cbor4ii_items.specs.ReadBack.{ReadsBack, greatest_cost, pair_cost}
 use Rattle.cbor4ii_items.specs.Sequences.{ReadsParts, ReadsCountedParts, ReadsSequence, ReadsPair}
-use Rattle.cbor4ii_items.specs.Laws.NumbersBack.{head_back}
-use Rattle.cbor4ii_items.specs.Laws.PartsBack.{pair_back}
+use Rattle.cbor4ii_items.specs.Laws.PartsBack.{pair_back, behind, headed}
 use Rattle.cbor4ii_ser.specs.Item.{Encoding, encoded, refused, followed, each_item, entry_item}
 use Rattle.cbor4ii.specs.Built.{built, put_all, ReadsBTreeMap}
 use Rattle.cbor4ii.specs.ReadBack.{IsReadBack, BeginsOther, IsNullItem}
@@ -28,24 +24,6 @@ use Rattle.cbor4ii.specs.Stepped.{Stepped}
 use Rattle.cbor4ii.specs.Tuples.{ReadsBehind, ReadsTriple}
 
 -- ---- one behind the other
-
--- bytes behind a front, and others behind them
-record Behind (front bytes rest : List ℕ) : Type 0 where
-  whole : (front ++ bytes) ++ rest ≡ front ++ (bytes ++ rest)
-  left : drop (length front) ((front ++ bytes) ++ rest) ≡ bytes ++ rest
-
-behind : (front bytes rest : List ℕ) → Behind front bytes rest
-behind front bytes rest =
-    let e = append_assoc front bytes rest in
-    record { whole = e; left = ap (drop (length front)) e ∙ drop-append_seam front (bytes ++ rest) }
-
--- a head that counts so many, whatever stands behind it
-headed : (major count : ℕ) (bytes rest : List ℕ) → count < 2 ^ 64 → ReadsHead major 8
-    ((shortest_head major count ++ bytes) ++ rest) count (length (shortest_head major count))
-headed major count bytes rest h =
-    let start = shortest_head major count in
-    subst (λ zs. ReadsHead major 8 zs count (length start)) (sym (behind start bytes rest).whole)
-    (head_back major eight count h (bytes ++ rest))
 
 -- ---- values that may be absent
 

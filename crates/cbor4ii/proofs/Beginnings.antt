@@ -1,34 +1,25 @@
 -- How a value of several parts is refused.
 use Rattle.std.proofs.Common.{◌≡◌, ℕ, List, [], ◌∷◌, drop, take, Option, Some, None, Result, Ok}
 use Rattle.std.proofs.Common.{Err, Bool, true, false, refl, subst, IfSome, IfErr}
-use Rattle.std.specs.Prelude.{MatchBool, IsTrue, codes}
+use Rattle.std.specs.Prelude.{IsTrue, codes}
 use Rattle.cbor4ii_rw.specs.View.{View}
 use Rattle.cbor4ii_rw.specs.Reader.{StepsIn, KeepsAllButBudget}
 use Rattle.cbor4ii_rw.specs.declared.error.DecodeError.{DecodeError}
-use Rattle.cbor4ii_rw.specs.declared.error.DecodeError.TheVariants.{Read}
 use Rattle.cbor4ii_items.specs.Containers.{StopsOption}
 use Rattle.cbor4ii_items.specs.Decoding.{Reads, StopsAt, Sound, Stops}
-use Rattle.cbor4ii_items.specs.Moves.{Kept, Broke, Moves}
+use Rattle.cbor4ii_items.specs.Moves.{Kept, Moves}
 use Rattle.cbor4ii_items.specs.Next.{StopsNext}
 use Rattle.cbor4ii_items.specs.Refusal.{Refusal, refusal_of, is_read}
 use Rattle.cbor4ii_items.specs.Sequences.{StopsPair}
 use Rattle.cbor4ii_items.specs.Laws.Pairs.{value_stops_pair}
 use Rattle.cbor4ii_items.specs.Laws.SequenceParts.{stops_as}
+use Rattle.cbor4ii_items.specs.Laws.Answering.{not_read, kept_of}
 use Rattle.cbor4ii.specs.declared.serde.de.error.DecodeError.{DecodeError as Typed}
 use Rattle.cbor4ii.specs.Stepped.{StopsStepped}
 use Rattle.cbor4ii.specs.Typed.{as_core, answer_of, not_exact, unsaid_stops, said}
 use Rattle.cbor4ii.proofs.Looking.{Saw}
 use Rattle.cbor4ii.proofs.Steps.{stops_stepped}
 use Rattle.cbor4ii.proofs.Stopped.{stopped_as}
-
-not_read : {E : Type 0} (e : DecodeError E) (z : Refusal) → refusal_of e ≡ Some z
-    → is_read e ≡ false
-not_read (Read x) z h = cc
-not_read e z h = refl
-
-kept_of : (t : Bool) (a b : View) → t ≡ false → MatchBool t (Broke a b) (Kept a b) → Kept a b
-kept_of true a b e k = cc
-kept_of false a b e k = k
 
 -- a refusal of which no more is asked than that an end of the bytes is left
 left_by : {V E : Type 0} (e : DecodeError E) (a b : View) (Q : Type 0) → Moves {V = V} a b (Err e)

@@ -1,7 +1,7 @@
 -- A call that takes a break or leaves another byte, as what the program does.
-use Rattle.std.proofs.Common.{◌≡◌, ◌≢◌, ℕ, List, [], ◌∷◌, drop, take, Option, Some, None, Result}
+use Rattle.std.proofs.Common.{◌≡◌, ℕ, List, [], ◌∷◌, drop, take, Option, Some, None, Result}
 use Rattle.std.proofs.Common.{Ok, Err, Bool, true, false, refl, ap, ◌∙◌, IfSome, IfOk, IfErr, eqb}
-use Rattle.std.proofs.Common.{eq-eqb, ne_eqb}
+use Rattle.std.proofs.Common.{eq-eqb}
 use Rattle.cbor4ii_rw.specs.View.{View}
 use Rattle.cbor4ii_rw.specs.declared.error.DecodeError.{DecodeError}
 use Rattle.cbor4ii_items.specs.Head.{break}
@@ -11,16 +11,12 @@ use Rattle.cbor4ii_items.specs.Reading.{Runs}
 use Rattle.cbor4ii_items.specs.ReadStrings.{break_at}
 use Rattle.cbor4ii_items.specs.Strings.{ReadsBreak, StopsBreak}
 use Rattle.cbor4ii_items.specs.Decoding.{Sound, Stops}
+use Rattle.cbor4ii_items.specs.Laws.Breaks.{stays}
 
 yes_is : (xs : List ℕ) → take 1 xs ≡ break ∷ [] → break_at xs ≡ Ok (true, drop 1 xs)
 yes_is [] e = cc
 yes_is (b ∷ bs) e =
     let is : b ≡ break = cc in let t : eqb b break ≡ true = eq-eqb b break is in rw t refl
-
-no_is : (xs : List ℕ) → xs ≢ [] → (take 1 xs ≡ break ∷ [] → ⊥) → break_at xs ≡ Ok (false, xs)
-no_is [] some not = absurd (some refl)
-no_is (b ∷ bs) some not =
-    let t : eqb b break ≡ false = ne_eqb b break (λ is. not (ap (λ z. z ∷ []) is)) in rw t refl
 
 end_is : (xs : List ℕ) (budget : Option ℕ) (z : Refusal) (rest : List ℕ)
     → StopsBreak xs budget z rest → break_at xs ≡ Err (z, rest)
@@ -44,7 +40,7 @@ break_runs (Ok true) m s t = record {
 break_runs (Ok false) m s t = record {
   moves = m;
   answers = λ xs told. (let p = s.at xs told in
-      (xs, p.left ∙ ap (λ n. Some (drop n xs)) p.read.2, no_is xs p.read.0 p.read.1));
+      (xs, p.left ∙ ap (λ n. Some (drop n xs)) p.read.2, stays xs p.read.0 p.read.1));
 }
 break_runs {a = a} {b = b} (Err e) m s t = record {
   moves = m;

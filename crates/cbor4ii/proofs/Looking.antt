@@ -1,6 +1,6 @@
 -- The byte that comes next, looked at and then taken.
 use Rattle.std.proofs.Common.{◌≡◌, ◌≢◌, ◌⊎◌, inl, inr, ℕ, ◌<◌, ◌≤◌, List, [], ◌∷◌, length, take}
-use Rattle.std.proofs.Common.{drop, Option, Some, None, Ok, refl, sym, ap, ◌∙◌, subst, arith}
+use Rattle.std.proofs.Common.{drop, Option, Some, None, Ok, refl, ap, ◌∙◌, subst, arith}
 use Rattle.std.specs.Prelude.{codes}
 use Rattle.cbor4ii_rw.specs.View.{View, Told}
 use Rattle.cbor4ii_rw.specs.Reader.{Advances}
@@ -13,7 +13,8 @@ use Rattle.cbor4ii_items.specs.Decoding.{Reads, CostFits, Sound, NoneRead, Refus
 use Rattle.cbor4ii_items.specs.Containers.{BeginsNull, ReadsOption}
 use Rattle.cbor4ii_items.specs.Laws.Answering.{fits_zero, if_some, refuses_as}
 use Rattle.cbor4ii_items.specs.Laws.Running.{kept_taken}
-use Rattle.cbor4ii.specs.Tuples.{one_there}
+use Rattle.cbor4ii_items.specs.Laws.Containers.{not_null, no_option}
+use Rattle.cbor4ii_items.specs.Laws.Sequences.{one_byte}
 
 peeks : (name : List ℕ) (b : ℕ) (xs : List ℕ) → take 1 xs ≡ b ∷ [] → peek_at name 1 xs ≡ Ok (b, xs)
 peeks name b [] e = cc
@@ -41,15 +42,11 @@ pub saw : {E : Type 0} {b : ℕ} {a m : View} → Moves {E = E} a m (Ok b) → S
     → Saw a m b
 saw {b = b} m s = record {
   first = λ xs told. (let p = s.at xs told in
-      (p.left ∙ ap (λ n. Some (drop n xs)) p.read.1, p.read.0, one_there xs b p.read.0));
+      (p.left ∙ ap (λ n. Some (drop n xs)) p.read.1, p.read.0, one_byte xs b p.read.0));
   budget = m.by.budget;
 }
 
 -- ---- a value or none
-
-pub not_null : (xs : List ℕ) (b : ℕ) → take 1 xs ≡ b ∷ [] → b ≢ 0xf6 → b ≢ 0xf7 → BeginsNull xs → ⊥
-not_null xs b e p q h =
-    elim h [ inl f ↦ (let g : b ≡ 0xf6 = cc in p g) | inr f ↦ (let g : b ≡ 0xf7 = cc in q g) ]
 
 pub some_sound : {V : Type 0} (reads : Reads V) {a m b : View} {v : V} {first : ℕ} → Saw a m first
     → first ≢ 0xf6 → first ≢ 0xf7 → Sound reads m b v → Sound (ReadsOption reads) a b (Some v)
@@ -84,12 +81,6 @@ null_sound reads {a = a} {b = b} s is adv = record {
       });
 }
 
-no_some : {V : Type 0} (reads : Reads V) (xs : List ℕ) (old new : Option ℕ) → old ≡ new
-    → (BeginsNull xs → ⊥) → NoneRead reads xs old → (o : Option V) (k c : ℕ)
-    → ReadsOption reads xs o k c → CostFits c new → ⊥
-no_some reads xs old new e n h None k c r fits = n r.0
-no_some reads xs old new e n h (Some v) k c r fits = h v k c r.2 (subst (CostFits c) (sym e) fits)
-
 pub some_refuses : {V E : Type 0} (reads : Reads V) {a m : View} {e : DecodeError E} {first : ℕ}
     → Saw a m first → first ≢ 0xf6 → first ≢ 0xf7
     → ((xs : List ℕ) → a.told ≡ Some xs → Refuses reads m e) → Refuses (ReadsOption reads) a e
@@ -97,7 +88,7 @@ some_refuses reads {a = a} {m = m} {e = e} {first = first} s p q h = record {
   at = λ xs told.
       let f = s.first xs told in
       if_some (refusal_of e)
-      (no_some reads xs m.budget a.budget s.budget (not_null xs first f.1 p q))
+      (no_option reads xs m.budget a.budget s.budget (not_null xs first f.1 p q))
       ((h xs told).at xs f.0);
 }
 
@@ -117,6 +108,6 @@ none_option reads xs budget none None n c r fits = elim r.0
     [ inl e ↦ none_begins xs 0xf6 budget none e | inr e ↦ none_begins xs 0xf7 budget none e ]
 none_option reads xs budget none (Some v) n c r fits = none_first xs budget none r.1
 
-pub no_option : {V E : Type 0} (reads : Reads V) {a : View} {e : DecodeError E}
+pub option_refuses : {V E : Type 0} (reads : Reads V) {a : View} {e : DecodeError E}
     → Refuses ReadsNext a e → Refuses (ReadsOption reads) a e
-no_option reads s = refuses_as ReadsNext (ReadsOption reads) (none_option reads) s
+option_refuses reads s = refuses_as ReadsNext (ReadsOption reads) (none_option reads) s

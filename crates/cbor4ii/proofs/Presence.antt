@@ -11,8 +11,10 @@ use Rattle.cbor4ii_items.specs.Refusal.{Refusal, depth_overflow}
 use Rattle.cbor4ii_items.specs.Next.{StopsNext}
 use Rattle.cbor4ii_items.specs.Decoding.{Reads, CostFits, Sound, NoneRead, Refuses, Stops}
 use Rattle.cbor4ii_items.specs.Laws.Answering.{fits_zero, refuses_as}
+use Rattle.cbor4ii_items.specs.Laws.UnderStep.{no_step}
+use Rattle.cbor4ii_items.specs.Laws.Containers.{not_null}
 use Rattle.cbor4ii.specs.Optional.{ReadsPresence, StopsPresence, ReadsComing, ReadsComingValue}
-use Rattle.cbor4ii.proofs.Looking.{Saw, not_null, begins_null}
+use Rattle.cbor4ii.proofs.Looking.{Saw, begins_null}
 use Rattle.cbor4ii.proofs.Stopped.{stopped_as}
 
 -- ---- whether it comes
@@ -48,10 +50,6 @@ no_null e = cc
 
 -- ---- no step is left
 
-none_left : (old new : Option ℕ) → StepsIn old new false → (old ≡ Some 0) × (new ≡ old)
-none_left None new h = absurd h
-none_left (Some left) new h = (ap Some h.0, h.1 ∙ sym (ap Some h.0))
-
 over_none : (budget : Option ℕ) (c : ℕ) → budget ≡ Some 0 → CostFits (1 + c) budget → ⊥
 over_none None c e fits = cc
 over_none (Some left) c e fits = let z : left ≡ 0 = cc in omega (arith, z, fits)
@@ -67,7 +65,7 @@ pub no_step_refuses : {E : Type 0} {name : Bor (List ℕ)} {a m : View} {b : ℕ
     → Refuses {E = E} ReadsPresence a (DepthOverflow name)
 no_step_refuses {a = a} {m = m} {b = b} left s p q none = record {
   at = λ xs told. none_present xs b a.budget (s.first xs told).1 p q
-      (sym s.budget ∙ (none_left m.budget left none).0);
+      (sym s.budget ∙ (no_step m.budget left none).0);
 }
 
 stops_there : (name : Bor (List ℕ)) (xs : List ℕ) (budget : Option ℕ) → name.now ≡ codes "option"
@@ -83,7 +81,7 @@ no_step_stops {name = name} {a = a} {m = m} {n = n} named s none k = record {
     xs,
     k.told ∙ f.0,
     stops_there name xs a.budget named
-        f.2 (sym s.budget ∙ (none_left m.budget n.budget none).0),
+        f.2 (sym s.budget ∙ (no_step m.budget n.budget none).0),
   ));
 }
 

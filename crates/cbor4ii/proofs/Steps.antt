@@ -1,5 +1,5 @@
 -- What is read under one step, and what is not.
-use Rattle.std.proofs.Common.{◌≡◌, ◌≢◌, IsTrue, inl, inr, false, ℕ, ◌+◌, ◌-◌, ◌≤◌, true, List}
+use Rattle.std.proofs.Common.{◌≡◌, IsTrue, inl, inr, false, ℕ, ◌+◌, true, List}
 use Rattle.std.proofs.Common.{Option, Some, None, Result, Ok, Err, refl, sym, ap, ◌∙◌, subst, arith}
 use Rattle.std.proofs.Common.{IfSome, IfOk, IfErr}
 use Rattle.cbor4ii_rw.specs.View.{View}
@@ -11,22 +11,10 @@ use Rattle.cbor4ii.specs.Stepped.{Stepped, StopsStepped}
 use Rattle.cbor4ii_items.specs.Refusal.{Refusal, refusal_of}
 use Rattle.cbor4ii_items.specs.Decoding.{CostFits, Sound, Refuses, Stops}
 use Rattle.cbor4ii_items.specs.Laws.Answering.{if_some}
-use Rattle.cbor4ii_items.specs.Laws.UnderStep.{step_again}
-use Rattle.cbor4ii_items.specs.Sequences.{after_step}
+use Rattle.cbor4ii_items.specs.Laws.UnderStep.{step_again, fits_step, fits_inside, stepped}
 use Rattle.cbor4ii_items.specs.Laws.SequenceParts.{stops_as}
 use Rattle.cbor4ii_rw.specs.declared.error.DecodeError.TheVariants.{DepthOverflow}
 use denote.Ref.{Bor}
-
-fits_step : (old new : Option ℕ) (c : ℕ) → StepsIn old new true → CostFits c new
-    → CostFits (1 + c) old
-fits_step None new c h f = tt
-fits_step (Some left) new c h f =
-    let g : c ≤ left - 1 = subst (CostFits c) h.2 f in omega (arith, h.0, g)
-
-fits_inside : (old new : Option ℕ) (c : ℕ) → StepsIn old new true → CostFits (1 + c) old
-    → CostFits c new
-fits_inside None new c h f = subst (CostFits c) (sym h) tt
-fits_inside (Some left) new c h f = subst (CostFits c) (sym h.2) (omega (arith, f))
 
 -- the reader failed under the step that was taken, and the step is given back
 pub breaks_stepped : {a b c d : View} → StepsIn a.budget b.budget true → KeepsAllButBudget a b
@@ -95,10 +83,6 @@ module _ {V E : Type 0} (r : Result V (Typed E)) (reads : List ℕ → V → ℕ
   pub step_sound : (c d : View) → KeepsAllButBudget c d → IfOk r (Sound reads b c)
       → IfOk r (Sound (Stepped reads) a d)
   step_sound c d outward s = formed_sound r (λ v. v) reads a b takes inward c d outward s
-
-stepped : (old new : Option ℕ) → StepsIn old new true → (old ≢ Some 0) × (new ≡ after_step old)
-stepped None new h = ((λ e. cc), h)
-stepped (Some left) new h = ((λ e. let f : left ≡ 0 = cc in omega (arith, h.0, f)), h.2)
 
 pub stops_stepped : {E : Type 0} (name : List ℕ)
     (stops : List ℕ → Option ℕ → Refusal → List ℕ → Type 0) {a b c d : View} {e : DecodeError E}

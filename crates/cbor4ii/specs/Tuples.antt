@@ -1,5 +1,5 @@
 -- Units and tuples.
-use Rattle.std.proofs.Common.{◌≡◌, ℕ, ◌+◌, ◌≤◌, List, [], ◌∷◌, length, take, drop, max, Bool, true}
+use Rattle.std.proofs.Common.{◌≡◌, ℕ, ◌+◌, List, [], ◌∷◌, take, drop, max, Bool, true}
 use Rattle.std.proofs.Common.{sym, ap, ◌∙◌, subst, arith}
 use Rattle.std.proofs.lemmas.List.{length-drop}
 use Rattle.std.specs.Prelude.{◌||◌, ◌≢◌, ◌⊎◌, Option, Some, None, codes}
@@ -11,7 +11,7 @@ use Rattle.cbor4ii_items.specs.Lengths.{ReadsLength, StopsLength}
 use Rattle.cbor4ii_items.specs.Heads.{ReadsHead}
 use Rattle.cbor4ii_items.specs.Laws.Heads.{head_one, head_read}
 use Rattle.cbor4ii_items.specs.Sequences.{ReadsPair, SamePair}
-use Rattle.cbor4ii_items.specs.Laws.Sequences.{pair_within, pair_positive}
+use Rattle.cbor4ii_items.specs.Laws.Sequences.{pair_within, pair_positive, one_byte}
 use Rattle.cbor4ii.specs.Sequence.{four_small}
 use Rattle.cbor4ii.specs.Typed.{Lawful, any_two}
 
@@ -25,14 +25,10 @@ StopsUnit [] budget refusal rest = (refusal ≡ eof (codes "unit") (Small 1)) ×
 StopsUnit (b ∷ bs) budget refusal rest =
     (b ≢ 0x80) × (refusal ≡ mismatch (codes "unit") b) × (rest ≡ bs)
 
-pub one_there : (xs : List ℕ) (b : ℕ) → take 1 xs ≡ b ∷ [] → 1 ≤ length xs
-one_there [] b e = cc
-one_there (x ∷ xs) b e = omega arith
-
 pub unit_laws : Lawful ReadsUnit any_two true
 unit_laws = record {
   one = λ xs v w n m c d p q. (p.1 ∙ sym q.1, p.2 ∙ sym q.2, tt);
-  within = λ xs v n c p. omega (arith, p.1, one_there xs 0x80 p.0);
+  within = λ xs v n c p. omega (arith, p.1, one_byte xs 0x80 p.0);
   positive = λ e xs v n c p. omega (arith, p.1);
 }
 

@@ -1,6 +1,6 @@
 -- Integers of sixteen bytes.
 use Rattle.std.proofs.Common.{◌≡◌, ◌≢◌, ℕ, ◌+◌, ◌-◌, ◌/◌, ◌^◌, ◌<◌, ◌≤◌, ◌⊎◌, inl, inr, List, []}
-use Rattle.std.proofs.Common.{◌∷◌, ◌++◌, length, drop, take, Option, Some, None, Ok, Err, Bool}
+use Rattle.std.proofs.Common.{◌∷◌, length, drop, take, Option, Some, None, Ok, Err, Bool}
 use Rattle.std.proofs.Common.{true, false, refl, sym, ap, ap₂, ◌∙◌, subst, arith, cond, eqb}
 use Rattle.std.proofs.Common.{eqb-true, eq-eqb, ltb, ltb-true, ltb-false}
 use Rattle.std.specs.Prelude.{ℤ, pos, negsuc, codes}
@@ -30,12 +30,14 @@ use Rattle.cbor4ii_items.specs.Laws.Outcome.{same_value, same_refusal}
 use Rattle.cbor4ii_items.specs.Laws.Fronts.{drop_more}
 use Rattle.cbor4ii_items.specs.Laws.Bignums.{u128_again, i128_again}
 use Rattle.cbor4ii_items.proofs.Leaves.{IsLeaf}
-use Rattle.cbor4ii_items.proofs.Stopping.{head_stops, number_cut}
+use Rattle.cbor4ii_items.proofs.Stopping.{head_stops}
+use Rattle.cbor4ii_items.specs.Laws.ReadingHeads.{number_cut}
 use Rattle.cbor4ii_items.proofs.SignedLeaf.{sign_given, sign_refused}
 use Rattle.cbor4ii_items.specs.Laws.ProgramEnds.{ok_parts, ErrParts, err_parts, Passed, LeavesEnd}
 use Rattle.cbor4ii_items.specs.Laws.ProgramEnds.{number_leaves, head_leaves, length_leaves}
 use Rattle.cbor4ii_items.specs.Laws.ProgramEnds.{if_leaves, then_leaves, refuse_leaves}
 use Rattle.cbor4ii_items.proofs.BelowLimit.{below_ok, below_err}
+use Rattle.cbor4ii_items.specs.Laws.Contents.{IsBytes-append}
 
 -- ---- lengths
 
@@ -117,14 +119,10 @@ ends_after i n xs ys zs room e q f within =
       length-drop n xs,
     )
 
-IsBytes-behind : (xs ys : List ℕ) → IsBytes (xs ++ ys) → IsBytes ys
-IsBytes-behind [] ys h = h
-IsBytes-behind (x ∷ xs) ys h = IsBytes-behind xs ys h.1
-
 bytes_between : (i k n : ℕ) (xs : List ℕ) → n ≡ i + k → IsBytes (take n xs)
     → IsBytes (take k (drop i xs))
 bytes_between i k n xs e h =
-    IsBytes-behind (take i xs) (take k (drop i xs))
+    IsBytes-append (take i xs) (take k (drop i xs))
     (subst IsBytes (ap (λ j. take j xs) e ∙ take-add i k xs) h)
 
 counted_ok : (t : Bool) (name : List ℕ) (count v : ℕ) (ys zs : List ℕ) → ltb 16 count ≡ t

@@ -14,7 +14,7 @@ use Rattle.cbor4ii_items.specs.ReadNumber.{u128_at, signed_bignum_at, i128_by, i
 use Rattle.cbor4ii_items.specs.ReadNumber.{as_negative}
 use Rattle.cbor4ii_items.specs.Laws.Running.{runs_as, runs_then, runs_with}
 use Rattle.cbor4ii_items.proofs.SignedRuns.{first_major, runs_where}
-use Rattle.cbor4ii_items.specs.Laws.Bignums.{i128_positive_by, i128_negative_by}
+use Rattle.cbor4ii_items.specs.Laws.Bignums.{i128_positive_by, i128_negative_by, u128_unsigned}
 
 short_by : (name : List ℕ) (count : ℕ) → count ≤ 16
     → magnitude_by name (Some count) ≡ number_on name count count 0
@@ -28,9 +28,6 @@ runs_magnitude name count h p q =
     runs_then (magnitude_by name) p (runs_as (short_by name count h) q)
 
 -- ---- u128
-
-u128_unsigned : (b : ℕ) → b / 32 ≡ 0 → u128_by b ≡ head_at (codes "u64") 0 8
-u128_unsigned b e = let t : b / 32 ≡ 0 = e in rw t refl
 
 u128_tag : (b : ℕ) → b / 32 ≢ 0 → u128_by b ≡ (head_at (codes "u128") 6 1 >=> unsigned_bignum_at)
 u128_tag b e = let t : eqb (b / 32) 0 ≡ false = ne_eqb (b / 32) 0 e in rw t refl

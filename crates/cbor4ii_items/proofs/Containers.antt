@@ -12,11 +12,12 @@ use Rattle.cbor4ii_items.specs.Decoding.{Reads, StopsAt, CostFits, Sound, NoneRe
 use Rattle.cbor4ii_items.specs.Heads.{ReadsHead, StopsHead}
 use Rattle.cbor4ii_items.specs.Laws.Heads.{head_one}
 use Rattle.cbor4ii_items.specs.Numbers.{ReadsArgument, StopsArgument}
-use Rattle.cbor4ii_items.specs.Containers.{BeginsNull, ReadsOption, StopsOption, ReadsTag, StopsTag}
+use Rattle.cbor4ii_items.specs.Containers.{ReadsOption, StopsOption, ReadsTag, StopsTag}
 use Rattle.cbor4ii_items.specs.Laws.Outcome.{same_refusal}
 use Rattle.cbor4ii_items.specs.Laws.Fronts.{drop_more}
 use Rattle.cbor4ii_items.specs.Laws.Running.{peeked}
 use Rattle.cbor4ii_items.specs.Laws.Answering.{fits_zero, if_some}
+use Rattle.cbor4ii_items.specs.Laws.Containers.{not_null, no_option}
 
 -- what is exact stays so, where the bytes are told
 -- ---- the byte that was looked at
@@ -41,10 +42,6 @@ saw name expect b p = record {
   budget = p.moves.by.budget;
 }
 
-not_null : (xs : List ℕ) (b : ℕ) → take 1 xs ≡ b ∷ [] → b ≢ 0xf6 → b ≢ 0xf7 → BeginsNull xs → ⊥
-not_null xs b e p q h =
-    elim h [ inl f ↦ (let g : b ≡ 0xf6 = cc in p g) | inr f ↦ (let g : b ≡ 0xf7 = cc in q g) ]
-
 -- ---- some item
 
 pub some_sound : {V : Type 0} (reads : Reads V) (a m b : View) (v : V) (first : ℕ) → Saw a m first
@@ -61,12 +58,6 @@ some_sound reads a m b v first s p q h = record {
         left = t.left;
       };
 }
-
-no_option : {V : Type 0} (reads : Reads V) (xs : List ℕ) (old new : Option ℕ) → old ≡ new
-    → (BeginsNull xs → ⊥) → NoneRead reads xs old → (o : Option V) (k c : ℕ)
-    → ReadsOption reads xs o k c → CostFits c new → ⊥
-no_option reads xs old new e n h None k c r fits = n r.0
-no_option reads xs old new e n h (Some v) k c r fits = h v k c r.2 (subst (CostFits c) (sym e) fits)
 
 pub some_refuses : {V E : Type 0} (reads : Reads V) (a m : View) (e : DecodeError E) (first : ℕ)
     → Saw a m first → first ≢ 0xf6 → first ≢ 0xf7

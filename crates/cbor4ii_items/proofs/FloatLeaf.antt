@@ -18,7 +18,7 @@ use Rattle.cbor4ii_items.specs.Floats.{float_at, float_again}
 use Rattle.cbor4ii_items.specs.Laws.ProgramEnds.{ok_parts, err_parts, ErrParts}
 use Rattle.cbor4ii_items.specs.Laws.Contents.{lends_front}
 use Rattle.cbor4ii_items.proofs.Leaves.{IsLeaf}
-use Rattle.cbor4ii_items.proofs.Stopping.{number_cut}
+use Rattle.cbor4ii_items.specs.Laws.ReadingHeads.{number_cut}
 use Rattle.cbor4ii_items.proofs.Marked.{marked_value, marked_stays}
 
 module _ (name : List ℕ) (marker count : ℕ) where

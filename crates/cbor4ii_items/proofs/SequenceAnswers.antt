@@ -1,7 +1,7 @@
 -- What a sequence's head, its parts and its step answer together.
-use Rattle.std.proofs.Common.{◌≡◌, ◌≢◌, ℕ, ◌+◌, ◌-◌, ◌<◌, ◌≤◌, inl, inr, List, length, drop, Option}
+use Rattle.std.proofs.Common.{◌≡◌, ℕ, ◌+◌, ◌<◌, inl, inr, List, length, drop, Option}
 use Rattle.std.proofs.Common.{Some, None, Result, Ok, Err, Bool, true, refl, sym, ap, ◌∙◌, subst}
-use Rattle.std.proofs.Common.{arith, IfSome, IfOk, IfErr}
+use Rattle.std.proofs.Common.{IfSome, IfOk, IfErr}
 use Rattle.std.specs.declared.alloc.Global.{Global}
 use Rattle.std.specs.declared.vec.Vec.{Vec}
 use Rattle.cbor4ii_rw.specs.View.{View}
@@ -17,7 +17,7 @@ use Rattle.cbor4ii_items.specs.Laws.ProgramEnds.{length_some, length_none}
 use Rattle.cbor4ii_items.specs.Laws.Strings.{length_known, length_open}
 use Rattle.cbor4ii_items.specs.Sequences.{ReadsCount, ReadsUpToBreak, ReadsInside, ReadsSequence}
 use Rattle.cbor4ii_items.specs.Sequences.{StopsCount, StopsUpToBreak, StopsInside, length_refused}
-use Rattle.cbor4ii_items.specs.Sequences.{counted_refused, open_refused, after_step, StopsSequence}
+use Rattle.cbor4ii_items.specs.Sequences.{counted_refused, open_refused, StopsSequence}
 use Rattle.cbor4ii_items.specs.Sequences.{under_step}
 use Rattle.cbor4ii_items.specs.Laws.Answering.{same_some, if_some}
 use Rattle.cbor4ii_items.proofs.StringsRead.{no_length}
@@ -25,6 +25,7 @@ use Rattle.cbor4ii_items.specs.Laws.SequenceParts.{stops_as}
 use Rattle.cbor4ii_items.specs.Laws.SequenceInside.{if_ok, if_err, if_err_told, Counts, Opens}
 use Rattle.cbor4ii_items.specs.Laws.SequenceInside.{counted_read, opened_read, counted_not_read}
 use Rattle.cbor4ii_items.specs.Laws.SequenceInside.{opened_not_read, of_sound, of_refuses}
+use Rattle.cbor4ii_items.specs.Laws.UnderStep.{fits_step, fits_inside, stepped}
 
 -- ---- the head
 
@@ -154,21 +155,6 @@ module _ {P : Type 0} (major : ℕ) (reads : Reads P) (never_empty : Bool) where
           ] s
 
 -- ---- the step
-
-fits_step : (old new : Option ℕ) (c : ℕ) → StepsIn old new true → CostFits c new
-    → CostFits (1 + c) old
-fits_step None new c h f = tt
-fits_step (Some left) new c h f =
-    let g : c ≤ left - 1 = subst (CostFits c) h.2 f in omega (arith, h.0, g)
-
-fits_inside : (old new : Option ℕ) (c : ℕ) → StepsIn old new true → CostFits (1 + c) old
-    → CostFits c new
-fits_inside None new c h f = subst (CostFits c) (sym h) tt
-fits_inside (Some left) new c h f = subst (CostFits c) (sym h.2) (omega (arith, f))
-
-stepped : (old new : Option ℕ) → StepsIn old new true → (old ≢ Some 0) × (new ≡ after_step old)
-stepped None new h = ((λ e. cc), h)
-stepped (Some left) new h = ((λ e. let f : left ≡ 0 = cc in omega (arith, h.0, f)), h.2)
 
 module _ {P : Type 0} (major : ℕ) (reads : Reads P) (never_empty : Bool) where
   module _ {E : Type 0} (r : Result (Vec P Global) (DecodeError E)) (a b : View)

@@ -1,8 +1,8 @@
 -- Shortest heads, and strings behind them, are read exactly as they are spelled.
-use Rattle.std.proofs.Common.{◌≡◌, ◌≢◌, ℕ, ◌+◌, ◌-◌, ◌*◌, ◌%◌, ◌^◌, ◌<◌, ◌≤◌, inl, inr, List, []}
+use Rattle.std.proofs.Common.{◌≡◌, ◌≢◌, ℕ, ◌+◌, ◌-◌, ◌*◌, ◌%◌, ◌<◌, ◌≤◌, inl, inr, List, []}
 use Rattle.std.proofs.Common.{◌∷◌, ◌++◌, length, drop, take, Option, Some, Result, Ok, Err, Bool}
 use Rattle.std.proofs.Common.{true, false, refl, sym, ap, ap₂, ◌∙◌, subst, arith, cond, ltb, leb}
-use Rattle.std.proofs.Common.{eqb, ltb-true, le-ltb, leb-true, eqb-true, eq-eqb, ne_eqb, le-leb}
+use Rattle.std.proofs.Common.{eqb, le-ltb, leb-true, eqb-true, eq-eqb, ne_eqb, le-leb}
 use Rattle.std.proofs.Common.{IfOk, IfErr}
 use Rattle.std.specs.Int.{bytes_high_first}
 use Rattle.std.proofs.lemmas.List.{length-drop, length-take-le, length-take}
@@ -10,7 +10,7 @@ use Rattle.std.specs.declared.vec.Vec.{Vec}
 use Rattle.cbor4ii_rw.specs.View.{View}
 use Rattle.cbor4ii_rw.specs.Reader.{Advances}
 use Rattle.cbor4ii_rw.specs.declared.error.DecodeError.{DecodeError}
-use Rattle.cbor4ii_items.specs.Head.{Width, in_first, one as w_one, two, four, eight, byte_count}
+use Rattle.cbor4ii_items.specs.Head.{Width, byte_count}
 use Rattle.cbor4ii_items.specs.Head.{HeadFits, additional, head, open_head, shortest, IsBytes}
 use Rattle.cbor4ii_items.specs.Refusal.{Refusal, refusal_of, is_read, is_depth_overflow, eof}
 use Rattle.cbor4ii_items.specs.Refusal.{len_of, not_canonical}
@@ -20,6 +20,7 @@ use Rattle.cbor4ii_items.specs.Decoding.{Sound, Refuses, Stops}
 use Rattle.cbor4ii_items.specs.Laws.Outcome.{same_value, same_refusal}
 use Rattle.cbor4ii_items.specs.Heads.{ReadsHead}
 use Rattle.cbor4ii_items.specs.Laws.Heads.{read_head, head_read, additional-lt, info-additional}
+use Rattle.cbor4ii_items.specs.Laws.Heads.{shortest_fits, argument_below, same_wide}
 use Rattle.cbor4ii_items.specs.ReadHead.{head_at}
 use Rattle.cbor4ii_items.specs.Contents.{listed}
 use Rattle.cbor4ii_items.specs.ReadStrings.{content_on}
@@ -43,29 +44,6 @@ use Rattle.cbor4ii_items.proofs.StringsRead.{content_refused}
 
 -- ---- the width that a first byte says
 
-if_cases : {A : Type 0} (P : A → Type 0) (b : Bool) (x y : A) → (b ≡ true → P x) → (b ≡ false → P y)
-    → P (cond b x y)
-if_cases P true x y f g = f refl
-if_cases P false x y f g = g refl
-
-shortest_fits : (n : ℕ) → n < 2 ^ 64 → HeadFits (shortest n) n
-shortest_fits n h =
-    let P : Width → Type 0 = λ w. HeadFits w n in
-    if_cases P (ltb n 24) _ _ (λ e. let lt = ltb-true n 24 e in omega (arith, lt))
-    (λ _. if_cases P (ltb n 256) _ _ (λ e. ltb-true n 256 e)
-    (λ _. if_cases P (ltb n (256 ^ 2)) _ _ (λ e. ltb-true n (256 ^ 2) e)
-    (λ _. if_cases P (ltb n (256 ^ 4)) _ _ (λ e. ltb-true n (256 ^ 4) e) (λ _. h))))
-
-below : (w : Width) (n : ℕ) → HeadFits w n → n < 2 ^ 64
-below in_first n h = omega arith
-below w_one n h = omega arith
-below two n h = omega arith
-below four n h = omega arith
-below eight n h = omega arith
-
-same_wide : (w u : Width) → wide w ≡ wide u → w ≡ u
-same_wide w u e = cc
-
 same_width : (n : ℕ) (w u : Width) → HeadFits w n → HeadFits u n → additional w n ≡ additional u n
     → w ≡ u
 same_width n w u h k e =
@@ -83,7 +61,7 @@ least_width : (major v n : ℕ) (xs : List ℕ) → (h : ReadsHead major 8 xs v 
 least_width major v n xs h first =
     let low = first (32 * major + additional h.wide v)
     (bytes_high_first (byte_count h.wide) v ++ h.rest) h.is in
-    same_width v h.wide (shortest v) h.fits (shortest_fits v (below h.wide v h.fits))
+    same_width v h.wide (shortest v) h.fits (shortest_fits v (argument_below h.wide v h.fits))
     (sym (says major v h.wide h.fits) ∙ low)
 
 -- ---- the first byte of an indefinite length

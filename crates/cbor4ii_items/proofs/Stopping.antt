@@ -1,6 +1,6 @@
 -- How a head is refused.
-use Rattle.std.proofs.Common.{◌≡◌, ◌≢◌, ℕ, zero, suc, ◌+◌, ◌*◌, ◌/◌, ◌%◌, ◌<◌, ◌≤◌, inl, inr, List}
-use Rattle.std.proofs.Common.{[], ◌∷◌, length, Err, Bool, true, false, refl, sym, ap, ◌∙◌, arith}
+use Rattle.std.proofs.Common.{◌≡◌, ◌≢◌, ℕ, ◌+◌, ◌*◌, ◌/◌, ◌%◌, ◌<◌, ◌≤◌, inl, inr, List}
+use Rattle.std.proofs.Common.{[], ◌∷◌, Err, Bool, true, false, refl, sym, ap, ◌∙◌, arith}
 use Rattle.std.proofs.Common.{ltb, leb, lt-ltb, le-leb, eqb, eq-eqb, eqb-true, ltb-false, cond}
 use Rattle.std.proofs.Math.Nat.{pow-le-pow_right}
 use Rattle.cbor4ii_rw.specs.declared.error.Len.TheVariants.{Small}
@@ -12,18 +12,7 @@ use Rattle.cbor4ii_items.specs.Laws.Outcome.{same_refusal}
 use Rattle.cbor4ii_items.specs.Heads.{Begins, NotAHead, CutHead, StopsHead}
 use Rattle.cbor4ii_items.specs.ReadHead.{head_at, argument_at, number_on, following, allowed}
 use Rattle.cbor4ii_items.specs.Laws.Heads.{additional-lt, allowed_parts, two_parts, wide_of}
-
--- a number is refused only where too few bytes follow
-pub number_cut : (name : List ℕ) (expect k high : ℕ) (bs : List ℕ) (z : Refusal) (ys : List ℕ)
-    → number_on name expect k high bs ≡ Err (z, ys)
-    → (length bs < k) × (z ≡ eof name (Small expect)) × (ys ≡ [])
-number_cut name expect zero high bs z ys e = cc
-number_cut name expect (suc k) high [] z ys e =
-    let p = same_refusal (byte_at name expect []) refl e in
-    (omega arith, sym p.0, sym p.1)
-number_cut name expect (suc k) high (b ∷ bs) z ys e =
-    let r = number_cut name expect k (high * 256 + b) bs z ys e in
-    (omega (arith, r.0), r.1, r.2)
+use Rattle.cbor4ii_items.specs.Laws.ReadingHeads.{number_cut}
 
 parts_of : (major width b : ℕ) (wide : Width) (h : Begins major width b wide)
     → (b / 32 ≡ major) × (b % 32 ≡ additional wide h.argument)

@@ -1,7 +1,7 @@
 -- What a reader over segments shows of its current one.
 use Rattle.std.proofs.Common.{rules, arith, ◌≡◌, ℕ, ◌+◌, ◌<◌, min, List, [], ◌∷◌, ◌++◌, length}
 use Rattle.std.proofs.Common.{take, nat_lt, refl, ap, ◌∙◌, length-append, length-take-le}
-use Rattle.std.proofs.lemmas.List.{take-append-le}
+use Rattle.std.proofs.lemmas.List.{take-append-le, nil_from_length}
 use Rattle.std.proofs.lemmas.Bool.{ltb-true}
 use Rattle.std.specs.Prelude.{IsTrue}
 use Rattle.std.specs.Borrow.{Bor}
@@ -23,7 +23,8 @@ front_of_current want n current others is end = record {
   begins = ap (λ k. take k (current ++ others)) long
       ∙ take-append-le n current others (omega (arith, is));
   within = omega (arith, is, long, length-append current others);
-  ends = λ wanted none. let empty : length current ≡ 0 = omega (arith, is, long) in end empty;
+  ends = λ wanted none. let nil_from_length : length current ≡ 0 = omega (arith, is, long) in
+      end nil_from_length;
 }
   where
     long : length (take n current) ≡ n
@@ -62,12 +63,9 @@ nothing_full : (others : List (Bor (List ℕ))) → length (joined_segments othe
 nothing_full [] none = refl
 nothing_full (segment ∷ others) none =
     ap (λ bytes. first_of bytes (first_full others))
-    (empty segment.now (omega (arith, none, length-append segment.now (joined_segments others))))
+    (nil_from_length segment.now
+    (omega (arith, none, length-append segment.now (joined_segments others))))
     ∙ nothing_full others (omega (arith, none, length-append segment.now (joined_segments others)))
-  where
-    empty : (bytes : List ℕ) → length bytes ≡ 0 → bytes ≡ []
-    empty [] none = refl
-    empty (byte ∷ bytes) none = absurd (search (none, rules))
 
 -- once empty segments are passed, the current one is shown
 pub current_is_shown : (current : List ℕ) (others : List (Bor (List ℕ)))

@@ -8,7 +8,7 @@ use Rattle.cbor4ii_rw.specs.declared.error.DecodeError.{DecodeError}
 use Rattle.cbor4ii_rw.specs.declared.error.DecodeError.TheVariants.{Read, OutOfMemory}
 use Rattle.cbor4ii_items.specs.Head.{in_first, additional, IsBytes}
 use Rattle.cbor4ii_items.specs.Heads.{ReadsHead, StopsHead, NotAHead, CutHead}
-use Rattle.cbor4ii_items.specs.Laws.Heads.{additional-lt, after_head, cut_head}
+use Rattle.cbor4ii_items.specs.Laws.Heads.{additional-lt, after_head, cut_head, byte_count-le}
 use Rattle.cbor4ii_items.specs.Refusal.{Refusal, mismatch, eof, is_out_of_memory}
 use Rattle.cbor4ii_items.specs.Moves.{Took, Moves}
 use Rattle.cbor4ii_items.specs.Decoding.{Stops}
@@ -19,7 +19,6 @@ use Rattle.cbor4ii_tool.specs.Reading.{integer_major, integer_argument, BeginsNe
 use Rattle.cbor4ii_tool.specs.Reading.{TakesInteger, ReadsInteger, RefusesInteger}
 use Rattle.cbor4ii_tool.specs.declared.integer.Integer.{Integer}
 use Rattle.cbor4ii_tool.specs.declared.integer.Integer.TheVariants.{Unsigned, Negative}
-use Rattle.cbor4ii_tool.proofs.Integers.{at_most_eight}
 
 -- ---- a look at the first byte
 
@@ -115,7 +114,7 @@ other name major b bs refusal rest only h = record {
   other = λ item I is. h.none item.width (record {
     argument = item.argument;
     fits = I.fits;
-    allowed = at_most_eight item.width;
+    allowed = byte_count-le item.width;
     is = is ∙ ap (λ m. 32 * m + additional item.width item.argument) (only item I is);
   });
 }

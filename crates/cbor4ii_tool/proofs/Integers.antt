@@ -1,9 +1,9 @@
 -- Integers at the front of bytes.
-use Rattle.std.proofs.Common.{◌≡◌, ℕ, suc, ◌+◌, ◌*◌, ◌≤◌, List, [], ◌∷◌, ◌++◌, drop, refl, sym, ap}
+use Rattle.std.proofs.Common.{◌≡◌, ℕ, suc, ◌+◌, ◌*◌, List, [], ◌∷◌, ◌++◌, drop, refl, sym, ap}
 use Rattle.std.proofs.Common.{◌∙◌, subst, arith, append_assoc, append-nil}
-use Rattle.cbor4ii_items.specs.Head.{Width, in_first, one, two, four, eight, byte_count, additional}
+use Rattle.cbor4ii_items.specs.Head.{byte_count, additional}
 use Rattle.cbor4ii_items.specs.Heads.{ReadsHead}
-use Rattle.cbor4ii_items.specs.Laws.Heads.{additional-lt, head_one, after_head}
+use Rattle.cbor4ii_items.specs.Laws.Heads.{additional-lt, head_one, after_head, byte_count-le}
 use Rattle.cbor4ii_tool.specs.Integer.{IntegerHead, IsIntegerHead, spelling, BeginsInteger}
 use Rattle.cbor4ii_tool.specs.Integer.{BeginsNoInteger, IsCutInteger}
 
@@ -18,20 +18,13 @@ same_major p q P Q first =
     let other = additional-lt q.argument q.width Q.fits in
     omega (arith, small, other, first)
 
-pub at_most_eight : (width : Width) → byte_count width ≤ 8
-at_most_eight in_first = omega arith
-at_most_eight one = omega arith
-at_most_eight two = omega arith
-at_most_eight four = omega arith
-at_most_eight eight = omega arith
-
 -- as the codec reads it
 abbrev as_head : (p : IntegerHead) → IsIntegerHead p → (xs rest : List ℕ) → xs ≡ spelling p ++ rest
     → ReadsHead p.major 8 xs p.argument (suc (byte_count p.width))
 as_head p P xs rest e =
     record {
       wide = p.width;
-      allowed = at_most_eight p.width;
+      allowed = byte_count-le p.width;
       fits = P.fits;
       rest = rest;
       is =

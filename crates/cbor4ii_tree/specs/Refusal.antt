@@ -2,19 +2,9 @@
 use Rattle.std.specs.Prelude.{ℕ, List, ◌⊎◌, codes}
 pub use Rattle.cbor4ii_rw.specs.declared.error.Len.{Len}
 pub use Rattle.cbor4ii_rw.specs.declared.error.Len.TheVariants.{Indefinite, Small, Big}
-pub use Rattle.cbor4ii_items.specs.Refusal.{
-  Refusal,
-  eof,
-  mismatch,
-  unsupported,
-  require_length,
-  require_borrowed,
-  require_utf8,
-  length_overflow,
-  cast_overflow,
-  depth_overflow,
-  len_of,
-}
+pub use Rattle.cbor4ii_items.specs.Refusal.{Refusal, eof, mismatch, unsupported, require_length}
+pub use Rattle.cbor4ii_items.specs.Refusal.{require_borrowed, require_utf8, length_overflow}
+pub use Rattle.cbor4ii_items.specs.Refusal.{cast_overflow, depth_overflow, len_of}
 use Rattle.cbor4ii_items.specs.Initial.{Sign, unsigned, negative, Kind, byte_string, text_string}
 use Rattle.cbor4ii_items.specs.Initial.{Precision, half, single, double}
 

@@ -1,6 +1,6 @@
 -- One decoding call behind another.
-use Rattle.std.proofs.Common.{◌≡◌, ℕ, ◌+◌, ◌≤◌, inl, inr, List, drop, Option, Some, None}
-use Rattle.std.proofs.Common.{refl, sym, ap, ◌∙◌, subst, arith, max, IfSome}
+use Rattle.std.proofs.Common.{◌≡◌, ℕ, ◌+◌, inl, inr, List, drop, Option, Some, None}
+use Rattle.std.proofs.Common.{refl, sym, ap, ◌∙◌, subst, max, IfSome}
 use Rattle.cbor4ii_rw.specs.View.{View}
 use Rattle.cbor4ii_rw.specs.declared.error.DecodeError.{DecodeError}
 use Rattle.cbor4ii_items.specs.Refusal.{Refusal, refusal_of}
@@ -9,13 +9,8 @@ use Rattle.cbor4ii_items.specs.Decoding.{Reads, StopsAt, CostFits, NoneRead, Sou
 use Rattle.cbor4ii_items.specs.Laws.Fronts.{drop_more}
 use Rattle.cbor4ii_items.specs.Laws.Answering.{if_some, refuses_as}
 use Rattle.cbor4ii_items.specs.Laws.SequenceParts.{fits_max, fits_less}
+use Rattle.cbor4ii_items.specs.Laws.Pairs.{less_max_left, less_max_right}
 use Rattle.cbor4ii_vectors.specs.Then.{ReadsThen, StopsThen, InOneWay, Carries}
-
-max_left : (c d e : ℕ) → c ≡ max d e → d ≤ c
-max_left c d e h = omega arith
-
-max_right : (c d e : ℕ) → c ≡ max d e → e ≤ c
-max_right c d e h = omega arith
 
 -- ---- one type as another
 
@@ -75,7 +70,7 @@ module _ {A B : Type 0} (first : Reads A) (second : A → Reads B) where
   no_first : (xs : List ℕ) (budget : Option ℕ) → NoneRead first xs budget
       → NoneRead (ReadsThen first second) xs budget
   no_first xs budget none v n c h fits =
-      let less = max_left c h.first_cost h.second_cost h.cost in
+      let less = less_max_left c h.first_cost h.second_cost h.cost in
       none v.0 h.before h.first_cost h.head (fits_less h.first_cost c budget less fits)
 
   pub first_refuses : {E : Type 0} {e : DecodeError E} {a : View} → Refuses first a e
@@ -88,7 +83,7 @@ module _ {A B : Type 0} (first : Reads A) (second : A → Reads B) where
     no_second xs v i d old mid read e none p n c h fits =
         let o = one xs p.0 v h.before i h.first_cost d h.head read in
         let tail = subst (λ j. second p.0 (drop j xs) p.1 h.behind h.second_cost) o.0 h.tail in
-        let less = max_right c h.first_cost h.second_cost h.cost in
+        let less = less_max_right c h.first_cost h.second_cost h.cost in
         none p.1 h.behind h.second_cost
         (carries p.0 v (drop i xs) p.1 h.behind h.second_cost o.2 tail)
         (fits_less h.second_cost c mid less (subst (CostFits c) (sym e) fits))

@@ -1,5 +1,5 @@
 -- A station is read in one way, from its own bytes alone.
-use Rattle.std.proofs.Common.{◌≡◌, ℕ, ◌≤◌, List, [], ◌∷◌, ◌++◌, length, take, Bool, true, false}
+use Rattle.std.proofs.Common.{◌≡◌, ℕ, List, [], ◌∷◌, ◌++◌, take, Bool, true, false}
 use Rattle.std.proofs.Common.{refl, sym, ◌∙◌, subst, arith}
 use Rattle.cbor4ii_items.specs.Head.{break, open_head}
 use Rattle.cbor4ii_items.specs.Laws.Heads.{head_one, head_read, head_alone}
@@ -8,6 +8,7 @@ use Rattle.cbor4ii_items.specs.Laws.Arguments.{unsigned_one, unsigned_within, un
 use Rattle.cbor4ii_items.specs.Strings.{ReadsTextAs, text_content}
 use Rattle.cbor4ii_items.specs.Laws.Strings.{head_not_open, text_one, text_within, text_alone}
 use Rattle.cbor4ii_items.specs.Laws.Containers.{first_kept}
+use Rattle.cbor4ii_items.specs.Laws.Sequences.{one_byte}
 use Rattle.cbor4ii_vectors.specs.declared.station.Station.{Station}
 use Rattle.cbor4ii_vectors.specs.Then.{InOneWay, Within, Positive, Alone, Carries}
 use Rattle.cbor4ii_vectors.specs.Then.{then_one, then_within, then_positive, then_alone}
@@ -23,10 +24,6 @@ opening_one xs false false n m c d p q =
 opening_one xs false true n m c d p q = absurd (head_not_open 4 xs 2 n (omega arith) p.0 q.0)
 opening_one xs true false n m c d p q = absurd (head_not_open 4 xs 2 m (omega arith) q.0 p.0)
 opening_one xs true true n m c d p q = (p.1 ∙ sym q.1, p.2 ∙ sym q.2, refl)
-
-one_byte : (xs : List ℕ) (b : ℕ) → take 1 xs ≡ b ∷ [] → 1 ≤ length xs
-one_byte [] b e = cc
-one_byte (x ∷ xs) b e = omega arith
 
 byte_alone : (b n : ℕ) (xs ys : List ℕ) → take 1 xs ≡ b ∷ [] → n ≡ 1
     → take 1 (take n xs ++ ys) ≡ b ∷ []

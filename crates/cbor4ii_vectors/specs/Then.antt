@@ -5,6 +5,7 @@ use Rattle.std.proofs.lemmas.List.{length-drop}
 use Rattle.cbor4ii_items.specs.Decoding.{Reads, StopsAt, CostFits}
 use Rattle.cbor4ii_items.specs.Refusal.{Refusal}
 use Rattle.cbor4ii_items.specs.Laws.Fronts.{two_fronts, behind_front}
+use Rattle.cbor4ii_items.specs.Laws.Sequences.{same_max}
 
 -- a part, and behind it another, which may depend on it: their bytes, at the greater of their costs
 pub record ReadsThen {A B : Type 0} (first : Reads A) (second : A → Reads B)
@@ -59,9 +60,6 @@ Carries {A} {B} same second = (a b : A) (xs : List ℕ) (v : B) (n c : ℕ) → 
     → second a xs v n c → second b xs v n c
 
 -- ---- laws
-
-same_max : (c d a b x y : ℕ) → c ≡ max a x → d ≡ max b y → a ≡ b → x ≡ y → c ≡ d
-same_max c d a b x y p q e f = omega arith
 
 module _ {A B : Type 0} (first : Reads A) (second : A → Reads B) where
   pub then_one : (same : A → A → Type 0) (alike : B → B → Type 0) → Carries same second

@@ -89,12 +89,12 @@ refuses_by {program = program} {e = e} {a = a} {b = b} reads again p = record {
       none_by program reads (refusal_of e) xs a.budget b.told (again xs) (p.answers xs told);
 }
 
-not_read : {E : Type 0} (e : DecodeError E) (z : Refusal) → refusal_of e ≡ Some z
+pub not_read : {E : Type 0} (e : DecodeError E) (z : Refusal) → refusal_of e ≡ Some z
     → is_read e ≡ false
 not_read (Read x) z h = cc
 not_read e z h = refl
 
-kept_of : (t : Bool) (a b : View) → t ≡ false → MatchBool t (Broke a b) (Kept a b) → Kept a b
+pub kept_of : (t : Bool) (a b : View) → t ≡ false → MatchBool t (Broke a b) (Kept a b) → Kept a b
 kept_of true a b e k = cc
 kept_of false a b e k = k
 

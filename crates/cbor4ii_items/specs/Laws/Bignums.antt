@@ -127,7 +127,7 @@ bignum_alone tag xs ys v n p =
 
 -- ---- u128
 
-u128_unsigned : (b : ℕ) → b / 32 ≡ 0 → u128_by b ≡ head_at (codes "u64") 0 8
+pub u128_unsigned : (b : ℕ) → b / 32 ≡ 0 → u128_by b ≡ head_at (codes "u64") 0 8
 u128_unsigned b e = let t : b / 32 ≡ 0 = e in rw t refl
 
 u128_bignum : (b : ℕ) → b / 32 ≡ 6 → u128_by b ≡ (head_at (codes "u128") 6 1 >=> unsigned_bignum_at)

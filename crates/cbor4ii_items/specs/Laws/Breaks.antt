@@ -46,7 +46,7 @@ break_found budget false xs ys e =
       left = b.2;
     }
 
-stays : (xs : List ℕ) → xs ≢ [] → (take 1 xs ≡ break ∷ [] → ⊥) → break_at xs ≡ Ok (false, xs)
+pub stays : (xs : List ℕ) → xs ≢ [] → (take 1 xs ≡ break ∷ [] → ⊥) → break_at xs ≡ Ok (false, xs)
 stays [] some other = absurd (some refl)
 stays (b ∷ bs) some other =
     let t : eqb b break ≡ false = ne_eqb b break (λ is. other (ap (λ z. z ∷ []) is)) in

@@ -1,19 +1,29 @@
 -- An optional item and a tagged item are read as their item is.
 use Rattle.std.proofs.Common.{◌≡◌, ℕ, zero, suc, ◌≤◌, inl, inr, List, [], ◌∷◌, ◌++◌, length, drop}
 use Rattle.std.proofs.Common.{take, Option, Some, None, Bool, true, false, IsTrue, refl, sym, ap}
-use Rattle.std.proofs.Common.{◌∙◌, subst, arith}
+use Rattle.std.proofs.Common.{◌∙◌, subst, arith, ◌≢◌}
 use Rattle.std.specs.Prelude.{◌&&◌}
 use Rattle.std.proofs.lemmas.List.{length-drop}
 use Rattle.cbor4ii_items.specs.Containers.{BeginsNull, ReadsOption, SameOption, ReadsTag}
 use Rattle.cbor4ii_items.specs.Heads.{ReadsHead}
 use Rattle.cbor4ii_items.specs.Laws.Heads.{head_one, head_read, head_alone}
 use Rattle.cbor4ii_items.specs.Laws.Fronts.{two_fronts, behind_front}
-use Rattle.cbor4ii_items.specs.Decoding.{Reads}
+use Rattle.cbor4ii_items.specs.Decoding.{Reads, NoneRead, CostFits}
 
 -- ---- an item or none
 
 null_or_not : {A : Type 0} (xs : List ℕ) → BeginsNull xs → (BeginsNull xs → ⊥) → A
 null_or_not xs p q = absurd (q p)
+
+pub not_null : (xs : List ℕ) (b : ℕ) → take 1 xs ≡ b ∷ [] → b ≢ 0xf6 → b ≢ 0xf7 → BeginsNull xs → ⊥
+not_null xs b e p q h =
+    elim h [ inl f ↦ (let g : b ≡ 0xf6 = cc in p g) | inr f ↦ (let g : b ≡ 0xf7 = cc in q g) ]
+
+pub no_option : {V : Type 0} (reads : Reads V) (xs : List ℕ) (old new : Option ℕ) → old ≡ new
+    → (BeginsNull xs → ⊥) → NoneRead reads xs old → (o : Option V) (k c : ℕ)
+    → ReadsOption reads xs o k c → CostFits c new → ⊥
+no_option reads xs old new e n h None k c r fits = n r.0
+no_option reads xs old new e n h (Some v) k c r fits = h v k c r.2 (subst (CostFits c) (sym e) fits)
 
 pub option_one : {V : Type 0} (reads : Reads V) (same : V → V → Type 0) → ((xs : List ℕ) (v w : V)
     (n m c d : ℕ) → reads xs v n c → reads xs w m d → (n ≡ m) × (c ≡ d) × same v w)

@@ -11,7 +11,7 @@ use Rattle.std.proofs.Math.Nat.{pow-le-pow_right}
 use Rattle.std.proofs.Math.Arith.{mod-mul}
 use Rattle.std.proofs.Math.Seq.{drop-append_seam, take-append_seam}
 use Rattle.cbor4ii_items.specs.Head.{Width, in_first, one as w_one, two, four, eight, byte_count}
-use Rattle.cbor4ii_items.specs.Head.{HeadFits, additional, head, IsBytes}
+use Rattle.cbor4ii_items.specs.Head.{HeadFits, additional, head, IsBytes, shortest}
 use Rattle.cbor4ii_items.specs.Initial.{wide as in_width, info_of}
 use Rattle.cbor4ii_items.specs.Refusal.{mismatch}
 use Rattle.cbor4ii_items.specs.Reading.{give, refuse}
@@ -78,6 +78,37 @@ info-additional n w_one h = refl
 info-additional n two h = refl
 info-additional n four h = refl
 info-additional n eight h = refl
+
+pub if_cases : {A : Type 0} (P : A → Type 0) (b : Bool) (x y : A) → (b ≡ true → P x)
+    → (b ≡ false → P y)
+    → P (cond b x y)
+if_cases P true x y f g = f refl
+if_cases P false x y f g = g refl
+
+pub shortest_fits : (n : ℕ) → n < 2 ^ 64 → HeadFits (shortest n) n
+shortest_fits n h =
+    let P : Width → Type 0 = λ w. HeadFits w n in
+    if_cases P (ltb n 24) _ _ (λ e. let lt = ltb-true n 24 e in omega (arith, lt))
+    (λ _. if_cases P (ltb n 256) _ _ (λ e. ltb-true n 256 e)
+    (λ _. if_cases P (ltb n (256 ^ 2)) _ _ (λ e. ltb-true n (256 ^ 2) e)
+    (λ _. if_cases P (ltb n (256 ^ 4)) _ _ (λ e. ltb-true n (256 ^ 4) e) (λ _. h))))
+
+pub argument_below : (w : Width) (n : ℕ) → HeadFits w n → n < 2 ^ 64
+argument_below in_first n h = omega arith
+argument_below w_one n h = omega arith
+argument_below two n h = omega arith
+argument_below four n h = omega arith
+argument_below eight n h = omega arith
+
+pub same_wide : (w u : Width) → in_width w ≡ in_width u → w ≡ u
+same_wide w u e = cc
+
+pub byte_count-le : (w : Width) → byte_count w ≤ 8
+byte_count-le in_first = omega arith
+byte_count-le w_one = omega arith
+byte_count-le two = omega arith
+byte_count-le four = omega arith
+byte_count-le eight = omega arith
 
 head_again : (name : List ℕ) (w : Width) (major v width : ℕ) (ys : List ℕ) → HeadFits w v
     → byte_count w ≤ width → head_at name major width (head major v w ++ ys) ≡ Ok (v, ys)

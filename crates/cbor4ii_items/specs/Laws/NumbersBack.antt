@@ -113,10 +113,10 @@ number_kept [] = refl
 number_kept (zero ∷ bs) = number_kept bs
 number_kept (suc b ∷ bs) = refl
 
-no_longer : (bs : List ℕ) → length (without_leading_zeros bs) ≤ length bs
-no_longer [] = omega arith
-no_longer (zero ∷ bs) = omega (arith, no_longer bs)
-no_longer (suc b ∷ bs) = omega arith
+pub length-without_leading_zeros : (bs : List ℕ) → length (without_leading_zeros bs) ≤ length bs
+length-without_leading_zeros [] = omega arith
+length-without_leading_zeros (zero ∷ bs) = omega (arith, length-without_leading_zeros bs)
+length-without_leading_zeros (suc b ∷ bs) = omega arith
 
 still_bytes : (bs : List ℕ) → IsBytes bs → IsBytes (without_leading_zeros bs)
 still_bytes [] h = tt
@@ -188,7 +188,11 @@ bignum_back tag v small fits rest =
     let number : number_of content ≡ v =
     number_kept (bytes_high_first 16 v) ∙ number_of_bytes 16 v fits in
     let short : length content ≤ 16 =
-    omega (arith, no_longer (bytes_high_first 16 v), length-bytes_high_first 16 v) in
+    omega (
+      arith,
+      length-without_leading_zeros (bytes_high_first 16 v),
+      length-bytes_high_first 16 v,
+    ) in
     let back =
     string_back content rest short (still_bytes (bytes_high_first 16 v) (all_bytes 16 v)) in
     record {

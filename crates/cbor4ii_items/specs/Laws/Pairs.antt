@@ -18,10 +18,10 @@ pub exact_both : (a b : Bool) (v : View) → IsExact (a && b) v → IsExact a v 
 exact_both a b v (inl e) = let h = both a b e in (inl h.0, inl h.1)
 exact_both a b v (inr e) = (inr e, inr e)
 
-less_max_left : (c d e : ℕ) → c ≡ max d e → d ≤ c
+pub less_max_left : (c d e : ℕ) → c ≡ max d e → d ≤ c
 less_max_left c d e h = omega arith
 
-less_max_right : (c d e : ℕ) → c ≡ max d e → e ≤ c
+pub less_max_right : (c d e : ℕ) → c ≡ max d e → e ≤ c
 less_max_right c d e h = omega arith
 
 module _ {K V : Type 0} (key_reads : Reads K) (value_reads : Reads V) where

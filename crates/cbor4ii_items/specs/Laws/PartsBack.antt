@@ -26,17 +26,17 @@ pub open_back : (major : ℕ) → ReadsBack (ReadsLength major) (opening major) 
 open_back major rest = (refl, refl, refl)
 
 -- bytes behind a front, and others behind them
-record Behind (front bytes rest : List ℕ) : Type 0 where
-  whole : (front ++ bytes) ++ rest ≡ front ++ (bytes ++ rest)
-  left : drop (length front) ((front ++ bytes) ++ rest) ≡ bytes ++ rest
+pub record Behind (front bytes rest : List ℕ) : Type 0 where
+  pub whole : (front ++ bytes) ++ rest ≡ front ++ (bytes ++ rest)
+  pub left : drop (length front) ((front ++ bytes) ++ rest) ≡ bytes ++ rest
 
-behind : (front bytes rest : List ℕ) → Behind front bytes rest
+pub behind : (front bytes rest : List ℕ) → Behind front bytes rest
 behind front bytes rest =
     let e = append_assoc front bytes rest in
     record { whole = e; left = ap (drop (length front)) e ∙ drop-append_seam front (bytes ++ rest) }
 
 -- a head of eight bytes of argument at most, whatever stands behind it
-headed : (major k : ℕ) (bytes rest : List ℕ) → k < 2 ^ 64
+pub headed : (major k : ℕ) (bytes rest : List ℕ) → k < 2 ^ 64
     → ReadsHead major 8 ((shortest_head major k ++ bytes) ++ rest) k
     (length (shortest_head major k))
 headed major k bytes rest h =

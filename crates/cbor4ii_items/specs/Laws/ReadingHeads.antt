@@ -1,16 +1,19 @@
 -- Heads, byte by byte: numbers and how great they can be.
 use Rattle.std.proofs.Common.{◌≡◌, ◌≢◌, ℕ, suc, ◌+◌, ◌-◌, ◌*◌, ◌/◌, ◌^◌, ◌<◌, ◌≤◌, List, Option}
 use Rattle.std.proofs.Common.{Some, Result, Ok, Err, Bool, true, false, refl, ap, arith, eqb}
-use Rattle.std.proofs.Common.{eq-eqb, ne_eqb, cond, leb-true, pow-suc}
+use Rattle.std.proofs.Common.{eq-eqb, ne_eqb, cond, leb-true, pow-suc, zero, [], ◌∷◌, length, sym}
 use Rattle.std.specs.Prelude.{nat_lt, nat_le}
 use Rattle.std.proofs.Math.Nat.{pow-le-pow_right}
 use Rattle.cbor4ii_rw.specs.View.{View}
 use Rattle.cbor4ii_rw.specs.declared.error.DecodeError.{DecodeError}
+use Rattle.cbor4ii_rw.specs.declared.error.Len.TheVariants.{Small}
 use Rattle.cbor4ii_items.specs.Head.{open_head}
 use Rattle.cbor4ii_items.specs.Reading.{give, ◌>=>◌, byte_at, Runs, Reaches}
 use Rattle.cbor4ii_items.specs.ReadHead.{number_on, argument_at, head_by, head_at, length_by}
 use Rattle.cbor4ii_items.specs.ReadHead.{length_at, following, allowed}
 use Rattle.cbor4ii_items.specs.Laws.Running.{runs_give, runs_as, runs_then, runs_err, reaches_start}
+use Rattle.cbor4ii_items.specs.Refusal.{Refusal, eof}
+use Rattle.cbor4ii_items.specs.Laws.Outcome.{same_refusal}
 
 -- ---- numbers
 
@@ -28,6 +31,18 @@ small_number v i h le = omega (arith, pow-le-pow_right {n = 256} (omega arith) {
 pub number_more : (name : List ℕ) (expect k i high : ℕ) → i < k → number_on name expect (k - i) high
     ≡ (byte_at name expect >=> λ b. number_on name expect (k - (i + 1)) (high * 256 + b))
 number_more name expect k i high h = let e : k - i ≡ suc (k - (i + 1)) = omega arith in rw e refl
+
+-- a number is refused only where too few bytes follow
+pub number_cut : (name : List ℕ) (expect k high : ℕ) (bs : List ℕ) (z : Refusal) (ys : List ℕ)
+    → number_on name expect k high bs ≡ Err (z, ys)
+    → (length bs < k) × (z ≡ eof name (Small expect)) × (ys ≡ [])
+number_cut name expect zero high bs z ys e = cc
+number_cut name expect (suc k) high [] z ys e =
+    let p = same_refusal (byte_at name expect []) refl e in
+    (omega arith, sym p.0, sym p.1)
+number_cut name expect (suc k) high (b ∷ bs) z ys e =
+    let r = number_cut name expect k (high * 256 + b) bs z ys e in
+    (omega (arith, r.0), r.1, r.2)
 
 pub number_start : (name : List ℕ) (k : ℕ) (a : View)
     → Reaches (number_on name k k 0) (number_on name k (k - 0) 0) a a

@@ -22,10 +22,10 @@ use Rattle.cbor4ii_items.specs.Decoding.{Reads}
 pub not_less : (m n : ℕ) → (n < m → ⊥) → m ≤ n
 not_less m n h = omega arith
 
-same_max : (c d a b x y : ℕ) → c ≡ max a x → d ≡ max b y → a ≡ b → x ≡ y → c ≡ d
+pub same_max : (c d a b x y : ℕ) → c ≡ max a x → d ≡ max b y → a ≡ b → x ≡ y → c ≡ d
 same_max c d a b x y p q e f = omega arith
 
-one_byte : (xs : List ℕ) (b : ℕ) → BeginsWith xs b → 1 ≤ length xs
+pub one_byte : (xs : List ℕ) (b : ℕ) → BeginsWith xs b → 1 ≤ length xs
 one_byte [] b e = cc
 one_byte (x ∷ xs) b e = omega arith
 

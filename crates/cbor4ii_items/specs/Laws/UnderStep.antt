@@ -1,14 +1,15 @@
 -- A call under one step.
 use Rattle.std.proofs.Common.{◌≡◌, ℕ, ◌+◌, ◌-◌, ◌<◌, ◌^◌, Option, None, Some, Result, Bool, true}
 use Rattle.std.proofs.Common.{false, IsTrue, refl, sym, ap, ◌∙◌, subst, arith, ltb, lt-ltb, inl}
-use Rattle.std.proofs.Common.{inr}
+use Rattle.std.proofs.Common.{inr, ◌≢◌, ◌≤◌}
 use Rattle.std.specs.Prelude.{MatchBool}
 use Rattle.cbor4ii_rw.specs.View.{View}
 use Rattle.cbor4ii_rw.specs.Reader.{Failed, KeepsAllButBudget, StepsIn, step_back, counts}
 use Rattle.cbor4ii_rw.specs.declared.error.DecodeError.{DecodeError}
 use Rattle.cbor4ii_items.specs.Moves.{Kept, Broke, is_failure, Moves}
 use Rattle.cbor4ii_items.specs.Reading.{Reading, AnswersAs, Runs}
-use Rattle.cbor4ii_items.specs.Decoding.{IsExact}
+use Rattle.cbor4ii_items.specs.Decoding.{IsExact, CostFits}
+use Rattle.cbor4ii_items.specs.Sequences.{after_step}
 
 again : (left : ℕ) → 0 < left → left < 2 ^ 64 → step_back (Some (left - 1)) ≡ Some left
 again left some most =
@@ -25,6 +26,25 @@ step_again (Some left) new h = ap step_back h.2 ∙ again left h.0 h.1
 pub step_unbound : (old new : Option ℕ) → StepsIn old new true → old ≡ None → new ≡ None
 step_unbound None new h e = h
 step_unbound (Some left) new h e = cc
+
+pub fits_step : (old new : Option ℕ) (c : ℕ) → StepsIn old new true → CostFits c new
+    → CostFits (1 + c) old
+fits_step None new c h f = tt
+fits_step (Some left) new c h f =
+    let g : c ≤ left - 1 = subst (CostFits c) h.2 f in omega (arith, h.0, g)
+
+pub fits_inside : (old new : Option ℕ) (c : ℕ) → StepsIn old new true → CostFits (1 + c) old
+    → CostFits c new
+fits_inside None new c h f = subst (CostFits c) (sym h) tt
+fits_inside (Some left) new c h f = subst (CostFits c) (sym h.2) (omega (arith, f))
+
+pub stepped : (old new : Option ℕ) → StepsIn old new true → (old ≢ Some 0) × (new ≡ after_step old)
+stepped None new h = ((λ e. cc), h)
+stepped (Some left) new h = ((λ e. let f : left ≡ 0 = cc in omega (arith, h.0, f)), h.2)
+
+pub no_step : (old new : Option ℕ) → StepsIn old new false → (old ≡ Some 0) × (new ≡ old)
+no_step None new h = absurd h
+no_step (Some left) new h = let e : left ≡ 0 = h.0 in (ap Some e, h.1 ∙ ap Some (sym e))
 
 module _ {a b c d : View} (i : KeepsAllButBudget a b) (o : KeepsAllButBudget c d) where
   kept_around : (c.budget ≡ b.budget → d.budget ≡ a.budget) → Kept b c → Kept a d

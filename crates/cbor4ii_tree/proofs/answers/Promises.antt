@@ -1,15 +1,15 @@
 -- What a decoding call promises of told bytes follows from what it accepts and where it stops.
 use Rattle.std.proofs.Common.{◌≡◌, ℕ, ◌⊎◌, inl, inr, List, [], ◌++◌, length, take, drop, Option}
-use Rattle.std.proofs.Common.{Some, None, Result, Ok, Err, false, refl, sym, ap, ◌∙◌, subst}
+use Rattle.std.proofs.Common.{Some, None, Result, Ok, Err, refl, sym, ap, ◌∙◌, subst}
 use Rattle.std.proofs.Common.{append_assoc, append-nil, arith, length-append, MatchBool, IfSome}
 use Rattle.std.proofs.Common.{IfOk}
 use Rattle.std.proofs.lemmas.List.{take-append-drop}
 use Rattle.cbor4ii_rw.specs.View.{View}
 use Rattle.cbor4ii_rw.specs.declared.error.DecodeError.{DecodeError}
-use Rattle.cbor4ii_rw.specs.declared.error.DecodeError.TheVariants.{Read}
 use Rattle.cbor4ii_items.specs.Head.{IsBytes}
-use Rattle.cbor4ii_items.specs.Refusal.{Refusal, refusal_of, is_read}
+use Rattle.cbor4ii_items.specs.Refusal.{Refusal, refusal_of}
 use Rattle.cbor4ii_items.specs.Moves.{Moves, Kept, Broke}
+use Rattle.cbor4ii_items.specs.Laws.Answering.{not_read}
 use Rattle.cbor4ii_tree.specs.declared.value.Value.{Value}
 use Rattle.cbor4ii_tree.specs.Tree.{Tree, bytes, Loose, Joins}
 use Rattle.cbor4ii_tree.specs.Item.{Item, IsItem}
@@ -56,11 +56,6 @@ no_eof : (z : Refusal) → IsDepthOverflow z ⊎ IsFinal z → ¬ (IsEof z)
 no_eof (eof name expect) (inl d) q = absurd d
 no_eof (eof name expect) (inr f) q = absurd f
 no_eof _ d q = absurd q
-
-not_read : {E : Type 0} (e : DecodeError E) (z : Refusal) → refusal_of e ≡ Some z
-    → is_read e ≡ false
-not_read (Read failure) z says = cc
-not_read _ z says = refl
 
 -- where nothing is left, all bytes were taken, so that they are bytes
 taken_bytes : (xs : List ℕ) (n : ℕ) (new : Option (List ℕ)) → new ≡ Some (drop n xs) → new ≡ Some []

@@ -14,6 +14,7 @@ use Rattle.cbor4ii_items.specs.Initial.{unsigned, negative, Kind, byte_string, t
 use Rattle.cbor4ii_items.specs.Initial.{kind_major, Initial, starts_string, starts_array}
 use Rattle.cbor4ii_items.specs.Initial.{starts_map, starts_tag, starts_simple, starts_bits}
 use Rattle.cbor4ii_items.specs.Initial.{other_simple, simple_undefined, initial}
+use Rattle.cbor4ii_items.specs.Laws.Heads.{shortest_fits}
 use Rattle.cbor4ii_tree.specs.Cost.{Budget, step_in}
 use Rattle.cbor4ii_tree.specs.Refusal.{Refusal, depth_overflow, sign_name, kind_name, array_name}
 use Rattle.cbor4ii_tree.specs.Refusal.{map_name, tag_name, value_name}
@@ -26,7 +27,6 @@ use Rattle.cbor4ii_tree.specs.Valuing.{StopsOneValue, StopsUnder}
 use Rattle.cbor4ii_tree.specs.Laws.Initials.{initial_string, initial_array, initial_map}
 use Rattle.cbor4ii_tree.specs.Laws.Initials.{initial_tag}
 use Rattle.cbor4ii_tree.proofs.answers.Nesting.{reading_by_parts}
-use Rattle.cbor4ii_tree.proofs.spellings.Canonical.{shortest_fits}
 use Rattle.cbor4ii_tree.proofs.parts.Widen.{each_covers}
 use Rattle.cbor4ii_tree.proofs.values.Calls.{int_stops}
 use Rattle.cbor4ii_tree.proofs.values.Heads.{at_row, tag_stops}

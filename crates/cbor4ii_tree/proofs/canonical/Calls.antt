@@ -14,7 +14,8 @@ use Rattle.cbor4ii_items.specs.Refusal.{Refusal, refusal_of, is_read, is_depth_o
 use Rattle.cbor4ii_items.specs.Refusal.{not_canonical}
 use Rattle.cbor4ii_items.specs.Head.{HeadFits, head, shortest}
 use Rattle.cbor4ii_items.specs.Heads.{ReadsHead}
-use Rattle.cbor4ii_items.specs.Laws.Heads.{after_head, length-bytes_high_first}
+use Rattle.cbor4ii_items.specs.Laws.Heads.{after_head, length-bytes_high_first, shortest_fits}
+use Rattle.cbor4ii_items.specs.Laws.Heads.{argument_below}
 use Rattle.cbor4ii_items.specs.Laws.Fronts.{drop_more}
 use Rattle.cbor4ii_items.specs.Floats.{ReadsFloat, StopsFloat, float_bytes}
 use Rattle.cbor4ii_items.specs.Moves.{Moves}
@@ -49,8 +50,6 @@ use Rattle.cbor4ii_tree.proofs.skip_calls.Doing.{reached_as, does_ok, does_err, 
 use Rattle.cbor4ii_tree.proofs.skip_calls.Doing.{does_refuse, does_stops, does_stepped}
 use Rattle.cbor4ii_tree.proofs.skip_calls.Doing.{reached_peek, reached_first, reached_sound}
 use Rattle.cbor4ii_tree.proofs.skip_calls.Doing.{steps_in}
-use Rattle.cbor4ii_tree.proofs.spellings.Canonical.{shortest_fits}
-use Rattle.cbor4ii_tree.proofs.spellings.Costs.{below_from_HeadFits}
 use Rattle.cbor4ii_tree.proofs.answers.Nesting.{strict_by_parts}
 use Rattle.cbor4ii_tree.proofs.canonical.Exactly.{raised, fits_raise, all_exactly}
 use Rattle.cbor4ii_tree.proofs.canonical.Exactly.{all_pairs_exactly, precision_major}
@@ -70,7 +69,7 @@ use Rattle.cbor4ii_tree.proofs.values.Encoding.{view-Array, view-Integer}
 shortest_of : (major n : ℕ) (xs : List ℕ) (k : ℕ) → (h : ReadsHead major 8 xs n k)
     → h.wide ≡ shortest n → ShortestAt major n xs (drop k xs)
 shortest_of major n xs k h s = (
-  below_from_HeadFits h.wide n h.fits,
+  argument_below h.wide n h.fits,
   h.is ∙ ap (λ u. head major n u ++ h.rest) s
       ∙ ap (λ z. head major n (shortest n) ++ z) (sym (after_head major 8 xs n k h)),
 )

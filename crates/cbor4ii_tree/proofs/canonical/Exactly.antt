@@ -6,10 +6,10 @@ use Rattle.std.proofs.Common.{subst, arith, append_assoc, append-nil}
 use Rattle.std.specs.Prelude.{IsUtf8}
 use Rattle.std.proofs.lemmas.List.{append_cancel_left}
 use Rattle.std.specs.Int.{bytes_high_first}
-use Rattle.cbor4ii_items.specs.Head.{Width, in_first, one, two, four, eight, byte_count, HeadFits}
+use Rattle.cbor4ii_items.specs.Head.{Width, byte_count, HeadFits}
 use Rattle.cbor4ii_items.specs.Head.{additional, head, shortest}
 use Rattle.cbor4ii_items.specs.Heads.{ReadsHead}
-use Rattle.cbor4ii_items.specs.Laws.Heads.{head_one}
+use Rattle.cbor4ii_items.specs.Laws.Heads.{head_one, shortest_fits, argument_below, byte_count-le}
 use Rattle.cbor4ii_items.specs.Decoding.{CostFits}
 use Rattle.cbor4ii_items.specs.Initial.{unsigned, negative, byte_string, text_string, Simple}
 use Rattle.cbor4ii_items.specs.Initial.{simple_false, simple_true, simple_null, simple_undefined}
@@ -29,8 +29,6 @@ use Rattle.cbor4ii_tree.specs.StopsStrictly.{Exactly, ShortestAt}
 use Rattle.cbor4ii_tree.specs.Strictly.{raise, StringAt}
 use Rattle.cbor4ii_tree.specs.Laws.Numbers.{additional-lt}
 use Rattle.cbor4ii_tree.specs.Laws.Ignoring.{one_spelling}
-use Rattle.cbor4ii_tree.proofs.spellings.Canonical.{shortest_fits}
-use Rattle.cbor4ii_tree.proofs.spellings.Costs.{below_from_HeadFits}
 use Rattle.cbor4ii_tree.proofs.parts.Pushed.{flat, count-flat, each-flat, bytes-flat}
 
 -- ---- what may begin bytes under a budget
@@ -197,13 +195,6 @@ none_at_end inner c = none c.0 c.2.0.1 c.1 c.3
 
 -- ---- heads
 
-pub count_le : (w : Width) → byte_count w ≤ 8
-count_le in_first = omega arith
-count_le one = omega arith
-count_le two = omega arith
-count_le four = omega arith
-count_le eight = omega arith
-
 -- one shortest head begins the bytes
 pub one_head : (major n m : ℕ) (x y : List ℕ) → major < 8 → n < 2 ^ 64 → m < 2 ^ 64
     → head major n (shortest n) ++ x ≡ head major m (shortest m) ++ y → (n ≡ m) × (x ≡ y)
@@ -212,7 +203,7 @@ one_head major n m x y small h k e =
     let p : ReadsHead major 8 all n (suc (byte_count (shortest n))) =
     record {
       wide = shortest n;
-      allowed = count_le (shortest n);
+      allowed = byte_count-le (shortest n);
       fits = shortest_fits n h;
       rest = x;
       is = refl;
@@ -221,7 +212,7 @@ one_head major n m x y small h k e =
     let q : ReadsHead major 8 all m (suc (byte_count (shortest m))) =
     record {
       wide = shortest m;
-      allowed = count_le (shortest m);
+      allowed = byte_count-le (shortest m);
       fits = shortest_fits m k;
       rest = y;
       is = e;
@@ -347,7 +338,7 @@ at_arm k x inner xs e h = subst (λ j. Arm j inner (x ∷ xs)) (sym e) h
 shortest_at : (major n : ℕ) (w : Width) (xs ys : List ℕ) → HeadFits w n → w ≡ shortest n
     → xs ≡ head major n w ++ ys → ShortestAt major n xs ys
 shortest_at major n w xs ys h s e =
-    (below_from_HeadFits w n h, e ∙ ap (λ u. head major n u ++ ys) s)
+    (argument_below w n h, e ∙ ap (λ u. head major n u ++ ys) s)
 
 simple_major : (s : Simple) → simple_byte s / 32 ≡ 7
 simple_major simple_false = refl

@@ -8,6 +8,7 @@ use Rattle.std.proofs.Math.Seq.{take-append_seam}
 use Rattle.cbor4ii_items.specs.Head.{Width, byte_count, additional, head, shortest}
 use Rattle.cbor4ii_items.specs.Heads.{ReadsHead, Begins}
 use Rattle.cbor4ii_items.specs.Laws.Heads.{head_one, additional-lt, length-bytes_high_first}
+use Rattle.cbor4ii_items.specs.Laws.Heads.{shortest_fits, argument_below, byte_count-le}
 use Rattle.cbor4ii_items.specs.Shortest.{StopsShortest, shortest_refused, shortest_open, too_long}
 use Rattle.cbor4ii_items.specs.Shortest.{StopsShortestString, length_refused, content_cut}
 use Rattle.cbor4ii_items.specs.Initial.{byte_string, text_string, wide, info_of, Simple}
@@ -25,8 +26,6 @@ use Rattle.cbor4ii_tree.specs.StopsStrictly.{StrictStopsBy, StrictStopsFrom, Str
 use Rattle.cbor4ii_tree.specs.StopsStrictly.{StopsStrictly}
 use Rattle.cbor4ii_tree.specs.Strictly.{StringAt}
 use Rattle.cbor4ii_tree.specs.Laws.Initials.{initial_simple, initial_bits}
-use Rattle.cbor4ii_tree.proofs.spellings.Canonical.{shortest_fits}
-use Rattle.cbor4ii_tree.proofs.spellings.Costs.{below_from_HeadFits}
 use Rattle.cbor4ii_tree.proofs.spellings.Strict.{same_width, same_first}
 use Rattle.cbor4ii_tree.proofs.values.Calls.{begins_width}
 use Rattle.cbor4ii_tree.proofs.canonical.Exactly.{Beginning, Lacks, BeginsOne, BeginsBehind}
@@ -34,7 +33,7 @@ use Rattle.cbor4ii_tree.proofs.canonical.Exactly.{BeginsHead, BeginsString, Begi
 use Rattle.cbor4ii_tree.proofs.canonical.Exactly.{BeginsCounted, BeginsStepped, BeginsTag}
 use Rattle.cbor4ii_tree.proofs.canonical.Exactly.{BeginsOther, Arm, lacks_behind, lacks_stepped}
 use Rattle.cbor4ii_tree.proofs.canonical.Exactly.{lacks_one, lacks_arm, no_step_one}
-use Rattle.cbor4ii_tree.proofs.canonical.Exactly.{no_step_stepped, none_at_end, count_le}
+use Rattle.cbor4ii_tree.proofs.canonical.Exactly.{no_step_stepped, none_at_end}
 use Rattle.cbor4ii_tree.proofs.canonical.Exactly.{behind_head, items_over, one_of_items}
 
 named : (B : Beginning) (budget : Budget) (xs : List ℕ) (e z : Refusal) (rest : List ℕ) → e ≡ z
@@ -47,7 +46,7 @@ head_here : (major n : ℕ) (xs ys : List ℕ) → ShortestAt major n xs ys
     → ReadsHead major 8 xs n (suc (byte_count (shortest n)))
 head_here major n xs ys h = record {
   wide = shortest n;
-  allowed = count_le (shortest n);
+  allowed = byte_count-le (shortest n);
   fits = shortest_fits n h.0;
   rest = ys;
   is = h.1;
@@ -76,7 +75,7 @@ begins_shortest : (major n b : ℕ) (bs ys : List ℕ) → ShortestAt major n (b
 begins_shortest major n b bs ys h = record {
   argument = n;
   fits = shortest_fits n h.0;
-  allowed = count_le (shortest n);
+  allowed = byte_count-le (shortest n);
   is = first_is major n b bs ys h;
 }
 
@@ -120,7 +119,7 @@ longer major v n xs more small h other c =
     (bytes_high_first (byte_count h.wide) v ++ (h.rest ++ more))
     (bytes_high_first (byte_count (shortest m)) m ++ c.1) (sym is ∙ c.2.1)).0 in
     other (same_width major v h.wide (shortest v) h.fits
-    (shortest_fits v (below_from_HeadFits h.wide v h.fits))
+    (shortest_fits v (argument_below h.wide v h.fits))
     (first ∙ ap (λ j. 32 * major + additional (shortest j) j) (sym same)))
 
 -- where a shortest head is refused, nothing that has one begins the bytes

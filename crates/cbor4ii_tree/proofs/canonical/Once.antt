@@ -8,6 +8,7 @@ use Rattle.cbor4ii_rw.specs.declared.error.Len.TheVariants.{Small}
 use Rattle.cbor4ii_items.specs.Head.{Width, byte_count, additional, head, shortest}
 use Rattle.cbor4ii_items.specs.Heads.{ReadsHead, Begins, StopsHead}
 use Rattle.cbor4ii_items.specs.Laws.Heads.{head_one, additional-lt, length-bytes_high_first}
+use Rattle.cbor4ii_items.specs.Laws.Heads.{argument_below}
 use Rattle.cbor4ii_items.specs.Shortest.{StopsShortest, shortest_refused, shortest_open, too_long}
 use Rattle.cbor4ii_items.specs.Shortest.{StopsShortestString, length_refused, content_cut}
 use Rattle.cbor4ii_items.specs.Strings.{CutContent}
@@ -25,7 +26,6 @@ use Rattle.cbor4ii_tree.specs.StopsStrictly.{StrictOtherStops, StrictStopsBy, St
 use Rattle.cbor4ii_tree.specs.StopsStrictly.{StrictStopsWithin, StopsStrictly}
 use Rattle.cbor4ii_tree.specs.Strictly.{StringAt}
 use Rattle.cbor4ii_tree.specs.Laws.Ignoring.{one_spelling}
-use Rattle.cbor4ii_tree.proofs.spellings.Costs.{below_from_HeadFits}
 use Rattle.cbor4ii_tree.proofs.spellings.Strict.{same_first}
 use Rattle.cbor4ii_tree.proofs.values.Calls.{begins_width}
 use Rattle.cbor4ii_tree.proofs.canonical.Exactly.{BeginsOne, BeginsHead, BeginsString, lacks_none}
@@ -153,7 +153,7 @@ cut_shortest name major xs e x c least = (
   c.count,
   c.head.rest,
   (
-    below_from_HeadFits c.head.wide c.count c.head.fits,
+    argument_below c.head.wide c.count c.head.fits,
     c.head.is ∙ ap (λ u. head major c.count u ++ c.head.rest) least,
   ),
 )

@@ -11,9 +11,10 @@ use Rattle.cbor4ii_items.specs.Initial.{starts_open_array, starts_map, starts_op
 use Rattle.cbor4ii_items.specs.Initial.{starts_simple, starts_bits, initial, int_by_info}
 use Rattle.cbor4ii_items.specs.Initial.{string_by_info, array_by_info, map_by_info, tag_by_info}
 use Rattle.cbor4ii_items.specs.Initial.{simple_by_info, by_major}
+use Rattle.cbor4ii_items.specs.Laws.Heads.{if_cases}
 use Rattle.cbor4ii_tree.specs.Parse.{argument_of_width}
 use Rattle.cbor4ii_tree.specs.Skip.{whole_argument_at}
-use Rattle.cbor4ii_tree.specs.Laws.Binds.{parts, if_cases}
+use Rattle.cbor4ii_tree.specs.Laws.Binds.{parts}
 use Rattle.cbor4ii_tree.proofs.heads.Inverse.{Whole, number_inverse, whole_number_inverse}
 
 abbrev pub WidthSays : Width → ℕ → Type 0

@@ -1,5 +1,5 @@
 -- What a captured item says of the bytes.
-use Rattle.std.proofs.Common.{◌≡◌, ◌≢◌, ℕ, ◌+◌, ◌<◌, ◌^◌, ◌≤◌, inl, inr, List, [], ◌∷◌, ◌++◌}
+use Rattle.std.proofs.Common.{◌≡◌, ◌≢◌, ℕ, ◌+◌, ◌<◌, ◌^◌, ◌≤◌, inl, inr, List, [], ◌++◌}
 use Rattle.std.proofs.Common.{length, take, drop, Option, Some, None, Result, Ok, Err, Bool, true}
 use Rattle.std.proofs.Common.{false, IsTrue, refl, sym, ap, ◌∙◌, subst, arith, IfSome, IfOk, IfErr}
 use Rattle.std.proofs.Common.{OnOk, length-append, take-append-drop, append_assoc}
@@ -8,7 +8,7 @@ use denote.Ref.{Bor}
 use Rattle.cbor4ii_rw.specs.declared.read.Reference.{Reference}
 use Rattle.cbor4ii_rw.specs.declared.read.Reference.TheVariants.{Short}
 use Rattle.cbor4ii_rw.specs.Reference.{bytes_of, IsLong}
-use Rattle.std.proofs.lemmas.List.{length-drop, take_all}
+use Rattle.std.proofs.lemmas.List.{length-drop, take_all, nil_from_length}
 use Rattle.std.proofs.Math.Seq.{drop-append_seam}
 use Rattle.cbor4ii_rw.specs.View.{View, Told}
 use Rattle.cbor4ii_rw.specs.Reader.{Shows, Breaks, Advances, IsFront, KeepsAllButBudget, Keeps}
@@ -370,10 +370,6 @@ module _ {V E : Type 0} (content : V → List ℕ) (a b : View) where
 
 -- ---- an empty front
 
-pub no_bytes : (xs : List ℕ) → length xs ≡ 0 → xs ≡ []
-no_bytes [] none = refl
-no_bytes (x ∷ xs) none = absurd (omega (arith, none))
-
 -- an empty short front is as an empty long one
 pub lends_nothing : (a b : View) (answer : Option Reference) (lent : Reference)
     (shown : Bor (List ℕ)) → answer ≡ Some lent → lent ≡ Short shown
@@ -381,7 +377,7 @@ pub lends_nothing : (a b : View) (answer : Option Reference) (lent : Reference)
     → Told a.told (IsFront most (bytes_of lent))
     → (IsTrue a.lends_whole → IsLong lent) → length shown.now ≡ 0 → LendsFront [] a b
 lends_nothing a b answer lent shown e f shows front long none =
-    let empty : bytes_of lent ≡ [] = ap bytes_of f ∙ no_bytes shown.now none in
+    let empty : bytes_of lent ≡ [] = ap bytes_of f ∙ nil_from_length shown.now none in
     record {
       shows =
           subst (λ z. Shows z a b) empty

@@ -2,6 +2,7 @@
 use Rattle.std.proofs.Common.{◌≡◌, ℕ, ◌<◌, ◌≤◌, inl, inr, List, [], length, drop, Option, Some}
 use Rattle.std.proofs.Common.{false, true, refl, sym, ap, ◌∙◌, subst, arith, length-append}
 use Rattle.std.specs.Prelude.{MatchOption}
+use Rattle.std.proofs.lemmas.List.{nil_from_length}
 use denote.Ref.{Bor}
 use Rattle.cbor4ii_rw.specs.View.{View, Told}
 use Rattle.cbor4ii_rw.specs.Reader.{Shows, Breaks, IsFront, KeepsAllButBudget}
@@ -16,7 +17,7 @@ use Rattle.cbor4ii_tree.specs.Refusal.{require_borrowed}
 use Rattle.cbor4ii_tree.specs.StopsSkipping.{StopsSkipping}
 use Rattle.cbor4ii_tree.specs.Raw.{raw_value, most, LendsFront, SkipsFront, StopsFront}
 use Rattle.cbor4ii_tree.specs.BoxedRaw.{StopsRawUnlent}
-use Rattle.cbor4ii_tree.proofs.raw_items.Captured.{if_some, no_bytes}
+use Rattle.cbor4ii_tree.proofs.raw_items.Captured.{if_some}
 
 -- no item stands in no bytes
 pub no_item : {budget : Budget} {n : ℕ} → SkipsFront [] budget n → ⊥
@@ -37,7 +38,7 @@ module _ {a b : View} (answer : Option (Bor (List ℕ))) (shown : Bor (List ℕ)
   -- nothing is shown
   pub lends_none : a.lends_whole ≡ false → length shown.now < 1 → LendsFront [] a b
   lends_none unlent none =
-      let empty = no_bytes shown.now (omega (arith, none)) in
+      let empty = nil_from_length shown.now (omega (arith, none)) in
       record {
         shows = subst (λ z. Shows z a b) empty shows;
         front = subst (λ z. Told a.told (IsFront most z)) empty front;

@@ -1,5 +1,5 @@
 -- Bytes that are skipped, front by front, and the arguments of heads.
-use Rattle.std.proofs.Common.{◌≡◌, ℕ, zero, suc, ◌+◌, ◌-◌, ◌*◌, ◌<◌, ◌≤◌, List, [], ◌∷◌, ◌++◌}
+use Rattle.std.proofs.Common.{◌≡◌, ℕ, ◌+◌, ◌-◌, ◌<◌, ◌≤◌, List, [], ◌++◌}
 use Rattle.std.proofs.Common.{length, take, drop, Option, Some, None, Ok, Err, true, false, refl}
 use Rattle.std.proofs.Common.{sym, ap, ◌∙◌, subst, arith, IfSome, append_assoc, length-append}
 use Rattle.std.proofs.Common.{take-append-drop, ltb, ltb-true, ltb-false, Bool}
@@ -19,6 +19,7 @@ use Rattle.cbor4ii_items.specs.Refusal.{Refusal, refusal_of, eof, len_of}
 use Rattle.cbor4ii_items.specs.Laws.Contents.{lends_front}
 use Rattle.cbor4ii_items.specs.Laws.Running.{shows_kept}
 use Rattle.cbor4ii_items.specs.Laws.Steps.{moves_err}
+use Rattle.cbor4ii_items.specs.Laws.ReadingHeads.{number_cut}
 use Rattle.cbor4ii_tree.proofs.heads.Means.{WidthSays, InfoSays, info_says}
 use Rattle.cbor4ii_tree.specs.Skipping.{additional_of}
 use Rattle.cbor4ii_tree.specs.declared.skip.Additional.{Additional}
@@ -26,7 +27,6 @@ use Rattle.cbor4ii_tree.specs.declared.skip.Additional.TheVariants.{Wide}
 use Rattle.cbor4ii_tree.specs.Stops.{Missing, MissingAll}
 use Rattle.cbor4ii_tree.specs.Does.{Does}
 use Rattle.cbor4ii_tree.specs.HeadParts.{ArgumentAt, DropsBytes, DropsSome}
-use Rattle.cbor4ii_tree.specs.Laws.Binds.{is_err, no_err}
 use Rattle.cbor4ii_tree.proofs.skip_calls.Doing.{does_ok, does_refuse}
 use Rattle.cbor4ii_tree.proofs.parts.Fronts.{IsBytes-append}
 
@@ -123,15 +123,6 @@ dropped_all count missing xs ys none d = record {
 }
 
 -- ---- arguments
-
-number_cut : (name : List ℕ) (expect k high : ℕ) (bs : List ℕ) (e : Refusal) (rest : List ℕ)
-    → number_on name expect k high bs ≡ Err (e, rest)
-    → (length bs < k) × (e ≡ eof name (Small expect)) × (rest ≡ [])
-number_cut name expect zero high bs e rest h = absurd (no_err _ _ h)
-number_cut name expect (suc k) high [] e rest h =
-    let g = is_err {A = ℕ} _ _ _ _ h in (omega arith, g.0, g.1)
-number_cut name expect (suc k) high (b ∷ bs) e rest h =
-    let r = number_cut name expect k (high * 256 + b) bs e rest h in (omega (arith, r.0), r.1, r.2)
 
 pub says_width : (i : ℕ) (w : Width) → info_of i ≡ wide w → WidthSays w i
 says_width i w e = subst (InfoSays i) e (info_says i)

@@ -13,7 +13,7 @@ use Rattle.cbor4ii_items.specs.Moves.{Kept, Moves, is_failure}
 use Rattle.cbor4ii_items.specs.Reading.{Runs, peek_at}
 use Rattle.cbor4ii_items.specs.Laws.Steps.{moves_then, moves_err, kept_then, counted_none}
 use Rattle.cbor4ii_items.specs.Laws.Running.{kept_alike, unread, peeked, kept_taken}
-use Rattle.cbor4ii_items.specs.Laws.UnderStep.{step_again, step_unbound, moves_around}
+use Rattle.cbor4ii_items.specs.Laws.UnderStep.{step_again, step_unbound, moves_around, no_step}
 use Rattle.cbor4ii_tree.specs.Cost.{step_in}
 use Rattle.cbor4ii_tree.specs.Stops.{Stopping}
 use Rattle.cbor4ii_tree.specs.Does.{Accepting, Does}
@@ -255,10 +255,6 @@ kept_budget a b k same = record {
   lends_whole = λ h. subst IsTrue (sym k.lends_whole) h;
   remembers = λ h. subst IsTrue (sym k.remembers) h;
 }
-
-pub no_step : (old new : Option ℕ) → StepsIn old new false → (old ≡ Some 0) × (new ≡ old)
-no_step None new h = absurd h
-no_step (Some left) new h = let e : left ≡ 0 = h.0 in (ap Some e, h.1 ∙ ap Some (sym e))
 
 -- no step is left
 pub does_no_step : {V E : Type 0} (name : List ℕ) (A : Accepting V) (T : Stopping)

@@ -7,7 +7,7 @@ use Rattle.std.specs.Int.{bytes_high_first}
 use Rattle.cbor4ii_items.specs.Head.{Width, byte_count, HeadFits, additional, ArgumentBehind}
 use Rattle.cbor4ii_items.specs.Head.{IsBytes, break}
 use Rattle.cbor4ii_items.specs.Initial.{info_of, wide, initial}
-use Rattle.cbor4ii_items.specs.Laws.Heads.{info-additional, length-bytes_high_first}
+use Rattle.cbor4ii_items.specs.Laws.Heads.{info-additional, length-bytes_high_first, same_wide}
 use Rattle.cbor4ii_items.specs.Laws.Fronts.{drop_more}
 use Rattle.cbor4ii_tree.specs.Cost.{Budget}
 use Rattle.cbor4ii_tree.specs.HeadParts.{ArgumentAt}
@@ -23,7 +23,6 @@ use Rattle.cbor4ii_tree.specs.declared.skip.Start.TheVariants as start
 use Rattle.cbor4ii_tree.proofs.heads.Inverse.{IsBytes-take, IsBytes-drop}
 use Rattle.cbor4ii_tree.proofs.skip_calls.Leading.{whole, content_info, items_info, members_info}
 use Rattle.cbor4ii_tree.proofs.skip_calls.Leading.{tag_info, open_leads, open_members_leads}
-use Rattle.cbor4ii_tree.proofs.spellings.Strict.{same_wide}
 
 -- ---- an item that holds no other
 

@@ -2,6 +2,7 @@
 use Rattle.std.proofs.Common.{◌≡◌, ℕ, zero, suc, ◌+◌, ◌*◌, ◌%◌, ◌<◌, ◌⊎◌, inl, inr, List, [], ◌∷◌}
 use Rattle.std.proofs.Common.{◌++◌, length, refl, sym, ap, ap₂, ◌∙◌, subst, arith, append_assoc}
 use Rattle.std.proofs.Common.{append-nil, lt-ltb}
+use Rattle.std.proofs.lemmas.List.{nil_from_length}
 use Rattle.cbor4ii_items.specs.Head.{Width, in_first, one, two, four, eight, byte_count, HeadFits}
 use Rattle.cbor4ii_items.specs.Head.{head, open_head, break}
 use Rattle.cbor4ii_items.specs.Initial.{sign_major, kind_major, precision_bytes, info_of, wide}
@@ -148,13 +149,9 @@ bytes_argument in_first b bs ys h d = (
   record {
     fits = omega (arith, h);
     says = refl;
-    is = d.is ∙ ap (λ c. c ++ ys) (none d.content d.size);
+    is = d.is ∙ ap (λ c. c ++ ys) (nil_from_length d.content d.size);
   },
 )
-  where
-    none : (c : List ℕ) → length c ≡ 0 → c ≡ []
-    none [] e = refl
-    none (x ∷ c) e = absurd (omega (arith, e))
 bytes_argument one b bs ys h d =
     let p = number_of_bytes 1 d.content d.size d.bytes in (
       number_of d.content,
@@ -212,7 +209,7 @@ bytes_leaf b k bs ys small e d = elim (starts_bytes (initial b) k e) [
     | inl x ↦ (let m : Means b (starts_simple x.0) = row b (starts_simple x.0) small x.1 in (
       simple x.0,
       (tt, refl),
-      ap₂ ◌∷◌ m (d.is ∙ ap (λ c. c ++ ys) (none d.content (d.size ∙ x.2))),
+      ap₂ ◌∷◌ m (d.is ∙ ap (λ c. c ++ ys) (nil_from_length d.content (d.size ∙ x.2))),
     ))
     | inr x ↦ (let m : Means b (starts_bits x.0) = row b (starts_bits x.0) small x.1 in
         let p = number_of_bytes (precision_bytes x.0) d.content (d.size ∙ sym x.2) d.bytes in (
@@ -222,10 +219,6 @@ bytes_leaf b k bs ys small e d = elim (starts_bytes (initial b) k e) [
         ))
   ]
 ]
-  where
-    none : (c : List ℕ) → length c ≡ 0 → c ≡ []
-    none [] e = refl
-    none (x ∷ c) e = absurd (omega (arith, e))
 
 pub leads_bytes : (inner : Budget) (b k : ℕ) (bs ys : List ℕ) → b < 256
     → start_of (initial b) ≡ start.Bytes k → DropsBytes k bs ys → Leads inner (b ∷ bs) Nothing ys

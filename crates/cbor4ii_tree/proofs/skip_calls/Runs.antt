@@ -13,6 +13,7 @@ use Rattle.cbor4ii_items.specs.Decoding.{Sound, Stops}
 use Rattle.cbor4ii_items.specs.Strings.{ReadsBreak, StopsBreak}
 use Rattle.cbor4ii_items.specs.Refusal.{Refusal}
 use Rattle.cbor4ii_items.specs.Laws.Answering.{fits_zero}
+use Rattle.cbor4ii_items.specs.Laws.UnderStep.{no_step}
 use Rattle.cbor4ii_tree.specs.Refusal.{depth_overflow, ignored_any}
 use Rattle.cbor4ii_tree.specs.Tree.{no_trees, tree, bytes}
 use Rattle.cbor4ii_tree.specs.Cost.{Budget}
@@ -37,7 +38,7 @@ use Rattle.cbor4ii_tree.specs.Laws.Binds.{step_up}
 use Rattle.cbor4ii_tree.proofs.skip_calls.Doing.{Reached, reached_start, reached_by, reached_then}
 use Rattle.cbor4ii_tree.proofs.skip_calls.Doing.{reached_as, reached_sound, does_after, does_ok}
 use Rattle.cbor4ii_tree.proofs.skip_calls.Doing.{does_err, does_stops, does_stepped, does_refuse_by}
-use Rattle.cbor4ii_tree.proofs.skip_calls.Doing.{steps_in, no_step, kept_budget}
+use Rattle.cbor4ii_tree.proofs.skip_calls.Doing.{steps_in, kept_budget}
 use Rattle.cbor4ii_tree.proofs.skip_calls.Leaves.{run_items}
 use Rattle.cbor4ii_tree.proofs.skip_calls.Parts.{IsOther, after_break, other_byte, no_break}
 use Rattle.cbor4ii_tree.proofs.skip_calls.Parts.{items_none, items_more, Left, left_some, left_none}

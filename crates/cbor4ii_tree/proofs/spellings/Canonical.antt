@@ -1,12 +1,14 @@
 -- The canonical spelling is a spelling.
-use Rattle.std.proofs.Common.{◌≡◌, ℕ, zero, suc, ◌^◌, ◌<◌, ◌≤◌, List, [], ◌∷◌, length, Bool, true}
+use Rattle.std.proofs.Common.{◌≡◌, ℕ, suc, ◌^◌, ◌<◌, List, length, Bool, true}
 use Rattle.std.proofs.Common.{false, cond, ltb, ltb-true, lt-ltb, pos, negsuc, refl, sym, ap, ap₂}
 use Rattle.std.proofs.Common.{arith, subst}
 use Rattle.std.specs.Int.{bytes_high_first}
-use Rattle.cbor4ii_items.specs.Head.{Width, HeadFits, shortest}
+use Rattle.cbor4ii_items.specs.Head.{HeadFits, shortest}
 use Rattle.cbor4ii_items.specs.Initial.{Sign, unsigned, negative, Kind, byte_string, text_string}
 use Rattle.cbor4ii_items.specs.Initial.{simple_false, simple_true, simple_null, simple_undefined}
-use Rattle.cbor4ii_items.specs.Laws.Heads.{length-bytes_high_first}
+use Rattle.cbor4ii_items.specs.Laws.Heads.{length-bytes_high_first, if_cases, shortest_fits}
+use Rattle.cbor4ii_items.specs.Laws.Heads.{argument_below}
+use Rattle.cbor4ii_items.specs.Laws.NumbersBack.{length-without_leading_zeros}
 use Rattle.cbor4ii_tree.specs.Tree.{Tree, int, string, chunked, array, array_open, map_of, map_open}
 use Rattle.cbor4ii_tree.specs.Tree.{tagged, simple, bits, Trees, no_trees, tree, Pairs, no_pairs}
 use Rattle.cbor4ii_tree.specs.Tree.{pair, joined_chunks, count, pair_count, Loose, LooseAll}
@@ -17,25 +19,10 @@ use Rattle.cbor4ii_tree.specs.Item.{member, item_count, member_count, IsItem, Ar
 use Rattle.cbor4ii_tree.specs.Meaning.{value, values, member_values, number, content_item}
 use Rattle.cbor4ii_tree.specs.Cost.{cost}
 use Rattle.cbor4ii_tree.specs.Canonical.{canon, canon_tree, canon_trees, canon_pairs, integer_tree}
-use Rattle.cbor4ii_tree.specs.Canonical.{bignum, magnitude, without_leading_zeros, sign_tag}
+use Rattle.cbor4ii_tree.specs.Canonical.{bignum, magnitude, sign_tag}
 use Rattle.cbor4ii_tree.specs.Canonical.{with_bignums, with_bignums_all, with_bignums_members}
 use Rattle.cbor4ii_tree.specs.Canonical.{tagged_integer}
 use Rattle.cbor4ii_tree.specs.Spelling.{Spells}
-use Rattle.cbor4ii_tree.specs.Laws.Binds.{if_cases}
-use Rattle.cbor4ii_tree.proofs.spellings.Costs.{below_from_HeadFits}
-
-pub shortest_fits : (n : ℕ) → n < 2 ^ 64 → HeadFits (shortest n) n
-shortest_fits n h =
-    let P : Width → Type 0 = λ w. HeadFits w n in
-    if_cases P (ltb n 24) _ _ (λ e. let lt = ltb-true n 24 e in omega arith)
-    (λ _. if_cases P (ltb n 256) _ _ (λ e. ltb-true n 256 e)
-    (λ _. if_cases P (ltb n (256 ^ 2)) _ _ (λ e. ltb-true n (256 ^ 2) e)
-    (λ _. if_cases P (ltb n (256 ^ 4)) _ _ (λ e. ltb-true n (256 ^ 4) e) (λ _. h))))
-
-length-without_leading_zeros : (bs : List ℕ) → length (without_leading_zeros bs) ≤ length bs
-length-without_leading_zeros [] = omega arith
-length-without_leading_zeros (zero ∷ bs) = omega (arith, length-without_leading_zeros bs)
-length-without_leading_zeros (suc b ∷ bs) = omega arith
 
 length-magnitude : (n : ℕ) → length (magnitude n) < 2 ^ 64
 length-magnitude n =
@@ -168,7 +155,7 @@ with_bignums-content text_string content = refl
 
 mutual
   pub with_bignums-value : (t : Tree) → Loose t → with_bignums (value t) ≡ value t
-  with_bignums-value (int s n w) h = with_bignums-number s n (below_from_HeadFits w n h)
+  with_bignums-value (int s n w) h = with_bignums-number s n (argument_below w n h)
   with_bignums-value (string k w content) h = with_bignums-content k content
   with_bignums-value (chunked k ts) h = with_bignums-content k (joined_chunks ts)
   with_bignums-value (array w ts) h = ap sequence (with_bignums-values ts h.1)

@@ -1,8 +1,9 @@
 -- Skipping takes no more steps than reading, and the canonical spelling no more than any other.
 use Rattle.std.proofs.Common.{ℕ, ◌+◌, ◌^◌, ◌<◌, ◌≤◌, arith, lt-ltb}
-use Rattle.cbor4ii_items.specs.Head.{Width, in_first, one, two, four, eight, HeadFits}
+use Rattle.cbor4ii_items.specs.Head.{in_first}
 use Rattle.cbor4ii_items.specs.Initial.{Sign, unsigned, negative, Kind, byte_string, text_string}
 use Rattle.cbor4ii_items.specs.Initial.{simple_false, simple_true, simple_null, simple_undefined}
+use Rattle.cbor4ii_items.specs.Laws.Heads.{argument_below}
 use Rattle.cbor4ii_tree.specs.Tree.{Tree, int, string, chunked, array, array_open, map_of, map_open}
 use Rattle.cbor4ii_tree.specs.Tree.{tagged, simple, bits, Trees, no_trees, tree, Pairs, no_pairs}
 use Rattle.cbor4ii_tree.specs.Tree.{pair, Loose, LooseAll, LoosePairs, IsChunk, AreChunks}
@@ -48,14 +49,6 @@ mutual
   skip_cost-le_pairs (pair k v ps) h =
       omega (arith, skip_cost-le k h.0, skip_cost-le v h.1, skip_cost-le_pairs ps h.2)
 
--- every argument that has a head is below 2 ^ 64
-pub below_from_HeadFits : (w : Width) (n : ℕ) → HeadFits w n → n < 2 ^ 64
-below_from_HeadFits in_first n h = omega arith
-below_from_HeadFits one n h = omega arith
-below_from_HeadFits two n h = omega arith
-below_from_HeadFits four n h = omega arith
-below_from_HeadFits eight n h = omega arith
-
 cost-integer_tree : (s : Sign) (n : ℕ) → n < 2 ^ 64 → cost (integer_tree s n) ≤ 1
 cost-integer_tree s n h = rw (lt-ltb n (2 ^ 64) h) (omega arith)
 
@@ -74,7 +67,7 @@ cost-canon-content text_string (tree t ts) = omega arith
 mutual
   -- of all spellings of a value that is read, the canonical one costs least
   pub cost-canon : (t : Tree) → Loose t → cost (canon_tree (value t)) ≤ cost t
-  cost-canon (int s n w) h = cost-canon-integer s n (below_from_HeadFits w n h)
+  cost-canon (int s n w) h = cost-canon-integer s n (argument_below w n h)
   cost-canon (string byte_string w content) h = omega arith
   cost-canon (string text_string w content) h = omega arith
   cost-canon (chunked k ts) h = cost-canon-content k ts

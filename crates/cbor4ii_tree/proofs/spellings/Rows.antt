@@ -286,7 +286,8 @@ SequencesRows =
     × (Reads "83 01 82 02 03 82 04 05" (sequence
     (items_of ((number 1) ∷ (sequence (items_of ((number 2) ∷ (number 3) ∷ []))) ∷ (sequence
     (items_of ((number 4) ∷ (number 5) ∷ []))) ∷ []))) "83 01 82 02 03 82 04 05")
-    × (Reads "98 19 01 02 03 04 05 06 07 08 09 0a 0b 0c 0d 0e 0f 10 11 12 13 14 15 16 17 18 18 18 19"
+    × (Reads
+    "98 19 01 02 03 04 05 06 07 08 09 0a 0b 0c 0d 0e 0f 10 11 12 13 14 15 16 17 18 18 18 19"
     (sequence (items_of (numbers_from 1 25)))
     "98 19 01 02 03 04 05 06 07 08 09 0a 0b 0c 0d 0e 0f 10 11 12 13 14 15 16 17 18 18 18 19")
     × (Reads "a0" (mapping (members_of [])) "a0")

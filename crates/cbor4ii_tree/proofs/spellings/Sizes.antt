@@ -5,6 +5,7 @@ use Rattle.std.specs.Int.{bytes_high_first}
 use Rattle.cbor4ii_items.specs.Head.{byte_count, break}
 use Rattle.cbor4ii_items.specs.Initial.{Sign, unsigned, negative, Kind, byte_string, text_string}
 use Rattle.cbor4ii_items.specs.Initial.{simple_false, simple_true, simple_null, simple_undefined}
+use Rattle.cbor4ii_items.specs.Laws.Heads.{argument_below}
 use Rattle.cbor4ii_tree.specs.Tree.{Tree, int, string, chunked, array, array_open, map_of, map_open}
 use Rattle.cbor4ii_tree.specs.Tree.{tagged, simple, bits, Trees, no_trees, tree, Pairs, no_pairs}
 use Rattle.cbor4ii_tree.specs.Tree.{pair, count, pair_count, bytes, bytes_all, bytes_pairs}
@@ -14,7 +15,6 @@ use Rattle.cbor4ii_tree.specs.Item.{Item, integer, item_count, member_count, IsI
 use Rattle.cbor4ii_tree.specs.Item.{AreMembers, size, size_all, size_members}
 use Rattle.cbor4ii_tree.specs.Meaning.{value, values, member_values, content_item, number}
 use Rattle.cbor4ii_tree.specs.Spelling.{Spells}
-use Rattle.cbor4ii_tree.proofs.spellings.Costs.{below_from_HeadFits}
 use Rattle.cbor4ii_tree.specs.Laws.Initials.{length-bytes-pos}
 
 size-content : (k : Kind) (content : List ℕ) → size (content_item k content) ≤ 1 + length content
@@ -129,14 +129,14 @@ pair_count-le (pair k v ps) =
 mutual
   pub IsItem-value : (t : Tree) → Loose t → SoundStrings t → length (bytes t) < 2 ^ 64
       → IsItem (value t)
-  IsItem-value (int s n w) l s' lt = integer-value s n (below_from_HeadFits w n l)
+  IsItem-value (int s n w) l s' lt = integer-value s n (argument_below w n l)
   IsItem-value (string k w content) l s lt =
-      content-value k content s (below_from_HeadFits w (length content) l)
+      content-value k content s (argument_below w (length content) l)
   IsItem-value (chunked k ts) l s lt =
       content-value k (joined_chunks ts) s.1
       (omega (arith, length-joined ts, length-append (bytes_all ts) (break ∷ [])))
   IsItem-value (array w ts) l s lt = (
-    omega (arith, item_count-values ts, below_from_HeadFits w (count ts) l.0),
+    omega (arith, item_count-values ts, argument_below w (count ts) l.0),
     AreItems-values ts l.1 s (omega
         (arith, length-append (bytes_high_first (byte_count w) (count ts)) (bytes_all ts))),
   )
@@ -145,7 +145,7 @@ mutual
       omega (arith, length-append (bytes_all ts) (break ∷ [])) in
       (omega (arith, item_count-values ts, count-le ts), AreItems-values ts l s less)
   IsItem-value (map_of w ps) l s lt = (
-    omega (arith, member_count-values ps, below_from_HeadFits w (pair_count ps) l.0),
+    omega (arith, member_count-values ps, argument_below w (pair_count ps) l.0),
     AreMembers-values ps l.1 s (omega (
       arith,
       length-append (bytes_high_first (byte_count w) (pair_count ps)) (bytes_pairs ps),
@@ -156,7 +156,7 @@ mutual
       omega (arith, length-append (bytes_pairs ps) (break ∷ [])) in
       (omega (arith, member_count-values ps, pair_count-le ps), AreMembers-values ps l s less)
   IsItem-value (tagged n w t) l s lt = (
-    below_from_HeadFits w n l.0,
+    argument_below w n l.0,
     IsItem-value t l.1 s
         (omega (arith, length-append (bytes_high_first (byte_count w) n) (bytes t))),
   )

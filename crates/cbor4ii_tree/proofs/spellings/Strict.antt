@@ -9,8 +9,9 @@ use Rattle.cbor4ii_items.specs.Head.{Width, byte_count, HeadFits, additional, he
 use Rattle.cbor4ii_items.specs.Head.{shortest, break}
 use Rattle.cbor4ii_items.specs.Initial.{Sign, unsigned, negative, sign_major, Kind, byte_string}
 use Rattle.cbor4ii_items.specs.Initial.{text_string, kind_major, simple_false, simple_true}
-use Rattle.cbor4ii_items.specs.Initial.{simple_null, simple_undefined, simple_byte, wide, info_of}
+use Rattle.cbor4ii_items.specs.Initial.{simple_null, simple_undefined, simple_byte, info_of}
 use Rattle.cbor4ii_items.specs.Decoding.{CostFits}
+use Rattle.cbor4ii_items.specs.Laws.Heads.{if_cases, shortest_fits, argument_below, same_wide}
 use Rattle.cbor4ii_tree.specs.Tree.{Tree, int, string, chunked, array, array_open, map_of, map_open}
 use Rattle.cbor4ii_tree.specs.Tree.{tagged, simple, bits, Trees, no_trees, tree, Pairs, no_pairs}
 use Rattle.cbor4ii_tree.specs.Tree.{pair, count, pair_count, joined_chunks, bytes, bytes_all}
@@ -28,11 +29,9 @@ use Rattle.cbor4ii_tree.specs.Strict.{ReadsStrictly}
 use Rattle.cbor4ii_tree.specs.Laws.Numbers.{info-additional}
 use Rattle.cbor4ii_tree.specs.Laws.PartsAgain.{pair_split}
 use Rattle.cbor4ii_tree.specs.Laws.Ignoring.{one_spelling}
-use Rattle.cbor4ii_tree.specs.Laws.Binds.{if_cases}
-use Rattle.cbor4ii_tree.proofs.spellings.Canonical.{shortest_fits, count-canon, count-pairs}
+use Rattle.cbor4ii_tree.proofs.spellings.Canonical.{count-canon, count-pairs}
 use Rattle.cbor4ii_tree.proofs.spellings.Canonical.{loose_canon, sound_canon, value-canon}
 use Rattle.cbor4ii_tree.proofs.spellings.Canonical.{with_bignums-value}
-use Rattle.cbor4ii_tree.proofs.spellings.Costs.{below_from_HeadFits}
 use Rattle.cbor4ii_tree.proofs.spellings.Sizes.{integer-value, content-value, item_count-values}
 use Rattle.cbor4ii_tree.proofs.spellings.Sizes.{member_count-values}
 
@@ -78,7 +77,7 @@ canon-content text_string content = refl
 mutual
   pub canon_of_strict : (t : Tree) → Loose t → Strict t → canon_tree (value t) ≡ t
   canon_of_strict (int s n w) l h =
-      canon-integer s n (below_from_HeadFits w n l) ∙ ap (int s n) (sym h)
+      canon-integer s n (argument_below w n l) ∙ ap (int s n) (sym h)
   canon_of_strict (string k w content) l h =
       canon-content k content ∙ ap (λ u. string k u content) (sym h)
   canon_of_strict (chunked k ts) l h = absurd h
@@ -111,9 +110,6 @@ mutual
 pub same_first : (a b : ℕ) (x y : List ℕ) → a ∷ x ≡ b ∷ y → (a ≡ b) × (x ≡ y)
 same_first a b x y e = (cc, cc)
 
-pub same_wide : (w u : Width) → wide w ≡ wide u → w ≡ u
-same_wide w u e = cc
-
 -- of one argument and one first byte the head is one
 pub same_width : (major n : ℕ) (w u : Width) → HeadFits w n → HeadFits u n
     → 32 * major + additional w n ≡ 32 * major + additional u n → w ≡ u
@@ -124,7 +120,7 @@ same_width major n w u h k e =
 same_head : (major n : ℕ) (w : Width) (x y : List ℕ) → HeadFits w n
     → head major n w ++ x ≡ head major n (shortest n) ++ y → (w ≡ shortest n) × (x ≡ y)
 same_head major n w x y h e =
-    let k = shortest_fits n (below_from_HeadFits w n h) in
+    let k = shortest_fits n (argument_below w n h) in
     let first = same_first (32 * major + additional w n) (32 * major + additional (shortest n) n)
     (bytes_high_first (byte_count w) n ++ x)
     (bytes_high_first (byte_count (shortest n)) n ++ y) e in
@@ -153,7 +149,7 @@ mutual
       → Strict t × (x ≡ y)
   strict_of_canon (int s n w) x y l e =
       same_head (sign_major s) n w x y l
-      (e ∙ ap (λ u. bytes u ++ y) (canon-integer s n (below_from_HeadFits w n l)))
+      (e ∙ ap (λ u. bytes u ++ y) (canon-integer s n (argument_below w n l)))
   strict_of_canon (string k w content) x y l e =
       let n = length content in
       let same = e ∙ ap (λ u. bytes u ++ y) (canon-content k content) in
@@ -257,22 +253,22 @@ strict_iff_canon t p = (
 
 mutual
   pub item_of_strict : (t : Tree) → Loose t → SoundStrings t → Strict t → IsItem (value t)
-  item_of_strict (int s n w) l u h = integer-value s n (below_from_HeadFits w n l)
+  item_of_strict (int s n w) l u h = integer-value s n (argument_below w n l)
   item_of_strict (string k w content) l u h =
-      content-value k content u (below_from_HeadFits w (length content) l)
+      content-value k content u (argument_below w (length content) l)
   item_of_strict (chunked k ts) l u h = absurd h
   item_of_strict (array w ts) l u h = (
-    subst (λ n. n < 2 ^ 64) (sym (item_count-values ts)) (below_from_HeadFits w (count ts) l.0),
+    subst (λ n. n < 2 ^ 64) (sym (item_count-values ts)) (argument_below w (count ts) l.0),
     items_of_strict ts l.1 u h.1,
   )
   item_of_strict (array_open ts) l u h = absurd h
   item_of_strict (map_of w ps) l u h = (
     subst (λ n. n < 2 ^ 64) (sym (member_count-values ps))
-        (below_from_HeadFits w (pair_count ps) l.0),
+        (argument_below w (pair_count ps) l.0),
     members_of_strict ps l.1 u h.1,
   )
   item_of_strict (map_open ps) l u h = absurd h
-  item_of_strict (tagged n w t) l u h = (below_from_HeadFits w n l.0, item_of_strict t l.1 u h.1)
+  item_of_strict (tagged n w t) l u h = (argument_below w n l.0, item_of_strict t l.1 u h.1)
   item_of_strict (simple simple_false) l u h = tt
   item_of_strict (simple simple_true) l u h = tt
   item_of_strict (simple simple_null) l u h = tt

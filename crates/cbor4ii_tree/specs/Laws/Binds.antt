@@ -67,11 +67,6 @@ parts {A} r a c b d p q =
     let e = same_ok r (a, b) (c, d) p q in
     (ap (λ (x : A × List ℕ). x.0) e, ap (λ (x : A × List ℕ). x.1) e)
 
-pub if_cases : {A : Type 0} (P : A → Type 0) (b : Bool) (x y : A) → (b ≡ true → P x)
-    → (b ≡ false → P y) → P (cond b x y)
-if_cases P true x y f g = f refl
-if_cases P false x y f g = g refl
-
 pub chosen : {A : Type 0} (c : Bool) (x y z : A) → cond c x y ≡ z
     → ((c ≡ true) × (x ≡ z)) ⊎ ((c ≡ false) × (y ≡ z))
 chosen true x y z e = inl (refl, e)

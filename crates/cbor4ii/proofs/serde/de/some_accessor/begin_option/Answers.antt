@@ -1,6 +1,6 @@
 use Rattle.cbor4ii_items.specs.Laws.Steps.{moves_err}
 use Rattle.std.proofs.Common.{refl, inl, inr, arith}
-use Rattle.cbor4ii.proofs.Looking.{kept_next, saw, no_option}
+use Rattle.cbor4ii.proofs.Looking.{kept_next, saw, option_refuses}
 use Rattle.cbor4ii.proofs.Presence.{null_coming, value_coming, no_step_refuses, no_step_stops}
 use Rattle.cbor4ii.proofs.Presence.{presence_ended, no_null}
 use Rattle.cbor4ii.proofs.serde.de.some_accessor.begin_option.Goals.{then-first-via-then-first, then-first-via-else-first+then-first-2}
@@ -37,7 +37,7 @@ returns-then-not-step_in-clause-stops g c =
     c.if-not-step_in.ensures.budget c.step_in.ensures.others
 
 pub returns-in-Err-clause-complete : goal.returns-in-Err-clause-complete
-returns-in-Err-clause-complete g c = no_option _ c.in-Err.ensures.complete
+returns-in-Err-clause-complete g c = option_refuses _ c.in-Err.ensures.complete
 
 pub returns-in-Err-clause-stops : goal.returns-in-Err-clause-stops
 returns-in-Err-clause-stops g c = presence_ended c.in-Err.ensures.stops

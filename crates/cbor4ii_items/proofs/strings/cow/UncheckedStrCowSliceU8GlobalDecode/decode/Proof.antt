@@ -41,5 +41,10 @@ decode_spec {M} 𝓤 𝓛 𝓜 𝓡 wired R E LR LE gR dR gS dS gD dD dd P b1 b2
     (λ κ. UncheckedStr.the_row (slice_row κ)) (λ κ. the_row_laws (slice_row κ) (slice_laws κ))
     lives (bare (layout (UncheckedStr.the_row (slice_row [])))) (λ κ. refl)
     (λ κ. lends.ghosts R E gR dR gS dS gD dD dd) (lends.dict R E gR dR gS dS gD dD dd)
-    (λ κs p. bound 𝓡.env (code.calls-cbor4ii_items::strings::cow::UncheckedStrCowSliceU8GlobalLendOrOwn::name 𝓡.env wired) (code.calls-cbor4ii_items::strings::cow::UncheckedStrCowSliceU8GlobalLendOrOwn::major 𝓡.env wired) (code.calls-cbor4ii_items::strings::cow::UncheckedStrCowSliceU8GlobalLendOrOwn::lend_from 𝓡.env wired) (code.calls-cbor4ii_items::strings::cow::UncheckedStrCowSliceU8GlobalLendOrOwn::own 𝓡.env wired) κs.1.0 R E LR LE gR dR gS dS gD dD dd M 𝓤 𝓛 𝓜 𝓡 (b1 κs p) b2 b3 b4)
+    (λ κs p. bound 𝓡.env
+    (code.calls-cbor4ii_items::strings::cow::UncheckedStrCowSliceU8GlobalLendOrOwn::name 𝓡.env wired)
+    (code.calls-cbor4ii_items::strings::cow::UncheckedStrCowSliceU8GlobalLendOrOwn::major 𝓡.env wired)
+    (code.calls-cbor4ii_items::strings::cow::UncheckedStrCowSliceU8GlobalLendOrOwn::lend_from 𝓡.env wired)
+    (code.calls-cbor4ii_items::strings::cow::UncheckedStrCowSliceU8GlobalLendOrOwn::own 𝓡.env wired)
+    κs.1.0 R E LR LE gR dR gS dS gD dD dd M 𝓤 𝓛 𝓜 𝓡 (b1 κs p) b2 b3 b4)
     y.0.0 y.0.1 y.0.2 y.0.3.0 y.0.3.1.0 y.0.4.0 y.0.4.1.0 _ _ _ _ _ _ refl _ _ _ _ _ _ _ _ _)

@@ -2,7 +2,8 @@ use Rattle.std.proofs.Common.{refl, inl, inr, arith}
 use Rattle.cbor4ii_items.specs.Laws.Steps.{moves_then, moves_ok, moves_err}
 use Rattle.cbor4ii_items.specs.Laws.Answering.{exact_kept}
 use Rattle.cbor4ii.specs.Typed.{said}
-use Rattle.cbor4ii.proofs.Looking.{kept_next, saw, some_sound, some_refuses, no_option, null_sound}
+use Rattle.cbor4ii.proofs.Looking.{kept_next, saw, some_sound, some_refuses, option_refuses}
+use Rattle.cbor4ii.proofs.Looking.{null_sound}
 use Rattle.std.specs.Prelude.{codes}
 use Rattle.cbor4ii.specs.Stepped.{StopsStepped}
 use Rattle.cbor4ii.proofs.Beginnings.{option_stops, option_ended}
@@ -50,7 +51,7 @@ returns-in-Err-under_step-clause-complete g c is exact =
     (exact_kept _ _ _ xs told c.in-Ok.ensures.moves.by exact))
 
 pub returns-in-Err-clause-complete : goal.returns-in-Err-clause-complete
-returns-in-Err-clause-complete g c is exact = no_option _ c.in-Err.ensures.complete
+returns-in-Err-clause-complete g c is exact = option_refuses _ c.in-Err.ensures.complete
 
 pub returns-in-Err-under_step-clause-stops : goal.returns-in-Err-under_step-clause-stops
 returns-in-Err-under_step-clause-stops g c =
