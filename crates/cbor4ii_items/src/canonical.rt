@@ -1,11 +1,7 @@
 //! Heads and strings that are spelled in one way: by the shortest head (RFC 8949 section 4.1).
 ghost use Rattle.std.specs.Prelude.{◌≡◌, ◌+◌, ◌≤◌, ◌<◌, OnOk, IfOk, IfErr, false};
-ghost use Rattle.cbor4ii_items.specs.Shortest.{
-  ReadsShortest,
-  ReadsShortestString,
-  StopsShortest,
-  StopsShortestString,
-};
+ghost use Rattle.cbor4ii_items.specs.Shortest.{ReadsShortest, ReadsShortestString, StopsShortest};
+ghost use Rattle.cbor4ii_items.specs.Shortest.{StopsShortestString};
 ghost use Rattle.cbor4ii_items.specs.Decoding.{Sound, Refuses, Stops};
 ghost use Rattle.cbor4ii_items.specs.Contents.{listed};
 ghost use Rattle.cbor4ii_items.specs.Head.{additional, shortest};

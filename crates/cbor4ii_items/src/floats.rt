@@ -1,35 +1,14 @@
 //! Floats, as their bits (RFC 8949 section 3.3).
-ghost use Rattle.std.specs.Prelude.{
-  ◌≡◌,
-  ◌+◌,
-  ◌≤◌,
-  ◌<◌,
-  ◌^◌,
-  length,
-  true,
-  false,
-  codes,
-  OnOk,
-  IfOk,
-  IfErr,
-  IfSome,
-};
+ghost use Rattle.std.specs.Prelude.{◌≡◌, ◌+◌, ◌≤◌, ◌<◌, ◌^◌, length, true, false, codes, OnOk};
+ghost use Rattle.std.specs.Prelude.{IfOk, IfErr, IfSome};
 ghost use Rattle.cbor4ii_items.specs.Head.{IsBytes};
 ghost use Rattle.cbor4ii_items.specs.Magnitude.{number_of};
 ghost use Rattle.cbor4ii_items.specs.Decoding.{Sound, Refuses, Stops};
 ghost use Rattle.cbor4ii_items.specs.Reading.{Runs};
 ghost use Rattle.cbor4ii_items.specs.Refusal.{is_out_of_memory};
-ghost use Rattle.cbor4ii_items.specs.Floats.{
-  float_bytes,
-  IsInFront,
-  ReadsFloat,
-  StopsFloat,
-  float_at,
-  float_one,
-  float_within,
-  float_positive,
-  float_alone,
-};
+ghost use Rattle.cbor4ii_items.specs.Floats.{float_bytes, IsInFront, ReadsFloat, StopsFloat};
+ghost use Rattle.cbor4ii_items.specs.Floats.{float_at, float_one, float_within, float_positive};
+ghost use Rattle.cbor4ii_items.specs.Floats.{float_alone};
 ghost use Rattle.cbor4ii_items.specs.Writing.{WritesWhole};
 
 use crate::decode::{Decode, Spelled};

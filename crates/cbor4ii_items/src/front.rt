@@ -1,18 +1,6 @@
 //! Heads that stand whole in the front that a reader shows: one look, and one advance.
-ghost use Rattle.std.specs.Prelude.{
-  ◌≡◌,
-  ◌+◌,
-  ◌≤◌,
-  ◌<◌,
-  ◌^◌,
-  ℕ,
-  List,
-  length,
-  IfOk,
-  IfSome,
-  OnSome,
-  None,
-};
+ghost use Rattle.std.specs.Prelude.{◌≡◌, ◌+◌, ◌≤◌, ◌<◌, ◌^◌, ℕ, List, length, IfOk, IfSome, OnSome};
+ghost use Rattle.std.specs.Prelude.{None};
 ghost use Rattle.cbor4ii_items.specs.Front.{IsWhole, IsArgument, RunsOrStays};
 ghost use Rattle.cbor4ii_items.specs.ReadHead.{head_at, following};
 

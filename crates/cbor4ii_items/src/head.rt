@@ -8,12 +8,7 @@ ghost use Rattle.cbor4ii_items.specs.Numbers.{ReadsArgument, StopsArgument};
 ghost use Rattle.cbor4ii_items.specs.Reading.{Runs, peek_at, byte_at};
 ghost use Rattle.cbor4ii_items.specs.Refusal.{is_out_of_memory};
 ghost use Rattle.cbor4ii_items.specs.Marked.{marked_at};
-ghost use Rattle.cbor4ii_items.specs.ReadHead.{
-  number_on,
-  argument_at,
-  head_at,
-  length_at,
-};
+ghost use Rattle.cbor4ii_items.specs.ReadHead.{number_on, argument_at, head_at, length_at};
 
 use crate::additional::{allowed, following};
 use crate::front::take_head;

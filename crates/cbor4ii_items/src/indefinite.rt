@@ -1,15 +1,5 @@
 //! The ends of indefinite lengths, and of arrays and maps (RFC 8949 sections 3.2.1 and 3.2.2).
-ghost use Rattle.std.specs.Prelude.{
-  ◌≡◌,
-  IfOk,
-  IfErr,
-  IfSome,
-  IsSome,
-  OnErr,
-  Ok,
-  false,
-  nat_lt,
-};
+ghost use Rattle.std.specs.Prelude.{◌≡◌, IfOk, IfErr, IfSome, IsSome, OnErr, Ok, false, nat_lt};
 ghost use Rattle.cbor4ii_rw.specs.Reader.{Breaks};
 ghost use Rattle.cbor4ii_items.specs.Decoding.{Sound, Refuses, Stops};
 ghost use Rattle.cbor4ii_items.specs.Moves.{Moves, OnRead};

@@ -1,17 +1,6 @@
 //! The first byte of a head, its two parts, and the argument behind it (RFC 8949 section 3).
-ghost use Rattle.std.specs.Prelude.{
-  ◌≡◌,
-  ◌+◌,
-  ◌/◌,
-  ◌%◌,
-  ◌≤◌,
-  OnOk,
-  IfOk,
-  IfErr,
-  IfSome,
-  None,
-  false,
-};
+ghost use Rattle.std.specs.Prelude.{◌≡◌, ◌+◌, ◌/◌, ◌%◌, ◌≤◌, OnOk, IfOk, IfErr, IfSome, None};
+ghost use Rattle.std.specs.Prelude.{false};
 ghost use Rattle.cbor4ii_rw.specs.Reader.{Breaks};
 ghost use Rattle.cbor4ii_items.specs.Decoding.{Sound, Refuses, Stops};
 ghost use Rattle.cbor4ii_items.specs.Head.{ArgumentBehind, LacksArgument};

@@ -1,22 +1,6 @@
 //! Laws of what is read and written, each the contract of a function that does nothing.
-ghost use Rattle.std.specs.Prelude.{
-  ◌≡◌,
-  ◌+◌,
-  ◌<◌,
-  ◌≤◌,
-  ◌^◌,
-  ◌++◌,
-  ℕ,
-  ℤ,
-  List,
-  Bool,
-  Some,
-  None,
-  All,
-  length,
-  IsTrue,
-  IsUtf8,
-};
+ghost use Rattle.std.specs.Prelude.{◌≡◌, ◌+◌, ◌<◌, ◌≤◌, ◌^◌, ◌++◌, ℕ, ℤ, List, Bool, Some, None};
+ghost use Rattle.std.specs.Prelude.{All, length, IsTrue, IsUtf8};
 ghost use Rattle.std.specs.Borrow.{Bor};
 ghost use Rattle.std.specs.declared.alloc.Global.{Global};
 ghost use Rattle.std.specs.declared.boxed.Box.{Box};
@@ -39,32 +23,15 @@ ghost use Rattle.cbor4ii_items.specs.Decoding.{CostFits, Sound, Refuses};
 ghost use Rattle.cbor4ii_items.specs.Head.{Width, HeadFits, byte_count, shortest};
 ghost use Rattle.cbor4ii_items.specs.Lengths.{ReadsLength};
 ghost use Rattle.cbor4ii_items.specs.Maybe.{ReadsMaybe, maybe_bytes};
-ghost use Rattle.cbor4ii_items.specs.Numbers.{
-  ReadsArgument,
-  ReadsSigned,
-  ReadsU128,
-  ReadsI128,
-  IsWithin,
-  shortest_head,
-  signed_head,
-  unsigned_bytes,
-  signed_bytes,
-};
-ghost use Rattle.cbor4ii_items.specs.ReadBack.{
-  ReadsBack,
-  NoneBeginsAnother,
-  greatest_cost,
-  pair_cost,
-};
+ghost use Rattle.cbor4ii_items.specs.Numbers.{ReadsArgument, ReadsSigned, ReadsU128, ReadsI128};
+ghost use Rattle.cbor4ii_items.specs.Numbers.{IsWithin, shortest_head, signed_head, unsigned_bytes};
+ghost use Rattle.cbor4ii_items.specs.Numbers.{signed_bytes};
+ghost use Rattle.cbor4ii_items.specs.ReadBack.{ReadsBack, NoneBeginsAnother, greatest_cost};
+ghost use Rattle.cbor4ii_items.specs.ReadBack.{pair_cost};
 ghost use Rattle.cbor4ii_items.specs.Refusal.{refusal_of};
 ghost use Rattle.cbor4ii_items.specs.SequenceBytes.{map_bytes};
-ghost use Rattle.cbor4ii_items.specs.Strings.{
-  ReadsAs,
-  ReadsTextAs,
-  counted_string,
-  opening,
-  text_content,
-};
+ghost use Rattle.cbor4ii_items.specs.Strings.{ReadsAs, ReadsTextAs, counted_string, opening};
+ghost use Rattle.cbor4ii_items.specs.Strings.{text_content};
 
 use crate::decode::{Decode, Spelled};
 use crate::encode::Encode;

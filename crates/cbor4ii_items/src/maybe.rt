@@ -2,20 +2,10 @@
 ghost use Rattle.std.specs.Prelude.{◌≡◌, ◌+◌, ◌≤◌, OnOk, IfOk, IfErr, true, false};
 ghost use Rattle.cbor4ii_items.specs.Containers.{SameOption};
 ghost use Rattle.cbor4ii_items.specs.Decoding.{Sound, Refuses, Stops};
-ghost use Rattle.cbor4ii_items.specs.Maybe.{
-  ReadsFew,
-  ReadsMaybe,
-  StopsFew,
-  StopsMaybe,
-  few_at,
-  maybe_bytes,
-};
-ghost use Rattle.cbor4ii_items.specs.Laws.Maybe.{
-  maybe_one,
-  maybe_within,
-  maybe_positive,
-  maybe_alone,
-};
+ghost use Rattle.cbor4ii_items.specs.Maybe.{ReadsFew, ReadsMaybe, StopsFew, StopsMaybe, few_at};
+ghost use Rattle.cbor4ii_items.specs.Maybe.{maybe_bytes};
+ghost use Rattle.cbor4ii_items.specs.Laws.Maybe.{maybe_one, maybe_within, maybe_positive};
+ghost use Rattle.cbor4ii_items.specs.Laws.Maybe.{maybe_alone};
 ghost use Rattle.cbor4ii_items.specs.Reading.{Runs};
 ghost use Rattle.cbor4ii_items.specs.Refusal.{is_out_of_memory};
 ghost use Rattle.cbor4ii_items.specs.Writing.{Writes};

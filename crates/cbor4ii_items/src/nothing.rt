@@ -1,13 +1,7 @@
 //! No item at all.
 ghost use Rattle.std.specs.Prelude.{◌≡◌, [], Ok, true, false};
-ghost use Rattle.cbor4ii_items.specs.Nothing.{
-  ReadsNothing,
-  StopsNothing,
-  nothing_one,
-  nothing_within,
-  nothing_positive,
-  nothing_alone,
-};
+ghost use Rattle.cbor4ii_items.specs.Nothing.{ReadsNothing, StopsNothing, nothing_one};
+ghost use Rattle.cbor4ii_items.specs.Nothing.{nothing_within, nothing_positive, nothing_alone};
 ghost use Rattle.cbor4ii_items.specs.Writing.{WritesWhole};
 
 use crate::decode::{Decode, Spelled};

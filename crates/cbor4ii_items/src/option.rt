@@ -1,12 +1,8 @@
 //! Optional items.
 ghost use Rattle.std.specs.Prelude.{◌&&◌};
 ghost use Rattle.cbor4ii_items.specs.Containers.{ReadsOption, SameOption, StopsOption};
-ghost use Rattle.cbor4ii_items.specs.Laws.Containers.{
-  option_one,
-  option_within,
-  option_positive,
-  option_alone,
-};
+ghost use Rattle.cbor4ii_items.specs.Laws.Containers.{option_one, option_within, option_positive};
+ghost use Rattle.cbor4ii_items.specs.Laws.Containers.{option_alone};
 
 use crate::decode::{Decode, Spelled};
 use crate::head::peek;

@@ -1,24 +1,10 @@
 //! Heads and numbers, written.
-ghost use Rattle.std.specs.Prelude.{
-  ◌≡◌,
-  ◌<◌,
-  ◌<ℤ◌,
-  ◌≤ℤ◌,
-  ◌++◌,
-  pos,
-  negsuc,
-};
+ghost use Rattle.std.specs.Prelude.{◌≡◌, ◌<◌, ◌<ℤ◌, ◌≤ℤ◌, ◌++◌, pos, negsuc};
 ghost use Rattle.cbor4ii_items.specs.Writing.{Writes, WritesWhole};
 ghost use Rattle.cbor4ii_items.specs.Magnitude.{without_leading_zeros};
 ghost use Rattle.cbor4ii_items.specs.Strings.{closing, counted_string, opening};
-ghost use Rattle.cbor4ii_items.specs.Numbers.{
-  shortest_head,
-  signed_head,
-  bignum_bytes,
-  integer_bytes,
-  unsigned_bytes,
-  signed_bytes,
-};
+ghost use Rattle.cbor4ii_items.specs.Numbers.{shortest_head, signed_head, bignum_bytes};
+ghost use Rattle.cbor4ii_items.specs.Numbers.{integer_bytes, unsigned_bytes, signed_bytes};
 
 use crate::encode::Encode;
 use crate::{major, marker};

@@ -4,22 +4,10 @@ ghost use Rattle.cbor4ii_items.specs.Reading.{Runs};
 ghost use Rattle.cbor4ii_items.specs.Refusal.{is_out_of_memory};
 ghost use Rattle.cbor4ii_items.specs.Numbers.{shortest_head};
 ghost use Rattle.cbor4ii_items.specs.Initial.{simple_byte, simple_null, simple_undefined};
-ghost use Rattle.cbor4ii_items.specs.Simple.{
-  ReadsSimple,
-  StopsSimple,
-  simple_one,
-  simple_within,
-  simple_positive,
-  simple_alone,
-  ReadsBool,
-  StopsBool,
-  bool_byte,
-  bool_at,
-  bool_one,
-  bool_within,
-  bool_positive,
-  bool_alone,
-};
+ghost use Rattle.cbor4ii_items.specs.Simple.{ReadsSimple, StopsSimple, simple_one, simple_within};
+ghost use Rattle.cbor4ii_items.specs.Simple.{simple_positive, simple_alone, ReadsBool, StopsBool};
+ghost use Rattle.cbor4ii_items.specs.Simple.{bool_byte, bool_at, bool_one, bool_within};
+ghost use Rattle.cbor4ii_items.specs.Simple.{bool_positive, bool_alone};
 ghost use Rattle.cbor4ii_items.specs.Writing.{WritesWhole};
 
 use crate::decode::{Decode, Spelled};

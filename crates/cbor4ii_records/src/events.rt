@@ -2,22 +2,13 @@
 //! part and read in one call, and an enum with variants of each kind.
 ghost use Rattle.std.specs.Prelude.{◌∷◌, [], codes, true, false};
 ghost use Rattle.cbor4ii_items.specs.Strings.{counted_string};
-ghost use Rattle.cbor4ii_ser.specs.Item.{
-  encoded,
-  field,
-  struct_item,
-  tuple_variant_item,
-  variant_item,
-};
+ghost use Rattle.cbor4ii_ser.specs.Item.{encoded, field, struct_item, tuple_variant_item};
+ghost use Rattle.cbor4ii_ser.specs.Item.{variant_item};
 ghost use Rattle.cbor4ii.specs.Accessing.{Finishes};
 ghost use Rattle.cbor4ii.specs.Typed.{any_two, not_exact, unsaid, unsaid_stops, input, answer_of};
 ghost use Rattle.cbor4ii.specs.Variants.{inside_enum};
-ghost use Rattle.cbor4ii_records.specs.declared.events.Event.TheVariants.{
-  Started,
-  Sampled,
-  Moved,
-  Named,
-};
+ghost use Rattle.cbor4ii_records.specs.declared.events.Event.TheVariants.{Started, Sampled, Moved};
+ghost use Rattle.cbor4ii_records.specs.declared.events.Event.TheVariants.{Named};
 
 use cbor4ii::serde::{
     DecodeError, Deserialize, Deserializer, EncodeError, EnumAccessor, Serialize, Serializer, Typed,

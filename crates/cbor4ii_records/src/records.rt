@@ -2,20 +2,11 @@
 //! of each kind.
 ghost use Rattle.std.specs.Prelude.{◌∷◌, [], codes, true, false};
 ghost use Rattle.cbor4ii_items.specs.Strings.{counted_string};
-ghost use Rattle.cbor4ii_ser.specs.Item.{
-  encoded,
-  field,
-  struct_item,
-  tuple_variant_item,
-  variant_item,
-};
+ghost use Rattle.cbor4ii_ser.specs.Item.{encoded, field, struct_item, tuple_variant_item};
+ghost use Rattle.cbor4ii_ser.specs.Item.{variant_item};
 ghost use Rattle.cbor4ii.specs.Typed.{any_two, not_exact, unsaid, unsaid_stops};
-ghost use Rattle.cbor4ii_records.specs.declared.records.Enum.TheVariants.{
-  Unit,
-  NewType,
-  Tuple,
-  Struct,
-};
+ghost use Rattle.cbor4ii_records.specs.declared.records.Enum.TheVariants.{Unit, NewType, Tuple};
+ghost use Rattle.cbor4ii_records.specs.declared.records.Enum.TheVariants.{Struct};
 
 use cbor4ii::serde::{
     DecodeError, Deserialize, Deserializer, EncodeError, EnumAccessor, Serialize, Serializer, Typed,

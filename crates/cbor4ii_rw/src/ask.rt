@@ -4,21 +4,8 @@
 //! generic over the reader would learn nothing of the reader afterwards. Here the error goes
 //! through a reference of its own, and the caller learns all that the reader keeps. Which error it
 //! is, no clause says.
-ghost use Rattle.std.specs.Prelude.{
-  ◌≡◌,
-  ◌≤◌,
-  [],
-  ◌∷◌,
-  length,
-  IfOk,
-  IfErr,
-  IsTrue,
-  IfSome,
-  IfNone,
-  OnSome,
-  IsSome,
-  MatchOption,
-};
+ghost use Rattle.std.specs.Prelude.{◌≡◌, ◌≤◌, [], ◌∷◌, length, IfOk, IfErr, IsTrue, IfSome, IfNone};
+ghost use Rattle.std.specs.Prelude.{OnSome, IsSome, MatchOption};
 ghost use Rattle.std.specs.Borrow.{sem};
 ghost use Rattle.std.specs.Io.BufRead.{Rests};
 ghost use Rattle.cbor4ii_rw.specs.View.{Told};

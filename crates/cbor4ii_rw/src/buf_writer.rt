@@ -1,17 +1,6 @@
 //! A writer into memory.
-ghost use Rattle.std.specs.Prelude.{
-  ◌≡◌,
-  ◌+◌,
-  ◌≤◌,
-  [],
-  Some,
-  true,
-  length,
-  vec_capacity,
-  OnOk,
-  OnErr,
-  IsOk,
-};
+ghost use Rattle.std.specs.Prelude.{◌≡◌, ◌+◌, ◌≤◌, [], Some, true, length, vec_capacity, OnOk};
+ghost use Rattle.std.specs.Prelude.{OnErr, IsOk};
 ghost use Rattle.cbor4ii_rw.specs.View.{Told};
 ghost use Rattle.cbor4ii_rw.specs.Reader.{Keeps};
 ghost use Rattle.cbor4ii_rw.specs.Writer.{Appends, one_more};

@@ -1,18 +1,6 @@
 //! A reader over a stream.
-ghost use Rattle.std.specs.Prelude.{
-  ◌≡◌,
-  ◌+◌,
-  ◌-◌,
-  ◌≤◌,
-  [],
-  length,
-  Some,
-  IsTrue,
-  IfSome,
-  IfOk,
-  IsOk,
-  MatchResult,
-};
+ghost use Rattle.std.specs.Prelude.{◌≡◌, ◌+◌, ◌-◌, ◌≤◌, [], length, Some, IsTrue, IfSome, IfOk};
+ghost use Rattle.std.specs.Prelude.{IsOk, MatchResult};
 ghost use Rattle.std.specs.Borrow.{sem};
 ghost use Rattle.std.specs.Io.{StartsWith};
 ghost use Rattle.std.specs.Io.BufRead.{Rests, FillKeeps, DropsConsumable};
@@ -20,14 +8,8 @@ ghost use Rattle.cbor4ii_rw.specs.contracts.io_reader.IoReader.{the_row};
 ghost use Rattle.cbor4ii_rw.specs.View.{Told};
 ghost use Rattle.cbor4ii_rw.specs.Reader.{Keeps, IsFront, IsEnough, Shows, Breaks};
 ghost use Rattle.cbor4ii_rw.specs.Reference.{bytes_of, IsLong};
-ghost use Rattle.cbor4ii_rw.specs.Stream.{
-  most_bytes,
-  cut_within,
-  cut_known,
-  stream_left,
-  stream_view,
-  TallyMoves,
-};
+ghost use Rattle.cbor4ii_rw.specs.Stream.{most_bytes, cut_within, cut_known, stream_left};
+ghost use Rattle.cbor4ii_rw.specs.Stream.{stream_view, TallyMoves};
 
 use crate::read::{Read, Reference, Source};
 use crate::steps;

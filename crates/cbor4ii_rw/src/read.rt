@@ -3,29 +3,12 @@
 //! A reader shows a front of what is left, and takes bytes only when it is told to advance. It
 //! also counts the steps that nested items take (RFC 8949 section 10 leaves the limit to the
 //! decoder), so that hostile input cannot drive a recursion as deep as it likes.
-ghost use Rattle.std.specs.Prelude.{
-  ◌≡◌,
-  ◌≤◌,
-  ◌↔◌,
-  length,
-  take,
-  IsTrue,
-  IfOk,
-  MatchResult,
-};
+ghost use Rattle.std.specs.Prelude.{◌≡◌, ◌≤◌, ◌↔◌, length, take, IsTrue, IfOk, MatchResult};
 ghost use Rattle.std.specs.Borrow.{sem};
 ghost use Rattle.std.specs.Io.BufRead.{Rests};
 ghost use Rattle.cbor4ii_rw.specs.View.{View, Told};
-ghost use Rattle.cbor4ii_rw.specs.Reader.{
-  IsFront,
-  IsEnough,
-  Shows,
-  Breaks,
-  Advances,
-  KeepsAllButBudget,
-  StepsIn,
-  step_back,
-};
+ghost use Rattle.cbor4ii_rw.specs.Reader.{IsFront, IsEnough, Shows, Breaks, Advances};
+ghost use Rattle.cbor4ii_rw.specs.Reader.{KeepsAllButBudget, StepsIn, step_back};
 ghost use Rattle.cbor4ii_rw.specs.Reference.{bytes_of, IsLong};
 
 use std::fmt::Debug;

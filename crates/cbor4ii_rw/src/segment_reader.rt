@@ -1,16 +1,6 @@
 //! A reader over borrowed segments.
-ghost use Rattle.std.specs.Prelude.{
-  ◌≡◌,
-  ◌≤◌,
-  min,
-  [],
-  Some,
-  length,
-  nat_lt,
-  IsTrue,
-  IfOk,
-  MatchResult,
-};
+ghost use Rattle.std.specs.Prelude.{◌≡◌, ◌≤◌, min, [], Some, length, nat_lt, IsTrue, IfOk};
+ghost use Rattle.std.specs.Prelude.{MatchResult};
 ghost use Rattle.std.proofs.Common.{rules};
 ghost use Rattle.std.specs.Borrow.{sem};
 ghost use Rattle.std.specs.Io.BufRead.{Rests};
@@ -19,14 +9,8 @@ ghost use Rattle.cbor4ii_rw.specs.contracts.segment_reader.SegmentReader.{the_ro
 ghost use Rattle.cbor4ii_rw.specs.View.{Told};
 ghost use Rattle.cbor4ii_rw.specs.Reader.{IsFront, IsEnough, Shows, Breaks};
 ghost use Rattle.cbor4ii_rw.specs.Reference.{bytes_of, IsLong};
-ghost use Rattle.cbor4ii_rw.specs.Segments.{
-  joined_segments,
-  full_count,
-  rest_of,
-  full_of,
-  shown_segment,
-  segment_view,
-};
+ghost use Rattle.cbor4ii_rw.specs.Segments.{joined_segments, full_count, rest_of, full_of};
+ghost use Rattle.cbor4ii_rw.specs.Segments.{shown_segment, segment_view};
 
 use crate::error::Never;
 use crate::read::{Read, Reference, Source};

@@ -1,26 +1,10 @@
 //! Arrays and maps of a known number of parts, written part by part.
-ghost use Rattle.std.specs.Prelude.{
-  ◌≡◌,
-  ◌<◌,
-  ◌-◌,
-  ◌++◌,
-  [],
-  Ok,
-  IfOk,
-  OnOk,
-  OnErr,
-  true,
-  false,
-};
+ghost use Rattle.std.specs.Prelude.{◌≡◌, ◌<◌, ◌-◌, ◌++◌, [], Ok, IfOk, OnOk, OnErr, true, false};
 ghost use Rattle.std.specs.Borrow.{sem, RestsIfErr};
 ghost use Rattle.cbor4ii_items.specs.Numbers.{shortest_head};
 ghost use Rattle.cbor4ii_ser.specs.contracts.serializer.Serializer.{the_row};
-ghost use Rattle.cbor4ii_ser.specs.Collecting.{
-  bounded_left,
-  bounded_keyed,
-  bounded_output,
-  bounded_lender,
-};
+ghost use Rattle.cbor4ii_ser.specs.Collecting.{bounded_left, bounded_keyed, bounded_output};
+ghost use Rattle.cbor4ii_ser.specs.Collecting.{bounded_lender};
 ghost use Rattle.cbor4ii_ser.specs.Item.{encoded, field, variant_head};
 ghost use Rattle.cbor4ii_ser.specs.Serializing.{Serializes, output};
 

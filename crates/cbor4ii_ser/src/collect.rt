@@ -1,14 +1,5 @@
 //! Arrays and maps that are written part by part, of so many parts or of any number.
-ghost use Rattle.std.specs.Prelude.{
-  ◌≡◌,
-  Ok,
-  IsSome,
-  IfOk,
-  OnOk,
-  OnErr,
-  true,
-  false,
-};
+ghost use Rattle.std.specs.Prelude.{◌≡◌, Ok, IsSome, IfOk, OnOk, OnErr, true, false};
 ghost use Rattle.std.specs.Borrow.{sem, RestsIfErr};
 ghost use Rattle.cbor4ii_ser.specs.contracts.serializer.Serializer.{the_row};
 ghost use Rattle.cbor4ii_ser.specs.Collecting.{left_of, is_keyed, owes, collected, lender_of};

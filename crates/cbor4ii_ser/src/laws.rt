@@ -1,29 +1,12 @@
 //! Laws of what is written, each the contract of a function that does nothing.
-ghost use Rattle.std.specs.Prelude.{
-  ◌≡◌,
-  ◌↔◌,
-  ◌<◌,
-  ◌≤◌,
-  ◌^◌,
-  ℕ,
-  List,
-  All,
-  length,
-  string_bytes,
-  IsUtf8,
-};
+ghost use Rattle.std.specs.Prelude.{◌≡◌, ◌↔◌, ◌<◌, ◌≤◌, ◌^◌, ℕ, List, All, length, string_bytes};
+ghost use Rattle.std.specs.Prelude.{IsUtf8};
 ghost use Rattle.std.specs.declared.alloc.Global.{Global};
 ghost use Rattle.std.specs.declared.string.String.{String};
 ghost use Rattle.cbor4ii_items.specs.ReadBack.{ReadsBack};
 ghost use Rattle.cbor4ii_items.specs.Strings.{joined};
-ghost use Rattle.cbor4ii_ser.specs.Item.{
-  Encoding,
-  tuple_item,
-  struct_item,
-  variant_item,
-  tuple_variant_item,
-  struct_variant_item,
-};
+ghost use Rattle.cbor4ii_ser.specs.Item.{Encoding, tuple_item, struct_item, variant_item};
+ghost use Rattle.cbor4ii_ser.specs.Item.{tuple_variant_item, struct_variant_item};
 ghost use Rattle.cbor4ii_ser.specs.Pieces.{Chunks, text_bytes};
 
 use cbor4ii_items::decode::Spelled;

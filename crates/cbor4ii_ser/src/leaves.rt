@@ -3,12 +3,8 @@ ghost use Rattle.std.specs.Prelude.{◌∷◌, [], string_bytes};
 ghost use Rattle.std.specs.Char.{encode_utf8};
 ghost use Rattle.cbor4ii_items.specs.Cow.{cow_text};
 ghost use Rattle.cbor4ii_items.specs.Floats.{float_bytes};
-ghost use Rattle.cbor4ii_items.specs.Numbers.{
-  shortest_head,
-  signed_head,
-  signed_bytes,
-  unsigned_bytes,
-};
+ghost use Rattle.cbor4ii_items.specs.Numbers.{shortest_head, signed_head, signed_bytes};
+ghost use Rattle.cbor4ii_items.specs.Numbers.{unsigned_bytes};
 ghost use Rattle.cbor4ii_items.specs.Simple.{bool_byte};
 ghost use Rattle.cbor4ii_items.specs.Strings.{counted_string};
 ghost use Rattle.cbor4ii_ser.specs.Item.{encoded, option_item};

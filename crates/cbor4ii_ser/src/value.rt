@@ -2,12 +2,7 @@
 ghost use Rattle.std.specs.Prelude.{◌≡◌, IsTrue};
 ghost use Rattle.cbor4ii_tree.specs.View.{view, items_view, members_view};
 ghost use Rattle.cbor4ii_ser.specs.Serializing.{Serializes, output};
-ghost use Rattle.cbor4ii_ser.specs.Values.{
-  holds_tag,
-  some_holds_tag,
-  members_hold_tag,
-  value_item,
-};
+ghost use Rattle.cbor4ii_ser.specs.Values.{holds_tag, some_holds_tag, members_hold_tag, value_item};
 
 use crate::error::EncodeError;
 use crate::serialize::Serialize;

@@ -4,12 +4,8 @@ ghost use Rattle.cbor4ii_rw.specs.View.{Told};
 ghost use Rattle.cbor4ii_rw.specs.Reader.{Shows, Breaks};
 ghost use Rattle.cbor4ii_items.specs.Moves.{Kept};
 ghost use Rattle.cbor4ii_items.specs.Writing.{WritesWhole};
-ghost use Rattle.cbor4ii_tool.specs.Reading.{
-  ReadsInteger,
-  RefusesInteger,
-  BeginsNegative,
-  written_bytes,
-};
+ghost use Rattle.cbor4ii_tool.specs.Reading.{ReadsInteger, RefusesInteger, BeginsNegative};
+ghost use Rattle.cbor4ii_tool.specs.Reading.{written_bytes};
 ghost use Rattle.cbor4ii_tool.specs.Steps.{Leaves};
 ghost use Rattle.cbor4ii_tool.specs.declared.fault.Kind.TheVariants.{Read, Write};
 

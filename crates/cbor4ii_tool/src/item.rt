@@ -2,12 +2,8 @@
 ghost use Rattle.std.specs.Prelude.{◌≡◌, Some, IfErr, OnOk};
 ghost use Rattle.cbor4ii_rw.specs.Stream.{stream_view};
 ghost use Rattle.cbor4ii_tool.specs.Steps.{Leaves, Done, Fails};
-ghost use Rattle.cbor4ii_tool.specs.declared.command.Command.TheVariants.{
-  Ints,
-  Canon,
-  Lens,
-  Strict,
-};
+ghost use Rattle.cbor4ii_tool.specs.declared.command.Command.TheVariants.{Ints, Canon, Lens};
+ghost use Rattle.cbor4ii_tool.specs.declared.command.Command.TheVariants.{Strict};
 
 use crate::command::Command;
 use crate::fault::Kind;

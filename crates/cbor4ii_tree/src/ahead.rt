@@ -1,27 +1,8 @@
 //! What shown bytes begin with, decided in one look: a run of items that hold no other, a head, or
 //! a break (RFC 8949 section 3). What does not stand whole in them is left undecided.
-ghost use Rattle.std.specs.Prelude.{
-  ◌≡◌,
-  ◌≢◌,
-  ◌≤◌,
-  ◌<◌,
-  ◌+◌,
-  length,
-  ◌*◌,
-  ◌%◌,
-  ◌∷◌,
-  ◌↔◌,
-  IsTrue,
-  ℕ,
-  List,
-};
-ghost use Rattle.cbor4ii_tree.specs.Ahead.{
-  leaf_bytes,
-  Allows,
-  IsOpen,
-  BeginsWithBreak,
-  Sees,
-};
+ghost use Rattle.std.specs.Prelude.{◌≡◌, ◌≢◌, ◌≤◌, ◌<◌, ◌+◌, length, ◌*◌, ◌%◌, ◌∷◌, ◌↔◌, IsTrue, ℕ};
+ghost use Rattle.std.specs.Prelude.{List};
+ghost use Rattle.cbor4ii_tree.specs.Ahead.{leaf_bytes, Allows, IsOpen, BeginsWithBreak, Sees};
 ghost use Rattle.cbor4ii_tree.specs.Runs.{IsLeafAt, IsPairAt, BeginsRun};
 
 use crate::skip::{Behind, Start, start_of};

@@ -12,12 +12,8 @@ ghost use Rattle.cbor4ii_tree.specs.Canonical.{canon, canon_cost, with_bignums};
 ghost use Rattle.cbor4ii_tree.specs.Spelling.{Spells};
 ghost use Rattle.cbor4ii_tree.specs.View.{view};
 ghost use Rattle.cbor4ii_tree.specs.Raw.{ReadsRaw, StopsRaw, BeginsRaw};
-ghost use Rattle.cbor4ii_tree.specs.BoxedRaw.{
-  boxed_content,
-  CapturesCopy,
-  CopiesItem,
-  StopsRawUnlent,
-};
+ghost use Rattle.cbor4ii_tree.specs.BoxedRaw.{boxed_content, CapturesCopy, CopiesItem};
+ghost use Rattle.cbor4ii_tree.specs.BoxedRaw.{StopsRawUnlent};
 ghost use Rattle.cbor4ii_tree.specs.Laws.Capturing.{raw_one, raw_within, raw_positive, raw_alone};
 
 use crate::lend_raw::{LendRaw, capture, skip_lent};

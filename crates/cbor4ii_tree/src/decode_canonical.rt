@@ -2,49 +2,22 @@
 ghost use Rattle.std.specs.Prelude.{◌≡◌, ◌+◌, ◌*◌, ◌≤◌, ◌/◌, OnOk, IfOk, IfErr, true};
 ghost use Rattle.cbor4ii_items.specs.Decoding.{Sound, Refuses, Stops};
 ghost use Rattle.cbor4ii_items.specs.Moves.{Moves};
-ghost use Rattle.cbor4ii_tree.specs.Canonically.{
-  ReadsCanonical,
-  StopsCanonical,
-  OnlyCanonical,
-  AllCanonical,
-  TakesSpelling,
-  EverySpelling,
-  FrontCanonical,
-  DepthCanonical,
-  NeverCanonical,
-  OthersCanonical,
-  ExactCanonical,
-  ValueCanonical,
-};
-ghost use Rattle.cbor4ii_tree.specs.Laws.CanonicalReading.{
-  canonical_one,
-  canonical_within,
-  canonical_positive,
-  canonical_alone,
-};
+ghost use Rattle.cbor4ii_tree.specs.Canonically.{ReadsCanonical, StopsCanonical, OnlyCanonical};
+ghost use Rattle.cbor4ii_tree.specs.Canonically.{AllCanonical, TakesSpelling, EverySpelling};
+ghost use Rattle.cbor4ii_tree.specs.Canonically.{FrontCanonical, DepthCanonical, NeverCanonical};
+ghost use Rattle.cbor4ii_tree.specs.Canonically.{OthersCanonical, ExactCanonical, ValueCanonical};
+ghost use Rattle.cbor4ii_tree.specs.Laws.CanonicalReading.{canonical_one, canonical_within};
+ghost use Rattle.cbor4ii_tree.specs.Laws.CanonicalReading.{canonical_positive, canonical_alone};
 ghost use Rattle.cbor4ii_tree.specs.Does.{DoesUnder};
 ghost use Rattle.cbor4ii_tree.specs.Promises.{EofReads};
 ghost use Rattle.cbor4ii_tree.specs.Refusal.{array_name, map_name};
-ghost use Rattle.cbor4ii_tree.specs.StopsStrictly.{
-  StrictTextStops,
-  StrictArrayStops,
-  StrictMapStops,
-};
-ghost use Rattle.cbor4ii_tree.specs.Strictly.{
-  ReadsExactly,
-  StopsExactly,
-  ReadsExactlyUnder,
-  StopsExactlyUnder,
-  StopsBehindFirst,
-  StopsExactlyStepped,
-  TextAt,
-  ExactItems,
-  StopsExactItems,
-  ExactMember,
-  StopsExactMember,
-  ExactMembers,
-  AcceptsCount,
-};
+ghost use Rattle.cbor4ii_tree.specs.StopsStrictly.{StrictTextStops, StrictArrayStops};
+ghost use Rattle.cbor4ii_tree.specs.StopsStrictly.{StrictMapStops};
+ghost use Rattle.cbor4ii_tree.specs.Strictly.{ReadsExactly, StopsExactly, ReadsExactlyUnder};
+ghost use Rattle.cbor4ii_tree.specs.Strictly.{StopsExactlyUnder, StopsBehindFirst};
+ghost use Rattle.cbor4ii_tree.specs.Strictly.{StopsExactlyStepped, TextAt, ExactItems};
+ghost use Rattle.cbor4ii_tree.specs.Strictly.{StopsExactItems, ExactMember, StopsExactMember};
+ghost use Rattle.cbor4ii_tree.specs.Strictly.{ExactMembers, AcceptsCount};
 ghost use Rattle.cbor4ii_tree.specs.Valuing.{ReadsStepped, ReadsVec};
 ghost use Rattle.cbor4ii_tree.specs.View.{view};
 

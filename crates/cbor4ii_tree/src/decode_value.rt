@@ -2,54 +2,22 @@
 ghost use Rattle.std.specs.Prelude.{◌≡◌, ◌+◌, ◌≤◌, ◌/◌, [], ◌∷◌, ◌++◌, OnOk, IfOk, IfErr, true};
 ghost use Rattle.cbor4ii_rw.specs.declared.error.DecodeError.TheVariants.{OutOfMemory};
 ghost use Rattle.cbor4ii_tree.specs.Does.{DoesUnder};
-ghost use Rattle.cbor4ii_tree.specs.Valuing.{
-  ReadsOneValue,
-  StopsOneValue,
-  ReadsUnder,
-  StopsUnder,
-  ReadsStepped,
-  StopsOf,
-  StopsMajor,
-  StopsFirst,
-  ReadsVec,
-  ReadsArrayInside,
-  ReadsItems,
-  StopsItems,
-  ReadsOpenItems,
-  StopsOpenItems,
-  ReadsMapInside,
-  ReadsMembers,
-  StopsMembers,
-  ReadsOpenMembers,
-  StopsOpenMembers,
-  ReadsMember,
-  StopsMember,
-};
+ghost use Rattle.cbor4ii_tree.specs.Valuing.{ReadsOneValue, StopsOneValue, ReadsUnder, StopsUnder};
+ghost use Rattle.cbor4ii_tree.specs.Valuing.{ReadsStepped, StopsOf, StopsMajor, StopsFirst};
+ghost use Rattle.cbor4ii_tree.specs.Valuing.{ReadsVec, ReadsArrayInside, ReadsItems, StopsItems};
+ghost use Rattle.cbor4ii_tree.specs.Valuing.{ReadsOpenItems, StopsOpenItems, ReadsMapInside};
+ghost use Rattle.cbor4ii_tree.specs.Valuing.{ReadsMembers, StopsMembers, ReadsOpenMembers};
+ghost use Rattle.cbor4ii_tree.specs.Valuing.{StopsOpenMembers, ReadsMember, StopsMember};
 ghost use Rattle.cbor4ii_items.specs.Decoding.{Sound, Refuses, Stops};
 ghost use Rattle.cbor4ii_items.specs.Moves.{Moves};
 ghost use Rattle.cbor4ii_tree.specs.Item.{IsItem, AreItems, AreMembers};
 ghost use Rattle.cbor4ii_tree.specs.StopsReading.{StopsReading};
 ghost use Rattle.cbor4ii_tree.specs.View.{view, items_view, members_view};
-ghost use Rattle.cbor4ii_tree.specs.Promises.{
-  ReadsSpelling,
-  OnlyReads,
-  AllReads,
-  FrontReads,
-  EofReads,
-  DepthReads,
-  FinalReads,
-  Others,
-  SizeReads,
-  ExactReads,
-  SkipsReads,
-  CanonicalReads,
-};
-ghost use Rattle.cbor4ii_tree.specs.Laws.Values.{
-  value_one,
-  value_within,
-  value_positive,
-  value_alone,
-};
+ghost use Rattle.cbor4ii_tree.specs.Promises.{ReadsSpelling, OnlyReads, AllReads, FrontReads};
+ghost use Rattle.cbor4ii_tree.specs.Promises.{EofReads, DepthReads, FinalReads, Others, SizeReads};
+ghost use Rattle.cbor4ii_tree.specs.Promises.{ExactReads, SkipsReads, CanonicalReads};
+ghost use Rattle.cbor4ii_tree.specs.Laws.Values.{value_one, value_within, value_positive};
+ghost use Rattle.cbor4ii_tree.specs.Laws.Values.{value_alone};
 
 use crate::front::Own;
 use crate::simple::{read_float, simple_of};

@@ -2,21 +2,8 @@
 //!
 //! An item that is kept as its bytes is skipped inside the bytes that one `fill` lends, under the
 //! steps of the reader that lent them. So what skips is written over both.
-ghost use Rattle.std.specs.Prelude.{
-  ◌≡◌,
-  ◌≤◌,
-  ◌<◌,
-  Bool,
-  take,
-  length,
-  min,
-  IsTrue,
-  IfOk,
-  IfSome,
-  OnErr,
-  true,
-  false,
-};
+ghost use Rattle.std.specs.Prelude.{◌≡◌, ◌≤◌, ◌<◌, Bool, take, length, min, IsTrue, IfOk, IfSome};
+ghost use Rattle.std.specs.Prelude.{OnErr, true, false};
 ghost use Rattle.cbor4ii_rw.specs.View.{View};
 ghost use Rattle.cbor4ii_rw.specs.Reader.{Breaks, Advances, KeepsAllButBudget};
 ghost use Rattle.cbor4ii_items.specs.Head.{IsBytes};

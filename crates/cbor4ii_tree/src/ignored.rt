@@ -3,23 +3,11 @@ ghost use Rattle.std.specs.Prelude.{◌≡◌, ◌+◌, ◌≤◌, OnOk, IfOk, I
 ghost use Rattle.cbor4ii_items.specs.Moves.{Moves};
 ghost use Rattle.cbor4ii_items.specs.Refusal.{is_out_of_memory};
 ghost use Rattle.cbor4ii_items.specs.Decoding.{IsExact, Sound, Refuses, Stops};
-ghost use Rattle.cbor4ii_tree.specs.Promises.{
-  Others,
-  OnlySkips,
-  AllSkips,
-  FrontSkips,
-  EofSkips,
-  DepthSkips,
-  FinalSkips,
-  ExactSkips,
-};
+ghost use Rattle.cbor4ii_tree.specs.Promises.{Others, OnlySkips, AllSkips, FrontSkips, EofSkips};
+ghost use Rattle.cbor4ii_tree.specs.Promises.{DepthSkips, FinalSkips, ExactSkips};
 ghost use Rattle.cbor4ii_tree.specs.Ignored.{ReadsIgnored, StopsIgnored};
-ghost use Rattle.cbor4ii_tree.specs.Laws.Ignoring.{
-  ignored_one,
-  ignored_within,
-  ignored_positive,
-  ignored_alone,
-};
+ghost use Rattle.cbor4ii_tree.specs.Laws.Ignoring.{ignored_one, ignored_within, ignored_positive};
+ghost use Rattle.cbor4ii_tree.specs.Laws.Ignoring.{ignored_alone};
 
 use crate::front::Own;
 use crate::skip::skip_item;

@@ -10,14 +10,8 @@ ghost use Rattle.cbor4ii_items.specs.Decoding.{CostFits};
 ghost use Rattle.cbor4ii_tree.specs.Cost.{Budget, skip_cost, cost};
 ghost use Rattle.cbor4ii_tree.specs.Canonical.{canon, canon_cost, with_bignums};
 ghost use Rattle.cbor4ii_tree.specs.Refusal.{Refusal, Len, eof, depth_overflow, IsFinal, MayStop};
-ghost use Rattle.cbor4ii_tree.specs.Spelling.{
-  Spells,
-  ReadsPlainly,
-  Skips,
-  SomeAnswer,
-  AtMostOne,
-  IsProperFront,
-};
+ghost use Rattle.cbor4ii_tree.specs.Spelling.{Spells, ReadsPlainly, Skips, SomeAnswer, AtMostOne};
+ghost use Rattle.cbor4ii_tree.specs.Spelling.{IsProperFront};
 ghost use Rattle.cbor4ii_tree.specs.Strict.{Strict, IsDecoded, SpellsStrictly, ReadsStrictly};
 ghost use Rattle.cbor4ii_tree.specs.StopsSkipping.{StopsSkipping, SkippingStopsByParts};
 ghost use Rattle.cbor4ii_tree.specs.StopsReading.{StopsReading, ReadingStopsByParts};

@@ -1,36 +1,13 @@
 //! Items that are lent: the bytes of one item, as they stand in the input.
-ghost use Rattle.std.specs.Prelude.{
-  ◌≡◌,
-  ◌+◌,
-  ◌≤◌,
-  ℕ,
-  List,
-  length,
-  take,
-  false,
-  IsTrue,
-  IfOk,
-  IfErr,
-  OnOk,
-};
+ghost use Rattle.std.specs.Prelude.{◌≡◌, ◌+◌, ◌≤◌, ℕ, List, length, take, false, IsTrue, IfOk};
+ghost use Rattle.std.specs.Prelude.{IfErr, OnOk};
 ghost use Rattle.cbor4ii_rw.specs.Reader.{KeepsAllButBudget};
 ghost use Rattle.cbor4ii_items.specs.Decoding.{IsExact, Sound, Refuses, Stops};
 ghost use Rattle.cbor4ii_items.specs.Moves.{Moves};
 ghost use Rattle.cbor4ii_items.specs.Refusal.{is_out_of_memory};
-ghost use Rattle.cbor4ii_tree.specs.Raw.{
-  ReadsRaw,
-  StopsRaw,
-  BeginsRaw,
-  Unmoved,
-  RefusesFront,
-  TakesItem,
-  StopsAsSkipping,
-  LendsFront,
-  LacksFront,
-  SkipsFront,
-  StopsFront,
-  Captures,
-};
+ghost use Rattle.cbor4ii_tree.specs.Raw.{ReadsRaw, StopsRaw, BeginsRaw, Unmoved, RefusesFront};
+ghost use Rattle.cbor4ii_tree.specs.Raw.{TakesItem, StopsAsSkipping, LendsFront, LacksFront};
+ghost use Rattle.cbor4ii_tree.specs.Raw.{SkipsFront, StopsFront, Captures};
 
 use crate::front::Lent;
 use crate::skip::skip_item;

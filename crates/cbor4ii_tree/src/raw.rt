@@ -4,16 +4,8 @@ ghost use Rattle.cbor4ii_items.specs.Decoding.{IsExact, Sound, Refuses, Stops};
 ghost use Rattle.cbor4ii_items.specs.Moves.{Moves};
 ghost use Rattle.cbor4ii_items.specs.Refusal.{is_out_of_memory};
 ghost use Rattle.cbor4ii_items.specs.Writing.{WritesWhole};
-ghost use Rattle.cbor4ii_tree.specs.Raw.{
-  raw_content,
-  ReadsRaw,
-  StopsRaw,
-  BeginsRaw,
-  Unmoved,
-  RefusesFront,
-  TakesItem,
-  StopsAsSkipping,
-};
+ghost use Rattle.cbor4ii_tree.specs.Raw.{raw_content, ReadsRaw, StopsRaw, BeginsRaw, Unmoved};
+ghost use Rattle.cbor4ii_tree.specs.Raw.{RefusesFront, TakesItem, StopsAsSkipping};
 ghost use Rattle.cbor4ii_tree.specs.Laws.Capturing.{raw_one, raw_within, raw_positive, raw_alone};
 
 use crate::lend_raw::{LendRaw, NoFront, take_raw};

@@ -5,36 +5,14 @@ ghost use Rattle.cbor4ii_items.specs.Initial.{initial, info_of};
 ghost use Rattle.cbor4ii_tree.specs.Cost.{Budget};
 ghost use Rattle.cbor4ii_tree.specs.Deeper.{Deeper, GoesOn, budgeted};
 ghost use Rattle.cbor4ii_tree.specs.Does.{Does, Spares, answered, done};
-ghost use Rattle.cbor4ii_tree.specs.Skipping.{
-  additional_of,
-  start_of,
-  SkipsOne,
-  StopsSkippingOne,
-  SkipsItems,
-  StopsSkippingItems,
-  SkipsOpen,
-  StopsSkippingOpen,
-  SkipsMembers,
-  StopsSkippingMembers,
-  SkipsUnder,
-  StopsSkippingUnder,
-  SkipsBehind,
-  StopsSkippingBehind,
-};
-ghost use Rattle.cbor4ii_tree.specs.Ahead.{
-  Awaits,
-  CountsAmong,
-  TakesAhead,
-  Passes,
-  SkipsSome,
-  StopsSome,
-  SkipsSomeUnder,
-  StopsSomeUnder,
-  GoesUnder,
-  CountsWent,
-  Gains,
-  NeverStops,
-};
+ghost use Rattle.cbor4ii_tree.specs.Skipping.{additional_of, start_of, SkipsOne, StopsSkippingOne};
+ghost use Rattle.cbor4ii_tree.specs.Skipping.{SkipsItems, StopsSkippingItems, SkipsOpen};
+ghost use Rattle.cbor4ii_tree.specs.Skipping.{StopsSkippingOpen, SkipsMembers};
+ghost use Rattle.cbor4ii_tree.specs.Skipping.{StopsSkippingMembers, SkipsUnder, StopsSkippingUnder};
+ghost use Rattle.cbor4ii_tree.specs.Skipping.{SkipsBehind, StopsSkippingBehind};
+ghost use Rattle.cbor4ii_tree.specs.Ahead.{Awaits, CountsAmong, TakesAhead, Passes, SkipsSome};
+ghost use Rattle.cbor4ii_tree.specs.Ahead.{StopsSome, SkipsSomeUnder, StopsSomeUnder, GoesUnder};
+ghost use Rattle.cbor4ii_tree.specs.Ahead.{CountsWent, Gains, NeverStops};
 ghost use Rattle.cbor4ii_tree.specs.HeadParts.{DropsBytes};
 ghost use Rattle.cbor4ii_tree.specs.Stops.{Missing};
 

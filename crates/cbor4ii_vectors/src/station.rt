@@ -3,22 +3,11 @@ ghost use Rattle.std.specs.Prelude.{◌≡◌, ◌+◌, ◌≤◌, OnOk, IfOk, I
 ghost use Rattle.cbor4ii_items.specs.Moves.{Moves};
 ghost use Rattle.cbor4ii_items.specs.Refusal.{is_out_of_memory};
 ghost use Rattle.cbor4ii_items.specs.Decoding.{Sound, Refuses, Stops};
-ghost use Rattle.cbor4ii_vectors.specs.Station.{
-  station_bytes,
-  ReadsOpening,
-  ReadsEnd,
-  ReadsStation,
-  SameStation,
-  StopsOpening,
-  StopsEnd,
-  StopsStation,
-};
-ghost use Rattle.cbor4ii_vectors.specs.StationLaws.{
-  station_one,
-  station_within,
-  station_positive,
-  station_alone,
-};
+ghost use Rattle.cbor4ii_vectors.specs.Station.{station_bytes, ReadsOpening, ReadsEnd};
+ghost use Rattle.cbor4ii_vectors.specs.Station.{ReadsStation, SameStation, StopsOpening, StopsEnd};
+ghost use Rattle.cbor4ii_vectors.specs.Station.{StopsStation};
+ghost use Rattle.cbor4ii_vectors.specs.StationLaws.{station_one, station_within, station_positive};
+ghost use Rattle.cbor4ii_vectors.specs.StationLaws.{station_alone};
 
 use cbor4ii_items::decode::{Decode, Spelled};
 use cbor4ii_items::encode::Encode;

@@ -1,25 +1,7 @@
 //! Laws of what is written and read, each the contract of a function that does nothing. An item is
 //! the one that `Serialize` writes, where it writes one.
-ghost use Rattle.std.specs.Prelude.{
-  ◌≡◌,
-  ◌+◌,
-  ◌<◌,
-  ◌≤◌,
-  ◌^◌,
-  ◌++◌,
-  ℕ,
-  ℤ,
-  List,
-  Bool,
-  true,
-  Some,
-  None,
-  All,
-  length,
-  max,
-  IsTrue,
-  IsUtf8,
-};
+ghost use Rattle.std.specs.Prelude.{◌≡◌, ◌+◌, ◌<◌, ◌≤◌, ◌^◌, ◌++◌, ℕ, ℤ, List, Bool, true, Some};
+ghost use Rattle.std.specs.Prelude.{None, All, length, max, IsTrue, IsUtf8};
 ghost use Rattle.std.specs.Borrow.{Bor};
 ghost use Rattle.std.specs.BTreeMap.{IsOrdered};
 ghost use Rattle.std.specs.Char.{IsScalar};

@@ -1,46 +1,16 @@
 //! Integers of sixteen bytes: those that are no argument of a head are bignums.
-ghost use Rattle.std.specs.Prelude.{
-  ◌≡◌,
-  ◌+◌,
-  ◌<◌,
-  ◌≤◌,
-  ◌^◌,
-  OnOk,
-  IfOk,
-  true,
-  false,
-  pos,
-  negsuc,
-  IfErr,
-};
+ghost use Rattle.std.specs.Prelude.{◌≡◌, ◌+◌, ◌<◌, ◌≤◌, ◌^◌, OnOk, IfOk, true, false, pos, negsuc};
+ghost use Rattle.std.specs.Prelude.{IfErr};
 ghost use Rattle.cbor4ii_items.specs.Reading.{Runs};
 ghost use Rattle.cbor4ii_items.specs.Refusal.{is_out_of_memory};
-ghost use Rattle.cbor4ii_items.specs.ReadNumber.{
-  magnitude_at,
-  small_magnitude_at,
-  unsigned_bignum_at,
-  u128_at,
-  signed_bignum_at,
-  i128_at,
-};
-ghost use Rattle.cbor4ii_items.specs.Numbers.{
-  ReadsU128,
-  StopsU128,
-  ReadsI128,
-  StopsI128,
-  unsigned_bytes,
-  signed_bytes,
-};
-ghost use Rattle.cbor4ii_items.specs.Laws.Bignums.{
-  u128_one,
-  u128_within,
-  u128_positive,
-  u128_alone,
-  i128_one,
-  i128_within,
-  i128_positive,
-  i128_alone,
-};
+ghost use Rattle.cbor4ii_items.specs.ReadNumber.{magnitude_at, small_magnitude_at};
+ghost use Rattle.cbor4ii_items.specs.ReadNumber.{unsigned_bignum_at, u128_at, signed_bignum_at};
+ghost use Rattle.cbor4ii_items.specs.ReadNumber.{i128_at};
+ghost use Rattle.cbor4ii_items.specs.Numbers.{ReadsU128, StopsU128, ReadsI128, StopsI128};
+ghost use Rattle.cbor4ii_items.specs.Numbers.{unsigned_bytes, signed_bytes};
+ghost use Rattle.cbor4ii_items.specs.Laws.Bignums.{u128_one, u128_within, u128_positive};
+ghost use Rattle.cbor4ii_items.specs.Laws.Bignums.{u128_alone, i128_one, i128_within};
+ghost use Rattle.cbor4ii_items.specs.Laws.Bignums.{i128_positive, i128_alone};
 
 use crate::decode::{Decode, Spelled};
 use crate::encode::Encode;

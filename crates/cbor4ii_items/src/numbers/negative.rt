@@ -2,12 +2,8 @@
 ghost use Rattle.std.specs.Prelude.{◌≡◌, true, false, codes};
 ghost use Rattle.cbor4ii_items.specs.Writing.{WritesWhole};
 ghost use Rattle.cbor4ii_items.specs.Numbers.{ReadsNegative, StopsNegative, shortest_head};
-ghost use Rattle.cbor4ii_items.specs.Laws.Arguments.{
-  negative_one,
-  negative_within,
-  negative_positive,
-  negative_alone,
-};
+ghost use Rattle.cbor4ii_items.specs.Laws.Arguments.{negative_one, negative_within};
+ghost use Rattle.cbor4ii_items.specs.Laws.Arguments.{negative_positive, negative_alone};
 
 use crate::decode::{Decode, Spelled};
 use crate::encode::Encode;

@@ -1,30 +1,13 @@
 //! Signed integers of at most eight bytes.
-ghost use Rattle.std.specs.Prelude.{
-  ◌≡◌,
-  ◌+◌,
-  ◌<◌,
-  ◌≤◌,
-  ◌^◌,
-  OnOk,
-  IfOk,
-  IfErr,
-  true,
-  false,
-  codes,
-  pos,
-  negsuc,
-};
+ghost use Rattle.std.specs.Prelude.{◌≡◌, ◌+◌, ◌<◌, ◌≤◌, ◌^◌, OnOk, IfOk, IfErr, true, false, codes};
+ghost use Rattle.std.specs.Prelude.{pos, negsuc};
 ghost use Rattle.cbor4ii_items.specs.Reading.{Runs};
 ghost use Rattle.cbor4ii_items.specs.Refusal.{is_out_of_memory};
 ghost use Rattle.cbor4ii_items.specs.Decoding.{Sound, Refuses, Stops};
 ghost use Rattle.cbor4ii_items.specs.ReadNumber.{head_below_at, signed_at};
 ghost use Rattle.cbor4ii_items.specs.Numbers.{ReadsSigned, StopsSigned, IsWithin, signed_head};
-ghost use Rattle.cbor4ii_items.specs.Laws.Signed.{
-  signed_one,
-  signed_within,
-  signed_positive,
-  signed_alone,
-};
+ghost use Rattle.cbor4ii_items.specs.Laws.Signed.{signed_one, signed_within, signed_positive};
+ghost use Rattle.cbor4ii_items.specs.Laws.Signed.{signed_alone};
 ghost use Rattle.cbor4ii_items.specs.Writing.{WritesWhole};
 
 use crate::decode::{Decode, Spelled};

@@ -2,12 +2,8 @@
 ghost use Rattle.std.specs.Prelude.{◌≡◌, true, false, codes};
 ghost use Rattle.cbor4ii_items.specs.Writing.{WritesWhole};
 ghost use Rattle.cbor4ii_items.specs.Numbers.{ReadsUnsigned, StopsUnsigned, shortest_head};
-ghost use Rattle.cbor4ii_items.specs.Laws.Arguments.{
-  unsigned_one,
-  unsigned_within,
-  unsigned_positive,
-  unsigned_alone,
-};
+ghost use Rattle.cbor4ii_items.specs.Laws.Arguments.{unsigned_one, unsigned_within};
+ghost use Rattle.cbor4ii_items.specs.Laws.Arguments.{unsigned_positive, unsigned_alone};
 
 use crate::decode::{Decode, Spelled};
 use crate::encode::Encode;

@@ -1,12 +1,8 @@
 //! Arrays, read (RFC 8949 sections 3.1 and 3.2.2).
 ghost use Rattle.std.specs.Prelude.{true};
 ghost use Rattle.cbor4ii_items.specs.Sequences.{ReadsArray, SameArray, StopsArray};
-ghost use Rattle.cbor4ii_items.specs.Laws.Sequences.{
-  array_one,
-  array_within,
-  array_positive,
-  array_alone,
-};
+ghost use Rattle.cbor4ii_items.specs.Laws.Sequences.{array_one, array_within, array_positive};
+ghost use Rattle.cbor4ii_items.specs.Laws.Sequences.{array_alone};
 
 use crate::decode::{Decode, Spelled};
 use crate::major;

@@ -1,10 +1,6 @@
 //! Arrays and maps, written.
-ghost use Rattle.cbor4ii_items.specs.SequenceBytes.{
-  items_bytes,
-  array_bytes,
-  pair_bytes,
-  map_bytes,
-};
+ghost use Rattle.cbor4ii_items.specs.SequenceBytes.{items_bytes, array_bytes, pair_bytes};
+ghost use Rattle.cbor4ii_items.specs.SequenceBytes.{map_bytes};
 ghost use Rattle.cbor4ii_items.specs.Writing.{Writes};
 
 use crate::encode::Encode;

@@ -1,21 +1,8 @@
 //! Maps, read (RFC 8949 sections 3.1 and 3.2.2).
 ghost use Rattle.std.specs.Prelude.{◌&&◌, ◌||◌, true};
-ghost use Rattle.cbor4ii_items.specs.Sequences.{
-  ReadsPair,
-  StopsPair,
-  ReadsMap,
-  SameMap,
-  StopsMap,
-};
-ghost use Rattle.cbor4ii_items.specs.Laws.Sequences.{
-  pair_size,
-  pair_within,
-  pair_positive,
-  map_one,
-  map_within,
-  map_positive,
-  map_alone,
-};
+ghost use Rattle.cbor4ii_items.specs.Sequences.{ReadsPair, StopsPair, ReadsMap, SameMap, StopsMap};
+ghost use Rattle.cbor4ii_items.specs.Laws.Sequences.{pair_size, pair_within, pair_positive};
+ghost use Rattle.cbor4ii_items.specs.Laws.Sequences.{map_one, map_within, map_positive, map_alone};
 
 use crate::decode::{Decode, Spelled};
 use crate::major;

@@ -1,32 +1,12 @@
 //! What arrays and maps share: a head that counts parts, or parts up to a break (RFC 8949
 //! sections 3.1 and 3.2.2). A part of an array is an item, and one of a map a key and its value.
-ghost use Rattle.std.specs.Prelude.{
-  ◌≡◌,
-  ℕ,
-  ◌+◌,
-  ◌≤◌,
-  ◌<◌,
-  List,
-  Bool,
-  length,
-  OnOk,
-  IfOk,
-  IfErr,
-  IsTrue,
-};
+ghost use Rattle.std.specs.Prelude.{◌≡◌, ℕ, ◌+◌, ◌≤◌, ◌<◌, List, Bool, length, OnOk, IfOk, IfErr};
+ghost use Rattle.std.specs.Prelude.{IsTrue};
 ghost use Rattle.cbor4ii_items.specs.Moves.{Moves};
 ghost use Rattle.cbor4ii_items.specs.Decoding.{Reads, StopsAt, IsExact, Sound, Refuses, Stops};
-ghost use Rattle.cbor4ii_items.specs.Sequences.{
-  ReadsCount,
-  ReadsUpToBreak,
-  ReadsInside,
-  ReadsSequence,
-  StopsCount,
-  StopsUpToBreak,
-  StopsInside,
-  StopsSequence,
-  AddsPart,
-};
+ghost use Rattle.cbor4ii_items.specs.Sequences.{ReadsCount, ReadsUpToBreak, ReadsInside};
+ghost use Rattle.cbor4ii_items.specs.Sequences.{ReadsSequence, StopsCount, StopsUpToBreak};
+ghost use Rattle.cbor4ii_items.specs.Sequences.{StopsInside, StopsSequence, AddsPart};
 
 use crate::head::length;
 use crate::indefinite::take_break;

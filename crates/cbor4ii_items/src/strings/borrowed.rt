@@ -1,19 +1,8 @@
 //! Borrowed strings, read: parts of the input, with no copy (RFC 8949 section 3.1).
 ghost use Rattle.std.specs.Prelude.{◌≡◌, true, false, codes};
-ghost use Rattle.cbor4ii_items.specs.Lent.{
-  ReadsLent,
-  StopsLent,
-  BeginsLent,
-  lent_str,
-  lent_bytes,
-  lent_unchecked,
-};
-ghost use Rattle.cbor4ii_items.specs.Laws.Lent.{
-  lent_one,
-  lent_within,
-  lent_positive,
-  lent_alone,
-};
+ghost use Rattle.cbor4ii_items.specs.Lent.{ReadsLent, StopsLent, BeginsLent, lent_str, lent_bytes};
+ghost use Rattle.cbor4ii_items.specs.Lent.{lent_unchecked};
+ghost use Rattle.cbor4ii_items.specs.Laws.Lent.{lent_one, lent_within, lent_positive, lent_alone};
 ghost use Rattle.cbor4ii_items.specs.Laws.Strings.{two_small, three_small};
 
 use crate::decode::{Decode, Spelled};

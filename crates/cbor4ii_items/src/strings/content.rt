@@ -5,13 +5,8 @@ ghost use Rattle.cbor4ii_items.specs.Contents.{listed};
 ghost use Rattle.cbor4ii_items.specs.Reading.{Runs};
 ghost use Rattle.cbor4ii_items.specs.Moves.{Moves};
 ghost use Rattle.cbor4ii_items.specs.ReadStrings.{content_on, string_at};
-ghost use Rattle.cbor4ii_items.specs.Strings.{
-  ReadsString,
-  StopsString,
-  ReadsTextAs,
-  StopsText,
-  text_content,
-};
+ghost use Rattle.cbor4ii_items.specs.Strings.{ReadsString, StopsString, ReadsTextAs, StopsText};
+ghost use Rattle.cbor4ii_items.specs.Strings.{text_content};
 
 use crate::head::length;
 use crate::major;

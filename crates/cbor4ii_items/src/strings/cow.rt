@@ -2,33 +2,16 @@
 ghost use Rattle.std.specs.Prelude.{◌≡◌, ◌+◌, ◌≤◌, true, false, codes, OnOk, IfOk, IfErr, IsTrue};
 ghost use mathlib.Core.Path.{refl};
 ghost use Rattle.std.specs.Cow.{IsBorrowedStr, IsOwnedStr};
-ghost use Rattle.cbor4ii_items.specs.Cow.{
-  BorrowsWhereCounted,
-  cow_text,
-  cow_bytes,
-  cow_unchecked,
-  IsBorrowedBytes,
-  IsOwnedBytes,
-  IsBorrowedUnchecked,
-  IsOwnedUnchecked,
-  nothing_to_test,
-};
+ghost use Rattle.cbor4ii_items.specs.Cow.{BorrowsWhereCounted, cow_text, cow_bytes, cow_unchecked};
+ghost use Rattle.cbor4ii_items.specs.Cow.{IsBorrowedBytes, IsOwnedBytes, IsBorrowedUnchecked};
+ghost use Rattle.cbor4ii_items.specs.Cow.{IsOwnedUnchecked, nothing_to_test};
 ghost use Rattle.cbor4ii_items.specs.Decoding.{IsExact, Sound, Refuses, Stops};
 ghost use Rattle.cbor4ii_items.specs.Moves.{Moves};
 ghost use Rattle.cbor4ii_items.specs.Refusal.{is_out_of_memory};
 ghost use Rattle.cbor4ii_items.specs.Strings.{ReadsAs, ReadsTextAs, StopsString, StopsText};
-ghost use Rattle.cbor4ii_items.specs.Laws.Strings.{
-  two_small,
-  three_small,
-  as_one,
-  as_within,
-  as_positive,
-  as_alone,
-  text_one,
-  text_within,
-  text_positive,
-  text_alone,
-};
+ghost use Rattle.cbor4ii_items.specs.Laws.Strings.{two_small, three_small, as_one, as_within};
+ghost use Rattle.cbor4ii_items.specs.Laws.Strings.{as_positive, as_alone, text_one, text_within};
+ghost use Rattle.cbor4ii_items.specs.Laws.Strings.{text_positive, text_alone};
 
 use crate::decode::{Decode, Spelled};
 use crate::major;

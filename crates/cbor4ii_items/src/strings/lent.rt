@@ -1,31 +1,9 @@
 //! Content that is lent: parts of the input that live as long as it.
-ghost use Rattle.std.specs.Prelude.{
-  ◌≡◌,
-  ℕ,
-  ◌+◌,
-  ◌≤◌,
-  ◌<◌,
-  List,
-  Bool,
-  length,
-  take,
-  OnOk,
-  IfOk,
-  IfErr,
-  IsTrue,
-  IsUtf8,
-  true,
-  false,
-};
+ghost use Rattle.std.specs.Prelude.{◌≡◌, ℕ, ◌+◌, ◌≤◌, ◌<◌, List, Bool, length, take, OnOk, IfOk};
+ghost use Rattle.std.specs.Prelude.{IfErr, IsTrue, IsUtf8, true, false};
 ghost use Rattle.cbor4ii_items.specs.Decoding.{IsExact, Sound, Refuses, Stops};
-ghost use Rattle.cbor4ii_items.specs.Lent.{
-  ReadsLent,
-  StopsLent,
-  BeginsLent,
-  Lends,
-  LacksContent,
-  Named,
-};
+ghost use Rattle.cbor4ii_items.specs.Lent.{ReadsLent, StopsLent, BeginsLent, Lends, LacksContent};
+ghost use Rattle.cbor4ii_items.specs.Lent.{Named};
 ghost use Rattle.cbor4ii_items.specs.Head.{IsBytes};
 ghost use Rattle.cbor4ii_items.specs.Moves.{Moves};
 ghost use Rattle.cbor4ii_items.specs.Refusal.{is_out_of_memory};

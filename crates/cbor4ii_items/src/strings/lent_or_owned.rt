@@ -1,29 +1,8 @@
 //! Content that is lent where the reader lends all of it, and copied otherwise.
-ghost use Rattle.std.specs.Prelude.{
-  ◌≡◌,
-  ℕ,
-  ◌+◌,
-  ◌≤◌,
-  ◌<◌,
-  List,
-  [],
-  Bool,
-  OnOk,
-  IfOk,
-  IfErr,
-  IfSome,
-  IsTrue,
-  IsUtf8,
-  true,
-};
-ghost use Rattle.cbor4ii_items.specs.Cow.{
-  ReadsEither,
-  StopsEither,
-  TakesContent,
-  BorrowsWhereCounted,
-  IsBorrowedWhereWhole,
-  Holds,
-};
+ghost use Rattle.std.specs.Prelude.{◌≡◌, ℕ, ◌+◌, ◌≤◌, ◌<◌, List, [], Bool, OnOk, IfOk, IfErr};
+ghost use Rattle.std.specs.Prelude.{IfSome, IsTrue, IsUtf8, true};
+ghost use Rattle.cbor4ii_items.specs.Cow.{ReadsEither, StopsEither, TakesContent};
+ghost use Rattle.cbor4ii_items.specs.Cow.{BorrowsWhereCounted, IsBorrowedWhereWhole, Holds};
 ghost use Rattle.cbor4ii_items.specs.Decoding.{Sound, Refuses, Stops, IsExact};
 ghost use Rattle.cbor4ii_items.specs.Lent.{Lends, LacksContent};
 ghost use Rattle.cbor4ii_items.specs.Moves.{Moves};

@@ -1,26 +1,10 @@
 //! Owned strings, read (RFC 8949 sections 3.1 and 3.2.3).
 ghost use Rattle.std.specs.Prelude.{◌≡◌, true, codes};
-ghost use Rattle.cbor4ii_items.specs.Strings.{
-  ReadsAs,
-  ReadsTextAs,
-  StopsString,
-  StopsText,
-  bytes_content,
-  unchecked_content,
-  text_content,
-};
-ghost use Rattle.cbor4ii_items.specs.Laws.Strings.{
-  two_small,
-  three_small,
-  as_one,
-  as_within,
-  as_positive,
-  as_alone,
-  text_one,
-  text_within,
-  text_positive,
-  text_alone,
-};
+ghost use Rattle.cbor4ii_items.specs.Strings.{ReadsAs, ReadsTextAs, StopsString, StopsText};
+ghost use Rattle.cbor4ii_items.specs.Strings.{bytes_content, unchecked_content, text_content};
+ghost use Rattle.cbor4ii_items.specs.Laws.Strings.{two_small, three_small, as_one, as_within};
+ghost use Rattle.cbor4ii_items.specs.Laws.Strings.{as_positive, as_alone, text_one, text_within};
+ghost use Rattle.cbor4ii_items.specs.Laws.Strings.{text_positive, text_alone};
 
 use crate::decode::{Decode, Spelled};
 use crate::major;

@@ -1,21 +1,6 @@
 //! Arrays and maps that are read part by part.
-ghost use Rattle.std.specs.Prelude.{
-  [],
-  ◌≡◌,
-  ◌≢◌,
-  None,
-  ◌≤◌,
-  ◌+◌,
-  ◌&&◌,
-  ◌||◌,
-  IfOk,
-  IfErr,
-  codes,
-  false,
-  IsTrue,
-  OnSome,
-  OnErr,
-};
+ghost use Rattle.std.specs.Prelude.{[], ◌≡◌, ◌≢◌, None, ◌≤◌, ◌+◌, ◌&&◌, ◌||◌, IfOk, IfErr, codes};
+ghost use Rattle.std.specs.Prelude.{false, IsTrue, OnSome, OnErr};
 ghost use Rattle.std.specs.Borrow.{sem, Lends, RestsIfErr};
 ghost use mir.Syntax.{named};
 ghost use Rattle.cbor4ii_rw.specs.Reader.{Breaks};
@@ -27,25 +12,10 @@ ghost use Rattle.cbor4ii_items.specs.Sequences.{ReadsPair, StopsPair};
 ghost use Rattle.cbor4ii.specs.contracts.serde.de.accessor.Accessor.{the_row as the_accessor};
 ghost use Rattle.cbor4ii.specs.contracts.serde.de.deserializer.Deserializer.{the_row};
 ghost use Rattle.cbor4ii.specs.declared.serde.de.accessor.Left.TheVariants.{Counted, Open};
-ghost use Rattle.cbor4ii.specs.Accessing.{
-  inside,
-  deserializer_of,
-  lender_of,
-  left_in,
-  steps_held,
-  with_deserializer,
-  OpensParts,
-  Closes,
-  Next,
-  LeftAfterStart,
-  ReadsStart,
-  StopsStart,
-  StopsElement,
-  left_then,
-  left_tried,
-  fuel,
-  hint,
-};
+ghost use Rattle.cbor4ii.specs.Accessing.{inside, deserializer_of, lender_of, left_in, steps_held};
+ghost use Rattle.cbor4ii.specs.Accessing.{with_deserializer, OpensParts, Closes, Next};
+ghost use Rattle.cbor4ii.specs.Accessing.{LeftAfterStart, ReadsStart, StopsStart, StopsElement};
+ghost use Rattle.cbor4ii.specs.Accessing.{left_then, left_tried, fuel, hint};
 ghost use Rattle.cbor4ii.specs.Stepped.{Stepped, StopsStepped};
 ghost use Rattle.cbor4ii.specs.Tuples.{ReadsCountOf, StopsCountOf};
 ghost use Rattle.cbor4ii.specs.Typed.{input, answer_of, as_core, said};

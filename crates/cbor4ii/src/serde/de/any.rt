@@ -1,38 +1,16 @@
 //! Any item, read as a value.
-ghost use Rattle.std.specs.Prelude.{
-  ◌≡◌,
-  ◌+◌,
-  ◌≤◌,
-  [],
-  ◌∷◌,
-  ◌++◌,
-  true,
-  OnOk,
-  IfOk,
-  IfErr,
-  IsTrue,
-  codes,
-};
+ghost use Rattle.std.specs.Prelude.{◌≡◌, ◌+◌, ◌≤◌, [], ◌∷◌, ◌++◌, true, OnOk, IfOk, IfErr, IsTrue};
+ghost use Rattle.std.specs.Prelude.{codes};
 ghost use Rattle.cbor4ii_items.specs.Moves.{Moves};
 ghost use Rattle.cbor4ii_items.specs.Decoding.{Sound, Refuses, Stops};
-ghost use Rattle.cbor4ii_items.specs.Sequences.{
-  ReadsPair,
-  ReadsCount,
-  ReadsUpToBreak,
-  ReadsInside,
-  ReadsSequence,
-  AddsPart,
-  StopsCount,
-  StopsUpToBreak,
-  StopsInside,
-};
+ghost use Rattle.cbor4ii_items.specs.Sequences.{ReadsPair, ReadsCount, ReadsUpToBreak, ReadsInside};
+ghost use Rattle.cbor4ii_items.specs.Sequences.{ReadsSequence, AddsPart, StopsCount};
+ghost use Rattle.cbor4ii_items.specs.Sequences.{StopsUpToBreak, StopsInside};
 ghost use Rattle.cbor4ii.specs.Any.{ReadsAny, AnyInside, SameView};
 ghost use Rattle.cbor4ii.specs.Laws.Any.{any_laws};
 ghost use Rattle.cbor4ii.specs.AnyStops.{AnyStops, KindStops, StopsAny, StopsAnyPair};
-ghost use Rattle.cbor4ii.specs.declared.serde.de.any_leaf.AnyKind.TheVariants.{
-  Array as array_kind,
-  Map as map_kind,
-};
+ghost use Rattle.cbor4ii.specs.declared.serde.de.any_leaf.AnyKind.TheVariants.{Array as array_kind};
+ghost use Rattle.cbor4ii.specs.declared.serde.de.any_leaf.AnyKind.TheVariants.{Map as map_kind};
 ghost use Rattle.cbor4ii.specs.Typed.{input, answer_of, as_core};
 
 use crate::serde::de::any_leaf::{AnyKind, kind_of, take_leaf};

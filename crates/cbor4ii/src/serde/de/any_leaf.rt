@@ -3,21 +3,8 @@ ghost use Rattle.std.specs.Prelude.{◌≡◌, ◌+◌, ◌≤◌, OnOk, IfOk, I
 ghost use Rattle.cbor4ii_items.specs.Moves.{Moves};
 ghost use Rattle.cbor4ii_items.specs.Decoding.{Sound, Refuses, Stops};
 ghost use Rattle.cbor4ii_tree.specs.declared.value.Value.{Value as AnyValue};
-ghost use Rattle.cbor4ii.specs.Any.{
-  kind,
-  tag_kind,
-  simple_kind,
-  Formed,
-  LeafAs,
-  of_integer,
-  of_bytes,
-  of_text,
-  of_bool,
-  of_null,
-  of_f16,
-  of_f32,
-  of_f64,
-};
+ghost use Rattle.cbor4ii.specs.Any.{kind, tag_kind, simple_kind, Formed, LeafAs, of_integer};
+ghost use Rattle.cbor4ii.specs.Any.{of_bytes, of_text, of_bool, of_null, of_f16, of_f32, of_f64};
 ghost use Rattle.cbor4ii.specs.AnyStops.{LeafStops, StopsBignum};
 ghost use Rattle.cbor4ii.specs.declared.serde.de.any_leaf.AnyLeaf.TheVariants.{Bignum};
 ghost use Rattle.cbor4ii.specs.Typed.{input, answer_of, as_core};

@@ -3,23 +3,11 @@
 ghost use Rattle.std.specs.Prelude.{◌+◌, ◌≤◌, true, codes, OnOk, IfOk, IfErr};
 ghost use Rattle.std.specs.Cow.{IsBorrowedStr, IsOwnedStr};
 ghost use Rattle.cbor4ii_items.specs.Decoding.{Stops};
-ghost use Rattle.cbor4ii_items.specs.Cow.{
-  BorrowsWhereCounted,
-  cow_text,
-  cow_bytes,
-  IsBorrowedBytes,
-  IsOwnedBytes,
-};
+ghost use Rattle.cbor4ii_items.specs.Cow.{BorrowsWhereCounted, cow_text, cow_bytes};
+ghost use Rattle.cbor4ii_items.specs.Cow.{IsBorrowedBytes, IsOwnedBytes};
 ghost use Rattle.cbor4ii_items.specs.Strings.{ReadsAs, ReadsTextAs, StopsString, StopsText};
-ghost use Rattle.cbor4ii_items.specs.Laws.Strings.{
-  two_small,
-  as_one,
-  as_within,
-  as_positive,
-  text_one,
-  text_within,
-  text_positive,
-};
+ghost use Rattle.cbor4ii_items.specs.Laws.Strings.{two_small, as_one, as_within, as_positive};
+ghost use Rattle.cbor4ii_items.specs.Laws.Strings.{text_one, text_within, text_positive};
 ghost use Rattle.cbor4ii.specs.ItemRead.{ReadsItem};
 ghost use Rattle.cbor4ii.specs.Typed.{input, as_core};
 

@@ -1,19 +1,6 @@
 //! Variants, of which first the name is read, and then the content.
-ghost use Rattle.std.specs.Prelude.{
-  [],
-  ◌≡◌,
-  ◌≤◌,
-  ◌+◌,
-  true,
-  false,
-  IfOk,
-  IfErr,
-  IsTrue,
-  OnErr,
-  OnOk,
-  IsOk,
-  codes,
-};
+ghost use Rattle.std.specs.Prelude.{[], ◌≡◌, ◌≤◌, ◌+◌, true, false, IfOk, IfErr, IsTrue, OnErr};
+ghost use Rattle.std.specs.Prelude.{OnOk, IsOk, codes};
 ghost use Rattle.std.specs.Borrow.{sem, LendsIfOk, RestsIfErr};
 ghost use mir.Syntax.{named};
 ghost use Rattle.cbor4ii_rw.specs.Reader.{Breaks};
@@ -24,32 +11,15 @@ ghost use Rattle.cbor4ii_items.specs.Refusal.{is_out_of_memory};
 ghost use Rattle.cbor4ii.specs.contracts.serde.de.deserializer.Deserializer.{the_row};
 ghost use Rattle.cbor4ii.specs.contracts.serde.de.enum_accessor.EnumAccessor.{the_row as the_enum};
 ghost use Rattle.cbor4ii.specs.declared.serde.de.accessor.Left.TheVariants.{Counted};
-ghost use Rattle.cbor4ii.specs.Accessing.{
-  inside,
-  lender_of,
-  left_in,
-  steps_held,
-  OpensParts,
-  Closes,
-  Finishes,
-};
+ghost use Rattle.cbor4ii.specs.Accessing.{inside, lender_of, left_in, steps_held, OpensParts};
+ghost use Rattle.cbor4ii.specs.Accessing.{Closes, Finishes};
 ghost use Rattle.cbor4ii.specs.Stepped.{Stepped, StopsStepped};
 ghost use Rattle.cbor4ii.specs.Tuples.{ReadsCountOf, StopsCountOf};
 ghost use Rattle.cbor4ii.specs.Typed.{input, answer_of, as_core, said};
-ghost use Rattle.cbor4ii.specs.Variants.{
-  inside_enum,
-  reference_of_enum,
-  deserializer_of_enum,
-  lender_of_enum,
-  form_of,
-  with_content,
-  ReadsForm,
-  StopsForm,
-  OpensEnum,
-  ReadsContent,
-  StopsContent,
-  SaysOther,
-};
+ghost use Rattle.cbor4ii.specs.Variants.{inside_enum, reference_of_enum, deserializer_of_enum};
+ghost use Rattle.cbor4ii.specs.Variants.{lender_of_enum, form_of, with_content, ReadsForm};
+ghost use Rattle.cbor4ii.specs.Variants.{StopsForm, OpensEnum, ReadsContent, StopsContent};
+ghost use Rattle.cbor4ii.specs.Variants.{SaysOther};
 
 use crate::serde::de::accessor::{Accessor, Left};
 use crate::serde::de::deserialize::Deserialize;

@@ -1,58 +1,18 @@
 //! Structs that are read from their named fields in one call.
-ghost use Rattle.std.specs.Prelude.{
-  ◌+◌,
-  ◌≤◌,
-  ◌&&◌,
-  ℕ,
-  List,
-  [],
-  ◌∷◌,
-  Bool,
-  true,
-  Some,
-  None,
-  codes,
-  OnOk,
-  IfOk,
-  IfErr,
-  IsTrue,
-};
+ghost use Rattle.std.specs.Prelude.{◌+◌, ◌≤◌, ◌&&◌, ℕ, List, [], ◌∷◌, Bool, true, Some, None};
+ghost use Rattle.std.specs.Prelude.{codes, OnOk, IfOk, IfErr, IsTrue};
 ghost use Rattle.std.specs.Borrow.{Bor};
 ghost use Rattle.cbor4ii_items.specs.Decoding.{IsExact, Sound, Refuses, Stops};
 ghost use Rattle.cbor4ii_items.specs.Laws.Containers.{both};
 ghost use Rattle.cbor4ii_items.specs.Moves.{Moves};
-ghost use Rattle.cbor4ii_items.specs.Sequences.{
-  ReadsCount,
-  ReadsUpToBreak,
-  ReadsInside,
-  ReadsSequence,
-  StopsCount,
-  StopsUpToBreak,
-  StopsInside,
-};
-ghost use Rattle.cbor4ii.specs.Fields.{
-  ReadsNamed,
-  no_field,
-  no_fields,
-  no_values,
-  named_field,
-  ReadsEntry,
-  ReadsFields,
-  Changes,
-  Fills,
-  fields_by,
-  NamedLaws,
-  SameField,
-  no_field_laws,
-  every,
-  StopsNamed,
-  no_field_stops,
-  field_stops,
-  stops_by,
-  StopsEntry,
-  StopsFields,
-  fields_by_laws,
-};
+ghost use Rattle.cbor4ii_items.specs.Sequences.{ReadsCount, ReadsUpToBreak, ReadsInside};
+ghost use Rattle.cbor4ii_items.specs.Sequences.{ReadsSequence, StopsCount, StopsUpToBreak};
+ghost use Rattle.cbor4ii_items.specs.Sequences.{StopsInside};
+ghost use Rattle.cbor4ii.specs.Fields.{ReadsNamed, no_field, no_fields, no_values, named_field};
+ghost use Rattle.cbor4ii.specs.Fields.{ReadsEntry, ReadsFields, Changes, Fills, fields_by};
+ghost use Rattle.cbor4ii.specs.Fields.{NamedLaws, SameField, no_field_laws, every, StopsNamed};
+ghost use Rattle.cbor4ii.specs.Fields.{no_field_stops, field_stops, stops_by, StopsEntry};
+ghost use Rattle.cbor4ii.specs.Fields.{StopsFields, fields_by_laws};
 ghost use Rattle.cbor4ii.specs.Typed.{input, answer_of, any_two, as_core, said};
 
 use crate::serde::de::deserialize::{Deserialize, Typed};

@@ -1,21 +1,9 @@
 //! Items that are skipped.
 ghost use Rattle.std.specs.Prelude.{true, false};
 ghost use Rattle.cbor4ii_tree.specs.Ignored.{StopsIgnored};
-ghost use Rattle.cbor4ii_tree.specs.Laws.Ignoring.{
-  ignored_one,
-  ignored_within,
-  ignored_positive,
-};
-ghost use Rattle.cbor4ii_tree.specs.Promises.{
-  Others,
-  OnlySkips,
-  AllSkips,
-  FrontSkips,
-  EofSkips,
-  DepthSkips,
-  FinalSkips,
-  ExactSkips,
-};
+ghost use Rattle.cbor4ii_tree.specs.Laws.Ignoring.{ignored_one, ignored_within, ignored_positive};
+ghost use Rattle.cbor4ii_tree.specs.Promises.{Others, OnlySkips, AllSkips, FrontSkips, EofSkips};
+ghost use Rattle.cbor4ii_tree.specs.Promises.{DepthSkips, FinalSkips, ExactSkips};
 ghost use Rattle.cbor4ii.specs.ItemRead.{ReadsItem, ReadsSkipped};
 ghost use Rattle.cbor4ii.specs.Typed.{input, answer_of};
 

@@ -1,19 +1,10 @@
 //! Integers, read as the codec reads them.
 ghost use Rattle.std.specs.Prelude.{◌^◌, true};
-ghost use Rattle.cbor4ii_items.specs.Laws.Arguments.{
-  unsigned_one,
-  unsigned_within,
-  unsigned_positive,
-};
+ghost use Rattle.cbor4ii_items.specs.Laws.Arguments.{unsigned_one, unsigned_within};
+ghost use Rattle.cbor4ii_items.specs.Laws.Arguments.{unsigned_positive};
 ghost use Rattle.cbor4ii_items.specs.Laws.Signed.{signed_one, signed_within, signed_positive};
-ghost use Rattle.cbor4ii_items.specs.Laws.Bignums.{
-  u128_one,
-  u128_within,
-  u128_positive,
-  i128_one,
-  i128_within,
-  i128_positive,
-};
+ghost use Rattle.cbor4ii_items.specs.Laws.Bignums.{u128_one, u128_within, u128_positive, i128_one};
+ghost use Rattle.cbor4ii_items.specs.Laws.Bignums.{i128_within, i128_positive};
 
 use crate::serde::de::deserialize::{Deserialize, Typed};
 use crate::serde::de::deserializer::{Deserializer, take_item};

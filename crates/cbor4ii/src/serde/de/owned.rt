@@ -1,15 +1,8 @@
 //! Owned texts and byte strings.
 ghost use Rattle.std.specs.Prelude.{true};
 ghost use Rattle.cbor4ii_items.specs.Strings.{text_content, bytes_content};
-ghost use Rattle.cbor4ii_items.specs.Laws.Strings.{
-  two_small,
-  as_one,
-  as_within,
-  as_positive,
-  text_one,
-  text_within,
-  text_positive,
-};
+ghost use Rattle.cbor4ii_items.specs.Laws.Strings.{two_small, as_one, as_within, as_positive};
+ghost use Rattle.cbor4ii_items.specs.Laws.Strings.{text_one, text_within, text_positive};
 
 use crate::serde::de::deserialize::{Deserialize, Typed};
 use crate::serde::de::deserializer::{Deserializer, take_item};

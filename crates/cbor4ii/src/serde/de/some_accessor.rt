@@ -1,16 +1,5 @@
 //! Values that may be absent, of which first is read whether one comes.
-ghost use Rattle.std.specs.Prelude.{
-  [],
-  ◌≡◌,
-  ◌≤◌,
-  ◌+◌,
-  false,
-  IfOk,
-  IfErr,
-  IsTrue,
-  OnErr,
-  OnSome,
-};
+ghost use Rattle.std.specs.Prelude.{[], ◌≡◌, ◌≤◌, ◌+◌, false, IfOk, IfErr, IsTrue, OnErr, OnSome};
 ghost use Rattle.std.specs.Borrow.{sem, Lends, RestsIfErr};
 ghost use mir.Syntax.{named};
 ghost use Rattle.cbor4ii_rw.specs.Reader.{Breaks};
@@ -20,18 +9,9 @@ ghost use Rattle.cbor4ii_items.specs.Refusal.{is_out_of_memory};
 ghost use Rattle.cbor4ii.specs.contracts.serde.de.deserializer.Deserializer.{the_row};
 ghost use Rattle.cbor4ii.specs.contracts.serde.de.some_accessor.SomeAccessor.{the_row as the_some};
 ghost use Rattle.cbor4ii.specs.Accessing.{Closes, Finishes};
-ghost use Rattle.cbor4ii.specs.Optional.{
-  inside_some,
-  deserializer_of_some,
-  lender_of_some,
-  comes,
-  steps_of_some,
-  with_value_from,
-  ReadsPresence,
-  StopsPresence,
-  OpensOption,
-  ReadsComingValue,
-};
+ghost use Rattle.cbor4ii.specs.Optional.{inside_some, deserializer_of_some, lender_of_some, comes};
+ghost use Rattle.cbor4ii.specs.Optional.{steps_of_some, with_value_from, ReadsPresence};
+ghost use Rattle.cbor4ii.specs.Optional.{StopsPresence, OpensOption, ReadsComingValue};
 ghost use Rattle.cbor4ii.specs.Typed.{input, answer_of, as_core};
 
 use crate::serde::de::deserialize::Deserialize;

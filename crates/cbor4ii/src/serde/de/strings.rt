@@ -1,13 +1,8 @@
 //! What a deserializer reads as texts and byte strings by name. Those that may be borrowed are
 //! there for each reader of `cbor4ii_rw` by name.
 ghost use Rattle.std.specs.Prelude.{true, codes, IfOk};
-ghost use Rattle.std.specs.Cow.{
-  IsBorrowedStr,
-  IsOwnedStr,
-  cow_slice_items,
-  IsBorrowedSlice,
-  IsOwnedSlice,
-};
+ghost use Rattle.std.specs.Cow.{IsBorrowedStr, IsOwnedStr, cow_slice_items, IsBorrowedSlice};
+ghost use Rattle.std.specs.Cow.{IsOwnedSlice};
 ghost use Rattle.cbor4ii_items.specs.Cow.{BorrowsWhereCounted, cow_text, cow_bytes};
 ghost use Rattle.cbor4ii_items.specs.Strings.{ReadsAs, ReadsTextAs, StopsString, StopsText};
 ghost use Rattle.cbor4ii.specs.Borrowed.{Copies, Unwraps};

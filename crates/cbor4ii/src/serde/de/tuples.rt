@@ -1,17 +1,6 @@
 //! Pairs and triples.
-ghost use Rattle.std.specs.Prelude.{
-  ◌≡◌,
-  ◌+◌,
-  ◌≤◌,
-  ◌&&◌,
-  ◌||◌,
-  OnOk,
-  IfOk,
-  IfErr,
-  IsTrue,
-  true,
-  false,
-};
+ghost use Rattle.std.specs.Prelude.{◌≡◌, ◌+◌, ◌≤◌, ◌&&◌, ◌||◌, OnOk, IfOk, IfErr, IsTrue, true};
+ghost use Rattle.std.specs.Prelude.{false};
 ghost use Rattle.cbor4ii_items.specs.Moves.{Moves};
 ghost use Rattle.cbor4ii_items.specs.Refusal.{is_out_of_memory};
 ghost use Rattle.cbor4ii_items.specs.Decoding.{IsExact, Sound, Refuses, Stops};
@@ -20,16 +9,8 @@ ghost use Rattle.cbor4ii_items.specs.Laws.Containers.{both};
 ghost use Rattle.cbor4ii.specs.Typed.{input, answer_of, as_core, said};
 ghost use Rattle.cbor4ii.specs.Beginning.{StopsTuple};
 ghost use Rattle.cbor4ii.specs.Stepped.{Stepped, stepped_laws};
-ghost use Rattle.cbor4ii.specs.Tuples.{
-  ReadsBehind,
-  ReadsCountOf,
-  StopsCountOf,
-  ReadsTriple,
-  SameTriple,
-  behind_laws,
-  pair_laws,
-  triple_laws,
-};
+ghost use Rattle.cbor4ii.specs.Tuples.{ReadsBehind, ReadsCountOf, StopsCountOf, ReadsTriple};
+ghost use Rattle.cbor4ii.specs.Tuples.{SameTriple, behind_laws, pair_laws, triple_laws};
 
 use crate::serde::de::deserialize::{Deserialize, Typed};
 use crate::serde::de::deserializer::Deserializer;
