@@ -35,6 +35,7 @@ impl<T: Typed> Typed for Box<T> {
 /// A box is read and refused as what is in it. Where there is no memory for the box, it is `Core`
 /// of `OutOfMemory`, and the value was taken.
 impl<S: Source, T: Deserialize<S> + Drop> Deserialize<S> for Box<T> {
+    #[inline(always)]
     fn deserialize(alloc: Global, de: &mut Deserializer<S>) -> Result<Box<T>, DecodeError<S::Error>>
         ensures moves { Moves (input S.view de.old) (input S.view de.new) (answer_of result) }
         ensures progress { OnOk result

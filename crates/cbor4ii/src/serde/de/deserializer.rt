@@ -16,6 +16,7 @@ pub struct Deserializer<S> {
 
 impl<S: Source> Deserializer<S> {
     /// Reads what `reader` has left, under its budget.
+    #[inline(always)]
     pub fn new(reader: S) -> Deserializer<S>
         ensures { input S.view result ≡ S.view reader }
     {
@@ -23,6 +24,7 @@ impl<S: Source> Deserializer<S> {
     }
 
     /// The reader, with what is left.
+    #[inline(always)]
     pub fn into_inner(self) -> S
         ensures { S.view result ≡ input S.view self }
     {
@@ -31,6 +33,7 @@ impl<S: Source> Deserializer<S> {
 }
 
 /// Reads one item of the codec.
+#[inline(always)]
 pub(crate) fn take_item<S: Source, T: Decode<S>>(
     alloc: Global,
     de: &mut Deserializer<S>,

@@ -46,6 +46,7 @@ impl<E: fmt::Debug> fmt::Display for DecodeError<E> {
 impl<E: fmt::Debug + Drop> Error for DecodeError<E> {}
 
 /// The codec's answer, as one of typed reading.
+#[inline(always)]
 pub(crate) fn typed<V, E>(
     answer: Result<V, core_error::DecodeError<E>>,
 ) -> Result<V, DecodeError<E>>

@@ -41,6 +41,7 @@ trait Values<S: Source>: Sized {
     ghost exact: { Bool };
 
     /// Reads the value of the field that has this name, and skips one of another name.
+    #[inline(always)]
     fn take(
         &mut self,
         alloc: Global,
@@ -73,6 +74,7 @@ impl<S: Source> Values<S> for () {
 
     ghost exact = { true };
 
+    #[inline(always)]
     fn take(
         &mut self,
         alloc: Global,
@@ -98,6 +100,7 @@ impl<S: Source, T: Deserialize<S> + Drop, V: Values<S>> Values<S> for (Option<T>
 
     ghost exact = { T.exact && V.exact };
 
+    #[inline(always)]
     fn take(
         &mut self,
         alloc: Global,
@@ -127,6 +130,7 @@ impl<S: Source, T: Deserialize<S> + Drop, V: Values<S>> Values<S> for (Option<T>
 }
 
 /// Reads a name and what stands behind it.
+#[inline(always)]
 fn take_field<S: Source, V: Values<S>>(
     alloc: Global,
     de: &mut Deserializer<S>,
@@ -149,6 +153,7 @@ fn take_field<S: Source, V: Values<S>>(
 }
 
 /// Reads the fields of these names off a map, in any order, and skips the others.
+#[inline(always)]
 fn take_fields<S: Source, V: Values<S>>(
     alloc: Global,
     de: &mut Deserializer<S>,
@@ -175,6 +180,7 @@ fn take_fields<S: Source, V: Values<S>>(
 }
 
 /// The same of a map whose step was taken.
+#[inline(always)]
 fn fields_inside<S: Source, V: Values<S>>(
     alloc: Global,
     de: &mut Deserializer<S>,
@@ -201,6 +207,7 @@ fn fields_inside<S: Source, V: Values<S>>(
 }
 
 /// The same of so many entries.
+#[inline(always)]
 fn counted_fields<S: Source, V: Values<S>>(
     alloc: Global,
     de: &mut Deserializer<S>,

@@ -40,6 +40,7 @@ impl Typed for u8 {
 /// argument has k bytes and fewer are left, nothing being left then; `Mismatch` with the first
 /// byte, which is taken, where it begins no head of major type 0 with at most one byte of argument.
 impl<S: Source> Deserialize<S> for u8 {
+    #[inline(always)]
     fn deserialize(alloc: Global, de: &mut Deserializer<S>) -> Result<u8, DecodeError<S::Error>> {
         take_item(alloc, de)
     }
@@ -68,6 +69,7 @@ impl Typed for u16 {
 /// An unsigned integer whose argument has at most two bytes: read and refused as a `u8` is, by the
 /// name "u16", and with two bytes of argument in the place of one.
 impl<S: Source> Deserialize<S> for u16 {
+    #[inline(always)]
     fn deserialize(alloc: Global, de: &mut Deserializer<S>) -> Result<u16, DecodeError<S::Error>> {
         take_item(alloc, de)
     }
@@ -96,6 +98,7 @@ impl Typed for u32 {
 /// An unsigned integer whose argument has at most four bytes: read and refused as a `u8` is, by the
 /// name "u32", and with four bytes of argument in the place of one.
 impl<S: Source> Deserialize<S> for u32 {
+    #[inline(always)]
     fn deserialize(alloc: Global, de: &mut Deserializer<S>) -> Result<u32, DecodeError<S::Error>> {
         take_item(alloc, de)
     }
@@ -124,6 +127,7 @@ impl Typed for u64 {
 /// An unsigned integer whose argument has at most eight bytes: read and refused as a `u8` is, by
 /// the name "u64", and with eight bytes of argument in the place of one.
 impl<S: Source> Deserialize<S> for u64 {
+    #[inline(always)]
     fn deserialize(alloc: Global, de: &mut Deserializer<S>) -> Result<u64, DecodeError<S::Error>> {
         take_item(alloc, de)
     }
@@ -156,6 +160,7 @@ impl Typed for u128 {
 /// by the name "u128" at the first byte and at the head of a tag, by "u64" at a head of major type
 /// 0, by "u128::tag" at a tag that is not 2, and by "u128::bytes" at the byte string.
 impl<S: Source> Deserialize<S> for u128 {
+    #[inline(always)]
     fn deserialize(alloc: Global, de: &mut Deserializer<S>) -> Result<u128, DecodeError<S::Error>> {
         take_item(alloc, de)
     }
@@ -192,6 +197,7 @@ impl Typed for i8 {
 ///   "-i8" where the integer is negative
 /// - the argument is 2^7 or greater: `CastOverflow` by these names, behind the head
 impl<S: Source> Deserialize<S> for i8 {
+    #[inline(always)]
     fn deserialize(alloc: Global, de: &mut Deserializer<S>) -> Result<i8, DecodeError<S::Error>> {
         take_item(alloc, de)
     }
@@ -221,6 +227,7 @@ impl Typed for i16 {
 /// is, by the names "i16", "+i16" and "-i16", and with these numbers in the place of one byte and
 /// 2^7.
 impl<S: Source> Deserialize<S> for i16 {
+    #[inline(always)]
     fn deserialize(alloc: Global, de: &mut Deserializer<S>) -> Result<i16, DecodeError<S::Error>> {
         take_item(alloc, de)
     }
@@ -250,6 +257,7 @@ impl Typed for i32 {
 /// is, by the names "i32", "+i32" and "-i32", and with these numbers in the place of one byte and
 /// 2^7.
 impl<S: Source> Deserialize<S> for i32 {
+    #[inline(always)]
     fn deserialize(alloc: Global, de: &mut Deserializer<S>) -> Result<i32, DecodeError<S::Error>> {
         take_item(alloc, de)
     }
@@ -279,6 +287,7 @@ impl Typed for i64 {
 /// is, by the names "i64", "+i64" and "-i64", and with these numbers in the place of one byte and
 /// 2^7.
 impl<S: Source> Deserialize<S> for i64 {
+    #[inline(always)]
     fn deserialize(alloc: Global, de: &mut Deserializer<S>) -> Result<i64, DecodeError<S::Error>> {
         take_item(alloc, de)
     }
@@ -312,6 +321,7 @@ impl Typed for i128 {
 /// number of 2^127 or more, by "u64" at a head of major type 0, by "i128::tag" at a tag that is
 /// neither 2 nor 3, and by "+i128::bytes" or "-i128::bytes" at the byte string behind tag 2 or 3.
 impl<S: Source> Deserialize<S> for i128 {
+    #[inline(always)]
     fn deserialize(alloc: Global, de: &mut Deserializer<S>) -> Result<i128, DecodeError<S::Error>> {
         take_item(alloc, de)
     }

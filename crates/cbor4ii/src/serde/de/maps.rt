@@ -61,10 +61,12 @@ impl<S: Source, K: Deserialize<S> + Ord + Drop, V: Deserialize<S> + Drop> Sequen
 
     ghost name = { codes "map" };
 
+    #[inline(always)]
     fn take_length(reader: &mut S) -> Result<Option<usize>, core_error::DecodeError<S::Error>> {
         Map::<()>::len(reader)
     }
 
+    #[inline(always)]
     fn take_part(alloc: Global, de: &mut Deserializer<S>) -> Result<(K, V), DecodeError<S::Error>> {
         two_parts::<S, K, V>(alloc, de)
     }
@@ -83,6 +85,7 @@ impl<S: Source, K: Deserialize<S> + Ord + Drop, V: Deserialize<S> + Drop> Sequen
 /// there is no memory for the map, it is `Core` of `OutOfMemory`.
 impl<S: Source, K: Deserialize<S> + Ord + Drop, V: Deserialize<S> + Drop> Deserialize<S>
     for BTreeMap<K, V> {
+    #[inline(always)]
     fn deserialize(
         alloc: Global,
         de: &mut Deserializer<S>,
@@ -116,6 +119,7 @@ impl<S: Source, K: Deserialize<S> + Ord + Drop, V: Deserialize<S> + Drop> Deseri
 }
 
 /// The map of these pairs: of equal keys the first stays, with the last value.
+#[inline(always)]
 fn put_all<K: Ord + Drop, V: Drop>(
     alloc: Global,
     pairs: Vec<(K, V)>,
@@ -129,6 +133,7 @@ fn put_all<K: Ord + Drop, V: Drop>(
     Ok(map)
 }
 
+#[inline(always)]
 fn put<K: Ord + Drop, V: Drop>(map: &mut BTreeMap<K, V>, key: K, value: V) -> Result<(), AllocError>
     ensures { OnOk result (map.new.entries ≡ insert_entry K.cmp map.old.entries key value) }
 {

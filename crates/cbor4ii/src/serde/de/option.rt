@@ -40,6 +40,7 @@ impl<T: Typed> Typed for Option<T> {
 /// value comes and no step is left, which takes nothing. Otherwise it is refused as the value is,
 /// and leaves what the value leaves.
 impl<S: Source, T: Deserialize<S>> Deserialize<S> for Option<T> {
+    #[inline(always)]
     fn deserialize(
         alloc: Global,
         de: &mut Deserializer<S>,

@@ -47,6 +47,7 @@ impl Typed for String {
 /// - a chunk is no text, or is cut: `Mismatch` or `Eof`, as of the text itself
 /// - it is not UTF-8: `RequireUtf8`, and the whole item is taken
 impl<S: Source> Deserialize<S> for String {
+    #[inline(always)]
     fn deserialize(
         alloc: Global,
         de: &mut Deserializer<S>,
@@ -79,6 +80,7 @@ impl Typed for Bytes<Vec<u8>> {
 /// refused as a `String` is, by the name "bytes" in the place of "str", but that any bytes are its
 /// content.
 impl<S: Source> Deserialize<S> for Bytes<Vec<u8>> {
+    #[inline(always)]
     fn deserialize(
         alloc: Global,
         de: &mut Deserializer<S>,

@@ -78,6 +78,7 @@ pub(crate) trait Sequence<S: Source>: Sized {
 }
 
 /// Reads a sequence under one step.
+#[inline(always)]
 pub(crate) fn take_sequence<S: Source, Q: Sequence<S>>(
     alloc: Global,
     de: &mut Deserializer<S>,
@@ -103,6 +104,7 @@ pub(crate) fn take_sequence<S: Source, Q: Sequence<S>>(
 }
 
 /// Reads a sequence whose step was taken.
+#[inline(always)]
 fn take_inside<S: Source, Q: Sequence<S>>(
     alloc: Global,
     de: &mut Deserializer<S>,
@@ -126,6 +128,7 @@ fn take_inside<S: Source, Q: Sequence<S>>(
 }
 
 /// Reads so many parts. A count alone takes little memory: more is taken as the parts come.
+#[inline(always)]
 fn take_counted<S: Source, Q: Sequence<S>>(
     alloc: Global,
     de: &mut Deserializer<S>,
@@ -173,6 +176,7 @@ fn take_open<S: Source, Q: Sequence<S>>(
 }
 
 /// Takes a break, or takes nothing where another byte comes next.
+#[inline(always)]
 pub(crate) fn takes_break<S: Source>(
     de: &mut Deserializer<S>,
 ) -> Result<bool, DecodeError<S::Error>>
@@ -186,6 +190,7 @@ pub(crate) fn takes_break<S: Source>(
 }
 
 /// Reads one part, behind those that `parts` holds.
+#[inline(always)]
 fn add_part<S: Source, Q: Sequence<S>>(
     alloc: Global,
     de: &mut Deserializer<S>,

@@ -36,6 +36,7 @@ impl Typed for bool {
 /// Refused as `Core`, by the name "bool": `Eof` with 1 where no byte is left; `Mismatch` with the
 /// next byte, which stays, where it is neither.
 impl<S: Source> Deserialize<S> for bool {
+    #[inline(always)]
     fn deserialize(alloc: Global, de: &mut Deserializer<S>) -> Result<bool, DecodeError<S::Error>> {
         take_item(alloc, de)
     }
@@ -67,6 +68,7 @@ impl Typed for F16 {
 /// next byte, which stays, where it begins no float of two bytes; `Eof` with 2 where fewer than two
 /// bytes follow it, nothing being left then.
 impl<S: Source> Deserialize<S> for F16 {
+    #[inline(always)]
     fn deserialize(alloc: Global, de: &mut Deserializer<S>) -> Result<F16, DecodeError<S::Error>> {
         take_item(alloc, de)
     }
@@ -98,6 +100,7 @@ impl Typed for F32 {
 /// next byte, which stays, where it begins no float of four bytes; `Eof` with 4 where fewer than
 /// four bytes follow it, nothing being left then.
 impl<S: Source> Deserialize<S> for F32 {
+    #[inline(always)]
     fn deserialize(alloc: Global, de: &mut Deserializer<S>) -> Result<F32, DecodeError<S::Error>> {
         take_item(alloc, de)
     }
@@ -129,6 +132,7 @@ impl Typed for F64 {
 /// next byte, which stays, where it begins no float of eight bytes; `Eof` with 8 where fewer than
 /// eight bytes follow it, nothing being left then.
 impl<S: Source> Deserialize<S> for F64 {
+    #[inline(always)]
     fn deserialize(alloc: Global, de: &mut Deserializer<S>) -> Result<F64, DecodeError<S::Error>> {
         take_item(alloc, de)
     }

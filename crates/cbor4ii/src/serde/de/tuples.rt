@@ -47,6 +47,7 @@ impl<A: Typed, B: Typed> Typed for (A, B) {
 /// `Indefinite`. A head that is not one of an array is refused by the name "array", as every length
 /// is, and a part as the part is.
 impl<S: Source, A: Deserialize<S> + Drop, B: Deserialize<S>> Deserialize<S> for (A, B) {
+    #[inline(always)]
     fn deserialize(alloc: Global, de: &mut Deserializer<S>) -> Result<(A, B), DecodeError<S::Error>>
         ensures moves { Moves (input S.view de.old) (input S.view de.new) (answer_of result) }
         ensures progress { OnOk result
@@ -99,6 +100,7 @@ fn pair_behind<S: Source, A: Deserialize<S> + Drop, B: Deserialize<S>>(
 }
 
 /// Reads two parts.
+#[inline(always)]
 pub(crate) fn two_parts<S: Source, A: Deserialize<S> + Drop, B: Deserialize<S>>(
     alloc: Global,
     de: &mut Deserializer<S>,
@@ -180,6 +182,7 @@ impl<A: Typed, B: Typed, C: Typed> Typed for (A, B, C) {
 impl<S: Source, A: Deserialize<S> + Drop, B: Deserialize<S> + Drop, C: Deserialize<S>> Deserialize<
     S,
 > for (A, B, C) {
+    #[inline(always)]
     fn deserialize(
         alloc: Global,
         de: &mut Deserializer<S>,

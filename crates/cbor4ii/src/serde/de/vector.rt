@@ -55,10 +55,12 @@ impl<S: Source, T: Deserialize<S> + Drop> Sequence<S> for Vec<T> {
 
     ghost name = { codes "array" };
 
+    #[inline(always)]
     fn take_length(reader: &mut S) -> Result<Option<usize>, core_error::DecodeError<S::Error>> {
         Array::<()>::len(reader)
     }
 
+    #[inline(always)]
     fn take_part(alloc: Global, de: &mut Deserializer<S>) -> Result<T, DecodeError<S::Error>> {
         T::deserialize(alloc, de)
     }
@@ -80,6 +82,7 @@ impl<S: Source, T: Deserialize<S> + Drop> Sequence<S> for Vec<T> {
 ///   with 1
 /// - a value is refused: its own refusal, and what it leaves
 impl<S: Source, T: Deserialize<S> + Drop> Deserialize<S> for Vec<T> {
+    #[inline(always)]
     fn deserialize(alloc: Global, de: &mut Deserializer<S>) -> Result<Vec<T>, DecodeError<S::Error>>
         ensures moves { Moves (input S.view de.old) (input S.view de.new) (answer_of result) }
         ensures progress { OnOk result
