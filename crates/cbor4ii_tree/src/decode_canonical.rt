@@ -33,7 +33,7 @@ use cbor4ii_rw::read::Source;
 use std::alloc::Global;
 
 /// A value that is read from its canonical spelling alone, the one that encoders write (RFC 8949
-/// section 4.1). So two are equal exactly where their bytes are.
+/// section 4.1). Two that were read are equal exactly where their bytes are.
 #[derive(Debug, PartialEq, Eq, Drop)]
 pub struct Canonical(pub Value);
 

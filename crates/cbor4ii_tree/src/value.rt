@@ -19,15 +19,15 @@ pub enum FloatBits {
     F64(u64),
 }
 
-/// A value (RFC 8949 section 2), which stands for `view` of it in the definitions. Two are equal
-/// exactly where these are.
+/// A value (RFC 8949 section 2). Two are equal where they have the same variant and equal parts:
+/// floats by their bits and width, maps by their pairs in order.
 #[derive(Debug, Drop)]
 pub enum Value {
     /// `null`, and `undefined`, which is read as it.
     Null,
     /// `false` or `true`.
     Bool(bool),
-    /// An integer. Beyond 64 bits it is written as a bignum, and read back as a tag.
+    /// An integer. Outside -2^64 to 2^64 - 1 it is written as a bignum, and read back as a tag.
     Integer(i128),
     /// A float's bits.
     Float(FloatBits),
