@@ -14,13 +14,14 @@ use Rattle.cbor4ii_items.specs.Head.{Width, byte_count}
 use Rattle.cbor4ii_items.specs.Head.{HeadFits, additional, head, open_head, shortest, IsBytes}
 use Rattle.cbor4ii_items.specs.Refusal.{Refusal, refusal_of, is_read, is_depth_overflow, eof}
 use Rattle.cbor4ii_items.specs.Refusal.{len_of, not_canonical}
-use Rattle.cbor4ii_items.specs.Initial.{wide, info_of}
+use Rattle.cbor4ii_items.specs.Initial.{info_of}
 use Rattle.cbor4ii_items.specs.Reading.{Reading, give, refuse, ◌>=>◌, Runs, peek_at}
 use Rattle.cbor4ii_items.specs.Decoding.{Sound, Refuses, Stops}
 use Rattle.cbor4ii_items.specs.Laws.Outcome.{same_value, same_refusal}
 use Rattle.cbor4ii_items.specs.Heads.{ReadsHead}
-use Rattle.cbor4ii_items.specs.Laws.Heads.{read_head, head_read, additional-lt, info-additional}
-use Rattle.cbor4ii_items.specs.Laws.Heads.{shortest_fits, argument_below, same_wide}
+use Rattle.cbor4ii_items.specs.Laws.Heads.{read_head, head_again, behind_head, after_head}
+use Rattle.cbor4ii_items.specs.Laws.Heads.{additional-lt, info-additional, shortest_fits}
+use Rattle.cbor4ii_items.specs.Laws.Heads.{argument_below, same_wide}
 use Rattle.cbor4ii_items.specs.ReadHead.{head_at}
 use Rattle.cbor4ii_items.specs.Contents.{listed}
 use Rattle.cbor4ii_items.specs.ReadStrings.{content_on}
@@ -158,17 +159,19 @@ back_at name major v w rest ys h s e =
     (not_opened_by (is_open_head major b) major b refl (head_opens_none major v w h)) e
     (eq-eqb (b % 32) (additional (shortest v) v) low)
 
-pub shortest_again : (name : List ℕ) (major : ℕ) → major < 8 → (xs : List ℕ) (v n c : ℕ)
+pub shortest_again : (name : List ℕ) (major : ℕ) (xs : List ℕ) (v n c : ℕ)
     → ReadsShortest major xs v n c → ReadBy (shortest_at name major) xs v n c
-shortest_again name major m xs v n c r =
+shortest_again name major xs v n c r =
     let h = r.0 in
-    let p = head_read name major 8 xs v n m h in
+    let p = behind_head h.wide major v n h.rest h.count in
+    let left : h.rest ≡ drop n xs = sym (after_head major 8 xs v n h) in
     record {
       answer =
           ap (shortest_at name major) h.is ∙ back_at name major v h.wide h.rest (drop n xs) h.fits
-          r.1 (ap (head_at name major 8) (sym h.is) ∙ p.0);
-      within = p.1;
-      positive = p.2;
+          r.1 (head_again name h.wide major v 8 h.rest h.fits h.allowed
+          ∙ ap (λ (zs : List ℕ). Ok (v, zs)) left);
+      within = omega (arith, p.1, ap length h.is);
+      positive = omega (arith, h.count);
       cost = r.2;
     }
 
@@ -227,11 +230,11 @@ shortest_stops name major [] budget z ys e seen =
 shortest_stops name major (b ∷ bs) budget z ys e seen =
     stops_from (is_open_head major b) name major b bs budget z ys refl seen e
 
-pub shortest_leaf : (name : List ℕ) (major : ℕ) → major < 8
+pub shortest_leaf : (name : List ℕ) (major : ℕ)
     → IsLeaf (shortest_at name major) (ReadsShortest major) (StopsShortest name major)
-shortest_leaf name major m = record {
+shortest_leaf name major = record {
   means = shortest_means name major;
-  again = shortest_again name major m;
+  again = shortest_again name major;
   refuses = λ xs budget z n e within bytes. shortest_stops name major xs budget z (drop n xs) e
       (seen_of xs (drop n xs) n within bytes refl);
 }
@@ -285,13 +288,13 @@ content_back : (name : List ℕ) (n : ℕ) (us : List ℕ) → n ≤ length us
     → content_on name n [] us ≡ Ok (take n us, drop n us)
 content_back name n us h = let t : ltb (length us) n ≡ false = le-ltb (length us) n h in rw t refl
 
-string_again : (name : List ℕ) (major : ℕ) → major < 8 → (xs v : List ℕ) (n c : ℕ)
+string_again : (name : List ℕ) (major : ℕ) (xs v : List ℕ) (n c : ℕ)
     → ReadsShortestString major xs v n c → shortest_string_at name major xs ≡ Ok (v, drop n xs)
-string_again name major m xs v n c r =
+string_again name major xs v n c r =
     let s = r.0 in
     let k = length v in
     let us = drop s.before xs in
-    let h = shortest_again name major m xs k s.before 0 (s.head, r.1, refl) in
+    let h = shortest_again name major xs k s.before 0 (s.head, r.1, refl) in
     let room : k ≤ length us = omega (arith, ap length s.stands, length-take k us) in
     let all : take k us ≡ v = s.stands in
     let left : drop k us ≡ drop n xs = drop_more k s.before xs ∙ ap (λ j. drop j xs) (sym s.size) in
@@ -335,13 +338,13 @@ module _ {E Z : Type 0} (name : List ℕ) (major : ℕ) {a b : View} where
       (λ xs ys e seen. string_found name major a.budget xs v.items ys e seen) p
   string_sound (Err e) p = tt
 
-  pub string_complete : (r : Result (Vec ℕ Z) (DecodeError E)) → major < 8
+  pub string_complete : (r : Result (Vec ℕ Z) (DecodeError E))
       → Runs (shortest_string_at name major) a b (listed r)
       → IfErr r (Refuses (ReadsShortestString major) a)
-  string_complete (Ok v) m p = tt
-  string_complete (Err e) m p =
+  string_complete (Ok v) p = tt
+  string_complete (Err e) p =
       refuses_by (ReadsShortestString major)
-      (λ xs v n c h fits. string_again name major m xs v n c h) p
+      (λ xs v n c h fits. string_again name major xs v n c h) p
 
   pub string_refused : (r : Result (Vec ℕ Z) (DecodeError E))
       → Runs (shortest_string_at name major) a b (listed r)

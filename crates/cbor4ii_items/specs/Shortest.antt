@@ -14,7 +14,7 @@ canonical_name = codes "canonical"
 abbrev pub OpensLength : ℕ → ℕ → Type 0
 OpensLength major b = (2 ≤ major) × (major ≤ 5) × (b ≡ open_head major)
 
--- a head of this major type of the least width that its argument has
+-- a head of this major type of the least width that its argument has; over 7 no byte begins one
 abbrev pub ReadsShortest : ℕ → Reads ℕ
 ReadsShortest major xs v n c = (h : ReadsHead major 8 xs v n) × (h.wide ≡ shortest v) × (c ≡ 0)
 

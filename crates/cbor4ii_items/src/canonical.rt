@@ -17,20 +17,26 @@ use cbor4ii_rw::error::{DecodeError, StaticStr};
 use cbor4ii_rw::read::Source;
 use std::alloc::Global;
 
-/// Takes a head of the major type `major`, 0 to 6, whose argument stands in the fewest bytes (RFC
-/// 8949 section 4.1), and answers the argument. The budget stays.
+/// Takes a head of the major type `major` whose argument stands in the fewest bytes (RFC 8949
+/// section 4.1), and answers the argument. The budget stays.
 ///
-/// `Read` where the reader failed. By `name`: `Eof` with 1 where no byte is left, and with k where
-/// the argument has k bytes and fewer are left, nothing being left then; `Mismatch` with the first
-/// byte, which is taken, where it begins no head of this major type. `NotCanonical` by "canonical",
-/// behind the head, where a whole head is longer than needed, and behind the first byte where that
-/// says an indefinite length (major types 2 to 5).
+/// Of major type 7 the head alone is judged, as of the others: its argument is a simple value, or
+/// the bits of a float, which section 3.3 binds to a width of their own. A `major` of 8 and more is
+/// no major type, and no byte begins a head of it.
+///
+/// # Errors
+///
+/// - `Read`: the reader failed
+/// - `Eof` by `name`: no byte is left, with 1; or the argument has k bytes and fewer are left, with
+///   k. Nothing is left then
+/// - `Mismatch` by `name` with the first byte, which is taken: it begins no head of this major type
+/// - `NotCanonical` by "canonical": a whole head is longer than needed, and is taken; or the first
+///   byte, which is taken, says an indefinite length (major types 2 to 5, section 3.2)
 pub fn canonical_head<S: Source>(
     name: StaticStr,
     major: u8,
     reader: &mut S,
 ) -> Result<u64, DecodeError<S::Error>>
-    requires { major < 7 }
     ensures moves { Moves (S.view reader.old) (S.view reader.new) result }
     ensures memory { IfErr result (λ error. is_out_of_memory error ≡ false) }
     ensures progress { OnOk result ((S.view reader.new).bound + 1 ≤ (S.view reader.old).bound) }
@@ -43,20 +49,24 @@ pub fn canonical_head<S: Source>(
     take_shortest(reader, name, major)
 }
 
-/// Takes a string of the major type `major`, 0 to 6, its length in a head as `canonical_head` takes
-/// it, and answers its content; of 2 or 3 it is a string of RFC 8949 section 3.1. At most 16384
-/// bytes are reserved before any came. The budget stays.
+/// Takes a string of the major type `major`, its length in a head as `canonical_head` takes it, and
+/// answers its content. Of 2 and 3 it is a string of RFC 8949 section 3.1; of another major type it
+/// is the head, and as many bytes behind it as its argument says. At most 16384 bytes are reserved
+/// before any came. The budget stays.
 ///
-/// The head is refused as `canonical_head` refuses it. Where bytes of the content are missing:
-/// `Eof` by `name` with the number of those that are missing, and nothing is left. `OutOfMemory`
-/// only where a growth was refused.
+/// # Errors
+///
+/// - the head's, as `canonical_head` refuses it
+/// - `Read`: the reader failed
+/// - `Eof` by `name` with the number of bytes that are missing: fewer are left than the head says.
+///   Nothing is left then
+/// - `OutOfMemory`: a growth was refused
 pub fn canonical_buf<S: Source>(
     alloc: Global,
     name: StaticStr,
     major: u8,
     reader: &mut S,
 ) -> Result<Vec<u8>, DecodeError<S::Error>>
-    requires { major < 7 }
     ensures moves { Moves (S.view reader.old) (S.view reader.new) result }
     ensures progress { OnOk result ((S.view reader.new).bound + 1 ≤ (S.view reader.old).bound) }
     ensures sound { IfOk result (λ content. Sound (ReadsShortestString major)
@@ -75,7 +85,6 @@ fn take_shortest_string<S: Source>(
     name: StaticStr,
     major: u8,
 ) -> Result<Vec<u8>, DecodeError<S::Error>>
-    requires { major < 7 }
     ensures runs { Runs (shortest_string_at name.now major)
         (S.view reader.old) (S.view reader.new) (listed result) }
     ensures progress { OnOk result ((S.view reader.new).bound + 1 ≤ (S.view reader.old).bound) }
@@ -90,7 +99,6 @@ fn take_shortest<S: Source>(
     name: StaticStr,
     major: u8,
 ) -> Result<u64, DecodeError<S::Error>>
-    requires { major < 7 }
     ensures runs { Runs (shortest_at name.now major)
         (S.view reader.old) (S.view reader.new) result }
     ensures memory { IfErr result (λ error. is_out_of_memory error ≡ false) }
@@ -110,7 +118,6 @@ fn take_shortest<S: Source>(
 
 /// Whether `first` says an indefinite length of this major type (RFC 8949 section 3.2).
 fn is_open(major: u8, first: u8) -> bool
-    requires { major < 7 }
     ensures { result ≡ is_open_head major first }
 {
     major::BYTES <= major && major <= major::MAP && first == 32 * major + marker::START

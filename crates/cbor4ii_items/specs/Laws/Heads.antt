@@ -110,7 +110,7 @@ byte_count-le two = omega arith
 byte_count-le four = omega arith
 byte_count-le eight = omega arith
 
-head_again : (name : List ℕ) (w : Width) (major v width : ℕ) (ys : List ℕ) → HeadFits w v
+pub head_again : (name : List ℕ) (w : Width) (major v width : ℕ) (ys : List ℕ) → HeadFits w v
     → byte_count w ≤ width → head_at name major width (head major v w ++ ys) ≡ Ok (v, ys)
 head_again name w major v width ys h le =
     let small : additional w v < 28 = additional-lt v w h in
@@ -120,7 +120,7 @@ head_again name w major v width ys h le =
     eq-eqb ((32 * major + additional w v) / 32) major high in
     rw t (argument_again name w v width (32 * major + additional w v) ys low h le)
 
-behind_head : (w : Width) (major v n : ℕ) (ys : List ℕ) → n ≡ suc (byte_count w)
+pub behind_head : (w : Width) (major v n : ℕ) (ys : List ℕ) → n ≡ suc (byte_count w)
     → (drop n (head major v w ++ ys) ≡ ys) × (n ≤ length (head major v w ++ ys))
 behind_head w major v n ys e =
     let long : length (head major v w) ≡ n =

@@ -1,4 +1,3 @@
-use Rattle.std.proofs.Common.{arith}
 use Rattle.cbor4ii_items.proofs.StringAnswers.{listed_moves}
 use Rattle.cbor4ii_items.proofs.Shortest.{string_sound, string_complete, string_refused}
 use Rattle.cbor4ii_items.proofs.canonical.canonical_buf.Goals as goal
@@ -10,8 +9,7 @@ pub returns-clause-sound : goal.returns-clause-sound
 returns-clause-sound g c = string_sound _ _ _ c.take_shortest_string.ensures.runs
 
 pub returns-clause-complete : goal.returns-clause-complete
-returns-clause-complete g c =
-    string_complete _ _ _ (omega (arith, c.requires)) c.take_shortest_string.ensures.runs
+returns-clause-complete g c = string_complete _ _ _ c.take_shortest_string.ensures.runs
 
 pub returns-clause-stops : goal.returns-clause-stops
 returns-clause-stops g c = string_refused _ _ _ c.take_shortest_string.ensures.runs

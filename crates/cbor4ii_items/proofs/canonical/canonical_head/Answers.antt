@@ -1,21 +1,20 @@
-use Rattle.std.proofs.Common.{arith}
 use Rattle.cbor4ii_items.proofs.Leaves.{leaf_sound, leaf_complete, leaf_stops}
 use Rattle.cbor4ii_items.proofs.Shortest.{shortest_leaf}
 use Rattle.cbor4ii_items.proofs.canonical.canonical_head.Goals as goal
 
 pub returns-clause-sound : goal.returns-clause-sound
 returns-clause-sound g c =
-    leaf_sound (shortest_leaf c.args.name.now _ (omega (arith, c.requires))) c.take_shortest.result
+    leaf_sound (shortest_leaf c.args.name.now _) c.take_shortest.result
     c.take_shortest.ensures.runs
 
 pub returns-clause-complete : goal.returns-clause-complete
 returns-clause-complete g c =
-    leaf_complete (shortest_leaf c.args.name.now _ (omega (arith, c.requires)))
+    leaf_complete (shortest_leaf c.args.name.now _)
     c.take_shortest.result c.take_shortest.ensures.runs
 
 pub returns-clause-stops : goal.returns-clause-stops
 returns-clause-stops g c =
-    leaf_stops (shortest_leaf _ _ (omega (arith, c.requires))) c.take_shortest.result
+    leaf_stops (shortest_leaf _ _) c.take_shortest.result
     c.take_shortest.ensures.runs
 
 pub returns-clause-moves : goal.returns-clause-moves
