@@ -19,6 +19,7 @@ mod nothing;
 mod numbers;
 mod option;
 mod push;
+pub mod reserve;
 mod sequences;
 mod simple;
 mod strings;

@@ -77,7 +77,7 @@ pub enum DecodeError<E> {
         /// The length; of a string that is borrowed, the number of bytes that are lent or left.
         found: Len,
     },
-    /// The reader does not lend the bytes as long as the input lives.
+    /// The reader does not lend the bytes as long as the input lives, or they are not in one piece.
     RequireBorrowed {
         name: StaticStr,
     },

@@ -27,6 +27,7 @@ use crate::unseen::peek;
 use crate::value::Value;
 use cbor4ii_items::canonical::{canonical_buf, canonical_head};
 use cbor4ii_items::decode::{Decode, Spelled};
+use cbor4ii_items::reserve::items_ahead;
 use cbor4ii_items::{major, marker};
 use cbor4ii_rw::error::DecodeError;
 use cbor4ii_rw::read::Source;
@@ -225,7 +226,7 @@ fn counted_items<S: Source>(
         (S.view reader.old) (S.view reader.new) result }
 {
     let mut items = Vec::new(alloc);
-    if items.reserve(count.min(256)).is_err() {
+    if items.reserve(items_ahead(count)).is_err() {
         return Err(DecodeError::OutOfMemory);
     }
     for i in 0..count {
@@ -279,7 +280,7 @@ fn counted_members<S: Source>(
         (S.view reader.old) (S.view reader.new) result }
 {
     let mut members = Vec::new(alloc);
-    if members.reserve(count.min(256)).is_err() {
+    if members.reserve(items_ahead(count)).is_err() {
         return Err(DecodeError::OutOfMemory);
     }
     for i in 0..count {

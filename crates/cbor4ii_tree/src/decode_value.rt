@@ -26,6 +26,7 @@ use crate::value::Value;
 use cbor4ii_items::decode::{Decode, Spelled};
 use cbor4ii_items::indefinite::is_break;
 use cbor4ii_items::major;
+use cbor4ii_items::reserve::items_ahead;
 use cbor4ii_items::types::{Array, Bytes, Map, Negative, Tag};
 use cbor4ii_rw::error::DecodeError;
 use cbor4ii_rw::read::Source;
@@ -58,7 +59,8 @@ impl Spelled for Value {
 /// keep their width and bits, pairs their order, and equal keys stay.
 ///
 /// Reading takes a step a value, one more for an array or a map, and one for the chunks of a
-/// string. At most 256 items are reserved before they were read.
+/// string. At most 256 items or pairs, and 16384 bytes of a string, have their place reserved
+/// before any of them came.
 ///
 /// Refusals, and what is left then (RFC 8949 appendix F):
 /// - no step is left: `DepthOverflow` by the name "value", nothing taken; "array" or "map", before
@@ -223,7 +225,7 @@ fn counted_items<S: Source>(
     ensures items { IfOk result (λ v. AreItems (items_view v.items)) }
 {
     let mut items = Vec::new(alloc);
-    if items.reserve(count.min(256)).is_err() {
+    if items.reserve(items_ahead(count)).is_err() {
         return Err(DecodeError::OutOfMemory);
     }
     for i in 0..count {
@@ -293,7 +295,7 @@ fn counted_members<S: Source>(
     ensures items { IfOk result (λ v. AreMembers (members_view v.items)) }
 {
     let mut members = Vec::new(alloc);
-    if members.reserve(count.min(256)).is_err() {
+    if members.reserve(items_ahead(count)).is_err() {
         return Err(DecodeError::OutOfMemory);
     }
     for i in 0..count {

@@ -64,8 +64,12 @@ impl<S: Source, T: Decode<S> + Drop> Sequence<S> for Vec<T> {
 
 /// An array of items, counted or up to a break (RFC 8949 sections 3.1 and 3.2.2), under one step of
 /// the reader's budget, which is given back whatever the answer is. At most 256 items have their
-/// place reserved before any of them came. An array of indefinite length, of a type that may read
-/// nothing, is read only where its break comes at once, since no reading of it would end.
+/// place reserved before any of them came.
+///
+/// Of a type that may read nothing, an array of indefinite length is read only where its break
+/// comes at once, since no reading of it would end. A counted one ends, but where its items read no
+/// byte it takes as many turns as its head says, whatever follows: `Vec<Nothing>` takes 2^64 - 1 of
+/// them for the nine bytes `9b ff ff ff ff ff ff ff ff`.
 ///
 /// Refusals, in this order, by the name "array" where no other is said:
 ///

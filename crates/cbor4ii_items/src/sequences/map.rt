@@ -68,7 +68,11 @@ impl<S: Source, K: Decode<S> + Drop, V: Decode<S> + Drop> Sequence<S> for Map<Ve
 
 /// A map of pairs, read as an array is, each part being a key and its value (RFC 8949 sections 3.1
 /// and 3.2.2). The pairs keep their order, and equal keys are kept. No break is looked for between
-/// a key and its value. A pair may read nothing where both of its types may.
+/// a key and its value. At most 256 pairs have their place reserved before any of them came.
+///
+/// A pair may read nothing where both of its types may. A counted map of pairs that read no byte
+/// takes as many turns as its head says, whatever follows: a map of `Nothing` to `Nothing` takes
+/// 2^64 - 1 of them for the nine bytes `bb ff ff ff ff ff ff ff ff`.
 ///
 /// Refusals are those of arrays, by the name "map": where an item's would be, a key's, or behind a
 /// whole key its value's.

@@ -10,12 +10,10 @@ ghost use Rattle.cbor4ii_items.specs.Sequences.{StopsInside, StopsSequence, Adds
 
 use crate::head::length;
 use crate::indefinite::take_break;
+use crate::reserve::items_ahead;
 use cbor4ii_rw::error::{DecodeError, Len, StaticStr};
 use cbor4ii_rw::read::Source;
 use std::alloc::Global;
-
-/// So many parts have their place reserved, at most, before any of them came.
-const RESERVED: u64 = 256;
 
 /// A type of arrays or of maps, by its parts.
 pub(crate) trait Sequence<S: Source>: Sized {
@@ -137,7 +135,7 @@ fn take_counted<S: Source, Q: Sequence<S>>(
         (S.view reader.old) (S.view reader.new)) }
 {
     let mut parts = Vec::new(alloc);
-    if parts.reserve(count.min(RESERVED) as usize).is_err() {
+    if parts.reserve(items_ahead(count as usize)).is_err() {
         return Err(DecodeError::OutOfMemory);
     }
     for i in 0..count {

@@ -4,12 +4,10 @@ ghost use Rattle.cbor4ii_items.specs.Contents.{TakesOnto, filled};
 ghost use Rattle.cbor4ii_items.specs.Reading.{Runs};
 ghost use Rattle.cbor4ii_items.specs.ReadStrings.{content_on};
 
+use crate::reserve::bytes_ahead;
 use cbor4ii_rw::ask::look;
 use cbor4ii_rw::error::{DecodeError, Len, StaticStr};
 use cbor4ii_rw::read::Source;
-
-/// So many bytes are reserved, at most, before any of them came.
-const RESERVED: usize = 16384;
 
 /// Takes so many bytes behind those of `content`. A length alone takes little memory: more is
 /// taken as the bytes come.
@@ -24,7 +22,7 @@ pub(crate) fn take_content<S: Source>(
         (S.view reader.old) (S.view reader.new) (filled content.new.items result) }
 {
     let mut missing = count as usize;
-    if content.reserve(missing.min(RESERVED)).is_err() {
+    if content.reserve(bytes_ahead(missing)).is_err() {
         return Err(DecodeError::OutOfMemory);
     }
     while missing > 0 {

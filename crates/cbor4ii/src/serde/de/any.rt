@@ -17,8 +17,9 @@ use crate::serde::de::any_leaf::{AnyKind, kind_of, take_leaf};
 use crate::serde::de::deserialize::{Deserialize, Typed};
 use crate::serde::de::deserializer::Deserializer;
 use crate::serde::de::error::DecodeError;
-use crate::serde::de::parts::{RESERVED, takes_break};
+use crate::serde::de::parts::takes_break;
 use cbor4ii_items::initial::peek;
+use cbor4ii_items::reserve::items_ahead;
 use cbor4ii_items::types::{Array, Map};
 use cbor4ii_rw::error as core_error;
 use cbor4ii_rw::read::Source;
@@ -31,7 +32,8 @@ impl<S: Source> Deserializer<S> {
     /// undefined are null, floats keep their width and bits, and a map its pairs in order.
     ///
     /// A value takes a step, an array or a map one more, and so do the chunks of a string. At most
-    /// 256 values, or pairs, of an array or a map are reserved before they were read.
+    /// 256 values or pairs of an array or a map, and 16384 bytes of a string, have their place
+    /// reserved before any of them came.
     ///
     /// # Errors
     ///
@@ -206,7 +208,7 @@ fn counted_values<S: Source>(
         (input S.view de.old) (input S.view de.new) (as_core error)) }
 {
     let mut values = Vec::new(alloc);
-    if values.reserve(count.min(RESERVED)).is_err() {
+    if values.reserve(items_ahead(count)).is_err() {
         return Err(DecodeError::Core(core_error::DecodeError::OutOfMemory));
     }
     for i in 0..count {
@@ -324,7 +326,7 @@ fn counted_pairs<S: Source>(
         (input S.view de.old) (input S.view de.new) (as_core error)) }
 {
     let mut pairs = Vec::new(alloc);
-    if pairs.reserve(count.min(RESERVED)).is_err() {
+    if pairs.reserve(items_ahead(count)).is_err() {
         return Err(DecodeError::Core(core_error::DecodeError::OutOfMemory));
     }
     for i in 0..count {

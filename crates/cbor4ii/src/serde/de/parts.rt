@@ -16,13 +16,11 @@ ghost use Rattle.cbor4ii.specs.Typed.{input, answer_of, as_core, Lawful};
 use crate::serde::de::deserializer::Deserializer;
 use crate::serde::de::error::DecodeError;
 use cbor4ii_items::indefinite::is_break;
+use cbor4ii_items::reserve::items_ahead;
 use cbor4ii_rw::error as core_error;
 use cbor4ii_rw::error::StaticStr;
 use cbor4ii_rw::read::Source;
 use std::alloc::Global;
-
-/// So many parts have their place reserved, at most, before any of them came.
-pub(crate) const RESERVED: usize = 256;
 
 /// A type of arrays or of maps, by its parts.
 pub(crate) trait Sequence<S: Source>: Sized {
@@ -144,7 +142,7 @@ fn take_counted<S: Source, Q: Sequence<S>>(
         (input S.view de.old) (input S.view de.new) (as_core error)) }
 {
     let mut parts = Vec::new(alloc);
-    if parts.reserve(count.min(RESERVED)).is_err() {
+    if parts.reserve(items_ahead(count)).is_err() {
         return Err(DecodeError::Core(core_error::DecodeError::OutOfMemory));
     }
     for i in 0..count {
