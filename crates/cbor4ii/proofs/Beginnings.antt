@@ -1,6 +1,6 @@
 -- How a value of several parts is refused.
-use Rattle.std.proofs.Common.{◌≡◌, ℕ, List, [], ◌∷◌, drop, take, Option, Some, None, Result, Ok}
-use Rattle.std.proofs.Common.{Err, Bool, true, false, refl, subst, IfSome, IfErr}
+use Rattle.std.proofs.Common.{◌≡◌, ◌≢◌, ℕ, List, [], ◌∷◌, drop, take, Option, Some, None, Result}
+use Rattle.std.proofs.Common.{Ok, Err, Bool, true, false, refl, subst, IfSome, IfErr}
 use Rattle.std.specs.Prelude.{IsTrue, codes}
 use Rattle.cbor4ii_rw.specs.View.{View}
 use Rattle.cbor4ii_rw.specs.Reader.{StepsIn, KeepsAllButBudget}
@@ -11,6 +11,7 @@ use Rattle.cbor4ii_items.specs.Moves.{Kept, Moves}
 use Rattle.cbor4ii_items.specs.Next.{StopsNext}
 use Rattle.cbor4ii_items.specs.Refusal.{Refusal, refusal_of, is_read}
 use Rattle.cbor4ii_items.specs.Sequences.{StopsPair}
+use Rattle.cbor4ii_items.specs.Laws.Containers.{not_null}
 use Rattle.cbor4ii_items.specs.Laws.Pairs.{value_stops_pair}
 use Rattle.cbor4ii_items.specs.Laws.SequenceParts.{stops_as}
 use Rattle.cbor4ii_items.specs.Laws.Answering.{not_read, kept_of}
@@ -77,18 +78,20 @@ step_stops name stops (Err e) takes inward outward s =
 -- ---- a value that may be absent
 
 some_at : (stops : StopsAt) (b : ℕ) (xs : List ℕ) (budget : Option ℕ) (z : Refusal) (ys : List ℕ)
-    → take 1 xs ≡ b ∷ [] → stops xs budget z ys → StopsOption stops xs budget z ys
-some_at stops b [] budget z ys e h = cc
-some_at stops b (x ∷ xs) budget z ys e h = h
+    → take 1 xs ≡ b ∷ [] → b ≢ 0xf6 → b ≢ 0xf7 → stops xs budget z ys
+    → StopsOption stops xs budget z ys
+some_at stops b [] budget z ys e p q h = cc
+some_at stops b (x ∷ xs) budget z ys e p q h = (not_null (x ∷ xs) b e p q, h)
 
 -- behind the byte that was seen
 pub option_stops : {E : Type 0} (stops : StopsAt) {e : DecodeError E} {a m b : View} {first : ℕ}
-    → Saw a m first → Stops stops m b e → Stops (StopsOption stops) a b e
-option_stops stops {e = e} {a = a} {m = m} {b = b} {first = first} seen s = record {
+    → Saw a m first → first ≢ 0xf6 → first ≢ 0xf7 → Stops stops m b e
+    → Stops (StopsOption stops) a b e
+option_stops stops {e = e} {a = a} {m = m} {b = b} {first = first} seen p q s = record {
   at = λ xs told.
       let f = seen.first xs told in
       stops_as (refusal_of e) b.told (stops xs m.budget) (StopsOption stops xs a.budget) (λ z ys h.
-      some_at stops first xs a.budget z ys f.1 (subst (λ k. stops xs k z ys) seen.budget h))
+      some_at stops first xs a.budget z ys f.1 p q (subst (λ k. stops xs k z ys) seen.budget h))
       (s.at xs f.0);
 }
 

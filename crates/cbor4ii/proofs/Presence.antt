@@ -10,6 +10,7 @@ use Rattle.cbor4ii_rw.specs.declared.error.DecodeError.TheVariants.{DepthOverflo
 use Rattle.cbor4ii_items.specs.Refusal.{Refusal, depth_overflow}
 use Rattle.cbor4ii_items.specs.Next.{StopsNext}
 use Rattle.cbor4ii_items.specs.Decoding.{Reads, CostFits, Sound, NoneRead, Refuses, Stops}
+use Rattle.cbor4ii_items.specs.Containers.{BeginsNull}
 use Rattle.cbor4ii_items.specs.Laws.Answering.{fits_zero, refuses_as}
 use Rattle.cbor4ii_items.specs.Laws.UnderStep.{no_step}
 use Rattle.cbor4ii_items.specs.Laws.Containers.{not_null}
@@ -69,19 +70,22 @@ no_step_refuses {a = a} {m = m} {b = b} left s p q none = record {
 }
 
 stops_there : (name : Bor (List ℕ)) (xs : List ℕ) (budget : Option ℕ) → name.now ≡ codes "option"
-    → 1 ≤ length xs → budget ≡ Some 0 → StopsPresence xs budget (depth_overflow name.now) xs
-stops_there name [] budget named some zero = absurd (omega (arith, some))
-stops_there name (x ∷ xs) budget named some zero = inl (zero, ap depth_overflow named, refl)
+    → 1 ≤ length xs → (BeginsNull xs → ⊥) → budget ≡ Some 0
+    → StopsPresence xs budget (depth_overflow name.now) xs
+stops_there name [] budget named some null zero = absurd (omega (arith, some))
+stops_there name (x ∷ xs) budget named some null zero =
+    (null, inl (zero, ap depth_overflow named, refl))
 
 pub no_step_stops : {E : Type 0} {name : Bor (List ℕ)} {a m n : View} {b : ℕ}
-    → name.now ≡ codes "option" → Saw a m b → StepsIn m.budget n.budget false
-    → KeepsAllButBudget m n → Stops {E = E} StopsPresence a n (DepthOverflow name)
-no_step_stops {name = name} {a = a} {m = m} {n = n} named s none k = record {
+    → name.now ≡ codes "option" → Saw a m b → b ≢ 0xf6 → b ≢ 0xf7
+    → StepsIn m.budget n.budget false → KeepsAllButBudget m n
+    → Stops {E = E} StopsPresence a n (DepthOverflow name)
+no_step_stops {name = name} {a = a} {m = m} {n = n} {b = b} named s p q none k = record {
   at = λ xs told. (let f = s.first xs told in (
     xs,
     k.told ∙ f.0,
-    stops_there name xs a.budget named
-        f.2 (sym s.budget ∙ (no_step m.budget n.budget none).0),
+    stops_there name xs a.budget named f.2 (not_null xs b f.1 p q)
+        (sym s.budget ∙ (no_step m.budget n.budget none).0),
   ));
 }
 

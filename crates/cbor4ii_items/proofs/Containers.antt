@@ -12,7 +12,8 @@ use Rattle.cbor4ii_items.specs.Decoding.{Reads, StopsAt, CostFits, Sound, NoneRe
 use Rattle.cbor4ii_items.specs.Heads.{ReadsHead, StopsHead}
 use Rattle.cbor4ii_items.specs.Laws.Heads.{head_one}
 use Rattle.cbor4ii_items.specs.Numbers.{ReadsArgument, StopsArgument}
-use Rattle.cbor4ii_items.specs.Containers.{ReadsOption, StopsOption, ReadsTag, StopsTag}
+use Rattle.cbor4ii_items.specs.Containers.{BeginsNull, ReadsOption, StopsOption}
+use Rattle.cbor4ii_items.specs.Containers.{ReadsTag, StopsTag}
 use Rattle.cbor4ii_items.specs.Laws.Outcome.{same_refusal}
 use Rattle.cbor4ii_items.specs.Laws.Fronts.{drop_more}
 use Rattle.cbor4ii_items.specs.Laws.Running.{peeked}
@@ -71,22 +72,22 @@ some_refuses reads a m e first s p q h = record {
 }
 
 stops_some : (o : Option Refusal) (stops : StopsAt) (xs : List ℕ) (old new : Option ℕ)
-    (left : Option (List ℕ)) → old ≡ new → 1 ≤ length xs
+    (left : Option (List ℕ)) → old ≡ new → 1 ≤ length xs → (BeginsNull xs → ⊥)
     → IfSome o (λ z. (ys : List ℕ) × (left ≡ Some ys) × stops xs old z ys)
     → IfSome o (λ z. (ys : List ℕ) × (left ≡ Some ys) × StopsOption stops xs new z ys)
-stops_some None stops xs old new left e n h = tt
-stops_some (Some z) stops [] old new left e n h = absurd (omega arith)
-stops_some (Some z) stops (x ∷ xs) old new left e n h =
-    (h.0, h.1, subst (λ k. stops (x ∷ xs) k z h.0) e h.2)
+stops_some None stops xs old new left e n null h = tt
+stops_some (Some z) stops [] old new left e n null h = absurd (omega arith)
+stops_some (Some z) stops (x ∷ xs) old new left e n null h =
+    (h.0, h.1, (null, subst (λ k. stops (x ∷ xs) k z h.0) e h.2))
 
 pub some_stops : {E : Type 0} (stops : StopsAt) (a m b : View) (e : DecodeError E) (first : ℕ)
-    → Saw a m first → ((xs : List ℕ) → a.told ≡ Some xs → Stops stops m b e)
-    → Stops (StopsOption stops) a b e
-some_stops stops a m b e first s h = record {
+    → Saw a m first → first ≢ 0xf6 → first ≢ 0xf7
+    → ((xs : List ℕ) → a.told ≡ Some xs → Stops stops m b e) → Stops (StopsOption stops) a b e
+some_stops stops a m b e first s p q h = record {
   at = λ xs told.
       let f = s.first xs told in
       stops_some (refusal_of e) stops xs m.budget a.budget b.told s.budget f.2
-      ((h xs told).at xs f.0);
+      (not_null xs first f.1 p q) ((h xs told).at xs f.0);
 }
 
 -- ---- the end of the input

@@ -17,9 +17,11 @@ abbrev pub ReadsOption : {V : Type 0} → Reads V → Reads (Option V)
 ReadsOption reads xs None n c = BeginsNull xs × (n ≡ 1) × (c ≡ 0)
 ReadsOption reads xs (Some v) n c = (BeginsNull xs → ⊥) × (1 ≤ length xs) × reads xs v n c
 
+-- no byte is left, or what another byte begins is refused
 abbrev pub StopsOption : StopsAt → StopsAt
 StopsOption stops [] budget refusal rest = (refusal ≡ eof (codes "option") (Small 1)) × (rest ≡ [])
-StopsOption stops (b ∷ bs) budget refusal rest = stops (b ∷ bs) budget refusal rest
+StopsOption stops (b ∷ bs) budget refusal rest =
+    (BeginsNull (b ∷ bs) → ⊥) × stops (b ∷ bs) budget refusal rest
 
 abbrev pub SameOption : {V : Type 0} → (V → V → Type 0) → Option V → Option V → Type 0
 SameOption same None None = Unit {0}

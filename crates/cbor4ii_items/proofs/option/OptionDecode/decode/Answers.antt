@@ -30,7 +30,8 @@ returns-in-Err-clause-complete g c exact =
 
 pub returns-in-Err-clause-stops : goal.returns-in-Err-clause-stops
 returns-in-Err-clause-stops g c exact =
-    some_stops _ _ _ _ _ _ (saw _ _ _ c.in_ok-first.ensures.runs) (λ xs told. c.in-Err.ensures.stops
+    some_stops _ _ _ _ _ _ (saw _ _ _ c.in_ok-first.ensures.runs) c.if-first.false
+    c.if-first-2.false (λ xs told. c.in-Err.ensures.stops
     (exact_kept _ _ _ xs told c.in_ok-first.ensures.runs.moves.by exact))
 
 pub returns-then-first-clause-moves : goal.returns-then-first-clause-moves
@@ -55,8 +56,8 @@ returns-in_err-first-clause-begins g c =
 
 pub returns-in-Err-clause-begins : goal.returns-in-Err-clause-begins
 returns-in-Err-clause-begins g c =
-    some_stops _ _ _ _ _ _ (saw _ _ _ c.in_ok-first.ensures.runs)
-    (λ xs told. c.in-Err.ensures.begins)
+    some_stops _ _ _ _ _ _ (saw _ _ _ c.in_ok-first.ensures.runs) c.if-first.false
+    c.if-first-2.false (λ xs told. c.in-Err.ensures.begins)
 
 pub returns-in_err-first-clause-moves : goal.returns-in_err-first-clause-moves
 returns-in_err-first-clause-moves g c =

@@ -33,8 +33,8 @@ returns-then-not-step_in-clause-complete g c =
 
 pub returns-then-not-step_in-clause-stops : goal.returns-then-not-step_in-clause-stops
 returns-then-not-step_in-clause-stops g c =
-    no_step_stops refl (saw c.in-Ok.ensures.moves c.in-Ok.ensures.sound)
-    c.if-not-step_in.ensures.budget c.step_in.ensures.others
+    no_step_stops refl (saw c.in-Ok.ensures.moves c.in-Ok.ensures.sound) c.if-first.false
+    c.if-first-2.false c.if-not-step_in.ensures.budget c.step_in.ensures.others
 
 pub returns-in-Err-clause-complete : goal.returns-in-Err-clause-complete
 returns-in-Err-clause-complete g c = option_refuses _ c.in-Err.ensures.complete

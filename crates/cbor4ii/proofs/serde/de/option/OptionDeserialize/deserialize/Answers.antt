@@ -55,8 +55,8 @@ returns-in-Err-clause-complete g c is exact = option_refuses _ c.in-Err.ensures.
 
 pub returns-in-Err-under_step-clause-stops : goal.returns-in-Err-under_step-clause-stops
 returns-in-Err-under_step-clause-stops g c =
-    option_stops _ (saw c.in-Ok.ensures.moves c.in-Ok.ensures.sound)
-    c.in-Err-under_step.ensures.stops
+    option_stops _ (saw c.in-Ok.ensures.moves c.in-Ok.ensures.sound) c.if-first.false
+    c.if-first-2.false c.in-Err-under_step.ensures.stops
 
 pub returns-in-Err-clause-stops : goal.returns-in-Err-clause-stops
 returns-in-Err-clause-stops g c =
