@@ -30,3 +30,8 @@ pub mod ProgramEnds
 pub mod Fronts
 pub mod Outcome
 pub mod CountedContent
+pub mod LeavesApart
+pub mod NumbersApart
+pub mod ContainersApart
+pub mod SequencesApart
+pub mod StringsApart

@@ -9,6 +9,7 @@ pub mod Moves
 pub mod Decoding
 pub mod Writing
 pub mod ReadBack
+pub mod NeverBoth
 pub mod Numbers
 pub mod Magnitude
 pub mod Floats

@@ -20,18 +20,25 @@ ghost use Rattle.cbor4ii_items.specs.declared.types.Undefined.{Undefined};
 ghost use Rattle.cbor4ii_rw.specs.View.{View};
 ghost use Rattle.cbor4ii_rw.specs.declared.error.DecodeError.{DecodeError};
 ghost use Rattle.cbor4ii_items.specs.Decoding.{CostFits, Sound, Refuses};
+ghost use Rattle.cbor4ii_items.specs.Floats.{ReadsFloat, StopsFloat};
 ghost use Rattle.cbor4ii_items.specs.Head.{Width, HeadFits, byte_count, shortest};
-ghost use Rattle.cbor4ii_items.specs.Lengths.{ReadsLength};
-ghost use Rattle.cbor4ii_items.specs.Maybe.{ReadsMaybe, maybe_bytes};
+ghost use Rattle.cbor4ii_items.specs.Lengths.{ReadsLength, StopsLength};
+ghost use Rattle.cbor4ii_items.specs.Lent.{ReadsLent, StopsLent};
+ghost use Rattle.cbor4ii_items.specs.Maybe.{ReadsMaybe, StopsMaybe, maybe_bytes};
+ghost use Rattle.cbor4ii_items.specs.NeverBoth.{NeverBoth};
+ghost use Rattle.cbor4ii_items.specs.Nothing.{ReadsNothing, StopsNothing};
 ghost use Rattle.cbor4ii_items.specs.Numbers.{ReadsArgument, ReadsSigned, ReadsU128, ReadsI128};
 ghost use Rattle.cbor4ii_items.specs.Numbers.{IsWithin, shortest_head, signed_head, unsigned_bytes};
-ghost use Rattle.cbor4ii_items.specs.Numbers.{signed_bytes};
+ghost use Rattle.cbor4ii_items.specs.Numbers.{signed_bytes, StopsArgument, ReadsNegative};
+ghost use Rattle.cbor4ii_items.specs.Numbers.{StopsNegative, StopsSigned, StopsU128, StopsI128};
 ghost use Rattle.cbor4ii_items.specs.ReadBack.{ReadsBack, NoneBeginsAnother, greatest_cost};
 ghost use Rattle.cbor4ii_items.specs.ReadBack.{pair_cost};
 ghost use Rattle.cbor4ii_items.specs.Refusal.{refusal_of};
 ghost use Rattle.cbor4ii_items.specs.SequenceBytes.{map_bytes};
+ghost use Rattle.cbor4ii_items.specs.Simple.{ReadsSimple, StopsSimple, ReadsBool, StopsBool};
 ghost use Rattle.cbor4ii_items.specs.Strings.{ReadsAs, ReadsTextAs, counted_string, opening};
-ghost use Rattle.cbor4ii_items.specs.Strings.{text_content};
+ghost use Rattle.cbor4ii_items.specs.Strings.{text_content, StopsString, StopsText, ReadsBreak};
+ghost use Rattle.cbor4ii_items.specs.Strings.{StopsBreak};
 
 use crate::decode::{Decode, Spelled};
 use crate::encode::Encode;
@@ -159,4 +166,83 @@ pub fn what_is_written_is_decoded<S: Source, T: Decode<S>, E>()
 /// No spelling of a type begins another, where what follows a spelling says nothing of it.
 pub fn no_spelling_begins_another<S: Source, T: Decode<S>>()
     ensures { IsTrue T.closed → NoneBeginsAnother T.reads }
+{}
+
+/// Numbers that are refused are not read: no reading begins bytes that the type refuses.
+pub fn refused_numbers_are_not_read()
+    ensures heads { (name : List ℕ) (major width : ℕ) →
+        NeverBoth (ReadsArgument major width) (StopsArgument name major width) }
+    ensures negative { (name : List ℕ) (width : ℕ) →
+        NeverBoth (ReadsNegative width) (StopsNegative name width) }
+    ensures signed { (name plus minus : List ℕ) (width limit : ℕ) →
+        NeverBoth (ReadsSigned width limit)
+        (λ xs budget. StopsSigned name plus minus width limit xs) }
+    ensures unsigned_of_sixteen { NeverBoth ReadsU128 (λ xs budget. StopsU128 xs) }
+    ensures signed_of_sixteen { NeverBoth ReadsI128 (λ xs budget. StopsI128 xs) }
+{}
+
+/// Simple values, floats, and nothing at all: bytes that are refused are not read.
+pub fn refused_simple_values_are_not_read()
+    ensures simple { NeverBoth ReadsSimple StopsSimple }
+    ensures bool { NeverBoth ReadsBool StopsBool }
+    ensures floats { (name : List ℕ) (marker count : ℕ) →
+        NeverBoth (ReadsFloat marker count) (StopsFloat name marker count) }
+    ensures nothing { NeverBoth ReadsNothing StopsNothing }
+{}
+
+/// A length that is refused is not read, and neither is a break.
+pub fn refused_lengths_are_not_read()
+    ensures lengths { (name : List ℕ) (major : ℕ) →
+        NeverBoth (ReadsLength major) (StopsLength name major) }
+    ensures breaks { NeverBoth ReadsBreak StopsBreak }
+{}
+
+/// Strings that are refused are not read: no reading whose chunks' step fits the budget begins
+/// bytes that the type refuses. Of borrowed strings it is said where the reader lends whole.
+pub fn refused_strings_are_not_read<V>()
+    ensures strings { (name : List ℕ) (major : ℕ) (content : V → List ℕ) → major < 7 →
+        NeverBoth (ReadsAs major content) (StopsString name major) }
+    ensures texts { (name : List ℕ) (content : V → List ℕ) →
+        NeverBoth (ReadsTextAs content) (StopsText name) }
+    ensures lent { (name : List ℕ) (major : ℕ) (is_text : Bool) (content : V → List ℕ) →
+        major < 8 → NeverBoth (ReadsLent major is_text content) (StopsLent name major is_text) }
+{}
+
+/// An optional item, a tagged item, an optional item as an array, and an item in a box that are
+/// refused are not read, wherever the item's refusals exclude its readings: those of an exact
+/// call, and those over any reader.
+pub fn refused_parts_are_not_read<T: Spelled>()
+    ensures optional { NeverBoth T.reads T.stops →
+        NeverBoth ⟦<Option<T> as Spelled>⟧.reads ⟦<Option<T> as Spelled>⟧.stops }
+    ensures optional_begins { NeverBoth T.reads T.begins →
+        NeverBoth ⟦<Option<T> as Spelled>⟧.reads ⟦<Option<T> as Spelled>⟧.begins }
+    ensures tagged { NeverBoth T.reads T.stops →
+        NeverBoth ⟦<Tag<T> as Spelled>⟧.reads ⟦<Tag<T> as Spelled>⟧.stops }
+    ensures tagged_begins { NeverBoth T.reads T.begins →
+        NeverBoth ⟦<Tag<T> as Spelled>⟧.reads ⟦<Tag<T> as Spelled>⟧.begins }
+    ensures maybe { NeverBoth T.reads T.stops →
+        NeverBoth (ReadsMaybe T.reads) (StopsMaybe T.stops) }
+    ensures maybe_begins { NeverBoth T.reads T.begins →
+        NeverBoth (ReadsMaybe T.reads) (StopsMaybe T.begins) }
+    ensures boxed { NeverBoth T.reads T.stops →
+        NeverBoth ⟦<Box<T> as Spelled>⟧.reads ⟦<Box<T> as Spelled>⟧.stops }
+    ensures boxed_begins { NeverBoth T.reads T.begins →
+        NeverBoth ⟦<Box<T> as Spelled>⟧.reads ⟦<Box<T> as Spelled>⟧.begins }
+{}
+
+/// An array that is refused is not read, wherever its items' refusals exclude their readings.
+pub fn refused_arrays_are_not_read<S: Source, T: Decode<S>>()
+    ensures stops { NeverBoth T.reads T.stops →
+        NeverBoth ⟦<Vec<T> as Spelled>⟧.reads ⟦<Vec<T> as Spelled>⟧.stops }
+    ensures begins { NeverBoth T.reads T.begins →
+        NeverBoth ⟦<Vec<T> as Spelled>⟧.reads ⟦<Vec<T> as Spelled>⟧.begins }
+{}
+
+/// A map that is refused is not read, wherever the refusals of its keys and of its values exclude
+/// their readings.
+pub fn refused_maps_are_not_read<S: Source, K: Decode<S>, V: Decode<S>>()
+    ensures stops { NeverBoth K.reads K.stops → NeverBoth V.reads V.stops →
+        NeverBoth ⟦<Map<Vec<(K, V)>> as Spelled>⟧.reads ⟦<Map<Vec<(K, V)>> as Spelled>⟧.stops }
+    ensures begins { NeverBoth K.reads K.begins → NeverBoth V.reads V.begins →
+        NeverBoth ⟦<Map<Vec<(K, V)>> as Spelled>⟧.reads ⟦<Map<Vec<(K, V)>> as Spelled>⟧.begins }
 {}
