@@ -1,4 +1,5 @@
 pub mod Told
+pub mod LentNone
 pub mod Parted
 pub mod Results
 pub mod SegmentLemmas

@@ -1,6 +1,7 @@
 -- What a lawful reader and a lawful writer are, and what each of this crate's tells.
 pub mod View
 pub mod Reader
+pub mod Long
 pub mod Reference
 pub mod Parted
 pub mod Slice

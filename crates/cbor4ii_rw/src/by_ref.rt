@@ -1,4 +1,5 @@
 //! A reader or writer behind a `&mut` is one too.
+use crate::long::FillLong;
 use crate::read::{Read, Reference, Source};
 use crate::write::Write;
 
@@ -31,6 +32,17 @@ impl<S: Source> Source for &mut S {
 impl<'de, R: Read<'de>> Read<'de> for &mut R {
     fn fill<'short>(&'short mut self, want: usize) -> Result<Reference<'de, 'short>, R::Error> {
         Read::fill(&mut **self, want)
+    }
+}
+
+/// It lends what the reader behind the reference lends.
+impl<R: FillLong> FillLong for &mut R {
+    type Long = R::Long;
+
+    ghost never_lends = { R.never_lends };
+
+    fn fill_long(&mut self, want: usize) -> Result<Option<R::Long>, R::Error> {
+        FillLong::fill_long(&mut **self, want)
     }
 }
 

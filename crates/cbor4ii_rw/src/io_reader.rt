@@ -1,5 +1,6 @@
 //! A reader over a stream.
-ghost use Rattle.std.specs.Prelude.{◌≡◌, ◌+◌, ◌-◌, ◌≤◌, [], length, Some, IsTrue, IfSome, IfOk};
+ghost use Rattle.std.specs.Prelude.{◌≡◌, ◌+◌, ◌-◌, ◌≤◌, [], length, Some, true, IsTrue, IfSome};
+ghost use Rattle.std.specs.Prelude.{IfOk};
 ghost use Rattle.std.specs.Prelude.{IsOk, MatchResult};
 ghost use Rattle.std.specs.Borrow.{sem};
 ghost use Rattle.std.specs.Io.{StartsWith};
@@ -11,6 +12,8 @@ ghost use Rattle.cbor4ii_rw.specs.Reference.{bytes_of, IsLong};
 ghost use Rattle.cbor4ii_rw.specs.Stream.{most_bytes, cut_within, cut_known, stream_left};
 ghost use Rattle.cbor4ii_rw.specs.Stream.{stream_view, TallyMoves};
 
+use crate::ask::look;
+use crate::long::FillLong;
 use crate::read::{Read, Reference, Source};
 use crate::steps;
 use std::io::{self, BufRead};
@@ -206,6 +209,22 @@ impl<'de, R: BufRead> Read<'de> for IoReader<R> {
         match self.show(want) {
             Ok(bytes) => Ok(Reference::Short(bytes)),
             Err(error) => Err(error),
+        }
+    }
+}
+
+/// It lends nothing: none where a byte is left, and no bytes at the end.
+impl<R: BufRead> FillLong for IoReader<R> {
+    type Long = [u8; 0];
+
+    ghost never_lends = { true };
+
+    fn fill_long(&mut self, want: usize) -> Result<Option<[u8; 0]>, io::Error> {
+        let mut failure = None;
+        match look(self, want, &mut failure) {
+            Some([]) => Ok(Some([])),
+            Some(_) => Ok(None),
+            None => Err(failure.unwrap()),
         }
     }
 }

@@ -11,6 +11,7 @@ pub mod by_ref;
 pub mod error;
 pub mod io_reader;
 pub mod io_writer;
+pub mod long;
 pub mod read;
 pub mod segment_reader;
 pub mod slice_reader;

@@ -1,6 +1,6 @@
 //! A reader over borrowed segments.
-ghost use Rattle.std.specs.Prelude.{◌≡◌, ◌≤◌, min, [], Some, length, nat_lt, IsTrue, IfOk};
-ghost use Rattle.std.specs.Prelude.{MatchResult};
+ghost use Rattle.std.specs.Prelude.{◌≡◌, ◌≤◌, min, [], Some, false, length, nat_lt, IsTrue, IfOk};
+ghost use Rattle.std.specs.Prelude.{IfErr, IfSome, IfNone, IsSome, MatchResult};
 ghost use Rattle.std.proofs.Common.{rules};
 ghost use Rattle.std.specs.Borrow.{sem};
 ghost use Rattle.std.specs.Io.BufRead.{Rests};
@@ -8,11 +8,13 @@ ghost use mir.Syntax.{named};
 ghost use Rattle.cbor4ii_rw.specs.contracts.segment_reader.SegmentReader.{the_row};
 ghost use Rattle.cbor4ii_rw.specs.View.{Told};
 ghost use Rattle.cbor4ii_rw.specs.Reader.{IsFront, IsEnough, Shows, Breaks};
+ghost use Rattle.cbor4ii_rw.specs.Long.{FillsLong, LendsNone};
 ghost use Rattle.cbor4ii_rw.specs.Reference.{bytes_of, IsLong};
 ghost use Rattle.cbor4ii_rw.specs.Segments.{joined_segments, full_count, rest_of, full_of};
 ghost use Rattle.cbor4ii_rw.specs.Segments.{shown_segment, segment_view};
 
 use crate::error::Never;
+use crate::long::FillLong;
 use crate::read::{Read, Reference, Source};
 use crate::steps;
 
@@ -130,5 +132,31 @@ impl<'de> Read<'de> for SegmentReader<'de> {
         self.pass_empty();
         let shown = want.min(self.current.len());
         Ok(Reference::Long(&self.current[..shown]))
+    }
+}
+
+/// It lends what it shows, always.
+impl<'de> FillLong for SegmentReader<'de> {
+    type Long = &'de [u8];
+
+    ghost never_lends = { false };
+
+    fn fill_long(&mut self, want: usize) -> Result<Option<&'de [u8]>, Never>
+        ensures bounded { IfOk result (λ shown. IfSome shown
+            (λ long. length long.now ≤ (segment_view self.old).bound)) }
+        ensures fills { IfOk result (λ shown. IfSome shown (λ long.
+            FillsLong want long.now (segment_view self.old) (segment_view self.new))) }
+        ensures none { IfOk result (λ shown. IfNone shown
+            (LendsNone (segment_view self.old) (segment_view self.new))) }
+        ensures never { IsTrue false → IfOk result (λ shown. IfSome shown
+            (λ long. long.now ≡ [])) }
+        ensures failed { IfErr result
+            (λ _. Breaks (segment_view self.old) (segment_view self.new)) }
+        ensures segment { IfOk result (λ shown. IsSome shown × IfSome shown
+            (λ long. length long.now ≡ min want (length (shown_segment self.old)))) }
+    {
+        self.pass_empty();
+        let long = want.min(self.current.len());
+        Ok(Some(&self.current[..long]))
     }
 }

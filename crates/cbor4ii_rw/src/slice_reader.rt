@@ -1,16 +1,19 @@
 //! A reader over one slice.
-ghost use Rattle.std.specs.Prelude.{◌≡◌, ◌≤◌, [], Some, length, IsTrue, IfOk, MatchResult};
+ghost use Rattle.std.specs.Prelude.{◌≡◌, ◌≤◌, [], Some, false, length, IsTrue, IfOk};
+ghost use Rattle.std.specs.Prelude.{IfErr, IfSome, IfNone, IsSome, MatchResult};
 ghost use Rattle.std.specs.Borrow.{sem};
 ghost use Rattle.std.specs.Io.BufRead.{Rests};
 ghost use mir.Syntax.{named};
 ghost use Rattle.cbor4ii_rw.specs.contracts.slice_reader.SliceReader.{the_row};
 ghost use Rattle.cbor4ii_rw.specs.View.{Told};
 ghost use Rattle.cbor4ii_rw.specs.Reader.{IsFront, IsEnough, Shows, Breaks};
+ghost use Rattle.cbor4ii_rw.specs.Long.{FillsLong, LendsNone};
 ghost use Rattle.cbor4ii_rw.specs.Reference.{bytes_of, IsLong};
 ghost use Rattle.cbor4ii_rw.specs.Slice.{slice_view};
 ghost use Rattle.std.proofs.Common.{rules};
 
 use crate::error::Never;
+use crate::long::FillLong;
 use crate::read::{Read, Reference, Source};
 use crate::steps;
 
@@ -110,5 +113,30 @@ impl<'de> Read<'de> for SliceReader<'de> {
     {
         let shown = want.min(self.bytes.len());
         Ok(Reference::Long(&self.bytes[..shown]))
+    }
+}
+
+/// It lends what it shows, always.
+impl<'de> FillLong for SliceReader<'de> {
+    type Long = &'de [u8];
+
+    ghost never_lends = { false };
+
+    fn fill_long(&mut self, want: usize) -> Result<Option<&'de [u8]>, Never>
+        ensures bounded { IfOk result (λ shown. IfSome shown
+            (λ long. length long.now ≤ (slice_view self.old).bound)) }
+        ensures fills { IfOk result (λ shown. IfSome shown (λ long.
+            FillsLong want long.now (slice_view self.old) (slice_view self.new))) }
+        ensures none { IfOk result (λ shown. IfNone shown
+            (LendsNone (slice_view self.old) (slice_view self.new))) }
+        ensures never { IsTrue false → IfOk result (λ shown. IfSome shown
+            (λ long. long.now ≡ [])) }
+        ensures failed { IfErr result
+            (λ _. Breaks (slice_view self.old) (slice_view self.new)) }
+        ensures wanted { IfOk result (λ shown. IsSome shown × IfSome shown
+            (λ long. length long.now ≤ want)) }
+    {
+        let shown = want.min(self.bytes.len());
+        Ok(Some(&self.bytes[..shown]))
     }
 }

@@ -1,0 +1,37 @@
+//! A reader that may lend parts of its input, told without a lifetime.
+ghost use Rattle.std.specs.Prelude.{◌≡◌, ◌≤◌, Bool, [], length, IsTrue};
+ghost use Rattle.std.specs.Prelude.{IfOk, IfErr, IfSome, IfNone};
+ghost use Rattle.cbor4ii_rw.specs.Long.{FillsLong, LendsNone};
+ghost use Rattle.cbor4ii_rw.specs.Reader.{Breaks};
+
+use crate::read::Source;
+use std::convert::AsSlice;
+
+/// A reader that may lend parts of its input, as `Read` is, which does not name their lifetime.
+///
+/// So what keeps no part of the input, and has to look at all that is left under the reader's
+/// steps, is generic over it where a lifetime cannot be named.
+pub trait FillLong: Source {
+    /// Bytes that live as long as the input.
+    type Long: AsSlice<u8> + Drop;
+
+    // It lends no byte, whatever it holds.
+    ghost never_lends: { Bool };
+
+    /// Shows a front as `Source::show` does, where it lives as long as the input, and takes
+    /// nothing. None where some bytes are left, and what is shown of them does not live so long.
+    ///
+    /// # Errors
+    ///
+    /// Why the reader failed; what is left then is told at `show`.
+    fn fill_long(&mut self, want: usize) -> Result<Option<Self::Long>, Self::Error>
+        ensures bounded { IfOk result (λ shown. IfSome shown
+            (λ long. length (Self.Long.items long) ≤ (Self.view self.old).bound)) }
+        ensures fills { IfOk result (λ shown. IfSome shown (λ long.
+            FillsLong want (Self.Long.items long) (Self.view self.old) (Self.view self.new))) }
+        ensures none { IfOk result (λ shown. IfNone shown
+            (LendsNone (Self.view self.old) (Self.view self.new))) }
+        ensures never { IsTrue never_lends → IfOk result (λ shown. IfSome shown
+            (λ long. Self.Long.items long ≡ [])) }
+        ensures failed { IfErr result (λ _. Breaks (Self.view self.old) (Self.view self.new)) };
+}
