@@ -831,12 +831,6 @@ read_inside-read_float-requires-clause-major g t c = omega (arith, c.in-7.is)
 pub read_inside-simple_of-requires : goal.read_inside-simple_of-requires
 read_inside-simple_of-requires g t c = tt
 
-pub counted_items-min-requires : goal.counted_items-min-requires
-counted_items-min-requires g t c = tt
-
-pub counted_members-min-requires : goal.counted_members-min-requires
-counted_members-min-requires g t c = tt
-
 pub counted_items-loop-i-smaller : goal.counted_items-loop-i-smaller
 counted_items-loop-i-smaller g t c = omega (arith, c.loop-i-test.true)
 
