@@ -26,3 +26,4 @@ pub mod AnyStopping
 pub mod ValuesBack
 pub mod FieldStops
 pub mod Filling
+pub mod Apart

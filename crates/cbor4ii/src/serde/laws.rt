@@ -18,6 +18,7 @@ ghost use Rattle.cbor4ii_rw.specs.View.{View};
 ghost use Rattle.cbor4ii_rw.specs.declared.error.DecodeError.{DecodeError};
 ghost use Rattle.cbor4ii_items.specs.Cow.{cow_text};
 ghost use Rattle.cbor4ii_items.specs.Decoding.{CostFits, Sound, Refuses};
+ghost use Rattle.cbor4ii_items.specs.NeverBoth.{NeverBoth};
 ghost use Rattle.cbor4ii_items.specs.Numbers.{IsWithin};
 ghost use Rattle.cbor4ii_items.specs.ReadBack.{greatest_cost, pair_cost};
 ghost use Rattle.cbor4ii_items.specs.Refusal.{refusal_of};
@@ -28,6 +29,7 @@ ghost use Rattle.cbor4ii_tree.specs.declared.value.Value.{Value as AnyValue};
 ghost use Rattle.cbor4ii_ser.specs.Item.{encoded};
 ghost use Rattle.cbor4ii.specs.AnyCost.{any_cost};
 ghost use Rattle.cbor4ii.specs.Fields.{ReadsFields, SameField, named_field, no_fields, no_values};
+ghost use Rattle.cbor4ii.specs.Optional.{ReadsPresence, StopsPresence};
 ghost use Rattle.cbor4ii.specs.ReadBack.{IsReadBack, BeginsOther, IsNullItem};
 ghost use Rattle.cbor4ii.specs.Typed.{Lawful, any_two};
 
@@ -172,4 +174,12 @@ pub fn what_is_written_is_read<T: Typed + Serialize, E>()
         (error : DecodeError E) → T.item v ≡ encoded bytes →
         IsReadBack T.reads (T.item v) v cost → CostFits cost old.budget →
         old.told ≡ Some (bytes ++ rest) → Refuses T.reads old error → refusal_of error ≡ None }
+{}
+
+/// A value that may be absent and is refused is not read, where its type is exact and so are its
+/// refusals. Of whether one comes the same holds.
+pub fn refused_options_are_not_read<T: Typed>()
+    ensures value { IsTrue T.exact → NeverBoth T.reads T.stops →
+        NeverBoth ⟦<Option<T> as Typed>⟧.reads ⟦<Option<T> as Typed>⟧.stops }
+    ensures presence { NeverBoth ReadsPresence StopsPresence }
 {}

@@ -30,7 +30,8 @@ pub fits_less : (budget : Option ℕ) (e d : ℕ) → e ≤ d → CostFits d bud
 fits_less None e d less fits = tt
 fits_less (Some left) e d less fits = omega (arith, less, fits)
 
-fits_after : (budget : Option ℕ) (d : ℕ) → CostFits (1 + d) budget → CostFits d (after_step budget)
+-- what fits under a step fits what is left behind it
+pub fits_after : (budget : Option ℕ) (d : ℕ) → CostFits (1 + d) budget → CostFits d (after_step budget)
 fits_after None d fits = tt
 fits_after (Some left) d fits = omega (arith, fits)
 
