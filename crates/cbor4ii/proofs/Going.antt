@@ -1,6 +1,6 @@
 -- What an accessor's next part is.
 use Rattle.std.proofs.Common.{◌≡◌, inl, inr, ℕ, zero, suc, List, drop, Option, Some, None, refl}
-use Rattle.std.proofs.Common.{subst, true, false}
+use Rattle.std.proofs.Common.{◌+◌, ◌≤◌, subst, true, false, arith}
 use Rattle.cbor4ii_rw.specs.View.{View}
 use Rattle.cbor4ii_rw.specs.declared.error.DecodeError.{DecodeError}
 use Rattle.cbor4ii_items.specs.Moves.{Kept}
@@ -11,7 +11,8 @@ use Rattle.cbor4ii_items.specs.Laws.Answering.{if_some, fits_zero, refuses_as}
 use Rattle.cbor4ii_items.specs.Laws.SequenceParts.{stops_as}
 use Rattle.cbor4ii.specs.declared.serde.de.accessor.Left.{Left}
 use Rattle.cbor4ii.specs.declared.serde.de.accessor.Left.TheVariants.{Counted, Open, Ended}
-use Rattle.cbor4ii.specs.Accessing.{Next, ReadsStart, StopsStart, StopsElement}
+use Rattle.cbor4ii.specs.Accessing.{Next, ReadsStart, StopsStart, StopsElement, LeftAfterStart}
+use Rattle.cbor4ii.specs.Accessing.{MayGoOn, fuel}
 use Rattle.cbor4ii.proofs.Stopped.{stopped_as}
 
 -- ---- whether a part comes
@@ -36,6 +37,18 @@ no_start xs budget none false n c r f = none true n c r f
 pub start_refuses : {E : Type 0} {a : View} {e : DecodeError E} → Refuses ReadsBreak a e
     → Refuses (ReadsStart Open) a e
 start_refuses s = refuses_as ReadsBreak (ReadsStart Open) no_start s
+
+-- where a part was begun, one could come
+pub may_go_on : (old new : Left) → LeftAfterStart old new true → MayGoOn old
+may_go_on (Counted k) new h = omega (arith, h.0)
+may_go_on Open new h = tt
+may_go_on Ended new h = h
+
+-- where a part was read, one could come
+pub may_have_gone_on : (old : Left) (bound rest : ℕ) → rest + 1 ≤ fuel old bound → MayGoOn old
+may_have_gone_on (Counted k) bound rest h = omega (arith, h)
+may_have_gone_on Open bound rest h = tt
+may_have_gone_on Ended bound rest h = omega (arith, h)
 
 -- ---- the part, or the end
 

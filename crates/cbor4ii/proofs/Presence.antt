@@ -14,7 +14,9 @@ use Rattle.cbor4ii_items.specs.Containers.{BeginsNull}
 use Rattle.cbor4ii_items.specs.Laws.Answering.{fits_zero, refuses_as}
 use Rattle.cbor4ii_items.specs.Laws.UnderStep.{no_step}
 use Rattle.cbor4ii_items.specs.Laws.Containers.{not_null}
+use Rattle.cbor4ii.specs.Accessing.{Closes}
 use Rattle.cbor4ii.specs.Optional.{ReadsPresence, StopsPresence, ReadsComing, ReadsComingValue}
+use Rattle.cbor4ii.specs.Optional.{steps_of_some}
 use Rattle.cbor4ii.proofs.Looking.{Saw, begins_null}
 use Rattle.cbor4ii.proofs.Stopped.{stopped_as}
 
@@ -111,6 +113,24 @@ pub value_refuses : {V E : Type 0} (reads : Reads V) {some : Bool} {a : View} {e
     → some ≡ true → Refuses reads a e → Refuses (ReadsComingValue some reads) a e
 value_refuses reads is s =
     rw is (refuses_as reads (ReadsComingValue true reads) (none_value reads) s)
+
+pub no_value_comes : {Q : Type 0} {some : Bool} → some ≡ true → some ≡ false → Q
+no_value_comes is none = let no : true ≡ false = sym is ∙ none in cc
+
+-- where no value comes no step is given back
+pub unmoved : {some : Bool} {a b : View} → some ≡ false → Closes (steps_of_some some) a b → b ≡ a
+unmoved {a = a} {b = b} none z =
+    let closes = subst (λ some. Closes (steps_of_some some) a b) none z in
+    λ i. record {
+      told = closes.others.told i;
+      bound = closes.others.bound i;
+      advanceable = closes.others.advanceable i;
+      budget = closes.budget i;
+      failures = closes.others.failures i;
+      taken = closes.others.taken i;
+      lends_whole = closes.others.lends_whole i;
+      remembers = closes.others.remembers i;
+    }
 
 -- the step is given back, and what was taken stays taken
 pub value_sound : {V : Type 0} (reads : Reads V) {some : Bool} {a b d : View} {v : V} → some ≡ true

@@ -81,6 +81,12 @@ ReadsStart Open xs more n c = ReadsBreak xs (not more) n c
 ReadsStart Ended xs true n c = ⊥
 ReadsStart Ended xs false n c = (n ≡ 0) × (c ≡ 0)
 
+-- a part may still come: some are counted, or the break was not taken yet
+abbrev pub MayGoOn : Left → Type 0
+MayGoOn (Counted k) = 1 ≤ k
+MayGoOn Open = Unit {0}
+MayGoOn Ended = ⊥
+
 -- how that is refused: no byte is left where a part or a break should come
 abbrev pub StopsStart : Left → StopsAt
 StopsStart (Counted k) xs budget refusal rest = ⊥

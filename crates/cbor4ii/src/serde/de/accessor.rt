@@ -15,7 +15,7 @@ ghost use Rattle.cbor4ii.specs.declared.serde.de.accessor.Left.TheVariants.{Coun
 ghost use Rattle.cbor4ii.specs.Accessing.{inside, deserializer_of, lender_of, left_in, steps_held};
 ghost use Rattle.cbor4ii.specs.Accessing.{with_deserializer, OpensParts, Closes, Next};
 ghost use Rattle.cbor4ii.specs.Accessing.{LeftAfterStart, ReadsStart, StopsStart, StopsElement};
-ghost use Rattle.cbor4ii.specs.Accessing.{left_then, left_tried, fuel, hint};
+ghost use Rattle.cbor4ii.specs.Accessing.{MayGoOn, left_then, left_tried, fuel, hint};
 ghost use Rattle.cbor4ii.specs.Stepped.{Stepped, StopsStepped};
 ghost use Rattle.cbor4ii.specs.Tuples.{ReadsCountOf, StopsCountOf};
 ghost use Rattle.cbor4ii.specs.Typed.{input, answer_of, as_core, said};
@@ -284,10 +284,10 @@ impl<'a, S: Source> Accessor<'a, S> {
     ///
     /// # Errors
     ///
-    /// Those of the item, with what they leave. An item that is counted was counted off before it
-    /// was read. At an indefinite length, `Core` of `Read` where the reader failed, and of `Eof` by
-    /// the name "break" with 1 where no byte is left; the length stays indefinite, whatever was
-    /// refused. The budget is as before.
+    /// No error comes at the end. Else those of the item, with what they leave. An item that is
+    /// counted was counted off before it was read. At an indefinite length, `Core` of `Read` where
+    /// the reader failed, and of `Eof` by the name "break" with 1 where no byte is left; the length
+    /// stays indefinite, whatever was refused. The budget is as before.
     pub fn next_element<T: Deserialize<S>>(
         &mut self,
         alloc: Global,
@@ -303,6 +303,7 @@ impl<'a, S: Source> Accessor<'a, S> {
         ensures left { IfOk result
             (λ part. left_in self.new ≡ left_then (left_in self.old) part) }
         ensures tried { OnErr result (left_in self.new ≡ left_tried (left_in self.old)) }
+        ensures asked { OnErr result (MayGoOn (left_in self.old)) }
         ensures complete { IsTrue T.exact → IsExact T.owned (inside S.view self.old) →
             IfErr result (λ error. Refuses (Next T.reads (left_in self.old))
             (inside S.view self.old) (as_core error)) }
@@ -341,6 +342,7 @@ impl<'a, S: Source> Accessor<'a, S> {
         ensures left { IfOk result
             (λ part. left_in self.new ≡ left_then (left_in self.old) part) }
         ensures tried { OnErr result (left_in self.new ≡ left_tried (left_in self.old)) }
+        ensures asked { OnErr result (MayGoOn (left_in self.old)) }
         ensures complete { IsTrue K.exact → IsExact K.owned (inside S.view self.old) →
             IfErr result (λ error. Refuses (Next K.reads (left_in self.old))
             (inside S.view self.old) (as_core error)) }
@@ -387,8 +389,9 @@ impl<'a, S: Source> Accessor<'a, S> {
     ///
     /// # Errors
     ///
-    /// Those of `next_key`, and of the value, with what they leave. Where entries are counted, this
-    /// one was counted off, and a key that was whole was taken. The budget is as before.
+    /// No error comes at the end. Else those of `next_key`, and of the value, with what they leave.
+    /// Where entries are counted, this one was counted off, and a key that was whole was taken. The
+    /// budget is as before.
     pub fn next_entry<K: Deserialize<S> + Drop, V: Deserialize<S>>(
         &mut self,
         alloc: Global,
@@ -404,6 +407,7 @@ impl<'a, S: Source> Accessor<'a, S> {
         ensures left { IfOk result
             (λ part. left_in self.new ≡ left_then (left_in self.old) part) }
         ensures tried { OnErr result (left_in self.new ≡ left_tried (left_in self.old)) }
+        ensures asked { OnErr result (MayGoOn (left_in self.old)) }
         ensures complete { IsTrue (K.exact && V.exact) →
             IsExact (K.owned && V.owned) (inside S.view self.old) → IfErr result (λ error.
             Refuses (Next (ReadsPair K.reads V.reads) (left_in self.old))

@@ -1,5 +1,6 @@
 //! Values that may be absent, of which first is read whether one comes.
-ghost use Rattle.std.specs.Prelude.{[], ◌≡◌, ◌≤◌, ◌+◌, false, IfOk, IfErr, IsTrue, OnErr, OnSome};
+ghost use Rattle.std.specs.Prelude.{[], ◌≡◌, ◌≤◌, ◌+◌, false, Ok, None, IfOk, IfErr, IsTrue};
+ghost use Rattle.std.specs.Prelude.{OnErr, OnSome};
 ghost use Rattle.std.specs.Borrow.{sem, Lends, RestsIfErr};
 ghost use mir.Syntax.{named};
 ghost use Rattle.cbor4ii_rw.specs.Reader.{Breaks};
@@ -107,9 +108,9 @@ impl<'a, S: Source> SomeAccessor<'a, S> {
         self.some
     }
 
-    /// The deserializer that the value is read from, where one comes, for a value that a free
-    /// function reads. Where none comes it stands behind the null or undefined, under no step: what
-    /// is read from it then is the next item.
+    /// The deserializer that the value is read from, for a value that a free function reads. Ask
+    /// `is_some` first. Where no value comes the null or undefined was taken, and no step is held:
+    /// what is read from it then is the item that follows, under a step more than a value has.
     pub fn deserializer(&mut self) -> &mut Deserializer<S>
         ensures* writes_back { sem 𝓛 (Lends (the_some (record { mir = named 0; lft = [] })
             S.row S.Error.row)
@@ -119,14 +120,17 @@ impl<'a, S: Source> SomeAccessor<'a, S> {
         self.de
     }
 
-    /// The value, or none where none comes. The step is given back, whatever the answer is.
+    /// The value, or none where none comes. The step is given back, whatever the answer is. Where
+    /// none comes, nothing moves.
     ///
     /// # Errors
     ///
-    /// Those of the value, with what they leave.
+    /// No error comes where no value does. Else those of the value, with what they leave.
     pub fn value<T: Deserialize<S>>(self, alloc: Global) -> Result<Option<T>, DecodeError<S::Error>>
         ensures finishes { Finishes (steps_of_some (comes self.entry))
             (inside_some S.view self.entry) (input S.view self.exit.0.now) (answer_of result) }
+        ensures absent { comes self.entry ≡ false → (result ≡ Ok None)
+            × (input S.view self.exit.0.now ≡ inside_some S.view self.entry) }
         ensures memory { IfErr result
             (λ error. IsTrue (is_out_of_memory (as_core error)) → IsTrue T.takes_memory) }
         ensures progress { IfOk result (λ value. OnSome value

@@ -1,7 +1,7 @@
 use Rattle.cbor4ii_items.specs.Laws.Answering.{exact_kept}
 use Rattle.cbor4ii_items.specs.Laws.Steps.{moves_then, moves_ok, moves_err}
 use Rattle.cbor4ii.proofs.Going.{next_end, next_part, next_no_start, next_no_part, none_stops}
-use Rattle.cbor4ii.proofs.Going.{part_stops}
+use Rattle.cbor4ii.proofs.Going.{part_stops, may_go_on}
 use Rattle.cbor4ii.proofs.Beginnings.{said_left}
 use Rattle.cbor4ii.proofs.serde.de.accessor.Accessor.next_element.Goals as goal
 
@@ -138,3 +138,16 @@ returns-in-Err-clause-still g c not = tt
 
 pub returns-in-Err-clause-shrinks : goal.returns-in-Err-clause-shrinks
 returns-in-Err-clause-shrinks g c = tt
+
+pub returns-in-Ok-clause-asked : goal.returns-in-Ok-clause-asked
+returns-in-Ok-clause-asked g c = tt
+
+pub returns-in-Err-deserialize-clause-asked : goal.returns-in-Err-deserialize-clause-asked
+returns-in-Err-deserialize-clause-asked g c =
+    may_go_on _ _ (rw c.in-Ok-true.field-0-test at c.in-Ok-true.ensures.answer)
+
+pub returns-in-Ok-false-clause-asked : goal.returns-in-Ok-false-clause-asked
+returns-in-Ok-false-clause-asked g c = tt
+
+pub returns-in-Err-clause-asked : goal.returns-in-Err-clause-asked
+returns-in-Err-clause-asked g c = rw c.in-Err.ensures.asked tt

@@ -5,6 +5,7 @@ use Rattle.cbor4ii_items.specs.Laws.Pairs.{exact_both}
 use Rattle.cbor4ii.proofs.Entries.{entry_sound, entry_none, entry_no_key, entry_no_value}
 use Rattle.cbor4ii.proofs.Entries.{entry_key_stops, entry_value_stops}
 use Rattle.cbor4ii.proofs.Beginnings.{said_left}
+use Rattle.cbor4ii.proofs.Going.{may_have_gone_on}
 use Rattle.cbor4ii.proofs.serde.de.accessor.Accessor.next_entry.Goals as goal
 
 pub returns-in-Ok-clause-moves : goal.returns-in-Ok-clause-moves
@@ -139,3 +140,16 @@ returns-in-Err-clause-still g c not = tt
 
 pub returns-in-Err-clause-shrinks : goal.returns-in-Err-clause-shrinks
 returns-in-Err-clause-shrinks g c = tt
+
+pub returns-in-Ok-clause-asked : goal.returns-in-Ok-clause-asked
+returns-in-Ok-clause-asked g c = tt
+
+pub returns-in-Err-deserialize-clause-asked : goal.returns-in-Err-deserialize-clause-asked
+returns-in-Err-deserialize-clause-asked g c =
+    may_have_gone_on _ _ _ (rw c.in-Ok-Some.field-0-is at c.in-Ok-Some.ensures.shrinks)
+
+pub returns-in-Ok-None-clause-asked : goal.returns-in-Ok-None-clause-asked
+returns-in-Ok-None-clause-asked g c = tt
+
+pub returns-in-Err-clause-asked : goal.returns-in-Err-clause-asked
+returns-in-Err-clause-asked g c = c.in-Err.ensures.asked

@@ -1,4 +1,5 @@
-use Rattle.cbor4ii.proofs.Presence.{value_sound, value_refuses}
+use Rattle.std.proofs.Common.{refl}
+use Rattle.cbor4ii.proofs.Presence.{value_sound, value_refuses, no_value_comes, unmoved}
 use Rattle.cbor4ii.proofs.Stopped.{stopped_behind}
 use Rattle.cbor4ii.proofs.serde.de.some_accessor.SomeAccessor.value.Goals as goal
 
@@ -47,3 +48,12 @@ returns-then-not-self-clause-complete g c said exact = tt
 
 pub returns-then-not-self-clause-stops : goal.returns-then-not-self-clause-stops
 returns-then-not-self-clause-stops g c said = tt
+
+pub returns-then-not-self-clause-absent : goal.returns-then-not-self-clause-absent
+returns-then-not-self-clause-absent g c none = (refl, unmoved none c.drop-self.ensures)
+
+pub returns-in-Ok-clause-absent : goal.returns-in-Ok-clause-absent
+returns-in-Ok-clause-absent g c none = no_value_comes c.if-not-self.false none
+
+pub returns-clause-absent : goal.returns-clause-absent
+returns-clause-absent g c none = no_value_comes c.if-not-self.false none
