@@ -16,8 +16,13 @@ use std::io;
 ///
 /// # Errors
 ///
-/// `buf` is dropped. Where the value has an item, `Core` and only where there is no memory for it.
-/// Where it has none, `Custom`, or `Core` where memory was wanted before that was seen.
+/// `buf` is dropped. `Custom` only where the value has no item, in the words that its type gives for
+/// that; else `Core`, of which nothing more is said here.
+///
+/// To keep `buf`, call the value's `serialize` on `Serializer::new(BufWriter::new(buf))`, and then
+/// `into_inner().into_inner()`, whatever the answer is. Its contract says that `Core` comes only
+/// where a push failed, and what was appended: after `Ok` the item, after `Custom` exactly what
+/// stands before the place at which the value is refused, and after `Core` a beginning of that.
 pub fn to_vec<T: Serialize>(
     buf: Vec<u8>,
     value: &T,
@@ -35,9 +40,15 @@ pub fn to_vec<T: Serialize>(
 ///
 /// # Errors
 ///
-/// `writer` is dropped, and what the stream holds then is not said. Where the value has an item,
-/// `Core` and only where the stream failed. Where it has none, `Custom`, or `Core` where the
-/// stream failed before that was seen.
+/// `writer` is dropped, and what the stream holds then is not said. `Custom` only where the value
+/// has no item, in the words that its type gives for that; else `Core`, of which nothing more is
+/// said here.
+///
+/// To keep the stream, call the value's `serialize` on `Serializer::new(IoWriter::new(writer))`, and
+/// then `into_inner().into_inner()`, whatever the answer is. Its contract says that `Core` comes
+/// only where a push failed, and what was appended: after `Ok` the item, and after `Custom` exactly
+/// what stands before the place at which the value is refused. After `Core` it says nothing of the
+/// stream.
 pub fn to_writer<W: io::Write + Drop, T: Serialize>(
     writer: W,
     value: &T,

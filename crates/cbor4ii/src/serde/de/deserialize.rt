@@ -11,30 +11,35 @@ use cbor4ii_rw::read::Source;
 use std::alloc::Global;
 
 /// A type whose values are read. What stands here is the same for every reader, so that a value
-/// means the same over all of them.
+/// means the same over all of them. Its ghosts are what the type promises, and no code runs for
+/// them. A type that promises nothing of the bytes takes `unsaid` for `reads`, `unsaid_stops` for
+/// `stops`, `any_two` for `same`, true for `owned` and `takes_memory`, false for `exact` and
+/// `not_exact` for `laws`.
 pub trait Typed: Sized {
     // What is read: the bytes to come, the value, how many of them it takes, and the steps that
-    // it costs.
+    // it costs (so many steps have to be left in the budget).
     ghost reads: { Reads Self };
 
-    // The two values mean the same.
+    // The two values mean the same: one input is read as no other value than such.
     ghost same: { Self → Self → Type 0 };
 
-    // How bytes are refused: the bytes to come, the budget, the refusal, and the bytes that are
-    // left then. A type that is not exact owes nothing of it.
+    // How bytes are refused: the bytes to come, the budget, the refusal with its fields, and the
+    // bytes that are left then. A type that is not exact owes nothing of it.
     ghost stops: { StopsAt };
 
-    // A value needs no borrowed part of the input.
+    // A value needs no borrowed part of the input, so it is read over every reader. Where this is
+    // false, `exact` holds only over a reader that lends whole, of fewer than 2^64 bytes.
     ghost owned: { Bool };
 
-    // Reading may take memory.
+    // Reading may take memory. Where this is false, no refusal is `OutOfMemory`.
     ghost takes_memory: { Bool };
 
-    // `reads` says exactly what is accepted. A type that switches this off says nothing of what it
-    // refuses, and owes no law.
+    // `reads` says exactly what is accepted, and `stops` how all else is refused. A type that
+    // switches this off says nothing of what it refuses, and owes no law.
     ghost exact: { Bool };
 
-    // One input is read in one way, and what is read stands in the input and takes a byte.
+    // Of an exact type: one input is read in one way, what is read stands in the input, and it
+    // takes a byte.
     ghost laws: { IsTrue exact → Lawful Self.reads Self.same true };
 }
 

@@ -270,7 +270,7 @@ fn open_fields<S: Source, V: Values<S>>(
 /// of the field for its value, and those of `IgnoredAny` for what is skipped. What was read before
 /// is let go then, and what stands behind it is left.
 impl<S: Source> Deserializer<S> {
-    /// A struct of one field.
+    /// A struct of one field. Of several entries of one name the last counts.
     pub fn deserialize_1_field<A: Deserialize<S> + Drop>(
         &mut self,
         alloc: Global,
@@ -303,7 +303,7 @@ impl<S: Source> Deserializer<S> {
         }
     }
 
-    /// A struct of two fields.
+    /// A struct of two fields. Of several entries of one name the last counts.
     pub fn deserialize_2_fields<A: Deserialize<S> + Drop, B: Deserialize<S> + Drop>(
         &mut self,
         alloc: Global,
@@ -340,7 +340,7 @@ impl<S: Source> Deserializer<S> {
         }
     }
 
-    /// A struct of three fields.
+    /// A struct of three fields. Of several entries of one name the last counts.
     pub fn deserialize_3_fields<
         A: Deserialize<S> + Drop,
         B: Deserialize<S> + Drop,
@@ -392,7 +392,7 @@ impl<S: Source> Deserializer<S> {
         }
     }
 
-    /// A struct of four fields.
+    /// A struct of four fields. Of several entries of one name the last counts.
     pub fn deserialize_4_fields<
         A: Deserialize<S> + Drop,
         B: Deserialize<S> + Drop,
@@ -449,7 +449,7 @@ impl<S: Source> Deserializer<S> {
         }
     }
 
-    /// A struct of five fields.
+    /// A struct of five fields. Of several entries of one name the last counts.
     pub fn deserialize_5_fields<
         A: Deserialize<S> + Drop,
         B: Deserialize<S> + Drop,
@@ -515,7 +515,7 @@ impl<S: Source> Deserializer<S> {
         }
     }
 
-    /// A struct of six fields.
+    /// A struct of six fields. Of several entries of one name the last counts.
     pub fn deserialize_6_fields<
         A: Deserialize<S> + Drop,
         B: Deserialize<S> + Drop,
