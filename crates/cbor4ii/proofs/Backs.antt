@@ -71,7 +71,7 @@ behind_back count reads bytes v cost h back rest =
       refl,
     )
 
-two_back : {A B : Type 0} (first : Reads A) (second : Reads B) (xs ys : List ℕ) (p : A × B)
+pub two_back : {A B : Type 0} (first : Reads A) (second : Reads B) (xs ys : List ℕ) (p : A × B)
     (c d : ℕ) → ReadsBack first xs p.0 c → ReadsBack second ys p.1 d
     → ReadsBack (ReadsPair first second) (xs ++ ys) p (max c d)
 two_back first second xs ys p c d h k =
@@ -112,51 +112,42 @@ triple_read_back first second third (encoded xs) (encoded ys) (encoded zs) p i j
 
 -- ---- sequences
 
-module _ {P : Type 0} (reads : Reads P) (item : P → Encoding) (cost : P → ℕ) where
-  more_back : (p : P) (ps : List P) (xs ys : List ℕ) → ReadsBack reads xs p (cost p)
-      → ReadsBack (ReadsParts reads) ys ps (greatest_cost cost ps)
-      → ReadsBack (ReadsParts reads) (xs ++ ys) (p ∷ ps) (greatest_cost cost (p ∷ ps))
-  more_back p ps xs ys h k rest =
+module _ {P : Type 0} (reads : Reads P) where
+  more_back : (p : P) (ps : List P) (xs ys : List ℕ) (c d : ℕ) → ReadsBack reads xs p c
+      → ReadsBack (ReadsParts reads) ys ps d
+      → ReadsBack (ReadsParts reads) (xs ++ ys) (p ∷ ps) (max c d)
+  more_back p ps xs ys c d h k rest =
       let b = behind xs ys rest in (
         length xs,
-        cost p,
+        c,
         length ys,
-        greatest_cost cost ps,
-        subst (λ zs. reads zs p (length xs) (cost p)) (sym b.whole) (h (ys ++ rest)),
-        subst (λ zs. ReadsParts reads zs ps (length ys) (greatest_cost cost ps)) (sym b.left)
-            (k rest),
+        d,
+        subst (λ zs. reads zs p (length xs) c) (sym b.whole) (h (ys ++ rest)),
+        subst (λ zs. ReadsParts reads zs ps (length ys) d) (sym b.left) (k rest),
         length-append xs ys,
         refl,
       )
 
-  joined_back : (o q : Encoding) (p : P) (ps : List P) → IsReadBack reads o p (cost p)
-      → IsReadBack (ReadsParts reads) q ps (greatest_cost cost ps)
-      → IsReadBack (ReadsParts reads) (followed o q) (p ∷ ps) (greatest_cost cost (p ∷ ps))
+  pub joined_back : (o q : Encoding) (p : P) (ps : List P) (c d : ℕ) → IsReadBack reads o p c
+      → IsReadBack (ReadsParts reads) q ps d
+      → IsReadBack (ReadsParts reads) (followed o q) (p ∷ ps) (max c d)
   unfolding followed
-  joined_back (refused xs words) q p ps h k = tt
-  joined_back (encoded xs) (refused ys words) p ps h k = tt
-  joined_back (encoded xs) (encoded ys) p ps h k = more_back p ps xs ys h k
+  joined_back (refused xs words) q p ps c d h k = tt
+  joined_back (encoded xs) (refused ys words) p ps c d h k = tt
+  joined_back (encoded xs) (encoded ys) p ps c d h k = more_back p ps xs ys c d h k
 
-  items_back : (ps : List P) → All (λ p. IsReadBack reads (item p) p (cost p)) ps
-      → IsReadBack (ReadsParts reads) (each_item item ps) ps (greatest_cost cost ps)
-  items_back [] h = λ rest. (refl, refl)
-  items_back (p ∷ ps) h =
-      let Q : P → Type 0 = λ q. IsReadBack reads (item q) q (cost q) in
-      joined_back (item p) (each_item item ps) p ps (All-head Q p ps h)
-      (items_back ps (All-tail Q p ps h))
-
-  counted_back : (major : ℕ) (never_empty : Bool) (ps : List P) (o : Encoding) → length ps < 2 ^ 64
-      → IsReadBack (ReadsParts reads) o ps (greatest_cost cost ps)
+  pub counted_back : (major : ℕ) (never_empty : Bool) (ps : List P) (o : Encoding) (cost : ℕ)
+      → length ps < 2 ^ 64 → IsReadBack (ReadsParts reads) o ps cost
       → IsReadBack (ReadsSequence major reads never_empty)
-      (followed (encoded (shortest_head major (length ps))) o) ps (1 + greatest_cost cost ps)
+      (followed (encoded (shortest_head major (length ps))) o) ps (1 + cost)
   unfolding followed
-  counted_back major never_empty ps (refused bytes words) small h = tt
-  counted_back major never_empty ps (encoded bytes) small h = λ rest. (
+  counted_back major never_empty ps (refused bytes words) cost small h = tt
+  counted_back major never_empty ps (encoded bytes) cost small h = λ rest. (
       let start = shortest_head major (length ps) in
-      let parts = subst (λ zs. ReadsParts reads zs ps (length bytes) (greatest_cost cost ps))
+      let parts = subst (λ zs. ReadsParts reads zs ps (length bytes) cost)
       (sym (behind start bytes rest).left) (h rest) in
       let counted : ReadsCountedParts major reads ((start ++ bytes) ++ rest) ps
-      (length (start ++ bytes)) (greatest_cost cost ps) =
+      (length (start ++ bytes)) cost =
       record {
         before = length start;
         head = headed major (length ps) bytes rest small;
@@ -164,7 +155,16 @@ module _ {P : Type 0} (reads : Reads P) (item : P → Encoding) (cost : P → �
         parts = parts;
         size = length-append start bytes;
       } in
-      (greatest_cost cost ps, inl counted, refl))
+      (cost, inl counted, refl))
+
+module _ {P : Type 0} (reads : Reads P) (item : P → Encoding) (cost : P → ℕ) where
+  items_back : (ps : List P) → All (λ p. IsReadBack reads (item p) p (cost p)) ps
+      → IsReadBack (ReadsParts reads) (each_item item ps) ps (greatest_cost cost ps)
+  items_back [] h = λ rest. (refl, refl)
+  items_back (p ∷ ps) h =
+      let Q : P → Type 0 = λ q. IsReadBack reads (item q) q (cost q) in
+      joined_back reads (item p) (each_item item ps) p ps (cost p) (greatest_cost cost ps)
+      (All-head Q p ps h) (items_back ps (All-tail Q p ps h))
 
   pub sequence_read_back : (major : ℕ) (never_empty : Bool) (ps : List P) → length ps < 2 ^ 64
       → All (λ p. IsReadBack reads (item p) p (cost p)) ps
@@ -172,11 +172,12 @@ module _ {P : Type 0} (reads : Reads P) (item : P → Encoding) (cost : P → �
       (followed (encoded (shortest_head major (length ps))) (each_item item ps)) ps
       (1 + greatest_cost cost ps)
   sequence_read_back major never_empty ps small h =
-      counted_back major never_empty ps (each_item item ps) small (items_back ps h)
+      counted_back reads major never_empty ps (each_item item ps) (greatest_cost cost ps) small
+      (items_back ps h)
 
 -- ---- maps
 
-entry_back : {K V : Type 0} (first : Reads K) (second : Reads V) (a b : Encoding) (p : K × V)
+pub entry_back : {K V : Type 0} (first : Reads K) (second : Reads V) (a b : Encoding) (p : K × V)
     (c d : ℕ) → IsReadBack first a p.0 c → IsReadBack second b p.1 d
     → IsReadBack (ReadsPair first second) (followed a b) p (max c d)
 unfolding followed

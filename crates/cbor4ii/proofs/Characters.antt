@@ -59,17 +59,17 @@ char_sound is s = record {
   });
 }
 
--- the text of one character
-abbrev text_of : Global → (c : ℕ) → IsUtf8 (encode_utf8 c) → String Global
-text_of alloc c utf8 = record {
+-- the text of these bytes
+abbrev pub text_of : Global → (text : List ℕ) → IsUtf8 text → length text < 2 ^ 63 → String Global
+text_of alloc text utf8 few = record {
   bytes = record {
     ptr = null_ptr;
-    len = length (encode_utf8 c);
-    cap = length (encode_utf8 c);
+    len = length text;
+    cap = length text;
     alloc = alloc;
-    items = encode_utf8 c;
+    items = text;
     ok = (refl, omega arith);
-    small = few_bytes c;
+    small = few;
   };
   ok = ∣ utf8 ∣₁;
 }
@@ -78,7 +78,8 @@ pub char_refuses : {E : Type 0} {a : View} {e : DecodeError E} → Global
     → Refuses (ReadsTextAs text_content) a e → Refuses ReadsChar a e
 char_refuses alloc s =
     refuses_as (ReadsTextAs text_content) ReadsChar
-    (λ xs budget none c n k r fits. none (text_of alloc c r.1) n k r fits) s
+    (λ xs budget none c n k r fits. none (text_of alloc (encode_utf8 c) r.1 (few_bytes c)) n k r
+    fits) s
 
 pub char_stops : {E : Type 0} {a b : View} {e : DecodeError E}
     → Stops (StopsText (codes "str")) a b e → Stops StopsChar a b e

@@ -19,6 +19,9 @@ pub mod Unlending
 pub mod Characters
 pub mod Unwrapping
 pub mod Backs
+pub mod FieldsBack
+pub mod VariantsBack
+pub mod VariantsRead
 pub mod Beginnings
 pub mod PartStops
 pub mod AnyForms

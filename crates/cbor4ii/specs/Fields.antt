@@ -131,6 +131,12 @@ abbrev pub stops_by : StopsAt → (List (Bor (List ℕ)) → StopsNamed) → Lis
 stops_by stops others [] = no_field_stops
 stops_by stops others (own ∷ behind) = field_stops own.now stops (others behind)
 
+-- the same by names alone
+abbrev pub fields_named : {T V : Type 0} → Reads T → (List (List ℕ) → ReadsNamed V)
+    → List (List ℕ) → ReadsNamed (Option T × V)
+fields_named reads others [] = no_field
+fields_named reads others (own ∷ behind) = named_field own reads (others behind)
+
 -- ---- laws
 
 -- of values that mean the same both changes make values that do

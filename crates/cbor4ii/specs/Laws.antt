@@ -2,3 +2,5 @@
 -- crates above cite.
 pub mod Accessors
 pub mod Any
+pub mod FieldsBack
+pub mod Variants

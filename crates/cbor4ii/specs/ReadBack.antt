@@ -1,8 +1,11 @@
 -- What is written of a typed value is read back.
-use Rattle.std.specs.Prelude.{◌≡◌, ◌≢◌, ◌⊎◌, ℕ, List, [], ◌∷◌}
+use Rattle.std.specs.Prelude.{◌≡◌, ◌≢◌, ◌⊎◌, ℕ, ◌<◌, ◌^◌, List, [], ◌∷◌, length, max, Option}
+use Rattle.std.specs.Prelude.{Some, IsUtf8}
+use Rattle.std.specs.List.{AllByRecursion}
 use Rattle.cbor4ii_items.specs.Decoding.{Reads}
 use Rattle.cbor4ii_items.specs.ReadBack.{ReadsBack}
-use Rattle.cbor4ii_ser.specs.Item.{Encoding, encoded, IfEncoded}
+use Rattle.cbor4ii_ser.specs.Item.{Encoding, encoded, IfEncoded, field}
+use Rattle.cbor4ii.specs.Fields.{ReadsNamed, changed}
 
 -- the item, where there is one, is read as the value at this cost, whatever follows it
 abbrev pub IsReadBack : {V : Type 0} → Reads V → Encoding → V → ℕ → Type 0
@@ -16,3 +19,52 @@ BeginsOther item =
 -- the item is null or undefined (RFC 8949 section 3.3)
 abbrev pub IsNullItem : Encoding → Type 0
 IsNullItem item = (item ≡ encoded (0xf6 ∷ [])) ⊎ (item ≡ encoded (0xf7 ∷ []))
+
+-- ---- structs
+
+-- a name, as every text of the program is
+abbrev pub IsName : List ℕ → Type 0
+IsName name = IsUtf8 name × (length name < 2 ^ 63)
+
+-- names, each with the item of its value
+abbrev pub NamedItems : Type 0
+NamedItems = List (List ℕ × Encoding)
+
+abbrev pub names_of : NamedItems → List (List ℕ)
+names_of [] = []
+names_of (part ∷ parts) = part.0 ∷ names_of parts
+
+-- the fields of these names and items, in order
+abbrev pub fields_of : NamedItems → List Encoding
+fields_of [] = []
+fields_of (part ∷ parts) = field part.0 part.1 ∷ fields_of parts
+
+-- each item is read back behind its name as its change, at the greatest cost of one
+abbrev pub ChangesBack : {V : Type 0} → ReadsNamed V → NamedItems → List (V → V) → ℕ → Type 0
+ChangesBack named [] [] cost = cost ≡ 0
+ChangesBack named [] (change ∷ changes) cost = ⊥
+ChangesBack named (part ∷ parts) [] cost = ⊥
+ChangesBack named (part ∷ parts) (change ∷ changes) cost =
+    (own : ℕ) × (others : ℕ) × IsName part.0 × IsReadBack (named part.0) part.1 change own
+    × ChangesBack named parts changes others × (cost ≡ max own others)
+
+-- the items are read back behind their names, one behind another, and make these values of the
+-- first ones
+pub record FieldsBack {V : Type 0} (named : ReadsNamed V) (first values : V) (parts : NamedItems)
+    (cost : ℕ) : Type 0 where
+  pub changes : List (V → V)
+  pub each : ChangesBack named parts changes cost
+  pub made : values ≡ changed first changes
+
+-- Values of fields, with the names and items of those fields: each value is there, each item is its
+-- value's and is read back, and no two names are the same. The cost is the greatest of one.
+abbrev pub NoField : Unit {0} → NamedItems → ℕ → Type 0
+NoField values parts cost = (parts ≡ []) × (cost ≡ 0)
+
+abbrev pub FieldBefore : {T V : Type 0} → Reads T → (T → Encoding) → (V → NamedItems → ℕ → Type 0)
+    → Option T × V → NamedItems → ℕ → Type 0
+FieldBefore reads item others values [] cost = ⊥
+FieldBefore {T} reads item others values (part ∷ parts) cost =
+    (v : T) × (own : ℕ) × (rest : ℕ) × (values.0 ≡ Some v) × (part.1 ≡ item v) × IsName part.0
+    × AllByRecursion (λ (other : List ℕ × Encoding). other.0 ≢ part.0) parts
+    × IsReadBack reads (item v) v own × others values.1 parts rest × (cost ≡ max own rest)

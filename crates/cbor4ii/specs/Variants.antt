@@ -1,6 +1,6 @@
 -- Variants: a name alone, or a map of one entry, from the name to the content.
-use Rattle.std.specs.Prelude.{◌≡◌, ◌≢◌, ℕ, ◌/◌, Bool, true, false, [], ◌∷◌, take, Some, Result}
-use Rattle.std.specs.Prelude.{IsErrAnd, codes}
+use Rattle.std.specs.Prelude.{◌≡◌, ◌≢◌, ◌⊎◌, ℕ, ◌+◌, ◌/◌, Bool, true, false, List, [], ◌∷◌, take}
+use Rattle.std.specs.Prelude.{drop, Some, Result, IsErrAnd, codes}
 use Rattle.std.specs.Borrow.{MutBor}
 use Rattle.cbor4ii_rw.specs.View.{View}
 use Rattle.cbor4ii_rw.specs.Reader.{StepsIn, KeepsAllButBudget}
@@ -9,8 +9,11 @@ use Rattle.cbor4ii_rw.specs.declared.error.Len.TheVariants.{Small}
 use Rattle.cbor4ii_items.specs.Moves.{Kept}
 use Rattle.cbor4ii_items.specs.Decoding.{Reads, StopsAt, Sound}
 use Rattle.cbor4ii_items.specs.Refusal.{refusal_of, eof, mismatch}
+use Rattle.cbor4ii_items.specs.Sequences.{ReadsPair}
+use Rattle.cbor4ii_items.specs.Strings.{ReadsText}
 use Rattle.cbor4ii.specs.declared.serde.de.deserializer.Deserializer.{Deserializer}
 use Rattle.cbor4ii.specs.declared.serde.de.enum_accessor.EnumAccessor.{EnumAccessor}
+use Rattle.cbor4ii.specs.Stepped.{Stepped}
 
 -- what the reader under an accessor tells
 abbrev pub inside_enum : {S E : Type 0} → (S → View) → EnumAccessor S E → View
@@ -74,3 +77,22 @@ StopsContent form stops xs budget refusal rest = elim form.0 [
   | true ↦ stops xs budget refusal rest
   | false ↦ (refusal ≡ mismatch (codes "enum") form.1) × (rest ≡ xs)
 ]
+
+-- ---- a whole variant, by which values each name alone stands for, and how the content behind
+-- each name is read
+
+-- a variant without content: a text, which is its name (RFC 8949 section 3.1)
+abbrev pub ReadsUnitVariant : {V : Type 0} → (List ℕ → V → Type 0) → Reads V
+ReadsUnitVariant units xs v n c = (name : List ℕ) × ReadsText xs name n c × units name v
+
+-- another variant: the head of a map of one entry, its name as a text, and its content
+abbrev pub ReadsEntryVariant : {V : Type 0} → (List ℕ → Reads V) → Reads V
+ReadsEntryVariant contents xs v n c =
+    (take 1 xs ≡ 0xa1 ∷ []) × (name : List ℕ) × (k : ℕ)
+    × ReadsPair ReadsText (contents name) (drop 1 xs) (name, v) k c × (n ≡ 1 + k)
+
+-- A variant, under one step: without content at the cost of its name, and else at the greater cost
+-- of its name and its content.
+abbrev pub ReadsVariant : {V : Type 0} → (List ℕ → V → Type 0) → (List ℕ → Reads V) → Reads V
+ReadsVariant units contents =
+    Stepped (λ xs v n c. ReadsUnitVariant units xs v n c ⊎ ReadsEntryVariant contents xs v n c)

@@ -1,7 +1,7 @@
 //! Laws of what is written and read, each the contract of a function that does nothing. An item is
 //! the one that `Serialize` writes, where it writes one.
 ghost use Rattle.std.specs.Prelude.{◌≡◌, ◌+◌, ◌<◌, ◌≤◌, ◌^◌, ◌++◌, ℕ, ℤ, List, Bool, true, Some};
-ghost use Rattle.std.specs.Prelude.{None, All, length, max, IsTrue, IsUtf8};
+ghost use Rattle.std.specs.Prelude.{None, All, length, max, false, IsTrue, IsUtf8};
 ghost use Rattle.std.specs.Borrow.{Bor};
 ghost use Rattle.std.specs.BTreeMap.{IsOrdered};
 ghost use Rattle.std.specs.Char.{IsScalar};
@@ -14,24 +14,31 @@ ghost use Rattle.cbor4ii_items.specs.declared.types.Bytes.{Bytes};
 ghost use Rattle.cbor4ii_items.specs.declared.types.F16.{F16};
 ghost use Rattle.cbor4ii_items.specs.declared.types.F32.{F32};
 ghost use Rattle.cbor4ii_items.specs.declared.types.F64.{F64};
+ghost use Rattle.cbor4ii_rw.specs.Reader.{KeepsAllButBudget};
 ghost use Rattle.cbor4ii_rw.specs.View.{View};
 ghost use Rattle.cbor4ii_rw.specs.declared.error.DecodeError.{DecodeError};
 ghost use Rattle.cbor4ii_items.specs.Cow.{cow_text};
-ghost use Rattle.cbor4ii_items.specs.Decoding.{CostFits, Sound, Refuses};
+ghost use Rattle.cbor4ii_items.specs.Decoding.{Reads, CostFits, Sound, Refuses};
 ghost use Rattle.cbor4ii_items.specs.NeverBoth.{NeverBoth};
 ghost use Rattle.cbor4ii_items.specs.Numbers.{IsWithin};
 ghost use Rattle.cbor4ii_items.specs.ReadBack.{greatest_cost, pair_cost};
 ghost use Rattle.cbor4ii_items.specs.Refusal.{refusal_of};
+ghost use Rattle.cbor4ii_items.specs.Moves.{Kept};
+ghost use Rattle.cbor4ii_items.specs.Strings.{counted_string, ReadsTextAs};
 ghost use Rattle.cbor4ii_tree.specs.Canonical.{canon_cost};
 ghost use Rattle.cbor4ii_tree.specs.Item.{Item, IsItem};
 ghost use Rattle.cbor4ii_tree.specs.View.{view};
 ghost use Rattle.cbor4ii_tree.specs.declared.value.Value.{Value as AnyValue};
-ghost use Rattle.cbor4ii_ser.specs.Item.{encoded};
+ghost use Rattle.cbor4ii_ser.specs.Item.{Encoding, encoded, struct_item, variant_item};
 ghost use Rattle.cbor4ii.specs.AnyCost.{any_cost};
-ghost use Rattle.cbor4ii.specs.Fields.{ReadsFields, SameField, named_field, no_fields, no_values};
+ghost use Rattle.cbor4ii.specs.Fields.{ReadsNamed, ReadsFields, SameField, named_field, no_fields};
+ghost use Rattle.cbor4ii.specs.Fields.{no_values, fields_named};
+ghost use Rattle.cbor4ii.specs.Laws.FieldsBack.{none_back, before_back};
 ghost use Rattle.cbor4ii.specs.Optional.{ReadsPresence, StopsPresence};
-ghost use Rattle.cbor4ii.specs.ReadBack.{IsReadBack, BeginsOther, IsNullItem};
+ghost use Rattle.cbor4ii.specs.ReadBack.{IsReadBack, BeginsOther, IsNullItem, NamedItems, names_of};
+ghost use Rattle.cbor4ii.specs.ReadBack.{fields_of, FieldsBack, NoField, FieldBefore, IsName};
 ghost use Rattle.cbor4ii.specs.Typed.{Lawful, any_two};
+ghost use Rattle.cbor4ii.specs.Variants.{OpensEnum, ReadsContent, ReadsVariant};
 
 use crate::serde::de::deserialize::Typed;
 use cbor4ii_items::types::{Bytes, F16, F32, F64};
@@ -152,6 +159,57 @@ pub fn values_are_read_back()
     ensures cost { (v : Item) → any_cost v ≤ canon_cost v }
 {}
 
+/// The values of a struct's fields, as `deserialize_1_field` to `_6_fields` hold them while they
+/// read: a value that may be absent, and those of the other fields behind it. It has no call; by it
+/// `structs_are_read_back` speaks of any number of fields.
+pub trait FieldValues: Sized {
+    // what stands behind a name, where the fields have these names
+    ghost named: { List (List ℕ) → ReadsNamed Self };
+
+    // the values before any field was read
+    ghost none: { Self };
+
+    // each value is there, and its item, which is the one beside its name, is read back; no two
+    // names are the same, and the number is the greatest cost of a value
+    ghost stand: { Self → NamedItems → ℕ → Type 0 };
+
+    ghost back: { (values : Self) (parts : NamedItems) (cost : ℕ) →
+        Self.stand values parts cost →
+        FieldsBack (Self.named (names_of parts)) Self.none values parts cost };
+}
+
+/// No field.
+impl FieldValues for () {
+    ghost named = { λ names. no_fields };
+
+    ghost none = { no_values };
+
+    ghost stand = { NoField };
+
+    ghost back = { none_back };
+}
+
+/// A field, and those behind it.
+impl<T: Typed + Serialize, V: FieldValues> FieldValues for (Option<T>, V) {
+    ghost named = { fields_named T.reads V.named };
+
+    ghost none = { (None, V.none) };
+
+    ghost stand = { FieldBefore T.reads T.item V.stand };
+
+    ghost back = { before_back T.reads T.item V.named V.none V.stand V.back };
+}
+
+/// A struct is read from its own item, that of `serialize_1_field` to `_6_fields`, wherever each
+/// field is, whatever follows it: at one step and the greatest cost of a field. It may have any
+/// number of fields. A name is read as a `String`, which stands in memory of some `alloc`.
+pub fn structs_are_read_back<V: FieldValues>()
+    ensures { (alloc : Global) (values : V) (parts : NamedItems) (cost : ℕ) →
+        length parts < 2 ^ 64 → V.stand values parts cost →
+        IsReadBack (ReadsFields V.none (V.named (names_of parts))) (struct_item (fields_of parts))
+        values (1 + cost) }
+{}
+
 /// The fields of a struct, of which each has an exact type, are read in one way, as values that
 /// mean the same one by one. A struct that is made of them may be exact by it, as one of two fields
 /// here and one of more by the same lemmas, `fields_laws` and `field_laws`.
@@ -160,6 +218,58 @@ pub fn fields_are_read_in_one_way<A: Typed, B: Typed>()
         (None, (None, no_values))
         (named_field first A.reads (named_field second B.reads no_fields)))
         (SameField A.same (SameField B.same any_two)) true }
+{}
+
+/// An enum, by the names of its variants: what the laws of variants speak of. It has no call. Behind
+/// a name that is no variant's nothing is read.
+pub trait EnumValues: Sized {
+    // this name alone, without content, stands for this value
+    ghost units: { List ℕ → Self → Type 0 };
+
+    // how the content behind this name is read, as a value
+    ghost contents: { List ℕ → Reads Self };
+
+    // the two values mean the same
+    ghost same: { Self → Self → Type 0 };
+
+    // one name alone stands for one value
+    ghost unit_one: { (name : List ℕ) (v w : Self) → Self.units name v → Self.units name w →
+        Self.same v w };
+
+    // one content is read in one way
+    ghost content_laws: { (name : List ℕ) → Lawful (Self.contents name) Self.same false };
+}
+
+/// A variant is read in one way. An enum that reads so may be exact by it, as by the same lemma,
+/// `variant_laws`.
+pub fn variants_are_read_in_one_way<V: EnumValues>()
+    ensures { Lawful (ReadsVariant V.units V.contents) V.same true }
+{}
+
+/// What the calls of `EnumAccessor` read is a variant: `deserialize_enum`, `variant`, and then
+/// `unit_variant`, or one that reads a content. The name may be a type of any kind that holds the
+/// content of a text.
+pub fn variants_are_read_by_calls<N, V: EnumValues>()
+    ensures unit { (text : N → List ℕ) (name : N) (v : V) (form : Bool × ℕ) (a b c d : View) →
+        OpensEnum a b form → form.0 ≡ false → Sound (ReadsTextAs text) b c name →
+        V.units (text name) v → KeepsAllButBudget c d →
+        Sound (ReadsVariant V.units V.contents) a d v }
+    ensures content { (text : N → List ℕ) (name : N) (v : V) (form : Bool × ℕ)
+        (a b c d : View) → OpensEnum a b form → form.0 ≡ true → Kept b c →
+        Sound (ReadsTextAs text) b c name →
+        Sound (ReadsContent form.0 (V.contents (text name))) c d v →
+        Sound (ReadsVariant V.units V.contents) a d v }
+{}
+
+/// A variant is read from its own item, whatever follows it: one without content, that of
+/// `serialize_unit_variant`, at one step; and another, that of `serialize_newtype_variant` and its
+/// like, wherever its content is, at one step and the content's cost.
+pub fn variants_are_read_back<V: EnumValues>()
+    ensures unit { (name : List ℕ) (v : V) → IsName name → V.units name v →
+        IsReadBack (ReadsVariant V.units V.contents) (encoded (counted_string 3 name)) v 1 }
+    ensures content { (name : List ℕ) (v : V) (content : Encoding) (cost : ℕ) → IsName name →
+        IsReadBack (V.contents name) content v cost →
+        IsReadBack (ReadsVariant V.units V.contents) (variant_item name content) v (1 + cost) }
 {}
 
 /// What is read back is what `deserialize` answers, over a reader that tells the item's bytes and
