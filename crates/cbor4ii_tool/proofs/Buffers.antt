@@ -1,11 +1,12 @@
 -- The program's streams behind their buffers.
-use Rattle.std.proofs.Common.{◌≡◌, ℕ, List, [], Option, None, Some, Err, refl, sym, ap, ◌∙◌}
-use Rattle.std.proofs.Common.{subst, arith, append-nil}
+use Rattle.std.proofs.Common.{◌≡◌, ℕ, List, [], length, Option, None, Some, Err, true, false, refl}
+use Rattle.std.proofs.Common.{sym, ap, ◌∙◌, subst, append-nil}
 use Rattle.std.specs.Prelude.{◌==◌, if◌then◌else◌}
 use Rattle.std.specs.Io.KnownBytes.{prepend_known, append_known}
-use Rattle.cbor4ii_rw.specs.View.{Told}
+use Rattle.cbor4ii_rw.specs.View.{View, Told}
 use Rattle.cbor4ii_rw.specs.Stream.{most_bytes, cut_known}
 use Rattle.cbor4ii_tool.specs.Run.{RunsOver}
+use Rattle.cbor4ii_tool.specs.Program.{IsFreshOver, MayEnd}
 use Rattle.cbor4ii_tool.specs.Fault.{Outcome}
 use Rattle.cbor4ii_tool.specs.declared.command.Command.{Command}
 use Rattle.cbor4ii_tool.specs.declared.fault.Kind.TheVariants.{OutOfMemory}
@@ -31,33 +32,53 @@ pub written_through : (behind : List ℕ) (known : Option (List ℕ)) → behind
 written_through behind known empty =
     subst (λ (xs : List ℕ). append_known known xs ≡ known) (sym empty) (nothing_behind known)
 
--- what a run makes of the streams
+-- where the input is known, a run of the command over it may have this outcome
 abbrev pub RunsSomehow : Command → Option (List ℕ) → Option (List ℕ) → Outcome → Type 0
-RunsSomehow command left held outcome =
-    Told left (λ bytes. (holds : Option (List ℕ)) × RunsOver command bytes held holds outcome)
+RunsSomehow command left held outcome = Told left (λ bytes. MayEnd command bytes held outcome)
 
 -- a run over the buffers is one over the streams
-pub through_buffers : (command : Command) (told left known written held holds : Option (List ℕ))
-    (outcome : Outcome) → told ≡ cut_known most_bytes left → left ≡ known → written ≡ held
-    → Told told (λ input. RunsOver command input written holds outcome)
+pub through_buffers : (command : Command) (old new : View)
+    (left known written held holds : Option (List ℕ)) (outcome : Outcome)
+    → old.told ≡ cut_known most_bytes left → old.taken ≡ Some 0 → old.budget ≡ Some 256
+    → left ≡ known → written ≡ held
+    → Told old.told (λ input. RunsOver command input old new written holds outcome)
     → RunsSomehow command (cut_known most_bytes known) held outcome
-through_buffers command told left known written held holds outcome is read same runs = λ xs cut. (
-  holds,
-  subst (λ (old : Option (List ℕ)). RunsOver command xs old holds outcome) same
-      (runs xs (is ∙ (ap (cut_known most_bytes) read ∙ cut))),
-)
+through_buffers command old new left known written held holds outcome is none steps read same runs =
+    λ xs cut. let told = is ∙ (ap (cut_known most_bytes) read ∙ cut) in (
+      old,
+      record { told = told; taken = none; budget = steps },
+      new,
+      holds,
+      subst (λ (before : Option (List ℕ)). RunsOver command xs old new before holds outcome) same
+          (runs xs told),
+    )
+
+-- a reader over these bytes
+abbrev fresh : List ℕ → View
+fresh bytes = record {
+  told = Some bytes;
+  bound = length bytes;
+  advanceable = 0;
+  budget = Some 256;
+  failures = 0;
+  taken = Some 0;
+  lends_whole = false;
+  remembers = true;
+}
 
 -- without a buffer the run ends before the first item
 pub no_buffer : (command : Command) (left held : Option (List ℕ))
     → RunsSomehow command left held (Err (record { at = 0; kind = OutOfMemory }))
 no_buffer command left held = λ input is. (
+  fresh input,
+  record { told = refl; taken = refl; budget = refl },
+  fresh input,
   held,
   record {
     texts = [];
     rest = input;
     row = refl;
     ok = tt;
-    at = omega arith;
-    err = λ xs told. told ∙ ap Some (sym (append-nil xs));
+    err = (refl, λ xs told. told ∙ ap Some (sym (append-nil xs)));
   },
 )

@@ -1,190 +1,213 @@
 -- A run after its flush.
-use Rattle.std.proofs.Common.{◌≡◌, ℕ, ◌-◌, ◌^◌, ◌⊎◌, inl, inr, List, ◌++◌, length}
-use Rattle.std.proofs.Common.{Bool, true, OnOk, OnErr, IfErr, Option, Some, Result, Ok, Err, sym}
-use Rattle.std.proofs.Common.{ap, ◌∙◌, subst, arith}
-use Rattle.std.proofs.lemmas.Bool.{cases_lt}
+use Rattle.std.proofs.Common.{◌≡◌, ℕ, inl, inr, List, ◌++◌, Bool, true, OnOk}
+use Rattle.std.proofs.Common.{IfErr, Option, Some, Ok, Err, refl, sym, ap, ◌∙◌, subst}
 use Rattle.cbor4ii_rw.specs.View.{View, Told}
-use Rattle.cbor4ii_rw.specs.Reader.{Failed, Keeps}
+use Rattle.cbor4ii_rw.specs.Reader.{Keeps}
 use Rattle.cbor4ii_rw.specs.Writer.{Output, Appends, one_more}
 use Rattle.cbor4ii_tool.specs.Item.{together}
 use Rattle.cbor4ii_tool.specs.Run.{FaultAt, RunsOver, WantsMemory, RunBlames, BlamesAt, Hands}
-use Rattle.cbor4ii_tool.specs.Steps.{MovesFailures, FailsAt, FlushCounts, EndsRun}
+use Rattle.cbor4ii_tool.specs.Steps.{MovesFailures, FailsAt, first_failure, failed_at, EndsRun}
 use Rattle.cbor4ii_tool.specs.Fault.{Outcome}
 use Rattle.cbor4ii_tool.specs.declared.command.Command.{Command}
 use Rattle.cbor4ii_tool.specs.declared.fault.Fault.{Fault}
 use Rattle.cbor4ii_tool.specs.declared.fault.Kind.{Kind}
 use Rattle.cbor4ii_tool.specs.declared.fault.Kind.TheVariants.{Read, OutOfMemory, Write}
-use Rattle.cbor4ii_tool.proofs.Loop.{failed_from}
-
-pub flush_counts : {E : Type 0} (answer : Result (Unit {0}) E) (flushed : Bool) (old new : ℕ)
-    → OnOk answer (flushed ≡ true) → OnOk answer (new ≡ old) → OnErr answer (new ≡ one_more old)
-    → FlushCounts flushed old new
-flush_counts (Ok _) flushed old new set same more = inl (set, same)
-flush_counts (Err _) flushed old new set same more = inr more
 
 -- ---- what is written
 
-kept_bytes : (bytes : List ℕ) (old mid new : Option (List ℕ)) → Appends bytes old mid
-    → Keeps mid new → Appends bytes old new
-kept_bytes bytes old mid new appends keeps xs told = keeps (xs ++ bytes) (appends xs told)
+kept_bytes : (bytes : List ℕ) (held mid holds : Option (List ℕ)) → Appends bytes held mid
+    → Keeps mid holds → Appends bytes held holds
+kept_bytes bytes held mid holds appends keeps xs told = keeps (xs ++ bytes) (appends xs told)
 
-kept_fault : (command : Command) (kind : Kind) (texts : List (List ℕ)) (rest : List ℕ)
-    (old mid new : Option (List ℕ)) → Keeps mid new → FaultAt command kind texts rest old mid
-    → FaultAt command kind texts rest old new
-kept_fault command Read texts rest old mid new keeps fault =
-    kept_bytes (together texts) old mid new fault keeps
-kept_fault command Write texts rest old mid new keeps fault = fault
-kept_fault command OutOfMemory texts rest old mid new keeps fault =
-    kept_bytes (together texts) old mid new fault keeps
-kept_fault command _ texts rest old mid new keeps fault =
-    (kept_bytes (together texts) old mid new fault.0 keeps, fault.1, fault.2, fault.3)
+kept_fault : (command : Command) (at : ℕ) (kind : Kind) (texts : List (List ℕ))
+    (input rest : List ℕ) (old new : View) (held mid holds : Option (List ℕ)) → Keeps mid holds
+    → FaultAt command texts input rest old new held mid at kind
+    → FaultAt command texts input rest old new held holds at kind
+kept_fault command at Read texts input rest old new held mid holds keeps fault =
+    (fault.0, kept_bytes (together texts) held mid holds fault.1 keeps)
+kept_fault command at Write texts input rest old new held mid holds keeps (inl item) = inl item
+kept_fault command at Write texts input rest old new held mid holds keeps (inr flush) =
+    inr (flush.0, kept_bytes (together texts) held mid holds flush.1 keeps, flush.2)
+kept_fault command at OutOfMemory texts input rest old new held mid holds keeps fault =
+    (fault.0, kept_bytes (together texts) held mid holds fault.1 keeps)
+kept_fault command at _ texts input rest old new held mid holds keeps fault =
+    (fault.0, kept_bytes (together texts) held mid holds fault.1 keeps, fault.2, fault.3, fault.4)
 
-finished : (command : Command) (input : List ℕ) (old mid new : Option (List ℕ))
-    (outcome answer : Outcome) (at : ℕ) (flushed : Bool) (m n : ℕ) → Keeps mid new
-    → RunsOver command input old mid outcome → OnOk outcome (at ≡ length input)
-    → EndsRun outcome answer at flushed m n → RunsOver command input old new answer
-finished command input old mid new (Err fault) answer at flushed m n keeps runs all finishes =
-    let same : RunsOver command input old new (Err fault) = record {
-      texts = runs.texts;
-      rest = runs.rest;
-      row = runs.row;
-      ok = tt;
-      at = runs.at;
-      err = kept_fault command fault.kind runs.texts runs.rest old mid new keeps runs.err;
-    } in
-    subst (λ (r : Outcome). RunsOver command input old new r) (sym finishes.0) same
-finished command input old mid new (Ok _) (Ok _) at flushed m n keeps runs all finishes = record {
+-- a fault of the items, behind which the flush failed at `at`
+lost_fault : (command : Command) (first at : ℕ) (kind : Kind) (texts : List (List ℕ))
+    (input rest : List ℕ) (old new : View) (held mid : Output) (holds : Option (List ℕ))
+    → new.taken ≡ Some at → Keeps mid.written holds → FailsAt kind old new held mid
+    → WantsMemory command kind
+    → FaultAt command texts input rest old new held.written mid.written first kind
+    → FaultAt command texts input rest old new held.written holds (first_failure kind first at)
+    Write
+lost_fault command first at Read texts input rest old new held mid holds taken keeps fails wants
+    fault = inr (
+      taken,
+      kept_bytes (together texts) held.written mid.written holds fault.1 keeps,
+      inr (inl fails.0),
+    )
+lost_fault command first at Write texts input rest old new held mid holds taken keeps fails wants
+    fault =
+    kept_fault command first Write texts input rest old new held.written mid.written holds keeps
+    fault
+lost_fault command first at OutOfMemory texts input rest old new held mid holds taken keeps fails
+    wants fault = inr (
+      taken,
+      kept_bytes (together texts) held.written mid.written holds fault.1 keeps,
+      inr (inr (inl wants)),
+    )
+lost_fault command first at kind texts input rest old new held mid holds taken keeps fails wants
+    fault = inr (
+      taken,
+      kept_bytes (together texts) held.written mid.written holds fault.1 keeps,
+      inr (inr (inr ((kind, fault.3), fault.4))),
+    )
+
+-- behind items of which nothing was lost
+finished : (command : Command) (input : List ℕ) (old new : View) (held mid : Output)
+    (holds : Option (List ℕ)) (outcome : Outcome) → Keeps mid.written holds
+    → RunsOver command input old new held.written mid.written outcome
+    → RunsOver command input old new held.written holds outcome
+finished command input old new held mid holds (Ok _) keeps runs = record {
   texts = runs.texts;
   rest = runs.rest;
   row = runs.row;
-  ok = (runs.ok.0, kept_bytes (together runs.texts) old mid new runs.ok.1 keeps);
-  at = tt;
+  ok = (
+    runs.ok.0,
+    kept_bytes (together runs.texts) held.written mid.written holds runs.ok.1 keeps,
+  );
   err = tt;
 }
-finished command input old mid new (Ok _) (Err fault) at flushed m n keeps runs all finishes =
-    let none = ap length runs.ok.0 in
-    let last : RunsOver command input old new (Err (record { at = at; kind = Write })) = record {
-      texts = runs.texts;
-      rest = runs.rest;
-      row = runs.row;
-      ok = tt;
-      at = omega (arith, none, all);
-      err = λ some. absurd (some runs.ok.0);
-    } in
-    subst (λ (f : Fault). RunsOver command input old new (Err f)) (sym finishes.0) last
+finished command input old new held mid holds (Err fault) keeps runs = record {
+  texts = runs.texts;
+  rest = runs.rest;
+  row = runs.row;
+  ok = tt;
+  err = kept_fault command fault.at fault.kind runs.texts input runs.rest old new held.written
+      mid.written holds keeps runs.err;
+}
 
-taken_is : (outcome : Outcome) (at n : ℕ) (taken : Option ℕ) → taken ≡ Some at
-    → OnOk outcome (taken ≡ Some n) → OnOk outcome (at ≡ n)
-taken_is (Ok _) at n taken p q = cc
-taken_is (Err _) at n taken p q = tt
+-- where the flush failed
+lost : (command : Command) (input : List ℕ) (old new : View) (held mid : Output)
+    (holds : Option (List ℕ)) (outcome : Outcome) (at : ℕ) → new.taken ≡ Some at
+    → Keeps mid.written holds → MovesFailures outcome old new held mid
+    → IfErr outcome (λ fault. WantsMemory command fault.kind)
+    → RunsOver command input old new held.written mid.written outcome
+    → RunsOver command input old new held.written holds
+    (Err (record { at = failed_at outcome at; kind = Write }))
+lost command input old new held mid holds (Ok _) at taken keeps moves wants runs = record {
+  texts = runs.texts;
+  rest = runs.rest;
+  row = runs.row;
+  ok = tt;
+  err = inr (
+    taken,
+    kept_bytes (together runs.texts) held.written mid.written holds runs.ok.1 keeps,
+    inl runs.ok.0,
+  );
+}
+lost command input old new held mid holds (Err fault) at taken keeps moves wants runs = record {
+  texts = runs.texts;
+  rest = runs.rest;
+  row = runs.row;
+  ok = tt;
+  err = lost_fault command fault.at at fault.kind runs.texts input runs.rest old new held mid holds
+      taken keeps moves wants runs.err;
+}
 
-ok_at : (outcome : Outcome) (input : List ℕ) (told : Option (List ℕ)) (P : List ℕ → Type 0)
-    → told ≡ Some input → OnOk outcome (Told told P) → OnOk outcome (P input)
-ok_at (Ok _) input told P is h = h input is
-ok_at (Err _) input told P is h = tt
-
-pub finished_run : (command : Command) (told old mid new : Option (List ℕ))
-    (outcome answer : Outcome) (at : ℕ) (flushed : Bool) (m n : ℕ) (taken : Option ℕ)
-    → Told told (λ input. RunsOver command input old mid outcome)
-    → OnOk outcome (Told told (λ input. taken ≡ Some (length input)))
-    → taken ≡ Some at → Keeps mid new → EndsRun outcome answer at flushed m n
-    → Told told (λ input. RunsOver command input old new answer)
-finished_run command told old mid new outcome answer at flushed m n taken runs all count keeps
-    finishes input is =
-    finished command input old mid new outcome answer at flushed m n keeps (runs input is)
-    (taken_is outcome at (length input) taken count
-    (ok_at outcome input told (λ (xs : List ℕ). taken ≡ Some (length xs)) is all)) finishes
+pub finished_run : (command : Command) (old new : View) (held mid holds : Output)
+    (outcome answer : Outcome) (at : ℕ) (flushed : Bool) (m n : ℕ) → new.taken ≡ Some at
+    → Keeps mid.written holds.written → MovesFailures outcome old new held mid
+    → IfErr outcome (λ fault. WantsMemory command fault.kind)
+    → EndsRun outcome answer at flushed m n
+    → Told old.told
+    (λ input. RunsOver command input old new held.written mid.written outcome)
+    → Told old.told
+    (λ input. RunsOver command input old new held.written holds.written answer)
+finished_run command old new held mid holds outcome answer at flushed m n taken keeps moves wants
+    (inl kept) runs input told =
+    subst (λ (r : Outcome). RunsOver command input old new held.written holds.written r)
+    (sym kept.0)
+    (finished command input old new held mid holds.written outcome keeps (runs input told))
+finished_run command old new held mid holds outcome answer at flushed m n taken keeps moves wants
+    (inr failed) runs input told =
+    subst (λ (r : Outcome). RunsOver command input old new held.written holds.written r)
+    (sym failed.0)
+    (lost command input old new held mid holds.written outcome at taken keeps moves wants
+    (runs input told))
 
 pub finished_ok : (outcome answer : Outcome) (at : ℕ) (flushed : Bool) (m n : ℕ) (P : Type 0)
     → OnOk outcome P → EndsRun outcome answer at flushed m n → OnOk answer P
-finished_ok (Err fault) answer at flushed m n P holds finishes =
-    subst (λ (r : Outcome). OnOk r P) (sym finishes.0) tt
-finished_ok (Ok _) (Ok _) at flushed m n P holds finishes = holds
-finished_ok (Ok _) (Err fault) at flushed m n P holds finishes = tt
+finished_ok outcome answer at flushed m n P holds (inl kept) =
+    subst (λ (r : Outcome). OnOk r P) (sym kept.0) holds
+finished_ok outcome answer at flushed m n P holds (inr failed) =
+    subst (λ (r : Outcome). OnOk r P) (sym failed.0) tt
 
 pub finished_memory : (command : Command) (outcome answer : Outcome) (at : ℕ) (flushed : Bool)
     (m n : ℕ) → IfErr outcome (λ fault. WantsMemory command fault.kind)
     → EndsRun outcome answer at flushed m n
     → IfErr answer (λ fault. WantsMemory command fault.kind)
-finished_memory command (Err fault) answer at flushed m n wants finishes =
-    subst (λ (r : Outcome). IfErr r (λ fault. WantsMemory command fault.kind)) (sym finishes.0)
-    wants
-finished_memory command (Ok _) (Ok _) at flushed m n wants finishes = tt
-finished_memory command (Ok _) (Err fault) at flushed m n wants finishes =
-    subst (λ (f : Fault). WantsMemory command f.kind) (sym finishes.0) tt
+finished_memory command outcome answer at flushed m n wants (inl kept) =
+    subst (λ (r : Outcome). IfErr r (λ fault. WantsMemory command fault.kind)) (sym kept.0) wants
+finished_memory command outcome answer at flushed m n wants (inr failed) =
+    subst (λ (r : Outcome). IfErr r (λ fault. WantsMemory command fault.kind)) (sym failed.0) tt
 
 -- ---- whom a fault blames
 
--- one failure more
-abbrev pub Raised : ℕ → ℕ → Type 0
-Raised b c = c ≡ one_more b
+kept_blames : (kind : Kind) (at : ℕ) (flushed : Bool) (old new : View) (held mid holds : Output)
+    → FailsAt kind old new held mid → flushed ≡ true → holds.failures ≡ mid.failures
+    → BlamesAt kind at flushed old new held holds
+kept_blames Read at flushed old new held mid holds fails set same = (fails.0, same ∙ fails.1)
+kept_blames Write at flushed old new held mid holds fails set same =
+    inl (fails.0, record { between = mid.failures; failed = fails.1; flush = inl (set, same) })
+kept_blames _ at flushed old new held mid holds fails set same = (fails.0, same ∙ fails.1)
 
-raised : (b c : ℕ) → Raised b c → Failed b c
-raised b c up = elim (cases_lt b (2 ^ 64 - 1))
-    [ inl small ↦ inl (omega (arith, up, small)) | inr great ↦ inr (omega (arith, up, great)) ]
+lost_blames : (kind : Kind) (first at : ℕ) (flushed : Bool) (old new : View)
+    (held mid holds : Output) → new.taken ≡ Some at → FailsAt kind old new held mid
+    → holds.failures ≡ one_more mid.failures
+    → BlamesAt Write (first_failure kind first at) flushed old new held holds
+lost_blames Read first at flushed old new held mid holds taken fails more =
+    inr (taken, more ∙ ap one_more fails.1, inr fails.0)
+lost_blames Write first at flushed old new held mid holds taken fails more =
+    inl (fails.0, record { between = mid.failures; failed = fails.1; flush = inr more })
+lost_blames _ first at flushed old new held mid holds taken fails more =
+    inr (taken, more ∙ ap one_more fails.1, inl fails.0)
 
-failed_more : (a b c : ℕ) → Failed a b → (c ≡ b) ⊎ Raised b c → Failed a c
-failed_more a b c failed (inl same) = subst (λ (n : ℕ). Failed a n) (sym same) failed
-failed_more a b c (inl less) (inr up) =
-    elim (raised b c up) [ inl more ↦ inl (omega (arith, less, more)) | inr most ↦ inr most ]
-failed_more a b c (inr most) (inr up) = inr (omega (arith, most, up))
+run_blames : (outcome : Outcome) (flushed : Bool) (old new : View) (held mid holds : Output)
+    → MovesFailures outcome old new held mid → flushed ≡ true → holds.failures ≡ mid.failures
+    → RunBlames outcome flushed old new held holds
+run_blames (Ok _) flushed old new held mid holds moves set same = (moves.0, same ∙ moves.1)
+run_blames (Err fault) flushed old new held mid holds moves set same =
+    kept_blames fault.kind fault.at flushed old new held mid holds moves set same
 
-moved : (flushed : Bool) (mid holds : ℕ) → FlushCounts flushed mid holds
-    → (holds ≡ mid) ⊎ Raised mid holds
-moved flushed mid holds (inl kept) = inl kept.1
-moved flushed mid holds (inr more) = inr more
-
-blamed_at : (kind : Kind) (old new : View) (held mid holds : Output) → FailsAt kind old new held mid
-    → (holds.failures ≡ mid.failures) ⊎ Raised mid.failures holds.failures
-    → BlamesAt kind old new held holds
-blamed_at Read old new held mid holds fails move = fails.0
-blamed_at Write old new held mid holds fails move =
-    (fails.0, failed_more held.failures mid.failures holds.failures fails.1 move)
-blamed_at _ old new held mid holds fails move = fails.0
+flush_blames : (outcome : Outcome) (at : ℕ) (flushed : Bool) (old new : View)
+    (held mid holds : Output) → new.taken ≡ Some at → MovesFailures outcome old new held mid
+    → holds.failures ≡ one_more mid.failures
+    → BlamesAt Write (failed_at outcome at) flushed old new held holds
+flush_blames (Ok _) at flushed old new held mid holds taken moves more =
+    inr (taken, more ∙ ap one_more moves.1, inl moves.0)
+flush_blames (Err fault) at flushed old new held mid holds taken moves more =
+    lost_blames fault.kind fault.at at flushed old new held mid holds taken moves more
 
 pub finished_blames : (outcome answer : Outcome) (at : ℕ) (flushed : Bool) (old new : View)
-    (held mid holds : Output) → MovesFailures outcome old new held mid
+    (held mid holds : Output) → new.taken ≡ Some at → MovesFailures outcome old new held mid
     → EndsRun outcome answer at flushed mid.failures holds.failures
-    → RunBlames answer old new held holds
-finished_blames (Err fault) answer at flushed old new held mid holds moves finishes =
-    subst (λ (r : Outcome). RunBlames r old new held holds) (sym finishes.0)
-    (blamed_at fault.kind old new held mid holds moves
-    (moved flushed mid.failures holds.failures finishes.1))
-finished_blames (Ok _) (Ok _) at flushed old new held mid holds moves finishes =
-    (moves.0, finishes.1 ∙ moves.1)
-finished_blames (Ok _) (Err fault) at flushed old new held mid holds moves finishes =
-    subst (λ (f : Fault). BlamesAt f.kind old new held holds) (sym finishes.0) (
-      moves.0,
-      failed_from held.failures mid.failures holds.failures moves.1
-          (raised mid.failures holds.failures finishes.1),
-    )
+    → RunBlames answer flushed old new held holds
+finished_blames outcome answer at flushed old new held mid holds taken moves (inl kept) =
+    subst (λ (r : Outcome). RunBlames r flushed old new held holds) (sym kept.0)
+    (run_blames outcome flushed old new held mid holds moves kept.1 kept.2)
+finished_blames outcome answer at flushed old new held mid holds taken moves (inr failed) =
+    subst (λ (r : Outcome). RunBlames r flushed old new held holds) (sym failed.0)
+    (flush_blames outcome at flushed old new held mid holds taken moves failed.1)
 
-lost_at : (kind : Kind) (old new : View) (held mid holds : Output) → FailsAt kind old new held mid
-    → Raised mid.failures holds.failures → Failed held.failures holds.failures
-lost_at Read old new held mid holds fails failed =
-    failed_from held.failures mid.failures holds.failures fails.1
-    (raised mid.failures holds.failures failed)
-lost_at Write old new held mid holds fails failed =
-    failed_more held.failures mid.failures holds.failures fails.1 (inr failed)
-lost_at _ old new held mid holds fails failed =
-    failed_from held.failures mid.failures holds.failures fails.1
-    (raised mid.failures holds.failures failed)
+handed : (outcome : Outcome) (flushed : Bool) → flushed ≡ true → Hands outcome flushed
+handed (Ok _) flushed set = set
+handed (Err fault) flushed set = λ _. set
 
-handed : (kind : Kind) (flushed : Bool) (old new : View) (held mid holds : Output)
-    → FailsAt kind old new held mid → FlushCounts flushed mid.failures holds.failures
-    → (flushed ≡ true) ⊎ Failed held.failures holds.failures
-handed kind flushed old new held mid holds moves (inl kept) = inl kept.0
-handed kind flushed old new held mid holds moves (inr more) =
-    inr (lost_at kind old new held mid holds moves more)
-
-pub finished_hands : (outcome answer : Outcome) (at : ℕ) (flushed : Bool) (old new : View)
-    (held mid holds : Output) → MovesFailures outcome old new held mid
-    → EndsRun outcome answer at flushed mid.failures holds.failures
-    → Hands answer flushed held holds
-finished_hands (Err fault) answer at flushed old new held mid holds moves finishes =
-    subst (λ (r : Outcome). Hands r flushed held holds) (sym finishes.0)
-    (handed fault.kind flushed old new held mid holds moves finishes.1)
-finished_hands (Ok _) (Ok _) at flushed old new held mid holds moves finishes = finishes.0
-finished_hands (Ok _) (Err fault) at flushed old new held mid holds moves finishes =
-    inr (failed_from held.failures mid.failures holds.failures moves.1
-    (raised mid.failures holds.failures finishes.1))
+pub finished_hands : (outcome answer : Outcome) (at : ℕ) (flushed : Bool) (m n : ℕ)
+    → EndsRun outcome answer at flushed m n → Hands answer flushed
+finished_hands outcome answer at flushed m n (inl kept) =
+    subst (λ (r : Outcome). Hands r flushed) (sym kept.0) (handed outcome flushed kept.1)
+finished_hands outcome answer at flushed m n (inr failed) =
+    subst (λ (r : Outcome). Hands r flushed) (sym failed.0) (λ other. absurd (other refl))

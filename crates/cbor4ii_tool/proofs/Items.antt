@@ -1,7 +1,7 @@
 -- One item of a command.
 use Rattle.std.proofs.Common.{◌≡◌, ◌≢◌, ℕ, ◌+◌, ◌-◌, ◌≤◌, List, [], ◌∷◌, ◌++◌, length, drop}
 use Rattle.std.proofs.Common.{decimal, Option, Some, Result, Ok, Err, IsTrue, false, IfSome}
-use Rattle.std.proofs.Common.{refl, sym, ap, ◌∙◌, subst, arith, length-append}
+use Rattle.std.proofs.Common.{inl, inr, refl, sym, ap, ◌∙◌, subst, arith, length-append}
 use Rattle.cbor4ii_rw.specs.View.{View, Told}
 use Rattle.cbor4ii_rw.specs.Reader.{IsFront, Shows, Breaks, Failed, counts}
 use Rattle.cbor4ii_rw.specs.Writer.{Output, Appends}
@@ -9,6 +9,7 @@ use Rattle.cbor4ii_rw.specs.declared.error.DecodeError.{DecodeError}
 use Rattle.cbor4ii_rw.specs.declared.error.DecodeError.TheVariants.{Read as ReadError}
 use Rattle.cbor4ii_rw.specs.declared.error.DecodeError.TheVariants.{OutOfMemory as NoMemory}
 use Rattle.cbor4ii_items.specs.Moves.{Moves, Kept}
+use Rattle.cbor4ii_items.specs.Laws.Running.{shows_kept}
 use Rattle.cbor4ii_items.specs.Decoding.{Stops as StopsBy}
 use Rattle.cbor4ii_items.specs.Refusal.{Refusal, refusal_of, is_out_of_memory}
 use Rattle.cbor4ii_tree.specs.Tree.{Tree, bytes}
@@ -28,6 +29,7 @@ use Rattle.cbor4ii_tool.specs.Integer.{BeginsInteger}
 use Rattle.cbor4ii_tool.specs.Reading.{in_width, written_bytes, ReadsInteger, RefusesInteger}
 use Rattle.cbor4ii_tool.specs.Reading.{RefusesAt}
 use Rattle.cbor4ii_tool.specs.Item.{BeginsItem, StopsAs, TakesMemory}
+use Rattle.cbor4ii_tool.specs.Run.{FailedOrCounted}
 use Rattle.cbor4ii_tool.specs.Steps.{Leaves, Done, Fails}
 use Rattle.cbor4ii_tool.specs.declared.command.Command.{Command}
 use Rattle.cbor4ii_tool.specs.declared.command.Command.TheVariants.{Ints, Canon, Lens, Strict}
@@ -58,26 +60,38 @@ kept_leaves a b kept =
       budget = kept.budget;
       rest = λ xs was ys is. let took = kept.rest xs was in
           (took.0, same_bytes ys (drop took.0 xs) b.told is took.1.left);
+      counted = inr kept.counted;
     }
 
 pub moves_leaves : {V E : Type 0} (answer : Result V (DecodeError E)) (a b : View)
     → Moves {V = V} a b answer → Leaves a b
 moves_leaves (Ok v) a b moves = kept_leaves a b moves.by
 moves_leaves (Err (ReadError e)) a b moves =
-    record { budget = moves.by.budget; rest = moves.by.rest }
+    record {
+      budget = moves.by.budget;
+      rest = moves.by.rest;
+      counted = inl moves.by.failures;
+    }
 moves_leaves (Err _) a b moves = kept_leaves a b moves.by
 
 pub shows_leaves : (shown : List ℕ) (a b : View) → Shows shown a b → Leaves a b
-shows_leaves shown a b shows =
-    record {
-      budget = shows.budget;
-      rest =
-          λ xs was ys is. (0, same_bytes ys xs b.told is (shows.told xs was));
-    }
+shows_leaves shown a b shows = kept_leaves a b (shows_kept shows)
 
 pub breaks_leaves : (a b : View) → Breaks a b → Leaves a b
 breaks_leaves a b breaks =
-    record { budget = breaks.budget; rest = λ xs was ys is. (0, breaks.told xs was ys is) }
+    record {
+      budget = breaks.budget;
+      rest = λ xs was ys is. (0, breaks.told xs was ys is);
+      counted = inl breaks.failures;
+    }
+
+shown_counted : (shown : List ℕ) (a b c : View) → Shows shown a b → FailedOrCounted b c
+    → FailedOrCounted a c
+shown_counted shown a b c shows (inl failed) =
+    inl (subst (λ n. Failed n c.failures) shows.failures failed)
+shown_counted shown a b c shows (inr counted) =
+    inr (λ xs told ys after n e. counted xs (shows.told xs told) ys after n e
+    ∙ ap (counts n) shows.taken)
 
 pub shown_leaves : (shown : List ℕ) (a b c : View) → Shows shown a b → Leaves b c → Leaves a c
 shown_leaves shown a b c shows leaves =
@@ -85,6 +99,7 @@ shown_leaves shown a b c shows leaves =
       budget = leaves.budget ∙ shows.budget;
       rest =
           λ xs was ys is. leaves.rest xs (shows.told xs was) ys is;
+      counted = shown_counted shown a b c shows leaves.counted;
     }
 
 -- how calls one after another leave the reader
@@ -139,22 +154,27 @@ integer_done integer a b held holds reads kept appends same = record {
       };
 }
 
-no_integer : (xs : List ℕ) → ¬ (BeginsInteger xs) → ¬ (BeginsItem Ints xs)
-no_integer xs none (written, ys, (item, integer, is, same)) =
+no_integer : (budget : Option ℕ) (xs : List ℕ) → ¬ (BeginsInteger xs)
+    → ¬ (BeginsItem Ints budget xs)
+no_integer budget xs none (written, ys, (item, integer, is, same)) =
     none (record { item = item; integer = integer; more = ys; is = is })
 
-no_more : (kind : Kind) (xs : List ℕ) → RefusesAt kind xs → ¬ (BeginsItem Ints xs)
-no_more Mismatch xs refuses = no_integer xs (none_begins_other xs refuses)
-no_more Eof xs refuses = no_integer xs (none_begins_cut xs refuses)
-no_more _ xs refuses = absurd refuses
+no_more : (budget : Option ℕ) (kind : Kind) (xs : List ℕ) → RefusesAt kind xs
+    → ¬ (BeginsItem Ints budget xs)
+no_more budget Mismatch xs refuses = no_integer budget xs (none_begins_other xs refuses)
+no_more budget Eof xs refuses = no_integer budget xs (none_begins_cut xs refuses)
+no_more budget _ xs refuses = absurd refuses
 
 pub integer_fails : (kind : Kind) (a b : View) (held : Output) → RefusesInteger kind a b
     → (kind ≢ Write) × (kind ≢ Read → b.failures ≡ a.failures) → Fails Ints kind a b held held
 integer_fails Read a b held refuses steady = (refuses, refl)
 integer_fails Write a b held refuses steady = absurd (steady.0 refl)
 integer_fails OutOfMemory a b held refuses steady = absurd refuses
-integer_fails kind a b held refuses steady =
-    (steady.1 (λ e. cc), refl, λ xs told. (refuses xs told, no_more kind xs (refuses xs told)))
+integer_fails kind a b held refuses steady = (
+  steady.1 (λ e. cc),
+  refl,
+  λ xs told. (refuses xs told, no_more a.budget kind xs (refuses xs told)),
+)
 
 pub integer_unwritten : (integer : Integer) (a b : View) (held holds : Output)
     → ReadsInteger integer a b → Failed held.failures holds.failures
@@ -162,43 +182,46 @@ pub integer_unwritten : (integer : Integer) (a b : View) (held holds : Output)
 integer_unwritten integer a b held holds reads failed = (
   failed,
   reads.failures,
-  λ xs told. let t = reads.takes xs told in
-      (written_bytes integer, t.rest, (in_width t.width integer, t.valid, t.joined, refl)),
+  λ xs told. let t = reads.takes xs told in (
+    written_bytes integer,
+    t.rest,
+    (in_width t.width integer, t.valid, t.joined, refl),
+    t.left,
+  ),
 )
 
 -- ---- what is refused
 
 stop_named : (command : Command) (stops : List ℕ → Option ℕ → Refusal → List ℕ → Type 0)
     (xs : List ℕ) (budget : Option ℕ) (e : Refusal) (left : Option (List ℕ))
-    → ((xs : List ℕ) (e : Refusal) (rest : List ℕ) → stops xs (Some 256) e rest
-    → StopsAs command (kind_of_refusal e) xs)
-    → budget ≡ Some 256 → (rest : List ℕ) × (left ≡ Some rest) × stops xs budget e rest
-    → StopsAs command (kind_of_refusal e) xs
-stop_named command stops xs budget e left lift is stop =
-    lift xs e stop.0 (subst (λ (b : Option ℕ). stops xs b e stop.0) is stop.2)
+    → ((xs : List ℕ) (e : Refusal) (rest : List ℕ) → stops xs budget e rest
+    → StopsAs command budget (kind_of_refusal e) xs)
+    → (rest : List ℕ) × (left ≡ Some rest) × stops xs budget e rest
+    → StopsAs command budget (kind_of_refusal e) xs
+stop_named command stops xs budget e left lift stop = lift xs e stop.0 stop.2
 
 pub refused_by : {V E : Type 0} (command : Command)
     (stops : List ℕ → Option ℕ → Refusal → List ℕ → Type 0) (error : DecodeError E) (a b : View)
-    (held : Output) → a.budget ≡ Some 256 → Moves {V = V} a b (Err error)
+    (held : Output) → Moves {V = V} a b (Err error)
     → (IsTrue (is_out_of_memory error) → TakesMemory command) → StopsBy stops a b error
-    → Told a.told (λ xs. IfSome (refusal_of error) (λ _. ¬ (BeginsItem command xs)))
-    → ((xs : List ℕ) (e : Refusal) (rest : List ℕ) → stops xs (Some 256) e rest
-    → StopsAs command (kind_of_refusal e) xs) → Fails command (kind_of error) a b held held
-refused_by command stops (ReadError e) a b held budget moves memory stop none lift =
+    → Told a.told (λ xs. IfSome (refusal_of error) (λ _. ¬ (BeginsItem command a.budget xs)))
+    → ((xs : List ℕ) (e : Refusal) (rest : List ℕ) → stops xs a.budget e rest
+    → StopsAs command a.budget (kind_of_refusal e) xs) → Fails command (kind_of error) a b held held
+refused_by command stops (ReadError e) a b held moves memory stop none lift =
     (moves.by.failures, refl)
-refused_by command stops NoMemory a b held budget moves memory stop none lift =
+refused_by command stops NoMemory a b held moves memory stop none lift =
     (memory refl, moves.by.failures, refl)
-refused_by command stops _ a b held budget moves memory stop none lift = (
+refused_by command stops _ a b held moves memory stop none lift = (
   moves.by.failures,
   refl,
   λ xs told.
-      (stop_named command stops xs a.budget _ b.told lift budget (stop.at xs told), none xs told),
+      (stop_named command stops xs a.budget _ b.told lift (stop.at xs told), none xs told),
 )
 
 -- ---- lengths
 
 pub length_taken : (t : Tree) (xs ys : List ℕ) (a b : View) (before after : ℕ) → Kept a b
-    → a.told ≡ Some xs → b.told ≡ Some ys → Skips xs (Some 256) t ys → a.taken ≡ Some before
+    → a.told ≡ Some xs → b.told ≡ Some ys → Skips xs a.budget t ys → a.taken ≡ Some before
     → b.taken ≡ Some after → after - before ≡ length (bytes t)
 length_taken t xs ys a b before after kept told left skips was is =
     let sum : length (bytes t) + length ys ≡ length xs =
@@ -212,110 +235,103 @@ length_taken t xs ys a b before after kept told left skips was is =
 
 -- ---- values
 
-no_value : {E : Type 0} (error : DecodeError E) (a b : View) → a.budget ≡ Some 256
-    → AllReads a b (Err error)
-    → Told a.told (λ xs. IfSome (refusal_of error) (λ _. ¬ (BeginsItem Canon xs)))
-no_value (ReadError e) a b budget all xs told = tt
-no_value NoMemory a b budget all xs told = tt
-no_value _ a b budget all xs told =
-    λ (w, ys, (v, reads, is)).
-    all xs told v ys (subst (λ (left : Option ℕ). ReadsPlainly xs left v ys) (sym budget) reads)
+no_value : {E : Type 0} (error : DecodeError E) (a b : View) → AllReads a b (Err error)
+    → Told a.told (λ xs. IfSome (refusal_of error) (λ _. ¬ (BeginsItem Canon a.budget xs)))
+no_value (ReadError e) a b all xs told = tt
+no_value NoMemory a b all xs told = tt
+no_value _ a b all xs told = λ (w, ys, (v, reads, is)). all xs told v ys reads
 
 pub value_fails : {E : Type 0} (error : DecodeError E) (a b : View) (held : Output)
-    → a.budget ≡ Some 256 → Moves {V = Value} a b (Err error) → StopsBy StopsReading a b error
+    → Moves {V = Value} a b (Err error) → StopsBy StopsReading a b error
     → AllReads a b (Err error) → Fails Canon (kind_of error) a b held held
-value_fails error a b held budget moves stop all =
-    refused_by {V = Value} Canon StopsReading error a b held budget moves (λ _. tt) stop
-    (no_value error a b budget all) (λ xs e rest s. (e, rest, s, refl))
+value_fails error a b held moves stop all =
+    refused_by {V = Value} Canon StopsReading error a b held moves (λ _. tt) stop
+    (no_value error a b all) (λ xs e rest s. (e, rest, s, refl))
 
-pub value_done : (v : Value) (a b : View) (held holds : Output) → a.budget ≡ Some 256 → Kept a b
+pub value_done : (v : Value) (a b : View) (held holds : Output) → Kept a b
     → b.bound + 1 ≤ a.bound
     → Told a.told
     (λ xs. (rest : List ℕ) × (b.told ≡ Some rest) × ReadsPlainly xs a.budget (view v) rest)
     → Appends (canon (view v)) held.written holds.written → holds.failures ≡ held.failures
     → Done Canon a b held holds
-value_done v a b held holds budget kept bound reads appends same = record {
+value_done v a b held holds kept bound reads appends same = record {
   kept = kept;
   bound = bound;
   failures = same;
   item = λ xs told.
       let r = reads xs told in
-      let value = subst (λ (left : Option ℕ). ReadsPlainly xs left (view v) r.0) budget r.2 in
       record {
         text = canon (view v);
         rest = r.0;
         left_is = r.1;
-        converts = (view v, value, refl);
+        converts = (view v, r.2, refl);
         written = appends;
       };
 }
 
-pub value_unwritten : (v : Value) (a b : View) (held holds : Output) → a.budget ≡ Some 256
+pub value_unwritten : (v : Value) (a b : View) (held holds : Output)
     → Kept a b → Told a.told
     (λ xs. (rest : List ℕ) × (b.told ≡ Some rest) × ReadsPlainly xs a.budget (view v) rest)
     → Failed held.failures holds.failures → Fails Canon Write a b held holds
-value_unwritten v a b held holds budget kept reads failed = (
+value_unwritten v a b held holds kept reads failed = (
   failed,
   kept.failures,
   λ xs told. let r = reads xs told in (
     canon (view v),
     r.0,
-    (view v, subst (λ (left : Option ℕ). ReadsPlainly xs left (view v) r.0) budget r.2, refl),
+    (view v, r.2, refl),
+    r.1,
   ),
 )
 
 -- ---- values in their canonical spelling
 
-no_canonical : {E : Type 0} (error : DecodeError E) (a b : View) → a.budget ≡ Some 256
-    → AllCanonical a b (Err error)
-    → Told a.told (λ xs. IfSome (refusal_of error) (λ _. ¬ (BeginsItem Strict xs)))
-no_canonical (ReadError e) a b budget all xs told = tt
-no_canonical NoMemory a b budget all xs told = tt
-no_canonical _ a b budget all xs told =
-    λ (w, ys, (v, reads, is)).
-    all xs told v ys (subst (λ (left : Option ℕ). ReadsStrictly xs left v ys) (sym budget) reads)
+no_canonical : {E : Type 0} (error : DecodeError E) (a b : View) → AllCanonical a b (Err error)
+    → Told a.told (λ xs. IfSome (refusal_of error) (λ _. ¬ (BeginsItem Strict a.budget xs)))
+no_canonical (ReadError e) a b all xs told = tt
+no_canonical NoMemory a b all xs told = tt
+no_canonical _ a b all xs told = λ (w, ys, (v, reads, is)). all xs told v ys reads
 
 pub canonical_fails : {E : Type 0} (error : DecodeError E) (a b : View) (held : Output)
-    → a.budget ≡ Some 256 → Moves {V = Canonical} a b (Err error) → StopsBy StopsCanonical a b error
+    → Moves {V = Canonical} a b (Err error) → StopsBy StopsCanonical a b error
     → AllCanonical a b (Err error) → Fails Strict (kind_of error) a b held held
-canonical_fails error a b held budget moves stop all =
-    refused_by {V = Canonical} Strict StopsCanonical error a b held budget moves (λ _. tt) stop
-    (no_canonical error a b budget all) (λ xs e rest s. (e, rest, s, refl))
+canonical_fails error a b held moves stop all =
+    refused_by {V = Canonical} Strict StopsCanonical error a b held moves (λ _. tt) stop
+    (no_canonical error a b all) (λ xs e rest s. (e, rest, s, refl))
 
-pub canonical_done : (v : Canonical) (a b : View) (held holds : Output) → a.budget ≡ Some 256
-    → Kept a b
+pub canonical_done : (v : Canonical) (a b : View) (held holds : Output) → Kept a b
     → b.bound + 1 ≤ a.bound
     → Told a.told
     (λ xs. (rest : List ℕ) × (b.told ≡ Some rest) × ReadsStrictly xs a.budget (view v.0) rest)
     → Appends (canon (view v.0)) held.written holds.written → holds.failures ≡ held.failures
     → Done Strict a b held holds
-canonical_done v a b held holds budget kept bound reads appends same = record {
+canonical_done v a b held holds kept bound reads appends same = record {
   kept = kept;
   bound = bound;
   failures = same;
   item = λ xs told.
       let r = reads xs told in
-      let value = subst (λ (left : Option ℕ). ReadsStrictly xs left (view v.0) r.0) budget r.2 in
       record {
         text = canon (view v.0);
         rest = r.0;
         left_is = r.1;
-        converts = (view v.0, value, refl);
+        converts = (view v.0, r.2, refl);
         written = appends;
       };
 }
 
-pub canonical_unwritten : (v : Canonical) (a b : View) (held holds : Output) → a.budget ≡ Some 256
+pub canonical_unwritten : (v : Canonical) (a b : View) (held holds : Output)
     → Kept a b → Told a.told
     (λ xs. (rest : List ℕ) × (b.told ≡ Some rest) × ReadsStrictly xs a.budget (view v.0) rest)
     → Failed held.failures holds.failures → Fails Strict Write a b held holds
-canonical_unwritten v a b held holds budget kept reads failed = (
+canonical_unwritten v a b held holds kept reads failed = (
   failed,
   kept.failures,
   λ xs told. let r = reads xs told in (
     canon (view v.0),
     r.0,
-    (view v.0, subst (λ (left : Option ℕ). ReadsStrictly xs left (view v.0) r.0) budget r.2, refl),
+    (view v.0, r.2, refl),
+    r.1,
   ),
 )
 
@@ -324,23 +340,21 @@ canonical_unwritten v a b held holds budget kept reads failed = (
 never : IsTrue false → ⊥
 never t = cc
 
-no_skip : {E : Type 0} (error : DecodeError E) (a b : View) → a.budget ≡ Some 256
+no_skip : {E : Type 0} (error : DecodeError E) (a b : View)
     → AllSkips {V = IgnoredAny} a b (Err error)
-    → Told a.told (λ xs. IfSome (refusal_of error) (λ _. ¬ (BeginsItem Lens xs)))
-no_skip (ReadError e) a b budget all xs told = tt
-no_skip NoMemory a b budget all xs told = tt
-no_skip _ a b budget all xs told =
-    λ (w, ys, (t, skips, is)).
-    all xs told t ys (subst (λ (left : Option ℕ). Skips xs left t ys) (sym budget) skips)
+    → Told a.told (λ xs. IfSome (refusal_of error) (λ _. ¬ (BeginsItem Lens a.budget xs)))
+no_skip (ReadError e) a b all xs told = tt
+no_skip NoMemory a b all xs told = tt
+no_skip _ a b all xs told = λ (w, ys, (t, skips, is)). all xs told t ys skips
 
 pub length_fails : {E : Type 0} (error : DecodeError E) (a b : View) (held : Output)
-    → a.budget ≡ Some 256 → Moves {V = IgnoredAny} a b (Err error)
+    → Moves {V = IgnoredAny} a b (Err error)
     → (IsTrue (is_out_of_memory error) → IsTrue false) → StopsBy StopsIgnored a b error
     → AllSkips {V = IgnoredAny} a b (Err error)
     → Fails Lens (kind_of error) a b held held
-length_fails error a b held budget moves memory stop all =
-    refused_by {V = IgnoredAny} Lens StopsIgnored error a b held budget moves
-    (λ o. absurd (never (memory o))) stop (no_skip error a b budget all)
+length_fails error a b held moves memory stop all =
+    refused_by {V = IgnoredAny} Lens StopsIgnored error a b held moves
+    (λ o. absurd (never (memory o))) stop (no_skip error a b all)
     (λ xs e rest s. (e, rest, s, refl))
 
 -- what stands for a skipped item, and the bytes behind it
@@ -348,38 +362,38 @@ abbrev pub Skipped : View → View → Type 0
 Skipped a b = Told a.told
     (λ xs. (t : Tree) × (rest : List ℕ) × (b.told ≡ Some rest) × Skips xs a.budget t rest)
 
-pub length_done : (number before after : ℕ) (a b : View) (held holds : Output) → a.budget ≡ Some 256
+pub length_done : (number before after : ℕ) (a b : View) (held holds : Output)
     → Kept a b → b.bound + 1 ≤ a.bound → Skipped a b → a.taken ≡ Some before → b.taken ≡ Some after
     → number ≡ after - before
     → Appends (decimal number ++ 10 ∷ []) held.written holds.written
     → holds.failures ≡ held.failures → Done Lens a b held holds
-length_done number before after a b held holds budget kept bound skipped was is difference appends
+length_done number before after a b held holds kept bound skipped was is difference appends
     same = record {
       kept = kept;
       bound = bound;
       failures = same;
       item = λ xs told.
           let r = skipped xs told in
-          let skips = subst (λ (left : Option ℕ). Skips xs left r.0 r.1) budget r.3 in
-          let taken = length_taken r.0 xs r.1 a b before after kept told r.2 skips was is in
+          let taken = length_taken r.0 xs r.1 a b before after kept told r.2 r.3 was is in
           let size = difference ∙ taken in
           record {
             text = decimal number ++ 10 ∷ [];
             rest = r.1;
             left_is = r.2;
-            converts = (r.0, skips, ap (λ n. decimal n ++ 10 ∷ []) size);
+            converts = (r.0, r.3, ap (λ n. decimal n ++ 10 ∷ []) size);
             written = appends;
           };
     }
 
-pub length_unwritten : (a b : View) (held holds : Output) → a.budget ≡ Some 256 → Kept a b
+pub length_unwritten : (a b : View) (held holds : Output) → Kept a b
     → Skipped a b → Failed held.failures holds.failures → Fails Lens Write a b held holds
-length_unwritten a b held holds budget kept skipped failed = (
+length_unwritten a b held holds kept skipped failed = (
   failed,
   kept.failures,
   λ xs told. let r = skipped xs told in (
     decimal (length (bytes r.0)) ++ 10 ∷ [],
     r.1,
-    (r.0, subst (λ (left : Option ℕ). Skips xs left r.0 r.1) budget r.3, refl),
+    (r.0, r.3, refl),
+    r.2,
   ),
 )

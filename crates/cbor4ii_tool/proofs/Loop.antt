@@ -1,31 +1,33 @@
 -- The loop over the items of a command.
-use Rattle.std.proofs.Common.{◌≡◌, ◌≢◌, ℕ, ◌+◌, List, [], ◌∷◌, ◌++◌}
+use Rattle.std.proofs.Common.{◌≡◌, ◌≢◌, ℕ, ◌+◌, ◌-◌, List, [], ◌∷◌, ◌++◌}
 use Rattle.std.proofs.Common.{length, drop, Bool, IsTrue}
-use Rattle.std.proofs.Common.{Option, Some, Ok, Err, true, false, refl, sym, ap, ◌∙◌, subst}
-use Rattle.std.proofs.Common.{arith, append-nil}
+use Rattle.std.proofs.Common.{Option, None, Some, Ok, Err, true, false, inl, inr, refl, sym, ap}
+use Rattle.std.proofs.Common.{◌∙◌, subst, arith, append-nil}
 use Rattle.std.proofs.lemmas.Grind.{flat_map-append}
 use Rattle.std.proofs.lemmas.List.{drop-drop, length-drop}
 use Rattle.cbor4ii_rw.specs.View.{View, Told}
 use Rattle.cbor4ii_rw.specs.Reader.{Shows, Failed, counts}
 use Rattle.cbor4ii_rw.specs.Writer.{Output, Appends}
-use Rattle.cbor4ii_tool.specs.Item.{Converts, IsRow, together}
-use Rattle.cbor4ii_tool.specs.Run.{FaultAt, RunsOver}
+use Rattle.cbor4ii_tool.specs.Item.{Converts, BeginsItem, ItemIsTaken, StopsAs, IsRow, together}
+use Rattle.cbor4ii_tool.specs.Run.{StandsAt, FaultAt, RunsOver, FailedOrCounted}
 use Rattle.cbor4ii_tool.specs.Steps.{Leaves, Done, Fails, MovesFailures, Ran}
 use Rattle.cbor4ii_tool.proofs.Items.{same_bytes}
 use Rattle.cbor4ii_tool.specs.declared.command.Command.{Command}
 use Rattle.cbor4ii_tool.specs.declared.fault.Kind.{Kind}
 use Rattle.cbor4ii_tool.specs.declared.fault.Kind.TheVariants.{Read, OutOfMemory, Write}
+use Rattle.cbor4ii_items.specs.Laws.Steps.{counts_more}
 use Rattle.cbor4ii_items.specs.Laws.Written.{appends_then}
 
 -- ---- rows
 
-pub row_more : (command : Command) (texts : List (List ℕ)) (text input rest left : List ℕ)
-    → IsRow command texts input rest → Converts command rest text left
-    → IsRow command (texts ++ text ∷ []) input left
-row_more command [] text input rest left row takes =
-    (left, subst (λ (xs : List ℕ). Converts command xs text left) (sym row) takes, refl)
-row_more command (t ∷ ts) text input rest left row takes =
-    (row.0, row.1, row_more command ts text row.0 rest left row.2 takes)
+pub row_more : (command : Command) (budget : Option ℕ) (texts : List (List ℕ))
+    (text input rest left : List ℕ) → IsRow command budget texts input rest
+    → Converts command budget rest text left
+    → IsRow command budget (texts ++ text ∷ []) input left
+row_more command budget [] text input rest left row takes =
+    (left, subst (λ (xs : List ℕ). Converts command budget xs text left) (sym row) takes, refl)
+row_more command budget (t ∷ ts) text input rest left row takes =
+    (row.0, row.1, row_more command budget ts text row.0 rest left row.2 takes)
 
 pub together_more : (texts : List (List ℕ)) (text : List ℕ)
     → together (texts ++ text ∷ []) ≡ together texts ++ text
@@ -36,9 +38,16 @@ together_more texts text =
 appends_nothing : (a : Option (List ℕ)) → Appends [] a a
 appends_nothing a = λ xs told. told ∙ ap Some (sym (append-nil xs))
 
-pub begun : (command : Command) (a : View) (held : Output) → a.taken ≡ Some 0
-    → Ran command a a held held
-begun command a held none = record {
+-- ---- what was taken
+
+counts_none : (taken : Option ℕ) → taken ≡ counts 0 taken
+counts_none None = refl
+counts_none (Some n) = ap Some (omega arith)
+
+-- ---- the loop
+
+pub begun : (command : Command) (a : View) (held : Output) → Ran command a a held held
+begun command a held = record {
   budget = refl;
   failures = refl;
   unfailing = refl;
@@ -46,9 +55,9 @@ begun command a held none = record {
       record {
         texts = [];
         rest = input;
-        taken = 0;
+        count = 0;
         left_is = told;
-        taken_is = none;
+        taken_is = counts_none a.taken;
         rest_is = refl;
         sum = omega arith;
         row = refl;
@@ -74,15 +83,18 @@ more command start a b c held h i ran shows done = record {
       let moved : c.taken ≡ counts took.0 b.taken =
       done.kept.counted r.rest shown d.rest d.left_is took.0 all in
       let before = r.sum in
+      let converts = subst (λ (budget : Option ℕ). Converts command budget r.rest d.text d.rest)
+      (shows.budget ∙ ran.budget) d.converts in
       record {
         texts = r.texts ++ d.text ∷ [];
         rest = d.rest;
-        taken = r.taken + took.0;
+        count = r.count + took.0;
         left_is = d.left_is;
-        taken_is = moved ∙ ap (counts took.0) (shows.taken ∙ r.taken_is);
-        rest_is = left ∙ (ap (drop took.0) r.rest_is ∙ drop-drop took.0 r.taken input);
+        taken_is = moved ∙ (ap (counts took.0) (shows.taken ∙ r.taken_is)
+            ∙ counts_more r.count took.0 (r.count + took.0) start.taken refl);
+        rest_is = left ∙ (ap (drop took.0) r.rest_is ∙ drop-drop took.0 r.count input);
         sum = omega (arith, before, all);
-        row = row_more command r.texts d.text input r.rest d.rest r.row d.converts;
+        row = row_more command start.budget r.texts d.text input r.rest d.rest r.row converts;
         written = subst (λ (xs : List ℕ). Appends xs held.written i.written)
             (sym (together_more r.texts d.text))
             (appends_then (together r.texts) d.text held.written h.written i.written r.written
@@ -96,50 +108,68 @@ pub not_true : (flag : Bool) → flag ≡ false → IsTrue flag → ⊥
 not_true true e t = cc
 not_true false e t = cc
 
-pub ended : (command : Command) (start a : View) (held h : Output) → Ran command start a held h
-    → Told a.told (λ xs. xs ≡ [])
-    → Told start.told (λ input. RunsOver command input held.written h.written (Ok tt))
-ended command start a held h ran end input told =
+pub ended : (command : Command) (start a b : View) (held h : Output)
+    → Ran command start a held h → Told a.told (λ xs. xs ≡ [])
+    → Told start.told (λ input. RunsOver command input start b held.written h.written (Ok tt))
+ended command start a b held h ran end input told =
     let r = ran.over input told in
     record {
       texts = r.texts;
       rest = r.rest;
       row = r.row;
       ok = (end r.rest r.left_is, r.written);
-      at = tt;
       err = tt;
     }
 
-at_is : (at taken rest input : ℕ) (known : Option ℕ) → known ≡ Some taken → known ≡ Some at
-    → taken + rest ≡ input → at + rest ≡ input
-at_is at taken rest input known p q sum = let same : at ≡ taken = cc in omega (arith, same, sum)
+at_is : (at count : ℕ) (input rest : List ℕ) (start known : Option ℕ) → known ≡ counts count start
+    → known ≡ Some at → count + length rest ≡ length input → StandsAt start input rest at
+at_is at count input rest None known p q sum = tt
+at_is at count input rest (Some before) known p q sum =
+    let same : at ≡ before + count = cc in omega (arith, same, sum)
 
-pub unread : (command : Command) (at : ℕ) (start a : View) (held h : Output)
+pub unread : (command : Command) (at : ℕ) (start a b : View) (held h : Output)
     → Ran command start a held h → a.taken ≡ Some at
-    → Told start.told
-    (λ input. RunsOver command input held.written h.written (Err (record { at = at; kind = Read })))
-unread command at start a held h ran taken input told =
+    → Told start.told (λ input. RunsOver command input start b held.written h.written
+    (Err (record { at = at; kind = Read })))
+unread command at start a b held h ran taken input told =
     let r = ran.over input told in
     record {
       texts = r.texts;
       rest = r.rest;
       row = r.row;
       ok = tt;
-      at = at_is at r.taken (length r.rest) (length input) a.taken r.taken_is taken r.sum;
-      err = r.written;
+      err = (
+        at_is at r.count input r.rest start.taken a.taken r.taken_is taken r.sum,
+        r.written,
+      );
     }
 
-fault_at : (command : Command) (kind : Kind) (texts : List (List ℕ)) (rest : List ℕ) (b c : View)
-    (held h i : Output) → Appends (together texts) held.written h.written → b.told ≡ Some rest
+fault_at : (command : Command) (at : ℕ) (kind : Kind) (texts : List (List ℕ))
+    (input rest : List ℕ) (start b c : View) (held h i : Output)
+    → StandsAt start.taken input rest at → b.budget ≡ start.budget
+    → Appends (together texts) held.written h.written → b.told ≡ Some rest
     → rest ≢ [] → Fails command kind b c h i
-    → FaultAt command kind texts rest held.written i.written
-fault_at command Read texts rest b c held h i appends told some fails =
-    subst (λ (o : Output). Appends (together texts) held.written o.written) (sym fails.1) appends
-fault_at command Write texts rest b c held h i appends told some fails = λ _. fails.2 rest told
-fault_at command OutOfMemory texts rest b c held h i appends told some fails =
-    subst (λ (o : Output). Appends (together texts) held.written o.written) (sym fails.2) appends
-fault_at command _ texts rest b c held h i appends told some fails =
-    let f = fails.2 rest told in (
+    → FaultAt command texts input rest start c held.written i.written at kind
+fault_at command at Read texts input rest start b c held h i stands budget appends told some
+    fails = (
+      stands,
+      subst (λ (o : Output). Appends (together texts) held.written o.written) (sym fails.1) appends,
+    )
+fault_at command at Write texts input rest start b c held h i stands budget appends told some
+    fails = inl (
+      stands,
+      subst (λ (steps : Option ℕ). ItemIsTaken command steps rest c.told) budget
+          (fails.2 rest told),
+    )
+fault_at command at OutOfMemory texts input rest start b c held h i stands budget appends told some
+    fails = (
+      stands,
+      subst (λ (o : Output). Appends (together texts) held.written o.written) (sym fails.2) appends,
+    )
+fault_at command at kind texts input rest start b c held h i stands budget appends told some fails =
+    let f = subst (λ (steps : Option ℕ). StopsAs command steps kind rest
+    × ¬ (BeginsItem command steps rest)) budget (fails.2 rest told) in (
+      stands,
       subst (λ (o : Output). Appends (together texts) held.written o.written) (sym fails.1) appends,
       some,
       f.0,
@@ -149,17 +179,18 @@ fault_at command _ texts rest b c held h i appends told some fails =
 pub stopped : (command : Command) (at : ℕ) (kind : Kind) (start a b c : View) (held h i : Output)
     → Ran command start a held h → a.taken ≡ Some at → Shows [] a b → Told a.told (λ xs. xs ≢ [])
     → Fails command kind b c h i
-    → Told start.told
-    (λ input. RunsOver command input held.written i.written (Err (record { at = at; kind = kind })))
+    → Told start.told (λ input. RunsOver command input start c held.written i.written
+    (Err (record { at = at; kind = kind })))
 stopped command at kind start a b c held h i ran taken shows some fails input told =
     let r = ran.over input told in record {
       texts = r.texts;
       rest = r.rest;
       row = r.row;
       ok = tt;
-      at = at_is at r.taken (length r.rest) (length input) a.taken r.taken_is taken r.sum;
-      err = fault_at command kind r.texts r.rest b c held h i r.written
-          (shows.told r.rest r.left_is) (some r.rest r.left_is) fails;
+      err = fault_at command at kind r.texts input r.rest start b c held h i
+          (at_is at r.count input r.rest start.taken a.taken r.taken_is taken r.sum)
+          (shows.budget ∙ ran.budget) r.written (shows.told r.rest r.left_is)
+          (some r.rest r.left_is) fails;
     }
 
 -- ---- failures
@@ -191,17 +222,22 @@ stopped_moves command at _ start a b c held h i ran shows fails = (
       ∙ ran.unfailing,
 )
 
-pub all_taken : (command : Command) (start a b : View) (held h : Output)
-    → Ran command start a held h → Shows [] a b → Told a.told (λ xs. xs ≡ [])
-    → Told start.told (λ input. b.taken ≡ Some (length input))
-all_taken command start a b held h ran shows end input told =
-    let r = ran.over input told in
-    let none = ap length (end r.rest r.left_is) in
-    let sum = r.sum in
-    let all : r.taken ≡ length input = omega (arith, none, sum) in
-    shows.taken ∙ (r.taken_is ∙ ap Some all)
-
 -- ---- what is left
+
+ran_counted : (command : Command) (start a b : View) (held h : Output)
+    → Ran command start a held h → Leaves a b → FailedOrCounted a b → FailedOrCounted start b
+ran_counted command start a b held h ran leaves (inl failed) =
+    inl (failed_from start.failures a.failures b.failures ran.failures failed)
+ran_counted command start a b held h ran leaves (inr counted) = inr (λ input told ys left n gone.
+    let r = ran.over input told in
+    let l = leaves.rest r.rest r.left_is ys left in
+    let sum = r.sum in
+    let size : length ys ≡ length r.rest - l.0 = ap length l.1 ∙ length-drop l.0 r.rest in
+    let more : length r.rest - length ys + length ys ≡ length r.rest = omega (arith, size) in
+    let all : r.count + (length r.rest - length ys) ≡ n = omega (arith, sum, size, gone) in
+    counted r.rest r.left_is ys left (length r.rest - length ys) more
+    ∙ (ap (counts (length r.rest - length ys)) r.taken_is
+    ∙ counts_more r.count (length r.rest - length ys) n start.taken all))
 
 pub ran_leaves : (command : Command) (start a b : View) (held h : Output)
     → Ran command start a held h → Leaves a b → Leaves start b
@@ -210,7 +246,8 @@ ran_leaves command start a b held h ran leaves = record {
   rest = λ input told ys left.
       let r = ran.over input told in
       let l = leaves.rest r.rest r.left_is ys left in
-      (r.taken + l.0, l.1 ∙ (ap (drop l.0) r.rest_is ∙ drop-drop l.0 r.taken input));
+      (r.count + l.0, l.1 ∙ (ap (drop l.0) r.rest_is ∙ drop-drop l.0 r.count input));
+  counted = ran_counted command start a b held h ran leaves leaves.counted;
 }
 
 pub nothing_left : (command : Command) (start a b : View) (held h : Output)
@@ -218,5 +255,3 @@ pub nothing_left : (command : Command) (start a b : View) (held h : Output)
     → Told start.told (λ input. b.told ≡ Some [])
 nothing_left command start a b held h ran shows end input told = let r =
     ran.over input told in shows.told r.rest r.left_is ∙ ap Some (end r.rest r.left_is)
-
--- ---- memory

@@ -1,38 +1,59 @@
 -- What a run makes of its input.
-use Rattle.std.specs.Prelude.{◌≡◌, ◌≢◌, ℕ, ◌+◌, ◌⊎◌, List, [], length, Bool, true, Option}
-use Rattle.std.specs.Prelude.{Ok, Err, OnOk, IfErr, MatchResult}
+use Rattle.std.specs.Prelude.{◌≡◌, ◌≢◌, ℕ, ◌+◌, ◌⊎◌, List, [], length, Bool, true, Option, Some}
+use Rattle.std.specs.Prelude.{Ok, Err, OnOk, IfErr, IfSome, MatchResult}
 use Rattle.cbor4ii_rw.specs.View.{View}
 use Rattle.cbor4ii_rw.specs.Reader.{Failed}
-use Rattle.cbor4ii_rw.specs.Writer.{Output, Appends}
-use Rattle.cbor4ii_tool.specs.Item.{IsRow, BeginsItem, StopsAs, TakesMemory, together}
+use Rattle.cbor4ii_rw.specs.Writer.{Output, Appends, one_more}
+use Rattle.cbor4ii_items.specs.Moves.{Counted}
+use Rattle.cbor4ii_tool.specs.Item.{IsRow, BeginsItem, ItemIsTaken, StopsAs, TakesMemory, together}
 use Rattle.cbor4ii_tool.specs.Fault.{Outcome}
 use Rattle.cbor4ii_tool.specs.declared.command.Command.{Command}
 use Rattle.cbor4ii_tool.specs.declared.fault.Kind.{Kind}
 use Rattle.cbor4ii_tool.specs.declared.fault.Kind.TheVariants.{Read, OutOfMemory, Write}
 
--- What a fault says where these texts were to be written and the rest stands behind their items;
--- `old` and `new` are what the writer held before and after. `Write` comes at an item, or behind
--- the last one, and says nothing of `new`; before any other fault the texts are written. `Read` and
--- `OutOfMemory` say nothing of the rest, and the other kinds are those by which it is refused.
-abbrev pub FaultAt : Command → Kind → List (List ℕ) → List ℕ
-    → Option (List ℕ) → Option (List ℕ) → Type 0
-FaultAt command Write texts rest old new = rest ≢ [] → BeginsItem command rest
-FaultAt command Read texts rest old new = Appends (together texts) old new
-FaultAt command OutOfMemory texts rest old new = Appends (together texts) old new
-FaultAt command kind texts rest old new =
-    Appends (together texts) old new × (rest ≢ [])
-    × StopsAs command kind rest × ¬ (BeginsItem command rest)
+-- the rest of the input stands behind so many bytes in all: those that were taken before the input,
+-- where they are counted, and those of the input before the rest
+abbrev pub StandsAt : Option ℕ → List ℕ → List ℕ → ℕ → Type 0
+StandsAt taken input rest at = IfSome taken (λ before. at + length rest ≡ before + length input)
 
--- The input is a row of items and a rest. Without a fault nothing is left, and the texts of the
--- items are written; a fault stands behind the items.
-pub record RunsOver (command : Command) (input : List ℕ) (old new : Option (List ℕ))
-    (outcome : Outcome) : Type 0 where
+-- no item is taken where the rest begins: nothing is left, the reader failed, memory may have been
+-- lacking, or the rest is refused and begins no item
+abbrev pub NoItemFollows : Command → List ℕ → View → View → Type 0
+NoItemFollows command rest old new =
+    (rest ≡ []) ⊎ Failed old.failures new.failures ⊎ TakesMemory command
+    ⊎ (((kind : Kind) × StopsAs command old.budget kind rest)
+    × ¬ (BeginsItem command old.budget rest))
+
+-- What a fault says where these texts were to be written and the rest stands behind their items;
+-- `held` and `holds` are what the writer held before and after. But for `Write`, the fault stands
+-- at the rest, and the texts are written; `Read` and `OutOfMemory` say nothing of the rest, and the
+-- other kinds are those by which it is refused. `Write` stands at the rest where the item there was
+-- taken and could not be written; of `holds` nothing is said then. Where the flush failed, it
+-- stands behind all that was taken, the texts are written, and no item follows.
+abbrev pub FaultAt : Command → List (List ℕ) → List ℕ → List ℕ → View → View
+    → Option (List ℕ) → Option (List ℕ) → ℕ → Kind → Type 0
+FaultAt command texts input rest old new held holds at Write =
+    (StandsAt old.taken input rest at × ItemIsTaken command old.budget rest new.told)
+    ⊎ ((new.taken ≡ Some at) × Appends (together texts) held holds
+    × NoItemFollows command rest old new)
+FaultAt command texts input rest old new held holds at Read =
+    StandsAt old.taken input rest at × Appends (together texts) held holds
+FaultAt command texts input rest old new held holds at OutOfMemory =
+    StandsAt old.taken input rest at × Appends (together texts) held holds
+FaultAt command texts input rest old new held holds at kind =
+    StandsAt old.taken input rest at × Appends (together texts) held holds × (rest ≢ [])
+    × StopsAs command old.budget kind rest × ¬ (BeginsItem command old.budget rest)
+
+-- The input is a row of items, each under the reader's budget, and a rest. Without a fault nothing
+-- is left, and the texts of the items are written.
+pub record RunsOver (command : Command) (input : List ℕ) (old new : View)
+    (held holds : Option (List ℕ)) (outcome : Outcome) : Type 0 where
   pub texts : List (List ℕ)
   pub rest : List ℕ
-  pub row : IsRow command texts input rest
-  pub ok : OnOk outcome ((rest ≡ []) × Appends (together texts) old new)
-  pub at : IfErr outcome (λ fault. fault.at + length rest ≡ length input)
-  pub err : IfErr outcome (λ fault. FaultAt command fault.kind texts rest old new)
+  pub row : IsRow command old.budget texts input rest
+  pub ok : OnOk outcome ((rest ≡ []) × Appends (together texts) held holds)
+  pub err : IfErr outcome
+      (λ fault. FaultAt command texts input rest old new held holds fault.at fault.kind)
 
 -- a kind that says nothing of the bytes
 abbrev pub IsExcused : Kind → Type 0
@@ -43,31 +64,53 @@ IsExcused _ = ⊥
 
 -- Where the input as a whole is a row of items with these texts, they are written, and no fault of
 -- the input comes.
-abbrev pub ConvertsWhole : Command → List ℕ → Option (List ℕ) → Option (List ℕ) → Outcome → Type 0
-ConvertsWhole command input old new outcome =
-    (texts : List (List ℕ)) → IsRow command texts input []
-    → MatchResult outcome (λ _. Appends (together texts) old new) (λ fault. IsExcused fault.kind)
+abbrev pub ConvertsWhole : Command → Option ℕ → List ℕ → Option (List ℕ) → Option (List ℕ)
+    → Outcome → Type 0
+ConvertsWhole command budget input held holds outcome =
+    (texts : List (List ℕ)) → IsRow command budget texts input []
+    → MatchResult outcome (λ _. Appends (together texts) held holds)
+    (λ fault. IsExcused fault.kind)
 
 -- memory is wanted by values alone
 abbrev pub WantsMemory : Command → Kind → Type 0
 WantsMemory command OutOfMemory = TakesMemory command
 WantsMemory command _ = Unit {0}
 
--- Whom a fault blames: the reader failed where the kind is `Read`, and only there; where it is
--- `Write` the writer failed.
-abbrev pub BlamesAt : Kind → View → View → Output → Output → Type 0
-BlamesAt Read old new held holds = Failed old.failures new.failures
-BlamesAt Write old new held holds =
-    (new.failures ≡ old.failures) × Failed held.failures holds.failures
-BlamesAt _ old new held holds = new.failures ≡ old.failures
+-- the reader failed, or its count of bytes rose by as many as are gone
+abbrev pub FailedOrCounted : View → View → Type 0
+FailedOrCounted old new = Failed old.failures new.failures ⊎ Counted old new
 
--- without a fault nobody failed
-abbrev pub RunBlames : Outcome → View → View → Output → Output → Type 0
-RunBlames (Ok _) old new held holds =
+-- a flush succeeds, or is one failure more
+abbrev pub FlushCounts : Bool → ℕ → ℕ → Type 0
+FlushCounts flushed old new = ((flushed ≡ true) × (new ≡ old)) ⊎ (new ≡ one_more old)
+
+-- the writer failed at an item, and then the flush succeeded, or failed once more
+pub record FailsAtItem (flushed : Bool) (held holds : ℕ) : Type 0 where
+  pub between : ℕ
+  pub failed : Failed held between
+  pub flush : FlushCounts flushed between holds
+
+-- Whom a fault blames. At `Read` the reader failed, and the writer did not. At `Write` the writer
+-- failed at an item, and the reader did not, or the flush alone failed, behind all that was taken,
+-- whether or not the reader had failed. At every other kind nobody failed.
+abbrev pub BlamesAt : Kind → ℕ → Bool → View → View → Output → Output → Type 0
+BlamesAt Read at flushed old new held holds =
+    Failed old.failures new.failures × (holds.failures ≡ held.failures)
+BlamesAt Write at flushed old new held holds =
+    ((new.failures ≡ old.failures) × FailsAtItem flushed held.failures holds.failures)
+    ⊎ ((new.taken ≡ Some at) × (holds.failures ≡ one_more held.failures)
+    × ((new.failures ≡ old.failures) ⊎ Failed old.failures new.failures))
+BlamesAt _ at flushed old new held holds =
     (new.failures ≡ old.failures) × (holds.failures ≡ held.failures)
-RunBlames (Err fault) old new held holds = BlamesAt fault.kind old new held holds
 
--- what was written was handed to the stream; after a fault it was, or the writer failed
-abbrev pub Hands : Outcome → Bool → Output → Output → Type 0
-Hands (Ok _) flushed held holds = flushed ≡ true
-Hands (Err _) flushed held holds = (flushed ≡ true) ⊎ Failed held.failures holds.failures
+-- whom an outcome blames; without a fault nobody failed
+abbrev pub RunBlames : Outcome → Bool → View → View → Output → Output → Type 0
+RunBlames (Ok _) flushed old new held holds =
+    (new.failures ≡ old.failures) × (holds.failures ≡ held.failures)
+RunBlames (Err fault) flushed old new held holds =
+    BlamesAt fault.kind fault.at flushed old new held holds
+
+-- what was written was handed to the stream, unless the writer failed
+abbrev pub Hands : Outcome → Bool → Type 0
+Hands (Ok _) flushed = flushed ≡ true
+Hands (Err fault) flushed = fault.kind ≢ Write → flushed ≡ true

@@ -36,7 +36,7 @@ pub enum Kind {
     OutOfMemory,
     /// An item stands there, or may, and not by its canonical spelling.
     NotCanonical,
-    /// There was no memory for what is written, or it could not be written.
+    /// There was no memory for what is written, or it could not be written or flushed.
     Write,
 }
 
@@ -67,9 +67,9 @@ impl Kind {
 /// Where a run stopped, and why. It prints as `fault at 5: Eof`.
 #[derive(Clone, Copy, Debug, PartialEq, Eq)]
 pub struct Fault {
-    /// How many bytes of the input the items before it take.
+    /// How many bytes were taken before the item in work, or in all where a flush failed.
     pub at: u64,
-    /// Why the item there was not read or written.
+    /// Why the item there was not read or written, or that the flush failed.
     pub kind: Kind,
 }
 

@@ -1,5 +1,5 @@
 //! One item of a command: taken, and what stands for it written.
-ghost use Rattle.std.specs.Prelude.{◌≡◌, Some, IfErr, OnOk};
+ghost use Rattle.std.specs.Prelude.{IfErr, OnOk};
 ghost use Rattle.cbor4ii_rw.specs.Stream.{stream_view};
 ghost use Rattle.cbor4ii_tool.specs.Steps.{Leaves, Done, Fails};
 ghost use Rattle.cbor4ii_tool.specs.declared.command.Command.TheVariants.{Ints, Canon, Lens};
@@ -15,14 +15,14 @@ use cbor4ii::{Canonical, Value};
 use std::alloc::Global;
 use std::io::BufRead;
 
-/// Takes the item of `command` that begins what is left, and writes what stands for it.
+/// Takes the item of `command` that begins what is left, under the reader's budget, and writes what
+/// stands for it. Where that cannot be written, the item was taken.
 pub fn convert<R: BufRead, W: Write>(
     alloc: Global,
     command: Command,
     reader: &mut IoReader<R>,
     writer: &mut W,
 ) -> Result<(), Kind>
-    requires { (stream_view R.Read.remaining R.consumable_len reader.old).budget ≡ Some 256 }
     ensures done { OnOk result (Done command
         (stream_view R.Read.remaining R.consumable_len reader.old)
         (stream_view R.Read.remaining R.consumable_len reader.new)
@@ -61,7 +61,6 @@ fn integer<S: Source, W: Write>(alloc: Global, reader: &mut S, writer: &mut W) -
 // A value, written in its canonical spelling.
 #[tactic(auto, using(crate::proofs::Items::moves_leaves))]
 fn value<S: Source, W: Write>(alloc: Global, reader: &mut S, writer: &mut W) -> Result<(), Kind>
-    requires { (S.view reader.old).budget ≡ Some 256 }
     ensures done { OnOk result (Done Canon (S.view reader.old) (S.view reader.new)
         (W.view writer.old) (W.view writer.new)) }
     ensures fails { IfErr result (λ kind. Fails Canon kind (S.view reader.old) (S.view reader.new)
@@ -81,7 +80,6 @@ fn value<S: Source, W: Write>(alloc: Global, reader: &mut S, writer: &mut W) -> 
 // A value in its canonical spelling, written again.
 #[tactic(auto, using(crate::proofs::Items::moves_leaves))]
 fn canonical<S: Source, W: Write>(alloc: Global, reader: &mut S, writer: &mut W) -> Result<(), Kind>
-    requires { (S.view reader.old).budget ≡ Some 256 }
     ensures done { OnOk result (Done Strict (S.view reader.old) (S.view reader.new)
         (W.view writer.old) (W.view writer.new)) }
     ensures fails { IfErr result (λ kind. Fails Strict kind (S.view reader.old) (S.view reader.new)
@@ -105,7 +103,6 @@ fn length<R: BufRead, W: Write>(
     reader: &mut IoReader<R>,
     writer: &mut W,
 ) -> Result<(), Kind>
-    requires { (stream_view R.Read.remaining R.consumable_len reader.old).budget ≡ Some 256 }
     ensures done { OnOk result (Done Lens
         (stream_view R.Read.remaining R.consumable_len reader.old)
         (stream_view R.Read.remaining R.consumable_len reader.new)

@@ -1,11 +1,11 @@
 //! The program, over its arguments and its three streams.
-ghost use Rattle.std.specs.Prelude.{◌≡◌, ◌≢◌, ◌⊎◌, List, ℕ, Option, Ok, None, IfOk, IfErr, IsErr};
+ghost use Rattle.std.specs.Prelude.{◌≡◌, ◌≢◌, ◌⊎◌, Ok, None, IfOk, IfErr, IsErr};
 ghost use Rattle.std.specs.Prelude.{IsOkAnd};
 ghost use Rattle.std.specs.IoError.{error_kind};
 ghost use Rattle.cbor4ii_rw.specs.View.{Told};
 ghost use Rattle.cbor4ii_rw.specs.Stream.{most_bytes, cut_known};
-ghost use Rattle.cbor4ii_tool.specs.Run.{RunsOver, WantsMemory};
-ghost use Rattle.cbor4ii_tool.specs.Program.{Names, NamesNone, EndsIn, Chooses};
+ghost use Rattle.cbor4ii_tool.specs.Run.{WantsMemory};
+ghost use Rattle.cbor4ii_tool.specs.Program.{Names, NamesNone, EndsIn, MayEnd, Chooses};
 
 use crate::arguments::command;
 use crate::command::Command;
@@ -84,7 +84,7 @@ fn stream<R: Read + Drop, W: Write + Drop>(
     output: W,
 ) -> Result<(), Fault>
     ensures runs { Told (cut_known most_bytes (R.remaining input)) (λ bytes.
-        (holds : Option (List ℕ)) × RunsOver command bytes (W.contents output) holds result) }
+        MayEnd command bytes (W.contents output) result) }
     ensures memory { IfErr result (λ fault.
         WantsMemory command fault.kind ⊎ (fault.at ≡ 0)) }
 {

@@ -1,12 +1,13 @@
 //! What the program does with its input.
-ghost use Rattle.std.specs.Prelude.{◌≡◌, ◌↔◌, [], length, Some, IfOk, IfErr, OnOk, OnErr, IsTrue};
+ghost use Rattle.std.specs.Prelude.{◌≡◌, ◌↔◌, [], Some, IfOk, IfErr, OnOk, OnErr, IsTrue};
 ghost use Rattle.cbor4ii_rw.specs.View.{Told};
 ghost use Rattle.cbor4ii_rw.specs.Reader.{Shows, Breaks, Keeps};
 ghost use Rattle.cbor4ii_rw.specs.Stream.{stream_view};
 ghost use Rattle.cbor4ii_rw.specs.Written.{stream_output, is_flushed};
 ghost use Rattle.cbor4ii_items.specs.Moves.{EndsOrForgets};
-ghost use Rattle.cbor4ii_tool.specs.Run.{RunsOver, ConvertsWhole, WantsMemory, RunBlames, Hands};
-ghost use Rattle.cbor4ii_tool.specs.Steps.{Leaves, EndsRun, MovesFailures};
+ghost use Rattle.cbor4ii_tool.specs.Run.{RunsOver, ConvertsWhole, WantsMemory, FailedOrCounted};
+ghost use Rattle.cbor4ii_tool.specs.Run.{RunBlames, Hands};
+ghost use Rattle.cbor4ii_tool.specs.Steps.{Leaves, EndsRun, MovesFailures, failed_at};
 ghost use Rattle.cbor4ii_tool.specs.declared.fault.Kind.TheVariants.{Read};
 
 use crate::command::Command;
@@ -25,30 +26,34 @@ use std::io::{self, BufRead};
 /// writes each with its shortest argument (section 4.2.1). `Command::Canon` takes values, and
 /// writes each in its canonical spelling. `Command::Lens` skips items, and writes the length of
 /// each in bytes, in decimal and with a newline. `Command::Strict` takes values in their canonical
-/// spelling, and no other, and writes each again. Each item may take 256 steps. An input of at most
-/// 2^64-1 bytes is read whole. Memory is taken for values alone, one at a time.
+/// spelling, and no other, and writes each again. Each item may take the steps that the reader has.
+/// An input of at most 2^64-1 bytes, less those that were taken before, is read whole. Memory is
+/// taken for values alone, one at a time.
 ///
 /// # Errors
 ///
-/// The fault's `at` is how many bytes the items before it take, and its `kind` the name of the
-/// error that the item there is refused by, `Read` where the reader failed, and `Write` where the
-/// writer did; at a flush that fails, `at` is all that was taken. But for `Write`, the items before
-/// the fault have been written, and the writer was flushed, or failed at that. Of what is written
-/// where the writer fails, nothing is promised.
+/// A fault's `at` is how many bytes were taken before the item in work, as `IoReader::taken` counts
+/// them. Its `kind` is the name of the error by which the item is refused, `Read` where the reader
+/// failed, or `Write` where the item was taken and could not be written. In each case but the last,
+/// the items before it have been written, and the writer was flushed. Where that flush fails,
+/// behind a fault of the input too, the answer is `Write`, and `at` is all that was taken. A
+/// failure of the writer at an item stays the answer. So the kind is `Write` exactly where the
+/// writer failed. Of what is written where it failed at an item, nothing is promised.
 pub fn run<R: BufRead, W: io::Write>(
     alloc: Global,
     command: Command,
     reader: &mut IoReader<R>,
     writer: &mut IoWriter<W>,
 ) -> Result<(), Fault>
-    requires taken { (stream_view R.Read.remaining R.consumable_len reader.old).taken ≡ Some 0 }
-    requires budget { (stream_view R.Read.remaining R.consumable_len reader.old).budget
-        ≡ Some 256 }
     ensures runs { Told (stream_view R.Read.remaining R.consumable_len reader.old).told (λ input.
-        RunsOver command input (stream_output W.contents writer.old).written
+        RunsOver command input (stream_view R.Read.remaining R.consumable_len reader.old)
+        (stream_view R.Read.remaining R.consumable_len reader.new)
+        (stream_output W.contents writer.old).written
         (stream_output W.contents writer.new).written result) }
     ensures complete { Told (stream_view R.Read.remaining R.consumable_len reader.old).told
-        (λ input. ConvertsWhole command input (stream_output W.contents writer.old).written
+        (λ input. ConvertsWhole command
+        (stream_view R.Read.remaining R.consumable_len reader.old).budget input
+        (stream_output W.contents writer.old).written
         (stream_output W.contents writer.new).written result) }
     ensures memory { IfErr result (λ fault. WantsMemory command fault.kind) }
     ensures ended { OnOk result
@@ -57,21 +62,23 @@ pub fn run<R: BufRead, W: io::Write>(
     ensures left { EndsOrForgets
         (stream_view R.Read.remaining R.consumable_len reader.old).told
         (stream_view R.Read.remaining R.consumable_len reader.new).told }
+    ensures counted { FailedOrCounted
+        (stream_view R.Read.remaining R.consumable_len reader.old)
+        (stream_view R.Read.remaining R.consumable_len reader.new) }
     ensures steps { (stream_view R.Read.remaining R.consumable_len reader.new).budget
-        ≡ Some 256 }
-    ensures blames { RunBlames result
+        ≡ (stream_view R.Read.remaining R.consumable_len reader.old).budget }
+    ensures blames { RunBlames result (is_flushed writer.new)
         (stream_view R.Read.remaining R.consumable_len reader.old)
         (stream_view R.Read.remaining R.consumable_len reader.new)
         (stream_output W.contents writer.old) (stream_output W.contents writer.new) }
-    ensures flushed { Hands result (is_flushed writer.new)
-        (stream_output W.contents writer.old) (stream_output W.contents writer.new) }
+    ensures flushed { Hands result (is_flushed writer.new) }
 {
     let outcome = convert_items(alloc, command, reader, writer);
     finish(outcome, writer, reader.taken())
 }
 
-// Flushes the writer, behind a fault too, and answers the first fault, if there is one.
-#[tactic(auto, using(crate::proofs::Finish::flush_counts))]
+// Flushes the writer, behind a fault too. The first failure of the writer is the answer, and else
+// the outcome of the items.
 fn finish<W: io::Write>(
     outcome: Result<(), Fault>,
     writer: &mut IoWriter<W>,
@@ -83,14 +90,22 @@ fn finish<W: io::Write>(
         (stream_output W.contents writer.old).failures
         (stream_output W.contents writer.new).failures }
 {
-    let flushed = writer.flush();
-    outcome?;
-    match flushed {
-        Ok(()) => Ok(()),
+    match writer.flush() {
+        Ok(()) => outcome,
         Err(_) => Err(Fault {
-            at,
+            at: failed_at(outcome, at),
             kind: Kind::Write,
         }),
+    }
+}
+
+// Where the writer failed first, if its flush fails at `at`, behind this outcome of the items.
+fn failed_at(outcome: Result<(), Fault>, at: u64) -> u64
+    ensures { result ≡ failed_at outcome at }
+{
+    match outcome {
+        Err(fault) if fault.kind == Kind::Write => fault.at,
+        _ => at,
     }
 }
 
@@ -101,14 +116,10 @@ fn convert_items<R: BufRead, W: Write>(
     reader: &mut IoReader<R>,
     writer: &mut W,
 ) -> Result<(), Fault>
-    requires taken { (stream_view R.Read.remaining R.consumable_len reader.old).taken ≡ Some 0 }
-    requires budget { (stream_view R.Read.remaining R.consumable_len reader.old).budget
-        ≡ Some 256 }
     ensures runs { Told (stream_view R.Read.remaining R.consumable_len reader.old).told (λ input.
-        RunsOver command input (W.view writer.old).written (W.view writer.new).written result) }
-    ensures all { OnOk result (Told (stream_view R.Read.remaining R.consumable_len reader.old).told
-        (λ input. (stream_view R.Read.remaining R.consumable_len reader.new).taken
-        ≡ Some (length input))) }
+        RunsOver command input (stream_view R.Read.remaining R.consumable_len reader.old)
+        (stream_view R.Read.remaining R.consumable_len reader.new)
+        (W.view writer.old).written (W.view writer.new).written result) }
     ensures ended { OnOk result
         (Told (stream_view R.Read.remaining R.consumable_len reader.old).told (λ input.
         (stream_view R.Read.remaining R.consumable_len reader.new).told ≡ Some [])) }

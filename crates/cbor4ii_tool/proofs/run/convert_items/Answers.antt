@@ -1,10 +1,10 @@
-use Rattle.cbor4ii_tool.proofs.Loop.{begun, more, unread, ended, all_taken, stopped, not_true}
+use Rattle.cbor4ii_tool.proofs.Loop.{begun, more, unread, ended, stopped, not_true}
 use Rattle.cbor4ii_tool.proofs.Loop.{ran_leaves, nothing_left}
 use Rattle.cbor4ii_tool.proofs.Items.{shows_leaves, breaks_leaves, shown_leaves}
 use Rattle.cbor4ii_tool.proofs.run.convert_items.Goals as goal
 
 pub loop-is_end-init : goal.loop-is_end-init
-loop-is_end-init g c = begun c.args.command _ _ c.requires.taken
+loop-is_end-init g c = begun c.args.command _ _
 
 pub loop-is_end-preserved : goal.loop-is_end-preserved
 loop-is_end-preserved g c =
@@ -14,17 +14,12 @@ loop-is_end-preserved g c =
 pub returns-in-Err-clause-runs : goal.returns-in-Err-clause-runs
 returns-in-Err-clause-runs g c =
     rw c.in-Err.ensures.kind
-    (unread c.args.command c.taken-at.result _ _ _ _ c.loop-is_end.invariant
+    (unread c.args.command c.taken-at.result _ _ _ _ _ c.loop-is_end.invariant
     c.taken-at.ensures.taken)
 
 pub returns-then-is_end-clause-runs : goal.returns-then-is_end-clause-runs
 returns-then-is_end-clause-runs g c =
-    ended c.args.command _ _ _ _ c.loop-is_end.invariant
-    (λ xs told. (c.in-Ok.ensures.end xs told).0 c.if-is_end.true)
-
-pub returns-then-is_end-clause-all : goal.returns-then-is_end-clause-all
-returns-then-is_end-clause-all g c =
-    all_taken c.args.command _ _ _ _ _ c.loop-is_end.invariant c.in-Ok.ensures.shows
+    ended c.args.command _ _ _ _ _ c.loop-is_end.invariant
     (λ xs told. (c.in-Ok.ensures.end xs told).0 c.if-is_end.true)
 
 pub returns-in-Err-convert-clause-runs : goal.returns-in-Err-convert-clause-runs
