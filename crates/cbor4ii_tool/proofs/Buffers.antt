@@ -6,7 +6,7 @@ use Rattle.std.specs.Io.KnownBytes.{prepend_known, append_known}
 use Rattle.cbor4ii_rw.specs.View.{View, Told}
 use Rattle.cbor4ii_rw.specs.Stream.{most_bytes, cut_known}
 use Rattle.cbor4ii_tool.specs.Run.{RunsOver}
-use Rattle.cbor4ii_tool.specs.Program.{IsFreshOver, MayEnd}
+use Rattle.cbor4ii_tool.specs.Program.{MayEnd}
 use Rattle.cbor4ii_tool.specs.Fault.{Outcome}
 use Rattle.cbor4ii_tool.specs.declared.command.Command.{Command}
 use Rattle.cbor4ii_tool.specs.declared.fault.Kind.TheVariants.{OutOfMemory}

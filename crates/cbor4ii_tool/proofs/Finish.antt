@@ -9,7 +9,6 @@ use Rattle.cbor4ii_tool.specs.Run.{FaultAt, RunsOver, WantsMemory, RunBlames, Bl
 use Rattle.cbor4ii_tool.specs.Steps.{MovesFailures, FailsAt, first_failure, failed_at, EndsRun}
 use Rattle.cbor4ii_tool.specs.Fault.{Outcome}
 use Rattle.cbor4ii_tool.specs.declared.command.Command.{Command}
-use Rattle.cbor4ii_tool.specs.declared.fault.Fault.{Fault}
 use Rattle.cbor4ii_tool.specs.declared.fault.Kind.{Kind}
 use Rattle.cbor4ii_tool.specs.declared.fault.Kind.TheVariants.{Read, OutOfMemory, Write}
 

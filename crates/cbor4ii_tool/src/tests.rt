@@ -1,9 +1,12 @@
 //! What no contract says: whole runs over rows of bytes, streams that fail at each read, write and
 //! flush, the texts on standard error, and the exit status. Where memory is refused, a test ends
 //! with that error, once what was written before is seen to be right.
+mod begun;
+mod items;
 mod program;
 mod rows;
 mod streams;
+mod table;
 
 use crate::command::Command;
 use crate::fault::{Fault, Kind};
@@ -42,6 +45,16 @@ fn runs(
         return Err(io::Error::from(ErrorKind::OutOfMemory));
     }
     Ok((outcome, output))
+}
+
+// An answer that tells want of memory ends the test.
+fn had_memory(outcome: Result<(), Fault>) -> io::Result<Result<(), Fault>> {
+    match outcome {
+        Err(fault) if fault.kind == Kind::OutOfMemory => {
+            Err(io::Error::from(ErrorKind::OutOfMemory))
+        }
+        _ => Ok(outcome),
+    }
 }
 
 // The items of the command are values.
@@ -139,10 +152,17 @@ fn the_first_read_and_the_second_fail(rt: HostRuntime) -> io::Result<()> {
     Ok(())
 }
 
-// A write fails behind so many others, of which each appended a byte at least, or all is written.
-fn write_fails(rt: &(impl Abort + AllocGlobal), row: &Row, good_writes: usize) -> io::Result<()> {
+// A write fails behind so many others, of which each appended a byte at least, or all is written;
+// the flush fails too where `stays` is set. The first failure is the answer.
+fn write_fails(
+    rt: &(impl Abort + AllocGlobal),
+    row: &Row,
+    good_writes: usize,
+    stays: bool,
+) -> io::Result<()> {
     let mut output = Output::new(rt.alloc())?;
     output.good_writes = good_writes;
+    output.stays = stays;
     let (outcome, output) = runs(rt, row, 64, usize::MAX, output)?;
     assert!(rt;
         row.written.starts_with(&output.written),
@@ -150,7 +170,12 @@ fn write_fails(rt: &(impl Abort + AllocGlobal), row: &Row, good_writes: usize) -
         row.input
     );
     if output.written.len() == row.written.len() {
-        assert_eq!(rt; outcome, row.outcome(), "at {:?}", row.input);
+        let want = if stays {
+            row.unflushed()
+        } else {
+            row.outcome()
+        };
+        assert_eq!(rt; outcome, want, "at {:?}", row.input);
         return Ok(());
     }
     assert!(rt; output.written.len() >= good_writes, "at {:?}", row.input);
@@ -162,9 +187,9 @@ fn write_fails(rt: &(impl Abort + AllocGlobal), row: &Row, good_writes: usize) -
     Ok(())
 }
 
-fn each_write_fails(rt: &(impl Abort + AllocGlobal), row: &Row) -> io::Result<()> {
+fn each_write_fails(rt: &(impl Abort + AllocGlobal), row: &Row, stays: bool) -> io::Result<()> {
     for good_writes in 0..row.written.len() + 1 {
-        write_fails(rt, row, good_writes)?;
+        write_fails(rt, row, good_writes, stays)?;
     }
     Ok(())
 }
@@ -172,22 +197,19 @@ fn each_write_fails(rt: &(impl Abort + AllocGlobal), row: &Row) -> io::Result<()
 #[test]
 fn each_write_fails_in_turn(rt: HostRuntime) -> io::Result<()> {
     for row in ROWS {
-        each_write_fails(&rt, row)?;
+        each_write_fails(&rt, row, false)?;
+        each_write_fails(&rt, row, true)?;
     }
     Ok(())
 }
 
-// A flush fails: all is written, and the answer is the row's fault, or where it has none, that of
-// the flush.
-fn flush_fails(rt: &(impl Abort + AllocGlobal), row: &Row) -> io::Result<()> {
+// A flush fails, behind a fault of the input too: all is written, and the answer is the failure of
+// the flush, behind all that was taken.
+fn flush_fails(rt: &(impl Abort + AllocGlobal), row: &Row, width: usize) -> io::Result<()> {
     let mut output = Output::new(rt.alloc())?;
     output.stays = true;
-    let (outcome, output) = runs(rt, row, 64, usize::MAX, output)?;
-    let fault = row.fault.unwrap_or(Fault {
-        at: row.input.len() as u64,
-        kind: Kind::Write,
-    });
-    assert_eq!(rt; outcome, Err(fault), "at {:?}", row.input);
+    let (outcome, output) = runs(rt, row, width, usize::MAX, output)?;
+    assert_eq!(rt; outcome, row.unflushed(), "at {:?}", row.input);
     assert_eq!(rt;
         output.written.as_slice(),
         row.written,
@@ -200,25 +222,33 @@ fn flush_fails(rt: &(impl Abort + AllocGlobal), row: &Row) -> io::Result<()> {
 #[test]
 fn flushes_fail(rt: HostRuntime) -> io::Result<()> {
     for row in ROWS {
-        flush_fails(&rt, row)?;
+        flush_fails(&rt, row, 1)?;
+        flush_fails(&rt, row, 64)?;
     }
     Ok(())
 }
 
-fn takes_none(rt: &(impl Abort + AllocGlobal), row: &Row) {
+// From a slice into a slice, with no buffer between: what the row says, and no byte more.
+fn runs_over_slices(rt: &(impl Abort + AllocGlobal), row: &Row) {
     let mut room = [0; 64];
     let mut reader = IoReader::new(row.input);
     let mut writer = IoWriter::new(room.as_mut_slice());
     let outcome = run(rt.alloc(), row.command, &mut reader, &mut writer);
+    let unused = writer.into_inner().len();
     assert_eq!(rt; outcome, row.outcome(), "at {:?}", row.input);
-    assert!(rt; room.starts_with(row.written), "at {:?}", row.input);
+    assert_eq!(rt;
+        &room[..room.len() - unused],
+        row.written,
+        "at {:?}",
+        row.input
+    );
 }
 
 #[test]
-fn integers_and_lengths_take_no_memory(rt: HostRuntime) {
+fn integers_and_lengths_over_slices(rt: HostRuntime) {
     for row in ROWS {
         if !takes_memory(row.command) {
-            takes_none(&rt, row);
+            runs_over_slices(&rt, row);
         }
     }
 }

@@ -1,11 +1,14 @@
 //! The program as a whole: its status, and what it writes to its two outputs.
+use super::items::nested;
 use super::rows::{ROWS, Row};
 use super::streams::{Input, Output};
+use super::table::table;
 use super::takes_memory;
 use crate::command::Command;
+use crate::fault::{Fault, Kind};
 use crate::program::program;
 use std::alloc::{AllocError, Global};
-use std::io::{self, ErrorKind};
+use std::io::{self, ErrorKind, Write};
 use std::process::Abort;
 
 const USAGE: &[u8] = b"usage: cbor4ii_tool ints|canon|lens|strict\n";
@@ -79,6 +82,84 @@ fn runs_row(rt: &(impl Abort + AllocGlobal), row: &Row) -> io::Result<()> {
 fn rows(rt: HostRuntime) -> io::Result<()> {
     for row in ROWS {
         runs_row(&rt, row)?;
+    }
+    Ok(())
+}
+
+// A command, an input, what is written for it, and the line of its fault.
+type Printed = (Command, &'static [u8], &'static [u8], &'static [u8]);
+
+const PRINTED: &[Printed] = table! {
+    (Command::Canon, b"\x00\x5f\x5f\xff\xff", b"\x00", b"fault at 1: RequireLength\n"),
+    (Command::Canon, b"\x61\xff", b"", b"fault at 0: RequireUtf8\n"),
+    (Command::Strict, b"\x05\x61\xff", b"\x05", b"fault at 1: RequireUtf8\n"),
+};
+
+fn prints(rt: &(impl Abort + AllocGlobal), row: Printed) -> io::Result<()> {
+    let output = Output::new(rt.alloc())?;
+    let (status, output, errors) = runs(rt, row.0, input(row.1), output)?;
+    assert_eq!(rt; errors.written.as_slice(), row.3);
+    assert_eq!(rt; status, 1);
+    assert_eq!(rt; output.written.as_slice(), row.2);
+    Ok(())
+}
+
+#[test]
+fn kinds_of_refusals(rt: HostRuntime) -> io::Result<()> {
+    let deep = b"fault at 0: DepthOverflow\n".as_slice();
+    prints(&rt, (Command::Canon, nested(rt.alloc(), 128)?, b"", deep))?;
+    prints(&rt, (Command::Lens, nested(rt.alloc(), 256)?, b"", deep))?;
+    for row in PRINTED {
+        prints(&rt, *row)?;
+    }
+    Ok(())
+}
+
+const KINDS: &[(Kind, &[u8])] = table! {
+    (Kind::Read, b"fault at 7: Read\n"),
+    (Kind::Mismatch, b"fault at 7: Mismatch\n"),
+    (Kind::Unsupported, b"fault at 7: Unsupported\n"),
+    (Kind::Eof, b"fault at 7: Eof\n"),
+    (Kind::RequireLength, b"fault at 7: RequireLength\n"),
+    (Kind::RequireBorrowed, b"fault at 7: RequireBorrowed\n"),
+    (Kind::RequireUtf8, b"fault at 7: RequireUtf8\n"),
+    (Kind::LengthOverflow, b"fault at 7: LengthOverflow\n"),
+    (Kind::CastOverflow, b"fault at 7: CastOverflow\n"),
+    (Kind::ArithmeticOverflow, b"fault at 7: ArithmeticOverflow\n"),
+    (Kind::DepthOverflow, b"fault at 7: DepthOverflow\n"),
+    (Kind::Custom, b"fault at 7: Custom\n"),
+    (Kind::OutOfMemory, b"fault at 7: OutOfMemory\n"),
+    (Kind::NotCanonical, b"fault at 7: NotCanonical\n"),
+    (Kind::Write, b"fault at 7: Write\n"),
+};
+
+#[test]
+fn each_kind_is_printed(rt: HostRuntime) -> io::Result<()> {
+    for &(kind, line) in KINDS {
+        let mut output = Output::new(rt.alloc())?;
+        output.writeln(Fault { at: 7, kind })?;
+        assert_eq!(rt; output.written.as_slice(), line);
+    }
+    Ok(())
+}
+
+// A command, an input with a fault, and the line where what is written for the item before that
+// fault cannot be flushed.
+const UNFLUSHED: &[(Command, &[u8], &[u8])] = table! {
+    (Command::Ints, b"\x05\x19\x01", b"fault at 3: Write\n"),
+    (Command::Canon, b"\x05\x9f\x01", b"fault at 3: Write\n"),
+    (Command::Lens, b"\x05\x62\x61", b"fault at 3: Write\n"),
+    (Command::Strict, b"\x05\x18\x05\x00", b"fault at 3: Write\n"),
+};
+
+#[test]
+fn faults_are_not_flushed(rt: HostRuntime) -> io::Result<()> {
+    for &(command, bytes, line) in UNFLUSHED {
+        let mut output = Output::new(rt.alloc())?;
+        output.good_writes = 0;
+        let (status, _, errors) = runs(&rt, command, input(bytes), output)?;
+        assert_eq!(rt; errors.written.as_slice(), line);
+        assert_eq!(rt; status, 1);
     }
     Ok(())
 }

@@ -35,7 +35,7 @@ impl Output {
     /// One that does not fail, with room for what the rows write.
     pub fn new(alloc: Global) -> io::Result<Output> {
         Ok(Output {
-            written: Vec::with_capacity(alloc, 64)?,
+            written: Vec::with_capacity(alloc, 512)?,
             good_writes: usize::MAX,
             stays: false,
             flushed: 0,

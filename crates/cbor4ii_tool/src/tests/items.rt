@@ -1,0 +1,132 @@
+//! What `canon`, `lens` and `strict` make of one item, or of what is none.
+use super::had_memory;
+use super::streams::Output;
+use super::table::table;
+use crate::command::Command;
+use crate::fault::{Fault, Kind};
+use crate::run::run;
+use cbor4ii::utils::{IoReader, IoWriter};
+use std::alloc::{AllocError, Global};
+use std::io::{self, BufReader};
+use std::process::Abort;
+
+// What is written for an input, or the kind of the fault at 0.
+type Want = Result<&'static [u8], Kind>;
+
+const LEAST: &[u8] = b"\x3b\xff\xff\xff\xff\xff\xff\xff\xff";
+
+// An input, and what `canon` and `lens` make of it.
+const ITEMS: &[(&[u8], Want, Want)] = table! {
+    (b"", Ok(b""), Ok(b"")),
+    (b"\x1b\x00\x00\x00\x00\x00\x00\x00\x05", Ok(b"\x05"), Ok(b"9\n")),
+    (LEAST, Ok(LEAST), Ok(b"9\n")),
+    (b"\x5b\xff\xff\xff\xff\xff\xff\xff\xff", Err(Kind::Eof), Err(Kind::Eof)),
+    (b"\x5f\x5f\xff\xff", Err(Kind::RequireLength), Ok(b"4\n")),
+    (b"\x5f\x80\xff", Err(Kind::Mismatch), Ok(b"3\n")),
+    (b"\x61\xff", Err(Kind::RequireUtf8), Ok(b"2\n")),
+    (b"\x9f\x01", Err(Kind::Eof), Err(Kind::Eof)),
+    (b"\xbf\x01\xff", Err(Kind::Unsupported), Err(Kind::Unsupported)),
+    (b"\xe0", Err(Kind::Unsupported), Err(Kind::Unsupported)),
+    (b"\xf7", Ok(b"\xf6"), Ok(b"1\n")),
+};
+
+// An empty array in so many arrays of one item: whether it is a value within 256 steps, and what
+// `lens` makes of it.
+const NESTED: &[(usize, bool, Want)] = table! {
+    (127, true, Ok(b"128\n")),
+    (128, false, Ok(b"129\n")),
+    (255, false, Ok(b"256\n")),
+    (256, false, Err(Kind::DepthOverflow)),
+};
+
+// Values in their canonical spelling.
+const WRITTEN: &[&[u8]] = table! {
+    b"\x45\x01\x02\x03\x04\x05",
+    b"\x69\x73\x74\x72\x65\x61\x6d\x69\x6e\x67",
+    b"\x80",
+    b"\x83\x01\x82\x02\x03\x82\x04\x05",
+    b"\xa2\x61\x61\x01\x61\x62\x82\x02\x03",
+    b"\x82\x61\x61\xa1\x61\x62\x61\x63",
+    b"\xa2\x63\x46\x75\x6e\xf5\x63\x41\x6d\x74\x21",
+    b"\x82\x60\x61\x61",
+    b"\xa1\x61\x6b\x01",
+    b"\x82\x41\x01\x41\x02",
+    b"\xd8\x2a\x00",
+    b"\xa2\x01\x02\x01\x03",
+};
+
+/// An empty array in so many arrays of one item. The bytes stay for good.
+pub fn nested(alloc: Global, count: usize) -> Result<&'static [u8], AllocError> {
+    let mut bytes = vec![in alloc; 0x81; count]?;
+    bytes.push(0x80)?;
+    Ok(bytes.leak())
+}
+
+// Runs the command over the input, of which `width` bytes are shown at a time.
+fn converts(
+    rt: &(impl Abort + AllocGlobal),
+    command: Command,
+    input: &[u8],
+    width: usize,
+    want: Result<&[u8], Kind>,
+) -> io::Result<()> {
+    let mut reader = IoReader::new(BufReader::with_capacity(rt.alloc(), width, input)?);
+    let mut writer = IoWriter::new(Output::new(rt.alloc())?);
+    let outcome = had_memory(run(rt.alloc(), command, &mut reader, &mut writer))?;
+    let (want, written) = match want {
+        Ok(written) => (Ok(()), written),
+        Err(kind) => (Err(Fault { at: 0, kind }), b"".as_slice()),
+    };
+    assert_eq!(rt; outcome, want, "at {:?}", input);
+    assert_eq!(rt;
+        writer.into_inner().written.as_slice(),
+        written,
+        "at {:?}",
+        input
+    );
+    Ok(())
+}
+
+// The input is shown a byte at a time, and as a whole.
+fn converts_by_each(
+    rt: &(impl Abort + AllocGlobal),
+    command: Command,
+    input: &[u8],
+    want: Result<&[u8], Kind>,
+) -> io::Result<()> {
+    converts(rt, command, input, 1, want)?;
+    converts(rt, command, input, 512, want)
+}
+
+#[test]
+fn one_item(rt: HostRuntime) -> io::Result<()> {
+    for &(input, canon, lens) in ITEMS {
+        converts_by_each(&rt, Command::Canon, input, canon)?;
+        converts_by_each(&rt, Command::Lens, input, lens)?;
+    }
+    Ok(())
+}
+
+#[test]
+fn nested_items(rt: HostRuntime) -> io::Result<()> {
+    for &(count, is_value, lens) in NESTED {
+        let input = nested(rt.alloc(), count)?;
+        let canon = if is_value {
+            Ok(input)
+        } else {
+            Err(Kind::DepthOverflow)
+        };
+        converts_by_each(&rt, Command::Canon, input, canon)?;
+        converts_by_each(&rt, Command::Strict, input, canon)?;
+        converts_by_each(&rt, Command::Lens, input, lens)?;
+    }
+    Ok(())
+}
+
+#[test]
+fn canonical_spellings_stay(rt: HostRuntime) -> io::Result<()> {
+    for input in WRITTEN {
+        converts_by_each(&rt, Command::Strict, input, Ok(input))?;
+    }
+    Ok(())
+}
