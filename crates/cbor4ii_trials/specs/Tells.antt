@@ -7,17 +7,19 @@ use Rattle.cbor4ii_trials.specs.declared.readers.Counting.{Counting}
 use Rattle.cbor4ii_trials.specs.declared.writers.FailingWriter.{FailingWriter}
 use Rattle.cbor4ii_trials.specs.declared.writers.PushLengths.{PushLengths}
 
--- it counts its failures, and lends whole where it shows all that is left for as long as the input
+-- it counts its failures, tells no byte once it has forgotten them, and lends whole where it shows
+-- all that is left for as long as the input, at each fill
 abbrev pub test_view : TestReader → View
 test_view reader = record {
-  told = Some reader.bytes.now;
+  told = if reader.has_forgotten then None else Some reader.bytes.now;
   bound = length reader.bytes.now;
   advanceable = length reader.bytes.now;
   budget = reader.steps;
   failures = reader.failures;
   taken = None;
-  lends_whole = if reader.is_long then reader.is_whole else false;
-  remembers = true;
+  lends_whole = if reader.takes_turns then false
+      else if reader.is_long then reader.is_whole else false;
+  remembers = if reader.forgets then false else true;
 }
 
 abbrev pub counting_view : Counting → View

@@ -1,7 +1,8 @@
 //! Readers for tests: a decoder has to answer alike however its input is shown.
-ghost use Rattle.std.specs.Prelude.{◌≡◌, ◌<◌, None, Some, IsTrue, take, false};
+ghost use Rattle.std.specs.Prelude.{◌≡◌, None, Some, IsTrue, take, false};
 ghost use Rattle.std.proofs.Common.{rules};
-ghost use Rattle.cbor4ii_rw.specs.Reader.{StepsIn, step_back};
+ghost use Rattle.cbor4ii_rw.specs.Reader.{Breaks, StepsIn, step_back};
+ghost use Rattle.cbor4ii_rw.specs.View.{Told};
 ghost use Rattle.cbor4ii_trials.specs.Tells.{test_view, counting_view};
 
 use cbor4ii_rw::error::Never;
@@ -11,20 +12,26 @@ use cbor4ii_rw::read::{Read, Reference, Source};
 #[derive(Clone, Copy, Debug, PartialEq, Eq)]
 pub struct Failure;
 
-/// Shows one byte at a time or all that is left, which outlives the fill or does not, counts steps
-/// or lets items nest without a limit, and may fail at one show, or where nothing is left. It goes
-/// on after that, so that a decoder which passes over a failure is found out.
+/// Shows one byte at a time or all that is left, which outlives the fill or does not, or the one
+/// and the other in turn. It counts steps or lets items nest without a limit, and may fail at one
+/// show, or where nothing is left. It goes on after that, so that a decoder which passes over a
+/// failure is found out, or it has lost what was left.
 #[derive(Drop)]
 pub struct TestReader<'a> {
     bytes: &'a [u8],
     // None where items may nest without a limit.
     steps: Option<usize>,
+    // Whether the next show is of all that is left, and whether the next fill lasts.
     is_whole: bool,
     is_long: bool,
+    takes_turns: bool,
     // How often it shows before it fails.
     shows: usize,
     fails_at_end: bool,
     failures: u64,
+    // Whether a failure loses what is left, and whether one did.
+    forgets: bool,
+    has_forgotten: bool,
 }
 
 impl<'a> TestReader<'a> {
@@ -67,6 +74,20 @@ impl<'a> TestReader<'a> {
         TestReader::new(bytes, None, true, true)
     }
 
+    /// A reader with `limit` steps whose first fill is of all that is left, which lives as long as
+    /// the input, and whose second is of one byte, which does not outlive it, and so on in turn. It
+    /// shows all that is left and one byte in turn.
+    pub fn in_turn(bytes: &'a [u8], limit: usize) -> TestReader<'a>
+        ensures told { (test_view result).told ≡ Some bytes.now }
+        ensures budget { (test_view result).budget ≡ Some limit }
+        ensures failures { (test_view result).failures ≡ 0 }
+    {
+        TestReader {
+            takes_turns: true,
+            ..TestReader::new(bytes, Some(limit), true, true)
+        }
+    }
+
     /// A reader that fails at no show which comes.
     fn new(bytes: &'a [u8], steps: Option<usize>, is_whole: bool, is_long: bool) -> TestReader<'a>
         ensures told { (test_view result).told ≡ Some bytes.now }
@@ -79,9 +100,12 @@ impl<'a> TestReader<'a> {
             steps,
             is_whole,
             is_long,
+            takes_turns: false,
             shows: usize::MAX,
             fails_at_end: false,
             failures: 0,
+            forgets: false,
+            has_forgotten: false,
         }
     }
 
@@ -102,9 +126,21 @@ impl<'a> TestReader<'a> {
         }
     }
 
+    /// The same reader, which loses what is left where it fails.
+    pub fn forgetting(self) -> TestReader<'a>
+        ensures told { (test_view result).told ≡ (test_view self.entry).told }
+        ensures budget { (test_view result).budget ≡ (test_view self.entry).budget }
+        ensures failures { (test_view result).failures ≡ (test_view self.entry).failures }
+    {
+        TestReader {
+            forgets: true,
+            ..self
+        }
+    }
+
     /// The bytes that are left.
     pub fn remaining(&self) -> &'a [u8]
-        ensures { (test_view self.now).told ≡ Some result.now }
+        ensures { Told (test_view self.now).told (λ xs. result.now ≡ xs) }
     {
         self.bytes
     }
@@ -125,28 +161,61 @@ impl<'a> TestReader<'a> {
 
     /// Whether this is the show that fails, which is counted then.
     fn fails(&mut self) -> bool
-        ensures bytes { self.new.bytes.now ≡ self.old.bytes.now }
-        ensures steps { self.new.steps ≡ self.old.steps }
-        ensures whole { self.new.is_whole ≡ self.old.is_whole }
-        ensures long { self.new.is_long ≡ self.old.is_long }
-        ensures counted { IsTrue result → self.old.failures < self.new.failures }
-        ensures others { result ≡ false → self.new.failures ≡ self.old.failures }
+        ensures kept { result ≡ false → test_view self.new ≡ test_view self.old }
+        ensures broken { IsTrue result → Breaks (test_view self.old) (test_view self.new) }
     {
         let is_told = self.shows == 0 || (self.fails_at_end && self.bytes.is_empty());
         if is_told && self.failures == 0 {
             self.failures = 1;
+            if self.forgets {
+                self.bytes = &[];
+                self.has_forgotten = true;
+            }
             return true;
         }
         self.shows = self.shows.saturating_sub(1);
         false
     }
 
-    /// What it shows: all that is left, or one byte of it.
-    fn front(&self) -> &'a [u8]
-        ensures whole { IsTrue self.now.is_whole → result.now ≡ self.now.bytes.now }
-        ensures byte { self.now.is_whole ≡ false → result.now ≡ take 1 self.now.bytes.now }
+    /// Whether this show is of all that is left.
+    fn shows_whole(&mut self) -> bool
+        ensures kept { test_view self.new ≡ test_view self.old }
+        ensures bytes { self.new.bytes.now ≡ self.old.bytes.now }
+        ensures whole { IsTrue (test_view self.old).lends_whole → IsTrue result }
     {
-        if self.is_whole {
+        let is_whole = self.is_whole;
+        self.is_whole = is_whole != self.takes_turns;
+        is_whole
+    }
+
+    /// Whether the next fill is of all that is left.
+    fn fills_whole(&self) -> bool
+        ensures { IsTrue (test_view self.now).lends_whole → IsTrue result }
+    {
+        if self.takes_turns {
+            self.is_long
+        } else {
+            self.is_whole
+        }
+    }
+
+    /// Whether this fill lives as long as the input.
+    fn fills_long(&mut self) -> bool
+        ensures kept { test_view self.new ≡ test_view self.old }
+        ensures bytes { self.new.bytes.now ≡ self.old.bytes.now }
+        ensures whole { IsTrue (test_view self.old).lends_whole → IsTrue result }
+    {
+        let is_long = self.is_long;
+        self.is_long = is_long != self.takes_turns;
+        is_long
+    }
+
+    /// What it shows: all that is left, or one byte of it.
+    fn front(&self, is_whole: bool) -> &'a [u8]
+        ensures whole { IsTrue is_whole → result.now ≡ self.now.bytes.now }
+        ensures byte { is_whole ≡ false → result.now ≡ take 1 self.now.bytes.now }
+    {
+        if is_whole {
             return self.bytes;
         }
         &self.bytes[..self.bytes.len().min(1)]
@@ -185,7 +254,8 @@ impl Source for TestReader<'_> {
         if self.fails() {
             return Err(Failure);
         }
-        Ok(self.front())
+        let is_whole = self.shows_whole();
+        Ok(self.front(is_whole))
     }
 
     fn advance(&mut self, n: usize) {
@@ -208,10 +278,11 @@ impl<'de> Read<'de> for TestReader<'de> {
         if self.fails() {
             return Err(Failure);
         }
-        if self.is_long {
-            return Ok(Reference::Long(self.front()));
+        let is_whole = self.fills_whole();
+        if self.fills_long() {
+            return Ok(Reference::Long(self.front(is_whole)));
         }
-        Ok(Reference::Short(self.front()))
+        Ok(Reference::Short(self.front(is_whole)))
     }
 }
 
