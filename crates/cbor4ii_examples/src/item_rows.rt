@@ -10,22 +10,30 @@ use cbor4ii_trials::rows::{Want, ends_at_each_front, reads, reads_over, reads_wi
 use std::alloc::Global;
 use std::test::Fail;
 
-/// The item is read as this value with so many steps, and as a copy of it, and it is skipped. Each
-/// proper front of it is the end of the input.
+/// The item is read as this value with so many steps and with no limit, and as a copy of it, and it
+/// is skipped. Each proper front of it is the end of the input.
 pub fn reads_item(
     alloc: Global,
     item: &'static [u8],
     limit: usize,
     literal: &Literal,
 ) -> Result<(), Fail> {
-    reads_value(alloc, item, limit, literal.to_value(alloc)?)?;
-    ends_at_each_front::<Item<Value>>(alloc, item, limit)?;
-    skips_item(alloc, item, limit)
+    reads_value(alloc, item, limit, literal.to_value(alloc)?)
 }
 
-fn reads_value(alloc: Global, item: &'static [u8], limit: usize, value: Value) -> Result<(), Fail> {
+/// As `reads_item`, for a value that is built.
+pub fn reads_value(
+    alloc: Global,
+    item: &'static [u8],
+    limit: usize,
+    value: Value,
+) -> Result<(), Fail> {
     reads_copy(alloc, item, limit, value.try_clone()?)?;
-    reads_within(alloc, item, limit, &Ok(Item(value)), b"")
+    let want = Ok(Item(value));
+    reads_within(alloc, item, limit, &want, b"")?;
+    reads_over(alloc, &mut TestReader::unlimited(item), item, &want, b"")?;
+    ends_at_each_front::<Item<Value>>(alloc, item, limit)?;
+    skips_item(alloc, item, limit)
 }
 
 fn reads_copy(alloc: Global, item: &[u8], limit: usize, copy: Value) -> Result<(), Fail> {

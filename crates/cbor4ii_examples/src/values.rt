@@ -4,16 +4,12 @@ use crate::item_rows::reads_item;
 use crate::literal::Literal::{self, Array, Bool, Bytes, Float, Integer, Map, Null, Tag, Text};
 use crate::refusal_texts::eof;
 use crate::table::table;
-use cbor4ii_items::decode::Decode;
-use cbor4ii_items::encode::Encode;
-use cbor4ii_rw::error::DecodeError;
 use cbor4ii_rw::segment_reader::SegmentReader;
-use cbor4ii_rw::slice_reader::SliceReader;
 use cbor4ii_tree::FloatBits::{F16, F32, F64};
 use cbor4ii_tree::{Canonical, NoMemory, Value};
-use cbor4ii_trials::readers::TestReader;
-use cbor4ii_trials::rows::{Pair, Want, ends_at_each_front, reads, reads_over, writes, writes_in};
-use cbor4ii_trials::writers::FailingWriter;
+use cbor4ii_trials::rows::{
+    Pair, Want, ends_at_each_front, reads, reads_over, writes, writes_pushes,
+};
 use std::alloc::{AllocError, Global};
 use std::test::Fail;
 
@@ -128,6 +124,9 @@ const SEQUENCES: &[(&[u8], Literal)] = table! {
     (b"\xc3\x49\x01\x00\x00\x00\x00\x00\x00\x00\x00",
         Tag(3, &Bytes(b"\x01\x00\x00\x00\x00\x00\x00\x00\x00"))),
     (b"\xc2\x42\x00\x05", Tag(2, &Bytes(b"\x00\x05"))),
+    (b"\xc2\x41\x00", Tag(2, &Bytes(b"\x00"))),
+    (b"\xa1\x63bar\xa1\x65value\x18\x99",
+        Map(&[(Text("bar"), Map(&[(Text("value"), Integer(0x99))]))])),
 };
 
 // [1, [2, 3], [4, 5]]
@@ -155,52 +154,60 @@ const LETTERS: Literal = Map(&[
     (Text("b"), Array(&[Integer(2), Integer(3)])),
 ]);
 
-// Items that are spelled otherwise than they are written: what is read, what it is, and what is
-// written.
-type Spelling = (&'static [u8], Literal, &'static [u8]);
+// Items that are spelled otherwise than they are written: what is read, what it is, what is
+// written, and what the refusal of another spelling leaves: all behind the first head that is one.
+type Spelling = (&'static [u8], Literal, &'static [u8], &'static [u8]);
 
 const SPELLINGS: &[Spelling] = table! {
-    (b"\x18\x05", Integer(5), b"\x05"),
-    (b"\x19\x00\x05", Integer(5), b"\x05"),
-    (b"\x1a\x00\x00\x00\x05", Integer(5), b"\x05"),
-    (b"\x1b\x00\x00\x00\x00\x00\x00\x00\x05", Integer(5), b"\x05"),
-    (b"\x38\x00", Integer(-1), b"\x20"),
-    (b"\x3a\x00\x00\x01\x00", Integer(-257), b"\x39\x01\x00"),
-    (b"\x3b\x00\x00\x00\x00\x00\x00\x00\x17", Integer(-24), b"\x37"),
-    (b"\xf7", Null, b"\xf6"),
-    (b"\x59\x00\x01\x61", Bytes(b"a"), b"\x41a"),
-    (b"\x78\x01\x61", Text("a"), b"\x61a"),
-    (b"\x98\x00", Array(&[]), b"\x80"),
-    (b"\x99\x00\x01\x05", Array(&[Integer(5)]), b"\x81\x05"),
+    (b"\x18\x05", Integer(5), b"\x05", b""),
+    (b"\x19\x00\x05", Integer(5), b"\x05", b""),
+    (b"\x1a\x00\x00\x00\x05", Integer(5), b"\x05", b""),
+    (b"\x1b\x00\x00\x00\x00\x00\x00\x00\x05", Integer(5), b"\x05", b""),
+    (b"\x38\x00", Integer(-1), b"\x20", b""),
+    (b"\x3a\x00\x00\x01\x00", Integer(-257), b"\x39\x01\x00", b""),
+    (b"\x3b\x00\x00\x00\x00\x00\x00\x00\x17", Integer(-24), b"\x37", b""),
+    (b"\xf7", Null, b"\xf6", b""),
+    (b"\x59\x00\x01\x61", Bytes(b"a"), b"\x41a", b"a"),
+    (b"\x78\x01\x61", Text("a"), b"\x61a", b"a"),
+    (b"\x98\x00", Array(&[]), b"\x80", b""),
+    (b"\x99\x00\x01\x05", Array(&[Integer(5)]), b"\x81\x05", b"\x05"),
     (b"\xbb\x00\x00\x00\x00\x00\x00\x00\x01\x01\x02", Map(&[(Integer(1), Integer(2))]),
-        b"\xa1\x01\x02"),
-    (b"\xdb\x00\x00\x00\x00\x00\x00\x00\x2a\x00", Tag(42, &Integer(0)), b"\xd8\x2a\x00"),
-    (b"\xd8\x02\x41\x05", Tag(2, &Bytes(b"\x05")), b"\xc2\x41\x05"),
-    (b"\x5f\xff", Bytes(b""), b"\x40"),
-    (b"\x7f\xff", Text(""), b"\x60"),
+        b"\xa1\x01\x02", b"\x01\x02"),
+    (b"\xdb\x00\x00\x00\x00\x00\x00\x00\x2a\x00", Tag(42, &Integer(0)), b"\xd8\x2a\x00", b"\x00"),
+    (b"\xd8\x02\x41\x05", Tag(2, &Bytes(b"\x05")), b"\xc2\x41\x05", b"\x41\x05"),
+    (b"\x5f\xff", Bytes(b""), b"\x40", b"\xff"),
+    (b"\x7f\xff", Text(""), b"\x60", b"\xff"),
     (b"\x5f\x42\x01\x02\x43\x03\x04\x05\xff", Bytes(b"\x01\x02\x03\x04\x05"),
-        b"\x45\x01\x02\x03\x04\x05"),
-    (b"\x5f\x59\x00\x00\x58\x01\x05\xff", Bytes(b"\x05"), b"\x41\x05"),
-    (b"\x7f\x65strea\x64ming\xff", Text("streaming"), b"\x69streaming"),
+        b"\x45\x01\x02\x03\x04\x05", b"\x42\x01\x02\x43\x03\x04\x05\xff"),
+    (b"\x5f\x59\x00\x00\x58\x01\x05\xff", Bytes(b"\x05"), b"\x41\x05",
+        b"\x59\x00\x00\x58\x01\x05\xff"),
+    (b"\x7f\x65strea\x64ming\xff", Text("streaming"), b"\x69streaming", b"\x65strea\x64ming\xff"),
     // A character may stand across two chunks: the chunks are joined before the test for UTF-8.
-    (b"\x7f\x61\xc3\x61\xa9\xff", Text("\u{e9}"), b"\x62\xc3\xa9"),
-    (b"\x7f\x61\xc3\x60\x61\xa9\xff", Text("\u{e9}"), b"\x62\xc3\xa9"),
-    (b"\x9f\xff", Array(&[]), b"\x80"),
-    (b"\x9f\x01\x82\x02\x03\x9f\x04\x05\xff\xff", NESTED, b"\x83\x01\x82\x02\x03\x82\x04\x05"),
-    (b"\x9f\x01\x82\x02\x03\x82\x04\x05\xff", NESTED, b"\x83\x01\x82\x02\x03\x82\x04\x05"),
-    (b"\x83\x01\x82\x02\x03\x9f\x04\x05\xff", NESTED, b"\x83\x01\x82\x02\x03\x82\x04\x05"),
-    (b"\x83\x01\x9f\x02\x03\xff\x82\x04\x05", NESTED, b"\x83\x01\x82\x02\x03\x82\x04\x05"),
-    (b"\xbf\xff", Map(&[]), b"\xa0"),
-    (b"\xbf\x61a\x01\x61b\x9f\x02\x03\xff\xff", LETTERS, b"\xa2\x61a\x01\x61b\x82\x02\x03"),
-    (b"\x82\x61a\xbf\x61b\x61c\xff", LETTERS_IN_ARRAY, b"\x82\x61a\xa1\x61b\x61c"),
+    (b"\x7f\x61\xc3\x61\xa9\xff", Text("\u{e9}"), b"\x62\xc3\xa9", b"\x61\xc3\x61\xa9\xff"),
+    (b"\x7f\x61\xc3\x60\x61\xa9\xff", Text("\u{e9}"), b"\x62\xc3\xa9", b"\x61\xc3\x60\x61\xa9\xff"),
+    (b"\x9f\xff", Array(&[]), b"\x80", b"\xff"),
+    (b"\x9f\x01\x82\x02\x03\x9f\x04\x05\xff\xff", NESTED, b"\x83\x01\x82\x02\x03\x82\x04\x05",
+        b"\x01\x82\x02\x03\x9f\x04\x05\xff\xff"),
+    (b"\x9f\x01\x82\x02\x03\x82\x04\x05\xff", NESTED, b"\x83\x01\x82\x02\x03\x82\x04\x05",
+        b"\x01\x82\x02\x03\x82\x04\x05\xff"),
+    (b"\x83\x01\x82\x02\x03\x9f\x04\x05\xff", NESTED, b"\x83\x01\x82\x02\x03\x82\x04\x05",
+        b"\x04\x05\xff"),
+    (b"\x83\x01\x9f\x02\x03\xff\x82\x04\x05", NESTED, b"\x83\x01\x82\x02\x03\x82\x04\x05",
+        b"\x02\x03\xff\x82\x04\x05"),
+    (b"\xbf\xff", Map(&[]), b"\xa0", b"\xff"),
+    (b"\xbf\x61a\x01\x61b\x9f\x02\x03\xff\xff", LETTERS, b"\xa2\x61a\x01\x61b\x82\x02\x03",
+        b"\x61a\x01\x61b\x9f\x02\x03\xff\xff"),
+    (b"\x82\x61a\xbf\x61b\x61c\xff", LETTERS_IN_ARRAY, b"\x82\x61a\xa1\x61b\x61c",
+        b"\x61b\x61c\xff"),
     (b"\xbf\x63Fun\xf5\x63Amt\x21\xff",
         Map(&[(Text("Fun"), Bool(true)), (Text("Amt"), Integer(-2))]),
-        b"\xa2\x63Fun\xf5\x63Amt\x21"),
-    (b"\x9f\x7f\xff\x61a\xff", Array(&[Text(""), Text("a")]), b"\x82\x60\x61a"),
-    (b"\x82\x7f\xff\x61a", Array(&[Text(""), Text("a")]), b"\x82\x60\x61a"),
-    (b"\xa1\x7f\x61k\xff\x01", Map(&[(Text("k"), Integer(1))]), b"\xa1\x61k\x01"),
+        b"\xa2\x63Fun\xf5\x63Amt\x21", b"\x63Fun\xf5\x63Amt\x21\xff"),
+    (b"\x9f\x7f\xff\x61a\xff", Array(&[Text(""), Text("a")]), b"\x82\x60\x61a",
+        b"\x7f\xff\x61a\xff"),
+    (b"\x82\x7f\xff\x61a", Array(&[Text(""), Text("a")]), b"\x82\x60\x61a", b"\xff\x61a"),
+    (b"\xa1\x7f\x61k\xff\x01", Map(&[(Text("k"), Integer(1))]), b"\xa1\x61k\x01", b"\x61k\xff\x01"),
     (b"\x9f\x5f\x41\x01\xff\x41\x02\xff", Array(&[Bytes(b"\x01"), Bytes(b"\x02")]),
-        b"\x82\x41\x01\x41\x02"),
+        b"\x82\x41\x01\x41\x02", b"\x5f\x41\x01\xff\x41\x02\xff"),
 };
 
 // Integers beyond 64 bits: what is written, and what that is read as.
@@ -305,19 +312,16 @@ fn items_as_they_are_written(rt: HostRuntime) -> Result<(), Fail> {
 }
 
 fn reads_spellings(alloc: Global, rows: &[Spelling]) -> Result<(), Fail> {
-    for (item, literal, written) in rows {
+    for (item, literal, written, rest) in rows {
         reads_and_writes(alloc, item, literal, written)?;
-        is_not_canonical(alloc, item)?;
+        is_not_canonical(alloc, item, rest)?;
+        reads_canonical(alloc, written, literal)?;
     }
     Ok(())
 }
 
-fn is_not_canonical(alloc: Global, item: &[u8]) -> Result<(), Fail> {
-    match Canonical::decode(alloc, &mut SliceReader::new(item)) {
-        Err(DecodeError::NotCanonical { name: "canonical" }) => Ok(()),
-        Err(error) => Err(Fail::from(error)),
-        Ok(_) => Err(Fail::new(format_args!("{item:?}"))),
-    }
+fn is_not_canonical(alloc: Global, item: &'static [u8], rest: &[u8]) -> Result<(), Fail> {
+    reads::<Item<Canonical>>(alloc, item, Err("NotCanonical { name: \"canonical\" }"), rest)
 }
 
 #[test]
@@ -345,7 +349,7 @@ fn an_array_of_25(rt: HostRuntime) -> Result<(), Fail> {
     reads_and_writes(alloc, COUNTED, &ONE_TO_25, COUNTED)?;
     reads_canonical(alloc, COUNTED, &ONE_TO_25)?;
     reads_and_writes(alloc, OPEN, &ONE_TO_25, COUNTED)?;
-    is_not_canonical(alloc, OPEN)
+    is_not_canonical(alloc, OPEN, &OPEN[1..])
 }
 
 // The value is written as these bytes. Answers in how many pushes.
@@ -353,7 +357,7 @@ fn writes_value(alloc: Global, literal: &Literal, written: &[u8]) -> Result<usiz
     writes(alloc, &literal.to_value(alloc)?, written)
 }
 
-// The item is read as this value, also with no limit, and the value is written as these bytes.
+// The item is read as this value, and the value is written as these bytes.
 fn reads_and_writes(
     alloc: Global,
     item: &'static [u8],
@@ -362,12 +366,7 @@ fn reads_and_writes(
 ) -> Result<(), Fail> {
     reads_item(alloc, item, 256, literal)?;
     writes_value(alloc, literal, written)?;
-    reads_unlimited(alloc, item, literal)
-}
-
-fn reads_unlimited(alloc: Global, item: &[u8], literal: &Literal) -> Result<(), Fail> {
-    let want = Ok(Item(literal.to_value(alloc)?));
-    reads_over(alloc, &mut TestReader::unlimited(item), item, &want, b"")
+    Ok(())
 }
 
 // The item is the one spelling that is read as this value where no other is.
@@ -391,27 +390,9 @@ fn within_a_limit(rt: HostRuntime) -> Result<(), Fail> {
 
 fn pushes_rows(alloc: Global, rows: &[Pushed]) -> Result<(), Fail> {
     for (literal, pushes) in rows {
-        pushes_value(alloc, &literal.to_value(alloc)?, pushes)?;
+        writes_pushes(alloc, &literal.to_value(alloc)?, pushes)?;
     }
     Ok(())
-}
-
-fn pushes_value(alloc: Global, value: &Value, pushes: &[&[u8]]) -> Result<(), Fail> {
-    let mut held = Vec::new(alloc);
-    for (taken, push) in pushes.iter().enumerate() {
-        fails_at_push(alloc, value, taken, &held)?;
-        held.extend_from_slice(push)?;
-    }
-    writes_in(alloc, value, &held, pushes.len())
-}
-
-// A writer that fails at a push holds the pushes before it.
-fn fails_at_push(alloc: Global, value: &Value, taken: usize, held: &[u8]) -> Result<(), Fail> {
-    let mut writer = FailingWriter::new(Vec::with_capacity(alloc, 16)?, taken);
-    if value.encode(&mut writer).is_err() && writer.buffer() == held {
-        return Ok(());
-    }
-    Err(Fail::new(format_args!("push {taken} of {value:?}")))
 }
 
 #[test]
@@ -478,6 +459,24 @@ fn one_after_another(rt: HostRuntime) -> Result<(), Fail> {
         b"\x41\x01\xff\x18\x03",
     ];
     reads_four_in_segments(alloc, bytes, &segments)
+}
+
+// [1, 2] and 3.
+fn array_and_number(alloc: Global) -> Result<Two, AllocError> {
+    let array = Value::Array(vec![in alloc; Value::Integer(1), Value::Integer(2)]?);
+    Ok(Pair(Item(array), Item(Value::Integer(3))))
+}
+
+fn reads_array_in_segments(alloc: Global, segments: &[&[u8]]) -> Result<(), Fail> {
+    let bytes = b"\x82\x01\x02\x03";
+    let want = Ok(array_and_number(alloc)?);
+    reads_over(alloc, &mut SegmentReader::new(segments), bytes, &want, b"")?;
+    reads(alloc, bytes, want, b"")
+}
+
+#[test]
+fn an_array_in_two_segments(rt: HostRuntime) -> Result<(), Fail> {
+    reads_array_in_segments(rt.alloc(), &[b"\x82\x01", b"\x02\x03"])
 }
 
 fn is_the_end(alloc: Global, segments: &[&[u8]]) -> Result<(), Fail> {

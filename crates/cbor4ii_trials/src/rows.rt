@@ -33,8 +33,10 @@ pub type RowWithin<T> = (&'static [u8], usize, Want<T>, &'static [u8]);
 
 // The steps of a reader that is given no other limit.
 const STEPS: usize = 256;
-// No row takes more shows or pushes.
-const MOST_CALLS: usize = 700;
+// No row takes more shows or looks.
+const MOST_CALLS: usize = 4096;
+// A row of more bytes is cut at the first of its places alone.
+const MOST_CUTS: usize = 1024;
 
 /// What a row reads: a value, or what another call takes off a reader.
 ///
@@ -230,8 +232,9 @@ where
 {
     reads_whole(alloc, bytes, limit, want, rest)?;
     reads_in_segments(alloc, bytes, limit, want, rest)?;
-    fails_at_each_show::<T>(alloc, bytes, limit)?;
-    fails_at_each_look::<T>(alloc, bytes, limit)?;
+    fails_at_each_show(alloc, bytes, limit, false, Some(want))?;
+    fails_at_each_show(alloc, bytes, limit, true, Some(want))?;
+    fails_at_each_look(alloc, bytes, limit, Some(want))?;
     asks_nothing_behind(alloc, item_of(bytes, rest), limit, want)
 }
 
@@ -252,6 +255,8 @@ where
     reads_over(alloc, &mut long, bytes, want, rest)?;
     let mut whole = TestReader::whole(bytes, limit);
     reads_over(alloc, &mut whole, bytes, want, rest)?;
+    let mut in_turn = TestReader::in_turn(bytes, limit);
+    reads_over(alloc, &mut in_turn, bytes, want, rest)?;
     reads_short(alloc, bytes, limit, want, rest)
 }
 
@@ -286,8 +291,9 @@ fn stream(bytes: &'static [u8], most: usize, looks: usize, limit: usize) -> Stre
 
 // The bytes in two segments, for each place where they can be cut. They stay for good.
 fn cuts(alloc: Global, bytes: &'static [u8]) -> Result<&'static [[&'static [u8]; 2]], AllocError> {
-    let mut cuts: Vec<[&'static [u8]; 2]> = Vec::with_capacity(alloc, bytes.len())?;
-    for place in 1..bytes.len() {
+    let places = bytes.len().min(MOST_CUTS);
+    let mut cuts: Vec<[&'static [u8]; 2]> = Vec::with_capacity(alloc, places)?;
+    for place in 1..places {
         cuts.push([&bytes[..place], &bytes[place..]])?;
     }
     Ok(cuts.leak())
@@ -316,14 +322,28 @@ pub fn lends<T>(alloc: Global, bytes: &'static [u8], want: Want<T>, rest: &[u8])
 where
     T: ReadByEach + PartialEq + Debug + Drop,
 {
-    reads_over(alloc, &mut SliceReader::new(bytes), bytes, &want, rest)?;
+    lends_whole(alloc, bytes, &want, rest)
+}
+
+// With a fault at each place too, also by bytes, where the answer may be another.
+fn lends_whole<T>(
+    alloc: Global,
+    bytes: &'static [u8],
+    want: &Want<T>,
+    rest: &[u8],
+) -> Result<(), Fail>
+where
+    T: ReadByEach + PartialEq + Debug + Drop,
+{
+    reads_over(alloc, &mut SliceReader::new(bytes), bytes, want, rest)?;
     let mut unlimited = TestReader::unlimited(bytes);
-    reads_over(alloc, &mut unlimited, bytes, &want, rest)?;
+    reads_over(alloc, &mut unlimited, bytes, want, rest)?;
     let mut whole = TestReader::whole(bytes, STEPS);
-    reads_over(alloc, &mut whole, bytes, &want, rest)?;
-    fails_at_each_show::<T>(alloc, bytes, STEPS)?;
-    fails_at_each_look::<T>(alloc, bytes, STEPS)?;
-    asks_whole_nothing_behind(alloc, item_of(bytes, rest), STEPS, &want)
+    reads_over(alloc, &mut whole, bytes, want, rest)?;
+    fails_at_each_show::<T>(alloc, bytes, STEPS, false, None)?;
+    fails_at_each_show(alloc, bytes, STEPS, true, Some(want))?;
+    fails_at_each_look::<T>(alloc, bytes, STEPS, None)?;
+    asks_whole_nothing_behind(alloc, item_of(bytes, rest), STEPS, want)
 }
 
 /// As `reads`, for a borrowed value over each reader whose bytes do not outlive the fill.
@@ -336,7 +356,9 @@ pub fn lends_short<T>(
 where
     T: ReadBy<TestReader<'static>> + ReadBy<Stream> + PartialEq + Debug + Drop,
 {
-    reads_short(alloc, bytes, STEPS, &want, rest)
+    reads_short(alloc, bytes, STEPS, &want, rest)?;
+    fails_at_each_show(alloc, bytes, STEPS, false, Some(&want))?;
+    fails_at_each_look(alloc, bytes, STEPS, Some(&want))
 }
 
 /// Reads over this reader, which holds `bytes`: the answer, the bytes left, and the steps as
@@ -352,17 +374,66 @@ where
     T: ReadBy<S> + PartialEq + Debug + Drop,
     S: Source,
 {
-    let budget = steps(reader);
-    let got = T::read_by(alloc, reader);
-    is_same(got, bytes, want)?;
-    if steps(reader) != budget {
-        return Err(Fail::new(format_args!("not {budget} steps after {bytes:?}")));
-    }
+    is_same(answer(alloc, reader, bytes)?, bytes, want)?;
     leaves(reader, bytes, rest)
 }
 
-/// Each proper front of the item is the end of the input, over each reader that counts its steps
-/// and does not fail: nothing is left, and the steps are as before.
+/// Reads all the bytes over this reader as one value, with the steps as before. Where memory is
+/// refused, an end of the bytes is left.
+pub fn reads_all<T, S>(alloc: Global, reader: &mut S, bytes: &[u8]) -> Result<T, Fail>
+where
+    T: ReadBy<S> + Drop,
+    S: Source,
+{
+    match answer::<T, S>(alloc, reader, bytes)? {
+        Ok(value) => {
+            leaves(reader, bytes, b"")?;
+            Ok(value)
+        }
+        Err(error) => Err(Fail::new(format_args!("{error:?} of {bytes:?}"))),
+    }
+}
+
+// What is read, with the steps as before. Want of memory is the failure of the test, and leaves an
+// end of the bytes.
+fn answer<T, S>(
+    alloc: Global,
+    reader: &mut S,
+    bytes: &[u8],
+) -> Result<Result<T, DecodeError<S::Error>>, Fail>
+where
+    T: ReadBy<S> + Drop,
+    S: Source,
+{
+    let budget = steps(reader);
+    let got = T::read_by(alloc, reader);
+    if steps(reader) != budget {
+        return Err(Fail::new(format_args!("not {budget} steps after {bytes:?}")));
+    }
+    if matches!(got, Err(DecodeError::OutOfMemory)) {
+        leaves_an_end(alloc, reader, bytes)?;
+        return Err(Fail::from(DecodeError::<Never>::OutOfMemory));
+    }
+    Ok(got)
+}
+
+// Takes all that is left of the bytes, an end of them.
+fn leaves_an_end<S: Source>(alloc: Global, reader: &mut S, bytes: &[u8]) -> Result<(), Fail> {
+    let mut left = Vec::new(alloc);
+    for _ in 0..bytes.len() {
+        match next_byte(reader) {
+            Some(byte) => left.push(byte)?,
+            None => break,
+        }
+    }
+    if bytes.ends_with(&left) && next_byte(reader).is_none() {
+        return Ok(());
+    }
+    Err(Fail::new(format_args!("{left:?} is left of {bytes:?}")))
+}
+
+/// Each proper front of the item is the end of the input, over each reader that does not fail:
+/// nothing is left, and the steps are as before.
 pub fn ends_at_each_front<T>(alloc: Global, item: &'static [u8], limit: usize) -> Result<(), Fail>
 where
     T: ReadFrom + Debug + Drop,
@@ -372,11 +443,30 @@ where
         ends::<T, _>(alloc, &mut SliceReader::with_limit(front, limit), front)?;
         ends::<T, _>(alloc, &mut TestReader::long(front, limit), front)?;
         ends::<T, _>(alloc, &mut TestReader::short(front, limit), front)?;
+        ends::<T, _>(alloc, &mut TestReader::whole(front, limit), front)?;
+        ends::<T, _>(alloc, &mut TestReader::in_turn(front, limit), front)?;
+        ends::<T, _>(alloc, &mut TestReader::unlimited(front), front)?;
+        ends_in_segments::<T>(alloc, front, limit)?;
         for most in [1, usize::MAX] {
             ends::<T, _>(alloc, &mut stream(front, most, usize::MAX, limit), front)?;
         }
     }
     Ok(())
+}
+
+// In two halves, with no byte behind them.
+fn ends_in_segments<T: ReadFrom + Debug + Drop>(
+    alloc: Global,
+    front: &[u8],
+    limit: usize,
+) -> Result<(), Fail> {
+    let (first, second) = front.split_at(front.len() / 2);
+    let segments = [first, second, b""];
+    ends::<T, _>(
+        alloc,
+        &mut SegmentReader::with_limit(&segments, limit),
+        front,
+    )
 }
 
 fn ends<T: ReadFrom + Debug + Drop, S: Source>(
@@ -452,32 +542,47 @@ pub fn steps<S: Source>(reader: &mut S) -> u16 {
     taken
 }
 
-// Readers that fail at the first show, at the second, and so on until none is left to fail.
-fn fails_at_each_show<T: ReadBy<TestReader<'static>> + Debug + Drop>(
+// A reader that fails at the first show, at the second, and so on until none is left to fail: by
+// bytes or all at once, and it forgets what is left or does not. Where it does not fail, the answer
+// is what is wanted, if anything is.
+fn fails_at_each_show<T: ReadBy<TestReader<'static>> + PartialEq + Debug + Drop>(
     alloc: Global,
     bytes: &'static [u8],
     limit: usize,
+    is_whole: bool,
+    want: Option<&Want<T>>,
 ) -> Result<(), Fail> {
-    let mut by_byte = true;
-    let mut whole = true;
     for shows in 0..MOST_CALLS {
-        let short = TestReader::short(bytes, limit).failing_after(shows);
-        by_byte = by_byte && fails::<T>(alloc, short, bytes)?;
-        let all = TestReader::whole(bytes, limit).failing_after(shows);
-        whole = whole && fails::<T>(alloc, all, bytes)?;
+        let forgetting = failing(bytes, limit, is_whole, shows).forgetting();
+        let has_forgotten = fails(alloc, forgetting, bytes, want)?;
+        let has_failed = fails(alloc, failing(bytes, limit, is_whole, shows), bytes, want)?;
+        if !has_failed && !has_forgotten {
+            return Ok(());
+        }
     }
-    if by_byte || whole {
-        return Err(Fail::new(format_args!("too many shows of {bytes:?}")));
-    }
-    Ok(())
+    Err(Fail::new(format_args!("too many shows of {bytes:?}")))
 }
 
-// Whether the reader failed. Then the answer is its error. An end of the bytes is left, and the
-// budget is as before.
-fn fails<T: ReadBy<TestReader<'static>> + Debug + Drop>(
+// A reader that shows bytes so many times before it fails.
+fn failing(
+    bytes: &'static [u8],
+    limit: usize,
+    is_whole: bool,
+    shows: usize,
+) -> TestReader<'static> {
+    if is_whole {
+        return TestReader::whole(bytes, limit).failing_after(shows);
+    }
+    TestReader::short(bytes, limit).failing_after(shows)
+}
+
+// Whether the reader failed. Then the answer is its error, and else what is wanted, if anything is.
+// An end of the bytes is left, and the budget is as before.
+fn fails<T: ReadBy<TestReader<'static>> + PartialEq + Debug + Drop>(
     alloc: Global,
     mut reader: TestReader<'static>,
     bytes: &[u8],
+    want: Option<&Want<T>>,
 ) -> Result<bool, Fail> {
     let limit = reader.steps();
     let got = T::read_by(alloc, &mut reader);
@@ -485,33 +590,51 @@ fn fails<T: ReadBy<TestReader<'static>> + Debug + Drop>(
     let is_kept = is_read == (reader.failures() == 1)
         && reader.steps() == limit
         && bytes.ends_with(reader.remaining());
-    if is_kept {
-        return Ok(is_read);
+    if !is_kept {
+        return Err(Fail::new(format_args!("{got:?} where a show fails, of {bytes:?}")));
     }
-    Err(Fail::new(format_args!("{got:?} where a show fails, of {bytes:?}")))
+    is_as_wanted(got, bytes, is_read, want)?;
+    Ok(is_read)
 }
 
-// A stream that fails at the first look, at the second, and so on until none is left to fail.
-fn fails_at_each_look<T: ReadBy<Stream> + Debug + Drop>(
+// Compares an answer with what is wanted, if anything is, where no reader failed.
+fn is_as_wanted<T: PartialEq + Debug + Drop, E: Debug + Drop>(
+    got: Result<T, DecodeError<E>>,
+    bytes: &[u8],
+    has_failed: bool,
+    want: Option<&Want<T>>,
+) -> Result<(), Fail> {
+    match want {
+        Some(want) if !has_failed => is_same(got, bytes, want),
+        _ => Ok(()),
+    }
+}
+
+// A stream that fails at the first look, at the second, and so on until none is left to fail. Then
+// the answer is what is wanted, if anything is.
+fn fails_at_each_look<T: ReadBy<Stream> + PartialEq + Debug + Drop>(
     alloc: Global,
     bytes: &'static [u8],
     limit: usize,
+    want: Option<&Want<T>>,
 ) -> Result<(), Fail> {
     for looks in 0..MOST_CALLS {
-        if !fails_at_look::<T>(alloc, bytes, limit, looks)? {
+        if !fails_at_look(alloc, bytes, limit, looks, want)? {
             return Ok(());
         }
     }
     Err(Fail::new(format_args!("too many looks of {bytes:?}")))
 }
 
-// Whether the stream failed. Then the answer is its error. The budget is as before, and the reader
-// over it takes of the stream what it took, and no byte more.
-fn fails_at_look<T: ReadBy<Stream> + Debug + Drop>(
+// Whether the stream failed. Then the answer is its error, and else what is wanted, if anything is.
+// The budget is as before, and the reader over it takes of the stream what it took, and no byte
+// more.
+fn fails_at_look<T: ReadBy<Stream> + PartialEq + Debug + Drop>(
     alloc: Global,
     bytes: &'static [u8],
     limit: usize,
     looks: usize,
+    want: Option<&Want<T>>,
 ) -> Result<bool, Fail> {
     let mut reader = stream(bytes, 2, looks, limit);
     let budget = steps(&mut reader);
@@ -524,10 +647,11 @@ fn fails_at_look<T: ReadBy<Stream> + Debug + Drop>(
     let taken = reader.taken() as usize;
     let stream = reader.into_inner();
     let is_left = bytes.get(taken..) == Some(stream.remaining());
-    if is_kept && is_left && is_read == stream.has_failed() {
-        return Ok(is_read);
+    if !is_kept || !is_left || is_read != stream.has_failed() {
+        return Err(Fail::new(format_args!("{got:?} where look {looks} fails, of {bytes:?}")));
     }
-    Err(Fail::new(format_args!("{got:?} where look {looks} fails, of {bytes:?}")))
+    is_as_wanted(got, bytes, is_read, want)?;
+    Ok(is_read)
 }
 
 // The item of a row that is read, alone, over readers that fail in the place of showing that
@@ -594,13 +718,29 @@ impl<T: Encode> WriteTo for T {
 /// byte. Answers how many pushes it takes.
 pub fn writes<T: WriteTo>(alloc: Global, value: &T, bytes: &[u8]) -> Result<usize, Fail> {
     let mut writer = BufWriter::new(vec![in alloc; 0xff]?);
-    value.write_to(&mut writer)?;
-    is_written(writer.buffer().strip_prefix(b"\xff".as_slice()), bytes)?;
+    let got = value.write_to(&mut writer);
+    is_appended(got, writer.buffer().strip_prefix(b"\xff".as_slice()), bytes)?;
     let mut pushes = PushLengths::new(alloc);
     value.write_to(&mut pushes)?;
     fails_at_each_push(alloc, value, bytes, pushes.lengths())?;
     fails_at_each_byte(alloc, value, bytes)?;
     Ok(pushes.lengths().len())
+}
+
+// What a writer holds behind a byte that stood there is what is wanted, or a front of it where
+// memory is refused, which is the failure of the test.
+fn is_appended<E: Debug + Drop>(
+    got: Result<(), EncodeError<E>>,
+    held: Option<&[u8]>,
+    wanted: &[u8],
+) -> Result<(), Fail> {
+    match (got, held) {
+        (Ok(()), _) => is_written(held, wanted),
+        (Err(EncodeError::Write(_)), Some(held)) if wanted.starts_with(held) => {
+            Err(Fail::from(DecodeError::<Never>::OutOfMemory))
+        }
+        (Err(error), _) => Err(Fail::new(format_args!("{error:?} and {held:?}"))),
+    }
 }
 
 // Compares what a writer holds.
@@ -662,6 +802,29 @@ pub fn writes_in<T: WriteTo>(
         return Ok(());
     }
     Err(Fail::new(format_args!("{found} pushes of {bytes:?}")))
+}
+
+/// Writes the value in these pushes: a writer that fails at one of them holds those before it.
+pub fn writes_pushes<T: WriteTo>(alloc: Global, value: &T, pushes: &[&[u8]]) -> Result<(), Fail> {
+    let mut held = Vec::new(alloc);
+    for (taken, push) in pushes.iter().enumerate() {
+        holds_at_push(alloc, value, taken, &held)?;
+        held.extend_from_slice(push)?;
+    }
+    writes_in(alloc, value, &held, pushes.len())
+}
+
+fn holds_at_push<T: WriteTo>(
+    alloc: Global,
+    value: &T,
+    taken: usize,
+    held: &[u8],
+) -> Result<(), Fail> {
+    let mut writer = FailingWriter::new(Vec::with_capacity(alloc, held.len())?, taken);
+    if value.write_to(&mut writer).is_err() && writer.buffer() == held {
+        return Ok(());
+    }
+    Err(Fail::new(format_args!("push {taken} behind {held:?}")))
 }
 
 /// Writes the value in so many pushes, and reads it back from its bytes.

@@ -5,13 +5,14 @@ use crate::borrowed_rows::Kind::{
 };
 use crate::borrowed_rows::{
     Row, answers_alike, lends_in_segments, lends_rows, lends_rows_by_byte, rows_alike,
-    rows_of_short_bytes,
+    rows_in_turn, rows_of_short_bytes,
 };
 use std::test::Fail;
 
 const STRINGS: &[Row] = &[
     (Text, b"\x60", "\"\"", b""),
     (Text, b"\x61a", "\"a\"", b""),
+    (Text, b"\x62aa", "\"aa\"", b""),
     (Text, b"\x64IETF", "\"IETF\"", b""),
     (Text, b"\x62\xc3\xbc", "\"\u{fc}\"", b""),
     (Text, b"\x63\xe6\xb0\xb4", "\"\u{6c34}\"", b""),
@@ -42,6 +43,7 @@ const STRINGS: &[Row] = &[
     (Unchecked, b"\x61\xff", "UncheckedStr([255])", b""),
     (Bytes, b"\x40", "Bytes([])", b""),
     (Bytes, b"\x44\x01\x02\x03\x04", "Bytes([1, 2, 3, 4])", b""),
+    (Bytes, b"\x43123", "Bytes([49, 50, 51])", b""),
 ];
 
 #[test]
@@ -146,6 +148,19 @@ fn borrowed_byte_by_byte(rt: HostRuntime) -> Result<(), Fail> {
     lends_rows_by_byte(rt.alloc(), BY_BYTE)
 }
 
+// The first fill lives as long as the input, and the second does not.
+const IN_TURN: &[Row] = &[
+    (Text, b"\x62aa\x01", "\"aa\"", b"\x01"),
+    (Texts, b"\x82\x61a\x61b", SHORT, b"b"),
+    (TextsToNumbers, b"\xa1\x61a\x01", "Map([(\"a\", 1)])", b""),
+    (TextsToNumbers, b"\xa2\x61a\x01\x60\x02", SHORT, b"\x02"),
+];
+
+#[test]
+fn borrowed_in_turn(rt: HostRuntime) -> Result<(), Fail> {
+    rows_in_turn(rt.alloc(), IN_TURN)
+}
+
 const CUT_TEXTS: &[&str] = &[
     ONE,
     "RequireLength { name: \"str\", found: Small(2) }",
@@ -198,6 +213,7 @@ const OF_SHORT_BYTES: &[Row] = &[
         "Mismatch { name: \"str\", found: 127 }",
         b"\xff",
     ),
+    (Bytes, b"\x40", "RequireBorrowed { name: \"bytes\" }", b""),
     (
         Bytes,
         b"\x41\x01",
@@ -298,6 +314,8 @@ const BEFORE_A_BORROWED_PART: &[Row] = &[
         "Eof { name: \"option\", expect: Small(1) }",
         b"",
     ),
+    (Optional, b"\xf6\x00", "None", b"\x00"),
+    (Optional, b"\xf7\x00", "None", b"\x00"),
 ];
 
 const BEFORE_A_BORROWED_OPTIONAL_ITEM: &[Row] = &[

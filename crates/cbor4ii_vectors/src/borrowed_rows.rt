@@ -116,6 +116,17 @@ pub fn lends_rows_by_byte(alloc: Global, rows: &[Row]) -> Result<(), Fail> {
     for (kind, bytes, want, rest) in rows {
         let mut long = TestReader::long(bytes, STEPS);
         answers(*kind, alloc, &mut long, bytes, want, rest)?;
+        fails_at_each_show(*kind, alloc, bytes)?;
+    }
+    Ok(())
+}
+
+/// Reads the rows over a reader of which one fill lives as long as the input, and the next does
+/// not, and so on in turn.
+pub fn rows_in_turn(alloc: Global, rows: &[Row]) -> Result<(), Fail> {
+    for (kind, bytes, want, rest) in rows {
+        let mut in_turn = TestReader::in_turn(bytes, STEPS);
+        answers(*kind, alloc, &mut in_turn, bytes, want, rest)?;
     }
     Ok(())
 }
@@ -124,6 +135,8 @@ pub fn lends_rows_by_byte(alloc: Global, rows: &[Row]) -> Result<(), Fail> {
 pub fn rows_of_short_bytes(alloc: Global, rows: &[Row]) -> Result<(), Fail> {
     for (kind, bytes, want, rest) in rows {
         answers_short(*kind, alloc, bytes, STEPS, want, rest)?;
+        fails_at_each_show(*kind, alloc, bytes)?;
+        fails_at_each_look(*kind, alloc, bytes)?;
     }
     Ok(())
 }
@@ -209,19 +222,15 @@ pub fn lends_in_segments(
 // Readers that fail at the first show, at the second, and so on until none is left to fail.
 fn fails_at_each_show(kind: Kind, alloc: Global, bytes: &[u8]) -> Result<(), Fail> {
     for shows in 0..MOST_CALLS {
-        let short = fails(
-            kind,
-            alloc,
-            TestReader::short(bytes, STEPS).failing_after(shows),
-            bytes,
-        )?;
-        let whole = fails(
-            kind,
-            alloc,
-            TestReader::whole(bytes, STEPS).failing_after(shows),
-            bytes,
-        )?;
-        if !short && !whole {
+        let short = TestReader::short(bytes, STEPS).failing_after(shows);
+        let short = fails(kind, alloc, short, bytes)?;
+        let long = TestReader::long(bytes, STEPS).failing_after(shows);
+        let long = fails(kind, alloc, long, bytes)?;
+        let whole = TestReader::whole(bytes, STEPS).failing_after(shows);
+        let whole = fails(kind, alloc, whole, bytes)?;
+        let forgetting = TestReader::whole(bytes, STEPS).failing_after(shows);
+        let forgetting = fails(kind, alloc, forgetting.forgetting(), bytes)?;
+        if !(short || long || whole || forgetting) {
             return Ok(());
         }
     }
@@ -261,9 +270,7 @@ fn fails_at_each_look(kind: Kind, alloc: Global, bytes: &[u8]) -> Result<(), Fai
 fn fails_at_look(kind: Kind, alloc: Global, bytes: &[u8], looks: usize) -> Result<bool, Fail> {
     let mut reader = IoReader::with_limit(FailingStream::new(bytes, 2, looks), STEPS);
     let budget = steps(&mut reader);
-    let is_read = answer(kind, alloc, &mut reader)
-        .as_str()
-        .starts_with("Read(");
+    let is_read = answer(kind, alloc, &mut reader).as_str() == "Read(Kind(Other))";
     let is_kept = steps(&mut reader) == budget;
     let taken = reader.taken() as usize;
     let stream = reader.into_inner();

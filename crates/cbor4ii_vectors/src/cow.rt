@@ -306,6 +306,18 @@ fn refused(rt: HostRuntime) -> Result<(), Fail> {
     Ok(())
 }
 
+// One fill lives as long as the input, and the next does not: then the content is copied.
+#[test]
+fn borrowed_and_owned_in_turn(rt: HostRuntime) -> Result<(), Fail> {
+    let alloc = rt.alloc();
+    let bytes = b"\x62aa\x41\x01".as_slice();
+    let mut reader = TestReader::in_turn(bytes, 1);
+    let first = decode(Kind::Text, alloc, &mut reader);
+    assert!(rt; matches!(first, Ok(CowSlice::Borrowed(b"aa"))));
+    let second = Ok((b"\x01".as_slice(), false));
+    decodes(Kind::Bytes, alloc, &mut reader, bytes, second, b"")
+}
+
 // The same content, borrowed or owned.
 #[test]
 fn texts_over_each_reader(rt: HostRuntime) -> Result<(), Fail> {

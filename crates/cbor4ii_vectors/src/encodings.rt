@@ -3,7 +3,9 @@ use cbor4ii_items::encode::Encode;
 use cbor4ii_items::types::{Array, Bytes, Map, UncheckedStr};
 use cbor4ii_rw::error::EncodeError;
 use cbor4ii_rw::write::Write;
-use cbor4ii_trials::rows::{Row, WriteTo, reads_texts, texts_go_both_ways, writes_rows};
+use cbor4ii_trials::rows::{
+    Row, WriteTo, reads_texts, texts_go_both_ways, writes_pushes, writes_rows,
+};
 use std::test::Fail;
 
 // 1 to 25, in the length that is given in front.
@@ -144,6 +146,40 @@ fn heads_and_ends(rt: HostRuntime) -> Result<(), Fail> {
     writes_rows(rt.alloc(), HEADS_AND_ENDS)
 }
 
+// What each push has of an item in parts: a head, a string's content, or an end.
+const PUSHES: &[(Parts, &[&[u8]])] = &[
+    (
+        Parts(&[
+            Part::OpenText,
+            Part::Text("ab"),
+            Part::Text(""),
+            Part::TextEnd,
+        ]),
+        &[b"\x7f", b"\x62", b"ab", b"\x60", b"", b"\xff"],
+    ),
+    (
+        Parts(&[Part::Array(1000), Part::Bytes(b"\x01\x02")]),
+        &[b"\x99\x03\xe8", b"\x42", b"\x01\x02"],
+    ),
+    (
+        Parts(&[
+            Part::OpenMap,
+            Part::Number(-100),
+            Part::Flag(true),
+            Part::MapEnd,
+        ]),
+        &[b"\xbf", b"\x38\x63", b"\xf5", b"\xff"],
+    ),
+];
+
+#[test]
+fn pushes_of_parts(rt: HostRuntime) -> Result<(), Fail> {
+    for (parts, pushes) in PUSHES {
+        writes_pushes(rt.alloc(), parts, pushes)?;
+    }
+    Ok(())
+}
+
 // Items in their parts, what they are written as, and in how many pushes.
 const IN_PARTS: &[(Parts, &[u8], usize)] = &[
     // ["a", {"b": "c"}]
@@ -247,6 +283,58 @@ const IN_PARTS: &[(Parts, &[u8], usize)] = &[
     ),
 ];
 
+// Strings of indefinite length in arrays and maps.
+const OPEN_STRINGS_IN_PARTS: &[(Parts, &[u8], usize)] = &[
+    // [_ (_ ), "a"]
+    (
+        Parts(&[
+            Part::OpenArray,
+            Part::OpenText,
+            Part::TextEnd,
+            Part::Text("a"),
+            Part::ArrayEnd,
+        ]),
+        b"\x9f\x7f\xff\x61a\xff",
+        6,
+    ),
+    // [(_ ), "a"]
+    (
+        Parts(&[
+            Part::Array(2),
+            Part::OpenText,
+            Part::TextEnd,
+            Part::Text("a"),
+        ]),
+        b"\x82\x7f\xff\x61a",
+        5,
+    ),
+    // {(_ "k"): 1}
+    (
+        Parts(&[
+            Part::Map(1),
+            Part::OpenText,
+            Part::Text("k"),
+            Part::TextEnd,
+            Part::Number(1),
+        ]),
+        b"\xa1\x7f\x61k\xff\x01",
+        6,
+    ),
+    // [_ (_ h'01'), h'02']
+    (
+        Parts(&[
+            Part::OpenArray,
+            Part::OpenBytes,
+            Part::Bytes(b"\x01"),
+            Part::BytesEnd,
+            Part::Bytes(b"\x02"),
+            Part::ArrayEnd,
+        ]),
+        b"\x9f\x5f\x41\x01\xff\x41\x02\xff",
+        8,
+    ),
+];
+
 // [1, [2, 3], [4, 5]], with one, two or all three of the arrays of indefinite length.
 const NESTED_OPEN_ARRAYS: &[(Parts, &[u8], usize)] = &[
     (
@@ -316,6 +404,7 @@ const NESTED_OPEN_ARRAYS: &[(Parts, &[u8], usize)] = &[
 fn items_in_parts(rt: HostRuntime) -> Result<(), Fail> {
     let alloc = rt.alloc();
     writes_rows(alloc, IN_PARTS)?;
+    writes_rows(alloc, OPEN_STRINGS_IN_PARTS)?;
     writes_rows(alloc, NESTED_OPEN_ARRAYS)
 }
 

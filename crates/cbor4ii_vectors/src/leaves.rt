@@ -310,6 +310,7 @@ fn optional_items(rt: HostRuntime) -> Result<(), Fail> {
 }
 
 const LEAST_AND_GREATEST_OF_NUMBERS: &[RowWithin<u8>] = &[
+    (b"\x05", 0, Ok(5), b""),
     (b"\x18\x05", 0, Ok(5), b""),
     (b"\x18\x05", usize::MAX, Ok(5), b""),
 ];

@@ -106,6 +106,11 @@ const U32: &[Row<u32>] = &[
 const U64: &[Row<u64>] = &[
     (b"\x1b\x00\x00\x00\x00\x00\x00\x00\x05", Ok(5), b""),
     (
+        b"\x1b\x01\x02\x03\x04\x05\x06\x07\x08",
+        Ok(72623859790382856),
+        b"",
+    ),
+    (
         b"\x1b\x01\x02",
         Err("Eof { name: \"u64\", expect: Small(8) }"),
         b"",

@@ -77,11 +77,14 @@ fn arrays_of_numbers(rt: HostRuntime) -> Result<(), Fail> {
 
 const FLAGS: &[Row<&str>] = &[(b"\x9f\xf5\xf4\xff", Ok("[true, false]"), b"")];
 
-const OPTIONAL_NUMBERS: &[Row<&str>] = &[(
-    b"\x9f\x01\xf6\x02\xff",
-    Ok("[Some(1), None, Some(2)]"),
-    b"",
-)];
+const OPTIONAL_NUMBERS: &[Row<&str>] = &[
+    (b"\x9f\x01\xf6\x02\xff", Ok("[Some(1), None, Some(2)]"), b""),
+    (
+        b"\x82\xf6\x61",
+        Err("Mismatch { name: \"u8\", found: 97 }"),
+        b"",
+    ),
+];
 
 const TAGGED: &[Row<&str>] = &[(b"\xc1\x81\x07", Ok("Tag(1, [7])"), b"")];
 

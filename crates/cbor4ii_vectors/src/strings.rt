@@ -7,9 +7,9 @@ use cbor4ii_rw::error::EncodeError;
 use cbor4ii_rw::io_reader::IoReader;
 use cbor4ii_rw::read::Source;
 use cbor4ii_rw::slice_reader::SliceReader;
-use cbor4ii_trials::readers::{Failure, TestReader};
+use cbor4ii_trials::readers::Failure;
 use cbor4ii_trials::rows::{
-    Row, RowWithin, reads_over, reads_texts, reads_texts_within, texts_go_both_ways, writes_rows,
+    Row, RowWithin, reads, reads_texts, reads_texts_within, texts_go_both_ways, writes_rows,
 };
 use cbor4ii_trials::writers::FailingWriter;
 use std::alloc::Global;
@@ -38,6 +38,7 @@ fn a_text_of_a_stream(rt: HostRuntime) -> Result<(), Fail> {
 const TEXTS: &[(&[u8], &str, usize)] = &[
     (b"\x60", "\"\"", 2),
     (b"\x61a", "\"a\"", 2),
+    (b"\x62aa", "\"aa\"", 2),
     (b"\x64IETF", "\"IETF\"", 2),
     (b"\x62\x22\x5c", "\"\\\"\\\\\"", 2),
     (b"\x62\xc3\xbc", "\"\u{fc}\"", 2),
@@ -109,12 +110,14 @@ fn unchecked_texts(rt: HostRuntime) -> Result<(), Fail> {
 const BYTE_STRINGS: &[Row<&str>] = &[
     (b"\x40", Ok("Bytes([])"), b""),
     (b"\x44\x01\x02\x03\x04", Ok("Bytes([1, 2, 3, 4])"), b""),
+    (b"\x43123", Ok("Bytes([49, 50, 51])"), b""),
     (b"\x58\x01\x07\x08", Ok("Bytes([7])"), b"\x08"),
 ];
 
 const WRITTEN_BYTE_STRINGS: &[(Bytes<&[u8]>, &[u8], usize)] = &[
     (Bytes(b""), b"\x40", 2),
     (Bytes(b"\x01\x02\x03\x04"), b"\x44\x01\x02\x03\x04", 2),
+    (Bytes(b"123"), b"\x43123", 2),
 ];
 
 #[test]
@@ -288,24 +291,19 @@ fn a_step_for_each_chunk(rt: HostRuntime) -> Result<(), Fail> {
     reads_texts_within::<String>(rt.alloc(), STEPS)
 }
 
-// Readers that show all 1024 bytes at once, or what is wanted of them.
+// A text of 4 bytes and 1019 zeros behind it, which a stream shows all at once.
 #[test]
 fn a_text_before_many_bytes(rt: HostRuntime) -> Result<(), Fail> {
     let alloc = rt.alloc();
-    let mut bytes = [0u8; 1024];
+    let mut bytes = vec![in alloc; 0; 1024]?;
     bytes[..5].copy_from_slice(b"\x64test");
-    let rest = [0u8; 1019];
-    let want = Ok(String::from_str(alloc, "test")?);
-    let mut stream = IoReader::new(bytes.as_slice());
-    reads_over(alloc, &mut stream, &bytes, &want, &rest)?;
-    reads_over(
+    let bytes = bytes.leak();
+    reads(
         alloc,
-        &mut TestReader::unlimited(&bytes),
-        &bytes,
-        &want,
-        &rest,
-    )?;
-    reads_over(alloc, &mut SliceReader::new(&bytes), &bytes, &want, &rest)
+        bytes,
+        Ok(String::from_str(alloc, "test")?),
+        &[0; 1019],
+    )
 }
 
 #[test]

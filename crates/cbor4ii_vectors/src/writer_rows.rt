@@ -27,7 +27,8 @@ fn a_stream_is_appended_to(rt: HostRuntime) -> Result<(), Fail> {
     Ok(())
 }
 
-// Whichever growth is refused, each push appends all of its input or nothing.
+// Whichever growth is refused, each push appends all of its input or nothing. One push at most is
+// refused, and none where memory is found.
 #[test]
 fn a_refused_growth_appends_nothing(rt: HostRuntime) {
     let mut writer = BufWriter::new(Vec::new(rt.alloc()));
@@ -38,9 +39,24 @@ fn a_refused_growth_appends_nothing(rt: HostRuntime) {
         }
         assert_eq!(rt; writer.buffer().len(), kept);
     }
+    assert!(rt; kept >= 390);
     for (i, byte) in writer.buffer().iter().enumerate() {
         assert_eq!(rt; usize::from(*byte), 48 + i % 10);
     }
+}
+
+// 40 pushes of 10 bytes, for which the buffer grows again and again.
+#[test]
+fn a_buffer_grows(rt: HostRuntime) -> Result<(), Fail> {
+    let mut writer = BufWriter::new(Vec::new(rt.alloc()));
+    for _ in 0..40 {
+        writer.push(b"0123456789")?;
+    }
+    assert_eq!(rt; writer.buffer().len(), 400);
+    for (i, byte) in writer.buffer().iter().enumerate() {
+        assert_eq!(rt; usize::from(*byte), 48 + i % 10);
+    }
+    Ok(())
 }
 
 // Of a push that a stream refuses, the stream may hold a part.
