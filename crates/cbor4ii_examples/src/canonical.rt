@@ -3,10 +3,9 @@
 use crate::item::Item;
 use crate::refusal_texts::{eof, mismatch, no_step, require_utf8, unsupported};
 use crate::table::table;
-use cbor4ii_rw::slice_reader::SliceReader;
 use cbor4ii_tree::Canonical;
-use cbor4ii_trials::rows::{Want, reads, reads_over};
-use std::alloc::Global;
+use cbor4ii_trials::rows::{reads, reads_within};
+use std::alloc::{AllocError, Global};
 use std::test::Fail;
 
 // A spelling, and not the canonical one.
@@ -74,13 +73,10 @@ fn other_spellings_are_refused(rt: HostRuntime) -> Result<(), Fail> {
 }
 
 // 255 tags, and these bytes behind them.
-fn below_255_tags(alloc: Global, item: &[u8]) -> Result<Vec<u8>, Fail> {
-    let mut bytes = Vec::new(alloc);
-    for _ in 0..255 {
-        bytes.push(0xc1)?;
-    }
+fn below_255_tags(alloc: Global, item: &[u8]) -> Result<&'static [u8], AllocError> {
+    let mut bytes = vec![in alloc; 0xc1; 255]?;
     bytes.extend_from_slice(item)?;
-    Ok(bytes)
+    Ok(bytes.leak())
 }
 
 fn refuses_below_255_tags(
@@ -90,17 +86,7 @@ fn refuses_below_255_tags(
     rest: &[u8],
 ) -> Result<(), Fail> {
     let bytes = below_255_tags(alloc, item)?;
-    refuses_slice(alloc, &bytes, refusal, rest)
-}
-
-fn refuses_slice(
-    alloc: Global,
-    bytes: &[u8],
-    refusal: &'static str,
-    rest: &[u8],
-) -> Result<(), Fail> {
-    let want: Want<Item<Canonical>> = Err(refusal);
-    reads_over(alloc, &mut SliceReader::new(bytes), bytes, &want, rest)
+    reads_within::<Item<Canonical>>(alloc, bytes, 256, &Err(refusal), rest)
 }
 
 // A string of indefinite length is met before a step is taken for its chunk; an array's step comes

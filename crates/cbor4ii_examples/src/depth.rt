@@ -1,13 +1,14 @@
 //! Rows of items that are nested deep: each level takes steps of the reader, and has to give them
 //! back.
 use crate::item::Item;
+use crate::item_rows::{reads_value, skips_item};
 use crate::refusal_texts::no_step;
 use crate::table::table;
 use cbor4ii_rw::slice_reader::SliceReader;
 use cbor4ii_tree::{IgnoredAny, RawValue, Value};
 use cbor4ii_trials::items::Lent;
 use cbor4ii_trials::readers::TestReader;
-use cbor4ii_trials::rows::{Pair, Want, reads_by_each, reads_over};
+use cbor4ii_trials::rows::{Pair, Want, ends_at_each_front, reads_over, reads_within};
 use std::alloc::{AllocError, Global};
 use std::test::Fail;
 
@@ -15,16 +16,21 @@ const NO_STEP: &str = no_step!("ignored-any");
 
 // So many heads, and what stands behind them: the refusal of a value, how many bytes it leaves, and
 // how many are left where skipping is refused.
-const REFUSED: &[(u8, usize, &[u8], &str, usize, Option<usize>)] = table! {
+type Refused = (u8, usize, &'static [u8], &'static str, usize, Option<usize>);
+
+const REFUSED: &[Refused] = table! {
     (0x81, 128, b"\x80", no_step!("value"), 1, None),
     (0x81, 255, b"\x80", no_step!("value"), 128, None),
     (0x81, 256, b"\x80", no_step!("value"), 129, Some(1)),
     (0x81, 256, b"\x00", no_step!("value"), 129, Some(1)),
-    (0x81, 10000, b"", no_step!("value"), 9872, Some(9744)),
-    (0x9f, 10000, b"", no_step!("value"), 9872, Some(9744)),
     (0xc1, 255, b"\x80", no_step!("array"), 1, None),
     (0xc1, 255, b"\x7f\x61\x61\xff", no_step!("str"), 3, Some(3)),
     (0xc1, 256, b"\x00", no_step!("value"), 1, Some(1)),
+};
+
+const REFUSED_BEFORE_MANY: &[Refused] = table! {
+    (0x81, 10000, b"", no_step!("value"), 9872, Some(9744)),
+    (0x9f, 10000, b"", no_step!("value"), 9872, Some(9744)),
 };
 
 // A head so many times, and then an item. The bytes stay for good.
@@ -52,31 +58,35 @@ fn tags(alloc: Global, count: usize) -> Result<Value, AllocError> {
     Ok(value)
 }
 
-fn reads(alloc: Global, bytes: &'static [u8], want: Want<Value>, rest: &[u8]) -> Result<(), Fail> {
-    reads_by_each(alloc, bytes, 256, &want.map(|value| Item(value)), rest)
-}
-
-fn skips(
+fn refuses(
     alloc: Global,
     bytes: &'static [u8],
-    want: Want<IgnoredAny>,
+    refusal: &'static str,
     rest: &[u8],
 ) -> Result<(), Fail> {
-    reads_by_each(alloc, bytes, 256, &want.map(|any| Item(any)), rest)
+    reads_within::<Item<Value>>(alloc, bytes, 256, &Err(refusal), rest)
 }
 
-#[test]
-fn refused(rt: HostRuntime) -> Result<(), Fail> {
-    let alloc = rt.alloc();
-    for &(head, count, item, read, left, skipped) in REFUSED {
+fn refuses_rows(alloc: Global, rows: &[Refused]) -> Result<(), Fail> {
+    for &(head, count, item, read, left, skipped) in rows {
         let bytes = nested(alloc, head, count, item)?;
-        reads(alloc, bytes, Err(read), end(bytes, left)?)?;
+        refuses(alloc, bytes, read, end(bytes, left)?)?;
         match skipped {
-            None => skips(alloc, bytes, Ok(IgnoredAny), b"")?,
+            None => skips_item(alloc, bytes, 256)?,
             Some(left) => refuses_to_skip(alloc, bytes, end(bytes, left)?)?,
         }
     }
     Ok(())
+}
+
+#[test]
+fn refused(rt: HostRuntime) -> Result<(), Fail> {
+    refuses_rows(rt.alloc(), REFUSED)
+}
+
+#[test]
+fn refused_before_many_bytes(rt: HostRuntime) -> Result<(), Fail> {
+    refuses_rows(rt.alloc(), REFUSED_BEFORE_MANY)
 }
 
 // So many bytes at the end of these.
@@ -90,7 +100,7 @@ fn end(bytes: &[u8], left: usize) -> Result<&[u8], Fail> {
 
 // No step is left to skip the item, and nothing moves where it is kept.
 fn refuses_to_skip(alloc: Global, bytes: &'static [u8], rest: &[u8]) -> Result<(), Fail> {
-    skips(alloc, bytes, Err(NO_STEP), rest)?;
+    reads_within::<Item<IgnoredAny>>(alloc, bytes, 256, &Err(NO_STEP), rest)?;
     let want: Want<Lent<RawValue>> = Err(NO_STEP);
     reads_over(alloc, &mut SliceReader::new(bytes), bytes, &want, bytes)
 }
@@ -104,13 +114,12 @@ fn all_steps_taken(rt: HostRuntime) -> Result<(), Fail> {
 
 fn reads_arrays(alloc: Global, count: usize) -> Result<(), Fail> {
     let bytes = nested(alloc, 0x81, count, b"\x80")?;
-    reads(alloc, bytes, Ok(arrays(alloc, count)?), b"")
+    reads_value(alloc, bytes, 256, arrays(alloc, count)?)
 }
 
 fn reads_tags(alloc: Global, count: usize) -> Result<(), Fail> {
     let bytes = nested(alloc, 0xc1, count, b"\x00")?;
-    reads(alloc, bytes, Ok(tags(alloc, count)?), b"")?;
-    skips(alloc, bytes, Ok(IgnoredAny), b"")
+    reads_value(alloc, bytes, 256, tags(alloc, count)?)
 }
 
 type Three = Pair<Item<Value>, Pair<Item<Value>, Item<Value>>>;
@@ -127,6 +136,13 @@ fn greatest_limit_and_none(rt: HostRuntime) -> Result<(), Fail> {
     let alloc = rt.alloc();
     let bytes = nested(alloc, 0x81, 1000, b"\x80\x00\xf6")?;
     let want = Ok(deep(alloc)?);
-    reads_by_each(alloc, bytes, usize::MAX, &want, b"")?;
+    reads_within(alloc, bytes, usize::MAX, &want, b"")?;
     reads_over(alloc, &mut TestReader::unlimited(bytes), bytes, &want, b"")
+}
+
+#[test]
+fn fronts_of_a_thousand_arrays(rt: HostRuntime) -> Result<(), Fail> {
+    let alloc = rt.alloc();
+    let bytes = nested(alloc, 0x81, 1000, b"\x80")?;
+    ends_at_each_front::<Item<Value>>(alloc, bytes, usize::MAX)
 }

@@ -10,6 +10,8 @@ mod canonical;
 mod depth;
 pub mod examples;
 #[cfg(test)]
+mod growth;
+#[cfg(test)]
 mod item;
 #[cfg(test)]
 mod item_rows;

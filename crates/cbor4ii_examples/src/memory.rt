@@ -2,45 +2,24 @@
 //!
 //! In each test the decoder is the first that takes memory. Where a growth is refused, the steps
 //! are as before and an end of the bytes is left, and the test ends with that refusal.
+use crate::item::Item;
 use crate::literal::Literal::{self, Array, Bytes, Integer, Map, Null, Tag, Text};
-use cbor4ii_items::decode::Decode;
-use cbor4ii_rw::error::{DecodeError, Never};
 use cbor4ii_rw::slice_reader::SliceReader;
-use cbor4ii_tree::Value;
+use cbor4ii_tree::{Canonical, Value};
 use cbor4ii_trials::readers::TestReader;
-use cbor4ii_trials::rows::steps;
+use cbor4ii_trials::rows::{ReadFrom, reads_all};
 use std::alloc::Global;
-use std::fmt::{Debug, InlineText};
 use std::test::Fail;
 
-// The value, or the text of the refusal.
-fn told<E: Debug + Drop>(got: Result<Value, DecodeError<E>>) -> Result<Value, InlineText<128>> {
-    match got {
-        Ok(value) => Ok(value),
-        Err(error) => Err(InlineText::of(error)),
+// All the bytes as one item, from a slice or one at a time.
+fn decoded<T>(alloc: Global, bytes: &[u8], is_by_byte: bool) -> Result<T, Fail>
+where
+    T: ReadFrom + Drop,
+{
+    if is_by_byte {
+        return reads_all(alloc, &mut TestReader::short(bytes, 256), bytes);
     }
-}
-
-// All the bytes as one value, from a slice or one at a time.
-fn decoded(alloc: Global, bytes: &[u8], is_by_byte: bool) -> Result<Value, Fail> {
-    let mut slice = SliceReader::new(bytes);
-    let mut short = TestReader::short(bytes, 256);
-    let (got, rest, left) = if is_by_byte {
-        let got = told(Value::decode(alloc, &mut short));
-        (got, short.remaining(), steps(&mut short))
-    } else {
-        let got = told(Value::decode(alloc, &mut slice));
-        (got, slice.remaining(), steps(&mut slice))
-    };
-    let is_kept = left == 256 && bytes.ends_with(rest);
-    match got {
-        Ok(value) if is_kept && rest.is_empty() => Ok(value),
-        Err(text) if is_kept && text.as_str() == "OutOfMemory" => {
-            Err(Fail::from(DecodeError::<Never>::OutOfMemory))
-        }
-        Ok(value) => Err(Fail::new(format_args!("{left} steps, and {value:?}"))),
-        Err(text) => Err(Fail::new(format_args!("{left} steps, and {}", text.as_str()))),
-    }
+    reads_all(alloc, &mut SliceReader::new(bytes), bytes)
 }
 
 // Each kind of value that takes memory: {_ "abc": [_ (_ 0102, 030405), 1(null)], 24("x"): {0: []}}
@@ -62,7 +41,7 @@ fn each_kind(rt: HostRuntime) -> Result<(), Fail> {
 }
 
 fn is_meant(alloc: Global, is_by_byte: bool) -> Result<(), Fail> {
-    let value = decoded(alloc, BYTES, is_by_byte)?;
+    let Item(value) = decoded::<Item<Value>>(alloc, BYTES, is_by_byte)?;
     if value == MEANT.to_value(alloc)? {
         return Ok(());
     }
@@ -100,13 +79,49 @@ fn arrays_and_maps(rt: HostRuntime) -> Result<(), Fail> {
         bytes[len..len + end.len()].copy_from_slice(end);
         are_fives(rt.alloc(), &bytes[..len + end.len()], false)?;
         are_fives(rt.alloc(), &bytes[..len + end.len()], true)?;
+        are_copied(rt.alloc(), &bytes[..len + end.len()])?;
     }
     Ok(())
 }
 
 fn are_fives(alloc: Global, bytes: &[u8], is_by_byte: bool) -> Result<(), Fail> {
-    let value = decoded(alloc, bytes, is_by_byte)?;
+    let Item(value) = decoded::<Item<Value>>(alloc, bytes, is_by_byte)?;
     if is_fives(&value) {
+        return Ok(());
+    }
+    Err(Fail::new(format_args!("{value:?}")))
+}
+
+// The value stays as it was where it is copied, also where memory is refused for it.
+fn are_copied(alloc: Global, bytes: &[u8]) -> Result<(), Fail> {
+    let Item(value) = decoded::<Item<Value>>(alloc, bytes, false)?;
+    let copy = value.try_clone();
+    if !is_fives(&value) {
+        return Err(Fail::new(format_args!("{value:?} was copied")));
+    }
+    let copy = copy?;
+    if is_fives(&copy) {
+        return Ok(());
+    }
+    Err(Fail::new(format_args!("{copy:?} is the copy")))
+}
+
+// The heads of an array of 300 items and of a map of 300 pairs, and how many numbers follow them.
+#[test]
+fn canonical_arrays_and_maps(rt: HostRuntime) -> Result<(), Fail> {
+    let rows: [([u8; 3], usize); 2] = [([0x99, 0x01, 0x2c], 300), ([0xb9, 0x01, 0x2c], 600)];
+    for (head, fives) in rows {
+        let mut bytes = [0x05; 603];
+        bytes[..3].copy_from_slice(&head);
+        are_canonical_fives(rt.alloc(), &bytes[..3 + fives], false)?;
+        are_canonical_fives(rt.alloc(), &bytes[..3 + fives], true)?;
+    }
+    Ok(())
+}
+
+fn are_canonical_fives(alloc: Global, bytes: &[u8], is_by_byte: bool) -> Result<(), Fail> {
+    let Item(value) = decoded::<Item<Canonical>>(alloc, bytes, is_by_byte)?;
+    if is_fives(&value.0) {
         return Ok(());
     }
     Err(Fail::new(format_args!("{value:?}")))
@@ -117,12 +132,12 @@ fn are_fives(alloc: Global, bytes: &[u8], is_by_byte: bool) -> Result<(), Fail> 
 fn strings(rt: HostRuntime) -> Result<(), Fail> {
     let mut bytes = [b'a'; 20003];
     bytes[..3].copy_from_slice(b"\x59\x4e\x20");
-    match decoded(rt.alloc(), &bytes, true)? {
+    match decoded::<Item<Value>>(rt.alloc(), &bytes, true)?.0 {
         Value::Bytes(content) => assert!(rt; content.as_slice() == [b'a'; 20000].as_slice()),
         value => assert!(rt; false, "{value:?}"),
     }
     bytes[..3].copy_from_slice(b"\x79\x4e\x20");
-    match decoded(rt.alloc(), &bytes, true)? {
+    match decoded::<Item<Value>>(rt.alloc(), &bytes, true)?.0 {
         Value::Text(text) => assert!(rt; text.as_bytes() == [b'a'; 20000].as_slice()),
         value => assert!(rt; false, "{value:?}"),
     }

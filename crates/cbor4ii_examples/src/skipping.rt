@@ -1,15 +1,11 @@
 //! Rows of items that are skipped.
-use crate::item::Item;
 use crate::item_rows::{skips, skips_item};
 use crate::refusal_texts::{eof, unsupported};
 use crate::table::table;
 use cbor4ii_items::decode::Decode;
-use cbor4ii_rw::io_reader::IoReader;
-use cbor4ii_rw::segment_reader::SegmentReader;
-use cbor4ii_rw::slice_reader::SliceReader;
 use cbor4ii_tree::IgnoredAny;
-use cbor4ii_trials::readers::{Counting, TestReader};
-use cbor4ii_trials::rows::{Want, leaves, reads_over};
+use cbor4ii_trials::readers::Counting;
+use cbor4ii_trials::rows::{Want, leaves};
 use std::alloc::{AllocError, Global};
 use std::test::Fail;
 
@@ -126,8 +122,8 @@ const ZEROS: &[(&[u8], usize, &[u8], Want<IgnoredAny>, &[u8])] = table! {
 fn many_items(rt: HostRuntime) -> Result<(), Fail> {
     let alloc = rt.alloc();
     for (head, count, end, want, rest) in ZEROS {
-        let bytes = zeros(alloc, head, *count, end)?;
-        skips_many(alloc, &bytes, &want.map(|any| Item(any)), rest)?;
+        let bytes = zeros(alloc, head, *count, end)?.leak();
+        skips(alloc, bytes, *want, rest)?;
     }
     Ok(())
 }
@@ -145,29 +141,6 @@ fn repeated(alloc: Global, head: &[u8], count: usize, item: &[u8]) -> Result<Vec
         bytes.extend_from_slice(item)?;
     }
     Ok(bytes)
-}
-
-// Over each reader that has 256 steps or no limit, and in two segments, cut near either end of what
-// is asked for at once.
-fn skips_many(
-    alloc: Global,
-    bytes: &[u8],
-    want: &Want<Item<IgnoredAny>>,
-    rest: &[u8],
-) -> Result<(), Fail> {
-    reads_over(alloc, &mut SliceReader::new(bytes), bytes, want, rest)?;
-    reads_over(alloc, &mut TestReader::short(bytes, 256), bytes, want, rest)?;
-    reads_over(alloc, &mut TestReader::long(bytes, 256), bytes, want, rest)?;
-    reads_over(alloc, &mut IoReader::new(bytes), bytes, want, rest)?;
-    reads_over(alloc, &mut TestReader::unlimited(bytes), bytes, want, rest)?;
-    for cut in [1, 2, 3, 4, 255, 256, 257, 258, 259, 260] {
-        let (Some(front), Some(back)) = (bytes.get(..cut), bytes.get(cut..)) else {
-            continue;
-        };
-        let segments = [front, back];
-        reads_over(alloc, &mut SegmentReader::new(&segments), bytes, want, rest)?;
-    }
-    Ok(())
 }
 
 // How often an item is looked at that holds so many of one kind, by a reader that shows no more

@@ -321,7 +321,12 @@ fn reads_spellings(alloc: Global, rows: &[Spelling]) -> Result<(), Fail> {
 }
 
 fn is_not_canonical(alloc: Global, item: &'static [u8], rest: &[u8]) -> Result<(), Fail> {
-    reads::<Item<Canonical>>(alloc, item, Err("NotCanonical { name: \"canonical\" }"), rest)
+    reads::<Item<Canonical>>(
+        alloc,
+        item,
+        Err("NotCanonical { name: \"canonical\" }"),
+        rest,
+    )
 }
 
 #[test]

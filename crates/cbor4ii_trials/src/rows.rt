@@ -35,8 +35,8 @@ pub type RowWithin<T> = (&'static [u8], usize, Want<T>, &'static [u8]);
 const STEPS: usize = 256;
 // No row takes more shows or looks.
 const MOST_CALLS: usize = 4096;
-// A row of more bytes is cut at the first of its places alone.
-const MOST_CUTS: usize = 1024;
+// A row of more bytes is cut at the first 300 of its places.
+const MOST_CUTS: usize = 301;
 
 /// What a row reads: a value, or what another call takes off a reader.
 ///
