@@ -1,11 +1,13 @@
 //! What is read by accessors: options, variants, and arrays and maps part by part.
+use crate::nested::{nested, nested_value};
 use crate::typed::Answer::{self, Custom, Is};
 use crate::typed::{Take, reads_all};
-use cbor4ii::dec::IgnoredAny;
+use cbor4ii::Value;
+use cbor4ii::dec::{Decode, IgnoredAny};
 use cbor4ii::serde::{Accessor, DecodeError, Deserialize, Deserializer, EnumAccessor};
 use cbor4ii_rw::error as core_error;
 use cbor4ii_rw::read::Source;
-use cbor4ii_trials::rows::{Row, RowWithin};
+use cbor4ii_trials::rows::{ReadFrom, Row, RowWithin, reads};
 use std::alloc::Global;
 use std::test::Fail;
 
@@ -189,6 +191,11 @@ const UNITS: &[Row<Answer<Variant<Unit>>>] = &[
         b"\xbf\x61A",
     ),
     (b"\x61B\x01", Ok(Custom("another variant")), b"\x01"),
+    (
+        b"\xa1\x61A\x01",
+        Err("Mismatch { name: \"enum\", found: 161 }"),
+        b"\x01",
+    ),
 ];
 
 const UNITS_WITHIN: &[RowWithin<Answer<Variant<Unit>>>] = &[
@@ -206,6 +213,7 @@ const UNITS_WITHIN: &[RowWithin<Answer<Variant<Unit>>>] = &[
         b"\x61A\xff",
     ),
     (b"\x7f\x61A\xff", 2, Ok(UNIT), b""),
+    // That the content has another form is said before a step for it is asked.
     (
         b"\xa1\x61A\x01",
         1,
@@ -213,6 +221,12 @@ const UNITS_WITHIN: &[RowWithin<Answer<Variant<Unit>>>] = &[
         b"\x01",
     ),
 ];
+
+const NEWTYPES: &[Row<Answer<Variant<Newtype>>>] = &[(
+    b"\x61A\x01",
+    Err("Mismatch { name: \"enum\", found: 97 }"),
+    b"\x01",
+)];
 
 const NEWTYPES_WITHIN: &[RowWithin<Answer<Variant<Newtype>>>] = &[
     (
@@ -287,7 +301,7 @@ const STRUCTS_WITHIN: &[RowWithin<Answer<Variant<Struct>>>] = &[
 fn variants(rt: HostRuntime) -> Result<(), Fail> {
     let alloc = rt.alloc();
     reads_all(alloc, UNITS, UNITS_WITHIN)?;
-    reads_all(alloc, &[], NEWTYPES_WITHIN)?;
+    reads_all(alloc, NEWTYPES, NEWTYPES_WITHIN)?;
     reads_all(alloc, &[], TUPLES_WITHIN)?;
     reads_all(alloc, &[], STRUCTS_WITHIN)
 }
@@ -380,6 +394,34 @@ const FIRSTS: &[Row<Answer<First>>] = &[
 ];
 
 const DROPPED: &[RowWithin<Answer<Dropped>>] = &[(b"\x81\x80", 1, Ok(Is(Dropped)), b"\x80")];
+
+/// The item behind the head of an array, which was opened and dropped.
+#[derive(Debug, PartialEq, Drop)]
+struct BehindDropped(Value);
+
+impl ReadFrom for BehindDropped {
+    fn read_from<S: Source>(
+        alloc: Global,
+        reader: &mut S,
+    ) -> Result<BehindDropped, core_error::DecodeError<S::Error>> {
+        let mut de = Deserializer::new(reader);
+        if let Answer::Is(Dropped) = Answer::of(Dropped::take(alloc, &mut de))? {
+            return Ok(BehindDropped(Value::decode(alloc, de.into_inner())?));
+        }
+        Err(core_error::DecodeError::Custom {
+            name: "dropped",
+            num: 0,
+        })
+    }
+}
+
+// 128 arrays, one in another, behind the head of one more.
+#[test]
+fn what_stands_behind_a_dropped_accessor(rt: HostRuntime) -> Result<(), Fail> {
+    let alloc = rt.alloc();
+    let value = Ok(BehindDropped(nested_value(alloc, 127)?));
+    reads(alloc, nested(alloc, 128)?, value, b"")
+}
 
 #[test]
 fn a_dropped_accessor_moves_no_byte(rt: HostRuntime) -> Result<(), Fail> {

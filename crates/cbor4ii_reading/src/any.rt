@@ -1,11 +1,12 @@
 //! Items that are read as values, whatever they are, and values that are written.
+use crate::nested::{nested, nested_value};
 use crate::typed::Answer::{self, Is};
 use crate::typed::{BothTold, Refused, RowTold, RowToldWithin, Take, refuses, tells, tells_all};
 use cbor4ii::Value;
 use cbor4ii::serde::{DecodeError, Deserializer};
 use cbor4ii_rw::read::Source;
-use cbor4ii_trials::rows::{Want, reads_by_each};
-use std::alloc::{AllocError, Global};
+use cbor4ii_trials::rows::{Want, reads, reads_within};
+use std::alloc::Global;
 use std::test::Fail;
 
 const INTEGERS: &[BothTold] = &[
@@ -239,28 +240,9 @@ fn arrays_and_maps(rt: HostRuntime) -> Result<(), Fail> {
     tells::<Answer<Value>>(rt.alloc(), CONTAINERS, CONTAINERS_READ, CONTAINERS_WITHIN)
 }
 
-// So many arrays of one item each, one in another, and an empty one inside.
-fn nested(alloc: Global, depth: usize) -> Result<&'static [u8], Fail> {
-    let mut bytes = Vec::new(alloc);
-    for _ in 0..depth {
-        bytes.push(0x81)?;
-    }
-    bytes.push(0x80)?;
-    Ok(bytes.leak())
-}
-
-// What they are read as.
-fn nested_value(alloc: Global, depth: usize) -> Result<Value, AllocError> {
-    let mut value = Value::Array(Vec::new(alloc));
-    for _ in 0..depth {
-        value = Value::Array(vec![in alloc; value]?);
-    }
-    Ok(value)
-}
-
 fn reads_nested(alloc: Global, depth: usize) -> Result<(), Fail> {
     let value = Ok(Is(nested_value(alloc, depth)?));
-    reads_by_each(alloc, nested(alloc, depth)?, 256, &value, b"")
+    reads(alloc, nested(alloc, depth)?, value, b"")
 }
 
 const TOO_DEEP: Want<Answer<Value>> = Err("DepthOverflow { name: \"any\" }");
@@ -269,7 +251,7 @@ const TOO_DEEP: Want<Answer<Value>> = Err("DepthOverflow { name: \"any\" }");
 fn depth(rt: HostRuntime) -> Result<(), Fail> {
     let alloc = rt.alloc();
     reads_nested(alloc, 127)?;
-    reads_by_each(alloc, nested(alloc, 128)?, 256, &TOO_DEEP, b"\x80")
+    reads_within(alloc, nested(alloc, 128)?, 256, &TOO_DEEP, b"\x80")
 }
 
 /// An item that is read by the call for any item.
@@ -298,6 +280,11 @@ const BY_CALL: &[RowTold] = &[
         b"",
     ),
     (
+        b"\xc2\x49\x01\x00\x00\x00\x00\x00\x00\x00\x62",
+        Ok("Is(ByCall(Integer(18446744073709551714)))"),
+        b"",
+    ),
+    (
         b"\xc2\x50\x80\x00\x00\x00\x00\x00\x00\x00\x00\x00\x00\x00\x00\x00\x00\x00",
         Ok("Custom(\"integer out of range\")"),
         b"",
@@ -323,20 +310,10 @@ fn the_call_for_any_item(rt: HostRuntime) -> Result<(), Fail> {
 
 const TOO_DEEP_BY_CALL: Want<Answer<ByCall>> = Err("DepthOverflow { name: \"any\" }");
 
-// So many arrays, one in another, by the call for any item.
-fn reads_nested_by_call(
-    alloc: Global,
-    arrays: usize,
-    want: &Want<Answer<ByCall>>,
-    rest: &[u8],
-) -> Result<(), Fail> {
-    reads_by_each(alloc, nested(alloc, arrays)?, 256, want, rest)
-}
-
 #[test]
 fn depth_of_the_call_for_any_item(rt: HostRuntime) -> Result<(), Fail> {
     let alloc = rt.alloc();
     let value = Ok(Is(ByCall(nested_value(alloc, 127)?)));
-    reads_nested_by_call(alloc, 127, &value, b"")?;
-    reads_nested_by_call(alloc, 128, &TOO_DEEP_BY_CALL, b"\x80")
+    reads(alloc, nested(alloc, 127)?, value, b"")?;
+    reads_within(alloc, nested(alloc, 128)?, 256, &TOO_DEEP_BY_CALL, b"\x80")
 }

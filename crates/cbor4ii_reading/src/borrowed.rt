@@ -195,6 +195,7 @@ fn reads_counted(
         let reader = SegmentReader::new(parts);
         reads(kind, alloc, reader, bytes, Ok((content, is_borrowed)), rest)?;
     }
+    reads_by_byte(kind, alloc, bytes, Ok((content, content.len() <= 1)), rest)?;
     reads_of_streams(kind, alloc, bytes, Ok((content, false)), rest)
 }
 
@@ -211,7 +212,30 @@ fn reads_alike(
         let parts = vec![in alloc; &bytes[..cut], &bytes[cut..]]?.leak();
         reads(kind, alloc, SegmentReader::new(parts), bytes, want, rest)?;
     }
+    reads_by_byte(kind, alloc, bytes, want, rest)?;
     reads_of_streams(kind, alloc, bytes, want, rest)
+}
+
+/// Over segments of one byte each, so that each byte is shown alone, and lent.
+fn reads_by_byte(
+    kind: Kind,
+    alloc: Global,
+    bytes: &'static [u8],
+    want: Want,
+    rest: &'static [u8],
+) -> Result<(), Fail> {
+    let mut parts: Vec<&'static [u8]> = Vec::with_capacity(alloc, bytes.len())?;
+    for byte in bytes.chunks(1) {
+        parts.push(byte)?;
+    }
+    reads(
+        kind,
+        alloc,
+        SegmentReader::new(parts.leak()),
+        bytes,
+        want,
+        rest,
+    )
 }
 
 /// Out of streams that show a byte at a time, and all that is left, and of one that fails at one
@@ -235,7 +259,8 @@ fn reads_of_streams(
     Err(Fail::new(format_args!("too many looks of {bytes:?}")))
 }
 
-/// Whether a stream that fails at this look does, which is the answer then.
+/// Whether a stream that fails at this look does, which is the answer then. The steps are as
+/// before, and the reader over it takes of the stream what it took, and no byte more.
 fn fails_at_look(
     kind: Kind,
     alloc: Global,
@@ -250,7 +275,12 @@ fn fails_at_look(
         }
         _ => false,
     };
-    if is_fault == de.into_inner().into_inner().has_failed() {
+    let mut reader = de.into_inner();
+    let is_kept = steps(&mut reader) == 256;
+    let taken = reader.taken() as usize;
+    let stream = reader.into_inner();
+    let is_left = bytes.get(taken..) == Some(stream.remaining());
+    if is_kept && is_left && is_fault == stream.has_failed() {
         return Ok(is_fault);
     }
     Err(Fail::new(format_args!("not a fault at look {looks} of {bytes:?}")))
@@ -294,10 +324,13 @@ fn reads_with_no_step(kinds: &[Kind], alloc: Global, row: Alike) -> Result<(), F
 const TEXTS_COUNTED: &[Counted] = &[
     (b"\x64IETF\x01", b"IETF", b"\x01"),
     (b"\x62\xc3\xbc", b"\xc3\xbc", b""),
+    (b"\x63123", b"123", b""),
+    (b"\x671234567", b"1234567", b""),
 ];
 
 const TEXTS_ALIKE: &[Alike] = &[
     (b"\x7f\x61a\x61b\xff\x01", Ok((b"ab", false)), b"\x01"),
+    (b"\x7f\x61a\xff", Ok((b"a", false)), b""),
     (
         b"\x41\x41",
         Err("Core(Mismatch { name: \"str\", found: 65 })"),
@@ -323,14 +356,14 @@ fn texts(rt: HostRuntime) -> Result<(), Fail> {
     reads_with_no_step(TEXTS, alloc, TEXT_WITH_NO_STEP)
 }
 
-const BYTE_STRINGS_COUNTED: &[Counted] = &[(
-    b"\x44\x01\x02\x03\x04\xff",
-    b"\x01\x02\x03\x04",
-    b"\xff",
-)];
+const BYTE_STRINGS_COUNTED: &[Counted] = &[
+    (b"\x44\x01\x02\x03\x04\xff", b"\x01\x02\x03\x04", b"\xff"),
+    (b"\x43123", b"123", b""),
+];
 
 const BYTE_STRINGS_ALIKE: &[Alike] = &[
     (b"\x5f\x41\x01\x41\x02\xff", Ok((b"\x01\x02", false)), b""),
+    (b"\x5f\x41a\xff", Ok((b"a", false)), b""),
     (
         b"\x61\x61a",
         Err("Core(Mismatch { name: \"bytes\", found: 97 })"),

@@ -1,6 +1,7 @@
 //! What is read by the name of a call, and by the calls that read one value.
 use crate::typed::Answer::{self, Is};
-use crate::typed::{RowTold, RowToldWithin, Take, is_at_front, reads_all, tells_all};
+use crate::typed::{RowTold, RowToldWithin, Take, comes_back, is_at_front, reads_all, tells_all};
+use cbor4ii::Value;
 use cbor4ii::serde::{DecodeError, Deserializer, from_reader, from_slice};
 use cbor4ii::types::{F16, F32, F64};
 use cbor4ii_rw::error as core_error;
@@ -10,6 +11,7 @@ use cbor4ii_rw::slice_reader::SliceReader;
 use cbor4ii_trials::rows::Row;
 use cbor4ii_trials::streams::FailingStream;
 use std::alloc::Global;
+use std::collections::BTreeMap;
 use std::fmt::{Debug, InlineText};
 use std::io::{self, BufRead, ErrorKind};
 use std::test::Fail;
@@ -181,8 +183,8 @@ fn other_values(rt: HostRuntime) -> Result<(), Fail> {
 }
 
 /// A text at the front of the bytes, which is lent.
-fn text_is_at_front(alloc: Global, bytes: &'static [u8], want: &str) -> Result<(), Fail> {
-    let text: &'static str = from_slice(alloc, bytes)?;
+fn text_is_at_front(alloc: Global, bytes: &[u8], want: &str) -> Result<(), Fail> {
+    let text: &str = from_slice(alloc, bytes)?;
     if text == want {
         return Ok(());
     }
@@ -193,7 +195,48 @@ fn text_is_at_front(alloc: Global, bytes: &'static [u8], want: &str) -> Result<(
 fn the_value_at_the_front(rt: HostRuntime) -> Result<(), Fail> {
     let alloc = rt.alloc();
     is_at_front::<u8>(alloc, b"\x05\xff", "5")?;
+    is_at_front::<BTreeMap<u8, u8>>(alloc, b"\xa2\x01\x02\x01\x03", "{1: 3}")?;
     text_is_at_front(alloc, b"\x61a", "a")
+}
+
+// The bytes live no longer than the test.
+#[test]
+fn the_value_at_the_front_of_bytes_of_the_test(rt: HostRuntime) -> Result<(), Fail> {
+    let alloc = rt.alloc();
+    let bytes = Vec::from_slice(alloc, b"\x61a\xff")?;
+    text_is_at_front(alloc, &bytes, "a")?;
+    is_at_front::<String>(alloc, &bytes, "\"a\"")?;
+    Ok(())
+}
+
+#[test]
+fn numbers_and_units_come_back(rt: HostRuntime) -> Result<(), Fail> {
+    let alloc = rt.alloc();
+    comes_back::<()>(alloc, b"\x80", "()")?;
+    comes_back::<Option<()>>(alloc, b"\x80", "Some(())")?;
+    comes_back::<Option<u32>>(alloc, b"\x0a", "Some(10)")
+}
+
+#[test]
+fn arrays_come_back(rt: HostRuntime) -> Result<(), Fail> {
+    let alloc = rt.alloc();
+    comes_back::<Vec<Option<u32>>>(
+        alloc,
+        b"\x83\x18\x99\xf6\x18\x33",
+        "[Some(153), None, Some(51)]",
+    )?;
+    comes_back::<Option<Vec<(u128, i128)>>>(
+        alloc,
+        b"\x81\x82\x0a\x1a\x00\x01\x86\x9f",
+        "Some([(10, 99999)])",
+    )
+}
+
+#[test]
+fn any_values_come_back(rt: HostRuntime) -> Result<(), Fail> {
+    let alloc = rt.alloc();
+    comes_back::<Value>(alloc, b"\xf6", "Null")?;
+    comes_back::<Value>(alloc, b"\xa1\x61a\xf4", "Map([(Text(\"a\"), Bool(false))])")
 }
 
 /// The number at the front of a stream that is lent.

@@ -37,6 +37,8 @@ const NESTED_OPTIONS: &[Both<Option<Option<u8>>>] = &[
 
 const OPTIONAL_UNITS: &[Both<Option<()>>] = &[(b"\x80", Ok(Is(Some(()))))];
 
+const OPTIONAL_NUMBERS: &[Both<Option<u32>>] = &[(b"\x0a", Ok(Is(Some(10))))];
+
 const BOXES: &[BothTold] = &[(b"\x0a", "Is(10)")];
 
 const BOXES_READ: &[RowTold] = &[(
@@ -54,6 +56,7 @@ fn options_and_boxes(rt: HostRuntime) -> Result<(), Fail> {
     tries(alloc, NESTED_OPTIONS, &[], &[])?;
     writes(alloc, &Is(Some(None::<u8>)), b"\xf6")?;
     tries(alloc, OPTIONAL_UNITS, &[], &[])?;
+    tries(alloc, OPTIONAL_NUMBERS, &[], &[])?;
     tells::<Answer<Box<u32>>>(alloc, BOXES, BOXES_READ, BOXES_WITHIN)
 }
 
@@ -229,10 +232,11 @@ const MAPS_READ: &[RowTold] = &[
         Err("Mismatch { name: \"u8\", found: 255 }"),
         b"",
     ),
+    // Of equal keys the last value stays.
+    (b"\xa2\x01\x02\x01\x03", Ok("Is({1: 3})"), b""),
 ];
 
 const MAPS_WITHIN: &[RowToldWithin] = &[
-    // Of equal keys the last value stays.
     (b"\xa2\x01\x02\x01\x03", 1, Ok("Is({1: 3})"), b""),
     (
         b"\xbf\x01\x02\x01\x03\xff\x00",

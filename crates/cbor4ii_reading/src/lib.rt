@@ -16,7 +16,11 @@ mod calls;
 #[cfg(test)]
 mod containers;
 #[cfg(test)]
+mod growth;
+#[cfg(test)]
 mod leaves;
+#[cfg(test)]
+mod nested;
 #[cfg(test)]
 mod paths;
 #[cfg(test)]

@@ -1,9 +1,12 @@
 //! Rows of texts and byte strings that are owned.
 use crate::typed::Answer::{self, Is};
-use crate::typed::{BothTold, Refused, RowTold, RowToldWithin, refuses, tells, tells_all};
+use crate::typed::{
+    BothTold, Refused, RowTold, RowToldWithin, comes_back_lent, refuses, tells, tells_all,
+};
 use cbor4ii::types::Bytes;
 use cbor4ii_trials::rows::writes;
 use std::alloc::Global;
+use std::borrow::CowStr;
 use std::test::Fail;
 
 const TEXTS: &[BothTold] = &[
@@ -70,6 +73,7 @@ fn owned_texts(rt: HostRuntime) -> Result<(), Fail> {
 const BYTE_STRINGS: &[RowTold] = &[
     (b"\x40\x01", Ok("Is(Bytes([]))"), b"\x01"),
     (b"\x44\x01\x02\x03\x04", Ok("Is(Bytes([1, 2, 3, 4]))"), b""),
+    (b"\x43123", Ok("Is(Bytes([49, 50, 51]))"), b""),
     (
         b"\x61a",
         Err("Mismatch { name: \"bytes\", found: 97 }"),
@@ -112,5 +116,17 @@ fn writes_slice(alloc: Global, content: &[u8], bytes: &[u8]) -> Result<(), Fail>
 fn owned_byte_strings(rt: HostRuntime) -> Result<(), Fail> {
     let alloc = rt.alloc();
     tells_all::<Answer<Bytes<Vec<u8>>>>(alloc, BYTE_STRINGS, BYTE_STRINGS_WITHIN)?;
-    writes_slice(alloc, b"\x01\x02\x03\x04", b"\x44\x01\x02\x03\x04")
+    writes_slice(alloc, b"\x01\x02\x03\x04", b"\x44\x01\x02\x03\x04")?;
+    writes_slice(alloc, b"123", b"\x43123")
+}
+
+// A text and byte strings that are parts of bytes which the test makes.
+#[test]
+fn strings_that_are_lent_come_back(rt: HostRuntime) -> Result<(), Fail> {
+    let alloc = rt.alloc();
+    let text = Vec::from_slice(alloc, b"\x63123")?;
+    comes_back_lent::<&str>(alloc, &text, "\"123\"")?;
+    comes_back_lent::<CowStr<'_, Global>>(alloc, &text, "\"123\"")?;
+    let bytes = Vec::from_slice(alloc, b"\x43123")?;
+    comes_back_lent::<Bytes<&[u8]>>(alloc, &bytes, "Bytes([49, 50, 51])")
 }

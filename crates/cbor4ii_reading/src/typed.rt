@@ -9,8 +9,8 @@ use cbor4ii_rw::read::Source;
 use cbor4ii_rw::slice_reader::SliceReader;
 use cbor4ii_rw::write::Write;
 use cbor4ii_trials::rows::{
-    ReadFrom, Row, RowWithin, Want, WriteTo, ends_at_each_front, reads, reads_rows,
-    reads_rows_within, reads_texts, reads_texts_within, reads_within, writes,
+    ReadFrom, Row, RowWithin, Want, WriteTo, ends_at_each_front, reads, reads_alike, reads_rows,
+    reads_rows_within, reads_texts, reads_texts_within, writes,
 };
 use cbor4ii_writing::typed::write_typed;
 use std::alloc::Global;
@@ -40,16 +40,23 @@ pub trait Take: Sized {
     ) -> Result<Self, DecodeError<S::Error>>;
 }
 
+impl<T> Answer<T> {
+    /// The answer of calls, or the refusal of the codec.
+    pub fn of<E>(got: Result<T, DecodeError<E>>) -> Result<Answer<T>, core_error::DecodeError<E>> {
+        match got {
+            Ok(value) => Ok(Answer::Is(value)),
+            Err(DecodeError::Custom(text)) => Ok(Answer::Custom(text)),
+            Err(DecodeError::Core(error)) => Err(error),
+        }
+    }
+}
+
 impl<T: Take> ReadFrom for Answer<T> {
     fn read_from<S: Source>(
         alloc: Global,
         reader: &mut S,
     ) -> Result<Answer<T>, core_error::DecodeError<S::Error>> {
-        match T::take(alloc, &mut Deserializer::new(reader)) {
-            Ok(value) => Ok(Answer::Is(value)),
-            Err(DecodeError::Custom(text)) => Ok(Answer::Custom(text)),
-            Err(DecodeError::Core(error)) => Err(error),
-        }
+        Answer::of(T::take(alloc, &mut Deserializer::new(reader)))
     }
 }
 
@@ -76,7 +83,7 @@ where
         if let Ok(answer) = want {
             writes(alloc, answer, bytes)?;
         }
-        reads_within(alloc, bytes, STEPS, want, b"")?;
+        reads_alike(alloc, bytes, want, b"")?;
         ends_at_each_front::<A>(alloc, bytes, STEPS)?;
     }
     Ok(())
@@ -137,7 +144,7 @@ where
     for (bytes, text) in rows {
         let answer = A::read_from(alloc, &mut SliceReader::new(bytes))?;
         writes(alloc, &answer, bytes)?;
-        reads_texts_within::<A>(alloc, &[(bytes, STEPS, Ok(text), b"")])?;
+        reads_texts::<A>(alloc, &[(bytes, Ok(text), b"")])?;
         ends_at_each_front::<A>(alloc, bytes, STEPS)?;
     }
     Ok(())
@@ -168,13 +175,9 @@ where
 
 /// The value at the front of the bytes, from a slice and out of a stream, by the calls for one
 /// value: it has this text.
-pub fn is_at_front<T>(alloc: Global, bytes: &'static [u8], text: &str) -> Result<T, Fail>
+pub fn is_at_front<'a, T>(alloc: Global, bytes: &'a [u8], text: &str) -> Result<T, Fail>
 where
-    T: Deserialize<SliceReader<'static>>
-        + Deserialize<IoReader<&'static [u8]>>
-        + PartialEq
-        + Debug
-        + Drop,
+    T: Deserialize<SliceReader<'a>> + Deserialize<IoReader<&'a [u8]>> + PartialEq + Debug + Drop,
 {
     let value: T = from_slice(alloc, bytes)?;
     let streamed: T = from_reader(alloc, bytes)?;
@@ -186,17 +189,34 @@ where
 
 /// As `is_at_front`, of bytes that are all of the value: it is written as them, by the call for one
 /// value.
-pub fn comes_back<T>(alloc: Global, bytes: &'static [u8], text: &str) -> Result<(), Fail>
+pub fn comes_back<'a, T>(alloc: Global, bytes: &'a [u8], text: &str) -> Result<(), Fail>
 where
-    T: Deserialize<SliceReader<'static>>
-        + Deserialize<IoReader<&'static [u8]>>
+    T: Deserialize<SliceReader<'a>>
+        + Deserialize<IoReader<&'a [u8]>>
         + Serialize
         + PartialEq
         + Debug
         + Drop,
 {
     let value: T = is_at_front(alloc, bytes, text)?;
-    let written = to_vec(Vec::new(alloc), &value)?;
+    is_written_as(alloc, &value, bytes)
+}
+
+/// As `comes_back`, of a value that borrows from the bytes, which a stream does not lend.
+pub fn comes_back_lent<'a, T>(alloc: Global, bytes: &'a [u8], text: &str) -> Result<(), Fail>
+where
+    T: Deserialize<SliceReader<'a>> + Serialize + Debug + Drop,
+{
+    let value: T = from_slice(alloc, bytes)?;
+    if format!(in alloc; "{value:?}")?.as_str() != text {
+        return Err(Fail::new(format_args!("{value:?} in the place of {text}")));
+    }
+    is_written_as(alloc, &value, bytes)
+}
+
+/// The value is written as these bytes, by the call for one value.
+fn is_written_as<T: Serialize>(alloc: Global, value: &T, bytes: &[u8]) -> Result<(), Fail> {
+    let written = to_vec(Vec::new(alloc), value)?;
     if written.as_slice() == bytes {
         return Ok(());
     }

@@ -197,6 +197,15 @@ impl Take for Option<u8> {
     }
 }
 
+impl Take for Option<u32> {
+    fn take<S: Source>(
+        alloc: Global,
+        de: &mut Deserializer<S>,
+    ) -> Result<Self, DecodeError<S::Error>> {
+        Self::deserialize(alloc, de)
+    }
+}
+
 impl Take for Option<Option<u8>> {
     fn take<S: Source>(
         alloc: Global,
@@ -251,6 +260,15 @@ impl Take for Vec<u8> {
     }
 }
 
+impl Take for Vec<u16> {
+    fn take<S: Source>(
+        alloc: Global,
+        de: &mut Deserializer<S>,
+    ) -> Result<Self, DecodeError<S::Error>> {
+        Self::deserialize(alloc, de)
+    }
+}
+
 impl Take for Vec<Option<u32>> {
     fn take<S: Source>(
         alloc: Global,
@@ -270,6 +288,15 @@ impl Take for Option<Vec<(u128, i128)>> {
 }
 
 impl Take for BTreeMap<u8, u8> {
+    fn take<S: Source>(
+        alloc: Global,
+        de: &mut Deserializer<S>,
+    ) -> Result<Self, DecodeError<S::Error>> {
+        Self::deserialize(alloc, de)
+    }
+}
+
+impl Take for BTreeMap<u16, u8> {
     fn take<S: Source>(
         alloc: Global,
         de: &mut Deserializer<S>,

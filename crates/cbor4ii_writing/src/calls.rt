@@ -1,15 +1,17 @@
-//! Values of Rust's own types, and each call of a serializer.
-use crate::typed::Typed;
+//! Values of Rust's own types, and each call of a serializer, with a fault at each push and at each
+//! byte.
+use crate::typed::{Put, Typed};
 use cbor4ii_items::types::{F16, F32, F64};
 use cbor4ii_rw::buf_writer::BufWriter;
 use cbor4ii_rw::error as core_error;
 use cbor4ii_rw::error::TryReserveError;
+use cbor4ii_rw::write::Write;
 use cbor4ii_ser::error::EncodeError;
 use cbor4ii_ser::serialize::Serialize;
 use cbor4ii_ser::serializer::Serializer;
 use cbor4ii_ser::write_all::to_writer;
 use cbor4ii_trials::readers::Failure;
-use cbor4ii_trials::rows::writes;
+use cbor4ii_trials::rows::{writes, writes_rows};
 use cbor4ii_trials::streams::FailingSink;
 use cbor4ii_trials::writers::PushLengths;
 use std::alloc::{AllocError, Global};
@@ -24,6 +26,15 @@ fn texts_that_are_borrowed(rt: HostRuntime) -> Result<(), Fail> {
     writes(alloc, &Typed("IETF"), b"\x64IETF")?;
     writes(alloc, &Typed(&"IETF"), b"\x64IETF")?;
     writes(alloc, &Typed(CowStr::Borrowed("IETF")), b"\x64IETF")?;
+    writes(alloc, &Typed(CowStr::Borrowed("123")), b"\x63123")?;
+    Ok(())
+}
+
+#[test]
+fn a_text_that_may_be_borrowed_and_is_owned(rt: HostRuntime) -> Result<(), Fail> {
+    let alloc = rt.alloc();
+    let text: CowStr<'_, Global> = CowStr::Owned(String::from_str(alloc, "123")?);
+    writes(alloc, &Typed(text), b"\x63123")?;
     Ok(())
 }
 
@@ -50,184 +61,263 @@ fn tuples_of_texts_and_maps_in_the_order_of_their_keys(rt: HostRuntime) -> Resul
     Ok(())
 }
 
-type Written = Result<(), EncodeError<TryReserveError>>;
+/// A flag and numbers, by the calls for them.
+#[derive(Drop)]
+struct Numbers;
+
+impl Put for Numbers {
+    fn put<W: Write>(&self, ser: &mut Serializer<W>) -> Result<(), EncodeError<W::Error>> {
+        ser.serialize_bool(true)?;
+        ser.serialize_i8(-1)?;
+        ser.serialize_i16(-2)?;
+        ser.serialize_i32(-3)?;
+        ser.serialize_i64(-4)?;
+        ser.serialize_i128(-5)?;
+        ser.serialize_u8(1)?;
+        ser.serialize_u16(2)?;
+        ser.serialize_u32(3)?;
+        ser.serialize_u64(4)?;
+        ser.serialize_u128(5)?;
+        ser.serialize_f16(1)
+    }
+}
+
+const NUMBERS: &[u8] = b"\xf5\x20\x21\x22\x23\x24\x01\x02\x03\x04\x05\xf9\x00\x01";
 
 #[test]
 fn calls_for_numbers(rt: HostRuntime) -> Result<(), Fail> {
-    let mut ser = Serializer::new(BufWriter::new(Vec::new(rt.alloc())));
-    numbers_by_calls(&mut ser)?;
-    assert!(rt; !ser.is_human_readable());
-    let numbers = b"\xf5\x20\x21\x22\x23\x24\x01\x02\x03\x04\x05\xf9\x00\x01";
-    assert_eq!(rt; ser.into_inner().buffer(), numbers.as_slice());
+    writes(rt.alloc(), &Typed(Numbers), NUMBERS)?;
     Ok(())
 }
 
-fn numbers_by_calls(ser: &mut Serializer<BufWriter>) -> Written {
-    ser.serialize_bool(true)?;
-    ser.serialize_i8(-1)?;
-    ser.serialize_i16(-2)?;
-    ser.serialize_i32(-3)?;
-    ser.serialize_i64(-4)?;
-    ser.serialize_i128(-5)?;
-    ser.serialize_u8(1)?;
-    ser.serialize_u16(2)?;
-    ser.serialize_u32(3)?;
-    ser.serialize_u64(4)?;
-    ser.serialize_u128(5)?;
-    ser.serialize_f16(1)
+#[test]
+fn a_serializer_is_not_human_readable(rt: HostRuntime) {
+    let ser = Serializer::new(BufWriter::new(Vec::new(rt.alloc())));
+    assert!(rt; !ser.is_human_readable());
 }
+
+/// Other values with no part, and one in an option, by the calls for them.
+#[derive(Drop)]
+struct Leaves;
+
+impl Put for Leaves {
+    fn put<W: Write>(&self, ser: &mut Serializer<W>) -> Result<(), EncodeError<W::Error>> {
+        ser.serialize_f32(2)?;
+        ser.serialize_f64(3)?;
+        ser.serialize_char('c')?;
+        ser.serialize_str("st")?;
+        ser.serialize_bytes(b"\x08")?;
+        ser.serialize_none()?;
+        ser.serialize_some(&7u8)?;
+        ser.serialize_unit()
+    }
+}
+
+const LEAVES: &[u8] =
+    b"\xfa\x00\x00\x00\x02\xfb\x00\x00\x00\x00\x00\x00\x00\x03\x61c\x62st\x41\x08\xf6\x07\x80";
 
 #[test]
 fn calls_for_other_leaves(rt: HostRuntime) -> Result<(), Fail> {
-    let mut ser = Serializer::new(BufWriter::new(Vec::new(rt.alloc())));
-    leaves_by_calls(&mut ser)?;
-    let leaves =
-        b"\xfa\x00\x00\x00\x02\xfb\x00\x00\x00\x00\x00\x00\x00\x03\x61c\x62st\x41\x08\xf6\x07\x80";
-    assert_eq!(rt; ser.into_inner().buffer(), leaves.as_slice());
+    writes(rt.alloc(), &Typed(Leaves), LEAVES)?;
     Ok(())
 }
 
-fn leaves_by_calls(ser: &mut Serializer<BufWriter>) -> Written {
-    ser.serialize_f32(2)?;
-    ser.serialize_f64(3)?;
-    ser.serialize_char('c')?;
-    ser.serialize_str("st")?;
-    ser.serialize_bytes(b"\x08")?;
-    ser.serialize_none()?;
-    ser.serialize_some(&7u8)?;
-    ser.serialize_unit()
+/// Structs with no name of a field, and variants.
+#[derive(Drop)]
+struct Variants;
+
+impl Put for Variants {
+    fn put<W: Write>(&self, ser: &mut Serializer<W>) -> Result<(), EncodeError<W::Error>> {
+        ser.serialize_unit_struct("Nothing")?;
+        ser.serialize_unit_variant("Enum", 0, "Unit")?;
+        ser.serialize_newtype_struct("Wrapped", &6u8)?;
+        ser.serialize_newtype_variant("Enum", 1, "New", &0x999u32)?;
+        ser.serialize_newtype_variant("Letters", 0, "A", &"")
+    }
 }
+
+const VARIANTS: &[u8] = b"\x80\x64Unit\x06\xa1\x63New\x19\x09\x99\xa1\x61A\x60";
 
 #[test]
 fn calls_for_variants(rt: HostRuntime) -> Result<(), Fail> {
-    let mut ser = Serializer::new(BufWriter::new(Vec::new(rt.alloc())));
-    variants_by_calls(&mut ser)?;
-    let variants = b"\x80\x64Unit\x06\xa1\x63New\x19\x09\x99\xa1\x61A\x60";
-    assert_eq!(rt; ser.into_inner().buffer(), variants.as_slice());
+    writes(rt.alloc(), &Typed(Variants), VARIANTS)?;
     Ok(())
 }
 
-fn variants_by_calls(ser: &mut Serializer<BufWriter>) -> Written {
-    ser.serialize_unit_struct("Nothing")?;
-    ser.serialize_unit_variant("Enum", 0, "Unit")?;
-    ser.serialize_newtype_struct("Wrapped", &6u8)?;
-    ser.serialize_newtype_variant("Enum", 1, "New", &0x999u32)?;
-    ser.serialize_newtype_variant("Letters", 0, "A", &"")
+/// Structs of one, two and five fields.
+#[derive(Drop)]
+struct Structs;
+
+impl Put for Structs {
+    fn put<W: Write>(&self, ser: &mut Serializer<W>) -> Result<(), EncodeError<W::Error>> {
+        ser.serialize_1_field("One", ("a", &1u8))?;
+        ser.serialize_2_fields("Two", ("a", &1u8), ("b", &2u8))?;
+        ser.serialize_5_fields(
+            "Five",
+            ("a", &1u8),
+            ("b", &2u8),
+            ("c", &3u8),
+            ("d", &4u8),
+            ("e", &5u8),
+        )
+    }
 }
+
+const STRUCTS: &[u8] = b"\xa1\x61a\x01\xa2\x61a\x01\x61b\x02\
+\xa5\x61a\x01\x61b\x02\x61c\x03\x61d\x04\x61e\x05";
+
+/// A struct of six fields.
+#[derive(Drop)]
+struct SixFields;
+
+impl Put for SixFields {
+    fn put<W: Write>(&self, ser: &mut Serializer<W>) -> Result<(), EncodeError<W::Error>> {
+        ser.serialize_6_fields(
+            "Six",
+            ("a", &1u8),
+            ("b", &2u8),
+            ("c", &3u8),
+            ("d", &4u8),
+            ("e", &5u8),
+            ("f", &6u8),
+        )
+    }
+}
+
+const SIX_FIELDS: &[u8] = b"\xa6\x61a\x01\x61b\x02\x61c\x03\x61d\x04\x61e\x05\x61f\x06";
 
 #[test]
 fn calls_for_structs(rt: HostRuntime) -> Result<(), Fail> {
-    let mut ser = Serializer::new(BufWriter::new(Vec::new(rt.alloc())));
-    structs_by_calls(&mut ser)?;
-    let structs = b"\xa1\x61a\x01\xa2\x61a\x01\x61b\x02\
-\xa5\x61a\x01\x61b\x02\x61c\x03\x61d\x04\x61e\x05\
-\xa6\x61a\x01\x61b\x02\x61c\x03\x61d\x04\x61e\x05\x61f\x06";
-    assert_eq!(rt; ser.into_inner().buffer(), structs.as_slice());
+    writes(rt.alloc(), &Typed(Structs), STRUCTS)?;
+    writes(rt.alloc(), &Typed(SixFields), SIX_FIELDS)?;
     Ok(())
 }
 
-fn structs_by_calls(ser: &mut Serializer<BufWriter>) -> Written {
-    ser.serialize_1_field("One", ("a", &1u8))?;
-    ser.serialize_2_fields("Two", ("a", &1u8), ("b", &2u8))?;
-    ser.serialize_5_fields(
-        "Five",
-        ("a", &1u8),
-        ("b", &2u8),
-        ("c", &3u8),
-        ("d", &4u8),
-        ("e", &5u8),
-    )?;
-    ser.serialize_6_fields(
-        "Six",
-        ("a", &1u8),
-        ("b", &2u8),
-        ("c", &3u8),
-        ("d", &4u8),
-        ("e", &5u8),
-        ("f", &6u8),
-    )
+/// Variants of fields and of items.
+#[derive(Drop)]
+struct VariantsOfParts;
+
+impl Put for VariantsOfParts {
+    fn put<W: Write>(&self, ser: &mut Serializer<W>) -> Result<(), EncodeError<W::Error>> {
+        let [one, two, three, four] = &[1u8, 2, 3, 4];
+        ser.serialize_variant_of_1_field("Enum", 0, "A", ("a", one))?;
+        ser.serialize_variant_of_3_fields("Enum", 1, "B", ("a", one), ("b", two), ("c", three))?;
+        ser.serialize_variant_of_4_fields(
+            "Enum",
+            2,
+            "C",
+            ("a", one),
+            ("b", two),
+            ("c", three),
+            ("d", four),
+        )?;
+        ser.serialize_variant_of_3_items("Enum", 3, "D", one, two, three)
+    }
+}
+
+const VARIANTS_OF_PARTS: &[u8] = b"\xa1\x61A\xa1\x61a\x01\
+\xa1\x61B\xa3\x61a\x01\x61b\x02\x61c\x03\
+\xa1\x61C\xa4\x61a\x01\x61b\x02\x61c\x03\x61d\x04\
+\xa1\x61D\x83\x01\x02\x03";
+
+/// A struct variant, field by field.
+#[derive(Drop)]
+struct StructVariant;
+
+impl Put for StructVariant {
+    fn put<W: Write>(&self, ser: &mut Serializer<W>) -> Result<(), EncodeError<W::Error>> {
+        let mut fields = ser.serialize_struct_variant("Enum", 4, "E", 1)?;
+        fields.serialize_field("a", &1u8)?;
+        fields.end()
+    }
 }
 
 #[test]
 fn calls_for_variants_of_fields(rt: HostRuntime) -> Result<(), Fail> {
-    let mut ser = Serializer::new(BufWriter::new(Vec::new(rt.alloc())));
-    variants_of_fields_by_calls(&mut ser)?;
-    a_struct_variant(&mut ser)?;
-    let variants = b"\xa1\x61A\xa1\x61a\x01\
-\xa1\x61B\xa3\x61a\x01\x61b\x02\x61c\x03\
-\xa1\x61C\xa4\x61a\x01\x61b\x02\x61c\x03\x61d\x04\
-\xa1\x61D\x83\x01\x02\x03\
-\xa1\x61E\xa1\x61a\x01";
-    assert_eq!(rt; ser.into_inner().buffer(), variants.as_slice());
+    writes(rt.alloc(), &Typed(VariantsOfParts), VARIANTS_OF_PARTS)?;
+    writes(rt.alloc(), &Typed(StructVariant), b"\xa1\x61E\xa1\x61a\x01")?;
     Ok(())
 }
 
-fn variants_of_fields_by_calls(ser: &mut Serializer<BufWriter>) -> Written {
-    let [one, two, three, four] = &[1u8, 2, 3, 4];
-    ser.serialize_variant_of_1_field("Enum", 0, "A", ("a", one))?;
-    ser.serialize_variant_of_3_fields("Enum", 1, "B", ("a", one), ("b", two), ("c", three))?;
-    ser.serialize_variant_of_4_fields(
-        "Enum",
-        2,
-        "C",
-        ("a", one),
-        ("b", two),
-        ("c", three),
-        ("d", four),
-    )?;
-    ser.serialize_variant_of_3_items("Enum", 3, "D", one, two, three)
+/// An array of one item, whose length is indefinite or known.
+#[derive(Drop)]
+struct OneItem(Option<usize>);
+
+impl Put for OneItem {
+    fn put<W: Write>(&self, ser: &mut Serializer<W>) -> Result<(), EncodeError<W::Error>> {
+        let mut items = ser.serialize_seq(self.0)?;
+        items.serialize_element(&1u8)?;
+        items.end()
+    }
 }
 
-fn a_struct_variant(ser: &mut Serializer<BufWriter>) -> Written {
-    let mut fields = ser.serialize_struct_variant("Enum", 4, "E", 1)?;
-    fields.serialize_field("a", &1u8)?;
-    fields.end()
+const ARRAYS: &[(Typed<OneItem>, &[u8], usize)] = &[
+    (Typed(OneItem(None)), b"\x9f\x01\xff", 3),
+    (Typed(OneItem(Some(1))), b"\x81\x01", 2),
+];
+
+/// A map of two entries, whose length is indefinite or known.
+#[derive(Drop)]
+struct TwoEntries(Option<usize>);
+
+impl Put for TwoEntries {
+    fn put<W: Write>(&self, ser: &mut Serializer<W>) -> Result<(), EncodeError<W::Error>> {
+        let mut entries = ser.serialize_map(self.0)?;
+        entries.serialize_key(&3u8)?;
+        entries.serialize_value(&4u8)?;
+        entries.serialize_entry(&5u8, &6u8)?;
+        entries.end()
+    }
+}
+
+const MAPS: &[(Typed<TwoEntries>, &[u8], usize)] = &[
+    (Typed(TwoEntries(None)), b"\xbf\x03\x04\x05\x06\xff", 6),
+    (Typed(TwoEntries(Some(2))), b"\xa2\x03\x04\x05\x06", 5),
+];
+
+#[test]
+fn arrays_and_maps_part_by_part(rt: HostRuntime) -> Result<(), Fail> {
+    writes_rows(rt.alloc(), ARRAYS)?;
+    writes_rows(rt.alloc(), MAPS)
+}
+
+/// A tuple and a struct without names, of one item each.
+#[derive(Drop)]
+struct Tuples;
+
+impl Put for Tuples {
+    fn put<W: Write>(&self, ser: &mut Serializer<W>) -> Result<(), EncodeError<W::Error>> {
+        let mut items = ser.serialize_tuple(1)?;
+        items.serialize_element(&7u8)?;
+        items.end()?;
+        let mut items = ser.serialize_tuple_struct("One", 1)?;
+        items.serialize_element(&8u8)?;
+        items.end()
+    }
+}
+
+/// A variant of a text and a flag.
+#[derive(Drop)]
+struct TupleVariant;
+
+impl Put for TupleVariant {
+    fn put<W: Write>(&self, ser: &mut Serializer<W>) -> Result<(), EncodeError<W::Error>> {
+        let mut items = ser.serialize_tuple_variant("Enum", 2, "Tuple", 2)?;
+        items.serialize_element(&"123")?;
+        items.serialize_element(&false)?;
+        items.end()
+    }
 }
 
 #[test]
-fn collects(rt: HostRuntime) -> Result<(), Fail> {
-    let mut ser = Serializer::new(BufWriter::new(Vec::new(rt.alloc())));
-    an_open_array(&mut ser)?;
-    a_counted_array(&mut ser)?;
-    an_open_map(&mut ser)?;
-    a_tuple_and_its_variants(&mut ser)?;
-    let expected =
-        b"\x9f\x01\xff\x81\x02\xbf\x03\x04\x05\x06\xff\x81\x07\x81\x08\xa1\x65Tuple\x82\x63123\xf4";
-    assert_eq!(rt; ser.into_inner().buffer(), expected.as_slice());
+fn tuples_part_by_part(rt: HostRuntime) -> Result<(), Fail> {
+    writes(rt.alloc(), &Typed(Tuples), b"\x81\x07\x81\x08")?;
+    writes(
+        rt.alloc(),
+        &Typed(TupleVariant),
+        b"\xa1\x65Tuple\x82\x63123\xf4",
+    )?;
     Ok(())
-}
-
-fn an_open_array(ser: &mut Serializer<BufWriter>) -> Written {
-    let mut items = ser.serialize_seq(None)?;
-    items.serialize_element(&1u8)?;
-    items.end()
-}
-
-fn a_counted_array(ser: &mut Serializer<BufWriter>) -> Written {
-    let mut items = ser.serialize_seq(Some(1))?;
-    items.serialize_element(&2u8)?;
-    items.end()
-}
-
-fn an_open_map(ser: &mut Serializer<BufWriter>) -> Written {
-    let mut entries = ser.serialize_map(None)?;
-    entries.serialize_key(&3u8)?;
-    entries.serialize_value(&4u8)?;
-    entries.serialize_entry(&5u8, &6u8)?;
-    entries.end()
-}
-
-fn a_tuple_and_its_variants(ser: &mut Serializer<BufWriter>) -> Written {
-    let mut items = ser.serialize_tuple(1)?;
-    items.serialize_element(&7u8)?;
-    items.end()?;
-    let mut items = ser.serialize_tuple_struct("One", 1)?;
-    items.serialize_element(&8u8)?;
-    items.end()?;
-    let mut items = ser.serialize_tuple_variant("Enum", 2, "Tuple", 2)?;
-    items.serialize_element(&"123")?;
-    items.serialize_element(&false)?;
-    items.end()
 }
 
 type Says = Result<bool, EncodeError<TryReserveError>>;

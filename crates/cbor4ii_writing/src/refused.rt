@@ -1,13 +1,15 @@
 //! Values that have no item, and what stands before the place at which they are refused.
+use crate::typed::{Put, Refused};
 use cbor4ii_items::decode::Decode;
 use cbor4ii_rw::buf_writer::BufWriter;
-use cbor4ii_rw::error::TryReserveError;
+use cbor4ii_rw::error::{StaticStr, TryReserveError};
 use cbor4ii_rw::slice_reader::SliceReader;
+use cbor4ii_rw::write::Write;
 use cbor4ii_ser::error::EncodeError;
-use cbor4ii_ser::serialize::Serialize;
 use cbor4ii_ser::serializer::Serializer;
 use cbor4ii_ser::write_all::to_vec;
 use cbor4ii_tree::Value;
+use cbor4ii_trials::rows::writes;
 use std::alloc::{AllocError, Global};
 use std::collections::BTreeMap;
 use std::test::Fail;
@@ -19,10 +21,12 @@ const TAGGED: &[(&[u8], &str)] = &[
     (b"\xc1\x00", "Tag(1, Integer(0))"),
 ];
 
+const TAG: StaticStr = "serialization Tag via serde is not supported";
+
 // The answer is that a tag is refused.
 fn is_refused<T: Drop>(answer: Result<T, EncodeError<TryReserveError>>) -> Result<(), Fail> {
     match answer {
-        Err(EncodeError::Custom("serialization Tag via serde is not supported")) => Ok(()),
+        Err(EncodeError::Custom(words)) if words == TAG => Ok(()),
         Err(EncodeError::Core(error)) => Err(Fail::from(error)),
         _ => Err(Fail::new("not refused by its tag")),
     }
@@ -37,11 +41,10 @@ fn has_written(ser: Serializer<BufWriter>, bytes: &[u8]) -> Result<(), Fail> {
     Err(Fail::new(format_args!("{written:?} in the place of {bytes:?}")))
 }
 
-// The value is refused by its tag, and these bytes stand before that.
-fn is_refused_behind<T: Serialize>(alloc: Global, value: &T, bytes: &[u8]) -> Result<(), Fail> {
-    let mut ser = Serializer::new(BufWriter::new(Vec::new(alloc)));
-    is_refused(value.serialize(&mut ser))?;
-    has_written(ser, bytes)
+// What the calls write is refused by a tag, and these bytes stand before that.
+fn is_refused_behind<T: Put + Drop>(alloc: Global, calls: T, bytes: &[u8]) -> Result<(), Fail> {
+    writes(alloc, &Refused(calls, TAG), bytes)?;
+    Ok(())
 }
 
 // The value that the bytes decode to is the one of the text, and is not written.
@@ -50,7 +53,8 @@ fn is_not_written(alloc: Global, bytes: &[u8], text: &str) -> Result<(), Fail> {
     if format!(in alloc; "{value:?}")?.as_str() != text {
         return Err(Fail::new(format_args!("{value:?} in the place of {text}")));
     }
-    is_refused_behind(alloc, &value, b"")
+    is_refused(to_vec(Vec::new(alloc), &value))?;
+    is_refused_behind(alloc, value, b"")
 }
 
 fn are_not_written(alloc: Global, rows: &[(&[u8], &str)]) -> Result<(), Fail> {
@@ -73,36 +77,48 @@ fn tagged(alloc: Global) -> Result<Value, AllocError> {
 #[test]
 fn what_stands_before_a_tag(rt: HostRuntime) -> Result<(), Fail> {
     let alloc = rt.alloc();
-    is_refused_behind(alloc, &(1u8, tagged(alloc)?), b"\x82\x01")?;
+    is_refused_behind(alloc, (1u8, tagged(alloc)?), b"\x82\x01")?;
     let items = vec![in alloc; Value::Integer(1), tagged(alloc)?]?;
-    is_refused_behind(alloc, &items, b"\x82\x01")?;
+    is_refused_behind(alloc, items, b"\x82\x01")?;
     let mut map = BTreeMap::new(alloc);
     map.insert(1u8, tagged(alloc)?)?;
-    is_refused_behind(alloc, &map, b"\xa1\x01")
+    is_refused_behind(alloc, map, b"\xa1\x01")
 }
 
 // What an option, a box and a triple write before a part that is refused.
 #[test]
 fn what_holds_a_tag(rt: HostRuntime) -> Result<(), Fail> {
     let alloc = rt.alloc();
-    is_refused_behind(alloc, &Some(tagged(alloc)?), b"")?;
-    is_refused_behind(alloc, &Box::new(alloc, tagged(alloc)?)?, b"")?;
-    is_refused_behind(alloc, &(1u8, 2u8, tagged(alloc)?), b"\x83\x01\x02")
+    is_refused_behind(alloc, Some(tagged(alloc)?), b"")?;
+    is_refused_behind(alloc, Box::new(alloc, tagged(alloc)?)?, b"")?;
+    is_refused_behind(alloc, (1u8, 2u8, tagged(alloc)?), b"\x83\x01\x02")
 }
 
-fn calls_are_refused(ser: &mut Serializer<BufWriter>, tagged: &Value) -> Result<(), Fail> {
-    is_refused(ser.serialize_2_fields("Struct", ("a", &1u8), ("b", tagged)))?;
-    is_refused(ser.serialize_newtype_variant("Enum", 0, "N", tagged))
+/// A struct whose second field is refused.
+#[derive(Drop)]
+struct Fields(Value);
+
+impl Put for Fields {
+    fn put<W: Write>(&self, ser: &mut Serializer<W>) -> Result<(), EncodeError<W::Error>> {
+        ser.serialize_2_fields("Struct", ("a", &1u8), ("b", &self.0))
+    }
+}
+
+/// A variant whose content is refused.
+#[derive(Drop)]
+struct Variant(Value);
+
+impl Put for Variant {
+    fn put<W: Write>(&self, ser: &mut Serializer<W>) -> Result<(), EncodeError<W::Error>> {
+        ser.serialize_newtype_variant("Enum", 0, "N", &self.0)
+    }
 }
 
 #[test]
 fn calls_for_what_holds_a_tag(rt: HostRuntime) -> Result<(), Fail> {
     let alloc = rt.alloc();
-    let value = tagged(alloc)?;
-    let mut ser = Serializer::new(BufWriter::new(Vec::new(alloc)));
-    calls_are_refused(&mut ser, &value)?;
-    has_written(ser, b"\xa2\x61a\x01\x61b\xa1\x61N")?;
-    is_refused(to_vec(Vec::new(alloc), &value))
+    is_refused_behind(alloc, Fields(tagged(alloc)?), b"\xa2\x61a\x01\x61b")?;
+    is_refused_behind(alloc, Variant(tagged(alloc)?), b"\xa1\x61N")
 }
 
 // Whether an array whose second item is refused still wants that item.
