@@ -1,6 +1,8 @@
 //! What is read by the name of a call, and by the calls that read one value.
 use crate::typed::Answer::{self, Is};
-use crate::typed::{RowTold, RowToldWithin, Take, comes_back, is_at_front, reads_all, tells_all};
+use crate::typed::{
+    BothTold, RowTold, RowToldWithin, Take, come_back, is_at_front, reads_all, tells_all,
+};
 use cbor4ii::Value;
 use cbor4ii::serde::{DecodeError, Deserializer, from_reader, from_slice};
 use cbor4ii::types::{F16, F32, F64};
@@ -209,34 +211,43 @@ fn the_value_at_the_front_of_bytes_of_the_test(rt: HostRuntime) -> Result<(), Fa
     Ok(())
 }
 
+const NUMBERS_BOTH: &[BothTold] = &[(b"\x0a", "Some(10)")];
+
+const UNITS_BOTH: &[BothTold] = &[(b"\x80", "()")];
+
+const OPTIONAL_UNITS_BOTH: &[BothTold] = &[(b"\x80", "Some(())")];
+
 #[test]
 fn numbers_and_units_come_back(rt: HostRuntime) -> Result<(), Fail> {
     let alloc = rt.alloc();
-    comes_back::<()>(alloc, b"\x80", "()")?;
-    comes_back::<Option<()>>(alloc, b"\x80", "Some(())")?;
-    comes_back::<Option<u32>>(alloc, b"\x0a", "Some(10)")
+    come_back::<Option<u32>>(alloc, NUMBERS_BOTH)?;
+    come_back::<()>(alloc, UNITS_BOTH)?;
+    come_back::<Option<()>>(alloc, OPTIONAL_UNITS_BOTH)
 }
+
+const OPTIONS_BOTH: &[BothTold] = &[(b"\x83\x18\x99\xf6\x18\x33", "[Some(153), None, Some(51)]")];
+
+const PAIRS_BOTH: &[BothTold] = &[(b"\x81\x82\x0a\x1a\x00\x01\x86\x9f", "Some([(10, 99999)])")];
 
 #[test]
 fn arrays_come_back(rt: HostRuntime) -> Result<(), Fail> {
     let alloc = rt.alloc();
-    comes_back::<Vec<Option<u32>>>(
-        alloc,
-        b"\x83\x18\x99\xf6\x18\x33",
-        "[Some(153), None, Some(51)]",
-    )?;
-    comes_back::<Option<Vec<(u128, i128)>>>(
-        alloc,
-        b"\x81\x82\x0a\x1a\x00\x01\x86\x9f",
-        "Some([(10, 99999)])",
-    )
+    come_back::<Vec<Option<u32>>>(alloc, OPTIONS_BOTH)?;
+    come_back::<Option<Vec<(u128, i128)>>>(alloc, PAIRS_BOTH)
 }
+
+const ANY_BOTH: &[BothTold] = &[
+    (b"\xf6", "Null"),
+    (b"\xa1\x61a\xf4", "Map([(Text(\"a\"), Bool(false))])"),
+    (
+        b"\xc2\x49\x01\x00\x00\x00\x00\x00\x00\x00\x62",
+        "Integer(18446744073709551714)",
+    ),
+];
 
 #[test]
 fn any_values_come_back(rt: HostRuntime) -> Result<(), Fail> {
-    let alloc = rt.alloc();
-    comes_back::<Value>(alloc, b"\xf6", "Null")?;
-    comes_back::<Value>(alloc, b"\xa1\x61a\xf4", "Map([(Text(\"a\"), Bool(false))])")
+    come_back::<Value>(rt.alloc(), ANY_BOTH)
 }
 
 /// The number at the front of a stream that is lent.

@@ -202,6 +202,22 @@ where
     is_written_as(alloc, &value, bytes)
 }
 
+/// As `comes_back`, for rows of bytes, each with the text of its value.
+pub fn come_back<T>(alloc: Global, rows: &[BothTold]) -> Result<(), Fail>
+where
+    T: Deserialize<SliceReader<'static>>
+        + Deserialize<IoReader<&'static [u8]>>
+        + Serialize
+        + PartialEq
+        + Debug
+        + Drop,
+{
+    for (bytes, text) in rows {
+        comes_back::<T>(alloc, bytes, text)?;
+    }
+    Ok(())
+}
+
 /// As `comes_back`, of a value that borrows from the bytes, which a stream does not lend.
 pub fn comes_back_lent<'a, T>(alloc: Global, bytes: &'a [u8], text: &str) -> Result<(), Fail>
 where

@@ -9,6 +9,8 @@ mod event_rows;
 pub mod events;
 #[cfg(test)]
 mod failures;
+#[cfg(test)]
+mod lent_rows;
 pub mod nest;
 #[cfg(test)]
 mod nest_rows;
@@ -17,3 +19,5 @@ mod record_rows;
 pub mod records;
 #[cfg(test)]
 mod values;
+#[cfg(test)]
+mod variant_rows;

@@ -1,10 +1,9 @@
-//! Rows of a struct and of enums of a user's own, and of structs that are read in one call.
+//! Rows of a struct and of an enum of a user's own, and of structs that are read in one call.
 ghost use Rattle.std.specs.Prelude.{◌∷◌, [], codes};
-ghost use Rattle.cbor4ii_ser.specs.Item.{field, struct_item, variant_item};
-ghost use Rattle.cbor4ii_records.specs.declared.record_rows.Letters.TheVariants.{A};
+ghost use Rattle.cbor4ii_ser.specs.Item.{field, struct_item};
 
 use crate::records::{Enum, Point, read_enum};
-use cbor4ii::serde::{DecodeError, Deserializer, EncodeError, Serialize, Serializer, to_writer};
+use cbor4ii::serde::{DecodeError, Deserializer, EncodeError, Serialize, Serializer};
 use cbor4ii::types::F64;
 use cbor4ii_reading::typed::Answer::{self, Is};
 use cbor4ii_reading::typed::{
@@ -169,53 +168,6 @@ fn variants(rt: HostRuntime) -> Result<(), Fail> {
     tells::<Answer<Enum>>(rt.alloc(), VARIANTS, VARIANTS_READ, VARIANTS_WITHIN)
 }
 
-/// An enum of one variant, which holds a text.
-#[derive(Debug, PartialEq, Drop)]
-enum Letters {
-    A(String),
-}
-
-impl Serialize for Letters {
-    ghost item = { λ l. elim l [
-      | A s ↦ variant_item (codes "A") (⟦<String as Serialize>⟧.item s)
-    ] };
-
-    fn serialize<W: Write>(&self, ser: &mut Serializer<W>) -> Result<(), EncodeError<W::Error>> {
-        let Letters::A(text) = self;
-        ser.serialize_newtype_variant("Letters", 0, "A", text)
-    }
-}
-
-impl Take for Letters {
-    fn take<S: Source>(
-        alloc: Global,
-        de: &mut Deserializer<S>,
-    ) -> Result<Letters, DecodeError<S::Error>> {
-        let mut variant = de.deserialize_enum("Letters", &["A"])?;
-        let name: String = variant.variant(alloc)?;
-        match name.as_str() {
-            "A" => Ok(Letters::A(variant.newtype_variant(alloc)?)),
-            _ => Err(DecodeError::Custom("another variant")),
-        }
-    }
-}
-
-const LETTERS_OF_A: &[BothTold] = &[(b"\xa1\x61A\x60", "Is(A(\"\"))")];
-
-// The empty text of the variant is written into a room that is just as long.
-fn is_written_into_room(alloc: Global) -> Result<bool, Fail> {
-    let mut room = [0u8; 4];
-    to_writer(room.as_mut_slice(), &Letters::A(String::new(alloc)))?;
-    Ok(room == *b"\xa1\x61A\x60")
-}
-
-#[test]
-fn an_empty_text_in_a_variant(rt: HostRuntime) -> Result<(), Fail> {
-    let alloc = rt.alloc();
-    assert!(rt; is_written_into_room(alloc)?);
-    tells::<Answer<Letters>>(alloc, LETTERS_OF_A, &[], &[])
-}
-
 /// A struct of four fields, one of which is a struct itself.
 #[derive(Debug, PartialEq, Drop)]
 struct Whole {
@@ -363,6 +315,18 @@ const ONES: &[Row<Answer<One>>] = &[
         b"",
     ),
     (b"\xa0", Ok(Is(One(None))), b""),
+    // Of several entries of one name the last counts.
+    (b"\xa2\x61y\x02\x61y\x03", Ok(Is(One(Some(3)))), b""),
+    // What is skipped under another name may be no value: a chunk that is an array, a tag, and a
+    // text that is not UTF-8.
+    (b"\xa2\x61x\x5f\x80\xff\x61y\x02", Ok(Is(One(Some(2)))), b""),
+    (b"\xa2\x61x\xc1\x00\x61y\x02", Ok(Is(One(Some(2)))), b""),
+    (b"\xa2\x61x\x62\xff\xff\x61y\x02", Ok(Is(One(Some(2)))), b""),
+    (
+        b"\xa1\x61x\xf8\x14",
+        Err("Unsupported { name: \"ignored-any\", found: 248 }"),
+        b"\xf8\x14",
+    ),
 ];
 
 /// A struct of two fields.

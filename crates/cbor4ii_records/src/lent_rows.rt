@@ -1,0 +1,181 @@
+//! Rows of structs of a user's own that borrow from the input.
+ghost use Rattle.std.specs.Prelude.{◌∷◌, [], codes, true, false};
+ghost use Rattle.cbor4ii_ser.specs.Item.{field, struct_item};
+ghost use Rattle.cbor4ii.specs.Typed.{any_two, not_exact, unsaid, unsaid_stops};
+
+use crate::records::Enum;
+use cbor4ii::serde::{
+    DecodeError, Deserialize, Deserializer, EncodeError, Serialize, Serializer, Typed, from_slice,
+};
+use cbor4ii::types::Bytes;
+use cbor4ii_reading::typed::comes_back_lent;
+use cbor4ii_rw::error::Never;
+use cbor4ii_rw::slice_reader::SliceReader;
+use cbor4ii_rw::write::Write;
+use std::alloc::Global;
+use std::collections::BTreeMap;
+use std::test::Fail;
+
+/// A struct of a number and a text, which is borrowed.
+#[derive(Debug, PartialEq, Drop)]
+struct Label<'a> {
+    id: u8,
+    text: &'a str,
+}
+
+impl<'a> Serialize for Label<'a> {
+    ghost item = { λ l. struct_item (field (codes "id") (⟦<u8 as Serialize>⟧.item l.id)
+        ∷ field (codes "text") (⟦<&'a str as Serialize>⟧.item l.text) ∷ []) };
+
+    fn serialize<W: Write>(&self, ser: &mut Serializer<W>) -> Result<(), EncodeError<W::Error>> {
+        ser.serialize_2_fields("Label", ("id", &self.id), ("text", &self.text))
+    }
+}
+
+impl<'a> Typed for Label<'a> {
+    ghost reads = { unsaid };
+
+    ghost stops = { unsaid_stops };
+
+    ghost same = { any_two };
+
+    ghost owned = { false };
+
+    ghost takes_memory = { true };
+
+    ghost exact = { false };
+
+    ghost laws = { not_exact };
+}
+
+impl<'a> Deserialize<SliceReader<'a>> for Label<'a> {
+    fn deserialize(
+        alloc: Global,
+        de: &mut Deserializer<SliceReader<'a>>,
+    ) -> Result<Label<'a>, DecodeError<Never>> {
+        match de.deserialize_2_fields(alloc, "Label", "id", "text") {
+            Ok((id, text)) => match (id, text) {
+                (Some(id), Some(text)) => Ok(Label { id, text }),
+                _ => Err(DecodeError::Custom("a field is missing")),
+            },
+            Err(error) => Err(error),
+        }
+    }
+}
+
+const LABEL: &[u8] = b"\xa2\x62id\x05\x64text\x61a";
+
+// The bytes live no longer than the test.
+#[test]
+fn a_struct_that_borrows_comes_back(rt: HostRuntime) -> Result<(), Fail> {
+    let alloc = rt.alloc();
+    let bytes = Vec::from_slice(alloc, LABEL)?;
+    comes_back_lent::<Label<'_>>(alloc, &bytes, "Label { id: 5, text: \"a\" }")
+}
+
+/// The text of the struct stands in the input and is no copy: it is a part of the bytes.
+fn text_of(alloc: Global, bytes: &[u8]) -> Result<&str, DecodeError<Never>> {
+    let label: Label<'_> = from_slice(alloc, bytes)?;
+    Ok(label.text)
+}
+
+#[test]
+fn a_text_outlives_the_struct_that_borrowed_it(rt: HostRuntime) -> Result<(), Fail> {
+    let alloc = rt.alloc();
+    let bytes = Vec::from_slice(alloc, LABEL)?;
+    assert_eq!(rt; text_of(alloc, &bytes)?, "a");
+    Ok(())
+}
+
+/// A struct that has a field of each kind.
+#[derive(Debug, Drop)]
+struct Record<'a> {
+    name: char,
+    objects: BTreeMap<String, Vec<String>>,
+    bytes: Bytes<&'a [u8]>,
+    variants: BTreeMap<String, Enum>,
+    unit: Option<()>,
+    text: &'a str,
+}
+
+impl<'a> Serialize for Record<'a> {
+    ghost item = { λ r. struct_item (field (codes "name") (⟦<char as Serialize>⟧.item r.name)
+        ∷ field (codes "objects") (⟦<BTreeMap<String, Vec<String>> as Serialize>⟧.item r.objects)
+        ∷ field (codes "bytes") (⟦<Bytes<&'a [u8]> as Serialize>⟧.item r.bytes)
+        ∷ field (codes "variants") (⟦<BTreeMap<String, Enum> as Serialize>⟧.item r.variants)
+        ∷ field (codes "unit") (⟦<Option<()> as Serialize>⟧.item r.unit)
+        ∷ field (codes "text") (⟦<&'a str as Serialize>⟧.item r.text) ∷ []) };
+
+    fn serialize<W: Write>(&self, ser: &mut Serializer<W>) -> Result<(), EncodeError<W::Error>> {
+        ser.serialize_6_fields(
+            "Record",
+            ("name", &self.name),
+            ("objects", &self.objects),
+            ("bytes", &self.bytes),
+            ("variants", &self.variants),
+            ("unit", &self.unit),
+            ("text", &self.text),
+        )
+    }
+}
+
+impl<'a> Typed for Record<'a> {
+    ghost reads = { unsaid };
+
+    ghost stops = { unsaid_stops };
+
+    ghost same = { any_two };
+
+    ghost owned = { false };
+
+    ghost takes_memory = { true };
+
+    ghost exact = { false };
+
+    ghost laws = { not_exact };
+}
+
+impl<'a> Deserialize<SliceReader<'a>> for Record<'a> {
+    fn deserialize(
+        alloc: Global,
+        de: &mut Deserializer<SliceReader<'a>>,
+    ) -> Result<Record<'a>, DecodeError<Never>> {
+        match de.deserialize_6_fields(
+            alloc, "Record", "name", "objects", "bytes", "variants", "unit", "text",
+        ) {
+            Ok((Some(name), Some(objects), Some(bytes), Some(variants), unit, Some(text))) => {
+                Ok(Record {
+                    name,
+                    objects,
+                    bytes,
+                    variants,
+                    unit: unit.unwrap_or(None),
+                    text,
+                })
+            }
+            Ok(_) => Err(DecodeError::Custom("a field is missing")),
+            Err(error) => Err(error),
+        }
+    }
+}
+
+const RECORD: &[u8] = b"\xa6\x64name\x61G\
+\x67objects\xa2\x63obj\x80\x64obj2\x83\x64obj3\x64obj4\x60\
+\x65bytes\x43\x01\x02\x03\
+\x68variants\xa4\x64key0\x64Unit\x64key1\xa1\x65Tuple\x82\x65value\xf5\
+\x64key2\xa1\x66Struct\xa2\x61x\x01\x61y\x38\x98\x64key3\xa1\x67NewType\x19\x03\xe7\
+\x64unit\x80\x64text\x6bhello world";
+
+const RECORD_TOLD: &str = "Record { name: 'G', \
+objects: {\"obj\": [], \"obj2\": [\"obj3\", \"obj4\", \"\"]}, \
+bytes: Bytes([1, 2, 3]), \
+variants: {\"key0\": Unit, \"key1\": Tuple(\"value\", true), \
+\"key2\": Struct { x: 1, y: -153 }, \"key3\": NewType(999)}, \
+unit: Some(()), text: \"hello world\" }";
+
+#[test]
+fn a_struct_of_each_kind_of_field_comes_back(rt: HostRuntime) -> Result<(), Fail> {
+    let alloc = rt.alloc();
+    let bytes = Vec::from_slice(alloc, RECORD)?;
+    comes_back_lent::<Record<'_>>(alloc, &bytes, RECORD_TOLD)
+}
