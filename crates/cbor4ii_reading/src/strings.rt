@@ -125,8 +125,8 @@ fn owned_byte_strings(rt: HostRuntime) -> Result<(), Fail> {
 fn strings_that_are_lent_come_back(rt: HostRuntime) -> Result<(), Fail> {
     let alloc = rt.alloc();
     let text = Vec::from_slice(alloc, b"\x63123")?;
-    comes_back_lent::<&str>(alloc, &text, "\"123\"")?;
-    comes_back_lent::<CowStr<'_, Global>>(alloc, &text, "\"123\"")?;
+    comes_back_lent::<&[u8], &str>(alloc, &text, &text, "\"123\"")?;
+    comes_back_lent::<&[u8], CowStr<'_, Global>>(alloc, &text, &text, "\"123\"")?;
     let bytes = Vec::from_slice(alloc, b"\x43123")?;
-    comes_back_lent::<Bytes<&[u8]>>(alloc, &bytes, "Bytes([49, 50, 51])")
+    comes_back_lent::<&[u8], Bytes<&[u8]>>(alloc, &bytes, &bytes, "Bytes([49, 50, 51])")
 }

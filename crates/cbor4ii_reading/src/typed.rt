@@ -1,6 +1,6 @@
 //! Typed values as rows: read over each reader for tests, and written into each writer for tests.
 use cbor4ii::serde::{
-    DecodeError, Deserialize, Deserializer, Serialize, from_reader, from_slice, to_vec,
+    DecodeError, Deserialize, Deserializer, Input, Serialize, from_reader, from_slice, to_vec,
 };
 use cbor4ii_rw::error as core_error;
 use cbor4ii_rw::error::StaticStr;
@@ -175,9 +175,13 @@ where
 
 /// The value at the front of the bytes, from a slice and out of a stream, by the calls for one
 /// value: it has this text.
-pub fn is_at_front<'a, T>(alloc: Global, bytes: &'a [u8], text: &str) -> Result<T, Fail>
+pub fn is_at_front<T>(alloc: Global, bytes: &'static [u8], text: &str) -> Result<T, Fail>
 where
-    T: Deserialize<SliceReader<'a>> + Deserialize<IoReader<&'a [u8]>> + PartialEq + Debug + Drop,
+    T: Deserialize<SliceReader<'static>>
+        + Deserialize<IoReader<&'static [u8]>>
+        + PartialEq
+        + Debug
+        + Drop,
 {
     let value: T = from_slice(alloc, bytes)?;
     let streamed: T = from_reader(alloc, bytes)?;
@@ -189,10 +193,10 @@ where
 
 /// As `is_at_front`, of bytes that are all of the value: it is written as them, by the call for one
 /// value.
-pub fn comes_back<'a, T>(alloc: Global, bytes: &'a [u8], text: &str) -> Result<(), Fail>
+pub fn comes_back<T>(alloc: Global, bytes: &'static [u8], text: &str) -> Result<(), Fail>
 where
-    T: Deserialize<SliceReader<'a>>
-        + Deserialize<IoReader<&'a [u8]>>
+    T: Deserialize<SliceReader<'static>>
+        + Deserialize<IoReader<&'static [u8]>>
         + Serialize
         + PartialEq
         + Debug
@@ -218,16 +222,26 @@ where
     Ok(())
 }
 
-/// As `comes_back`, of a value that borrows from the bytes, which a stream does not lend.
-pub fn comes_back_lent<'a, T>(alloc: Global, bytes: &'a [u8], text: &str) -> Result<(), Fail>
+/// As `comes_back`, from a slice alone, which need not live for good: a value may borrow from it.
+/// `input` is the slice of these bytes.
+pub fn comes_back_lent<I: Input, T>(
+    alloc: Global,
+    input: I,
+    bytes: &[u8],
+    text: &str,
+) -> Result<(), Fail>
 where
-    T: Deserialize<SliceReader<'a>> + Serialize + Debug + Drop,
+    T: Deserialize<I::Reader> + Serialize + Debug + Drop,
 {
-    let value: T = from_slice(alloc, bytes)?;
-    if format!(in alloc; "{value:?}")?.as_str() != text {
-        return Err(Fail::new(format_args!("{value:?} in the place of {text}")));
+    match from_slice::<I, T>(alloc, input) {
+        Ok(value) => {
+            if format!(in alloc; "{value:?}")?.as_str() != text {
+                return Err(Fail::new(format_args!("{value:?} in the place of {text}")));
+            }
+            is_written_as(alloc, &value, bytes)
+        }
+        Err(error) => Err(Fail::new(format_args!("{error:?} in the place of {text}"))),
     }
-    is_written_as(alloc, &value, bytes)
 }
 
 /// The value is written as these bytes, by the call for one value.

@@ -70,7 +70,7 @@ const LABEL: &[u8] = b"\xa2\x62id\x05\x64text\x61a";
 fn a_struct_that_borrows_comes_back(rt: HostRuntime) -> Result<(), Fail> {
     let alloc = rt.alloc();
     let bytes = Vec::from_slice(alloc, LABEL)?;
-    comes_back_lent::<Label<'_>>(alloc, &bytes, "Label { id: 5, text: \"a\" }")
+    comes_back_lent::<&[u8], Label<'_>>(alloc, &bytes, &bytes, "Label { id: 5, text: \"a\" }")
 }
 
 /// The text of the struct stands in the input and is no copy: it is a part of the bytes.
@@ -177,5 +177,5 @@ unit: Some(()), text: \"hello world\" }";
 fn a_struct_of_each_kind_of_field_comes_back(rt: HostRuntime) -> Result<(), Fail> {
     let alloc = rt.alloc();
     let bytes = Vec::from_slice(alloc, RECORD)?;
-    comes_back_lent::<Record<'_>>(alloc, &bytes, RECORD_TOLD)
+    comes_back_lent::<&[u8], Record<'_>>(alloc, &bytes, &bytes, RECORD_TOLD)
 }
