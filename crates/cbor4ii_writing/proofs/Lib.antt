@@ -1,0 +1,2 @@
+-- A text of no piece.
+pub mod NoPieces
