@@ -1,6 +1,6 @@
 -- Variants are read back.
-use Rattle.std.proofs.Common.{◌≡◌, inl, inr, ℕ, suc, ◌+◌, ◌<◌, ◌^◌, List, ◌++◌, length, max, refl}
-use Rattle.std.proofs.Common.{sym, ap, arith, IsUtf8}
+use Rattle.std.proofs.Common.{◌≡◌, inl, inr, ℕ, suc, ◌+◌, List, ◌++◌, length, max, refl}
+use Rattle.std.proofs.Common.{sym, ap, arith}
 use Rattle.cbor4ii_items.specs.Decoding.{Reads}
 use Rattle.cbor4ii_items.specs.Strings.{ReadsText, counted_string}
 use Rattle.cbor4ii_items.specs.Laws.LeavesBack.{text_back}

@@ -1,6 +1,6 @@
 -- A variant is read in one way, where its unit variants and its contents are.
 use Rattle.std.proofs.Common.{◌≡◌, ◌⊎◌, inl, inr, ℕ, ◌+◌, ◌*◌, ◌≤◌, List, [], ◌∷◌, length, drop}
-use Rattle.std.proofs.Common.{take, Bool, true, false, IsTrue, ap, subst, arith}
+use Rattle.std.proofs.Common.{take, Bool, true, ap, subst, arith}
 use Rattle.std.proofs.lemmas.List.{length-drop, length-take}
 use Rattle.cbor4ii_items.specs.Decoding.{Reads}
 use Rattle.cbor4ii_items.specs.Head.{additional, open_head}

@@ -109,8 +109,9 @@ impl<'a, S: Source> SomeAccessor<'a, S> {
     }
 
     /// The deserializer that the value is read from, for a value that a free function reads. Ask
-    /// `is_some` first. Where no value comes the null or undefined was taken, and no step is held:
-    /// what is read from it then is the item that follows, under a step more than a value has.
+    /// `is_some` first: where no value comes, the null or undefined was taken and no step is held.
+    /// What is read from it then is the item that follows, which is not the value, and no step of
+    /// this accessor counts for it.
     pub fn deserializer(&mut self) -> &mut Deserializer<S>
         ensures* writes_back { sem 𝓛 (Lends (the_some (record { mir = named 0; lft = [] })
             S.row S.Error.row)
