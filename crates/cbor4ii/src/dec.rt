@@ -6,5 +6,6 @@ pub use cbor4ii_items::indefinite::is_break;
 pub use cbor4ii_items::initial::{high, if_major, low};
 pub use cbor4ii_rw::ask;
 pub use cbor4ii_rw::error::DecodeError as Error;
+pub use cbor4ii_rw::long::FillLong;
 pub use cbor4ii_rw::read::{Read, Reference, Source};
 pub use cbor4ii_tree::IgnoredAny;

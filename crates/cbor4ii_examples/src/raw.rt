@@ -2,17 +2,14 @@
 use crate::literal::Literal::{self, Integer, Null};
 use crate::refusal_texts::{eof, no_step, require_borrowed};
 use crate::skipping::ITEMS;
-use cbor4ii_items::decode::Decode;
+use cbor4ii_items::decode::{Decode, Spelled};
 use cbor4ii_items::types::Map;
 use cbor4ii_rw::error::{DecodeError, Never};
 use cbor4ii_rw::read::Source;
 use cbor4ii_rw::segment_reader::SegmentReader;
 use cbor4ii_rw::slice_reader::SliceReader;
-use cbor4ii_tree::boxed_raw::take_boxed;
-use cbor4ii_tree::lend_raw::LendRaw;
 use cbor4ii_tree::{BoxedRawValue, RawValue, Value};
-use cbor4ii_trials::items::Lent;
-use cbor4ii_trials::readers::TestReader;
+use cbor4ii_trials::readers::{Counting, TestReader};
 use cbor4ii_trials::rows::{ReadBy, Want, lends, lends_short, reads_over, steps, writes_in};
 use std::alloc::{AllocError, Global};
 use std::marker::PhantomData;
@@ -24,63 +21,67 @@ const CUT_OFF: &str = eof!("ignored-any", 1);
 
 const NO_STEP: &str = no_step!("ignored-any");
 
-// An item's bytes, copied off what a reader lends as a `T`.
+const FAILED: &str = "Read(Failure)";
+
+/// An item that is kept as its bytes.
+trait Kept {
+    fn item(&self) -> &[u8];
+}
+
+impl Kept for RawValue<'_> {
+    fn item(&self) -> &[u8] {
+        self.as_bytes()
+    }
+}
+
+impl Kept for BoxedRawValue {
+    fn item(&self) -> &[u8] {
+        self.as_bytes()
+    }
+}
+
+// The bytes of an item that is read as a `T`.
 #[derive(Debug, PartialEq, Drop)]
-struct Copied<T> {
+struct BytesOf<T> {
     bytes: Vec<u8>,
     of: PhantomData<T>,
 }
 
-impl<S: Source, T: LendRaw<S>> ReadBy<S> for Copied<T> {
-    fn read_by(alloc: Global, reader: &mut S) -> Result<Copied<T>, DecodeError<S::Error>> {
-        let copy = take_boxed::<T, S>(alloc, reader)?;
-        match copy.as_bytes().to_vec(alloc) {
-            Ok(bytes) => Ok(Copied {
-                bytes,
-                of: PhantomData,
-            }),
+impl<T> BytesOf<T> {
+    fn new(alloc: Global, item: &[u8]) -> Result<BytesOf<T>, AllocError> {
+        Ok(BytesOf {
+            bytes: item.to_vec(alloc)?,
+            of: PhantomData,
+        })
+    }
+}
+
+impl<S: Source, T: Spelled + Decode<S> + Kept + Drop> ReadBy<S> for BytesOf<T> {
+    fn read_by(alloc: Global, reader: &mut S) -> Result<BytesOf<T>, DecodeError<S::Error>> {
+        let kept = T::decode(alloc, reader)?;
+        match BytesOf::new(alloc, kept.item()) {
+            Ok(bytes) => Ok(bytes),
             Err(_) => Err(DecodeError::OutOfMemory),
         }
     }
 }
 
-type Raw = RawValue<'static>;
+type Lent = BytesOf<RawValue<'static>>;
 
-// What a row wants of an item that is lent.
-fn want_lent(alloc: Global, want: Want<&'static [u8]>) -> Result<Want<Lent<Raw>>, Fail> {
-    match want {
-        Ok(item) => {
-            let lent = RawValue::decode(alloc, &mut SliceReader::new(item))?;
-            Ok(Ok(Lent(lent)))
-        }
-        Err(refusal) => Ok(Err(refusal)),
-    }
-}
+type Copied = BytesOf<BoxedRawValue>;
 
-// What a row wants of an item that is copied.
-fn want_copied(alloc: Global, want: Want<&[u8]>) -> Result<Want<Copied<Raw>>, AllocError> {
+// What a row wants of an item that is read as a `T`.
+fn wanted<T>(alloc: Global, want: Want<&[u8]>) -> Result<Want<BytesOf<T>>, AllocError> {
     match want {
-        Ok(item) => Ok(Ok(Copied {
-            bytes: item.to_vec(alloc)?,
-            of: PhantomData,
-        })),
+        Ok(item) => Ok(Ok(BytesOf::new(alloc, item)?)),
         Err(refusal) => Ok(Err(refusal)),
     }
 }
 
 // With a fault at each fill too.
-fn keeps(
-    alloc: Global,
-    bytes: &'static [u8],
-    want: Want<&'static [u8]>,
-    rest: &[u8],
-) -> Result<(), Fail> {
-    lends(alloc, bytes, want_lent(alloc, want)?, rest)?;
-    copies(alloc, bytes, want, rest)
-}
-
-fn copies(alloc: Global, bytes: &'static [u8], want: Want<&[u8]>, rest: &[u8]) -> Result<(), Fail> {
-    lends(alloc, bytes, want_copied(alloc, want)?, rest)
+fn keeps(alloc: Global, bytes: &'static [u8], want: Want<&[u8]>, rest: &[u8]) -> Result<(), Fail> {
+    lends::<Lent>(alloc, bytes, wanted(alloc, want)?, rest)?;
+    lends::<Copied>(alloc, bytes, wanted(alloc, want)?, rest)
 }
 
 #[test]
@@ -106,7 +107,7 @@ fn is_lent(alloc: Global, item: &[u8]) -> Result<(), Fail> {
 }
 
 fn lends_segment(alloc: Global, item: &'static [u8]) -> Result<(), Fail> {
-    let lent = want_lent(alloc, Ok(item))?;
+    let lent: Want<Lent> = wanted(alloc, Ok(item))?;
     let segments = [item, b"\x00".as_slice()];
     let mut reader = SegmentReader::new(&segments);
     reads_over(alloc, &mut reader, b"\x00", &lent, b"\x00")
@@ -120,13 +121,13 @@ fn within_a_limit(rt: HostRuntime) -> Result<(), Fail> {
 }
 
 fn lends_within(alloc: Global, item: &'static [u8], limit: usize) -> Result<(), Fail> {
-    let want = want_lent(alloc, Ok(item))?;
+    let want: Want<Lent> = wanted(alloc, Ok(item))?;
     let mut reader = SliceReader::with_limit(item, limit);
     reads_over(alloc, &mut reader, item, &want, b"")
 }
 
 fn copies_within(alloc: Global, item: &'static [u8], limit: usize) -> Result<(), Fail> {
-    let want = want_copied(alloc, Ok(item))?;
+    let want: Want<Copied> = wanted(alloc, Ok(item))?;
     let mut reader = SliceReader::with_limit(item, limit);
     reads_over(alloc, &mut reader, item, &want, b"")
 }
@@ -155,10 +156,10 @@ const OF_SHORT_BYTES: &[(&[u8], &str)] = &[(b"\x00", NOT_LENT), (b"", CUT_OFF)];
 fn short_bytes(rt: HostRuntime) -> Result<(), Fail> {
     let alloc = rt.alloc();
     for &(bytes, refusal) in OF_SHORT_BYTES {
-        lends_short::<Lent<Raw>>(alloc, bytes, Err(refusal), bytes)?;
-        lends_short::<Copied<Raw>>(alloc, bytes, Err(refusal), bytes)?;
+        lends_short::<Lent>(alloc, bytes, Err(refusal), bytes)?;
+        lends_short::<Copied>(alloc, bytes, Err(refusal), bytes)?;
     }
-    let want: Want<Lent<Raw>> = Err(NOT_LENT);
+    let want: Want<Lent> = Err(NOT_LENT);
     let mut reader = TestReader::short(b"\x00", 0);
     reads_over(alloc, &mut reader, b"\x00", &want, b"\x00")
 }
@@ -175,11 +176,34 @@ fn one_byte_at_a_time(rt: HostRuntime) -> Result<(), Fail> {
     let alloc = rt.alloc();
     for &(bytes, limit, want, rest) in BY_BYTE {
         let mut reader = TestReader::long(bytes, limit);
-        reads_over(alloc, &mut reader, bytes, &want_lent(alloc, want)?, rest)?;
+        reads_over(
+            alloc,
+            &mut reader,
+            bytes,
+            &wanted::<RawValue>(alloc, want)?,
+            rest,
+        )?;
         let mut reader = TestReader::long(bytes, limit);
-        reads_over(alloc, &mut reader, bytes, &want_copied(alloc, want)?, rest)?;
+        reads_over(
+            alloc,
+            &mut reader,
+            bytes,
+            &wanted::<BoxedRawValue>(alloc, want)?,
+            rest,
+        )?;
+        fails_at_once(alloc, bytes, limit)?;
     }
     Ok(())
+}
+
+// A reader that fails as it is asked: its error, and nothing moves.
+fn fails_at_once(alloc: Global, bytes: &'static [u8], limit: usize) -> Result<(), Fail> {
+    let want: Want<Lent> = Err(FAILED);
+    let mut reader = TestReader::long(bytes, limit).failing_after(0);
+    reads_over(alloc, &mut reader, bytes, &want, bytes)?;
+    let want: Want<Copied> = Err(FAILED);
+    let mut reader = TestReader::long(bytes, limit).failing_after(0);
+    reads_over(alloc, &mut reader, bytes, &want, bytes)
 }
 
 const IN_SEGMENTS: &[(&[&[u8]], Want<&[u8]>, &[u8])] = &[
@@ -197,11 +221,102 @@ fn items_in_segments(rt: HostRuntime) -> Result<(), Fail> {
     let bytes = b"\x82\x01\x02\x03";
     for &(segments, want, rest) in IN_SEGMENTS {
         let mut reader = SegmentReader::new(segments);
-        reads_over(alloc, &mut reader, bytes, &want_lent(alloc, want)?, rest)?;
+        reads_over(
+            alloc,
+            &mut reader,
+            bytes,
+            &wanted::<RawValue>(alloc, want)?,
+            rest,
+        )?;
         let mut reader = SegmentReader::new(segments);
-        reads_over(alloc, &mut reader, bytes, &want_copied(alloc, want)?, rest)?;
+        reads_over(
+            alloc,
+            &mut reader,
+            bytes,
+            &wanted::<BoxedRawValue>(alloc, want)?,
+            rest,
+        )?;
     }
     Ok(())
+}
+
+// Behind a reference, and in containers.
+#[test]
+fn behind_references(rt: HostRuntime) -> Result<(), Fail> {
+    let alloc = rt.alloc();
+    let mut reader = SliceReader::new(b"\x82\x01\x02\x03");
+    let copy = BoxedRawValue::decode(alloc, &mut &mut reader)?;
+    is_copy(&copy, b"\x82\x01\x02")?;
+    let copy = BoxedRawValue::decode(alloc, &mut &mut &mut reader)?;
+    is_copy(&copy, b"\x03")?;
+    assert!(rt; reader.remaining().is_empty());
+    Ok(())
+}
+
+#[test]
+fn copies_in_containers(rt: HostRuntime) -> Result<(), Fail> {
+    let alloc = rt.alloc();
+    let segments = [b"\x82".as_slice(), b"\x81\x00\x01".as_slice()];
+    let copies = <Vec<BoxedRawValue>>::decode(alloc, &mut SegmentReader::new(&segments))?;
+    let [first, second] = copies.as_slice() else {
+        return Err(Fail::from("not two items"));
+    };
+    is_copy(first, b"\x81\x00")?;
+    is_copy(second, b"\x01")
+}
+
+#[test]
+fn cut_copies_in_containers(rt: HostRuntime) {
+    let segments = [b"\x82\x81".as_slice(), b"\x00\x01".as_slice()];
+    let mut reader = SegmentReader::new(&segments);
+    let got = <Vec<BoxedRawValue>>::decode(rt.alloc(), &mut reader);
+    assert!(rt; matches!(got, Err(DecodeError::Eof { .. })), "{got:?}");
+}
+
+// One fill lends all, and one advance takes the item.
+#[test]
+fn one_look(rt: HostRuntime) -> Result<(), Fail> {
+    let alloc = rt.alloc();
+    let mut reader = Counting::new(b"\x82\x01\x82\x02\x03\x04");
+    let lent = RawValue::decode(alloc, &mut reader)?;
+    assert_eq!(rt; lent.as_bytes(), b"\x82\x01\x82\x02\x03".as_slice());
+    assert_eq!(rt; (reader.shows(), reader.advances()), (1, 1));
+    let mut reader = Counting::new(b"\x82\x01\x82\x02\x03\x04");
+    is_copy(
+        &BoxedRawValue::decode(alloc, &mut reader)?,
+        b"\x82\x01\x82\x02\x03",
+    )?;
+    assert_eq!(rt; (reader.shows(), reader.advances()), (1, 1));
+    Ok(())
+}
+
+// Items of 302 and of 303 bytes: an array of 300 items, counted and of indefinite length.
+fn long_items(alloc: Global) -> Result<[Vec<u8>; 2], AllocError> {
+    let mut counted = b"\x99\x01\x2c".to_vec(alloc)?;
+    let mut open = b"\x9f".to_vec(alloc)?;
+    for _ in 0..300 {
+        counted.push(0x17)?;
+        open.push(0x17)?;
+    }
+    open.push(0xff)?;
+    Ok([counted, open])
+}
+
+#[test]
+fn copies_of_long_items(rt: HostRuntime) -> Result<(), Fail> {
+    let alloc = rt.alloc();
+    let [counted, open] = long_items(alloc)?;
+    copies_long(alloc, &counted)?;
+    copies_long(alloc, &open)
+}
+
+fn copies_long(alloc: Global, item: &[u8]) -> Result<(), Fail> {
+    is_copy(&copy(alloc, item)?, item)?;
+    let segments = [item, b"\x00".as_slice()];
+    is_copy(
+        &BoxedRawValue::decode(alloc, &mut SegmentReader::new(&segments))?,
+        item,
+    )
 }
 
 // Each is written again in one push.
@@ -262,6 +377,7 @@ fn a_copy_under_a_key(rt: HostRuntime) -> Result<(), Fail> {
         return Err(Fail::from("not one pair"));
     };
     assert_eq!(rt; copy.as_bytes(), ITEM);
+    is_copy(&copy.try_clone()?, ITEM)?;
     are_equal(&copy_of_value(alloc, copy.as_bytes())?, copy, true)
 }
 

@@ -45,6 +45,11 @@ abbrev pub StopsRawUnlent : List ℕ → Budget → Refusal → List ℕ → Typ
 StopsRawUnlent xs budget e rest = (rest ≡ xs) × (((xs ≢ []) × (e ≡ require_borrowed raw_value)) ⊎
     ((xs ≡ []) × ((left : List ℕ) × StopsSkipping [] budget e left)))
 
+-- over a reader that lends nothing no item is read, and no memory is asked for
+abbrev pub CopiesNone : {E : Type 0} → View → View → Result BoxedRawValue (DecodeError E) → Type 0
+CopiesNone old new (Ok v) = ⊥
+CopiesNone old new (Err e) = (is_out_of_memory e ≡ false) × Stops StopsRawUnlent old new e
+
 -- What reading an item as a copy of its bytes promises.
 pub record CopiesItem {E : Type 0} (old new : View)
     (answer : Result BoxedRawValue (DecodeError E)) : Type 0 where

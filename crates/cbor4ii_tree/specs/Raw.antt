@@ -3,7 +3,8 @@ use Rattle.std.specs.Prelude.{◌≡◌, ◌≢◌, ℕ, ◌+◌, ◌-◌, ◌^�
 use Rattle.std.specs.Prelude.{List, [], length, take, drop, Some, None, Result, Ok, Err}
 use Rattle.std.specs.Prelude.{IsTrue, IfSome, MatchBool}
 use Rattle.cbor4ii_rw.specs.View.{View, Told}
-use Rattle.cbor4ii_rw.specs.Reader.{IsFront, IsEnough, Shows, Breaks, Keeps, KeepsOrForgets}
+use Rattle.cbor4ii_rw.specs.Reader.{IsFront, Breaks, Keeps, KeepsOrForgets}
+use Rattle.cbor4ii_rw.specs.Long.{FillsLong, LendsNone}
 use Rattle.cbor4ii_rw.specs.declared.error.DecodeError.{DecodeError}
 use Rattle.cbor4ii_items.specs.Head.{IsBytes}
 use Rattle.cbor4ii_items.specs.Lent.{Lends}
@@ -89,22 +90,9 @@ RefusesFront old answer = Told old.told (λ xs. Refused (RefusedFront old xs) an
 
 -- ---- a front that is lent
 
-pub record LendsFront (shown : List ℕ) (old new : View) : Type 0 where
-  pub shows : Shows shown old new
-  pub front : Told old.told (IsFront most shown)
-  pub enough : IsTrue old.lends_whole → Told old.told (IsEnough most shown)
-
--- some bytes, that do not live as long as the input
-pub record ShowsShort (old new : View) : Type 0 where
-  pub shown : List ℕ
-  pub shows : Shows shown old new
-  pub front : Told old.told (IsFront most shown)
-  pub some : length shown ≢ 0
-  pub short : IsTrue old.lends_whole → ⊥
-
 abbrev pub LacksFront : {E : Type 0} → View → View → NoFront E → Type 0
 LacksFront old new (Read e) = Breaks old new
-LacksFront old new Short = ShowsShort old new
+LacksFront old new Short = LendsNone old new
 
 -- ---- an item skipped in the bytes shown
 
@@ -138,10 +126,10 @@ pub record Captured {V : Type 0} (content : V → List ℕ) (old new : View) (v 
 pub data NotCaptured {E : Type 0} (old new : View) (e : DecodeError E) : Type 0 where
   failed : Breaks old new → is_read e ≡ true → refusal_of e ≡ None →
       is_out_of_memory e ≡ false → is_depth_overflow e ≡ false → NotCaptured old new e
-  not_lent : ShowsShort old new → is_read e ≡ false →
+  not_lent : LendsNone old new → is_read e ≡ false →
       refusal_of e ≡ Some (require_borrowed raw_value) →
       is_out_of_memory e ≡ false → is_depth_overflow e ≡ false → NotCaptured old new e
-  stopped : (shown : List ℕ) → LendsFront shown old new → StopsFront shown old.budget e →
+  stopped : (shown : List ℕ) → FillsLong most shown old new → StopsFront shown old.budget e →
       NotCaptured old new e
 
 abbrev pub Captures : {V E : Type 0} → (V → List ℕ) → View → View →

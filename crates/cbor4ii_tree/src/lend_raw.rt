@@ -1,12 +1,13 @@
 //! Items that are lent: the bytes of one item, as they stand in the input.
 ghost use Rattle.std.specs.Prelude.{◌≡◌, ◌+◌, ◌≤◌, ℕ, List, length, take, false, IsTrue, IfOk};
 ghost use Rattle.std.specs.Prelude.{IfErr, OnOk};
+ghost use Rattle.cbor4ii_rw.specs.Long.{FillsLong};
 ghost use Rattle.cbor4ii_rw.specs.Reader.{KeepsAllButBudget};
 ghost use Rattle.cbor4ii_items.specs.Decoding.{IsExact, Sound, Refuses, Stops};
 ghost use Rattle.cbor4ii_items.specs.Moves.{Moves};
 ghost use Rattle.cbor4ii_items.specs.Refusal.{is_out_of_memory};
 ghost use Rattle.cbor4ii_tree.specs.Raw.{ReadsRaw, StopsRaw, BeginsRaw, Unmoved, RefusesFront};
-ghost use Rattle.cbor4ii_tree.specs.Raw.{TakesItem, StopsAsSkipping, LendsFront, LacksFront};
+ghost use Rattle.cbor4ii_tree.specs.Raw.{TakesItem, StopsAsSkipping, LacksFront, most};
 ghost use Rattle.cbor4ii_tree.specs.Raw.{SkipsFront, StopsFront, Captures};
 
 use crate::front::Lent;
@@ -17,7 +18,7 @@ use std::alloc::Global;
 
 /// Why no front is lent.
 #[derive(Debug)]
-pub enum NoFront<E> {
+pub(crate) enum NoFront<E> {
     /// The reader failed.
     Read(E),
     /// The bytes do not live as long as the input.
@@ -30,7 +31,7 @@ pub enum NoFront<E> {
 /// A function whose signature holds a `'static` name, as each error's, cannot fill a reader that
 /// names a lifetime. So what fills is a trait of what is lent, and a front that is not lent is
 /// refused without its name.
-pub trait LendRaw<S: Source>: Sized {
+pub(crate) trait LendRaw<S: Source>: Sized {
     // The bytes.
     ghost content: { Self → List ℕ };
 
@@ -40,7 +41,7 @@ pub trait LendRaw<S: Source>: Sized {
     /// long as the input.
     fn lend_front(reader: &mut S) -> Result<Self, NoFront<S::Error>>
         ensures lent { IfOk result
-            (λ v. LendsFront (content v) (S.view reader.old) (S.view reader.new)) }
+            (λ v. FillsLong most (content v) (S.view reader.old) (S.view reader.new)) }
         ensures lacks { IfErr result (LacksFront (S.view reader.old) (S.view reader.new)) };
 
     /// The bytes.

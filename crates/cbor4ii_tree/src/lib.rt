@@ -10,7 +10,7 @@ mod encode_value;
 mod front;
 pub mod ignored;
 pub mod laws;
-pub mod lend_raw;
+mod lend_raw;
 mod range;
 pub mod raw;
 mod simple;

@@ -6,6 +6,7 @@ ghost use Rattle.cbor4ii_rw.specs.View.{Told};
 ghost use Rattle.cbor4ii_trials.specs.Tells.{test_view, counting_view};
 
 use cbor4ii_rw::error::Never;
+use cbor4ii_rw::long::FillLong;
 use cbor4ii_rw::read::{Read, Reference, Source};
 
 /// That a test reader or a test writer failed, as it was told to.
@@ -286,11 +287,31 @@ impl<'de> Read<'de> for TestReader<'de> {
     }
 }
 
-/// Shows at most what is wanted, and counts its shows.
+/// It lends what it shows, where that outlives the fill.
+impl<'de> FillLong for TestReader<'de> {
+    type Long = &'de [u8];
+
+    ghost never_lends = { false };
+
+    fn fill_long(&mut self, _want: usize) -> Result<Option<&'de [u8]>, Failure> {
+        if self.fails() {
+            return Err(Failure);
+        }
+        let front = self.front();
+        if self.is_long || front.is_empty() {
+            return Ok(Some(front));
+        }
+        Ok(None)
+    }
+}
+
+/// Shows at most what is wanted, which outlives the fill, and counts its shows and fills, and how
+/// often it is told to advance.
 #[derive(Drop)]
 pub struct Counting<'a> {
     bytes: &'a [u8],
     shows: usize,
+    advances: usize,
 }
 
 impl<'a> Counting<'a> {
@@ -298,12 +319,21 @@ impl<'a> Counting<'a> {
     pub fn new(bytes: &'a [u8]) -> Counting<'a>
         ensures told { (counting_view result).told ≡ Some bytes.now }
     {
-        Counting { bytes, shows: 0 }
+        Counting {
+            bytes,
+            shows: 0,
+            advances: 0,
+        }
     }
 
     /// How often it was asked to show bytes.
     pub fn shows(&self) -> usize {
         self.shows
+    }
+
+    /// How often it was told to take bytes.
+    pub fn advances(&self) -> usize {
+        self.advances
     }
 }
 
@@ -318,6 +348,7 @@ impl Source for Counting<'_> {
     }
 
     fn advance(&mut self, n: usize) {
+        self.advances = self.advances.saturating_add(1);
         self.bytes = &self.bytes[n..];
     }
 
@@ -328,4 +359,22 @@ impl Source for Counting<'_> {
     fn step_out(&mut self) {}
 
     ghost told_within_bound = { λ reader xs is. Prim.search rules };
+}
+
+impl<'de> Read<'de> for Counting<'de> {
+    fn fill<'short>(&'short mut self, want: usize) -> Result<Reference<'de, 'short>, Never> {
+        self.shows = self.shows.saturating_add(1);
+        Ok(Reference::Long(&self.bytes[..self.bytes.len().min(want)]))
+    }
+}
+
+impl<'de> FillLong for Counting<'de> {
+    type Long = &'de [u8];
+
+    ghost never_lends = { false };
+
+    fn fill_long(&mut self, want: usize) -> Result<Option<&'de [u8]>, Never> {
+        self.shows = self.shows.saturating_add(1);
+        Ok(Some(&self.bytes[..self.bytes.len().min(want)]))
+    }
 }

@@ -12,6 +12,7 @@ use Rattle.std.proofs.lemmas.List.{length-drop, take_all, nil_from_length}
 use Rattle.std.proofs.Math.Seq.{drop-append_seam}
 use Rattle.cbor4ii_rw.specs.View.{View, Told}
 use Rattle.cbor4ii_rw.specs.Reader.{Shows, Breaks, Advances, IsFront, KeepsAllButBudget, Keeps}
+use Rattle.cbor4ii_rw.specs.Long.{FillsLong, LendsNone}
 use Rattle.cbor4ii_rw.specs.declared.error.DecodeError.{DecodeError}
 use Rattle.cbor4ii_items.specs.Moves.{Kept, Broke, Moves}
 use Rattle.cbor4ii_items.specs.Decoding.{CostFits, IsExact, Sound, NoneRead, Refuses, Stops}
@@ -34,7 +35,7 @@ use Rattle.cbor4ii_tree.proofs.skipping.Answer.{not_both, skip_from_Stops}
 use Rattle.cbor4ii_tree.specs.Skip.{skip}
 use Rattle.cbor4ii_tree.specs.Promises.{Answered, Refused}
 use Rattle.cbor4ii_tree.specs.Raw.{ReadsRaw, StopsRaw, BeginsRaw, RefusedFront, Unmoved}
-use Rattle.cbor4ii_tree.specs.Raw.{LeftAsTheyWere, raw_value, most, LendsFront, ShowsShort}
+use Rattle.cbor4ii_tree.specs.Raw.{LeftAsTheyWere, raw_value, most}
 use Rattle.cbor4ii_tree.specs.Raw.{SkipsFront, StopsFront, Captured, NotCaptured, failed, not_lent}
 use Rattle.cbor4ii_tree.specs.Raw.{stopped, Captures}
 
@@ -80,24 +81,24 @@ shows_on s same budget = record {
   remembers = λ h. subst IsTrue (sym same.remembers) (s.remembers h);
 }
 
-pub captured : {V : Type 0} (content : V → List ℕ) {v w : V} {shown : List ℕ} {n : ℕ}
-    {a m k b : View} → LendsFront (content v) a m → shown ≡ content v → SkipsFront shown m.budget n
-    → KeepsAllButBudget m k → k.budget ≡ m.budget → Advances n k b → content w ≡ take n (content v)
+pub captured : {V : Type 0} (content : V → List ℕ) {w : V} {lent shown : List ℕ} {n : ℕ}
+    {a m k b : View} → FillsLong most lent a m → shown ≡ lent → SkipsFront shown m.budget n
+    → KeepsAllButBudget m k → k.budget ≡ m.budget → Advances n k b → content w ≡ take n lent
     → Captured content a b w
-captured content {v = v} {n = n} {a = a} {m = m} l is item same budget adv cut =
+captured content {lent = lent} {n = n} {a = a} {m = m} l is item same budget adv cut =
     let s = shows_on l.shows same budget in
-    let i : SkipsFront (content v) m.budget n = subst (λ z. SkipsFront z m.budget n) is item in
+    let i : SkipsFront lent m.budget n = subst (λ z. SkipsFront z m.budget n) is item in
     record {
-      shown = content v;
+      shown = lent;
       front = l.front;
       count = n;
-      item = subst (λ o. SkipsFront (content v) o n) l.shows.budget i;
+      item = subst (λ o. SkipsFront lent o n) l.shows.budget i;
       lends = lends_front s l.front i.within i.bytes cut adv;
       less = omega (arith, s.bound, adv.bound);
     }
 
 pub stopped_in : {E : Type 0} {lent shown : List ℕ} {a m k : View} {e : DecodeError E}
-    → LendsFront lent a m → shown ≡ lent → StopsFront shown m.budget e → KeepsAllButBudget m k
+    → FillsLong most lent a m → shown ≡ lent → StopsFront shown m.budget e → KeepsAllButBudget m k
     → k.budget ≡ m.budget → NotCaptured a k e
 stopped_in {lent = lent} {m = m} {e = e} l is stops same budget =
     stopped lent
@@ -176,11 +177,7 @@ module _ (a b : View) where
   as_kept : (t : Bool) → t ≡ false → Kept a b → MatchBool t (Broke a b) (Kept a b)
   as_kept t e p = subst (λ u. MatchBool u (Broke a b) (Kept a b)) (sym e) p
 
-  some_bytes : (p : ShowsShort a b) (xs : List ℕ) → a.told ≡ Some xs → xs ≢ []
-  some_bytes p xs told none =
-      p.some (let h = (p.front xs told).within in omega (arith, h, ap length none))
-
-  all_lent : (shown xs : List ℕ) → LendsFront shown a b → IsExact false a → a.told ≡ Some xs
+  all_lent : (shown xs : List ℕ) → FillsLong most shown a b → IsExact false a → a.told ≡ Some xs
       → shown ≡ xs
   all_lent shown xs l (inl f) told = cc
   all_lent shown xs l (inr whole) told =
@@ -188,7 +185,7 @@ module _ (a b : View) where
       let room : length xs < 2 ^ 64 = whole.1 xs told in
       sym (l.front xs told).begins ∙ take_all (length shown) xs (omega (arith, enough, room))
 
-  is_short : ShowsShort a b → IsExact false a → ⊥
+  is_short : LendsNone a b → IsExact false a → ⊥
   is_short p (inl f) = cc
   is_short p (inr whole) = p.short whole.0
 
@@ -205,7 +202,7 @@ module _ {V E : Type 0} (content : V → List ℕ) (a b : View) where
   raw_moves (Err e) (failed p read none memory depth) =
       record { by = as_failed a b (is_read e) read (broken a b p); depth = λ none. depth }
   raw_moves (Err e) (not_lent p read says memory depth) =
-      record { by = as_kept a b (is_read e) read (shows_kept p.shows); depth = λ none. depth }
+      record { by = as_kept a b (is_read e) read (shows_kept p.stays); depth = λ none. depth }
   raw_moves (Err e) (stopped shown l s) =
       record { by = as_kept a b (is_read e) s.read (shows_kept l.shows); depth = s.depth }
 
@@ -239,8 +236,8 @@ module _ {V E : Type 0} (content : V → List ℕ) (a b : View) where
     p.taken,
   )
   raw_unmoved (Err e) (not_lent p read named memory depth) = (
-    subst (λ u. MatchBool u (LeftAsTheyWere a b) (Keeps a.told b.told)) (sym read) p.shows.told,
-    p.shows.taken,
+    subst (λ u. MatchBool u (LeftAsTheyWere a b) (Keeps a.told b.told)) (sym read) p.stays.told,
+    p.stays.taken,
   )
   raw_unmoved (Err e) (stopped shown l s) = (
     subst (λ u. MatchBool u (LeftAsTheyWere a b) (Keeps a.told b.told))
@@ -255,7 +252,7 @@ module _ {V E : Type 0} (content : V → List ℕ) (a b : View) where
       λ xs told. says_none (refusal_of e) (RefusedFront a xs) none
   raw_refused (Err e) (not_lent p read named memory depth) =
       λ xs told. says (refusal_of e) (require_borrowed raw_value)
-      (RefusedFront a xs) named (inl (refl, some_bytes a b p xs told, p.short))
+      (RefusedFront a xs) named (inl (refl, p.some xs told, p.short))
   raw_refused (Err e) (stopped shown l s) = λ xs told.
       if_some (refusal_of e) (λ z. (left : List ℕ) × StopsSkipping shown a.budget z left)
       (RefusedFront a xs) (λ z h. inr (shown, l.front xs told, h)) s.stops
@@ -271,7 +268,7 @@ module _ {V E : Type 0} (content : V → List ℕ) (a b : View) where
   raw_begins (Err e) (not_lent p read named memory depth) = record {
     at = λ xs told. says (refusal_of e) (require_borrowed raw_value)
         (λ z. (rest : List ℕ) × (b.told ≡ Some rest) × BeginsRaw xs a.budget z rest) named
-        (xs, p.shows.told xs told, (refl, inl (refl, some_bytes a b p xs told)));
+        (xs, p.stays.told xs told, (refl, inl (refl, p.some xs told)));
   }
   raw_begins (Err e) (stopped shown l s) = record {
     at = λ xs told. if_some (refusal_of e)
@@ -375,7 +372,7 @@ pub lends_nothing : (a b : View) (answer : Option Reference) (lent : Reference)
     (shown : Bor (List ℕ)) → answer ≡ Some lent → lent ≡ Short shown
     → MatchOption answer (Breaks a b) (λ s. Shows (bytes_of s) a b)
     → Told a.told (IsFront most (bytes_of lent))
-    → (IsTrue a.lends_whole → IsLong lent) → length shown.now ≡ 0 → LendsFront [] a b
+    → (IsTrue a.lends_whole → IsLong lent) → length shown.now ≡ 0 → FillsLong most [] a b
 lends_nothing a b answer lent shown e f shows front long none =
     let empty : bytes_of lent ≡ [] = ap bytes_of f ∙ nil_from_length shown.now none in
     record {
@@ -384,4 +381,30 @@ lends_nothing a b answer lent shown e f shows front long none =
           (subst (λ o. MatchOption o (Breaks a b) (λ s. Shows (bytes_of s) a b)) e shows);
       front = subst (λ z. Told a.told (IsFront most z)) empty front;
       enough = λ whole. absurd (subst IsLong f (long whole));
+    }
+
+-- a short front of some bytes
+pub lends_short : (a b : View) (answer : Option Reference) (lent : Reference)
+    (shown : Bor (List ℕ)) → answer ≡ Some lent → lent ≡ Short shown
+    → MatchOption answer (Breaks a b) (λ s. Shows (bytes_of s) a b)
+    → Told a.told (IsFront most (bytes_of lent))
+    → (IsTrue a.lends_whole → IsLong lent) → length shown.now ≢ 0 → LendsNone a b
+lends_short a b answer lent shown e f shows front long some =
+    let same : bytes_of lent ≡ shown.now = ap bytes_of f in
+    let s : Shows (bytes_of lent) a b =
+    subst (λ o. MatchOption o (Breaks a b) (λ s. Shows (bytes_of s) a b)) e shows in
+    record {
+      some = λ xs told none.
+          some (omega (arith, (front xs told).within, ap length none, ap length same));
+      stays = record {
+        told = s.told;
+        bound = s.bound;
+        advanceable = omega arith;
+        budget = s.budget;
+        failures = s.failures;
+        taken = s.taken;
+        lends_whole = s.lends_whole;
+        remembers = s.remembers;
+      };
+      short = λ whole. absurd (subst IsLong f (long whole));
     }

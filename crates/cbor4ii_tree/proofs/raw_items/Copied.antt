@@ -1,6 +1,7 @@
 -- What a copied item says of the bytes.
-use Rattle.std.proofs.Common.{◌≡◌, ℕ, ◌+◌, ◌≤◌, inl, inr, List, drop, Some, Result, Ok, Err, IsTrue}
+use Rattle.std.proofs.Common.{◌≡◌, ℕ, ◌+◌, ◌≤◌, inl, inr, List, [], drop, Some, Result, Ok, Err}
 use Rattle.std.proofs.Common.{true, false, refl, sym, subst, IfOk, IfErr, OnOk}
+use Rattle.std.proofs.Common.{IsTrue}
 use Rattle.cbor4ii_rw.specs.View.{View, Told}
 use Rattle.cbor4ii_rw.specs.declared.error.DecodeError.{DecodeError}
 use Rattle.cbor4ii_items.specs.Decoding.{IsExact, Sound, Refuses, Stops}
@@ -8,18 +9,28 @@ use Rattle.cbor4ii_items.specs.Moves.{Moves}
 use Rattle.cbor4ii_items.specs.Refusal.{is_out_of_memory}
 use Rattle.cbor4ii_tree.specs.declared.boxed_raw.BoxedRawValue.{BoxedRawValue}
 use Rattle.cbor4ii_tree.specs.Tree.{Tree, bytes}
-use Rattle.cbor4ii_tree.specs.Cost.{skip_cost}
+use Rattle.cbor4ii_tree.specs.Cost.{Budget, skip_cost}
 use Rattle.cbor4ii_tree.specs.Refusal.{Refusal}
 use Rattle.cbor4ii_tree.specs.Spelling.{Skips}
 use Rattle.cbor4ii_tree.specs.StopsSkipping.{StopsSkipping}
 use Rattle.cbor4ii_tree.specs.Promises.{Answered, Refused}
-use Rattle.cbor4ii_tree.specs.Raw.{ReadsRaw, StopsRaw, BeginsRaw, RefusedFront}
+use Rattle.cbor4ii_tree.specs.Raw.{ReadsRaw, StopsRaw, BeginsRaw, RefusedFront, SkipsFront}
 use Rattle.cbor4ii_tree.specs.BoxedRaw.{boxed_content, CapturesCopy, UnmovedOrLacks, SkippedTo}
 use Rattle.cbor4ii_tree.specs.BoxedRaw.{CopiesItem}
+use Rattle.cbor4ii_tree.proofs.raw_items.Unlent.{no_item}
 use Rattle.cbor4ii_tree.proofs.raw_items.Captured.{item_at, skips_read, raw_moves, raw_progress}
 use Rattle.cbor4ii_tree.proofs.raw_items.Captured.{raw_memory, raw_unmoved, raw_refused, raw_sound}
 use Rattle.cbor4ii_tree.proofs.raw_items.Captured.{raw_refuses, raw_stops, raw_begins, raw_whole}
 use Rattle.cbor4ii_tree.proofs.raw_items.Captured.{raw_exact}
+
+-- ---- a copy of what was lent
+
+-- no byte is lent, so no item is
+pub none_read : {lent shown : List ℕ} {budget : Budget} {n : ℕ} {A : Type 0} → lent ≡ []
+    → shown ≡ lent → SkipsFront shown budget n → A
+none_read none is item = absurd (no_item none is item)
+
+-- ---- what a copied item says of the bytes
 
 module _ {E : Type 0} (a b : View) where
   copy_moves : (r : Result BoxedRawValue (DecodeError E)) → CapturesCopy a b r → Moves a b r

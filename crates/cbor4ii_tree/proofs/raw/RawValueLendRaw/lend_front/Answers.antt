@@ -1,4 +1,4 @@
-use Rattle.cbor4ii_tree.proofs.raw_items.Captured.{lends_nothing}
+use Rattle.cbor4ii_tree.proofs.raw_items.Captured.{lends_nothing, lends_short}
 use Rattle.cbor4ii_tree.proofs.raw.RawValueLendRaw.lend_front.Goals as goal
 
 pub returns-then-front-eq0-clause-lent : goal.returns-then-front-eq0-clause-lent
@@ -9,3 +9,9 @@ returns-then-front-eq0-clause-lent g c =
 
 pub returns-in-Some-Long-clause-lacks : goal.returns-in-Some-Long-clause-lacks
 returns-in-Some-Long-clause-lacks g c = tt
+
+pub returns-in-Some-Short-clause-lacks : goal.returns-in-Some-Short-clause-lacks
+returns-in-Some-Short-clause-lacks g c =
+    lends_short _ _ _ _ _ c.in-Some-Short.is c.in-Some-Short.field-0-is
+    c.lend.follows.holds-at-none c.in-Some-Short.ensures.front c.in-Some-Short.ensures.long
+    c.if-front-eq0.false

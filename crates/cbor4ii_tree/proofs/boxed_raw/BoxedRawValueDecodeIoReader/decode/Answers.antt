@@ -1,5 +1,0 @@
-use Rattle.cbor4ii_tree.proofs.raw_items.Copied.{copies_item}
-use Rattle.cbor4ii_tree.proofs.boxed_raw.BoxedRawValueDecodeIoReader.decode.Goals as goal
-
-pub returns-clause-copies : goal.returns-clause-copies
-returns-clause-copies g c = copies_item _ _ c.refuse_unlent.result c.refuse_unlent.ensures.copies
