@@ -220,8 +220,8 @@ pub fn fields_are_read_in_one_way<A: Typed, B: Typed>()
         (SameField A.same (SameField B.same any_two)) true }
 {}
 
-/// An enum, by the names of its variants: what the laws of variants speak of. It has no call. Behind
-/// a name that is no variant's nothing is read.
+/// An enum, by the names of its variants: what the laws of variants speak of. It has no call.
+/// Behind a name that is no variant's nothing is read.
 pub trait EnumValues: Sized {
     // this name alone, without content, stands for this value
     ghost units: { List ℕ → Self → Type 0 };
