@@ -73,7 +73,7 @@ fn a_struct_that_borrows_comes_back(rt: HostRuntime) -> Result<(), Fail> {
     comes_back_lent::<&[u8], Label<'_>>(alloc, &bytes, &bytes, "Label { id: 5, text: \"a\" }")
 }
 
-/// The text of the struct stands in the input and is no copy: it is a part of the bytes.
+/// The text of the struct at the front of the bytes.
 fn text_of(alloc: Global, bytes: &[u8]) -> Result<&str, DecodeError<Never>> {
     let label: Label<'_> = from_slice(alloc, bytes)?;
     Ok(label.text)
