@@ -297,8 +297,9 @@ impl<'de> FillLong for TestReader<'de> {
         if self.fails() {
             return Err(Failure);
         }
-        let front = self.front();
-        if self.is_long || front.is_empty() {
+        let is_whole = self.fills_whole();
+        let front = self.front(is_whole);
+        if self.fills_long() || front.is_empty() {
             return Ok(Some(front));
         }
         Ok(None)
