@@ -143,17 +143,21 @@ impl<'a> Deserialize<SliceReader<'a>> for Record<'a> {
         match de.deserialize_6_fields(
             alloc, "Record", "name", "objects", "bytes", "variants", "unit", "text",
         ) {
-            Ok((Some(name), Some(objects), Some(bytes), Some(variants), unit, Some(text))) => {
-                Ok(Record {
-                    name,
-                    objects,
-                    bytes,
-                    variants,
-                    unit: unit.unwrap_or(None),
-                    text,
-                })
+            Ok((name, objects, bytes, variants, unit, text)) => {
+                match (name, objects, bytes, variants, text) {
+                    (Some(name), Some(objects), Some(bytes), Some(variants), Some(text)) => {
+                        Ok(Record {
+                            name,
+                            objects,
+                            bytes,
+                            variants,
+                            unit: unit.unwrap_or(None),
+                            text,
+                        })
+                    }
+                    _ => Err(DecodeError::Custom("a field is missing")),
+                }
             }
-            Ok(_) => Err(DecodeError::Custom("a field is missing")),
             Err(error) => Err(error),
         }
     }
