@@ -5,6 +5,7 @@ use crate::skipping::ITEMS;
 use cbor4ii_items::decode::{Decode, Spelled};
 use cbor4ii_items::types::Map;
 use cbor4ii_rw::error::{DecodeError, Never};
+use cbor4ii_rw::long::FillLong;
 use cbor4ii_rw::read::Source;
 use cbor4ii_rw::segment_reader::SegmentReader;
 use cbor4ii_rw::slice_reader::SliceReader;
@@ -108,8 +109,8 @@ fn is_lent(alloc: Global, item: &[u8]) -> Result<(), Fail> {
 
 fn lends_segment(alloc: Global, item: &'static [u8]) -> Result<(), Fail> {
     let lent: Want<Lent> = wanted(alloc, Ok(item))?;
-    let segments = [item, b"\x00".as_slice()];
-    let mut reader = SegmentReader::new(&segments);
+    let segments = Vec::from_slice(alloc, &[item, b"\x00".as_slice()])?.leak();
+    let mut reader = SegmentReader::new(segments);
     reads_over(alloc, &mut reader, b"\x00", &lent, b"\x00")
 }
 
@@ -240,15 +241,20 @@ fn items_in_segments(rt: HostRuntime) -> Result<(), Fail> {
     Ok(())
 }
 
-// Behind a reference, and in containers.
+// Behind a reference.
+fn copy_behind<S: FillLong>(
+    alloc: Global,
+    reader: &mut S,
+) -> Result<BoxedRawValue, DecodeError<S::Error>> {
+    BoxedRawValue::decode(alloc, &mut &mut *reader)
+}
+
 #[test]
 fn behind_references(rt: HostRuntime) -> Result<(), Fail> {
     let alloc = rt.alloc();
     let mut reader = SliceReader::new(b"\x82\x01\x02\x03");
-    let copy = BoxedRawValue::decode(alloc, &mut &mut reader)?;
-    is_copy(&copy, b"\x82\x01\x02")?;
-    let copy = BoxedRawValue::decode(alloc, &mut &mut &mut reader)?;
-    is_copy(&copy, b"\x03")?;
+    is_copy(&copy_behind(alloc, &mut reader)?, b"\x82\x01\x02")?;
+    is_copy(&copy_behind(alloc, &mut reader)?, b"\x03")?;
     assert!(rt; reader.remaining().is_empty());
     Ok(())
 }
