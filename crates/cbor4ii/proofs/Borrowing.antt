@@ -1,7 +1,7 @@
 -- Strings that are borrowed from the input, read as those that may be.
 use Rattle.std.proofs.Common.{◌≡◌, ℕ, ◌<◌, ◌⊎◌, inl, inr, List, [], ◌∷◌, length, take, drop, Bool}
 use Rattle.std.proofs.Common.{true, false, Result, Ok, Err, refl, sym, ap, subst, IfOk, IfErr}
-use Rattle.std.specs.Prelude.{OnOk, IsTrue, IsUtf8}
+use Rattle.std.specs.Prelude.{OnOk, IsOkAnd, IsTrue, IsUtf8}
 use denote.Ref.{Bor}
 use Rattle.std.specs.declared.alloc.Global.{Global}
 use Rattle.std.specs.declared.borrow.CowStr.{CowStr}
@@ -10,17 +10,17 @@ use Rattle.std.specs.declared.borrow.CowSlice.{CowSlice}
 use Rattle.std.specs.declared.borrow.CowSlice.TheVariants as slice
 use Rattle.std.specs.Cow.{IsBorrowedStr, IsOwnedStr, IsBorrowedSlice, IsOwnedSlice}
 use Rattle.cbor4ii_items.specs.declared.types.Bytes.{Bytes}
-use Rattle.cbor4ii_rw.specs.View.{View}
+use Rattle.cbor4ii_rw.specs.View.{View, Told}
 use Rattle.cbor4ii_rw.specs.declared.error.DecodeError.{DecodeError as CoreError}
 use Rattle.cbor4ii_rw.specs.declared.error.DecodeError.TheVariants.{RequireBorrowed}
 use Rattle.cbor4ii_items.specs.Head.{open_head}
 use Rattle.cbor4ii_items.specs.Refusal.{refusal_of, require_borrowed}
 use Rattle.cbor4ii_items.specs.Moves.{Moves}
 use Rattle.cbor4ii_items.specs.Cow.{BorrowsWhereCounted, cow_text, cow_bytes, IsBorrowedBytes}
-use Rattle.cbor4ii_items.specs.Cow.{IsOwnedBytes}
+use Rattle.cbor4ii_items.specs.Cow.{IsOwnedBytes, slice_stands, cow_bytes_stand}
 use Rattle.cbor4ii_items.specs.Strings.{ReadsCountedString, ReadsAs, ReadsTextAs}
 use Rattle.cbor4ii_items.specs.Decoding.{Reads, StopsAt, IsExact, Sound, Refuses, Stops}
-use Rattle.cbor4ii_items.specs.Lent.{ReadsLent, lent_str, lent_bytes}
+use Rattle.cbor4ii_items.specs.Lent.{ReadsLent, IsOfInput, lent_str, lent_bytes}
 use Rattle.cbor4ii_items.specs.Laws.Strings.{head_not_open}
 use Rattle.cbor4ii_items.specs.Laws.Answering.{refuses_as}
 use Rattle.cbor4ii_items.specs.Laws.Steps.{moves_ok, moves_err}
@@ -181,3 +181,14 @@ bytes_lent w = record { 0 = slice.Borrowed w.0 }
 pub bytes_spelled : (xs : List ℕ) (w : Bytes (Bor (List ℕ))) (n c : ℕ)
     → ReadsLent 2 false lent_bytes xs w n c → ReadsAs 2 cow_bytes xs (bytes_lent w) n c
 bytes_spelled xs w n c r = inl (r.0, r.1)
+
+-- bytes that are handed on stand where they stood
+pub lent_place : {E : Type 0} (found : Result (Bytes (CowSlice ℕ Global)) (CoreError E))
+    (answer : Result (Bytes (Bor (List ℕ))) (DecodeError E)) (a b : View)
+    → IfOk answer (λ w. IsOkAnd found (λ v. v.0 ≡ slice.Borrowed w.0))
+    → IfOk found (λ v. Told a.told (λ xs. cow_bytes_stand v b))
+    → IfOk answer (λ w. IsOfInput w.0 a b)
+lent_place found (Err e) a b part place = tt
+lent_place (Ok v) (Ok w) a b part place =
+    λ xs told. subst (λ c. slice_stands c b) part (place xs told)
+lent_place (Err e) (Ok w) a b part place = absurd part

@@ -130,6 +130,7 @@ unmoved {a = a} {b = b} none z =
       taken = closes.others.taken i;
       lends_whole = closes.others.lends_whole i;
       remembers = closes.others.remembers i;
+      ends_at = closes.others.ends_at i;
     }
 
 -- the step is given back, and what was taken stays taken

@@ -31,6 +31,7 @@ breaks_stepped {a = a} {b = b} {d = d} takes i k gives o = record {
   lends_whole =
       λ h. subst IsTrue (sym o.lends_whole) (k.lends_whole (subst IsTrue (sym i.lends_whole) h));
   remembers = λ h. subst IsTrue (sym o.remembers) (k.remembers (subst IsTrue (sym i.remembers) h));
+  ends_at = o.ends_at ∙ (k.ends_at ∙ i.ends_at);
 }
 
 -- a refusal under the step that was taken

@@ -4,7 +4,7 @@ use Rattle.std.proofs.Common.{None, Some, Result, Ok, Err, Bool, false, IsTrue, 
 use Rattle.std.proofs.Common.{◌∙◌, subst, arith, IfSome, IfOk, IfErr}
 use Rattle.std.specs.Prelude.{MatchBool, IsUtf8}
 use Rattle.std.proofs.lemmas.List.{length-drop, length-take, length-take-le}
-use Rattle.cbor4ii_rw.specs.View.{View}
+use Rattle.cbor4ii_rw.specs.View.{View, Told}
 use Rattle.cbor4ii_rw.specs.declared.error.DecodeError.{DecodeError}
 use Rattle.cbor4ii_items.specs.declared.strings.lent.Lacks.{Lacks}
 use Rattle.cbor4ii_items.specs.declared.strings.lent.Lacks.TheVariants.{Read, Short, Few, NotUtf8}
@@ -89,6 +89,16 @@ module _ (V E : Type 0) (name : List ℕ) (count : ℕ) (is_text : Bool) (conten
   lent_sound major (Ok v) (Err e) n s lends utf8 = tt
   lent_sound major (Err lack) (Ok w) n s lends utf8 = absurd n
   lent_sound major (Err lack) (Err e) n s lends utf8 = tt
+
+  -- a place that is known behind the head is known behind the item
+  pub lent_place : (major : ℕ) (stands : V → View → Type 0) (o : Result V (Lacks E))
+      (r : Result V (DecodeError E)) → Named name o r → Sound (ReadsArgument major 8) a m count
+      → IfOk o (λ v. Told m.told (λ xs. stands v b)) → IfOk r (λ v. Told a.told (λ xs. stands v b))
+  lent_place major stands (Ok v) (Ok w) n s at =
+      λ xs told. let h = s.at xs told in subst (λ z. stands z b) n (at (drop h.count xs) h.left)
+  lent_place major stands (Ok v) (Err e) n s at = tt
+  lent_place major stands (Err lack) (Ok w) n s at = absurd n
+  lent_place major stands (Err lack) (Err e) n s at = tt
 
   -- what is read behind this head
   the_content : (major : ℕ) (xs : List ℕ) (v : V) (before n c : ℕ) → major < 8

@@ -5,7 +5,7 @@ use Prim.Native.Nat.{ℕ}
 use mathlib.Core.List.{List, [], ◌∷◌, ◌++◌}
 use seplogic.Ra.Ura.{Ura}
 use base.Fml.{Lft}
-use base.Logic.{SProp, ent, ex, via, sep, snd∗, mono_r, emp}
+use base.Logic.{SProp, ent, ex, ex_i, ex_e, via, sep, snd∗, mono_r, emp}
 use contract.BorrowLft.{◌⊑◌}
 use contract.Lifetimes.{Lfts, Shares, AllOutlive}
 use contract.Monad.{fact, fact_use}
@@ -17,9 +17,10 @@ use denote.Param.Laws.{Laws, param_laws, arg_laws}
 use denote.RattleType.{RattleType}
 use denote.Ref.{MutBor}
 use denote.Signature.{type_at}
-use denote.Triple.Entry.{on_entry, alive}
+use denote.Triple.Entry.{Args, on_entry, alive}
 use denote.Triple.Impl.{with_fact, pin_of}
-use denote.Triple.Spec.{triple_of, Back}
+use denote.Triple.Clauses.{Ended, ClausesAt, AtExit, Lasts, at_exit, lasts}
+use denote.Triple.Spec.{triple_of, Back, exits}
 use denote.Triple.Statement.{Contract}
 use mir.Raw.{raw as bare}
 use mir.Syntax.{Ty, Dict, Callee, Home, Kind, Lifetime, a_type, dcons, dnil, named}
@@ -27,7 +28,8 @@ use mir.Val.{Val}
 use prog.Model.{Model}
 use prog.Wired.{Wired}
 use prog.Wp.{Tables, WpFn}
-use types.Logic.{Logic}
+use sound.WpLaws.{WpFn-mono}
+use types.Logic.{Logic, sem}
 use Rattle.std.proofs.result.Result.TheLaws as ResultLaws
 use Rattle.std.specs.contracts.alloc.Global as Global
 use Rattle.std.specs.contracts.fmt.Debug.TheBound as DebugBound
@@ -111,6 +113,7 @@ module _ {M : Type 1} (𝓤 : Ura M) (𝓛 : Logic 𝓤) (𝓜 : Model 𝓤 𝓛
           major = b.major;
           lend_from = b.lend_from;
           own = b.own;
+          owned_stands = b.owned_stands;
           small = b.small;
           text = b.text;
         }) b2 b3 b4 in
@@ -125,3 +128,39 @@ module _ {M : Type 1} (𝓤 : Ura M) (𝓛 : Logic 𝓤) (𝓜 : Model 𝓤 𝓛
         (mono_r 𝓤 FR (mono_r 𝓤 FE (snd∗ 𝓤 (fact 𝓤 (P κs)) (emp 𝓤))))
         (with_fact 𝓤 FT (sep 𝓤 FR (sep 𝓤 FE (emp 𝓤))) (within κ))))
         (m y)))
+
+    abbrev Ends : Ended
+    Ends = g.ended (At κ) R E (gT κ) dT gS dS gD dD dd
+
+    abbrev Says : ClausesAt 𝓤 Ends κs
+    Says = g.clauses (At κ) R E (gT κ) dT gS dS gD dD dd 𝓛 𝓜.mem 𝓡.returns κs (x, (r, tt))
+
+    -- the same of a method that promises K, which is less
+    pub told_less : (K : (Res κ).Denot → AtExit Ends κs → SProp 𝓤)
+        → ((z : (Res κ).Denot) (e : AtExit Ends κs) → ent 𝓤 (Says.ensures tt z e) (K z e))
+        → (n : ℕ) (os : List (ℕ × ℕ)) (ks : List Kind) (givens params : ℕ) (τ₀ : Ty)
+        → bare τ₀ ≡ bare (layout (Res κ)) → (ℓ₂ ℓ₃ : Lifetime) (σ₂ σ₃ σ : Ty) (h₀ h₁ h₂ h₃ : Home)
+        → ent 𝓤 (sep 𝓤 O (sep 𝓤 FR (sep 𝓤 FE (sep 𝓤 (fact 𝓤 (P κs)) (emp 𝓤)))))
+        (WpFn 𝓤 𝓛.H 𝓣.C 𝓣.Λ (lent_fn key n os ks givens params τ₀ ℓ₂ ℓ₃ σ₂ σ₃ σ h₀ h₁ h₂ h₃)
+        (us ++ (vs ++ [])) (λ v. 𝓛.H.⇛ (ex 𝓤 (λ (z : (Res κ).Denot). sep 𝓤
+        (Back 𝓛 Ends.signature (κs, qs, bd, (x, (r, tt)), (us, (vs, tt))) v z)
+        (exits 𝓛 Ends.signature Ends.kept κs (x, (r, tt)) (K z))))))
+    told_less K less n os ks givens params τ₀ e ℓ₂ ℓ₃ σ₂ σ₃ σ h₀ h₁ h₂ h₃ =
+        let a : Args Ends.signature κs = (x, (r, tt)) in
+        let y : G.Ghost = ((κs, qs, bd, a, (us, (vs, tt))), tt) in
+        let back : Val → (Res κ).Denot → SProp 𝓤 = Back 𝓛 Ends.signature y.0 in
+        let all : (Res κ).Denot → Lasts Ends κs a → SProp 𝓤 = λ z ws.
+        sep 𝓤 (sem 𝓛 (lasts Ends κs a ws)) (Says.ensures tt z (at_exit Ends κs a ws)) in
+        let some : (Res κ).Denot → Lasts Ends κs a → SProp 𝓤 = λ z ws.
+        sep 𝓤 (sem 𝓛 (lasts Ends κs a ws)) (K z (at_exit Ends κs a ws)) in
+        let more : Val → (Res κ).Denot → SProp 𝓤 = λ v z. sep 𝓤 (back v z) (ex 𝓤 (all z)) in
+        let fewer : Val → (Res κ).Denot → SProp 𝓤 = λ v z. sep 𝓤 (back v z) (ex 𝓤 (some z)) in
+        let f = lent_fn key n os ks givens params τ₀ ℓ₂ ℓ₃ σ₂ σ₃ σ h₀ h₁ h₂ h₃ in
+        via 𝓤 _ (told n os ks givens params τ₀ e ℓ₂ ℓ₃ σ₂ σ₃ σ h₀ h₁ h₂ h₃)
+        (WpFn-mono 𝓤 𝓛.H 𝓛.laws 𝓣 f (us ++ (vs ++ [])) (G.post y)
+        (λ v. 𝓛.H.⇛ (ex 𝓤 (fewer v)))
+        (λ v. 𝓛.laws.⇛_mono (ex 𝓤 (more v)) (ex 𝓤 (fewer v))
+        (ex_e 𝓤 (more v) (λ (z : (Res κ).Denot). via 𝓤 (fewer v z)
+        (mono_r 𝓤 (back v z) (ex_e 𝓤 (all z) (λ (ws : Lasts Ends κs a).
+        via 𝓤 (some z ws) (mono_r 𝓤 (sem 𝓛 (lasts Ends κs a ws))
+        (less z (at_exit Ends κs a ws))) (ex_i 𝓤 (some z) ws)))) (ex_i 𝓤 (fewer v) z)))))

@@ -4,8 +4,9 @@ use Rattle.std.specs.Prelude.{Result, Ok, Err, IsTrue, IsUtf8}
 use Rattle.std.specs.declared.alloc.Global.{Global}
 use Rattle.std.specs.declared.borrow.CowStr.{CowStr}
 use Rattle.std.specs.declared.borrow.CowSlice.{CowSlice}
+use Rattle.std.specs.declared.borrow.CowSlice.TheVariants.{Borrowed, Owned}
 use Rattle.std.specs.Cow.{cow_str_bytes, cow_slice_items, IsBorrowedSlice, IsOwnedSlice}
-use Rattle.cbor4ii_rw.specs.View.{View, Told}
+use Rattle.cbor4ii_rw.specs.View.{View, Told, place_behind, BeginsAt}
 use Rattle.cbor4ii_rw.specs.declared.error.DecodeError.{DecodeError}
 use Rattle.cbor4ii_items.specs.declared.types.Bytes.{Bytes}
 use Rattle.cbor4ii_items.specs.declared.types.UncheckedStr.{UncheckedStr}
@@ -46,6 +47,23 @@ IsBorrowedUnchecked v = IsBorrowedSlice v.0
 
 abbrev pub IsOwnedUnchecked : UncheckedStr (CowSlice ℕ Global) → Type 0
 IsOwnedUnchecked v = IsOwnedSlice v.0
+
+-- a borrowed slice is the input's own: what is left begins right behind it, where the reader tells
+-- the place of its end
+abbrev pub slice_stands : CowSlice ℕ Global → View → Type 0
+slice_stands (Borrowed bytes) view = BeginsAt (place_behind bytes) view
+slice_stands (Owned bytes) view = Unit {0}
+
+-- of an owned slice nothing is owed; a trait's law cites it, so it stands here
+pub owned_stands : (v : CowSlice ℕ Global) (view : View) → IsOwnedSlice v → slice_stands v view
+owned_stands (Borrowed bytes) view owned = absurd owned
+owned_stands (Owned bytes) view owned = tt
+
+abbrev pub cow_bytes_stand : Bytes (CowSlice ℕ Global) → View → Type 0
+cow_bytes_stand v view = slice_stands v.0 view
+
+abbrev pub cow_unchecked_stands : UncheckedStr (CowSlice ℕ Global) → View → Type 0
+cow_unchecked_stands v view = slice_stands v.0 view
 
 -- ---- a text, or a string that is not tested
 

@@ -1,7 +1,7 @@
 -- Borrowed strings: parts of the input (RFC 8949 section 3.1).
 use Rattle.std.specs.Prelude.{◌≡◌, ℕ, ◌+◌, ◌<◌, ◌≤◌, Bool, true, false, List, length, take, drop}
 use Rattle.std.specs.Prelude.{None, Some, Option, Result, Ok, Err, IsTrue, IsUtf8}
-use Rattle.cbor4ii_rw.specs.View.{View, Told}
+use Rattle.cbor4ii_rw.specs.View.{View, Told, place_behind, BeginsAt}
 use Rattle.cbor4ii_rw.specs.Reader.{Keeps}
 use Rattle.cbor4ii_rw.specs.declared.error.DecodeError.{DecodeError}
 use Rattle.cbor4ii_items.specs.declared.strings.lent.Lacks.{Lacks}
@@ -55,6 +55,11 @@ pub data BeginsLent (name : List ℕ) (major : ℕ) (is_text : Bool) (xs : List 
 
 -- ---- a content that is lent
 
+-- The bytes are the input's own, which it tells: what is left begins right behind them, where the
+-- reader tells the place of its end.
+abbrev pub IsOfInput : Bor (List ℕ) → View → View → Type 0
+IsOfInput bytes old new = Told old.told (λ xs. BeginsAt (place_behind bytes) new)
+
 -- so many bytes were taken, and are the content
 pub record Lends (count : ℕ) (content : List ℕ) (old new : View) : Type 0 where
   pub kept : Kept old new
@@ -105,6 +110,16 @@ Named name (Err lack) (Ok w) = ⊥
 Named name (Err lack) (Err e) = Says name lack e
 
 -- ---- the types that a content is lent to
+
+-- nothing is said of where a text stands: std's test for UTF-8 tells no place
+abbrev pub stands_anywhere : {V : Type 0} → V → View → Type 0
+stands_anywhere v view = Unit {0}
+
+abbrev pub bytes_stand : Bytes (Bor (List ℕ)) → View → Type 0
+bytes_stand v view = BeginsAt (place_behind v.0) view
+
+abbrev pub unchecked_stands : UncheckedStr (Bor (List ℕ)) → View → Type 0
+unchecked_stands v view = BeginsAt (place_behind v.0) view
 
 abbrev pub lent_str : Bor (List ℕ) → List ℕ
 lent_str v = v.now

@@ -37,6 +37,7 @@ pub record Kept (old new : View) : Type 0 where
   pub failures : new.failures ≡ old.failures
   pub lends_whole : IsTrue old.lends_whole → IsTrue new.lends_whole
   pub remembers : IsTrue old.remembers → IsTrue new.remembers
+  pub ends_at : new.ends_at ≡ old.ends_at
 
 -- The reader failed: what is left, where still told, is an end, and a reader that remembers still
 -- tells it; the budget is as before.
@@ -48,6 +49,7 @@ pub record Broke (old new : View) : Type 0 where
   pub failures : Failed old.failures new.failures
   pub lends_whole : IsTrue old.lends_whole → IsTrue new.lends_whole
   pub remembers : IsTrue old.remembers → IsTrue new.remembers
+  pub ends_at : new.ends_at ≡ old.ends_at
 
 -- the answer says that the reader failed
 abbrev pub is_failure : {V E : Type 0} → Result V (DecodeError E) → Bool

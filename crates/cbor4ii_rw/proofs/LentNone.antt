@@ -40,6 +40,7 @@ module _ {want : ℕ} {a b : View} (answer : Option (Bor (List ℕ))) (shown : B
       taken = shows.taken;
       lends_whole = shows.lends_whole;
       remembers = shows.remembers;
+      ends_at = shows.ends_at;
     };
     short = not_whole a.lends_whole unlent;
   }

@@ -1,5 +1,5 @@
 -- What a reader says of a front that lives as long as its input.
-use Rattle.std.specs.Prelude.{◌≡◌, ◌≢◌, ℕ, List, [], IsTrue}
+use Rattle.std.specs.Prelude.{◌≢◌, ℕ, List, [], IsTrue}
 use Rattle.cbor4ii_rw.specs.View.{View, Told}
 use Rattle.cbor4ii_rw.specs.Reader.{IsFront, IsEnough, Shows}
 

@@ -46,6 +46,7 @@ pub record Shows (shown : List ℕ) (old new : View) : Type 0 where
   pub taken : new.taken ≡ old.taken
   pub lends_whole : IsTrue old.lends_whole → IsTrue new.lends_whole
   pub remembers : IsTrue old.remembers → IsTrue new.remembers
+  pub ends_at : new.ends_at ≡ old.ends_at
 
 -- What a reader that failed leaves: no byte is taken, but bytes may be told no more.
 pub record Breaks (old new : View) : Type 0 where
@@ -57,6 +58,7 @@ pub record Breaks (old new : View) : Type 0 where
   pub taken : new.taken ≡ old.taken
   pub lends_whole : IsTrue old.lends_whole → IsTrue new.lends_whole
   pub remembers : IsTrue old.remembers → IsTrue new.remembers
+  pub ends_at : new.ends_at ≡ old.ends_at
 
 -- n bytes are taken, and nothing else moves
 pub record Advances (n : ℕ) (old new : View) : Type 0 where
@@ -68,6 +70,7 @@ pub record Advances (n : ℕ) (old new : View) : Type 0 where
   pub taken : new.taken ≡ counts n old.taken
   pub lends_whole : IsTrue old.lends_whole → IsTrue new.lends_whole
   pub remembers : IsTrue old.remembers → IsTrue new.remembers
+  pub ends_at : new.ends_at ≡ old.ends_at
 
 -- these bytes, with which the told ones begin, are taken, and nothing else moves
 pub record Takes (bytes : List ℕ) (old new : View) : Type 0 where
@@ -78,6 +81,7 @@ pub record Takes (bytes : List ℕ) (old new : View) : Type 0 where
   pub taken : new.taken ≡ counts (length bytes) old.taken
   pub lends_whole : IsTrue old.lends_whole → IsTrue new.lends_whole
   pub remembers : IsTrue old.remembers → IsTrue new.remembers
+  pub ends_at : new.ends_at ≡ old.ends_at
 
 -- nothing moves but the budget
 pub record KeepsAllButBudget (old new : View) : Type 0 where
@@ -88,6 +92,7 @@ pub record KeepsAllButBudget (old new : View) : Type 0 where
   pub taken : new.taken ≡ old.taken
   pub lends_whole : new.lends_whole ≡ old.lends_whole
   pub remembers : new.remembers ≡ old.remembers
+  pub ends_at : new.ends_at ≡ old.ends_at
 
 -- one step is taken, or none is left; without a budget there is always one
 abbrev pub StepsIn : Option ℕ → Option ℕ → Bool → Type 0

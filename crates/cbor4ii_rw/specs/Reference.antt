@@ -1,5 +1,6 @@
 -- What a fill lends.
 use Rattle.std.specs.Prelude.{ℕ, List, ⊤}
+use Rattle.cbor4ii_rw.specs.View.{View, place_of, BeginsAt}
 use Rattle.cbor4ii_rw.specs.declared.read.Reference.{Reference}
 use Rattle.cbor4ii_rw.specs.declared.read.Reference.TheVariants.{Long, Short}
 
@@ -12,3 +13,8 @@ bytes_of (Short bytes) = bytes.now
 abbrev pub IsLong : Reference → Type 0
 IsLong (Long bytes) = ⊤
 IsLong (Short bytes) = ⊥
+
+-- what lives as long as the input is a part of it: the bytes to come begin where it begins
+abbrev pub IsPart : Reference → View → Type 0
+IsPart (Long bytes) view = BeginsAt (place_of bytes) view
+IsPart (Short bytes) view = ⊤

@@ -52,4 +52,5 @@ segment_view reader = record {
   taken = None;
   lends_whole = nat_lt (full_of reader) 2;
   remembers = true;
+  ends_at = None;
 }

@@ -1,9 +1,9 @@
 -- What a reader over one slice tells.
 use Rattle.std.specs.Prelude.{length, None, Some, true}
-use Rattle.cbor4ii_rw.specs.View.{View}
+use Rattle.cbor4ii_rw.specs.View.{View, place_behind}
 use Rattle.cbor4ii_rw.specs.declared.slice_reader.SliceReader.{SliceReader}
 
--- it tells all its bytes, lends them whole, and never fails
+-- it tells all its bytes and the place of their end, lends them whole, and never fails
 abbrev pub slice_view : SliceReader → View
 slice_view reader = record {
   told = Some reader.bytes.now;
@@ -14,4 +14,5 @@ slice_view reader = record {
   taken = None;
   lends_whole = true;
   remembers = true;
+  ends_at = Some (place_behind reader.bytes);
 }

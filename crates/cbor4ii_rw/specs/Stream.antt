@@ -61,6 +61,7 @@ stream_view remaining consumable reader = record {
   taken = Some reader.tally.taken;
   lends_whole = false;
   remembers = true;
+  ends_at = None;
 }
 
 -- `Ok` notes how many bytes are shown and leaves the count of failures, and `Err` raises it

@@ -10,7 +10,7 @@ ghost use Rattle.std.specs.Borrow.{sem};
 ghost use Rattle.std.specs.Io.BufRead.{Rests};
 ghost use Rattle.cbor4ii_rw.specs.View.{Told};
 ghost use Rattle.cbor4ii_rw.specs.Reader.{IsFront, IsEnough, Shows, Breaks, Takes};
-ghost use Rattle.cbor4ii_rw.specs.Reference.{bytes_of, IsLong};
+ghost use Rattle.cbor4ii_rw.specs.Reference.{bytes_of, IsLong, IsPart};
 ghost use Rattle.cbor4ii_rw.specs.Parted.{Parts};
 
 use crate::read::{Read, Reference, Source};
@@ -50,6 +50,7 @@ pub fn lend<'de, 's, R: Read<'de>>(
     ensures enough { IsTrue (R.view reader.old).lends_whole →
         IfSome result (λ shown. Told (R.view reader.old).told (IsEnough want (bytes_of shown))) }
     ensures long { IsTrue (R.view reader.old).lends_whole → IfSome result IsLong }
+    ensures place { IfSome result (λ shown. IsPart shown (R.view reader.old)) }
     ensures shown { OnSome result (failure.new ≡ failure.old) }
     ensures failed { IfNone result (IsSome failure.new) }
     ensures* after_borrow { sem 𝓛 (Rests R.row reader.entry (λ new. MatchOption result

@@ -8,7 +8,7 @@ ghost use Rattle.std.specs.Io.BufRead.{Rests, FillKeeps, DropsConsumable};
 ghost use Rattle.cbor4ii_rw.specs.contracts.io_reader.IoReader.{the_row};
 ghost use Rattle.cbor4ii_rw.specs.View.{Told};
 ghost use Rattle.cbor4ii_rw.specs.Reader.{Keeps, IsFront, IsEnough, Shows, Breaks};
-ghost use Rattle.cbor4ii_rw.specs.Reference.{bytes_of, IsLong};
+ghost use Rattle.cbor4ii_rw.specs.Reference.{bytes_of, IsLong, IsPart};
 ghost use Rattle.cbor4ii_rw.specs.Stream.{most_bytes, cut_within, cut_known, stream_left};
 ghost use Rattle.cbor4ii_rw.specs.Stream.{stream_view, TallyMoves};
 
@@ -197,6 +197,8 @@ impl<'de, R: BufRead> Read<'de> for IoReader<R> {
             IfOk result (λ shown. Told before.told (IsEnough want (bytes_of shown))) }
         ensures long { let before = stream_view R.Read.remaining R.consumable_len self.old in
             IsTrue before.lends_whole → IfOk result IsLong }
+        ensures place { IfOk result
+            (λ shown. IsPart shown (stream_view R.Read.remaining R.consumable_len self.old)) }
         ensures short { IfOk result (λ shown. ¬ IsLong shown) }
         ensures ended { (stream_view R.Read.remaining R.consumable_len self.old).bound ≡ 0
             → IsOk result }

@@ -9,7 +9,7 @@ ghost use Rattle.std.specs.Io.BufRead.{Rests};
 ghost use Rattle.cbor4ii_rw.specs.View.{View, Told};
 ghost use Rattle.cbor4ii_rw.specs.Reader.{IsFront, IsEnough, Shows, Breaks, Advances};
 ghost use Rattle.cbor4ii_rw.specs.Reader.{KeepsAllButBudget, StepsIn, step_back};
-ghost use Rattle.cbor4ii_rw.specs.Reference.{bytes_of, IsLong};
+ghost use Rattle.cbor4ii_rw.specs.Reference.{bytes_of, IsLong, IsPart};
 
 use std::fmt::Debug;
 
@@ -97,7 +97,8 @@ pub trait Source {
 /// Code that is generic over readers calls `ask::lend` in the place of `fill`.
 pub trait Read<'de>: Source {
     /// Shows a front as `show` does, and says whether it lives as long as the input. A reader
-    /// that lends whole answers `Long`, with at least `want` bytes or all that are left.
+    /// that lends whole answers `Long`, with at least `want` bytes or all that are left. What is
+    /// `Long` stands where the bytes to come begin, if the reader tells where they end.
     ///
     /// # Errors
     ///
@@ -110,6 +111,7 @@ pub trait Read<'de>: Source {
         ensures enough { IsTrue (Self.view self.old).lends_whole → IfOk result
             (λ shown. Told (Self.view self.old).told (IsEnough want (bytes_of shown))) }
         ensures long { IsTrue (Self.view self.old).lends_whole → IfOk result IsLong }
+        ensures place { IfOk result (λ shown. IsPart shown (Self.view self.old)) }
         ensures* after_borrow { sem 𝓛 (Rests Self.row self.entry (λ new. MatchResult result
             (λ shown. Shows (bytes_of shown) (Self.view self.old) (Self.view new))
             (λ _. Breaks (Self.view self.old) (Self.view new)))) };

@@ -9,7 +9,7 @@ ghost use Rattle.cbor4ii_rw.specs.contracts.segment_reader.SegmentReader.{the_ro
 ghost use Rattle.cbor4ii_rw.specs.View.{Told};
 ghost use Rattle.cbor4ii_rw.specs.Reader.{IsFront, IsEnough, Shows, Breaks};
 ghost use Rattle.cbor4ii_rw.specs.Long.{FillsLong, LendsNone};
-ghost use Rattle.cbor4ii_rw.specs.Reference.{bytes_of, IsLong};
+ghost use Rattle.cbor4ii_rw.specs.Reference.{bytes_of, IsLong, IsPart};
 ghost use Rattle.cbor4ii_rw.specs.Segments.{joined_segments, full_count, rest_of, full_of};
 ghost use Rattle.cbor4ii_rw.specs.Segments.{shown_segment, segment_view};
 
@@ -121,6 +121,7 @@ impl<'de> Read<'de> for SegmentReader<'de> {
         ensures enough { IsTrue (segment_view self.old).lends_whole → IfOk result
             (λ shown. Told (segment_view self.old).told (IsEnough want (bytes_of shown))) }
         ensures long { IfOk result IsLong }
+        ensures place { IfOk result (λ shown. IsPart shown (segment_view self.old)) }
         ensures segment { IfOk result
             (λ shown. length (bytes_of shown) ≡ min want (length (shown_segment self.old))) }
         ensures* after_borrow { sem 𝓛 (Rests

@@ -5,10 +5,10 @@ ghost use Rattle.std.specs.Borrow.{sem};
 ghost use Rattle.std.specs.Io.BufRead.{Rests};
 ghost use mir.Syntax.{named};
 ghost use Rattle.cbor4ii_rw.specs.contracts.slice_reader.SliceReader.{the_row};
-ghost use Rattle.cbor4ii_rw.specs.View.{Told};
+ghost use Rattle.cbor4ii_rw.specs.View.{Told, place_behind};
 ghost use Rattle.cbor4ii_rw.specs.Reader.{IsFront, IsEnough, Shows, Breaks};
 ghost use Rattle.cbor4ii_rw.specs.Long.{FillsLong, LendsNone};
-ghost use Rattle.cbor4ii_rw.specs.Reference.{bytes_of, IsLong};
+ghost use Rattle.cbor4ii_rw.specs.Reference.{bytes_of, IsLong, IsPart};
 ghost use Rattle.cbor4ii_rw.specs.Slice.{slice_view};
 ghost use Rattle.std.proofs.Common.{rules};
 
@@ -29,6 +29,7 @@ impl<'a> SliceReader<'a> {
     pub fn new(bytes: &'a [u8]) -> SliceReader<'a>
         ensures told { (slice_view result).told ≡ Some bytes.now }
         ensures budget { (slice_view result).budget ≡ Some 256 }
+        ensures place { (slice_view result).ends_at ≡ Some (place_behind bytes.entry) }
     {
         SliceReader::with_limit(bytes, 256)
     }
@@ -37,6 +38,7 @@ impl<'a> SliceReader<'a> {
     pub fn with_limit(bytes: &'a [u8], limit: usize) -> SliceReader<'a>
         ensures told { (slice_view result).told ≡ Some bytes.now }
         ensures budget { (slice_view result).budget ≡ Some limit }
+        ensures place { (slice_view result).ends_at ≡ Some (place_behind bytes.entry) }
     {
         SliceReader {
             bytes,
@@ -46,7 +48,8 @@ impl<'a> SliceReader<'a> {
 
     /// The bytes that are left.
     pub fn remaining(&self) -> &'a [u8]
-        ensures { (slice_view self.now).told ≡ Some result.now }
+        ensures told { (slice_view self.now).told ≡ Some result.now }
+        ensures place { (slice_view self.now).ends_at ≡ Some (place_behind result) }
     {
         self.bytes
     }
@@ -104,6 +107,7 @@ impl<'de> Read<'de> for SliceReader<'de> {
         ensures enough { IsTrue (slice_view self.old).lends_whole → IfOk result
             (λ shown. Told (slice_view self.old).told (IsEnough want (bytes_of shown))) }
         ensures long { IsTrue (slice_view self.old).lends_whole → IfOk result IsLong }
+        ensures place { IfOk result (λ shown. IsPart shown (slice_view self.old)) }
         ensures wanted { IfOk result (λ shown. length (bytes_of shown) ≤ want) }
         ensures* after_borrow { sem 𝓛 (Rests
             (the_row (record { mir = named 1; lft = [] })) self.entry

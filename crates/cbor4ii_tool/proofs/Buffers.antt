@@ -64,6 +64,7 @@ fresh bytes = record {
   taken = Some 0;
   lends_whole = false;
   remembers = true;
+  ends_at = None;
 }
 
 -- without a buffer the run ends before the first item

@@ -117,6 +117,7 @@ shown_kept shown a b c shows kept = record {
   failures = kept.failures ∙ shows.failures;
   lends_whole = λ lends. kept.lends_whole (shows.lends_whole lends);
   remembers = λ remembers. kept.remembers (shows.remembers remembers);
+  ends_at = kept.ends_at ∙ shows.ends_at;
 }
 
 never_write : {E : Type 0} (error : DecodeError E) → kind_of error ≢ Write

@@ -18,6 +18,7 @@ lent_view bytes reader =
       taken = None;
       lends_whole = true;
       remembers = true;
+      ends_at = None;
     }
 
 -- a front was shown, of which P holds

@@ -20,6 +20,7 @@ test_view reader = record {
   lends_whole = if reader.takes_turns then false
       else if reader.is_long then reader.is_whole else false;
   remembers = if reader.forgets then false else true;
+  ends_at = None;
 }
 
 abbrev pub counting_view : Counting → View
@@ -32,6 +33,7 @@ counting_view reader = record {
   taken = None;
   lends_whole = false;
   remembers = true;
+  ends_at = None;
 }
 
 abbrev pub failing_output : FailingWriter → Output

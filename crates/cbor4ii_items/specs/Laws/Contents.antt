@@ -3,17 +3,17 @@ use Rattle.std.proofs.Common.{◌≡◌, ℕ, zero, suc, ◌+◌, ◌-◌, ◌<�
 use Rattle.std.proofs.Common.{get_or, take, drop, Option, Some, Ok, Err, Bool, true, false, refl}
 use Rattle.std.proofs.Common.{sym, ap, ap₂, ◌∙◌, subst, arith, ltb, ltb-true, ltb-false}
 use Rattle.std.proofs.Common.{append_assoc}
-use Rattle.std.proofs.lemmas.List.{length-drop, append-nil}
+use Rattle.std.proofs.lemmas.List.{length-drop, length-take-le, append-nil}
 use Rattle.std.proofs.Math.Seq.{take-add}
 use Rattle.cbor4ii_rw.specs.View.{View}
-use Rattle.cbor4ii_items.specs.Lent.{Lends}
+use Rattle.cbor4ii_items.specs.Lent.{Lends, IsOfInput}
 use denote.Ref.{Bor}
 use Rattle.std.specs.Prelude.{MatchOption}
-use Rattle.cbor4ii_rw.specs.Reference.{bytes_of}
+use Rattle.cbor4ii_rw.specs.Reference.{bytes_of, IsPart}
 use Rattle.cbor4ii_rw.specs.declared.read.Reference.{Reference}
 use Rattle.cbor4ii_rw.specs.declared.read.Reference.TheVariants.{Long}
 use Rattle.cbor4ii_rw.specs.Reader.{Shows, Breaks, Advances, IsFront, counts}
-use Rattle.cbor4ii_rw.specs.View.{Told}
+use Rattle.cbor4ii_rw.specs.View.{Told, place_of}
 use Rattle.cbor4ii_items.specs.Head.{IsBytes}
 use Rattle.cbor4ii_items.specs.Moves.{Took}
 use Rattle.cbor4ii_items.specs.Refusal.{eof, len_of}
@@ -155,6 +155,7 @@ takes_front {missing = missing} {n = n} {shown = shown} {before = before} {after
         failures = adv.failures ∙ s.failures;
         lends_whole = λ h. adv.lends_whole (s.lends_whole h);
         remembers = λ h. adv.remembers (s.remembers h);
+        ends_at = adv.ends_at ∙ s.ends_at;
       };
       some = some;
       most = most;
@@ -194,6 +195,7 @@ lends_front {want = want} {n = n} {shown = shown} {a = a} {m = m}
         failures = adv.failures ∙ s.failures;
         lends_whole = λ h. adv.lends_whole (s.lends_whole h);
         remembers = λ h. adv.remembers (s.remembers h);
+        ends_at = adv.ends_at ∙ s.ends_at;
       };
       at = λ xs told. (
         omega (arith, within, (front xs told).within),
@@ -201,6 +203,20 @@ lends_front {want = want} {n = n} {shown = shown} {a = a} {m = m}
         is ∙ front_is want n shown xs (front xs told) within,
       );
     }
+
+-- the front of what was lent is the input's own, as all of that is
+pub front_is_of_input : {want n : ℕ} {shown content : Bor (List ℕ)} {a m b : View}
+    → Shows shown.now a m → Told a.told (IsFront want shown.now) → n ≤ length shown.now
+    → IsPart (Long shown) a → place_of content ≡ place_of shown → content.now ≡ take n shown.now
+    → Advances n m b → IsOfInput content a b
+front_is_of_input {want = want} {n = n} {shown = shown} s front within part same is adv xs told end
+    ends ys left =
+        let e : ys ≡ drop n xs = let d = adv.told xs (s.told xs told) in cc in
+        part end (sym (adv.ends_at ∙ s.ends_at) ∙ ends) xs told
+        ∙ ap₂ (λ i j. (i, j)) (sym (ap (λ (p : ℕ × ℕ). p.0) same))
+        (omega (arith, ap (λ (p : ℕ × ℕ). p.1) same, ap length is,
+        length-take-le n shown.now within, ap length e, length-drop n xs, within,
+        (front xs told).within))
 
 pub first_bytes : (k : ℕ) (bs : List ℕ) → ((i : ℕ) → get_or bs i 0 < 256) → IsBytes (take k bs)
 first_bytes zero bs f = tt

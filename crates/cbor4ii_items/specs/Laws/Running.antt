@@ -65,6 +65,7 @@ kept_alike a = record {
   failures = refl;
   lends_whole = λ h. h;
   remembers = λ h. h;
+  ends_at = refl;
 }
 
 pub runs_give : {V E : Type 0} (v : V) (a : View) → Runs {E = E} (give v) a a (Ok v)
@@ -113,6 +114,7 @@ shows_kept {a = a} {b = b} s = record {
   failures = s.failures;
   lends_whole = s.lends_whole;
   remembers = s.remembers;
+  ends_at = s.ends_at;
 }
 
 pub looked : (a b : View) (answer : Option (Bor (List ℕ))) (shown : Bor (List ℕ))
@@ -197,6 +199,7 @@ kept_taken {name = name} {expect = expect} {b = b} {a = a} {m = m} {c = c} p h a
   failures = adv.failures ∙ p.moves.by.failures;
   lends_whole = λ h. adv.lends_whole (p.moves.by.lends_whole h);
   remembers = λ h. adv.remembers (p.moves.by.remembers h);
+  ends_at = adv.ends_at ∙ p.moves.by.ends_at;
 }
 
 pub runs_byte : {E : Type 0} {name : List ℕ} {expect b : ℕ} {a m c : View}

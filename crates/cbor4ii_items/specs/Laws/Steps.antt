@@ -84,6 +84,7 @@ kept_then {a = a} {b = b} {c = c} p q = record {
   failures = q.failures ∙ p.failures;
   lends_whole = λ h. q.lends_whole (p.lends_whole h);
   remembers = λ h. q.remembers (p.remembers h);
+  ends_at = q.ends_at ∙ p.ends_at;
 }
 
 broke_then : {a b c : View} → Kept a b → Broke b c → Broke a c
@@ -95,6 +96,7 @@ broke_then {a = a} {b = b} {c = c} p q = record {
   failures = rw p.failures at q.failures;
   lends_whole = λ h. q.lends_whole (p.lends_whole h);
   remembers = λ h. q.remembers (p.remembers h);
+  ends_at = q.ends_at ∙ p.ends_at;
 }
 
 by_failure : (t : Bool) (a b c : View) → Kept a b → MatchBool t (Broke b c) (Kept b c)

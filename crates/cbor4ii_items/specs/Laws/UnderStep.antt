@@ -60,6 +60,7 @@ module _ {a b c d : View} (i : KeepsAllButBudget a b) (o : KeepsAllButBudget c d
         λ h. subst IsTrue (sym o.lends_whole) (k.lends_whole (subst IsTrue (sym i.lends_whole) h));
     remembers =
         λ h. subst IsTrue (sym o.remembers) (k.remembers (subst IsTrue (sym i.remembers) h));
+    ends_at = o.ends_at ∙ (k.ends_at ∙ i.ends_at);
   }
 
   broke_around : (c.budget ≡ b.budget → d.budget ≡ a.budget) → Broke b c → Broke a d
@@ -76,6 +77,7 @@ module _ {a b c d : View} (i : KeepsAllButBudget a b) (o : KeepsAllButBudget c d
         λ h. subst IsTrue (sym o.lends_whole) (k.lends_whole (subst IsTrue (sym i.lends_whole) h));
     remembers =
         λ h. subst IsTrue (sym o.remembers) (k.remembers (subst IsTrue (sym i.remembers) h));
+    ends_at = o.ends_at ∙ (k.ends_at ∙ i.ends_at);
   }
 
   pub moves_around : (t : Bool) → (c.budget ≡ b.budget → d.budget ≡ a.budget)

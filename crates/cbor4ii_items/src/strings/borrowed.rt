@@ -1,7 +1,11 @@
 //! Borrowed strings, read: parts of the input, with no copy (RFC 8949 section 3.1).
-ghost use Rattle.std.specs.Prelude.{◌≡◌, true, false, codes};
+ghost use Rattle.std.specs.Prelude.{◌≡◌, ◌+◌, ◌≤◌, true, false, codes, OnOk, IfOk, IfErr, IsTrue};
+ghost use Rattle.cbor4ii_items.specs.Decoding.{IsExact, Sound, Refuses, Stops};
 ghost use Rattle.cbor4ii_items.specs.Lent.{ReadsLent, StopsLent, BeginsLent, lent_str, lent_bytes};
-ghost use Rattle.cbor4ii_items.specs.Lent.{lent_unchecked};
+ghost use Rattle.cbor4ii_items.specs.Lent.{lent_unchecked, IsOfInput, stands_anywhere};
+ghost use Rattle.cbor4ii_items.specs.Lent.{bytes_stand, unchecked_stands};
+ghost use Rattle.cbor4ii_items.specs.Moves.{Moves};
+ghost use Rattle.cbor4ii_items.specs.Refusal.{is_out_of_memory};
 ghost use Rattle.cbor4ii_items.specs.Laws.Lent.{lent_one, lent_within, lent_positive, lent_alone};
 ghost use Rattle.cbor4ii_items.specs.Laws.Strings.{two_small, three_small};
 
@@ -45,6 +49,8 @@ impl<'de, R: Read<'de>> Lend<R> for &'de str {
     ghost major = { 3 };
 
     ghost is_text = { true };
+
+    ghost stands = { stands_anywhere };
 
     fn name() -> StaticStr {
         "str"
@@ -117,6 +123,8 @@ impl<'de, R: Read<'de>> Lend<R> for Bytes<&'de [u8]> {
 
     ghost is_text = { false };
 
+    ghost stands = { bytes_stand };
+
     fn name() -> StaticStr {
         "bytes"
     }
@@ -135,7 +143,8 @@ impl<'de, R: Read<'de>> Lend<R> for Bytes<&'de [u8]> {
 
 /// A byte string, of known length, as it stands in the input, with no copy (RFC 8949 section 3.1).
 /// It is read only where one fill lends all of its bytes as long as the input lives. No step is
-/// taken and no memory.
+/// taken and no memory. It is the input's own part: what is left begins right behind it, where the
+/// reader tells the place of its end.
 ///
 /// Refusals, in this order, by the name "bytes":
 ///
@@ -144,7 +153,22 @@ impl<'de, R: Read<'de>> Lend<R> for Bytes<&'de [u8]> {
 /// - the bytes do not live as long as the input: `RequireBorrowed`, behind the head
 /// - fewer bytes are lent: `RequireLength` with their number, behind the head
 impl<'de, R: Read<'de>> Decode<R> for Bytes<&'de [u8]> {
-    fn decode(alloc: Global, reader: &mut R) -> Result<Bytes<&'de [u8]>, DecodeError<R::Error>> {
+    fn decode(alloc: Global, reader: &mut R) -> Result<Bytes<&'de [u8]>, DecodeError<R::Error>>
+        ensures place { IfOk result (λ v. IsOfInput v.0 (R.view reader.old) (R.view reader.new)) }
+        ensures moves { Moves (R.view reader.old) (R.view reader.new) result }
+        ensures progress { IsTrue true →
+            OnOk result ((R.view reader.new).bound + 1 ≤ (R.view reader.old).bound) }
+        ensures memory { IfErr result (λ error. IsTrue (is_out_of_memory error) → IsTrue false) }
+        ensures sound { IfOk result
+            (Sound (ReadsLent 2 false lent_bytes) (R.view reader.old) (R.view reader.new)) }
+        ensures complete { IsExact false (R.view reader.old) →
+            IfErr result (Refuses (ReadsLent 2 false lent_bytes) (R.view reader.old)) }
+        ensures stops { IsExact false (R.view reader.old) →
+            IfErr result (Stops (StopsLent (codes "bytes") 2 false)
+            (R.view reader.old) (R.view reader.new)) }
+        ensures begins { IfErr result (Stops (BeginsLent (codes "bytes") 2 false)
+            (R.view reader.old) (R.view reader.new)) }
+    {
         take_lent(alloc, reader)
     }
 
@@ -190,6 +214,8 @@ impl<'de, R: Read<'de>> Lend<R> for UncheckedStr<&'de [u8]> {
 
     ghost is_text = { false };
 
+    ghost stands = { unchecked_stands };
+
     fn name() -> StaticStr {
         "str"
     }
@@ -208,7 +234,7 @@ impl<'de, R: Read<'de>> Lend<R> for UncheckedStr<&'de [u8]> {
 
 /// A text string, whatever its bytes, of known length, as it stands in the input, with no copy (RFC
 /// 8949 section 3.1). It is read only where one fill lends all of its bytes as long as the input
-/// lives. No step is taken and no memory.
+/// lives. No step is taken and no memory. It is the input's own part, as a byte string is.
 ///
 /// Refusals, in this order, by the name "str":
 ///
@@ -220,7 +246,22 @@ impl<'de, R: Read<'de>> Decode<R> for UncheckedStr<&'de [u8]> {
     fn decode(
         alloc: Global,
         reader: &mut R,
-    ) -> Result<UncheckedStr<&'de [u8]>, DecodeError<R::Error>> {
+    ) -> Result<UncheckedStr<&'de [u8]>, DecodeError<R::Error>>
+        ensures place { IfOk result (λ v. IsOfInput v.0 (R.view reader.old) (R.view reader.new)) }
+        ensures moves { Moves (R.view reader.old) (R.view reader.new) result }
+        ensures progress { IsTrue true →
+            OnOk result ((R.view reader.new).bound + 1 ≤ (R.view reader.old).bound) }
+        ensures memory { IfErr result (λ error. IsTrue (is_out_of_memory error) → IsTrue false) }
+        ensures sound { IfOk result
+            (Sound (ReadsLent 3 false lent_unchecked) (R.view reader.old) (R.view reader.new)) }
+        ensures complete { IsExact false (R.view reader.old) →
+            IfErr result (Refuses (ReadsLent 3 false lent_unchecked) (R.view reader.old)) }
+        ensures stops { IsExact false (R.view reader.old) →
+            IfErr result (Stops (StopsLent (codes "str") 3 false)
+            (R.view reader.old) (R.view reader.new)) }
+        ensures begins { IfErr result (Stops (BeginsLent (codes "str") 3 false)
+            (R.view reader.old) (R.view reader.new)) }
+    {
         take_lent(alloc, reader)
     }
 

@@ -4,7 +4,10 @@ ghost use mathlib.Core.Path.{refl};
 ghost use Rattle.std.specs.Cow.{IsBorrowedStr, IsOwnedStr};
 ghost use Rattle.cbor4ii_items.specs.Cow.{BorrowsWhereCounted, cow_text, cow_bytes, cow_unchecked};
 ghost use Rattle.cbor4ii_items.specs.Cow.{IsBorrowedBytes, IsOwnedBytes, IsBorrowedUnchecked};
-ghost use Rattle.cbor4ii_items.specs.Cow.{IsOwnedUnchecked, nothing_to_test};
+ghost use Rattle.cbor4ii_items.specs.Cow.{IsOwnedUnchecked, nothing_to_test, cow_bytes_stand};
+ghost use Rattle.cbor4ii_items.specs.Cow.{cow_unchecked_stands, owned_stands};
+ghost use Rattle.cbor4ii_items.specs.Lent.{stands_anywhere};
+ghost use Rattle.cbor4ii_rw.specs.View.{Told};
 ghost use Rattle.cbor4ii_items.specs.Decoding.{IsExact, Sound, Refuses, Stops};
 ghost use Rattle.cbor4ii_items.specs.Moves.{Moves};
 ghost use Rattle.cbor4ii_items.specs.Refusal.{is_out_of_memory};
@@ -54,6 +57,8 @@ impl<'de, R: Read<'de>> LendOrOwn<R> for CowStr<'de, Global> {
 
     ghost IsOwned = { IsOwnedStr };
 
+    ghost stands = { stands_anywhere };
+
     ghost name = { codes "str" };
 
     ghost major = { 3 };
@@ -81,6 +86,8 @@ impl<'de, R: Read<'de>> LendOrOwn<R> for CowStr<'de, Global> {
             Err(_) => None,
         }
     }
+
+    ghost owned_stands = { λ v view owned. tt };
 
     ghost small = { three_small };
 
@@ -163,6 +170,8 @@ impl<'de, R: Read<'de>> LendOrOwn<R> for Bytes<CowSlice<'de, u8, Global>> {
 
     ghost IsOwned = { IsOwnedBytes };
 
+    ghost stands = { cow_bytes_stand };
+
     ghost name = { codes "bytes" };
 
     ghost major = { 2 };
@@ -191,6 +200,8 @@ impl<'de, R: Read<'de>> LendOrOwn<R> for Bytes<CowSlice<'de, u8, Global>> {
         Some(Bytes(CowSlice::Owned(copy)))
     }
 
+    ghost owned_stands = { λ v view owned. owned_stands v.0 view owned };
+
     ghost small = { two_small };
 
     ghost text = { nothing_to_test };
@@ -216,6 +227,8 @@ impl<'de, R: Read<'de>> Decode<R> for Bytes<CowSlice<'de, u8, Global>> {
         alloc: Global,
         reader: &mut R,
     ) -> Result<Bytes<CowSlice<'de, u8, Global>>, DecodeError<R::Error>>
+        ensures place { IfOk result (λ v. Told (R.view reader.old).told
+            (λ _. cow_bytes_stand v (R.view reader.new))) }
         ensures moves { Moves (R.view reader.old) (R.view reader.new) result }
         ensures progress { IsTrue true →
             OnOk result ((R.view reader.new).bound + 1 ≤ (R.view reader.old).bound) }
@@ -275,6 +288,8 @@ impl<'de, R: Read<'de>> LendOrOwn<R> for UncheckedStr<CowSlice<'de, u8, Global>>
 
     ghost IsOwned = { IsOwnedUnchecked };
 
+    ghost stands = { cow_unchecked_stands };
+
     ghost name = { codes "str" };
 
     ghost major = { 3 };
@@ -303,6 +318,8 @@ impl<'de, R: Read<'de>> LendOrOwn<R> for UncheckedStr<CowSlice<'de, u8, Global>>
         Some(UncheckedStr(CowSlice::Owned(copy)))
     }
 
+    ghost owned_stands = { λ v view owned. owned_stands v.0 view owned };
+
     ghost small = { three_small };
 
     ghost text = { λ _. refl };
@@ -328,6 +345,8 @@ impl<'de, R: Read<'de>> Decode<R> for UncheckedStr<CowSlice<'de, u8, Global>> {
         alloc: Global,
         reader: &mut R,
     ) -> Result<UncheckedStr<CowSlice<'de, u8, Global>>, DecodeError<R::Error>>
+        ensures place { IfOk result (λ v. Told (R.view reader.old).told
+            (λ _. cow_unchecked_stands v (R.view reader.new))) }
         ensures moves { Moves (R.view reader.old) (R.view reader.new) result }
         ensures progress { IsTrue true →
             OnOk result ((R.view reader.new).bound + 1 ≤ (R.view reader.old).bound) }

@@ -3,10 +3,11 @@ ghost use Rattle.std.specs.Prelude.{◌≡◌, ℕ, ◌+◌, ◌≤◌, ◌<◌,
 ghost use Rattle.std.specs.Prelude.{IfErr, IsTrue, IsUtf8, true, false};
 ghost use Rattle.cbor4ii_items.specs.Decoding.{IsExact, Sound, Refuses, Stops};
 ghost use Rattle.cbor4ii_items.specs.Lent.{ReadsLent, StopsLent, BeginsLent, Lends, LacksContent};
-ghost use Rattle.cbor4ii_items.specs.Lent.{Named};
+ghost use Rattle.cbor4ii_items.specs.Lent.{Named, IsOfInput};
 ghost use Rattle.cbor4ii_items.specs.Head.{IsBytes};
 ghost use Rattle.cbor4ii_items.specs.Moves.{Moves};
 ghost use Rattle.cbor4ii_items.specs.Refusal.{is_out_of_memory};
+ghost use Rattle.cbor4ii_rw.specs.View.{View, Told, place_of};
 
 use crate::head::lone_head;
 use cbor4ii_rw::ask::lend;
@@ -43,6 +44,9 @@ pub(crate) trait Lend<S: Source>: Sized {
     // The content is to be UTF-8.
     ghost is_text: { Bool };
 
+    // Where the value stands: before what a reader has left.
+    ghost stands: { Self → View → Type 0 };
+
     fn name() -> StaticStr
         ensures { result.now ≡ name };
 
@@ -54,6 +58,8 @@ pub(crate) trait Lend<S: Source>: Sized {
         ensures lent { IfOk result
             (λ v. Lends count (content v) (S.view reader.old) (S.view reader.new)) }
         ensures utf8 { IfOk result (λ v. IsTrue is_text → IsUtf8 (content v)) }
+        ensures place { IfOk result
+            (λ v. Told (S.view reader.old).told (λ _. stands v (S.view reader.new))) }
         ensures lacks { IfErr result
             (LacksContent count is_text (S.view reader.old) (S.view reader.new)) };
 }
@@ -63,6 +69,8 @@ pub(crate) fn take_lent<T: Lend<S>, S: Source>(
     alloc: Global,
     reader: &mut S,
 ) -> Result<T, DecodeError<S::Error>>
+    ensures place { IfOk result
+        (λ v. Told (S.view reader.old).told (λ _. T.stands v (S.view reader.new))) }
     ensures moves { Moves (S.view reader.old) (S.view reader.new) result }
     ensures progress { IsTrue true →
         OnOk result ((S.view reader.new).bound + 1 ≤ (S.view reader.old).bound) }
@@ -103,6 +111,8 @@ pub(crate) fn lend_content<'de, R: Read<'de>>(
 ) -> Result<&'de [u8], Lacks<R::Error>>
     ensures lent { IfOk result
         (λ content. Lends count content.now (R.view reader.old) (R.view reader.new)) }
+    ensures place { IfOk result
+        (λ content. IsOfInput content (R.view reader.old) (R.view reader.new)) }
     ensures lacks { IfErr result
         (LacksContent count false (R.view reader.old) (R.view reader.new)) }
 {
@@ -144,6 +154,7 @@ pub(crate) fn lend_text<'de, R: Read<'de>>(
 fn front(shown: &[u8], count: usize) -> &[u8]
     requires { count ≤ length shown.now }
     ensures value { result.now ≡ take count shown.now }
+    ensures place { place_of result ≡ place_of shown.entry }
     ensures bytes { IsBytes (take count shown.now) }
 {
     &shown[..count]

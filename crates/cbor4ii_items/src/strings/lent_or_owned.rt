@@ -8,6 +8,7 @@ ghost use Rattle.cbor4ii_items.specs.Lent.{Lends, LacksContent};
 ghost use Rattle.cbor4ii_items.specs.Moves.{Moves};
 ghost use Rattle.cbor4ii_items.specs.ReadStrings.{content_on, string_at};
 ghost use Rattle.cbor4ii_items.specs.Refusal.{is_out_of_memory};
+ghost use Rattle.cbor4ii_rw.specs.View.{View, Told};
 
 use crate::head::length;
 use crate::strings::chunks::take_chunks;
@@ -30,6 +31,9 @@ pub(crate) trait LendOrOwn<S: Source>: Sized {
     // The value has a content of its own.
     ghost IsOwned: { Self → Type 0 };
 
+    // Where a value that is a part of the input stands: before what a reader has left.
+    ghost stands: { Self → View → Type 0 };
+
     // The name in refusals.
     ghost name: { List ℕ };
 
@@ -50,6 +54,8 @@ pub(crate) trait LendOrOwn<S: Source>: Sized {
             (λ v. Lends count (content v) (S.view reader.old) (S.view reader.new)) }
         ensures utf8 { IfOk result (λ v. IsTrue is_text → IsUtf8 (content v)) }
         ensures borrowed { IfOk result IsBorrowed }
+        ensures place { IfOk result
+            (λ v. Told (S.view reader.old).told (λ _. stands v (S.view reader.new))) }
         ensures lacks { IfErr result
             (LacksContent count is_text (S.view reader.old) (S.view reader.new)) };
 
@@ -57,6 +63,9 @@ pub(crate) trait LendOrOwn<S: Source>: Sized {
     fn own(copy: Vec<u8>) -> Option<Self>
         ensures holds { Holds is_text content copy.items result }
         ensures owned { IfSome result IsOwned };
+
+    // Of a value that has a content of its own nothing is owed.
+    ghost owned_stands: { (v : Self) (view : View) → IsOwned v → stands v view };
 
     // There are eight major types.
     ghost small: { major < 8 };
@@ -70,6 +79,8 @@ pub(crate) fn take_cow<T: LendOrOwn<S>, S: Source>(
     alloc: Global,
     reader: &mut S,
 ) -> Result<T, DecodeError<S::Error>>
+    ensures place { IfOk result
+        (λ v. Told (S.view reader.old).told (λ _. T.stands v (S.view reader.new))) }
     ensures moves { Moves (S.view reader.old) (S.view reader.new) result }
     ensures progress { IsTrue true →
         OnOk result ((S.view reader.new).bound + 1 ≤ (S.view reader.old).bound) }
@@ -103,6 +114,8 @@ fn take_either<T: LendOrOwn<S>, S: Source>(
     ensures progress { OnOk result ((S.view reader.new).bound + 1 ≤ (S.view reader.old).bound) }
     ensures borrows { IfOk result (λ value. IfSome value
         (BorrowsWhereCounted T.major T.IsBorrowed T.IsOwned (S.view reader.old))) }
+    ensures place { IfOk result (λ value. IfSome value
+        (λ v. Told (S.view reader.old).told (λ _. T.stands v (S.view reader.new)))) }
 {
     match length(reader, T::name(), T::major())? {
         Some(count) => lend_or_copy(alloc, reader, count),
@@ -120,6 +133,8 @@ fn lend_or_copy<T: LendOrOwn<S>, S: Source>(
         (S.view reader.old) (S.view reader.new) result }
     ensures borrows { IfOk result (λ value. IfSome value
         (IsBorrowedWhereWhole T.IsBorrowed (S.view reader.old))) }
+    ensures place { IfOk result (λ value. IfSome value
+        (λ v. Told (S.view reader.old).told (λ _. T.stands v (S.view reader.new)))) }
 {
     match T::lend_from(reader, count) {
         Ok(value) => Ok(Some(value)),
@@ -138,6 +153,7 @@ fn copy<T: LendOrOwn<S>, S: Source>(
 ) -> Result<Option<T>, DecodeError<S::Error>>
     ensures takes { TakesContent (content_on T.name count []) T.is_text T.content
         (S.view reader.old) (S.view reader.new) result }
+    ensures owned { IfOk result (λ value. IfSome value T.IsOwned) }
 {
     Ok(T::own(take_known(alloc, reader, T::name(), count)?))
 }

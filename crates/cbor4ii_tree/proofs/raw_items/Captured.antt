@@ -79,6 +79,7 @@ shows_on s same budget = record {
   taken = same.taken ∙ s.taken;
   lends_whole = λ h. subst IsTrue (sym same.lends_whole) (s.lends_whole h);
   remembers = λ h. subst IsTrue (sym same.remembers) (s.remembers h);
+  ends_at = same.ends_at ∙ s.ends_at;
 }
 
 pub captured : {V : Type 0} (content : V → List ℕ) {w : V} {lent shown : List ℕ} {n : ℕ}
@@ -169,6 +170,7 @@ module _ (a b : View) where
     failures = p.failures;
     lends_whole = p.lends_whole;
     remembers = p.remembers;
+    ends_at = p.ends_at;
   }
 
   as_failed : (t : Bool) → t ≡ true → Broke a b → MatchBool t (Broke a b) (Kept a b)
@@ -405,6 +407,7 @@ lends_short a b answer lent shown e f shows front long some =
         taken = s.taken;
         lends_whole = s.lends_whole;
         remembers = s.remembers;
+        ends_at = s.ends_at;
       };
       short = λ whole. absurd (subst IsLong f (long whole));
     }

@@ -56,6 +56,7 @@ alike_within s v = record {
   taken = refl;
   lends_whole = refl;
   remembers = refl;
+  ends_at = refl;
 }
 
 pub alike_without : (s : Budget) (v : View) → KeepsAllButBudget (budgeted s v) v
@@ -67,6 +68,7 @@ alike_without s v = record {
   taken = refl;
   lends_whole = refl;
   remembers = refl;
+  ends_at = refl;
 }
 
 alike_both : (s u : Budget) (v : View) → KeepsAllButBudget (budgeted s v) (budgeted u v)
@@ -78,6 +80,7 @@ alike_both s u v = record {
   taken = refl;
   lends_whole = refl;
   remembers = refl;
+  ends_at = refl;
 }
 
 -- what leads from one view to another leads so under any budget

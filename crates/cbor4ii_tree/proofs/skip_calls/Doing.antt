@@ -254,6 +254,7 @@ kept_budget a b k same = record {
   failures = k.failures;
   lends_whole = λ h. subst IsTrue (sym k.lends_whole) h;
   remembers = λ h. subst IsTrue (sym k.remembers) h;
+  ends_at = k.ends_at;
 }
 
 -- no step is left

@@ -144,6 +144,7 @@ keeps_alike a b same = record {
   taken = ap (λ (v : View). v.taken) same;
   lends_whole = ap (λ (v : View). v.lends_whole) same;
   remembers = ap (λ (v : View). v.remembers) same;
+  ends_at = ap (λ (v : View). v.ends_at) same;
 }
 
 pub keeps_then : {a b c : View} → KeepsAllButBudget a b → KeepsAllButBudget b c
@@ -157,4 +158,5 @@ keeps_then p q = record {
       ∙ p.taken;
   lends_whole = q.lends_whole ∙ p.lends_whole;
   remembers = q.remembers ∙ p.remembers;
+  ends_at = q.ends_at ∙ p.ends_at;
 }

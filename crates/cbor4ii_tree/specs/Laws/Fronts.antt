@@ -23,4 +23,5 @@ lent_moved bytes old new k = record {
   taken = refl;
   lends_whole = refl;
   remembers = refl;
+  ends_at = refl;
 }

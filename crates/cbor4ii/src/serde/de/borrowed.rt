@@ -1,15 +1,20 @@
 //! Strings that are borrowed from the input. Each reader of `cbor4ii_rw` has them by name.
-ghost use Rattle.std.specs.Prelude.{◌+◌, ◌≤◌, true, false, codes, OnOk, IfErr, IsErr};
+ghost use Rattle.std.specs.Prelude.{◌≡◌, ◌+◌, ◌≤◌, true, false, codes, OnOk, IfOk, IfErr, IsErr};
+ghost use Rattle.std.specs.Prelude.{IsOkAnd, IsTrue};
 ghost use Rattle.std.specs.Cow.{IsBorrowedStr, IsOwnedStr};
+ghost use Rattle.std.specs.declared.borrow.CowSlice.TheVariants.{Borrowed};
+ghost use Rattle.cbor4ii_rw.specs.Slice.{slice_view};
 ghost use Rattle.cbor4ii_items.specs.Cow.{cow_text, cow_bytes, IsBorrowedBytes, IsOwnedBytes};
-ghost use Rattle.cbor4ii_items.specs.Decoding.{Stops};
-ghost use Rattle.cbor4ii_items.specs.Lent.{ReadsLent, lent_str, lent_bytes};
+ghost use Rattle.cbor4ii_items.specs.Decoding.{IsExact, Sound, Refuses, Stops};
+ghost use Rattle.cbor4ii_items.specs.Lent.{ReadsLent, IsOfInput, lent_str, lent_bytes};
+ghost use Rattle.cbor4ii_items.specs.Moves.{Moves};
+ghost use Rattle.cbor4ii_items.specs.Refusal.{is_out_of_memory};
 ghost use Rattle.cbor4ii_items.specs.Laws.Lent.{lent_one, lent_within, lent_positive};
 ghost use Rattle.cbor4ii_items.specs.Laws.Strings.{two_small, three_small};
 ghost use Rattle.cbor4ii_items.specs.Strings.{ReadsAs, ReadsTextAs, StopsString, StopsText};
 ghost use Rattle.cbor4ii.specs.Borrowed.{Borrows, RefusesCopy, StopsUnlent};
 ghost use Rattle.cbor4ii.specs.ItemRead.{ReadsItem};
-ghost use Rattle.cbor4ii.specs.Typed.{input, as_core};
+ghost use Rattle.cbor4ii.specs.Typed.{input, as_core, answer_of};
 
 use crate::serde::de::deserialize::{Deserialize, Typed};
 use crate::serde::de::deserializer::Deserializer;
@@ -136,12 +141,29 @@ impl<'de> Typed for Bytes<&'de [u8]> {
 }
 
 /// A byte string of known length, as it stands in the input: as a borrowed text, by the name
-/// "bytes".
+/// "bytes". It is the input's own part: what is left begins right behind it.
 impl<'de> Deserialize<SliceReader<'de>> for Bytes<&'de [u8]> {
     fn deserialize(
         alloc: Global,
         de: &mut Deserializer<SliceReader<'de>>,
-    ) -> Result<Bytes<&'de [u8]>, DecodeError<Never>> {
+    ) -> Result<Bytes<&'de [u8]>, DecodeError<Never>>
+        ensures place { IfOk result
+            (λ v. IsOfInput v.0 (input slice_view de.old) (input slice_view de.new)) }
+        ensures moves { Moves (input slice_view de.old) (input slice_view de.new)
+            (answer_of result) }
+        ensures progress { OnOk result
+            ((input slice_view de.new).bound + 1 ≤ (input slice_view de.old).bound) }
+        ensures memory { IfErr result
+            (λ error. IsTrue (is_out_of_memory (as_core error)) → IsTrue true) }
+        ensures sound { IfOk result (Sound (ReadsLent 2 false lent_bytes)
+            (input slice_view de.old) (input slice_view de.new)) }
+        ensures complete { IsTrue true → IsExact false (input slice_view de.old) →
+            IfErr result (λ error.
+            Refuses (ReadsLent 2 false lent_bytes) (input slice_view de.old) (as_core error)) }
+        ensures stops { IsTrue true → IfErr result (λ error. Stops
+            (StopsUnlent (codes "bytes") (ReadsAs 2 cow_bytes) (StopsString (codes "bytes") 2))
+            (input slice_view de.old) (input slice_view de.new) (as_core error)) }
+    {
         let found = <Bytes<CowSlice<'de, u8, Global>>>::decode(alloc, &mut de.reader);
         lent_slice(found)
     }
@@ -190,8 +212,9 @@ impl<'de, R: BufRead + Drop> Deserialize<IoReader<R>> for Bytes<&'de [u8]> {
 fn lent_slice<'de, E>(
     found: Result<Bytes<CowSlice<'de, u8, Global>>, core_error::DecodeError<E>>,
 ) -> Result<Bytes<&'de [u8]>, DecodeError<E>>
-    ensures { Borrows cow_bytes lent_bytes IsBorrowedBytes IsOwnedBytes (codes "bytes")
+    ensures borrows { Borrows cow_bytes lent_bytes IsBorrowedBytes IsOwnedBytes (codes "bytes")
         found.entry result }
+    ensures part { IfOk result (λ w. IsOkAnd found.entry (λ v. v.0 ≡ Borrowed w.0)) }
 {
     match found {
         Ok(Bytes(CowSlice::Borrowed(bytes))) => Ok(Bytes(bytes)),

@@ -58,7 +58,7 @@ use Rattle.cbor4ii_rw.specs.contracts.read.Reference as RF
 use Rattle.cbor4ii_rw.proofs.read.Reference.TheLaws as RFL
 use Rattle.cbor4ii_rw.specs.View.{Told}
 use Rattle.cbor4ii_rw.specs.Reader.{IsFront, IsEnough, Shows, Breaks}
-use Rattle.cbor4ii_rw.specs.Reference.{bytes_of, IsLong}
+use Rattle.cbor4ii_rw.specs.Reference.{bytes_of, IsLong, IsPart}
 use Rattle.cbor4ii_rw.specs.Parted.{Parts}
 use Rattle.cbor4ii_rw.proofs.Parted.{is_option, at_option, slot_kept, error_kept, leaves}
 use Rattle.cbor4ii_rw.proofs.Results.{nm, RR, Filled, filled_result}
@@ -190,6 +190,9 @@ module _ (R E : RattleType) (gR : Read.Ghosts R.Denot E.Denot) (dR : Dict)
   abbrev Lasting : R.Denot → Result Reference E.Denot → Type 0
   Lasting x r = IsTrue (gS.view x).lends_whole → IfOk r IsLong
 
+  abbrev Placed : R.Denot → Result Reference E.Denot → Type 0
+  Placed x r = IfOk r (λ shown. IsPart shown (gS.view x))
+
   abbrev Left : R.Denot → R.Denot → Result Reference E.Denot → Type 0
   Left x new r = MatchResult r (λ shown. Shows (bytes_of shown) (gS.view x) (gS.view new))
       (λ _. Breaks (gS.view x) (gS.view new))
@@ -264,13 +267,15 @@ module _ (R E : RattleType) (gR : Read.Ghosts R.Denot E.Denot) (dR : Dict)
       (lasts (M.ended R E gR dR gS dS gD dD dX (method_P R E gR dR gS dS gD dD dX Pp κ2)) z1.0.0
       z1.0.3 ws)
       ⊛ raw (fact 𝓤 (Front want x r)) ⊛ raw (fact 𝓤 (Bounded x r)) ⊛ raw (fact 𝓤 (Whole want x r)) ⊛
-      raw (fact 𝓤 (Lasting x r)) ⊛ ‵ (Rests P' self (λ new. Left x new r)))))) (id⊢ 𝓤 _) $
+      raw (fact 𝓤 (Lasting x r)) ⊛ raw (fact 𝓤 (Placed x r)) ⊛
+      ‵ (Rests P' self (λ new. Left x new r)))))) (id⊢ 𝓤 _) $
       await ! tt $ pick ! (λ r. split ! $ split ! $ move ! (1 ∷ []) $
       peeks ! (Filled E κ2 κ0) _ (shows 𝓛 (Filled E κ2 κ0)) r (v1 ∷ []) (λ is.
       lands_as ! refl refl ((filled_result E LE 𝓛 κ2 κ0).typed r (v1 ∷ []) is).0 $
       move ! (2 ∷ []) $ pick ! (λ ws. split ! $ drop ! $ split3 ! $
       heard ! (Front want x r) (λ front. heard ! (Bounded x r) (λ bounded. split3 ! $
-      heard ! (Whole want x r) (λ whole. heard ! (Lasting x r) (λ lasting. fpick ! (λ s.
+      heard ! (Whole want x r) (λ whole. heard ! (Lasting x r) (λ lasting.
+      split ! $ heard ! (Placed x r) (λ placed. fpick ! (λ s.
       -- [resγ; the result; the tokens; κ1; the slot]
       sets ! (addr ! (through ! refl (stop !))) refl (tt, tt) $
       let met : Lft = κ2 ++ κ0 in let share : Share = (common q2 q0).0 in let Both : SProp 𝓤 = sep 𝓤
@@ -316,6 +321,7 @@ module _ (R E : RattleType) (gR : Read.Ghosts R.Denot E.Denot) (dR : Dict)
       let same = is_option r slot.now ws2.1.0 t parted in
       let shown_front = λ (sh : Reference). Told (gS.view x).told (IsFront want (bytes_of sh)) in
       let shown_enough = λ (sh : Reference). Told (gS.view x).told (IsEnough want (bytes_of sh)) in
+      let shown_placed = λ (sh : Reference). IsPart sh (gS.view x) in
       let shown_bounded = λ (sh : Reference). length (bytes_of sh) ≤ (gS.view x).bound in
       fsplit3 ! $ move ! (1 ∷ 2 ∷ []) $ fjoin ! $ nothing ! $ fjoin ! $ nothing ! $ fjoin ! $
       move ! (0 ∷ 2 ∷ []) $ join ! $
@@ -337,6 +343,8 @@ module _ (R E : RattleType) (gR : Read.Ghosts R.Denot E.Denot) (dR : Dict)
       use0 𝓛 (raw (fact 𝓤 (OnSome t (ws2.1.0 ≡ slot.now))))
       (fact_i 𝓤 (OnSome t (ws2.1.0 ≡ slot.now)) (emp 𝓤) (slot_kept r slot.now ws2.1.0 t parted))
       $ join ! $
+      use0 𝓛 (raw (fact 𝓤 (IfSome t shown_placed))) (fact_i 𝓤 (IfSome t shown_placed) (emp 𝓤)
+      (subst (λ u. IfSome u shown_placed) (sym same) (at_option shown_placed r placed))) $ join ! $
       use0 𝓛 (raw (fact 𝓤 (IsTrue (gS.view x).lends_whole → IfSome t IsLong)))
       (fact_i 𝓤 (IsTrue (gS.view x).lends_whole → IfSome t IsLong) (emp 𝓤)
       (λ l. subst (λ u. IfSome u IsLong) (sym same) (at_option IsLong r (lasting l)))) $
@@ -353,7 +361,7 @@ module _ (R E : RattleType) (gR : Read.Ghosts R.Denot E.Denot) (dR : Dict)
       keep ! (1 ∷ 0 ∷ []) $
       suffices ! _ (ends_at 𝓛 (ended R E gR dR gS dS gD dD dX Pp) (stayed R E gR dR gS dS gD dD dX
       Pp) held (at y) v2 t (tt, (tt, (ws2.1.0, tt))) (tt, (tt, (tt, tt)))) $
-      join ! $ done !))))))))))))))))))
+      join ! $ done !)))))))))))))))))))
 
 pub lend_spec : {M' : Type 1} → stated.statement M'
 unfolding tables_of

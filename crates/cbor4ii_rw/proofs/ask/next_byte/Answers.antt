@@ -32,4 +32,5 @@ returns-clause-byte g c =
       taken = by.taken ∙ ap (counts 1) shows.taken;
       lends_whole = λ is. by.lends_whole (shows.lends_whole is);
       remembers = λ is. by.remembers (shows.remembers is);
+      ends_at = by.ends_at ∙ shows.ends_at;
     }

@@ -2,6 +2,8 @@ use Rattle.std.proofs.Common.{refl, sym, ◌∙◌}
 use Rattle.cbor4ii_items.specs.Numbers.{ReadsArgument}
 use Rattle.cbor4ii_items.proofs.Leaves.{sound_as}
 use Rattle.std.proofs.lemmas.Result.{err_from_is_err_and}
+use Rattle.cbor4ii_items.specs.Simple.{ReadsSimple}
+use Rattle.cbor4ii_items.specs.Laws.Answering.{refuses_as}
 use Rattle.cbor4ii_items.specs.Laws.Steps.{moves_ok, moves_err}
 use Rattle.cbor4ii_items.proofs.simple.SimpleDecode.decode.Goals as goal
 
@@ -54,3 +56,10 @@ returns-clause-stops g c exact = tt
 
 pub returns-clause-begins : goal.returns-clause-begins
 returns-clause-begins g c = tt
+
+pub returns-in_err-lone_head-clause-complete : goal.returns-in_err-lone_head-clause-complete
+returns-in_err-lone_head-clause-complete g c exact =
+    let p = err_from_is_err_and c.from_residual.result c.from_residual.ensures.1 in
+    rw (p.1, p.2)
+    (refuses_as (ReadsArgument 7 1) ReadsSimple (λ xs budget none v n c. none v.0 n c)
+    c.in_err-lone_head.ensures.complete)

@@ -1,7 +1,7 @@
 use Rattle.std.proofs.lemmas.Result.{err_from_is_err_and}
 use Rattle.cbor4ii_items.proofs.LentAnswers.{lent_moves, lent_sound, lent_refuses, lent_stops}
 use Rattle.cbor4ii_items.proofs.LentAnswers.{lent_begins, head_lends_none, head_stops_lent}
-use Rattle.cbor4ii_items.proofs.LentAnswers.{head_begins_lent}
+use Rattle.cbor4ii_items.proofs.LentAnswers.{head_begins_lent, lent_place}
 use Rattle.cbor4ii_items.proofs.strings.lent.take_lent.Goals as goal
 
 pub returns-in_err-count-clause-complete : goal.returns-in_err-count-clause-complete
@@ -54,3 +54,9 @@ returns-clause-begins g c =
     lent_begins _ _ _ _ _ g.T.Lend.content _ _ _ g.T.Lend.major c.lend_from.result c.named.result
     (rw c.name-2.ensures at c.named.ensures)
     (rw c.major.ensures.number at c.in_ok-count.ensures.sound) c.lend_from.ensures.lacks
+
+pub returns-clause-place : goal.returns-clause-place
+returns-clause-place g c =
+    lent_place _ _ _ _ g.T.Lend.is_text g.T.Lend.content _ _ _ g.T.Lend.major g.T.Lend.stands c.lend_from.result c.named.result
+    c.named.ensures (rw c.major.ensures.number at c.in_ok-count.ensures.sound)
+    c.lend_from.ensures.place

@@ -52,7 +52,7 @@ use Rattle.cbor4ii_rw.specs.declared.read.Source as Source
 use Rattle.cbor4ii_rw.specs.declared.read.Reference.{Reference}
 use Rattle.cbor4ii_rw.specs.View.{Told}
 use Rattle.cbor4ii_rw.specs.Reader.{IsFront, IsEnough, Shows, Breaks}
-use Rattle.cbor4ii_rw.specs.Reference.{bytes_of, IsLong}
+use Rattle.cbor4ii_rw.specs.Reference.{bytes_of, IsLong, IsPart}
 use Rattle.cbor4ii_rw.proofs.Results.{Filled, filled_result}
 use Rattle.cbor4ii_rw.specs.contracts.read.Read.fill as M
 use Rattle.cbor4ii_rw.specs.contracts.by_ref.RefMutRead.fill as F
@@ -133,6 +133,9 @@ module _ (R E : RattleType) (gR : Read.Ghosts R.Denot E.Denot) (dR : Dict)
   abbrev Lasting : R.Denot → Result Reference E.Denot → Type 0
   Lasting x r = IsTrue (gS.view x).lends_whole → IfOk r IsLong
 
+  abbrev Placed : R.Denot → Result Reference E.Denot → Type 0
+  Placed x r = IfOk r (λ shown. IsPart shown (gS.view x))
+
   abbrev Left : R.Denot → R.Denot → Result Reference E.Denot → Type 0
   Left x new r = MatchResult r (λ shown. Shows (bytes_of shown) (gS.view x) (gS.view new))
       (λ _. Breaks (gS.view x) (gS.view new))
@@ -212,13 +215,15 @@ module _ (R E : RattleType) (gR : Read.Ghosts R.Denot E.Denot) (dR : Dict)
       (lasts (M.ended R E gR dR gS dS gD dD dX (method_P R E gR dR gS dS gD dD dX Pp κ2)) z1.0.0
       z1.0.3 ws)
       ⊛ raw (fact 𝓤 (Front want x r)) ⊛ raw (fact 𝓤 (Bounded x r)) ⊛ raw (fact 𝓤 (Whole want x r)) ⊛
-      raw (fact 𝓤 (Lasting x r)) ⊛ ‵ (Rests P' loan (λ new. Left x new r)))))) (id⊢ 𝓤 _) $
+      raw (fact 𝓤 (Lasting x r)) ⊛ raw (fact 𝓤 (Placed x r)) ⊛
+      ‵ (Rests P' loan (λ new. Left x new r)))))) (id⊢ 𝓤 _) $
       await ! tt $ pick ! (λ r. split ! $ split ! $ move ! (1 ∷ []) $
       peeks ! (Filled E κ2 κ0) _ (shows 𝓛 (Filled E κ2 κ0)) r (v ∷ []) (λ is.
       lands_as ! refl refl ((filled_result E LE 𝓛 κ2 κ0).typed r (v ∷ []) is).0 $
       move ! (2 ∷ []) $ pick ! (λ ws. split ! $ drop ! $ split3 ! $
       heard ! (Front want x r) (λ front. heard ! (Bounded x r) (λ bounded. split3 ! $
-      heard ! (Whole want x r) (λ whole. heard ! (Lasting x r) (λ lasting. fpick ! (λ s.
+      heard ! (Whole want x r) (λ whole. heard ! (Lasting x r) (λ lasting.
+      split ! $ heard ! (Placed x r) (λ placed. fpick ! (λ s.
       -- [what is said of the loan; the result; the tokens; κ1; how self follows]
       let new : (In' κ1).Denot = at_last h s.0.1 in
       move ! (4 ∷ 0 ∷ []) $ use2 𝓛 (‵ (fres γ ((In' κ1).coded.code new)))
@@ -230,6 +235,7 @@ module _ (R E : RattleType) (gR : Read.Ghosts R.Denot E.Denot) (dR : Dict)
       fpack ! ((u : ((In' κ1).Denot → (In' κ1).Denot) × (In' κ1).Denot) × ((In' κ1).Denot → ⊤)
       × Left x u.1.now r) (λ u. fres γ ((In' κ1).coded.code u.0.1))
       (((λ _. new), new), (λ _. tt), s.2) $
+      use0 𝓛 (raw (fact 𝓤 (Placed x r))) (fact_i 𝓤 (Placed x r) (emp 𝓤) placed) $ join ! $
       use0 𝓛 (raw (fact 𝓤 (Lasting x r))) (fact_i 𝓤 (Lasting x r) (emp 𝓤) lasting) $ join ! $
       use0 𝓛 (raw (fact 𝓤 (Whole want x r))) (fact_i 𝓤 (Whole want x r) (emp 𝓤) whole) $ join ! $
       use0 𝓛 (raw (fact 𝓤 (Bounded x r))) (fact_i 𝓤 (Bounded x r) (emp 𝓤) bounded) $ join ! $
@@ -237,7 +243,7 @@ module _ (R E : RattleType) (gR : Read.Ghosts R.Denot E.Denot) (dR : Dict)
       keep ! (1 ∷ 0 ∷ []) $
       suffices ! _ (ends_at 𝓛 (ended R E gR dR gS dS gD dD dX Pp) (stayed R E gR dR gS dS gD dD dX
       Pp) held (at y) v r (tt, (tt, tt)) (tt, (tt, tt))) $
-      join ! $ done !)))))))))))))))
+      join ! $ done !))))))))))))))))
 
 pub fill_spec : {M' : Type 1} → stated.statement M'
 unfolding tables_of

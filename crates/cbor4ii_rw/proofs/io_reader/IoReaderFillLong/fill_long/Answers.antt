@@ -1,4 +1,4 @@
-use Rattle.std.proofs.Common.{◌≡◌, refl}
+use Rattle.std.proofs.Common.{refl}
 use Rattle.cbor4ii_rw.proofs.LentNone.{end_of_input, lends_none}
 use Rattle.cbor4ii_rw.proofs.io_reader.IoReaderFillLong.fill_long.Goals as goal
 

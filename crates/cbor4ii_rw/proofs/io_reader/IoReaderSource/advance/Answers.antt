@@ -13,4 +13,5 @@ returns g c = record {
   taken = refl;
   lends_whole = λ lent. lent;
   remembers = λ is. is;
+  ends_at = refl;
 }

@@ -61,6 +61,7 @@ returns-in-Ok g c =
           taken = ap Some counts.2;
           lends_whole = λ lent. lent;
           remembers = λ is. is;
+          ends_at = refl;
         },
       ),
       record {
@@ -113,6 +114,7 @@ returns-in-Err g c =
           taken = ap Some counts.2;
           lends_whole = λ lent. lent;
           remembers = λ is. is;
+          ends_at = refl;
         },
       ),
       record {

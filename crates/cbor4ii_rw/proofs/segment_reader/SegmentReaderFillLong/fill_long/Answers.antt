@@ -32,6 +32,7 @@ returns-clause-fills c =
         taken = refl;
         lends_whole = one_left;
         remembers = λ is. is;
+        ends_at = refl;
       };
       front = told_some (IsFront want shown) _ front;
       enough = λ one. told_some (IsEnough want shown) _ (enough one);

@@ -1,4 +1,4 @@
-use Rattle.std.proofs.Common.{arith, ◌≡◌, Some, length, take, nat_lt, refl, sym, ap, subst, ◌∙◌}
+use Rattle.std.proofs.Common.{rules, arith, ◌≡◌, Some, length, take, nat_lt, refl, sym, ap, subst, ◌∙◌}
 use Rattle.std.specs.Prelude.{IsTrue}
 use Rattle.cbor4ii_rw.specs.Segments.{joined_segments, rest_of, full_of, shown_segment}
 use Rattle.cbor4ii_rw.specs.Reader.{IsFront, IsEnough}
@@ -37,6 +37,7 @@ returns c =
           taken = refl;
           lends_whole = one_left;
           remembers = λ is. is;
+          ends_at = refl;
         },
       ),
       record {
@@ -44,6 +45,7 @@ returns c =
         bounded = front.within;
         enough = λ one. told_some (IsEnough want shown) _ (enough one);
         long = tt;
+        place = λ end none. absurd (search (none, rules));
         segment = omega (arith, long, c.min-shown.ensures, ap length segment);
         after_borrow = tt;
       },

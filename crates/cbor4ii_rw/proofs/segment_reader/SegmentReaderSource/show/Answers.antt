@@ -37,6 +37,7 @@ returns c =
           taken = refl;
           lends_whole = one_left;
           remembers = λ is. is;
+          ends_at = refl;
         },
       ),
       record {
