@@ -214,6 +214,16 @@ fields_by_laws {same = same} others same_others laws behind [] =
 fields_by_laws others same_others laws behind (own ∷ names) =
     field_laws own.now (others names) laws (behind names)
 
+pub fields_named_laws : {T V : Type 0} {reads : Reads T} {same : T → T → Type 0}
+    {never_empty : Bool} (others : List (List ℕ) → ReadsNamed V) (same_others : V → V → Type 0)
+    → Lawful reads same never_empty
+    → ((names : List (List ℕ)) → NamedLaws same_others (others names)) → (names : List (List ℕ))
+    → NamedLaws (SameField same same_others) (fields_named reads others names)
+fields_named_laws {same = same} others same_others laws behind [] =
+    no_field_laws (SameField same same_others)
+fields_named_laws others same_others laws behind (own ∷ names) =
+    field_laws own (others names) laws (behind names)
+
 abbrev pub SameName : String Global → String Global → Type 0
 SameName s t = text_content s ≡ text_content t
 

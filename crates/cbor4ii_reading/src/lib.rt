@@ -18,6 +18,8 @@ mod containers;
 #[cfg(test)]
 mod growth;
 #[cfg(test)]
+mod laws;
+#[cfg(test)]
 mod leaves;
 #[cfg(test)]
 mod nested;

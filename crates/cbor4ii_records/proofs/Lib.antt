@@ -2,3 +2,5 @@
 pub mod Variants
 -- A type that holds values of its own kind.
 pub mod Nests
+-- A struct of named fields.
+pub mod Points

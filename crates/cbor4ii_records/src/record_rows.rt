@@ -2,7 +2,7 @@
 ghost use Rattle.std.specs.Prelude.{◌∷◌, [], codes};
 ghost use Rattle.cbor4ii_ser.specs.Item.{field, struct_item};
 
-use crate::records::{Enum, Point, read_enum};
+use crate::records::{Enum, Point, point_is_one_item, point_is_read_back, read_enum};
 use cbor4ii::serde::{DecodeError, Deserializer, EncodeError, Serialize, Serializer};
 use cbor4ii::types::F64;
 use cbor4ii_reading::typed::Answer::{self, Is};
@@ -10,6 +10,7 @@ use cbor4ii_reading::typed::{
     BothTold, Refused, RowTold, RowToldWithin, Take, comes_back, reads_all, refuses, tells,
     tells_all,
 };
+use cbor4ii_rw::error::Never;
 use cbor4ii_rw::read::Source;
 use cbor4ii_rw::write::Write;
 use cbor4ii_trials::rows::Row;
@@ -24,6 +25,18 @@ fn a_struct_is_written_and_read_back(rt: HostRuntime) -> Result<(), Fail> {
         b"\xa3\x61x\x05\x64name\x61a\x61y\x20",
         "Point { x: 5, name: \"a\", y: Some(-1) }",
     )
+}
+
+#[test]
+fn laws_of_a_struct_are_called(rt: HostRuntime) -> Result<(), Fail> {
+    let point = Point {
+        x: 5,
+        name: String::from_str(rt.alloc(), "a")?,
+        y: None,
+    };
+    point_is_one_item(&point);
+    point_is_read_back::<Never>(rt.alloc(), &point);
+    Ok(())
 }
 
 const POINTS_REFUSED: &[Refused] = &[

@@ -1,15 +1,26 @@
 //! A user's own types, written and read: a struct with an optional field and an enum with variants
 //! of each kind.
-ghost use Rattle.std.specs.Prelude.{◌∷◌, [], codes, true, false};
+ghost use Rattle.std.specs.Prelude.{◌≡◌, ◌∷◌, ◌++◌, ◌<◌, ◌^◌, [], ℕ, ℤ, List, Option, Some, None};
+ghost use Rattle.std.specs.Prelude.{codes, option_map, string_bytes, true, false};
+ghost use Rattle.std.specs.declared.alloc.Global.{Global};
+ghost use Rattle.std.specs.declared.string.String.{String};
+ghost use Rattle.cbor4ii_rw.specs.View.{View};
+ghost use Rattle.cbor4ii_rw.specs.declared.error.DecodeError.{DecodeError as CoreError};
+ghost use Rattle.cbor4ii_items.specs.Decoding.{CostFits, Sound, Refuses};
+ghost use Rattle.cbor4ii_items.specs.Numbers.{IsWithin};
+ghost use Rattle.cbor4ii_items.specs.Refusal.{refusal_of};
 ghost use Rattle.cbor4ii_items.specs.Strings.{counted_string};
 ghost use Rattle.cbor4ii_ser.specs.Item.{encoded, field, struct_item, tuple_variant_item};
 ghost use Rattle.cbor4ii_ser.specs.Item.{variant_item};
+ghost use Rattle.cbor4ii_ser.specs.OneItem.{IsOneItem, canonical};
+ghost use Rattle.cbor4ii.specs.Fields.{ReadsFields, named_field, no_fields, no_values};
 ghost use Rattle.cbor4ii.specs.Typed.{any_two, not_exact, unsaid, unsaid_stops};
 ghost use Rattle.cbor4ii_records.specs.declared.records.Enum.TheVariants.{Unit, NewType, Tuple};
 ghost use Rattle.cbor4ii_records.specs.declared.records.Enum.TheVariants.{Struct};
 
 use cbor4ii::serde::{
-    DecodeError, Deserialize, Deserializer, EncodeError, EnumAccessor, Serialize, Serializer, Typed,
+    DecodeError, Deserialize, Deserializer, EncodeError, EnumAccessor, Serialize, Serializer,
+    Typed, laws,
 };
 use cbor4ii_rw::read::Source;
 use cbor4ii_rw::write::Write;
@@ -72,6 +83,53 @@ impl<S: Source> Deserialize<S> for Point {
         }
     }
 }
+
+/// What a `Point` writes is one canonical item.
+pub fn point_is_one_item(point: &Point)
+    ensures { IsOneItem canonical (⟦<Point as Serialize>⟧.item point.now) }
+{
+    numbers_are_in_range(point.x, point.y);
+}
+
+/// What a `Point` writes is read back by `deserialize_3_fields`: its numbers and its text, with what
+/// stands behind left. The reader may be any that tells these bytes and something behind them.
+/// Under a budget of at least two steps the bytes are not refused.
+pub fn point_is_read_back<E>(alloc: Global, point: &Point)
+    ensures accepted { (bytes rest : List ℕ) (old new : View) (x : Option ℕ)
+        (name : Option (String Global)) (y : Option (Option ℤ)) →
+        ⟦<Point as Serialize>⟧.item point.now ≡ encoded bytes → old.told ≡ Some (bytes ++ rest) →
+        Sound (ReadsFields (None, (None, (None, no_values)))
+        (named_field (codes "x") ⟦<u32 as Typed>⟧.reads
+        (named_field (codes "name") ⟦<String as Typed>⟧.reads
+        (named_field (codes "y") ⟦<Option<i32> as Typed>⟧.reads no_fields))))
+        old new (x, (name, (y, no_values))) →
+        (x ≡ Some point.now.x) × (y ≡ Some point.now.y)
+        × (option_map string_bytes name ≡ Some (string_bytes point.now.name))
+        × (new.told ≡ Some rest) }
+    ensures not_refused { (bytes rest : List ℕ) (old : View) (error : CoreError E) →
+        ⟦<Point as Serialize>⟧.item point.now ≡ encoded bytes → old.told ≡ Some (bytes ++ rest) →
+        CostFits 2 old.budget →
+        Refuses (ReadsFields (None, (None, (None, no_values)))
+        (named_field (codes "x") ⟦<u32 as Typed>⟧.reads
+        (named_field (codes "name") ⟦<String as Typed>⟧.reads
+        (named_field (codes "y") ⟦<Option<i32> as Typed>⟧.reads no_fields)))) old error →
+        refusal_of error ≡ None }
+{
+    numbers_are_in_range(point.x, point.y);
+    laws::numbers_are_read_back();
+    laws::strings_are_read_back();
+    laws::wrapped_values_are_read_back::<i32>();
+    laws::written_structs_are_read::<
+        (Option<u32>, (Option<String>, (Option<Option<i32>>, ()))),
+        E,
+    >();
+}
+
+// The numbers of these types.
+fn numbers_are_in_range(x: u32, y: Option<i32>)
+    ensures x { x < 2 ^ 32 }
+    ensures y { (v : ℤ) → y ≡ Some v → IsWithin (2 ^ 31) v }
+{}
 
 /// An enum with variants of each kind.
 #[derive(Debug, PartialEq, Drop)]

@@ -4,3 +4,4 @@ pub mod Collecting
 pub mod Determined
 pub mod Greedy
 pub mod PiecesBack
+pub mod TextItems

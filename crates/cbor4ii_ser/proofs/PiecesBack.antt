@@ -18,17 +18,17 @@ use Rattle.cbor4ii_ser.proofs.Determined.{joined_append}
 use Rattle.cbor4ii_ser.proofs.Greedy.{joined_without_empty}
 
 -- each piece is so short that its length can be said
-abbrev AllShort : List (List ℕ) → Type 0
+abbrev pub AllShort : List (List ℕ) → Type 0
 AllShort [] = Unit {0}
 AllShort (piece ∷ pieces) = (length piece < 2 ^ 64) × AllShort pieces
 
-all_short : (ps : List (List ℕ)) → length (joined ps) < 2 ^ 64 → AllShort ps
+pub all_short : (ps : List (List ℕ)) → length (joined ps) < 2 ^ 64 → AllShort ps
 all_short [] h = tt
 all_short (p ∷ ps) h =
     let e = length-append p (joined ps) in
     (omega (arith, h, e), all_short ps (omega (arith, h, e)))
 
-utf8_joined : (ps : List (List ℕ)) → All IsUtf8 ps → IsUtf8 (joined ps)
+pub utf8_joined : (ps : List (List ℕ)) → All IsUtf8 ps → IsUtf8 (joined ps)
 utf8_joined [] h = IsUtf8-nil
 utf8_joined (p ∷ ps) h =
     IsUtf8-append p (joined ps) (All-head IsUtf8 p ps h) (utf8_joined ps (All-tail IsUtf8 p ps h))
@@ -61,7 +61,7 @@ short_rest : (ps qs : List (List ℕ)) → AllShort (ps ++ qs) → AllShort qs
 short_rest [] qs h = h
 short_rest (p ∷ ps) qs h = short_rest ps qs h.1
 
-short_without_empty : (ps : List (List ℕ)) → AllShort ps → AllShort (without_empty ps)
+pub short_without_empty : (ps : List (List ℕ)) → AllShort ps → AllShort (without_empty ps)
 short_without_empty [] h = tt
 short_without_empty ([] ∷ ps) h = short_without_empty ps h.1
 short_without_empty ((b ∷ bs) ∷ ps) h = (h.0, short_without_empty ps h.1)
@@ -79,13 +79,13 @@ short_chunk c run is h = elim is.short [
   | inr single ↦ short_one c run single is.joins h
 ]
 
-short_cut : (ps cs : List (List ℕ)) → IsCut ps cs → AllShort ps → AllShort cs
+pub short_cut : (ps cs : List (List ℕ)) → IsCut ps cs → AllShort ps → AllShort cs
 short_cut ps [] p h = tt
 short_cut ps (c ∷ cs) p h =
     let all : AllShort (p.0 ++ p.1) = subst AllShort p.2 h in
     (short_chunk c p.0 p.3 (short_front p.0 p.1 all), short_cut p.1 cs p.5 (short_rest p.0 p.1 all))
 
-joined_cut : (ps cs : List (List ℕ)) → IsCut ps cs → joined ps ≡ joined cs
+pub joined_cut : (ps cs : List (List ℕ)) → IsCut ps cs → joined ps ≡ joined cs
 joined_cut ps [] p = ap joined p
 joined_cut ps (c ∷ cs) p =
     ap joined p.2

@@ -1,6 +1,7 @@
 -- What writing a typed value is.
 pub mod Item
 pub mod Counts
+pub mod OneItem
 pub mod Serializing
 pub mod Collecting
 pub mod Pieces

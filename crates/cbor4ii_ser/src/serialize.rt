@@ -7,6 +7,14 @@ use crate::serializer::Serializer;
 use cbor4ii_rw::write::Write;
 
 /// A type whose values are written as items.
+///
+/// What a type of this repository writes is one item (RFC 8949 section 1.2) with shortest heads,
+/// and canonical unless a length is left open in it. A container's is so where those of its parts
+/// are. The laws of the module `laws` say it of each type, from `numbers_are_items` on. Of such
+/// bytes `items_are_read` says that they are read, whatever follows them.
+///
+/// It is not asked of a type of a user's own. One whose item is made of the words of `specs/Item`
+/// has it by a lemma of `specs/Laws/OneItem` for each of these words.
 pub trait Serialize {
     // What is written for a value: the bytes of the item that stands for it, every head the
     // shortest; or, where none does, those before the place at which it is refused, and the words

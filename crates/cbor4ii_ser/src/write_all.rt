@@ -16,8 +16,8 @@ use std::io;
 ///
 /// # Errors
 ///
-/// `buf` is dropped. `Custom` only where the value has no item, in the words that its type gives for
-/// that; else `Core`, of which nothing more is said here.
+/// `buf` is dropped. `Custom` only where the value has no item, in the words that its type gives
+/// for that; else `Core`, of which nothing more is said here.
 ///
 /// To keep `buf`, call the value's `serialize` on `Serializer::new(BufWriter::new(buf))`, and then
 /// `into_inner().into_inner()`, whatever the answer is. Its contract says that `Core` comes only
@@ -44,11 +44,11 @@ pub fn to_vec<T: Serialize>(
 /// has no item, in the words that its type gives for that; else `Core`, of which nothing more is
 /// said here.
 ///
-/// To keep the stream, call the value's `serialize` on `Serializer::new(IoWriter::new(writer))`, and
-/// then `into_inner().into_inner()`, whatever the answer is. Its contract says that `Core` comes
-/// only where a push failed, and what was appended: after `Ok` the item, and after `Custom` exactly
-/// what stands before the place at which the value is refused. After `Core` it says nothing of the
-/// stream.
+/// To keep the stream, call the value's `serialize` on `Serializer::new(IoWriter::new(writer))`,
+/// and then `into_inner().into_inner()`, whatever the answer is. Its contract says that `Core`
+/// comes only where a push failed, and what was appended: after `Ok` the item, and after `Custom`
+/// exactly what stands before the place at which the value is refused. After `Core` it says
+/// nothing of the stream.
 pub fn to_writer<W: io::Write + Drop, T: Serialize>(
     writer: W,
     value: &T,

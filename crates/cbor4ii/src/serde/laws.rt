@@ -1,7 +1,7 @@
 //! Laws of what is written and read, each the contract of a function that does nothing. An item is
 //! the one that `Serialize` writes, where it writes one.
 ghost use Rattle.std.specs.Prelude.{◌≡◌, ◌+◌, ◌<◌, ◌≤◌, ◌^◌, ◌++◌, ℕ, ℤ, List, Bool, true, Some};
-ghost use Rattle.std.specs.Prelude.{None, All, length, max, false, IsTrue, IsUtf8};
+ghost use Rattle.std.specs.Prelude.{◌&&◌, None, All, length, max, false, IsTrue, IsUtf8};
 ghost use Rattle.std.specs.Borrow.{Bor};
 ghost use Rattle.std.specs.BTreeMap.{IsOrdered};
 ghost use Rattle.std.specs.Char.{IsScalar};
@@ -23,6 +23,7 @@ ghost use Rattle.cbor4ii_items.specs.NeverBoth.{NeverBoth};
 ghost use Rattle.cbor4ii_items.specs.Numbers.{IsWithin};
 ghost use Rattle.cbor4ii_items.specs.ReadBack.{greatest_cost, pair_cost};
 ghost use Rattle.cbor4ii_items.specs.Refusal.{refusal_of};
+ghost use Rattle.cbor4ii_items.specs.Laws.Containers.{both};
 ghost use Rattle.cbor4ii_items.specs.Moves.{Kept};
 ghost use Rattle.cbor4ii_items.specs.Strings.{counted_string, ReadsTextAs};
 ghost use Rattle.cbor4ii_tree.specs.Canonical.{canon_cost};
@@ -32,7 +33,8 @@ ghost use Rattle.cbor4ii_tree.specs.declared.value.Value.{Value as AnyValue};
 ghost use Rattle.cbor4ii_ser.specs.Item.{Encoding, encoded, struct_item, variant_item};
 ghost use Rattle.cbor4ii.specs.AnyCost.{any_cost};
 ghost use Rattle.cbor4ii.specs.Fields.{ReadsNamed, ReadsFields, SameField, named_field, no_fields};
-ghost use Rattle.cbor4ii.specs.Fields.{no_values, fields_named};
+ghost use Rattle.cbor4ii.specs.Fields.{no_values, fields_named, fields_named_laws, no_field_laws};
+ghost use Rattle.cbor4ii.specs.Fields.{NamedLaws};
 ghost use Rattle.cbor4ii.specs.Laws.FieldsBack.{none_back, before_back};
 ghost use Rattle.cbor4ii.specs.Optional.{ReadsPresence, StopsPresence};
 ghost use Rattle.cbor4ii.specs.ReadBack.{IsReadBack, BeginsOther, IsNullItem, NamedItems, names_of};
@@ -173,9 +175,23 @@ pub trait FieldValues: Sized {
     // names are the same, and the number is the greatest cost of a value
     ghost stand: { Self → NamedItems → ℕ → Type 0 };
 
+    // the values of both mean the same, one by one
+    ghost same: { Self → Self → Type 0 };
+
+    // each field's type is exact
+    ghost exact: { Bool };
+
+    // what stands is read back
     ghost back: { (values : Self) (parts : NamedItems) (cost : ℕ) →
         Self.stand values parts cost →
         FieldsBack (Self.named (names_of parts)) Self.none values parts cost };
+
+    // the values before any field was read mean the same as themselves
+    ghost none_same: { Self.same Self.none Self.none };
+
+    // where each field's type is exact, what stands behind a name is read in one way
+    ghost laws: { IsTrue Self.exact → (names : List (List ℕ)) →
+        NamedLaws Self.same (Self.named names) };
 }
 
 /// No field.
@@ -186,7 +202,15 @@ impl FieldValues for () {
 
     ghost stand = { NoField };
 
+    ghost same = { any_two };
+
+    ghost exact = { true };
+
     ghost back = { none_back };
+
+    ghost none_same = { tt };
+
+    ghost laws = { λ e names. no_field_laws any_two };
 }
 
 /// A field, and those behind it.
@@ -197,7 +221,16 @@ impl<T: Typed + Serialize, V: FieldValues> FieldValues for (Option<T>, V) {
 
     ghost stand = { FieldBefore T.reads T.item V.stand };
 
+    ghost same = { SameField T.same V.same };
+
+    ghost exact = { T.exact && V.exact };
+
     ghost back = { before_back T.reads T.item V.named V.none V.stand V.back };
+
+    ghost none_same = { (tt, V.none_same) };
+
+    ghost laws = { λ e. fields_named_laws V.named V.same
+        (T.Typed.laws (both T.exact V.exact e).0) (V.laws (both T.exact V.exact e).1) };
 }
 
 /// A struct is read from its own item, that of `serialize_1_field` to `_6_fields`, wherever each
@@ -208,6 +241,25 @@ pub fn structs_are_read_back<V: FieldValues>()
         length parts < 2 ^ 64 → V.stand values parts cost →
         IsReadBack (ReadsFields V.none (V.named (names_of parts))) (struct_item (fields_of parts))
         values (1 + cost) }
+{}
+
+/// What `serialize_1_field` to `_6_fields` write of fields is what `deserialize_1_field` to
+/// `_6_fields` answer, over a reader that tells these bytes and something behind them. Where each
+/// field's type is exact, the values mean the same, and what stands behind is left. Where the
+/// budget has the cost, the bytes are not refused. A name is read into memory of some `alloc`.
+pub fn written_structs_are_read<V: FieldValues, E>()
+    ensures accepted { IsTrue V.exact → (alloc : Global) (parts : NamedItems) (values found : V)
+        (cost : ℕ) (bytes rest : List ℕ) (old new : View) → length parts < 2 ^ 64 →
+        V.stand values parts cost → struct_item (fields_of parts) ≡ encoded bytes →
+        old.told ≡ Some (bytes ++ rest) →
+        Sound (ReadsFields V.none (V.named (names_of parts))) old new found →
+        V.same values found × (new.told ≡ Some rest) }
+    ensures not_refused { (alloc : Global) (parts : NamedItems) (values : V) (cost : ℕ)
+        (bytes rest : List ℕ) (old : View) (error : DecodeError E) → length parts < 2 ^ 64 →
+        V.stand values parts cost → struct_item (fields_of parts) ≡ encoded bytes →
+        CostFits (1 + cost) old.budget → old.told ≡ Some (bytes ++ rest) →
+        Refuses (ReadsFields V.none (V.named (names_of parts))) old error →
+        refusal_of error ≡ None }
 {}
 
 /// The fields of a struct, of which each has an exact type, are read in one way, as values that

@@ -83,8 +83,8 @@ impl<S: Source, K: Deserialize<S> + Ord + Drop, V: Deserialize<S> + Drop> Sequen
 ///
 /// Refused as `deserialize_map` is, by the name "map", and behind its head by the errors of a key
 /// and of a value, with what they leave. Where the length is indefinite and no byte is left before
-/// a key, it is `Core` of `Eof` by the name "break" with 1. Where there is no memory for the map, it
-/// is `Core` of `OutOfMemory`.
+/// a key, it is `Core` of `Eof` by the name "break" with 1. Where there is no memory for the map,
+/// it is `Core` of `OutOfMemory`.
 impl<S: Source, K: Deserialize<S> + Ord + Drop, V: Deserialize<S> + Drop> Deserialize<S>
     for BTreeMap<K, V> {
     #[inline(always)]

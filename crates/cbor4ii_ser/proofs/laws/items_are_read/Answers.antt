@@ -1,0 +1,86 @@
+use Rattle.std.proofs.Common.{ℕ, List, ◌++◌, refl}
+use Rattle.cbor4ii_items.specs.Decoding.{CostFits}
+use Rattle.cbor4ii_tree.specs.Cost.{Budget, cost}
+use Rattle.cbor4ii_tree.specs.Item.{Item}
+use Rattle.cbor4ii_tree.specs.Meaning.{value}
+use Rattle.cbor4ii_tree.specs.Spelling.{Spells, ReadsPlainly, Skips}
+use Rattle.cbor4ii_tree.specs.Strict.{SpellsStrictly}
+use Rattle.cbor4ii_tree.specs.Tree.{Tree, Plain}
+use Rattle.cbor4ii_ser.specs.OneItem.{Form, shortest_heads, canonical, IsOfForm, OneItem}
+use Rattle.cbor4ii_ser.specs.OneItem.{IsReadWhole, IsReadCanonically}
+use Rattle.cbor4ii_ser.proofs.laws.items_are_read.Goals as goal
+
+is_plain : (form : Form) (t : Tree) → IsOfForm form t → Plain t
+is_plain shortest_heads t p = p.0
+is_plain canonical t p = p.0
+
+spells : (form : Form) (bytes : List ℕ) (p : OneItem form bytes)
+    → Spells bytes (value p.spelled) (cost p.spelled)
+spells form bytes p = record {
+  spelled = p.spelled;
+  plain = is_plain form p.spelled p.formed;
+  bytes_are = p.bytes_are;
+  value_is = refl;
+  cost_is = refl;
+}
+
+reads : (form : Form) (bytes : List ℕ) (p : OneItem form bytes) (rest : List ℕ) (budget : Budget)
+    → CostFits (cost p.spelled) budget
+    → ReadsPlainly (bytes ++ rest) budget (value p.spelled) rest
+reads form bytes p rest budget fits = record {
+  spelling = bytes;
+  steps = cost p.spelled;
+  spells = spells form bytes p;
+  fits = fits;
+  begins = refl;
+}
+
+-- where what is read as a value is skipped
+whole : (form : Form) (bytes : List ℕ) (p : OneItem form bytes)
+    → ((input : List ℕ) (budget : Budget) (v : Item) (rest : List ℕ)
+    → ReadsPlainly input budget v rest → (t : Tree) × Skips input budget t rest)
+    → IsReadWhole bytes (value p.spelled) (cost p.spelled)
+whole form bytes p skipped = record {
+  spells = spells form bytes p;
+  reads = reads form bytes p;
+  skips = λ rest budget fits. skipped (bytes ++ rest) budget (value p.spelled) rest
+      (reads form bytes p rest budget fits);
+}
+
+spells_strictly : (bytes : List ℕ) (p : OneItem canonical bytes)
+    → SpellsStrictly bytes (value p.spelled) (cost p.spelled)
+spells_strictly bytes p = record {
+  spelled = p.spelled;
+  canonical = p.formed;
+  bytes_are = p.bytes_are;
+  value_is = refl;
+  cost_is = refl;
+}
+
+canonically : (bytes : List ℕ) (p : OneItem canonical bytes)
+    → IsReadCanonically bytes (value p.spelled) (cost p.spelled)
+canonically bytes p = record {
+  spells = spells_strictly bytes p;
+  reads = λ rest budget fits. record {
+    spelling = bytes;
+    steps = cost p.spelled;
+    spells = spells_strictly bytes p;
+    fits = fits;
+    begins = refl;
+  };
+}
+
+pub returns-clause-any : goal.returns-clause-any
+returns-clause-any c form bytes p = (
+  value p.spelled,
+  cost p.spelled,
+  whole form bytes p c.skipping_takes_what_reading_takes.ensures,
+)
+
+pub returns-clause-canonically : goal.returns-clause-canonically
+returns-clause-canonically c bytes p = (
+  value p.spelled,
+  cost p.spelled,
+  whole canonical bytes p c.skipping_takes_what_reading_takes.ensures,
+  canonically bytes p,
+)
