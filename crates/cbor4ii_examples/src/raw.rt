@@ -11,7 +11,9 @@ use cbor4ii_rw::segment_reader::SegmentReader;
 use cbor4ii_rw::slice_reader::SliceReader;
 use cbor4ii_tree::{BoxedRawValue, RawValue, Value};
 use cbor4ii_trials::readers::{Counting, TestReader};
-use cbor4ii_trials::rows::{ReadBy, Want, lends, lends_short, reads_over, steps, writes_in};
+use cbor4ii_trials::rows::{
+    ReadBy, Want, leaves, lends, lends_short, reads_over, steps, writes_in,
+};
 use std::alloc::{AllocError, Global};
 use std::marker::PhantomData;
 use std::test::Fail;
@@ -241,6 +243,98 @@ fn items_in_segments(rt: HostRuntime) -> Result<(), Fail> {
     Ok(())
 }
 
+// {[1, 2]: [3]}, whose key and value are kept.
+const PAIR: &[u8] = b"\xa1\x82\x01\x02\x81\x03";
+
+// Where it is cut in two segments, and what is left of it where the cut stands in a kept item.
+const CUTS: &[(usize, Option<&[u8]>)] = &[
+    (1, None),
+    (2, Some(b"\x82\x01\x02\x81\x03")),
+    (3, Some(b"\x82\x01\x02\x81\x03")),
+    (4, None),
+    (5, Some(b"\x81\x03")),
+];
+
+#[test]
+fn copies_in_maps_of_segments(rt: HostRuntime) -> Result<(), Fail> {
+    for &(place, left) in CUTS {
+        let segments = [&PAIR[..place], &PAIR[place..]];
+        copies_pair(rt.alloc(), &segments, left)?;
+    }
+    Ok(())
+}
+
+// A key or a value that is cut is the end of the input, and nothing of it is taken.
+fn copies_pair(alloc: Global, segments: &[&[u8]], left: Option<&[u8]>) -> Result<(), Fail> {
+    let mut reader = SegmentReader::new(segments);
+    let got = <Map<Vec<(BoxedRawValue, BoxedRawValue)>>>::decode(alloc, &mut reader);
+    match (got, left) {
+        (Ok(map), None) => are_pair(&map)?,
+        (Err(DecodeError::Eof { .. }), Some(_)) => {}
+        (got, _) => return Err(Fail::new(format_args!("{got:?} of {segments:?}"))),
+    }
+    leaves(&mut reader, PAIR, left.unwrap_or(b""))
+}
+
+fn are_pair(map: &Map<Vec<(BoxedRawValue, BoxedRawValue)>>) -> Result<(), Fail> {
+    let [(key, value)] = map.0.as_slice() else {
+        return Err(Fail::from("not one pair"));
+    };
+    is_copy(key, b"\x82\x01\x02")?;
+    is_copy(value, b"\x81\x03")
+}
+
+// Segments, whether the raw item stands in the first, and the values behind it.
+const BEFORE_VALUES: &[(&[&[u8]], bool, &[&str])] = &[
+    (&[b"\x82\x01\x02", b"\x03"], true, &["Integer(3)"]),
+    (
+        &[b"\x82\x01\x02\x81", b"\x03"],
+        true,
+        &["Array([Integer(3)])"],
+    ),
+    (
+        &[b"\x82\x01\x02\x18", b"", b"\xff\xf6"],
+        true,
+        &["Integer(255)", "Null"],
+    ),
+    (
+        &[b"\x82\x01", b"\x02\x03"],
+        false,
+        &["Array([Integer(1), Integer(2)])", "Integer(3)"],
+    ),
+];
+
+#[test]
+fn values_behind_items_in_segments(rt: HostRuntime) -> Result<(), Fail> {
+    for &(segments, is_lent, values) in BEFORE_VALUES {
+        let mut reader = SegmentReader::new(segments);
+        stands_before(rt.alloc(), &mut reader, is_lent)?;
+        for value in values {
+            is_next(rt.alloc(), &mut reader, value)?;
+        }
+        leaves(&mut reader, b"", b"")?;
+    }
+    Ok(())
+}
+
+// The item [1, 2] is lent, or nothing is taken.
+fn stands_before(alloc: Global, reader: &mut SegmentReader<'_>, is_lent: bool) -> Result<(), Fail> {
+    match RawValue::decode(alloc, reader) {
+        Ok(item) if is_lent && item.as_bytes() == b"\x82\x01\x02".as_slice() => Ok(()),
+        Err(DecodeError::Eof { .. }) if !is_lent => Ok(()),
+        got => Err(Fail::new(format_args!("{got:?}"))),
+    }
+}
+
+// The next value has this text.
+fn is_next(alloc: Global, reader: &mut SegmentReader<'_>, text: &str) -> Result<(), Fail> {
+    let value = Value::decode(alloc, reader)?;
+    if format!(in alloc; "{value:?}")?.as_str() == text {
+        return Ok(());
+    }
+    Err(Fail::new(format_args!("{value:?} and not {text}")))
+}
+
 // Behind a reference.
 fn copy_behind<S: FillLong>(
     alloc: Global,
@@ -363,6 +457,36 @@ fn are_equal(left: &BoxedRawValue, right: &BoxedRawValue, want: bool) -> Result<
 const MAP: &[u8] = b"\xa1\x63bar\xa1\x65value\x18\x99";
 
 const ITEM: &[u8] = b"\xa1\x65value\x18\x99";
+
+// The bytes of the item under the one key of a map, which is read as a `T`.
+#[derive(Debug, PartialEq, Drop)]
+struct UnderKey<T>(BytesOf<T>);
+
+impl<S: Source, T: Spelled + Decode<S> + Kept + Drop> ReadBy<S> for UnderKey<T> {
+    fn read_by(alloc: Global, reader: &mut S) -> Result<UnderKey<T>, DecodeError<S::Error>> {
+        let map = <Map<Vec<(String, T)>>>::decode(alloc, reader)?;
+        let [(_, kept)] = map.0.as_slice() else {
+            return Err(DecodeError::Custom {
+                name: "not one pair",
+                num: 0,
+            });
+        };
+        match BytesOf::new(alloc, kept.item()) {
+            Ok(bytes) => Ok(UnderKey(bytes)),
+            Err(_) => Err(DecodeError::OutOfMemory),
+        }
+    }
+}
+
+// With a fault at each fill too.
+#[test]
+fn items_under_a_key_where_readers_fail(rt: HostRuntime) -> Result<(), Fail> {
+    let alloc = rt.alloc();
+    let want = UnderKey(BytesOf::<RawValue<'static>>::new(alloc, ITEM)?);
+    lends(alloc, MAP, Ok(want), b"")?;
+    let want = UnderKey(BytesOf::<BoxedRawValue>::new(alloc, ITEM)?);
+    lends(alloc, MAP, Ok(want), b"")
+}
 
 #[test]
 fn an_item_under_a_key(rt: HostRuntime) -> Result<(), Fail> {

@@ -211,12 +211,19 @@ pub front_is_of_input : {want n : ℕ} {shown content : Bor (List ℕ)} {a m b :
     → Advances n m b → IsOfInput content a b
 front_is_of_input {want = want} {n = n} {shown = shown} s front within part same is adv xs told end
     ends ys left =
-        let e : ys ≡ drop n xs = let d = adv.told xs (s.told xs told) in cc in
-        part end (sym (adv.ends_at ∙ s.ends_at) ∙ ends) xs told
-        ∙ ap₂ (λ i j. (i, j)) (sym (ap (λ (p : ℕ × ℕ). p.0) same))
-        (omega (arith, ap (λ (p : ℕ × ℕ). p.1) same, ap length is,
-        length-take-le n shown.now within, ap length e, length-drop n xs, within,
-        (front xs told).within))
+    let e : ys ≡ drop n xs = let d = adv.told xs (s.told xs told) in cc in
+    part end (sym (adv.ends_at ∙ s.ends_at) ∙ ends) xs told
+    ∙ ap₂ (λ i j. (i, j)) (sym (ap (λ (p : ℕ × ℕ). p.0) same))
+    (omega (
+      arith,
+      ap (λ (p : ℕ × ℕ). p.1) same,
+      ap length is,
+      length-take-le n shown.now within,
+      ap length e,
+      length-drop n xs,
+      within,
+      (front xs told).within,
+    ))
 
 pub first_bytes : (k : ℕ) (bs : List ℕ) → ((i : ℕ) → get_or bs i 0 < 256) → IsBytes (take k bs)
 first_bytes zero bs f = tt

@@ -1,0 +1,136 @@
+//! Rows of more parts than have their place reserved before any of them came, and of strings that
+//! grow by their chunks.
+use crate::read::{Left, Meant, reads};
+use crate::tally::{Broken, Tally};
+use crate::told::Pieces;
+use crate::typed::Typed;
+use crate::values::Item;
+use cbor4ii_items::types::{Bytes, Map};
+use cbor4ii_tree::{Canonical, Value};
+use cbor4ii_trials::rows::ReadFrom;
+use std::collections::BTreeMap;
+use std::fmt::Debug;
+
+/// Bytes in parts, each so many times.
+type Parts = &'static [(&'static [u8], usize)];
+
+// Reads the parts, of which nothing is left.
+fn grows<T: ReadFrom + Debug + Drop>(
+    tally: &mut Tally,
+    row: &'static str,
+    parts: Parts,
+    text: Pieces<'static>,
+) -> Result<(), Broken> {
+    let Some(bytes) = tally.joined(parts) else {
+        return Ok(());
+    };
+    let meant = Meant {
+        row,
+        bytes: &bytes,
+        text,
+        rest: b"",
+        left: Left::AnEnd,
+    };
+    reads::<T>(tally, &meant)
+}
+
+// A text and a byte string of 17,000 bytes, more than are reserved before any came.
+const LONG_TEXT: Parts = &[(b"\x79\x42\x68", 1), (b"a", 17_000)];
+
+const LONG_BYTES: Parts = &[(b"\x59\x42\x68", 1), (b"\x05", 17_000)];
+
+// 100 chunks of three bytes each.
+const TEXT_IN_CHUNKS: Parts = &[(b"\x7f", 1), (b"\x63abc", 100), (b"\xff", 1)];
+
+const BYTES_IN_CHUNKS: Parts = &[(b"\x5f", 1), (b"\x43\x01\x02\x03", 100), (b"\xff", 1)];
+
+/// Strings.
+pub fn strings(tally: &mut Tally) -> Result<(), Broken> {
+    let long_text: Pieces<'static> = &[("\"", 1), ("a", 17_000), ("\"", 1)];
+    grows::<String>(tally, "a long String", LONG_TEXT, long_text)?;
+    let long_bytes: Pieces<'static> = &[("Bytes([5", 1), (", 5", 16_999), ("])", 1)];
+    grows::<Bytes<Vec<u8>>>(tally, "long Bytes", LONG_BYTES, long_bytes)?;
+    let text: Pieces<'static> = &[("\"", 1), ("abc", 100), ("\"", 1)];
+    grows::<String>(tally, "a String in chunks", TEXT_IN_CHUNKS, text)?;
+    let bytes: Pieces<'static> = &[("Bytes([1, 2, 3", 1), (", 1, 2, 3", 99), ("])", 1)];
+    grows::<Bytes<Vec<u8>>>(tally, "Bytes in chunks", BYTES_IN_CHUNKS, bytes)
+}
+
+// 300 items and 300 pairs: 012c. At most 256 have their place reserved.
+const COUNTED: Parts = &[(b"\x99\x01\x2c", 1), (b"\x05", 300)];
+
+const OPEN: Parts = &[(b"\x9f", 1), (b"\x05", 300), (b"\xff", 1)];
+
+const COUNTED_PAIRS: Parts = &[(b"\xb9\x01\x2c", 1), (b"\x05\x06", 300)];
+
+const OPEN_PAIRS: Parts = &[(b"\xbf", 1), (b"\x05\x06", 300), (b"\xff", 1)];
+
+/// Arrays and maps.
+pub fn containers(tally: &mut Tally) -> Result<(), Broken> {
+    let items: Pieces<'static> = &[("[5", 1), (", 5", 299), ("]", 1)];
+    grows::<Vec<u8>>(tally, "a long Vec", COUNTED, items)?;
+    grows::<Vec<u8>>(tally, "a long open Vec", OPEN, items)?;
+    let pairs: Pieces<'static> = &[("Map([(5, 6)", 1), (", (5, 6)", 299), ("])", 1)];
+    grows::<Map<Vec<(u8, u8)>>>(tally, "a long Map", COUNTED_PAIRS, pairs)?;
+    grows::<Map<Vec<(u8, u8)>>>(tally, "a long open Map", OPEN_PAIRS, pairs)
+}
+
+const ITEMS: Pieces<'static> = &[
+    ("Item(Array([Integer(5)", 1),
+    (", Integer(5)", 299),
+    ("]))", 1),
+];
+
+const MEMBERS: Pieces<'static> = &[
+    ("Item(Map([(Integer(5), Integer(6))", 1),
+    (", (Integer(5), Integer(6))", 299),
+    ("]))", 1),
+];
+
+const CANONICAL: Pieces<'static> = &[
+    ("Item(Canonical(Array([Integer(5)", 1),
+    (", Integer(5)", 299),
+    ("])))", 1),
+];
+
+/// Whole items.
+pub fn values(tally: &mut Tally) -> Result<(), Broken> {
+    grows::<Item<Value>>(tally, "a long array", COUNTED, ITEMS)?;
+    grows::<Item<Value>>(tally, "a long open array", OPEN, ITEMS)?;
+    grows::<Item<Value>>(tally, "a long map", COUNTED_PAIRS, MEMBERS)?;
+    grows::<Item<Value>>(tally, "a long open map", OPEN_PAIRS, MEMBERS)?;
+    grows::<Item<Canonical>>(tally, "a long canonical array", COUNTED, CANONICAL)
+}
+
+// A map of the keys 0 to 23.
+const KEYS: Parts = &[
+    (
+        b"\xb8\x18\x00\x05\x01\x05\x02\x05\x03\x05\x04\x05\x05\x05\x06\x05\x07\x05\x08\x05",
+        1,
+    ),
+    (
+        b"\x09\x05\x0a\x05\x0b\x05\x0c\x05\x0d\x05\x0e\x05\x0f\x05\x10\x05\x11\x05\x12\x05",
+        1,
+    ),
+    (b"\x13\x05\x14\x05\x15\x05\x16\x05\x17\x05", 1),
+];
+
+const FIVES: Pieces<'static> = &[
+    (
+        "Typed({0: 5, 1: 5, 2: 5, 3: 5, 4: 5, 5: 5, 6: 5, 7: 5, 8: 5, 9: 5, 10: 5, 11: 5, ",
+        1,
+    ),
+    (
+        "12: 5, 13: 5, 14: 5, 15: 5, 16: 5, 17: 5, 18: 5, 19: 5, 20: 5, 21: 5, ",
+        1,
+    ),
+    ("22: 5, 23: 5})", 1),
+];
+
+/// Typed values.
+pub fn typed(tally: &mut Tally) -> Result<(), Broken> {
+    let items: Pieces<'static> = &[("Typed([5", 1), (", 5", 299), ("])", 1)];
+    grows::<Typed<Vec<u8>>>(tally, "a long typed Vec", COUNTED, items)?;
+    grows::<Typed<Vec<u8>>>(tally, "a long open typed Vec", OPEN, items)?;
+    grows::<Typed<BTreeMap<u8, u8>>>(tally, "a long typed map", KEYS, FIVES)
+}

@@ -1,0 +1,194 @@
+//! How a row is read: over a slice, over segments and over a stream.
+use crate::tally::{Broken, Tally};
+use crate::told::{Pieces, is_told};
+use cbor4ii_rw::ask::next_byte;
+use cbor4ii_rw::error::DecodeError;
+use cbor4ii_rw::io_reader::IoReader;
+use cbor4ii_rw::read::Source;
+use cbor4ii_rw::segment_reader::SegmentReader;
+use cbor4ii_rw::slice_reader::SliceReader;
+use cbor4ii_trials::rows::{ReadBy, ReadFrom, steps};
+use cbor4ii_trials::streams::FailingStream;
+use std::fmt::Debug;
+
+// No row has more bytes.
+const MOST_BYTES: usize = 20_480;
+
+/// A row: bytes, the `Debug` text of what is read, and what is left of them.
+pub type Row = (&'static [u8], &'static str, &'static [u8]);
+
+/// What a row is meant to give.
+#[derive(Clone, Copy)]
+pub struct Meant<'a> {
+    /// What it reads.
+    pub row: &'static str,
+    pub bytes: &'a [u8],
+    /// The text of the value.
+    pub text: Pieces<'a>,
+    /// What is left of the bytes.
+    pub rest: &'a [u8],
+    /// What want of memory leaves of the bytes.
+    pub left: Left,
+}
+
+/// What want of memory leaves of a row's bytes.
+#[derive(Clone, Copy, PartialEq)]
+pub enum Left {
+    /// It never comes.
+    Never,
+    /// An end of them.
+    AnEnd,
+    /// What is left behind the item, which was taken.
+    TheRest,
+}
+
+/// Reads the bytes of each row over each reader.
+pub fn reads_rows<T: ReadFrom + Debug + Drop>(
+    tally: &mut Tally,
+    row: &'static str,
+    rows: &[Row],
+) -> Result<(), Broken> {
+    for (bytes, text, rest) in rows {
+        let meant = Meant {
+            row,
+            bytes,
+            text: &[(text, 1)],
+            rest,
+            left: Left::AnEnd,
+        };
+        reads::<T>(tally, &meant)?;
+    }
+    Ok(())
+}
+
+/// As `reads_rows`, of a type that takes no memory: it is refused none.
+pub fn reads_in_place<T: ReadFrom + Debug + Drop>(
+    tally: &mut Tally,
+    row: &'static str,
+    rows: &[Row],
+) -> Result<(), Broken> {
+    for (bytes, text, rest) in rows {
+        let meant = Meant {
+            row,
+            bytes,
+            text: &[(text, 1)],
+            rest,
+            left: Left::Never,
+        };
+        reads::<T>(tally, &meant)?;
+    }
+    Ok(())
+}
+
+/// Reads one row over a slice, over two segments and over a stream that shows three bytes at most.
+pub fn reads<T: ReadFrom + Debug + Drop>(
+    tally: &mut Tally,
+    meant: &Meant<'_>,
+) -> Result<(), Broken> {
+    let bytes = meant.bytes;
+    reads_over::<T, _>(tally, &mut SliceReader::new(bytes), meant)?;
+    let (first, second) = bytes.split_at(bytes.len() / 2);
+    let segments = [first, second];
+    reads_over::<T, _>(tally, &mut SegmentReader::new(&segments), meant)?;
+    let stream = FailingStream::new(bytes, 3, usize::MAX);
+    reads_over::<T, _>(tally, &mut IoReader::new(stream), meant)
+}
+
+/// As `reads`, of what may be borrowed from its bytes, which are those of `segments` too.
+pub fn lends<T>(
+    tally: &mut Tally,
+    meant: &Meant<'static>,
+    segments: &'static [&'static [u8]],
+) -> Result<(), Broken>
+where
+    T: ReadBy<SliceReader<'static>>
+        + ReadBy<SegmentReader<'static>>
+        + ReadBy<IoReader<FailingStream<'static>>>
+        + Debug
+        + Drop,
+{
+    reads_over::<T, _>(tally, &mut SliceReader::new(meant.bytes), meant)?;
+    reads_over::<T, _>(tally, &mut SegmentReader::new(segments), meant)?;
+    let stream = FailingStream::new(meant.bytes, 3, usize::MAX);
+    reads_over::<T, _>(tally, &mut IoReader::new(stream), meant)
+}
+
+/// Reads the row over this reader, which holds its bytes. The steps are as before, and an end of
+/// the bytes is left. Want of memory is the one refusal that may come.
+pub fn reads_over<T: ReadBy<S> + Debug + Drop, S: Source>(
+    tally: &mut Tally,
+    reader: &mut S,
+    meant: &Meant<'_>,
+) -> Result<(), Broken> {
+    let budget = steps(reader);
+    let got = T::read_by(tally.alloc(), reader);
+    if steps(reader) != budget {
+        return Err(Broken::new(meant.row, "the steps are not as before"));
+    }
+    match &got {
+        Ok(value) => is_meant(reader, value, meant),
+        Err(DecodeError::OutOfMemory) => lacks_memory(tally, reader, meant),
+        Err(_) => Err(Broken::new(meant.row, "it is refused")),
+    }
+}
+
+// Whether what was read is the row's value, with the row's rest behind it.
+fn is_meant<T: Debug, S: Source>(
+    reader: &mut S,
+    value: &T,
+    meant: &Meant<'_>,
+) -> Result<(), Broken> {
+    if !is_told(value, meant.text) {
+        return Err(Broken::new(meant.row, "another value is read"));
+    }
+    if !leaves(reader, meant.rest) {
+        return Err(Broken::new(meant.row, "other bytes are left"));
+    }
+    Ok(())
+}
+
+// Counts a want of memory, and looks at what it left.
+fn lacks_memory<S: Source>(
+    tally: &mut Tally,
+    reader: &mut S,
+    meant: &Meant<'_>,
+) -> Result<(), Broken> {
+    tally.refuse();
+    if is_left(reader, meant) {
+        return Ok(());
+    }
+    Err(Broken::new(meant.row, "other bytes are left without memory"))
+}
+
+/// Takes all that is left: whether it is exactly `rest`.
+pub fn leaves<S: Source>(reader: &mut S, rest: &[u8]) -> bool {
+    for byte in rest {
+        if !matches!(next_byte(reader), Ok(Some(next)) if next == *byte) {
+            return false;
+        }
+    }
+    matches!(next_byte(reader), Ok(None))
+}
+
+// Takes all that is left: whether want of memory leaves it.
+fn is_left<S: Source>(reader: &mut S, meant: &Meant<'_>) -> bool {
+    match meant.left {
+        Left::Never => false,
+        Left::AnEnd => leaves_an_end(reader, meant.bytes),
+        Left::TheRest => leaves(reader, meant.rest),
+    }
+}
+
+// Takes all that is left: whether it is an end of `bytes`.
+fn leaves_an_end<S: Source>(reader: &mut S, bytes: &[u8]) -> bool {
+    let mut left = [0; MOST_BYTES];
+    let mut taken: usize = 0;
+    for place in left.iter_mut() {
+        match next_byte(reader) {
+            Ok(Some(byte)) => *place = byte,
+            _ => break,
+        }
+        taken = taken.saturating_add(1);
+    }
+    matches!(left.get(..taken), Some(left) if bytes.ends_with(left))
+}

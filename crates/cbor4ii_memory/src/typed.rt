@@ -1,0 +1,226 @@
+//! Rows of typed values, read by each call that takes memory.
+use crate::read::{Row, reads_rows};
+use crate::tally::{Broken, Tally};
+use crate::told::is_told;
+use cbor4ii::Value;
+use cbor4ii::serde::{self, Deserialize, Deserializer, from_reader, from_slice};
+use cbor4ii::types::Bytes;
+use cbor4ii_rw::error::DecodeError;
+use cbor4ii_rw::read::Source;
+use cbor4ii_trials::rows::ReadFrom;
+use cbor4ii_trials::streams::FailingStream;
+use std::alloc::Global;
+use std::collections::BTreeMap;
+use std::fmt::Debug;
+
+/// What calls of a deserializer read.
+#[derive(Debug, Drop)]
+pub struct Typed<T>(pub T);
+
+// The answer of calls. A refusal in words is no other refusal's.
+fn answer<T, E>(got: Result<T, serde::DecodeError<E>>) -> Result<Typed<T>, DecodeError<E>> {
+    match got {
+        Ok(value) => Ok(Typed(value)),
+        Err(serde::DecodeError::Core(error)) => Err(error),
+        Err(serde::DecodeError::Custom(name)) => Err(DecodeError::Custom { name, num: 0 }),
+    }
+}
+
+impl ReadFrom for Typed<String> {
+    fn read_from<S: Source>(alloc: Global, reader: &mut S) -> Result<Self, DecodeError<S::Error>> {
+        answer(String::deserialize(alloc, &mut Deserializer::new(reader)))
+    }
+}
+
+impl ReadFrom for Typed<Bytes<Vec<u8>>> {
+    fn read_from<S: Source>(alloc: Global, reader: &mut S) -> Result<Self, DecodeError<S::Error>> {
+        answer(Bytes::deserialize(alloc, &mut Deserializer::new(reader)))
+    }
+}
+
+impl ReadFrom for Typed<Vec<u8>> {
+    fn read_from<S: Source>(alloc: Global, reader: &mut S) -> Result<Self, DecodeError<S::Error>> {
+        answer(Vec::deserialize(alloc, &mut Deserializer::new(reader)))
+    }
+}
+
+impl ReadFrom for Typed<Option<Vec<(String, Box<u8>)>>> {
+    fn read_from<S: Source>(alloc: Global, reader: &mut S) -> Result<Self, DecodeError<S::Error>> {
+        answer(Option::deserialize(alloc, &mut Deserializer::new(reader)))
+    }
+}
+
+impl ReadFrom for Typed<BTreeMap<u8, u8>> {
+    fn read_from<S: Source>(alloc: Global, reader: &mut S) -> Result<Self, DecodeError<S::Error>> {
+        answer(BTreeMap::deserialize(alloc, &mut Deserializer::new(reader)))
+    }
+}
+
+impl ReadFrom for Typed<BTreeMap<String, Vec<String>>> {
+    fn read_from<S: Source>(alloc: Global, reader: &mut S) -> Result<Self, DecodeError<S::Error>> {
+        answer(BTreeMap::deserialize(alloc, &mut Deserializer::new(reader)))
+    }
+}
+
+impl ReadFrom for Typed<Value> {
+    fn read_from<S: Source>(alloc: Global, reader: &mut S) -> Result<Self, DecodeError<S::Error>> {
+        answer(Deserializer::new(reader).deserialize_any(alloc))
+    }
+}
+
+const TEXTS: &[Row] = &[
+    (b"\x64IETF\x01", "Typed(\"IETF\")", b"\x01"),
+    (b"\x7f\x61a\x61b\xff", "Typed(\"ab\")", b""),
+];
+
+const BYTES: &[Row] = &[(b"\x5f\x41\x01\x41\x02\xff", "Typed(Bytes([1, 2]))", b"")];
+
+const NUMBERS: &[Row] = &[(b"\x83\x01\x02\x03\x04", "Typed([1, 2, 3])", b"\x04")];
+
+const PAIRS: &[Row] = &[
+    (
+        b"\x82\x82\x61a\x01\x82\x61b\x02",
+        "Typed(Some([(\"a\", 1), (\"b\", 2)]))",
+        b"",
+    ),
+    (b"\xf6\x01", "Typed(None)", b"\x01"),
+];
+
+const MAPS: &[Row] = &[(
+    b"\xbf\x03\x04\x01\x02\xff\x00",
+    "Typed({1: 2, 3: 4})",
+    b"\x00",
+)];
+
+const MAPS_OF_TEXTS: &[Row] = &[(
+    b"\xa2\x61b\x80\x61a\x82\x61c\x61d",
+    "Typed({\"a\": [\"c\", \"d\"], \"b\": []})",
+    b"",
+)];
+
+const ANY: &[Row] = &[
+    (
+        b"\xa1\x61a\x82\x41\x05\x20",
+        "Typed(Map([(Text(\"a\"), Array([Bytes([5]), Integer(-1)]))]))",
+        b"",
+    ),
+    (
+        b"\x9f\x7f\x61a\xff\xf6\xff\x01",
+        "Typed(Array([Text(\"a\"), Null]))",
+        b"\x01",
+    ),
+];
+
+/// Each type by its own call.
+pub fn types(tally: &mut Tally) -> Result<(), Broken> {
+    reads_rows::<Typed<String>>(tally, "typed String", TEXTS)?;
+    reads_rows::<Typed<Bytes<Vec<u8>>>>(tally, "typed Bytes", BYTES)?;
+    reads_rows::<Typed<Vec<u8>>>(tally, "typed Vec", NUMBERS)?;
+    reads_rows::<Typed<Option<Vec<(String, Box<u8>)>>>>(tally, "typed Vec of pairs", PAIRS)?;
+    reads_rows::<Typed<BTreeMap<u8, u8>>>(tally, "typed BTreeMap", MAPS)?;
+    reads_rows::<Typed<BTreeMap<String, Vec<String>>>>(tally, "typed map", MAPS_OF_TEXTS)?;
+    reads_rows::<Typed<Value>>(tally, "deserialize_any", ANY)
+}
+
+type Fields = (Option<String>, Option<Vec<u8>>, Option<u8>);
+
+impl ReadFrom for Typed<Fields> {
+    fn read_from<S: Source>(alloc: Global, reader: &mut S) -> Result<Self, DecodeError<S::Error>> {
+        let mut de = Deserializer::new(reader);
+        answer(de.deserialize_3_fields(alloc, "Fields", "name", "list", "none"))
+    }
+}
+
+/// A variant of an enum.
+#[derive(Debug, Drop)]
+struct Variant {
+    name: String,
+    content: Vec<u8>,
+}
+
+impl ReadFrom for Typed<Variant> {
+    fn read_from<S: Source>(alloc: Global, reader: &mut S) -> Result<Self, DecodeError<S::Error>> {
+        answer(read_variant(alloc, &mut Deserializer::new(reader)))
+    }
+}
+
+fn read_variant<S: Source>(
+    alloc: Global,
+    de: &mut Deserializer<S>,
+) -> Result<Variant, serde::DecodeError<S::Error>> {
+    let mut variant = de.deserialize_enum("Enum", &["List"])?;
+    let name = variant.variant(alloc)?;
+    let content = variant.newtype_variant(alloc)?;
+    Ok(Variant { name, content })
+}
+
+/// The first item of an array, read part by part, and what is behind it.
+#[derive(Debug, Drop)]
+struct Parts(Option<String>, Option<String>);
+
+impl ReadFrom for Typed<Parts> {
+    fn read_from<S: Source>(alloc: Global, reader: &mut S) -> Result<Self, DecodeError<S::Error>> {
+        answer(read_parts(alloc, &mut Deserializer::new(reader)))
+    }
+}
+
+fn read_parts<S: Source>(
+    alloc: Global,
+    de: &mut Deserializer<S>,
+) -> Result<Parts, serde::DecodeError<S::Error>> {
+    let mut items = de.deserialize_seq()?;
+    let first = items.next_element(alloc)?;
+    let second = items.next_element(alloc)?;
+    Ok(Parts(first, second))
+}
+
+const FIELDS: &[Row] = &[(
+    b"\xa3\x64list\x82\x01\x02\x65other\x81\x05\x64name\x61a",
+    "Typed((Some(\"a\"), Some([1, 2]), None))",
+    b"",
+)];
+
+const VARIANTS: &[Row] = &[(
+    b"\xa1\x64List\x82\x01\x02\x03",
+    "Typed(Variant { name: \"List\", content: [1, 2] })",
+    b"\x03",
+)];
+
+const PARTS: &[Row] = &[(
+    b"\x9f\x61a\x7f\x61b\xff\xff",
+    "Typed(Parts(Some(\"a\"), Some(\"b\")))",
+    b"\xff",
+)];
+
+/// Calls for structs, variants and parts.
+pub fn calls(tally: &mut Tally) -> Result<(), Broken> {
+    reads_rows::<Typed<Fields>>(tally, "deserialize_3_fields", FIELDS)?;
+    reads_rows::<Typed<Variant>>(tally, "deserialize_enum", VARIANTS)?;
+    reads_rows::<Typed<Parts>>(tally, "deserialize_seq", PARTS)
+}
+
+// ["a", "bc"], and a break behind it.
+const LIST: &[u8] = b"\x82\x61a\x62bc\xff";
+
+/// The calls that read one value off a whole input.
+pub fn firsts(tally: &mut Tally) -> Result<(), Broken> {
+    let got: Result<Vec<String>, _> = from_slice(tally.alloc(), LIST);
+    answers(tally, "from_slice", got)?;
+    let stream = FailingStream::new(LIST, 3, usize::MAX);
+    let got: Result<Vec<String>, _> = from_reader(tally.alloc(), stream);
+    answers(tally, "from_reader", got)
+}
+
+fn answers<T: Debug + Drop, E: Drop>(
+    tally: &mut Tally,
+    row: &'static str,
+    got: Result<T, serde::DecodeError<E>>,
+) -> Result<(), Broken> {
+    match &got {
+        Ok(value) if is_told(value, &[("[\"a\", \"bc\"]", 1)]) => {}
+        Ok(_) => return Err(Broken::new(row, "another value is read")),
+        Err(serde::DecodeError::Core(DecodeError::OutOfMemory)) => tally.refuse(),
+        Err(_) => return Err(Broken::new(row, "it is refused")),
+    }
+    Ok(())
+}
