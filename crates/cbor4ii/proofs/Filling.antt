@@ -1,12 +1,9 @@
 -- What becomes of a struct's values, entry by entry.
-use Rattle.std.proofs.Common.{◌-◌, ◌≤◌, ◌&&◌, not, length, take, drop, get_or, ap₂, nat_eq, ◌≡◌}
-use Rattle.std.proofs.Common.{◌≢◌, inl, inr, ℕ, ◌+◌, ◌<◌, List, [], ◌∷◌, ◌++◌, Option, Some, Result}
-use Rattle.std.proofs.Common.{Ok, Err, Bool, true, false, IfOk, IfErr, OnOk, refl, sym, ap, ◌∙◌}
-use Rattle.std.proofs.Common.{subst, arith}
+use Rattle.std.proofs.Common.{◌-◌, ◌≤◌, length, take, drop, get_or, ◌≡◌, ◌≢◌, inl, inr, ℕ, ◌+◌}
+use Rattle.std.proofs.Common.{◌<◌, List, [], ◌∷◌, ◌++◌, Option, Some, Result, Ok, Err, Bool, true}
+use Rattle.std.proofs.Common.{IfOk, IfErr, OnOk, refl, sym, ap, ◌∙◌, subst, arith}
 use denote.Ref.{Bor}
 use Rattle.std.proofs.Math.Seq.{take-length}
-use Rattle.std.specs.Cmp.{first_so, second_so, unsigned_Decides}
-use Rattle.std.specs.Cmp.Lexicographic.{pointwise}
 use Rattle.std.specs.declared.alloc.Global.{Global}
 use Rattle.std.specs.declared.string.String.{String}
 use Rattle.cbor4ii_rw.specs.View.{View}
@@ -131,32 +128,6 @@ skips_none V (Ok u) name a s = tt
 skips_none V (Err e) name a s = none_skipped name s
 
 -- ---- which field has a name
-
-same_name : (xs ys : List ℕ) → pointwise nat_eq xs ys ≡ true → xs ≡ ys
-same_name [] [] e = refl
-same_name [] (y ∷ ys) e = let no : false ≡ true = e in cc
-same_name (x ∷ xs) [] e = let no : false ≡ true = e in cc
-same_name (x ∷ xs) (y ∷ ys) e =
-    ap₂ ◌∷◌ ((unsigned_Decides x y).0 (first_so (nat_eq x y) (pointwise nat_eq xs ys) e))
-    (same_name xs ys (second_so (nat_eq x y) (pointwise nat_eq xs ys) e))
-
-own_name : (xs : List ℕ) → pointwise nat_eq xs xs ≡ true
-own_name [] = refl
-own_name (x ∷ xs) = ap₂ ◌&&◌ ((unsigned_Decides x x).1 refl) (own_name xs)
-
-pub differs : (xs ys : List ℕ) → true ≡ not (pointwise nat_eq xs ys) → xs ≢ ys
-differs xs ys e is =
-    let same : pointwise nat_eq xs ys ≡ true =
-    subst (λ z. pointwise nat_eq xs z ≡ true) is (own_name xs) in
-    let no : true ≡ false = e ∙ ap not same in
-    cc
-
-not_not : (b : Bool) → false ≡ not b → b ≡ true
-not_not true e = refl
-not_not false e = let no : false ≡ true = e in cc
-
-pub agrees : (xs ys : List ℕ) → false ≡ not (pointwise nat_eq xs ys) → xs ≡ ys
-agrees xs ys e = same_name xs ys (not_not (pointwise nat_eq xs ys) e)
 
 module _ {T V : Type 0} (reads : Reads T) (others : List (Bor (List ℕ)) → ReadsNamed V) where
   by_first : (names : List (Bor (List ℕ))) (d : Bor (List ℕ)) → 1 ≤ length names

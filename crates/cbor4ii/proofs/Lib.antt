@@ -29,4 +29,5 @@ pub mod AnyStopping
 pub mod ValuesBack
 pub mod FieldStops
 pub mod Filling
+pub mod Names
 pub mod Apart

@@ -19,5 +19,6 @@ pub mod AnyCost
 pub mod AnyStops
 pub mod Beginning
 pub mod ReadBack
+pub mod Names
 -- ---- laws
 pub mod Laws

@@ -18,6 +18,7 @@ mod ignored;
 mod integers;
 mod maps;
 mod methods;
+mod names;
 mod option;
 mod owned;
 mod parts;

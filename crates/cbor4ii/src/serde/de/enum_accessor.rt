@@ -47,6 +47,7 @@ pub struct EnumAccessor<'a, S: Source> {
 
 /// The step that it holds is given back, and nothing else moves.
 impl<'a, S: Source> Drop for EnumAccessor<'a, S> {
+    #[inline(always)]
     fn drop(self)
         ensures { Closes 1 (inside_enum S.view self.entry) (input S.view self.exit.0.now) }
     {
@@ -70,6 +71,7 @@ impl<S: Source> Deserializer<S> {
     /// where no step is left, of `Eof` with 1 where no byte is left, and of `Mismatch` with the
     /// first byte where it begins neither a text nor a map of one entry in one byte. Nothing is
     /// taken then.
+    #[inline(always)]
     pub fn deserialize_enum(
         &mut self,
         name: StaticStr,
@@ -101,6 +103,7 @@ impl<S: Source> Deserializer<S> {
 }
 
 /// A step, and then the form. Where it is refused, the step is given back.
+#[inline(always)]
 fn begin_enum<S: Source>(reader: &mut S) -> Result<(bool, u8), core_error::DecodeError<S::Error>>
     ensures opened { IfOk result (OpensEnum (S.view reader.old) (S.view reader.new)) }
     ensures moves { OnErr result (Moves (S.view reader.old) (S.view reader.new) result) }
@@ -123,6 +126,7 @@ fn begin_enum<S: Source>(reader: &mut S) -> Result<(bool, u8), core_error::Decod
 }
 
 /// Whether a content follows the name, and the first byte.
+#[inline(always)]
 fn take_form<S: Source>(reader: &mut S) -> Result<(bool, u8), core_error::DecodeError<S::Error>>
     ensures moves { Moves (S.view reader.old) (S.view reader.new) result }
     ensures memory { IfErr result (λ error. is_out_of_memory error ≡ false) }
@@ -228,6 +232,7 @@ impl<'a, S: Source> EnumAccessor<'a, S> {
     /// # Errors
     ///
     /// Those of the name, with what they leave. The step stays taken.
+    #[inline(always)]
     pub fn variant<V: Deserialize<S>>(&mut self, alloc: Global) -> Result<V, DecodeError<S::Error>>
         ensures same_reference { lender_of_enum self.new ≡ lender_of_enum self.old }
         ensures same_form { form_of self.new ≡ form_of self.old }
@@ -250,6 +255,7 @@ impl<'a, S: Source> EnumAccessor<'a, S> {
 
     /// A variant that is its name alone: nothing more is read. The step is given back, whatever the
     /// answer is.
+    #[inline(always)]
     pub fn unit_variant(self) -> Result<(), DecodeError<S::Error>>
         ensures closes { Closes 1 (inside_enum S.view self.entry) (input S.view self.exit.0.now) }
         ensures right { (form_of self.entry).0 ≡ false → IsOk result }
@@ -291,6 +297,7 @@ impl<'a, S: Source> EnumAccessor<'a, S> {
     /// # Errors
     ///
     /// Besides, those of the value, with what they leave.
+    #[inline(always)]
     pub fn newtype_variant<T: Deserialize<S>>(
         self,
         alloc: Global,

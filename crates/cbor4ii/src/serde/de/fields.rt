@@ -13,11 +13,13 @@ ghost use Rattle.cbor4ii.specs.Fields.{ReadsEntry, ReadsFields, Changes, Fills, 
 ghost use Rattle.cbor4ii.specs.Fields.{NamedLaws, SameField, no_field_laws, every, StopsNamed};
 ghost use Rattle.cbor4ii.specs.Fields.{no_field_stops, field_stops, stops_by, StopsEntry};
 ghost use Rattle.cbor4ii.specs.Fields.{StopsFields, fields_by_laws};
+ghost use Rattle.cbor4ii.specs.Names.{StandsAt};
 ghost use Rattle.cbor4ii.specs.Typed.{input, answer_of, any_two, as_core, said};
 
 use crate::serde::de::deserialize::{Deserialize, Typed};
 use crate::serde::de::deserializer::Deserializer;
 use crate::serde::de::error::DecodeError;
+use crate::serde::de::names::take_name;
 use crate::serde::de::parts::takes_break;
 use cbor4ii_items::types::Map;
 use cbor4ii_rw::error as core_error;
@@ -40,22 +42,25 @@ trait Values<S: Source>: Sized {
 
     ghost exact: { Bool };
 
-    /// Reads the value of the field that has this name, and skips one of another name.
+    /// Reads the value of the field whose name stands at this place, and skips one of another name.
     #[inline(always)]
     fn take(
         &mut self,
         alloc: Global,
         names: &[StaticStr],
-        name: &str,
+        at: usize,
         de: &mut Deserializer<S>,
     ) -> Result<(), DecodeError<S::Error>>
         ensures moves { Moves (input S.view de.old) (input S.view de.new) (answer_of result) }
-        ensures sound { OnOk result (Changes (Self.named names.now name.now) self.old self.new
+        ensures sound { (name : List ℕ) → StandsAt name names.now at →
+            OnOk result (Changes (Self.named names.now name) self.old self.new
             (input S.view de.old) (input S.view de.new)) }
-        ensures complete { IsTrue Self.exact → IsExact Self.owned (input S.view de.old) →
-            IfErr result (λ error. Refuses (Self.named names.now name.now)
+        ensures complete { (name : List ℕ) → StandsAt name names.now at →
+            IsTrue Self.exact → IsExact Self.owned (input S.view de.old) →
+            IfErr result (λ error. Refuses (Self.named names.now name)
             (input S.view de.old) (as_core error)) }
-        ensures stops { IfErr result (λ error. Stops (Self.stops names.now name.now)
+        ensures stops { (name : List ℕ) → StandsAt name names.now at →
+            IfErr result (λ error. Stops (Self.stops names.now name)
             (input S.view de.old) (input S.view de.new) (as_core error)) };
 
     ghost laws: { IsTrue Self.exact → (names : List (Bor (List ℕ))) → NamedLaws
@@ -79,7 +84,7 @@ impl<S: Source> Values<S> for () {
         &mut self,
         alloc: Global,
         names: &[StaticStr],
-        name: &str,
+        at: usize,
         de: &mut Deserializer<S>,
     ) -> Result<(), DecodeError<S::Error>> {
         de.deserialize_ignored_any(alloc)
@@ -105,13 +110,13 @@ impl<S: Source, T: Deserialize<S> + Drop, V: Values<S>> Values<S> for (Option<T>
         &mut self,
         alloc: Global,
         names: &[StaticStr],
-        name: &str,
+        at: usize,
         de: &mut Deserializer<S>,
     ) -> Result<(), DecodeError<S::Error>> {
         match names {
-            [own, behind @ ..] => {
-                if name != *own {
-                    return self.1.take(alloc, behind, name, de);
+            [_, behind @ ..] => {
+                if at > 0 {
+                    return self.1.take(alloc, behind, at - 1, de);
                 }
                 match T::deserialize(alloc, de) {
                     Ok(value) => {
@@ -146,8 +151,8 @@ fn take_field<S: Source, V: Values<S>>(
     ensures stops { IfErr result (λ error. Stops (StopsEntry (V.stops names.now))
         (input S.view de.old) (input S.view de.new) (as_core error)) }
 {
-    match String::deserialize(alloc, de) {
-        Ok(name) => values.take(alloc, names, name.as_str(), de),
+    match take_name(alloc, de, names) {
+        Ok(at) => values.take(alloc, names, at, de),
         Err(error) => Err(error),
     }
 }
@@ -261,7 +266,8 @@ fn open_fields<S: Source, V: Values<S>>(
 /// struct's own name is not spelled.
 ///
 /// A name is read as a `String`, and what is skipped as `IgnoredAny`, both under the step of the
-/// map. The budget is as before, whatever the answer is.
+/// map. A name takes no memory where it stands whole in what the reader shows, behind its length in
+/// one byte. The budget is as before, whatever the answer is.
 ///
 /// # Errors
 ///

@@ -74,6 +74,7 @@ impl<S: Source, A: Deserialize<S> + Drop, B: Deserialize<S>> Deserialize<S> for 
 }
 
 /// Reads a head that counts two, and the two behind it.
+#[inline(always)]
 fn pair_behind<S: Source, A: Deserialize<S> + Drop, B: Deserialize<S>>(
     alloc: Global,
     de: &mut Deserializer<S>,
@@ -126,6 +127,7 @@ pub(crate) fn two_parts<S: Source, A: Deserialize<S> + Drop, B: Deserialize<S>>(
 }
 
 /// Takes the head of an array of so many items.
+#[inline(always)]
 pub(crate) fn take_count<S: Source>(
     reader: &mut S,
     count: usize,
@@ -214,6 +216,7 @@ impl<S: Source, A: Deserialize<S> + Drop, B: Deserialize<S> + Drop, C: Deseriali
 }
 
 /// Reads a head that counts three, and the three behind it.
+#[inline(always)]
 fn triple_behind<S: Source, A: Deserialize<S> + Drop, B: Deserialize<S> + Drop, C: Deserialize<S>>(
     alloc: Global,
     de: &mut Deserializer<S>,
@@ -241,6 +244,7 @@ fn triple_behind<S: Source, A: Deserialize<S> + Drop, B: Deserialize<S> + Drop, 
 }
 
 /// Reads three parts.
+#[inline(always)]
 fn three_parts<S: Source, A: Deserialize<S> + Drop, B: Deserialize<S> + Drop, C: Deserialize<S>>(
     alloc: Global,
     de: &mut Deserializer<S>,
