@@ -94,25 +94,6 @@ pub fn reads<T: ReadFrom + Debug + Drop>(
     reads_over::<T, _>(tally, &mut IoReader::new(stream), meant)
 }
 
-/// As `reads`, of what may be borrowed from its bytes, which are those of `segments` too.
-pub fn lends<T>(
-    tally: &mut Tally,
-    meant: &Meant<'static>,
-    segments: &'static [&'static [u8]],
-) -> Result<(), Broken>
-where
-    T: ReadBy<SliceReader<'static>>
-        + ReadBy<SegmentReader<'static>>
-        + ReadBy<IoReader<FailingStream<'static>>>
-        + Debug
-        + Drop,
-{
-    reads_over::<T, _>(tally, &mut SliceReader::new(meant.bytes), meant)?;
-    reads_over::<T, _>(tally, &mut SegmentReader::new(segments), meant)?;
-    let stream = FailingStream::new(meant.bytes, 3, usize::MAX);
-    reads_over::<T, _>(tally, &mut IoReader::new(stream), meant)
-}
-
 /// Reads the row over this reader, which holds its bytes. The steps are as before, and an end of
 /// the bytes is left. Want of memory is the one refusal that may come.
 pub fn reads_over<T: ReadBy<S> + Debug + Drop, S: Source>(

@@ -1,16 +1,18 @@
 //! Rows of whole items, of their copies, and of items that are kept as their bytes.
-use crate::read::{Left, Meant, Row, lends, reads_in_place, reads_over, reads_rows};
+use crate::read::{Left, Meant, Row, reads_in_place, reads_over, reads_rows};
 use crate::tally::{Broken, Tally};
 use crate::told::is_told;
 use cbor4ii_items::decode::Decode;
 use cbor4ii_items::types::{Bytes, UncheckedStr};
 use cbor4ii_rw::error::{DecodeError, EncodeError};
+use cbor4ii_rw::io_reader::IoReader;
 use cbor4ii_rw::read::Source;
 use cbor4ii_rw::segment_reader::SegmentReader;
 use cbor4ii_rw::slice_reader::SliceReader;
 use cbor4ii_tree::{BoxedRawValue, Canonical, IgnoredAny, NoMemory, Value};
 use cbor4ii_trials::items::Lent;
 use cbor4ii_trials::rows::ReadFrom;
+use cbor4ii_trials::streams::FailingStream;
 use std::alloc::Global;
 use std::borrow::{CowSlice, CowStr};
 
@@ -219,15 +221,39 @@ const LENT_UNCHECKED: Meant<'static> = Meant {
 
 /// Strings that are borrowed where a reader lends them.
 pub fn lent(tally: &mut Tally) -> Result<(), Broken> {
-    lends::<Lent<CowStr<'static, Global>>>(tally, &LENT_TEXT, &[b"\x64IE", b"TF\x01"])?;
-    lends::<Lent<Bytes<CowSlice<'static, u8, Global>>>>(
-        tally,
-        &LENT_BYTES,
-        &[b"\x5f\x42\x01", b"\x02\x41\x03\xff"],
-    )?;
-    lends::<Lent<UncheckedStr<CowSlice<'static, u8, Global>>>>(
-        tally,
-        &LENT_UNCHECKED,
-        &[b"\x62\xff", b"\xfe"],
-    )
+    lent_texts(tally)?;
+    lent_bytes(tally)?;
+    lent_unchecked(tally)
+}
+
+fn lent_texts(tally: &mut Tally) -> Result<(), Broken> {
+    let mut slice = SliceReader::new(LENT_TEXT.bytes);
+    reads_over::<Lent<CowStr<'_, Global>>, _>(tally, &mut slice, &LENT_TEXT)?;
+    let segments = [b"\x64IE".as_slice(), b"TF\x01"];
+    let mut reader = SegmentReader::new(&segments);
+    reads_over::<Lent<CowStr<'_, Global>>, _>(tally, &mut reader, &LENT_TEXT)?;
+    let mut stream = IoReader::new(FailingStream::new(LENT_TEXT.bytes, 3, usize::MAX));
+    reads_over::<Lent<CowStr<'_, Global>>, _>(tally, &mut stream, &LENT_TEXT)
+}
+
+fn lent_bytes(tally: &mut Tally) -> Result<(), Broken> {
+    let mut slice = SliceReader::new(LENT_BYTES.bytes);
+    reads_over::<Lent<Bytes<CowSlice<'_, u8, Global>>>, _>(tally, &mut slice, &LENT_BYTES)?;
+    let segments = [b"\x5f\x42\x01".as_slice(), b"\x02\x41\x03\xff"];
+    let mut reader = SegmentReader::new(&segments);
+    reads_over::<Lent<Bytes<CowSlice<'_, u8, Global>>>, _>(tally, &mut reader, &LENT_BYTES)?;
+    let mut stream = IoReader::new(FailingStream::new(LENT_BYTES.bytes, 3, usize::MAX));
+    reads_over::<Lent<Bytes<CowSlice<'_, u8, Global>>>, _>(tally, &mut stream, &LENT_BYTES)
+}
+
+type Unchecked<'a> = Lent<UncheckedStr<CowSlice<'a, u8, Global>>>;
+
+fn lent_unchecked(tally: &mut Tally) -> Result<(), Broken> {
+    let mut slice = SliceReader::new(LENT_UNCHECKED.bytes);
+    reads_over::<Unchecked<'_>, _>(tally, &mut slice, &LENT_UNCHECKED)?;
+    let segments = [b"\x62\xff".as_slice(), b"\xfe"];
+    let mut reader = SegmentReader::new(&segments);
+    reads_over::<Unchecked<'_>, _>(tally, &mut reader, &LENT_UNCHECKED)?;
+    let mut stream = IoReader::new(FailingStream::new(LENT_UNCHECKED.bytes, 3, usize::MAX));
+    reads_over::<Unchecked<'_>, _>(tally, &mut stream, &LENT_UNCHECKED)
 }

@@ -1,7 +1,7 @@
 //! Rows of what is written into a buffer, which keeps what it held where memory is refused.
 use crate::tally::{Broken, Tally};
 use crate::values::value;
-use cbor4ii::serde::{EncodeError, Serializer, to_vec};
+use cbor4ii::serde::{EncodeError, Serializer, Text, TextFault, TextWriter, to_vec};
 use cbor4ii::types::{Bytes, F64, Map, Maybe, Tag, UncheckedStr};
 use cbor4ii_rw::buf_writer::BufWriter;
 use cbor4ii_rw::error as core_error;
@@ -86,15 +86,20 @@ pub fn items(tally: &mut Tally) -> Result<(), Broken> {
 
 /// Items that hold others.
 pub fn containers(tally: &mut Tally) -> Result<(), Broken> {
-    writes(tally, "array", &["a", "bc"].as_slice(), b"\x82\x61a\x62bc")?;
+    writes(
+        tally,
+        "array",
+        &[1_000u16, 2].as_slice(),
+        b"\x82\x19\x03\xe8\x02",
+    )?;
     writes(
         tally,
         "map",
-        &Map([("a", 5u8)].as_slice()),
-        b"\xa1\x61a\x05",
+        &Map([(1u8, 500u16)].as_slice()),
+        b"\xa1\x01\x19\x01\xf4",
     )?;
     writes(tally, "tag", &Tag(24, "a"), b"\xd8\x18\x61a")?;
-    writes(tally, "Maybe", &Maybe(&Some("a")), b"\x81\x61a")
+    writes(tally, "Maybe", &Maybe(&Some(500u16)), b"\x81\x19\x01\xf4")
 }
 
 // {"a": [h'0102', 1(null)]}, and how it is written.
@@ -110,16 +115,31 @@ pub fn values(tally: &mut Tally) -> Result<(), Broken> {
     }
 }
 
+/// A text twice, one behind the other.
+#[derive(Clone, Copy)]
+struct Twice<T>(T);
+
+impl<T: Text + Copy> Text for Twice<T> {
+    ghost pieces = { λ text. ⟦<(T, T) as Text>⟧.pieces (text.0, text.0) };
+
+    ghost refuses = { λ text. ⟦<(T, T) as Text>⟧.refuses (text.0, text.0) };
+
+    fn write_to<W: Write>(&self, out: &mut TextWriter<'_, W>) -> Result<(), TextFault> {
+        (self.0, self.0).write_to(out)
+    }
+}
+
+// Eight pieces of 56 letters.
+const PIECES: Twice<Twice<Twice<&str>>> = Twice(Twice(Twice(
+    "aaaaaaaaaaaaaaaaaaaaaaaaaaaaaaaaaaaaaaaaaaaaaaaaaaaaaaaa",
+)));
+
 /// A text in pieces.
 struct InPieces;
 
-// 56 letters.
-const LETTERS: &str = "aaaaaaaaaaaaaaaaaaaaaaaaaaaaaaaaaaaaaaaaaaaaaaaaaaaaaaaa";
-
 impl Put for InPieces {
     fn put<W: Write>(&self, ser: &mut Serializer<W>) -> Result<(), EncodeError<W::Error>> {
-        let four = ((LETTERS, LETTERS), (LETTERS, LETTERS));
-        ser.collect_str(&(four, LETTERS))
+        ser.collect_str(&PIECES)
     }
 }
 
@@ -155,8 +175,8 @@ impl Put for InParts {
     }
 }
 
-/// Typed values, by the calls of a serializer. The text in pieces has chunks of 224 and of 56
-/// letters: a fifth piece makes more than 255.
+/// Typed values, by the calls of a serializer. The text in pieces has two chunks of 224
+/// letters: a fifth piece makes more than 255 of the first, and the rest four more.
 pub fn typed(tally: &mut Tally) -> Result<(), Broken> {
     let fields = b"\xa3\x61a\x05\x61b\x64text\x61c\x20";
     writes(tally, "serialize_3_fields", &Typed(Fields), fields)?;
@@ -172,8 +192,8 @@ pub fn typed(tally: &mut Tally) -> Result<(), Broken> {
     let chunks: [(&[u8], usize); 5] = [
         (b"\x7f\x78\xe0", 1),
         (b"a", 224),
-        (b"\x78\x38", 1),
-        (b"a", 56),
+        (b"\x78\xe0", 1),
+        (b"a", 224),
         (b"\xff", 1),
     ];
     match tally.joined(&chunks) {

@@ -15,6 +15,15 @@ type Want = Result<&'static [u8], Kind>;
 
 const LEAST: &[u8] = b"\x3b\xff\xff\xff\xff\xff\xff\xff\xff";
 
+// 2^64 + 98, as a bignum.
+const BIG: &[u8] = b"\xc2\x49\x01\x00\x00\x00\x00\x00\x00\x00\x62";
+
+// A map of "bar" to a map of "value" to 153.
+const BAR: &[u8] = b"\xa1\x63bar\xa1\x65value\x18\x99";
+
+// [1, [2, 3], [4, 5]].
+const NUMBERS: &[u8] = b"\x83\x01\x82\x02\x03\x82\x04\x05";
+
 // An input, and what `canon` and `lens` make of it.
 const ITEMS: &[(&[u8], Want, Want)] = table! {
     (b"", Ok(b""), Ok(b"")),
@@ -28,6 +37,37 @@ const ITEMS: &[(&[u8], Want, Want)] = table! {
     (b"\xbf\x01\xff", Err(Kind::Unsupported), Err(Kind::Unsupported)),
     (b"\xe0", Err(Kind::Unsupported), Err(Kind::Unsupported)),
     (b"\xf7", Ok(b"\xf6"), Ok(b"1\n")),
+    (BIG, Ok(BIG), Ok(b"11\n")),
+    (BAR, Ok(BAR), Ok(b"14\n")),
+    (b"\x8a", Err(Kind::Eof), Err(Kind::Eof)),
+    (b"\x7a\x86", Err(Kind::Eof), Err(Kind::Eof)),
+    (b"\x63\x61\x61", Err(Kind::Eof), Err(Kind::Eof)),
+    (b"\x19\x00", Err(Kind::Eof), Err(Kind::Eof)),
+    (b"\x1c\x00", Err(Kind::Mismatch), Err(Kind::Mismatch)),
+    (b"\x5c", Err(Kind::Mismatch), Err(Kind::Mismatch)),
+    (b"\xff", Err(Kind::Unsupported), Err(Kind::Unsupported)),
+    (b"\xf8\x14", Err(Kind::Unsupported), Err(Kind::Unsupported)),
+};
+
+// Items with indefinite lengths and longer heads (RFC 8949 appendix A, and others), what `canon`
+// and `lens` make of them.
+const READ: &[(&[u8], Want, Want)] = table! {
+    (b"\x5f\x42\x01\x02\x43\x03\x04\x05\xff", Ok(b"\x45\x01\x02\x03\x04\x05"), Ok(b"9\n")),
+    (b"\x7f\x65strea\x64ming\xff", Ok(b"\x69streaming"), Ok(b"13\n")),
+    (b"\x9f\xff", Ok(b"\x80"), Ok(b"2\n")),
+    (b"\x9f\x01\x82\x02\x03\x9f\x04\x05\xff\xff", Ok(NUMBERS), Ok(b"10\n")),
+    (b"\x9f\x01\x82\x02\x03\x82\x04\x05\xff", Ok(NUMBERS), Ok(b"9\n")),
+    (b"\x83\x01\x82\x02\x03\x9f\x04\x05\xff", Ok(NUMBERS), Ok(b"9\n")),
+    (b"\x83\x01\x9f\x02\x03\xff\x82\x04\x05", Ok(NUMBERS), Ok(b"9\n")),
+    (b"\xbf\x61a\x01\x61b\x9f\x02\x03\xff\xff", Ok(b"\xa2\x61a\x01\x61b\x82\x02\x03"), Ok(b"11\n")),
+    (b"\x82\x61a\xbf\x61b\x61c\xff", Ok(b"\x82\x61a\xa1\x61b\x61c"), Ok(b"9\n")),
+    (b"\xbf\x63Fun\xf5\x63Amt\x21\xff", Ok(b"\xa2\x63Fun\xf5\x63Amt\x21"), Ok(b"12\n")),
+    (b"\x9f\x7f\xff\x61a\xff", Ok(b"\x82\x60\x61a"), Ok(b"6\n")),
+    (b"\x82\x7f\xff\x61a", Ok(b"\x82\x60\x61a"), Ok(b"5\n")),
+    (b"\xa1\x7f\x61k\xff\x01", Ok(b"\xa1\x61k\x01"), Ok(b"6\n")),
+    (b"\x9f\x5f\x41\x01\xff\x41\x02\xff", Ok(b"\x82\x41\x01\x41\x02"), Ok(b"8\n")),
+    (b"\xdb\x00\x00\x00\x00\x00\x00\x00\x2a\x00", Ok(b"\xd8\x2a\x00"), Ok(b"10\n")),
+    (b"\xa2\x01\x02\x01\x03", Ok(b"\xa2\x01\x02\x01\x03"), Ok(b"5\n")),
 };
 
 // An empty array in so many arrays of one item: whether it is a value within 256 steps, and what
@@ -98,13 +138,23 @@ fn converts_by_each(
     converts(rt, command, input, 512, want)
 }
 
-#[test]
-fn one_item(rt: HostRuntime) -> io::Result<()> {
-    for &(input, canon, lens) in ITEMS {
-        converts_by_each(&rt, Command::Canon, input, canon)?;
-        converts_by_each(&rt, Command::Lens, input, lens)?;
+// Each row by `canon` and by `lens`.
+fn rows_hold(rt: &(impl Abort + AllocGlobal), rows: &[(&[u8], Want, Want)]) -> io::Result<()> {
+    for (input, canon, lens) in rows {
+        converts_by_each(rt, Command::Canon, input, *canon)?;
+        converts_by_each(rt, Command::Lens, input, *lens)?;
     }
     Ok(())
+}
+
+#[test]
+fn one_item(rt: HostRuntime) -> io::Result<()> {
+    rows_hold(&rt, ITEMS)
+}
+
+#[test]
+fn items_of_other_spellings(rt: HostRuntime) -> io::Result<()> {
+    rows_hold(&rt, READ)
 }
 
 #[test]

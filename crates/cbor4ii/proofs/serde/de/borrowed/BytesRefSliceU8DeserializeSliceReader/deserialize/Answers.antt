@@ -1,4 +1,5 @@
 use Rattle.std.proofs.Common.{refl, inl}
+use Rattle.cbor4ii_rw.specs.Slice.{slice_view}
 use Rattle.cbor4ii_items.specs.Laws.Strings.{two_small}
 use Rattle.cbor4ii.proofs.Borrowing.{lent_moves, lent_progress, lent_stops, lent_sound}
 use Rattle.cbor4ii.proofs.Borrowing.{lent_refuses, bytes_apart, bytes_counted, bytes_lent}
@@ -33,5 +34,6 @@ returns-clause-stops c said =
 
 pub returns-clause-place : goal.returns-clause-place
 returns-clause-place c =
-    lent_place c.decode-found.result c.lent_slice.result _ _ c.lent_slice.ensures.part
+    lent_place c.decode-found.result c.lent_slice.result (slice_view c.args.de.now.reader)
+    (slice_view c.decode-found.new.reader) c.lent_slice.ensures.part
     c.decode-found.ensures.place
