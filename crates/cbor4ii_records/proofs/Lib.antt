@@ -2,5 +2,5 @@
 pub mod Variants
 -- A type that holds values of its own kind.
 pub mod Nests
--- A struct of named fields.
+-- The fields of a struct, as they are written and read back.
 pub mod Points

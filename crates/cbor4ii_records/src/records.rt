@@ -91,8 +91,8 @@ pub fn point_is_one_item(point: &Point)
     numbers_are_in_range(point.x, point.y);
 }
 
-/// What a `Point` writes is read back by `deserialize_3_fields`: its numbers and its text, with what
-/// stands behind left. The reader may be any that tells these bytes and something behind them.
+/// What a `Point` writes is read back by `deserialize_3_fields`: its numbers and its text, with
+/// what stands behind left. The reader may be any that tells these bytes and something behind them.
 /// Under a budget of at least two steps the bytes are not refused.
 pub fn point_is_read_back<E>(alloc: Global, point: &Point)
     ensures accepted { (bytes rest : List ℕ) (old new : View) (x : Option ℕ)
