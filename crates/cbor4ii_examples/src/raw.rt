@@ -266,7 +266,7 @@ fn copies_in_maps_of_segments(rt: HostRuntime) -> Result<(), Fail> {
 
 // A key or a value that is cut is the end of the input, and nothing of it is taken.
 fn copies_pair(alloc: Global, segments: &[&[u8]], left: Option<&[u8]>) -> Result<(), Fail> {
-    let mut reader = SegmentReader::new(segments);
+    let mut reader = SegmentReader::new(&*segments);
     let got = <Map<Vec<(BoxedRawValue, BoxedRawValue)>>>::decode(alloc, &mut reader);
     match (got, left) {
         (Ok(map), None) => are_pair(&map)?,
