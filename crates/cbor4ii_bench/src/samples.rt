@@ -1,0 +1,20 @@
+//! Samples of sensors that come from a stream, each written again in its canonical spelling.
+use crate::digest::Digest;
+use crate::fault::Fault;
+use crate::ingest::rewrite;
+use crate::noise::Noise;
+use crate::shapes;
+use cbor4ii_rw::buf_writer::BufWriter;
+use std::alloc::Global;
+
+/// So many samples are in a stream.
+const SAMPLES: u64 = 1000;
+
+/// One stream of samples.
+pub fn round(alloc: Global, noise: &mut Noise, digest: &mut Digest) -> Result<(), Fault> {
+    let mut writer = BufWriter::new(Vec::new(alloc));
+    for i in 0..SAMPLES {
+        shapes::sample(&mut writer, noise, 1_700_000_000_000 + i)?;
+    }
+    rewrite(alloc, writer.buffer(), digest)
+}
