@@ -9,5 +9,5 @@ pub mod Decoding
 pub mod Encoding
 pub mod InRange
 pub mod Views
-pub mod Progress
+pub mod Answered
 pub mod Ends

@@ -1,5 +1,5 @@
 //! Values that are spelled in one way, read.
-ghost use Rattle.std.specs.Prelude.{◌≡◌, ◌+◌, ◌*◌, ◌≤◌, ◌/◌, OnOk, IfOk, IfErr, true};
+ghost use Rattle.std.specs.Prelude.{◌≡◌, ◌+◌, ◌*◌, ◌≤◌, ◌/◌, OnOk, OnSome, IfOk, IfErr, true};
 ghost use Rattle.cbor4ii_items.specs.Decoding.{Sound, Refuses, Stops};
 ghost use Rattle.cbor4ii_items.specs.Moves.{Moves};
 ghost use Rattle.cbor4ii_tree.specs.Canonically.{ReadsCanonical, StopsCanonical, OnlyCanonical};
@@ -8,7 +8,7 @@ ghost use Rattle.cbor4ii_tree.specs.Canonically.{FrontCanonical, DepthCanonical,
 ghost use Rattle.cbor4ii_tree.specs.Canonically.{OthersCanonical, ExactCanonical, ValueCanonical};
 ghost use Rattle.cbor4ii_tree.specs.Laws.CanonicalReading.{canonical_one, canonical_within};
 ghost use Rattle.cbor4ii_tree.specs.Laws.CanonicalReading.{canonical_positive, canonical_alone};
-ghost use Rattle.cbor4ii_tree.specs.Does.{DoesUnder};
+ghost use Rattle.cbor4ii_tree.specs.Does.{DoesUnder, answered};
 ghost use Rattle.cbor4ii_tree.specs.Promises.{EofReads};
 ghost use Rattle.cbor4ii_tree.specs.Refusal.{array_name, map_name};
 ghost use Rattle.cbor4ii_tree.specs.StopsStrictly.{StrictTextStops, StrictArrayStops};
@@ -23,6 +23,7 @@ ghost use Rattle.cbor4ii_tree.specs.View.{view};
 
 use crate::front::Own;
 use crate::simple::{read_float, simple_of};
+use crate::slot::{leave, part, whole};
 use crate::unseen::peek;
 use crate::value::Value;
 use cbor4ii_items::canonical::{canonical_buf, canonical_head};
@@ -91,7 +92,8 @@ impl<S: Source> Decode<S> for Canonical {
         ensures exact { ExactCanonical (S.view reader.old) (S.view reader.new) result }
         ensures value { ValueCanonical (S.view reader.old) (S.view reader.new) result }
     {
-        Ok(Canonical(read_one(alloc, reader)?))
+        let mut failure = None;
+        Ok(Canonical(whole(read_one(alloc, reader, &mut failure), failure)?))
     }
 
     ghost one = { canonical_one };
@@ -103,52 +105,66 @@ impl<S: Source> Decode<S> for Canonical {
     ghost alone = { canonical_alone };
 }
 
-/// Reads one value.
+/// Reads one value. Where it does not, the refusal goes to `failure`, which is left empty where
+/// memory was refused.
 #[cycle(strict)]
-fn read_one<S: Source>(alloc: Global, reader: &mut S) -> Result<Value, DecodeError<S::Error>>
+fn read_one<S: Source>(
+    alloc: Global,
+    reader: &mut S,
+    failure: &mut Option<DecodeError<S::Error>>,
+) -> Option<Value>
     ensures does { DoesUnder ReadsExactly StopsExactly
-        (S.view reader.old) (S.view reader.new) result }
-    ensures progress { OnOk result ((S.view reader.new).bound + 1 ≤ (S.view reader.old).bound) }
+        (S.view reader.old) (S.view reader.new) (answered result failure.new) }
+    ensures progress { OnSome result ((S.view reader.new).bound + 1 ≤ (S.view reader.old).bound) }
 {
     if !reader.step_in() {
-        return Err(DecodeError::DepthOverflow { name: "value" });
+        leave(DecodeError::DepthOverflow { name: "value" }, failure);
+        return None;
     }
-    let outcome = read_inside(alloc, reader);
+    let outcome = read_inside(alloc, reader, failure);
     reader.step_out();
     outcome
 }
 
 /// Reads one value whose step was taken.
 #[cycle(strict)]
-fn read_inside<S: Source>(alloc: Global, reader: &mut S) -> Result<Value, DecodeError<S::Error>>
+fn read_inside<S: Source>(
+    alloc: Global,
+    reader: &mut S,
+    failure: &mut Option<DecodeError<S::Error>>,
+) -> Option<Value>
     ensures does { DoesUnder ReadsExactlyUnder StopsExactlyUnder
-        (S.view reader.old) (S.view reader.new) result }
-    ensures progress { OnOk result ((S.view reader.new).bound + 1 ≤ (S.view reader.old).bound) }
+        (S.view reader.old) (S.view reader.new) (answered result failure.new) }
+    ensures progress { OnSome result ((S.view reader.new).bound + 1 ≤ (S.view reader.old).bound) }
 {
-    let first = peek(&mut Own, reader, "value", 1)?;
+    let first = part(peek(&mut Own, reader, "value", 1), failure)?;
     if first == marker::UNDEFINED {
         reader.advance(1);
-        return Err(DecodeError::NotCanonical { name: "canonical" });
+        leave(DecodeError::NotCanonical { name: "canonical" }, failure);
+        return None;
     }
     match first / 32 {
-        major::ARRAY => Ok(Value::Array(read_array(alloc, reader)?)),
-        major::MAP => Ok(Value::Map(read_map(alloc, reader)?)),
+        major::ARRAY => Some(Value::Array(read_array(alloc, reader, failure)?)),
+        major::MAP => Some(Value::Map(read_map(alloc, reader, failure)?)),
         major::TAG => {
-            let number = canonical_head("tag", 6, reader)?;
-            let inner = read_one(alloc, reader)?;
+            let number = part(canonical_head("tag", 6, reader), failure)?;
+            let inner = read_one(alloc, reader, failure)?;
             match Box::new(alloc, inner) {
-                Ok(boxed) => Ok(Value::Tag(number, boxed)),
-                Err(_) => Err(DecodeError::OutOfMemory),
+                Ok(boxed) => Some(Value::Tag(number, boxed)),
+                Err(_) => {
+                    *failure = None;
+                    None
+                }
             }
         }
         major::SIMPLE => match simple_of(first) {
             Some(value) => {
                 reader.advance(1);
-                Ok(value)
+                Some(value)
             }
-            None => read_float(alloc, reader, first),
+            None => part(read_float(alloc, reader, first), failure),
         },
-        _ => read_leaf(alloc, reader, first),
+        _ => part(read_leaf(alloc, reader, first), failure),
     }
 }
 
@@ -187,18 +203,25 @@ fn read_text<S: Source>(alloc: Global, reader: &mut S) -> Result<String, DecodeE
     }
 }
 
-/// Reads an array's values, under one step.
+/// Reads an array's values, under one step. It stays out of line, so that what holds no item pays
+/// nothing for an array's locals.
 #[cycle(strict)]
-fn read_array<S: Source>(alloc: Global, reader: &mut S) -> Result<Vec<Value>, DecodeError<S::Error>>
+#[inline(never)]
+fn read_array<S: Source>(
+    alloc: Global,
+    reader: &mut S,
+    failure: &mut Option<DecodeError<S::Error>>,
+) -> Option<Vec<Value>>
     ensures does { DoesUnder (ReadsStepped (ReadsVec (AcceptsCount 4 ExactItems)))
         (StopsExactlyStepped array_name (StrictArrayStops StopsExactly))
-        (S.view reader.old) (S.view reader.new) result }
-    ensures progress { OnOk result ((S.view reader.new).bound + 1 ≤ (S.view reader.old).bound) }
+        (S.view reader.old) (S.view reader.new) (answered result failure.new) }
+    ensures progress { OnSome result ((S.view reader.new).bound + 1 ≤ (S.view reader.old).bound) }
 {
     if !reader.step_in() {
-        return Err(DecodeError::DepthOverflow { name: "array" });
+        leave(DecodeError::DepthOverflow { name: "array" }, failure);
+        return None;
     }
-    let outcome = array_inside(alloc, reader);
+    let outcome = array_inside(alloc, reader, failure);
     reader.step_out();
     outcome
 }
@@ -207,13 +230,14 @@ fn read_array<S: Source>(alloc: Global, reader: &mut S) -> Result<Vec<Value>, De
 fn array_inside<S: Source>(
     alloc: Global,
     reader: &mut S,
-) -> Result<Vec<Value>, DecodeError<S::Error>>
+    failure: &mut Option<DecodeError<S::Error>>,
+) -> Option<Vec<Value>>
     ensures does { DoesUnder (ReadsVec (AcceptsCount 4 ExactItems)) (StrictArrayStops StopsExactly)
-        (S.view reader.old) (S.view reader.new) result }
-    ensures progress { OnOk result ((S.view reader.new).bound + 1 ≤ (S.view reader.old).bound) }
+        (S.view reader.old) (S.view reader.new) (answered result failure.new) }
+    ensures progress { OnSome result ((S.view reader.new).bound + 1 ≤ (S.view reader.old).bound) }
 {
-    let count = canonical_head("array", 4, reader)?;
-    counted_items(alloc, reader, count as usize)
+    let count = part(canonical_head("array", 4, reader), failure)?;
+    counted_items(alloc, reader, count as usize, failure)
 }
 
 #[cycle(strict)]
@@ -221,38 +245,44 @@ fn counted_items<S: Source>(
     alloc: Global,
     reader: &mut S,
     count: usize,
-) -> Result<Vec<Value>, DecodeError<S::Error>>
+    failure: &mut Option<DecodeError<S::Error>>,
+) -> Option<Vec<Value>>
     ensures { DoesUnder (ReadsVec (ExactItems count)) (StopsExactItems count)
-        (S.view reader.old) (S.view reader.new) result }
+        (S.view reader.old) (S.view reader.new) (answered result failure.new) }
 {
     let mut items = Vec::new(alloc);
     if items.reserve(items_ahead(count)).is_err() {
-        return Err(DecodeError::OutOfMemory);
+        *failure = None;
+        return None;
     }
     for i in 0..count {
-        let value = read_one(alloc, reader)?;
+        let value = read_one(alloc, reader, failure)?;
         if items.push(value).is_err() {
-            return Err(DecodeError::OutOfMemory);
+            *failure = None;
+            return None;
         }
     }
-    Ok(items)
+    Some(items)
 }
 
-/// Reads a map's pairs, under one step.
+/// Reads a map's pairs, under one step. It stays out of line, as `read_array`.
 #[cycle(strict)]
+#[inline(never)]
 fn read_map<S: Source>(
     alloc: Global,
     reader: &mut S,
-) -> Result<Vec<(Value, Value)>, DecodeError<S::Error>>
+    failure: &mut Option<DecodeError<S::Error>>,
+) -> Option<Vec<(Value, Value)>>
     ensures does { DoesUnder (ReadsStepped (ReadsVec (AcceptsCount 5 ExactMembers)))
         (StopsExactlyStepped map_name (StrictMapStops StopsExactly))
-        (S.view reader.old) (S.view reader.new) result }
-    ensures progress { OnOk result ((S.view reader.new).bound + 1 ≤ (S.view reader.old).bound) }
+        (S.view reader.old) (S.view reader.new) (answered result failure.new) }
+    ensures progress { OnSome result ((S.view reader.new).bound + 1 ≤ (S.view reader.old).bound) }
 {
     if !reader.step_in() {
-        return Err(DecodeError::DepthOverflow { name: "map" });
+        leave(DecodeError::DepthOverflow { name: "map" }, failure);
+        return None;
     }
-    let outcome = map_inside(alloc, reader);
+    let outcome = map_inside(alloc, reader, failure);
     reader.step_out();
     outcome
 }
@@ -261,13 +291,14 @@ fn read_map<S: Source>(
 fn map_inside<S: Source>(
     alloc: Global,
     reader: &mut S,
-) -> Result<Vec<(Value, Value)>, DecodeError<S::Error>>
+    failure: &mut Option<DecodeError<S::Error>>,
+) -> Option<Vec<(Value, Value)>>
     ensures does { DoesUnder (ReadsVec (AcceptsCount 5 ExactMembers)) (StrictMapStops StopsExactly)
-        (S.view reader.old) (S.view reader.new) result }
-    ensures progress { OnOk result ((S.view reader.new).bound + 1 ≤ (S.view reader.old).bound) }
+        (S.view reader.old) (S.view reader.new) (answered result failure.new) }
+    ensures progress { OnSome result ((S.view reader.new).bound + 1 ≤ (S.view reader.old).bound) }
 {
-    let count = canonical_head("map", 5, reader)?;
-    counted_members(alloc, reader, count as usize)
+    let count = part(canonical_head("map", 5, reader), failure)?;
+    counted_members(alloc, reader, count as usize, failure)
 }
 
 #[cycle(strict)]
@@ -275,21 +306,24 @@ fn counted_members<S: Source>(
     alloc: Global,
     reader: &mut S,
     count: usize,
-) -> Result<Vec<(Value, Value)>, DecodeError<S::Error>>
+    failure: &mut Option<DecodeError<S::Error>>,
+) -> Option<Vec<(Value, Value)>>
     ensures { DoesUnder (ReadsVec (ExactMembers count)) (StopsExactItems (2 * count))
-        (S.view reader.old) (S.view reader.new) result }
+        (S.view reader.old) (S.view reader.new) (answered result failure.new) }
 {
     let mut members = Vec::new(alloc);
     if members.reserve(items_ahead(count)).is_err() {
-        return Err(DecodeError::OutOfMemory);
+        *failure = None;
+        return None;
     }
     for i in 0..count {
-        let member = read_member(alloc, reader)?;
+        let member = read_member(alloc, reader, failure)?;
         if members.push(member).is_err() {
-            return Err(DecodeError::OutOfMemory);
+            *failure = None;
+            return None;
         }
     }
-    Ok(members)
+    Some(members)
 }
 
 /// Reads a key, and the value behind it.
@@ -297,12 +331,13 @@ fn counted_members<S: Source>(
 fn read_member<S: Source>(
     alloc: Global,
     reader: &mut S,
-) -> Result<(Value, Value), DecodeError<S::Error>>
+    failure: &mut Option<DecodeError<S::Error>>,
+) -> Option<(Value, Value)>
     ensures does { DoesUnder ExactMember StopsExactMember
-        (S.view reader.old) (S.view reader.new) result }
-    ensures progress { OnOk result ((S.view reader.new).bound + 1 ≤ (S.view reader.old).bound) }
+        (S.view reader.old) (S.view reader.new) (answered result failure.new) }
+    ensures progress { OnSome result ((S.view reader.new).bound + 1 ≤ (S.view reader.old).bound) }
 {
-    let key = read_one(alloc, reader)?;
-    let value = read_one(alloc, reader)?;
-    Ok((key, value))
+    let key = read_one(alloc, reader, failure)?;
+    let value = read_one(alloc, reader, failure)?;
+    Some((key, value))
 }

@@ -1,7 +1,7 @@
 //! Values, read.
 ghost use Rattle.std.specs.Prelude.{◌≡◌, ◌+◌, ◌≤◌, ◌/◌, [], ◌∷◌, ◌++◌, OnOk, IfOk, IfErr, true};
-ghost use Rattle.cbor4ii_rw.specs.declared.error.DecodeError.TheVariants.{OutOfMemory};
-ghost use Rattle.cbor4ii_tree.specs.Does.{DoesUnder};
+ghost use Rattle.std.specs.Prelude.{None, OnSome, IfSome, IfNone};
+ghost use Rattle.cbor4ii_tree.specs.Does.{DoesUnder, answered};
 ghost use Rattle.cbor4ii_tree.specs.Valuing.{ReadsOneValue, StopsOneValue, ReadsUnder, StopsUnder};
 ghost use Rattle.cbor4ii_tree.specs.Valuing.{ReadsStepped, StopsOf, StopsMajor, StopsFirst};
 ghost use Rattle.cbor4ii_tree.specs.Valuing.{ReadsVec, ReadsArrayInside, ReadsItems, StopsItems};
@@ -21,6 +21,7 @@ ghost use Rattle.cbor4ii_tree.specs.Laws.Values.{value_alone};
 
 use crate::front::Own;
 use crate::simple::{read_float, simple_of};
+use crate::slot::{leave, part, whole};
 use crate::unseen::peek;
 use crate::value::Value;
 use cbor4ii_items::decode::{Decode, Spelled};
@@ -99,7 +100,8 @@ impl<S: Source> Decode<S> for Value {
         ensures item { IfOk result (λ v. IsItem (view v)) }
         ensures canonical { CanonicalReads (S.view reader.old) result }
     {
-        read_value(alloc, reader)
+        let mut failure = None;
+        whole(read_value(alloc, reader, &mut failure), failure)
     }
 
     ghost one = { value_one };
@@ -111,18 +113,24 @@ impl<S: Source> Decode<S> for Value {
     ghost alone = { value_alone };
 }
 
-/// Reads one value.
+/// Reads one value. Where it does not, the refusal goes to `failure`, which is left empty where
+/// memory was refused: no large answer is handed up from level to level.
 #[cycle(read)]
-fn read_value<S: Source>(alloc: Global, reader: &mut S) -> Result<Value, DecodeError<S::Error>>
+fn read_value<S: Source>(
+    alloc: Global,
+    reader: &mut S,
+    failure: &mut Option<DecodeError<S::Error>>,
+) -> Option<Value>
     ensures does { DoesUnder ReadsOneValue StopsOneValue (S.view reader.old) (S.view reader.new)
-        result }
-    ensures item { IfOk result (λ v. IsItem (view v)) }
-    ensures progress { OnOk result ((S.view reader.new).bound + 1 ≤ (S.view reader.old).bound) }
+        (answered result failure.new) }
+    ensures item { IfSome result (λ v. IsItem (view v)) }
+    ensures progress { OnSome result ((S.view reader.new).bound + 1 ≤ (S.view reader.old).bound) }
 {
     if !reader.step_in() {
-        return Err(DecodeError::DepthOverflow { name: "value" });
+        leave(DecodeError::DepthOverflow { name: "value" }, failure);
+        return None;
     }
-    let outcome = read_inside(alloc, reader);
+    let outcome = read_inside(alloc, reader, failure);
     reader.step_out();
     outcome
 }
@@ -130,31 +138,39 @@ fn read_value<S: Source>(alloc: Global, reader: &mut S) -> Result<Value, DecodeE
 /// Reads one value whose step was taken.
 #[cycle(read)]
 #[inline(always)]
-fn read_inside<S: Source>(alloc: Global, reader: &mut S) -> Result<Value, DecodeError<S::Error>>
-    ensures does { DoesUnder ReadsUnder StopsUnder (S.view reader.old) (S.view reader.new) result }
-    ensures item { IfOk result (λ v. IsItem (view v)) }
-    ensures progress { OnOk result ((S.view reader.new).bound + 1 ≤ (S.view reader.old).bound) }
+fn read_inside<S: Source>(
+    alloc: Global,
+    reader: &mut S,
+    failure: &mut Option<DecodeError<S::Error>>,
+) -> Option<Value>
+    ensures does { DoesUnder ReadsUnder StopsUnder (S.view reader.old) (S.view reader.new)
+        (answered result failure.new) }
+    ensures item { IfSome result (λ v. IsItem (view v)) }
+    ensures progress { OnSome result ((S.view reader.new).bound + 1 ≤ (S.view reader.old).bound) }
 {
-    let first = peek(&mut Own, reader, "value", 1)?;
+    let first = part(peek(&mut Own, reader, "value", 1), failure)?;
     match first / 32 {
-        major::ARRAY => Ok(Value::Array(read_array(alloc, reader)?)),
-        major::MAP => Ok(Value::Map(read_map(alloc, reader)?)),
+        major::ARRAY => Some(Value::Array(read_array(alloc, reader, failure)?)),
+        major::MAP => Some(Value::Map(read_map(alloc, reader, failure)?)),
         major::TAG => {
-            let number = Tag::tag(reader)?;
-            let inner = read_value(alloc, reader)?;
+            let number = part(Tag::tag(reader), failure)?;
+            let inner = read_value(alloc, reader, failure)?;
             match Box::new(alloc, inner) {
-                Ok(boxed) => Ok(Value::Tag(number, boxed)),
-                Err(_) => Err(DecodeError::OutOfMemory),
+                Ok(boxed) => Some(Value::Tag(number, boxed)),
+                Err(_) => {
+                    *failure = None;
+                    None
+                }
             }
         }
         major::SIMPLE => match simple_of(first) {
             Some(value) => {
                 reader.advance(1);
-                Ok(value)
+                Some(value)
             }
-            None => read_float(alloc, reader, first),
+            None => part(read_float(alloc, reader, first), failure),
         },
-        _ => read_leaf(alloc, reader, first),
+        _ => part(read_leaf(alloc, reader, first), failure),
     }
 }
 
@@ -182,18 +198,25 @@ fn read_leaf<S: Source>(
     }
 }
 
-/// Reads an array's values, under one step.
+/// Reads an array's values, under one step. It stays out of line, so that what holds no item pays
+/// nothing for an array's locals.
 #[cycle(read)]
-fn read_array<S: Source>(alloc: Global, reader: &mut S) -> Result<Vec<Value>, DecodeError<S::Error>>
+#[inline(never)]
+fn read_array<S: Source>(
+    alloc: Global,
+    reader: &mut S,
+    failure: &mut Option<DecodeError<S::Error>>,
+) -> Option<Vec<Value>>
     ensures does { DoesUnder (ReadsStepped (ReadsVec ReadsArrayInside)) (StopsOf 4)
-        (S.view reader.old) (S.view reader.new) result }
-    ensures items { IfOk result (λ v. AreItems (items_view v.items)) }
-    ensures progress { OnOk result ((S.view reader.new).bound + 1 ≤ (S.view reader.old).bound) }
+        (S.view reader.old) (S.view reader.new) (answered result failure.new) }
+    ensures items { IfSome result (λ v. AreItems (items_view v.items)) }
+    ensures progress { OnSome result ((S.view reader.new).bound + 1 ≤ (S.view reader.old).bound) }
 {
     if !reader.step_in() {
-        return Err(DecodeError::DepthOverflow { name: "array" });
+        leave(DecodeError::DepthOverflow { name: "array" }, failure);
+        return None;
     }
-    let outcome = array_inside(alloc, reader);
+    let outcome = array_inside(alloc, reader, failure);
     reader.step_out();
     outcome
 }
@@ -202,15 +225,16 @@ fn read_array<S: Source>(alloc: Global, reader: &mut S) -> Result<Vec<Value>, De
 fn array_inside<S: Source>(
     alloc: Global,
     reader: &mut S,
-) -> Result<Vec<Value>, DecodeError<S::Error>>
+    failure: &mut Option<DecodeError<S::Error>>,
+) -> Option<Vec<Value>>
     ensures does { DoesUnder (ReadsVec ReadsArrayInside) (StopsMajor 4)
-        (S.view reader.old) (S.view reader.new) result }
-    ensures items { IfOk result (λ v. AreItems (items_view v.items)) }
-    ensures progress { OnOk result ((S.view reader.new).bound + 1 ≤ (S.view reader.old).bound) }
+        (S.view reader.old) (S.view reader.new) (answered result failure.new) }
+    ensures items { IfSome result (λ v. AreItems (items_view v.items)) }
+    ensures progress { OnSome result ((S.view reader.new).bound + 1 ≤ (S.view reader.old).bound) }
 {
-    match Array::len(reader)? {
-        Some(count) => counted_items(alloc, reader, count),
-        None => open_items(alloc, reader),
+    match part(Array::len(reader), failure)? {
+        Some(count) => counted_items(alloc, reader, count, failure),
+        None => open_items(alloc, reader, failure),
     }
 }
 
@@ -219,51 +243,60 @@ fn counted_items<S: Source>(
     alloc: Global,
     reader: &mut S,
     count: usize,
-) -> Result<Vec<Value>, DecodeError<S::Error>>
+    failure: &mut Option<DecodeError<S::Error>>,
+) -> Option<Vec<Value>>
     ensures does { DoesUnder (ReadsVec (ReadsItems count)) (StopsItems count)
-        (S.view reader.old) (S.view reader.new) result }
-    ensures items { IfOk result (λ v. AreItems (items_view v.items)) }
+        (S.view reader.old) (S.view reader.new) (answered result failure.new) }
+    ensures items { IfSome result (λ v. AreItems (items_view v.items)) }
 {
     let mut items = Vec::new(alloc);
     if items.reserve(items_ahead(count)).is_err() {
-        return Err(DecodeError::OutOfMemory);
+        *failure = None;
+        return None;
     }
     for i in 0..count {
-        let value = read_value(alloc, reader)?;
-        keep(&mut items, value)?;
+        let value = read_value(alloc, reader, failure)?;
+        keep(&mut items, value, failure)?;
     }
-    Ok(items)
+    Some(items)
 }
 
 #[cycle(read)]
-fn open_items<S: Source>(alloc: Global, reader: &mut S) -> Result<Vec<Value>, DecodeError<S::Error>>
+fn open_items<S: Source>(
+    alloc: Global,
+    reader: &mut S,
+    failure: &mut Option<DecodeError<S::Error>>,
+) -> Option<Vec<Value>>
     ensures does { DoesUnder (ReadsVec ReadsOpenItems) StopsOpenItems
-        (S.view reader.old) (S.view reader.new) result }
-    ensures items { IfOk result (λ v. AreItems (items_view v.items)) }
+        (S.view reader.old) (S.view reader.new) (answered result failure.new) }
+    ensures items { IfSome result (λ v. AreItems (items_view v.items)) }
 {
     let mut items = Vec::new(alloc);
-    while !is_break(reader)? {
-        let value = read_value(alloc, reader)?;
-        keep(&mut items, value)?;
+    while !part(is_break(reader), failure)? {
+        let value = read_value(alloc, reader, failure)?;
+        keep(&mut items, value, failure)?;
     }
-    Ok(items)
+    Some(items)
 }
 
-/// Reads a map's pairs, under one step.
+/// Reads a map's pairs, under one step. It stays out of line, as `read_array`.
 #[cycle(read)]
+#[inline(never)]
 fn read_map<S: Source>(
     alloc: Global,
     reader: &mut S,
-) -> Result<Vec<(Value, Value)>, DecodeError<S::Error>>
+    failure: &mut Option<DecodeError<S::Error>>,
+) -> Option<Vec<(Value, Value)>>
     ensures does { DoesUnder (ReadsStepped (ReadsVec ReadsMapInside)) (StopsOf 5)
-        (S.view reader.old) (S.view reader.new) result }
-    ensures items { IfOk result (λ v. AreMembers (members_view v.items)) }
-    ensures progress { OnOk result ((S.view reader.new).bound + 1 ≤ (S.view reader.old).bound) }
+        (S.view reader.old) (S.view reader.new) (answered result failure.new) }
+    ensures items { IfSome result (λ v. AreMembers (members_view v.items)) }
+    ensures progress { OnSome result ((S.view reader.new).bound + 1 ≤ (S.view reader.old).bound) }
 {
     if !reader.step_in() {
-        return Err(DecodeError::DepthOverflow { name: "map" });
+        leave(DecodeError::DepthOverflow { name: "map" }, failure);
+        return None;
     }
-    let outcome = map_inside(alloc, reader);
+    let outcome = map_inside(alloc, reader, failure);
     reader.step_out();
     outcome
 }
@@ -272,15 +305,16 @@ fn read_map<S: Source>(
 fn map_inside<S: Source>(
     alloc: Global,
     reader: &mut S,
-) -> Result<Vec<(Value, Value)>, DecodeError<S::Error>>
+    failure: &mut Option<DecodeError<S::Error>>,
+) -> Option<Vec<(Value, Value)>>
     ensures does { DoesUnder (ReadsVec ReadsMapInside) (StopsMajor 5)
-        (S.view reader.old) (S.view reader.new) result }
-    ensures items { IfOk result (λ v. AreMembers (members_view v.items)) }
-    ensures progress { OnOk result ((S.view reader.new).bound + 1 ≤ (S.view reader.old).bound) }
+        (S.view reader.old) (S.view reader.new) (answered result failure.new) }
+    ensures items { IfSome result (λ v. AreMembers (members_view v.items)) }
+    ensures progress { OnSome result ((S.view reader.new).bound + 1 ≤ (S.view reader.old).bound) }
 {
-    match Map::len(reader)? {
-        Some(count) => counted_members(alloc, reader, count),
-        None => open_members(alloc, reader),
+    match part(Map::len(reader), failure)? {
+        Some(count) => counted_members(alloc, reader, count, failure),
+        None => open_members(alloc, reader, failure),
     }
 }
 
@@ -289,37 +323,40 @@ fn counted_members<S: Source>(
     alloc: Global,
     reader: &mut S,
     count: usize,
-) -> Result<Vec<(Value, Value)>, DecodeError<S::Error>>
+    failure: &mut Option<DecodeError<S::Error>>,
+) -> Option<Vec<(Value, Value)>>
     ensures does { DoesUnder (ReadsVec (ReadsMembers count)) (StopsMembers count)
-        (S.view reader.old) (S.view reader.new) result }
-    ensures items { IfOk result (λ v. AreMembers (members_view v.items)) }
+        (S.view reader.old) (S.view reader.new) (answered result failure.new) }
+    ensures items { IfSome result (λ v. AreMembers (members_view v.items)) }
 {
     let mut members = Vec::new(alloc);
     if members.reserve(items_ahead(count)).is_err() {
-        return Err(DecodeError::OutOfMemory);
+        *failure = None;
+        return None;
     }
     for i in 0..count {
-        let member = read_member(alloc, reader)?;
-        keep(&mut members, member)?;
+        let member = read_member(alloc, reader, failure)?;
+        keep(&mut members, member, failure)?;
     }
-    Ok(members)
+    Some(members)
 }
 
 #[cycle(read)]
 fn open_members<S: Source>(
     alloc: Global,
     reader: &mut S,
-) -> Result<Vec<(Value, Value)>, DecodeError<S::Error>>
+    failure: &mut Option<DecodeError<S::Error>>,
+) -> Option<Vec<(Value, Value)>>
     ensures does { DoesUnder (ReadsVec ReadsOpenMembers) StopsOpenMembers
-        (S.view reader.old) (S.view reader.new) result }
-    ensures items { IfOk result (λ v. AreMembers (members_view v.items)) }
+        (S.view reader.old) (S.view reader.new) (answered result failure.new) }
+    ensures items { IfSome result (λ v. AreMembers (members_view v.items)) }
 {
     let mut members = Vec::new(alloc);
-    while !is_break(reader)? {
-        let member = read_member(alloc, reader)?;
-        keep(&mut members, member)?;
+    while !part(is_break(reader), failure)? {
+        let member = read_member(alloc, reader, failure)?;
+        keep(&mut members, member, failure)?;
     }
-    Ok(members)
+    Some(members)
 }
 
 /// Reads a key, and the value behind it. No break is looked for between the two.
@@ -328,26 +365,34 @@ fn open_members<S: Source>(
 fn read_member<S: Source>(
     alloc: Global,
     reader: &mut S,
-) -> Result<(Value, Value), DecodeError<S::Error>>
+    failure: &mut Option<DecodeError<S::Error>>,
+) -> Option<(Value, Value)>
     ensures does { DoesUnder ReadsMember StopsMember
-        (S.view reader.old) (S.view reader.new) result }
-    ensures key { IfOk result (λ member. IsItem (view member.0)) }
-    ensures value { IfOk result (λ member. IsItem (view member.1)) }
-    ensures progress { OnOk result ((S.view reader.new).bound + 1 ≤ (S.view reader.old).bound) }
+        (S.view reader.old) (S.view reader.new) (answered result failure.new) }
+    ensures key { IfSome result (λ member. IsItem (view member.0)) }
+    ensures value { IfSome result (λ member. IsItem (view member.1)) }
+    ensures progress { OnSome result ((S.view reader.new).bound + 1 ≤ (S.view reader.old).bound) }
 {
-    let key = read_value(alloc, reader)?;
-    let value = read_value(alloc, reader)?;
-    Ok((key, value))
+    let key = read_value(alloc, reader, failure)?;
+    let value = read_value(alloc, reader, failure)?;
+    Some((key, value))
 }
 
-/// Puts an item behind those that are there.
+/// Puts an item behind those that are there. Where memory is refused, `failure` is left empty.
 #[inline(always)]
-fn keep<T: Drop, E>(items: &mut Vec<T>, item: T) -> Result<(), DecodeError<E>>
-    ensures kept { OnOk result (items.new.items ≡ items.old.items ++ item ∷ []) }
-    ensures memory { IfErr result (λ error. error ≡ OutOfMemory) }
+fn keep<T: Drop, E: Drop>(
+    items: &mut Vec<T>,
+    item: T,
+    failure: &mut Option<DecodeError<E>>,
+) -> Option<()>
+    ensures kept { OnSome result (items.new.items ≡ items.old.items ++ item ∷ []) }
+    ensures memory { IfNone result (failure.new ≡ None) }
 {
     match items.push(item) {
-        Ok(()) => Ok(()),
-        Err(_) => Err(DecodeError::OutOfMemory),
+        Ok(()) => Some(()),
+        Err(_) => {
+            *failure = None;
+            None
+        }
     }
 }

@@ -15,6 +15,7 @@ mod range;
 pub mod raw;
 mod simple;
 mod skip;
+mod slot;
 mod unseen;
 pub mod value;
 

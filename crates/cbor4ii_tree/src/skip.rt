@@ -18,6 +18,7 @@ ghost use Rattle.cbor4ii_tree.specs.Stops.{Missing};
 
 use crate::ahead::{Ahead, Among};
 use crate::front::Front;
+use crate::slot::{leave, part};
 use crate::unseen::{ends, skip_bytes, skip_head};
 use cbor4ii_items::{major, marker};
 use cbor4ii_rw::error::DecodeError;
@@ -601,31 +602,6 @@ fn skip_without_step<S: Source, F: Front<S>>(
         failure,
     );
     None
-}
-
-/// The answer without its refusal, which goes to `failure`.
-fn part<T, E: Drop>(
-    answer: Result<T, DecodeError<E>>,
-    failure: &mut Option<DecodeError<E>>,
-) -> Option<T>
-    ensures { answer ≡ answered result failure.new }
-{
-    match answer {
-        Ok(value) => Some(value),
-        Err(error) => {
-            leave(error, failure);
-            None
-        }
-    }
-}
-
-/// The refusal goes to `failure`.
-#[cold]
-#[inline(never)]
-fn leave<E: Drop>(error: E, failure: &mut Option<E>)
-    ensures { failure.new ≡ Some error }
-{
-    *failure = Some(error);
 }
 
 /// What begins with this first byte.

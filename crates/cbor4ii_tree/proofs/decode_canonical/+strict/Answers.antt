@@ -1,6 +1,5 @@
 use Rattle.std.proofs.Common.{ℕ, refl, ap, subst, inl, arith, ◌∙◌, ◌+◌, ◌*◌, ◌≡◌}
 use Rattle.std.proofs.Common.{Vec, Global}
-use Rattle.std.proofs.lemmas.Result.{err_from_is_err_and}
 use Rattle.cbor4ii_tree.specs.declared.value.Value.{Value, Array, Map, Tag}
 use Rattle.cbor4ii_tree.specs.Item.{tag}
 use Rattle.cbor4ii_tree.specs.View.{view}
@@ -24,7 +23,7 @@ use Rattle.cbor4ii_tree.proofs.canonical.Calls.{stepped_one, stepped_more, count
 use Rattle.cbor4ii_tree.proofs.canonical.Calls.{items_more, item_stops, value_stops, members_none}
 use Rattle.cbor4ii_tree.proofs.canonical.Calls.{members_more, member_stops, array_exact, map_exact}
 use Rattle.cbor4ii_items.specs.Laws.Running.{kept_alike}
-use Rattle.cbor4ii_tree.proofs.values.Progress.{went_on, around, behind}
+use Rattle.cbor4ii_tree.proofs.values.Answered.{went_on, around, behind}
 use Rattle.cbor4ii_tree.proofs.decode_canonical.+strict.Goals as goal
 
 pub read_one-returns-clause-does : goal.read_one-returns-clause-does
@@ -35,25 +34,28 @@ read_one-returns-clause-does g t c =
 pub read_one-returns-then-not-step_in-clause-does :
     goal.read_one-returns-then-not-step_in-clause-does
 read_one-returns-then-not-step_in-clause-does g t c =
-    does_no_step value_name (ReadsExactly (g.S.Source.view c.args.reader.now).budget)
+    rw c.leave.ensures (does_no_step value_name (ReadsExactly (g.S.Source.view
+    c.args.reader.now).budget)
     (StopsExactly (g.S.Source.view c.args.reader.now).budget) refl refl
-    (λ none xs. rw none (refl, refl)) c.if-not-step_in.ensures.budget c.step_in.ensures.others
+    (λ none xs. rw none (refl, refl)) c.if-not-step_in.ensures.budget c.step_in.ensures.others)
 
 pub array_inside-returns-clause-does : goal.array_inside-returns-clause-does
 array_inside-returns-clause-does g t c =
     counted_does array_name 4 c.in_ok-count.count
     (λ n o xs (v : Vec Value Global) ys. ExactItems n o xs v.items ys)
     (λ o n. StopsExactItems n o) (reached_shortest 4 c.in_ok-count.count
-    c.in_ok-count.ensures.moves c.in_ok-count.ensures.sound) c.counted_items.ensures
+    (rw c.in_ok-count.ensures at c.canonical_head.ensures.moves) (rw c.in_ok-count.ensures at
+    c.canonical_head.ensures.sound)) c.counted_items.ensures
 
 pub array_inside-returns-in_err-count-clause-does :
     goal.array_inside-returns-in_err-count-clause-does
 array_inside-returns-in_err-count-clause-does g t c =
-    let p = err_from_is_err_and c.from_residual.result c.from_residual.ensures.1 in
-    rw (p.1, p.2) (call_stops (λ xs (v : Vec Value Global) ys. AcceptsCount 4 ExactItems
+    rw c.from_residual.ensures (call_stops (λ xs (v : Vec Value Global) ys. AcceptsCount 4
+    ExactItems
     (g.S.Source.view c.args.reader.now).budget xs v.items ys) (StopsShortest array_name 4)
     (StrictArrayStops StopsExactly (g.S.Source.view c.args.reader.now).budget)
-    (λ xs z rest h. inl h) c.in_err-count.ensures.moves c.in_err-count.ensures.stops)
+    (λ xs z rest h. inl h) (rw c.in_err-count.ensures at c.canonical_head.ensures.moves) (rw
+    c.in_err-count.ensures at c.canonical_head.ensures.stops))
 
 pub counted_items-loop-i-init : goal.counted_items-loop-i-init
 counted_items-loop-i-init g t c =
@@ -71,8 +73,7 @@ counted_items-loop-i-preserved g t c =
 
 pub counted_items-returns-in_err-value : goal.counted_items-returns-in_err-value
 counted_items-returns-in_err-value g t c =
-    let p = err_from_is_err_and c.from_residual.result c.from_residual.ensures.1 in
-    rw (p.1, p.2) (ends ReadsExactly StopsExactly (λ xs ys. ExactItems c.loop-i.i
+    rw c.from_residual.ensures (ends ReadsExactly StopsExactly (λ xs ys. ExactItems c.loop-i.i
     (g.S.Source.view c.args.reader.now).budget xs c.loop-i.items.items ys)
     c.loop-i.invariant (λ xs (v : Vec Value Global) ys.
     ExactItems c.args.count (g.S.Source.view c.args.reader.now).budget xs v.items ys)
@@ -91,27 +92,28 @@ read_array-returns-clause-does g t c =
 pub read_array-returns-then-not-step_in-clause-does :
     goal.read_array-returns-then-not-step_in-clause-does
 read_array-returns-then-not-step_in-clause-does g t c =
-    does_no_step array_name (ReadsStepped (λ o xs (v : Vec Value Global) ys.
+    rw c.leave.ensures (does_no_step array_name (ReadsStepped (λ o xs (v : Vec Value Global) ys.
     AcceptsCount 4 ExactItems o xs v.items ys) (g.S.Source.view c.args.reader.now).budget)
     (StopsExactlyStepped array_name (StrictArrayStops StopsExactly)
     (g.S.Source.view c.args.reader.now).budget) refl refl (λ none xs. rw none (refl, refl))
-    c.if-not-step_in.ensures.budget c.step_in.ensures.others
+    c.if-not-step_in.ensures.budget c.step_in.ensures.others)
 
 pub map_inside-returns-clause-does : goal.map_inside-returns-clause-does
 map_inside-returns-clause-does g t c =
     counted_does map_name 5 c.in_ok-count.count
     (λ n o xs (v : Vec (Value × Value) Global) ys. ExactMembers n o xs v.items ys)
     (λ o n. StopsExactItems (2 * n) o) (reached_shortest 5 c.in_ok-count.count
-    c.in_ok-count.ensures.moves c.in_ok-count.ensures.sound) c.counted_members.ensures
+    (rw c.in_ok-count.ensures at c.canonical_head.ensures.moves) (rw c.in_ok-count.ensures at
+    c.canonical_head.ensures.sound)) c.counted_members.ensures
 
 pub map_inside-returns-in_err-count-clause-does : goal.map_inside-returns-in_err-count-clause-does
 map_inside-returns-in_err-count-clause-does g t c =
-    let p = err_from_is_err_and c.from_residual.result c.from_residual.ensures.1 in
-    rw (p.1, p.2)
+    rw c.from_residual.ensures
     (call_stops (λ xs (v : Vec (Value × Value) Global) ys. AcceptsCount 5 ExactMembers
     (g.S.Source.view c.args.reader.now).budget xs v.items ys) (StopsShortest map_name 5)
     (StrictMapStops StopsExactly (g.S.Source.view c.args.reader.now).budget)
-    (λ xs z rest h. inl h) c.in_err-count.ensures.moves c.in_err-count.ensures.stops)
+    (λ xs z rest h. inl h) (rw c.in_err-count.ensures at c.canonical_head.ensures.moves) (rw
+    c.in_err-count.ensures at c.canonical_head.ensures.stops))
 
 pub read_map-returns-clause-does : goal.read_map-returns-clause-does
 read_map-returns-clause-does g t c =
@@ -123,11 +125,12 @@ read_map-returns-clause-does g t c =
 pub read_map-returns-then-not-step_in-clause-does :
     goal.read_map-returns-then-not-step_in-clause-does
 read_map-returns-then-not-step_in-clause-does g t c =
-    does_no_step map_name (ReadsStepped (λ o xs (v : Vec (Value × Value) Global) ys.
+    rw c.leave.ensures (does_no_step map_name (ReadsStepped (λ o xs (v : Vec (Value × Value) Global)
+    ys.
     AcceptsCount 5 ExactMembers o xs v.items ys) (g.S.Source.view c.args.reader.now).budget)
     (StopsExactlyStepped map_name (StrictMapStops StopsExactly)
     (g.S.Source.view c.args.reader.now).budget) refl refl (λ none xs. rw none (refl, refl))
-    c.if-not-step_in.ensures.budget c.step_in.ensures.others
+    c.if-not-step_in.ensures.budget c.step_in.ensures.others)
 
 pub counted_members-loop-i-init : goal.counted_members-loop-i-init
 counted_members-loop-i-init g t c =
@@ -145,8 +148,7 @@ counted_members-loop-i-preserved g t c =
 
 pub counted_members-returns-in_err-member : goal.counted_members-returns-in_err-member
 counted_members-returns-in_err-member g t c =
-    let p = err_from_is_err_and c.from_residual.result c.from_residual.ensures.1 in
-    rw (p.1, p.2) (ends ExactMember StopsExactMember (λ xs ys. ExactMembers c.loop-i.i
+    rw c.from_residual.ensures (ends ExactMember StopsExactMember (λ xs ys. ExactMembers c.loop-i.i
     (g.S.Source.view c.args.reader.now).budget xs c.loop-i.members.items ys)
     c.loop-i.invariant (λ xs (v : Vec (Value × Value) Global) ys.
     ExactMembers c.args.count (g.S.Source.view c.args.reader.now).budget xs v.items ys)
@@ -167,8 +169,7 @@ read_member-returns-clause-does g t c =
 
 pub read_member-returns-in_err-key-clause-does : goal.read_member-returns-in_err-key-clause-does
 read_member-returns-in_err-key-clause-does g t c =
-    let p = err_from_is_err_and c.from_residual.result c.from_residual.ensures.1 in
-    rw (p.1, p.2) (ends ReadsExactly StopsExactly (λ xs ys. ys ≡ xs)
+    rw c.from_residual.ensures (ends ReadsExactly StopsExactly (λ xs ys. ys ≡ xs)
     (reached_start (λ xs ys. ys ≡ xs) _ (λ xs. refl))
     (ExactMember (g.S.Source.view c.args.reader.now).budget)
     (StopsExactMember (g.S.Source.view c.args.reader.now).budget) (λ xs ys z rest h s.
@@ -177,9 +178,7 @@ read_member-returns-in_err-key-clause-does g t c =
 
 pub read_member-returns-in_err-value-clause-does : goal.read_member-returns-in_err-value-clause-does
 read_member-returns-in_err-value-clause-does g t c =
-    let p = err_from_is_err_and c.from_residual-in_err-value.result
-    c.from_residual-in_err-value.ensures.1 in
-    rw (p.1, p.2) (ends ReadsExactly StopsExactly
+    rw c.from_residual-in_err-value.ensures (ends ReadsExactly StopsExactly
     (λ xs ys. ReadsExactly (g.S.Source.view c.args.reader.now).budget xs c.in_ok-key.key ys)
     (reached_by c.in_ok-key.ensures.does)
     (ExactMember (g.S.Source.view c.args.reader.now).budget)
@@ -189,40 +188,43 @@ read_member-returns-in_err-value-clause-does g t c =
 
 pub read_inside-returns-clause-does : goal.read_inside-returns-clause-does
 read_inside-returns-clause-does g t c =
-    exact_first c.in_ok-first.first c.in_ok-first.ensures.runs c.read_leaf.ensures.does
+    exact_first c.in_ok-first.first (rw c.in_ok-first.ensures at c.peek.ensures.runs) (rw
+    c.part-in_default.ensures at c.read_leaf.ensures.does)
 
 pub read_inside-returns-in-7-clause-does : goal.read_inside-returns-in-7-clause-does
 read_inside-returns-in-7-clause-does g t c =
-    exact_first c.in_ok-first.first c.in_ok-first.ensures.runs c.read_float.ensures.exactly
+    exact_first c.in_ok-first.first (rw c.in_ok-first.ensures at c.peek.ensures.runs) (rw
+    c.part-in-None.ensures at c.read_float.ensures.exactly)
 
 pub read_inside-returns-in_err-first-clause-does : goal.read_inside-returns-in_err-first-clause-does
 read_inside-returns-in_err-first-clause-does g t c =
-    let p = err_from_is_err_and c.from_residual.result c.from_residual.ensures.1 in
-    rw (p.1, p.2) (peek_stops c.in_err-first.ensures.runs)
+    rw c.from_residual.ensures (peek_stops (rw c.in_err-first.ensures at c.peek.ensures.runs))
 
 pub read_inside-returns-then-first-clause-does : goal.read_inside-returns-then-first-clause-does
 read_inside-returns-then-first-clause-does g t c =
-    undefined_stops c.in_ok-first.first c.in_ok-first.ensures.runs c.in_ok-first.ensures.byte
-    c.advance.ensures c.if-first.true refl refl refl
+    rw c.leave.ensures (undefined_stops c.in_ok-first.first (rw c.in_ok-first.ensures at
+    c.peek.ensures.runs) (rw c.in_ok-first.ensures at c.peek.ensures.byte)
+    c.advance.ensures c.if-first.true refl refl refl)
 
 pub read_inside-returns-in-4-clause-does : goal.read_inside-returns-in-4-clause-does
 read_inside-returns-in-4-clause-does g t c =
-    exact_ok c.in_ok-first.first c.in_ok-first.ensures.runs (λ xs ys. ReadsStepped
+    exact_ok c.in_ok-first.first (rw c.in_ok-first.ensures at c.peek.ensures.runs) (λ xs ys.
+    ReadsStepped
     (λ o xs (v : Vec Value Global) ys. AcceptsCount 4 ExactItems o xs v.items ys)
     (g.S.Source.view c.peek.new.reader).budget xs c.in_ok-read_array-in-4.field-0 ys)
     (Array c.in_ok-read_array-in-4.field-0)
     (λ xs ys h. array_exact (g.S.Source.view c.args.reader.now).budget
     c.in_ok-read_array-in-4.field-0 xs ys (subst (λ o. ReadsStepped
     (λ o xs (v : Vec Value Global) ys. AcceptsCount 4 ExactItems o xs v.items ys) o xs
-    c.in_ok-read_array-in-4.field-0 ys) c.in_ok-first.ensures.runs.moves.by.budget h))
+    c.in_ok-read_array-in-4.field-0 ys) (rw c.in_ok-first.ensures at
+    c.peek.ensures.runs).moves.by.budget h))
     (reached_by c.in_ok-read_array-in-4.ensures.does)
 
 pub read_inside-returns-in_err-read_array-in-4-clause-does :
     goal.read_inside-returns-in_err-read_array-in-4-clause-does
 read_inside-returns-in_err-read_array-in-4-clause-does g t c =
-    let p = err_from_is_err_and c.from_residual-in_err-read_array-in-4.result
-    c.from_residual-in_err-read_array-in-4.ensures.1 in
-    rw (p.1, p.2) (exact_err c.in_ok-first.first c.in_ok-first.ensures.runs 4 (ReadsStepped
+    rw c.from_residual-in_err-read_array-in-4.ensures (exact_err c.in_ok-first.first (rw
+    c.in_ok-first.ensures at c.peek.ensures.runs) 4 (ReadsStepped
     (λ o xs (v : Vec Value Global) ys. AcceptsCount 4 ExactItems o xs v.items ys)
     (g.S.Source.view c.peek.new.reader).budget)
     (StopsExactlyStepped array_name (StrictArrayStops StopsExactly)) c.in-4.is
@@ -230,22 +232,22 @@ read_inside-returns-in_err-read_array-in-4-clause-does g t c =
 
 pub read_inside-returns-in-5-clause-does : goal.read_inside-returns-in-5-clause-does
 read_inside-returns-in-5-clause-does g t c =
-    exact_ok c.in_ok-first.first c.in_ok-first.ensures.runs (λ xs ys. ReadsStepped
+    exact_ok c.in_ok-first.first (rw c.in_ok-first.ensures at c.peek.ensures.runs) (λ xs ys.
+    ReadsStepped
     (λ o xs (v : Vec (Value × Value) Global) ys. AcceptsCount 5 ExactMembers o xs v.items
     ys) (g.S.Source.view c.peek.new.reader).budget xs c.in_ok-read_map-in-5.field-0 ys)
     (Map c.in_ok-read_map-in-5.field-0) (λ xs ys h.
     map_exact (g.S.Source.view c.args.reader.now).budget c.in_ok-read_map-in-5.field-0 xs ys
     (subst (λ o. ReadsStepped (λ o xs (v : Vec (Value × Value) Global) ys.
     AcceptsCount 5 ExactMembers o xs v.items ys) o xs c.in_ok-read_map-in-5.field-0 ys)
-    c.in_ok-first.ensures.runs.moves.by.budget h))
+    (rw c.in_ok-first.ensures at c.peek.ensures.runs).moves.by.budget h))
     (reached_by c.in_ok-read_map-in-5.ensures.does)
 
 pub read_inside-returns-in_err-read_map-in-5-clause-does :
     goal.read_inside-returns-in_err-read_map-in-5-clause-does
 read_inside-returns-in_err-read_map-in-5-clause-does g t c =
-    let p = err_from_is_err_and c.from_residual-in_err-read_map-in-5.result
-    c.from_residual-in_err-read_map-in-5.ensures.1 in
-    rw (p.1, p.2) (exact_err c.in_ok-first.first c.in_ok-first.ensures.runs 5
+    rw c.from_residual-in_err-read_map-in-5.ensures (exact_err c.in_ok-first.first (rw
+    c.in_ok-first.ensures at c.peek.ensures.runs) 5
     (ReadsStepped (λ o xs (v : Vec (Value × Value) Global) ys.
     AcceptsCount 5 ExactMembers o xs v.items ys) (g.S.Source.view c.peek.new.reader).budget)
     (StopsExactlyStepped map_name (StrictMapStops StopsExactly)) c.in-5.is
@@ -254,44 +256,51 @@ read_inside-returns-in_err-read_map-in-5-clause-does g t c =
 pub read_inside-returns-in_err-number-in-6-clause-does :
     goal.read_inside-returns-in_err-number-in-6-clause-does
 read_inside-returns-in_err-number-in-6-clause-does g t c =
-    let p = err_from_is_err_and c.from_residual-in_err-number-in-6.result
-    c.from_residual-in_err-number-in-6.ensures.1 in
-    rw (p.1, p.2)
-    (exact_err c.in_ok-first.first c.in_ok-first.ensures.runs 6 (λ xs (v : ℕ) ys. Unit {0})
+    rw c.from_residual-in_err-number-in-6.ensures
+    (exact_err c.in_ok-first.first (rw c.in_ok-first.ensures at c.peek.ensures.runs) 6 (λ xs (v : ℕ)
+    ys. Unit {0})
     (λ o xs. StopsShortest tag_name 6 xs o) c.in-6.is (λ bs z rest h. inl h)
     (does_stops (λ xs (v : ℕ) ys. Unit {0}) (StopsShortest tag_name 6)
-    c.in_err-number-in-6.ensures.moves c.in_err-number-in-6.ensures.stops))
+    (rw c.in_err-number-in-6.ensures at c.canonical_head.ensures.moves) (rw
+    c.in_err-number-in-6.ensures at c.canonical_head.ensures.stops)))
 
 pub read_inside-returns-in_err-inner-in-6-clause-does :
     goal.read_inside-returns-in_err-inner-in-6-clause-does
 read_inside-returns-in_err-inner-in-6-clause-does g t c =
-    let p = err_from_is_err_and c.from_residual-in_err-inner-in-6.result
-    c.from_residual-in_err-inner-in-6.ensures.1 in
-    rw (p.1, p.2) (exact_tag_err c.in_ok-first.first c.in_ok-first.ensures.runs
+    rw c.from_residual-in_err-inner-in-6.ensures (exact_tag_err c.in_ok-first.first (rw
+    c.in_ok-first.ensures at c.peek.ensures.runs)
     c.in_ok-number-in-6.number c.in-6.is (reached_shortest 6 c.in_ok-number-in-6.number
-    c.in_ok-number-in-6.ensures.moves c.in_ok-number-in-6.ensures.sound)
+    (rw c.in_ok-number-in-6.ensures at c.canonical_head.ensures.moves) (rw
+    c.in_ok-number-in-6.ensures at c.canonical_head.ensures.sound))
     c.in_err-inner-in-6.ensures.does)
 
 pub read_inside-returns-in-6-clause-does : goal.read_inside-returns-in-6-clause-does
 read_inside-returns-in-6-clause-does g t c =
     does_no_memory (ReadsExactlyUnder (g.S.Source.view c.args.reader.now).budget)
     (StopsExactlyUnder (g.S.Source.view c.args.reader.now).budget) refl (kept_then (looked_at
-    c.in_ok-first.first c.in_ok-first.ensures.runs (ShortestAt 6 c.in_ok-number-in-6.number)
-    (reached_shortest 6 c.in_ok-number-in-6.number c.in_ok-number-in-6.ensures.moves
-    c.in_ok-number-in-6.ensures.sound)).kept c.in_ok-inner-in-6.ensures.does.moves.by)
+    c.in_ok-first.first (rw c.in_ok-first.ensures at c.peek.ensures.runs) (ShortestAt 6
+    c.in_ok-number-in-6.number)
+    (reached_shortest 6 c.in_ok-number-in-6.number (rw c.in_ok-number-in-6.ensures at
+    c.canonical_head.ensures.moves)
+    (rw c.in_ok-number-in-6.ensures at c.canonical_head.ensures.sound))).kept
+    c.in_ok-inner-in-6.ensures.does.moves.by)
 
 pub read_inside-returns-in-Ok-clause-does : goal.read_inside-returns-in-Ok-clause-does
 read_inside-returns-in-Ok-clause-does g t c =
-    exact_tag c.in_ok-first.first c.in_ok-first.ensures.runs c.in_ok-number-in-6.number
+    exact_tag c.in_ok-first.first (rw c.in_ok-first.ensures at c.peek.ensures.runs)
+    c.in_ok-number-in-6.number
     (Tag c.in_ok-number-in-6.number c.in-Ok.boxed)
     (view-Tag c.in_ok-number-in-6.number c.in-Ok.boxed
     ∙ ap (λ x. tag c.in_ok-number-in-6.number (view x)) c.in-Ok.ensures.ok)
-    (reached_shortest 6 c.in_ok-number-in-6.number c.in_ok-number-in-6.ensures.moves
-    c.in_ok-number-in-6.ensures.sound) c.in_ok-inner-in-6.ensures.does
+    (reached_shortest 6 c.in_ok-number-in-6.number (rw c.in_ok-number-in-6.ensures at
+    c.canonical_head.ensures.moves)
+    (rw c.in_ok-number-in-6.ensures at c.canonical_head.ensures.sound))
+    c.in_ok-inner-in-6.ensures.does
 
 pub read_inside-returns-in-Some-clause-does : goal.read_inside-returns-in-Some-clause-does
 read_inside-returns-in-Some-clause-does g t c =
-    simple_exact c.in_ok-first.first c.in_ok-first.ensures.runs c.in_ok-first.ensures.byte
+    simple_exact c.in_ok-first.first (rw c.in_ok-first.ensures at c.peek.ensures.runs) (rw
+    c.in_ok-first.ensures at c.peek.ensures.byte)
     c.advance-in-Some.ensures c.if-first.false c.in-Some.ensures
 
 pub counted_items-returns-then-is_err-2 : goal.counted_items-returns-then-is_err-2
@@ -311,57 +320,47 @@ counted_members-returns-then-is_err-2 g t c =
 pub array_inside-returns-in_err-count-clause-progress :
     goal.array_inside-returns-in_err-count-clause-progress
 array_inside-returns-in_err-count-clause-progress g t c =
-    let p = err_from_is_err_and c.from_residual.result c.from_residual.ensures.1 in rw p.1 tt
+    rw c.from_residual.ensures tt
 
 pub map_inside-returns-in_err-count-clause-progress :
     goal.map_inside-returns-in_err-count-clause-progress
 map_inside-returns-in_err-count-clause-progress g t c =
-    let p = err_from_is_err_and c.from_residual.result c.from_residual.ensures.1 in rw p.1 tt
+    rw c.from_residual.ensures tt
 
 pub read_member-returns-in_err-key-clause-progress :
     goal.read_member-returns-in_err-key-clause-progress
 read_member-returns-in_err-key-clause-progress g t c =
-    let p = err_from_is_err_and c.from_residual.result c.from_residual.ensures.1 in rw p.1 tt
+    rw c.from_residual.ensures tt
 
 pub read_member-returns-in_err-value-clause-progress :
     goal.read_member-returns-in_err-value-clause-progress
 read_member-returns-in_err-value-clause-progress g t c =
-    let p = err_from_is_err_and c.from_residual-in_err-value.result
-    c.from_residual-in_err-value.ensures.1 in
-    rw p.1 tt
+    rw c.from_residual-in_err-value.ensures tt
 
 pub read_inside-returns-in_err-first-clause-progress :
     goal.read_inside-returns-in_err-first-clause-progress
 read_inside-returns-in_err-first-clause-progress g t c =
-    let p = err_from_is_err_and c.from_residual.result c.from_residual.ensures.1 in rw p.1 tt
+    rw c.from_residual.ensures tt
 
 pub read_inside-returns-in_err-read_array-in-4-clause-progress :
     goal.read_inside-returns-in_err-read_array-in-4-clause-progress
 read_inside-returns-in_err-read_array-in-4-clause-progress g t c =
-    let p = err_from_is_err_and c.from_residual-in_err-read_array-in-4.result
-    c.from_residual-in_err-read_array-in-4.ensures.1 in
-    rw p.1 tt
+    rw c.from_residual-in_err-read_array-in-4.ensures tt
 
 pub read_inside-returns-in_err-read_map-in-5-clause-progress :
     goal.read_inside-returns-in_err-read_map-in-5-clause-progress
 read_inside-returns-in_err-read_map-in-5-clause-progress g t c =
-    let p = err_from_is_err_and c.from_residual-in_err-read_map-in-5.result
-    c.from_residual-in_err-read_map-in-5.ensures.1 in
-    rw p.1 tt
+    rw c.from_residual-in_err-read_map-in-5.ensures tt
 
 pub read_inside-returns-in_err-number-in-6-clause-progress :
     goal.read_inside-returns-in_err-number-in-6-clause-progress
 read_inside-returns-in_err-number-in-6-clause-progress g t c =
-    let p = err_from_is_err_and c.from_residual-in_err-number-in-6.result
-    c.from_residual-in_err-number-in-6.ensures.1 in
-    rw p.1 tt
+    rw c.from_residual-in_err-number-in-6.ensures tt
 
 pub read_inside-returns-in_err-inner-in-6-clause-progress :
     goal.read_inside-returns-in_err-inner-in-6-clause-progress
 read_inside-returns-in_err-inner-in-6-clause-progress g t c =
-    let p = err_from_is_err_and c.from_residual-in_err-inner-in-6.result
-    c.from_residual-in_err-inner-in-6.ensures.1 in
-    rw p.1 tt
+    rw c.from_residual-in_err-inner-in-6.ensures tt
 
 pub read_one-returns-then-not-step_in-clause-progress :
     goal.read_one-returns-then-not-step_in-clause-progress
@@ -392,11 +391,13 @@ read_map-returns-clause-progress g t c =
 
 pub array_inside-returns-clause-progress : goal.array_inside-returns-clause-progress
 array_inside-returns-clause-progress g t c =
-    went_on _ c.in_ok-count.ensures.progress c.counted_items.ensures.moves
+    went_on _ c.counted_items.result _ (rw c.in_ok-count.ensures at
+    c.canonical_head.ensures.progress) c.counted_items.ensures.moves
 
 pub map_inside-returns-clause-progress : goal.map_inside-returns-clause-progress
 map_inside-returns-clause-progress g t c =
-    went_on _ c.in_ok-count.ensures.progress c.counted_members.ensures.moves
+    went_on _ c.counted_members.result _ (rw c.in_ok-count.ensures at
+    c.canonical_head.ensures.progress) c.counted_members.ensures.moves
 
 pub read_member-returns-clause-progress : goal.read_member-returns-clause-progress
 read_member-returns-clause-progress g t c =
@@ -411,29 +412,40 @@ read_inside-returns-in-6-clause-progress g t c = tt
 
 pub read_inside-returns-in-4-clause-progress : goal.read_inside-returns-in-4-clause-progress
 read_inside-returns-in-4-clause-progress g t c =
-    omega
-    (arith, c.in_ok-first.ensures.runs.moves.by.bound, c.in_ok-read_array-in-4.ensures.progress)
+    omega (
+      arith,
+      (rw c.in_ok-first.ensures at c.peek.ensures.runs).moves.by.bound,
+      c.in_ok-read_array-in-4.ensures.progress,
+    )
 
 pub read_inside-returns-in-5-clause-progress : goal.read_inside-returns-in-5-clause-progress
 read_inside-returns-in-5-clause-progress g t c =
-    omega (arith, c.in_ok-first.ensures.runs.moves.by.bound, c.in_ok-read_map-in-5.ensures.progress)
+    omega (
+      arith,
+      (rw c.in_ok-first.ensures at c.peek.ensures.runs).moves.by.bound,
+      c.in_ok-read_map-in-5.ensures.progress,
+    )
 
 pub read_inside-returns-in-Ok-clause-progress : goal.read_inside-returns-in-Ok-clause-progress
 read_inside-returns-in-Ok-clause-progress g t c =
     omega (
       arith,
-      c.in_ok-first.ensures.runs.moves.by.bound,
-      c.in_ok-number-in-6.ensures.progress,
+      (rw c.in_ok-first.ensures at c.peek.ensures.runs).moves.by.bound,
+      (rw c.in_ok-number-in-6.ensures at c.canonical_head.ensures.progress),
       c.in_ok-inner-in-6.ensures.progress,
     )
 
 pub read_inside-returns-in-7-clause-progress : goal.read_inside-returns-in-7-clause-progress
 read_inside-returns-in-7-clause-progress g t c =
-    behind _ _ _ _ c.in_ok-first.ensures.runs.moves.by.bound c.read_float.ensures.progress
+    behind _ _ _ c.part-in-None.result _ (rw c.in_ok-first.ensures at
+    c.peek.ensures.runs).moves.by.bound
+    (rw c.part-in-None.ensures at c.read_float.ensures.progress)
 
 pub read_inside-returns-clause-progress : goal.read_inside-returns-clause-progress
 read_inside-returns-clause-progress g t c =
-    behind _ _ _ _ c.in_ok-first.ensures.runs.moves.by.bound c.read_leaf.ensures.progress
+    behind _ _ _ c.part-in_default.result _ (rw c.in_ok-first.ensures at
+    c.peek.ensures.runs).moves.by.bound
+    (rw c.part-in_default.ensures at c.read_leaf.ensures.progress)
 
 pub counted_items-returns-then-is_err : goal.counted_items-returns-then-is_err
 counted_items-returns-then-is_err g t c =
@@ -466,7 +478,11 @@ counted_members-loop-i-smaller g t c = omega (arith, c.loop-i-test.true)
 
 pub read_inside-returns-in-Some-clause-progress : goal.read_inside-returns-in-Some-clause-progress
 read_inside-returns-in-Some-clause-progress g t c =
-    omega (arith, c.in_ok-first.ensures.runs.moves.by.bound, c.advance-in-Some.ensures.bound)
+    omega (
+      arith,
+      (rw c.in_ok-first.ensures at c.peek.ensures.runs).moves.by.bound,
+      c.advance-in-Some.ensures.bound,
+    )
 
 pub counted_items-returns : goal.counted_items-returns
 counted_items-returns g t c =
@@ -489,4 +505,4 @@ counted_members-returns g t c =
     (g.S.Source.view c.loop-i.reader)) e c.loop-i.invariant)
 
 pub read_inside-advance-requires-in-Some : goal.read_inside-advance-requires-in-Some
-read_inside-advance-requires-in-Some g t c = c.in_ok-first.ensures.can
+read_inside-advance-requires-in-Some g t c = (rw c.in_ok-first.ensures at c.peek.ensures.can)

@@ -1,5 +1,5 @@
 use Rattle.std.proofs.Common.{inl, refl, ap, subst, arith, ◌∙◌, ◌+◌, ◌∷◌, ◌≡◌}
-use Rattle.std.proofs.lemmas.Result.{err_from_is_err_and}
+use Rattle.cbor4ii_tree.specs.Does.{refusal_left}
 use Rattle.cbor4ii_tree.specs.Valuing.{ReadsOneValue, StopsOneValue, ReadsMember, StopsMember}
 use Rattle.cbor4ii_tree.specs.Valuing.{StopsMembers, StopsFirst, ReadsStepped, StopsOf, ReadsItems}
 use Rattle.cbor4ii_tree.specs.Valuing.{StopsItems, ReadsArrayInside, ReadsMapInside, StopsMajor}
@@ -31,30 +31,31 @@ use Rattle.cbor4ii_tree.proofs.values.Sequences.{value_stop, members_done, more,
 use Rattle.cbor4ii_tree.proofs.values.Items.{items_none, items_are, members_none_are, members_are}
 use Rattle.cbor4ii_tree.proofs.values.Items.{array_item, map_item}
 use Rattle.cbor4ii_items.specs.Laws.Running.{kept_alike}
-use Rattle.cbor4ii_tree.proofs.values.Progress.{went_on, around, behind}
+use Rattle.cbor4ii_tree.proofs.values.Answered.{went_on, around, behind, found}
 use Rattle.cbor4ii_tree.proofs.values.Ends.{nothing_there}
 use Rattle.cbor4ii_tree.proofs.decode_value.+read.Goals as goal
 
 pub array_inside-returns-in-None-clause-does : goal.array_inside-returns-in-None-clause-does
 array_inside-returns-in-None-clause-does g t c =
-    array_opened (reached_open 4 c.in-None.is c.in_ok-count.ensures.moves
-    c.in_ok-count.ensures.sound) c.open_items.ensures.does
+    array_opened (reached_open 4 c.in-None.is (rw c.in_ok-count.ensures at c.len.ensures.moves)
+    (rw c.in_ok-count.ensures at c.len.ensures.sound)) c.open_items.ensures.does
 
 pub array_inside-returns-in-Some-clause-does : goal.array_inside-returns-in-Some-clause-does
 array_inside-returns-in-Some-clause-does g t c =
     array_counted c.in-Some.count (reached_length 4 c.in-Some.count c.in-Some.is
-    c.in_ok-count.ensures.moves c.in_ok-count.ensures.sound) c.counted_items.ensures.does
+    (rw c.in_ok-count.ensures at c.len.ensures.moves) (rw c.in_ok-count.ensures at
+    c.len.ensures.sound)) c.counted_items.ensures.does
 
 pub array_inside-returns-in_err-count-clause-does :
     goal.array_inside-returns-in_err-count-clause-does
 array_inside-returns-in_err-count-clause-does g t c =
-    let p = err_from_is_err_and c.from_residual.result c.from_residual.ensures.1 in
-    rw (p.1, p.2) (length_refused array_name 4
+    rw c.from_residual.ensures (length_refused array_name 4
     (λ xs v ys. ReadsArrayInside (g.S.Source.view c.args.reader.now).budget xs v.items ys)
     (StopsMajor 4 (g.S.Source.view c.args.reader.now).budget)
     (λ xs z rest. array_length_stops (g.S.Source.view c.args.reader.now).budget xs
-    (g.S.Source.view c.args.reader.now).budget z rest) c.in_err-count.ensures.moves
-    c.in_err-count.ensures.stops)
+    (g.S.Source.view c.args.reader.now).budget z rest) (rw c.in_err-count.ensures at
+    c.len.ensures.moves)
+    (rw c.in_err-count.ensures at c.len.ensures.stops))
 
 pub counted_items-loop-i-init : goal.counted_items-loop-i-init
 counted_items-loop-i-init g t c = record {
@@ -77,8 +78,8 @@ counted_items-loop-i-preserved g t c = record {
 pub counted_items-returns-in_err-value-clause-does :
     goal.counted_items-returns-in_err-value-clause-does
 counted_items-returns-in_err-value-clause-does g t c =
-    let p = err_from_is_err_and c.from_residual.result c.from_residual.ensures.1 in
-    rw (p.1, p.2) (counted_stop c.loop-i.i c.loop-i.items.items c.loop-i.invariant.reached
+    rw c.from_residual.ensures (counted_stop c.loop-i.i c.loop-i.items.items
+    c.loop-i.invariant.reached
     (λ xs v ys. ReadsItems c.args.count (g.S.Source.view c.args.reader.now).budget xs
     v.items ys) c.args.count c.loop-i-test.true c.in_err-value.ensures.does)
 
@@ -109,8 +110,8 @@ counted_members-loop-i-preserved g t c = record {
 pub counted_members-returns-in_err-member-clause-does :
     goal.counted_members-returns-in_err-member-clause-does
 counted_members-returns-in_err-member-clause-does g t c =
-    let p = err_from_is_err_and c.from_residual.result c.from_residual.ensures.1 in
-    rw (p.1, p.2) (ends ReadsMember StopsMember (λ xs ys. ReadsMembers c.loop-i.i (g.S.Source.view
+    rw c.from_residual.ensures (ends ReadsMember StopsMember (λ xs ys. ReadsMembers c.loop-i.i
+    (g.S.Source.view
     c.args.reader.now).budget xs c.loop-i.members.items ys) c.loop-i.invariant.reached
     (λ xs v ys. ReadsMembers c.args.count (g.S.Source.view c.args.reader.now).budget xs
     v.items ys) (StopsMembers c.args.count (g.S.Source.view c.args.reader.now).budget)
@@ -120,22 +121,24 @@ counted_members-returns-in_err-member-clause-does g t c =
 
 pub map_inside-returns-in-None-clause-does : goal.map_inside-returns-in-None-clause-does
 map_inside-returns-in-None-clause-does g t c =
-    map_opened (reached_open 5 c.in-None.is c.in_ok-count.ensures.moves c.in_ok-count.ensures.sound)
+    map_opened (reached_open 5 c.in-None.is (rw c.in_ok-count.ensures at c.len.ensures.moves) (rw
+    c.in_ok-count.ensures at c.len.ensures.sound))
     c.open_members.ensures.does
 
 pub map_inside-returns-in-Some-clause-does : goal.map_inside-returns-in-Some-clause-does
 map_inside-returns-in-Some-clause-does g t c =
     map_counted c.in-Some.count (reached_length 5 c.in-Some.count c.in-Some.is
-    c.in_ok-count.ensures.moves c.in_ok-count.ensures.sound) c.counted_members.ensures.does
+    (rw c.in_ok-count.ensures at c.len.ensures.moves) (rw c.in_ok-count.ensures at
+    c.len.ensures.sound)) c.counted_members.ensures.does
 
 pub map_inside-returns-in_err-count-clause-does : goal.map_inside-returns-in_err-count-clause-does
 map_inside-returns-in_err-count-clause-does g t c =
-    let p = err_from_is_err_and c.from_residual.result c.from_residual.ensures.1 in
-    rw (p.1, p.2) (length_refused map_name 5
+    rw c.from_residual.ensures (length_refused map_name 5
     (λ xs v ys. ReadsMapInside (g.S.Source.view c.args.reader.now).budget xs v.items ys)
     (StopsMajor 5 (g.S.Source.view c.args.reader.now).budget) (λ xs z rest. map_length_stops
     (g.S.Source.view c.args.reader.now).budget xs (g.S.Source.view c.args.reader.now).budget
-    z rest) c.in_err-count.ensures.moves c.in_err-count.ensures.stops)
+    z rest) (rw c.in_err-count.ensures at c.len.ensures.moves) (rw c.in_err-count.ensures at
+    c.len.ensures.stops))
 
 pub open_items-loop-items-init : goal.open_items-loop-items-init
 open_items-loop-items-init g t c = record {
@@ -151,7 +154,8 @@ open_items-loop-items-preserved g t c = record {
       more ReadsOneValue StopsOneValue
       (Before (ReadEach c.loop-items.items.items) (g.S.Source.view c.args.reader.now).budget)
       (other (ReadEach c.loop-items.items.items) c.loop-items.invariant.reached
-      c.if-not-branch.true c.in_ok-is_break.ensures.moves c.in_ok-is_break.ensures.sound)
+      c.if-not-branch.true (rw c.in_ok-part.ensures at c.is_break.ensures.moves) (rw
+      c.in_ok-part.ensures at c.is_break.ensures.sound))
       (ReadEach _ (g.S.Source.view c.args.reader.now).budget)
       (λ xs ys zs h s. each_more (g.S.Source.view c.args.reader.now).budget
       c.loop-items.items.items _ c.in_ok-value.value xs ys zs c.in_ok-keep.ensures.kept h.0
@@ -169,26 +173,27 @@ open_items-returns-clause-does g t c =
     (λ xs ys. ReadsOpenItems (g.S.Source.view c.args.reader.now).budget xs
     c.loop-items.items.items ys) (λ xs ys zs h e. open_done
     (g.S.Source.view c.args.reader.now).budget c.loop-items.items.items xs ys zs h e)
-    c.if-not-branch.false c.in_ok-is_break.ensures.moves c.in_ok-is_break.ensures.sound))
+    c.if-not-branch.false (rw c.in_ok-part.ensures at c.is_break.ensures.moves) (rw
+    c.in_ok-part.ensures at c.is_break.ensures.sound)))
 
-pub open_items-returns-in_err-is_break-clause-does :
-    goal.open_items-returns-in_err-is_break-clause-does
-open_items-returns-in_err-is_break-clause-does g t c =
-    let p = err_from_is_err_and c.from_residual.result c.from_residual.ensures.1 in
-    rw (p.1, p.2) (at_end (ReadEach c.loop-items.items.items) c.loop-items.invariant.reached
+pub open_items-returns-in_err-part-clause-does :
+    goal.open_items-returns-in_err-part-clause-does
+open_items-returns-in_err-part-clause-does g t c =
+    rw c.from_residual.ensures (at_end (ReadEach c.loop-items.items.items)
+    c.loop-items.invariant.reached
     (λ xs v ys. ReadsOpenItems (g.S.Source.view c.args.reader.now).budget xs v.items ys)
     (StopsOpenItems (g.S.Source.view c.args.reader.now).budget) (λ xs ys h e.
     open_end (g.S.Source.view c.args.reader.now).budget c.loop-items.items.items xs ys h e)
-    c.in_err-is_break.ensures.moves c.in_err-is_break.ensures.stops)
+    (rw c.in_err-part.ensures at c.is_break.ensures.moves) (rw c.in_err-part.ensures at
+    c.is_break.ensures.stops))
 
 pub open_items-returns-in_err-value-clause-does : goal.open_items-returns-in_err-value-clause-does
 open_items-returns-in_err-value-clause-does g t c =
-    let p = err_from_is_err_and c.from_residual-in_err-value.result
-    c.from_residual-in_err-value.ensures.1 in
-    rw (p.1, p.2) (ends ReadsOneValue StopsOneValue
+    rw c.from_residual-in_err-value.ensures (ends ReadsOneValue StopsOneValue
     (Before (ReadEach c.loop-items.items.items) (g.S.Source.view c.args.reader.now).budget)
     (other (ReadEach c.loop-items.items.items) c.loop-items.invariant.reached
-    c.if-not-branch.true c.in_ok-is_break.ensures.moves c.in_ok-is_break.ensures.sound)
+    c.if-not-branch.true (rw c.in_ok-part.ensures at c.is_break.ensures.moves) (rw
+    c.in_ok-part.ensures at c.is_break.ensures.sound))
     (λ xs v ys. ReadsOpenItems (g.S.Source.view c.args.reader.now).budget xs v.items ys)
     (StopsOpenItems (g.S.Source.view c.args.reader.now).budget)
     (λ xs ys z rest h s. open_stop (g.S.Source.view c.args.reader.now).budget
@@ -208,7 +213,8 @@ open_members-loop-members-preserved g t c = record {
       more ReadsMember StopsMember (Before (ReadPairs c.loop-members.members.items)
       (g.S.Source.view c.args.reader.now).budget)
       (other (ReadPairs c.loop-members.members.items) c.loop-members.invariant.reached
-      c.if-not-branch.true c.in_ok-is_break.ensures.moves c.in_ok-is_break.ensures.sound)
+      c.if-not-branch.true (rw c.in_ok-part.ensures at c.is_break.ensures.moves) (rw
+      c.in_ok-part.ensures at c.is_break.ensures.sound))
       (ReadPairs _ (g.S.Source.view c.args.reader.now).budget)
       (λ xs ys zs h s. pairs_more (g.S.Source.view c.args.reader.now).budget
       c.loop-members.members.items _ c.in_ok-member.member xs ys zs
@@ -227,27 +233,29 @@ open_members-returns-clause-does g t c =
     (λ xs ys. ReadsOpenMembers (g.S.Source.view c.args.reader.now).budget xs
     c.loop-members.members.items ys) (λ xs ys zs h e. members_done
     (g.S.Source.view c.args.reader.now).budget c.loop-members.members.items xs ys zs h e)
-    c.if-not-branch.false c.in_ok-is_break.ensures.moves c.in_ok-is_break.ensures.sound))
+    c.if-not-branch.false (rw c.in_ok-part.ensures at c.is_break.ensures.moves) (rw
+    c.in_ok-part.ensures at c.is_break.ensures.sound)))
 
-pub open_members-returns-in_err-is_break-clause-does :
-    goal.open_members-returns-in_err-is_break-clause-does
-open_members-returns-in_err-is_break-clause-does g t c =
-    let p = err_from_is_err_and c.from_residual.result c.from_residual.ensures.1 in
-    rw (p.1, p.2) (at_end (ReadPairs c.loop-members.members.items) c.loop-members.invariant.reached
+pub open_members-returns-in_err-part-clause-does :
+    goal.open_members-returns-in_err-part-clause-does
+open_members-returns-in_err-part-clause-does g t c =
+    rw c.from_residual.ensures (at_end (ReadPairs c.loop-members.members.items)
+    c.loop-members.invariant.reached
     (λ xs v ys. ReadsOpenMembers (g.S.Source.view c.args.reader.now).budget xs v.items ys)
     (StopsOpenMembers (g.S.Source.view c.args.reader.now).budget) (λ xs ys h e. members_end
     (g.S.Source.view c.args.reader.now).budget c.loop-members.members.items xs ys h e)
-    c.in_err-is_break.ensures.moves c.in_err-is_break.ensures.stops)
+    (rw c.in_err-part.ensures at c.is_break.ensures.moves) (rw c.in_err-part.ensures at
+    c.is_break.ensures.stops))
 
 pub open_members-returns-in_err-member-clause-does :
     goal.open_members-returns-in_err-member-clause-does
 open_members-returns-in_err-member-clause-does g t c =
-    let p = err_from_is_err_and c.from_residual-in_err-member.result
-    c.from_residual-in_err-member.ensures.1 in
-    rw (p.1, p.2) (ends ReadsMember StopsMember (Before (ReadPairs c.loop-members.members.items)
+    rw c.from_residual-in_err-member.ensures (ends ReadsMember StopsMember (Before (ReadPairs
+    c.loop-members.members.items)
     (g.S.Source.view c.args.reader.now).budget)
     (other (ReadPairs c.loop-members.members.items) c.loop-members.invariant.reached
-    c.if-not-branch.true c.in_ok-is_break.ensures.moves c.in_ok-is_break.ensures.sound)
+    c.if-not-branch.true (rw c.in_ok-part.ensures at c.is_break.ensures.moves) (rw
+    c.in_ok-part.ensures at c.is_break.ensures.sound))
     (λ xs v ys. ReadsOpenMembers (g.S.Source.view c.args.reader.now).budget xs v.items ys)
     (StopsOpenMembers (g.S.Source.view c.args.reader.now).budget)
     (λ xs ys z rest h s. pair_stop (g.S.Source.view c.args.reader.now).budget
@@ -265,8 +273,7 @@ read_member-returns-clause-does g t c =
 
 pub read_member-returns-in_err-key-clause-does : goal.read_member-returns-in_err-key-clause-does
 read_member-returns-in_err-key-clause-does g t c =
-    let p = err_from_is_err_and c.from_residual.result c.from_residual.ensures.1 in
-    rw (p.1, p.2) (ends ReadsOneValue StopsOneValue (λ xs ys. ys ≡ xs)
+    rw c.from_residual.ensures (ends ReadsOneValue StopsOneValue (λ xs ys. ys ≡ xs)
     (reached_start (λ xs ys. ys ≡ xs) _ (λ xs. refl))
     (ReadsMember (g.S.Source.view c.args.reader.now).budget)
     (StopsMember (g.S.Source.view c.args.reader.now).budget) (λ xs ys z rest h s. inl
@@ -275,9 +282,8 @@ read_member-returns-in_err-key-clause-does g t c =
 
 pub read_member-returns-in_err-value-clause-does : goal.read_member-returns-in_err-value-clause-does
 read_member-returns-in_err-value-clause-does g t c =
-    let p = err_from_is_err_and c.from_residual-in_err-value.result
-    c.from_residual-in_err-value.ensures.1 in
-    rw (p.1, p.2) (ends ReadsOneValue StopsOneValue (λ xs ys. ReadsOneValue (g.S.Source.view
+    rw c.from_residual-in_err-value.ensures (ends ReadsOneValue StopsOneValue (λ xs ys.
+    ReadsOneValue (g.S.Source.view
     c.args.reader.now).budget xs c.in_ok-key.key ys) (reached_by c.in_ok-key.ensures.does)
     (ReadsMember (g.S.Source.view c.args.reader.now).budget)
     (StopsMember (g.S.Source.view c.args.reader.now).budget)
@@ -293,60 +299,69 @@ read_array-returns-clause-does g t c =
 pub read_array-returns-then-not-step_in-clause-does :
     goal.read_array-returns-then-not-step_in-clause-does
 read_array-returns-then-not-step_in-clause-does g t c =
-    does_no_step array_name (ReadsStepped (λ o xs v ys. ReadsArrayInside o xs v.items ys)
+    rw c.leave.ensures (does_no_step array_name (ReadsStepped (λ o xs v ys. ReadsArrayInside o xs
+    v.items ys)
     (g.S.Source.view c.args.reader.now).budget)
     (StopsOf 4 (g.S.Source.view c.args.reader.now).budget) refl refl
     (λ none xs. array_no_step (g.S.Source.view c.args.reader.now).budget none xs)
-    c.if-not-step_in.ensures.budget c.step_in.ensures.others
+    c.if-not-step_in.ensures.budget c.step_in.ensures.others)
 
 pub read_inside-returns-clause-does : goal.read_inside-returns-clause-does
 read_inside-returns-clause-does g t c =
-    arm_does c.in_ok-first.first c.in_ok-first.ensures.runs
+    arm_does c.in_ok-first.first (rw c.in_ok-first.ensures at c.peek.ensures.runs)
     (λ xs v ys. ReadsUnder (g.S.Source.view c.peek.new.reader).budget xs v ys)
     (StopsFirst c.in_ok-first.first (g.S.Source.view c.peek.new.reader).budget)
     (λ bs ys v h. subst (λ o. ReadsUnder o (c.in_ok-first.first ∷ bs) v ys)
-    c.in_ok-first.ensures.runs.moves.by.budget h)
+    (rw c.in_ok-first.ensures at c.peek.ensures.runs).moves.by.budget h)
     (λ bs z rest h. subst (λ o. StopsUnder o (c.in_ok-first.first ∷ bs) z rest)
-    c.in_ok-first.ensures.runs.moves.by.budget (h bs refl)) c.read_leaf.ensures.does
+    (rw c.in_ok-first.ensures at c.peek.ensures.runs).moves.by.budget (h bs refl)) (rw
+    c.part-in_default.ensures at c.read_leaf.ensures.does)
 
 pub read_inside-returns-in-7-clause-does : goal.read_inside-returns-in-7-clause-does
 read_inside-returns-in-7-clause-does g t c =
-    arm_does c.in_ok-first.first c.in_ok-first.ensures.runs
+    arm_does c.in_ok-first.first (rw c.in_ok-first.ensures at c.peek.ensures.runs)
     (λ xs v ys. ReadsUnder (g.S.Source.view c.peek.new.reader).budget xs v ys)
     (StopsFirst c.in_ok-first.first (g.S.Source.view c.peek.new.reader).budget)
     (λ bs ys v h. subst (λ o. ReadsUnder o (c.in_ok-first.first ∷ bs) v ys)
-    c.in_ok-first.ensures.runs.moves.by.budget h)
+    (rw c.in_ok-first.ensures at c.peek.ensures.runs).moves.by.budget h)
     (λ bs z rest h. subst (λ o. StopsUnder o (c.in_ok-first.first ∷ bs) z rest)
-    c.in_ok-first.ensures.runs.moves.by.budget (h bs refl)) c.read_float.ensures.does
+    (rw c.in_ok-first.ensures at c.peek.ensures.runs).moves.by.budget (h bs refl)) (rw
+    c.part-in-None.ensures at c.read_float.ensures.does)
 
 pub read_inside-returns-in-4-clause-does : goal.read_inside-returns-in-4-clause-does
 read_inside-returns-in-4-clause-does g t c =
-    arm_ok c.in_ok-first.first c.in_ok-first.ensures.runs (ReadsStepped (λ o xs v ys.
+    arm_ok c.in_ok-first.first (rw c.in_ok-first.ensures at c.peek.ensures.runs) (ReadsStepped (λ o
+    xs v ys.
     ReadsArrayInside o xs v.items ys) (g.S.Source.view c.peek.new.reader).budget)
     (StopsOf 4 (g.S.Source.view c.peek.new.reader).budget)
     (Array c.in_ok-read_array-in-4.field-0) (λ bs ys h.
     array_reads (g.S.Source.view c.args.reader.now).budget c.in_ok-read_array-in-4.field-0
     (c.in_ok-first.first ∷ bs) ys (subst (λ o. ReadsStepped (λ o xs v ys. ReadsArrayInside o
     xs v.items ys) o (c.in_ok-first.first ∷ bs) c.in_ok-read_array-in-4.field-0 ys)
-    c.in_ok-first.ensures.runs.moves.by.budget h)) c.in_ok-read_array-in-4.ensures.does
+    (rw c.in_ok-first.ensures at c.peek.ensures.runs).moves.by.budget h))
+    c.in_ok-read_array-in-4.ensures.does
 
 pub read_inside-returns-in-5-clause-does : goal.read_inside-returns-in-5-clause-does
 read_inside-returns-in-5-clause-does g t c =
-    arm_ok c.in_ok-first.first c.in_ok-first.ensures.runs (ReadsStepped (λ o xs v ys.
+    arm_ok c.in_ok-first.first (rw c.in_ok-first.ensures at c.peek.ensures.runs) (ReadsStepped (λ o
+    xs v ys.
     ReadsMapInside o xs v.items ys) (g.S.Source.view c.peek.new.reader).budget)
     (StopsOf 5 (g.S.Source.view c.peek.new.reader).budget) (Map c.in_ok-read_map-in-5.field-0)
     (λ bs ys h. map_reads (g.S.Source.view c.args.reader.now).budget
     c.in_ok-read_map-in-5.field-0 (c.in_ok-first.first ∷ bs) ys (subst (λ o.
     ReadsStepped (λ o xs v ys. ReadsMapInside o xs v.items ys) o (c.in_ok-first.first ∷ bs)
-    c.in_ok-read_map-in-5.field-0 ys) c.in_ok-first.ensures.runs.moves.by.budget h))
+    c.in_ok-read_map-in-5.field-0 ys) (rw c.in_ok-first.ensures at
+    c.peek.ensures.runs).moves.by.budget h))
     c.in_ok-read_map-in-5.ensures.does
 
 pub read_inside-returns-in-6-clause-does : goal.read_inside-returns-in-6-clause-does
 read_inside-returns-in-6-clause-does g t c =
     does_no_memory (ReadsUnder (g.S.Source.view c.args.reader.now).budget)
     (StopsUnder (g.S.Source.view c.args.reader.now).budget) refl (kept_then
-    (reached_tag c.in_ok-first.first c.in_ok-number-in-6.number c.in_ok-first.ensures.runs
-    c.in_ok-number-in-6.ensures.moves c.in_ok-number-in-6.ensures.sound).kept
+    (reached_tag c.in_ok-first.first c.in_ok-number-in-6.number (rw c.in_ok-first.ensures at
+    c.peek.ensures.runs)
+    (rw c.in_ok-number-in-6.ensures at c.tag.ensures.moves) (rw c.in_ok-number-in-6.ensures at
+    c.tag.ensures.sound)).kept
     c.in_ok-inner-in-6.ensures.does.moves.by)
 
 pub read_inside-returns-in-Ok-clause-does : goal.read_inside-returns-in-Ok-clause-does
@@ -354,54 +369,55 @@ read_inside-returns-in-Ok-clause-does g t c =
     tag_read c.in_ok-number-in-6.number (Tag c.in_ok-number-in-6.number c.in-Ok.boxed)
     (view-Tag c.in_ok-number-in-6.number c.in-Ok.boxed
     ∙ ap (λ x. tag c.in_ok-number-in-6.number (view x)) c.in-Ok.ensures.ok)
-    (reached_tag c.in_ok-first.first c.in_ok-number-in-6.number c.in_ok-first.ensures.runs
-    c.in_ok-number-in-6.ensures.moves c.in_ok-number-in-6.ensures.sound)
+    (reached_tag c.in_ok-first.first c.in_ok-number-in-6.number (rw c.in_ok-first.ensures at
+    c.peek.ensures.runs)
+    (rw c.in_ok-number-in-6.ensures at c.tag.ensures.moves) (rw c.in_ok-number-in-6.ensures at
+    c.tag.ensures.sound))
     c.in_ok-inner-in-6.ensures.does
 
 pub read_inside-returns-in_err-inner-in-6-clause-does :
     goal.read_inside-returns-in_err-inner-in-6-clause-does
 read_inside-returns-in_err-inner-in-6-clause-does g t c =
-    let p = err_from_is_err_and c.from_residual-in_err-inner-in-6.result
-    c.from_residual-in_err-inner-in-6.ensures.1 in
-    rw (p.1, p.2) (tag_stopped c.in_ok-number-in-6.number (reached_tag c.in_ok-first.first
-    c.in_ok-number-in-6.number c.in_ok-first.ensures.runs c.in_ok-number-in-6.ensures.moves
-    c.in_ok-number-in-6.ensures.sound) c.in_err-inner-in-6.ensures.does)
+    rw c.from_residual-in_err-inner-in-6.ensures (tag_stopped c.in_ok-number-in-6.number
+    (reached_tag c.in_ok-first.first
+    c.in_ok-number-in-6.number (rw c.in_ok-first.ensures at c.peek.ensures.runs) (rw
+    c.in_ok-number-in-6.ensures at c.tag.ensures.moves)
+    (rw c.in_ok-number-in-6.ensures at c.tag.ensures.sound)) c.in_err-inner-in-6.ensures.does)
 
 pub read_inside-returns-in_err-number-in-6-clause-does :
     goal.read_inside-returns-in_err-number-in-6-clause-does
 read_inside-returns-in_err-number-in-6-clause-does g t c =
-    let p = err_from_is_err_and c.from_residual-in_err-number-in-6.result
-    c.from_residual-in_err-number-in-6.ensures.1 in
-    rw (p.1, p.2)
-    (call_err c.in_ok-first.first c.in_ok-first.ensures.runs (StopsArgument tag_name 6 8)
+    rw c.from_residual-in_err-number-in-6.ensures
+    (call_err c.in_ok-first.first (rw c.in_ok-first.ensures at c.peek.ensures.runs) (StopsArgument
+    tag_name 6 8)
     (λ bs z rest h. tag_stops (g.S.Source.view c.args.reader.now).budget c.in_ok-first.first
-    bs z rest c.in-6.is h) c.in_err-number-in-6.ensures.moves
-    c.in_err-number-in-6.ensures.stops)
+    bs z rest c.in-6.is h) (rw c.in_err-number-in-6.ensures at c.tag.ensures.moves)
+    (rw c.in_err-number-in-6.ensures at c.tag.ensures.stops))
 
 pub read_inside-returns-in_err-read_array-in-4-clause-does :
     goal.read_inside-returns-in_err-read_array-in-4-clause-does
 read_inside-returns-in_err-read_array-in-4-clause-does g t c =
-    let p = err_from_is_err_and c.from_residual-in_err-read_array-in-4.result
-    c.from_residual-in_err-read_array-in-4.ensures.1 in
-    rw (p.1, p.2)
-    (arm_err c.in_ok-first.first c.in_ok-first.ensures.runs (ReadsStepped (λ o xs v ys.
+    rw c.from_residual-in_err-read_array-in-4.ensures
+    (arm_err c.in_ok-first.first (rw c.in_ok-first.ensures at c.peek.ensures.runs) (ReadsStepped (λ
+    o xs v ys.
     ReadsArrayInside o xs v.items ys) (g.S.Source.view c.peek.new.reader).budget)
     (StopsOf 4 (g.S.Source.view c.peek.new.reader).budget)
     (λ bs z rest h. subst (λ o. StopsUnder o (c.in_ok-first.first ∷ bs) z rest)
-    c.in_ok-first.ensures.runs.moves.by.budget (h c.in_ok-first.first bs refl c.in-4.is))
+    (rw c.in_ok-first.ensures at c.peek.ensures.runs).moves.by.budget (h c.in_ok-first.first bs refl
+    c.in-4.is))
     c.in_err-read_array-in-4.ensures.does)
 
 pub read_inside-returns-in_err-read_map-in-5-clause-does :
     goal.read_inside-returns-in_err-read_map-in-5-clause-does
 read_inside-returns-in_err-read_map-in-5-clause-does g t c =
-    let p = err_from_is_err_and c.from_residual-in_err-read_map-in-5.result
-    c.from_residual-in_err-read_map-in-5.ensures.1 in
-    rw (p.1, p.2)
-    (arm_err c.in_ok-first.first c.in_ok-first.ensures.runs (ReadsStepped (λ o xs v ys.
+    rw c.from_residual-in_err-read_map-in-5.ensures
+    (arm_err c.in_ok-first.first (rw c.in_ok-first.ensures at c.peek.ensures.runs) (ReadsStepped (λ
+    o xs v ys.
     ReadsMapInside o xs v.items ys) (g.S.Source.view c.peek.new.reader).budget)
     (StopsOf 5 (g.S.Source.view c.peek.new.reader).budget)
     (λ bs z rest h. subst (λ o. StopsUnder o (c.in_ok-first.first ∷ bs) z rest)
-    c.in_ok-first.ensures.runs.moves.by.budget (h c.in_ok-first.first bs refl c.in-5.is))
+    (rw c.in_ok-first.ensures at c.peek.ensures.runs).moves.by.budget (h c.in_ok-first.first bs refl
+    c.in-5.is))
     c.in_err-read_map-in-5.ensures.does)
 
 pub read_map-returns-clause-does : goal.read_map-returns-clause-does
@@ -413,11 +429,12 @@ read_map-returns-clause-does g t c =
 pub read_map-returns-then-not-step_in-clause-does :
     goal.read_map-returns-then-not-step_in-clause-does
 read_map-returns-then-not-step_in-clause-does g t c =
-    does_no_step map_name (ReadsStepped (λ o xs v ys. ReadsMapInside o xs v.items ys)
+    rw c.leave.ensures (does_no_step map_name (ReadsStepped (λ o xs v ys. ReadsMapInside o xs
+    v.items ys)
     (g.S.Source.view c.args.reader.now).budget)
     (StopsOf 5 (g.S.Source.view c.args.reader.now).budget) refl refl
     (λ none xs. map_no_step (g.S.Source.view c.args.reader.now).budget none xs)
-    c.if-not-step_in.ensures.budget c.step_in.ensures.others
+    c.if-not-step_in.ensures.budget c.step_in.ensures.others)
 
 pub read_value-returns-clause-does : goal.read_value-returns-clause-does
 read_value-returns-clause-does g t c =
@@ -427,46 +444,41 @@ read_value-returns-clause-does g t c =
 pub counted_items-returns-in_err-keep-clause-does :
     goal.counted_items-returns-in_err-keep-clause-does
 counted_items-returns-in_err-keep-clause-does g t c =
-    let p = err_from_is_err_and c.from_residual-in_err-keep.result
-    c.from_residual-in_err-keep.ensures.1 in
-    rw (p.1, p.2) (does_no_memory (λ xs v ys. ReadsItems c.args.count
+    rw c.from_residual-in_err-keep.ensures (does_no_memory (λ xs v ys. ReadsItems c.args.count
     (g.S.Source.view c.args.reader.now).budget xs v.items ys) (StopsItems c.args.count
-    (g.S.Source.view c.args.reader.now).budget) c.in_err-keep.ensures.memory
+    (g.S.Source.view c.args.reader.now).budget) (ap refusal_left c.in_err-keep.ensures.memory)
     (kept_then c.loop-i.invariant.reached.kept c.in_ok-value.ensures.does.moves.by))
 
 pub counted_members-returns-in_err-keep-clause-does :
     goal.counted_members-returns-in_err-keep-clause-does
 counted_members-returns-in_err-keep-clause-does g t c =
-    let p = err_from_is_err_and c.from_residual-in_err-keep.result
-    c.from_residual-in_err-keep.ensures.1 in
-    rw (p.1, p.2) (does_no_memory (λ xs v ys. ReadsMembers c.args.count
+    rw c.from_residual-in_err-keep.ensures (does_no_memory (λ xs v ys. ReadsMembers c.args.count
     (g.S.Source.view c.args.reader.now).budget xs v.items ys) (StopsMembers c.args.count
-    (g.S.Source.view c.args.reader.now).budget) c.in_err-keep.ensures.memory
+    (g.S.Source.view c.args.reader.now).budget) (ap refusal_left c.in_err-keep.ensures.memory)
     (kept_then c.loop-i.invariant.reached.kept c.in_ok-member.ensures.does.moves.by))
 
 pub open_items-returns-in_err-keep-clause-does : goal.open_items-returns-in_err-keep-clause-does
 open_items-returns-in_err-keep-clause-does g t c =
-    let p = err_from_is_err_and c.from_residual-in_err-keep.result
-    c.from_residual-in_err-keep.ensures.1 in
-    rw (p.1, p.2) (does_no_memory
+    rw c.from_residual-in_err-keep.ensures (does_no_memory
     (λ xs v ys. ReadsOpenItems (g.S.Source.view c.args.reader.now).budget xs v.items ys)
-    (StopsOpenItems (g.S.Source.view c.args.reader.now).budget) c.in_err-keep.ensures.memory
+    (StopsOpenItems (g.S.Source.view c.args.reader.now).budget) (ap refusal_left
+    c.in_err-keep.ensures.memory)
     (kept_then (kept_then c.loop-items.invariant.reached.kept
-    c.in_ok-is_break.ensures.moves.by) c.in_ok-value.ensures.does.moves.by))
+    (rw c.in_ok-part.ensures at c.is_break.ensures.moves).by) c.in_ok-value.ensures.does.moves.by))
 
 pub open_members-returns-in_err-keep-clause-does : goal.open_members-returns-in_err-keep-clause-does
 open_members-returns-in_err-keep-clause-does g t c =
-    let p = err_from_is_err_and c.from_residual-in_err-keep.result
-    c.from_residual-in_err-keep.ensures.1 in
-    rw (p.1, p.2) (does_no_memory
+    rw c.from_residual-in_err-keep.ensures (does_no_memory
     (λ xs v ys. ReadsOpenMembers (g.S.Source.view c.args.reader.now).budget xs v.items ys)
     (StopsOpenMembers (g.S.Source.view c.args.reader.now).budget)
-    c.in_err-keep.ensures.memory (kept_then (kept_then c.loop-members.invariant.reached.kept
-    c.in_ok-is_break.ensures.moves.by) c.in_ok-member.ensures.does.moves.by))
+    (ap refusal_left c.in_err-keep.ensures.memory) (kept_then (kept_then
+    c.loop-members.invariant.reached.kept
+    (rw c.in_ok-part.ensures at c.is_break.ensures.moves).by) c.in_ok-member.ensures.does.moves.by))
 
 pub read_inside-returns-in-Some-clause-does : goal.read_inside-returns-in-Some-clause-does
 read_inside-returns-in-Some-clause-does g t c =
-    simple_read c.in_ok-first.first c.in_ok-first.ensures.runs c.in_ok-first.ensures.byte
+    simple_read c.in_ok-first.first (rw c.in_ok-first.ensures at c.peek.ensures.runs) (rw
+    c.in_ok-first.ensures at c.peek.ensures.byte)
     c.advance.ensures c.in-Some.ensures
 
 pub read_inside-returns-in-4-clause-item : goal.read_inside-returns-in-4-clause-item
@@ -480,12 +492,12 @@ read_inside-returns-in-5-clause-item g t c =
 pub array_inside-returns-in_err-count-clause-items :
     goal.array_inside-returns-in_err-count-clause-items
 array_inside-returns-in_err-count-clause-items g t c =
-    let p = err_from_is_err_and c.from_residual.result c.from_residual.ensures.1 in rw p.1 tt
+    rw c.from_residual.ensures tt
 
 pub array_inside-returns-in_err-count-clause-progress :
     goal.array_inside-returns-in_err-count-clause-progress
 array_inside-returns-in_err-count-clause-progress g t c =
-    let p = err_from_is_err_and c.from_residual.result c.from_residual.ensures.1 in rw p.1 tt
+    rw c.from_residual.ensures tt
 
 pub counted_items-returns-then-is_err-clause-items :
     goal.counted_items-returns-then-is_err-clause-items
@@ -494,14 +506,12 @@ counted_items-returns-then-is_err-clause-items g t c = tt
 pub counted_items-returns-in_err-value-clause-items :
     goal.counted_items-returns-in_err-value-clause-items
 counted_items-returns-in_err-value-clause-items g t c =
-    let p = err_from_is_err_and c.from_residual.result c.from_residual.ensures.1 in rw p.1 tt
+    rw c.from_residual.ensures tt
 
 pub counted_items-returns-in_err-keep-clause-items :
     goal.counted_items-returns-in_err-keep-clause-items
 counted_items-returns-in_err-keep-clause-items g t c =
-    let p = err_from_is_err_and c.from_residual-in_err-keep.result
-    c.from_residual-in_err-keep.ensures.1 in
-    rw p.1 tt
+    rw c.from_residual-in_err-keep.ensures tt
 
 pub counted_members-returns-then-is_err-clause-items :
     goal.counted_members-returns-then-is_err-clause-items
@@ -510,59 +520,49 @@ counted_members-returns-then-is_err-clause-items g t c = tt
 pub counted_members-returns-in_err-member-clause-items :
     goal.counted_members-returns-in_err-member-clause-items
 counted_members-returns-in_err-member-clause-items g t c =
-    let p = err_from_is_err_and c.from_residual.result c.from_residual.ensures.1 in rw p.1 tt
+    rw c.from_residual.ensures tt
 
 pub counted_members-returns-in_err-keep-clause-items :
     goal.counted_members-returns-in_err-keep-clause-items
 counted_members-returns-in_err-keep-clause-items g t c =
-    let p = err_from_is_err_and c.from_residual-in_err-keep.result
-    c.from_residual-in_err-keep.ensures.1 in
-    rw p.1 tt
+    rw c.from_residual-in_err-keep.ensures tt
 
 pub map_inside-returns-in_err-count-clause-items : goal.map_inside-returns-in_err-count-clause-items
 map_inside-returns-in_err-count-clause-items g t c =
-    let p = err_from_is_err_and c.from_residual.result c.from_residual.ensures.1 in rw p.1 tt
+    rw c.from_residual.ensures tt
 
 pub map_inside-returns-in_err-count-clause-progress :
     goal.map_inside-returns-in_err-count-clause-progress
 map_inside-returns-in_err-count-clause-progress g t c =
-    let p = err_from_is_err_and c.from_residual.result c.from_residual.ensures.1 in rw p.1 tt
+    rw c.from_residual.ensures tt
 
-pub open_items-returns-in_err-is_break-clause-items :
-    goal.open_items-returns-in_err-is_break-clause-items
-open_items-returns-in_err-is_break-clause-items g t c =
-    let p = err_from_is_err_and c.from_residual.result c.from_residual.ensures.1 in rw p.1 tt
+pub open_items-returns-in_err-part-clause-items :
+    goal.open_items-returns-in_err-part-clause-items
+open_items-returns-in_err-part-clause-items g t c =
+    rw c.from_residual.ensures tt
 
 pub open_items-returns-in_err-value-clause-items : goal.open_items-returns-in_err-value-clause-items
 open_items-returns-in_err-value-clause-items g t c =
-    let p = err_from_is_err_and c.from_residual-in_err-value.result
-    c.from_residual-in_err-value.ensures.1 in
-    rw p.1 tt
+    rw c.from_residual-in_err-value.ensures tt
 
 pub open_items-returns-in_err-keep-clause-items : goal.open_items-returns-in_err-keep-clause-items
 open_items-returns-in_err-keep-clause-items g t c =
-    let p = err_from_is_err_and c.from_residual-in_err-keep.result
-    c.from_residual-in_err-keep.ensures.1 in
-    rw p.1 tt
+    rw c.from_residual-in_err-keep.ensures tt
 
-pub open_members-returns-in_err-is_break-clause-items :
-    goal.open_members-returns-in_err-is_break-clause-items
-open_members-returns-in_err-is_break-clause-items g t c =
-    let p = err_from_is_err_and c.from_residual.result c.from_residual.ensures.1 in rw p.1 tt
+pub open_members-returns-in_err-part-clause-items :
+    goal.open_members-returns-in_err-part-clause-items
+open_members-returns-in_err-part-clause-items g t c =
+    rw c.from_residual.ensures tt
 
 pub open_members-returns-in_err-member-clause-items :
     goal.open_members-returns-in_err-member-clause-items
 open_members-returns-in_err-member-clause-items g t c =
-    let p = err_from_is_err_and c.from_residual-in_err-member.result
-    c.from_residual-in_err-member.ensures.1 in
-    rw p.1 tt
+    rw c.from_residual-in_err-member.ensures tt
 
 pub open_members-returns-in_err-keep-clause-items :
     goal.open_members-returns-in_err-keep-clause-items
 open_members-returns-in_err-keep-clause-items g t c =
-    let p = err_from_is_err_and c.from_residual-in_err-keep.result
-    c.from_residual-in_err-keep.ensures.1 in
-    rw p.1 tt
+    rw c.from_residual-in_err-keep.ensures tt
 
 pub read_array-returns-then-not-step_in-clause-items :
     goal.read_array-returns-then-not-step_in-clause-items
@@ -574,68 +574,52 @@ read_array-returns-then-not-step_in-clause-progress g t c = tt
 
 pub read_inside-returns-in_err-first-clause-item : goal.read_inside-returns-in_err-first-clause-item
 read_inside-returns-in_err-first-clause-item g t c =
-    let p = err_from_is_err_and c.from_residual.result c.from_residual.ensures.1 in rw p.1 tt
+    rw c.from_residual.ensures tt
 
 pub read_inside-returns-in_err-first-clause-progress :
     goal.read_inside-returns-in_err-first-clause-progress
 read_inside-returns-in_err-first-clause-progress g t c =
-    let p = err_from_is_err_and c.from_residual.result c.from_residual.ensures.1 in rw p.1 tt
+    rw c.from_residual.ensures tt
 
 pub read_inside-returns-in_err-read_array-in-4-clause-item :
     goal.read_inside-returns-in_err-read_array-in-4-clause-item
 read_inside-returns-in_err-read_array-in-4-clause-item g t c =
-    let p = err_from_is_err_and c.from_residual-in_err-read_array-in-4.result
-    c.from_residual-in_err-read_array-in-4.ensures.1 in
-    rw p.1 tt
+    rw c.from_residual-in_err-read_array-in-4.ensures tt
 
 pub read_inside-returns-in_err-read_array-in-4-clause-progress :
     goal.read_inside-returns-in_err-read_array-in-4-clause-progress
 read_inside-returns-in_err-read_array-in-4-clause-progress g t c =
-    let p = err_from_is_err_and c.from_residual-in_err-read_array-in-4.result
-    c.from_residual-in_err-read_array-in-4.ensures.1 in
-    rw p.1 tt
+    rw c.from_residual-in_err-read_array-in-4.ensures tt
 
 pub read_inside-returns-in_err-read_map-in-5-clause-item :
     goal.read_inside-returns-in_err-read_map-in-5-clause-item
 read_inside-returns-in_err-read_map-in-5-clause-item g t c =
-    let p = err_from_is_err_and c.from_residual-in_err-read_map-in-5.result
-    c.from_residual-in_err-read_map-in-5.ensures.1 in
-    rw p.1 tt
+    rw c.from_residual-in_err-read_map-in-5.ensures tt
 
 pub read_inside-returns-in_err-read_map-in-5-clause-progress :
     goal.read_inside-returns-in_err-read_map-in-5-clause-progress
 read_inside-returns-in_err-read_map-in-5-clause-progress g t c =
-    let p = err_from_is_err_and c.from_residual-in_err-read_map-in-5.result
-    c.from_residual-in_err-read_map-in-5.ensures.1 in
-    rw p.1 tt
+    rw c.from_residual-in_err-read_map-in-5.ensures tt
 
 pub read_inside-returns-in_err-number-in-6-clause-item :
     goal.read_inside-returns-in_err-number-in-6-clause-item
 read_inside-returns-in_err-number-in-6-clause-item g t c =
-    let p = err_from_is_err_and c.from_residual-in_err-number-in-6.result
-    c.from_residual-in_err-number-in-6.ensures.1 in
-    rw p.1 tt
+    rw c.from_residual-in_err-number-in-6.ensures tt
 
 pub read_inside-returns-in_err-number-in-6-clause-progress :
     goal.read_inside-returns-in_err-number-in-6-clause-progress
 read_inside-returns-in_err-number-in-6-clause-progress g t c =
-    let p = err_from_is_err_and c.from_residual-in_err-number-in-6.result
-    c.from_residual-in_err-number-in-6.ensures.1 in
-    rw p.1 tt
+    rw c.from_residual-in_err-number-in-6.ensures tt
 
 pub read_inside-returns-in_err-inner-in-6-clause-item :
     goal.read_inside-returns-in_err-inner-in-6-clause-item
 read_inside-returns-in_err-inner-in-6-clause-item g t c =
-    let p = err_from_is_err_and c.from_residual-in_err-inner-in-6.result
-    c.from_residual-in_err-inner-in-6.ensures.1 in
-    rw p.1 tt
+    rw c.from_residual-in_err-inner-in-6.ensures tt
 
 pub read_inside-returns-in_err-inner-in-6-clause-progress :
     goal.read_inside-returns-in_err-inner-in-6-clause-progress
 read_inside-returns-in_err-inner-in-6-clause-progress g t c =
-    let p = err_from_is_err_and c.from_residual-in_err-inner-in-6.result
-    c.from_residual-in_err-inner-in-6.ensures.1 in
-    rw p.1 tt
+    rw c.from_residual-in_err-inner-in-6.ensures tt
 
 pub read_inside-returns-in-6-clause-item : goal.read_inside-returns-in-6-clause-item
 read_inside-returns-in-6-clause-item g t c = tt
@@ -653,36 +637,30 @@ read_map-returns-then-not-step_in-clause-progress g t c = tt
 
 pub read_member-returns-in_err-key-clause-key : goal.read_member-returns-in_err-key-clause-key
 read_member-returns-in_err-key-clause-key g t c =
-    let p = err_from_is_err_and c.from_residual.result c.from_residual.ensures.1 in rw p.1 tt
+    rw c.from_residual.ensures tt
 
 pub read_member-returns-in_err-key-clause-value : goal.read_member-returns-in_err-key-clause-value
 read_member-returns-in_err-key-clause-value g t c =
-    let p = err_from_is_err_and c.from_residual.result c.from_residual.ensures.1 in rw p.1 tt
+    rw c.from_residual.ensures tt
 
 pub read_member-returns-in_err-key-clause-progress :
     goal.read_member-returns-in_err-key-clause-progress
 read_member-returns-in_err-key-clause-progress g t c =
-    let p = err_from_is_err_and c.from_residual.result c.from_residual.ensures.1 in rw p.1 tt
+    rw c.from_residual.ensures tt
 
 pub read_member-returns-in_err-value-clause-key : goal.read_member-returns-in_err-value-clause-key
 read_member-returns-in_err-value-clause-key g t c =
-    let p = err_from_is_err_and c.from_residual-in_err-value.result
-    c.from_residual-in_err-value.ensures.1 in
-    rw p.1 tt
+    rw c.from_residual-in_err-value.ensures tt
 
 pub read_member-returns-in_err-value-clause-value :
     goal.read_member-returns-in_err-value-clause-value
 read_member-returns-in_err-value-clause-value g t c =
-    let p = err_from_is_err_and c.from_residual-in_err-value.result
-    c.from_residual-in_err-value.ensures.1 in
-    rw p.1 tt
+    rw c.from_residual-in_err-value.ensures tt
 
 pub read_member-returns-in_err-value-clause-progress :
     goal.read_member-returns-in_err-value-clause-progress
 read_member-returns-in_err-value-clause-progress g t c =
-    let p = err_from_is_err_and c.from_residual-in_err-value.result
-    c.from_residual-in_err-value.ensures.1 in
-    rw p.1 tt
+    rw c.from_residual-in_err-value.ensures tt
 
 pub read_value-returns-then-not-step_in-clause-item :
     goal.read_value-returns-then-not-step_in-clause-item
@@ -723,28 +701,32 @@ array_inside-returns-in-Some-clause-items g t c = c.counted_items.ensures.items
 
 pub array_inside-returns-in-Some-clause-progress : goal.array_inside-returns-in-Some-clause-progress
 array_inside-returns-in-Some-clause-progress g t c =
-    went_on _ c.in_ok-count.ensures.progress c.counted_items.ensures.does.moves
+    went_on _ c.counted_items.result _ (rw c.in_ok-count.ensures at c.len.ensures.progress)
+    c.counted_items.ensures.does.moves
 
 pub array_inside-returns-in-None-clause-items : goal.array_inside-returns-in-None-clause-items
 array_inside-returns-in-None-clause-items g t c = c.open_items.ensures.items
 
 pub array_inside-returns-in-None-clause-progress : goal.array_inside-returns-in-None-clause-progress
 array_inside-returns-in-None-clause-progress g t c =
-    went_on _ c.in_ok-count.ensures.progress c.open_items.ensures.does.moves
+    went_on _ c.open_items.result _ (rw c.in_ok-count.ensures at c.len.ensures.progress)
+    c.open_items.ensures.does.moves
 
 pub map_inside-returns-in-Some-clause-items : goal.map_inside-returns-in-Some-clause-items
 map_inside-returns-in-Some-clause-items g t c = c.counted_members.ensures.items
 
 pub map_inside-returns-in-Some-clause-progress : goal.map_inside-returns-in-Some-clause-progress
 map_inside-returns-in-Some-clause-progress g t c =
-    went_on _ c.in_ok-count.ensures.progress c.counted_members.ensures.does.moves
+    went_on _ c.counted_members.result _ (rw c.in_ok-count.ensures at c.len.ensures.progress)
+    c.counted_members.ensures.does.moves
 
 pub map_inside-returns-in-None-clause-items : goal.map_inside-returns-in-None-clause-items
 map_inside-returns-in-None-clause-items g t c = c.open_members.ensures.items
 
 pub map_inside-returns-in-None-clause-progress : goal.map_inside-returns-in-None-clause-progress
 map_inside-returns-in-None-clause-progress g t c =
-    went_on _ c.in_ok-count.ensures.progress c.open_members.ensures.does.moves
+    went_on _ c.open_members.result _ (rw c.in_ok-count.ensures at c.len.ensures.progress)
+    c.open_members.ensures.does.moves
 
 pub read_array-returns-clause-items : goal.read_array-returns-clause-items
 read_array-returns-clause-items g t c = c.array_inside-outcome.ensures.items
@@ -773,9 +755,10 @@ read_value-returns-clause-progress g t c =
 pub read_value-returns-then-not-step_in-clause-does :
     goal.read_value-returns-then-not-step_in-clause-does
 read_value-returns-then-not-step_in-clause-does g t c =
-    does_no_step value_name (ReadsOneValue (g.S.Source.view c.args.reader.now).budget)
+    rw c.leave.ensures (does_no_step value_name (ReadsOneValue (g.S.Source.view
+    c.args.reader.now).budget)
     (StopsOneValue (g.S.Source.view c.args.reader.now).budget) refl refl
-    (λ none xs. rw none (refl, refl)) c.if-not-step_in.ensures.budget c.step_in.ensures.others
+    (λ none xs. rw none (refl, refl)) c.if-not-step_in.ensures.budget c.step_in.ensures.others)
 
 pub read_member-returns-clause-key : goal.read_member-returns-clause-key
 read_member-returns-clause-key g t c = c.in_ok-key.ensures.item
@@ -789,38 +772,50 @@ read_member-returns-clause-progress g t c =
 
 pub read_inside-returns-in-4-clause-progress : goal.read_inside-returns-in-4-clause-progress
 read_inside-returns-in-4-clause-progress g t c =
-    omega
-    (arith, c.in_ok-first.ensures.runs.moves.by.bound, c.in_ok-read_array-in-4.ensures.progress)
+    omega (
+      arith,
+      (rw c.in_ok-first.ensures at c.peek.ensures.runs).moves.by.bound,
+      c.in_ok-read_array-in-4.ensures.progress,
+    )
 
 pub read_inside-returns-in-5-clause-progress : goal.read_inside-returns-in-5-clause-progress
 read_inside-returns-in-5-clause-progress g t c =
-    omega (arith, c.in_ok-first.ensures.runs.moves.by.bound, c.in_ok-read_map-in-5.ensures.progress)
+    omega (
+      arith,
+      (rw c.in_ok-first.ensures at c.peek.ensures.runs).moves.by.bound,
+      c.in_ok-read_map-in-5.ensures.progress,
+    )
 
 pub read_inside-returns-in-Ok-clause-progress : goal.read_inside-returns-in-Ok-clause-progress
 read_inside-returns-in-Ok-clause-progress g t c =
     omega (
       arith,
-      c.in_ok-first.ensures.runs.moves.by.bound,
-      c.in_ok-number-in-6.ensures.progress,
+      (rw c.in_ok-first.ensures at c.peek.ensures.runs).moves.by.bound,
+      (rw c.in_ok-number-in-6.ensures at c.tag.ensures.progress),
       c.in_ok-inner-in-6.ensures.progress,
     )
 
 pub read_inside-returns-in-7-clause-item : goal.read_inside-returns-in-7-clause-item
-read_inside-returns-in-7-clause-item g t c = c.read_float.ensures.item
+read_inside-returns-in-7-clause-item g t c =
+    found c.part-in-None.result _ _ (rw c.part-in-None.ensures at c.read_float.ensures.item)
 
 pub read_inside-returns-in-7-clause-progress : goal.read_inside-returns-in-7-clause-progress
 read_inside-returns-in-7-clause-progress g t c =
-    behind _ _ _ _ c.in_ok-first.ensures.runs.moves.by.bound c.read_float.ensures.progress
+    behind _ _ _ c.part-in-None.result _ (rw c.in_ok-first.ensures at
+    c.peek.ensures.runs).moves.by.bound (rw c.part-in-None.ensures at c.read_float.ensures.progress)
 
 pub read_inside-returns-clause-item : goal.read_inside-returns-clause-item
-read_inside-returns-clause-item g t c = c.read_leaf.ensures.item
+read_inside-returns-clause-item g t c =
+    found c.part-in_default.result _ _ (rw c.part-in_default.ensures at c.read_leaf.ensures.item)
 
 pub read_inside-returns-clause-progress : goal.read_inside-returns-clause-progress
 read_inside-returns-clause-progress g t c =
-    behind _ _ _ _ c.in_ok-first.ensures.runs.moves.by.bound c.read_leaf.ensures.progress
+    behind _ _ _ c.part-in_default.result _ (rw c.in_ok-first.ensures at
+    c.peek.ensures.runs).moves.by.bound (rw c.part-in_default.ensures at
+    c.read_leaf.ensures.progress)
 
 pub read_inside-advance-requires : goal.read_inside-advance-requires
-read_inside-advance-requires g t c = c.in_ok-first.ensures.can
+read_inside-advance-requires g t c = (rw c.in_ok-first.ensures at c.peek.ensures.can)
 
 pub read_inside-read_float-requires-clause-other : goal.read_inside-read_float-requires-clause-other
 read_inside-read_float-requires-clause-other g t c = c.in-None.ensures
@@ -839,7 +834,11 @@ counted_members-loop-i-smaller g t c = omega (arith, c.loop-i-test.true)
 
 pub read_inside-returns-in-Some-clause-progress : goal.read_inside-returns-in-Some-clause-progress
 read_inside-returns-in-Some-clause-progress g t c =
-    omega (arith, c.in_ok-first.ensures.runs.moves.by.bound, c.advance.ensures.bound)
+    omega (
+      arith,
+      (rw c.in_ok-first.ensures at c.peek.ensures.runs).moves.by.bound,
+      c.advance.ensures.bound,
+    )
 
 pub counted_items-returns-clause-does : goal.counted_items-returns-clause-does
 counted_items-returns-clause-does g t c =
@@ -861,15 +860,22 @@ counted_members-returns-clause-does g t c =
 
 pub read_inside-returns-in_err-first-clause-does : goal.read_inside-returns-in_err-first-clause-does
 read_inside-returns-in_err-first-clause-does g t c =
-    let p = err_from_is_err_and c.from_residual.result c.from_residual.ensures.1 in
     let budget = (g.S.Source.view c.args.reader.now).budget in
-    rw (p.1, p.2) (nothing_there (ReadsUnder budget) (StopsUnder budget)
-    (λ z rest is. is) c.in_err-first.ensures.runs)
+    rw c.from_residual.ensures (nothing_there (ReadsUnder budget) (StopsUnder budget)
+    (λ z rest is. is) (rw c.in_err-first.ensures at c.peek.ensures.runs))
 
 pub open_items-loop-items-smaller : goal.open_items-loop-items-smaller
 open_items-loop-items-smaller g t c =
-    omega (arith, c.in_ok-is_break.ensures.moves.by.bound, c.in_ok-value.ensures.progress)
+    omega (
+      arith,
+      (rw c.in_ok-part.ensures at c.is_break.ensures.moves).by.bound,
+      c.in_ok-value.ensures.progress,
+    )
 
 pub open_members-loop-members-smaller : goal.open_members-loop-members-smaller
 open_members-loop-members-smaller g t c =
-    omega (arith, c.in_ok-is_break.ensures.moves.by.bound, c.in_ok-member.ensures.progress)
+    omega (
+      arith,
+      (rw c.in_ok-part.ensures at c.is_break.ensures.moves).by.bound,
+      c.in_ok-member.ensures.progress,
+    )

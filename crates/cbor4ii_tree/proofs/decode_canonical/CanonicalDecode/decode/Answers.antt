@@ -1,5 +1,8 @@
+use Rattle.std.proofs.Common.{◌≡◌, Option, Ok, OnOk, OnSome, sym, subst}
 use Rattle.std.proofs.lemmas.Result.{err_from_is_err_and}
+use Rattle.cbor4ii_rw.specs.declared.error.DecodeError.{DecodeError}
 use Rattle.cbor4ii_items.specs.Laws.Steps.{moves_ok, moves_err}
+use Rattle.cbor4ii_tree.specs.Does.{answered}
 use Rattle.cbor4ii_tree.proofs.canonical.Decoding.{canonical_sound, canonical_only, canonical_all}
 use Rattle.cbor4ii_tree.proofs.canonical.Decoding.{canonical_spelling, canonical_every}
 use Rattle.cbor4ii_tree.proofs.canonical.Decoding.{canonical_front, canonical_exact}
@@ -7,88 +10,103 @@ use Rattle.cbor4ii_tree.proofs.canonical.Decoding.{canonical_refuses, canonical_
 use Rattle.cbor4ii_tree.proofs.canonical.Decoding.{refused_every, refused_front, refused_eof}
 use Rattle.cbor4ii_tree.proofs.canonical.Decoding.{refused_depth, refused_never, refused_others}
 use Rattle.cbor4ii_tree.proofs.canonical.Decoding.{refused_value, refused_exact}
+use Rattle.cbor4ii_tree.proofs.values.Answered.{told_on}
 use Rattle.cbor4ii_tree.proofs.decode_canonical.CanonicalDecode.decode.Goals as goal
 
+was_there : {V E : Type 0} (r : Option V) (failure : Option (DecodeError E)) {v : V} (P : Type 0)
+    → Ok v ≡ answered r failure → OnSome r P → P
+was_there r failure P e h = subst (λ z. OnOk z P) (sym e) (told_on r failure P h)
+
+pub returns-clause-progress : goal.returns-clause-progress
+returns-clause-progress g c =
+    was_there c.read_one.result _ _ c.in_ok-whole.ensures c.read_one.ensures.progress
+
 pub returns-clause-sound : goal.returns-clause-sound
-returns-clause-sound g c = canonical_sound c.in_ok-read_one.ensures.does
+returns-clause-sound g c =
+    canonical_sound (rw (sym c.in_ok-whole.ensures) at c.read_one.ensures.does)
 
 pub returns-clause-only : goal.returns-clause-only
-returns-clause-only g c = canonical_only c.in_ok-read_one.ensures.does
+returns-clause-only g c = canonical_only (rw (sym c.in_ok-whole.ensures) at c.read_one.ensures.does)
 
 pub returns-clause-all : goal.returns-clause-all
-returns-clause-all g c = canonical_all c.in_ok-read_one.ensures.does
+returns-clause-all g c = canonical_all (rw (sym c.in_ok-whole.ensures) at c.read_one.ensures.does)
 
 pub returns-clause-front : goal.returns-clause-front
-returns-clause-front g c = canonical_front c.in_ok-read_one.ensures.does
+returns-clause-front g c =
+    canonical_front (rw (sym c.in_ok-whole.ensures) at c.read_one.ensures.does)
 
-pub returns-in_err-read_one-clause-complete : goal.returns-in_err-read_one-clause-complete
-returns-in_err-read_one-clause-complete g c =
+pub returns-in_err-whole-clause-complete : goal.returns-in_err-whole-clause-complete
+returns-in_err-whole-clause-complete g c =
     let p = err_from_is_err_and c.from_residual.result c.from_residual.ensures.1 in
-    rw (p.1, p.2) (canonical_refuses c.in_err-read_one.ensures.does)
+    rw (p.1, p.2) (canonical_refuses (rw (sym c.in_err-whole.ensures) at c.read_one.ensures.does))
 
-pub returns-in_err-read_one-clause-stops : goal.returns-in_err-read_one-clause-stops
-returns-in_err-read_one-clause-stops g c =
+pub returns-in_err-whole-clause-stops : goal.returns-in_err-whole-clause-stops
+returns-in_err-whole-clause-stops g c =
     let p = err_from_is_err_and c.from_residual.result c.from_residual.ensures.1 in
-    rw (p.1, p.2) (canonical_stops c.in_err-read_one.ensures.does)
+    rw (p.1, p.2) (canonical_stops (rw (sym c.in_err-whole.ensures) at c.read_one.ensures.does))
 
-pub returns-in_err-read_one-clause-all : goal.returns-in_err-read_one-clause-all
-returns-in_err-read_one-clause-all g c =
+pub returns-in_err-whole-clause-all : goal.returns-in_err-whole-clause-all
+returns-in_err-whole-clause-all g c =
     let p = err_from_is_err_and c.from_residual.result c.from_residual.ensures.1 in
-    rw (p.1, p.2) (refused_all c.in_err-read_one.ensures.does)
+    rw (p.1, p.2) (refused_all (rw (sym c.in_err-whole.ensures) at c.read_one.ensures.does))
 
-pub returns-in_err-read_one-clause-front : goal.returns-in_err-read_one-clause-front
-returns-in_err-read_one-clause-front g c =
+pub returns-in_err-whole-clause-front : goal.returns-in_err-whole-clause-front
+returns-in_err-whole-clause-front g c =
     let p = err_from_is_err_and c.from_residual.result c.from_residual.ensures.1 in
-    rw (p.1, p.2) (refused_front c.in_err-read_one.ensures.does)
+    rw (p.1, p.2) (refused_front (rw (sym c.in_err-whole.ensures) at c.read_one.ensures.does))
 
-pub returns-in_err-read_one-clause-eof : goal.returns-in_err-read_one-clause-eof
-returns-in_err-read_one-clause-eof g c =
+pub returns-in_err-whole-clause-eof : goal.returns-in_err-whole-clause-eof
+returns-in_err-whole-clause-eof g c =
     let p = err_from_is_err_and c.from_residual.result c.from_residual.ensures.1 in
-    rw (p.1, p.2) (refused_eof c.in_err-read_one.ensures.does)
+    rw (p.1, p.2) (refused_eof (rw (sym c.in_err-whole.ensures) at c.read_one.ensures.does))
 
-pub returns-in_err-read_one-clause-depth : goal.returns-in_err-read_one-clause-depth
-returns-in_err-read_one-clause-depth g c =
+pub returns-in_err-whole-clause-depth : goal.returns-in_err-whole-clause-depth
+returns-in_err-whole-clause-depth g c =
     let p = err_from_is_err_and c.from_residual.result c.from_residual.ensures.1 in
-    rw (p.1, p.2) (refused_depth c.in_err-read_one.ensures.does)
+    rw (p.1, p.2) (refused_depth (rw (sym c.in_err-whole.ensures) at c.read_one.ensures.does))
 
-pub returns-in_err-read_one-clause-never : goal.returns-in_err-read_one-clause-never
-returns-in_err-read_one-clause-never g c =
+pub returns-in_err-whole-clause-never : goal.returns-in_err-whole-clause-never
+returns-in_err-whole-clause-never g c =
     let p = err_from_is_err_and c.from_residual.result c.from_residual.ensures.1 in
-    rw (p.1, p.2) (refused_never c.in_err-read_one.ensures.does)
+    rw (p.1, p.2) (refused_never (rw (sym c.in_err-whole.ensures) at c.read_one.ensures.does))
 
-pub returns-in_err-read_one-clause-others : goal.returns-in_err-read_one-clause-others
-returns-in_err-read_one-clause-others g c =
+pub returns-in_err-whole-clause-others : goal.returns-in_err-whole-clause-others
+returns-in_err-whole-clause-others g c =
     let p = err_from_is_err_and c.from_residual.result c.from_residual.ensures.1 in
-    rw (p.1, p.2) (refused_others c.in_err-read_one.ensures.does)
+    rw (p.1, p.2) (refused_others (rw (sym c.in_err-whole.ensures) at c.read_one.ensures.does))
 
-pub returns-in_err-read_one-clause-value : goal.returns-in_err-read_one-clause-value
-returns-in_err-read_one-clause-value g c =
+pub returns-in_err-whole-clause-value : goal.returns-in_err-whole-clause-value
+returns-in_err-whole-clause-value g c =
     let p = err_from_is_err_and c.from_residual.result c.from_residual.ensures.1 in
-    rw (p.1, p.2) (refused_value c.in_err-read_one.ensures.does)
+    rw (p.1, p.2) (refused_value (rw (sym c.in_err-whole.ensures) at c.read_one.ensures.does))
 
 pub returns-clause-exact : goal.returns-clause-exact
-returns-clause-exact g c = canonical_exact c.in_ok-read_one.ensures.does
+returns-clause-exact g c =
+    canonical_exact (rw (sym c.in_ok-whole.ensures) at c.read_one.ensures.does)
 
-pub returns-in_err-read_one-clause-exact : goal.returns-in_err-read_one-clause-exact
-returns-in_err-read_one-clause-exact g c =
+pub returns-in_err-whole-clause-exact : goal.returns-in_err-whole-clause-exact
+returns-in_err-whole-clause-exact g c =
     let p = err_from_is_err_and c.from_residual.result c.from_residual.ensures.1 in
-    rw (p.1, p.2) (refused_exact c.in_err-read_one.ensures.does)
+    rw (p.1, p.2) (refused_exact (rw (sym c.in_err-whole.ensures) at c.read_one.ensures.does))
 
 pub returns-clause-moves : goal.returns-clause-moves
-returns-clause-moves g c = moves_ok c.in_ok-read_one.ensures.does.moves
+returns-clause-moves g c =
+    moves_ok (rw (sym c.in_ok-whole.ensures) at c.read_one.ensures.does).moves
 
-pub returns-in_err-read_one-clause-moves : goal.returns-in_err-read_one-clause-moves
-returns-in_err-read_one-clause-moves g c =
+pub returns-in_err-whole-clause-moves : goal.returns-in_err-whole-clause-moves
+returns-in_err-whole-clause-moves g c =
     let p = err_from_is_err_and c.from_residual.result c.from_residual.ensures.1 in
-    rw (p.1, p.2) (moves_err c.in_err-read_one.ensures.does.moves)
+    rw (p.1, p.2) (moves_err (rw (sym c.in_err-whole.ensures) at c.read_one.ensures.does).moves)
 
 pub returns-clause-spelling : goal.returns-clause-spelling
-returns-clause-spelling g c = canonical_spelling c.in_ok-read_one.ensures.does
+returns-clause-spelling g c =
+    canonical_spelling (rw (sym c.in_ok-whole.ensures) at c.read_one.ensures.does)
 
 pub returns-clause-every : goal.returns-clause-every
-returns-clause-every g c = canonical_every c.in_ok-read_one.ensures.does
+returns-clause-every g c =
+    canonical_every (rw (sym c.in_ok-whole.ensures) at c.read_one.ensures.does)
 
-pub returns-in_err-read_one-clause-every : goal.returns-in_err-read_one-clause-every
-returns-in_err-read_one-clause-every g c =
+pub returns-in_err-whole-clause-every : goal.returns-in_err-whole-clause-every
+returns-in_err-whole-clause-every g c =
     let p = err_from_is_err_and c.from_residual.result c.from_residual.ensures.1 in
-    rw (p.1, p.2) (refused_every c.in_err-read_one.ensures.does)
+    rw (p.1, p.2) (refused_every (rw (sym c.in_err-whole.ensures) at c.read_one.ensures.does))

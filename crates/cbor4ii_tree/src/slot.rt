@@ -1,0 +1,51 @@
+//! Answers whose refusal is left in a slot.
+//!
+//! A refusal is as large as the reader's error, which may be of any size. So what calls itself,
+//! item in item, hands up no more than a value or none, and the refusal goes through a reference.
+ghost use Rattle.std.specs.Prelude.{◌≡◌, Some};
+ghost use Rattle.cbor4ii_tree.specs.Does.{answered};
+
+use cbor4ii_rw::error::DecodeError;
+
+/// The answer without its refusal, which goes to `failure`.
+#[inline(always)]
+pub(crate) fn part<T, E: Drop>(
+    answer: Result<T, DecodeError<E>>,
+    failure: &mut Option<DecodeError<E>>,
+) -> Option<T>
+    ensures { answer ≡ answered result failure.new }
+{
+    match answer {
+        Ok(value) => Some(value),
+        Err(error) => {
+            leave(error, failure);
+            None
+        }
+    }
+}
+
+/// The refusal goes to `failure`.
+#[cold]
+#[inline(never)]
+pub(crate) fn leave<E: Drop>(error: E, failure: &mut Option<E>)
+    ensures { failure.new ≡ Some error }
+{
+    *failure = Some(error);
+}
+
+/// The value, or the refusal that was left. An empty slot stands for refused memory.
+#[inline(always)]
+pub(crate) fn whole<T: Drop, E: Drop>(
+    value: Option<T>,
+    failure: Option<DecodeError<E>>,
+) -> Result<T, DecodeError<E>>
+    ensures { result ≡ answered value failure }
+{
+    match value {
+        Some(value) => Ok(value),
+        None => match failure {
+            Some(error) => Err(error),
+            None => Err(DecodeError::OutOfMemory),
+        },
+    }
+}
