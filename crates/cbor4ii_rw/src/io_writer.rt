@@ -47,11 +47,13 @@ impl<W: io::Write> IoWriter<W> {
             ≡ one_more (stream_output W.contents self.old).failures) }
         ensures unchanged { OnErr result (is_flushed self.new ≡ is_flushed self.old) }
     {
-        let outcome = self.inner.flush();
-        if outcome.is_ok() {
-            self.flushed = true;
+        match self.inner.flush() {
+            Ok(()) => {
+                self.flushed = true;
+                Ok(())
+            }
+            Err(error) => Err(self.failed(error)),
         }
-        self.counted(outcome)
     }
 
     /// Whether the stream was flushed, and nothing was pushed since.
@@ -68,18 +70,17 @@ impl<W: io::Write> IoWriter<W> {
         self.inner
     }
 
-    // `outcome`, whose error is counted.
-    fn counted(&mut self, outcome: io::Result<()>) -> io::Result<()>
-        ensures outcome { result ≡ outcome }
+    // Counts a failure, and hands on its error.
+    #[cold]
+    #[inline(never)]
+    fn failed(&mut self, error: io::Error) -> io::Error
+        ensures error { result ≡ error }
         ensures inner { self.new.inner ≡ self.old.inner }
         ensures flushed { self.new.flushed ≡ self.old.flushed }
-        ensures counts { OnOk result (self.new.failures ≡ self.old.failures) }
-        ensures failed { OnErr result (self.new.failures ≡ one_more self.old.failures) }
+        ensures counts { self.new.failures ≡ one_more self.old.failures }
     {
-        if outcome.is_err() {
-            self.failures = self.failures.saturating_add(1);
-        }
-        outcome
+        self.failures = self.failures.saturating_add(1);
+        error
     }
 }
 
@@ -104,7 +105,10 @@ impl<W: io::Write> Write for IoWriter<W> {
         ensures unflushed { is_flushed self.new ≡ false }
     {
         self.flushed = false;
-        let outcome = self.inner.write_all(input);
-        self.counted(outcome)
+        // An error is large over some streams, so nothing but an error is moved.
+        match self.inner.write_all(input) {
+            Ok(()) => Ok(()),
+            Err(error) => Err(self.failed(error)),
+        }
     }
 }
