@@ -93,6 +93,7 @@ pub(crate) fn push_signed<W: Write>(writer: &mut W, value: i64) -> Result<(), En
 }
 
 /// Writes a number from 0 on.
+#[inline(always)]
 pub(crate) fn push_unsigned_integer<W: Write>(
     writer: &mut W,
     value: u128,
@@ -103,6 +104,7 @@ pub(crate) fn push_unsigned_integer<W: Write>(
 }
 
 /// Writes a number from 0 on, or -1 - n.
+#[inline(always)]
 pub(crate) fn push_signed_integer<W: Write>(
     writer: &mut W,
     value: i128,
@@ -116,6 +118,7 @@ pub(crate) fn push_signed_integer<W: Write>(
     }
 }
 
+#[inline(always)]
 fn nonnegative(value: i128) -> u128
     requires { pos 0 ≤ℤ value }
     ensures { value ≡ pos result }
@@ -124,6 +127,7 @@ fn nonnegative(value: i128) -> u128
 }
 
 /// The n of the negative integer -1 - n.
+#[inline(always)]
 fn beyond(value: i128) -> u128
     requires { value <ℤ pos 0 }
     ensures { value ≡ negsuc result }
@@ -133,6 +137,7 @@ fn beyond(value: i128) -> u128
 
 /// Writes a number as the argument of a head of this major type where it fits, else as a bignum
 /// with this tag.
+#[inline(always)]
 fn push_integer<W: Write>(
     writer: &mut W,
     major: u8,
@@ -150,6 +155,8 @@ fn push_integer<W: Write>(
 }
 
 /// Writes a tag, and a number's bytes without leading zeros as a byte string.
+#[cold]
+#[inline(never)]
 fn push_bignum<W: Write>(writer: &mut W, tag: u8, value: u128) -> Result<(), EncodeError<W::Error>>
     ensures { Writes W.whole (bignum_bytes tag value)
         (W.view writer.old) (W.view writer.new) result }

@@ -246,6 +246,7 @@ impl<S: Source> Decode<S> for u128 {
 impl Encode for u128 {
     ghost bytes = { unsigned_bytes };
 
+    #[inline(always)]
     fn encode<W: Write>(&self, writer: &mut W) -> Result<(), EncodeError<W::Error>> {
         push_unsigned_integer(writer, *self)
     }
@@ -309,6 +310,7 @@ impl<S: Source> Decode<S> for i128 {
 impl Encode for i128 {
     ghost bytes = { signed_bytes };
 
+    #[inline(always)]
     fn encode<W: Write>(&self, writer: &mut W) -> Result<(), EncodeError<W::Error>> {
         push_signed_integer(writer, *self)
     }
