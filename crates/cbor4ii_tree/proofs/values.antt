@@ -2,6 +2,7 @@
 pub mod Parts
 pub mod Calls
 pub mod Heads
+pub mod Leaves
 pub mod Sequences
 pub mod Strings
 pub mod Items

@@ -32,6 +32,7 @@ pub mod Strictly
 pub mod Canonically
 pub mod Promises
 pub mod Front
+pub mod Leaf
 pub mod Runs
 pub mod Ahead
 pub mod Deeper

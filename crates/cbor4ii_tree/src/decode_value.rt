@@ -20,6 +20,7 @@ ghost use Rattle.cbor4ii_tree.specs.Laws.Values.{value_one, value_within, value_
 ghost use Rattle.cbor4ii_tree.specs.Laws.Values.{value_alone};
 
 use crate::front::Own;
+use crate::leaf::take_leaf;
 use crate::simple::{read_float, simple_of};
 use crate::slot::{leave, part, whole};
 use crate::unseen::peek;
@@ -135,10 +136,30 @@ fn read_value<S: Source>(
     outcome
 }
 
-/// Reads one value whose step was taken.
+/// Reads one value whose step was taken. One that holds no other is mostly decided in one look.
 #[cycle(read)]
 #[inline(always)]
 fn read_inside<S: Source>(
+    alloc: Global,
+    reader: &mut S,
+    failure: &mut Option<DecodeError<S::Error>>,
+) -> Option<Value>
+    ensures does { DoesUnder ReadsUnder StopsUnder (S.view reader.old) (S.view reader.new)
+        (answered result failure.new) }
+    ensures item { IfSome result (λ v. IsItem (view v)) }
+    ensures progress { OnSome result ((S.view reader.new).bound + 1 ≤ (S.view reader.old).bound) }
+{
+    match take_leaf(alloc, reader, failure) {
+        Some(Some(value)) => Some(value),
+        Some(None) => read_by_first(alloc, reader, failure),
+        None => None,
+    }
+}
+
+/// The same by its first byte.
+#[cycle(read)]
+#[inline(never)]
+fn read_by_first<S: Source>(
     alloc: Global,
     reader: &mut S,
     failure: &mut Option<DecodeError<S::Error>>,

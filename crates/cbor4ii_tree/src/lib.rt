@@ -10,6 +10,7 @@ mod encode_value;
 mod front;
 pub mod ignored;
 pub mod laws;
+mod leaf;
 mod lend_raw;
 mod range;
 pub mod raw;

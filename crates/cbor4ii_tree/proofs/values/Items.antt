@@ -1,13 +1,13 @@
 -- What is read is a value of the program.
 use Rattle.std.proofs.Common.{◌≡◌, ◌^◌, ◌<◌, List, [], ◌∷◌, ◌++◌, length, sym, subst, arith, Vec}
-use Rattle.std.proofs.Common.{Global, String}
+use Rattle.std.proofs.Common.{ℕ, Global, String}
 use Rattle.std.proofs.lemmas.Str.{IsUtf8-string_bytes}
-use Rattle.cbor4ii_tree.specs.declared.value.Value.{Value, Array, Map, Text}
+use Rattle.cbor4ii_tree.specs.declared.value.Value.{Value, Array, Map, Text, Bytes}
 use Rattle.cbor4ii_tree.specs.Item.{IsItem, AreItems, AreMembers}
 use Rattle.cbor4ii_tree.specs.View.{view, items_view, members_view}
 use Rattle.cbor4ii_tree.proofs.values.Views.{item_count-items_view, member_count-members_view}
 use Rattle.cbor4ii_tree.proofs.values.Views.{view-Map}
-use Rattle.cbor4ii_tree.proofs.values.Strings.{view-Text}
+use Rattle.cbor4ii_tree.proofs.values.Strings.{view-Text, view-Bytes}
 use Rattle.cbor4ii_tree.proofs.values.InRange.{AreItems-push}
 use Rattle.cbor4ii_tree.proofs.values.Encoding.{view-Array}
 
@@ -49,3 +49,6 @@ map_item v h =
 
 pub text_item : (v : String Global) → IsItem (view (Text v))
 text_item v = subst IsItem (sym (view-Text v)) (small v.bytes, IsUtf8-string_bytes v)
+
+pub bytes_item_is : (v : Vec ℕ Global) → IsItem (view (Bytes v))
+bytes_item_is v = subst IsItem (sym (view-Bytes v)) (small v)

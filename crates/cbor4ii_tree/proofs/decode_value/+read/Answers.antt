@@ -33,7 +33,12 @@ use Rattle.cbor4ii_tree.proofs.values.Items.{array_item, map_item}
 use Rattle.cbor4ii_items.specs.Laws.Running.{kept_alike}
 use Rattle.cbor4ii_tree.proofs.values.Answered.{went_on, around, behind, found}
 use Rattle.cbor4ii_tree.proofs.values.Ends.{nothing_there}
+use Rattle.cbor4ii_tree.proofs.values.Leaves.{after_look}
 use Rattle.cbor4ii_tree.proofs.decode_value.+read.Goals as goal
+
+pub read_inside-returns-in-Some-None-clause-does : goal.read_inside-returns-in-Some-None-clause-does
+read_inside-returns-in-Some-None-clause-does g t c =
+    after_look _ c.in-Some-None.field-0-is c.in-Some-None.ensures.takes c.read_by_first.ensures.does
 
 pub array_inside-returns-in-None-clause-does : goal.array_inside-returns-in-None-clause-does
 array_inside-returns-in-None-clause-does g t c =
@@ -306,8 +311,8 @@ read_array-returns-then-not-step_in-clause-does g t c =
     (λ none xs. array_no_step (g.S.Source.view c.args.reader.now).budget none xs)
     c.if-not-step_in.ensures.budget c.step_in.ensures.others)
 
-pub read_inside-returns-clause-does : goal.read_inside-returns-clause-does
-read_inside-returns-clause-does g t c =
+pub read_by_first-returns-clause-does : goal.read_by_first-returns-clause-does
+read_by_first-returns-clause-does g t c =
     arm_does c.in_ok-first.first (rw c.in_ok-first.ensures at c.peek.ensures.runs)
     (λ xs v ys. ReadsUnder (g.S.Source.view c.peek.new.reader).budget xs v ys)
     (StopsFirst c.in_ok-first.first (g.S.Source.view c.peek.new.reader).budget)
@@ -317,8 +322,8 @@ read_inside-returns-clause-does g t c =
     (rw c.in_ok-first.ensures at c.peek.ensures.runs).moves.by.budget (h bs refl)) (rw
     c.part-in_default.ensures at c.read_leaf.ensures.does)
 
-pub read_inside-returns-in-7-clause-does : goal.read_inside-returns-in-7-clause-does
-read_inside-returns-in-7-clause-does g t c =
+pub read_by_first-returns-in-7-clause-does : goal.read_by_first-returns-in-7-clause-does
+read_by_first-returns-in-7-clause-does g t c =
     arm_does c.in_ok-first.first (rw c.in_ok-first.ensures at c.peek.ensures.runs)
     (λ xs v ys. ReadsUnder (g.S.Source.view c.peek.new.reader).budget xs v ys)
     (StopsFirst c.in_ok-first.first (g.S.Source.view c.peek.new.reader).budget)
@@ -328,8 +333,8 @@ read_inside-returns-in-7-clause-does g t c =
     (rw c.in_ok-first.ensures at c.peek.ensures.runs).moves.by.budget (h bs refl)) (rw
     c.part-in-None.ensures at c.read_float.ensures.does)
 
-pub read_inside-returns-in-4-clause-does : goal.read_inside-returns-in-4-clause-does
-read_inside-returns-in-4-clause-does g t c =
+pub read_by_first-returns-in-4-clause-does : goal.read_by_first-returns-in-4-clause-does
+read_by_first-returns-in-4-clause-does g t c =
     arm_ok c.in_ok-first.first (rw c.in_ok-first.ensures at c.peek.ensures.runs) (ReadsStepped (λ o
     xs v ys.
     ReadsArrayInside o xs v.items ys) (g.S.Source.view c.peek.new.reader).budget)
@@ -341,8 +346,8 @@ read_inside-returns-in-4-clause-does g t c =
     (rw c.in_ok-first.ensures at c.peek.ensures.runs).moves.by.budget h))
     c.in_ok-read_array-in-4.ensures.does
 
-pub read_inside-returns-in-5-clause-does : goal.read_inside-returns-in-5-clause-does
-read_inside-returns-in-5-clause-does g t c =
+pub read_by_first-returns-in-5-clause-does : goal.read_by_first-returns-in-5-clause-does
+read_by_first-returns-in-5-clause-does g t c =
     arm_ok c.in_ok-first.first (rw c.in_ok-first.ensures at c.peek.ensures.runs) (ReadsStepped (λ o
     xs v ys.
     ReadsMapInside o xs v.items ys) (g.S.Source.view c.peek.new.reader).budget)
@@ -354,8 +359,8 @@ read_inside-returns-in-5-clause-does g t c =
     c.peek.ensures.runs).moves.by.budget h))
     c.in_ok-read_map-in-5.ensures.does
 
-pub read_inside-returns-in-6-clause-does : goal.read_inside-returns-in-6-clause-does
-read_inside-returns-in-6-clause-does g t c =
+pub read_by_first-returns-in-6-clause-does : goal.read_by_first-returns-in-6-clause-does
+read_by_first-returns-in-6-clause-does g t c =
     does_no_memory (ReadsUnder (g.S.Source.view c.args.reader.now).budget)
     (StopsUnder (g.S.Source.view c.args.reader.now).budget) refl (kept_then
     (reached_tag c.in_ok-first.first c.in_ok-number-in-6.number (rw c.in_ok-first.ensures at
@@ -364,8 +369,8 @@ read_inside-returns-in-6-clause-does g t c =
     c.tag.ensures.sound)).kept
     c.in_ok-inner-in-6.ensures.does.moves.by)
 
-pub read_inside-returns-in-Ok-clause-does : goal.read_inside-returns-in-Ok-clause-does
-read_inside-returns-in-Ok-clause-does g t c =
+pub read_by_first-returns-in-Ok-clause-does : goal.read_by_first-returns-in-Ok-clause-does
+read_by_first-returns-in-Ok-clause-does g t c =
     tag_read c.in_ok-number-in-6.number (Tag c.in_ok-number-in-6.number c.in-Ok.boxed)
     (view-Tag c.in_ok-number-in-6.number c.in-Ok.boxed
     ∙ ap (λ x. tag c.in_ok-number-in-6.number (view x)) c.in-Ok.ensures.ok)
@@ -375,18 +380,18 @@ read_inside-returns-in-Ok-clause-does g t c =
     c.tag.ensures.sound))
     c.in_ok-inner-in-6.ensures.does
 
-pub read_inside-returns-in_err-inner-in-6-clause-does :
-    goal.read_inside-returns-in_err-inner-in-6-clause-does
-read_inside-returns-in_err-inner-in-6-clause-does g t c =
+pub read_by_first-returns-in_err-inner-in-6-clause-does :
+    goal.read_by_first-returns-in_err-inner-in-6-clause-does
+read_by_first-returns-in_err-inner-in-6-clause-does g t c =
     rw c.from_residual-in_err-inner-in-6.ensures (tag_stopped c.in_ok-number-in-6.number
     (reached_tag c.in_ok-first.first
     c.in_ok-number-in-6.number (rw c.in_ok-first.ensures at c.peek.ensures.runs) (rw
     c.in_ok-number-in-6.ensures at c.tag.ensures.moves)
     (rw c.in_ok-number-in-6.ensures at c.tag.ensures.sound)) c.in_err-inner-in-6.ensures.does)
 
-pub read_inside-returns-in_err-number-in-6-clause-does :
-    goal.read_inside-returns-in_err-number-in-6-clause-does
-read_inside-returns-in_err-number-in-6-clause-does g t c =
+pub read_by_first-returns-in_err-number-in-6-clause-does :
+    goal.read_by_first-returns-in_err-number-in-6-clause-does
+read_by_first-returns-in_err-number-in-6-clause-does g t c =
     rw c.from_residual-in_err-number-in-6.ensures
     (call_err c.in_ok-first.first (rw c.in_ok-first.ensures at c.peek.ensures.runs) (StopsArgument
     tag_name 6 8)
@@ -394,9 +399,9 @@ read_inside-returns-in_err-number-in-6-clause-does g t c =
     bs z rest c.in-6.is h) (rw c.in_err-number-in-6.ensures at c.tag.ensures.moves)
     (rw c.in_err-number-in-6.ensures at c.tag.ensures.stops))
 
-pub read_inside-returns-in_err-read_array-in-4-clause-does :
-    goal.read_inside-returns-in_err-read_array-in-4-clause-does
-read_inside-returns-in_err-read_array-in-4-clause-does g t c =
+pub read_by_first-returns-in_err-read_array-in-4-clause-does :
+    goal.read_by_first-returns-in_err-read_array-in-4-clause-does
+read_by_first-returns-in_err-read_array-in-4-clause-does g t c =
     rw c.from_residual-in_err-read_array-in-4.ensures
     (arm_err c.in_ok-first.first (rw c.in_ok-first.ensures at c.peek.ensures.runs) (ReadsStepped (λ
     o xs v ys.
@@ -407,9 +412,9 @@ read_inside-returns-in_err-read_array-in-4-clause-does g t c =
     c.in-4.is))
     c.in_err-read_array-in-4.ensures.does)
 
-pub read_inside-returns-in_err-read_map-in-5-clause-does :
-    goal.read_inside-returns-in_err-read_map-in-5-clause-does
-read_inside-returns-in_err-read_map-in-5-clause-does g t c =
+pub read_by_first-returns-in_err-read_map-in-5-clause-does :
+    goal.read_by_first-returns-in_err-read_map-in-5-clause-does
+read_by_first-returns-in_err-read_map-in-5-clause-does g t c =
     rw c.from_residual-in_err-read_map-in-5.ensures
     (arm_err c.in_ok-first.first (rw c.in_ok-first.ensures at c.peek.ensures.runs) (ReadsStepped (λ
     o xs v ys.
@@ -475,18 +480,18 @@ open_members-returns-in_err-keep-clause-does g t c =
     c.loop-members.invariant.reached.kept
     (rw c.in_ok-part.ensures at c.is_break.ensures.moves).by) c.in_ok-member.ensures.does.moves.by))
 
-pub read_inside-returns-in-Some-clause-does : goal.read_inside-returns-in-Some-clause-does
-read_inside-returns-in-Some-clause-does g t c =
+pub read_by_first-returns-in-Some-clause-does : goal.read_by_first-returns-in-Some-clause-does
+read_by_first-returns-in-Some-clause-does g t c =
     simple_read c.in_ok-first.first (rw c.in_ok-first.ensures at c.peek.ensures.runs) (rw
     c.in_ok-first.ensures at c.peek.ensures.byte)
     c.advance.ensures c.in-Some.ensures
 
-pub read_inside-returns-in-4-clause-item : goal.read_inside-returns-in-4-clause-item
-read_inside-returns-in-4-clause-item g t c =
+pub read_by_first-returns-in-4-clause-item : goal.read_by_first-returns-in-4-clause-item
+read_by_first-returns-in-4-clause-item g t c =
     array_item c.in_ok-read_array-in-4.field-0 c.in_ok-read_array-in-4.ensures.items
 
-pub read_inside-returns-in-5-clause-item : goal.read_inside-returns-in-5-clause-item
-read_inside-returns-in-5-clause-item g t c =
+pub read_by_first-returns-in-5-clause-item : goal.read_by_first-returns-in-5-clause-item
+read_by_first-returns-in-5-clause-item g t c =
     map_item c.in_ok-read_map-in-5.field-0 c.in_ok-read_map-in-5.ensures.items
 
 pub array_inside-returns-in_err-count-clause-items :
@@ -572,60 +577,60 @@ pub read_array-returns-then-not-step_in-clause-progress :
     goal.read_array-returns-then-not-step_in-clause-progress
 read_array-returns-then-not-step_in-clause-progress g t c = tt
 
-pub read_inside-returns-in_err-first-clause-item : goal.read_inside-returns-in_err-first-clause-item
-read_inside-returns-in_err-first-clause-item g t c =
+pub read_by_first-returns-in_err-first-clause-item : goal.read_by_first-returns-in_err-first-clause-item
+read_by_first-returns-in_err-first-clause-item g t c =
     rw c.from_residual.ensures tt
 
-pub read_inside-returns-in_err-first-clause-progress :
-    goal.read_inside-returns-in_err-first-clause-progress
-read_inside-returns-in_err-first-clause-progress g t c =
+pub read_by_first-returns-in_err-first-clause-progress :
+    goal.read_by_first-returns-in_err-first-clause-progress
+read_by_first-returns-in_err-first-clause-progress g t c =
     rw c.from_residual.ensures tt
 
-pub read_inside-returns-in_err-read_array-in-4-clause-item :
-    goal.read_inside-returns-in_err-read_array-in-4-clause-item
-read_inside-returns-in_err-read_array-in-4-clause-item g t c =
+pub read_by_first-returns-in_err-read_array-in-4-clause-item :
+    goal.read_by_first-returns-in_err-read_array-in-4-clause-item
+read_by_first-returns-in_err-read_array-in-4-clause-item g t c =
     rw c.from_residual-in_err-read_array-in-4.ensures tt
 
-pub read_inside-returns-in_err-read_array-in-4-clause-progress :
-    goal.read_inside-returns-in_err-read_array-in-4-clause-progress
-read_inside-returns-in_err-read_array-in-4-clause-progress g t c =
+pub read_by_first-returns-in_err-read_array-in-4-clause-progress :
+    goal.read_by_first-returns-in_err-read_array-in-4-clause-progress
+read_by_first-returns-in_err-read_array-in-4-clause-progress g t c =
     rw c.from_residual-in_err-read_array-in-4.ensures tt
 
-pub read_inside-returns-in_err-read_map-in-5-clause-item :
-    goal.read_inside-returns-in_err-read_map-in-5-clause-item
-read_inside-returns-in_err-read_map-in-5-clause-item g t c =
+pub read_by_first-returns-in_err-read_map-in-5-clause-item :
+    goal.read_by_first-returns-in_err-read_map-in-5-clause-item
+read_by_first-returns-in_err-read_map-in-5-clause-item g t c =
     rw c.from_residual-in_err-read_map-in-5.ensures tt
 
-pub read_inside-returns-in_err-read_map-in-5-clause-progress :
-    goal.read_inside-returns-in_err-read_map-in-5-clause-progress
-read_inside-returns-in_err-read_map-in-5-clause-progress g t c =
+pub read_by_first-returns-in_err-read_map-in-5-clause-progress :
+    goal.read_by_first-returns-in_err-read_map-in-5-clause-progress
+read_by_first-returns-in_err-read_map-in-5-clause-progress g t c =
     rw c.from_residual-in_err-read_map-in-5.ensures tt
 
-pub read_inside-returns-in_err-number-in-6-clause-item :
-    goal.read_inside-returns-in_err-number-in-6-clause-item
-read_inside-returns-in_err-number-in-6-clause-item g t c =
+pub read_by_first-returns-in_err-number-in-6-clause-item :
+    goal.read_by_first-returns-in_err-number-in-6-clause-item
+read_by_first-returns-in_err-number-in-6-clause-item g t c =
     rw c.from_residual-in_err-number-in-6.ensures tt
 
-pub read_inside-returns-in_err-number-in-6-clause-progress :
-    goal.read_inside-returns-in_err-number-in-6-clause-progress
-read_inside-returns-in_err-number-in-6-clause-progress g t c =
+pub read_by_first-returns-in_err-number-in-6-clause-progress :
+    goal.read_by_first-returns-in_err-number-in-6-clause-progress
+read_by_first-returns-in_err-number-in-6-clause-progress g t c =
     rw c.from_residual-in_err-number-in-6.ensures tt
 
-pub read_inside-returns-in_err-inner-in-6-clause-item :
-    goal.read_inside-returns-in_err-inner-in-6-clause-item
-read_inside-returns-in_err-inner-in-6-clause-item g t c =
+pub read_by_first-returns-in_err-inner-in-6-clause-item :
+    goal.read_by_first-returns-in_err-inner-in-6-clause-item
+read_by_first-returns-in_err-inner-in-6-clause-item g t c =
     rw c.from_residual-in_err-inner-in-6.ensures tt
 
-pub read_inside-returns-in_err-inner-in-6-clause-progress :
-    goal.read_inside-returns-in_err-inner-in-6-clause-progress
-read_inside-returns-in_err-inner-in-6-clause-progress g t c =
+pub read_by_first-returns-in_err-inner-in-6-clause-progress :
+    goal.read_by_first-returns-in_err-inner-in-6-clause-progress
+read_by_first-returns-in_err-inner-in-6-clause-progress g t c =
     rw c.from_residual-in_err-inner-in-6.ensures tt
 
-pub read_inside-returns-in-6-clause-item : goal.read_inside-returns-in-6-clause-item
-read_inside-returns-in-6-clause-item g t c = tt
+pub read_by_first-returns-in-6-clause-item : goal.read_by_first-returns-in-6-clause-item
+read_by_first-returns-in-6-clause-item g t c = tt
 
-pub read_inside-returns-in-6-clause-progress : goal.read_inside-returns-in-6-clause-progress
-read_inside-returns-in-6-clause-progress g t c = tt
+pub read_by_first-returns-in-6-clause-progress : goal.read_by_first-returns-in-6-clause-progress
+read_by_first-returns-in-6-clause-progress g t c = tt
 
 pub read_map-returns-then-not-step_in-clause-items :
     goal.read_map-returns-then-not-step_in-clause-items
@@ -770,24 +775,24 @@ pub read_member-returns-clause-progress : goal.read_member-returns-clause-progre
 read_member-returns-clause-progress g t c =
     omega (arith, c.in_ok-key.ensures.progress, c.in_ok-value.ensures.progress)
 
-pub read_inside-returns-in-4-clause-progress : goal.read_inside-returns-in-4-clause-progress
-read_inside-returns-in-4-clause-progress g t c =
+pub read_by_first-returns-in-4-clause-progress : goal.read_by_first-returns-in-4-clause-progress
+read_by_first-returns-in-4-clause-progress g t c =
     omega (
       arith,
       (rw c.in_ok-first.ensures at c.peek.ensures.runs).moves.by.bound,
       c.in_ok-read_array-in-4.ensures.progress,
     )
 
-pub read_inside-returns-in-5-clause-progress : goal.read_inside-returns-in-5-clause-progress
-read_inside-returns-in-5-clause-progress g t c =
+pub read_by_first-returns-in-5-clause-progress : goal.read_by_first-returns-in-5-clause-progress
+read_by_first-returns-in-5-clause-progress g t c =
     omega (
       arith,
       (rw c.in_ok-first.ensures at c.peek.ensures.runs).moves.by.bound,
       c.in_ok-read_map-in-5.ensures.progress,
     )
 
-pub read_inside-returns-in-Ok-clause-progress : goal.read_inside-returns-in-Ok-clause-progress
-read_inside-returns-in-Ok-clause-progress g t c =
+pub read_by_first-returns-in-Ok-clause-progress : goal.read_by_first-returns-in-Ok-clause-progress
+read_by_first-returns-in-Ok-clause-progress g t c =
     omega (
       arith,
       (rw c.in_ok-first.ensures at c.peek.ensures.runs).moves.by.bound,
@@ -795,36 +800,36 @@ read_inside-returns-in-Ok-clause-progress g t c =
       c.in_ok-inner-in-6.ensures.progress,
     )
 
-pub read_inside-returns-in-7-clause-item : goal.read_inside-returns-in-7-clause-item
-read_inside-returns-in-7-clause-item g t c =
+pub read_by_first-returns-in-7-clause-item : goal.read_by_first-returns-in-7-clause-item
+read_by_first-returns-in-7-clause-item g t c =
     found c.part-in-None.result _ _ (rw c.part-in-None.ensures at c.read_float.ensures.item)
 
-pub read_inside-returns-in-7-clause-progress : goal.read_inside-returns-in-7-clause-progress
-read_inside-returns-in-7-clause-progress g t c =
+pub read_by_first-returns-in-7-clause-progress : goal.read_by_first-returns-in-7-clause-progress
+read_by_first-returns-in-7-clause-progress g t c =
     behind _ _ _ c.part-in-None.result _ (rw c.in_ok-first.ensures at
     c.peek.ensures.runs).moves.by.bound (rw c.part-in-None.ensures at c.read_float.ensures.progress)
 
-pub read_inside-returns-clause-item : goal.read_inside-returns-clause-item
-read_inside-returns-clause-item g t c =
+pub read_by_first-returns-clause-item : goal.read_by_first-returns-clause-item
+read_by_first-returns-clause-item g t c =
     found c.part-in_default.result _ _ (rw c.part-in_default.ensures at c.read_leaf.ensures.item)
 
-pub read_inside-returns-clause-progress : goal.read_inside-returns-clause-progress
-read_inside-returns-clause-progress g t c =
+pub read_by_first-returns-clause-progress : goal.read_by_first-returns-clause-progress
+read_by_first-returns-clause-progress g t c =
     behind _ _ _ c.part-in_default.result _ (rw c.in_ok-first.ensures at
     c.peek.ensures.runs).moves.by.bound (rw c.part-in_default.ensures at
     c.read_leaf.ensures.progress)
 
-pub read_inside-advance-requires : goal.read_inside-advance-requires
-read_inside-advance-requires g t c = (rw c.in_ok-first.ensures at c.peek.ensures.can)
+pub read_by_first-advance-requires : goal.read_by_first-advance-requires
+read_by_first-advance-requires g t c = (rw c.in_ok-first.ensures at c.peek.ensures.can)
 
-pub read_inside-read_float-requires-clause-other : goal.read_inside-read_float-requires-clause-other
-read_inside-read_float-requires-clause-other g t c = c.in-None.ensures
+pub read_by_first-read_float-requires-clause-other : goal.read_by_first-read_float-requires-clause-other
+read_by_first-read_float-requires-clause-other g t c = c.in-None.ensures
 
-pub read_inside-read_float-requires-clause-major : goal.read_inside-read_float-requires-clause-major
-read_inside-read_float-requires-clause-major g t c = omega (arith, c.in-7.is)
+pub read_by_first-read_float-requires-clause-major : goal.read_by_first-read_float-requires-clause-major
+read_by_first-read_float-requires-clause-major g t c = omega (arith, c.in-7.is)
 
-pub read_inside-simple_of-requires : goal.read_inside-simple_of-requires
-read_inside-simple_of-requires g t c = tt
+pub read_by_first-simple_of-requires : goal.read_by_first-simple_of-requires
+read_by_first-simple_of-requires g t c = tt
 
 pub counted_items-loop-i-smaller : goal.counted_items-loop-i-smaller
 counted_items-loop-i-smaller g t c = omega (arith, c.loop-i-test.true)
@@ -832,8 +837,8 @@ counted_items-loop-i-smaller g t c = omega (arith, c.loop-i-test.true)
 pub counted_members-loop-i-smaller : goal.counted_members-loop-i-smaller
 counted_members-loop-i-smaller g t c = omega (arith, c.loop-i-test.true)
 
-pub read_inside-returns-in-Some-clause-progress : goal.read_inside-returns-in-Some-clause-progress
-read_inside-returns-in-Some-clause-progress g t c =
+pub read_by_first-returns-in-Some-clause-progress : goal.read_by_first-returns-in-Some-clause-progress
+read_by_first-returns-in-Some-clause-progress g t c =
     omega (
       arith,
       (rw c.in_ok-first.ensures at c.peek.ensures.runs).moves.by.bound,
@@ -858,8 +863,8 @@ counted_members-returns-clause-does g t c =
     c.loop-i.members.items ys) (g.S.Source.view c.args.reader.now)
     (g.S.Source.view c.loop-i.reader)) e c.loop-i.invariant.reached)
 
-pub read_inside-returns-in_err-first-clause-does : goal.read_inside-returns-in_err-first-clause-does
-read_inside-returns-in_err-first-clause-does g t c =
+pub read_by_first-returns-in_err-first-clause-does : goal.read_by_first-returns-in_err-first-clause-does
+read_by_first-returns-in_err-first-clause-does g t c =
     let budget = (g.S.Source.view c.args.reader.now).budget in
     rw c.from_residual.ensures (nothing_there (ReadsUnder budget) (StopsUnder budget)
     (λ z rest is. is) (rw c.in_err-first.ensures at c.peek.ensures.runs))

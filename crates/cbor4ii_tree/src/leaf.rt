@@ -1,0 +1,161 @@
+//! Values that hold no other, decided in one look where they stand whole in what is shown
+//! (RFC 8949 section 3). What does not is left undecided.
+ghost use Rattle.std.specs.Prelude.{◌≡◌, ◌≤◌, ◌+◌, ◌∷◌, ◌/◌, ◌%◌, ◌⊎◌, IfOk, OnErr, IfSome, OnSome, Some, length};
+ghost use Rattle.std.specs.Prelude.{ℕ, List};
+ghost use Rattle.cbor4ii_rw.specs.Reader.{Breaks};
+ghost use Rattle.cbor4ii_items.specs.Head.{ArgumentBehind};
+ghost use Rattle.cbor4ii_tree.specs.Front.{Offers};
+ghost use Rattle.cbor4ii_tree.specs.Item.{IsItem};
+ghost use Rattle.cbor4ii_tree.specs.Leaf.{SeesLeaf, StandsAhead, TakesLeaf};
+ghost use Rattle.cbor4ii_tree.specs.View.{view};
+
+use crate::simple::simple_of;
+use crate::slot::leave;
+use crate::value::{FloatBits, Value};
+use cbor4ii_items::initial::argument;
+use cbor4ii_items::{major, marker};
+use cbor4ii_rw::ask::look;
+use cbor4ii_rw::error::DecodeError;
+use cbor4ii_rw::read::Source;
+use std::alloc::Global;
+
+/// How many bytes a look asks for. An item in them takes less than a step each.
+const WINDOW: usize = 256;
+
+/// What the shown bytes begin with.
+pub(crate) enum Leaf {
+    /// A value that holds no other, in so many bytes.
+    Whole(Value, usize),
+    /// A string behind a head of so many bytes, whose content has no memory.
+    NoMemory(usize),
+    /// Nothing that is decided here.
+    Unseen,
+}
+
+/// Takes the value that comes next, where it holds no other and one look shows it whole. Where it
+/// does not, takes nothing. A refusal is left in `failure`.
+#[inline(always)]
+pub(crate) fn take_leaf<S: Source>(
+    alloc: Global,
+    reader: &mut S,
+    failure: &mut Option<DecodeError<S::Error>>,
+) -> Option<Option<Value>>
+    ensures takes { TakesLeaf (S.view reader.old) (S.view reader.new) result failure.new }
+    ensures item { IfSome result (λ found. IfSome found (λ v. IsItem (view v))) }
+    ensures progress { IfSome result (λ found.
+        OnSome found ((S.view reader.new).bound + 1 ≤ (S.view reader.old).bound)) }
+{
+    match glance(alloc, reader) {
+        Ok(Leaf::Whole(value, size)) => {
+            reader.advance(size);
+            Some(Some(value))
+        }
+        Ok(Leaf::NoMemory(size)) => {
+            reader.advance(size);
+            *failure = None;
+            None
+        }
+        Ok(Leaf::Unseen) => Some(None),
+        Err(error) => {
+            leave(DecodeError::Read(error), failure);
+            None
+        }
+    }
+}
+
+/// What comes next, decided by one look.
+#[inline(always)]
+fn glance<S: Source>(alloc: Global, reader: &mut S) -> Result<Leaf, S::Error>
+    ensures offers { IfOk result (λ seen. Offers 256 (SeesLeaf seen)
+        (S.view reader.old) (S.view reader.new)) }
+    ensures breaks { OnErr result (Breaks (S.view reader.old) (S.view reader.new)) }
+{
+    let mut failure = None;
+    match look(reader, WINDOW, &mut failure) {
+        Some(shown) => Ok(leaf_of(alloc, shown)),
+        None => Err(failure.unwrap()),
+    }
+}
+
+/// What the shown bytes begin with.
+#[inline(always)]
+fn leaf_of(alloc: Global, shown: &[u8]) -> Leaf
+    ensures { SeesLeaf result shown.now }
+{
+    let [first, behind @ ..] = shown else {
+        return Leaf::Unseen;
+    };
+    match argument(*first % 32, behind) {
+        Some((number, size)) => leaf_behind(alloc, *first, behind, number, size),
+        None => Leaf::Unseen,
+    }
+}
+
+/// The same, by the first byte and the argument, which has so many of the bytes behind it.
+#[inline(always)]
+fn leaf_behind(alloc: Global, first: u8, behind: &[u8], number: u64, size: usize) -> Leaf
+    requires { ArgumentBehind (first % 32) behind.now number size }
+    ensures { SeesLeaf result (first ∷ behind.now) }
+{
+    match first / 32 {
+        major::UNSIGNED => Leaf::Whole(Value::Integer(number as i128), 1 + size),
+        major::NEGATIVE => Leaf::Whole(Value::Integer(-1 - number as i128), 1 + size),
+        major::BYTES | major::STRING => string_behind(alloc, first, behind, number, size),
+        major::SIMPLE => simple_behind(first, behind, number, size),
+        _ => Leaf::Unseen,
+    }
+}
+
+/// The same of a byte of major type 7.
+#[inline(always)]
+fn simple_behind(first: u8, behind: &[u8], number: u64, size: usize) -> Leaf
+    requires argument { ArgumentBehind (first % 32) behind.now number size }
+    requires major { first / 32 ≡ 7 }
+    ensures { SeesLeaf result (first ∷ behind.now) }
+{
+    match first {
+        marker::F16 => Leaf::Whole(Value::Float(FloatBits::F16(number as u16)), 3),
+        marker::F32 => Leaf::Whole(Value::Float(FloatBits::F32(number as u32)), 5),
+        marker::F64 => Leaf::Whole(Value::Float(FloatBits::F64(number)), 9),
+        _ => match simple_of(first) {
+            Some(value) => Leaf::Whole(value, 1),
+            None => Leaf::Unseen,
+        },
+    }
+}
+
+/// The same of a string, whose argument says how many bytes its content has.
+#[inline(always)]
+fn string_behind(alloc: Global, first: u8, behind: &[u8], number: u64, size: usize) -> Leaf
+    requires argument { ArgumentBehind (first % 32) behind.now number size }
+    requires major { (first / 32 ≡ 2) ⊎ (first / 32 ≡ 3) }
+    ensures { SeesLeaf result (first ∷ behind.now) }
+{
+    let rest = &behind[size..];
+    if number > rest.len() as u64 {
+        return Leaf::Unseen;
+    }
+    let count = number as usize;
+    let Some(content) = copied(alloc, &rest[..count]) else {
+        return Leaf::NoMemory(1 + size);
+    };
+    if first / 32 == major::BYTES {
+        return Leaf::Whole(Value::Bytes(content), 1 + size + count);
+    }
+    match String::from_utf8(content) {
+        Ok(text) => Leaf::Whole(Value::Text(text), 1 + size + count),
+        Err(_) => Leaf::Unseen,
+    }
+}
+
+/// A copy of these bytes; none where there is no memory for it.
+#[inline(always)]
+fn copied(alloc: Global, bytes: &[u8]) -> Option<Vec<u8>>
+    ensures { IfSome result (λ copy. copy.items ≡ bytes.now) }
+{
+    let mut copy = Vec::new(alloc);
+    if copy.reserve(bytes.len()).is_err() || copy.extend_from_slice(bytes).is_err() {
+        return None;
+    }
+    Some(copy)
+}
