@@ -8,6 +8,7 @@ pub mod Strings
 pub mod Items
 pub mod Decoding
 pub mod Encoding
+pub mod Sent
 pub mod InRange
 pub mod Views
 pub mod Answered

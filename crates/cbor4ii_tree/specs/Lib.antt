@@ -25,6 +25,7 @@ pub mod Skip
 pub mod Read
 -- ---- what the calls promise each other: the words of private contracts
 pub mod Does
+pub mod Sending
 pub mod Skipping
 pub mod HeadParts
 pub mod Valuing

@@ -1,5 +1,5 @@
 //! Values, written.
-ghost use Rattle.std.specs.Prelude.{◌++◌, ℕ, List, OnOk};
+ghost use Rattle.std.specs.Prelude.{◌++◌, ℕ, List, OnOk, OnSome, IfNone, IsSome};
 ghost use Rattle.cbor4ii_items.specs.Writing.{Writes};
 ghost use Rattle.cbor4ii_items.specs.SequenceBytes.{items_bytes};
 ghost use Rattle.cbor4ii_items.specs.Decoding.{CostFits};
@@ -7,9 +7,11 @@ ghost use Rattle.cbor4ii_tree.specs.Cost.{Budget};
 ghost use Rattle.cbor4ii_tree.specs.Canonical.{canon, canon_cost, with_bignums};
 ghost use Rattle.cbor4ii_tree.specs.Spelling.{Spells, ReadsPlainly};
 ghost use Rattle.cbor4ii_tree.specs.Encoding.{value_bytes, member_bytes};
+ghost use Rattle.cbor4ii_tree.specs.Sending.{sent, Sends};
 ghost use Rattle.cbor4ii_tree.specs.View.{view, items_view, members_view, float_view};
 ghost use Rattle.cbor4ii_tree.specs.Item.{IsItem, AreItems, AreMembers, integer};
 
+use crate::slot::leave;
 use crate::value::{FloatBits, Value};
 use cbor4ii_items::encode::Encode;
 use cbor4ii_items::types::{Array, Bytes, F16, F32, F64, Map, Nothing, Null, Tag};
@@ -38,38 +40,64 @@ impl Encode for Value {
             ReadsPlainly (canon (view self.now) ++ more) budget (with_bignums (view self.now))
             more) }
     {
-        put_value(writer, self)
+        let mut failure = None;
+        match put_value(writer, self, &mut failure) {
+            Some(()) => Ok(()),
+            None => Err(failure.unwrap()),
+        }
     }
 }
 
+/// Writes a value. Where the writer fails, the error goes to `failure`: no large answer is handed
+/// up from level to level.
 #[cycle(put)]
-fn put_value<W: Write>(writer: &mut W, value: &Value) -> Result<(), EncodeError<W::Error>>
+fn put_value<W: Write>(
+    writer: &mut W,
+    value: &Value,
+    failure: &mut Option<EncodeError<W::Error>>,
+) -> Option<()>
     ensures writes { Writes W.whole (value_bytes value.now)
-        (W.view writer.old) (W.view writer.new) result }
-    ensures item { OnOk result (IsItem (view value.now)) }
+        (W.view writer.old) (W.view writer.new) (sent result failure.new) }
+    ensures item { OnSome result (IsItem (view value.now)) }
+    ensures failed { IfNone result (IsSome failure.new) }
 {
     match value {
-        Value::Null => Null.encode(writer),
-        Value::Bool(flag) => flag.encode(writer),
-        Value::Integer(n) => put_integer(writer, *n),
-        Value::Float(bits) => put_float(writer, *bits),
-        Value::Bytes(content) => Bytes(content.as_slice()).encode(writer),
-        Value::Text(text) => text.encode(writer),
+        Value::Null => part(Null.encode(writer), failure),
+        Value::Bool(flag) => part(flag.encode(writer), failure),
+        Value::Integer(n) => part(put_integer(writer, *n), failure),
+        Value::Float(bits) => part(put_float(writer, *bits), failure),
+        Value::Bytes(content) => part(Bytes(content.as_slice()).encode(writer), failure),
+        Value::Text(text) => part(text.encode(writer), failure),
         Value::Array(items) => {
-            Array::bounded(items.len(), writer)?;
-            put_items(writer, items)
+            part(Array::bounded(items.len(), writer), failure)?;
+            put_items(writer, items, failure)
         }
         Value::Map(members) => {
-            Map::bounded(members.len(), writer)?;
-            put_members(writer, members)
+            part(Map::bounded(members.len(), writer), failure)?;
+            put_members(writer, members, failure)
         }
         Value::Tag(number, inner) => {
-            Tag(*number, Nothing).encode(writer)?;
-            put_value(writer, inner)
+            part(Tag(*number, Nothing).encode(writer), failure)?;
+            put_value(writer, inner, failure)
         }
     }
 }
 
+/// The answer of a call, whose error goes to `failure`.
+#[inline(always)]
+fn part<E: Drop>(answer: Result<(), E>, failure: &mut Option<E>) -> Option<()>
+    ensures { Sends answer result failure.new }
+{
+    match answer {
+        Ok(()) => Some(()),
+        Err(error) => {
+            leave(error, failure);
+            None
+        }
+    }
+}
+
+#[inline(always)]
 fn put_integer<W: Write>(writer: &mut W, number: i128) -> Result<(), EncodeError<W::Error>>
     ensures writes { Writes W.whole (canon (integer number))
         (W.view writer.old) (W.view writer.new) result }
@@ -78,6 +106,7 @@ fn put_integer<W: Write>(writer: &mut W, number: i128) -> Result<(), EncodeError
     number.encode(writer)
 }
 
+#[inline(always)]
 fn put_float<W: Write>(writer: &mut W, bits: FloatBits) -> Result<(), EncodeError<W::Error>>
     ensures writes { Writes W.whole (canon (float_view bits))
         (W.view writer.old) (W.view writer.new) result }
@@ -91,29 +120,36 @@ fn put_float<W: Write>(writer: &mut W, bits: FloatBits) -> Result<(), EncodeErro
 }
 
 #[cycle(put)]
-fn put_items<W: Write>(writer: &mut W, items: &[Value]) -> Result<(), EncodeError<W::Error>>
+fn put_items<W: Write>(
+    writer: &mut W,
+    items: &[Value],
+    failure: &mut Option<EncodeError<W::Error>>,
+) -> Option<()>
     ensures writes { Writes W.whole (items_bytes value_bytes items.now)
-        (W.view writer.old) (W.view writer.new) result }
-    ensures items { OnOk result (AreItems (items_view items.now)) }
+        (W.view writer.old) (W.view writer.new) (sent result failure.new) }
+    ensures items { OnSome result (AreItems (items_view items.now)) }
+    ensures failed { IfNone result (IsSome failure.new) }
 {
     for item in items {
-        put_value(writer, item)?;
+        put_value(writer, item, failure)?;
     }
-    Ok(())
+    Some(())
 }
 
 #[cycle(put)]
 fn put_members<W: Write>(
     writer: &mut W,
     members: &[(Value, Value)],
-) -> Result<(), EncodeError<W::Error>>
+    failure: &mut Option<EncodeError<W::Error>>,
+) -> Option<()>
     ensures writes { Writes W.whole (items_bytes member_bytes members.now)
-        (W.view writer.old) (W.view writer.new) result }
-    ensures members { OnOk result (AreMembers (members_view members.now)) }
+        (W.view writer.old) (W.view writer.new) (sent result failure.new) }
+    ensures members { OnSome result (AreMembers (members_view members.now)) }
+    ensures failed { IfNone result (IsSome failure.new) }
 {
     for member in members {
-        put_value(writer, &member.0)?;
-        put_value(writer, &member.1)?;
+        put_value(writer, &member.0, failure)?;
+        put_value(writer, &member.1, failure)?;
     }
-    Ok(())
+    Some(())
 }
