@@ -1,5 +1,5 @@
 //! Heads and numbers, written.
-ghost use Rattle.std.specs.Prelude.{◌≡◌, ◌<◌, ◌<ℤ◌, ◌≤ℤ◌, ◌++◌, pos, negsuc};
+ghost use Rattle.std.specs.Prelude.{◌≡◌, ◌<◌, ◌≤◌, take, ◌<ℤ◌, ◌≤ℤ◌, ◌++◌, pos, negsuc};
 ghost use Rattle.cbor4ii_items.specs.Writing.{Writes, WritesWhole};
 ghost use Rattle.cbor4ii_items.specs.Magnitude.{without_leading_zeros};
 ghost use Rattle.cbor4ii_items.specs.Strings.{closing, counted_string, opening};
@@ -30,7 +30,8 @@ pub(crate) fn push_bytes<W: Write>(
     }
 }
 
-/// Writes the shortest head of this major type with this argument, in one push.
+/// Writes the shortest head of this major type with this argument, in one push. There is one place
+/// that pushes, since the answer of each takes as much room as the writer's error.
 #[inline(always)]
 pub(crate) fn push_head<W: Write>(
     writer: &mut W,
@@ -41,24 +42,35 @@ pub(crate) fn push_head<W: Write>(
     ensures { WritesWhole W.whole (shortest_head major argument)
         (W.view writer.old) (W.view writer.new) result }
 {
+    let (bytes, length) = head_bytes(major, argument);
+    push_bytes(writer, &bytes[..length])
+}
+
+/// The shortest head of this major type with this argument, and its length. Zeros follow it.
+#[inline(always)]
+fn head_bytes(major: u8, argument: u64) -> ([u8; 9], usize)
+    requires { major < 8 }
+    ensures within { result.1 ≤ 9 }
+    ensures bytes { take result.1 result.0 ≡ shortest_head major argument }
+{
     let first = 32 * major;
     // An argument of four or eight bytes is copied as one: byte for byte it is stored in as many
     // steps.
     if argument < 24 {
-        push_bytes(writer, &[first + argument as u8])
+        ([first + argument as u8, 0, 0, 0, 0, 0, 0, 0, 0], 1)
     } else if argument < 0x100 {
-        push_bytes(writer, &[first + 24, argument as u8])
+        ([first + 24, argument as u8, 0, 0, 0, 0, 0, 0, 0], 2)
     } else if argument < 0x1_0000 {
         let [a, b] = (argument as u16).to_be_bytes();
-        push_bytes(writer, &[first + 25, a, b])
+        ([first + 25, a, b, 0, 0, 0, 0, 0, 0], 3)
     } else if argument < 0x1_0000_0000 {
-        let mut bytes = [first + 26, 0, 0, 0, 0];
-        bytes[1..].copy_from_slice(&(argument as u32).to_be_bytes());
-        push_bytes(writer, &bytes)
+        let mut bytes = [first + 26, 0, 0, 0, 0, 0, 0, 0, 0];
+        bytes[1..5].copy_from_slice(&(argument as u32).to_be_bytes());
+        (bytes, 5)
     } else {
         let mut bytes = [first + 27, 0, 0, 0, 0, 0, 0, 0, 0];
         bytes[1..].copy_from_slice(&argument.to_be_bytes());
-        push_bytes(writer, &bytes)
+        (bytes, 9)
     }
 }
 
