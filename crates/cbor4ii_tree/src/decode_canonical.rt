@@ -22,6 +22,7 @@ ghost use Rattle.cbor4ii_tree.specs.Valuing.{ReadsStepped, ReadsVec};
 ghost use Rattle.cbor4ii_tree.specs.View.{view};
 
 use crate::front::Own;
+use crate::leaf::take_leaf;
 use crate::simple::{read_float, simple_of};
 use crate::slot::{leave, part, whole};
 use crate::unseen::peek;
@@ -126,9 +127,29 @@ fn read_one<S: Source>(
     outcome
 }
 
-/// Reads one value whose step was taken.
+/// Reads one value whose step was taken. One that holds no other is mostly decided in one look.
 #[cycle(strict)]
+#[inline(always)]
 fn read_inside<S: Source>(
+    alloc: Global,
+    reader: &mut S,
+    failure: &mut Option<DecodeError<S::Error>>,
+) -> Option<Value>
+    ensures does { DoesUnder ReadsExactlyUnder StopsExactlyUnder
+        (S.view reader.old) (S.view reader.new) (answered result failure.new) }
+    ensures progress { OnSome result ((S.view reader.new).bound + 1 ≤ (S.view reader.old).bound) }
+{
+    match take_leaf(alloc, reader, true, failure) {
+        Some(Some(value)) => Some(value),
+        Some(None) => read_by_first(alloc, reader, failure),
+        None => None,
+    }
+}
+
+/// The same by its first byte.
+#[cycle(strict)]
+#[inline(never)]
+fn read_by_first<S: Source>(
     alloc: Global,
     reader: &mut S,
     failure: &mut Option<DecodeError<S::Error>>,

@@ -149,7 +149,7 @@ fn read_inside<S: Source>(
     ensures item { IfSome result (λ v. IsItem (view v)) }
     ensures progress { OnSome result ((S.view reader.new).bound + 1 ≤ (S.view reader.old).bound) }
 {
-    match take_leaf(alloc, reader, failure) {
+    match take_leaf(alloc, reader, false, failure) {
         Some(Some(value)) => Some(value),
         Some(None) => read_by_first(alloc, reader, failure),
         None => None,

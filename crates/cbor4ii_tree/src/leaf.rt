@@ -1,12 +1,14 @@
 //! Values that hold no other, decided in one look where they stand whole in what is shown
 //! (RFC 8949 section 3). What does not is left undecided.
-ghost use Rattle.std.specs.Prelude.{◌≡◌, ◌≤◌, ◌+◌, ◌∷◌, ◌/◌, ◌%◌, ◌⊎◌, IfOk, OnErr, IfSome, OnSome, Some, length};
-ghost use Rattle.std.specs.Prelude.{ℕ, List};
+ghost use Rattle.std.specs.Prelude.{◌≡◌, ◌≤◌, ◌+◌, ◌∷◌, ◌/◌, ◌%◌, ◌⊎◌, IfOk, OnErr, IfSome, OnSome};
+ghost use Rattle.std.specs.Prelude.{ℕ, List, Some, length, true};
 ghost use Rattle.cbor4ii_rw.specs.Reader.{Breaks};
-ghost use Rattle.cbor4ii_items.specs.Head.{ArgumentBehind};
+ghost use Rattle.cbor4ii_items.specs.Head.{ArgumentBehind, byte_count, shortest};
 ghost use Rattle.cbor4ii_tree.specs.Front.{Offers};
 ghost use Rattle.cbor4ii_tree.specs.Item.{IsItem};
-ghost use Rattle.cbor4ii_tree.specs.Leaf.{SeesLeaf, StandsAhead, TakesLeaf};
+ghost use Rattle.cbor4ii_tree.specs.Leaf.{ExactHead, SeesLeaf, StandsAhead, TakesLeaf};
+ghost use Rattle.cbor4ii_tree.specs.Strictly.{ReadsExactlyUnder, StopsExactlyUnder};
+ghost use Rattle.cbor4ii_tree.specs.Valuing.{ReadsUnder, StopsUnder};
 ghost use Rattle.cbor4ii_tree.specs.View.{view};
 
 use crate::simple::simple_of;
@@ -32,20 +34,25 @@ pub(crate) enum Leaf {
     Unseen,
 }
 
-/// Takes the value that comes next, where it holds no other and one look shows it whole. Where it
-/// does not, takes nothing. A refusal is left in `failure`.
+/// Takes the value that comes next, where it holds no other and one look shows it whole. Where
+/// `exact` is set, its spelling has to be the canonical one. Else it takes nothing. A refusal is
+/// left in `failure`.
 #[inline(always)]
 pub(crate) fn take_leaf<S: Source>(
     alloc: Global,
     reader: &mut S,
+    exact: bool,
     failure: &mut Option<DecodeError<S::Error>>,
 ) -> Option<Option<Value>>
-    ensures takes { TakesLeaf (S.view reader.old) (S.view reader.new) result failure.new }
+    ensures takes { TakesLeaf ReadsUnder StopsUnder
+        (S.view reader.old) (S.view reader.new) result failure.new }
+    ensures exactly { exact ≡ true → TakesLeaf ReadsExactlyUnder StopsExactlyUnder
+        (S.view reader.old) (S.view reader.new) result failure.new }
     ensures item { IfSome result (λ found. IfSome found (λ v. IsItem (view v))) }
     ensures progress { IfSome result (λ found.
         OnSome found ((S.view reader.new).bound + 1 ≤ (S.view reader.old).bound)) }
 {
-    match glance(alloc, reader) {
+    match glance(alloc, reader, exact) {
         Ok(Leaf::Whole(value, size)) => {
             reader.advance(size);
             Some(Some(value))
@@ -65,29 +72,62 @@ pub(crate) fn take_leaf<S: Source>(
 
 /// What comes next, decided by one look.
 #[inline(always)]
-fn glance<S: Source>(alloc: Global, reader: &mut S) -> Result<Leaf, S::Error>
-    ensures offers { IfOk result (λ seen. Offers 256 (SeesLeaf seen)
+fn glance<S: Source>(alloc: Global, reader: &mut S, exact: bool) -> Result<Leaf, S::Error>
+    ensures offers { IfOk result (λ seen. Offers 256 (SeesLeaf (exact ≡ true) seen)
         (S.view reader.old) (S.view reader.new)) }
     ensures breaks { OnErr result (Breaks (S.view reader.old) (S.view reader.new)) }
 {
     let mut failure = None;
     match look(reader, WINDOW, &mut failure) {
-        Some(shown) => Ok(leaf_of(alloc, shown)),
+        Some(shown) => Ok(leaf_of(alloc, shown, exact)),
         None => Err(failure.unwrap()),
     }
 }
 
 /// What the shown bytes begin with.
 #[inline(always)]
-fn leaf_of(alloc: Global, shown: &[u8]) -> Leaf
-    ensures { SeesLeaf result shown.now }
+fn leaf_of(alloc: Global, shown: &[u8], exact: bool) -> Leaf
+    ensures { SeesLeaf (exact ≡ true) result shown.now }
 {
     let [first, behind @ ..] = shown else {
         return Leaf::Unseen;
     };
-    match argument(*first % 32, behind) {
-        Some((number, size)) => leaf_behind(alloc, *first, behind, number, size),
-        None => Leaf::Unseen,
+    let Some((number, size)) = argument(*first % 32, behind) else {
+        return Leaf::Unseen;
+    };
+    if exact && !is_exact(*first, number, size) {
+        return Leaf::Unseen;
+    }
+    leaf_behind(alloc, *first, behind, number, size)
+}
+
+/// Whether a head is one that canonical spellings have. A float has one width, so each is.
+#[inline(always)]
+fn is_exact(first: u8, number: u64, size: usize) -> bool
+    ensures { result ≡ true → ExactHead first number size }
+{
+    if first / 32 == major::SIMPLE {
+        first != marker::UNDEFINED
+    } else {
+        size == least_size(number)
+    }
+}
+
+/// In how many bytes behind the first one the shortest head has this argument.
+#[inline(always)]
+fn least_size(number: u64) -> usize
+    ensures { result ≡ byte_count (shortest number) }
+{
+    if number < 24 {
+        0
+    } else if number < 0x100 {
+        1
+    } else if number < 0x1_0000 {
+        2
+    } else if number < 0x1_0000_0000 {
+        4
+    } else {
+        8
     }
 }
 
@@ -95,7 +135,7 @@ fn leaf_of(alloc: Global, shown: &[u8]) -> Leaf
 #[inline(always)]
 fn leaf_behind(alloc: Global, first: u8, behind: &[u8], number: u64, size: usize) -> Leaf
     requires { ArgumentBehind (first % 32) behind.now number size }
-    ensures { SeesLeaf result (first ∷ behind.now) }
+    ensures { SeesLeaf (ExactHead first number size) result (first ∷ behind.now) }
 {
     match first / 32 {
         major::UNSIGNED => Leaf::Whole(Value::Integer(number as i128), 1 + size),
@@ -111,7 +151,7 @@ fn leaf_behind(alloc: Global, first: u8, behind: &[u8], number: u64, size: usize
 fn simple_behind(first: u8, behind: &[u8], number: u64, size: usize) -> Leaf
     requires argument { ArgumentBehind (first % 32) behind.now number size }
     requires major { first / 32 ≡ 7 }
-    ensures { SeesLeaf result (first ∷ behind.now) }
+    ensures { SeesLeaf (ExactHead first number size) result (first ∷ behind.now) }
 {
     match first {
         marker::F16 => Leaf::Whole(Value::Float(FloatBits::F16(number as u16)), 3),
@@ -129,7 +169,7 @@ fn simple_behind(first: u8, behind: &[u8], number: u64, size: usize) -> Leaf
 fn string_behind(alloc: Global, first: u8, behind: &[u8], number: u64, size: usize) -> Leaf
     requires argument { ArgumentBehind (first % 32) behind.now number size }
     requires major { (first / 32 ≡ 2) ⊎ (first / 32 ≡ 3) }
-    ensures { SeesLeaf result (first ∷ behind.now) }
+    ensures { SeesLeaf (ExactHead first number size) result (first ∷ behind.now) }
 {
     let rest = &behind[size..];
     if number > rest.len() as u64 {

@@ -1,16 +1,18 @@
 -- Values that hold no other, where they stand whole in shown bytes.
-use Rattle.std.proofs.Common.{◌≡◌, ℕ, suc, ◌+◌, ◌*◌, ◌/◌, ◌%◌, ◌<◌, ◌≤◌, List, ◌∷◌, ◌++◌, length}
-use Rattle.std.proofs.Common.{Result, Ok, Err, Option, Some, None, [], ◌^◌, take-append-drop, take, drop, ℤ, refl, sym, ap, ◌∙◌, subst, arith, length-append}
-use Rattle.std.proofs.Common.{◌-◌, length-drop}
+use Rattle.std.proofs.Common.{◌≡◌, ◌≢◌, ℕ, suc, ◌+◌, ◌-◌, ◌*◌, ◌/◌, ◌%◌, ◌^◌, ◌<◌, ◌≤◌, ℤ, List}
+use Rattle.std.proofs.Common.{[], ◌∷◌, ◌++◌, length, take, drop, take-append-drop, length-append}
+use Rattle.std.proofs.Common.{length-drop, Result, Ok, Err, Option, Some, None, refl, sym, ap, ◌∙◌}
+use Rattle.std.proofs.Common.{subst, arith}
 use Rattle.std.proofs.Math.Seq.{take-append_seam, take-add}
 use Rattle.std.proofs.lemmas.List.{length-take-le}
 use Rattle.std.specs.Int.{bytes_high_first}
 use Rattle.cbor4ii_items.specs.Head.{Width, byte_count, additional, HeadFits, ArgumentBehind}
-use Rattle.cbor4ii_items.specs.Head.{IsBytes}
+use Rattle.cbor4ii_items.specs.Head.{IsBytes, shortest}
 use Rattle.cbor4ii_items.specs.Initial.{Sign, sign_major, Precision, precision_byte}
 use Rattle.cbor4ii_items.specs.Initial.{precision_bytes, half, single, double, Simple}
 use Rattle.cbor4ii_items.specs.Initial.{simple_false, simple_true, simple_null, simple_undefined}
-use Rattle.cbor4ii_items.specs.Initial.{unsigned, negative, Kind, kind_major}
+use Rattle.cbor4ii_items.specs.Initial.{unsigned, negative, Kind, kind_major, simple_byte}
+use Rattle.cbor4ii_items.specs.Initial.{byte_string, text_string}
 use Rattle.cbor4ii_items.specs.Head.{in_first, one, two, four, eight, head}
 use Rattle.cbor4ii_items.specs.Laws.Heads.{length-bytes_high_first}
 use Rattle.cbor4ii_items.specs.Laws.Answering.{fits_zero}
@@ -19,13 +21,16 @@ use Rattle.cbor4ii_rw.specs.Reader.{Advances, Shows}
 use Rattle.cbor4ii_rw.specs.declared.error.DecodeError.{DecodeError}
 use Rattle.cbor4ii_items.specs.Laws.Running.{shows_kept}
 use Rattle.cbor4ii_rw.specs.View.{View}
-use Rattle.cbor4ii_tree.specs.Does.{Does}
+use Rattle.cbor4ii_tree.specs.Cost.{Budget}
+use Rattle.cbor4ii_tree.specs.Does.{Accepting, Does}
 use Rattle.cbor4ii_tree.specs.Front.{Offers}
 use Rattle.cbor4ii_tree.specs.Item.{integer, float, IsItem}
 use Rattle.cbor4ii_tree.specs.Laws.Binds.{step_up}
-use Rattle.cbor4ii_tree.specs.Leaf.{StandsAhead, SeesLeaf, TakesLeaf}
+use Rattle.cbor4ii_tree.specs.Leaf.{ExactHead, StandsAhead, SeesLeaf, TakesLeaf}
 use Rattle.cbor4ii_tree.specs.Meaning.{number, simple_item, content_item}
-use Rattle.cbor4ii_tree.specs.Tree.{int, bits, simple, string, TextIsUtf8}
+use Rattle.cbor4ii_tree.specs.Stops.{Stopping}
+use Rattle.cbor4ii_tree.specs.Strictly.{ReadsExactlyUnder, StopsExactlyUnder, raise}
+use Rattle.cbor4ii_tree.specs.Tree.{int, bits, simple, string, bytes, TextIsUtf8}
 use Rattle.cbor4ii_tree.specs.Valuing.{SimpleOf, ReadsUnder, StopsUnder}
 use Rattle.cbor4ii_tree.specs.View.{view}
 use Rattle.cbor4ii_tree.specs.declared.value.Value.{Value, Integer, Float}
@@ -34,6 +39,7 @@ use Rattle.cbor4ii_tree.specs.declared.leaf.Leaf.{Leaf}
 use Rattle.cbor4ii_tree.specs.declared.leaf.Leaf.TheVariants.{Whole, NoMemory}
 use Rattle.cbor4ii_rw.specs.declared.error.DecodeError.TheVariants.{OutOfMemory}
 use Rattle.cbor4ii_items.specs.Decoding.{CostFits}
+use Rattle.cbor4ii_tree.proofs.canonical.Exactly.{fits_raise}
 use Rattle.cbor4ii_tree.proofs.skip_calls.Doing.{does_ok, does_no_memory, does_after}
 use Rattle.cbor4ii_tree.proofs.heads.Inverse.{IsBytes-take}
 use Rattle.cbor4ii_tree.proofs.values.Calls.{fits_less}
@@ -68,6 +74,23 @@ simple_item_is simple_true = tt
 simple_item_is simple_null = tt
 simple_item_is simple_undefined = tt
 
+-- widths are told apart by how many bytes they have
+pub same_width : (w u : Width) → byte_count w ≡ byte_count u → w ≡ u
+same_width in_first in_first e = refl
+same_width one one e = refl
+same_width two two e = refl
+same_width four four e = refl
+same_width eight eight e = refl
+same_width _ _ e = cc
+
+no_sign : (s : Sign) → sign_major s ≢ 7
+no_sign unsigned e = absurd (omega (arith, e))
+no_sign negative e = absurd (omega (arith, e))
+
+no_kind : (kind : Kind) → kind_major kind ≢ 7
+no_kind byte_string e = absurd (omega (arith, e))
+no_kind text_string e = absurd (omega (arith, e))
+
 module _ (b n k : ℕ) (bs : List ℕ) (small : b < 256) (fresh : IsBytes bs)
     (a : ArgumentBehind (b % 32) bs n k) where
   stands : k ≤ length bs
@@ -86,15 +109,19 @@ module _ (b n k : ℕ) (bs : List ℕ) (small : b < 256) (fresh : IsBytes bs)
       ∙ take-append_seam (bytes_high_first k n) (drop k bs)
       ∙ ap (λ j. bytes_high_first j n) a.size
 
+  least : ExactHead b n k → b / 32 ≢ 7 → a.width ≡ shortest n
+  least exact other = same_width a.width (shortest n) (sym a.size ∙ exact.least other)
+
   pub int_ahead : (s : Sign) (z : ℤ) (size : ℕ) → size ≡ suc k → b / 32 ≡ sign_major s
-      → number s n ≡ z → StandsAhead (Integer z) size (b ∷ bs)
+      → number s n ≡ z → StandsAhead (ExactHead b n k) (Integer z) size (b ∷ bs)
   int_ahead s z size e m is =
-      subst (λ j. StandsAhead (Integer z) j (b ∷ bs)) (sym e) (record {
+      subst (λ j. StandsAhead (ExactHead b n k) (Integer z) j (b ∷ bs)) (sym e) (record {
         some = omega arith;
         within = omega (arith, stands);
         fresh = (small, IsBytes-take k bs fresh);
         item = int s n a.width;
         plain = (a.fits, tt);
+        strict = λ exact. least exact (λ e7. no_sign s (sym m ∙ e7));
         step = refl;
         means = ap integer is ∙ sym (view-Integer z);
         ranged =
@@ -107,16 +134,19 @@ module _ (b n k : ℕ) (bs : List ℕ) (small : b < 256) (fresh : IsBytes bs)
       })
 
   pub float_ahead : (p : Precision) (f : FloatBits) (size : ℕ) → size ≡ suc (precision_bytes p)
-      → b ≡ precision_byte p → float p n ≡ view (Float f) → StandsAhead (Float f) size (b ∷ bs)
+      → b ≡ precision_byte p → float p n ≡ view (Float f)
+      → StandsAhead (ExactHead b n k) (Float f) size (b ∷ bs)
   float_ahead p f size e is means =
       let t = float_fits p a.width n a.fits (a.says ∙ ap (λ j. j % 32) is) in
       let same : k ≡ precision_bytes p = a.size ∙ t.0 in
-      subst (λ j. StandsAhead (Float f) j (b ∷ bs)) (sym (e ∙ ap suc (sym same))) (record {
+      subst (λ j. StandsAhead (ExactHead b n k) (Float f) j (b ∷ bs))
+      (sym (e ∙ ap suc (sym same))) (record {
         some = omega arith;
         within = omega (arith, stands);
         fresh = (small, IsBytes-take k bs fresh);
         item = bits p n;
         plain = (t.1, tt);
+        strict = λ exact. tt;
         step = refl;
         means = means;
         ranged = subst IsItem means t.1;
@@ -129,17 +159,19 @@ module _ (b n k : ℕ) (bs : List ℕ) (small : b < 256) (fresh : IsBytes bs)
   pub string_ahead : (kind : Kind) (v : Value) (size : ℕ) (content : List ℕ) → size ≡ suc (k + n)
       → b / 32 ≡ kind_major kind → n ≤ length bs - k → content ≡ take n (drop k bs)
       → TextIsUtf8 kind content → content_item kind content ≡ view v → IsItem (view v)
-      → StandsAhead v size (b ∷ bs)
+      → StandsAhead (ExactHead b n k) v size (b ∷ bs)
   string_ahead kind v size content e m room is valid means ranged =
       let long : length content ≡ n = ap length is
       ∙ length-take-le n (drop k bs) (omega (arith, length-drop k bs, room)) in
       let first : b ≡ 32 * kind_major kind + additional a.width n = omega (arith, m, a.says) in
-      subst (λ j. StandsAhead v j (b ∷ bs)) (sym e) (record {
+      subst (λ j. StandsAhead (ExactHead b n k) v j (b ∷ bs)) (sym e) (record {
         some = omega arith;
         within = omega (arith, stands, room);
         fresh = (small, IsBytes-take (k + n) bs fresh);
         item = string kind a.width content;
         plain = (subst (HeadFits a.width) (sym long) a.fits, valid);
+        strict = λ exact.
+            least exact (λ e7. no_kind kind (sym m ∙ e7)) ∙ ap shortest (sym long);
         step = refl;
         means = means;
         ranged = ranged;
@@ -153,14 +185,15 @@ module _ (b n k : ℕ) (bs : List ℕ) (small : b < 256) (fresh : IsBytes bs)
             ∙ ap (λ j. head (kind_major kind) j a.width ++ content) (sym long);
       })
 
-pub simple_ahead : (b : ℕ) (bs : List ℕ) (v : Value) → b < 256 → SimpleOf b (Some v)
-    → StandsAhead v 1 (b ∷ bs)
-simple_ahead b bs v small s = record {
+pub simple_ahead : (b n k : ℕ) (bs : List ℕ) (v : Value) → b < 256 → SimpleOf b (Some v)
+    → StandsAhead (ExactHead b n k) v 1 (b ∷ bs)
+simple_ahead b n k bs v small s = record {
   some = omega arith;
   within = omega arith;
   fresh = (small, tt);
   item = simple s.0;
   plain = (tt, tt);
+  strict = λ exact none. exact.defined (s.1 ∙ ap simple_byte none);
   step = refl;
   means = s.2;
   ranged = subst IsItem s.2 (simple_item_is s.0);
@@ -169,63 +202,88 @@ simple_ahead b bs v small s = record {
 
 -- ---- what a look decides is taken
 
-module _ {E : Type 0} {a m b : View} where
-  pub takes_leaf : (v : Value) (size : ℕ) {seen : Leaf} → seen ≡ Whole v size
-      → Offers 256 (SeesLeaf seen) a m → Advances size m b
-      → Does {E = E} (ReadsUnder a.budget) (StopsUnder a.budget) a b (Ok v)
-  takes_leaf v size is h adv =
-      let o = subst (λ s. Offers 256 (SeesLeaf s) a m) is h in
+module _ {E : Type 0} (exact : Type 0) {a m b : View} where
+  taken : (A : Accepting Value) (S : Stopping) (v : Value) (size : ℕ) {seen : Leaf}
+      → seen ≡ Whole v size → Offers 256 (SeesLeaf exact seen) a m → Advances size m b
+      → ((shown xs ys : List ℕ) → (l : StandsAhead exact v size shown) → xs ≡ bytes l.item ++ ys
+      → A xs v ys) → Does {E = E} A S a b (Ok v)
+  taken A S v size is h adv f =
+      let o = subst (λ s. Offers 256 (SeesLeaf exact s) a m) is h in
       let l = lends_front o.shows o.front o.is.within o.is.fresh refl adv in
-      does_ok (ReadsUnder a.budget) (StopsUnder a.budget) (record {
+      does_ok A S (record {
         kept = l.kept;
         at = λ xs told.
             let t = l.at xs told in (
               drop size xs,
               t.1,
-              λ budget step. (
-                o.is.item,
-                (
-                  o.is.plain,
-                  subst (λ j. CostFits j budget) (sym o.is.step)
-                      (step_up budget a.budget 0 step (fits_zero a.budget)),
-                ),
-                o.is.means,
-                sym (take-append-drop size xs)
-                    ∙ ap (λ r. r ++ drop size xs) (sym t.2 ∙ o.is.is),
-              ),
+              f o.shown xs (drop size xs) o.is (sym (take-append-drop size xs)
+                  ∙ ap (λ r. r ++ drop size xs) (sym t.2 ∙ o.is.is)),
             );
       })
 
-  pub no_content : (size : ℕ) {seen : Leaf} → seen ≡ NoMemory size
-      → Offers 256 (SeesLeaf seen) a m → Advances size m b
-      → Does {V = Value} {E = E} (ReadsUnder a.budget) (StopsUnder a.budget) a b (Err OutOfMemory)
-  no_content size is h adv =
-      let o = subst (λ s. Offers 256 (SeesLeaf s) a m) is h in
+  pub takes_leaf : (v : Value) (size : ℕ) {seen : Leaf} → seen ≡ Whole v size
+      → Offers 256 (SeesLeaf exact seen) a m → Advances size m b
+      → Does {E = E} (ReadsUnder a.budget) (StopsUnder a.budget) a b (Ok v)
+  takes_leaf v size is h adv =
+      taken (ReadsUnder a.budget) (StopsUnder a.budget) v size is h adv
+      (λ shown xs ys l begins budget step. (
+        l.item,
+        (
+          l.plain,
+          subst (λ j. CostFits j budget) (sym l.step)
+              (step_up budget a.budget 0 step (fits_zero a.budget)),
+        ),
+        l.means,
+        begins,
+      ))
+
+  pub takes_exact_leaf : (v : Value) (size : ℕ) {seen : Leaf} → seen ≡ Whole v size
+      → Offers 256 (SeesLeaf exact seen) a m → Advances size m b → exact
+      → Does {E = E} (ReadsExactlyUnder a.budget) (StopsExactlyUnder a.budget) a b (Ok v)
+  takes_exact_leaf v size is h adv holds =
+      taken (ReadsExactlyUnder a.budget) (StopsExactlyUnder a.budget) v size is h adv
+      (λ shown xs ys l begins. (
+        l.item,
+        (
+          (l.plain, l.strict holds),
+          subst (λ j. CostFits j (raise a.budget)) (sym l.step)
+              (fits_raise 0 a.budget (fits_zero a.budget)),
+        ),
+        l.means,
+        begins,
+      ))
+
+  pub no_content : (A : Accepting Value) (S : Stopping) (size : ℕ) {seen : Leaf}
+      → seen ≡ NoMemory size → Offers 256 (SeesLeaf exact seen) a m → Advances size m b
+      → Does {V = Value} {E = E} A S a b (Err OutOfMemory)
+  no_content A S size is h adv =
+      let o = subst (λ s. Offers 256 (SeesLeaf exact s) a m) is h in
       let l = lends_front o.shows o.front o.is.within o.is.fresh refl adv in
-      does_no_memory (ReadsUnder a.budget) (StopsUnder a.budget) refl l.kept
+      does_no_memory A S refl l.kept
 
-pub leaf_item : {a m : View} (v : Value) (size : ℕ) {seen : Leaf} → seen ≡ Whole v size
-    → Offers 256 (SeesLeaf seen) a m → IsItem (view v)
-leaf_item {a = a} {m = m} v size is h =
-    (subst (λ s. Offers 256 (SeesLeaf s) a m) is h).is.ranged
+pub leaf_item : (exact : Type 0) {a m : View} (v : Value) (size : ℕ) {seen : Leaf}
+    → seen ≡ Whole v size → Offers 256 (SeesLeaf exact seen) a m → IsItem (view v)
+leaf_item exact {a = a} {m = m} v size is h =
+    (subst (λ s. Offers 256 (SeesLeaf exact s) a m) is h).is.ranged
 
-pub leaf_passes : {a m b : View} (v : Value) (size : ℕ) {seen : Leaf} → seen ≡ Whole v size
-    → Offers 256 (SeesLeaf seen) a m → Advances size m b → b.bound + 1 ≤ a.bound
-leaf_passes {a = a} {m = m} v size is h adv =
-    let o = subst (λ s. Offers 256 (SeesLeaf s) a m) is h in
-    omega (arith, o.is.some, adv.bound, o.shows.bound)
+-- a value was taken
+pub found_leaf : {E : Type 0} (A : Budget → Accepting Value) (S : Budget → Stopping) {a b : View}
+    {found : Option Value} (v : Value) (failure : Option (DecodeError E)) → found ≡ Some v
+    → TakesLeaf A S a b (Some found) failure
+    → Does {E = E} (A a.budget) (S a.budget) a b (Ok v)
+found_leaf A S {a = a} {b = b} v failure is t =
+    subst (λ o. TakesLeaf A S a b (Some o) failure) is t
 
 -- nothing was taken yet
-pub after_look : {E : Type 0} {r : Result Value (DecodeError E)} {a m b : View}
-    {found : Option Value} (failure : Option (DecodeError E)) → found ≡ None
-    → TakesLeaf a m (Some found) failure → Does (ReadsUnder m.budget) (StopsUnder m.budget) m b r
-    → Does (ReadsUnder a.budget) (StopsUnder a.budget) a b r
-after_look {a = a} {m = m} failure is t d =
-    let s : Shows [] a m = subst (λ o. TakesLeaf a m (Some o) failure) is t in
-    does_after (λ xs ys. xs ≡ ys) (ReadsUnder m.budget) (ReadsUnder a.budget) (StopsUnder m.budget)
-    (StopsUnder a.budget)
-    (λ xs ys zs v e h. subst (λ x. ReadsUnder a.budget x v zs) (sym e)
-    (subst (λ o. ReadsUnder o ys v zs) s.budget h))
-    (λ xs ys z rest e h. subst (λ x. StopsUnder a.budget x z rest) (sym e)
-    (subst (λ o. StopsUnder o ys z rest) s.budget h))
+pub after_look : {E : Type 0} (A : Budget → Accepting Value) (S : Budget → Stopping)
+    {r : Result Value (DecodeError E)} {a m b : View} {found : Option Value}
+    (failure : Option (DecodeError E)) → found ≡ None → TakesLeaf A S a m (Some found) failure
+    → Does (A m.budget) (S m.budget) m b r → Does (A a.budget) (S a.budget) a b r
+after_look A S {a = a} {m = m} failure is t d =
+    let s : Shows [] a m = subst (λ o. TakesLeaf A S a m (Some o) failure) is t in
+    does_after (λ xs ys. xs ≡ ys) (A m.budget) (A a.budget) (S m.budget) (S a.budget)
+    (λ xs ys zs v e h. subst (λ x. A a.budget x v zs) (sym e)
+    (subst (λ o. A o ys v zs) s.budget h))
+    (λ xs ys z rest e h. subst (λ x. S a.budget x z rest) (sym e)
+    (subst (λ o. S o ys z rest) s.budget h))
     (record { kept = shows_kept s; at = λ xs told. (xs, s.told xs told, refl) }) d

@@ -24,7 +24,18 @@ use Rattle.cbor4ii_tree.proofs.canonical.Calls.{items_more, item_stops, value_st
 use Rattle.cbor4ii_tree.proofs.canonical.Calls.{members_more, member_stops, array_exact, map_exact}
 use Rattle.cbor4ii_items.specs.Laws.Running.{kept_alike}
 use Rattle.cbor4ii_tree.proofs.values.Answered.{went_on, around, behind}
+use Rattle.cbor4ii_tree.proofs.values.Leaves.{after_look, found_leaf}
 use Rattle.cbor4ii_tree.proofs.decode_canonical.+strict.Goals as goal
+
+pub read_inside-returns-in-Some-Some-clause-does : goal.read_inside-returns-in-Some-Some-clause-does
+read_inside-returns-in-Some-Some-clause-does g t c =
+    found_leaf ReadsExactlyUnder StopsExactlyUnder _ _ c.in-Some-Some.field-0-is
+    (c.in-Some-Some.ensures.exactly refl)
+
+pub read_inside-returns-in-Some-None-clause-does : goal.read_inside-returns-in-Some-None-clause-does
+read_inside-returns-in-Some-None-clause-does g t c =
+    after_look ReadsExactlyUnder StopsExactlyUnder _ c.in-Some-None.field-0-is
+    (c.in-Some-None.ensures.exactly refl) c.read_by_first.ensures.does
 
 pub read_one-returns-clause-does : goal.read_one-returns-clause-does
 read_one-returns-clause-does g t c =
@@ -186,28 +197,29 @@ read_member-returns-in_err-value-clause-does g t c =
     (λ xs ys z rest h s. value_stops (g.S.Source.view c.args.reader.now).budget
     c.in_ok-key.key xs ys z rest h s) c.in_err-value.ensures.does)
 
-pub read_inside-returns-clause-does : goal.read_inside-returns-clause-does
-read_inside-returns-clause-does g t c =
+pub read_by_first-returns-clause-does : goal.read_by_first-returns-clause-does
+read_by_first-returns-clause-does g t c =
     exact_first c.in_ok-first.first (rw c.in_ok-first.ensures at c.peek.ensures.runs) (rw
     c.part-in_default.ensures at c.read_leaf.ensures.does)
 
-pub read_inside-returns-in-7-clause-does : goal.read_inside-returns-in-7-clause-does
-read_inside-returns-in-7-clause-does g t c =
+pub read_by_first-returns-in-7-clause-does : goal.read_by_first-returns-in-7-clause-does
+read_by_first-returns-in-7-clause-does g t c =
     exact_first c.in_ok-first.first (rw c.in_ok-first.ensures at c.peek.ensures.runs) (rw
     c.part-in-None.ensures at c.read_float.ensures.exactly)
 
-pub read_inside-returns-in_err-first-clause-does : goal.read_inside-returns-in_err-first-clause-does
-read_inside-returns-in_err-first-clause-does g t c =
+pub read_by_first-returns-in_err-first-clause-does :
+    goal.read_by_first-returns-in_err-first-clause-does
+read_by_first-returns-in_err-first-clause-does g t c =
     rw c.from_residual.ensures (peek_stops (rw c.in_err-first.ensures at c.peek.ensures.runs))
 
-pub read_inside-returns-then-first-clause-does : goal.read_inside-returns-then-first-clause-does
-read_inside-returns-then-first-clause-does g t c =
+pub read_by_first-returns-then-first-clause-does : goal.read_by_first-returns-then-first-clause-does
+read_by_first-returns-then-first-clause-does g t c =
     rw c.leave.ensures (undefined_stops c.in_ok-first.first (rw c.in_ok-first.ensures at
     c.peek.ensures.runs) (rw c.in_ok-first.ensures at c.peek.ensures.byte)
     c.advance.ensures c.if-first.true refl refl refl)
 
-pub read_inside-returns-in-4-clause-does : goal.read_inside-returns-in-4-clause-does
-read_inside-returns-in-4-clause-does g t c =
+pub read_by_first-returns-in-4-clause-does : goal.read_by_first-returns-in-4-clause-does
+read_by_first-returns-in-4-clause-does g t c =
     exact_ok c.in_ok-first.first (rw c.in_ok-first.ensures at c.peek.ensures.runs) (λ xs ys.
     ReadsStepped
     (λ o xs (v : Vec Value Global) ys. AcceptsCount 4 ExactItems o xs v.items ys)
@@ -220,9 +232,9 @@ read_inside-returns-in-4-clause-does g t c =
     c.peek.ensures.runs).moves.by.budget h))
     (reached_by c.in_ok-read_array-in-4.ensures.does)
 
-pub read_inside-returns-in_err-read_array-in-4-clause-does :
-    goal.read_inside-returns-in_err-read_array-in-4-clause-does
-read_inside-returns-in_err-read_array-in-4-clause-does g t c =
+pub read_by_first-returns-in_err-read_array-in-4-clause-does :
+    goal.read_by_first-returns-in_err-read_array-in-4-clause-does
+read_by_first-returns-in_err-read_array-in-4-clause-does g t c =
     rw c.from_residual-in_err-read_array-in-4.ensures (exact_err c.in_ok-first.first (rw
     c.in_ok-first.ensures at c.peek.ensures.runs) 4 (ReadsStepped
     (λ o xs (v : Vec Value Global) ys. AcceptsCount 4 ExactItems o xs v.items ys)
@@ -230,8 +242,8 @@ read_inside-returns-in_err-read_array-in-4-clause-does g t c =
     (StopsExactlyStepped array_name (StrictArrayStops StopsExactly)) c.in-4.is
     (λ bs z rest h. h) c.in_err-read_array-in-4.ensures.does)
 
-pub read_inside-returns-in-5-clause-does : goal.read_inside-returns-in-5-clause-does
-read_inside-returns-in-5-clause-does g t c =
+pub read_by_first-returns-in-5-clause-does : goal.read_by_first-returns-in-5-clause-does
+read_by_first-returns-in-5-clause-does g t c =
     exact_ok c.in_ok-first.first (rw c.in_ok-first.ensures at c.peek.ensures.runs) (λ xs ys.
     ReadsStepped
     (λ o xs (v : Vec (Value × Value) Global) ys. AcceptsCount 5 ExactMembers o xs v.items
@@ -243,9 +255,9 @@ read_inside-returns-in-5-clause-does g t c =
     (rw c.in_ok-first.ensures at c.peek.ensures.runs).moves.by.budget h))
     (reached_by c.in_ok-read_map-in-5.ensures.does)
 
-pub read_inside-returns-in_err-read_map-in-5-clause-does :
-    goal.read_inside-returns-in_err-read_map-in-5-clause-does
-read_inside-returns-in_err-read_map-in-5-clause-does g t c =
+pub read_by_first-returns-in_err-read_map-in-5-clause-does :
+    goal.read_by_first-returns-in_err-read_map-in-5-clause-does
+read_by_first-returns-in_err-read_map-in-5-clause-does g t c =
     rw c.from_residual-in_err-read_map-in-5.ensures (exact_err c.in_ok-first.first (rw
     c.in_ok-first.ensures at c.peek.ensures.runs) 5
     (ReadsStepped (λ o xs (v : Vec (Value × Value) Global) ys.
@@ -253,9 +265,9 @@ read_inside-returns-in_err-read_map-in-5-clause-does g t c =
     (StopsExactlyStepped map_name (StrictMapStops StopsExactly)) c.in-5.is
     (λ bs z rest h. h) c.in_err-read_map-in-5.ensures.does)
 
-pub read_inside-returns-in_err-number-in-6-clause-does :
-    goal.read_inside-returns-in_err-number-in-6-clause-does
-read_inside-returns-in_err-number-in-6-clause-does g t c =
+pub read_by_first-returns-in_err-number-in-6-clause-does :
+    goal.read_by_first-returns-in_err-number-in-6-clause-does
+read_by_first-returns-in_err-number-in-6-clause-does g t c =
     rw c.from_residual-in_err-number-in-6.ensures
     (exact_err c.in_ok-first.first (rw c.in_ok-first.ensures at c.peek.ensures.runs) 6 (λ xs (v : ℕ)
     ys. Unit {0})
@@ -264,9 +276,9 @@ read_inside-returns-in_err-number-in-6-clause-does g t c =
     (rw c.in_err-number-in-6.ensures at c.canonical_head.ensures.moves) (rw
     c.in_err-number-in-6.ensures at c.canonical_head.ensures.stops)))
 
-pub read_inside-returns-in_err-inner-in-6-clause-does :
-    goal.read_inside-returns-in_err-inner-in-6-clause-does
-read_inside-returns-in_err-inner-in-6-clause-does g t c =
+pub read_by_first-returns-in_err-inner-in-6-clause-does :
+    goal.read_by_first-returns-in_err-inner-in-6-clause-does
+read_by_first-returns-in_err-inner-in-6-clause-does g t c =
     rw c.from_residual-in_err-inner-in-6.ensures (exact_tag_err c.in_ok-first.first (rw
     c.in_ok-first.ensures at c.peek.ensures.runs)
     c.in_ok-number-in-6.number c.in-6.is (reached_shortest 6 c.in_ok-number-in-6.number
@@ -274,8 +286,8 @@ read_inside-returns-in_err-inner-in-6-clause-does g t c =
     c.in_ok-number-in-6.ensures at c.canonical_head.ensures.sound))
     c.in_err-inner-in-6.ensures.does)
 
-pub read_inside-returns-in-6-clause-does : goal.read_inside-returns-in-6-clause-does
-read_inside-returns-in-6-clause-does g t c =
+pub read_by_first-returns-in-6-clause-does : goal.read_by_first-returns-in-6-clause-does
+read_by_first-returns-in-6-clause-does g t c =
     does_no_memory (ReadsExactlyUnder (g.S.Source.view c.args.reader.now).budget)
     (StopsExactlyUnder (g.S.Source.view c.args.reader.now).budget) refl (kept_then (looked_at
     c.in_ok-first.first (rw c.in_ok-first.ensures at c.peek.ensures.runs) (ShortestAt 6
@@ -285,8 +297,8 @@ read_inside-returns-in-6-clause-does g t c =
     (rw c.in_ok-number-in-6.ensures at c.canonical_head.ensures.sound))).kept
     c.in_ok-inner-in-6.ensures.does.moves.by)
 
-pub read_inside-returns-in-Ok-clause-does : goal.read_inside-returns-in-Ok-clause-does
-read_inside-returns-in-Ok-clause-does g t c =
+pub read_by_first-returns-in-Ok-clause-does : goal.read_by_first-returns-in-Ok-clause-does
+read_by_first-returns-in-Ok-clause-does g t c =
     exact_tag c.in_ok-first.first (rw c.in_ok-first.ensures at c.peek.ensures.runs)
     c.in_ok-number-in-6.number
     (Tag c.in_ok-number-in-6.number c.in-Ok.boxed)
@@ -297,8 +309,8 @@ read_inside-returns-in-Ok-clause-does g t c =
     (rw c.in_ok-number-in-6.ensures at c.canonical_head.ensures.sound))
     c.in_ok-inner-in-6.ensures.does
 
-pub read_inside-returns-in-Some-clause-does : goal.read_inside-returns-in-Some-clause-does
-read_inside-returns-in-Some-clause-does g t c =
+pub read_by_first-returns-in-Some-clause-does : goal.read_by_first-returns-in-Some-clause-does
+read_by_first-returns-in-Some-clause-does g t c =
     simple_exact c.in_ok-first.first (rw c.in_ok-first.ensures at c.peek.ensures.runs) (rw
     c.in_ok-first.ensures at c.peek.ensures.byte)
     c.advance-in-Some.ensures c.if-first.false c.in-Some.ensures
@@ -337,29 +349,29 @@ pub read_member-returns-in_err-value-clause-progress :
 read_member-returns-in_err-value-clause-progress g t c =
     rw c.from_residual-in_err-value.ensures tt
 
-pub read_inside-returns-in_err-first-clause-progress :
-    goal.read_inside-returns-in_err-first-clause-progress
-read_inside-returns-in_err-first-clause-progress g t c =
+pub read_by_first-returns-in_err-first-clause-progress :
+    goal.read_by_first-returns-in_err-first-clause-progress
+read_by_first-returns-in_err-first-clause-progress g t c =
     rw c.from_residual.ensures tt
 
-pub read_inside-returns-in_err-read_array-in-4-clause-progress :
-    goal.read_inside-returns-in_err-read_array-in-4-clause-progress
-read_inside-returns-in_err-read_array-in-4-clause-progress g t c =
+pub read_by_first-returns-in_err-read_array-in-4-clause-progress :
+    goal.read_by_first-returns-in_err-read_array-in-4-clause-progress
+read_by_first-returns-in_err-read_array-in-4-clause-progress g t c =
     rw c.from_residual-in_err-read_array-in-4.ensures tt
 
-pub read_inside-returns-in_err-read_map-in-5-clause-progress :
-    goal.read_inside-returns-in_err-read_map-in-5-clause-progress
-read_inside-returns-in_err-read_map-in-5-clause-progress g t c =
+pub read_by_first-returns-in_err-read_map-in-5-clause-progress :
+    goal.read_by_first-returns-in_err-read_map-in-5-clause-progress
+read_by_first-returns-in_err-read_map-in-5-clause-progress g t c =
     rw c.from_residual-in_err-read_map-in-5.ensures tt
 
-pub read_inside-returns-in_err-number-in-6-clause-progress :
-    goal.read_inside-returns-in_err-number-in-6-clause-progress
-read_inside-returns-in_err-number-in-6-clause-progress g t c =
+pub read_by_first-returns-in_err-number-in-6-clause-progress :
+    goal.read_by_first-returns-in_err-number-in-6-clause-progress
+read_by_first-returns-in_err-number-in-6-clause-progress g t c =
     rw c.from_residual-in_err-number-in-6.ensures tt
 
-pub read_inside-returns-in_err-inner-in-6-clause-progress :
-    goal.read_inside-returns-in_err-inner-in-6-clause-progress
-read_inside-returns-in_err-inner-in-6-clause-progress g t c =
+pub read_by_first-returns-in_err-inner-in-6-clause-progress :
+    goal.read_by_first-returns-in_err-inner-in-6-clause-progress
+read_by_first-returns-in_err-inner-in-6-clause-progress g t c =
     rw c.from_residual-in_err-inner-in-6.ensures tt
 
 pub read_one-returns-then-not-step_in-clause-progress :
@@ -403,31 +415,31 @@ pub read_member-returns-clause-progress : goal.read_member-returns-clause-progre
 read_member-returns-clause-progress g t c =
     omega (arith, c.in_ok-key.ensures.progress, c.in_ok-value.ensures.progress)
 
-pub read_inside-returns-then-first-clause-progress :
-    goal.read_inside-returns-then-first-clause-progress
-read_inside-returns-then-first-clause-progress g t c = tt
+pub read_by_first-returns-then-first-clause-progress :
+    goal.read_by_first-returns-then-first-clause-progress
+read_by_first-returns-then-first-clause-progress g t c = tt
 
-pub read_inside-returns-in-6-clause-progress : goal.read_inside-returns-in-6-clause-progress
-read_inside-returns-in-6-clause-progress g t c = tt
+pub read_by_first-returns-in-6-clause-progress : goal.read_by_first-returns-in-6-clause-progress
+read_by_first-returns-in-6-clause-progress g t c = tt
 
-pub read_inside-returns-in-4-clause-progress : goal.read_inside-returns-in-4-clause-progress
-read_inside-returns-in-4-clause-progress g t c =
+pub read_by_first-returns-in-4-clause-progress : goal.read_by_first-returns-in-4-clause-progress
+read_by_first-returns-in-4-clause-progress g t c =
     omega (
       arith,
       (rw c.in_ok-first.ensures at c.peek.ensures.runs).moves.by.bound,
       c.in_ok-read_array-in-4.ensures.progress,
     )
 
-pub read_inside-returns-in-5-clause-progress : goal.read_inside-returns-in-5-clause-progress
-read_inside-returns-in-5-clause-progress g t c =
+pub read_by_first-returns-in-5-clause-progress : goal.read_by_first-returns-in-5-clause-progress
+read_by_first-returns-in-5-clause-progress g t c =
     omega (
       arith,
       (rw c.in_ok-first.ensures at c.peek.ensures.runs).moves.by.bound,
       c.in_ok-read_map-in-5.ensures.progress,
     )
 
-pub read_inside-returns-in-Ok-clause-progress : goal.read_inside-returns-in-Ok-clause-progress
-read_inside-returns-in-Ok-clause-progress g t c =
+pub read_by_first-returns-in-Ok-clause-progress : goal.read_by_first-returns-in-Ok-clause-progress
+read_by_first-returns-in-Ok-clause-progress g t c =
     omega (
       arith,
       (rw c.in_ok-first.ensures at c.peek.ensures.runs).moves.by.bound,
@@ -435,14 +447,14 @@ read_inside-returns-in-Ok-clause-progress g t c =
       c.in_ok-inner-in-6.ensures.progress,
     )
 
-pub read_inside-returns-in-7-clause-progress : goal.read_inside-returns-in-7-clause-progress
-read_inside-returns-in-7-clause-progress g t c =
+pub read_by_first-returns-in-7-clause-progress : goal.read_by_first-returns-in-7-clause-progress
+read_by_first-returns-in-7-clause-progress g t c =
     behind _ _ _ c.part-in-None.result _ (rw c.in_ok-first.ensures at
     c.peek.ensures.runs).moves.by.bound
     (rw c.part-in-None.ensures at c.read_float.ensures.progress)
 
-pub read_inside-returns-clause-progress : goal.read_inside-returns-clause-progress
-read_inside-returns-clause-progress g t c =
+pub read_by_first-returns-clause-progress : goal.read_by_first-returns-clause-progress
+read_by_first-returns-clause-progress g t c =
     behind _ _ _ c.part-in_default.result _ (rw c.in_ok-first.ensures at
     c.peek.ensures.runs).moves.by.bound
     (rw c.part-in_default.ensures at c.read_leaf.ensures.progress)
@@ -461,14 +473,16 @@ counted_members-returns-then-is_err g t c =
     (StopsExactItems (2 * c.args.count) (g.S.Source.view c.args.reader.now).budget) refl
     (kept_alike _)
 
-pub read_inside-read_float-requires-clause-other : goal.read_inside-read_float-requires-clause-other
-read_inside-read_float-requires-clause-other g t c = c.in-None.ensures
+pub read_by_first-read_float-requires-clause-other :
+    goal.read_by_first-read_float-requires-clause-other
+read_by_first-read_float-requires-clause-other g t c = c.in-None.ensures
 
-pub read_inside-read_float-requires-clause-major : goal.read_inside-read_float-requires-clause-major
-read_inside-read_float-requires-clause-major g t c = omega (arith, c.in-7.is)
+pub read_by_first-read_float-requires-clause-major :
+    goal.read_by_first-read_float-requires-clause-major
+read_by_first-read_float-requires-clause-major g t c = omega (arith, c.in-7.is)
 
-pub read_inside-simple_of-requires : goal.read_inside-simple_of-requires
-read_inside-simple_of-requires g t c = tt
+pub read_by_first-simple_of-requires : goal.read_by_first-simple_of-requires
+read_by_first-simple_of-requires g t c = tt
 
 pub counted_items-loop-i-smaller : goal.counted_items-loop-i-smaller
 counted_items-loop-i-smaller g t c = omega (arith, c.loop-i-test.true)
@@ -476,8 +490,9 @@ counted_items-loop-i-smaller g t c = omega (arith, c.loop-i-test.true)
 pub counted_members-loop-i-smaller : goal.counted_members-loop-i-smaller
 counted_members-loop-i-smaller g t c = omega (arith, c.loop-i-test.true)
 
-pub read_inside-returns-in-Some-clause-progress : goal.read_inside-returns-in-Some-clause-progress
-read_inside-returns-in-Some-clause-progress g t c =
+pub read_by_first-returns-in-Some-clause-progress :
+    goal.read_by_first-returns-in-Some-clause-progress
+read_by_first-returns-in-Some-clause-progress g t c =
     omega (
       arith,
       (rw c.in_ok-first.ensures at c.peek.ensures.runs).moves.by.bound,
@@ -504,5 +519,5 @@ counted_members-returns g t c =
     c.loop-i.members.items ys) (g.S.Source.view c.args.reader.now)
     (g.S.Source.view c.loop-i.reader)) e c.loop-i.invariant)
 
-pub read_inside-advance-requires-in-Some : goal.read_inside-advance-requires-in-Some
-read_inside-advance-requires-in-Some g t c = (rw c.in_ok-first.ensures at c.peek.ensures.can)
+pub read_by_first-advance-requires-in-Some : goal.read_by_first-advance-requires-in-Some
+read_by_first-advance-requires-in-Some g t c = (rw c.in_ok-first.ensures at c.peek.ensures.can)

@@ -38,7 +38,8 @@ use Rattle.cbor4ii_tree.proofs.decode_value.+read.Goals as goal
 
 pub read_inside-returns-in-Some-None-clause-does : goal.read_inside-returns-in-Some-None-clause-does
 read_inside-returns-in-Some-None-clause-does g t c =
-    after_look _ c.in-Some-None.field-0-is c.in-Some-None.ensures.takes c.read_by_first.ensures.does
+    after_look ReadsUnder StopsUnder _ c.in-Some-None.field-0-is c.in-Some-None.ensures.takes
+    c.read_by_first.ensures.does
 
 pub array_inside-returns-in-None-clause-does : goal.array_inside-returns-in-None-clause-does
 array_inside-returns-in-None-clause-does g t c =
@@ -577,7 +578,8 @@ pub read_array-returns-then-not-step_in-clause-progress :
     goal.read_array-returns-then-not-step_in-clause-progress
 read_array-returns-then-not-step_in-clause-progress g t c = tt
 
-pub read_by_first-returns-in_err-first-clause-item : goal.read_by_first-returns-in_err-first-clause-item
+pub read_by_first-returns-in_err-first-clause-item :
+    goal.read_by_first-returns-in_err-first-clause-item
 read_by_first-returns-in_err-first-clause-item g t c =
     rw c.from_residual.ensures tt
 
@@ -822,10 +824,12 @@ read_by_first-returns-clause-progress g t c =
 pub read_by_first-advance-requires : goal.read_by_first-advance-requires
 read_by_first-advance-requires g t c = (rw c.in_ok-first.ensures at c.peek.ensures.can)
 
-pub read_by_first-read_float-requires-clause-other : goal.read_by_first-read_float-requires-clause-other
+pub read_by_first-read_float-requires-clause-other :
+    goal.read_by_first-read_float-requires-clause-other
 read_by_first-read_float-requires-clause-other g t c = c.in-None.ensures
 
-pub read_by_first-read_float-requires-clause-major : goal.read_by_first-read_float-requires-clause-major
+pub read_by_first-read_float-requires-clause-major :
+    goal.read_by_first-read_float-requires-clause-major
 read_by_first-read_float-requires-clause-major g t c = omega (arith, c.in-7.is)
 
 pub read_by_first-simple_of-requires : goal.read_by_first-simple_of-requires
@@ -837,7 +841,8 @@ counted_items-loop-i-smaller g t c = omega (arith, c.loop-i-test.true)
 pub counted_members-loop-i-smaller : goal.counted_members-loop-i-smaller
 counted_members-loop-i-smaller g t c = omega (arith, c.loop-i-test.true)
 
-pub read_by_first-returns-in-Some-clause-progress : goal.read_by_first-returns-in-Some-clause-progress
+pub read_by_first-returns-in-Some-clause-progress :
+    goal.read_by_first-returns-in-Some-clause-progress
 read_by_first-returns-in-Some-clause-progress g t c =
     omega (
       arith,
@@ -863,7 +868,8 @@ counted_members-returns-clause-does g t c =
     c.loop-i.members.items ys) (g.S.Source.view c.args.reader.now)
     (g.S.Source.view c.loop-i.reader)) e c.loop-i.invariant.reached)
 
-pub read_by_first-returns-in_err-first-clause-does : goal.read_by_first-returns-in_err-first-clause-does
+pub read_by_first-returns-in_err-first-clause-does :
+    goal.read_by_first-returns-in_err-first-clause-does
 read_by_first-returns-in_err-first-clause-does g t c =
     let budget = (g.S.Source.view c.args.reader.now).budget in
     rw c.from_residual.ensures (nothing_there (ReadsUnder budget) (StopsUnder budget)

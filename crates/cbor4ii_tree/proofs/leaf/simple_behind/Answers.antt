@@ -1,4 +1,4 @@
-use Rattle.std.proofs.Common.{refl, sym, ◌∙◌, ap, subst, arith, w8}
+use Rattle.std.proofs.Common.{refl, subst, arith, w8}
 use Rattle.std.proofs.Math.Facts.{Fits-lt-pow}
 use Rattle.cbor4ii_items.specs.Initial.{half, single, double}
 use Rattle.cbor4ii_tree.specs.Valuing.{SimpleOf}
@@ -28,5 +28,6 @@ returns-in-251 c =
 
 pub returns-in-Some : goal.returns-in-Some
 returns-in-Some c =
-    simple_ahead c.args.first c.args.behind.now c.in-Some.value (omega arith)
+    simple_ahead c.args.first c.args.number c.args.size c.args.behind.now
+    c.in-Some.value (omega arith)
     (subst (SimpleOf c.args.first) c.in-Some.is c.simple_of.ensures)

@@ -15,7 +15,8 @@ returns-then-first-eq-BYTES c =
     (shown_bytes c.args.behind.now (λ i. Fits-lt-pow {w = w8} (c.type_inv.behind i)))
     c.requires.argument byte_string _ _ c.in-Some.content.items (omega arith) (omega arith)
     (omega arith)
-    (c.in-Some.ensures ∙ ap (take c.args.number) (take_rest c.args.behind.now c.args.size)) tt (sym (view-Bytes c.in-Some.content))
+    (c.in-Some.ensures ∙ ap (take c.args.number) (take_rest c.args.behind.now c.args.size)) tt
+    (sym (view-Bytes c.in-Some.content))
     (bytes_item_is c.in-Some.content)
 
 pub returns-in-Ok : goal.returns-in-Ok
@@ -24,5 +25,6 @@ returns-in-Ok c =
     (shown_bytes c.args.behind.now (λ i. Fits-lt-pow {w = w8} (c.type_inv.behind i)))
     c.requires.argument text_string _ _ (string_bytes c.in-Ok.text) (omega arith) (omega arith)
     (omega arith) (ap (λ (v : Vec ℕ Global). v.items) c.in-Ok.ensures.ok
-    ∙ c.in-Some.ensures ∙ ap (take c.args.number) (take_rest c.args.behind.now c.args.size)) (IsUtf8-string_bytes c.in-Ok.text)
+    ∙ c.in-Some.ensures ∙ ap (take c.args.number) (take_rest c.args.behind.now c.args.size))
+    (IsUtf8-string_bytes c.in-Ok.text)
     (sym (view-Text c.in-Ok.text)) (text_item c.in-Ok.text)

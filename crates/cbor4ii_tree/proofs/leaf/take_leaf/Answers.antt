@@ -1,15 +1,24 @@
-use Rattle.cbor4ii_tree.proofs.values.Leaves.{takes_leaf, leaf_item, no_content}
+use Rattle.cbor4ii_tree.proofs.values.Leaves.{takes_leaf, takes_exact_leaf, leaf_item, no_content}
 use Rattle.cbor4ii_tree.proofs.leaf.take_leaf.Goals as goal
 
 pub returns-in-Ok-Whole-clause-takes : goal.returns-in-Ok-Whole-clause-takes
 returns-in-Ok-Whole-clause-takes g c =
-    takes_leaf _ _ c.in-Ok-Whole.field-0-is c.in-Ok-Whole.ensures.offers c.advance.ensures
+    takes_leaf _ _ _ c.in-Ok-Whole.field-0-is c.in-Ok-Whole.ensures.offers c.advance.ensures
 
 pub returns-in-Ok-Whole-clause-item : goal.returns-in-Ok-Whole-clause-item
 returns-in-Ok-Whole-clause-item g c =
-    leaf_item _ _ c.in-Ok-Whole.field-0-is c.in-Ok-Whole.ensures.offers
+    leaf_item _ _ _ c.in-Ok-Whole.field-0-is c.in-Ok-Whole.ensures.offers
 
 pub returns-in-Ok-NoMemory-clause-takes : goal.returns-in-Ok-NoMemory-clause-takes
 returns-in-Ok-NoMemory-clause-takes g c =
-    no_content _ c.in-Ok-NoMemory.field-0-is c.in-Ok-NoMemory.ensures.offers
+    no_content _ _ _ _ c.in-Ok-NoMemory.field-0-is c.in-Ok-NoMemory.ensures.offers
+    c.advance-in-Ok-NoMemory.ensures
+
+pub returns-in-Ok-Whole-clause-exactly : goal.returns-in-Ok-Whole-clause-exactly
+returns-in-Ok-Whole-clause-exactly g c =
+    takes_exact_leaf _ _ _ c.in-Ok-Whole.field-0-is c.in-Ok-Whole.ensures.offers c.advance.ensures
+
+pub returns-in-Ok-NoMemory-clause-exactly : goal.returns-in-Ok-NoMemory-clause-exactly
+returns-in-Ok-NoMemory-clause-exactly g c exact =
+    no_content _ _ _ _ c.in-Ok-NoMemory.field-0-is c.in-Ok-NoMemory.ensures.offers
     c.advance-in-Ok-NoMemory.ensures
