@@ -20,7 +20,7 @@ ghost use Rattle.cbor4ii_tree.specs.Laws.Values.{value_one, value_within, value_
 ghost use Rattle.cbor4ii_tree.specs.Laws.Values.{value_alone};
 
 use crate::front::Own;
-use crate::leaf::take_leaf;
+use crate::leaf::{take_leaf, take_run};
 use crate::simple::{read_float, simple_of};
 use crate::slot::{leave, part, whole};
 use crate::unseen::peek;
@@ -132,6 +132,28 @@ fn read_value<S: Source>(
         return None;
     }
     let outcome = read_inside(alloc, reader, failure);
+    reader.step_out();
+    outcome
+}
+
+/// As `read_value`, of a value that one look has not decided.
+#[cycle(read)]
+#[inline(always)]
+fn read_nested<S: Source>(
+    alloc: Global,
+    reader: &mut S,
+    failure: &mut Option<DecodeError<S::Error>>,
+) -> Option<Value>
+    ensures does { DoesUnder ReadsOneValue StopsOneValue (S.view reader.old) (S.view reader.new)
+        (answered result failure.new) }
+    ensures item { IfSome result (λ v. IsItem (view v)) }
+    ensures progress { OnSome result ((S.view reader.new).bound + 1 ≤ (S.view reader.old).bound) }
+{
+    if !reader.step_in() {
+        leave(DecodeError::DepthOverflow { name: "value" }, failure);
+        return None;
+    }
+    let outcome = read_by_first(alloc, reader, failure);
     reader.step_out();
     outcome
 }
@@ -275,9 +297,12 @@ fn counted_items<S: Source>(
         *failure = None;
         return None;
     }
-    for i in 0..count {
-        let value = read_value(alloc, reader, failure)?;
-        keep(&mut items, value, failure)?;
+    while items.len() < count {
+        take_run(alloc, reader, count, &mut items, failure)?;
+        if items.len() < count {
+            let value = read_nested(alloc, reader, failure)?;
+            keep(&mut items, value, failure)?;
+        }
     }
     Some(items)
 }

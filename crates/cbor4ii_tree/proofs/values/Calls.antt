@@ -79,7 +79,7 @@ pub none : (budget : Budget) (xs : List ℕ) (vs : List Value) → vs ≡ []
     → ReadsItems 0 budget xs vs xs
 none budget xs vs e = (no_trees, refl, tt, sym (ap items_view e), refl)
 
-items_more : (n : ℕ) (budget : Budget) (vs ws : List Value) (v : Value) (xs ys zs : List ℕ)
+pub items_more : (n : ℕ) (budget : Budget) (vs ws : List Value) (v : Value) (xs ys zs : List ℕ)
     → ws ≡ vs ++ v ∷ [] → ReadsItems n budget xs vs ys → ReadsOneValue budget ys v zs
     → ReadsItems (n + 1) budget xs ws zs
 items_more n budget vs ws v xs ys zs is h k = (

@@ -1,4 +1,4 @@
-use Rattle.std.proofs.Common.{inl, refl, ap, subst, arith, ◌∙◌, ◌+◌, ◌∷◌, ◌≡◌}
+use Rattle.std.proofs.Common.{length, [], sym, length-append, inl, refl, ap, subst, arith, ◌∙◌, ◌+◌, ◌∷◌, ◌≡◌}
 use Rattle.cbor4ii_tree.specs.Does.{refusal_left}
 use Rattle.cbor4ii_tree.specs.Valuing.{ReadsOneValue, StopsOneValue, ReadsMember, StopsMember}
 use Rattle.cbor4ii_tree.specs.Valuing.{StopsMembers, StopsFirst, ReadsStepped, StopsOf, ReadsItems}
@@ -34,6 +34,7 @@ use Rattle.cbor4ii_items.specs.Laws.Running.{kept_alike}
 use Rattle.cbor4ii_tree.proofs.values.Answered.{went_on, around, behind, found}
 use Rattle.cbor4ii_tree.proofs.values.Ends.{nothing_there}
 use Rattle.cbor4ii_tree.proofs.values.Leaves.{after_look}
+use Rattle.cbor4ii_tree.proofs.values.LeafRuns.{none_yet, none_too_many, ran, run_stops}
 use Rattle.cbor4ii_tree.proofs.decode_value.+read.Goals as goal
 
 pub read_inside-returns-in-Some-None-clause-does : goal.read_inside-returns-in-Some-None-clause-does
@@ -62,32 +63,6 @@ array_inside-returns-in_err-count-clause-does g t c =
     (g.S.Source.view c.args.reader.now).budget z rest) (rw c.in_err-count.ensures at
     c.len.ensures.moves)
     (rw c.in_err-count.ensures at c.len.ensures.stops))
-
-pub counted_items-loop-i-init : goal.counted_items-loop-i-init
-counted_items-loop-i-init g t c = record {
-  reached =
-      reached_start (λ xs ys. ReadsItems 0 (g.S.Source.view c.args.reader.now).budget xs _ ys) _
-      (λ xs. none (g.S.Source.view c.args.reader.now).budget xs _ (cc));
-  items = items_none (cc);
-}
-
-pub counted_items-loop-i-preserved : goal.counted_items-loop-i-preserved
-counted_items-loop-i-preserved g t c = record {
-  reached =
-      counted_more c.loop-i.i c.loop-i.items.items c.loop-i.invariant.reached _
-      c.in_ok-keep.ensures.kept c.in_ok-value.ensures.does;
-  items =
-      items_are _ c.loop-i.items.items c.in_ok-value.value c.in_ok-keep.ensures.kept
-      c.loop-i.invariant.items c.in_ok-value.ensures.item;
-}
-
-pub counted_items-returns-in_err-value-clause-does :
-    goal.counted_items-returns-in_err-value-clause-does
-counted_items-returns-in_err-value-clause-does g t c =
-    rw c.from_residual.ensures (counted_stop c.loop-i.i c.loop-i.items.items
-    c.loop-i.invariant.reached
-    (λ xs v ys. ReadsItems c.args.count (g.S.Source.view c.args.reader.now).budget xs
-    v.items ys) c.args.count c.loop-i-test.true c.in_err-value.ensures.does)
 
 pub counted_members-loop-i-init : goal.counted_members-loop-i-init
 counted_members-loop-i-init g t c = record {
@@ -447,14 +422,6 @@ read_value-returns-clause-does g t c =
     stepped c.if-not-step_in.ensures.budget c.step_in.ensures.others
     c.read_inside-outcome.ensures.does c.step_out.ensures.budget c.step_out.ensures.others
 
-pub counted_items-returns-in_err-keep-clause-does :
-    goal.counted_items-returns-in_err-keep-clause-does
-counted_items-returns-in_err-keep-clause-does g t c =
-    rw c.from_residual-in_err-keep.ensures (does_no_memory (λ xs v ys. ReadsItems c.args.count
-    (g.S.Source.view c.args.reader.now).budget xs v.items ys) (StopsItems c.args.count
-    (g.S.Source.view c.args.reader.now).budget) (ap refusal_left c.in_err-keep.ensures.memory)
-    (kept_then c.loop-i.invariant.reached.kept c.in_ok-value.ensures.does.moves.by))
-
 pub counted_members-returns-in_err-keep-clause-does :
     goal.counted_members-returns-in_err-keep-clause-does
 counted_members-returns-in_err-keep-clause-does g t c =
@@ -504,20 +471,6 @@ pub array_inside-returns-in_err-count-clause-progress :
     goal.array_inside-returns-in_err-count-clause-progress
 array_inside-returns-in_err-count-clause-progress g t c =
     rw c.from_residual.ensures tt
-
-pub counted_items-returns-then-is_err-clause-items :
-    goal.counted_items-returns-then-is_err-clause-items
-counted_items-returns-then-is_err-clause-items g t c = tt
-
-pub counted_items-returns-in_err-value-clause-items :
-    goal.counted_items-returns-in_err-value-clause-items
-counted_items-returns-in_err-value-clause-items g t c =
-    rw c.from_residual.ensures tt
-
-pub counted_items-returns-in_err-keep-clause-items :
-    goal.counted_items-returns-in_err-keep-clause-items
-counted_items-returns-in_err-keep-clause-items g t c =
-    rw c.from_residual-in_err-keep.ensures tt
 
 pub counted_members-returns-then-is_err-clause-items :
     goal.counted_members-returns-then-is_err-clause-items
@@ -677,22 +630,12 @@ pub read_value-returns-then-not-step_in-clause-progress :
     goal.read_value-returns-then-not-step_in-clause-progress
 read_value-returns-then-not-step_in-clause-progress g t c = tt
 
-pub counted_items-returns-then-is_err-clause-does :
-    goal.counted_items-returns-then-is_err-clause-does
-counted_items-returns-then-is_err-clause-does g t c =
-    does_no_memory (λ xs v ys.
-    ReadsItems c.args.count (g.S.Source.view c.args.reader.now).budget xs v.items ys)
-    (StopsItems c.args.count (g.S.Source.view c.args.reader.now).budget) refl (kept_alike _)
-
 pub counted_members-returns-then-is_err-clause-does :
     goal.counted_members-returns-then-is_err-clause-does
 counted_members-returns-then-is_err-clause-does g t c =
     does_no_memory (λ xs v ys.
     ReadsMembers c.args.count (g.S.Source.view c.args.reader.now).budget xs v.items ys)
     (StopsMembers c.args.count (g.S.Source.view c.args.reader.now).budget) refl (kept_alike _)
-
-pub counted_items-returns-clause-items : goal.counted_items-returns-clause-items
-counted_items-returns-clause-items g t c = c.loop-i.invariant.items
 
 pub counted_members-returns-clause-items : goal.counted_members-returns-clause-items
 counted_members-returns-clause-items g t c = c.loop-i.invariant.items
@@ -835,9 +778,6 @@ read_by_first-read_float-requires-clause-major g t c = omega (arith, c.in-7.is)
 pub read_by_first-simple_of-requires : goal.read_by_first-simple_of-requires
 read_by_first-simple_of-requires g t c = tt
 
-pub counted_items-loop-i-smaller : goal.counted_items-loop-i-smaller
-counted_items-loop-i-smaller g t c = omega (arith, c.loop-i-test.true)
-
 pub counted_members-loop-i-smaller : goal.counted_members-loop-i-smaller
 counted_members-loop-i-smaller g t c = omega (arith, c.loop-i-test.true)
 
@@ -849,15 +789,6 @@ read_by_first-returns-in-Some-clause-progress g t c =
       (rw c.in_ok-first.ensures at c.peek.ensures.runs).moves.by.bound,
       c.advance.ensures.bound,
     )
-
-pub counted_items-returns-clause-does : goal.counted_items-returns-clause-does
-counted_items-returns-clause-does g t c =
-    let e : c.loop-i.i ≡ c.args.count = omega (arith, c.loop-i-test.false, c.loop-i.auto.i-end) in
-    does_ok (λ xs v ys. ReadsItems c.args.count (g.S.Source.view c.args.reader.now).budget xs
-    v.items ys) (StopsItems c.args.count (g.S.Source.view c.args.reader.now).budget)
-    (subst (λ n. Reached (λ xs ys. ReadsItems n (g.S.Source.view c.args.reader.now).budget xs
-    c.loop-i.items.items ys) (g.S.Source.view c.args.reader.now)
-    (g.S.Source.view c.loop-i.reader)) e c.loop-i.invariant.reached)
 
 pub counted_members-returns-clause-does : goal.counted_members-returns-clause-does
 counted_members-returns-clause-does g t c =
@@ -890,3 +821,111 @@ open_members-loop-members-smaller g t c =
       (rw c.in_ok-part.ensures at c.is_break.ensures.moves).by.bound,
       c.in_ok-member.ensures.progress,
     )
+
+pub read_nested-returns-clause-does : goal.read_nested-returns-clause-does
+read_nested-returns-clause-does g t c =
+    stepped c.if-not-step_in.ensures.budget c.step_in.ensures.others
+    c.read_by_first-outcome.ensures.does c.step_out.ensures.budget c.step_out.ensures.others
+
+pub read_nested-returns-then-not-step_in-clause-item :
+    goal.read_nested-returns-then-not-step_in-clause-item
+read_nested-returns-then-not-step_in-clause-item g t c = tt
+
+pub read_nested-returns-then-not-step_in-clause-progress :
+    goal.read_nested-returns-then-not-step_in-clause-progress
+read_nested-returns-then-not-step_in-clause-progress g t c = tt
+
+pub read_nested-returns-clause-item : goal.read_nested-returns-clause-item
+read_nested-returns-clause-item g t c = c.read_by_first-outcome.ensures.item
+
+pub read_nested-returns-clause-progress : goal.read_nested-returns-clause-progress
+read_nested-returns-clause-progress g t c =
+    around _ _ _ _ _ c.step_in.ensures.others.bound c.step_out.ensures.others.bound
+    c.read_by_first-outcome.ensures.progress
+
+pub read_nested-returns-then-not-step_in-clause-does :
+    goal.read_nested-returns-then-not-step_in-clause-does
+read_nested-returns-then-not-step_in-clause-does g t c =
+    rw c.leave.ensures (does_no_step value_name (ReadsOneValue (g.S.Source.view
+    c.args.reader.now).budget)
+    (StopsOneValue (g.S.Source.view c.args.reader.now).budget) refl refl
+    (λ none xs. rw none (refl, refl)) c.if-not-step_in.ensures.budget c.step_in.ensures.others)
+
+-- ---- an array whose items are counted
+
+pub counted_items-loop-alloc-init : goal.counted_items-loop-alloc-init
+counted_items-loop-alloc-init g t c = record {
+  reached =
+      reached_start (λ xs ys. ReadsItems (length c.reserve.new.self.items)
+      (g.S.Source.view c.args.reader.now).budget xs c.reserve.new.self.items ys) _
+      (none_yet (g.S.Source.view c.args.reader.now).budget _ (cc));
+  items = items_none (cc);
+  few = none_too_many _ c.args.count (cc);
+}
+
+pub counted_items-returns-in_err-take_run-clause-does :
+    goal.counted_items-returns-in_err-take_run-clause-does
+counted_items-returns-in_err-take_run-clause-does g t c =
+    rw c.from_residual.ensures (run_stops c.loop-alloc.items.items c.take_run.new.items.items
+    c.loop-alloc.invariant.reached (λ xs v ys. ReadsItems c.args.count (g.S.Source.view
+    c.args.reader.now).budget xs v.items ys) (StopsItems c.args.count (g.S.Source.view
+    c.args.reader.now).budget) c.in_err-take_run.ensures.puts)
+
+pub counted_items-returns-in_err-value-clause-does :
+    goal.counted_items-returns-in_err-value-clause-does
+counted_items-returns-in_err-value-clause-does g t c =
+    rw c.from_residual-in_err-value.ensures (counted_stop (length c.take_run.new.items.items)
+    c.take_run.new.items.items (ran c.loop-alloc.items.items c.take_run.new.items.items
+    c.loop-alloc.invariant.reached c.in_ok-take_run.ensures.puts)
+    (λ xs v ys. ReadsItems c.args.count (g.S.Source.view c.args.reader.now).budget xs
+    v.items ys) c.args.count (omega (arith, c.if-len-count.true)) c.in_err-value.ensures.does)
+
+pub counted_items-loop-alloc-smaller-in-Continue-branch-3 :
+    goal.counted_items-loop-alloc-smaller-in-Continue-branch-3
+counted_items-loop-alloc-smaller-in-Continue-branch-3 g t c =
+    omega (
+      arith,
+      c.if-len-count.true,
+      c.in_ok-take_run.ensures.more,
+      ap length c.in_ok-keep.ensures.kept,
+      length-append c.take_run.new.items.items (c.in_ok-value.value ∷ []),
+    )
+
+pub counted_items-loop-alloc-preserved-in-Continue-branch-3 :
+    goal.counted_items-loop-alloc-preserved-in-Continue-branch-3
+counted_items-loop-alloc-preserved-in-Continue-branch-3 g t c =
+    let long : length c.keep.new.items.items ≡ length c.take_run.new.items.items + 1 =
+    ap length c.in_ok-keep.ensures.kept
+    ∙ length-append c.take_run.new.items.items (c.in_ok-value.value ∷ []) in
+    record {
+      reached =
+          subst (λ n. Reached (λ xs ys. ReadsItems n (g.S.Source.view c.args.reader.now).budget xs
+          c.keep.new.items.items ys) (g.S.Source.view c.args.reader.now)
+          (g.S.Source.view c.read_nested.new.reader)) (sym long)
+          (counted_more (length c.take_run.new.items.items) c.take_run.new.items.items
+          (ran c.loop-alloc.items.items c.take_run.new.items.items c.loop-alloc.invariant.reached
+          c.in_ok-take_run.ensures.puts) _ c.in_ok-keep.ensures.kept c.in_ok-value.ensures.does);
+      items =
+          items_are _ c.take_run.new.items.items c.in_ok-value.value c.in_ok-keep.ensures.kept
+          (c.in_ok-take_run.ensures.items c.loop-alloc.invariant.items) c.in_ok-value.ensures.item;
+      few = omega (arith, long, c.if-len-count.true);
+    }
+
+pub counted_items-returns-in_err-keep-clause-does :
+    goal.counted_items-returns-in_err-keep-clause-does
+counted_items-returns-in_err-keep-clause-does g t c =
+    rw c.from_residual-in_err-keep.ensures (does_no_memory (λ xs v ys. ReadsItems c.args.count
+    (g.S.Source.view c.args.reader.now).budget xs v.items ys) (StopsItems c.args.count
+    (g.S.Source.view c.args.reader.now).budget) (ap refusal_left c.in_err-keep.ensures.memory)
+    (kept_then (ran c.loop-alloc.items.items c.take_run.new.items.items
+    c.loop-alloc.invariant.reached c.in_ok-take_run.ensures.puts).kept
+    c.in_ok-value.ensures.does.moves.by))
+
+pub counted_items-loop-alloc-preserved : goal.counted_items-loop-alloc-preserved
+counted_items-loop-alloc-preserved g t c = record {
+  reached =
+      ran c.loop-alloc.items.items c.take_run.new.items.items c.loop-alloc.invariant.reached
+      c.in_ok-take_run.ensures.puts;
+  items = c.in_ok-take_run.ensures.items c.loop-alloc.invariant.items;
+  few = c.in_ok-take_run.ensures.few;
+}

@@ -1,4 +1,4 @@
-use Rattle.std.proofs.Common.{◌+◌, ◌*◌}
+use Rattle.std.proofs.Common.{◌+◌, ◌-◌, ◌*◌, ◌≤◌, length}
 use Rattle.cbor4ii_tree.specs.Valuing.{ReadsItems, ReadsMembers}
 use Rattle.cbor4ii_tree.specs.Item.{AreItems, AreMembers}
 use Rattle.cbor4ii_tree.specs.View.{items_view, members_view}
@@ -8,6 +8,9 @@ use Rattle.cbor4ii_tree.proofs.decode_value.+read.Given as goal
 
 abbrev pub decreases-read_value : goal.decreases-read_value
 decreases-read_value g l = 7 * (g.S.Source.view l.reader.now).bound + 4
+
+abbrev pub decreases-read_nested : goal.decreases-read_nested
+decreases-read_nested g l = 7 * (g.S.Source.view l.reader.now).bound + 3
 
 abbrev pub decreases-read_inside : goal.decreases-read_inside
 decreases-read_inside g l = 7 * (g.S.Source.view l.reader.now).bound + 3
@@ -42,13 +45,17 @@ decreases-open_members g l = 7 * (g.S.Source.view l.reader.now).bound + 6
 abbrev pub decreases-read_member : goal.decreases-read_member
 decreases-read_member g l = 7 * (g.S.Source.view l.reader.now).bound + 5
 
-abbrev pub invariant-counted_items-loop-i : goal.invariant-counted_items-loop-i
-invariant-counted_items-loop-i g l = record {
-  reached : Reached (λ xs ys. ReadsItems l.i
+abbrev pub invariant-counted_items-loop-alloc : goal.invariant-counted_items-loop-alloc
+invariant-counted_items-loop-alloc g l = record {
+  reached : Reached (λ xs ys. ReadsItems (length l.items.items)
       (g.S.Source.view l.fn.reader).budget xs l.items.items ys) (g.S.Source.view l.fn.reader)
       (g.S.Source.view l.reader);
   items : AreItems (items_view l.items.items);
+  few : length l.items.items ≤ l.count;
 }
+
+abbrev pub decreases-counted_items-loop-alloc : goal.decreases-counted_items-loop-alloc
+decreases-counted_items-loop-alloc g l = l.count - length l.items.items
 
 abbrev pub invariant-counted_members-loop-i : goal.invariant-counted_members-loop-i
 invariant-counted_members-loop-i g l = record {
