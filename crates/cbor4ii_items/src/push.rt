@@ -123,10 +123,21 @@ pub(crate) fn push_signed_integer<W: Write>(
 ) -> Result<(), EncodeError<W::Error>>
     ensures { Writes W.whole (signed_bytes value) (W.view writer.old) (W.view writer.new) result }
 {
+    let (major, tag, number) = integer_parts(value);
+    push_integer(writer, major, tag, number)
+}
+
+/// The major type of an integer, the tag of a bignum of its sign, and the number from 0 on that
+/// stands for it.
+#[inline(always)]
+fn integer_parts(value: i128) -> (u8, u8, u128)
+    ensures major { result.0 < 8 }
+    ensures bytes { integer_bytes result.0 result.1 result.2 ≡ signed_bytes value }
+{
     if value >= 0 {
-        push_integer(writer, major::UNSIGNED, POSITIVE_BIGNUM, nonnegative(value))
+        (major::UNSIGNED, POSITIVE_BIGNUM, nonnegative(value))
     } else {
-        push_integer(writer, major::NEGATIVE, NEGATIVE_BIGNUM, beyond(value))
+        (major::NEGATIVE, NEGATIVE_BIGNUM, beyond(value))
     }
 }
 
