@@ -1,6 +1,7 @@
 //! Values, written.
 ghost use Rattle.std.specs.Prelude.{◌++◌, ℕ, List, OnOk, OnSome, IfNone, IsSome};
 ghost use Rattle.cbor4ii_items.specs.Writing.{Writes};
+ghost use Rattle.cbor4ii_items.specs.Numbers.{shortest_head};
 ghost use Rattle.cbor4ii_items.specs.SequenceBytes.{items_bytes};
 ghost use Rattle.cbor4ii_items.specs.Decoding.{CostFits};
 ghost use Rattle.cbor4ii_tree.specs.Cost.{Budget};
@@ -62,25 +63,68 @@ fn put_value<W: Write>(
     ensures failed { IfNone result (IsSome failure.new) }
 {
     match value {
-        Value::Null => part(Null.encode(writer), failure),
-        Value::Bool(flag) => part(flag.encode(writer), failure),
-        Value::Integer(n) => part(put_integer(writer, *n), failure),
-        Value::Float(bits) => part(put_float(writer, *bits), failure),
-        Value::Bytes(content) => part(Bytes(content.as_slice()).encode(writer), failure),
-        Value::Text(text) => part(text.encode(writer), failure),
+        Value::Null => put(writer, &Null, failure),
+        Value::Bool(flag) => put(writer, flag, failure),
+        Value::Integer(n) => put_integer(writer, *n, failure),
+        Value::Float(bits) => put_float(writer, *bits, failure),
+        Value::Bytes(content) => put(writer, &Bytes(content.as_slice()), failure),
+        Value::Text(text) => put(writer, text, failure),
         Value::Array(items) => {
-            part(Array::bounded(items.len(), writer), failure)?;
+            put_array_head(writer, items.len(), failure)?;
             put_items(writer, items, failure)
         }
         Value::Map(members) => {
-            part(Map::bounded(members.len(), writer), failure)?;
+            put_map_head(writer, members.len(), failure)?;
             put_members(writer, members, failure)
         }
         Value::Tag(number, inner) => {
-            part(Tag(*number, Nothing).encode(writer), failure)?;
+            put(writer, &Tag(*number, Nothing), failure)?;
             put_value(writer, inner, failure)
         }
     }
+}
+
+/// Writes an item of the crate below. It stays out of line, so that a value pays only for the
+/// answers of its own push.
+#[inline(never)]
+fn put<W: Write, T: Encode>(
+    writer: &mut W,
+    item: &T,
+    failure: &mut Option<EncodeError<W::Error>>,
+) -> Option<()>
+    ensures writes { Writes W.whole (T.bytes item.now)
+        (W.view writer.old) (W.view writer.new) (sent result failure.new) }
+    ensures failed { IfNone result (IsSome failure.new) }
+{
+    part(item.encode(writer), failure)
+}
+
+/// Writes the head of an array.
+#[inline(never)]
+fn put_array_head<W: Write>(
+    writer: &mut W,
+    count: usize,
+    failure: &mut Option<EncodeError<W::Error>>,
+) -> Option<()>
+    ensures writes { Writes W.whole (shortest_head 4 count)
+        (W.view writer.old) (W.view writer.new) (sent result failure.new) }
+    ensures failed { IfNone result (IsSome failure.new) }
+{
+    part(Array::bounded(count, writer), failure)
+}
+
+/// Writes the head of a map.
+#[inline(never)]
+fn put_map_head<W: Write>(
+    writer: &mut W,
+    count: usize,
+    failure: &mut Option<EncodeError<W::Error>>,
+) -> Option<()>
+    ensures writes { Writes W.whole (shortest_head 5 count)
+        (W.view writer.old) (W.view writer.new) (sent result failure.new) }
+    ensures failed { IfNone result (IsSome failure.new) }
+{
+    part(Map::bounded(count, writer), failure)
 }
 
 /// The answer of a call, whose error goes to `failure`.
@@ -98,24 +142,34 @@ fn part<E: Drop>(answer: Result<(), E>, failure: &mut Option<E>) -> Option<()>
 }
 
 #[inline(always)]
-fn put_integer<W: Write>(writer: &mut W, number: i128) -> Result<(), EncodeError<W::Error>>
+fn put_integer<W: Write>(
+    writer: &mut W,
+    number: i128,
+    failure: &mut Option<EncodeError<W::Error>>,
+) -> Option<()>
     ensures writes { Writes W.whole (canon (integer number))
-        (W.view writer.old) (W.view writer.new) result }
+        (W.view writer.old) (W.view writer.new) (sent result failure.new) }
     ensures item { IsItem (integer number) }
+    ensures failed { IfNone result (IsSome failure.new) }
 {
-    number.encode(writer)
+    put(writer, &number, failure)
 }
 
 #[inline(always)]
-fn put_float<W: Write>(writer: &mut W, bits: FloatBits) -> Result<(), EncodeError<W::Error>>
+fn put_float<W: Write>(
+    writer: &mut W,
+    bits: FloatBits,
+    failure: &mut Option<EncodeError<W::Error>>,
+) -> Option<()>
     ensures writes { Writes W.whole (canon (float_view bits))
-        (W.view writer.old) (W.view writer.new) result }
+        (W.view writer.old) (W.view writer.new) (sent result failure.new) }
     ensures item { IsItem (float_view bits) }
+    ensures failed { IfNone result (IsSome failure.new) }
 {
     match bits {
-        FloatBits::F16(n) => F16(n).encode(writer),
-        FloatBits::F32(n) => F32(n).encode(writer),
-        FloatBits::F64(n) => F64(n).encode(writer),
+        FloatBits::F16(n) => put(writer, &F16(n), failure),
+        FloatBits::F32(n) => put(writer, &F32(n), failure),
+        FloatBits::F64(n) => put(writer, &F64(n), failure),
     }
 }
 

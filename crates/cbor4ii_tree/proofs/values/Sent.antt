@@ -19,11 +19,10 @@ writes_sent {whole = whole} {xs = xs} {a = a} {b = b} (Ok u) said left h p =
 writes_sent {whole = whole} {xs = xs} {a = a} {b = b} (Err e) said left h p =
     subst (λ o. Writes whole xs a b (sent o left)) (sym h.0) (writes_other left p)
 
-pub on_sent : {E P Q : Type 0} (answer : Result (Unit {0}) E) (said : Option (Unit {0}))
-    (left : Option E) → Sends answer said left → (P → Q) → OnOk answer P → OnSome said Q
-on_sent {Q = Q} (Ok u) said left h f p = subst (λ o. OnSome o Q) (sym h) (f p)
-on_sent {Q = Q} (Err e) said left h f p = subst (λ o. OnSome o Q) (sym h.0) tt
-
 pub on_some : {U P Q : Type 0} (r : Option U) → (P → Q) → OnSome r P → OnSome r Q
 on_some (Some u) f p = f p
 on_some None f p = tt
+
+pub on_any_some : {U : Type 0} (r : Option U) → OnSome r (Unit {0})
+on_any_some (Some u) = tt
+on_any_some None = tt

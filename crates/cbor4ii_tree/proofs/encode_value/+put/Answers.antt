@@ -12,8 +12,8 @@ use Rattle.cbor4ii_tree.specs.Encoding.{value_bytes, member_bytes}
 use Rattle.cbor4ii_tree.proofs.values.InRange.{items_step, members_step, array_in_range}
 use Rattle.cbor4ii_tree.proofs.values.InRange.{map_in_range, text_in_range}
 use Rattle.cbor4ii_tree.proofs.values.Encoding.{Bool-bytes, view-Integer, Array-bytes, Map-bytes}
-use Rattle.cbor4ii_tree.proofs.values.Encoding.{Tag-bytes, on_any}
-use Rattle.cbor4ii_tree.proofs.values.Sent.{writes_sent, on_sent, on_some}
+use Rattle.cbor4ii_tree.proofs.values.Encoding.{Tag-bytes}
+use Rattle.cbor4ii_tree.proofs.values.Sent.{on_some, on_any_some}
 use Rattle.cbor4ii_tree.proofs.encode_value.+put.Goals as goal
 
 pub put_items-returns-in_err-put_value-clause-writes :
@@ -78,66 +78,77 @@ put_members-loop-member-preserved g t c =
           c.in_ok-put_value.ensures.item c.in_ok-put_value-2.ensures.item;
     }
 
-pub put_value-returns-in_err-part-in-Tag-clause-writes :
-    goal.put_value-returns-in_err-part-in-Tag-clause-writes
-put_value-returns-in_err-part-in-Tag-clause-writes g t c =
-    rw c.from_residual-in_err-part-in-Tag.ensures (writes_as _ (Tag-bytes c.args.value.now
+pub put_value-returns-in_err-put_array_head-in-Array-clause-writes :
+    goal.put_value-returns-in_err-put_array_head-in-Array-clause-writes
+put_value-returns-in_err-put_array_head-in-Array-clause-writes g t c =
+    let v = c.in-Array.items in
+    rw c.from_residual.ensures (writes_as _ (Array-bytes c.args.value.now v c.len.result v.items
+    c.in-Array.is refl (omega arith)) (writes_err _ c.in_err-put_array_head-in-Array.ensures.writes))
+
+pub put_value-returns-in_err-put_map_head-in-Map-clause-writes :
+    goal.put_value-returns-in_err-put_map_head-in-Map-clause-writes
+put_value-returns-in_err-put_map_head-in-Map-clause-writes g t c =
+    let v = c.in-Map.members in
+    rw c.from_residual-in_err-put_map_head-in-Map.ensures (writes_as _ (Map-bytes c.args.value.now v
+    c.len-in-Map.result v.items c.in-Map.is refl (omega arith)) (writes_err _
+    c.in_err-put_map_head-in-Map.ensures.writes))
+
+pub put_value-returns-in_err-put-in-Tag-clause-writes :
+    goal.put_value-returns-in_err-put-in-Tag-clause-writes
+put_value-returns-in_err-put-in-Tag-clause-writes g t c =
+    rw c.from_residual-in_err-put-in-Tag.ensures (writes_as _ (Tag-bytes c.args.value.now
     c.in-Tag.inner.value c.in-Tag.number c.in-Tag.inner c.in-Tag.is refl) (writes_err _
-    (writes_sent c.encode-in-Tag.result _ _ c.in_err-part-in-Tag.ensures c.encode-in-Tag.ensures)))
+    c.in_err-put-in-Tag.ensures.writes))
 
 pub put_value-returns-in-Bool-clause-writes : goal.put_value-returns-in-Bool-clause-writes
 put_value-returns-in-Bool-clause-writes g t c =
-    writes_sent c.encode-in-Bool.result _ _ c.part-in-Bool.ensures (writes_as _
-    (Bool-bytes c.args.value.now c.in-Bool.flag c.in-Bool.is) c.encode-in-Bool.ensures.writes)
+    writes_as _ (Bool-bytes c.args.value.now c.in-Bool.flag c.in-Bool.is) c.put-in-Bool.ensures.writes
 
 pub put_value-returns-in-Integer-clause-writes : goal.put_value-returns-in-Integer-clause-writes
 put_value-returns-in-Integer-clause-writes g t c =
     let n = c.in-Integer.n in
     let back : to_z w128 (of_z w128 n) ≡ n = to_z-of_z w128 n (search rules) in
-    writes_sent c.put_integer.result _ _ c.part-in-Integer.ensures (writes_as _
-    (ap (λ z. canon (integer z)) back ∙ sym (ap canon (ap view c.in-Integer.is
-    ∙ view-Integer n))) c.put_integer.ensures.writes)
+    writes_as _ (ap (λ z. canon (integer z)) back ∙ sym (ap canon (ap view c.in-Integer.is
+    ∙ view-Integer n))) c.put_integer.ensures.writes
 
 pub put_value-returns-in-Text-clause-item : goal.put_value-returns-in-Text-clause-item
 put_value-returns-in-Text-clause-item g t c =
     let small : length (string_bytes c.in-Text.text) < 2 ^ 64 =
     omega (arith, c.in-Text.text.bytes.small, c.in-Text.text.bytes.ok) in
-    on_sent {P = Unit {0}} c.encode-in-Text.result _ _ c.part-in-Text.ensures
+    on_some {P = Unit {0}} c.put-in-Text.result
     (λ _. text_in_range c.args.value.now c.in-Text.text c.in-Text.is small)
-    (on_any c.encode-in-Text.result)
+    (on_any_some c.put-in-Text.result)
 
-pub put_value-returns-in_ok-part-in-Array-clause-item :
-    goal.put_value-returns-in_ok-part-in-Array-clause-item
-put_value-returns-in_ok-part-in-Array-clause-item g t c =
+pub put_value-returns-in_ok-put_array_head-in-Array-clause-item :
+    goal.put_value-returns-in_ok-put_array_head-in-Array-clause-item
+put_value-returns-in_ok-put_array_head-in-Array-clause-item g t c =
     on_some c.put_items.result (array_in_range c.args.value.now c.in-Array.items c.deref.result.now
     c.in-Array.is c.deref.ensures.value c.deref.type_inv.0) c.put_items.ensures.items
 
-pub put_value-returns-in_ok-part-in-Map-clause-item :
-    goal.put_value-returns-in_ok-part-in-Map-clause-item
-put_value-returns-in_ok-part-in-Map-clause-item g t c =
+pub put_value-returns-in_ok-put_map_head-in-Map-clause-item :
+    goal.put_value-returns-in_ok-put_map_head-in-Map-clause-item
+put_value-returns-in_ok-put_map_head-in-Map-clause-item g t c =
     on_some c.put_members.result
     (map_in_range c.args.value.now c.in-Map.members c.deref-in-Map.result.now c.in-Map.is
     c.deref-in-Map.ensures.value c.deref-in-Map.type_inv.0) c.put_members.ensures.members
 
-pub put_value-returns-in_ok-part-in-Array-clause-writes :
-    goal.put_value-returns-in_ok-part-in-Array-clause-writes
-put_value-returns-in_ok-part-in-Array-clause-writes g t c =
+pub put_value-returns-in_ok-put_array_head-in-Array-clause-writes :
+    goal.put_value-returns-in_ok-put_array_head-in-Array-clause-writes
+put_value-returns-in_ok-put_array_head-in-Array-clause-writes g t c =
     writes_as _ (Array-bytes c.args.value.now c.in-Array.items c.len.result c.deref.result.now
-    c.in-Array.is c.deref.ensures.value (omega arith)) (writes_then _ (writes_sent c.bounded.result
-    _ _ c.in_ok-part-in-Array.ensures c.bounded.ensures.writes) c.put_items.ensures.writes)
+    c.in-Array.is c.deref.ensures.value (omega arith))
+    (writes_then _ c.in_ok-put_array_head-in-Array.ensures.writes c.put_items.ensures.writes)
 
-pub put_value-returns-in_ok-part-in-Map-clause-writes :
-    goal.put_value-returns-in_ok-part-in-Map-clause-writes
-put_value-returns-in_ok-part-in-Map-clause-writes g t c =
+pub put_value-returns-in_ok-put_map_head-in-Map-clause-writes :
+    goal.put_value-returns-in_ok-put_map_head-in-Map-clause-writes
+put_value-returns-in_ok-put_map_head-in-Map-clause-writes g t c =
     writes_as _ (Map-bytes c.args.value.now c.in-Map.members c.len-in-Map.result
     c.deref-in-Map.result.now c.in-Map.is c.deref-in-Map.ensures.value (omega arith))
-    (writes_then _ (writes_sent c.bounded-in-Map.result _ _ c.in_ok-part-in-Map.ensures
-    c.bounded-in-Map.ensures.writes) c.put_members.ensures.writes)
+    (writes_then _ c.in_ok-put_map_head-in-Map.ensures.writes c.put_members.ensures.writes)
 
-pub put_value-returns-in_ok-part-in-Tag-clause-writes :
-    goal.put_value-returns-in_ok-part-in-Tag-clause-writes
-put_value-returns-in_ok-part-in-Tag-clause-writes g t c =
+pub put_value-returns-in_ok-put-in-Tag-clause-writes :
+    goal.put_value-returns-in_ok-put-in-Tag-clause-writes
+put_value-returns-in_ok-put-in-Tag-clause-writes g t c =
     writes_as _ (Tag-bytes c.args.value.now c.deref-in-Tag.result.now c.in-Tag.number c.in-Tag.inner
     c.in-Tag.is c.deref-in-Tag.ensures)
-    (writes_then _ (writes_sent c.encode-in-Tag.result _ _ c.in_ok-part-in-Tag.ensures
-    c.encode-in-Tag.ensures) c.put_value.ensures.writes)
+    (writes_then _ c.in_ok-put-in-Tag.ensures.writes c.put_value.ensures.writes)

@@ -12,5 +12,5 @@ pub returns-clause-writes : goal.returns-clause-writes
 returns-clause-writes g c =
     let back : to_z w128 (of_z w128 c.args.number) ≡ c.args.number =
     to_z-of_z w128 c.args.number c.ranges.number in
-    writes_as c.encode.result (signed-canon (to_z w128 (of_z w128 c.args.number))
-    ∙ ap (λ z. canon (integer z)) back) c.encode.ensures
+    writes_as _ (signed-canon (to_z w128 (of_z w128 c.args.number))
+    ∙ ap (λ z. canon (integer z)) back) c.put.ensures.writes
