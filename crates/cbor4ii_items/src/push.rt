@@ -30,8 +30,8 @@ pub(crate) fn push_bytes<W: Write>(
     }
 }
 
-/// Writes the shortest head of this major type with this argument, in one push. There is one place
-/// that pushes, since the answer of each takes as much room as the writer's error.
+/// Writes the shortest head of this major type with this argument, in one push. Two places push,
+/// and not one for each length: the answer of each takes as much room as the writer's error.
 #[inline(always)]
 pub(crate) fn push_head<W: Write>(
     writer: &mut W,
@@ -42,23 +42,27 @@ pub(crate) fn push_head<W: Write>(
     ensures { WritesWhole W.whole (shortest_head major argument)
         (W.view writer.old) (W.view writer.new) result }
 {
-    let (bytes, length) = head_bytes(major, argument);
+    if argument < 24 {
+        let first = 32 * major;
+        return push_bytes(writer, &[first + argument as u8]);
+    }
+    let (bytes, length) = wide_head(major, argument);
     push_bytes(writer, &bytes[..length])
 }
 
-/// The shortest head of this major type with this argument, and its length. Zeros follow it.
+/// The shortest head of this major type with this argument, which does not fit the first byte, and
+/// its length. Zeros follow it.
 #[inline(always)]
-fn head_bytes(major: u8, argument: u64) -> ([u8; 9], usize)
-    requires { major < 8 }
+fn wide_head(major: u8, argument: u64) -> ([u8; 9], usize)
+    requires major { major < 8 }
+    requires wide { 24 ≤ argument }
     ensures within { result.1 ≤ 9 }
     ensures bytes { take result.1 result.0 ≡ shortest_head major argument }
 {
     let first = 32 * major;
     // An argument of four or eight bytes is copied as one: byte for byte it is stored in as many
     // steps.
-    if argument < 24 {
-        ([first + argument as u8, 0, 0, 0, 0, 0, 0, 0, 0], 1)
-    } else if argument < 0x100 {
+    if argument < 0x100 {
         ([first + 24, argument as u8, 0, 0, 0, 0, 0, 0, 0], 2)
     } else if argument < 0x1_0000 {
         let [a, b] = (argument as u16).to_be_bytes();

@@ -1,8 +1,0 @@
-use Rattle.std.proofs.Common.{rules}
-use Rattle.cbor4ii_items.proofs.push.head_bytes.Goals as goal
-
-pub returns-then-argument-lt24-clause-bytes : goal.returns-then-argument-lt24-clause-bytes
-returns-then-argument-lt24-clause-bytes c = search rules
-
-pub returns-then-argument-lt65536-clause-bytes : goal.returns-then-argument-lt65536-clause-bytes
-returns-then-argument-lt65536-clause-bytes c = search rules
