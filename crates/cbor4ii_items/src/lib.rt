@@ -9,6 +9,7 @@ pub mod encode;
 mod floats;
 mod front;
 mod head;
+pub mod head_bytes;
 pub mod indefinite;
 pub mod initial;
 pub mod laws;

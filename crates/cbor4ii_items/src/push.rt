@@ -1,5 +1,5 @@
 //! Heads and numbers, written.
-ghost use Rattle.std.specs.Prelude.{◌≡◌, ◌<◌, ◌≤◌, take, ◌<ℤ◌, ◌≤ℤ◌, ◌++◌, pos, negsuc};
+ghost use Rattle.std.specs.Prelude.{◌≡◌, ◌<◌, ◌<ℤ◌, ◌≤ℤ◌, ◌++◌, pos, negsuc};
 ghost use Rattle.cbor4ii_items.specs.Writing.{Writes, WritesWhole};
 ghost use Rattle.cbor4ii_items.specs.Magnitude.{without_leading_zeros};
 ghost use Rattle.cbor4ii_items.specs.Strings.{closing, counted_string, opening};
@@ -30,8 +30,7 @@ pub(crate) fn push_bytes<W: Write>(
     }
 }
 
-/// Writes the shortest head of this major type with this argument, in one push. Two places push,
-/// and not one for each length: the answer of each takes as much room as the writer's error.
+/// Writes the shortest head of this major type with this argument, in one push.
 #[inline(always)]
 pub(crate) fn push_head<W: Write>(
     writer: &mut W,
@@ -42,39 +41,24 @@ pub(crate) fn push_head<W: Write>(
     ensures { WritesWhole W.whole (shortest_head major argument)
         (W.view writer.old) (W.view writer.new) result }
 {
-    if argument < 24 {
-        let first = 32 * major;
-        return push_bytes(writer, &[first + argument as u8]);
-    }
-    let (bytes, length) = wide_head(major, argument);
-    push_bytes(writer, &bytes[..length])
-}
-
-/// The shortest head of this major type with this argument, which does not fit the first byte, and
-/// its length. Zeros follow it.
-#[inline(always)]
-fn wide_head(major: u8, argument: u64) -> ([u8; 9], usize)
-    requires major { major < 8 }
-    requires wide { 24 ≤ argument }
-    ensures within { result.1 ≤ 9 }
-    ensures bytes { take result.1 result.0 ≡ shortest_head major argument }
-{
     let first = 32 * major;
     // An argument of four or eight bytes is copied as one: byte for byte it is stored in as many
     // steps.
-    if argument < 0x100 {
-        ([first + 24, argument as u8, 0, 0, 0, 0, 0, 0, 0], 2)
+    if argument < 24 {
+        push_bytes(writer, &[first + argument as u8])
+    } else if argument < 0x100 {
+        push_bytes(writer, &[first + 24, argument as u8])
     } else if argument < 0x1_0000 {
         let [a, b] = (argument as u16).to_be_bytes();
-        ([first + 25, a, b, 0, 0, 0, 0, 0, 0], 3)
+        push_bytes(writer, &[first + 25, a, b])
     } else if argument < 0x1_0000_0000 {
-        let mut bytes = [first + 26, 0, 0, 0, 0, 0, 0, 0, 0];
-        bytes[1..5].copy_from_slice(&(argument as u32).to_be_bytes());
-        (bytes, 5)
+        let mut bytes = [first + 26, 0, 0, 0, 0];
+        bytes[1..].copy_from_slice(&(argument as u32).to_be_bytes());
+        push_bytes(writer, &bytes)
     } else {
         let mut bytes = [first + 27, 0, 0, 0, 0, 0, 0, 0, 0];
         bytes[1..].copy_from_slice(&argument.to_be_bytes());
-        (bytes, 9)
+        push_bytes(writer, &bytes)
     }
 }
 
@@ -109,7 +93,6 @@ pub(crate) fn push_signed<W: Write>(writer: &mut W, value: i64) -> Result<(), En
 }
 
 /// Writes a number from 0 on.
-#[inline(always)]
 pub(crate) fn push_unsigned_integer<W: Write>(
     writer: &mut W,
     value: u128,
@@ -120,33 +103,22 @@ pub(crate) fn push_unsigned_integer<W: Write>(
 }
 
 /// Writes a number from 0 on, or -1 - n.
-#[inline(always)]
 pub(crate) fn push_signed_integer<W: Write>(
     writer: &mut W,
     value: i128,
 ) -> Result<(), EncodeError<W::Error>>
     ensures { Writes W.whole (signed_bytes value) (W.view writer.old) (W.view writer.new) result }
 {
-    let (major, tag, number) = integer_parts(value);
-    push_integer(writer, major, tag, number)
-}
-
-/// The major type of an integer, the tag of a bignum of its sign, and the number from 0 on that
-/// stands for it.
-#[inline(always)]
-fn integer_parts(value: i128) -> (u8, u8, u128)
-    ensures major { result.0 < 8 }
-    ensures bytes { integer_bytes result.0 result.1 result.2 ≡ signed_bytes value }
-{
     if value >= 0 {
-        (major::UNSIGNED, POSITIVE_BIGNUM, nonnegative(value))
+        push_integer(writer, major::UNSIGNED, POSITIVE_BIGNUM, nonnegative(value))
     } else {
-        (major::NEGATIVE, NEGATIVE_BIGNUM, beyond(value))
+        push_integer(writer, major::NEGATIVE, NEGATIVE_BIGNUM, beyond(value))
     }
 }
 
+/// The same number, which is from 0 on.
 #[inline(always)]
-fn nonnegative(value: i128) -> u128
+pub(crate) fn nonnegative(value: i128) -> u128
     requires { pos 0 ≤ℤ value }
     ensures { value ≡ pos result }
 {
@@ -155,7 +127,7 @@ fn nonnegative(value: i128) -> u128
 
 /// The n of the negative integer -1 - n.
 #[inline(always)]
-fn beyond(value: i128) -> u128
+pub(crate) fn beyond(value: i128) -> u128
     requires { value <ℤ pos 0 }
     ensures { value ≡ negsuc result }
 {
@@ -164,7 +136,6 @@ fn beyond(value: i128) -> u128
 
 /// Writes a number as the argument of a head of this major type where it fits, else as a bignum
 /// with this tag.
-#[inline(always)]
 fn push_integer<W: Write>(
     writer: &mut W,
     major: u8,
@@ -182,8 +153,6 @@ fn push_integer<W: Write>(
 }
 
 /// Writes a tag, and a number's bytes without leading zeros as a byte string.
-#[cold]
-#[inline(never)]
 fn push_bignum<W: Write>(writer: &mut W, tag: u8, value: u128) -> Result<(), EncodeError<W::Error>>
     ensures { Writes W.whole (bignum_bytes tag value)
         (W.view writer.old) (W.view writer.new) result }

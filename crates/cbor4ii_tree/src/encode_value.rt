@@ -1,7 +1,8 @@
 //! Values, written.
-ghost use Rattle.std.specs.Prelude.{◌++◌, ℕ, List, OnOk, OnSome, IfNone, IsSome};
+ghost use Rattle.std.specs.Prelude.{◌++◌, ◌∷◌, [], ◌<◌, ℕ, List, OnOk, OnSome, IfNone, IsSome};
 ghost use Rattle.cbor4ii_items.specs.Writing.{Writes};
 ghost use Rattle.cbor4ii_items.specs.Numbers.{shortest_head};
+ghost use Rattle.cbor4ii_items.specs.Strings.{counted_string};
 ghost use Rattle.cbor4ii_items.specs.SequenceBytes.{items_bytes};
 ghost use Rattle.cbor4ii_items.specs.Decoding.{CostFits};
 ghost use Rattle.cbor4ii_tree.specs.Cost.{Budget};
@@ -15,7 +16,9 @@ ghost use Rattle.cbor4ii_tree.specs.Item.{IsItem, AreItems, AreMembers, integer}
 use crate::slot::leave;
 use crate::value::{FloatBits, Value};
 use cbor4ii_items::encode::Encode;
-use cbor4ii_items::types::{Array, Bytes, F16, F32, F64, Map, Nothing, Null, Tag};
+use cbor4ii_items::head_bytes::{integer_head, shortest_head};
+use cbor4ii_items::major;
+use cbor4ii_items::types::{Bytes, F16, F32, F64, Null, Tag};
 use cbor4ii_rw::error::EncodeError;
 use cbor4ii_rw::write::Write;
 
@@ -67,18 +70,18 @@ fn put_value<W: Write>(
         Value::Bool(flag) => put(writer, flag, failure),
         Value::Integer(n) => put_integer(writer, *n, failure),
         Value::Float(bits) => put_float(writer, *bits, failure),
-        Value::Bytes(content) => put(writer, &Bytes(content.as_slice()), failure),
-        Value::Text(text) => put(writer, text, failure),
+        Value::Bytes(content) => put_string(writer, major::BYTES, content, failure),
+        Value::Text(text) => put_string(writer, major::STRING, text.as_bytes(), failure),
         Value::Array(items) => {
-            put_array_head(writer, items.len(), failure)?;
+            put_head(writer, major::ARRAY, items.len() as u64, failure)?;
             put_items(writer, items, failure)
         }
         Value::Map(members) => {
-            put_map_head(writer, members.len(), failure)?;
+            put_head(writer, major::MAP, members.len() as u64, failure)?;
             put_members(writer, members, failure)
         }
         Value::Tag(number, inner) => {
-            put(writer, &Tag(*number, Nothing), failure)?;
+            put_head(writer, major::TAG, *number, failure)?;
             put_value(writer, inner, failure)
         }
     }
@@ -99,32 +102,82 @@ fn put<W: Write, T: Encode>(
     part(item.encode(writer), failure)
 }
 
-/// Writes the head of an array.
-#[inline(never)]
-fn put_array_head<W: Write>(
+/// Writes the shortest head of this major type with this argument, in one push.
+#[inline(always)]
+fn put_head<W: Write>(
     writer: &mut W,
-    count: usize,
+    major: u8,
+    argument: u64,
     failure: &mut Option<EncodeError<W::Error>>,
 ) -> Option<()>
-    ensures writes { Writes W.whole (shortest_head 4 count)
+    requires { major < 8 }
+    ensures writes { Writes W.whole (shortest_head major argument)
         (W.view writer.old) (W.view writer.new) (sent result failure.new) }
     ensures failed { IfNone result (IsSome failure.new) }
 {
-    part(Array::bounded(count, writer), failure)
+    let (bytes, length) = shortest_head(major, argument);
+    if length == 1 {
+        put_byte(writer, bytes[0], failure)
+    } else {
+        put_bytes(writer, &bytes[..length], failure)
+    }
 }
 
-/// Writes the head of a map.
-#[inline(never)]
-fn put_map_head<W: Write>(
+/// Writes a string of this major type: its head in one push, and its content in another.
+#[inline(always)]
+fn put_string<W: Write>(
     writer: &mut W,
-    count: usize,
+    major: u8,
+    content: &[u8],
     failure: &mut Option<EncodeError<W::Error>>,
 ) -> Option<()>
-    ensures writes { Writes W.whole (shortest_head 5 count)
+    requires { major < 8 }
+    ensures writes { Writes W.whole (counted_string major content.now)
         (W.view writer.old) (W.view writer.new) (sent result failure.new) }
     ensures failed { IfNone result (IsSome failure.new) }
 {
-    part(Map::bounded(count, writer), failure)
+    put_head(writer, major, content.len() as u64, failure)?;
+    put_bytes(writer, content, failure)
+}
+
+/// Writes a byte, in one push.
+#[inline(never)]
+fn put_byte<W: Write>(
+    writer: &mut W,
+    byte: u8,
+    failure: &mut Option<EncodeError<W::Error>>,
+) -> Option<()>
+    ensures writes { Writes W.whole (byte ∷ [])
+        (W.view writer.old) (W.view writer.new) (sent result failure.new) }
+    ensures failed { IfNone result (IsSome failure.new) }
+{
+    match writer.push(&[byte]) {
+        Ok(()) => Some(()),
+        Err(error) => {
+            leave(EncodeError::Write(error), failure);
+            None
+        }
+    }
+}
+
+/// Writes these bytes, in one push.
+#[inline(never)]
+fn put_bytes<W: Write>(
+    writer: &mut W,
+    bytes: &[u8],
+    failure: &mut Option<EncodeError<W::Error>>,
+) -> Option<()>
+    ensures writes { Writes W.whole bytes.now
+        (W.view writer.old) (W.view writer.new) (sent result failure.new) }
+    ensures failed { IfNone result (IsSome failure.new) }
+{
+    match writer.push(bytes) {
+        Ok(()) => Some(()),
+        Err(error) => {
+            leave(EncodeError::Write(error), failure);
+            None
+        }
+    }
 }
 
 /// The answer of a call, whose error goes to `failure`.
@@ -152,7 +205,10 @@ fn put_integer<W: Write>(
     ensures item { IsItem (integer number) }
     ensures failed { IfNone result (IsSome failure.new) }
 {
-    put(writer, &number, failure)
+    match integer_head(number) {
+        Some((major, argument)) => put_head(writer, major, argument, failure),
+        None => put(writer, &number, failure),
+    }
 }
 
 #[inline(always)]

@@ -246,7 +246,6 @@ impl<S: Source> Decode<S> for u128 {
 impl Encode for u128 {
     ghost bytes = { unsigned_bytes };
 
-    #[inline(always)]
     fn encode<W: Write>(&self, writer: &mut W) -> Result<(), EncodeError<W::Error>> {
         push_unsigned_integer(writer, *self)
     }
@@ -310,7 +309,6 @@ impl<S: Source> Decode<S> for i128 {
 impl Encode for i128 {
     ghost bytes = { signed_bytes };
 
-    #[inline(always)]
     fn encode<W: Write>(&self, writer: &mut W) -> Result<(), EncodeError<W::Error>> {
         push_signed_integer(writer, *self)
     }

@@ -101,12 +101,10 @@ view-Integer z = search (rules, the_lemmas)
 pub view-Tag : (n : ℕ) (b : Box Value Global) → view (Tag n b) ≡ tag n (view b.value)
 view-Tag n b = search (rules, the_lemmas)
 
--- the head alone is written as a tag on nothing
 pub Tag-bytes : (value inner : Value) (n : ℕ) (b : Box Value Global) → value ≡ Tag n b
-    → inner ≡ b.value → (shortest_head 6 n ++ []) ++ value_bytes inner ≡ value_bytes value
+    → inner ≡ b.value → shortest_head 6 n ++ value_bytes inner ≡ value_bytes value
 Tag-bytes value inner n b e same =
-    ap (λ z. z ++ value_bytes inner) (append-nil (shortest_head 6 n))
-    ∙ ap (λ w. shortest_head 6 n ++ value_bytes w) same
+    ap (λ w. shortest_head 6 n ++ value_bytes w) same
     ∙ sym (ap canon (ap view e ∙ view-Tag n b))
 
 -- ---- calls

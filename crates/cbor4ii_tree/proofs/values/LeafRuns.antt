@@ -13,7 +13,7 @@ use Rattle.cbor4ii_items.specs.Head.{IsBytes}
 use Rattle.cbor4ii_items.specs.Laws.Answering.{fits_zero}
 use Rattle.cbor4ii_items.specs.Laws.Contents.{lends_front}
 use Rattle.cbor4ii_tree.specs.Ahead.{NeverStops}
-use Rattle.cbor4ii_tree.specs.Cost.{Budget, step_in}
+use Rattle.cbor4ii_tree.specs.Cost.{Budget}
 use Rattle.cbor4ii_tree.specs.Does.{Accepting, Does}
 use Rattle.cbor4ii_tree.specs.Front.{Offers}
 use Rattle.cbor4ii_tree.specs.Item.{AreItems}
@@ -22,7 +22,7 @@ use Rattle.cbor4ii_tree.specs.Leaf.{StandsAhead, StandInFront, IsPlainLeaf, Puts
 use Rattle.cbor4ii_tree.specs.Leaf.{PutsItemsUnder, KeepsItems, MayTake}
 use Rattle.cbor4ii_tree.specs.Stops.{Each, Stopping}
 use Rattle.cbor4ii_tree.specs.StopsReading.{Readable}
-use Rattle.cbor4ii_tree.specs.Tree.{Tree, Trees, no_trees, tree, bytes, bytes_all, count}
+use Rattle.cbor4ii_tree.specs.Tree.{Trees, no_trees, tree, bytes, bytes_all, count}
 use Rattle.cbor4ii_tree.specs.Meaning.{value, values}
 use Rattle.cbor4ii_tree.specs.Valuing.{ReadsItems}
 use Rattle.cbor4ii_tree.specs.View.{view, items_view}
@@ -30,7 +30,8 @@ use Rattle.cbor4ii_tree.specs.declared.value.Value.{Value}
 use Rattle.cbor4ii_tree.proofs.parts.Fronts.{IsBytes-append}
 use Rattle.cbor4ii_tree.proofs.parts.Pushed.{push, count-push, each-push, bytes-push}
 use Rattle.cbor4ii_tree.proofs.skip_calls.Doing.{does_ok, does_no_memory, does_stepped, steps_in}
-use Rattle.cbor4ii_tree.proofs.skip_calls.Doing.{kept_budget, Reached, reached_then, reached_by, does_err}
+use Rattle.cbor4ii_tree.proofs.skip_calls.Doing.{kept_budget, Reached, reached_then, reached_by}
+use Rattle.cbor4ii_tree.proofs.skip_calls.Doing.{does_err}
 use Rattle.cbor4ii_items.specs.Laws.UnderStep.{no_step}
 use Rattle.cbor4ii_tree.proofs.values.Calls.{values-push, none, items_more}
 use Rattle.cbor4ii_tree.proofs.values.InRange.{AreItems-push}
@@ -98,7 +99,8 @@ may_more shown before items at n size p l e =
           (IsBytes-append (take at shown) (take n (drop at shown)) p.2.fresh l.fresh);
     })
 
-pub may_take : (v : Value) (n : ℕ) (shown : List ℕ) → StandsAhead (false ≡ true) v n shown → MayTake n shown
+pub may_take : (v : Value) (n : ℕ) (shown : List ℕ) → StandsAhead (false ≡ true) v n shown
+    → MayTake n shown
 may_take v n shown l = record { within = l.within; fresh = l.fresh }
 
 -- ---- taken

@@ -1,4 +1,5 @@
-use Rattle.std.proofs.Common.{length, [], sym, length-append, inl, refl, ap, subst, arith, ◌∙◌, ◌+◌, ◌∷◌, ◌≡◌}
+use Rattle.std.proofs.Common.{length, [], sym, length-append, inl, refl, ap, subst, arith}
+use Rattle.std.proofs.Common.{◌∙◌, ◌+◌, ◌∷◌, ◌≡◌}
 use Rattle.cbor4ii_tree.specs.Does.{refusal_left}
 use Rattle.cbor4ii_tree.specs.Valuing.{ReadsOneValue, StopsOneValue, ReadsMember, StopsMember}
 use Rattle.cbor4ii_tree.specs.Valuing.{StopsMembers, StopsFirst, ReadsStepped, StopsOf, ReadsItems}
@@ -15,7 +16,7 @@ use Rattle.cbor4ii_tree.proofs.skip_calls.Doing.{Reached, reached_start, reached
 use Rattle.cbor4ii_tree.proofs.skip_calls.Doing.{does_no_memory, does_no_step}
 use Rattle.cbor4ii_tree.proofs.skip_calls.Calls.{Before, broke, other, at_end}
 use Rattle.cbor4ii_tree.proofs.values.Parts.{ReadEach, ReadPairs}
-use Rattle.cbor4ii_tree.proofs.values.Calls.{stepped, none, counted_more, counted_stop}
+use Rattle.cbor4ii_tree.proofs.values.Calls.{stepped, counted_more, counted_stop}
 use Rattle.cbor4ii_tree.proofs.values.Heads.{arm_ok, arm_err, arm_does, call_err, simple_read}
 use Rattle.cbor4ii_tree.proofs.values.Heads.{reached_tag, tag_read, tag_stops, tag_stopped}
 use Rattle.cbor4ii_tree.proofs.values.Heads.{view-Tag}

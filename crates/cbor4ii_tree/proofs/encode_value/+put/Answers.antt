@@ -19,7 +19,8 @@ use Rattle.cbor4ii_tree.proofs.encode_value.+put.Goals as goal
 pub put_items-returns-in_err-put_value-clause-writes :
     goal.put_items-returns-in_err-put_value-clause-writes
 put_items-returns-in_err-put_value-clause-writes g t c =
-    rw c.from_residual.ensures (items_err value_bytes c.args.items.now c.loop-item.item-index c.item-item.result
+    rw c.from_residual.ensures (items_err value_bytes c.args.items.now c.loop-item.item-index
+    c.item-item.result
     c.loop-item-test.true c.item-item.is c.loop-item.invariant.appends
     c.loop-item.invariant.counts c.in_err-put_value.ensures.writes)
 
@@ -78,31 +79,33 @@ put_members-loop-member-preserved g t c =
           c.in_ok-put_value.ensures.item c.in_ok-put_value-2.ensures.item;
     }
 
-pub put_value-returns-in_err-put_array_head-in-Array-clause-writes :
-    goal.put_value-returns-in_err-put_array_head-in-Array-clause-writes
-put_value-returns-in_err-put_array_head-in-Array-clause-writes g t c =
+pub put_value-returns-in_err-put_head-in-Array-clause-writes :
+    goal.put_value-returns-in_err-put_head-in-Array-clause-writes
+put_value-returns-in_err-put_head-in-Array-clause-writes g t c =
     let v = c.in-Array.items in
     rw c.from_residual.ensures (writes_as _ (Array-bytes c.args.value.now v c.len.result v.items
-    c.in-Array.is refl (omega arith)) (writes_err _ c.in_err-put_array_head-in-Array.ensures.writes))
+    c.in-Array.is refl (omega arith)) (writes_err _
+    c.in_err-put_head-in-Array.ensures.writes))
 
-pub put_value-returns-in_err-put_map_head-in-Map-clause-writes :
-    goal.put_value-returns-in_err-put_map_head-in-Map-clause-writes
-put_value-returns-in_err-put_map_head-in-Map-clause-writes g t c =
+pub put_value-returns-in_err-put_head-in-Map-clause-writes :
+    goal.put_value-returns-in_err-put_head-in-Map-clause-writes
+put_value-returns-in_err-put_head-in-Map-clause-writes g t c =
     let v = c.in-Map.members in
-    rw c.from_residual-in_err-put_map_head-in-Map.ensures (writes_as _ (Map-bytes c.args.value.now v
+    rw c.from_residual-in_err-put_head-in-Map.ensures (writes_as _ (Map-bytes c.args.value.now v
     c.len-in-Map.result v.items c.in-Map.is refl (omega arith)) (writes_err _
-    c.in_err-put_map_head-in-Map.ensures.writes))
+    c.in_err-put_head-in-Map.ensures.writes))
 
-pub put_value-returns-in_err-put-in-Tag-clause-writes :
-    goal.put_value-returns-in_err-put-in-Tag-clause-writes
-put_value-returns-in_err-put-in-Tag-clause-writes g t c =
-    rw c.from_residual-in_err-put-in-Tag.ensures (writes_as _ (Tag-bytes c.args.value.now
+pub put_value-returns-in_err-put_head-in-Tag-clause-writes :
+    goal.put_value-returns-in_err-put_head-in-Tag-clause-writes
+put_value-returns-in_err-put_head-in-Tag-clause-writes g t c =
+    rw c.from_residual-in_err-put_head-in-Tag.ensures (writes_as _ (Tag-bytes c.args.value.now
     c.in-Tag.inner.value c.in-Tag.number c.in-Tag.inner c.in-Tag.is refl) (writes_err _
-    c.in_err-put-in-Tag.ensures.writes))
+    c.in_err-put_head-in-Tag.ensures.writes))
 
 pub put_value-returns-in-Bool-clause-writes : goal.put_value-returns-in-Bool-clause-writes
 put_value-returns-in-Bool-clause-writes g t c =
-    writes_as _ (Bool-bytes c.args.value.now c.in-Bool.flag c.in-Bool.is) c.put-in-Bool.ensures.writes
+    writes_as _ (Bool-bytes c.args.value.now c.in-Bool.flag c.in-Bool.is)
+    c.put-in-Bool.ensures.writes
 
 pub put_value-returns-in-Integer-clause-writes : goal.put_value-returns-in-Integer-clause-writes
 put_value-returns-in-Integer-clause-writes g t c =
@@ -115,40 +118,40 @@ pub put_value-returns-in-Text-clause-item : goal.put_value-returns-in-Text-claus
 put_value-returns-in-Text-clause-item g t c =
     let small : length (string_bytes c.in-Text.text) < 2 ^ 64 =
     omega (arith, c.in-Text.text.bytes.small, c.in-Text.text.bytes.ok) in
-    on_some {P = Unit {0}} c.put-in-Text.result
+    on_some {P = Unit {0}} c.put_string-in-Text.result
     (λ _. text_in_range c.args.value.now c.in-Text.text c.in-Text.is small)
-    (on_any_some c.put-in-Text.result)
+    (on_any_some c.put_string-in-Text.result)
 
-pub put_value-returns-in_ok-put_array_head-in-Array-clause-item :
-    goal.put_value-returns-in_ok-put_array_head-in-Array-clause-item
-put_value-returns-in_ok-put_array_head-in-Array-clause-item g t c =
-    on_some c.put_items.result (array_in_range c.args.value.now c.in-Array.items c.deref.result.now
-    c.in-Array.is c.deref.ensures.value c.deref.type_inv.0) c.put_items.ensures.items
+pub put_value-returns-in_ok-put_head-in-Array-clause-item :
+    goal.put_value-returns-in_ok-put_head-in-Array-clause-item
+put_value-returns-in_ok-put_head-in-Array-clause-item g t c =
+    on_some c.put_items.result (array_in_range c.args.value.now c.in-Array.items c.deref-in-Array.result.now
+    c.in-Array.is c.deref-in-Array.ensures.value c.deref-in-Array.type_inv.0) c.put_items.ensures.items
 
-pub put_value-returns-in_ok-put_map_head-in-Map-clause-item :
-    goal.put_value-returns-in_ok-put_map_head-in-Map-clause-item
-put_value-returns-in_ok-put_map_head-in-Map-clause-item g t c =
+pub put_value-returns-in_ok-put_head-in-Map-clause-item :
+    goal.put_value-returns-in_ok-put_head-in-Map-clause-item
+put_value-returns-in_ok-put_head-in-Map-clause-item g t c =
     on_some c.put_members.result
     (map_in_range c.args.value.now c.in-Map.members c.deref-in-Map.result.now c.in-Map.is
     c.deref-in-Map.ensures.value c.deref-in-Map.type_inv.0) c.put_members.ensures.members
 
-pub put_value-returns-in_ok-put_array_head-in-Array-clause-writes :
-    goal.put_value-returns-in_ok-put_array_head-in-Array-clause-writes
-put_value-returns-in_ok-put_array_head-in-Array-clause-writes g t c =
-    writes_as _ (Array-bytes c.args.value.now c.in-Array.items c.len.result c.deref.result.now
-    c.in-Array.is c.deref.ensures.value (omega arith))
-    (writes_then _ c.in_ok-put_array_head-in-Array.ensures.writes c.put_items.ensures.writes)
+pub put_value-returns-in_ok-put_head-in-Array-clause-writes :
+    goal.put_value-returns-in_ok-put_head-in-Array-clause-writes
+put_value-returns-in_ok-put_head-in-Array-clause-writes g t c =
+    writes_as _ (Array-bytes c.args.value.now c.in-Array.items c.len.result c.deref-in-Array.result.now
+    c.in-Array.is c.deref-in-Array.ensures.value (omega arith))
+    (writes_then _ c.in_ok-put_head-in-Array.ensures.writes c.put_items.ensures.writes)
 
-pub put_value-returns-in_ok-put_map_head-in-Map-clause-writes :
-    goal.put_value-returns-in_ok-put_map_head-in-Map-clause-writes
-put_value-returns-in_ok-put_map_head-in-Map-clause-writes g t c =
+pub put_value-returns-in_ok-put_head-in-Map-clause-writes :
+    goal.put_value-returns-in_ok-put_head-in-Map-clause-writes
+put_value-returns-in_ok-put_head-in-Map-clause-writes g t c =
     writes_as _ (Map-bytes c.args.value.now c.in-Map.members c.len-in-Map.result
     c.deref-in-Map.result.now c.in-Map.is c.deref-in-Map.ensures.value (omega arith))
-    (writes_then _ c.in_ok-put_map_head-in-Map.ensures.writes c.put_members.ensures.writes)
+    (writes_then _ c.in_ok-put_head-in-Map.ensures.writes c.put_members.ensures.writes)
 
-pub put_value-returns-in_ok-put-in-Tag-clause-writes :
-    goal.put_value-returns-in_ok-put-in-Tag-clause-writes
-put_value-returns-in_ok-put-in-Tag-clause-writes g t c =
+pub put_value-returns-in_ok-put_head-in-Tag-clause-writes :
+    goal.put_value-returns-in_ok-put_head-in-Tag-clause-writes
+put_value-returns-in_ok-put_head-in-Tag-clause-writes g t c =
     writes_as _ (Tag-bytes c.args.value.now c.deref-in-Tag.result.now c.in-Tag.number c.in-Tag.inner
     c.in-Tag.is c.deref-in-Tag.ensures)
-    (writes_then _ c.in_ok-put-in-Tag.ensures.writes c.put_value.ensures.writes)
+    (writes_then _ c.in_ok-put_head-in-Tag.ensures.writes c.put_value.ensures.writes)

@@ -1,4 +1,3 @@
-use Rattle.std.proofs.Common.{◌≡◌, subst, sym}
 use Rattle.cbor4ii_tree.proofs.values.LeafRuns.{takes_run, run_no_memory, run_items}
 use Rattle.cbor4ii_tree.proofs.values.LeafRuns.{run_grows}
 use Rattle.cbor4ii_tree.proofs.leaf.run_inside.Goals as goal
