@@ -1,20 +1,19 @@
 -- Values that hold no other, where they stand whole in shown bytes.
 use Rattle.std.specs.Prelude.{◌≡◌, ◌≢◌, ℕ, ◌≤◌, ◌/◌, List, length, take, Option, Some, None}
-use Rattle.std.specs.Prelude.{[], ◌++◌, Ok, Err, Bool, true, false}
+use Rattle.std.specs.Prelude.{[], Ok, Err}
 use Rattle.cbor4ii_rw.specs.View.{View}
 use Rattle.cbor4ii_rw.specs.Reader.{Shows}
 use Rattle.cbor4ii_rw.specs.declared.error.DecodeError.{DecodeError}
 use Rattle.cbor4ii_items.specs.Head.{IsBytes, byte_count, shortest}
 use Rattle.cbor4ii_items.specs.Initial.{simple_byte, simple_undefined}
-use Rattle.cbor4ii_tree.specs.Cost.{Budget, cost, step_in}
+use Rattle.cbor4ii_tree.specs.Cost.{Budget, cost}
 use Rattle.cbor4ii_tree.specs.Does.{Accepting, DoesUnder, refusal_left}
-use Rattle.cbor4ii_tree.specs.Item.{IsItem, AreItems}
-use Rattle.cbor4ii_tree.specs.Meaning.{value, values}
-use Rattle.cbor4ii_tree.specs.Stops.{Stopping, Each}
+use Rattle.cbor4ii_tree.specs.Item.{IsItem}
+use Rattle.cbor4ii_tree.specs.Meaning.{value}
+use Rattle.cbor4ii_tree.specs.Stops.{Stopping}
 use Rattle.cbor4ii_tree.specs.Strict.{Strict}
-use Rattle.cbor4ii_tree.specs.Tree.{Tree, bytes, Plain, Trees, count, bytes_all}
-use Rattle.cbor4ii_tree.specs.Valuing.{ReadsItems}
-use Rattle.cbor4ii_tree.specs.View.{view, items_view}
+use Rattle.cbor4ii_tree.specs.Tree.{Tree, bytes, Plain}
+use Rattle.cbor4ii_tree.specs.View.{view}
 use Rattle.cbor4ii_tree.specs.declared.value.Value.{Value}
 use Rattle.cbor4ii_tree.specs.declared.leaf.Leaf.{Leaf}
 use Rattle.cbor4ii_tree.specs.declared.leaf.Leaf.TheVariants.{Whole, NoMemory, Unseen}
@@ -58,39 +57,3 @@ TakesLeaf reads stops old new None failure =
 TakesLeaf reads stops old new (Some None) failure = Shows [] old new
 TakesLeaf {E = E} reads stops old new (Some (Some v)) failure =
     DoesUnder {E = E} reads stops old new (Ok v)
-
--- ---- runs
-
-abbrev pub IsPlainLeaf : Tree → Type 0
-IsPlainLeaf t = Plain t × (cost t ≡ 1)
-
--- the encodings of these values, of which each takes one step, have so many bytes at the front
-pub record StandInFront (vs : List Value) (size : ℕ) (shown : List ℕ) : Type 0 where
-  pub within : size ≤ length shown
-  pub fresh : IsBytes (take size shown)
-  pub trees : Trees
-  pub many : count trees ≡ length vs
-  pub each : Each IsPlainLeaf trees
-  pub means : values trees ≡ items_view vs
-  pub ranged : AreItems (items_view vs)
-  pub is : take size shown ≡ bytes_all trees
-
--- the values in so many bytes at the front were put behind these items, or memory was refused
-abbrev pub PutsRun : List ℕ → List Value → List Value → ℕ × Bool → Type 0
-PutsRun shown before after (size, true) =
-    (vs : List Value) × (after ≡ before ++ vs) × StandInFront vs size shown
-PutsRun shown before after (size, false) = MayTake size shown
-
--- values were taken, and put behind these items
-abbrev pub PutsItems : List Value → List Value → Budget → List ℕ → Unit {0} → List ℕ → Type 0
-PutsItems before after budget xs _ ys =
-    (vs : List Value) × (after ≡ before ++ vs) × ReadsItems (length vs) budget xs vs ys
-
--- the same under a step that leaves this budget
-abbrev pub PutsItemsUnder : List Value → List Value → Budget → List ℕ → Unit {0} → List ℕ → Type 0
-PutsItemsUnder before after inner xs u ys = (budget : Budget) → step_in budget ≡ Some inner
-    → PutsItems before after budget xs u ys
-
--- the items stay in range
-abbrev pub KeepsItems : List Value → List Value → Type 0
-KeepsItems before after = AreItems (items_view before) → AreItems (items_view after)

@@ -34,6 +34,7 @@ pub mod Canonically
 pub mod Promises
 pub mod Front
 pub mod Leaf
+pub mod LeafRuns
 pub mod Runs
 pub mod Ahead
 pub mod Deeper

@@ -23,8 +23,9 @@ ghost use Rattle.cbor4ii_tree.specs.View.{view};
 
 use crate::front::Own;
 use crate::leaf::take_leaf;
+use crate::run::take_run;
 use crate::simple::{read_float, simple_of};
-use crate::slot::{leave, part, whole};
+use crate::slot::{keep, leave, part, whole};
 use crate::unseen::peek;
 use crate::value::Value;
 use cbor4ii_items::canonical::{canonical_buf, canonical_head};
@@ -123,6 +124,27 @@ fn read_one<S: Source>(
         return None;
     }
     let outcome = read_inside(alloc, reader, failure);
+    reader.step_out();
+    outcome
+}
+
+/// As `read_one`, of a value that one look has not decided.
+#[cycle(strict)]
+#[inline(always)]
+fn read_nested<S: Source>(
+    alloc: Global,
+    reader: &mut S,
+    failure: &mut Option<DecodeError<S::Error>>,
+) -> Option<Value>
+    ensures does { DoesUnder ReadsExactly StopsExactly
+        (S.view reader.old) (S.view reader.new) (answered result failure.new) }
+    ensures progress { OnSome result ((S.view reader.new).bound + 1 ≤ (S.view reader.old).bound) }
+{
+    if !reader.step_in() {
+        leave(DecodeError::DepthOverflow { name: "value" }, failure);
+        return None;
+    }
+    let outcome = read_by_first(alloc, reader, failure);
     reader.step_out();
     outcome
 }
@@ -276,11 +298,11 @@ fn counted_items<S: Source>(
         *failure = None;
         return None;
     }
-    for i in 0..count {
-        let value = read_one(alloc, reader, failure)?;
-        if items.push(value).is_err() {
-            *failure = None;
-            return None;
+    while items.len() < count {
+        take_run(alloc, reader, true, count, &mut items, failure)?;
+        if items.len() < count {
+            let value = read_nested(alloc, reader, failure)?;
+            keep(&mut items, value, failure)?;
         }
     }
     Some(items)
@@ -337,11 +359,11 @@ fn counted_members<S: Source>(
         *failure = None;
         return None;
     }
-    for i in 0..count {
-        let member = read_member(alloc, reader, failure)?;
-        if members.push(member).is_err() {
-            *failure = None;
-            return None;
+    while members.len() < count {
+        take_run(alloc, reader, true, count, &mut members, failure)?;
+        if members.len() < count {
+            let member = read_member(alloc, reader, failure)?;
+            keep(&mut members, member, failure)?;
         }
     }
     Some(members)

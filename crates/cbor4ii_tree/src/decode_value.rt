@@ -1,6 +1,5 @@
 //! Values, read.
-ghost use Rattle.std.specs.Prelude.{◌≡◌, ◌+◌, ◌≤◌, ◌/◌, [], ◌∷◌, ◌++◌, OnOk, IfOk, IfErr, true};
-ghost use Rattle.std.specs.Prelude.{None, OnSome, IfSome, IfNone};
+ghost use Rattle.std.specs.Prelude.{◌≡◌, ◌+◌, ◌≤◌, ◌/◌, OnOk, IfOk, IfErr, true, OnSome, IfSome};
 ghost use Rattle.cbor4ii_tree.specs.Does.{DoesUnder, answered};
 ghost use Rattle.cbor4ii_tree.specs.Valuing.{ReadsOneValue, StopsOneValue, ReadsUnder, StopsUnder};
 ghost use Rattle.cbor4ii_tree.specs.Valuing.{ReadsStepped, StopsOf, StopsMajor, StopsFirst};
@@ -20,9 +19,10 @@ ghost use Rattle.cbor4ii_tree.specs.Laws.Values.{value_one, value_within, value_
 ghost use Rattle.cbor4ii_tree.specs.Laws.Values.{value_alone};
 
 use crate::front::Own;
-use crate::leaf::{take_leaf, take_run};
+use crate::leaf::take_leaf;
+use crate::run::take_run;
 use crate::simple::{read_float, simple_of};
-use crate::slot::{leave, part, whole};
+use crate::slot::{keep, leave, part, whole};
 use crate::unseen::peek;
 use crate::value::Value;
 use cbor4ii_items::decode::{Decode, Spelled};
@@ -298,7 +298,7 @@ fn counted_items<S: Source>(
         return None;
     }
     while items.len() < count {
-        take_run(alloc, reader, count, &mut items, failure)?;
+        take_run(alloc, reader, false, count, &mut items, failure)?;
         if items.len() < count {
             let value = read_nested(alloc, reader, failure)?;
             keep(&mut items, value, failure)?;
@@ -380,9 +380,12 @@ fn counted_members<S: Source>(
         *failure = None;
         return None;
     }
-    for i in 0..count {
-        let member = read_member(alloc, reader, failure)?;
-        keep(&mut members, member, failure)?;
+    while members.len() < count {
+        take_run(alloc, reader, false, count, &mut members, failure)?;
+        if members.len() < count {
+            let member = read_member(alloc, reader, failure)?;
+            keep(&mut members, member, failure)?;
+        }
     }
     Some(members)
 }
@@ -422,23 +425,4 @@ fn read_member<S: Source>(
     let key = read_value(alloc, reader, failure)?;
     let value = read_value(alloc, reader, failure)?;
     Some((key, value))
-}
-
-/// Puts an item behind those that are there. Where memory is refused, `failure` is left empty.
-#[inline(always)]
-fn keep<T: Drop, E: Drop>(
-    items: &mut Vec<T>,
-    item: T,
-    failure: &mut Option<DecodeError<E>>,
-) -> Option<()>
-    ensures kept { OnSome result (items.new.items ≡ items.old.items ++ item ∷ []) }
-    ensures memory { IfNone result (failure.new ≡ None) }
-{
-    match items.push(item) {
-        Ok(()) => Some(()),
-        Err(_) => {
-            *failure = None;
-            None
-        }
-    }
 }

@@ -1,7 +1,7 @@
 //! Values that hold no other, decided in one look where they stand whole in what is shown
 //! (RFC 8949 section 3). What does not is left undecided.
 ghost use Rattle.std.specs.Prelude.{◌≡◌, ◌≤◌, ◌+◌, ◌∷◌, ◌/◌, ◌%◌, ◌⊎◌, IfOk, OnErr, IfSome, OnSome};
-ghost use Rattle.std.specs.Prelude.{ℕ, List, Some, length, true, OnOk};
+ghost use Rattle.std.specs.Prelude.{true};
 ghost use Rattle.cbor4ii_rw.specs.Reader.{Breaks};
 ghost use Rattle.cbor4ii_items.specs.Head.{ArgumentBehind, byte_count, shortest};
 ghost use Rattle.cbor4ii_tree.specs.Front.{Offers};
@@ -9,9 +9,6 @@ ghost use Rattle.cbor4ii_tree.specs.Item.{IsItem};
 ghost use Rattle.cbor4ii_tree.specs.Leaf.{ExactHead, SeesLeaf, StandsAhead, TakesLeaf};
 ghost use Rattle.cbor4ii_tree.specs.Strictly.{ReadsExactlyUnder, StopsExactlyUnder};
 ghost use Rattle.cbor4ii_tree.specs.Valuing.{ReadsUnder, StopsUnder};
-ghost use Rattle.cbor4ii_tree.specs.Leaf.{PutsRun, PutsItems, PutsItemsUnder, KeepsItems};
-ghost use Rattle.cbor4ii_tree.specs.Ahead.{NeverStops};
-ghost use Rattle.cbor4ii_tree.specs.Does.{Does, answered};
 ghost use Rattle.cbor4ii_tree.specs.View.{view};
 
 use crate::simple::simple_of;
@@ -24,8 +21,8 @@ use cbor4ii_rw::error::DecodeError;
 use cbor4ii_rw::read::Source;
 use std::alloc::Global;
 
-/// How many bytes a look asks for. An item in them takes less than a step each.
-const WINDOW: usize = 256;
+/// How many bytes a look asks for.
+pub(crate) const WINDOW: usize = 256;
 
 /// What the shown bytes begin with.
 pub(crate) enum Leaf {
@@ -73,109 +70,6 @@ pub(crate) fn take_leaf<S: Source>(
     }
 }
 
-/// Takes the values that come next, as long as they hold no other and one look shows them whole,
-/// and puts them behind `items`, up to `most` in all. A refusal is left in `failure`.
-#[inline(always)]
-pub(crate) fn take_run<S: Source>(
-    alloc: Global,
-    reader: &mut S,
-    most: usize,
-    items: &mut Vec<Value>,
-    failure: &mut Option<DecodeError<S::Error>>,
-) -> Option<()>
-    requires { length items.old.items ≤ most }
-    ensures puts { Does (PutsItems items.old.items items.new.items (S.view reader.old).budget)
-        NeverStops (S.view reader.old) (S.view reader.new) (answered result failure.new) }
-    ensures items { OnSome result (KeepsItems items.old.items items.new.items) }
-    ensures few { OnSome result (length items.new.items ≤ most) }
-    ensures more { OnSome result (length items.old.items ≤ length items.new.items) }
-{
-    if !reader.step_in() {
-        return Some(());
-    }
-    let outcome = run_inside(alloc, reader, most, items, failure);
-    reader.step_out();
-    outcome
-}
-
-/// The same where a step was taken, which each of the values takes in turn.
-#[inline(always)]
-fn run_inside<S: Source>(
-    alloc: Global,
-    reader: &mut S,
-    most: usize,
-    items: &mut Vec<Value>,
-    failure: &mut Option<DecodeError<S::Error>>,
-) -> Option<()>
-    requires { length items.old.items ≤ most }
-    ensures puts { Does (PutsItemsUnder items.old.items items.new.items (S.view reader.old).budget)
-        NeverStops (S.view reader.old) (S.view reader.new) (answered result failure.new) }
-    ensures items { OnSome result (KeepsItems items.old.items items.new.items) }
-    ensures few { OnSome result (length items.new.items ≤ most) }
-    ensures more { OnSome result (length items.old.items ≤ length items.new.items) }
-{
-    match glance_run(alloc, reader, most, items) {
-        Ok((size, whole)) => {
-            reader.advance(size);
-            if whole {
-                return Some(());
-            }
-            *failure = None;
-            None
-        }
-        Err(error) => {
-            leave(DecodeError::Read(error), failure);
-            None
-        }
-    }
-}
-
-/// Puts the values that one look shows behind `items`, and answers in how many bytes they stand,
-/// and whether there was memory.
-#[inline(always)]
-fn glance_run<S: Source>(
-    alloc: Global,
-    reader: &mut S,
-    most: usize,
-    items: &mut Vec<Value>,
-) -> Result<(usize, bool), S::Error>
-    requires { length items.old.items ≤ most }
-    ensures offers { IfOk result (λ run. Offers 256
-        (λ shown. PutsRun shown items.old.items items.new.items run)
-        (S.view reader.old) (S.view reader.new)) }
-    ensures few { OnOk result (length items.new.items ≤ most) }
-    ensures breaks { OnErr result (Breaks (S.view reader.old) (S.view reader.new)) }
-{
-    let mut failure = None;
-    match look(reader, WINDOW, &mut failure) {
-        Some(shown) => Ok(put_run(alloc, shown, most, items)),
-        None => Err(failure.unwrap()),
-    }
-}
-
-/// Puts the values at the front of the shown bytes behind `items`, up to `most` in all.
-#[inline(always)]
-fn put_run(alloc: Global, shown: &[u8], most: usize, items: &mut Vec<Value>) -> (usize, bool)
-    requires { length items.old.items ≤ most }
-    ensures puts { PutsRun shown.now items.old.items items.new.items result }
-    ensures few { length items.new.items ≤ most }
-{
-    let mut size = 0;
-    while items.len() < most {
-        match leaf_of(alloc, &shown[size..], false) {
-            Leaf::Whole(value, bytes) => {
-                size += bytes;
-                if items.push(value).is_err() {
-                    return (size, false);
-                }
-            }
-            Leaf::NoMemory(bytes) => return (size + bytes, false),
-            Leaf::Unseen => return (size, true),
-        }
-    }
-    (size, true)
-}
-
 /// What comes next, decided by one look.
 #[inline(always)]
 fn glance<S: Source>(alloc: Global, reader: &mut S, exact: bool) -> Result<Leaf, S::Error>
@@ -192,7 +86,7 @@ fn glance<S: Source>(alloc: Global, reader: &mut S, exact: bool) -> Result<Leaf,
 
 /// What the shown bytes begin with.
 #[inline(always)]
-fn leaf_of(alloc: Global, shown: &[u8], exact: bool) -> Leaf
+pub(crate) fn leaf_of(alloc: Global, shown: &[u8], exact: bool) -> Leaf
     ensures { SeesLeaf (exact ≡ true) result shown.now }
 {
     let [first, behind @ ..] = shown else {

@@ -14,6 +14,7 @@ mod leaf;
 mod lend_raw;
 mod range;
 pub mod raw;
+mod run;
 mod simple;
 mod skip;
 mod slot;

@@ -2,7 +2,7 @@
 //!
 //! A refusal is as large as the reader's error, which may be of any size. So what calls itself,
 //! item in item, hands up no more than a value or none, and the refusal goes through a reference.
-ghost use Rattle.std.specs.Prelude.{◌≡◌, Some};
+ghost use Rattle.std.specs.Prelude.{◌≡◌, ◌∷◌, ◌++◌, [], Some, None, OnSome, IfNone};
 ghost use Rattle.cbor4ii_tree.specs.Does.{answered};
 
 use cbor4ii_rw::error::DecodeError;
@@ -47,5 +47,24 @@ pub(crate) fn whole<T: Drop, E: Drop>(
             Some(error) => Err(error),
             None => Err(DecodeError::OutOfMemory),
         },
+    }
+}
+
+/// Puts an item behind those that are there. Where memory is refused, `failure` is left empty.
+#[inline(always)]
+pub(crate) fn keep<T: Drop, E: Drop>(
+    items: &mut Vec<T>,
+    item: T,
+    failure: &mut Option<DecodeError<E>>,
+) -> Option<()>
+    ensures kept { OnSome result (items.new.items ≡ items.old.items ++ item ∷ []) }
+    ensures memory { IfNone result (failure.new ≡ None) }
+{
+    match items.push(item) {
+        Ok(()) => Some(()),
+        Err(_) => {
+            *failure = None;
+            None
+        }
     }
 }

@@ -1,6 +1,6 @@
 -- The calls of reading a value that is spelled in one way, one behind another.
 use Rattle.std.proofs.Common.{◌≡◌, ◌≢◌, ℕ, suc, ◌+◌, ◌*◌, ◌/◌, ◌<◌, ◌≤◌, inl, inr, List, [], ◌∷◌}
-use Rattle.std.proofs.Common.{◌++◌, length, drop, Option, Some, None, Result, Ok, Err, Bool, cond}
+use Rattle.std.proofs.Common.{◌++◌, length, drop, Option, Some, None, Result, Ok, Err}
 use Rattle.std.proofs.Common.{true, false, refl, sym, ap, ap₂, ◌∙◌, subst, arith, append_assoc}
 use Rattle.std.proofs.Common.{take-append-drop, Vec, Global, String, negsuc, ◌-ℤ◌}
 use Rattle.std.specs.Prelude.{IsUtf8, string_bytes}
@@ -28,7 +28,7 @@ use Rattle.cbor4ii_items.specs.Initial.{precision_bytes, initial}
 use Rattle.cbor4ii_items.specs.Laws.Answering.{fits_zero}
 use Rattle.cbor4ii_tree.specs.declared.value.Value.{Value, Integer, Float, Bytes, Text, Array, Map}
 use Rattle.cbor4ii_tree.specs.declared.value.FloatBits.{FloatBits}
-use Rattle.cbor4ii_tree.specs.Tree.{no_trees, no_pairs, int, string, array, map_of, tagged, simple}
+use Rattle.cbor4ii_tree.specs.Tree.{int, string, array, map_of, tagged, simple}
 use Rattle.cbor4ii_tree.specs.Tree.{bits, count, bytes, bytes_all, bytes_pairs}
 use Rattle.cbor4ii_tree.specs.Item.{integer, float, sequence, mapping, tag}
 use Rattle.cbor4ii_tree.specs.Cost.{Budget, cost, greatest_cost, greatest_pair_cost}
@@ -426,10 +426,6 @@ counted_does name major n reads S {a = a} {m = m} p d =
 
 -- ---- values, one behind another
 
-pub items_none : (budget : Budget) (xs : List ℕ) (vs : List Value) → vs ≡ []
-    → ExactItems 0 budget xs vs xs
-items_none budget xs vs e = (no_trees, refl, tt, sym (ap items_view e), refl)
-
 pub items_more : (n : ℕ) (budget : Budget) (vs ws : List Value) (v : Value) (xs ys zs : List ℕ)
     → ws ≡ vs ++ v ∷ [] → ExactItems n budget xs vs ys → ReadsExactly budget ys v zs
     → ExactItems (n + 1) budget xs ws zs
@@ -453,10 +449,6 @@ pub value_stops : (budget : Budget) (key : Value) (xs ys : List ℕ) (e : Refusa
     → StopsExactMember budget xs e rest
 value_stops budget key xs ys e rest h s =
     inr (record { key = h.0; after = ys; whole = h.1; is = h.3; stopped = s })
-
-pub members_none : (budget : Budget) (ms : List (Value × Value)) (xs : List ℕ) → ms ≡ []
-    → ExactMembers 0 budget xs ms xs
-members_none budget ms xs e = (no_pairs, refl, tt, sym (ap members_view e), refl)
 
 pub members_more : (n : ℕ) (budget : Budget) (ms ns : List (Value × Value)) (m : Value × Value)
     (xs ys zs : List ℕ) → ns ≡ ms ++ m ∷ [] → ExactMembers n budget xs ms ys
@@ -564,7 +556,3 @@ pub peek_stops : {E : Type 0} {e : DecodeError E} {a c : View}
     → Does {V = Value} (ReadsExactlyUnder a.budget) (StopsExactlyUnder a.budget) a c (Err e)
 peek_stops {a = a} p =
     nothing_there (ReadsExactlyUnder a.budget) (StopsExactlyUnder a.budget) (λ z rest is. is) p
-
-pub pushed : {A : Type 0} (b : Bool) (x y z : List A) → z ≡ cond b x y → b ≡ true → z ≡ x
-pushed true x y z e h = e
-pushed false x y z e h = cc

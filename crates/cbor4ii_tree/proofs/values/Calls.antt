@@ -75,10 +75,6 @@ values-push (tree u us) t (w ∷ vs) v e f =
     let more = values-push us t vs v tail f in
     ap (λ i. item i (values (push us t))) head ∙ ap (item (view w)) more
 
-pub none : (budget : Budget) (xs : List ℕ) (vs : List Value) → vs ≡ []
-    → ReadsItems 0 budget xs vs xs
-none budget xs vs e = (no_trees, refl, tt, sym (ap items_view e), refl)
-
 pub items_more : (n : ℕ) (budget : Budget) (vs ws : List Value) (v : Value) (xs ys zs : List ℕ)
     → ws ≡ vs ++ v ∷ [] → ReadsItems n budget xs vs ys → ReadsOneValue budget ys v zs
     → ReadsItems (n + 1) budget xs ws zs

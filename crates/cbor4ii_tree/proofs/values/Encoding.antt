@@ -3,7 +3,6 @@ use Rattle.std.proofs.Common.{◌≡◌, ℕ, ◌^◌, List, [], ◌∷◌, ◌+
 use Rattle.std.proofs.Common.{ltb, ℤ, pos, negsuc, refl, sym, ap, ◌∙◌, append_assoc, rules, Vec}
 use Rattle.std.proofs.Common.{Global, Box}
 use Rattle.std.specs.Prelude.{Result, Ok, Err, OnOk}
-use Rattle.std.proofs.lemmas.List.{append-nil}
 use Rattle.cbor4ii_items.specs.Head.{shortest, head}
 use Rattle.cbor4ii_items.specs.Initial.{Sign, unsigned, negative, sign_major}
 use Rattle.cbor4ii_items.specs.Numbers.{shortest_head, bignum_bytes, signed_bytes}

@@ -1,7 +1,7 @@
 -- Runs: values that hold no other, one behind another in shown bytes.
-use Rattle.std.proofs.Common.{◌≡◌, ℕ, ◌+◌, ◌≤◌, List, [], ◌∷◌, ◌++◌, length, take, drop, refl, sym}
-use Rattle.std.proofs.Common.{ap, ap₂, ◌∙◌, subst, arith, append_assoc, length-append, length-drop}
-use Rattle.std.proofs.Common.{take-append-drop, true, false, Bool, Result, Ok, Err}
+use Rattle.std.proofs.Common.{◌≡◌, ℕ, suc, ◌+◌, ◌*◌, ◌≤◌, List, [], ◌∷◌, ◌++◌, length, take, drop, refl}
+use Rattle.std.proofs.Common.{sym, ap, ap₂, ◌∙◌, subst, arith, append_assoc, length-append}
+use Rattle.std.proofs.Common.{length-drop, take-append-drop, true, false, Bool, Result, Ok, Err}
 use Rattle.std.proofs.Math.Seq.{take-add}
 use Rattle.std.proofs.lemmas.List.{append-nil}
 use Rattle.cbor4ii_rw.specs.Reader.{Advances, KeepsAllButBudget, StepsIn, step_back}
@@ -12,34 +12,66 @@ use Rattle.cbor4ii_items.specs.Decoding.{CostFits}
 use Rattle.cbor4ii_items.specs.Head.{IsBytes}
 use Rattle.cbor4ii_items.specs.Laws.Answering.{fits_zero}
 use Rattle.cbor4ii_items.specs.Laws.Contents.{lends_front}
+use Rattle.cbor4ii_items.specs.Laws.UnderStep.{no_step}
 use Rattle.cbor4ii_tree.specs.Ahead.{NeverStops}
 use Rattle.cbor4ii_tree.specs.Cost.{Budget}
 use Rattle.cbor4ii_tree.specs.Does.{Accepting, Does}
 use Rattle.cbor4ii_tree.specs.Front.{Offers}
-use Rattle.cbor4ii_tree.specs.Item.{AreItems}
+use Rattle.cbor4ii_tree.specs.Item.{AreItems, AreMembers, item, no_items}
 use Rattle.cbor4ii_tree.specs.Laws.Binds.{step_up}
-use Rattle.cbor4ii_tree.specs.Leaf.{StandsAhead, StandInFront, IsPlainLeaf, PutsRun, PutsItems}
-use Rattle.cbor4ii_tree.specs.Leaf.{PutsItemsUnder, KeepsItems, MayTake}
-use Rattle.cbor4ii_tree.specs.Stops.{Each, Stopping}
+use Rattle.cbor4ii_tree.specs.Leaf.{StandsAhead, MayTake}
+use Rattle.cbor4ii_tree.specs.LeafRuns.{flat_values, IsLeaf, StandInFront, PutsBehind, PutsRun}
+use Rattle.cbor4ii_tree.specs.LeafRuns.{Puts, Pushes, ReadsEach, PutsItems, PutsItemsUnder}
+use Rattle.cbor4ii_tree.specs.LeafRuns.{KeepsItems}
+use Rattle.cbor4ii_tree.specs.Stops.{Each, EachPair, Stopping}
 use Rattle.cbor4ii_tree.specs.StopsReading.{Readable}
-use Rattle.cbor4ii_tree.specs.Tree.{Trees, no_trees, tree, bytes, bytes_all, count}
-use Rattle.cbor4ii_tree.specs.Meaning.{value, values}
-use Rattle.cbor4ii_tree.specs.Valuing.{ReadsItems}
-use Rattle.cbor4ii_tree.specs.View.{view, items_view}
+use Rattle.cbor4ii_tree.specs.StopsStrictly.{Exactly}
+use Rattle.cbor4ii_tree.specs.Tree.{Tree, Trees, no_trees, tree, Pairs, no_pairs, pair, bytes}
+use Rattle.cbor4ii_tree.specs.Tree.{bytes_all, bytes_pairs, count, pair_count}
+use Rattle.cbor4ii_tree.specs.Meaning.{value, values, member_values}
+use Rattle.cbor4ii_tree.specs.View.{view, items_view, members_view}
 use Rattle.cbor4ii_tree.specs.declared.value.Value.{Value}
+use Rattle.cbor4ii_tree.specs.declared.run.Put.{Put}
+use Rattle.cbor4ii_tree.specs.declared.run.Put.TheVariants.{Part, NoMemory, Unseen}
 use Rattle.cbor4ii_tree.proofs.parts.Fronts.{IsBytes-append}
-use Rattle.cbor4ii_tree.proofs.parts.Pushed.{push, count-push, each-push, bytes-push}
+use Rattle.cbor4ii_tree.proofs.parts.Pushed.{join, count-join, each-join, bytes-join, flat}
+use Rattle.cbor4ii_tree.proofs.parts.Pushed.{count-flat, each-flat, bytes-flat}
 use Rattle.cbor4ii_tree.proofs.skip_calls.Doing.{does_ok, does_no_memory, does_stepped, steps_in}
 use Rattle.cbor4ii_tree.proofs.skip_calls.Doing.{kept_budget, Reached, reached_then, reached_by}
 use Rattle.cbor4ii_tree.proofs.skip_calls.Doing.{does_err}
-use Rattle.cbor4ii_items.specs.Laws.UnderStep.{no_step}
-use Rattle.cbor4ii_tree.proofs.values.Calls.{values-push, none, items_more}
-use Rattle.cbor4ii_tree.proofs.values.InRange.{AreItems-push}
+
+-- ---- lists of values
+
+values-join : (ts us : Trees) (vs ws : List Value) → values ts ≡ items_view vs
+    → values us ≡ items_view ws → values (join ts us) ≡ items_view (vs ++ ws)
+unfolding join
+values-join no_trees us [] ws e f = f
+values-join no_trees us (v ∷ vs) ws e f = cc
+values-join (tree t ts) us [] ws e f = cc
+values-join (tree t ts) us (v ∷ vs) ws e f =
+    let head : value t ≡ view v = cc in
+    let tail : values ts ≡ items_view vs = cc in
+    let more = values-join ts us vs ws tail f in
+    ap (λ i. item i (values (join ts us))) head ∙ ap (item (view v)) more
+
+AreItems-append : (vs ws : List Value) → AreItems (items_view vs) → AreItems (items_view ws)
+    → AreItems (items_view (vs ++ ws))
+AreItems-append [] ws h k = k
+AreItems-append (v ∷ vs) ws h k = (h.0, AreItems-append vs ws h.1 k)
+
+pub flat-push : (ms : List (Value × Value)) (k v : Value)
+    → flat_values (ms ++ (k, v) ∷ []) ≡ flat_values ms ++ k ∷ v ∷ []
+flat-push [] k v = refl
+flat-push (m ∷ ms) k v = ap (λ r. m.0 ∷ (m.1 ∷ r)) (flat-push ms k v)
+
+length-flat : (ms : List (Value × Value)) → length (flat_values ms) ≡ 2 * length ms
+length-flat [] = refl
+length-flat (m ∷ ms) = omega (arith, length-flat ms)
 
 -- ---- in shown bytes
 
-stand_none : (shown : List ℕ) → StandInFront [] 0 shown
-stand_none shown = record {
+stand_none : (exact : Type 0) (shown : List ℕ) → StandInFront exact [] 0 shown
+stand_none exact shown = record {
   within = omega arith;
   fresh = tt;
   trees = no_trees;
@@ -50,200 +82,352 @@ stand_none shown = record {
   is = refl;
 }
 
-stand_more : (vs : List Value) (v : Value) (at n : ℕ) (shown : List ℕ) → StandInFront vs at shown
-    → StandsAhead (false ≡ true) v n (drop at shown) → StandInFront (vs ++ v ∷ []) (at + n) shown
-stand_more vs v at n shown h l =
-    let joined : bytes_all (push h.trees l.item) ≡ bytes_all h.trees ++ bytes l.item =
-    sym (append-nil (bytes_all (push h.trees l.item)))
-    ∙ (bytes-push h.trees l.item [] ∙ ap (λ r. bytes_all h.trees ++ r) (append-nil (bytes l.item)))
-    in
-    record {
+stand_one : (exact : Type 0) (v : Value) (n : ℕ) (shown : List ℕ) → StandsAhead exact v n shown
+    → StandInFront exact (v ∷ []) n shown
+stand_one exact v n shown l = record {
+  within = l.within;
+  fresh = l.fresh;
+  trees = tree l.item no_trees;
+  many = refl;
+  each = ((l.plain, l.step, l.strict), tt);
+  means = ap (λ i. item i no_items) l.means;
+  ranged = (l.ranged, tt);
+  is = l.is ∙ sym (append-nil (bytes l.item));
+}
+
+stand_join : (exact : Type 0) (vs ws : List Value) (at n : ℕ) (shown : List ℕ)
+    → StandInFront exact vs at shown → StandInFront exact ws n (drop at shown)
+    → StandInFront exact (vs ++ ws) (at + n) shown
+stand_join exact vs ws at n shown h l = record {
+  within = omega (arith, h.within, l.within, length-drop at shown);
+  fresh =
+      subst IsBytes (sym (take-add at n shown))
+      (IsBytes-append (take at shown) (take n (drop at shown)) h.fresh l.fresh);
+  trees = join h.trees l.trees;
+  many =
+      count-join h.trees l.trees ∙ ap₂ ◌+◌ h.many l.many ∙ sym (length-append vs ws);
+  each = each-join (IsLeaf exact) h.trees l.trees h.each l.each;
+  means = values-join h.trees l.trees vs ws h.means l.means;
+  ranged = AreItems-append vs ws h.ranged l.ranged;
+  is = take-add at n shown ∙ (ap₂ ◌++◌ h.is l.is ∙ sym (bytes-join h.trees l.trees));
+}
+
+pub may_take : (exact : Type 0) (v : Value) (n : ℕ) (shown : List ℕ) → StandsAhead exact v n shown
+    → MayTake n shown
+may_take exact v n shown l = record { within = l.within; fresh = l.fresh }
+
+pub may_more : (at n size : ℕ) (shown : List ℕ) → MayTake at shown → MayTake n (drop at shown)
+    → size ≡ at + n → MayTake size shown
+may_more at n size shown h l e =
+    subst (λ j. MayTake j shown) (sym e) (record {
       within = omega (arith, h.within, l.within, length-drop at shown);
       fresh =
           subst IsBytes (sym (take-add at n shown))
           (IsBytes-append (take at shown) (take n (drop at shown)) h.fresh l.fresh);
-      trees = push h.trees l.item;
-      many =
-          count-push h.trees l.item ∙ ap (λ j. j + 1) h.many
-          ∙ sym (length-append vs (v ∷ []));
-      each = each-push IsPlainLeaf h.trees l.item h.each (l.plain, l.step);
-      means = values-push h.trees l.item vs v h.means l.means;
-      ranged = AreItems-push vs v h.ranged l.ranged;
-      is = take-add at n shown ∙ (ap₂ ◌++◌ h.is l.is ∙ sym joined);
-    }
-
-pub put_none : (shown : List ℕ) (items : List Value) → PutsRun shown items items (0, true)
-put_none shown items = ([], sym (append-nil items), stand_none shown)
-
-pub put_more : (shown : List ℕ) (before items after : List Value) (v : Value) (at n size : ℕ)
-    → PutsRun shown before items (at, true) → StandsAhead (false ≡ true) v n (drop at shown)
-    → after ≡ items ++ v ∷ [] → size ≡ at + n → PutsRun shown before after (size, true)
-put_more shown before items after v at n size p l is e = (
-  p.0 ++ v ∷ [],
-  is ∙ ap (λ r. r ++ v ∷ []) p.1 ∙ append_assoc before p.0 (v ∷ []),
-  subst (λ j. StandInFront (p.0 ++ v ∷ []) j shown) (sym e) (stand_more p.0 v at n shown p.2 l),
-)
-
-pub put_within : (shown : List ℕ) (before items : List Value) (at : ℕ)
-    → PutsRun shown before items (at, true) → at ≤ length shown
-put_within shown before items at p = p.2.within
-
-pub may_more : (shown : List ℕ) (before items : List Value) (at n size : ℕ)
-    → PutsRun shown before items (at, true) → MayTake n (drop at shown) → size ≡ at + n
-    → MayTake size shown
-may_more shown before items at n size p l e =
-    subst (λ j. MayTake j shown) (sym e) (record {
-      within = omega (arith, p.2.within, l.within, length-drop at shown);
-      fresh =
-          subst IsBytes (sym (take-add at n shown))
-          (IsBytes-append (take at shown) (take n (drop at shown)) p.2.fresh l.fresh);
     })
 
-pub may_take : (v : Value) (n : ℕ) (shown : List ℕ) → StandsAhead (false ≡ true) v n shown
-    → MayTake n shown
-may_take v n shown l = record { within = l.within; fresh = l.fresh }
+pub put_item : (exact : Type 0) (put : Put) (v : Value) (n : ℕ) (shown : List ℕ)
+    (before after : List Value) → StandsAhead exact v n shown → Pushes put v n before after
+    → Puts exact put shown before after
+put_item exact (Part k) v n shown before after l p =
+    subst (λ j. PutsBehind exact j shown before after) (sym p.0)
+    (record { new = v ∷ []; is = p.1; stand = stand_one exact v n shown l })
+put_item exact (NoMemory k) v n shown before after l p =
+    subst (λ j. MayTake j shown) (sym p.0) (may_take exact v n shown l)
+put_item exact Unseen v n shown before after l p = absurd p
+
+pub put_pair : (exact : Type 0) (put : Put) (k v : Value) (at n : ℕ) (shown : List ℕ)
+    (before after : List (Value × Value)) → StandsAhead exact k at shown
+    → StandsAhead exact v n (drop at shown) → Pushes put (k, v) (at + n) before after
+    → Puts exact put shown (flat_values before) (flat_values after)
+put_pair exact (Part j) k v at n shown before after h l p =
+    subst (λ j. PutsBehind exact j shown (flat_values before) (flat_values after)) (sym p.0)
+    (record {
+      new = k ∷ v ∷ [];
+      is = ap flat_values p.1 ∙ flat-push before k v;
+      stand =
+          stand_join exact (k ∷ []) (v ∷ []) at n shown (stand_one exact k at shown h)
+          (stand_one exact v n (drop at shown) l);
+    })
+put_pair exact (NoMemory j) k v at n shown before after h l p =
+    may_more at n j shown (may_take exact k at shown h) (may_take exact v n (drop at shown) l) p.0
+put_pair exact Unseen k v at n shown before after h l p = absurd p
+
+pub put_none : (exact : Type 0) (items : List Value) (shown : List ℕ)
+    → PutsRun exact items items (0, true) shown
+put_none exact items shown =
+    record { new = []; is = sym (append-nil items); stand = stand_none exact shown }
+
+pub put_more : (exact : Type 0) (before items after : List Value) (at n size : ℕ) (shown : List ℕ)
+    → PutsRun exact before items (at, true) shown → PutsBehind exact n (drop at shown) items after
+    → size ≡ at + n → PutsRun exact before after (size, true) shown
+put_more exact before items after at n size shown p l e = record {
+  new = p.new ++ l.new;
+  is = l.is ∙ (ap (λ r. r ++ l.new) p.is ∙ append_assoc before p.new l.new);
+  stand =
+      subst (λ j. StandInFront exact (p.new ++ l.new) j shown) (sym e)
+      (stand_join exact p.new l.new at n shown p.stand l.stand);
+}
+
+pub put_stays : (exact : Type 0) (before items after : List Value) (at : ℕ) (shown : List ℕ)
+    → PutsRun exact before items (at, true) shown → after ≡ items
+    → PutsRun exact before after (at, true) shown
+put_stays exact before items after at shown p is =
+    subst (λ r. PutsRun exact before r (at, true) shown) (sym is) p
+
+pub run_may : (exact : Type 0) (before items : List Value) (at : ℕ) (shown : List ℕ)
+    → PutsRun exact before items (at, true) shown → MayTake at shown
+run_may exact before items at shown p =
+    record { within = p.stand.within; fresh = p.stand.fresh }
 
 -- ---- taken
 
-each_fits : (budget : Budget) (ts : Trees) → CostFits 1 budget → Each IsPlainLeaf ts
-    → Each (Readable budget) ts
-each_fits budget no_trees fits h = tt
-each_fits budget (tree t ts) fits h =
-    ((h.0.0, subst (λ c. CostFits c budget) (sym h.0.1) fits), each_fits budget ts fits h.1)
+-- a leaf is such a tree
+abbrev pub LeafIs : Type 0 → (Budget → Tree → Type 0) → Type 0
+LeafIs exact Whole =
+    (budget : Budget) (t : Tree) → CostFits 1 budget → IsLeaf exact t → Whole budget t
 
-module _ (before after : List Value) {E : Type 0} {a m b : View} where
-  pub takes_run : (size : ℕ) (whole : Bool) → whole ≡ true
-      → Offers 256 (λ shown. PutsRun shown before after (size, whole)) a m → Advances size m b
-      → Does {V = Unit {0}} {E = E} (PutsItemsUnder before after a.budget) NeverStops a b (Ok tt)
-  takes_run size whole is h adv =
-      let o = subst (λ w. Offers 256 (λ shown. PutsRun shown before after (size, w)) a m) is h in
-      let f = o.is.2 in
-      let l = lends_front o.shows o.front f.within f.fresh refl adv in
-      does_ok (PutsItemsUnder before after a.budget) NeverStops (record {
+pub leaf_readable : (exact : Type 0) → LeafIs exact Readable
+leaf_readable exact budget t fits h = (h.0, subst (λ c. CostFits c budget) (sym h.1) fits)
+
+pub leaf_exactly : (exact : Type 0) → exact → LeafIs exact Exactly
+leaf_exactly exact holds budget t fits h =
+    ((h.0, h.2 holds), subst (λ c. CostFits c budget) (sym h.1) fits)
+
+each_fits : (exact : Type 0) (Whole : Budget → Tree → Type 0) → LeafIs exact Whole
+    → (budget : Budget) (ts : Trees) → CostFits 1 budget → Each (IsLeaf exact) ts
+    → Each (Whole budget) ts
+each_fits exact Whole f budget no_trees fits h = tt
+each_fits exact Whole f budget (tree t ts) fits h =
+    (f budget t fits h.0, each_fits exact Whole f budget ts fits h.1)
+
+module _ (exact : Type 0) (before after : List Value) {E : Type 0} {a m b : View} where
+  pub takes_run : (Whole : Budget → Tree → Type 0) → LeafIs exact Whole → (size : ℕ) (whole : Bool)
+      → whole ≡ true → Offers 256 (PutsRun exact before after (size, whole)) a m
+      → Advances size m b → Does {V = Unit {0}} {E = E}
+      (PutsItemsUnder Whole before after a.budget) NeverStops a b (Ok tt)
+  takes_run Whole f size whole is h adv =
+      let o = subst (λ w. Offers 256 (PutsRun exact before after (size, w)) a m) is h in
+      let s = o.is.stand in
+      let l = lends_front o.shows o.front s.within s.fresh refl adv in
+      does_ok (PutsItemsUnder Whole before after a.budget) NeverStops (record {
         kept = l.kept;
         at = λ xs told.
             let t = l.at xs told in (
               drop size xs,
               t.1,
               λ budget step. (
-                o.is.0,
-                o.is.1,
+                o.is.new,
+                o.is.is,
                 (
-                  f.trees,
-                  f.many,
-                  each_fits budget f.trees
-                      (step_up budget a.budget 0 step (fits_zero a.budget)) f.each,
-                  f.means,
+                  s.trees,
+                  s.many,
+                  each_fits exact Whole f budget s.trees
+                      (step_up budget a.budget 0 step (fits_zero a.budget)) s.each,
+                  s.means,
                   sym (take-append-drop size xs)
-                      ∙ ap (λ r. r ++ drop size xs) (sym t.2 ∙ f.is),
+                      ∙ ap (λ r. r ++ drop size xs) (sym t.2 ∙ s.is),
                 ),
               ),
             );
       })
 
-  pub run_no_memory : (size : ℕ) (whole : Bool) → whole ≡ false
-      → Offers 256 (λ shown. PutsRun shown before after (size, whole)) a m → Advances size m b
-      → Does {V = Unit {0}} {E = E} (PutsItemsUnder before after a.budget) NeverStops a b
+  pub run_no_memory : (Whole : Budget → Tree → Type 0) (size : ℕ) (whole : Bool) → whole ≡ false
+      → Offers 256 (PutsRun exact before after (size, whole)) a m → Advances size m b
+      → Does {V = Unit {0}} {E = E} (PutsItemsUnder Whole before after a.budget) NeverStops a b
       (Err OutOfMemory)
-  run_no_memory size whole is h adv =
-      let o = subst (λ w. Offers 256 (λ shown. PutsRun shown before after (size, w)) a m) is h in
+  run_no_memory Whole size whole is h adv =
+      let o = subst (λ w. Offers 256 (PutsRun exact before after (size, w)) a m) is h in
       let l = lends_front o.shows o.front o.is.within o.is.fresh refl adv in
-      does_no_memory (PutsItemsUnder before after a.budget) NeverStops refl l.kept
+      does_no_memory (PutsItemsUnder Whole before after a.budget) NeverStops refl l.kept
 
-pub run_items : (before after : List Value) (size : ℕ) (whole : Bool) {a m : View} → whole ≡ true
-    → Offers 256 (λ shown. PutsRun shown before after (size, whole)) a m → KeepsItems before after
-run_items before after size whole {a = a} {m = m} is h kept =
-    let o = subst (λ w. Offers 256 (λ shown. PutsRun shown before after (size, w)) a m) is h in
-    subst (λ x. AreItems (items_view x)) (sym o.is.1)
-    (AreItems-append before o.is.0 kept o.is.2.ranged)
-  where
-    AreItems-append : (vs ws : List Value) → AreItems (items_view vs) → AreItems (items_view ws)
-        → AreItems (items_view (vs ++ ws))
-    AreItems-append [] ws h k = k
-    AreItems-append (v ∷ vs) ws h k = (h.0, AreItems-append vs ws h.1 k)
-
-pub run_grows : (before after : List Value) (size : ℕ) (whole : Bool) {a m : View} → whole ≡ true
-    → Offers 256 (λ shown. PutsRun shown before after (size, whole)) a m
-    → length before ≤ length after
-run_grows before after size whole {a = a} {m = m} is h =
-    let o = subst (λ w. Offers 256 (λ shown. PutsRun shown before after (size, w)) a m) is h in
-    omega (arith, ap length o.is.1, length-append before o.is.0)
+pub run_items : (exact : Type 0) (before after : List Value) (size : ℕ) (whole : Bool) {a m : View}
+    → whole ≡ true → Offers 256 (PutsRun exact before after (size, whole)) a m
+    → KeepsItems before after
+run_items exact before after size whole {a = a} {m = m} is h kept =
+    let o = subst (λ w. Offers 256 (PutsRun exact before after (size, w)) a m) is h in
+    subst (λ x. AreItems (items_view x)) (sym o.is.is)
+    (AreItems-append before o.is.new kept o.is.stand.ranged)
 
 -- ---- under a step
 
-puts_none : (budget : Budget) (items : List Value) (xs : List ℕ)
-    → PutsItems items items budget xs tt xs
-puts_none budget items xs = ([], sym (append-nil items), none budget xs [] refl)
+module _ (Whole : Budget → Tree → Type 0) where
+  pub no_run : (items : List Value) {E : Type 0} {a b : View} → StepsIn a.budget b.budget false
+      → KeepsAllButBudget a b
+      → Does {V = Unit {0}} {E = E} (PutsItems Whole items items a.budget) NeverStops a b (Ok tt)
+  no_run items {a = a} {b = b} takes k =
+      does_ok (PutsItems Whole items items a.budget) NeverStops (record {
+        kept = kept_budget a b k (no_step a.budget b.budget takes).1;
+        at = λ xs told. (
+          xs,
+          k.told ∙ told,
+          ([], sym (append-nil items), (no_trees, refl, tt, refl, refl)),
+        );
+      })
 
-pub no_run : (items : List Value) {E : Type 0} {a b : View} → StepsIn a.budget b.budget false
-    → KeepsAllButBudget a b
-    → Does {V = Unit {0}} {E = E} (PutsItems items items a.budget) NeverStops a b (Ok tt)
-no_run items {a = a} {b = b} takes k =
-    does_ok (PutsItems items items a.budget) NeverStops (record {
-      kept = kept_budget a b k (no_step a.budget b.budget takes).1;
-      at = λ xs told. (xs, k.told ∙ told, puts_none a.budget items xs);
-    })
-
-pub run_stepped : (before after : List Value) {E : Type 0}
-    {r : Result (Unit {0}) (DecodeError E)} {a b c d : View} → StepsIn a.budget b.budget true
-    → KeepsAllButBudget a b → Does (PutsItemsUnder before after b.budget) NeverStops b c r
-    → d.budget ≡ step_back c.budget → KeepsAllButBudget c d
-    → Does (PutsItems before after a.budget) NeverStops a d r
-run_stepped before after {a = a} {b = b} takes inward w gives outward =
-    does_stepped (PutsItemsUnder before after b.budget) (PutsItems before after a.budget) NeverStops
-    NeverStops (λ xs ys v h. h a.budget (steps_in a.budget b.budget takes)) (λ xs e rest h. h)
-    takes inward w gives outward
+  pub run_stepped : (before after : List Value) {E : Type 0}
+      {r : Result (Unit {0}) (DecodeError E)} {a b c d : View} → StepsIn a.budget b.budget true
+      → KeepsAllButBudget a b → Does (PutsItemsUnder Whole before after b.budget) NeverStops b c r
+      → d.budget ≡ step_back c.budget → KeepsAllButBudget c d
+      → Does (PutsItems Whole before after a.budget) NeverStops a d r
+  run_stepped before after {a = a} {b = b} takes inward w gives outward =
+      does_stepped (PutsItemsUnder Whole before after b.budget)
+      (PutsItems Whole before after a.budget) NeverStops NeverStops
+      (λ xs ys v h. h a.budget (steps_in a.budget b.budget takes)) (λ xs e rest h. h)
+      takes inward w gives outward
 
 -- ---- behind other items
 
-pub none_yet : (budget : Budget) (vs : List Value) → vs ≡ [] → (xs : List ℕ)
-    → ReadsItems (length vs) budget xs vs xs
-none_yet budget vs e xs =
-    subst (λ us. ReadsItems (length us) budget xs us xs) (sym e) (none budget xs [] refl)
+pub none_yet : (W : Tree → Type 0) (vs : List Value) → vs ≡ [] → (xs : List ℕ)
+    → ReadsEach W (length vs) xs vs xs
+none_yet W vs e xs =
+    subst (λ us. ReadsEach W (length us) xs us xs) (sym e) (no_trees, refl, tt, refl, refl)
 
-pub none_too_many : (vs : List Value) (count : ℕ) → vs ≡ [] → length vs ≤ count
+pub none_too_many : {A : Type 0} (vs : List A) (count : ℕ) → vs ≡ [] → length vs ≤ count
 none_too_many vs count e = subst (λ us. length us ≤ count) (sym e) (omega arith)
 
-join : (budget : Budget) (vs ws : List Value) (ts : Trees) (xs ys zs : List ℕ)
-    → ReadsItems (length vs) budget xs vs ys → count ts ≡ length ws → Each (Readable budget) ts
-    → values ts ≡ items_view ws → ys ≡ bytes_all ts ++ zs
-    → ReadsItems (length (vs ++ ws)) budget xs (vs ++ ws) zs
-join budget vs [] no_trees xs ys zs h n e m is =
-    subst (λ us. ReadsItems (length us) budget xs us zs) (sym (append-nil vs))
-    (subst (λ r. ReadsItems (length vs) budget xs vs r) is h)
-join budget vs [] (tree t ts) xs ys zs h n e m is = cc
-join budget vs (w ∷ ws) no_trees xs ys zs h n e m is = cc
-join budget vs (w ∷ ws) (tree t ts) xs ys zs h n e m is =
-    let one : value t ≡ view w = cc in
-    let rest : values ts ≡ items_view ws = cc in
-    let many : count ts ≡ length ws = cc in
-    let left : ys ≡ bytes t ++ (bytes_all ts ++ zs) =
-    is ∙ append_assoc (bytes t) (bytes_all ts) zs in
-    let long : length vs + 1 ≡ length (vs ++ w ∷ []) = sym (length-append vs (w ∷ [])) in
-    let first = items_more (length vs) budget vs (vs ++ w ∷ []) w xs ys (bytes_all ts ++ zs) refl h
-    (t, e.0, one, left) in
-    subst (λ us. ReadsItems (length us) budget xs us zs) (append_assoc vs (w ∷ []) ws)
-    (join budget (vs ++ w ∷ []) ws ts xs (bytes_all ts ++ zs) zs
-    (subst (λ k. ReadsItems k budget xs (vs ++ w ∷ []) (bytes_all ts ++ zs)) long first) many e.1
-    rest refl)
+join_items : (W : Tree → Type 0) (vs ws : List Value) (xs ys zs : List ℕ)
+    → ReadsEach W (length vs) xs vs ys → ReadsEach W (length ws) ys ws zs
+    → ReadsEach W (length (vs ++ ws)) xs (vs ++ ws) zs
+join_items W vs ws xs ys zs h k = (
+  join h.0 k.0,
+  count-join h.0 k.0 ∙ ap₂ ◌+◌ h.1 k.1 ∙ sym (length-append vs ws),
+  each-join W h.0 k.0 h.2 k.2,
+  values-join h.0 k.0 vs ws h.3 k.3,
+  h.4 ∙ ap (λ r. bytes_all h.0 ++ r) k.4 ∙ sym (append_assoc (bytes_all h.0) (bytes_all k.0) zs)
+      ∙ ap (λ r. r ++ zs) (sym (bytes-join h.0 k.0)),
+)
 
-module _ (items after : List Value) {a m : View}
-    (p : Reached (λ xs ys. ReadsItems (length items) a.budget xs items ys) a m) where
+module _ (Whole : Budget → Tree → Type 0) (items after : List Value) {a m : View}
+    (p : Reached (λ xs ys. ReadsEach (Whole a.budget) (length items) xs items ys) a m) where
   pub ran : {E : Type 0} {u : Unit {0}} {b : View}
-      → Does {E = E} (PutsItems items after m.budget) NeverStops m b (Ok u)
-      → Reached (λ xs ys. ReadsItems (length after) a.budget xs after ys) a b
+      → Does {E = E} (PutsItems Whole items after m.budget) NeverStops m b (Ok u)
+      → Reached (λ xs ys. ReadsEach (Whole a.budget) (length after) xs after ys) a b
   ran {u = u} d =
-      reached_then (λ xs ys. ReadsItems (length items) a.budget xs items ys)
-      (λ xs ys. PutsItems items after m.budget xs u ys)
-      (λ xs ys. ReadsItems (length after) a.budget xs after ys)
+      reached_then (λ xs ys. ReadsEach (Whole a.budget) (length items) xs items ys)
+      (λ xs ys. PutsItems Whole items after m.budget xs u ys)
+      (λ xs ys. ReadsEach (Whole a.budget) (length after) xs after ys)
       (λ xs ys zs h s.
-      let t = subst (λ o. ReadsItems (length s.0) o ys s.0 zs) p.kept.budget s.2 in
-      subst (λ us. ReadsItems (length us) a.budget xs us zs) (sym s.1)
-      (join a.budget items s.0 t.0 xs ys zs h t.1 t.2 t.3 t.4)) p (reached_by d)
+      subst (λ us. ReadsEach (Whole a.budget) (length us) xs us zs) (sym s.1)
+      (join_items (Whole a.budget) items s.0 xs ys zs h
+      (subst (λ o. ReadsEach (Whole o) (length s.0) ys s.0 zs) p.kept.budget s.2)))
+      p (reached_by d)
 
   pub run_stops : {V E : Type 0} (B : Accepting V) (T : Stopping) {e : DecodeError E} {b : View}
-      → Does {V = Unit {0}} (PutsItems items after m.budget) NeverStops m b (Err e)
+      → Does {V = Unit {0}} (PutsItems Whole items after m.budget) NeverStops m b (Err e)
       → Does {V = V} B T a b (Err e)
   run_stops B T d =
-      does_err (λ xs ys. ReadsItems (length items) a.budget xs items ys)
-      (PutsItems items after m.budget) B NeverStops T (λ xs ys z rest h s. absurd s) p d
+      does_err (λ xs ys. ReadsEach (Whole a.budget) (length items) xs items ys)
+      (PutsItems Whole items after m.budget) B NeverStops T (λ xs ys z rest h s. absurd s) p d
+
+-- ---- pairs
+
+-- so many pairs, of which each encoding is such a tree
+abbrev pub ReadsPairs : (Tree → Type 0) → ℕ → List ℕ → List (Value × Value) → List ℕ → Type 0
+ReadsPairs W n xs ms ys =
+    (ps : Pairs) × (pair_count ps ≡ n) × EachPair W ps × (member_values ps ≡ members_view ms)
+    × (xs ≡ bytes_pairs ps ++ ys)
+
+pub no_pairs_yet : (W : Tree → Type 0) (ms : List (Value × Value)) → ms ≡ [] → (xs : List ℕ)
+    → ReadsPairs W (length ms) xs ms xs
+no_pairs_yet W ms e xs =
+    subst (λ us. ReadsPairs W (length us) xs us xs) (sym e) (no_pairs, refl, tt, refl, refl)
+
+values-flat : (ps : Pairs) (ms : List (Value × Value)) → member_values ps ≡ members_view ms
+    → values (flat ps) ≡ items_view (flat_values ms)
+unfolding flat
+values-flat no_pairs [] e = refl
+values-flat no_pairs (m ∷ ms) e = cc
+values-flat (pair k v ps) [] e = cc
+values-flat (pair k v ps) (m ∷ ms) e =
+    let key : value k ≡ view m.0 = cc in
+    let behind : value v ≡ view m.1 = cc in
+    let tail : member_values ps ≡ members_view ms = cc in
+    let more = values-flat ps ms tail in
+    cc (key, behind, more)
+
+-- the trees of keys and values, in pairs again
+in_pairs : (W : Tree → Type 0) (ms : List (Value × Value)) (ts : Trees)
+    → count ts ≡ length (flat_values ms) → Each W ts → values ts ≡ items_view (flat_values ms)
+    → (ps : Pairs) × (pair_count ps ≡ length ms) × EachPair W ps
+    × (member_values ps ≡ members_view ms) × (bytes_all ts ≡ bytes_pairs ps)
+in_pairs W [] no_trees n h e = (no_pairs, refl, tt, refl, refl)
+in_pairs W [] (tree t ts) n h e = cc
+in_pairs W (m ∷ ms) no_trees n h e = cc
+in_pairs W (m ∷ ms) (tree k no_trees) n h e = cc
+in_pairs W (m ∷ ms) (tree k (tree v ts)) n h e =
+    let many : count ts ≡ length (flat_values ms) = cc in
+    let key : value k ≡ view m.0 = cc in
+    let behind : value v ≡ view m.1 = cc in
+    let tail : values ts ≡ items_view (flat_values ms) = cc in
+    let r = in_pairs W ms ts many h.1.1 tail in (
+      pair k v r.0,
+      ap suc r.1,
+      (h.0, h.1.0, r.2),
+      cc (key, behind, r.3),
+      ap (λ z. bytes k ++ (bytes v ++ z)) r.4,
+    )
+
+flat_items : (W : Tree → Type 0) (ms : List (Value × Value)) (xs ys : List ℕ)
+    → ReadsPairs W (length ms) xs ms ys
+    → ReadsEach W (length (flat_values ms)) xs (flat_values ms) ys
+flat_items W ms xs ys h = (
+  flat h.0,
+  count-flat h.0 ∙ ap (λ j. 2 * j) h.1 ∙ sym (length-flat ms),
+  each-flat W h.0 h.2,
+  values-flat h.0 ms h.3,
+  h.4 ∙ ap (λ r. r ++ ys) (sym (bytes-flat h.0)),
+)
+
+pairs_of : (W : Tree → Type 0) (ms : List (Value × Value)) (xs ys : List ℕ)
+    → ReadsEach W (length (flat_values ms)) xs (flat_values ms) ys
+    → ReadsPairs W (length ms) xs ms ys
+pairs_of W ms xs ys h =
+    let r = in_pairs W ms h.0 h.1 h.2 h.3 in
+    (r.0, r.1, r.2, r.3, h.4 ∙ ap (λ z. z ++ ys) r.4)
+
+module _ (Whole : Budget → Tree → Type 0) (pairs after : List (Value × Value)) {a m : View}
+    (p : Reached (λ xs ys. ReadsPairs (Whole a.budget) (length pairs) xs pairs ys) a m) where
+  as_items : Reached (λ xs ys. ReadsEach (Whole a.budget) (length (flat_values pairs)) xs
+      (flat_values pairs) ys) a m
+  as_items =
+      record {
+        kept = p.kept;
+        at = λ xs told.
+            let s = p.at xs told in
+            (s.0, s.1, flat_items (Whole a.budget) pairs xs s.0 s.2);
+      }
+
+  pub ran_pairs : {E : Type 0} {u : Unit {0}} {b : View}
+      → Does {E = E} (PutsItems Whole (flat_values pairs) (flat_values after) m.budget) NeverStops
+      m b (Ok u)
+      → Reached (λ xs ys. ReadsPairs (Whole a.budget) (length after) xs after ys) a b
+  ran_pairs d =
+      let r = ran Whole (flat_values pairs) (flat_values after) as_items d in
+      record {
+        kept = r.kept;
+        at = λ xs told.
+            let s = r.at xs told in
+            (s.0, s.1, pairs_of (Whole a.budget) after xs s.0 s.2);
+      }
+
+  pub pairs_stop : {V E : Type 0} (B : Accepting V) (T : Stopping) {e : DecodeError E} {b : View}
+      → Does {V = Unit {0}} (PutsItems Whole (flat_values pairs) (flat_values after) m.budget)
+      NeverStops m b (Err e) → Does {V = V} B T a b (Err e)
+  pairs_stop B T d = run_stops Whole (flat_values pairs) (flat_values after) as_items B T d
+
+-- ---- pairs stay in range
+
+flat_are : (ms : List (Value × Value)) → AreMembers (members_view ms)
+    → AreItems (items_view (flat_values ms))
+flat_are [] h = tt
+flat_are (m ∷ ms) h = (h.0, (h.1, flat_are ms h.2))
+
+members_of_flat : (ms : List (Value × Value)) → AreItems (items_view (flat_values ms))
+    → AreMembers (members_view ms)
+members_of_flat [] h = tt
+members_of_flat (m ∷ ms) h = (h.0, h.1.0, members_of_flat ms h.1.1)
+
+pub keeps_members : (ms ns : List (Value × Value)) → KeepsItems (flat_values ms) (flat_values ns)
+    → AreMembers (members_view ms) → AreMembers (members_view ns)
+keeps_members ms ns keeps h = members_of_flat ns (keeps (flat_are ms h))

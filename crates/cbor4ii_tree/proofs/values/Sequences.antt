@@ -344,10 +344,6 @@ values-push_pair (pair j u ps) k v (m ∷ ms) x y e f g =
     let more = values-push_pair ps k v ms x y tail f g in
     cc more
 
-pub members_none : (budget : Budget) (ms : List (Value × Value)) (xs : List ℕ) → ms ≡ []
-    → ReadsMembers 0 budget xs ms xs
-members_none budget ms xs e = (no_pairs, refl, tt, sym (ap members_view e), refl)
-
 pub members_more : (n : ℕ) (budget : Budget) (ms ns : List (Value × Value)) (m : Value × Value)
     (xs ys zs : List ℕ) → ns ≡ ms ++ m ∷ [] → ReadsMembers n budget xs ms ys
     → ReadsMember budget ys m zs → ReadsMembers (n + 1) budget xs ns zs

@@ -1,5 +1,9 @@
-use Rattle.std.proofs.Common.{ℕ, refl, ap, subst, inl, arith, ◌∙◌, ◌+◌, ◌*◌, ◌≡◌}
-use Rattle.std.proofs.Common.{Vec, Global}
+use Rattle.std.proofs.Common.{ℕ, refl, sym, ap, subst, inl, arith, ◌∙◌, ◌+◌, ◌*◌, ◌≡◌, [], ◌∷◌}
+use Rattle.std.proofs.Common.{length, length-append, Vec, Global}
+use Rattle.cbor4ii_tree.specs.Does.{refusal_left}
+use Rattle.cbor4ii_tree.specs.StopsStrictly.{Exactly}
+use Rattle.cbor4ii_tree.proofs.values.LeafRuns.{none_yet, none_too_many, ran, run_stops}
+use Rattle.cbor4ii_tree.proofs.values.LeafRuns.{no_pairs_yet, ran_pairs, pairs_stop}
 use Rattle.cbor4ii_tree.specs.declared.value.Value.{Value, Array, Map, Tag}
 use Rattle.cbor4ii_tree.specs.Item.{tag}
 use Rattle.cbor4ii_tree.specs.View.{view}
@@ -18,9 +22,9 @@ use Rattle.cbor4ii_tree.proofs.values.Heads.{view-Tag}
 use Rattle.cbor4ii_tree.proofs.values.Sequences.{more, ends}
 use Rattle.cbor4ii_tree.proofs.canonical.Calls.{reached_shortest, call_stops, exact_ok, exact_err}
 use Rattle.cbor4ii_tree.proofs.canonical.Calls.{exact_first, exact_tag, exact_tag_err, looked_at}
-use Rattle.cbor4ii_tree.proofs.canonical.Calls.{peek_stops, pushed, simple_exact, undefined_stops}
-use Rattle.cbor4ii_tree.proofs.canonical.Calls.{stepped_one, stepped_more, counted_does, items_none}
-use Rattle.cbor4ii_tree.proofs.canonical.Calls.{items_more, item_stops, value_stops, members_none}
+use Rattle.cbor4ii_tree.proofs.canonical.Calls.{peek_stops, simple_exact, undefined_stops}
+use Rattle.cbor4ii_tree.proofs.canonical.Calls.{stepped_one, stepped_more, counted_does}
+use Rattle.cbor4ii_tree.proofs.canonical.Calls.{items_more, item_stops, value_stops}
 use Rattle.cbor4ii_tree.proofs.canonical.Calls.{members_more, member_stops, array_exact, map_exact}
 use Rattle.cbor4ii_items.specs.Laws.Running.{kept_alike}
 use Rattle.cbor4ii_tree.proofs.values.Answered.{went_on, around, behind}
@@ -67,31 +71,6 @@ array_inside-returns-in_err-count-clause-does g t c =
     (StrictArrayStops StopsExactly (g.S.Source.view c.args.reader.now).budget)
     (λ xs z rest h. inl h) (rw c.in_err-count.ensures at c.canonical_head.ensures.moves) (rw
     c.in_err-count.ensures at c.canonical_head.ensures.stops))
-
-pub counted_items-loop-i-init : goal.counted_items-loop-i-init
-counted_items-loop-i-init g t c =
-    reached_start (λ xs ys. ExactItems 0 (g.S.Source.view c.args.reader.now).budget xs _ ys) _
-    (λ xs. items_none (g.S.Source.view c.args.reader.now).budget xs _ (cc))
-
-pub counted_items-loop-i-preserved : goal.counted_items-loop-i-preserved
-counted_items-loop-i-preserved g t c =
-    more ReadsExactly StopsExactly (λ xs ys. ExactItems c.loop-i.i (g.S.Source.view
-    c.args.reader.now).budget xs c.loop-i.items.items ys) c.loop-i.invariant
-    (λ xs ys. ExactItems (c.loop-i.i + 1) (g.S.Source.view c.args.reader.now).budget xs _ ys)
-    (λ xs ys zs h s. items_more c.loop-i.i (g.S.Source.view c.args.reader.now).budget
-    c.loop-i.items.items _ c.in_ok-value.value xs ys zs (pushed _ _ _ _ c.push.ensures.items
-    c.if-is_err-2.ensures.negation) h s) c.in_ok-value.ensures.does
-
-pub counted_items-returns-in_err-value : goal.counted_items-returns-in_err-value
-counted_items-returns-in_err-value g t c =
-    rw c.from_residual.ensures (ends ReadsExactly StopsExactly (λ xs ys. ExactItems c.loop-i.i
-    (g.S.Source.view c.args.reader.now).budget xs c.loop-i.items.items ys)
-    c.loop-i.invariant (λ xs (v : Vec Value Global) ys.
-    ExactItems c.args.count (g.S.Source.view c.args.reader.now).budget xs v.items ys)
-    (StopsExactItems c.args.count (g.S.Source.view c.args.reader.now).budget)
-    (λ xs ys z rest h s.
-    item_stops c.loop-i.i c.args.count (g.S.Source.view c.args.reader.now).budget
-    c.loop-i.items.items xs ys z rest c.loop-i-test.true h s) c.in_err-value.ensures.does)
 
 pub read_array-returns-clause-does : goal.read_array-returns-clause-does
 read_array-returns-clause-does g t c =
@@ -142,31 +121,6 @@ read_map-returns-then-not-step_in-clause-does g t c =
     (StopsExactlyStepped map_name (StrictMapStops StopsExactly)
     (g.S.Source.view c.args.reader.now).budget) refl refl (λ none xs. rw none (refl, refl))
     c.if-not-step_in.ensures.budget c.step_in.ensures.others)
-
-pub counted_members-loop-i-init : goal.counted_members-loop-i-init
-counted_members-loop-i-init g t c =
-    reached_start (λ xs ys. ExactMembers 0 (g.S.Source.view c.args.reader.now).budget xs _ ys) _
-    (λ xs. members_none (g.S.Source.view c.args.reader.now).budget _ xs (cc))
-
-pub counted_members-loop-i-preserved : goal.counted_members-loop-i-preserved
-counted_members-loop-i-preserved g t c =
-    more ExactMember StopsExactMember (λ xs ys. ExactMembers c.loop-i.i (g.S.Source.view
-    c.args.reader.now).budget xs c.loop-i.members.items ys) c.loop-i.invariant
-    (λ xs ys. ExactMembers (c.loop-i.i + 1) (g.S.Source.view c.args.reader.now).budget xs _ ys)
-    (λ xs ys zs h s. members_more c.loop-i.i (g.S.Source.view c.args.reader.now).budget
-    c.loop-i.members.items _ c.in_ok-member.member xs ys zs (pushed _ _ _ _
-    c.push.ensures.items c.if-is_err-2.ensures.negation) h s) c.in_ok-member.ensures.does
-
-pub counted_members-returns-in_err-member : goal.counted_members-returns-in_err-member
-counted_members-returns-in_err-member g t c =
-    rw c.from_residual.ensures (ends ExactMember StopsExactMember (λ xs ys. ExactMembers c.loop-i.i
-    (g.S.Source.view c.args.reader.now).budget xs c.loop-i.members.items ys)
-    c.loop-i.invariant (λ xs (v : Vec (Value × Value) Global) ys.
-    ExactMembers c.args.count (g.S.Source.view c.args.reader.now).budget xs v.items ys)
-    (StopsExactItems (2 * c.args.count) (g.S.Source.view c.args.reader.now).budget)
-    (λ xs ys z rest h s. member_stops c.loop-i.i c.args.count (g.S.Source.view
-    c.args.reader.now).budget c.loop-i.members.items xs ys z rest c.loop-i-test.true h s)
-    c.in_err-member.ensures.does)
 
 pub read_member-returns-clause-does : goal.read_member-returns-clause-does
 read_member-returns-clause-does g t c =
@@ -314,20 +268,6 @@ read_by_first-returns-in-Some-clause-does g t c =
     simple_exact c.in_ok-first.first (rw c.in_ok-first.ensures at c.peek.ensures.runs) (rw
     c.in_ok-first.ensures at c.peek.ensures.byte)
     c.advance-in-Some.ensures c.if-first.false c.in-Some.ensures
-
-pub counted_items-returns-then-is_err-2 : goal.counted_items-returns-then-is_err-2
-counted_items-returns-then-is_err-2 g t c =
-    does_no_memory (λ xs (v : Vec Value Global) ys.
-    ExactItems c.args.count (g.S.Source.view c.args.reader.now).budget xs v.items ys)
-    (StopsExactItems c.args.count (g.S.Source.view c.args.reader.now).budget) refl
-    (kept_then c.loop-i.invariant.kept c.in_ok-value.ensures.does.moves.by)
-
-pub counted_members-returns-then-is_err-2 : goal.counted_members-returns-then-is_err-2
-counted_members-returns-then-is_err-2 g t c =
-    does_no_memory (λ xs (v : Vec (Value × Value) Global) ys.
-    ExactMembers c.args.count (g.S.Source.view c.args.reader.now).budget xs v.items ys)
-    (StopsExactItems (2 * c.args.count) (g.S.Source.view c.args.reader.now).budget) refl
-    (kept_then c.loop-i.invariant.kept c.in_ok-member.ensures.does.moves.by)
 
 pub array_inside-returns-in_err-count-clause-progress :
     goal.array_inside-returns-in_err-count-clause-progress
@@ -484,12 +424,6 @@ read_by_first-read_float-requires-clause-major g t c = omega (arith, c.in-7.is)
 pub read_by_first-simple_of-requires : goal.read_by_first-simple_of-requires
 read_by_first-simple_of-requires g t c = tt
 
-pub counted_items-loop-i-smaller : goal.counted_items-loop-i-smaller
-counted_items-loop-i-smaller g t c = omega (arith, c.loop-i-test.true)
-
-pub counted_members-loop-i-smaller : goal.counted_members-loop-i-smaller
-counted_members-loop-i-smaller g t c = omega (arith, c.loop-i-test.true)
-
 pub read_by_first-returns-in-Some-clause-progress :
     goal.read_by_first-returns-in-Some-clause-progress
 read_by_first-returns-in-Some-clause-progress g t c =
@@ -499,25 +433,191 @@ read_by_first-returns-in-Some-clause-progress g t c =
       c.advance-in-Some.ensures.bound,
     )
 
-pub counted_items-returns : goal.counted_items-returns
-counted_items-returns g t c =
-    let e : c.loop-i.i ≡ c.args.count = omega (arith, c.loop-i-test.false, c.loop-i.auto.i-end) in
-    does_ok (λ xs (v : Vec Value Global) ys.
-    ExactItems c.args.count (g.S.Source.view c.args.reader.now).budget xs v.items ys)
-    (StopsExactItems c.args.count (g.S.Source.view c.args.reader.now).budget)
-    (subst (λ n. Reached (λ xs ys. ExactItems n (g.S.Source.view c.args.reader.now).budget xs
-    c.loop-i.items.items ys) (g.S.Source.view c.args.reader.now)
-    (g.S.Source.view c.loop-i.reader)) e c.loop-i.invariant)
-
-pub counted_members-returns : goal.counted_members-returns
-counted_members-returns g t c =
-    let e : c.loop-i.i ≡ c.args.count = omega (arith, c.loop-i-test.false, c.loop-i.auto.i-end) in
-    does_ok (λ xs (v : Vec (Value × Value) Global) ys.
-    ExactMembers c.args.count (g.S.Source.view c.args.reader.now).budget xs v.items ys)
-    (StopsExactItems (2 * c.args.count) (g.S.Source.view c.args.reader.now).budget)
-    (subst (λ n. Reached (λ xs ys. ExactMembers n (g.S.Source.view c.args.reader.now).budget xs
-    c.loop-i.members.items ys) (g.S.Source.view c.args.reader.now)
-    (g.S.Source.view c.loop-i.reader)) e c.loop-i.invariant)
-
 pub read_by_first-advance-requires-in-Some : goal.read_by_first-advance-requires-in-Some
 read_by_first-advance-requires-in-Some g t c = (rw c.in_ok-first.ensures at c.peek.ensures.can)
+
+-- ---- values one behind another
+
+pub counted_items-loop-alloc-init : goal.counted_items-loop-alloc-init
+counted_items-loop-alloc-init g t c = record {
+  reached =
+      reached_start (λ xs ys. ExactItems (length c.reserve.new.self.items)
+      (g.S.Source.view c.args.reader.now).budget xs c.reserve.new.self.items ys) _
+      (none_yet (Exactly (g.S.Source.view c.args.reader.now).budget) _ (cc));
+  few = none_too_many _ c.args.count (cc);
+}
+
+pub counted_items-returns-in_err-take_run : goal.counted_items-returns-in_err-take_run
+counted_items-returns-in_err-take_run g t c =
+    rw c.from_residual.ensures (run_stops Exactly c.loop-alloc.items.items
+    c.take_run.new.parts.items c.loop-alloc.invariant.reached
+    (λ xs (v : Vec Value Global) ys. ExactItems c.args.count (g.S.Source.view c.args.reader.now).budget xs v.items ys)
+    (StopsExactItems c.args.count (g.S.Source.view c.args.reader.now).budget) (c.in_err-take_run.ensures.exactly refl))
+
+pub counted_items-returns-in_err-value : goal.counted_items-returns-in_err-value
+counted_items-returns-in_err-value g t c =
+    rw c.from_residual-in_err-value.ensures (ends ReadsExactly StopsExactly
+    (λ xs ys. ExactItems (length c.take_run.new.parts.items) (g.S.Source.view c.args.reader.now).budget xs
+    c.take_run.new.parts.items ys)
+    (ran Exactly c.loop-alloc.items.items c.take_run.new.parts.items
+    c.loop-alloc.invariant.reached (c.in_ok-take_run.ensures.exactly refl))
+    (λ xs (v : Vec Value Global) ys. ExactItems c.args.count (g.S.Source.view c.args.reader.now).budget xs v.items ys)
+    (StopsExactItems c.args.count (g.S.Source.view c.args.reader.now).budget)
+    (λ xs ys z rest h s. item_stops (length c.take_run.new.parts.items) c.args.count
+    (g.S.Source.view c.args.reader.now).budget c.take_run.new.parts.items xs ys z rest
+    (omega (arith, c.if-len-count.true)) h s) c.in_err-value.ensures.does)
+
+pub counted_items-loop-alloc-smaller-in-Continue-branch-3 :
+    goal.counted_items-loop-alloc-smaller-in-Continue-branch-3
+counted_items-loop-alloc-smaller-in-Continue-branch-3 g t c =
+    omega (
+      arith,
+      c.if-len-count.true,
+      c.in_ok-take_run.ensures.more,
+      ap length c.in_ok-keep.ensures.kept,
+      length-append c.take_run.new.parts.items (c.in_ok-value.value ∷ []),
+    )
+
+pub counted_items-loop-alloc-preserved-in-Continue-branch-3 :
+    goal.counted_items-loop-alloc-preserved-in-Continue-branch-3
+counted_items-loop-alloc-preserved-in-Continue-branch-3 g t c =
+    let long : length c.keep.new.items.items ≡ length c.take_run.new.parts.items + 1 =
+    ap length c.in_ok-keep.ensures.kept
+    ∙ length-append c.take_run.new.parts.items (c.in_ok-value.value ∷ []) in
+    record {
+      reached =
+          subst (λ n. Reached (λ xs ys. ExactItems n (g.S.Source.view c.args.reader.now).budget xs
+          c.keep.new.items.items ys) (g.S.Source.view c.args.reader.now)
+          (g.S.Source.view c.read_nested.new.reader)) (sym long)
+          (more ReadsExactly StopsExactly
+          (λ xs ys. ExactItems (length c.take_run.new.parts.items) (g.S.Source.view c.args.reader.now).budget xs
+          c.take_run.new.parts.items ys)
+          (ran Exactly c.loop-alloc.items.items c.take_run.new.parts.items
+          c.loop-alloc.invariant.reached (c.in_ok-take_run.ensures.exactly refl))
+          (λ xs ys. ExactItems (length c.take_run.new.parts.items + 1) (g.S.Source.view c.args.reader.now).budget xs _ ys)
+          (λ xs ys zs h s. items_more (length c.take_run.new.parts.items) (g.S.Source.view c.args.reader.now).budget
+          c.take_run.new.parts.items _ c.in_ok-value.value xs ys zs c.in_ok-keep.ensures.kept
+          h s) c.in_ok-value.ensures.does);
+      few = omega (arith, long, c.if-len-count.true);
+    }
+
+pub counted_items-returns-in_err-keep : goal.counted_items-returns-in_err-keep
+counted_items-returns-in_err-keep g t c =
+    rw c.from_residual-in_err-keep.ensures (does_no_memory (λ xs (v : Vec Value Global) ys.
+    ExactItems c.args.count (g.S.Source.view c.args.reader.now).budget xs v.items ys) (StopsExactItems c.args.count
+    (g.S.Source.view c.args.reader.now).budget) (ap refusal_left c.in_err-keep.ensures.memory)
+    (kept_then (ran Exactly c.loop-alloc.items.items c.take_run.new.parts.items
+    c.loop-alloc.invariant.reached (c.in_ok-take_run.ensures.exactly refl)).kept
+    c.in_ok-value.ensures.does.moves.by))
+
+pub counted_items-loop-alloc-preserved : goal.counted_items-loop-alloc-preserved
+counted_items-loop-alloc-preserved g t c = record {
+  reached =
+      ran Exactly c.loop-alloc.items.items c.take_run.new.parts.items
+      c.loop-alloc.invariant.reached (c.in_ok-take_run.ensures.exactly refl);
+  few = c.in_ok-take_run.ensures.few;
+}
+
+pub counted_members-loop-alloc-init : goal.counted_members-loop-alloc-init
+counted_members-loop-alloc-init g t c = record {
+  reached =
+      reached_start (λ xs ys. ExactMembers (length c.reserve.new.self.items)
+      (g.S.Source.view c.args.reader.now).budget xs c.reserve.new.self.items ys) _
+      (no_pairs_yet (Exactly (g.S.Source.view c.args.reader.now).budget) _ (cc));
+  few = none_too_many _ c.args.count (cc);
+}
+
+pub counted_members-returns-in_err-take_run : goal.counted_members-returns-in_err-take_run
+counted_members-returns-in_err-take_run g t c =
+    rw c.from_residual.ensures (pairs_stop Exactly c.loop-alloc.members.items
+    c.take_run.new.parts.items c.loop-alloc.invariant.reached
+    (λ xs (v : Vec (Value × Value) Global) ys. ExactMembers c.args.count (g.S.Source.view c.args.reader.now).budget xs v.items ys)
+    (StopsExactItems (2 * c.args.count) (g.S.Source.view c.args.reader.now).budget) (c.in_err-take_run.ensures.exactly refl))
+
+pub counted_members-returns-in_err-member : goal.counted_members-returns-in_err-member
+counted_members-returns-in_err-member g t c =
+    rw c.from_residual-in_err-member.ensures (ends ExactMember StopsExactMember
+    (λ xs ys. ExactMembers (length c.take_run.new.parts.items) (g.S.Source.view c.args.reader.now).budget xs
+    c.take_run.new.parts.items ys)
+    (ran_pairs Exactly c.loop-alloc.members.items c.take_run.new.parts.items
+    c.loop-alloc.invariant.reached (c.in_ok-take_run.ensures.exactly refl))
+    (λ xs (v : Vec (Value × Value) Global) ys. ExactMembers c.args.count (g.S.Source.view c.args.reader.now).budget xs v.items ys)
+    (StopsExactItems (2 * c.args.count) (g.S.Source.view c.args.reader.now).budget)
+    (λ xs ys z rest h s. member_stops (length c.take_run.new.parts.items) c.args.count
+    (g.S.Source.view c.args.reader.now).budget c.take_run.new.parts.items xs ys z rest
+    (omega (arith, c.if-len-count.true)) h s) c.in_err-member.ensures.does)
+
+pub counted_members-loop-alloc-smaller-in-Continue-branch-3 :
+    goal.counted_members-loop-alloc-smaller-in-Continue-branch-3
+counted_members-loop-alloc-smaller-in-Continue-branch-3 g t c =
+    omega (
+      arith,
+      c.if-len-count.true,
+      c.in_ok-take_run.ensures.more,
+      ap length c.in_ok-keep.ensures.kept,
+      length-append c.take_run.new.parts.items (c.in_ok-member.member ∷ []),
+    )
+
+pub counted_members-loop-alloc-preserved-in-Continue-branch-3 :
+    goal.counted_members-loop-alloc-preserved-in-Continue-branch-3
+counted_members-loop-alloc-preserved-in-Continue-branch-3 g t c =
+    let long : length c.keep.new.items.items ≡ length c.take_run.new.parts.items + 1 =
+    ap length c.in_ok-keep.ensures.kept
+    ∙ length-append c.take_run.new.parts.items (c.in_ok-member.member ∷ []) in
+    record {
+      reached =
+          subst (λ n. Reached (λ xs ys. ExactMembers n (g.S.Source.view c.args.reader.now).budget xs
+          c.keep.new.items.items ys) (g.S.Source.view c.args.reader.now)
+          (g.S.Source.view c.read_member.new.reader)) (sym long)
+          (more ExactMember StopsExactMember
+          (λ xs ys. ExactMembers (length c.take_run.new.parts.items) (g.S.Source.view c.args.reader.now).budget xs
+          c.take_run.new.parts.items ys)
+          (ran_pairs Exactly c.loop-alloc.members.items c.take_run.new.parts.items
+          c.loop-alloc.invariant.reached (c.in_ok-take_run.ensures.exactly refl))
+          (λ xs ys. ExactMembers (length c.take_run.new.parts.items + 1) (g.S.Source.view c.args.reader.now).budget xs _ ys)
+          (λ xs ys zs h s. members_more (length c.take_run.new.parts.items) (g.S.Source.view c.args.reader.now).budget
+          c.take_run.new.parts.items _ c.in_ok-member.member xs ys zs c.in_ok-keep.ensures.kept
+          h s) c.in_ok-member.ensures.does);
+      few = omega (arith, long, c.if-len-count.true);
+    }
+
+pub counted_members-returns-in_err-keep : goal.counted_members-returns-in_err-keep
+counted_members-returns-in_err-keep g t c =
+    rw c.from_residual-in_err-keep.ensures (does_no_memory (λ xs (v : Vec (Value × Value) Global) ys.
+    ExactMembers c.args.count (g.S.Source.view c.args.reader.now).budget xs v.items ys) (StopsExactItems (2 * c.args.count)
+    (g.S.Source.view c.args.reader.now).budget) (ap refusal_left c.in_err-keep.ensures.memory)
+    (kept_then (ran_pairs Exactly c.loop-alloc.members.items c.take_run.new.parts.items
+    c.loop-alloc.invariant.reached (c.in_ok-take_run.ensures.exactly refl)).kept
+    c.in_ok-member.ensures.does.moves.by))
+
+pub counted_members-loop-alloc-preserved : goal.counted_members-loop-alloc-preserved
+counted_members-loop-alloc-preserved g t c = record {
+  reached =
+      ran_pairs Exactly c.loop-alloc.members.items c.take_run.new.parts.items
+      c.loop-alloc.invariant.reached (c.in_ok-take_run.ensures.exactly refl);
+  few = c.in_ok-take_run.ensures.few;
+}
+
+-- ---- a value that one look has not decided
+
+pub read_nested-returns-clause-does : goal.read_nested-returns-clause-does
+read_nested-returns-clause-does g t c =
+    stepped_one c.if-not-step_in.ensures.budget c.step_in.ensures.others
+    c.read_by_first-outcome.ensures.does c.step_out.ensures.budget c.step_out.ensures.others
+
+pub read_nested-returns-then-not-step_in-clause-does :
+    goal.read_nested-returns-then-not-step_in-clause-does
+read_nested-returns-then-not-step_in-clause-does g t c =
+    rw c.leave.ensures (does_no_step value_name (ReadsExactly (g.S.Source.view
+    c.args.reader.now).budget)
+    (StopsExactly (g.S.Source.view c.args.reader.now).budget) refl refl
+    (λ none xs. rw none (refl, refl)) c.if-not-step_in.ensures.budget c.step_in.ensures.others)
+
+pub read_nested-returns-then-not-step_in-clause-progress :
+    goal.read_nested-returns-then-not-step_in-clause-progress
+read_nested-returns-then-not-step_in-clause-progress g t c = tt
+
+pub read_nested-returns-clause-progress : goal.read_nested-returns-clause-progress
+read_nested-returns-clause-progress g t c =
+    around _ _ _ _ _ c.step_in.ensures.others.bound c.step_out.ensures.others.bound
+    c.read_by_first-outcome.ensures.progress

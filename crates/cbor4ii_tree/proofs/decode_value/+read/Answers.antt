@@ -26,7 +26,7 @@ use Rattle.cbor4ii_tree.proofs.values.Sequences.{length_refused, reached_length,
 use Rattle.cbor4ii_tree.proofs.values.Sequences.{array_counted, array_opened, array_reads}
 use Rattle.cbor4ii_tree.proofs.values.Sequences.{map_counted, map_opened, map_reads, each_none}
 use Rattle.cbor4ii_tree.proofs.values.Sequences.{each_more, open_end, open_stop, open_done}
-use Rattle.cbor4ii_tree.proofs.values.Sequences.{members_none, members_more, member_stop}
+use Rattle.cbor4ii_tree.proofs.values.Sequences.{members_more, member_stop}
 use Rattle.cbor4ii_tree.proofs.values.Sequences.{pairs_none, pairs_more, members_end, pair_stop}
 use Rattle.cbor4ii_tree.proofs.values.Sequences.{value_stop, members_done, more, ends}
 use Rattle.cbor4ii_tree.proofs.values.Items.{items_none, items_are, members_none_are, members_are}
@@ -35,7 +35,10 @@ use Rattle.cbor4ii_items.specs.Laws.Running.{kept_alike}
 use Rattle.cbor4ii_tree.proofs.values.Answered.{went_on, around, behind, found}
 use Rattle.cbor4ii_tree.proofs.values.Ends.{nothing_there}
 use Rattle.cbor4ii_tree.proofs.values.Leaves.{after_look}
+use Rattle.cbor4ii_tree.specs.StopsReading.{Readable}
 use Rattle.cbor4ii_tree.proofs.values.LeafRuns.{none_yet, none_too_many, ran, run_stops}
+use Rattle.cbor4ii_tree.proofs.values.LeafRuns.{no_pairs_yet, ran_pairs, pairs_stop}
+use Rattle.cbor4ii_tree.proofs.values.LeafRuns.{keeps_members}
 use Rattle.cbor4ii_tree.proofs.decode_value.+read.Goals as goal
 
 pub read_inside-returns-in-Some-None-clause-does : goal.read_inside-returns-in-Some-None-clause-does
@@ -64,42 +67,6 @@ array_inside-returns-in_err-count-clause-does g t c =
     (g.S.Source.view c.args.reader.now).budget z rest) (rw c.in_err-count.ensures at
     c.len.ensures.moves)
     (rw c.in_err-count.ensures at c.len.ensures.stops))
-
-pub counted_members-loop-i-init : goal.counted_members-loop-i-init
-counted_members-loop-i-init g t c = record {
-  reached =
-      reached_start (λ xs ys. ReadsMembers 0 (g.S.Source.view c.args.reader.now).budget xs _ ys) _
-      (λ xs. members_none (g.S.Source.view c.args.reader.now).budget _ xs (cc));
-  items = members_none_are (cc);
-}
-
-pub counted_members-loop-i-preserved : goal.counted_members-loop-i-preserved
-counted_members-loop-i-preserved g t c = record {
-  reached =
-      more ReadsMember StopsMember (λ xs ys. ReadsMembers c.loop-i.i
-      (g.S.Source.view c.args.reader.now).budget xs c.loop-i.members.items ys)
-      c.loop-i.invariant.reached (λ xs ys. ReadsMembers (c.loop-i.i + 1)
-      (g.S.Source.view c.args.reader.now).budget xs _ ys)
-      (λ xs ys zs h s. members_more c.loop-i.i (g.S.Source.view c.args.reader.now).budget
-      c.loop-i.members.items _ c.in_ok-member.member xs ys zs c.in_ok-keep.ensures.kept h s)
-      c.in_ok-member.ensures.does;
-  items =
-      members_are _ c.loop-i.members.items c.in_ok-member.member.0 c.in_ok-member.member.1
-      c.in_ok-keep.ensures.kept c.loop-i.invariant.items c.in_ok-member.ensures.key
-      c.in_ok-member.ensures.value;
-}
-
-pub counted_members-returns-in_err-member-clause-does :
-    goal.counted_members-returns-in_err-member-clause-does
-counted_members-returns-in_err-member-clause-does g t c =
-    rw c.from_residual.ensures (ends ReadsMember StopsMember (λ xs ys. ReadsMembers c.loop-i.i
-    (g.S.Source.view
-    c.args.reader.now).budget xs c.loop-i.members.items ys) c.loop-i.invariant.reached
-    (λ xs v ys. ReadsMembers c.args.count (g.S.Source.view c.args.reader.now).budget xs
-    v.items ys) (StopsMembers c.args.count (g.S.Source.view c.args.reader.now).budget)
-    (λ xs ys z rest h s. member_stop c.loop-i.i c.args.count (g.S.Source.view
-    c.args.reader.now).budget c.loop-i.members.items xs ys z rest c.loop-i-test.true h s)
-    c.in_err-member.ensures.does)
 
 pub map_inside-returns-in-None-clause-does : goal.map_inside-returns-in-None-clause-does
 map_inside-returns-in-None-clause-does g t c =
@@ -423,14 +390,6 @@ read_value-returns-clause-does g t c =
     stepped c.if-not-step_in.ensures.budget c.step_in.ensures.others
     c.read_inside-outcome.ensures.does c.step_out.ensures.budget c.step_out.ensures.others
 
-pub counted_members-returns-in_err-keep-clause-does :
-    goal.counted_members-returns-in_err-keep-clause-does
-counted_members-returns-in_err-keep-clause-does g t c =
-    rw c.from_residual-in_err-keep.ensures (does_no_memory (λ xs v ys. ReadsMembers c.args.count
-    (g.S.Source.view c.args.reader.now).budget xs v.items ys) (StopsMembers c.args.count
-    (g.S.Source.view c.args.reader.now).budget) (ap refusal_left c.in_err-keep.ensures.memory)
-    (kept_then c.loop-i.invariant.reached.kept c.in_ok-member.ensures.does.moves.by))
-
 pub open_items-returns-in_err-keep-clause-does : goal.open_items-returns-in_err-keep-clause-does
 open_items-returns-in_err-keep-clause-does g t c =
     rw c.from_residual-in_err-keep.ensures (does_no_memory
@@ -472,20 +431,6 @@ pub array_inside-returns-in_err-count-clause-progress :
     goal.array_inside-returns-in_err-count-clause-progress
 array_inside-returns-in_err-count-clause-progress g t c =
     rw c.from_residual.ensures tt
-
-pub counted_members-returns-then-is_err-clause-items :
-    goal.counted_members-returns-then-is_err-clause-items
-counted_members-returns-then-is_err-clause-items g t c = tt
-
-pub counted_members-returns-in_err-member-clause-items :
-    goal.counted_members-returns-in_err-member-clause-items
-counted_members-returns-in_err-member-clause-items g t c =
-    rw c.from_residual.ensures tt
-
-pub counted_members-returns-in_err-keep-clause-items :
-    goal.counted_members-returns-in_err-keep-clause-items
-counted_members-returns-in_err-keep-clause-items g t c =
-    rw c.from_residual-in_err-keep.ensures tt
 
 pub map_inside-returns-in_err-count-clause-items : goal.map_inside-returns-in_err-count-clause-items
 map_inside-returns-in_err-count-clause-items g t c =
@@ -638,9 +583,6 @@ counted_members-returns-then-is_err-clause-does g t c =
     ReadsMembers c.args.count (g.S.Source.view c.args.reader.now).budget xs v.items ys)
     (StopsMembers c.args.count (g.S.Source.view c.args.reader.now).budget) refl (kept_alike _)
 
-pub counted_members-returns-clause-items : goal.counted_members-returns-clause-items
-counted_members-returns-clause-items g t c = c.loop-i.invariant.items
-
 pub open_items-returns-clause-items : goal.open_items-returns-clause-items
 open_items-returns-clause-items g t c = c.loop-items.invariant.items
 
@@ -779,9 +721,6 @@ read_by_first-read_float-requires-clause-major g t c = omega (arith, c.in-7.is)
 pub read_by_first-simple_of-requires : goal.read_by_first-simple_of-requires
 read_by_first-simple_of-requires g t c = tt
 
-pub counted_members-loop-i-smaller : goal.counted_members-loop-i-smaller
-counted_members-loop-i-smaller g t c = omega (arith, c.loop-i-test.true)
-
 pub read_by_first-returns-in-Some-clause-progress :
     goal.read_by_first-returns-in-Some-clause-progress
 read_by_first-returns-in-Some-clause-progress g t c =
@@ -790,15 +729,6 @@ read_by_first-returns-in-Some-clause-progress g t c =
       (rw c.in_ok-first.ensures at c.peek.ensures.runs).moves.by.bound,
       c.advance.ensures.bound,
     )
-
-pub counted_members-returns-clause-does : goal.counted_members-returns-clause-does
-counted_members-returns-clause-does g t c =
-    let e : c.loop-i.i ≡ c.args.count = omega (arith, c.loop-i-test.false, c.loop-i.auto.i-end) in
-    does_ok (λ xs v ys. ReadsMembers c.args.count (g.S.Source.view c.args.reader.now).budget xs
-    v.items ys) (StopsMembers c.args.count (g.S.Source.view c.args.reader.now).budget)
-    (subst (λ n. Reached (λ xs ys. ReadsMembers n (g.S.Source.view c.args.reader.now).budget xs
-    c.loop-i.members.items ys) (g.S.Source.view c.args.reader.now)
-    (g.S.Source.view c.loop-i.reader)) e c.loop-i.invariant.reached)
 
 pub read_by_first-returns-in_err-first-clause-does :
     goal.read_by_first-returns-in_err-first-clause-does
@@ -859,7 +789,7 @@ counted_items-loop-alloc-init g t c = record {
   reached =
       reached_start (λ xs ys. ReadsItems (length c.reserve.new.self.items)
       (g.S.Source.view c.args.reader.now).budget xs c.reserve.new.self.items ys) _
-      (none_yet (g.S.Source.view c.args.reader.now).budget _ (cc));
+      (none_yet (Readable (g.S.Source.view c.args.reader.now).budget) _ (cc));
   items = items_none (cc);
   few = none_too_many _ c.args.count (cc);
 }
@@ -867,7 +797,7 @@ counted_items-loop-alloc-init g t c = record {
 pub counted_items-returns-in_err-take_run-clause-does :
     goal.counted_items-returns-in_err-take_run-clause-does
 counted_items-returns-in_err-take_run-clause-does g t c =
-    rw c.from_residual.ensures (run_stops c.loop-alloc.items.items c.take_run.new.items.items
+    rw c.from_residual.ensures (run_stops Readable c.loop-alloc.items.items c.take_run.new.parts.items
     c.loop-alloc.invariant.reached (λ xs v ys. ReadsItems c.args.count (g.S.Source.view
     c.args.reader.now).budget xs v.items ys) (StopsItems c.args.count (g.S.Source.view
     c.args.reader.now).budget) c.in_err-take_run.ensures.puts)
@@ -875,8 +805,8 @@ counted_items-returns-in_err-take_run-clause-does g t c =
 pub counted_items-returns-in_err-value-clause-does :
     goal.counted_items-returns-in_err-value-clause-does
 counted_items-returns-in_err-value-clause-does g t c =
-    rw c.from_residual-in_err-value.ensures (counted_stop (length c.take_run.new.items.items)
-    c.take_run.new.items.items (ran c.loop-alloc.items.items c.take_run.new.items.items
+    rw c.from_residual-in_err-value.ensures (counted_stop (length c.take_run.new.parts.items)
+    c.take_run.new.parts.items (ran Readable c.loop-alloc.items.items c.take_run.new.parts.items
     c.loop-alloc.invariant.reached c.in_ok-take_run.ensures.puts)
     (λ xs v ys. ReadsItems c.args.count (g.S.Source.view c.args.reader.now).budget xs
     v.items ys) c.args.count (omega (arith, c.if-len-count.true)) c.in_err-value.ensures.does)
@@ -889,25 +819,25 @@ counted_items-loop-alloc-smaller-in-Continue-branch-3 g t c =
       c.if-len-count.true,
       c.in_ok-take_run.ensures.more,
       ap length c.in_ok-keep.ensures.kept,
-      length-append c.take_run.new.items.items (c.in_ok-value.value ∷ []),
+      length-append c.take_run.new.parts.items (c.in_ok-value.value ∷ []),
     )
 
 pub counted_items-loop-alloc-preserved-in-Continue-branch-3 :
     goal.counted_items-loop-alloc-preserved-in-Continue-branch-3
 counted_items-loop-alloc-preserved-in-Continue-branch-3 g t c =
-    let long : length c.keep.new.items.items ≡ length c.take_run.new.items.items + 1 =
+    let long : length c.keep.new.items.items ≡ length c.take_run.new.parts.items + 1 =
     ap length c.in_ok-keep.ensures.kept
-    ∙ length-append c.take_run.new.items.items (c.in_ok-value.value ∷ []) in
+    ∙ length-append c.take_run.new.parts.items (c.in_ok-value.value ∷ []) in
     record {
       reached =
           subst (λ n. Reached (λ xs ys. ReadsItems n (g.S.Source.view c.args.reader.now).budget xs
           c.keep.new.items.items ys) (g.S.Source.view c.args.reader.now)
           (g.S.Source.view c.read_nested.new.reader)) (sym long)
-          (counted_more (length c.take_run.new.items.items) c.take_run.new.items.items
-          (ran c.loop-alloc.items.items c.take_run.new.items.items c.loop-alloc.invariant.reached
+          (counted_more (length c.take_run.new.parts.items) c.take_run.new.parts.items
+          (ran Readable c.loop-alloc.items.items c.take_run.new.parts.items c.loop-alloc.invariant.reached
           c.in_ok-take_run.ensures.puts) _ c.in_ok-keep.ensures.kept c.in_ok-value.ensures.does);
       items =
-          items_are _ c.take_run.new.items.items c.in_ok-value.value c.in_ok-keep.ensures.kept
+          items_are _ c.take_run.new.parts.items c.in_ok-value.value c.in_ok-keep.ensures.kept
           (c.in_ok-take_run.ensures.items c.loop-alloc.invariant.items) c.in_ok-value.ensures.item;
       few = omega (arith, long, c.if-len-count.true);
     }
@@ -918,15 +848,110 @@ counted_items-returns-in_err-keep-clause-does g t c =
     rw c.from_residual-in_err-keep.ensures (does_no_memory (λ xs v ys. ReadsItems c.args.count
     (g.S.Source.view c.args.reader.now).budget xs v.items ys) (StopsItems c.args.count
     (g.S.Source.view c.args.reader.now).budget) (ap refusal_left c.in_err-keep.ensures.memory)
-    (kept_then (ran c.loop-alloc.items.items c.take_run.new.items.items
+    (kept_then (ran Readable c.loop-alloc.items.items c.take_run.new.parts.items
     c.loop-alloc.invariant.reached c.in_ok-take_run.ensures.puts).kept
     c.in_ok-value.ensures.does.moves.by))
 
 pub counted_items-loop-alloc-preserved : goal.counted_items-loop-alloc-preserved
 counted_items-loop-alloc-preserved g t c = record {
   reached =
-      ran c.loop-alloc.items.items c.take_run.new.items.items c.loop-alloc.invariant.reached
+      ran Readable c.loop-alloc.items.items c.take_run.new.parts.items c.loop-alloc.invariant.reached
       c.in_ok-take_run.ensures.puts;
   items = c.in_ok-take_run.ensures.items c.loop-alloc.invariant.items;
+  few = c.in_ok-take_run.ensures.few;
+}
+
+-- ---- a map whose pairs are counted
+
+pub counted_members-loop-alloc-init : goal.counted_members-loop-alloc-init
+counted_members-loop-alloc-init g t c = record {
+  reached =
+      reached_start (λ xs ys. ReadsMembers (length c.reserve.new.self.items)
+      (g.S.Source.view c.args.reader.now).budget xs c.reserve.new.self.items ys) _
+      (no_pairs_yet (Readable (g.S.Source.view c.args.reader.now).budget) _ (cc));
+  items = members_none_are (cc);
+  few = none_too_many _ c.args.count (cc);
+}
+
+pub counted_members-returns-in_err-take_run-clause-does :
+    goal.counted_members-returns-in_err-take_run-clause-does
+counted_members-returns-in_err-take_run-clause-does g t c =
+    rw c.from_residual.ensures (pairs_stop Readable c.loop-alloc.members.items
+    c.take_run.new.parts.items c.loop-alloc.invariant.reached
+    (λ xs v ys. ReadsMembers c.args.count (g.S.Source.view c.args.reader.now).budget xs v.items ys)
+    (StopsMembers c.args.count (g.S.Source.view c.args.reader.now).budget) c.in_err-take_run.ensures.puts)
+
+pub counted_members-returns-in_err-member-clause-does :
+    goal.counted_members-returns-in_err-member-clause-does
+counted_members-returns-in_err-member-clause-does g t c =
+    rw c.from_residual-in_err-member.ensures (ends ReadsMember StopsMember
+    (λ xs ys. ReadsMembers (length c.take_run.new.parts.items) (g.S.Source.view c.args.reader.now).budget xs
+    c.take_run.new.parts.items ys)
+    (ran_pairs Readable c.loop-alloc.members.items c.take_run.new.parts.items
+    c.loop-alloc.invariant.reached c.in_ok-take_run.ensures.puts)
+    (λ xs v ys. ReadsMembers c.args.count (g.S.Source.view c.args.reader.now).budget xs v.items ys)
+    (StopsMembers c.args.count (g.S.Source.view c.args.reader.now).budget)
+    (λ xs ys z rest h s. member_stop (length c.take_run.new.parts.items) c.args.count
+    (g.S.Source.view c.args.reader.now).budget c.take_run.new.parts.items xs ys z rest
+    (omega (arith, c.if-len-count.true)) h s) c.in_err-member.ensures.does)
+
+pub counted_members-loop-alloc-smaller-in-Continue-branch-3 :
+    goal.counted_members-loop-alloc-smaller-in-Continue-branch-3
+counted_members-loop-alloc-smaller-in-Continue-branch-3 g t c =
+    omega (
+      arith,
+      c.if-len-count.true,
+      c.in_ok-take_run.ensures.more,
+      ap length c.in_ok-keep.ensures.kept,
+      length-append c.take_run.new.parts.items (c.in_ok-member.member ∷ []),
+    )
+
+pub counted_members-loop-alloc-preserved-in-Continue-branch-3 :
+    goal.counted_members-loop-alloc-preserved-in-Continue-branch-3
+counted_members-loop-alloc-preserved-in-Continue-branch-3 g t c =
+    let long : length c.keep.new.items.items ≡ length c.take_run.new.parts.items + 1 =
+    ap length c.in_ok-keep.ensures.kept
+    ∙ length-append c.take_run.new.parts.items (c.in_ok-member.member ∷ []) in
+    record {
+      reached =
+          subst (λ n. Reached (λ xs ys. ReadsMembers n (g.S.Source.view c.args.reader.now).budget xs
+          c.keep.new.items.items ys) (g.S.Source.view c.args.reader.now)
+          (g.S.Source.view c.read_member.new.reader)) (sym long)
+          (more ReadsMember StopsMember
+          (λ xs ys. ReadsMembers (length c.take_run.new.parts.items) (g.S.Source.view c.args.reader.now).budget xs
+          c.take_run.new.parts.items ys)
+          (ran_pairs Readable c.loop-alloc.members.items c.take_run.new.parts.items
+          c.loop-alloc.invariant.reached c.in_ok-take_run.ensures.puts)
+          (λ xs ys. ReadsMembers (length c.take_run.new.parts.items + 1) (g.S.Source.view c.args.reader.now).budget xs _ ys)
+          (λ xs ys zs h s. members_more (length c.take_run.new.parts.items) (g.S.Source.view c.args.reader.now).budget
+          c.take_run.new.parts.items _ c.in_ok-member.member xs ys zs c.in_ok-keep.ensures.kept
+          h s) c.in_ok-member.ensures.does);
+      items =
+          members_are _ c.take_run.new.parts.items c.in_ok-member.member.0 c.in_ok-member.member.1
+          c.in_ok-keep.ensures.kept
+          (keeps_members c.loop-alloc.members.items c.take_run.new.parts.items
+          c.in_ok-take_run.ensures.items c.loop-alloc.invariant.items)
+          c.in_ok-member.ensures.key c.in_ok-member.ensures.value;
+      few = omega (arith, long, c.if-len-count.true);
+    }
+
+pub counted_members-returns-in_err-keep-clause-does :
+    goal.counted_members-returns-in_err-keep-clause-does
+counted_members-returns-in_err-keep-clause-does g t c =
+    rw c.from_residual-in_err-keep.ensures (does_no_memory (λ xs v ys. ReadsMembers c.args.count
+    (g.S.Source.view c.args.reader.now).budget xs v.items ys) (StopsMembers c.args.count
+    (g.S.Source.view c.args.reader.now).budget) (ap refusal_left c.in_err-keep.ensures.memory)
+    (kept_then (ran_pairs Readable c.loop-alloc.members.items c.take_run.new.parts.items
+    c.loop-alloc.invariant.reached c.in_ok-take_run.ensures.puts).kept
+    c.in_ok-member.ensures.does.moves.by))
+
+pub counted_members-loop-alloc-preserved : goal.counted_members-loop-alloc-preserved
+counted_members-loop-alloc-preserved g t c = record {
+  reached =
+      ran_pairs Readable c.loop-alloc.members.items c.take_run.new.parts.items
+      c.loop-alloc.invariant.reached c.in_ok-take_run.ensures.puts;
+  items =
+      keeps_members c.loop-alloc.members.items c.take_run.new.parts.items
+      c.in_ok-take_run.ensures.items c.loop-alloc.invariant.items;
   few = c.in_ok-take_run.ensures.few;
 }

@@ -57,13 +57,17 @@ invariant-counted_items-loop-alloc g l = record {
 abbrev pub decreases-counted_items-loop-alloc : goal.decreases-counted_items-loop-alloc
 decreases-counted_items-loop-alloc g l = l.count - length l.items.items
 
-abbrev pub invariant-counted_members-loop-i : goal.invariant-counted_members-loop-i
-invariant-counted_members-loop-i g l = record {
-  reached : Reached (λ xs ys. ReadsMembers l.i
+abbrev pub invariant-counted_members-loop-alloc : goal.invariant-counted_members-loop-alloc
+invariant-counted_members-loop-alloc g l = record {
+  reached : Reached (λ xs ys. ReadsMembers (length l.members.items)
       (g.S.Source.view l.fn.reader).budget xs l.members.items ys) (g.S.Source.view l.fn.reader)
       (g.S.Source.view l.reader);
   items : AreMembers (members_view l.members.items);
+  few : length l.members.items ≤ l.count;
 }
+
+abbrev pub decreases-counted_members-loop-alloc : goal.decreases-counted_members-loop-alloc
+decreases-counted_members-loop-alloc g l = l.count - length l.members.items
 
 abbrev pub invariant-open_items-loop-items : goal.invariant-open_items-loop-items
 invariant-open_items-loop-items g l =
