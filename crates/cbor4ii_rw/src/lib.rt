@@ -16,4 +16,5 @@ pub mod read;
 pub mod segment_reader;
 pub mod slice_reader;
 mod steps;
+pub mod utf8;
 pub mod write;

@@ -19,6 +19,7 @@ use cbor4ii_items::{major, marker};
 use cbor4ii_rw::ask::look;
 use cbor4ii_rw::error::DecodeError;
 use cbor4ii_rw::read::Source;
+use cbor4ii_rw::utf8::text_of;
 use std::alloc::Global;
 
 /// How many bytes a look asks for.
@@ -182,7 +183,7 @@ fn string_behind(alloc: Global, first: u8, behind: &[u8], number: u64, size: usi
     if first / 32 == major::BYTES {
         return Leaf::Whole(Value::Bytes(content), 1 + size + count);
     }
-    match String::from_utf8(content) {
+    match text_of(content) {
         Ok(text) => Leaf::Whole(Value::Text(text), 1 + size + count),
         Err(_) => Leaf::Unseen,
     }
