@@ -308,6 +308,7 @@ fn counted_items<S: Source>(
 }
 
 #[cycle(read)]
+#[inline(never)]
 fn open_items<S: Source>(
     alloc: Global,
     reader: &mut S,
@@ -391,6 +392,7 @@ fn counted_members<S: Source>(
 }
 
 #[cycle(read)]
+#[inline(never)]
 fn open_members<S: Source>(
     alloc: Global,
     reader: &mut S,

@@ -194,9 +194,5 @@ fn string_behind(alloc: Global, first: u8, behind: &[u8], number: u64, size: usi
 fn copied(alloc: Global, bytes: &[u8]) -> Option<Vec<u8>>
     ensures { IfSome result (λ copy. copy.items ≡ bytes.now) }
 {
-    let mut copy = Vec::new(alloc);
-    if copy.reserve(bytes.len()).is_err() || copy.extend_from_slice(bytes).is_err() {
-        return None;
-    }
-    Some(copy)
+    Vec::from_slice(alloc, bytes).ok()
 }
