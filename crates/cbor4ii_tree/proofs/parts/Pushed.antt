@@ -68,26 +68,3 @@ pub bytes-flat : (ps : Pairs) → bytes_all (flat ps) ≡ bytes_pairs ps
 unfolding flat
 bytes-flat no_pairs = refl
 bytes-flat (pair k v ps) = ap (λ r. bytes k ++ (bytes v ++ r)) (bytes-flat ps)
-
--- ---- items behind others
-
-unfoldable pub join : Trees → Trees → Trees
-join no_trees us = us
-join (tree t ts) us = tree t (join ts us)
-
-pub count-join : (ts us : Trees) → count (join ts us) ≡ count ts + count us
-unfolding join
-count-join no_trees us = omega arith
-count-join (tree t ts) us = omega (arith, count-join ts us)
-
-pub each-join : (W : Tree → Type 0) (ts us : Trees) → Each W ts → Each W us → Each W (join ts us)
-unfolding join
-each-join W no_trees us h k = k
-each-join W (tree t ts) us h k = (h.0, each-join W ts us h.1 k)
-
-pub bytes-join : (ts us : Trees) → bytes_all (join ts us) ≡ bytes_all ts ++ bytes_all us
-unfolding join
-bytes-join no_trees us = refl
-bytes-join (tree t ts) us =
-    ap (λ r. bytes t ++ r) (bytes-join ts us) ∙ sym (append_assoc (bytes t) (bytes_all ts)
-    (bytes_all us))

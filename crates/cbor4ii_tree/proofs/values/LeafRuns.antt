@@ -34,8 +34,8 @@ use Rattle.cbor4ii_tree.specs.declared.value.Value.{Value}
 use Rattle.cbor4ii_tree.specs.declared.run.Put.{Put}
 use Rattle.cbor4ii_tree.specs.declared.run.Put.TheVariants.{Part, NoMemory, Unseen}
 use Rattle.cbor4ii_tree.proofs.parts.Fronts.{IsBytes-append}
-use Rattle.cbor4ii_tree.proofs.parts.Pushed.{join, count-join, each-join, bytes-join, flat}
-use Rattle.cbor4ii_tree.proofs.parts.Pushed.{count-flat, each-flat, bytes-flat}
+use Rattle.cbor4ii_tree.proofs.parts.Joined.{join, count-join, each-join, bytes-join}
+use Rattle.cbor4ii_tree.proofs.parts.Pushed.{flat, count-flat, each-flat, bytes-flat}
 use Rattle.cbor4ii_tree.proofs.skip_calls.Doing.{does_ok, does_no_memory, does_stepped, steps_in}
 use Rattle.cbor4ii_tree.proofs.skip_calls.Doing.{kept_budget, Reached, reached_then, reached_by}
 use Rattle.cbor4ii_tree.proofs.skip_calls.Doing.{does_err}
@@ -109,7 +109,10 @@ stand_join exact vs ws at n shown h l = record {
   each = each-join (IsLeaf exact) h.trees l.trees h.each l.each;
   means = values-join h.trees l.trees vs ws h.means l.means;
   ranged = AreItems-append vs ws h.ranged l.ranged;
-  is = take-add at n shown ∙ (ap₂ ◌++◌ h.is l.is ∙ sym (bytes-join h.trees l.trees));
+  is =
+      take-add at n shown ∙ ap₂ ◌++◌ h.is l.is
+      ∙ ap (λ r. bytes_all h.trees ++ r) (sym (append-nil (bytes_all l.trees)))
+      ∙ sym (bytes-join h.trees l.trees []) ∙ append-nil (bytes_all (join h.trees l.trees));
 }
 
 pub may_take : (exact : Type 0) (v : Value) (n : ℕ) (shown : List ℕ) → StandsAhead exact v n shown
@@ -294,8 +297,7 @@ join_items W vs ws xs ys zs h k = (
   count-join h.0 k.0 ∙ ap₂ ◌+◌ h.1 k.1 ∙ sym (length-append vs ws),
   each-join W h.0 k.0 h.2 k.2,
   values-join h.0 k.0 vs ws h.3 k.3,
-  h.4 ∙ ap (λ r. bytes_all h.0 ++ r) k.4 ∙ sym (append_assoc (bytes_all h.0) (bytes_all k.0) zs)
-      ∙ ap (λ r. r ++ zs) (sym (bytes-join h.0 k.0)),
+  h.4 ∙ ap (λ r. bytes_all h.0 ++ r) k.4 ∙ sym (bytes-join h.0 k.0 zs),
 )
 
 module _ (Whole : Budget → Tree → Type 0) (items after : List Value) {a m : View}
