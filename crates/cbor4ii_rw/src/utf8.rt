@@ -6,8 +6,8 @@ ghost use Rattle.std.specs.String.{from_utf8_error_cause, from_utf8_error_vec, s
 
 use std::string::FromUtf8Error;
 
-/// These bytes as a text. Those of ASCII are told by eight at a time, which is quicker for a short
-/// text than to go from character to character.
+/// These bytes as a text. It is asked first whether all of them are ASCII, which takes fewer steps
+/// than the test for UTF-8: that one seeks the end of each run of ASCII.
 ///
 /// # Errors
 ///

@@ -1,5 +1,6 @@
 -- What the parts of reading a value that is spelled in one way accept, and where they stop.
-use Rattle.std.specs.Prelude.{◌≡◌, ℕ, suc, ◌⊎◌, List, ◌∷◌, ◌++◌, length, Some, None, string_bytes}
+use Rattle.std.specs.Prelude.{◌≡◌, ◌/◌, ℕ, suc, ◌⊎◌, List, ◌∷◌, ◌++◌, length, Some, None}
+use Rattle.std.specs.Prelude.{string_bytes}
 use Rattle.cbor4ii_tree.specs.Does.{Accepting}
 use Rattle.cbor4ii_tree.specs.Tree.{Tree, Trees, Pairs, count, pair_count, bytes, bytes_all}
 use Rattle.cbor4ii_tree.specs.Tree.{bytes_pairs}
@@ -37,6 +38,11 @@ StopsExactlyUnder inner xs e rest = StrictStopsFrom StopsExactly inner xs e rest
 abbrev pub StopsBehindFirst : ℕ → Budget → Stopping
 StopsBehindFirst first budget xs e rest =
     (bs : List ℕ) → xs ≡ first ∷ bs → StopsExactlyUnder budget xs e rest
+
+-- behind a first byte of this major type
+abbrev pub StopsBehindMajor : ℕ → Budget → Stopping
+StopsBehindMajor major budget xs e rest =
+    (b : ℕ) (bs : List ℕ) → xs ≡ b ∷ bs → b / 32 ≡ major → StopsExactlyUnder budget xs e rest
 
 -- where one more step is taken
 abbrev pub StopsExactlyStepped : List ℕ → (Budget → Stopping) → Budget → Stopping

@@ -1,5 +1,9 @@
 -- What the parts of reading a value accept, and where they stop.
-use Rattle.std.specs.Prelude.{◌≡◌, ℕ, ◌*◌, ◌/◌, List, ◌∷◌, ◌++◌, Option, Some, None, ◌⊎◌}
+use Rattle.std.specs.Prelude.{◌≡◌, ℕ, ◌*◌, ◌/◌, List, ◌∷◌, ◌++◌, Option, Some, None, Result, Ok}
+use Rattle.std.specs.Prelude.{◌⊎◌}
+use Rattle.cbor4ii_rw.specs.View.{View}
+use Rattle.cbor4ii_rw.specs.Reader.{Advances}
+use Rattle.cbor4ii_rw.specs.declared.error.DecodeError.{DecodeError}
 use Rattle.cbor4ii_items.specs.Head.{Width, HeadFits, head, open_head, break}
 use Rattle.cbor4ii_items.specs.Initial.{Simple, simple_byte}
 use Rattle.std.specs.declared.vec.Vec.{Vec}
@@ -119,3 +123,8 @@ StopsFirst first budget xs e rest = (bs : List ℕ) → xs ≡ first ∷ bs → 
 abbrev pub SimpleOf : ℕ → Option Value → Type 0
 SimpleOf first None = IsNoSimple first
 SimpleOf first (Some v) = (s : Simple) × (first ≡ simple_byte s) × (simple_item s ≡ view v)
+
+-- a byte that is a value by itself was taken
+abbrev pub TakesSimple : {E : Type 0} → ℕ → View → View → Result Value (DecodeError E) → Type 0
+TakesSimple first old new answer =
+    (v : Value) × (answer ≡ Ok v) × SimpleOf first (Some v) × Advances 1 old new

@@ -1,7 +1,10 @@
-//! Values that are spelled in one way, read.
-ghost use Rattle.std.specs.Prelude.{◌≡◌, ◌+◌, ◌*◌, ◌≤◌, ◌/◌, OnOk, OnSome, IfOk, IfErr, true};
+//! Values that are spelled in one way, read. Each level takes one small frame of the stack, as in
+//! `decode_value`.
+ghost use Rattle.std.specs.Prelude.{◌≡◌, ◌+◌, ◌*◌, ◌≤◌, ◌/◌, ◌⊎◌, OnOk, OnSome, IfOk};
+ghost use Rattle.std.specs.Prelude.{IfErr, true};
 ghost use Rattle.cbor4ii_items.specs.Decoding.{Sound, Refuses, Stops};
 ghost use Rattle.cbor4ii_items.specs.Moves.{Moves};
+ghost use Rattle.cbor4ii_items.specs.Shortest.{ReadsShortest, StopsShortest};
 ghost use Rattle.cbor4ii_tree.specs.Canonically.{ReadsCanonical, StopsCanonical, OnlyCanonical};
 ghost use Rattle.cbor4ii_tree.specs.Canonically.{AllCanonical, TakesSpelling, EverySpelling};
 ghost use Rattle.cbor4ii_tree.specs.Canonically.{FrontCanonical, DepthCanonical, NeverCanonical};
@@ -10,23 +13,23 @@ ghost use Rattle.cbor4ii_tree.specs.Laws.CanonicalReading.{canonical_one, canoni
 ghost use Rattle.cbor4ii_tree.specs.Laws.CanonicalReading.{canonical_positive, canonical_alone};
 ghost use Rattle.cbor4ii_tree.specs.Does.{DoesUnder, answered};
 ghost use Rattle.cbor4ii_tree.specs.Promises.{EofReads};
-ghost use Rattle.cbor4ii_tree.specs.Refusal.{array_name, map_name};
+ghost use Rattle.cbor4ii_tree.specs.Refusal.{array_name, map_name, tag_name};
 ghost use Rattle.cbor4ii_tree.specs.StopsStrictly.{StrictTextStops, StrictArrayStops};
 ghost use Rattle.cbor4ii_tree.specs.StopsStrictly.{StrictMapStops};
 ghost use Rattle.cbor4ii_tree.specs.Strictly.{ReadsExactly, StopsExactly, ReadsExactlyUnder};
 ghost use Rattle.cbor4ii_tree.specs.Strictly.{StopsExactlyUnder, StopsBehindFirst};
+ghost use Rattle.cbor4ii_tree.specs.Strictly.{StopsBehindMajor};
 ghost use Rattle.cbor4ii_tree.specs.Strictly.{StopsExactlyStepped, TextAt, ExactItems};
 ghost use Rattle.cbor4ii_tree.specs.Strictly.{StopsExactItems, ExactMember, StopsExactMember};
 ghost use Rattle.cbor4ii_tree.specs.Strictly.{ExactMembers, AcceptsCount};
-ghost use Rattle.cbor4ii_tree.specs.Valuing.{ReadsStepped, ReadsVec};
+ghost use Rattle.cbor4ii_tree.specs.Valuing.{ReadsStepped, ReadsVec, TakesSimple};
 ghost use Rattle.cbor4ii_tree.specs.View.{view};
 
-use crate::front::Own;
 use crate::leaf::take_leaf;
-use crate::run::take_run;
+use crate::run::{take_run, take_run_apart};
 use crate::simple::{read_float, simple_of};
-use crate::slot::{keep, leave, part, whole};
-use crate::unseen::peek;
+use crate::slot::{keep, leave_deep, leave_not_canonical, part, whole};
+use crate::unseen::first_of;
 use crate::value::Value;
 use cbor4ii_items::canonical::{canonical_buf, canonical_head};
 use cbor4ii_items::decode::{Decode, Spelled};
@@ -111,6 +114,7 @@ impl<S: Source> Decode<S> for Canonical {
 /// Reads one value. Where it does not, the refusal goes to `failure`, which is left empty where
 /// memory was refused.
 #[cycle(strict)]
+#[inline(always)]
 fn read_one<S: Source>(
     alloc: Global,
     reader: &mut S,
@@ -121,7 +125,7 @@ fn read_one<S: Source>(
     ensures progress { OnSome result ((S.view reader.new).bound + 1 ≤ (S.view reader.old).bound) }
 {
     if !reader.step_in() {
-        leave(DecodeError::DepthOverflow { name: "value" }, failure);
+        leave_deep("value", failure);
         return None;
     }
     let outcome = read_inside(alloc, reader, failure);
@@ -142,7 +146,7 @@ fn read_nested<S: Source>(
     ensures progress { OnSome result ((S.view reader.new).bound + 1 ≤ (S.view reader.old).bound) }
 {
     if !reader.step_in() {
-        leave(DecodeError::DepthOverflow { name: "value" }, failure);
+        leave_deep("value", failure);
         return None;
     }
     let outcome = read_by_first(alloc, reader, failure);
@@ -171,7 +175,7 @@ fn read_inside<S: Source>(
 
 /// The same by its first byte.
 #[cycle(strict)]
-#[inline(never)]
+#[inline(always)]
 fn read_by_first<S: Source>(
     alloc: Global,
     reader: &mut S,
@@ -181,34 +185,83 @@ fn read_by_first<S: Source>(
         (S.view reader.old) (S.view reader.new) (answered result failure.new) }
     ensures progress { OnSome result ((S.view reader.new).bound + 1 ≤ (S.view reader.old).bound) }
 {
-    let first = part(peek(&mut Own, reader, "value", 1), failure)?;
+    let first = first_of(reader, failure)?;
     if first == marker::UNDEFINED {
         reader.advance(1);
-        leave(DecodeError::NotCanonical { name: "canonical" }, failure);
+        leave_not_canonical("canonical", failure);
         return None;
     }
     match first / 32 {
         major::ARRAY => Some(Value::Array(read_array(alloc, reader, failure)?)),
         major::MAP => Some(Value::Map(read_map(alloc, reader, failure)?)),
-        major::TAG => {
-            let number = part(canonical_head("tag", 6, reader), failure)?;
-            let inner = read_one(alloc, reader, failure)?;
-            match Box::new(alloc, inner) {
-                Ok(boxed) => Some(Value::Tag(number, boxed)),
-                Err(_) => {
-                    *failure = None;
-                    None
-                }
-            }
+        major::TAG => read_tag(alloc, reader, failure),
+        _ => read_alone(alloc, reader, first, failure),
+    }
+}
+
+/// Reads a tag, and the value behind it.
+#[cycle(strict)]
+#[inline(never)]
+fn read_tag<S: Source>(
+    alloc: Global,
+    reader: &mut S,
+    failure: &mut Option<DecodeError<S::Error>>,
+) -> Option<Value>
+    ensures does { DoesUnder ReadsExactlyUnder (StopsBehindMajor 6)
+        (S.view reader.old) (S.view reader.new) (answered result failure.new) }
+    ensures progress { OnSome result ((S.view reader.new).bound + 1 ≤ (S.view reader.old).bound) }
+{
+    let number = tag_number(reader, failure)?;
+    let inner = read_one(alloc, reader, failure)?;
+    match Box::new(alloc, inner) {
+        Ok(boxed) => Some(Value::Tag(number, boxed)),
+        Err(_) => {
+            *failure = None;
+            None
         }
-        major::SIMPLE => match simple_of(first) {
-            Some(value) => {
-                reader.advance(1);
-                Some(value)
-            }
-            None => part(read_float(alloc, reader, first), failure),
-        },
-        _ => part(read_leaf(alloc, reader, first), failure),
+    }
+}
+
+/// Reads the number of a tag. It stays out of line, as `read_alone`.
+#[inline(never)]
+fn tag_number<S: Source>(reader: &mut S, failure: &mut Option<DecodeError<S::Error>>) -> Option<u64>
+    ensures moves { Moves (S.view reader.old) (S.view reader.new) (answered result failure.new) }
+    ensures progress { OnOk (answered result failure.new)
+        ((S.view reader.new).bound + 1 ≤ (S.view reader.old).bound) }
+    ensures sound { IfOk (answered result failure.new)
+        (Sound (ReadsShortest 6) (S.view reader.old) (S.view reader.new)) }
+    ensures stops { IfErr (answered result failure.new)
+        (Stops (StopsShortest tag_name 6) (S.view reader.old) (S.view reader.new)) }
+{
+    part(canonical_head("tag", 6, reader), failure)
+}
+
+/// Reads a value that holds no other, whose first byte is shown. It stays out of line, so that the
+/// levels above pay nothing for its locals.
+#[inline(never)]
+fn read_alone<S: Source>(
+    alloc: Global,
+    reader: &mut S,
+    first: u8,
+    failure: &mut Option<DecodeError<S::Error>>,
+) -> Option<Value>
+    requires shown { 1 ≤ (S.view reader.old).advanceable }
+    requires major { (first / 32 ≤ 3) ⊎ (first / 32 ≡ 7) }
+    ensures does { TakesSimple first
+        (S.view reader.old) (S.view reader.new) (answered result failure.new)
+        ⊎ DoesUnder ReadsExactlyUnder (StopsBehindFirst first)
+        (S.view reader.old) (S.view reader.new) (answered result failure.new) }
+    ensures progress { OnSome result ((S.view reader.new).bound + 1 ≤ (S.view reader.old).bound) }
+{
+    if first / 32 != major::SIMPLE {
+        return part(read_leaf(alloc, reader, first), failure);
+    }
+    match simple_of(first) {
+        Some(value) => {
+            reader.advance(1);
+            Some(value)
+        }
+        None => part(read_float(alloc, reader, first), failure),
     }
 }
 
@@ -247,10 +300,9 @@ fn read_text<S: Source>(alloc: Global, reader: &mut S) -> Result<String, DecodeE
     }
 }
 
-/// Reads an array's values, under one step. It stays out of line, so that what holds no item pays
-/// nothing for an array's locals.
+/// Reads an array's values, under one step.
 #[cycle(strict)]
-#[inline(never)]
+#[inline(always)]
 fn read_array<S: Source>(
     alloc: Global,
     reader: &mut S,
@@ -262,7 +314,7 @@ fn read_array<S: Source>(
     ensures progress { OnSome result ((S.view reader.new).bound + 1 ≤ (S.view reader.old).bound) }
 {
     if !reader.step_in() {
-        leave(DecodeError::DepthOverflow { name: "array" }, failure);
+        leave_deep("array", failure);
         return None;
     }
     let outcome = array_inside(alloc, reader, failure);
@@ -271,6 +323,7 @@ fn read_array<S: Source>(
 }
 
 #[cycle(strict)]
+#[inline(always)]
 fn array_inside<S: Source>(
     alloc: Global,
     reader: &mut S,
@@ -285,6 +338,7 @@ fn array_inside<S: Source>(
 }
 
 #[cycle(strict)]
+#[inline(never)]
 fn counted_items<S: Source>(
     alloc: Global,
     reader: &mut S,
@@ -300,7 +354,7 @@ fn counted_items<S: Source>(
         return None;
     }
     while items.len() < count {
-        take_run(alloc, reader, true, count, &mut items, failure)?;
+        take_run_apart(alloc, reader, true, count, &mut items, failure)?;
         if items.len() < count {
             let value = read_nested(alloc, reader, failure)?;
             keep(&mut items, value, failure)?;
@@ -309,9 +363,9 @@ fn counted_items<S: Source>(
     Some(items)
 }
 
-/// Reads a map's pairs, under one step. It stays out of line, as `read_array`.
+/// Reads a map's pairs, under one step.
 #[cycle(strict)]
-#[inline(never)]
+#[inline(always)]
 fn read_map<S: Source>(
     alloc: Global,
     reader: &mut S,
@@ -323,7 +377,7 @@ fn read_map<S: Source>(
     ensures progress { OnSome result ((S.view reader.new).bound + 1 ≤ (S.view reader.old).bound) }
 {
     if !reader.step_in() {
-        leave(DecodeError::DepthOverflow { name: "map" }, failure);
+        leave_deep("map", failure);
         return None;
     }
     let outcome = map_inside(alloc, reader, failure);
@@ -332,6 +386,7 @@ fn read_map<S: Source>(
 }
 
 #[cycle(strict)]
+#[inline(always)]
 fn map_inside<S: Source>(
     alloc: Global,
     reader: &mut S,
@@ -346,6 +401,7 @@ fn map_inside<S: Source>(
 }
 
 #[cycle(strict)]
+#[inline(never)]
 fn counted_members<S: Source>(
     alloc: Global,
     reader: &mut S,
@@ -372,6 +428,7 @@ fn counted_members<S: Source>(
 
 /// Reads a key, and the value behind it.
 #[cycle(strict)]
+#[inline(always)]
 fn read_member<S: Source>(
     alloc: Global,
     reader: &mut S,
@@ -382,6 +439,6 @@ fn read_member<S: Source>(
     ensures progress { OnSome result ((S.view reader.new).bound + 1 ≤ (S.view reader.old).bound) }
 {
     let key = read_one(alloc, reader, failure)?;
-    let value = read_one(alloc, reader, failure)?;
+    let value = read_nested(alloc, reader, failure)?;
     Some((key, value))
 }

@@ -1,5 +1,9 @@
 //! Values, read.
-ghost use Rattle.std.specs.Prelude.{◌≡◌, ◌+◌, ◌≤◌, ◌/◌, OnOk, IfOk, IfErr, true, OnSome, IfSome};
+//!
+//! Each level of arrays, maps and tags takes one small frame of the stack: their loops and
+//! `read_tag` stay out of line, and what leads from one of them to another is inline.
+ghost use Rattle.std.specs.Prelude.{◌≡◌, ◌+◌, ◌≤◌, ◌/◌, ◌⊎◌, OnOk, IfOk, IfErr, true};
+ghost use Rattle.std.specs.Prelude.{OnSome, IfSome};
 ghost use Rattle.cbor4ii_tree.specs.Does.{DoesUnder, answered};
 ghost use Rattle.cbor4ii_tree.specs.Valuing.{ReadsOneValue, StopsOneValue, ReadsUnder, StopsUnder};
 ghost use Rattle.cbor4ii_tree.specs.Valuing.{ReadsStepped, StopsOf, StopsMajor, StopsFirst};
@@ -7,8 +11,11 @@ ghost use Rattle.cbor4ii_tree.specs.Valuing.{ReadsVec, ReadsArrayInside, ReadsIt
 ghost use Rattle.cbor4ii_tree.specs.Valuing.{ReadsOpenItems, StopsOpenItems, ReadsMapInside};
 ghost use Rattle.cbor4ii_tree.specs.Valuing.{ReadsMembers, StopsMembers, ReadsOpenMembers};
 ghost use Rattle.cbor4ii_tree.specs.Valuing.{StopsOpenMembers, ReadsMember, StopsMember};
+ghost use Rattle.cbor4ii_tree.specs.Valuing.{TakesSimple};
 ghost use Rattle.cbor4ii_items.specs.Decoding.{Sound, Refuses, Stops};
 ghost use Rattle.cbor4ii_items.specs.Moves.{Moves};
+ghost use Rattle.cbor4ii_items.specs.Numbers.{ReadsArgument, StopsArgument};
+ghost use Rattle.cbor4ii_tree.specs.Refusal.{tag_name};
 ghost use Rattle.cbor4ii_tree.specs.Item.{IsItem, AreItems, AreMembers};
 ghost use Rattle.cbor4ii_tree.specs.StopsReading.{StopsReading};
 ghost use Rattle.cbor4ii_tree.specs.View.{view, items_view, members_view};
@@ -18,12 +25,11 @@ ghost use Rattle.cbor4ii_tree.specs.Promises.{ExactReads, SkipsReads, CanonicalR
 ghost use Rattle.cbor4ii_tree.specs.Laws.Values.{value_one, value_within, value_positive};
 ghost use Rattle.cbor4ii_tree.specs.Laws.Values.{value_alone};
 
-use crate::front::Own;
 use crate::leaf::take_leaf;
-use crate::run::take_run;
+use crate::run::{take_run, take_run_apart};
 use crate::simple::{read_float, simple_of};
-use crate::slot::{keep, leave, part, whole};
-use crate::unseen::peek;
+use crate::slot::{keep, leave_deep, part, whole};
+use crate::unseen::first_of;
 use crate::value::Value;
 use cbor4ii_items::decode::{Decode, Spelled};
 use cbor4ii_items::indefinite::is_break;
@@ -117,6 +123,7 @@ impl<S: Source> Decode<S> for Value {
 /// Reads one value. Where it does not, the refusal goes to `failure`, which is left empty where
 /// memory was refused: no large answer is handed up from level to level.
 #[cycle(read)]
+#[inline(always)]
 fn read_value<S: Source>(
     alloc: Global,
     reader: &mut S,
@@ -128,7 +135,7 @@ fn read_value<S: Source>(
     ensures progress { OnSome result ((S.view reader.new).bound + 1 ≤ (S.view reader.old).bound) }
 {
     if !reader.step_in() {
-        leave(DecodeError::DepthOverflow { name: "value" }, failure);
+        leave_deep("value", failure);
         return None;
     }
     let outcome = read_inside(alloc, reader, failure);
@@ -150,7 +157,7 @@ fn read_nested<S: Source>(
     ensures progress { OnSome result ((S.view reader.new).bound + 1 ≤ (S.view reader.old).bound) }
 {
     if !reader.step_in() {
-        leave(DecodeError::DepthOverflow { name: "value" }, failure);
+        leave_deep("value", failure);
         return None;
     }
     let outcome = read_by_first(alloc, reader, failure);
@@ -180,7 +187,7 @@ fn read_inside<S: Source>(
 
 /// The same by its first byte.
 #[cycle(read)]
-#[inline(never)]
+#[inline(always)]
 fn read_by_first<S: Source>(
     alloc: Global,
     reader: &mut S,
@@ -191,29 +198,80 @@ fn read_by_first<S: Source>(
     ensures item { IfSome result (λ v. IsItem (view v)) }
     ensures progress { OnSome result ((S.view reader.new).bound + 1 ≤ (S.view reader.old).bound) }
 {
-    let first = part(peek(&mut Own, reader, "value", 1), failure)?;
+    let first = first_of(reader, failure)?;
     match first / 32 {
         major::ARRAY => Some(Value::Array(read_array(alloc, reader, failure)?)),
         major::MAP => Some(Value::Map(read_map(alloc, reader, failure)?)),
-        major::TAG => {
-            let number = part(Tag::tag(reader), failure)?;
-            let inner = read_value(alloc, reader, failure)?;
-            match Box::new(alloc, inner) {
-                Ok(boxed) => Some(Value::Tag(number, boxed)),
-                Err(_) => {
-                    *failure = None;
-                    None
-                }
-            }
+        major::TAG => read_tag(alloc, reader, failure),
+        _ => read_alone(alloc, reader, first, failure),
+    }
+}
+
+/// Reads a tag, and the value behind it.
+#[cycle(read)]
+#[inline(never)]
+fn read_tag<S: Source>(
+    alloc: Global,
+    reader: &mut S,
+    failure: &mut Option<DecodeError<S::Error>>,
+) -> Option<Value>
+    ensures does { DoesUnder ReadsUnder (StopsOf 6) (S.view reader.old) (S.view reader.new)
+        (answered result failure.new) }
+    ensures item { IfSome result (λ v. IsItem (view v)) }
+    ensures progress { OnSome result ((S.view reader.new).bound + 1 ≤ (S.view reader.old).bound) }
+{
+    let number = tag_number(reader, failure)?;
+    let inner = read_value(alloc, reader, failure)?;
+    match Box::new(alloc, inner) {
+        Ok(boxed) => Some(Value::Tag(number, boxed)),
+        Err(_) => {
+            *failure = None;
+            None
         }
-        major::SIMPLE => match simple_of(first) {
-            Some(value) => {
-                reader.advance(1);
-                Some(value)
-            }
-            None => part(read_float(alloc, reader, first), failure),
-        },
-        _ => part(read_leaf(alloc, reader, first), failure),
+    }
+}
+
+/// Reads the number of a tag. It stays out of line, as `read_alone`.
+#[inline(never)]
+fn tag_number<S: Source>(reader: &mut S, failure: &mut Option<DecodeError<S::Error>>) -> Option<u64>
+    ensures moves { Moves (S.view reader.old) (S.view reader.new) (answered result failure.new) }
+    ensures progress { OnOk (answered result failure.new)
+        ((S.view reader.new).bound + 1 ≤ (S.view reader.old).bound) }
+    ensures sound { IfOk (answered result failure.new)
+        (Sound (ReadsArgument 6 8) (S.view reader.old) (S.view reader.new)) }
+    ensures stops { IfErr (answered result failure.new)
+        (Stops (StopsArgument tag_name 6 8) (S.view reader.old) (S.view reader.new)) }
+{
+    part(Tag::tag(reader), failure)
+}
+
+/// Reads a value that holds no other, whose first byte is shown. It stays out of line, so that the
+/// levels above pay nothing for its locals.
+#[inline(never)]
+fn read_alone<S: Source>(
+    alloc: Global,
+    reader: &mut S,
+    first: u8,
+    failure: &mut Option<DecodeError<S::Error>>,
+) -> Option<Value>
+    requires shown { 1 ≤ (S.view reader.old).advanceable }
+    requires major { (first / 32 ≤ 3) ⊎ (first / 32 ≡ 7) }
+    ensures does { TakesSimple first
+        (S.view reader.old) (S.view reader.new) (answered result failure.new)
+        ⊎ DoesUnder ReadsUnder (StopsFirst first)
+        (S.view reader.old) (S.view reader.new) (answered result failure.new) }
+    ensures item { IfSome result (λ v. IsItem (view v)) }
+    ensures progress { OnSome result ((S.view reader.new).bound + 1 ≤ (S.view reader.old).bound) }
+{
+    if first / 32 != major::SIMPLE {
+        return part(read_leaf(alloc, reader, first), failure);
+    }
+    match simple_of(first) {
+        Some(value) => {
+            reader.advance(1);
+            Some(value)
+        }
+        None => part(read_float(alloc, reader, first), failure),
     }
 }
 
@@ -241,10 +299,9 @@ fn read_leaf<S: Source>(
     }
 }
 
-/// Reads an array's values, under one step. It stays out of line, so that what holds no item pays
-/// nothing for an array's locals.
+/// Reads an array's values, under one step.
 #[cycle(read)]
-#[inline(never)]
+#[inline(always)]
 fn read_array<S: Source>(
     alloc: Global,
     reader: &mut S,
@@ -256,7 +313,7 @@ fn read_array<S: Source>(
     ensures progress { OnSome result ((S.view reader.new).bound + 1 ≤ (S.view reader.old).bound) }
 {
     if !reader.step_in() {
-        leave(DecodeError::DepthOverflow { name: "array" }, failure);
+        leave_deep("array", failure);
         return None;
     }
     let outcome = array_inside(alloc, reader, failure);
@@ -265,6 +322,7 @@ fn read_array<S: Source>(
 }
 
 #[cycle(read)]
+#[inline(always)]
 fn array_inside<S: Source>(
     alloc: Global,
     reader: &mut S,
@@ -282,6 +340,7 @@ fn array_inside<S: Source>(
 }
 
 #[cycle(read)]
+#[inline(never)]
 fn counted_items<S: Source>(
     alloc: Global,
     reader: &mut S,
@@ -298,7 +357,7 @@ fn counted_items<S: Source>(
         return None;
     }
     while items.len() < count {
-        take_run(alloc, reader, false, count, &mut items, failure)?;
+        take_run_apart(alloc, reader, false, count, &mut items, failure)?;
         if items.len() < count {
             let value = read_nested(alloc, reader, failure)?;
             keep(&mut items, value, failure)?;
@@ -326,9 +385,9 @@ fn open_items<S: Source>(
     Some(items)
 }
 
-/// Reads a map's pairs, under one step. It stays out of line, as `read_array`.
+/// Reads a map's pairs, under one step.
 #[cycle(read)]
-#[inline(never)]
+#[inline(always)]
 fn read_map<S: Source>(
     alloc: Global,
     reader: &mut S,
@@ -340,7 +399,7 @@ fn read_map<S: Source>(
     ensures progress { OnSome result ((S.view reader.new).bound + 1 ≤ (S.view reader.old).bound) }
 {
     if !reader.step_in() {
-        leave(DecodeError::DepthOverflow { name: "map" }, failure);
+        leave_deep("map", failure);
         return None;
     }
     let outcome = map_inside(alloc, reader, failure);
@@ -349,6 +408,7 @@ fn read_map<S: Source>(
 }
 
 #[cycle(read)]
+#[inline(always)]
 fn map_inside<S: Source>(
     alloc: Global,
     reader: &mut S,
@@ -366,6 +426,7 @@ fn map_inside<S: Source>(
 }
 
 #[cycle(read)]
+#[inline(never)]
 fn counted_members<S: Source>(
     alloc: Global,
     reader: &mut S,
@@ -425,6 +486,6 @@ fn read_member<S: Source>(
     ensures progress { OnSome result ((S.view reader.new).bound + 1 ≤ (S.view reader.old).bound) }
 {
     let key = read_value(alloc, reader, failure)?;
-    let value = read_value(alloc, reader, failure)?;
+    let value = read_nested(alloc, reader, failure)?;
     Some((key, value))
 }

@@ -188,6 +188,30 @@ pub(crate) fn take_run<S: Source, P: Parts>(
     outcome
 }
 
+/// As `take_run`. It stays out of line, so that each level of arrays takes little stack.
+#[inline(never)]
+pub(crate) fn take_run_apart<S: Source, P: Parts>(
+    alloc: Global,
+    reader: &mut S,
+    exact: bool,
+    most: usize,
+    parts: &mut P,
+    failure: &mut Option<DecodeError<S::Error>>,
+) -> Option<()>
+    requires { P.many parts.old ≤ most }
+    ensures puts { Does (PutsItems Readable (P.flat parts.old) (P.flat parts.new)
+        (S.view reader.old).budget) NeverStops
+        (S.view reader.old) (S.view reader.new) (answered result failure.new) }
+    ensures exactly { exact ≡ true → Does (PutsItems Exactly (P.flat parts.old) (P.flat parts.new)
+        (S.view reader.old).budget) NeverStops
+        (S.view reader.old) (S.view reader.new) (answered result failure.new) }
+    ensures items { OnSome result (KeepsItems (P.flat parts.old) (P.flat parts.new)) }
+    ensures few { OnSome result (P.many parts.new ≤ most) }
+    ensures more { OnSome result (P.many parts.old ≤ P.many parts.new) }
+{
+    take_run(alloc, reader, exact, most, parts, failure)
+}
+
 /// The same where a step was taken, which each of the values takes in turn.
 #[inline(always)]
 fn run_inside<S: Source, P: Parts>(

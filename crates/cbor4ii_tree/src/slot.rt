@@ -3,9 +3,12 @@
 //! A refusal is as large as the reader's error, which may be of any size. So what calls itself,
 //! item in item, hands up no more than a value or none, and the refusal goes through a reference.
 ghost use Rattle.std.specs.Prelude.{◌≡◌, ◌∷◌, ◌++◌, [], Some, None, OnSome, IfNone};
+ghost use Rattle.cbor4ii_rw.specs.declared.error.DecodeError.TheVariants.{DepthOverflow, Eof};
+ghost use Rattle.cbor4ii_rw.specs.declared.error.DecodeError.TheVariants.{NotCanonical};
+ghost use Rattle.cbor4ii_rw.specs.declared.error.Len.TheVariants.{Small};
 ghost use Rattle.cbor4ii_tree.specs.Does.{answered};
 
-use cbor4ii_rw::error::DecodeError;
+use cbor4ii_rw::error::{DecodeError, Len, StaticStr};
 
 /// The answer without its refusal, which goes to `failure`.
 #[inline(always)]
@@ -31,6 +34,36 @@ pub(crate) fn leave<E: Drop>(error: E, failure: &mut Option<E>)
     ensures { failure.new ≡ Some error }
 {
     *failure = Some(error);
+}
+
+/// That no step is left, by this name, goes to `failure`.
+#[cold]
+#[inline(never)]
+pub(crate) fn leave_deep<E: Drop>(name: StaticStr, failure: &mut Option<DecodeError<E>>)
+    ensures { failure.new ≡ Some (DepthOverflow name.entry) }
+{
+    *failure = Some(DecodeError::DepthOverflow { name });
+}
+
+/// That no byte is left where a value should begin, by this name, goes to `failure`.
+#[cold]
+#[inline(never)]
+pub(crate) fn leave_end<E: Drop>(name: StaticStr, failure: &mut Option<DecodeError<E>>)
+    ensures { failure.new ≡ Some (Eof name.entry (Small 1)) }
+{
+    *failure = Some(DecodeError::Eof {
+        name,
+        expect: Len::Small(1),
+    });
+}
+
+/// That an item is not canonical, by this name, goes to `failure`.
+#[cold]
+#[inline(never)]
+pub(crate) fn leave_not_canonical<E: Drop>(name: StaticStr, failure: &mut Option<DecodeError<E>>)
+    ensures { failure.new ≡ Some (NotCanonical name.entry) }
+{
+    *failure = Some(DecodeError::NotCanonical { name });
 }
 
 /// The value, or the refusal that was left. An empty slot stands for refused memory.

@@ -1,6 +1,6 @@
 -- The calls of reading a value that is spelled in one way, one behind another.
 use Rattle.std.proofs.Common.{◌≡◌, ◌≢◌, ℕ, suc, ◌+◌, ◌*◌, ◌/◌, ◌<◌, ◌≤◌, inl, inr, List, [], ◌∷◌}
-use Rattle.std.proofs.Common.{◌++◌, length, drop, Option, Some, None, Result, Ok, Err}
+use Rattle.std.proofs.Common.{◌⊎◌, ◌++◌, length, drop, Option, Some, None, Result, Ok, Err}
 use Rattle.std.proofs.Common.{true, false, refl, sym, ap, ap₂, ◌∙◌, subst, arith, append_assoc}
 use Rattle.std.proofs.Common.{take-append-drop, Vec, Global, String, negsuc, ◌-ℤ◌}
 use Rattle.std.specs.Prelude.{IsUtf8, string_bytes}
@@ -22,6 +22,7 @@ use Rattle.cbor4ii_items.specs.Moves.{Moves}
 use Rattle.cbor4ii_items.specs.Decoding.{CostFits, Sound, Stops}
 use Rattle.cbor4ii_items.specs.Reading.{Runs, peek_at}
 use Rattle.cbor4ii_items.specs.Shortest.{canonical_name, ReadsShortest, ReadsShortestString}
+use Rattle.cbor4ii_items.specs.Shortest.{StopsShortest}
 use Rattle.cbor4ii_items.specs.Initial.{unsigned, negative, byte_string, text_string, Simple}
 use Rattle.cbor4ii_items.specs.Initial.{simple_undefined, simple_byte, Precision, precision_byte}
 use Rattle.cbor4ii_items.specs.Initial.{precision_bytes, initial}
@@ -35,14 +36,16 @@ use Rattle.cbor4ii_tree.specs.Cost.{Budget, cost, greatest_cost, greatest_pair_c
 use Rattle.cbor4ii_tree.specs.Laws.Initials.{initial_simple, initial_bits}
 use Rattle.cbor4ii_tree.specs.Refusal.{value_name, kind_name, precision_name, unsupported}
 use Rattle.cbor4ii_tree.specs.Refusal.{require_utf8}
+use Rattle.cbor4ii_tree.specs.Refusal.{tag_name}
 use Rattle.cbor4ii_tree.specs.Stops.{Stopping, StopsAtStep}
 use Rattle.cbor4ii_tree.specs.View.{view, items_view, members_view}
 use Rattle.cbor4ii_tree.specs.Does.{Accepting, Does}
-use Rattle.cbor4ii_tree.specs.Valuing.{ReadsStepped, SimpleOf}
+use Rattle.cbor4ii_tree.specs.Valuing.{ReadsStepped, SimpleOf, TakesSimple}
 use Rattle.cbor4ii_tree.specs.StopsStrictly.{Exactly, ShortestAt, AtShortest, StrictTextStops}
 use Rattle.cbor4ii_tree.specs.StopsStrictly.{StrictOtherStops, StrictStopsBy}
 use Rattle.cbor4ii_tree.specs.Strictly.{raise, ReadsExactly, StopsExactly, ReadsExactlyUnder}
 use Rattle.cbor4ii_tree.specs.Strictly.{StopsExactlyUnder, StopsBehindFirst, StopsExactlyStepped}
+use Rattle.cbor4ii_tree.specs.Strictly.{StopsBehindMajor}
 use Rattle.cbor4ii_tree.specs.Strictly.{StringAt, ExactItems, StopsExactItems, ExactMember}
 use Rattle.cbor4ii_tree.specs.Strictly.{StopsExactMember, ExactMembers, AcceptsCount}
 use Rattle.cbor4ii_tree.proofs.skip_calls.Doing.{Reached, reached_start, reached_by, reached_then}
@@ -50,6 +53,7 @@ use Rattle.cbor4ii_tree.proofs.skip_calls.Doing.{reached_as, does_ok, does_err, 
 use Rattle.cbor4ii_tree.proofs.skip_calls.Doing.{does_refuse, does_stops, does_stepped}
 use Rattle.cbor4ii_tree.proofs.skip_calls.Doing.{reached_peek, reached_first, reached_sound}
 use Rattle.cbor4ii_tree.proofs.skip_calls.Doing.{steps_in}
+use Rattle.cbor4ii_tree.proofs.skip_calls.Doing.{call_stops}
 use Rattle.cbor4ii_tree.proofs.answers.Nesting.{strict_by_parts}
 use Rattle.cbor4ii_tree.proofs.canonical.Exactly.{raised, fits_raise, all_exactly}
 use Rattle.cbor4ii_tree.proofs.canonical.Exactly.{all_pairs_exactly, precision_major}
@@ -118,21 +122,6 @@ no_text budget content xs ys invalid h =
       };
     })
 
--- ---- a call that is refused
-
--- of the crate below
-pub call_stops : {U V E : Type 0} (B : Accepting V)
-    (S : List ℕ → Option ℕ → Refusal → List ℕ → Type 0) (T : Stopping) {e : DecodeError E}
-    {a c : View}
-    → ((xs : List ℕ) (z : Refusal) (rest : List ℕ) → S xs a.budget z rest → T xs z rest)
-    → Moves {V = U} a c (Err e) → Stops S a c e
-    → Does {V = V} B T a c (Err e)
-call_stops {U = U} B S T {a = a} f moves s =
-    does_err (λ xs ys. xs ≡ ys) (λ xs (v : U) ys. Unit {0}) B (λ xs. S xs a.budget) T
-    (λ xs ys z rest e h. subst (λ x. T x z rest) (sym e) (f ys z rest h))
-    (reached_start (λ xs ys. xs ≡ ys) a (λ xs. refl))
-    (does_stops (λ xs (v : U) ys. Unit {0}) S moves s)
-
 -- what stops by the major type of the first byte
 pub at_major : (k : ℕ) (budget : Budget) (b : ℕ) (bs : List ℕ) (e : Refusal) (rest : List ℕ)
     → b / 32 ≡ k → StrictStopsBy StopsExactly budget k b bs e rest
@@ -181,55 +170,67 @@ module _ (b : ℕ) {E : Type 0} {a m : View}
       (subst (λ x. StopsExactlyUnder m.budget x z rest) p.2 (h p.0 (p.2 ∙ p.1))))
       (reached_peek value_name 1 b first) d
 
-  -- behind a tag's head
-  tag_at : (n : ℕ) {c : View} → Reached (ShortestAt 6 n) m c
-      → Reached (λ xs ys. ((bs : List ℕ) × (xs ≡ b ∷ bs)) × ShortestAt 6 n xs ys) a c
-  tag_at n p =
-      reached_then (Peeked b) (ShortestAt 6 n)
-      (λ xs ys. ((bs : List ℕ) × (xs ≡ b ∷ bs)) × ShortestAt 6 n xs ys)
-      (λ xs ys zs q h. ((q.0, q.1), subst (λ x. ShortestAt 6 n x zs) q.2 h))
-      (reached_peek value_name 1 b first) p
+  -- what a major type tells
+  pub exact_major : (k : ℕ) {r : Result Value (DecodeError E)} {c : View} → b / 32 ≡ k
+      → Does (ReadsExactlyUnder m.budget) (StopsBehindMajor k m.budget) m c r
+      → Does (ReadsExactlyUnder a.budget) (StopsExactlyUnder a.budget) a c r
+  exact_major k is d =
+      does_after (Peeked b) (ReadsExactlyUnder m.budget) (ReadsExactlyUnder a.budget)
+      (StopsBehindMajor k m.budget) (StopsExactlyUnder a.budget)
+      (λ xs ys zs v p h. subst (λ o. ReadsExactlyUnder o xs v zs) first.moves.by.budget
+      (subst (λ x. ReadsExactlyUnder m.budget x v zs) p.2 h))
+      (λ xs ys z rest p h. subst (λ o. StopsExactlyUnder o xs z rest) first.moves.by.budget
+      (subst (λ x. StopsExactlyUnder m.budget x z rest) p.2 (h b p.0 (p.2 ∙ p.1) is)))
+      (reached_peek value_name 1 b first) d
 
-  pub exact_tag : (n : ℕ) {v : Value} {l c : View} (w : Value) → view w ≡ tag n (view v)
-      → Reached (ShortestAt 6 n) m l
-      → Does {E = E} (ReadsExactly l.budget) (StopsExactly l.budget) l c (Ok v)
-      → Does {E = E} (ReadsExactlyUnder a.budget) (StopsExactlyUnder a.budget) a c (Ok w)
-  exact_tag n {v = v} {l = l} w is p d =
-      let q = tag_at n p in
-      does_ok (ReadsExactlyUnder a.budget) (StopsExactlyUnder a.budget)
-      (reached_then (λ xs ys. ((bs : List ℕ) × (xs ≡ b ∷ bs)) × ShortestAt 6 n xs ys)
-      (λ xs ys. ReadsExactly l.budget xs v ys) (λ xs ys. ReadsExactlyUnder a.budget xs w ys)
-      (λ xs ys zs h s0.
-      let s = subst (λ o. ReadsExactly o ys v zs) q.kept.budget s0 in
-      let wide = shortest n in (
-        tagged n wide s.0,
-        (
-          (((shortest_fits n h.1.0, s.1.0.0.0), s.1.0.0.1), (refl, s.1.0.1)),
-          fits_raise (cost s.0) a.budget s.1.1,
-        ),
-        ap (tag n) s.2 ∙ sym is,
-        h.1.1 ∙ ap (λ r. head 6 n wide ++ r) s.3
-            ∙ sym (append_assoc (head 6 n wide) (bytes s.0) zs),
-      )) q (reached_by d))
+-- ---- tags
 
-  pub exact_tag_err : (n : ℕ) {l c : View} {e : DecodeError E} → b / 32 ≡ 6
-      → Reached (ShortestAt 6 n) m l
-      → Does {V = Value} (ReadsExactly l.budget) (StopsExactly l.budget) l c (Err e)
-      → Does {V = Value} (ReadsExactlyUnder a.budget) (StopsExactlyUnder a.budget) a c (Err e)
-  exact_tag_err n {l = l} is p d =
-      let q = tag_at n p in
-      does_err (λ xs ys. ((bs : List ℕ) × (xs ≡ b ∷ bs)) × ShortestAt 6 n xs ys)
-      (ReadsExactly l.budget) (ReadsExactlyUnder a.budget) (StopsExactly l.budget)
-      (StopsExactlyUnder a.budget)
-      (λ xs ys z rest h s.
-      subst (λ x. StopsExactlyUnder a.budget x z rest) (sym h.0.1)
-      (at_major 6 a.budget b h.0.0 z rest is
-      (inr (record {
-        argument = n;
-        after = ys;
-        is = subst (λ x. ShortestAt 6 n x ys) h.0.1 h.1;
-        stopped = subst (λ o. StopsExactly o ys z rest) q.kept.budget s;
-      })))) q d
+pub exact_tag : {E : Type 0} (n : ℕ) {v : Value} {a l c : View} (w : Value)
+    → view w ≡ tag n (view v) → Reached (ShortestAt 6 n) a l
+    → Does {E = E} (ReadsExactly l.budget) (StopsExactly l.budget) l c (Ok v)
+    → Does {E = E} (ReadsExactlyUnder a.budget) (StopsBehindMajor 6 a.budget) a c (Ok w)
+exact_tag n {v = v} {a = a} {l = l} w is p d =
+    does_ok (ReadsExactlyUnder a.budget) (StopsBehindMajor 6 a.budget)
+    (reached_then (ShortestAt 6 n)
+    (λ xs ys. ReadsExactly l.budget xs v ys) (λ xs ys. ReadsExactlyUnder a.budget xs w ys)
+    (λ xs ys zs h s0.
+    let s = subst (λ o. ReadsExactly o ys v zs) p.kept.budget s0 in
+    let wide = shortest n in (
+      tagged n wide s.0,
+      (
+        (((shortest_fits n h.0, s.1.0.0.0), s.1.0.0.1), (refl, s.1.0.1)),
+        fits_raise (cost s.0) a.budget s.1.1,
+      ),
+      ap (tag n) s.2 ∙ sym is,
+      h.1 ∙ ap (λ r. head 6 n wide ++ r) s.3
+          ∙ sym (append_assoc (head 6 n wide) (bytes s.0) zs),
+    )) p (reached_by d))
+
+pub exact_tag_err : {E : Type 0} (n : ℕ) {a l c : View} {e : DecodeError E}
+    → Reached (ShortestAt 6 n) a l
+    → Does {V = Value} (ReadsExactly l.budget) (StopsExactly l.budget) l c (Err e)
+    → Does {V = Value} (ReadsExactlyUnder a.budget) (StopsBehindMajor 6 a.budget) a c (Err e)
+exact_tag_err n {a = a} {l = l} p d =
+    does_err (ShortestAt 6 n) (ReadsExactly l.budget) (ReadsExactlyUnder a.budget)
+    (StopsExactly l.budget) (StopsBehindMajor 6 a.budget)
+    (λ xs ys z rest h s b bs is m.
+    subst (λ x. StopsExactlyUnder a.budget x z rest) (sym is)
+    (at_major 6 a.budget b bs z rest m
+    (inr (record {
+      argument = n;
+      after = ys;
+      is = subst (λ x. ShortestAt 6 n x ys) is h;
+      stopped = subst (λ o. StopsExactly o ys z rest) p.kept.budget s;
+    })))) p d
+
+pub exact_tag_refused : {E : Type 0} {e : DecodeError E} {a c : View} → Moves {V = ℕ} a c (Err e)
+    → Stops (StopsShortest tag_name 6) a c e
+    → Does {V = Value} (ReadsExactlyUnder a.budget) (StopsBehindMajor 6 a.budget) a c (Err e)
+exact_tag_refused {a = a} moves s =
+    call_stops (ReadsExactlyUnder a.budget) (StopsShortest tag_name 6) (StopsBehindMajor 6 a.budget)
+    (λ xs z rest h b bs is m. subst (λ x. StopsExactlyUnder a.budget x z rest) (sym is)
+    (at_major 6 a.budget b bs z rest m
+    (inl (subst (λ x. StopsShortest tag_name 6 x a.budget z rest) is h)))) moves s
 
 -- ---- what a first byte tells
 
@@ -317,6 +318,17 @@ simple_exact b {a = a} {v = v} first small adv other s =
       e ∙ ap (λ j. j ∷ ys) s.1,
     ))
     (reached_first value_name 1 b first small adv))
+
+-- what is told of a value that holds no other
+pub alone_exact : {E : Type 0} (b : ℕ) {a m c : View} {r : Result Value (DecodeError E)}
+    → Runs {E = E} (peek_at value_name 1) a m (Ok b) → b < 256 → b ≢ 247
+    → TakesSimple b m c r
+    ⊎ Does (ReadsExactlyUnder m.budget) (StopsBehindFirst b m.budget) m c r
+    → Does (ReadsExactlyUnder a.budget) (StopsExactlyUnder a.budget) a c r
+alone_exact b {a = a} {c = c} first small other (inl h) =
+    subst (λ r. Does (ReadsExactlyUnder a.budget) (StopsExactlyUnder a.budget) a c r) (sym h.1)
+    (simple_exact b first small h.3 other h.2)
+alone_exact b first small other (inr d) = exact_first b first d
 
 -- undefined is not canonical
 pub undefined_stops : {E : Type 0} (b : ℕ) {e : DecodeError E} {a m c : View}

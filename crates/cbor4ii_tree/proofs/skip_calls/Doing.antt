@@ -151,6 +151,19 @@ does_stops A S {e = e} {a = a} {b = b} moves s = record {
   err = λ xs told. stopped_at (refusal_of e) S xs a.budget b.told (s.at xs told);
 }
 
+-- the same of another value, by what it is to stop there
+pub call_stops : {U V E : Type 0} (B : Accepting V)
+    (S : List ℕ → Option ℕ → Refusal → List ℕ → Type 0) (T : Stopping) {e : DecodeError E}
+    {a c : View}
+    → ((xs : List ℕ) (z : Refusal) (rest : List ℕ) → S xs a.budget z rest → T xs z rest)
+    → Moves {V = U} a c (Err e) → Stops S a c e
+    → Does {V = V} B T a c (Err e)
+call_stops {U = U} B S T {a = a} f moves s =
+    does_err (λ xs ys. xs ≡ ys) (λ xs (v : U) ys. Unit {0}) B (λ xs. S xs a.budget) T
+    (λ xs ys z rest e h. subst (λ x. T x z rest) (sym e) (f ys z rest h))
+    (reached_start (λ xs ys. xs ≡ ys) a (λ xs. refl))
+    (does_stops (λ xs (v : U) ys. Unit {0}) S moves s)
+
 -- a decoding call that went well
 pub reached_sound : {V E : Type 0} (reads : List ℕ → V → ℕ → ℕ → Type 0)
     (P : List ℕ → List ℕ → Type 0) {v : V} {a b : View}

@@ -22,6 +22,11 @@ pub behind : {V E : Type 0} (a m b : ℕ) (r : Option V) (failure : Option (Deco
 behind a m b (Some v) failure e h = omega (arith, e, h)
 behind a m b None failure e h = tt
 
+pub further : {V : Type 0} (a m b : ℕ) (r : Option V) → m ≤ a → OnSome r (b + 1 ≤ m)
+    → OnSome r (b + 1 ≤ a)
+further a m b (Some v) e h = omega (arith, e, h)
+further a m b None e h = tt
+
 pub found : {V E : Type 0} (r : Option V) (failure : Option (DecodeError E)) (P : V → Type 0)
     → IfOk (answered r failure) P → IfSome r P
 found (Some v) failure P h = h

@@ -1,5 +1,6 @@
 -- The parts of a value that are heads alone, and tags.
-use Rattle.std.proofs.Common.{◌≡◌, ◌≢◌, ℕ, zero, suc, ◌+◌, ◌*◌, ◌/◌, ◌%◌, ◌<◌, ◌≤◌, ◌^◌, List, []}
+use Rattle.std.proofs.Common.{◌⊎◌, ◌≡◌, ◌≢◌, ℕ, zero, suc, ◌+◌, ◌*◌, ◌/◌, ◌%◌, ◌<◌, ◌≤◌, ◌^◌, List}
+use Rattle.std.proofs.Common.{[]}
 use Rattle.std.proofs.Common.{◌∷◌, ◌++◌, length, drop, take, Option, Some, Result, Ok, Err, false}
 use Rattle.std.proofs.Common.{refl, sym, ap, ◌∙◌, subst, arith, append_assoc, inl, inr, rules, pos}
 use Rattle.std.proofs.Common.{negsuc, ◌-ℤ◌, ne_eqb}
@@ -15,7 +16,7 @@ use Rattle.cbor4ii_items.specs.Refusal.{Refusal, refusal_of, is_read, is_depth_o
 use Rattle.cbor4ii_items.specs.Head.{Width, byte_count, additional, HeadFits, head}
 use Rattle.cbor4ii_items.specs.Heads.{StopsHead, ReadsHead}
 use Rattle.cbor4ii_items.specs.Laws.Heads.{after_head, length-bytes_high_first}
-use Rattle.cbor4ii_items.specs.Numbers.{ReadsArgument}
+use Rattle.cbor4ii_items.specs.Numbers.{ReadsArgument, StopsArgument}
 use Rattle.cbor4ii_items.specs.Floats.{ReadsFloat, StopsFloat, float_bytes}
 use Rattle.cbor4ii_items.specs.Moves.{Moves}
 use Rattle.cbor4ii_items.specs.Decoding.{CostFits, Sound, Stops}
@@ -41,10 +42,10 @@ use Rattle.cbor4ii_tree.specs.StopsReading.{ReadingStopsBy, StopsReading}
 use Rattle.cbor4ii_tree.specs.View.{view}
 use Rattle.cbor4ii_tree.specs.Does.{Accepting, Does}
 use Rattle.cbor4ii_tree.specs.Valuing.{ReadsOneValue, StopsOneValue, ReadsUnder, StopsUnder}
-use Rattle.cbor4ii_tree.specs.Valuing.{StopsFirst, SimpleOf}
+use Rattle.cbor4ii_tree.specs.Valuing.{StopsFirst, StopsOf, SimpleOf, TakesSimple}
 use Rattle.cbor4ii_tree.proofs.skip_calls.Doing.{Reached, reached_start, reached_by, reached_then}
 use Rattle.cbor4ii_tree.proofs.skip_calls.Doing.{reached_as, does_ok, does_err, does_after}
-use Rattle.cbor4ii_tree.proofs.skip_calls.Doing.{does_refuse, does_stops, reached_peek}
+use Rattle.cbor4ii_tree.proofs.skip_calls.Doing.{does_refuse, does_stops, call_stops, reached_peek}
 use Rattle.cbor4ii_tree.proofs.skip_calls.Doing.{reached_first, reached_sound}
 use Rattle.cbor4ii_tree.proofs.values.Calls.{Peeked, head_cut, no_head, initial_of, small_z}
 use Rattle.cbor4ii_tree.proofs.values.Calls.{fits_less}
@@ -91,18 +92,6 @@ module _ (b : ℕ) {E : Type 0} {a m : View}
       (g p.0 z rest (subst (λ x. S x z rest) (p.2 ∙ p.1) h)))
       (reached_peek value_name 1 b first) d
 
-  -- a decoding call of the crate below that is refused
-  pub call_err : {V : Type 0} (S : List ℕ → Option ℕ → Refusal → List ℕ → Type 0)
-      {e : DecodeError E} {c : View} → ((bs : List ℕ) (z : Refusal) (rest : List ℕ)
-      → S (b ∷ bs) a.budget z rest → StopsUnder a.budget (b ∷ bs) z rest)
-      → Moves {V = V} m c (Err e) → Stops S m c e
-      → Does {V = Value} (ReadsUnder a.budget) (StopsUnder a.budget) a c (Err e)
-  call_err {V = V} S f moves s =
-      let p = reached_peek value_name 1 b first in
-      arm_err (λ xs (v : V) ys. Unit {0}) (λ xs. S xs m.budget)
-      (λ bs z rest h. f bs z rest (subst (λ o. S (b ∷ bs) o z rest) p.kept.budget h))
-      (does_stops (λ xs v ys. Unit {0}) S moves s)
-
 -- ---- negative integers
 
 below_zero : (v : ℕ) → negsuc 0 -ℤ pos v ≡ negsuc v
@@ -142,6 +131,19 @@ simple_read b {a = a} {v = v} first small adv s =
       e ∙ ap (λ j. j ∷ ys) s.1,
     ))
     (reached_first value_name 1 b first small adv))
+
+-- what is told of a value that holds no other
+pub alone_does : {E : Type 0} (b : ℕ) {a m c : View} {r : Result Value (DecodeError E)}
+    → Runs {E = E} (peek_at value_name 1) a m (Ok b) → b < 256
+    → TakesSimple b m c r ⊎ Does (ReadsUnder m.budget) (StopsFirst b m.budget) m c r
+    → Does (ReadsUnder a.budget) (StopsUnder a.budget) a c r
+alone_does b {a = a} {c = c} first small (inl h) =
+    subst (λ r. Does (ReadsUnder a.budget) (StopsUnder a.budget) a c r) (sym h.1)
+    (simple_read b first small h.3 h.2)
+alone_does b {m = m} first small (inr d) =
+    arm_does b first (λ xs v ys. ReadsUnder m.budget xs v ys) (StopsFirst b m.budget)
+    (λ bs ys v h. subst (λ o. ReadsUnder o (b ∷ bs) v ys) first.moves.by.budget h)
+    (λ bs z rest h. subst (λ o. StopsUnder o (b ∷ bs) z rest) first.moves.by.budget (h bs refl)) d
 
 -- ---- what a first byte tells
 
@@ -272,13 +274,10 @@ first_is b (x ∷ xs) e = let f : x ≡ b = cc in ap (λ c. c ∷ xs) f
 
 -- ---- tags
 
-pub reached_tag : {E : Type 0} (b n : ℕ) {a m c : View}
-    → Runs {E = E} (peek_at value_name 1) a m (Ok b) → Moves {E = E} m c (Ok n)
-    → Sound (ReadsArgument 6 8) m c n → Reached (HeadAt 6 n) a c
-reached_tag b n first moves s =
-    reached_then (Peeked b) (HeadAt 6 n) (HeadAt 6 n)
-    (λ xs ys zs p h. subst (λ x. HeadAt 6 n x zs) p.2 h) (reached_peek value_name 1 b first)
-    (reached_sound (ReadsArgument 6 8) (HeadAt 6 n) (λ xs k c _ r. head_at 6 n xs k r.0) moves s)
+pub reached_tag : {E : Type 0} (n : ℕ) {a c : View} → Moves {E = E} a c (Ok n)
+    → Sound (ReadsArgument 6 8) a c n → Reached (HeadAt 6 n) a c
+reached_tag n moves s =
+    reached_sound (ReadsArgument 6 8) (HeadAt 6 n) (λ xs k c _ r. head_at 6 n xs k r.0) moves s
 
 pub view-Tag : (n : ℕ) (v : Rattle.std.proofs.Common.Box Value Rattle.std.proofs.Common.Global)
     → view (Tag n v) ≡ tag n (view v.value)
@@ -287,8 +286,8 @@ view-Tag n v = search (rules, the_lemmas)
 pub tag_read : {E : Type 0} (n : ℕ) {v : Value} {a m c : View} (w : Value) → view w ≡ tag n (view v)
     → Reached (HeadAt 6 n) a m
     → Does {E = E} (ReadsOneValue m.budget) (StopsOneValue m.budget) m c (Ok v)
-    → Does {E = E} (ReadsUnder a.budget) (StopsUnder a.budget) a c (Ok w)
-tag_read n {v = v} {a = a} {m = m} w is p d = does_ok (ReadsUnder a.budget) (StopsUnder a.budget)
+    → Does {E = E} (ReadsUnder a.budget) (StopsOf 6 a.budget) a c (Ok w)
+tag_read n {v = v} {a = a} {m = m} w is p d = does_ok (ReadsUnder a.budget) (StopsOf 6 a.budget)
     (reached_then (HeadAt 6 n) (λ xs ys. ReadsOneValue m.budget xs v ys)
     (λ xs ys. ReadsUnder a.budget xs w ys)
     (λ xs ys zs h s0 budget step.
@@ -302,11 +301,11 @@ tag_read n {v = v} {a = a} {m = m} w is p d = does_ok (ReadsUnder a.budget) (Sto
 
 pub tag_stopped : {E : Type 0} (n : ℕ) {a m c : View} {e : DecodeError E} → Reached (HeadAt 6 n) a m
     → Does {V = Value} (ReadsOneValue m.budget) (StopsOneValue m.budget) m c (Err e)
-    → Does {V = Value} (ReadsUnder a.budget) (StopsUnder a.budget) a c (Err e)
+    → Does {V = Value} (ReadsUnder a.budget) (StopsOf 6 a.budget) a c (Err e)
 tag_stopped n {a = a} {m = m} p d =
     does_err (HeadAt 6 n) (ReadsOneValue m.budget) (ReadsUnder a.budget) (StopsOneValue m.budget)
-    (StopsUnder a.budget)
-    (λ xs ys z rest h s0.
+    (StopsOf 6 a.budget)
+    (λ xs ys z rest h s0 _ _ _ _.
     let s = subst (λ o. StopsOneValue o ys z rest) p.kept.budget s0 in
     subst (λ x. StopsUnder a.budget x z rest) (sym h.2)
     (at_row a.budget (starts_tag h.0) (32 * 6 + additional h.0 n)
@@ -324,3 +323,11 @@ tag_stops inner b bs e rest m h =
     by_info (wide w) is = inl (head_cut tag_name 6 b bs w e rest m is h)
     by_info open_ended is = no_head tag_name 6 b bs e rest (λ w f. cc) h
     by_info reserved is = no_head tag_name 6 b bs e rest (λ w f. cc) h
+
+pub tag_refused : {E : Type 0} {e : DecodeError E} {a c : View} → Moves {V = ℕ} a c (Err e)
+    → Stops (StopsArgument tag_name 6 8) a c e
+    → Does {V = Value} (ReadsUnder a.budget) (StopsOf 6 a.budget) a c (Err e)
+tag_refused {a = a} moves s =
+    call_stops (ReadsUnder a.budget) (StopsArgument tag_name 6 8) (StopsOf 6 a.budget)
+    (λ xs z rest h b bs is m. subst (λ x. StopsUnder a.budget x z rest) (sym is)
+    (tag_stops a.budget b bs z rest m (subst (λ x. StopsHead tag_name 6 8 x z rest) is h))) moves s

@@ -1,4 +1,4 @@
-use Rattle.std.proofs.Common.{ℕ, refl, sym, ap, subst, inl, arith, ◌∙◌, ◌+◌, ◌*◌, ◌≡◌, [], ◌∷◌}
+use Rattle.std.proofs.Common.{refl, sym, ap, subst, inl, arith, ◌∙◌, ◌+◌, ◌*◌, ◌≡◌, [], ◌∷◌}
 use Rattle.std.proofs.Common.{length, length-append, Vec, Global}
 use Rattle.cbor4ii_tree.specs.Does.{refusal_left}
 use Rattle.cbor4ii_tree.specs.StopsStrictly.{Exactly}
@@ -7,27 +7,30 @@ use Rattle.cbor4ii_tree.proofs.values.LeafRuns.{no_pairs_yet, ran_pairs, pairs_s
 use Rattle.cbor4ii_tree.specs.declared.value.Value.{Value, Array, Map, Tag}
 use Rattle.cbor4ii_tree.specs.Item.{tag}
 use Rattle.cbor4ii_tree.specs.View.{view}
-use Rattle.cbor4ii_tree.specs.Refusal.{array_name, map_name, tag_name, value_name}
+use Rattle.cbor4ii_tree.specs.Refusal.{array_name, map_name, value_name}
 use Rattle.cbor4ii_items.specs.Laws.Steps.{kept_then}
 use Rattle.cbor4ii_tree.specs.Valuing.{ReadsStepped}
 use Rattle.cbor4ii_items.specs.Shortest.{StopsShortest}
-use Rattle.cbor4ii_tree.specs.StopsStrictly.{ShortestAt, StrictArrayStops, StrictMapStops}
+use Rattle.cbor4ii_tree.specs.StopsStrictly.{StrictArrayStops, StrictMapStops}
 use Rattle.cbor4ii_tree.specs.Strictly.{ReadsExactly, StopsExactly, ReadsExactlyUnder}
 use Rattle.cbor4ii_tree.specs.Strictly.{StopsExactlyUnder, StopsExactlyStepped, ExactItems}
+use Rattle.cbor4ii_tree.specs.Strictly.{StopsBehindMajor}
 use Rattle.cbor4ii_tree.specs.Strictly.{StopsExactItems, ExactMember, StopsExactMember}
 use Rattle.cbor4ii_tree.specs.Strictly.{ExactMembers, AcceptsCount}
 use Rattle.cbor4ii_tree.proofs.skip_calls.Doing.{Reached, reached_start, reached_by, does_ok}
-use Rattle.cbor4ii_tree.proofs.skip_calls.Doing.{does_stops, does_no_memory, does_no_step}
+use Rattle.cbor4ii_tree.proofs.skip_calls.Doing.{does_no_memory, does_no_step}
 use Rattle.cbor4ii_tree.proofs.values.Heads.{view-Tag}
 use Rattle.cbor4ii_tree.proofs.values.Sequences.{more, ends}
-use Rattle.cbor4ii_tree.proofs.canonical.Calls.{reached_shortest, call_stops, exact_ok, exact_err}
-use Rattle.cbor4ii_tree.proofs.canonical.Calls.{exact_first, exact_tag, exact_tag_err, looked_at}
-use Rattle.cbor4ii_tree.proofs.canonical.Calls.{peek_stops, simple_exact, undefined_stops}
+use Rattle.cbor4ii_tree.proofs.canonical.Calls.{reached_shortest, exact_ok, exact_err}
+use Rattle.cbor4ii_tree.proofs.skip_calls.Doing.{call_stops}
+use Rattle.cbor4ii_tree.proofs.canonical.Calls.{alone_exact, exact_major, exact_tag}
+use Rattle.cbor4ii_tree.proofs.canonical.Calls.{exact_tag_err, exact_tag_refused}
+use Rattle.cbor4ii_tree.proofs.canonical.Calls.{peek_stops, undefined_stops}
 use Rattle.cbor4ii_tree.proofs.canonical.Calls.{stepped_one, stepped_more, counted_does}
 use Rattle.cbor4ii_tree.proofs.canonical.Calls.{items_more, item_stops, value_stops}
 use Rattle.cbor4ii_tree.proofs.canonical.Calls.{members_more, member_stops, array_exact, map_exact}
 use Rattle.cbor4ii_items.specs.Laws.Running.{kept_alike}
-use Rattle.cbor4ii_tree.proofs.values.Answered.{went_on, around, behind}
+use Rattle.cbor4ii_tree.proofs.values.Answered.{went_on, around, further}
 use Rattle.cbor4ii_tree.proofs.values.Leaves.{after_look, found_leaf}
 use Rattle.cbor4ii_tree.proofs.decode_canonical.+strict.Goals as goal
 
@@ -49,7 +52,7 @@ read_one-returns-clause-does g t c =
 pub read_one-returns-then-not-step_in-clause-does :
     goal.read_one-returns-then-not-step_in-clause-does
 read_one-returns-then-not-step_in-clause-does g t c =
-    rw c.leave.ensures (does_no_step value_name (ReadsExactly (g.S.Source.view
+    rw c.leave_deep.ensures (does_no_step value_name (ReadsExactly (g.S.Source.view
     c.args.reader.now).budget)
     (StopsExactly (g.S.Source.view c.args.reader.now).budget) refl refl
     (λ none xs. rw none (refl, refl)) c.if-not-step_in.ensures.budget c.step_in.ensures.others)
@@ -82,7 +85,8 @@ read_array-returns-clause-does g t c =
 pub read_array-returns-then-not-step_in-clause-does :
     goal.read_array-returns-then-not-step_in-clause-does
 read_array-returns-then-not-step_in-clause-does g t c =
-    rw c.leave.ensures (does_no_step array_name (ReadsStepped (λ o xs (v : Vec Value Global) ys.
+    rw c.leave_deep.ensures (does_no_step array_name (ReadsStepped (λ o xs (v : Vec Value Global)
+    ys.
     AcceptsCount 4 ExactItems o xs v.items ys) (g.S.Source.view c.args.reader.now).budget)
     (StopsExactlyStepped array_name (StrictArrayStops StopsExactly)
     (g.S.Source.view c.args.reader.now).budget) refl refl (λ none xs. rw none (refl, refl))
@@ -115,7 +119,8 @@ read_map-returns-clause-does g t c =
 pub read_map-returns-then-not-step_in-clause-does :
     goal.read_map-returns-then-not-step_in-clause-does
 read_map-returns-then-not-step_in-clause-does g t c =
-    rw c.leave.ensures (does_no_step map_name (ReadsStepped (λ o xs (v : Vec (Value × Value) Global)
+    rw c.leave_deep.ensures (does_no_step map_name (ReadsStepped (λ o xs (v : Vec (Value × Value)
+    Global)
     ys.
     AcceptsCount 5 ExactMembers o xs v.items ys) (g.S.Source.view c.args.reader.now).budget)
     (StopsExactlyStepped map_name (StrictMapStops StopsExactly)
@@ -151,123 +156,64 @@ read_member-returns-in_err-value-clause-does g t c =
     (λ xs ys z rest h s. value_stops (g.S.Source.view c.args.reader.now).budget
     c.in_ok-key.key xs ys z rest h s) c.in_err-value.ensures.does)
 
-pub read_by_first-returns-clause-does : goal.read_by_first-returns-clause-does
-read_by_first-returns-clause-does g t c =
-    exact_first c.in_ok-first.first (rw c.in_ok-first.ensures at c.peek.ensures.runs) (rw
-    c.part-in_default.ensures at c.read_leaf.ensures.does)
-
-pub read_by_first-returns-in-7-clause-does : goal.read_by_first-returns-in-7-clause-does
-read_by_first-returns-in-7-clause-does g t c =
-    exact_first c.in_ok-first.first (rw c.in_ok-first.ensures at c.peek.ensures.runs) (rw
-    c.part-in-None.ensures at c.read_float.ensures.exactly)
-
 pub read_by_first-returns-in_err-first-clause-does :
     goal.read_by_first-returns-in_err-first-clause-does
 read_by_first-returns-in_err-first-clause-does g t c =
-    rw c.from_residual.ensures (peek_stops (rw c.in_err-first.ensures at c.peek.ensures.runs))
+    rw c.from_residual.ensures (peek_stops c.in_err-first.ensures.runs)
 
 pub read_by_first-returns-then-first-clause-does : goal.read_by_first-returns-then-first-clause-does
 read_by_first-returns-then-first-clause-does g t c =
-    rw c.leave.ensures (undefined_stops c.in_ok-first.first (rw c.in_ok-first.ensures at
-    c.peek.ensures.runs) (rw c.in_ok-first.ensures at c.peek.ensures.byte)
+    rw c.leave_not_canonical.ensures (undefined_stops c.in_ok-first.first c.in_ok-first.ensures.runs
+    c.in_ok-first.ensures.byte
     c.advance.ensures c.if-first.true refl refl refl)
 
-pub read_by_first-returns-in-4-clause-does : goal.read_by_first-returns-in-4-clause-does
-read_by_first-returns-in-4-clause-does g t c =
-    exact_ok c.in_ok-first.first (rw c.in_ok-first.ensures at c.peek.ensures.runs) (λ xs ys.
+pub read_by_first-returns-in_ok-read_array-in-4-clause-does :
+    goal.read_by_first-returns-in_ok-read_array-in-4-clause-does
+read_by_first-returns-in_ok-read_array-in-4-clause-does g t c =
+    exact_ok c.in_ok-first.first c.in_ok-first.ensures.runs (λ xs ys.
     ReadsStepped
     (λ o xs (v : Vec Value Global) ys. AcceptsCount 4 ExactItems o xs v.items ys)
-    (g.S.Source.view c.peek.new.reader).budget xs c.in_ok-read_array-in-4.field-0 ys)
+    (g.S.Source.view c.first_of.new.reader).budget xs c.in_ok-read_array-in-4.field-0 ys)
     (Array c.in_ok-read_array-in-4.field-0)
     (λ xs ys h. array_exact (g.S.Source.view c.args.reader.now).budget
     c.in_ok-read_array-in-4.field-0 xs ys (subst (λ o. ReadsStepped
     (λ o xs (v : Vec Value Global) ys. AcceptsCount 4 ExactItems o xs v.items ys) o xs
-    c.in_ok-read_array-in-4.field-0 ys) (rw c.in_ok-first.ensures at
-    c.peek.ensures.runs).moves.by.budget h))
+    c.in_ok-read_array-in-4.field-0 ys) c.in_ok-first.ensures.runs.moves.by.budget h))
     (reached_by c.in_ok-read_array-in-4.ensures.does)
 
 pub read_by_first-returns-in_err-read_array-in-4-clause-does :
     goal.read_by_first-returns-in_err-read_array-in-4-clause-does
 read_by_first-returns-in_err-read_array-in-4-clause-does g t c =
-    rw c.from_residual-in_err-read_array-in-4.ensures (exact_err c.in_ok-first.first (rw
-    c.in_ok-first.ensures at c.peek.ensures.runs) 4 (ReadsStepped
+    rw c.from_residual-in_err-read_array-in-4.ensures (exact_err c.in_ok-first.first
+    c.in_ok-first.ensures.runs 4 (ReadsStepped
     (λ o xs (v : Vec Value Global) ys. AcceptsCount 4 ExactItems o xs v.items ys)
-    (g.S.Source.view c.peek.new.reader).budget)
+    (g.S.Source.view c.first_of.new.reader).budget)
     (StopsExactlyStepped array_name (StrictArrayStops StopsExactly)) c.in-4.is
     (λ bs z rest h. h) c.in_err-read_array-in-4.ensures.does)
 
-pub read_by_first-returns-in-5-clause-does : goal.read_by_first-returns-in-5-clause-does
-read_by_first-returns-in-5-clause-does g t c =
-    exact_ok c.in_ok-first.first (rw c.in_ok-first.ensures at c.peek.ensures.runs) (λ xs ys.
+pub read_by_first-returns-in_ok-read_map-in-5-clause-does :
+    goal.read_by_first-returns-in_ok-read_map-in-5-clause-does
+read_by_first-returns-in_ok-read_map-in-5-clause-does g t c =
+    exact_ok c.in_ok-first.first c.in_ok-first.ensures.runs (λ xs ys.
     ReadsStepped
     (λ o xs (v : Vec (Value × Value) Global) ys. AcceptsCount 5 ExactMembers o xs v.items
-    ys) (g.S.Source.view c.peek.new.reader).budget xs c.in_ok-read_map-in-5.field-0 ys)
+    ys) (g.S.Source.view c.first_of.new.reader).budget xs c.in_ok-read_map-in-5.field-0 ys)
     (Map c.in_ok-read_map-in-5.field-0) (λ xs ys h.
     map_exact (g.S.Source.view c.args.reader.now).budget c.in_ok-read_map-in-5.field-0 xs ys
     (subst (λ o. ReadsStepped (λ o xs (v : Vec (Value × Value) Global) ys.
     AcceptsCount 5 ExactMembers o xs v.items ys) o xs c.in_ok-read_map-in-5.field-0 ys)
-    (rw c.in_ok-first.ensures at c.peek.ensures.runs).moves.by.budget h))
+    c.in_ok-first.ensures.runs.moves.by.budget h))
     (reached_by c.in_ok-read_map-in-5.ensures.does)
 
 pub read_by_first-returns-in_err-read_map-in-5-clause-does :
     goal.read_by_first-returns-in_err-read_map-in-5-clause-does
 read_by_first-returns-in_err-read_map-in-5-clause-does g t c =
-    rw c.from_residual-in_err-read_map-in-5.ensures (exact_err c.in_ok-first.first (rw
-    c.in_ok-first.ensures at c.peek.ensures.runs) 5
+    rw c.from_residual-in_err-read_map-in-5.ensures (exact_err c.in_ok-first.first
+    c.in_ok-first.ensures.runs 5
     (ReadsStepped (λ o xs (v : Vec (Value × Value) Global) ys.
-    AcceptsCount 5 ExactMembers o xs v.items ys) (g.S.Source.view c.peek.new.reader).budget)
+    AcceptsCount 5 ExactMembers o xs v.items ys) (g.S.Source.view c.first_of.new.reader).budget)
     (StopsExactlyStepped map_name (StrictMapStops StopsExactly)) c.in-5.is
     (λ bs z rest h. h) c.in_err-read_map-in-5.ensures.does)
-
-pub read_by_first-returns-in_err-number-in-6-clause-does :
-    goal.read_by_first-returns-in_err-number-in-6-clause-does
-read_by_first-returns-in_err-number-in-6-clause-does g t c =
-    rw c.from_residual-in_err-number-in-6.ensures
-    (exact_err c.in_ok-first.first (rw c.in_ok-first.ensures at c.peek.ensures.runs) 6 (λ xs (v : ℕ)
-    ys. Unit {0})
-    (λ o xs. StopsShortest tag_name 6 xs o) c.in-6.is (λ bs z rest h. inl h)
-    (does_stops (λ xs (v : ℕ) ys. Unit {0}) (StopsShortest tag_name 6)
-    (rw c.in_err-number-in-6.ensures at c.canonical_head.ensures.moves) (rw
-    c.in_err-number-in-6.ensures at c.canonical_head.ensures.stops)))
-
-pub read_by_first-returns-in_err-inner-in-6-clause-does :
-    goal.read_by_first-returns-in_err-inner-in-6-clause-does
-read_by_first-returns-in_err-inner-in-6-clause-does g t c =
-    rw c.from_residual-in_err-inner-in-6.ensures (exact_tag_err c.in_ok-first.first (rw
-    c.in_ok-first.ensures at c.peek.ensures.runs)
-    c.in_ok-number-in-6.number c.in-6.is (reached_shortest 6 c.in_ok-number-in-6.number
-    (rw c.in_ok-number-in-6.ensures at c.canonical_head.ensures.moves) (rw
-    c.in_ok-number-in-6.ensures at c.canonical_head.ensures.sound))
-    c.in_err-inner-in-6.ensures.does)
-
-pub read_by_first-returns-in-6-clause-does : goal.read_by_first-returns-in-6-clause-does
-read_by_first-returns-in-6-clause-does g t c =
-    does_no_memory (ReadsExactlyUnder (g.S.Source.view c.args.reader.now).budget)
-    (StopsExactlyUnder (g.S.Source.view c.args.reader.now).budget) refl (kept_then (looked_at
-    c.in_ok-first.first (rw c.in_ok-first.ensures at c.peek.ensures.runs) (ShortestAt 6
-    c.in_ok-number-in-6.number)
-    (reached_shortest 6 c.in_ok-number-in-6.number (rw c.in_ok-number-in-6.ensures at
-    c.canonical_head.ensures.moves)
-    (rw c.in_ok-number-in-6.ensures at c.canonical_head.ensures.sound))).kept
-    c.in_ok-inner-in-6.ensures.does.moves.by)
-
-pub read_by_first-returns-in-Ok-clause-does : goal.read_by_first-returns-in-Ok-clause-does
-read_by_first-returns-in-Ok-clause-does g t c =
-    exact_tag c.in_ok-first.first (rw c.in_ok-first.ensures at c.peek.ensures.runs)
-    c.in_ok-number-in-6.number
-    (Tag c.in_ok-number-in-6.number c.in-Ok.boxed)
-    (view-Tag c.in_ok-number-in-6.number c.in-Ok.boxed
-    ∙ ap (λ x. tag c.in_ok-number-in-6.number (view x)) c.in-Ok.ensures.ok)
-    (reached_shortest 6 c.in_ok-number-in-6.number (rw c.in_ok-number-in-6.ensures at
-    c.canonical_head.ensures.moves)
-    (rw c.in_ok-number-in-6.ensures at c.canonical_head.ensures.sound))
-    c.in_ok-inner-in-6.ensures.does
-
-pub read_by_first-returns-in-Some-clause-does : goal.read_by_first-returns-in-Some-clause-does
-read_by_first-returns-in-Some-clause-does g t c =
-    simple_exact c.in_ok-first.first (rw c.in_ok-first.ensures at c.peek.ensures.runs) (rw
-    c.in_ok-first.ensures at c.peek.ensures.byte)
-    c.advance-in-Some.ensures c.if-first.false c.in-Some.ensures
 
 pub array_inside-returns-in_err-count-clause-progress :
     goal.array_inside-returns-in_err-count-clause-progress
@@ -303,16 +249,6 @@ pub read_by_first-returns-in_err-read_map-in-5-clause-progress :
     goal.read_by_first-returns-in_err-read_map-in-5-clause-progress
 read_by_first-returns-in_err-read_map-in-5-clause-progress g t c =
     rw c.from_residual-in_err-read_map-in-5.ensures tt
-
-pub read_by_first-returns-in_err-number-in-6-clause-progress :
-    goal.read_by_first-returns-in_err-number-in-6-clause-progress
-read_by_first-returns-in_err-number-in-6-clause-progress g t c =
-    rw c.from_residual-in_err-number-in-6.ensures tt
-
-pub read_by_first-returns-in_err-inner-in-6-clause-progress :
-    goal.read_by_first-returns-in_err-inner-in-6-clause-progress
-read_by_first-returns-in_err-inner-in-6-clause-progress g t c =
-    rw c.from_residual-in_err-inner-in-6.ensures tt
 
 pub read_one-returns-then-not-step_in-clause-progress :
     goal.read_one-returns-then-not-step_in-clause-progress
@@ -359,45 +295,23 @@ pub read_by_first-returns-then-first-clause-progress :
     goal.read_by_first-returns-then-first-clause-progress
 read_by_first-returns-then-first-clause-progress g t c = tt
 
-pub read_by_first-returns-in-6-clause-progress : goal.read_by_first-returns-in-6-clause-progress
-read_by_first-returns-in-6-clause-progress g t c = tt
-
-pub read_by_first-returns-in-4-clause-progress : goal.read_by_first-returns-in-4-clause-progress
-read_by_first-returns-in-4-clause-progress g t c =
+pub read_by_first-returns-in_ok-read_array-in-4-clause-progress :
+    goal.read_by_first-returns-in_ok-read_array-in-4-clause-progress
+read_by_first-returns-in_ok-read_array-in-4-clause-progress g t c =
     omega (
       arith,
-      (rw c.in_ok-first.ensures at c.peek.ensures.runs).moves.by.bound,
+      c.in_ok-first.ensures.runs.moves.by.bound,
       c.in_ok-read_array-in-4.ensures.progress,
     )
 
-pub read_by_first-returns-in-5-clause-progress : goal.read_by_first-returns-in-5-clause-progress
-read_by_first-returns-in-5-clause-progress g t c =
+pub read_by_first-returns-in_ok-read_map-in-5-clause-progress :
+    goal.read_by_first-returns-in_ok-read_map-in-5-clause-progress
+read_by_first-returns-in_ok-read_map-in-5-clause-progress g t c =
     omega (
       arith,
-      (rw c.in_ok-first.ensures at c.peek.ensures.runs).moves.by.bound,
+      c.in_ok-first.ensures.runs.moves.by.bound,
       c.in_ok-read_map-in-5.ensures.progress,
     )
-
-pub read_by_first-returns-in-Ok-clause-progress : goal.read_by_first-returns-in-Ok-clause-progress
-read_by_first-returns-in-Ok-clause-progress g t c =
-    omega (
-      arith,
-      (rw c.in_ok-first.ensures at c.peek.ensures.runs).moves.by.bound,
-      (rw c.in_ok-number-in-6.ensures at c.canonical_head.ensures.progress),
-      c.in_ok-inner-in-6.ensures.progress,
-    )
-
-pub read_by_first-returns-in-7-clause-progress : goal.read_by_first-returns-in-7-clause-progress
-read_by_first-returns-in-7-clause-progress g t c =
-    behind _ _ _ c.part-in-None.result _ (rw c.in_ok-first.ensures at
-    c.peek.ensures.runs).moves.by.bound
-    (rw c.part-in-None.ensures at c.read_float.ensures.progress)
-
-pub read_by_first-returns-clause-progress : goal.read_by_first-returns-clause-progress
-read_by_first-returns-clause-progress g t c =
-    behind _ _ _ c.part-in_default.result _ (rw c.in_ok-first.ensures at
-    c.peek.ensures.runs).moves.by.bound
-    (rw c.part-in_default.ensures at c.read_leaf.ensures.progress)
 
 pub counted_items-returns-then-is_err : goal.counted_items-returns-then-is_err
 counted_items-returns-then-is_err g t c =
@@ -413,29 +327,6 @@ counted_members-returns-then-is_err g t c =
     (StopsExactItems (2 * c.args.count) (g.S.Source.view c.args.reader.now).budget) refl
     (kept_alike _)
 
-pub read_by_first-read_float-requires-clause-other :
-    goal.read_by_first-read_float-requires-clause-other
-read_by_first-read_float-requires-clause-other g t c = c.in-None.ensures
-
-pub read_by_first-read_float-requires-clause-major :
-    goal.read_by_first-read_float-requires-clause-major
-read_by_first-read_float-requires-clause-major g t c = omega (arith, c.in-7.is)
-
-pub read_by_first-simple_of-requires : goal.read_by_first-simple_of-requires
-read_by_first-simple_of-requires g t c = tt
-
-pub read_by_first-returns-in-Some-clause-progress :
-    goal.read_by_first-returns-in-Some-clause-progress
-read_by_first-returns-in-Some-clause-progress g t c =
-    omega (
-      arith,
-      (rw c.in_ok-first.ensures at c.peek.ensures.runs).moves.by.bound,
-      c.advance-in-Some.ensures.bound,
-    )
-
-pub read_by_first-advance-requires-in-Some : goal.read_by_first-advance-requires-in-Some
-read_by_first-advance-requires-in-Some g t c = (rw c.in_ok-first.ensures at c.peek.ensures.can)
-
 -- ---- values one behind another
 
 pub counted_items-loop-alloc-init : goal.counted_items-loop-alloc-init
@@ -447,24 +338,28 @@ counted_items-loop-alloc-init g t c = record {
   few = none_too_many _ c.args.count (cc);
 }
 
-pub counted_items-returns-in_err-take_run : goal.counted_items-returns-in_err-take_run
-counted_items-returns-in_err-take_run g t c =
+pub counted_items-returns-in_err-take_run_apart : goal.counted_items-returns-in_err-take_run_apart
+counted_items-returns-in_err-take_run_apart g t c =
     rw c.from_residual.ensures (run_stops Exactly c.loop-alloc.items.items
-    c.take_run.new.parts.items c.loop-alloc.invariant.reached
-    (λ xs (v : Vec Value Global) ys. ExactItems c.args.count (g.S.Source.view c.args.reader.now).budget xs v.items ys)
-    (StopsExactItems c.args.count (g.S.Source.view c.args.reader.now).budget) (c.in_err-take_run.ensures.exactly refl))
+    c.take_run_apart.new.parts.items c.loop-alloc.invariant.reached
+    (λ xs (v : Vec Value Global) ys. ExactItems c.args.count (g.S.Source.view
+    c.args.reader.now).budget xs v.items ys)
+    (StopsExactItems c.args.count (g.S.Source.view c.args.reader.now).budget)
+    (c.in_err-take_run_apart.ensures.exactly refl))
 
 pub counted_items-returns-in_err-value : goal.counted_items-returns-in_err-value
 counted_items-returns-in_err-value g t c =
     rw c.from_residual-in_err-value.ensures (ends ReadsExactly StopsExactly
-    (λ xs ys. ExactItems (length c.take_run.new.parts.items) (g.S.Source.view c.args.reader.now).budget xs
-    c.take_run.new.parts.items ys)
-    (ran Exactly c.loop-alloc.items.items c.take_run.new.parts.items
-    c.loop-alloc.invariant.reached (c.in_ok-take_run.ensures.exactly refl))
-    (λ xs (v : Vec Value Global) ys. ExactItems c.args.count (g.S.Source.view c.args.reader.now).budget xs v.items ys)
+    (λ xs ys. ExactItems (length c.take_run_apart.new.parts.items) (g.S.Source.view
+    c.args.reader.now).budget xs
+    c.take_run_apart.new.parts.items ys)
+    (ran Exactly c.loop-alloc.items.items c.take_run_apart.new.parts.items
+    c.loop-alloc.invariant.reached (c.in_ok-take_run_apart.ensures.exactly refl))
+    (λ xs (v : Vec Value Global) ys. ExactItems c.args.count (g.S.Source.view
+    c.args.reader.now).budget xs v.items ys)
     (StopsExactItems c.args.count (g.S.Source.view c.args.reader.now).budget)
-    (λ xs ys z rest h s. item_stops (length c.take_run.new.parts.items) c.args.count
-    (g.S.Source.view c.args.reader.now).budget c.take_run.new.parts.items xs ys z rest
+    (λ xs ys z rest h s. item_stops (length c.take_run_apart.new.parts.items) c.args.count
+    (g.S.Source.view c.args.reader.now).budget c.take_run_apart.new.parts.items xs ys z rest
     (omega (arith, c.if-len-count.true)) h s) c.in_err-value.ensures.does)
 
 pub counted_items-loop-alloc-smaller-in-Continue-branch-3 :
@@ -473,30 +368,33 @@ counted_items-loop-alloc-smaller-in-Continue-branch-3 g t c =
     omega (
       arith,
       c.if-len-count.true,
-      c.in_ok-take_run.ensures.more,
+      c.in_ok-take_run_apart.ensures.more,
       ap length c.in_ok-keep.ensures.kept,
-      length-append c.take_run.new.parts.items (c.in_ok-value.value ∷ []),
+      length-append c.take_run_apart.new.parts.items (c.in_ok-value.value ∷ []),
     )
 
 pub counted_items-loop-alloc-preserved-in-Continue-branch-3 :
     goal.counted_items-loop-alloc-preserved-in-Continue-branch-3
 counted_items-loop-alloc-preserved-in-Continue-branch-3 g t c =
-    let long : length c.keep.new.items.items ≡ length c.take_run.new.parts.items + 1 =
+    let long : length c.keep.new.items.items ≡ length c.take_run_apart.new.parts.items + 1 =
     ap length c.in_ok-keep.ensures.kept
-    ∙ length-append c.take_run.new.parts.items (c.in_ok-value.value ∷ []) in
+    ∙ length-append c.take_run_apart.new.parts.items (c.in_ok-value.value ∷ []) in
     record {
       reached =
           subst (λ n. Reached (λ xs ys. ExactItems n (g.S.Source.view c.args.reader.now).budget xs
           c.keep.new.items.items ys) (g.S.Source.view c.args.reader.now)
           (g.S.Source.view c.read_nested.new.reader)) (sym long)
           (more ReadsExactly StopsExactly
-          (λ xs ys. ExactItems (length c.take_run.new.parts.items) (g.S.Source.view c.args.reader.now).budget xs
-          c.take_run.new.parts.items ys)
-          (ran Exactly c.loop-alloc.items.items c.take_run.new.parts.items
-          c.loop-alloc.invariant.reached (c.in_ok-take_run.ensures.exactly refl))
-          (λ xs ys. ExactItems (length c.take_run.new.parts.items + 1) (g.S.Source.view c.args.reader.now).budget xs _ ys)
-          (λ xs ys zs h s. items_more (length c.take_run.new.parts.items) (g.S.Source.view c.args.reader.now).budget
-          c.take_run.new.parts.items _ c.in_ok-value.value xs ys zs c.in_ok-keep.ensures.kept
+          (λ xs ys. ExactItems (length c.take_run_apart.new.parts.items) (g.S.Source.view
+          c.args.reader.now).budget xs
+          c.take_run_apart.new.parts.items ys)
+          (ran Exactly c.loop-alloc.items.items c.take_run_apart.new.parts.items
+          c.loop-alloc.invariant.reached (c.in_ok-take_run_apart.ensures.exactly refl))
+          (λ xs ys. ExactItems (length c.take_run_apart.new.parts.items + 1) (g.S.Source.view
+          c.args.reader.now).budget xs _ ys)
+          (λ xs ys zs h s. items_more (length c.take_run_apart.new.parts.items) (g.S.Source.view
+          c.args.reader.now).budget
+          c.take_run_apart.new.parts.items _ c.in_ok-value.value xs ys zs c.in_ok-keep.ensures.kept
           h s) c.in_ok-value.ensures.does);
       few = omega (arith, long, c.if-len-count.true);
     }
@@ -504,18 +402,19 @@ counted_items-loop-alloc-preserved-in-Continue-branch-3 g t c =
 pub counted_items-returns-in_err-keep : goal.counted_items-returns-in_err-keep
 counted_items-returns-in_err-keep g t c =
     rw c.from_residual-in_err-keep.ensures (does_no_memory (λ xs (v : Vec Value Global) ys.
-    ExactItems c.args.count (g.S.Source.view c.args.reader.now).budget xs v.items ys) (StopsExactItems c.args.count
+    ExactItems c.args.count (g.S.Source.view c.args.reader.now).budget xs v.items ys)
+    (StopsExactItems c.args.count
     (g.S.Source.view c.args.reader.now).budget) (ap refusal_left c.in_err-keep.ensures.memory)
-    (kept_then (ran Exactly c.loop-alloc.items.items c.take_run.new.parts.items
-    c.loop-alloc.invariant.reached (c.in_ok-take_run.ensures.exactly refl)).kept
+    (kept_then (ran Exactly c.loop-alloc.items.items c.take_run_apart.new.parts.items
+    c.loop-alloc.invariant.reached (c.in_ok-take_run_apart.ensures.exactly refl)).kept
     c.in_ok-value.ensures.does.moves.by))
 
 pub counted_items-loop-alloc-preserved : goal.counted_items-loop-alloc-preserved
 counted_items-loop-alloc-preserved g t c = record {
   reached =
-      ran Exactly c.loop-alloc.items.items c.take_run.new.parts.items
-      c.loop-alloc.invariant.reached (c.in_ok-take_run.ensures.exactly refl);
-  few = c.in_ok-take_run.ensures.few;
+      ran Exactly c.loop-alloc.items.items c.take_run_apart.new.parts.items
+      c.loop-alloc.invariant.reached (c.in_ok-take_run_apart.ensures.exactly refl);
+  few = c.in_ok-take_run_apart.ensures.few;
 }
 
 pub counted_members-loop-alloc-init : goal.counted_members-loop-alloc-init
@@ -531,17 +430,21 @@ pub counted_members-returns-in_err-take_run : goal.counted_members-returns-in_er
 counted_members-returns-in_err-take_run g t c =
     rw c.from_residual.ensures (pairs_stop Exactly c.loop-alloc.members.items
     c.take_run.new.parts.items c.loop-alloc.invariant.reached
-    (λ xs (v : Vec (Value × Value) Global) ys. ExactMembers c.args.count (g.S.Source.view c.args.reader.now).budget xs v.items ys)
-    (StopsExactItems (2 * c.args.count) (g.S.Source.view c.args.reader.now).budget) (c.in_err-take_run.ensures.exactly refl))
+    (λ xs (v : Vec (Value × Value) Global) ys. ExactMembers c.args.count (g.S.Source.view
+    c.args.reader.now).budget xs v.items ys)
+    (StopsExactItems (2 * c.args.count) (g.S.Source.view c.args.reader.now).budget)
+    (c.in_err-take_run.ensures.exactly refl))
 
 pub counted_members-returns-in_err-member : goal.counted_members-returns-in_err-member
 counted_members-returns-in_err-member g t c =
     rw c.from_residual-in_err-member.ensures (ends ExactMember StopsExactMember
-    (λ xs ys. ExactMembers (length c.take_run.new.parts.items) (g.S.Source.view c.args.reader.now).budget xs
+    (λ xs ys. ExactMembers (length c.take_run.new.parts.items) (g.S.Source.view
+    c.args.reader.now).budget xs
     c.take_run.new.parts.items ys)
     (ran_pairs Exactly c.loop-alloc.members.items c.take_run.new.parts.items
     c.loop-alloc.invariant.reached (c.in_ok-take_run.ensures.exactly refl))
-    (λ xs (v : Vec (Value × Value) Global) ys. ExactMembers c.args.count (g.S.Source.view c.args.reader.now).budget xs v.items ys)
+    (λ xs (v : Vec (Value × Value) Global) ys. ExactMembers c.args.count (g.S.Source.view
+    c.args.reader.now).budget xs v.items ys)
     (StopsExactItems (2 * c.args.count) (g.S.Source.view c.args.reader.now).budget)
     (λ xs ys z rest h s. member_stops (length c.take_run.new.parts.items) c.args.count
     (g.S.Source.view c.args.reader.now).budget c.take_run.new.parts.items xs ys z rest
@@ -570,12 +473,15 @@ counted_members-loop-alloc-preserved-in-Continue-branch-3 g t c =
           c.keep.new.items.items ys) (g.S.Source.view c.args.reader.now)
           (g.S.Source.view c.read_member.new.reader)) (sym long)
           (more ExactMember StopsExactMember
-          (λ xs ys. ExactMembers (length c.take_run.new.parts.items) (g.S.Source.view c.args.reader.now).budget xs
+          (λ xs ys. ExactMembers (length c.take_run.new.parts.items) (g.S.Source.view
+          c.args.reader.now).budget xs
           c.take_run.new.parts.items ys)
           (ran_pairs Exactly c.loop-alloc.members.items c.take_run.new.parts.items
           c.loop-alloc.invariant.reached (c.in_ok-take_run.ensures.exactly refl))
-          (λ xs ys. ExactMembers (length c.take_run.new.parts.items + 1) (g.S.Source.view c.args.reader.now).budget xs _ ys)
-          (λ xs ys zs h s. members_more (length c.take_run.new.parts.items) (g.S.Source.view c.args.reader.now).budget
+          (λ xs ys. ExactMembers (length c.take_run.new.parts.items + 1) (g.S.Source.view
+          c.args.reader.now).budget xs _ ys)
+          (λ xs ys zs h s. members_more (length c.take_run.new.parts.items) (g.S.Source.view
+          c.args.reader.now).budget
           c.take_run.new.parts.items _ c.in_ok-member.member xs ys zs c.in_ok-keep.ensures.kept
           h s) c.in_ok-member.ensures.does);
       few = omega (arith, long, c.if-len-count.true);
@@ -583,8 +489,10 @@ counted_members-loop-alloc-preserved-in-Continue-branch-3 g t c =
 
 pub counted_members-returns-in_err-keep : goal.counted_members-returns-in_err-keep
 counted_members-returns-in_err-keep g t c =
-    rw c.from_residual-in_err-keep.ensures (does_no_memory (λ xs (v : Vec (Value × Value) Global) ys.
-    ExactMembers c.args.count (g.S.Source.view c.args.reader.now).budget xs v.items ys) (StopsExactItems (2 * c.args.count)
+    rw c.from_residual-in_err-keep.ensures (does_no_memory (λ xs (v : Vec (Value × Value) Global)
+    ys.
+    ExactMembers c.args.count (g.S.Source.view c.args.reader.now).budget xs v.items ys)
+    (StopsExactItems (2 * c.args.count)
     (g.S.Source.view c.args.reader.now).budget) (ap refusal_left c.in_err-keep.ensures.memory)
     (kept_then (ran_pairs Exactly c.loop-alloc.members.items c.take_run.new.parts.items
     c.loop-alloc.invariant.reached (c.in_ok-take_run.ensures.exactly refl)).kept
@@ -608,7 +516,7 @@ read_nested-returns-clause-does g t c =
 pub read_nested-returns-then-not-step_in-clause-does :
     goal.read_nested-returns-then-not-step_in-clause-does
 read_nested-returns-then-not-step_in-clause-does g t c =
-    rw c.leave.ensures (does_no_step value_name (ReadsExactly (g.S.Source.view
+    rw c.leave_deep.ensures (does_no_step value_name (ReadsExactly (g.S.Source.view
     c.args.reader.now).budget)
     (StopsExactly (g.S.Source.view c.args.reader.now).budget) refl refl
     (λ none xs. rw none (refl, refl)) c.if-not-step_in.ensures.budget c.step_in.ensures.others)
@@ -621,3 +529,63 @@ pub read_nested-returns-clause-progress : goal.read_nested-returns-clause-progre
 read_nested-returns-clause-progress g t c =
     around _ _ _ _ _ c.step_in.ensures.others.bound c.step_out.ensures.others.bound
     c.read_by_first-outcome.ensures.progress
+
+-- ---- a value that is no array and no map
+
+pub read_by_first-returns-in-6-clause-does : goal.read_by_first-returns-in-6-clause-does
+read_by_first-returns-in-6-clause-does g t c =
+    exact_major c.in_ok-first.first c.in_ok-first.ensures.runs 6 c.in-6.is
+    c.read_tag.ensures.does
+
+pub read_by_first-returns-in-6-clause-progress : goal.read_by_first-returns-in-6-clause-progress
+read_by_first-returns-in-6-clause-progress g t c =
+    further _ _ _ _ c.in_ok-first.ensures.runs.moves.by.bound
+    c.read_tag.ensures.progress
+
+pub read_by_first-returns-in_default-clause-progress :
+    goal.read_by_first-returns-in_default-clause-progress
+read_by_first-returns-in_default-clause-progress g t c =
+    further _ _ _ _ c.in_ok-first.ensures.runs.moves.by.bound
+    c.read_alone.ensures.progress
+
+pub read_tag-returns-in_err-number-clause-does : goal.read_tag-returns-in_err-number-clause-does
+read_tag-returns-in_err-number-clause-does g t c =
+    rw c.from_residual.ensures (exact_tag_refused c.in_err-number.ensures.moves
+    c.in_err-number.ensures.stops)
+
+pub read_tag-returns-in_err-inner-clause-does : goal.read_tag-returns-in_err-inner-clause-does
+read_tag-returns-in_err-inner-clause-does g t c =
+    rw c.from_residual-in_err-inner.ensures (exact_tag_err c.in_ok-number.number
+    (reached_shortest 6 c.in_ok-number.number c.in_ok-number.ensures.moves
+    c.in_ok-number.ensures.sound)
+    c.in_err-inner.ensures.does)
+
+pub read_tag-returns-in-Ok-clause-does : goal.read_tag-returns-in-Ok-clause-does
+read_tag-returns-in-Ok-clause-does g t c =
+    exact_tag c.in_ok-number.number (Tag c.in_ok-number.number c.in-Ok.boxed)
+    (view-Tag c.in_ok-number.number c.in-Ok.boxed
+    ∙ ap (λ x. tag c.in_ok-number.number (view x)) c.in-Ok.ensures.ok)
+    (reached_shortest 6 c.in_ok-number.number c.in_ok-number.ensures.moves
+    c.in_ok-number.ensures.sound)
+    c.in_ok-inner.ensures.does
+
+pub read_tag-returns-in-Ok-clause-progress : goal.read_tag-returns-in-Ok-clause-progress
+read_tag-returns-in-Ok-clause-progress g t c =
+    omega (
+      arith,
+      c.in_ok-number.ensures.progress,
+      c.in_ok-inner.ensures.progress,
+    )
+
+pub read_tag-returns-clause-does : goal.read_tag-returns-clause-does
+read_tag-returns-clause-does g t c =
+    does_no_memory (ReadsExactlyUnder (g.S.Source.view c.args.reader.now).budget)
+    (StopsBehindMajor 6 (g.S.Source.view c.args.reader.now).budget) refl (kept_then
+    (reached_shortest 6 c.in_ok-number.number c.in_ok-number.ensures.moves
+    c.in_ok-number.ensures.sound).kept c.in_ok-inner.ensures.does.moves.by)
+
+pub read_by_first-returns-in_default-clause-does : goal.read_by_first-returns-in_default-clause-does
+read_by_first-returns-in_default-clause-does g t c =
+    alone_exact c.in_ok-first.first c.in_ok-first.ensures.runs
+    c.in_ok-first.ensures.byte c.if-first.false
+    c.read_alone.ensures.does

@@ -6,7 +6,8 @@ use Rattle.cbor4ii_tree.specs.Refusal.{require_utf8, kind_name}
 use Rattle.cbor4ii_tree.specs.StopsStrictly.{StrictTextStops}
 use Rattle.cbor4ii_tree.specs.Strictly.{StringAt, TextAt}
 use Rattle.cbor4ii_tree.proofs.skip_calls.Doing.{does_ok, does_refuse, reached_as}
-use Rattle.cbor4ii_tree.proofs.canonical.Calls.{call_stops, reached_string, no_text}
+use Rattle.cbor4ii_tree.proofs.canonical.Calls.{reached_string, no_text}
+use Rattle.cbor4ii_tree.proofs.skip_calls.Doing.{call_stops}
 use Rattle.cbor4ii_tree.proofs.decode_canonical.read_text.Goals as goal
 
 pub returns-in_err-canonical_buf-clause-does : goal.returns-in_err-canonical_buf-clause-does

@@ -2,23 +2,22 @@ use Rattle.std.proofs.Common.{length, [], sym, length-append, inl, refl, ap, sub
 use Rattle.std.proofs.Common.{◌∙◌, ◌+◌, ◌∷◌, ◌≡◌}
 use Rattle.cbor4ii_tree.specs.Does.{refusal_left}
 use Rattle.cbor4ii_tree.specs.Valuing.{ReadsOneValue, StopsOneValue, ReadsMember, StopsMember}
-use Rattle.cbor4ii_tree.specs.Valuing.{StopsMembers, StopsFirst, ReadsStepped, StopsOf, ReadsItems}
+use Rattle.cbor4ii_tree.specs.Valuing.{StopsMembers, ReadsStepped, StopsOf, ReadsItems}
 use Rattle.cbor4ii_tree.specs.Valuing.{StopsItems, ReadsArrayInside, ReadsMapInside, StopsMajor}
 use Rattle.cbor4ii_tree.specs.Valuing.{ReadsMembers, ReadsOpenItems, StopsOpenItems}
 use Rattle.cbor4ii_tree.specs.Valuing.{ReadsOpenMembers, StopsOpenMembers, ReadsUnder, StopsUnder}
 use Rattle.cbor4ii_tree.specs.declared.value.Value.{Array, Map, Tag}
 use Rattle.cbor4ii_tree.specs.Item.{tag}
 use Rattle.cbor4ii_tree.specs.View.{view}
-use Rattle.cbor4ii_tree.specs.Refusal.{array_name, map_name, tag_name, value_name}
-use Rattle.cbor4ii_items.specs.Numbers.{StopsArgument}
+use Rattle.cbor4ii_tree.specs.Refusal.{array_name, map_name, value_name}
 use Rattle.cbor4ii_items.specs.Laws.Steps.{kept_then}
 use Rattle.cbor4ii_tree.proofs.skip_calls.Doing.{Reached, reached_start, reached_by, does_ok}
 use Rattle.cbor4ii_tree.proofs.skip_calls.Doing.{does_no_memory, does_no_step}
 use Rattle.cbor4ii_tree.proofs.skip_calls.Calls.{Before, broke, other, at_end}
 use Rattle.cbor4ii_tree.proofs.values.Parts.{ReadEach, ReadPairs}
 use Rattle.cbor4ii_tree.proofs.values.Calls.{stepped, counted_more, counted_stop}
-use Rattle.cbor4ii_tree.proofs.values.Heads.{arm_ok, arm_err, arm_does, call_err, simple_read}
-use Rattle.cbor4ii_tree.proofs.values.Heads.{reached_tag, tag_read, tag_stops, tag_stopped}
+use Rattle.cbor4ii_tree.proofs.values.Heads.{arm_ok, arm_err, arm_does, alone_does}
+use Rattle.cbor4ii_tree.proofs.values.Heads.{reached_tag, tag_read, tag_refused, tag_stopped}
 use Rattle.cbor4ii_tree.proofs.values.Heads.{view-Tag}
 use Rattle.cbor4ii_tree.proofs.values.Sequences.{major_stepped, array_no_step, map_no_step}
 use Rattle.cbor4ii_tree.proofs.values.Sequences.{array_length_stops, map_length_stops}
@@ -32,7 +31,7 @@ use Rattle.cbor4ii_tree.proofs.values.Sequences.{value_stop, members_done, more,
 use Rattle.cbor4ii_tree.proofs.values.Items.{items_none, items_are, members_none_are, members_are}
 use Rattle.cbor4ii_tree.proofs.values.Items.{array_item, map_item}
 use Rattle.cbor4ii_items.specs.Laws.Running.{kept_alike}
-use Rattle.cbor4ii_tree.proofs.values.Answered.{went_on, around, behind, found}
+use Rattle.cbor4ii_tree.proofs.values.Answered.{went_on, around, further}
 use Rattle.cbor4ii_tree.proofs.values.Ends.{nothing_there}
 use Rattle.cbor4ii_tree.proofs.values.Leaves.{after_look}
 use Rattle.cbor4ii_tree.specs.StopsReading.{Readable}
@@ -248,111 +247,51 @@ read_array-returns-clause-does g t c =
 pub read_array-returns-then-not-step_in-clause-does :
     goal.read_array-returns-then-not-step_in-clause-does
 read_array-returns-then-not-step_in-clause-does g t c =
-    rw c.leave.ensures (does_no_step array_name (ReadsStepped (λ o xs v ys. ReadsArrayInside o xs
+    rw c.leave_deep.ensures (does_no_step array_name (ReadsStepped (λ o xs v ys. ReadsArrayInside o
+    xs
     v.items ys)
     (g.S.Source.view c.args.reader.now).budget)
     (StopsOf 4 (g.S.Source.view c.args.reader.now).budget) refl refl
     (λ none xs. array_no_step (g.S.Source.view c.args.reader.now).budget none xs)
     c.if-not-step_in.ensures.budget c.step_in.ensures.others)
 
-pub read_by_first-returns-clause-does : goal.read_by_first-returns-clause-does
-read_by_first-returns-clause-does g t c =
-    arm_does c.in_ok-first.first (rw c.in_ok-first.ensures at c.peek.ensures.runs)
-    (λ xs v ys. ReadsUnder (g.S.Source.view c.peek.new.reader).budget xs v ys)
-    (StopsFirst c.in_ok-first.first (g.S.Source.view c.peek.new.reader).budget)
-    (λ bs ys v h. subst (λ o. ReadsUnder o (c.in_ok-first.first ∷ bs) v ys)
-    (rw c.in_ok-first.ensures at c.peek.ensures.runs).moves.by.budget h)
-    (λ bs z rest h. subst (λ o. StopsUnder o (c.in_ok-first.first ∷ bs) z rest)
-    (rw c.in_ok-first.ensures at c.peek.ensures.runs).moves.by.budget (h bs refl)) (rw
-    c.part-in_default.ensures at c.read_leaf.ensures.does)
-
-pub read_by_first-returns-in-7-clause-does : goal.read_by_first-returns-in-7-clause-does
-read_by_first-returns-in-7-clause-does g t c =
-    arm_does c.in_ok-first.first (rw c.in_ok-first.ensures at c.peek.ensures.runs)
-    (λ xs v ys. ReadsUnder (g.S.Source.view c.peek.new.reader).budget xs v ys)
-    (StopsFirst c.in_ok-first.first (g.S.Source.view c.peek.new.reader).budget)
-    (λ bs ys v h. subst (λ o. ReadsUnder o (c.in_ok-first.first ∷ bs) v ys)
-    (rw c.in_ok-first.ensures at c.peek.ensures.runs).moves.by.budget h)
-    (λ bs z rest h. subst (λ o. StopsUnder o (c.in_ok-first.first ∷ bs) z rest)
-    (rw c.in_ok-first.ensures at c.peek.ensures.runs).moves.by.budget (h bs refl)) (rw
-    c.part-in-None.ensures at c.read_float.ensures.does)
-
-pub read_by_first-returns-in-4-clause-does : goal.read_by_first-returns-in-4-clause-does
-read_by_first-returns-in-4-clause-does g t c =
-    arm_ok c.in_ok-first.first (rw c.in_ok-first.ensures at c.peek.ensures.runs) (ReadsStepped (λ o
+pub read_by_first-returns-in_ok-read_array-in-4-clause-does :
+    goal.read_by_first-returns-in_ok-read_array-in-4-clause-does
+read_by_first-returns-in_ok-read_array-in-4-clause-does g t c =
+    arm_ok c.in_ok-first.first c.in_ok-first.ensures.runs (ReadsStepped (λ o
     xs v ys.
-    ReadsArrayInside o xs v.items ys) (g.S.Source.view c.peek.new.reader).budget)
-    (StopsOf 4 (g.S.Source.view c.peek.new.reader).budget)
+    ReadsArrayInside o xs v.items ys) (g.S.Source.view c.first_of.new.reader).budget)
+    (StopsOf 4 (g.S.Source.view c.first_of.new.reader).budget)
     (Array c.in_ok-read_array-in-4.field-0) (λ bs ys h.
     array_reads (g.S.Source.view c.args.reader.now).budget c.in_ok-read_array-in-4.field-0
     (c.in_ok-first.first ∷ bs) ys (subst (λ o. ReadsStepped (λ o xs v ys. ReadsArrayInside o
     xs v.items ys) o (c.in_ok-first.first ∷ bs) c.in_ok-read_array-in-4.field-0 ys)
-    (rw c.in_ok-first.ensures at c.peek.ensures.runs).moves.by.budget h))
+    c.in_ok-first.ensures.runs.moves.by.budget h))
     c.in_ok-read_array-in-4.ensures.does
 
-pub read_by_first-returns-in-5-clause-does : goal.read_by_first-returns-in-5-clause-does
-read_by_first-returns-in-5-clause-does g t c =
-    arm_ok c.in_ok-first.first (rw c.in_ok-first.ensures at c.peek.ensures.runs) (ReadsStepped (λ o
+pub read_by_first-returns-in_ok-read_map-in-5-clause-does :
+    goal.read_by_first-returns-in_ok-read_map-in-5-clause-does
+read_by_first-returns-in_ok-read_map-in-5-clause-does g t c =
+    arm_ok c.in_ok-first.first c.in_ok-first.ensures.runs (ReadsStepped (λ o
     xs v ys.
-    ReadsMapInside o xs v.items ys) (g.S.Source.view c.peek.new.reader).budget)
-    (StopsOf 5 (g.S.Source.view c.peek.new.reader).budget) (Map c.in_ok-read_map-in-5.field-0)
+    ReadsMapInside o xs v.items ys) (g.S.Source.view c.first_of.new.reader).budget)
+    (StopsOf 5 (g.S.Source.view c.first_of.new.reader).budget) (Map c.in_ok-read_map-in-5.field-0)
     (λ bs ys h. map_reads (g.S.Source.view c.args.reader.now).budget
     c.in_ok-read_map-in-5.field-0 (c.in_ok-first.first ∷ bs) ys (subst (λ o.
     ReadsStepped (λ o xs v ys. ReadsMapInside o xs v.items ys) o (c.in_ok-first.first ∷ bs)
-    c.in_ok-read_map-in-5.field-0 ys) (rw c.in_ok-first.ensures at
-    c.peek.ensures.runs).moves.by.budget h))
+    c.in_ok-read_map-in-5.field-0 ys) c.in_ok-first.ensures.runs.moves.by.budget h))
     c.in_ok-read_map-in-5.ensures.does
-
-pub read_by_first-returns-in-6-clause-does : goal.read_by_first-returns-in-6-clause-does
-read_by_first-returns-in-6-clause-does g t c =
-    does_no_memory (ReadsUnder (g.S.Source.view c.args.reader.now).budget)
-    (StopsUnder (g.S.Source.view c.args.reader.now).budget) refl (kept_then
-    (reached_tag c.in_ok-first.first c.in_ok-number-in-6.number (rw c.in_ok-first.ensures at
-    c.peek.ensures.runs)
-    (rw c.in_ok-number-in-6.ensures at c.tag.ensures.moves) (rw c.in_ok-number-in-6.ensures at
-    c.tag.ensures.sound)).kept
-    c.in_ok-inner-in-6.ensures.does.moves.by)
-
-pub read_by_first-returns-in-Ok-clause-does : goal.read_by_first-returns-in-Ok-clause-does
-read_by_first-returns-in-Ok-clause-does g t c =
-    tag_read c.in_ok-number-in-6.number (Tag c.in_ok-number-in-6.number c.in-Ok.boxed)
-    (view-Tag c.in_ok-number-in-6.number c.in-Ok.boxed
-    ∙ ap (λ x. tag c.in_ok-number-in-6.number (view x)) c.in-Ok.ensures.ok)
-    (reached_tag c.in_ok-first.first c.in_ok-number-in-6.number (rw c.in_ok-first.ensures at
-    c.peek.ensures.runs)
-    (rw c.in_ok-number-in-6.ensures at c.tag.ensures.moves) (rw c.in_ok-number-in-6.ensures at
-    c.tag.ensures.sound))
-    c.in_ok-inner-in-6.ensures.does
-
-pub read_by_first-returns-in_err-inner-in-6-clause-does :
-    goal.read_by_first-returns-in_err-inner-in-6-clause-does
-read_by_first-returns-in_err-inner-in-6-clause-does g t c =
-    rw c.from_residual-in_err-inner-in-6.ensures (tag_stopped c.in_ok-number-in-6.number
-    (reached_tag c.in_ok-first.first
-    c.in_ok-number-in-6.number (rw c.in_ok-first.ensures at c.peek.ensures.runs) (rw
-    c.in_ok-number-in-6.ensures at c.tag.ensures.moves)
-    (rw c.in_ok-number-in-6.ensures at c.tag.ensures.sound)) c.in_err-inner-in-6.ensures.does)
-
-pub read_by_first-returns-in_err-number-in-6-clause-does :
-    goal.read_by_first-returns-in_err-number-in-6-clause-does
-read_by_first-returns-in_err-number-in-6-clause-does g t c =
-    rw c.from_residual-in_err-number-in-6.ensures
-    (call_err c.in_ok-first.first (rw c.in_ok-first.ensures at c.peek.ensures.runs) (StopsArgument
-    tag_name 6 8)
-    (λ bs z rest h. tag_stops (g.S.Source.view c.args.reader.now).budget c.in_ok-first.first
-    bs z rest c.in-6.is h) (rw c.in_err-number-in-6.ensures at c.tag.ensures.moves)
-    (rw c.in_err-number-in-6.ensures at c.tag.ensures.stops))
 
 pub read_by_first-returns-in_err-read_array-in-4-clause-does :
     goal.read_by_first-returns-in_err-read_array-in-4-clause-does
 read_by_first-returns-in_err-read_array-in-4-clause-does g t c =
     rw c.from_residual-in_err-read_array-in-4.ensures
-    (arm_err c.in_ok-first.first (rw c.in_ok-first.ensures at c.peek.ensures.runs) (ReadsStepped (λ
+    (arm_err c.in_ok-first.first c.in_ok-first.ensures.runs (ReadsStepped (λ
     o xs v ys.
-    ReadsArrayInside o xs v.items ys) (g.S.Source.view c.peek.new.reader).budget)
-    (StopsOf 4 (g.S.Source.view c.peek.new.reader).budget)
+    ReadsArrayInside o xs v.items ys) (g.S.Source.view c.first_of.new.reader).budget)
+    (StopsOf 4 (g.S.Source.view c.first_of.new.reader).budget)
     (λ bs z rest h. subst (λ o. StopsUnder o (c.in_ok-first.first ∷ bs) z rest)
-    (rw c.in_ok-first.ensures at c.peek.ensures.runs).moves.by.budget (h c.in_ok-first.first bs refl
+    c.in_ok-first.ensures.runs.moves.by.budget (h c.in_ok-first.first bs refl
     c.in-4.is))
     c.in_err-read_array-in-4.ensures.does)
 
@@ -360,12 +299,12 @@ pub read_by_first-returns-in_err-read_map-in-5-clause-does :
     goal.read_by_first-returns-in_err-read_map-in-5-clause-does
 read_by_first-returns-in_err-read_map-in-5-clause-does g t c =
     rw c.from_residual-in_err-read_map-in-5.ensures
-    (arm_err c.in_ok-first.first (rw c.in_ok-first.ensures at c.peek.ensures.runs) (ReadsStepped (λ
+    (arm_err c.in_ok-first.first c.in_ok-first.ensures.runs (ReadsStepped (λ
     o xs v ys.
-    ReadsMapInside o xs v.items ys) (g.S.Source.view c.peek.new.reader).budget)
-    (StopsOf 5 (g.S.Source.view c.peek.new.reader).budget)
+    ReadsMapInside o xs v.items ys) (g.S.Source.view c.first_of.new.reader).budget)
+    (StopsOf 5 (g.S.Source.view c.first_of.new.reader).budget)
     (λ bs z rest h. subst (λ o. StopsUnder o (c.in_ok-first.first ∷ bs) z rest)
-    (rw c.in_ok-first.ensures at c.peek.ensures.runs).moves.by.budget (h c.in_ok-first.first bs refl
+    c.in_ok-first.ensures.runs.moves.by.budget (h c.in_ok-first.first bs refl
     c.in-5.is))
     c.in_err-read_map-in-5.ensures.does)
 
@@ -378,7 +317,7 @@ read_map-returns-clause-does g t c =
 pub read_map-returns-then-not-step_in-clause-does :
     goal.read_map-returns-then-not-step_in-clause-does
 read_map-returns-then-not-step_in-clause-does g t c =
-    rw c.leave.ensures (does_no_step map_name (ReadsStepped (λ o xs v ys. ReadsMapInside o xs
+    rw c.leave_deep.ensures (does_no_step map_name (ReadsStepped (λ o xs v ys. ReadsMapInside o xs
     v.items ys)
     (g.S.Source.view c.args.reader.now).budget)
     (StopsOf 5 (g.S.Source.view c.args.reader.now).budget) refl refl
@@ -408,18 +347,14 @@ open_members-returns-in_err-keep-clause-does g t c =
     c.loop-members.invariant.reached.kept
     (rw c.in_ok-part.ensures at c.is_break.ensures.moves).by) c.in_ok-member.ensures.does.moves.by))
 
-pub read_by_first-returns-in-Some-clause-does : goal.read_by_first-returns-in-Some-clause-does
-read_by_first-returns-in-Some-clause-does g t c =
-    simple_read c.in_ok-first.first (rw c.in_ok-first.ensures at c.peek.ensures.runs) (rw
-    c.in_ok-first.ensures at c.peek.ensures.byte)
-    c.advance.ensures c.in-Some.ensures
-
-pub read_by_first-returns-in-4-clause-item : goal.read_by_first-returns-in-4-clause-item
-read_by_first-returns-in-4-clause-item g t c =
+pub read_by_first-returns-in_ok-read_array-in-4-clause-item :
+    goal.read_by_first-returns-in_ok-read_array-in-4-clause-item
+read_by_first-returns-in_ok-read_array-in-4-clause-item g t c =
     array_item c.in_ok-read_array-in-4.field-0 c.in_ok-read_array-in-4.ensures.items
 
-pub read_by_first-returns-in-5-clause-item : goal.read_by_first-returns-in-5-clause-item
-read_by_first-returns-in-5-clause-item g t c =
+pub read_by_first-returns-in_ok-read_map-in-5-clause-item :
+    goal.read_by_first-returns-in_ok-read_map-in-5-clause-item
+read_by_first-returns-in_ok-read_map-in-5-clause-item g t c =
     map_item c.in_ok-read_map-in-5.field-0 c.in_ok-read_map-in-5.ensures.items
 
 pub array_inside-returns-in_err-count-clause-items :
@@ -506,32 +441,6 @@ pub read_by_first-returns-in_err-read_map-in-5-clause-progress :
     goal.read_by_first-returns-in_err-read_map-in-5-clause-progress
 read_by_first-returns-in_err-read_map-in-5-clause-progress g t c =
     rw c.from_residual-in_err-read_map-in-5.ensures tt
-
-pub read_by_first-returns-in_err-number-in-6-clause-item :
-    goal.read_by_first-returns-in_err-number-in-6-clause-item
-read_by_first-returns-in_err-number-in-6-clause-item g t c =
-    rw c.from_residual-in_err-number-in-6.ensures tt
-
-pub read_by_first-returns-in_err-number-in-6-clause-progress :
-    goal.read_by_first-returns-in_err-number-in-6-clause-progress
-read_by_first-returns-in_err-number-in-6-clause-progress g t c =
-    rw c.from_residual-in_err-number-in-6.ensures tt
-
-pub read_by_first-returns-in_err-inner-in-6-clause-item :
-    goal.read_by_first-returns-in_err-inner-in-6-clause-item
-read_by_first-returns-in_err-inner-in-6-clause-item g t c =
-    rw c.from_residual-in_err-inner-in-6.ensures tt
-
-pub read_by_first-returns-in_err-inner-in-6-clause-progress :
-    goal.read_by_first-returns-in_err-inner-in-6-clause-progress
-read_by_first-returns-in_err-inner-in-6-clause-progress g t c =
-    rw c.from_residual-in_err-inner-in-6.ensures tt
-
-pub read_by_first-returns-in-6-clause-item : goal.read_by_first-returns-in-6-clause-item
-read_by_first-returns-in-6-clause-item g t c = tt
-
-pub read_by_first-returns-in-6-clause-progress : goal.read_by_first-returns-in-6-clause-progress
-read_by_first-returns-in-6-clause-progress g t c = tt
 
 pub read_map-returns-then-not-step_in-clause-items :
     goal.read_map-returns-then-not-step_in-clause-items
@@ -648,7 +557,7 @@ read_value-returns-clause-progress g t c =
 pub read_value-returns-then-not-step_in-clause-does :
     goal.read_value-returns-then-not-step_in-clause-does
 read_value-returns-then-not-step_in-clause-does g t c =
-    rw c.leave.ensures (does_no_step value_name (ReadsOneValue (g.S.Source.view
+    rw c.leave_deep.ensures (does_no_step value_name (ReadsOneValue (g.S.Source.view
     c.args.reader.now).budget)
     (StopsOneValue (g.S.Source.view c.args.reader.now).budget) refl refl
     (λ none xs. rw none (refl, refl)) c.if-not-step_in.ensures.budget c.step_in.ensures.others)
@@ -663,71 +572,22 @@ pub read_member-returns-clause-progress : goal.read_member-returns-clause-progre
 read_member-returns-clause-progress g t c =
     omega (arith, c.in_ok-key.ensures.progress, c.in_ok-value.ensures.progress)
 
-pub read_by_first-returns-in-4-clause-progress : goal.read_by_first-returns-in-4-clause-progress
-read_by_first-returns-in-4-clause-progress g t c =
+pub read_by_first-returns-in_ok-read_array-in-4-clause-progress :
+    goal.read_by_first-returns-in_ok-read_array-in-4-clause-progress
+read_by_first-returns-in_ok-read_array-in-4-clause-progress g t c =
     omega (
       arith,
-      (rw c.in_ok-first.ensures at c.peek.ensures.runs).moves.by.bound,
+      c.in_ok-first.ensures.runs.moves.by.bound,
       c.in_ok-read_array-in-4.ensures.progress,
     )
 
-pub read_by_first-returns-in-5-clause-progress : goal.read_by_first-returns-in-5-clause-progress
-read_by_first-returns-in-5-clause-progress g t c =
+pub read_by_first-returns-in_ok-read_map-in-5-clause-progress :
+    goal.read_by_first-returns-in_ok-read_map-in-5-clause-progress
+read_by_first-returns-in_ok-read_map-in-5-clause-progress g t c =
     omega (
       arith,
-      (rw c.in_ok-first.ensures at c.peek.ensures.runs).moves.by.bound,
+      c.in_ok-first.ensures.runs.moves.by.bound,
       c.in_ok-read_map-in-5.ensures.progress,
-    )
-
-pub read_by_first-returns-in-Ok-clause-progress : goal.read_by_first-returns-in-Ok-clause-progress
-read_by_first-returns-in-Ok-clause-progress g t c =
-    omega (
-      arith,
-      (rw c.in_ok-first.ensures at c.peek.ensures.runs).moves.by.bound,
-      (rw c.in_ok-number-in-6.ensures at c.tag.ensures.progress),
-      c.in_ok-inner-in-6.ensures.progress,
-    )
-
-pub read_by_first-returns-in-7-clause-item : goal.read_by_first-returns-in-7-clause-item
-read_by_first-returns-in-7-clause-item g t c =
-    found c.part-in-None.result _ _ (rw c.part-in-None.ensures at c.read_float.ensures.item)
-
-pub read_by_first-returns-in-7-clause-progress : goal.read_by_first-returns-in-7-clause-progress
-read_by_first-returns-in-7-clause-progress g t c =
-    behind _ _ _ c.part-in-None.result _ (rw c.in_ok-first.ensures at
-    c.peek.ensures.runs).moves.by.bound (rw c.part-in-None.ensures at c.read_float.ensures.progress)
-
-pub read_by_first-returns-clause-item : goal.read_by_first-returns-clause-item
-read_by_first-returns-clause-item g t c =
-    found c.part-in_default.result _ _ (rw c.part-in_default.ensures at c.read_leaf.ensures.item)
-
-pub read_by_first-returns-clause-progress : goal.read_by_first-returns-clause-progress
-read_by_first-returns-clause-progress g t c =
-    behind _ _ _ c.part-in_default.result _ (rw c.in_ok-first.ensures at
-    c.peek.ensures.runs).moves.by.bound (rw c.part-in_default.ensures at
-    c.read_leaf.ensures.progress)
-
-pub read_by_first-advance-requires : goal.read_by_first-advance-requires
-read_by_first-advance-requires g t c = (rw c.in_ok-first.ensures at c.peek.ensures.can)
-
-pub read_by_first-read_float-requires-clause-other :
-    goal.read_by_first-read_float-requires-clause-other
-read_by_first-read_float-requires-clause-other g t c = c.in-None.ensures
-
-pub read_by_first-read_float-requires-clause-major :
-    goal.read_by_first-read_float-requires-clause-major
-read_by_first-read_float-requires-clause-major g t c = omega (arith, c.in-7.is)
-
-pub read_by_first-simple_of-requires : goal.read_by_first-simple_of-requires
-read_by_first-simple_of-requires g t c = tt
-
-pub read_by_first-returns-in-Some-clause-progress :
-    goal.read_by_first-returns-in-Some-clause-progress
-read_by_first-returns-in-Some-clause-progress g t c =
-    omega (
-      arith,
-      (rw c.in_ok-first.ensures at c.peek.ensures.runs).moves.by.bound,
-      c.advance.ensures.bound,
     )
 
 pub read_by_first-returns-in_err-first-clause-does :
@@ -735,7 +595,7 @@ pub read_by_first-returns-in_err-first-clause-does :
 read_by_first-returns-in_err-first-clause-does g t c =
     let budget = (g.S.Source.view c.args.reader.now).budget in
     rw c.from_residual.ensures (nothing_there (ReadsUnder budget) (StopsUnder budget)
-    (λ z rest is. is) (rw c.in_err-first.ensures at c.peek.ensures.runs))
+    (λ z rest is. is) c.in_err-first.ensures.runs)
 
 pub open_items-loop-items-smaller : goal.open_items-loop-items-smaller
 open_items-loop-items-smaller g t c =
@@ -777,7 +637,7 @@ read_nested-returns-clause-progress g t c =
 pub read_nested-returns-then-not-step_in-clause-does :
     goal.read_nested-returns-then-not-step_in-clause-does
 read_nested-returns-then-not-step_in-clause-does g t c =
-    rw c.leave.ensures (does_no_step value_name (ReadsOneValue (g.S.Source.view
+    rw c.leave_deep.ensures (does_no_step value_name (ReadsOneValue (g.S.Source.view
     c.args.reader.now).budget)
     (StopsOneValue (g.S.Source.view c.args.reader.now).budget) refl refl
     (λ none xs. rw none (refl, refl)) c.if-not-step_in.ensures.budget c.step_in.ensures.others)
@@ -794,20 +654,22 @@ counted_items-loop-alloc-init g t c = record {
   few = none_too_many _ c.args.count (cc);
 }
 
-pub counted_items-returns-in_err-take_run-clause-does :
-    goal.counted_items-returns-in_err-take_run-clause-does
-counted_items-returns-in_err-take_run-clause-does g t c =
-    rw c.from_residual.ensures (run_stops Readable c.loop-alloc.items.items c.take_run.new.parts.items
+pub counted_items-returns-in_err-take_run_apart-clause-does :
+    goal.counted_items-returns-in_err-take_run_apart-clause-does
+counted_items-returns-in_err-take_run_apart-clause-does g t c =
+    rw c.from_residual.ensures (run_stops Readable c.loop-alloc.items.items
+    c.take_run_apart.new.parts.items
     c.loop-alloc.invariant.reached (λ xs v ys. ReadsItems c.args.count (g.S.Source.view
     c.args.reader.now).budget xs v.items ys) (StopsItems c.args.count (g.S.Source.view
-    c.args.reader.now).budget) c.in_err-take_run.ensures.puts)
+    c.args.reader.now).budget) c.in_err-take_run_apart.ensures.puts)
 
 pub counted_items-returns-in_err-value-clause-does :
     goal.counted_items-returns-in_err-value-clause-does
 counted_items-returns-in_err-value-clause-does g t c =
-    rw c.from_residual-in_err-value.ensures (counted_stop (length c.take_run.new.parts.items)
-    c.take_run.new.parts.items (ran Readable c.loop-alloc.items.items c.take_run.new.parts.items
-    c.loop-alloc.invariant.reached c.in_ok-take_run.ensures.puts)
+    rw c.from_residual-in_err-value.ensures (counted_stop (length c.take_run_apart.new.parts.items)
+    c.take_run_apart.new.parts.items (ran Readable c.loop-alloc.items.items
+    c.take_run_apart.new.parts.items
+    c.loop-alloc.invariant.reached c.in_ok-take_run_apart.ensures.puts)
     (λ xs v ys. ReadsItems c.args.count (g.S.Source.view c.args.reader.now).budget xs
     v.items ys) c.args.count (omega (arith, c.if-len-count.true)) c.in_err-value.ensures.does)
 
@@ -817,28 +679,31 @@ counted_items-loop-alloc-smaller-in-Continue-branch-3 g t c =
     omega (
       arith,
       c.if-len-count.true,
-      c.in_ok-take_run.ensures.more,
+      c.in_ok-take_run_apart.ensures.more,
       ap length c.in_ok-keep.ensures.kept,
-      length-append c.take_run.new.parts.items (c.in_ok-value.value ∷ []),
+      length-append c.take_run_apart.new.parts.items (c.in_ok-value.value ∷ []),
     )
 
 pub counted_items-loop-alloc-preserved-in-Continue-branch-3 :
     goal.counted_items-loop-alloc-preserved-in-Continue-branch-3
 counted_items-loop-alloc-preserved-in-Continue-branch-3 g t c =
-    let long : length c.keep.new.items.items ≡ length c.take_run.new.parts.items + 1 =
+    let long : length c.keep.new.items.items ≡ length c.take_run_apart.new.parts.items + 1 =
     ap length c.in_ok-keep.ensures.kept
-    ∙ length-append c.take_run.new.parts.items (c.in_ok-value.value ∷ []) in
+    ∙ length-append c.take_run_apart.new.parts.items (c.in_ok-value.value ∷ []) in
     record {
       reached =
           subst (λ n. Reached (λ xs ys. ReadsItems n (g.S.Source.view c.args.reader.now).budget xs
           c.keep.new.items.items ys) (g.S.Source.view c.args.reader.now)
           (g.S.Source.view c.read_nested.new.reader)) (sym long)
-          (counted_more (length c.take_run.new.parts.items) c.take_run.new.parts.items
-          (ran Readable c.loop-alloc.items.items c.take_run.new.parts.items c.loop-alloc.invariant.reached
-          c.in_ok-take_run.ensures.puts) _ c.in_ok-keep.ensures.kept c.in_ok-value.ensures.does);
+          (counted_more (length c.take_run_apart.new.parts.items) c.take_run_apart.new.parts.items
+          (ran Readable c.loop-alloc.items.items c.take_run_apart.new.parts.items
+          c.loop-alloc.invariant.reached
+          c.in_ok-take_run_apart.ensures.puts) _ c.in_ok-keep.ensures.kept
+          c.in_ok-value.ensures.does);
       items =
-          items_are _ c.take_run.new.parts.items c.in_ok-value.value c.in_ok-keep.ensures.kept
-          (c.in_ok-take_run.ensures.items c.loop-alloc.invariant.items) c.in_ok-value.ensures.item;
+          items_are _ c.take_run_apart.new.parts.items c.in_ok-value.value c.in_ok-keep.ensures.kept
+          (c.in_ok-take_run_apart.ensures.items c.loop-alloc.invariant.items)
+          c.in_ok-value.ensures.item;
       few = omega (arith, long, c.if-len-count.true);
     }
 
@@ -848,17 +713,18 @@ counted_items-returns-in_err-keep-clause-does g t c =
     rw c.from_residual-in_err-keep.ensures (does_no_memory (λ xs v ys. ReadsItems c.args.count
     (g.S.Source.view c.args.reader.now).budget xs v.items ys) (StopsItems c.args.count
     (g.S.Source.view c.args.reader.now).budget) (ap refusal_left c.in_err-keep.ensures.memory)
-    (kept_then (ran Readable c.loop-alloc.items.items c.take_run.new.parts.items
-    c.loop-alloc.invariant.reached c.in_ok-take_run.ensures.puts).kept
+    (kept_then (ran Readable c.loop-alloc.items.items c.take_run_apart.new.parts.items
+    c.loop-alloc.invariant.reached c.in_ok-take_run_apart.ensures.puts).kept
     c.in_ok-value.ensures.does.moves.by))
 
 pub counted_items-loop-alloc-preserved : goal.counted_items-loop-alloc-preserved
 counted_items-loop-alloc-preserved g t c = record {
   reached =
-      ran Readable c.loop-alloc.items.items c.take_run.new.parts.items c.loop-alloc.invariant.reached
-      c.in_ok-take_run.ensures.puts;
-  items = c.in_ok-take_run.ensures.items c.loop-alloc.invariant.items;
-  few = c.in_ok-take_run.ensures.few;
+      ran Readable c.loop-alloc.items.items c.take_run_apart.new.parts.items
+      c.loop-alloc.invariant.reached
+      c.in_ok-take_run_apart.ensures.puts;
+  items = c.in_ok-take_run_apart.ensures.items c.loop-alloc.invariant.items;
+  few = c.in_ok-take_run_apart.ensures.few;
 }
 
 -- ---- a map whose pairs are counted
@@ -879,13 +745,15 @@ counted_members-returns-in_err-take_run-clause-does g t c =
     rw c.from_residual.ensures (pairs_stop Readable c.loop-alloc.members.items
     c.take_run.new.parts.items c.loop-alloc.invariant.reached
     (λ xs v ys. ReadsMembers c.args.count (g.S.Source.view c.args.reader.now).budget xs v.items ys)
-    (StopsMembers c.args.count (g.S.Source.view c.args.reader.now).budget) c.in_err-take_run.ensures.puts)
+    (StopsMembers c.args.count (g.S.Source.view c.args.reader.now).budget)
+    c.in_err-take_run.ensures.puts)
 
 pub counted_members-returns-in_err-member-clause-does :
     goal.counted_members-returns-in_err-member-clause-does
 counted_members-returns-in_err-member-clause-does g t c =
     rw c.from_residual-in_err-member.ensures (ends ReadsMember StopsMember
-    (λ xs ys. ReadsMembers (length c.take_run.new.parts.items) (g.S.Source.view c.args.reader.now).budget xs
+    (λ xs ys. ReadsMembers (length c.take_run.new.parts.items) (g.S.Source.view
+    c.args.reader.now).budget xs
     c.take_run.new.parts.items ys)
     (ran_pairs Readable c.loop-alloc.members.items c.take_run.new.parts.items
     c.loop-alloc.invariant.reached c.in_ok-take_run.ensures.puts)
@@ -918,12 +786,15 @@ counted_members-loop-alloc-preserved-in-Continue-branch-3 g t c =
           c.keep.new.items.items ys) (g.S.Source.view c.args.reader.now)
           (g.S.Source.view c.read_member.new.reader)) (sym long)
           (more ReadsMember StopsMember
-          (λ xs ys. ReadsMembers (length c.take_run.new.parts.items) (g.S.Source.view c.args.reader.now).budget xs
+          (λ xs ys. ReadsMembers (length c.take_run.new.parts.items) (g.S.Source.view
+          c.args.reader.now).budget xs
           c.take_run.new.parts.items ys)
           (ran_pairs Readable c.loop-alloc.members.items c.take_run.new.parts.items
           c.loop-alloc.invariant.reached c.in_ok-take_run.ensures.puts)
-          (λ xs ys. ReadsMembers (length c.take_run.new.parts.items + 1) (g.S.Source.view c.args.reader.now).budget xs _ ys)
-          (λ xs ys zs h s. members_more (length c.take_run.new.parts.items) (g.S.Source.view c.args.reader.now).budget
+          (λ xs ys. ReadsMembers (length c.take_run.new.parts.items + 1) (g.S.Source.view
+          c.args.reader.now).budget xs _ ys)
+          (λ xs ys zs h s. members_more (length c.take_run.new.parts.items) (g.S.Source.view
+          c.args.reader.now).budget
           c.take_run.new.parts.items _ c.in_ok-member.member xs ys zs c.in_ok-keep.ensures.kept
           h s) c.in_ok-member.ensures.does);
       items =
@@ -955,3 +826,72 @@ counted_members-loop-alloc-preserved g t c = record {
       c.in_ok-take_run.ensures.items c.loop-alloc.invariant.items;
   few = c.in_ok-take_run.ensures.few;
 }
+
+-- ---- a value that is no array and no map
+
+pub read_by_first-returns-in-6-clause-does : goal.read_by_first-returns-in-6-clause-does
+read_by_first-returns-in-6-clause-does g t c =
+    arm_does c.in_ok-first.first c.in_ok-first.ensures.runs
+    (λ xs v ys. ReadsUnder (g.S.Source.view c.first_of.new.reader).budget xs v ys)
+    (StopsOf 6 (g.S.Source.view c.first_of.new.reader).budget)
+    (λ bs ys v h. subst (λ o. ReadsUnder o (c.in_ok-first.first ∷ bs) v ys)
+    c.in_ok-first.ensures.runs.moves.by.budget h)
+    (λ bs z rest h. subst (λ o. StopsUnder o (c.in_ok-first.first ∷ bs) z rest)
+    c.in_ok-first.ensures.runs.moves.by.budget
+    (h c.in_ok-first.first bs refl c.in-6.is)) c.read_tag.ensures.does
+
+pub read_by_first-returns-in-6-clause-item : goal.read_by_first-returns-in-6-clause-item
+read_by_first-returns-in-6-clause-item g t c = c.read_tag.ensures.item
+
+pub read_by_first-returns-in-6-clause-progress : goal.read_by_first-returns-in-6-clause-progress
+read_by_first-returns-in-6-clause-progress g t c =
+    further _ _ _ _ c.in_ok-first.ensures.runs.moves.by.bound
+    c.read_tag.ensures.progress
+
+pub read_by_first-returns-in_default-clause-item : goal.read_by_first-returns-in_default-clause-item
+read_by_first-returns-in_default-clause-item g t c = c.read_alone.ensures.item
+
+pub read_by_first-returns-in_default-clause-progress :
+    goal.read_by_first-returns-in_default-clause-progress
+read_by_first-returns-in_default-clause-progress g t c =
+    further _ _ _ _ c.in_ok-first.ensures.runs.moves.by.bound
+    c.read_alone.ensures.progress
+
+pub read_tag-returns-in_err-number-clause-does : goal.read_tag-returns-in_err-number-clause-does
+read_tag-returns-in_err-number-clause-does g t c =
+    rw c.from_residual.ensures (tag_refused c.in_err-number.ensures.moves
+    c.in_err-number.ensures.stops)
+
+pub read_tag-returns-in_err-inner-clause-does : goal.read_tag-returns-in_err-inner-clause-does
+read_tag-returns-in_err-inner-clause-does g t c =
+    rw c.from_residual-in_err-inner.ensures (tag_stopped c.in_ok-number.number
+    (reached_tag c.in_ok-number.number c.in_ok-number.ensures.moves
+    c.in_ok-number.ensures.sound) c.in_err-inner.ensures.does)
+
+pub read_tag-returns-in-Ok-clause-does : goal.read_tag-returns-in-Ok-clause-does
+read_tag-returns-in-Ok-clause-does g t c =
+    tag_read c.in_ok-number.number (Tag c.in_ok-number.number c.in-Ok.boxed)
+    (view-Tag c.in_ok-number.number c.in-Ok.boxed
+    ∙ ap (λ x. tag c.in_ok-number.number (view x)) c.in-Ok.ensures.ok)
+    (reached_tag c.in_ok-number.number c.in_ok-number.ensures.moves
+    c.in_ok-number.ensures.sound) c.in_ok-inner.ensures.does
+
+pub read_tag-returns-in-Ok-clause-progress : goal.read_tag-returns-in-Ok-clause-progress
+read_tag-returns-in-Ok-clause-progress g t c =
+    omega (
+      arith,
+      c.in_ok-number.ensures.progress,
+      c.in_ok-inner.ensures.progress,
+    )
+
+pub read_tag-returns-clause-does : goal.read_tag-returns-clause-does
+read_tag-returns-clause-does g t c =
+    does_no_memory (ReadsUnder (g.S.Source.view c.args.reader.now).budget)
+    (StopsOf 6 (g.S.Source.view c.args.reader.now).budget) refl (kept_then
+    (reached_tag c.in_ok-number.number c.in_ok-number.ensures.moves
+    c.in_ok-number.ensures.sound).kept c.in_ok-inner.ensures.does.moves.by)
+
+pub read_by_first-returns-in_default-clause-does : goal.read_by_first-returns-in_default-clause-does
+read_by_first-returns-in_default-clause-does g t c =
+    alone_does c.in_ok-first.first c.in_ok-first.ensures.runs
+    c.in_ok-first.ensures.byte c.read_alone.ensures.does

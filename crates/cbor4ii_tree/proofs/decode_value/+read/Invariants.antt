@@ -18,6 +18,9 @@ decreases-read_inside g l = 7 * (g.S.Source.view l.reader.now).bound + 3
 abbrev pub decreases-read_by_first : goal.decreases-read_by_first
 decreases-read_by_first g l = 7 * (g.S.Source.view l.reader.now).bound + 2
 
+abbrev pub decreases-read_tag : goal.decreases-read_tag
+decreases-read_tag g l = 7 * (g.S.Source.view l.reader.now).bound + 1
+
 abbrev pub decreases-read_array : goal.decreases-read_array
 decreases-read_array g l = 7 * (g.S.Source.view l.reader.now).bound + 1
 
