@@ -13,7 +13,7 @@ ghost use Rattle.cbor4ii_tree.specs.Laws.CanonicalReading.{canonical_one, canoni
 ghost use Rattle.cbor4ii_tree.specs.Laws.CanonicalReading.{canonical_positive, canonical_alone};
 ghost use Rattle.cbor4ii_tree.specs.Does.{DoesUnder, answered};
 ghost use Rattle.cbor4ii_tree.specs.Promises.{EofReads};
-ghost use Rattle.cbor4ii_tree.specs.Refusal.{array_name, map_name, tag_name};
+ghost use Rattle.cbor4ii_tree.specs.Refusal.{array_name, map_name};
 ghost use Rattle.cbor4ii_tree.specs.StopsStrictly.{StrictTextStops, StrictArrayStops};
 ghost use Rattle.cbor4ii_tree.specs.StopsStrictly.{StrictMapStops};
 ghost use Rattle.cbor4ii_tree.specs.Strictly.{ReadsExactly, StopsExactly, ReadsExactlyUnder};
@@ -35,7 +35,7 @@ use cbor4ii_items::canonical::{canonical_buf, canonical_head};
 use cbor4ii_items::decode::{Decode, Spelled};
 use cbor4ii_items::reserve::items_ahead;
 use cbor4ii_items::{major, marker};
-use cbor4ii_rw::error::DecodeError;
+use cbor4ii_rw::error::{DecodeError, StaticStr};
 use cbor4ii_rw::read::Source;
 use cbor4ii_rw::utf8::text_of;
 use std::alloc::Global;
@@ -211,7 +211,7 @@ fn read_tag<S: Source>(
         (S.view reader.old) (S.view reader.new) (answered result failure.new) }
     ensures progress { OnSome result ((S.view reader.new).bound + 1 ≤ (S.view reader.old).bound) }
 {
-    let number = tag_number(reader, failure)?;
+    let number = head_of(reader, "tag", major::TAG, failure)?;
     let inner = read_one(alloc, reader, failure)?;
     match Box::new(alloc, inner) {
         Ok(boxed) => Some(Value::Tag(number, boxed)),
@@ -222,18 +222,24 @@ fn read_tag<S: Source>(
     }
 }
 
-/// Reads the number of a tag. It stays out of line, as `read_alone`.
+/// Takes a head of this major type that is no longer than needed, and answers its argument. It
+/// stays out of line, as `read_alone`.
 #[inline(never)]
-fn tag_number<S: Source>(reader: &mut S, failure: &mut Option<DecodeError<S::Error>>) -> Option<u64>
+fn head_of<S: Source>(
+    reader: &mut S,
+    name: StaticStr,
+    major: u8,
+    failure: &mut Option<DecodeError<S::Error>>,
+) -> Option<u64>
     ensures moves { Moves (S.view reader.old) (S.view reader.new) (answered result failure.new) }
     ensures progress { OnOk (answered result failure.new)
         ((S.view reader.new).bound + 1 ≤ (S.view reader.old).bound) }
     ensures sound { IfOk (answered result failure.new)
-        (Sound (ReadsShortest 6) (S.view reader.old) (S.view reader.new)) }
+        (Sound (ReadsShortest major) (S.view reader.old) (S.view reader.new)) }
     ensures stops { IfErr (answered result failure.new)
-        (Stops (StopsShortest tag_name 6) (S.view reader.old) (S.view reader.new)) }
+        (Stops (StopsShortest name.now major) (S.view reader.old) (S.view reader.new)) }
 {
-    part(canonical_head("tag", 6, reader), failure)
+    part(canonical_head(name, major, reader), failure)
 }
 
 /// Reads a value that holds no other, whose first byte is shown. It stays out of line, so that the
@@ -333,7 +339,7 @@ fn array_inside<S: Source>(
         (S.view reader.old) (S.view reader.new) (answered result failure.new) }
     ensures progress { OnSome result ((S.view reader.new).bound + 1 ≤ (S.view reader.old).bound) }
 {
-    let count = part(canonical_head("array", 4, reader), failure)?;
+    let count = head_of(reader, "array", major::ARRAY, failure)?;
     counted_items(alloc, reader, count as usize, failure)
 }
 
@@ -396,7 +402,7 @@ fn map_inside<S: Source>(
         (S.view reader.old) (S.view reader.new) (answered result failure.new) }
     ensures progress { OnSome result ((S.view reader.new).bound + 1 ≤ (S.view reader.old).bound) }
 {
-    let count = part(canonical_head("map", 5, reader), failure)?;
+    let count = head_of(reader, "map", major::MAP, failure)?;
     counted_members(alloc, reader, count as usize, failure)
 }
 

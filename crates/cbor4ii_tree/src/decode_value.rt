@@ -15,7 +15,8 @@ ghost use Rattle.cbor4ii_tree.specs.Valuing.{TakesSimple};
 ghost use Rattle.cbor4ii_items.specs.Decoding.{Sound, Refuses, Stops};
 ghost use Rattle.cbor4ii_items.specs.Moves.{Moves};
 ghost use Rattle.cbor4ii_items.specs.Numbers.{ReadsArgument, StopsArgument};
-ghost use Rattle.cbor4ii_tree.specs.Refusal.{tag_name};
+ghost use Rattle.cbor4ii_items.specs.Lengths.{ReadsLength, StopsLength};
+ghost use Rattle.cbor4ii_tree.specs.Refusal.{tag_name, array_name, map_name};
 ghost use Rattle.cbor4ii_tree.specs.Item.{IsItem, AreItems, AreMembers};
 ghost use Rattle.cbor4ii_tree.specs.StopsReading.{StopsReading};
 ghost use Rattle.cbor4ii_tree.specs.View.{view, items_view, members_view};
@@ -321,6 +322,24 @@ fn read_array<S: Source>(
     outcome
 }
 
+/// Takes the head of an array: how many items are to follow, none where its length is indefinite.
+/// It stays out of line, as `read_alone`.
+#[inline(never)]
+fn array_length<S: Source>(
+    reader: &mut S,
+    failure: &mut Option<DecodeError<S::Error>>,
+) -> Option<Option<usize>>
+    ensures moves { Moves (S.view reader.old) (S.view reader.new) (answered result failure.new) }
+    ensures progress { OnOk (answered result failure.new)
+        ((S.view reader.new).bound + 1 ≤ (S.view reader.old).bound) }
+    ensures sound { IfOk (answered result failure.new)
+        (Sound (ReadsLength 4) (S.view reader.old) (S.view reader.new)) }
+    ensures stops { IfErr (answered result failure.new)
+        (Stops (StopsLength array_name 4) (S.view reader.old) (S.view reader.new)) }
+{
+    part(Array::len(reader), failure)
+}
+
 #[cycle(read)]
 #[inline(always)]
 fn array_inside<S: Source>(
@@ -333,7 +352,7 @@ fn array_inside<S: Source>(
     ensures items { IfSome result (λ v. AreItems (items_view v.items)) }
     ensures progress { OnSome result ((S.view reader.new).bound + 1 ≤ (S.view reader.old).bound) }
 {
-    match part(Array::len(reader), failure)? {
+    match array_length(reader, failure)? {
         Some(count) => counted_items(alloc, reader, count, failure),
         None => open_items(alloc, reader, failure),
     }
@@ -407,6 +426,24 @@ fn read_map<S: Source>(
     outcome
 }
 
+/// Takes the head of a map: how many pairs are to follow, none where its length is indefinite. It
+/// stays out of line, as `read_alone`.
+#[inline(never)]
+fn map_length<S: Source>(
+    reader: &mut S,
+    failure: &mut Option<DecodeError<S::Error>>,
+) -> Option<Option<usize>>
+    ensures moves { Moves (S.view reader.old) (S.view reader.new) (answered result failure.new) }
+    ensures progress { OnOk (answered result failure.new)
+        ((S.view reader.new).bound + 1 ≤ (S.view reader.old).bound) }
+    ensures sound { IfOk (answered result failure.new)
+        (Sound (ReadsLength 5) (S.view reader.old) (S.view reader.new)) }
+    ensures stops { IfErr (answered result failure.new)
+        (Stops (StopsLength map_name 5) (S.view reader.old) (S.view reader.new)) }
+{
+    part(Map::len(reader), failure)
+}
+
 #[cycle(read)]
 #[inline(always)]
 fn map_inside<S: Source>(
@@ -419,7 +456,7 @@ fn map_inside<S: Source>(
     ensures items { IfSome result (λ v. AreMembers (members_view v.items)) }
     ensures progress { OnSome result ((S.view reader.new).bound + 1 ≤ (S.view reader.old).bound) }
 {
-    match part(Map::len(reader), failure)? {
+    match map_length(reader, failure)? {
         Some(count) => counted_members(alloc, reader, count, failure),
         None => open_members(alloc, reader, failure),
     }

@@ -62,8 +62,7 @@ array_inside-returns-clause-does g t c =
     counted_does array_name 4 c.in_ok-count.count
     (λ n o xs (v : Vec Value Global) ys. ExactItems n o xs v.items ys)
     (λ o n. StopsExactItems n o) (reached_shortest 4 c.in_ok-count.count
-    (rw c.in_ok-count.ensures at c.canonical_head.ensures.moves) (rw c.in_ok-count.ensures at
-    c.canonical_head.ensures.sound)) c.counted_items.ensures
+    c.in_ok-count.ensures.moves c.in_ok-count.ensures.sound) c.counted_items.ensures
 
 pub array_inside-returns-in_err-count-clause-does :
     goal.array_inside-returns-in_err-count-clause-does
@@ -72,8 +71,7 @@ array_inside-returns-in_err-count-clause-does g t c =
     ExactItems
     (g.S.Source.view c.args.reader.now).budget xs v.items ys) (StopsShortest array_name 4)
     (StrictArrayStops StopsExactly (g.S.Source.view c.args.reader.now).budget)
-    (λ xs z rest h. inl h) (rw c.in_err-count.ensures at c.canonical_head.ensures.moves) (rw
-    c.in_err-count.ensures at c.canonical_head.ensures.stops))
+    (λ xs z rest h. inl h) c.in_err-count.ensures.moves c.in_err-count.ensures.stops)
 
 pub read_array-returns-clause-does : goal.read_array-returns-clause-does
 read_array-returns-clause-does g t c =
@@ -97,8 +95,7 @@ map_inside-returns-clause-does g t c =
     counted_does map_name 5 c.in_ok-count.count
     (λ n o xs (v : Vec (Value × Value) Global) ys. ExactMembers n o xs v.items ys)
     (λ o n. StopsExactItems (2 * n) o) (reached_shortest 5 c.in_ok-count.count
-    (rw c.in_ok-count.ensures at c.canonical_head.ensures.moves) (rw c.in_ok-count.ensures at
-    c.canonical_head.ensures.sound)) c.counted_members.ensures
+    c.in_ok-count.ensures.moves c.in_ok-count.ensures.sound) c.counted_members.ensures
 
 pub map_inside-returns-in_err-count-clause-does : goal.map_inside-returns-in_err-count-clause-does
 map_inside-returns-in_err-count-clause-does g t c =
@@ -106,8 +103,7 @@ map_inside-returns-in_err-count-clause-does g t c =
     (call_stops (λ xs (v : Vec (Value × Value) Global) ys. AcceptsCount 5 ExactMembers
     (g.S.Source.view c.args.reader.now).budget xs v.items ys) (StopsShortest map_name 5)
     (StrictMapStops StopsExactly (g.S.Source.view c.args.reader.now).budget)
-    (λ xs z rest h. inl h) (rw c.in_err-count.ensures at c.canonical_head.ensures.moves) (rw
-    c.in_err-count.ensures at c.canonical_head.ensures.stops))
+    (λ xs z rest h. inl h) c.in_err-count.ensures.moves c.in_err-count.ensures.stops)
 
 pub read_map-returns-clause-does : goal.read_map-returns-clause-does
 read_map-returns-clause-does g t c =
@@ -279,13 +275,11 @@ read_map-returns-clause-progress g t c =
 
 pub array_inside-returns-clause-progress : goal.array_inside-returns-clause-progress
 array_inside-returns-clause-progress g t c =
-    went_on _ c.counted_items.result _ (rw c.in_ok-count.ensures at
-    c.canonical_head.ensures.progress) c.counted_items.ensures.moves
+    went_on _ c.counted_items.result _ c.in_ok-count.ensures.progress c.counted_items.ensures.moves
 
 pub map_inside-returns-clause-progress : goal.map_inside-returns-clause-progress
 map_inside-returns-clause-progress g t c =
-    went_on _ c.counted_members.result _ (rw c.in_ok-count.ensures at
-    c.canonical_head.ensures.progress) c.counted_members.ensures.moves
+    went_on _ c.counted_members.result _ c.in_ok-count.ensures.progress c.counted_members.ensures.moves
 
 pub read_member-returns-clause-progress : goal.read_member-returns-clause-progress
 read_member-returns-clause-progress g t c =

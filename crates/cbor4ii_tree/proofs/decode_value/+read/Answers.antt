@@ -47,14 +47,13 @@ read_inside-returns-in-Some-None-clause-does g t c =
 
 pub array_inside-returns-in-None-clause-does : goal.array_inside-returns-in-None-clause-does
 array_inside-returns-in-None-clause-does g t c =
-    array_opened (reached_open 4 c.in-None.is (rw c.in_ok-count.ensures at c.len.ensures.moves)
-    (rw c.in_ok-count.ensures at c.len.ensures.sound)) c.open_items.ensures.does
+    array_opened (reached_open 4 c.in-None.is c.in_ok-count.ensures.moves
+    c.in_ok-count.ensures.sound) c.open_items.ensures.does
 
 pub array_inside-returns-in-Some-clause-does : goal.array_inside-returns-in-Some-clause-does
 array_inside-returns-in-Some-clause-does g t c =
     array_counted c.in-Some.count (reached_length 4 c.in-Some.count c.in-Some.is
-    (rw c.in_ok-count.ensures at c.len.ensures.moves) (rw c.in_ok-count.ensures at
-    c.len.ensures.sound)) c.counted_items.ensures.does
+    c.in_ok-count.ensures.moves c.in_ok-count.ensures.sound) c.counted_items.ensures.does
 
 pub array_inside-returns-in_err-count-clause-does :
     goal.array_inside-returns-in_err-count-clause-does
@@ -63,21 +62,18 @@ array_inside-returns-in_err-count-clause-does g t c =
     (λ xs v ys. ReadsArrayInside (g.S.Source.view c.args.reader.now).budget xs v.items ys)
     (StopsMajor 4 (g.S.Source.view c.args.reader.now).budget)
     (λ xs z rest. array_length_stops (g.S.Source.view c.args.reader.now).budget xs
-    (g.S.Source.view c.args.reader.now).budget z rest) (rw c.in_err-count.ensures at
-    c.len.ensures.moves)
-    (rw c.in_err-count.ensures at c.len.ensures.stops))
+    (g.S.Source.view c.args.reader.now).budget z rest) c.in_err-count.ensures.moves
+    c.in_err-count.ensures.stops)
 
 pub map_inside-returns-in-None-clause-does : goal.map_inside-returns-in-None-clause-does
 map_inside-returns-in-None-clause-does g t c =
-    map_opened (reached_open 5 c.in-None.is (rw c.in_ok-count.ensures at c.len.ensures.moves) (rw
-    c.in_ok-count.ensures at c.len.ensures.sound))
+    map_opened (reached_open 5 c.in-None.is c.in_ok-count.ensures.moves c.in_ok-count.ensures.sound)
     c.open_members.ensures.does
 
 pub map_inside-returns-in-Some-clause-does : goal.map_inside-returns-in-Some-clause-does
 map_inside-returns-in-Some-clause-does g t c =
     map_counted c.in-Some.count (reached_length 5 c.in-Some.count c.in-Some.is
-    (rw c.in_ok-count.ensures at c.len.ensures.moves) (rw c.in_ok-count.ensures at
-    c.len.ensures.sound)) c.counted_members.ensures.does
+    c.in_ok-count.ensures.moves c.in_ok-count.ensures.sound) c.counted_members.ensures.does
 
 pub map_inside-returns-in_err-count-clause-does : goal.map_inside-returns-in_err-count-clause-does
 map_inside-returns-in_err-count-clause-does g t c =
@@ -85,8 +81,7 @@ map_inside-returns-in_err-count-clause-does g t c =
     (λ xs v ys. ReadsMapInside (g.S.Source.view c.args.reader.now).budget xs v.items ys)
     (StopsMajor 5 (g.S.Source.view c.args.reader.now).budget) (λ xs z rest. map_length_stops
     (g.S.Source.view c.args.reader.now).budget xs (g.S.Source.view c.args.reader.now).budget
-    z rest) (rw c.in_err-count.ensures at c.len.ensures.moves) (rw c.in_err-count.ensures at
-    c.len.ensures.stops))
+    z rest) c.in_err-count.ensures.moves c.in_err-count.ensures.stops)
 
 pub open_items-loop-items-init : goal.open_items-loop-items-init
 open_items-loop-items-init g t c = record {
@@ -503,7 +498,7 @@ array_inside-returns-in-Some-clause-items g t c = c.counted_items.ensures.items
 
 pub array_inside-returns-in-Some-clause-progress : goal.array_inside-returns-in-Some-clause-progress
 array_inside-returns-in-Some-clause-progress g t c =
-    went_on _ c.counted_items.result _ (rw c.in_ok-count.ensures at c.len.ensures.progress)
+    went_on _ c.counted_items.result _ c.in_ok-count.ensures.progress
     c.counted_items.ensures.does.moves
 
 pub array_inside-returns-in-None-clause-items : goal.array_inside-returns-in-None-clause-items
@@ -511,7 +506,7 @@ array_inside-returns-in-None-clause-items g t c = c.open_items.ensures.items
 
 pub array_inside-returns-in-None-clause-progress : goal.array_inside-returns-in-None-clause-progress
 array_inside-returns-in-None-clause-progress g t c =
-    went_on _ c.open_items.result _ (rw c.in_ok-count.ensures at c.len.ensures.progress)
+    went_on _ c.open_items.result _ c.in_ok-count.ensures.progress
     c.open_items.ensures.does.moves
 
 pub map_inside-returns-in-Some-clause-items : goal.map_inside-returns-in-Some-clause-items
@@ -519,7 +514,7 @@ map_inside-returns-in-Some-clause-items g t c = c.counted_members.ensures.items
 
 pub map_inside-returns-in-Some-clause-progress : goal.map_inside-returns-in-Some-clause-progress
 map_inside-returns-in-Some-clause-progress g t c =
-    went_on _ c.counted_members.result _ (rw c.in_ok-count.ensures at c.len.ensures.progress)
+    went_on _ c.counted_members.result _ c.in_ok-count.ensures.progress
     c.counted_members.ensures.does.moves
 
 pub map_inside-returns-in-None-clause-items : goal.map_inside-returns-in-None-clause-items
@@ -527,7 +522,7 @@ map_inside-returns-in-None-clause-items g t c = c.open_members.ensures.items
 
 pub map_inside-returns-in-None-clause-progress : goal.map_inside-returns-in-None-clause-progress
 map_inside-returns-in-None-clause-progress g t c =
-    went_on _ c.open_members.result _ (rw c.in_ok-count.ensures at c.len.ensures.progress)
+    went_on _ c.open_members.result _ c.in_ok-count.ensures.progress
     c.open_members.ensures.does.moves
 
 pub read_array-returns-clause-items : goal.read_array-returns-clause-items
