@@ -16,5 +16,4 @@ pub mod read;
 pub mod segment_reader;
 pub mod slice_reader;
 mod steps;
-pub mod utf8;
 pub mod write;

@@ -16,7 +16,7 @@ use Rattle.cbor4ii_tree.specs.Tree.{Tree, bytes, Plain}
 use Rattle.cbor4ii_tree.specs.View.{view}
 use Rattle.cbor4ii_tree.specs.declared.value.Value.{Value}
 use Rattle.cbor4ii_tree.specs.declared.leaf.Leaf.{Leaf}
-use Rattle.cbor4ii_tree.specs.declared.leaf.Leaf.TheVariants.{Whole, NoMemory, Unseen}
+use Rattle.cbor4ii_tree.specs.declared.leaf.Leaf.TheVariants.{Whole, NoMemory, End, Unseen}
 
 -- A head with this first byte, and an argument in so many bytes, may begin a canonical spelling. It
 -- is not undefined, and of major types 0 to 6 it is the shortest.
@@ -47,6 +47,7 @@ pub record MayTake (size : ℕ) (shown : List ℕ) : Type 0 where
 abbrev pub SeesLeaf : Type 0 → Leaf → List ℕ → Type 0
 SeesLeaf exact (Whole v size) shown = StandsAhead exact v size shown
 SeesLeaf exact (NoMemory size) shown = MayTake size shown
+SeesLeaf exact End shown = length shown ≡ 0
 SeesLeaf exact Unseen shown = Unit {0}
 
 -- a value was taken, or nothing; or there is a refusal

@@ -1,18 +1,26 @@
 -- Runs of values that hold no other, where they stand whole in shown bytes.
-use Rattle.std.specs.Prelude.{◌≡◌, ℕ, ◌+◌, ◌≤◌, List, [], ◌∷◌, ◌++◌, length, take, Some, Bool, true}
-use Rattle.std.specs.Prelude.{false}
+use Rattle.std.specs.Prelude.{◌≡◌, ℕ, ◌+◌, ◌≤◌, List, [], ◌∷◌, ◌++◌, length, take, Option, Some}
+use Rattle.std.specs.Prelude.{OnSome, Bool, true}
+use Rattle.cbor4ii_rw.specs.View.{View}
+use Rattle.cbor4ii_rw.specs.declared.error.DecodeError.{DecodeError}
 use Rattle.cbor4ii_items.specs.Head.{IsBytes}
 use Rattle.cbor4ii_tree.specs.Cost.{Budget, cost, step_in}
+use Rattle.cbor4ii_tree.specs.Does.{Does, answered}
 use Rattle.cbor4ii_tree.specs.Item.{AreItems}
 use Rattle.cbor4ii_tree.specs.Leaf.{MayTake}
 use Rattle.cbor4ii_tree.specs.Meaning.{values}
-use Rattle.cbor4ii_tree.specs.Stops.{Each}
+use Rattle.cbor4ii_tree.specs.Refusal.{Refusal, eof, Small, value_name}
+use Rattle.cbor4ii_tree.specs.Stops.{Stopping, Is, Each}
+use Rattle.cbor4ii_tree.specs.StopsReading.{Readable}
+use Rattle.cbor4ii_tree.specs.StopsStrictly.{Exactly}
 use Rattle.cbor4ii_tree.specs.Strict.{Strict}
 use Rattle.cbor4ii_tree.specs.Tree.{Tree, Trees, Plain, count, bytes_all}
 use Rattle.cbor4ii_tree.specs.View.{items_view}
 use Rattle.cbor4ii_tree.specs.declared.value.Value.{Value}
 use Rattle.cbor4ii_tree.specs.declared.run.Put.{Put}
 use Rattle.cbor4ii_tree.specs.declared.run.Put.TheVariants.{Part, NoMemory, Unseen}
+use Rattle.cbor4ii_tree.specs.declared.run.Ran.{Ran}
+use Rattle.cbor4ii_tree.specs.declared.run.Ran.TheVariants as run
 
 -- the values of pairs, each key before its value
 abbrev pub flat_values : List (Value × Value) → List Value
@@ -59,10 +67,12 @@ CountsPut (Part size) old new = new ≡ old + 1
 CountsPut (NoMemory size) old new = new ≡ old
 CountsPut Unseen old new = new ≡ old
 
--- the values in so many bytes at the front were put behind the others, or memory was refused
-abbrev pub PutsRun : Type 0 → List Value → List Value → ℕ × Bool → List ℕ → Type 0
-PutsRun exact before after (size, true) shown = PutsBehind exact size shown before after
-PutsRun exact before after (size, false) shown = MayTake size shown
+-- the values in so many bytes at the front were put behind the others, or memory was refused, or
+-- there is no byte
+abbrev pub PutsRun : Type 0 → List Value → List Value → Ran → List ℕ → Type 0
+PutsRun exact before after (run.Whole size) shown = PutsBehind exact size shown before after
+PutsRun exact before after (run.NoMemory size) shown = MayTake size shown
+PutsRun exact before after run.End shown = length shown ≡ 0
 
 -- ---- taken
 
@@ -86,3 +96,27 @@ PutsItemsUnder Whole before after inner xs u ys = (budget : Budget) → step_in 
 -- the items stay in range
 abbrev pub KeepsItems : List Value → List Value → Type 0
 KeepsItems before after = AreItems (items_view before) → AreItems (items_view after)
+
+-- no byte is left where a value is to begin
+abbrev pub StopsWhereNone : Stopping
+StopsWhereNone xs e rest = (xs ≡ []) × Is (eof value_name (Small 1)) [] e rest
+
+-- the same, where a step is left for that value
+pub record StopsAtNoValue (budget : Budget) (xs : List ℕ) (e : Refusal) (rest : List ℕ) : Type 0
+  where
+    pub inner : Budget
+    pub step : step_in budget ≡ Some inner
+    pub none : StopsWhereNone xs e rest
+
+-- What a run takes of parts, of which so many are to be there at most: the values before and after
+-- it, and how many parts these are.
+pub record TakesParts {E : Type 0} (exact : Bool) (most : ℕ) (before after : List Value)
+    (many_before many_after : ℕ) (old new : View) (result : Option (Unit {0}))
+    (failure : Option (DecodeError E)) : Type 0 where
+  pub puts : Does (PutsItems Readable before after old.budget) (StopsAtNoValue old.budget) old new
+      (answered result failure)
+  pub exactly : exact ≡ true → Does (PutsItems Exactly before after old.budget)
+      (StopsAtNoValue old.budget) old new (answered result failure)
+  pub items : OnSome result (KeepsItems before after)
+  pub few : OnSome result (many_after ≤ most)
+  pub more : OnSome result (many_before ≤ many_after)

@@ -37,7 +37,6 @@ use cbor4ii_items::reserve::items_ahead;
 use cbor4ii_items::{major, marker};
 use cbor4ii_rw::error::{DecodeError, StaticStr};
 use cbor4ii_rw::read::Source;
-use cbor4ii_rw::utf8::text_of;
 use std::alloc::Global;
 
 /// A value that is read from its canonical spelling alone, the one that encoders write (RFC 8949
@@ -300,7 +299,7 @@ fn read_text<S: Source>(alloc: Global, reader: &mut S) -> Result<String, DecodeE
         (S.view reader.old) (S.view reader.new) result }
     ensures progress { OnOk result ((S.view reader.new).bound + 1 ≤ (S.view reader.old).bound) }
 {
-    match text_of(canonical_buf(alloc, "str", 3, reader)?) {
+    match String::from_utf8(canonical_buf(alloc, "str", 3, reader)?) {
         Ok(text) => Ok(text),
         Err(_) => Err(DecodeError::RequireUtf8 { name: "str" }),
     }

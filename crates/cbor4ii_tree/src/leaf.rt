@@ -12,14 +12,13 @@ ghost use Rattle.cbor4ii_tree.specs.Valuing.{ReadsUnder, StopsUnder};
 ghost use Rattle.cbor4ii_tree.specs.View.{view};
 
 use crate::simple::simple_of;
-use crate::slot::leave;
+use crate::slot::{leave, leave_end};
 use crate::value::{FloatBits, Value};
 use cbor4ii_items::initial::argument;
 use cbor4ii_items::{major, marker};
 use cbor4ii_rw::ask::look;
 use cbor4ii_rw::error::DecodeError;
 use cbor4ii_rw::read::Source;
-use cbor4ii_rw::utf8::text_of;
 use std::alloc::Global;
 
 /// How many bytes a look asks for.
@@ -31,13 +30,15 @@ pub(crate) enum Leaf {
     Whole(Value, usize),
     /// A string behind a head of so many bytes, whose content has no memory.
     NoMemory(usize),
+    /// No byte.
+    End,
     /// Nothing that is decided here.
     Unseen,
 }
 
 /// Takes the value that comes next, where it holds no other and one look shows it whole. Where
-/// `exact` is set, its spelling has to be the canonical one. Else it takes nothing. A refusal is
-/// left in `failure`.
+/// `exact` is set, its spelling has to be the canonical one. Else it takes nothing. Where the look
+/// shows no byte, the value is refused, without another look. A refusal is left in `failure`.
 #[inline(always)]
 pub(crate) fn take_leaf<S: Source>(
     alloc: Global,
@@ -61,6 +62,10 @@ pub(crate) fn take_leaf<S: Source>(
         Ok(Leaf::NoMemory(size)) => {
             reader.advance(size);
             *failure = None;
+            None
+        }
+        Ok(Leaf::End) => {
+            leave_end("value", failure);
             None
         }
         Ok(Leaf::Unseen) => Some(None),
@@ -91,7 +96,7 @@ pub(crate) fn leaf_of(alloc: Global, shown: &[u8], exact: bool) -> Leaf
     ensures { SeesLeaf (exact ≡ true) result shown.now }
 {
     let [first, behind @ ..] = shown else {
-        return Leaf::Unseen;
+        return Leaf::End;
     };
     let Some((number, size)) = argument(*first % 32, behind) else {
         return Leaf::Unseen;
@@ -104,7 +109,7 @@ pub(crate) fn leaf_of(alloc: Global, shown: &[u8], exact: bool) -> Leaf
 
 /// Whether a head is one that canonical spellings have. A float has one width, so each is.
 #[inline(always)]
-fn is_exact(first: u8, number: u64, size: usize) -> bool
+pub(crate) fn is_exact(first: u8, number: u64, size: usize) -> bool
     ensures { result ≡ true → ExactHead first number size }
 {
     if first / 32 == major::SIMPLE {
@@ -177,22 +182,18 @@ fn string_behind(alloc: Global, first: u8, behind: &[u8], number: u64, size: usi
         return Leaf::Unseen;
     }
     let count = number as usize;
-    let Some(content) = copied(alloc, &rest[..count]) else {
-        return Leaf::NoMemory(1 + size);
-    };
+    let content = &rest[..count];
     if first / 32 == major::BYTES {
-        return Leaf::Whole(Value::Bytes(content), 1 + size + count);
+        return match Vec::from_slice(alloc, content) {
+            Ok(bytes) => Leaf::Whole(Value::Bytes(bytes), 1 + size + count),
+            Err(_) => Leaf::NoMemory(1 + size),
+        };
     }
-    match text_of(content) {
+    let Ok(text) = str::from_utf8(content) else {
+        return Leaf::Unseen;
+    };
+    match String::from_str(alloc, text) {
         Ok(text) => Leaf::Whole(Value::Text(text), 1 + size + count),
-        Err(_) => Leaf::Unseen,
+        Err(_) => Leaf::NoMemory(1 + size),
     }
-}
-
-/// A copy of these bytes; none where there is no memory for it.
-#[inline(always)]
-fn copied(alloc: Global, bytes: &[u8]) -> Option<Vec<u8>>
-    ensures { IfSome result (λ copy. copy.items ≡ bytes.now) }
-{
-    Vec::from_slice(alloc, bytes).ok()
 }

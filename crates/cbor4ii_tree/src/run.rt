@@ -1,23 +1,24 @@
 //! Runs: values that hold no other, as many as one look shows, put behind the items of an array or
 //! the pairs of a map.
-ghost use Rattle.std.specs.Prelude.{◌≡◌, ◌≤◌, ◌∷◌, ℕ, List, length, true, IfOk, OnOk, OnErr};
+ghost use Rattle.std.specs.Prelude.{◌≡◌, ◌<◌, ◌≤◌, ◌∷◌, ℕ, List, length, true, IfOk, OnOk, OnErr};
 ghost use Rattle.std.specs.Prelude.{IfSome, OnSome};
 ghost use Rattle.cbor4ii_rw.specs.Reader.{Breaks};
-ghost use Rattle.cbor4ii_tree.specs.Ahead.{NeverStops};
 ghost use Rattle.cbor4ii_tree.specs.Does.{Does, answered};
 ghost use Rattle.cbor4ii_tree.specs.Front.{Offers};
 ghost use Rattle.cbor4ii_tree.specs.Leaf.{StandsAhead};
 ghost use Rattle.cbor4ii_tree.specs.LeafRuns.{flat_values, Puts, Pushes, CountsPut, PutsRun};
-ghost use Rattle.cbor4ii_tree.specs.LeafRuns.{PutsItems, PutsItemsUnder, KeepsItems};
+ghost use Rattle.cbor4ii_tree.specs.LeafRuns.{PutsItemsUnder, KeepsItems, StopsWhereNone};
+ghost use Rattle.cbor4ii_tree.specs.LeafRuns.{TakesParts};
 ghost use Rattle.cbor4ii_tree.specs.StopsReading.{Readable};
 ghost use Rattle.cbor4ii_tree.specs.StopsStrictly.{Exactly};
 ghost use Rattle.cbor4ii_tree.specs.declared.value.Value.{Value};
 
-use crate::leaf::{Leaf, WINDOW, leaf_of};
-use crate::slot::leave;
+use crate::leaf::{Leaf, WINDOW, is_exact, leaf_of};
+use crate::simple::simple_of;
+use crate::slot::{leave, leave_end};
 use crate::value::Value;
 use cbor4ii_items::initial::argument;
-use cbor4ii_items::major;
+use cbor4ii_items::{major, marker};
 use cbor4ii_rw::ask::look;
 use cbor4ii_rw::error::DecodeError;
 use cbor4ii_rw::read::Source;
@@ -31,6 +32,16 @@ pub(crate) enum Put {
     NoMemory(usize),
     /// Nothing: what comes is not decided here.
     Unseen,
+}
+
+/// What one look has for a run.
+pub(crate) enum Ran {
+    /// Parts, in so many bytes.
+    Whole(usize),
+    /// Parts, and one for which there was no memory, when so many bytes were decided.
+    NoMemory(usize),
+    /// No byte.
+    End,
 }
 
 /// What a run is put behind: the items of an array, or the pairs of a map.
@@ -67,6 +78,7 @@ impl Parts for Vec<Value> {
         match leaf_of(alloc, shown, exact) {
             Leaf::Whole(value, size) => push(self, value, size),
             Leaf::NoMemory(size) => Put::NoMemory(size),
+            Leaf::End => Put::Unseen,
             Leaf::Unseen => Put::Unseen,
         }
     }
@@ -85,12 +97,13 @@ impl Parts for Vec<(Value, Value)> {
 
     #[inline(always)]
     fn put(&mut self, alloc: Global, shown: &[u8], exact: bool) -> Put {
-        if !may_pair(shown) {
+        if !may_pair(shown, exact) {
             return Put::Unseen;
         }
         match leaf_of(alloc, shown, exact) {
             Leaf::Whole(key, size) => put_member(self, alloc, key, size, shown, exact),
             Leaf::NoMemory(size) => Put::NoMemory(size),
+            Leaf::End => Put::Unseen,
             Leaf::Unseen => Put::Unseen,
         }
     }
@@ -114,6 +127,7 @@ fn put_member(
     match leaf_of(alloc, &shown[size..], exact) {
         Leaf::Whole(value, bytes) => push(pairs, (key, value), size + bytes),
         Leaf::NoMemory(bytes) => Put::NoMemory(size + bytes),
+        Leaf::End => Put::Unseen,
         Leaf::Unseen => Put::Unseen,
     }
 }
@@ -129,37 +143,53 @@ fn push<T: Drop>(parts: &mut Vec<T>, part: T, size: usize) -> Put
     }
 }
 
-/// Whether a key and a value stand whole at the front that hold no others, as their heads say. Else
-/// the key would be copied for nothing.
+/// Whether a key and a value stand whole at the front that hold no others. Else the key would be
+/// copied for nothing. What `leaf_of` leaves undecided is refused here too, but for one case: a key
+/// in front of a text that is no UTF-8, which is not tested twice.
 #[inline(always)]
-fn may_pair(shown: &[u8]) -> bool {
-    match extent(shown) {
-        Some(size) => extent(&shown[size..]).is_some(),
+fn may_pair(shown: &[u8], exact: bool) -> bool {
+    match extent(shown, exact) {
+        Some(size) => extent(&shown[size..], exact).is_some(),
         None => false,
     }
 }
 
-/// In how many bytes a value stands whole at the front, if it holds no others, as its head says.
+/// In how many bytes a value stands whole at the front, if it holds no others. A text is not tested
+/// to be UTF-8.
 #[inline(always)]
-fn extent(shown: &[u8]) -> Option<usize>
+fn extent(shown: &[u8], exact: bool) -> Option<usize>
     ensures { IfSome result (λ size. size ≤ length shown.now) }
 {
     let [first, behind @ ..] = shown else {
         return None;
     };
     let (number, size) = argument(*first % 32, behind)?;
+    if exact && !is_exact(*first, number, size) {
+        return None;
+    }
     let rest = &behind[size..];
     match *first / 32 {
         major::ARRAY | major::MAP | major::TAG => None,
         major::BYTES | major::STRING if number > rest.len() as u64 => None,
         major::BYTES | major::STRING => Some(1 + size + number as usize),
+        major::SIMPLE if !begins_value(*first) => None,
         _ => Some(1 + size),
     }
 }
 
+/// Whether a value begins with this byte of major type 7.
+#[inline(always)]
+fn begins_value(first: u8) -> bool {
+    match first {
+        marker::F16 | marker::F32 | marker::F64 => true,
+        _ => simple_of(first).is_some(),
+    }
+}
+
 /// Takes the parts that come next, as long as their values hold no other and one look shows them
-/// whole, and puts them behind `parts`, up to `most` in all. Where `exact` is set, the values are
-/// in their canonical spelling. A refusal is left in `failure`.
+/// whole, and puts them behind `parts`, up to `most` in all, of which one at least is missing.
+/// Where `exact` is set, the values are in their canonical spelling. Where the look shows no byte,
+/// the missing part is refused, without another look. A refusal is left in `failure`.
 #[inline(always)]
 pub(crate) fn take_run<S: Source, P: Parts>(
     alloc: Global,
@@ -169,16 +199,10 @@ pub(crate) fn take_run<S: Source, P: Parts>(
     parts: &mut P,
     failure: &mut Option<DecodeError<S::Error>>,
 ) -> Option<()>
-    requires { P.many parts.old ≤ most }
-    ensures puts { Does (PutsItems Readable (P.flat parts.old) (P.flat parts.new)
-        (S.view reader.old).budget) NeverStops
-        (S.view reader.old) (S.view reader.new) (answered result failure.new) }
-    ensures exactly { exact ≡ true → Does (PutsItems Exactly (P.flat parts.old) (P.flat parts.new)
-        (S.view reader.old).budget) NeverStops
-        (S.view reader.old) (S.view reader.new) (answered result failure.new) }
-    ensures items { OnSome result (KeepsItems (P.flat parts.old) (P.flat parts.new)) }
-    ensures few { OnSome result (P.many parts.new ≤ most) }
-    ensures more { OnSome result (P.many parts.old ≤ P.many parts.new) }
+    requires { P.many parts.old < most }
+    ensures { TakesParts exact most (P.flat parts.old) (P.flat parts.new)
+        (P.many parts.old) (P.many parts.new)
+        (S.view reader.old) (S.view reader.new) result failure.new }
 {
     if !reader.step_in() {
         return Some(());
@@ -198,16 +222,10 @@ pub(crate) fn take_run_apart<S: Source, P: Parts>(
     parts: &mut P,
     failure: &mut Option<DecodeError<S::Error>>,
 ) -> Option<()>
-    requires { P.many parts.old ≤ most }
-    ensures puts { Does (PutsItems Readable (P.flat parts.old) (P.flat parts.new)
-        (S.view reader.old).budget) NeverStops
-        (S.view reader.old) (S.view reader.new) (answered result failure.new) }
-    ensures exactly { exact ≡ true → Does (PutsItems Exactly (P.flat parts.old) (P.flat parts.new)
-        (S.view reader.old).budget) NeverStops
-        (S.view reader.old) (S.view reader.new) (answered result failure.new) }
-    ensures items { OnSome result (KeepsItems (P.flat parts.old) (P.flat parts.new)) }
-    ensures few { OnSome result (P.many parts.new ≤ most) }
-    ensures more { OnSome result (P.many parts.old ≤ P.many parts.new) }
+    requires { P.many parts.old < most }
+    ensures { TakesParts exact most (P.flat parts.old) (P.flat parts.new)
+        (P.many parts.old) (P.many parts.new)
+        (S.view reader.old) (S.view reader.new) result failure.new }
 {
     take_run(alloc, reader, exact, most, parts, failure)
 }
@@ -222,24 +240,29 @@ fn run_inside<S: Source, P: Parts>(
     parts: &mut P,
     failure: &mut Option<DecodeError<S::Error>>,
 ) -> Option<()>
-    requires { P.many parts.old ≤ most }
+    requires { P.many parts.old < most }
     ensures puts { Does (PutsItemsUnder Readable (P.flat parts.old) (P.flat parts.new)
-        (S.view reader.old).budget) NeverStops
+        (S.view reader.old).budget) StopsWhereNone
         (S.view reader.old) (S.view reader.new) (answered result failure.new) }
     ensures exactly { exact ≡ true → Does (PutsItemsUnder Exactly (P.flat parts.old)
-        (P.flat parts.new) (S.view reader.old).budget) NeverStops
+        (P.flat parts.new) (S.view reader.old).budget) StopsWhereNone
         (S.view reader.old) (S.view reader.new) (answered result failure.new) }
     ensures items { OnSome result (KeepsItems (P.flat parts.old) (P.flat parts.new)) }
     ensures few { OnSome result (P.many parts.new ≤ most) }
     ensures more { OnSome result (P.many parts.old ≤ P.many parts.new) }
 {
     match glance_run(alloc, reader, exact, most, parts) {
-        Ok((size, whole)) => {
+        Ok(Ran::Whole(size)) => {
             reader.advance(size);
-            if whole {
-                return Some(());
-            }
+            Some(())
+        }
+        Ok(Ran::NoMemory(size)) => {
+            reader.advance(size);
             *failure = None;
+            None
+        }
+        Ok(Ran::End) => {
+            leave_end("value", failure);
             None
         }
         Err(error) => {
@@ -249,8 +272,7 @@ fn run_inside<S: Source, P: Parts>(
     }
 }
 
-/// Puts the parts that one look shows behind `parts`, and answers in how many bytes they stand,
-/// and whether there was memory.
+/// Puts the parts that one look shows behind `parts`.
 #[inline(always)]
 fn glance_run<S: Source, P: Parts>(
     alloc: Global,
@@ -258,10 +280,10 @@ fn glance_run<S: Source, P: Parts>(
     exact: bool,
     most: usize,
     parts: &mut P,
-) -> Result<(usize, bool), S::Error>
-    requires { P.many parts.old ≤ most }
-    ensures offers { IfOk result (λ run. Offers 256
-        (PutsRun (exact ≡ true) (P.flat parts.old) (P.flat parts.new) run)
+) -> Result<Ran, S::Error>
+    requires { P.many parts.old < most }
+    ensures offers { IfOk result (λ ran. Offers 256
+        (PutsRun (exact ≡ true) (P.flat parts.old) (P.flat parts.new) ran)
         (S.view reader.old) (S.view reader.new)) }
     ensures few { OnOk result (P.many parts.new ≤ most) }
     ensures more { OnOk result (P.many parts.old ≤ P.many parts.new) }
@@ -269,6 +291,7 @@ fn glance_run<S: Source, P: Parts>(
 {
     let mut failure = None;
     match look(reader, WINDOW, &mut failure) {
+        Some([]) => Ok(Ran::End),
         Some(shown) => Ok(put_run(alloc, shown, exact, most, parts)),
         None => Err(failure.unwrap()),
     }
@@ -276,13 +299,7 @@ fn glance_run<S: Source, P: Parts>(
 
 /// Puts the parts at the front of the shown bytes behind `parts`, up to `most` in all.
 #[inline(always)]
-fn put_run<P: Parts>(
-    alloc: Global,
-    shown: &[u8],
-    exact: bool,
-    most: usize,
-    parts: &mut P,
-) -> (usize, bool)
+fn put_run<P: Parts>(alloc: Global, shown: &[u8], exact: bool, most: usize, parts: &mut P) -> Ran
     requires { P.many parts.old ≤ most }
     ensures puts { PutsRun (exact ≡ true) (P.flat parts.old) (P.flat parts.new) result shown.now }
     ensures few { P.many parts.new ≤ most }
@@ -292,9 +309,9 @@ fn put_run<P: Parts>(
     while parts.count() < most {
         match parts.put(alloc, &shown[size..], exact) {
             Put::Part(bytes) => size += bytes,
-            Put::NoMemory(bytes) => return (size + bytes, false),
-            Put::Unseen => return (size, true),
+            Put::NoMemory(bytes) => return Ran::NoMemory(size + bytes),
+            Put::Unseen => return Ran::Whole(size),
         }
     }
-    (size, true)
+    Ran::Whole(size)
 }

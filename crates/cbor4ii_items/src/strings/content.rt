@@ -14,7 +14,6 @@ use crate::strings::chunks::take_chunks;
 use crate::strings::counted::take_content;
 use cbor4ii_rw::error::{DecodeError, StaticStr};
 use cbor4ii_rw::read::Source;
-use cbor4ii_rw::utf8::text_of;
 use std::alloc::Global;
 
 /// A text string of known or of indefinite length, which is to be UTF-8.
@@ -32,7 +31,7 @@ pub(crate) fn take_text<S: Source>(
     ensures stops { IfErr result
         (Stops (StopsText name.now) (S.view reader.old) (S.view reader.new)) }
 {
-    match text_of(lone_string(alloc, reader, name, major::STRING)?) {
+    match String::from_utf8(lone_string(alloc, reader, name, major::STRING)?) {
         Ok(text) => Ok(text),
         Err(_) => Err(DecodeError::RequireUtf8 { name }),
     }

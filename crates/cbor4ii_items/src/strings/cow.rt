@@ -23,7 +23,6 @@ use crate::strings::lent_or_owned::{LendOrOwn, take_cow};
 use crate::types::{Bytes, UncheckedStr};
 use cbor4ii_rw::error::{DecodeError, StaticStr};
 use cbor4ii_rw::read::Read;
-use cbor4ii_rw::utf8::text_of;
 use std::alloc::Global;
 use std::borrow::{CowSlice, CowStr};
 
@@ -82,7 +81,7 @@ impl<'de, R: Read<'de>> LendOrOwn<R> for CowStr<'de, Global> {
     }
 
     fn own(copy: Vec<u8>) -> Option<CowStr<'de, Global>> {
-        match text_of(copy) {
+        match String::from_utf8(copy) {
             Ok(text) => Some(CowStr::Owned(text)),
             Err(_) => None,
         }

@@ -37,6 +37,7 @@ use Rattle.cbor4ii_tree.specs.Laws.Initials.{initial_simple, initial_bits}
 use Rattle.cbor4ii_tree.specs.Refusal.{value_name, kind_name, precision_name, unsupported}
 use Rattle.cbor4ii_tree.specs.Refusal.{require_utf8}
 use Rattle.cbor4ii_tree.specs.Refusal.{tag_name}
+use Rattle.cbor4ii_tree.specs.LeafRuns.{StopsAtNoValue}
 use Rattle.cbor4ii_tree.specs.Stops.{Stopping, StopsAtStep}
 use Rattle.cbor4ii_tree.specs.View.{view, items_view, members_view}
 use Rattle.cbor4ii_tree.specs.Does.{Accepting, Does}
@@ -393,6 +394,14 @@ no_value b {a = a} low high none f g h says read shallow =
     (reached_start (λ xs ys. xs ≡ ys) a (λ xs. refl))
 
 -- ---- steps
+
+-- no byte is left for one more value, for which a step is
+pub value_absent : (budget : Budget) (xs : List ℕ) (e : Refusal) (rest : List ℕ)
+    → StopsAtNoValue budget xs e rest → StopsExactly budget xs e rest
+value_absent budget xs e rest s =
+    (strict_by_parts xs budget e rest).1
+    (subst (λ o. StopsAtStep value_name o xs (λ inner. StopsExactlyUnder inner xs) e rest)
+    (sym s.step) (subst (λ x. StopsExactlyUnder s.inner x e rest) (sym s.none.0) s.none.1))
 
 pub stepped_one : {E : Type 0} {r : Result Value (DecodeError E)} {a b c d : View}
     → StepsIn a.budget b.budget true → KeepsAllButBudget a b → Does (ReadsExactlyUnder b.budget)

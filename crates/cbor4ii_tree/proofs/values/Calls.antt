@@ -27,6 +27,7 @@ use Rattle.cbor4ii_tree.proofs.skip_calls.Bytes.{says_width}
 use Rattle.cbor4ii_tree.specs.declared.value.Value.{Value}
 use Rattle.cbor4ii_tree.specs.Tree.{Tree, Trees, int, no_trees, tree, count, bytes_all}
 use Rattle.cbor4ii_tree.specs.Item.{no_items, item}
+use Rattle.cbor4ii_tree.specs.LeafRuns.{StopsAtNoValue}
 use Rattle.cbor4ii_tree.specs.Meaning.{value, values}
 use Rattle.cbor4ii_tree.specs.Cost.{Budget, step_in}
 use Rattle.cbor4ii_tree.specs.Refusal.{value_name}
@@ -50,6 +51,13 @@ stops_under : (inner budget : Budget) (xs : List ℕ) (e : Refusal) (rest : List
 stops_under inner budget xs e rest step h =
     (reading_by_parts xs budget e rest).1 (subst (λ o. StopsAtStep value_name o xs (λ inner.
     ReadingStopsFrom (λ left part. StopsReading part left) inner xs) e rest) (sym step) h)
+
+-- no byte is left for one more value, for which a step is
+pub value_absent : (budget : Budget) (xs : List ℕ) (e : Refusal) (rest : List ℕ)
+    → StopsAtNoValue budget xs e rest → StopsOneValue budget xs e rest
+value_absent budget xs e rest s =
+    stops_under s.inner budget xs e rest s.step
+    (subst (λ x. StopsUnder s.inner x e rest) (sym s.none.0) s.none.1)
 
 pub stepped : {E : Type 0} {r : Result Value (DecodeError E)} {a b c d : View}
     → StepsIn a.budget b.budget true → KeepsAllButBudget a b → Does (ReadsUnder b.budget)
@@ -87,7 +95,7 @@ items_more n budget vs ws v xs ys zs is h k = (
   h.4 ∙ ap (λ r. bytes_all h.0 ++ r) k.3 ∙ sym (bytes-push h.0 k.0 zs),
 )
 
-items_stop : (i n : ℕ) (budget : Budget) (vs : List Value) (xs ys : List ℕ) (e : Refusal)
+pub items_stop : (i n : ℕ) (budget : Budget) (vs : List Value) (xs ys : List ℕ) (e : Refusal)
     (rest : List ℕ) → i < n → ReadsItems i budget xs vs ys → StopsOneValue budget ys e rest
     → StopsItems n budget xs e rest
 items_stop i n budget vs xs ys e rest lt h s =

@@ -1,14 +1,20 @@
 -- No byte is left where a value is to begin.
-use Rattle.std.proofs.Common.{◌≡◌, ℕ, List, [], ◌∷◌, Option, Some, None, Err, IfSome}
-use Rattle.cbor4ii_rw.specs.View.{View}
+use Rattle.std.proofs.Common.{◌≡◌, ℕ, ◌<◌, List, [], ◌∷◌, length, Option, Some, None, Err, IfSome}
+use Rattle.std.proofs.Common.{refl, sym, ap, ◌∙◌, subst, arith}
+use denote.Ref.{Bor}
+use Rattle.cbor4ii_rw.specs.View.{View, Told}
+use Rattle.cbor4ii_rw.specs.Reader.{Shows, IsFront}
 use Rattle.cbor4ii_rw.specs.declared.error.DecodeError.{DecodeError}
+use Rattle.cbor4ii_rw.specs.declared.error.DecodeError.TheVariants.{Eof}
 use Rattle.cbor4ii_items.specs.Refusal.{Refusal, refusal_of}
 use Rattle.cbor4ii_items.specs.Reading.{Runs, peek_at}
+use Rattle.cbor4ii_items.specs.Laws.Running.{shows_kept}
 use Rattle.cbor4ii_items.specs.Laws.Steps.{moves_err}
 use Rattle.cbor4ii_tree.specs.Refusal.{eof, Small, value_name}
 use Rattle.cbor4ii_tree.specs.Laws.Binds.{is_err}
 use Rattle.cbor4ii_tree.specs.Stops.{Stopping, Is}
 use Rattle.cbor4ii_tree.specs.Does.{Accepting, Does}
+use Rattle.cbor4ii_tree.proofs.skip_calls.Doing.{does_refuse}
 
 -- an end of the input there stops so
 abbrev pub Ending : Stopping → Type 0
@@ -30,3 +36,20 @@ nothing_there A T ends {e = e} {a = a} {c = c} p = record {
   ok = tt;
   err = λ xs told. at_end T ends (refusal_of e) xs c.told (p.answers xs told);
 }
+
+-- a look has shown no byte
+pub none_shown : {V E : Type 0} (A : Accepting V) (T : Stopping) → Ending T → (want : ℕ)
+    {shown : List ℕ} {a b : View} {name : Bor (List ℕ)} → name.now ≡ value_name → 0 < want
+    → Shows shown a b → Told a.told (IsFront want shown) → length shown ≡ 0
+    → Does {V = V} {E = E} A T a b (Err (Eof name (Small 1)))
+none_shown A T ends want is some shows front none =
+    let z = eof value_name (Small 1) in
+    does_refuse (λ xs ys. (xs ≡ []) × (ys ≡ [])) A T z
+    (ap (λ n. Some (eof n (Small 1))) is) refl refl
+    (λ xs ys h. subst (λ x. T x z ys) (sym h.0) (ends z ys (refl, h.1)))
+    (record {
+      kept = shows_kept shows;
+      at = λ xs told.
+          let e : xs ≡ [] = (front xs told).ends some none in
+          ([], shows.told xs told ∙ ap Some e, (e, refl));
+    })

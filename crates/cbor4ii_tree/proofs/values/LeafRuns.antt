@@ -2,19 +2,19 @@
 use Rattle.std.proofs.Common.{◌≡◌, ℕ, suc, ◌+◌, ◌*◌, ◌≤◌, List, [], ◌∷◌, ◌++◌, length, take, drop}
 use Rattle.std.proofs.Common.{refl}
 use Rattle.std.proofs.Common.{sym, ap, ap₂, ◌∙◌, subst, arith, append_assoc, length-append}
-use Rattle.std.proofs.Common.{length-drop, take-append-drop, true, false, Bool, Result, Ok, Err}
+use Rattle.std.proofs.Common.{length-drop, take-append-drop, true, false, Result, Ok, Err}
 use Rattle.std.proofs.Math.Seq.{take-add}
 use Rattle.std.proofs.lemmas.List.{append-nil}
+use denote.Ref.{Bor}
 use Rattle.cbor4ii_rw.specs.Reader.{Advances, KeepsAllButBudget, StepsIn, step_back}
 use Rattle.cbor4ii_rw.specs.View.{View}
 use Rattle.cbor4ii_rw.specs.declared.error.DecodeError.{DecodeError}
-use Rattle.cbor4ii_rw.specs.declared.error.DecodeError.TheVariants.{OutOfMemory}
+use Rattle.cbor4ii_rw.specs.declared.error.DecodeError.TheVariants.{OutOfMemory, Eof}
 use Rattle.cbor4ii_items.specs.Decoding.{CostFits}
 use Rattle.cbor4ii_items.specs.Head.{IsBytes}
 use Rattle.cbor4ii_items.specs.Laws.Answering.{fits_zero}
 use Rattle.cbor4ii_items.specs.Laws.Contents.{lends_front}
 use Rattle.cbor4ii_items.specs.Laws.UnderStep.{no_step}
-use Rattle.cbor4ii_tree.specs.Ahead.{NeverStops}
 use Rattle.cbor4ii_tree.specs.Cost.{Budget}
 use Rattle.cbor4ii_tree.specs.Does.{Accepting, Does}
 use Rattle.cbor4ii_tree.specs.Front.{Offers}
@@ -23,7 +23,8 @@ use Rattle.cbor4ii_tree.specs.Laws.Binds.{step_up}
 use Rattle.cbor4ii_tree.specs.Leaf.{StandsAhead, MayTake}
 use Rattle.cbor4ii_tree.specs.LeafRuns.{flat_values, IsLeaf, StandInFront, PutsBehind, PutsRun}
 use Rattle.cbor4ii_tree.specs.LeafRuns.{Puts, Pushes, ReadsEach, PutsItems, PutsItemsUnder}
-use Rattle.cbor4ii_tree.specs.LeafRuns.{KeepsItems}
+use Rattle.cbor4ii_tree.specs.LeafRuns.{KeepsItems, StopsWhereNone, StopsAtNoValue}
+use Rattle.cbor4ii_tree.specs.Refusal.{Refusal, Small, value_name}
 use Rattle.cbor4ii_tree.specs.Stops.{Each, EachPair, Stopping}
 use Rattle.cbor4ii_tree.specs.StopsReading.{Readable}
 use Rattle.cbor4ii_tree.specs.StopsStrictly.{Exactly}
@@ -34,12 +35,15 @@ use Rattle.cbor4ii_tree.specs.View.{view, items_view, members_view}
 use Rattle.cbor4ii_tree.specs.declared.value.Value.{Value}
 use Rattle.cbor4ii_tree.specs.declared.run.Put.{Put}
 use Rattle.cbor4ii_tree.specs.declared.run.Put.TheVariants.{Part, NoMemory, Unseen}
+use Rattle.cbor4ii_tree.specs.declared.run.Ran.{Ran}
+use Rattle.cbor4ii_tree.specs.declared.run.Ran.TheVariants as run
 use Rattle.cbor4ii_tree.proofs.parts.Fronts.{IsBytes-append}
 use Rattle.cbor4ii_tree.proofs.parts.Joined.{join, count-join, each-join, bytes-join}
 use Rattle.cbor4ii_tree.proofs.parts.Pushed.{flat, count-flat, each-flat, bytes-flat}
 use Rattle.cbor4ii_tree.proofs.skip_calls.Doing.{does_ok, does_no_memory, does_stepped, steps_in}
 use Rattle.cbor4ii_tree.proofs.skip_calls.Doing.{kept_budget, Reached, reached_then, reached_by}
 use Rattle.cbor4ii_tree.proofs.skip_calls.Doing.{does_err}
+use Rattle.cbor4ii_tree.proofs.values.Ends.{none_shown}
 
 -- ---- lists of values
 
@@ -158,13 +162,13 @@ put_pair exact (NoMemory j) k v at n shown before after h l p =
 put_pair exact Unseen k v at n shown before after h l p = absurd p
 
 pub put_none : (exact : Type 0) (items : List Value) (shown : List ℕ)
-    → PutsRun exact items items (0, true) shown
+    → PutsBehind exact 0 shown items items
 put_none exact items shown =
     record { new = []; is = sym (append-nil items); stand = stand_none exact shown }
 
 pub put_more : (exact : Type 0) (before items after : List Value) (at n size : ℕ) (shown : List ℕ)
-    → PutsRun exact before items (at, true) shown → PutsBehind exact n (drop at shown) items after
-    → size ≡ at + n → PutsRun exact before after (size, true) shown
+    → PutsBehind exact at shown before items → PutsBehind exact n (drop at shown) items after
+    → size ≡ at + n → PutsBehind exact size shown before after
 put_more exact before items after at n size shown p l e = record {
   new = p.new ++ l.new;
   is = l.is ∙ (ap (λ r. r ++ l.new) p.is ∙ append_assoc before p.new l.new);
@@ -174,13 +178,13 @@ put_more exact before items after at n size shown p l e = record {
 }
 
 pub put_stays : (exact : Type 0) (before items after : List Value) (at : ℕ) (shown : List ℕ)
-    → PutsRun exact before items (at, true) shown → after ≡ items
-    → PutsRun exact before after (at, true) shown
+    → PutsBehind exact at shown before items → after ≡ items
+    → PutsBehind exact at shown before after
 put_stays exact before items after at shown p is =
-    subst (λ r. PutsRun exact before r (at, true) shown) (sym is) p
+    subst (λ r. PutsBehind exact at shown before r) (sym is) p
 
 pub run_may : (exact : Type 0) (before items : List Value) (at : ℕ) (shown : List ℕ)
-    → PutsRun exact before items (at, true) shown → MayTake at shown
+    → PutsBehind exact at shown before items → MayTake at shown
 run_may exact before items at shown p =
     record { within = p.stand.within; fresh = p.stand.fresh }
 
@@ -206,15 +210,15 @@ each_fits exact Whole f budget (tree t ts) fits h =
     (f budget t fits h.0, each_fits exact Whole f budget ts fits h.1)
 
 module _ (exact : Type 0) (before after : List Value) {E : Type 0} {a m b : View} where
-  pub takes_run : (Whole : Budget → Tree → Type 0) → LeafIs exact Whole → (size : ℕ) (whole : Bool)
-      → whole ≡ true → Offers 256 (PutsRun exact before after (size, whole)) a m
+  pub takes_run : (Whole : Budget → Tree → Type 0) → LeafIs exact Whole → (size : ℕ) {seen : Ran}
+      → seen ≡ run.Whole size → Offers 256 (PutsRun exact before after seen) a m
       → Advances size m b → Does {V = Unit {0}} {E = E}
-      (PutsItemsUnder Whole before after a.budget) NeverStops a b (Ok tt)
-  takes_run Whole f size whole is h adv =
-      let o = subst (λ w. Offers 256 (PutsRun exact before after (size, w)) a m) is h in
+      (PutsItemsUnder Whole before after a.budget) StopsWhereNone a b (Ok tt)
+  takes_run Whole f size is h adv =
+      let o = subst (λ s. Offers 256 (PutsRun exact before after s) a m) is h in
       let s = o.is.stand in
       let l = lends_front o.shows o.front s.within s.fresh refl adv in
-      does_ok (PutsItemsUnder Whole before after a.budget) NeverStops (record {
+      does_ok (PutsItemsUnder Whole before after a.budget) StopsWhereNone (record {
         kept = l.kept;
         at = λ xs told.
             let t = l.at xs told in (
@@ -236,20 +240,32 @@ module _ (exact : Type 0) (before after : List Value) {E : Type 0} {a m b : View
             );
       })
 
-  pub run_no_memory : (Whole : Budget → Tree → Type 0) (size : ℕ) (whole : Bool) → whole ≡ false
-      → Offers 256 (PutsRun exact before after (size, whole)) a m → Advances size m b
-      → Does {V = Unit {0}} {E = E} (PutsItemsUnder Whole before after a.budget) NeverStops a b
+  pub run_no_memory : (Whole : Budget → Tree → Type 0) (size : ℕ) {seen : Ran}
+      → seen ≡ run.NoMemory size → Offers 256 (PutsRun exact before after seen) a m
+      → Advances size m b
+      → Does {V = Unit {0}} {E = E} (PutsItemsUnder Whole before after a.budget) StopsWhereNone a b
       (Err OutOfMemory)
-  run_no_memory Whole size whole is h adv =
-      let o = subst (λ w. Offers 256 (PutsRun exact before after (size, w)) a m) is h in
+  run_no_memory Whole size is h adv =
+      let o = subst (λ s. Offers 256 (PutsRun exact before after s) a m) is h in
       let l = lends_front o.shows o.front o.is.within o.is.fresh refl adv in
-      does_no_memory (PutsItemsUnder Whole before after a.budget) NeverStops refl l.kept
+      does_no_memory (PutsItemsUnder Whole before after a.budget) StopsWhereNone refl l.kept
 
-pub run_items : (exact : Type 0) (before after : List Value) (size : ℕ) (whole : Bool) {a m : View}
-    → whole ≡ true → Offers 256 (PutsRun exact before after (size, whole)) a m
+pub run_ends : (exact : Type 0) (before after : List Value) {E : Type 0} {a b : View}
+    (Whole : Budget → Tree → Type 0) {seen : Ran} → seen ≡ run.End
+    → Offers 256 (PutsRun exact before after seen) a b → {name : Bor (List ℕ)}
+    → name.now ≡ value_name
+    → Does {V = Unit {0}} {E = E} (PutsItemsUnder Whole before after a.budget) StopsWhereNone a b
+    (Err (Eof name (Small 1)))
+run_ends exact before after {a = a} {b = b} Whole is h says =
+    let o = subst (λ s. Offers 256 (PutsRun exact before after s) a b) is h in
+    none_shown (PutsItemsUnder Whole before after a.budget) StopsWhereNone
+    (λ z rest is. (refl, is)) 256 says (omega arith) o.shows o.front o.is
+
+pub run_items : (exact : Type 0) (before after : List Value) (size : ℕ) {seen : Ran} {a m : View}
+    → seen ≡ run.Whole size → Offers 256 (PutsRun exact before after seen) a m
     → KeepsItems before after
-run_items exact before after size whole {a = a} {m = m} is h kept =
-    let o = subst (λ w. Offers 256 (PutsRun exact before after (size, w)) a m) is h in
+run_items exact before after size {a = a} {m = m} is h kept =
+    let o = subst (λ s. Offers 256 (PutsRun exact before after s) a m) is h in
     subst (λ x. AreItems (items_view x)) (sym o.is.is)
     (AreItems-append before o.is.new kept o.is.stand.ranged)
 
@@ -258,9 +274,10 @@ run_items exact before after size whole {a = a} {m = m} is h kept =
 module _ (Whole : Budget → Tree → Type 0) where
   pub no_run : (items : List Value) {E : Type 0} {a b : View} → StepsIn a.budget b.budget false
       → KeepsAllButBudget a b
-      → Does {V = Unit {0}} {E = E} (PutsItems Whole items items a.budget) NeverStops a b (Ok tt)
+      → Does {V = Unit {0}} {E = E} (PutsItems Whole items items a.budget) (StopsAtNoValue a.budget)
+      a b (Ok tt)
   no_run items {a = a} {b = b} takes k =
-      does_ok (PutsItems Whole items items a.budget) NeverStops (record {
+      does_ok (PutsItems Whole items items a.budget) (StopsAtNoValue a.budget) (record {
         kept = kept_budget a b k (no_step a.budget b.budget takes).1;
         at = λ xs told. (
           xs,
@@ -271,13 +288,16 @@ module _ (Whole : Budget → Tree → Type 0) where
 
   pub run_stepped : (before after : List Value) {E : Type 0}
       {r : Result (Unit {0}) (DecodeError E)} {a b c d : View} → StepsIn a.budget b.budget true
-      → KeepsAllButBudget a b → Does (PutsItemsUnder Whole before after b.budget) NeverStops b c r
+      → KeepsAllButBudget a b
+      → Does (PutsItemsUnder Whole before after b.budget) StopsWhereNone b c r
       → d.budget ≡ step_back c.budget → KeepsAllButBudget c d
-      → Does (PutsItems Whole before after a.budget) NeverStops a d r
+      → Does (PutsItems Whole before after a.budget) (StopsAtNoValue a.budget) a d r
   run_stepped before after {a = a} {b = b} takes inward w gives outward =
+      let step = steps_in a.budget b.budget takes in
       does_stepped (PutsItemsUnder Whole before after b.budget)
-      (PutsItems Whole before after a.budget) NeverStops NeverStops
-      (λ xs ys v h. h a.budget (steps_in a.budget b.budget takes)) (λ xs e rest h. h)
+      (PutsItems Whole before after a.budget) StopsWhereNone (StopsAtNoValue a.budget)
+      (λ xs ys v h. h a.budget step)
+      (λ xs e rest h. record { inner = b.budget; step = step; none = h })
       takes inward w gives outward
 
 -- ---- behind other items
@@ -304,7 +324,7 @@ join_items W vs ws xs ys zs h k = (
 module _ (Whole : Budget → Tree → Type 0) (items after : List Value) {a m : View}
     (p : Reached (λ xs ys. ReadsEach (Whole a.budget) (length items) xs items ys) a m) where
   pub ran : {E : Type 0} {u : Unit {0}} {b : View}
-      → Does {E = E} (PutsItems Whole items after m.budget) NeverStops m b (Ok u)
+      → Does {E = E} (PutsItems Whole items after m.budget) (StopsAtNoValue m.budget) m b (Ok u)
       → Reached (λ xs ys. ReadsEach (Whole a.budget) (length after) xs after ys) a b
   ran {u = u} d =
       reached_then (λ xs ys. ReadsEach (Whole a.budget) (length items) xs items ys)
@@ -316,12 +336,17 @@ module _ (Whole : Budget → Tree → Type 0) (items after : List Value) {a m : 
       (subst (λ o. ReadsEach (Whole o) (length s.0) ys s.0 zs) p.kept.budget s.2)))
       p (reached_by d)
 
-  pub run_stops : {V E : Type 0} (B : Accepting V) (T : Stopping) {e : DecodeError E} {b : View}
-      → Does {V = Unit {0}} (PutsItems Whole items after m.budget) NeverStops m b (Err e)
-      → Does {V = V} B T a b (Err e)
-  run_stops B T d =
+  pub run_stops : {V E : Type 0} (B : Accepting V) (T : Stopping)
+      → ((xs ys : List ℕ) (z : Refusal) (rest : List ℕ)
+      → ReadsEach (Whole a.budget) (length items) xs items ys → StopsAtNoValue a.budget ys z rest
+      → T xs z rest) → {e : DecodeError E} {b : View}
+      → Does {V = Unit {0}} (PutsItems Whole items after m.budget) (StopsAtNoValue m.budget) m b
+      (Err e) → Does {V = V} B T a b (Err e)
+  run_stops B T f d =
       does_err (λ xs ys. ReadsEach (Whole a.budget) (length items) xs items ys)
-      (PutsItems Whole items after m.budget) B NeverStops T (λ xs ys z rest h s. absurd s) p d
+      (PutsItems Whole items after m.budget) B (StopsAtNoValue m.budget) T
+      (λ xs ys z rest h s. f xs ys z rest h
+      (subst (λ o. StopsAtNoValue o ys z rest) p.kept.budget s)) p d
 
 -- ---- pairs
 
@@ -402,8 +427,8 @@ module _ (Whole : Budget → Tree → Type 0) (pairs after : List (Value × Valu
       }
 
   pub ran_pairs : {E : Type 0} {u : Unit {0}} {b : View}
-      → Does {E = E} (PutsItems Whole (flat_values pairs) (flat_values after) m.budget) NeverStops
-      m b (Ok u)
+      → Does {E = E} (PutsItems Whole (flat_values pairs) (flat_values after) m.budget)
+      (StopsAtNoValue m.budget) m b (Ok u)
       → Reached (λ xs ys. ReadsPairs (Whole a.budget) (length after) xs after ys) a b
   ran_pairs d =
       let r = ran Whole (flat_values pairs) (flat_values after) as_items d in
@@ -414,10 +439,17 @@ module _ (Whole : Budget → Tree → Type 0) (pairs after : List (Value × Valu
             (s.0, s.1, pairs_of (Whole a.budget) after xs s.0 s.2);
       }
 
-  pub pairs_stop : {V E : Type 0} (B : Accepting V) (T : Stopping) {e : DecodeError E} {b : View}
+  pub pairs_stop : {V E : Type 0} (B : Accepting V) (T : Stopping)
+      → ((xs ys : List ℕ) (z : Refusal) (rest : List ℕ)
+      → ReadsPairs (Whole a.budget) (length pairs) xs pairs ys → StopsAtNoValue a.budget ys z rest
+      → T xs z rest) → {e : DecodeError E} {b : View}
       → Does {V = Unit {0}} (PutsItems Whole (flat_values pairs) (flat_values after) m.budget)
-      NeverStops m b (Err e) → Does {V = V} B T a b (Err e)
-  pairs_stop B T d = run_stops Whole (flat_values pairs) (flat_values after) as_items B T d
+      (StopsAtNoValue m.budget) m b (Err e) → Does {V = V} B T a b (Err e)
+  pairs_stop B T f d =
+      does_err (λ xs ys. ReadsPairs (Whole a.budget) (length pairs) xs pairs ys)
+      (PutsItems Whole (flat_values pairs) (flat_values after) m.budget) B (StopsAtNoValue m.budget)
+      T (λ xs ys z rest h s. f xs ys z rest h
+      (subst (λ o. StopsAtNoValue o ys z rest) p.kept.budget s)) p d
 
 -- ---- pairs stay in range
 

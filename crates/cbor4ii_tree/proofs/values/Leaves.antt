@@ -6,6 +6,7 @@ use Rattle.std.proofs.Common.{subst, arith}
 use Rattle.std.proofs.Math.Seq.{take-append_seam, take-add}
 use Rattle.std.proofs.lemmas.List.{length-take-le}
 use Rattle.std.specs.Int.{bytes_high_first}
+use denote.Ref.{Bor}
 use Rattle.cbor4ii_items.specs.Head.{Width, byte_count, additional, HeadFits, ArgumentBehind}
 use Rattle.cbor4ii_items.specs.Head.{IsBytes, shortest}
 use Rattle.cbor4ii_items.specs.Initial.{Sign, sign_major, Precision, precision_byte}
@@ -28,6 +29,7 @@ use Rattle.cbor4ii_tree.specs.Item.{integer, float, IsItem}
 use Rattle.cbor4ii_tree.specs.Laws.Binds.{step_up}
 use Rattle.cbor4ii_tree.specs.Leaf.{ExactHead, StandsAhead, SeesLeaf, TakesLeaf}
 use Rattle.cbor4ii_tree.specs.Meaning.{number, simple_item, content_item}
+use Rattle.cbor4ii_tree.specs.Refusal.{Small, value_name}
 use Rattle.cbor4ii_tree.specs.Stops.{Stopping}
 use Rattle.cbor4ii_tree.specs.Strictly.{ReadsExactlyUnder, StopsExactlyUnder, raise}
 use Rattle.cbor4ii_tree.specs.Tree.{int, bits, simple, string, bytes, TextIsUtf8}
@@ -36,13 +38,14 @@ use Rattle.cbor4ii_tree.specs.View.{view}
 use Rattle.cbor4ii_tree.specs.declared.value.Value.{Value, Integer, Float}
 use Rattle.cbor4ii_tree.specs.declared.value.FloatBits.{FloatBits}
 use Rattle.cbor4ii_tree.specs.declared.leaf.Leaf.{Leaf}
-use Rattle.cbor4ii_tree.specs.declared.leaf.Leaf.TheVariants.{Whole, NoMemory}
-use Rattle.cbor4ii_rw.specs.declared.error.DecodeError.TheVariants.{OutOfMemory}
+use Rattle.cbor4ii_tree.specs.declared.leaf.Leaf.TheVariants.{Whole, NoMemory, End}
+use Rattle.cbor4ii_rw.specs.declared.error.DecodeError.TheVariants.{OutOfMemory, Eof}
 use Rattle.cbor4ii_items.specs.Decoding.{CostFits}
 use Rattle.cbor4ii_tree.proofs.canonical.Exactly.{fits_raise}
 use Rattle.cbor4ii_tree.proofs.skip_calls.Doing.{does_ok, does_no_memory, does_after}
 use Rattle.cbor4ii_tree.proofs.heads.Inverse.{IsBytes-take}
 use Rattle.cbor4ii_tree.proofs.values.Calls.{fits_less}
+use Rattle.cbor4ii_tree.proofs.values.Ends.{Ending, none_shown}
 use Rattle.cbor4ii_tree.proofs.values.Encoding.{view-Integer}
 
 in_range : (s : Sign) (n : ℕ) → n < 2 ^ 127 → IsItem (integer (number s n))
@@ -261,10 +264,32 @@ module _ {E : Type 0} (exact : Type 0) {a m b : View} where
       let l = lends_front o.shows o.front o.is.within o.is.fresh refl adv in
       does_no_memory A S refl l.kept
 
+pub no_value : {E : Type 0} (exact : Type 0) {a b : View} (A : Accepting Value) (S : Stopping)
+    → Ending S → {seen : Leaf} → seen ≡ End → Offers 256 (SeesLeaf exact seen) a b
+    → {name : Bor (List ℕ)} → name.now ≡ value_name
+    → Does {V = Value} {E = E} A S a b (Err (Eof name (Small 1)))
+no_value exact {a = a} {b = b} A S ends is h says =
+    let o = subst (λ s. Offers 256 (SeesLeaf exact s) a b) is h in
+    none_shown A S ends 256 says (omega arith) o.shows o.front o.is
+
 pub leaf_item : (exact : Type 0) {a m : View} (v : Value) (size : ℕ) {seen : Leaf}
     → seen ≡ Whole v size → Offers 256 (SeesLeaf exact seen) a m → IsItem (view v)
 leaf_item exact {a = a} {m = m} v size is h =
     (subst (λ s. Offers 256 (SeesLeaf exact s) a m) is h).is.ranged
+
+-- a look takes nothing
+pub looked : {want : ℕ} {P : List ℕ → Type 0} {a b : View} → Offers want P a b → Shows [] a b
+looked o = record {
+  told = o.shows.told;
+  bound = o.shows.bound;
+  advanceable = omega arith;
+  budget = o.shows.budget;
+  failures = o.shows.failures;
+  taken = o.shows.taken;
+  lends_whole = o.shows.lends_whole;
+  remembers = o.shows.remembers;
+  ends_at = o.shows.ends_at;
+}
 
 -- a value was taken
 pub found_leaf : {E : Type 0} (A : Budget → Accepting Value) (S : Budget → Stopping) {a b : View}

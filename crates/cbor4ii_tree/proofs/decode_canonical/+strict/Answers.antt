@@ -27,7 +27,7 @@ use Rattle.cbor4ii_tree.proofs.canonical.Calls.{alone_exact, exact_major, exact_
 use Rattle.cbor4ii_tree.proofs.canonical.Calls.{exact_tag_err, exact_tag_refused}
 use Rattle.cbor4ii_tree.proofs.canonical.Calls.{peek_stops, undefined_stops}
 use Rattle.cbor4ii_tree.proofs.canonical.Calls.{stepped_one, stepped_more, counted_does}
-use Rattle.cbor4ii_tree.proofs.canonical.Calls.{items_more, item_stops, value_stops}
+use Rattle.cbor4ii_tree.proofs.canonical.Calls.{items_more, item_stops, value_stops, value_absent}
 use Rattle.cbor4ii_tree.proofs.canonical.Calls.{members_more, member_stops, array_exact, map_exact}
 use Rattle.cbor4ii_items.specs.Laws.Running.{kept_alike}
 use Rattle.cbor4ii_tree.proofs.values.Answered.{went_on, around, further}
@@ -279,7 +279,8 @@ array_inside-returns-clause-progress g t c =
 
 pub map_inside-returns-clause-progress : goal.map_inside-returns-clause-progress
 map_inside-returns-clause-progress g t c =
-    went_on _ c.counted_members.result _ c.in_ok-count.ensures.progress c.counted_members.ensures.moves
+    went_on _ c.counted_members.result _ c.in_ok-count.ensures.progress
+    c.counted_members.ensures.moves
 
 pub read_member-returns-clause-progress : goal.read_member-returns-clause-progress
 read_member-returns-clause-progress g t c =
@@ -334,11 +335,14 @@ counted_items-loop-alloc-init g t c = record {
 
 pub counted_items-returns-in_err-take_run_apart : goal.counted_items-returns-in_err-take_run_apart
 counted_items-returns-in_err-take_run_apart g t c =
-    rw c.from_residual.ensures (run_stops Exactly c.loop-alloc.items.items
-    c.take_run_apart.new.parts.items c.loop-alloc.invariant.reached
-    (λ xs (v : Vec Value Global) ys. ExactItems c.args.count (g.S.Source.view
-    c.args.reader.now).budget xs v.items ys)
-    (StopsExactItems c.args.count (g.S.Source.view c.args.reader.now).budget)
+    let budget = (g.S.Source.view c.args.reader.now).budget in
+    let items = c.loop-alloc.items.items in
+    rw c.from_residual.ensures (run_stops Exactly items c.take_run_apart.new.parts.items
+    c.loop-alloc.invariant.reached
+    (λ xs (v : Vec Value Global) ys. ExactItems c.args.count budget xs v.items ys)
+    (StopsExactItems c.args.count budget)
+    (λ xs ys z rest h s. item_stops (length items) c.args.count budget items xs ys z rest
+    (omega (arith, c.loop-alloc-test.true)) h (value_absent budget ys z rest s))
     (c.in_err-take_run_apart.ensures.exactly refl))
 
 pub counted_items-returns-in_err-value : goal.counted_items-returns-in_err-value
@@ -422,11 +426,14 @@ counted_members-loop-alloc-init g t c = record {
 
 pub counted_members-returns-in_err-take_run : goal.counted_members-returns-in_err-take_run
 counted_members-returns-in_err-take_run g t c =
-    rw c.from_residual.ensures (pairs_stop Exactly c.loop-alloc.members.items
-    c.take_run.new.parts.items c.loop-alloc.invariant.reached
-    (λ xs (v : Vec (Value × Value) Global) ys. ExactMembers c.args.count (g.S.Source.view
-    c.args.reader.now).budget xs v.items ys)
-    (StopsExactItems (2 * c.args.count) (g.S.Source.view c.args.reader.now).budget)
+    let budget = (g.S.Source.view c.args.reader.now).budget in
+    let members = c.loop-alloc.members.items in
+    rw c.from_residual.ensures (pairs_stop Exactly members c.take_run.new.parts.items
+    c.loop-alloc.invariant.reached
+    (λ xs (v : Vec (Value × Value) Global) ys. ExactMembers c.args.count budget xs v.items ys)
+    (StopsExactItems (2 * c.args.count) budget)
+    (λ xs ys z rest h s. member_stops (length members) c.args.count budget members xs ys z rest
+    (omega (arith, c.loop-alloc-test.true)) h (inl (value_absent budget ys z rest s)))
     (c.in_err-take_run.ensures.exactly refl))
 
 pub counted_members-returns-in_err-member : goal.counted_members-returns-in_err-member

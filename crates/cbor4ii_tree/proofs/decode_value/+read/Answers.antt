@@ -15,7 +15,8 @@ use Rattle.cbor4ii_tree.proofs.skip_calls.Doing.{Reached, reached_start, reached
 use Rattle.cbor4ii_tree.proofs.skip_calls.Doing.{does_no_memory, does_no_step}
 use Rattle.cbor4ii_tree.proofs.skip_calls.Calls.{Before, broke, other, at_end}
 use Rattle.cbor4ii_tree.proofs.values.Parts.{ReadEach, ReadPairs}
-use Rattle.cbor4ii_tree.proofs.values.Calls.{stepped, counted_more, counted_stop}
+use Rattle.cbor4ii_tree.proofs.values.Calls.{stepped, counted_more, counted_stop, items_stop}
+use Rattle.cbor4ii_tree.proofs.values.Calls.{value_absent}
 use Rattle.cbor4ii_tree.proofs.values.Heads.{arm_ok, arm_err, arm_does, alone_does}
 use Rattle.cbor4ii_tree.proofs.values.Heads.{reached_tag, tag_read, tag_refused, tag_stopped}
 use Rattle.cbor4ii_tree.proofs.values.Heads.{view-Tag}
@@ -652,11 +653,14 @@ counted_items-loop-alloc-init g t c = record {
 pub counted_items-returns-in_err-take_run_apart-clause-does :
     goal.counted_items-returns-in_err-take_run_apart-clause-does
 counted_items-returns-in_err-take_run_apart-clause-does g t c =
-    rw c.from_residual.ensures (run_stops Readable c.loop-alloc.items.items
-    c.take_run_apart.new.parts.items
-    c.loop-alloc.invariant.reached (λ xs v ys. ReadsItems c.args.count (g.S.Source.view
-    c.args.reader.now).budget xs v.items ys) (StopsItems c.args.count (g.S.Source.view
-    c.args.reader.now).budget) c.in_err-take_run_apart.ensures.puts)
+    let budget = (g.S.Source.view c.args.reader.now).budget in
+    let items = c.loop-alloc.items.items in
+    rw c.from_residual.ensures (run_stops Readable items c.take_run_apart.new.parts.items
+    c.loop-alloc.invariant.reached (λ xs v ys. ReadsItems c.args.count budget xs v.items ys)
+    (StopsItems c.args.count budget)
+    (λ xs ys z rest h s. items_stop (length items) c.args.count budget items xs ys z rest
+    (omega (arith, c.loop-alloc-test.true)) h (value_absent budget ys z rest s))
+    c.in_err-take_run_apart.ensures.puts)
 
 pub counted_items-returns-in_err-value-clause-does :
     goal.counted_items-returns-in_err-value-clause-does
@@ -737,10 +741,13 @@ counted_members-loop-alloc-init g t c = record {
 pub counted_members-returns-in_err-take_run-clause-does :
     goal.counted_members-returns-in_err-take_run-clause-does
 counted_members-returns-in_err-take_run-clause-does g t c =
-    rw c.from_residual.ensures (pairs_stop Readable c.loop-alloc.members.items
-    c.take_run.new.parts.items c.loop-alloc.invariant.reached
-    (λ xs v ys. ReadsMembers c.args.count (g.S.Source.view c.args.reader.now).budget xs v.items ys)
-    (StopsMembers c.args.count (g.S.Source.view c.args.reader.now).budget)
+    let budget = (g.S.Source.view c.args.reader.now).budget in
+    let members = c.loop-alloc.members.items in
+    rw c.from_residual.ensures (pairs_stop Readable members c.take_run.new.parts.items
+    c.loop-alloc.invariant.reached (λ xs v ys. ReadsMembers c.args.count budget xs v.items ys)
+    (StopsMembers c.args.count budget)
+    (λ xs ys z rest h s. member_stop (length members) c.args.count budget members xs ys z rest
+    (omega (arith, c.loop-alloc-test.true)) h (inl (value_absent budget ys z rest s)))
     c.in_err-take_run.ensures.puts)
 
 pub counted_members-returns-in_err-member-clause-does :

@@ -1,4 +1,8 @@
+use Rattle.std.proofs.Common.{◌≡◌, true, refl}
+use Rattle.cbor4ii_tree.specs.Strictly.{ReadsExactlyUnder, StopsExactlyUnder}
+use Rattle.cbor4ii_tree.specs.Valuing.{ReadsUnder, StopsUnder}
 use Rattle.cbor4ii_tree.proofs.values.Leaves.{takes_leaf, takes_exact_leaf, leaf_item, no_content}
+use Rattle.cbor4ii_tree.proofs.values.Leaves.{no_value, looked}
 use Rattle.cbor4ii_tree.proofs.leaf.take_leaf.Goals as goal
 
 pub returns-in-Ok-Whole-clause-takes : goal.returns-in-Ok-Whole-clause-takes
@@ -22,3 +26,23 @@ pub returns-in-Ok-NoMemory-clause-exactly : goal.returns-in-Ok-NoMemory-clause-e
 returns-in-Ok-NoMemory-clause-exactly g c exact =
     no_content _ _ _ _ c.in-Ok-NoMemory.field-0-is c.in-Ok-NoMemory.ensures.offers
     c.advance-in-Ok-NoMemory.ensures
+
+pub returns-in-Ok-End-clause-takes : goal.returns-in-Ok-End-clause-takes
+returns-in-Ok-End-clause-takes g c =
+    rw c.leave_end.ensures (no_value (c.args.exact ≡ true)
+    (ReadsUnder (g.S.Source.view c.args.reader.now).budget)
+    (StopsUnder (g.S.Source.view c.args.reader.now).budget) (λ z rest is. is)
+    c.in-Ok-End.field-0-is c.in-Ok-End.ensures.offers refl)
+
+pub returns-in-Ok-End-clause-exactly : goal.returns-in-Ok-End-clause-exactly
+returns-in-Ok-End-clause-exactly g c exact =
+    rw c.leave_end.ensures (no_value (c.args.exact ≡ true)
+    (ReadsExactlyUnder (g.S.Source.view c.args.reader.now).budget)
+    (StopsExactlyUnder (g.S.Source.view c.args.reader.now).budget) (λ z rest is. is)
+    c.in-Ok-End.field-0-is c.in-Ok-End.ensures.offers refl)
+
+pub returns-in-Ok-Unseen-clause-takes : goal.returns-in-Ok-Unseen-clause-takes
+returns-in-Ok-Unseen-clause-takes g c = looked c.in-Ok-Unseen.ensures.offers
+
+pub returns-in-Ok-Unseen-clause-exactly : goal.returns-in-Ok-Unseen-clause-exactly
+returns-in-Ok-Unseen-clause-exactly g c exact = looked c.in-Ok-Unseen.ensures.offers
