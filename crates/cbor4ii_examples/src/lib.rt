@@ -1,35 +1,35 @@
-//! The README's examples, and rows of whole items.
+//! What a user copies: a recipe a file, and in its `tests.rt` the rows of that recipe.
 //!
-//! The rows' values come from RFC 8949 (its Appendix A above all) and from worked examples, never
-//! from this codec's own answers.
+//! | recipe | what it shows |
+//! |---|---|
+//! | `canonical` | any item, read, and written in its canonical spelling |
+//! | `texts` | a text, borrowed from the input or joined out of a stream |
+//! | `raw_items` | items that are kept as their bytes, and one that is skipped |
+//! | `by_hand` | a map of two members, written and read by hand, with no contract |
+//! | `point` | a struct with an optional field, written and read in one call each, and its laws |
+//! | `sample` | a struct that is written part by part |
+//! | `label` | a struct that borrows from the input |
+//! | `enumeration` | an enum with variants of each kind, which a function reads |
+//! | `event` | an enum that is read inside other types, as in a vector or a map |
+//! | `nest` | a type that holds values of its own kind |
+//! | `station` | a type that is read and written by hand, each refusal proved |
+//!
+//! The rows' values come from RFC 8949 and from worked examples, never from this codec's own
+//! answers.
 #![tactic(auto)]
 
+pub mod by_hand;
+pub mod canonical;
+pub mod enumeration;
+pub mod event;
 #[cfg(test)]
-mod canonical;
+mod failures;
+pub mod label;
+pub mod nest;
+pub mod point;
+pub mod raw_items;
 #[cfg(test)]
-mod depth;
-pub mod examples;
-#[cfg(test)]
-mod growth;
-#[cfg(test)]
-mod item;
-#[cfg(test)]
-mod item_rows;
-#[cfg(test)]
-mod laws;
-#[cfg(test)]
-mod literal;
-#[cfg(test)]
-mod memory;
-#[cfg(test)]
-mod raw;
-#[cfg(test)]
-mod refusal_texts;
-#[cfg(test)]
-mod refusals;
-#[cfg(test)]
-mod skipping;
-#[cfg(test)]
-mod table;
-#[cfg(test)]
-mod values;
+mod refusal;
+pub mod sample;
+pub mod station;
+pub mod texts;

@@ -1,13 +1,15 @@
 //! Rows of more parts than have their place reserved before any of them came, and of strings that
 //! grow by their chunks.
-use crate::read::{Left, Meant, reads};
+use crate::read::{Left, Meant, reads, reads_over};
 use crate::tally::{Broken, Tally};
 use crate::told::Pieces;
 use crate::typed::Typed;
 use crate::values::Item;
 use cbor4ii_items::types::{Bytes, Map};
+use cbor4ii_rw::slice_reader::SliceReader;
 use cbor4ii_tree::{Canonical, Value};
-use cbor4ii_trials::rows::ReadFrom;
+use cbor4ii_vectors::rows::ReadFrom;
+use cbor4ii_vectors::table;
 use std::collections::BTreeMap;
 use std::fmt::Debug;
 
@@ -75,23 +77,23 @@ pub fn containers(tally: &mut Tally) -> Result<(), Broken> {
     grows::<Map<Vec<(u8, u8)>>>(tally, "a long open Map", OPEN_PAIRS, pairs)
 }
 
-const ITEMS: Pieces<'static> = &[
+const ITEMS: Pieces<'static> = table! {
     ("Item(Array([Integer(5)", 1),
     (", Integer(5)", 299),
     ("]))", 1),
-];
+};
 
-const MEMBERS: Pieces<'static> = &[
+const MEMBERS: Pieces<'static> = table! {
     ("Item(Map([(Integer(5), Integer(6))", 1),
     (", (Integer(5), Integer(6))", 299),
     ("]))", 1),
-];
+};
 
-const CANONICAL: Pieces<'static> = &[
+const CANONICAL: Pieces<'static> = table! {
     ("Item(Canonical(Array([Integer(5)", 1),
     (", Integer(5)", 299),
     ("])))", 1),
-];
+};
 
 /// Whole items.
 pub fn values(tally: &mut Tally) -> Result<(), Broken> {
@@ -103,29 +105,17 @@ pub fn values(tally: &mut Tally) -> Result<(), Broken> {
 }
 
 // A map of the keys 0 to 23.
-const KEYS: Parts = &[
-    (
-        b"\xb8\x18\x00\x05\x01\x05\x02\x05\x03\x05\x04\x05\x05\x05\x06\x05\x07\x05\x08\x05",
-        1,
-    ),
-    (
-        b"\x09\x05\x0a\x05\x0b\x05\x0c\x05\x0d\x05\x0e\x05\x0f\x05\x10\x05\x11\x05\x12\x05",
-        1,
-    ),
+const KEYS: Parts = table! {
+    (b"\xb8\x18\x00\x05\x01\x05\x02\x05\x03\x05\x04\x05\x05\x05\x06\x05\x07\x05\x08\x05", 1),
+    (b"\x09\x05\x0a\x05\x0b\x05\x0c\x05\x0d\x05\x0e\x05\x0f\x05\x10\x05\x11\x05\x12\x05", 1),
     (b"\x13\x05\x14\x05\x15\x05\x16\x05\x17\x05", 1),
-];
+};
 
-const FIVES: Pieces<'static> = &[
-    (
-        "Typed({0: 5, 1: 5, 2: 5, 3: 5, 4: 5, 5: 5, 6: 5, 7: 5, 8: 5, 9: 5, 10: 5, 11: 5, ",
-        1,
-    ),
-    (
-        "12: 5, 13: 5, 14: 5, 15: 5, 16: 5, 17: 5, 18: 5, 19: 5, 20: 5, 21: 5, ",
-        1,
-    ),
+const FIVES: Pieces<'static> = table! {
+    ("Typed({0: 5, 1: 5, 2: 5, 3: 5, 4: 5, 5: 5, 6: 5, 7: 5, 8: 5, 9: 5, 10: 5, 11: 5, ", 1),
+    ("12: 5, 13: 5, 14: 5, 15: 5, 16: 5, 17: 5, 18: 5, 19: 5, 20: 5, 21: 5, ", 1),
     ("22: 5, 23: 5})", 1),
-];
+};
 
 /// Typed values.
 pub fn typed(tally: &mut Tally) -> Result<(), Broken> {
@@ -133,4 +123,44 @@ pub fn typed(tally: &mut Tally) -> Result<(), Broken> {
     grows::<Typed<Vec<u8>>>(tally, "a long typed Vec", COUNTED, items)?;
     grows::<Typed<Vec<u8>>>(tally, "a long open typed Vec", OPEN, items)?;
     grows::<Typed<BTreeMap<u8, u8>>>(tally, "a long typed map", KEYS, FIVES)
+}
+
+// 127 arrays of one item, one in another, and an empty one inside.
+const NEST: Parts = &[(b"\x81", 127), (b"\x80", 1)];
+
+const VALUE: Pieces<'static> = &[("Item(", 1), ("Array([", 128), ("])", 128), (")", 1)];
+
+const CANONICAL_VALUE: Pieces<'static> = table! {
+    ("Item(Canonical(", 1),
+    ("Array([", 128),
+    ("])", 128),
+    ("))", 1),
+};
+
+const ANY: Pieces<'static> = &[("Typed(", 1), ("Array([", 128), ("])", 128), (")", 1)];
+
+/// Arrays in arrays.
+pub fn nests(tally: &mut Tally) -> Result<(), Broken> {
+    grows::<Item<Value>>(tally, "nested arrays", NEST, VALUE)?;
+    nests_in_slice::<Item<Canonical>>(tally, "nested canonical arrays", CANONICAL_VALUE)?;
+    nests_in_slice::<Typed<Value>>(tally, "nested arrays of any kind", ANY)
+}
+
+// Over a slice alone, since each array takes memory.
+fn nests_in_slice<T: ReadFrom + Debug + Drop>(
+    tally: &mut Tally,
+    row: &'static str,
+    text: Pieces<'static>,
+) -> Result<(), Broken> {
+    let Some(bytes) = tally.joined(NEST) else {
+        return Ok(());
+    };
+    let meant = Meant {
+        row,
+        bytes: &bytes,
+        text,
+        rest: b"",
+        left: Left::AnEnd,
+    };
+    reads_over::<T, _>(tally, &mut SliceReader::new(&bytes), &meant)
 }

@@ -1,4 +1,4 @@
-//! Rows of lengths that are false: nothing follows them, and little memory is taken for them.
+//! Rows of lengths that are false: fewer parts follow them, and little memory is taken for them.
 use crate::tally::{Broken, Tally};
 use crate::typed::Typed;
 use crate::values::Item;
@@ -8,31 +8,55 @@ use cbor4ii_rw::io_reader::IoReader;
 use cbor4ii_rw::read::Source;
 use cbor4ii_rw::slice_reader::SliceReader;
 use cbor4ii_tree::{Canonical, Value};
-use cbor4ii_trials::rows::ReadFrom;
-use cbor4ii_trials::streams::FailingStream;
+use cbor4ii_vectors::rows::ReadFrom;
+use cbor4ii_vectors::streams::FailingStream;
+use cbor4ii_vectors::table;
 use std::collections::BTreeMap;
 
-// 2^63 items, 2^63 pairs, and strings of 2^60 bytes, which end behind their heads.
-const ARRAY: &[u8] = b"\x9b\x80\x00\x00\x00\x00\x00\x00\x00";
+// 2^63 and 2^64 - 1 items or pairs, of which none or one key comes.
+const ARRAYS: &[&[u8]] = table! {
+    b"\x9b\x80\x00\x00\x00\x00\x00\x00\x00",
+    b"\x9b\xff\xff\xff\xff\xff\xff\xff\xff",
+};
 
-const MAP: &[u8] = b"\xbb\x80\x00\x00\x00\x00\x00\x00\x00";
+const MAPS: &[&[u8]] = table! {
+    b"\xbb\x80\x00\x00\x00\x00\x00\x00\x00",
+    b"\xbb\xff\xff\xff\xff\xff\xff\xff\xff\x00",
+};
 
-const TEXT: &[u8] = b"\x7b\x10\x00\x00\x00\x00\x00\x00\x00";
+const MAPS_OF_TEXTS: &[&[u8]] = table! {
+    b"\xbb\x80\x00\x00\x00\x00\x00\x00\x00",
+    b"\xbb\xff\xff\xff\xff\xff\xff\xff\xff\x61a",
+};
 
-const BYTES: &[u8] = b"\x5b\x10\x00\x00\x00\x00\x00\x00\x00";
+// Texts of 2^60 and of 2^63 - 1 bytes, of which none or one comes.
+const TEXTS: &[&[u8]] = table! {
+    b"\x7b\x10\x00\x00\x00\x00\x00\x00\x00",
+    b"\x7b\x7f\xff\xff\xff\xff\xff\xff\xff\x61",
+};
 
-// Such a text as a chunk.
-const CHUNK: &[u8] = b"\x7f\x7b\x10\x00\x00\x00\x00\x00\x00\x00";
+// 2^60 bytes.
+const BYTES: &[&[u8]] = table! {
+    b"\x5b\x10\x00\x00\x00\x00\x00\x00\x00",
+};
+
+// A text of 2^60 bytes as a chunk.
+const CHUNKS: &[&[u8]] = table! {
+    b"\x7f\x7b\x10\x00\x00\x00\x00\x00\x00\x00",
+};
 
 // Over a slice and over a stream the input ends too early, whatever the length says.
 fn ends<T: ReadFrom + Drop>(
     tally: &mut Tally,
     row: &'static str,
-    bytes: &'static [u8],
+    inputs: &'static [&'static [u8]],
 ) -> Result<(), Broken> {
-    ends_over::<T, _>(tally, row, &mut SliceReader::new(bytes))?;
-    let stream = FailingStream::new(bytes, 3, usize::MAX);
-    ends_over::<T, _>(tally, row, &mut IoReader::new(stream))
+    for bytes in inputs {
+        ends_over::<T, _>(tally, row, &mut SliceReader::new(bytes))?;
+        let stream = FailingStream::new(bytes, 3, usize::MAX);
+        ends_over::<T, _>(tally, row, &mut IoReader::new(stream))?;
+    }
+    Ok(())
 }
 
 fn ends_over<T: ReadFrom + Drop, S: Source>(
@@ -51,35 +75,35 @@ fn ends_over<T: ReadFrom + Drop, S: Source>(
 
 /// Items.
 pub fn items(tally: &mut Tally) -> Result<(), Broken> {
-    ends::<String>(tally, "String", TEXT)?;
-    ends::<String>(tally, "String of a chunk", CHUNK)?;
+    ends::<String>(tally, "String", TEXTS)?;
+    ends::<String>(tally, "String of a chunk", CHUNKS)?;
     ends::<Bytes<Vec<u8>>>(tally, "Bytes", BYTES)?;
-    ends::<UncheckedStr<Vec<u8>>>(tally, "UncheckedStr", TEXT)?;
-    ends::<Vec<u8>>(tally, "Vec", ARRAY)?;
-    ends::<Vec<Vec<u8>>>(tally, "Vec of Vec", ARRAY)?;
-    ends::<Map<Vec<(u8, u8)>>>(tally, "Map", MAP)?;
-    ends::<Map<Vec<(String, String)>>>(tally, "Map of String", MAP)
+    ends::<UncheckedStr<Vec<u8>>>(tally, "UncheckedStr", TEXTS)?;
+    ends::<Vec<u8>>(tally, "Vec", ARRAYS)?;
+    ends::<Vec<Vec<u8>>>(tally, "Vec of Vec", ARRAYS)?;
+    ends::<Map<Vec<(u8, u8)>>>(tally, "Map", MAPS)?;
+    ends::<Map<Vec<(String, String)>>>(tally, "Map of String", MAPS_OF_TEXTS)
 }
 
 /// Whole items.
 pub fn values(tally: &mut Tally) -> Result<(), Broken> {
-    for bytes in [ARRAY, MAP, TEXT, BYTES, CHUNK] {
-        ends::<Item<Value>>(tally, "Value", bytes)?;
+    for inputs in [ARRAYS, MAPS, TEXTS, BYTES, CHUNKS] {
+        ends::<Item<Value>>(tally, "Value", inputs)?;
     }
-    for bytes in [ARRAY, MAP, TEXT, BYTES] {
-        ends::<Item<Canonical>>(tally, "Canonical", bytes)?;
+    for inputs in [ARRAYS, MAPS, TEXTS, BYTES] {
+        ends::<Item<Canonical>>(tally, "Canonical", inputs)?;
     }
     Ok(())
 }
 
 /// Typed values.
 pub fn typed(tally: &mut Tally) -> Result<(), Broken> {
-    ends::<Typed<String>>(tally, "typed String", TEXT)?;
+    ends::<Typed<String>>(tally, "typed String", TEXTS)?;
     ends::<Typed<Bytes<Vec<u8>>>>(tally, "typed Bytes", BYTES)?;
-    ends::<Typed<Vec<u8>>>(tally, "typed Vec", ARRAY)?;
-    ends::<Typed<BTreeMap<u8, u8>>>(tally, "typed BTreeMap", MAP)?;
-    for bytes in [ARRAY, MAP, TEXT, BYTES, CHUNK] {
-        ends::<Typed<Value>>(tally, "deserialize_any", bytes)?;
+    ends::<Typed<Vec<u8>>>(tally, "typed Vec", ARRAYS)?;
+    ends::<Typed<BTreeMap<u8, u8>>>(tally, "typed BTreeMap", MAPS)?;
+    for inputs in [ARRAYS, MAPS, TEXTS, BYTES, CHUNKS] {
+        ends::<Typed<Value>>(tally, "deserialize_any", inputs)?;
     }
     Ok(())
 }

@@ -7,15 +7,26 @@
 //! It writes one line. The exit status is 0 where each row holds, and else 1.
 #![tactic(auto)]
 
+mod answer;
 mod growth;
+mod in_place;
 mod items;
+mod lendable;
 mod lengths;
+mod lent;
 mod read;
+mod room;
 mod tally;
 mod told;
 mod typed;
+mod typed_calls;
+mod typed_in_place;
 mod values;
 mod writing;
+mod writing_items;
+mod writing_parts;
+mod writing_typed;
+mod writing_values;
 
 use crate::tally::{Broken, Tally};
 use std::alloc::Global;
@@ -56,35 +67,70 @@ fn outcome(alloc: Global, word: &[u8]) -> Result<(), Broken> {
 }
 
 fn all(tally: &mut Tally) -> Result<(), Broken> {
-    items::strings(tally)?;
-    items::containers(tally)?;
-    items::nested(tally)?;
-    items::in_place(tally)?;
-    values::values(tally)?;
-    values::copies(tally)?;
-    values::kept(tally)?;
-    values::lent(tally)?;
-    typed::types(tally)?;
-    typed::calls(tally)?;
-    typed::firsts(tally)?;
-    written(tally)?;
-    grown(tally)?;
+    item_rows(tally)?;
+    value_rows(tally)?;
+    typed_rows(tally)?;
+    rows_in_place(tally)?;
+    written_rows(tally)?;
+    grown_rows(tally)?;
     false_lengths(tally)
 }
 
-fn written(tally: &mut Tally) -> Result<(), Broken> {
-    writing::items(tally)?;
-    writing::containers(tally)?;
-    writing::values(tally)?;
-    writing::typed(tally)?;
-    writing::whole(tally)
+fn item_rows(tally: &mut Tally) -> Result<(), Broken> {
+    items::strings(tally)?;
+    items::containers(tally)?;
+    items::nested(tally)?;
+    items::strings_within(tally)
 }
 
-fn grown(tally: &mut Tally) -> Result<(), Broken> {
+fn value_rows(tally: &mut Tally) -> Result<(), Broken> {
+    values::values(tally)?;
+    values::copies(tally)?;
+    lent::kept(tally)?;
+    lent::strings(tally)
+}
+
+fn typed_rows(tally: &mut Tally) -> Result<(), Broken> {
+    typed::types(tally)?;
+    typed::calls(tally)?;
+    typed::firsts(tally)?;
+    typed_calls::types(tally)?;
+    typed_calls::by_name(tally)?;
+    lendable::strings(tally)
+}
+
+fn rows_in_place(tally: &mut Tally) -> Result<(), Broken> {
+    in_place::items(tally)?;
+    lent::in_place(tally)?;
+    typed_in_place::typed(tally)
+}
+
+fn written_rows(tally: &mut Tally) -> Result<(), Broken> {
+    writing_items::items(tally)?;
+    writing_items::owned(tally)?;
+    writing_values::values(tally)?;
+    written_typed_rows(tally)
+}
+
+fn written_typed_rows(tally: &mut Tally) -> Result<(), Broken> {
+    writing_typed::leaves(tally)?;
+    writing_typed::containers(tally)?;
+    writing_typed::owned(tally)?;
+    writing_parts::calls(tally)?;
+    writing_parts::texts(tally)?;
+    writing_parts::whole(tally)?;
+    writing_parts::streamed(tally)?;
+    writing_parts::streamed_in_place()
+}
+
+fn grown_rows(tally: &mut Tally) -> Result<(), Broken> {
     growth::strings(tally)?;
     growth::containers(tally)?;
     growth::values(tally)?;
-    growth::typed(tally)
+    growth::typed(tally)?;
+    growth::nests(tally)?;
+    room::arrays(tally)?;
+    room::maps(tally)
 }
 
 fn false_lengths(tally: &mut Tally) -> Result<(), Broken> {

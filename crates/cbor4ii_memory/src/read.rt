@@ -7,8 +7,9 @@ use cbor4ii_rw::io_reader::IoReader;
 use cbor4ii_rw::read::Source;
 use cbor4ii_rw::segment_reader::SegmentReader;
 use cbor4ii_rw::slice_reader::SliceReader;
-use cbor4ii_trials::rows::{ReadBy, ReadFrom, steps};
-use cbor4ii_trials::streams::FailingStream;
+use cbor4ii_vectors::rows::{ReadBy, ReadFrom, steps};
+use cbor4ii_vectors::streams::FailingStream;
+use std::alloc::Global;
 use std::fmt::Debug;
 
 // No row has more bytes.
@@ -16,6 +17,22 @@ const MOST_BYTES: usize = 20_480;
 
 /// A row: bytes, the `Debug` text of what is read, and what is left of them.
 pub type Row = (&'static [u8], &'static str, &'static [u8]);
+
+/// A row of calls: its name, the call, and then as `Row`.
+pub type CallRow<C> = (&'static str, C, &'static [u8], &'static str, &'static [u8]);
+
+/// Calls that are told apart by a value, so that they are tried by one function over each reader.
+pub trait Calls: Copy {
+    /// What they answer.
+    type Answer: Debug + Drop;
+
+    /// Makes the call at the front of what `reader` has left.
+    fn call<S: Source>(
+        self,
+        alloc: Global,
+        reader: &mut S,
+    ) -> Result<Self::Answer, DecodeError<S::Error>>;
+}
 
 /// What a row is meant to give.
 #[derive(Clone, Copy)]
@@ -80,6 +97,47 @@ pub fn reads_in_place<T: ReadFrom + Debug + Drop>(
     Ok(())
 }
 
+/// Makes the call of each row over each reader.
+pub fn makes_calls<C: Calls>(
+    tally: &mut Tally,
+    left: Left,
+    rows: &[CallRow<C>],
+) -> Result<(), Broken> {
+    for (row, call, bytes, text, rest) in rows {
+        let meant = Meant {
+            row,
+            bytes,
+            text: &[(text, 1)],
+            rest,
+            left,
+        };
+        answers(tally, *call, &meant)?;
+    }
+    Ok(())
+}
+
+// As `reads`, of a call.
+fn answers<C: Calls>(tally: &mut Tally, call: C, meant: &Meant<'_>) -> Result<(), Broken> {
+    let bytes = meant.bytes;
+    answers_over(tally, call, &mut SliceReader::new(bytes), meant)?;
+    let (first, second) = bytes.split_at(bytes.len() / 2);
+    let segments = [first, second];
+    answers_over(tally, call, &mut SegmentReader::new(&segments), meant)?;
+    let stream = FailingStream::new(bytes, 3, usize::MAX);
+    answers_over(tally, call, &mut IoReader::new(stream), meant)
+}
+
+fn answers_over<C: Calls, S: Source>(
+    tally: &mut Tally,
+    call: C,
+    reader: &mut S,
+    meant: &Meant<'_>,
+) -> Result<(), Broken> {
+    let budget = steps(reader);
+    let got = call.call(tally.alloc(), reader);
+    is_answer(tally, reader, budget, &got, meant)
+}
+
 /// Reads one row over a slice, over two segments and over a stream that shows three bytes at most.
 pub fn reads<T: ReadFrom + Debug + Drop>(
     tally: &mut Tally,
@@ -94,8 +152,7 @@ pub fn reads<T: ReadFrom + Debug + Drop>(
     reads_over::<T, _>(tally, &mut IoReader::new(stream), meant)
 }
 
-/// Reads the row over this reader, which holds its bytes. The steps are as before, and an end of
-/// the bytes is left. Want of memory is the one refusal that may come.
+/// Reads the row over this reader, which holds its bytes.
 pub fn reads_over<T: ReadBy<S> + Debug + Drop, S: Source>(
     tally: &mut Tally,
     reader: &mut S,
@@ -103,10 +160,22 @@ pub fn reads_over<T: ReadBy<S> + Debug + Drop, S: Source>(
 ) -> Result<(), Broken> {
     let budget = steps(reader);
     let got = T::read_by(tally.alloc(), reader);
+    is_answer(tally, reader, budget, &got, meant)
+}
+
+/// Looks at the answer over a reader that had so many steps and the row's bytes. The steps are as
+/// before, and an end of the bytes is left. Want of memory is the one refusal that may come.
+pub fn is_answer<T: Debug, S: Source>(
+    tally: &mut Tally,
+    reader: &mut S,
+    budget: u16,
+    got: &Result<T, DecodeError<S::Error>>,
+    meant: &Meant<'_>,
+) -> Result<(), Broken> {
     if steps(reader) != budget {
         return Err(Broken::new(meant.row, "the steps are not as before"));
     }
-    match &got {
+    match got {
         Ok(value) => is_meant(reader, value, meant),
         Err(DecodeError::OutOfMemory) => lacks_memory(tally, reader, meant),
         Err(_) => Err(Broken::new(meant.row, "it is refused")),

@@ -7,8 +7,9 @@ use cbor4ii::serde::{self, Deserialize, Deserializer, from_reader, from_slice};
 use cbor4ii::types::Bytes;
 use cbor4ii_rw::error::DecodeError;
 use cbor4ii_rw::read::Source;
-use cbor4ii_trials::rows::ReadFrom;
-use cbor4ii_trials::streams::FailingStream;
+use cbor4ii_vectors::rows::ReadFrom;
+use cbor4ii_vectors::streams::FailingStream;
+use cbor4ii_vectors::table;
 use std::alloc::Global;
 use std::collections::BTreeMap;
 use std::fmt::Debug;
@@ -17,12 +18,19 @@ use std::fmt::Debug;
 #[derive(Debug, Drop)]
 pub struct Typed<T>(pub T);
 
-// The answer of calls. A refusal in words is no other refusal's.
-fn answer<T, E>(got: Result<T, serde::DecodeError<E>>) -> Result<Typed<T>, DecodeError<E>> {
+/// The answer of calls. A refusal in words is no other refusal's.
+pub fn as_core<T, E>(got: Result<T, serde::DecodeError<E>>) -> Result<T, DecodeError<E>> {
     match got {
-        Ok(value) => Ok(Typed(value)),
+        Ok(value) => Ok(value),
         Err(serde::DecodeError::Core(error)) => Err(error),
         Err(serde::DecodeError::Custom(name)) => Err(DecodeError::Custom { name, num: 0 }),
+    }
+}
+
+fn answer<T, E>(got: Result<T, serde::DecodeError<E>>) -> Result<Typed<T>, DecodeError<E>> {
+    match as_core(got) {
+        Ok(value) => Ok(Typed(value)),
+        Err(error) => Err(error),
     }
 }
 
@@ -68,48 +76,40 @@ impl ReadFrom for Typed<Value> {
     }
 }
 
-const TEXTS: &[Row] = &[
+const TEXTS: &[Row] = table! {
     (b"\x64IETF\x01", "Typed(\"IETF\")", b"\x01"),
     (b"\x7f\x61a\x61b\xff", "Typed(\"ab\")", b""),
-];
+};
 
-const BYTES: &[Row] = &[(b"\x5f\x41\x01\x41\x02\xff", "Typed(Bytes([1, 2]))", b"")];
+const BYTES: &[Row] = table! {
+    (b"\x5f\x41\x01\x41\x02\xff", "Typed(Bytes([1, 2]))", b""),
+};
 
-const NUMBERS: &[Row] = &[(b"\x83\x01\x02\x03\x04", "Typed([1, 2, 3])", b"\x04")];
+const NUMBERS: &[Row] = table! {
+    (b"\x83\x01\x02\x03\x04", "Typed([1, 2, 3])", b"\x04"),
+};
 
-const PAIRS: &[Row] = &[
-    (
-        b"\x82\x82\x61a\x01\x82\x61b\x02",
-        "Typed(Some([(\"a\", 1), (\"b\", 2)]))",
-        b"",
-    ),
+const PAIRS: &[Row] = table! {
+    (b"\x82\x82\x61a\x01\x82\x61b\x02", "Typed(Some([(\"a\", 1), (\"b\", 2)]))", b""),
     (b"\xf6\x01", "Typed(None)", b"\x01"),
-];
+};
 
-const MAPS: &[Row] = &[(
-    b"\xbf\x03\x04\x01\x02\xff\x00",
-    "Typed({1: 2, 3: 4})",
-    b"\x00",
-)];
+const MAPS: &[Row] = table! {
+    (b"\xbf\x03\x04\x01\x02\xff\x00", "Typed({1: 2, 3: 4})", b"\x00"),
+    (b"\xa2\x01\x02\x01\x03", "Typed({1: 3})", b""),
+};
 
-const MAPS_OF_TEXTS: &[Row] = &[(
-    b"\xa2\x61b\x80\x61a\x82\x61c\x61d",
-    "Typed({\"a\": [\"c\", \"d\"], \"b\": []})",
-    b"",
-)];
+const MAPS_OF_TEXTS: &[Row] = table! {
+    (b"\xa2\x61b\x80\x61a\x82\x61c\x61d", "Typed({\"a\": [\"c\", \"d\"], \"b\": []})", b""),
+};
 
-const ANY: &[Row] = &[
-    (
-        b"\xa1\x61a\x82\x41\x05\x20",
-        "Typed(Map([(Text(\"a\"), Array([Bytes([5]), Integer(-1)]))]))",
-        b"",
-    ),
-    (
-        b"\x9f\x7f\x61a\xff\xf6\xff\x01",
-        "Typed(Array([Text(\"a\"), Null]))",
-        b"\x01",
-    ),
-];
+// {"a": [h'05', -1]}.
+const MEMBER: &str = "Typed(Map([(Text(\"a\"), Array([Bytes([5]), Integer(-1)]))]))";
+
+const ANY: &[Row] = table! {
+    (b"\xa1\x61a\x82\x41\x05\x20", MEMBER, b""),
+    (b"\x9f\x7f\x61a\xff\xf6\xff\x01", "Typed(Array([Text(\"a\"), Null]))", b"\x01"),
+};
 
 /// Each type by its own call.
 pub fn types(tally: &mut Tally) -> Result<(), Broken> {
@@ -174,29 +174,28 @@ fn read_parts<S: Source>(
     Ok(Parts(first, second))
 }
 
-const FIELDS: &[Row] = &[(
-    b"\xa3\x64list\x82\x01\x02\x65other\x81\x05\x64name\x61a",
-    "Typed((Some(\"a\"), Some([1, 2]), None))",
-    b"",
-)];
+// {"list": [1, 2], "other": [5], "name": "a"}.
+const STRUCT: &[u8] = b"\xa3\x64list\x82\x01\x02\x65other\x81\x05\x64name\x61a";
 
-const VARIANTS: &[Row] = &[(
-    b"\xa1\x64List\x82\x01\x02\x03",
-    "Typed(Variant { name: \"List\", content: [1, 2] })",
-    b"\x03",
-)];
+const FIELDS: &[Row] = table! {
+    (STRUCT, "Typed((Some(\"a\"), Some([1, 2]), None))", b""),
+};
 
-const PARTS: &[Row] = &[(
-    b"\x9f\x61a\x7f\x61b\xff\xff",
-    "Typed(Parts(Some(\"a\"), Some(\"b\")))",
-    b"\xff",
-)];
+const VARIANT: &str = "Typed(Variant { name: \"List\", content: [1, 2] })";
+
+const VARIANTS: &[Row] = table! {
+    (b"\xa1\x64List\x82\x01\x02\x03", VARIANT, b"\x03"),
+};
+
+const PARTS: &[Row] = table! {
+    (b"\x9f\x61a\x7f\x61b\xff\xff", "Typed(Parts(Some(\"a\"), Some(\"b\")))", b"\xff"),
+};
 
 /// Calls for structs, variants and parts.
 pub fn calls(tally: &mut Tally) -> Result<(), Broken> {
     reads_rows::<Typed<Fields>>(tally, "deserialize_3_fields", FIELDS)?;
-    reads_rows::<Typed<Variant>>(tally, "deserialize_enum", VARIANTS)?;
-    reads_rows::<Typed<Parts>>(tally, "deserialize_seq", PARTS)
+    reads_rows::<Typed<Variant>>(tally, "variant and newtype_variant", VARIANTS)?;
+    reads_rows::<Typed<Parts>>(tally, "next_element", PARTS)
 }
 
 // ["a", "bc"], and a break behind it.

@@ -1,4 +1,2 @@
--- What a record is that is read and written by hand, and parts one behind another.
-pub mod Then
-pub mod Station
-pub mod StationLaws
+-- What the readers and writers for tests tell.
+pub mod Tells

@@ -1,0 +1,252 @@
+-- What a station is made of, one call behind another.
+use Rattle.std.proofs.Common.{◌≡◌, ◌≢◌, ℕ, ◌<◌, ◌≤◌, inl, inr, List, drop, Option, Some, None, Bool}
+use Rattle.std.proofs.Common.{true, false, refl, sym, ap, ◌∙◌, subst, arith, Bor}
+use Rattle.std.proofs.Common.{ltb, ltb-true, ltb-false}
+use Rattle.std.specs.Prelude.{codes}
+use Rattle.std.specs.declared.alloc.Global.{Global}
+use Rattle.std.specs.declared.string.String.{String}
+use Rattle.cbor4ii_rw.specs.View.{View}
+use Rattle.cbor4ii_rw.specs.declared.error.DecodeError.{DecodeError}
+use Rattle.cbor4ii_rw.specs.declared.error.DecodeError.TheVariants.{RequireLength}
+use Rattle.cbor4ii_rw.specs.declared.error.Len.{Len}
+use Rattle.cbor4ii_rw.specs.declared.error.Len.TheVariants.{Small, Big, Indefinite}
+use Rattle.cbor4ii_items.specs.Refusal.{refusal_of, require_length, len_of}
+use Rattle.cbor4ii_items.specs.Moves.{Kept}
+use Rattle.cbor4ii_items.specs.Decoding.{NoneRead, Sound, Refuses, Stops}
+use Rattle.cbor4ii_items.specs.Heads.{ReadsHead}
+use Rattle.cbor4ii_items.specs.Laws.Heads.{head_one}
+use Rattle.cbor4ii_items.specs.Laws.Answering.{fits_zero, refuses_as}
+use Rattle.cbor4ii_items.specs.Laws.Arguments.{unsigned_one}
+use Rattle.cbor4ii_items.specs.Lengths.{ReadsLength, StopsLength}
+use Rattle.cbor4ii_items.specs.Numbers.{ReadsUnsigned, StopsUnsigned}
+use Rattle.cbor4ii_items.specs.Strings.{ReadsTextAs, StopsText, text_content}
+use Rattle.cbor4ii_items.specs.Strings.{ReadsBreak, StopsBreak}
+use Rattle.cbor4ii_items.specs.Laws.Strings.{head_not_open, text_one}
+use Rattle.cbor4ii_items.specs.Laws.SequenceParts.{always}
+use Rattle.cbor4ii_examples.specs.Then.{ReadsThen}
+use Rattle.cbor4ii_examples.specs.Station.{ReadsOpening, ReadsEnd, ReadsAfterNumber}
+use Rattle.cbor4ii_examples.specs.Station.{ReadsAfterOpening}
+use Rattle.cbor4ii_examples.specs.Station.{ReadsStation, StopsOpening, StopsEnd, StopsAfterNumber}
+use Rattle.cbor4ii_examples.specs.Station.{StopsAfterOpening, StopsStation}
+use Rattle.cbor4ii_examples.specs.StationLaws.{opening_one, carried}
+use Rattle.cbor4ii_examples.proofs.Behind.{sound_as, stops_as, then_sound, first_refuses}
+use Rattle.cbor4ii_examples.proofs.Behind.{second_refuses, first_stopped, second_stopped}
+
+-- ---- the opening
+
+length_is : {o : Option ℕ} {a b : View} (l : Option ℕ) → o ≡ l → Sound (ReadsLength 4) a b o
+    → Sound (ReadsLength 4) a b l
+length_is {a = a} {b = b} l e s = subst (λ o. Sound (ReadsLength 4) a b o) e s
+
+pub counted_opening : {o : Option ℕ} {count : ℕ} {a b : View} → o ≡ Some count → count ≡ 2
+    → Sound (ReadsLength 4) a b o → Sound ReadsOpening a b false
+counted_opening e two s =
+    sound_as (ReadsLength 4) ReadsOpening (λ xs n c h. h) (length_is (Some 2) (e ∙ ap Some two) s)
+
+pub open_opening : {o : Option ℕ} {a b : View} → o ≡ None → Sound (ReadsLength 4) a b o
+    → Sound ReadsOpening a b true
+open_opening e s = sound_as (ReadsLength 4) ReadsOpening (λ xs n c h. h) (length_is None e s)
+
+none_opens : (xs : List ℕ) (budget : Option ℕ) → NoneRead (ReadsLength 4) xs budget
+    → NoneRead ReadsOpening xs budget
+none_opens xs budget none false n c h fits = none (Some 2) n c h fits
+none_opens xs budget none true n c h fits = none None n c h fits
+
+pub opening_refused : {E : Type 0} {e : DecodeError E} {a : View} → Refuses (ReadsLength 4) a e
+    → Refuses ReadsOpening a e
+opening_refused s = refuses_as (ReadsLength 4) ReadsOpening none_opens s
+
+pub opening_stopped : {E : Type 0} {e : DecodeError E} {a b : View}
+    → Stops (StopsLength (codes "array") 4) a b e → Stops StopsOpening a b e
+opening_stopped s =
+    stops_as (StopsLength (codes "array") 4) StopsOpening (λ xs budget z ys h. inl h) s
+
+other_opens : (xs : List ℕ) (count k : ℕ) (v : Bool) (n c : ℕ) → count ≢ 2
+    → ReadsHead 4 8 xs count k → ReadsOpening xs v n c → ⊥
+other_opens xs count k false n c other head h =
+    other (sym (head_one 4 8 xs 2 count n k (omega arith) h.0 head).1)
+other_opens xs count k true n c other head h = head_not_open 4 xs count k (omega arith) head h.0
+
+pub other_refused : {E : Type 0} {e : DecodeError E} {o : Option ℕ} {a b : View} (count : ℕ)
+    → count ≢ 2 → o ≡ Some count → Sound (ReadsLength 4) a b o → Refuses ReadsOpening a e
+other_refused {e = e} count other is s =
+    let t = length_is (Some count) is s in
+    record {
+      at = λ xs told.
+          let p = t.at xs told in
+          always (refusal_of e)
+          (λ v n c h fits. other_opens xs count p.count v n c other p.read.0 h);
+    }
+
+-- a count as it is told
+told_count : (n : ℕ) (l : Len) → (n < 65536 → l ≡ Small n) → (65536 ≤ n → l ≡ Big) → l ≡ len_of n
+told_count n l small big = by_size (ltb n 65536) refl
+  where
+    by_size : (t : Bool) → ltb n 65536 ≡ t → l ≡ len_of n
+    by_size true e = rw e (small (ltb-true n 65536 e))
+    by_size false e = rw e (big (ltb-false n 65536 e))
+
+pub other_stopped : {E : Type 0} {name : Bor (List ℕ)} {l : Len} {o : Option ℕ} {a b : View}
+    (count : ℕ) → count ≢ 2 → name.now ≡ codes "station" → (count < 65536 → l ≡ Small count)
+    → (65536 ≤ count → l ≡ Big) → o ≡ Some count → Sound (ReadsLength 4) a b o
+    → Stops {E = E} StopsOpening a b (RequireLength name l)
+other_stopped {l = l} {b = b} count other named small big is s =
+    let t = length_is (Some count) is s in
+    let told_as = ap (require_length (codes "station")) (told_count count l small big) in
+    let says = ap (λ z. require_length z l) named ∙ told_as in
+    record {
+      at = λ xs told.
+          let p = t.at xs told in
+          (drop p.count xs, p.left, inr (count, p.count, p.read.0, other, says, refl));
+    }
+
+-- ---- the end
+
+pub no_end : (indefinite : Bool) (a : View) → indefinite ≡ false
+    → Sound (ReadsEnd indefinite) a a tt
+no_end false a e = record {
+  at = λ xs told.
+      record { count = 0; cost = 0; read = (refl, refl); fits = fits_zero a.budget; left = told };
+}
+no_end true a e = cc
+
+break_is : {t : Bool} {a b : View} (u : Bool) → t ≡ u → Sound ReadsBreak a b t
+    → Sound ReadsBreak a b u
+break_is {a = a} {b = b} u e s = subst (λ t. Sound ReadsBreak a b t) e s
+
+pub an_end : (indefinite : Bool) {t : Bool} {a b : View} → indefinite ≡ true → t ≡ true
+    → Sound ReadsBreak a b t → Sound (ReadsEnd indefinite) a b tt
+an_end true e is s = sound_as ReadsBreak (ReadsEnd true) (λ xs n c h. h) (break_is true is s)
+an_end false e is s = cc
+
+pub end_refused : (indefinite : Bool) {E : Type 0} {e : DecodeError E} {a : View}
+    → indefinite ≡ true → Refuses ReadsBreak a e → Refuses (ReadsEnd indefinite) a e
+end_refused true is s =
+    refuses_as ReadsBreak (ReadsEnd true) (λ xs budget none u n c h fits. none true n c h fits) s
+end_refused false is s = cc
+
+pub end_stopped : (indefinite : Bool) {E : Type 0} {e : DecodeError E} {a b : View}
+    → indefinite ≡ true → Stops StopsBreak a b e → Stops (StopsEnd indefinite) a b e
+end_stopped true is s = stops_as StopsBreak (StopsEnd true) (λ xs budget z ys h. inl h) s
+end_stopped false is s = cc
+
+pub other_end_refused : (indefinite : Bool) {E : Type 0} {e : DecodeError E} {t : Bool} {a b : View}
+    → indefinite ≡ true → t ≡ false → Sound ReadsBreak a b t → Refuses (ReadsEnd indefinite) a e
+other_end_refused true {e = e} opens is s =
+    let t = break_is false is s in
+    record {
+      at = λ xs told.
+          let p = t.at xs told in
+          always (refusal_of e) (λ u n c h fits. p.read.1 h.0);
+    }
+other_end_refused false opens is s = cc
+
+pub other_end_stopped : (indefinite : Bool) {E : Type 0} {name : Bor (List ℕ)} {t : Bool}
+    {a b : View} → indefinite ≡ true → name.now ≡ codes "station" → t ≡ false
+    → Sound ReadsBreak a b t
+    → Stops {E = E} (StopsEnd indefinite) a b (RequireLength name Indefinite)
+other_end_stopped true opens named is s =
+    let t = break_is false is s in
+    let says = ap (λ z. require_length z Indefinite) named in
+    record {
+      at = λ xs told.
+          let p = t.at xs told in
+          let left = p.left ∙ ap (λ k. Some (drop k xs)) p.read.2 in
+          (xs, left, inr (p.read.0, p.read.1, says, refl));
+    }
+other_end_stopped false opens named is s = cc
+
+-- ---- a station
+
+as_station : {E : Type 0} {e : DecodeError E} {a : View}
+    → Refuses (ReadsThen ReadsOpening ReadsAfterOpening) a e → Refuses ReadsStation a e
+as_station s =
+    refuses_as (ReadsThen ReadsOpening ReadsAfterOpening) ReadsStation
+    (λ xs budget none v n c h fits. none (h.0, (v.id, (v.name, tt))) n c h.1 fits) s
+
+behind_id : {E : Type 0} {e : DecodeError E} {a m : View} (indefinite : Bool) {id : ℕ} → Kept a m
+    → Sound (ReadsUnsigned 8) a m id → Refuses (ReadsAfterNumber indefinite id) m e
+    → Refuses (ReadsAfterOpening indefinite) a e
+behind_id indefinite kept s r =
+    second_refuses (ReadsUnsigned 8) (ReadsAfterNumber indefinite) (λ v w. v ≡ w)
+    (λ v w xs u n c e h. subst (λ id. ReadsAfterNumber indefinite id xs u n c) e h)
+    (unsigned_one 8) kept s r
+
+behind_name : {E : Type 0} {e : DecodeError E} {a m : View} (indefinite : Bool) (id : ℕ)
+    {name : String Global} → Kept a m → Sound (ReadsTextAs text_content) a m name
+    → Refuses (ReadsEnd indefinite) m e → Refuses (ReadsAfterNumber indefinite id) a e
+behind_name indefinite id kept s r =
+    second_refuses (ReadsTextAs text_content) (λ name. ReadsEnd indefinite)
+    (λ v w. text_content v ≡ text_content w) (λ v w xs u n c e h. h)
+    (text_one text_content) kept s r
+
+pub no_opening : {E : Type 0} {e : DecodeError E} {a : View} → Refuses ReadsOpening a e
+    → Refuses ReadsStation a e
+no_opening s = as_station (first_refuses ReadsOpening ReadsAfterOpening s)
+
+module _ {E : Type 0} {e : DecodeError E} {a i : View} (indefinite : Bool) (opened : Kept a i)
+    (opening : Sound ReadsOpening a i indefinite) where
+  behind_opening : Refuses (ReadsAfterOpening indefinite) i e → Refuses ReadsStation a e
+  behind_opening r =
+      as_station (second_refuses ReadsOpening ReadsAfterOpening (λ v w. v ≡ w) carried opening_one
+      opened opening r)
+
+  pub no_id : Refuses (ReadsUnsigned 8) i e → Refuses ReadsStation a e
+  no_id r = behind_opening (first_refuses (ReadsUnsigned 8) (ReadsAfterNumber indefinite) r)
+
+  module _ {j : View} (id : ℕ) (numbered : Kept i j) (number : Sound (ReadsUnsigned 8) i j id) where
+    pub no_name : Refuses (ReadsTextAs text_content) j e → Refuses ReadsStation a e
+    no_name r =
+        behind_opening (behind_id indefinite numbered number
+        (first_refuses (ReadsTextAs text_content) (λ name. ReadsEnd indefinite) r))
+
+    pub unended : {k : View} (name : String Global) → Kept j k
+        → Sound (ReadsTextAs text_content) j k name → Refuses (ReadsEnd indefinite) k e
+        → Refuses ReadsStation a e
+    unended name named text r =
+        behind_opening (behind_id indefinite numbered number
+        (behind_name indefinite id named text r))
+
+pub no_opening_stopped : {E : Type 0} {e : DecodeError E} {a b : View} → Stops StopsOpening a b e
+    → Stops StopsStation a b e
+no_opening_stopped s = first_stopped ReadsOpening StopsOpening StopsAfterOpening s
+
+module _ {E : Type 0} {e : DecodeError E} {a i b : View} (indefinite : Bool) (opened : Kept a i)
+    (opening : Sound ReadsOpening a i indefinite) where
+  behind_opening_stopped : Stops (StopsAfterOpening indefinite) i b e → Stops StopsStation a b e
+  behind_opening_stopped s =
+      second_stopped ReadsOpening StopsOpening StopsAfterOpening opened opening s
+
+  pub no_id_stopped : Stops (StopsUnsigned (codes "u64") 8) i b e → Stops StopsStation a b e
+  no_id_stopped s =
+      behind_opening_stopped (first_stopped (ReadsUnsigned 8) (StopsUnsigned (codes "u64") 8)
+      (StopsAfterNumber indefinite) s)
+
+  module _ {j : View} (id : ℕ) (numbered : Kept i j) (number : Sound (ReadsUnsigned 8) i j id) where
+    behind_id_stopped : Stops (StopsAfterNumber indefinite id) j b e → Stops StopsStation a b e
+    behind_id_stopped s =
+        behind_opening_stopped (second_stopped (ReadsUnsigned 8) (StopsUnsigned (codes "u64") 8)
+        (StopsAfterNumber indefinite) numbered number s)
+
+    pub no_name_stopped : Stops (StopsText (codes "str")) j b e → Stops StopsStation a b e
+    no_name_stopped s =
+        behind_id_stopped (first_stopped (ReadsTextAs text_content) (StopsText (codes "str"))
+        (λ name. StopsEnd indefinite) s)
+
+    pub unended_stopped : {k : View} (name : String Global) → Kept j k
+        → Sound (ReadsTextAs text_content) j k name → Stops (StopsEnd indefinite) k b e
+        → Stops StopsStation a b e
+    unended_stopped name named text s =
+        behind_id_stopped (second_stopped (ReadsTextAs text_content) (StopsText (codes "str"))
+        (λ name. StopsEnd indefinite) named text s)
+
+pub station_sound : {a i j k b : View} (indefinite : Bool) (id : ℕ) (name : String Global)
+    → Kept a i → Sound ReadsOpening a i indefinite → Kept i j → Sound (ReadsUnsigned 8) i j id
+    → Kept j k → Sound (ReadsTextAs text_content) j k name → Sound (ReadsEnd indefinite) k b tt
+    → Sound ReadsStation a b (record { id = id; name = name })
+station_sound indefinite id name opened opening numbered number named text end =
+    let last = then_sound (ReadsTextAs text_content) (λ name. ReadsEnd indefinite) named text end in
+    let behind = then_sound (ReadsUnsigned 8) (ReadsAfterNumber indefinite) numbered number last in
+    let whole = then_sound ReadsOpening ReadsAfterOpening opened opening behind in
+    sound_as (ReadsThen ReadsOpening ReadsAfterOpening) ReadsStation
+    (λ xs n c h. (indefinite, h)) whole

@@ -1,0 +1,5 @@
+-- What the records of a user's own are read and written as, and parts one behind another.
+pub mod Then
+pub mod Station
+pub mod StationLaws
+pub mod Nest

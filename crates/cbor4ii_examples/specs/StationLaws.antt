@@ -1,0 +1,128 @@
+-- A station is read in one way, from its own bytes alone.
+use Rattle.std.proofs.Common.{◌≡◌, ℕ, List, [], ◌∷◌, ◌++◌, take, Bool, true, false}
+use Rattle.std.proofs.Common.{refl, sym, ◌∙◌, subst, arith}
+use Rattle.cbor4ii_items.specs.Head.{break, open_head}
+use Rattle.cbor4ii_items.specs.Laws.Heads.{head_one, head_read, head_alone}
+use Rattle.cbor4ii_items.specs.Numbers.{ReadsUnsigned}
+use Rattle.cbor4ii_items.specs.Laws.Arguments.{unsigned_one, unsigned_within, unsigned_alone}
+use Rattle.cbor4ii_items.specs.Strings.{ReadsTextAs, text_content}
+use Rattle.cbor4ii_items.specs.Laws.Strings.{head_not_open, text_one, text_within, text_alone}
+use Rattle.cbor4ii_items.specs.Laws.Containers.{first_kept}
+use Rattle.cbor4ii_items.specs.Laws.Sequences.{one_byte}
+use Rattle.cbor4ii_examples.specs.declared.station.Station.{Station}
+use Rattle.cbor4ii_examples.specs.Then.{InOneWay, Within, Positive, Alone, Carries}
+use Rattle.cbor4ii_examples.specs.Then.{then_one, then_within, then_positive, then_alone}
+use Rattle.cbor4ii_examples.specs.Station.{ReadsOpening, ReadsEnd, AfterNumber, AfterOpening}
+use Rattle.cbor4ii_examples.specs.Station.{ReadsAfterNumber}
+use Rattle.cbor4ii_examples.specs.Station.{ReadsAfterOpening, ReadsStation, SameStation}
+
+-- ---- the opening
+
+pub opening_one : InOneWay ReadsOpening (λ v w. v ≡ w)
+opening_one xs false false n m c d p q =
+    ((head_one 4 8 xs 2 2 n m (omega arith) p.0 q.0).0, p.1 ∙ sym q.1, refl)
+opening_one xs false true n m c d p q = absurd (head_not_open 4 xs 2 n (omega arith) p.0 q.0)
+opening_one xs true false n m c d p q = absurd (head_not_open 4 xs 2 m (omega arith) q.0 p.0)
+opening_one xs true true n m c d p q = (p.1 ∙ sym q.1, p.2 ∙ sym q.2, refl)
+
+byte_alone : (b n : ℕ) (xs ys : List ℕ) → take 1 xs ≡ b ∷ [] → n ≡ 1
+    → take 1 (take n xs ++ ys) ≡ b ∷ []
+byte_alone b n xs ys e one =
+    first_kept n xs ys (omega (arith, one)) (omega (arith, one, one_byte xs b e)) ∙ e
+
+opening_within : Within ReadsOpening
+opening_within xs false n c p = (head_read [] 4 8 xs 2 n (omega arith) p.0).1
+opening_within xs true n c p = omega (arith, p.1, one_byte xs (open_head 4) p.0)
+
+opening_positive : Positive ReadsOpening
+opening_positive xs false n c p = (head_read [] 4 8 xs 2 n (omega arith) p.0).2
+opening_positive xs true n c p = omega (arith, p.1)
+
+opening_alone : Alone ReadsOpening
+opening_alone xs ys false n c p = (head_alone 4 8 xs ys 2 n p.0, p.1)
+opening_alone xs ys true n c p = (byte_alone (open_head 4) n xs ys p.0 p.1, p.1, p.2)
+
+-- ---- the end
+
+end_one : (indefinite : Bool) → InOneWay (ReadsEnd indefinite) (λ v w. Unit {0})
+end_one false xs v w n m c d p q = (p.0 ∙ sym q.0, p.1 ∙ sym q.1, tt)
+end_one true xs v w n m c d p q = (p.1 ∙ sym q.1, p.2 ∙ sym q.2, tt)
+
+end_within : (indefinite : Bool) → Within (ReadsEnd indefinite)
+end_within false xs v n c p = omega (arith, p.0)
+end_within true xs v n c p = omega (arith, p.1, one_byte xs break p.0)
+
+end_alone : (indefinite : Bool) → Alone (ReadsEnd indefinite)
+end_alone false xs ys v n c p = p
+end_alone true xs ys v n c p = (byte_alone break n xs ys p.0 p.1, p.1, p.2)
+
+-- ---- one part behind another
+
+abbrev pub SameNamed : AfterNumber → AfterNumber → Type 0
+SameNamed v w = (text_content v.0 ≡ text_content w.0) × Unit {0}
+
+abbrev pub SameNumbered : AfterOpening → AfterOpening → Type 0
+SameNumbered v w = (v.0 ≡ w.0) × SameNamed v.1 w.1
+
+named_one : (indefinite : Bool) (id : ℕ) → InOneWay (ReadsAfterNumber indefinite id) SameNamed
+named_one indefinite id =
+    then_one (ReadsTextAs text_content) (λ name. ReadsEnd indefinite)
+    (λ v w. text_content v ≡ text_content w) (λ v w. Unit {0}) (λ a b xs v n c e h. h)
+    (text_one text_content) (λ name. end_one indefinite)
+
+numbered_one : (indefinite : Bool) → InOneWay (ReadsAfterOpening indefinite) SameNumbered
+numbered_one indefinite =
+    then_one (ReadsUnsigned 8) (ReadsAfterNumber indefinite) (λ v w. v ≡ w) SameNamed
+    (λ a b xs v n c e h. subst (λ id. ReadsAfterNumber indefinite id xs v n c) e h)
+    (unsigned_one 8) (named_one indefinite)
+
+named_within : (indefinite : Bool) (id : ℕ) → Within (ReadsAfterNumber indefinite id)
+named_within indefinite id =
+    then_within (ReadsTextAs text_content) (λ name. ReadsEnd indefinite)
+    (text_within text_content) (λ name. end_within indefinite)
+
+numbered_within : (indefinite : Bool) → Within (ReadsAfterOpening indefinite)
+numbered_within indefinite =
+    then_within (ReadsUnsigned 8) (ReadsAfterNumber indefinite)
+    (unsigned_within 8) (named_within indefinite)
+
+named_alone : (indefinite : Bool) (id : ℕ) → Alone (ReadsAfterNumber indefinite id)
+named_alone indefinite id =
+    then_alone (ReadsTextAs text_content) (λ name. ReadsEnd indefinite)
+    (text_within text_content) (text_alone text_content) (λ name. end_alone indefinite)
+
+numbered_alone : (indefinite : Bool) → Alone (ReadsAfterOpening indefinite)
+numbered_alone indefinite =
+    then_alone (ReadsUnsigned 8) (ReadsAfterNumber indefinite)
+    (unsigned_within 8) (unsigned_alone 8) (named_alone indefinite)
+
+-- what is read behind an opening is read behind the same opening
+pub carried : Carries (λ a b. a ≡ b) ReadsAfterOpening
+carried a b xs v n c e h = subst (λ indefinite. ReadsAfterOpening indefinite xs v n c) e h
+
+-- ---- a station
+
+abbrev parts : Bool → Station → Bool × AfterOpening
+parts indefinite v = (indefinite, (v.id, (v.name, tt)))
+
+pub station_one : InOneWay ReadsStation SameStation
+station_one xs v w n m c d p q =
+    let whole = then_one ReadsOpening ReadsAfterOpening (λ a b. a ≡ b) SameNumbered carried
+    opening_one numbered_one in
+    let r = whole xs (parts p.0 v) (parts q.0 w) n m c d p.1 q.1 in
+    (r.0, r.1, (r.2.1.0, r.2.1.1.0))
+
+pub station_within : Within ReadsStation
+station_within xs v n c p =
+    then_within ReadsOpening ReadsAfterOpening opening_within numbered_within xs (parts p.0 v) n c
+    p.1
+
+pub station_positive : Positive ReadsStation
+station_positive xs v n c p =
+    then_positive ReadsOpening ReadsAfterOpening opening_positive xs (parts p.0 v) n c p.1
+
+pub station_alone : Alone ReadsStation
+station_alone xs ys v n c p =
+    let whole =
+    then_alone ReadsOpening ReadsAfterOpening opening_within opening_alone numbered_alone in
+    (p.0, whole xs ys (parts p.0 v) n c p.1)

@@ -1,0 +1,65 @@
+//! Maps of two members, one written and one read by hand, with no contract.
+use cbor4ii_items::decode::Decode;
+use cbor4ii_items::encode::Encode;
+use cbor4ii_items::indefinite::is_break;
+use cbor4ii_items::types::{Bytes, Map, Tag};
+use cbor4ii_rw::buf_writer::BufWriter;
+use cbor4ii_rw::error::{DecodeError, EncodeError, TryReserveError};
+use cbor4ii_rw::read::Source;
+use std::alloc::Global;
+
+/// Writes a map of two members, by hand.
+pub fn write_record(
+    alloc: Global,
+    id: u64,
+    key: &[u8],
+) -> Result<Vec<u8>, EncodeError<TryReserveError>> {
+    let mut writer = BufWriter::new(Vec::new(alloc));
+    Map::bounded(2, &mut writer)?;
+    "id".encode(&mut writer)?;
+    id.encode(&mut writer)?;
+    "key".encode(&mut writer)?;
+    Tag(42, Bytes(key)).encode(&mut writer)?;
+    Ok(writer.into_inner())
+}
+
+/// A number and a name.
+#[derive(Drop)]
+pub struct Record {
+    /// The number, under the key "id".
+    pub id: u64,
+    /// The name, under the key "name".
+    pub name: String,
+}
+
+/// A record out of a map of indefinite length, its members in any order; none where the map is
+/// another one. The name has a tag, which is not looked at.
+///
+/// # Errors
+///
+/// As the head of the map, a key, or what stands under it is refused; of `is_break` where the input
+/// ends in the place of a key.
+pub fn decode_record<S: Source>(
+    alloc: Global,
+    reader: &mut S,
+) -> Result<Option<Record>, DecodeError<S::Error>> {
+    let mut id = None;
+    let mut name = None;
+    if Map::len(reader)?.is_some() {
+        return Ok(None);
+    }
+    while !is_break(reader)? {
+        match String::decode(alloc, reader)?.as_str() {
+            "id" => id = Some(u64::decode(alloc, reader)?),
+            "name" => name = Some(<Tag<String>>::decode(alloc, reader)?.1),
+            _ => return Ok(None),
+        }
+    }
+    match (id, name) {
+        (Some(id), Some(name)) => Ok(Some(Record { id, name })),
+        _ => Ok(None),
+    }
+}
+
+#[cfg(test)]
+mod tests;

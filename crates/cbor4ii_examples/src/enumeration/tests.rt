@@ -1,0 +1,263 @@
+//! Rows of enums, read by a function, and written and read by the calls for one value.
+ghost use Rattle.std.specs.Prelude.{codes, true, false};
+ghost use Rattle.cbor4ii_ser.specs.Item.{variant_item};
+ghost use Rattle.cbor4ii.specs.Accessing.{Finishes};
+ghost use Rattle.cbor4ii.specs.Typed.{any_two, not_exact, unsaid, unsaid_stops, input, answer_of};
+ghost use Rattle.cbor4ii.specs.Variants.{inside_enum};
+ghost use Rattle.cbor4ii_examples.specs.declared.enumeration.tests.Letters.TheVariants.{A};
+
+use crate::enumeration::{Enum, read_enum};
+use cbor4ii::serde::{
+    DecodeError, Deserialize, Deserializer, EncodeError, EnumAccessor, Serialize, Serializer,
+    Typed, to_writer,
+};
+use cbor4ii_rw::error::StaticStr;
+use cbor4ii_rw::read::Source;
+use cbor4ii_rw::write::Write;
+use cbor4ii_vectors::{mismatch, no_step, table};
+use cbor4ii_vectors_de::typed::{Answer, BothTold, RowTold, RowToldWithin, Take, come_back, tells};
+use std::alloc::Global;
+use std::test::Fail;
+
+impl Take for Enum {
+    fn take<S: Source>(
+        alloc: Global,
+        de: &mut Deserializer<S>,
+    ) -> Result<Enum, DecodeError<S::Error>> {
+        read_enum(alloc, de)
+    }
+}
+
+const VARIANTS: &[BothTold] = table! {
+    (b"\x64Unit", "Is(Unit)"),
+    // 0x999, and then 0x99 and -0x99.
+    (b"\xa1\x67NewType\x19\x09\x99", "Is(NewType(2457))"),
+    (b"\xa1\x65Tuple\x82\x63123\xf4", "Is(Tuple(\"123\", false))"),
+    (b"\xa1\x66Struct\xa2\x61x\x18\x99\x61y\x38\x98", "Is(Struct { x: 153, y: -153 })"),
+};
+
+const VARIANTS_READ: &[RowTold] = table! {
+    (b"\x64Unit\x00", Ok("Is(Unit)"), b"\x00"),
+    (b"\x65Other", Ok("Custom(\"another variant\")"), b""),
+    (b"\x66Struct\xa0", Err(mismatch!("enum", 102)), b"\xa0"),
+    (b"\xa1\x66Struct\xa1\x61x\x01", Ok("Custom(\"a field is missing\")"), b""),
+    (b"\xa1\x64Unit\x01", Err(mismatch!("enum", 161)), b"\x01"),
+};
+
+const VARIANTS_WITHIN: &[RowToldWithin] = table! {
+    (b"\x64Unit", 0, Err(no_step!("enum")), b"\x64Unit"),
+};
+
+#[test]
+fn variants_are_written_and_read(rt: HostRuntime) -> Result<(), Fail> {
+    tells::<Answer<Enum>>(rt.alloc(), VARIANTS, VARIANTS_READ, VARIANTS_WITHIN)
+}
+
+impl Typed for Enum {
+    ghost reads = { unsaid };
+
+    ghost stops = { unsaid_stops };
+
+    ghost same = { any_two };
+
+    ghost owned = { true };
+
+    ghost takes_memory = { true };
+
+    ghost exact = { false };
+
+    ghost laws = { not_exact };
+}
+
+const ENUM: [StaticStr; 4] = ["Unit", "NewType", "Tuple", "Struct"];
+
+impl<S: Source> Deserialize<S> for Enum {
+    fn deserialize(alloc: Global, de: &mut Deserializer<S>) -> Result<Enum, DecodeError<S::Error>> {
+        match de.deserialize_enum("Enum", &ENUM) {
+            Ok(mut variant) => match variant.variant::<String>(alloc) {
+                Ok(name) => read_content(alloc, variant, name.as_str()),
+                Err(error) => Err(error),
+            },
+            Err(error) => Err(error),
+        }
+    }
+}
+
+/// Reads what the variant of this name holds, each content in one call.
+fn read_content<S: Source>(
+    alloc: Global,
+    variant: EnumAccessor<'_, S>,
+    name: &str,
+) -> Result<Enum, DecodeError<S::Error>>
+    ensures { Finishes 1 (inside_enum S.view variant.entry) (input S.view variant.exit.0.now)
+        (answer_of result) }
+{
+    match name {
+        "Unit" => match variant.unit_variant() {
+            Ok(()) => Ok(Enum::Unit),
+            Err(error) => Err(error),
+        },
+        "NewType" => match variant.newtype_variant(alloc) {
+            Ok(number) => Ok(Enum::NewType(number)),
+            Err(error) => Err(error),
+        },
+        "Tuple" => match variant.newtype_variant(alloc) {
+            Ok((text, flag)) => Ok(Enum::Tuple(text, flag)),
+            Err(error) => Err(error),
+        },
+        "Struct" => match variant.newtype_variant(alloc) {
+            Ok(Fields { x, y }) => Ok(Enum::Struct { x, y }),
+            Err(error) => Err(error),
+        },
+        _ => Err(DecodeError::Custom("another variant")),
+    }
+}
+
+/// The fields of `Enum::Struct`.
+#[derive(Drop)]
+struct Fields {
+    x: u32,
+    y: i32,
+}
+
+impl Typed for Fields {
+    ghost reads = { unsaid };
+
+    ghost stops = { unsaid_stops };
+
+    ghost same = { any_two };
+
+    ghost owned = { true };
+
+    ghost takes_memory = { true };
+
+    ghost exact = { false };
+
+    ghost laws = { not_exact };
+}
+
+impl<S: Source> Deserialize<S> for Fields {
+    fn deserialize(
+        alloc: Global,
+        de: &mut Deserializer<S>,
+    ) -> Result<Fields, DecodeError<S::Error>> {
+        match de.deserialize_2_fields(alloc, "Struct", "x", "y") {
+            Ok((x, y)) => match (x, y) {
+                (Some(x), Some(y)) => Ok(Fields { x, y }),
+                _ => Err(DecodeError::Custom("a field is missing")),
+            },
+            Err(error) => Err(error),
+        }
+    }
+}
+
+const VALUES: &[BothTold] = table! {
+    (b"\x64Unit", "Unit"),
+    // 0x999, and then 0x99 and -0x99.
+    (b"\xa1\x67NewType\x19\x09\x99", "NewType(2457)"),
+    (b"\xa1\x65Tuple\x82\x63123\xf4", "Tuple(\"123\", false)"),
+    (b"\xa1\x66Struct\xa2\x61x\x18\x99\x61y\x38\x98", "Struct { x: 153, y: -153 }"),
+};
+
+#[test]
+fn variants_come_back(rt: HostRuntime) -> Result<(), Fail> {
+    come_back::<Enum>(rt.alloc(), VALUES)
+}
+
+/// An enum of one variant, which holds a text.
+#[derive(Debug, PartialEq, Drop)]
+enum Letters {
+    A(String),
+}
+
+impl Serialize for Letters {
+    ghost item = { λ l. elim l [
+      | A s ↦ variant_item (codes "A") (⟦<String as Serialize>⟧.item s)
+    ] };
+
+    fn serialize<W: Write>(&self, ser: &mut Serializer<W>) -> Result<(), EncodeError<W::Error>> {
+        let Letters::A(text) = self;
+        ser.serialize_newtype_variant("Letters", 0, "A", text)
+    }
+}
+
+impl Typed for Letters {
+    ghost reads = { unsaid };
+
+    ghost stops = { unsaid_stops };
+
+    ghost same = { any_two };
+
+    ghost owned = { true };
+
+    ghost takes_memory = { true };
+
+    ghost exact = { false };
+
+    ghost laws = { not_exact };
+}
+
+impl<S: Source> Deserialize<S> for Letters {
+    fn deserialize(
+        alloc: Global,
+        de: &mut Deserializer<S>,
+    ) -> Result<Letters, DecodeError<S::Error>> {
+        match de.deserialize_enum("Letters", &["A"]) {
+            Ok(mut variant) => match variant.variant::<String>(alloc) {
+                Ok(name) => read_letters(alloc, variant, name.as_str()),
+                Err(error) => Err(error),
+            },
+            Err(error) => Err(error),
+        }
+    }
+}
+
+/// Reads what the variant of this name holds.
+fn read_letters<S: Source>(
+    alloc: Global,
+    variant: EnumAccessor<'_, S>,
+    name: &str,
+) -> Result<Letters, DecodeError<S::Error>>
+    ensures { Finishes 1 (inside_enum S.view variant.entry) (input S.view variant.exit.0.now)
+        (answer_of result) }
+{
+    match name {
+        "A" => match variant.newtype_variant(alloc) {
+            Ok(text) => Ok(Letters::A(text)),
+            Err(error) => Err(error),
+        },
+        _ => Err(DecodeError::Custom("another variant")),
+    }
+}
+
+impl Take for Letters {
+    fn take<S: Source>(
+        alloc: Global,
+        de: &mut Deserializer<S>,
+    ) -> Result<Letters, DecodeError<S::Error>> {
+        Self::deserialize(alloc, de)
+    }
+}
+
+const EMPTY_TEXT: &[BothTold] = table! {
+    (b"\xa1\x61A\x60", "A(\"\")"),
+};
+
+const EMPTY_TEXT_ANSWERED: &[BothTold] = table! {
+    (b"\xa1\x61A\x60", "Is(A(\"\"))"),
+};
+
+// The empty text of the variant is written into a room that is just as long.
+fn is_written_into_room(alloc: Global) -> Result<bool, Fail> {
+    let mut room = [0u8; 4];
+    to_writer(room.as_mut_slice(), &Letters::A(String::new(alloc)))?;
+    Ok(room == *b"\xa1\x61A\x60")
+}
+
+#[test]
+fn an_empty_text_in_a_variant_comes_back(rt: HostRuntime) -> Result<(), Fail> {
+    let alloc = rt.alloc();
+    assert!(rt; is_written_into_room(alloc)?);
+    come_back::<Letters>(alloc, EMPTY_TEXT)?;
+    tells::<Answer<Letters>>(alloc, EMPTY_TEXT_ANSWERED, &[], &[])
+}

@@ -1,0 +1,119 @@
+//! Rows of an enum, alone and inside other types.
+use crate::event::Event;
+use cbor4ii::serde::{DecodeError, Deserialize, Deserializer, EncodeError, Serialize, Serializer};
+use cbor4ii_rw::read::Source;
+use cbor4ii_rw::write::Write;
+use cbor4ii_vectors::{eof, mismatch, no_step, require_length, table};
+use cbor4ii_vectors_de::typed::{
+    Answer, BothTold, Refused, RowTold, RowToldWithin, Take, comes_back, refuses, tells,
+};
+use std::alloc::Global;
+use std::collections::BTreeMap;
+use std::test::Fail;
+
+impl Take for Event {
+    fn take<S: Source>(
+        alloc: Global,
+        de: &mut Deserializer<S>,
+    ) -> Result<Self, DecodeError<S::Error>> {
+        Self::deserialize(alloc, de)
+    }
+}
+
+const EVENTS_REFUSED: &[Refused] = table! {
+    (b"", eof!("enum", 1), b""),
+    (b"\x05", mismatch!("enum", 5), b"\x05"),
+    (b"\xa1\x67Started\x00", mismatch!("enum", 161), b"\x00"),
+    (b"\x65Moved\x00", mismatch!("enum", 101), b"\x00"),
+    (b"\xa1\x65Moved\x81\x01", require_length!("tuple", 1), b"\x01"),
+    (b"\xa1\x65Moved\x82\x01\xf6", mismatch!("i32", 246), b"\xf6"),
+    (b"\xa1\x65Named\x80", mismatch!("map", 128), b""),
+};
+
+const SAMPLED: &[u8] = b"\xa1\x67Sampled\xa3\x66sensor\x62t1\x65value\x38\x63\x64note\xf6";
+
+const SAMPLED_TOLD: &str = "Is(Sampled(Sample { sensor: \"t1\", value: -100, note: None }))";
+
+const NOTED: &[u8] = b"\xa1\x67Sampled\xa3\x66sensor\x62t1\x65value\x38\x63\x64note\x64cold";
+
+const NOTED_TOLD: &str =
+    "Is(Sampled(Sample { sensor: \"t1\", value: -100, note: Some(\"cold\") }))";
+
+const EVENTS: &[BothTold] = table! {
+    (b"\x67Started", "Is(Started)"),
+    (SAMPLED, SAMPLED_TOLD),
+    (NOTED, NOTED_TOLD),
+    (b"\xa1\x65Moved\x82\x01\x20", "Is(Moved(1, -1))"),
+    (b"\xa1\x65Named\xa2\x62id\x19\x01\xf4\x64name\x61a", "Is(Named { id: 500, name: \"a\" })"),
+};
+
+const EVENTS_READ: &[RowTold] = table! {
+    (b"\x67Stopped\x00", Ok("Custom(\"no such event\")"), b"\x00"),
+    (b"\xa1\x65Named\xa0\x00", Ok("Custom(\"a name has no id or no text\")"), b"\x00"),
+};
+
+const EVENTS_WITHIN: &[RowToldWithin] = table! {
+    (b"\x67Started", 0, Err(no_step!("enum")), b"\x67Started"),
+    (b"\x67Started", 1, Ok("Is(Started)"), b""),
+    (b"\xa1\x65Moved\x82\x01\x20", 1, Err(no_step!("tuple")), b"\x82\x01\x20"),
+    (b"\xa1\x65Moved\x82\x01\x20", 2, Ok("Is(Moved(1, -1))"), b""),
+};
+
+#[test]
+fn events_are_written_and_read(rt: HostRuntime) -> Result<(), Fail> {
+    let alloc = rt.alloc();
+    tells::<Answer<Event>>(alloc, EVENTS, EVENTS_READ, EVENTS_WITHIN)?;
+    refuses::<Answer<Event>>(alloc, EVENTS_REFUSED)
+}
+
+const ARRAY_OF_EVENTS: &[u8] = b"\x83\x67Started\
+\xa1\x67Sampled\xa3\x66sensor\x62t1\x65value\x38\x63\x64note\xf6\
+\xa1\x65Named\xa2\x62id\x19\x01\xf4\x64name\x61a";
+
+const ARRAY_OF_EVENTS_TOLD: &str = "[Started, \
+Sampled(Sample { sensor: \"t1\", value: -100, note: None }), \
+Named { id: 500, name: \"a\" }]";
+
+#[test]
+fn a_vector_of_events_comes_back(rt: HostRuntime) -> Result<(), Fail> {
+    comes_back::<Vec<Event>>(rt.alloc(), ARRAY_OF_EVENTS, ARRAY_OF_EVENTS_TOLD)
+}
+
+/// Events by their numbers.
+#[derive(Debug, Drop)]
+struct Log(BTreeMap<u8, Event>);
+
+impl Serialize for Log {
+    ghost item = { λ log. ⟦<BTreeMap<u8, Event> as Serialize>⟧.item log.0 };
+
+    fn serialize<W: Write>(&self, ser: &mut Serializer<W>) -> Result<(), EncodeError<W::Error>> {
+        self.0.serialize(ser)
+    }
+}
+
+impl Take for Log {
+    fn take<S: Source>(
+        alloc: Global,
+        de: &mut Deserializer<S>,
+    ) -> Result<Self, DecodeError<S::Error>> {
+        Ok(Log(BTreeMap::deserialize(alloc, de)?))
+    }
+}
+
+const MAP_OF_EVENTS: &[u8] = b"\xa4\x01\x67Started\x02\
+\xa1\x67Sampled\xa3\x66sensor\x62t1\x65value\x38\x63\x64note\xf6\x03\
+\xa1\x65Moved\x82\x01\x20\x04\
+\xa1\x65Named\xa2\x62id\x19\x01\xf4\x64name\x61a";
+
+const MAP_OF_EVENTS_TOLD: &str = "Is(Log({1: Started, \
+2: Sampled(Sample { sensor: \"t1\", value: -100, note: None }), \
+3: Moved(1, -1), 4: Named { id: 500, name: \"a\" }}))";
+
+const MAPS_OF_EVENTS: &[BothTold] = table! {
+    (MAP_OF_EVENTS, MAP_OF_EVENTS_TOLD),
+};
+
+#[test]
+fn a_map_of_events_is_written_and_read(rt: HostRuntime) -> Result<(), Fail> {
+    tells::<Answer<Log>>(rt.alloc(), MAPS_OF_EVENTS, &[], &[])
+}

@@ -1,0 +1,40 @@
+//! Rows of a type that holds values of its own kind.
+use crate::nest::{Nest, read_nest};
+use cbor4ii::serde::{DecodeError, Deserializer};
+use cbor4ii_rw::read::Source;
+use cbor4ii_vectors::{eof, mismatch, no_step, table};
+use cbor4ii_vectors_de::typed::{Answer, BothTold, RowTold, RowToldWithin, Take, tells};
+use std::alloc::Global;
+use std::test::Fail;
+
+impl Take for Nest {
+    fn take<S: Source>(
+        alloc: Global,
+        de: &mut Deserializer<S>,
+    ) -> Result<Nest, DecodeError<S::Error>> {
+        read_nest(alloc, de)
+    }
+}
+
+const TWO_LISTS: &str =
+    "Is(Nest { inner: [Nest { inner: [] }, Nest { inner: [Nest { inner: [] }] }] })";
+
+const NESTS_BOTH: &[BothTold] = table! {
+    (b"\x80", "Is(Nest { inner: [] })"),
+    (b"\x82\x80\x81\x80", TWO_LISTS),
+};
+
+const NESTS: &[RowTold] = table! {
+    (b"\x82\x80\x9f\x80\xff\x01", Ok(TWO_LISTS), b"\x01"),
+    (b"\x82\x80\x05\x01", Err(mismatch!("array", 5)), b"\x01"),
+    (b"\x9f\x80", Err(eof!("break", 1)), b""),
+};
+
+const NESTS_WITHIN: &[RowToldWithin] = table! {
+    (b"\x81\x81\x80", 2, Err(no_step!("seq")), b"\x80"),
+};
+
+#[test]
+fn lists_in_lists_are_written_and_read(rt: HostRuntime) -> Result<(), Fail> {
+    tells::<Answer<Nest>>(rt.alloc(), NESTS_BOTH, NESTS, NESTS_WITHIN)
+}

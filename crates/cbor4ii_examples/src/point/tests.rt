@@ -1,0 +1,187 @@
+//! Rows of a struct with an optional field, which is written and read in one call each, alone and
+//! as a field of another.
+ghost use Rattle.std.specs.Prelude.{◌∷◌, [], codes};
+ghost use Rattle.cbor4ii_ser.specs.Item.{field, struct_item};
+
+use crate::point::{Point, point_is_one_item, point_is_read_back};
+use cbor4ii::serde::{DecodeError, Deserialize, Deserializer, EncodeError, Serialize, Serializer};
+use cbor4ii_rw::error::Never;
+use cbor4ii_rw::read::Source;
+use cbor4ii_rw::write::Write;
+use cbor4ii_vectors::{eof, mismatch, no_step, table};
+use cbor4ii_vectors_de::typed::{
+    Answer, BothTold, Refused, RowTold, RowToldWithin, Take, comes_back, refuses, tells, tells_all,
+};
+use std::alloc::Global;
+use std::test::Fail;
+
+impl Take for Point {
+    fn take<S: Source>(
+        alloc: Global,
+        de: &mut Deserializer<S>,
+    ) -> Result<Self, DecodeError<S::Error>> {
+        Self::deserialize(alloc, de)
+    }
+}
+
+// The README's example, there and back.
+#[test]
+fn a_point_comes_back(rt: HostRuntime) -> Result<(), Fail> {
+    comes_back::<Point>(
+        rt.alloc(),
+        b"\xa3\x61x\x05\x64name\x61a\x61y\x20",
+        "Point { x: 5, name: \"a\", y: Some(-1) }",
+    )
+}
+
+#[test]
+fn the_laws_are_called(rt: HostRuntime) -> Result<(), Fail> {
+    let point = Point {
+        x: 5,
+        name: String::from_str(rt.alloc(), "a")?,
+        y: None,
+    };
+    point_is_one_item(&point);
+    point_is_read_back::<Never>(rt.alloc(), &point);
+    Ok(())
+}
+
+const WITHOUT_Y: &str = "Is(Point { x: 5, name: \"a\", y: None })";
+
+const WITH_Y: &str = "Is(Point { x: 5, name: \"a\", y: Some(-1) })";
+
+const POINTS_REFUSED: &[Refused] = table! {
+    (b"\xa1\x61x\x20\x01", mismatch!("u32", 32), b"\x01"),
+    (b"\xa1\x01\x02", mismatch!("str", 1), b"\x02"),
+    (b"\xa1\x61z", eof!("ignored-any", 1), b""),
+    (b"\xbf\x61x\x05", eof!("break", 1), b""),
+    (b"\x83\x05", mismatch!("map", 131), b"\x05"),
+};
+
+const POINTS: &[BothTold] = table! {
+    (b"\xa3\x61x\x05\x64name\x61a\x61y\xf6", WITHOUT_Y),
+    (b"\xa3\x61x\x05\x64name\x61a\x61y\x20", WITH_Y),
+};
+
+const POINTS_READ: &[RowTold] = table! {
+    (b"\xbf\x61y\x20\x64name\x61a\x61x\x05\xff\x00", Ok(WITH_Y), b"\x00"),
+    (b"\xa4\x61z\x81\x82\x01\x02\x61y\x20\x61x\x05\x64name\x61a", Ok(WITH_Y), b""),
+    (b"\xa4\x61x\x04\x61y\x20\x61x\x05\x64name\x61a\xff", Ok(WITH_Y), b"\xff"),
+    // Only y may be missing.
+    (b"\xa2\x61x\x05\x64name\x61a", Ok(WITHOUT_Y), b""),
+    (b"\xa2\x61x\x05\x61y\xf6", Ok("Custom(\"a field is missing\")"), b""),
+    (b"\xa2\x64name\x61a\x61y\x20", Ok("Custom(\"a field is missing\")"), b""),
+};
+
+const POINTS_WITHIN: &[RowToldWithin] = table! {
+    (b"\xa0", 0, Err(no_step!("map")), b"\xa0"),
+    (b"\xa1\x61y\x05", 1, Err(no_step!("option")), b"\x05"),
+};
+
+#[test]
+fn points_are_written_and_read(rt: HostRuntime) -> Result<(), Fail> {
+    let alloc = rt.alloc();
+    tells::<Answer<Point>>(alloc, POINTS, POINTS_READ, POINTS_WITHIN)?;
+    refuses::<Answer<Point>>(alloc, POINTS_REFUSED)
+}
+
+/// A struct of four fields, one of which is a struct itself.
+#[derive(Debug, PartialEq, Drop)]
+struct Whole {
+    a: u8,
+    b: Option<u8>,
+    c: Vec<u8>,
+    d: Point,
+}
+
+impl Serialize for Whole {
+    ghost item = { λ w. struct_item (field (codes "a") (⟦<u8 as Serialize>⟧.item w.a)
+        ∷ field (codes "b") (⟦<Option<u8> as Serialize>⟧.item w.b)
+        ∷ field (codes "c") (⟦<Vec<u8> as Serialize>⟧.item w.c)
+        ∷ field (codes "d") (⟦<Point as Serialize>⟧.item w.d) ∷ []) };
+
+    fn serialize<W: Write>(&self, ser: &mut Serializer<W>) -> Result<(), EncodeError<W::Error>> {
+        ser.serialize_4_fields(
+            "Whole",
+            ("a", &self.a),
+            ("b", &self.b),
+            ("c", &self.c),
+            ("d", &self.d),
+        )
+    }
+}
+
+const MISSING: &str = "a field is missing";
+
+impl Take for Whole {
+    fn take<S: Source>(
+        alloc: Global,
+        de: &mut Deserializer<S>,
+    ) -> Result<Whole, DecodeError<S::Error>> {
+        let (a, b, c, d) = de.deserialize_4_fields(alloc, "Whole", "a", "b", "c", "d")?;
+        match (a, b, c, d) {
+            (Some(a), Some(b), Some(c), Some(d)) => Ok(Whole { a, b, c, d }),
+            _ => Err(DecodeError::Custom(MISSING)),
+        }
+    }
+}
+
+/// The same struct, by a type that does not know c.
+#[derive(Debug, PartialEq, Drop)]
+struct WithoutC(u8, Option<u8>, Point);
+
+impl Take for WithoutC {
+    fn take<S: Source>(
+        alloc: Global,
+        de: &mut Deserializer<S>,
+    ) -> Result<WithoutC, DecodeError<S::Error>> {
+        match de.deserialize_3_fields(alloc, "Whole", "a", "b", "d")? {
+            (Some(a), Some(b), Some(d)) => Ok(WithoutC(a, b, d)),
+            _ => Err(DecodeError::Custom(MISSING)),
+        }
+    }
+}
+
+/// The same struct, by a type that does not know d, and knows e, which may be missing.
+#[derive(Debug, PartialEq, Drop)]
+struct WithoutD(u8, Vec<u8>, Option<u8>);
+
+impl Take for WithoutD {
+    fn take<S: Source>(
+        alloc: Global,
+        de: &mut Deserializer<S>,
+    ) -> Result<WithoutD, DecodeError<S::Error>> {
+        let (a, c, e) = de.deserialize_3_fields(alloc, "Whole", "a", "c", "e")?;
+        match (a, c) {
+            (Some(a), Some(c)) => Ok(WithoutD(a, c, e)),
+            _ => Err(DecodeError::Custom(MISSING)),
+        }
+    }
+}
+
+const WHOLE: &[u8] = b"\xa4\x61a\x01\x61b\x02\x61c\x82\x03\x04\x61d\
+\xa3\x61x\x05\x64name\x61a\x61y\xf6";
+
+const WHOLES: &[BothTold] = table! {
+    (WHOLE, "Is(Whole { a: 1, b: Some(2), c: [3, 4], d: Point { x: 5, name: \"a\", y: None } })"),
+};
+
+const WHOLES_READ: &[RowTold] = table! {
+    (b"\xa1\x61a\x01", Ok("Custom(\"a field is missing\")"), b""),
+};
+
+const WITHOUT_C: &[RowTold] = table! {
+    (WHOLE, Ok("Is(WithoutC(1, Some(2), Point { x: 5, name: \"a\", y: None }))"), b""),
+};
+
+const WITHOUT_D: &[RowTold] = table! {
+    (WHOLE, Ok("Is(WithoutD(1, [3, 4], None))"), b""),
+};
+
+#[test]
+fn fields_that_a_type_does_not_know_are_skipped(rt: HostRuntime) -> Result<(), Fail> {
+    let alloc = rt.alloc();
+    tells::<Answer<Whole>>(alloc, WHOLES, WHOLES_READ, &[])?;
+    tells_all::<Answer<WithoutC>>(alloc, WITHOUT_C, &[])?;
+    tells_all::<Answer<WithoutD>>(alloc, WITHOUT_D, &[])
+}

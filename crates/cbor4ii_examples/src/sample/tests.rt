@@ -1,0 +1,41 @@
+//! Rows of a struct that is written part by part.
+use crate::sample::Sample;
+use cbor4ii::serde::{DecodeError, Deserialize, Deserializer};
+use cbor4ii_rw::read::Source;
+use cbor4ii_vectors::{mismatch, no_step, table};
+use cbor4ii_vectors_de::typed::{Answer, RowTold, RowToldWithin, Take, tells_all};
+use std::alloc::Global;
+use std::test::Fail;
+
+impl Take for Sample {
+    fn take<S: Source>(
+        alloc: Global,
+        de: &mut Deserializer<S>,
+    ) -> Result<Self, DecodeError<S::Error>> {
+        Self::deserialize(alloc, de)
+    }
+}
+
+const WITHOUT_NOTE: &str = "Is(Sample { sensor: \"t1\", value: -100, note: None })";
+
+const WITH_NOTE: &str = "Is(Sample { sensor: \"t1\", value: -100, note: Some(\"cold\") })";
+
+const SAMPLES: &[RowTold] = table! {
+    // A note that is missing, and fields that are not known.
+    (b"\xbf\x65value\x38\x63\x66sensor\x62t1\xff\x01", Ok(WITHOUT_NOTE), b"\x01"),
+    (b"\xa4\x64unit\x61K\x66sensor\x62t1\x65value\x38\x63\x64note\x64cold", Ok(WITH_NOTE), b""),
+    (b"\xa1\x65value\x38\x63\x01", Ok("Custom(\"a sample has no sensor or no value\")"), b"\x01"),
+    (b"\x81\x00", Err(mismatch!("map", 129)), b"\x00"),
+    (b"\xa1\x66sensor\x05", Err(mismatch!("str", 5)), b""),
+    (b"\xa1\x65value\x61a", Err(mismatch!("i64", 97)), b"\x61a"),
+};
+
+const SAMPLES_WITHIN: &[RowToldWithin] = table! {
+    (b"\xa0", 0, Err(no_step!("map")), b"\xa0"),
+    (b"\xa1\x64note\x60", 1, Err(no_step!("option")), b"\x60"),
+};
+
+#[test]
+fn fields_may_come_in_any_order(rt: HostRuntime) -> Result<(), Fail> {
+    tells_all::<Answer<Sample>>(rt.alloc(), SAMPLES, SAMPLES_WITHIN)
+}

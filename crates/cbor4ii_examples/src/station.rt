@@ -1,0 +1,124 @@
+//! A record that is read and written by hand: what a type of one's own needs in order to be one.
+ghost use Rattle.std.specs.Prelude.{◌≡◌, ◌+◌, ◌≤◌, OnOk, IfOk, IfErr, true, false};
+ghost use Rattle.cbor4ii_items.specs.Moves.{Moves};
+ghost use Rattle.cbor4ii_items.specs.Refusal.{is_out_of_memory};
+ghost use Rattle.cbor4ii_items.specs.Decoding.{Sound, Refuses, Stops};
+ghost use Rattle.cbor4ii_examples.specs.Station.{station_bytes, ReadsOpening, ReadsEnd};
+ghost use Rattle.cbor4ii_examples.specs.Station.{ReadsStation, SameStation, StopsOpening, StopsEnd};
+ghost use Rattle.cbor4ii_examples.specs.Station.{StopsStation};
+ghost use Rattle.cbor4ii_examples.specs.StationLaws.{station_one, station_within, station_positive};
+ghost use Rattle.cbor4ii_examples.specs.StationLaws.{station_alone};
+
+use cbor4ii_items::decode::{Decode, Spelled};
+use cbor4ii_items::encode::Encode;
+use cbor4ii_items::indefinite::is_break;
+use cbor4ii_items::types::Array;
+use cbor4ii_rw::error::{DecodeError, EncodeError, Len};
+use cbor4ii_rw::read::Source;
+use cbor4ii_rw::write::Write;
+use std::alloc::Global;
+
+/// A weather station, which is an array of its number and its name.
+#[derive(Debug, PartialEq, Drop)]
+pub struct Station {
+    /// Its number.
+    pub id: u64,
+    /// Its name.
+    pub name: String,
+}
+
+impl Spelled for Station {
+    ghost reads = { ReadsStation };
+
+    ghost same = { SameStation };
+
+    ghost stops = { StopsStation };
+
+    ghost begins = { StopsStation };
+
+    ghost never_empty = { true };
+
+    ghost owned = { true };
+
+    ghost takes_memory = { true };
+
+    ghost closed = { true };
+
+    fn is_never_empty() -> bool {
+        true
+    }
+}
+
+/// Refused as its parts are, in their order: the length by the name "array", the number as a u64,
+/// the name as a text, and the break of an array of indefinite length. By the name "station":
+/// `RequireLength` with the count where it is not 2, what follows being left; `RequireLength` with
+/// `Indefinite` where another byte stands in the place of the break, and it is left.
+impl<S: Source> Decode<S> for Station {
+    fn decode(alloc: Global, reader: &mut S) -> Result<Station, DecodeError<S::Error>> {
+        let is_open = take_opening(reader)?;
+        let id = u64::decode(alloc, reader)?;
+        let name = String::decode(alloc, reader)?;
+        take_end(reader, is_open)?;
+        Ok(Station { id, name })
+    }
+
+    ghost one = { station_one };
+
+    ghost within = { station_within };
+
+    ghost positive = { λ _. station_positive };
+
+    ghost alone = { λ _. station_alone };
+}
+
+/// Takes the head of an array of two items, and answers whether its length is indefinite.
+fn take_opening<S: Source>(reader: &mut S) -> Result<bool, DecodeError<S::Error>>
+    ensures moves { Moves (S.view reader.old) (S.view reader.new) result }
+    ensures memory { IfErr result (λ error. is_out_of_memory error ≡ false) }
+    ensures progress { OnOk result ((S.view reader.new).bound + 1 ≤ (S.view reader.old).bound) }
+    ensures sound { IfOk result (Sound ReadsOpening (S.view reader.old) (S.view reader.new)) }
+    ensures complete { IfErr result (Refuses ReadsOpening (S.view reader.old)) }
+    ensures stops { IfErr result (Stops StopsOpening (S.view reader.old) (S.view reader.new)) }
+{
+    match Array::len(reader)? {
+        None => Ok(true),
+        Some(2) => Ok(false),
+        Some(count) => Err(DecodeError::RequireLength {
+            name: "station",
+            found: Len::new(count),
+        }),
+    }
+}
+
+/// Takes the break of an array of indefinite length.
+fn take_end<S: Source>(reader: &mut S, is_open: bool) -> Result<(), DecodeError<S::Error>>
+    ensures moves { Moves (S.view reader.old) (S.view reader.new) result }
+    ensures memory { IfErr result (λ error. is_out_of_memory error ≡ false) }
+    ensures sound { IfOk result
+        (Sound (ReadsEnd is_open) (S.view reader.old) (S.view reader.new)) }
+    ensures complete { IfErr result (Refuses (ReadsEnd is_open) (S.view reader.old)) }
+    ensures stops { IfErr result
+        (Stops (StopsEnd is_open) (S.view reader.old) (S.view reader.new)) }
+{
+    if !is_open || is_break(reader)? {
+        return Ok(());
+    }
+    Err(DecodeError::RequireLength {
+        name: "station",
+        found: Len::Indefinite,
+    })
+}
+
+/// An array of two items, each in its shortest spelling.
+impl Encode for Station {
+    ghost bytes = { station_bytes };
+
+    fn encode<W: Write>(&self, writer: &mut W) -> Result<(), EncodeError<W::Error>> {
+        Array::bounded(2, writer)?;
+        self.id.encode(writer)?;
+        self.name.encode(writer)
+    }
+}
+
+#[cfg(test)]
+mod tests;

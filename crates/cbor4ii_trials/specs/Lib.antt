@@ -1,2 +1,0 @@
--- What the readers and writers for tests tell.
-pub mod Tells

@@ -1,0 +1,381 @@
+//! Readers for tests: a decoder has to answer alike however its input is shown.
+ghost use Rattle.std.specs.Prelude.{◌≡◌, None, Some, IsTrue, take, false};
+ghost use Rattle.std.proofs.Common.{rules};
+ghost use Rattle.cbor4ii_rw.specs.Reader.{Breaks, StepsIn, step_back};
+ghost use Rattle.cbor4ii_rw.specs.View.{Told};
+ghost use Rattle.cbor4ii_vectors.specs.Tells.{test_view, counting_view};
+
+use cbor4ii_rw::error::Never;
+use cbor4ii_rw::long::FillLong;
+use cbor4ii_rw::read::{Read, Reference, Source};
+
+/// That a test reader or a test writer failed, as it was told to.
+#[derive(Clone, Copy, Debug, PartialEq, Eq)]
+pub struct Failure;
+
+/// Shows one byte at a time or all that is left, which outlives the fill or does not, or the one
+/// and the other in turn. It counts steps or lets items nest without a limit, and may fail at one
+/// show, or where nothing is left. It goes on after that, so that a decoder which passes over a
+/// failure is found out, or it has lost what was left.
+#[derive(Drop)]
+pub struct TestReader<'a> {
+    bytes: &'a [u8],
+    // None where items may nest without a limit.
+    steps: Option<usize>,
+    // Whether the next show is of all that is left, and whether the next fill lasts.
+    is_whole: bool,
+    is_long: bool,
+    takes_turns: bool,
+    // How often it shows before it fails.
+    shows: usize,
+    fails_at_end: bool,
+    failures: u64,
+    // Whether a failure loses what is left, and whether one did.
+    forgets: bool,
+    has_forgotten: bool,
+}
+
+impl<'a> TestReader<'a> {
+    /// A reader with `limit` steps that shows one byte at a time, which does not outlive the fill.
+    pub fn short(bytes: &'a [u8], limit: usize) -> TestReader<'a>
+        ensures told { (test_view result).told ≡ Some bytes.now }
+        ensures budget { (test_view result).budget ≡ Some limit }
+        ensures failures { (test_view result).failures ≡ 0 }
+    {
+        TestReader::new(bytes, Some(limit), false, false)
+    }
+
+    /// A reader with `limit` steps that shows one byte at a time, which lives as long as the input.
+    pub fn long(bytes: &'a [u8], limit: usize) -> TestReader<'a>
+        ensures told { (test_view result).told ≡ Some bytes.now }
+        ensures budget { (test_view result).budget ≡ Some limit }
+        ensures failures { (test_view result).failures ≡ 0 }
+    {
+        TestReader::new(bytes, Some(limit), false, true)
+    }
+
+    /// A reader with `limit` steps that shows all that is left, whatever is wanted, which lives as
+    /// long as the input.
+    pub fn whole(bytes: &'a [u8], limit: usize) -> TestReader<'a>
+        ensures told { (test_view result).told ≡ Some bytes.now }
+        ensures budget { (test_view result).budget ≡ Some limit }
+        ensures failures { (test_view result).failures ≡ 0 }
+        ensures whole { IsTrue (test_view result).lends_whole }
+    {
+        TestReader::new(bytes, Some(limit), true, true)
+    }
+
+    /// As `whole`, and lets items nest without a limit.
+    pub fn unlimited(bytes: &'a [u8]) -> TestReader<'a>
+        ensures told { (test_view result).told ≡ Some bytes.now }
+        ensures budget { (test_view result).budget ≡ None }
+        ensures failures { (test_view result).failures ≡ 0 }
+        ensures whole { IsTrue (test_view result).lends_whole }
+    {
+        TestReader::new(bytes, None, true, true)
+    }
+
+    /// A reader with `limit` steps whose first fill is of all that is left, which lives as long as
+    /// the input, and whose second is of one byte, which does not outlive it, and so on in turn. It
+    /// shows all that is left and one byte in turn.
+    pub fn in_turn(bytes: &'a [u8], limit: usize) -> TestReader<'a>
+        ensures told { (test_view result).told ≡ Some bytes.now }
+        ensures budget { (test_view result).budget ≡ Some limit }
+        ensures failures { (test_view result).failures ≡ 0 }
+    {
+        TestReader {
+            takes_turns: true,
+            ..TestReader::new(bytes, Some(limit), true, true)
+        }
+    }
+
+    /// A reader that fails at no show which comes.
+    fn new(bytes: &'a [u8], steps: Option<usize>, is_whole: bool, is_long: bool) -> TestReader<'a>
+        ensures told { (test_view result).told ≡ Some bytes.now }
+        ensures budget { (test_view result).budget ≡ steps }
+        ensures failures { (test_view result).failures ≡ 0 }
+        ensures whole { IsTrue is_long → (test_view result).lends_whole ≡ is_whole }
+    {
+        TestReader {
+            bytes,
+            steps,
+            is_whole,
+            is_long,
+            takes_turns: false,
+            shows: usize::MAX,
+            fails_at_end: false,
+            failures: 0,
+            forgets: false,
+            has_forgotten: false,
+        }
+    }
+
+    /// The same reader, which shows so many times before it fails.
+    pub fn failing_after(self, shows: usize) -> TestReader<'a>
+        ensures { test_view result ≡ test_view self.entry }
+    {
+        TestReader { shows, ..self }
+    }
+
+    /// The same reader, which fails in the place of showing that nothing is left.
+    pub fn failing_at_end(self) -> TestReader<'a>
+        ensures { test_view result ≡ test_view self.entry }
+    {
+        TestReader {
+            fails_at_end: true,
+            ..self
+        }
+    }
+
+    /// The same reader, which loses what is left where it fails.
+    pub fn forgetting(self) -> TestReader<'a>
+        ensures told { (test_view result).told ≡ (test_view self.entry).told }
+        ensures budget { (test_view result).budget ≡ (test_view self.entry).budget }
+        ensures failures { (test_view result).failures ≡ (test_view self.entry).failures }
+    {
+        TestReader {
+            forgets: true,
+            ..self
+        }
+    }
+
+    /// The bytes that are left.
+    pub fn remaining(&self) -> &'a [u8]
+        ensures { Told (test_view self.now).told (λ xs. result.now ≡ xs) }
+    {
+        self.bytes
+    }
+
+    /// How often it failed: once at most.
+    pub fn failures(&self) -> u64
+        ensures { (test_view self.now).failures ≡ result }
+    {
+        self.failures
+    }
+
+    /// The steps that are left, or none where items may nest without a limit.
+    pub fn steps(&self) -> Option<usize>
+        ensures { (test_view self.now).budget ≡ result }
+    {
+        self.steps
+    }
+
+    /// Whether this is the show that fails, which is counted then.
+    fn fails(&mut self) -> bool
+        ensures kept { result ≡ false → test_view self.new ≡ test_view self.old }
+        ensures broken { IsTrue result → Breaks (test_view self.old) (test_view self.new) }
+    {
+        let is_told = self.shows == 0 || (self.fails_at_end && self.bytes.is_empty());
+        if is_told && self.failures == 0 {
+            self.failures = 1;
+            if self.forgets {
+                self.bytes = &[];
+                self.has_forgotten = true;
+            }
+            return true;
+        }
+        self.shows = self.shows.saturating_sub(1);
+        false
+    }
+
+    /// Whether this show is of all that is left.
+    fn shows_whole(&mut self) -> bool
+        ensures kept { test_view self.new ≡ test_view self.old }
+        ensures bytes { self.new.bytes.now ≡ self.old.bytes.now }
+        ensures whole { IsTrue (test_view self.old).lends_whole → IsTrue result }
+    {
+        let is_whole = self.is_whole;
+        self.is_whole = is_whole != self.takes_turns;
+        is_whole
+    }
+
+    /// Whether the next fill is of all that is left.
+    fn fills_whole(&self) -> bool
+        ensures { IsTrue (test_view self.now).lends_whole → IsTrue result }
+    {
+        if self.takes_turns {
+            self.is_long
+        } else {
+            self.is_whole
+        }
+    }
+
+    /// Whether this fill lives as long as the input.
+    fn fills_long(&mut self) -> bool
+        ensures kept { test_view self.new ≡ test_view self.old }
+        ensures bytes { self.new.bytes.now ≡ self.old.bytes.now }
+        ensures whole { IsTrue (test_view self.old).lends_whole → IsTrue result }
+    {
+        let is_long = self.is_long;
+        self.is_long = is_long != self.takes_turns;
+        is_long
+    }
+
+    /// What it shows: all that is left, or one byte of it.
+    fn front(&self, is_whole: bool) -> &'a [u8]
+        ensures whole { IsTrue is_whole → result.now ≡ self.now.bytes.now }
+        ensures byte { is_whole ≡ false → result.now ≡ take 1 self.now.bytes.now }
+    {
+        if is_whole {
+            return self.bytes;
+        }
+        &self.bytes[..self.bytes.len().min(1)]
+    }
+}
+
+/// Takes one of the steps, or answers false where none is left.
+fn take_step(steps: &mut Option<usize>) -> bool
+    ensures { StepsIn steps.old steps.new result }
+{
+    match *steps {
+        None => true,
+        Some(0) => false,
+        Some(left) => {
+            *steps = Some(left - 1);
+            true
+        }
+    }
+}
+
+/// Gives one step back. usize's greatest number stays.
+fn give_step(steps: &mut Option<usize>)
+    ensures { steps.new ≡ step_back steps.old }
+{
+    if let Some(left) = *steps {
+        *steps = Some(left.saturating_add(1));
+    }
+}
+
+impl Source for TestReader<'_> {
+    type Error = Failure;
+
+    ghost view = { test_view };
+
+    fn show(&mut self, _want: usize) -> Result<&[u8], Failure> {
+        if self.fails() {
+            return Err(Failure);
+        }
+        let is_whole = self.shows_whole();
+        Ok(self.front(is_whole))
+    }
+
+    fn advance(&mut self, n: usize) {
+        self.bytes = &self.bytes[n..];
+    }
+
+    fn step_in(&mut self) -> bool {
+        take_step(&mut self.steps)
+    }
+
+    fn step_out(&mut self) {
+        give_step(&mut self.steps);
+    }
+
+    ghost told_within_bound = { λ reader xs is. Prim.search rules };
+}
+
+impl<'de> Read<'de> for TestReader<'de> {
+    fn fill<'short>(&'short mut self, _want: usize) -> Result<Reference<'de, 'short>, Failure> {
+        if self.fails() {
+            return Err(Failure);
+        }
+        let is_whole = self.fills_whole();
+        if self.fills_long() {
+            return Ok(Reference::Long(self.front(is_whole)));
+        }
+        Ok(Reference::Short(self.front(is_whole)))
+    }
+}
+
+/// It lends what it shows, where that outlives the fill.
+impl<'de> FillLong for TestReader<'de> {
+    type Long = &'de [u8];
+
+    ghost never_lends = { false };
+
+    fn fill_long(&mut self, _want: usize) -> Result<Option<&'de [u8]>, Failure> {
+        if self.fails() {
+            return Err(Failure);
+        }
+        let is_whole = self.fills_whole();
+        let front = self.front(is_whole);
+        if self.fills_long() || front.is_empty() {
+            return Ok(Some(front));
+        }
+        Ok(None)
+    }
+}
+
+/// Shows at most what is wanted, which outlives the fill, and counts its shows and fills, and how
+/// often it is told to advance.
+#[derive(Drop)]
+pub struct Counting<'a> {
+    bytes: &'a [u8],
+    shows: usize,
+    advances: usize,
+}
+
+impl<'a> Counting<'a> {
+    /// A reader over `bytes`, which lets items nest without a limit.
+    pub fn new(bytes: &'a [u8]) -> Counting<'a>
+        ensures told { (counting_view result).told ≡ Some bytes.now }
+    {
+        Counting {
+            bytes,
+            shows: 0,
+            advances: 0,
+        }
+    }
+
+    /// How often it was asked to show bytes.
+    pub fn shows(&self) -> usize {
+        self.shows
+    }
+
+    /// How often it was told to take bytes.
+    pub fn advances(&self) -> usize {
+        self.advances
+    }
+}
+
+impl Source for Counting<'_> {
+    type Error = Never;
+
+    ghost view = { counting_view };
+
+    fn show(&mut self, want: usize) -> Result<&[u8], Never> {
+        self.shows = self.shows.saturating_add(1);
+        Ok(&self.bytes[..self.bytes.len().min(want)])
+    }
+
+    fn advance(&mut self, n: usize) {
+        self.advances = self.advances.saturating_add(1);
+        self.bytes = &self.bytes[n..];
+    }
+
+    fn step_in(&mut self) -> bool {
+        true
+    }
+
+    fn step_out(&mut self) {}
+
+    ghost told_within_bound = { λ reader xs is. Prim.search rules };
+}
+
+impl<'de> Read<'de> for Counting<'de> {
+    fn fill<'short>(&'short mut self, want: usize) -> Result<Reference<'de, 'short>, Never> {
+        self.shows = self.shows.saturating_add(1);
+        Ok(Reference::Long(&self.bytes[..self.bytes.len().min(want)]))
+    }
+}
+
+impl<'de> FillLong for Counting<'de> {
+    type Long = &'de [u8];
+
+    ghost never_lends = { false };
+
+    fn fill_long(&mut self, want: usize) -> Result<Option<&'de [u8]>, Never> {
+        self.shows = self.shows.saturating_add(1);
+        Ok(Some(&self.bytes[..self.bytes.len().min(want)]))
+    }
+}

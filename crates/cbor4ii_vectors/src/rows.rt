@@ -1,0 +1,925 @@
+//! How a row is tried: read over each reader, written, and with a fault at each place.
+//!
+//! What a row finds wrong is the failure of the test that tries it, and says of which bytes. Where
+//! memory is refused, the row says nothing, and that refusal is the test's failure.
+use crate::readers::{Failure, TestReader};
+use crate::streams::{FailingSink, FailingStream};
+use crate::writers::{FailingWriter, PushLengths};
+use cbor4ii_items::encode::Encode;
+use cbor4ii_rw::ask::look;
+use cbor4ii_rw::buf_writer::BufWriter;
+use cbor4ii_rw::error::{DecodeError, EncodeError, Never};
+use cbor4ii_rw::io_reader::IoReader;
+use cbor4ii_rw::io_writer::IoWriter;
+use cbor4ii_rw::read::Source;
+use cbor4ii_rw::segment_reader::SegmentReader;
+use cbor4ii_rw::slice_reader::SliceReader;
+use cbor4ii_rw::write::Write;
+use std::alloc::{AllocError, Global};
+use std::fmt::{Debug, InlineText};
+use std::io::ErrorKind;
+use std::marker::PhantomData;
+use std::test::Fail;
+
+/// What a row's bytes are read as: a value, or the text of the refusal.
+pub type Want<T> = Result<T, &'static str>;
+
+/// A row: bytes, what they are read as, and what is left of them.
+pub type Row<T> = (&'static [u8], Want<T>, &'static [u8]);
+
+/// A row within a limit: bytes, how many steps there are, what the bytes are read as, and what is
+/// left of them.
+pub type RowWithin<T> = (&'static [u8], usize, Want<T>, &'static [u8]);
+
+// The steps of a reader that is given no other limit.
+const STEPS: usize = 256;
+// No row takes more shows or looks.
+const MOST_CALLS: usize = 4096;
+// A row of more bytes is cut at the first 300 of its places.
+const MOST_CUTS: usize = 301;
+
+/// What a row reads: a value, or what another call takes off a reader.
+///
+/// That it is read is proved once, over any reader, and a test of its rows asks no more of it.
+pub trait ReadFrom: Sized {
+    /// Reads it off the front of what `reader` has left.
+    fn read_from<S: Source>(alloc: Global, reader: &mut S) -> Result<Self, DecodeError<S::Error>>;
+}
+
+/// What is read off one reader, as what is borrowed from its input.
+pub trait ReadBy<S: Source>: Sized {
+    /// Reads it off the front of what `reader` has left.
+    fn read_by(alloc: Global, reader: &mut S) -> Result<Self, DecodeError<S::Error>>;
+}
+
+impl<S: Source, T: ReadFrom> ReadBy<S> for T {
+    fn read_by(alloc: Global, reader: &mut S) -> Result<T, DecodeError<S::Error>> {
+        T::read_from(alloc, reader)
+    }
+}
+
+/// What is read off each reader that a row is tried over. Of what is read off any reader a test
+/// asks `ReadFrom`, which costs its proof less.
+pub trait ReadByEach: ReadBy<SliceReader<'static>>
+    + ReadBy<SegmentReader<'static>>
+    + ReadBy<TestReader<'static>>
+    + ReadBy<Stream> {}
+
+impl<T> ReadByEach for T
+where
+    T: ReadBy<SliceReader<'static>>
+        + ReadBy<SegmentReader<'static>>
+        + ReadBy<TestReader<'static>>
+        + ReadBy<Stream>,
+{}
+
+/// One behind the other.
+#[derive(Debug, PartialEq, Drop)]
+pub struct Pair<A, B>(pub A, pub B);
+
+impl<A: ReadFrom + Drop, B: ReadFrom> ReadFrom for Pair<A, B> {
+    fn read_from<S: Source>(
+        alloc: Global,
+        reader: &mut S,
+    ) -> Result<Pair<A, B>, DecodeError<S::Error>> {
+        let first = A::read_from(alloc, reader)?;
+        Ok(Pair(first, B::read_from(alloc, reader)?))
+    }
+}
+
+/// Reads the bytes of each row over each reader: the same answer, and the same bytes left.
+///
+/// Each type costs the proof of a function that tries it some tenths of a second, so rows of one
+/// type stand together.
+pub fn reads_rows<T>(alloc: Global, rows: &[Row<T>]) -> Result<(), Fail>
+where
+    T: ReadFrom + PartialEq + Debug + Drop,
+{
+    for (bytes, want, rest) in rows {
+        reads_alike(alloc, bytes, want, rest)?;
+    }
+    Ok(())
+}
+
+/// As `reads_rows`, for one row.
+pub fn reads<T>(alloc: Global, bytes: &'static [u8], want: Want<T>, rest: &[u8]) -> Result<(), Fail>
+where
+    T: ReadFrom + PartialEq + Debug + Drop,
+{
+    reads_alike(alloc, bytes, &want, rest)
+}
+
+/// As `reads_rows`, over each reader that counts its steps, with so many of them.
+pub fn reads_rows_within<T>(alloc: Global, rows: &[RowWithin<T>]) -> Result<(), Fail>
+where
+    T: ReadFrom + PartialEq + Debug + Drop,
+{
+    for (bytes, limit, want, rest) in rows {
+        reads_alike_within(alloc, bytes, *limit, want, rest)?;
+    }
+    Ok(())
+}
+
+/// As `reads_rows_within`, for one row.
+pub fn reads_within<T>(
+    alloc: Global,
+    bytes: &'static [u8],
+    limit: usize,
+    want: &Want<T>,
+    rest: &[u8],
+) -> Result<(), Fail>
+where
+    T: ReadFrom + PartialEq + Debug + Drop,
+{
+    reads_alike_within(alloc, bytes, limit, want, rest)
+}
+
+/// As `reads_within`, with no fault and not cut at each place: for rows of many bytes.
+pub fn reads_by_each<T>(
+    alloc: Global,
+    bytes: &'static [u8],
+    limit: usize,
+    want: &Want<T>,
+    rest: &[u8],
+) -> Result<(), Fail>
+where
+    T: ReadFrom + PartialEq + Debug + Drop,
+{
+    reads_whole(alloc, bytes, limit, want, rest)
+}
+
+/// As `reads`, for what holds borrowed parts, where it is no matter whether they are lent.
+pub fn reads_alike<T>(
+    alloc: Global,
+    bytes: &'static [u8],
+    want: &Want<T>,
+    rest: &[u8],
+) -> Result<(), Fail>
+where
+    T: ReadByEach + PartialEq + Debug + Drop,
+{
+    reads_alike_within(alloc, bytes, STEPS, want, rest)?;
+    let mut unlimited = TestReader::unlimited(bytes);
+    reads_over(alloc, &mut unlimited, bytes, want, rest)
+}
+
+/// A value by its `Debug` text, so that a row of values that have to be built is a plain constant.
+#[derive(Drop)]
+#[derive_where(Debug, PartialEq)]
+pub struct ByText<T> {
+    text: String,
+    #[derive_where(skip)]
+    of: PhantomData<T>,
+}
+
+impl<T> ByText<T> {
+    fn new(text: String) -> ByText<T> {
+        let of = PhantomData;
+        ByText { text, of }
+    }
+}
+
+impl<S: Source, T: ReadBy<S> + Debug + Drop> ReadBy<S> for ByText<T> {
+    fn read_by(alloc: Global, reader: &mut S) -> Result<ByText<T>, DecodeError<S::Error>> {
+        let value = T::read_by(alloc, reader)?;
+        match format!(in alloc; "{value:?}") {
+            Ok(text) => Ok(ByText::new(text)),
+            Err(_) => Err(DecodeError::OutOfMemory),
+        }
+    }
+}
+
+/// What is read where the answer has this text.
+pub fn by_text<T>(alloc: Global, want: &Want<&str>) -> Result<Want<ByText<T>>, AllocError> {
+    match want {
+        Ok(text) => Ok(Ok(ByText::new(String::from_str(alloc, text)?))),
+        Err(refusal) => Ok(Err(refusal)),
+    }
+}
+
+/// As `reads_rows`, where a row has the `Debug` text of what is read.
+pub fn reads_texts<T>(alloc: Global, rows: &[Row<&'static str>]) -> Result<(), Fail>
+where
+    T: ReadFrom + Debug + Drop,
+{
+    for (bytes, want, rest) in rows {
+        reads_alike(alloc, bytes, &by_text::<T>(alloc, want)?, rest)?;
+    }
+    Ok(())
+}
+
+/// As `reads_rows_within`, where a row has the `Debug` text of what is read.
+pub fn reads_texts_within<T>(alloc: Global, rows: &[RowWithin<&'static str>]) -> Result<(), Fail>
+where
+    T: ReadFrom + Debug + Drop,
+{
+    for (bytes, limit, want, rest) in rows {
+        reads_alike_within(alloc, bytes, *limit, &by_text::<T>(alloc, want)?, rest)?;
+    }
+    Ok(())
+}
+
+// As `reads_within`, for what holds borrowed parts, where it is no matter whether they are lent.
+fn reads_alike_within<T>(
+    alloc: Global,
+    bytes: &'static [u8],
+    limit: usize,
+    want: &Want<T>,
+    rest: &[u8],
+) -> Result<(), Fail>
+where
+    T: ReadByEach + PartialEq + Debug + Drop,
+{
+    reads_whole(alloc, bytes, limit, want, rest)?;
+    reads_in_segments(alloc, bytes, limit, want, rest)?;
+    fails_at_each_show(alloc, bytes, limit, false, Some(want))?;
+    fails_at_each_show(alloc, bytes, limit, true, Some(want))?;
+    fails_at_each_look(alloc, bytes, limit, Some(want))?;
+    asks_nothing_behind(alloc, item_of(bytes, rest), limit, want)
+}
+
+// Over each reader, with no fault and in one piece.
+fn reads_whole<T>(
+    alloc: Global,
+    bytes: &'static [u8],
+    limit: usize,
+    want: &Want<T>,
+    rest: &[u8],
+) -> Result<(), Fail>
+where
+    T: ReadByEach + PartialEq + Debug + Drop,
+{
+    let mut slice = SliceReader::with_limit(bytes, limit);
+    reads_over(alloc, &mut slice, bytes, want, rest)?;
+    let mut long = TestReader::long(bytes, limit);
+    reads_over(alloc, &mut long, bytes, want, rest)?;
+    let mut whole = TestReader::whole(bytes, limit);
+    reads_over(alloc, &mut whole, bytes, want, rest)?;
+    let mut in_turn = TestReader::in_turn(bytes, limit);
+    reads_over(alloc, &mut in_turn, bytes, want, rest)?;
+    reads_short(alloc, bytes, limit, want, rest)
+}
+
+// Over readers whose bytes do not outlive the fill: one that shows a byte at a time, and streams
+// that show one at a time and all that is left.
+fn reads_short<T>(
+    alloc: Global,
+    bytes: &'static [u8],
+    limit: usize,
+    want: &Want<T>,
+    rest: &[u8],
+) -> Result<(), Fail>
+where
+    T: ReadBy<TestReader<'static>> + ReadBy<Stream> + PartialEq + Debug + Drop,
+{
+    let mut short = TestReader::short(bytes, limit);
+    reads_over(alloc, &mut short, bytes, want, rest)?;
+    for most in [1, usize::MAX] {
+        let mut stream = stream(bytes, most, usize::MAX, limit);
+        reads_over(alloc, &mut stream, bytes, want, rest)?;
+    }
+    Ok(())
+}
+
+// The reader over a stream that a row is tried over.
+type Stream = IoReader<FailingStream<'static>>;
+
+// A stream that shows at most so many bytes at a time, so many times before it fails.
+fn stream(bytes: &'static [u8], most: usize, looks: usize, limit: usize) -> Stream {
+    IoReader::with_limit(FailingStream::new(bytes, most, looks), limit)
+}
+
+// The bytes in two segments, for each place where they can be cut. They stay for good.
+fn cuts(alloc: Global, bytes: &'static [u8]) -> Result<&'static [[&'static [u8]; 2]], AllocError> {
+    let places = bytes.len().min(MOST_CUTS);
+    let mut cuts: Vec<[&'static [u8]; 2]> = Vec::with_capacity(alloc, places)?;
+    for place in 1..places {
+        cuts.push([&bytes[..place], &bytes[place..]])?;
+    }
+    Ok(cuts.leak())
+}
+
+// As `reads_within`, over two segments, for each place where the bytes can be cut.
+fn reads_in_segments<T>(
+    alloc: Global,
+    bytes: &'static [u8],
+    limit: usize,
+    want: &Want<T>,
+    rest: &[u8],
+) -> Result<(), Fail>
+where
+    T: ReadBy<SegmentReader<'static>> + PartialEq + Debug + Drop,
+{
+    for segments in cuts(alloc, bytes)? {
+        let mut reader = SegmentReader::with_limit(segments, limit);
+        reads_over(alloc, &mut reader, bytes, want, rest)?;
+    }
+    Ok(())
+}
+
+/// As `reads`, for a borrowed value over each reader that lends whole.
+pub fn lends<T>(alloc: Global, bytes: &'static [u8], want: Want<T>, rest: &[u8]) -> Result<(), Fail>
+where
+    T: ReadByEach + PartialEq + Debug + Drop,
+{
+    lends_whole(alloc, bytes, &want, rest)
+}
+
+// With a fault at each place too, also by bytes, where the answer may be another.
+fn lends_whole<T>(
+    alloc: Global,
+    bytes: &'static [u8],
+    want: &Want<T>,
+    rest: &[u8],
+) -> Result<(), Fail>
+where
+    T: ReadByEach + PartialEq + Debug + Drop,
+{
+    reads_over(alloc, &mut SliceReader::new(bytes), bytes, want, rest)?;
+    let mut unlimited = TestReader::unlimited(bytes);
+    reads_over(alloc, &mut unlimited, bytes, want, rest)?;
+    let mut whole = TestReader::whole(bytes, STEPS);
+    reads_over(alloc, &mut whole, bytes, want, rest)?;
+    fails_at_each_show::<T>(alloc, bytes, STEPS, false, None)?;
+    fails_at_each_show(alloc, bytes, STEPS, true, Some(want))?;
+    fails_at_each_look::<T>(alloc, bytes, STEPS, None)?;
+    asks_whole_nothing_behind(alloc, item_of(bytes, rest), STEPS, want)
+}
+
+/// What is borrowed is refused with so many steps, over a slice and over a reader that lends whole.
+/// That reader fails at the first show, at the second, and so on until none is left to fail.
+/// Nothing is taken, and the answer is the reader's error where it fails, and else the refusal.
+pub fn lends_none<T>(
+    alloc: Global,
+    bytes: &'static [u8],
+    limit: usize,
+    refusal: &'static str,
+) -> Result<(), Fail>
+where
+    T: ReadBy<SliceReader<'static>> + ReadBy<TestReader<'static>> + PartialEq + Debug + Drop,
+{
+    let want: Want<T> = Err(refusal);
+    let mut slice = SliceReader::with_limit(bytes, limit);
+    reads_over(alloc, &mut slice, bytes, &want, bytes)?;
+    for shows in 0..MOST_CALLS {
+        let forgetting = failing(bytes, limit, true, shows).forgetting();
+        let has_forgotten = takes_none(alloc, forgetting, bytes, &want, b"")?;
+        let reader = failing(bytes, limit, true, shows);
+        if !takes_none(alloc, reader, bytes, &want, bytes)? && !has_forgotten {
+            return Ok(());
+        }
+    }
+    Err(Fail::new(format_args!("too many shows of {bytes:?}")))
+}
+
+// Whether the reader failed. Then the answer is its error, and `left` is left of the bytes. Else
+// the answer is what is wanted, and all of them are left. The budget is as before.
+fn takes_none<T: ReadBy<TestReader<'static>> + PartialEq + Debug + Drop>(
+    alloc: Global,
+    mut reader: TestReader<'static>,
+    bytes: &[u8],
+    want: &Want<T>,
+    left: &[u8],
+) -> Result<bool, Fail> {
+    let limit = reader.steps();
+    let got = T::read_by(alloc, &mut reader);
+    let has_failed = reader.failures() == 1;
+    let left = if has_failed { left } else { bytes };
+    if reader.steps() != limit || reader.remaining() != left {
+        return Err(Fail::new(format_args!("{got:?} takes some of {bytes:?}")));
+    }
+    let error = Err("Read(Failure)");
+    is_same(got, bytes, if has_failed { &error } else { want })?;
+    Ok(has_failed)
+}
+
+/// As `reads`, for a borrowed value over each reader whose bytes do not outlive the fill.
+pub fn lends_short<T>(
+    alloc: Global,
+    bytes: &'static [u8],
+    want: Want<T>,
+    rest: &[u8],
+) -> Result<(), Fail>
+where
+    T: ReadBy<TestReader<'static>> + ReadBy<Stream> + PartialEq + Debug + Drop,
+{
+    reads_short(alloc, bytes, STEPS, &want, rest)?;
+    fails_at_each_show(alloc, bytes, STEPS, false, Some(&want))?;
+    fails_at_each_look(alloc, bytes, STEPS, Some(&want))
+}
+
+/// Reads over this reader, which holds `bytes`: the answer, the bytes left, and the steps as
+/// before.
+pub fn reads_over<T, S>(
+    alloc: Global,
+    reader: &mut S,
+    bytes: &[u8],
+    want: &Want<T>,
+    rest: &[u8],
+) -> Result<(), Fail>
+where
+    T: ReadBy<S> + PartialEq + Debug + Drop,
+    S: Source,
+{
+    is_same(answer(alloc, reader, bytes)?, bytes, want)?;
+    leaves(reader, bytes, rest)
+}
+
+/// Reads all the bytes over this reader as one value, with the steps as before. Where memory is
+/// refused, an end of the bytes is left.
+pub fn reads_all<T, S>(alloc: Global, reader: &mut S, bytes: &[u8]) -> Result<T, Fail>
+where
+    T: ReadBy<S> + Drop,
+    S: Source,
+{
+    match answer::<T, S>(alloc, reader, bytes)? {
+        Ok(value) => {
+            leaves(reader, bytes, b"")?;
+            Ok(value)
+        }
+        Err(error) => Err(Fail::new(format_args!("{error:?} of {bytes:?}"))),
+    }
+}
+
+// What is read, with the steps as before. Want of memory is the failure of the test, and leaves an
+// end of the bytes.
+fn answer<T, S>(
+    alloc: Global,
+    reader: &mut S,
+    bytes: &[u8],
+) -> Result<Result<T, DecodeError<S::Error>>, Fail>
+where
+    T: ReadBy<S> + Drop,
+    S: Source,
+{
+    let budget = steps(reader);
+    let got = T::read_by(alloc, reader);
+    if steps(reader) != budget {
+        return Err(Fail::new(format_args!("not {budget} steps after {bytes:?}")));
+    }
+    if matches!(got, Err(DecodeError::OutOfMemory)) {
+        leaves_an_end(alloc, reader, bytes)?;
+        return Err(Fail::from(DecodeError::<Never>::OutOfMemory));
+    }
+    Ok(got)
+}
+
+// Takes all that is left of the bytes, an end of them.
+fn leaves_an_end<S: Source>(alloc: Global, reader: &mut S, bytes: &[u8]) -> Result<(), Fail> {
+    let mut left = Vec::new(alloc);
+    for _ in 0..bytes.len() {
+        match next_byte(reader) {
+            Some(byte) => left.push(byte)?,
+            None => break,
+        }
+    }
+    if bytes.ends_with(&left) && next_byte(reader).is_none() {
+        return Ok(());
+    }
+    Err(Fail::new(format_args!("{left:?} is left of {bytes:?}")))
+}
+
+/// Each proper front of the item is the end of the input, over each reader that does not fail:
+/// nothing is left, and the steps are as before.
+pub fn ends_at_each_front<T>(alloc: Global, item: &'static [u8], limit: usize) -> Result<(), Fail>
+where
+    T: ReadFrom + Debug + Drop,
+{
+    for shown in 0..item.len() {
+        let front = &item[..shown];
+        ends::<T, _>(alloc, &mut SliceReader::with_limit(front, limit), front)?;
+        ends::<T, _>(alloc, &mut TestReader::long(front, limit), front)?;
+        ends::<T, _>(alloc, &mut TestReader::short(front, limit), front)?;
+        ends::<T, _>(alloc, &mut TestReader::whole(front, limit), front)?;
+        ends::<T, _>(alloc, &mut TestReader::in_turn(front, limit), front)?;
+        ends::<T, _>(alloc, &mut TestReader::unlimited(front), front)?;
+        ends_in_segments::<T>(alloc, front, limit)?;
+        for most in [1, usize::MAX] {
+            ends::<T, _>(alloc, &mut stream(front, most, usize::MAX, limit), front)?;
+        }
+    }
+    Ok(())
+}
+
+// In two halves, with no byte behind them.
+fn ends_in_segments<T: ReadFrom + Debug + Drop>(
+    alloc: Global,
+    front: &[u8],
+    limit: usize,
+) -> Result<(), Fail> {
+    let (first, second) = front.split_at(front.len() / 2);
+    let segments = [first, second, b""];
+    ends::<T, _>(
+        alloc,
+        &mut SegmentReader::with_limit(&segments, limit),
+        front,
+    )
+}
+
+fn ends<T: ReadFrom + Debug + Drop, S: Source>(
+    alloc: Global,
+    reader: &mut S,
+    front: &[u8],
+) -> Result<(), Fail> {
+    let budget = steps(reader);
+    let got = T::read_from(alloc, reader);
+    if matches!(got, Err(DecodeError::OutOfMemory)) {
+        return Err(Fail::from(DecodeError::<Never>::OutOfMemory));
+    }
+    if matches!(got, Err(DecodeError::Eof { .. })) && steps(reader) == budget {
+        return leaves(reader, front, b"");
+    }
+    Err(Fail::new(format_args!("{got:?} of the front {front:?}")))
+}
+
+// Compares an answer.
+fn is_same<T: PartialEq + Debug + Drop, E: Debug + Drop>(
+    got: Result<T, DecodeError<E>>,
+    bytes: &[u8],
+    want: &Want<T>,
+) -> Result<(), Fail> {
+    let is_wanted = match (&got, want) {
+        (Ok(value), Ok(wanted)) => value == wanted,
+        (Err(DecodeError::OutOfMemory), _) => {
+            return Err(Fail::from(DecodeError::<Never>::OutOfMemory));
+        }
+        (Err(error), Err(text)) => InlineText::<128>::of(error).as_str() == *text,
+        _ => false,
+    };
+    if is_wanted {
+        return Ok(());
+    }
+    Err(Fail::new(format_args!("{got:?} in the place of {want:?} of {bytes:?}")))
+}
+
+/// Takes all that is left of the row's bytes: exactly `rest`, which is an end of them.
+pub fn leaves<S: Source>(reader: &mut S, bytes: &[u8], rest: &[u8]) -> Result<(), Fail> {
+    let mut is_left = bytes.ends_with(rest);
+    for byte in rest {
+        is_left = is_left && next_byte(reader) == Some(*byte);
+    }
+    if is_left && next_byte(reader).is_none() {
+        return Ok(());
+    }
+    Err(Fail::new(format_args!("not {rest:?} is left of {bytes:?}")))
+}
+
+fn next_byte<S: Source>(reader: &mut S) -> Option<u8> {
+    let mut failure = None;
+    let byte = match look(reader, 1, &mut failure) {
+        Some([first, ..]) => *first,
+        _ => return None,
+    };
+    reader.advance(1);
+    Some(byte)
+}
+
+/// How many steps the reader has left, counted up to 300.
+pub fn steps<S: Source>(reader: &mut S) -> u16 {
+    let mut taken: u16 = 0;
+    for _ in 0..300 {
+        if !reader.step_in() {
+            break;
+        }
+        taken = taken.saturating_add(1);
+    }
+    for _ in 0..taken {
+        reader.step_out();
+    }
+    taken
+}
+
+// A reader that fails at the first show, at the second, and so on until none is left to fail: by
+// bytes or all at once, and it forgets what is left or does not. Where it does not fail, the answer
+// is what is wanted, if anything is.
+fn fails_at_each_show<T: ReadBy<TestReader<'static>> + PartialEq + Debug + Drop>(
+    alloc: Global,
+    bytes: &'static [u8],
+    limit: usize,
+    is_whole: bool,
+    want: Option<&Want<T>>,
+) -> Result<(), Fail> {
+    for shows in 0..MOST_CALLS {
+        let forgetting = failing(bytes, limit, is_whole, shows).forgetting();
+        let has_forgotten = fails(alloc, forgetting, bytes, want)?;
+        let has_failed = fails(alloc, failing(bytes, limit, is_whole, shows), bytes, want)?;
+        if !has_failed && !has_forgotten {
+            return Ok(());
+        }
+    }
+    Err(Fail::new(format_args!("too many shows of {bytes:?}")))
+}
+
+// A reader that shows bytes so many times before it fails.
+fn failing(
+    bytes: &'static [u8],
+    limit: usize,
+    is_whole: bool,
+    shows: usize,
+) -> TestReader<'static> {
+    if is_whole {
+        return TestReader::whole(bytes, limit).failing_after(shows);
+    }
+    TestReader::short(bytes, limit).failing_after(shows)
+}
+
+// Whether the reader failed. Then the answer is its error, and else what is wanted, if anything is.
+// An end of the bytes is left, and the budget is as before.
+fn fails<T: ReadBy<TestReader<'static>> + PartialEq + Debug + Drop>(
+    alloc: Global,
+    mut reader: TestReader<'static>,
+    bytes: &[u8],
+    want: Option<&Want<T>>,
+) -> Result<bool, Fail> {
+    let limit = reader.steps();
+    let got = T::read_by(alloc, &mut reader);
+    let is_read = matches!(got, Err(DecodeError::Read(Failure)));
+    let is_kept = is_read == (reader.failures() == 1)
+        && reader.steps() == limit
+        && bytes.ends_with(reader.remaining());
+    if !is_kept {
+        return Err(Fail::new(format_args!("{got:?} where a show fails, of {bytes:?}")));
+    }
+    is_as_wanted(got, bytes, is_read, want)?;
+    Ok(is_read)
+}
+
+// Compares an answer with what is wanted, if anything is, where no reader failed.
+fn is_as_wanted<T: PartialEq + Debug + Drop, E: Debug + Drop>(
+    got: Result<T, DecodeError<E>>,
+    bytes: &[u8],
+    has_failed: bool,
+    want: Option<&Want<T>>,
+) -> Result<(), Fail> {
+    match want {
+        Some(want) if !has_failed => is_same(got, bytes, want),
+        _ => Ok(()),
+    }
+}
+
+// A stream that fails at the first look, at the second, and so on until none is left to fail. Then
+// the answer is what is wanted, if anything is.
+fn fails_at_each_look<T: ReadBy<Stream> + PartialEq + Debug + Drop>(
+    alloc: Global,
+    bytes: &'static [u8],
+    limit: usize,
+    want: Option<&Want<T>>,
+) -> Result<(), Fail> {
+    for looks in 0..MOST_CALLS {
+        if !fails_at_look(alloc, bytes, limit, looks, want)? {
+            return Ok(());
+        }
+    }
+    Err(Fail::new(format_args!("too many looks of {bytes:?}")))
+}
+
+// Whether the stream failed. Then the answer is its error, and else what is wanted, if anything is.
+// The budget is as before, and the reader over it takes of the stream what it took, and no byte
+// more.
+fn fails_at_look<T: ReadBy<Stream> + PartialEq + Debug + Drop>(
+    alloc: Global,
+    bytes: &'static [u8],
+    limit: usize,
+    looks: usize,
+    want: Option<&Want<T>>,
+) -> Result<bool, Fail> {
+    let mut reader = stream(bytes, 2, looks, limit);
+    let budget = steps(&mut reader);
+    let got = T::read_by(alloc, &mut reader);
+    let is_read = matches!(
+        &got,
+        Err(DecodeError::Read(error)) if error.kind() == ErrorKind::Other
+    );
+    let is_kept = steps(&mut reader) == budget;
+    let taken = reader.taken() as usize;
+    let stream = reader.into_inner();
+    let is_left = bytes.get(taken..) == Some(stream.remaining());
+    if !is_kept || !is_left || is_read != stream.has_failed() {
+        return Err(Fail::new(format_args!("{got:?} where look {looks} fails, of {bytes:?}")));
+    }
+    is_as_wanted(got, bytes, is_read, want)?;
+    Ok(is_read)
+}
+
+// The item of a row that is read, alone, over readers that fail in the place of showing that
+// nothing is left: the answer is the same, since an item says itself where it ends. A row that
+// takes no byte is no such row, since what follows may say what it is.
+fn asks_nothing_behind<T>(
+    alloc: Global,
+    item: &'static [u8],
+    limit: usize,
+    want: &Want<T>,
+) -> Result<(), Fail>
+where
+    T: ReadBy<TestReader<'static>> + ReadBy<Stream> + PartialEq + Debug + Drop,
+{
+    if want.is_err() || item.is_empty() {
+        return Ok(());
+    }
+    asks_whole_nothing_behind(alloc, item, limit, want)?;
+    let mut short = TestReader::short(item, limit).failing_at_end();
+    is_same(T::read_by(alloc, &mut short), item, want)?;
+    for most in [1, usize::MAX] {
+        let stream = FailingStream::new(item, most, usize::MAX).failing_at_end();
+        let mut reader = IoReader::with_limit(stream, limit);
+        is_same(T::read_by(alloc, &mut reader), item, want)?;
+    }
+    Ok(())
+}
+
+// As `asks_nothing_behind`, over the reader that shows all that is left.
+fn asks_whole_nothing_behind<T>(
+    alloc: Global,
+    item: &'static [u8],
+    limit: usize,
+    want: &Want<T>,
+) -> Result<(), Fail>
+where
+    T: ReadBy<TestReader<'static>> + PartialEq + Debug + Drop,
+{
+    if want.is_err() {
+        return Ok(());
+    }
+    let mut whole = TestReader::whole(item, limit).failing_at_end();
+    is_same(T::read_by(alloc, &mut whole), item, want)
+}
+
+// What a row takes of its bytes, of which `rest` is left.
+fn item_of(bytes: &'static [u8], rest: &[u8]) -> &'static [u8] {
+    &bytes[..bytes.len().saturating_sub(rest.len())]
+}
+
+/// What a row writes: a value, or an item in parts.
+pub trait WriteTo {
+    /// Writes it behind what `writer` holds.
+    fn write_to<W: Write>(&self, writer: &mut W) -> Result<(), EncodeError<W::Error>>;
+}
+
+impl<T: Encode> WriteTo for T {
+    fn write_to<W: Write>(&self, writer: &mut W) -> Result<(), EncodeError<W::Error>> {
+        self.encode(writer)
+    }
+}
+
+/// Writes the value behind a byte that stands there, and with a fault at each push and at each
+/// byte. Answers how many pushes it takes.
+pub fn writes<T: WriteTo>(alloc: Global, value: &T, bytes: &[u8]) -> Result<usize, Fail> {
+    let mut writer = BufWriter::new(vec![in alloc; 0xff]?);
+    let got = value.write_to(&mut writer);
+    is_appended(got, writer.buffer().strip_prefix(b"\xff".as_slice()), bytes)?;
+    let mut pushes = PushLengths::new(alloc);
+    value.write_to(&mut pushes)?;
+    fails_at_each_push(alloc, value, bytes, pushes.lengths())?;
+    fails_at_each_byte(alloc, value, bytes)?;
+    Ok(pushes.lengths().len())
+}
+
+// What a writer holds behind a byte that stood there is what is wanted, or a front of it where
+// memory is refused, which is the failure of the test.
+fn is_appended<E: Debug + Drop>(
+    got: Result<(), EncodeError<E>>,
+    held: Option<&[u8]>,
+    wanted: &[u8],
+) -> Result<(), Fail> {
+    match (got, held) {
+        (Ok(()), _) => is_written(held, wanted),
+        (Err(EncodeError::Write(_)), Some(held)) if wanted.starts_with(held) => {
+            Err(Fail::from(DecodeError::<Never>::OutOfMemory))
+        }
+        (Err(error), _) => Err(Fail::new(format_args!("{error:?} and {held:?}"))),
+    }
+}
+
+// Compares what a writer holds.
+fn is_written(held: Option<&[u8]>, wanted: &[u8]) -> Result<(), Fail> {
+    if held == Some(wanted) {
+        return Ok(());
+    }
+    Err(Fail::new(format_args!("{held:?} is written in the place of {wanted:?}")))
+}
+
+// A writer that fails at the first push, at the second, and so on: then the pushes before it are
+// held, and no other.
+fn fails_at_each_push<T: WriteTo>(
+    alloc: Global,
+    value: &T,
+    bytes: &[u8],
+    lengths: &[usize],
+) -> Result<(), Fail> {
+    let mut held: usize = 0;
+    for (push, length) in lengths.iter().enumerate() {
+        let mut writer = FailingWriter::new(Vec::with_capacity(alloc, bytes.len())?, push);
+        let got = value.write_to(&mut writer);
+        let is_told = matches!(got, Err(EncodeError::Write(Failure))) && writer.failures() == 1;
+        if !is_told || bytes.get(..held) != Some(writer.buffer()) {
+            return Err(Fail::new(format_args!("{got:?} where push {push} fails, of {bytes:?}")));
+        }
+        held = held.saturating_add(*length);
+    }
+    is_written(bytes.get(..held), bytes)
+}
+
+// A stream that fails at the first byte, at the second, and so on until none is left to fail.
+fn fails_at_each_byte<T: WriteTo>(alloc: Global, value: &T, bytes: &[u8]) -> Result<(), Fail> {
+    for room in 0..bytes.len() {
+        let sink = FailingSink::new(Vec::with_capacity(alloc, bytes.len())?, room);
+        let mut writer = IoWriter::new(sink);
+        let got = value.write_to(&mut writer);
+        let is_told =
+            matches!(&got, Err(EncodeError::Write(error)) if error.kind() == ErrorKind::Other);
+        if !is_told || bytes.get(..room) != Some(writer.into_inner().buffer()) {
+            return Err(Fail::new(format_args!("{got:?} where byte {room} fails, of {bytes:?}")));
+        }
+    }
+    let sink = FailingSink::new(Vec::with_capacity(alloc, bytes.len())?, bytes.len());
+    let mut writer = IoWriter::new(sink);
+    value.write_to(&mut writer)?;
+    is_written(Some(writer.into_inner().buffer()), bytes)
+}
+
+/// Writes the value as `writes` does, in so many pushes.
+pub fn writes_in<T: WriteTo>(
+    alloc: Global,
+    value: &T,
+    bytes: &[u8],
+    pushes: usize,
+) -> Result<(), Fail> {
+    let found = writes(alloc, value, bytes)?;
+    if found == pushes {
+        return Ok(());
+    }
+    Err(Fail::new(format_args!("{found} pushes of {bytes:?}")))
+}
+
+/// Writes the value in these pushes: a writer that fails at one of them holds those before it.
+pub fn writes_pushes<T: WriteTo>(alloc: Global, value: &T, pushes: &[&[u8]]) -> Result<(), Fail> {
+    let mut held = Vec::new(alloc);
+    for (taken, push) in pushes.iter().enumerate() {
+        holds_at_push(alloc, value, taken, &held)?;
+        held.extend_from_slice(push)?;
+    }
+    writes_in(alloc, value, &held, pushes.len())
+}
+
+fn holds_at_push<T: WriteTo>(
+    alloc: Global,
+    value: &T,
+    taken: usize,
+    held: &[u8],
+) -> Result<(), Fail> {
+    let mut writer = FailingWriter::new(Vec::with_capacity(alloc, held.len())?, taken);
+    if value.write_to(&mut writer).is_err() && writer.buffer() == held {
+        return Ok(());
+    }
+    Err(Fail::new(format_args!("push {taken} behind {held:?}")))
+}
+
+/// Writes the value in so many pushes, and reads it back from its bytes.
+pub fn goes_both_ways<T>(
+    alloc: Global,
+    value: T,
+    bytes: &'static [u8],
+    pushes: usize,
+) -> Result<(), Fail>
+where
+    T: WriteTo + ReadFrom + PartialEq + Debug + Drop,
+{
+    writes_in(alloc, &value, bytes, pushes)?;
+    reads(alloc, bytes, Ok(value), b"")
+}
+
+/// Writes the value of each row as `writes_in` does: the value, its bytes and its pushes.
+pub fn writes_rows<T: WriteTo>(alloc: Global, rows: &[(T, &[u8], usize)]) -> Result<(), Fail> {
+    for (value, bytes, pushes) in rows {
+        writes_in(alloc, value, bytes, *pushes)?;
+    }
+    Ok(())
+}
+
+/// Reads the bytes of each row, which have this `Debug` text, and writes what was read in so many
+/// pushes: it has to be the row's bytes.
+pub fn texts_go_both_ways<T>(
+    alloc: Global,
+    rows: &[(&'static [u8], &'static str, usize)],
+) -> Result<(), Fail>
+where
+    T: WriteTo + ReadFrom + Debug + Drop,
+{
+    for (bytes, text, pushes) in rows {
+        reads_alike(alloc, bytes, &by_text::<T>(alloc, &Ok(*text))?, b"")?;
+        let value = T::read_from(alloc, &mut SliceReader::new(bytes))?;
+        writes_in(alloc, &value, bytes, *pushes)?;
+    }
+    Ok(())
+}
+
+/// As `goes_both_ways`, for rows of values: the bytes, the value and its pushes.
+pub fn rows_go_both_ways<T>(alloc: Global, rows: &[(&'static [u8], T, usize)]) -> Result<(), Fail>
+where
+    T: WriteTo + ReadFrom + PartialEq + Debug + Copy + Drop,
+{
+    for (bytes, value, pushes) in rows {
+        goes_both_ways(alloc, *value, bytes, *pushes)?;
+    }
+    Ok(())
+}

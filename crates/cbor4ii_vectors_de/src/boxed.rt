@@ -1,0 +1,21 @@
+//! Rows of values in a box.
+use crate::typed::{Answer, BothTold, RowTold, RowToldWithin, tells};
+use cbor4ii_vectors::{mismatch, table};
+use std::test::Fail;
+
+const BOXES: &[BothTold] = table! {
+    (b"\x0a", "Is(10)"),
+};
+
+const BOXES_READ: &[RowTold] = table! {
+    (b"\x20\x06", Err(mismatch!("u32", 0x20)), b"\x06"),
+};
+
+const BOXES_WITHIN: &[RowToldWithin] = table! {
+    (b"\x05\x06", 0, Ok("Is(5)"), b"\x06"),
+};
+
+#[test]
+fn boxes(rt: HostRuntime) -> Result<(), Fail> {
+    tells::<Answer<Box<u32>>>(rt.alloc(), BOXES, BOXES_READ, BOXES_WITHIN)
+}

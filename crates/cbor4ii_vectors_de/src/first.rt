@@ -1,0 +1,141 @@
+//! The value at the front of a slice, and of a stream.
+use crate::typed::{BothTold, come_back, comes_back_lent, is_at_front, is_refused};
+use cbor4ii::Value;
+use cbor4ii::serde::{DecodeError, from_reader, from_slice};
+use cbor4ii_rw::error as core_error;
+use cbor4ii_vectors::streams::FailingStream;
+use cbor4ii_vectors::{mismatch, table};
+use std::alloc::Global;
+use std::collections::BTreeMap;
+use std::io::{self, BufRead, ErrorKind};
+use std::test::Fail;
+
+/// A text at the front of the bytes, which is lent.
+fn text_is_at_front(alloc: Global, bytes: &[u8], want: &str) -> Result<(), Fail> {
+    let text: &str = from_slice(alloc, bytes)?;
+    if text == want {
+        return Ok(());
+    }
+    Err(Fail::new(format_args!("{text} in the place of {want}")))
+}
+
+#[test]
+fn the_value_at_the_front(rt: HostRuntime) -> Result<(), Fail> {
+    let alloc = rt.alloc();
+    is_at_front::<u8>(alloc, b"\x05\xff", "5")?;
+    is_at_front::<BTreeMap<u8, u8>>(alloc, b"\xa2\x01\x02\x01\x03", "{1: 3}")?;
+    text_is_at_front(alloc, b"\x61a", "a")
+}
+
+// The bytes live no longer than the test.
+#[test]
+fn the_value_at_the_front_of_bytes_of_the_test(rt: HostRuntime) -> Result<(), Fail> {
+    let alloc = rt.alloc();
+    let bytes = Vec::from_slice(alloc, b"\x61a")?;
+    text_is_at_front(alloc, &bytes, "a")?;
+    comes_back_lent::<&[u8], String>(alloc, &bytes, &bytes, "\"a\"")
+}
+
+const NUMBERS_BOTH: &[BothTold] = table! {
+    (b"\x0a", "Some(10)"),
+};
+
+const UNITS_BOTH: &[BothTold] = table! {
+    (b"\x80", "()"),
+};
+
+const OPTIONAL_UNITS_BOTH: &[BothTold] = table! {
+    (b"\x80", "Some(())"),
+};
+
+#[test]
+fn numbers_and_units_come_back(rt: HostRuntime) -> Result<(), Fail> {
+    let alloc = rt.alloc();
+    come_back::<Option<u32>>(alloc, NUMBERS_BOTH)?;
+    come_back::<()>(alloc, UNITS_BOTH)?;
+    come_back::<Option<()>>(alloc, OPTIONAL_UNITS_BOTH)
+}
+
+const OPTIONS_BOTH: &[BothTold] = table! {
+    (b"\x83\x18\x99\xf6\x18\x33", "[Some(153), None, Some(51)]"),
+};
+
+const PAIRS_BOTH: &[BothTold] = table! {
+    (b"\x81\x82\x0a\x1a\x00\x01\x86\x9f", "Some([(10, 99999)])"),
+};
+
+#[test]
+fn arrays_come_back(rt: HostRuntime) -> Result<(), Fail> {
+    let alloc = rt.alloc();
+    come_back::<Vec<Option<u32>>>(alloc, OPTIONS_BOTH)?;
+    come_back::<Option<Vec<(u128, i128)>>>(alloc, PAIRS_BOTH)
+}
+
+const ANY_BOTH: &[BothTold] = table! {
+    (b"\xf6", "Null"),
+    (b"\xa1\x61a\xf4", "Map([(Text(\"a\"), Bool(false))])"),
+    (b"\xc2\x49\x01\x00\x00\x00\x00\x00\x00\x00\x62", "Integer(18446744073709551714)"),
+};
+
+#[test]
+fn any_values_come_back(rt: HostRuntime) -> Result<(), Fail> {
+    come_back::<Value>(rt.alloc(), ANY_BOTH)
+}
+
+/// The number at the front of a stream that is lent.
+fn number_at_front<R: BufRead>(alloc: Global, stream: &mut R) -> Result<u8, Fail> {
+    let number: u8 = from_reader(alloc, stream)?;
+    Ok(number)
+}
+
+#[test]
+fn a_stream_stands_behind_the_value_that_was_read(rt: HostRuntime) -> Result<(), Fail> {
+    let mut stream: &[u8] = b"\x05\x06";
+    assert_eq!(rt; number_at_front(rt.alloc(), &mut stream)?, 5);
+    assert_eq!(rt; stream, b"\x06".as_slice());
+    Ok(())
+}
+
+// Each byte is shown alone: the first of the value's leaves the stream at the look behind it, and
+// the second when the reader is dropped.
+#[test]
+fn a_stream_of_single_bytes_stands_behind_the_value(rt: HostRuntime) -> Result<(), Fail> {
+    let mut stream = FailingStream::new(b"\x18\x05\x06", 1, usize::MAX);
+    assert_eq!(rt; number_at_front(rt.alloc(), &mut stream)?, 5);
+    assert_eq!(rt; stream.remaining(), b"\x06".as_slice());
+    Ok(())
+}
+
+#[test]
+fn a_fault_before_the_value_at_the_front(rt: HostRuntime) -> Result<(), Fail> {
+    let stream = FailingStream::new(b"\x19\x00\x05", 1, 1).failing_with(ErrorKind::ConnectionReset);
+    let fault: Result<u16, DecodeError<io::Error>> = from_reader(rt.alloc(), stream);
+    assert!(rt;
+        matches!(
+            &fault,
+            Err(DecodeError::Core(core_error::DecodeError::Read(error)))
+                if error.kind() == ErrorKind::ConnectionReset
+        )
+    );
+    Ok(())
+}
+
+const NEGATIVE: &str = mismatch!("u8", 0x20);
+
+/// No number from 0 on stands at the front of a stream that is lent.
+fn is_negative_at_front<R: BufRead>(alloc: Global, stream: &mut R) -> Result<(), Fail> {
+    let got: Result<u8, DecodeError<io::Error>> = from_reader(alloc, stream);
+    is_refused(got, NEGATIVE)
+}
+
+// The first byte is taken, and no other.
+#[test]
+fn a_value_that_is_refused_at_the_front(rt: HostRuntime) -> Result<(), Fail> {
+    let alloc = rt.alloc();
+    let got = from_slice::<&[u8], u8>(alloc, b"\x20\x06".as_slice());
+    is_refused(got, NEGATIVE)?;
+    let mut stream: &[u8] = b"\x20\x06";
+    is_negative_at_front(alloc, &mut stream)?;
+    assert_eq!(rt; stream, b"\x06".as_slice());
+    Ok(())
+}

@@ -1,0 +1,85 @@
+//! Bytes of more parts than are reserved before the first of them is read.
+use cbor4ii_vectors::rows::{ReadFrom, reads_by_each};
+use cbor4ii_vectors::table;
+use std::alloc::Global;
+use std::fmt::Debug;
+use std::test::Fail;
+
+/// How many parts an array or a map has: 0x012c. At most 256 are reserved.
+pub const PARTS: u16 = 300;
+
+/// How many letters a text has: 0x4e20. At most 16384 bytes are reserved.
+pub const LETTERS: usize = 20_000;
+
+/// What stands before the parts, before or behind each of them, and behind the last one.
+type Shape = (&'static [u8], &'static [u8], &'static [u8]);
+
+/// Arrays of 300 numbers, of a known and of an indefinite length.
+pub const ARRAYS: &[Shape] = table! {
+    (b"\x99\x01\x2c", b"", b""),
+    (b"\x9f", b"", b"\xff"),
+};
+
+/// Maps of 300 numbers, each with a 5 behind it.
+pub const MAPS: &[Shape] = table! {
+    (b"\xb9\x01\x2c", b"\x05", b""),
+    (b"\xbf", b"\x05", b"\xff"),
+};
+
+// The bytes of 300 parts of this shape: the numbers from 0 on, each in two bytes behind its head.
+fn numbered(alloc: Global, shape: &Shape) -> Result<&'static [u8], Fail> {
+    let (front, at_each, end) = *shape;
+    let mut bytes = Vec::new(alloc);
+    bytes.extend_from_slice(front)?;
+    for number in 0..PARTS {
+        bytes.push(0x19)?;
+        bytes.extend_from_slice(number.to_be_bytes().as_slice())?;
+        bytes.extend_from_slice(at_each)?;
+    }
+    bytes.extend_from_slice(end)?;
+    Ok(bytes.leak())
+}
+
+/// The bytes of each shape are read as the value, whole and over streams.
+pub fn grows<A>(alloc: Global, shapes: &[Shape], answer: A) -> Result<(), Fail>
+where
+    A: ReadFrom + PartialEq + Debug + Drop,
+{
+    let want = Ok(answer);
+    for shape in shapes {
+        reads_by_each(alloc, numbered(alloc, shape)?, 256, &want, b"")?;
+    }
+    Ok(())
+}
+
+// What stands before the letters, before each of them, and behind them: a text of a known length,
+// and one of an indefinite length with a chunk for each letter.
+const TEXTS: &[Shape] = table! {
+    (b"\x79\x4e\x20", b"", b""),
+    (b"\x7f", b"\x61", b"\xff"),
+};
+
+// The bytes of so many letters of this shape.
+fn lettered(alloc: Global, shape: &Shape) -> Result<&'static [u8], Fail> {
+    let (front, at_each, end) = *shape;
+    let mut bytes = Vec::new(alloc);
+    bytes.extend_from_slice(front)?;
+    for _ in 0..LETTERS {
+        bytes.extend_from_slice(at_each)?;
+        bytes.push(b'a')?;
+    }
+    bytes.extend_from_slice(end)?;
+    Ok(bytes.leak())
+}
+
+/// As `grows`, for a value of letters.
+pub fn grows_by_letters<A>(alloc: Global, answer: A) -> Result<(), Fail>
+where
+    A: ReadFrom + PartialEq + Debug + Drop,
+{
+    let want = Ok(answer);
+    for shape in TEXTS {
+        reads_by_each(alloc, lettered(alloc, shape)?, 256, &want, b"")?;
+    }
+    Ok(())
+}

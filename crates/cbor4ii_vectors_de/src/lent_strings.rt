@@ -1,0 +1,357 @@
+//! Rows of strings that are borrowed where the reader lends them, by each way to read.
+use cbor4ii::serde::{DecodeError, Deserialize, Deserializer};
+use cbor4ii::types::Bytes;
+use cbor4ii_rw::error as core_error;
+use cbor4ii_rw::error::Never;
+use cbor4ii_rw::io_reader::IoReader;
+use cbor4ii_rw::read::Source;
+use cbor4ii_rw::segment_reader::SegmentReader;
+use cbor4ii_rw::slice_reader::SliceReader;
+use cbor4ii_vectors::rows::{leaves, steps};
+use cbor4ii_vectors::streams::FailingStream;
+use cbor4ii_vectors::{mismatch, no_step, require_borrowed, require_utf8, table};
+use std::alloc::Global;
+use std::borrow::{CowSlice, CowStr};
+use std::fmt::{Debug, InlineText};
+use std::io::{self, ErrorKind};
+use std::test::Fail;
+
+/// How a string is read.
+#[derive(Clone, Copy, PartialEq)]
+pub enum Kind {
+    Text,
+    TextByName,
+    Identifier,
+    BorrowedText,
+    Bytes,
+    BytesByName,
+    BorrowedBytes,
+}
+
+/// A reader by whose name strings are read that may be borrowed.
+trait Strings: Source {
+    /// The content, borrowed or owned.
+    fn string(
+        kind: Kind,
+        alloc: Global,
+        de: &mut Deserializer<Self>,
+    ) -> Result<CowSlice<'static, u8, Global>, DecodeError<Self::Error>>;
+}
+
+fn content(text: CowStr<'static, Global>) -> CowSlice<'static, u8, Global> {
+    match text {
+        CowStr::Borrowed(text) => CowSlice::Borrowed(text.as_bytes()),
+        CowStr::Owned(text) => CowSlice::Owned(text.into_bytes()),
+    }
+}
+
+impl Strings for SliceReader<'static> {
+    fn string(
+        kind: Kind,
+        alloc: Global,
+        de: &mut Deserializer<SliceReader<'static>>,
+    ) -> Result<CowSlice<'static, u8, Global>, DecodeError<Never>> {
+        match kind {
+            Kind::Text => Ok(content(CowStr::deserialize(alloc, de)?)),
+            Kind::TextByName => Ok(content(de.deserialize_str(alloc)?)),
+            Kind::Identifier => Ok(content(de.deserialize_identifier(alloc)?)),
+            Kind::BorrowedText => {
+                let text = <&'static str>::deserialize(alloc, de)?;
+                Ok(CowSlice::Borrowed(text.as_bytes()))
+            }
+            Kind::Bytes => Ok(<Bytes<CowSlice<'static, u8, Global>>>::deserialize(alloc, de)?.0),
+            Kind::BytesByName => de.deserialize_bytes(alloc),
+            Kind::BorrowedBytes => {
+                let bytes = <Bytes<&'static [u8]>>::deserialize(alloc, de)?;
+                Ok(CowSlice::Borrowed(bytes.0))
+            }
+        }
+    }
+}
+
+impl Strings for SegmentReader<'static> {
+    fn string(
+        kind: Kind,
+        alloc: Global,
+        de: &mut Deserializer<SegmentReader<'static>>,
+    ) -> Result<CowSlice<'static, u8, Global>, DecodeError<Never>> {
+        match kind {
+            Kind::Text => Ok(content(CowStr::deserialize(alloc, de)?)),
+            Kind::TextByName => Ok(content(de.deserialize_str(alloc)?)),
+            Kind::Identifier => Ok(content(de.deserialize_identifier(alloc)?)),
+            Kind::BorrowedText => {
+                let text = <&'static str>::deserialize(alloc, de)?;
+                Ok(CowSlice::Borrowed(text.as_bytes()))
+            }
+            Kind::Bytes => Ok(<Bytes<CowSlice<'static, u8, Global>>>::deserialize(alloc, de)?.0),
+            Kind::BytesByName => de.deserialize_bytes(alloc),
+            Kind::BorrowedBytes => {
+                let bytes = <Bytes<&'static [u8]>>::deserialize(alloc, de)?;
+                Ok(CowSlice::Borrowed(bytes.0))
+            }
+        }
+    }
+}
+
+impl Strings for IoReader<FailingStream<'static>> {
+    fn string(
+        kind: Kind,
+        alloc: Global,
+        de: &mut Deserializer<IoReader<FailingStream<'static>>>,
+    ) -> Result<CowSlice<'static, u8, Global>, DecodeError<io::Error>> {
+        match kind {
+            Kind::Text => Ok(content(CowStr::deserialize(alloc, de)?)),
+            Kind::TextByName => Ok(content(de.deserialize_str(alloc)?)),
+            Kind::Identifier => Ok(content(de.deserialize_identifier(alloc)?)),
+            Kind::BorrowedText => {
+                let text = <&'static str>::deserialize(alloc, de)?;
+                Ok(CowSlice::Borrowed(text.as_bytes()))
+            }
+            Kind::Bytes => Ok(<Bytes<CowSlice<'static, u8, Global>>>::deserialize(alloc, de)?.0),
+            Kind::BytesByName => de.deserialize_bytes(alloc),
+            Kind::BorrowedBytes => {
+                let bytes = <Bytes<&'static [u8]>>::deserialize(alloc, de)?;
+                Ok(CowSlice::Borrowed(bytes.0))
+            }
+        }
+    }
+}
+
+/// What a string is read as: its content, and whether it is borrowed, or the text of the codec's
+/// refusal.
+type Want = Result<(&'static [u8], bool), &'static str>;
+
+/// What a type that is always borrowed is read as.
+fn borrowed_alone(kind: Kind, want: Want) -> Want {
+    match (kind, want) {
+        (Kind::BorrowedText, Ok((_, false))) => Err(require_borrowed!("str")),
+        (Kind::BorrowedBytes, Ok((_, false))) => Err(require_borrowed!("bytes")),
+        _ => want,
+    }
+}
+
+/// Whether this was to be read.
+fn is_wanted<E: Debug + Drop>(
+    got: &Result<CowSlice<'static, u8, Global>, DecodeError<E>>,
+    want: Want,
+) -> bool {
+    match got {
+        Ok(CowSlice::Borrowed(found)) => want == Ok((*found, true)),
+        Ok(CowSlice::Owned(found)) => want == Ok((found.as_slice(), false)),
+        Err(DecodeError::Core(error)) => want == Err(InlineText::<128>::of(error).as_str()),
+        Err(DecodeError::Custom(_)) => false,
+    }
+}
+
+/// The answer over this reader, the bytes that are left, and the steps as before.
+fn reads<S: Strings + Drop>(
+    kind: Kind,
+    alloc: Global,
+    mut reader: S,
+    bytes: &[u8],
+    want: Want,
+    rest: &[u8],
+) -> Result<(), Fail> {
+    let budget = steps(&mut reader);
+    let mut de = Deserializer::new(reader);
+    let got = S::string(kind, alloc, &mut de);
+    let mut reader = de.into_inner();
+    let want = borrowed_alone(kind, want);
+    if is_wanted(&got, want) && steps(&mut reader) == budget {
+        return leaves(&mut reader, bytes, rest);
+    }
+    if let Err(DecodeError::Core(core_error::DecodeError::OutOfMemory)) = &got {
+        return Err(Fail::from(core_error::DecodeError::<Never>::OutOfMemory));
+    }
+    Err(Fail::new(format_args!("not {want:?} of {bytes:?}")))
+}
+
+/// A string whose content is all but the first byte and the rest: over a slice, over segments that
+/// cut it at each place, and out of streams.
+fn reads_counted(
+    kind: Kind,
+    alloc: Global,
+    bytes: &'static [u8],
+    content: &'static [u8],
+    rest: &'static [u8],
+) -> Result<(), Fail> {
+    reads(
+        kind,
+        alloc,
+        SliceReader::new(bytes),
+        bytes,
+        Ok((content, true)),
+        rest,
+    )?;
+    for cut in 1..bytes.len() {
+        let parts = vec![in alloc; &bytes[..cut], &bytes[cut..]]?.leak();
+        let is_borrowed = cut <= 1 || cut > content.len();
+        let reader = SegmentReader::new(parts);
+        reads(kind, alloc, reader, bytes, Ok((content, is_borrowed)), rest)?;
+    }
+    reads_by_byte(kind, alloc, bytes, Ok((content, content.len() <= 1)), rest)?;
+    reads_of_streams(kind, alloc, bytes, Ok((content, false)), rest)
+}
+
+/// A string that no reader lends, or that is refused: over the same readers, one answer.
+fn reads_alike(
+    kind: Kind,
+    alloc: Global,
+    bytes: &'static [u8],
+    want: Want,
+    rest: &'static [u8],
+) -> Result<(), Fail> {
+    reads(kind, alloc, SliceReader::new(bytes), bytes, want, rest)?;
+    for cut in 1..bytes.len() {
+        let parts = vec![in alloc; &bytes[..cut], &bytes[cut..]]?.leak();
+        reads(kind, alloc, SegmentReader::new(parts), bytes, want, rest)?;
+    }
+    reads_by_byte(kind, alloc, bytes, want, rest)?;
+    reads_of_streams(kind, alloc, bytes, want, rest)
+}
+
+/// Over segments of one byte each, so that each byte is shown alone, and lent.
+fn reads_by_byte(
+    kind: Kind,
+    alloc: Global,
+    bytes: &'static [u8],
+    want: Want,
+    rest: &'static [u8],
+) -> Result<(), Fail> {
+    let mut parts: Vec<&'static [u8]> = Vec::with_capacity(alloc, bytes.len())?;
+    for byte in bytes.chunks(1) {
+        parts.push(byte)?;
+    }
+    reads(
+        kind,
+        alloc,
+        SegmentReader::new(parts.leak()),
+        bytes,
+        want,
+        rest,
+    )
+}
+
+/// Out of streams that show a byte at a time, and all that is left, and of one that fails at one
+/// look or another, which is the answer then.
+fn reads_of_streams(
+    kind: Kind,
+    alloc: Global,
+    bytes: &'static [u8],
+    want: Want,
+    rest: &'static [u8],
+) -> Result<(), Fail> {
+    for most in [1, usize::MAX] {
+        let stream = FailingStream::new(bytes, most, usize::MAX);
+        reads(kind, alloc, IoReader::new(stream), bytes, want, rest)?;
+    }
+    for looks in 0..64 {
+        if !fails_at_look(kind, alloc, bytes, looks)? {
+            return Ok(());
+        }
+    }
+    Err(Fail::new(format_args!("too many looks of {bytes:?}")))
+}
+
+/// Whether a stream that fails at this look does, which is the answer then. The steps are as
+/// before, and the reader over it takes of the stream what it took, and no byte more.
+fn fails_at_look(
+    kind: Kind,
+    alloc: Global,
+    bytes: &'static [u8],
+    looks: usize,
+) -> Result<bool, Fail> {
+    let stream = FailingStream::new(bytes, 1, looks);
+    let mut de = Deserializer::new(IoReader::new(stream));
+    let is_fault = match <IoReader<FailingStream<'static>>>::string(kind, alloc, &mut de) {
+        Err(DecodeError::Core(core_error::DecodeError::Read(error))) => {
+            error.kind() == ErrorKind::Other
+        }
+        _ => false,
+    };
+    let mut reader = de.into_inner();
+    let is_kept = steps(&mut reader) == 256;
+    let taken = reader.taken() as usize;
+    let stream = reader.into_inner();
+    let is_left = bytes.get(taken..) == Some(stream.remaining());
+    if is_kept && is_left && is_fault == stream.has_failed() {
+        return Ok(is_fault);
+    }
+    Err(Fail::new(format_args!("not a fault at look {looks} of {bytes:?}")))
+}
+
+/// Bytes of a string that is borrowed where its content is lent whole, its content, and what is
+/// left of them.
+type Counted = (&'static [u8], &'static [u8], &'static [u8]);
+
+/// Bytes that are read alike over each reader, what they are read as, and what is left of them.
+type Alike = (&'static [u8], Want, &'static [u8]);
+
+/// Each row, by each way to read.
+fn reads_rows(
+    kinds: &[Kind],
+    alloc: Global,
+    counted: &[Counted],
+    alike: &[Alike],
+) -> Result<(), Fail> {
+    for kind in kinds {
+        for (bytes, content, rest) in counted {
+            reads_counted(*kind, alloc, bytes, content, rest)?;
+        }
+        for (bytes, want, rest) in alike {
+            reads_alike(*kind, alloc, bytes, *want, rest)?;
+        }
+    }
+    Ok(())
+}
+
+/// The row, by each way to read, where no step is left to take.
+fn reads_with_no_step(kinds: &[Kind], alloc: Global, row: Alike) -> Result<(), Fail> {
+    let (bytes, want, rest) = row;
+    for kind in kinds {
+        let reader = SliceReader::with_limit(bytes, 0);
+        reads(*kind, alloc, reader, bytes, want, rest)?;
+    }
+    Ok(())
+}
+
+const TEXTS_COUNTED: &[Counted] = table! {
+    (b"\x64IETF\x01", b"IETF", b"\x01"),
+    (b"\x62\xc3\xbc", b"\xc3\xbc", b""),
+    (b"\x63123", b"123", b""),
+    (b"\x671234567", b"1234567", b""),
+};
+
+const TEXTS_ALIKE: &[Alike] = table! {
+    (b"\x7f\x61a\x61b\xff\x01", Ok((b"ab", false)), b"\x01"),
+    (b"\x7f\x61a\xff", Ok((b"a", false)), b""),
+    (b"\x41\x41", Err(mismatch!("str", 0x41)), b"\x41"),
+    (b"\x62\xff\xff\x01", Err(require_utf8!("str")), b"\x01"),
+};
+
+const TEXT_WITH_NO_STEP: Alike = (b"\x7f\x61a\xff", Err(no_step!("str")), b"\x61a\xff");
+
+/// The rows of texts, by each of these ways to read.
+pub fn reads_texts(kinds: &[Kind], alloc: Global) -> Result<(), Fail> {
+    reads_rows(kinds, alloc, TEXTS_COUNTED, TEXTS_ALIKE)?;
+    reads_with_no_step(kinds, alloc, TEXT_WITH_NO_STEP)
+}
+
+const BYTE_STRINGS_COUNTED: &[Counted] = table! {
+    (b"\x44\x01\x02\x03\x04\xff", b"\x01\x02\x03\x04", b"\xff"),
+    (b"\x43123", b"123", b""),
+};
+
+const BYTE_STRINGS_ALIKE: &[Alike] = table! {
+    (b"\x5f\x41\x01\x41\x02\xff", Ok((b"\x01\x02", false)), b""),
+    (b"\x5f\x41a\xff", Ok((b"a", false)), b""),
+    (b"\x61\x61a", Err(mismatch!("bytes", 0x61)), b"\x61a"),
+};
+
+const BYTE_STRING_WITH_NO_STEP: Alike = (b"\x5f\x41a\xff", Err(no_step!("bytes")), b"\x41a\xff");
+
+/// The rows of byte strings, by each of these ways to read.
+pub fn reads_byte_strings(kinds: &[Kind], alloc: Global) -> Result<(), Fail> {
+    reads_rows(kinds, alloc, BYTE_STRINGS_COUNTED, BYTE_STRINGS_ALIKE)?;
+    reads_with_no_step(kinds, alloc, BYTE_STRING_WITH_NO_STEP)
+}

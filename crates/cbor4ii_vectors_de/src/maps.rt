@@ -1,0 +1,41 @@
+//! Rows of ordered maps.
+use crate::typed::{Answer, BothTold, RowTold, RowToldWithin, tells};
+use cbor4ii_vectors::{eof, mismatch, no_step, table};
+use std::collections::BTreeMap;
+use std::test::Fail;
+
+const MAPS: &[BothTold] = table! {
+    (b"\xa0", "Is({})"),
+    (b"\xa2\x01\x02\x03\x04", "Is({1: 2, 3: 4})"),
+};
+
+const MAPS_READ: &[RowTold] = table! {
+    (b"\xbf\x01\x02", Err(eof!("break", 1)), b""),
+    (b"\x80\x01", Err(mismatch!("map", 0x80)), b"\x01"),
+    (b"\xa1\x61\x02", Err(mismatch!("u8", 0x61)), b"\x02"),
+    (b"\xbf\x01\xff", Err(mismatch!("u8", 0xff)), b""),
+    // Of equal keys the last value stays.
+    (b"\xa2\x01\x02\x01\x03", Ok("Is({1: 3})"), b""),
+};
+
+const MAPS_WITHIN: &[RowToldWithin] = table! {
+    (b"\xa2\x01\x02\x01\x03", 1, Ok("Is({1: 3})"), b""),
+    (b"\xbf\x01\x02\x01\x03\xff\x00", 1, Ok("Is({1: 3})"), b"\x00"),
+    (b"\xa1\x01\x02", 0, Err(no_step!("map")), b"\xa1\x01\x02"),
+};
+
+#[test]
+fn maps(rt: HostRuntime) -> Result<(), Fail> {
+    tells::<Answer<BTreeMap<u8, u8>>>(rt.alloc(), MAPS, MAPS_READ, MAPS_WITHIN)
+}
+
+const OF_TEXTS_TO_ARRAYS: &str = "Is({\"obj\": [], \"obj2\": [\"obj3\", \"obj4\", \"\"]})";
+
+const MAPS_OF_TEXTS_TO_ARRAYS: &[BothTold] = table! {
+    (b"\xa2\x63obj\x80\x64obj2\x83\x64obj3\x64obj4\x60", OF_TEXTS_TO_ARRAYS),
+};
+
+#[test]
+fn maps_of_texts_to_arrays(rt: HostRuntime) -> Result<(), Fail> {
+    tells::<Answer<BTreeMap<String, Vec<String>>>>(rt.alloc(), MAPS_OF_TEXTS_TO_ARRAYS, &[], &[])
+}

@@ -1,0 +1,272 @@
+//! Typed values as rows: read over each reader for tests, and written into each writer for tests.
+use cbor4ii::serde::{
+    DecodeError, Deserialize, Deserializer, Input, Serialize, from_reader, from_slice, to_vec,
+};
+use cbor4ii_rw::error as core_error;
+use cbor4ii_rw::error::{Never, StaticStr};
+use cbor4ii_rw::io_reader::IoReader;
+use cbor4ii_rw::read::Source;
+use cbor4ii_rw::slice_reader::SliceReader;
+use cbor4ii_rw::write::Write;
+use cbor4ii_vectors::rows::{
+    ReadFrom, Row, RowWithin, Want, WriteTo, ends_at_each_front, reads, reads_alike, reads_rows,
+    reads_rows_within, reads_texts, reads_texts_within, writes,
+};
+use cbor4ii_vectors_ser::typed::write_typed;
+use std::alloc::Global;
+use std::fmt::{Debug, InlineText};
+use std::test::Fail;
+
+// The steps of a reader that is given no other limit.
+const STEPS: usize = 256;
+
+/// What is read as a typed value: a value, or the refusal that is no refusal of the codec.
+#[derive(Debug, PartialEq, Drop)]
+pub enum Answer<T> {
+    /// The value.
+    Is(T),
+    /// A refusal in words of its own.
+    Custom(StaticStr),
+}
+
+/// What calls of a deserializer read: a typed value, or what a row says by itself.
+///
+/// That it is read is proved once, over any reader, and a test of its rows asks no more of it.
+pub trait Take: Sized {
+    /// Reads it off the front of what `de` has left.
+    fn take<S: Source>(
+        alloc: Global,
+        de: &mut Deserializer<S>,
+    ) -> Result<Self, DecodeError<S::Error>>;
+}
+
+impl<T> Answer<T> {
+    /// The answer of calls, or the refusal of the codec.
+    pub fn of<E>(got: Result<T, DecodeError<E>>) -> Result<Answer<T>, core_error::DecodeError<E>> {
+        match got {
+            Ok(value) => Ok(Answer::Is(value)),
+            Err(DecodeError::Custom(text)) => Ok(Answer::Custom(text)),
+            Err(DecodeError::Core(error)) => Err(error),
+        }
+    }
+}
+
+impl<T: Take> ReadFrom for Answer<T> {
+    fn read_from<S: Source>(
+        alloc: Global,
+        reader: &mut S,
+    ) -> Result<Answer<T>, core_error::DecodeError<S::Error>> {
+        Answer::of(T::take(alloc, &mut Deserializer::new(reader)))
+    }
+}
+
+/// A refusal in words writes nothing.
+impl<T: Serialize> WriteTo for Answer<T> {
+    fn write_to<W: Write>(&self, writer: &mut W) -> Result<(), core_error::EncodeError<W::Error>> {
+        match self {
+            Answer::Is(value) => write_typed(value, writer),
+            Answer::Custom(_) => Ok(()),
+        }
+    }
+}
+
+/// Bytes, and the value that is written as them and read back from them.
+pub type Both<T> = (&'static [u8], Want<Answer<T>>);
+
+/// What each row reads is written as the row's bytes, and read back from them. Each proper front
+/// of them is the end of the input.
+pub fn go_both_ways<A>(alloc: Global, rows: &[(&'static [u8], Want<A>)]) -> Result<(), Fail>
+where
+    A: WriteTo + ReadFrom + PartialEq + Debug + Drop,
+{
+    for (bytes, want) in rows {
+        if let Ok(answer) = want {
+            writes(alloc, answer, bytes)?;
+        }
+        reads_alike(alloc, bytes, want, b"")?;
+        ends_at_each_front::<A>(alloc, bytes, STEPS)?;
+    }
+    Ok(())
+}
+
+/// Reads the rows, those without a limit and those within one.
+pub fn reads_all<A>(alloc: Global, rows: &[Row<A>], within: &[RowWithin<A>]) -> Result<(), Fail>
+where
+    A: ReadFrom + PartialEq + Debug + Drop,
+{
+    reads_rows(alloc, rows)?;
+    reads_rows_within(alloc, within)
+}
+
+/// Bytes, the text of their refusal, and what is left of them.
+pub type Refused = (&'static [u8], &'static str, &'static [u8]);
+
+/// Reads the rows of bytes that are refused.
+pub fn refuses<A>(alloc: Global, rows: &[Refused]) -> Result<(), Fail>
+where
+    A: ReadFrom + PartialEq + Debug + Drop,
+{
+    for &(bytes, refusal, rest) in rows {
+        reads::<A>(alloc, bytes, Err(refusal), rest)?;
+    }
+    Ok(())
+}
+
+/// All rows of one type: those that go both ways, those that are read, and those that are read
+/// within a limit.
+pub fn tries<A>(
+    alloc: Global,
+    both: &[(&'static [u8], Want<A>)],
+    rows: &[Row<A>],
+    within: &[RowWithin<A>],
+) -> Result<(), Fail>
+where
+    A: WriteTo + ReadFrom + PartialEq + Debug + Drop,
+{
+    go_both_ways(alloc, both)?;
+    reads_all(alloc, rows, within)
+}
+
+/// Bytes, and the text of the answer that is read from them and written as them.
+pub type BothTold = (&'static [u8], &'static str);
+
+/// A row that holds the text of the answer.
+pub type RowTold = Row<&'static str>;
+
+/// A row within a limit that holds the text of the answer.
+pub type RowToldWithin = RowWithin<&'static str>;
+
+/// As `go_both_ways`, where each row holds the text of the answer: what is read is written.
+fn tell_both_ways<A>(alloc: Global, rows: &[BothTold]) -> Result<(), Fail>
+where
+    A: WriteTo + ReadFrom + Debug + Drop,
+{
+    for (bytes, text) in rows {
+        let answer = A::read_from(alloc, &mut SliceReader::new(bytes))?;
+        writes(alloc, &answer, bytes)?;
+        reads_texts::<A>(alloc, &[(bytes, Ok(text), b"")])?;
+        ends_at_each_front::<A>(alloc, bytes, STEPS)?;
+    }
+    Ok(())
+}
+
+/// As `reads_all`, where each row holds the text of the answer.
+pub fn tells_all<A>(alloc: Global, rows: &[RowTold], within: &[RowToldWithin]) -> Result<(), Fail>
+where
+    A: ReadFrom + Debug + Drop,
+{
+    reads_texts::<A>(alloc, rows)?;
+    reads_texts_within::<A>(alloc, within)
+}
+
+/// As `tries`, where each row holds the text of the answer.
+pub fn tells<A>(
+    alloc: Global,
+    both: &[BothTold],
+    rows: &[RowTold],
+    within: &[RowToldWithin],
+) -> Result<(), Fail>
+where
+    A: WriteTo + ReadFrom + Debug + Drop,
+{
+    tell_both_ways::<A>(alloc, both)?;
+    tells_all::<A>(alloc, rows, within)
+}
+
+/// The codec refuses the value with this text. Where memory was refused the row says nothing.
+pub fn is_refused<T: Drop, E: Debug + Drop>(
+    got: Result<T, DecodeError<E>>,
+    want: &str,
+) -> Result<(), Fail> {
+    let text = match &got {
+        Err(DecodeError::Core(core_error::DecodeError::OutOfMemory)) => {
+            return Err(Fail::from(core_error::DecodeError::<Never>::OutOfMemory));
+        }
+        Err(DecodeError::Core(error)) => InlineText::<128>::of(error),
+        Err(DecodeError::Custom(_)) | Ok(_) => InlineText::of("no refusal of the codec"),
+    };
+    if text.as_str() == want {
+        return Ok(());
+    }
+    Err(Fail::new(format_args!("{} in the place of {want}", text.as_str())))
+}
+
+/// The value at the front of the bytes, from a slice and out of a stream, by the calls for one
+/// value: it has this text.
+pub fn is_at_front<T>(alloc: Global, bytes: &'static [u8], text: &str) -> Result<T, Fail>
+where
+    T: Deserialize<SliceReader<'static>>
+        + Deserialize<IoReader<&'static [u8]>>
+        + PartialEq
+        + Debug
+        + Drop,
+{
+    let value: T = from_slice(alloc, bytes)?;
+    let streamed: T = from_reader(alloc, bytes)?;
+    if value == streamed && format!(in alloc; "{value:?}")?.as_str() == text {
+        return Ok(value);
+    }
+    Err(Fail::new(format_args!("{value:?}, {streamed:?} in the place of {text}")))
+}
+
+/// As `is_at_front`, of bytes that are all of the value: it is written as them, by the call for one
+/// value.
+pub fn comes_back<T>(alloc: Global, bytes: &'static [u8], text: &str) -> Result<(), Fail>
+where
+    T: Deserialize<SliceReader<'static>>
+        + Deserialize<IoReader<&'static [u8]>>
+        + Serialize
+        + PartialEq
+        + Debug
+        + Drop,
+{
+    let value: T = is_at_front(alloc, bytes, text)?;
+    is_written_as(alloc, &value, bytes)
+}
+
+/// As `comes_back`, for rows of bytes, each with the text of its value.
+pub fn come_back<T>(alloc: Global, rows: &[BothTold]) -> Result<(), Fail>
+where
+    T: Deserialize<SliceReader<'static>>
+        + Deserialize<IoReader<&'static [u8]>>
+        + Serialize
+        + PartialEq
+        + Debug
+        + Drop,
+{
+    for (bytes, text) in rows {
+        comes_back::<T>(alloc, bytes, text)?;
+    }
+    Ok(())
+}
+
+/// As `comes_back`, from a slice alone, which need not live for good: a value may borrow from it.
+/// `input` is the slice of these bytes.
+pub fn comes_back_lent<I: Input, T>(
+    alloc: Global,
+    input: I,
+    bytes: &[u8],
+    text: &str,
+) -> Result<(), Fail>
+where
+    T: Deserialize<I::Reader> + Serialize + Debug + Drop,
+{
+    match from_slice::<I, T>(alloc, input) {
+        Ok(value) => {
+            if format!(in alloc; "{value:?}")?.as_str() != text {
+                return Err(Fail::new(format_args!("{value:?} in the place of {text}")));
+            }
+            is_written_as(alloc, &value, bytes)
+        }
+        Err(error) => Err(Fail::new(format_args!("{error:?} in the place of {text}"))),
+    }
+}
+
+/// The value is written as these bytes, by the call for one value.
+fn is_written_as<T: Serialize>(alloc: Global, value: &T, bytes: &[u8]) -> Result<(), Fail> {
+    let written = to_vec(Vec::new(alloc), value)?;
+    if written.as_slice() == bytes {
+        return Ok(());
+    }
+    Err(Fail::new(format_args!("{written:?} in the place of {bytes:?}")))
+}

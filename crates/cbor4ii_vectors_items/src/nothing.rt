@@ -1,0 +1,28 @@
+//! Rows of no item at all.
+use cbor4ii_items::decode::Decode;
+use cbor4ii_items::types::Nothing;
+use cbor4ii_vectors::readers::TestReader;
+use cbor4ii_vectors::rows::{Row, reads_rows, writes_in};
+use cbor4ii_vectors::table;
+use std::test::Fail;
+
+const NOTHING: &[Row<Nothing>] = table! {
+    (b"", Ok(Nothing), b""),
+    (b"\x05", Ok(Nothing), b"\x05"),
+};
+
+#[test]
+fn nothing(rt: HostRuntime) -> Result<(), Fail> {
+    let alloc = rt.alloc();
+    writes_in(alloc, &Nothing, b"", 0)?;
+    reads_rows(alloc, NOTHING)
+}
+
+// A reader that fails at its first show is not asked for it, and has no step to give.
+#[test]
+fn nothing_asks_nothing(rt: HostRuntime) -> Result<(), Fail> {
+    let mut reader = TestReader::whole(b"\x05", 0).failing_after(0);
+    assert_eq!(rt; Nothing::decode(rt.alloc(), &mut reader)?, Nothing);
+    assert_eq!(rt; reader.failures(), 0);
+    Ok(())
+}

@@ -1,0 +1,6 @@
+//! Rows of integers.
+
+mod big;
+mod negative;
+mod signed;
+mod unsigned;

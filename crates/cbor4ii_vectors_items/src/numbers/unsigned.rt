@@ -1,0 +1,108 @@
+//! Rows of unsigned integers: RFC 8949 Appendix A, the edges of each type, and refusals.
+use cbor4ii_items::decode::Decode;
+use cbor4ii_items::encode::Encode;
+use cbor4ii_rw::buf_writer::BufWriter;
+use cbor4ii_rw::slice_reader::SliceReader;
+use cbor4ii_vectors::rows::{
+    Row, RowWithin, reads_rows, reads_rows_within, texts_go_both_ways, writes_in,
+};
+use cbor4ii_vectors::{eof, mismatch, table};
+use std::test::Fail;
+
+const ONE_AFTER_ANOTHER: &[u8] = b"\x1a\x00\x0f\x42\x40\x20";
+
+// Two numbers of different types, read and then written.
+#[test]
+fn numbers_one_after_another(rt: HostRuntime) -> Result<(), Fail> {
+    let alloc = rt.alloc();
+    let mut reader = SliceReader::new(ONE_AFTER_ANOTHER);
+    assert_eq!(rt; u64::decode(alloc, &mut reader)?, 1_000_000);
+    assert_eq!(rt; i128::decode(alloc, &mut reader)?, -1);
+    Ok(())
+}
+
+#[test]
+fn numbers_written_one_after_another(rt: HostRuntime) -> Result<(), Fail> {
+    let mut writer = BufWriter::new(Vec::new(rt.alloc()));
+    1_000_000u64.encode(&mut writer)?;
+    (-1i128).encode(&mut writer)?;
+    assert_eq!(rt; writer.buffer(), ONE_AFTER_ANOTHER);
+    Ok(())
+}
+
+/// What `u64`, `u128` and `i128` read and write alike.
+pub const UNSIGNED_INTEGERS: &[(&[u8], &str, usize)] = table! {
+    (b"\x00", "0", 1),
+    (b"\x01", "1", 1),
+    (b"\x0a", "10", 1),
+    (b"\x17", "23", 1),
+    (b"\x18\x18", "24", 1),
+    (b"\x18\x19", "25", 1),
+    (b"\x18\x64", "100", 1),
+    (b"\x19\x03\xe8", "1000", 1),
+    (b"\x1a\x00\x0f\x42\x40", "1000000", 1),
+    (b"\x1b\x00\x00\x00\xe8\xd4\xa5\x10\x00", "1000000000000", 1),
+    (b"\x1b\xff\xff\xff\xff\xff\xff\xff\xff", "18446744073709551615", 1),
+};
+
+#[test]
+fn unsigned_integers(rt: HostRuntime) -> Result<(), Fail> {
+    texts_go_both_ways::<u64>(rt.alloc(), UNSIGNED_INTEGERS)
+}
+
+#[test]
+fn written_unsigned_integers(rt: HostRuntime) -> Result<(), Fail> {
+    let alloc = rt.alloc();
+    writes_in(alloc, &255u8, b"\x18\xff", 1)?;
+    writes_in(alloc, &65535u16, b"\x19\xff\xff", 1)?;
+    writes_in(alloc, &65536u32, b"\x1a\x00\x01\x00\x00", 1)
+}
+
+const U8: &[Row<u8>] = table! {
+    (b"\x18\xff", Ok(255), b""),
+    (b"", Err(eof!("u8", 1)), b""),
+    (b"\x18", Err(eof!("u8", 1)), b""),
+    (b"\x19\x00\x05", Err(mismatch!("u8", 0x19)), b"\x00\x05"),
+};
+
+const U16: &[Row<u16>] = table! {
+    (b"\x19\xff\xff", Ok(65535), b""),
+    (b"\x19\x00\x05", Ok(5), b""),
+    (b"\x19\x00", Err(eof!("u16", 2)), b""),
+    (b"\x1a\x00", Err(mismatch!("u16", 0x1a)), b"\x00"),
+};
+
+const U32: &[Row<u32>] = table! {
+    (b"\x1a\x00\x01\x00\x00\xff", Ok(65536), b"\xff"),
+    (b"\x1c\x00", Err(mismatch!("u32", 0x1c)), b"\x00"),
+    (b"\x1b\x00", Err(mismatch!("u32", 0x1b)), b"\x00"),
+};
+
+const U64: &[Row<u64>] = table! {
+    (b"\x1b\x00\x00\x00\x00\x00\x00\x00\x05", Ok(5), b""),
+    (b"\x1b\x01\x02\x03\x04\x05\x06\x07\x08", Ok(72623859790382856), b""),
+    (b"\x1b\x01\x02", Err(eof!("u64", 8)), b""),
+    (b"\x1f\x01", Err(mismatch!("u64", 0x1f)), b"\x01"),
+    (b"\x20\x01", Err(mismatch!("u64", 0x20)), b"\x01"),
+};
+
+#[test]
+fn unsigned_integers_by_type(rt: HostRuntime) -> Result<(), Fail> {
+    let alloc = rt.alloc();
+    reads_rows(alloc, U8)?;
+    reads_rows(alloc, U16)?;
+    reads_rows(alloc, U32)?;
+    reads_rows(alloc, U64)
+}
+
+const LEAST_AND_GREATEST: &[RowWithin<u8>] = table! {
+    (b"\x05", 0, Ok(5), b""),
+    (b"\x18\x05", 0, Ok(5), b""),
+    (b"\x18\x05", usize::MAX, Ok(5), b""),
+};
+
+// What takes no step is read where none is left, and as many as a limit can be do not run over.
+#[test]
+fn the_least_and_the_greatest_limit(rt: HostRuntime) -> Result<(), Fail> {
+    reads_rows_within(rt.alloc(), LEAST_AND_GREATEST)
+}

@@ -1,0 +1,134 @@
+//! Rows of lengths that the bytes do not carry, and of more than is reserved before any of it came.
+//!
+//! As the bytes come a decoder has to grow, and where memory is found it has to answer the value.
+use cbor4ii_items::types::{Bytes, Map, UncheckedStr};
+use cbor4ii_vectors::rows::{Row, reads_by_each, reads_texts};
+use cbor4ii_vectors::{eof, table};
+use std::alloc::{AllocError, Global};
+use std::test::Fail;
+
+const LENGTHS_WITHOUT_BYTES: &[Row<&str>] = table! {
+    (b"\x5b\xff\xff\xff\xff\xff\xff\xff\xff", Err(eof!("bytes", Big)), b""),
+    (b"\x5b\x00\x00\x7f\xff\xff\xff\xff\xff", Err(eof!("bytes", Big)), b""),
+    (b"\x5f\x5b\xff\xff\xff\xff\xff\xff\xff\xff", Err(eof!("bytes", Big)), b""),
+    (b"\x5f\x41\x00\x5b\x00\x00\x7f\xff\xff\xff\xff\xff", Err(eof!("bytes", Big)), b""),
+};
+
+// A length that the bytes do not carry reserves no more than 16384 bytes, whatever it says: no
+// machine has so much.
+#[test]
+fn lengths_without_bytes(rt: HostRuntime) -> Result<(), Fail> {
+    reads_texts::<Bytes<Vec<u8>>>(rt.alloc(), LENGTHS_WITHOUT_BYTES)
+}
+
+const LENGTHS_WITHOUT_ITEMS: &[Row<&str>] = table! {
+    (b"\x9b\xff\xff\xff\xff\xff\xff\xff\xff\x01", Err(eof!("u64", 1)), b""),
+};
+
+// Places for no more than 256 items are reserved.
+#[test]
+fn lengths_without_items(rt: HostRuntime) -> Result<(), Fail> {
+    reads_texts::<Vec<u64>>(rt.alloc(), LENGTHS_WITHOUT_ITEMS)
+}
+
+// The numbers from 0 to 22, over and over.
+fn numbers(alloc: Global, count: usize) -> Result<Vec<u8>, AllocError> {
+    let mut numbers = Vec::with_capacity(alloc, count)?;
+    for i in 0..count {
+        numbers.push((i % 23) as u8)?;
+    }
+    Ok(numbers)
+}
+
+// These bytes between a head and an end.
+fn between(
+    alloc: Global,
+    head: &[u8],
+    inner: &[u8],
+    end: &[u8],
+) -> Result<&'static [u8], AllocError> {
+    let mut bytes = head.to_vec(alloc)?;
+    bytes.extend_from_slice(inner)?;
+    bytes.extend_from_slice(end)?;
+    Ok(bytes.leak())
+}
+
+#[test]
+fn arrays_of_300_items(rt: HostRuntime) -> Result<(), Fail> {
+    let alloc = rt.alloc();
+    let items = numbers(alloc, 300)?;
+    let counted = between(alloc, b"\x99\x01\x2c", &items, b"")?;
+    let open = between(alloc, b"\x9f", &items, b"\xff")?;
+    for bytes in [counted, open] {
+        reads_by_each(alloc, bytes, 256, &Ok(numbers(alloc, 300)?), b"")?;
+    }
+    Ok(())
+}
+
+#[test]
+fn maps_of_300_pairs(rt: HostRuntime) -> Result<(), Fail> {
+    let alloc = rt.alloc();
+    let items = numbers(alloc, 600)?;
+    let counted = between(alloc, b"\xb9\x01\x2c", &items, b"")?;
+    let open = between(alloc, b"\xbf", &items, b"\xff")?;
+    for bytes in [counted, open] {
+        let mut pairs = Vec::with_capacity(alloc, 300)?;
+        for pair in items.chunks_exact(2) {
+            pairs.push((pair[0], pair[1]))?;
+        }
+        reads_by_each(alloc, bytes, 256, &Ok(Map(pairs)), b"")?;
+    }
+    Ok(())
+}
+
+// Chunks of 20 bytes, each behind this head.
+fn in_chunks(alloc: Global, content: &[u8], head: u8) -> Result<Vec<u8>, AllocError> {
+    let mut bytes = Vec::new(alloc);
+    for chunk in content.chunks(20) {
+        bytes.push(head)?;
+        bytes.extend_from_slice(chunk)?;
+    }
+    Ok(bytes)
+}
+
+#[test]
+fn byte_strings_of_20000_bytes(rt: HostRuntime) -> Result<(), Fail> {
+    let alloc = rt.alloc();
+    let content = numbers(alloc, 20_000)?;
+    let counted = between(alloc, b"\x59\x4e\x20", &content, b"")?;
+    // 0x54 is the head of a chunk of 20 bytes.
+    let chunks = in_chunks(alloc, &content, 0x54)?;
+    let open = between(alloc, b"\x5f", &chunks, b"\xff")?;
+    let one_chunk = between(alloc, b"\x5f\x59\x4e\x20", &content, b"\xff")?;
+    for bytes in [counted, open, one_chunk] {
+        reads_by_each(alloc, bytes, 256, &Ok(Bytes(numbers(alloc, 20_000)?)), b"")?;
+    }
+    Ok(())
+}
+
+#[test]
+fn texts_of_20000_bytes(rt: HostRuntime) -> Result<(), Fail> {
+    let alloc = rt.alloc();
+    let content = numbers(alloc, 20_000)?;
+    let counted = between(alloc, b"\x79\x4e\x20", &content, b"")?;
+    // 0x74 is the head of a chunk of 20 bytes.
+    let chunks = in_chunks(alloc, &content, 0x74)?;
+    let open = between(alloc, b"\x7f", &chunks, b"\xff")?;
+    for bytes in [counted, open] {
+        reads_by_each(
+            alloc,
+            bytes,
+            256,
+            &Ok(UncheckedStr(numbers(alloc, 20_000)?)),
+            b"",
+        )?;
+        reads_by_each(
+            alloc,
+            bytes,
+            256,
+            &Ok(String::from_utf8(numbers(alloc, 20_000)?)?),
+            b"",
+        )?;
+    }
+    Ok(())
+}

@@ -1,0 +1,13 @@
+//! Tests of `cbor4ii_rw`: readers, writers and errors.
+
+mod ask;
+mod buf_writer;
+mod by_ref;
+mod error;
+mod io_reader;
+mod io_writer;
+mod read;
+mod segment_reader;
+mod shown;
+mod slice_reader;
+mod steps;

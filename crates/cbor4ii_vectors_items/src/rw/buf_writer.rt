@@ -1,0 +1,48 @@
+//! A buffer appends what is pushed, or nothing where memory is refused.
+use cbor4ii_rw::buf_writer::BufWriter;
+use cbor4ii_rw::write::Write;
+use std::test::Fail;
+
+#[test]
+fn a_buffer_appends(rt: HostRuntime) -> Result<(), Fail> {
+    let mut writer = BufWriter::new(vec![in rt.alloc(); 9]?);
+    writer.push(b"ab")?;
+    Write::push(&mut &mut writer, b"")?;
+    assert_eq!(rt; writer.buffer(), b"\tab".as_slice());
+    writer.clear();
+    writer.push(b"c")?;
+    assert_eq!(rt; writer.into_inner().as_slice(), b"c".as_slice());
+    Ok(())
+}
+
+// Whichever growth is refused, each push appends all of its input or nothing. One push at most is
+// refused, and none where memory is found.
+#[test]
+fn a_refused_growth_appends_nothing(rt: HostRuntime) {
+    let mut writer = BufWriter::new(Vec::new(rt.alloc()));
+    let mut kept: usize = 0;
+    for _ in 0..40 {
+        if writer.push(b"0123456789").is_ok() {
+            kept = kept.saturating_add(10);
+        }
+        assert_eq!(rt; writer.buffer().len(), kept);
+    }
+    assert!(rt; kept >= 390);
+    for (i, byte) in writer.buffer().iter().enumerate() {
+        assert_eq!(rt; usize::from(*byte), 48 + i % 10);
+    }
+}
+
+// 40 pushes of 10 bytes, for which the buffer grows again and again.
+#[test]
+fn a_buffer_grows(rt: HostRuntime) -> Result<(), Fail> {
+    let mut writer = BufWriter::new(Vec::new(rt.alloc()));
+    for _ in 0..40 {
+        writer.push(b"0123456789")?;
+    }
+    assert_eq!(rt; writer.buffer().len(), 400);
+    for (i, byte) in writer.buffer().iter().enumerate() {
+        assert_eq!(rt; usize::from(*byte), 48 + i % 10);
+    }
+    Ok(())
+}

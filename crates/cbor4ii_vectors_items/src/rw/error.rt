@@ -1,0 +1,74 @@
+//! The texts of refusals, and how refusals are compared.
+use cbor4ii_rw::error::{ArithmeticOverflow, DecodeError, EncodeError, Len, StaticStr};
+use cbor4ii_vectors::{
+    cast_overflow, eof, length_overflow, mismatch, no_step, not_canonical, require_borrowed,
+    require_length, require_utf8, table, unsupported,
+};
+use std::fmt::{Debug, Display, InlineText};
+use std::test::Fail;
+
+const NAME: StaticStr = "str";
+
+const UNDERFLOW: &str = "ArithmeticOverflow { name: \"str\", ty: Underflow }";
+
+const OVERFLOW: &str = "ArithmeticOverflow { name: \"str\", ty: Overflow }";
+
+const TEXTS: &[(DecodeError<u8>, &str)] = table! {
+    (DecodeError::Read(3), "Read(3)"),
+    (DecodeError::Mismatch { name: NAME, found: 64 }, mismatch!("str", 64)),
+    (DecodeError::Unsupported { name: NAME, found: 255 }, unsupported!("str", 255)),
+    (DecodeError::Eof { name: NAME, expect: Len::Small(2) }, eof!("str", 2)),
+    (DecodeError::RequireLength { name: NAME, found: Len::Indefinite }, require_length!("str")),
+    (DecodeError::RequireBorrowed { name: NAME }, require_borrowed!("str")),
+    (DecodeError::RequireUtf8 { name: NAME }, require_utf8!("str")),
+    (DecodeError::LengthOverflow { name: NAME, found: Len::Big }, length_overflow!("str", Big)),
+    (DecodeError::CastOverflow { name: NAME }, cast_overflow!("str")),
+    (DecodeError::ArithmeticOverflow { name: NAME, ty: ArithmeticOverflow::Underflow }, UNDERFLOW),
+    (DecodeError::ArithmeticOverflow { name: NAME, ty: ArithmeticOverflow::Overflow }, OVERFLOW),
+    (DecodeError::DepthOverflow { name: NAME }, no_step!("str")),
+    (DecodeError::Custom { name: NAME, num: 7 }, "Custom { name: \"str\", num: 7 }"),
+    (DecodeError::OutOfMemory, "OutOfMemory"),
+    (DecodeError::NotCanonical { name: NAME }, not_canonical!("str")),
+};
+
+// Of a refusal both texts are the same.
+fn has_text<T: Debug + Display>(error: &T, text: &str) -> bool {
+    let shown = InlineText::<64>::of(error);
+    let told = InlineText::<64>::of(format_args!("{error:?}"));
+    shown.as_str() == text && told.as_str() == text
+}
+
+#[test]
+fn errors_have_the_texts_of_debug(rt: HostRuntime) {
+    for (error, text) in TEXTS {
+        assert!(rt; has_text(error, text));
+    }
+    assert!(rt; has_text(&DecodeError::from(3u8), "Read(3)"));
+    assert!(rt; has_text(&EncodeError::from(3u8), "Write(3)"));
+}
+
+#[test]
+fn lengths_beyond_two_bytes_are_big(rt: HostRuntime) {
+    assert_eq!(rt; Len::new(65535), Len::Small(65535));
+    assert_eq!(rt; Len::new(65536), Len::Big);
+}
+
+#[test]
+fn refusals_are_compared(rt: HostRuntime) -> Result<(), Fail> {
+    let eof: DecodeError<u8> = DecodeError::Eof {
+        name: "u8",
+        expect: Len::new(1),
+    };
+    let longer: DecodeError<u8> = DecodeError::Eof {
+        name: "u8",
+        expect: Len::new(2),
+    };
+    assert!(rt; eof == eof.clone()?);
+    assert!(rt; eof != longer);
+    assert!(rt; eof != DecodeError::Read(1));
+    assert!(rt; DecodeError::Read(1u8) != DecodeError::Read(2));
+    let write = EncodeError::Write(1u8);
+    assert!(rt; write == write.clone()?);
+    assert!(rt; write != EncodeError::Write(2));
+    Ok(())
+}

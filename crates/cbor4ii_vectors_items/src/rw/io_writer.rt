@@ -1,0 +1,53 @@
+//! A stream is appended to, and what fails there is told.
+use cbor4ii_rw::io_writer::IoWriter;
+use cbor4ii_rw::write::Write;
+use cbor4ii_vectors::streams::FailingSink;
+use std::io::ErrorKind;
+use std::test::Fail;
+
+#[test]
+fn a_stream_is_appended_to(rt: HostRuntime) -> Result<(), Fail> {
+    let mut writer = IoWriter::new(Vec::new(rt.alloc()));
+    writer.push(b"ab")?;
+    writer.push(b"c")?;
+    assert_eq!(rt; writer.into_inner().as_slice(), b"abc".as_slice());
+    Ok(())
+}
+
+// Of a push that a stream refuses, the stream may hold a part.
+#[test]
+fn a_write_that_fails_is_told(rt: HostRuntime) -> Result<(), Fail> {
+    let mut writer = IoWriter::new(FailingSink::new(Vec::with_capacity(rt.alloc(), 3)?, 2));
+    writer.push(b"a")?;
+    let failed = writer.push(b"bc");
+    assert!(rt; matches!(failed, Err(error) if error.kind() == ErrorKind::Other));
+    writer.push(b"d")?;
+    assert_eq!(rt; writer.into_inner().buffer(), b"abd".as_slice());
+    Ok(())
+}
+
+// Which error a flush hands on, no clause says.
+#[test]
+fn a_flush_that_fails_is_told(rt: HostRuntime) {
+    let sink = FailingSink::new(Vec::new(rt.alloc()), 0).failing_at_flush(ErrorKind::TimedOut);
+    let mut writer = IoWriter::new(sink);
+    let failed = writer.flush();
+    assert!(rt; matches!(failed, Err(error) if error.kind() == ErrorKind::TimedOut));
+    assert!(rt; !writer.is_flushed());
+    assert_eq!(rt; writer.into_inner().flushes(), 1);
+}
+
+// No clause says that a flush reaches the stream.
+#[test]
+fn a_flush_reaches_the_stream(rt: HostRuntime) -> Result<(), Fail> {
+    let mut writer = IoWriter::new(FailingSink::new(Vec::with_capacity(rt.alloc(), 1)?, 9));
+    assert!(rt; !writer.is_flushed());
+    writer.flush()?;
+    assert!(rt; writer.is_flushed());
+    writer.push(b"a")?;
+    assert!(rt; !writer.is_flushed());
+    writer.flush()?;
+    assert!(rt; writer.is_flushed());
+    assert_eq!(rt; writer.into_inner().flushes(), 2);
+    Ok(())
+}

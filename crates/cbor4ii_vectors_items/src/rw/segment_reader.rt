@@ -1,0 +1,126 @@
+//! Slices that stand one after another: what is shown and lent of them, and rows over them.
+use crate::cow_rows::{Kind, decodes};
+use crate::rw::shown::{gives, shows};
+use cbor4ii_rw::segment_reader::SegmentReader;
+use cbor4ii_vectors::items::Lent;
+use cbor4ii_vectors::rows::{ReadBy, Want, by_text, reads_over};
+use cbor4ii_vectors::{eof, require_length, table};
+use std::alloc::Global;
+use std::fmt::Debug;
+use std::test::Fail;
+
+#[test]
+fn segments_give_their_bytes(rt: HostRuntime) -> Result<(), Fail> {
+    let parts: [&[u8]; 5] = [b"", b"ab", b"", b"cde", b""];
+    let mut segments = SegmentReader::new(&parts);
+    assert!(rt; gives(&rt, rt.alloc(), &mut segments, 2)?);
+    Ok(())
+}
+
+#[test]
+fn no_more_is_shown_than_a_segment_has(rt: HostRuntime) {
+    let parts: [&[u8]; 3] = [b"", b"ab", b"c"];
+    let mut segments = SegmentReader::new(&parts);
+    assert!(rt; shows(&mut segments, 0, b"", 0));
+    assert!(rt; shows(&mut segments, 1, b"a", 0));
+    assert!(rt; shows(&mut segments, 9, b"ab", 0));
+}
+
+// A row: the segments, their bytes, the text of what is read, and what is left of the bytes.
+type Row = (
+    &'static [&'static [u8]],
+    &'static [u8],
+    Want<&'static str>,
+    &'static [u8],
+);
+
+fn reads_segments<T>(alloc: Global, rows: &[Row]) -> Result<(), Fail>
+where
+    T: ReadBy<SegmentReader<'static>> + Debug + Drop,
+{
+    for (segments, bytes, want, rest) in rows {
+        let mut reader = SegmentReader::new(segments);
+        reads_over(alloc, &mut reader, bytes, &by_text::<T>(alloc, want)?, rest)?;
+    }
+    Ok(())
+}
+
+const NUMBER: &[u8] = b"\x1b\x01\x02\x03\x04\x05\x06\x07\x08";
+
+// Cut at each place.
+const NUMBERS: &[Row] = table! {
+    (&[b"\x1b", b"\x01\x02\x03\x04\x05\x06\x07\x08"], NUMBER, Ok("72623859790382856"), b""),
+    (&[b"\x1b\x01", b"\x02\x03\x04\x05\x06\x07\x08"], NUMBER, Ok("72623859790382856"), b""),
+    (&[b"\x1b\x01\x02", b"\x03\x04\x05\x06\x07\x08"], NUMBER, Ok("72623859790382856"), b""),
+    (&[b"\x1b\x01\x02\x03", b"\x04\x05\x06\x07\x08"], NUMBER, Ok("72623859790382856"), b""),
+    (&[b"\x1b\x01\x02\x03\x04", b"\x05\x06\x07\x08"], NUMBER, Ok("72623859790382856"), b""),
+    (&[b"\x1b\x01\x02\x03\x04\x05", b"\x06\x07\x08"], NUMBER, Ok("72623859790382856"), b""),
+    (&[b"\x1b\x01\x02\x03\x04\x05\x06", b"\x07\x08"], NUMBER, Ok("72623859790382856"), b""),
+    (&[b"\x1b\x01\x02\x03\x04\x05\x06\x07", b"\x08"], NUMBER, Ok("72623859790382856"), b""),
+};
+
+#[test]
+fn a_number_in_two_segments(rt: HostRuntime) -> Result<(), Fail> {
+    reads_segments::<u64>(rt.alloc(), NUMBERS)
+}
+
+const LENT: &[Row] = table! {
+    (&[b"", b"\x62aa", b""], b"\x62aa", Ok("Lent(\"aa\")"), b""),
+    (&[b"\x62a", b"a"], b"\x62aa", Err(require_length!("str", 1)), b"aa"),
+    (&[b"\x62", b"aa\x01"], b"\x62aa\x01", Ok("Lent(\"aa\")"), b"\x01"),
+    (&[b"\x62aa", b"\x01"], b"\x62aa\x01", Ok("Lent(\"aa\")"), b"\x01"),
+    (&[b"\x64IE", b"", b"TF"], b"\x64IETF", Err(require_length!("str", 2)), b"IETF"),
+    (&[b"\x60", b"\x01"], b"\x60\x01", Ok("Lent(\"\")"), b"\x01"),
+    (&[], b"", Err(eof!("str", 1)), b""),
+    (&[b"", b""], b"", Err(eof!("str", 1)), b""),
+};
+
+// A text is lent where it stands in one segment.
+#[test]
+fn texts_lent_of_segments(rt: HostRuntime) -> Result<(), Fail> {
+    reads_segments::<Lent<&'static str>>(rt.alloc(), LENT)
+}
+
+const OWNED: &[Row] = table! {
+    (&[b"", b"\x62aa", b""], b"\x62aa", Ok("\"aa\""), b""),
+    (&[b"\x62a", b"a"], b"\x62aa", Ok("\"aa\""), b""),
+    (&[b"\x62", b"aa"], b"\x62aa", Ok("\"aa\""), b""),
+    (&[b"\x62", b"a", b"", b"a"], b"\x62aa", Ok("\"aa\""), b""),
+};
+
+// An owned text is read wherever the segments end.
+#[test]
+fn owned_texts_of_segments(rt: HostRuntime) -> Result<(), Fail> {
+    reads_segments::<String>(rt.alloc(), OWNED)
+}
+
+// Segments of a string, its bytes, its content, and whether that is borrowed from them.
+const BORROWED_OR_OWNED: &[(Kind, &[&[u8]], &[u8], &[u8], bool)] = table! {
+    (Kind::Text, &[b"", b"\x62aa", b""], b"\x62aa", b"aa", true),
+    (Kind::Text, &[b"\x62", b"aa"], b"\x62aa", b"aa", true),
+    (Kind::Text, &[b"\x62a", b"a"], b"\x62aa", b"aa", false),
+    (Kind::Unchecked, &[b"", b"\x62\xffa", b""], b"\x62\xffa", b"\xffa", true),
+    (Kind::Unchecked, &[b"\x62", b"\xffa"], b"\x62\xffa", b"\xffa", true),
+    (Kind::Unchecked, &[b"\x62\xff", b"a"], b"\x62\xffa", b"\xffa", false),
+    (Kind::Unchecked, &[b"\x7f\x61", b"a\xff"], b"\x7f\x61a\xff", b"a", false),
+    (Kind::Bytes, &[b"", b"\x42\x01\x02", b""], b"\x42\x01\x02", b"\x01\x02", true),
+    (Kind::Bytes, &[b"\x42", b"\x01\x02"], b"\x42\x01\x02", b"\x01\x02", true),
+    (Kind::Bytes, &[b"\x42\x01", b"\x02"], b"\x42\x01\x02", b"\x01\x02", false),
+    (Kind::Bytes, &[b"\x5f\x41", b"\x01\xff"], b"\x5f\x41\x01\xff", b"\x01", false),
+};
+
+#[test]
+fn strings_borrowed_or_owned_of_segments(rt: HostRuntime) -> Result<(), Fail> {
+    for &(kind, segments, bytes, content, is_borrowed) in BORROWED_OR_OWNED {
+        let mut reader = SegmentReader::new(segments);
+        decodes(
+            kind,
+            rt.alloc(),
+            &mut reader,
+            bytes,
+            Ok((content, is_borrowed)),
+            b"",
+        )?;
+    }
+    Ok(())
+}

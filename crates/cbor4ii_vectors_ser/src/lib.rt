@@ -1,0 +1,41 @@
+//! Rows of typed values that are only written, as tests: a file for each of `cbor4ii_ser`. What
+//! several of them share stands in `by_pieces`, `pieces`, `tagged` and `typed`.
+//!
+//! The rows' values come from RFC 8949 and from worked examples, never from this codec's own
+//! answers.
+#![tactic(auto)]
+
+#[cfg(test)]
+mod bounded;
+#[cfg(test)]
+mod by_pieces;
+#[cfg(test)]
+mod collect;
+#[cfg(test)]
+mod error;
+#[cfg(test)]
+mod fields;
+#[cfg(test)]
+mod held;
+#[cfg(test)]
+mod laws;
+#[cfg(test)]
+mod leaves;
+#[cfg(test)]
+mod maps;
+pub mod pieces;
+#[cfg(test)]
+mod sequences;
+#[cfg(test)]
+mod serializer;
+#[cfg(test)]
+mod tagged;
+#[cfg(test)]
+mod text;
+#[cfg(test)]
+mod tuples;
+pub mod typed;
+#[cfg(test)]
+mod value;
+#[cfg(test)]
+mod write_all;

@@ -1,0 +1,35 @@
+//! Rows of whole items: each file tests the file of its name in `cbor4ii_tree`.
+//!
+//! Files of that crate with nothing public have none here:
+//! - `leaf.rt`, `run.rt`, `simple.rt` and `slot.rt` are called by `Value` and `Canonical`
+//! - `skip.rt`, `unseen.rt`, `ahead.rt` and `front.rt` are called by `IgnoredAny`
+//! - `lend_raw.rt` is called by `RawValue` and `BoxedRawValue`, and `range.rt` by a law
+//!
+//! The rows' values come from RFC 8949 (its Appendix A above all) and from worked examples, never
+//! from this codec's own answers.
+#![tactic(auto)]
+
+#[cfg(test)]
+mod boxed_raw;
+#[cfg(test)]
+mod decode_canonical;
+#[cfg(test)]
+mod decode_value;
+#[cfg(test)]
+mod encode_value;
+#[cfg(test)]
+mod ignored;
+#[cfg(test)]
+mod item;
+#[cfg(test)]
+mod item_rows;
+#[cfg(test)]
+mod kept;
+#[cfg(test)]
+mod laws;
+#[cfg(test)]
+mod literal;
+#[cfg(test)]
+mod raw;
+#[cfg(test)]
+mod value;
