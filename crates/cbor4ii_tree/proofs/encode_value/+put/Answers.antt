@@ -125,8 +125,9 @@ put_value-returns-in-Text-clause-item g t c =
 pub put_value-returns-in_ok-put_head-in-Array-clause-item :
     goal.put_value-returns-in_ok-put_head-in-Array-clause-item
 put_value-returns-in_ok-put_head-in-Array-clause-item g t c =
-    on_some c.put_items.result (array_in_range c.args.value.now c.in-Array.items c.deref-in-Array.result.now
-    c.in-Array.is c.deref-in-Array.ensures.value c.deref-in-Array.type_inv.0) c.put_items.ensures.items
+    on_some c.put_items.result
+    (array_in_range c.args.value.now c.in-Array.items c.deref-in-Array.result.now c.in-Array.is
+    c.deref-in-Array.ensures.value c.deref-in-Array.type_inv.0) c.put_items.ensures.items
 
 pub put_value-returns-in_ok-put_head-in-Map-clause-item :
     goal.put_value-returns-in_ok-put_head-in-Map-clause-item
@@ -138,8 +139,8 @@ put_value-returns-in_ok-put_head-in-Map-clause-item g t c =
 pub put_value-returns-in_ok-put_head-in-Array-clause-writes :
     goal.put_value-returns-in_ok-put_head-in-Array-clause-writes
 put_value-returns-in_ok-put_head-in-Array-clause-writes g t c =
-    writes_as _ (Array-bytes c.args.value.now c.in-Array.items c.len.result c.deref-in-Array.result.now
-    c.in-Array.is c.deref-in-Array.ensures.value (omega arith))
+    writes_as _ (Array-bytes c.args.value.now c.in-Array.items c.len.result
+    c.deref-in-Array.result.now c.in-Array.is c.deref-in-Array.ensures.value (omega arith))
     (writes_then _ c.in_ok-put_head-in-Array.ensures.writes c.put_items.ensures.writes)
 
 pub put_value-returns-in_ok-put_head-in-Map-clause-writes :
