@@ -139,20 +139,32 @@ const CANONICAL_VALUE: Pieces<'static> = table! {
 
 const ANY: Pieces<'static> = &[("Typed(", 1), ("Array([", 128), ("])", 128), (")", 1)];
 
-/// Arrays in arrays.
+// 255 tags, one in another, and an integer inside.
+const TAGS: Parts = &[(b"\xc1", 255), (b"\x00", 1)];
+
+const TAGGED: Pieces<'static> = table! {
+    ("Item(", 1),
+    ("Tag(1, ", 255),
+    ("Integer(0)", 1),
+    (")", 256),
+};
+
+/// Arrays in arrays, and tags in tags.
 pub fn nests(tally: &mut Tally) -> Result<(), Broken> {
     grows::<Item<Value>>(tally, "nested arrays", NEST, VALUE)?;
-    nests_in_slice::<Item<Canonical>>(tally, "nested canonical arrays", CANONICAL_VALUE)?;
-    nests_in_slice::<Typed<Value>>(tally, "nested arrays of any kind", ANY)
+    nests_in_slice::<Item<Canonical>>(tally, "nested canonical arrays", NEST, CANONICAL_VALUE)?;
+    nests_in_slice::<Typed<Value>>(tally, "nested arrays of any kind", NEST, ANY)?;
+    nests_in_slice::<Item<Value>>(tally, "nested tags", TAGS, TAGGED)
 }
 
-// Over a slice alone, since each array takes memory.
+// Over a slice alone, since each array or tag takes memory.
 fn nests_in_slice<T: ReadFrom + Debug + Drop>(
     tally: &mut Tally,
     row: &'static str,
+    parts: Parts,
     text: Pieces<'static>,
 ) -> Result<(), Broken> {
-    let Some(bytes) = tally.joined(NEST) else {
+    let Some(bytes) = tally.joined(parts) else {
         return Ok(());
     };
     let meant = Meant {

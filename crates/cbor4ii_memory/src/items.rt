@@ -16,6 +16,7 @@ const TEXTS: &[Row] = table! {
     (b"\x7f\x65strea\x64ming\xff\x01", "\"streaming\"", b"\x01"),
     (b"\x7f\x65strea\x64ming\xff", "\"streaming\"", b""),
     (b"\x7f\xff", "\"\"", b""),
+    (b"\x7f\x61\xc3\x61\xa9\xff", "\"\u{e9}\"", b""),
 };
 
 const BYTES: &[Row] = table! {

@@ -245,7 +245,7 @@ const TEXT: &[u8] = b"\x7f\x61a\x61b\xff\x01";
 const BYTES: &[u8] = b"\x5f\x41\x08\x41\x09\xff\x01";
 
 /// Typed strings that are borrowed where a reader lends them, and the calls for them.
-pub fn strings(tally: &mut Tally) -> Result<(), Broken> {
+pub fn lent_strings(tally: &mut Tally) -> Result<(), Broken> {
     reads(tally, Left::Never, Over::SliceAndSegments, LENT)?;
     reads(tally, Left::AnEnd, Over::SegmentsAndStream, COPIED)?;
     reads(tally, Left::AnEnd, Over::Each, CHUNKED)

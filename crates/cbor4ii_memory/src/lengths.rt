@@ -1,4 +1,5 @@
 //! Rows of lengths that are false: fewer parts follow them, and little memory is taken for them.
+use crate::read::{leaves, leaves_an_end};
 use crate::tally::{Broken, Tally};
 use crate::typed::Typed;
 use crate::values::Item;
@@ -8,7 +9,7 @@ use cbor4ii_rw::io_reader::IoReader;
 use cbor4ii_rw::read::Source;
 use cbor4ii_rw::slice_reader::SliceReader;
 use cbor4ii_tree::{Canonical, Value};
-use cbor4ii_vectors::rows::ReadFrom;
+use cbor4ii_vectors::rows::{ReadFrom, steps};
 use cbor4ii_vectors::streams::FailingStream;
 use cbor4ii_vectors::table;
 use std::collections::BTreeMap;
@@ -52,9 +53,9 @@ fn ends<T: ReadFrom + Drop>(
     inputs: &'static [&'static [u8]],
 ) -> Result<(), Broken> {
     for bytes in inputs {
-        ends_over::<T, _>(tally, row, &mut SliceReader::new(bytes))?;
+        ends_over::<T, _>(tally, row, &mut SliceReader::new(bytes), bytes)?;
         let stream = FailingStream::new(bytes, 3, usize::MAX);
-        ends_over::<T, _>(tally, row, &mut IoReader::new(stream))?;
+        ends_over::<T, _>(tally, row, &mut IoReader::new(stream), bytes)?;
     }
     Ok(())
 }
@@ -63,14 +64,24 @@ fn ends_over<T: ReadFrom + Drop, S: Source>(
     tally: &mut Tally,
     row: &'static str,
     reader: &mut S,
+    bytes: &[u8],
 ) -> Result<(), Broken> {
+    let budget = steps(reader);
     let got = T::read_from(tally.alloc(), reader);
-    match &got {
-        Err(DecodeError::Eof { .. }) => {}
-        Err(DecodeError::OutOfMemory) => tally.refuse(),
-        _ => return Err(Broken::new(row, "a false length is not the end of the input")),
+    if steps(reader) != budget {
+        return Err(Broken::new(row, "the steps are not as before"));
     }
-    Ok(())
+    match &got {
+        Err(DecodeError::Eof { .. }) if leaves(reader, b"") => Ok(()),
+        Err(DecodeError::OutOfMemory) => {
+            tally.refuse();
+            if leaves_an_end(reader, bytes) {
+                return Ok(());
+            }
+            Err(Broken::new(row, "other bytes are left without memory"))
+        }
+        _ => Err(Broken::new(row, "a false length is not the end of the input")),
+    }
 }
 
 /// Items.

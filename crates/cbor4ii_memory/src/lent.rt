@@ -2,7 +2,7 @@
 use crate::read::{Left, Meant, reads_over};
 use crate::tally::{Broken, Tally};
 use crate::values::value;
-use cbor4ii_items::types::{Bytes, UncheckedStr};
+use cbor4ii_items::types::{Bytes, Map, UncheckedStr};
 use cbor4ii_rw::error::EncodeError;
 use cbor4ii_rw::io_reader::IoReader;
 use cbor4ii_rw::segment_reader::SegmentReader;
@@ -140,10 +140,23 @@ const BOTH_KEPT: &[LentRow] = table! {
 
 const BOTH: &[u8] = b"\x82\x18\x05\x80\x03";
 
+type KeptMembers = Lent<Map<Vec<(String, BoxedRawValue)>>>;
+
+// A map under a key, with a longer head than needed.
+const KEPT_MEMBERS: &[LentRow] = table! {
+    (MEMBERS, &[MEMBERS], MEMBERS_TOLD, b""),
+};
+
+const MEMBERS: &[u8] = b"\xa1\x63bar\xa1\x65value\x18\x99";
+
+const MEMBERS_TOLD: &str =
+    "Lent(Map([(\"bar\", BoxedRawValue([161, 101, 118, 97, 108, 117, 101, 24, 153]))]))";
+
 /// Items that are kept as a copy of their bytes: the item was taken where memory is refused.
 pub fn kept(tally: &mut Tally) -> Result<(), Broken> {
     lends::<Lent<BoxedRawValue>>(tally, "BoxedRawValue", Left::TheRest, KEPT)?;
     lends::<Lent<Vec<BoxedRawValue>>>(tally, "Vec of BoxedRawValue", Left::AnEnd, BOTH_KEPT)?;
+    lends::<KeptMembers>(tally, "Map of BoxedRawValue", Left::AnEnd, KEPT_MEMBERS)?;
     if let Some(value) = value(tally, b"\x9f\x18\x05\xff")? {
         keeps_value(tally, &value)?;
     }

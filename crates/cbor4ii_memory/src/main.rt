@@ -85,6 +85,7 @@ fn item_rows(tally: &mut Tally) -> Result<(), Broken> {
 
 fn value_rows(tally: &mut Tally) -> Result<(), Broken> {
     values::values(tally)?;
+    values::refused(tally)?;
     values::copies(tally)?;
     lent::kept(tally)?;
     lent::strings(tally)
@@ -96,7 +97,7 @@ fn typed_rows(tally: &mut Tally) -> Result<(), Broken> {
     typed::firsts(tally)?;
     typed_calls::types(tally)?;
     typed_calls::by_name(tally)?;
-    lendable::strings(tally)
+    lendable::lent_strings(tally)
 }
 
 fn rows_in_place(tally: &mut Tally) -> Result<(), Broken> {
@@ -118,6 +119,7 @@ fn written_typed_rows(tally: &mut Tally) -> Result<(), Broken> {
     writing_typed::owned(tally)?;
     writing_parts::calls(tally)?;
     writing_parts::texts(tally)?;
+    writing_parts::long_texts(tally)?;
     writing_parts::whole(tally)?;
     writing_parts::streamed(tally)?;
     writing_parts::streamed_in_place()

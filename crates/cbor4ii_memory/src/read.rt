@@ -10,13 +10,16 @@ use cbor4ii_rw::slice_reader::SliceReader;
 use cbor4ii_vectors::rows::{ReadBy, ReadFrom, steps};
 use cbor4ii_vectors::streams::FailingStream;
 use std::alloc::Global;
-use std::fmt::Debug;
+use std::fmt::{Debug, InlineText};
 
 // No row has more bytes.
 const MOST_BYTES: usize = 20_480;
 
 /// A row: bytes, the `Debug` text of what is read, and what is left of them.
 pub type Row = (&'static [u8], &'static str, &'static [u8]);
+
+/// A row that is refused: bytes, the text of the refusal, and what is left of them.
+pub type RefusedRow = (&'static [u8], &'static str, &'static [u8]);
 
 /// A row of calls: its name, the call, and then as `Row`.
 pub type CallRow<C> = (&'static str, C, &'static [u8], &'static str, &'static [u8]);
@@ -95,6 +98,53 @@ pub fn reads_in_place<T: ReadFrom + Debug + Drop>(
         reads::<T>(tally, &meant)?;
     }
     Ok(())
+}
+
+/// Reads the bytes of each row over each reader: they take memory, and are refused.
+pub fn refuses_rows<T: ReadFrom + Drop>(
+    tally: &mut Tally,
+    row: &'static str,
+    rows: &[RefusedRow],
+) -> Result<(), Broken> {
+    for refused in rows {
+        let bytes = refused.0;
+        refuses_over::<T, _>(tally, row, &mut SliceReader::new(bytes), refused)?;
+        let (first, second) = bytes.split_at(bytes.len() / 2);
+        let segments = [first, second];
+        refuses_over::<T, _>(tally, row, &mut SegmentReader::new(&segments), refused)?;
+        let stream = FailingStream::new(bytes, 3, usize::MAX);
+        refuses_over::<T, _>(tally, row, &mut IoReader::new(stream), refused)?;
+    }
+    Ok(())
+}
+
+// The refusal is the row's, with its rest, or want of memory, which leaves an end of the bytes. The
+// steps are as before.
+fn refuses_over<T: ReadFrom + Drop, S: Source>(
+    tally: &mut Tally,
+    row: &'static str,
+    reader: &mut S,
+    refused: &RefusedRow,
+) -> Result<(), Broken> {
+    let (bytes, text, rest) = *refused;
+    let budget = steps(reader);
+    let got = T::read_from(tally.alloc(), reader);
+    if steps(reader) != budget {
+        return Err(Broken::new(row, "the steps are not as before"));
+    }
+    let is_left = match &got {
+        Ok(_) => return Err(Broken::new(row, "it is not refused")),
+        Err(DecodeError::OutOfMemory) => {
+            tally.refuse();
+            leaves_an_end(reader, bytes)
+        }
+        Err(error) if InlineText::<128>::of(error).as_str() == text => leaves(reader, rest),
+        Err(_) => return Err(Broken::new(row, "another refusal comes")),
+    };
+    if is_left {
+        return Ok(());
+    }
+    Err(Broken::new(row, "other bytes are left"))
 }
 
 /// Makes the call of each row over each reader.
@@ -229,8 +279,8 @@ fn is_left<S: Source>(reader: &mut S, meant: &Meant<'_>) -> bool {
     }
 }
 
-// Takes all that is left: whether it is an end of `bytes`.
-fn leaves_an_end<S: Source>(reader: &mut S, bytes: &[u8]) -> bool {
+/// Takes all that is left: whether it is an end of `bytes`.
+pub fn leaves_an_end<S: Source>(reader: &mut S, bytes: &[u8]) -> bool {
     let mut left = [0; MOST_BYTES];
     let mut taken: usize = 0;
     for place in left.iter_mut() {

@@ -1,5 +1,5 @@
 //! Rows of whole items, and of their copies.
-use crate::read::{Row, reads_in_place, reads_rows};
+use crate::read::{RefusedRow, Row, reads_in_place, reads_rows, refuses_rows};
 use crate::tally::{Broken, Tally};
 use crate::told::is_told;
 use cbor4ii_items::decode::Decode;
@@ -8,7 +8,7 @@ use cbor4ii_rw::read::Source;
 use cbor4ii_rw::slice_reader::SliceReader;
 use cbor4ii_tree::{Canonical, IgnoredAny, NoMemory, Value};
 use cbor4ii_vectors::rows::ReadFrom;
-use cbor4ii_vectors::table;
+use cbor4ii_vectors::{eof, not_canonical, require_utf8, table, unsupported};
 use std::alloc::Global;
 
 /// What a whole item is read as.
@@ -95,6 +95,27 @@ const CANONICAL_PAIR: &str = "Item(Canonical(Array([Array([Integer(10), Integer(
 const SKIPPED: &[Row] = table! {
     (b"\xbf\x61a\x9f\x5f\x41\x05\xff\xff\xff\x00", "Item(IgnoredAny)", b"\x00"),
 };
+
+const REFUSED: &[RefusedRow] = table! {
+    (b"\x82\x01\x62\x61", eof!("str", 1), b""),
+    (b"\x9f\x62\xff\xff\x00\xff", require_utf8!("str"), b"\x00\xff"),
+    (b"\xbf\x01\xff", unsupported!("value", 0xff), b"\xff"),
+    (b"\x81\x61\xff\x00", require_utf8!("str"), b"\x00"),
+    (b"\xa1\x61\x61\x61\xff\x00", require_utf8!("str"), b"\x00"),
+    (b"\xa1\x61\x61\xe0", unsupported!("value", 0xe0), b"\xe0"),
+};
+
+const REFUSED_STRICTLY: &[RefusedRow] = table! {
+    (b"\x81\x61\xff\x00", require_utf8!("str"), b"\x00"),
+    (b"\xa1\x61\x61\x61\xff\x00", require_utf8!("str"), b"\x00"),
+    (b"\xa1\x61\x61\x18\x05\x00", not_canonical!("canonical"), b"\x00"),
+};
+
+/// Whole items that are refused.
+pub fn refused(tally: &mut Tally) -> Result<(), Broken> {
+    refuses_rows::<Item<Value>>(tally, "a refused Value", REFUSED)?;
+    refuses_rows::<Item<Canonical>>(tally, "a refused Canonical", REFUSED_STRICTLY)
+}
 
 /// Whole items.
 pub fn values(tally: &mut Tally) -> Result<(), Broken> {

@@ -208,6 +208,23 @@ impl Put for InPieces {
     }
 }
 
+// 256 letters, which are more than are held back.
+const LONG: &str = concat!(
+    "aaaaaaaaaaaaaaaaaaaaaaaaaaaaaaaaaaaaaaaaaaaaaaaaaaaaaaaaaaaaaaaa",
+    "aaaaaaaaaaaaaaaaaaaaaaaaaaaaaaaaaaaaaaaaaaaaaaaaaaaaaaaaaaaaaaaa",
+    "aaaaaaaaaaaaaaaaaaaaaaaaaaaaaaaaaaaaaaaaaaaaaaaaaaaaaaaaaaaaaaaa",
+    "aaaaaaaaaaaaaaaaaaaaaaaaaaaaaaaaaaaaaaaaaaaaaaaaaaaaaaaaaaaaaaaa",
+);
+
+/// A text of one long piece.
+struct LongPiece;
+
+impl Put for LongPiece {
+    fn put<W: Write>(&self, ser: &mut Serializer<W>) -> Result<(), EncodeError<W::Error>> {
+        ser.collect_str(&LONG)
+    }
+}
+
 /// A text in pieces, by the writer of texts.
 struct ByPieces;
 
@@ -234,6 +251,19 @@ pub fn texts(tally: &mut Tally) -> Result<(), Broken> {
             writes(tally, "collect_str", &Typed(InPieces), &bytes)?;
             writes(tally, "TextWriter", &ByPieces, &bytes)
         }
+        None => Ok(()),
+    }
+}
+
+/// A text of one piece that is a chunk by itself.
+pub fn long_texts(tally: &mut Tally) -> Result<(), Broken> {
+    match tally.joined(&[(b"\x7f\x79\x01\x00", 1), (b"a", 256), (b"\xff", 1)]) {
+        Some(bytes) => writes(
+            tally,
+            "collect_str of a long piece",
+            &Typed(LongPiece),
+            &bytes,
+        ),
         None => Ok(()),
     }
 }

@@ -1,4 +1,5 @@
-//! Rows of typed values that are read, as tests: a file for each below `serde/de/` of `cbor4ii`.
+//! Rows of typed values that are read, as tests: a file for each below `serde/de/` of `cbor4ii`,
+//! `laws` for its laws, and `paths` for the Rust crate's paths.
 //! What several of them share stands in `growth`, `lent_strings`, `nested`, `typed` and `values`.
 //!
 //! The rows' values come from RFC 8949 (its Appendix A above all) and from worked examples, never

@@ -1,4 +1,5 @@
-//! Rows of whole items: each file tests the file of its name in `cbor4ii_tree`.
+//! Rows of whole items: each file tests the file of its name in `cbor4ii_tree`. What several of
+//! them share stands in `item`, `item_rows`, `kept` and `literal`.
 //!
 //! Files of that crate with nothing public have none here:
 //! - `leaf.rt`, `run.rt`, `simple.rt` and `slot.rt` are called by `Value` and `Canonical`

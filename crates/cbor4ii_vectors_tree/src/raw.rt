@@ -128,6 +128,7 @@ fn lends_no_step(alloc: Global) -> Result<(), Fail> {
 type KeptWithin = RowWithin<&'static [u8]>;
 
 const BY_BYTE: &[KeptWithin] = table! {
+    (b"\x00", 256, Ok(b"\x00"), b""),
     (b"\x00", 1, Ok(b"\x00"), b""),
     (b"\x00", 0, Err(NO_STEP), b"\x00"),
     (b"\x82\x01\x02", 256, Err(CUT_OFF), b"\x82\x01\x02"),

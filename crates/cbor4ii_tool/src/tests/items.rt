@@ -18,6 +18,12 @@ const LEAST: &[u8] = b"\x3b\xff\xff\xff\xff\xff\xff\xff\xff";
 // 2^64 + 98, as a bignum.
 const BIG: &[u8] = b"\xc2\x49\x01\x00\x00\x00\x00\x00\x00\x00\x62";
 
+// -2^64 - 1, as a bignum.
+const BELOW: &[u8] = b"\xc3\x49\x01\x00\x00\x00\x00\x00\x00\x00\x00";
+
+// A byte string of 2^64 - 1 bytes, of which one comes.
+const CUT: &[u8] = b"\x5b\xff\xff\xff\xff\xff\xff\xff\xff\x00";
+
 // A map of "bar" to a map of "value" to 153.
 const BAR: &[u8] = b"\xa1\x63bar\xa1\x65value\x18\x99";
 
@@ -30,6 +36,9 @@ const ITEMS: &[(&[u8], Want, Want)] = table! {
     (b"\x1b\x00\x00\x00\x00\x00\x00\x00\x05", Ok(b"\x05"), Ok(b"9\n")),
     (LEAST, Ok(LEAST), Ok(b"9\n")),
     (b"\x5b\xff\xff\xff\xff\xff\xff\xff\xff", Err(Kind::Eof), Err(Kind::Eof)),
+    (CUT, Err(Kind::Eof), Err(Kind::Eof)),
+    (b"\x82\x01\x02\x03", Ok(b"\x82\x01\x02\x03"), Ok(b"3\n1\n")),
+    (BELOW, Ok(BELOW), Ok(b"11\n")),
     (b"\x5f\x5f\xff\xff", Err(Kind::RequireLength), Ok(b"4\n")),
     (b"\x5f\x80\xff", Err(Kind::Mismatch), Ok(b"3\n")),
     (b"\x61\xff", Err(Kind::RequireUtf8), Ok(b"2\n")),
