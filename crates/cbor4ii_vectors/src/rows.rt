@@ -384,12 +384,19 @@ fn takes_none<T: ReadBy<TestReader<'static>> + PartialEq + Debug + Drop>(
     let limit = reader.steps();
     let got = T::read_by(alloc, &mut reader);
     let has_failed = reader.failures() == 1;
-    let left = if has_failed { left } else { bytes };
-    if reader.steps() != limit || reader.remaining() != left {
+    let is_kept = if has_failed {
+        reader.remaining() == left
+    } else {
+        reader.remaining() == bytes
+    };
+    if reader.steps() != limit || !is_kept {
         return Err(Fail::new(format_args!("{got:?} takes some of {bytes:?}")));
     }
-    let error = Err("Read(Failure)");
-    is_same(got, bytes, if has_failed { &error } else { want })?;
+    if has_failed {
+        is_same(got, bytes, &Err("Read(Failure)"))?;
+    } else {
+        is_same(got, bytes, want)?;
+    }
     Ok(has_failed)
 }
 
