@@ -42,10 +42,10 @@ pub fn number<N: Into<i128>, E>(got: Result<N, E>) -> Result<Answer, E> {
     }
 }
 
-/// The number that is answered, which is below 2^127.
+/// The number that is answered. Of 2^127 and more, that the call was accepted.
 pub fn great<E>(got: Result<u128, E>) -> Result<Answer, E> {
     match got {
-        Ok(number) => Ok(Answer::Number(number as i128)),
+        Ok(number) => Ok(i128::try_from(number).map_or(Answer::Unit, Answer::Number)),
         Err(error) => Err(error),
     }
 }

@@ -51,55 +51,68 @@ where
     Ok(())
 }
 
-// Reads the bytes of each row over a stream, which lends nothing.
-fn copies<T>(tally: &mut Tally, row: &'static str, rows: &'static [LentRow]) -> Result<(), Broken>
-where
-    T: ReadBy<Stream> + Debug + Drop,
-{
-    for (bytes, _, text, rest) in rows {
-        let meant = Meant {
-            row,
-            bytes,
-            text: &[(text, 1)],
-            rest,
-            left: Left::AnEnd,
-        };
-        let stream = FailingStream::new(bytes, 3, usize::MAX);
-        reads_over::<T, _>(tally, &mut IoReader::new(stream), &meant)?;
-    }
-    Ok(())
-}
-
 // A text that is lent over a slice and over the first segment, and copied over a stream.
-const TEXTS: &[LentRow] = table! {
-    (b"\x64IETF\x01", &[b"\x64IE", b"TF\x01"], "Lent(\"IETF\")", b"\x01"),
+const TEXT: Meant<'static> = Meant {
+    row: "CowStr",
+    bytes: b"\x64IETF\x01",
+    text: &[("Lent(\"IETF\")", 1)],
+    rest: b"\x01",
+    left: Left::AnEnd,
 };
 
-const BYTES: &[LentRow] = table! {
-    (CHUNKS, &[b"\x5f\x42\x01", b"\x02\x41\x03\xff"], "Lent(Bytes([1, 2, 3]))", b""),
+const BYTES: Meant<'static> = Meant {
+    row: "Bytes of CowSlice",
+    bytes: b"\x5f\x42\x01\x02\x41\x03\xff",
+    text: &[("Lent(Bytes([1, 2, 3]))", 1)],
+    rest: b"",
+    left: Left::AnEnd,
 };
 
-// (_ h'0102', h'03').
-const CHUNKS: &[u8] = b"\x5f\x42\x01\x02\x41\x03\xff";
-
-const UNCHECKED: &[LentRow] = table! {
-    (b"\x62\xff\xfe", &[b"\x62\xff", b"\xfe"], "Lent(UncheckedStr([255, 254]))", b""),
+const UNCHECKED: Meant<'static> = Meant {
+    row: "UncheckedStr of CowSlice",
+    bytes: b"\x62\xff\xfe",
+    text: &[("Lent(UncheckedStr([255, 254]))", 1)],
+    rest: b"",
+    left: Left::AnEnd,
 };
-
-type CowText = Lent<CowStr<'static, Global>>;
-
-type CowBytes = Lent<Bytes<CowSlice<'static, u8, Global>>>;
-
-type CowUnchecked = Lent<UncheckedStr<CowSlice<'static, u8, Global>>>;
 
 /// Strings that are borrowed where a reader lends them.
 pub fn strings(tally: &mut Tally) -> Result<(), Broken> {
-    lends::<CowText>(tally, "CowStr", Left::AnEnd, TEXTS)?;
-    copies::<CowText>(tally, "CowStr", TEXTS)?;
-    lends::<CowBytes>(tally, "Bytes of CowSlice", Left::AnEnd, BYTES)?;
-    copies::<CowBytes>(tally, "Bytes of CowSlice", BYTES)?;
-    lends::<CowUnchecked>(tally, "UncheckedStr of CowSlice", Left::AnEnd, UNCHECKED)?;
-    copies::<CowUnchecked>(tally, "UncheckedStr of CowSlice", UNCHECKED)
+    lent_texts(tally)?;
+    lent_bytes(tally)?;
+    lent_unchecked(tally)
+}
+
+fn lent_texts(tally: &mut Tally) -> Result<(), Broken> {
+    let mut slice = SliceReader::new(TEXT.bytes);
+    reads_over::<Lent<CowStr<'_, Global>>, _>(tally, &mut slice, &TEXT)?;
+    let segments = [b"\x64IE".as_slice(), b"TF\x01"];
+    let mut reader = SegmentReader::new(&segments);
+    reads_over::<Lent<CowStr<'_, Global>>, _>(tally, &mut reader, &TEXT)?;
+    let mut stream = IoReader::new(FailingStream::new(TEXT.bytes, 3, usize::MAX));
+    reads_over::<Lent<CowStr<'_, Global>>, _>(tally, &mut stream, &TEXT)
+}
+
+fn lent_bytes(tally: &mut Tally) -> Result<(), Broken> {
+    let mut slice = SliceReader::new(BYTES.bytes);
+    reads_over::<Lent<Bytes<CowSlice<'_, u8, Global>>>, _>(tally, &mut slice, &BYTES)?;
+    let segments = [b"\x5f\x42\x01".as_slice(), b"\x02\x41\x03\xff"];
+    let mut reader = SegmentReader::new(&segments);
+    reads_over::<Lent<Bytes<CowSlice<'_, u8, Global>>>, _>(tally, &mut reader, &BYTES)?;
+    let mut stream = IoReader::new(FailingStream::new(BYTES.bytes, 3, usize::MAX));
+    reads_over::<Lent<Bytes<CowSlice<'_, u8, Global>>>, _>(tally, &mut stream, &BYTES)
+}
+
+type Unchecked<'a> = Lent<UncheckedStr<CowSlice<'a, u8, Global>>>;
+
+fn lent_unchecked(tally: &mut Tally) -> Result<(), Broken> {
+    let mut slice = SliceReader::new(UNCHECKED.bytes);
+    reads_over::<Unchecked<'_>, _>(tally, &mut slice, &UNCHECKED)?;
+    let segments = [b"\x62\xff".as_slice(), b"\xfe"];
+    let mut reader = SegmentReader::new(&segments);
+    reads_over::<Unchecked<'_>, _>(tally, &mut reader, &UNCHECKED)?;
+    let mut stream = IoReader::new(FailingStream::new(UNCHECKED.bytes, 3, usize::MAX));
+    reads_over::<Unchecked<'_>, _>(tally, &mut stream, &UNCHECKED)
 }
 
 const LENT_TEXTS: &[LentRow] = table! {
