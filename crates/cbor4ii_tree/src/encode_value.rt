@@ -1,5 +1,5 @@
 //! Values, written.
-ghost use Rattle.std.specs.Prelude.{◌++◌, ◌∷◌, [], ◌<◌, ℕ, List, OnOk, OnSome, IfNone, IsSome};
+ghost use Rattle.std.specs.Prelude.{◌++◌, ◌<◌, ◌≤◌, ℕ, List, length, OnOk, OnSome, IfNone, IsSome};
 ghost use Rattle.cbor4ii_items.specs.Writing.{Writes};
 ghost use Rattle.cbor4ii_items.specs.Numbers.{shortest_head};
 ghost use Rattle.cbor4ii_items.specs.Strings.{counted_string};
@@ -16,7 +16,7 @@ ghost use Rattle.cbor4ii_tree.specs.Item.{IsItem, AreItems, AreMembers, integer}
 use crate::slot::leave;
 use crate::value::{FloatBits, Value};
 use cbor4ii_items::encode::Encode;
-use cbor4ii_items::head_bytes::{integer_head, shortest_head};
+use cbor4ii_items::integer_head::integer_head;
 use cbor4ii_items::major;
 use cbor4ii_items::types::{Bytes, F16, F32, F64, Null, Tag};
 use cbor4ii_rw::error::EncodeError;
@@ -53,7 +53,8 @@ impl Encode for Value {
 }
 
 /// Writes a value. Where the writer fails, the error goes to `failure`: no large answer is handed
-/// up from level to level.
+/// up from level to level. What writes each kind of value stays out of line, so that a value pays
+/// only for the answers of its own pushes.
 #[cycle(put)]
 fn put_value<W: Write>(
     writer: &mut W,
@@ -72,23 +73,13 @@ fn put_value<W: Write>(
         Value::Float(bits) => put_float(writer, *bits, failure),
         Value::Bytes(content) => put_string(writer, major::BYTES, content, failure),
         Value::Text(text) => put_string(writer, major::STRING, text.as_bytes(), failure),
-        Value::Array(items) => {
-            put_head(writer, major::ARRAY, items.len() as u64, failure)?;
-            put_items(writer, items, failure)
-        }
-        Value::Map(members) => {
-            put_head(writer, major::MAP, members.len() as u64, failure)?;
-            put_members(writer, members, failure)
-        }
-        Value::Tag(number, inner) => {
-            put_head(writer, major::TAG, *number, failure)?;
-            put_value(writer, inner, failure)
-        }
+        Value::Array(items) => put_array(writer, items, failure),
+        Value::Map(members) => put_map(writer, members, failure),
+        Value::Tag(number, inner) => put_tag(writer, *number, inner, failure),
     }
 }
 
-/// Writes an item of the crate below. It stays out of line, so that a value pays only for the
-/// answers of its own push.
+/// Writes an item of the crate below.
 #[inline(never)]
 fn put<W: Write, T: Encode>(
     writer: &mut W,
@@ -102,7 +93,8 @@ fn put<W: Write, T: Encode>(
     part(item.encode(writer), failure)
 }
 
-/// Writes the shortest head of this major type with this argument, in one push.
+/// Writes the shortest head of this major type with this argument, in one push of a constant length:
+/// into memory that takes the fewest steps.
 #[inline(always)]
 fn put_head<W: Write>(
     writer: &mut W,
@@ -115,16 +107,46 @@ fn put_head<W: Write>(
         (W.view writer.old) (W.view writer.new) (sent result failure.new) }
     ensures failed { IfNone result (IsSome failure.new) }
 {
-    let (bytes, length) = shortest_head(major, argument);
-    if length == 1 {
-        put_byte(writer, bytes[0], failure)
+    if argument < 24 {
+        push(writer, &[32 * major + argument as u8], failure)
+    } else if argument < 0x100 {
+        push(writer, &[32 * major + 24, argument as u8], failure)
     } else {
-        put_bytes(writer, &bytes[..length], failure)
+        put_long_head(writer, major, argument, failure)
+    }
+}
+
+/// The same, of an argument that takes more than one byte.
+#[inline(never)]
+fn put_long_head<W: Write>(
+    writer: &mut W,
+    major: u8,
+    argument: u64,
+    failure: &mut Option<EncodeError<W::Error>>,
+) -> Option<()>
+    requires major { major < 8 }
+    requires long { 256 ≤ argument }
+    ensures writes { Writes W.whole (shortest_head major argument)
+        (W.view writer.old) (W.view writer.new) (sent result failure.new) }
+    ensures failed { IfNone result (IsSome failure.new) }
+{
+    let first = 32 * major;
+    if argument < 0x1_0000 {
+        let [a, b] = (argument as u16).to_be_bytes();
+        push(writer, &[first + 25, a, b], failure)
+    } else if argument < 0x1_0000_0000 {
+        let mut bytes = [first + 26, 0, 0, 0, 0];
+        bytes[1..].copy_from_slice(&(argument as u32).to_be_bytes());
+        push(writer, &bytes, failure)
+    } else {
+        let mut bytes = [first + 27, 0, 0, 0, 0, 0, 0, 0, 0];
+        bytes[1..].copy_from_slice(&argument.to_be_bytes());
+        push(writer, &bytes, failure)
     }
 }
 
 /// Writes a string of this major type: its head in one push, and its content in another.
-#[inline(always)]
+#[inline(never)]
 fn put_string<W: Write>(
     writer: &mut W,
     major: u8,
@@ -137,32 +159,12 @@ fn put_string<W: Write>(
     ensures failed { IfNone result (IsSome failure.new) }
 {
     put_head(writer, major, content.len() as u64, failure)?;
-    put_bytes(writer, content, failure)
-}
-
-/// Writes a byte, in one push.
-#[inline(never)]
-fn put_byte<W: Write>(
-    writer: &mut W,
-    byte: u8,
-    failure: &mut Option<EncodeError<W::Error>>,
-) -> Option<()>
-    ensures writes { Writes W.whole (byte ∷ [])
-        (W.view writer.old) (W.view writer.new) (sent result failure.new) }
-    ensures failed { IfNone result (IsSome failure.new) }
-{
-    match writer.push(&[byte]) {
-        Ok(()) => Some(()),
-        Err(error) => {
-            leave(EncodeError::Write(error), failure);
-            None
-        }
-    }
+    push(writer, content, failure)
 }
 
 /// Writes these bytes, in one push.
-#[inline(never)]
-fn put_bytes<W: Write>(
+#[inline(always)]
+fn push<W: Write>(
     writer: &mut W,
     bytes: &[u8],
     failure: &mut Option<EncodeError<W::Error>>,
@@ -194,7 +196,8 @@ fn part<E: Drop>(answer: Result<(), E>, failure: &mut Option<E>) -> Option<()>
     }
 }
 
-#[inline(always)]
+/// Writes an integer.
+#[inline(never)]
 fn put_integer<W: Write>(
     writer: &mut W,
     number: i128,
@@ -211,6 +214,7 @@ fn put_integer<W: Write>(
     }
 }
 
+/// Writes a float in its own width.
 #[inline(always)]
 fn put_float<W: Write>(
     writer: &mut W,
@@ -227,6 +231,60 @@ fn put_float<W: Write>(
         FloatBits::F32(n) => put(writer, &F32(n), failure),
         FloatBits::F64(n) => put(writer, &F64(n), failure),
     }
+}
+
+/// Writes an array.
+#[cycle(put)]
+#[inline(never)]
+fn put_array<W: Write>(
+    writer: &mut W,
+    items: &[Value],
+    failure: &mut Option<EncodeError<W::Error>>,
+) -> Option<()>
+    ensures writes { Writes W.whole
+        (shortest_head 4 (length items.now) ++ items_bytes value_bytes items.now)
+        (W.view writer.old) (W.view writer.new) (sent result failure.new) }
+    ensures items { OnSome result (AreItems (items_view items.now)) }
+    ensures failed { IfNone result (IsSome failure.new) }
+{
+    put_head(writer, major::ARRAY, items.len() as u64, failure)?;
+    put_items(writer, items, failure)
+}
+
+/// Writes a map.
+#[cycle(put)]
+#[inline(never)]
+fn put_map<W: Write>(
+    writer: &mut W,
+    members: &[(Value, Value)],
+    failure: &mut Option<EncodeError<W::Error>>,
+) -> Option<()>
+    ensures writes { Writes W.whole
+        (shortest_head 5 (length members.now) ++ items_bytes member_bytes members.now)
+        (W.view writer.old) (W.view writer.new) (sent result failure.new) }
+    ensures members { OnSome result (AreMembers (members_view members.now)) }
+    ensures failed { IfNone result (IsSome failure.new) }
+{
+    put_head(writer, major::MAP, members.len() as u64, failure)?;
+    put_members(writer, members, failure)
+}
+
+/// Writes a tagged value.
+#[cycle(put)]
+#[inline(never)]
+fn put_tag<W: Write>(
+    writer: &mut W,
+    number: u64,
+    inner: &Value,
+    failure: &mut Option<EncodeError<W::Error>>,
+) -> Option<()>
+    ensures writes { Writes W.whole (shortest_head 6 number ++ value_bytes inner.now)
+        (W.view writer.old) (W.view writer.new) (sent result failure.new) }
+    ensures item { OnSome result (IsItem (view inner.now)) }
+    ensures failed { IfNone result (IsSome failure.new) }
+{
+    put_head(writer, major::TAG, number, failure)?;
+    put_value(writer, inner, failure)
 }
 
 #[cycle(put)]

@@ -79,28 +79,32 @@ put_members-loop-member-preserved g t c =
           c.in_ok-put_value.ensures.item c.in_ok-put_value-2.ensures.item;
     }
 
-pub put_value-returns-in_err-put_head-in-Array-clause-writes :
-    goal.put_value-returns-in_err-put_head-in-Array-clause-writes
-put_value-returns-in_err-put_head-in-Array-clause-writes g t c =
-    let v = c.in-Array.items in
-    rw c.from_residual.ensures (writes_as _ (Array-bytes c.args.value.now v c.len.result v.items
-    c.in-Array.is refl (omega arith)) (writes_err _
-    c.in_err-put_head-in-Array.ensures.writes))
+pub put_array-returns-in_err-put_head-clause-writes :
+    goal.put_array-returns-in_err-put_head-clause-writes
+put_array-returns-in_err-put_head-clause-writes g t c =
+    rw c.from_residual.ensures (writes_err _ c.in_err-put_head.ensures.writes)
 
-pub put_value-returns-in_err-put_head-in-Map-clause-writes :
-    goal.put_value-returns-in_err-put_head-in-Map-clause-writes
-put_value-returns-in_err-put_head-in-Map-clause-writes g t c =
-    let v = c.in-Map.members in
-    rw c.from_residual-in_err-put_head-in-Map.ensures (writes_as _ (Map-bytes c.args.value.now v
-    c.len-in-Map.result v.items c.in-Map.is refl (omega arith)) (writes_err _
-    c.in_err-put_head-in-Map.ensures.writes))
+pub put_array-returns-clause-writes : goal.put_array-returns-clause-writes
+put_array-returns-clause-writes g t c =
+    writes_then _ c.in_ok-put_head.ensures.writes c.put_items.ensures.writes
 
-pub put_value-returns-in_err-put_head-in-Tag-clause-writes :
-    goal.put_value-returns-in_err-put_head-in-Tag-clause-writes
-put_value-returns-in_err-put_head-in-Tag-clause-writes g t c =
-    rw c.from_residual-in_err-put_head-in-Tag.ensures (writes_as _ (Tag-bytes c.args.value.now
-    c.in-Tag.inner.value c.in-Tag.number c.in-Tag.inner c.in-Tag.is refl) (writes_err _
-    c.in_err-put_head-in-Tag.ensures.writes))
+pub put_map-returns-in_err-put_head-clause-writes :
+    goal.put_map-returns-in_err-put_head-clause-writes
+put_map-returns-in_err-put_head-clause-writes g t c =
+    rw c.from_residual.ensures (writes_err _ c.in_err-put_head.ensures.writes)
+
+pub put_map-returns-clause-writes : goal.put_map-returns-clause-writes
+put_map-returns-clause-writes g t c =
+    writes_then _ c.in_ok-put_head.ensures.writes c.put_members.ensures.writes
+
+pub put_tag-returns-in_err-put_head-clause-writes :
+    goal.put_tag-returns-in_err-put_head-clause-writes
+put_tag-returns-in_err-put_head-clause-writes g t c =
+    rw c.from_residual.ensures (writes_err _ c.in_err-put_head.ensures.writes)
+
+pub put_tag-returns-clause-writes : goal.put_tag-returns-clause-writes
+put_tag-returns-clause-writes g t c =
+    writes_then _ c.in_ok-put_head.ensures.writes c.put_value.ensures.writes
 
 pub put_value-returns-in-Bool-clause-writes : goal.put_value-returns-in-Bool-clause-writes
 put_value-returns-in-Bool-clause-writes g t c =
@@ -122,37 +126,31 @@ put_value-returns-in-Text-clause-item g t c =
     (λ _. text_in_range c.args.value.now c.in-Text.text c.in-Text.is small)
     (on_any_some c.put_string-in-Text.result)
 
-pub put_value-returns-in_ok-put_head-in-Array-clause-item :
-    goal.put_value-returns-in_ok-put_head-in-Array-clause-item
-put_value-returns-in_ok-put_head-in-Array-clause-item g t c =
-    on_some c.put_items.result
+pub put_value-returns-in-Array-clause-item : goal.put_value-returns-in-Array-clause-item
+put_value-returns-in-Array-clause-item g t c =
+    on_some c.put_array.result
     (array_in_range c.args.value.now c.in-Array.items c.deref-in-Array.result.now c.in-Array.is
-    c.deref-in-Array.ensures.value c.deref-in-Array.type_inv.0) c.put_items.ensures.items
+    c.deref-in-Array.ensures.value c.deref-in-Array.type_inv.0) c.put_array.ensures.items
 
-pub put_value-returns-in_ok-put_head-in-Map-clause-item :
-    goal.put_value-returns-in_ok-put_head-in-Map-clause-item
-put_value-returns-in_ok-put_head-in-Map-clause-item g t c =
-    on_some c.put_members.result
+pub put_value-returns-in-Map-clause-item : goal.put_value-returns-in-Map-clause-item
+put_value-returns-in-Map-clause-item g t c =
+    on_some c.put_map.result
     (map_in_range c.args.value.now c.in-Map.members c.deref-in-Map.result.now c.in-Map.is
-    c.deref-in-Map.ensures.value c.deref-in-Map.type_inv.0) c.put_members.ensures.members
+    c.deref-in-Map.ensures.value c.deref-in-Map.type_inv.0) c.put_map.ensures.members
 
-pub put_value-returns-in_ok-put_head-in-Array-clause-writes :
-    goal.put_value-returns-in_ok-put_head-in-Array-clause-writes
-put_value-returns-in_ok-put_head-in-Array-clause-writes g t c =
-    writes_as _ (Array-bytes c.args.value.now c.in-Array.items c.len.result
-    c.deref-in-Array.result.now c.in-Array.is c.deref-in-Array.ensures.value (omega arith))
-    (writes_then _ c.in_ok-put_head-in-Array.ensures.writes c.put_items.ensures.writes)
+pub put_value-returns-in-Array-clause-writes : goal.put_value-returns-in-Array-clause-writes
+put_value-returns-in-Array-clause-writes g t c =
+    writes_as _ (Array-bytes c.args.value.now c.in-Array.items (length c.deref-in-Array.result.now)
+    c.deref-in-Array.result.now c.in-Array.is c.deref-in-Array.ensures.value refl)
+    c.put_array.ensures.writes
 
-pub put_value-returns-in_ok-put_head-in-Map-clause-writes :
-    goal.put_value-returns-in_ok-put_head-in-Map-clause-writes
-put_value-returns-in_ok-put_head-in-Map-clause-writes g t c =
-    writes_as _ (Map-bytes c.args.value.now c.in-Map.members c.len-in-Map.result
-    c.deref-in-Map.result.now c.in-Map.is c.deref-in-Map.ensures.value (omega arith))
-    (writes_then _ c.in_ok-put_head-in-Map.ensures.writes c.put_members.ensures.writes)
+pub put_value-returns-in-Map-clause-writes : goal.put_value-returns-in-Map-clause-writes
+put_value-returns-in-Map-clause-writes g t c =
+    writes_as _ (Map-bytes c.args.value.now c.in-Map.members (length c.deref-in-Map.result.now)
+    c.deref-in-Map.result.now c.in-Map.is c.deref-in-Map.ensures.value refl)
+    c.put_map.ensures.writes
 
-pub put_value-returns-in_ok-put_head-in-Tag-clause-writes :
-    goal.put_value-returns-in_ok-put_head-in-Tag-clause-writes
-put_value-returns-in_ok-put_head-in-Tag-clause-writes g t c =
+pub put_value-returns-in-Tag-clause-writes : goal.put_value-returns-in-Tag-clause-writes
+put_value-returns-in-Tag-clause-writes g t c =
     writes_as _ (Tag-bytes c.args.value.now c.deref-in-Tag.result.now c.in-Tag.number c.in-Tag.inner
-    c.in-Tag.is c.deref-in-Tag.ensures)
-    (writes_then _ c.in_ok-put_head-in-Tag.ensures.writes c.put_value.ensures.writes)
+    c.in-Tag.is c.deref-in-Tag.ensures) c.put_tag.ensures.writes

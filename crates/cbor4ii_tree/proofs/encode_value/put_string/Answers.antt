@@ -7,4 +7,4 @@ returns-in_err-put_head-clause-writes g c =
 
 pub returns-clause-writes : goal.returns-clause-writes
 returns-clause-writes g c =
-    writes_then _ c.in_ok-put_head.ensures.writes c.put_bytes.ensures.writes
+    writes_then _ c.in_ok-put_head.ensures.writes c.push.ensures.writes

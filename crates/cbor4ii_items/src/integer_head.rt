@@ -1,40 +1,10 @@
-//! Shortest heads as bytes (RFC 8949 section 4.1), and which head an integer has.
+//! Which head an integer has (RFC 8949 section 3.1).
 ghost use Rattle.std.specs.Prelude.{◌≡◌, ◌≢◌, ◌<◌, ◌≤◌, ◌^◌, ◌⊎◌, ℕ, pos, negsuc};
-ghost use Rattle.std.specs.Prelude.{take, IfSome, None};
+ghost use Rattle.std.specs.Prelude.{IfSome, None};
 ghost use Rattle.cbor4ii_items.specs.Numbers.{shortest_head, integer_bytes, signed_bytes};
 
 use crate::major;
 use crate::push::{NEGATIVE_BIGNUM, POSITIVE_BIGNUM, beyond, nonnegative};
-
-/// The shortest head of this major type with this argument, and its length, from 1 to 9 bytes.
-/// Zeros follow it.
-#[inline(always)]
-pub fn shortest_head(major: u8, argument: u64) -> ([u8; 9], usize)
-    requires { major < 8 }
-    ensures least { 1 ≤ result.1 }
-    ensures most { result.1 ≤ 9 }
-    ensures bytes { take result.1 result.0 ≡ shortest_head major argument }
-{
-    let first = 32 * major;
-    // An argument of four or eight bytes is copied as one: byte for byte it is stored in as many
-    // steps.
-    if argument < 24 {
-        ([first + argument as u8, 0, 0, 0, 0, 0, 0, 0, 0], 1)
-    } else if argument < 0x100 {
-        ([first + 24, argument as u8, 0, 0, 0, 0, 0, 0, 0], 2)
-    } else if argument < 0x1_0000 {
-        let [a, b] = (argument as u16).to_be_bytes();
-        ([first + 25, a, b, 0, 0, 0, 0, 0, 0], 3)
-    } else if argument < 0x1_0000_0000 {
-        let mut bytes = [first + 26, 0, 0, 0, 0, 0, 0, 0, 0];
-        bytes[1..5].copy_from_slice(&(argument as u32).to_be_bytes());
-        (bytes, 5)
-    } else {
-        let mut bytes = [first + 27, 0, 0, 0, 0, 0, 0, 0, 0];
-        bytes[1..].copy_from_slice(&argument.to_be_bytes());
-        (bytes, 9)
-    }
-}
 
 /// The major type and the argument of an integer's head. None where it has no head, and is written
 /// as a bignum (section 3.4.3).
