@@ -120,3 +120,15 @@ pub record TakesParts {E : Type 0} (exact : Bool) (most : ℕ) (before after : L
   pub items : OnSome result (KeepsItems before after)
   pub few : OnSome result (many_after ≤ most)
   pub more : OnSome result (many_before ≤ many_after)
+
+-- the same where a step was taken
+pub record TakesPartsInside {E : Type 0} (exact : Bool) (most : ℕ) (before after : List Value)
+    (many_before many_after : ℕ) (old new : View) (result : Option (Unit {0}))
+    (failure : Option (DecodeError E)) : Type 0 where
+  pub puts : Does (PutsItemsUnder Readable before after old.budget) StopsWhereNone old new
+      (answered result failure)
+  pub exactly : exact ≡ true → Does (PutsItemsUnder Exactly before after old.budget) StopsWhereNone
+      old new (answered result failure)
+  pub items : OnSome result (KeepsItems before after)
+  pub few : OnSome result (many_after ≤ most)
+  pub more : OnSome result (many_before ≤ many_after)

@@ -26,7 +26,7 @@ ghost use Rattle.cbor4ii_tree.specs.Valuing.{ReadsStepped, ReadsVec, TakesSimple
 ghost use Rattle.cbor4ii_tree.specs.View.{view};
 
 use crate::leaf::take_leaf;
-use crate::run::{take_run, take_run_apart};
+use crate::run::{take_item_run, take_run};
 use crate::simple::{read_float, simple_of};
 use crate::slot::{keep, leave_deep, leave_not_canonical, part, whole};
 use crate::unseen::first_of;
@@ -359,7 +359,7 @@ fn counted_items<S: Source>(
         return None;
     }
     while items.len() < count {
-        take_run_apart(alloc, reader, true, count, &mut items, failure)?;
+        take_item_run(alloc, reader, true, count, &mut items, failure)?;
         if items.len() < count {
             let value = read_nested(alloc, reader, failure)?;
             keep(&mut items, value, failure)?;

@@ -27,7 +27,7 @@ ghost use Rattle.cbor4ii_tree.specs.Laws.Values.{value_one, value_within, value_
 ghost use Rattle.cbor4ii_tree.specs.Laws.Values.{value_alone};
 
 use crate::leaf::take_leaf;
-use crate::run::{take_run, take_run_apart};
+use crate::run::{take_item_run, take_run};
 use crate::simple::{read_float, simple_of};
 use crate::slot::{keep, leave_deep, part, whole};
 use crate::unseen::first_of;
@@ -353,6 +353,7 @@ fn array_inside<S: Source>(
     ensures progress { OnSome result ((S.view reader.new).bound + 1 ≤ (S.view reader.old).bound) }
 {
     match array_length(reader, failure)? {
+        Some(0) => Some(Vec::new(alloc)),
         Some(count) => counted_items(alloc, reader, count, failure),
         None => open_items(alloc, reader, failure),
     }
@@ -376,7 +377,7 @@ fn counted_items<S: Source>(
         return None;
     }
     while items.len() < count {
-        take_run_apart(alloc, reader, false, count, &mut items, failure)?;
+        take_item_run(alloc, reader, false, count, &mut items, failure)?;
         if items.len() < count {
             let value = read_nested(alloc, reader, failure)?;
             keep(&mut items, value, failure)?;
@@ -457,6 +458,7 @@ fn map_inside<S: Source>(
     ensures progress { OnSome result ((S.view reader.new).bound + 1 ≤ (S.view reader.old).bound) }
 {
     match map_length(reader, failure)? {
+        Some(0) => Some(Vec::new(alloc)),
         Some(count) => counted_members(alloc, reader, count, failure),
         None => open_members(alloc, reader, failure),
     }

@@ -22,7 +22,7 @@ use cbor4ii_rw::read::Source;
 use std::alloc::Global;
 
 /// How many bytes a look asks for.
-pub(crate) const WINDOW: usize = 256;
+pub(crate) const WINDOW: usize = 4096;
 
 /// What the shown bytes begin with.
 pub(crate) enum Leaf {
@@ -79,7 +79,7 @@ pub(crate) fn take_leaf<S: Source>(
 /// What comes next, decided by one look.
 #[inline(always)]
 fn glance<S: Source>(alloc: Global, reader: &mut S, exact: bool) -> Result<Leaf, S::Error>
-    ensures offers { IfOk result (λ seen. Offers 256 (SeesLeaf (exact ≡ true) seen)
+    ensures offers { IfOk result (λ seen. Offers 4096 (SeesLeaf (exact ≡ true) seen)
         (S.view reader.old) (S.view reader.new)) }
     ensures breaks { OnErr result (Breaks (S.view reader.old) (S.view reader.new)) }
 {

@@ -3,19 +3,16 @@
 ghost use Rattle.std.specs.Prelude.{◌≡◌, ◌<◌, ◌≤◌, ◌∷◌, ℕ, List, length, true, IfOk, OnOk, OnErr};
 ghost use Rattle.std.specs.Prelude.{IfSome, OnSome};
 ghost use Rattle.cbor4ii_rw.specs.Reader.{Breaks};
-ghost use Rattle.cbor4ii_tree.specs.Does.{Does, answered};
 ghost use Rattle.cbor4ii_tree.specs.Front.{Offers};
 ghost use Rattle.cbor4ii_tree.specs.Leaf.{StandsAhead};
 ghost use Rattle.cbor4ii_tree.specs.LeafRuns.{flat_values, Puts, Pushes, CountsPut, PutsRun};
-ghost use Rattle.cbor4ii_tree.specs.LeafRuns.{PutsItemsUnder, KeepsItems, StopsWhereNone};
-ghost use Rattle.cbor4ii_tree.specs.LeafRuns.{TakesParts};
-ghost use Rattle.cbor4ii_tree.specs.StopsReading.{Readable};
-ghost use Rattle.cbor4ii_tree.specs.StopsStrictly.{Exactly};
+ghost use Rattle.cbor4ii_tree.specs.LeafRuns.{TakesParts, TakesPartsInside};
 ghost use Rattle.cbor4ii_tree.specs.declared.value.Value.{Value};
 
 use crate::leaf::{Leaf, WINDOW, is_exact, leaf_of};
 use crate::simple::simple_of;
 use crate::slot::{leave, leave_end};
+use crate::unseen::first_of;
 use crate::value::Value;
 use cbor4ii_items::initial::argument;
 use cbor4ii_items::{major, marker};
@@ -212,9 +209,10 @@ pub(crate) fn take_run<S: Source, P: Parts>(
     outcome
 }
 
-/// As `take_run`. It stays out of line, so that each level of arrays takes little stack.
-#[inline(never)]
-pub(crate) fn take_run_apart<S: Source, P: Parts>(
+/// As `take_run`, of items. Where one byte shows that the next item is decided by no look, no run is
+/// looked for.
+#[inline(always)]
+pub(crate) fn take_item_run<S: Source, P: Parts>(
     alloc: Global,
     reader: &mut S,
     exact: bool,
@@ -227,7 +225,63 @@ pub(crate) fn take_run_apart<S: Source, P: Parts>(
         (P.many parts.old) (P.many parts.new)
         (S.view reader.old) (S.view reader.new) result failure.new }
 {
-    take_run(alloc, reader, exact, most, parts, failure)
+    if !reader.step_in() {
+        return Some(());
+    }
+    let outcome = item_run_inside(alloc, reader, exact, most, parts, failure);
+    reader.step_out();
+    outcome
+}
+
+/// The same where a step was taken.
+#[inline(always)]
+fn item_run_inside<S: Source, P: Parts>(
+    alloc: Global,
+    reader: &mut S,
+    exact: bool,
+    most: usize,
+    parts: &mut P,
+    failure: &mut Option<DecodeError<S::Error>>,
+) -> Option<()>
+    requires { P.many parts.old < most }
+    ensures { TakesPartsInside exact most (P.flat parts.old) (P.flat parts.new)
+        (P.many parts.old) (P.many parts.new)
+        (S.view reader.old) (S.view reader.new) result failure.new }
+{
+    let first = first_of(reader, failure)?;
+    if begins_more(first) {
+        return Some(());
+    }
+    run_apart(alloc, reader, exact, most, parts, failure)
+}
+
+/// Whether an item that is decided by no look begins with this byte: one that holds others, or a
+/// string in chunks.
+#[inline(always)]
+fn begins_more(first: u8) -> bool {
+    match first / 32 {
+        major::ARRAY | major::MAP | major::TAG => true,
+        major::BYTES | major::STRING => first % 32 == marker::START,
+        _ => false,
+    }
+}
+
+/// As `run_inside`. It stays out of line, so that each level of arrays takes little stack.
+#[inline(never)]
+fn run_apart<S: Source, P: Parts>(
+    alloc: Global,
+    reader: &mut S,
+    exact: bool,
+    most: usize,
+    parts: &mut P,
+    failure: &mut Option<DecodeError<S::Error>>,
+) -> Option<()>
+    requires { P.many parts.old < most }
+    ensures { TakesPartsInside exact most (P.flat parts.old) (P.flat parts.new)
+        (P.many parts.old) (P.many parts.new)
+        (S.view reader.old) (S.view reader.new) result failure.new }
+{
+    run_inside(alloc, reader, exact, most, parts, failure)
 }
 
 /// The same where a step was taken, which each of the values takes in turn.
@@ -241,15 +295,9 @@ fn run_inside<S: Source, P: Parts>(
     failure: &mut Option<DecodeError<S::Error>>,
 ) -> Option<()>
     requires { P.many parts.old < most }
-    ensures puts { Does (PutsItemsUnder Readable (P.flat parts.old) (P.flat parts.new)
-        (S.view reader.old).budget) StopsWhereNone
-        (S.view reader.old) (S.view reader.new) (answered result failure.new) }
-    ensures exactly { exact ≡ true → Does (PutsItemsUnder Exactly (P.flat parts.old)
-        (P.flat parts.new) (S.view reader.old).budget) StopsWhereNone
-        (S.view reader.old) (S.view reader.new) (answered result failure.new) }
-    ensures items { OnSome result (KeepsItems (P.flat parts.old) (P.flat parts.new)) }
-    ensures few { OnSome result (P.many parts.new ≤ most) }
-    ensures more { OnSome result (P.many parts.old ≤ P.many parts.new) }
+    ensures { TakesPartsInside exact most (P.flat parts.old) (P.flat parts.new)
+        (P.many parts.old) (P.many parts.new)
+        (S.view reader.old) (S.view reader.new) result failure.new }
 {
     match glance_run(alloc, reader, exact, most, parts) {
         Ok(Ran::Whole(size)) => {
@@ -282,7 +330,7 @@ fn glance_run<S: Source, P: Parts>(
     parts: &mut P,
 ) -> Result<Ran, S::Error>
     requires { P.many parts.old < most }
-    ensures offers { IfOk result (λ ran. Offers 256
+    ensures offers { IfOk result (λ ran. Offers 4096
         (PutsRun (exact ≡ true) (P.flat parts.old) (P.flat parts.new) ran)
         (S.view reader.old) (S.view reader.new)) }
     ensures few { OnOk result (P.many parts.new ≤ most) }

@@ -12,6 +12,7 @@ use Rattle.cbor4ii_rw.specs.declared.error.DecodeError.{DecodeError}
 use Rattle.cbor4ii_rw.specs.declared.error.DecodeError.TheVariants.{OutOfMemory, Eof}
 use Rattle.cbor4ii_items.specs.Decoding.{CostFits}
 use Rattle.cbor4ii_items.specs.Head.{IsBytes}
+use Rattle.cbor4ii_items.specs.Reading.{Runs, peek_at}
 use Rattle.cbor4ii_items.specs.Laws.Answering.{fits_zero}
 use Rattle.cbor4ii_items.specs.Laws.Contents.{lends_front}
 use Rattle.cbor4ii_items.specs.Laws.UnderStep.{no_step}
@@ -42,7 +43,7 @@ use Rattle.cbor4ii_tree.proofs.parts.Joined.{join, count-join, each-join, bytes-
 use Rattle.cbor4ii_tree.proofs.parts.Pushed.{flat, count-flat, each-flat, bytes-flat}
 use Rattle.cbor4ii_tree.proofs.skip_calls.Doing.{does_ok, does_no_memory, does_stepped, steps_in}
 use Rattle.cbor4ii_tree.proofs.skip_calls.Doing.{kept_budget, Reached, reached_then, reached_by}
-use Rattle.cbor4ii_tree.proofs.skip_calls.Doing.{does_err}
+use Rattle.cbor4ii_tree.proofs.skip_calls.Doing.{does_err, does_after, reached_as, reached_peek}
 use Rattle.cbor4ii_tree.proofs.values.Ends.{none_shown}
 
 -- ---- lists of values
@@ -211,11 +212,11 @@ each_fits exact Whole f budget (tree t ts) fits h =
 
 module _ (exact : Type 0) (before after : List Value) {E : Type 0} {a m b : View} where
   pub takes_run : (Whole : Budget → Tree → Type 0) → LeafIs exact Whole → (size : ℕ) {seen : Ran}
-      → seen ≡ run.Whole size → Offers 256 (PutsRun exact before after seen) a m
+      → seen ≡ run.Whole size → Offers 4096 (PutsRun exact before after seen) a m
       → Advances size m b → Does {V = Unit {0}} {E = E}
       (PutsItemsUnder Whole before after a.budget) StopsWhereNone a b (Ok tt)
   takes_run Whole f size is h adv =
-      let o = subst (λ s. Offers 256 (PutsRun exact before after s) a m) is h in
+      let o = subst (λ s. Offers 4096 (PutsRun exact before after s) a m) is h in
       let s = o.is.stand in
       let l = lends_front o.shows o.front s.within s.fresh refl adv in
       does_ok (PutsItemsUnder Whole before after a.budget) StopsWhereNone (record {
@@ -241,33 +242,60 @@ module _ (exact : Type 0) (before after : List Value) {E : Type 0} {a m b : View
       })
 
   pub run_no_memory : (Whole : Budget → Tree → Type 0) (size : ℕ) {seen : Ran}
-      → seen ≡ run.NoMemory size → Offers 256 (PutsRun exact before after seen) a m
+      → seen ≡ run.NoMemory size → Offers 4096 (PutsRun exact before after seen) a m
       → Advances size m b
       → Does {V = Unit {0}} {E = E} (PutsItemsUnder Whole before after a.budget) StopsWhereNone a b
       (Err OutOfMemory)
   run_no_memory Whole size is h adv =
-      let o = subst (λ s. Offers 256 (PutsRun exact before after s) a m) is h in
+      let o = subst (λ s. Offers 4096 (PutsRun exact before after s) a m) is h in
       let l = lends_front o.shows o.front o.is.within o.is.fresh refl adv in
       does_no_memory (PutsItemsUnder Whole before after a.budget) StopsWhereNone refl l.kept
 
 pub run_ends : (exact : Type 0) (before after : List Value) {E : Type 0} {a b : View}
     (Whole : Budget → Tree → Type 0) {seen : Ran} → seen ≡ run.End
-    → Offers 256 (PutsRun exact before after seen) a b → {name : Bor (List ℕ)}
+    → Offers 4096 (PutsRun exact before after seen) a b → {name : Bor (List ℕ)}
     → name.now ≡ value_name
     → Does {V = Unit {0}} {E = E} (PutsItemsUnder Whole before after a.budget) StopsWhereNone a b
     (Err (Eof name (Small 1)))
 run_ends exact before after {a = a} {b = b} Whole is h says =
-    let o = subst (λ s. Offers 256 (PutsRun exact before after s) a b) is h in
+    let o = subst (λ s. Offers 4096 (PutsRun exact before after s) a b) is h in
     none_shown (PutsItemsUnder Whole before after a.budget) StopsWhereNone
-    (λ z rest is. (refl, is)) 256 says (omega arith) o.shows o.front o.is
+    (λ z rest is. (refl, is)) 4096 says (omega arith) o.shows o.front o.is
 
 pub run_items : (exact : Type 0) (before after : List Value) (size : ℕ) {seen : Ran} {a m : View}
-    → seen ≡ run.Whole size → Offers 256 (PutsRun exact before after seen) a m
+    → seen ≡ run.Whole size → Offers 4096 (PutsRun exact before after seen) a m
     → KeepsItems before after
 run_items exact before after size {a = a} {m = m} is h kept =
-    let o = subst (λ s. Offers 256 (PutsRun exact before after s) a m) is h in
+    let o = subst (λ s. Offers 4096 (PutsRun exact before after s) a m) is h in
     subst (λ x. AreItems (items_view x)) (sym o.is.is)
     (AreItems-append before o.is.new kept o.is.stand.ranged)
+
+-- ---- behind a look at the first byte
+
+module _ (Whole : Budget → Tree → Type 0) {E : Type 0} (first : ℕ) {a m : View}
+    (p : Runs {V = ℕ} {E = E} (peek_at value_name 1) a m (Ok first)) where
+  pub no_run_ahead : (items : List Value)
+      → Does {V = Unit {0}} {E = E} (PutsItemsUnder Whole items items a.budget) StopsWhereNone a m
+      (Ok tt)
+  no_run_ahead items =
+      does_ok (PutsItemsUnder Whole items items a.budget) StopsWhereNone
+      (reached_as (λ xs ys. (rest : List ℕ) × (xs ≡ first ∷ rest) × (ys ≡ xs))
+      (λ xs ys. PutsItemsUnder Whole items items a.budget xs tt ys)
+      (λ xs ys h budget step.
+      ([], sym (append-nil items), (no_trees, refl, tt, refl, sym h.2)))
+      (reached_peek value_name 1 first p))
+
+  pub run_behind : (before after : List Value) {r : Result (Unit {0}) (DecodeError E)} {b : View}
+      → Does (PutsItemsUnder Whole before after m.budget) StopsWhereNone m b r
+      → Does (PutsItemsUnder Whole before after a.budget) StopsWhereNone a b r
+  run_behind before after {r = r} {b = b} d =
+      let seen = reached_as (λ xs ys. (rest : List ℕ) × (xs ≡ first ∷ rest) × (ys ≡ xs))
+      (λ xs ys. ys ≡ xs) (λ xs ys h. h.2) (reached_peek value_name 1 first p) in
+      subst (λ o. Does (PutsItemsUnder Whole before after o) StopsWhereNone a b r) seen.kept.budget
+      (does_after (λ xs ys. ys ≡ xs) (PutsItemsUnder Whole before after m.budget)
+      (PutsItemsUnder Whole before after m.budget) StopsWhereNone StopsWhereNone
+      (λ xs ys zs v e h. subst (λ x. PutsItemsUnder Whole before after m.budget x v zs) e h)
+      (λ xs ys z rest e s. subst (λ x. StopsWhereNone x z rest) e s) seen d)
 
 -- ---- under a step
 

@@ -207,11 +207,11 @@ simple_ahead b n k bs v small s = record {
 
 module _ {E : Type 0} (exact : Type 0) {a m b : View} where
   taken : (A : Accepting Value) (S : Stopping) (v : Value) (size : ℕ) {seen : Leaf}
-      → seen ≡ Whole v size → Offers 256 (SeesLeaf exact seen) a m → Advances size m b
+      → seen ≡ Whole v size → Offers 4096 (SeesLeaf exact seen) a m → Advances size m b
       → ((shown xs ys : List ℕ) → (l : StandsAhead exact v size shown) → xs ≡ bytes l.item ++ ys
       → A xs v ys) → Does {E = E} A S a b (Ok v)
   taken A S v size is h adv f =
-      let o = subst (λ s. Offers 256 (SeesLeaf exact s) a m) is h in
+      let o = subst (λ s. Offers 4096 (SeesLeaf exact s) a m) is h in
       let l = lends_front o.shows o.front o.is.within o.is.fresh refl adv in
       does_ok A S (record {
         kept = l.kept;
@@ -225,7 +225,7 @@ module _ {E : Type 0} (exact : Type 0) {a m b : View} where
       })
 
   pub takes_leaf : (v : Value) (size : ℕ) {seen : Leaf} → seen ≡ Whole v size
-      → Offers 256 (SeesLeaf exact seen) a m → Advances size m b
+      → Offers 4096 (SeesLeaf exact seen) a m → Advances size m b
       → Does {E = E} (ReadsUnder a.budget) (StopsUnder a.budget) a b (Ok v)
   takes_leaf v size is h adv =
       taken (ReadsUnder a.budget) (StopsUnder a.budget) v size is h adv
@@ -241,7 +241,7 @@ module _ {E : Type 0} (exact : Type 0) {a m b : View} where
       ))
 
   pub takes_exact_leaf : (v : Value) (size : ℕ) {seen : Leaf} → seen ≡ Whole v size
-      → Offers 256 (SeesLeaf exact seen) a m → Advances size m b → exact
+      → Offers 4096 (SeesLeaf exact seen) a m → Advances size m b → exact
       → Does {E = E} (ReadsExactlyUnder a.budget) (StopsExactlyUnder a.budget) a b (Ok v)
   takes_exact_leaf v size is h adv holds =
       taken (ReadsExactlyUnder a.budget) (StopsExactlyUnder a.budget) v size is h adv
@@ -257,25 +257,25 @@ module _ {E : Type 0} (exact : Type 0) {a m b : View} where
       ))
 
   pub no_content : (A : Accepting Value) (S : Stopping) (size : ℕ) {seen : Leaf}
-      → seen ≡ NoMemory size → Offers 256 (SeesLeaf exact seen) a m → Advances size m b
+      → seen ≡ NoMemory size → Offers 4096 (SeesLeaf exact seen) a m → Advances size m b
       → Does {V = Value} {E = E} A S a b (Err OutOfMemory)
   no_content A S size is h adv =
-      let o = subst (λ s. Offers 256 (SeesLeaf exact s) a m) is h in
+      let o = subst (λ s. Offers 4096 (SeesLeaf exact s) a m) is h in
       let l = lends_front o.shows o.front o.is.within o.is.fresh refl adv in
       does_no_memory A S refl l.kept
 
 pub no_value : {E : Type 0} (exact : Type 0) {a b : View} (A : Accepting Value) (S : Stopping)
-    → Ending S → {seen : Leaf} → seen ≡ End → Offers 256 (SeesLeaf exact seen) a b
+    → Ending S → {seen : Leaf} → seen ≡ End → Offers 4096 (SeesLeaf exact seen) a b
     → {name : Bor (List ℕ)} → name.now ≡ value_name
     → Does {V = Value} {E = E} A S a b (Err (Eof name (Small 1)))
 no_value exact {a = a} {b = b} A S ends is h says =
-    let o = subst (λ s. Offers 256 (SeesLeaf exact s) a b) is h in
-    none_shown A S ends 256 says (omega arith) o.shows o.front o.is
+    let o = subst (λ s. Offers 4096 (SeesLeaf exact s) a b) is h in
+    none_shown A S ends 4096 says (omega arith) o.shows o.front o.is
 
 pub leaf_item : (exact : Type 0) {a m : View} (v : Value) (size : ℕ) {seen : Leaf}
-    → seen ≡ Whole v size → Offers 256 (SeesLeaf exact seen) a m → IsItem (view v)
+    → seen ≡ Whole v size → Offers 4096 (SeesLeaf exact seen) a m → IsItem (view v)
 leaf_item exact {a = a} {m = m} v size is h =
-    (subst (λ s. Offers 256 (SeesLeaf exact s) a m) is h).is.ranged
+    (subst (λ s. Offers 4096 (SeesLeaf exact s) a m) is h).is.ranged
 
 -- a look takes nothing
 pub looked : {want : ℕ} {P : List ℕ → Type 0} {a b : View} → Offers want P a b → Shows [] a b

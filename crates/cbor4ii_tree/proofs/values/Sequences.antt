@@ -40,7 +40,7 @@ use Rattle.cbor4ii_tree.specs.Valuing.{ReadsMember, StopsMember, StopsMembers, R
 use Rattle.cbor4ii_tree.specs.Valuing.{ReadsMapInside, StopsMajor, StopsOf, ReadsStepped}
 use Rattle.cbor4ii_tree.proofs.skip_calls.Doing.{Reached, reached_start, reached_by, reached_then}
 use Rattle.cbor4ii_tree.proofs.skip_calls.Doing.{does_err, does_after, does_stops, does_stepped}
-use Rattle.cbor4ii_tree.proofs.skip_calls.Doing.{reached_sound, steps_in}
+use Rattle.cbor4ii_tree.proofs.skip_calls.Doing.{reached_sound, steps_in, does_ok}
 use Rattle.cbor4ii_tree.proofs.values.Views.{view-Map}
 use Rattle.cbor4ii_tree.proofs.values.Parts.{ReadEach, ReadPairs}
 use Rattle.cbor4ii_tree.proofs.values.Calls.{head_cut, no_head, initial_of, values-push, open_byte}
@@ -227,6 +227,15 @@ array_counted n {a = a} {m = m} p d =
       is = refl;
       stopped = subst (λ o. StopsItems n o ys e rest) p.kept.budget s;
     }))))) p d
+
+-- none of them
+pub array_of_none : {E : Type 0} (v : Vec Value Global) {m : View} → v.items ≡ []
+    → Does {E = E} (λ xs (u : Vec Value Global) ys. ReadsItems 0 m.budget xs u.items ys)
+    (StopsItems 0 m.budget) m m (Ok v)
+array_of_none v {m = m} e =
+    does_ok (λ xs (u : Vec Value Global) ys. ReadsItems 0 m.budget xs u.items ys) (StopsItems 0 m.budget)
+    (reached_start (λ xs ys. ReadsItems 0 m.budget xs v.items ys) m
+    (λ xs. subst (λ us. ReadsItems 0 m.budget xs us xs) (sym e) (no_trees, refl, tt, refl, refl)))
 
 pub array_opened : {E : Type 0} {r : Result (Vec Value Global) (DecodeError E)} {a m b : View}
     → Reached (OpenAt 4) a m
@@ -454,6 +463,15 @@ map_counted n {a = a} {m = m} p d =
       is = refl;
       stopped = subst (λ o. StopsMembers n o ys e rest) p.kept.budget s;
     }))))) p d
+
+-- none of them
+pub map_of_none : {E : Type 0} (v : Vec (Value × Value) Global) {m : View} → v.items ≡ []
+    → Does {E = E} (λ xs (u : Vec (Value × Value) Global) ys. ReadsMembers 0 m.budget xs u.items ys)
+    (StopsMembers 0 m.budget) m m (Ok v)
+map_of_none v {m = m} e =
+    does_ok (λ xs (u : Vec (Value × Value) Global) ys. ReadsMembers 0 m.budget xs u.items ys) (StopsMembers 0 m.budget)
+    (reached_start (λ xs ys. ReadsMembers 0 m.budget xs v.items ys) m
+    (λ xs. subst (λ us. ReadsMembers 0 m.budget xs us xs) (sym e) (no_pairs, refl, tt, refl, refl)))
 
 pub map_opened : {E : Type 0} {r : Result (Vec (Value × Value) Global) (DecodeError E)}
     {a m b : View} → Reached (OpenAt 5) a m

@@ -333,31 +333,31 @@ counted_items-loop-alloc-init g t c = record {
   few = none_too_many _ c.args.count (cc);
 }
 
-pub counted_items-returns-in_err-take_run_apart : goal.counted_items-returns-in_err-take_run_apart
-counted_items-returns-in_err-take_run_apart g t c =
+pub counted_items-returns-in_err-take_item_run : goal.counted_items-returns-in_err-take_item_run
+counted_items-returns-in_err-take_item_run g t c =
     let budget = (g.S.Source.view c.args.reader.now).budget in
     let items = c.loop-alloc.items.items in
-    rw c.from_residual.ensures (run_stops Exactly items c.take_run_apart.new.parts.items
+    rw c.from_residual.ensures (run_stops Exactly items c.take_item_run.new.parts.items
     c.loop-alloc.invariant.reached
     (λ xs (v : Vec Value Global) ys. ExactItems c.args.count budget xs v.items ys)
     (StopsExactItems c.args.count budget)
     (λ xs ys z rest h s. item_stops (length items) c.args.count budget items xs ys z rest
     (omega (arith, c.loop-alloc-test.true)) h (value_absent budget ys z rest s))
-    (c.in_err-take_run_apart.ensures.exactly refl))
+    (c.in_err-take_item_run.ensures.exactly refl))
 
 pub counted_items-returns-in_err-value : goal.counted_items-returns-in_err-value
 counted_items-returns-in_err-value g t c =
     rw c.from_residual-in_err-value.ensures (ends ReadsExactly StopsExactly
-    (λ xs ys. ExactItems (length c.take_run_apart.new.parts.items) (g.S.Source.view
+    (λ xs ys. ExactItems (length c.take_item_run.new.parts.items) (g.S.Source.view
     c.args.reader.now).budget xs
-    c.take_run_apart.new.parts.items ys)
-    (ran Exactly c.loop-alloc.items.items c.take_run_apart.new.parts.items
-    c.loop-alloc.invariant.reached (c.in_ok-take_run_apart.ensures.exactly refl))
+    c.take_item_run.new.parts.items ys)
+    (ran Exactly c.loop-alloc.items.items c.take_item_run.new.parts.items
+    c.loop-alloc.invariant.reached (c.in_ok-take_item_run.ensures.exactly refl))
     (λ xs (v : Vec Value Global) ys. ExactItems c.args.count (g.S.Source.view
     c.args.reader.now).budget xs v.items ys)
     (StopsExactItems c.args.count (g.S.Source.view c.args.reader.now).budget)
-    (λ xs ys z rest h s. item_stops (length c.take_run_apart.new.parts.items) c.args.count
-    (g.S.Source.view c.args.reader.now).budget c.take_run_apart.new.parts.items xs ys z rest
+    (λ xs ys z rest h s. item_stops (length c.take_item_run.new.parts.items) c.args.count
+    (g.S.Source.view c.args.reader.now).budget c.take_item_run.new.parts.items xs ys z rest
     (omega (arith, c.if-len-count.true)) h s) c.in_err-value.ensures.does)
 
 pub counted_items-loop-alloc-smaller-in-Continue-branch-3 :
@@ -366,33 +366,33 @@ counted_items-loop-alloc-smaller-in-Continue-branch-3 g t c =
     omega (
       arith,
       c.if-len-count.true,
-      c.in_ok-take_run_apart.ensures.more,
+      c.in_ok-take_item_run.ensures.more,
       ap length c.in_ok-keep.ensures.kept,
-      length-append c.take_run_apart.new.parts.items (c.in_ok-value.value ∷ []),
+      length-append c.take_item_run.new.parts.items (c.in_ok-value.value ∷ []),
     )
 
 pub counted_items-loop-alloc-preserved-in-Continue-branch-3 :
     goal.counted_items-loop-alloc-preserved-in-Continue-branch-3
 counted_items-loop-alloc-preserved-in-Continue-branch-3 g t c =
-    let long : length c.keep.new.items.items ≡ length c.take_run_apart.new.parts.items + 1 =
+    let long : length c.keep.new.items.items ≡ length c.take_item_run.new.parts.items + 1 =
     ap length c.in_ok-keep.ensures.kept
-    ∙ length-append c.take_run_apart.new.parts.items (c.in_ok-value.value ∷ []) in
+    ∙ length-append c.take_item_run.new.parts.items (c.in_ok-value.value ∷ []) in
     record {
       reached =
           subst (λ n. Reached (λ xs ys. ExactItems n (g.S.Source.view c.args.reader.now).budget xs
           c.keep.new.items.items ys) (g.S.Source.view c.args.reader.now)
           (g.S.Source.view c.read_nested.new.reader)) (sym long)
           (more ReadsExactly StopsExactly
-          (λ xs ys. ExactItems (length c.take_run_apart.new.parts.items) (g.S.Source.view
+          (λ xs ys. ExactItems (length c.take_item_run.new.parts.items) (g.S.Source.view
           c.args.reader.now).budget xs
-          c.take_run_apart.new.parts.items ys)
-          (ran Exactly c.loop-alloc.items.items c.take_run_apart.new.parts.items
-          c.loop-alloc.invariant.reached (c.in_ok-take_run_apart.ensures.exactly refl))
-          (λ xs ys. ExactItems (length c.take_run_apart.new.parts.items + 1) (g.S.Source.view
+          c.take_item_run.new.parts.items ys)
+          (ran Exactly c.loop-alloc.items.items c.take_item_run.new.parts.items
+          c.loop-alloc.invariant.reached (c.in_ok-take_item_run.ensures.exactly refl))
+          (λ xs ys. ExactItems (length c.take_item_run.new.parts.items + 1) (g.S.Source.view
           c.args.reader.now).budget xs _ ys)
-          (λ xs ys zs h s. items_more (length c.take_run_apart.new.parts.items) (g.S.Source.view
+          (λ xs ys zs h s. items_more (length c.take_item_run.new.parts.items) (g.S.Source.view
           c.args.reader.now).budget
-          c.take_run_apart.new.parts.items _ c.in_ok-value.value xs ys zs c.in_ok-keep.ensures.kept
+          c.take_item_run.new.parts.items _ c.in_ok-value.value xs ys zs c.in_ok-keep.ensures.kept
           h s) c.in_ok-value.ensures.does);
       few = omega (arith, long, c.if-len-count.true);
     }
@@ -403,16 +403,16 @@ counted_items-returns-in_err-keep g t c =
     ExactItems c.args.count (g.S.Source.view c.args.reader.now).budget xs v.items ys)
     (StopsExactItems c.args.count
     (g.S.Source.view c.args.reader.now).budget) (ap refusal_left c.in_err-keep.ensures.memory)
-    (kept_then (ran Exactly c.loop-alloc.items.items c.take_run_apart.new.parts.items
-    c.loop-alloc.invariant.reached (c.in_ok-take_run_apart.ensures.exactly refl)).kept
+    (kept_then (ran Exactly c.loop-alloc.items.items c.take_item_run.new.parts.items
+    c.loop-alloc.invariant.reached (c.in_ok-take_item_run.ensures.exactly refl)).kept
     c.in_ok-value.ensures.does.moves.by))
 
 pub counted_items-loop-alloc-preserved : goal.counted_items-loop-alloc-preserved
 counted_items-loop-alloc-preserved g t c = record {
   reached =
-      ran Exactly c.loop-alloc.items.items c.take_run_apart.new.parts.items
-      c.loop-alloc.invariant.reached (c.in_ok-take_run_apart.ensures.exactly refl);
-  few = c.in_ok-take_run_apart.ensures.few;
+      ran Exactly c.loop-alloc.items.items c.take_item_run.new.parts.items
+      c.loop-alloc.invariant.reached (c.in_ok-take_item_run.ensures.exactly refl);
+  few = c.in_ok-take_item_run.ensures.few;
 }
 
 pub counted_members-loop-alloc-init : goal.counted_members-loop-alloc-init

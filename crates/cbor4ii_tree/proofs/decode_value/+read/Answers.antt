@@ -23,8 +23,9 @@ use Rattle.cbor4ii_tree.proofs.values.Heads.{view-Tag}
 use Rattle.cbor4ii_tree.proofs.values.Sequences.{major_stepped, array_no_step, map_no_step}
 use Rattle.cbor4ii_tree.proofs.values.Sequences.{array_length_stops, map_length_stops}
 use Rattle.cbor4ii_tree.proofs.values.Sequences.{length_refused, reached_length, reached_open}
-use Rattle.cbor4ii_tree.proofs.values.Sequences.{array_counted, array_opened, array_reads}
-use Rattle.cbor4ii_tree.proofs.values.Sequences.{map_counted, map_opened, map_reads, each_none}
+use Rattle.cbor4ii_tree.proofs.values.Sequences.{array_counted, array_of_none, array_opened, array_reads}
+use Rattle.cbor4ii_tree.proofs.values.Sequences.{map_counted, map_of_none, map_opened, map_reads}
+use Rattle.cbor4ii_tree.proofs.values.Sequences.{each_none}
 use Rattle.cbor4ii_tree.proofs.values.Sequences.{each_more, open_end, open_stop, open_done}
 use Rattle.cbor4ii_tree.proofs.values.Sequences.{members_more, member_stop}
 use Rattle.cbor4ii_tree.proofs.values.Sequences.{pairs_none, pairs_more, members_end, pair_stop}
@@ -48,41 +49,53 @@ read_inside-returns-in-Some-None-clause-does g t c =
 
 pub array_inside-returns-in-None-clause-does : goal.array_inside-returns-in-None-clause-does
 array_inside-returns-in-None-clause-does g t c =
-    array_opened (reached_open 4 c.in-None.is c.in_ok-count.ensures.moves
-    c.in_ok-count.ensures.sound) c.open_items.ensures.does
+    array_opened (reached_open 4 c.in-None.is c.in_ok-array_length.ensures.moves
+    c.in_ok-array_length.ensures.sound) c.open_items.ensures.does
 
 pub array_inside-returns-in-Some-clause-does : goal.array_inside-returns-in-Some-clause-does
 array_inside-returns-in-Some-clause-does g t c =
     array_counted c.in-Some.count (reached_length 4 c.in-Some.count c.in-Some.is
-    c.in_ok-count.ensures.moves c.in_ok-count.ensures.sound) c.counted_items.ensures.does
+    c.in_ok-array_length.ensures.moves c.in_ok-array_length.ensures.sound) c.counted_items.ensures.does
 
-pub array_inside-returns-in_err-count-clause-does :
-    goal.array_inside-returns-in_err-count-clause-does
-array_inside-returns-in_err-count-clause-does g t c =
+pub array_inside-returns-in-Some-eq0-clause-does :
+    goal.array_inside-returns-in-Some-eq0-clause-does
+array_inside-returns-in-Some-eq0-clause-does g t c =
+    array_counted 0 (reached_length 4 0 (cc) c.in_ok-array_length.ensures.moves
+    c.in_ok-array_length.ensures.sound) (array_of_none c.new.result (cc))
+
+pub array_inside-returns-in_err-array_length-clause-does :
+    goal.array_inside-returns-in_err-array_length-clause-does
+array_inside-returns-in_err-array_length-clause-does g t c =
     rw c.from_residual.ensures (length_refused array_name 4
     (λ xs v ys. ReadsArrayInside (g.S.Source.view c.args.reader.now).budget xs v.items ys)
     (StopsMajor 4 (g.S.Source.view c.args.reader.now).budget)
     (λ xs z rest. array_length_stops (g.S.Source.view c.args.reader.now).budget xs
-    (g.S.Source.view c.args.reader.now).budget z rest) c.in_err-count.ensures.moves
-    c.in_err-count.ensures.stops)
+    (g.S.Source.view c.args.reader.now).budget z rest) c.in_err-array_length.ensures.moves
+    c.in_err-array_length.ensures.stops)
 
 pub map_inside-returns-in-None-clause-does : goal.map_inside-returns-in-None-clause-does
 map_inside-returns-in-None-clause-does g t c =
-    map_opened (reached_open 5 c.in-None.is c.in_ok-count.ensures.moves c.in_ok-count.ensures.sound)
+    map_opened (reached_open 5 c.in-None.is c.in_ok-map_length.ensures.moves c.in_ok-map_length.ensures.sound)
     c.open_members.ensures.does
 
 pub map_inside-returns-in-Some-clause-does : goal.map_inside-returns-in-Some-clause-does
 map_inside-returns-in-Some-clause-does g t c =
     map_counted c.in-Some.count (reached_length 5 c.in-Some.count c.in-Some.is
-    c.in_ok-count.ensures.moves c.in_ok-count.ensures.sound) c.counted_members.ensures.does
+    c.in_ok-map_length.ensures.moves c.in_ok-map_length.ensures.sound) c.counted_members.ensures.does
 
-pub map_inside-returns-in_err-count-clause-does : goal.map_inside-returns-in_err-count-clause-does
-map_inside-returns-in_err-count-clause-does g t c =
+pub map_inside-returns-in-Some-eq0-clause-does :
+    goal.map_inside-returns-in-Some-eq0-clause-does
+map_inside-returns-in-Some-eq0-clause-does g t c =
+    map_counted 0 (reached_length 5 0 (cc) c.in_ok-map_length.ensures.moves
+    c.in_ok-map_length.ensures.sound) (map_of_none c.new.result (cc))
+
+pub map_inside-returns-in_err-map_length-clause-does : goal.map_inside-returns-in_err-map_length-clause-does
+map_inside-returns-in_err-map_length-clause-does g t c =
     rw c.from_residual.ensures (length_refused map_name 5
     (λ xs v ys. ReadsMapInside (g.S.Source.view c.args.reader.now).budget xs v.items ys)
     (StopsMajor 5 (g.S.Source.view c.args.reader.now).budget) (λ xs z rest. map_length_stops
     (g.S.Source.view c.args.reader.now).budget xs (g.S.Source.view c.args.reader.now).budget
-    z rest) c.in_err-count.ensures.moves c.in_err-count.ensures.stops)
+    z rest) c.in_err-map_length.ensures.moves c.in_err-map_length.ensures.stops)
 
 pub open_items-loop-items-init : goal.open_items-loop-items-init
 open_items-loop-items-init g t c = record {
@@ -353,23 +366,23 @@ pub read_by_first-returns-in_ok-read_map-in-5-clause-item :
 read_by_first-returns-in_ok-read_map-in-5-clause-item g t c =
     map_item c.in_ok-read_map-in-5.field-0 c.in_ok-read_map-in-5.ensures.items
 
-pub array_inside-returns-in_err-count-clause-items :
-    goal.array_inside-returns-in_err-count-clause-items
-array_inside-returns-in_err-count-clause-items g t c =
+pub array_inside-returns-in_err-array_length-clause-items :
+    goal.array_inside-returns-in_err-array_length-clause-items
+array_inside-returns-in_err-array_length-clause-items g t c =
     rw c.from_residual.ensures tt
 
-pub array_inside-returns-in_err-count-clause-progress :
-    goal.array_inside-returns-in_err-count-clause-progress
-array_inside-returns-in_err-count-clause-progress g t c =
+pub array_inside-returns-in_err-array_length-clause-progress :
+    goal.array_inside-returns-in_err-array_length-clause-progress
+array_inside-returns-in_err-array_length-clause-progress g t c =
     rw c.from_residual.ensures tt
 
-pub map_inside-returns-in_err-count-clause-items : goal.map_inside-returns-in_err-count-clause-items
-map_inside-returns-in_err-count-clause-items g t c =
+pub map_inside-returns-in_err-map_length-clause-items : goal.map_inside-returns-in_err-map_length-clause-items
+map_inside-returns-in_err-map_length-clause-items g t c =
     rw c.from_residual.ensures tt
 
-pub map_inside-returns-in_err-count-clause-progress :
-    goal.map_inside-returns-in_err-count-clause-progress
-map_inside-returns-in_err-count-clause-progress g t c =
+pub map_inside-returns-in_err-map_length-clause-progress :
+    goal.map_inside-returns-in_err-map_length-clause-progress
+map_inside-returns-in_err-map_length-clause-progress g t c =
     rw c.from_residual.ensures tt
 
 pub open_items-returns-in_err-part-clause-items :
@@ -499,7 +512,7 @@ array_inside-returns-in-Some-clause-items g t c = c.counted_items.ensures.items
 
 pub array_inside-returns-in-Some-clause-progress : goal.array_inside-returns-in-Some-clause-progress
 array_inside-returns-in-Some-clause-progress g t c =
-    went_on _ c.counted_items.result _ c.in_ok-count.ensures.progress
+    went_on _ c.counted_items.result _ c.in_ok-array_length.ensures.progress
     c.counted_items.ensures.does.moves
 
 pub array_inside-returns-in-None-clause-items : goal.array_inside-returns-in-None-clause-items
@@ -507,7 +520,7 @@ array_inside-returns-in-None-clause-items g t c = c.open_items.ensures.items
 
 pub array_inside-returns-in-None-clause-progress : goal.array_inside-returns-in-None-clause-progress
 array_inside-returns-in-None-clause-progress g t c =
-    went_on _ c.open_items.result _ c.in_ok-count.ensures.progress
+    went_on _ c.open_items.result _ c.in_ok-array_length.ensures.progress
     c.open_items.ensures.does.moves
 
 pub map_inside-returns-in-Some-clause-items : goal.map_inside-returns-in-Some-clause-items
@@ -515,7 +528,7 @@ map_inside-returns-in-Some-clause-items g t c = c.counted_members.ensures.items
 
 pub map_inside-returns-in-Some-clause-progress : goal.map_inside-returns-in-Some-clause-progress
 map_inside-returns-in-Some-clause-progress g t c =
-    went_on _ c.counted_members.result _ c.in_ok-count.ensures.progress
+    went_on _ c.counted_members.result _ c.in_ok-map_length.ensures.progress
     c.counted_members.ensures.does.moves
 
 pub map_inside-returns-in-None-clause-items : goal.map_inside-returns-in-None-clause-items
@@ -523,7 +536,7 @@ map_inside-returns-in-None-clause-items g t c = c.open_members.ensures.items
 
 pub map_inside-returns-in-None-clause-progress : goal.map_inside-returns-in-None-clause-progress
 map_inside-returns-in-None-clause-progress g t c =
-    went_on _ c.open_members.result _ c.in_ok-count.ensures.progress
+    went_on _ c.open_members.result _ c.in_ok-map_length.ensures.progress
     c.open_members.ensures.does.moves
 
 pub read_array-returns-clause-items : goal.read_array-returns-clause-items
@@ -650,25 +663,25 @@ counted_items-loop-alloc-init g t c = record {
   few = none_too_many _ c.args.count (cc);
 }
 
-pub counted_items-returns-in_err-take_run_apart-clause-does :
-    goal.counted_items-returns-in_err-take_run_apart-clause-does
-counted_items-returns-in_err-take_run_apart-clause-does g t c =
+pub counted_items-returns-in_err-take_item_run-clause-does :
+    goal.counted_items-returns-in_err-take_item_run-clause-does
+counted_items-returns-in_err-take_item_run-clause-does g t c =
     let budget = (g.S.Source.view c.args.reader.now).budget in
     let items = c.loop-alloc.items.items in
-    rw c.from_residual.ensures (run_stops Readable items c.take_run_apart.new.parts.items
+    rw c.from_residual.ensures (run_stops Readable items c.take_item_run.new.parts.items
     c.loop-alloc.invariant.reached (λ xs v ys. ReadsItems c.args.count budget xs v.items ys)
     (StopsItems c.args.count budget)
     (λ xs ys z rest h s. items_stop (length items) c.args.count budget items xs ys z rest
     (omega (arith, c.loop-alloc-test.true)) h (value_absent budget ys z rest s))
-    c.in_err-take_run_apart.ensures.puts)
+    c.in_err-take_item_run.ensures.puts)
 
 pub counted_items-returns-in_err-value-clause-does :
     goal.counted_items-returns-in_err-value-clause-does
 counted_items-returns-in_err-value-clause-does g t c =
-    rw c.from_residual-in_err-value.ensures (counted_stop (length c.take_run_apart.new.parts.items)
-    c.take_run_apart.new.parts.items (ran Readable c.loop-alloc.items.items
-    c.take_run_apart.new.parts.items
-    c.loop-alloc.invariant.reached c.in_ok-take_run_apart.ensures.puts)
+    rw c.from_residual-in_err-value.ensures (counted_stop (length c.take_item_run.new.parts.items)
+    c.take_item_run.new.parts.items (ran Readable c.loop-alloc.items.items
+    c.take_item_run.new.parts.items
+    c.loop-alloc.invariant.reached c.in_ok-take_item_run.ensures.puts)
     (λ xs v ys. ReadsItems c.args.count (g.S.Source.view c.args.reader.now).budget xs
     v.items ys) c.args.count (omega (arith, c.if-len-count.true)) c.in_err-value.ensures.does)
 
@@ -678,30 +691,30 @@ counted_items-loop-alloc-smaller-in-Continue-branch-3 g t c =
     omega (
       arith,
       c.if-len-count.true,
-      c.in_ok-take_run_apart.ensures.more,
+      c.in_ok-take_item_run.ensures.more,
       ap length c.in_ok-keep.ensures.kept,
-      length-append c.take_run_apart.new.parts.items (c.in_ok-value.value ∷ []),
+      length-append c.take_item_run.new.parts.items (c.in_ok-value.value ∷ []),
     )
 
 pub counted_items-loop-alloc-preserved-in-Continue-branch-3 :
     goal.counted_items-loop-alloc-preserved-in-Continue-branch-3
 counted_items-loop-alloc-preserved-in-Continue-branch-3 g t c =
-    let long : length c.keep.new.items.items ≡ length c.take_run_apart.new.parts.items + 1 =
+    let long : length c.keep.new.items.items ≡ length c.take_item_run.new.parts.items + 1 =
     ap length c.in_ok-keep.ensures.kept
-    ∙ length-append c.take_run_apart.new.parts.items (c.in_ok-value.value ∷ []) in
+    ∙ length-append c.take_item_run.new.parts.items (c.in_ok-value.value ∷ []) in
     record {
       reached =
           subst (λ n. Reached (λ xs ys. ReadsItems n (g.S.Source.view c.args.reader.now).budget xs
           c.keep.new.items.items ys) (g.S.Source.view c.args.reader.now)
           (g.S.Source.view c.read_nested.new.reader)) (sym long)
-          (counted_more (length c.take_run_apart.new.parts.items) c.take_run_apart.new.parts.items
-          (ran Readable c.loop-alloc.items.items c.take_run_apart.new.parts.items
+          (counted_more (length c.take_item_run.new.parts.items) c.take_item_run.new.parts.items
+          (ran Readable c.loop-alloc.items.items c.take_item_run.new.parts.items
           c.loop-alloc.invariant.reached
-          c.in_ok-take_run_apart.ensures.puts) _ c.in_ok-keep.ensures.kept
+          c.in_ok-take_item_run.ensures.puts) _ c.in_ok-keep.ensures.kept
           c.in_ok-value.ensures.does);
       items =
-          items_are _ c.take_run_apart.new.parts.items c.in_ok-value.value c.in_ok-keep.ensures.kept
-          (c.in_ok-take_run_apart.ensures.items c.loop-alloc.invariant.items)
+          items_are _ c.take_item_run.new.parts.items c.in_ok-value.value c.in_ok-keep.ensures.kept
+          (c.in_ok-take_item_run.ensures.items c.loop-alloc.invariant.items)
           c.in_ok-value.ensures.item;
       few = omega (arith, long, c.if-len-count.true);
     }
@@ -712,18 +725,18 @@ counted_items-returns-in_err-keep-clause-does g t c =
     rw c.from_residual-in_err-keep.ensures (does_no_memory (λ xs v ys. ReadsItems c.args.count
     (g.S.Source.view c.args.reader.now).budget xs v.items ys) (StopsItems c.args.count
     (g.S.Source.view c.args.reader.now).budget) (ap refusal_left c.in_err-keep.ensures.memory)
-    (kept_then (ran Readable c.loop-alloc.items.items c.take_run_apart.new.parts.items
-    c.loop-alloc.invariant.reached c.in_ok-take_run_apart.ensures.puts).kept
+    (kept_then (ran Readable c.loop-alloc.items.items c.take_item_run.new.parts.items
+    c.loop-alloc.invariant.reached c.in_ok-take_item_run.ensures.puts).kept
     c.in_ok-value.ensures.does.moves.by))
 
 pub counted_items-loop-alloc-preserved : goal.counted_items-loop-alloc-preserved
 counted_items-loop-alloc-preserved g t c = record {
   reached =
-      ran Readable c.loop-alloc.items.items c.take_run_apart.new.parts.items
+      ran Readable c.loop-alloc.items.items c.take_item_run.new.parts.items
       c.loop-alloc.invariant.reached
-      c.in_ok-take_run_apart.ensures.puts;
-  items = c.in_ok-take_run_apart.ensures.items c.loop-alloc.invariant.items;
-  few = c.in_ok-take_run_apart.ensures.few;
+      c.in_ok-take_item_run.ensures.puts;
+  items = c.in_ok-take_item_run.ensures.items c.loop-alloc.invariant.items;
+  few = c.in_ok-take_item_run.ensures.few;
 }
 
 -- ---- a map whose pairs are counted
