@@ -93,8 +93,8 @@ fn put<W: Write, T: Encode>(
     part(item.encode(writer), failure)
 }
 
-/// Writes the shortest head of this major type with this argument, in one push of a constant length:
-/// into memory that takes the fewest steps.
+/// Writes the shortest head of this major type with this argument, in one push of a constant
+/// length: into memory that takes the fewest steps.
 #[inline(always)]
 fn put_head<W: Write>(
     writer: &mut W,

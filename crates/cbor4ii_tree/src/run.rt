@@ -209,8 +209,8 @@ pub(crate) fn take_run<S: Source, P: Parts>(
     outcome
 }
 
-/// As `take_run`, of items. Where one byte shows that the next item is decided by no look, no run is
-/// looked for.
+/// As `take_run`, of items. Where one byte shows that the next item is decided by no look, no run
+/// is looked for.
 #[inline(always)]
 pub(crate) fn take_item_run<S: Source, P: Parts>(
     alloc: Global,
