@@ -13,6 +13,10 @@ impl<S: Source> Source for &mut S {
         Source::show(&mut **self, want)
     }
 
+    fn window(&self) -> usize {
+        Source::window(&**self)
+    }
+
     fn advance(&mut self, n: usize) {
         Source::advance(&mut **self, n)
     }

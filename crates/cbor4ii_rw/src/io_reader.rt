@@ -165,6 +165,11 @@ impl<R: BufRead> Source for IoReader<R> {
         }
     }
 
+    #[inline(always)]
+    fn window(&self) -> usize {
+        4096
+    }
+
     fn advance(&mut self, n: usize) {
         prove!(n <= self.tally.shown);
         self.tally.used += n;

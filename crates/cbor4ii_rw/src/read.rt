@@ -58,6 +58,9 @@ pub trait Source {
     /// Shows a front of what is left, perhaps shorter or longer than `want`, and takes nothing.
     /// It is empty only at the end, or where `want` is 0. What is shown may be advanced.
     ///
+    /// `want` is a wish: one byte is enough. A reader that waits for more than one may wait for
+    /// ever, since the item may end before them.
+    ///
     /// # Errors
     ///
     /// Why the reader failed, which it counts. Nothing is taken then either. The bytes that are
@@ -70,6 +73,14 @@ pub trait Source {
         ensures* after_borrow { sem 𝓛 (Rests Self.row self.entry (λ new. MatchResult result
             (λ shown. Shows shown.now (view self.old) (view new))
             (λ _. Breaks (view self.old) (view new)))) };
+
+    /// How many bytes a look may ask for where fewer would do, one at least. Only a reader that
+    /// waits for no byte because more are wanted, and refuses none, answers more than 1.
+    fn window(&self) -> usize
+        ensures { 1 ≤ result }
+    {
+        1
+    }
 
     /// Takes the next `n` bytes, at most as many as were shown last and not taken since.
     fn advance(&mut self, n: usize)

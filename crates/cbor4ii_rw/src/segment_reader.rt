@@ -96,6 +96,11 @@ impl Source for SegmentReader<'_> {
         Ok(&self.current[..shown])
     }
 
+    #[inline(always)]
+    fn window(&self) -> usize {
+        4096
+    }
+
     fn advance(&mut self, n: usize) {
         self.current = &self.current[n..];
     }

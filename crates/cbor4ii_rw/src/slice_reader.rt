@@ -80,6 +80,11 @@ impl Source for SliceReader<'_> {
     }
 
     #[inline(always)]
+    fn window(&self) -> usize {
+        4096
+    }
+
+    #[inline(always)]
     fn advance(&mut self, n: usize) {
         self.bytes = &self.bytes[n..];
     }
