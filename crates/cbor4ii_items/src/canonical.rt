@@ -32,7 +32,6 @@ use std::alloc::Global;
 /// - `Mismatch` by `name` with the first byte, which is taken: it begins no head of this major type
 /// - `NotCanonical` by "canonical": a whole head is longer than needed, and is taken; or the first
 ///   byte, which is taken, says an indefinite length (major types 2 to 5, section 3.2)
-#[inline(always)]
 pub fn canonical_head<S: Source>(
     name: StaticStr,
     major: u8,

@@ -24,7 +24,6 @@ impl Array<()> {
     /// `Read` where the reader failed. By the name "array": `Eof` with 1 where no byte is left,
     /// and with k where the length has k bytes and fewer are left, nothing being left then;
     /// `Mismatch` with the first byte, which is taken, where it begins no array. The budget stays.
-    #[inline(always)]
     pub fn len<S: Source>(reader: &mut S) -> Result<Option<usize>, DecodeError<S::Error>>
         ensures moves { Moves (S.view reader.old) (S.view reader.new) result }
         ensures memory { IfErr result (λ error. is_out_of_memory error ≡ false) }
@@ -78,7 +77,6 @@ impl Map<()> {
     /// `Read` where the reader failed. By the name "map": `Eof` with 1 where no byte is left, and
     /// with k where the length has k bytes and fewer are left, nothing being left then; `Mismatch`
     /// with the first byte, which is taken, where it begins no map. The budget stays.
-    #[inline(always)]
     pub fn len<S: Source>(reader: &mut S) -> Result<Option<usize>, DecodeError<S::Error>>
         ensures moves { Moves (S.view reader.old) (S.view reader.new) result }
         ensures memory { IfErr result (λ error. is_out_of_memory error ≡ false) }
