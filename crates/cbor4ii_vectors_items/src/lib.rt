@@ -28,6 +28,8 @@ mod indefinite;
 #[cfg(test)]
 mod initial;
 #[cfg(test)]
+mod integer_head;
+#[cfg(test)]
 mod laws;
 #[cfg(test)]
 mod maybe;
