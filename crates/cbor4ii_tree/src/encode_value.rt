@@ -1,6 +1,6 @@
 //! Values, written.
 ghost use Rattle.std.specs.Prelude.{◌++◌, ◌<◌, ◌≤◌, ℕ, List, length, OnOk, OnSome, IfNone, IsSome};
-ghost use Rattle.cbor4ii_items.specs.Writing.{Writes};
+ghost use Rattle.cbor4ii_items.specs.Writing.{Writes, WritesWhole};
 ghost use Rattle.cbor4ii_items.specs.Numbers.{shortest_head};
 ghost use Rattle.cbor4ii_items.specs.Strings.{counted_string};
 ghost use Rattle.cbor4ii_items.specs.SequenceBytes.{items_bytes};
@@ -103,7 +103,7 @@ fn put_head<W: Write>(
     failure: &mut Option<EncodeError<W::Error>>,
 ) -> Option<()>
     requires { major < 8 }
-    ensures writes { Writes W.whole (shortest_head major argument)
+    ensures writes { WritesWhole W.whole (shortest_head major argument)
         (W.view writer.old) (W.view writer.new) (sent result failure.new) }
     ensures failed { IfNone result (IsSome failure.new) }
 {
@@ -126,7 +126,7 @@ fn put_long_head<W: Write>(
 ) -> Option<()>
     requires major { major < 8 }
     requires long { 256 ≤ argument }
-    ensures writes { Writes W.whole (shortest_head major argument)
+    ensures writes { WritesWhole W.whole (shortest_head major argument)
         (W.view writer.old) (W.view writer.new) (sent result failure.new) }
     ensures failed { IfNone result (IsSome failure.new) }
 {
@@ -169,7 +169,7 @@ fn push<W: Write>(
     bytes: &[u8],
     failure: &mut Option<EncodeError<W::Error>>,
 ) -> Option<()>
-    ensures writes { Writes W.whole bytes.now
+    ensures writes { WritesWhole W.whole bytes.now
         (W.view writer.old) (W.view writer.new) (sent result failure.new) }
     ensures failed { IfNone result (IsSome failure.new) }
 {

@@ -82,29 +82,29 @@ put_members-loop-member-preserved g t c =
 pub put_array-returns-in_err-put_head-clause-writes :
     goal.put_array-returns-in_err-put_head-clause-writes
 put_array-returns-in_err-put_head-clause-writes g t c =
-    rw c.from_residual.ensures (writes_err _ c.in_err-put_head.ensures.writes)
+    rw c.from_residual.ensures (writes_err _ c.in_err-put_head.ensures.writes.writes)
 
 pub put_array-returns-clause-writes : goal.put_array-returns-clause-writes
 put_array-returns-clause-writes g t c =
-    writes_then _ c.in_ok-put_head.ensures.writes c.put_items.ensures.writes
+    writes_then _ c.in_ok-put_head.ensures.writes.writes c.put_items.ensures.writes
 
 pub put_map-returns-in_err-put_head-clause-writes :
     goal.put_map-returns-in_err-put_head-clause-writes
 put_map-returns-in_err-put_head-clause-writes g t c =
-    rw c.from_residual.ensures (writes_err _ c.in_err-put_head.ensures.writes)
+    rw c.from_residual.ensures (writes_err _ c.in_err-put_head.ensures.writes.writes)
 
 pub put_map-returns-clause-writes : goal.put_map-returns-clause-writes
 put_map-returns-clause-writes g t c =
-    writes_then _ c.in_ok-put_head.ensures.writes c.put_members.ensures.writes
+    writes_then _ c.in_ok-put_head.ensures.writes.writes c.put_members.ensures.writes
 
 pub put_tag-returns-in_err-put_head-clause-writes :
     goal.put_tag-returns-in_err-put_head-clause-writes
 put_tag-returns-in_err-put_head-clause-writes g t c =
-    rw c.from_residual.ensures (writes_err _ c.in_err-put_head.ensures.writes)
+    rw c.from_residual.ensures (writes_err _ c.in_err-put_head.ensures.writes.writes)
 
 pub put_tag-returns-clause-writes : goal.put_tag-returns-clause-writes
 put_tag-returns-clause-writes g t c =
-    writes_then _ c.in_ok-put_head.ensures.writes c.put_value.ensures.writes
+    writes_then _ c.in_ok-put_head.ensures.writes.writes c.put_value.ensures.writes
 
 pub put_value-returns-in-Bool-clause-writes : goal.put_value-returns-in-Bool-clause-writes
 put_value-returns-in-Bool-clause-writes g t c =
