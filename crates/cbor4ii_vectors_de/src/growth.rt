@@ -12,7 +12,7 @@ pub const PARTS: u16 = 300;
 pub const LETTERS: usize = 20_000;
 
 /// What stands before the parts, before or behind each of them, and behind the last one.
-type Shape = (&'static [u8], &'static [u8], &'static [u8]);
+pub type Shape = (&'static [u8], &'static [u8], &'static [u8]);
 
 /// Arrays of 300 numbers, of a known and of an indefinite length.
 pub const ARRAYS: &[Shape] = table! {
@@ -59,12 +59,12 @@ const TEXTS: &[Shape] = table! {
     (b"\x7f", b"\x61", b"\xff"),
 };
 
-// The bytes of so many letters of this shape.
-fn lettered(alloc: Global, shape: &Shape) -> Result<&'static [u8], Fail> {
+/// The bytes of so many letters of this shape.
+pub fn lettered(alloc: Global, shape: &Shape, letters: usize) -> Result<&'static [u8], Fail> {
     let (front, at_each, end) = *shape;
     let mut bytes = Vec::new(alloc);
     bytes.extend_from_slice(front)?;
-    for _ in 0..LETTERS {
+    for _ in 0..letters {
         bytes.extend_from_slice(at_each)?;
         bytes.push(b'a')?;
     }
@@ -79,7 +79,7 @@ where
 {
     let want = Ok(answer);
     for shape in TEXTS {
-        reads_by_each(alloc, lettered(alloc, shape)?, 256, &want, b"")?;
+        reads_by_each(alloc, lettered(alloc, shape, LETTERS)?, 256, &want, b"")?;
     }
     Ok(())
 }

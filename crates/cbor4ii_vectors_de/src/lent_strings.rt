@@ -1,4 +1,5 @@
 //! Rows of strings that are borrowed where the reader lends them, by each way to read.
+use crate::growth::{Shape, lettered};
 use cbor4ii::serde::{DecodeError, Deserialize, Deserializer};
 use cbor4ii::types::Bytes;
 use cbor4ii_rw::error as core_error;
@@ -166,7 +167,7 @@ fn reads<S: Strings + Drop>(
     Err(Fail::new(format_args!("not {want:?} of {bytes:?}")))
 }
 
-/// A string whose content is all but the first byte and the rest: over a slice, over segments that
+/// A string whose content is all between its head and the rest: over a slice, over segments that
 /// cut it at each place, and out of streams.
 fn reads_counted(
     kind: Kind,
@@ -183,9 +184,11 @@ fn reads_counted(
         Ok((content, true)),
         rest,
     )?;
+    let end = bytes.len().saturating_sub(rest.len());
+    let head = end.saturating_sub(content.len());
     for cut in 1..bytes.len() {
         let parts = vec![in alloc; &bytes[..cut], &bytes[cut..]]?.leak();
-        let is_borrowed = cut <= 1 || cut > content.len();
+        let is_borrowed = cut <= head || end <= cut;
         let reader = SegmentReader::new(parts);
         reads(kind, alloc, reader, bytes, Ok((content, is_borrowed)), rest)?;
     }
@@ -245,7 +248,7 @@ fn reads_of_streams(
         let stream = FailingStream::new(bytes, most, usize::MAX);
         reads(kind, alloc, IoReader::new(stream), bytes, want, rest)?;
     }
-    for looks in 0..64 {
+    for looks in 0..bytes.len().saturating_mul(4).max(64) {
         if !fails_at_look(kind, alloc, bytes, looks)? {
             return Ok(());
         }
@@ -315,6 +318,30 @@ fn reads_with_no_step(kinds: &[Kind], alloc: Global, row: Alike) -> Result<(), F
     Ok(())
 }
 
+/// How many letters a long string has: 0x012c.
+const LETTERS: usize = 300;
+
+/// Strings of 300 letters, by each way to read: one that is counted, and others in chunks.
+fn reads_long(
+    kinds: &[Kind],
+    alloc: Global,
+    counted: &Shape,
+    in_chunks: &[Shape],
+) -> Result<(), Fail> {
+    let content = lettered(alloc, &(b"", b"", b""), LETTERS)?;
+    let bytes = lettered(alloc, counted, LETTERS)?;
+    for kind in kinds {
+        reads_counted(*kind, alloc, bytes, content, b"")?;
+    }
+    for shape in in_chunks {
+        let bytes = lettered(alloc, shape, LETTERS)?;
+        for kind in kinds {
+            reads_alike(*kind, alloc, bytes, Ok((content, false)), b"")?;
+        }
+    }
+    Ok(())
+}
+
 const TEXTS_COUNTED: &[Counted] = table! {
     (b"\x64IETF\x01", b"IETF", b"\x01"),
     (b"\x62\xc3\xbc", b"\xc3\xbc", b""),
@@ -329,12 +356,21 @@ const TEXTS_ALIKE: &[Alike] = table! {
     (b"\x62\xff\xff\x01", Err(require_utf8!("str")), b"\x01"),
 };
 
+const LONG_TEXT: Shape = (b"\x79\x01\x2c", b"", b"");
+
+// One chunk of all letters, and a chunk for each.
+const LONG_TEXTS_IN_CHUNKS: &[Shape] = table! {
+    (b"\x7f\x79\x01\x2c", b"", b"\xff"),
+    (b"\x7f", b"\x61", b"\xff"),
+};
+
 const TEXT_WITH_NO_STEP: Alike = (b"\x7f\x61a\xff", Err(no_step!("str")), b"\x61a\xff");
 
 /// The rows of texts, by each of these ways to read.
 pub fn reads_texts(kinds: &[Kind], alloc: Global) -> Result<(), Fail> {
     reads_rows(kinds, alloc, TEXTS_COUNTED, TEXTS_ALIKE)?;
-    reads_with_no_step(kinds, alloc, TEXT_WITH_NO_STEP)
+    reads_with_no_step(kinds, alloc, TEXT_WITH_NO_STEP)?;
+    reads_long(kinds, alloc, &LONG_TEXT, LONG_TEXTS_IN_CHUNKS)
 }
 
 const BYTE_STRINGS_COUNTED: &[Counted] = table! {
@@ -348,10 +384,19 @@ const BYTE_STRINGS_ALIKE: &[Alike] = table! {
     (b"\x61\x61a", Err(mismatch!("bytes", 0x61)), b"\x61a"),
 };
 
+const LONG_BYTE_STRING: Shape = (b"\x59\x01\x2c", b"", b"");
+
+// One chunk of all bytes, and a chunk for each.
+const LONG_BYTE_STRINGS_IN_CHUNKS: &[Shape] = table! {
+    (b"\x5f\x59\x01\x2c", b"", b"\xff"),
+    (b"\x5f", b"\x41", b"\xff"),
+};
+
 const BYTE_STRING_WITH_NO_STEP: Alike = (b"\x5f\x41a\xff", Err(no_step!("bytes")), b"\x41a\xff");
 
 /// The rows of byte strings, by each of these ways to read.
 pub fn reads_byte_strings(kinds: &[Kind], alloc: Global) -> Result<(), Fail> {
     reads_rows(kinds, alloc, BYTE_STRINGS_COUNTED, BYTE_STRINGS_ALIKE)?;
-    reads_with_no_step(kinds, alloc, BYTE_STRING_WITH_NO_STEP)
+    reads_with_no_step(kinds, alloc, BYTE_STRING_WITH_NO_STEP)?;
+    reads_long(kinds, alloc, &LONG_BYTE_STRING, LONG_BYTE_STRINGS_IN_CHUNKS)
 }
