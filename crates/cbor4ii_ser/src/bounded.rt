@@ -235,7 +235,7 @@ impl<'a, W: Write> BoundedCollect<'a, W> {
 }
 
 /// Writes a name, and a value behind it.
-#[inline(always)]
+#[inline]
 pub(crate) fn put_field<W: Write, T: Serialize>(
     ser: &mut Serializer<W>,
     name: &str,

@@ -11,7 +11,7 @@ use cbor4ii_items::types::{Array, Map};
 use cbor4ii_rw::write::Write;
 
 impl<W: Write> Serializer<W> {
-    #[inline(always)]
+    #[inline]
     pub(crate) fn array_head(&mut self, len: usize) -> Result<(), EncodeError<W::Error>>
         ensures { Serializes W.whole (encoded (shortest_head 4 len))
             (output W.view self.old) (output W.view self.new) result }
@@ -19,7 +19,7 @@ impl<W: Write> Serializer<W> {
         Ok(Array::<()>::bounded(len, &mut self.writer)?)
     }
 
-    #[inline(always)]
+    #[inline]
     pub(crate) fn map_head(&mut self, len: usize) -> Result<(), EncodeError<W::Error>>
         ensures { Serializes W.whole (encoded (shortest_head 5 len))
             (output W.view self.old) (output W.view self.new) result }

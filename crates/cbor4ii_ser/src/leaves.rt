@@ -21,7 +21,7 @@ use std::borrow::CowStr;
 impl Serialize for bool {
     ghost item = { λ v. encoded (bool_byte v ∷ []) };
 
-    #[inline(always)]
+    #[inline]
     fn serialize<W: Write>(&self, ser: &mut Serializer<W>) -> Result<(), EncodeError<W::Error>> {
         ser.serialize_bool(*self)
     }
@@ -31,7 +31,7 @@ impl Serialize for bool {
 impl Serialize for i8 {
     ghost item = { λ v. encoded (signed_head v) };
 
-    #[inline(always)]
+    #[inline]
     fn serialize<W: Write>(&self, ser: &mut Serializer<W>) -> Result<(), EncodeError<W::Error>> {
         ser.serialize_i8(*self)
     }
@@ -41,7 +41,7 @@ impl Serialize for i8 {
 impl Serialize for i16 {
     ghost item = { λ v. encoded (signed_head v) };
 
-    #[inline(always)]
+    #[inline]
     fn serialize<W: Write>(&self, ser: &mut Serializer<W>) -> Result<(), EncodeError<W::Error>> {
         ser.serialize_i16(*self)
     }
@@ -51,7 +51,7 @@ impl Serialize for i16 {
 impl Serialize for i32 {
     ghost item = { λ v. encoded (signed_head v) };
 
-    #[inline(always)]
+    #[inline]
     fn serialize<W: Write>(&self, ser: &mut Serializer<W>) -> Result<(), EncodeError<W::Error>> {
         ser.serialize_i32(*self)
     }
@@ -61,7 +61,7 @@ impl Serialize for i32 {
 impl Serialize for i64 {
     ghost item = { λ v. encoded (signed_head v) };
 
-    #[inline(always)]
+    #[inline]
     fn serialize<W: Write>(&self, ser: &mut Serializer<W>) -> Result<(), EncodeError<W::Error>> {
         ser.serialize_i64(*self)
     }
@@ -71,7 +71,7 @@ impl Serialize for i64 {
 impl Serialize for i128 {
     ghost item = { λ v. encoded (signed_bytes v) };
 
-    #[inline(always)]
+    #[inline]
     fn serialize<W: Write>(&self, ser: &mut Serializer<W>) -> Result<(), EncodeError<W::Error>> {
         ser.serialize_i128(*self)
     }
@@ -81,7 +81,7 @@ impl Serialize for i128 {
 impl Serialize for u8 {
     ghost item = { λ v. encoded (shortest_head 0 v) };
 
-    #[inline(always)]
+    #[inline]
     fn serialize<W: Write>(&self, ser: &mut Serializer<W>) -> Result<(), EncodeError<W::Error>> {
         ser.serialize_u8(*self)
     }
@@ -91,7 +91,7 @@ impl Serialize for u8 {
 impl Serialize for u16 {
     ghost item = { λ v. encoded (shortest_head 0 v) };
 
-    #[inline(always)]
+    #[inline]
     fn serialize<W: Write>(&self, ser: &mut Serializer<W>) -> Result<(), EncodeError<W::Error>> {
         ser.serialize_u16(*self)
     }
@@ -101,7 +101,7 @@ impl Serialize for u16 {
 impl Serialize for u32 {
     ghost item = { λ v. encoded (shortest_head 0 v) };
 
-    #[inline(always)]
+    #[inline]
     fn serialize<W: Write>(&self, ser: &mut Serializer<W>) -> Result<(), EncodeError<W::Error>> {
         ser.serialize_u32(*self)
     }
@@ -111,7 +111,7 @@ impl Serialize for u32 {
 impl Serialize for u64 {
     ghost item = { λ v. encoded (shortest_head 0 v) };
 
-    #[inline(always)]
+    #[inline]
     fn serialize<W: Write>(&self, ser: &mut Serializer<W>) -> Result<(), EncodeError<W::Error>> {
         ser.serialize_u64(*self)
     }
@@ -121,7 +121,7 @@ impl Serialize for u64 {
 impl Serialize for u128 {
     ghost item = { λ v. encoded (unsigned_bytes v) };
 
-    #[inline(always)]
+    #[inline]
     fn serialize<W: Write>(&self, ser: &mut Serializer<W>) -> Result<(), EncodeError<W::Error>> {
         ser.serialize_u128(*self)
     }
@@ -131,7 +131,7 @@ impl Serialize for u128 {
 impl Serialize for F16 {
     ghost item = { λ v. encoded (float_bytes 0xf9 2 v.0) };
 
-    #[inline(always)]
+    #[inline]
     fn serialize<W: Write>(&self, ser: &mut Serializer<W>) -> Result<(), EncodeError<W::Error>> {
         ser.serialize_f16(self.0)
     }
@@ -141,7 +141,7 @@ impl Serialize for F16 {
 impl Serialize for F32 {
     ghost item = { λ v. encoded (float_bytes 0xfa 4 v.0) };
 
-    #[inline(always)]
+    #[inline]
     fn serialize<W: Write>(&self, ser: &mut Serializer<W>) -> Result<(), EncodeError<W::Error>> {
         ser.serialize_f32(self.0)
     }
@@ -151,7 +151,7 @@ impl Serialize for F32 {
 impl Serialize for F64 {
     ghost item = { λ v. encoded (float_bytes 0xfb 8 v.0) };
 
-    #[inline(always)]
+    #[inline]
     fn serialize<W: Write>(&self, ser: &mut Serializer<W>) -> Result<(), EncodeError<W::Error>> {
         ser.serialize_f64(self.0)
     }
@@ -161,7 +161,7 @@ impl Serialize for F64 {
 impl Serialize for char {
     ghost item = { λ v. encoded (counted_string 3 (encode_utf8 v)) };
 
-    #[inline(always)]
+    #[inline]
     fn serialize<W: Write>(&self, ser: &mut Serializer<W>) -> Result<(), EncodeError<W::Error>> {
         ser.serialize_char(*self)
     }
@@ -171,7 +171,7 @@ impl Serialize for char {
 impl<'a> Serialize for &'a str {
     ghost item = { λ v. encoded (counted_string 3 v.now) };
 
-    #[inline(always)]
+    #[inline]
     fn serialize<W: Write>(&self, ser: &mut Serializer<W>) -> Result<(), EncodeError<W::Error>> {
         ser.serialize_str(self)
     }
@@ -181,7 +181,7 @@ impl<'a> Serialize for &'a str {
 impl Serialize for String {
     ghost item = { λ v. encoded (counted_string 3 (string_bytes v)) };
 
-    #[inline(always)]
+    #[inline]
     fn serialize<W: Write>(&self, ser: &mut Serializer<W>) -> Result<(), EncodeError<W::Error>> {
         ser.serialize_str(self.as_str())
     }
@@ -191,7 +191,7 @@ impl Serialize for String {
 impl<'a> Serialize for CowStr<'a, Global> {
     ghost item = { λ v. encoded (counted_string 3 (cow_text v)) };
 
-    #[inline(always)]
+    #[inline]
     fn serialize<W: Write>(&self, ser: &mut Serializer<W>) -> Result<(), EncodeError<W::Error>> {
         ser.serialize_str(self)
     }
@@ -201,7 +201,7 @@ impl<'a> Serialize for CowStr<'a, Global> {
 impl<'a> Serialize for Bytes<&'a [u8]> {
     ghost item = { λ v. encoded (counted_string 2 v.0.now) };
 
-    #[inline(always)]
+    #[inline]
     fn serialize<W: Write>(&self, ser: &mut Serializer<W>) -> Result<(), EncodeError<W::Error>> {
         ser.serialize_bytes(self.0)
     }
@@ -211,7 +211,7 @@ impl<'a> Serialize for Bytes<&'a [u8]> {
 impl Serialize for () {
     ghost item = { λ _. encoded (shortest_head 4 0) };
 
-    #[inline(always)]
+    #[inline]
     fn serialize<W: Write>(&self, ser: &mut Serializer<W>) -> Result<(), EncodeError<W::Error>> {
         ser.serialize_unit()
     }
@@ -221,7 +221,7 @@ impl Serialize for () {
 impl<T: Serialize> Serialize for Box<T> {
     ghost item = { λ b. T.item b.value };
 
-    #[inline(always)]
+    #[inline]
     fn serialize<W: Write>(&self, ser: &mut Serializer<W>) -> Result<(), EncodeError<W::Error>> {
         T::serialize(self.as_ref(), ser)
     }
@@ -231,7 +231,7 @@ impl<T: Serialize> Serialize for Box<T> {
 impl<T: Serialize> Serialize for Option<T> {
     ghost item = { option_item T.item };
 
-    #[inline(always)]
+    #[inline]
     fn serialize<W: Write>(&self, ser: &mut Serializer<W>) -> Result<(), EncodeError<W::Error>> {
         match self {
             None => ser.serialize_none(),
@@ -244,7 +244,7 @@ impl<T: Serialize> Serialize for Option<T> {
 impl<'a, T: Serialize> Serialize for &'a T {
     ghost item = { λ v. T.item v.now };
 
-    #[inline(always)]
+    #[inline]
     fn serialize<W: Write>(&self, ser: &mut Serializer<W>) -> Result<(), EncodeError<W::Error>> {
         T::serialize(self, ser)
     }

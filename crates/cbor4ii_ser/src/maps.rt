@@ -12,13 +12,13 @@ use std::collections::BTreeMap;
 impl<K: Serialize + Ord, V: Serialize> Serialize for BTreeMap<K, V> {
     ghost item = { λ m. map_item K.item V.item m.entries };
 
-    #[inline(always)]
+    #[inline]
     fn serialize<W: Write>(&self, ser: &mut Serializer<W>) -> Result<(), EncodeError<W::Error>> {
         put_map(ser, self)
     }
 }
 
-#[inline(always)]
+#[inline]
 fn put_map<W: Write, K: Serialize + Ord, V: Serialize>(
     ser: &mut Serializer<W>,
     map: &BTreeMap<K, V>,
@@ -30,7 +30,7 @@ fn put_map<W: Write, K: Serialize + Ord, V: Serialize>(
     put_entries(ser, map)
 }
 
-#[inline(always)]
+#[inline]
 fn put_entries<W: Write, K: Serialize + Ord, V: Serialize>(
     ser: &mut Serializer<W>,
     map: &BTreeMap<K, V>,
@@ -45,7 +45,7 @@ fn put_entries<W: Write, K: Serialize + Ord, V: Serialize>(
 }
 
 /// Writes a key, and a value behind it.
-#[inline(always)]
+#[inline]
 pub(crate) fn put_entry<W: Write, K: Serialize, V: Serialize>(
     ser: &mut Serializer<W>,
     key: &K,

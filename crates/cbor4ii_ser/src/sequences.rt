@@ -11,13 +11,13 @@ use cbor4ii_rw::write::Write;
 impl<T: Serialize> Serialize for Vec<T> {
     ghost item = { λ v. array_item T.item v.items };
 
-    #[inline(always)]
+    #[inline]
     fn serialize<W: Write>(&self, ser: &mut Serializer<W>) -> Result<(), EncodeError<W::Error>> {
         put_array(ser, self.as_slice())
     }
 }
 
-#[inline(always)]
+#[inline]
 fn put_array<W: Write, T: Serialize>(
     ser: &mut Serializer<W>,
     items: &[T],
@@ -29,7 +29,7 @@ fn put_array<W: Write, T: Serialize>(
     put_items(ser, items)
 }
 
-#[inline(always)]
+#[inline]
 fn put_items<W: Write, T: Serialize>(
     ser: &mut Serializer<W>,
     items: &[T],

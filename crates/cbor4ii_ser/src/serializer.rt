@@ -49,7 +49,7 @@ impl<W: Write> Serializer<W> {
     }
 
     /// Writes an item that is never missing.
-    #[inline(always)]
+    #[inline]
     pub(crate) fn put<T: Encode>(&mut self, value: &T) -> Result<(), EncodeError<W::Error>>
         ensures { Serializes W.whole (encoded (T.bytes value.now))
             (output W.view self.old) (output W.view self.new) result }
@@ -58,7 +58,7 @@ impl<W: Write> Serializer<W> {
     }
 
     /// False or true, in one byte.
-    #[inline(always)]
+    #[inline]
     pub fn serialize_bool(&mut self, value: bool) -> Result<(), EncodeError<W::Error>>
         ensures { Serializes W.whole (encoded (bool_byte value ∷ []))
             (output W.view self.old) (output W.view self.new) result }
@@ -67,7 +67,7 @@ impl<W: Write> Serializer<W> {
     }
 
     /// An integer, as a head.
-    #[inline(always)]
+    #[inline]
     pub fn serialize_i8(&mut self, value: i8) -> Result<(), EncodeError<W::Error>>
         ensures { Serializes W.whole (encoded (signed_head value))
             (output W.view self.old) (output W.view self.new) result }
@@ -76,7 +76,7 @@ impl<W: Write> Serializer<W> {
     }
 
     /// An integer, as a head.
-    #[inline(always)]
+    #[inline]
     pub fn serialize_i16(&mut self, value: i16) -> Result<(), EncodeError<W::Error>>
         ensures { Serializes W.whole (encoded (signed_head value))
             (output W.view self.old) (output W.view self.new) result }
@@ -85,7 +85,7 @@ impl<W: Write> Serializer<W> {
     }
 
     /// An integer, as a head.
-    #[inline(always)]
+    #[inline]
     pub fn serialize_i32(&mut self, value: i32) -> Result<(), EncodeError<W::Error>>
         ensures { Serializes W.whole (encoded (signed_head value))
             (output W.view self.old) (output W.view self.new) result }
@@ -94,7 +94,7 @@ impl<W: Write> Serializer<W> {
     }
 
     /// An integer, as a head.
-    #[inline(always)]
+    #[inline]
     pub fn serialize_i64(&mut self, value: i64) -> Result<(), EncodeError<W::Error>>
         ensures { Serializes W.whole (encoded (signed_head value))
             (output W.view self.old) (output W.view self.new) result }
@@ -111,7 +111,7 @@ impl<W: Write> Serializer<W> {
     }
 
     /// An integer from 0 on, as a head.
-    #[inline(always)]
+    #[inline]
     pub fn serialize_u8(&mut self, value: u8) -> Result<(), EncodeError<W::Error>>
         ensures { Serializes W.whole (encoded (shortest_head 0 value))
             (output W.view self.old) (output W.view self.new) result }
@@ -120,7 +120,7 @@ impl<W: Write> Serializer<W> {
     }
 
     /// An integer from 0 on, as a head.
-    #[inline(always)]
+    #[inline]
     pub fn serialize_u16(&mut self, value: u16) -> Result<(), EncodeError<W::Error>>
         ensures { Serializes W.whole (encoded (shortest_head 0 value))
             (output W.view self.old) (output W.view self.new) result }
@@ -129,7 +129,7 @@ impl<W: Write> Serializer<W> {
     }
 
     /// An integer from 0 on, as a head.
-    #[inline(always)]
+    #[inline]
     pub fn serialize_u32(&mut self, value: u32) -> Result<(), EncodeError<W::Error>>
         ensures { Serializes W.whole (encoded (shortest_head 0 value))
             (output W.view self.old) (output W.view self.new) result }
@@ -138,7 +138,7 @@ impl<W: Write> Serializer<W> {
     }
 
     /// An integer from 0 on, as a head.
-    #[inline(always)]
+    #[inline]
     pub fn serialize_u64(&mut self, value: u64) -> Result<(), EncodeError<W::Error>>
         ensures { Serializes W.whole (encoded (shortest_head 0 value))
             (output W.view self.old) (output W.view self.new) result }
@@ -155,7 +155,7 @@ impl<W: Write> Serializer<W> {
     }
 
     /// A float of two bytes, as its bits.
-    #[inline(always)]
+    #[inline]
     pub fn serialize_f16(&mut self, bits: u16) -> Result<(), EncodeError<W::Error>>
         ensures { Serializes W.whole (encoded (float_bytes 0xf9 2 bits))
             (output W.view self.old) (output W.view self.new) result }
@@ -164,7 +164,7 @@ impl<W: Write> Serializer<W> {
     }
 
     /// A float of four bytes, as its bits.
-    #[inline(always)]
+    #[inline]
     pub fn serialize_f32(&mut self, bits: u32) -> Result<(), EncodeError<W::Error>>
         ensures { Serializes W.whole (encoded (float_bytes 0xfa 4 bits))
             (output W.view self.old) (output W.view self.new) result }
@@ -173,7 +173,7 @@ impl<W: Write> Serializer<W> {
     }
 
     /// A float of eight bytes, as its bits.
-    #[inline(always)]
+    #[inline]
     pub fn serialize_f64(&mut self, bits: u64) -> Result<(), EncodeError<W::Error>>
         ensures { Serializes W.whole (encoded (float_bytes 0xfb 8 bits))
             (output W.view self.old) (output W.view self.new) result }
@@ -191,7 +191,7 @@ impl<W: Write> Serializer<W> {
     }
 
     /// A text of a known length.
-    #[inline(always)]
+    #[inline]
     pub fn serialize_str(&mut self, value: &str) -> Result<(), EncodeError<W::Error>>
         ensures { Serializes W.whole (encoded (counted_string 3 value.now))
             (output W.view self.old) (output W.view self.new) result }
@@ -200,7 +200,7 @@ impl<W: Write> Serializer<W> {
     }
 
     /// A byte string of a known length.
-    #[inline(always)]
+    #[inline]
     pub fn serialize_bytes(&mut self, value: &[u8]) -> Result<(), EncodeError<W::Error>>
         ensures { Serializes W.whole (encoded (counted_string 2 value.now))
             (output W.view self.old) (output W.view self.new) result }
@@ -209,7 +209,7 @@ impl<W: Write> Serializer<W> {
     }
 
     /// Null, which is none.
-    #[inline(always)]
+    #[inline]
     pub fn serialize_none(&mut self) -> Result<(), EncodeError<W::Error>>
         ensures { Serializes W.whole (encoded (0xf6 ∷ []))
             (output W.view self.old) (output W.view self.new) result }
@@ -218,7 +218,7 @@ impl<W: Write> Serializer<W> {
     }
 
     /// The value itself. It fails as the value's `serialize` does.
-    #[inline(always)]
+    #[inline]
     pub fn serialize_some<T: Serialize>(&mut self, value: &T) -> Result<(), EncodeError<W::Error>>
         ensures { Serializes W.whole (T.item value.now)
             (output W.view self.old) (output W.view self.new) result }
@@ -227,7 +227,7 @@ impl<W: Write> Serializer<W> {
     }
 
     /// An array of no item.
-    #[inline(always)]
+    #[inline]
     pub fn serialize_unit(&mut self) -> Result<(), EncodeError<W::Error>>
         ensures { Serializes W.whole (encoded (shortest_head 4 0))
             (output W.view self.old) (output W.view self.new) result }
@@ -258,7 +258,7 @@ impl<W: Write> Serializer<W> {
 
     /// The content itself; the struct's name is not written. It fails as the content's
     /// `serialize` does.
-    #[inline(always)]
+    #[inline]
     pub fn serialize_newtype_struct<T: Serialize>(
         &mut self,
         _name: &str,

@@ -11,7 +11,7 @@ use cbor4ii_rw::write::Write;
 impl<A: Serialize, B: Serialize> Serialize for (A, B) {
     ghost item = { λ p. tuple_item (A.item p.0 ∷ B.item p.1 ∷ []) };
 
-    #[inline(always)]
+    #[inline]
     fn serialize<W: Write>(&self, ser: &mut Serializer<W>) -> Result<(), EncodeError<W::Error>> {
         ser.array_head(2)?;
         self.0.serialize(ser)?;
@@ -23,7 +23,7 @@ impl<A: Serialize, B: Serialize> Serialize for (A, B) {
 impl<A: Serialize, B: Serialize, C: Serialize> Serialize for (A, B, C) {
     ghost item = { λ p. tuple_item (A.item p.0 ∷ B.item p.1 ∷ C.item p.2 ∷ []) };
 
-    #[inline(always)]
+    #[inline]
     fn serialize<W: Write>(&self, ser: &mut Serializer<W>) -> Result<(), EncodeError<W::Error>> {
         ser.array_head(3)?;
         self.0.serialize(ser)?;
