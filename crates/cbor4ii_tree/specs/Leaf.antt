@@ -1,22 +1,26 @@
 -- Values that hold no other, where they stand whole in shown bytes.
-use Rattle.std.specs.Prelude.{◌≡◌, ◌≢◌, ℕ, ◌≤◌, ◌/◌, List, length, take, Option, Some, None}
-use Rattle.std.specs.Prelude.{[], Ok, Err}
+use Rattle.std.specs.Prelude.{◌≡◌, ◌≢◌, ℕ, suc, ◌+◌, ◌≤◌, ◌/◌, ◌%◌, ◌⊎◌, List, ◌∷◌, length}
+use Rattle.std.specs.Prelude.{take, Option, Some, None, Result, Ok, Err}
 use Rattle.cbor4ii_rw.specs.View.{View}
-use Rattle.cbor4ii_rw.specs.Reader.{Shows}
 use Rattle.cbor4ii_rw.specs.declared.error.DecodeError.{DecodeError}
-use Rattle.cbor4ii_items.specs.Head.{IsBytes, byte_count, shortest}
+use Rattle.cbor4ii_items.specs.Head.{ArgumentBehind, IsBytes, byte_count, shortest}
 use Rattle.cbor4ii_items.specs.Initial.{simple_byte, simple_undefined}
+use Rattle.cbor4ii_items.specs.Reading.{Runs, peek_at}
 use Rattle.cbor4ii_tree.specs.Cost.{Budget, cost}
 use Rattle.cbor4ii_tree.specs.Does.{Accepting, DoesUnder, refusal_left}
 use Rattle.cbor4ii_tree.specs.Item.{IsItem}
 use Rattle.cbor4ii_tree.specs.Meaning.{value}
+use Rattle.cbor4ii_tree.specs.Refusal.{value_name}
 use Rattle.cbor4ii_tree.specs.Stops.{Stopping}
 use Rattle.cbor4ii_tree.specs.Strict.{Strict}
 use Rattle.cbor4ii_tree.specs.Tree.{Tree, bytes, Plain}
 use Rattle.cbor4ii_tree.specs.View.{view}
 use Rattle.cbor4ii_tree.specs.declared.value.Value.{Value}
 use Rattle.cbor4ii_tree.specs.declared.leaf.Leaf.{Leaf}
-use Rattle.cbor4ii_tree.specs.declared.leaf.Leaf.TheVariants.{Whole, NoMemory, End, Unseen}
+use Rattle.cbor4ii_tree.specs.declared.leaf.Leaf.TheVariants.{Whole, NoMemory, End, Begins}
+use Rattle.cbor4ii_tree.specs.declared.leaf.Looked.{Looked}
+use Rattle.cbor4ii_tree.specs.declared.leaf.Looked.TheVariants.{Taken}
+use Rattle.cbor4ii_tree.specs.declared.leaf.Looked.TheVariants as looked
 
 -- A head with this first byte, and an argument in so many bytes, may begin a canonical spelling. It
 -- is not undefined, and of major types 0 to 6 it is the shortest.
@@ -38,23 +42,60 @@ pub record StandsAhead (exact : Type 0) (v : Value) (size : ℕ) (shown : List �
   pub ranged : IsItem (view v)
   pub is : take size shown ≡ bytes item
 
--- so many bytes may be taken
-pub record MayTake (size : ℕ) (shown : List ℕ) : Type 0 where
-  pub within : size ≤ length shown
+-- A string stands whole at the front whose head, of major type 2 or 3, has so many bytes.
+pub record WantsContent (size : ℕ) (shown : List ℕ) : Type 0 where
+  pub first : ℕ
+  pub behind : List ℕ
+  pub begins : shown ≡ first ∷ behind
+  pub major : (first / 32 ≡ 2) ⊎ (first / 32 ≡ 3)
+  pub number : ℕ
+  pub width : ℕ
+  pub head : size ≡ suc width
+  pub argument : ArgumentBehind (first % 32) behind number width
+  pub whole : width + number ≤ length behind
   pub fresh : IsBytes (take size shown)
 
 -- what the shown bytes begin with
 abbrev pub SeesLeaf : Type 0 → Leaf → List ℕ → Type 0
 SeesLeaf exact (Whole v size) shown = StandsAhead exact v size shown
-SeesLeaf exact (NoMemory size) shown = MayTake size shown
+SeesLeaf exact (NoMemory size) shown = WantsContent size shown
 SeesLeaf exact End shown = length shown ≡ 0
-SeesLeaf exact Unseen shown = Unit {0}
+SeesLeaf exact (Begins first) shown = (behind : List ℕ) × (shown ≡ first ∷ behind)
 
--- a value was taken, or nothing; or there is a refusal
+-- with this byte begins an item that holds others, or a string in chunks
+abbrev pub BeginsMore : ℕ → Type 0
+BeginsMore first =
+    ((4 ≤ first / 32) × (first / 32 ≤ 6))
+    ⊎ (((first / 32 ≡ 2) ⊎ (first / 32 ≡ 3)) × (first % 32 ≡ 31))
+
+-- a look at the next byte, which stays, has shown this one, and it may be taken
+pub record ShowsFirst (E : Type 0) (first : ℕ) (old new : View) : Type 0 where
+  pub runs : Runs {V = ℕ} {E = E} (peek_at value_name 1) old new (Ok first)
+  pub can : 1 ≤ new.advanceable
+
+-- as DoesUnder, of a call together with the look before it, which has shown this byte
+abbrev pub DoesBehindLook : {V E : Type 0} → ℕ → (Budget → Accepting V) → (Budget → Stopping)
+    → View → View → Result V (DecodeError E) → Type 0
+DoesBehindLook {E = E} first accepts stops old new answer =
+    (before : View) → Runs {V = ℕ} {E = E} (peek_at value_name 1) before old (Ok first)
+    → DoesUnder accepts stops before new answer
+
+-- where a value was taken
+abbrev pub OnTaken : Looked → Type 0 → Type 0
+OnTaken (Taken v) P = P
+OnTaken (looked.Begins first) P = Unit {0}
+
+-- what was taken is in range
+abbrev pub ItemTaken : Looked → Type 0
+ItemTaken (Taken v) = IsItem (view v)
+ItemTaken (looked.Begins first) = Unit {0}
+
+-- a value was taken, or none and it begins with this byte; or there is a refusal
 abbrev pub TakesLeaf : {E : Type 0} → (Budget → Accepting Value) → (Budget → Stopping) → View
-    → View → Option (Option Value) → Option (DecodeError E) → Type 0
+    → View → Option Looked → Option (DecodeError E) → Type 0
 TakesLeaf reads stops old new None failure =
     DoesUnder {V = Value} reads stops old new (Err (refusal_left failure))
-TakesLeaf reads stops old new (Some None) failure = Shows [] old new
-TakesLeaf {E = E} reads stops old new (Some (Some v)) failure =
+TakesLeaf {E = E} reads stops old new (Some (looked.Begins first)) failure =
+    ShowsFirst E first old new
+TakesLeaf {E = E} reads stops old new (Some (Taken v)) failure =
     DoesUnder {E = E} reads stops old new (Ok v)

@@ -1,24 +1,24 @@
 -- Runs of values that hold no other, where they stand whole in shown bytes.
-use Rattle.std.specs.Prelude.{◌≡◌, ℕ, ◌+◌, ◌≤◌, List, [], ◌∷◌, ◌++◌, length, take, Option, Some}
-use Rattle.std.specs.Prelude.{OnSome, Bool, true}
+use Rattle.std.specs.Prelude.{◌≡◌, ℕ, ◌+◌, ◌<◌, ◌≤◌, ◌⊎◌, List, [], ◌∷◌, ◌++◌, length, take, drop}
+use Rattle.std.specs.Prelude.{Option, Some, None, OnSome, IfSome, IfNone, Bool, true, Ok, Err}
 use Rattle.cbor4ii_rw.specs.View.{View}
 use Rattle.cbor4ii_rw.specs.declared.error.DecodeError.{DecodeError}
 use Rattle.cbor4ii_items.specs.Head.{IsBytes}
 use Rattle.cbor4ii_tree.specs.Cost.{Budget, cost, step_in}
-use Rattle.cbor4ii_tree.specs.Does.{Does, answered}
+use Rattle.cbor4ii_tree.specs.Does.{Does, refusal_left}
 use Rattle.cbor4ii_tree.specs.Item.{AreItems}
-use Rattle.cbor4ii_tree.specs.Leaf.{MayTake}
+use Rattle.cbor4ii_tree.specs.Leaf.{WantsContent, ShowsFirst}
 use Rattle.cbor4ii_tree.specs.Meaning.{values}
-use Rattle.cbor4ii_tree.specs.Refusal.{Refusal, eof, Small, value_name}
-use Rattle.cbor4ii_tree.specs.Stops.{Stopping, Is, Each}
+use Rattle.cbor4ii_tree.specs.Refusal.{value_name}
+use Rattle.cbor4ii_tree.specs.Refusal.{eof, Small}
+use Rattle.cbor4ii_tree.specs.Stops.{Stopping, Is, Each, StopsInCount}
 use Rattle.cbor4ii_tree.specs.StopsReading.{Readable}
 use Rattle.cbor4ii_tree.specs.StopsStrictly.{Exactly}
 use Rattle.cbor4ii_tree.specs.Strict.{Strict}
 use Rattle.cbor4ii_tree.specs.Tree.{Tree, Trees, Plain, count, bytes_all}
 use Rattle.cbor4ii_tree.specs.View.{items_view}
 use Rattle.cbor4ii_tree.specs.declared.value.Value.{Value}
-use Rattle.cbor4ii_tree.specs.declared.run.Put.{Put}
-use Rattle.cbor4ii_tree.specs.declared.run.Put.TheVariants.{Part, NoMemory, Unseen}
+use Rattle.cbor4ii_tree.specs.declared.run.Pairs.{Pairs}
 use Rattle.cbor4ii_tree.specs.declared.run.Ran.{Ran}
 use Rattle.cbor4ii_tree.specs.declared.run.Ran.TheVariants as run
 
@@ -26,6 +26,15 @@ use Rattle.cbor4ii_tree.specs.declared.run.Ran.TheVariants as run
 abbrev pub flat_values : List (Value × Value) → List Value
 flat_values [] = []
 flat_values (m ∷ ms) = m.0 ∷ (m.1 ∷ flat_values ms)
+
+-- the same, and behind them the key whose value is to come, if there is one
+abbrev pub flat_pairs : List (Value × Value) → Option Value → List Value
+flat_pairs ms None = flat_values ms
+flat_pairs ms (Some key) = flat_values ms ++ key ∷ []
+
+-- the values of the pairs of a map that is read
+abbrev pub flat : Pairs → List Value
+flat pairs = flat_pairs pairs.members.items pairs.key
 
 -- a value takes one step; where exact holds its encoding is the canonical one
 abbrev pub IsLeaf : Type 0 → Tree → Type 0
@@ -50,29 +59,41 @@ pub record PutsBehind (exact : Type 0) (size : ℕ) (shown : List ℕ) (before a
   pub is : after ≡ before ++ new
   pub stand : StandInFront exact new size shown
 
--- one part was put behind the others, or none
-abbrev pub Puts : Type 0 → Put → List ℕ → List Value → List Value → Type 0
-Puts exact (Part size) shown before after = PutsBehind exact size shown before after
-Puts exact (NoMemory size) shown before after = MayTake size shown
-Puts exact Unseen shown before after = after ≡ before
+-- so many values may be there at most, and these were put behind the others
+pub record PutsWhole (exact : Type 0) (full size : ℕ) (shown : List ℕ) (before after : List Value)
+    : Type 0 where
+  pub some : 1 ≤ size
+  pub few : length after ≤ full
+  pub puts : PutsBehind exact size shown before after
 
--- a part was pushed, or there was no memory
-abbrev pub Pushes : {A : Type 0} → Put → A → ℕ → List A → List A → Type 0
-Pushes (Part n) part size before after = (n ≡ size) × (after ≡ before ++ part ∷ [])
-Pushes (NoMemory n) part size before after = (n ≡ size) × (after ≡ before)
-Pushes Unseen part size before after = ⊥
+-- the same, and behind them stands a value that is missing too, and begins with this byte
+pub record PutsBefore (exact : Type 0) (full size first : ℕ) (shown : List ℕ)
+    (before after : List Value) : Type 0 where
+  pub some : 1 ≤ size
+  pub lacks : length after < full
+  pub puts : PutsBehind exact size shown before after
+  pub behind : List ℕ
+  pub begins : drop size shown ≡ first ∷ behind
 
-abbrev pub CountsPut : Put → ℕ → ℕ → Type 0
-CountsPut (Part size) old new = new ≡ old + 1
-CountsPut (NoMemory size) old new = new ≡ old
-CountsPut Unseen old new = new ≡ old
+-- Behind some values memory was refused, for the content of a string, whose head is taken, or where
+-- the last of the values was put, which is taken too.
+pub record RefusesMemory (exact : Type 0) (size : ℕ) (shown : List ℕ) : Type 0 where
+  pub values : List Value
+  pub taken : ℕ
+  pub stand : StandInFront exact values taken shown
+  pub at : ((1 ≤ length values) × (size ≡ taken))
+      ⊎ ((head : ℕ) × (size ≡ taken + head) × WantsContent head (drop taken shown))
 
--- the values in so many bytes at the front were put behind the others, or memory was refused, or
--- there is no byte
-abbrev pub PutsRun : Type 0 → List Value → List Value → Ran → List ℕ → Type 0
-PutsRun exact before after (run.Whole size) shown = PutsBehind exact size shown before after
-PutsRun exact before after (run.NoMemory size) shown = MayTake size shown
-PutsRun exact before after run.End shown = length shown ≡ 0
+-- the values in so many bytes at the front were put behind the others, up to so many in all; or the
+-- first is left undecided, or memory was refused, or there is no byte
+abbrev pub PutsRun : Type 0 → ℕ → List Value → List Value → Ran → List ℕ → Type 0
+PutsRun exact full before after (run.Whole size) shown = PutsWhole exact full size shown before after
+PutsRun exact full before after (run.Before size first) shown =
+    PutsBefore exact full size first shown before after
+PutsRun exact full before after (run.Begins first) shown =
+    (after ≡ before) × (behind : List ℕ) × (shown ≡ first ∷ behind)
+PutsRun exact full before after (run.NoMemory size) shown = RefusesMemory exact size shown
+PutsRun exact full before after run.End shown = length shown ≡ 0
 
 -- ---- taken
 
@@ -101,34 +122,44 @@ KeepsItems before after = AreItems (items_view before) → AreItems (items_view 
 abbrev pub StopsWhereNone : Stopping
 StopsWhereNone xs e rest = (xs ≡ []) × Is (eof value_name (Small 1)) [] e rest
 
--- the same, where a step is left for that value
-pub record StopsAtNoValue (budget : Budget) (xs : List ℕ) (e : Refusal) (rest : List ℕ) : Type 0
-  where
-    pub inner : Budget
-    pub step : step_in budget ≡ Some inner
-    pub none : StopsWhereNone xs e rest
+-- so many values in all
+abbrev pub ReadsParts : (Budget → Tree → Type 0) → ℕ → List Value → Budget → List ℕ → Unit {0}
+    → List ℕ → Type 0
+ReadsParts Whole full vs budget xs _ ys = ReadsEach (Whole budget) full xs vs ys
 
--- What a run takes of parts, of which so many are to be there at most: the values before and after
--- it, and how many parts these are.
-pub record TakesParts {E : Type 0} (exact : Bool) (most : ℕ) (before after : List Value)
-    (many_before many_after : ℕ) (old new : View) (result : Option (Unit {0}))
-    (failure : Option (DecodeError E)) : Type 0 where
-  pub puts : Does (PutsItems Readable before after old.budget) (StopsAtNoValue old.budget) old new
-      (answered result failure)
-  pub exactly : exact ≡ true → Does (PutsItems Exactly before after old.budget)
-      (StopsAtNoValue old.budget) old new (answered result failure)
-  pub items : OnSome result (KeepsItems before after)
-  pub few : OnSome result (many_after ≤ most)
-  pub more : OnSome result (many_before ≤ many_after)
+-- behind fewer than so many values one is refused, where the step that leaves this budget was taken
+abbrev pub StopsItemsUnder : (Budget → Tree → Type 0) → (Budget → Stopping) → ℕ → Budget → Stopping
+StopsItemsUnder Whole stops room inner xs e rest = (budget : Budget) → step_in budget ≡ Some inner
+    → StopsInCount (Whole budget) (stops budget) room xs e rest
 
--- the same where a step was taken
-pub record TakesPartsInside {E : Type 0} (exact : Bool) (most : ℕ) (before after : List Value)
-    (many_before many_after : ℕ) (old new : View) (result : Option (Unit {0}))
-    (failure : Option (DecodeError E)) : Type 0 where
-  pub puts : Does (PutsItemsUnder Readable before after old.budget) StopsWhereNone old new
-      (answered result failure)
-  pub exactly : exact ≡ true → Does (PutsItemsUnder Exactly before after old.budget) StopsWhereNone
-      old new (answered result failure)
+-- values were taken by a run, and behind them a look has shown this byte
+pub record RunsBefore (E : Type 0) (Whole : Budget → Tree → Type 0) (first : ℕ)
+    (before after : List Value) (old new : View) : Type 0 where
+  pub mid : View
+  pub puts : Does {V = Unit {0}} {E = E} (PutsItemsUnder Whole before after old.budget)
+      StopsWhereNone old mid (Ok tt)
+  pub shows : ShowsFirst E first mid new
+
+-- values were taken by a run, or it was refused
+abbrev pub TakesBy : {E : Type 0} → (Budget → Tree → Type 0) → List Value → List Value → View
+    → View → Option (Option ℕ) → Option (DecodeError E) → Type 0
+TakesBy {E = E} Whole before after old new (Some (Some first)) failure =
+    RunsBefore E Whole first before after old new
+TakesBy {E = E} Whole before after old new (Some None) failure =
+    Does {E = E} (PutsItemsUnder Whole before after old.budget) StopsWhereNone old new (Ok tt)
+TakesBy Whole before after old new None failure =
+    Does {V = Unit {0}} (PutsItemsUnder Whole before after old.budget) StopsWhereNone old new
+    (Err (refusal_left failure))
+
+-- What a run takes of values, of which so many are to be there at most: the values before and after
+-- it. It answers the byte with which the next value begins, where that is left undecided.
+pub record TakesRun {E : Type 0} (exact : Bool) (full : ℕ) (before after : List Value)
+    (old new : View) (result : Option (Option ℕ)) (failure : Option (DecodeError E)) : Type 0 where
+  pub puts : TakesBy Readable before after old new result failure
+  pub exactly : exact ≡ true → TakesBy Exactly before after old new result failure
   pub items : OnSome result (KeepsItems before after)
-  pub few : OnSome result (many_after ≤ most)
-  pub more : OnSome result (many_before ≤ many_after)
+  pub few : OnSome result (length after ≤ full)
+  pub lacks : IfSome result (λ found. OnSome found (length after < full))
+  pub progress : IfSome result (λ found. IfNone found (new.bound + 1 ≤ old.bound))
+  pub bound : OnSome result (new.bound ≤ old.bound)
+  pub can : IfSome result (λ found. OnSome found (1 ≤ new.advanceable))

@@ -6,7 +6,7 @@ use Rattle.cbor4ii_tree.specs.Tree.{Tree, Trees, Pairs, count, pair_count, bytes
 use Rattle.cbor4ii_tree.specs.Tree.{bytes_pairs}
 use Rattle.cbor4ii_tree.specs.Meaning.{value, values, member_values}
 use Rattle.cbor4ii_tree.specs.Cost.{Budget, step_in}
-use Rattle.cbor4ii_tree.specs.Stops.{Stopping, Each, EachPair, StopsAtStep, StopsInCount, BehindKey}
+use Rattle.cbor4ii_tree.specs.Stops.{Stopping, Each, EachPair, StopsAtStep, StopsInCount}
 use Rattle.cbor4ii_tree.specs.StopsStrictly.{Exactly, ShortestAt, StrictStopsFrom, StopsStrictly}
 use Rattle.cbor4ii_tree.specs.View.{view, items_view, members_view}
 use Rattle.std.specs.declared.alloc.Global.{Global}
@@ -67,14 +67,6 @@ ExactItems n budget xs vs ys =
 
 abbrev pub StopsExactItems : ℕ → Budget → Stopping
 StopsExactItems n budget = StopsInCount (Exactly budget) (StopsExactly budget) n
-
-abbrev pub ExactMember : Budget → Accepting (Value × Value)
-ExactMember budget xs m ys =
-    (between : List ℕ) × ReadsExactly budget xs m.0 between × ReadsExactly budget between m.1 ys
-
-abbrev pub StopsExactMember : Budget → Stopping
-StopsExactMember budget xs e rest =
-    StopsExactly budget xs e rest ⊎ BehindKey (Exactly budget) (StopsExactly budget) xs e rest
 
 abbrev pub ExactMembers : ℕ → Budget → Accepting (List (Value × Value))
 ExactMembers n budget xs ms ys =

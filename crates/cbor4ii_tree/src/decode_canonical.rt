@@ -1,6 +1,7 @@
 //! Values that are spelled in one way, read. Each level takes one small frame of the stack, as in
 //! `decode_value`.
-ghost use Rattle.std.specs.Prelude.{◌≡◌, ◌+◌, ◌*◌, ◌≤◌, ◌/◌, ◌⊎◌, OnOk, OnSome, IfOk};
+ghost use Rattle.std.specs.Prelude.{◌≡◌, ◌+◌, ◌-◌, ◌*◌, ◌<◌, ◌≤◌, ◌/◌, ◌⊎◌, OnOk, OnSome, IfOk};
+ghost use Rattle.std.specs.Prelude.{[], length};
 ghost use Rattle.std.specs.Prelude.{IfErr, true};
 ghost use Rattle.cbor4ii_items.specs.Decoding.{Sound, Refuses, Stops};
 ghost use Rattle.cbor4ii_items.specs.Moves.{Moves};
@@ -12,6 +13,9 @@ ghost use Rattle.cbor4ii_tree.specs.Canonically.{OthersCanonical, ExactCanonical
 ghost use Rattle.cbor4ii_tree.specs.Laws.CanonicalReading.{canonical_one, canonical_within};
 ghost use Rattle.cbor4ii_tree.specs.Laws.CanonicalReading.{canonical_positive, canonical_alone};
 ghost use Rattle.cbor4ii_tree.specs.Does.{DoesUnder, answered};
+ghost use Rattle.cbor4ii_tree.specs.LeafRuns.{flat, PutsItems, PutsItemsUnder};
+ghost use Rattle.cbor4ii_tree.specs.LeafRuns.{StopsItemsUnder};
+ghost use Rattle.cbor4ii_tree.specs.StopsStrictly.{Exactly};
 ghost use Rattle.cbor4ii_tree.specs.Promises.{EofReads};
 ghost use Rattle.cbor4ii_tree.specs.Refusal.{array_name, map_name};
 ghost use Rattle.cbor4ii_tree.specs.StopsStrictly.{StrictTextStops, StrictArrayStops};
@@ -20,16 +24,16 @@ ghost use Rattle.cbor4ii_tree.specs.Strictly.{ReadsExactly, StopsExactly, ReadsE
 ghost use Rattle.cbor4ii_tree.specs.Strictly.{StopsExactlyUnder, StopsBehindFirst};
 ghost use Rattle.cbor4ii_tree.specs.Strictly.{StopsBehindMajor};
 ghost use Rattle.cbor4ii_tree.specs.Strictly.{StopsExactlyStepped, TextAt, ExactItems};
-ghost use Rattle.cbor4ii_tree.specs.Strictly.{StopsExactItems, ExactMember, StopsExactMember};
+ghost use Rattle.cbor4ii_tree.specs.Strictly.{StopsExactItems};
 ghost use Rattle.cbor4ii_tree.specs.Strictly.{ExactMembers, AcceptsCount};
 ghost use Rattle.cbor4ii_tree.specs.Valuing.{ReadsStepped, ReadsVec, TakesSimple};
+ghost use Rattle.cbor4ii_tree.specs.Leaf.{DoesBehindLook};
 ghost use Rattle.cbor4ii_tree.specs.View.{view};
 
-use crate::leaf::take_leaf;
-use crate::run::{take_item_run, take_run};
+use crate::leaf::{Looked, take_leaf};
+use crate::run::{Pairs, Parts, put_value, take_run};
 use crate::simple::{read_float, simple_of};
 use crate::slot::{keep, leave_deep, leave_not_canonical, part, whole};
-use crate::unseen::first_of;
 use crate::value::Value;
 use cbor4ii_items::canonical::{canonical_buf, canonical_head};
 use cbor4ii_items::decode::{Decode, Spelled};
@@ -132,27 +136,6 @@ fn read_one<S: Source>(
     outcome
 }
 
-/// As `read_one`, of a value that one look has not decided.
-#[cycle(strict)]
-#[inline(always)]
-fn read_nested<S: Source>(
-    alloc: Global,
-    reader: &mut S,
-    failure: &mut Option<DecodeError<S::Error>>,
-) -> Option<Value>
-    ensures does { DoesUnder ReadsExactly StopsExactly
-        (S.view reader.old) (S.view reader.new) (answered result failure.new) }
-    ensures progress { OnSome result ((S.view reader.new).bound + 1 ≤ (S.view reader.old).bound) }
-{
-    if !reader.step_in() {
-        leave_deep("value", failure);
-        return None;
-    }
-    let outcome = read_by_first(alloc, reader, failure);
-    reader.step_out();
-    outcome
-}
-
 /// Reads one value whose step was taken. One that holds no other is mostly decided in one look.
 #[cycle(strict)]
 #[inline(always)]
@@ -165,26 +148,26 @@ fn read_inside<S: Source>(
         (S.view reader.old) (S.view reader.new) (answered result failure.new) }
     ensures progress { OnSome result ((S.view reader.new).bound + 1 ≤ (S.view reader.old).bound) }
 {
-    match take_leaf(alloc, reader, true, failure) {
-        Some(Some(value)) => Some(value),
-        Some(None) => read_by_first(alloc, reader, failure),
-        None => None,
+    match take_leaf(alloc, reader, true, failure)? {
+        Looked::Taken(value) => Some(value),
+        Looked::Begins(first) => read_by_first(alloc, reader, first, failure),
     }
 }
 
-/// The same by its first byte.
+/// The same by its first byte, which a look has shown.
 #[cycle(strict)]
 #[inline(always)]
 fn read_by_first<S: Source>(
     alloc: Global,
     reader: &mut S,
+    first: u8,
     failure: &mut Option<DecodeError<S::Error>>,
 ) -> Option<Value>
-    ensures does { DoesUnder ReadsExactlyUnder StopsExactlyUnder
+    requires { 1 ≤ (S.view reader.old).advanceable }
+    ensures does { DoesBehindLook first ReadsExactlyUnder StopsExactlyUnder
         (S.view reader.old) (S.view reader.new) (answered result failure.new) }
     ensures progress { OnSome result ((S.view reader.new).bound + 1 ≤ (S.view reader.old).bound) }
 {
-    let first = first_of(reader, failure)?;
     if first == marker::UNDEFINED {
         reader.advance(1);
         leave_not_canonical("canonical", failure);
@@ -358,12 +341,8 @@ fn counted_items<S: Source>(
         *failure = None;
         return None;
     }
-    while items.len() < count {
-        take_item_run(alloc, reader, true, count, &mut items, failure)?;
-        if items.len() < count {
-            let value = read_nested(alloc, reader, failure)?;
-            keep(&mut items, value, failure)?;
-        }
+    while items.lacks(count) {
+        more_items(alloc, reader, count, &mut items, failure)?;
     }
     Some(items)
 }
@@ -416,34 +395,122 @@ fn counted_members<S: Source>(
     ensures { DoesUnder (ReadsVec (ExactMembers count)) (StopsExactItems (2 * count))
         (S.view reader.old) (S.view reader.new) (answered result failure.new) }
 {
-    let mut members = Vec::new(alloc);
-    if members.reserve(items_ahead(count)).is_err() {
+    let mut pairs = Pairs {
+        members: Vec::new(alloc),
+        key: None,
+    };
+    if pairs.members.reserve(items_ahead(count)).is_err() {
         *failure = None;
         return None;
     }
-    while members.len() < count {
-        take_run(alloc, reader, true, count, &mut members, failure)?;
-        if members.len() < count {
-            let member = read_member(alloc, reader, failure)?;
-            keep(&mut members, member, failure)?;
-        }
+    while pairs.lacks(count) {
+        more_members(alloc, reader, count, &mut pairs, failure)?;
     }
-    Some(members)
+    Some(pairs.members)
 }
 
-/// Reads a key, and the value behind it.
+/// Reads the items that come next, as many as one look decides, and the one behind them
+/// that it leaves undecided.
 #[cycle(strict)]
 #[inline(always)]
-fn read_member<S: Source>(
+fn more_items<S: Source>(
     alloc: Global,
     reader: &mut S,
+    count: usize,
+    items: &mut Vec<Value>,
     failure: &mut Option<DecodeError<S::Error>>,
-) -> Option<(Value, Value)>
-    ensures does { DoesUnder ExactMember StopsExactMember
+) -> Option<()>
+    requires { length items.old.items < 1 * count }
+    ensures does { DoesUnder (PutsItems Exactly items.old.items items.new.items)
+        (StopsExactItems (1 * count - length items.old.items))
         (S.view reader.old) (S.view reader.new) (answered result failure.new) }
+    ensures few { OnSome result (length items.new.items ≤ 1 * count) }
     ensures progress { OnSome result ((S.view reader.new).bound + 1 ≤ (S.view reader.old).bound) }
 {
-    let key = read_one(alloc, reader, failure)?;
-    let value = read_nested(alloc, reader, failure)?;
-    Some((key, value))
+    if !reader.step_in() {
+        leave_deep("value", failure);
+        return None;
+    }
+    let outcome = items_inside(alloc, reader, count, items, failure);
+    reader.step_out();
+    outcome
+}
+
+/// The same where a step was taken, which each of the values takes in turn.
+#[cycle(strict)]
+#[inline(always)]
+fn items_inside<S: Source>(
+    alloc: Global,
+    reader: &mut S,
+    count: usize,
+    items: &mut Vec<Value>,
+    failure: &mut Option<DecodeError<S::Error>>,
+) -> Option<()>
+    requires { length items.old.items < 1 * count }
+    ensures does { DoesUnder (PutsItemsUnder Exactly items.old.items items.new.items)
+        (StopsItemsUnder Exactly StopsExactly (1 * count - length items.old.items))
+        (S.view reader.old) (S.view reader.new) (answered result failure.new) }
+    ensures few { OnSome result (length items.new.items ≤ 1 * count) }
+    ensures progress { OnSome result ((S.view reader.new).bound + 1 ≤ (S.view reader.old).bound) }
+{
+    match take_run(alloc, reader, true, count, items, failure)? {
+        Some(first) => {
+            let value = read_by_first(alloc, reader, first, failure)?;
+            put_value(items, value, failure)
+        }
+        None => Some(()),
+    }
+}
+
+/// Reads the keys and values that come next, as many as one look decides, and the one behind them
+/// that it leaves undecided.
+#[cycle(strict)]
+#[inline(always)]
+fn more_members<S: Source>(
+    alloc: Global,
+    reader: &mut S,
+    count: usize,
+    pairs: &mut Pairs,
+    failure: &mut Option<DecodeError<S::Error>>,
+) -> Option<()>
+    requires { length (flat pairs.old) < 2 * count }
+    ensures does { DoesUnder (PutsItems Exactly (flat pairs.old) (flat pairs.new))
+        (StopsExactItems (2 * count - length (flat pairs.old)))
+        (S.view reader.old) (S.view reader.new) (answered result failure.new) }
+    ensures few { OnSome result (length (flat pairs.new) ≤ 2 * count) }
+    ensures progress { OnSome result ((S.view reader.new).bound + 1 ≤ (S.view reader.old).bound) }
+{
+    if !reader.step_in() {
+        leave_deep("value", failure);
+        return None;
+    }
+    let outcome = members_inside(alloc, reader, count, pairs, failure);
+    reader.step_out();
+    outcome
+}
+
+/// The same where a step was taken, which each of the values takes in turn.
+#[cycle(strict)]
+#[inline(always)]
+fn members_inside<S: Source>(
+    alloc: Global,
+    reader: &mut S,
+    count: usize,
+    pairs: &mut Pairs,
+    failure: &mut Option<DecodeError<S::Error>>,
+) -> Option<()>
+    requires { length (flat pairs.old) < 2 * count }
+    ensures does { DoesUnder (PutsItemsUnder Exactly (flat pairs.old) (flat pairs.new))
+        (StopsItemsUnder Exactly StopsExactly (2 * count - length (flat pairs.old)))
+        (S.view reader.old) (S.view reader.new) (answered result failure.new) }
+    ensures few { OnSome result (length (flat pairs.new) ≤ 2 * count) }
+    ensures progress { OnSome result ((S.view reader.new).bound + 1 ≤ (S.view reader.old).bound) }
+{
+    match take_run(alloc, reader, true, count, pairs, failure)? {
+        Some(first) => {
+            let value = read_by_first(alloc, reader, first, failure)?;
+            put_value(pairs, value, failure)
+        }
+        None => Some(()),
+    }
 }

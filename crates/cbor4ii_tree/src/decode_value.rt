@@ -2,7 +2,8 @@
 //!
 //! Each level of arrays, maps and tags takes one small frame of the stack: their loops and
 //! `read_tag` stay out of line, and what leads from one of them to another is inline.
-ghost use Rattle.std.specs.Prelude.{◌≡◌, ◌+◌, ◌≤◌, ◌/◌, ◌⊎◌, OnOk, IfOk, IfErr, true};
+ghost use Rattle.std.specs.Prelude.{◌≡◌, ◌+◌, ◌-◌, ◌*◌, ◌<◌, ◌≤◌, ◌/◌, ◌⊎◌, OnOk, IfOk, IfErr};
+ghost use Rattle.std.specs.Prelude.{true, [], length};
 ghost use Rattle.std.specs.Prelude.{OnSome, IfSome};
 ghost use Rattle.cbor4ii_tree.specs.Does.{DoesUnder, answered};
 ghost use Rattle.cbor4ii_tree.specs.Valuing.{ReadsOneValue, StopsOneValue, ReadsUnder, StopsUnder};
@@ -12,6 +13,10 @@ ghost use Rattle.cbor4ii_tree.specs.Valuing.{ReadsOpenItems, StopsOpenItems, Rea
 ghost use Rattle.cbor4ii_tree.specs.Valuing.{ReadsMembers, StopsMembers, ReadsOpenMembers};
 ghost use Rattle.cbor4ii_tree.specs.Valuing.{StopsOpenMembers, ReadsMember, StopsMember};
 ghost use Rattle.cbor4ii_tree.specs.Valuing.{TakesSimple};
+ghost use Rattle.cbor4ii_tree.specs.Leaf.{DoesBehindLook};
+ghost use Rattle.cbor4ii_tree.specs.LeafRuns.{flat, KeepsItems, PutsItems, PutsItemsUnder};
+ghost use Rattle.cbor4ii_tree.specs.LeafRuns.{StopsItemsUnder};
+ghost use Rattle.cbor4ii_tree.specs.StopsReading.{Readable};
 ghost use Rattle.cbor4ii_items.specs.Decoding.{Sound, Refuses, Stops};
 ghost use Rattle.cbor4ii_items.specs.Moves.{Moves};
 ghost use Rattle.cbor4ii_items.specs.Numbers.{ReadsArgument, StopsArgument};
@@ -26,11 +31,10 @@ ghost use Rattle.cbor4ii_tree.specs.Promises.{ExactReads, SkipsReads, CanonicalR
 ghost use Rattle.cbor4ii_tree.specs.Laws.Values.{value_one, value_within, value_positive};
 ghost use Rattle.cbor4ii_tree.specs.Laws.Values.{value_alone};
 
-use crate::leaf::take_leaf;
-use crate::run::{take_item_run, take_run};
+use crate::leaf::{Looked, take_leaf};
+use crate::run::{Pairs, Parts, put_value, take_run};
 use crate::simple::{read_float, simple_of};
 use crate::slot::{keep, leave_deep, part, whole};
-use crate::unseen::first_of;
 use crate::value::Value;
 use cbor4ii_items::decode::{Decode, Spelled};
 use cbor4ii_items::indefinite::is_break;
@@ -144,28 +148,6 @@ fn read_value<S: Source>(
     outcome
 }
 
-/// As `read_value`, of a value that one look has not decided.
-#[cycle(read)]
-#[inline(always)]
-fn read_nested<S: Source>(
-    alloc: Global,
-    reader: &mut S,
-    failure: &mut Option<DecodeError<S::Error>>,
-) -> Option<Value>
-    ensures does { DoesUnder ReadsOneValue StopsOneValue (S.view reader.old) (S.view reader.new)
-        (answered result failure.new) }
-    ensures item { IfSome result (λ v. IsItem (view v)) }
-    ensures progress { OnSome result ((S.view reader.new).bound + 1 ≤ (S.view reader.old).bound) }
-{
-    if !reader.step_in() {
-        leave_deep("value", failure);
-        return None;
-    }
-    let outcome = read_by_first(alloc, reader, failure);
-    reader.step_out();
-    outcome
-}
-
 /// Reads one value whose step was taken. One that holds no other is mostly decided in one look.
 #[cycle(read)]
 #[inline(always)]
@@ -179,27 +161,27 @@ fn read_inside<S: Source>(
     ensures item { IfSome result (λ v. IsItem (view v)) }
     ensures progress { OnSome result ((S.view reader.new).bound + 1 ≤ (S.view reader.old).bound) }
 {
-    match take_leaf(alloc, reader, false, failure) {
-        Some(Some(value)) => Some(value),
-        Some(None) => read_by_first(alloc, reader, failure),
-        None => None,
+    match take_leaf(alloc, reader, false, failure)? {
+        Looked::Taken(value) => Some(value),
+        Looked::Begins(first) => read_by_first(alloc, reader, first, failure),
     }
 }
 
-/// The same by its first byte.
+/// The same by its first byte, which a look has shown.
 #[cycle(read)]
 #[inline(always)]
 fn read_by_first<S: Source>(
     alloc: Global,
     reader: &mut S,
+    first: u8,
     failure: &mut Option<DecodeError<S::Error>>,
 ) -> Option<Value>
-    ensures does { DoesUnder ReadsUnder StopsUnder (S.view reader.old) (S.view reader.new)
-        (answered result failure.new) }
+    requires { 1 ≤ (S.view reader.old).advanceable }
+    ensures does { DoesBehindLook first ReadsUnder StopsUnder
+        (S.view reader.old) (S.view reader.new) (answered result failure.new) }
     ensures item { IfSome result (λ v. IsItem (view v)) }
     ensures progress { OnSome result ((S.view reader.new).bound + 1 ≤ (S.view reader.old).bound) }
 {
-    let first = first_of(reader, failure)?;
     match first / 32 {
         major::ARRAY => Some(Value::Array(read_array(alloc, reader, failure)?)),
         major::MAP => Some(Value::Map(read_map(alloc, reader, failure)?)),
@@ -376,14 +358,120 @@ fn counted_items<S: Source>(
         *failure = None;
         return None;
     }
-    while items.len() < count {
-        take_item_run(alloc, reader, false, count, &mut items, failure)?;
-        if items.len() < count {
-            let value = read_nested(alloc, reader, failure)?;
-            keep(&mut items, value, failure)?;
-        }
+    while items.lacks(count) {
+        more_items(alloc, reader, count, &mut items, failure)?;
     }
     Some(items)
+}
+
+/// Reads the items that come next, as many as one look decides, and the one behind them
+/// that it leaves undecided.
+#[cycle(read)]
+#[inline(always)]
+fn more_items<S: Source>(
+    alloc: Global,
+    reader: &mut S,
+    count: usize,
+    items: &mut Vec<Value>,
+    failure: &mut Option<DecodeError<S::Error>>,
+) -> Option<()>
+    requires { length items.old.items < 1 * count }
+    ensures does { DoesUnder (PutsItems Readable items.old.items items.new.items)
+        (StopsItems (1 * count - length items.old.items))
+        (S.view reader.old) (S.view reader.new) (answered result failure.new) }
+    ensures items { OnSome result (KeepsItems items.old.items items.new.items) }
+    ensures few { OnSome result (length items.new.items ≤ 1 * count) }
+    ensures progress { OnSome result ((S.view reader.new).bound + 1 ≤ (S.view reader.old).bound) }
+{
+    if !reader.step_in() {
+        leave_deep("value", failure);
+        return None;
+    }
+    let outcome = items_inside(alloc, reader, count, items, failure);
+    reader.step_out();
+    outcome
+}
+
+/// The same where a step was taken, which each of the values takes in turn.
+#[cycle(read)]
+#[inline(always)]
+fn items_inside<S: Source>(
+    alloc: Global,
+    reader: &mut S,
+    count: usize,
+    items: &mut Vec<Value>,
+    failure: &mut Option<DecodeError<S::Error>>,
+) -> Option<()>
+    requires { length items.old.items < 1 * count }
+    ensures does { DoesUnder (PutsItemsUnder Readable items.old.items items.new.items)
+        (StopsItemsUnder Readable StopsOneValue (1 * count - length items.old.items))
+        (S.view reader.old) (S.view reader.new) (answered result failure.new) }
+    ensures items { OnSome result (KeepsItems items.old.items items.new.items) }
+    ensures few { OnSome result (length items.new.items ≤ 1 * count) }
+    ensures progress { OnSome result ((S.view reader.new).bound + 1 ≤ (S.view reader.old).bound) }
+{
+    match take_run(alloc, reader, false, count, items, failure)? {
+        Some(first) => {
+            let value = read_by_first(alloc, reader, first, failure)?;
+            put_value(items, value, failure)
+        }
+        None => Some(()),
+    }
+}
+
+/// Reads the keys and values that come next, as many as one look decides, and the one behind them
+/// that it leaves undecided.
+#[cycle(read)]
+#[inline(always)]
+fn more_members<S: Source>(
+    alloc: Global,
+    reader: &mut S,
+    count: usize,
+    pairs: &mut Pairs,
+    failure: &mut Option<DecodeError<S::Error>>,
+) -> Option<()>
+    requires { length (flat pairs.old) < 2 * count }
+    ensures does { DoesUnder (PutsItems Readable (flat pairs.old) (flat pairs.new))
+        (StopsItems (2 * count - length (flat pairs.old)))
+        (S.view reader.old) (S.view reader.new) (answered result failure.new) }
+    ensures items { OnSome result (KeepsItems (flat pairs.old) (flat pairs.new)) }
+    ensures few { OnSome result (length (flat pairs.new) ≤ 2 * count) }
+    ensures progress { OnSome result ((S.view reader.new).bound + 1 ≤ (S.view reader.old).bound) }
+{
+    if !reader.step_in() {
+        leave_deep("value", failure);
+        return None;
+    }
+    let outcome = members_inside(alloc, reader, count, pairs, failure);
+    reader.step_out();
+    outcome
+}
+
+/// The same where a step was taken, which each of the values takes in turn.
+#[cycle(read)]
+#[inline(always)]
+fn members_inside<S: Source>(
+    alloc: Global,
+    reader: &mut S,
+    count: usize,
+    pairs: &mut Pairs,
+    failure: &mut Option<DecodeError<S::Error>>,
+) -> Option<()>
+    requires { length (flat pairs.old) < 2 * count }
+    ensures does { DoesUnder (PutsItemsUnder Readable (flat pairs.old) (flat pairs.new))
+        (StopsItemsUnder Readable StopsOneValue (2 * count - length (flat pairs.old)))
+        (S.view reader.old) (S.view reader.new) (answered result failure.new) }
+    ensures items { OnSome result (KeepsItems (flat pairs.old) (flat pairs.new)) }
+    ensures few { OnSome result (length (flat pairs.new) ≤ 2 * count) }
+    ensures progress { OnSome result ((S.view reader.new).bound + 1 ≤ (S.view reader.old).bound) }
+{
+    match take_run(alloc, reader, false, count, pairs, failure)? {
+        Some(first) => {
+            let value = read_by_first(alloc, reader, first, failure)?;
+            put_value(pairs, value, failure)
+        }
+        None => Some(()),
+    }
 }
 
 #[cycle(read)]
@@ -476,19 +564,18 @@ fn counted_members<S: Source>(
         (S.view reader.old) (S.view reader.new) (answered result failure.new) }
     ensures items { IfSome result (λ v. AreMembers (members_view v.items)) }
 {
-    let mut members = Vec::new(alloc);
-    if members.reserve(items_ahead(count)).is_err() {
+    let mut pairs = Pairs {
+        members: Vec::new(alloc),
+        key: None,
+    };
+    if pairs.members.reserve(items_ahead(count)).is_err() {
         *failure = None;
         return None;
     }
-    while members.len() < count {
-        take_run(alloc, reader, false, count, &mut members, failure)?;
-        if members.len() < count {
-            let member = read_member(alloc, reader, failure)?;
-            keep(&mut members, member, failure)?;
-        }
+    while pairs.lacks(count) {
+        more_members(alloc, reader, count, &mut pairs, failure)?;
     }
-    Some(members)
+    Some(pairs.members)
 }
 
 #[cycle(read)]
@@ -525,6 +612,6 @@ fn read_member<S: Source>(
     ensures progress { OnSome result ((S.view reader.new).bound + 1 ≤ (S.view reader.old).bound) }
 {
     let key = read_value(alloc, reader, failure)?;
-    let value = read_nested(alloc, reader, failure)?;
+    let value = read_value(alloc, reader, failure)?;
     Some((key, value))
 }

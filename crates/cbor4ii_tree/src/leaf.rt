@@ -1,12 +1,12 @@
 //! Values that hold no other, decided in one look where they stand whole in what is shown
-//! (RFC 8949 section 3). What does not is left undecided.
+//! (RFC 8949 section 3). Of what does not, the look hands on the first byte.
 ghost use Rattle.std.specs.Prelude.{◌≡◌, ◌≤◌, ◌+◌, ◌∷◌, ◌/◌, ◌%◌, ◌⊎◌, IfOk, OnErr, IfSome, OnSome};
 ghost use Rattle.std.specs.Prelude.{true};
 ghost use Rattle.cbor4ii_rw.specs.Reader.{Breaks};
 ghost use Rattle.cbor4ii_items.specs.Head.{ArgumentBehind, byte_count, shortest};
 ghost use Rattle.cbor4ii_tree.specs.Front.{Offers};
 ghost use Rattle.cbor4ii_tree.specs.Item.{IsItem};
-ghost use Rattle.cbor4ii_tree.specs.Leaf.{ExactHead, SeesLeaf, StandsAhead, TakesLeaf};
+ghost use Rattle.cbor4ii_tree.specs.Leaf.{ExactHead, SeesLeaf, TakesLeaf, ItemTaken, OnTaken};
 ghost use Rattle.cbor4ii_tree.specs.Strictly.{ReadsExactlyUnder, StopsExactlyUnder};
 ghost use Rattle.cbor4ii_tree.specs.Valuing.{ReadsUnder, StopsUnder};
 ghost use Rattle.cbor4ii_tree.specs.View.{view};
@@ -21,9 +21,6 @@ use cbor4ii_rw::error::DecodeError;
 use cbor4ii_rw::read::Source;
 use std::alloc::Global;
 
-/// How many bytes a look asks for.
-pub(crate) const WINDOW: usize = 4096;
-
 /// What the shown bytes begin with.
 pub(crate) enum Leaf {
     /// A value that holds no other, in so many bytes.
@@ -32,32 +29,41 @@ pub(crate) enum Leaf {
     NoMemory(usize),
     /// No byte.
     End,
-    /// Nothing that is decided here.
-    Unseen,
+    /// A value that is not decided here, which begins with this byte.
+    Begins(u8),
+}
+
+/// What came of the look at a value.
+pub(crate) enum Looked {
+    /// The value, which was taken.
+    Taken(Value),
+    /// Nothing that was taken: the value begins with this byte.
+    Begins(u8),
 }
 
 /// Takes the value that comes next, where it holds no other and one look shows it whole. Where
-/// `exact` is set, its spelling has to be the canonical one. Else it takes nothing. Where the look
-/// shows no byte, the value is refused, without another look. A refusal is left in `failure`.
+/// `exact` is set, its spelling has to be the canonical one. Else it takes nothing, and answers the
+/// byte that the look has shown first. Where the look shows no byte, the value is refused. A
+/// refusal is left in `failure`.
 #[inline(always)]
 pub(crate) fn take_leaf<S: Source>(
     alloc: Global,
     reader: &mut S,
     exact: bool,
     failure: &mut Option<DecodeError<S::Error>>,
-) -> Option<Option<Value>>
+) -> Option<Looked>
     ensures takes { TakesLeaf ReadsUnder StopsUnder
         (S.view reader.old) (S.view reader.new) result failure.new }
     ensures exactly { exact ≡ true → TakesLeaf ReadsExactlyUnder StopsExactlyUnder
         (S.view reader.old) (S.view reader.new) result failure.new }
-    ensures item { IfSome result (λ found. IfSome found (λ v. IsItem (view v))) }
-    ensures progress { IfSome result (λ found.
-        OnSome found ((S.view reader.new).bound + 1 ≤ (S.view reader.old).bound)) }
+    ensures item { IfSome result ItemTaken }
+    ensures progress { IfSome result (λ looked. OnTaken looked
+        ((S.view reader.new).bound + 1 ≤ (S.view reader.old).bound)) }
 {
     match glance(alloc, reader, exact) {
         Ok(Leaf::Whole(value, size)) => {
             reader.advance(size);
-            Some(Some(value))
+            Some(Looked::Taken(value))
         }
         Ok(Leaf::NoMemory(size)) => {
             reader.advance(size);
@@ -68,7 +74,7 @@ pub(crate) fn take_leaf<S: Source>(
             leave_end("value", failure);
             None
         }
-        Ok(Leaf::Unseen) => Some(None),
+        Ok(Leaf::Begins(first)) => Some(Looked::Begins(first)),
         Err(error) => {
             leave(DecodeError::Read(error), failure);
             None
@@ -76,15 +82,16 @@ pub(crate) fn take_leaf<S: Source>(
     }
 }
 
-/// What comes next, decided by one look.
+/// What comes next, decided by one look at as many bytes as the reader lets a look ask for.
 #[inline(always)]
 fn glance<S: Source>(alloc: Global, reader: &mut S, exact: bool) -> Result<Leaf, S::Error>
-    ensures offers { IfOk result (λ seen. Offers 4096 (SeesLeaf (exact ≡ true) seen)
+    ensures offers { IfOk result (λ seen. Offers 1 (SeesLeaf (exact ≡ true) seen)
         (S.view reader.old) (S.view reader.new)) }
     ensures breaks { OnErr result (Breaks (S.view reader.old) (S.view reader.new)) }
 {
     let mut failure = None;
-    match look(reader, WINDOW, &mut failure) {
+    let want = reader.window();
+    match look(reader, want, &mut failure) {
         Some(shown) => Ok(leaf_of(alloc, shown, exact)),
         None => Err(failure.unwrap()),
     }
@@ -99,10 +106,10 @@ pub(crate) fn leaf_of(alloc: Global, shown: &[u8], exact: bool) -> Leaf
         return Leaf::End;
     };
     let Some((number, size)) = argument(*first % 32, behind) else {
-        return Leaf::Unseen;
+        return Leaf::Begins(*first);
     };
     if exact && !is_exact(*first, number, size) {
-        return Leaf::Unseen;
+        return Leaf::Begins(*first);
     }
     leaf_behind(alloc, *first, behind, number, size)
 }
@@ -148,7 +155,7 @@ fn leaf_behind(alloc: Global, first: u8, behind: &[u8], number: u64, size: usize
         major::NEGATIVE => Leaf::Whole(Value::Integer(-1 - number as i128), 1 + size),
         major::BYTES | major::STRING => string_behind(alloc, first, behind, number, size),
         major::SIMPLE => simple_behind(first, behind, number, size),
-        _ => Leaf::Unseen,
+        _ => Leaf::Begins(first),
     }
 }
 
@@ -165,7 +172,7 @@ fn simple_behind(first: u8, behind: &[u8], number: u64, size: usize) -> Leaf
         marker::F64 => Leaf::Whole(Value::Float(FloatBits::F64(number)), 9),
         _ => match simple_of(first) {
             Some(value) => Leaf::Whole(value, 1),
-            None => Leaf::Unseen,
+            None => Leaf::Begins(first),
         },
     }
 }
@@ -179,7 +186,7 @@ fn string_behind(alloc: Global, first: u8, behind: &[u8], number: u64, size: usi
 {
     let rest = &behind[size..];
     if number > rest.len() as u64 {
-        return Leaf::Unseen;
+        return Leaf::Begins(first);
     }
     let count = number as usize;
     let content = &rest[..count];
@@ -190,7 +197,7 @@ fn string_behind(alloc: Global, first: u8, behind: &[u8], number: u64, size: usi
         };
     }
     let Ok(text) = str::from_utf8(content) else {
-        return Leaf::Unseen;
+        return Leaf::Begins(first);
     };
     match String::from_str(alloc, text) {
         Ok(text) => Leaf::Whole(Value::Text(text), 1 + size + count),

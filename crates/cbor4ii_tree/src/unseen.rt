@@ -1,7 +1,6 @@
 //! Items skipped byte by byte, where no look decides them: their heads (RFC 8949 section 3), their
 //! bytes, and breaks.
 ghost use Rattle.std.specs.Prelude.{◌≡◌, ◌+◌, ◌^◌, ◌≤◌, ◌<◌, OnOk, IfOk, IfErr, IsTrue, codes, ◌%◌};
-ghost use Rattle.std.specs.Prelude.{OnSome, IfSome};
 ghost use Rattle.cbor4ii_rw.specs.Reader.{Advances};
 ghost use Rattle.cbor4ii_items.specs.Decoding.{Sound, Stops};
 ghost use Rattle.cbor4ii_items.specs.Head.{Width, byte_count};
@@ -10,17 +9,15 @@ ghost use Rattle.cbor4ii_items.specs.ReadHead.{number_on};
 ghost use Rattle.cbor4ii_items.specs.Reading.{Runs, peek_at, byte_at};
 ghost use Rattle.cbor4ii_items.specs.ReadStrings.{break_at};
 ghost use Rattle.cbor4ii_items.specs.Strings.{ReadsBreak, StopsBreak};
-ghost use Rattle.cbor4ii_tree.specs.Does.{Does, Spares, answered};
+ghost use Rattle.cbor4ii_tree.specs.Does.{Does, Spares};
 ghost use Rattle.cbor4ii_tree.specs.Skipping.{StopsSkippingUnder, Leads, TakesFirst};
 ghost use Rattle.cbor4ii_tree.specs.Ahead.{IsOpen, EndsOrNot, StopsAtEnd};
 ghost use Rattle.cbor4ii_tree.specs.HeadParts.{ArgumentAt, DropsBytes, DropsSome};
-ghost use Rattle.cbor4ii_tree.specs.Refusal.{value_name};
 ghost use Rattle.cbor4ii_tree.specs.Stops.{Missing, MissingAll};
 
 use crate::ahead::Among;
-use crate::front::{Front, Own};
+use crate::front::Front;
 use crate::skip::{Additional, Behind, Start, parse_info, start_of};
-use crate::slot::{leave, leave_end};
 use cbor4ii_items::marker;
 use cbor4ii_rw::error::{DecodeError, Len, StaticStr};
 use cbor4ii_rw::read::Source;
@@ -142,30 +139,6 @@ fn take_break<S: Source, F: Front<S>>(
         return Ok(true);
     }
     Ok(false)
-}
-
-/// The first byte of a value, which stays. A refusal is left in `failure`.
-#[inline(always)]
-pub(crate) fn first_of<S: Source>(
-    reader: &mut S,
-    failure: &mut Option<DecodeError<S::Error>>,
-) -> Option<u8>
-    ensures runs { Runs (peek_at value_name 1)
-        (S.view reader.old) (S.view reader.new) (answered result failure.new) }
-    ensures byte { IfSome result (λ b. b < 256) }
-    ensures can { OnSome result (1 ≤ (S.view reader.new).advanceable) }
-{
-    match Own.peek(reader) {
-        Ok(Some(byte)) => Some(byte),
-        Ok(None) => {
-            leave_end("value", failure);
-            None
-        }
-        Err(error) => {
-            leave(DecodeError::Read(error), failure);
-            None
-        }
-    }
 }
 
 /// The next byte, which stays. Where there is none, `expect` bytes were expected.

@@ -5,6 +5,7 @@ use Rattle.std.proofs.Common.{true, false, refl, sym, ap, ap₂, ◌∙◌, subs
 use Rattle.std.proofs.Common.{take-append-drop, Vec, Global, String, negsuc, ◌-ℤ◌}
 use Rattle.std.specs.Prelude.{IsUtf8, string_bytes}
 use Rattle.std.proofs.Math.Seq.{drop-append_seam}
+use Rattle.std.proofs.lemmas.List.{append-nil}
 use mir.Val.{to_z, of_z}
 use mir.Syntax.{w128}
 use Rattle.cbor4ii_rw.specs.View.{View}
@@ -29,17 +30,18 @@ use Rattle.cbor4ii_items.specs.Initial.{precision_bytes, initial}
 use Rattle.cbor4ii_items.specs.Laws.Answering.{fits_zero}
 use Rattle.cbor4ii_tree.specs.declared.value.Value.{Value, Integer, Float, Bytes, Text, Array, Map}
 use Rattle.cbor4ii_tree.specs.declared.value.FloatBits.{FloatBits}
-use Rattle.cbor4ii_tree.specs.Tree.{int, string, array, map_of, tagged, simple}
+use Rattle.cbor4ii_tree.specs.Tree.{no_trees, tree, int, string, array, map_of, tagged, simple}
 use Rattle.cbor4ii_tree.specs.Tree.{bits, count, bytes, bytes_all, bytes_pairs}
-use Rattle.cbor4ii_tree.specs.Item.{integer, float, sequence, mapping, tag}
+use Rattle.cbor4ii_tree.specs.Item.{no_items, item, integer, float, sequence, mapping, tag}
 use Rattle.cbor4ii_tree.specs.Cost.{Budget, cost, greatest_cost, greatest_pair_cost}
 use Rattle.cbor4ii_tree.specs.Laws.Initials.{initial_simple, initial_bits}
-use Rattle.cbor4ii_tree.specs.Refusal.{value_name, kind_name, precision_name, unsupported}
-use Rattle.cbor4ii_tree.specs.Refusal.{require_utf8}
+use Rattle.cbor4ii_tree.specs.Refusal.{value_name, kind_name, precision_name}
 use Rattle.cbor4ii_tree.specs.Refusal.{tag_name}
-use Rattle.cbor4ii_tree.specs.LeafRuns.{StopsAtNoValue}
+use Rattle.cbor4ii_tree.specs.LeafRuns.{StopsWhereNone}
+use Rattle.cbor4ii_tree.proofs.values.LeafRuns.{OneUnder}
+use Rattle.cbor4ii_tree.specs.Refusal.{unsupported, require_utf8}
 use Rattle.cbor4ii_tree.specs.Stops.{Stopping, StopsAtStep}
-use Rattle.cbor4ii_tree.specs.View.{view, items_view, members_view}
+use Rattle.cbor4ii_tree.specs.View.{view}
 use Rattle.cbor4ii_tree.specs.Does.{Accepting, Does}
 use Rattle.cbor4ii_tree.specs.Valuing.{ReadsStepped, SimpleOf, TakesSimple}
 use Rattle.cbor4ii_tree.specs.StopsStrictly.{Exactly, ShortestAt, AtShortest, StrictTextStops}
@@ -47,8 +49,8 @@ use Rattle.cbor4ii_tree.specs.StopsStrictly.{StrictOtherStops, StrictStopsBy}
 use Rattle.cbor4ii_tree.specs.Strictly.{raise, ReadsExactly, StopsExactly, ReadsExactlyUnder}
 use Rattle.cbor4ii_tree.specs.Strictly.{StopsExactlyUnder, StopsBehindFirst, StopsExactlyStepped}
 use Rattle.cbor4ii_tree.specs.Strictly.{StopsBehindMajor}
-use Rattle.cbor4ii_tree.specs.Strictly.{StringAt, ExactItems, StopsExactItems, ExactMember}
-use Rattle.cbor4ii_tree.specs.Strictly.{StopsExactMember, ExactMembers, AcceptsCount}
+use Rattle.cbor4ii_tree.specs.Strictly.{StringAt, ExactItems}
+use Rattle.cbor4ii_tree.specs.Strictly.{ExactMembers, AcceptsCount}
 use Rattle.cbor4ii_tree.proofs.skip_calls.Doing.{Reached, reached_start, reached_by, reached_then}
 use Rattle.cbor4ii_tree.proofs.skip_calls.Doing.{reached_as, does_ok, does_err, does_after}
 use Rattle.cbor4ii_tree.proofs.skip_calls.Doing.{does_refuse, does_stops, does_stepped}
@@ -58,15 +60,10 @@ use Rattle.cbor4ii_tree.proofs.skip_calls.Doing.{call_stops}
 use Rattle.cbor4ii_tree.proofs.answers.Nesting.{strict_by_parts}
 use Rattle.cbor4ii_tree.proofs.canonical.Exactly.{raised, fits_raise, all_exactly}
 use Rattle.cbor4ii_tree.proofs.canonical.Exactly.{all_pairs_exactly, precision_major}
-use Rattle.cbor4ii_tree.proofs.values.Ends.{nothing_there}
-use Rattle.cbor4ii_tree.proofs.values.Calls.{Peeked, small_z, values-push}
+use Rattle.cbor4ii_tree.proofs.values.Calls.{Peeked, small_z}
 use Rattle.cbor4ii_tree.proofs.values.Heads.{negative_z, float_cut, other_byte}
-use Rattle.cbor4ii_tree.proofs.values.Sequences.{values-push_pair}
 use Rattle.cbor4ii_tree.proofs.values.Strings.{view-Bytes, view-Text}
 use Rattle.cbor4ii_tree.proofs.values.Views.{view-Map}
-use Rattle.cbor4ii_tree.proofs.parts.Pushed.{push, count-push, each-push, bytes-push, push_pair}
-use Rattle.cbor4ii_tree.proofs.parts.Pushed.{count-push_pair, each-push_pair, bytes-push_pair, flat}
-use Rattle.cbor4ii_tree.proofs.parts.Pushed.{count-flat, each-flat, bytes-flat}
 use Rattle.cbor4ii_tree.proofs.values.Encoding.{view-Array, view-Integer}
 
 -- ---- a shortest head
@@ -395,13 +392,28 @@ no_value b {a = a} low high none f g h says read shallow =
 
 -- ---- steps
 
--- no byte is left for one more value, for which a step is
-pub value_absent : (budget : Budget) (xs : List ℕ) (e : Refusal) (rest : List ℕ)
-    → StopsAtNoValue budget xs e rest → StopsExactly budget xs e rest
-value_absent budget xs e rest s =
-    (strict_by_parts xs budget e rest).1
-    (subst (λ o. StopsAtStep value_name o xs (λ inner. StopsExactlyUnder inner xs) e rest)
-    (sym s.step) (subst (λ x. StopsExactlyUnder s.inner x e rest) (sym s.none.0) s.none.1))
+-- what is said of one value
+pub one_exactly : OneUnder Exactly StopsExactly ReadsExactlyUnder StopsExactlyUnder
+one_exactly = record {
+  reads = λ budget inner step xs v ys h.
+      let up : budget ≡ raise inner = raised budget inner step in
+      let t = subst (λ o. ReadsExactly o xs v ys) (sym up) h in (
+        tree t.0 no_trees,
+        refl,
+        (t.1, tt),
+        ap (λ i. item i no_items) t.2,
+        t.3 ∙ ap (λ r. r ++ ys) (sym (append-nil (bytes t.0))),
+      );
+  refuses = λ budget inner step xs z rest h.
+      (strict_by_parts xs budget z rest).1
+      (subst (λ o. StopsAtStep value_name o xs (λ inner. StopsExactlyUnder inner xs) z rest)
+      (sym step) h);
+}
+
+-- no byte is left where a value is to begin
+pub none_exactly : (budget : Budget) (xs : List ℕ) (z : Refusal) (rest : List ℕ)
+    → StopsWhereNone xs z rest → StopsExactlyUnder budget xs z rest
+none_exactly budget xs z rest s = subst (λ x. StopsExactlyUnder budget x z rest) (sym s.0) s.1
 
 pub stepped_one : {E : Type 0} {r : Result Value (DecodeError E)} {a b c d : View}
     → StepsIn a.budget b.budget true → KeepsAllButBudget a b → Does (ReadsExactlyUnder b.budget)
@@ -446,72 +458,6 @@ counted_does name major n reads S {a = a} {m = m} p d =
     })) p d
 
 -- ---- values, one behind another
-
-pub items_more : (n : ℕ) (budget : Budget) (vs ws : List Value) (v : Value) (xs ys zs : List ℕ)
-    → ws ≡ vs ++ v ∷ [] → ExactItems n budget xs vs ys → ReadsExactly budget ys v zs
-    → ExactItems (n + 1) budget xs ws zs
-items_more n budget vs ws v xs ys zs is h k = (
-  push h.0 k.0,
-  count-push h.0 k.0 ∙ ap (λ j. j + 1) h.1,
-  each-push (Exactly budget) h.0 k.0
-      h.2 k.1,
-  values-push h.0 k.0 vs v h.3 k.2 ∙ sym (ap items_view is),
-  h.4 ∙ ap (λ r. bytes_all h.0 ++ r) k.3 ∙ sym (bytes-push h.0 k.0 zs),
-)
-
-pub item_stops : (i n : ℕ) (budget : Budget) (vs : List Value) (xs ys : List ℕ) (e : Refusal)
-    (rest : List ℕ) → i < n → ExactItems i budget xs vs ys → StopsExactly budget ys e rest
-    → StopsExactItems n budget xs e rest
-item_stops i n budget vs xs ys e rest lt h s =
-    record { front = h.0; after = ys; few = omega (arith, h.1); whole = h.2; is = h.4; stopped = s }
-
-pub value_stops : (budget : Budget) (key : Value) (xs ys : List ℕ) (e : Refusal) (rest : List ℕ)
-    → ReadsExactly budget xs key ys → StopsExactly budget ys e rest
-    → StopsExactMember budget xs e rest
-value_stops budget key xs ys e rest h s =
-    inr (record { key = h.0; after = ys; whole = h.1; is = h.3; stopped = s })
-
-pub members_more : (n : ℕ) (budget : Budget) (ms ns : List (Value × Value)) (m : Value × Value)
-    (xs ys zs : List ℕ) → ns ≡ ms ++ m ∷ [] → ExactMembers n budget xs ms ys
-    → ExactMember budget ys m zs → ExactMembers (n + 1) budget xs ns zs
-members_more n budget ms ns m xs ys zs is h w =
-    let k = w.1 in
-    let v = w.2 in (
-      push_pair h.0 k.0 v.0,
-      count-push_pair h.0 k.0 v.0 ∙ ap (λ j. j + 1) h.1,
-      each-push_pair (Exactly budget) h.0 k.0 v.0 h.2 k.1 v.1,
-      values-push_pair h.0 k.0 v.0 ms m.0 m.1 h.3 k.2 v.2 ∙ sym (ap members_view is),
-      h.4 ∙ ap (λ r. bytes_pairs h.0 ++ r) (k.3 ∙ ap (λ r. bytes k.0 ++ r) v.3)
-          ∙ sym (bytes-push_pair h.0 k.0 v.0 zs),
-    )
-
-pub member_stops : (i n : ℕ) (budget : Budget) (ms : List (Value × Value)) (xs ys : List ℕ)
-    (e : Refusal) (rest : List ℕ) → i < n → ExactMembers i budget xs ms ys
-    → StopsExactMember budget ys e rest → StopsExactItems (2 * n) budget xs e rest
-member_stops i n budget ms xs ys e rest lt h (inl s) =
-    let ts = flat h.0 in
-    let many : count ts ≡ 2 * i = count-flat h.0 ∙ ap (λ j. 2 * j) h.1 in
-    record {
-      front = ts;
-      after = ys;
-      few = omega (arith, many);
-      whole = each-flat (Exactly budget)
-          h.0 h.2;
-      is = h.4 ∙ ap (λ r. r ++ ys) (sym (bytes-flat h.0));
-      stopped = s;
-    }
-member_stops i n budget ms xs ys e rest lt h (inr s) =
-    let ts = flat h.0 in
-    let many : count ts ≡ 2 * i = count-flat h.0 ∙ ap (λ j. 2 * j) h.1 in
-    record {
-      front = push ts s.key;
-      after = s.after;
-      few = omega (arith, count-push ts s.key, many);
-      whole = each-push (Exactly budget) ts s.key (each-flat (Exactly budget) h.0 h.2) s.whole;
-      is =
-          h.4 ∙ ap₂ (λ r z. r ++ z) (sym (bytes-flat h.0)) s.is ∙ sym (bytes-push ts s.key s.after);
-      stopped = s.stopped;
-    }
 
 -- ---- arrays and maps
 
@@ -571,9 +517,3 @@ map_exact inner v xs ys h =
     )
 
 -- ---- the end of the input, and vectors
-
-pub peek_stops : {E : Type 0} {e : DecodeError E} {a c : View}
-    → Runs {V = ℕ} (peek_at value_name 1) a c (Err e)
-    → Does {V = Value} (ReadsExactlyUnder a.budget) (StopsExactlyUnder a.budget) a c (Err e)
-peek_stops {a = a} p =
-    nothing_there (ReadsExactlyUnder a.budget) (StopsExactlyUnder a.budget) (λ z rest is. is) p

@@ -20,44 +20,35 @@ use Rattle.cbor4ii_tree.specs.Laws.Binds.{step_up}
 use Rattle.cbor4ii_items.specs.Initial.{Info, wide, open_ended, reserved, info_of, initial}
 use Rattle.cbor4ii_items.specs.Initial.{by_major, int_by_info, Sign, unsigned, negative, sign_major}
 use Rattle.cbor4ii_items.specs.Laws.Answering.{fits_zero}
-use Rattle.cbor4ii_tree.specs.Refusal.{eof, mismatch, Small, len_of, sign_name}
+use Rattle.cbor4ii_tree.specs.Refusal.{sign_name}
 use Rattle.cbor4ii_tree.specs.Laws.Numbers.{additional-lt, info-additional}
 use Rattle.cbor4ii_tree.proofs.heads.Means.{WidthSays, InfoSays, info_says}
 use Rattle.cbor4ii_tree.proofs.skip_calls.Bytes.{says_width}
 use Rattle.cbor4ii_tree.specs.declared.value.Value.{Value}
-use Rattle.cbor4ii_tree.specs.Tree.{Tree, Trees, int, no_trees, tree, count, bytes_all}
+use Rattle.cbor4ii_tree.specs.Tree.{Tree, Trees, int, no_trees, tree}
 use Rattle.cbor4ii_tree.specs.Item.{no_items, item}
-use Rattle.cbor4ii_tree.specs.LeafRuns.{StopsAtNoValue}
 use Rattle.cbor4ii_tree.specs.Meaning.{value, values}
 use Rattle.cbor4ii_tree.specs.Cost.{Budget, step_in}
 use Rattle.cbor4ii_tree.specs.Refusal.{value_name}
+use Rattle.cbor4ii_tree.specs.Refusal.{eof, mismatch, Small, len_of}
 use Rattle.cbor4ii_tree.specs.Stops.{StopsAtStep, Is, MissingAll}
-use Rattle.cbor4ii_tree.specs.StopsReading.{Readable, ReadingStopsFrom, ReadingStopsBy}
+use Rattle.cbor4ii_tree.specs.StopsReading.{ReadingStopsFrom, ReadingStopsBy}
 use Rattle.cbor4ii_tree.specs.StopsReading.{StopsReading}
 use Rattle.cbor4ii_tree.specs.View.{view, items_view}
-use Rattle.cbor4ii_tree.specs.Does.{Accepting, Does}
+use Rattle.cbor4ii_tree.specs.Does.{Does}
 use Rattle.cbor4ii_tree.specs.Valuing.{ReadsOneValue, StopsOneValue, ReadsUnder, StopsUnder}
-use Rattle.cbor4ii_tree.specs.Valuing.{ReadsItems, StopsItems}
-use Rattle.cbor4ii_tree.proofs.skip_calls.Doing.{Reached, reached_by, reached_then, does_err}
 use Rattle.cbor4ii_tree.proofs.skip_calls.Doing.{does_stepped, steps_in}
 use Rattle.cbor4ii_tree.proofs.answers.Nesting.{reading_by_parts}
-use Rattle.cbor4ii_tree.proofs.parts.Pushed.{push, count-push, each-push, bytes-push}
+use Rattle.cbor4ii_tree.proofs.parts.Pushed.{push}
 use Rattle.cbor4ii_tree.proofs.values.Encoding.{view-Integer}
 
 -- ---- a step
 
-stops_under : (inner budget : Budget) (xs : List ℕ) (e : Refusal) (rest : List ℕ)
+pub stops_under : (inner budget : Budget) (xs : List ℕ) (e : Refusal) (rest : List ℕ)
     → step_in budget ≡ Some inner → StopsUnder inner xs e rest → StopsOneValue budget xs e rest
 stops_under inner budget xs e rest step h =
     (reading_by_parts xs budget e rest).1 (subst (λ o. StopsAtStep value_name o xs (λ inner.
     ReadingStopsFrom (λ left part. StopsReading part left) inner xs) e rest) (sym step) h)
-
--- no byte is left for one more value, for which a step is
-pub value_absent : (budget : Budget) (xs : List ℕ) (e : Refusal) (rest : List ℕ)
-    → StopsAtNoValue budget xs e rest → StopsOneValue budget xs e rest
-value_absent budget xs e rest s =
-    stops_under s.inner budget xs e rest s.step
-    (subst (λ x. StopsUnder s.inner x e rest) (sym s.none.0) s.none.1)
 
 pub stepped : {E : Type 0} {r : Result Value (DecodeError E)} {a b c d : View}
     → StepsIn a.budget b.budget true → KeepsAllButBudget a b → Does (ReadsUnder b.budget)
@@ -82,44 +73,6 @@ values-push (tree u us) t (w ∷ vs) v e f =
     let tail : values us ≡ items_view vs = cc in
     let more = values-push us t vs v tail f in
     ap (λ i. item i (values (push us t))) head ∙ ap (item (view w)) more
-
-pub items_more : (n : ℕ) (budget : Budget) (vs ws : List Value) (v : Value) (xs ys zs : List ℕ)
-    → ws ≡ vs ++ v ∷ [] → ReadsItems n budget xs vs ys → ReadsOneValue budget ys v zs
-    → ReadsItems (n + 1) budget xs ws zs
-items_more n budget vs ws v xs ys zs is h k = (
-  push h.0 k.0,
-  count-push h.0 k.0 ∙ ap (λ j. j + 1) h.1,
-  each-push (Readable budget) h.0 k.0
-      h.2 k.1,
-  values-push h.0 k.0 vs v h.3 k.2 ∙ sym (ap items_view is),
-  h.4 ∙ ap (λ r. bytes_all h.0 ++ r) k.3 ∙ sym (bytes-push h.0 k.0 zs),
-)
-
-pub items_stop : (i n : ℕ) (budget : Budget) (vs : List Value) (xs ys : List ℕ) (e : Refusal)
-    (rest : List ℕ) → i < n → ReadsItems i budget xs vs ys → StopsOneValue budget ys e rest
-    → StopsItems n budget xs e rest
-items_stop i n budget vs xs ys e rest lt h s =
-    record { front = h.0; after = ys; few = omega (arith, h.1); whole = h.2; is = h.4; stopped = s }
-
-module _ (n : ℕ) (vs : List Value) {a m : View}
-    (p : Reached (λ xs ys. ReadsItems n a.budget xs vs ys) a m) where
-  pub counted_more : {E : Type 0} (ws : List Value) {v : Value} {b : View} → ws ≡ vs ++ v ∷ []
-      → Does {E = E} (ReadsOneValue m.budget) (StopsOneValue m.budget) m b (Ok v)
-      → Reached (λ xs ys. ReadsItems (n + 1) a.budget xs ws ys) a b
-  counted_more ws {v = v} is d =
-      reached_then (λ xs ys. ReadsItems n a.budget xs vs ys)
-      (λ xs ys. ReadsOneValue m.budget xs v ys) (λ xs ys. ReadsItems (n + 1) a.budget xs ws ys)
-      (λ xs ys zs h s. items_more n a.budget vs ws v xs ys zs is h
-      (subst (λ o. ReadsOneValue o ys v zs) p.kept.budget s)) p (reached_by d)
-
-  pub counted_stop : {U E : Type 0} (B : Accepting U) (count : ℕ) {e : DecodeError E} {b : View}
-      → n < count → Does {V = Value} (ReadsOneValue m.budget) (StopsOneValue m.budget) m b (Err e)
-      → Does {V = U} B (StopsItems count a.budget) a b (Err e)
-  counted_stop B count lt d =
-      does_err (λ xs ys. ReadsItems n a.budget xs vs ys)
-      (ReadsOneValue m.budget) B (StopsOneValue m.budget) (StopsItems count a.budget)
-      (λ xs ys z rest h s. items_stop n count a.budget vs xs ys z rest lt h
-      (subst (λ o. StopsOneValue o ys z rest) p.kept.budget s)) p d
 
 -- ---- heads that are refused
 

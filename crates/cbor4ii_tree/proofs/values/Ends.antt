@@ -10,8 +10,9 @@ use Rattle.cbor4ii_items.specs.Refusal.{Refusal, refusal_of}
 use Rattle.cbor4ii_items.specs.Reading.{Runs, peek_at}
 use Rattle.cbor4ii_items.specs.Laws.Running.{shows_kept}
 use Rattle.cbor4ii_items.specs.Laws.Steps.{moves_err}
-use Rattle.cbor4ii_tree.specs.Refusal.{eof, Small, value_name}
+use Rattle.cbor4ii_tree.specs.Refusal.{value_name}
 use Rattle.cbor4ii_tree.specs.Laws.Binds.{is_err}
+use Rattle.cbor4ii_tree.specs.Refusal.{eof, Small}
 use Rattle.cbor4ii_tree.specs.Stops.{Stopping, Is}
 use Rattle.cbor4ii_tree.specs.Does.{Accepting, Does}
 use Rattle.cbor4ii_tree.proofs.skip_calls.Doing.{does_refuse}
@@ -27,15 +28,6 @@ at_end T ends None xs new h = tt
 at_end T ends (Some z) [] new h =
     (h.0, h.1, ends z h.0 (is_err {A = ℕ} (eof value_name (Small 1)) [] z h.0 h.2))
 at_end T ends (Some z) (x ∷ xs) new h = let g = h.2 in cc
-
-pub nothing_there : {V E : Type 0} (A : Accepting V) (T : Stopping) → Ending T
-    → {e : DecodeError E} {a c : View} → Runs {V = ℕ} (peek_at value_name 1) a c (Err e)
-    → Does {V = V} A T a c (Err e)
-nothing_there A T ends {e = e} {a = a} {c = c} p = record {
-  moves = moves_err p.moves;
-  ok = tt;
-  err = λ xs told. at_end T ends (refusal_of e) xs c.told (p.answers xs told);
-}
 
 -- a look has shown no byte
 pub none_shown : {V E : Type 0} (A : Accepting V) (T : Stopping) → Ending T → (want : ℕ)

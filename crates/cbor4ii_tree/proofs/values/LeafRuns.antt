@@ -1,50 +1,59 @@
 -- Runs: values that hold no other, one behind another in shown bytes.
-use Rattle.std.proofs.Common.{◌≡◌, ℕ, suc, ◌+◌, ◌*◌, ◌≤◌, List, [], ◌∷◌, ◌++◌, length, take, drop}
-use Rattle.std.proofs.Common.{refl}
-use Rattle.std.proofs.Common.{sym, ap, ap₂, ◌∙◌, subst, arith, append_assoc, length-append}
-use Rattle.std.proofs.Common.{length-drop, take-append-drop, true, false, Result, Ok, Err}
+use Rattle.std.proofs.Common.{◌≡◌, ℕ, suc, ◌+◌, ◌-◌, ◌*◌, ◌<◌, ◌≤◌, ◌⊎◌, List, [], ◌∷◌, ◌++◌}
+use Rattle.std.proofs.Common.{length, take, drop, Option, Some, None, refl, sym, ap, ap₂, ◌∙◌}
+use Rattle.std.proofs.Common.{subst, arith, append_assoc, length-append, length-drop}
+use Rattle.std.proofs.Common.{take-append-drop, Vec, Global, nat_lt, Bool, true, false, not, OnSome, IfNone, Result}
+use Rattle.std.proofs.Common.{Ok, Err, inl, inr}
+use Rattle.std.specs.Option.{is_some}
 use Rattle.std.proofs.Math.Seq.{take-add}
-use Rattle.std.proofs.lemmas.List.{append-nil}
+use Rattle.std.proofs.lemmas.Bool.{ltb-true, ltb-false}
+use Rattle.std.proofs.lemmas.List.{append-nil, drop-take}
 use denote.Ref.{Bor}
-use Rattle.cbor4ii_rw.specs.Reader.{Advances, KeepsAllButBudget, StepsIn, step_back}
-use Rattle.cbor4ii_rw.specs.View.{View}
+use Rattle.cbor4ii_rw.specs.Reader.{Advances, Breaks, IsFront, KeepsAllButBudget, Shows, StepsIn}
+use Rattle.cbor4ii_rw.specs.Reader.{step_back}
+use Rattle.cbor4ii_rw.specs.View.{View, Told}
 use Rattle.cbor4ii_rw.specs.declared.error.DecodeError.{DecodeError}
-use Rattle.cbor4ii_rw.specs.declared.error.DecodeError.TheVariants.{OutOfMemory, Eof}
+use Rattle.cbor4ii_rw.specs.declared.error.DecodeError.TheVariants.{OutOfMemory, Eof, Read}
 use Rattle.cbor4ii_items.specs.Decoding.{CostFits}
 use Rattle.cbor4ii_items.specs.Head.{IsBytes}
-use Rattle.cbor4ii_items.specs.Reading.{Runs, peek_at}
+use Rattle.cbor4ii_items.specs.Refusal.{refusal_of, is_read, depth_overflow}
 use Rattle.cbor4ii_items.specs.Laws.Answering.{fits_zero}
 use Rattle.cbor4ii_items.specs.Laws.Contents.{lends_front}
-use Rattle.cbor4ii_items.specs.Laws.UnderStep.{no_step}
-use Rattle.cbor4ii_tree.specs.Cost.{Budget}
-use Rattle.cbor4ii_tree.specs.Does.{Accepting, Does}
+use Rattle.cbor4ii_items.specs.Laws.Steps.{counted_none, kept_then}
+use Rattle.cbor4ii_items.specs.Moves.{Broke, Kept}
+use Rattle.cbor4ii_items.specs.Reading.{Runs, peek_at}
+use Rattle.cbor4ii_tree.specs.Cost.{Budget, step_in}
+use Rattle.cbor4ii_tree.specs.Does.{Accepting, Does, answered, refusal_left}
 use Rattle.cbor4ii_tree.specs.Front.{Offers}
-use Rattle.cbor4ii_tree.specs.Item.{AreItems, AreMembers, item, no_items}
+use Rattle.cbor4ii_tree.specs.Item.{AreItems, AreMembers, IsItem, item, no_items}
 use Rattle.cbor4ii_tree.specs.Laws.Binds.{step_up}
-use Rattle.cbor4ii_tree.specs.Leaf.{StandsAhead, MayTake}
-use Rattle.cbor4ii_tree.specs.LeafRuns.{flat_values, IsLeaf, StandInFront, PutsBehind, PutsRun}
-use Rattle.cbor4ii_tree.specs.LeafRuns.{Puts, Pushes, ReadsEach, PutsItems, PutsItemsUnder}
-use Rattle.cbor4ii_tree.specs.LeafRuns.{KeepsItems, StopsWhereNone, StopsAtNoValue}
-use Rattle.cbor4ii_tree.specs.Refusal.{Refusal, Small, value_name}
-use Rattle.cbor4ii_tree.specs.Stops.{Each, EachPair, Stopping}
+use Rattle.cbor4ii_tree.specs.Leaf.{DoesBehindLook, StandsAhead, WantsContent}
+use Rattle.cbor4ii_tree.specs.LeafRuns.{flat_pairs, flat_values, IsLeaf, StandInFront, PutsBehind}
+use Rattle.cbor4ii_tree.specs.LeafRuns.{PutsRun, RefusesMemory, ReadsEach, PutsItems, RunsBefore}
+use Rattle.cbor4ii_tree.specs.LeafRuns.{PutsItemsUnder, KeepsItems, StopsItemsUnder}
+use Rattle.cbor4ii_tree.specs.LeafRuns.{StopsWhereNone, TakesBy}
+use Rattle.cbor4ii_tree.specs.Refusal.{Refusal, value_name}
+use Rattle.cbor4ii_tree.specs.Refusal.{Small}
+use Rattle.cbor4ii_tree.specs.Stops.{Each, EachPair, Stopping, StopsInCount}
 use Rattle.cbor4ii_tree.specs.StopsReading.{Readable}
 use Rattle.cbor4ii_tree.specs.StopsStrictly.{Exactly}
 use Rattle.cbor4ii_tree.specs.Tree.{Tree, Trees, no_trees, tree, Pairs, no_pairs, pair, bytes}
 use Rattle.cbor4ii_tree.specs.Tree.{bytes_all, bytes_pairs, count, pair_count}
 use Rattle.cbor4ii_tree.specs.Meaning.{value, values, member_values}
+use Rattle.cbor4ii_tree.specs.Valuing.{ReadsUnder, StopsOneValue, StopsUnder}
 use Rattle.cbor4ii_tree.specs.View.{view, items_view, members_view}
 use Rattle.cbor4ii_tree.specs.declared.value.Value.{Value}
-use Rattle.cbor4ii_tree.specs.declared.run.Put.{Put}
-use Rattle.cbor4ii_tree.specs.declared.run.Put.TheVariants.{Part, NoMemory, Unseen}
 use Rattle.cbor4ii_tree.specs.declared.run.Ran.{Ran}
 use Rattle.cbor4ii_tree.specs.declared.run.Ran.TheVariants as run
 use Rattle.cbor4ii_tree.proofs.parts.Fronts.{IsBytes-append}
 use Rattle.cbor4ii_tree.proofs.parts.Joined.{join, count-join, each-join, bytes-join}
-use Rattle.cbor4ii_tree.proofs.parts.Pushed.{flat, count-flat, each-flat, bytes-flat}
 use Rattle.cbor4ii_tree.proofs.skip_calls.Doing.{does_ok, does_no_memory, does_stepped, steps_in}
-use Rattle.cbor4ii_tree.proofs.skip_calls.Doing.{kept_budget, Reached, reached_then, reached_by}
-use Rattle.cbor4ii_tree.proofs.skip_calls.Doing.{does_err, does_after, reached_as, reached_peek}
+use Rattle.cbor4ii_tree.proofs.skip_calls.Doing.{Reached, reached_start, reached_then, reached_by}
+use Rattle.cbor4ii_tree.proofs.skip_calls.Doing.{does_err, does_no_step}
+use Rattle.cbor4ii_tree.proofs.values.Calls.{stops_under}
 use Rattle.cbor4ii_tree.proofs.values.Ends.{none_shown}
+use Rattle.cbor4ii_tree.proofs.values.Items.{items_are}
+use Rattle.cbor4ii_tree.proofs.values.Leaves.{MayTake, wants_may, shows_first}
 
 -- ---- lists of values
 
@@ -73,6 +82,39 @@ flat-push (m ∷ ms) k v = ap (λ r. m.0 ∷ (m.1 ∷ r)) (flat-push ms k v)
 length-flat : (ms : List (Value × Value)) → length (flat_values ms) ≡ 2 * length ms
 length-flat [] = refl
 length-flat (m ∷ ms) = omega (arith, length-flat ms)
+
+pub pairs_lack : (ms : List (Value × Value)) (key : Option Value) (most : ℕ) → length ms < most
+    → length (flat_pairs ms key) < 2 * most
+pairs_lack ms None most h = omega (arith, h, length-flat ms)
+pairs_lack ms (Some k) most h =
+    omega (arith, h, length-append (flat_values ms) (k ∷ []), length-flat ms)
+
+pub pairs_full : (ms : List (Value × Value)) (key : Option Value) (most : ℕ) → most ≤ length ms
+    → 2 * most ≤ length (flat_pairs ms key)
+pairs_full ms None most h = omega (arith, h, length-flat ms)
+pairs_full ms (Some k) most h =
+    omega (arith, h, length-append (flat_values ms) (k ∷ []), length-flat ms)
+
+pub below : (n most many : ℕ) → nat_lt n most ≡ true → n ≡ many → many < most
+below n most many e is = omega (arith, ltb-true n most e, is)
+
+pub not_below : (n most many : ℕ) → nat_lt n most ≡ false → n ≡ many → most ≤ many
+not_below n most many e is = omega (arith, ltb-false n most e, is)
+
+-- a key gets its value
+pub pair_put : {A : Type 0} (ms ns : List (Value × Value)) (before after : Option Value)
+    (k v : Value) (r : Option A) → before ≡ Some k → after ≡ None
+    → OnSome r (ns ≡ ms ++ (k, v) ∷ [])
+    → OnSome r (flat_pairs ns after ≡ flat_pairs ms before ++ v ∷ [])
+pair_put ms ns before after k v (Some u) e f g =
+    subst (λ b. flat_pairs ns after ≡ flat_pairs ms b ++ v ∷ []) (sym e)
+    (subst (λ b. flat_pairs ns b ≡ flat_pairs ms (Some k) ++ v ∷ []) (sym f)
+    (ap flat_values g ∙ flat-push ms k v
+    ∙ sym (append_assoc (flat_values ms) (k ∷ []) (v ∷ []))))
+pair_put ms ns before after k v None e f g = tt
+
+pub many_members : (v : Vec (Value × Value) Global) → v.len ≡ length v.items
+many_members v = omega (arith, v.ok.0, v.ok.1)
 
 -- ---- in shown bytes
 
@@ -121,11 +163,7 @@ stand_join exact vs ws at n shown h l = record {
       ∙ sym (bytes-join h.trees l.trees []) ∙ append-nil (bytes_all (join h.trees l.trees));
 }
 
-pub may_take : (exact : Type 0) (v : Value) (n : ℕ) (shown : List ℕ) → StandsAhead exact v n shown
-    → MayTake n shown
-may_take exact v n shown l = record { within = l.within; fresh = l.fresh }
-
-pub may_more : (at n size : ℕ) (shown : List ℕ) → MayTake at shown → MayTake n (drop at shown)
+may_more : (at n size : ℕ) (shown : List ℕ) → MayTake at shown → MayTake n (drop at shown)
     → size ≡ at + n → MayTake size shown
 may_more at n size shown h l e =
     subst (λ j. MayTake j shown) (sym e) (record {
@@ -134,33 +172,6 @@ may_more at n size shown h l e =
           subst IsBytes (sym (take-add at n shown))
           (IsBytes-append (take at shown) (take n (drop at shown)) h.fresh l.fresh);
     })
-
-pub put_item : (exact : Type 0) (put : Put) (v : Value) (n : ℕ) (shown : List ℕ)
-    (before after : List Value) → StandsAhead exact v n shown → Pushes put v n before after
-    → Puts exact put shown before after
-put_item exact (Part k) v n shown before after l p =
-    subst (λ j. PutsBehind exact j shown before after) (sym p.0)
-    (record { new = v ∷ []; is = p.1; stand = stand_one exact v n shown l })
-put_item exact (NoMemory k) v n shown before after l p =
-    subst (λ j. MayTake j shown) (sym p.0) (may_take exact v n shown l)
-put_item exact Unseen v n shown before after l p = absurd p
-
-pub put_pair : (exact : Type 0) (put : Put) (k v : Value) (at n : ℕ) (shown : List ℕ)
-    (before after : List (Value × Value)) → StandsAhead exact k at shown
-    → StandsAhead exact v n (drop at shown) → Pushes put (k, v) (at + n) before after
-    → Puts exact put shown (flat_values before) (flat_values after)
-put_pair exact (Part j) k v at n shown before after h l p =
-    subst (λ j. PutsBehind exact j shown (flat_values before) (flat_values after)) (sym p.0)
-    (record {
-      new = k ∷ v ∷ [];
-      is = ap flat_values p.1 ∙ flat-push before k v;
-      stand =
-          stand_join exact (k ∷ []) (v ∷ []) at n shown (stand_one exact k at shown h)
-          (stand_one exact v n (drop at shown) l);
-    })
-put_pair exact (NoMemory j) k v at n shown before after h l p =
-    may_more at n j shown (may_take exact k at shown h) (may_take exact v n (drop at shown) l) p.0
-put_pair exact Unseen k v at n shown before after h l p = absurd p
 
 pub put_none : (exact : Type 0) (items : List Value) (shown : List ℕ)
     → PutsBehind exact 0 shown items items
@@ -178,16 +189,46 @@ put_more exact before items after at n size shown p l e = record {
       (stand_join exact p.new l.new at n shown p.stand l.stand);
 }
 
-pub put_stays : (exact : Type 0) (before items after : List Value) (at : ℕ) (shown : List ℕ)
-    → PutsBehind exact at shown before items → after ≡ items
-    → PutsBehind exact at shown before after
-put_stays exact before items after at shown p is =
-    subst (λ r. PutsBehind exact at shown before r) (sym is) p
+-- one more value
+pub put_one : (exact : Type 0) (before items after : List Value) (v : Value) (at n : ℕ)
+    (shown : List ℕ) → PutsBehind exact at shown before items
+    → StandsAhead exact v n (drop at shown) → after ≡ items ++ v ∷ []
+    → PutsBehind exact (at + n) shown before after
+put_one exact before items after v at n shown p l is =
+    put_more exact before items after at n (at + n) shown p
+    (record { new = v ∷ []; is = is; stand = stand_one exact v n (drop at shown) l }) refl
 
-pub run_may : (exact : Type 0) (before items : List Value) (at : ℕ) (shown : List ℕ)
-    → PutsBehind exact at shown before items → MayTake at shown
-run_may exact before items at shown p =
-    record { within = p.stand.within; fresh = p.stand.fresh }
+-- it was put well
+pub put_well : {A : Type 0} {P : Type 0} {b : Bool} (r : Option A) → is_some r ≡ not b → b ≡ false
+    → OnSome r P → P
+put_well (Some v) e f p = p
+put_well None e f p = cc
+
+-- memory was refused where the last of some values was put
+pub refused_growth : (exact : Type 0) (before items : List Value) (v : Value) (at n : ℕ)
+    (shown : List ℕ) → PutsBehind exact at shown before items
+    → StandsAhead exact v n (drop at shown) → RefusesMemory exact (at + n) shown
+refused_growth exact before items v at n shown p l = record {
+  values = p.new ++ v ∷ [];
+  taken = at + n;
+  stand =
+      stand_join exact p.new (v ∷ []) at n shown p.stand (stand_one exact v n (drop at shown) l);
+  at = inl (omega (arith, length-append p.new (v ∷ [])), refl);
+}
+
+-- so many bytes may be taken then
+pub refused_may : (exact : Type 0) (size : ℕ) (shown : List ℕ) → RefusesMemory exact size shown
+    → MayTake size shown
+refused_may exact size shown r = by_place r.at
+  where
+    stands : MayTake r.taken shown
+    stands = record { within = r.stand.within; fresh = r.stand.fresh }
+
+    by_place : ((1 ≤ length r.values) × (size ≡ r.taken))
+        ⊎ ((head : ℕ) × (size ≡ r.taken + head) × WantsContent head (drop r.taken shown))
+        → MayTake size shown
+    by_place (inl h) = subst (λ j. MayTake j shown) (sym h.1) stands
+    by_place (inr h) = may_more r.taken h.0 size shown stands (wants_may h.0 _ h.2) h.1
 
 -- ---- taken
 
@@ -210,15 +251,130 @@ each_fits exact Whole f budget no_trees fits h = tt
 each_fits exact Whole f budget (tree t ts) fits h =
     (f budget t fits h.0, each_fits exact Whole f budget ts fits h.1)
 
-module _ (exact : Type 0) (before after : List Value) {E : Type 0} {a m b : View} where
-  pub takes_run : (Whole : Budget → Tree → Type 0) → LeafIs exact Whole → (size : ℕ) {seen : Ran}
-      → seen ≡ run.Whole size → Offers 4096 (PutsRun exact before after seen) a m
-      → Advances size m b → Does {V = Unit {0}} {E = E}
-      (PutsItemsUnder Whole before after a.budget) StopsWhereNone a b (Ok tt)
-  takes_run Whole f size is h adv =
-      let o = subst (λ s. Offers 4096 (PutsRun exact before after s) a m) is h in
-      let s = o.is.stand in
-      let l = lends_front o.shows o.front s.within s.fresh refl adv in
+begins_with : (first : ℕ) (behind shown xs : List ℕ) → shown ≡ first ∷ behind
+    → take (length shown) xs ≡ shown → xs ≡ first ∷ drop 1 xs
+begins_with first behind shown xs is e =
+    by_first xs (subst (λ s. take (length s) xs ≡ s) is e)
+  where
+    by_first : (xs : List ℕ) → take (length (first ∷ behind)) xs ≡ first ∷ behind
+        → xs ≡ first ∷ drop 1 xs
+    by_first [] f = cc
+    by_first (x ∷ xs) f = let g : x ≡ first = cc in ap (λ c. c ∷ xs) g
+
+begins_behind : (size : ℕ) (shown xs : List ℕ) → size ≤ length shown
+    → take (length shown) xs ≡ shown
+    → take (length (drop size shown)) (drop size xs) ≡ drop size shown
+begins_behind size shown xs within e =
+    let many : size + length (drop size shown) ≡ length shown =
+    omega (arith, within, length-drop size shown) in
+    sym (drop-take size (length (drop size shown)) xs)
+    ∙ ap (λ n. drop size (take n xs)) many ∙ ap (drop size) e
+
+-- told bytes only where they were told before
+abbrev narrowed : Option (List ℕ) → Option (List ℕ) → Option (List ℕ)
+narrowed None new = None
+narrowed (Some xs) new = new
+
+narrowed_told : (old new : Option (List ℕ)) (xs : List ℕ) → old ≡ Some xs → narrowed old new ≡ new
+narrowed_told None new xs e = cc
+narrowed_told (Some ys) new xs e = refl
+
+told_narrowed : (old new : Option (List ℕ)) (ys : List ℕ) → narrowed old new ≡ Some ys
+    → (xs : List ℕ) × (old ≡ Some xs) × (new ≡ Some ys)
+told_narrowed None new ys e = cc
+told_narrowed (Some xs) new ys e = (xs, refl, e)
+
+abbrev narrow : View → View → View
+narrow old new = record {
+  told = narrowed old.told new.told;
+  bound = new.bound;
+  advanceable = new.advanceable;
+  budget = new.budget;
+  failures = new.failures;
+  taken = new.taken;
+  lends_whole = new.lends_whole;
+  remembers = new.remembers;
+  ends_at = new.ends_at;
+}
+
+narrow_kept : {a b : View} → Kept a b → Kept a (narrow a b)
+narrow_kept {a = a} {b = b} k = record {
+  rest = λ xs told.
+      let t = k.rest xs told in (
+        t.0,
+        record {
+          left = narrowed_told a.told b.told xs told ∙ t.1.left;
+          within = t.1.within;
+          bytes = t.1.bytes;
+        },
+      );
+  counted = λ xs told ys left.
+      k.counted xs told ys (sym (narrowed_told a.told b.told xs told) ∙ left);
+  bound = k.bound;
+  budget = k.budget;
+  failures = k.failures;
+  lends_whole = k.lends_whole;
+  remembers = k.remembers;
+  ends_at = k.ends_at;
+}
+
+does_narrow : {V E : Type 0} {A : Accepting V} {S : Stopping} {v : V} {a b : View}
+    → Does {E = E} A S a b (Ok v) → Does {E = E} A S a (narrow a b) (Ok v)
+does_narrow {a = a} {b = b} d = record {
+  moves = record { by = narrow_kept d.moves.by; depth = λ e. refl };
+  ok = λ xs told.
+      let t = d.ok xs told in (t.0, narrowed_told a.told b.told xs told ∙ t.1, t.2);
+  err = tt;
+}
+
+-- what is left was shown, from where its bytes are told only as before
+narrow_shows : {E : Type 0} (first : ℕ) {a b : View} → Kept a b
+    → Told a.told (λ xs. (behind : List ℕ) × (b.told ≡ Some (first ∷ behind)))
+    → Runs {V = ℕ} {E = E} (peek_at value_name 1) (narrow a b) b (Ok first)
+narrow_shows first {a = a} {b = b} k next = record {
+  moves = record {
+    by = record {
+      rest = λ ys told. (
+        0,
+        record {
+          left = (told_narrowed a.told b.told ys told).2;
+          within = omega arith;
+          bytes = tt;
+        },
+      );
+      counted = counted_none (narrow a b) b (λ ys told. (told_narrowed a.told b.told ys told).2)
+          refl;
+      bound = omega arith;
+      budget = refl;
+      failures = refl;
+      lends_whole = λ h. h;
+      remembers = λ h. h;
+      ends_at = refl;
+    };
+    depth = λ e. refl;
+  };
+  answers = λ ys told.
+      let t = told_narrowed a.told b.told ys told in
+      let n = next t.0 t.1 in
+      let e : ys ≡ first ∷ n.0 = let f = t.2 in let g = n.1 in cc in
+      (ys, t.2, ap (peek_at value_name 1) e ∙ ap (λ zs. Ok (first, zs)) (sym e));
+}
+
+behind_are : (exact : Type 0) (before after : List Value) {size : ℕ} {shown : List ℕ}
+    → PutsBehind exact size shown before after → KeepsItems before after
+behind_are exact before after p kept =
+    subst (λ x. AreItems (items_view x)) (sym p.is)
+    (AreItems-append before p.new kept p.stand.ranged)
+
+module _ (exact : Type 0) (full : ℕ) (before after : List Value) {E : Type 0} {a m b : View} where
+  puts_taken : (Whole : Budget → Tree → Type 0) → LeafIs exact Whole → (want size : ℕ)
+      {shown : List ℕ} → Shows shown a m → Told a.told (IsFront want shown)
+      → PutsBehind exact size shown before after → Advances size m b
+      → Does {V = Unit {0}} {E = E} (PutsItemsUnder Whole before after a.budget)
+      StopsWhereNone a b (Ok tt)
+  puts_taken Whole f want size shows front p adv =
+      let s = p.stand in
+      let l = lends_front shows front s.within s.fresh refl adv in
       does_ok (PutsItemsUnder Whole before after a.budget) StopsWhereNone (record {
         kept = l.kept;
         at = λ xs told.
@@ -226,8 +382,8 @@ module _ (exact : Type 0) (before after : List Value) {E : Type 0} {a m b : View
               drop size xs,
               t.1,
               λ budget step. (
-                o.is.new,
-                o.is.is,
+                p.new,
+                p.is,
                 (
                   s.trees,
                   s.many,
@@ -241,92 +397,154 @@ module _ (exact : Type 0) (before after : List Value) {E : Type 0} {a m b : View
             );
       })
 
+  pub takes_whole : (Whole : Budget → Tree → Type 0) → LeafIs exact Whole → (size : ℕ) {seen : Ran}
+      → seen ≡ run.Whole size → Offers 1 (PutsRun exact full before after seen) a m
+      → Advances size m b → Does {V = Unit {0}} {E = E}
+      (PutsItemsUnder Whole before after a.budget) StopsWhereNone a b (Ok tt)
+  takes_whole Whole f size is h adv =
+      let o = subst (λ s. Offers 1 (PutsRun exact full before after s) a m) is h in
+      puts_taken Whole f 1 size o.shows o.front o.is.puts adv
+
+  pub takes_before : (Whole : Budget → Tree → Type 0) → LeafIs exact Whole → (size first : ℕ)
+      {seen : Ran} → seen ≡ run.Before size first
+      → Offers 1 (PutsRun exact full before after seen) a m → Advances size m b
+      → RunsBefore E Whole first before after a b
+  takes_before Whole f size first is h adv =
+      let o = subst (λ s. Offers 1 (PutsRun exact full before after s) a m) is h in
+      let p = o.is in
+      let d = puts_taken Whole f 1 size o.shows o.front p.puts adv in
+      record {
+        mid = narrow a b;
+        puts = does_narrow d;
+        shows = record {
+          runs = narrow_shows first d.moves.by (λ xs told. (
+            drop 1 (drop size xs),
+            adv.told xs (o.shows.told xs told)
+                ∙ ap Some (begins_with first p.behind (drop size o.shown) (drop size xs) p.begins
+                (begins_behind size o.shown xs p.puts.stand.within (o.front xs told).begins)),
+          ));
+          can =
+              omega (
+                arith,
+                o.shows.advanceable,
+                adv.advanceable,
+                ap length p.begins,
+                length-drop size o.shown,
+                p.puts.stand.within,
+              );
+        };
+      }
+
   pub run_no_memory : (Whole : Budget → Tree → Type 0) (size : ℕ) {seen : Ran}
-      → seen ≡ run.NoMemory size → Offers 4096 (PutsRun exact before after seen) a m
+      → seen ≡ run.NoMemory size → Offers 1 (PutsRun exact full before after seen) a m
       → Advances size m b
       → Does {V = Unit {0}} {E = E} (PutsItemsUnder Whole before after a.budget) StopsWhereNone a b
       (Err OutOfMemory)
   run_no_memory Whole size is h adv =
-      let o = subst (λ s. Offers 4096 (PutsRun exact before after s) a m) is h in
-      let l = lends_front o.shows o.front o.is.within o.is.fresh refl adv in
+      let o = subst (λ s. Offers 1 (PutsRun exact full before after s) a m) is h in
+      let may = refused_may exact size o.shown o.is in
+      let l = lends_front o.shows o.front may.within may.fresh refl adv in
       does_no_memory (PutsItemsUnder Whole before after a.budget) StopsWhereNone refl l.kept
 
-pub run_ends : (exact : Type 0) (before after : List Value) {E : Type 0} {a b : View}
-    (Whole : Budget → Tree → Type 0) {seen : Ran} → seen ≡ run.End
-    → Offers 4096 (PutsRun exact before after seen) a b → {name : Bor (List ℕ)}
-    → name.now ≡ value_name
+module _ (exact : Type 0) (full : ℕ) (before after : List Value) {E : Type 0} {a m : View} where
+  -- nothing was put
+  pub takes_none : (Whole : Budget → Tree → Type 0) (first : ℕ) {seen : Ran}
+      → seen ≡ run.Begins first → Offers 1 (PutsRun exact full before after seen) a m
+      → RunsBefore E Whole first before after a m
+  takes_none Whole first is h =
+      let o = subst (λ s. Offers 1 (PutsRun exact full before after s) a m) is h in
+      record {
+        mid = a;
+        puts =
+            does_ok (PutsItemsUnder Whole before after a.budget) StopsWhereNone
+            (reached_start (λ xs ys. PutsItemsUnder Whole before after a.budget xs tt ys) a
+            (λ xs budget step. (
+              [],
+              o.is.0 ∙ sym (append-nil before),
+              (no_trees, refl, tt, refl, refl),
+            )));
+        shows = shows_first first o.is.1 o.shows o.front o.is.2;
+      }
+
+  pub run_ends : (Whole : Budget → Tree → Type 0) {seen : Ran} → seen ≡ run.End
+      → Offers 1 (PutsRun exact full before after seen) a m → {name : Bor (List ℕ)}
+      → name.now ≡ value_name
+      → Does {V = Unit {0}} {E = E} (PutsItemsUnder Whole before after a.budget) StopsWhereNone a m
+      (Err (Eof name (Small 1)))
+  run_ends Whole is h says =
+      let o = subst (λ s. Offers 1 (PutsRun exact full before after s) a m) is h in
+      none_shown (PutsItemsUnder Whole before after a.budget) StopsWhereNone
+      (λ z rest is. (refl, is)) 1 says (omega arith) o.shows o.front o.is
+
+module _ (exact : Type 0) (full : ℕ) (before after : List Value) {a m : View} where
+  pub whole_items : (size : ℕ) {seen : Ran} → seen ≡ run.Whole size
+      → Offers 1 (PutsRun exact full before after seen) a m → KeepsItems before after
+  whole_items size is h =
+      behind_are exact before after
+      (subst (λ s. Offers 1 (PutsRun exact full before after s) a m) is h).is.puts
+
+  pub before_items : (size first : ℕ) {seen : Ran} → seen ≡ run.Before size first
+      → Offers 1 (PutsRun exact full before after seen) a m → KeepsItems before after
+  before_items size first is h =
+      behind_are exact before after
+      (subst (λ s. Offers 1 (PutsRun exact full before after s) a m) is h).is.puts
+
+  pub whole_seen : (size : ℕ) {seen : Ran} → seen ≡ run.Whole size
+      → Offers 1 (PutsRun exact full before after seen) a m
+      → (1 ≤ size) × (length after ≤ full) × (m.bound ≤ a.bound)
+  whole_seen size is h =
+      let o = subst (λ s. Offers 1 (PutsRun exact full before after s) a m) is h in
+      (o.is.some, o.is.few, o.shows.bound)
+
+  pub before_seen : (size first : ℕ) {seen : Ran} → seen ≡ run.Before size first
+      → Offers 1 (PutsRun exact full before after seen) a m
+      → (length after < full) × (m.bound ≤ a.bound)
+  before_seen size first is h =
+      let o = subst (λ s. Offers 1 (PutsRun exact full before after s) a m) is h in
+      (o.is.lacks, o.shows.bound)
+
+  pub none_seen : (first : ℕ) {seen : Ran} → seen ≡ run.Begins first
+      → Offers 1 (PutsRun exact full before after seen) a m → m.bound ≤ a.bound
+  none_seen first is h =
+      (subst (λ s. Offers 1 (PutsRun exact full before after s) a m) is h).shows.bound
+
+  pub none_put : (first : ℕ) {seen : Ran} → seen ≡ run.Begins first
+      → Offers 1 (PutsRun exact full before after seen) a m → after ≡ before
+  none_put first is h =
+      (subst (λ s. Offers 1 (PutsRun exact full before after s) a m) is h).is.0
+
+breaks_broke : {a b : View} → Breaks a b → Broke a b
+breaks_broke b = record {
+  rest = λ xs told ys left. (0, b.told xs told ys left);
+  left = λ remembers xs told. (
+    0,
+    record { left = b.kept remembers xs told; within = omega arith; bytes = tt },
+  );
+  bound = b.bound;
+  budget = b.budget;
+  failures = b.failures;
+  lends_whole = b.lends_whole;
+  remembers = b.remembers;
+  ends_at = b.ends_at;
+}
+
+-- the reader failed
+pub run_broke : (before after : List Value) {E : Type 0} {a b : View}
+    (Whole : Budget → Tree → Type 0) (error : E) → Breaks a b
     → Does {V = Unit {0}} {E = E} (PutsItemsUnder Whole before after a.budget) StopsWhereNone a b
-    (Err (Eof name (Small 1)))
-run_ends exact before after {a = a} {b = b} Whole is h says =
-    let o = subst (λ s. Offers 4096 (PutsRun exact before after s) a b) is h in
-    none_shown (PutsItemsUnder Whole before after a.budget) StopsWhereNone
-    (λ z rest is. (refl, is)) 4096 says (omega arith) o.shows o.front o.is
+    (Err (Read error))
+run_broke before after Whole error breaks = record {
+  moves = record { by = breaks_broke breaks; depth = λ none. refl };
+  ok = tt;
+  err = λ xs told. tt;
+}
 
-pub run_items : (exact : Type 0) (before after : List Value) (size : ℕ) {seen : Ran} {a m : View}
-    → seen ≡ run.Whole size → Offers 4096 (PutsRun exact before after seen) a m
-    → KeepsItems before after
-run_items exact before after size {a = a} {m = m} is h kept =
-    let o = subst (λ s. Offers 4096 (PutsRun exact before after s) a m) is h in
-    subst (λ x. AreItems (items_view x)) (sym o.is.is)
-    (AreItems-append before o.is.new kept o.is.stand.ranged)
+pub still_are : {before after : List Value} → after ≡ before → KeepsItems before after
+still_are is are = subst (λ vs. AreItems (items_view vs)) (sym is) are
 
--- ---- behind a look at the first byte
-
-module _ (Whole : Budget → Tree → Type 0) {E : Type 0} (first : ℕ) {a m : View}
-    (p : Runs {V = ℕ} {E = E} (peek_at value_name 1) a m (Ok first)) where
-  pub no_run_ahead : (items : List Value)
-      → Does {V = Unit {0}} {E = E} (PutsItemsUnder Whole items items a.budget) StopsWhereNone a m
-      (Ok tt)
-  no_run_ahead items =
-      does_ok (PutsItemsUnder Whole items items a.budget) StopsWhereNone
-      (reached_as (λ xs ys. (rest : List ℕ) × (xs ≡ first ∷ rest) × (ys ≡ xs))
-      (λ xs ys. PutsItemsUnder Whole items items a.budget xs tt ys)
-      (λ xs ys h budget step.
-      ([], sym (append-nil items), (no_trees, refl, tt, refl, sym h.2)))
-      (reached_peek value_name 1 first p))
-
-  pub run_behind : (before after : List Value) {r : Result (Unit {0}) (DecodeError E)} {b : View}
-      → Does (PutsItemsUnder Whole before after m.budget) StopsWhereNone m b r
-      → Does (PutsItemsUnder Whole before after a.budget) StopsWhereNone a b r
-  run_behind before after {r = r} {b = b} d =
-      let seen = reached_as (λ xs ys. (rest : List ℕ) × (xs ≡ first ∷ rest) × (ys ≡ xs))
-      (λ xs ys. ys ≡ xs) (λ xs ys h. h.2) (reached_peek value_name 1 first p) in
-      subst (λ o. Does (PutsItemsUnder Whole before after o) StopsWhereNone a b r) seen.kept.budget
-      (does_after (λ xs ys. ys ≡ xs) (PutsItemsUnder Whole before after m.budget)
-      (PutsItemsUnder Whole before after m.budget) StopsWhereNone StopsWhereNone
-      (λ xs ys zs v e h. subst (λ x. PutsItemsUnder Whole before after m.budget x v zs) e h)
-      (λ xs ys z rest e s. subst (λ x. StopsWhereNone x z rest) e s) seen d)
-
--- ---- under a step
-
-module _ (Whole : Budget → Tree → Type 0) where
-  pub no_run : (items : List Value) {E : Type 0} {a b : View} → StepsIn a.budget b.budget false
-      → KeepsAllButBudget a b
-      → Does {V = Unit {0}} {E = E} (PutsItems Whole items items a.budget) (StopsAtNoValue a.budget)
-      a b (Ok tt)
-  no_run items {a = a} {b = b} takes k =
-      does_ok (PutsItems Whole items items a.budget) (StopsAtNoValue a.budget) (record {
-        kept = kept_budget a b k (no_step a.budget b.budget takes).1;
-        at = λ xs told. (
-          xs,
-          k.told ∙ told,
-          ([], sym (append-nil items), (no_trees, refl, tt, refl, refl)),
-        );
-      })
-
-  pub run_stepped : (before after : List Value) {E : Type 0}
-      {r : Result (Unit {0}) (DecodeError E)} {a b c d : View} → StepsIn a.budget b.budget true
-      → KeepsAllButBudget a b
-      → Does (PutsItemsUnder Whole before after b.budget) StopsWhereNone b c r
-      → d.budget ≡ step_back c.budget → KeepsAllButBudget c d
-      → Does (PutsItems Whole before after a.budget) (StopsAtNoValue a.budget) a d r
-  run_stepped before after {a = a} {b = b} takes inward w gives outward =
-      let step = steps_in a.budget b.budget takes in
-      does_stepped (PutsItemsUnder Whole before after b.budget)
-      (PutsItems Whole before after a.budget) StopsWhereNone (StopsAtNoValue a.budget)
-      (λ xs ys v h. h a.budget step)
-      (λ xs e rest h. record { inner = b.budget; step = step; none = h })
-      takes inward w gives outward
+pub none_lacks : (full : ℕ) (before after : List Value) → after ≡ before → length before < full
+    → length after < full
+none_lacks full before after is lacks = subst (λ vs. length vs < full) (sym is) lacks
 
 -- ---- behind other items
 
@@ -349,10 +567,179 @@ join_items W vs ws xs ys zs h k = (
   h.4 ∙ ap (λ r. bytes_all h.0 ++ r) k.4 ∙ sym (bytes-join h.0 k.0 zs),
 )
 
-module _ (Whole : Budget → Tree → Type 0) (items after : List Value) {a m : View}
+-- behind more values before them
+stopped_further : (W : Tree → Type 0) (stop : Stopping) (vs : List Value) (full : ℕ)
+    (xs ys : List ℕ) (z : Refusal) (rest : List ℕ) → ReadsEach W (length vs) xs vs ys
+    → StopsInCount W stop (full - length vs) ys z rest → StopsInCount W stop full xs z rest
+stopped_further W stop vs full xs ys z rest h s = record {
+  front = join h.0 s.front;
+  after = s.after;
+  few = omega (arith, count-join h.0 s.front, h.1, s.few);
+  whole = each-join W h.0 s.front h.2 s.whole;
+  is =
+      h.4 ∙ ap (λ r. bytes_all h.0 ++ r) s.is ∙ sym (bytes-join h.0 s.front s.after);
+  stopped = s.stopped;
+}
+
+-- ---- a turn: a run, and the value behind it
+
+-- what it says of a value that it is read, or refused, where its step was taken
+pub record OneUnder (Whole : Budget → Tree → Type 0) (stops : Budget → Stopping)
+    (reads_under : Budget → Accepting Value) (stops_under : Budget → Stopping) : Type 0 where
+  pub reads : (budget inner : Budget) → step_in budget ≡ Some inner → (xs : List ℕ) (v : Value)
+      (ys : List ℕ) → reads_under inner xs v ys → ReadsEach (Whole budget) 1 xs (v ∷ []) ys
+  pub refuses : (budget inner : Budget) → step_in budget ≡ Some inner → (xs : List ℕ) (z : Refusal)
+      (rest : List ℕ) → stops_under inner xs z rest → stops budget xs z rest
+
+pub stopped_behind : (W : Tree → Type 0) (stop : Stopping) (vs : List Value) (room : ℕ)
+    (xs ys : List ℕ) (z : Refusal) (rest : List ℕ) → ReadsEach W (length vs) xs vs ys
+    → length vs < room → stop ys z rest → StopsInCount W stop room xs z rest
+stopped_behind W stop vs room xs ys z rest h few s = record {
+  front = h.0;
+  after = ys;
+  few = omega (arith, h.1, few);
+  whole = h.2;
+  is = h.4;
+  stopped = s;
+}
+
+module _ (Whole : Budget → Tree → Type 0) (stops : Budget → Stopping)
+    (reads_under : Budget → Accepting Value) (stops_under : Budget → Stopping)
+    (one : OneUnder Whole stops reads_under stops_under) (full : ℕ) (before : List Value)
+    {E : Type 0} {a : View} where
+  -- no byte is left
+  pub turn_ends : (after : List Value) {e : DecodeError E} {b : View} → length before < full
+      → ((xs : List ℕ) (z : Refusal) (rest : List ℕ) → StopsWhereNone xs z rest
+      → stops_under a.budget xs z rest)
+      → Does {V = Unit {0}} {E = E} (PutsItemsUnder Whole before after a.budget) StopsWhereNone a b
+      (Err e)
+      → Does {V = Unit {0}} {E = E} (PutsItemsUnder Whole before after a.budget)
+      (StopsItemsUnder Whole stops (full - length before) a.budget) a b (Err e)
+  turn_ends after lacks ends d =
+      does_err (λ xs ys. xs ≡ ys) (PutsItemsUnder Whole before after a.budget)
+      (PutsItemsUnder Whole before after a.budget) StopsWhereNone
+      (StopsItemsUnder Whole stops (full - length before) a.budget)
+      (λ xs ys z rest is s budget step.
+      stopped_behind (Whole budget) (stops budget) [] (full - length before) xs xs z rest
+      (no_trees, refl, tt, refl, refl) (omega (arith, lacks))
+      (one.refuses budget a.budget step xs z rest
+      (subst (λ x. stops_under a.budget x z rest) (sym is) (ends ys z rest s))))
+      (reached_start (λ xs ys. xs ≡ ys) a (λ xs. refl)) d
+
+  module _ (mid : List Value) {m : View} (first : ℕ)
+      (run : RunsBefore E Whole first before mid a m) where
+    -- the run, and a value behind it
+    pub turn_value : (after : List Value) {v : Value} {b : View} → after ≡ mid ++ v ∷ []
+        → DoesBehindLook {E = E} first reads_under stops_under m b (Ok v)
+        → Does {V = Unit {0}} {E = E} (PutsItemsUnder Whole before after a.budget)
+        (StopsItemsUnder Whole stops (full - length before) a.budget) a b (Ok tt)
+    turn_value after {v = v} is d =
+        does_ok (PutsItemsUnder Whole before after a.budget)
+        (StopsItemsUnder Whole stops (full - length before) a.budget)
+        (reached_then (λ xs ys. PutsItemsUnder Whole before mid a.budget xs tt ys)
+        (λ xs ys. reads_under run.mid.budget xs v ys)
+        (λ xs ys. PutsItemsUnder Whole before after a.budget xs tt ys)
+        (λ xs ys zs h s budget step.
+        let p = h budget step in
+        let r = one.reads budget a.budget step ys v zs
+        (subst (λ o. reads_under o ys v zs) run.puts.moves.by.budget s) in (
+          p.0 ++ v ∷ [],
+          is ∙ ap (λ r. r ++ v ∷ []) p.1 ∙ append_assoc before p.0 (v ∷ []),
+          join_items (Whole budget) p.0 (v ∷ []) xs ys zs p.2 r,
+        ))
+        (reached_by run.puts) (reached_by (d run.mid run.shows.runs)))
+
+    -- the value is refused
+    pub turn_refused : {V : Type 0} (B : Accepting V) {e : DecodeError E} {b : View}
+        → length mid < full
+        → DoesBehindLook {V = Value} {E = E} first reads_under stops_under m b (Err e)
+        → Does {V = V} B (StopsItemsUnder Whole stops (full - length before) a.budget) a b (Err e)
+    turn_refused B lacks d =
+        does_err (λ xs ys. PutsItemsUnder Whole before mid a.budget xs tt ys)
+        (reads_under run.mid.budget) B (stops_under run.mid.budget)
+        (StopsItemsUnder Whole stops (full - length before) a.budget)
+        (λ xs ys z rest h s budget step.
+        let p = h budget step in
+        stopped_behind (Whole budget) (stops budget) p.0 (full - length before) xs ys z rest p.2
+        (omega (arith, lacks, ap length p.1, length-append before p.0))
+        (one.refuses budget a.budget step ys z rest
+        (subst (λ o. stops_under o ys z rest) run.puts.moves.by.budget s)))
+        (reached_by run.puts) (d run.mid run.shows.runs)
+
+    -- the value is put behind the run, or there is no memory for that
+    pub turn_put : (after : List Value) {v : Value} {b : View} (r : Option (Unit {0}))
+        (failure : Option (DecodeError E)) → OnSome r (after ≡ mid ++ v ∷ [])
+        → IfNone r (failure ≡ None) → DoesBehindLook {E = E} first reads_under stops_under m b (Ok v)
+        → Does {V = Unit {0}} {E = E} (PutsItemsUnder Whole before after a.budget)
+        (StopsItemsUnder Whole stops (full - length before) a.budget) a b (answered r failure)
+    turn_put after (Some u) failure is none d = turn_value after is d
+    turn_put after None failure is none d =
+        does_no_memory (PutsItemsUnder Whole before after a.budget)
+        (StopsItemsUnder Whole stops (full - length before) a.budget) (ap refusal_left none)
+        (kept_then run.puts.moves.by (d run.mid run.shows.runs).moves.by)
+
+-- ---- what a run answers
+
+pub run_before : {E : Type 0} (Whole : Budget → Tree → Type 0) (before after : List Value)
+    {a b : View} {found : Option ℕ} (first : ℕ) (failure : Option (DecodeError E))
+    → found ≡ Some first → TakesBy Whole before after a b (Some found) failure
+    → RunsBefore E Whole first before after a b
+run_before Whole before after {a = a} {b = b} first failure is t =
+    subst (λ o. TakesBy Whole before after a b (Some o) failure) is t
+
+pub on_found : {A : Type 0} {P : Type 0} {found : Option A} (v : A) → found ≡ Some v
+    → OnSome found P → P
+on_found {P = P} v is h = subst (λ o. OnSome o P) is h
+
+pub put_items : {A : Type 0} (before mid after : List Value) (v : Value) (r : Option A)
+    → OnSome r (after ≡ mid ++ v ∷ []) → KeepsItems before mid → IsItem (view v)
+    → OnSome r (KeepsItems before after)
+put_items before mid after v (Some u) is keeps ranged =
+    λ are. items_are after mid v is (keeps are) ranged
+put_items before mid after v None is keeps ranged = tt
+
+-- under a step
+pub turn_stepped : (Whole : Budget → Tree → Type 0) (stops : Budget → Stopping) (room : ℕ)
+    (before after : List Value) {E : Type 0}
+    {r : Result (Unit {0}) (DecodeError E)} {a b c d : View} → StepsIn a.budget b.budget true
+    → KeepsAllButBudget a b
+    → Does (PutsItemsUnder Whole before after b.budget)
+    (StopsItemsUnder Whole stops room b.budget) b c r
+    → d.budget ≡ step_back c.budget → KeepsAllButBudget c d
+    → Does (PutsItems Whole before after a.budget)
+    (StopsInCount (Whole a.budget) (stops a.budget) room) a d r
+turn_stepped Whole stops room before after {a = a} {b = b} takes inward w gives outward =
+    let step = steps_in a.budget b.budget takes in
+    does_stepped (PutsItemsUnder Whole before after b.budget)
+    (PutsItems Whole before after a.budget) (StopsItemsUnder Whole stops room b.budget)
+    (StopsInCount (Whole a.budget) (stops a.budget) room)
+    (λ xs ys v h. h a.budget step) (λ xs e rest h. h a.budget step)
+    takes inward w gives outward
+
+-- no step is left
+pub turn_unstepped : (Whole : Budget → Tree → Type 0) (stops : Budget → Stopping) (full : ℕ)
+    (before after : List Value) {E : Type 0} {e : DecodeError E} {a b : View}
+    → length before < full → refusal_of e ≡ Some (depth_overflow value_name) → is_read e ≡ false
+    → (a.budget ≡ Some 0 → (xs : List ℕ)
+    → stops a.budget xs (depth_overflow value_name) xs)
+    → StepsIn a.budget b.budget false → KeepsAllButBudget a b
+    → Does {V = Unit {0}} (PutsItems Whole before after a.budget)
+    (StopsInCount (Whole a.budget) (stops a.budget) (full - length before)) a b (Err e)
+turn_unstepped Whole stops full before after {a = a} lacks says read f takes k =
+    does_no_step value_name (PutsItems Whole before after a.budget)
+    (StopsInCount (Whole a.budget) (stops a.budget) (full - length before)) says read
+    (λ none xs. stopped_behind (Whole a.budget) (stops a.budget) [] (full - length before) xs xs
+    (depth_overflow value_name) xs (no_trees, refl, tt, refl, refl) (omega (arith, lacks))
+    (f none xs)) takes k
+
+-- ---- turns, one behind another
+
+module _ (Whole : Budget → Tree → Type 0) (stops : Budget → Stopping) (full : ℕ)
+    (items after : List Value) {a m : View}
     (p : Reached (λ xs ys. ReadsEach (Whole a.budget) (length items) xs items ys) a m) where
   pub ran : {E : Type 0} {u : Unit {0}} {b : View}
-      → Does {E = E} (PutsItems Whole items after m.budget) (StopsAtNoValue m.budget) m b (Ok u)
+      → Does {E = E} (PutsItems Whole items after m.budget)
+      (StopsInCount (Whole m.budget) (stops m.budget) (full - length items)) m b (Ok u)
       → Reached (λ xs ys. ReadsEach (Whole a.budget) (length after) xs after ys) a b
   ran {u = u} d =
       reached_then (λ xs ys. ReadsEach (Whole a.budget) (length items) xs items ys)
@@ -364,17 +751,19 @@ module _ (Whole : Budget → Tree → Type 0) (items after : List Value) {a m : 
       (subst (λ o. ReadsEach (Whole o) (length s.0) ys s.0 zs) p.kept.budget s.2)))
       p (reached_by d)
 
-  pub run_stops : {V E : Type 0} (B : Accepting V) (T : Stopping)
-      → ((xs ys : List ℕ) (z : Refusal) (rest : List ℕ)
-      → ReadsEach (Whole a.budget) (length items) xs items ys → StopsAtNoValue a.budget ys z rest
-      → T xs z rest) → {e : DecodeError E} {b : View}
-      → Does {V = Unit {0}} (PutsItems Whole items after m.budget) (StopsAtNoValue m.budget) m b
-      (Err e) → Does {V = V} B T a b (Err e)
-  run_stops B T f d =
+  pub run_stops : {V E : Type 0} (B : Accepting V) → {e : DecodeError E} {b : View}
+      → Does {V = Unit {0}} (PutsItems Whole items after m.budget)
+      (StopsInCount (Whole m.budget) (stops m.budget) (full - length items)) m b (Err e)
+      → Does {V = V} B (StopsInCount (Whole a.budget) (stops a.budget) full) a b (Err e)
+  run_stops B d =
       does_err (λ xs ys. ReadsEach (Whole a.budget) (length items) xs items ys)
-      (PutsItems Whole items after m.budget) B (StopsAtNoValue m.budget) T
-      (λ xs ys z rest h s. f xs ys z rest h
-      (subst (λ o. StopsAtNoValue o ys z rest) p.kept.budget s)) p d
+      (PutsItems Whole items after m.budget) B
+      (StopsInCount (Whole m.budget) (stops m.budget) (full - length items))
+      (StopsInCount (Whole a.budget) (stops a.budget) full)
+      (λ xs ys z rest h s. stopped_further (Whole a.budget) (stops a.budget) items full xs ys z rest
+      h
+      (subst (λ o. StopsInCount (Whole o) (stops o) (full - length items) ys z rest) p.kept.budget
+      s)) p d
 
 -- ---- pairs
 
@@ -383,24 +772,6 @@ abbrev pub ReadsPairs : (Tree → Type 0) → ℕ → List ℕ → List (Value �
 ReadsPairs W n xs ms ys =
     (ps : Pairs) × (pair_count ps ≡ n) × EachPair W ps × (member_values ps ≡ members_view ms)
     × (xs ≡ bytes_pairs ps ++ ys)
-
-pub no_pairs_yet : (W : Tree → Type 0) (ms : List (Value × Value)) → ms ≡ [] → (xs : List ℕ)
-    → ReadsPairs W (length ms) xs ms xs
-no_pairs_yet W ms e xs =
-    subst (λ us. ReadsPairs W (length us) xs us xs) (sym e) (no_pairs, refl, tt, refl, refl)
-
-values-flat : (ps : Pairs) (ms : List (Value × Value)) → member_values ps ≡ members_view ms
-    → values (flat ps) ≡ items_view (flat_values ms)
-unfolding flat
-values-flat no_pairs [] e = refl
-values-flat no_pairs (m ∷ ms) e = cc
-values-flat (pair k v ps) [] e = cc
-values-flat (pair k v ps) (m ∷ ms) e =
-    let key : value k ≡ view m.0 = cc in
-    let behind : value v ≡ view m.1 = cc in
-    let tail : member_values ps ≡ members_view ms = cc in
-    let more = values-flat ps ms tail in
-    cc (key, behind, more)
 
 -- the trees of keys and values, in pairs again
 in_pairs : (W : Tree → Type 0) (ms : List (Value × Value)) (ts : Trees)
@@ -424,17 +795,6 @@ in_pairs W (m ∷ ms) (tree k (tree v ts)) n h e =
       ap (λ z. bytes k ++ (bytes v ++ z)) r.4,
     )
 
-flat_items : (W : Tree → Type 0) (ms : List (Value × Value)) (xs ys : List ℕ)
-    → ReadsPairs W (length ms) xs ms ys
-    → ReadsEach W (length (flat_values ms)) xs (flat_values ms) ys
-flat_items W ms xs ys h = (
-  flat h.0,
-  count-flat h.0 ∙ ap (λ j. 2 * j) h.1 ∙ sym (length-flat ms),
-  each-flat W h.0 h.2,
-  values-flat h.0 ms h.3,
-  h.4 ∙ ap (λ r. r ++ ys) (sym (bytes-flat h.0)),
-)
-
 pairs_of : (W : Tree → Type 0) (ms : List (Value × Value)) (xs ys : List ℕ)
     → ReadsEach W (length (flat_values ms)) xs (flat_values ms) ys
     → ReadsPairs W (length ms) xs ms ys
@@ -442,55 +802,66 @@ pairs_of W ms xs ys h =
     let r = in_pairs W ms h.0 h.1 h.2 h.3 in
     (r.0, r.1, r.2, r.3, h.4 ∙ ap (λ z. z ++ ys) r.4)
 
-module _ (Whole : Budget → Tree → Type 0) (pairs after : List (Value × Value)) {a m : View}
-    (p : Reached (λ xs ys. ReadsPairs (Whole a.budget) (length pairs) xs pairs ys) a m) where
-  as_items : Reached (λ xs ys. ReadsEach (Whole a.budget) (length (flat_values pairs)) xs
-      (flat_values pairs) ys) a m
-  as_items =
-      record {
-        kept = p.kept;
-        at = λ xs told.
-            let s = p.at xs told in
-            (s.0, s.1, flat_items (Whole a.budget) pairs xs s.0 s.2);
-      }
+-- of twice as many values no key is left without its value
+whole_pairs : (ms : List (Value × Value)) (key : Option Value) (n : ℕ)
+    → length (flat_pairs ms key) ≡ 2 * n → (flat_pairs ms key ≡ flat_values ms) × (length ms ≡ n)
+whole_pairs ms None n e = (refl, omega (arith, e, length-flat ms))
+whole_pairs ms (Some k) n e =
+    absurd (omega (arith, e, length-append (flat_values ms) (k ∷ []), length-flat ms))
 
-  pub ran_pairs : {E : Type 0} {u : Unit {0}} {b : View}
-      → Does {E = E} (PutsItems Whole (flat_values pairs) (flat_values after) m.budget)
-      (StopsAtNoValue m.budget) m b (Ok u)
-      → Reached (λ xs ys. ReadsPairs (Whole a.budget) (length after) xs after ys) a b
-  ran_pairs d =
-      let r = ran Whole (flat_values pairs) (flat_values after) as_items d in
-      record {
-        kept = r.kept;
-        at = λ xs told.
-            let s = r.at xs told in
-            (s.0, s.1, pairs_of (Whole a.budget) after xs s.0 s.2);
-      }
-
-  pub pairs_stop : {V E : Type 0} (B : Accepting V) (T : Stopping)
-      → ((xs ys : List ℕ) (z : Refusal) (rest : List ℕ)
-      → ReadsPairs (Whole a.budget) (length pairs) xs pairs ys → StopsAtNoValue a.budget ys z rest
-      → T xs z rest) → {e : DecodeError E} {b : View}
-      → Does {V = Unit {0}} (PutsItems Whole (flat_values pairs) (flat_values after) m.budget)
-      (StopsAtNoValue m.budget) m b (Err e) → Does {V = V} B T a b (Err e)
-  pairs_stop B T f d =
-      does_err (λ xs ys. ReadsPairs (Whole a.budget) (length pairs) xs pairs ys)
-      (PutsItems Whole (flat_values pairs) (flat_values after) m.budget) B (StopsAtNoValue m.budget)
-      T (λ xs ys z rest h s. f xs ys z rest h
-      (subst (λ o. StopsAtNoValue o ys z rest) p.kept.budget s)) p d
+pub pairs_are_read : (W : Tree → Type 0) (ms : List (Value × Value)) (key : Option Value) (n : ℕ)
+    (xs ys : List ℕ) → length (flat_pairs ms key) ≡ 2 * n
+    → ReadsEach W (length (flat_pairs ms key)) xs (flat_pairs ms key) ys → ReadsPairs W n xs ms ys
+pairs_are_read W ms key n xs ys e h =
+    let w = whole_pairs ms key n e in
+    subst (λ j. ReadsPairs W j xs ms ys) w.1
+    (pairs_of W ms xs ys (subst (λ us. ReadsEach W (length us) xs us ys) w.0 h))
 
 -- ---- pairs stay in range
-
-flat_are : (ms : List (Value × Value)) → AreMembers (members_view ms)
-    → AreItems (items_view (flat_values ms))
-flat_are [] h = tt
-flat_are (m ∷ ms) h = (h.0, (h.1, flat_are ms h.2))
 
 members_of_flat : (ms : List (Value × Value)) → AreItems (items_view (flat_values ms))
     → AreMembers (members_view ms)
 members_of_flat [] h = tt
 members_of_flat (m ∷ ms) h = (h.0, h.1.0, members_of_flat ms h.1.1)
 
-pub keeps_members : (ms ns : List (Value × Value)) → KeepsItems (flat_values ms) (flat_values ns)
-    → AreMembers (members_view ms) → AreMembers (members_view ns)
-keeps_members ms ns keeps h = members_of_flat ns (keeps (flat_are ms h))
+pub pairs_are : (ms : List (Value × Value)) (key : Option Value) (n : ℕ)
+    → length (flat_pairs ms key) ≡ 2 * n → AreItems (items_view (flat_pairs ms key))
+    → AreMembers (members_view ms)
+pairs_are ms key n e h =
+    members_of_flat ms
+    (subst (λ us. AreItems (items_view us)) (whole_pairs ms key n e).0 h)
+
+-- all are there
+pub both_there : (ms : List (Value × Value)) (key : Option Value) (most : ℕ)
+    → length (flat_pairs ms key) ≤ 2 * most → 2 * most ≤ length (flat_pairs ms key)
+    → length (flat_pairs ms key) ≡ 2 * most
+both_there ms key most few full = omega (arith, few, full)
+
+-- of one value a part, so many parts
+pub stop_alone : (Whole : Budget → Tree → Type 0) (stops : Budget → Stopping) (n : ℕ)
+    (budget : Budget) {V E : Type 0} (B : Accepting V) {e : DecodeError E} {a b : View}
+    → Does {V = V} B (StopsInCount (Whole budget) (stops budget) (1 * n)) a b (Err e)
+    → Does {V = V} B (StopsInCount (Whole budget) (stops budget) n) a b (Err e)
+stop_alone Whole stops n budget {V = V} B {e = e} {a = a} {b = b} d =
+    let one : 1 * n ≡ n = omega arith in
+    subst (λ j. Does {V = V} B (StopsInCount (Whole budget) (stops budget) j) a b (Err e)) one d
+
+-- ---- what is said of one value
+
+pub one_read : OneUnder Readable StopsOneValue ReadsUnder StopsUnder
+one_read = record {
+  reads = λ budget inner step xs v ys h.
+      let t = h budget step in (
+        tree t.0 no_trees,
+        refl,
+        (t.1, tt),
+        ap (λ i. item i no_items) t.2,
+        t.3 ∙ ap (λ r. r ++ ys) (sym (append-nil (bytes t.0))),
+      );
+  refuses = λ budget inner step xs z rest h. stops_under inner budget xs z rest step h;
+}
+
+-- no byte is left where a value is to begin
+pub none_under : (budget : Budget) (xs : List ℕ) (z : Refusal) (rest : List ℕ)
+    → StopsWhereNone xs z rest → StopsUnder budget xs z rest
+none_under budget xs z rest s = subst (λ x. StopsUnder budget x z rest) (sym s.0) s.1

@@ -2,7 +2,7 @@
 use Rattle.std.proofs.Common.{◌≡◌, ◌≢◌, ℕ, suc, ◌+◌, ◌-◌, ◌*◌, ◌/◌, ◌%◌, ◌^◌, ◌<◌, ◌≤◌, ℤ, List}
 use Rattle.std.proofs.Common.{[], ◌∷◌, ◌++◌, length, take, drop, take-append-drop, length-append}
 use Rattle.std.proofs.Common.{length-drop, Result, Ok, Err, Option, Some, None, refl, sym, ap, ◌∙◌}
-use Rattle.std.proofs.Common.{subst, arith}
+use Rattle.std.proofs.Common.{subst, arith, ◌⊎◌, get_or}
 use Rattle.std.proofs.Math.Seq.{take-append_seam, take-add}
 use Rattle.std.proofs.lemmas.List.{length-take-le}
 use Rattle.std.specs.Int.{bytes_high_first}
@@ -18,18 +18,21 @@ use Rattle.cbor4ii_items.specs.Head.{in_first, one, two, four, eight, head}
 use Rattle.cbor4ii_items.specs.Laws.Heads.{length-bytes_high_first}
 use Rattle.cbor4ii_items.specs.Laws.Answering.{fits_zero}
 use Rattle.cbor4ii_items.specs.Laws.Contents.{lends_front}
-use Rattle.cbor4ii_rw.specs.Reader.{Advances, Shows}
+use Rattle.cbor4ii_rw.specs.Reader.{Advances, IsFront, Shows}
 use Rattle.cbor4ii_rw.specs.declared.error.DecodeError.{DecodeError}
-use Rattle.cbor4ii_items.specs.Laws.Running.{shows_kept}
-use Rattle.cbor4ii_rw.specs.View.{View}
+use Rattle.cbor4ii_items.specs.Laws.Running.{runs_peek}
+use Rattle.cbor4ii_items.specs.Reading.{Runs, peek_at}
+use Rattle.cbor4ii_rw.specs.View.{View, Told}
 use Rattle.cbor4ii_tree.specs.Cost.{Budget}
 use Rattle.cbor4ii_tree.specs.Does.{Accepting, Does}
 use Rattle.cbor4ii_tree.specs.Front.{Offers}
 use Rattle.cbor4ii_tree.specs.Item.{integer, float, IsItem}
 use Rattle.cbor4ii_tree.specs.Laws.Binds.{step_up}
-use Rattle.cbor4ii_tree.specs.Leaf.{ExactHead, StandsAhead, SeesLeaf, TakesLeaf}
+use Rattle.cbor4ii_tree.specs.Leaf.{DoesBehindLook, ExactHead, StandsAhead, SeesLeaf, ShowsFirst}
+use Rattle.cbor4ii_tree.specs.Leaf.{TakesLeaf, WantsContent}
 use Rattle.cbor4ii_tree.specs.Meaning.{number, simple_item, content_item}
-use Rattle.cbor4ii_tree.specs.Refusal.{Small, value_name}
+use Rattle.cbor4ii_tree.specs.Refusal.{value_name}
+use Rattle.cbor4ii_tree.specs.Refusal.{Small}
 use Rattle.cbor4ii_tree.specs.Stops.{Stopping}
 use Rattle.cbor4ii_tree.specs.Strictly.{ReadsExactlyUnder, StopsExactlyUnder, raise}
 use Rattle.cbor4ii_tree.specs.Tree.{int, bits, simple, string, bytes, TextIsUtf8}
@@ -38,11 +41,14 @@ use Rattle.cbor4ii_tree.specs.View.{view}
 use Rattle.cbor4ii_tree.specs.declared.value.Value.{Value, Integer, Float}
 use Rattle.cbor4ii_tree.specs.declared.value.FloatBits.{FloatBits}
 use Rattle.cbor4ii_tree.specs.declared.leaf.Leaf.{Leaf}
-use Rattle.cbor4ii_tree.specs.declared.leaf.Leaf.TheVariants.{Whole, NoMemory, End}
+use Rattle.cbor4ii_tree.specs.declared.leaf.Leaf.TheVariants.{Whole, NoMemory, End, Begins}
+use Rattle.cbor4ii_tree.specs.declared.leaf.Looked.{Looked}
+use Rattle.cbor4ii_tree.specs.declared.leaf.Looked.TheVariants.{Taken}
+use Rattle.cbor4ii_tree.specs.declared.leaf.Looked.TheVariants as looked
 use Rattle.cbor4ii_rw.specs.declared.error.DecodeError.TheVariants.{OutOfMemory, Eof}
 use Rattle.cbor4ii_items.specs.Decoding.{CostFits}
 use Rattle.cbor4ii_tree.proofs.canonical.Exactly.{fits_raise}
-use Rattle.cbor4ii_tree.proofs.skip_calls.Doing.{does_ok, does_no_memory, does_after}
+use Rattle.cbor4ii_tree.proofs.skip_calls.Doing.{does_ok, does_no_memory}
 use Rattle.cbor4ii_tree.proofs.heads.Inverse.{IsBytes-take}
 use Rattle.cbor4ii_tree.proofs.values.Calls.{fits_less}
 use Rattle.cbor4ii_tree.proofs.values.Ends.{Ending, none_shown}
@@ -203,15 +209,41 @@ simple_ahead b n k bs v small s = record {
   is = ap (λ c. c ∷ []) s.1;
 }
 
+-- ---- so many bytes may be taken
+
+pub record MayTake (size : ℕ) (shown : List ℕ) : Type 0 where
+  pub within : size ≤ length shown
+  pub fresh : IsBytes (take size shown)
+
+-- the head of a string
+pub wants_may : (n : ℕ) (shown : List ℕ) → WantsContent n shown → MayTake n shown
+wants_may n shown w = record {
+  within = omega (arith, w.head, w.whole, ap length w.begins);
+  fresh = w.fresh;
+}
+
+-- ---- the byte that was shown first
+
+pub shows_first : {E : Type 0} (first : ℕ) (behind : List ℕ) {shown : List ℕ} {a m : View}
+    → Shows shown a m → Told a.told (IsFront 1 shown) → shown ≡ first ∷ behind
+    → ShowsFirst E first a m
+shows_first {E = E} first behind {shown = shown} {a = a} {m = m} shows front is = record {
+  runs =
+      subst (λ b. Runs {E = E} (peek_at value_name 1) a m (Ok b))
+      (ap (λ xs. get_or xs 0 0) is)
+      (runs_peek value_name 1 shows front (λ none. let e = ap length is in cc));
+  can = omega (arith, shows.advanceable, ap length is);
+}
+
 -- ---- what a look decides is taken
 
 module _ {E : Type 0} (exact : Type 0) {a m b : View} where
   taken : (A : Accepting Value) (S : Stopping) (v : Value) (size : ℕ) {seen : Leaf}
-      → seen ≡ Whole v size → Offers 4096 (SeesLeaf exact seen) a m → Advances size m b
+      → seen ≡ Whole v size → Offers 1 (SeesLeaf exact seen) a m → Advances size m b
       → ((shown xs ys : List ℕ) → (l : StandsAhead exact v size shown) → xs ≡ bytes l.item ++ ys
       → A xs v ys) → Does {E = E} A S a b (Ok v)
   taken A S v size is h adv f =
-      let o = subst (λ s. Offers 4096 (SeesLeaf exact s) a m) is h in
+      let o = subst (λ s. Offers 1 (SeesLeaf exact s) a m) is h in
       let l = lends_front o.shows o.front o.is.within o.is.fresh refl adv in
       does_ok A S (record {
         kept = l.kept;
@@ -225,7 +257,7 @@ module _ {E : Type 0} (exact : Type 0) {a m b : View} where
       })
 
   pub takes_leaf : (v : Value) (size : ℕ) {seen : Leaf} → seen ≡ Whole v size
-      → Offers 4096 (SeesLeaf exact seen) a m → Advances size m b
+      → Offers 1 (SeesLeaf exact seen) a m → Advances size m b
       → Does {E = E} (ReadsUnder a.budget) (StopsUnder a.budget) a b (Ok v)
   takes_leaf v size is h adv =
       taken (ReadsUnder a.budget) (StopsUnder a.budget) v size is h adv
@@ -241,7 +273,7 @@ module _ {E : Type 0} (exact : Type 0) {a m b : View} where
       ))
 
   pub takes_exact_leaf : (v : Value) (size : ℕ) {seen : Leaf} → seen ≡ Whole v size
-      → Offers 4096 (SeesLeaf exact seen) a m → Advances size m b → exact
+      → Offers 1 (SeesLeaf exact seen) a m → Advances size m b → exact
       → Does {E = E} (ReadsExactlyUnder a.budget) (StopsExactlyUnder a.budget) a b (Ok v)
   takes_exact_leaf v size is h adv holds =
       taken (ReadsExactlyUnder a.budget) (StopsExactlyUnder a.budget) v size is h adv
@@ -257,58 +289,47 @@ module _ {E : Type 0} (exact : Type 0) {a m b : View} where
       ))
 
   pub no_content : (A : Accepting Value) (S : Stopping) (size : ℕ) {seen : Leaf}
-      → seen ≡ NoMemory size → Offers 4096 (SeesLeaf exact seen) a m → Advances size m b
+      → seen ≡ NoMemory size → Offers 1 (SeesLeaf exact seen) a m → Advances size m b
       → Does {V = Value} {E = E} A S a b (Err OutOfMemory)
   no_content A S size is h adv =
-      let o = subst (λ s. Offers 4096 (SeesLeaf exact s) a m) is h in
-      let l = lends_front o.shows o.front o.is.within o.is.fresh refl adv in
+      let o = subst (λ s. Offers 1 (SeesLeaf exact s) a m) is h in
+      let may = wants_may size o.shown o.is in
+      let l = lends_front o.shows o.front may.within may.fresh refl adv in
       does_no_memory A S refl l.kept
 
 pub no_value : {E : Type 0} (exact : Type 0) {a b : View} (A : Accepting Value) (S : Stopping)
-    → Ending S → {seen : Leaf} → seen ≡ End → Offers 4096 (SeesLeaf exact seen) a b
+    → Ending S → {seen : Leaf} → seen ≡ End → Offers 1 (SeesLeaf exact seen) a b
     → {name : Bor (List ℕ)} → name.now ≡ value_name
     → Does {V = Value} {E = E} A S a b (Err (Eof name (Small 1)))
 no_value exact {a = a} {b = b} A S ends is h says =
-    let o = subst (λ s. Offers 4096 (SeesLeaf exact s) a b) is h in
-    none_shown A S ends 4096 says (omega arith) o.shows o.front o.is
+    let o = subst (λ s. Offers 1 (SeesLeaf exact s) a b) is h in
+    none_shown A S ends 1 says (omega arith) o.shows o.front o.is
 
 pub leaf_item : (exact : Type 0) {a m : View} (v : Value) (size : ℕ) {seen : Leaf}
-    → seen ≡ Whole v size → Offers 4096 (SeesLeaf exact seen) a m → IsItem (view v)
+    → seen ≡ Whole v size → Offers 1 (SeesLeaf exact seen) a m → IsItem (view v)
 leaf_item exact {a = a} {m = m} v size is h =
-    (subst (λ s. Offers 4096 (SeesLeaf exact s) a m) is h).is.ranged
+    (subst (λ s. Offers 1 (SeesLeaf exact s) a m) is h).is.ranged
 
--- a look takes nothing
-pub looked : {want : ℕ} {P : List ℕ → Type 0} {a b : View} → Offers want P a b → Shows [] a b
-looked o = record {
-  told = o.shows.told;
-  bound = o.shows.bound;
-  advanceable = omega arith;
-  budget = o.shows.budget;
-  failures = o.shows.failures;
-  taken = o.shows.taken;
-  lends_whole = o.shows.lends_whole;
-  remembers = o.shows.remembers;
-  ends_at = o.shows.ends_at;
-}
+-- nothing is taken
+pub undecided : {E : Type 0} (exact : Type 0) {a m : View} (first : ℕ) {seen : Leaf}
+    → seen ≡ Begins first → Offers 1 (SeesLeaf exact seen) a m → ShowsFirst E first a m
+undecided exact {a = a} {m = m} first is h =
+    let o = subst (λ s. Offers 1 (SeesLeaf exact s) a m) is h in
+    shows_first first o.is.0 o.shows o.front o.is.1
 
 -- a value was taken
 pub found_leaf : {E : Type 0} (A : Budget → Accepting Value) (S : Budget → Stopping) {a b : View}
-    {found : Option Value} (v : Value) (failure : Option (DecodeError E)) → found ≡ Some v
-    → TakesLeaf A S a b (Some found) failure
+    {seen : Looked} (v : Value) (failure : Option (DecodeError E)) → seen ≡ Taken v
+    → TakesLeaf A S a b (Some seen) failure
     → Does {E = E} (A a.budget) (S a.budget) a b (Ok v)
 found_leaf A S {a = a} {b = b} v failure is t =
     subst (λ o. TakesLeaf A S a b (Some o) failure) is t
 
 -- nothing was taken yet
 pub after_look : {E : Type 0} (A : Budget → Accepting Value) (S : Budget → Stopping)
-    {r : Result Value (DecodeError E)} {a m b : View} {found : Option Value}
-    (failure : Option (DecodeError E)) → found ≡ None → TakesLeaf A S a m (Some found) failure
-    → Does (A m.budget) (S m.budget) m b r → Does (A a.budget) (S a.budget) a b r
-after_look A S {a = a} {m = m} failure is t d =
-    let s : Shows [] a m = subst (λ o. TakesLeaf A S a m (Some o) failure) is t in
-    does_after (λ xs ys. xs ≡ ys) (A m.budget) (A a.budget) (S m.budget) (S a.budget)
-    (λ xs ys zs v e h. subst (λ x. A a.budget x v zs) (sym e)
-    (subst (λ o. A o ys v zs) s.budget h))
-    (λ xs ys z rest e h. subst (λ x. S a.budget x z rest) (sym e)
-    (subst (λ o. S o ys z rest) s.budget h))
-    (record { kept = shows_kept s; at = λ xs told. (xs, s.told xs told, refl) }) d
+    {r : Result Value (DecodeError E)} {a m b : View} {seen : Looked} (first : ℕ)
+    (failure : Option (DecodeError E)) → seen ≡ looked.Begins first
+    → TakesLeaf A S a m (Some seen) failure → DoesBehindLook first A S m b r
+    → Does (A a.budget) (S a.budget) a b r
+after_look A S {a = a} {m = m} first failure is t d =
+    d a (subst (λ o. TakesLeaf A S a m (Some o) failure) is t).runs

@@ -16,7 +16,7 @@ use Rattle.cbor4ii_items.specs.Initial.{Info, wide, open_ended, reserved, info_o
 use Rattle.cbor4ii_items.specs.Initial.{map_by_info, starts_array, starts_open_array, starts_map}
 use Rattle.cbor4ii_items.specs.Initial.{starts_open_map}
 use Rattle.cbor4ii_items.specs.Laws.SequenceParts.{fits_less}
-use Rattle.cbor4ii_tree.specs.Refusal.{eof, mismatch, depth_overflow, Small, array_name, map_name}
+use Rattle.cbor4ii_tree.specs.Refusal.{array_name, map_name}
 use Rattle.cbor4ii_tree.specs.Refusal.{break_name}
 use Rattle.cbor4ii_tree.specs.Laws.Initials.{initial_array, initial_map, initial_open_array}
 use Rattle.cbor4ii_tree.specs.Laws.Initials.{initial_open_map}
@@ -28,6 +28,7 @@ use Rattle.cbor4ii_tree.specs.Item.{no_members, member, sequence, mapping}
 use Rattle.cbor4ii_tree.specs.Meaning.{value, member_values}
 use Rattle.cbor4ii_tree.specs.Cost.{Budget, step_in, greatest_cost, greatest_pair_cost}
 use Rattle.cbor4ii_tree.specs.Laws.Binds.{step_up}
+use Rattle.cbor4ii_tree.specs.Refusal.{eof, mismatch, depth_overflow, Small}
 use Rattle.cbor4ii_tree.specs.Stops.{Stopping, Is, AtHead, StopsAtStep, StopsInCount, OpenItems}
 use Rattle.cbor4ii_tree.specs.Stops.{OpenPairs, NoBreak}
 use Rattle.cbor4ii_tree.specs.StopsReading.{Readable, ReadingStopsBy, StopsReading}
@@ -44,9 +45,8 @@ use Rattle.cbor4ii_tree.proofs.skip_calls.Doing.{reached_sound, steps_in, does_o
 use Rattle.cbor4ii_tree.proofs.values.Views.{view-Map}
 use Rattle.cbor4ii_tree.proofs.values.Parts.{ReadEach, ReadPairs}
 use Rattle.cbor4ii_tree.proofs.values.Calls.{head_cut, no_head, initial_of, values-push, open_byte}
-use Rattle.cbor4ii_tree.proofs.parts.Pushed.{push, count-push, each-push, bytes-push, push_pair}
-use Rattle.cbor4ii_tree.proofs.parts.Pushed.{count-push_pair, each-push_pair, bytes-push_pair, flat}
-use Rattle.cbor4ii_tree.proofs.parts.Pushed.{count-flat, each-flat, bytes-flat}
+use Rattle.cbor4ii_tree.proofs.parts.Pushed.{push, each-push, bytes-push, push_pair}
+use Rattle.cbor4ii_tree.proofs.parts.Pushed.{each-push_pair, bytes-push_pair}
 use Rattle.cbor4ii_tree.proofs.values.Heads.{at_row, first_is, HeadAt, head_at}
 use Rattle.cbor4ii_tree.proofs.values.Encoding.{view-Array}
 
@@ -352,46 +352,6 @@ values-push_pair (pair j u ps) k v (m ∷ ms) x y e f g =
     let tail : member_values ps ≡ members_view ms = cc in
     let more = values-push_pair ps k v ms x y tail f g in
     cc more
-
-pub members_more : (n : ℕ) (budget : Budget) (ms ns : List (Value × Value)) (m : Value × Value)
-    (xs ys zs : List ℕ) → ns ≡ ms ++ m ∷ [] → ReadsMembers n budget xs ms ys
-    → ReadsMember budget ys m zs → ReadsMembers (n + 1) budget xs ns zs
-members_more n budget ms ns m xs ys zs is h w =
-    let k = w.1 in
-    let v = w.2 in (
-      push_pair h.0 k.0 v.0,
-      count-push_pair h.0 k.0 v.0 ∙ ap (λ j. j + 1) h.1,
-      each-push_pair (Readable budget) h.0 k.0 v.0 h.2 k.1 v.1,
-      values-push_pair h.0 k.0 v.0 ms m.0 m.1 h.3 k.2 v.2 ∙ sym (ap members_view is),
-      h.4 ∙ ap (λ r. bytes_pairs h.0 ++ r) (k.3 ∙ ap (λ r. bytes k.0 ++ r) v.3)
-          ∙ sym (bytes-push_pair h.0 k.0 v.0 zs),
-    )
-
-pub member_stop : (i n : ℕ) (budget : Budget) (ms : List (Value × Value)) (xs ys : List ℕ)
-    (e : Refusal) (rest : List ℕ) → i < n → ReadsMembers i budget xs ms ys
-    → StopsMember budget ys e rest → StopsMembers n budget xs e rest
-member_stop i n budget ms xs ys e rest lt h (inl s) =
-    record {
-      front = flat h.0;
-      after = ys;
-      few = omega (arith, count-flat h.0, h.1, lt);
-      whole = each-flat (Readable budget) h.0 h.2;
-      is = h.4 ∙ ap (λ r. r ++ ys) (sym (bytes-flat h.0));
-      stopped = s;
-    }
-member_stop i n budget ms xs ys e rest lt h (inr k) =
-    record {
-      front = push (flat h.0) k.key;
-      after = k.after;
-      few = omega (arith, count-push (flat h.0) k.key, count-flat h.0, h.1, lt);
-      whole =
-          each-push (Readable budget)
-          (flat h.0) k.key (each-flat (Readable budget) h.0 h.2) k.whole;
-      is =
-          h.4 ∙ ap (λ r. r ++ ys) (sym (bytes-flat h.0)) ∙ ap (λ r. bytes_all (flat h.0) ++ r) k.is
-          ∙ sym (bytes-push (flat h.0) k.key k.after);
-      stopped = k.stopped;
-    }
 
 pub pairs_none : (budget : Budget) (ms : List (Value × Value)) (xs : List ℕ) → ms ≡ []
     → ReadPairs ms budget xs xs

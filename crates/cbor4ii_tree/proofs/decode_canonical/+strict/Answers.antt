@@ -1,9 +1,6 @@
-use Rattle.std.proofs.Common.{refl, sym, ap, subst, inl, arith, ◌∙◌, ◌+◌, ◌*◌, ◌≡◌, [], ◌∷◌}
+use Rattle.std.proofs.Common.{refl, sym, ap, subst, inl, arith, ◌∙◌, ◌+◌, ◌-◌, ◌*◌, ◌≡◌, [], ◌∷◌, w8}
 use Rattle.std.proofs.Common.{length, length-append, Vec, Global}
-use Rattle.cbor4ii_tree.specs.Does.{refusal_left}
 use Rattle.cbor4ii_tree.specs.StopsStrictly.{Exactly}
-use Rattle.cbor4ii_tree.proofs.values.LeafRuns.{none_yet, none_too_many, ran, run_stops}
-use Rattle.cbor4ii_tree.proofs.values.LeafRuns.{no_pairs_yet, ran_pairs, pairs_stop}
 use Rattle.cbor4ii_tree.specs.declared.value.Value.{Value, Array, Map, Tag}
 use Rattle.cbor4ii_tree.specs.Item.{tag}
 use Rattle.cbor4ii_tree.specs.View.{view}
@@ -15,34 +12,44 @@ use Rattle.cbor4ii_tree.specs.StopsStrictly.{StrictArrayStops, StrictMapStops}
 use Rattle.cbor4ii_tree.specs.Strictly.{ReadsExactly, StopsExactly, ReadsExactlyUnder}
 use Rattle.cbor4ii_tree.specs.Strictly.{StopsExactlyUnder, StopsExactlyStepped, ExactItems}
 use Rattle.cbor4ii_tree.specs.Strictly.{StopsBehindMajor}
-use Rattle.cbor4ii_tree.specs.Strictly.{StopsExactItems, ExactMember, StopsExactMember}
+use Rattle.cbor4ii_tree.specs.Strictly.{StopsExactItems}
 use Rattle.cbor4ii_tree.specs.Strictly.{ExactMembers, AcceptsCount}
-use Rattle.cbor4ii_tree.proofs.skip_calls.Doing.{Reached, reached_start, reached_by, does_ok}
+use Rattle.cbor4ii_tree.proofs.skip_calls.Doing.{reached_start, reached_by, does_ok}
 use Rattle.cbor4ii_tree.proofs.skip_calls.Doing.{does_no_memory, does_no_step}
 use Rattle.cbor4ii_tree.proofs.values.Heads.{view-Tag}
-use Rattle.cbor4ii_tree.proofs.values.Sequences.{more, ends}
 use Rattle.cbor4ii_tree.proofs.canonical.Calls.{reached_shortest, exact_ok, exact_err}
 use Rattle.cbor4ii_tree.proofs.skip_calls.Doing.{call_stops}
 use Rattle.cbor4ii_tree.proofs.canonical.Calls.{alone_exact, exact_major, exact_tag}
 use Rattle.cbor4ii_tree.proofs.canonical.Calls.{exact_tag_err, exact_tag_refused}
-use Rattle.cbor4ii_tree.proofs.canonical.Calls.{peek_stops, undefined_stops}
+use Rattle.cbor4ii_tree.proofs.canonical.Calls.{undefined_stops}
 use Rattle.cbor4ii_tree.proofs.canonical.Calls.{stepped_one, stepped_more, counted_does}
-use Rattle.cbor4ii_tree.proofs.canonical.Calls.{items_more, item_stops, value_stops, value_absent}
-use Rattle.cbor4ii_tree.proofs.canonical.Calls.{members_more, member_stops, array_exact, map_exact}
+use Rattle.cbor4ii_tree.proofs.canonical.Calls.{array_exact, map_exact}
 use Rattle.cbor4ii_items.specs.Laws.Running.{kept_alike}
-use Rattle.cbor4ii_tree.proofs.values.Answered.{went_on, around, further}
+use Rattle.cbor4ii_tree.proofs.values.Answered.{went_on, around}
 use Rattle.cbor4ii_tree.proofs.values.Leaves.{after_look, found_leaf}
+use Rattle.std.proofs.Math.Facts.{Fits-lt-pow}
+use Rattle.cbor4ii_tree.specs.LeafRuns.{flat, flat_values, ReadsEach}
+use Rattle.cbor4ii_tree.proofs.skip_calls.Doing.{reached_as}
+use Rattle.cbor4ii_tree.proofs.values.LeafRuns.{none_yet, none_too_many, ran, run_stops, stop_alone}
+use Rattle.cbor4ii_tree.proofs.values.LeafRuns.{both_there, pairs_are_read, turn_stepped}
+use Rattle.cbor4ii_tree.proofs.values.LeafRuns.{turn_unstepped, turn_put, turn_refused, turn_ends}
+use Rattle.cbor4ii_tree.proofs.values.LeafRuns.{run_before, on_found}
+use Rattle.cbor4ii_tree.proofs.canonical.Calls.{one_exactly, none_exactly}
 use Rattle.cbor4ii_tree.proofs.decode_canonical.+strict.Goals as goal
 
-pub read_inside-returns-in-Some-Some-clause-does : goal.read_inside-returns-in-Some-Some-clause-does
-read_inside-returns-in-Some-Some-clause-does g t c =
-    found_leaf ReadsExactlyUnder StopsExactlyUnder _ _ c.in-Some-Some.field-0-is
-    (c.in-Some-Some.ensures.exactly refl)
+pub read_inside-returns-in-Taken-clause-does : goal.read_inside-returns-in-Taken-clause-does
+read_inside-returns-in-Taken-clause-does g t c =
+    found_leaf ReadsExactlyUnder StopsExactlyUnder c.in-Taken.value _ c.in-Taken.is
+    (c.in_ok-value.ensures.exactly refl)
 
-pub read_inside-returns-in-Some-None-clause-does : goal.read_inside-returns-in-Some-None-clause-does
-read_inside-returns-in-Some-None-clause-does g t c =
-    after_look ReadsExactlyUnder StopsExactlyUnder _ c.in-Some-None.field-0-is
-    (c.in-Some-None.ensures.exactly refl) c.read_by_first.ensures.does
+pub read_inside-returns-in-Begins-clause-does : goal.read_inside-returns-in-Begins-clause-does
+read_inside-returns-in-Begins-clause-does g t c =
+    after_look ReadsExactlyUnder StopsExactlyUnder c.in-Begins.first _ c.in-Begins.is
+    (c.in_ok-value.ensures.exactly refl) c.read_by_first.ensures.does
+
+pub read_inside-returns-in_err-value-clause-does : goal.read_inside-returns-in_err-value-clause-does
+read_inside-returns-in_err-value-clause-does g t c =
+    rw c.from_residual.ensures (c.in_err-value.ensures.exactly refl)
 
 pub read_one-returns-clause-does : goal.read_one-returns-clause-does
 read_one-returns-clause-does g t c =
@@ -123,91 +130,57 @@ read_map-returns-then-not-step_in-clause-does g t c =
     (g.S.Source.view c.args.reader.now).budget) refl refl (λ none xs. rw none (refl, refl))
     c.if-not-step_in.ensures.budget c.step_in.ensures.others)
 
-pub read_member-returns-clause-does : goal.read_member-returns-clause-does
-read_member-returns-clause-does g t c =
-    does_ok (ExactMember (g.S.Source.view c.args.reader.now).budget)
-    (StopsExactMember (g.S.Source.view c.args.reader.now).budget)
-    (more ReadsExactly StopsExactly
-    (λ xs ys. ReadsExactly (g.S.Source.view c.args.reader.now).budget xs c.in_ok-key.key ys)
-    (reached_by c.in_ok-key.ensures.does) (λ xs ys. ExactMember
-    (g.S.Source.view c.args.reader.now).budget xs (c.in_ok-key.key, c.in_ok-value.value) ys)
-    (λ xs ys zs h s. (ys, h, s)) c.in_ok-value.ensures.does)
-
-pub read_member-returns-in_err-key-clause-does : goal.read_member-returns-in_err-key-clause-does
-read_member-returns-in_err-key-clause-does g t c =
-    rw c.from_residual.ensures (ends ReadsExactly StopsExactly (λ xs ys. ys ≡ xs)
-    (reached_start (λ xs ys. ys ≡ xs) _ (λ xs. refl))
-    (ExactMember (g.S.Source.view c.args.reader.now).budget)
-    (StopsExactMember (g.S.Source.view c.args.reader.now).budget) (λ xs ys z rest h s.
-    inl (subst (λ x. StopsExactly (g.S.Source.view c.args.reader.now).budget x z rest) h s))
-    c.in_err-key.ensures.does)
-
-pub read_member-returns-in_err-value-clause-does : goal.read_member-returns-in_err-value-clause-does
-read_member-returns-in_err-value-clause-does g t c =
-    rw c.from_residual-in_err-value.ensures (ends ReadsExactly StopsExactly
-    (λ xs ys. ReadsExactly (g.S.Source.view c.args.reader.now).budget xs c.in_ok-key.key ys)
-    (reached_by c.in_ok-key.ensures.does)
-    (ExactMember (g.S.Source.view c.args.reader.now).budget)
-    (StopsExactMember (g.S.Source.view c.args.reader.now).budget)
-    (λ xs ys z rest h s. value_stops (g.S.Source.view c.args.reader.now).budget
-    c.in_ok-key.key xs ys z rest h s) c.in_err-value.ensures.does)
-
-pub read_by_first-returns-in_err-first-clause-does :
-    goal.read_by_first-returns-in_err-first-clause-does
-read_by_first-returns-in_err-first-clause-does g t c =
-    rw c.from_residual.ensures (peek_stops c.in_err-first.ensures.runs)
-
-pub read_by_first-returns-then-first-clause-does : goal.read_by_first-returns-then-first-clause-does
-read_by_first-returns-then-first-clause-does g t c =
-    rw c.leave_not_canonical.ensures (undefined_stops c.in_ok-first.first c.in_ok-first.ensures.runs
-    c.in_ok-first.ensures.byte
-    c.advance.ensures c.if-first.true refl refl refl)
+pub read_by_first-returns-then-first-eq-UNDEFINED-clause-does : goal.read_by_first-returns-then-first-eq-UNDEFINED-clause-does
+read_by_first-returns-then-first-eq-UNDEFINED-clause-does g t c before runs =
+    rw c.leave_not_canonical.ensures (undefined_stops c.args.first runs
+    (Fits-lt-pow {w = w8} c.ranges.first)
+    c.advance.ensures c.if-first-eq-UNDEFINED.true refl refl refl)
 
 pub read_by_first-returns-in_ok-read_array-in-4-clause-does :
     goal.read_by_first-returns-in_ok-read_array-in-4-clause-does
-read_by_first-returns-in_ok-read_array-in-4-clause-does g t c =
-    exact_ok c.in_ok-first.first c.in_ok-first.ensures.runs (λ xs ys.
+read_by_first-returns-in_ok-read_array-in-4-clause-does g t c before runs =
+    exact_ok c.args.first runs (λ xs ys.
     ReadsStepped
     (λ o xs (v : Vec Value Global) ys. AcceptsCount 4 ExactItems o xs v.items ys)
-    (g.S.Source.view c.first_of.new.reader).budget xs c.in_ok-read_array-in-4.field-0 ys)
+    (g.S.Source.view c.args.reader.now).budget xs c.in_ok-read_array-in-4.field-0 ys)
     (Array c.in_ok-read_array-in-4.field-0)
-    (λ xs ys h. array_exact (g.S.Source.view c.args.reader.now).budget
+    (λ xs ys h. array_exact before.budget
     c.in_ok-read_array-in-4.field-0 xs ys (subst (λ o. ReadsStepped
     (λ o xs (v : Vec Value Global) ys. AcceptsCount 4 ExactItems o xs v.items ys) o xs
-    c.in_ok-read_array-in-4.field-0 ys) c.in_ok-first.ensures.runs.moves.by.budget h))
+    c.in_ok-read_array-in-4.field-0 ys) runs.moves.by.budget h))
     (reached_by c.in_ok-read_array-in-4.ensures.does)
 
 pub read_by_first-returns-in_err-read_array-in-4-clause-does :
     goal.read_by_first-returns-in_err-read_array-in-4-clause-does
-read_by_first-returns-in_err-read_array-in-4-clause-does g t c =
-    rw c.from_residual-in_err-read_array-in-4.ensures (exact_err c.in_ok-first.first
-    c.in_ok-first.ensures.runs 4 (ReadsStepped
+read_by_first-returns-in_err-read_array-in-4-clause-does g t c before runs =
+    rw c.from_residual.ensures (exact_err c.args.first
+    runs 4 (ReadsStepped
     (λ o xs (v : Vec Value Global) ys. AcceptsCount 4 ExactItems o xs v.items ys)
-    (g.S.Source.view c.first_of.new.reader).budget)
+    (g.S.Source.view c.args.reader.now).budget)
     (StopsExactlyStepped array_name (StrictArrayStops StopsExactly)) c.in-4.is
     (λ bs z rest h. h) c.in_err-read_array-in-4.ensures.does)
 
 pub read_by_first-returns-in_ok-read_map-in-5-clause-does :
     goal.read_by_first-returns-in_ok-read_map-in-5-clause-does
-read_by_first-returns-in_ok-read_map-in-5-clause-does g t c =
-    exact_ok c.in_ok-first.first c.in_ok-first.ensures.runs (λ xs ys.
+read_by_first-returns-in_ok-read_map-in-5-clause-does g t c before runs =
+    exact_ok c.args.first runs (λ xs ys.
     ReadsStepped
     (λ o xs (v : Vec (Value × Value) Global) ys. AcceptsCount 5 ExactMembers o xs v.items
-    ys) (g.S.Source.view c.first_of.new.reader).budget xs c.in_ok-read_map-in-5.field-0 ys)
+    ys) (g.S.Source.view c.args.reader.now).budget xs c.in_ok-read_map-in-5.field-0 ys)
     (Map c.in_ok-read_map-in-5.field-0) (λ xs ys h.
-    map_exact (g.S.Source.view c.args.reader.now).budget c.in_ok-read_map-in-5.field-0 xs ys
+    map_exact before.budget c.in_ok-read_map-in-5.field-0 xs ys
     (subst (λ o. ReadsStepped (λ o xs (v : Vec (Value × Value) Global) ys.
     AcceptsCount 5 ExactMembers o xs v.items ys) o xs c.in_ok-read_map-in-5.field-0 ys)
-    c.in_ok-first.ensures.runs.moves.by.budget h))
+    runs.moves.by.budget h))
     (reached_by c.in_ok-read_map-in-5.ensures.does)
 
 pub read_by_first-returns-in_err-read_map-in-5-clause-does :
     goal.read_by_first-returns-in_err-read_map-in-5-clause-does
-read_by_first-returns-in_err-read_map-in-5-clause-does g t c =
-    rw c.from_residual-in_err-read_map-in-5.ensures (exact_err c.in_ok-first.first
-    c.in_ok-first.ensures.runs 5
+read_by_first-returns-in_err-read_map-in-5-clause-does g t c before runs =
+    rw c.from_residual-in_err-read_map-in-5.ensures (exact_err c.args.first
+    runs 5
     (ReadsStepped (λ o xs (v : Vec (Value × Value) Global) ys.
-    AcceptsCount 5 ExactMembers o xs v.items ys) (g.S.Source.view c.first_of.new.reader).budget)
+    AcceptsCount 5 ExactMembers o xs v.items ys) (g.S.Source.view c.args.reader.now).budget)
     (StopsExactlyStepped map_name (StrictMapStops StopsExactly)) c.in-5.is
     (λ bs z rest h. h) c.in_err-read_map-in-5.ensures.does)
 
@@ -221,25 +194,10 @@ pub map_inside-returns-in_err-count-clause-progress :
 map_inside-returns-in_err-count-clause-progress g t c =
     rw c.from_residual.ensures tt
 
-pub read_member-returns-in_err-key-clause-progress :
-    goal.read_member-returns-in_err-key-clause-progress
-read_member-returns-in_err-key-clause-progress g t c =
-    rw c.from_residual.ensures tt
-
-pub read_member-returns-in_err-value-clause-progress :
-    goal.read_member-returns-in_err-value-clause-progress
-read_member-returns-in_err-value-clause-progress g t c =
-    rw c.from_residual-in_err-value.ensures tt
-
-pub read_by_first-returns-in_err-first-clause-progress :
-    goal.read_by_first-returns-in_err-first-clause-progress
-read_by_first-returns-in_err-first-clause-progress g t c =
-    rw c.from_residual.ensures tt
-
 pub read_by_first-returns-in_err-read_array-in-4-clause-progress :
     goal.read_by_first-returns-in_err-read_array-in-4-clause-progress
 read_by_first-returns-in_err-read_array-in-4-clause-progress g t c =
-    rw c.from_residual-in_err-read_array-in-4.ensures tt
+    rw c.from_residual.ensures tt
 
 pub read_by_first-returns-in_err-read_map-in-5-clause-progress :
     goal.read_by_first-returns-in_err-read_map-in-5-clause-progress
@@ -282,31 +240,17 @@ map_inside-returns-clause-progress g t c =
     went_on _ c.counted_members.result _ c.in_ok-count.ensures.progress
     c.counted_members.ensures.moves
 
-pub read_member-returns-clause-progress : goal.read_member-returns-clause-progress
-read_member-returns-clause-progress g t c =
-    omega (arith, c.in_ok-key.ensures.progress, c.in_ok-value.ensures.progress)
-
-pub read_by_first-returns-then-first-clause-progress :
-    goal.read_by_first-returns-then-first-clause-progress
-read_by_first-returns-then-first-clause-progress g t c = tt
+pub read_by_first-returns-then-first-eq-UNDEFINED-clause-progress :
+    goal.read_by_first-returns-then-first-eq-UNDEFINED-clause-progress
+read_by_first-returns-then-first-eq-UNDEFINED-clause-progress g t c = tt
 
 pub read_by_first-returns-in_ok-read_array-in-4-clause-progress :
     goal.read_by_first-returns-in_ok-read_array-in-4-clause-progress
-read_by_first-returns-in_ok-read_array-in-4-clause-progress g t c =
-    omega (
-      arith,
-      c.in_ok-first.ensures.runs.moves.by.bound,
-      c.in_ok-read_array-in-4.ensures.progress,
-    )
+read_by_first-returns-in_ok-read_array-in-4-clause-progress g t c = c.in_ok-read_array-in-4.ensures.progress
 
 pub read_by_first-returns-in_ok-read_map-in-5-clause-progress :
     goal.read_by_first-returns-in_ok-read_map-in-5-clause-progress
-read_by_first-returns-in_ok-read_map-in-5-clause-progress g t c =
-    omega (
-      arith,
-      c.in_ok-first.ensures.runs.moves.by.bound,
-      c.in_ok-read_map-in-5.ensures.progress,
-    )
+read_by_first-returns-in_ok-read_map-in-5-clause-progress g t c = c.in_ok-read_map-in-5.ensures.progress
 
 pub counted_items-returns-then-is_err : goal.counted_items-returns-then-is_err
 counted_items-returns-then-is_err g t c =
@@ -322,232 +266,17 @@ counted_members-returns-then-is_err g t c =
     (StopsExactItems (2 * c.args.count) (g.S.Source.view c.args.reader.now).budget) refl
     (kept_alike _)
 
--- ---- values one behind another
-
-pub counted_items-loop-alloc-init : goal.counted_items-loop-alloc-init
-counted_items-loop-alloc-init g t c = record {
-  reached =
-      reached_start (λ xs ys. ExactItems (length c.reserve.new.self.items)
-      (g.S.Source.view c.args.reader.now).budget xs c.reserve.new.self.items ys) _
-      (none_yet (Exactly (g.S.Source.view c.args.reader.now).budget) _ (cc));
-  few = none_too_many _ c.args.count (cc);
-}
-
-pub counted_items-returns-in_err-take_item_run : goal.counted_items-returns-in_err-take_item_run
-counted_items-returns-in_err-take_item_run g t c =
-    let budget = (g.S.Source.view c.args.reader.now).budget in
-    let items = c.loop-alloc.items.items in
-    rw c.from_residual.ensures (run_stops Exactly items c.take_item_run.new.parts.items
-    c.loop-alloc.invariant.reached
-    (λ xs (v : Vec Value Global) ys. ExactItems c.args.count budget xs v.items ys)
-    (StopsExactItems c.args.count budget)
-    (λ xs ys z rest h s. item_stops (length items) c.args.count budget items xs ys z rest
-    (omega (arith, c.loop-alloc-test.true)) h (value_absent budget ys z rest s))
-    (c.in_err-take_item_run.ensures.exactly refl))
-
-pub counted_items-returns-in_err-value : goal.counted_items-returns-in_err-value
-counted_items-returns-in_err-value g t c =
-    rw c.from_residual-in_err-value.ensures (ends ReadsExactly StopsExactly
-    (λ xs ys. ExactItems (length c.take_item_run.new.parts.items) (g.S.Source.view
-    c.args.reader.now).budget xs
-    c.take_item_run.new.parts.items ys)
-    (ran Exactly c.loop-alloc.items.items c.take_item_run.new.parts.items
-    c.loop-alloc.invariant.reached (c.in_ok-take_item_run.ensures.exactly refl))
-    (λ xs (v : Vec Value Global) ys. ExactItems c.args.count (g.S.Source.view
-    c.args.reader.now).budget xs v.items ys)
-    (StopsExactItems c.args.count (g.S.Source.view c.args.reader.now).budget)
-    (λ xs ys z rest h s. item_stops (length c.take_item_run.new.parts.items) c.args.count
-    (g.S.Source.view c.args.reader.now).budget c.take_item_run.new.parts.items xs ys z rest
-    (omega (arith, c.if-len-count.true)) h s) c.in_err-value.ensures.does)
-
-pub counted_items-loop-alloc-smaller-in-Continue-branch-3 :
-    goal.counted_items-loop-alloc-smaller-in-Continue-branch-3
-counted_items-loop-alloc-smaller-in-Continue-branch-3 g t c =
-    omega (
-      arith,
-      c.if-len-count.true,
-      c.in_ok-take_item_run.ensures.more,
-      ap length c.in_ok-keep.ensures.kept,
-      length-append c.take_item_run.new.parts.items (c.in_ok-value.value ∷ []),
-    )
-
-pub counted_items-loop-alloc-preserved-in-Continue-branch-3 :
-    goal.counted_items-loop-alloc-preserved-in-Continue-branch-3
-counted_items-loop-alloc-preserved-in-Continue-branch-3 g t c =
-    let long : length c.keep.new.items.items ≡ length c.take_item_run.new.parts.items + 1 =
-    ap length c.in_ok-keep.ensures.kept
-    ∙ length-append c.take_item_run.new.parts.items (c.in_ok-value.value ∷ []) in
-    record {
-      reached =
-          subst (λ n. Reached (λ xs ys. ExactItems n (g.S.Source.view c.args.reader.now).budget xs
-          c.keep.new.items.items ys) (g.S.Source.view c.args.reader.now)
-          (g.S.Source.view c.read_nested.new.reader)) (sym long)
-          (more ReadsExactly StopsExactly
-          (λ xs ys. ExactItems (length c.take_item_run.new.parts.items) (g.S.Source.view
-          c.args.reader.now).budget xs
-          c.take_item_run.new.parts.items ys)
-          (ran Exactly c.loop-alloc.items.items c.take_item_run.new.parts.items
-          c.loop-alloc.invariant.reached (c.in_ok-take_item_run.ensures.exactly refl))
-          (λ xs ys. ExactItems (length c.take_item_run.new.parts.items + 1) (g.S.Source.view
-          c.args.reader.now).budget xs _ ys)
-          (λ xs ys zs h s. items_more (length c.take_item_run.new.parts.items) (g.S.Source.view
-          c.args.reader.now).budget
-          c.take_item_run.new.parts.items _ c.in_ok-value.value xs ys zs c.in_ok-keep.ensures.kept
-          h s) c.in_ok-value.ensures.does);
-      few = omega (arith, long, c.if-len-count.true);
-    }
-
-pub counted_items-returns-in_err-keep : goal.counted_items-returns-in_err-keep
-counted_items-returns-in_err-keep g t c =
-    rw c.from_residual-in_err-keep.ensures (does_no_memory (λ xs (v : Vec Value Global) ys.
-    ExactItems c.args.count (g.S.Source.view c.args.reader.now).budget xs v.items ys)
-    (StopsExactItems c.args.count
-    (g.S.Source.view c.args.reader.now).budget) (ap refusal_left c.in_err-keep.ensures.memory)
-    (kept_then (ran Exactly c.loop-alloc.items.items c.take_item_run.new.parts.items
-    c.loop-alloc.invariant.reached (c.in_ok-take_item_run.ensures.exactly refl)).kept
-    c.in_ok-value.ensures.does.moves.by))
-
-pub counted_items-loop-alloc-preserved : goal.counted_items-loop-alloc-preserved
-counted_items-loop-alloc-preserved g t c = record {
-  reached =
-      ran Exactly c.loop-alloc.items.items c.take_item_run.new.parts.items
-      c.loop-alloc.invariant.reached (c.in_ok-take_item_run.ensures.exactly refl);
-  few = c.in_ok-take_item_run.ensures.few;
-}
-
-pub counted_members-loop-alloc-init : goal.counted_members-loop-alloc-init
-counted_members-loop-alloc-init g t c = record {
-  reached =
-      reached_start (λ xs ys. ExactMembers (length c.reserve.new.self.items)
-      (g.S.Source.view c.args.reader.now).budget xs c.reserve.new.self.items ys) _
-      (no_pairs_yet (Exactly (g.S.Source.view c.args.reader.now).budget) _ (cc));
-  few = none_too_many _ c.args.count (cc);
-}
-
-pub counted_members-returns-in_err-take_run : goal.counted_members-returns-in_err-take_run
-counted_members-returns-in_err-take_run g t c =
-    let budget = (g.S.Source.view c.args.reader.now).budget in
-    let members = c.loop-alloc.members.items in
-    rw c.from_residual.ensures (pairs_stop Exactly members c.take_run.new.parts.items
-    c.loop-alloc.invariant.reached
-    (λ xs (v : Vec (Value × Value) Global) ys. ExactMembers c.args.count budget xs v.items ys)
-    (StopsExactItems (2 * c.args.count) budget)
-    (λ xs ys z rest h s. member_stops (length members) c.args.count budget members xs ys z rest
-    (omega (arith, c.loop-alloc-test.true)) h (inl (value_absent budget ys z rest s)))
-    (c.in_err-take_run.ensures.exactly refl))
-
-pub counted_members-returns-in_err-member : goal.counted_members-returns-in_err-member
-counted_members-returns-in_err-member g t c =
-    rw c.from_residual-in_err-member.ensures (ends ExactMember StopsExactMember
-    (λ xs ys. ExactMembers (length c.take_run.new.parts.items) (g.S.Source.view
-    c.args.reader.now).budget xs
-    c.take_run.new.parts.items ys)
-    (ran_pairs Exactly c.loop-alloc.members.items c.take_run.new.parts.items
-    c.loop-alloc.invariant.reached (c.in_ok-take_run.ensures.exactly refl))
-    (λ xs (v : Vec (Value × Value) Global) ys. ExactMembers c.args.count (g.S.Source.view
-    c.args.reader.now).budget xs v.items ys)
-    (StopsExactItems (2 * c.args.count) (g.S.Source.view c.args.reader.now).budget)
-    (λ xs ys z rest h s. member_stops (length c.take_run.new.parts.items) c.args.count
-    (g.S.Source.view c.args.reader.now).budget c.take_run.new.parts.items xs ys z rest
-    (omega (arith, c.if-len-count.true)) h s) c.in_err-member.ensures.does)
-
-pub counted_members-loop-alloc-smaller-in-Continue-branch-3 :
-    goal.counted_members-loop-alloc-smaller-in-Continue-branch-3
-counted_members-loop-alloc-smaller-in-Continue-branch-3 g t c =
-    omega (
-      arith,
-      c.if-len-count.true,
-      c.in_ok-take_run.ensures.more,
-      ap length c.in_ok-keep.ensures.kept,
-      length-append c.take_run.new.parts.items (c.in_ok-member.member ∷ []),
-    )
-
-pub counted_members-loop-alloc-preserved-in-Continue-branch-3 :
-    goal.counted_members-loop-alloc-preserved-in-Continue-branch-3
-counted_members-loop-alloc-preserved-in-Continue-branch-3 g t c =
-    let long : length c.keep.new.items.items ≡ length c.take_run.new.parts.items + 1 =
-    ap length c.in_ok-keep.ensures.kept
-    ∙ length-append c.take_run.new.parts.items (c.in_ok-member.member ∷ []) in
-    record {
-      reached =
-          subst (λ n. Reached (λ xs ys. ExactMembers n (g.S.Source.view c.args.reader.now).budget xs
-          c.keep.new.items.items ys) (g.S.Source.view c.args.reader.now)
-          (g.S.Source.view c.read_member.new.reader)) (sym long)
-          (more ExactMember StopsExactMember
-          (λ xs ys. ExactMembers (length c.take_run.new.parts.items) (g.S.Source.view
-          c.args.reader.now).budget xs
-          c.take_run.new.parts.items ys)
-          (ran_pairs Exactly c.loop-alloc.members.items c.take_run.new.parts.items
-          c.loop-alloc.invariant.reached (c.in_ok-take_run.ensures.exactly refl))
-          (λ xs ys. ExactMembers (length c.take_run.new.parts.items + 1) (g.S.Source.view
-          c.args.reader.now).budget xs _ ys)
-          (λ xs ys zs h s. members_more (length c.take_run.new.parts.items) (g.S.Source.view
-          c.args.reader.now).budget
-          c.take_run.new.parts.items _ c.in_ok-member.member xs ys zs c.in_ok-keep.ensures.kept
-          h s) c.in_ok-member.ensures.does);
-      few = omega (arith, long, c.if-len-count.true);
-    }
-
-pub counted_members-returns-in_err-keep : goal.counted_members-returns-in_err-keep
-counted_members-returns-in_err-keep g t c =
-    rw c.from_residual-in_err-keep.ensures (does_no_memory (λ xs (v : Vec (Value × Value) Global)
-    ys.
-    ExactMembers c.args.count (g.S.Source.view c.args.reader.now).budget xs v.items ys)
-    (StopsExactItems (2 * c.args.count)
-    (g.S.Source.view c.args.reader.now).budget) (ap refusal_left c.in_err-keep.ensures.memory)
-    (kept_then (ran_pairs Exactly c.loop-alloc.members.items c.take_run.new.parts.items
-    c.loop-alloc.invariant.reached (c.in_ok-take_run.ensures.exactly refl)).kept
-    c.in_ok-member.ensures.does.moves.by))
-
-pub counted_members-loop-alloc-preserved : goal.counted_members-loop-alloc-preserved
-counted_members-loop-alloc-preserved g t c = record {
-  reached =
-      ran_pairs Exactly c.loop-alloc.members.items c.take_run.new.parts.items
-      c.loop-alloc.invariant.reached (c.in_ok-take_run.ensures.exactly refl);
-  few = c.in_ok-take_run.ensures.few;
-}
-
--- ---- a value that one look has not decided
-
-pub read_nested-returns-clause-does : goal.read_nested-returns-clause-does
-read_nested-returns-clause-does g t c =
-    stepped_one c.if-not-step_in.ensures.budget c.step_in.ensures.others
-    c.read_by_first-outcome.ensures.does c.step_out.ensures.budget c.step_out.ensures.others
-
-pub read_nested-returns-then-not-step_in-clause-does :
-    goal.read_nested-returns-then-not-step_in-clause-does
-read_nested-returns-then-not-step_in-clause-does g t c =
-    rw c.leave_deep.ensures (does_no_step value_name (ReadsExactly (g.S.Source.view
-    c.args.reader.now).budget)
-    (StopsExactly (g.S.Source.view c.args.reader.now).budget) refl refl
-    (λ none xs. rw none (refl, refl)) c.if-not-step_in.ensures.budget c.step_in.ensures.others)
-
-pub read_nested-returns-then-not-step_in-clause-progress :
-    goal.read_nested-returns-then-not-step_in-clause-progress
-read_nested-returns-then-not-step_in-clause-progress g t c = tt
-
-pub read_nested-returns-clause-progress : goal.read_nested-returns-clause-progress
-read_nested-returns-clause-progress g t c =
-    around _ _ _ _ _ c.step_in.ensures.others.bound c.step_out.ensures.others.bound
-    c.read_by_first-outcome.ensures.progress
-
--- ---- a value that is no array and no map
-
 pub read_by_first-returns-in-6-clause-does : goal.read_by_first-returns-in-6-clause-does
-read_by_first-returns-in-6-clause-does g t c =
-    exact_major c.in_ok-first.first c.in_ok-first.ensures.runs 6 c.in-6.is
+read_by_first-returns-in-6-clause-does g t c before runs =
+    exact_major c.args.first runs 6 c.in-6.is
     c.read_tag.ensures.does
 
 pub read_by_first-returns-in-6-clause-progress : goal.read_by_first-returns-in-6-clause-progress
-read_by_first-returns-in-6-clause-progress g t c =
-    further _ _ _ _ c.in_ok-first.ensures.runs.moves.by.bound
-    c.read_tag.ensures.progress
+read_by_first-returns-in-6-clause-progress g t c = c.read_tag.ensures.progress
 
 pub read_by_first-returns-in_default-clause-progress :
     goal.read_by_first-returns-in_default-clause-progress
-read_by_first-returns-in_default-clause-progress g t c =
-    further _ _ _ _ c.in_ok-first.ensures.runs.moves.by.bound
-    c.read_alone.ensures.progress
+read_by_first-returns-in_default-clause-progress g t c = c.read_alone.ensures.progress
 
 pub read_tag-returns-in_err-number-clause-does : goal.read_tag-returns-in_err-number-clause-does
 read_tag-returns-in_err-number-clause-does g t c =
@@ -586,7 +315,143 @@ read_tag-returns-clause-does g t c =
     c.in_ok-number.ensures.sound).kept c.in_ok-inner.ensures.does.moves.by)
 
 pub read_by_first-returns-in_default-clause-does : goal.read_by_first-returns-in_default-clause-does
-read_by_first-returns-in_default-clause-does g t c =
-    alone_exact c.in_ok-first.first c.in_ok-first.ensures.runs
-    c.in_ok-first.ensures.byte c.if-first.false
+read_by_first-returns-in_default-clause-does g t c before runs =
+    alone_exact c.args.first runs
+    (Fits-lt-pow {w = w8} c.ranges.first) c.if-first-eq-UNDEFINED.false
     c.read_alone.ensures.does
+
+-- ---- as many values as one look decides, and the one behind them
+
+pub more_items-returns-clause-does : goal.more_items-returns-clause-does
+more_items-returns-clause-does g t c =
+    turn_stepped Exactly StopsExactly (1 * c.args.count - length c.args.items.now.items) c.args.items.now.items _
+    c.if-not-step_in.ensures.budget c.step_in.ensures.others c.items_inside-outcome.ensures.does
+    c.step_out.ensures.budget c.step_out.ensures.others
+
+pub more_items-returns-then-not-step_in-clause-does : goal.more_items-returns-then-not-step_in-clause-does
+more_items-returns-then-not-step_in-clause-does g t c =
+    rw c.leave_deep.ensures (turn_unstepped Exactly StopsExactly (1 * c.args.count) c.args.items.now.items _
+    c.requires refl refl (λ none xs. rw none (refl, refl)) c.if-not-step_in.ensures.budget
+    c.step_in.ensures.others)
+
+pub items_inside-returns-in_ok-value-in-Some-clause-does :
+    goal.items_inside-returns-in_ok-value-in-Some-clause-does
+items_inside-returns-in_ok-value-in-Some-clause-does g t c =
+    turn_put Exactly StopsExactly _ _ one_exactly (1 * c.args.count) c.args.items.now.items c.take_run.new.parts.items c.in-Some.first
+    (run_before Exactly c.args.items.now.items c.take_run.new.parts.items c.in-Some.first _ c.in-Some.is (c.in_ok-first.ensures.exactly refl)) c.put_value.new.parts.items c.put_value.result _
+    c.put_value.ensures.kept c.put_value.ensures.memory c.in_ok-value-in-Some.ensures.does
+
+pub items_inside-returns-in_err-value-in-Some-clause-does :
+    goal.items_inside-returns-in_err-value-in-Some-clause-does
+items_inside-returns-in_err-value-in-Some-clause-does g t c =
+    rw c.from_residual-in_err-value-in-Some.ensures (turn_refused Exactly StopsExactly _ _ one_exactly
+    (1 * c.args.count) c.args.items.now.items c.take_run.new.parts.items c.in-Some.first
+    (run_before Exactly c.args.items.now.items c.take_run.new.parts.items c.in-Some.first _ c.in-Some.is (c.in_ok-first.ensures.exactly refl)) _
+    (on_found c.in-Some.first c.in-Some.is c.in_ok-first.ensures.lacks)
+    c.in_err-value-in-Some.ensures.does)
+
+pub items_inside-returns-in_err-first-clause-does : goal.items_inside-returns-in_err-first-clause-does
+items_inside-returns-in_err-first-clause-does g t c =
+    rw c.from_residual.ensures (turn_ends Exactly StopsExactly _ _ one_exactly (1 * c.args.count) c.args.items.now.items
+    c.take_run.new.parts.items c.requires (none_exactly _) (c.in_err-first.ensures.exactly refl))
+
+pub more_members-returns-clause-does : goal.more_members-returns-clause-does
+more_members-returns-clause-does g t c =
+    turn_stepped Exactly StopsExactly (2 * c.args.count - length (flat c.args.pairs.now)) (flat c.args.pairs.now) _
+    c.if-not-step_in.ensures.budget c.step_in.ensures.others c.members_inside-outcome.ensures.does
+    c.step_out.ensures.budget c.step_out.ensures.others
+
+pub more_members-returns-then-not-step_in-clause-does : goal.more_members-returns-then-not-step_in-clause-does
+more_members-returns-then-not-step_in-clause-does g t c =
+    rw c.leave_deep.ensures (turn_unstepped Exactly StopsExactly (2 * c.args.count) (flat c.args.pairs.now) _
+    c.requires refl refl (λ none xs. rw none (refl, refl)) c.if-not-step_in.ensures.budget
+    c.step_in.ensures.others)
+
+pub members_inside-returns-in_ok-value-in-Some-clause-does :
+    goal.members_inside-returns-in_ok-value-in-Some-clause-does
+members_inside-returns-in_ok-value-in-Some-clause-does g t c =
+    turn_put Exactly StopsExactly _ _ one_exactly (2 * c.args.count) (flat c.args.pairs.now) (flat c.take_run.new.parts) c.in-Some.first
+    (run_before Exactly (flat c.args.pairs.now) (flat c.take_run.new.parts) c.in-Some.first _ c.in-Some.is (c.in_ok-first.ensures.exactly refl)) (flat c.put_value.new.parts) c.put_value.result _
+    c.put_value.ensures.kept c.put_value.ensures.memory c.in_ok-value-in-Some.ensures.does
+
+pub members_inside-returns-in_err-value-in-Some-clause-does :
+    goal.members_inside-returns-in_err-value-in-Some-clause-does
+members_inside-returns-in_err-value-in-Some-clause-does g t c =
+    rw c.from_residual-in_err-value-in-Some.ensures (turn_refused Exactly StopsExactly _ _ one_exactly
+    (2 * c.args.count) (flat c.args.pairs.now) (flat c.take_run.new.parts) c.in-Some.first
+    (run_before Exactly (flat c.args.pairs.now) (flat c.take_run.new.parts) c.in-Some.first _ c.in-Some.is (c.in_ok-first.ensures.exactly refl)) _
+    (on_found c.in-Some.first c.in-Some.is c.in_ok-first.ensures.lacks)
+    c.in_err-value-in-Some.ensures.does)
+
+pub members_inside-returns-in_err-first-clause-does : goal.members_inside-returns-in_err-first-clause-does
+members_inside-returns-in_err-first-clause-does g t c =
+    rw c.from_residual.ensures (turn_ends Exactly StopsExactly _ _ one_exactly (2 * c.args.count) (flat c.args.pairs.now)
+    (flat c.take_run.new.parts) c.requires (none_exactly _) (c.in_err-first.ensures.exactly refl))
+
+-- ---- an array whose items are counted
+
+pub counted_items-loop-alloc-init : goal.counted_items-loop-alloc-init
+counted_items-loop-alloc-init g t c = record {
+  reached =
+      reached_start (λ xs ys. ReadsEach (Exactly (g.S.Source.view c.args.reader.now).budget)
+      (length c.reserve.new.self.items) xs c.reserve.new.self.items ys) _
+      (none_yet (Exactly (g.S.Source.view c.args.reader.now).budget) _ (cc));
+  few = none_too_many _ (1 * c.args.count) (cc);
+}
+
+pub counted_items-loop-alloc-preserved : goal.counted_items-loop-alloc-preserved
+counted_items-loop-alloc-preserved g t c = record {
+  reached =
+      ran Exactly StopsExactly (1 * c.args.count) c.loop-alloc.items.items c.more_items.new.items.items c.loop-alloc.invariant.reached
+      c.in_ok-more_items.ensures.does;
+  few = c.in_ok-more_items.ensures.few;
+}
+
+pub counted_items-returns-in_err-more_items :
+    goal.counted_items-returns-in_err-more_items
+counted_items-returns-in_err-more_items g t c =
+    rw c.from_residual.ensures (stop_alone Exactly StopsExactly c.args.count (g.S.Source.view c.args.reader.now).budget
+    (λ xs (v : Vec Value Global) ys. ExactItems c.args.count (g.S.Source.view c.args.reader.now).budget xs v.items ys)
+    (run_stops Exactly StopsExactly (1 * c.args.count) c.loop-alloc.items.items c.more_items.new.items.items c.loop-alloc.invariant.reached
+    (λ xs (v : Vec Value Global) ys. ExactItems c.args.count (g.S.Source.view c.args.reader.now).budget xs v.items ys)
+    c.in_err-more_items.ensures.does))
+
+-- ---- a map whose pairs are counted
+
+pub counted_members-loop-alloc-init : goal.counted_members-loop-alloc-init
+counted_members-loop-alloc-init g t c = record {
+  reached =
+      reached_start (λ xs ys. ReadsEach (Exactly (g.S.Source.view c.args.reader.now).budget)
+      (length (flat_values c.reserve.new.self.items)) xs (flat_values c.reserve.new.self.items) ys) _
+      (none_yet (Exactly (g.S.Source.view c.args.reader.now).budget) _ (cc));
+  few = none_too_many _ (2 * c.args.count) (cc);
+}
+
+pub counted_members-loop-alloc-preserved : goal.counted_members-loop-alloc-preserved
+counted_members-loop-alloc-preserved g t c = record {
+  reached =
+      ran Exactly StopsExactly (2 * c.args.count) (flat c.loop-alloc.pairs) (flat c.more_members.new.pairs) c.loop-alloc.invariant.reached
+      c.in_ok-more_members.ensures.does;
+  few = c.in_ok-more_members.ensures.few;
+}
+
+pub counted_members-returns-in_err-more_members :
+    goal.counted_members-returns-in_err-more_members
+counted_members-returns-in_err-more_members g t c =
+    rw c.from_residual.ensures (run_stops Exactly StopsExactly (2 * c.args.count) (flat c.loop-alloc.pairs) (flat c.more_members.new.pairs) c.loop-alloc.invariant.reached
+    (λ xs (v : Vec (Value × Value) Global) ys. ExactMembers c.args.count (g.S.Source.view c.args.reader.now).budget xs v.items ys)
+    c.in_err-more_members.ensures.does)
+
+pub counted_members-returns : goal.counted_members-returns
+counted_members-returns g t c =
+    let budget = (g.S.Source.view c.args.reader.now).budget in
+    let pairs = c.loop-alloc.pairs in
+    let all = both_there pairs.members.items pairs.key c.args.count c.loop-alloc.invariant.few
+    (c.lacks.ensures.full c.loop-alloc-test.false) in
+    does_ok (λ xs (v : Vec (Value × Value) Global) ys. ExactMembers c.args.count budget xs v.items ys)
+    (StopsExactItems (2 * c.args.count) budget)
+    (reached_as (λ xs ys. ReadsEach (Exactly budget) (length (flat pairs)) xs (flat pairs) ys)
+    (λ xs ys. ExactMembers c.args.count budget xs pairs.members.items ys)
+    (λ xs ys h. pairs_are_read (Exactly budget) pairs.members.items pairs.key c.args.count xs ys
+    all h)
+    c.loop-alloc.invariant.reached)

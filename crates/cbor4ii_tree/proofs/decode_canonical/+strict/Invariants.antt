@@ -1,13 +1,11 @@
-use Rattle.std.proofs.Common.{◌+◌, ◌-◌, ◌*◌, ◌≤◌, length}
-use Rattle.cbor4ii_tree.specs.Strictly.{ExactItems, ExactMembers}
+use Rattle.std.proofs.Common.{◌+◌, ◌*◌, ◌≤◌, length}
+use Rattle.cbor4ii_tree.specs.LeafRuns.{flat}
+use Rattle.cbor4ii_tree.specs.Strictly.{ExactItems}
 use Rattle.cbor4ii_tree.proofs.skip_calls.Doing.{Reached}
 use Rattle.cbor4ii_tree.proofs.decode_canonical.+strict.Given as goal
 
 abbrev pub decreases-read_one : goal.decreases-read_one
 decreases-read_one g l = 7 * (g.S.Source.view l.reader.now).bound + 4
-
-abbrev pub decreases-read_nested : goal.decreases-read_nested
-decreases-read_nested g l = 7 * (g.S.Source.view l.reader.now).bound + 3
 
 abbrev pub decreases-read_inside : goal.decreases-read_inside
 decreases-read_inside g l = 7 * (g.S.Source.view l.reader.now).bound + 3
@@ -36,27 +34,36 @@ decreases-counted_items g l = 7 * (g.S.Source.view l.reader.now).bound + 6
 abbrev pub decreases-counted_members : goal.decreases-counted_members
 decreases-counted_members g l = 7 * (g.S.Source.view l.reader.now).bound + 6
 
-abbrev pub decreases-read_member : goal.decreases-read_member
-decreases-read_member g l = 7 * (g.S.Source.view l.reader.now).bound + 5
+abbrev pub decreases-more_items : goal.decreases-more_items
+decreases-more_items g l = 7 * (g.S.Source.view l.reader.now).bound + 4
+
+abbrev pub decreases-items_inside : goal.decreases-items_inside
+decreases-items_inside g l = 7 * (g.S.Source.view l.reader.now).bound + 3
+
+abbrev pub decreases-more_members : goal.decreases-more_members
+decreases-more_members g l = 7 * (g.S.Source.view l.reader.now).bound + 4
+
+abbrev pub decreases-members_inside : goal.decreases-members_inside
+decreases-members_inside g l = 7 * (g.S.Source.view l.reader.now).bound + 3
 
 abbrev pub invariant-counted_items-loop-alloc : goal.invariant-counted_items-loop-alloc
 invariant-counted_items-loop-alloc g l = record {
   reached : Reached (λ xs ys. ExactItems (length l.items.items)
       (g.S.Source.view l.fn.reader).budget xs l.items.items ys) (g.S.Source.view l.fn.reader)
       (g.S.Source.view l.reader);
-  few : length l.items.items ≤ l.count;
+  few : length l.items.items ≤ 1 * l.count;
 }
 
 abbrev pub decreases-counted_items-loop-alloc : goal.decreases-counted_items-loop-alloc
-decreases-counted_items-loop-alloc g l = l.count - length l.items.items
+decreases-counted_items-loop-alloc g l = (g.S.Source.view l.reader).bound
 
 abbrev pub invariant-counted_members-loop-alloc : goal.invariant-counted_members-loop-alloc
 invariant-counted_members-loop-alloc g l = record {
-  reached : Reached (λ xs ys. ExactMembers (length l.members.items)
-      (g.S.Source.view l.fn.reader).budget xs l.members.items ys) (g.S.Source.view l.fn.reader)
+  reached : Reached (λ xs ys. ExactItems (length (flat l.pairs))
+      (g.S.Source.view l.fn.reader).budget xs (flat l.pairs) ys) (g.S.Source.view l.fn.reader)
       (g.S.Source.view l.reader);
-  few : length l.members.items ≤ l.count;
+  few : length (flat l.pairs) ≤ 2 * l.count;
 }
 
 abbrev pub decreases-counted_members-loop-alloc : goal.decreases-counted_members-loop-alloc
-decreases-counted_members-loop-alloc g l = l.count - length l.members.items
+decreases-counted_members-loop-alloc g l = (g.S.Source.view l.reader).bound

@@ -1,9 +1,10 @@
-use Rattle.std.proofs.Common.{length, [], sym, length-append, inl, refl, ap, subst, arith}
+use Rattle.std.proofs.Common.{length, [], sym, inl, refl, ap, subst, arith, w8, ◌-◌, ◌*◌}
+use Rattle.std.proofs.Math.Facts.{Fits-lt-pow}
 use Rattle.std.proofs.Common.{◌∙◌, ◌+◌, ◌∷◌, ◌≡◌}
 use Rattle.cbor4ii_tree.specs.Does.{refusal_left}
 use Rattle.cbor4ii_tree.specs.Valuing.{ReadsOneValue, StopsOneValue, ReadsMember, StopsMember}
 use Rattle.cbor4ii_tree.specs.Valuing.{StopsMembers, ReadsStepped, StopsOf, ReadsItems}
-use Rattle.cbor4ii_tree.specs.Valuing.{StopsItems, ReadsArrayInside, ReadsMapInside, StopsMajor}
+use Rattle.cbor4ii_tree.specs.Valuing.{ReadsArrayInside, ReadsMapInside, StopsMajor}
 use Rattle.cbor4ii_tree.specs.Valuing.{ReadsMembers, ReadsOpenItems, StopsOpenItems}
 use Rattle.cbor4ii_tree.specs.Valuing.{ReadsOpenMembers, StopsOpenMembers, ReadsUnder, StopsUnder}
 use Rattle.cbor4ii_tree.specs.declared.value.Value.{Array, Map, Tag}
@@ -11,12 +12,11 @@ use Rattle.cbor4ii_tree.specs.Item.{tag}
 use Rattle.cbor4ii_tree.specs.View.{view}
 use Rattle.cbor4ii_tree.specs.Refusal.{array_name, map_name, value_name}
 use Rattle.cbor4ii_items.specs.Laws.Steps.{kept_then}
-use Rattle.cbor4ii_tree.proofs.skip_calls.Doing.{Reached, reached_start, reached_by, does_ok}
+use Rattle.cbor4ii_tree.proofs.skip_calls.Doing.{reached_start, reached_by, does_ok}
 use Rattle.cbor4ii_tree.proofs.skip_calls.Doing.{does_no_memory, does_no_step}
 use Rattle.cbor4ii_tree.proofs.skip_calls.Calls.{Before, broke, other, at_end}
 use Rattle.cbor4ii_tree.proofs.values.Parts.{ReadEach, ReadPairs}
-use Rattle.cbor4ii_tree.proofs.values.Calls.{stepped, counted_more, counted_stop, items_stop}
-use Rattle.cbor4ii_tree.proofs.values.Calls.{value_absent}
+use Rattle.cbor4ii_tree.proofs.values.Calls.{stepped}
 use Rattle.cbor4ii_tree.proofs.values.Heads.{arm_ok, arm_err, arm_does, alone_does}
 use Rattle.cbor4ii_tree.proofs.values.Heads.{reached_tag, tag_read, tag_refused, tag_stopped}
 use Rattle.cbor4ii_tree.proofs.values.Heads.{view-Tag}
@@ -27,25 +27,27 @@ use Rattle.cbor4ii_tree.proofs.values.Sequences.{array_counted, array_of_none, a
 use Rattle.cbor4ii_tree.proofs.values.Sequences.{map_counted, map_of_none, map_opened, map_reads}
 use Rattle.cbor4ii_tree.proofs.values.Sequences.{each_none}
 use Rattle.cbor4ii_tree.proofs.values.Sequences.{each_more, open_end, open_stop, open_done}
-use Rattle.cbor4ii_tree.proofs.values.Sequences.{members_more, member_stop}
 use Rattle.cbor4ii_tree.proofs.values.Sequences.{pairs_none, pairs_more, members_end, pair_stop}
 use Rattle.cbor4ii_tree.proofs.values.Sequences.{value_stop, members_done, more, ends}
 use Rattle.cbor4ii_tree.proofs.values.Items.{items_none, items_are, members_none_are, members_are}
 use Rattle.cbor4ii_tree.proofs.values.Items.{array_item, map_item}
 use Rattle.cbor4ii_items.specs.Laws.Running.{kept_alike}
-use Rattle.cbor4ii_tree.proofs.values.Answered.{went_on, around, further}
-use Rattle.cbor4ii_tree.proofs.values.Ends.{nothing_there}
+use Rattle.cbor4ii_tree.proofs.values.Answered.{went_on, around}
 use Rattle.cbor4ii_tree.proofs.values.Leaves.{after_look}
 use Rattle.cbor4ii_tree.specs.StopsReading.{Readable}
-use Rattle.cbor4ii_tree.proofs.values.LeafRuns.{none_yet, none_too_many, ran, run_stops}
-use Rattle.cbor4ii_tree.proofs.values.LeafRuns.{no_pairs_yet, ran_pairs, pairs_stop}
-use Rattle.cbor4ii_tree.proofs.values.LeafRuns.{keeps_members}
+use Rattle.cbor4ii_tree.specs.LeafRuns.{flat, flat_values, ReadsEach}
+use Rattle.cbor4ii_tree.proofs.skip_calls.Doing.{reached_as}
+use Rattle.cbor4ii_tree.proofs.values.LeafRuns.{none_yet, none_too_many, ran, run_stops, stop_alone}
+use Rattle.cbor4ii_tree.proofs.values.LeafRuns.{both_there, pairs_are_read, pairs_are}
+use Rattle.cbor4ii_tree.proofs.values.LeafRuns.{turn_stepped, turn_unstepped, turn_put, turn_refused}
+use Rattle.cbor4ii_tree.proofs.values.LeafRuns.{turn_ends, run_before, on_found, put_items}
+use Rattle.cbor4ii_tree.proofs.values.LeafRuns.{one_read, none_under}
 use Rattle.cbor4ii_tree.proofs.decode_value.+read.Goals as goal
 
-pub read_inside-returns-in-Some-None-clause-does : goal.read_inside-returns-in-Some-None-clause-does
-read_inside-returns-in-Some-None-clause-does g t c =
-    after_look ReadsUnder StopsUnder _ c.in-Some-None.field-0-is c.in-Some-None.ensures.takes
-    c.read_by_first.ensures.does
+pub read_inside-returns-in-Begins-clause-does : goal.read_inside-returns-in-Begins-clause-does
+read_inside-returns-in-Begins-clause-does g t c =
+    after_look ReadsUnder StopsUnder c.in-Begins.first _ c.in-Begins.is
+    c.in_ok-value.ensures.takes c.read_by_first.ensures.does
 
 pub array_inside-returns-in-None-clause-does : goal.array_inside-returns-in-None-clause-does
 array_inside-returns-in-None-clause-does g t c =
@@ -266,54 +268,54 @@ read_array-returns-then-not-step_in-clause-does g t c =
 
 pub read_by_first-returns-in_ok-read_array-in-4-clause-does :
     goal.read_by_first-returns-in_ok-read_array-in-4-clause-does
-read_by_first-returns-in_ok-read_array-in-4-clause-does g t c =
-    arm_ok c.in_ok-first.first c.in_ok-first.ensures.runs (ReadsStepped (λ o
+read_by_first-returns-in_ok-read_array-in-4-clause-does g t c before runs =
+    arm_ok c.args.first runs (ReadsStepped (λ o
     xs v ys.
-    ReadsArrayInside o xs v.items ys) (g.S.Source.view c.first_of.new.reader).budget)
-    (StopsOf 4 (g.S.Source.view c.first_of.new.reader).budget)
+    ReadsArrayInside o xs v.items ys) (g.S.Source.view c.args.reader.now).budget)
+    (StopsOf 4 (g.S.Source.view c.args.reader.now).budget)
     (Array c.in_ok-read_array-in-4.field-0) (λ bs ys h.
-    array_reads (g.S.Source.view c.args.reader.now).budget c.in_ok-read_array-in-4.field-0
-    (c.in_ok-first.first ∷ bs) ys (subst (λ o. ReadsStepped (λ o xs v ys. ReadsArrayInside o
-    xs v.items ys) o (c.in_ok-first.first ∷ bs) c.in_ok-read_array-in-4.field-0 ys)
-    c.in_ok-first.ensures.runs.moves.by.budget h))
+    array_reads before.budget c.in_ok-read_array-in-4.field-0
+    (c.args.first ∷ bs) ys (subst (λ o. ReadsStepped (λ o xs v ys. ReadsArrayInside o
+    xs v.items ys) o (c.args.first ∷ bs) c.in_ok-read_array-in-4.field-0 ys)
+    runs.moves.by.budget h))
     c.in_ok-read_array-in-4.ensures.does
 
 pub read_by_first-returns-in_ok-read_map-in-5-clause-does :
     goal.read_by_first-returns-in_ok-read_map-in-5-clause-does
-read_by_first-returns-in_ok-read_map-in-5-clause-does g t c =
-    arm_ok c.in_ok-first.first c.in_ok-first.ensures.runs (ReadsStepped (λ o
+read_by_first-returns-in_ok-read_map-in-5-clause-does g t c before runs =
+    arm_ok c.args.first runs (ReadsStepped (λ o
     xs v ys.
-    ReadsMapInside o xs v.items ys) (g.S.Source.view c.first_of.new.reader).budget)
-    (StopsOf 5 (g.S.Source.view c.first_of.new.reader).budget) (Map c.in_ok-read_map-in-5.field-0)
-    (λ bs ys h. map_reads (g.S.Source.view c.args.reader.now).budget
-    c.in_ok-read_map-in-5.field-0 (c.in_ok-first.first ∷ bs) ys (subst (λ o.
-    ReadsStepped (λ o xs v ys. ReadsMapInside o xs v.items ys) o (c.in_ok-first.first ∷ bs)
-    c.in_ok-read_map-in-5.field-0 ys) c.in_ok-first.ensures.runs.moves.by.budget h))
+    ReadsMapInside o xs v.items ys) (g.S.Source.view c.args.reader.now).budget)
+    (StopsOf 5 (g.S.Source.view c.args.reader.now).budget) (Map c.in_ok-read_map-in-5.field-0)
+    (λ bs ys h. map_reads before.budget
+    c.in_ok-read_map-in-5.field-0 (c.args.first ∷ bs) ys (subst (λ o.
+    ReadsStepped (λ o xs v ys. ReadsMapInside o xs v.items ys) o (c.args.first ∷ bs)
+    c.in_ok-read_map-in-5.field-0 ys) runs.moves.by.budget h))
     c.in_ok-read_map-in-5.ensures.does
 
 pub read_by_first-returns-in_err-read_array-in-4-clause-does :
     goal.read_by_first-returns-in_err-read_array-in-4-clause-does
-read_by_first-returns-in_err-read_array-in-4-clause-does g t c =
-    rw c.from_residual-in_err-read_array-in-4.ensures
-    (arm_err c.in_ok-first.first c.in_ok-first.ensures.runs (ReadsStepped (λ
+read_by_first-returns-in_err-read_array-in-4-clause-does g t c before runs =
+    rw c.from_residual.ensures
+    (arm_err c.args.first runs (ReadsStepped (λ
     o xs v ys.
-    ReadsArrayInside o xs v.items ys) (g.S.Source.view c.first_of.new.reader).budget)
-    (StopsOf 4 (g.S.Source.view c.first_of.new.reader).budget)
-    (λ bs z rest h. subst (λ o. StopsUnder o (c.in_ok-first.first ∷ bs) z rest)
-    c.in_ok-first.ensures.runs.moves.by.budget (h c.in_ok-first.first bs refl
+    ReadsArrayInside o xs v.items ys) (g.S.Source.view c.args.reader.now).budget)
+    (StopsOf 4 (g.S.Source.view c.args.reader.now).budget)
+    (λ bs z rest h. subst (λ o. StopsUnder o (c.args.first ∷ bs) z rest)
+    runs.moves.by.budget (h c.args.first bs refl
     c.in-4.is))
     c.in_err-read_array-in-4.ensures.does)
 
 pub read_by_first-returns-in_err-read_map-in-5-clause-does :
     goal.read_by_first-returns-in_err-read_map-in-5-clause-does
-read_by_first-returns-in_err-read_map-in-5-clause-does g t c =
+read_by_first-returns-in_err-read_map-in-5-clause-does g t c before runs =
     rw c.from_residual-in_err-read_map-in-5.ensures
-    (arm_err c.in_ok-first.first c.in_ok-first.ensures.runs (ReadsStepped (λ
+    (arm_err c.args.first runs (ReadsStepped (λ
     o xs v ys.
-    ReadsMapInside o xs v.items ys) (g.S.Source.view c.first_of.new.reader).budget)
-    (StopsOf 5 (g.S.Source.view c.first_of.new.reader).budget)
-    (λ bs z rest h. subst (λ o. StopsUnder o (c.in_ok-first.first ∷ bs) z rest)
-    c.in_ok-first.ensures.runs.moves.by.budget (h c.in_ok-first.first bs refl
+    ReadsMapInside o xs v.items ys) (g.S.Source.view c.args.reader.now).budget)
+    (StopsOf 5 (g.S.Source.view c.args.reader.now).budget)
+    (λ bs z rest h. subst (λ o. StopsUnder o (c.args.first ∷ bs) z rest)
+    runs.moves.by.budget (h c.args.first bs refl
     c.in-5.is))
     c.in_err-read_map-in-5.ensures.does)
 
@@ -421,25 +423,15 @@ pub read_array-returns-then-not-step_in-clause-progress :
     goal.read_array-returns-then-not-step_in-clause-progress
 read_array-returns-then-not-step_in-clause-progress g t c = tt
 
-pub read_by_first-returns-in_err-first-clause-item :
-    goal.read_by_first-returns-in_err-first-clause-item
-read_by_first-returns-in_err-first-clause-item g t c =
-    rw c.from_residual.ensures tt
-
-pub read_by_first-returns-in_err-first-clause-progress :
-    goal.read_by_first-returns-in_err-first-clause-progress
-read_by_first-returns-in_err-first-clause-progress g t c =
-    rw c.from_residual.ensures tt
-
 pub read_by_first-returns-in_err-read_array-in-4-clause-item :
     goal.read_by_first-returns-in_err-read_array-in-4-clause-item
 read_by_first-returns-in_err-read_array-in-4-clause-item g t c =
-    rw c.from_residual-in_err-read_array-in-4.ensures tt
+    rw c.from_residual.ensures tt
 
 pub read_by_first-returns-in_err-read_array-in-4-clause-progress :
     goal.read_by_first-returns-in_err-read_array-in-4-clause-progress
 read_by_first-returns-in_err-read_array-in-4-clause-progress g t c =
-    rw c.from_residual-in_err-read_array-in-4.ensures tt
+    rw c.from_residual.ensures tt
 
 pub read_by_first-returns-in_err-read_map-in-5-clause-item :
     goal.read_by_first-returns-in_err-read_map-in-5-clause-item
@@ -583,28 +575,11 @@ read_member-returns-clause-progress g t c =
 
 pub read_by_first-returns-in_ok-read_array-in-4-clause-progress :
     goal.read_by_first-returns-in_ok-read_array-in-4-clause-progress
-read_by_first-returns-in_ok-read_array-in-4-clause-progress g t c =
-    omega (
-      arith,
-      c.in_ok-first.ensures.runs.moves.by.bound,
-      c.in_ok-read_array-in-4.ensures.progress,
-    )
+read_by_first-returns-in_ok-read_array-in-4-clause-progress g t c = c.in_ok-read_array-in-4.ensures.progress
 
 pub read_by_first-returns-in_ok-read_map-in-5-clause-progress :
     goal.read_by_first-returns-in_ok-read_map-in-5-clause-progress
-read_by_first-returns-in_ok-read_map-in-5-clause-progress g t c =
-    omega (
-      arith,
-      c.in_ok-first.ensures.runs.moves.by.bound,
-      c.in_ok-read_map-in-5.ensures.progress,
-    )
-
-pub read_by_first-returns-in_err-first-clause-does :
-    goal.read_by_first-returns-in_err-first-clause-does
-read_by_first-returns-in_err-first-clause-does g t c =
-    let budget = (g.S.Source.view c.args.reader.now).budget in
-    rw c.from_residual.ensures (nothing_there (ReadsUnder budget) (StopsUnder budget)
-    (λ z rest is. is) c.in_err-first.ensures.runs)
+read_by_first-returns-in_ok-read_map-in-5-clause-progress g t c = c.in_ok-read_map-in-5.ensures.progress
 
 pub open_items-loop-items-smaller : goal.open_items-loop-items-smaller
 open_items-loop-items-smaller g t c =
@@ -622,255 +597,29 @@ open_members-loop-members-smaller g t c =
       c.in_ok-member.ensures.progress,
     )
 
-pub read_nested-returns-clause-does : goal.read_nested-returns-clause-does
-read_nested-returns-clause-does g t c =
-    stepped c.if-not-step_in.ensures.budget c.step_in.ensures.others
-    c.read_by_first-outcome.ensures.does c.step_out.ensures.budget c.step_out.ensures.others
-
-pub read_nested-returns-then-not-step_in-clause-item :
-    goal.read_nested-returns-then-not-step_in-clause-item
-read_nested-returns-then-not-step_in-clause-item g t c = tt
-
-pub read_nested-returns-then-not-step_in-clause-progress :
-    goal.read_nested-returns-then-not-step_in-clause-progress
-read_nested-returns-then-not-step_in-clause-progress g t c = tt
-
-pub read_nested-returns-clause-item : goal.read_nested-returns-clause-item
-read_nested-returns-clause-item g t c = c.read_by_first-outcome.ensures.item
-
-pub read_nested-returns-clause-progress : goal.read_nested-returns-clause-progress
-read_nested-returns-clause-progress g t c =
-    around _ _ _ _ _ c.step_in.ensures.others.bound c.step_out.ensures.others.bound
-    c.read_by_first-outcome.ensures.progress
-
-pub read_nested-returns-then-not-step_in-clause-does :
-    goal.read_nested-returns-then-not-step_in-clause-does
-read_nested-returns-then-not-step_in-clause-does g t c =
-    rw c.leave_deep.ensures (does_no_step value_name (ReadsOneValue (g.S.Source.view
-    c.args.reader.now).budget)
-    (StopsOneValue (g.S.Source.view c.args.reader.now).budget) refl refl
-    (λ none xs. rw none (refl, refl)) c.if-not-step_in.ensures.budget c.step_in.ensures.others)
-
--- ---- an array whose items are counted
-
-pub counted_items-loop-alloc-init : goal.counted_items-loop-alloc-init
-counted_items-loop-alloc-init g t c = record {
-  reached =
-      reached_start (λ xs ys. ReadsItems (length c.reserve.new.self.items)
-      (g.S.Source.view c.args.reader.now).budget xs c.reserve.new.self.items ys) _
-      (none_yet (Readable (g.S.Source.view c.args.reader.now).budget) _ (cc));
-  items = items_none (cc);
-  few = none_too_many _ c.args.count (cc);
-}
-
-pub counted_items-returns-in_err-take_item_run-clause-does :
-    goal.counted_items-returns-in_err-take_item_run-clause-does
-counted_items-returns-in_err-take_item_run-clause-does g t c =
-    let budget = (g.S.Source.view c.args.reader.now).budget in
-    let items = c.loop-alloc.items.items in
-    rw c.from_residual.ensures (run_stops Readable items c.take_item_run.new.parts.items
-    c.loop-alloc.invariant.reached (λ xs v ys. ReadsItems c.args.count budget xs v.items ys)
-    (StopsItems c.args.count budget)
-    (λ xs ys z rest h s. items_stop (length items) c.args.count budget items xs ys z rest
-    (omega (arith, c.loop-alloc-test.true)) h (value_absent budget ys z rest s))
-    c.in_err-take_item_run.ensures.puts)
-
-pub counted_items-returns-in_err-value-clause-does :
-    goal.counted_items-returns-in_err-value-clause-does
-counted_items-returns-in_err-value-clause-does g t c =
-    rw c.from_residual-in_err-value.ensures (counted_stop (length c.take_item_run.new.parts.items)
-    c.take_item_run.new.parts.items (ran Readable c.loop-alloc.items.items
-    c.take_item_run.new.parts.items
-    c.loop-alloc.invariant.reached c.in_ok-take_item_run.ensures.puts)
-    (λ xs v ys. ReadsItems c.args.count (g.S.Source.view c.args.reader.now).budget xs
-    v.items ys) c.args.count (omega (arith, c.if-len-count.true)) c.in_err-value.ensures.does)
-
-pub counted_items-loop-alloc-smaller-in-Continue-branch-3 :
-    goal.counted_items-loop-alloc-smaller-in-Continue-branch-3
-counted_items-loop-alloc-smaller-in-Continue-branch-3 g t c =
-    omega (
-      arith,
-      c.if-len-count.true,
-      c.in_ok-take_item_run.ensures.more,
-      ap length c.in_ok-keep.ensures.kept,
-      length-append c.take_item_run.new.parts.items (c.in_ok-value.value ∷ []),
-    )
-
-pub counted_items-loop-alloc-preserved-in-Continue-branch-3 :
-    goal.counted_items-loop-alloc-preserved-in-Continue-branch-3
-counted_items-loop-alloc-preserved-in-Continue-branch-3 g t c =
-    let long : length c.keep.new.items.items ≡ length c.take_item_run.new.parts.items + 1 =
-    ap length c.in_ok-keep.ensures.kept
-    ∙ length-append c.take_item_run.new.parts.items (c.in_ok-value.value ∷ []) in
-    record {
-      reached =
-          subst (λ n. Reached (λ xs ys. ReadsItems n (g.S.Source.view c.args.reader.now).budget xs
-          c.keep.new.items.items ys) (g.S.Source.view c.args.reader.now)
-          (g.S.Source.view c.read_nested.new.reader)) (sym long)
-          (counted_more (length c.take_item_run.new.parts.items) c.take_item_run.new.parts.items
-          (ran Readable c.loop-alloc.items.items c.take_item_run.new.parts.items
-          c.loop-alloc.invariant.reached
-          c.in_ok-take_item_run.ensures.puts) _ c.in_ok-keep.ensures.kept
-          c.in_ok-value.ensures.does);
-      items =
-          items_are _ c.take_item_run.new.parts.items c.in_ok-value.value c.in_ok-keep.ensures.kept
-          (c.in_ok-take_item_run.ensures.items c.loop-alloc.invariant.items)
-          c.in_ok-value.ensures.item;
-      few = omega (arith, long, c.if-len-count.true);
-    }
-
-pub counted_items-returns-in_err-keep-clause-does :
-    goal.counted_items-returns-in_err-keep-clause-does
-counted_items-returns-in_err-keep-clause-does g t c =
-    rw c.from_residual-in_err-keep.ensures (does_no_memory (λ xs v ys. ReadsItems c.args.count
-    (g.S.Source.view c.args.reader.now).budget xs v.items ys) (StopsItems c.args.count
-    (g.S.Source.view c.args.reader.now).budget) (ap refusal_left c.in_err-keep.ensures.memory)
-    (kept_then (ran Readable c.loop-alloc.items.items c.take_item_run.new.parts.items
-    c.loop-alloc.invariant.reached c.in_ok-take_item_run.ensures.puts).kept
-    c.in_ok-value.ensures.does.moves.by))
-
-pub counted_items-loop-alloc-preserved : goal.counted_items-loop-alloc-preserved
-counted_items-loop-alloc-preserved g t c = record {
-  reached =
-      ran Readable c.loop-alloc.items.items c.take_item_run.new.parts.items
-      c.loop-alloc.invariant.reached
-      c.in_ok-take_item_run.ensures.puts;
-  items = c.in_ok-take_item_run.ensures.items c.loop-alloc.invariant.items;
-  few = c.in_ok-take_item_run.ensures.few;
-}
-
--- ---- a map whose pairs are counted
-
-pub counted_members-loop-alloc-init : goal.counted_members-loop-alloc-init
-counted_members-loop-alloc-init g t c = record {
-  reached =
-      reached_start (λ xs ys. ReadsMembers (length c.reserve.new.self.items)
-      (g.S.Source.view c.args.reader.now).budget xs c.reserve.new.self.items ys) _
-      (no_pairs_yet (Readable (g.S.Source.view c.args.reader.now).budget) _ (cc));
-  items = members_none_are (cc);
-  few = none_too_many _ c.args.count (cc);
-}
-
-pub counted_members-returns-in_err-take_run-clause-does :
-    goal.counted_members-returns-in_err-take_run-clause-does
-counted_members-returns-in_err-take_run-clause-does g t c =
-    let budget = (g.S.Source.view c.args.reader.now).budget in
-    let members = c.loop-alloc.members.items in
-    rw c.from_residual.ensures (pairs_stop Readable members c.take_run.new.parts.items
-    c.loop-alloc.invariant.reached (λ xs v ys. ReadsMembers c.args.count budget xs v.items ys)
-    (StopsMembers c.args.count budget)
-    (λ xs ys z rest h s. member_stop (length members) c.args.count budget members xs ys z rest
-    (omega (arith, c.loop-alloc-test.true)) h (inl (value_absent budget ys z rest s)))
-    c.in_err-take_run.ensures.puts)
-
-pub counted_members-returns-in_err-member-clause-does :
-    goal.counted_members-returns-in_err-member-clause-does
-counted_members-returns-in_err-member-clause-does g t c =
-    rw c.from_residual-in_err-member.ensures (ends ReadsMember StopsMember
-    (λ xs ys. ReadsMembers (length c.take_run.new.parts.items) (g.S.Source.view
-    c.args.reader.now).budget xs
-    c.take_run.new.parts.items ys)
-    (ran_pairs Readable c.loop-alloc.members.items c.take_run.new.parts.items
-    c.loop-alloc.invariant.reached c.in_ok-take_run.ensures.puts)
-    (λ xs v ys. ReadsMembers c.args.count (g.S.Source.view c.args.reader.now).budget xs v.items ys)
-    (StopsMembers c.args.count (g.S.Source.view c.args.reader.now).budget)
-    (λ xs ys z rest h s. member_stop (length c.take_run.new.parts.items) c.args.count
-    (g.S.Source.view c.args.reader.now).budget c.take_run.new.parts.items xs ys z rest
-    (omega (arith, c.if-len-count.true)) h s) c.in_err-member.ensures.does)
-
-pub counted_members-loop-alloc-smaller-in-Continue-branch-3 :
-    goal.counted_members-loop-alloc-smaller-in-Continue-branch-3
-counted_members-loop-alloc-smaller-in-Continue-branch-3 g t c =
-    omega (
-      arith,
-      c.if-len-count.true,
-      c.in_ok-take_run.ensures.more,
-      ap length c.in_ok-keep.ensures.kept,
-      length-append c.take_run.new.parts.items (c.in_ok-member.member ∷ []),
-    )
-
-pub counted_members-loop-alloc-preserved-in-Continue-branch-3 :
-    goal.counted_members-loop-alloc-preserved-in-Continue-branch-3
-counted_members-loop-alloc-preserved-in-Continue-branch-3 g t c =
-    let long : length c.keep.new.items.items ≡ length c.take_run.new.parts.items + 1 =
-    ap length c.in_ok-keep.ensures.kept
-    ∙ length-append c.take_run.new.parts.items (c.in_ok-member.member ∷ []) in
-    record {
-      reached =
-          subst (λ n. Reached (λ xs ys. ReadsMembers n (g.S.Source.view c.args.reader.now).budget xs
-          c.keep.new.items.items ys) (g.S.Source.view c.args.reader.now)
-          (g.S.Source.view c.read_member.new.reader)) (sym long)
-          (more ReadsMember StopsMember
-          (λ xs ys. ReadsMembers (length c.take_run.new.parts.items) (g.S.Source.view
-          c.args.reader.now).budget xs
-          c.take_run.new.parts.items ys)
-          (ran_pairs Readable c.loop-alloc.members.items c.take_run.new.parts.items
-          c.loop-alloc.invariant.reached c.in_ok-take_run.ensures.puts)
-          (λ xs ys. ReadsMembers (length c.take_run.new.parts.items + 1) (g.S.Source.view
-          c.args.reader.now).budget xs _ ys)
-          (λ xs ys zs h s. members_more (length c.take_run.new.parts.items) (g.S.Source.view
-          c.args.reader.now).budget
-          c.take_run.new.parts.items _ c.in_ok-member.member xs ys zs c.in_ok-keep.ensures.kept
-          h s) c.in_ok-member.ensures.does);
-      items =
-          members_are _ c.take_run.new.parts.items c.in_ok-member.member.0 c.in_ok-member.member.1
-          c.in_ok-keep.ensures.kept
-          (keeps_members c.loop-alloc.members.items c.take_run.new.parts.items
-          c.in_ok-take_run.ensures.items c.loop-alloc.invariant.items)
-          c.in_ok-member.ensures.key c.in_ok-member.ensures.value;
-      few = omega (arith, long, c.if-len-count.true);
-    }
-
-pub counted_members-returns-in_err-keep-clause-does :
-    goal.counted_members-returns-in_err-keep-clause-does
-counted_members-returns-in_err-keep-clause-does g t c =
-    rw c.from_residual-in_err-keep.ensures (does_no_memory (λ xs v ys. ReadsMembers c.args.count
-    (g.S.Source.view c.args.reader.now).budget xs v.items ys) (StopsMembers c.args.count
-    (g.S.Source.view c.args.reader.now).budget) (ap refusal_left c.in_err-keep.ensures.memory)
-    (kept_then (ran_pairs Readable c.loop-alloc.members.items c.take_run.new.parts.items
-    c.loop-alloc.invariant.reached c.in_ok-take_run.ensures.puts).kept
-    c.in_ok-member.ensures.does.moves.by))
-
-pub counted_members-loop-alloc-preserved : goal.counted_members-loop-alloc-preserved
-counted_members-loop-alloc-preserved g t c = record {
-  reached =
-      ran_pairs Readable c.loop-alloc.members.items c.take_run.new.parts.items
-      c.loop-alloc.invariant.reached c.in_ok-take_run.ensures.puts;
-  items =
-      keeps_members c.loop-alloc.members.items c.take_run.new.parts.items
-      c.in_ok-take_run.ensures.items c.loop-alloc.invariant.items;
-  few = c.in_ok-take_run.ensures.few;
-}
-
--- ---- a value that is no array and no map
-
 pub read_by_first-returns-in-6-clause-does : goal.read_by_first-returns-in-6-clause-does
-read_by_first-returns-in-6-clause-does g t c =
-    arm_does c.in_ok-first.first c.in_ok-first.ensures.runs
-    (λ xs v ys. ReadsUnder (g.S.Source.view c.first_of.new.reader).budget xs v ys)
-    (StopsOf 6 (g.S.Source.view c.first_of.new.reader).budget)
-    (λ bs ys v h. subst (λ o. ReadsUnder o (c.in_ok-first.first ∷ bs) v ys)
-    c.in_ok-first.ensures.runs.moves.by.budget h)
-    (λ bs z rest h. subst (λ o. StopsUnder o (c.in_ok-first.first ∷ bs) z rest)
-    c.in_ok-first.ensures.runs.moves.by.budget
-    (h c.in_ok-first.first bs refl c.in-6.is)) c.read_tag.ensures.does
+read_by_first-returns-in-6-clause-does g t c before runs =
+    arm_does c.args.first runs
+    (λ xs v ys. ReadsUnder (g.S.Source.view c.args.reader.now).budget xs v ys)
+    (StopsOf 6 (g.S.Source.view c.args.reader.now).budget)
+    (λ bs ys v h. subst (λ o. ReadsUnder o (c.args.first ∷ bs) v ys)
+    runs.moves.by.budget h)
+    (λ bs z rest h. subst (λ o. StopsUnder o (c.args.first ∷ bs) z rest)
+    runs.moves.by.budget
+    (h c.args.first bs refl c.in-6.is)) c.read_tag.ensures.does
 
 pub read_by_first-returns-in-6-clause-item : goal.read_by_first-returns-in-6-clause-item
 read_by_first-returns-in-6-clause-item g t c = c.read_tag.ensures.item
 
 pub read_by_first-returns-in-6-clause-progress : goal.read_by_first-returns-in-6-clause-progress
-read_by_first-returns-in-6-clause-progress g t c =
-    further _ _ _ _ c.in_ok-first.ensures.runs.moves.by.bound
-    c.read_tag.ensures.progress
+read_by_first-returns-in-6-clause-progress g t c = c.read_tag.ensures.progress
 
 pub read_by_first-returns-in_default-clause-item : goal.read_by_first-returns-in_default-clause-item
 read_by_first-returns-in_default-clause-item g t c = c.read_alone.ensures.item
 
 pub read_by_first-returns-in_default-clause-progress :
     goal.read_by_first-returns-in_default-clause-progress
-read_by_first-returns-in_default-clause-progress g t c =
-    further _ _ _ _ c.in_ok-first.ensures.runs.moves.by.bound
-    c.read_alone.ensures.progress
+read_by_first-returns-in_default-clause-progress g t c = c.read_alone.ensures.progress
 
 pub read_tag-returns-in_err-number-clause-does : goal.read_tag-returns-in_err-number-clause-does
 read_tag-returns-in_err-number-clause-does g t c =
@@ -907,6 +656,166 @@ read_tag-returns-clause-does g t c =
     c.in_ok-number.ensures.sound).kept c.in_ok-inner.ensures.does.moves.by)
 
 pub read_by_first-returns-in_default-clause-does : goal.read_by_first-returns-in_default-clause-does
-read_by_first-returns-in_default-clause-does g t c =
-    alone_does c.in_ok-first.first c.in_ok-first.ensures.runs
-    c.in_ok-first.ensures.byte c.read_alone.ensures.does
+read_by_first-returns-in_default-clause-does g t c before runs =
+    alone_does c.args.first runs
+    (Fits-lt-pow {w = w8} c.ranges.first) c.read_alone.ensures.does
+
+-- ---- as many values as one look decides, and the one behind them
+
+pub more_items-returns-clause-does : goal.more_items-returns-clause-does
+more_items-returns-clause-does g t c =
+    turn_stepped Readable StopsOneValue (1 * c.args.count - length c.args.items.now.items) c.args.items.now.items _
+    c.if-not-step_in.ensures.budget c.step_in.ensures.others c.items_inside-outcome.ensures.does
+    c.step_out.ensures.budget c.step_out.ensures.others
+
+pub more_items-returns-then-not-step_in-clause-does : goal.more_items-returns-then-not-step_in-clause-does
+more_items-returns-then-not-step_in-clause-does g t c =
+    rw c.leave_deep.ensures (turn_unstepped Readable StopsOneValue (1 * c.args.count) c.args.items.now.items _
+    c.requires refl refl (λ none xs. rw none (refl, refl)) c.if-not-step_in.ensures.budget
+    c.step_in.ensures.others)
+
+pub items_inside-returns-in_ok-value-in-Some-clause-does :
+    goal.items_inside-returns-in_ok-value-in-Some-clause-does
+items_inside-returns-in_ok-value-in-Some-clause-does g t c =
+    turn_put Readable StopsOneValue _ _ one_read (1 * c.args.count) c.args.items.now.items c.take_run.new.parts.items c.in-Some.first
+    (run_before Readable c.args.items.now.items c.take_run.new.parts.items c.in-Some.first _ c.in-Some.is c.in_ok-first.ensures.puts) c.put_value.new.parts.items c.put_value.result _
+    c.put_value.ensures.kept c.put_value.ensures.memory c.in_ok-value-in-Some.ensures.does
+
+pub items_inside-returns-in_err-value-in-Some-clause-does :
+    goal.items_inside-returns-in_err-value-in-Some-clause-does
+items_inside-returns-in_err-value-in-Some-clause-does g t c =
+    rw c.from_residual-in_err-value-in-Some.ensures (turn_refused Readable StopsOneValue _ _ one_read
+    (1 * c.args.count) c.args.items.now.items c.take_run.new.parts.items c.in-Some.first
+    (run_before Readable c.args.items.now.items c.take_run.new.parts.items c.in-Some.first _ c.in-Some.is c.in_ok-first.ensures.puts) _
+    (on_found c.in-Some.first c.in-Some.is c.in_ok-first.ensures.lacks)
+    c.in_err-value-in-Some.ensures.does)
+
+pub items_inside-returns-in_err-first-clause-does : goal.items_inside-returns-in_err-first-clause-does
+items_inside-returns-in_err-first-clause-does g t c =
+    rw c.from_residual.ensures (turn_ends Readable StopsOneValue _ _ one_read (1 * c.args.count) c.args.items.now.items
+    c.take_run.new.parts.items c.requires (none_under _) c.in_err-first.ensures.puts)
+
+pub items_inside-returns-in_ok-value-in-Some-clause-items :
+    goal.items_inside-returns-in_ok-value-in-Some-clause-items
+items_inside-returns-in_ok-value-in-Some-clause-items g t c =
+    put_items c.args.items.now.items c.take_run.new.parts.items c.put_value.new.parts.items c.in_ok-value-in-Some.value c.put_value.result
+    c.put_value.ensures.kept c.in_ok-first.ensures.items c.in_ok-value-in-Some.ensures.item
+
+pub more_members-returns-clause-does : goal.more_members-returns-clause-does
+more_members-returns-clause-does g t c =
+    turn_stepped Readable StopsOneValue (2 * c.args.count - length (flat c.args.pairs.now)) (flat c.args.pairs.now) _
+    c.if-not-step_in.ensures.budget c.step_in.ensures.others c.members_inside-outcome.ensures.does
+    c.step_out.ensures.budget c.step_out.ensures.others
+
+pub more_members-returns-then-not-step_in-clause-does : goal.more_members-returns-then-not-step_in-clause-does
+more_members-returns-then-not-step_in-clause-does g t c =
+    rw c.leave_deep.ensures (turn_unstepped Readable StopsOneValue (2 * c.args.count) (flat c.args.pairs.now) _
+    c.requires refl refl (λ none xs. rw none (refl, refl)) c.if-not-step_in.ensures.budget
+    c.step_in.ensures.others)
+
+pub members_inside-returns-in_ok-value-in-Some-clause-does :
+    goal.members_inside-returns-in_ok-value-in-Some-clause-does
+members_inside-returns-in_ok-value-in-Some-clause-does g t c =
+    turn_put Readable StopsOneValue _ _ one_read (2 * c.args.count) (flat c.args.pairs.now) (flat c.take_run.new.parts) c.in-Some.first
+    (run_before Readable (flat c.args.pairs.now) (flat c.take_run.new.parts) c.in-Some.first _ c.in-Some.is c.in_ok-first.ensures.puts) (flat c.put_value.new.parts) c.put_value.result _
+    c.put_value.ensures.kept c.put_value.ensures.memory c.in_ok-value-in-Some.ensures.does
+
+pub members_inside-returns-in_err-value-in-Some-clause-does :
+    goal.members_inside-returns-in_err-value-in-Some-clause-does
+members_inside-returns-in_err-value-in-Some-clause-does g t c =
+    rw c.from_residual-in_err-value-in-Some.ensures (turn_refused Readable StopsOneValue _ _ one_read
+    (2 * c.args.count) (flat c.args.pairs.now) (flat c.take_run.new.parts) c.in-Some.first
+    (run_before Readable (flat c.args.pairs.now) (flat c.take_run.new.parts) c.in-Some.first _ c.in-Some.is c.in_ok-first.ensures.puts) _
+    (on_found c.in-Some.first c.in-Some.is c.in_ok-first.ensures.lacks)
+    c.in_err-value-in-Some.ensures.does)
+
+pub members_inside-returns-in_err-first-clause-does : goal.members_inside-returns-in_err-first-clause-does
+members_inside-returns-in_err-first-clause-does g t c =
+    rw c.from_residual.ensures (turn_ends Readable StopsOneValue _ _ one_read (2 * c.args.count) (flat c.args.pairs.now)
+    (flat c.take_run.new.parts) c.requires (none_under _) c.in_err-first.ensures.puts)
+
+pub members_inside-returns-in_ok-value-in-Some-clause-items :
+    goal.members_inside-returns-in_ok-value-in-Some-clause-items
+members_inside-returns-in_ok-value-in-Some-clause-items g t c =
+    put_items (flat c.args.pairs.now) (flat c.take_run.new.parts) (flat c.put_value.new.parts) c.in_ok-value-in-Some.value c.put_value.result
+    c.put_value.ensures.kept c.in_ok-first.ensures.items c.in_ok-value-in-Some.ensures.item
+
+-- ---- an array whose items are counted
+
+pub counted_items-loop-alloc-init : goal.counted_items-loop-alloc-init
+counted_items-loop-alloc-init g t c = record {
+  reached =
+      reached_start (λ xs ys. ReadsEach (Readable (g.S.Source.view c.args.reader.now).budget)
+      (length c.reserve.new.self.items) xs c.reserve.new.self.items ys) _
+      (none_yet (Readable (g.S.Source.view c.args.reader.now).budget) _ (cc));
+  items = items_none (cc);
+  few = none_too_many _ (1 * c.args.count) (cc);
+}
+
+pub counted_items-loop-alloc-preserved : goal.counted_items-loop-alloc-preserved
+counted_items-loop-alloc-preserved g t c = record {
+  reached =
+      ran Readable StopsOneValue (1 * c.args.count) c.loop-alloc.items.items c.more_items.new.items.items c.loop-alloc.invariant.reached
+      c.in_ok-more_items.ensures.does;
+  items = c.in_ok-more_items.ensures.items c.loop-alloc.invariant.items;
+  few = c.in_ok-more_items.ensures.few;
+}
+
+pub counted_items-returns-in_err-more_items-clause-does :
+    goal.counted_items-returns-in_err-more_items-clause-does
+counted_items-returns-in_err-more_items-clause-does g t c =
+    rw c.from_residual.ensures (stop_alone Readable StopsOneValue c.args.count (g.S.Source.view c.args.reader.now).budget
+    (λ xs v ys. ReadsItems c.args.count (g.S.Source.view c.args.reader.now).budget xs v.items ys)
+    (run_stops Readable StopsOneValue (1 * c.args.count) c.loop-alloc.items.items c.more_items.new.items.items c.loop-alloc.invariant.reached
+    (λ xs v ys. ReadsItems c.args.count (g.S.Source.view c.args.reader.now).budget xs v.items ys)
+    c.in_err-more_items.ensures.does))
+
+-- ---- a map whose pairs are counted
+
+pub counted_members-loop-alloc-init : goal.counted_members-loop-alloc-init
+counted_members-loop-alloc-init g t c = record {
+  reached =
+      reached_start (λ xs ys. ReadsEach (Readable (g.S.Source.view c.args.reader.now).budget)
+      (length (flat_values c.reserve.new.self.items)) xs (flat_values c.reserve.new.self.items) ys) _
+      (none_yet (Readable (g.S.Source.view c.args.reader.now).budget) _ (cc));
+  items = items_none (cc);
+  few = none_too_many _ (2 * c.args.count) (cc);
+}
+
+pub counted_members-loop-alloc-preserved : goal.counted_members-loop-alloc-preserved
+counted_members-loop-alloc-preserved g t c = record {
+  reached =
+      ran Readable StopsOneValue (2 * c.args.count) (flat c.loop-alloc.pairs) (flat c.more_members.new.pairs) c.loop-alloc.invariant.reached
+      c.in_ok-more_members.ensures.does;
+  items = c.in_ok-more_members.ensures.items c.loop-alloc.invariant.items;
+  few = c.in_ok-more_members.ensures.few;
+}
+
+pub counted_members-returns-in_err-more_members-clause-does :
+    goal.counted_members-returns-in_err-more_members-clause-does
+counted_members-returns-in_err-more_members-clause-does g t c =
+    rw c.from_residual.ensures (run_stops Readable StopsOneValue (2 * c.args.count) (flat c.loop-alloc.pairs) (flat c.more_members.new.pairs) c.loop-alloc.invariant.reached
+    (λ xs v ys. ReadsMembers c.args.count (g.S.Source.view c.args.reader.now).budget xs v.items ys)
+    c.in_err-more_members.ensures.does)
+
+pub counted_members-returns-clause-does : goal.counted_members-returns-clause-does
+counted_members-returns-clause-does g t c =
+    let budget = (g.S.Source.view c.args.reader.now).budget in
+    let pairs = c.loop-alloc.pairs in
+    let all = both_there pairs.members.items pairs.key c.args.count c.loop-alloc.invariant.few
+    (c.lacks.ensures.full c.loop-alloc-test.false) in
+    does_ok (λ xs v ys. ReadsMembers c.args.count budget xs v.items ys)
+    (StopsMembers c.args.count budget)
+    (reached_as (λ xs ys. ReadsEach (Readable budget) (length (flat pairs)) xs (flat pairs) ys)
+    (λ xs ys. ReadsMembers c.args.count budget xs pairs.members.items ys)
+    (λ xs ys h. pairs_are_read (Readable budget) pairs.members.items pairs.key c.args.count xs ys
+    all h)
+    c.loop-alloc.invariant.reached)
+
+pub counted_members-returns-clause-items : goal.counted_members-returns-clause-items
+counted_members-returns-clause-items g t c =
+    let pairs = c.loop-alloc.pairs in
+    pairs_are pairs.members.items pairs.key c.args.count
+    (both_there pairs.members.items pairs.key c.args.count c.loop-alloc.invariant.few
+    (c.lacks.ensures.full c.loop-alloc-test.false))
+    c.loop-alloc.invariant.items

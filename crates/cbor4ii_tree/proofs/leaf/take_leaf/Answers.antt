@@ -2,7 +2,7 @@ use Rattle.std.proofs.Common.{◌≡◌, true, refl}
 use Rattle.cbor4ii_tree.specs.Strictly.{ReadsExactlyUnder, StopsExactlyUnder}
 use Rattle.cbor4ii_tree.specs.Valuing.{ReadsUnder, StopsUnder}
 use Rattle.cbor4ii_tree.proofs.values.Leaves.{takes_leaf, takes_exact_leaf, leaf_item, no_content}
-use Rattle.cbor4ii_tree.proofs.values.Leaves.{no_value, looked}
+use Rattle.cbor4ii_tree.proofs.values.Leaves.{no_value, undecided}
 use Rattle.cbor4ii_tree.proofs.leaf.take_leaf.Goals as goal
 
 pub returns-in-Ok-Whole-clause-takes : goal.returns-in-Ok-Whole-clause-takes
@@ -41,8 +41,10 @@ returns-in-Ok-End-clause-exactly g c exact =
     (StopsExactlyUnder (g.S.Source.view c.args.reader.now).budget) (λ z rest is. is)
     c.in-Ok-End.field-0-is c.in-Ok-End.ensures.offers refl)
 
-pub returns-in-Ok-Unseen-clause-takes : goal.returns-in-Ok-Unseen-clause-takes
-returns-in-Ok-Unseen-clause-takes g c = looked c.in-Ok-Unseen.ensures.offers
+pub returns-in-Ok-Begins-clause-takes : goal.returns-in-Ok-Begins-clause-takes
+returns-in-Ok-Begins-clause-takes g c =
+    undecided _ _ c.in-Ok-Begins.field-0-is c.in-Ok-Begins.ensures.offers
 
-pub returns-in-Ok-Unseen-clause-exactly : goal.returns-in-Ok-Unseen-clause-exactly
-returns-in-Ok-Unseen-clause-exactly g c exact = looked c.in-Ok-Unseen.ensures.offers
+pub returns-in-Ok-Begins-clause-exactly : goal.returns-in-Ok-Begins-clause-exactly
+returns-in-Ok-Begins-clause-exactly g c exact =
+    undecided _ _ c.in-Ok-Begins.field-0-is c.in-Ok-Begins.ensures.offers

@@ -1,41 +1,41 @@
-use Rattle.std.proofs.Common.{◌≡◌, true, refl, subst, arith}
+use Rattle.std.proofs.Common.{◌≡◌, ◌*◌, ◌++◌, ◌∷◌, [], length, length-append, ap, subst, refl, true}
+use Rattle.std.proofs.Common.{arith}
 use Rattle.std.proofs.lemmas.List.{take_rest}
-use Rattle.cbor4ii_tree.specs.Leaf.{MayTake}
-use Rattle.cbor4ii_tree.specs.LeafRuns.{PutsBehind}
-use Rattle.cbor4ii_tree.proofs.values.LeafRuns.{put_none, put_more, put_stays, may_more, run_may}
+use Rattle.cbor4ii_tree.specs.Leaf.{StandsAhead}
+use Rattle.cbor4ii_tree.proofs.values.LeafRuns.{put_none, put_one, put_well, refused_growth}
 use Rattle.cbor4ii_tree.proofs.run.put_run.Goals as goal
 
 pub loop-alloc-init : goal.loop-alloc-init
 loop-alloc-init g c = record {
   puts = put_none (c.args.exact ≡ true) (g.P.Parts.flat c.args.parts.now) c.args.shown.now;
-  few = c.requires;
-  more = omega arith;
+  few = omega (arith, c.requires.lacks);
+  none = λ e. refl;
 }
+
+pub returns-then-is_none : goal.returns-then-is_none
+returns-then-is_none g c =
+    refused_growth (c.args.exact ≡ true) (g.P.Parts.flat c.args.parts.now)
+    (g.P.Parts.flat c.loop-alloc.parts) c.in-Whole.value c.loop-alloc.size c.in-Whole.bytes
+    c.args.shown.now c.loop-alloc.invariant.puts
+    (subst (StandsAhead (c.args.exact ≡ true) c.in-Whole.value c.in-Whole.bytes)
+    (take_rest c.args.shown.now c.loop-alloc.size) c.in-Whole.ensures)
 
 pub loop-alloc-preserved : goal.loop-alloc-preserved
-loop-alloc-preserved g c = record {
-  puts =
-      put_more (c.args.exact ≡ true) (g.P.Parts.flat c.args.parts.now)
-      (g.P.Parts.flat c.loop-alloc.parts) (g.P.Parts.flat c.put.new.self) c.loop-alloc.size
-      c.in-Part.bytes _ c.args.shown.now c.loop-alloc.invariant.puts
-      (subst (λ xs. PutsBehind (c.args.exact ≡ true) c.in-Part.bytes xs
-      (g.P.Parts.flat c.loop-alloc.parts) (g.P.Parts.flat c.put.new.self))
-      (take_rest c.args.shown.now c.loop-alloc.size) c.in-Part.ensures.puts) refl;
-  few = omega (arith, c.in-Part.ensures.counts, c.count.ensures, c.loop-alloc-test.true);
-  more = omega (arith, c.in-Part.ensures.counts, c.loop-alloc.invariant.more);
-}
-
-pub returns-in-NoMemory-clause-puts : goal.returns-in-NoMemory-clause-puts
-returns-in-NoMemory-clause-puts g c =
-    may_more c.loop-alloc.size c.in-NoMemory.bytes _ c.args.shown.now
-    (run_may (c.args.exact ≡ true) (g.P.Parts.flat c.args.parts.now)
-    (g.P.Parts.flat c.loop-alloc.parts) c.loop-alloc.size c.args.shown.now
-    c.loop-alloc.invariant.puts)
-    (subst (MayTake c.in-NoMemory.bytes) (take_rest c.args.shown.now c.loop-alloc.size)
-    c.in-NoMemory.ensures.puts) refl
-
-pub returns-in-Unseen-clause-puts : goal.returns-in-Unseen-clause-puts
-returns-in-Unseen-clause-puts g c =
-    put_stays (c.args.exact ≡ true) (g.P.Parts.flat c.args.parts.now)
-    (g.P.Parts.flat c.loop-alloc.parts) (g.P.Parts.flat c.put.new.self) c.loop-alloc.size
-    c.args.shown.now c.loop-alloc.invariant.puts c.in-Unseen.ensures.puts
+loop-alloc-preserved g c =
+    let is = put_well c.put.result c.is_none.ensures c.if-is_none.false c.put.ensures in
+    let l = subst (StandsAhead (c.args.exact ≡ true) c.in-Whole.value c.in-Whole.bytes)
+    (take_rest c.args.shown.now c.loop-alloc.size) c.in-Whole.ensures in
+    record {
+      puts =
+          put_one (c.args.exact ≡ true) (g.P.Parts.flat c.args.parts.now)
+          (g.P.Parts.flat c.loop-alloc.parts) (g.P.Parts.flat c.put.new.self) c.in-Whole.value
+          c.loop-alloc.size c.in-Whole.bytes c.args.shown.now c.loop-alloc.invariant.puts l is;
+      few =
+          omega (
+            arith,
+            c.lacks.ensures.less c.loop-alloc-test.true,
+            ap length is,
+            length-append (g.P.Parts.flat c.loop-alloc.parts) (c.in-Whole.value ∷ []),
+          );
+      none = λ e. absurd (omega (arith, e, l.some));
+    }
