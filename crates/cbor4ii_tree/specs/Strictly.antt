@@ -1,5 +1,5 @@
 -- What the parts of reading a value that is spelled in one way accept, and where they stop.
-use Rattle.std.specs.Prelude.{◌≡◌, ◌/◌, ℕ, suc, ◌⊎◌, List, ◌∷◌, ◌++◌, length, Some, None}
+use Rattle.std.specs.Prelude.{◌≡◌, ◌/◌, ℕ, suc, List, ◌∷◌, ◌++◌, length, Some, None}
 use Rattle.std.specs.Prelude.{string_bytes}
 use Rattle.cbor4ii_tree.specs.Does.{Accepting}
 use Rattle.cbor4ii_tree.specs.Tree.{Tree, Trees, Pairs, count, pair_count, bytes, bytes_all}

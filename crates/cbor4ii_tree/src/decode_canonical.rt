@@ -1,10 +1,10 @@
 //! Values that are spelled in one way, read. Each level takes one small frame of the stack, as in
 //! `decode_value`.
 ghost use Rattle.std.specs.Prelude.{◌≡◌, ◌+◌, ◌-◌, ◌*◌, ◌<◌, ◌≤◌, ◌/◌, ◌⊎◌, OnOk, OnSome, IfOk};
-ghost use Rattle.std.specs.Prelude.{[], length};
-ghost use Rattle.std.specs.Prelude.{IfErr, true};
+ghost use Rattle.std.specs.Prelude.{length, IfErr, true, false};
 ghost use Rattle.cbor4ii_items.specs.Decoding.{Sound, Refuses, Stops};
 ghost use Rattle.cbor4ii_items.specs.Moves.{Moves};
+ghost use Rattle.cbor4ii_items.specs.Refusal.{is_out_of_memory};
 ghost use Rattle.cbor4ii_items.specs.Shortest.{ReadsShortest, StopsShortest};
 ghost use Rattle.cbor4ii_tree.specs.Canonically.{ReadsCanonical, StopsCanonical, OnlyCanonical};
 ghost use Rattle.cbor4ii_tree.specs.Canonically.{AllCanonical, TakesSpelling, EverySpelling};
@@ -214,10 +214,14 @@ fn head_of<S: Source>(
     failure: &mut Option<DecodeError<S::Error>>,
 ) -> Option<u64>
     ensures moves { Moves (S.view reader.old) (S.view reader.new) (answered result failure.new) }
+    ensures memory { IfErr (answered result failure.new)
+        (λ error. is_out_of_memory error ≡ false) }
     ensures progress { OnOk (answered result failure.new)
         ((S.view reader.new).bound + 1 ≤ (S.view reader.old).bound) }
     ensures sound { IfOk (answered result failure.new)
         (Sound (ReadsShortest major) (S.view reader.old) (S.view reader.new)) }
+    ensures complete { IfErr (answered result failure.new)
+        (Refuses (ReadsShortest major) (S.view reader.old)) }
     ensures stops { IfErr (answered result failure.new)
         (Stops (StopsShortest name.now major) (S.view reader.old) (S.view reader.new)) }
 {

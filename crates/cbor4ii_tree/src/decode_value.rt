@@ -3,7 +3,7 @@
 //! Each level of arrays, maps and tags takes one small frame of the stack: their loops and
 //! `read_tag` stay out of line, and what leads from one of them to another is inline.
 ghost use Rattle.std.specs.Prelude.{◌≡◌, ◌+◌, ◌-◌, ◌*◌, ◌<◌, ◌≤◌, ◌/◌, ◌⊎◌, OnOk, IfOk, IfErr};
-ghost use Rattle.std.specs.Prelude.{true, [], length};
+ghost use Rattle.std.specs.Prelude.{true, false, length};
 ghost use Rattle.std.specs.Prelude.{OnSome, IfSome};
 ghost use Rattle.cbor4ii_tree.specs.Does.{DoesUnder, answered};
 ghost use Rattle.cbor4ii_tree.specs.Valuing.{ReadsOneValue, StopsOneValue, ReadsUnder, StopsUnder};
@@ -21,6 +21,7 @@ ghost use Rattle.cbor4ii_items.specs.Decoding.{Sound, Refuses, Stops};
 ghost use Rattle.cbor4ii_items.specs.Moves.{Moves};
 ghost use Rattle.cbor4ii_items.specs.Numbers.{ReadsArgument, StopsArgument};
 ghost use Rattle.cbor4ii_items.specs.Lengths.{ReadsLength, StopsLength};
+ghost use Rattle.cbor4ii_items.specs.Refusal.{is_out_of_memory};
 ghost use Rattle.cbor4ii_tree.specs.Refusal.{tag_name, array_name, map_name};
 ghost use Rattle.cbor4ii_tree.specs.Item.{IsItem, AreItems, AreMembers};
 ghost use Rattle.cbor4ii_tree.specs.StopsReading.{StopsReading};
@@ -218,10 +219,14 @@ fn read_tag<S: Source>(
 #[inline(never)]
 fn tag_number<S: Source>(reader: &mut S, failure: &mut Option<DecodeError<S::Error>>) -> Option<u64>
     ensures moves { Moves (S.view reader.old) (S.view reader.new) (answered result failure.new) }
+    ensures memory { IfErr (answered result failure.new)
+        (λ error. is_out_of_memory error ≡ false) }
     ensures progress { OnOk (answered result failure.new)
         ((S.view reader.new).bound + 1 ≤ (S.view reader.old).bound) }
     ensures sound { IfOk (answered result failure.new)
         (Sound (ReadsArgument 6 8) (S.view reader.old) (S.view reader.new)) }
+    ensures complete { IfErr (answered result failure.new)
+        (Refuses (ReadsArgument 6 8) (S.view reader.old)) }
     ensures stops { IfErr (answered result failure.new)
         (Stops (StopsArgument tag_name 6 8) (S.view reader.old) (S.view reader.new)) }
 {
@@ -312,10 +317,14 @@ fn array_length<S: Source>(
     failure: &mut Option<DecodeError<S::Error>>,
 ) -> Option<Option<usize>>
     ensures moves { Moves (S.view reader.old) (S.view reader.new) (answered result failure.new) }
+    ensures memory { IfErr (answered result failure.new)
+        (λ error. is_out_of_memory error ≡ false) }
     ensures progress { OnOk (answered result failure.new)
         ((S.view reader.new).bound + 1 ≤ (S.view reader.old).bound) }
     ensures sound { IfOk (answered result failure.new)
         (Sound (ReadsLength 4) (S.view reader.old) (S.view reader.new)) }
+    ensures complete { IfErr (answered result failure.new)
+        (Refuses (ReadsLength 4) (S.view reader.old)) }
     ensures stops { IfErr (answered result failure.new)
         (Stops (StopsLength array_name 4) (S.view reader.old) (S.view reader.new)) }
 {
@@ -523,10 +532,14 @@ fn map_length<S: Source>(
     failure: &mut Option<DecodeError<S::Error>>,
 ) -> Option<Option<usize>>
     ensures moves { Moves (S.view reader.old) (S.view reader.new) (answered result failure.new) }
+    ensures memory { IfErr (answered result failure.new)
+        (λ error. is_out_of_memory error ≡ false) }
     ensures progress { OnOk (answered result failure.new)
         ((S.view reader.new).bound + 1 ≤ (S.view reader.old).bound) }
     ensures sound { IfOk (answered result failure.new)
         (Sound (ReadsLength 5) (S.view reader.old) (S.view reader.new)) }
+    ensures complete { IfErr (answered result failure.new)
+        (Refuses (ReadsLength 5) (S.view reader.old)) }
     ensures stops { IfErr (answered result failure.new)
         (Stops (StopsLength map_name 5) (S.view reader.old) (S.view reader.new)) }
 {

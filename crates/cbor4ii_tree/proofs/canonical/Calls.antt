@@ -1,5 +1,5 @@
 -- The calls of reading a value that is spelled in one way, one behind another.
-use Rattle.std.proofs.Common.{◌≡◌, ◌≢◌, ℕ, suc, ◌+◌, ◌*◌, ◌/◌, ◌<◌, ◌≤◌, inl, inr, List, [], ◌∷◌}
+use Rattle.std.proofs.Common.{◌≡◌, ◌≢◌, ℕ, suc, ◌+◌, ◌/◌, ◌<◌, ◌≤◌, inl, inr, List, ◌∷◌}
 use Rattle.std.proofs.Common.{◌⊎◌, ◌++◌, length, drop, Option, Some, None, Result, Ok, Err}
 use Rattle.std.proofs.Common.{true, false, refl, sym, ap, ap₂, ◌∙◌, subst, arith, append_assoc}
 use Rattle.std.proofs.Common.{take-append-drop, Vec, Global, String, negsuc, ◌-ℤ◌}
@@ -31,7 +31,7 @@ use Rattle.cbor4ii_items.specs.Laws.Answering.{fits_zero}
 use Rattle.cbor4ii_tree.specs.declared.value.Value.{Value, Integer, Float, Bytes, Text, Array, Map}
 use Rattle.cbor4ii_tree.specs.declared.value.FloatBits.{FloatBits}
 use Rattle.cbor4ii_tree.specs.Tree.{no_trees, tree, int, string, array, map_of, tagged, simple}
-use Rattle.cbor4ii_tree.specs.Tree.{bits, count, bytes, bytes_all, bytes_pairs}
+use Rattle.cbor4ii_tree.specs.Tree.{bits, bytes, bytes_all, bytes_pairs}
 use Rattle.cbor4ii_tree.specs.Item.{no_items, item, integer, float, sequence, mapping, tag}
 use Rattle.cbor4ii_tree.specs.Cost.{Budget, cost, greatest_cost, greatest_pair_cost}
 use Rattle.cbor4ii_tree.specs.Laws.Initials.{initial_simple, initial_bits}

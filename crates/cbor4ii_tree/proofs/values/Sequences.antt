@@ -1,5 +1,5 @@
 -- Arrays and maps of values.
-use Rattle.std.proofs.Common.{◌≡◌, ◌≢◌, ℕ, ◌+◌, ◌*◌, ◌/◌, ◌%◌, ◌<◌, List, [], ◌∷◌, ◌++◌, drop, take}
+use Rattle.std.proofs.Common.{◌≡◌, ◌≢◌, ℕ, ◌+◌, ◌*◌, ◌/◌, ◌%◌, List, [], ◌∷◌, ◌++◌, drop, take}
 use Rattle.std.proofs.Common.{Option, Some, None, Result, Ok, Err, true, refl, sym, ap, ap₂, ◌∙◌}
 use Rattle.std.proofs.Common.{subst, arith, append_assoc, inl, inr, Vec, Global}
 use Rattle.std.specs.Int.{bytes_high_first}

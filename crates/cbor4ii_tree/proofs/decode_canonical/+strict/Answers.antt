@@ -1,5 +1,5 @@
-use Rattle.std.proofs.Common.{refl, sym, ap, subst, inl, arith, ◌∙◌, ◌+◌, ◌-◌, ◌*◌, ◌≡◌, [], ◌∷◌, w8}
-use Rattle.std.proofs.Common.{length, length-append, Vec, Global}
+use Rattle.std.proofs.Common.{refl, ap, subst, inl, arith, ◌∙◌, ◌-◌, ◌*◌, w8}
+use Rattle.std.proofs.Common.{length, Vec, Global}
 use Rattle.cbor4ii_tree.specs.StopsStrictly.{Exactly}
 use Rattle.cbor4ii_tree.specs.declared.value.Value.{Value, Array, Map, Tag}
 use Rattle.cbor4ii_tree.specs.Item.{tag}

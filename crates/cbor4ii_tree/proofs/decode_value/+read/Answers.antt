@@ -1,6 +1,6 @@
-use Rattle.std.proofs.Common.{length, [], sym, inl, refl, ap, subst, arith, w8, ◌-◌, ◌*◌}
+use Rattle.std.proofs.Common.{length, inl, refl, ap, subst, arith, w8, ◌-◌, ◌*◌}
 use Rattle.std.proofs.Math.Facts.{Fits-lt-pow}
-use Rattle.std.proofs.Common.{◌∙◌, ◌+◌, ◌∷◌, ◌≡◌}
+use Rattle.std.proofs.Common.{◌∙◌, ◌∷◌, ◌≡◌}
 use Rattle.cbor4ii_tree.specs.Does.{refusal_left}
 use Rattle.cbor4ii_tree.specs.Valuing.{ReadsOneValue, StopsOneValue, ReadsMember, StopsMember}
 use Rattle.cbor4ii_tree.specs.Valuing.{StopsMembers, ReadsStepped, StopsOf, ReadsItems}

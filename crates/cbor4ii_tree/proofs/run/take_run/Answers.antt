@@ -1,4 +1,4 @@
-use Rattle.std.proofs.Common.{◌≡◌, true, refl, arith, subst, sym}
+use Rattle.std.proofs.Common.{◌≡◌, true, refl, arith}
 use Rattle.cbor4ii_tree.specs.StopsReading.{Readable}
 use Rattle.cbor4ii_tree.specs.StopsStrictly.{Exactly}
 use Rattle.cbor4ii_tree.proofs.values.LeafRuns.{leaf_readable, leaf_exactly, takes_whole}
