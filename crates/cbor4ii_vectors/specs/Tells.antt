@@ -4,6 +4,7 @@ use Rattle.cbor4ii_rw.specs.View.{View}
 use Rattle.cbor4ii_rw.specs.Writer.{Output}
 use Rattle.cbor4ii_vectors.specs.declared.readers.TestReader.{TestReader}
 use Rattle.cbor4ii_vectors.specs.declared.readers.Counting.{Counting}
+use Rattle.cbor4ii_vectors.specs.declared.readers.Asked.{Asked}
 use Rattle.cbor4ii_vectors.specs.declared.writers.FailingWriter.{FailingWriter}
 use Rattle.cbor4ii_vectors.specs.declared.writers.PushLengths.{PushLengths}
 
@@ -30,6 +31,19 @@ counting_view reader = record {
   advanceable = length reader.bytes.now;
   budget = None;
   failures = 0;
+  taken = None;
+  lends_whole = false;
+  remembers = true;
+  ends_at = None;
+}
+
+abbrev pub asked_view : Asked → View
+asked_view reader = record {
+  told = Some reader.bytes.now;
+  bound = length reader.bytes.now;
+  advanceable = length reader.bytes.now;
+  budget = None;
+  failures = reader.failures;
   taken = None;
   lends_whole = false;
   remembers = true;

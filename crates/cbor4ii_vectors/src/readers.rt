@@ -3,7 +3,7 @@ ghost use Rattle.std.specs.Prelude.{◌≡◌, None, Some, IsTrue, take, false};
 ghost use Rattle.std.proofs.Common.{rules};
 ghost use Rattle.cbor4ii_rw.specs.Reader.{Breaks, StepsIn, step_back};
 ghost use Rattle.cbor4ii_rw.specs.View.{Told};
-ghost use Rattle.cbor4ii_vectors.specs.Tells.{test_view, counting_view};
+ghost use Rattle.cbor4ii_vectors.specs.Tells.{test_view, counting_view, asked_view};
 
 use cbor4ii_rw::error::Never;
 use cbor4ii_rw::long::FillLong;
@@ -378,4 +378,127 @@ impl<'de> FillLong for Counting<'de> {
         self.shows = self.shows.saturating_add(1);
         Ok(Some(&self.bytes[..self.bytes.len().min(want)]))
     }
+}
+
+/// What was asked of a reader.
+#[derive(Clone, Copy, Debug, PartialEq, Eq)]
+pub struct Asks {
+    /// How often it was asked to show bytes.
+    pub looks: usize,
+    /// How often it had none to show.
+    pub ends: usize,
+    /// The most bytes that were wanted at once.
+    pub largest: usize,
+    /// How many bytes had to have come, where it waits for all that is wanted.
+    pub come: usize,
+}
+
+/// Shows at most what is wanted, and counts what it is asked for. It may show no more than so many
+/// bytes at a time, and may fail where more than so many are wanted. It lets items nest without a
+/// limit.
+#[derive(Drop)]
+pub struct Asked<'a> {
+    bytes: &'a [u8],
+    taken: usize,
+    asks: Asks,
+    // How many bytes it shows at most; one where this is none.
+    front: usize,
+    // Whether a look may ask it for 4,096 bytes.
+    is_wide: bool,
+    // It fails where more is wanted.
+    most: usize,
+    failures: u64,
+}
+
+impl<'a> Asked<'a> {
+    /// A reader over `bytes` of which nothing was asked yet. It shows what is wanted, and says of
+    /// itself no more than a reader has to.
+    pub fn new(bytes: &'a [u8]) -> Asked<'a>
+        ensures told { (asked_view result).told ≡ Some bytes.now }
+    {
+        let asks = Asks {
+            looks: 0,
+            ends: 0,
+            largest: 0,
+            come: 0,
+        };
+        Asked {
+            bytes,
+            taken: 0,
+            asks,
+            front: usize::MAX,
+            is_wide: false,
+            most: usize::MAX,
+            failures: 0,
+        }
+    }
+
+    /// The same reader, which shows at most so many bytes at a time, and one at least.
+    pub fn showing(self, front: usize) -> Asked<'a> {
+        Asked { front, ..self }
+    }
+
+    /// The same reader, which lets a look ask for 4,096 bytes.
+    pub fn wide(self) -> Asked<'a> {
+        Asked {
+            is_wide: true,
+            ..self
+        }
+    }
+
+    /// The same reader, which fails where more than so many bytes are wanted.
+    pub fn refusing_above(self, most: usize) -> Asked<'a> {
+        Asked { most, ..self }
+    }
+
+    /// What was asked of it.
+    pub fn asks(&self) -> Asks {
+        self.asks
+    }
+
+    /// Counts a look that wants so many bytes.
+    fn count(&mut self, want: usize)
+        ensures kept { asked_view self.new ≡ asked_view self.old }
+        ensures bytes { self.new.bytes.now ≡ self.old.bytes.now }
+    {
+        self.asks.looks = self.asks.looks.saturating_add(1);
+        if self.bytes.is_empty() {
+            self.asks.ends = self.asks.ends.saturating_add(1);
+        }
+        self.asks.largest = self.asks.largest.max(want);
+        self.asks.come = self.asks.come.max(self.taken.saturating_add(want));
+    }
+}
+
+impl Source for Asked<'_> {
+    type Error = Failure;
+
+    ghost view = { asked_view };
+
+    fn show(&mut self, want: usize) -> Result<&[u8], Failure> {
+        self.count(want);
+        if want > self.most {
+            self.failures = self.failures.saturating_add(1);
+            return Err(Failure);
+        }
+        let front = want.min(self.front.max(1));
+        Ok(&self.bytes[..self.bytes.len().min(front)])
+    }
+
+    fn window(&self) -> usize {
+        if self.is_wide { 4096 } else { 1 }
+    }
+
+    fn advance(&mut self, n: usize) {
+        self.taken = self.taken.saturating_add(n);
+        self.bytes = &self.bytes[n..];
+    }
+
+    fn step_in(&mut self) -> bool {
+        true
+    }
+
+    fn step_out(&mut self) {}
+
+    ghost told_within_bound = { λ reader xs is. Prim.search rules };
 }

@@ -12,6 +12,7 @@ use cbor4ii_vectors::{eof, not_canonical, table};
 use std::alloc::{AllocError, Global};
 use std::test::Fail;
 
+mod asked;
 mod depth;
 mod growth;
 mod refusals;

@@ -6,8 +6,8 @@ use cbor4ii_vectors::rows::{reads_by_each, writes};
 use std::alloc::{AllocError, Global};
 use std::test::Fail;
 
-// A part so many times, between a head and an end. The bytes stay for good.
-fn repeated(
+/// A part so many times, between a head and an end. The bytes stay for good.
+pub fn repeated(
     alloc: Global,
     head: &[u8],
     part: &[u8],
@@ -22,19 +22,19 @@ fn repeated(
     Ok(bytes.leak())
 }
 
-// 300 numbers 5.
-fn array(alloc: Global) -> Result<Value, AllocError> {
+/// So many numbers 5.
+pub fn array(alloc: Global, count: usize) -> Result<Value, AllocError> {
     let mut items = Vec::new(alloc);
-    for _ in 0..300 {
+    for _ in 0..count {
         items.push(Value::Integer(5))?;
     }
     Ok(Value::Array(items))
 }
 
-// 300 pairs of 5 and this number.
-fn map(alloc: Global, value: i128) -> Result<Value, AllocError> {
+/// So many pairs of 5 and this number.
+pub fn map(alloc: Global, value: i128, count: usize) -> Result<Value, AllocError> {
     let mut pairs = Vec::new(alloc);
-    for _ in 0..300 {
+    for _ in 0..count {
         pairs.push((Value::Integer(5), Value::Integer(value)))?;
     }
     Ok(Value::Map(pairs))
@@ -55,9 +55,9 @@ fn reads_and_writes(alloc: Global, bytes: &'static [u8], value: Value) -> Result
 fn arrays_of_300_items(rt: HostRuntime) -> Result<(), Fail> {
     let alloc = rt.alloc();
     let counted = repeated(alloc, b"\x99\x01\x2c", b"\x05", 300, b"")?;
-    reads_and_writes(alloc, counted, array(alloc)?)?;
+    reads_and_writes(alloc, counted, array(alloc, 300)?)?;
     let open = repeated(alloc, b"\x9f", b"\x05", 300, b"\xff")?;
-    reads(alloc, open, array(alloc)?)
+    reads(alloc, open, array(alloc, 300)?)
 }
 
 #[test]
@@ -68,13 +68,13 @@ fn maps_of_300_pairs(rt: HostRuntime) -> Result<(), Fail> {
 
 fn reads_maps(alloc: Global, pair: &[u8], value: i128) -> Result<(), Fail> {
     let counted = repeated(alloc, b"\xb9\x01\x2c", pair, 300, b"")?;
-    reads_and_writes(alloc, counted, map(alloc, value)?)?;
+    reads_and_writes(alloc, counted, map(alloc, value, 300)?)?;
     let open = repeated(alloc, b"\xbf", pair, 300, b"\xff")?;
-    reads(alloc, open, map(alloc, value)?)
+    reads(alloc, open, map(alloc, value, 300)?)
 }
 
-// So many of this byte.
-fn byte_string(alloc: Global, byte: u8, count: usize) -> Result<Value, AllocError> {
+/// So many of this byte.
+pub fn byte_string(alloc: Global, byte: u8, count: usize) -> Result<Value, AllocError> {
     Ok(Value::Bytes(vec![in alloc; byte; count]?))
 }
 
@@ -87,8 +87,8 @@ fn byte_strings_of_300_bytes(rt: HostRuntime) -> Result<(), Fail> {
     reads(alloc, open, byte_string(alloc, 0x07, 300)?)
 }
 
-// So many letters a.
-fn text(alloc: Global, count: usize) -> Result<Value, Fail> {
+/// So many letters a.
+pub fn text(alloc: Global, count: usize) -> Result<Value, Fail> {
     Ok(Value::Text(String::from_utf8(vec![in alloc; b'a'; count]?)?))
 }
 

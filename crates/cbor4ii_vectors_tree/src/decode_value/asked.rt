@@ -1,0 +1,370 @@
+//! What reading a value asks of a reader: how often it looks, how many bytes a look wants, and how
+//! many have to have come where the reader waits for all that is wanted.
+//!
+//! A value takes a look for its first byte, one of nine bytes for its head, and one for the content
+//! of a string. A float takes one of as many bytes as it has, in the place of its head. A spelling
+//! that has to be the canonical one takes a look more for each head. A head that does not stand
+//! whole in what is shown takes one more for each of its bytes, and content one for each part.
+//!
+//! That is the most. Where the reader lets a look ask for 4,096 bytes, such a look stands in the
+//! place of the first, and decides at once what it shows whole.
+use crate::decode_value::growth::repeated;
+use crate::item::Item;
+use cbor4ii_rw::error::{DecodeError, Never};
+use cbor4ii_rw::read::Source;
+use cbor4ii_tree::{Canonical, Value};
+use cbor4ii_vectors::readers::{Asked, Asks, Failure};
+use cbor4ii_vectors::rows::{ReadFrom, leaves};
+use cbor4ii_vectors::table;
+use std::alloc::Global;
+use std::test::Fail;
+
+// The most looks over a reader that shows what is wanted, over one that shows one byte at a time,
+// and over one that lets a look ask for 4,096 bytes and shows what is wanted.
+type Looks = (usize, usize, usize);
+
+// A head, a part that stands behind it so many times, the most bytes that a look wants, and that
+// have to have come; the looks of a value, and of one in its canonical spelling.
+type Row = (
+    &'static [u8],
+    &'static [u8],
+    usize,
+    (usize, usize),
+    Looks,
+    Looks,
+);
+
+const LEAVES: &[Row] = table! {
+    (b"\xf6", b"", 0, (1, 1), (1, 1, 1), (1, 1, 1)),
+    (b"\xf5", b"", 0, (1, 1), (1, 1, 1), (1, 1, 1)),
+    (b"\x00", b"", 0, (9, 9), (2, 2, 1), (3, 3, 1)),
+    (b"\x20", b"", 0, (9, 9), (2, 2, 1), (3, 3, 1)),
+    (b"\x18\x18", b"", 0, (9, 9), (2, 4, 1), (3, 5, 1)),
+    (b"\x19\x01\x00", b"", 0, (9, 9), (2, 5, 1), (3, 6, 1)),
+    (b"\x1a\x00\x01\x00\x00", b"", 0, (9, 9), (2, 7, 1), (3, 8, 1)),
+    (b"\x3b\x00\x00\x00\x01\x00\x00\x00\x00", b"", 0, (9, 9), (2, 11, 1), (3, 12, 1)),
+    (b"\xf9\x3c\x00", b"", 0, (3, 3), (2, 5, 1), (2, 5, 1)),
+    (b"\xfa\x7f\x80\x00\x00", b"", 0, (5, 5), (2, 7, 1), (2, 7, 1)),
+    (b"\xfb\x7f\xf0\x00\x00\x00\x00\x00\x00", b"", 0, (9, 9), (2, 11, 1), (2, 11, 1)),
+    (b"\x40", b"", 0, (9, 9), (2, 2, 1), (3, 3, 1)),
+    (b"\x60", b"", 0, (9, 9), (2, 2, 1), (3, 3, 1)),
+    (b"\x64IETF", b"", 0, (9, 9), (3, 6, 1), (4, 7, 1)),
+    (b"\x70", b"a", 16, (16, 17), (3, 18, 1), (4, 19, 1)),
+    (b"\x78\x1e", b"a", 30, (30, 32), (3, 34, 1), (4, 35, 1)),
+    (b"\x59\x01\x2c", b"a", 300, (300, 303), (3, 305, 1), (4, 306, 1)),
+};
+
+const CONTAINERS: &[Row] = table! {
+    (b"\x80", b"", 0, (9, 9), (2, 2, 2), (3, 3, 3)),
+    (b"\xa0", b"", 0, (9, 9), (2, 2, 2), (3, 3, 3)),
+    (b"\x81\x80", b"", 0, (9, 10), (4, 4, 4), (6, 6, 6)),
+    (b"\x81\xf6", b"", 0, (9, 9), (3, 3, 3), (4, 4, 4)),
+    (b"\x83\x01\x02\x03", b"", 0, (9, 12), (8, 8, 3), (12, 12, 4)),
+    (b"\x82\x01\x62ab", b"", 0, (9, 11), (7, 8, 3), (10, 11, 4)),
+    (b"\x82\x05\xfb\x7f\xf0\x00\x00\x00\x00\x00\x00", b"", 0, (9, 11), (6, 15, 3), (8, 17, 4)),
+    (b"\xa1\x01\xf6", b"", 0, (9, 10), (5, 5, 3), (7, 7, 4)),
+    (b"\xa1\x62idp", b"a", 16, (16, 21), (8, 24, 3), (11, 27, 4)),
+    (b"\xa1\x80\xf6", b"", 0, (9, 10), (5, 5, 5), (7, 7, 7)),
+    (b"\xa1\x61a\x81\x00", b"", 0, (9, 13), (9, 9, 6), (13, 13, 8)),
+    (b"\xc1\xf6", b"", 0, (9, 9), (3, 3, 3), (4, 4, 4)),
+    (b"\xc1\x00", b"", 0, (9, 10), (4, 4, 3), (6, 6, 4)),
+    (b"\xd8\x18\x64IETF", b"", 0, (9, 11), (5, 10, 3), (7, 12, 4)),
+    (b"\xda\x00\x01\x00\x00\x80", b"", 0, (9, 14), (4, 9, 4), (6, 11, 6)),
+};
+
+const MANY: &[Row] = table! {
+    (b"\x98\xc8", b"\x00", 200, (9, 210), (402, 404, 3), (603, 605, 4)),
+    (b"\x98\xc8", b"\xf6", 200, (9, 202), (202, 204, 3), (203, 205, 4)),
+    (b"\x98\xc8", b"\x18\x18", 200, (9, 409), (402, 804, 3), (603, 1005, 4)),
+    (b"\x98\xc8", b"\xf9\x3c\x00", 200, (9, 602), (402, 1004, 3), (403, 1005, 4)),
+    (b"\x98\xc8", b"\x63abc", 200, (9, 807), (602, 1004, 3), (803, 1205, 4)),
+    (b"\x98\xc8", b"\x80", 200, (9, 210), (402, 404, 402), (603, 605, 603)),
+    (b"\x98\xc8", b"\x81\xf6", 200, (9, 409), (602, 604, 602), (803, 805, 803)),
+    (b"\x98\xc8", b"\x81\x00", 200, (9, 410), (802, 804, 602), (1203, 1205, 803)),
+    (b"\x98\xc8", b"\xc1\x00", 200, (9, 410), (802, 804, 602), (1203, 1205, 803)),
+    (b"\xb8\x64", b"\x61a\x01", 100, (9, 310), (502, 504, 3), (703, 705, 4)),
+    (b"\xb8\x64", b"\x80\xf6", 100, (9, 209), (302, 304, 302), (403, 405, 403)),
+    (b"\xb8\x64", b"\x80\x00", 100, (9, 210), (402, 404, 302), (603, 605, 403)),
+    (b"\xb8\x64", b"\x00\x80", 100, (9, 210), (402, 404, 302), (603, 605, 403)),
+    (b"\xb8\x64", b"\x61a\x81\x00", 100, (9, 410), (702, 704, 402), (1003, 1005, 503)),
+};
+
+// How the reader is asked: whether the bytes are read, and what it was asked for. It fails nowhere.
+fn asks<T: ReadFrom + Drop>(
+    alloc: Global,
+    mut reader: Asked<'_>,
+    bytes: &[u8],
+) -> Result<(bool, Asks), Fail> {
+    let got = T::read_from(alloc, &mut reader);
+    let asks = reader.asks();
+    match got {
+        Ok(_) => {
+            leaves(&mut reader, bytes, b"")?;
+            Ok((true, asks))
+        }
+        Err(DecodeError::OutOfMemory) => Err(Fail::from(DecodeError::<Never>::OutOfMemory)),
+        Err(DecodeError::Read(Failure)) => {
+            Err(Fail::new(format_args!("{asks:?}, where {bytes:?} is to be read")))
+        }
+        Err(_) => Ok((false, asks)),
+    }
+}
+
+// Asks no more than so many looks, and that so many bytes have come.
+fn is_at_most(asks: Asks, looks: usize, come: usize, bytes: &[u8]) -> Result<(), Fail> {
+    if asks.looks <= looks && asks.come <= come {
+        return Ok(());
+    }
+    Err(Fail::new(format_args!("{asks:?}, where {looks} looks read {bytes:?}")))
+}
+
+// Over a reader that fails where more than `most.0` bytes are wanted, and has to have had `most.1`
+// of them at the most; and over one that lets a look ask for 4,096, and fails where more than that
+// and `most.0` are wanted. What is read is read by each.
+fn asks_at_most<T: ReadFrom + Drop>(
+    alloc: Global,
+    bytes: &[u8],
+    is_read: bool,
+    most: (usize, usize),
+    looks: Looks,
+) -> Result<(), Fail> {
+    let narrow = Asked::new(bytes).refusing_above(most.0);
+    looks_at_most::<T>(alloc, narrow, bytes, is_read, looks.0, most.1)?;
+    let narrow = Asked::new(bytes).refusing_above(most.0).showing(1);
+    looks_at_most::<T>(alloc, narrow, bytes, is_read, looks.1, most.1)?;
+    let largest = most.0.max(4_096);
+    let wide = Asked::new(bytes).wide().refusing_above(largest);
+    looks_at_most::<T>(alloc, wide, bytes, is_read, looks.2, usize::MAX)?;
+    let wide = Asked::new(bytes).wide().refusing_above(largest).showing(1);
+    looks_at_most::<T>(alloc, wide, bytes, is_read, looks.1, usize::MAX)
+}
+
+fn looks_at_most<T: ReadFrom + Drop>(
+    alloc: Global,
+    reader: Asked<'_>,
+    bytes: &[u8],
+    is_read: bool,
+    looks: usize,
+    come: usize,
+) -> Result<(), Fail> {
+    let (was_read, asks) = asks::<T>(alloc, reader, bytes)?;
+    if was_read != is_read {
+        return Err(Fail::new(format_args!("{bytes:?} is read or refused otherwise")));
+    }
+    is_at_most(asks, looks, come, bytes)
+}
+
+fn asks_rows(alloc: Global, rows: &[Row]) -> Result<(), Fail> {
+    for &(head, part, count, most, looks, strict) in rows {
+        let bytes = repeated(alloc, head, part, count, b"")?;
+        asks_at_most::<Item<Value>>(alloc, bytes, true, most, looks)?;
+        asks_at_most::<Item<Canonical>>(alloc, bytes, true, most, strict)?;
+    }
+    Ok(())
+}
+
+#[test]
+fn leaves_are_asked_for(rt: HostRuntime) -> Result<(), Fail> {
+    asks_rows(rt.alloc(), LEAVES)
+}
+
+#[test]
+fn containers_are_asked_for(rt: HostRuntime) -> Result<(), Fail> {
+    asks_rows(rt.alloc(), CONTAINERS)
+}
+
+#[test]
+fn many_items_are_asked_for(rt: HostRuntime) -> Result<(), Fail> {
+    asks_rows(rt.alloc(), MANY)
+}
+
+// Items of indefinite length, and what is no canonical spelling or no value: whether a value is
+// read, and then as `Row`. None of them is read from its canonical spelling.
+type OtherRow = (&'static [u8], bool, (usize, usize), Looks, Looks);
+
+const OTHERS: &[OtherRow] = table! {
+    (b"\xf7", true, (1, 1), (1, 1, 1), (1, 1, 1)),
+    (b"\x9f\x01\xf6\xff", true, (9, 10), (9, 9, 8), (2, 2, 2)),
+    (b"\xbf\x01\xf6\xff", true, (9, 10), (8, 8, 7), (2, 2, 2)),
+    (b"\x5f\x42\x01\x02\x41\x03\xff", true, (9, 13), (10, 11, 10), (2, 2, 2)),
+    (b"\xff", false, (1, 1), (1, 1, 1), (1, 1, 1)),
+    (b"\x81\xff", false, (9, 9), (3, 3, 3), (4, 4, 4)),
+};
+
+// Where the first byte of an indefinite length is refused, no look wants more than that byte.
+fn asks_other_rows(alloc: Global, rows: &[OtherRow]) -> Result<(), Fail> {
+    for &(bytes, is_read, most, looks, strict) in rows {
+        asks_at_most::<Item<Value>>(alloc, bytes, is_read, most, looks)?;
+        let most = if is_read { (1, 1) } else { most };
+        asks_at_most::<Item<Canonical>>(alloc, bytes, false, most, strict)?;
+    }
+    Ok(())
+}
+
+#[test]
+fn others_are_asked_for(rt: HostRuntime) -> Result<(), Fail> {
+    asks_other_rows(rt.alloc(), OTHERS)
+}
+
+// Bytes that end too early: alone, in an array, as a key, as a value, behind a tag, and within a
+// head or a string. One look finds the end.
+const ENDS: &[&[u8]] = table! {
+    b"",
+    b"\x81",
+    b"\x82\x00",
+    b"\x81\x81",
+    b"\xa1",
+    b"\xa1\x00",
+    b"\xa2\x00\x00",
+    b"\xa1\x80",
+    b"\xa1\x61a",
+    b"\xc1",
+    b"\xd8\x18",
+    b"\xc1\xc1",
+    b"\x18",
+    b"\x19\x00",
+    b"\x61",
+    b"\x62\x61",
+    b"\x78",
+    b"\xf9",
+    b"\xfb\x00",
+    b"\x98",
+    b"\x81\x18",
+    b"\x82\x00\x18",
+    b"\xa1\x62a",
+    b"\xa1\x61a\x62a",
+};
+
+// The same, of what has no canonical spelling.
+const OPEN_ENDS: &[&[u8]] = table! {
+    b"\x9f",
+    b"\x9f\x00",
+    b"\xbf",
+    b"\xbf\x00",
+    b"\xbf\x00\x00",
+    b"\x5f",
+    b"\x5f\x41",
+};
+
+fn ends_once<T: ReadFrom + Drop>(alloc: Global, rows: &[&[u8]]) -> Result<(), Fail> {
+    for bytes in rows {
+        for front in [1, usize::MAX] {
+            ends::<T>(alloc, Asked::new(bytes).showing(front), bytes)?;
+            ends::<T>(alloc, Asked::new(bytes).showing(front).wide(), bytes)?;
+        }
+    }
+    Ok(())
+}
+
+fn ends<T: ReadFrom + Drop>(alloc: Global, reader: Asked<'_>, bytes: &[u8]) -> Result<(), Fail> {
+    match asks::<T>(alloc, reader, bytes)? {
+        (false, Asks { ends: 1, .. }) => Ok(()),
+        (_, asks) => Err(Fail::new(format_args!("{asks:?} of {bytes:?}"))),
+    }
+}
+
+#[test]
+fn the_end_is_looked_at_once(rt: HostRuntime) -> Result<(), Fail> {
+    let alloc = rt.alloc();
+    ends_once::<Item<Value>>(alloc, ENDS)?;
+    ends_once::<Item<Value>>(alloc, OPEN_ENDS)?;
+    ends_once::<Item<Canonical>>(alloc, ENDS)
+}
+
+// Parts on both sides of the 4,096 bytes of a look: a head, a part that stands behind it so many
+// times, and the most looks over a reader that lets one ask for so many and shows what is wanted.
+// Its head takes two, or three of a canonical spelling.
+const AROUND: &[(&[u8], &[u8], usize, usize, usize)] = table! {
+    (b"\x99\x0f\xfa", b"\x05", 4_090, 3, 4),
+    (b"\x99\x10\x00", b"\x05", 4_096, 3, 4),
+    (b"\x99\x10\x01", b"\x05", 4_097, 4, 5),
+    (b"\x99\x05\x55", b"\x62ab", 1_365, 3, 4),
+    // A text that is cut takes one for its head, and one for its content.
+    (b"\x99\x05\x56", b"\x62ab", 1_366, 5, 7),
+    (b"\xb9\x08\x00", b"\x05\x06", 2_048, 3, 4),
+    (b"\xb9\x08\x01", b"\x05\x06", 2_049, 4, 5),
+    // Behind 1,365 pairs a byte more is shown: a front of the next key, or all of it.
+    (b"\xb9\x05\x78", b"\x18\x18\x05", 1_400, 5, 7),
+    (b"\xb9\x05\x78", b"\x05\x18\x18", 1_400, 4, 5),
+    (b"\x59\x0f\xfd", b"a", 4_093, 1, 1),
+    (b"\x59\x0f\xfe", b"a", 4_094, 3, 4),
+    // Each array within takes two, or three.
+    (b"\x99\x0f\xa1", b"\x80", 4_001, 8_004, 12_006),
+};
+
+fn looks_around(alloc: Global, rows: &[(&[u8], &[u8], usize, usize, usize)]) -> Result<(), Fail> {
+    for &(head, part, count, looks, strict) in rows {
+        let bytes = repeated(alloc, head, part, count, b"")?;
+        let wide = Asked::new(bytes).wide().refusing_above(4_096);
+        looks_at_most::<Item<Value>>(alloc, wide, bytes, true, looks, usize::MAX)?;
+        let wide = Asked::new(bytes).wide().refusing_above(4_096);
+        looks_at_most::<Item<Canonical>>(alloc, wide, bytes, true, strict, usize::MAX)?;
+    }
+    Ok(())
+}
+
+#[test]
+fn a_look_for_4096_bytes(rt: HostRuntime) -> Result<(), Fail> {
+    looks_around(rt.alloc(), AROUND)
+}
+
+// Parts of which the reader shows no more than so many bytes at a time, and the most looks, whether
+// it lets one ask for 4,096 bytes or not.
+const SHOWN: &[(&[u8], &[u8], usize, usize, usize, usize)] = table! {
+    (b"\x98\xc8", b"\x70aaaaaaaaaaaaaaaa", 200, 16, 602, 803),
+    (b"\x98\xc8", b"\x63abc", 200, 3, 602, 803),
+    (b"\x98\xc8", b"\x63abc", 200, 2, 802, 1003),
+    (b"\x98\xc8", b"\x18\x18", 200, 3, 402, 603),
+    (b"\x98\xc8", b"\x1b\x00\x00\x00\x01\x00\x00\x00\x00", 200, 7, 2202, 2403),
+    (b"\x98\xc8", b"\xa0", 200, 2, 402, 603),
+    (b"\x98\x64", b"\xd8\x18\x18\x18", 100, 2, 402, 603),
+    (b"\xb8\x64", b"\x63abc\x81\x00", 100, 3, 702, 1003),
+    (b"\xb8\x64", b"\x61a\x01", 100, 2, 502, 703),
+    (b"\x79\x13\x88", b"a", 5_000, 4_096, 4, 5),
+};
+
+fn looks_shown(
+    alloc: Global,
+    rows: &[(&[u8], &[u8], usize, usize, usize, usize)],
+) -> Result<(), Fail> {
+    for &(head, part, count, front, looks, strict) in rows {
+        let bytes = repeated(alloc, head, part, count, b"")?;
+        looks_in_fronts::<Item<Value>>(alloc, bytes, front, looks)?;
+        looks_in_fronts::<Item<Canonical>>(alloc, bytes, front, strict)?;
+    }
+    Ok(())
+}
+
+fn looks_in_fronts<T: ReadFrom + Drop>(
+    alloc: Global,
+    bytes: &[u8],
+    front: usize,
+    looks: usize,
+) -> Result<(), Fail> {
+    let narrow = Asked::new(bytes).showing(front);
+    looks_at_most::<T>(alloc, narrow, bytes, true, looks, usize::MAX)?;
+    let wide = Asked::new(bytes).wide().showing(front);
+    looks_at_most::<T>(alloc, wide, bytes, true, looks, usize::MAX)
+}
+
+#[test]
+fn few_bytes_at_a_time(rt: HostRuntime) -> Result<(), Fail> {
+    looks_shown(rt.alloc(), SHOWN)
+}
+
+// Behind a reference.
+fn read_behind<S: Source>(
+    alloc: Global,
+    reader: &mut S,
+) -> Result<Item<Value>, DecodeError<S::Error>> {
+    Item::read_from(alloc, &mut &mut *reader)
+}
+
+// A reader behind a reference hands on how many bytes a look may ask for.
+#[test]
+fn behind_a_reference(rt: HostRuntime) -> Result<(), Fail> {
+    let mut reader = Asked::new(b"\x83\x01\x02\x03").wide();
+    let _ = read_behind(rt.alloc(), &mut reader)?;
+    assert_eq!(rt; reader.asks().looks, 3);
+    Ok(())
+}
