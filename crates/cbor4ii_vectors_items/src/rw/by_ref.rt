@@ -6,7 +6,9 @@ use cbor4ii_rw::ask::lend;
 use cbor4ii_rw::buf_writer::BufWriter;
 use cbor4ii_rw::io_reader::IoReader;
 use cbor4ii_rw::read::Source;
+use cbor4ii_rw::segment_reader::SegmentReader;
 use cbor4ii_rw::slice_reader::SliceReader;
+use cbor4ii_vectors::readers::Counting;
 use cbor4ii_vectors::streams::FailingStream;
 use std::alloc::Global;
 use std::io::ErrorKind;
@@ -26,6 +28,19 @@ fn as_much_is_shown_as_is_wanted_of_what_is_behind(rt: HostRuntime) {
     assert!(rt; shows(&mut &mut slice, 0, b"", 0));
     assert!(rt; shows(&mut &mut slice, 1, b"a", 0));
     assert!(rt; shows(&mut &mut slice, 9, b"abc", 0));
+}
+
+// How many bytes a look may ask for, which each of the three readers says, and another does not.
+#[test]
+fn a_look_may_ask_for_as_many_bytes_behind_a_reference(rt: HostRuntime) {
+    assert_eq!(rt; window(&&mut SliceReader::new(b"")), 4_096);
+    assert_eq!(rt; window(&&mut SegmentReader::new(&[])), 4_096);
+    assert_eq!(rt; window(&&mut IoReader::new(b"".as_slice())), 4_096);
+    assert_eq!(rt; window(&&mut Counting::new(b"")), 1);
+}
+
+fn window<S: Source>(reader: &S) -> usize {
+    reader.window()
 }
 
 // A reader behind a reference fails as the reader does.

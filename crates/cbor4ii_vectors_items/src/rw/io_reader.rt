@@ -2,6 +2,7 @@
 use crate::rw::shown::{gives, shows, takes};
 use cbor4ii_rw::ask::{self, look};
 use cbor4ii_rw::io_reader::IoReader;
+use cbor4ii_rw::read::Source;
 use cbor4ii_vectors::rows::{Want, reads_over};
 use cbor4ii_vectors::streams::FailingStream;
 use std::io::{BufReader, ErrorKind};
@@ -21,6 +22,11 @@ fn all_that_a_stream_has_is_shown(rt: HostRuntime) {
     assert!(rt; shows(&mut stream, 0, b"abc", 0));
     assert!(rt; shows(&mut stream, 1, b"abc", 0));
     assert!(rt; shows(&mut stream, 9, b"abc", 0));
+}
+
+#[test]
+fn a_look_may_ask_a_stream_for_4096_bytes(rt: HostRuntime) {
+    assert_eq!(rt; IoReader::new(b"".as_slice()).window(), 4_096);
 }
 
 #[test]

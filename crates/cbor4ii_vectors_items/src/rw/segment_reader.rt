@@ -1,6 +1,7 @@
 //! Slices that stand one after another: what is shown and lent of them, and rows over them.
 use crate::cow_rows::{Kind, decodes};
 use crate::rw::shown::{gives, shows};
+use cbor4ii_rw::read::Source;
 use cbor4ii_rw::segment_reader::SegmentReader;
 use cbor4ii_vectors::items::Lent;
 use cbor4ii_vectors::rows::{ReadBy, Want, by_text, reads_over};
@@ -24,6 +25,11 @@ fn no_more_is_shown_than_a_segment_has(rt: HostRuntime) {
     assert!(rt; shows(&mut segments, 0, b"", 0));
     assert!(rt; shows(&mut segments, 1, b"a", 0));
     assert!(rt; shows(&mut segments, 9, b"ab", 0));
+}
+
+#[test]
+fn a_look_may_ask_segments_for_4096_bytes(rt: HostRuntime) {
+    assert_eq!(rt; SegmentReader::new(&[]).window(), 4_096);
 }
 
 // A row: the segments, their bytes, the text of what is read, and what is left of the bytes.

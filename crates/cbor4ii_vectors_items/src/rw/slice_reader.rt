@@ -1,5 +1,6 @@
 //! What a reader over a slice shows and lends.
 use crate::rw::shown::{gives, shows};
+use cbor4ii_rw::read::Source;
 use cbor4ii_rw::slice_reader::SliceReader;
 use std::test::Fail;
 
@@ -16,4 +17,9 @@ fn as_much_is_shown_as_is_wanted(rt: HostRuntime) {
     assert!(rt; shows(&mut slice, 0, b"", 0));
     assert!(rt; shows(&mut slice, 1, b"a", 0));
     assert!(rt; shows(&mut slice, 9, b"abc", 0));
+}
+
+#[test]
+fn a_look_may_ask_a_slice_for_4096_bytes(rt: HostRuntime) {
+    assert_eq!(rt; SliceReader::new(b"").window(), 4_096);
 }
