@@ -37,6 +37,8 @@ const STEPS: usize = 256;
 const MOST_CALLS: usize = 4096;
 // A row of more bytes is cut at the first 300 of its places.
 const MOST_CUTS: usize = 301;
+// About as many bytes as one look may ask for.
+const ABOUT_A_LOOK: [usize; 3] = [4_095, 4_096, 4_097];
 
 /// What a row reads: a value, or what another call takes off a reader.
 ///
@@ -146,6 +148,29 @@ where
     T: ReadFrom + PartialEq + Debug + Drop,
 {
     reads_whole(alloc, bytes, limit, want, rest)
+}
+
+/// Reads all of the bytes over readers that end what they show at about as many bytes as one look
+/// may ask for: a slice, two segments that are cut there, and streams that show so many at a time.
+pub fn reads_around_a_look<T>(
+    alloc: Global,
+    bytes: &'static [u8],
+    want: &Want<T>,
+) -> Result<(), Fail>
+where
+    T: ReadFrom + PartialEq + Debug + Drop,
+{
+    let mut slice = SliceReader::with_limit(bytes, STEPS);
+    reads_over(alloc, &mut slice, bytes, want, b"")?;
+    for shown in ABOUT_A_LOOK {
+        let (first, second) = bytes.split_at(shown.min(bytes.len()));
+        let segments = [first, second];
+        let mut reader = SegmentReader::with_limit(&segments, STEPS);
+        reads_over(alloc, &mut reader, bytes, want, b"")?;
+        let mut stream = stream(bytes, shown, usize::MAX, STEPS);
+        reads_over(alloc, &mut stream, bytes, want, b"")?;
+    }
+    Ok(())
 }
 
 /// As `reads`, for what holds borrowed parts, where it is no matter whether they are lent.

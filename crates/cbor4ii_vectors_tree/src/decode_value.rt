@@ -16,6 +16,7 @@ mod asked;
 mod depth;
 mod growth;
 mod refusals;
+mod window;
 
 // [1, [2, 3], [4, 5]]
 const NESTED: Literal = Array(&[
