@@ -51,6 +51,51 @@ const REFUSED: &[Refused] = table! {
     (b"\xa1\x18\x17\x00", OTHER, b"\x00"),
 };
 
+// A head of each width that is as short as can be, with no byte behind it, and one that is longer.
+const HEADS: &[Refused] = table! {
+    (b"\x97", eof!("value", 1), b""),
+    (b"\x98\x18", eof!("value", 1), b""),
+    (b"\x98\xff", eof!("value", 1), b""),
+    (b"\x99\x01\x00", eof!("value", 1), b""),
+    (b"\x9a\x00\x01\x00\x00", eof!("value", 1), b""),
+    (b"\x9b\x00\x00\x00\x01\x00\x00\x00\x00", eof!("value", 1), b""),
+    (b"\x98\x17", OTHER, b""),
+    (b"\x99\x00\xff", OTHER, b""),
+    (b"\x9a\x00\x00\xff\xff", OTHER, b""),
+    (b"\x9b\x00\x00\x00\x00\xff\xff\xff\xff", OTHER, b""),
+    (b"\xb7", eof!("value", 1), b""),
+    (b"\xb8\x18", eof!("value", 1), b""),
+    (b"\xb8\xff", eof!("value", 1), b""),
+    (b"\xb9\x01\x00", eof!("value", 1), b""),
+    (b"\xba\x00\x01\x00\x00", eof!("value", 1), b""),
+    (b"\xbb\x00\x00\x00\x01\x00\x00\x00\x00", eof!("value", 1), b""),
+    (b"\xb8\x17", OTHER, b""),
+    (b"\xb9\x00\xff", OTHER, b""),
+    (b"\xba\x00\x00\xff\xff", OTHER, b""),
+    (b"\xbb\x00\x00\x00\x00\xff\xff\xff\xff", OTHER, b""),
+    (b"\x58\x18", eof!("bytes", 24), b""),
+    (b"\x59\x01\x00", eof!("bytes", 256), b""),
+    (b"\x5a\x00\x01\x00\x00", eof!("bytes", Big), b""),
+    (b"\x5b\x00\x00\x00\x01\x00\x00\x00\x00", eof!("bytes", Big), b""),
+    (b"\x59\x00\xff", OTHER, b""),
+    (b"\x5a\x00\x00\xff\xff", OTHER, b""),
+    (b"\x5b\x00\x00\x00\x00\xff\xff\xff\xff", OTHER, b""),
+    (b"\x78\x18", eof!("str", 24), b""),
+    (b"\x79\x01\x00", eof!("str", 256), b""),
+    (b"\x7a\x00\x01\x00\x00", eof!("str", Big), b""),
+    (b"\x7b\x00\x00\x00\x01\x00\x00\x00\x00", eof!("str", Big), b""),
+    (b"\x79\x00\xff", OTHER, b""),
+    (b"\x7a\x00\x00\xff\xff", OTHER, b""),
+    (b"\x7b\x00\x00\x00\x00\xff\xff\xff\xff", OTHER, b""),
+    (b"\xd9\x01\x00", eof!("value", 1), b""),
+    (b"\xda\x00\x01\x00\x00", eof!("value", 1), b""),
+    (b"\xdb\x00\x00\x00\x01\x00\x00\x00\x00", eof!("value", 1), b""),
+    (b"\xd8\x17", OTHER, b""),
+    (b"\xd9\x00\xff", OTHER, b""),
+    (b"\xda\x00\x00\xff\xff", OTHER, b""),
+    (b"\xdb\x00\x00\x00\x00\xff\xff\xff\xff", OTHER, b""),
+};
+
 fn refuses_rows(alloc: Global, rows: &[Refused]) -> Result<(), Fail> {
     for &(bytes, refusal, rest) in rows {
         refuses(alloc, bytes, refusal, rest)?;
@@ -70,6 +115,11 @@ fn refuses(
 #[test]
 fn other_spellings_are_refused(rt: HostRuntime) -> Result<(), Fail> {
     refuses_rows(rt.alloc(), REFUSED)
+}
+
+#[test]
+fn heads_of_each_width(rt: HostRuntime) -> Result<(), Fail> {
+    refuses_rows(rt.alloc(), HEADS)
 }
 
 // 255 tags, and these bytes behind them.

@@ -150,6 +150,20 @@ const SEQUENCES: &[(&[u8], Literal)] = table! {
     (b"\xa1\x63bar\xa1\x65value\x18\x99", MAP_IN_MAP),
 };
 
+// A tag with an argument of each width: the least and the greatest number of it.
+const TAGS: &[(&[u8], Literal)] = table! {
+    (b"\xc0\xf6", Tag(0, &Null)),
+    (b"\xd7\xf6", Tag(23, &Null)),
+    (b"\xd8\x18\xf6", Tag(24, &Null)),
+    (b"\xd8\xff\xf6", Tag(255, &Null)),
+    (b"\xd9\x01\x00\xf6", Tag(256, &Null)),
+    (b"\xd9\xff\xff\xf6", Tag(65535, &Null)),
+    (b"\xda\x00\x01\x00\x00\xf6", Tag(65536, &Null)),
+    (b"\xda\xff\xff\xff\xff\xf6", Tag(4294967295, &Null)),
+    (b"\xdb\x00\x00\x00\x01\x00\x00\x00\x00\xf6", Tag(4294967296, &Null)),
+    (b"\xdb\xff\xff\xff\xff\xff\xff\xff\xff\xf6", Tag(18446744073709551615, &Null)),
+};
+
 fn reads_rows(alloc: Global, rows: &[(&'static [u8], Literal)]) -> Result<(), Fail> {
     for (item, literal) in rows {
         reads_and_writes(alloc, item, literal, item)?;
@@ -162,7 +176,8 @@ fn reads_rows(alloc: Global, rows: &[(&'static [u8], Literal)]) -> Result<(), Fa
 fn items_are_read_as_they_are_written(rt: HostRuntime) -> Result<(), Fail> {
     let alloc = rt.alloc();
     reads_rows(alloc, LEAVES)?;
-    reads_rows(alloc, SEQUENCES)
+    reads_rows(alloc, SEQUENCES)?;
+    reads_rows(alloc, TAGS)
 }
 
 // {"Fun": true, "Amt": -2}
@@ -218,6 +233,13 @@ const SPELLINGS: &[Spelling] = table! {
     (b"\xbb\x00\x00\x00\x00\x00\x00\x00\x01\x01\x02", ONE_PAIR, b"\xa1\x01\x02", b"\x01\x02"),
     (b"\xdb\x00\x00\x00\x00\x00\x00\x00\x2a\x00", Tag(42, &Integer(0)), b"\xd8\x2a\x00", b"\x00"),
     (b"\xd8\x02\x41\x05", Tag(2, &Bytes(b"\x05")), b"\xc2\x41\x05", b"\x41\x05"),
+    (b"\x9a\x00\x00\x00\x01\x05", Array(&[Integer(5)]), b"\x81\x05", b"\x05"),
+    (b"\x9b\x00\x00\x00\x00\x00\x00\x00\x01\x05", Array(&[Integer(5)]), b"\x81\x05", b"\x05"),
+    (b"\xb8\x01\x01\x02", ONE_PAIR, b"\xa1\x01\x02", b"\x01\x02"),
+    (b"\xb9\x00\x01\x01\x02", ONE_PAIR, b"\xa1\x01\x02", b"\x01\x02"),
+    (b"\xba\x00\x00\x00\x01\x01\x02", ONE_PAIR, b"\xa1\x01\x02", b"\x01\x02"),
+    (b"\xd9\x00\x2a\x00", Tag(42, &Integer(0)), b"\xd8\x2a\x00", b"\x00"),
+    (b"\xda\x00\x00\x00\x2a\x00", Tag(42, &Integer(0)), b"\xd8\x2a\x00", b"\x00"),
     (b"\x5f\xff", Bytes(b""), b"\x40", b"\xff"),
     (b"\x7f\xff", Text(""), b"\x60", b"\xff"),
     (TWO_CHUNKS, ONE_TO_5, b"\x45\x01\x02\x03\x04\x05", b"\x42\x01\x02\x43\x03\x04\x05\xff"),
