@@ -3,11 +3,13 @@
 //! It is run in ordinary memory, and once for each of its allocations, with that one refused. The
 //! word on standard input says which it is: `plain`, where no row may want memory, or `refused`,
 //! where it is refused once. `lengths` tries the rows of false lengths alone, in ordinary memory.
+//! `value of a slice:` and its like, with an item behind it, reads that item alone.
 //!
-//! It writes one line. The exit status is 0 where each row holds, and else 1.
+//! It writes one line. The exit status is 0 where each row holds, or the item was tried, and else 1.
 #![tactic(auto)]
 
 mod answer;
+mod exact;
 mod growth;
 mod in_place;
 mod items;
@@ -28,15 +30,25 @@ mod writing_parts;
 mod writing_typed;
 mod writing_values;
 
+use crate::exact::{Alone, read_alone};
 use crate::tally::{Broken, Tally};
 use std::alloc::Global;
 use std::io::Read;
 use std::process::ExitCode;
 
+// No item that is read alone has more bytes, with the words in front of it.
+const MOST_BYTES: usize = 1_024;
+
 fn main(rt: HostRuntime) -> ExitCode {
-    let mut word = [0; 8];
-    let taken = rt.reader().read(&mut word).unwrap_or(0);
-    match outcome(rt.alloc(), word.get(..taken).unwrap_or(b"")) {
+    let mut input = [0; MOST_BYTES];
+    let taken = rt.reader().read(&mut input).unwrap_or(0);
+    let input = input.get(..taken).unwrap_or(b"");
+    if let Some(Alone { refusal, left }) = read_alone(rt.alloc(), input) {
+        let refusal = refusal.as_ref().map_or("read", |text| text.as_str());
+        let _ = println!(rt; "{refusal}, {left} left");
+        return ExitCode::from(0);
+    }
+    match outcome(rt.alloc(), input) {
         Ok(()) => {
             let _ = println!(rt; "each row holds");
             ExitCode::from(0)
