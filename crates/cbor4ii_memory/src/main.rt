@@ -2,8 +2,9 @@
 //!
 //! It is run in ordinary memory, and once for each of its allocations, with that one refused. The
 //! word on standard input says which it is: `plain`, where no row may want memory, or `refused`,
-//! where it is refused once. `lengths` tries the rows of false lengths alone, in ordinary memory.
-//! `value of a slice:` and its like, with an item behind it, reads that item alone.
+//! where it is refused once. `lengths` tries the rows of false lengths alone, in ordinary memory,
+//! and `levels` those of many levels, for which .ci/memory gives the stack. `value of a slice:` and
+//! its like, with an item behind it, reads that item alone.
 //!
 //! It writes one line. The exit status is 0 where each row holds, or the item was tried, and else 1.
 #![tactic(auto)]
@@ -16,6 +17,7 @@ mod items;
 mod lendable;
 mod lengths;
 mod lent;
+mod levels;
 mod read;
 mod room;
 mod tally;
@@ -66,6 +68,8 @@ fn outcome(alloc: Global, word: &[u8]) -> Result<(), Broken> {
     let wanted = u64::from(word.starts_with(b"refused"));
     if word.starts_with(b"lengths") {
         false_lengths(&mut tally)?;
+    } else if word.starts_with(b"levels") {
+        levels::written(&mut tally)?;
     } else {
         all(&mut tally)?;
     }

@@ -1,0 +1,2 @@
+-- Values that hold values of their own kind.
+pub mod Nodes

@@ -1,0 +1,2 @@
+-- What values that hold values of their own kind are written as.
+pub mod Levels
