@@ -167,7 +167,7 @@ impl<R: BufRead> Source for IoReader<R> {
 
     #[inline(always)]
     fn window(&self) -> usize {
-        4096
+        usize::MAX
     }
 
     fn advance(&mut self, n: usize) {

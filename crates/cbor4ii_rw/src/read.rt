@@ -75,7 +75,8 @@ pub trait Source {
             (λ _. Breaks (view self.old) (view new)))) };
 
     /// How many bytes a look may ask for where fewer would do, one at least. Only a reader that
-    /// waits for no byte because more are wanted, and refuses none, answers more than 1.
+    /// waits for no byte because more are wanted, and refuses none, answers more than 1; one that
+    /// shows what it has, whatever is wanted, answers the greatest number.
     fn window(&self) -> usize
         ensures { 1 ≤ result }
     {

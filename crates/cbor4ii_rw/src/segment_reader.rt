@@ -98,7 +98,7 @@ impl Source for SegmentReader<'_> {
 
     #[inline(always)]
     fn window(&self) -> usize {
-        4096
+        usize::MAX
     }
 
     fn advance(&mut self, n: usize) {

@@ -81,7 +81,7 @@ impl Source for SliceReader<'_> {
 
     #[inline(always)]
     fn window(&self) -> usize {
-        4096
+        usize::MAX
     }
 
     #[inline(always)]

@@ -102,7 +102,8 @@ impl<S: Source> Decode<S> for Canonical {
         ensures value { ValueCanonical (S.view reader.old) (S.view reader.new) result }
     {
         let mut failure = None;
-        Ok(Canonical(whole(read_one(alloc, reader, &mut failure), failure)?))
+        let value = read_one(alloc, reader, &mut failure);
+        Ok(Canonical(whole(value, &mut failure)?))
     }
 
     ghost one = { canonical_one };

@@ -114,7 +114,8 @@ impl<S: Source> Decode<S> for Value {
         ensures canonical { CanonicalReads (S.view reader.old) result }
     {
         let mut failure = None;
-        whole(read_value(alloc, reader, &mut failure), failure)
+        let value = read_value(alloc, reader, &mut failure);
+        whole(value, &mut failure)
     }
 
     ghost one = { value_one };

@@ -6,7 +6,7 @@ ghost use Rattle.std.specs.Prelude.{◌≡◌, ◌∷◌, ◌++◌, [], Some, No
 ghost use Rattle.cbor4ii_rw.specs.declared.error.DecodeError.TheVariants.{DepthOverflow, Eof};
 ghost use Rattle.cbor4ii_rw.specs.declared.error.DecodeError.TheVariants.{NotCanonical};
 ghost use Rattle.cbor4ii_rw.specs.declared.error.Len.TheVariants.{Small};
-ghost use Rattle.cbor4ii_tree.specs.Does.{answered};
+ghost use Rattle.cbor4ii_tree.specs.Does.{answered, refusal_left};
 
 use cbor4ii_rw::error::{DecodeError, Len, StaticStr};
 
@@ -70,16 +70,25 @@ pub(crate) fn leave_not_canonical<E: Drop>(name: StaticStr, failure: &mut Option
 #[inline(always)]
 pub(crate) fn whole<T: Drop, E: Drop>(
     value: Option<T>,
-    failure: Option<DecodeError<E>>,
+    failure: &mut Option<DecodeError<E>>,
 ) -> Result<T, DecodeError<E>>
-    ensures { result ≡ answered value failure }
+    ensures { result ≡ answered value failure.old }
 {
     match value {
         Some(value) => Ok(value),
-        None => match failure {
-            Some(error) => Err(error),
-            None => Err(DecodeError::OutOfMemory),
-        },
+        None => Err(refusal(failure)),
+    }
+}
+
+/// The refusal that was left. It stays out of line, so that a value costs no look at the slot.
+#[cold]
+#[inline(never)]
+fn refusal<E: Drop>(failure: &mut Option<DecodeError<E>>) -> DecodeError<E>
+    ensures { result ≡ refusal_left failure.old }
+{
+    match failure.take() {
+        Some(error) => error,
+        None => DecodeError::OutOfMemory,
     }
 }
 

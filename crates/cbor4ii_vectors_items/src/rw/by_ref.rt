@@ -33,9 +33,9 @@ fn as_much_is_shown_as_is_wanted_of_what_is_behind(rt: HostRuntime) {
 // How many bytes a look may ask for, which each of the three readers says, and another does not.
 #[test]
 fn a_look_may_ask_for_as_many_bytes_behind_a_reference(rt: HostRuntime) {
-    assert_eq!(rt; window(&&mut SliceReader::new(b"")), 4_096);
-    assert_eq!(rt; window(&&mut SegmentReader::new(&[])), 4_096);
-    assert_eq!(rt; window(&&mut IoReader::new(b"".as_slice())), 4_096);
+    assert_eq!(rt; window(&&mut SliceReader::new(b"")), usize::MAX);
+    assert_eq!(rt; window(&&mut SegmentReader::new(&[])), usize::MAX);
+    assert_eq!(rt; window(&&mut IoReader::new(b"".as_slice())), usize::MAX);
     assert_eq!(rt; window(&&mut Counting::new(b"")), 1);
 }
 

@@ -25,8 +25,8 @@ fn all_that_a_stream_has_is_shown(rt: HostRuntime) {
 }
 
 #[test]
-fn a_look_may_ask_a_stream_for_4096_bytes(rt: HostRuntime) {
-    assert_eq!(rt; IoReader::new(b"".as_slice()).window(), 4_096);
+fn a_look_may_ask_a_stream_for_all_bytes(rt: HostRuntime) {
+    assert_eq!(rt; IoReader::new(b"".as_slice()).window(), usize::MAX);
 }
 
 #[test]

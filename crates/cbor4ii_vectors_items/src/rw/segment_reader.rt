@@ -28,8 +28,8 @@ fn no_more_is_shown_than_a_segment_has(rt: HostRuntime) {
 }
 
 #[test]
-fn a_look_may_ask_segments_for_4096_bytes(rt: HostRuntime) {
-    assert_eq!(rt; SegmentReader::new(&[]).window(), 4_096);
+fn a_look_may_ask_segments_for_all_bytes(rt: HostRuntime) {
+    assert_eq!(rt; SegmentReader::new(&[]).window(), usize::MAX);
 }
 
 // A row: the segments, their bytes, the text of what is read, and what is left of the bytes.

@@ -19,94 +19,94 @@ was_there r failure P e h = subst (λ z. OnOk z P) (sym e) (told_on r failure P 
 
 pub returns-clause-progress : goal.returns-clause-progress
 returns-clause-progress g c =
-    was_there c.read_one.result _ _ c.in_ok-whole.ensures c.read_one.ensures.progress
+    was_there c.read_one-value.result _ _ c.in_ok-whole.ensures c.read_one-value.ensures.progress
 
 pub returns-clause-sound : goal.returns-clause-sound
 returns-clause-sound g c =
-    canonical_sound (rw (sym c.in_ok-whole.ensures) at c.read_one.ensures.does)
+    canonical_sound (rw (sym c.in_ok-whole.ensures) at c.read_one-value.ensures.does)
 
 pub returns-clause-only : goal.returns-clause-only
-returns-clause-only g c = canonical_only (rw (sym c.in_ok-whole.ensures) at c.read_one.ensures.does)
+returns-clause-only g c = canonical_only (rw (sym c.in_ok-whole.ensures) at c.read_one-value.ensures.does)
 
 pub returns-clause-all : goal.returns-clause-all
-returns-clause-all g c = canonical_all (rw (sym c.in_ok-whole.ensures) at c.read_one.ensures.does)
+returns-clause-all g c = canonical_all (rw (sym c.in_ok-whole.ensures) at c.read_one-value.ensures.does)
 
 pub returns-clause-front : goal.returns-clause-front
 returns-clause-front g c =
-    canonical_front (rw (sym c.in_ok-whole.ensures) at c.read_one.ensures.does)
+    canonical_front (rw (sym c.in_ok-whole.ensures) at c.read_one-value.ensures.does)
 
 pub returns-in_err-whole-clause-complete : goal.returns-in_err-whole-clause-complete
 returns-in_err-whole-clause-complete g c =
     let p = err_from_is_err_and c.from_residual.result c.from_residual.ensures.1 in
-    rw (p.1, p.2) (canonical_refuses (rw (sym c.in_err-whole.ensures) at c.read_one.ensures.does))
+    rw (p.1, p.2) (canonical_refuses (rw (sym c.in_err-whole.ensures) at c.read_one-value.ensures.does))
 
 pub returns-in_err-whole-clause-stops : goal.returns-in_err-whole-clause-stops
 returns-in_err-whole-clause-stops g c =
     let p = err_from_is_err_and c.from_residual.result c.from_residual.ensures.1 in
-    rw (p.1, p.2) (canonical_stops (rw (sym c.in_err-whole.ensures) at c.read_one.ensures.does))
+    rw (p.1, p.2) (canonical_stops (rw (sym c.in_err-whole.ensures) at c.read_one-value.ensures.does))
 
 pub returns-in_err-whole-clause-all : goal.returns-in_err-whole-clause-all
 returns-in_err-whole-clause-all g c =
     let p = err_from_is_err_and c.from_residual.result c.from_residual.ensures.1 in
-    rw (p.1, p.2) (refused_all (rw (sym c.in_err-whole.ensures) at c.read_one.ensures.does))
+    rw (p.1, p.2) (refused_all (rw (sym c.in_err-whole.ensures) at c.read_one-value.ensures.does))
 
 pub returns-in_err-whole-clause-front : goal.returns-in_err-whole-clause-front
 returns-in_err-whole-clause-front g c =
     let p = err_from_is_err_and c.from_residual.result c.from_residual.ensures.1 in
-    rw (p.1, p.2) (refused_front (rw (sym c.in_err-whole.ensures) at c.read_one.ensures.does))
+    rw (p.1, p.2) (refused_front (rw (sym c.in_err-whole.ensures) at c.read_one-value.ensures.does))
 
 pub returns-in_err-whole-clause-eof : goal.returns-in_err-whole-clause-eof
 returns-in_err-whole-clause-eof g c =
     let p = err_from_is_err_and c.from_residual.result c.from_residual.ensures.1 in
-    rw (p.1, p.2) (refused_eof (rw (sym c.in_err-whole.ensures) at c.read_one.ensures.does))
+    rw (p.1, p.2) (refused_eof (rw (sym c.in_err-whole.ensures) at c.read_one-value.ensures.does))
 
 pub returns-in_err-whole-clause-depth : goal.returns-in_err-whole-clause-depth
 returns-in_err-whole-clause-depth g c =
     let p = err_from_is_err_and c.from_residual.result c.from_residual.ensures.1 in
-    rw (p.1, p.2) (refused_depth (rw (sym c.in_err-whole.ensures) at c.read_one.ensures.does))
+    rw (p.1, p.2) (refused_depth (rw (sym c.in_err-whole.ensures) at c.read_one-value.ensures.does))
 
 pub returns-in_err-whole-clause-never : goal.returns-in_err-whole-clause-never
 returns-in_err-whole-clause-never g c =
     let p = err_from_is_err_and c.from_residual.result c.from_residual.ensures.1 in
-    rw (p.1, p.2) (refused_never (rw (sym c.in_err-whole.ensures) at c.read_one.ensures.does))
+    rw (p.1, p.2) (refused_never (rw (sym c.in_err-whole.ensures) at c.read_one-value.ensures.does))
 
 pub returns-in_err-whole-clause-others : goal.returns-in_err-whole-clause-others
 returns-in_err-whole-clause-others g c =
     let p = err_from_is_err_and c.from_residual.result c.from_residual.ensures.1 in
-    rw (p.1, p.2) (refused_others (rw (sym c.in_err-whole.ensures) at c.read_one.ensures.does))
+    rw (p.1, p.2) (refused_others (rw (sym c.in_err-whole.ensures) at c.read_one-value.ensures.does))
 
 pub returns-in_err-whole-clause-value : goal.returns-in_err-whole-clause-value
 returns-in_err-whole-clause-value g c =
     let p = err_from_is_err_and c.from_residual.result c.from_residual.ensures.1 in
-    rw (p.1, p.2) (refused_value (rw (sym c.in_err-whole.ensures) at c.read_one.ensures.does))
+    rw (p.1, p.2) (refused_value (rw (sym c.in_err-whole.ensures) at c.read_one-value.ensures.does))
 
 pub returns-clause-exact : goal.returns-clause-exact
 returns-clause-exact g c =
-    canonical_exact (rw (sym c.in_ok-whole.ensures) at c.read_one.ensures.does)
+    canonical_exact (rw (sym c.in_ok-whole.ensures) at c.read_one-value.ensures.does)
 
 pub returns-in_err-whole-clause-exact : goal.returns-in_err-whole-clause-exact
 returns-in_err-whole-clause-exact g c =
     let p = err_from_is_err_and c.from_residual.result c.from_residual.ensures.1 in
-    rw (p.1, p.2) (refused_exact (rw (sym c.in_err-whole.ensures) at c.read_one.ensures.does))
+    rw (p.1, p.2) (refused_exact (rw (sym c.in_err-whole.ensures) at c.read_one-value.ensures.does))
 
 pub returns-clause-moves : goal.returns-clause-moves
 returns-clause-moves g c =
-    moves_ok (rw (sym c.in_ok-whole.ensures) at c.read_one.ensures.does).moves
+    moves_ok (rw (sym c.in_ok-whole.ensures) at c.read_one-value.ensures.does).moves
 
 pub returns-in_err-whole-clause-moves : goal.returns-in_err-whole-clause-moves
 returns-in_err-whole-clause-moves g c =
     let p = err_from_is_err_and c.from_residual.result c.from_residual.ensures.1 in
-    rw (p.1, p.2) (moves_err (rw (sym c.in_err-whole.ensures) at c.read_one.ensures.does).moves)
+    rw (p.1, p.2) (moves_err (rw (sym c.in_err-whole.ensures) at c.read_one-value.ensures.does).moves)
 
 pub returns-clause-spelling : goal.returns-clause-spelling
 returns-clause-spelling g c =
-    canonical_spelling (rw (sym c.in_ok-whole.ensures) at c.read_one.ensures.does)
+    canonical_spelling (rw (sym c.in_ok-whole.ensures) at c.read_one-value.ensures.does)
 
 pub returns-clause-every : goal.returns-clause-every
 returns-clause-every g c =
-    canonical_every (rw (sym c.in_ok-whole.ensures) at c.read_one.ensures.does)
+    canonical_every (rw (sym c.in_ok-whole.ensures) at c.read_one-value.ensures.does)
 
 pub returns-in_err-whole-clause-every : goal.returns-in_err-whole-clause-every
 returns-in_err-whole-clause-every g c =
     let p = err_from_is_err_and c.from_residual.result c.from_residual.ensures.1 in
-    rw (p.1, p.2) (refused_every (rw (sym c.in_err-whole.ensures) at c.read_one.ensures.does))
+    rw (p.1, p.2) (refused_every (rw (sym c.in_err-whole.ensures) at c.read_one-value.ensures.does))
