@@ -6,7 +6,8 @@
 //! and `levels` those of many levels, for which .ci/memory gives the stack. `value of a slice:` and
 //! its like, with an item behind it, reads that item alone.
 //!
-//! It writes one line. The exit status is 0 where each row holds, or the item was tried, and else 1.
+//! It writes one line. The exit status is 0 where each row holds, or the item was tried, and 1
+//! otherwise.
 #![tactic(auto)]
 
 mod answer;

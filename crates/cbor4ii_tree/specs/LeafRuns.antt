@@ -87,7 +87,8 @@ pub record RefusesMemory (exact : Type 0) (size : ℕ) (shown : List ℕ) : Type
 -- the values in so many bytes at the front were put behind the others, up to so many in all; or the
 -- first is left undecided, or memory was refused, or there is no byte
 abbrev pub PutsRun : Type 0 → ℕ → List Value → List Value → Ran → List ℕ → Type 0
-PutsRun exact full before after (run.Whole size) shown = PutsWhole exact full size shown before after
+PutsRun exact full before after (run.Whole size) shown =
+    PutsWhole exact full size shown before after
 PutsRun exact full before after (run.Before size first) shown =
     PutsBefore exact full size first shown before after
 PutsRun exact full before after (run.Begins first) shown =

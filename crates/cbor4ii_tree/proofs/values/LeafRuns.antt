@@ -669,7 +669,8 @@ module _ (Whole : Budget → Tree → Type 0) (stops : Budget → Stopping)
     -- the value is put behind the run, or there is no memory for that
     pub turn_put : (after : List Value) {v : Value} {b : View} (r : Option (Unit {0}))
         (failure : Option (DecodeError E)) → OnSome r (after ≡ mid ++ v ∷ [])
-        → IfNone r (failure ≡ None) → DoesBehindLook {E = E} first reads_under stops_under m b (Ok v)
+        → IfNone r (failure ≡ None) → DoesBehindLook {E = E} first reads_under stops_under m b (Ok
+        v)
         → Does {V = Unit {0}} {E = E} (PutsItemsUnder Whole before after a.budget)
         (StopsItemsUnder Whole stops (full - length before) a.budget) a b (answered r failure)
     turn_put after (Some u) failure is none d = turn_value after is d

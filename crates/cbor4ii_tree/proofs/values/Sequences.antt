@@ -233,7 +233,8 @@ pub array_of_none : {E : Type 0} (v : Vec Value Global) {m : View} → v.items �
     → Does {E = E} (λ xs (u : Vec Value Global) ys. ReadsItems 0 m.budget xs u.items ys)
     (StopsItems 0 m.budget) m m (Ok v)
 array_of_none v {m = m} e =
-    does_ok (λ xs (u : Vec Value Global) ys. ReadsItems 0 m.budget xs u.items ys) (StopsItems 0 m.budget)
+    does_ok (λ xs (u : Vec Value Global) ys. ReadsItems 0 m.budget xs u.items ys) (StopsItems 0
+    m.budget)
     (reached_start (λ xs ys. ReadsItems 0 m.budget xs v.items ys) m
     (λ xs. subst (λ us. ReadsItems 0 m.budget xs us xs) (sym e) (no_trees, refl, tt, refl, refl)))
 
@@ -429,7 +430,8 @@ pub map_of_none : {E : Type 0} (v : Vec (Value × Value) Global) {m : View} → 
     → Does {E = E} (λ xs (u : Vec (Value × Value) Global) ys. ReadsMembers 0 m.budget xs u.items ys)
     (StopsMembers 0 m.budget) m m (Ok v)
 map_of_none v {m = m} e =
-    does_ok (λ xs (u : Vec (Value × Value) Global) ys. ReadsMembers 0 m.budget xs u.items ys) (StopsMembers 0 m.budget)
+    does_ok (λ xs (u : Vec (Value × Value) Global) ys. ReadsMembers 0 m.budget xs u.items ys)
+    (StopsMembers 0 m.budget)
     (reached_start (λ xs ys. ReadsMembers 0 m.budget xs v.items ys) m
     (λ xs. subst (λ us. ReadsMembers 0 m.budget xs us xs) (sym e) (no_pairs, refl, tt, refl, refl)))
 

@@ -130,7 +130,8 @@ read_map-returns-then-not-step_in-clause-does g t c =
     (g.S.Source.view c.args.reader.now).budget) refl refl (λ none xs. rw none (refl, refl))
     c.if-not-step_in.ensures.budget c.step_in.ensures.others)
 
-pub read_by_first-returns-then-first-eq-UNDEFINED-clause-does : goal.read_by_first-returns-then-first-eq-UNDEFINED-clause-does
+pub read_by_first-returns-then-first-eq-UNDEFINED-clause-does :
+    goal.read_by_first-returns-then-first-eq-UNDEFINED-clause-does
 read_by_first-returns-then-first-eq-UNDEFINED-clause-does g t c before runs =
     rw c.leave_not_canonical.ensures (undefined_stops c.args.first runs
     (Fits-lt-pow {w = w8} c.ranges.first)
@@ -246,11 +247,13 @@ read_by_first-returns-then-first-eq-UNDEFINED-clause-progress g t c = tt
 
 pub read_by_first-returns-in_ok-read_array-in-4-clause-progress :
     goal.read_by_first-returns-in_ok-read_array-in-4-clause-progress
-read_by_first-returns-in_ok-read_array-in-4-clause-progress g t c = c.in_ok-read_array-in-4.ensures.progress
+read_by_first-returns-in_ok-read_array-in-4-clause-progress g t c =
+    c.in_ok-read_array-in-4.ensures.progress
 
 pub read_by_first-returns-in_ok-read_map-in-5-clause-progress :
     goal.read_by_first-returns-in_ok-read_map-in-5-clause-progress
-read_by_first-returns-in_ok-read_map-in-5-clause-progress g t c = c.in_ok-read_map-in-5.ensures.progress
+read_by_first-returns-in_ok-read_map-in-5-clause-progress g t c =
+    c.in_ok-read_map-in-5.ensures.progress
 
 pub counted_items-returns-then-is_err : goal.counted_items-returns-then-is_err
 counted_items-returns-then-is_err g t c =
@@ -324,68 +327,88 @@ read_by_first-returns-in_default-clause-does g t c before runs =
 
 pub more_items-returns-clause-does : goal.more_items-returns-clause-does
 more_items-returns-clause-does g t c =
-    turn_stepped Exactly StopsExactly (1 * c.args.count - length c.args.items.now.items) c.args.items.now.items _
+    turn_stepped Exactly StopsExactly (1 * c.args.count - length c.args.items.now.items)
+    c.args.items.now.items _
     c.if-not-step_in.ensures.budget c.step_in.ensures.others c.items_inside-outcome.ensures.does
     c.step_out.ensures.budget c.step_out.ensures.others
 
-pub more_items-returns-then-not-step_in-clause-does : goal.more_items-returns-then-not-step_in-clause-does
+pub more_items-returns-then-not-step_in-clause-does :
+    goal.more_items-returns-then-not-step_in-clause-does
 more_items-returns-then-not-step_in-clause-does g t c =
-    rw c.leave_deep.ensures (turn_unstepped Exactly StopsExactly (1 * c.args.count) c.args.items.now.items _
+    rw c.leave_deep.ensures (turn_unstepped Exactly StopsExactly (1 * c.args.count)
+    c.args.items.now.items _
     c.requires refl refl (λ none xs. rw none (refl, refl)) c.if-not-step_in.ensures.budget
     c.step_in.ensures.others)
 
 pub items_inside-returns-in_ok-value-in-Some-clause-does :
     goal.items_inside-returns-in_ok-value-in-Some-clause-does
 items_inside-returns-in_ok-value-in-Some-clause-does g t c =
-    turn_put Exactly StopsExactly _ _ one_exactly (1 * c.args.count) c.args.items.now.items c.take_run.new.parts.items c.in-Some.first
-    (run_before Exactly c.args.items.now.items c.take_run.new.parts.items c.in-Some.first _ c.in-Some.is (c.in_ok-first.ensures.exactly refl)) c.put_value.new.parts.items c.put_value.result _
+    turn_put Exactly StopsExactly _ _ one_exactly (1 * c.args.count) c.args.items.now.items
+    c.take_run.new.parts.items c.in-Some.first
+    (run_before Exactly c.args.items.now.items c.take_run.new.parts.items c.in-Some.first _
+    c.in-Some.is (c.in_ok-first.ensures.exactly refl)) c.put_value.new.parts.items
+    c.put_value.result _
     c.put_value.ensures.kept c.put_value.ensures.memory c.in_ok-value-in-Some.ensures.does
 
 pub items_inside-returns-in_err-value-in-Some-clause-does :
     goal.items_inside-returns-in_err-value-in-Some-clause-does
 items_inside-returns-in_err-value-in-Some-clause-does g t c =
-    rw c.from_residual-in_err-value-in-Some.ensures (turn_refused Exactly StopsExactly _ _ one_exactly
+    rw c.from_residual-in_err-value-in-Some.ensures (turn_refused Exactly StopsExactly _ _
+    one_exactly
     (1 * c.args.count) c.args.items.now.items c.take_run.new.parts.items c.in-Some.first
-    (run_before Exactly c.args.items.now.items c.take_run.new.parts.items c.in-Some.first _ c.in-Some.is (c.in_ok-first.ensures.exactly refl)) _
+    (run_before Exactly c.args.items.now.items c.take_run.new.parts.items c.in-Some.first _
+    c.in-Some.is (c.in_ok-first.ensures.exactly refl)) _
     (on_found c.in-Some.first c.in-Some.is c.in_ok-first.ensures.lacks)
     c.in_err-value-in-Some.ensures.does)
 
-pub items_inside-returns-in_err-first-clause-does : goal.items_inside-returns-in_err-first-clause-does
+pub items_inside-returns-in_err-first-clause-does :
+    goal.items_inside-returns-in_err-first-clause-does
 items_inside-returns-in_err-first-clause-does g t c =
-    rw c.from_residual.ensures (turn_ends Exactly StopsExactly _ _ one_exactly (1 * c.args.count) c.args.items.now.items
+    rw c.from_residual.ensures (turn_ends Exactly StopsExactly _ _ one_exactly (1 * c.args.count)
+    c.args.items.now.items
     c.take_run.new.parts.items c.requires (none_exactly _) (c.in_err-first.ensures.exactly refl))
 
 pub more_members-returns-clause-does : goal.more_members-returns-clause-does
 more_members-returns-clause-does g t c =
-    turn_stepped Exactly StopsExactly (2 * c.args.count - length (flat c.args.pairs.now)) (flat c.args.pairs.now) _
+    turn_stepped Exactly StopsExactly (2 * c.args.count - length (flat c.args.pairs.now)) (flat
+    c.args.pairs.now) _
     c.if-not-step_in.ensures.budget c.step_in.ensures.others c.members_inside-outcome.ensures.does
     c.step_out.ensures.budget c.step_out.ensures.others
 
-pub more_members-returns-then-not-step_in-clause-does : goal.more_members-returns-then-not-step_in-clause-does
+pub more_members-returns-then-not-step_in-clause-does :
+    goal.more_members-returns-then-not-step_in-clause-does
 more_members-returns-then-not-step_in-clause-does g t c =
-    rw c.leave_deep.ensures (turn_unstepped Exactly StopsExactly (2 * c.args.count) (flat c.args.pairs.now) _
+    rw c.leave_deep.ensures (turn_unstepped Exactly StopsExactly (2 * c.args.count) (flat
+    c.args.pairs.now) _
     c.requires refl refl (λ none xs. rw none (refl, refl)) c.if-not-step_in.ensures.budget
     c.step_in.ensures.others)
 
 pub members_inside-returns-in_ok-value-in-Some-clause-does :
     goal.members_inside-returns-in_ok-value-in-Some-clause-does
 members_inside-returns-in_ok-value-in-Some-clause-does g t c =
-    turn_put Exactly StopsExactly _ _ one_exactly (2 * c.args.count) (flat c.args.pairs.now) (flat c.take_run.new.parts) c.in-Some.first
-    (run_before Exactly (flat c.args.pairs.now) (flat c.take_run.new.parts) c.in-Some.first _ c.in-Some.is (c.in_ok-first.ensures.exactly refl)) (flat c.put_value.new.parts) c.put_value.result _
+    turn_put Exactly StopsExactly _ _ one_exactly (2 * c.args.count) (flat c.args.pairs.now) (flat
+    c.take_run.new.parts) c.in-Some.first
+    (run_before Exactly (flat c.args.pairs.now) (flat c.take_run.new.parts) c.in-Some.first _
+    c.in-Some.is (c.in_ok-first.ensures.exactly refl)) (flat c.put_value.new.parts)
+    c.put_value.result _
     c.put_value.ensures.kept c.put_value.ensures.memory c.in_ok-value-in-Some.ensures.does
 
 pub members_inside-returns-in_err-value-in-Some-clause-does :
     goal.members_inside-returns-in_err-value-in-Some-clause-does
 members_inside-returns-in_err-value-in-Some-clause-does g t c =
-    rw c.from_residual-in_err-value-in-Some.ensures (turn_refused Exactly StopsExactly _ _ one_exactly
+    rw c.from_residual-in_err-value-in-Some.ensures (turn_refused Exactly StopsExactly _ _
+    one_exactly
     (2 * c.args.count) (flat c.args.pairs.now) (flat c.take_run.new.parts) c.in-Some.first
-    (run_before Exactly (flat c.args.pairs.now) (flat c.take_run.new.parts) c.in-Some.first _ c.in-Some.is (c.in_ok-first.ensures.exactly refl)) _
+    (run_before Exactly (flat c.args.pairs.now) (flat c.take_run.new.parts) c.in-Some.first _
+    c.in-Some.is (c.in_ok-first.ensures.exactly refl)) _
     (on_found c.in-Some.first c.in-Some.is c.in_ok-first.ensures.lacks)
     c.in_err-value-in-Some.ensures.does)
 
-pub members_inside-returns-in_err-first-clause-does : goal.members_inside-returns-in_err-first-clause-does
+pub members_inside-returns-in_err-first-clause-does :
+    goal.members_inside-returns-in_err-first-clause-does
 members_inside-returns-in_err-first-clause-does g t c =
-    rw c.from_residual.ensures (turn_ends Exactly StopsExactly _ _ one_exactly (2 * c.args.count) (flat c.args.pairs.now)
+    rw c.from_residual.ensures (turn_ends Exactly StopsExactly _ _ one_exactly (2 * c.args.count)
+    (flat c.args.pairs.now)
     (flat c.take_run.new.parts) c.requires (none_exactly _) (c.in_err-first.ensures.exactly refl))
 
 -- ---- an array whose items are counted
@@ -402,7 +425,8 @@ counted_items-loop-alloc-init g t c = record {
 pub counted_items-loop-alloc-preserved : goal.counted_items-loop-alloc-preserved
 counted_items-loop-alloc-preserved g t c = record {
   reached =
-      ran Exactly StopsExactly (1 * c.args.count) c.loop-alloc.items.items c.more_items.new.items.items c.loop-alloc.invariant.reached
+      ran Exactly StopsExactly (1 * c.args.count) c.loop-alloc.items.items
+      c.more_items.new.items.items c.loop-alloc.invariant.reached
       c.in_ok-more_items.ensures.does;
   few = c.in_ok-more_items.ensures.few;
 }
@@ -410,10 +434,14 @@ counted_items-loop-alloc-preserved g t c = record {
 pub counted_items-returns-in_err-more_items :
     goal.counted_items-returns-in_err-more_items
 counted_items-returns-in_err-more_items g t c =
-    rw c.from_residual.ensures (stop_alone Exactly StopsExactly c.args.count (g.S.Source.view c.args.reader.now).budget
-    (λ xs (v : Vec Value Global) ys. ExactItems c.args.count (g.S.Source.view c.args.reader.now).budget xs v.items ys)
-    (run_stops Exactly StopsExactly (1 * c.args.count) c.loop-alloc.items.items c.more_items.new.items.items c.loop-alloc.invariant.reached
-    (λ xs (v : Vec Value Global) ys. ExactItems c.args.count (g.S.Source.view c.args.reader.now).budget xs v.items ys)
+    rw c.from_residual.ensures (stop_alone Exactly StopsExactly c.args.count (g.S.Source.view
+    c.args.reader.now).budget
+    (λ xs (v : Vec Value Global) ys. ExactItems c.args.count (g.S.Source.view
+    c.args.reader.now).budget xs v.items ys)
+    (run_stops Exactly StopsExactly (1 * c.args.count) c.loop-alloc.items.items
+    c.more_items.new.items.items c.loop-alloc.invariant.reached
+    (λ xs (v : Vec Value Global) ys. ExactItems c.args.count (g.S.Source.view
+    c.args.reader.now).budget xs v.items ys)
     c.in_err-more_items.ensures.does))
 
 -- ---- a map whose pairs are counted
@@ -422,7 +450,8 @@ pub counted_members-loop-alloc-init : goal.counted_members-loop-alloc-init
 counted_members-loop-alloc-init g t c = record {
   reached =
       reached_start (λ xs ys. ReadsEach (Exactly (g.S.Source.view c.args.reader.now).budget)
-      (length (flat_values c.reserve.new.self.items)) xs (flat_values c.reserve.new.self.items) ys) _
+      (length (flat_values c.reserve.new.self.items)) xs (flat_values c.reserve.new.self.items) ys)
+      _
       (none_yet (Exactly (g.S.Source.view c.args.reader.now).budget) _ (cc));
   few = none_too_many _ (2 * c.args.count) (cc);
 }
@@ -430,7 +459,8 @@ counted_members-loop-alloc-init g t c = record {
 pub counted_members-loop-alloc-preserved : goal.counted_members-loop-alloc-preserved
 counted_members-loop-alloc-preserved g t c = record {
   reached =
-      ran Exactly StopsExactly (2 * c.args.count) (flat c.loop-alloc.pairs) (flat c.more_members.new.pairs) c.loop-alloc.invariant.reached
+      ran Exactly StopsExactly (2 * c.args.count) (flat c.loop-alloc.pairs) (flat
+      c.more_members.new.pairs) c.loop-alloc.invariant.reached
       c.in_ok-more_members.ensures.does;
   few = c.in_ok-more_members.ensures.few;
 }
@@ -438,8 +468,10 @@ counted_members-loop-alloc-preserved g t c = record {
 pub counted_members-returns-in_err-more_members :
     goal.counted_members-returns-in_err-more_members
 counted_members-returns-in_err-more_members g t c =
-    rw c.from_residual.ensures (run_stops Exactly StopsExactly (2 * c.args.count) (flat c.loop-alloc.pairs) (flat c.more_members.new.pairs) c.loop-alloc.invariant.reached
-    (λ xs (v : Vec (Value × Value) Global) ys. ExactMembers c.args.count (g.S.Source.view c.args.reader.now).budget xs v.items ys)
+    rw c.from_residual.ensures (run_stops Exactly StopsExactly (2 * c.args.count) (flat
+    c.loop-alloc.pairs) (flat c.more_members.new.pairs) c.loop-alloc.invariant.reached
+    (λ xs (v : Vec (Value × Value) Global) ys. ExactMembers c.args.count (g.S.Source.view
+    c.args.reader.now).budget xs v.items ys)
     c.in_err-more_members.ensures.does)
 
 pub counted_members-returns : goal.counted_members-returns
@@ -448,7 +480,8 @@ counted_members-returns g t c =
     let pairs = c.loop-alloc.pairs in
     let all = both_there pairs.members.items pairs.key c.args.count c.loop-alloc.invariant.few
     (c.lacks.ensures.full c.loop-alloc-test.false) in
-    does_ok (λ xs (v : Vec (Value × Value) Global) ys. ExactMembers c.args.count budget xs v.items ys)
+    does_ok (λ xs (v : Vec (Value × Value) Global) ys. ExactMembers c.args.count budget xs v.items
+    ys)
     (StopsExactItems (2 * c.args.count) budget)
     (reached_as (λ xs ys. ReadsEach (Exactly budget) (length (flat pairs)) xs (flat pairs) ys)
     (λ xs ys. ExactMembers c.args.count budget xs pairs.members.items ys)

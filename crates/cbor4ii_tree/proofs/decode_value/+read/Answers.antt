@@ -57,7 +57,8 @@ array_inside-returns-in-None-clause-does g t c =
 pub array_inside-returns-in-Some-clause-does : goal.array_inside-returns-in-Some-clause-does
 array_inside-returns-in-Some-clause-does g t c =
     array_counted c.in-Some.count (reached_length 4 c.in-Some.count c.in-Some.is
-    c.in_ok-array_length.ensures.moves c.in_ok-array_length.ensures.sound) c.counted_items.ensures.does
+    c.in_ok-array_length.ensures.moves c.in_ok-array_length.ensures.sound)
+    c.counted_items.ensures.does
 
 pub array_inside-returns-in-Some-eq0-clause-does :
     goal.array_inside-returns-in-Some-eq0-clause-does
@@ -77,13 +78,15 @@ array_inside-returns-in_err-array_length-clause-does g t c =
 
 pub map_inside-returns-in-None-clause-does : goal.map_inside-returns-in-None-clause-does
 map_inside-returns-in-None-clause-does g t c =
-    map_opened (reached_open 5 c.in-None.is c.in_ok-map_length.ensures.moves c.in_ok-map_length.ensures.sound)
+    map_opened (reached_open 5 c.in-None.is c.in_ok-map_length.ensures.moves
+    c.in_ok-map_length.ensures.sound)
     c.open_members.ensures.does
 
 pub map_inside-returns-in-Some-clause-does : goal.map_inside-returns-in-Some-clause-does
 map_inside-returns-in-Some-clause-does g t c =
     map_counted c.in-Some.count (reached_length 5 c.in-Some.count c.in-Some.is
-    c.in_ok-map_length.ensures.moves c.in_ok-map_length.ensures.sound) c.counted_members.ensures.does
+    c.in_ok-map_length.ensures.moves c.in_ok-map_length.ensures.sound)
+    c.counted_members.ensures.does
 
 pub map_inside-returns-in-Some-eq0-clause-does :
     goal.map_inside-returns-in-Some-eq0-clause-does
@@ -91,7 +94,8 @@ map_inside-returns-in-Some-eq0-clause-does g t c =
     map_counted 0 (reached_length 5 0 (cc) c.in_ok-map_length.ensures.moves
     c.in_ok-map_length.ensures.sound) (map_of_none c.new.result (cc))
 
-pub map_inside-returns-in_err-map_length-clause-does : goal.map_inside-returns-in_err-map_length-clause-does
+pub map_inside-returns-in_err-map_length-clause-does :
+    goal.map_inside-returns-in_err-map_length-clause-does
 map_inside-returns-in_err-map_length-clause-does g t c =
     rw c.from_residual.ensures (length_refused map_name 5
     (λ xs v ys. ReadsMapInside (g.S.Source.view c.args.reader.now).budget xs v.items ys)
@@ -378,7 +382,8 @@ pub array_inside-returns-in_err-array_length-clause-progress :
 array_inside-returns-in_err-array_length-clause-progress g t c =
     rw c.from_residual.ensures tt
 
-pub map_inside-returns-in_err-map_length-clause-items : goal.map_inside-returns-in_err-map_length-clause-items
+pub map_inside-returns-in_err-map_length-clause-items :
+    goal.map_inside-returns-in_err-map_length-clause-items
 map_inside-returns-in_err-map_length-clause-items g t c =
     rw c.from_residual.ensures tt
 
@@ -575,11 +580,13 @@ read_member-returns-clause-progress g t c =
 
 pub read_by_first-returns-in_ok-read_array-in-4-clause-progress :
     goal.read_by_first-returns-in_ok-read_array-in-4-clause-progress
-read_by_first-returns-in_ok-read_array-in-4-clause-progress g t c = c.in_ok-read_array-in-4.ensures.progress
+read_by_first-returns-in_ok-read_array-in-4-clause-progress g t c =
+    c.in_ok-read_array-in-4.ensures.progress
 
 pub read_by_first-returns-in_ok-read_map-in-5-clause-progress :
     goal.read_by_first-returns-in_ok-read_map-in-5-clause-progress
-read_by_first-returns-in_ok-read_map-in-5-clause-progress g t c = c.in_ok-read_map-in-5.ensures.progress
+read_by_first-returns-in_ok-read_map-in-5-clause-progress g t c =
+    c.in_ok-read_map-in-5.ensures.progress
 
 pub open_items-loop-items-smaller : goal.open_items-loop-items-smaller
 open_items-loop-items-smaller g t c =
@@ -664,80 +671,100 @@ read_by_first-returns-in_default-clause-does g t c before runs =
 
 pub more_items-returns-clause-does : goal.more_items-returns-clause-does
 more_items-returns-clause-does g t c =
-    turn_stepped Readable StopsOneValue (1 * c.args.count - length c.args.items.now.items) c.args.items.now.items _
+    turn_stepped Readable StopsOneValue (1 * c.args.count - length c.args.items.now.items)
+    c.args.items.now.items _
     c.if-not-step_in.ensures.budget c.step_in.ensures.others c.items_inside-outcome.ensures.does
     c.step_out.ensures.budget c.step_out.ensures.others
 
-pub more_items-returns-then-not-step_in-clause-does : goal.more_items-returns-then-not-step_in-clause-does
+pub more_items-returns-then-not-step_in-clause-does :
+    goal.more_items-returns-then-not-step_in-clause-does
 more_items-returns-then-not-step_in-clause-does g t c =
-    rw c.leave_deep.ensures (turn_unstepped Readable StopsOneValue (1 * c.args.count) c.args.items.now.items _
+    rw c.leave_deep.ensures (turn_unstepped Readable StopsOneValue (1 * c.args.count)
+    c.args.items.now.items _
     c.requires refl refl (λ none xs. rw none (refl, refl)) c.if-not-step_in.ensures.budget
     c.step_in.ensures.others)
 
 pub items_inside-returns-in_ok-value-in-Some-clause-does :
     goal.items_inside-returns-in_ok-value-in-Some-clause-does
 items_inside-returns-in_ok-value-in-Some-clause-does g t c =
-    turn_put Readable StopsOneValue _ _ one_read (1 * c.args.count) c.args.items.now.items c.take_run.new.parts.items c.in-Some.first
-    (run_before Readable c.args.items.now.items c.take_run.new.parts.items c.in-Some.first _ c.in-Some.is c.in_ok-first.ensures.puts) c.put_value.new.parts.items c.put_value.result _
+    turn_put Readable StopsOneValue _ _ one_read (1 * c.args.count) c.args.items.now.items
+    c.take_run.new.parts.items c.in-Some.first
+    (run_before Readable c.args.items.now.items c.take_run.new.parts.items c.in-Some.first _
+    c.in-Some.is c.in_ok-first.ensures.puts) c.put_value.new.parts.items c.put_value.result _
     c.put_value.ensures.kept c.put_value.ensures.memory c.in_ok-value-in-Some.ensures.does
 
 pub items_inside-returns-in_err-value-in-Some-clause-does :
     goal.items_inside-returns-in_err-value-in-Some-clause-does
 items_inside-returns-in_err-value-in-Some-clause-does g t c =
-    rw c.from_residual-in_err-value-in-Some.ensures (turn_refused Readable StopsOneValue _ _ one_read
+    rw c.from_residual-in_err-value-in-Some.ensures (turn_refused Readable StopsOneValue _ _
+    one_read
     (1 * c.args.count) c.args.items.now.items c.take_run.new.parts.items c.in-Some.first
-    (run_before Readable c.args.items.now.items c.take_run.new.parts.items c.in-Some.first _ c.in-Some.is c.in_ok-first.ensures.puts) _
+    (run_before Readable c.args.items.now.items c.take_run.new.parts.items c.in-Some.first _
+    c.in-Some.is c.in_ok-first.ensures.puts) _
     (on_found c.in-Some.first c.in-Some.is c.in_ok-first.ensures.lacks)
     c.in_err-value-in-Some.ensures.does)
 
-pub items_inside-returns-in_err-first-clause-does : goal.items_inside-returns-in_err-first-clause-does
+pub items_inside-returns-in_err-first-clause-does :
+    goal.items_inside-returns-in_err-first-clause-does
 items_inside-returns-in_err-first-clause-does g t c =
-    rw c.from_residual.ensures (turn_ends Readable StopsOneValue _ _ one_read (1 * c.args.count) c.args.items.now.items
+    rw c.from_residual.ensures (turn_ends Readable StopsOneValue _ _ one_read (1 * c.args.count)
+    c.args.items.now.items
     c.take_run.new.parts.items c.requires (none_under _) c.in_err-first.ensures.puts)
 
 pub items_inside-returns-in_ok-value-in-Some-clause-items :
     goal.items_inside-returns-in_ok-value-in-Some-clause-items
 items_inside-returns-in_ok-value-in-Some-clause-items g t c =
-    put_items c.args.items.now.items c.take_run.new.parts.items c.put_value.new.parts.items c.in_ok-value-in-Some.value c.put_value.result
+    put_items c.args.items.now.items c.take_run.new.parts.items c.put_value.new.parts.items
+    c.in_ok-value-in-Some.value c.put_value.result
     c.put_value.ensures.kept c.in_ok-first.ensures.items c.in_ok-value-in-Some.ensures.item
 
 pub more_members-returns-clause-does : goal.more_members-returns-clause-does
 more_members-returns-clause-does g t c =
-    turn_stepped Readable StopsOneValue (2 * c.args.count - length (flat c.args.pairs.now)) (flat c.args.pairs.now) _
+    turn_stepped Readable StopsOneValue (2 * c.args.count - length (flat c.args.pairs.now)) (flat
+    c.args.pairs.now) _
     c.if-not-step_in.ensures.budget c.step_in.ensures.others c.members_inside-outcome.ensures.does
     c.step_out.ensures.budget c.step_out.ensures.others
 
-pub more_members-returns-then-not-step_in-clause-does : goal.more_members-returns-then-not-step_in-clause-does
+pub more_members-returns-then-not-step_in-clause-does :
+    goal.more_members-returns-then-not-step_in-clause-does
 more_members-returns-then-not-step_in-clause-does g t c =
-    rw c.leave_deep.ensures (turn_unstepped Readable StopsOneValue (2 * c.args.count) (flat c.args.pairs.now) _
+    rw c.leave_deep.ensures (turn_unstepped Readable StopsOneValue (2 * c.args.count) (flat
+    c.args.pairs.now) _
     c.requires refl refl (λ none xs. rw none (refl, refl)) c.if-not-step_in.ensures.budget
     c.step_in.ensures.others)
 
 pub members_inside-returns-in_ok-value-in-Some-clause-does :
     goal.members_inside-returns-in_ok-value-in-Some-clause-does
 members_inside-returns-in_ok-value-in-Some-clause-does g t c =
-    turn_put Readable StopsOneValue _ _ one_read (2 * c.args.count) (flat c.args.pairs.now) (flat c.take_run.new.parts) c.in-Some.first
-    (run_before Readable (flat c.args.pairs.now) (flat c.take_run.new.parts) c.in-Some.first _ c.in-Some.is c.in_ok-first.ensures.puts) (flat c.put_value.new.parts) c.put_value.result _
+    turn_put Readable StopsOneValue _ _ one_read (2 * c.args.count) (flat c.args.pairs.now) (flat
+    c.take_run.new.parts) c.in-Some.first
+    (run_before Readable (flat c.args.pairs.now) (flat c.take_run.new.parts) c.in-Some.first _
+    c.in-Some.is c.in_ok-first.ensures.puts) (flat c.put_value.new.parts) c.put_value.result _
     c.put_value.ensures.kept c.put_value.ensures.memory c.in_ok-value-in-Some.ensures.does
 
 pub members_inside-returns-in_err-value-in-Some-clause-does :
     goal.members_inside-returns-in_err-value-in-Some-clause-does
 members_inside-returns-in_err-value-in-Some-clause-does g t c =
-    rw c.from_residual-in_err-value-in-Some.ensures (turn_refused Readable StopsOneValue _ _ one_read
+    rw c.from_residual-in_err-value-in-Some.ensures (turn_refused Readable StopsOneValue _ _
+    one_read
     (2 * c.args.count) (flat c.args.pairs.now) (flat c.take_run.new.parts) c.in-Some.first
-    (run_before Readable (flat c.args.pairs.now) (flat c.take_run.new.parts) c.in-Some.first _ c.in-Some.is c.in_ok-first.ensures.puts) _
+    (run_before Readable (flat c.args.pairs.now) (flat c.take_run.new.parts) c.in-Some.first _
+    c.in-Some.is c.in_ok-first.ensures.puts) _
     (on_found c.in-Some.first c.in-Some.is c.in_ok-first.ensures.lacks)
     c.in_err-value-in-Some.ensures.does)
 
-pub members_inside-returns-in_err-first-clause-does : goal.members_inside-returns-in_err-first-clause-does
+pub members_inside-returns-in_err-first-clause-does :
+    goal.members_inside-returns-in_err-first-clause-does
 members_inside-returns-in_err-first-clause-does g t c =
-    rw c.from_residual.ensures (turn_ends Readable StopsOneValue _ _ one_read (2 * c.args.count) (flat c.args.pairs.now)
+    rw c.from_residual.ensures (turn_ends Readable StopsOneValue _ _ one_read (2 * c.args.count)
+    (flat c.args.pairs.now)
     (flat c.take_run.new.parts) c.requires (none_under _) c.in_err-first.ensures.puts)
 
 pub members_inside-returns-in_ok-value-in-Some-clause-items :
     goal.members_inside-returns-in_ok-value-in-Some-clause-items
 members_inside-returns-in_ok-value-in-Some-clause-items g t c =
-    put_items (flat c.args.pairs.now) (flat c.take_run.new.parts) (flat c.put_value.new.parts) c.in_ok-value-in-Some.value c.put_value.result
+    put_items (flat c.args.pairs.now) (flat c.take_run.new.parts) (flat c.put_value.new.parts)
+    c.in_ok-value-in-Some.value c.put_value.result
     c.put_value.ensures.kept c.in_ok-first.ensures.items c.in_ok-value-in-Some.ensures.item
 
 -- ---- an array whose items are counted
@@ -755,7 +782,8 @@ counted_items-loop-alloc-init g t c = record {
 pub counted_items-loop-alloc-preserved : goal.counted_items-loop-alloc-preserved
 counted_items-loop-alloc-preserved g t c = record {
   reached =
-      ran Readable StopsOneValue (1 * c.args.count) c.loop-alloc.items.items c.more_items.new.items.items c.loop-alloc.invariant.reached
+      ran Readable StopsOneValue (1 * c.args.count) c.loop-alloc.items.items
+      c.more_items.new.items.items c.loop-alloc.invariant.reached
       c.in_ok-more_items.ensures.does;
   items = c.in_ok-more_items.ensures.items c.loop-alloc.invariant.items;
   few = c.in_ok-more_items.ensures.few;
@@ -764,9 +792,11 @@ counted_items-loop-alloc-preserved g t c = record {
 pub counted_items-returns-in_err-more_items-clause-does :
     goal.counted_items-returns-in_err-more_items-clause-does
 counted_items-returns-in_err-more_items-clause-does g t c =
-    rw c.from_residual.ensures (stop_alone Readable StopsOneValue c.args.count (g.S.Source.view c.args.reader.now).budget
+    rw c.from_residual.ensures (stop_alone Readable StopsOneValue c.args.count (g.S.Source.view
+    c.args.reader.now).budget
     (λ xs v ys. ReadsItems c.args.count (g.S.Source.view c.args.reader.now).budget xs v.items ys)
-    (run_stops Readable StopsOneValue (1 * c.args.count) c.loop-alloc.items.items c.more_items.new.items.items c.loop-alloc.invariant.reached
+    (run_stops Readable StopsOneValue (1 * c.args.count) c.loop-alloc.items.items
+    c.more_items.new.items.items c.loop-alloc.invariant.reached
     (λ xs v ys. ReadsItems c.args.count (g.S.Source.view c.args.reader.now).budget xs v.items ys)
     c.in_err-more_items.ensures.does))
 
@@ -776,7 +806,8 @@ pub counted_members-loop-alloc-init : goal.counted_members-loop-alloc-init
 counted_members-loop-alloc-init g t c = record {
   reached =
       reached_start (λ xs ys. ReadsEach (Readable (g.S.Source.view c.args.reader.now).budget)
-      (length (flat_values c.reserve.new.self.items)) xs (flat_values c.reserve.new.self.items) ys) _
+      (length (flat_values c.reserve.new.self.items)) xs (flat_values c.reserve.new.self.items) ys)
+      _
       (none_yet (Readable (g.S.Source.view c.args.reader.now).budget) _ (cc));
   items = items_none (cc);
   few = none_too_many _ (2 * c.args.count) (cc);
@@ -785,7 +816,8 @@ counted_members-loop-alloc-init g t c = record {
 pub counted_members-loop-alloc-preserved : goal.counted_members-loop-alloc-preserved
 counted_members-loop-alloc-preserved g t c = record {
   reached =
-      ran Readable StopsOneValue (2 * c.args.count) (flat c.loop-alloc.pairs) (flat c.more_members.new.pairs) c.loop-alloc.invariant.reached
+      ran Readable StopsOneValue (2 * c.args.count) (flat c.loop-alloc.pairs) (flat
+      c.more_members.new.pairs) c.loop-alloc.invariant.reached
       c.in_ok-more_members.ensures.does;
   items = c.in_ok-more_members.ensures.items c.loop-alloc.invariant.items;
   few = c.in_ok-more_members.ensures.few;
@@ -794,7 +826,8 @@ counted_members-loop-alloc-preserved g t c = record {
 pub counted_members-returns-in_err-more_members-clause-does :
     goal.counted_members-returns-in_err-more_members-clause-does
 counted_members-returns-in_err-more_members-clause-does g t c =
-    rw c.from_residual.ensures (run_stops Readable StopsOneValue (2 * c.args.count) (flat c.loop-alloc.pairs) (flat c.more_members.new.pairs) c.loop-alloc.invariant.reached
+    rw c.from_residual.ensures (run_stops Readable StopsOneValue (2 * c.args.count) (flat
+    c.loop-alloc.pairs) (flat c.more_members.new.pairs) c.loop-alloc.invariant.reached
     (λ xs v ys. ReadsMembers c.args.count (g.S.Source.view c.args.reader.now).budget xs v.items ys)
     c.in_err-more_members.ensures.does)
 

@@ -38,7 +38,8 @@ returns-in-Ok-Before g c =
     let offers = c.in-Ok-Before.ensures.offers in
     let advance = c.advance-in-Ok-Before.ensures in
     let seen = before_seen exact _ _ _ size first is offers in
-    let puts = takes_before exact _ _ _ Readable (leaf_readable exact) size first is offers advance in
+    let puts = takes_before exact _ _ _ Readable (leaf_readable exact) size first is offers advance
+    in
     record {
       puts = puts;
       exactly = λ holds.

@@ -26,10 +26,12 @@ returns-clause-sound g c =
     canonical_sound (rw (sym c.in_ok-whole.ensures) at c.read_one-value.ensures.does)
 
 pub returns-clause-only : goal.returns-clause-only
-returns-clause-only g c = canonical_only (rw (sym c.in_ok-whole.ensures) at c.read_one-value.ensures.does)
+returns-clause-only g c =
+    canonical_only (rw (sym c.in_ok-whole.ensures) at c.read_one-value.ensures.does)
 
 pub returns-clause-all : goal.returns-clause-all
-returns-clause-all g c = canonical_all (rw (sym c.in_ok-whole.ensures) at c.read_one-value.ensures.does)
+returns-clause-all g c =
+    canonical_all (rw (sym c.in_ok-whole.ensures) at c.read_one-value.ensures.does)
 
 pub returns-clause-front : goal.returns-clause-front
 returns-clause-front g c =
@@ -38,12 +40,14 @@ returns-clause-front g c =
 pub returns-in_err-whole-clause-complete : goal.returns-in_err-whole-clause-complete
 returns-in_err-whole-clause-complete g c =
     let p = err_from_is_err_and c.from_residual.result c.from_residual.ensures.1 in
-    rw (p.1, p.2) (canonical_refuses (rw (sym c.in_err-whole.ensures) at c.read_one-value.ensures.does))
+    rw (p.1, p.2) (canonical_refuses (rw (sym c.in_err-whole.ensures) at
+    c.read_one-value.ensures.does))
 
 pub returns-in_err-whole-clause-stops : goal.returns-in_err-whole-clause-stops
 returns-in_err-whole-clause-stops g c =
     let p = err_from_is_err_and c.from_residual.result c.from_residual.ensures.1 in
-    rw (p.1, p.2) (canonical_stops (rw (sym c.in_err-whole.ensures) at c.read_one-value.ensures.does))
+    rw (p.1, p.2) (canonical_stops (rw (sym c.in_err-whole.ensures) at
+    c.read_one-value.ensures.does))
 
 pub returns-in_err-whole-clause-all : goal.returns-in_err-whole-clause-all
 returns-in_err-whole-clause-all g c =
@@ -73,7 +77,8 @@ returns-in_err-whole-clause-never g c =
 pub returns-in_err-whole-clause-others : goal.returns-in_err-whole-clause-others
 returns-in_err-whole-clause-others g c =
     let p = err_from_is_err_and c.from_residual.result c.from_residual.ensures.1 in
-    rw (p.1, p.2) (refused_others (rw (sym c.in_err-whole.ensures) at c.read_one-value.ensures.does))
+    rw (p.1, p.2) (refused_others (rw (sym c.in_err-whole.ensures) at
+    c.read_one-value.ensures.does))
 
 pub returns-in_err-whole-clause-value : goal.returns-in_err-whole-clause-value
 returns-in_err-whole-clause-value g c =
@@ -96,7 +101,8 @@ returns-clause-moves g c =
 pub returns-in_err-whole-clause-moves : goal.returns-in_err-whole-clause-moves
 returns-in_err-whole-clause-moves g c =
     let p = err_from_is_err_and c.from_residual.result c.from_residual.ensures.1 in
-    rw (p.1, p.2) (moves_err (rw (sym c.in_err-whole.ensures) at c.read_one-value.ensures.does).moves)
+    rw (p.1, p.2) (moves_err (rw (sym c.in_err-whole.ensures) at
+    c.read_one-value.ensures.does).moves)
 
 pub returns-clause-spelling : goal.returns-clause-spelling
 returns-clause-spelling g c =

@@ -70,5 +70,6 @@ returns-clause-skips g c =
 
 pub returns-clause-canonical : goal.returns-clause-canonical
 returns-clause-canonical g c =
-    rw c.whole.ensures (canonical_reads _ c.read_value-value.ensures.does (told_if c.read_value-value.result _ _
+    rw c.whole.ensures (canonical_reads _ c.read_value-value.ensures.does (told_if
+    c.read_value-value.result _ _
     c.read_value-value.ensures.item))
