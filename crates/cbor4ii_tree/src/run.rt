@@ -1,6 +1,7 @@
 //! Runs: values that hold no other, as many as one look shows, put behind the items of an array or
 //! the keys and values of a map.
-ghost use Rattle.std.specs.Prelude.{◌≡◌, ◌<◌, ◌≤◌, ◌*◌, ◌++◌, ◌∷◌, [], ℕ, List, length, true, false};
+ghost use Rattle.std.specs.Prelude.{◌≡◌, ◌<◌, ◌≤◌, ◌*◌, ◌++◌, ◌∷◌, [], ℕ, List, length, true};
+ghost use Rattle.std.specs.Prelude.{false};
 ghost use Rattle.std.specs.Prelude.{OnSome, IfNone, IfOk, OnErr, None, IsTrue, ◌↔◌};
 ghost use Rattle.cbor4ii_rw.specs.Reader.{Breaks};
 ghost use Rattle.cbor4ii_tree.specs.Front.{Offers};
