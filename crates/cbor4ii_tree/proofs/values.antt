@@ -3,6 +3,7 @@ pub mod Parts
 pub mod Calls
 pub mod Heads
 pub mod Leaves
+pub mod ByHead
 pub mod LeafRuns
 pub mod Sequences
 pub mod Strings

@@ -1,10 +1,12 @@
 -- Values that hold no other, where they stand whole in shown bytes.
 use Rattle.std.specs.Prelude.{◌≡◌, ◌≢◌, ℕ, suc, ◌+◌, ◌≤◌, ◌/◌, ◌%◌, ◌⊎◌, List, ◌∷◌, length}
-use Rattle.std.specs.Prelude.{take, Option, Some, None, Result, Ok, Err}
-use Rattle.cbor4ii_rw.specs.View.{View}
+use Rattle.std.specs.Prelude.{take, Option, Some, None, Result, Ok, Err, IfSome}
+use Rattle.cbor4ii_rw.specs.View.{View, Told}
 use Rattle.cbor4ii_rw.specs.declared.error.DecodeError.{DecodeError}
-use Rattle.cbor4ii_items.specs.Head.{ArgumentBehind, IsBytes, byte_count, shortest}
+use Rattle.cbor4ii_items.specs.Head.{ArgumentBehind, HeadFits, IsBytes, Width, byte_count, head}
+use Rattle.cbor4ii_items.specs.Head.{shortest}
 use Rattle.cbor4ii_items.specs.Initial.{simple_byte, simple_undefined}
+use Rattle.cbor4ii_items.specs.Moves.{Kept}
 use Rattle.cbor4ii_items.specs.Reading.{Runs, peek_at}
 use Rattle.cbor4ii_tree.specs.Cost.{Budget, cost}
 use Rattle.cbor4ii_tree.specs.Does.{Accepting, DoesUnder, refusal_left}
@@ -18,6 +20,7 @@ use Rattle.cbor4ii_tree.specs.View.{view}
 use Rattle.cbor4ii_tree.specs.declared.value.Value.{Value}
 use Rattle.cbor4ii_tree.specs.declared.leaf.Leaf.{Leaf}
 use Rattle.cbor4ii_tree.specs.declared.leaf.Leaf.TheVariants.{Whole, NoMemory, End, Begins}
+use Rattle.cbor4ii_tree.specs.declared.leaf.Next.{Next}
 use Rattle.cbor4ii_tree.specs.declared.leaf.Looked.{Looked}
 use Rattle.cbor4ii_tree.specs.declared.leaf.Looked.TheVariants.{Taken}
 use Rattle.cbor4ii_tree.specs.declared.leaf.Looked.TheVariants as looked
@@ -55,47 +58,80 @@ pub record WantsContent (size : ℕ) (shown : List ℕ) : Type 0 where
   pub whole : width + number ≤ length behind
   pub fresh : IsBytes (take size shown)
 
+-- A whole head of this major type, of an array, a map or a tag, with this argument stands in so
+-- many
+-- bytes at the front. Where exact holds it is the shortest.
+pub record HeadStands (exact : Type 0) (major n size : ℕ) (shown : List ℕ) : Type 0 where
+  pub nests : (4 ≤ major) × (major ≤ 6)
+  pub within : size ≤ length shown
+  pub some : 1 ≤ size
+  pub fresh : IsBytes (take size shown)
+  pub width : Width
+  pub fits : HeadFits width n
+  pub least : exact → width ≡ shortest n
+  pub is : take size shown ≡ head major n width
+
+-- the value that the shown bytes begin with, and that is left undecided
+pub record SeesNext (exact : Type 0) (n : Next) (shown : List ℕ) : Type 0 where
+  pub behind : List ℕ
+  pub begins : shown ≡ n.first ∷ behind
+  pub head : IfSome n.head (λ h. HeadStands exact (n.first / 32) h.argument h.size shown)
+
 -- what the shown bytes begin with
 abbrev pub SeesLeaf : Type 0 → Leaf → List ℕ → Type 0
 SeesLeaf exact (Whole v size) shown = StandsAhead exact v size shown
 SeesLeaf exact (NoMemory size) shown = WantsContent size shown
 SeesLeaf exact End shown = length shown ≡ 0
-SeesLeaf exact (Begins first) shown = (behind : List ℕ) × (shown ≡ first ∷ behind)
-
--- with this byte begins an item that holds others, or a string in chunks
-abbrev pub BeginsMore : ℕ → Type 0
-BeginsMore first =
-    ((4 ≤ first / 32) × (first / 32 ≤ 6))
-    ⊎ (((first / 32 ≡ 2) ⊎ (first / 32 ≡ 3)) × (first % 32 ≡ 31))
+SeesLeaf exact (Begins n) shown = SeesNext exact n shown
 
 -- a look at the next byte, which stays, has shown this one, and it may be taken
 pub record ShowsFirst (E : Type 0) (first : ℕ) (old new : View) : Type 0 where
   pub runs : Runs {V = ℕ} {E = E} (peek_at value_name 1) old new (Ok first)
   pub can : 1 ≤ new.advanceable
 
--- as DoesUnder, of a call together with the look before it, which has shown this byte
-abbrev pub DoesBehindLook : {V E : Type 0} → ℕ → (Budget → Accepting V) → (Budget → Stopping)
-    → View → View → Result V (DecodeError E) → Type 0
-DoesBehindLook {E = E} first accepts stops old new answer =
-    (before : View) → Runs {V = ℕ} {E = E} (peek_at value_name 1) before old (Ok first)
-    → DoesUnder accepts stops before new answer
+-- a look at the head of an array, a map or a tag, which stays, has shown it whole, and it may be
+-- taken
+pub record ShowsHead (exact : Type 0) (major n size : ℕ) (old new : View) : Type 0 where
+  pub kept : Kept old new
+  pub can : size ≤ new.advanceable
+  pub shown : List ℕ
+  pub stands : HeadStands exact major n size shown
+  pub begins : Told old.told (λ xs.
+      (new.told ≡ Some xs) × (size ≤ length xs) × (take size xs ≡ take size shown))
+
+-- a look has shown the value that comes next, and it may be taken
+pub record ShowsNext (E exact : Type 0) (n : Next) (old new : View) : Type 0 where
+  pub first : ShowsFirst E n.first old new
+  pub head : IfSome n.head (λ h. ShowsHead exact (n.first / 32) h.argument h.size old new)
+
+-- what a look has shown may be taken
+pub record CanTake (n : Next) (view : View) : Type 0 where
+  pub first : 1 ≤ view.advanceable
+  pub head : IfSome n.head (λ h. (1 ≤ h.size) × (h.size ≤ view.advanceable))
+
+-- as DoesUnder, of a call together with the look before it, which has shown the value that comes
+-- next
+abbrev pub DoesBehindNext : {V E : Type 0} → Type 0 → Next → (Budget → Accepting V)
+    → (Budget → Stopping) → View → View → Result V (DecodeError E) → Type 0
+DoesBehindNext {E = E} exact n accepts stops old new answer =
+    (before : View) → ShowsNext E exact n before old → DoesUnder accepts stops before new answer
 
 -- where a value was taken
 abbrev pub OnTaken : Looked → Type 0 → Type 0
 OnTaken (Taken v) P = P
-OnTaken (looked.Begins first) P = Unit {0}
+OnTaken (looked.Begins n) P = Unit {0}
 
 -- what was taken is in range
 abbrev pub ItemTaken : Looked → Type 0
 ItemTaken (Taken v) = IsItem (view v)
-ItemTaken (looked.Begins first) = Unit {0}
+ItemTaken (looked.Begins n) = Unit {0}
 
--- a value was taken, or none and it begins with this byte; or there is a refusal
-abbrev pub TakesLeaf : {E : Type 0} → (Budget → Accepting Value) → (Budget → Stopping) → View
-    → View → Option Looked → Option (DecodeError E) → Type 0
-TakesLeaf reads stops old new None failure =
+-- a value was taken, or none and a look has shown it; or there is a refusal
+abbrev pub TakesLeaf : {E : Type 0} → Type 0 → (Budget → Accepting Value) → (Budget → Stopping)
+    → View → View → Option Looked → Option (DecodeError E) → Type 0
+TakesLeaf exact reads stops old new None failure =
     DoesUnder {V = Value} reads stops old new (Err (refusal_left failure))
-TakesLeaf {E = E} reads stops old new (Some (looked.Begins first)) failure =
-    ShowsFirst E first old new
-TakesLeaf {E = E} reads stops old new (Some (Taken v)) failure =
+TakesLeaf {E = E} exact reads stops old new (Some (looked.Begins n)) failure =
+    ShowsNext E exact n old new
+TakesLeaf {E = E} exact reads stops old new (Some (Taken v)) failure =
     DoesUnder {E = E} reads stops old new (Ok v)

@@ -7,7 +7,7 @@ use Rattle.cbor4ii_items.specs.Head.{IsBytes}
 use Rattle.cbor4ii_tree.specs.Cost.{Budget, cost, step_in}
 use Rattle.cbor4ii_tree.specs.Does.{Does, refusal_left}
 use Rattle.cbor4ii_tree.specs.Item.{AreItems}
-use Rattle.cbor4ii_tree.specs.Leaf.{WantsContent, ShowsFirst}
+use Rattle.cbor4ii_tree.specs.Leaf.{CanTake, SeesNext, ShowsNext, WantsContent}
 use Rattle.cbor4ii_tree.specs.Meaning.{values}
 use Rattle.cbor4ii_tree.specs.Refusal.{value_name}
 use Rattle.cbor4ii_tree.specs.Refusal.{eof, Small}
@@ -18,6 +18,7 @@ use Rattle.cbor4ii_tree.specs.Strict.{Strict}
 use Rattle.cbor4ii_tree.specs.Tree.{Tree, Trees, Plain, count, bytes_all}
 use Rattle.cbor4ii_tree.specs.View.{items_view}
 use Rattle.cbor4ii_tree.specs.declared.value.Value.{Value}
+use Rattle.cbor4ii_tree.specs.declared.leaf.Next.{Next}
 use Rattle.cbor4ii_tree.specs.declared.run.Pairs.{Pairs}
 use Rattle.cbor4ii_tree.specs.declared.run.Ran.{Ran}
 use Rattle.cbor4ii_tree.specs.declared.run.Ran.TheVariants as run
@@ -66,14 +67,13 @@ pub record PutsWhole (exact : Type 0) (full size : ℕ) (shown : List ℕ) (befo
   pub few : length after ≤ full
   pub puts : PutsBehind exact size shown before after
 
--- the same, and behind them stands a value that is missing too, and begins with this byte
-pub record PutsBefore (exact : Type 0) (full size first : ℕ) (shown : List ℕ)
+-- the same, and behind them stands a value that is missing too, and is left undecided
+pub record PutsBefore (exact : Type 0) (full size : ℕ) (n : Next) (shown : List ℕ)
     (before after : List Value) : Type 0 where
   pub some : 1 ≤ size
   pub lacks : length after < full
   pub puts : PutsBehind exact size shown before after
-  pub behind : List ℕ
-  pub begins : drop size shown ≡ first ∷ behind
+  pub next : SeesNext exact n (drop size shown)
 
 -- Behind some values memory was refused, for the content of a string, whose head is taken, or where
 -- the last of the values was put, which is taken too.
@@ -89,10 +89,9 @@ pub record RefusesMemory (exact : Type 0) (size : ℕ) (shown : List ℕ) : Type
 abbrev pub PutsRun : Type 0 → ℕ → List Value → List Value → Ran → List ℕ → Type 0
 PutsRun exact full before after (run.Whole size) shown =
     PutsWhole exact full size shown before after
-PutsRun exact full before after (run.Before size first) shown =
-    PutsBefore exact full size first shown before after
-PutsRun exact full before after (run.Begins first) shown =
-    (after ≡ before) × (behind : List ℕ) × (shown ≡ first ∷ behind)
+PutsRun exact full before after (run.Before size n) shown =
+    PutsBefore exact full size n shown before after
+PutsRun exact full before after (run.Begins n) shown = (after ≡ before) × SeesNext exact n shown
 PutsRun exact full before after (run.NoMemory size) shown = RefusesMemory exact size shown
 PutsRun exact full before after run.End shown = length shown ≡ 0
 
@@ -133,34 +132,36 @@ abbrev pub StopsItemsUnder : (Budget → Tree → Type 0) → (Budget → Stoppi
 StopsItemsUnder Whole stops room inner xs e rest = (budget : Budget) → step_in budget ≡ Some inner
     → StopsInCount (Whole budget) (stops budget) room xs e rest
 
--- values were taken by a run, and behind them a look has shown this byte
-pub record RunsBefore (E : Type 0) (Whole : Budget → Tree → Type 0) (first : ℕ)
+-- values were taken by a run, and behind them a look has shown a value
+pub record RunsBefore (E exact : Type 0) (Whole : Budget → Tree → Type 0) (n : Next)
     (before after : List Value) (old new : View) : Type 0 where
   pub mid : View
   pub puts : Does {V = Unit {0}} {E = E} (PutsItemsUnder Whole before after old.budget)
       StopsWhereNone old mid (Ok tt)
-  pub shows : ShowsFirst E first mid new
+  pub shows : ShowsNext E exact n mid new
 
 -- values were taken by a run, or it was refused
-abbrev pub TakesBy : {E : Type 0} → (Budget → Tree → Type 0) → List Value → List Value → View
-    → View → Option (Option ℕ) → Option (DecodeError E) → Type 0
-TakesBy {E = E} Whole before after old new (Some (Some first)) failure =
-    RunsBefore E Whole first before after old new
-TakesBy {E = E} Whole before after old new (Some None) failure =
+abbrev pub TakesBy : {E : Type 0} → Type 0 → (Budget → Tree → Type 0) → List Value → List Value
+    → View → View → Option (Option Next) → Option (DecodeError E) → Type 0
+TakesBy {E = E} exact Whole before after old new (Some (Some n)) failure =
+    RunsBefore E exact Whole n before after old new
+TakesBy {E = E} exact Whole before after old new (Some None) failure =
     Does {E = E} (PutsItemsUnder Whole before after old.budget) StopsWhereNone old new (Ok tt)
-TakesBy Whole before after old new None failure =
+TakesBy exact Whole before after old new None failure =
     Does {V = Unit {0}} (PutsItemsUnder Whole before after old.budget) StopsWhereNone old new
     (Err (refusal_left failure))
 
 -- What a run takes of values, of which so many are to be there at most: the values before and after
--- it. It answers the byte with which the next value begins, where that is left undecided.
+-- it. It answers what a look has shown of the next value, where that is left undecided.
 pub record TakesRun {E : Type 0} (exact : Bool) (full : ℕ) (before after : List Value)
-    (old new : View) (result : Option (Option ℕ)) (failure : Option (DecodeError E)) : Type 0 where
-  pub puts : TakesBy Readable before after old new result failure
-  pub exactly : exact ≡ true → TakesBy Exactly before after old new result failure
-  pub items : OnSome result (KeepsItems before after)
-  pub few : OnSome result (length after ≤ full)
-  pub lacks : IfSome result (λ found. OnSome found (length after < full))
-  pub progress : IfSome result (λ found. IfNone found (new.bound + 1 ≤ old.bound))
-  pub bound : OnSome result (new.bound ≤ old.bound)
-  pub can : IfSome result (λ found. OnSome found (1 ≤ new.advanceable))
+    (old new : View) (result : Option (Option Next)) (failure : Option (DecodeError E)) : Type 0
+  where
+    pub puts : TakesBy ⊥ Readable before after old new result failure
+    pub exactly : exact ≡ true → TakesBy (Unit {0}) Exactly before after old new
+        result failure
+    pub items : OnSome result (KeepsItems before after)
+    pub few : OnSome result (length after ≤ full)
+    pub lacks : IfSome result (λ found. OnSome found (length after < full))
+    pub progress : IfSome result (λ found. IfNone found (new.bound + 1 ≤ old.bound))
+    pub bound : OnSome result (new.bound ≤ old.bound)
+    pub can : IfSome result (λ found. IfSome found (λ n. CanTake n new))

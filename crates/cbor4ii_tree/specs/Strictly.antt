@@ -1,7 +1,9 @@
 -- What the parts of reading a value that is spelled in one way accept, and where they stop.
 use Rattle.std.specs.Prelude.{◌≡◌, ◌/◌, ℕ, suc, List, ◌∷◌, ◌++◌, length, Some, None}
 use Rattle.std.specs.Prelude.{string_bytes}
+use Rattle.cbor4ii_items.specs.Shortest.{StopsShortest}
 use Rattle.cbor4ii_tree.specs.Does.{Accepting}
+use Rattle.cbor4ii_tree.specs.Item.{tag}
 use Rattle.cbor4ii_tree.specs.Tree.{Tree, Trees, Pairs, count, pair_count, bytes, bytes_all}
 use Rattle.cbor4ii_tree.specs.Tree.{bytes_pairs}
 use Rattle.cbor4ii_tree.specs.Meaning.{value, values, member_values}
@@ -48,6 +50,18 @@ StopsBehindMajor major budget xs e rest =
 abbrev pub StopsExactlyStepped : List ℕ → (Budget → Stopping) → Budget → Stopping
 StopsExactlyStepped name stops budget xs e rest =
     StopsAtStep name (step_in budget) xs (λ inner. stops inner xs) e rest
+
+-- a shortest head of this major type, and where it is refused
+abbrev pub TakesShortest : ℕ → Budget → Accepting ℕ
+TakesShortest major budget xs n ys = ShortestAt major n xs ys
+
+abbrev pub StopsAtShortest : List ℕ → ℕ → Budget → Stopping
+StopsAtShortest name major budget xs = StopsShortest name major xs budget
+
+-- a tagged value behind the head of its tag
+abbrev pub ReadsExactlyTagged : ℕ → Budget → Accepting Value
+ReadsExactlyTagged n budget xs w ys =
+    (v : Value) × (view w ≡ tag n (view v)) × ReadsExactly budget xs v ys
 
 -- ---- strings
 

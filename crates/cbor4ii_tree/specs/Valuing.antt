@@ -10,6 +10,7 @@ use Rattle.std.specs.declared.vec.Vec.{Vec}
 use Rattle.std.specs.declared.alloc.Global.{Global}
 use Rattle.cbor4ii_tree.specs.Does.{Accepting}
 use Rattle.cbor4ii_tree.specs.declared.value.Value.{Value}
+use Rattle.cbor4ii_tree.specs.Item.{tag}
 use Rattle.cbor4ii_tree.specs.Tree.{Tree, Trees, Pairs, count, pair_count}
 use Rattle.cbor4ii_tree.specs.Tree.{bytes, bytes_all, bytes_pairs}
 use Rattle.cbor4ii_tree.specs.Meaning.{value, values, member_values, simple_item}
@@ -110,6 +111,24 @@ ReadsStepped reads budget xs v ys =
 abbrev pub ReadsVec : {T : Type 0} → (Budget → Accepting (List T)) →
     Budget → Accepting (Vec T Global)
 ReadsVec reads budget xs v ys = reads budget xs v.items ys
+
+-- a head of this major type with this argument, and what stands behind it
+abbrev pub HeadAt : ℕ → ℕ → List ℕ → List ℕ → Type 0
+HeadAt major n xs ys = (w : Width) × HeadFits w n × (xs ≡ head major n w ++ ys)
+
+-- the head of a tag
+abbrev pub TakesTag : Budget → Accepting ℕ
+TakesTag budget xs n ys = HeadAt 6 n xs ys
+
+-- the head that says how many parts are to follow, none where its length is indefinite
+abbrev pub TakesLength : ℕ → Budget → Accepting (Option ℕ)
+TakesLength major budget xs (Some n) ys = HeadAt major n xs ys
+TakesLength major budget xs None ys = xs ≡ open_head major ∷ ys
+
+-- a tagged value behind the head of its tag
+abbrev pub ReadsTagged : ℕ → Budget → Accepting Value
+ReadsTagged n budget xs w ys =
+    (v : Value) × (view w ≡ tag n (view v)) × ReadsOneValue budget xs v ys
 
 -- no simple value's byte
 abbrev pub IsNoSimple : ℕ → Type 0

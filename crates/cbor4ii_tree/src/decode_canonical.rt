@@ -24,13 +24,14 @@ ghost use Rattle.cbor4ii_tree.specs.Strictly.{ReadsExactly, StopsExactly, ReadsE
 ghost use Rattle.cbor4ii_tree.specs.Strictly.{StopsExactlyUnder, StopsBehindFirst};
 ghost use Rattle.cbor4ii_tree.specs.Strictly.{StopsBehindMajor};
 ghost use Rattle.cbor4ii_tree.specs.Strictly.{StopsExactlyStepped, TextAt, ExactItems};
-ghost use Rattle.cbor4ii_tree.specs.Strictly.{StopsExactItems};
+ghost use Rattle.cbor4ii_tree.specs.Strictly.{ReadsExactlyTagged, StopsAtShortest, StopsExactItems};
+ghost use Rattle.cbor4ii_tree.specs.Strictly.{TakesShortest};
 ghost use Rattle.cbor4ii_tree.specs.Strictly.{ExactMembers, AcceptsCount};
 ghost use Rattle.cbor4ii_tree.specs.Valuing.{ReadsStepped, ReadsVec, TakesSimple};
-ghost use Rattle.cbor4ii_tree.specs.Leaf.{DoesBehindLook};
+ghost use Rattle.cbor4ii_tree.specs.Leaf.{CanTake, DoesBehindNext};
 ghost use Rattle.cbor4ii_tree.specs.View.{view};
 
-use crate::leaf::{Looked, take_leaf};
+use crate::leaf::{Looked, Next, take_leaf};
 use crate::run::{Pairs, Parts, put_value, take_run};
 use crate::simple::{read_float, simple_of};
 use crate::slot::{keep, leave_deep, leave_not_canonical, part, whole};
@@ -151,50 +152,69 @@ fn read_inside<S: Source>(
 {
     match take_leaf(alloc, reader, true, failure)? {
         Looked::Taken(value) => Some(value),
-        Looked::Begins(first) => read_by_first(alloc, reader, first, failure),
+        Looked::Begins(next) => read_next(alloc, reader, next, failure),
     }
 }
 
-/// The same by its first byte, which a look has shown.
+/// The same by what a look has shown of it.
 #[cycle(strict)]
 #[inline(always)]
-fn read_by_first<S: Source>(
+fn read_next<S: Source>(
     alloc: Global,
     reader: &mut S,
-    first: u8,
+    next: Next,
     failure: &mut Option<DecodeError<S::Error>>,
 ) -> Option<Value>
-    requires { 1 ≤ (S.view reader.old).advanceable }
-    ensures does { DoesBehindLook first ReadsExactlyUnder StopsExactlyUnder
+    requires { CanTake next (S.view reader.old) }
+    ensures does { DoesBehindNext (Unit {0}) next ReadsExactlyUnder StopsExactlyUnder
         (S.view reader.old) (S.view reader.new) (answered result failure.new) }
     ensures progress { OnSome result ((S.view reader.new).bound + 1 ≤ (S.view reader.old).bound) }
 {
-    if first == marker::UNDEFINED {
+    if next.first == marker::UNDEFINED {
         reader.advance(1);
         leave_not_canonical("canonical", failure);
         return None;
     }
-    match first / 32 {
-        major::ARRAY => Some(Value::Array(read_array(alloc, reader, failure)?)),
-        major::MAP => Some(Value::Map(read_map(alloc, reader, failure)?)),
-        major::TAG => read_tag(alloc, reader, failure),
-        _ => read_alone(alloc, reader, first, failure),
+    match next.first / 32 {
+        major::ARRAY => Some(Value::Array(read_array(alloc, reader, next, failure)?)),
+        major::MAP => Some(Value::Map(read_map(alloc, reader, next, failure)?)),
+        major::TAG => read_tag(alloc, reader, next, failure),
+        _ => read_alone(alloc, reader, next.first, failure),
     }
 }
 
 /// Reads a tag, and the value behind it.
 #[cycle(strict)]
-#[inline(never)]
+#[inline(always)]
 fn read_tag<S: Source>(
     alloc: Global,
     reader: &mut S,
+    next: Next,
     failure: &mut Option<DecodeError<S::Error>>,
 ) -> Option<Value>
-    ensures does { DoesUnder ReadsExactlyUnder (StopsBehindMajor 6)
+    requires can { CanTake next (S.view reader.old) }
+    requires major { next.first / 32 ≡ 6 }
+    ensures does { DoesBehindNext (Unit {0}) next ReadsExactlyUnder (StopsBehindMajor 6)
         (S.view reader.old) (S.view reader.new) (answered result failure.new) }
     ensures progress { OnSome result ((S.view reader.new).bound + 1 ≤ (S.view reader.old).bound) }
 {
-    let number = head_of(reader, "tag", major::TAG, failure)?;
+    let number = take_head(reader, "tag", major::TAG, next, failure)?;
+    read_tagged(alloc, reader, number, failure)
+}
+
+/// Reads the value behind the head of a tag.
+#[cycle(strict)]
+#[inline(never)]
+fn read_tagged<S: Source>(
+    alloc: Global,
+    reader: &mut S,
+    number: u64,
+    failure: &mut Option<DecodeError<S::Error>>,
+) -> Option<Value>
+    ensures does { DoesUnder (ReadsExactlyTagged number) StopsExactly
+        (S.view reader.old) (S.view reader.new) (answered result failure.new) }
+    ensures progress { OnSome result ((S.view reader.new).bound + 1 ≤ (S.view reader.old).bound) }
+{
     let inner = read_one(alloc, reader, failure)?;
     match Box::new(alloc, inner) {
         Ok(boxed) => Some(Value::Tag(number, boxed)),
@@ -205,8 +225,36 @@ fn read_tag<S: Source>(
     }
 }
 
-/// Takes a head of this major type that is no longer than needed, and answers its argument. It
-/// stays out of line, as `read_alone`.
+/// Takes the head of an array, a map or a tag that is no longer than needed, and answers its
+/// argument.
+#[inline(always)]
+fn take_head<S: Source>(
+    reader: &mut S,
+    name: StaticStr,
+    major: u8,
+    next: Next,
+    failure: &mut Option<DecodeError<S::Error>>,
+) -> Option<u64>
+    requires can { CanTake next (S.view reader.old) }
+    requires major { next.first / 32 ≡ major }
+    ensures does { DoesBehindNext (Unit {0}) next
+        (TakesShortest major) (StopsAtShortest name.now major)
+        (S.view reader.old) (S.view reader.new) (answered result failure.new) }
+    ensures memory { IfErr (answered result failure.new)
+        (λ error. is_out_of_memory error ≡ false) }
+    ensures progress { OnSome result ((S.view reader.new).bound + 1 ≤ (S.view reader.old).bound) }
+{
+    match next.head {
+        Some(head) => {
+            reader.advance(head.size);
+            Some(head.argument)
+        }
+        None => head_of(reader, name, major, failure),
+    }
+}
+
+/// The same of any major type, and of a head that no look has shown whole. It stays out of line,
+/// as `read_alone`.
 #[inline(never)]
 fn head_of<S: Source>(
     reader: &mut S,
@@ -299,9 +347,13 @@ fn read_text<S: Source>(alloc: Global, reader: &mut S) -> Result<String, DecodeE
 fn read_array<S: Source>(
     alloc: Global,
     reader: &mut S,
+    next: Next,
     failure: &mut Option<DecodeError<S::Error>>,
 ) -> Option<Vec<Value>>
-    ensures does { DoesUnder (ReadsStepped (ReadsVec (AcceptsCount 4 ExactItems)))
+    requires can { CanTake next (S.view reader.old) }
+    requires major { next.first / 32 ≡ 4 }
+    ensures does { DoesBehindNext (Unit {0}) next
+        (ReadsStepped (ReadsVec (AcceptsCount 4 ExactItems)))
         (StopsExactlyStepped array_name (StrictArrayStops StopsExactly))
         (S.view reader.old) (S.view reader.new) (answered result failure.new) }
     ensures progress { OnSome result ((S.view reader.new).bound + 1 ≤ (S.view reader.old).bound) }
@@ -310,7 +362,7 @@ fn read_array<S: Source>(
         leave_deep("array", failure);
         return None;
     }
-    let outcome = array_inside(alloc, reader, failure);
+    let outcome = array_inside(alloc, reader, next, failure);
     reader.step_out();
     outcome
 }
@@ -320,13 +372,17 @@ fn read_array<S: Source>(
 fn array_inside<S: Source>(
     alloc: Global,
     reader: &mut S,
+    next: Next,
     failure: &mut Option<DecodeError<S::Error>>,
 ) -> Option<Vec<Value>>
-    ensures does { DoesUnder (ReadsVec (AcceptsCount 4 ExactItems)) (StrictArrayStops StopsExactly)
+    requires can { CanTake next (S.view reader.old) }
+    requires major { next.first / 32 ≡ 4 }
+    ensures does { DoesBehindNext (Unit {0}) next (ReadsVec (AcceptsCount 4 ExactItems))
+        (StrictArrayStops StopsExactly)
         (S.view reader.old) (S.view reader.new) (answered result failure.new) }
     ensures progress { OnSome result ((S.view reader.new).bound + 1 ≤ (S.view reader.old).bound) }
 {
-    let count = head_of(reader, "array", major::ARRAY, failure)?;
+    let count = take_head(reader, "array", major::ARRAY, next, failure)?;
     counted_items(alloc, reader, count as usize, failure)
 }
 
@@ -358,9 +414,13 @@ fn counted_items<S: Source>(
 fn read_map<S: Source>(
     alloc: Global,
     reader: &mut S,
+    next: Next,
     failure: &mut Option<DecodeError<S::Error>>,
 ) -> Option<Vec<(Value, Value)>>
-    ensures does { DoesUnder (ReadsStepped (ReadsVec (AcceptsCount 5 ExactMembers)))
+    requires can { CanTake next (S.view reader.old) }
+    requires major { next.first / 32 ≡ 5 }
+    ensures does { DoesBehindNext (Unit {0}) next
+        (ReadsStepped (ReadsVec (AcceptsCount 5 ExactMembers)))
         (StopsExactlyStepped map_name (StrictMapStops StopsExactly))
         (S.view reader.old) (S.view reader.new) (answered result failure.new) }
     ensures progress { OnSome result ((S.view reader.new).bound + 1 ≤ (S.view reader.old).bound) }
@@ -369,7 +429,7 @@ fn read_map<S: Source>(
         leave_deep("map", failure);
         return None;
     }
-    let outcome = map_inside(alloc, reader, failure);
+    let outcome = map_inside(alloc, reader, next, failure);
     reader.step_out();
     outcome
 }
@@ -379,13 +439,17 @@ fn read_map<S: Source>(
 fn map_inside<S: Source>(
     alloc: Global,
     reader: &mut S,
+    next: Next,
     failure: &mut Option<DecodeError<S::Error>>,
 ) -> Option<Vec<(Value, Value)>>
-    ensures does { DoesUnder (ReadsVec (AcceptsCount 5 ExactMembers)) (StrictMapStops StopsExactly)
+    requires can { CanTake next (S.view reader.old) }
+    requires major { next.first / 32 ≡ 5 }
+    ensures does { DoesBehindNext (Unit {0}) next (ReadsVec (AcceptsCount 5 ExactMembers))
+        (StrictMapStops StopsExactly)
         (S.view reader.old) (S.view reader.new) (answered result failure.new) }
     ensures progress { OnSome result ((S.view reader.new).bound + 1 ≤ (S.view reader.old).bound) }
 {
-    let count = head_of(reader, "map", major::MAP, failure)?;
+    let count = take_head(reader, "map", major::MAP, next, failure)?;
     counted_members(alloc, reader, count as usize, failure)
 }
 
@@ -459,8 +523,8 @@ fn items_inside<S: Source>(
     ensures progress { OnSome result ((S.view reader.new).bound + 1 ≤ (S.view reader.old).bound) }
 {
     match take_run(alloc, reader, true, count, items, failure)? {
-        Some(first) => {
-            let value = read_by_first(alloc, reader, first, failure)?;
+        Some(next) => {
+            let value = read_next(alloc, reader, next, failure)?;
             put_value(items, value, failure)
         }
         None => Some(()),
@@ -512,8 +576,8 @@ fn members_inside<S: Source>(
     ensures progress { OnSome result ((S.view reader.new).bound + 1 ≤ (S.view reader.old).bound) }
 {
     match take_run(alloc, reader, true, count, pairs, failure)? {
-        Some(first) => {
-            let value = read_by_first(alloc, reader, first, failure)?;
+        Some(next) => {
+            let value = read_next(alloc, reader, next, failure)?;
             put_value(pairs, value, failure)
         }
         None => Some(()),

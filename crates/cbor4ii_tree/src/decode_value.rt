@@ -1,7 +1,8 @@
 //! Values, read.
 //!
 //! Each level of arrays, maps and tags takes one small frame of the stack: their loops and
-//! `read_tag` stay out of line, and what leads from one of them to another is inline.
+//! `read_tagged` stay out of line, and what leads from one of them to another is inline. What a loop
+//! answers is opened where it comes back (`Some(..?)`), so that it is handed up in registers.
 ghost use Rattle.std.specs.Prelude.{◌≡◌, ◌+◌, ◌-◌, ◌*◌, ◌<◌, ◌≤◌, ◌/◌, ◌⊎◌, OnOk, IfOk, IfErr};
 ghost use Rattle.std.specs.Prelude.{true, false, length};
 ghost use Rattle.std.specs.Prelude.{OnSome, IfSome};
@@ -12,8 +13,8 @@ ghost use Rattle.cbor4ii_tree.specs.Valuing.{ReadsVec, ReadsArrayInside, ReadsIt
 ghost use Rattle.cbor4ii_tree.specs.Valuing.{ReadsOpenItems, StopsOpenItems, ReadsMapInside};
 ghost use Rattle.cbor4ii_tree.specs.Valuing.{ReadsMembers, StopsMembers, ReadsOpenMembers};
 ghost use Rattle.cbor4ii_tree.specs.Valuing.{StopsOpenMembers, ReadsMember, StopsMember};
-ghost use Rattle.cbor4ii_tree.specs.Valuing.{TakesSimple};
-ghost use Rattle.cbor4ii_tree.specs.Leaf.{DoesBehindLook};
+ghost use Rattle.cbor4ii_tree.specs.Valuing.{ReadsTagged, TakesLength, TakesSimple, TakesTag};
+ghost use Rattle.cbor4ii_tree.specs.Leaf.{CanTake, DoesBehindNext};
 ghost use Rattle.cbor4ii_tree.specs.LeafRuns.{flat, KeepsItems, PutsItems, PutsItemsUnder};
 ghost use Rattle.cbor4ii_tree.specs.LeafRuns.{StopsItemsUnder};
 ghost use Rattle.cbor4ii_tree.specs.StopsReading.{Readable};
@@ -32,7 +33,7 @@ ghost use Rattle.cbor4ii_tree.specs.Promises.{ExactReads, SkipsReads, CanonicalR
 ghost use Rattle.cbor4ii_tree.specs.Laws.Values.{value_one, value_within, value_positive};
 ghost use Rattle.cbor4ii_tree.specs.Laws.Values.{value_alone};
 
-use crate::leaf::{Looked, take_leaf};
+use crate::leaf::{Looked, Next, take_leaf};
 use crate::run::{Pairs, Parts, put_value, take_run};
 use crate::simple::{read_float, simple_of};
 use crate::slot::{keep, leave_deep, part, whole};
@@ -45,6 +46,12 @@ use cbor4ii_items::types::{Array, Bytes, Map, Negative, Tag};
 use cbor4ii_rw::error::DecodeError;
 use cbor4ii_rw::read::Source;
 use std::alloc::Global;
+
+/// The first byte of an array of indefinite length, which is its head.
+const OPEN_ARRAY: u8 = 0x9f;
+
+/// The first byte of a map of indefinite length, which is its head.
+const OPEN_MAP: u8 = 0xbf;
 
 impl Spelled for Value {
     ghost reads = { ReadsSpelling };
@@ -165,47 +172,67 @@ fn read_inside<S: Source>(
 {
     match take_leaf(alloc, reader, false, failure)? {
         Looked::Taken(value) => Some(value),
-        Looked::Begins(first) => read_by_first(alloc, reader, first, failure),
+        Looked::Begins(next) => read_next(alloc, reader, next, failure),
     }
 }
 
-/// The same by its first byte, which a look has shown.
+/// The same by what a look has shown of it.
 #[cycle(read)]
 #[inline(always)]
-fn read_by_first<S: Source>(
+fn read_next<S: Source>(
     alloc: Global,
     reader: &mut S,
-    first: u8,
+    next: Next,
     failure: &mut Option<DecodeError<S::Error>>,
 ) -> Option<Value>
-    requires { 1 ≤ (S.view reader.old).advanceable }
-    ensures does { DoesBehindLook first ReadsUnder StopsUnder
+    requires { CanTake next (S.view reader.old) }
+    ensures does { DoesBehindNext ⊥ next ReadsUnder StopsUnder
         (S.view reader.old) (S.view reader.new) (answered result failure.new) }
     ensures item { IfSome result (λ v. IsItem (view v)) }
     ensures progress { OnSome result ((S.view reader.new).bound + 1 ≤ (S.view reader.old).bound) }
 {
-    match first / 32 {
-        major::ARRAY => Some(Value::Array(read_array(alloc, reader, failure)?)),
-        major::MAP => Some(Value::Map(read_map(alloc, reader, failure)?)),
-        major::TAG => read_tag(alloc, reader, failure),
-        _ => read_alone(alloc, reader, first, failure),
+    match next.first / 32 {
+        major::ARRAY => Some(Value::Array(read_array(alloc, reader, next, failure)?)),
+        major::MAP => Some(Value::Map(read_map(alloc, reader, next, failure)?)),
+        major::TAG => read_tag(alloc, reader, next, failure),
+        _ => read_alone(alloc, reader, next.first, failure),
     }
 }
 
 /// Reads a tag, and the value behind it.
 #[cycle(read)]
-#[inline(never)]
+#[inline(always)]
 fn read_tag<S: Source>(
     alloc: Global,
     reader: &mut S,
+    next: Next,
     failure: &mut Option<DecodeError<S::Error>>,
 ) -> Option<Value>
-    ensures does { DoesUnder ReadsUnder (StopsOf 6) (S.view reader.old) (S.view reader.new)
-        (answered result failure.new) }
+    requires can { CanTake next (S.view reader.old) }
+    requires major { next.first / 32 ≡ 6 }
+    ensures does { DoesBehindNext ⊥ next ReadsUnder (StopsOf 6)
+        (S.view reader.old) (S.view reader.new) (answered result failure.new) }
     ensures item { IfSome result (λ v. IsItem (view v)) }
     ensures progress { OnSome result ((S.view reader.new).bound + 1 ≤ (S.view reader.old).bound) }
 {
-    let number = tag_number(reader, failure)?;
+    let number = take_tag(reader, next, failure)?;
+    read_tagged(alloc, reader, number, failure)
+}
+
+/// Reads the value behind the head of a tag.
+#[cycle(read)]
+#[inline(never)]
+fn read_tagged<S: Source>(
+    alloc: Global,
+    reader: &mut S,
+    number: u64,
+    failure: &mut Option<DecodeError<S::Error>>,
+) -> Option<Value>
+    ensures does { DoesUnder (ReadsTagged number) StopsOneValue
+        (S.view reader.old) (S.view reader.new) (answered result failure.new) }
+    ensures item { IfSome result (λ v. IsItem (view v)) }
+    ensures progress { OnSome result ((S.view reader.new).bound + 1 ≤ (S.view reader.old).bound) }
+{
     let inner = read_value(alloc, reader, failure)?;
     match Box::new(alloc, inner) {
         Ok(boxed) => Some(Value::Tag(number, boxed)),
@@ -216,7 +243,31 @@ fn read_tag<S: Source>(
     }
 }
 
-/// Reads the number of a tag. It stays out of line, as `read_alone`.
+/// Takes the head of a tag, and answers its number.
+#[inline(always)]
+fn take_tag<S: Source>(
+    reader: &mut S,
+    next: Next,
+    failure: &mut Option<DecodeError<S::Error>>,
+) -> Option<u64>
+    requires can { CanTake next (S.view reader.old) }
+    requires major { next.first / 32 ≡ 6 }
+    ensures does { DoesBehindNext ⊥ next TakesTag (StopsOf 6)
+        (S.view reader.old) (S.view reader.new) (answered result failure.new) }
+    ensures memory { IfErr (answered result failure.new)
+        (λ error. is_out_of_memory error ≡ false) }
+    ensures progress { OnSome result ((S.view reader.new).bound + 1 ≤ (S.view reader.old).bound) }
+{
+    match next.head {
+        Some(head) => {
+            reader.advance(head.size);
+            Some(head.argument)
+        }
+        None => tag_number(reader, failure),
+    }
+}
+
+/// The same of a head that no look has shown whole. It stays out of line, as `read_alone`.
 #[inline(never)]
 fn tag_number<S: Source>(reader: &mut S, failure: &mut Option<DecodeError<S::Error>>) -> Option<u64>
     ensures moves { Moves (S.view reader.old) (S.view reader.new) (answered result failure.new) }
@@ -294,9 +345,12 @@ fn read_leaf<S: Source>(
 fn read_array<S: Source>(
     alloc: Global,
     reader: &mut S,
+    next: Next,
     failure: &mut Option<DecodeError<S::Error>>,
 ) -> Option<Vec<Value>>
-    ensures does { DoesUnder (ReadsStepped (ReadsVec ReadsArrayInside)) (StopsOf 4)
+    requires can { CanTake next (S.view reader.old) }
+    requires major { next.first / 32 ≡ 4 }
+    ensures does { DoesBehindNext ⊥ next (ReadsStepped (ReadsVec ReadsArrayInside)) (StopsOf 4)
         (S.view reader.old) (S.view reader.new) (answered result failure.new) }
     ensures items { IfSome result (λ v. AreItems (items_view v.items)) }
     ensures progress { OnSome result ((S.view reader.new).bound + 1 ≤ (S.view reader.old).bound) }
@@ -305,13 +359,63 @@ fn read_array<S: Source>(
         leave_deep("array", failure);
         return None;
     }
-    let outcome = array_inside(alloc, reader, failure);
+    let outcome = array_inside(alloc, reader, next, failure);
     reader.step_out();
     outcome
 }
 
-/// Takes the head of an array: how many items are to follow, none where its length is indefinite.
-/// It stays out of line, as `read_alone`.
+#[cycle(read)]
+#[inline(always)]
+fn array_inside<S: Source>(
+    alloc: Global,
+    reader: &mut S,
+    next: Next,
+    failure: &mut Option<DecodeError<S::Error>>,
+) -> Option<Vec<Value>>
+    requires can { CanTake next (S.view reader.old) }
+    requires major { next.first / 32 ≡ 4 }
+    ensures does { DoesBehindNext ⊥ next (ReadsVec ReadsArrayInside) (StopsMajor 4)
+        (S.view reader.old) (S.view reader.new) (answered result failure.new) }
+    ensures items { IfSome result (λ v. AreItems (items_view v.items)) }
+    ensures progress { OnSome result ((S.view reader.new).bound + 1 ≤ (S.view reader.old).bound) }
+{
+    match take_array(reader, next, failure)? {
+        Some(0) => Some(Vec::new(alloc)),
+        Some(count) => Some(counted_items(alloc, reader, count, failure)?),
+        None => Some(open_items(alloc, reader, failure)?),
+    }
+}
+
+/// Takes the head of an array, and answers how many items are to follow, none where its length is
+/// indefinite.
+#[inline(always)]
+fn take_array<S: Source>(
+    reader: &mut S,
+    next: Next,
+    failure: &mut Option<DecodeError<S::Error>>,
+) -> Option<Option<usize>>
+    requires can { CanTake next (S.view reader.old) }
+    requires major { next.first / 32 ≡ 4 }
+    ensures does { DoesBehindNext ⊥ next (TakesLength 4) (StopsMajor 4)
+        (S.view reader.old) (S.view reader.new) (answered result failure.new) }
+    ensures memory { IfErr (answered result failure.new)
+        (λ error. is_out_of_memory error ≡ false) }
+    ensures progress { OnSome result ((S.view reader.new).bound + 1 ≤ (S.view reader.old).bound) }
+{
+    match next.head {
+        Some(head) => {
+            reader.advance(head.size);
+            Some(Some(head.argument as usize))
+        }
+        None if next.first == OPEN_ARRAY => {
+            reader.advance(1);
+            Some(None)
+        }
+        None => array_length(reader, failure),
+    }
+}
+
+/// The same of a head that no look has shown whole. It stays out of line, as `read_alone`.
 #[inline(never)]
 fn array_length<S: Source>(
     reader: &mut S,
@@ -332,25 +436,7 @@ fn array_length<S: Source>(
     part(Array::len(reader), failure)
 }
 
-#[cycle(read)]
-#[inline(always)]
-fn array_inside<S: Source>(
-    alloc: Global,
-    reader: &mut S,
-    failure: &mut Option<DecodeError<S::Error>>,
-) -> Option<Vec<Value>>
-    ensures does { DoesUnder (ReadsVec ReadsArrayInside) (StopsMajor 4)
-        (S.view reader.old) (S.view reader.new) (answered result failure.new) }
-    ensures items { IfSome result (λ v. AreItems (items_view v.items)) }
-    ensures progress { OnSome result ((S.view reader.new).bound + 1 ≤ (S.view reader.old).bound) }
-{
-    match array_length(reader, failure)? {
-        Some(0) => Some(Vec::new(alloc)),
-        Some(count) => counted_items(alloc, reader, count, failure),
-        None => open_items(alloc, reader, failure),
-    }
-}
-
+/// Reads so many items.
 #[cycle(read)]
 #[inline(never)]
 fn counted_items<S: Source>(
@@ -421,8 +507,8 @@ fn items_inside<S: Source>(
     ensures progress { OnSome result ((S.view reader.new).bound + 1 ≤ (S.view reader.old).bound) }
 {
     match take_run(alloc, reader, false, count, items, failure)? {
-        Some(first) => {
-            let value = read_by_first(alloc, reader, first, failure)?;
+        Some(next) => {
+            let value = read_next(alloc, reader, next, failure)?;
             put_value(items, value, failure)
         }
         None => Some(()),
@@ -476,8 +562,8 @@ fn members_inside<S: Source>(
     ensures progress { OnSome result ((S.view reader.new).bound + 1 ≤ (S.view reader.old).bound) }
 {
     match take_run(alloc, reader, false, count, pairs, failure)? {
-        Some(first) => {
-            let value = read_by_first(alloc, reader, first, failure)?;
+        Some(next) => {
+            let value = read_next(alloc, reader, next, failure)?;
             put_value(pairs, value, failure)
         }
         None => Some(()),
@@ -509,9 +595,12 @@ fn open_items<S: Source>(
 fn read_map<S: Source>(
     alloc: Global,
     reader: &mut S,
+    next: Next,
     failure: &mut Option<DecodeError<S::Error>>,
 ) -> Option<Vec<(Value, Value)>>
-    ensures does { DoesUnder (ReadsStepped (ReadsVec ReadsMapInside)) (StopsOf 5)
+    requires can { CanTake next (S.view reader.old) }
+    requires major { next.first / 32 ≡ 5 }
+    ensures does { DoesBehindNext ⊥ next (ReadsStepped (ReadsVec ReadsMapInside)) (StopsOf 5)
         (S.view reader.old) (S.view reader.new) (answered result failure.new) }
     ensures items { IfSome result (λ v. AreMembers (members_view v.items)) }
     ensures progress { OnSome result ((S.view reader.new).bound + 1 ≤ (S.view reader.old).bound) }
@@ -520,13 +609,63 @@ fn read_map<S: Source>(
         leave_deep("map", failure);
         return None;
     }
-    let outcome = map_inside(alloc, reader, failure);
+    let outcome = map_inside(alloc, reader, next, failure);
     reader.step_out();
     outcome
 }
 
-/// Takes the head of a map: how many pairs are to follow, none where its length is indefinite. It
-/// stays out of line, as `read_alone`.
+#[cycle(read)]
+#[inline(always)]
+fn map_inside<S: Source>(
+    alloc: Global,
+    reader: &mut S,
+    next: Next,
+    failure: &mut Option<DecodeError<S::Error>>,
+) -> Option<Vec<(Value, Value)>>
+    requires can { CanTake next (S.view reader.old) }
+    requires major { next.first / 32 ≡ 5 }
+    ensures does { DoesBehindNext ⊥ next (ReadsVec ReadsMapInside) (StopsMajor 5)
+        (S.view reader.old) (S.view reader.new) (answered result failure.new) }
+    ensures items { IfSome result (λ v. AreMembers (members_view v.items)) }
+    ensures progress { OnSome result ((S.view reader.new).bound + 1 ≤ (S.view reader.old).bound) }
+{
+    match take_map(reader, next, failure)? {
+        Some(0) => Some(Vec::new(alloc)),
+        Some(count) => Some(counted_members(alloc, reader, count, failure)?),
+        None => Some(open_members(alloc, reader, failure)?),
+    }
+}
+
+/// Takes the head of a map, and answers how many pairs are to follow, none where its length is
+/// indefinite.
+#[inline(always)]
+fn take_map<S: Source>(
+    reader: &mut S,
+    next: Next,
+    failure: &mut Option<DecodeError<S::Error>>,
+) -> Option<Option<usize>>
+    requires can { CanTake next (S.view reader.old) }
+    requires major { next.first / 32 ≡ 5 }
+    ensures does { DoesBehindNext ⊥ next (TakesLength 5) (StopsMajor 5)
+        (S.view reader.old) (S.view reader.new) (answered result failure.new) }
+    ensures memory { IfErr (answered result failure.new)
+        (λ error. is_out_of_memory error ≡ false) }
+    ensures progress { OnSome result ((S.view reader.new).bound + 1 ≤ (S.view reader.old).bound) }
+{
+    match next.head {
+        Some(head) => {
+            reader.advance(head.size);
+            Some(Some(head.argument as usize))
+        }
+        None if next.first == OPEN_MAP => {
+            reader.advance(1);
+            Some(None)
+        }
+        None => map_length(reader, failure),
+    }
+}
+
+/// The same of a head that no look has shown whole. It stays out of line, as `read_alone`.
 #[inline(never)]
 fn map_length<S: Source>(
     reader: &mut S,
@@ -547,25 +686,7 @@ fn map_length<S: Source>(
     part(Map::len(reader), failure)
 }
 
-#[cycle(read)]
-#[inline(always)]
-fn map_inside<S: Source>(
-    alloc: Global,
-    reader: &mut S,
-    failure: &mut Option<DecodeError<S::Error>>,
-) -> Option<Vec<(Value, Value)>>
-    ensures does { DoesUnder (ReadsVec ReadsMapInside) (StopsMajor 5)
-        (S.view reader.old) (S.view reader.new) (answered result failure.new) }
-    ensures items { IfSome result (λ v. AreMembers (members_view v.items)) }
-    ensures progress { OnSome result ((S.view reader.new).bound + 1 ≤ (S.view reader.old).bound) }
-{
-    match map_length(reader, failure)? {
-        Some(0) => Some(Vec::new(alloc)),
-        Some(count) => counted_members(alloc, reader, count, failure),
-        None => open_members(alloc, reader, failure),
-    }
-}
-
+/// Reads so many pairs.
 #[cycle(read)]
 #[inline(never)]
 fn counted_members<S: Source>(

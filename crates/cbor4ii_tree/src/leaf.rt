@@ -6,7 +6,8 @@ ghost use Rattle.cbor4ii_rw.specs.Reader.{Breaks};
 ghost use Rattle.cbor4ii_items.specs.Head.{ArgumentBehind, byte_count, shortest};
 ghost use Rattle.cbor4ii_tree.specs.Front.{Offers};
 ghost use Rattle.cbor4ii_tree.specs.Item.{IsItem};
-ghost use Rattle.cbor4ii_tree.specs.Leaf.{ExactHead, SeesLeaf, TakesLeaf, ItemTaken, OnTaken};
+ghost use Rattle.cbor4ii_tree.specs.Leaf.{ExactHead, SeesLeaf, SeesNext, TakesLeaf, ItemTaken};
+ghost use Rattle.cbor4ii_tree.specs.Leaf.{OnTaken};
 ghost use Rattle.cbor4ii_tree.specs.Strictly.{ReadsExactlyUnder, StopsExactlyUnder};
 ghost use Rattle.cbor4ii_tree.specs.Valuing.{ReadsUnder, StopsUnder};
 ghost use Rattle.cbor4ii_tree.specs.View.{view};
@@ -29,21 +30,39 @@ pub(crate) enum Leaf {
     NoMemory(usize),
     /// No byte.
     End,
-    /// A value that is not decided here, which begins with this byte.
-    Begins(u8),
+    /// A value that is not decided here.
+    Begins(Next),
+}
+
+/// What a look has shown of a value that it leaves undecided.
+#[derive(Clone, Copy)]
+pub(crate) struct Next {
+    /// Its first byte.
+    pub(crate) first: u8,
+    /// The head of an array, a map or a tag, where it stands whole.
+    pub(crate) head: Option<Head>,
+}
+
+/// The head of an array, a map or a tag.
+#[derive(Clone, Copy)]
+pub(crate) struct Head {
+    /// How many items or pairs are to follow, or the number of the tag.
+    pub(crate) argument: u64,
+    /// How many bytes the head has.
+    pub(crate) size: usize,
 }
 
 /// What came of the look at a value.
 pub(crate) enum Looked {
     /// The value, which was taken.
     Taken(Value),
-    /// Nothing that was taken: the value begins with this byte.
-    Begins(u8),
+    /// Nothing that was taken: the value begins so.
+    Begins(Next),
 }
 
 /// Takes the value that comes next, where it holds no other and one look shows it whole. Where
-/// `exact` is set, its spelling has to be the canonical one. Else it takes nothing, and answers the
-/// byte that the look has shown first. Where the look shows no byte, the value is refused. A
+/// `exact` is set, its spelling has to be the canonical one. Else it takes nothing, and answers
+/// what the look has shown of the value. Where the look shows no byte, the value is refused. A
 /// refusal is left in `failure`.
 #[inline(always)]
 pub(crate) fn take_leaf<S: Source>(
@@ -52,9 +71,9 @@ pub(crate) fn take_leaf<S: Source>(
     exact: bool,
     failure: &mut Option<DecodeError<S::Error>>,
 ) -> Option<Looked>
-    ensures takes { TakesLeaf ReadsUnder StopsUnder
+    ensures takes { TakesLeaf ⊥ ReadsUnder StopsUnder
         (S.view reader.old) (S.view reader.new) result failure.new }
-    ensures exactly { exact ≡ true → TakesLeaf ReadsExactlyUnder StopsExactlyUnder
+    ensures exactly { exact ≡ true → TakesLeaf (Unit {0}) ReadsExactlyUnder StopsExactlyUnder
         (S.view reader.old) (S.view reader.new) result failure.new }
     ensures item { IfSome result ItemTaken }
     ensures progress { IfSome result (λ looked. OnTaken looked
@@ -74,7 +93,7 @@ pub(crate) fn take_leaf<S: Source>(
             leave_end("value", failure);
             None
         }
-        Ok(Leaf::Begins(first)) => Some(Looked::Begins(first)),
+        Ok(Leaf::Begins(next)) => Some(Looked::Begins(next)),
         Err(error) => {
             leave(DecodeError::Read(error), failure);
             None
@@ -105,13 +124,51 @@ pub(crate) fn leaf_of(alloc: Global, shown: &[u8], exact: bool) -> Leaf
     let [first, behind @ ..] = shown else {
         return Leaf::End;
     };
-    let Some((number, size)) = argument(*first % 32, behind) else {
-        return Leaf::Begins(*first);
-    };
-    if exact && !is_exact(*first, number, size) {
-        return Leaf::Begins(*first);
+    let first = *first;
+    match argument_of(first, behind, exact) {
+        Some((number, size)) => leaf_behind(alloc, first, behind, number, size),
+        None => Leaf::Begins(Next { first, head: None }),
     }
-    leaf_behind(alloc, *first, behind, number, size)
+}
+
+/// The value that begins with this byte, where no look decides it: it holds others, or it does not
+/// stand whole in what is shown. A text that is no UTF-8, and a byte of major type 7, are left to
+/// `leaf_of`.
+#[inline(always)]
+pub(crate) fn undecided(first: u8, behind: &[u8], exact: bool) -> Option<Next>
+    ensures { IfSome result (λ n. SeesNext (exact ≡ true) n (first ∷ behind.now)) }
+{
+    let Some((argument, size)) = argument_of(first, behind, exact) else {
+        return Some(Next { first, head: None });
+    };
+    match first / 32 {
+        major::BYTES | major::STRING if argument > behind[size..].len() as u64 => {
+            Some(Next { first, head: None })
+        }
+        major::ARRAY | major::MAP | major::TAG => Some(Next {
+            first,
+            head: Some(Head {
+                argument,
+                size: 1 + size,
+            }),
+        }),
+        _ => None,
+    }
+}
+
+/// The argument that stands whole behind this first byte, and how many bytes it has. Where `exact`
+/// is set, it is told only of a head that canonical spellings have.
+#[inline(always)]
+fn argument_of(first: u8, behind: &[u8], exact: bool) -> Option<(u64, usize)>
+    ensures stands { IfSome result (λ found.
+        ArgumentBehind (first % 32) behind.now found.0 found.1) }
+    ensures exact { exact ≡ true → IfSome result (λ found. ExactHead first found.0 found.1) }
+{
+    let (number, size) = argument(first % 32, behind)?;
+    if exact && !is_exact(first, number, size) {
+        return None;
+    }
+    Some((number, size))
 }
 
 /// Whether a head is one that canonical spellings have. A float has one width, so each is.
@@ -155,7 +212,13 @@ fn leaf_behind(alloc: Global, first: u8, behind: &[u8], number: u64, size: usize
         major::NEGATIVE => Leaf::Whole(Value::Integer(-1 - number as i128), 1 + size),
         major::BYTES | major::STRING => string_behind(alloc, first, behind, number, size),
         major::SIMPLE => simple_behind(first, behind, number, size),
-        _ => Leaf::Begins(first),
+        _ => Leaf::Begins(Next {
+            first,
+            head: Some(Head {
+                argument: number,
+                size: 1 + size,
+            }),
+        }),
     }
 }
 
@@ -172,7 +235,7 @@ fn simple_behind(first: u8, behind: &[u8], number: u64, size: usize) -> Leaf
         marker::F64 => Leaf::Whole(Value::Float(FloatBits::F64(number)), 9),
         _ => match simple_of(first) {
             Some(value) => Leaf::Whole(value, 1),
-            None => Leaf::Begins(first),
+            None => Leaf::Begins(Next { first, head: None }),
         },
     }
 }
@@ -186,7 +249,7 @@ fn string_behind(alloc: Global, first: u8, behind: &[u8], number: u64, size: usi
 {
     let rest = &behind[size..];
     if number > rest.len() as u64 {
-        return Leaf::Begins(first);
+        return Leaf::Begins(Next { first, head: None });
     }
     let count = number as usize;
     let content = &rest[..count];
@@ -197,7 +260,7 @@ fn string_behind(alloc: Global, first: u8, behind: &[u8], number: u64, size: usi
         };
     }
     let Ok(text) = str::from_utf8(content) else {
-        return Leaf::Begins(first);
+        return Leaf::Begins(Next { first, head: None });
     };
     match String::from_str(alloc, text) {
         Ok(text) => Leaf::Whole(Value::Text(text), 1 + size + count),

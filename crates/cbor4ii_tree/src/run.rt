@@ -2,17 +2,15 @@
 //! the keys and values of a map.
 ghost use Rattle.std.specs.Prelude.{◌≡◌, ◌<◌, ◌≤◌, ◌*◌, ◌++◌, ◌∷◌, [], ℕ, List, length, true};
 ghost use Rattle.std.specs.Prelude.{false};
-ghost use Rattle.std.specs.Prelude.{OnSome, IfNone, IfOk, OnErr, None, IsTrue, ◌↔◌};
+ghost use Rattle.std.specs.Prelude.{OnSome, IfNone, IfOk, OnErr, None};
 ghost use Rattle.cbor4ii_rw.specs.Reader.{Breaks};
 ghost use Rattle.cbor4ii_tree.specs.Front.{Offers};
-ghost use Rattle.cbor4ii_tree.specs.Leaf.{BeginsMore};
 ghost use Rattle.cbor4ii_tree.specs.LeafRuns.{flat, PutsRun, TakesRun};
 ghost use Rattle.cbor4ii_tree.specs.declared.value.Value.{Value};
 
-use crate::leaf::{Leaf, leaf_of};
+use crate::leaf::{Leaf, Next, leaf_of, undecided};
 use crate::slot::{leave, leave_end};
 use crate::value::Value;
-use cbor4ii_items::{major, marker};
 use cbor4ii_rw::ask::look;
 use cbor4ii_rw::error::DecodeError;
 use cbor4ii_rw::read::Source;
@@ -22,11 +20,10 @@ use std::alloc::Global;
 pub(crate) enum Ran {
     /// Values, in so many bytes.
     Whole(usize),
-    /// Values in so many bytes, and behind them one that is not decided here, which begins with
-    /// this byte.
-    Before(usize, u8),
-    /// None: the value that comes next is not decided here. It begins with this byte.
-    Begins(u8),
+    /// Values in so many bytes, and behind them one that is not decided here.
+    Before(usize, Next),
+    /// None: the value that comes next is not decided here.
+    Begins(Next),
     /// Values, and one for which there was no memory, when so many bytes were decided.
     NoMemory(usize),
     /// No byte.
@@ -127,8 +124,8 @@ pub(crate) fn put_value<P: Parts, E: Drop>(
 
 /// Takes the values that come next, as long as they hold no other and one look shows them whole,
 /// and puts them behind `parts`, up to `most` whole parts, of which one at least is missing. It
-/// answers the byte with which a value begins that the look leaves undecided. Where `exact` is set,
-/// the values are in their canonical spelling. Where the look shows no byte, the missing value is
+/// answers what the look has shown of a value that it leaves undecided. Where `exact` is set, the
+/// values are in their canonical spelling. Where the look shows no byte, the missing value is
 /// refused. A refusal is left in `failure`.
 #[inline(always)]
 pub(crate) fn take_run<S: Source, P: Parts>(
@@ -138,7 +135,7 @@ pub(crate) fn take_run<S: Source, P: Parts>(
     most: usize,
     parts: &mut P,
     failure: &mut Option<DecodeError<S::Error>>,
-) -> Option<Option<u8>>
+) -> Option<Option<Next>>
     requires { length (P.flat parts.old) < P.width * most }
     ensures { TakesRun exact (P.width * most) (P.flat parts.old) (P.flat parts.new)
         (S.view reader.old) (S.view reader.new) result failure.new }
@@ -148,11 +145,11 @@ pub(crate) fn take_run<S: Source, P: Parts>(
             reader.advance(size);
             Some(None)
         }
-        Ok(Ran::Before(size, first)) => {
+        Ok(Ran::Before(size, next)) => {
             reader.advance(size);
-            Some(Some(first))
+            Some(Some(next))
         }
-        Ok(Ran::Begins(first)) => Some(Some(first)),
+        Ok(Ran::Begins(next)) => Some(Some(next)),
         Ok(Ran::NoMemory(size)) => {
             reader.advance(size);
             *failure = None;
@@ -200,23 +197,12 @@ fn run_of<P: Parts>(alloc: Global, shown: &[u8], exact: bool, most: usize, parts
     ensures { PutsRun (exact ≡ true) (P.width * most) (P.flat parts.old) (P.flat parts.new)
         result shown.now }
 {
-    match shown {
-        [] => Ran::End,
-        [first, ..] if begins_more(*first) => Ran::Begins(*first),
-        _ => put_run(alloc, shown, exact, most, parts),
-    }
-}
-
-/// Whether an item that no look decides begins with this byte: one that holds others, or a string
-/// in chunks.
-#[inline(always)]
-fn begins_more(first: u8) -> bool
-    ensures { IsTrue result ↔ BeginsMore first }
-{
-    match first / 32 {
-        major::ARRAY | major::MAP | major::TAG => true,
-        major::BYTES | major::STRING => first % 32 == marker::START,
-        _ => false,
+    let [first, behind @ ..] = shown else {
+        return Ran::End;
+    };
+    match undecided(*first, behind, exact) {
+        Some(next) => Ran::Begins(next),
+        None => put_run(alloc, shown, exact, most, parts),
     }
 }
 
@@ -240,8 +226,8 @@ fn put_run<P: Parts>(alloc: Global, shown: &[u8], exact: bool, most: usize, part
             }
             Leaf::NoMemory(bytes) => return Ran::NoMemory(size + bytes),
             Leaf::End => return Ran::Whole(size),
-            Leaf::Begins(first) if size == 0 => return Ran::Begins(first),
-            Leaf::Begins(first) => return Ran::Before(size, first),
+            Leaf::Begins(next) if size == 0 => return Ran::Begins(next),
+            Leaf::Begins(next) => return Ran::Before(size, next),
         }
     }
     Ran::Whole(size)

@@ -15,6 +15,7 @@ use cbor4ii_rw::read::Source;
 use std::alloc::Global;
 
 /// The simple value that this byte is.
+#[inline(always)]
 pub(crate) fn simple_of(first: u8) -> Option<Value>
     ensures { SimpleOf first result }
 {

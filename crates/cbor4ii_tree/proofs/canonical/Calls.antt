@@ -1,6 +1,7 @@
 -- The calls of reading a value that is spelled in one way, one behind another.
 use Rattle.std.proofs.Common.{◌≡◌, ◌≢◌, ℕ, suc, ◌+◌, ◌/◌, ◌<◌, ◌≤◌, inl, inr, List, ◌∷◌}
-use Rattle.std.proofs.Common.{◌⊎◌, ◌++◌, length, drop, Option, Some, None, Result, Ok, Err}
+use Rattle.std.proofs.Common.{◌⊎◌, ◌++◌, length, drop, Option, Some, None, Result, Ok, Err, IfOk}
+use Rattle.std.proofs.Common.{IfErr}
 use Rattle.std.proofs.Common.{true, false, refl, sym, ap, ap₂, ◌∙◌, subst, arith, append_assoc}
 use Rattle.std.proofs.Common.{take-append-drop, Vec, Global, String, negsuc, ◌-ℤ◌}
 use Rattle.std.specs.Prelude.{IsUtf8, string_bytes}
@@ -42,21 +43,21 @@ use Rattle.cbor4ii_tree.proofs.values.LeafRuns.{OneUnder}
 use Rattle.cbor4ii_tree.specs.Refusal.{unsupported, require_utf8}
 use Rattle.cbor4ii_tree.specs.Stops.{Stopping, StopsAtStep}
 use Rattle.cbor4ii_tree.specs.View.{view}
-use Rattle.cbor4ii_tree.specs.Does.{Accepting, Does}
+use Rattle.cbor4ii_tree.specs.Does.{Accepting, Does, answered}
 use Rattle.cbor4ii_tree.specs.Valuing.{ReadsStepped, SimpleOf, TakesSimple}
 use Rattle.cbor4ii_tree.specs.StopsStrictly.{Exactly, ShortestAt, AtShortest, StrictTextStops}
 use Rattle.cbor4ii_tree.specs.StopsStrictly.{StrictOtherStops, StrictStopsBy}
 use Rattle.cbor4ii_tree.specs.Strictly.{raise, ReadsExactly, StopsExactly, ReadsExactlyUnder}
 use Rattle.cbor4ii_tree.specs.Strictly.{StopsExactlyUnder, StopsBehindFirst, StopsExactlyStepped}
-use Rattle.cbor4ii_tree.specs.Strictly.{StopsBehindMajor}
-use Rattle.cbor4ii_tree.specs.Strictly.{StringAt, ExactItems}
+use Rattle.cbor4ii_tree.specs.Strictly.{ReadsExactlyTagged, StopsBehindMajor}
+use Rattle.cbor4ii_tree.specs.Strictly.{StringAt, ExactItems, StopsAtShortest, TakesShortest}
 use Rattle.cbor4ii_tree.specs.Strictly.{ExactMembers, AcceptsCount}
 use Rattle.cbor4ii_tree.proofs.skip_calls.Doing.{Reached, reached_start, reached_by, reached_then}
 use Rattle.cbor4ii_tree.proofs.skip_calls.Doing.{reached_as, does_ok, does_err, does_after}
 use Rattle.cbor4ii_tree.proofs.skip_calls.Doing.{does_refuse, does_stops, does_stepped}
 use Rattle.cbor4ii_tree.proofs.skip_calls.Doing.{reached_peek, reached_first, reached_sound}
 use Rattle.cbor4ii_tree.proofs.skip_calls.Doing.{steps_in}
-use Rattle.cbor4ii_tree.proofs.skip_calls.Doing.{call_stops}
+use Rattle.cbor4ii_tree.proofs.skip_calls.Doing.{call_stops, still_refused}
 use Rattle.cbor4ii_tree.proofs.answers.Nesting.{strict_by_parts}
 use Rattle.cbor4ii_tree.proofs.canonical.Exactly.{raised, fits_raise, all_exactly}
 use Rattle.cbor4ii_tree.proofs.canonical.Exactly.{all_pairs_exactly, precision_major}
@@ -81,6 +82,20 @@ pub reached_shortest : {E : Type 0} (major n : ℕ) {a m : View} → Moves {E = 
 reached_shortest major n moves s =
     reached_sound (ReadsShortest major) (ShortestAt major n)
     (λ xs k c _ r. shortest_of major n xs k r.0 r.1) moves s
+
+-- the argument that a head has
+pub head_taken : {E : Type 0} (name : List ℕ) (major : ℕ) {a c : View} (r : Option ℕ)
+    (failure : Option (DecodeError E)) → Moves a c (answered r failure)
+    → IfOk (answered r failure) (Sound (ReadsShortest major) a c)
+    → IfErr (answered r failure) (Stops (StopsShortest name major) a c)
+    → Does (TakesShortest major a.budget) (StopsAtShortest name major a.budget) a c
+    (answered r failure)
+head_taken name major {a = a} (Some n) failure moves s h =
+    does_ok (TakesShortest major a.budget) (StopsAtShortest name major a.budget)
+    (reached_shortest major n moves s)
+head_taken name major {a = a} None failure moves s h =
+    call_stops (TakesShortest major a.budget) (StopsShortest name major)
+    (StopsAtShortest name major a.budget) (λ xs z rest h. h) moves h
 
 -- ---- strings
 
@@ -183,34 +198,43 @@ module _ (b : ℕ) {E : Type 0} {a m : View}
 
 -- ---- tags
 
-pub exact_tag : {E : Type 0} (n : ℕ) {v : Value} {a l c : View} (w : Value)
-    → view w ≡ tag n (view v) → Reached (ShortestAt 6 n) a l
-    → Does {E = E} (ReadsExactly l.budget) (StopsExactly l.budget) l c (Ok v)
-    → Does {E = E} (ReadsExactlyUnder a.budget) (StopsBehindMajor 6 a.budget) a c (Ok w)
-exact_tag n {v = v} {a = a} {l = l} w is p d =
-    does_ok (ReadsExactlyUnder a.budget) (StopsBehindMajor 6 a.budget)
-    (reached_then (ShortestAt 6 n)
-    (λ xs ys. ReadsExactly l.budget xs v ys) (λ xs ys. ReadsExactlyUnder a.budget xs w ys)
-    (λ xs ys zs h s0.
-    let s = subst (λ o. ReadsExactly o ys v zs) p.kept.budget s0 in
+pub exact_tagged_ok : {E : Type 0} (n : ℕ) {v : Value} {a c : View} (w : Value)
+    → view w ≡ tag n (view v) → Does {E = E} (ReadsExactly a.budget) (StopsExactly a.budget) a c
+    (Ok v)
+    → Does {E = E} (ReadsExactlyTagged n a.budget) (StopsExactly a.budget) a c (Ok w)
+exact_tagged_ok n {v = v} {a = a} w is d =
+    does_ok (ReadsExactlyTagged n a.budget) (StopsExactly a.budget)
+    (reached_as (λ xs ys. ReadsExactly a.budget xs v ys)
+    (λ xs ys. ReadsExactlyTagged n a.budget xs w ys) (λ xs ys h. (v, is, h)) (reached_by d))
+
+pub exact_tagged_err : {E : Type 0} (n : ℕ) {a c : View} {e : DecodeError E}
+    → Does {V = Value} (ReadsExactly a.budget) (StopsExactly a.budget) a c (Err e)
+    → Does {V = Value} (ReadsExactlyTagged n a.budget) (StopsExactly a.budget) a c (Err e)
+exact_tagged_err n {a = a} d =
+    does_err (λ xs ys. xs ≡ ys) (ReadsExactly a.budget) (ReadsExactlyTagged n a.budget)
+    (StopsExactly a.budget) (StopsExactly a.budget)
+    (λ xs ys z rest e s. subst (λ x. StopsExactly a.budget x z rest) (sym e) s)
+    (reached_start (λ xs ys. xs ≡ ys) a (λ xs. refl)) d
+
+pub exact_tag_does : {E : Type 0} (n : ℕ) {r : Result Value (DecodeError E)} {a l c : View}
+    → Reached (ShortestAt 6 n) a l
+    → Does (ReadsExactlyTagged n l.budget) (StopsExactly l.budget) l c r
+    → Does (ReadsExactlyUnder a.budget) (StopsBehindMajor 6 a.budget) a c r
+exact_tag_does n {a = a} {l = l} p d =
+    does_after (ShortestAt 6 n) (ReadsExactlyTagged n l.budget) (ReadsExactlyUnder a.budget)
+    (StopsExactly l.budget) (StopsBehindMajor 6 a.budget)
+    (λ xs ys zs w h r.
+    let s = subst (λ o. ReadsExactly o ys r.0 zs) p.kept.budget r.2 in
     let wide = shortest n in (
       tagged n wide s.0,
       (
         (((shortest_fits n h.0, s.1.0.0.0), s.1.0.0.1), (refl, s.1.0.1)),
         fits_raise (cost s.0) a.budget s.1.1,
       ),
-      ap (tag n) s.2 ∙ sym is,
-      h.1 ∙ ap (λ r. head 6 n wide ++ r) s.3
+      ap (tag n) s.2 ∙ sym r.1,
+      h.1 ∙ ap (λ z. head 6 n wide ++ z) s.3
           ∙ sym (append_assoc (head 6 n wide) (bytes s.0) zs),
-    )) p (reached_by d))
-
-pub exact_tag_err : {E : Type 0} (n : ℕ) {a l c : View} {e : DecodeError E}
-    → Reached (ShortestAt 6 n) a l
-    → Does {V = Value} (ReadsExactly l.budget) (StopsExactly l.budget) l c (Err e)
-    → Does {V = Value} (ReadsExactlyUnder a.budget) (StopsBehindMajor 6 a.budget) a c (Err e)
-exact_tag_err n {a = a} {l = l} p d =
-    does_err (ShortestAt 6 n) (ReadsExactly l.budget) (ReadsExactlyUnder a.budget)
-    (StopsExactly l.budget) (StopsBehindMajor 6 a.budget)
+    ))
     (λ xs ys z rest h s b bs is m.
     subst (λ x. StopsExactlyUnder a.budget x z rest) (sym is)
     (at_major 6 a.budget b bs z rest m
@@ -221,14 +245,15 @@ exact_tag_err n {a = a} {l = l} p d =
       stopped = subst (λ o. StopsExactly o ys z rest) p.kept.budget s;
     })))) p d
 
-pub exact_tag_refused : {E : Type 0} {e : DecodeError E} {a c : View} → Moves {V = ℕ} a c (Err e)
-    → Stops (StopsShortest tag_name 6) a c e
+pub exact_tag_refused : {E : Type 0} {e : DecodeError E} {a c : View}
+    → Does {V = ℕ} (TakesShortest 6 a.budget) (StopsAtShortest tag_name 6 a.budget) a c (Err e)
     → Does {V = Value} (ReadsExactlyUnder a.budget) (StopsBehindMajor 6 a.budget) a c (Err e)
-exact_tag_refused {a = a} moves s =
-    call_stops (ReadsExactlyUnder a.budget) (StopsShortest tag_name 6) (StopsBehindMajor 6 a.budget)
+exact_tag_refused {a = a} d =
+    still_refused (TakesShortest 6 a.budget) (ReadsExactlyUnder a.budget)
+    (StopsAtShortest tag_name 6 a.budget) (StopsBehindMajor 6 a.budget)
     (λ xs z rest h b bs is m. subst (λ x. StopsExactlyUnder a.budget x z rest) (sym is)
     (at_major 6 a.budget b bs z rest m
-    (inl (subst (λ x. StopsShortest tag_name 6 x a.budget z rest) is h)))) moves s
+    (inl (subst (λ x. StopsShortest tag_name 6 x a.budget z rest) is h)))) d
 
 -- ---- what a first byte tells
 

@@ -107,6 +107,16 @@ does_err {V = V} P A B S T {e = e} {a = a} {m = m} {b = b} g p d =
       err = err_after {V = V} P S T (Err e) a m b g p d.err;
     }
 
+-- what was refused, told in other words
+pub still_refused : {U V E : Type 0} (A : Accepting U) (B : Accepting V) (S T : Stopping)
+    {e : DecodeError E} {a b : View}
+    → ((xs : List ℕ) (z : Refusal) (rest : List ℕ) → S xs z rest → T xs z rest)
+    → Does {V = U} A S a b (Err e) → Does {V = V} B T a b (Err e)
+still_refused A B S T {a = a} f d =
+    does_err (λ xs ys. xs ≡ ys) A B S T
+    (λ xs ys z rest same h. subst (λ x. T x z rest) (sym same) (f ys z rest h))
+    (reached_start (λ xs ys. xs ≡ ys) a (λ xs. refl)) d
+
 refused_as : (o : Option Refusal) (z : Refusal) (T : Refusal → List ℕ → Type 0)
     (new : Option (List ℕ)) → o ≡ Some z
     → (ys : List ℕ) × (new ≡ Some ys) × T z ys

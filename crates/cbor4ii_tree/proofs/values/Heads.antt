@@ -1,7 +1,8 @@
 -- The parts of a value that are heads alone, and tags.
 use Rattle.std.proofs.Common.{◌⊎◌, ◌≡◌, ◌≢◌, ℕ, zero, suc, ◌+◌, ◌*◌, ◌/◌, ◌%◌, ◌<◌, ◌≤◌, ◌^◌, List}
 use Rattle.std.proofs.Common.{[]}
-use Rattle.std.proofs.Common.{◌∷◌, ◌++◌, length, drop, take, Option, Some, Result, Ok, Err, false}
+use Rattle.std.proofs.Common.{◌∷◌, ◌++◌, length, drop, take, Option, Some, None, Result, Ok, Err}
+use Rattle.std.proofs.Common.{IfOk, IfErr, false}
 use Rattle.std.proofs.Common.{refl, sym, ap, ◌∙◌, subst, arith, append_assoc, inl, inr, rules, pos}
 use Rattle.std.proofs.Common.{negsuc, ◌-ℤ◌, ne_eqb}
 use Rattle.std.proofs.Math.Seq.{drop-append_seam}
@@ -13,7 +14,7 @@ use Rattle.cbor4ii_rw.specs.View.{View}
 use Rattle.cbor4ii_rw.specs.Reader.{Advances}
 use Rattle.cbor4ii_rw.specs.declared.error.DecodeError.{DecodeError}
 use Rattle.cbor4ii_items.specs.Refusal.{Refusal, refusal_of, is_read, is_depth_overflow}
-use Rattle.cbor4ii_items.specs.Head.{Width, byte_count, additional, HeadFits, head}
+use Rattle.cbor4ii_items.specs.Head.{byte_count, additional, head}
 use Rattle.cbor4ii_items.specs.Heads.{StopsHead, ReadsHead}
 use Rattle.cbor4ii_items.specs.Laws.Heads.{after_head, length-bytes_high_first}
 use Rattle.cbor4ii_items.specs.Numbers.{ReadsArgument, StopsArgument}
@@ -40,8 +41,9 @@ use Rattle.cbor4ii_tree.specs.Laws.Binds.{step_up}
 use Rattle.cbor4ii_tree.specs.Stops.{Stopping, MissingAll}
 use Rattle.cbor4ii_tree.specs.StopsReading.{ReadingStopsBy, StopsReading}
 use Rattle.cbor4ii_tree.specs.View.{view}
-use Rattle.cbor4ii_tree.specs.Does.{Accepting, Does}
-use Rattle.cbor4ii_tree.specs.Valuing.{ReadsOneValue, StopsOneValue, ReadsUnder, StopsUnder}
+use Rattle.cbor4ii_tree.specs.Does.{Accepting, Does, answered}
+use Rattle.cbor4ii_tree.specs.Valuing.{HeadAt, ReadsOneValue, ReadsTagged, StopsOneValue}
+use Rattle.cbor4ii_tree.specs.Valuing.{ReadsUnder, StopsUnder, TakesTag}
 use Rattle.cbor4ii_tree.specs.Valuing.{StopsFirst, StopsOf, SimpleOf, TakesSimple}
 use Rattle.cbor4ii_tree.proofs.skip_calls.Doing.{Reached, reached_start, reached_by, reached_then}
 use Rattle.cbor4ii_tree.proofs.skip_calls.Doing.{reached_as, does_ok, does_err, does_after}
@@ -260,9 +262,6 @@ no_value first {a = a} low high none f g h says read shallow =
 
 -- ---- heads that something follows
 
-abbrev pub HeadAt : ℕ → ℕ → List ℕ → List ℕ → Type 0
-HeadAt major n xs ys = (w : Width) × HeadFits w n × (xs ≡ head major n w ++ ys)
-
 pub head_at : (major n : ℕ) (xs : List ℕ) (k : ℕ) → ReadsHead major 8 xs n k
     → HeadAt major n xs (drop k xs)
 head_at major n xs k h =
@@ -283,28 +282,37 @@ pub view-Tag : (n : ℕ) (v : Rattle.std.proofs.Common.Box Value Rattle.std.proo
     → view (Tag n v) ≡ tag n (view v.value)
 view-Tag n v = search (rules, the_lemmas)
 
-pub tag_read : {E : Type 0} (n : ℕ) {v : Value} {a m c : View} (w : Value) → view w ≡ tag n (view v)
-    → Reached (HeadAt 6 n) a m
-    → Does {E = E} (ReadsOneValue m.budget) (StopsOneValue m.budget) m c (Ok v)
-    → Does {E = E} (ReadsUnder a.budget) (StopsOf 6 a.budget) a c (Ok w)
-tag_read n {v = v} {a = a} {m = m} w is p d = does_ok (ReadsUnder a.budget) (StopsOf 6 a.budget)
-    (reached_then (HeadAt 6 n) (λ xs ys. ReadsOneValue m.budget xs v ys)
-    (λ xs ys. ReadsUnder a.budget xs w ys)
-    (λ xs ys zs h s0 budget step.
-    let s = subst (λ o. ReadsOneValue o ys v zs) p.kept.budget s0 in (
+-- behind the head of a tag
+pub tagged_ok : {E : Type 0} (n : ℕ) {v : Value} {a c : View} (w : Value) → view w ≡ tag n (view v)
+    → Does {E = E} (ReadsOneValue a.budget) (StopsOneValue a.budget) a c (Ok v)
+    → Does {E = E} (ReadsTagged n a.budget) (StopsOneValue a.budget) a c (Ok w)
+tagged_ok n {v = v} {a = a} w is d = does_ok (ReadsTagged n a.budget) (StopsOneValue a.budget)
+    (reached_as (λ xs ys. ReadsOneValue a.budget xs v ys) (λ xs ys. ReadsTagged n a.budget xs w ys)
+    (λ xs ys h. (v, is, h)) (reached_by d))
+
+pub tagged_err : {E : Type 0} (n : ℕ) {a c : View} {e : DecodeError E}
+    → Does {V = Value} (ReadsOneValue a.budget) (StopsOneValue a.budget) a c (Err e)
+    → Does {V = Value} (ReadsTagged n a.budget) (StopsOneValue a.budget) a c (Err e)
+tagged_err n {a = a} d =
+    does_err (λ xs ys. xs ≡ ys) (ReadsOneValue a.budget) (ReadsTagged n a.budget)
+    (StopsOneValue a.budget) (StopsOneValue a.budget)
+    (λ xs ys z rest e s. subst (λ x. StopsOneValue a.budget x z rest) (sym e) s)
+    (reached_start (λ xs ys. xs ≡ ys) a (λ xs. refl)) d
+
+pub tag_does : {E : Type 0} (n : ℕ) {r : Result Value (DecodeError E)} {a m c : View}
+    → Reached (HeadAt 6 n) a m → Does (ReadsTagged n m.budget) (StopsOneValue m.budget) m c r
+    → Does (ReadsUnder a.budget) (StopsOf 6 a.budget) a c r
+tag_does n {a = a} {m = m} p d =
+    does_after (HeadAt 6 n) (ReadsTagged n m.budget) (ReadsUnder a.budget) (StopsOneValue m.budget)
+    (StopsOf 6 a.budget)
+    (λ xs ys zs w h r budget step.
+    let s = subst (λ o. ReadsOneValue o ys r.0 zs) p.kept.budget r.2 in (
       tagged n h.0 s.0,
       (((h.1, s.1.0.0), s.1.0.1), step_up budget a.budget (cost s.0) step s.1.1),
-      ap (tag n) s.2 ∙ sym is,
-      h.2 ∙ ap (λ r. head 6 n h.0 ++ r) s.3
+      ap (tag n) s.2 ∙ sym r.1,
+      h.2 ∙ ap (λ z. head 6 n h.0 ++ z) s.3
           ∙ sym (append_assoc (head 6 n h.0) (bytes s.0) zs),
-    )) p (reached_by d))
-
-pub tag_stopped : {E : Type 0} (n : ℕ) {a m c : View} {e : DecodeError E} → Reached (HeadAt 6 n) a m
-    → Does {V = Value} (ReadsOneValue m.budget) (StopsOneValue m.budget) m c (Err e)
-    → Does {V = Value} (ReadsUnder a.budget) (StopsOf 6 a.budget) a c (Err e)
-tag_stopped n {a = a} {m = m} p d =
-    does_err (HeadAt 6 n) (ReadsOneValue m.budget) (ReadsUnder a.budget) (StopsOneValue m.budget)
-    (StopsOf 6 a.budget)
+    ))
     (λ xs ys z rest h s0 _ _ _ _.
     let s = subst (λ o. StopsOneValue o ys z rest) p.kept.budget s0 in
     subst (λ x. StopsUnder a.budget x z rest) (sym h.2)
@@ -324,10 +332,15 @@ tag_stops inner b bs e rest m h =
     by_info open_ended is = no_head tag_name 6 b bs e rest (λ w f. cc) h
     by_info reserved is = no_head tag_name 6 b bs e rest (λ w f. cc) h
 
-pub tag_refused : {E : Type 0} {e : DecodeError E} {a c : View} → Moves {V = ℕ} a c (Err e)
-    → Stops (StopsArgument tag_name 6 8) a c e
-    → Does {V = Value} (ReadsUnder a.budget) (StopsOf 6 a.budget) a c (Err e)
-tag_refused {a = a} moves s =
-    call_stops (ReadsUnder a.budget) (StopsArgument tag_name 6 8) (StopsOf 6 a.budget)
+-- the number that the head of a tag has
+pub tag_taken : {E : Type 0} {a c : View} (r : Option ℕ) (failure : Option (DecodeError E))
+    → Moves a c (answered r failure)
+    → IfOk (answered r failure) (Sound (ReadsArgument 6 8) a c)
+    → IfErr (answered r failure) (Stops (StopsArgument tag_name 6 8) a c)
+    → Does (TakesTag a.budget) (StopsOf 6 a.budget) a c (answered r failure)
+tag_taken {a = a} (Some n) failure moves s h =
+    does_ok (TakesTag a.budget) (StopsOf 6 a.budget) (reached_tag n moves s)
+tag_taken {a = a} None failure moves s h =
+    call_stops (TakesTag a.budget) (StopsArgument tag_name 6 8) (StopsOf 6 a.budget)
     (λ xs z rest h b bs is m. subst (λ x. StopsUnder a.budget x z rest) (sym is)
-    (tag_stops a.budget b bs z rest m (subst (λ x. StopsHead tag_name 6 8 x z rest) is h))) moves s
+    (tag_stops a.budget b bs z rest m (subst (λ x. StopsHead tag_name 6 8 x z rest) is h))) moves h

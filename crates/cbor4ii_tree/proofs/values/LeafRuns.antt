@@ -1,8 +1,10 @@
 -- Runs: values that hold no other, one behind another in shown bytes.
-use Rattle.std.proofs.Common.{◌≡◌, ℕ, suc, ◌+◌, ◌-◌, ◌*◌, ◌<◌, ◌≤◌, ◌⊎◌, List, [], ◌∷◌, ◌++◌}
+use Rattle.std.proofs.Common.{◌≡◌, ℕ, suc, ◌+◌, ◌-◌, ◌*◌, ◌/◌, ◌<◌, ◌≤◌, ◌⊎◌, List, [], ◌∷◌}
+use Rattle.std.proofs.Common.{◌++◌}
 use Rattle.std.proofs.Common.{length, take, drop, Option, Some, None, refl, sym, ap, ap₂, ◌∙◌}
 use Rattle.std.proofs.Common.{subst, arith, append_assoc, length-append, length-drop}
-use Rattle.std.proofs.Common.{take-append-drop, Vec, Global, nat_lt, Bool, true, false, not, OnSome, IfNone, Result}
+use Rattle.std.proofs.Common.{take-append-drop, Vec, Global, nat_lt, Bool, true, false, not, OnSome}
+use Rattle.std.proofs.Common.{IfSome, IfNone, Result}
 use Rattle.std.proofs.Common.{Ok, Err, inl, inr}
 use Rattle.std.specs.Option.{is_some}
 use Rattle.std.proofs.Math.Seq.{take-add}
@@ -27,7 +29,8 @@ use Rattle.cbor4ii_tree.specs.Does.{Accepting, Does, answered, refusal_left}
 use Rattle.cbor4ii_tree.specs.Front.{Offers}
 use Rattle.cbor4ii_tree.specs.Item.{AreItems, AreMembers, IsItem, item, no_items}
 use Rattle.cbor4ii_tree.specs.Laws.Binds.{step_up}
-use Rattle.cbor4ii_tree.specs.Leaf.{DoesBehindLook, StandsAhead, WantsContent}
+use Rattle.cbor4ii_tree.specs.Leaf.{DoesBehindNext, HeadStands, SeesNext, ShowsHead, ShowsNext}
+use Rattle.cbor4ii_tree.specs.Leaf.{StandsAhead, WantsContent}
 use Rattle.cbor4ii_tree.specs.LeafRuns.{flat_pairs, flat_values, IsLeaf, StandInFront, PutsBehind}
 use Rattle.cbor4ii_tree.specs.LeafRuns.{PutsRun, RefusesMemory, ReadsEach, PutsItems, RunsBefore}
 use Rattle.cbor4ii_tree.specs.LeafRuns.{PutsItemsUnder, KeepsItems, StopsItemsUnder}
@@ -43,6 +46,7 @@ use Rattle.cbor4ii_tree.specs.Meaning.{value, values, member_values}
 use Rattle.cbor4ii_tree.specs.Valuing.{ReadsUnder, StopsOneValue, StopsUnder}
 use Rattle.cbor4ii_tree.specs.View.{view, items_view, members_view}
 use Rattle.cbor4ii_tree.specs.declared.value.Value.{Value}
+use Rattle.cbor4ii_tree.specs.declared.leaf.Next.{Next}
 use Rattle.cbor4ii_tree.specs.declared.run.Ran.{Ran}
 use Rattle.cbor4ii_tree.specs.declared.run.Ran.TheVariants as run
 use Rattle.cbor4ii_tree.proofs.parts.Fronts.{IsBytes-append}
@@ -53,7 +57,8 @@ use Rattle.cbor4ii_tree.proofs.skip_calls.Doing.{does_err, does_no_step}
 use Rattle.cbor4ii_tree.proofs.values.Calls.{stops_under}
 use Rattle.cbor4ii_tree.proofs.values.Ends.{none_shown}
 use Rattle.cbor4ii_tree.proofs.values.Items.{items_are}
-use Rattle.cbor4ii_tree.proofs.values.Leaves.{MayTake, wants_may, shows_first}
+use Rattle.cbor4ii_tree.proofs.values.ByHead.{front_shown, next_shown, sees_loosely}
+use Rattle.cbor4ii_tree.proofs.values.Leaves.{MayTake, some_as, wants_may}
 
 -- ---- lists of values
 
@@ -327,37 +332,101 @@ does_narrow {a = a} {b = b} d = record {
   err = tt;
 }
 
+narrow_begun : (a b : View) → Kept (narrow a b) b
+narrow_begun a b = record {
+  rest = λ ys told. (
+    0,
+    record {
+      left = (told_narrowed a.told b.told ys told).2;
+      within = omega arith;
+      bytes = tt;
+    },
+  );
+  counted = counted_none (narrow a b) b (λ ys told. (told_narrowed a.told b.told ys told).2) refl;
+  bound = omega arith;
+  budget = refl;
+  failures = refl;
+  lends_whole = λ h. h;
+  remembers = λ h. h;
+  ends_at = refl;
+}
+
 -- what is left was shown, from where its bytes are told only as before
 narrow_shows : {E : Type 0} (first : ℕ) {a b : View} → Kept a b
     → Told a.told (λ xs. (behind : List ℕ) × (b.told ≡ Some (first ∷ behind)))
     → Runs {V = ℕ} {E = E} (peek_at value_name 1) (narrow a b) b (Ok first)
 narrow_shows first {a = a} {b = b} k next = record {
-  moves = record {
-    by = record {
-      rest = λ ys told. (
-        0,
-        record {
-          left = (told_narrowed a.told b.told ys told).2;
-          within = omega arith;
-          bytes = tt;
-        },
-      );
-      counted = counted_none (narrow a b) b (λ ys told. (told_narrowed a.told b.told ys told).2)
-          refl;
-      bound = omega arith;
-      budget = refl;
-      failures = refl;
-      lends_whole = λ h. h;
-      remembers = λ h. h;
-      ends_at = refl;
-    };
-    depth = λ e. refl;
-  };
+  moves = record { by = narrow_begun a b; depth = λ e. refl };
   answers = λ ys told.
       let t = told_narrowed a.told b.told ys told in
       let n = next t.0 t.1 in
       let e : ys ≡ first ∷ n.0 = let f = t.2 in let g = n.1 in cc in
       (ys, t.2, ap (peek_at value_name 1) e ∙ ap (λ zs. Ok (first, zs)) (sym e));
+}
+
+-- what stands behind what was taken was shown, from where its bytes are told only as before
+head_behind : (exact : Type 0) (size major n k : ℕ) {shown : List ℕ} {a m b : View}
+    → Shows shown a m → Told a.told (IsFront 1 shown) → size ≤ length shown → Advances size m b
+    → HeadStands exact major n k (drop size shown) → ShowsHead exact major n k (narrow a b) b
+head_behind exact size major n k {shown = shown} {a = a} {b = b} shows front within adv s = record {
+  kept = narrow_begun a b;
+  can =
+      omega (
+        arith,
+        shows.advanceable,
+        adv.advanceable,
+        s.within,
+        length-drop size shown,
+        within,
+      );
+  shown = drop size shown;
+  stands = s;
+  begins = λ ys told.
+      let t = told_narrowed a.told b.told ys told in
+      let e : ys ≡ drop size t.0 =
+      let f = t.2 in
+      let g = adv.told t.0 (shows.told t.0 t.1) in
+      cc in
+      let begins = begins_behind size shown t.0 within (front t.0 t.1).begins in (
+        t.2,
+        omega (
+          arith,
+          ap length e,
+          length-drop size t.0,
+          length-drop size shown,
+          (front t.0 t.1).within,
+          s.within,
+          within,
+        ),
+        subst (λ x. take k x ≡ take k (drop size shown)) (sym e)
+            (front_shown k (drop size shown) (drop size t.0) s.within begins),
+      );
+}
+
+next_behind : (E exact : Type 0) (size : ℕ) (n : Next) {shown : List ℕ} {a m b : View}
+    → Shows shown a m → Told a.told (IsFront 1 shown) → size ≤ length shown → Advances size m b
+    → Kept a b → SeesNext exact n (drop size shown) → ShowsNext E exact n (narrow a b) b
+next_behind E exact size n {shown = shown} {a = a} {b = b} shows front within adv kept s = record {
+  first = record {
+    runs = narrow_shows n.first kept (λ xs told. (
+      drop 1 (drop size xs),
+      adv.told xs (shows.told xs told)
+          ∙ ap Some (begins_with n.first s.behind (drop size shown) (drop size xs) s.begins
+          (begins_behind size shown xs within (front xs told).begins)),
+    ));
+    can =
+        omega (
+          arith,
+          shows.advanceable,
+          adv.advanceable,
+          ap length s.begins,
+          length-drop size shown,
+          within,
+        );
+  };
+  head =
+      some_as n.head
+      (λ h. head_behind exact size (n.first / 32) h.argument h.size shows front within adv) s.head;
 }
 
 behind_are : (exact : Type 0) (before after : List Value) {size : ℕ} {shown : List ℕ}
@@ -405,34 +474,19 @@ module _ (exact : Type 0) (full : ℕ) (before after : List Value) {E : Type 0} 
       let o = subst (λ s. Offers 1 (PutsRun exact full before after s) a m) is h in
       puts_taken Whole f 1 size o.shows o.front o.is.puts adv
 
-  pub takes_before : (Whole : Budget → Tree → Type 0) → LeafIs exact Whole → (size first : ℕ)
-      {seen : Ran} → seen ≡ run.Before size first
+  pub takes_before : (Whole : Budget → Tree → Type 0) → LeafIs exact Whole → (other : Type 0)
+      → (other → exact) → (size : ℕ) (n : Next) {seen : Ran} → seen ≡ run.Before size n
       → Offers 1 (PutsRun exact full before after seen) a m → Advances size m b
-      → RunsBefore E Whole first before after a b
-  takes_before Whole f size first is h adv =
+      → RunsBefore E other Whole n before after a b
+  takes_before Whole f other g size n is h adv =
       let o = subst (λ s. Offers 1 (PutsRun exact full before after s) a m) is h in
-      let p = o.is in
-      let d = puts_taken Whole f 1 size o.shows o.front p.puts adv in
+      let d = puts_taken Whole f 1 size o.shows o.front o.is.puts adv in
       record {
         mid = narrow a b;
         puts = does_narrow d;
-        shows = record {
-          runs = narrow_shows first d.moves.by (λ xs told. (
-            drop 1 (drop size xs),
-            adv.told xs (o.shows.told xs told)
-                ∙ ap Some (begins_with first p.behind (drop size o.shown) (drop size xs) p.begins
-                (begins_behind size o.shown xs p.puts.stand.within (o.front xs told).begins)),
-          ));
-          can =
-              omega (
-                arith,
-                o.shows.advanceable,
-                adv.advanceable,
-                ap length p.begins,
-                length-drop size o.shown,
-                p.puts.stand.within,
-              );
-        };
+        shows =
+            next_behind E other size n o.shows o.front o.is.puts.stand.within adv d.moves.by
+            (sees_loosely exact other g n (drop size o.shown) o.is.next);
       }
 
   pub run_no_memory : (Whole : Budget → Tree → Type 0) (size : ℕ) {seen : Ran}
@@ -448,10 +502,10 @@ module _ (exact : Type 0) (full : ℕ) (before after : List Value) {E : Type 0} 
 
 module _ (exact : Type 0) (full : ℕ) (before after : List Value) {E : Type 0} {a m : View} where
   -- nothing was put
-  pub takes_none : (Whole : Budget → Tree → Type 0) (first : ℕ) {seen : Ran}
-      → seen ≡ run.Begins first → Offers 1 (PutsRun exact full before after seen) a m
-      → RunsBefore E Whole first before after a m
-  takes_none Whole first is h =
+  pub takes_none : (Whole : Budget → Tree → Type 0) (other : Type 0) → (other → exact) → (n : Next)
+      {seen : Ran} → seen ≡ run.Begins n → Offers 1 (PutsRun exact full before after seen) a m
+      → RunsBefore E other Whole n before after a m
+  takes_none Whole other g n is h =
       let o = subst (λ s. Offers 1 (PutsRun exact full before after s) a m) is h in
       record {
         mid = a;
@@ -463,7 +517,7 @@ module _ (exact : Type 0) (full : ℕ) (before after : List Value) {E : Type 0} 
               o.is.0 ∙ sym (append-nil before),
               (no_trees, refl, tt, refl, refl),
             )));
-        shows = shows_first first o.is.1 o.shows o.front o.is.2;
+        shows = next_shown E other n o.shows o.front (sees_loosely exact other g n o.shown o.is.1);
       }
 
   pub run_ends : (Whole : Budget → Tree → Type 0) {seen : Ran} → seen ≡ run.End
@@ -483,9 +537,9 @@ module _ (exact : Type 0) (full : ℕ) (before after : List Value) {a m : View} 
       behind_are exact before after
       (subst (λ s. Offers 1 (PutsRun exact full before after s) a m) is h).is.puts
 
-  pub before_items : (size first : ℕ) {seen : Ran} → seen ≡ run.Before size first
+  pub before_items : (size : ℕ) (n : Next) {seen : Ran} → seen ≡ run.Before size n
       → Offers 1 (PutsRun exact full before after seen) a m → KeepsItems before after
-  before_items size first is h =
+  before_items size n is h =
       behind_are exact before after
       (subst (λ s. Offers 1 (PutsRun exact full before after s) a m) is h).is.puts
 
@@ -496,21 +550,21 @@ module _ (exact : Type 0) (full : ℕ) (before after : List Value) {a m : View} 
       let o = subst (λ s. Offers 1 (PutsRun exact full before after s) a m) is h in
       (o.is.some, o.is.few, o.shows.bound)
 
-  pub before_seen : (size first : ℕ) {seen : Ran} → seen ≡ run.Before size first
+  pub before_seen : (size : ℕ) (n : Next) {seen : Ran} → seen ≡ run.Before size n
       → Offers 1 (PutsRun exact full before after seen) a m
       → (length after < full) × (m.bound ≤ a.bound)
-  before_seen size first is h =
+  before_seen size n is h =
       let o = subst (λ s. Offers 1 (PutsRun exact full before after s) a m) is h in
       (o.is.lacks, o.shows.bound)
 
-  pub none_seen : (first : ℕ) {seen : Ran} → seen ≡ run.Begins first
+  pub none_seen : (n : Next) {seen : Ran} → seen ≡ run.Begins n
       → Offers 1 (PutsRun exact full before after seen) a m → m.bound ≤ a.bound
-  none_seen first is h =
+  none_seen n is h =
       (subst (λ s. Offers 1 (PutsRun exact full before after s) a m) is h).shows.bound
 
-  pub none_put : (first : ℕ) {seen : Ran} → seen ≡ run.Begins first
+  pub none_put : (n : Next) {seen : Ran} → seen ≡ run.Begins n
       → Offers 1 (PutsRun exact full before after seen) a m → after ≡ before
-  none_put first is h =
+  none_put n is h =
       (subst (λ s. Offers 1 (PutsRun exact full before after s) a m) is h).is.0
 
 breaks_broke : {a b : View} → Breaks a b → Broke a b
@@ -626,11 +680,11 @@ module _ (Whole : Budget → Tree → Type 0) (stops : Budget → Stopping)
       (subst (λ x. stops_under a.budget x z rest) (sym is) (ends ys z rest s))))
       (reached_start (λ xs ys. xs ≡ ys) a (λ xs. refl)) d
 
-  module _ (mid : List Value) {m : View} (first : ℕ)
-      (run : RunsBefore E Whole first before mid a m) where
+  module _ (exact : Type 0) (mid : List Value) {m : View} (n : Next)
+      (run : RunsBefore E exact Whole n before mid a m) where
     -- the run, and a value behind it
     pub turn_value : (after : List Value) {v : Value} {b : View} → after ≡ mid ++ v ∷ []
-        → DoesBehindLook {E = E} first reads_under stops_under m b (Ok v)
+        → DoesBehindNext {E = E} exact n reads_under stops_under m b (Ok v)
         → Does {V = Unit {0}} {E = E} (PutsItemsUnder Whole before after a.budget)
         (StopsItemsUnder Whole stops (full - length before) a.budget) a b (Ok tt)
     turn_value after {v = v} is d =
@@ -647,12 +701,12 @@ module _ (Whole : Budget → Tree → Type 0) (stops : Budget → Stopping)
           is ∙ ap (λ r. r ++ v ∷ []) p.1 ∙ append_assoc before p.0 (v ∷ []),
           join_items (Whole budget) p.0 (v ∷ []) xs ys zs p.2 r,
         ))
-        (reached_by run.puts) (reached_by (d run.mid run.shows.runs)))
+        (reached_by run.puts) (reached_by (d run.mid run.shows)))
 
     -- the value is refused
     pub turn_refused : {V : Type 0} (B : Accepting V) {e : DecodeError E} {b : View}
         → length mid < full
-        → DoesBehindLook {V = Value} {E = E} first reads_under stops_under m b (Err e)
+        → DoesBehindNext {V = Value} {E = E} exact n reads_under stops_under m b (Err e)
         → Does {V = V} B (StopsItemsUnder Whole stops (full - length before) a.budget) a b (Err e)
     turn_refused B lacks d =
         does_err (λ xs ys. PutsItemsUnder Whole before mid a.budget xs tt ys)
@@ -664,12 +718,12 @@ module _ (Whole : Budget → Tree → Type 0) (stops : Budget → Stopping)
         (omega (arith, lacks, ap length p.1, length-append before p.0))
         (one.refuses budget a.budget step ys z rest
         (subst (λ o. stops_under o ys z rest) run.puts.moves.by.budget s)))
-        (reached_by run.puts) (d run.mid run.shows.runs)
+        (reached_by run.puts) (d run.mid run.shows)
 
     -- the value is put behind the run, or there is no memory for that
     pub turn_put : (after : List Value) {v : Value} {b : View} (r : Option (Unit {0}))
         (failure : Option (DecodeError E)) → OnSome r (after ≡ mid ++ v ∷ [])
-        → IfNone r (failure ≡ None) → DoesBehindLook {E = E} first reads_under stops_under m b (Ok
+        → IfNone r (failure ≡ None) → DoesBehindNext {E = E} exact n reads_under stops_under m b (Ok
         v)
         → Does {V = Unit {0}} {E = E} (PutsItemsUnder Whole before after a.budget)
         (StopsItemsUnder Whole stops (full - length before) a.budget) a b (answered r failure)
@@ -677,16 +731,21 @@ module _ (Whole : Budget → Tree → Type 0) (stops : Budget → Stopping)
     turn_put after None failure is none d =
         does_no_memory (PutsItemsUnder Whole before after a.budget)
         (StopsItemsUnder Whole stops (full - length before) a.budget) (ap refusal_left none)
-        (kept_then run.puts.moves.by (d run.mid run.shows.runs).moves.by)
+        (kept_then run.puts.moves.by (d run.mid run.shows).moves.by)
 
 -- ---- what a run answers
 
-pub run_before : {E : Type 0} (Whole : Budget → Tree → Type 0) (before after : List Value)
-    {a b : View} {found : Option ℕ} (first : ℕ) (failure : Option (DecodeError E))
-    → found ≡ Some first → TakesBy Whole before after a b (Some found) failure
-    → RunsBefore E Whole first before after a b
-run_before Whole before after {a = a} {b = b} first failure is t =
-    subst (λ o. TakesBy Whole before after a b (Some o) failure) is t
+pub run_before : {E : Type 0} (exact : Type 0) (Whole : Budget → Tree → Type 0)
+    (before after : List Value) {a b : View} {found : Option Next} (n : Next)
+    (failure : Option (DecodeError E)) → found ≡ Some n
+    → TakesBy exact Whole before after a b (Some found) failure
+    → RunsBefore E exact Whole n before after a b
+run_before exact Whole before after {a = a} {b = b} n failure is t =
+    subst (λ o. TakesBy exact Whole before after a b (Some o) failure) is t
+
+pub run_can : {A : Type 0} (P : A → Type 0) {found : Option A} (v : A) → found ≡ Some v
+    → IfSome found P → P v
+run_can P v is h = subst (λ o. IfSome o P) is h
 
 pub on_found : {A : Type 0} {P : Type 0} {found : Option A} (v : A) → found ≡ Some v
     → OnSome found P → P

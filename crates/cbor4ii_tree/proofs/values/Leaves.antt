@@ -1,7 +1,8 @@
 -- Values that hold no other, where they stand whole in shown bytes.
 use Rattle.std.proofs.Common.{◌≡◌, ◌≢◌, ℕ, suc, ◌+◌, ◌-◌, ◌*◌, ◌/◌, ◌%◌, ◌^◌, ◌<◌, ◌≤◌, ℤ, List}
 use Rattle.std.proofs.Common.{[], ◌∷◌, ◌++◌, length, take, drop, take-append-drop, length-append}
-use Rattle.std.proofs.Common.{length-drop, Result, Ok, Err, Option, Some, refl, sym, ap, ◌∙◌}
+use Rattle.std.proofs.Common.{length-drop, Result, Ok, Err, Option, Some, None, IfSome, refl, sym}
+use Rattle.std.proofs.Common.{ap, ◌∙◌}
 use Rattle.std.proofs.Common.{subst, arith, get_or}
 use Rattle.std.proofs.Math.Seq.{take-append_seam, take-add}
 use Rattle.std.proofs.lemmas.List.{length-take-le}
@@ -28,8 +29,8 @@ use Rattle.cbor4ii_tree.specs.Does.{Accepting, Does}
 use Rattle.cbor4ii_tree.specs.Front.{Offers}
 use Rattle.cbor4ii_tree.specs.Item.{integer, float, IsItem}
 use Rattle.cbor4ii_tree.specs.Laws.Binds.{step_up}
-use Rattle.cbor4ii_tree.specs.Leaf.{DoesBehindLook, ExactHead, StandsAhead, SeesLeaf, ShowsFirst}
-use Rattle.cbor4ii_tree.specs.Leaf.{TakesLeaf, WantsContent}
+use Rattle.cbor4ii_tree.specs.Leaf.{CanTake, DoesBehindNext, ExactHead, HeadStands, StandsAhead}
+use Rattle.cbor4ii_tree.specs.Leaf.{SeesLeaf, ShowsFirst, ShowsNext, TakesLeaf, WantsContent}
 use Rattle.cbor4ii_tree.specs.Meaning.{number, simple_item, content_item}
 use Rattle.cbor4ii_tree.specs.Refusal.{value_name}
 use Rattle.cbor4ii_tree.specs.Refusal.{Small}
@@ -41,7 +42,8 @@ use Rattle.cbor4ii_tree.specs.View.{view}
 use Rattle.cbor4ii_tree.specs.declared.value.Value.{Value, Integer, Float}
 use Rattle.cbor4ii_tree.specs.declared.value.FloatBits.{FloatBits}
 use Rattle.cbor4ii_tree.specs.declared.leaf.Leaf.{Leaf}
-use Rattle.cbor4ii_tree.specs.declared.leaf.Leaf.TheVariants.{Whole, NoMemory, End, Begins}
+use Rattle.cbor4ii_tree.specs.declared.leaf.Leaf.TheVariants.{Whole, NoMemory, End}
+use Rattle.cbor4ii_tree.specs.declared.leaf.Next.{Next}
 use Rattle.cbor4ii_tree.specs.declared.leaf.Looked.{Looked}
 use Rattle.cbor4ii_tree.specs.declared.leaf.Looked.TheVariants.{Taken}
 use Rattle.cbor4ii_tree.specs.declared.leaf.Looked.TheVariants as looked
@@ -163,6 +165,23 @@ module _ (b n k : ℕ) (bs : List ℕ) (small : b < 256) (fresh : IsBytes bs)
             ap (λ c. c ∷ take k bs) is
             ∙ ap (λ r. precision_byte p ∷ r)
             (argument ∙ ap (λ j. bytes_high_first j n) t.0);
+      })
+
+  pub head_stands : (size : ℕ) → size ≡ suc k → 4 ≤ b / 32 → b / 32 ≤ 6
+      → HeadStands (ExactHead b n k) (b / 32) n size (b ∷ bs)
+  head_stands size e low high =
+      subst (λ j. HeadStands (ExactHead b n k) (b / 32) n j (b ∷ bs)) (sym e) (record {
+        nests = (low, high);
+        within = omega (arith, stands);
+        some = omega arith;
+        fresh = (small, IsBytes-take k bs fresh);
+        width = a.width;
+        fits = a.fits;
+        least = λ exact. least exact (λ e7. absurd (omega (arith, e7, high)));
+        is =
+            let first : b ≡ 32 * (b / 32) + additional a.width n = omega (arith, a.says) in
+            ap (λ c. c ∷ take k bs) first
+            ∙ ap (λ r. (32 * (b / 32) + additional a.width n) ∷ r) argument;
       })
 
   pub string_ahead : (kind : Kind) (v : Value) (size : ℕ) (content : List ℕ) → size ≡ suc (k + n)
@@ -310,26 +329,40 @@ pub leaf_item : (exact : Type 0) {a m : View} (v : Value) (size : ℕ) {seen : L
 leaf_item exact {a = a} {m = m} v size is h =
     (subst (λ s. Offers 1 (SeesLeaf exact s) a m) is h).is.ranged
 
--- nothing is taken
-pub undecided : {E : Type 0} (exact : Type 0) {a m : View} (first : ℕ) {seen : Leaf}
-    → seen ≡ Begins first → Offers 1 (SeesLeaf exact seen) a m → ShowsFirst E first a m
-undecided exact {a = a} {m = m} first is h =
-    let o = subst (λ s. Offers 1 (SeesLeaf exact s) a m) is h in
-    shows_first first o.is.0 o.shows o.front o.is.1
-
 -- a value was taken
-pub found_leaf : {E : Type 0} (A : Budget → Accepting Value) (S : Budget → Stopping) {a b : View}
-    {seen : Looked} (v : Value) (failure : Option (DecodeError E)) → seen ≡ Taken v
-    → TakesLeaf A S a b (Some seen) failure
+pub found_leaf : {E : Type 0} (exact : Type 0) (A : Budget → Accepting Value)
+    (S : Budget → Stopping) {a b : View} {seen : Looked} (v : Value)
+    (failure : Option (DecodeError E)) → seen ≡ Taken v
+    → TakesLeaf exact A S a b (Some seen) failure
     → Does {E = E} (A a.budget) (S a.budget) a b (Ok v)
-found_leaf A S {a = a} {b = b} v failure is t =
-    subst (λ o. TakesLeaf A S a b (Some o) failure) is t
+found_leaf exact A S {a = a} {b = b} v failure is t =
+    subst (λ o. TakesLeaf exact A S a b (Some o) failure) is t
 
 -- nothing was taken yet
-pub after_look : {E : Type 0} (A : Budget → Accepting Value) (S : Budget → Stopping)
-    {r : Result Value (DecodeError E)} {a m b : View} {seen : Looked} (first : ℕ)
-    (failure : Option (DecodeError E)) → seen ≡ looked.Begins first
-    → TakesLeaf A S a m (Some seen) failure → DoesBehindLook first A S m b r
+pub after_look : {E : Type 0} (exact : Type 0) (A : Budget → Accepting Value)
+    (S : Budget → Stopping) {r : Result Value (DecodeError E)} {a b : View} (m : View)
+    {seen : Looked} (n : Next) (failure : Option (DecodeError E)) → seen ≡ looked.Begins n
+    → TakesLeaf exact A S a m (Some seen) failure → DoesBehindNext exact n A S m b r
     → Does (A a.budget) (S a.budget) a b r
-after_look A S {a = a} {m = m} first failure is t d =
-    d a (subst (λ o. TakesLeaf A S a m (Some o) failure) is t).runs
+after_look exact A S {a = a} m n failure is t d =
+    d a (subst (λ o. TakesLeaf exact A S a m (Some o) failure) is t)
+
+-- what follows of what is there
+pub some_as : {A : Type 0} {P Q : A → Type 0} (o : Option A) → ((x : A) → P x → Q x) → IfSome o P
+    → IfSome o Q
+some_as None f h = tt
+some_as (Some x) f h = f x h
+
+pub shown_can : (E exact : Type 0) (n : Next) (a m : View) → ShowsNext E exact n a m → CanTake n m
+shown_can E exact n a m s = record {
+  first = s.first.can;
+  head = some_as n.head (λ h shown. (shown.stands.some, shown.can)) s.head;
+}
+
+-- what was shown may be taken
+pub look_can : {E : Type 0} (exact : Type 0) (A : Budget → Accepting Value)
+    (S : Budget → Stopping) (a m : View) {seen : Looked} (n : Next)
+    (failure : Option (DecodeError E)) → seen ≡ looked.Begins n
+    → TakesLeaf exact A S a m (Some seen) failure → CanTake n m
+look_can {E = E} exact A S a m n failure is t =
+    shown_can E exact n a m (subst (λ o. TakesLeaf exact A S a m (Some o) failure) is t)

@@ -1,7 +1,7 @@
 -- Arrays and maps of values.
 use Rattle.std.proofs.Common.{◌≡◌, ◌≢◌, ℕ, ◌+◌, ◌*◌, ◌/◌, ◌%◌, List, [], ◌∷◌, ◌++◌, drop, take}
 use Rattle.std.proofs.Common.{Option, Some, None, Result, Ok, Err, true, refl, sym, ap, ap₂, ◌∙◌}
-use Rattle.std.proofs.Common.{subst, arith, append_assoc, inl, inr, Vec, Global}
+use Rattle.std.proofs.Common.{subst, arith, append_assoc, inl, inr, Vec, Global, IfOk, IfErr}
 use Rattle.std.specs.Int.{bytes_high_first}
 use Rattle.cbor4ii_rw.specs.View.{View}
 use Rattle.cbor4ii_rw.specs.Reader.{KeepsAllButBudget, StepsIn, step_back}
@@ -33,21 +33,22 @@ use Rattle.cbor4ii_tree.specs.Stops.{Stopping, Is, AtHead, StopsAtStep, StopsInC
 use Rattle.cbor4ii_tree.specs.Stops.{OpenPairs, NoBreak}
 use Rattle.cbor4ii_tree.specs.StopsReading.{Readable, ReadingStopsBy, StopsReading}
 use Rattle.cbor4ii_tree.specs.View.{view, items_view, members_view}
-use Rattle.cbor4ii_tree.specs.Does.{Accepting, Does}
-use Rattle.cbor4ii_tree.specs.Valuing.{ReadsOneValue, StopsOneValue, ReadsUnder, StopsUnder}
+use Rattle.cbor4ii_tree.specs.Does.{Accepting, Does, answered}
+use Rattle.cbor4ii_tree.specs.Valuing.{HeadAt, ReadsOneValue, StopsOneValue, ReadsUnder}
+use Rattle.cbor4ii_tree.specs.Valuing.{StopsUnder, TakesLength}
 use Rattle.cbor4ii_tree.specs.Valuing.{ReadsItems, StopsItems, ReadsOpenItems, StopsOpenItems}
 use Rattle.cbor4ii_tree.specs.Valuing.{ReadsMembers, ReadsOpenMembers, StopsOpenMembers}
 use Rattle.cbor4ii_tree.specs.Valuing.{ReadsMember, StopsMember, StopsMembers, ReadsArrayInside}
 use Rattle.cbor4ii_tree.specs.Valuing.{ReadsMapInside, StopsMajor, StopsOf, ReadsStepped}
 use Rattle.cbor4ii_tree.proofs.skip_calls.Doing.{Reached, reached_start, reached_by, reached_then}
 use Rattle.cbor4ii_tree.proofs.skip_calls.Doing.{does_err, does_after, does_stops, does_stepped}
-use Rattle.cbor4ii_tree.proofs.skip_calls.Doing.{reached_sound, steps_in, does_ok}
+use Rattle.cbor4ii_tree.proofs.skip_calls.Doing.{reached_as, reached_sound, steps_in, does_ok}
 use Rattle.cbor4ii_tree.proofs.values.Views.{view-Map}
 use Rattle.cbor4ii_tree.proofs.values.Parts.{ReadEach, ReadPairs}
 use Rattle.cbor4ii_tree.proofs.values.Calls.{head_cut, no_head, initial_of, values-push, open_byte}
 use Rattle.cbor4ii_tree.proofs.parts.Pushed.{push, each-push, bytes-push, push_pair}
 use Rattle.cbor4ii_tree.proofs.parts.Pushed.{each-push_pair, bytes-push_pair}
-use Rattle.cbor4ii_tree.proofs.values.Heads.{at_row, first_is, HeadAt, head_at}
+use Rattle.cbor4ii_tree.proofs.values.Heads.{at_row, first_is, head_at}
 use Rattle.cbor4ii_tree.proofs.values.Encoding.{view-Array}
 
 -- ---- steps
@@ -200,6 +201,34 @@ reached_open major is moves s =
     reached_sound (ReadsLength major) (OpenAt major) (λ xs k c _ r.
     let h = subst (λ z. ReadsLength major xs z k c) is r in
     first_is (open_head major) xs h.0 ∙ ap (λ j. open_head major ∷ drop j xs) (sym h.1)) moves s
+
+-- the length that a head says
+pub length_does : {E : Type 0} (name : List ℕ) (major : ℕ) (T : Budget → Stopping) {a c : View}
+    (r : Option (Option ℕ)) (failure : Option (DecodeError E)) → ((xs : List ℕ) (z : Refusal)
+    (rest : List ℕ) → StopsLength name major xs a.budget z rest → T a.budget xs z rest)
+    → Moves a c (answered r failure)
+    → IfOk (answered r failure) (Sound (ReadsLength major) a c)
+    → IfErr (answered r failure) (Stops (StopsLength name major) a c)
+    → Does (TakesLength major a.budget) (T a.budget) a c (answered r failure)
+length_does name major T {a = a} (Some (Some n)) failure f moves s h =
+    does_ok (TakesLength major a.budget) (T a.budget) (reached_length major n refl moves s)
+length_does name major T {a = a} (Some None) failure f moves s h =
+    does_ok (TakesLength major a.budget) (T a.budget) (reached_open major refl moves s)
+length_does name major T {a = a} None failure f moves s h =
+    length_refused {U = Option ℕ} name major (TakesLength major a.budget) (T a.budget) f moves h
+
+pub some_follow : {E : Type 0} (major n : ℕ) {o : Option ℕ} {S : Stopping} {a m : View}
+    → o ≡ Some n → Does {E = E} (TakesLength major a.budget) S a m (Ok o)
+    → Reached (HeadAt major n) a m
+some_follow major n {o = o} {a = a} is d =
+    reached_as (λ xs ys. TakesLength major a.budget xs o ys) (HeadAt major n)
+    (λ xs ys h. subst (λ z. TakesLength major a.budget xs z ys) is h) (reached_by d)
+
+pub none_follow : {E : Type 0} (major : ℕ) {o : Option ℕ} {S : Stopping} {a m : View} → o ≡ None
+    → Does {E = E} (TakesLength major a.budget) S a m (Ok o) → Reached (OpenAt major) a m
+none_follow major {o = o} {a = a} is d =
+    reached_as (λ xs ys. TakesLength major a.budget xs o ys) (OpenAt major)
+    (λ xs ys h. subst (λ z. TakesLength major a.budget xs z ys) is h) (reached_by d)
 
 -- ---- arrays
 

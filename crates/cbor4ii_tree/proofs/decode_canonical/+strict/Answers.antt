@@ -1,33 +1,33 @@
-use Rattle.std.proofs.Common.{refl, ap, subst, inl, arith, ◌∙◌, ◌-◌, ◌*◌, w8}
+use Rattle.std.proofs.Common.{refl, ap, inl, arith, ◌∙◌, ◌-◌, ◌*◌}
 use Rattle.std.proofs.Common.{length, Vec, Global}
 use Rattle.cbor4ii_tree.specs.StopsStrictly.{Exactly}
 use Rattle.cbor4ii_tree.specs.declared.value.Value.{Value, Array, Map, Tag}
 use Rattle.cbor4ii_tree.specs.Item.{tag}
 use Rattle.cbor4ii_tree.specs.View.{view}
 use Rattle.cbor4ii_tree.specs.Refusal.{array_name, map_name, value_name}
-use Rattle.cbor4ii_items.specs.Laws.Steps.{kept_then}
 use Rattle.cbor4ii_tree.specs.Valuing.{ReadsStepped}
-use Rattle.cbor4ii_items.specs.Shortest.{StopsShortest}
 use Rattle.cbor4ii_tree.specs.StopsStrictly.{StrictArrayStops, StrictMapStops}
-use Rattle.cbor4ii_tree.specs.Strictly.{ReadsExactly, StopsExactly, ReadsExactlyUnder}
+use Rattle.cbor4ii_tree.specs.Strictly.{ReadsExactly, ReadsExactlyTagged, StopsExactly}
+use Rattle.cbor4ii_tree.specs.Strictly.{ReadsExactlyUnder}
 use Rattle.cbor4ii_tree.specs.Strictly.{StopsExactlyUnder, StopsExactlyStepped, ExactItems}
-use Rattle.cbor4ii_tree.specs.Strictly.{StopsBehindMajor}
-use Rattle.cbor4ii_tree.specs.Strictly.{StopsExactItems}
+use Rattle.cbor4ii_tree.specs.Strictly.{StopsAtShortest, StopsExactItems, TakesShortest}
 use Rattle.cbor4ii_tree.specs.Strictly.{ExactMembers, AcceptsCount}
 use Rattle.cbor4ii_tree.proofs.skip_calls.Doing.{reached_start, reached_by, does_ok}
 use Rattle.cbor4ii_tree.proofs.skip_calls.Doing.{does_no_memory, does_no_step}
 use Rattle.cbor4ii_tree.proofs.values.Heads.{view-Tag}
-use Rattle.cbor4ii_tree.proofs.canonical.Calls.{reached_shortest, exact_ok, exact_err}
-use Rattle.cbor4ii_tree.proofs.skip_calls.Doing.{call_stops}
-use Rattle.cbor4ii_tree.proofs.canonical.Calls.{alone_exact, exact_major, exact_tag}
-use Rattle.cbor4ii_tree.proofs.canonical.Calls.{exact_tag_err, exact_tag_refused}
+use Rattle.cbor4ii_tree.proofs.canonical.Calls.{exact_ok, exact_err}
+use Rattle.cbor4ii_tree.proofs.skip_calls.Doing.{still_refused}
+use Rattle.cbor4ii_tree.proofs.canonical.Calls.{alone_exact, exact_major}
+use Rattle.cbor4ii_tree.proofs.canonical.Calls.{exact_tag_does, exact_tag_refused, exact_tagged_err}
+use Rattle.cbor4ii_tree.proofs.canonical.Calls.{exact_tagged_ok}
 use Rattle.cbor4ii_tree.proofs.canonical.Calls.{undefined_stops}
 use Rattle.cbor4ii_tree.proofs.canonical.Calls.{stepped_one, stepped_more, counted_does}
 use Rattle.cbor4ii_tree.proofs.canonical.Calls.{array_exact, map_exact}
 use Rattle.cbor4ii_items.specs.Laws.Running.{kept_alike}
 use Rattle.cbor4ii_tree.proofs.values.Answered.{went_on, around}
 use Rattle.cbor4ii_tree.proofs.values.Leaves.{after_look, found_leaf}
-use Rattle.std.proofs.Math.Facts.{Fits-lt-pow}
+use Rattle.cbor4ii_tree.proofs.values.ByHead.{behind_next, budget_alone, next_step, next_stepped}
+use Rattle.cbor4ii_tree.proofs.values.ByHead.{peeks_next, with_budget}
 use Rattle.cbor4ii_tree.specs.LeafRuns.{flat, flat_values, ReadsEach}
 use Rattle.cbor4ii_tree.proofs.skip_calls.Doing.{reached_as}
 use Rattle.cbor4ii_tree.proofs.values.LeafRuns.{none_yet, none_too_many, ran, run_stops, stop_alone}
@@ -37,15 +37,190 @@ use Rattle.cbor4ii_tree.proofs.values.LeafRuns.{run_before, on_found}
 use Rattle.cbor4ii_tree.proofs.canonical.Calls.{one_exactly, none_exactly}
 use Rattle.cbor4ii_tree.proofs.decode_canonical.+strict.Goals as goal
 
+pub read_next-returns-in_ok-read_array-in-4-clause-does :
+    goal.read_next-returns-in_ok-read_array-in-4-clause-does
+read_next-returns-in_ok-read_array-in-4-clause-does g t c before shows =
+    exact_ok c.args.next.first (peeks_next c.args.next shows)
+    (λ xs ys. ReadsStepped (λ o xs (v : Vec Value Global) ys. AcceptsCount 4 ExactItems o xs v.items
+    ys)
+    before.budget xs c.in_ok-read_array-in-4.field-0 ys)
+    (Array c.in_ok-read_array-in-4.field-0)
+    (λ xs ys h. array_exact before.budget c.in_ok-read_array-in-4.field-0 xs ys h)
+    (reached_by (c.in_ok-read_array-in-4.ensures.does before shows))
+
+pub read_next-returns-in_err-read_array-in-4-clause-does :
+    goal.read_next-returns-in_err-read_array-in-4-clause-does
+read_next-returns-in_err-read_array-in-4-clause-does g t c before shows =
+    rw c.from_residual.ensures (exact_err c.args.next.first (peeks_next c.args.next shows) 4
+    (ReadsStepped (λ o xs (v : Vec Value Global) ys. AcceptsCount 4 ExactItems o xs v.items ys)
+    before.budget)
+    (StopsExactlyStepped array_name (StrictArrayStops StopsExactly)) c.in-4.is (λ bs z rest h. h)
+    (c.in_err-read_array-in-4.ensures.does before shows))
+
+pub read_next-returns-in_ok-read_array-in-4-clause-progress :
+    goal.read_next-returns-in_ok-read_array-in-4-clause-progress
+read_next-returns-in_ok-read_array-in-4-clause-progress g t c =
+    c.in_ok-read_array-in-4.ensures.progress
+
+pub read_next-returns-in_err-read_array-in-4-clause-progress :
+    goal.read_next-returns-in_err-read_array-in-4-clause-progress
+read_next-returns-in_err-read_array-in-4-clause-progress g t c =
+    rw c.from_residual.ensures tt
+
+pub read_array-returns-clause-does : goal.read_array-returns-clause-does
+read_array-returns-clause-does g t c before shows =
+    stepped_more array_name (λ o xs (v : Vec Value Global) ys. AcceptsCount 4 ExactItems o xs
+    v.items ys)
+    (StrictArrayStops StopsExactly)
+    (next_step c.args.next shows (g.S.Source.view c.step_in.new.self)
+    c.if-not-step_in.ensures.budget) (budget_alone before _)
+    (c.array_inside-outcome.ensures.does
+    (with_budget before (g.S.Source.view c.step_in.new.self).budget)
+    (next_stepped c.args.next shows c.step_in.ensures.others)) c.step_out.ensures.budget
+    c.step_out.ensures.others
+
+pub read_array-returns-then-not-step_in-clause-does :
+    goal.read_array-returns-then-not-step_in-clause-does
+read_array-returns-then-not-step_in-clause-does g t c before shows =
+    let budget = (g.S.Source.view c.args.reader.now).budget in
+    let accepts = ReadsStepped (λ o xs (v : Vec Value Global) ys. AcceptsCount 4 ExactItems o xs
+    v.items ys) in
+    let stops = StopsExactlyStepped array_name (StrictArrayStops StopsExactly) in
+    rw c.leave_deep.ensures (behind_next c.args.next shows accepts stops
+    (does_no_step array_name (accepts budget) (stops budget) refl refl
+    (λ none xs. rw none (refl, refl)) c.if-not-step_in.ensures.budget c.step_in.ensures.others))
+
+pub array_inside-returns-clause-does : goal.array_inside-returns-clause-does
+array_inside-returns-clause-does g t c before shows =
+    counted_does array_name 4 c.in_ok-count.count
+    (λ n o xs (v : Vec Value Global) ys. ExactItems n o xs v.items ys)
+    (λ o n. StopsExactItems n o) (reached_by (c.in_ok-count.ensures.does before shows))
+    c.counted_items.ensures
+
+pub array_inside-returns-in_err-count-clause-does :
+    goal.array_inside-returns-in_err-count-clause-does
+array_inside-returns-in_err-count-clause-does g t c before shows =
+    rw c.from_residual.ensures (still_refused (TakesShortest 4 before.budget)
+    (λ xs (v : Vec Value Global) ys. AcceptsCount 4 ExactItems before.budget xs v.items ys)
+    (StopsAtShortest array_name 4 before.budget) (StrictArrayStops StopsExactly before.budget)
+    (λ xs z rest h. inl h) (c.in_err-count.ensures.does before shows))
+
+pub read_next-returns-in_ok-read_map-in-5-clause-does :
+    goal.read_next-returns-in_ok-read_map-in-5-clause-does
+read_next-returns-in_ok-read_map-in-5-clause-does g t c before shows =
+    exact_ok c.args.next.first (peeks_next c.args.next shows)
+    (λ xs ys. ReadsStepped (λ o xs (v : Vec (Value × Value) Global) ys. AcceptsCount 5 ExactMembers
+    o xs v.items ys)
+    before.budget xs c.in_ok-read_map-in-5.field-0 ys)
+    (Map c.in_ok-read_map-in-5.field-0)
+    (λ xs ys h. map_exact before.budget c.in_ok-read_map-in-5.field-0 xs ys h)
+    (reached_by (c.in_ok-read_map-in-5.ensures.does before shows))
+
+pub read_next-returns-in_err-read_map-in-5-clause-does :
+    goal.read_next-returns-in_err-read_map-in-5-clause-does
+read_next-returns-in_err-read_map-in-5-clause-does g t c before shows =
+    rw c.from_residual-in_err-read_map-in-5.ensures
+    (exact_err c.args.next.first (peeks_next c.args.next shows) 5
+    (ReadsStepped (λ o xs (v : Vec (Value × Value) Global) ys. AcceptsCount 5 ExactMembers o xs
+    v.items ys) before.budget)
+    (StopsExactlyStepped map_name (StrictMapStops StopsExactly)) c.in-5.is (λ bs z rest h. h)
+    (c.in_err-read_map-in-5.ensures.does before shows))
+
+pub read_next-returns-in_ok-read_map-in-5-clause-progress :
+    goal.read_next-returns-in_ok-read_map-in-5-clause-progress
+read_next-returns-in_ok-read_map-in-5-clause-progress g t c =
+    c.in_ok-read_map-in-5.ensures.progress
+
+pub read_next-returns-in_err-read_map-in-5-clause-progress :
+    goal.read_next-returns-in_err-read_map-in-5-clause-progress
+read_next-returns-in_err-read_map-in-5-clause-progress g t c =
+    rw c.from_residual-in_err-read_map-in-5.ensures tt
+
+pub read_map-returns-clause-does : goal.read_map-returns-clause-does
+read_map-returns-clause-does g t c before shows =
+    stepped_more map_name (λ o xs (v : Vec (Value × Value) Global) ys. AcceptsCount 5 ExactMembers o
+    xs v.items ys)
+    (StrictMapStops StopsExactly)
+    (next_step c.args.next shows (g.S.Source.view c.step_in.new.self)
+    c.if-not-step_in.ensures.budget) (budget_alone before _)
+    (c.map_inside-outcome.ensures.does
+    (with_budget before (g.S.Source.view c.step_in.new.self).budget)
+    (next_stepped c.args.next shows c.step_in.ensures.others)) c.step_out.ensures.budget
+    c.step_out.ensures.others
+
+pub read_map-returns-then-not-step_in-clause-does :
+    goal.read_map-returns-then-not-step_in-clause-does
+read_map-returns-then-not-step_in-clause-does g t c before shows =
+    let budget = (g.S.Source.view c.args.reader.now).budget in
+    let accepts = ReadsStepped (λ o xs (v : Vec (Value × Value) Global) ys. AcceptsCount 5
+    ExactMembers o xs v.items ys) in
+    let stops = StopsExactlyStepped map_name (StrictMapStops StopsExactly) in
+    rw c.leave_deep.ensures (behind_next c.args.next shows accepts stops
+    (does_no_step map_name (accepts budget) (stops budget) refl refl
+    (λ none xs. rw none (refl, refl)) c.if-not-step_in.ensures.budget c.step_in.ensures.others))
+
+pub map_inside-returns-clause-does : goal.map_inside-returns-clause-does
+map_inside-returns-clause-does g t c before shows =
+    counted_does map_name 5 c.in_ok-count.count
+    (λ n o xs (v : Vec (Value × Value) Global) ys. ExactMembers n o xs v.items ys)
+    (λ o n. StopsExactItems (2 * n) o) (reached_by (c.in_ok-count.ensures.does before shows))
+    c.counted_members.ensures
+
+pub map_inside-returns-in_err-count-clause-does : goal.map_inside-returns-in_err-count-clause-does
+map_inside-returns-in_err-count-clause-does g t c before shows =
+    rw c.from_residual.ensures (still_refused (TakesShortest 5 before.budget)
+    (λ xs (v : Vec (Value × Value) Global) ys. AcceptsCount 5 ExactMembers before.budget xs v.items
+    ys)
+    (StopsAtShortest map_name 5 before.budget) (StrictMapStops StopsExactly before.budget)
+    (λ xs z rest h. inl h) (c.in_err-count.ensures.does before shows))
+
+pub read_next-returns-in-6-clause-does : goal.read_next-returns-in-6-clause-does
+read_next-returns-in-6-clause-does g t c before shows =
+    exact_major c.args.next.first (peeks_next c.args.next shows) 6 c.in-6.is
+    (c.read_tag.ensures.does before shows)
+
+pub read_next-returns-in-6-clause-progress : goal.read_next-returns-in-6-clause-progress
+read_next-returns-in-6-clause-progress g t c = c.read_tag.ensures.progress
+
+pub read_tag-returns-in_err-number-clause-does : goal.read_tag-returns-in_err-number-clause-does
+read_tag-returns-in_err-number-clause-does g t c before shows =
+    rw c.from_residual.ensures (exact_tag_refused (c.in_err-number.ensures.does before shows))
+
+pub read_tag-returns-clause-does : goal.read_tag-returns-clause-does
+read_tag-returns-clause-does g t c before shows =
+    exact_tag_does c.in_ok-number.number (reached_by (c.in_ok-number.ensures.does before shows))
+    c.read_tagged.ensures.does
+
+pub read_next-returns-then-next-eq-UNDEFINED-clause-does :
+    goal.read_next-returns-then-next-eq-UNDEFINED-clause-does
+read_next-returns-then-next-eq-UNDEFINED-clause-does g t c before shows =
+    rw c.leave_not_canonical.ensures (undefined_stops c.args.next.first shows.first.runs
+    (omega arith)
+    c.advance.ensures c.if-next-eq-UNDEFINED.true refl refl refl)
+
+pub read_next-returns-then-next-eq-UNDEFINED-clause-progress :
+    goal.read_next-returns-then-next-eq-UNDEFINED-clause-progress
+read_next-returns-then-next-eq-UNDEFINED-clause-progress g t c = tt
+
+pub read_next-returns-in_default-clause-progress :
+    goal.read_next-returns-in_default-clause-progress
+read_next-returns-in_default-clause-progress g t c = c.read_alone.ensures.progress
+
+pub read_next-returns-in_default-clause-does : goal.read_next-returns-in_default-clause-does
+read_next-returns-in_default-clause-does g t c before shows =
+    alone_exact c.args.next.first shows.first.runs
+    (omega arith) c.if-next-eq-UNDEFINED.false
+    c.read_alone.ensures.does
+
 pub read_inside-returns-in-Taken-clause-does : goal.read_inside-returns-in-Taken-clause-does
 read_inside-returns-in-Taken-clause-does g t c =
-    found_leaf ReadsExactlyUnder StopsExactlyUnder c.in-Taken.value _ c.in-Taken.is
+    found_leaf (Unit {0}) ReadsExactlyUnder StopsExactlyUnder c.in-Taken.value _ c.in-Taken.is
     (c.in_ok-value.ensures.exactly refl)
 
 pub read_inside-returns-in-Begins-clause-does : goal.read_inside-returns-in-Begins-clause-does
 read_inside-returns-in-Begins-clause-does g t c =
-    after_look ReadsExactlyUnder StopsExactlyUnder c.in-Begins.first _ c.in-Begins.is
-    (c.in_ok-value.ensures.exactly refl) c.read_by_first.ensures.does
+    after_look (Unit {0}) ReadsExactlyUnder StopsExactlyUnder _ c.in-Begins.next _ c.in-Begins.is
+    (c.in_ok-value.ensures.exactly refl) c.read_next.ensures.does
 
 pub read_inside-returns-in_err-value-clause-does : goal.read_inside-returns-in_err-value-clause-does
 read_inside-returns-in_err-value-clause-does g t c =
@@ -64,127 +239,6 @@ read_one-returns-then-not-step_in-clause-does g t c =
     (StopsExactly (g.S.Source.view c.args.reader.now).budget) refl refl
     (λ none xs. rw none (refl, refl)) c.if-not-step_in.ensures.budget c.step_in.ensures.others)
 
-pub array_inside-returns-clause-does : goal.array_inside-returns-clause-does
-array_inside-returns-clause-does g t c =
-    counted_does array_name 4 c.in_ok-count.count
-    (λ n o xs (v : Vec Value Global) ys. ExactItems n o xs v.items ys)
-    (λ o n. StopsExactItems n o) (reached_shortest 4 c.in_ok-count.count
-    c.in_ok-count.ensures.moves c.in_ok-count.ensures.sound) c.counted_items.ensures
-
-pub array_inside-returns-in_err-count-clause-does :
-    goal.array_inside-returns-in_err-count-clause-does
-array_inside-returns-in_err-count-clause-does g t c =
-    rw c.from_residual.ensures (call_stops (λ xs (v : Vec Value Global) ys. AcceptsCount 4
-    ExactItems
-    (g.S.Source.view c.args.reader.now).budget xs v.items ys) (StopsShortest array_name 4)
-    (StrictArrayStops StopsExactly (g.S.Source.view c.args.reader.now).budget)
-    (λ xs z rest h. inl h) c.in_err-count.ensures.moves c.in_err-count.ensures.stops)
-
-pub read_array-returns-clause-does : goal.read_array-returns-clause-does
-read_array-returns-clause-does g t c =
-    stepped_more array_name
-    (λ o xs (v : Vec Value Global) ys. AcceptsCount 4 ExactItems o xs v.items ys)
-    (StrictArrayStops StopsExactly) c.if-not-step_in.ensures.budget c.step_in.ensures.others
-    c.array_inside-outcome.ensures.does c.step_out.ensures.budget c.step_out.ensures.others
-
-pub read_array-returns-then-not-step_in-clause-does :
-    goal.read_array-returns-then-not-step_in-clause-does
-read_array-returns-then-not-step_in-clause-does g t c =
-    rw c.leave_deep.ensures (does_no_step array_name (ReadsStepped (λ o xs (v : Vec Value Global)
-    ys.
-    AcceptsCount 4 ExactItems o xs v.items ys) (g.S.Source.view c.args.reader.now).budget)
-    (StopsExactlyStepped array_name (StrictArrayStops StopsExactly)
-    (g.S.Source.view c.args.reader.now).budget) refl refl (λ none xs. rw none (refl, refl))
-    c.if-not-step_in.ensures.budget c.step_in.ensures.others)
-
-pub map_inside-returns-clause-does : goal.map_inside-returns-clause-does
-map_inside-returns-clause-does g t c =
-    counted_does map_name 5 c.in_ok-count.count
-    (λ n o xs (v : Vec (Value × Value) Global) ys. ExactMembers n o xs v.items ys)
-    (λ o n. StopsExactItems (2 * n) o) (reached_shortest 5 c.in_ok-count.count
-    c.in_ok-count.ensures.moves c.in_ok-count.ensures.sound) c.counted_members.ensures
-
-pub map_inside-returns-in_err-count-clause-does : goal.map_inside-returns-in_err-count-clause-does
-map_inside-returns-in_err-count-clause-does g t c =
-    rw c.from_residual.ensures
-    (call_stops (λ xs (v : Vec (Value × Value) Global) ys. AcceptsCount 5 ExactMembers
-    (g.S.Source.view c.args.reader.now).budget xs v.items ys) (StopsShortest map_name 5)
-    (StrictMapStops StopsExactly (g.S.Source.view c.args.reader.now).budget)
-    (λ xs z rest h. inl h) c.in_err-count.ensures.moves c.in_err-count.ensures.stops)
-
-pub read_map-returns-clause-does : goal.read_map-returns-clause-does
-read_map-returns-clause-does g t c =
-    stepped_more map_name
-    (λ o xs (v : Vec (Value × Value) Global) ys. AcceptsCount 5 ExactMembers o xs v.items ys)
-    (StrictMapStops StopsExactly) c.if-not-step_in.ensures.budget c.step_in.ensures.others
-    c.map_inside-outcome.ensures.does c.step_out.ensures.budget c.step_out.ensures.others
-
-pub read_map-returns-then-not-step_in-clause-does :
-    goal.read_map-returns-then-not-step_in-clause-does
-read_map-returns-then-not-step_in-clause-does g t c =
-    rw c.leave_deep.ensures (does_no_step map_name (ReadsStepped (λ o xs (v : Vec (Value × Value)
-    Global)
-    ys.
-    AcceptsCount 5 ExactMembers o xs v.items ys) (g.S.Source.view c.args.reader.now).budget)
-    (StopsExactlyStepped map_name (StrictMapStops StopsExactly)
-    (g.S.Source.view c.args.reader.now).budget) refl refl (λ none xs. rw none (refl, refl))
-    c.if-not-step_in.ensures.budget c.step_in.ensures.others)
-
-pub read_by_first-returns-then-first-eq-UNDEFINED-clause-does :
-    goal.read_by_first-returns-then-first-eq-UNDEFINED-clause-does
-read_by_first-returns-then-first-eq-UNDEFINED-clause-does g t c before runs =
-    rw c.leave_not_canonical.ensures (undefined_stops c.args.first runs
-    (Fits-lt-pow {w = w8} c.ranges.first)
-    c.advance.ensures c.if-first-eq-UNDEFINED.true refl refl refl)
-
-pub read_by_first-returns-in_ok-read_array-in-4-clause-does :
-    goal.read_by_first-returns-in_ok-read_array-in-4-clause-does
-read_by_first-returns-in_ok-read_array-in-4-clause-does g t c before runs =
-    exact_ok c.args.first runs (λ xs ys.
-    ReadsStepped
-    (λ o xs (v : Vec Value Global) ys. AcceptsCount 4 ExactItems o xs v.items ys)
-    (g.S.Source.view c.args.reader.now).budget xs c.in_ok-read_array-in-4.field-0 ys)
-    (Array c.in_ok-read_array-in-4.field-0)
-    (λ xs ys h. array_exact before.budget
-    c.in_ok-read_array-in-4.field-0 xs ys (subst (λ o. ReadsStepped
-    (λ o xs (v : Vec Value Global) ys. AcceptsCount 4 ExactItems o xs v.items ys) o xs
-    c.in_ok-read_array-in-4.field-0 ys) runs.moves.by.budget h))
-    (reached_by c.in_ok-read_array-in-4.ensures.does)
-
-pub read_by_first-returns-in_err-read_array-in-4-clause-does :
-    goal.read_by_first-returns-in_err-read_array-in-4-clause-does
-read_by_first-returns-in_err-read_array-in-4-clause-does g t c before runs =
-    rw c.from_residual.ensures (exact_err c.args.first
-    runs 4 (ReadsStepped
-    (λ o xs (v : Vec Value Global) ys. AcceptsCount 4 ExactItems o xs v.items ys)
-    (g.S.Source.view c.args.reader.now).budget)
-    (StopsExactlyStepped array_name (StrictArrayStops StopsExactly)) c.in-4.is
-    (λ bs z rest h. h) c.in_err-read_array-in-4.ensures.does)
-
-pub read_by_first-returns-in_ok-read_map-in-5-clause-does :
-    goal.read_by_first-returns-in_ok-read_map-in-5-clause-does
-read_by_first-returns-in_ok-read_map-in-5-clause-does g t c before runs =
-    exact_ok c.args.first runs (λ xs ys.
-    ReadsStepped
-    (λ o xs (v : Vec (Value × Value) Global) ys. AcceptsCount 5 ExactMembers o xs v.items
-    ys) (g.S.Source.view c.args.reader.now).budget xs c.in_ok-read_map-in-5.field-0 ys)
-    (Map c.in_ok-read_map-in-5.field-0) (λ xs ys h.
-    map_exact before.budget c.in_ok-read_map-in-5.field-0 xs ys
-    (subst (λ o. ReadsStepped (λ o xs (v : Vec (Value × Value) Global) ys.
-    AcceptsCount 5 ExactMembers o xs v.items ys) o xs c.in_ok-read_map-in-5.field-0 ys)
-    runs.moves.by.budget h))
-    (reached_by c.in_ok-read_map-in-5.ensures.does)
-
-pub read_by_first-returns-in_err-read_map-in-5-clause-does :
-    goal.read_by_first-returns-in_err-read_map-in-5-clause-does
-read_by_first-returns-in_err-read_map-in-5-clause-does g t c before runs =
-    rw c.from_residual-in_err-read_map-in-5.ensures (exact_err c.args.first
-    runs 5
-    (ReadsStepped (λ o xs (v : Vec (Value × Value) Global) ys.
-    AcceptsCount 5 ExactMembers o xs v.items ys) (g.S.Source.view c.args.reader.now).budget)
-    (StopsExactlyStepped map_name (StrictMapStops StopsExactly)) c.in-5.is
-    (λ bs z rest h. h) c.in_err-read_map-in-5.ensures.does)
-
 pub array_inside-returns-in_err-count-clause-progress :
     goal.array_inside-returns-in_err-count-clause-progress
 array_inside-returns-in_err-count-clause-progress g t c =
@@ -194,16 +248,6 @@ pub map_inside-returns-in_err-count-clause-progress :
     goal.map_inside-returns-in_err-count-clause-progress
 map_inside-returns-in_err-count-clause-progress g t c =
     rw c.from_residual.ensures tt
-
-pub read_by_first-returns-in_err-read_array-in-4-clause-progress :
-    goal.read_by_first-returns-in_err-read_array-in-4-clause-progress
-read_by_first-returns-in_err-read_array-in-4-clause-progress g t c =
-    rw c.from_residual.ensures tt
-
-pub read_by_first-returns-in_err-read_map-in-5-clause-progress :
-    goal.read_by_first-returns-in_err-read_map-in-5-clause-progress
-read_by_first-returns-in_err-read_map-in-5-clause-progress g t c =
-    rw c.from_residual-in_err-read_map-in-5.ensures tt
 
 pub read_one-returns-then-not-step_in-clause-progress :
     goal.read_one-returns-then-not-step_in-clause-progress
@@ -241,20 +285,6 @@ map_inside-returns-clause-progress g t c =
     went_on _ c.counted_members.result _ c.in_ok-count.ensures.progress
     c.counted_members.ensures.moves
 
-pub read_by_first-returns-then-first-eq-UNDEFINED-clause-progress :
-    goal.read_by_first-returns-then-first-eq-UNDEFINED-clause-progress
-read_by_first-returns-then-first-eq-UNDEFINED-clause-progress g t c = tt
-
-pub read_by_first-returns-in_ok-read_array-in-4-clause-progress :
-    goal.read_by_first-returns-in_ok-read_array-in-4-clause-progress
-read_by_first-returns-in_ok-read_array-in-4-clause-progress g t c =
-    c.in_ok-read_array-in-4.ensures.progress
-
-pub read_by_first-returns-in_ok-read_map-in-5-clause-progress :
-    goal.read_by_first-returns-in_ok-read_map-in-5-clause-progress
-read_by_first-returns-in_ok-read_map-in-5-clause-progress g t c =
-    c.in_ok-read_map-in-5.ensures.progress
-
 pub counted_items-returns-then-is_err : goal.counted_items-returns-then-is_err
 counted_items-returns-then-is_err g t c =
     does_no_memory (λ xs (v : Vec Value Global) ys.
@@ -269,59 +299,27 @@ counted_members-returns-then-is_err g t c =
     (StopsExactItems (2 * c.args.count) (g.S.Source.view c.args.reader.now).budget) refl
     (kept_alike _)
 
-pub read_by_first-returns-in-6-clause-does : goal.read_by_first-returns-in-6-clause-does
-read_by_first-returns-in-6-clause-does g t c before runs =
-    exact_major c.args.first runs 6 c.in-6.is
-    c.read_tag.ensures.does
+pub read_tagged-returns-in_err-inner-clause-does :
+    goal.read_tagged-returns-in_err-inner-clause-does
+read_tagged-returns-in_err-inner-clause-does g t c =
+    rw c.from_residual.ensures (exact_tagged_err c.args.number c.in_err-inner.ensures.does)
 
-pub read_by_first-returns-in-6-clause-progress : goal.read_by_first-returns-in-6-clause-progress
-read_by_first-returns-in-6-clause-progress g t c = c.read_tag.ensures.progress
+pub read_tagged-returns-in-Ok-clause-does : goal.read_tagged-returns-in-Ok-clause-does
+read_tagged-returns-in-Ok-clause-does g t c =
+    exact_tagged_ok c.args.number (Tag c.args.number c.in-Ok.boxed)
+    (view-Tag c.args.number c.in-Ok.boxed
+    ∙ ap (λ x. tag c.args.number (view x)) c.in-Ok.ensures.ok) c.in_ok-inner.ensures.does
 
-pub read_by_first-returns-in_default-clause-progress :
-    goal.read_by_first-returns-in_default-clause-progress
-read_by_first-returns-in_default-clause-progress g t c = c.read_alone.ensures.progress
+pub read_tag-returns-clause-progress : goal.read_tag-returns-clause-progress
+read_tag-returns-clause-progress g t c =
+    went_on _ c.read_tagged.result _ c.in_ok-number.ensures.progress
+    c.read_tagged.ensures.does.moves
 
-pub read_tag-returns-in_err-number-clause-does : goal.read_tag-returns-in_err-number-clause-does
-read_tag-returns-in_err-number-clause-does g t c =
-    rw c.from_residual.ensures (exact_tag_refused c.in_err-number.ensures.moves
-    c.in_err-number.ensures.stops)
-
-pub read_tag-returns-in_err-inner-clause-does : goal.read_tag-returns-in_err-inner-clause-does
-read_tag-returns-in_err-inner-clause-does g t c =
-    rw c.from_residual-in_err-inner.ensures (exact_tag_err c.in_ok-number.number
-    (reached_shortest 6 c.in_ok-number.number c.in_ok-number.ensures.moves
-    c.in_ok-number.ensures.sound)
-    c.in_err-inner.ensures.does)
-
-pub read_tag-returns-in-Ok-clause-does : goal.read_tag-returns-in-Ok-clause-does
-read_tag-returns-in-Ok-clause-does g t c =
-    exact_tag c.in_ok-number.number (Tag c.in_ok-number.number c.in-Ok.boxed)
-    (view-Tag c.in_ok-number.number c.in-Ok.boxed
-    ∙ ap (λ x. tag c.in_ok-number.number (view x)) c.in-Ok.ensures.ok)
-    (reached_shortest 6 c.in_ok-number.number c.in_ok-number.ensures.moves
-    c.in_ok-number.ensures.sound)
-    c.in_ok-inner.ensures.does
-
-pub read_tag-returns-in-Ok-clause-progress : goal.read_tag-returns-in-Ok-clause-progress
-read_tag-returns-in-Ok-clause-progress g t c =
-    omega (
-      arith,
-      c.in_ok-number.ensures.progress,
-      c.in_ok-inner.ensures.progress,
-    )
-
-pub read_tag-returns-clause-does : goal.read_tag-returns-clause-does
-read_tag-returns-clause-does g t c =
-    does_no_memory (ReadsExactlyUnder (g.S.Source.view c.args.reader.now).budget)
-    (StopsBehindMajor 6 (g.S.Source.view c.args.reader.now).budget) refl (kept_then
-    (reached_shortest 6 c.in_ok-number.number c.in_ok-number.ensures.moves
-    c.in_ok-number.ensures.sound).kept c.in_ok-inner.ensures.does.moves.by)
-
-pub read_by_first-returns-in_default-clause-does : goal.read_by_first-returns-in_default-clause-does
-read_by_first-returns-in_default-clause-does g t c before runs =
-    alone_exact c.args.first runs
-    (Fits-lt-pow {w = w8} c.ranges.first) c.if-first-eq-UNDEFINED.false
-    c.read_alone.ensures.does
+pub read_tagged-returns-clause-does : goal.read_tagged-returns-clause-does
+read_tagged-returns-clause-does g t c =
+    does_no_memory (ReadsExactlyTagged c.args.number (g.S.Source.view c.args.reader.now).budget)
+    (StopsExactly (g.S.Source.view c.args.reader.now).budget) refl
+    c.in_ok-inner.ensures.does.moves.by
 
 -- ---- as many values as one look decides, and the one behind them
 
@@ -344,9 +342,10 @@ pub items_inside-returns-in_ok-value-in-Some-clause-does :
     goal.items_inside-returns-in_ok-value-in-Some-clause-does
 items_inside-returns-in_ok-value-in-Some-clause-does g t c =
     turn_put Exactly StopsExactly _ _ one_exactly (1 * c.args.count) c.args.items.now.items
-    c.take_run.new.parts.items c.in-Some.first
-    (run_before Exactly c.args.items.now.items c.take_run.new.parts.items c.in-Some.first _
-    c.in-Some.is (c.in_ok-first.ensures.exactly refl)) c.put_value.new.parts.items
+    (Unit {0}) c.take_run.new.parts.items c.in-Some.next
+    (run_before (Unit {0}) Exactly c.args.items.now.items c.take_run.new.parts.items c.in-Some.next
+    _
+    c.in-Some.is (c.in_ok-next.ensures.exactly refl)) c.put_value.new.parts.items
     c.put_value.result _
     c.put_value.ensures.kept c.put_value.ensures.memory c.in_ok-value-in-Some.ensures.does
 
@@ -355,18 +354,20 @@ pub items_inside-returns-in_err-value-in-Some-clause-does :
 items_inside-returns-in_err-value-in-Some-clause-does g t c =
     rw c.from_residual-in_err-value-in-Some.ensures (turn_refused Exactly StopsExactly _ _
     one_exactly
-    (1 * c.args.count) c.args.items.now.items c.take_run.new.parts.items c.in-Some.first
-    (run_before Exactly c.args.items.now.items c.take_run.new.parts.items c.in-Some.first _
-    c.in-Some.is (c.in_ok-first.ensures.exactly refl)) _
-    (on_found c.in-Some.first c.in-Some.is c.in_ok-first.ensures.lacks)
+    (1 * c.args.count) c.args.items.now.items
+    (Unit {0}) c.take_run.new.parts.items c.in-Some.next
+    (run_before (Unit {0}) Exactly c.args.items.now.items c.take_run.new.parts.items c.in-Some.next
+    _
+    c.in-Some.is (c.in_ok-next.ensures.exactly refl)) _
+    (on_found c.in-Some.next c.in-Some.is c.in_ok-next.ensures.lacks)
     c.in_err-value-in-Some.ensures.does)
 
-pub items_inside-returns-in_err-first-clause-does :
-    goal.items_inside-returns-in_err-first-clause-does
-items_inside-returns-in_err-first-clause-does g t c =
+pub items_inside-returns-in_err-next-clause-does :
+    goal.items_inside-returns-in_err-next-clause-does
+items_inside-returns-in_err-next-clause-does g t c =
     rw c.from_residual.ensures (turn_ends Exactly StopsExactly _ _ one_exactly (1 * c.args.count)
     c.args.items.now.items
-    c.take_run.new.parts.items c.requires (none_exactly _) (c.in_err-first.ensures.exactly refl))
+    c.take_run.new.parts.items c.requires (none_exactly _) (c.in_err-next.ensures.exactly refl))
 
 pub more_members-returns-clause-does : goal.more_members-returns-clause-does
 more_members-returns-clause-does g t c =
@@ -386,10 +387,11 @@ more_members-returns-then-not-step_in-clause-does g t c =
 pub members_inside-returns-in_ok-value-in-Some-clause-does :
     goal.members_inside-returns-in_ok-value-in-Some-clause-does
 members_inside-returns-in_ok-value-in-Some-clause-does g t c =
-    turn_put Exactly StopsExactly _ _ one_exactly (2 * c.args.count) (flat c.args.pairs.now) (flat
-    c.take_run.new.parts) c.in-Some.first
-    (run_before Exactly (flat c.args.pairs.now) (flat c.take_run.new.parts) c.in-Some.first _
-    c.in-Some.is (c.in_ok-first.ensures.exactly refl)) (flat c.put_value.new.parts)
+    turn_put Exactly StopsExactly _ _ one_exactly (2 * c.args.count) (flat c.args.pairs.now)
+    (Unit {0}) (flat c.take_run.new.parts) c.in-Some.next
+    (run_before (Unit {0}) Exactly (flat c.args.pairs.now) (flat c.take_run.new.parts)
+    c.in-Some.next _
+    c.in-Some.is (c.in_ok-next.ensures.exactly refl)) (flat c.put_value.new.parts)
     c.put_value.result _
     c.put_value.ensures.kept c.put_value.ensures.memory c.in_ok-value-in-Some.ensures.does
 
@@ -398,18 +400,20 @@ pub members_inside-returns-in_err-value-in-Some-clause-does :
 members_inside-returns-in_err-value-in-Some-clause-does g t c =
     rw c.from_residual-in_err-value-in-Some.ensures (turn_refused Exactly StopsExactly _ _
     one_exactly
-    (2 * c.args.count) (flat c.args.pairs.now) (flat c.take_run.new.parts) c.in-Some.first
-    (run_before Exactly (flat c.args.pairs.now) (flat c.take_run.new.parts) c.in-Some.first _
-    c.in-Some.is (c.in_ok-first.ensures.exactly refl)) _
-    (on_found c.in-Some.first c.in-Some.is c.in_ok-first.ensures.lacks)
+    (2 * c.args.count) (flat c.args.pairs.now)
+    (Unit {0}) (flat c.take_run.new.parts) c.in-Some.next
+    (run_before (Unit {0}) Exactly (flat c.args.pairs.now) (flat c.take_run.new.parts)
+    c.in-Some.next _
+    c.in-Some.is (c.in_ok-next.ensures.exactly refl)) _
+    (on_found c.in-Some.next c.in-Some.is c.in_ok-next.ensures.lacks)
     c.in_err-value-in-Some.ensures.does)
 
-pub members_inside-returns-in_err-first-clause-does :
-    goal.members_inside-returns-in_err-first-clause-does
-members_inside-returns-in_err-first-clause-does g t c =
+pub members_inside-returns-in_err-next-clause-does :
+    goal.members_inside-returns-in_err-next-clause-does
+members_inside-returns-in_err-next-clause-does g t c =
     rw c.from_residual.ensures (turn_ends Exactly StopsExactly _ _ one_exactly (2 * c.args.count)
     (flat c.args.pairs.now)
-    (flat c.take_run.new.parts) c.requires (none_exactly _) (c.in_err-first.ensures.exactly refl))
+    (flat c.take_run.new.parts) c.requires (none_exactly _) (c.in_err-next.ensures.exactly refl))
 
 -- ---- an array whose items are counted
 

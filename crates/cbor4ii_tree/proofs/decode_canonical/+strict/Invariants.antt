@@ -5,46 +5,49 @@ use Rattle.cbor4ii_tree.proofs.skip_calls.Doing.{Reached}
 use Rattle.cbor4ii_tree.proofs.decode_canonical.+strict.Given as goal
 
 abbrev pub decreases-read_one : goal.decreases-read_one
-decreases-read_one g l = 7 * (g.S.Source.view l.reader.now).bound + 4
+decreases-read_one g l = 8 * (g.S.Source.view l.reader.now).bound + 5
 
 abbrev pub decreases-read_inside : goal.decreases-read_inside
-decreases-read_inside g l = 7 * (g.S.Source.view l.reader.now).bound + 3
+decreases-read_inside g l = 8 * (g.S.Source.view l.reader.now).bound + 4
 
-abbrev pub decreases-read_by_first : goal.decreases-read_by_first
-decreases-read_by_first g l = 7 * (g.S.Source.view l.reader.now).bound + 2
+abbrev pub decreases-read_next : goal.decreases-read_next
+decreases-read_next g l = 8 * (g.S.Source.view l.reader.now).bound + 3
 
 abbrev pub decreases-read_tag : goal.decreases-read_tag
-decreases-read_tag g l = 7 * (g.S.Source.view l.reader.now).bound + 1
+decreases-read_tag g l = 8 * (g.S.Source.view l.reader.now).bound + 2
+
+abbrev pub decreases-read_tagged : goal.decreases-read_tagged
+decreases-read_tagged g l = 8 * (g.S.Source.view l.reader.now).bound + 6
 
 abbrev pub decreases-read_array : goal.decreases-read_array
-decreases-read_array g l = 7 * (g.S.Source.view l.reader.now).bound + 1
+decreases-read_array g l = 8 * (g.S.Source.view l.reader.now).bound + 2
 
 abbrev pub decreases-read_map : goal.decreases-read_map
-decreases-read_map g l = 7 * (g.S.Source.view l.reader.now).bound + 1
+decreases-read_map g l = 8 * (g.S.Source.view l.reader.now).bound + 2
 
 abbrev pub decreases-array_inside : goal.decreases-array_inside
-decreases-array_inside g l = 7 * (g.S.Source.view l.reader.now).bound + 0
+decreases-array_inside g l = 8 * (g.S.Source.view l.reader.now).bound + 1
 
 abbrev pub decreases-map_inside : goal.decreases-map_inside
-decreases-map_inside g l = 7 * (g.S.Source.view l.reader.now).bound + 0
+decreases-map_inside g l = 8 * (g.S.Source.view l.reader.now).bound + 1
 
 abbrev pub decreases-counted_items : goal.decreases-counted_items
-decreases-counted_items g l = 7 * (g.S.Source.view l.reader.now).bound + 6
+decreases-counted_items g l = 8 * (g.S.Source.view l.reader.now).bound + 7
 
 abbrev pub decreases-counted_members : goal.decreases-counted_members
-decreases-counted_members g l = 7 * (g.S.Source.view l.reader.now).bound + 6
+decreases-counted_members g l = 8 * (g.S.Source.view l.reader.now).bound + 7
 
 abbrev pub decreases-more_items : goal.decreases-more_items
-decreases-more_items g l = 7 * (g.S.Source.view l.reader.now).bound + 4
+decreases-more_items g l = 8 * (g.S.Source.view l.reader.now).bound + 5
 
 abbrev pub decreases-items_inside : goal.decreases-items_inside
-decreases-items_inside g l = 7 * (g.S.Source.view l.reader.now).bound + 3
+decreases-items_inside g l = 8 * (g.S.Source.view l.reader.now).bound + 4
 
 abbrev pub decreases-more_members : goal.decreases-more_members
-decreases-more_members g l = 7 * (g.S.Source.view l.reader.now).bound + 4
+decreases-more_members g l = 8 * (g.S.Source.view l.reader.now).bound + 5
 
 abbrev pub decreases-members_inside : goal.decreases-members_inside
-decreases-members_inside g l = 7 * (g.S.Source.view l.reader.now).bound + 3
+decreases-members_inside g l = 8 * (g.S.Source.view l.reader.now).bound + 4
 
 abbrev pub invariant-counted_items-loop-alloc : goal.invariant-counted_items-loop-alloc
 invariant-counted_items-loop-alloc g l = record {

@@ -1,9 +1,9 @@
-use Rattle.std.proofs.Common.{length, inl, refl, ap, subst, arith, w8, ◌-◌, ◌*◌}
-use Rattle.std.proofs.Math.Facts.{Fits-lt-pow}
+use Rattle.std.proofs.Common.{length, Some, inl, refl, ap, subst, arith, ◌-◌, ◌*◌}
 use Rattle.std.proofs.Common.{◌∙◌, ◌∷◌, ◌≡◌}
 use Rattle.cbor4ii_tree.specs.Does.{refusal_left}
 use Rattle.cbor4ii_tree.specs.Valuing.{ReadsOneValue, StopsOneValue, ReadsMember, StopsMember}
-use Rattle.cbor4ii_tree.specs.Valuing.{StopsMembers, ReadsStepped, StopsOf, ReadsItems}
+use Rattle.cbor4ii_tree.specs.Valuing.{TakesLength, TakesTag}
+use Rattle.cbor4ii_tree.specs.Valuing.{ReadsTagged, StopsMembers, ReadsStepped, StopsOf, ReadsItems}
 use Rattle.cbor4ii_tree.specs.Valuing.{ReadsArrayInside, ReadsMapInside, StopsMajor}
 use Rattle.cbor4ii_tree.specs.Valuing.{ReadsMembers, ReadsOpenItems, StopsOpenItems}
 use Rattle.cbor4ii_tree.specs.Valuing.{ReadsOpenMembers, StopsOpenMembers, ReadsUnder, StopsUnder}
@@ -18,12 +18,13 @@ use Rattle.cbor4ii_tree.proofs.skip_calls.Calls.{Before, broke, other, at_end}
 use Rattle.cbor4ii_tree.proofs.values.Parts.{ReadEach, ReadPairs}
 use Rattle.cbor4ii_tree.proofs.values.Calls.{stepped}
 use Rattle.cbor4ii_tree.proofs.values.Heads.{arm_ok, arm_err, arm_does, alone_does}
-use Rattle.cbor4ii_tree.proofs.values.Heads.{reached_tag, tag_read, tag_refused, tag_stopped}
+use Rattle.cbor4ii_tree.proofs.values.Heads.{tag_does, tagged_err, tagged_ok}
 use Rattle.cbor4ii_tree.proofs.values.Heads.{view-Tag}
 use Rattle.cbor4ii_tree.proofs.values.Sequences.{major_stepped, array_no_step, map_no_step}
-use Rattle.cbor4ii_tree.proofs.values.Sequences.{array_length_stops, map_length_stops}
-use Rattle.cbor4ii_tree.proofs.values.Sequences.{length_refused, reached_length, reached_open}
-use Rattle.cbor4ii_tree.proofs.values.Sequences.{array_counted, array_of_none, array_opened, array_reads}
+use Rattle.cbor4ii_tree.proofs.values.Sequences.{none_follow, some_follow}
+use Rattle.cbor4ii_tree.proofs.skip_calls.Doing.{still_refused}
+use Rattle.cbor4ii_tree.proofs.values.Sequences.{array_counted, array_of_none, array_opened}
+use Rattle.cbor4ii_tree.proofs.values.Sequences.{array_reads}
 use Rattle.cbor4ii_tree.proofs.values.Sequences.{map_counted, map_of_none, map_opened, map_reads}
 use Rattle.cbor4ii_tree.proofs.values.Sequences.{each_none}
 use Rattle.cbor4ii_tree.proofs.values.Sequences.{each_more, open_end, open_stop, open_done}
@@ -34,74 +35,255 @@ use Rattle.cbor4ii_tree.proofs.values.Items.{array_item, map_item}
 use Rattle.cbor4ii_items.specs.Laws.Running.{kept_alike}
 use Rattle.cbor4ii_tree.proofs.values.Answered.{went_on, around}
 use Rattle.cbor4ii_tree.proofs.values.Leaves.{after_look}
+use Rattle.cbor4ii_tree.proofs.values.ByHead.{behind_next, budget_alone, next_step, next_stepped}
+use Rattle.cbor4ii_tree.proofs.values.ByHead.{peeks_next, with_budget}
 use Rattle.cbor4ii_tree.specs.StopsReading.{Readable}
 use Rattle.cbor4ii_tree.specs.LeafRuns.{flat, flat_values, ReadsEach}
 use Rattle.cbor4ii_tree.proofs.skip_calls.Doing.{reached_as}
 use Rattle.cbor4ii_tree.proofs.values.LeafRuns.{none_yet, none_too_many, ran, run_stops, stop_alone}
 use Rattle.cbor4ii_tree.proofs.values.LeafRuns.{both_there, pairs_are_read, pairs_are}
-use Rattle.cbor4ii_tree.proofs.values.LeafRuns.{turn_stepped, turn_unstepped, turn_put, turn_refused}
+use Rattle.cbor4ii_tree.proofs.values.LeafRuns.{turn_stepped, turn_unstepped, turn_put}
+use Rattle.cbor4ii_tree.proofs.values.LeafRuns.{turn_refused}
 use Rattle.cbor4ii_tree.proofs.values.LeafRuns.{turn_ends, run_before, on_found, put_items}
 use Rattle.cbor4ii_tree.proofs.values.LeafRuns.{one_read, none_under}
 use Rattle.cbor4ii_tree.proofs.decode_value.+read.Goals as goal
 
+pub array_inside-returns-in-Some-eq0-clause-does : goal.array_inside-returns-in-Some-eq0-clause-does
+array_inside-returns-in-Some-eq0-clause-does g t c before shows =
+    array_counted 0 (some_follow 4 0 (c.in-Some-eq0.is ∙ ap Some c.in-Some-eq0.field-0-test)
+    (c.in_ok-take_array.ensures.does before shows))
+    (array_of_none c.new.result (cc))
+
+pub array_inside-returns-in_ok-counted_items-in-Some-clause-does :
+    goal.array_inside-returns-in_ok-counted_items-in-Some-clause-does
+array_inside-returns-in_ok-counted_items-in-Some-clause-does g t c before shows =
+    array_counted c.in-Some.count
+    (some_follow 4 c.in-Some.count c.in-Some.is (c.in_ok-take_array.ensures.does before shows))
+    c.in_ok-counted_items-in-Some.ensures.does
+
+pub array_inside-returns-in_err-counted_items-in-Some-clause-does :
+    goal.array_inside-returns-in_err-counted_items-in-Some-clause-does
+array_inside-returns-in_err-counted_items-in-Some-clause-does g t c before shows =
+    rw c.from_residual-in_err-counted_items-in-Some.ensures (array_counted c.in-Some.count
+    (some_follow 4 c.in-Some.count c.in-Some.is (c.in_ok-take_array.ensures.does before shows))
+    c.in_err-counted_items-in-Some.ensures.does)
+
+pub array_inside-returns-in_ok-open_items-in-None-clause-does :
+    goal.array_inside-returns-in_ok-open_items-in-None-clause-does
+array_inside-returns-in_ok-open_items-in-None-clause-does g t c before shows =
+    array_opened (none_follow 4 c.in-None.is (c.in_ok-take_array.ensures.does before shows))
+    c.in_ok-open_items-in-None.ensures.does
+
+pub array_inside-returns-in_err-open_items-in-None-clause-does :
+    goal.array_inside-returns-in_err-open_items-in-None-clause-does
+array_inside-returns-in_err-open_items-in-None-clause-does g t c before shows =
+    rw c.from_residual-in_err-open_items-in-None.ensures
+    (array_opened (none_follow 4 c.in-None.is (c.in_ok-take_array.ensures.does before shows))
+    c.in_err-open_items-in-None.ensures.does)
+
+pub map_inside-returns-in-Some-eq0-clause-does : goal.map_inside-returns-in-Some-eq0-clause-does
+map_inside-returns-in-Some-eq0-clause-does g t c before shows =
+    map_counted 0 (some_follow 5 0 (c.in-Some-eq0.is ∙ ap Some c.in-Some-eq0.field-0-test)
+    (c.in_ok-take_map.ensures.does before shows))
+    (map_of_none c.new.result (cc))
+
+pub map_inside-returns-in_ok-counted_members-in-Some-clause-does :
+    goal.map_inside-returns-in_ok-counted_members-in-Some-clause-does
+map_inside-returns-in_ok-counted_members-in-Some-clause-does g t c before shows =
+    map_counted c.in-Some.count
+    (some_follow 5 c.in-Some.count c.in-Some.is (c.in_ok-take_map.ensures.does before shows))
+    c.in_ok-counted_members-in-Some.ensures.does
+
+pub map_inside-returns-in_err-counted_members-in-Some-clause-does :
+    goal.map_inside-returns-in_err-counted_members-in-Some-clause-does
+map_inside-returns-in_err-counted_members-in-Some-clause-does g t c before shows =
+    rw c.from_residual-in_err-counted_members-in-Some.ensures (map_counted c.in-Some.count
+    (some_follow 5 c.in-Some.count c.in-Some.is (c.in_ok-take_map.ensures.does before shows))
+    c.in_err-counted_members-in-Some.ensures.does)
+
+pub map_inside-returns-in_ok-open_members-in-None-clause-does :
+    goal.map_inside-returns-in_ok-open_members-in-None-clause-does
+map_inside-returns-in_ok-open_members-in-None-clause-does g t c before shows =
+    map_opened (none_follow 5 c.in-None.is (c.in_ok-take_map.ensures.does before shows))
+    c.in_ok-open_members-in-None.ensures.does
+
+pub map_inside-returns-in_err-open_members-in-None-clause-does :
+    goal.map_inside-returns-in_err-open_members-in-None-clause-does
+map_inside-returns-in_err-open_members-in-None-clause-does g t c before shows =
+    rw c.from_residual-in_err-open_members-in-None.ensures
+    (map_opened (none_follow 5 c.in-None.is (c.in_ok-take_map.ensures.does before shows))
+    c.in_err-open_members-in-None.ensures.does)
+
+pub read_next-returns-in_ok-read_array-in-4-clause-does :
+    goal.read_next-returns-in_ok-read_array-in-4-clause-does
+read_next-returns-in_ok-read_array-in-4-clause-does g t c before shows =
+    arm_ok c.args.next.first (peeks_next c.args.next shows)
+    (ReadsStepped (λ o xs v ys. ReadsArrayInside o xs v.items ys) before.budget)
+    (StopsOf 4 before.budget) (Array c.in_ok-read_array-in-4.field-0)
+    (λ bs ys h. array_reads before.budget c.in_ok-read_array-in-4.field-0
+    (c.args.next.first ∷ bs) ys h)
+    (c.in_ok-read_array-in-4.ensures.does before shows)
+
+pub read_next-returns-in_err-read_array-in-4-clause-does :
+    goal.read_next-returns-in_err-read_array-in-4-clause-does
+read_next-returns-in_err-read_array-in-4-clause-does g t c before shows =
+    rw c.from_residual.ensures (arm_err c.args.next.first (peeks_next c.args.next shows)
+    (ReadsStepped (λ o xs v ys. ReadsArrayInside o xs v.items ys) before.budget)
+    (StopsOf 4 before.budget) (λ bs z rest h. h c.args.next.first bs refl c.in-4.is)
+    (c.in_err-read_array-in-4.ensures.does before shows))
+
+pub read_next-returns-in_ok-read_array-in-4-clause-item :
+    goal.read_next-returns-in_ok-read_array-in-4-clause-item
+read_next-returns-in_ok-read_array-in-4-clause-item g t c =
+    array_item c.in_ok-read_array-in-4.field-0 c.in_ok-read_array-in-4.ensures.items
+
+pub read_next-returns-in_err-read_array-in-4-clause-item :
+    goal.read_next-returns-in_err-read_array-in-4-clause-item
+read_next-returns-in_err-read_array-in-4-clause-item g t c = rw c.from_residual.ensures tt
+
+pub read_next-returns-in_ok-read_array-in-4-clause-progress :
+    goal.read_next-returns-in_ok-read_array-in-4-clause-progress
+read_next-returns-in_ok-read_array-in-4-clause-progress g t c =
+    c.in_ok-read_array-in-4.ensures.progress
+
+pub read_next-returns-in_err-read_array-in-4-clause-progress :
+    goal.read_next-returns-in_err-read_array-in-4-clause-progress
+read_next-returns-in_err-read_array-in-4-clause-progress g t c =
+    rw c.from_residual.ensures tt
+
+pub read_array-returns-clause-does : goal.read_array-returns-clause-does
+read_array-returns-clause-does g t c before shows =
+    major_stepped (λ o xs v ys. ReadsArrayInside o xs v.items ys) 4
+    (next_step c.args.next shows (g.S.Source.view c.step_in.new.self)
+    c.if-not-step_in.ensures.budget) (budget_alone before _)
+    (c.array_inside-outcome.ensures.does
+    (with_budget before (g.S.Source.view c.step_in.new.self).budget)
+    (next_stepped c.args.next shows c.step_in.ensures.others)) c.step_out.ensures.budget
+    c.step_out.ensures.others
+
+pub read_array-returns-then-not-step_in-clause-does :
+    goal.read_array-returns-then-not-step_in-clause-does
+read_array-returns-then-not-step_in-clause-does g t c before shows =
+    let budget = (g.S.Source.view c.args.reader.now).budget in
+    rw c.leave_deep.ensures (behind_next c.args.next shows
+    (ReadsStepped (λ o xs v ys. ReadsArrayInside o xs v.items ys)) (StopsOf 4)
+    (does_no_step array_name (ReadsStepped (λ o xs v ys. ReadsArrayInside o xs v.items ys) budget)
+    (StopsOf 4 budget) refl refl (λ none xs. array_no_step budget none xs)
+    c.if-not-step_in.ensures.budget c.step_in.ensures.others))
+
+pub array_inside-returns-in_err-take_array-clause-does :
+    goal.array_inside-returns-in_err-take_array-clause-does
+array_inside-returns-in_err-take_array-clause-does g t c before shows =
+    rw c.from_residual.ensures (still_refused (TakesLength 4 before.budget)
+    (λ xs v ys. ReadsArrayInside before.budget xs v.items ys) (StopsMajor 4 before.budget)
+    (StopsMajor 4 before.budget) (λ xs z rest h. h) (c.in_err-take_array.ensures.does before shows))
+
+pub read_next-returns-in_ok-read_map-in-5-clause-does :
+    goal.read_next-returns-in_ok-read_map-in-5-clause-does
+read_next-returns-in_ok-read_map-in-5-clause-does g t c before shows =
+    arm_ok c.args.next.first (peeks_next c.args.next shows)
+    (ReadsStepped (λ o xs v ys. ReadsMapInside o xs v.items ys) before.budget)
+    (StopsOf 5 before.budget) (Map c.in_ok-read_map-in-5.field-0)
+    (λ bs ys h. map_reads before.budget c.in_ok-read_map-in-5.field-0
+    (c.args.next.first ∷ bs) ys h)
+    (c.in_ok-read_map-in-5.ensures.does before shows)
+
+pub read_next-returns-in_err-read_map-in-5-clause-does :
+    goal.read_next-returns-in_err-read_map-in-5-clause-does
+read_next-returns-in_err-read_map-in-5-clause-does g t c before shows =
+    rw c.from_residual-in_err-read_map-in-5.ensures
+    (arm_err c.args.next.first (peeks_next c.args.next shows)
+    (ReadsStepped (λ o xs v ys. ReadsMapInside o xs v.items ys) before.budget)
+    (StopsOf 5 before.budget) (λ bs z rest h. h c.args.next.first bs refl c.in-5.is)
+    (c.in_err-read_map-in-5.ensures.does before shows))
+
+pub read_next-returns-in_ok-read_map-in-5-clause-item :
+    goal.read_next-returns-in_ok-read_map-in-5-clause-item
+read_next-returns-in_ok-read_map-in-5-clause-item g t c =
+    map_item c.in_ok-read_map-in-5.field-0 c.in_ok-read_map-in-5.ensures.items
+
+pub read_next-returns-in_err-read_map-in-5-clause-item :
+    goal.read_next-returns-in_err-read_map-in-5-clause-item
+read_next-returns-in_err-read_map-in-5-clause-item g t c =
+    rw c.from_residual-in_err-read_map-in-5.ensures tt
+
+pub read_next-returns-in_ok-read_map-in-5-clause-progress :
+    goal.read_next-returns-in_ok-read_map-in-5-clause-progress
+read_next-returns-in_ok-read_map-in-5-clause-progress g t c =
+    c.in_ok-read_map-in-5.ensures.progress
+
+pub read_next-returns-in_err-read_map-in-5-clause-progress :
+    goal.read_next-returns-in_err-read_map-in-5-clause-progress
+read_next-returns-in_err-read_map-in-5-clause-progress g t c =
+    rw c.from_residual-in_err-read_map-in-5.ensures tt
+
+pub read_map-returns-clause-does : goal.read_map-returns-clause-does
+read_map-returns-clause-does g t c before shows =
+    major_stepped (λ o xs v ys. ReadsMapInside o xs v.items ys) 5
+    (next_step c.args.next shows (g.S.Source.view c.step_in.new.self)
+    c.if-not-step_in.ensures.budget) (budget_alone before _)
+    (c.map_inside-outcome.ensures.does
+    (with_budget before (g.S.Source.view c.step_in.new.self).budget)
+    (next_stepped c.args.next shows c.step_in.ensures.others)) c.step_out.ensures.budget
+    c.step_out.ensures.others
+
+pub read_map-returns-then-not-step_in-clause-does :
+    goal.read_map-returns-then-not-step_in-clause-does
+read_map-returns-then-not-step_in-clause-does g t c before shows =
+    let budget = (g.S.Source.view c.args.reader.now).budget in
+    rw c.leave_deep.ensures (behind_next c.args.next shows
+    (ReadsStepped (λ o xs v ys. ReadsMapInside o xs v.items ys)) (StopsOf 5)
+    (does_no_step map_name (ReadsStepped (λ o xs v ys. ReadsMapInside o xs v.items ys) budget)
+    (StopsOf 5 budget) refl refl (λ none xs. map_no_step budget none xs)
+    c.if-not-step_in.ensures.budget c.step_in.ensures.others))
+
+pub map_inside-returns-in_err-take_map-clause-does :
+    goal.map_inside-returns-in_err-take_map-clause-does
+map_inside-returns-in_err-take_map-clause-does g t c before shows =
+    rw c.from_residual.ensures (still_refused (TakesLength 5 before.budget)
+    (λ xs v ys. ReadsMapInside before.budget xs v.items ys) (StopsMajor 5 before.budget)
+    (StopsMajor 5 before.budget) (λ xs z rest h. h) (c.in_err-take_map.ensures.does before shows))
+
+pub read_next-returns-in-6-clause-does : goal.read_next-returns-in-6-clause-does
+read_next-returns-in-6-clause-does g t c before shows =
+    arm_does c.args.next.first (peeks_next c.args.next shows)
+    (λ xs v ys. ReadsUnder before.budget xs v ys) (StopsOf 6 before.budget)
+    (λ bs ys v h. h) (λ bs z rest h. h c.args.next.first bs refl c.in-6.is)
+    (c.read_tag.ensures.does before shows)
+
+pub read_next-returns-in-6-clause-item : goal.read_next-returns-in-6-clause-item
+read_next-returns-in-6-clause-item g t c = c.read_tag.ensures.item
+
+pub read_next-returns-in-6-clause-progress : goal.read_next-returns-in-6-clause-progress
+read_next-returns-in-6-clause-progress g t c = c.read_tag.ensures.progress
+
+pub read_next-returns-in_default-clause-does : goal.read_next-returns-in_default-clause-does
+read_next-returns-in_default-clause-does g t c before shows =
+    alone_does c.args.next.first shows.first.runs
+    (omega arith) c.read_alone.ensures.does
+
+pub read_next-returns-in_default-clause-item : goal.read_next-returns-in_default-clause-item
+read_next-returns-in_default-clause-item g t c = c.read_alone.ensures.item
+
+pub read_next-returns-in_default-clause-progress :
+    goal.read_next-returns-in_default-clause-progress
+read_next-returns-in_default-clause-progress g t c = c.read_alone.ensures.progress
+
+pub read_tag-returns-in_err-number-clause-does : goal.read_tag-returns-in_err-number-clause-does
+read_tag-returns-in_err-number-clause-does g t c before shows =
+    rw c.from_residual.ensures (still_refused (TakesTag before.budget)
+    (λ xs v ys. ReadsUnder before.budget xs v ys) (StopsOf 6 before.budget)
+    (StopsOf 6 before.budget) (λ xs z rest h. h) (c.in_err-number.ensures.does before shows))
+
+pub read_tag-returns-clause-does : goal.read_tag-returns-clause-does
+read_tag-returns-clause-does g t c before shows =
+    tag_does c.in_ok-number.number (reached_by (c.in_ok-number.ensures.does before shows))
+    c.read_tagged.ensures.does
+
 pub read_inside-returns-in-Begins-clause-does : goal.read_inside-returns-in-Begins-clause-does
 read_inside-returns-in-Begins-clause-does g t c =
-    after_look ReadsUnder StopsUnder c.in-Begins.first _ c.in-Begins.is
-    c.in_ok-value.ensures.takes c.read_by_first.ensures.does
-
-pub array_inside-returns-in-None-clause-does : goal.array_inside-returns-in-None-clause-does
-array_inside-returns-in-None-clause-does g t c =
-    array_opened (reached_open 4 c.in-None.is c.in_ok-array_length.ensures.moves
-    c.in_ok-array_length.ensures.sound) c.open_items.ensures.does
-
-pub array_inside-returns-in-Some-clause-does : goal.array_inside-returns-in-Some-clause-does
-array_inside-returns-in-Some-clause-does g t c =
-    array_counted c.in-Some.count (reached_length 4 c.in-Some.count c.in-Some.is
-    c.in_ok-array_length.ensures.moves c.in_ok-array_length.ensures.sound)
-    c.counted_items.ensures.does
-
-pub array_inside-returns-in-Some-eq0-clause-does :
-    goal.array_inside-returns-in-Some-eq0-clause-does
-array_inside-returns-in-Some-eq0-clause-does g t c =
-    array_counted 0 (reached_length 4 0 (cc) c.in_ok-array_length.ensures.moves
-    c.in_ok-array_length.ensures.sound) (array_of_none c.new.result (cc))
-
-pub array_inside-returns-in_err-array_length-clause-does :
-    goal.array_inside-returns-in_err-array_length-clause-does
-array_inside-returns-in_err-array_length-clause-does g t c =
-    rw c.from_residual.ensures (length_refused array_name 4
-    (λ xs v ys. ReadsArrayInside (g.S.Source.view c.args.reader.now).budget xs v.items ys)
-    (StopsMajor 4 (g.S.Source.view c.args.reader.now).budget)
-    (λ xs z rest. array_length_stops (g.S.Source.view c.args.reader.now).budget xs
-    (g.S.Source.view c.args.reader.now).budget z rest) c.in_err-array_length.ensures.moves
-    c.in_err-array_length.ensures.stops)
-
-pub map_inside-returns-in-None-clause-does : goal.map_inside-returns-in-None-clause-does
-map_inside-returns-in-None-clause-does g t c =
-    map_opened (reached_open 5 c.in-None.is c.in_ok-map_length.ensures.moves
-    c.in_ok-map_length.ensures.sound)
-    c.open_members.ensures.does
-
-pub map_inside-returns-in-Some-clause-does : goal.map_inside-returns-in-Some-clause-does
-map_inside-returns-in-Some-clause-does g t c =
-    map_counted c.in-Some.count (reached_length 5 c.in-Some.count c.in-Some.is
-    c.in_ok-map_length.ensures.moves c.in_ok-map_length.ensures.sound)
-    c.counted_members.ensures.does
-
-pub map_inside-returns-in-Some-eq0-clause-does :
-    goal.map_inside-returns-in-Some-eq0-clause-does
-map_inside-returns-in-Some-eq0-clause-does g t c =
-    map_counted 0 (reached_length 5 0 (cc) c.in_ok-map_length.ensures.moves
-    c.in_ok-map_length.ensures.sound) (map_of_none c.new.result (cc))
-
-pub map_inside-returns-in_err-map_length-clause-does :
-    goal.map_inside-returns-in_err-map_length-clause-does
-map_inside-returns-in_err-map_length-clause-does g t c =
-    rw c.from_residual.ensures (length_refused map_name 5
-    (λ xs v ys. ReadsMapInside (g.S.Source.view c.args.reader.now).budget xs v.items ys)
-    (StopsMajor 5 (g.S.Source.view c.args.reader.now).budget) (λ xs z rest. map_length_stops
-    (g.S.Source.view c.args.reader.now).budget xs (g.S.Source.view c.args.reader.now).budget
-    z rest) c.in_err-map_length.ensures.moves c.in_err-map_length.ensures.stops)
+    after_look ⊥ ReadsUnder StopsUnder _ c.in-Begins.next _ c.in-Begins.is
+    c.in_ok-value.ensures.takes c.read_next.ensures.does
 
 pub open_items-loop-items-init : goal.open_items-loop-items-init
 open_items-loop-items-init g t c = record {
@@ -253,92 +435,6 @@ read_member-returns-in_err-value-clause-does g t c =
     (λ xs ys z rest h s. value_stop (g.S.Source.view c.args.reader.now).budget
     c.in_ok-key.key xs ys z rest h s) c.in_err-value.ensures.does)
 
-pub read_array-returns-clause-does : goal.read_array-returns-clause-does
-read_array-returns-clause-does g t c =
-    major_stepped (λ o xs v ys. ReadsArrayInside o xs v.items ys) 4 c.if-not-step_in.ensures.budget
-    c.step_in.ensures.others c.array_inside-outcome.ensures.does c.step_out.ensures.budget
-    c.step_out.ensures.others
-
-pub read_array-returns-then-not-step_in-clause-does :
-    goal.read_array-returns-then-not-step_in-clause-does
-read_array-returns-then-not-step_in-clause-does g t c =
-    rw c.leave_deep.ensures (does_no_step array_name (ReadsStepped (λ o xs v ys. ReadsArrayInside o
-    xs
-    v.items ys)
-    (g.S.Source.view c.args.reader.now).budget)
-    (StopsOf 4 (g.S.Source.view c.args.reader.now).budget) refl refl
-    (λ none xs. array_no_step (g.S.Source.view c.args.reader.now).budget none xs)
-    c.if-not-step_in.ensures.budget c.step_in.ensures.others)
-
-pub read_by_first-returns-in_ok-read_array-in-4-clause-does :
-    goal.read_by_first-returns-in_ok-read_array-in-4-clause-does
-read_by_first-returns-in_ok-read_array-in-4-clause-does g t c before runs =
-    arm_ok c.args.first runs (ReadsStepped (λ o
-    xs v ys.
-    ReadsArrayInside o xs v.items ys) (g.S.Source.view c.args.reader.now).budget)
-    (StopsOf 4 (g.S.Source.view c.args.reader.now).budget)
-    (Array c.in_ok-read_array-in-4.field-0) (λ bs ys h.
-    array_reads before.budget c.in_ok-read_array-in-4.field-0
-    (c.args.first ∷ bs) ys (subst (λ o. ReadsStepped (λ o xs v ys. ReadsArrayInside o
-    xs v.items ys) o (c.args.first ∷ bs) c.in_ok-read_array-in-4.field-0 ys)
-    runs.moves.by.budget h))
-    c.in_ok-read_array-in-4.ensures.does
-
-pub read_by_first-returns-in_ok-read_map-in-5-clause-does :
-    goal.read_by_first-returns-in_ok-read_map-in-5-clause-does
-read_by_first-returns-in_ok-read_map-in-5-clause-does g t c before runs =
-    arm_ok c.args.first runs (ReadsStepped (λ o
-    xs v ys.
-    ReadsMapInside o xs v.items ys) (g.S.Source.view c.args.reader.now).budget)
-    (StopsOf 5 (g.S.Source.view c.args.reader.now).budget) (Map c.in_ok-read_map-in-5.field-0)
-    (λ bs ys h. map_reads before.budget
-    c.in_ok-read_map-in-5.field-0 (c.args.first ∷ bs) ys (subst (λ o.
-    ReadsStepped (λ o xs v ys. ReadsMapInside o xs v.items ys) o (c.args.first ∷ bs)
-    c.in_ok-read_map-in-5.field-0 ys) runs.moves.by.budget h))
-    c.in_ok-read_map-in-5.ensures.does
-
-pub read_by_first-returns-in_err-read_array-in-4-clause-does :
-    goal.read_by_first-returns-in_err-read_array-in-4-clause-does
-read_by_first-returns-in_err-read_array-in-4-clause-does g t c before runs =
-    rw c.from_residual.ensures
-    (arm_err c.args.first runs (ReadsStepped (λ
-    o xs v ys.
-    ReadsArrayInside o xs v.items ys) (g.S.Source.view c.args.reader.now).budget)
-    (StopsOf 4 (g.S.Source.view c.args.reader.now).budget)
-    (λ bs z rest h. subst (λ o. StopsUnder o (c.args.first ∷ bs) z rest)
-    runs.moves.by.budget (h c.args.first bs refl
-    c.in-4.is))
-    c.in_err-read_array-in-4.ensures.does)
-
-pub read_by_first-returns-in_err-read_map-in-5-clause-does :
-    goal.read_by_first-returns-in_err-read_map-in-5-clause-does
-read_by_first-returns-in_err-read_map-in-5-clause-does g t c before runs =
-    rw c.from_residual-in_err-read_map-in-5.ensures
-    (arm_err c.args.first runs (ReadsStepped (λ
-    o xs v ys.
-    ReadsMapInside o xs v.items ys) (g.S.Source.view c.args.reader.now).budget)
-    (StopsOf 5 (g.S.Source.view c.args.reader.now).budget)
-    (λ bs z rest h. subst (λ o. StopsUnder o (c.args.first ∷ bs) z rest)
-    runs.moves.by.budget (h c.args.first bs refl
-    c.in-5.is))
-    c.in_err-read_map-in-5.ensures.does)
-
-pub read_map-returns-clause-does : goal.read_map-returns-clause-does
-read_map-returns-clause-does g t c =
-    major_stepped (λ o xs v ys. ReadsMapInside o xs v.items ys) 5 c.if-not-step_in.ensures.budget
-    c.step_in.ensures.others c.map_inside-outcome.ensures.does c.step_out.ensures.budget
-    c.step_out.ensures.others
-
-pub read_map-returns-then-not-step_in-clause-does :
-    goal.read_map-returns-then-not-step_in-clause-does
-read_map-returns-then-not-step_in-clause-does g t c =
-    rw c.leave_deep.ensures (does_no_step map_name (ReadsStepped (λ o xs v ys. ReadsMapInside o xs
-    v.items ys)
-    (g.S.Source.view c.args.reader.now).budget)
-    (StopsOf 5 (g.S.Source.view c.args.reader.now).budget) refl refl
-    (λ none xs. map_no_step (g.S.Source.view c.args.reader.now).budget none xs)
-    c.if-not-step_in.ensures.budget c.step_in.ensures.others)
-
 pub read_value-returns-clause-does : goal.read_value-returns-clause-does
 read_value-returns-clause-does g t c =
     stepped c.if-not-step_in.ensures.budget c.step_in.ensures.others
@@ -362,34 +458,24 @@ open_members-returns-in_err-keep-clause-does g t c =
     c.loop-members.invariant.reached.kept
     (rw c.in_ok-part.ensures at c.is_break.ensures.moves).by) c.in_ok-member.ensures.does.moves.by))
 
-pub read_by_first-returns-in_ok-read_array-in-4-clause-item :
-    goal.read_by_first-returns-in_ok-read_array-in-4-clause-item
-read_by_first-returns-in_ok-read_array-in-4-clause-item g t c =
-    array_item c.in_ok-read_array-in-4.field-0 c.in_ok-read_array-in-4.ensures.items
-
-pub read_by_first-returns-in_ok-read_map-in-5-clause-item :
-    goal.read_by_first-returns-in_ok-read_map-in-5-clause-item
-read_by_first-returns-in_ok-read_map-in-5-clause-item g t c =
-    map_item c.in_ok-read_map-in-5.field-0 c.in_ok-read_map-in-5.ensures.items
-
-pub array_inside-returns-in_err-array_length-clause-items :
-    goal.array_inside-returns-in_err-array_length-clause-items
-array_inside-returns-in_err-array_length-clause-items g t c =
+pub array_inside-returns-in_err-take_array-clause-items :
+    goal.array_inside-returns-in_err-take_array-clause-items
+array_inside-returns-in_err-take_array-clause-items g t c =
     rw c.from_residual.ensures tt
 
-pub array_inside-returns-in_err-array_length-clause-progress :
-    goal.array_inside-returns-in_err-array_length-clause-progress
-array_inside-returns-in_err-array_length-clause-progress g t c =
+pub array_inside-returns-in_err-take_array-clause-progress :
+    goal.array_inside-returns-in_err-take_array-clause-progress
+array_inside-returns-in_err-take_array-clause-progress g t c =
     rw c.from_residual.ensures tt
 
-pub map_inside-returns-in_err-map_length-clause-items :
-    goal.map_inside-returns-in_err-map_length-clause-items
-map_inside-returns-in_err-map_length-clause-items g t c =
+pub map_inside-returns-in_err-take_map-clause-items :
+    goal.map_inside-returns-in_err-take_map-clause-items
+map_inside-returns-in_err-take_map-clause-items g t c =
     rw c.from_residual.ensures tt
 
-pub map_inside-returns-in_err-map_length-clause-progress :
-    goal.map_inside-returns-in_err-map_length-clause-progress
-map_inside-returns-in_err-map_length-clause-progress g t c =
+pub map_inside-returns-in_err-take_map-clause-progress :
+    goal.map_inside-returns-in_err-take_map-clause-progress
+map_inside-returns-in_err-take_map-clause-progress g t c =
     rw c.from_residual.ensures tt
 
 pub open_items-returns-in_err-part-clause-items :
@@ -427,26 +513,6 @@ read_array-returns-then-not-step_in-clause-items g t c = tt
 pub read_array-returns-then-not-step_in-clause-progress :
     goal.read_array-returns-then-not-step_in-clause-progress
 read_array-returns-then-not-step_in-clause-progress g t c = tt
-
-pub read_by_first-returns-in_err-read_array-in-4-clause-item :
-    goal.read_by_first-returns-in_err-read_array-in-4-clause-item
-read_by_first-returns-in_err-read_array-in-4-clause-item g t c =
-    rw c.from_residual.ensures tt
-
-pub read_by_first-returns-in_err-read_array-in-4-clause-progress :
-    goal.read_by_first-returns-in_err-read_array-in-4-clause-progress
-read_by_first-returns-in_err-read_array-in-4-clause-progress g t c =
-    rw c.from_residual.ensures tt
-
-pub read_by_first-returns-in_err-read_map-in-5-clause-item :
-    goal.read_by_first-returns-in_err-read_map-in-5-clause-item
-read_by_first-returns-in_err-read_map-in-5-clause-item g t c =
-    rw c.from_residual-in_err-read_map-in-5.ensures tt
-
-pub read_by_first-returns-in_err-read_map-in-5-clause-progress :
-    goal.read_by_first-returns-in_err-read_map-in-5-clause-progress
-read_by_first-returns-in_err-read_map-in-5-clause-progress g t c =
-    rw c.from_residual-in_err-read_map-in-5.ensures tt
 
 pub read_map-returns-then-not-step_in-clause-items :
     goal.read_map-returns-then-not-step_in-clause-items
@@ -504,38 +570,6 @@ open_items-returns-clause-items g t c = c.loop-items.invariant.items
 pub open_members-returns-clause-items : goal.open_members-returns-clause-items
 open_members-returns-clause-items g t c = c.loop-members.invariant.items
 
-pub array_inside-returns-in-Some-clause-items : goal.array_inside-returns-in-Some-clause-items
-array_inside-returns-in-Some-clause-items g t c = c.counted_items.ensures.items
-
-pub array_inside-returns-in-Some-clause-progress : goal.array_inside-returns-in-Some-clause-progress
-array_inside-returns-in-Some-clause-progress g t c =
-    went_on _ c.counted_items.result _ c.in_ok-array_length.ensures.progress
-    c.counted_items.ensures.does.moves
-
-pub array_inside-returns-in-None-clause-items : goal.array_inside-returns-in-None-clause-items
-array_inside-returns-in-None-clause-items g t c = c.open_items.ensures.items
-
-pub array_inside-returns-in-None-clause-progress : goal.array_inside-returns-in-None-clause-progress
-array_inside-returns-in-None-clause-progress g t c =
-    went_on _ c.open_items.result _ c.in_ok-array_length.ensures.progress
-    c.open_items.ensures.does.moves
-
-pub map_inside-returns-in-Some-clause-items : goal.map_inside-returns-in-Some-clause-items
-map_inside-returns-in-Some-clause-items g t c = c.counted_members.ensures.items
-
-pub map_inside-returns-in-Some-clause-progress : goal.map_inside-returns-in-Some-clause-progress
-map_inside-returns-in-Some-clause-progress g t c =
-    went_on _ c.counted_members.result _ c.in_ok-map_length.ensures.progress
-    c.counted_members.ensures.does.moves
-
-pub map_inside-returns-in-None-clause-items : goal.map_inside-returns-in-None-clause-items
-map_inside-returns-in-None-clause-items g t c = c.open_members.ensures.items
-
-pub map_inside-returns-in-None-clause-progress : goal.map_inside-returns-in-None-clause-progress
-map_inside-returns-in-None-clause-progress g t c =
-    went_on _ c.open_members.result _ c.in_ok-map_length.ensures.progress
-    c.open_members.ensures.does.moves
-
 pub read_array-returns-clause-items : goal.read_array-returns-clause-items
 read_array-returns-clause-items g t c = c.array_inside-outcome.ensures.items
 
@@ -578,16 +612,6 @@ pub read_member-returns-clause-progress : goal.read_member-returns-clause-progre
 read_member-returns-clause-progress g t c =
     omega (arith, c.in_ok-key.ensures.progress, c.in_ok-value.ensures.progress)
 
-pub read_by_first-returns-in_ok-read_array-in-4-clause-progress :
-    goal.read_by_first-returns-in_ok-read_array-in-4-clause-progress
-read_by_first-returns-in_ok-read_array-in-4-clause-progress g t c =
-    c.in_ok-read_array-in-4.ensures.progress
-
-pub read_by_first-returns-in_ok-read_map-in-5-clause-progress :
-    goal.read_by_first-returns-in_ok-read_map-in-5-clause-progress
-read_by_first-returns-in_ok-read_map-in-5-clause-progress g t c =
-    c.in_ok-read_map-in-5.ensures.progress
-
 pub open_items-loop-items-smaller : goal.open_items-loop-items-smaller
 open_items-loop-items-smaller g t c =
     omega (
@@ -604,68 +628,27 @@ open_members-loop-members-smaller g t c =
       c.in_ok-member.ensures.progress,
     )
 
-pub read_by_first-returns-in-6-clause-does : goal.read_by_first-returns-in-6-clause-does
-read_by_first-returns-in-6-clause-does g t c before runs =
-    arm_does c.args.first runs
-    (λ xs v ys. ReadsUnder (g.S.Source.view c.args.reader.now).budget xs v ys)
-    (StopsOf 6 (g.S.Source.view c.args.reader.now).budget)
-    (λ bs ys v h. subst (λ o. ReadsUnder o (c.args.first ∷ bs) v ys)
-    runs.moves.by.budget h)
-    (λ bs z rest h. subst (λ o. StopsUnder o (c.args.first ∷ bs) z rest)
-    runs.moves.by.budget
-    (h c.args.first bs refl c.in-6.is)) c.read_tag.ensures.does
+pub read_tagged-returns-in_err-inner-clause-does :
+    goal.read_tagged-returns-in_err-inner-clause-does
+read_tagged-returns-in_err-inner-clause-does g t c =
+    rw c.from_residual.ensures (tagged_err c.args.number c.in_err-inner.ensures.does)
 
-pub read_by_first-returns-in-6-clause-item : goal.read_by_first-returns-in-6-clause-item
-read_by_first-returns-in-6-clause-item g t c = c.read_tag.ensures.item
+pub read_tagged-returns-in-Ok-clause-does : goal.read_tagged-returns-in-Ok-clause-does
+read_tagged-returns-in-Ok-clause-does g t c =
+    tagged_ok c.args.number (Tag c.args.number c.in-Ok.boxed)
+    (view-Tag c.args.number c.in-Ok.boxed
+    ∙ ap (λ x. tag c.args.number (view x)) c.in-Ok.ensures.ok) c.in_ok-inner.ensures.does
 
-pub read_by_first-returns-in-6-clause-progress : goal.read_by_first-returns-in-6-clause-progress
-read_by_first-returns-in-6-clause-progress g t c = c.read_tag.ensures.progress
+pub read_tag-returns-clause-progress : goal.read_tag-returns-clause-progress
+read_tag-returns-clause-progress g t c =
+    went_on _ c.read_tagged.result _ c.in_ok-number.ensures.progress
+    c.read_tagged.ensures.does.moves
 
-pub read_by_first-returns-in_default-clause-item : goal.read_by_first-returns-in_default-clause-item
-read_by_first-returns-in_default-clause-item g t c = c.read_alone.ensures.item
-
-pub read_by_first-returns-in_default-clause-progress :
-    goal.read_by_first-returns-in_default-clause-progress
-read_by_first-returns-in_default-clause-progress g t c = c.read_alone.ensures.progress
-
-pub read_tag-returns-in_err-number-clause-does : goal.read_tag-returns-in_err-number-clause-does
-read_tag-returns-in_err-number-clause-does g t c =
-    rw c.from_residual.ensures (tag_refused c.in_err-number.ensures.moves
-    c.in_err-number.ensures.stops)
-
-pub read_tag-returns-in_err-inner-clause-does : goal.read_tag-returns-in_err-inner-clause-does
-read_tag-returns-in_err-inner-clause-does g t c =
-    rw c.from_residual-in_err-inner.ensures (tag_stopped c.in_ok-number.number
-    (reached_tag c.in_ok-number.number c.in_ok-number.ensures.moves
-    c.in_ok-number.ensures.sound) c.in_err-inner.ensures.does)
-
-pub read_tag-returns-in-Ok-clause-does : goal.read_tag-returns-in-Ok-clause-does
-read_tag-returns-in-Ok-clause-does g t c =
-    tag_read c.in_ok-number.number (Tag c.in_ok-number.number c.in-Ok.boxed)
-    (view-Tag c.in_ok-number.number c.in-Ok.boxed
-    ∙ ap (λ x. tag c.in_ok-number.number (view x)) c.in-Ok.ensures.ok)
-    (reached_tag c.in_ok-number.number c.in_ok-number.ensures.moves
-    c.in_ok-number.ensures.sound) c.in_ok-inner.ensures.does
-
-pub read_tag-returns-in-Ok-clause-progress : goal.read_tag-returns-in-Ok-clause-progress
-read_tag-returns-in-Ok-clause-progress g t c =
-    omega (
-      arith,
-      c.in_ok-number.ensures.progress,
-      c.in_ok-inner.ensures.progress,
-    )
-
-pub read_tag-returns-clause-does : goal.read_tag-returns-clause-does
-read_tag-returns-clause-does g t c =
-    does_no_memory (ReadsUnder (g.S.Source.view c.args.reader.now).budget)
-    (StopsOf 6 (g.S.Source.view c.args.reader.now).budget) refl (kept_then
-    (reached_tag c.in_ok-number.number c.in_ok-number.ensures.moves
-    c.in_ok-number.ensures.sound).kept c.in_ok-inner.ensures.does.moves.by)
-
-pub read_by_first-returns-in_default-clause-does : goal.read_by_first-returns-in_default-clause-does
-read_by_first-returns-in_default-clause-does g t c before runs =
-    alone_does c.args.first runs
-    (Fits-lt-pow {w = w8} c.ranges.first) c.read_alone.ensures.does
+pub read_tagged-returns-clause-does : goal.read_tagged-returns-clause-does
+read_tagged-returns-clause-does g t c =
+    does_no_memory (ReadsTagged c.args.number (g.S.Source.view c.args.reader.now).budget)
+    (StopsOneValue (g.S.Source.view c.args.reader.now).budget) refl
+    c.in_ok-inner.ensures.does.moves.by
 
 -- ---- as many values as one look decides, and the one behind them
 
@@ -688,35 +671,35 @@ pub items_inside-returns-in_ok-value-in-Some-clause-does :
     goal.items_inside-returns-in_ok-value-in-Some-clause-does
 items_inside-returns-in_ok-value-in-Some-clause-does g t c =
     turn_put Readable StopsOneValue _ _ one_read (1 * c.args.count) c.args.items.now.items
-    c.take_run.new.parts.items c.in-Some.first
-    (run_before Readable c.args.items.now.items c.take_run.new.parts.items c.in-Some.first _
-    c.in-Some.is c.in_ok-first.ensures.puts) c.put_value.new.parts.items c.put_value.result _
+    ⊥ c.take_run.new.parts.items c.in-Some.next
+    (run_before ⊥ Readable c.args.items.now.items c.take_run.new.parts.items c.in-Some.next _
+    c.in-Some.is c.in_ok-next.ensures.puts) c.put_value.new.parts.items c.put_value.result _
     c.put_value.ensures.kept c.put_value.ensures.memory c.in_ok-value-in-Some.ensures.does
 
 pub items_inside-returns-in_err-value-in-Some-clause-does :
     goal.items_inside-returns-in_err-value-in-Some-clause-does
 items_inside-returns-in_err-value-in-Some-clause-does g t c =
-    rw c.from_residual-in_err-value-in-Some.ensures (turn_refused Readable StopsOneValue _ _
-    one_read
-    (1 * c.args.count) c.args.items.now.items c.take_run.new.parts.items c.in-Some.first
-    (run_before Readable c.args.items.now.items c.take_run.new.parts.items c.in-Some.first _
-    c.in-Some.is c.in_ok-first.ensures.puts) _
-    (on_found c.in-Some.first c.in-Some.is c.in_ok-first.ensures.lacks)
+    rw c.from_residual-in_err-value-in-Some.ensures
+    (turn_refused Readable StopsOneValue _ _ one_read (1 * c.args.count) c.args.items.now.items
+    ⊥ c.take_run.new.parts.items c.in-Some.next
+    (run_before ⊥ Readable c.args.items.now.items c.take_run.new.parts.items c.in-Some.next _
+    c.in-Some.is c.in_ok-next.ensures.puts) _
+    (on_found c.in-Some.next c.in-Some.is c.in_ok-next.ensures.lacks)
     c.in_err-value-in-Some.ensures.does)
 
-pub items_inside-returns-in_err-first-clause-does :
-    goal.items_inside-returns-in_err-first-clause-does
-items_inside-returns-in_err-first-clause-does g t c =
+pub items_inside-returns-in_err-next-clause-does :
+    goal.items_inside-returns-in_err-next-clause-does
+items_inside-returns-in_err-next-clause-does g t c =
     rw c.from_residual.ensures (turn_ends Readable StopsOneValue _ _ one_read (1 * c.args.count)
     c.args.items.now.items
-    c.take_run.new.parts.items c.requires (none_under _) c.in_err-first.ensures.puts)
+    c.take_run.new.parts.items c.requires (none_under _) c.in_err-next.ensures.puts)
 
 pub items_inside-returns-in_ok-value-in-Some-clause-items :
     goal.items_inside-returns-in_ok-value-in-Some-clause-items
 items_inside-returns-in_ok-value-in-Some-clause-items g t c =
     put_items c.args.items.now.items c.take_run.new.parts.items c.put_value.new.parts.items
     c.in_ok-value-in-Some.value c.put_value.result
-    c.put_value.ensures.kept c.in_ok-first.ensures.items c.in_ok-value-in-Some.ensures.item
+    c.put_value.ensures.kept c.in_ok-next.ensures.items c.in_ok-value-in-Some.ensures.item
 
 pub more_members-returns-clause-does : goal.more_members-returns-clause-does
 more_members-returns-clause-does g t c =
@@ -736,36 +719,37 @@ more_members-returns-then-not-step_in-clause-does g t c =
 pub members_inside-returns-in_ok-value-in-Some-clause-does :
     goal.members_inside-returns-in_ok-value-in-Some-clause-does
 members_inside-returns-in_ok-value-in-Some-clause-does g t c =
-    turn_put Readable StopsOneValue _ _ one_read (2 * c.args.count) (flat c.args.pairs.now) (flat
-    c.take_run.new.parts) c.in-Some.first
-    (run_before Readable (flat c.args.pairs.now) (flat c.take_run.new.parts) c.in-Some.first _
-    c.in-Some.is c.in_ok-first.ensures.puts) (flat c.put_value.new.parts) c.put_value.result _
+    turn_put Readable StopsOneValue _ _ one_read (2 * c.args.count) (flat c.args.pairs.now)
+    ⊥ (flat
+    c.take_run.new.parts) c.in-Some.next
+    (run_before ⊥ Readable (flat c.args.pairs.now) (flat c.take_run.new.parts) c.in-Some.next _
+    c.in-Some.is c.in_ok-next.ensures.puts) (flat c.put_value.new.parts) c.put_value.result _
     c.put_value.ensures.kept c.put_value.ensures.memory c.in_ok-value-in-Some.ensures.does
 
 pub members_inside-returns-in_err-value-in-Some-clause-does :
     goal.members_inside-returns-in_err-value-in-Some-clause-does
 members_inside-returns-in_err-value-in-Some-clause-does g t c =
-    rw c.from_residual-in_err-value-in-Some.ensures (turn_refused Readable StopsOneValue _ _
-    one_read
-    (2 * c.args.count) (flat c.args.pairs.now) (flat c.take_run.new.parts) c.in-Some.first
-    (run_before Readable (flat c.args.pairs.now) (flat c.take_run.new.parts) c.in-Some.first _
-    c.in-Some.is c.in_ok-first.ensures.puts) _
-    (on_found c.in-Some.first c.in-Some.is c.in_ok-first.ensures.lacks)
+    rw c.from_residual-in_err-value-in-Some.ensures
+    (turn_refused Readable StopsOneValue _ _ one_read (2 * c.args.count) (flat c.args.pairs.now)
+    ⊥ (flat c.take_run.new.parts) c.in-Some.next
+    (run_before ⊥ Readable (flat c.args.pairs.now) (flat c.take_run.new.parts) c.in-Some.next _
+    c.in-Some.is c.in_ok-next.ensures.puts) _
+    (on_found c.in-Some.next c.in-Some.is c.in_ok-next.ensures.lacks)
     c.in_err-value-in-Some.ensures.does)
 
-pub members_inside-returns-in_err-first-clause-does :
-    goal.members_inside-returns-in_err-first-clause-does
-members_inside-returns-in_err-first-clause-does g t c =
+pub members_inside-returns-in_err-next-clause-does :
+    goal.members_inside-returns-in_err-next-clause-does
+members_inside-returns-in_err-next-clause-does g t c =
     rw c.from_residual.ensures (turn_ends Readable StopsOneValue _ _ one_read (2 * c.args.count)
     (flat c.args.pairs.now)
-    (flat c.take_run.new.parts) c.requires (none_under _) c.in_err-first.ensures.puts)
+    (flat c.take_run.new.parts) c.requires (none_under _) c.in_err-next.ensures.puts)
 
 pub members_inside-returns-in_ok-value-in-Some-clause-items :
     goal.members_inside-returns-in_ok-value-in-Some-clause-items
 members_inside-returns-in_ok-value-in-Some-clause-items g t c =
     put_items (flat c.args.pairs.now) (flat c.take_run.new.parts) (flat c.put_value.new.parts)
     c.in_ok-value-in-Some.value c.put_value.result
-    c.put_value.ensures.kept c.in_ok-first.ensures.items c.in_ok-value-in-Some.ensures.item
+    c.put_value.ensures.kept c.in_ok-next.ensures.items c.in_ok-value-in-Some.ensures.item
 
 -- ---- an array whose items are counted
 

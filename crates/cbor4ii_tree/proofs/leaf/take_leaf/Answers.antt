@@ -2,7 +2,8 @@ use Rattle.std.proofs.Common.{◌≡◌, true, refl}
 use Rattle.cbor4ii_tree.specs.Strictly.{ReadsExactlyUnder, StopsExactlyUnder}
 use Rattle.cbor4ii_tree.specs.Valuing.{ReadsUnder, StopsUnder}
 use Rattle.cbor4ii_tree.proofs.values.Leaves.{takes_leaf, takes_exact_leaf, leaf_item, no_content}
-use Rattle.cbor4ii_tree.proofs.values.Leaves.{no_value, undecided}
+use Rattle.cbor4ii_tree.proofs.values.ByHead.{undecided}
+use Rattle.cbor4ii_tree.proofs.values.Leaves.{no_value}
 use Rattle.cbor4ii_tree.proofs.leaf.take_leaf.Goals as goal
 
 pub returns-in-Ok-Whole-clause-takes : goal.returns-in-Ok-Whole-clause-takes
@@ -43,8 +44,10 @@ returns-in-Ok-End-clause-exactly g c exact =
 
 pub returns-in-Ok-Begins-clause-takes : goal.returns-in-Ok-Begins-clause-takes
 returns-in-Ok-Begins-clause-takes g c =
-    undecided _ _ c.in-Ok-Begins.field-0-is c.in-Ok-Begins.ensures.offers
+    undecided _ (c.args.exact ≡ true) ⊥ (λ e. absurd e) _ c.in-Ok-Begins.field-0-is
+    c.in-Ok-Begins.ensures.offers
 
 pub returns-in-Ok-Begins-clause-exactly : goal.returns-in-Ok-Begins-clause-exactly
-returns-in-Ok-Begins-clause-exactly g c exact =
-    undecided _ _ c.in-Ok-Begins.field-0-is c.in-Ok-Begins.ensures.offers
+returns-in-Ok-Begins-clause-exactly g c holds =
+    undecided _ (c.args.exact ≡ true) (Unit {0}) (λ u. holds) _ c.in-Ok-Begins.field-0-is
+    c.in-Ok-Begins.ensures.offers

@@ -6,6 +6,7 @@ use Rattle.cbor4ii_tree.proofs.values.LeafRuns.{takes_before, takes_none, run_no
 use Rattle.cbor4ii_tree.proofs.values.LeafRuns.{run_broke, whole_items, before_items, whole_seen}
 use Rattle.cbor4ii_tree.proofs.values.LeafRuns.{before_seen, none_put, none_seen, still_are}
 use Rattle.cbor4ii_tree.proofs.values.LeafRuns.{none_lacks}
+use Rattle.cbor4ii_tree.proofs.values.Leaves.{shown_can}
 use Rattle.cbor4ii_tree.proofs.run.take_run.Goals as goal
 
 pub returns-in-Ok-Whole : goal.returns-in-Ok-Whole
@@ -34,42 +35,43 @@ returns-in-Ok-Before g c =
     let exact = c.args.exact ≡ true in
     let is = c.in-Ok-Before.field-0-is in
     let size = c.in-Ok-Before.size in
-    let first = c.in-Ok-Before.first in
+    let n = c.in-Ok-Before.next in
     let offers = c.in-Ok-Before.ensures.offers in
     let advance = c.advance-in-Ok-Before.ensures in
-    let seen = before_seen exact _ _ _ size first is offers in
-    let puts = takes_before exact _ _ _ Readable (leaf_readable exact) size first is offers advance
-    in
+    let seen = before_seen exact _ _ _ size n is offers in
+    let puts = takes_before exact _ _ _ Readable (leaf_readable exact) ⊥ (λ e. absurd e) size n is
+    offers advance in
     record {
       puts = puts;
       exactly = λ holds.
-          takes_before exact _ _ _ Exactly (leaf_exactly exact holds) size first is offers advance;
-      items = before_items exact _ _ _ size first is offers;
+          takes_before exact _ _ _ Exactly (leaf_exactly exact holds) (Unit {0}) (λ u. holds) size n
+          is offers advance;
+      items = before_items exact _ _ _ size n is offers;
       few = omega (arith, seen.0);
       lacks = seen.0;
       progress = tt;
       bound = omega (arith, seen.1, advance.bound);
-      can = puts.shows.can;
+      can = shown_can _ ⊥ n _ _ puts.shows;
     }
 
 pub returns-in-Ok-Begins : goal.returns-in-Ok-Begins
 returns-in-Ok-Begins g c =
     let exact = c.args.exact ≡ true in
     let is = c.in-Ok-Begins.field-0-is in
-    let first = c.in-Ok-Begins.first in
+    let n = c.in-Ok-Begins.next in
     let offers = c.in-Ok-Begins.ensures.offers in
-    let same = none_put exact _ _ _ first is offers in
-    let puts = takes_none exact _ _ _ Readable first is offers in
+    let same = none_put exact _ _ _ n is offers in
+    let puts = takes_none exact _ _ _ Readable ⊥ (λ e. absurd e) n is offers in
     let lacks = none_lacks _ _ _ same c.requires in
     record {
       puts = puts;
-      exactly = λ holds. takes_none exact _ _ _ Exactly first is offers;
+      exactly = λ holds. takes_none exact _ _ _ Exactly (Unit {0}) (λ u. holds) n is offers;
       items = still_are same;
       few = omega (arith, lacks);
       lacks = lacks;
       progress = tt;
-      bound = none_seen exact _ _ _ first is offers;
-      can = puts.shows.can;
+      bound = none_seen exact _ _ _ n is offers;
+      can = shown_can _ ⊥ n _ _ puts.shows;
     }
 
 pub returns-in-Ok-NoMemory : goal.returns-in-Ok-NoMemory

@@ -1,0 +1,303 @@
+-- Arrays, maps and tags by their heads, which a look has shown whole.
+use Rattle.std.proofs.Common.{◌≡◌, ℕ, zero, suc, ◌+◌, ◌/◌, ◌≤◌, List, [], ◌∷◌, ◌++◌, length}
+use Rattle.std.proofs.Common.{take, drop, take-append-drop, length-drop, true, Some, IfSome, IsTrue}
+use Rattle.std.proofs.Common.{Result, Ok}
+use Rattle.std.proofs.Common.{refl, sym, ap, ◌∙◌, subst, arith}
+use Rattle.cbor4ii_rw.specs.Reader.{Advances, IsFront, KeepsAllButBudget, Shows, StepsIn, counts}
+use Rattle.cbor4ii_rw.specs.View.{View, Told}
+use Rattle.cbor4ii_rw.specs.declared.error.DecodeError.{DecodeError}
+use Rattle.cbor4ii_items.specs.Head.{IsBytes, head}
+use Rattle.cbor4ii_items.specs.Laws.Heads.{argument_below}
+use Rattle.cbor4ii_items.specs.Laws.Running.{kept_alike, peeked, shows_kept}
+use Rattle.cbor4ii_items.specs.Laws.Steps.{counts_more}
+use Rattle.cbor4ii_items.specs.Moves.{Kept}
+use Rattle.cbor4ii_items.specs.Reading.{Runs, peek_at}
+use Rattle.cbor4ii_tree.specs.Cost.{Budget}
+use Rattle.cbor4ii_tree.specs.Does.{Accepting, Does}
+use Rattle.cbor4ii_tree.specs.Front.{Offers}
+use Rattle.cbor4ii_tree.specs.Leaf.{HeadStands, SeesLeaf, SeesNext, ShowsHead}
+use Rattle.cbor4ii_tree.specs.Leaf.{ShowsNext}
+use Rattle.cbor4ii_tree.specs.Refusal.{value_name}
+use Rattle.cbor4ii_tree.specs.Stops.{Stopping}
+use Rattle.cbor4ii_tree.specs.StopsStrictly.{ShortestAt}
+use Rattle.cbor4ii_tree.specs.declared.leaf.Leaf.{Leaf}
+use Rattle.cbor4ii_tree.specs.declared.leaf.Leaf.TheVariants.{Begins}
+use Rattle.cbor4ii_tree.specs.declared.leaf.Next.{Next}
+use Rattle.cbor4ii_tree.specs.declared.leaf.Head.{Head}
+use Rattle.cbor4ii_tree.proofs.skip_calls.Doing.{Reached, does_after, reached_as}
+use Rattle.cbor4ii_tree.proofs.skip_calls.Doing.{reached_peek}
+use Rattle.cbor4ii_tree.specs.Valuing.{HeadAt}
+use Rattle.cbor4ii_tree.proofs.values.Leaves.{shows_first, some_as}
+
+-- ---- what a look has shown
+
+take_less : (n m : ℕ) (xs : List ℕ) → n ≤ m → take n (take m xs) ≡ take n xs
+take_less zero m xs h = refl
+take_less (suc n) zero xs h = absurd (omega (arith, h))
+take_less (suc n) (suc m) [] h = refl
+take_less (suc n) (suc m) (x ∷ xs) h = ap (λ zs. x ∷ zs) (take_less n m xs (omega (arith, h)))
+
+pub front_shown : (size : ℕ) (shown xs : List ℕ) → size ≤ length shown
+    → take (length shown) xs ≡ shown → take size xs ≡ take size shown
+front_shown size shown xs within e =
+    sym (take_less size (length shown) xs within) ∙ ap (take size) e
+
+head_shown : (exact : Type 0) (major n size : ℕ) {shown : List ℕ} {a m : View} → Shows shown a m
+    → Told a.told (IsFront 1 shown) → HeadStands exact major n size shown
+    → ShowsHead exact major n size a m
+head_shown exact major n size {shown = shown} shows front s = record {
+  kept = shows_kept shows;
+  can = omega (arith, shows.advanceable, s.within);
+  shown = shown;
+  stands = s;
+  begins = λ xs told.
+      let f = front xs told in (
+        shows.told xs told,
+        omega (arith, s.within, f.within),
+        front_shown size shown xs s.within f.begins,
+      );
+}
+
+pub next_shown : (E exact : Type 0) (n : Next) {shown : List ℕ} {a m : View}
+    → Shows shown a m → Told a.told (IsFront 1 shown) → SeesNext exact n shown
+    → ShowsNext E exact n a m
+next_shown E exact n shows front s = record {
+  first = shows_first n.first s.behind shows front s.begins;
+  head =
+      some_as n.head (λ h. head_shown exact (n.first / 32) h.argument h.size shows front) s.head;
+}
+
+loosely : (exact other : Type 0) → (other → exact) → (major n size : ℕ) (shown : List ℕ)
+    → HeadStands exact major n size shown → HeadStands other major n size shown
+loosely exact other f major n size shown s = record {
+  nests = s.nests;
+  within = s.within;
+  some = s.some;
+  fresh = s.fresh;
+  width = s.width;
+  fits = s.fits;
+  least = λ h. s.least (f h);
+  is = s.is;
+}
+
+pub sees_loosely : (exact other : Type 0) → (other → exact) → (n : Next) (shown : List ℕ)
+    → SeesNext exact n shown → SeesNext other n shown
+sees_loosely exact other f n shown s = record {
+  behind = s.behind;
+  begins = s.begins;
+  head =
+      some_as n.head (λ h. loosely exact other f (n.first / 32) h.argument h.size shown) s.head;
+}
+
+-- a look that decides nothing
+pub undecided : (E exact other : Type 0) → (other → exact) → {a m : View} (n : Next)
+    {seen : Leaf} → seen ≡ Begins n → Offers 1 (SeesLeaf exact seen) a m → ShowsNext E other n a m
+undecided E exact other f {a = a} {m = m} n is h =
+    let o = subst (λ s. Offers 1 (SeesLeaf exact s) a m) is h in
+    next_shown E other n o.shows o.front (sees_loosely exact other f n o.shown o.is)
+
+-- ---- a head that was shown
+
+module _ {exact : Type 0} {major n size : ℕ} {a m : View} (s : ShowsHead exact major n size a m)
+  where
+    head_is : Told a.told (λ xs. xs ≡ head major n s.stands.width ++ drop size xs)
+    head_is xs told =
+        sym (take-append-drop size xs)
+        ∙ ap (λ r. r ++ drop size xs) ((s.begins xs told).2 ∙ s.stands.is)
+
+    taken_kept : {c : View} → Advances size m c → Kept a c
+    taken_kept {c = c} adv = record {
+      rest = λ xs told.
+          let b = s.begins xs told in (
+            size,
+            record {
+              left = adv.told xs b.0;
+              within = b.1;
+              bytes = subst IsBytes (sym b.2) s.stands.fresh;
+            },
+          );
+      counted = λ xs told ys left k gone.
+          let b = s.begins xs told in
+          let e : ys ≡ drop size xs = let t = adv.told xs b.0 in cc in
+          let same : 0 + size ≡ k =
+          omega (arith, gone, ap length e, length-drop size xs, b.1) in
+          adv.taken
+          ∙ ap (counts size) (s.kept.counted xs told xs b.0 0 (omega arith))
+          ∙ counts_more 0 size k a.taken same;
+      bound = omega (arith, s.kept.bound, adv.bound);
+      budget = adv.budget ∙ s.kept.budget;
+      failures = adv.failures ∙ s.kept.failures;
+      lends_whole = λ h. adv.lends_whole (s.kept.lends_whole h);
+      remembers = λ h. adv.remembers (s.kept.remembers h);
+      ends_at = adv.ends_at ∙ s.kept.ends_at;
+    }
+
+    -- it was taken
+    pub reached_head : {c : View} → Advances size m c → Reached (HeadAt major n) a c
+    reached_head adv = record {
+      kept = taken_kept adv;
+      at = λ xs told. (
+        drop size xs,
+        adv.told xs (s.begins xs told).0,
+        (s.stands.width, s.stands.fits, head_is xs told),
+      );
+    }
+
+    pub reached_least : {c : View} → exact → Advances size m c → Reached (ShortestAt major n) a c
+    reached_least holds adv = record {
+      kept = taken_kept adv;
+      at = λ xs told. (
+        drop size xs,
+        adv.told xs (s.begins xs told).0,
+        (
+          argument_below s.stands.width n s.stands.fits,
+          head_is xs told
+              ∙ ap (λ w. head major n w ++ drop size xs) (s.stands.least holds),
+        ),
+      );
+    }
+
+-- ---- under a step
+
+pub with_budget : View → Budget → View
+with_budget a budget = record {
+  told = a.told;
+  bound = a.bound;
+  advanceable = a.advanceable;
+  budget = budget;
+  failures = a.failures;
+  taken = a.taken;
+  lends_whole = a.lends_whole;
+  remembers = a.remembers;
+  ends_at = a.ends_at;
+}
+
+pub budget_alone : (a : View) (budget : Budget) → KeepsAllButBudget a (with_budget a budget)
+unfolding with_budget
+budget_alone a budget = record {
+  told = refl;
+  bound = refl;
+  advanceable = refl;
+  failures = refl;
+  taken = refl;
+  lends_whole = refl;
+  remembers = refl;
+  ends_at = refl;
+}
+
+kept_stepped : {a m b : View} → Kept a m → KeepsAllButBudget m b
+    → Kept (with_budget a b.budget) b
+unfolding with_budget
+kept_stepped {a = a} {m = m} {b = b} h k = record {
+  rest = λ xs told.
+      let t = h.rest xs told in
+      (t.0, record { left = k.told ∙ t.1.left; within = t.1.within; bytes = t.1.bytes });
+  counted = λ xs told ys left n gone.
+      k.taken ∙ h.counted xs told ys (sym k.told ∙ left) n gone;
+  bound = omega (arith, h.bound, k.bound);
+  budget = refl;
+  failures = k.failures ∙ h.failures;
+  lends_whole = λ w. subst IsTrue (sym k.lends_whole) (h.lends_whole w);
+  remembers = λ w. subst IsTrue (sym k.remembers) (h.remembers w);
+  ends_at = k.ends_at ∙ h.ends_at;
+}
+
+pub head_stepped : {exact : Type 0} {major n size : ℕ} {a m b : View}
+    → ShowsHead exact major n size a m → KeepsAllButBudget m b
+    → ShowsHead exact major n size (with_budget a b.budget) b
+unfolding with_budget
+head_stepped {a = a} {m = m} {b = b} s k = record {
+  kept = kept_stepped s.kept k;
+  can = omega (arith, s.can, k.advanceable);
+  shown = s.shown;
+  stands = s.stands;
+  begins = λ xs told.
+      let t = s.begins xs told in (k.told ∙ t.0, t.1, t.2);
+}
+
+-- ---- a first byte that was shown
+
+module _ (first : ℕ) {E : Type 0} {a m : View}
+    (s : Runs {V = ℕ} {E = E} (peek_at value_name 1) a m (Ok first)) where
+  -- the look left all where it was
+  pub peeks_here : Runs {V = ℕ} {E = E} (peek_at value_name 1) a a (Ok first)
+  peeks_here = record {
+    moves = record { by = kept_alike a; depth = λ e. refl };
+    answers = λ xs told.
+        let h = s.answers xs told in
+        let q = peeked value_name 1 first xs h.0 h.2 in
+        (xs, told, subst (λ r. peek_at value_name 1 xs ≡ Ok (first, r)) q.2 h.2);
+  }
+
+  -- what a call does behind it
+  pub behind_peeked : {V : Type 0} (A : Budget → Accepting V) (S : Budget → Stopping)
+      {r : Result V (DecodeError E)} {b : View} → Does (A m.budget) (S m.budget) m b r
+      → Does (A a.budget) (S a.budget) a b r
+  behind_peeked A S d =
+      does_after (λ xs ys. xs ≡ ys) (A m.budget) (A a.budget) (S m.budget) (S a.budget)
+      (λ xs ys zs v e h. subst (λ x. A a.budget x v zs) (sym e)
+      (subst (λ o. A o ys v zs) s.moves.by.budget h))
+      (λ xs ys z rest e h. subst (λ x. S a.budget x z rest) (sym e)
+      (subst (λ o. S o ys z rest) s.moves.by.budget h))
+      (reached_as (λ xs ys. (rest : List ℕ) × (xs ≡ first ∷ rest) × (ys ≡ xs)) (λ xs ys. xs ≡ ys)
+      (λ xs ys p. sym p.2) (reached_peek value_name 1 first s)) d
+
+  pub peek_stepped : {b : View} → KeepsAllButBudget m b
+      → Runs {V = ℕ} {E = E} (peek_at value_name 1) (with_budget a b.budget) b (Ok first)
+  unfolding with_budget
+  peek_stepped k = record {
+    moves = record { by = kept_stepped s.moves.by k; depth = λ e. refl };
+    answers = λ xs told.
+        let t = s.answers xs told in (t.0, k.told ∙ t.1, t.2);
+  }
+
+  pub peek_step : (b : View) → StepsIn m.budget b.budget true
+      → StepsIn a.budget (with_budget a b.budget).budget true
+  unfolding with_budget
+  peek_step b h = subst (λ o. StepsIn o b.budget true) s.moves.by.budget h
+
+-- ---- what a look has shown
+
+module _ {E exact : Type 0} (n : Next) {a m : View} (s : ShowsNext E exact n a m) where
+  -- its first byte
+  pub peeks_next : Runs {V = ℕ} {E = E} (peek_at value_name 1) a a (Ok n.first)
+  peeks_next = peeks_here n.first s.first.runs
+
+  -- what a call does behind it
+  pub behind_next : {V : Type 0} (A : Budget → Accepting V) (S : Budget → Stopping)
+      {r : Result V (DecodeError E)} {b : View} → Does (A m.budget) (S m.budget) m b r
+      → Does (A a.budget) (S a.budget) a b r
+  behind_next A S d = behind_peeked n.first s.first.runs A S d
+
+  -- under a step
+  pub next_stepped : {b : View} → KeepsAllButBudget m b
+      → ShowsNext E exact n (with_budget a b.budget) b
+  next_stepped k = record {
+    first = record {
+      runs = peek_stepped n.first s.first.runs k;
+      can = omega (arith, s.first.can, k.advanceable);
+    };
+    head = some_as n.head (λ h shown. head_stepped shown k) s.head;
+  }
+
+  -- the step is one of the view before the look
+  pub next_step : (b : View) → StepsIn m.budget b.budget true
+      → StepsIn a.budget (with_budget a b.budget).budget true
+  next_step b h = peek_step n.first s.first.runs b h
+
+  -- its head
+  module _ (h : Head) (is : n.head ≡ Some h) where
+    head_shows : ShowsHead exact (n.first / 32) h.argument h.size a m
+    head_shows =
+        subst (λ o. IfSome o (λ h. ShowsHead exact (n.first / 32) h.argument h.size a m)) is s.head
+
+    -- it was taken
+    pub takes_head : (major : ℕ) {c : View} → n.first / 32 ≡ major → Advances h.size m c
+        → Reached (HeadAt major h.argument) a c
+    takes_head major {c = c} e adv =
+        subst (λ j. Reached (HeadAt j h.argument) a c) e (reached_head head_shows adv)
+
+    pub takes_least : (major : ℕ) {c : View} → exact → n.first / 32 ≡ major → Advances h.size m c
+        → Reached (ShortestAt major h.argument) a c
+    takes_least major {c = c} holds e adv =
+        subst (λ j. Reached (ShortestAt j h.argument) a c) e (reached_least head_shows holds adv)
