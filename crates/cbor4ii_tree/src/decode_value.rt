@@ -1,8 +1,8 @@
 //! Values, read.
 //!
 //! Each level of arrays, maps and tags takes one small frame of the stack: their loops and
-//! `read_tagged` stay out of line, and what leads from one of them to another is inline. What a loop
-//! answers is opened where it comes back (`Some(..?)`), so that it is handed up in registers.
+//! `read_tagged` stay out of line, and what leads from one of them to another is inline. What a
+//! loop answers is opened where it comes back (`Some(..?)`), so that it is handed up in registers.
 ghost use Rattle.std.specs.Prelude.{◌≡◌, ◌+◌, ◌-◌, ◌*◌, ◌<◌, ◌≤◌, ◌/◌, ◌⊎◌, OnOk, IfOk, IfErr};
 ghost use Rattle.std.specs.Prelude.{true, false, length};
 ghost use Rattle.std.specs.Prelude.{OnSome, IfSome};
