@@ -89,7 +89,7 @@ pub record RefusesMemory (exact : Type 0) (size : ℕ) (shown : List ℕ) : Type
 abbrev pub PutsRun : Type 0 → ℕ → List Value → List Value → Ran → List ℕ → Type 0
 PutsRun exact full before after (run.Whole size) shown =
     PutsWhole exact full size shown before after
-PutsRun exact full before after (run.Before size n) shown =
+PutsRun exact full before after (run.Before n size) shown =
     PutsBefore exact full size n shown before after
 PutsRun exact full before after (run.Begins n) shown = (after ≡ before) × SeesNext exact n shown
 PutsRun exact full before after (run.NoMemory size) shown = RefusesMemory exact size shown

@@ -9,7 +9,7 @@ use Rattle.cbor4ii_items.specs.Initial.{Simple, simple_byte}
 use Rattle.std.specs.declared.vec.Vec.{Vec}
 use Rattle.std.specs.declared.alloc.Global.{Global}
 use Rattle.cbor4ii_tree.specs.Does.{Accepting}
-use Rattle.cbor4ii_tree.specs.declared.value.Value.{Value}
+use Rattle.cbor4ii_tree.specs.declared.value.Value.{Value, Array, Map}
 use Rattle.cbor4ii_tree.specs.Item.{tag}
 use Rattle.cbor4ii_tree.specs.Tree.{Tree, Trees, Pairs, count, pair_count}
 use Rattle.cbor4ii_tree.specs.Tree.{bytes, bytes_all, bytes_pairs}
@@ -111,6 +111,15 @@ ReadsStepped reads budget xs v ys =
 abbrev pub ReadsVec : {T : Type 0} → (Budget → Accepting (List T)) →
     Budget → Accepting (Vec T Global)
 ReadsVec reads budget xs v ys = reads budget xs v.items ys
+
+-- an array of such items, and a map of such pairs
+abbrev pub MakesArray : (Budget → Accepting (List Value)) → Budget → Accepting Value
+MakesArray reads budget xs v ys =
+    (items : Vec Value Global) × (v ≡ Array items) × reads budget xs items.items ys
+
+abbrev pub MakesMap : (Budget → Accepting (List (Value × Value))) → Budget → Accepting Value
+MakesMap reads budget xs v ys =
+    (pairs : Vec (Value × Value) Global) × (v ≡ Map pairs) × reads budget xs pairs.items ys
 
 -- a head of this major type with this argument, and what stands behind it
 abbrev pub HeadAt : ℕ → ℕ → List ℕ → List ℕ → Type 0

@@ -2,7 +2,7 @@
 //!
 //! Each level of arrays, maps and tags takes one small frame of the stack: their loops and
 //! `read_tagged` stay out of line, and what leads from one of them to another is inline. What a
-//! loop answers is opened where it comes back (`Some(..?)`), so that it is handed up in registers.
+//! loop answers is made a value where it comes back, so that each level has one place for it.
 ghost use Rattle.std.specs.Prelude.{◌≡◌, ◌+◌, ◌-◌, ◌*◌, ◌<◌, ◌≤◌, ◌/◌, ◌⊎◌, OnOk, IfOk, IfErr};
 ghost use Rattle.std.specs.Prelude.{true, false, length};
 ghost use Rattle.std.specs.Prelude.{OnSome, IfSome};
@@ -14,6 +14,7 @@ ghost use Rattle.cbor4ii_tree.specs.Valuing.{ReadsOpenItems, StopsOpenItems, Rea
 ghost use Rattle.cbor4ii_tree.specs.Valuing.{ReadsMembers, StopsMembers, ReadsOpenMembers};
 ghost use Rattle.cbor4ii_tree.specs.Valuing.{StopsOpenMembers, ReadsMember, StopsMember};
 ghost use Rattle.cbor4ii_tree.specs.Valuing.{ReadsTagged, TakesLength, TakesSimple, TakesTag};
+ghost use Rattle.cbor4ii_tree.specs.Valuing.{MakesArray, MakesMap};
 ghost use Rattle.cbor4ii_tree.specs.Leaf.{CanTake, DoesBehindNext};
 ghost use Rattle.cbor4ii_tree.specs.LeafRuns.{flat, KeepsItems, PutsItems, PutsItemsUnder};
 ghost use Rattle.cbor4ii_tree.specs.LeafRuns.{StopsItemsUnder};
@@ -99,6 +100,7 @@ impl Spelled for Value {
 ///
 /// `OutOfMemory` only where a growth was refused, and `Read` only where the reader failed.
 impl<S: Source> Decode<S> for Value {
+    #[inline(always)]
     fn decode(alloc: Global, reader: &mut S) -> Result<Value, DecodeError<S::Error>>
         ensures moves { Moves (S.view reader.old) (S.view reader.new) result }
         ensures progress { OnOk result ((S.view reader.new).bound + 1 ≤ (S.view reader.old).bound) }
@@ -121,7 +123,7 @@ impl<S: Source> Decode<S> for Value {
         ensures canonical { CanonicalReads (S.view reader.old) result }
     {
         let mut failure = None;
-        let value = read_value(alloc, reader, &mut failure);
+        let value = read_outermost(alloc, reader, &mut failure);
         whole(value, &mut failure)
     }
 
@@ -132,6 +134,43 @@ impl<S: Source> Decode<S> for Value {
     ghost positive = { value_positive };
 
     ghost alone = { value_alone };
+}
+
+/// Reads one value that stands in no other. What is under its step stays out of line, so that a
+/// caller takes the step and the answer in its own frame.
+#[inline(always)]
+fn read_outermost<S: Source>(
+    alloc: Global,
+    reader: &mut S,
+    failure: &mut Option<DecodeError<S::Error>>,
+) -> Option<Value>
+    ensures does { DoesUnder ReadsOneValue StopsOneValue (S.view reader.old) (S.view reader.new)
+        (answered result failure.new) }
+    ensures item { IfSome result (λ v. IsItem (view v)) }
+    ensures progress { OnSome result ((S.view reader.new).bound + 1 ≤ (S.view reader.old).bound) }
+{
+    if !reader.step_in() {
+        leave_deep("value", failure);
+        return None;
+    }
+    let outcome = read_apart(alloc, reader, failure);
+    reader.step_out();
+    outcome
+}
+
+/// Reads one value under a step that was taken.
+#[inline(never)]
+fn read_apart<S: Source>(
+    alloc: Global,
+    reader: &mut S,
+    failure: &mut Option<DecodeError<S::Error>>,
+) -> Option<Value>
+    ensures does { DoesUnder ReadsUnder StopsUnder (S.view reader.old) (S.view reader.new)
+        (answered result failure.new) }
+    ensures item { IfSome result (λ v. IsItem (view v)) }
+    ensures progress { OnSome result ((S.view reader.new).bound + 1 ≤ (S.view reader.old).bound) }
+{
+    read_inside(alloc, reader, failure)
 }
 
 /// Reads one value. Where it does not, the refusal goes to `failure`, which is left empty where
@@ -192,8 +231,8 @@ fn read_next<S: Source>(
     ensures progress { OnSome result ((S.view reader.new).bound + 1 ≤ (S.view reader.old).bound) }
 {
     match next.first / 32 {
-        major::ARRAY => Some(Value::Array(read_array(alloc, reader, next, failure)?)),
-        major::MAP => Some(Value::Map(read_map(alloc, reader, next, failure)?)),
+        major::ARRAY => read_array(alloc, reader, next, failure),
+        major::MAP => read_map(alloc, reader, next, failure),
         major::TAG => read_tag(alloc, reader, next, failure),
         _ => read_alone(alloc, reader, next.first, failure),
     }
@@ -347,12 +386,12 @@ fn read_array<S: Source>(
     reader: &mut S,
     next: Next,
     failure: &mut Option<DecodeError<S::Error>>,
-) -> Option<Vec<Value>>
+) -> Option<Value>
     requires can { CanTake next (S.view reader.old) }
     requires major { next.first / 32 ≡ 4 }
-    ensures does { DoesBehindNext ⊥ next (ReadsStepped (ReadsVec ReadsArrayInside)) (StopsOf 4)
+    ensures does { DoesBehindNext ⊥ next (ReadsStepped (MakesArray ReadsArrayInside)) (StopsOf 4)
         (S.view reader.old) (S.view reader.new) (answered result failure.new) }
-    ensures items { IfSome result (λ v. AreItems (items_view v.items)) }
+    ensures item { IfSome result (λ v. IsItem (view v)) }
     ensures progress { OnSome result ((S.view reader.new).bound + 1 ≤ (S.view reader.old).bound) }
 {
     if !reader.step_in() {
@@ -371,18 +410,18 @@ fn array_inside<S: Source>(
     reader: &mut S,
     next: Next,
     failure: &mut Option<DecodeError<S::Error>>,
-) -> Option<Vec<Value>>
+) -> Option<Value>
     requires can { CanTake next (S.view reader.old) }
     requires major { next.first / 32 ≡ 4 }
-    ensures does { DoesBehindNext ⊥ next (ReadsVec ReadsArrayInside) (StopsMajor 4)
+    ensures does { DoesBehindNext ⊥ next (MakesArray ReadsArrayInside) (StopsMajor 4)
         (S.view reader.old) (S.view reader.new) (answered result failure.new) }
-    ensures items { IfSome result (λ v. AreItems (items_view v.items)) }
+    ensures item { IfSome result (λ v. IsItem (view v)) }
     ensures progress { OnSome result ((S.view reader.new).bound + 1 ≤ (S.view reader.old).bound) }
 {
     match take_array(reader, next, failure)? {
-        Some(0) => Some(Vec::new(alloc)),
-        Some(count) => Some(counted_items(alloc, reader, count, failure)?),
-        None => Some(open_items(alloc, reader, failure)?),
+        Some(0) => Some(Value::Array(Vec::new(alloc))),
+        Some(count) => Some(Value::Array(counted_items(alloc, reader, count, failure)?)),
+        None => Some(Value::Array(open_items(alloc, reader, failure)?)),
     }
 }
 
@@ -597,12 +636,12 @@ fn read_map<S: Source>(
     reader: &mut S,
     next: Next,
     failure: &mut Option<DecodeError<S::Error>>,
-) -> Option<Vec<(Value, Value)>>
+) -> Option<Value>
     requires can { CanTake next (S.view reader.old) }
     requires major { next.first / 32 ≡ 5 }
-    ensures does { DoesBehindNext ⊥ next (ReadsStepped (ReadsVec ReadsMapInside)) (StopsOf 5)
+    ensures does { DoesBehindNext ⊥ next (ReadsStepped (MakesMap ReadsMapInside)) (StopsOf 5)
         (S.view reader.old) (S.view reader.new) (answered result failure.new) }
-    ensures items { IfSome result (λ v. AreMembers (members_view v.items)) }
+    ensures item { IfSome result (λ v. IsItem (view v)) }
     ensures progress { OnSome result ((S.view reader.new).bound + 1 ≤ (S.view reader.old).bound) }
 {
     if !reader.step_in() {
@@ -621,18 +660,18 @@ fn map_inside<S: Source>(
     reader: &mut S,
     next: Next,
     failure: &mut Option<DecodeError<S::Error>>,
-) -> Option<Vec<(Value, Value)>>
+) -> Option<Value>
     requires can { CanTake next (S.view reader.old) }
     requires major { next.first / 32 ≡ 5 }
-    ensures does { DoesBehindNext ⊥ next (ReadsVec ReadsMapInside) (StopsMajor 5)
+    ensures does { DoesBehindNext ⊥ next (MakesMap ReadsMapInside) (StopsMajor 5)
         (S.view reader.old) (S.view reader.new) (answered result failure.new) }
-    ensures items { IfSome result (λ v. AreMembers (members_view v.items)) }
+    ensures item { IfSome result (λ v. IsItem (view v)) }
     ensures progress { OnSome result ((S.view reader.new).bound + 1 ≤ (S.view reader.old).bound) }
 {
     match take_map(reader, next, failure)? {
-        Some(0) => Some(Vec::new(alloc)),
-        Some(count) => Some(counted_members(alloc, reader, count, failure)?),
-        None => Some(open_members(alloc, reader, failure)?),
+        Some(0) => Some(Value::Map(Vec::new(alloc))),
+        Some(count) => Some(Value::Map(counted_members(alloc, reader, count, failure)?)),
+        None => Some(Value::Map(open_members(alloc, reader, failure)?)),
     }
 }
 

@@ -20,8 +20,8 @@ use std::alloc::Global;
 pub(crate) enum Ran {
     /// Values, in so many bytes.
     Whole(usize),
-    /// Values in so many bytes, and behind them one that is not decided here.
-    Before(usize, Next),
+    /// One that is not decided here, behind values in so many bytes.
+    Before(Next, usize),
     /// None: the value that comes next is not decided here.
     Begins(Next),
     /// Values, and one for which there was no memory, when so many bytes were decided.
@@ -145,7 +145,7 @@ pub(crate) fn take_run<S: Source, P: Parts>(
             reader.advance(size);
             Some(None)
         }
-        Ok(Ran::Before(size, next)) => {
+        Ok(Ran::Before(next, size)) => {
             reader.advance(size);
             Some(Some(next))
         }
@@ -227,7 +227,7 @@ fn put_run<P: Parts>(alloc: Global, shown: &[u8], exact: bool, most: usize, part
             Leaf::NoMemory(bytes) => return Ran::NoMemory(size + bytes),
             Leaf::End => return Ran::Whole(size),
             Leaf::Begins(next) if size == 0 => return Ran::Begins(next),
-            Leaf::Begins(next) => return Ran::Before(size, next),
+            Leaf::Begins(next) => return Ran::Before(next, size),
         }
     }
     Ran::Whole(size)

@@ -475,7 +475,7 @@ module _ (exact : Type 0) (full : ℕ) (before after : List Value) {E : Type 0} 
       puts_taken Whole f 1 size o.shows o.front o.is.puts adv
 
   pub takes_before : (Whole : Budget → Tree → Type 0) → LeafIs exact Whole → (other : Type 0)
-      → (other → exact) → (size : ℕ) (n : Next) {seen : Ran} → seen ≡ run.Before size n
+      → (other → exact) → (size : ℕ) (n : Next) {seen : Ran} → seen ≡ run.Before n size
       → Offers 1 (PutsRun exact full before after seen) a m → Advances size m b
       → RunsBefore E other Whole n before after a b
   takes_before Whole f other g size n is h adv =
@@ -537,7 +537,7 @@ module _ (exact : Type 0) (full : ℕ) (before after : List Value) {a m : View} 
       behind_are exact before after
       (subst (λ s. Offers 1 (PutsRun exact full before after s) a m) is h).is.puts
 
-  pub before_items : (size : ℕ) (n : Next) {seen : Ran} → seen ≡ run.Before size n
+  pub before_items : (size : ℕ) (n : Next) {seen : Ran} → seen ≡ run.Before n size
       → Offers 1 (PutsRun exact full before after seen) a m → KeepsItems before after
   before_items size n is h =
       behind_are exact before after
@@ -550,7 +550,7 @@ module _ (exact : Type 0) (full : ℕ) (before after : List Value) {a m : View} 
       let o = subst (λ s. Offers 1 (PutsRun exact full before after s) a m) is h in
       (o.is.some, o.is.few, o.shows.bound)
 
-  pub before_seen : (size : ℕ) (n : Next) {seen : Ran} → seen ≡ run.Before size n
+  pub before_seen : (size : ℕ) (n : Next) {seen : Ran} → seen ≡ run.Before n size
       → Offers 1 (PutsRun exact full before after seen) a m
       → (length after < full) × (m.bound ≤ a.bound)
   before_seen size n is h =

@@ -35,7 +35,7 @@ use Rattle.cbor4ii_tree.specs.StopsReading.{Readable, ReadingStopsBy, StopsReadi
 use Rattle.cbor4ii_tree.specs.View.{view, items_view, members_view}
 use Rattle.cbor4ii_tree.specs.Does.{Accepting, Does, answered}
 use Rattle.cbor4ii_tree.specs.Valuing.{HeadAt, ReadsOneValue, StopsOneValue, ReadsUnder}
-use Rattle.cbor4ii_tree.specs.Valuing.{StopsUnder, TakesLength}
+use Rattle.cbor4ii_tree.specs.Valuing.{MakesArray, MakesMap, StopsUnder, TakesLength}
 use Rattle.cbor4ii_tree.specs.Valuing.{ReadsItems, StopsItems, ReadsOpenItems, StopsOpenItems}
 use Rattle.cbor4ii_tree.specs.Valuing.{ReadsMembers, ReadsOpenMembers, StopsOpenMembers}
 use Rattle.cbor4ii_tree.specs.Valuing.{ReadsMember, StopsMember, StopsMembers, ReadsArrayInside}
@@ -537,3 +537,35 @@ module _ {V : Type 0} (reads : Budget → Accepting V) (stops : Budget → Stopp
   ends B T f d =
       does_err P (reads m.budget) B (stops m.budget) T (λ xs ys z rest h s.
       f xs ys z rest h (subst (λ o. stops o ys z rest) p.kept.budget s)) p d
+
+-- ---- as a value
+
+pub made_array : {E : Type 0} (v : Vec Value Global) {S : Stopping} {a b : View}
+    → Does {E = E} (λ xs u ys. ReadsArrayInside a.budget xs u.items ys) S a b (Ok v)
+    → Does {E = E} (MakesArray ReadsArrayInside a.budget) S a b (Ok (Array v))
+made_array v {S = S} {a = a} d =
+    does_ok (MakesArray ReadsArrayInside a.budget) S
+    (reached_as (λ xs ys. ReadsArrayInside a.budget xs v.items ys)
+    (λ xs ys. MakesArray ReadsArrayInside a.budget xs (Array v) ys) (λ xs ys h. (v, refl, h))
+    (reached_by d))
+
+pub made_map : {E : Type 0} (v : Vec (Value × Value) Global) {S : Stopping} {a b : View}
+    → Does {E = E} (λ xs u ys. ReadsMapInside a.budget xs u.items ys) S a b (Ok v)
+    → Does {E = E} (MakesMap ReadsMapInside a.budget) S a b (Ok (Map v))
+made_map v {S = S} {a = a} d =
+    does_ok (MakesMap ReadsMapInside a.budget) S
+    (reached_as (λ xs ys. ReadsMapInside a.budget xs v.items ys)
+    (λ xs ys. MakesMap ReadsMapInside a.budget xs (Map v) ys) (λ xs ys h. (v, refl, h))
+    (reached_by d))
+
+pub array_makes : (inner : Budget) (w : Value) (xs ys : List ℕ)
+    → ReadsStepped (MakesArray ReadsArrayInside) inner xs w ys → ReadsUnder inner xs w ys
+array_makes inner w xs ys h =
+    subst (λ u. ReadsUnder inner xs u ys) (sym h.2.1)
+    (array_reads inner h.2.0 xs ys (h.0, h.1, h.2.2))
+
+pub map_makes : (inner : Budget) (w : Value) (xs ys : List ℕ)
+    → ReadsStepped (MakesMap ReadsMapInside) inner xs w ys → ReadsUnder inner xs w ys
+map_makes inner w xs ys h =
+    subst (λ u. ReadsUnder inner xs u ys) (sym h.2.1)
+    (map_reads inner h.2.0 xs ys (h.0, h.1, h.2.2))

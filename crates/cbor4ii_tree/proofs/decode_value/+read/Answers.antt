@@ -2,7 +2,7 @@ use Rattle.std.proofs.Common.{length, Some, inl, refl, ap, subst, arith, ◌-◌
 use Rattle.std.proofs.Common.{◌∙◌, ◌∷◌, ◌≡◌}
 use Rattle.cbor4ii_tree.specs.Does.{refusal_left}
 use Rattle.cbor4ii_tree.specs.Valuing.{ReadsOneValue, StopsOneValue, ReadsMember, StopsMember}
-use Rattle.cbor4ii_tree.specs.Valuing.{TakesLength, TakesTag}
+use Rattle.cbor4ii_tree.specs.Valuing.{MakesArray, MakesMap, TakesLength, TakesTag}
 use Rattle.cbor4ii_tree.specs.Valuing.{ReadsTagged, StopsMembers, ReadsStepped, StopsOf, ReadsItems}
 use Rattle.cbor4ii_tree.specs.Valuing.{ReadsArrayInside, ReadsMapInside, StopsMajor}
 use Rattle.cbor4ii_tree.specs.Valuing.{ReadsMembers, ReadsOpenItems, StopsOpenItems}
@@ -24,8 +24,8 @@ use Rattle.cbor4ii_tree.proofs.values.Sequences.{major_stepped, array_no_step, m
 use Rattle.cbor4ii_tree.proofs.values.Sequences.{none_follow, some_follow}
 use Rattle.cbor4ii_tree.proofs.skip_calls.Doing.{still_refused}
 use Rattle.cbor4ii_tree.proofs.values.Sequences.{array_counted, array_of_none, array_opened}
-use Rattle.cbor4ii_tree.proofs.values.Sequences.{array_reads}
-use Rattle.cbor4ii_tree.proofs.values.Sequences.{map_counted, map_of_none, map_opened, map_reads}
+use Rattle.cbor4ii_tree.proofs.values.Sequences.{array_makes, made_array, made_map, map_makes}
+use Rattle.cbor4ii_tree.proofs.values.Sequences.{map_counted, map_of_none, map_opened}
 use Rattle.cbor4ii_tree.proofs.values.Sequences.{each_none}
 use Rattle.cbor4ii_tree.proofs.values.Sequences.{each_more, open_end, open_stop, open_done}
 use Rattle.cbor4ii_tree.proofs.values.Sequences.{pairs_none, pairs_more, members_end, pair_stop}
@@ -50,110 +50,82 @@ use Rattle.cbor4ii_tree.proofs.decode_value.+read.Goals as goal
 
 pub array_inside-returns-in-Some-eq0-clause-does : goal.array_inside-returns-in-Some-eq0-clause-does
 array_inside-returns-in-Some-eq0-clause-does g t c before shows =
-    array_counted 0 (some_follow 4 0 (c.in-Some-eq0.is ∙ ap Some c.in-Some-eq0.field-0-test)
+    made_array c.new.result (array_counted 0
+    (some_follow 4 0 (c.in-Some-eq0.is ∙ ap Some c.in-Some-eq0.field-0-test)
     (c.in_ok-take_array.ensures.does before shows))
-    (array_of_none c.new.result (cc))
+    (array_of_none c.new.result (cc)))
+
+pub array_inside-returns-in-Some-eq0-clause-item : goal.array_inside-returns-in-Some-eq0-clause-item
+array_inside-returns-in-Some-eq0-clause-item g t c = array_item c.new.result (items_none (cc))
 
 pub array_inside-returns-in_ok-counted_items-in-Some-clause-does :
     goal.array_inside-returns-in_ok-counted_items-in-Some-clause-does
 array_inside-returns-in_ok-counted_items-in-Some-clause-does g t c before shows =
-    array_counted c.in-Some.count
+    made_array c.in_ok-counted_items-in-Some.field-0 (array_counted c.in-Some.count
     (some_follow 4 c.in-Some.count c.in-Some.is (c.in_ok-take_array.ensures.does before shows))
-    c.in_ok-counted_items-in-Some.ensures.does
+    c.in_ok-counted_items-in-Some.ensures.does)
+
+pub array_inside-returns-in_ok-counted_items-in-Some-clause-item :
+    goal.array_inside-returns-in_ok-counted_items-in-Some-clause-item
+array_inside-returns-in_ok-counted_items-in-Some-clause-item g t c =
+    array_item c.in_ok-counted_items-in-Some.field-0 c.in_ok-counted_items-in-Some.ensures.items
+
+pub array_inside-returns-in_ok-counted_items-in-Some-clause-progress :
+    goal.array_inside-returns-in_ok-counted_items-in-Some-clause-progress
+array_inside-returns-in_ok-counted_items-in-Some-clause-progress g t c =
+    omega (arith, c.in_ok-take_array.ensures.progress,
+    c.in_ok-counted_items-in-Some.ensures.does.moves.by.bound)
 
 pub array_inside-returns-in_err-counted_items-in-Some-clause-does :
     goal.array_inside-returns-in_err-counted_items-in-Some-clause-does
 array_inside-returns-in_err-counted_items-in-Some-clause-does g t c before shows =
-    rw c.from_residual-in_err-counted_items-in-Some.ensures (array_counted c.in-Some.count
+    rw c.from_residual-in_err-counted_items-in-Some.ensures
+    (still_refused (λ xs v ys. ReadsArrayInside before.budget xs v.items ys)
+    (MakesArray ReadsArrayInside before.budget) (StopsMajor 4 before.budget)
+    (StopsMajor 4 before.budget)
+    (λ xs z rest h. h) (array_counted c.in-Some.count
     (some_follow 4 c.in-Some.count c.in-Some.is (c.in_ok-take_array.ensures.does before shows))
-    c.in_err-counted_items-in-Some.ensures.does)
+    c.in_err-counted_items-in-Some.ensures.does))
 
 pub array_inside-returns-in_ok-open_items-in-None-clause-does :
     goal.array_inside-returns-in_ok-open_items-in-None-clause-does
 array_inside-returns-in_ok-open_items-in-None-clause-does g t c before shows =
-    array_opened (none_follow 4 c.in-None.is (c.in_ok-take_array.ensures.does before shows))
-    c.in_ok-open_items-in-None.ensures.does
+    made_array c.in_ok-open_items-in-None.field-0
+    (array_opened (none_follow 4 c.in-None.is (c.in_ok-take_array.ensures.does before shows))
+    c.in_ok-open_items-in-None.ensures.does)
+
+pub array_inside-returns-in_ok-open_items-in-None-clause-item :
+    goal.array_inside-returns-in_ok-open_items-in-None-clause-item
+array_inside-returns-in_ok-open_items-in-None-clause-item g t c =
+    array_item c.in_ok-open_items-in-None.field-0 c.in_ok-open_items-in-None.ensures.items
+
+pub array_inside-returns-in_ok-open_items-in-None-clause-progress :
+    goal.array_inside-returns-in_ok-open_items-in-None-clause-progress
+array_inside-returns-in_ok-open_items-in-None-clause-progress g t c =
+    omega (arith, c.in_ok-take_array.ensures.progress,
+    c.in_ok-open_items-in-None.ensures.does.moves.by.bound)
 
 pub array_inside-returns-in_err-open_items-in-None-clause-does :
     goal.array_inside-returns-in_err-open_items-in-None-clause-does
 array_inside-returns-in_err-open_items-in-None-clause-does g t c before shows =
     rw c.from_residual-in_err-open_items-in-None.ensures
+    (still_refused (λ xs v ys. ReadsArrayInside before.budget xs v.items ys)
+    (MakesArray ReadsArrayInside before.budget) (StopsMajor 4 before.budget)
+    (StopsMajor 4 before.budget)
+    (λ xs z rest h. h)
     (array_opened (none_follow 4 c.in-None.is (c.in_ok-take_array.ensures.does before shows))
-    c.in_err-open_items-in-None.ensures.does)
+    c.in_err-open_items-in-None.ensures.does))
 
-pub map_inside-returns-in-Some-eq0-clause-does : goal.map_inside-returns-in-Some-eq0-clause-does
-map_inside-returns-in-Some-eq0-clause-does g t c before shows =
-    map_counted 0 (some_follow 5 0 (c.in-Some-eq0.is ∙ ap Some c.in-Some-eq0.field-0-test)
-    (c.in_ok-take_map.ensures.does before shows))
-    (map_of_none c.new.result (cc))
-
-pub map_inside-returns-in_ok-counted_members-in-Some-clause-does :
-    goal.map_inside-returns-in_ok-counted_members-in-Some-clause-does
-map_inside-returns-in_ok-counted_members-in-Some-clause-does g t c before shows =
-    map_counted c.in-Some.count
-    (some_follow 5 c.in-Some.count c.in-Some.is (c.in_ok-take_map.ensures.does before shows))
-    c.in_ok-counted_members-in-Some.ensures.does
-
-pub map_inside-returns-in_err-counted_members-in-Some-clause-does :
-    goal.map_inside-returns-in_err-counted_members-in-Some-clause-does
-map_inside-returns-in_err-counted_members-in-Some-clause-does g t c before shows =
-    rw c.from_residual-in_err-counted_members-in-Some.ensures (map_counted c.in-Some.count
-    (some_follow 5 c.in-Some.count c.in-Some.is (c.in_ok-take_map.ensures.does before shows))
-    c.in_err-counted_members-in-Some.ensures.does)
-
-pub map_inside-returns-in_ok-open_members-in-None-clause-does :
-    goal.map_inside-returns-in_ok-open_members-in-None-clause-does
-map_inside-returns-in_ok-open_members-in-None-clause-does g t c before shows =
-    map_opened (none_follow 5 c.in-None.is (c.in_ok-take_map.ensures.does before shows))
-    c.in_ok-open_members-in-None.ensures.does
-
-pub map_inside-returns-in_err-open_members-in-None-clause-does :
-    goal.map_inside-returns-in_err-open_members-in-None-clause-does
-map_inside-returns-in_err-open_members-in-None-clause-does g t c before shows =
-    rw c.from_residual-in_err-open_members-in-None.ensures
-    (map_opened (none_follow 5 c.in-None.is (c.in_ok-take_map.ensures.does before shows))
-    c.in_err-open_members-in-None.ensures.does)
-
-pub read_next-returns-in_ok-read_array-in-4-clause-does :
-    goal.read_next-returns-in_ok-read_array-in-4-clause-does
-read_next-returns-in_ok-read_array-in-4-clause-does g t c before shows =
-    arm_ok c.args.next.first (peeks_next c.args.next shows)
-    (ReadsStepped (λ o xs v ys. ReadsArrayInside o xs v.items ys) before.budget)
-    (StopsOf 4 before.budget) (Array c.in_ok-read_array-in-4.field-0)
-    (λ bs ys h. array_reads before.budget c.in_ok-read_array-in-4.field-0
-    (c.args.next.first ∷ bs) ys h)
-    (c.in_ok-read_array-in-4.ensures.does before shows)
-
-pub read_next-returns-in_err-read_array-in-4-clause-does :
-    goal.read_next-returns-in_err-read_array-in-4-clause-does
-read_next-returns-in_err-read_array-in-4-clause-does g t c before shows =
-    rw c.from_residual.ensures (arm_err c.args.next.first (peeks_next c.args.next shows)
-    (ReadsStepped (λ o xs v ys. ReadsArrayInside o xs v.items ys) before.budget)
-    (StopsOf 4 before.budget) (λ bs z rest h. h c.args.next.first bs refl c.in-4.is)
-    (c.in_err-read_array-in-4.ensures.does before shows))
-
-pub read_next-returns-in_ok-read_array-in-4-clause-item :
-    goal.read_next-returns-in_ok-read_array-in-4-clause-item
-read_next-returns-in_ok-read_array-in-4-clause-item g t c =
-    array_item c.in_ok-read_array-in-4.field-0 c.in_ok-read_array-in-4.ensures.items
-
-pub read_next-returns-in_err-read_array-in-4-clause-item :
-    goal.read_next-returns-in_err-read_array-in-4-clause-item
-read_next-returns-in_err-read_array-in-4-clause-item g t c = rw c.from_residual.ensures tt
-
-pub read_next-returns-in_ok-read_array-in-4-clause-progress :
-    goal.read_next-returns-in_ok-read_array-in-4-clause-progress
-read_next-returns-in_ok-read_array-in-4-clause-progress g t c =
-    c.in_ok-read_array-in-4.ensures.progress
-
-pub read_next-returns-in_err-read_array-in-4-clause-progress :
-    goal.read_next-returns-in_err-read_array-in-4-clause-progress
-read_next-returns-in_err-read_array-in-4-clause-progress g t c =
-    rw c.from_residual.ensures tt
+pub array_inside-returns-in_err-take_array-clause-does :
+    goal.array_inside-returns-in_err-take_array-clause-does
+array_inside-returns-in_err-take_array-clause-does g t c before shows =
+    rw c.from_residual.ensures (still_refused (TakesLength 4 before.budget)
+    (MakesArray ReadsArrayInside before.budget) (StopsMajor 4 before.budget)
+    (StopsMajor 4 before.budget) (λ xs z rest h. h) (c.in_err-take_array.ensures.does before shows))
 
 pub read_array-returns-clause-does : goal.read_array-returns-clause-does
 read_array-returns-clause-does g t c before shows =
-    major_stepped (λ o xs v ys. ReadsArrayInside o xs v.items ys) 4
+    major_stepped (MakesArray ReadsArrayInside) 4
     (next_step c.args.next shows (g.S.Source.view c.step_in.new.self)
     c.if-not-step_in.ensures.budget) (budget_alone before _)
     (c.array_inside-outcome.ensures.does
@@ -165,61 +137,120 @@ pub read_array-returns-then-not-step_in-clause-does :
     goal.read_array-returns-then-not-step_in-clause-does
 read_array-returns-then-not-step_in-clause-does g t c before shows =
     let budget = (g.S.Source.view c.args.reader.now).budget in
-    rw c.leave_deep.ensures (behind_next c.args.next shows
-    (ReadsStepped (λ o xs v ys. ReadsArrayInside o xs v.items ys)) (StopsOf 4)
-    (does_no_step array_name (ReadsStepped (λ o xs v ys. ReadsArrayInside o xs v.items ys) budget)
-    (StopsOf 4 budget) refl refl (λ none xs. array_no_step budget none xs)
-    c.if-not-step_in.ensures.budget c.step_in.ensures.others))
+    let accepts = ReadsStepped (MakesArray ReadsArrayInside) in
+    rw c.leave_deep.ensures (behind_next c.args.next shows accepts (StopsOf 4)
+    (does_no_step array_name (accepts budget) (StopsOf 4 budget) refl refl
+    (λ none xs. array_no_step budget none xs) c.if-not-step_in.ensures.budget
+    c.step_in.ensures.others))
 
-pub array_inside-returns-in_err-take_array-clause-does :
-    goal.array_inside-returns-in_err-take_array-clause-does
-array_inside-returns-in_err-take_array-clause-does g t c before shows =
-    rw c.from_residual.ensures (still_refused (TakesLength 4 before.budget)
-    (λ xs v ys. ReadsArrayInside before.budget xs v.items ys) (StopsMajor 4 before.budget)
-    (StopsMajor 4 before.budget) (λ xs z rest h. h) (c.in_err-take_array.ensures.does before shows))
+pub read_array-returns-clause-item : goal.read_array-returns-clause-item
+read_array-returns-clause-item g t c = c.array_inside-outcome.ensures.item
 
-pub read_next-returns-in_ok-read_map-in-5-clause-does :
-    goal.read_next-returns-in_ok-read_map-in-5-clause-does
-read_next-returns-in_ok-read_map-in-5-clause-does g t c before shows =
-    arm_ok c.args.next.first (peeks_next c.args.next shows)
-    (ReadsStepped (λ o xs v ys. ReadsMapInside o xs v.items ys) before.budget)
-    (StopsOf 5 before.budget) (Map c.in_ok-read_map-in-5.field-0)
-    (λ bs ys h. map_reads before.budget c.in_ok-read_map-in-5.field-0
-    (c.args.next.first ∷ bs) ys h)
-    (c.in_ok-read_map-in-5.ensures.does before shows)
+pub read_array-returns-clause-progress : goal.read_array-returns-clause-progress
+read_array-returns-clause-progress g t c =
+    around _ _ _ _ _ c.step_in.ensures.others.bound c.step_out.ensures.others.bound
+    c.array_inside-outcome.ensures.progress
 
-pub read_next-returns-in_err-read_map-in-5-clause-does :
-    goal.read_next-returns-in_err-read_map-in-5-clause-does
-read_next-returns-in_err-read_map-in-5-clause-does g t c before shows =
-    rw c.from_residual-in_err-read_map-in-5.ensures
-    (arm_err c.args.next.first (peeks_next c.args.next shows)
-    (ReadsStepped (λ o xs v ys. ReadsMapInside o xs v.items ys) before.budget)
-    (StopsOf 5 before.budget) (λ bs z rest h. h c.args.next.first bs refl c.in-5.is)
-    (c.in_err-read_map-in-5.ensures.does before shows))
+pub read_array-returns-then-not-step_in-clause-item :
+    goal.read_array-returns-then-not-step_in-clause-item
+read_array-returns-then-not-step_in-clause-item g t c = tt
 
-pub read_next-returns-in_ok-read_map-in-5-clause-item :
-    goal.read_next-returns-in_ok-read_map-in-5-clause-item
-read_next-returns-in_ok-read_map-in-5-clause-item g t c =
-    map_item c.in_ok-read_map-in-5.field-0 c.in_ok-read_map-in-5.ensures.items
+pub read_array-returns-then-not-step_in-clause-progress :
+    goal.read_array-returns-then-not-step_in-clause-progress
+read_array-returns-then-not-step_in-clause-progress g t c = tt
 
-pub read_next-returns-in_err-read_map-in-5-clause-item :
-    goal.read_next-returns-in_err-read_map-in-5-clause-item
-read_next-returns-in_err-read_map-in-5-clause-item g t c =
-    rw c.from_residual-in_err-read_map-in-5.ensures tt
+pub read_next-returns-in-4-clause-does : goal.read_next-returns-in-4-clause-does
+read_next-returns-in-4-clause-does g t c before shows =
+    arm_does c.args.next.first (peeks_next c.args.next shows)
+    (ReadsStepped (MakesArray ReadsArrayInside) before.budget) (StopsOf 4 before.budget)
+    (λ bs ys v h. array_makes before.budget v (c.args.next.first ∷ bs) ys h)
+    (λ bs z rest h. h c.args.next.first bs refl c.in-4.is)
+    (c.read_array.ensures.does before shows)
 
-pub read_next-returns-in_ok-read_map-in-5-clause-progress :
-    goal.read_next-returns-in_ok-read_map-in-5-clause-progress
-read_next-returns-in_ok-read_map-in-5-clause-progress g t c =
-    c.in_ok-read_map-in-5.ensures.progress
+pub read_next-returns-in-4-clause-item : goal.read_next-returns-in-4-clause-item
+read_next-returns-in-4-clause-item g t c = c.read_array.ensures.item
 
-pub read_next-returns-in_err-read_map-in-5-clause-progress :
-    goal.read_next-returns-in_err-read_map-in-5-clause-progress
-read_next-returns-in_err-read_map-in-5-clause-progress g t c =
-    rw c.from_residual-in_err-read_map-in-5.ensures tt
+pub read_next-returns-in-4-clause-progress : goal.read_next-returns-in-4-clause-progress
+read_next-returns-in-4-clause-progress g t c = c.read_array.ensures.progress
+
+pub map_inside-returns-in-Some-eq0-clause-does : goal.map_inside-returns-in-Some-eq0-clause-does
+map_inside-returns-in-Some-eq0-clause-does g t c before shows =
+    made_map c.new.result (map_counted 0
+    (some_follow 5 0 (c.in-Some-eq0.is ∙ ap Some c.in-Some-eq0.field-0-test)
+    (c.in_ok-take_map.ensures.does before shows))
+    (map_of_none c.new.result (cc)))
+
+pub map_inside-returns-in-Some-eq0-clause-item : goal.map_inside-returns-in-Some-eq0-clause-item
+map_inside-returns-in-Some-eq0-clause-item g t c = map_item c.new.result (members_none_are (cc))
+
+pub map_inside-returns-in_ok-counted_members-in-Some-clause-does :
+    goal.map_inside-returns-in_ok-counted_members-in-Some-clause-does
+map_inside-returns-in_ok-counted_members-in-Some-clause-does g t c before shows =
+    made_map c.in_ok-counted_members-in-Some.field-0 (map_counted c.in-Some.count
+    (some_follow 5 c.in-Some.count c.in-Some.is (c.in_ok-take_map.ensures.does before shows))
+    c.in_ok-counted_members-in-Some.ensures.does)
+
+pub map_inside-returns-in_ok-counted_members-in-Some-clause-item :
+    goal.map_inside-returns-in_ok-counted_members-in-Some-clause-item
+map_inside-returns-in_ok-counted_members-in-Some-clause-item g t c =
+    map_item c.in_ok-counted_members-in-Some.field-0 c.in_ok-counted_members-in-Some.ensures.items
+
+pub map_inside-returns-in_ok-counted_members-in-Some-clause-progress :
+    goal.map_inside-returns-in_ok-counted_members-in-Some-clause-progress
+map_inside-returns-in_ok-counted_members-in-Some-clause-progress g t c =
+    omega (arith, c.in_ok-take_map.ensures.progress,
+    c.in_ok-counted_members-in-Some.ensures.does.moves.by.bound)
+
+pub map_inside-returns-in_err-counted_members-in-Some-clause-does :
+    goal.map_inside-returns-in_err-counted_members-in-Some-clause-does
+map_inside-returns-in_err-counted_members-in-Some-clause-does g t c before shows =
+    rw c.from_residual-in_err-counted_members-in-Some.ensures
+    (still_refused (λ xs v ys. ReadsMapInside before.budget xs v.items ys)
+    (MakesMap ReadsMapInside before.budget) (StopsMajor 5 before.budget)
+    (StopsMajor 5 before.budget)
+    (λ xs z rest h. h) (map_counted c.in-Some.count
+    (some_follow 5 c.in-Some.count c.in-Some.is (c.in_ok-take_map.ensures.does before shows))
+    c.in_err-counted_members-in-Some.ensures.does))
+
+pub map_inside-returns-in_ok-open_members-in-None-clause-does :
+    goal.map_inside-returns-in_ok-open_members-in-None-clause-does
+map_inside-returns-in_ok-open_members-in-None-clause-does g t c before shows =
+    made_map c.in_ok-open_members-in-None.field-0
+    (map_opened (none_follow 5 c.in-None.is (c.in_ok-take_map.ensures.does before shows))
+    c.in_ok-open_members-in-None.ensures.does)
+
+pub map_inside-returns-in_ok-open_members-in-None-clause-item :
+    goal.map_inside-returns-in_ok-open_members-in-None-clause-item
+map_inside-returns-in_ok-open_members-in-None-clause-item g t c =
+    map_item c.in_ok-open_members-in-None.field-0 c.in_ok-open_members-in-None.ensures.items
+
+pub map_inside-returns-in_ok-open_members-in-None-clause-progress :
+    goal.map_inside-returns-in_ok-open_members-in-None-clause-progress
+map_inside-returns-in_ok-open_members-in-None-clause-progress g t c =
+    omega (arith, c.in_ok-take_map.ensures.progress,
+    c.in_ok-open_members-in-None.ensures.does.moves.by.bound)
+
+pub map_inside-returns-in_err-open_members-in-None-clause-does :
+    goal.map_inside-returns-in_err-open_members-in-None-clause-does
+map_inside-returns-in_err-open_members-in-None-clause-does g t c before shows =
+    rw c.from_residual-in_err-open_members-in-None.ensures
+    (still_refused (λ xs v ys. ReadsMapInside before.budget xs v.items ys)
+    (MakesMap ReadsMapInside before.budget) (StopsMajor 5 before.budget)
+    (StopsMajor 5 before.budget)
+    (λ xs z rest h. h)
+    (map_opened (none_follow 5 c.in-None.is (c.in_ok-take_map.ensures.does before shows))
+    c.in_err-open_members-in-None.ensures.does))
+
+pub map_inside-returns-in_err-take_map-clause-does :
+    goal.map_inside-returns-in_err-take_map-clause-does
+map_inside-returns-in_err-take_map-clause-does g t c before shows =
+    rw c.from_residual.ensures (still_refused (TakesLength 5 before.budget)
+    (MakesMap ReadsMapInside before.budget) (StopsMajor 5 before.budget)
+    (StopsMajor 5 before.budget) (λ xs z rest h. h) (c.in_err-take_map.ensures.does before shows))
 
 pub read_map-returns-clause-does : goal.read_map-returns-clause-does
 read_map-returns-clause-does g t c before shows =
-    major_stepped (λ o xs v ys. ReadsMapInside o xs v.items ys) 5
+    major_stepped (MakesMap ReadsMapInside) 5
     (next_step c.args.next shows (g.S.Source.view c.step_in.new.self)
     c.if-not-step_in.ensures.budget) (budget_alone before _)
     (c.map_inside-outcome.ensures.does
@@ -231,18 +262,41 @@ pub read_map-returns-then-not-step_in-clause-does :
     goal.read_map-returns-then-not-step_in-clause-does
 read_map-returns-then-not-step_in-clause-does g t c before shows =
     let budget = (g.S.Source.view c.args.reader.now).budget in
-    rw c.leave_deep.ensures (behind_next c.args.next shows
-    (ReadsStepped (λ o xs v ys. ReadsMapInside o xs v.items ys)) (StopsOf 5)
-    (does_no_step map_name (ReadsStepped (λ o xs v ys. ReadsMapInside o xs v.items ys) budget)
-    (StopsOf 5 budget) refl refl (λ none xs. map_no_step budget none xs)
-    c.if-not-step_in.ensures.budget c.step_in.ensures.others))
+    let accepts = ReadsStepped (MakesMap ReadsMapInside) in
+    rw c.leave_deep.ensures (behind_next c.args.next shows accepts (StopsOf 5)
+    (does_no_step map_name (accepts budget) (StopsOf 5 budget) refl refl
+    (λ none xs. map_no_step budget none xs) c.if-not-step_in.ensures.budget
+    c.step_in.ensures.others))
 
-pub map_inside-returns-in_err-take_map-clause-does :
-    goal.map_inside-returns-in_err-take_map-clause-does
-map_inside-returns-in_err-take_map-clause-does g t c before shows =
-    rw c.from_residual.ensures (still_refused (TakesLength 5 before.budget)
-    (λ xs v ys. ReadsMapInside before.budget xs v.items ys) (StopsMajor 5 before.budget)
-    (StopsMajor 5 before.budget) (λ xs z rest h. h) (c.in_err-take_map.ensures.does before shows))
+pub read_map-returns-clause-item : goal.read_map-returns-clause-item
+read_map-returns-clause-item g t c = c.map_inside-outcome.ensures.item
+
+pub read_map-returns-clause-progress : goal.read_map-returns-clause-progress
+read_map-returns-clause-progress g t c =
+    around _ _ _ _ _ c.step_in.ensures.others.bound c.step_out.ensures.others.bound
+    c.map_inside-outcome.ensures.progress
+
+pub read_map-returns-then-not-step_in-clause-item :
+    goal.read_map-returns-then-not-step_in-clause-item
+read_map-returns-then-not-step_in-clause-item g t c = tt
+
+pub read_map-returns-then-not-step_in-clause-progress :
+    goal.read_map-returns-then-not-step_in-clause-progress
+read_map-returns-then-not-step_in-clause-progress g t c = tt
+
+pub read_next-returns-in-5-clause-does : goal.read_next-returns-in-5-clause-does
+read_next-returns-in-5-clause-does g t c before shows =
+    arm_does c.args.next.first (peeks_next c.args.next shows)
+    (ReadsStepped (MakesMap ReadsMapInside) before.budget) (StopsOf 5 before.budget)
+    (λ bs ys v h. map_makes before.budget v (c.args.next.first ∷ bs) ys h)
+    (λ bs z rest h. h c.args.next.first bs refl c.in-5.is)
+    (c.read_map.ensures.does before shows)
+
+pub read_next-returns-in-5-clause-item : goal.read_next-returns-in-5-clause-item
+read_next-returns-in-5-clause-item g t c = c.read_map.ensures.item
+
+pub read_next-returns-in-5-clause-progress : goal.read_next-returns-in-5-clause-progress
+read_next-returns-in-5-clause-progress g t c = c.read_map.ensures.progress
 
 pub read_next-returns-in-6-clause-does : goal.read_next-returns-in-6-clause-does
 read_next-returns-in-6-clause-does g t c before shows =
@@ -458,26 +512,6 @@ open_members-returns-in_err-keep-clause-does g t c =
     c.loop-members.invariant.reached.kept
     (rw c.in_ok-part.ensures at c.is_break.ensures.moves).by) c.in_ok-member.ensures.does.moves.by))
 
-pub array_inside-returns-in_err-take_array-clause-items :
-    goal.array_inside-returns-in_err-take_array-clause-items
-array_inside-returns-in_err-take_array-clause-items g t c =
-    rw c.from_residual.ensures tt
-
-pub array_inside-returns-in_err-take_array-clause-progress :
-    goal.array_inside-returns-in_err-take_array-clause-progress
-array_inside-returns-in_err-take_array-clause-progress g t c =
-    rw c.from_residual.ensures tt
-
-pub map_inside-returns-in_err-take_map-clause-items :
-    goal.map_inside-returns-in_err-take_map-clause-items
-map_inside-returns-in_err-take_map-clause-items g t c =
-    rw c.from_residual.ensures tt
-
-pub map_inside-returns-in_err-take_map-clause-progress :
-    goal.map_inside-returns-in_err-take_map-clause-progress
-map_inside-returns-in_err-take_map-clause-progress g t c =
-    rw c.from_residual.ensures tt
-
 pub open_items-returns-in_err-part-clause-items :
     goal.open_items-returns-in_err-part-clause-items
 open_items-returns-in_err-part-clause-items g t c =
@@ -505,22 +539,6 @@ pub open_members-returns-in_err-keep-clause-items :
     goal.open_members-returns-in_err-keep-clause-items
 open_members-returns-in_err-keep-clause-items g t c =
     rw c.from_residual-in_err-keep.ensures tt
-
-pub read_array-returns-then-not-step_in-clause-items :
-    goal.read_array-returns-then-not-step_in-clause-items
-read_array-returns-then-not-step_in-clause-items g t c = tt
-
-pub read_array-returns-then-not-step_in-clause-progress :
-    goal.read_array-returns-then-not-step_in-clause-progress
-read_array-returns-then-not-step_in-clause-progress g t c = tt
-
-pub read_map-returns-then-not-step_in-clause-items :
-    goal.read_map-returns-then-not-step_in-clause-items
-read_map-returns-then-not-step_in-clause-items g t c = tt
-
-pub read_map-returns-then-not-step_in-clause-progress :
-    goal.read_map-returns-then-not-step_in-clause-progress
-read_map-returns-then-not-step_in-clause-progress g t c = tt
 
 pub read_member-returns-in_err-key-clause-key : goal.read_member-returns-in_err-key-clause-key
 read_member-returns-in_err-key-clause-key g t c =
@@ -569,22 +587,6 @@ open_items-returns-clause-items g t c = c.loop-items.invariant.items
 
 pub open_members-returns-clause-items : goal.open_members-returns-clause-items
 open_members-returns-clause-items g t c = c.loop-members.invariant.items
-
-pub read_array-returns-clause-items : goal.read_array-returns-clause-items
-read_array-returns-clause-items g t c = c.array_inside-outcome.ensures.items
-
-pub read_array-returns-clause-progress : goal.read_array-returns-clause-progress
-read_array-returns-clause-progress g t c =
-    around _ _ _ _ _ c.step_in.ensures.others.bound c.step_out.ensures.others.bound
-    c.array_inside-outcome.ensures.progress
-
-pub read_map-returns-clause-items : goal.read_map-returns-clause-items
-read_map-returns-clause-items g t c = c.map_inside-outcome.ensures.items
-
-pub read_map-returns-clause-progress : goal.read_map-returns-clause-progress
-read_map-returns-clause-progress g t c =
-    around _ _ _ _ _ c.step_in.ensures.others.bound c.step_out.ensures.others.bound
-    c.map_inside-outcome.ensures.progress
 
 pub read_value-returns-clause-item : goal.read_value-returns-clause-item
 read_value-returns-clause-item g t c = c.read_inside-outcome.ensures.item

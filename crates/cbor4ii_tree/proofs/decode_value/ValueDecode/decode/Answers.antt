@@ -6,70 +6,72 @@ use Rattle.cbor4ii_tree.proofs.values.Answered.{told_if, told_on}
 use Rattle.cbor4ii_tree.proofs.decode_value.ValueDecode.decode.Goals as goal
 
 pub returns-clause-moves : goal.returns-clause-moves
-returns-clause-moves g c = rw c.whole.ensures c.read_value-value.ensures.does.moves
+returns-clause-moves g c = rw c.whole.ensures c.read_outermost-value.ensures.does.moves
 
 pub returns-clause-progress : goal.returns-clause-progress
 returns-clause-progress g c =
-    rw c.whole.ensures (told_on c.read_value-value.result _ _ c.read_value-value.ensures.progress)
+    rw c.whole.ensures (told_on c.read_outermost-value.result _ _
+    c.read_outermost-value.ensures.progress)
 
 pub returns-clause-item : goal.returns-clause-item
 returns-clause-item g c =
-    rw c.whole.ensures (told_if c.read_value-value.result _ _ c.read_value-value.ensures.item)
+    rw c.whole.ensures (told_if c.read_outermost-value.result _ _
+    c.read_outermost-value.ensures.item)
 
 pub returns-clause-sound : goal.returns-clause-sound
 returns-clause-sound g c =
-    rw c.whole.ensures (value_sound _ c.read_value-value.ensures.does)
+    rw c.whole.ensures (value_sound _ c.read_outermost-value.ensures.does)
 
 pub returns-clause-complete : goal.returns-clause-complete
 returns-clause-complete g c =
-    rw c.whole.ensures (value_refuses _ c.read_value-value.ensures.does)
+    rw c.whole.ensures (value_refuses _ c.read_outermost-value.ensures.does)
 
 pub returns-clause-stops : goal.returns-clause-stops
 returns-clause-stops g c =
-    rw c.whole.ensures (value_stops _ c.read_value-value.ensures.does)
+    rw c.whole.ensures (value_stops _ c.read_outermost-value.ensures.does)
 
 pub returns-clause-only : goal.returns-clause-only
 returns-clause-only g c =
-    rw c.whole.ensures (only_reads _ c.read_value-value.ensures.does)
+    rw c.whole.ensures (only_reads _ c.read_outermost-value.ensures.does)
 
 pub returns-clause-all : goal.returns-clause-all
 returns-clause-all g c =
-    rw c.whole.ensures (all_reads _ c.read_value-value.ensures.does)
+    rw c.whole.ensures (all_reads _ c.read_outermost-value.ensures.does)
 
 pub returns-clause-front : goal.returns-clause-front
 returns-clause-front g c =
-    rw c.whole.ensures (front_reads _ c.read_value-value.ensures.does)
+    rw c.whole.ensures (front_reads _ c.read_outermost-value.ensures.does)
 
 pub returns-clause-eof : goal.returns-clause-eof
 returns-clause-eof g c =
-    rw c.whole.ensures (eof_reads _ c.read_value-value.ensures.does)
+    rw c.whole.ensures (eof_reads _ c.read_outermost-value.ensures.does)
 
 pub returns-clause-depth : goal.returns-clause-depth
 returns-clause-depth g c =
-    rw c.whole.ensures (depth_reads _ c.read_value-value.ensures.does)
+    rw c.whole.ensures (depth_reads _ c.read_outermost-value.ensures.does)
 
 pub returns-clause-never : goal.returns-clause-never
 returns-clause-never g c =
-    rw c.whole.ensures (final_reads _ c.read_value-value.ensures.does)
+    rw c.whole.ensures (final_reads _ c.read_outermost-value.ensures.does)
 
 pub returns-clause-others : goal.returns-clause-others
 returns-clause-others g c =
-    rw c.whole.ensures (others_reads _ c.read_value-value.ensures.does)
+    rw c.whole.ensures (others_reads _ c.read_outermost-value.ensures.does)
 
 pub returns-clause-size : goal.returns-clause-size
 returns-clause-size g c =
-    rw c.whole.ensures (size_reads _ c.read_value-value.ensures.does)
+    rw c.whole.ensures (size_reads _ c.read_outermost-value.ensures.does)
 
 pub returns-clause-exact : goal.returns-clause-exact
 returns-clause-exact g c =
-    rw c.whole.ensures (exact_reads _ c.read_value-value.ensures.does)
+    rw c.whole.ensures (exact_reads _ c.read_outermost-value.ensures.does)
 
 pub returns-clause-skips : goal.returns-clause-skips
 returns-clause-skips g c =
-    rw c.whole.ensures (skips_reads _ c.read_value-value.ensures.does)
+    rw c.whole.ensures (skips_reads _ c.read_outermost-value.ensures.does)
 
 pub returns-clause-canonical : goal.returns-clause-canonical
 returns-clause-canonical g c =
-    rw c.whole.ensures (canonical_reads _ c.read_value-value.ensures.does (told_if
-    c.read_value-value.result _ _
-    c.read_value-value.ensures.item))
+    rw c.whole.ensures (canonical_reads _ c.read_outermost-value.ensures.does (told_if
+    c.read_outermost-value.result _ _
+    c.read_outermost-value.ensures.item))

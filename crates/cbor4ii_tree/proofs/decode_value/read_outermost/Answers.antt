@@ -1,0 +1,36 @@
+use Rattle.std.proofs.Common.{refl}
+use Rattle.cbor4ii_tree.specs.Refusal.{value_name}
+use Rattle.cbor4ii_tree.specs.Valuing.{ReadsOneValue, StopsOneValue}
+use Rattle.cbor4ii_tree.proofs.skip_calls.Doing.{does_no_step}
+use Rattle.cbor4ii_tree.proofs.values.Answered.{around}
+use Rattle.cbor4ii_tree.proofs.values.Calls.{stepped}
+use Rattle.cbor4ii_tree.proofs.decode_value.read_outermost.Goals as goal
+
+pub returns-clause-does : goal.returns-clause-does
+returns-clause-does g c =
+    stepped c.if-not-step_in.ensures.budget c.step_in.ensures.others
+    c.read_apart-outcome.ensures.does c.step_out.ensures.budget c.step_out.ensures.others
+
+pub returns-then-not-step_in-clause-item :
+    goal.returns-then-not-step_in-clause-item
+returns-then-not-step_in-clause-item g c = tt
+
+pub returns-then-not-step_in-clause-progress :
+    goal.returns-then-not-step_in-clause-progress
+returns-then-not-step_in-clause-progress g c = tt
+
+pub returns-clause-item : goal.returns-clause-item
+returns-clause-item g c = c.read_apart-outcome.ensures.item
+
+pub returns-clause-progress : goal.returns-clause-progress
+returns-clause-progress g c =
+    around _ _ _ _ _ c.step_in.ensures.others.bound c.step_out.ensures.others.bound
+    c.read_apart-outcome.ensures.progress
+
+pub returns-then-not-step_in-clause-does :
+    goal.returns-then-not-step_in-clause-does
+returns-then-not-step_in-clause-does g c =
+    rw c.leave_deep.ensures (does_no_step value_name (ReadsOneValue (g.S.Source.view
+    c.args.reader.now).budget)
+    (StopsOneValue (g.S.Source.view c.args.reader.now).budget) refl refl
+    (λ none xs. rw none (refl, refl)) c.if-not-step_in.ensures.budget c.step_in.ensures.others)
