@@ -27,7 +27,7 @@ use Rattle.cbor4ii.specs.Stepped.{Stepped}
 use Rattle.cbor4ii.specs.Tuples.{pair_laws}
 use Rattle.cbor4ii.specs.Typed.{Lawful, as_core}
 use Rattle.cbor4ii.proofs.Looking.{Saw, none_begins}
-use Rattle.cbor4ii_items.specs.Laws.SequenceParts.{always}
+use Rattle.cbor4ii.specs.Laws.PartsRead.{always}
 
 pub formed_sound : {W : Type 0} (reads : Reads W) (form : W → Value) {a b : View} {w : W}
     {v : Value} → v ≡ form w → Sound reads a b w → Sound (Formed reads form) a b v

@@ -28,8 +28,10 @@ use Rattle.cbor4ii.specs.AnyStops.{StopsBignum, KindStops, AnyStops, AnyStopsAt,
 use Rattle.cbor4ii.specs.Stepped.{StopsStepped}
 use Rattle.cbor4ii.specs.Typed.{as_core, no_number}
 use Rattle.cbor4ii.proofs.Looking.{Saw}
-use Rattle.cbor4ii_items.specs.Laws.SequenceParts.{Begun, Opened, Stands, stops_as}
-use Rattle.cbor4ii_items.specs.Laws.SequenceInside.{Counts, Opens}
+use Rattle.cbor4ii_items.specs.Laws.Calls.{stops_as}
+use Rattle.cbor4ii_items.specs.Laws.SequenceParts.{Stands}
+use Rattle.cbor4ii.specs.Laws.PartsRead.{Begun, Opened}
+use Rattle.cbor4ii.specs.Laws.SequencesRead.{Counts, Opens}
 use Rattle.cbor4ii.proofs.Steps.{stops_stepped}
 use Rattle.cbor4ii.proofs.Stopped.{stopped_as}
 

@@ -12,8 +12,8 @@ use Rattle.cbor4ii_items.specs.Next.{StopsNext}
 use Rattle.cbor4ii_items.specs.Refusal.{Refusal, refusal_of, is_read}
 use Rattle.cbor4ii_items.specs.Sequences.{StopsPair}
 use Rattle.cbor4ii_items.specs.Laws.Containers.{not_null}
-use Rattle.cbor4ii_items.specs.Laws.Pairs.{value_stops_pair}
-use Rattle.cbor4ii_items.specs.Laws.SequenceParts.{stops_as}
+use Rattle.cbor4ii.specs.Laws.PairsRead.{value_stops_pair}
+use Rattle.cbor4ii_items.specs.Laws.Calls.{stops_as}
 use Rattle.cbor4ii_items.specs.Laws.Answering.{not_read, kept_of}
 use Rattle.cbor4ii.specs.declared.serde.de.error.DecodeError.{DecodeError as Typed}
 use Rattle.cbor4ii.specs.Stepped.{StopsStepped}

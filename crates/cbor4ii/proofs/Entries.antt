@@ -13,8 +13,8 @@ use Rattle.cbor4ii.specs.declared.serde.de.accessor.Left.TheVariants.{Counted, O
 use Rattle.cbor4ii.specs.Accessing.{Next, StopsElement}
 use Rattle.cbor4ii.proofs.Going.{part_of, part_start}
 use Rattle.cbor4ii.proofs.Stopped.{stopped_as}
-use Rattle.cbor4ii_items.specs.Laws.Pairs.{pair_sound, key_less, value_less, value_stops_pair}
-use Rattle.cbor4ii_items.specs.Laws.SequenceParts.{stops_as}
+use Rattle.cbor4ii.specs.Laws.PairsRead.{pair_sound, key_less, value_less, value_stops_pair}
+use Rattle.cbor4ii_items.specs.Laws.Calls.{stops_as}
 
 -- what else stands there is read in its place
 in_place : {V W : Type 0} (reads : Reads V) (other : Reads W) (left : Left) (xs : List ℕ) (v : V)

@@ -13,8 +13,8 @@ use Rattle.cbor4ii_items.specs.Decoding.{StopsAt, Sound, Stops}
 use Rattle.cbor4ii_items.specs.Moves.{Kept}
 use Rattle.cbor4ii_items.specs.Refusal.{refusal_of}
 use Rattle.cbor4ii_items.specs.Strings.{StopsText, text_content}
-use Rattle.cbor4ii_items.specs.Laws.SequenceInside.{if_err}
-use Rattle.cbor4ii_items.specs.Laws.SequenceParts.{stops_as}
+use Rattle.cbor4ii.specs.Laws.SequencesRead.{if_err}
+use Rattle.cbor4ii_items.specs.Laws.Calls.{stops_as}
 use Rattle.cbor4ii_tree.specs.Ignored.{StopsIgnored}
 use Rattle.cbor4ii.specs.declared.serde.de.error.DecodeError.{DecodeError as Typed}
 use Rattle.cbor4ii.specs.Fields.{StopsNamed, no_field_stops, field_stops, stops_by, ReadsName}

@@ -12,17 +12,19 @@ use Rattle.cbor4ii_items.specs.Decoding.{Reads, Sound, Refuses}
 use Rattle.cbor4ii_items.specs.Moves.{Kept, Moves}
 use Rattle.cbor4ii_items.specs.Refusal.{refusal_of}
 use Rattle.cbor4ii_items.specs.Sequences.{ReadsPair, ReadsCount, ReadsUpToBreak, ReadsInside}
-use Rattle.cbor4ii_items.specs.Sequences.{ReadsSequence, AddsPart}
+use Rattle.cbor4ii_items.specs.Sequences.{ReadsSequence}
+use Rattle.cbor4ii.specs.ItemRead.{AddsPart}
 use Rattle.cbor4ii_items.specs.Strings.{text_content}
 use Rattle.cbor4ii_items.specs.Reading.{Runs}
 use Rattle.cbor4ii_items.specs.ReadStrings.{break_at}
 use Rattle.cbor4ii_items.specs.Laws.Answering.{if_some, refuses_as}
-use Rattle.cbor4ii_items.specs.Laws.Pairs.{pair_sound, key_less, value_refuses}
-use Rattle.cbor4ii_items.specs.Laws.SequenceParts.{Begun, count_more, count_done, Opened, Stands}
-use Rattle.cbor4ii_items.specs.Laws.SequenceParts.{open_more, open_done}
-use Rattle.cbor4ii_items.specs.Laws.SequenceInside.{if_err, if_err_told, Counts, Opens}
-use Rattle.cbor4ii_items.specs.Laws.SequenceInside.{counted_read, opened_read, counted_not_read}
-use Rattle.cbor4ii_items.specs.Laws.SequenceInside.{opened_not_read}
+use Rattle.cbor4ii.specs.Laws.PairsRead.{pair_sound, key_less, value_refuses}
+use Rattle.cbor4ii_items.specs.Laws.SequenceParts.{Stands}
+use Rattle.cbor4ii.specs.Laws.PartsRead.{Begun, count_more, count_done, Opened}
+use Rattle.cbor4ii.specs.Laws.PartsRead.{open_more, open_done}
+use Rattle.cbor4ii.specs.Laws.SequencesRead.{if_err, if_err_told, Counts, Opens}
+use Rattle.cbor4ii.specs.Laws.SequencesRead.{counted_read, opened_read, counted_not_read}
+use Rattle.cbor4ii.specs.Laws.SequencesRead.{opened_not_read}
 use Rattle.cbor4ii_rw.specs.Reader.{StepsIn, KeepsAllButBudget}
 use Rattle.cbor4ii.specs.declared.serde.de.error.DecodeError.{DecodeError as Typed}
 use Rattle.cbor4ii.specs.Fields.{ReadsNamed, no_field, named_field, fields_by, ReadsName, SameName}

@@ -8,7 +8,7 @@ use Rattle.cbor4ii_items.specs.Decoding.{Reads, StopsAt, CostFits, Sound, NoneRe
 use Rattle.cbor4ii_items.specs.Refusal.{refusal_of}
 use Rattle.cbor4ii_items.specs.Strings.{ReadsBreak}
 use Rattle.cbor4ii_items.specs.Laws.Answering.{if_some, fits_zero, refuses_as}
-use Rattle.cbor4ii_items.specs.Laws.SequenceParts.{stops_as}
+use Rattle.cbor4ii_items.specs.Laws.Calls.{stops_as}
 use Rattle.cbor4ii.specs.declared.serde.de.accessor.Left.{Left}
 use Rattle.cbor4ii.specs.declared.serde.de.accessor.Left.TheVariants.{Counted, Open, Ended}
 use Rattle.cbor4ii.specs.Accessing.{Next, ReadsStart, StopsStart, StopsElement, LeftAfterStart}

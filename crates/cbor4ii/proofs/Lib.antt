@@ -1,3 +1,4 @@
+pub mod Items
 pub mod Firsts
 pub mod Forms
 pub mod Sequences

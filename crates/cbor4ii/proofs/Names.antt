@@ -1,6 +1,7 @@
 -- Names of fields, found among some names and taken.
 use Rattle.std.proofs.Common.{◌-◌, ◌≡◌, ◌≢◌, inl, ℕ, zero, suc, ◌+◌, ◌<◌, ◌≤◌, ◌/◌, ◌%◌, List, []}
-use Rattle.std.proofs.Common.{◌∷◌, length, take, drop, get_or, slice_index_or, Result, Ok, Err, IfOk}
+use Rattle.std.proofs.Common.{◌∷◌, length, take, drop, get_or, slice_index_or, Result, Ok, Err}
+use Rattle.std.proofs.Common.{IfOk}
 use Rattle.std.proofs.Common.{IfErr, IfSome, Some, Bool, true, false, ltb, ltb-true, ltb-false}
 use Rattle.std.proofs.Common.{refl, sym, ap, ◌∙◌, subst, arith}
 use Rattle.std.proofs.Math.Seq.{take-length}
@@ -52,12 +53,6 @@ before_or_at : (name : List ℕ) (names : List (Bor (List ℕ))) (i : ℕ) (d : 
 before_or_at name names i d others less other j e true is h = others j e (ltb-true j i is)
 before_or_at name names i d others less other j e false is h =
     more_by name names i j d e less other (omega (arith, h, ltb-false j i is))
-
-pub others_more : (name : List ℕ) (names : List (Bor (List ℕ))) (i : ℕ) (d : Bor (List ℕ))
-    → Others name names i → i < length names → name ≢ (get_or names i d).now
-    → Others name names (i + 1)
-others_more name names i d others less other j e h =
-    before_or_at name names i d others less other j e (ltb j i) refl h
 
 stands_by : (name : List ℕ) (names : List (Bor (List ℕ))) (at : ℕ) → Others name names at
     → at ≤ length names

@@ -14,8 +14,10 @@ use Rattle.cbor4ii_items.specs.Sequences.{StopsUpToBreak, StopsInside, length_re
 use Rattle.cbor4ii_items.specs.Sequences.{counted_refused, open_refused}
 use Rattle.cbor4ii.specs.declared.serde.de.error.DecodeError.{DecodeError as Typed}
 use Rattle.cbor4ii.specs.Typed.{as_core}
-use Rattle.cbor4ii_items.specs.Laws.SequenceParts.{Begun, Opened, Stands, stops_as}
-use Rattle.cbor4ii_items.specs.Laws.SequenceInside.{Counts, Opens}
+use Rattle.cbor4ii_items.specs.Laws.Calls.{stops_as}
+use Rattle.cbor4ii_items.specs.Laws.SequenceParts.{Stands}
+use Rattle.cbor4ii.specs.Laws.PartsRead.{Begun, Opened}
+use Rattle.cbor4ii.specs.Laws.SequencesRead.{Counts, Opens}
 use Rattle.cbor4ii.proofs.Stopped.{stopped_as}
 
 module _ {P : Type 0} (reads : Reads P) (stops : StopsAt) where

@@ -7,9 +7,9 @@ use Rattle.cbor4ii_items.specs.Decoding.{Reads, Sound, Refuses}
 use Rattle.cbor4ii_items.specs.Sequences.{ReadsCount, ReadsUpToBreak, ReadsInside}
 use Rattle.cbor4ii.specs.declared.serde.de.error.DecodeError.{DecodeError as Typed}
 use Rattle.cbor4ii.specs.Typed.{as_core}
-use Rattle.cbor4ii_items.specs.Laws.SequenceInside.{if_ok, if_err, if_err_told, Counts, Opens}
-use Rattle.cbor4ii_items.specs.Laws.SequenceInside.{counted_read, opened_read, counted_not_read}
-use Rattle.cbor4ii_items.specs.Laws.SequenceInside.{opened_not_read, of_sound, of_refuses}
+use Rattle.cbor4ii.specs.Laws.SequencesRead.{if_ok, if_err, if_err_told, Counts, Opens}
+use Rattle.cbor4ii.specs.Laws.SequencesRead.{counted_read, opened_read, counted_not_read}
+use Rattle.cbor4ii.specs.Laws.SequencesRead.{opened_not_read, of_sound, of_refuses}
 
 -- ---- the head and the parts
 

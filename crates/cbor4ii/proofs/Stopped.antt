@@ -5,7 +5,7 @@ use Rattle.cbor4ii_rw.specs.Reader.{KeepsAllButBudget}
 use Rattle.cbor4ii_rw.specs.declared.error.DecodeError.{DecodeError}
 use Rattle.cbor4ii_items.specs.Refusal.{Refusal, refusal_of}
 use Rattle.cbor4ii_items.specs.Decoding.{StopsAt, Stops}
-use Rattle.cbor4ii_items.specs.Laws.SequenceParts.{stops_as}
+use Rattle.cbor4ii_items.specs.Laws.Calls.{stops_as}
 
 pub stopped_as : {E : Type 0} {e : DecodeError E} {a b : View} (f g : StopsAt)
     → ((xs : List ℕ) (budget : Option ℕ) (z : Refusal) (ys : List ℕ) → f xs budget z ys

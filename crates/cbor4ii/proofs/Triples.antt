@@ -7,7 +7,7 @@ use Rattle.cbor4ii_items.specs.Decoding.{Reads, Sound, Refuses}
 use Rattle.cbor4ii_items.specs.Sequences.{ReadsPair}
 use Rattle.cbor4ii_items.specs.Laws.Answering.{refuses_as}
 use Rattle.cbor4ii.specs.Tuples.{ReadsTriple}
-use Rattle.cbor4ii_items.specs.Laws.Pairs.{pair_sound, key_refuses, value_refuses}
+use Rattle.cbor4ii.specs.Laws.PairsRead.{pair_sound, key_refuses, value_refuses}
 
 module _ {A B C : Type 0} (first : Reads A) (second : Reads B) (third : Reads C) where
   as_triple : {a b : View} {v : A} {w : B × C}

@@ -22,7 +22,7 @@ use Rattle.cbor4ii_items.specs.Lengths.{ReadsLength, StopsLength}
 use Rattle.cbor4ii_items.specs.Decoding.{CostFits, Sound, NoneRead, Refuses, Stops}
 use Rattle.cbor4ii_items.specs.Laws.Answering.{if_some}
 use Rattle.cbor4ii_items.specs.Laws.Answering.{fits_zero}
-use Rattle.cbor4ii_items.specs.Laws.SequenceParts.{always}
+use Rattle.cbor4ii.specs.Laws.PartsRead.{always}
 use Rattle.cbor4ii.proofs.Stopped.{stopped_as}
 
 so_many : {count : ℕ} {a m : View} → Sound (ReadsLength 4) a m (Some count)

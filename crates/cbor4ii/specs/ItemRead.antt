@@ -1,8 +1,9 @@
 -- A call that reads one item, as the item's type says.
-use Rattle.std.specs.Prelude.{ℕ, ◌+◌, ◌≤◌, List, Option, Bool, Result, OnOk, IfOk, IfErr, IsTrue}
+use Rattle.std.specs.Prelude.{◌≡◌, ℕ, ◌+◌, ◌≤◌, List, [], ◌∷◌, ◌++◌, Option, Bool, Result, OnOk}
+use Rattle.std.specs.Prelude.{IfOk, IfErr, IsTrue}
 use Rattle.cbor4ii_rw.specs.View.{View}
 use Rattle.cbor4ii_items.specs.Moves.{Moves}
-use Rattle.cbor4ii_items.specs.Decoding.{IsExact, Sound, Refuses, Stops}
+use Rattle.cbor4ii_items.specs.Decoding.{Reads, IsExact, Sound, Refuses, Stops}
 use Rattle.cbor4ii_items.specs.Refusal.{Refusal, is_out_of_memory}
 use Rattle.cbor4ii.specs.declared.serde.de.error.DecodeError.{DecodeError}
 use Rattle.cbor4ii_tree.specs.Ignored.{ReadsTree}
@@ -26,3 +27,10 @@ pub record ReadsItem {V E : Type 0} (reads : List ℕ → V → ℕ → ℕ → 
 -- an item of which nothing is kept
 abbrev pub ReadsSkipped : List ℕ → Unit {0} → ℕ → ℕ → Type 0
 ReadsSkipped xs v n c = ReadsTree xs n c
+
+-- one part was read, and stands behind those that were there
+pub record AddsPart {P : Type 0} (reads : Reads P) (before after : List P)
+    (old new : View) : Type 0 where
+  pub part : P
+  pub read : Sound reads old new part
+  pub added : after ≡ before ++ part ∷ []

@@ -4,3 +4,6 @@ pub mod Accessors
 pub mod Any
 pub mod FieldsBack
 pub mod Variants
+pub mod PartsRead
+pub mod PairsRead
+pub mod SequencesRead

@@ -1,6 +1,6 @@
 -- What a station is made of, one call behind another.
 use Rattle.std.proofs.Common.{◌≡◌, ◌≢◌, ℕ, ◌<◌, ◌≤◌, inl, inr, List, drop, Option, Some, None, Bool}
-use Rattle.std.proofs.Common.{true, false, refl, sym, ap, ◌∙◌, subst, arith, Bor}
+use Rattle.std.proofs.Common.{true, false, refl, sym, ap, ◌∙◌, subst, arith, Bor, IfSome, Ok, Err}
 use Rattle.std.proofs.Common.{ltb, ltb-true, ltb-false}
 use Rattle.std.specs.Prelude.{codes}
 use Rattle.std.specs.declared.alloc.Global.{Global}
@@ -10,27 +10,33 @@ use Rattle.cbor4ii_rw.specs.declared.error.DecodeError.{DecodeError}
 use Rattle.cbor4ii_rw.specs.declared.error.DecodeError.TheVariants.{RequireLength}
 use Rattle.cbor4ii_rw.specs.declared.error.Len.{Len}
 use Rattle.cbor4ii_rw.specs.declared.error.Len.TheVariants.{Small, Big, Indefinite}
-use Rattle.cbor4ii_items.specs.Refusal.{refusal_of, require_length, len_of}
-use Rattle.cbor4ii_items.specs.Moves.{Kept}
-use Rattle.cbor4ii_items.specs.Decoding.{NoneRead, Sound, Refuses, Stops}
+use Rattle.cbor4ii_items.specs.Refusal.{Refusal, refusal_of, require_length, len_of}
+use Rattle.cbor4ii_items.specs.Moves.{Kept, Moves}
+use Rattle.cbor4ii_items.specs.Decoding.{NoneRead, Sound, Refuses, Stops, Decodes}
+use Rattle.cbor4ii_items.specs.Laws.Calls.{ok}
+use Rattle.cbor4ii_items.specs.Laws.Steps.{moves_err, moves_then}
 use Rattle.cbor4ii_items.specs.Heads.{ReadsHead}
 use Rattle.cbor4ii_items.specs.Laws.Heads.{head_one}
 use Rattle.cbor4ii_items.specs.Laws.Answering.{fits_zero, refuses_as}
-use Rattle.cbor4ii_items.specs.Laws.Arguments.{unsigned_one}
-use Rattle.cbor4ii_items.specs.Lengths.{ReadsLength, StopsLength}
+use Rattle.cbor4ii_items.specs.Laws.Arguments.{argument_one, zero_small}
+use Rattle.cbor4ii_items.specs.Lengths.{ReadsLength, StopsLength, length_spelling}
 use Rattle.cbor4ii_items.specs.Numbers.{ReadsUnsigned, StopsUnsigned}
 use Rattle.cbor4ii_items.specs.Strings.{ReadsTextAs, StopsText, text_content}
-use Rattle.cbor4ii_items.specs.Strings.{ReadsBreak, StopsBreak}
+use Rattle.cbor4ii_items.specs.Strings.{ReadsBreak, StopsBreak, break_spelling}
 use Rattle.cbor4ii_items.specs.Laws.Strings.{head_not_open, text_one}
-use Rattle.cbor4ii_items.specs.Laws.SequenceParts.{always}
 use Rattle.cbor4ii_examples.specs.Then.{ReadsThen}
 use Rattle.cbor4ii_examples.specs.Station.{ReadsOpening, ReadsEnd, ReadsAfterNumber}
-use Rattle.cbor4ii_examples.specs.Station.{ReadsAfterOpening}
+use Rattle.cbor4ii_examples.specs.Station.{ReadsAfterOpening, opening_spelling, end_spelling}
+use Rattle.cbor4ii_examples.specs.Station.{station_spelling}
 use Rattle.cbor4ii_examples.specs.Station.{ReadsStation, StopsOpening, StopsEnd, StopsAfterNumber}
 use Rattle.cbor4ii_examples.specs.Station.{StopsAfterOpening, StopsStation}
 use Rattle.cbor4ii_examples.specs.StationLaws.{opening_one, carried}
 use Rattle.cbor4ii_examples.proofs.Behind.{sound_as, stops_as, then_sound, first_refuses}
 use Rattle.cbor4ii_examples.proofs.Behind.{second_refuses, first_stopped, second_stopped}
+
+always : {Q : Type 0} (o : Option Refusal) → Q → IfSome o (λ z. Q)
+always None q = tt
+always (Some z) q = q
 
 -- ---- the opening
 
@@ -100,6 +106,42 @@ other_stopped {l = l} {b = b} count other named small big is s =
           (drop p.count xs, p.left, inr (count, p.count, p.read.0, other, says, refl));
     }
 
+module _ {E : Type 0} {a b : View} where
+  pub opening_ok : {o : Option ℕ} {v : Bool}
+      → Decodes {E = E} (length_spelling (codes "array") 4) a b (Ok o) → Sound ReadsOpening a b v
+      → Decodes {E = E} opening_spelling a b (Ok v)
+  opening_ok d s = ok opening_spelling d.moves.by d.progress s
+
+  pub opening_err : {e : DecodeError E}
+      → Decodes (length_spelling (codes "array") 4) a b (Err e)
+      → Decodes opening_spelling a b (Err e)
+  opening_err d = record {
+    moves = moves_err d.moves;
+    progress = λ some. tt;
+    memory = d.memory;
+    sound = tt;
+    complete = λ exact. opening_refused (d.complete exact);
+    stops = λ exact. opening_stopped (d.stops exact);
+    begins = opening_stopped d.begins;
+  }
+
+  pub opening_other : {name : Bor (List ℕ)} {l : Len} {o : Option ℕ} (count : ℕ) → count ≢ 2
+      → name.now ≡ codes "station" → (count < 65536 → l ≡ Small count) → (65536 ≤ count → l ≡ Big)
+      → o ≡ Some count → Decodes {E = E} (length_spelling (codes "array") 4) a b (Ok o)
+      → Decodes {E = E} opening_spelling a b (Err (RequireLength name l))
+  opening_other {name = name} {l = l} count other named small big is d =
+      let stopped : Stops {E = E} StopsOpening a b (RequireLength name l) =
+      other_stopped count other named small big is d.sound in
+      record {
+        moves = record { by = d.moves.by; depth = λ none. refl };
+        progress = λ some. tt;
+        memory = λ out. cc;
+        sound = tt;
+        complete = λ exact. other_refused count other is d.sound;
+        stops = λ exact. stopped;
+        begins = stopped;
+      }
+
 -- ---- the end
 
 pub no_end : (indefinite : Bool) (a : View) → indefinite ≡ false
@@ -156,7 +198,50 @@ other_end_stopped true opens named is s =
     }
 other_end_stopped false opens named is s = cc
 
+module _ {E : Type 0} (indefinite : Bool) {a b : View} where
+  pub end_err : {e : DecodeError E} → indefinite ≡ true → Decodes break_spelling a b (Err e)
+      → Decodes (end_spelling indefinite) a b (Err e)
+  end_err opens d = record {
+    moves = moves_err d.moves;
+    progress = λ some. tt;
+    memory = d.memory;
+    sound = tt;
+    complete = λ exact. end_refused indefinite opens (d.complete exact);
+    stops = λ exact. end_stopped indefinite opens (d.stops exact);
+    begins = end_stopped indefinite opens d.begins;
+  }
+
+  pub end_other : {name : Bor (List ℕ)} {t : Bool} → indefinite ≡ true
+      → name.now ≡ codes "station" → t ≡ false → Decodes {E = E} break_spelling a b (Ok t)
+      → Decodes {E = E} (end_spelling indefinite) a b (Err (RequireLength name Indefinite))
+  end_other {name = name} opens named is d =
+      let stopped : Stops {E = E} (StopsEnd indefinite) a b (RequireLength name Indefinite) =
+      other_end_stopped indefinite opens named is d.sound in
+      record {
+        moves = record { by = d.moves.by; depth = λ none. refl };
+        progress = λ some. tt;
+        memory = λ out. cc;
+        sound = tt;
+        complete = λ exact. other_end_refused indefinite opens is d.sound;
+        stops = λ exact. stopped;
+        begins = stopped;
+      }
+
 -- ---- a station
+
+-- what is refused behind what was read of it
+pub station_err : {V E : Type 0} {e : DecodeError E} {a m b : View} → Kept a m
+    → Moves {V = V} m b (Err e) → Refuses ReadsStation a e → Stops StopsStation a b e
+    → Decodes station_spelling a b (Err e)
+station_err kept moves refused stopped = record {
+  moves = moves_then kept (moves_err moves);
+  progress = λ some. tt;
+  memory = λ out. refl;
+  sound = tt;
+  complete = λ exact. refused;
+  stops = λ exact. stopped;
+  begins = stopped;
+}
 
 as_station : {E : Type 0} {e : DecodeError E} {a : View}
     → Refuses (ReadsThen ReadsOpening ReadsAfterOpening) a e → Refuses ReadsStation a e
@@ -170,7 +255,7 @@ behind_id : {E : Type 0} {e : DecodeError E} {a m : View} (indefinite : Bool) {i
 behind_id indefinite kept s r =
     second_refuses (ReadsUnsigned 8) (ReadsAfterNumber indefinite) (λ v w. v ≡ w)
     (λ v w xs u n c e h. subst (λ id. ReadsAfterNumber indefinite id xs u n c) e h)
-    (unsigned_one 8) kept s r
+    (argument_one 0 8 zero_small) kept s r
 
 behind_name : {E : Type 0} {e : DecodeError E} {a m : View} (indefinite : Bool) (id : ℕ)
     {name : String Global} → Kept a m → Sound (ReadsTextAs text_content) a m name

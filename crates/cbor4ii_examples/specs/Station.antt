@@ -7,6 +7,7 @@ use Rattle.cbor4ii_rw.specs.declared.error.Len.TheVariants.{Indefinite}
 use Rattle.cbor4ii_items.specs.Head.{break}
 use Rattle.cbor4ii_items.specs.Heads.{ReadsHead}
 use Rattle.cbor4ii_items.specs.Decoding.{Reads, StopsAt}
+use Rattle.cbor4ii_items.specs.Decoding.{Spelling, leaf_spelling, looking_spelling}
 use Rattle.cbor4ii_items.specs.Refusal.{require_length, len_of}
 use Rattle.cbor4ii_items.specs.Lengths.{ReadsLength, StopsLength}
 use Rattle.cbor4ii_items.specs.Numbers.{ReadsUnsigned, StopsUnsigned, shortest_head}
@@ -83,3 +84,23 @@ StopsAfterOpening indefinite =
 
 abbrev pub StopsStation : StopsAt
 StopsStation = StopsThen ReadsOpening StopsOpening StopsAfterOpening
+
+-- ---- in one word each
+
+abbrev pub opening_spelling : Spelling Bool
+opening_spelling = leaf_spelling ReadsOpening StopsOpening
+
+abbrev pub end_spelling : Bool → Spelling (Unit {0})
+end_spelling indefinite = looking_spelling (ReadsEnd indefinite) (StopsEnd indefinite)
+
+abbrev pub station_spelling : Spelling Station
+station_spelling = record {
+  reads = ReadsStation;
+  same = SameStation;
+  stops = StopsStation;
+  begins = StopsStation;
+  never_empty = true;
+  owned = true;
+  takes_memory = true;
+  closed = true;
+}

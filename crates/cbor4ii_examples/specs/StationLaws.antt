@@ -4,7 +4,8 @@ use Rattle.std.proofs.Common.{refl, sym, ◌∙◌, subst, arith}
 use Rattle.cbor4ii_items.specs.Head.{break, open_head}
 use Rattle.cbor4ii_items.specs.Laws.Heads.{head_one, head_read, head_alone}
 use Rattle.cbor4ii_items.specs.Numbers.{ReadsUnsigned}
-use Rattle.cbor4ii_items.specs.Laws.Arguments.{unsigned_one, unsigned_within, unsigned_alone}
+use Rattle.cbor4ii_items.specs.Laws.Arguments.{argument_one, argument_within, argument_alone}
+use Rattle.cbor4ii_items.specs.Laws.Arguments.{zero_small}
 use Rattle.cbor4ii_items.specs.Strings.{ReadsTextAs, text_content}
 use Rattle.cbor4ii_items.specs.Laws.Strings.{head_not_open, text_one, text_within, text_alone}
 use Rattle.cbor4ii_items.specs.Laws.Containers.{first_kept}
@@ -13,6 +14,8 @@ use Rattle.cbor4ii_examples.specs.declared.station.Station.{Station}
 use Rattle.cbor4ii_examples.specs.Then.{InOneWay, Within, Positive, Alone, Carries}
 use Rattle.cbor4ii_examples.specs.Then.{then_one, then_within, then_positive, then_alone}
 use Rattle.cbor4ii_examples.specs.Station.{ReadsOpening, ReadsEnd, AfterNumber, AfterOpening}
+use Rattle.cbor4ii_examples.specs.Station.{station_spelling}
+use Rattle.cbor4ii_items.specs.Decoding.{IsLawful}
 use Rattle.cbor4ii_examples.specs.Station.{ReadsAfterNumber}
 use Rattle.cbor4ii_examples.specs.Station.{ReadsAfterOpening, ReadsStation, SameStation}
 
@@ -74,7 +77,7 @@ numbered_one : (indefinite : Bool) → InOneWay (ReadsAfterOpening indefinite) S
 numbered_one indefinite =
     then_one (ReadsUnsigned 8) (ReadsAfterNumber indefinite) (λ v w. v ≡ w) SameNamed
     (λ a b xs v n c e h. subst (λ id. ReadsAfterNumber indefinite id xs v n c) e h)
-    (unsigned_one 8) (named_one indefinite)
+    (argument_one 0 8 zero_small) (named_one indefinite)
 
 named_within : (indefinite : Bool) (id : ℕ) → Within (ReadsAfterNumber indefinite id)
 named_within indefinite id =
@@ -84,7 +87,7 @@ named_within indefinite id =
 numbered_within : (indefinite : Bool) → Within (ReadsAfterOpening indefinite)
 numbered_within indefinite =
     then_within (ReadsUnsigned 8) (ReadsAfterNumber indefinite)
-    (unsigned_within 8) (named_within indefinite)
+    (argument_within 0 8 zero_small) (named_within indefinite)
 
 named_alone : (indefinite : Bool) (id : ℕ) → Alone (ReadsAfterNumber indefinite id)
 named_alone indefinite id =
@@ -94,7 +97,7 @@ named_alone indefinite id =
 numbered_alone : (indefinite : Bool) → Alone (ReadsAfterOpening indefinite)
 numbered_alone indefinite =
     then_alone (ReadsUnsigned 8) (ReadsAfterNumber indefinite)
-    (unsigned_within 8) (unsigned_alone 8) (named_alone indefinite)
+    (argument_within 0 8 zero_small) (argument_alone 0 8) (named_alone indefinite)
 
 -- what is read behind an opening is read behind the same opening
 pub carried : Carries (λ a b. a ≡ b) ReadsAfterOpening
@@ -126,3 +129,11 @@ station_alone xs ys v n c p =
     let whole =
     then_alone ReadsOpening ReadsAfterOpening opening_within opening_alone numbered_alone in
     (p.0, whole xs ys (parts p.0 v) n c p.1)
+
+pub station_lawful : IsLawful station_spelling
+station_lawful = record {
+  one = station_one;
+  within = station_within;
+  positive = λ some. station_positive;
+  alone = λ closed. station_alone;
+}

@@ -1,13 +1,8 @@
 //! A record that is read and written by hand: what a type of one's own needs in order to be one.
-ghost use Rattle.std.specs.Prelude.{◌≡◌, ◌+◌, ◌≤◌, OnOk, IfOk, IfErr, true, false};
-ghost use Rattle.cbor4ii_items.specs.Moves.{Moves};
-ghost use Rattle.cbor4ii_items.specs.Refusal.{is_out_of_memory};
-ghost use Rattle.cbor4ii_items.specs.Decoding.{Sound, Refuses, Stops};
-ghost use Rattle.cbor4ii_examples.specs.Station.{station_bytes, ReadsOpening, ReadsEnd};
-ghost use Rattle.cbor4ii_examples.specs.Station.{ReadsStation, SameStation, StopsOpening, StopsEnd};
-ghost use Rattle.cbor4ii_examples.specs.Station.{StopsStation};
-ghost use Rattle.cbor4ii_examples.specs.StationLaws.{station_one, station_within, station_positive};
-ghost use Rattle.cbor4ii_examples.specs.StationLaws.{station_alone};
+ghost use Rattle.cbor4ii_items.specs.Decoding.{Decodes};
+ghost use Rattle.cbor4ii_examples.specs.Station.{station_bytes, opening_spelling, end_spelling};
+ghost use Rattle.cbor4ii_examples.specs.Station.{station_spelling};
+ghost use Rattle.cbor4ii_examples.specs.StationLaws.{station_lawful};
 
 use cbor4ii_items::decode::{Decode, Spelled};
 use cbor4ii_items::encode::Encode;
@@ -28,25 +23,13 @@ pub struct Station {
 }
 
 impl Spelled for Station {
-    ghost reads = { ReadsStation };
-
-    ghost same = { SameStation };
-
-    ghost stops = { StopsStation };
-
-    ghost begins = { StopsStation };
-
-    ghost never_empty = { true };
-
-    ghost owned = { true };
-
-    ghost takes_memory = { true };
-
-    ghost closed = { true };
+    ghost spelling = { station_spelling };
 
     fn is_never_empty() -> bool {
         true
     }
+
+    ghost lawful = { station_lawful };
 }
 
 /// Refused as its parts are, in their order: the length by the name "array", the number as a u64,
@@ -61,24 +44,11 @@ impl<S: Source> Decode<S> for Station {
         take_end(reader, is_open)?;
         Ok(Station { id, name })
     }
-
-    ghost one = { station_one };
-
-    ghost within = { station_within };
-
-    ghost positive = { λ _. station_positive };
-
-    ghost alone = { λ _. station_alone };
 }
 
 /// Takes the head of an array of two items, and answers whether its length is indefinite.
 fn take_opening<S: Source>(reader: &mut S) -> Result<bool, DecodeError<S::Error>>
-    ensures moves { Moves (S.view reader.old) (S.view reader.new) result }
-    ensures memory { IfErr result (λ error. is_out_of_memory error ≡ false) }
-    ensures progress { OnOk result ((S.view reader.new).bound + 1 ≤ (S.view reader.old).bound) }
-    ensures sound { IfOk result (Sound ReadsOpening (S.view reader.old) (S.view reader.new)) }
-    ensures complete { IfErr result (Refuses ReadsOpening (S.view reader.old)) }
-    ensures stops { IfErr result (Stops StopsOpening (S.view reader.old) (S.view reader.new)) }
+    ensures { Decodes opening_spelling (S.view reader.old) (S.view reader.new) result }
 {
     match Array::len(reader)? {
         None => Ok(true),
@@ -92,13 +62,8 @@ fn take_opening<S: Source>(reader: &mut S) -> Result<bool, DecodeError<S::Error>
 
 /// Takes the break of an array of indefinite length.
 fn take_end<S: Source>(reader: &mut S, is_open: bool) -> Result<(), DecodeError<S::Error>>
-    ensures moves { Moves (S.view reader.old) (S.view reader.new) result }
-    ensures memory { IfErr result (λ error. is_out_of_memory error ≡ false) }
-    ensures sound { IfOk result
-        (Sound (ReadsEnd is_open) (S.view reader.old) (S.view reader.new)) }
-    ensures complete { IfErr result (Refuses (ReadsEnd is_open) (S.view reader.old)) }
-    ensures stops { IfErr result
-        (Stops (StopsEnd is_open) (S.view reader.old) (S.view reader.new)) }
+    ensures { Decodes (end_spelling is_open)
+        (S.view reader.old) (S.view reader.new) result }
 {
     if !is_open || is_break(reader)? {
         return Ok(());

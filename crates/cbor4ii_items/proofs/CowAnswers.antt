@@ -1,12 +1,12 @@
 -- A content that is lent, or copied, as what the owned strings read.
 use Rattle.std.proofs.Common.{◌≡◌, ℕ, ◌<◌, List, [], length, drop, Option, None, Some, Result, Ok}
 use Rattle.std.proofs.Common.{Err, Bool, true, false, IsTrue, refl, sym, ap, ◌∙◌, subst, arith}
-use Rattle.std.proofs.Common.{IfSome, IfOk}
+use Rattle.std.proofs.Common.{IfSome, IfOk, ◌+◌, ◌≤◌}
 use denote.Ref.{Bor}
 use Rattle.cbor4ii_rw.specs.View.{View, Told}
 use Rattle.cbor4ii_rw.specs.declared.error.DecodeError.{DecodeError}
 use Rattle.cbor4ii_rw.specs.declared.error.DecodeError.TheVariants.{RequireUtf8}
-use Rattle.cbor4ii_items.specs.Decoding.{Sound, Refuses, Stops}
+use Rattle.cbor4ii_items.specs.Decoding.{Decodes}
 use Rattle.cbor4ii_items.specs.Reading.{Reading, Runs}
 use Rattle.cbor4ii_items.specs.ReadHead.{length_at}
 use Rattle.cbor4ii_items.specs.ReadStrings.{content_on, string_at}
@@ -14,15 +14,14 @@ use Rattle.cbor4ii_items.specs.Laws.CountedContent.{content_whole}
 use Rattle.cbor4ii_items.specs.Laws.Outcome.{same_value}
 use Rattle.cbor4ii_items.specs.Laws.ProgramEnds.{length_none, content_inverse}
 use Rattle.cbor4ii_items.specs.Laws.Strings.{length_open}
-use Rattle.cbor4ii_items.specs.Strings.{ReadsString, StopsString, StopsText}
+use Rattle.cbor4ii_items.specs.Strings.{string_spelling}
 use Rattle.cbor4ii_items.specs.Lent.{Lends, Stays}
-use Rattle.cbor4ii_items.specs.Cow.{ReadsEither, StopsEither, TakesContent, BorrowsWhereCounted}
+use Rattle.cbor4ii_items.specs.Cow.{either_spelling, TakesContent, BorrowsWhereCounted}
 use Rattle.cbor4ii_items.specs.Cow.{IsBorrowedWhereWhole}
 use Rattle.cbor4ii_items.proofs.OpenStrings.{string_known}
 use Rattle.cbor4ii_items.proofs.WholeHeads.{runs_stayed}
-use Rattle.cbor4ii_items.proofs.StringAnswers.{content_sound, content_refuses, content_stops}
-use Rattle.cbor4ii_items.proofs.StringAnswers.{as_sound, as_refuses, text_sound, text_refuses}
-use Rattle.cbor4ii_items.proofs.StringAnswers.{text_stops, utf8_refuses, utf8_stops}
+use Rattle.cbor4ii_items.specs.Laws.Calls.{by_ok, by_err}
+use Rattle.cbor4ii_items.proofs.StringAnswers.{content_ok, content_err, text_ok, text_err, utf8_err}
 
 -- ---- a content of a known length
 
@@ -72,55 +71,39 @@ module _ {V E : Type 0} (name : List ℕ) (major : ℕ) (is_text : Bool) (conten
       record { by = (t.by.0, string_known name major run is t.by.1, t.by.2) }
   either_known (Err e) run is t = record { by = string_known name major run is t.by }
 
--- of a text the major type is 3
-pub either_stops : {E : Type 0} (name : List ℕ) {a b : View} (is_text : Bool) (major : ℕ)
-    {e : DecodeError E} → (IsTrue is_text → major ≡ 3) → Runs {V = List ℕ}
-    (string_at name major a.budget) a b (Err e) → Stops (StopsEither is_text name major) a b e
-either_stops name {a = a} {b = b} true major {e = e} text f =
-    text_stops (subst (λ (j : ℕ). Stops (StopsString name j) a b e) (text refl)
-    (content_stops name major f))
-either_stops name false major text f = content_stops name major f
-
 module _ {V E : Type 0} (name : List ℕ) (content : V → List ℕ) {a b : View} where
-  pub either_sound : (is_text : Bool) (major : ℕ) {v : V} → (IsTrue is_text → major ≡ 3)
+  pub either_ok : (is_text : Bool) (major : ℕ) {v : V} → (IsTrue is_text → major ≡ 3)
+      → b.bound + 1 ≤ a.bound
       → TakesContent {E = E} (string_at name major a.budget) is_text content a b (Ok (Some v))
-      → Sound (ReadsEither is_text major content) a b v
-  either_sound true major text t =
-      text_sound content (sym t.by.2.0) (t.by.2.1 refl)
-      (subst (λ (j : ℕ). Sound (ReadsString j) a b t.by.0) (text refl)
-      (content_sound name major t.by.1))
-  either_sound false major text t =
-      as_sound major content (subst (λ z. Sound (ReadsString major) a b z) (sym t.by.2.0)
-      (content_sound name major t.by.1))
+      → Decodes {E = E} (either_spelling is_text name major content) a b (Ok v)
+  either_ok true major text progress t =
+      text_ok name content (sym t.by.2.0) (t.by.2.1 refl)
+      (subst (λ (j : ℕ). Decodes {E = E} (string_spelling name j) a b (Ok t.by.0)) (text refl)
+      (content_ok name major progress t.by.1))
+  either_ok false major text progress t =
+      by_ok content (string_spelling name major) t.by.2.0 (content_ok name major progress t.by.1)
 
-  pub either_refuses : (is_text : Bool) (major : ℕ) {e : DecodeError E}
-      → (IsTrue is_text → major ≡ 3) → major < 8 → Runs {V = List ℕ}
-      (string_at name major a.budget) a b (Err e) → Refuses (ReadsEither is_text major content) a e
-  either_refuses true major {e = e} text small f =
-      text_refuses content (subst (λ (j : ℕ). Refuses (ReadsString j) a e) (text refl)
-      (content_refuses name major small f))
-  either_refuses false major text small f =
-      as_refuses major content (content_refuses name major small f)
+  -- of a text the major type is 3
+  pub either_err : (is_text : Bool) (major : ℕ) {e : DecodeError E} → (IsTrue is_text → major ≡ 3)
+      → major < 8 → Runs {V = List ℕ} (string_at name major a.budget) a b (Err e)
+      → Decodes (either_spelling is_text name major content) a b (Err e)
+  either_err true major {e = e} text small f =
+      text_err name content
+      (subst (λ (j : ℕ). Decodes (string_spelling name j) a b (Err e)) (text refl)
+      (content_err name major small f))
+  either_err false major text small f =
+      by_err content (string_spelling name major) (content_err name major small f)
 
   -- a content that is to be UTF-8 and is not
-  pub other_refuses : (is_text : Bool) (major : ℕ) {found : Bor (List ℕ)}
-      → (IsTrue is_text → major ≡ 3)
+  pub other_err : (is_text : Bool) (major : ℕ) {found : Bor (List ℕ)} → found.now ≡ name
+      → (IsTrue is_text → major ≡ 3) → b.bound + 1 ≤ a.bound
       → TakesContent {E = E} (string_at name major a.budget) is_text content a b (Ok None)
-      → Refuses {E = E} (ReadsEither is_text major content) a (RequireUtf8 found)
-  other_refuses true major text t =
-      utf8_refuses content t.by.2.1 (subst (λ (j : ℕ). Sound (ReadsString j) a b t.by.0) (text refl)
-      (content_sound name major t.by.1))
-  other_refuses false major text t = let f = t.by.2.0 in cc
-
-  pub other_stops : (is_text : Bool) (major : ℕ) {found : Bor (List ℕ)} → found.now ≡ name
-      → (IsTrue is_text → major ≡ 3)
-      → TakesContent {E = E} (string_at name major a.budget) is_text content a b (Ok None)
-      → Stops {E = E} (StopsEither is_text name major) a b (RequireUtf8 found)
-  other_stops true major {found = found} named text t =
-      subst (λ z. Stops {E = E} (StopsText z) a b (RequireUtf8 found)) named
-      (utf8_stops t.by.2.1 (subst (λ (j : ℕ). Sound (ReadsString j) a b t.by.0) (text refl)
-      (content_sound name major t.by.1)))
-  other_stops false major named text t = let f = t.by.2.0 in cc
+      → Decodes {E = E} (either_spelling is_text name major content) a b (Err (RequireUtf8 found))
+  other_err true major named text progress t =
+      utf8_err name content named t.by.2.1
+      (subst (λ (j : ℕ). Decodes {E = E} (string_spelling name j) a b (Ok t.by.0)) (text refl)
+      (content_ok name major progress t.by.1))
+  other_err false major named text progress t = let f = t.by.2.0 in cc
 
 -- ---- which strings are borrowed
 

@@ -1,12 +1,16 @@
 -- A call that does what a program does reads what the program reads.
 use Rattle.std.proofs.Common.{◌≡◌, ℕ, ◌≤◌, List, length, drop, take, Option, Result, Ok, Err, refl}
-use Rattle.std.proofs.Common.{sym, subst, IfOk, IfErr}
+use Rattle.std.proofs.Common.{sym, IfOk, IfErr}
 use Rattle.cbor4ii_rw.specs.View.{View}
 use Rattle.cbor4ii_rw.specs.declared.error.DecodeError.{DecodeError}
 use Rattle.cbor4ii_items.specs.Head.{IsBytes}
 use Rattle.cbor4ii_items.specs.Refusal.{Refusal}
 use Rattle.cbor4ii_items.specs.Reading.{Reading, Runs}
-use Rattle.cbor4ii_items.specs.Decoding.{Reads, StopsAt, Sound, Refuses, Stops}
+use Rattle.cbor4ii_items.specs.Decoding.{Reads, StopsAt, Sound, Refuses, Stops, Decodes}
+use Rattle.cbor4ii_items.specs.Decoding.{leaf_spelling}
+use Rattle.cbor4ii_items.specs.Refusal.{is_out_of_memory}
+use Rattle.std.proofs.Common.{OnOk, ◌+◌, false}
+use Rattle.cbor4ii_items.specs.Laws.Calls.{no_memory}
 use Rattle.cbor4ii_items.specs.Laws.Answering.{fits_zero, sound_at, refuses_by, stops_at}
 use Rattle.cbor4ii_items.specs.Laws.Arguments.{ReadBy}
 
@@ -53,16 +57,15 @@ module _ {V E : Type 0} {program : Reading V} {reads : Reads V} {stops : StopsAt
     | Err e ↦ (λ q. stops_at stops (λ xs z n. leaf.refuses xs a.budget z n) q)
   ] p
 
--- ---- one type as another
-
-pub sound_as : {U V : Type 0} (reads : Reads U) (part : V → U) {u : U} {v : V} {a b : View}
-    → part v ≡ u → Sound reads a b u → Sound (λ xs v. reads xs (part v)) a b v
-sound_as reads part e s = record {
-  at = λ xs told. let t = s.at xs told in record {
-    count = t.count;
-    cost = t.cost;
-    read = subst (λ z. reads xs z t.count t.cost) (sym e) t.read;
-    fits = t.fits;
-    left = t.left;
-  };
-}
+  -- a call that does what a leaf's program does decodes the leaf
+  pub decodes_of_runs : Runs program a b r → IfErr r (λ e. is_out_of_memory e ≡ false)
+      → OnOk r (b.bound + 1 ≤ a.bound) → Decodes (leaf_spelling reads stops) a b r
+  decodes_of_runs p memory progress = record {
+    moves = p.moves;
+    progress = λ _. progress;
+    memory = no_memory r memory;
+    sound = leaf_sound p;
+    complete = λ exact. leaf_complete p;
+    stops = λ exact. leaf_stops p;
+    begins = leaf_stops p;
+  }

@@ -1,7 +1,7 @@
 -- A head, and then a content that is lent.
 use Rattle.std.proofs.Common.{◌≡◌, ℕ, ◌+◌, ◌<◌, ◌≤◌, inl, inr, List, length, take, drop, Option}
 use Rattle.std.proofs.Common.{None, Some, Result, Ok, Err, Bool, false, IsTrue, refl, sym, ap, ap₂}
-use Rattle.std.proofs.Common.{◌∙◌, subst, arith, IfSome, IfOk, IfErr}
+use Rattle.std.proofs.Common.{◌∙◌, subst, arith, IfSome, IfOk, IfErr, OnOk}
 use Rattle.std.specs.Prelude.{MatchBool, IsUtf8}
 use Rattle.std.proofs.lemmas.List.{length-drop, length-take, length-take-le}
 use Rattle.cbor4ii_rw.specs.View.{View, Told}
@@ -10,19 +10,21 @@ use Rattle.cbor4ii_items.specs.declared.strings.lent.Lacks.{Lacks}
 use Rattle.cbor4ii_items.specs.declared.strings.lent.Lacks.TheVariants.{Read, Short, Few, NotUtf8}
 use Rattle.cbor4ii_items.specs.Moves.{Kept, Broke, Moves}
 use Rattle.cbor4ii_items.specs.Refusal.{Refusal, refusal_of, require_length, len_of}
+use Rattle.cbor4ii_items.specs.Refusal.{is_out_of_memory}
 use Rattle.cbor4ii_items.specs.Decoding.{IsExact, Sound, NoneRead, Refuses, Stops}
+use Rattle.cbor4ii_items.specs.Decoding.{Decodes}
 use Rattle.cbor4ii_items.specs.Heads.{ReadsHead}
 use Rattle.cbor4ii_items.specs.Laws.Heads.{head_read, head_one}
-use Rattle.cbor4ii_items.specs.Numbers.{ReadsArgument, StopsArgument}
+use Rattle.cbor4ii_items.specs.Numbers.{ReadsArgument, StopsArgument, argument_spelling}
 use Rattle.cbor4ii_items.specs.Laws.Fronts.{drop_more}
 use Rattle.cbor4ii_items.specs.Strings.{ReadsCountedString}
 use Rattle.cbor4ii_items.specs.Lent.{ReadsLent, StopsLent, BeginsLent, begins_refused, none_is_lent}
 use Rattle.cbor4ii_items.specs.Lent.{few_are_lent, begins_no_utf8, lent_head_refused, too_few}
 use Rattle.cbor4ii_items.specs.Lent.{lent_no_utf8, Lends, LacksContent, lack_refusal, lack_is_read}
-use Rattle.cbor4ii_items.specs.Lent.{Named}
+use Rattle.cbor4ii_items.specs.Lent.{Named, lent_spelling}
 use Rattle.cbor4ii_items.specs.Laws.Answering.{fits_zero, refuses_as}
-use Rattle.cbor4ii_items.specs.Laws.SequenceParts.{stops_as}
-use Rattle.cbor4ii_items.specs.Laws.Steps.{moves_then}
+use Rattle.cbor4ii_items.specs.Laws.Calls.{stops_as, no_memory}
+use Rattle.cbor4ii_items.specs.Laws.Steps.{moves_then, moves_err}
 
 -- ---- the reader
 
@@ -35,7 +37,7 @@ lack_moves count is_text m b NotUtf8 h = h.2.kept
 
 module _ (V E : Type 0) (name : List ℕ) (count : ℕ) (is_text : Bool) (content : V → List ℕ)
     (a m b : View) where
-  pub lent_moves : (o : Result V (Lacks E)) (r : Result V (DecodeError E)) → Named name o r
+  lent_moves : (o : Result V (Lacks E)) (r : Result V (DecodeError E)) → Named name o r
       → Kept a m → IfOk o (λ v. Lends count (content v) m b)
       → IfErr o (LacksContent count is_text m b) → Moves a b r
   lent_moves (Ok v) (Ok w) n kept lends lacks =
@@ -79,7 +81,7 @@ module _ (V E : Type 0) (name : List ℕ) (count : ℕ) (is_text : Bool) (conten
         };
   }
 
-  pub lent_sound : (major : ℕ) (o : Result V (Lacks E)) (r : Result V (DecodeError E))
+  lent_sound : (major : ℕ) (o : Result V (Lacks E)) (r : Result V (DecodeError E))
       → Named name o r → Sound (ReadsArgument major 8) a m count
       → IfOk o (λ v. Lends count (content v) m b)
       → IfOk o (λ v. IsTrue is_text → IsUtf8 (content v))
@@ -126,7 +128,7 @@ module _ (V E : Type 0) (name : List ℕ) (count : ℕ) (is_text : Bool) (conten
       lacks.3
       (subst IsUtf8 ((the_content major xs v before n c small h r).1 ∙ sym l.2) (r.2 lacks.1))
 
-  pub lent_refuses : (major : ℕ) (o : Result V (Lacks E)) (r : Result V (DecodeError E)) → major < 8
+  lent_refuses : (major : ℕ) (o : Result V (Lacks E)) (r : Result V (DecodeError E)) → major < 8
       → Named name o r → Kept a m → Sound (ReadsArgument major 8) a m count → IsExact false a
       → IfErr o (LacksContent count is_text m b)
       → IfErr r (Refuses (ReadsLent major is_text content) a)
@@ -164,7 +166,7 @@ module _ (V E : Type 0) (name : List ℕ) (count : ℕ) (is_text : Bool) (conten
             (counted major xs lacks.0 before h l.0 l.2) lacks.3 refl refl,
       )
 
-  pub lent_stops : (major : ℕ) (o : Result V (Lacks E)) (r : Result V (DecodeError E)) → major < 8
+  lent_stops : (major : ℕ) (o : Result V (Lacks E)) (r : Result V (DecodeError E)) → major < 8
       → Named name o r → Kept a m → Sound (ReadsArgument major 8) a m count → IsExact false a
       → IfErr o (LacksContent count is_text m b)
       → IfErr r (Stops (StopsLent name major is_text) a b)
@@ -203,7 +205,7 @@ module _ (V E : Type 0) (name : List ℕ) (count : ℕ) (is_text : Bool) (conten
             (counted major xs lacks.0 before h l.0 l.2) lacks.3 refl refl,
       )
 
-  pub lent_begins : (major : ℕ) (o : Result V (Lacks E)) (r : Result V (DecodeError E))
+  lent_begins : (major : ℕ) (o : Result V (Lacks E)) (r : Result V (DecodeError E))
       → Named name o r → Sound (ReadsArgument major 8) a m count
       → IfErr o (LacksContent count is_text m b)
       → IfErr r (Stops (BeginsLent name major is_text) a b)
@@ -217,9 +219,38 @@ module _ (V E : Type 0) (name : List ℕ) (count : ℕ) (is_text : Bool) (conten
         (begin_at major lack xs h.count h.read.0 h.left lacks);
   }
 
+  named_memory : (o : Result V (Lacks E)) (r : Result V (DecodeError E)) → Named name o r
+      → IfErr r (λ e. is_out_of_memory e ≡ false)
+  named_memory o (Ok w) n = tt
+  named_memory (Ok v) (Err e) n = absurd n
+  named_memory (Err lack) (Err e) n = n.memory
+
+  named_progress : (o : Result V (Lacks E)) (r : Result V (DecodeError E)) → Named name o r
+      → IfOk o (λ v. Lends count (content v) m b) → m.bound + 1 ≤ a.bound
+      → OnOk r (b.bound + 1 ≤ a.bound)
+  named_progress (Ok v) (Ok w) n lends before = omega (arith, lends.kept.bound, before)
+  named_progress (Err lack) (Ok w) n lends before = absurd n
+  named_progress o (Err e) n lends before = tt
+
+  pub lent_decodes : (major : ℕ) (o : Result V (Lacks E)) (r : Result V (DecodeError E)) → major < 8
+      → Named name o r → Decodes {E = E} (argument_spelling name major 8) a m (Ok count)
+      → IfOk o (λ v. Lends count (content v) m b)
+      → IfOk o (λ v. IsTrue is_text → IsUtf8 (content v))
+      → IfErr o (LacksContent count is_text m b)
+      → Decodes (lent_spelling name major is_text content) a b r
+  lent_decodes major o r small n d lends utf8 lacks = record {
+    moves = lent_moves o r n d.moves.by lends lacks;
+    progress = λ some. named_progress o r n lends (d.progress refl);
+    memory = no_memory r (named_memory o r n);
+    sound = lent_sound major o r n d.sound lends utf8;
+    complete = λ exact. lent_refuses major o r small n d.moves.by d.sound exact lacks;
+    stops = λ exact. lent_stops major o r small n d.moves.by d.sound exact lacks;
+    begins = lent_begins major o r n d.sound lacks;
+  }
+
 -- ---- the head is refused
 
-pub head_lends_none : {V E : Type 0} (major : ℕ) (is_text : Bool) (content : V → List ℕ)
+head_lends_none : {V E : Type 0} (major : ℕ) (is_text : Bool) (content : V → List ℕ)
     {e : DecodeError E} {a : View} → Refuses (ReadsArgument major 8) a e
     → Refuses (ReadsLent major is_text content) a e
 head_lends_none major is_text content p =
@@ -234,7 +265,7 @@ still : (name : List ℕ) (major : ℕ) (is_text : Bool) (xs : List ℕ) (budget
 still name major is_text xs budget left None h = tt
 still name major is_text xs budget left (Some z) h = (h.0, h.1, lent_head_refused h.2)
 
-pub head_stops_lent : {E : Type 0} (name : List ℕ) (major : ℕ) (is_text : Bool) {e : DecodeError E}
+head_stops_lent : {E : Type 0} (name : List ℕ) (major : ℕ) (is_text : Bool) {e : DecodeError E}
     {a b : View} → Stops (StopsArgument name major 8) a b e
     → Stops (StopsLent name major is_text) a b e
 head_stops_lent name major is_text {e = e} {a = a} {b = b} p = record {
@@ -242,10 +273,24 @@ head_stops_lent name major is_text {e = e} {a = a} {b = b} p = record {
       still name major is_text xs a.budget b.told (refusal_of e) (p.at xs told);
 }
 
-pub head_begins_lent : {E : Type 0} (name : List ℕ) (major : ℕ) (is_text : Bool) {e : DecodeError E}
+head_begins_lent : {E : Type 0} (name : List ℕ) (major : ℕ) (is_text : Bool) {e : DecodeError E}
     {a b : View} → Stops (StopsArgument name major 8) a b e
     → Stops (BeginsLent name major is_text) a b e
 head_begins_lent name major is_text {e = e} {a = a} {b = b} p = record {
   at = λ xs told. stops_as (refusal_of e) b.told (StopsArgument name major 8 xs a.budget)
       (BeginsLent name major is_text xs a.budget) (λ z ys h. begins_refused h) (p.at xs told);
+}
+
+pub lent_head_err : {V E : Type 0} (name : List ℕ) (major : ℕ) (is_text : Bool)
+    (content : V → List ℕ) {e : DecodeError E} {a b : View}
+    → Decodes (argument_spelling name major 8) a b (Err e)
+    → Decodes (lent_spelling name major is_text content) a b (Err e)
+lent_head_err name major is_text content d = record {
+  moves = moves_err d.moves;
+  progress = λ some. tt;
+  memory = d.memory;
+  sound = tt;
+  complete = λ exact. head_lends_none major is_text content (d.complete (inl refl));
+  stops = λ exact. head_stops_lent name major is_text d.begins;
+  begins = head_begins_lent name major is_text d.begins;
 }

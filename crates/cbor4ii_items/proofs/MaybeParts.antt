@@ -5,12 +5,10 @@ use Rattle.std.proofs.Common.{subst, arith, IfSome}
 use Rattle.std.specs.Prelude.{codes}
 use Rattle.cbor4ii_rw.specs.View.{View}
 use Rattle.cbor4ii_rw.specs.declared.error.DecodeError.{DecodeError}
-use Rattle.cbor4ii_items.specs.declared.types.Maybe.{Maybe}
 use Rattle.cbor4ii_items.specs.Head.{IsBytes}
-use Rattle.cbor4ii_items.specs.Refusal.{Refusal, refusal_of}
-use Rattle.cbor4ii_items.specs.Moves.{Kept}
+use Rattle.cbor4ii_items.specs.Refusal.{Refusal}
 use Rattle.cbor4ii_items.specs.Reading.{go_on}
-use Rattle.cbor4ii_items.specs.Decoding.{Reads, StopsAt, CostFits, NoneRead, Sound, Refuses, Stops}
+use Rattle.cbor4ii_items.specs.Decoding.{CostFits, NoneRead, Spelling, Decodes}
 use Rattle.cbor4ii_items.specs.Laws.Outcome.{same_value, same_refusal}
 use Rattle.cbor4ii_items.specs.Heads.{ReadsHead}
 use Rattle.cbor4ii_items.specs.Laws.Heads.{read_head, head_read, head_one}
@@ -20,10 +18,12 @@ use Rattle.cbor4ii_items.specs.Laws.Strings.{length_known}
 use Rattle.cbor4ii_items.specs.Laws.Fronts.{drop_more}
 use Rattle.cbor4ii_items.specs.Laws.Arguments.{ReadBy}
 use Rattle.cbor4ii_items.specs.Maybe.{ReadsFew, ReadsMaybe, StopsFew, few_head_refused, few_open}
-use Rattle.cbor4ii_items.specs.Maybe.{few_other, StopsMaybe, maybe_head_refused, maybe_item_refused}
-use Rattle.cbor4ii_items.specs.Maybe.{few_by, few_at}
-use Rattle.cbor4ii_items.specs.Laws.Maybe.{two_counts}
-use Rattle.cbor4ii_items.specs.Laws.Answering.{fits_zero, refuses_as, if_some}
+use Rattle.cbor4ii_items.specs.Maybe.{few_other, maybe_head_refused, maybe_item_refused}
+use Rattle.cbor4ii_items.specs.Maybe.{few_by, few_at, few_spelling}
+use Rattle.cbor4ii_items.specs.Laws.Maybe.{two_counts, maybe_spelling}
+use Rattle.cbor4ii_items.specs.Laws.Calls.{ok, ok_behind, err_behind}
+use Rattle.cbor4ii_items.specs.Laws.Running.{kept_alike}
+use Rattle.cbor4ii_items.specs.Laws.Answering.{fits_zero}
 use Rattle.cbor4ii_items.proofs.Leaves.{IsLeaf}
 use Rattle.cbor4ii_items.proofs.StringsRead.{no_length}
 
@@ -93,101 +93,82 @@ few_leaf = record { means = few_means; again = few_again; refuses = few_refuses 
 
 -- ---- the item
 
-abbrev pub MaybeOf : {V : Type 0} → Reads V → Reads (Maybe (Option V))
-MaybeOf reads xs v n c = ReadsMaybe reads xs v.0 n c
+module _ {V : Type 0} (s : Spelling V) where
+  no_item : (xs : List ℕ) (i : ℕ) (budget : Option ℕ) → ReadsHead 4 8 xs 1 i
+      → NoneRead s.reads (drop i xs) budget → (v : Option V) (n c : ℕ)
+      → ReadsMaybe s.reads xs v n c → CostFits c budget → ⊥
+  no_item xs i budget head none None n c r fits = two_counts xs n i r.0 head
+  no_item xs i budget head none (Some v) n c r fits =
+      let same = head_one 4 8 xs 1 1 r.before i (omega arith) r.head head in
+      none v r.count c (subst (λ k. s.reads (drop k xs) v r.count c) same.0 r.item) fits
 
-pub maybe_none : {V : Type 0} (reads : Reads V) (a b : View) (t : Bool) → t ≡ false
-    → Sound ReadsFew a b t → Sound (MaybeOf reads) a b (record { 0 = None })
-maybe_none reads a b t e s = record {
-  at = λ xs told.
-      let p = s.at xs told in
-      record {
-        count = p.count;
-        cost = p.cost;
-        read = subst (λ v. ReadsFew xs v p.count p.cost) e p.read;
-        fits = p.fits;
-        left = p.left;
-      };
-}
+  no_few : (xs : List ℕ) (budget : Option ℕ) → NoneRead ReadsFew xs budget
+      → (v : Option V) (n c : ℕ) → ReadsMaybe s.reads xs v n c → CostFits c budget → ⊥
+  no_few xs budget none None n c r fits = none false n c r fits
+  no_few xs budget none (Some v) n c r fits =
+      none true r.before 0 (r.head, refl) (fits_zero budget)
 
-pub maybe_some : {V : Type 0} (reads : Reads V) (a m b : View) (t : Bool) (v : V) → t ≡ true
-    → Kept a m → Sound ReadsFew a m t → Sound reads m b v
-    → Sound (MaybeOf reads) a b (record { 0 = Some v })
-maybe_some reads a m b t v e kept h s = record {
-  at = λ xs told.
-      let p = h.at xs told in
-      let u = s.at (drop p.count xs) p.left in
-      let one = subst (λ w. ReadsFew xs w p.count p.cost) e p.read in
-      record {
-        count = p.count + u.count;
-        cost = u.cost;
-        read =
-            record { before = p.count; head = one.0; count = u.count; item = u.read; bytes = refl };
-        fits = subst (CostFits u.cost) kept.budget u.fits;
-        left = u.left ∙ ap Some (drop_more u.count p.count xs);
-      };
-}
+module _ {V E : Type 0} (s : Spelling V) {a m : View} where
+  pub maybe_head_err : {e : DecodeError E} → Decodes few_spelling a m (Err e)
+      → Decodes (maybe_spelling s) a m (Err e)
+  maybe_head_err d = err_behind few_spelling (maybe_spelling s) (kept_alike a) (λ xs told. (
+    xs,
+    told,
+    record {
+      none = λ none v. no_few s xs a.budget none v.0;
+      stops = λ z ys. maybe_head_refused;
+      begins = λ z ys. maybe_head_refused;
+    },
+  )) (λ owned. refl) (λ takes. cc) d
 
-no_maybe : {V : Type 0} (reads : Reads V) (xs : List ℕ) (i : ℕ) (old new : Option ℕ) → old ≡ new
-    → ReadsHead 4 8 xs 1 i → NoneRead reads (drop i xs) old → (v : Option V) (n c : ℕ)
-    → ReadsMaybe reads xs v n c → CostFits c new → ⊥
-no_maybe reads xs i old new e head none None n c r fits = two_counts xs n i r.0 head
-no_maybe reads xs i old new e head none (Some v) n c r fits =
-    let same = head_one 4 8 xs 1 1 r.before i (omega arith) r.head head in
-    none v r.count c (subst (λ k. reads (drop k xs) v r.count c) same.0 r.item)
-    (subst (CostFits c) (sym e) fits)
+  module _ {follows : Bool} (d : Decodes {E = E} few_spelling a m (Ok follows)) where
+    pub maybe_none : follows ≡ false
+        → Decodes {E = E} (maybe_spelling s) a m (Ok (record { 0 = None }))
+    maybe_none none = ok (maybe_spelling s) d.moves.by d.progress (record {
+      at = λ xs told.
+          let p = d.sound.at xs told in
+          record {
+            count = p.count;
+            cost = p.cost;
+            read = subst (λ v. ReadsFew xs v p.count p.cost) none p.read;
+            fits = p.fits;
+            left = p.left;
+          };
+    })
 
-pub maybe_refuses : {V E : Type 0} (reads : Reads V) (e : DecodeError E) (a m : View) (t : Bool)
-    → t ≡ true → Kept a m → Sound ReadsFew a m t
-    → ((xs : List ℕ) → a.told ≡ Some xs → Refuses reads m e) → Refuses (MaybeOf reads) a e
-maybe_refuses reads e a m t is kept h r = record {
-  at = λ xs told.
-      let p = h.at xs told in
-      let one = subst (λ w. ReadsFew xs w p.count p.cost) is p.read in
-      if_some (refusal_of e)
-      (λ none v. no_maybe reads xs p.count m.budget a.budget kept.budget one.0 none v.0)
-      ((r xs told).at (drop p.count xs) p.left);
-}
+    module _ (yes : follows ≡ true) {b : View} where
+      pub maybe_some : {v : V} → Decodes {E = E} s m b (Ok v)
+          → Decodes {E = E} (maybe_spelling s) a b (Ok (record { 0 = Some v }))
+      maybe_some h = ok_behind s (maybe_spelling s) d.moves.by (λ xs told.
+          let p = d.sound.at xs told in
+          let one = subst (λ w. ReadsFew xs w p.count p.cost) yes p.read in (
+            drop p.count xs,
+            p.left,
+            λ n c r fits. record {
+              count = p.count + n;
+              cost = c;
+              read = record {
+                before = p.count;
+                head = one.0;
+                count = n;
+                item = r;
+                bytes = refl;
+              };
+              fits = fits;
+              left = drop_more n p.count xs;
+            },
+          )) (λ some. omega (arith, d.progress refl, h.moves.by.bound)) h
 
-no_few : {V : Type 0} (reads : Reads V) (xs : List ℕ) (budget : Option ℕ)
-    → NoneRead ReadsFew xs budget → (v : Option V) (n c : ℕ) → ReadsMaybe reads xs v n c
-    → CostFits c budget → ⊥
-no_few reads xs budget none None n c r fits = none false n c r fits
-no_few reads xs budget none (Some v) n c r fits =
-    none true r.before 0 (r.head, refl) (fits_zero budget)
-
-pub maybe_no_head : {V E : Type 0} (reads : Reads V) (e : DecodeError E) (a : View)
-    → Refuses ReadsFew a e → Refuses (MaybeOf reads) a e
-maybe_no_head reads e a h =
-    refuses_as ReadsFew (MaybeOf reads) (λ xs budget none v. no_few reads xs budget none v.0) h
-
-stops_item : (o : Option Refusal) (stops : StopsAt) (xs : List ℕ) (n : ℕ) (old mid : Option ℕ)
-    (left : Option (List ℕ)) → mid ≡ old → ReadsHead 4 8 xs 1 n
-    → IfSome o (λ z. (ys : List ℕ) × (left ≡ Some ys) × stops (drop n xs) mid z ys)
-    → IfSome o (λ z. (ys : List ℕ) × (left ≡ Some ys) × StopsMaybe stops xs old z ys)
-stops_item None stops xs n old mid left e f h = tt
-stops_item (Some z) stops xs n old mid left e f h =
-    (h.0, h.1, maybe_item_refused n f (subst (λ b. stops (drop n xs) b z h.0) e h.2))
-
-pub maybe_stops : {E : Type 0} (stops : StopsAt) (a m b : View) (e : DecodeError E) (t : Bool)
-    → t ≡ true → Kept a m → Sound ReadsFew a m t
-    → ((xs : List ℕ) → a.told ≡ Some xs → Stops stops m b e) → Stops (StopsMaybe stops) a b e
-maybe_stops stops a m b e t is kept h s = record {
-  at = λ xs told.
-      let p = h.at xs told in
-      let one = subst (λ w. ReadsFew xs w p.count p.cost) is p.read in
-      stops_item (refusal_of e) stops xs p.count a.budget m.budget b.told kept.budget one.0
-      ((s xs told).at (drop p.count xs) p.left);
-}
-
-stops_head : (o : Option Refusal) (stops : StopsAt) (xs : List ℕ) (budget : Option ℕ)
-    (left : Option (List ℕ))
-    → IfSome o (λ z. (ys : List ℕ) × (left ≡ Some ys) × StopsFew xs budget z ys)
-    → IfSome o (λ z. (ys : List ℕ) × (left ≡ Some ys) × StopsMaybe stops xs budget z ys)
-stops_head None stops xs budget left h = tt
-stops_head (Some z) stops xs budget left h = (h.0, h.1, maybe_head_refused h.2)
-
-pub maybe_head_stops : {E : Type 0} (stops : StopsAt) (a b : View) (e : DecodeError E)
-    → Stops StopsFew a b e → Stops (StopsMaybe stops) a b e
-maybe_head_stops stops a b e h =
-    record { at = λ xs told. stops_head (refusal_of e) stops xs a.budget b.told (h.at xs told) }
+      pub maybe_err : {e : DecodeError E} → Decodes s m b (Err e)
+          → Decodes (maybe_spelling s) a b (Err e)
+      maybe_err h = err_behind s (maybe_spelling s) d.moves.by (λ xs told.
+          let p = d.sound.at xs told in
+          let one = subst (λ w. ReadsFew xs w p.count p.cost) yes p.read in (
+            drop p.count xs,
+            p.left,
+            record {
+              none = λ none v. no_item s xs p.count a.budget one.0 none v.0;
+              stops = λ z ys. maybe_item_refused p.count one.0;
+              begins = λ z ys. maybe_item_refused p.count one.0;
+            },
+          )) (λ owned. owned) (λ takes. takes) h

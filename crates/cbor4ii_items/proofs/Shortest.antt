@@ -3,7 +3,7 @@ use Rattle.std.proofs.Common.{◌≡◌, ◌≢◌, ℕ, ◌+◌, ◌-◌, ◌*�
 use Rattle.std.proofs.Common.{◌∷◌, ◌++◌, length, drop, take, Option, Some, Result, Ok, Err, Bool}
 use Rattle.std.proofs.Common.{true, false, refl, sym, ap, ap₂, ◌∙◌, subst, arith, cond, ltb, leb}
 use Rattle.std.proofs.Common.{eqb, le-ltb, leb-true, eqb-true, eq-eqb, ne_eqb, le-leb}
-use Rattle.std.proofs.Common.{IfOk, IfErr}
+use Rattle.std.proofs.Common.{OnOk}
 use Rattle.std.specs.Int.{bytes_high_first}
 use Rattle.std.proofs.lemmas.List.{length-drop, length-take-le, length-take}
 use Rattle.std.specs.declared.vec.Vec.{Vec}
@@ -16,7 +16,7 @@ use Rattle.cbor4ii_items.specs.Refusal.{Refusal, refusal_of, is_read, is_depth_o
 use Rattle.cbor4ii_items.specs.Refusal.{len_of, not_canonical}
 use Rattle.cbor4ii_items.specs.Initial.{info_of}
 use Rattle.cbor4ii_items.specs.Reading.{Reading, give, refuse, ◌>=>◌, Runs, peek_at}
-use Rattle.cbor4ii_items.specs.Decoding.{Sound, Refuses, Stops}
+use Rattle.cbor4ii_items.specs.Decoding.{Stops, Decodes}
 use Rattle.cbor4ii_items.specs.Laws.Outcome.{same_value, same_refusal}
 use Rattle.cbor4ii_items.specs.Heads.{ReadsHead}
 use Rattle.cbor4ii_items.specs.Laws.Heads.{read_head, head_again, behind_head, after_head}
@@ -30,7 +30,8 @@ use Rattle.cbor4ii_items.specs.ReadShortest.{shortest_string_at}
 use Rattle.cbor4ii_items.specs.Shortest.{canonical_name, OpensLength, ReadsShortest, StopsShortest}
 use Rattle.cbor4ii_items.specs.Shortest.{shortest_refused, shortest_open, too_long}
 use Rattle.cbor4ii_items.specs.Shortest.{ReadsShortestString, StopsShortestString, length_refused}
-use Rattle.cbor4ii_items.specs.Shortest.{content_cut}
+use Rattle.cbor4ii_items.specs.Shortest.{content_cut, shortest_string_spelling}
+use Rattle.cbor4ii_items.specs.Laws.Calls.{ok}
 use Rattle.cbor4ii_items.specs.Laws.ProgramEnds.{Passed, ok_parts, err_parts, head_leaves}
 use Rattle.cbor4ii_items.specs.Laws.ProgramEnds.{content_inverse}
 use Rattle.cbor4ii_items.specs.Laws.Fronts.{drop_more}
@@ -330,29 +331,27 @@ string_stops name major budget xs z ys e seen =
     ]
 
 module _ {E Z : Type 0} (name : List ℕ) (major : ℕ) {a b : View} where
-  pub string_sound : (r : Result (Vec ℕ Z) (DecodeError E))
-      → Runs (shortest_string_at name major) a b (listed r)
-      → IfOk r (λ v. Sound (ReadsShortestString major) a b v.items)
-  string_sound (Ok v) p =
-      sound_by (ReadsShortestString major)
-      (λ xs ys e seen. string_found name major a.budget xs v.items ys e seen) p
-  string_sound (Err e) p = tt
-
-  pub string_complete : (r : Result (Vec ℕ Z) (DecodeError E))
-      → Runs (shortest_string_at name major) a b (listed r)
-      → IfErr r (Refuses (ReadsShortestString major) a)
-  string_complete (Ok v) p = tt
-  string_complete (Err e) p =
-      refuses_by (ReadsShortestString major)
-      (λ xs v n c h fits. string_again name major xs v n c h) p
-
-  pub string_refused : (r : Result (Vec ℕ Z) (DecodeError E))
-      → Runs (shortest_string_at name major) a b (listed r)
-      → IfErr r (Stops (StopsShortestString name major) a b)
-  string_refused (Ok v) p = tt
-  string_refused (Err e) p =
+  pub string_decodes : (r : Result (Vec ℕ Z) (DecodeError E))
+      → Runs (shortest_string_at name major) a b (listed r) → OnOk r (b.bound + 1 ≤ a.bound)
+      → Decodes (shortest_string_spelling name major) a b (listed r)
+  string_decodes (Ok v) p progress =
+      ok (shortest_string_spelling name major) p.moves.by (λ some. progress)
+      (sound_by (ReadsShortestString major)
+      (λ xs ys e seen. string_found name major a.budget xs v.items ys e seen) p)
+  string_decodes (Err e) p progress =
+      let stops : Stops (StopsShortestString name major) a b e =
       stops_by (StopsShortestString name major)
-      (λ xs z ys f seen. string_stops name major a.budget xs z ys f seen) p
+      (λ xs z ys f seen. string_stops name major a.budget xs z ys f seen) p in
+      record {
+        moves = p.moves;
+        progress = λ some. tt;
+        memory = λ out. refl;
+        sound = tt;
+        complete = λ exact. refuses_by (ReadsShortestString major)
+            (λ xs v n c h fits. string_again name major xs v n c h) p;
+        stops = λ exact. stops;
+        begins = stops;
+      }
 
 -- ---- the calls
 

@@ -12,8 +12,8 @@ use Rattle.cbor4ii_items.specs.declared.types.Bytes.{Bytes}
 use Rattle.cbor4ii_items.specs.declared.types.UncheckedStr.{UncheckedStr}
 use Rattle.cbor4ii_items.specs.Head.{open_head}
 use Rattle.cbor4ii_items.specs.Reading.{Reading, Runs}
-use Rattle.cbor4ii_items.specs.Strings.{ReadsAs, ReadsTextAs, StopsString, StopsText}
-use Rattle.cbor4ii_items.specs.Decoding.{Reads, StopsAt}
+use Rattle.cbor4ii_items.specs.Strings.{as_spelling, text_spelling}
+use Rattle.cbor4ii_items.specs.Decoding.{Spelling}
 
 -- ---- which strings are borrowed
 
@@ -67,13 +67,9 @@ cow_unchecked_stands v view = slice_stands v.0 view
 
 -- ---- a text, or a string that is not tested
 
-abbrev pub ReadsEither : {V : Type 0} → Bool → ℕ → (V → List ℕ) → Reads V
-ReadsEither true major content = ReadsTextAs content
-ReadsEither false major content = ReadsAs major content
-
-abbrev pub StopsEither : Bool → List ℕ → ℕ → StopsAt
-StopsEither true name major = StopsText name
-StopsEither false name major = StopsString name major
+abbrev pub either_spelling : {V : Type 0} → Bool → List ℕ → ℕ → (V → List ℕ) → Spelling V
+either_spelling true name major content = text_spelling name content
+either_spelling false name major content = as_spelling name major content
 
 -- the value has this content, which is UTF-8 where it is to be; or there is none, since it is not
 abbrev pub Holds : {V : Type 0} → Bool → (V → List ℕ) → List ℕ → Option V → Type 0

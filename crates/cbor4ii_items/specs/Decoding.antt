@@ -1,9 +1,11 @@
 -- What a decoding call answers, where the reader tells its bytes.
 use Rattle.std.specs.Prelude.{◌^◌, ◌<◌, length, ◌≡◌, ℕ, ◌≤◌, ◌⊎◌, Bool, List, drop, None, Some}
-use Rattle.std.specs.Prelude.{Option, IfSome, IsTrue}
+use Rattle.std.specs.Prelude.{Option, Result, IfSome, IfOk, IfErr, OnOk, IsTrue, true, false}
+use Rattle.std.specs.Prelude.{take, ◌++◌, ◌+◌}
 use Rattle.cbor4ii_rw.specs.View.{View, Told}
 use Rattle.cbor4ii_rw.specs.declared.error.DecodeError.{DecodeError}
-use Rattle.cbor4ii_items.specs.Refusal.{Refusal, refusal_of}
+use Rattle.cbor4ii_items.specs.Refusal.{Refusal, refusal_of, is_out_of_memory}
+use Rattle.cbor4ii_items.specs.Moves.{Moves}
 
 -- what a type reads: the bytes to come, the value, how many of them it takes, and the steps that it
 -- costs
@@ -54,3 +56,90 @@ pub record Stops {E : Type 0} (stops : List ℕ → Option ℕ → Refusal → L
 abbrev pub IsExact : Bool → View → Type 0
 IsExact owned view =
     IsTrue owned ⊎ (IsTrue view.lends_whole × Told view.told (λ xs. length xs < 2 ^ 64))
+
+-- what a type reads, and how it refuses
+pub record Spelling (V : Type 0) : Type 1 where
+  pub reads : List ℕ → V → ℕ → ℕ → Type 0
+  -- the two values mean the same
+  pub same : V → V → Type 0
+  pub stops : List ℕ → Option ℕ → Refusal → List ℕ → Type 0
+  -- as stops, over any reader
+  pub begins : List ℕ → Option ℕ → Refusal → List ℕ → Type 0
+  pub never_empty : Bool
+  pub owned : Bool
+  pub takes_memory : Bool
+  pub closed : Bool
+
+-- a type that borrows nothing, takes no memory, and whose values are compared as they are
+abbrev pub leaf_spelling : {V : Type 0} → Reads V → StopsAt → Spelling V
+leaf_spelling reads stops = record {
+  reads = reads;
+  same = λ v w. v ≡ w;
+  stops = stops;
+  begins = stops;
+  never_empty = true;
+  owned = true;
+  takes_memory = false;
+  closed = true;
+}
+
+-- the same of what may take no byte, where what comes next says which
+abbrev pub looking_spelling : {V : Type 0} → Reads V → StopsAt → Spelling V
+looking_spelling reads stops = record {
+  reads = reads;
+  same = λ v w. v ≡ w;
+  stops = stops;
+  begins = stops;
+  never_empty = false;
+  owned = true;
+  takes_memory = false;
+  closed = false;
+}
+
+-- a type that is read and refused as its part is
+abbrev pub spelling_by : {U V : Type 0} → (V → U) → Spelling U → Spelling V
+spelling_by part s = record {
+  reads = λ xs v. s.reads xs (part v);
+  same = λ v w. s.same (part v) (part w);
+  stops = s.stops;
+  begins = s.begins;
+  never_empty = s.never_empty;
+  owned = s.owned;
+  takes_memory = s.takes_memory;
+  closed = s.closed;
+}
+
+-- the same, where memory may be taken too
+abbrev pub taking_memory : {V : Type 0} → Spelling V → Spelling V
+taking_memory s = record {
+  reads = s.reads;
+  same = s.same;
+  stops = s.stops;
+  begins = s.begins;
+  never_empty = s.never_empty;
+  owned = s.owned;
+  takes_memory = true;
+  closed = s.closed;
+}
+
+-- one input is read in one way, what is read stands in it, and a spelling is read whatever follows
+pub record IsLawful {V : Type 0} (spelling : Spelling V) : Type 0 where
+  pub one : (xs : List ℕ) (v w : V) (n m c d : ℕ) → spelling.reads xs v n c
+      → spelling.reads xs w m d → (n ≡ m) × (c ≡ d) × spelling.same v w
+  pub within : (xs : List ℕ) (v : V) (n c : ℕ) → spelling.reads xs v n c → n ≤ length xs
+  pub positive : IsTrue spelling.never_empty → (xs : List ℕ) (v : V) (n c : ℕ)
+      → spelling.reads xs v n c → 1 ≤ n
+  pub alone : IsTrue spelling.closed → (xs ys : List ℕ) (v : V) (n c : ℕ)
+      → spelling.reads xs v n c → spelling.reads (take n xs ++ ys) v n c
+
+-- a call that reads one item
+pub record Decodes {V E : Type 0} (spelling : Spelling V) (old new : View)
+    (answer : Result V (DecodeError E)) : Type 0 where
+  pub moves : Moves old new answer
+  pub progress : IsTrue spelling.never_empty → OnOk answer (new.bound + 1 ≤ old.bound)
+  pub memory : IfErr answer (λ error. IsTrue (is_out_of_memory error)
+      → IsTrue spelling.takes_memory)
+  pub sound : IfOk answer (Sound spelling.reads old new)
+  pub complete : IsExact spelling.owned old → IfErr answer (Refuses spelling.reads old)
+  pub stops : IsExact spelling.owned old → IfErr answer (Stops spelling.stops old new)
+  pub begins : IfErr answer (Stops spelling.begins old new)

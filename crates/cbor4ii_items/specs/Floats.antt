@@ -13,7 +13,7 @@ use Rattle.cbor4ii_items.specs.ReadHead.{number_on}
 use Rattle.cbor4ii_items.specs.Laws.Heads.{number_again, length-bytes_high_first}
 use Rattle.cbor4ii_items.specs.Laws.Arguments.{ReadBy, leaf_one, leaf_within, leaf_positive}
 use Rattle.cbor4ii_items.specs.Marked.{NoneBegins, marked_at, within_marks}
-use Rattle.cbor4ii_items.specs.Decoding.{StopsAt}
+use Rattle.cbor4ii_items.specs.Decoding.{StopsAt, Spelling, IsLawful, leaf_spelling}
 
 -- the first byte, and the bits in so many bytes
 abbrev pub float_bytes : ℕ → ℕ → ℕ → List ℕ
@@ -101,3 +101,15 @@ float_alone marker count xs ys v n c h =
       size = h.size;
       cost = h.cost;
     }
+
+abbrev pub float_spelling : List ℕ → ℕ → ℕ → Spelling ℕ
+float_spelling name marker count = leaf_spelling (ReadsFloat marker count) (StopsFloat name marker
+    count)
+
+pub float_lawful : (name : List ℕ) (marker count : ℕ) → IsLawful (float_spelling name marker count)
+float_lawful name marker count = record {
+  one = float_one marker count;
+  within = float_within marker count;
+  positive = λ some. float_positive marker count;
+  alone = λ closed. float_alone marker count;
+}

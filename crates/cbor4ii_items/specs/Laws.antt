@@ -4,6 +4,8 @@ pub mod Arguments
 pub mod Steps
 pub mod Running
 pub mod Answering
+pub mod Calls
+pub mod Spellings
 pub mod UnderStep
 pub mod Breaks
 pub mod ReadingHeads
@@ -15,7 +17,6 @@ pub mod NumbersBack
 pub mod LeavesBack
 pub mod PartsBack
 pub mod SequenceParts
-pub mod SequenceInside
 pub mod Pairs
 pub mod Heads
 pub mod Bignums

@@ -15,7 +15,7 @@ use Rattle.cbor4ii_items.specs.Strings.{ReadsCountedString}
 use denote.Ref.{Bor}
 use Rattle.cbor4ii_items.specs.declared.types.Bytes.{Bytes}
 use Rattle.cbor4ii_items.specs.declared.types.UncheckedStr.{UncheckedStr}
-use Rattle.cbor4ii_items.specs.Decoding.{Reads}
+use Rattle.cbor4ii_items.specs.Decoding.{Reads, Spelling}
 
 -- ---- what is read
 
@@ -52,6 +52,20 @@ pub data BeginsLent (name : List ℕ) (major : ℕ) (is_text : Bool) (xs : List 
   begins_no_utf8 : (content : List ℕ) (n : ℕ) → IsTrue is_text
       → ReadsCountedString major xs content n → (IsUtf8 content → ⊥) → refusal ≡ require_utf8 name
       → rest ≡ drop n xs → BeginsLent name major is_text xs budget refusal rest
+
+-- A type that needs a borrowed part of the input: what is refused over any reader depends on how it
+-- cuts.
+abbrev pub lent_spelling : {V : Type 0} → List ℕ → ℕ → Bool → (V → List ℕ) → Spelling V
+lent_spelling name major is_text content = record {
+  reads = ReadsLent major is_text content;
+  same = λ v w. content v ≡ content w;
+  stops = StopsLent name major is_text;
+  begins = BeginsLent name major is_text;
+  never_empty = true;
+  owned = false;
+  takes_memory = false;
+  closed = true;
+}
 
 -- ---- a content that is lent
 

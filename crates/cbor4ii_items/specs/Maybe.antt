@@ -10,7 +10,7 @@ use Rattle.cbor4ii_items.specs.ReadHead.{length_at}
 use Rattle.cbor4ii_items.specs.Heads.{ReadsHead}
 use Rattle.cbor4ii_items.specs.Lengths.{StopsLength}
 use Rattle.cbor4ii_items.specs.Numbers.{shortest_head}
-use Rattle.cbor4ii_items.specs.Decoding.{Reads, StopsAt}
+use Rattle.cbor4ii_items.specs.Decoding.{Reads, StopsAt, Spelling, leaf_spelling}
 
 -- ---- what is read
 
@@ -51,6 +51,9 @@ pub data StopsMaybe (stops : StopsAt) (xs : List ℕ) (budget : Option ℕ) (ref
   maybe_head_refused : StopsFew xs budget refusal rest → StopsMaybe stops xs budget refusal rest
   maybe_item_refused : (before : ℕ) → ReadsHead 4 8 xs 1 before
       → stops (drop before xs) budget refusal rest → StopsMaybe stops xs budget refusal rest
+
+abbrev pub few_spelling : Spelling Bool
+few_spelling = leaf_spelling ReadsFew StopsFew
 
 -- ---- the head, read off the front of bytes
 

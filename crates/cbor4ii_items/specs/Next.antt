@@ -3,9 +3,9 @@
 use Rattle.std.specs.Prelude.{◌≡◌, ℕ, ◌-◌, List, [], ◌∷◌, take, Bool, true, false, not, Option}
 use Rattle.std.specs.Prelude.{Some, None, nat_lt}
 use Rattle.cbor4ii_rw.specs.declared.error.Len.TheVariants.{Small}
-use Rattle.cbor4ii_items.specs.Decoding.{Reads, StopsAt}
+use Rattle.cbor4ii_items.specs.Decoding.{Reads, StopsAt, Spelling, looking_spelling}
 use Rattle.cbor4ii_items.specs.Refusal.{eof}
-use Rattle.cbor4ii_items.specs.Strings.{ReadsBreak}
+use Rattle.cbor4ii_items.specs.Strings.{ReadsBreak, StopsBreak}
 
 -- ---- the next byte
 
@@ -16,6 +16,9 @@ ReadsNext xs b n c = (take 1 xs ≡ b ∷ []) × (n ≡ 0) × (c ≡ 0)
 -- there is no byte
 abbrev pub StopsNext : List ℕ → StopsAt
 StopsNext name xs budget refusal rest = (xs ≡ []) × (refusal ≡ eof name (Small 1)) × (rest ≡ [])
+
+abbrev pub next_spelling : List ℕ → Spelling ℕ
+next_spelling name = looking_spelling ReadsNext (StopsNext name)
 
 -- ---- whether a part follows
 
@@ -31,3 +34,6 @@ abbrev pub length_left : Option ℕ → Bool → Option ℕ
 length_left (Some left) more = Some (left - 1)
 length_left None true = None
 length_left None false = Some 0
+
+abbrev pub follows_spelling : Option ℕ → Spelling Bool
+follows_spelling len = looking_spelling (ReadsFollows len) StopsBreak

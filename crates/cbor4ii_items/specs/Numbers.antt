@@ -8,7 +8,7 @@ use Rattle.cbor4ii_items.specs.Refusal.{Refusal, mismatch, eof, require_length, 
 use Rattle.cbor4ii_items.specs.Refusal.{cast_overflow, len_of}
 use Rattle.cbor4ii_items.specs.Heads.{ReadsHead, StopsHead}
 use Rattle.cbor4ii_items.specs.Magnitude.{number_of, magnitude}
-use Rattle.cbor4ii_items.specs.Decoding.{Reads, StopsAt}
+use Rattle.cbor4ii_items.specs.Decoding.{Reads, StopsAt, Spelling, leaf_spelling, spelling_by}
 
 -- ---- the argument of a head
 
@@ -18,6 +18,10 @@ ReadsArgument major width xs v n c = ReadsHead major width xs v n × (c ≡ 0)
 
 abbrev pub StopsArgument : List ℕ → ℕ → ℕ → StopsAt
 StopsArgument name major width xs budget refusal rest = StopsHead name major width xs refusal rest
+
+abbrev pub argument_spelling : List ℕ → ℕ → ℕ → Spelling ℕ
+argument_spelling name major width =
+    leaf_spelling (ReadsArgument major width) (StopsArgument name major width)
 
 -- an unsigned integer of so many bytes
 abbrev pub ReadsUnsigned : ℕ → Reads ℕ
@@ -32,6 +36,9 @@ ReadsNegative width xs v n c = ReadsArgument 1 width xs v.0 n c
 
 abbrev pub StopsNegative : List ℕ → ℕ → StopsAt
 StopsNegative name width = StopsArgument name 1 width
+
+abbrev pub negative_spelling : List ℕ → ℕ → Spelling (Negative ℕ)
+negative_spelling name width = spelling_by (λ v. v.0) (argument_spelling name 1 width)
 
 -- ---- signed integers of at most eight bytes
 
@@ -68,6 +75,11 @@ pub data StopsSigned (name plus minus : List ℕ) (width limit : ℕ) (xs : List
   negative_refused : (b : ℕ) (bs : List ℕ) → xs ≡ b ∷ bs → b / 32 ≡ 1
       → StopsHalf minus 1 width limit xs refusal rest
       → StopsSigned name plus minus width limit xs refusal rest
+
+abbrev pub signed_spelling : List ℕ → List ℕ → List ℕ → ℕ → ℕ → Spelling ℤ
+signed_spelling name plus minus width limit =
+    leaf_spelling (ReadsSigned width limit) (λ xs budget. StopsSigned name plus minus width limit
+    xs)
 
 -- ---- bignums of at most sixteen bytes
 

@@ -1,13 +1,13 @@
 -- What arrays and maps are spelled as, and how they are refused (RFC 8949 sections 3.1, 3.2.1 and
 -- 3.2.2). Both are sequences of parts: a part of an array is an item, and a part of a map is a key
 -- and its value.
-use Rattle.std.specs.Prelude.{◌≡◌, ◌≢◌, ℕ, ◌+◌, ◌-◌, ◌<◌, ◌⊎◌, List, [], ◌∷◌, ◌++◌, length, take}
-use Rattle.std.specs.Prelude.{drop, max, Bool, false, Option, None, Some, IsTrue, codes}
+use Rattle.std.specs.Prelude.{◌≡◌, ◌≢◌, ℕ, ◌+◌, ◌-◌, ◌<◌, ◌⊎◌, List, [], ◌∷◌, length, take}
+use Rattle.std.specs.Prelude.{◌&&◌, ◌||◌, drop, max, Bool, true, false, Option, None, Some}
+use Rattle.std.specs.Prelude.{IsTrue, codes}
 use Rattle.std.specs.declared.alloc.Global.{Global}
 use Rattle.std.specs.declared.vec.Vec.{Vec}
 use Rattle.cbor4ii_rw.specs.declared.error.Len.TheVariants.{Small, Indefinite}
-use Rattle.cbor4ii_rw.specs.View.{View}
-use Rattle.cbor4ii_items.specs.Decoding.{Reads, StopsAt, CostFits, Sound}
+use Rattle.cbor4ii_items.specs.Decoding.{Reads, StopsAt, CostFits, Spelling, spelling_by}
 use Rattle.cbor4ii_items.specs.Head.{break, open_head}
 use Rattle.cbor4ii_items.specs.Heads.{ReadsHead, StopsHead}
 use Rattle.cbor4ii_items.specs.declared.types.Map.{Map}
@@ -138,25 +138,47 @@ pub data StopsSequence {P : Type 0} (name : List ℕ) (major : ℕ) (reads : Rea
       → StopsInside name major reads stops never_empty xs (after_step budget) refusal rest
       → StopsSequence name major reads stops never_empty xs budget refusal rest
 
--- ---- what a decoding call adds
+-- ---- the parts in a vector
 
--- one part was read, and stands behind those that were there
-pub record AddsPart {P : Type 0} (reads : Reads P) (before after : List P)
-    (old new : View) : Type 0 where
-  pub part : P
-  pub read : Sound reads old new part
-  pub added : after ≡ before ++ part ∷ []
+-- parts that are read and refused so
+abbrev pub parts_spelling : {P : Type 0} → Spelling P → Reads (List P) → StopsAt → StopsAt → Bool
+    → Spelling (Vec P Global)
+parts_spelling s reads stops begins never_empty = record {
+  reads = λ xs v. reads xs v.items;
+  same = λ v w. SameParts s.same v.items w.items;
+  stops = stops;
+  begins = begins;
+  never_empty = never_empty;
+  owned = s.owned;
+  takes_memory = true;
+  closed = s.closed;
+}
 
--- ---- arrays
+abbrev pub count_spelling : {P : Type 0} → Spelling P → ℕ → Spelling (Vec P Global)
+count_spelling s count =
+    parts_spelling s (ReadsCount s.reads count) (StopsCount s.reads s.stops count)
+    (StopsCount s.reads s.begins count) false
 
-abbrev pub ReadsArray : {V : Type 0} → Reads V → Bool → Reads (Vec V Global)
-ReadsArray reads never_empty xs v n c = ReadsSequence 4 reads never_empty xs v.items n c
+abbrev pub open_spelling : {P : Type 0} → List ℕ → Spelling P → Spelling (Vec P Global)
+open_spelling name s =
+    parts_spelling s (ReadsUpToBreak s.reads s.never_empty)
+    (StopsUpToBreak name s.reads s.stops s.never_empty)
+    (StopsUpToBreak name s.reads s.begins s.never_empty) false
 
-abbrev pub SameArray : {V : Type 0} → (V → V → Type 0) → Vec V Global → Vec V Global → Type 0
-SameArray same v w = SameParts same v.items w.items
+abbrev pub inside_spelling : {P : Type 0} → List ℕ → ℕ → Spelling P → Spelling (Vec P Global)
+inside_spelling name major s =
+    parts_spelling s (ReadsInside major s.reads s.never_empty)
+    (StopsInside name major s.reads s.stops s.never_empty)
+    (StopsInside name major s.reads s.begins s.never_empty) true
 
-abbrev pub StopsArray : {V : Type 0} → Reads V → StopsAt → Bool → StopsAt
-StopsArray reads stops never_empty = StopsSequence (codes "array") 4 reads stops never_empty
+abbrev pub sequence_spelling : {P : Type 0} → List ℕ → ℕ → Spelling P → Spelling (Vec P Global)
+sequence_spelling name major s =
+    parts_spelling s (ReadsSequence major s.reads s.never_empty)
+    (StopsSequence name major s.reads s.stops s.never_empty)
+    (StopsSequence name major s.reads s.begins s.never_empty) true
+
+abbrev pub array_spelling : {V : Type 0} → Spelling V → Spelling (Vec V Global)
+array_spelling = sequence_spelling (codes "array") 4
 
 -- ---- maps
 
@@ -190,15 +212,19 @@ StopsPair key_reads key_stops value_stops xs budget refusal rest =
 abbrev pub SamePair : {K V : Type 0} → (K → K → Type 0) → (V → V → Type 0) → K × V → K × V → Type 0
 SamePair same_key same_value p q = same_key p.0 q.0 × same_value p.1 q.1
 
-abbrev pub ReadsMap : {K V : Type 0} → Reads K → Reads V → Bool → Reads (Map (Vec (K × V) Global))
-ReadsMap key_reads value_reads never_empty xs v n c =
-    ReadsSequence 5 (ReadsPair key_reads value_reads) never_empty xs v.0.items n c
+abbrev pub pair_spelling : {K V : Type 0} → Spelling K → Spelling V → Spelling (K × V)
+pair_spelling k v = record {
+  reads = ReadsPair k.reads v.reads;
+  same = SamePair k.same v.same;
+  stops = StopsPair k.reads k.stops v.stops;
+  begins = StopsPair k.reads k.begins v.begins;
+  never_empty = k.never_empty || v.never_empty;
+  owned = k.owned && v.owned;
+  takes_memory = true;
+  closed = k.closed && v.closed;
+}
 
-abbrev pub SameMap : {K V : Type 0} → (K → K → Type 0) → (V → V → Type 0) → Map (Vec (K × V) Global)
-    → Map (Vec (K × V) Global) → Type 0
-SameMap same_key same_value v w = SameParts (SamePair same_key same_value) v.0.items w.0.items
-
-abbrev pub StopsMap : {K V : Type 0} → Reads K → Reads V → StopsAt → StopsAt → Bool → StopsAt
-StopsMap key_reads value_reads key_stops value_stops never_empty =
-    StopsSequence (codes "map") 5 (ReadsPair key_reads value_reads)
-    (StopsPair key_reads key_stops value_stops) never_empty
+abbrev pub map_spelling : {K V : Type 0} → Spelling K → Spelling V
+    → Spelling (Map (Vec (K × V) Global))
+map_spelling k v =
+    spelling_by (λ m. m.0) (sequence_spelling (codes "map") 5 (pair_spelling k v))

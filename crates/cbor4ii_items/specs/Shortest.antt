@@ -2,7 +2,7 @@
 use Rattle.std.specs.Prelude.{◌≡◌, ◌≢◌, ℕ, ◌≤◌, List, ◌∷◌, drop, length, Option, codes}
 use Rattle.cbor4ii_items.specs.Head.{open_head, shortest}
 use Rattle.cbor4ii_items.specs.Refusal.{Refusal, not_canonical}
-use Rattle.cbor4ii_items.specs.Decoding.{Reads}
+use Rattle.cbor4ii_items.specs.Decoding.{Reads, Spelling, leaf_spelling, taking_memory}
 use Rattle.cbor4ii_items.specs.Heads.{ReadsHead, StopsHead}
 use Rattle.cbor4ii_items.specs.Strings.{ReadsCountedString, CutContent}
 
@@ -30,6 +30,9 @@ pub data StopsShortest (name : List ℕ) (major : ℕ) (xs : List ℕ) (budget :
       → refusal ≡ not_canonical canonical_name → rest ≡ drop n xs
       → StopsShortest name major xs budget refusal rest
 
+abbrev pub shortest_spelling : List ℕ → ℕ → Spelling ℕ
+shortest_spelling name major = leaf_spelling (ReadsShortest major) (StopsShortest name major)
+
 -- a shortest head of this major type that says the content's length, and the content
 abbrev pub ReadsShortestString : ℕ → Reads (List ℕ)
 ReadsShortestString major xs content n c =
@@ -43,3 +46,7 @@ pub data StopsShortestString (name : List ℕ) (major : ℕ) (xs : List ℕ) (bu
       → StopsShortestString name major xs budget refusal rest
   content_cut : (c : CutContent name major xs refusal rest) → c.head.wide ≡ shortest c.count
       → StopsShortestString name major xs budget refusal rest
+
+abbrev pub shortest_string_spelling : List ℕ → ℕ → Spelling (List ℕ)
+shortest_string_spelling name major =
+    taking_memory (leaf_spelling (ReadsShortestString major) (StopsShortestString name major))

@@ -6,10 +6,11 @@ use Rattle.cbor4ii_items.specs.declared.types.Simple.{Simple}
 use Rattle.cbor4ii_items.specs.Initial.{simple_byte, simple_false, simple_true}
 use Rattle.cbor4ii_items.specs.Reading.{Reading, give, ◌>=>◌}
 use Rattle.cbor4ii_items.specs.Marked.{NoneBegins, marked_at}
-use Rattle.cbor4ii_items.specs.Numbers.{ReadsArgument, StopsArgument}
-use Rattle.cbor4ii_items.specs.Laws.Arguments.{argument_one, argument_within, argument_positive}
-use Rattle.cbor4ii_items.specs.Laws.Arguments.{argument_alone}
-use Rattle.cbor4ii_items.specs.Decoding.{Reads, StopsAt}
+use Rattle.cbor4ii_items.specs.Numbers.{ReadsArgument, StopsArgument, argument_spelling}
+use Rattle.cbor4ii_items.specs.Laws.Arguments.{argument_lawful}
+use Rattle.cbor4ii_items.specs.Laws.Spellings.{lawful_by}
+use Rattle.cbor4ii_items.specs.Decoding.{Reads, StopsAt, Spelling, IsLawful, leaf_spelling}
+use Rattle.cbor4ii_items.specs.Decoding.{spelling_by}
 
 -- ---- any simple value, by its number
 
@@ -20,21 +21,13 @@ ReadsSimple xs v n c = ReadsArgument 7 1 xs v.0 n c
 abbrev pub StopsSimple : StopsAt
 StopsSimple = StopsArgument (codes "simple") 7 1
 
-pub simple_one : (xs : List ℕ) (v w : Simple) (n m c d : ℕ) → ReadsSimple xs v n c
-    → ReadsSimple xs w m d → (n ≡ m) × (c ≡ d) × (v ≡ w)
-simple_one xs v w n m c d p q =
-    let same = argument_one 7 1 (omega arith) xs v.0 w.0 n m c d p q in
-    (same.0, same.1, ap (λ (k : ℕ). record { 0 = k }) same.2)
+abbrev pub simple_spelling : Spelling Simple
+simple_spelling = spelling_by (λ v. v.0) (argument_spelling (codes "simple") 7 1)
 
-pub simple_within : (xs : List ℕ) (v : Simple) (n c : ℕ) → ReadsSimple xs v n c → n ≤ length xs
-simple_within xs v = argument_within 7 1 (omega arith) xs v.0
-
-pub simple_positive : (xs : List ℕ) (v : Simple) (n c : ℕ) → ReadsSimple xs v n c → 1 ≤ n
-simple_positive xs v = argument_positive 7 1 (omega arith) xs v.0
-
-pub simple_alone : (xs ys : List ℕ) (v : Simple) (n c : ℕ) → ReadsSimple xs v n c
-    → ReadsSimple (take n xs ++ ys) v n c
-simple_alone xs ys v = argument_alone 7 1 xs ys v.0
+pub simple_lawful : IsLawful simple_spelling
+simple_lawful =
+    lawful_by (λ v. v.0) (argument_spelling (codes "simple") 7 1)
+    (argument_lawful (codes "simple") 7 1 (omega arith))
 
 -- ---- false and true
 
@@ -80,3 +73,14 @@ pub bool_alone : (xs ys : List ℕ) (v : Bool) (n c : ℕ) → ReadsBool xs v n 
     → ReadsBool (take n xs ++ ys) v n c
 bool_alone [] ys v n c p = let f = p.0 in cc
 bool_alone (x ∷ xs) ys v n c p = rw p.1 (p.0, refl, p.2)
+
+abbrev pub bool_spelling : Spelling Bool
+bool_spelling = leaf_spelling ReadsBool StopsBool
+
+pub bool_lawful : IsLawful bool_spelling
+bool_lawful = record {
+  one = bool_one;
+  within = bool_within;
+  positive = λ _. bool_positive;
+  alone = λ _. bool_alone;
+}

@@ -5,7 +5,8 @@ use Rattle.cbor4ii_rw.specs.declared.error.Len.TheVariants.{Small, Indefinite}
 use Rattle.cbor4ii_items.specs.Head.{break, open_head}
 use Rattle.cbor4ii_items.specs.Refusal.{Refusal, eof, require_length, require_utf8, depth_overflow}
 use Rattle.cbor4ii_items.specs.Refusal.{len_of}
-use Rattle.cbor4ii_items.specs.Decoding.{Reads, StopsAt, CostFits}
+use Rattle.cbor4ii_items.specs.Decoding.{Reads, StopsAt, CostFits, Spelling, leaf_spelling}
+use Rattle.cbor4ii_items.specs.Decoding.{looking_spelling, spelling_by, taking_memory}
 use Rattle.cbor4ii_items.specs.Heads.{ReadsHead, StopsHead}
 pub use Rattle.cbor4ii_items.specs.Numbers.{counted_string}
 use Rattle.cbor4ii_items.specs.declared.types.Bytes.{Bytes}
@@ -144,6 +145,21 @@ pub data StopsText (name : List ℕ) (xs : List ℕ) (budget : Option ℕ) (refu
       → (IsUtf8 content → ⊥) → refusal ≡ require_utf8 name → rest ≡ drop n xs
       → StopsText name xs budget refusal rest
 
+-- ---- strings and texts in one word
+
+abbrev pub string_spelling : List ℕ → ℕ → Spelling (List ℕ)
+string_spelling name major =
+    taking_memory (leaf_spelling (ReadsString major) (StopsString name major))
+
+-- a string whose content a value has
+abbrev pub as_spelling : {V : Type 0} → List ℕ → ℕ → (V → List ℕ) → Spelling V
+as_spelling name major content = spelling_by content (string_spelling name major)
+
+-- a text string that is UTF-8, whose content a value has
+abbrev pub text_spelling : {V : Type 0} → List ℕ → (V → List ℕ) → Spelling V
+text_spelling name content =
+    spelling_by content (taking_memory (leaf_spelling ReadsText (StopsText name)))
+
 -- ---- breaks
 
 -- a break is taken, and another byte stays
@@ -154,3 +170,6 @@ ReadsBreak xs false n c = (xs ≢ []) × (take 1 xs ≡ break ∷ [] → ⊥) ×
 abbrev pub StopsBreak : StopsAt
 StopsBreak xs budget refusal rest =
     (xs ≡ []) × (refusal ≡ eof (codes "break") (Small 1)) × (rest ≡ [])
+
+abbrev pub break_spelling : Spelling Bool
+break_spelling = looking_spelling ReadsBreak StopsBreak

@@ -1,14 +1,12 @@
 //! Heads and strings that are spelled in one way: by the shortest head (RFC 8949 section 4.1).
-ghost use Rattle.std.specs.Prelude.{◌≡◌, ◌+◌, ◌≤◌, ◌<◌, OnOk, IfOk, IfErr, false};
-ghost use Rattle.cbor4ii_items.specs.Shortest.{ReadsShortest, ReadsShortestString, StopsShortest};
-ghost use Rattle.cbor4ii_items.specs.Shortest.{StopsShortestString};
-ghost use Rattle.cbor4ii_items.specs.Decoding.{Sound, Refuses, Stops};
+ghost use Rattle.std.specs.Prelude.{◌≡◌, ◌+◌, ◌≤◌, ◌<◌, OnOk, IfErr, false};
 ghost use Rattle.cbor4ii_items.specs.Contents.{listed};
 ghost use Rattle.cbor4ii_items.specs.Head.{additional, shortest};
-ghost use Rattle.cbor4ii_items.specs.Moves.{Moves};
 ghost use Rattle.cbor4ii_items.specs.ReadShortest.{is_open_head, shortest_at, shortest_string_at};
 ghost use Rattle.cbor4ii_items.specs.Reading.{Runs};
 ghost use Rattle.cbor4ii_items.specs.Refusal.{is_out_of_memory};
+ghost use Rattle.cbor4ii_items.specs.Decoding.{Decodes};
+ghost use Rattle.cbor4ii_items.specs.Shortest.{shortest_spelling, shortest_string_spelling};
 
 use crate::head::{head, peek};
 use crate::strings::content::take_known;
@@ -37,14 +35,8 @@ pub fn canonical_head<S: Source>(
     major: u8,
     reader: &mut S,
 ) -> Result<u64, DecodeError<S::Error>>
-    ensures moves { Moves (S.view reader.old) (S.view reader.new) result }
-    ensures memory { IfErr result (λ error. is_out_of_memory error ≡ false) }
-    ensures progress { OnOk result ((S.view reader.new).bound + 1 ≤ (S.view reader.old).bound) }
-    ensures sound { IfOk result
-        (Sound (ReadsShortest major) (S.view reader.old) (S.view reader.new)) }
-    ensures complete { IfErr result (Refuses (ReadsShortest major) (S.view reader.old)) }
-    ensures stops { IfErr result
-        (Stops (StopsShortest name.now major) (S.view reader.old) (S.view reader.new)) }
+    ensures { Decodes (shortest_spelling name.now major)
+        (S.view reader.old) (S.view reader.new) result }
 {
     take_shortest(reader, name, major)
 }
@@ -67,13 +59,8 @@ pub fn canonical_buf<S: Source>(
     major: u8,
     reader: &mut S,
 ) -> Result<Vec<u8>, DecodeError<S::Error>>
-    ensures moves { Moves (S.view reader.old) (S.view reader.new) result }
-    ensures progress { OnOk result ((S.view reader.new).bound + 1 ≤ (S.view reader.old).bound) }
-    ensures sound { IfOk result (λ content. Sound (ReadsShortestString major)
-        (S.view reader.old) (S.view reader.new) content.items) }
-    ensures complete { IfErr result (Refuses (ReadsShortestString major) (S.view reader.old)) }
-    ensures stops { IfErr result
-        (Stops (StopsShortestString name.now major) (S.view reader.old) (S.view reader.new)) }
+    ensures { Decodes (shortest_string_spelling name.now major)
+        (S.view reader.old) (S.view reader.new) (listed result) }
 {
     take_shortest_string(alloc, reader, name, major)
 }

@@ -3,12 +3,12 @@ ghost use Rattle.std.specs.Prelude.{◌≡◌, ◌+◌, ◌≤◌, ◌<◌, ◌^
 ghost use Rattle.std.specs.Prelude.{IfOk, IfErr, IfSome};
 ghost use Rattle.cbor4ii_items.specs.Head.{IsBytes};
 ghost use Rattle.cbor4ii_items.specs.Magnitude.{number_of};
-ghost use Rattle.cbor4ii_items.specs.Decoding.{Sound, Refuses, Stops};
+ghost use Rattle.cbor4ii_items.specs.Decoding.{Decodes, spelling_by};
 ghost use Rattle.cbor4ii_items.specs.Reading.{Runs};
 ghost use Rattle.cbor4ii_items.specs.Refusal.{is_out_of_memory};
-ghost use Rattle.cbor4ii_items.specs.Floats.{float_bytes, IsInFront, ReadsFloat, StopsFloat};
-ghost use Rattle.cbor4ii_items.specs.Floats.{float_at, float_one, float_within, float_positive};
-ghost use Rattle.cbor4ii_items.specs.Floats.{float_alone};
+ghost use Rattle.cbor4ii_items.specs.Floats.{float_bytes, IsInFront, float_at, float_spelling};
+ghost use Rattle.cbor4ii_items.specs.Floats.{float_lawful};
+ghost use Rattle.cbor4ii_items.specs.Laws.Spellings.{lawful_by};
 ghost use Rattle.cbor4ii_items.specs.Writing.{WritesWhole};
 
 use crate::decode::{Decode, Spelled};
@@ -32,16 +32,9 @@ fn lone_float<S: Source>(
     bytes: u8,
 ) -> Result<u64, DecodeError<S::Error>>
     requires { bytes ≤ 8 }
-    ensures runs { Runs (float_at name.now marker bytes)
-        (S.view reader.old) (S.view reader.new) result }
-    ensures memory { IfErr result (λ error. is_out_of_memory error ≡ false) }
     ensures fits { IfOk result (λ v. v < 256 ^ bytes) }
-    ensures progress { OnOk result ((S.view reader.new).bound + 1 ≤ (S.view reader.old).bound) }
-    ensures sound { IfOk result
-        (Sound (ReadsFloat marker bytes) (S.view reader.old) (S.view reader.new)) }
-    ensures complete { IfErr result (Refuses (ReadsFloat marker bytes) (S.view reader.old)) }
-    ensures stops { IfErr result
-        (Stops (StopsFloat name.now marker bytes) (S.view reader.old) (S.view reader.new)) }
+    ensures decodes { Decodes (float_spelling name.now marker bytes)
+        (S.view reader.old) (S.view reader.new) result }
 {
     take_float(reader, name, marker, bytes)
 }
@@ -123,25 +116,14 @@ fn float_by_bytes<S: Source>(
 }
 
 impl Spelled for F16 {
-    ghost reads = { λ xs v. ReadsFloat 0xf9 2 xs v.0 };
-
-    ghost same = { λ v w. v.0 ≡ w.0 };
-
-    ghost stops = { StopsFloat (codes "f16") 0xf9 2 };
-
-    ghost begins = { StopsFloat (codes "f16") 0xf9 2 };
-
-    ghost never_empty = { true };
-
-    ghost owned = { true };
-
-    ghost takes_memory = { false };
-
-    ghost closed = { true };
+    ghost spelling = { spelling_by (λ v. v.0) (float_spelling (codes "f16") 0xf9 2) };
 
     fn is_never_empty() -> bool {
         true
     }
+
+    ghost lawful = { lawful_by (λ v. v.0) (float_spelling (codes "f16") 0xf9 2)
+        (float_lawful (codes "f16") 0xf9 2) };
 }
 
 /// A float of two bytes, as its bits (RFC 8949 section 3.3).
@@ -154,14 +136,6 @@ impl<S: Source> Decode<S> for F16 {
     fn decode(alloc: Global, reader: &mut S) -> Result<F16, DecodeError<S::Error>> {
         Ok(F16(lone_float(reader, "f16", marker::F16, 2)? as u16))
     }
-
-    ghost one = { λ xs v w. float_one 0xf9 2 xs v.0 w.0 };
-
-    ghost within = { λ xs v. float_within 0xf9 2 xs v.0 };
-
-    ghost positive = { λ _ xs v. float_positive 0xf9 2 xs v.0 };
-
-    ghost alone = { λ _ xs ys v. float_alone 0xf9 2 xs ys v.0 };
 }
 
 /// `f9`, and the bits in two bytes, most significant first (RFC 8949 section 3.3), in one push.
@@ -180,25 +154,14 @@ impl Encode for F16 {
 }
 
 impl Spelled for F32 {
-    ghost reads = { λ xs v. ReadsFloat 0xfa 4 xs v.0 };
-
-    ghost same = { λ v w. v.0 ≡ w.0 };
-
-    ghost stops = { StopsFloat (codes "f32") 0xfa 4 };
-
-    ghost begins = { StopsFloat (codes "f32") 0xfa 4 };
-
-    ghost never_empty = { true };
-
-    ghost owned = { true };
-
-    ghost takes_memory = { false };
-
-    ghost closed = { true };
+    ghost spelling = { spelling_by (λ v. v.0) (float_spelling (codes "f32") 0xfa 4) };
 
     fn is_never_empty() -> bool {
         true
     }
+
+    ghost lawful = { lawful_by (λ v. v.0) (float_spelling (codes "f32") 0xfa 4)
+        (float_lawful (codes "f32") 0xfa 4) };
 }
 
 /// A float of four bytes, as its bits (RFC 8949 section 3.3).
@@ -211,14 +174,6 @@ impl<S: Source> Decode<S> for F32 {
     fn decode(alloc: Global, reader: &mut S) -> Result<F32, DecodeError<S::Error>> {
         Ok(F32(lone_float(reader, "f32", marker::F32, 4)? as u32))
     }
-
-    ghost one = { λ xs v w. float_one 0xfa 4 xs v.0 w.0 };
-
-    ghost within = { λ xs v. float_within 0xfa 4 xs v.0 };
-
-    ghost positive = { λ _ xs v. float_positive 0xfa 4 xs v.0 };
-
-    ghost alone = { λ _ xs ys v. float_alone 0xfa 4 xs ys v.0 };
 }
 
 /// `fa`, and the bits in four bytes, most significant first (RFC 8949 section 3.3), in one push.
@@ -238,25 +193,14 @@ impl Encode for F32 {
 }
 
 impl Spelled for F64 {
-    ghost reads = { λ xs v. ReadsFloat 0xfb 8 xs v.0 };
-
-    ghost same = { λ v w. v.0 ≡ w.0 };
-
-    ghost stops = { StopsFloat (codes "f64") 0xfb 8 };
-
-    ghost begins = { StopsFloat (codes "f64") 0xfb 8 };
-
-    ghost never_empty = { true };
-
-    ghost owned = { true };
-
-    ghost takes_memory = { false };
-
-    ghost closed = { true };
+    ghost spelling = { spelling_by (λ v. v.0) (float_spelling (codes "f64") 0xfb 8) };
 
     fn is_never_empty() -> bool {
         true
     }
+
+    ghost lawful = { lawful_by (λ v. v.0) (float_spelling (codes "f64") 0xfb 8)
+        (float_lawful (codes "f64") 0xfb 8) };
 }
 
 /// A float of eight bytes, as its bits (RFC 8949 section 3.3).
@@ -269,14 +213,6 @@ impl<S: Source> Decode<S> for F64 {
     fn decode(alloc: Global, reader: &mut S) -> Result<F64, DecodeError<S::Error>> {
         Ok(F64(lone_float(reader, "f64", marker::F64, 8)?))
     }
-
-    ghost one = { λ xs v w. float_one 0xfb 8 xs v.0 w.0 };
-
-    ghost within = { λ xs v. float_within 0xfb 8 xs v.0 };
-
-    ghost positive = { λ _ xs v. float_positive 0xfb 8 xs v.0 };
-
-    ghost alone = { λ _ xs ys v. float_alone 0xfb 8 xs ys v.0 };
 }
 
 /// `fb`, and the bits in eight bytes, most significant first (RFC 8949 section 3.3), in one push.

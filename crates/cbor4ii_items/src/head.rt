@@ -1,10 +1,10 @@
 //! Heads, read.
 ghost use Rattle.std.specs.Prelude.{◌≡◌, ◌+◌, ◌≤◌, ◌<◌, ◌^◌, OnOk, IfOk, IfErr, false};
 ghost use Rattle.cbor4ii_rw.specs.Reader.{Breaks};
-ghost use Rattle.cbor4ii_items.specs.Decoding.{Sound, Refuses, Stops};
-ghost use Rattle.cbor4ii_items.specs.Lengths.{ReadsLength, StopsLength};
+ghost use Rattle.cbor4ii_items.specs.Decoding.{Decodes};
+ghost use Rattle.cbor4ii_items.specs.Lengths.{length_spelling};
 ghost use Rattle.cbor4ii_items.specs.Moves.{OnRead};
-ghost use Rattle.cbor4ii_items.specs.Numbers.{ReadsArgument, StopsArgument};
+ghost use Rattle.cbor4ii_items.specs.Numbers.{argument_spelling};
 ghost use Rattle.cbor4ii_items.specs.Reading.{Runs, peek_at, byte_at};
 ghost use Rattle.cbor4ii_items.specs.Refusal.{is_out_of_memory};
 ghost use Rattle.cbor4ii_items.specs.Marked.{marked_at};
@@ -177,16 +177,9 @@ pub(crate) fn lone_head<S: Source>(
     width: u8,
 ) -> Result<u64, DecodeError<S::Error>>
     requires { major < 8 }
-    ensures runs { Runs (head_at name.now major width)
-        (S.view reader.old) (S.view reader.new) result }
-    ensures memory { IfErr result (λ error. is_out_of_memory error ≡ false) }
     ensures fits { 1 ≤ width → IfOk result (λ v. v < 256 ^ width) }
-    ensures progress { OnOk result ((S.view reader.new).bound + 1 ≤ (S.view reader.old).bound) }
-    ensures sound { IfOk result
-        (Sound (ReadsArgument major width) (S.view reader.old) (S.view reader.new)) }
-    ensures complete { IfErr result (Refuses (ReadsArgument major width) (S.view reader.old)) }
-    ensures stops { IfErr result
-        (Stops (StopsArgument name.now major width) (S.view reader.old) (S.view reader.new)) }
+    ensures decodes { Decodes (argument_spelling name.now major width)
+        (S.view reader.old) (S.view reader.new) result }
 {
     head(reader, name, major, width)
 }
@@ -242,14 +235,8 @@ pub(crate) fn lone_length<S: Source>(
     major: u8,
 ) -> Result<Option<usize>, DecodeError<S::Error>>
     requires { major < 8 }
-    ensures runs { Runs (length_at name.now major) (S.view reader.old) (S.view reader.new) result }
-    ensures memory { IfErr result (λ error. is_out_of_memory error ≡ false) }
-    ensures progress { OnOk result ((S.view reader.new).bound + 1 ≤ (S.view reader.old).bound) }
-    ensures sound { IfOk result
-        (Sound (ReadsLength major) (S.view reader.old) (S.view reader.new)) }
-    ensures complete { IfErr result (Refuses (ReadsLength major) (S.view reader.old)) }
-    ensures stops { IfErr result
-        (Stops (StopsLength name.now major) (S.view reader.old) (S.view reader.new)) }
+    ensures { Decodes (length_spelling name.now major)
+        (S.view reader.old) (S.view reader.new) result }
 {
     usize_length(length(reader, name, major))
 }

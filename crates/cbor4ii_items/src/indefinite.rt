@@ -1,13 +1,13 @@
 //! The ends of indefinite lengths, and of arrays and maps (RFC 8949 sections 3.2.1 and 3.2.2).
 ghost use Rattle.std.specs.Prelude.{◌≡◌, IfOk, IfErr, IfSome, IsSome, OnErr, Ok, false, nat_lt};
 ghost use Rattle.cbor4ii_rw.specs.Reader.{Breaks};
-ghost use Rattle.cbor4ii_items.specs.Decoding.{Sound, Refuses, Stops};
-ghost use Rattle.cbor4ii_items.specs.Moves.{Moves, OnRead};
-ghost use Rattle.cbor4ii_items.specs.Next.{ReadsFollows, length_left};
 ghost use Rattle.cbor4ii_items.specs.Reading.{Runs};
 ghost use Rattle.cbor4ii_items.specs.ReadStrings.{break_at};
 ghost use Rattle.cbor4ii_items.specs.Refusal.{is_out_of_memory};
-ghost use Rattle.cbor4ii_items.specs.Strings.{ReadsBreak, StopsBreak};
+ghost use Rattle.cbor4ii_items.specs.Decoding.{Decodes};
+ghost use Rattle.cbor4ii_items.specs.Moves.{OnRead};
+ghost use Rattle.cbor4ii_items.specs.Next.{follows_spelling, length_left};
+ghost use Rattle.cbor4ii_items.specs.Strings.{break_spelling};
 
 use crate::head::peek;
 use crate::marker;
@@ -20,13 +20,8 @@ use cbor4ii_rw::read::Source;
 /// `Read` where the reader failed, and `Eof` by the name "break" with 1 where no byte is left;
 /// nothing is taken then. The budget stays.
 pub fn is_break<S: Source>(reader: &mut S) -> Result<bool, DecodeError<S::Error>>
-    ensures moves { Moves (S.view reader.old) (S.view reader.new) result }
-    ensures memory { IfErr result (λ error. is_out_of_memory error ≡ false) }
     ensures failed { OnRead result (Breaks (S.view reader.old) (S.view reader.new)) }
-    ensures sound { IfOk result (Sound ReadsBreak (S.view reader.old) (S.view reader.new)) }
-    ensures complete { IfErr result (Refuses ReadsBreak (S.view reader.old)) }
-    ensures stops { IfErr result
-        (Stops StopsBreak (S.view reader.old) (S.view reader.new)) }
+    ensures decodes { Decodes break_spelling (S.view reader.old) (S.view reader.new) result }
 {
     take_break(reader)
 }
@@ -46,18 +41,13 @@ pub fn follows<S: Source>(
     reader: &mut S,
     len: &mut Option<usize>,
 ) -> Result<bool, DecodeError<S::Error>>
-    ensures moves { Moves (S.view reader.old) (S.view reader.new) result }
-    ensures memory { IfErr result (λ error. is_out_of_memory error ≡ false) }
     ensures failed { OnRead result (Breaks (S.view reader.old) (S.view reader.new)) }
+    ensures decodes { Decodes (follows_spelling len.old)
+        (S.view reader.old) (S.view reader.new) result }
     ensures counted { IfSome len.old (λ left. result ≡ Ok (nat_lt 0 left)) }
     ensures unasked { IsSome len.old → S.view reader.new ≡ S.view reader.old }
-    ensures sound { IfOk result
-        (Sound (ReadsFollows len.old) (S.view reader.old) (S.view reader.new)) }
     ensures left { IfOk result (λ more. len.new ≡ length_left len.old more) }
     ensures kept { OnErr result (len.new ≡ len.old) }
-    ensures complete { IfErr result (Refuses (ReadsFollows len.old) (S.view reader.old)) }
-    ensures stops { IfErr result
-        (Stops StopsBreak (S.view reader.old) (S.view reader.new)) }
 {
     match *len {
         Some(0) => Ok(false),

@@ -1,12 +1,10 @@
 //! The first byte of a head, its two parts, and the argument behind it (RFC 8949 section 3).
-ghost use Rattle.std.specs.Prelude.{◌≡◌, ◌+◌, ◌/◌, ◌%◌, ◌≤◌, OnOk, IfOk, IfErr, IfSome, None};
-ghost use Rattle.std.specs.Prelude.{false};
+ghost use Rattle.std.specs.Prelude.{◌≡◌, ◌+◌, ◌/◌, ◌%◌, ◌≤◌, OnOk, IfSome, None};
 ghost use Rattle.cbor4ii_rw.specs.Reader.{Breaks};
-ghost use Rattle.cbor4ii_items.specs.Decoding.{Sound, Refuses, Stops};
 ghost use Rattle.cbor4ii_items.specs.Head.{ArgumentBehind, LacksArgument};
-ghost use Rattle.cbor4ii_items.specs.Moves.{Moves, OnRead};
-ghost use Rattle.cbor4ii_items.specs.Next.{ReadsNext, StopsNext};
-ghost use Rattle.cbor4ii_items.specs.Refusal.{is_out_of_memory};
+ghost use Rattle.cbor4ii_items.specs.Decoding.{Decodes};
+ghost use Rattle.cbor4ii_items.specs.Moves.{OnRead};
+ghost use Rattle.cbor4ii_items.specs.Next.{next_spelling};
 
 use crate::front::shown_argument;
 use crate::head;
@@ -22,14 +20,10 @@ use cbor4ii_rw::read::Source;
 /// taken then. The budget stays.
 #[inline(always)]
 pub fn peek<S: Source>(reader: &mut S, name: StaticStr) -> Result<u8, DecodeError<S::Error>>
-    ensures moves { Moves (S.view reader.old) (S.view reader.new) result }
-    ensures memory { IfErr result (λ error. is_out_of_memory error ≡ false) }
     ensures can { OnOk result (1 ≤ (S.view reader.new).advanceable) }
     ensures failed { OnRead result (Breaks (S.view reader.old) (S.view reader.new)) }
-    ensures sound { IfOk result (Sound ReadsNext (S.view reader.old) (S.view reader.new)) }
-    ensures complete { IfErr result (Refuses ReadsNext (S.view reader.old)) }
-    ensures stops { IfErr result
-        (Stops (StopsNext name.now) (S.view reader.old) (S.view reader.new)) }
+    ensures decodes { Decodes (next_spelling name.now)
+        (S.view reader.old) (S.view reader.new) result }
 {
     head::peek(reader, name, 1)
 }

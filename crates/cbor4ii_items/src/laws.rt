@@ -72,16 +72,17 @@ pub fn integers_are_read_back()
 /// alike.
 pub fn strings_are_read_back<V>()
     ensures bytes { (v : Bytes (Bor (List ℕ))) → length v.0.now < 2 ^ 64 →
-        ReadsBack ⟦<Bytes<&'static [u8]> as Spelled>⟧.reads
+        ReadsBack ⟦<Bytes<&'static [u8]> as Spelled>⟧.spelling.reads
         (⟦<Bytes<&'static [u8]> as Encode>⟧.bytes v) v 0 }
     ensures unchecked { (v : UncheckedStr (Bor (List ℕ))) → length v.0.now < 2 ^ 64 →
-        ReadsBack ⟦<UncheckedStr<&'static [u8]> as Spelled>⟧.reads
+        ReadsBack ⟦<UncheckedStr<&'static [u8]> as Spelled>⟧.spelling.reads
         (⟦<UncheckedStr<&'static [u8]> as Encode>⟧.bytes v) v 0 }
     ensures text { (v : Bor (List ℕ)) → length v.now < 2 ^ 64 → IsUtf8 v.now →
-        ReadsBack ⟦<&'static str as Spelled>⟧.reads (⟦<&'static str as Encode>⟧.bytes v) v 0 }
+        ReadsBack ⟦<&'static str as Spelled>⟧.spelling.reads
+        (⟦<&'static str as Encode>⟧.bytes v) v 0 }
     ensures owned_text { (v : String Global) → length (text_content v) < 2 ^ 64 →
         IsUtf8 (text_content v) →
-        ReadsBack ⟦<String as Spelled>⟧.reads (⟦<String as Encode>⟧.bytes v) v 0 }
+        ReadsBack ⟦<String as Spelled>⟧.spelling.reads (⟦<String as Encode>⟧.bytes v) v 0 }
     ensures content { (major : ℕ) (content : V → List ℕ) (v : V) → length (content v) < 2 ^ 64 →
         ReadsBack (ReadsAs major content) (counted_string major (content v)) v 0 }
     ensures utf8_content { (content : V → List ℕ) (v : V) → length (content v) < 2 ^ 64 →
@@ -93,21 +94,21 @@ pub fn strings_are_read_back<V>()
 /// it, and without a step. Null and undefined are read as no item.
 pub fn simple_values_are_read_back<T: Spelled>()
     ensures simple { (v : Simple) → v.0 < 256 →
-        ReadsBack ⟦<Simple as Spelled>⟧.reads (⟦<Simple as Encode>⟧.bytes v) v 0 }
+        ReadsBack ⟦<Simple as Spelled>⟧.spelling.reads (⟦<Simple as Encode>⟧.bytes v) v 0 }
     ensures bool { (v : Bool) →
-        ReadsBack ⟦<bool as Spelled>⟧.reads (⟦<bool as Encode>⟧.bytes v) v 0 }
+        ReadsBack ⟦<bool as Spelled>⟧.spelling.reads (⟦<bool as Encode>⟧.bytes v) v 0 }
     ensures null { (v : Null) →
-        ReadsBack ⟦<Option<T> as Spelled>⟧.reads (⟦<Null as Encode>⟧.bytes v) None 0 }
+        ReadsBack ⟦<Option<T> as Spelled>⟧.spelling.reads (⟦<Null as Encode>⟧.bytes v) None 0 }
     ensures undefined { (v : Undefined) →
-        ReadsBack ⟦<Option<T> as Spelled>⟧.reads (⟦<Undefined as Encode>⟧.bytes v) None 0 }
+        ReadsBack ⟦<Option<T> as Spelled>⟧.spelling.reads (⟦<Undefined as Encode>⟧.bytes v) None 0 }
     ensures f16 { (v : F16) → v.0 < 2 ^ 16 →
-        ReadsBack ⟦<F16 as Spelled>⟧.reads (⟦<F16 as Encode>⟧.bytes v) v 0 }
+        ReadsBack ⟦<F16 as Spelled>⟧.spelling.reads (⟦<F16 as Encode>⟧.bytes v) v 0 }
     ensures f32 { (v : F32) → v.0 < 2 ^ 32 →
-        ReadsBack ⟦<F32 as Spelled>⟧.reads (⟦<F32 as Encode>⟧.bytes v) v 0 }
+        ReadsBack ⟦<F32 as Spelled>⟧.spelling.reads (⟦<F32 as Encode>⟧.bytes v) v 0 }
     ensures f64 { (v : F64) → v.0 < 2 ^ 64 →
-        ReadsBack ⟦<F64 as Spelled>⟧.reads (⟦<F64 as Encode>⟧.bytes v) v 0 }
+        ReadsBack ⟦<F64 as Spelled>⟧.spelling.reads (⟦<F64 as Encode>⟧.bytes v) v 0 }
     ensures nothing { (v : Nothing) →
-        ReadsBack ⟦<Nothing as Spelled>⟧.reads (⟦<Nothing as Encode>⟧.bytes v) v 0 }
+        ReadsBack ⟦<Nothing as Spelled>⟧.spelling.reads (⟦<Nothing as Encode>⟧.bytes v) v 0 }
 {}
 
 /// The length of an array or a map is read from its own encoding, whatever follows it.
@@ -121,22 +122,22 @@ pub fn lengths_are_read_back()
 /// encoding wherever the item is, whatever follows it, and at the item's cost.
 pub fn parts_are_read_back<T: Spelled + Encode>()
     ensures tagged { (v : Tag T) (cost : ℕ) → v.0 < 2 ^ 64 →
-        ReadsBack T.reads (T.bytes v.1) v.1 cost →
-        ReadsBack ⟦<Tag<T> as Spelled>⟧.reads (⟦<Tag<T> as Encode>⟧.bytes v) v cost }
-    ensures none { ReadsBack (ReadsMaybe T.reads) (maybe_bytes T.bytes None) None 0 }
-    ensures some { (item : T) (cost : ℕ) → ReadsBack T.reads (T.bytes item) item cost →
-        ReadsBack (ReadsMaybe T.reads) (maybe_bytes T.bytes (Some item)) (Some item) cost }
+        ReadsBack T.spelling.reads (T.bytes v.1) v.1 cost →
+        ReadsBack ⟦<Tag<T> as Spelled>⟧.spelling.reads (⟦<Tag<T> as Encode>⟧.bytes v) v cost }
+    ensures none { ReadsBack (ReadsMaybe T.spelling.reads) (maybe_bytes T.bytes None) None 0 }
+    ensures some { (item : T) (cost : ℕ) → ReadsBack T.spelling.reads (T.bytes item) item cost →
+        ReadsBack (ReadsMaybe T.spelling.reads) (maybe_bytes T.bytes (Some item)) (Some item) cost }
     ensures boxed { (v : Box T Global) (cost : ℕ) →
-        ReadsBack T.reads (T.bytes v.value) v.value cost →
-        ReadsBack ⟦<Box<T> as Spelled>⟧.reads (⟦<Box<T> as Encode>⟧.bytes v) v cost }
+        ReadsBack T.spelling.reads (T.bytes v.value) v.value cost →
+        ReadsBack ⟦<Box<T> as Spelled>⟧.spelling.reads (⟦<Box<T> as Encode>⟧.bytes v) v cost }
 {}
 
 /// An array is read from its own encoding wherever each item is, whatever follows it: at one step
 /// and the greatest cost of an item.
 pub fn arrays_are_read_back<T: Spelled + Encode>()
     ensures { (v : Vec T Global) (cost : T → ℕ) → length v.items < 2 ^ 64 →
-        All (λ item. ReadsBack T.reads (T.bytes item) item (cost item)) v.items →
-        ReadsBack ⟦<Vec<T> as Spelled>⟧.reads (⟦<Vec<T> as Encode>⟧.bytes v) v
+        All (λ item. ReadsBack T.spelling.reads (T.bytes item) item (cost item)) v.items →
+        ReadsBack ⟦<Vec<T> as Spelled>⟧.spelling.reads (⟦<Vec<T> as Encode>⟧.bytes v) v
         (1 + greatest_cost cost v.items) }
 {}
 
@@ -145,9 +146,10 @@ pub fn arrays_are_read_back<T: Spelled + Encode>()
 pub fn maps_are_read_back<K: Spelled + Encode, V: Spelled + Encode>()
     ensures { (v : Map (Vec (K × V) Global)) (key_cost : K → ℕ) (value_cost : V → ℕ) →
         length v.0.items < 2 ^ 64 →
-        All (λ p. ReadsBack K.reads (K.bytes p.0) p.0 (key_cost p.0)) v.0.items →
-        All (λ p. ReadsBack V.reads (V.bytes p.1) p.1 (value_cost p.1)) v.0.items →
-        ReadsBack ⟦<Map<Vec<(K, V)>> as Spelled>⟧.reads (map_bytes K.bytes V.bytes v.0.items) v
+        All (λ p. ReadsBack K.spelling.reads (K.bytes p.0) p.0 (key_cost p.0)) v.0.items →
+        All (λ p. ReadsBack V.spelling.reads (V.bytes p.1) p.1 (value_cost p.1)) v.0.items →
+        ReadsBack ⟦<Map<Vec<(K, V)>> as Spelled>⟧.spelling.reads
+        (map_bytes K.bytes V.bytes v.0.items) v
         (1 + greatest_cost (pair_cost key_cost value_cost) v.0.items) }
 {}
 
@@ -156,16 +158,17 @@ pub fn maps_are_read_back<K: Spelled + Encode, V: Spelled + Encode>()
 /// has the cost, no refusal of the bytes.
 pub fn what_is_written_is_decoded<S: Source, T: Decode<S>, E>()
     ensures accepted { (bytes rest : List ℕ) (v w : T) (cost : ℕ) (old new : View) →
-        ReadsBack T.reads bytes v cost → old.told ≡ Some (bytes ++ rest) →
-        Sound T.reads old new w → T.same v w × (new.told ≡ Some rest) }
+        ReadsBack T.spelling.reads bytes v cost → old.told ≡ Some (bytes ++ rest) →
+        Sound T.spelling.reads old new w → T.spelling.same v w × (new.told ≡ Some rest) }
     ensures not_refused { (bytes rest : List ℕ) (v : T) (cost : ℕ) (old : View)
-        (error : DecodeError E) → ReadsBack T.reads bytes v cost → CostFits cost old.budget →
-        old.told ≡ Some (bytes ++ rest) → Refuses T.reads old error → refusal_of error ≡ None }
+        (error : DecodeError E) → ReadsBack T.spelling.reads bytes v cost →
+        CostFits cost old.budget → old.told ≡ Some (bytes ++ rest) →
+        Refuses T.spelling.reads old error → refusal_of error ≡ None }
 {}
 
 /// No spelling of a type begins another, where what follows a spelling says nothing of it.
 pub fn no_spelling_begins_another<S: Source, T: Decode<S>>()
-    ensures { IsTrue T.closed → NoneBeginsAnother T.reads }
+    ensures { IsTrue T.spelling.closed → NoneBeginsAnother T.spelling.reads }
 {}
 
 /// Numbers that are refused are not read: no reading begins bytes that the type refuses.
@@ -212,37 +215,41 @@ pub fn refused_strings_are_not_read<V>()
 /// refused are not read, wherever the item's refusals exclude its readings: those of an exact
 /// call, and those over any reader.
 pub fn refused_parts_are_not_read<T: Spelled>()
-    ensures optional { NeverBoth T.reads T.stops →
-        NeverBoth ⟦<Option<T> as Spelled>⟧.reads ⟦<Option<T> as Spelled>⟧.stops }
-    ensures optional_begins { NeverBoth T.reads T.begins →
-        NeverBoth ⟦<Option<T> as Spelled>⟧.reads ⟦<Option<T> as Spelled>⟧.begins }
-    ensures tagged { NeverBoth T.reads T.stops →
-        NeverBoth ⟦<Tag<T> as Spelled>⟧.reads ⟦<Tag<T> as Spelled>⟧.stops }
-    ensures tagged_begins { NeverBoth T.reads T.begins →
-        NeverBoth ⟦<Tag<T> as Spelled>⟧.reads ⟦<Tag<T> as Spelled>⟧.begins }
-    ensures maybe { NeverBoth T.reads T.stops →
-        NeverBoth (ReadsMaybe T.reads) (StopsMaybe T.stops) }
-    ensures maybe_begins { NeverBoth T.reads T.begins →
-        NeverBoth (ReadsMaybe T.reads) (StopsMaybe T.begins) }
-    ensures boxed { NeverBoth T.reads T.stops →
-        NeverBoth ⟦<Box<T> as Spelled>⟧.reads ⟦<Box<T> as Spelled>⟧.stops }
-    ensures boxed_begins { NeverBoth T.reads T.begins →
-        NeverBoth ⟦<Box<T> as Spelled>⟧.reads ⟦<Box<T> as Spelled>⟧.begins }
+    ensures optional { NeverBoth T.spelling.reads T.spelling.stops →
+        NeverBoth ⟦<Option<T> as Spelled>⟧.spelling.reads ⟦<Option<T> as Spelled>⟧.spelling.stops }
+    ensures optional_begins { NeverBoth T.spelling.reads T.spelling.begins →
+        NeverBoth ⟦<Option<T> as Spelled>⟧.spelling.reads ⟦<Option<T> as Spelled>⟧.spelling.begins }
+    ensures tagged { NeverBoth T.spelling.reads T.spelling.stops →
+        NeverBoth ⟦<Tag<T> as Spelled>⟧.spelling.reads ⟦<Tag<T> as Spelled>⟧.spelling.stops }
+    ensures tagged_begins { NeverBoth T.spelling.reads T.spelling.begins →
+        NeverBoth ⟦<Tag<T> as Spelled>⟧.spelling.reads ⟦<Tag<T> as Spelled>⟧.spelling.begins }
+    ensures maybe { NeverBoth T.spelling.reads T.spelling.stops →
+        NeverBoth (ReadsMaybe T.spelling.reads) (StopsMaybe T.spelling.stops) }
+    ensures maybe_begins { NeverBoth T.spelling.reads T.spelling.begins →
+        NeverBoth (ReadsMaybe T.spelling.reads) (StopsMaybe T.spelling.begins) }
+    ensures boxed { NeverBoth T.spelling.reads T.spelling.stops →
+        NeverBoth ⟦<Box<T> as Spelled>⟧.spelling.reads ⟦<Box<T> as Spelled>⟧.spelling.stops }
+    ensures boxed_begins { NeverBoth T.spelling.reads T.spelling.begins →
+        NeverBoth ⟦<Box<T> as Spelled>⟧.spelling.reads ⟦<Box<T> as Spelled>⟧.spelling.begins }
 {}
 
 /// An array that is refused is not read, wherever its items' refusals exclude their readings.
 pub fn refused_arrays_are_not_read<S: Source, T: Decode<S>>()
-    ensures stops { NeverBoth T.reads T.stops →
-        NeverBoth ⟦<Vec<T> as Spelled>⟧.reads ⟦<Vec<T> as Spelled>⟧.stops }
-    ensures begins { NeverBoth T.reads T.begins →
-        NeverBoth ⟦<Vec<T> as Spelled>⟧.reads ⟦<Vec<T> as Spelled>⟧.begins }
+    ensures stops { NeverBoth T.spelling.reads T.spelling.stops →
+        NeverBoth ⟦<Vec<T> as Spelled>⟧.spelling.reads ⟦<Vec<T> as Spelled>⟧.spelling.stops }
+    ensures begins { NeverBoth T.spelling.reads T.spelling.begins →
+        NeverBoth ⟦<Vec<T> as Spelled>⟧.spelling.reads ⟦<Vec<T> as Spelled>⟧.spelling.begins }
 {}
 
 /// A map that is refused is not read, wherever the refusals of its keys and of its values exclude
 /// their readings.
 pub fn refused_maps_are_not_read<S: Source, K: Decode<S>, V: Decode<S>>()
-    ensures stops { NeverBoth K.reads K.stops → NeverBoth V.reads V.stops →
-        NeverBoth ⟦<Map<Vec<(K, V)>> as Spelled>⟧.reads ⟦<Map<Vec<(K, V)>> as Spelled>⟧.stops }
-    ensures begins { NeverBoth K.reads K.begins → NeverBoth V.reads V.begins →
-        NeverBoth ⟦<Map<Vec<(K, V)>> as Spelled>⟧.reads ⟦<Map<Vec<(K, V)>> as Spelled>⟧.begins }
+    ensures stops { NeverBoth K.spelling.reads K.spelling.stops →
+        NeverBoth V.spelling.reads V.spelling.stops →
+        NeverBoth ⟦<Map<Vec<(K, V)>> as Spelled>⟧.spelling.reads
+        ⟦<Map<Vec<(K, V)>> as Spelled>⟧.spelling.stops }
+    ensures begins { NeverBoth K.spelling.reads K.spelling.begins →
+        NeverBoth V.spelling.reads V.spelling.begins →
+        NeverBoth ⟦<Map<Vec<(K, V)>> as Spelled>⟧.spelling.reads
+        ⟦<Map<Vec<(K, V)>> as Spelled>⟧.spelling.begins }
 {}

@@ -1,18 +1,15 @@
 //! Optional items as arrays of no item or one.
-ghost use Rattle.std.specs.Prelude.{◌≡◌, ◌+◌, ◌≤◌, OnOk, IfOk, IfErr, true, false};
-ghost use Rattle.cbor4ii_items.specs.Containers.{SameOption};
-ghost use Rattle.cbor4ii_items.specs.Decoding.{Sound, Refuses, Stops};
-ghost use Rattle.cbor4ii_items.specs.Maybe.{ReadsFew, ReadsMaybe, StopsFew, StopsMaybe, few_at};
-ghost use Rattle.cbor4ii_items.specs.Maybe.{maybe_bytes};
-ghost use Rattle.cbor4ii_items.specs.Laws.Maybe.{maybe_one, maybe_within, maybe_positive};
-ghost use Rattle.cbor4ii_items.specs.Laws.Maybe.{maybe_alone};
+ghost use Rattle.std.specs.Prelude.{◌≡◌, ◌+◌, ◌≤◌, OnOk, IfErr, false};
+ghost use Rattle.cbor4ii_items.specs.Decoding.{Decodes};
+ghost use Rattle.cbor4ii_items.specs.Maybe.{few_at, few_spelling, maybe_bytes};
+ghost use Rattle.cbor4ii_items.specs.Laws.Maybe.{maybe_spelling, maybe_lawful};
 ghost use Rattle.cbor4ii_items.specs.Reading.{Runs};
 ghost use Rattle.cbor4ii_items.specs.Refusal.{is_out_of_memory};
 ghost use Rattle.cbor4ii_items.specs.Writing.{Writes};
 
 use crate::decode::{Decode, Spelled};
 use crate::encode::Encode;
-use crate::head::lone_length;
+use crate::head::length;
 use crate::major;
 use crate::push::{push_head, push_headed_item};
 use crate::types::Maybe;
@@ -22,25 +19,13 @@ use cbor4ii_rw::write::Write;
 use std::alloc::Global;
 
 impl<T: Spelled> Spelled for Maybe<Option<T>> {
-    ghost reads = { λ xs v n c. ReadsMaybe T.reads xs v.0 n c };
-
-    ghost same = { λ v w. SameOption T.same v.0 w.0 };
-
-    ghost stops = { StopsMaybe T.stops };
-
-    ghost begins = { StopsMaybe T.begins };
-
-    ghost never_empty = { true };
-
-    ghost owned = { T.owned };
-
-    ghost takes_memory = { T.takes_memory };
-
-    ghost closed = { T.closed };
+    ghost spelling = { maybe_spelling T.spelling };
 
     fn is_never_empty() -> bool {
         true
     }
+
+    ghost lawful = { maybe_lawful T.spelling T.lawful };
 }
 
 /// None is an array of no item, and some item an array of it alone, of known length (RFC 8949
@@ -63,24 +48,11 @@ impl<S: Source, T: Decode<S>> Decode<S> for Maybe<Option<T>> {
             Err(error) => Err(error),
         }
     }
-
-    ghost one = { λ xs v w. maybe_one T.reads T.same T.one xs v.0 w.0 };
-
-    ghost within = { λ xs v. maybe_within T.reads T.within xs v.0 };
-
-    ghost positive = { λ _ xs v. maybe_positive T.reads xs v.0 };
-
-    ghost alone = { λ e xs ys v. maybe_alone T.reads T.closed T.alone e xs ys v.0 };
 }
 
 /// Takes the head of an array of no item or one, and answers whether an item is to follow.
 fn take_maybe_head<S: Source>(reader: &mut S) -> Result<bool, DecodeError<S::Error>>
-    ensures runs { Runs few_at (S.view reader.old) (S.view reader.new) result }
-    ensures memory { IfErr result (λ error. is_out_of_memory error ≡ false) }
-    ensures progress { OnOk result ((S.view reader.new).bound + 1 ≤ (S.view reader.old).bound) }
-    ensures sound { IfOk result (Sound ReadsFew (S.view reader.old) (S.view reader.new)) }
-    ensures complete { IfErr result (Refuses ReadsFew (S.view reader.old)) }
-    ensures stops { IfErr result (Stops StopsFew (S.view reader.old) (S.view reader.new)) }
+    ensures { Decodes few_spelling (S.view reader.old) (S.view reader.new) result }
 {
     take_few(reader)
 }
@@ -91,12 +63,12 @@ fn take_few<S: Source>(reader: &mut S) -> Result<bool, DecodeError<S::Error>>
     ensures memory { IfErr result (λ error. is_out_of_memory error ≡ false) }
     ensures progress { OnOk result ((S.view reader.new).bound + 1 ≤ (S.view reader.old).bound) }
 {
-    match lone_length(reader, "array", major::ARRAY)? {
+    match length(reader, "array", major::ARRAY)? {
         Some(0) => Ok(false),
         Some(1) => Ok(true),
         Some(count) => Err(DecodeError::RequireLength {
             name: "maybe",
-            found: Len::new(count),
+            found: Len::new(count as usize),
         }),
         None => Err(DecodeError::RequireLength {
             name: "maybe",

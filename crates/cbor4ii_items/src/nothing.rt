@@ -13,25 +13,27 @@ use cbor4ii_rw::write::Write;
 use std::alloc::Global;
 
 impl Spelled for Nothing {
-    ghost reads = { ReadsNothing };
-
-    ghost same = { λ v w. v ≡ w };
-
-    ghost stops = { StopsNothing };
-
-    ghost begins = { StopsNothing };
-
-    ghost never_empty = { false };
-
-    ghost owned = { true };
-
-    ghost takes_memory = { false };
-
-    ghost closed = { true };
+    ghost spelling = { record {
+      reads = ReadsNothing;
+      same = λ v w. v ≡ w;
+      stops = StopsNothing;
+      begins = StopsNothing;
+      never_empty = false;
+      owned = true;
+      takes_memory = false;
+      closed = true;
+    } };
 
     fn is_never_empty() -> bool {
         false
     }
+
+    ghost lawful = { record {
+      one = nothing_one;
+      within = nothing_within;
+      positive = nothing_positive;
+      alone = λ _. nothing_alone;
+    } };
 }
 
 /// It takes no byte, and is never refused.
@@ -40,14 +42,6 @@ impl<S: Source> Decode<S> for Nothing {
     fn decode(alloc: Global, reader: &mut S) -> Result<Nothing, DecodeError<S::Error>> {
         Ok(Nothing)
     }
-
-    ghost one = { nothing_one };
-
-    ghost within = { nothing_within };
-
-    ghost positive = { nothing_positive };
-
-    ghost alone = { λ _. nothing_alone };
 }
 
 /// No byte, and no push: it never fails, and the writer stays as it was.

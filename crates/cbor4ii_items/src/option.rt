@@ -1,8 +1,5 @@
 //! Optional items.
-ghost use Rattle.std.specs.Prelude.{◌&&◌};
-ghost use Rattle.cbor4ii_items.specs.Containers.{ReadsOption, SameOption, StopsOption};
-ghost use Rattle.cbor4ii_items.specs.Laws.Containers.{option_one, option_within, option_positive};
-ghost use Rattle.cbor4ii_items.specs.Laws.Containers.{option_alone};
+ghost use Rattle.cbor4ii_items.specs.Laws.Containers.{option_spelling, option_lawful};
 
 use crate::decode::{Decode, Spelled};
 use crate::head::peek;
@@ -12,25 +9,13 @@ use cbor4ii_rw::read::Source;
 use std::alloc::Global;
 
 impl<T: Spelled> Spelled for Option<T> {
-    ghost reads = { ReadsOption T.reads };
-
-    ghost same = { SameOption T.same };
-
-    ghost stops = { StopsOption T.stops };
-
-    ghost begins = { StopsOption T.begins };
-
-    ghost never_empty = { T.never_empty };
-
-    ghost owned = { T.owned };
-
-    ghost takes_memory = { T.takes_memory };
-
-    ghost closed = { T.closed && T.never_empty };
+    ghost spelling = { option_spelling T.spelling };
 
     fn is_never_empty() -> bool {
         T::is_never_empty()
     }
+
+    ghost lawful = { option_lawful T.spelling T.lawful };
 }
 
 /// Null and undefined are none, and before any other byte an item is read (RFC 8949 section 3.3).
@@ -50,12 +35,4 @@ impl<S: Source, T: Decode<S>> Decode<S> for Option<T> {
             Err(error) => Err(error),
         }
     }
-
-    ghost one = { option_one T.reads T.same T.one };
-
-    ghost within = { option_within T.reads T.within };
-
-    ghost positive = { option_positive T.reads T.never_empty T.positive };
-
-    ghost alone = { option_alone T.reads T.closed T.never_empty T.within T.positive T.alone };
 }

@@ -4,10 +4,8 @@ ghost use Rattle.cbor4ii_items.specs.Reading.{Runs};
 ghost use Rattle.cbor4ii_items.specs.Refusal.{is_out_of_memory};
 ghost use Rattle.cbor4ii_items.specs.Numbers.{shortest_head};
 ghost use Rattle.cbor4ii_items.specs.Initial.{simple_byte, simple_null, simple_undefined};
-ghost use Rattle.cbor4ii_items.specs.Simple.{ReadsSimple, StopsSimple, simple_one, simple_within};
-ghost use Rattle.cbor4ii_items.specs.Simple.{simple_positive, simple_alone, ReadsBool, StopsBool};
-ghost use Rattle.cbor4ii_items.specs.Simple.{bool_byte, bool_at, bool_one, bool_within};
-ghost use Rattle.cbor4ii_items.specs.Simple.{bool_positive, bool_alone};
+ghost use Rattle.cbor4ii_items.specs.Simple.{simple_spelling, simple_lawful, bool_byte, bool_at};
+ghost use Rattle.cbor4ii_items.specs.Simple.{bool_spelling, bool_lawful};
 ghost use Rattle.cbor4ii_items.specs.Writing.{WritesWhole};
 
 use crate::decode::{Decode, Spelled};
@@ -22,25 +20,13 @@ use cbor4ii_rw::write::Write;
 use std::alloc::Global;
 
 impl Spelled for Simple {
-    ghost reads = { ReadsSimple };
-
-    ghost same = { λ v w. v ≡ w };
-
-    ghost stops = { StopsSimple };
-
-    ghost begins = { StopsSimple };
-
-    ghost never_empty = { true };
-
-    ghost owned = { true };
-
-    ghost takes_memory = { false };
-
-    ghost closed = { true };
+    ghost spelling = { simple_spelling };
 
     fn is_never_empty() -> bool {
         true
     }
+
+    ghost lawful = { simple_lawful };
 }
 
 /// A simple value by its number, in the first byte or the one after it; there the numbers below 32
@@ -54,14 +40,6 @@ impl<S: Source> Decode<S> for Simple {
     fn decode(alloc: Global, reader: &mut S) -> Result<Simple, DecodeError<S::Error>> {
         Ok(Simple(lone_head(reader, "simple", major::SIMPLE, 1)? as u8))
     }
-
-    ghost one = { simple_one };
-
-    ghost within = { simple_within };
-
-    ghost positive = { λ _. simple_positive };
-
-    ghost alone = { λ _. simple_alone };
 }
 
 /// The shortest head of major type 7 with its number (RFC 8949 section 3.3), in one push: from 24
@@ -80,25 +58,13 @@ impl Encode for Simple {
 }
 
 impl Spelled for bool {
-    ghost reads = { ReadsBool };
-
-    ghost same = { λ v w. v ≡ w };
-
-    ghost stops = { StopsBool };
-
-    ghost begins = { StopsBool };
-
-    ghost never_empty = { true };
-
-    ghost owned = { true };
-
-    ghost takes_memory = { false };
-
-    ghost closed = { true };
+    ghost spelling = { bool_spelling };
 
     fn is_never_empty() -> bool {
         true
     }
+
+    ghost lawful = { bool_lawful };
 }
 
 /// False or true, in one byte (RFC 8949 section 3.3).
@@ -110,14 +76,6 @@ impl<S: Source> Decode<S> for bool {
     fn decode(alloc: Global, reader: &mut S) -> Result<bool, DecodeError<S::Error>> {
         take_bool(reader)
     }
-
-    ghost one = { bool_one };
-
-    ghost within = { bool_within };
-
-    ghost positive = { λ _. bool_positive };
-
-    ghost alone = { λ _. bool_alone };
 }
 
 fn take_bool<S: Source>(reader: &mut S) -> Result<bool, DecodeError<S::Error>>

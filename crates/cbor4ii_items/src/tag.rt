@@ -1,11 +1,8 @@
 //! Tagged items.
-ghost use Rattle.std.specs.Prelude.{◌≡◌, ◌+◌, ◌≤◌, ◌++◌, IfOk, IfErr, OnOk, codes, true, false};
-ghost use Rattle.cbor4ii_items.specs.Containers.{ReadsTag, StopsTag};
-ghost use Rattle.cbor4ii_items.specs.Laws.Containers.{tag_one, tag_within, tag_positive, tag_alone};
-ghost use Rattle.cbor4ii_items.specs.Decoding.{Sound, Refuses, Stops};
-ghost use Rattle.cbor4ii_items.specs.Moves.{Moves};
-ghost use Rattle.cbor4ii_items.specs.Numbers.{ReadsArgument, StopsArgument, shortest_head};
-ghost use Rattle.cbor4ii_items.specs.Refusal.{is_out_of_memory};
+ghost use Rattle.std.specs.Prelude.{◌++◌, codes};
+ghost use Rattle.cbor4ii_items.specs.Decoding.{Decodes};
+ghost use Rattle.cbor4ii_items.specs.Numbers.{argument_spelling, shortest_head};
+ghost use Rattle.cbor4ii_items.specs.Laws.Containers.{tag_spelling, tag_lawful};
 
 use crate::decode::{Decode, Spelled};
 use crate::encode::Encode;
@@ -26,39 +23,21 @@ impl Tag<()> {
     /// with k where the number has k bytes and fewer are left, nothing being left then; `Mismatch`
     /// with the first byte, which is taken, where it begins no tag. The budget stays.
     pub fn tag<S: Source>(reader: &mut S) -> Result<u64, DecodeError<S::Error>>
-        ensures moves { Moves (S.view reader.old) (S.view reader.new) result }
-        ensures memory { IfErr result (λ error. is_out_of_memory error ≡ false) }
-        ensures progress { OnOk result ((S.view reader.new).bound + 1 ≤ (S.view reader.old).bound) }
-        ensures sound { IfOk result
-            (Sound (ReadsArgument 6 8) (S.view reader.old) (S.view reader.new)) }
-        ensures complete { IfErr result (Refuses (ReadsArgument 6 8) (S.view reader.old)) }
-        ensures stops { IfErr result
-            (Stops (StopsArgument (codes "tag") 6 8) (S.view reader.old) (S.view reader.new)) }
+        ensures { Decodes (argument_spelling (codes "tag") 6 8)
+            (S.view reader.old) (S.view reader.new) result }
     {
         lone_head(reader, "tag", major::TAG, 8)
     }
 }
 
 impl<T: Spelled> Spelled for Tag<T> {
-    ghost reads = { λ xs v n c. ReadsTag T.reads xs v.0 v.1 n c };
-
-    ghost same = { λ v w. (v.0 ≡ w.0) × T.same v.1 w.1 };
-
-    ghost stops = { StopsTag T.stops };
-
-    ghost begins = { StopsTag T.begins };
-
-    ghost never_empty = { true };
-
-    ghost owned = { T.owned };
-
-    ghost takes_memory = { T.takes_memory };
-
-    ghost closed = { T.closed };
+    ghost spelling = { tag_spelling T.spelling };
 
     fn is_never_empty() -> bool {
         true
     }
+
+    ghost lawful = { tag_lawful T.spelling T.lawful };
 }
 
 /// A tag, its number of any width, and the item that it tags (RFC 8949 section 3.4).
@@ -74,14 +53,6 @@ impl<S: Source, T: Decode<S>> Decode<S> for Tag<T> {
             Err(error) => Err(error),
         }
     }
-
-    ghost one = { λ xs v w. tag_one T.reads T.same T.one xs v.0 v.1 w.0 w.1 };
-
-    ghost within = { λ xs v. tag_within T.reads T.within xs v.0 v.1 };
-
-    ghost positive = { λ _ xs v. tag_positive T.reads xs v.0 v.1 };
-
-    ghost alone = { λ e xs ys v. tag_alone T.reads T.closed T.alone e xs ys v.0 v.1 };
 }
 
 /// A tagged item: the shortest head of its number in one push, and then the item.

@@ -54,7 +54,7 @@ pub fn pieces_are_read_back()
     ensures { (pieces : List (List ℕ)) (bytes : List ℕ) (text : String Global) →
         length (joined pieces) < 2 ^ 64 → All IsUtf8 pieces → Chunks pieces bytes →
         string_bytes text ≡ joined pieces →
-        (cost : ℕ) × (cost ≤ 1) × ReadsBack ⟦<String as Spelled>⟧.reads bytes text cost }
+        (cost : ℕ) × (cost ≤ 1) × ReadsBack ⟦<String as Spelled>⟧.spelling.reads bytes text cost }
 {}
 
 /// A variant that is written part by part is the variant with the same tuple or struct as content.

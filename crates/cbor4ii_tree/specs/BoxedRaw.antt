@@ -1,11 +1,10 @@
 -- Items that are kept as a copy of their bytes.
-use Rattle.std.specs.Prelude.{◌≡◌, ◌≢◌, ℕ, ◌+◌, ◌≤◌, ◌⊎◌, List, [], Some, Result, Ok, Err}
-use Rattle.std.specs.Prelude.{true, false, IsTrue, IfOk, IfErr, OnOk}
+use Rattle.std.specs.Prelude.{◌≡◌, ◌≢◌, ℕ, ◌⊎◌, List, [], Some, Result, Ok, Err}
+use Rattle.std.specs.Prelude.{false, IsTrue, IfErr}
 use Rattle.cbor4ii_rw.specs.View.{View, Told}
 use Rattle.cbor4ii_rw.specs.declared.error.DecodeError.{DecodeError}
 use Rattle.cbor4ii_rw.specs.declared.error.DecodeError.TheVariants.{OutOfMemory}
-use Rattle.cbor4ii_items.specs.Decoding.{IsExact, Sound, Refuses, Stops}
-use Rattle.cbor4ii_items.specs.Moves.{Moves}
+use Rattle.cbor4ii_items.specs.Decoding.{IsExact, Stops, Spelling, Decodes, taking_memory}
 use Rattle.cbor4ii_items.specs.Refusal.{is_out_of_memory}
 use Rattle.cbor4ii_tree.specs.declared.boxed_raw.BoxedRawValue.{BoxedRawValue}
 use Rattle.cbor4ii_tree.specs.Tree.{Tree}
@@ -13,11 +12,14 @@ use Rattle.cbor4ii_tree.specs.Cost.{Budget}
 use Rattle.cbor4ii_tree.specs.Refusal.{Refusal, require_borrowed}
 use Rattle.cbor4ii_tree.specs.Spelling.{Skips}
 use Rattle.cbor4ii_tree.specs.StopsSkipping.{StopsSkipping}
-use Rattle.cbor4ii_tree.specs.Raw.{ReadsRaw, StopsRaw, BeginsRaw, Unmoved, RefusesFront, raw_value}
+use Rattle.cbor4ii_tree.specs.Raw.{raw_spelling, Unmoved, RefusesFront, raw_value}
 use Rattle.cbor4ii_tree.specs.Raw.{TakesItem, StopsAsSkipping, Captured, NotCaptured}
 
 abbrev pub boxed_content : BoxedRawValue → List ℕ
 boxed_content v = v.0.items
+
+abbrev pub boxed_raw_spelling : Spelling BoxedRawValue
+boxed_raw_spelling = taking_memory (raw_spelling boxed_content)
 
 -- an item was taken, and there was no memory for its copy
 pub record LacksRoom {E : Type 0} (old new : View) (e : DecodeError E) : Type 0 where
@@ -53,19 +55,14 @@ CopiesNone old new (Err e) = (is_out_of_memory e ≡ false) × Stops StopsRawUnl
 -- What reading an item as a copy of its bytes promises.
 pub record CopiesItem {E : Type 0} (old new : View)
     (answer : Result BoxedRawValue (DecodeError E)) : Type 0 where
+  -- as every decoding call
+  pub decodes : Decodes boxed_raw_spelling old new answer
   -- over any reader
-  pub moves : Moves old new answer
-  pub progress : OnOk answer (new.bound + 1 ≤ old.bound)
-  pub sound : IfOk answer (Sound (ReadsRaw boxed_content) old new)
-  pub memory : IfErr answer (λ error. IsTrue (is_out_of_memory error) → IsTrue true)
-  pub begins : IfErr answer (Stops BeginsRaw old new)
   pub unmoved : IfErr answer (UnmovedOrLacks old new)
   pub refuses : RefusesFront old answer
   -- want of memory comes behind the item
   pub behind : IfErr answer (λ error. IsTrue (is_out_of_memory error) →
       Told old.told (SkippedTo old new))
   -- over a reader that lends whole: exactly as skipping takes an item, or stops
-  pub complete : IsExact false old → IfErr answer (Refuses (ReadsRaw boxed_content) old)
-  pub stops : IsExact false old → IfErr answer (Stops StopsRaw old new)
   pub whole : IsExact false old → TakesItem boxed_content old new answer
   pub exact : IsExact false old → StopsAsSkipping old new answer

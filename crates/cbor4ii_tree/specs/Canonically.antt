@@ -2,7 +2,8 @@
 use Rattle.std.specs.Prelude.{◌≡◌, ◌≤◌, ℕ, List, ◌++◌, length, take, Some, Result, IfOk, ◌⊎◌}
 use Rattle.cbor4ii_rw.specs.View.{View, Told}
 use Rattle.cbor4ii_rw.specs.declared.error.DecodeError.{DecodeError}
-use Rattle.cbor4ii_items.specs.Decoding.{CostFits, Reads as ReadsOf, StopsAt}
+use Rattle.cbor4ii_items.specs.Decoding.{CostFits, Reads as ReadsOf, StopsAt, Spelling}
+use Rattle.cbor4ii_items.specs.Decoding.{leaf_spelling, spelling_by, taking_memory}
 use Rattle.cbor4ii_items.specs.Refusal.{Refusal, not_canonical}
 use Rattle.cbor4ii_tree.specs.Item.{Item}
 use Rattle.cbor4ii_tree.specs.Cost.{Budget}
@@ -26,6 +27,10 @@ ReadsCanonical xs v n c = ReadsCanonicalItem xs (view v.0) n c
 
 abbrev pub StopsCanonical : StopsAt
 StopsCanonical xs budget e rest = StopsStrictly xs budget e rest
+
+abbrev pub canonical_spelling : Spelling Canonical
+canonical_spelling =
+    spelling_by (λ v. view v.0) (taking_memory (leaf_spelling ReadsCanonicalItem StopsCanonical))
 
 -- the refusal says that a spelling is not the canonical one
 abbrev pub IsNotCanonical : Refusal → Type 0

@@ -3,7 +3,8 @@ use Rattle.std.specs.Prelude.{◌≡◌, ◌≤◌, ◌+◌, ℕ, List, [], ◌+
 use Rattle.std.specs.Prelude.{Some, Result, Ok, Err, IfOk, IfSome}
 use Rattle.cbor4ii_rw.specs.View.{View, Told}
 use Rattle.cbor4ii_rw.specs.declared.error.DecodeError.{DecodeError}
-use Rattle.cbor4ii_items.specs.Decoding.{CostFits}
+use Rattle.cbor4ii_items.specs.Decoding.{CostFits, Spelling, leaf_spelling, spelling_by}
+use Rattle.cbor4ii_items.specs.Decoding.{taking_memory}
 use Rattle.cbor4ii_tree.specs.Tree.{Tree, bytes, Loose, Joins}
 use Rattle.cbor4ii_tree.specs.Item.{Item, size}
 use Rattle.cbor4ii_tree.specs.Cost.{Budget, skip_cost}
@@ -21,9 +22,8 @@ pub record ReadsValue (xs : List ℕ) (v : Item) (n c : ℕ) : Type 0 where
   pub within : n ≤ length xs
   pub spells : Spells (take n xs) v c
 
--- the first n bytes are a spelling of what the value stands for, in c steps
-abbrev pub ReadsSpelling : List ℕ → Value → ℕ → ℕ → Type 0
-ReadsSpelling xs v n c = ReadsValue xs (view v) n c
+abbrev pub value_spelling : Spelling Value
+value_spelling = spelling_by view (taking_memory (leaf_spelling ReadsValue StopsReading))
 
 -- what an answer says of the bytes: a failure of the reader and a want of memory say nothing
 abbrev pub Answered : {V E : Type 0} → (V → Type 0) → (Refusal → Type 0) →

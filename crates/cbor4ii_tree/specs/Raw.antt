@@ -7,6 +7,7 @@ use Rattle.cbor4ii_rw.specs.Reader.{IsFront, Breaks, Keeps, KeepsOrForgets}
 use Rattle.cbor4ii_rw.specs.Long.{FillsLong, LendsNone}
 use Rattle.cbor4ii_rw.specs.declared.error.DecodeError.{DecodeError}
 use Rattle.cbor4ii_items.specs.Head.{IsBytes}
+use Rattle.cbor4ii_items.specs.Decoding.{Spelling}
 use Rattle.cbor4ii_items.specs.Lent.{Lends}
 use Rattle.cbor4ii_items.specs.Refusal.{refusal_of, is_read, is_out_of_memory, is_depth_overflow}
 use Rattle.cbor4ii_tree.specs.declared.raw.RawValue.{RawValue}
@@ -51,6 +52,18 @@ StopsInFront xs budget e = (shown : List ℕ) × IsFront most shown xs ×
 abbrev pub BeginsRaw : List ℕ → Budget → Refusal → List ℕ → Type 0
 BeginsRaw xs budget e rest = (rest ≡ xs) ×
     (((e ≡ require_borrowed raw_value) × (xs ≢ [])) ⊎ StopsInFront xs budget e)
+
+abbrev pub raw_spelling : {V : Type 0} → (V → List ℕ) → Spelling V
+raw_spelling content = record {
+  reads = ReadsRaw content;
+  same = λ v w. content v ≡ content w;
+  stops = StopsRaw;
+  begins = BeginsRaw;
+  never_empty = true;
+  owned = false;
+  takes_memory = false;
+  closed = true;
+}
 
 -- ---- what an answer says
 

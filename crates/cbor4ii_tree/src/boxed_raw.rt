@@ -2,15 +2,14 @@
 //!
 //! They are read and refused as `RawValue` is. Where there is no memory for the copy it is
 //! `OutOfMemory`, and the item was taken.
-ghost use Rattle.std.specs.Prelude.{◌≡◌, true, false, IfOk, IsTrue};
+ghost use Rattle.std.specs.Prelude.{◌≡◌, true, IfOk, IsTrue};
 ghost use Rattle.cbor4ii_items.specs.Writing.{WritesWhole};
 ghost use Rattle.cbor4ii_tree.specs.Canonical.{canon, canon_cost, with_bignums};
 ghost use Rattle.cbor4ii_tree.specs.Spelling.{Spells};
 ghost use Rattle.cbor4ii_tree.specs.View.{view};
-ghost use Rattle.cbor4ii_tree.specs.Raw.{ReadsRaw, StopsRaw, BeginsRaw};
 ghost use Rattle.cbor4ii_tree.specs.BoxedRaw.{boxed_content, CapturesCopy, CopiesItem};
-ghost use Rattle.cbor4ii_tree.specs.BoxedRaw.{CopiesNone};
-ghost use Rattle.cbor4ii_tree.specs.Laws.Capturing.{raw_one, raw_within, raw_positive, raw_alone};
+ghost use Rattle.cbor4ii_tree.specs.BoxedRaw.{CopiesNone, boxed_raw_spelling};
+ghost use Rattle.cbor4ii_tree.specs.Laws.Capturing.{boxed_raw_lawful};
 
 use crate::lend_raw::skip_lent;
 use crate::value::{NoMemory, Value};
@@ -62,25 +61,13 @@ impl BoxedRawValue {
 
 /// One item, skipped under a step for each level.
 impl Spelled for BoxedRawValue {
-    ghost reads = { ReadsRaw boxed_content };
-
-    ghost same = { λ v w. boxed_content v ≡ boxed_content w };
-
-    ghost stops = { StopsRaw };
-
-    ghost begins = { BeginsRaw };
-
-    ghost never_empty = { true };
-
-    ghost owned = { false };
-
-    ghost takes_memory = { true };
-
-    ghost closed = { true };
+    ghost spelling = { boxed_raw_spelling };
 
     fn is_never_empty() -> bool {
         true
     }
+
+    ghost lawful = { boxed_raw_lawful };
 }
 
 /// One fill asks for all that is left. Where its bytes live as long as the input, the item at
@@ -104,14 +91,6 @@ impl<S: FillLong> Decode<S> for BoxedRawValue {
     {
         copy_lent(alloc, reader)
     }
-
-    ghost one = { raw_one boxed_content };
-
-    ghost within = { raw_within boxed_content };
-
-    ghost positive = { λ _. raw_positive boxed_content };
-
-    ghost alone = { λ _. raw_alone boxed_content };
 }
 
 /// As `decode`, in fewer clauses.

@@ -1,17 +1,12 @@
 //! Values that are spelled in one way, read. Each level takes one small frame of the stack, as in
 //! `decode_value`.
-ghost use Rattle.std.specs.Prelude.{◌≡◌, ◌+◌, ◌-◌, ◌*◌, ◌<◌, ◌≤◌, ◌/◌, ◌⊎◌, OnOk, OnSome, IfOk};
-ghost use Rattle.std.specs.Prelude.{length, IfErr, true, false};
-ghost use Rattle.cbor4ii_items.specs.Decoding.{Sound, Refuses, Stops};
-ghost use Rattle.cbor4ii_items.specs.Moves.{Moves};
+ghost use Rattle.std.specs.Prelude.{◌≡◌, ◌+◌, ◌-◌, ◌*◌, ◌<◌, ◌≤◌, ◌/◌, ◌⊎◌, OnOk, OnSome};
+ghost use Rattle.std.specs.Prelude.{length, IfErr, IsTrue, true, false};
 ghost use Rattle.cbor4ii_items.specs.Refusal.{is_out_of_memory};
-ghost use Rattle.cbor4ii_items.specs.Shortest.{ReadsShortest, StopsShortest};
-ghost use Rattle.cbor4ii_tree.specs.Canonically.{ReadsCanonical, StopsCanonical, OnlyCanonical};
+ghost use Rattle.cbor4ii_tree.specs.Canonically.{canonical_spelling, OnlyCanonical};
 ghost use Rattle.cbor4ii_tree.specs.Canonically.{AllCanonical, TakesSpelling, EverySpelling};
 ghost use Rattle.cbor4ii_tree.specs.Canonically.{FrontCanonical, DepthCanonical, NeverCanonical};
 ghost use Rattle.cbor4ii_tree.specs.Canonically.{OthersCanonical, ExactCanonical, ValueCanonical};
-ghost use Rattle.cbor4ii_tree.specs.Laws.CanonicalReading.{canonical_one, canonical_within};
-ghost use Rattle.cbor4ii_tree.specs.Laws.CanonicalReading.{canonical_positive, canonical_alone};
 ghost use Rattle.cbor4ii_tree.specs.Does.{DoesUnder, answered};
 ghost use Rattle.cbor4ii_tree.specs.LeafRuns.{flat, PutsItems, PutsItemsUnder};
 ghost use Rattle.cbor4ii_tree.specs.LeafRuns.{StopsItemsUnder};
@@ -28,8 +23,10 @@ ghost use Rattle.cbor4ii_tree.specs.Strictly.{ReadsExactlyTagged, StopsAtShortes
 ghost use Rattle.cbor4ii_tree.specs.Strictly.{TakesShortest};
 ghost use Rattle.cbor4ii_tree.specs.Strictly.{ExactMembers, AcceptsCount};
 ghost use Rattle.cbor4ii_tree.specs.Valuing.{ReadsStepped, ReadsVec, TakesSimple};
+ghost use Rattle.cbor4ii_items.specs.Decoding.{Decodes};
+ghost use Rattle.cbor4ii_items.specs.Shortest.{shortest_spelling};
+ghost use Rattle.cbor4ii_tree.specs.Laws.CanonicalReading.{canonical_lawful};
 ghost use Rattle.cbor4ii_tree.specs.Leaf.{CanTake, DoesBehindNext};
-ghost use Rattle.cbor4ii_tree.specs.View.{view};
 
 use crate::leaf::{Looked, Next, take_leaf};
 use crate::run::{Pairs, Parts, put_value, take_run};
@@ -50,25 +47,13 @@ use std::alloc::Global;
 pub struct Canonical(pub Value);
 
 impl Spelled for Canonical {
-    ghost reads = { ReadsCanonical };
-
-    ghost same = { λ v w. view v.0 ≡ view w.0 };
-
-    ghost stops = { StopsCanonical };
-
-    ghost begins = { StopsCanonical };
-
-    ghost never_empty = { true };
-
-    ghost owned = { true };
-
-    ghost takes_memory = { true };
-
-    ghost closed = { true };
+    ghost spelling = { canonical_spelling };
 
     fn is_never_empty() -> bool {
         true
     }
+
+    ghost lawful = { canonical_lawful };
 }
 
 /// A value is read where the canonical spelling of a value whose steps fit the budget begins the
@@ -82,13 +67,8 @@ impl Spelled for Canonical {
 /// that leaves. `Eof` leaves nothing, and comes only on a proper front of an item.
 impl<S: Source> Decode<S> for Canonical {
     fn decode(alloc: Global, reader: &mut S) -> Result<Canonical, DecodeError<S::Error>>
-        ensures moves { Moves (S.view reader.old) (S.view reader.new) result }
-        ensures progress { OnOk result ((S.view reader.new).bound + 1 ≤ (S.view reader.old).bound) }
-        ensures sound { IfOk result
-            (Sound ReadsCanonical (S.view reader.old) (S.view reader.new)) }
-        ensures complete { IfErr result (Refuses ReadsCanonical (S.view reader.old)) }
-        ensures stops { IfErr result
-            (Stops StopsCanonical (S.view reader.old) (S.view reader.new)) }
+        ensures decodes { Decodes canonical_spelling
+            (S.view reader.old) (S.view reader.new) result }
 
         ensures only { OnlyCanonical (S.view reader.old) (S.view reader.new) result }
         ensures all { AllCanonical (S.view reader.old) (S.view reader.new) result }
@@ -106,14 +86,6 @@ impl<S: Source> Decode<S> for Canonical {
         let value = read_one(alloc, reader, &mut failure);
         Ok(Canonical(whole(value, &mut failure)?))
     }
-
-    ghost one = { canonical_one };
-
-    ghost within = { canonical_within };
-
-    ghost positive = { canonical_positive };
-
-    ghost alone = { canonical_alone };
 }
 
 /// Reads one value. Where it does not, the refusal goes to `failure`, which is left empty where
@@ -241,7 +213,7 @@ fn take_head<S: Source>(
         (TakesShortest major) (StopsAtShortest name.now major)
         (S.view reader.old) (S.view reader.new) (answered result failure.new) }
     ensures memory { IfErr (answered result failure.new)
-        (λ error. is_out_of_memory error ≡ false) }
+        (λ error. IsTrue (is_out_of_memory error) → IsTrue false) }
     ensures progress { OnSome result ((S.view reader.new).bound + 1 ≤ (S.view reader.old).bound) }
 {
     match next.head {
@@ -262,17 +234,8 @@ fn head_of<S: Source>(
     major: u8,
     failure: &mut Option<DecodeError<S::Error>>,
 ) -> Option<u64>
-    ensures moves { Moves (S.view reader.old) (S.view reader.new) (answered result failure.new) }
-    ensures memory { IfErr (answered result failure.new)
-        (λ error. is_out_of_memory error ≡ false) }
-    ensures progress { OnOk (answered result failure.new)
-        ((S.view reader.new).bound + 1 ≤ (S.view reader.old).bound) }
-    ensures sound { IfOk (answered result failure.new)
-        (Sound (ReadsShortest major) (S.view reader.old) (S.view reader.new)) }
-    ensures complete { IfErr (answered result failure.new)
-        (Refuses (ReadsShortest major) (S.view reader.old)) }
-    ensures stops { IfErr (answered result failure.new)
-        (Stops (StopsShortest name.now major) (S.view reader.old) (S.view reader.new)) }
+    ensures { Decodes (shortest_spelling name.now major)
+        (S.view reader.old) (S.view reader.new) (answered result failure.new) }
 {
     part(canonical_head(name, major, reader), failure)
 }

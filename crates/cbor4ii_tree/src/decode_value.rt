@@ -4,7 +4,7 @@
 //! `read_tagged` stay out of line, and what leads from one of them to another is inline. What a
 //! loop answers is made a value where it comes back, so that each level has one place for it.
 ghost use Rattle.std.specs.Prelude.{◌≡◌, ◌+◌, ◌-◌, ◌*◌, ◌<◌, ◌≤◌, ◌/◌, ◌⊎◌, OnOk, IfOk, IfErr};
-ghost use Rattle.std.specs.Prelude.{true, false, length};
+ghost use Rattle.std.specs.Prelude.{IsTrue, true, false, length};
 ghost use Rattle.std.specs.Prelude.{OnSome, IfSome};
 ghost use Rattle.cbor4ii_tree.specs.Does.{DoesUnder, answered};
 ghost use Rattle.cbor4ii_tree.specs.Valuing.{ReadsOneValue, StopsOneValue, ReadsUnder, StopsUnder};
@@ -19,20 +19,17 @@ ghost use Rattle.cbor4ii_tree.specs.Leaf.{CanTake, DoesBehindNext};
 ghost use Rattle.cbor4ii_tree.specs.LeafRuns.{flat, KeepsItems, PutsItems, PutsItemsUnder};
 ghost use Rattle.cbor4ii_tree.specs.LeafRuns.{StopsItemsUnder};
 ghost use Rattle.cbor4ii_tree.specs.StopsReading.{Readable};
-ghost use Rattle.cbor4ii_items.specs.Decoding.{Sound, Refuses, Stops};
-ghost use Rattle.cbor4ii_items.specs.Moves.{Moves};
-ghost use Rattle.cbor4ii_items.specs.Numbers.{ReadsArgument, StopsArgument};
-ghost use Rattle.cbor4ii_items.specs.Lengths.{ReadsLength, StopsLength};
 ghost use Rattle.cbor4ii_items.specs.Refusal.{is_out_of_memory};
 ghost use Rattle.cbor4ii_tree.specs.Refusal.{tag_name, array_name, map_name};
 ghost use Rattle.cbor4ii_tree.specs.Item.{IsItem, AreItems, AreMembers};
-ghost use Rattle.cbor4ii_tree.specs.StopsReading.{StopsReading};
 ghost use Rattle.cbor4ii_tree.specs.View.{view, items_view, members_view};
-ghost use Rattle.cbor4ii_tree.specs.Promises.{ReadsSpelling, OnlyReads, AllReads, FrontReads};
+ghost use Rattle.cbor4ii_tree.specs.Promises.{value_spelling, OnlyReads, AllReads, FrontReads};
 ghost use Rattle.cbor4ii_tree.specs.Promises.{EofReads, DepthReads, FinalReads, Others, SizeReads};
 ghost use Rattle.cbor4ii_tree.specs.Promises.{ExactReads, SkipsReads, CanonicalReads};
-ghost use Rattle.cbor4ii_tree.specs.Laws.Values.{value_one, value_within, value_positive};
-ghost use Rattle.cbor4ii_tree.specs.Laws.Values.{value_alone};
+ghost use Rattle.cbor4ii_items.specs.Decoding.{Decodes};
+ghost use Rattle.cbor4ii_items.specs.Numbers.{argument_spelling};
+ghost use Rattle.cbor4ii_items.specs.Lengths.{length_spelling};
+ghost use Rattle.cbor4ii_tree.specs.Laws.Values.{value_lawful};
 
 use crate::leaf::{Looked, Next, take_leaf};
 use crate::run::{Pairs, Parts, put_value, take_run};
@@ -55,25 +52,13 @@ const OPEN_ARRAY: u8 = 0x9f;
 const OPEN_MAP: u8 = 0xbf;
 
 impl Spelled for Value {
-    ghost reads = { ReadsSpelling };
-
-    ghost same = { λ v w. view v ≡ view w };
-
-    ghost stops = { StopsReading };
-
-    ghost begins = { StopsReading };
-
-    ghost never_empty = { true };
-
-    ghost owned = { true };
-
-    ghost takes_memory = { true };
-
-    ghost closed = { true };
+    ghost spelling = { value_spelling };
 
     fn is_never_empty() -> bool {
         true
     }
+
+    ghost lawful = { value_lawful };
 }
 
 /// A value is read from each of its spellings whose steps fit the budget: heads of any width,
@@ -102,11 +87,8 @@ impl Spelled for Value {
 impl<S: Source> Decode<S> for Value {
     #[inline(always)]
     fn decode(alloc: Global, reader: &mut S) -> Result<Value, DecodeError<S::Error>>
-        ensures moves { Moves (S.view reader.old) (S.view reader.new) result }
-        ensures progress { OnOk result ((S.view reader.new).bound + 1 ≤ (S.view reader.old).bound) }
-        ensures sound { IfOk result (Sound ReadsSpelling (S.view reader.old) (S.view reader.new)) }
-        ensures complete { IfErr result (Refuses ReadsSpelling (S.view reader.old)) }
-        ensures stops { IfErr result (Stops StopsReading (S.view reader.old) (S.view reader.new)) }
+        ensures decodes { Decodes value_spelling
+            (S.view reader.old) (S.view reader.new) result }
 
         ensures only { OnlyReads (S.view reader.old) (S.view reader.new) result }
         ensures all { AllReads (S.view reader.old) (S.view reader.new) result }
@@ -126,14 +108,6 @@ impl<S: Source> Decode<S> for Value {
         let value = read_outermost(alloc, reader, &mut failure);
         whole(value, &mut failure)
     }
-
-    ghost one = { value_one };
-
-    ghost within = { value_within };
-
-    ghost positive = { value_positive };
-
-    ghost alone = { value_alone };
 }
 
 /// Reads one value that stands in no other. What is under its step stays out of line, so that a
@@ -294,7 +268,7 @@ fn take_tag<S: Source>(
     ensures does { DoesBehindNext ⊥ next TakesTag (StopsOf 6)
         (S.view reader.old) (S.view reader.new) (answered result failure.new) }
     ensures memory { IfErr (answered result failure.new)
-        (λ error. is_out_of_memory error ≡ false) }
+        (λ error. IsTrue (is_out_of_memory error) → IsTrue false) }
     ensures progress { OnSome result ((S.view reader.new).bound + 1 ≤ (S.view reader.old).bound) }
 {
     match next.head {
@@ -309,17 +283,8 @@ fn take_tag<S: Source>(
 /// The same of a head that no look has shown whole. It stays out of line, as `read_alone`.
 #[inline(never)]
 fn tag_number<S: Source>(reader: &mut S, failure: &mut Option<DecodeError<S::Error>>) -> Option<u64>
-    ensures moves { Moves (S.view reader.old) (S.view reader.new) (answered result failure.new) }
-    ensures memory { IfErr (answered result failure.new)
-        (λ error. is_out_of_memory error ≡ false) }
-    ensures progress { OnOk (answered result failure.new)
-        ((S.view reader.new).bound + 1 ≤ (S.view reader.old).bound) }
-    ensures sound { IfOk (answered result failure.new)
-        (Sound (ReadsArgument 6 8) (S.view reader.old) (S.view reader.new)) }
-    ensures complete { IfErr (answered result failure.new)
-        (Refuses (ReadsArgument 6 8) (S.view reader.old)) }
-    ensures stops { IfErr (answered result failure.new)
-        (Stops (StopsArgument tag_name 6 8) (S.view reader.old) (S.view reader.new)) }
+    ensures { Decodes (argument_spelling tag_name 6 8)
+        (S.view reader.old) (S.view reader.new) (answered result failure.new) }
 {
     part(Tag::tag(reader), failure)
 }
@@ -438,7 +403,7 @@ fn take_array<S: Source>(
     ensures does { DoesBehindNext ⊥ next (TakesLength 4) (StopsMajor 4)
         (S.view reader.old) (S.view reader.new) (answered result failure.new) }
     ensures memory { IfErr (answered result failure.new)
-        (λ error. is_out_of_memory error ≡ false) }
+        (λ error. IsTrue (is_out_of_memory error) → IsTrue false) }
     ensures progress { OnSome result ((S.view reader.new).bound + 1 ≤ (S.view reader.old).bound) }
 {
     match next.head {
@@ -460,17 +425,8 @@ fn array_length<S: Source>(
     reader: &mut S,
     failure: &mut Option<DecodeError<S::Error>>,
 ) -> Option<Option<usize>>
-    ensures moves { Moves (S.view reader.old) (S.view reader.new) (answered result failure.new) }
-    ensures memory { IfErr (answered result failure.new)
-        (λ error. is_out_of_memory error ≡ false) }
-    ensures progress { OnOk (answered result failure.new)
-        ((S.view reader.new).bound + 1 ≤ (S.view reader.old).bound) }
-    ensures sound { IfOk (answered result failure.new)
-        (Sound (ReadsLength 4) (S.view reader.old) (S.view reader.new)) }
-    ensures complete { IfErr (answered result failure.new)
-        (Refuses (ReadsLength 4) (S.view reader.old)) }
-    ensures stops { IfErr (answered result failure.new)
-        (Stops (StopsLength array_name 4) (S.view reader.old) (S.view reader.new)) }
+    ensures { Decodes (length_spelling array_name 4)
+        (S.view reader.old) (S.view reader.new) (answered result failure.new) }
 {
     part(Array::len(reader), failure)
 }
@@ -688,7 +644,7 @@ fn take_map<S: Source>(
     ensures does { DoesBehindNext ⊥ next (TakesLength 5) (StopsMajor 5)
         (S.view reader.old) (S.view reader.new) (answered result failure.new) }
     ensures memory { IfErr (answered result failure.new)
-        (λ error. is_out_of_memory error ≡ false) }
+        (λ error. IsTrue (is_out_of_memory error) → IsTrue false) }
     ensures progress { OnSome result ((S.view reader.new).bound + 1 ≤ (S.view reader.old).bound) }
 {
     match next.head {
@@ -710,17 +666,8 @@ fn map_length<S: Source>(
     reader: &mut S,
     failure: &mut Option<DecodeError<S::Error>>,
 ) -> Option<Option<usize>>
-    ensures moves { Moves (S.view reader.old) (S.view reader.new) (answered result failure.new) }
-    ensures memory { IfErr (answered result failure.new)
-        (λ error. is_out_of_memory error ≡ false) }
-    ensures progress { OnOk (answered result failure.new)
-        ((S.view reader.new).bound + 1 ≤ (S.view reader.old).bound) }
-    ensures sound { IfOk (answered result failure.new)
-        (Sound (ReadsLength 5) (S.view reader.old) (S.view reader.new)) }
-    ensures complete { IfErr (answered result failure.new)
-        (Refuses (ReadsLength 5) (S.view reader.old)) }
-    ensures stops { IfErr (answered result failure.new)
-        (Stops (StopsLength map_name 5) (S.view reader.old) (S.view reader.new)) }
+    ensures { Decodes (length_spelling map_name 5)
+        (S.view reader.old) (S.view reader.new) (answered result failure.new) }
 {
     part(Map::len(reader), failure)
 }

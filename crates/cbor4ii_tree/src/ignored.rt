@@ -1,13 +1,9 @@
 //! Items that are skipped.
-ghost use Rattle.std.specs.Prelude.{◌≡◌, ◌+◌, ◌≤◌, OnOk, IfOk, IfErr, IsTrue, true, false};
-ghost use Rattle.cbor4ii_items.specs.Moves.{Moves};
-ghost use Rattle.cbor4ii_items.specs.Refusal.{is_out_of_memory};
-ghost use Rattle.cbor4ii_items.specs.Decoding.{IsExact, Sound, Refuses, Stops};
+ghost use Rattle.cbor4ii_items.specs.Decoding.{Decodes, leaf_spelling};
 ghost use Rattle.cbor4ii_tree.specs.Promises.{Others, OnlySkips, AllSkips, FrontSkips, EofSkips};
 ghost use Rattle.cbor4ii_tree.specs.Promises.{DepthSkips, FinalSkips, ExactSkips};
 ghost use Rattle.cbor4ii_tree.specs.Ignored.{ReadsIgnored, StopsIgnored};
-ghost use Rattle.cbor4ii_tree.specs.Laws.Ignoring.{ignored_one, ignored_within, ignored_positive};
-ghost use Rattle.cbor4ii_tree.specs.Laws.Ignoring.{ignored_alone};
+ghost use Rattle.cbor4ii_tree.specs.Laws.Ignoring.{ignored_lawful};
 
 use crate::front::Own;
 use crate::skip::skip_item;
@@ -22,25 +18,13 @@ pub struct IgnoredAny;
 
 /// One item is skipped, under a step for each level.
 impl Spelled for IgnoredAny {
-    ghost reads = { ReadsIgnored };
-
-    ghost same = { λ v w. v ≡ w };
-
-    ghost stops = { StopsIgnored };
-
-    ghost begins = { StopsIgnored };
-
-    ghost never_empty = { true };
-
-    ghost owned = { true };
-
-    ghost takes_memory = { false };
-
-    ghost closed = { true };
+    ghost spelling = { leaf_spelling ReadsIgnored StopsIgnored };
 
     fn is_never_empty() -> bool {
         true
     }
+
+    ghost lawful = { ignored_lawful };
 }
 
 /// One item, under a step for each level of it, the item itself and the chunks of an open string
@@ -58,16 +42,8 @@ impl Spelled for IgnoredAny {
 /// is left.
 impl<S: Source> Decode<S> for IgnoredAny {
     fn decode(alloc: Global, reader: &mut S) -> Result<IgnoredAny, DecodeError<S::Error>>
-        ensures moves { Moves (S.view reader.old) (S.view reader.new) result }
-        ensures progress { IsTrue true →
-            OnOk result ((S.view reader.new).bound + 1 ≤ (S.view reader.old).bound) }
-        ensures memory { IfErr result (λ error. IsTrue (is_out_of_memory error) → IsTrue false) }
-        ensures sound { IfOk result (Sound ReadsIgnored (S.view reader.old) (S.view reader.new)) }
-        ensures complete { IsExact true (S.view reader.old) →
-            IfErr result (Refuses ReadsIgnored (S.view reader.old)) }
-        ensures stops { IsExact true (S.view reader.old) →
-            IfErr result (Stops StopsIgnored (S.view reader.old) (S.view reader.new)) }
-        ensures begins { IfErr result (Stops StopsIgnored (S.view reader.old) (S.view reader.new)) }
+        ensures decodes { Decodes (leaf_spelling ReadsIgnored StopsIgnored)
+            (S.view reader.old) (S.view reader.new) result }
         ensures only { OnlySkips (S.view reader.old) (S.view reader.new) result }
         ensures all { AllSkips (S.view reader.old) (S.view reader.new) result }
         ensures front { FrontSkips (S.view reader.old) result }
@@ -82,12 +58,4 @@ impl<S: Source> Decode<S> for IgnoredAny {
             Err(error) => Err(error),
         }
     }
-
-    ghost one = { ignored_one };
-
-    ghost within = { ignored_within };
-
-    ghost positive = { ignored_positive };
-
-    ghost alone = { ignored_alone };
 }

@@ -1,16 +1,14 @@
 //! Values that hold no other, decided in one look where they stand whole in what is shown
 //! (RFC 8949 section 3). Of what does not, the look hands on the first byte.
-ghost use Rattle.std.specs.Prelude.{◌≡◌, ◌≤◌, ◌+◌, ◌∷◌, ◌/◌, ◌%◌, ◌⊎◌, IfOk, OnErr, IfSome, OnSome};
+ghost use Rattle.std.specs.Prelude.{◌≡◌, ◌≤◌, ◌+◌, ◌∷◌, ◌/◌, ◌%◌, ◌⊎◌, IfOk, OnErr, IfSome};
 ghost use Rattle.std.specs.Prelude.{true};
 ghost use Rattle.cbor4ii_rw.specs.Reader.{Breaks};
 ghost use Rattle.cbor4ii_items.specs.Head.{ArgumentBehind, byte_count, shortest};
 ghost use Rattle.cbor4ii_tree.specs.Front.{Offers};
-ghost use Rattle.cbor4ii_tree.specs.Item.{IsItem};
 ghost use Rattle.cbor4ii_tree.specs.Leaf.{ExactHead, SeesLeaf, SeesNext, TakesLeaf, ItemTaken};
 ghost use Rattle.cbor4ii_tree.specs.Leaf.{OnTaken};
 ghost use Rattle.cbor4ii_tree.specs.Strictly.{ReadsExactlyUnder, StopsExactlyUnder};
 ghost use Rattle.cbor4ii_tree.specs.Valuing.{ReadsUnder, StopsUnder};
-ghost use Rattle.cbor4ii_tree.specs.View.{view};
 
 use crate::simple::simple_of;
 use crate::slot::{leave, leave_end};

@@ -1,14 +1,12 @@
 //! Items that are lent: the bytes of one item, as they stand in the input.
-ghost use Rattle.std.specs.Prelude.{◌≡◌, ◌+◌, ◌≤◌, ℕ, List, length, take, false, IsTrue, IfOk};
-ghost use Rattle.std.specs.Prelude.{IfErr, OnOk};
+ghost use Rattle.std.specs.Prelude.{◌≡◌, ◌≤◌, ℕ, List, length, take, false, IfOk};
+ghost use Rattle.std.specs.Prelude.{IfErr};
 ghost use Rattle.cbor4ii_rw.specs.Long.{FillsLong};
 ghost use Rattle.cbor4ii_rw.specs.Reader.{KeepsAllButBudget};
-ghost use Rattle.cbor4ii_items.specs.Decoding.{IsExact, Sound, Refuses, Stops};
-ghost use Rattle.cbor4ii_items.specs.Moves.{Moves};
-ghost use Rattle.cbor4ii_items.specs.Refusal.{is_out_of_memory};
-ghost use Rattle.cbor4ii_tree.specs.Raw.{ReadsRaw, StopsRaw, BeginsRaw, Unmoved, RefusesFront};
+ghost use Rattle.cbor4ii_tree.specs.Raw.{raw_spelling, Unmoved, RefusesFront};
 ghost use Rattle.cbor4ii_tree.specs.Raw.{TakesItem, StopsAsSkipping, LacksFront, most};
 ghost use Rattle.cbor4ii_tree.specs.Raw.{SkipsFront, StopsFront, Captures};
+ghost use Rattle.cbor4ii_items.specs.Decoding.{IsExact, Decodes};
 
 use crate::front::Lent;
 use crate::skip::skip_item;
@@ -62,16 +60,8 @@ pub(crate) fn take_raw<T: LendRaw<S>, S: Source>(
     alloc: Global,
     reader: &mut S,
 ) -> Result<T, DecodeError<S::Error>>
-    ensures moves { Moves (S.view reader.old) (S.view reader.new) result }
-    ensures progress { OnOk result ((S.view reader.new).bound + 1 ≤ (S.view reader.old).bound) }
-    ensures memory { IfErr result (λ error. IsTrue (is_out_of_memory error) → IsTrue false) }
-    ensures sound { IfOk result (Sound (ReadsRaw T.content)
-        (S.view reader.old) (S.view reader.new)) }
-    ensures complete { IsExact false (S.view reader.old) →
-        IfErr result (Refuses (ReadsRaw T.content) (S.view reader.old)) }
-    ensures stops { IsExact false (S.view reader.old) →
-        IfErr result (Stops StopsRaw (S.view reader.old) (S.view reader.new)) }
-    ensures begins { IfErr result (Stops BeginsRaw (S.view reader.old) (S.view reader.new)) }
+    ensures decodes { Decodes (raw_spelling T.content)
+        (S.view reader.old) (S.view reader.new) result }
     ensures whole { IsExact false (S.view reader.old) →
         TakesItem T.content (S.view reader.old) (S.view reader.new) result }
     ensures exact { IsExact false (S.view reader.old) →

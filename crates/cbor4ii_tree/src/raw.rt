@@ -1,12 +1,11 @@
 //! Items that are kept as their bytes.
-ghost use Rattle.std.specs.Prelude.{◌≡◌, ◌+◌, ◌≤◌, true, false, OnOk, IfOk, IfErr, IsTrue};
-ghost use Rattle.cbor4ii_items.specs.Decoding.{IsExact, Sound, Refuses, Stops};
-ghost use Rattle.cbor4ii_items.specs.Moves.{Moves};
-ghost use Rattle.cbor4ii_items.specs.Refusal.{is_out_of_memory};
+ghost use Rattle.std.specs.Prelude.{◌≡◌, true, false, IfErr};
 ghost use Rattle.cbor4ii_items.specs.Writing.{WritesWhole};
-ghost use Rattle.cbor4ii_tree.specs.Raw.{raw_content, ReadsRaw, StopsRaw, BeginsRaw, Unmoved};
-ghost use Rattle.cbor4ii_tree.specs.Raw.{RefusesFront, TakesItem, StopsAsSkipping};
-ghost use Rattle.cbor4ii_tree.specs.Laws.Capturing.{raw_one, raw_within, raw_positive, raw_alone};
+ghost use Rattle.cbor4ii_items.specs.Decoding.{IsExact, Decodes};
+ghost use Rattle.cbor4ii_tree.specs.Raw.{raw_content, raw_spelling, Unmoved, RefusesFront};
+ghost use Rattle.cbor4ii_tree.specs.Raw.{TakesItem};
+ghost use Rattle.cbor4ii_tree.specs.Raw.{StopsAsSkipping};
+ghost use Rattle.cbor4ii_tree.specs.Laws.Capturing.{raw_lawful};
 
 use crate::lend_raw::{LendRaw, NoFront, take_raw};
 use cbor4ii_items::decode::{Decode, Spelled};
@@ -32,27 +31,15 @@ impl<'de> RawValue<'de> {
 
 /// One item, skipped under a step for each level.
 impl<'de> Spelled for RawValue<'de> {
-    ghost reads = { ReadsRaw raw_content };
-
-    ghost same = { λ v w. raw_content v ≡ raw_content w };
-
-    ghost stops = { StopsRaw };
-
-    ghost begins = { BeginsRaw };
-
-    ghost never_empty = { true };
-
-    ghost owned = { false };
-
-    ghost takes_memory = { false };
-
-    ghost closed = { true };
+    ghost spelling = { raw_spelling raw_content };
 
     fn is_never_empty() -> bool
         ensures { result ≡ true }
     {
         true
     }
+
+    ghost lawful = { raw_lawful raw_content };
 }
 
 /// It is lent by a fill that asks for all that is left. At the end of the input it is empty.
@@ -96,16 +83,8 @@ impl<'de, R: Read<'de>> LendRaw<R> for RawValue<'de> {
 /// `Read` only where the reader failed.
 impl<'de, R: Read<'de>> Decode<R> for RawValue<'de> {
     fn decode(alloc: Global, reader: &mut R) -> Result<RawValue<'de>, DecodeError<R::Error>>
-        ensures moves { Moves (R.view reader.old) (R.view reader.new) result }
-        ensures progress { OnOk result ((R.view reader.new).bound + 1 ≤ (R.view reader.old).bound) }
-        ensures memory { IfErr result (λ error. IsTrue (is_out_of_memory error) → IsTrue false) }
-        ensures sound { IfOk result (Sound (ReadsRaw raw_content)
-            (R.view reader.old) (R.view reader.new)) }
-        ensures complete { IsExact false (R.view reader.old) →
-            IfErr result (Refuses (ReadsRaw raw_content) (R.view reader.old)) }
-        ensures stops { IsExact false (R.view reader.old) →
-            IfErr result (Stops StopsRaw (R.view reader.old) (R.view reader.new)) }
-        ensures begins { IfErr result (Stops BeginsRaw (R.view reader.old) (R.view reader.new)) }
+        ensures decodes { Decodes (raw_spelling raw_content)
+            (R.view reader.old) (R.view reader.new) result }
         ensures whole { IsExact false (R.view reader.old) →
             TakesItem raw_content (R.view reader.old) (R.view reader.new) result }
         ensures exact { IsExact false (R.view reader.old) →
@@ -115,14 +94,6 @@ impl<'de, R: Read<'de>> Decode<R> for RawValue<'de> {
     {
         take_raw(alloc, reader)
     }
-
-    ghost one = { raw_one raw_content };
-
-    ghost within = { raw_within raw_content };
-
-    ghost positive = { λ _. raw_positive raw_content };
-
-    ghost alone = { λ _. raw_alone raw_content };
 }
 
 /// Written as it stands, in one push.

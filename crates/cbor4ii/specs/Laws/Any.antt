@@ -10,7 +10,7 @@ use Rattle.cbor4ii_items.specs.Laws.Bignums.{i128_within, i128_positive}
 use Rattle.cbor4ii_items.specs.Sequences.{ReadsParts, Unbroken, ReadsInside, ReadsSequence}
 use Rattle.cbor4ii_items.specs.Sequences.{ReadsPair, SamePair, SameParts}
 use Rattle.cbor4ii_items.specs.Laws.Sequences.{sequence_one, sequence_within, sequence_positive}
-use Rattle.cbor4ii_items.specs.Simple.{simple_one, simple_within, simple_positive, bool_one}
+use Rattle.cbor4ii_items.specs.Simple.{simple_lawful, bool_one}
 use Rattle.cbor4ii_items.specs.Simple.{bool_within, bool_positive}
 use Rattle.cbor4ii_items.specs.Laws.Strings.{two_small, as_one, as_within, as_positive, text_one}
 use Rattle.cbor4ii_items.specs.Laws.Strings.{text_within, text_positive}
@@ -118,8 +118,12 @@ leaf_laws Flag =
     formed_by of_bool
     (record { one = bool_one; within = bool_within; positive = λ _. bool_positive })
 leaf_laws Null =
-    formed_by of_null
-    (record { one = simple_one; within = simple_within; positive = λ _. simple_positive })
+    formed_laws of_null (λ v w e. ap (λ k. view (of_null (record { 0 = k }))) e)
+    (record {
+      one = simple_lawful.one;
+      within = simple_lawful.within;
+      positive = simple_lawful.positive;
+    })
 leaf_laws F16 =
     formed_laws of_f16 (λ v w e. ap (λ k. view (of_f16 (record { 0 = k }))) e)
     (record {

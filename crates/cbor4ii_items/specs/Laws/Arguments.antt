@@ -2,12 +2,14 @@
 use Rattle.std.proofs.Common.{◌≡◌, ℕ, ◌<◌, ◌≤◌, List, [], ◌++◌, length, drop, take, Ok, sym, ap}
 use Rattle.std.proofs.Common.{◌∙◌, arith}
 use Rattle.std.proofs.lemmas.List.{length-drop}
+use Rattle.cbor4ii_items.specs.Decoding.{IsLawful}
+use Rattle.cbor4ii_items.specs.Numbers.{argument_spelling, negative_spelling}
+use Rattle.cbor4ii_items.specs.Laws.Spellings.{lawful_by}
 use Rattle.cbor4ii_items.specs.Reading.{Reading}
 use Rattle.cbor4ii_items.specs.Laws.Outcome.{same_value}
 use Rattle.cbor4ii_items.specs.Laws.Heads.{head_read, head_alone}
 use Rattle.cbor4ii_items.specs.ReadHead.{head_at}
-use Rattle.cbor4ii_items.specs.declared.types.Negative.{Negative}
-use Rattle.cbor4ii_items.specs.Numbers.{ReadsArgument, ReadsUnsigned, ReadsNegative}
+use Rattle.cbor4ii_items.specs.Numbers.{ReadsArgument}
 use Rattle.cbor4ii_items.specs.Decoding.{Reads}
 
 -- the program reads all that the relation says, at least one byte, and at no cost
@@ -66,39 +68,21 @@ argument_positive major width m =
     leaf_positive (head_at [] major width) (ReadsArgument major width)
     (argument_again [] major width m)
 
--- ---- unsigned integers
+pub zero_small : 0 < 8
+zero_small = omega arith
 
-pub unsigned_one : (width : ℕ) (xs : List ℕ) (v w n m c d : ℕ) → ReadsUnsigned width xs v n c
-    → ReadsUnsigned width xs w m d → (n ≡ m) × (c ≡ d) × (v ≡ w)
-unsigned_one width = argument_one 0 width (omega arith)
-
-pub unsigned_within : (width : ℕ) (xs : List ℕ) (v n c : ℕ) → ReadsUnsigned width xs v n c
-    → n ≤ length xs
-unsigned_within width = argument_within 0 width (omega arith)
-
-pub unsigned_positive : (width : ℕ) (xs : List ℕ) (v n c : ℕ) → ReadsUnsigned width xs v n c → 1 ≤ n
-unsigned_positive width = argument_positive 0 width (omega arith)
-
-pub unsigned_alone : (width : ℕ) (xs ys : List ℕ) (v n c : ℕ) → ReadsUnsigned width xs v n c
-    → ReadsUnsigned width (take n xs ++ ys) v n c
-unsigned_alone width = argument_alone 0 width
+pub argument_lawful : (name : List ℕ) (major width : ℕ) → major < 8
+    → IsLawful (argument_spelling name major width)
+argument_lawful name major width m = record {
+  one = argument_one major width m;
+  within = argument_within major width m;
+  positive = λ some. argument_positive major width m;
+  alone = λ closed. argument_alone major width;
+}
 
 -- ---- negative integers
 
-pub negative_one : (width : ℕ) (xs : List ℕ) (v w : Negative ℕ) (n m c d : ℕ)
-    → ReadsNegative width xs v n c → ReadsNegative width xs w m d → (n ≡ m) × (c ≡ d) × (v ≡ w)
-negative_one width xs v w n m c d p q =
-    let same = argument_one 1 width (omega arith) xs v.0 w.0 n m c d p q in
-    (same.0, same.1, ap (λ (k : ℕ). record { 0 = k }) same.2)
-
-pub negative_within : (width : ℕ) (xs : List ℕ) (v : Negative ℕ) (n c : ℕ)
-    → ReadsNegative width xs v n c → n ≤ length xs
-negative_within width xs v = argument_within 1 width (omega arith) xs v.0
-
-pub negative_positive : (width : ℕ) (xs : List ℕ) (v : Negative ℕ) (n c : ℕ)
-    → ReadsNegative width xs v n c → 1 ≤ n
-negative_positive width xs v = argument_positive 1 width (omega arith) xs v.0
-
-pub negative_alone : (width : ℕ) (xs ys : List ℕ) (v : Negative ℕ) (n c : ℕ)
-    → ReadsNegative width xs v n c → ReadsNegative width (take n xs ++ ys) v n c
-negative_alone width xs ys v = argument_alone 1 width xs ys v.0
+pub negative_lawful : (name : List ℕ) (width : ℕ) → IsLawful (negative_spelling name width)
+negative_lawful name width =
+    lawful_by (λ v. v.0) (argument_spelling name 1 width)
+    (argument_lawful name 1 width (omega arith))

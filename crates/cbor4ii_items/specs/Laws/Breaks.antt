@@ -6,10 +6,12 @@ use Rattle.cbor4ii_rw.specs.View.{View}
 use Rattle.cbor4ii_rw.specs.declared.error.DecodeError.{DecodeError}
 use Rattle.cbor4ii_items.specs.Head.{break}
 use Rattle.cbor4ii_items.specs.Reading.{Runs, byte_at}
-use Rattle.cbor4ii_items.specs.Decoding.{Sound, Refuses, Stops}
+use Rattle.cbor4ii_items.specs.Decoding.{Sound, Refuses, Stops, Decodes}
+use Rattle.cbor4ii_items.specs.Refusal.{is_out_of_memory}
+use Rattle.cbor4ii_items.specs.Laws.Calls.{no_memory}
 use Rattle.cbor4ii_items.specs.ReadStrings.{break_at}
 use Rattle.cbor4ii_items.specs.Laws.ProgramEnds.{break_yes, break_no, break_refused}
-use Rattle.cbor4ii_items.specs.Strings.{ReadsBreak, StopsBreak}
+use Rattle.cbor4ii_items.specs.Strings.{ReadsBreak, StopsBreak, break_spelling}
 use Rattle.cbor4ii_items.specs.Laws.Strings.{break_again}
 use Rattle.cbor4ii_items.specs.Laws.Answering.{Found, fits_zero, sound_by, refuses_by, stops_by}
 use Rattle.cbor4ii_items.specs.Laws.Outcome.{same_value}
@@ -72,3 +74,15 @@ pub break_stops : {E : Type 0} {a b : View} (r : Result Bool (DecodeError E)) �
     → IfErr r (Stops StopsBreak a b)
 break_stops (Ok v) p = tt
 break_stops (Err e) p = stops_by StopsBreak (λ xs z ys f seen. break_refused xs ys z f) p
+
+pub break_decodes : {E : Type 0} {a b : View} (r : Result Bool (DecodeError E))
+    → Runs break_at a b r → IfErr r (λ e. is_out_of_memory e ≡ false) → Decodes break_spelling a b r
+break_decodes r p memory = record {
+  moves = p.moves;
+  progress = λ some. cc;
+  memory = no_memory r memory;
+  sound = break_sound r p;
+  complete = λ exact. break_refuses r p;
+  stops = λ exact. break_stops r p;
+  begins = break_stops r p;
+}

@@ -4,7 +4,13 @@ use Rattle.std.proofs.Common.{take, Option, Some, None, Bool, true, false, IsTru
 use Rattle.std.proofs.Common.{◌∙◌, subst, arith, ◌≢◌}
 use Rattle.std.specs.Prelude.{◌&&◌}
 use Rattle.std.proofs.lemmas.List.{length-drop}
-use Rattle.cbor4ii_items.specs.Containers.{BeginsNull, ReadsOption, SameOption, ReadsTag}
+use Rattle.cbor4ii_items.specs.Containers.{BeginsNull, ReadsOption, SameOption, StopsOption}
+use Rattle.cbor4ii_items.specs.Containers.{ReadsTag, StopsTag}
+use Rattle.cbor4ii_items.specs.declared.types.Tag.{Tag}
+use Rattle.cbor4ii_items.specs.Decoding.{Spelling, IsLawful, spelling_by, taking_memory}
+use Rattle.cbor4ii_items.specs.Laws.Spellings.{lawful_by, lawful_in_memory}
+use Rattle.std.specs.declared.alloc.Global.{Global}
+use Rattle.std.specs.Prelude.{Box}
 use Rattle.cbor4ii_items.specs.Heads.{ReadsHead}
 use Rattle.cbor4ii_items.specs.Laws.Heads.{head_one, head_read, head_alone}
 use Rattle.cbor4ii_items.specs.Laws.Fronts.{two_fronts, behind_front}
@@ -141,3 +147,51 @@ module _ {V : Type 0} (reads : Reads V) where
         item = subst (λ zs. reads zs v p.count c) (sym left) (alone e behind ys v p.count c p.item);
         bytes = p.bytes;
       }
+
+abbrev pub option_spelling : {V : Type 0} → Spelling V → Spelling (Option V)
+option_spelling s = record {
+  reads = ReadsOption s.reads;
+  same = SameOption s.same;
+  stops = StopsOption s.stops;
+  begins = StopsOption s.begins;
+  never_empty = s.never_empty;
+  owned = s.owned;
+  takes_memory = s.takes_memory;
+  closed = s.closed && s.never_empty;
+}
+
+pub option_lawful : {V : Type 0} (s : Spelling V) → IsLawful s → IsLawful (option_spelling s)
+option_lawful s h = record {
+  one = option_one s.reads s.same h.one;
+  within = option_within s.reads h.within;
+  positive = option_positive s.reads s.never_empty h.positive;
+  alone = option_alone s.reads s.closed s.never_empty h.within h.positive h.alone;
+}
+
+abbrev pub tag_spelling : {V : Type 0} → Spelling V → Spelling (Tag V)
+tag_spelling s = record {
+  reads = λ xs v. ReadsTag s.reads xs v.0 v.1;
+  same = λ v w. (v.0 ≡ w.0) × s.same v.1 w.1;
+  stops = StopsTag s.stops;
+  begins = StopsTag s.begins;
+  never_empty = true;
+  owned = s.owned;
+  takes_memory = s.takes_memory;
+  closed = s.closed;
+}
+
+pub tag_lawful : {V : Type 0} (s : Spelling V) → IsLawful s → IsLawful (tag_spelling s)
+tag_lawful s h = record {
+  one = λ xs v w. tag_one s.reads s.same h.one xs v.0 v.1 w.0 w.1;
+  within = λ xs v. tag_within s.reads h.within xs v.0 v.1;
+  positive = λ some xs v. tag_positive s.reads xs v.0 v.1;
+  alone = λ e xs ys v. tag_alone s.reads s.closed h.alone e xs ys v.0 v.1;
+}
+
+-- ---- an item in a box
+
+abbrev pub boxed_spelling : {V : Type 0} → Spelling V → Spelling (Box V Global)
+boxed_spelling s = spelling_by (λ b. b.value) (taking_memory s)
+
+pub boxed_lawful : {V : Type 0} (s : Spelling V) → IsLawful s → IsLawful (boxed_spelling s)
+boxed_lawful s h = lawful_by (λ b. b.value) (taking_memory s) (lawful_in_memory s h)

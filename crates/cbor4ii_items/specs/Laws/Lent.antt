@@ -1,6 +1,7 @@
 -- Borrowed strings are read exactly as they are spelled.
 use Rattle.std.proofs.Common.{◌≡◌, ℕ, ◌<◌, ◌≤◌, inl, List, ◌++◌, length, take, Bool}
-use Rattle.cbor4ii_items.specs.Lent.{ReadsLent}
+use Rattle.cbor4ii_items.specs.Lent.{ReadsLent, lent_spelling}
+use Rattle.cbor4ii_items.specs.Decoding.{IsLawful}
 use Rattle.cbor4ii_items.specs.Laws.Strings.{counted_within, counted_alone, string_one}
 
 module _ {V : Type 0} (major : ℕ) (small : major < 8) (is_text : Bool) (content : V → List ℕ) where
@@ -20,3 +21,12 @@ module _ {V : Type 0} (major : ℕ) (small : major < 8) (is_text : Bool) (conten
   pub lent_alone : (xs ys : List ℕ) (v : V) (n c : ℕ) → ReadsLent major is_text content xs v n c
       → ReadsLent major is_text content (take n xs ++ ys) v n c
   lent_alone xs ys v n c p = (counted_alone major xs ys (content v) n small p.0, p.1, p.2)
+
+pub lent_lawful : {V : Type 0} (name : List ℕ) (major : ℕ) → major < 8 → (is_text : Bool)
+    → (content : V → List ℕ) → IsLawful (lent_spelling name major is_text content)
+lent_lawful name major small is_text content = record {
+  one = lent_one major small is_text content;
+  within = lent_within major small is_text content;
+  positive = λ some. lent_positive major small is_text content;
+  alone = λ closed. lent_alone major small is_text content;
+}

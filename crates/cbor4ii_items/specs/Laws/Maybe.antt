@@ -1,13 +1,14 @@
 -- An array of no item or one is read as its item is.
 use Rattle.std.proofs.Common.{◌≡◌, ℕ, ◌≤◌, List, [], ◌++◌, length, drop, take, Option, Some, None}
-use Rattle.std.proofs.Common.{Bool, IsTrue, sym, ap, ◌∙◌, subst, arith}
+use Rattle.std.proofs.Common.{Bool, true, IsTrue, sym, ap, ◌∙◌, subst, arith}
 use Rattle.std.proofs.lemmas.List.{length-drop}
 use Rattle.cbor4ii_items.specs.Containers.{SameOption}
 use Rattle.cbor4ii_items.specs.Heads.{ReadsHead}
 use Rattle.cbor4ii_items.specs.Laws.Heads.{head_one, head_read, head_alone}
 use Rattle.cbor4ii_items.specs.Laws.Fronts.{two_fronts, behind_front}
-use Rattle.cbor4ii_items.specs.Maybe.{ReadsMaybe}
-use Rattle.cbor4ii_items.specs.Decoding.{Reads}
+use Rattle.cbor4ii_items.specs.Maybe.{ReadsMaybe, StopsMaybe}
+use Rattle.cbor4ii_items.specs.Decoding.{Reads, Spelling, IsLawful}
+use Rattle.cbor4ii_items.specs.declared.types.Maybe.{Maybe}
 
 -- an array has one count
 pub two_counts : {A : Type 0} (xs : List ℕ) (n m : ℕ) → ReadsHead 4 8 xs 0 n → ReadsHead 4 8 xs 1 m
@@ -68,3 +69,23 @@ module _ {V : Type 0} (reads : Reads V) where
         item = subst (λ zs. reads zs v p.count c) (sym left) (alone e behind ys v p.count c p.item);
         bytes = p.bytes;
       }
+
+abbrev pub maybe_spelling : {V : Type 0} → Spelling V → Spelling (Maybe (Option V))
+maybe_spelling s = record {
+  reads = λ xs v. ReadsMaybe s.reads xs v.0;
+  same = λ v w. SameOption s.same v.0 w.0;
+  stops = StopsMaybe s.stops;
+  begins = StopsMaybe s.begins;
+  never_empty = true;
+  owned = s.owned;
+  takes_memory = s.takes_memory;
+  closed = s.closed;
+}
+
+pub maybe_lawful : {V : Type 0} (s : Spelling V) → IsLawful s → IsLawful (maybe_spelling s)
+maybe_lawful s h = record {
+  one = λ xs v w. maybe_one s.reads s.same h.one xs v.0 w.0;
+  within = λ xs v. maybe_within s.reads h.within xs v.0;
+  positive = λ some xs v. maybe_positive s.reads xs v.0;
+  alone = λ e xs ys v. maybe_alone s.reads s.closed h.alone e xs ys v.0;
+}

@@ -1,22 +1,17 @@
 -- A key, and its value behind it.
-use Rattle.std.proofs.Common.{◌≡◌, ℕ, ◌+◌, ◌≤◌, inl, inr, List, drop, Option, Some, Bool, refl, sym}
-use Rattle.std.proofs.Common.{ap, ◌∙◌, subst, arith, max}
-use Rattle.std.specs.Prelude.{◌&&◌}
+use Rattle.std.proofs.Common.{◌≡◌, ℕ, ◌+◌, ◌≤◌, inl, inr, List, drop, Option, Ok, Err, refl}
+use Rattle.std.proofs.Common.{subst, arith, max, IsTrue}
 use Rattle.cbor4ii_rw.specs.View.{View}
 use Rattle.cbor4ii_rw.specs.declared.error.DecodeError.{DecodeError}
-use Rattle.cbor4ii_items.specs.Refusal.{refusal_of}
-use Rattle.cbor4ii_items.specs.Moves.{Kept}
-use Rattle.cbor4ii_items.specs.Decoding.{Reads, StopsAt, CostFits, IsExact, Sound, NoneRead}
-use Rattle.cbor4ii_items.specs.Decoding.{Refuses, Stops}
-use Rattle.cbor4ii_items.specs.Laws.Fronts.{drop_more}
+use Rattle.cbor4ii_items.specs.Decoding.{StopsAt, NoneRead, Spelling, IsLawful, Decodes}
+use Rattle.cbor4ii_items.specs.Sequences.{ReadsPair, StopsBehindKey, pair_spelling}
+use Rattle.cbor4ii_items.specs.Refusal.{Refusal}
+use Rattle.cbor4ii_items.specs.Laws.Calls.{ok_behind, err_behind}
 use Rattle.cbor4ii_items.specs.Laws.Containers.{both}
-use Rattle.cbor4ii_items.specs.Sequences.{ReadsPair, StopsPair}
-use Rattle.cbor4ii_items.specs.Laws.SequenceParts.{stops_as, fits_less, fits_max}
-use Rattle.cbor4ii_items.specs.Laws.Answering.{if_some}
-
-pub exact_both : (a b : Bool) (v : View) → IsExact (a && b) v → IsExact a v × IsExact b v
-exact_both a b v (inl e) = let h = both a b e in (inl h.0, inl h.1)
-exact_both a b v (inr e) = (inr e, inr e)
+use Rattle.cbor4ii_items.specs.Laws.Fronts.{drop_more}
+use Rattle.cbor4ii_items.specs.Laws.Running.{kept_alike}
+use Rattle.cbor4ii_items.specs.Laws.SequenceParts.{fits_less, fits_max}
+use Rattle.cbor4ii_items.specs.Laws.Sequences.{either}
 
 pub less_max_left : (c d e : ℕ) → c ≡ max d e → d ≤ c
 less_max_left c d e h = omega arith
@@ -24,101 +19,85 @@ less_max_left c d e h = omega arith
 pub less_max_right : (c d e : ℕ) → c ≡ max d e → e ≤ c
 less_max_right c d e h = omega arith
 
-module _ {K V : Type 0} (key_reads : Reads K) (value_reads : Reads V) where
-  pub pair_sound : {a m b : View} {k : K} {v : V} → Kept a m → Sound key_reads a m k
-      → Sound value_reads m b v → Sound (ReadsPair key_reads value_reads) a b (k, v)
-  pair_sound {a = a} kept s t = record {
-    at = λ xs told.
-        let p = s.at xs told in
-        let q = t.at (drop p.count xs) p.left in
-        record {
-          count = p.count + q.count;
-          cost = max p.cost q.cost;
-          read = record {
-            key_size = p.count;
-            key_cost = p.cost;
-            key = p.read;
-            value_size = q.count;
-            value_cost = q.cost;
-            value = q.read;
-            size = refl;
-            cost = refl;
-          };
-          fits =
-              fits_max p.cost q.cost a.budget p.fits (subst (CostFits q.cost) kept.budget q.fits);
-          left = q.left ∙ ap Some (drop_more q.count p.count xs);
-        };
-  }
-
-  -- the key fits where the pair does, and so does the value
-  pub key_less : (xs : List ℕ) (p : K × V) (n c : ℕ) (budget : Option ℕ)
-      → (h : ReadsPair key_reads value_reads xs p n c) → CostFits c budget
-      → CostFits h.key_cost budget
-  key_less xs p n c budget h fits =
-      fits_less h.key_cost c budget (less_max_left c h.key_cost h.value_cost h.cost) fits
-
-  pub value_less : (xs : List ℕ) (p : K × V) (n c : ℕ) (budget : Option ℕ)
-      → (h : ReadsPair key_reads value_reads xs p n c) → CostFits c budget
-      → CostFits h.value_cost budget
-  value_less xs p n c budget h fits =
-      fits_less h.value_cost c budget (less_max_right c h.key_cost h.value_cost h.cost) fits
-
-  no_key : (xs : List ℕ) (budget : Option ℕ) → NoneRead key_reads xs budget
-      → NoneRead (ReadsPair key_reads value_reads) xs budget
+module _ {K V : Type 0} (k : Spelling K) (v : Spelling V) where
+  no_key : (xs : List ℕ) (budget : Option ℕ) → NoneRead k.reads xs budget
+      → NoneRead (ReadsPair k.reads v.reads) xs budget
   no_key xs budget none p n c h fits =
       none p.0 h.key_size h.key_cost h.key
       (fits_less h.key_cost c budget (less_max_left c h.key_cost h.value_cost h.cost) fits)
 
-  pub key_refuses : {E : Type 0} {e : DecodeError E} {a : View} → Refuses key_reads a e
-      → Refuses (ReadsPair key_reads value_reads) a e
-  key_refuses {e = e} {a = a} s =
-      record { at = λ xs told. if_some (refusal_of e) (no_key xs a.budget) (s.at xs told) }
+  no_value : IsLawful k → (xs : List ℕ) (key : K) (i d : ℕ) (budget : Option ℕ)
+      → k.reads xs key i d → NoneRead v.reads (drop i xs) budget
+      → NoneRead (ReadsPair k.reads v.reads) xs budget
+  no_value lawful xs key i d budget read none p n c h fits =
+      let first = (lawful.one xs p.0 key h.key_size i h.key_cost d h.key read).0 in
+      none p.1 h.value_size h.value_cost
+      (subst (λ j. v.reads (drop j xs) p.1 h.value_size h.value_cost) first h.value)
+      (fits_less h.value_cost c budget (less_max_right c h.key_cost h.value_cost h.cost) fits)
 
-  module _ (same : K → K → Type 0) (one : (xs : List ℕ) (v w : K) (n m c d : ℕ) → key_reads xs v n c
-      → key_reads xs w m d → (n ≡ m) × (c ≡ d) × same v w) where
-    no_value : (xs : List ℕ) (k : K) (i d : ℕ) (old mid : Option ℕ) → key_reads xs k i d → mid ≡ old
-        → NoneRead value_reads (drop i xs) mid → NoneRead (ReadsPair key_reads value_reads) xs old
-    no_value xs k i d old mid read e none p n c h fits =
-        let first = (one xs p.0 k h.key_size i h.key_cost d h.key read).0 in
-        none p.1 h.value_size h.value_cost
-        (subst (λ j. value_reads (drop j xs) p.1 h.value_size h.value_cost) first h.value)
-        (fits_less h.value_cost c mid (less_max_right c h.key_cost h.value_cost h.cost)
-        (subst (CostFits c) (sym e) fits))
+module _ {K V E : Type 0} (k : Spelling K) (v : Spelling V) where
+  pub pair_ok : {a m b : View} {key : K} {value : V} → Decodes {E = E} k a m (Ok key)
+      → Decodes {E = E} v m b (Ok value) → Decodes {E = E} (pair_spelling k v) a b (Ok (key, value))
+  pair_ok {a = a} s t = ok_behind v (pair_spelling k v) s.moves.by (λ xs told.
+      let p = s.sound.at xs told in (
+        drop p.count xs,
+        p.left,
+        λ n c r fits. record {
+          count = p.count + n;
+          cost = max p.cost c;
+          read = record {
+            key_size = p.count;
+            key_cost = p.cost;
+            key = p.read;
+            value_size = n;
+            value_cost = c;
+            value = r;
+            size = refl;
+            cost = refl;
+          };
+          fits = fits_max p.cost c a.budget p.fits fits;
+          left = drop_more n p.count xs;
+        },
+      )) (λ some. elim (either k.never_empty v.never_empty some) [
+        | inl e ↦ omega (arith, s.progress e, t.moves.by.bound)
+        | inr e ↦ omega (arith, t.progress e, s.moves.by.bound)
+      ]) t
 
-    pub value_refuses : {E : Type 0} {e : DecodeError E} {a m : View} {k : K} → Kept a m
-        → Sound key_reads a m k → ((xs : List ℕ) → a.told ≡ Some xs → Refuses value_reads m e)
-        → Refuses (ReadsPair key_reads value_reads) a e
-    value_refuses {e = e} {a = a} {m = m} {k = k} kept s r = record {
-      at = λ xs told.
-          let p = s.at xs told in
-          if_some (refusal_of e) (no_value xs k p.count p.cost a.budget m.budget p.read kept.budget)
-          ((r xs told).at (drop p.count xs) p.left);
-    }
+  pub key_err : {a m : View} {e : DecodeError E} → Decodes k a m (Err e)
+      → Decodes (pair_spelling k v) a m (Err e)
+  key_err {a = a} t =
+      err_behind k (pair_spelling k v) (kept_alike a) (λ xs told. (
+        xs,
+        told,
+        record {
+          none = no_key k v xs a.budget;
+          stops = λ z zs h. inl h;
+          begins = λ z zs h. inl h;
+        },
+      )) (λ owned. (both k.owned v.owned owned).0) (λ takes. refl) t
 
-module _ {K : Type 0} (key_reads : Reads K) (key_stops value_stops : StopsAt) where
-  pub key_stops_pair : {E : Type 0} {e : DecodeError E} {a m : View} → Stops key_stops a m e
-      → Stops (StopsPair key_reads key_stops value_stops) a m e
-  key_stops_pair {e = e} {a = a} {m = m} s = record {
-    at = λ xs told. stops_as (refusal_of e) m.told (key_stops xs a.budget)
-        (StopsPair key_reads key_stops value_stops xs a.budget) (λ z ys h. inl h) (s.at xs told);
-  }
-
-  pub value_stops_pair : {E : Type 0} {e : DecodeError E} {a m b : View} {k : K} → Kept a m
-      → Sound key_reads a m k → ((xs : List ℕ) → a.told ≡ Some xs → Stops value_stops m b e)
-      → Stops (StopsPair key_reads key_stops value_stops) a b e
-  value_stops_pair {e = e} {a = a} {m = m} {b = b} {k = k} kept s r = record {
-    at = λ xs told.
-        let p = s.at xs told in
-        stops_as (refusal_of e) b.told (value_stops (drop p.count xs) m.budget)
-        (StopsPair key_reads key_stops value_stops xs a.budget)
-        (λ z ys h. inr (record {
-          whole = k;
-          size = p.count;
-          cost = p.cost;
-          key = p.read;
-          fits =
-              p.fits;
-          stop = subst (λ g. value_stops (drop p.count xs) g z ys) kept.budget h;
-        }))
-        ((r xs told).at (drop p.count xs) p.left);
-  }
+  pub value_err : {a m b : View} {key : K} {e : DecodeError E} → IsLawful k
+      → Decodes {E = E} k a m (Ok key) → Decodes v m b (Err e)
+      → Decodes (pair_spelling k v) a b (Err e)
+  value_err {a = a} {key = key} lawful s t =
+      err_behind v (pair_spelling k v) s.moves.by (λ xs told.
+      let p = s.sound.at xs told in
+      let stop : (stops : StopsAt) (z : Refusal) (zs : List ℕ)
+      → stops (drop p.count xs) a.budget z zs → StopsBehindKey k.reads stops xs a.budget z zs =
+      λ stops z zs h. record {
+        whole = key;
+        size = p.count;
+        cost = p.cost;
+        key = p.read;
+        fits = p.fits;
+        stop = h;
+      } in (
+        drop p.count xs,
+        p.left,
+        record {
+          none = no_value k v lawful xs key p.count p.cost
+              a.budget p.read;
+          stops = λ z zs h. inr (stop v.stops z zs h);
+          begins = λ z zs h. inr (stop v.begins z zs h);
+        },
+      )) (λ owned. (both k.owned v.owned owned).1) (λ takes. refl) t

@@ -1,27 +1,32 @@
 -- Parts, read one behind another.
 use Rattle.std.proofs.Common.{◌≡◌, ◌≢◌, ℕ, ◌+◌, ◌<◌, ◌≤◌, ◌⊎◌, inl, inr, List, [], ◌∷◌, ◌++◌}
 use Rattle.std.proofs.Common.{length, drop, take, Option, Some, None, Ok, Err, Bool, true, false}
-use Rattle.std.proofs.Common.{IsTrue, refl, sym, ap, ◌∙◌, subst, arith, max, IfSome, length-append}
+use Rattle.std.proofs.Common.{IsTrue, refl, sym, ap, ◌∙◌, subst, arith, max, length-append}
 use Rattle.std.proofs.Math.Nat.{max-le}
+use Rattle.std.specs.declared.alloc.Global.{Global}
+use Rattle.std.specs.declared.vec.Vec.{Vec}
 use Rattle.cbor4ii_rw.specs.View.{View, Told}
 use Rattle.cbor4ii_rw.specs.declared.error.DecodeError.{DecodeError}
 use Rattle.cbor4ii_rw.specs.declared.error.DecodeError.TheVariants.{RequireLength}
 use Rattle.cbor4ii_rw.specs.declared.error.Len.TheVariants.{Indefinite}
 use denote.Ref.{Bor}
 use Rattle.cbor4ii_items.specs.Head.{break}
-use Rattle.cbor4ii_items.specs.Refusal.{Refusal, refusal_of}
-use Rattle.cbor4ii_items.specs.Moves.{Kept, Moves}
+use Rattle.cbor4ii_items.specs.Refusal.{Refusal, is_out_of_memory}
+use Rattle.cbor4ii_items.specs.Moves.{Kept}
 use Rattle.cbor4ii_items.specs.Reading.{Runs}
-use Rattle.cbor4ii_items.specs.Decoding.{Reads, StopsAt, CostFits, Sound, NoneRead, Refuses, Stops}
-use Rattle.cbor4ii_items.specs.Laws.Fronts.{drop_more}
+use Rattle.cbor4ii_items.specs.Decoding.{Reads, StopsAt, CostFits, Sound, NoneRead, Spelling}
+use Rattle.cbor4ii_items.specs.Decoding.{IsLawful, Decodes}
 use Rattle.cbor4ii_items.specs.ReadStrings.{break_at}
-use Rattle.cbor4ii_items.specs.Laws.ProgramEnds.{break_yes, break_no, break_refused}
 use Rattle.cbor4ii_items.specs.Sequences.{ReadsParts, ReadsCount, Unbroken, ReadsUpToBreak}
-use Rattle.cbor4ii_items.specs.Sequences.{StopsCount, StopsPlace, no_byte, may_read_nothing}
-use Rattle.cbor4ii_items.specs.Sequences.{part_refused, StopsUpToBreak, AddsPart}
+use Rattle.cbor4ii_items.specs.Sequences.{StopsPlace, no_byte, may_read_nothing, part_refused}
+use Rattle.cbor4ii_items.specs.Sequences.{StopsCount, StopsUpToBreak}
+use Rattle.cbor4ii_items.specs.Sequences.{count_spelling, open_spelling}
+use Rattle.cbor4ii_items.specs.Laws.Answering.{fits_zero}
+use Rattle.cbor4ii_items.specs.Laws.Calls.{ok, err, err_of, err_behind}
+use Rattle.cbor4ii_items.specs.Laws.Fronts.{drop_more}
+use Rattle.cbor4ii_items.specs.Laws.ProgramEnds.{break_yes, break_no, break_refused}
 use Rattle.cbor4ii_items.specs.Laws.Sequences.{not_less, next_part, parts_size, unbroken_size}
 use Rattle.cbor4ii_items.specs.Laws.Sequences.{ends_at_break}
-use Rattle.cbor4ii_items.specs.Laws.Answering.{if_some}
 use Rattle.cbor4ii_items.specs.Laws.Steps.{kept_then}
 
 pub fits_less : (c d : ℕ) (budget : Option ℕ) → c ≤ d → CostFits d budget → CostFits c budget
@@ -32,14 +37,6 @@ pub fits_max : (c d : ℕ) (budget : Option ℕ) → CostFits c budget → CostF
     → CostFits (max c d) budget
 fits_max c d None p q = tt
 fits_max c d (Some n) p q = max-le p q
-
--- another relation says why, where the first one does
-pub stops_as : (o : Option Refusal) (left : Option (List ℕ)) (f g : Refusal → List ℕ → Type 0)
-    → ((z : Refusal) (ys : List ℕ) → f z ys → g z ys)
-    → IfSome o (λ z. (ys : List ℕ) × (left ≡ Some ys) × f z ys)
-    → IfSome o (λ z. (ys : List ℕ) × (left ≡ Some ys) × g z ys)
-stops_as None left f g means h = tt
-stops_as (Some z) left f g means h = (h.0, h.1, means z h.0 h.2)
 
 -- ---- one more part
 
@@ -62,93 +59,95 @@ module _ {P : Type 0} (reads : Reads P) where
       let rest = parts_more (drop h.0 xs) ps p h.2 h.3 k d h.5 (subst (λ ys. reads ys p k d) e r) in
       (h.0, h.1, h.2 + k, max h.3 d, h.4, rest, omega (arith, h.6), omega (arith, h.7))
 
-  -- one more part, where the reader stands as its own call left it
-  pub parts_then : {a m b : View} {ps qs : List P} → m.budget ≡ a.budget
-      → Sound (ReadsParts reads) a m ps → AddsPart reads ps qs m b → Sound (ReadsParts reads) a b qs
-  parts_then {a = a} {m = m} {b = b} {ps = ps} budget s t =
-      subst (λ ws. Sound (ReadsParts reads) a b ws) (sym t.added) (record {
+  pub parts_then : {a m b : View} {ps qs : List P} {p : P} → m.budget ≡ a.budget
+      → Sound (ReadsParts reads) a m ps → Sound reads m b p → qs ≡ ps ++ p ∷ []
+      → Sound (ReadsParts reads) a b qs
+  parts_then {a = a} {m = m} {b = b} {ps = ps} {p = p} budget s t added =
+      subst (λ ws. Sound (ReadsParts reads) a b ws) (sym added) (record {
         at = λ xs told.
-            let p = s.at xs told in
-            let q = t.read.at (drop p.count xs) p.left in
+            let u = s.at xs told in
+            let v = t.at (drop u.count xs) u.left in
             record {
-              count = p.count + q.count;
-              cost = max p.cost q.cost;
-              read = parts_more xs ps t.part p.count p.cost q.count q.cost p.read q.read;
-              fits = fits_max p.cost q.cost a.budget p.fits (subst (CostFits q.cost) budget q.fits);
-              left = q.left ∙ ap Some (drop_more q.count p.count xs);
+              count = u.count + v.count;
+              cost = max u.cost v.cost;
+              read = parts_more xs ps p u.count u.cost v.count v.cost u.read v.read;
+              fits = fits_max u.cost v.cost a.budget u.fits (subst (CostFits v.cost) budget v.fits);
+              left = v.left ∙ ap Some (drop_more v.count u.count xs);
             };
       })
 
+module _ {P : Type 0} (s : Spelling P) (lawful : IsLawful s) where
+  one_size : (xs : List ℕ) (p q : P) (n m c d : ℕ) → s.reads xs p n c → s.reads xs q m d → n ≡ m
+  one_size xs p q n m c d g h = (lawful.one xs p q n m c d g h).0
+
 -- ---- so many parts
 
-module _ {P : Type 0} (reads : Reads P) where
+module _ {P : Type 0} (s : Spelling P) where
   -- the first so many parts
-  pub record Begun (i : ℕ) (a m : View) (ps : List P) : Type 0 where
-    pub count : length ps ≡ i
-    pub parts : Sound (ReadsParts reads) a m ps
+  pub record Begun (i : ℕ) (a m : View) (v : Vec P Global) : Type 0 where
     pub kept : Kept a m
+    pub count : length v.items ≡ i
+    pub parts : Sound (ReadsParts s.reads) a m v.items
 
-  pub count_more : {E : Type 0} {a m b : View} {ps qs : List P} {i : ℕ} → Begun i a m ps
-      → AddsPart reads ps qs m b → Moves {V = Unit {0}} {E = E} m b (Ok tt) → Begun (i + 1) a b qs
-  count_more {ps = ps} {i = i} h t moves = record {
-    count = ap length t.added ∙ (length-append ps (t.part ∷ []) ∙ ap (λ j. j + 1) h.count);
-    parts = parts_then reads h.kept.budget h.parts t;
-    kept = kept_then h.kept moves.by;
+  pub count_more : {E : Type 0} {a m b : View} {i : ℕ} {v w : Vec P Global} {p : P}
+      → Begun i a m v → Decodes {E = E} s m b (Ok p) → w.items ≡ v.items ++ p ∷ []
+      → Begun (i + 1) a b w
+  count_more {v = v} {p = p} h t added = record {
+    kept = kept_then h.kept t.moves.by;
+    count = ap length added ∙ (length-append v.items (p ∷ []) ∙ ap (λ j. j + 1) h.count);
+    parts = parts_then s.reads h.kept.budget h.parts t.sound added;
   }
 
-  pub count_done : {a m : View} {ps : List P} {i count : ℕ} → Begun i a m ps → i ≡ count
-      → Sound (ReadsCount reads count) a m ps
-  count_done h e = record {
-    at = λ xs told. let p = h.parts.at xs told in record {
-      count = p.count;
-      cost = p.cost;
-      read = (h.count ∙ e, p.read);
-      fits = p.fits;
-      left = p.left;
+  pub count_done : {E : Type 0} {a m : View} {v : Vec P Global} {i count : ℕ} → Begun i a m v
+      → i ≡ count → Decodes {E = E} (count_spelling s count) a m (Ok v)
+  count_done {count = count} h all = ok (count_spelling s count) h.kept (λ some. cc) (record {
+    at = λ xs told. let u = h.parts.at xs told in record {
+      count = u.count;
+      cost = u.cost;
+      read = (h.count ∙ all, u.read);
+      fits = u.fits;
+      left = u.left;
     };
-  }
+  })
 
-  none_more : ((xs : List ℕ) (p q : P) (n m c d : ℕ) → reads xs p n c → reads xs q m d → n ≡ m)
-      → (xs : List ℕ) (ps : List P) (n c count : ℕ) (old mid : Option ℕ)
-      → ReadsParts reads xs ps n c → length ps < count → mid ≡ old
-      → NoneRead reads (drop n xs) mid → NoneRead (ReadsCount reads count) xs old
-  none_more one xs ps n c count old mid h less e none qs m d r fits =
-      let a = next_part reads one xs ps qs n c m d h r.1 (omega (arith, less, r.0)) in
-      none a.0 a.1 a.2 a.3 (fits_less a.2 d mid a.4 (subst (CostFits d) (sym e) fits))
+  module _ (lawful : IsLawful s) where
+    none_more : (xs : List ℕ) (ps : List P) (n c count : ℕ) (budget : Option ℕ)
+        → ReadsParts s.reads xs ps n c → length ps < count → NoneRead s.reads (drop n xs) budget
+        → NoneRead (ReadsCount s.reads count) xs budget
+    none_more xs ps n c count budget h less none qs m d r fits =
+        let a = next_part s.reads (one_size s lawful) xs ps qs n c m d h r.1
+        (omega (arith, less, r.0)) in
+        none a.0 a.1 a.2 a.3 (fits_less a.2 d budget a.4 fits)
 
-  pub count_refuses : {E : Type 0}
-      → ((xs : List ℕ) (p q : P) (n m c d : ℕ) → reads xs p n c → reads xs q m d → n ≡ m)
-      → {a m : View} {ps : List P} {i count : ℕ} {e : DecodeError E} → Begun i a m ps → i < count
-      → ((xs : List ℕ) → a.told ≡ Some xs → Refuses reads m e)
-      → Refuses (ReadsCount reads count) a e
-  count_refuses one {a = a} {m = m} {ps = ps} {count = count} {e = e} h less r = record {
-    at = λ xs told.
-        let t = h.parts.at xs told in
-        if_some (refusal_of e) (none_more one xs ps t.count t.cost count a.budget m.budget t.read
-        (omega (arith, less, h.count)) h.kept.budget)
-        ((r xs told).at (drop t.count xs) t.left);
-  }
-
-  pub count_stops : {E : Type 0} (stops : StopsAt) {a m b : View} {ps : List P} {i count : ℕ}
-      {e : DecodeError E} → Begun i a m ps → i < count
-      → ((xs : List ℕ) → a.told ≡ Some xs → Stops stops m b e)
-      → Stops (StopsCount reads stops count) a b e
-  count_stops stops {a = a} {m = m} {b = b} {ps = ps} {count = count} {e = e} h less r = record {
-    at = λ xs told.
-        let t = h.parts.at xs told in
-        stops_as (refusal_of e) b.told (stops (drop t.count xs) m.budget)
-        (StopsCount reads stops count xs a.budget)
-        (λ z ys s. record {
-          whole = ps;
-          fewer = omega (arith, less, h.count);
-          between = t.count;
-          cost = t.cost;
-          parts = t.read;
-          fits = t.fits;
-          stop = subst (λ k. stops (drop t.count xs) k z ys) h.kept.budget s;
-        })
-        ((r xs told).at (drop t.count xs) t.left);
-  }
+  -- what is refused behind some parts
+  pub count_err : {E : Type 0} → IsLawful s
+      → {a m b : View} {i count : ℕ} {v : Vec P Global} {e : DecodeError E} → Begun i a m v
+      → i < count → Decodes s m b (Err e) → Decodes (count_spelling s count) a b (Err e)
+  count_err lawful {a = a} {count = count} {v = v} h less t =
+      err_behind s (count_spelling s count) h.kept (λ xs told.
+      let u = h.parts.at xs told in
+      let fewer : length v.items < count = omega (arith, less, h.count) in
+      let stop : (stops : StopsAt) (z : Refusal) (zs : List ℕ)
+      → stops (drop u.count xs) a.budget z zs → StopsCount s.reads stops count xs a.budget z zs =
+      λ stops z zs f. record {
+        whole = v.items;
+        fewer = fewer;
+        between = u.count;
+        cost = u.cost;
+        parts = u.read;
+        fits = u.fits;
+        stop = f;
+      } in (
+        drop u.count xs,
+        u.left,
+        record {
+          none = λ none w n c.
+              none_more lawful xs v.items u.count u.cost count a.budget u.read fewer none
+              w.items n c;
+          stops = stop s.stops;
+          begins = stop s.begins;
+        },
+      )) (λ o. o) (λ takes. refl) t
 
 -- ---- parts up to a break
 
@@ -167,192 +166,189 @@ stands {ended = ended} is q = record {
   kept = q.moves.by;
 }
 
-no_first : (xs : List ℕ) → xs ≡ [] → take 1 xs ≡ break ∷ [] → ⊥
-no_first [] e f = cc
-no_first (x ∷ xs) e f = cc
+-- a break, or a part, where one of them should come
+abbrev ReadsPlace : {P : Type 0} → Spelling P → Reads (Option P)
+ReadsPlace s xs None n c = (take 1 xs ≡ break ∷ []) × (c ≡ 0)
+ReadsPlace s xs (Some p) n c = Unbroken s.reads xs p n c × IsTrue s.never_empty
 
-pub always : {Q : Type 0} (o : Option Refusal) → Q → IfSome o (λ z. Q)
-always None q = tt
-always (Some z) q = q
+abbrev pub place_spelling : {P : Type 0} → List ℕ → Spelling P → Spelling (Option P)
+place_spelling name s = record {
+  reads = ReadsPlace s;
+  same = λ v w. Unit {0};
+  stops = StopsPlace name s.stops s.never_empty;
+  begins = StopsPlace name s.begins s.never_empty;
+  never_empty = false;
+  owned = s.owned;
+  takes_memory = s.takes_memory;
+  closed = false;
+}
 
-none_at_end : {Q : Type 0} (o : Option Refusal) (xs : List ℕ) (left : Option (List ℕ))
-    → (xs ≡ [] → Q) → IfSome o (λ z. (ys : List ℕ) × (left ≡ Some ys) × (break_at xs ≡ Err (z, ys)))
-    → IfSome o (λ z. Q)
-none_at_end None xs left f h = tt
-none_at_end (Some z) xs left f h = f (break_refused xs h.0 z h.2).0
-
-some_byte : (n : ℕ) (xs : List ℕ) → xs ≡ [] → n ≤ length xs → 1 ≤ n → ⊥
-some_byte n xs e room some = omega (arith, room, some, ap length e)
-
-module _ {P : Type 0} (reads : Reads P) (never_empty : Bool) where
+module _ {P : Type 0} (s : Spelling P) where
   -- some parts, none of them with a break in its place
-  pub record Opened (a m : View) (ps : List P) : Type 0 where
-    pub allowed : IsTrue never_empty ⊎ (ps ≡ [])
-    pub parts : Sound (ReadsParts (Unbroken reads)) a m ps
+  pub record Opened (a m : View) (v : Vec P Global) : Type 0 where
+    pub allowed : IsTrue s.never_empty ⊎ (v.items ≡ [])
+    pub parts : Sound (ReadsParts (Unbroken s.reads)) a m v.items
     pub kept : Kept a m
 
-  unbroken_part : {l m b : View} {ps qs : List P} → Stands l m → AddsPart reads ps qs m b
-      → AddsPart (Unbroken reads) ps qs l b
-  unbroken_part {l = l} {m = m} s t = record {
-    part = t.part;
-    read = record {
-      at = λ xs told.
-          let f = s.at xs told in
-          let p = t.read.at xs f.0 in
-          record {
-            count = p.count;
-            cost = p.cost;
-            read = (f.2, p.read);
-            fits = subst (CostFits p.cost) s.kept.budget p.fits;
-            left = p.left;
-          };
-    };
-    added = t.added;
-  }
+  pub open_more : {E : Type 0} {a l m b : View} {v w : Vec P Global} {p : P} → IsTrue s.never_empty
+      → Opened a l v → Stands l m → Decodes {E = E} s m b (Ok p) → w.items ≡ v.items ++ p ∷ []
+      → Opened a b w
+  open_more {l = l} {b = b} {p = p} some h stays t added =
+      let part : Sound (Unbroken s.reads) l b p =
+      record {
+        at = λ xs told.
+            let f = stays.at xs told in
+            let u = t.sound.at xs f.0 in
+            record {
+              count = u.count;
+              cost = u.cost;
+              read = (f.2, u.read);
+              fits = subst (CostFits u.cost) stays.kept.budget u.fits;
+              left = u.left;
+            };
+      } in
+      record {
+        allowed = inl some;
+        parts = parts_then (Unbroken s.reads) h.kept.budget h.parts part added;
+        kept = kept_then (kept_then h.kept stays.kept) t.moves.by;
+      }
 
-  pub open_more : {E : Type 0} {a l m b : View} {ps qs : List P} → IsTrue never_empty
-      → Opened a l ps → Stands l m → AddsPart reads ps qs m b
-      → Moves {V = Unit {0}} {E = E} m b (Ok tt) → Opened a b qs
-  open_more some h s t moves = record {
-    allowed = inl some;
-    parts = parts_then (Unbroken reads) h.kept.budget h.parts (unbroken_part s t);
-    kept = kept_then (kept_then h.kept s.kept) moves.by;
-  }
+module _ {P : Type 0} (name : List ℕ) (s : Spelling P) where
+  pub open_done : {E : Type 0} {ended : Bool} {a l b : View} {v : Vec P Global} → ended ≡ true
+      → Opened s a l v → Runs {E = E} break_at l b (Ok ended)
+      → Decodes {E = E} (open_spelling name s) a b (Ok v)
+  open_done {ended = ended} is h q =
+      ok (open_spelling name s) (kept_then h.kept q.moves.by) (λ some. cc) (record {
+        at = λ xs told.
+            let u = h.parts.at xs told in
+            let r = q.answers (drop u.count xs) u.left in
+            let b = break_yes (drop u.count xs) r.0 (r.2 ∙ ap (λ (t : Bool). Ok (t, r.0)) is) in
+            record {
+              count = u.count + 1;
+              cost = u.cost;
+              read = record {
+                allowed = h.allowed;
+                between = u.count;
+                parts = u.read;
+                ends = b.0;
+                size = refl;
+              };
+              fits = u.fits;
+              left = r.1 ∙ ap Some (b.1 ∙ drop_more 1 u.count xs);
+            };
+      })
 
-  pub open_done : {E : Type 0} {ended : Bool} {a l b : View} {ps : List P} → ended ≡ true
-      → Opened a l ps → Runs {E = E} break_at l b (Ok ended)
-      → Sound (ReadsUpToBreak reads never_empty) a b ps
-  open_done {ended = ended} is h q = record {
-    at = λ xs told.
-        let p = h.parts.at xs told in
-        let r = q.answers (drop p.count xs) p.left in
-        let b = break_yes (drop p.count xs) r.0 (r.2 ∙ ap (λ (t : Bool). Ok (t, r.0)) is) in
-        record {
-          count = p.count + 1;
-          cost = p.cost;
-          read = record {
-            allowed = h.allowed;
-            between = p.count;
-            parts = p.read;
-            ends = b.0;
-            size = refl;
-          };
-          fits = p.fits;
-          left = r.1 ∙ ap Some (b.1 ∙ drop_more 1 p.count xs);
-        };
-  }
-
-  module _
-      (one : (xs : List ℕ) (p q : P) (n m c d : ℕ) → reads xs p n c → reads xs q m d → n ≡ m) where
+  module _ (lawful : IsLawful s) where
     -- where neither a break nor a part stands, nothing is read
     none_open : (xs : List ℕ) (ps : List P) (n c : ℕ) (budget : Option ℕ)
-        → ReadsParts (Unbroken reads) xs ps n c → (take 1 (drop n xs) ≡ break ∷ [] → ⊥)
-        → (IsTrue never_empty → NoneRead (Unbroken reads) (drop n xs) budget)
-        → NoneRead (ReadsUpToBreak reads never_empty) xs budget
-    none_open xs ps n c budget h other none qs m d r fits =
+        → ReadsParts (Unbroken s.reads) xs ps n c → NoneRead (ReadsPlace s) (drop n xs) budget
+        → NoneRead (ReadsUpToBreak s.reads s.never_empty) xs budget
+    none_open xs ps n c budget h none qs m d r fits =
+        let one = one_size s lawful in
         let short : length qs ≤ length ps = not_less (length qs) (length ps) (λ less.
-        let a = next_part (Unbroken reads)
-        (unbroken_size reads one) xs ps qs n c r.between d h r.parts less in
+        let a = next_part (Unbroken s.reads)
+        (unbroken_size s.reads one) xs ps qs n c r.between d h r.parts less in
         elim r.allowed [
-          | inl some ↦ none some a.0 a.1 a.2 a.3 (fits_less a.2 d budget a.4 fits)
+          | inl some ↦ none (Some a.0) a.1 a.2 (a.3, some) (fits_less a.2 d budget a.4 fits)
           | inr e ↦ absurd (omega (arith, less, ap length e))
         ]) in
         let long : length ps ≤ length qs =
-        ends_at_break reads one xs qs ps r.between d n c r.parts r.ends h in
-        let size = parts_size (Unbroken reads) (unbroken_size reads one) xs ps qs n r.between c d h
-        r.parts (omega (arith, short, long)) in
-        other (subst (λ j. take 1 (drop j xs) ≡ break ∷ []) (sym size) r.ends)
+        ends_at_break s.reads one xs qs ps r.between d n c r.parts r.ends h in
+        let size = parts_size (Unbroken s.reads) (unbroken_size s.reads one) xs ps qs n r.between c
+        d h r.parts (omega (arith, short, long)) in
+        none None 0 0
+        (subst (λ j. take 1 (drop j xs) ≡ break ∷ []) (sym size) r.ends, refl) (fits_zero budget)
 
-    pub open_refuses : {E : Type 0} {a l m : View} {ps : List P} {e : DecodeError E} → Opened a l ps
-        → Stands l m → ((xs : List ℕ) → a.told ≡ Some xs → Refuses reads m e)
-        → Refuses (ReadsUpToBreak reads never_empty) a e
-    open_refuses {a = a} {l = l} {m = m} {ps = ps} {e = e} h s r = record {
-      at = λ xs told.
-          let p = h.parts.at xs told in
-          let f = s.at (drop p.count xs) p.left in
-          if_some (refusal_of e)
-          (λ none. none_open xs ps p.count p.cost a.budget p.read f.2 (λ some q k d u fits.
-          none q k d u.1 (subst (CostFits d) (sym (s.kept.budget ∙ h.kept.budget)) fits)))
-          ((r xs told).at (drop p.count xs) f.0);
-    }
+  -- what is refused behind some parts
+  pub open_err : {E : Type 0} → IsLawful s
+      → {a l b : View} {v : Vec P Global} {e : DecodeError E} → Opened s a l v
+      → Decodes (place_spelling name s) l b (Err e) → Decodes (open_spelling name s) a b (Err e)
+  open_err lawful {a = a} {v = v} h t =
+      err_behind (place_spelling name s) (open_spelling name s) h.kept (λ xs told.
+      let u = h.parts.at xs told in
+      let stop : (stops : StopsAt) (z : Refusal) (zs : List ℕ)
+      → StopsPlace name stops s.never_empty (drop u.count xs) a.budget z zs
+      → StopsUpToBreak name s.reads stops s.never_empty xs a.budget z zs =
+      λ stops z zs f. record {
+        whole = v.items;
+        allowed = h.allowed;
+        between = u.count;
+        cost = u.cost;
+        parts = u.read;
+        fits = u.fits;
+        stop = f;
+      } in (
+        drop u.count xs,
+        u.left,
+        record {
+          none = λ none w n c.
+              none_open lawful xs v.items u.count u.cost a.budget u.read none w.items n c;
+          stops = stop s.stops;
+          begins = stop s.begins;
+        },
+      )) (λ o. o) (λ takes. refl) t
 
-    -- parts may read nothing
-    pub nothing_refuses : {E : Type 0} {a l m : View} {ps : List P} {e : DecodeError E}
-        → never_empty ≡ false → Opened a l ps → Stands l m
-        → Refuses (ReadsUpToBreak reads never_empty) a e
-    nothing_refuses {a = a} {ps = ps} {e = e} empty h s = record {
-      at = λ xs told.
-          let p = h.parts.at xs told in
-          let f = s.at (drop p.count xs) p.left in
-          always (refusal_of e) (none_open xs ps p.count p.cost a.budget p.read f.2
-          (λ some. let no : never_empty ≡ true = some in cc));
-    }
+-- ---- what is refused where a part or a break should come
 
-    -- the end of the input
-    pub end_refuses : {E : Type 0} {a l m : View} {ps : List P} {e : DecodeError E}
-        → ((xs : List ℕ) (p : P) (n c : ℕ) → reads xs p n c → n ≤ length xs)
-        → (IsTrue never_empty → (xs : List ℕ) (p : P) (n c : ℕ) → reads xs p n c → 1 ≤ n)
-        → Opened a l ps → Runs {V = Bool} break_at l m (Err e)
-        → Refuses (ReadsUpToBreak reads never_empty) a e
-    end_refuses {a = a} {m = m} {ps = ps} {e = e} within positive h q = record {
-      at = λ xs told.
-          let p = h.parts.at xs told in
-          none_at_end (refusal_of e) (drop p.count xs) m.told (λ none. none_open xs ps p.count
-          p.cost a.budget p.read (λ ends. no_first (drop p.count xs) none ends)
-          (λ some w k d u fits. some_byte k (drop p.count xs) none
-          (within (drop p.count xs) w k d u.1) (positive some (drop p.count xs) w k d u.1)))
-          (q.answers (drop p.count xs) p.left);
-    }
+module _ {P : Type 0} (s : Spelling P) where
+  not_at_end : IsLawful s → (xs : List ℕ) (budget : Option ℕ) → xs ≡ []
+      → NoneRead (ReadsPlace s) xs budget
+  not_at_end lawful [] budget none None n c r fits = let f = r.0 in cc
+  not_at_end lawful [] budget none (Some p) n c r fits =
+      omega (arith, lawful.within [] p n c r.0.1, lawful.positive r.1 [] p n c r.0.1)
+  not_at_end lawful (x ∷ xs) budget none p n c r fits = cc
 
-  module _ (name : List ℕ) (stops : StopsAt) where
-    stops_at : {E : Type 0} (a l b : View) (ps : List P) (e : DecodeError E) → Opened a l ps
-        → ((whole xs : List ℕ) → a.told ≡ Some whole → l.told ≡ Some xs
-        → IfSome (refusal_of e) (λ z. (ys : List ℕ) × (b.told ≡ Some ys)
-        × StopsPlace name stops never_empty xs a.budget z ys))
-        → Stops (StopsUpToBreak name reads stops never_empty) a b e
-    stops_at a l b ps e h r = record {
-      at = λ xs told.
-          let p = h.parts.at xs told in
-          stops_as (refusal_of e) b.told
-          (StopsPlace name stops never_empty (drop p.count xs) a.budget)
-          (StopsUpToBreak name reads stops never_empty xs a.budget)
-          (λ z ys s. record {
-            whole = ps;
-            allowed = h.allowed;
-            between = p.count;
-            cost = p.cost;
-            parts = p.read;
-            fits = p.fits;
-            stop = s;
-          }) (r xs (drop p.count xs) told p.left);
-    }
+  not_empty : (xs : List ℕ) (budget : Option ℕ) → (take 1 xs ≡ break ∷ [] → ⊥)
+      → s.never_empty ≡ false → NoneRead (ReadsPlace s) xs budget
+  not_empty xs budget other empty None n c r fits = other r.0
+  not_empty xs budget other empty (Some p) n c r fits = let f = sym empty ∙ r.1 in cc
 
-    pub open_stops : {E : Type 0} {a l m b : View} {ps : List P} {e : DecodeError E}
-        → IsTrue never_empty → Opened a l ps → Stands l m
-        → ((xs : List ℕ) → a.told ≡ Some xs → Stops stops m b e)
-        → Stops (StopsUpToBreak name reads stops never_empty) a b e
-    open_stops {a = a} {l = l} {m = m} {b = b} {ps = ps} {e = e} some h s r =
-        stops_at a l b ps e h (λ whole xs all told.
-        let f = s.at xs told in
-        stops_as (refusal_of e) b.told (stops xs m.budget)
-        (StopsPlace name stops never_empty xs a.budget)
-        (λ z ys t. part_refused f.1 f.2 some (subst (λ k. stops xs k z ys)
-        (s.kept.budget ∙ h.kept.budget) t)) ((r whole all).at xs f.0))
+  not_part : (xs : List ℕ) (budget : Option ℕ) → (take 1 xs ≡ break ∷ [] → ⊥)
+      → NoneRead s.reads xs budget → NoneRead (ReadsPlace s) xs budget
+  not_part xs budget other none None n c r fits = other r.0
+  not_part xs budget other none (Some p) n c r fits = none p n c r.0.1 fits
 
-    pub end_stops : {E : Type 0} {a l m : View} {ps : List P} {e : DecodeError E} → Opened a l ps
-        → Runs {V = Bool} break_at l m (Err e)
-        → Stops (StopsUpToBreak name reads stops never_empty) a m e
-    end_stops {a = a} {l = l} {m = m} {ps = ps} {e = e} h q =
-        stops_at a l m ps e h (λ whole xs all told.
-        stops_as (refusal_of e) m.told (λ z ys. break_at xs ≡ Err (z, ys))
-        (StopsPlace name stops never_empty xs a.budget)
-        (λ z ys t. let b = break_refused xs ys z t in no_byte b.0 b.1 b.2) (q.answers xs told))
+  -- the end of the input
+  pub place_end : {E : Type 0} (name : List ℕ) {l m : View} {e : DecodeError E}
+      → IsLawful s
+      → Runs {V = Bool} break_at l m (Err e) → is_out_of_memory e ≡ false
+      → Decodes (place_spelling name s) l m (Err e)
+  place_end name {l = l} lawful q memory =
+      err_of (place_spelling name s) q memory (λ xs z ys t. let b = break_refused xs ys z t in
+      record {
+        none = not_at_end lawful xs l.budget b.0;
+        stops = no_byte b.0 b.1 b.2;
+        begins = no_byte b.0 b.1 b.2;
+      })
 
-  pub nothing_stops : {E : Type 0} (name : Bor (List ℕ)) (stops : StopsAt) {a l m : View}
-      {ps : List P} → never_empty ≡ false → Opened a l ps → Stands l m
-      → Stops {E = E}
-      (StopsUpToBreak name.now reads stops never_empty) a m (RequireLength name Indefinite)
-  nothing_stops name stops {a = a} {l = l} {m = m} {ps = ps} empty h s =
-      stops_at name.now stops a l m ps (RequireLength name Indefinite) h (λ whole xs all told.
-      let f = s.at xs told in
-      (xs, f.0, may_read_nothing f.1 f.2 empty refl refl))
+  -- parts may read nothing
+  pub place_nothing : {E : Type 0} (name : Bor (List ℕ)) {l m : View} → s.never_empty ≡ false
+      → Stands l m
+      → Decodes {E = E} (place_spelling name.now s) l m (Err (RequireLength name Indefinite))
+  place_nothing name {l = l} empty stays =
+      err (place_spelling name.now s) (record { by = stays.kept; depth = λ none. refl })
+      (λ out. cc) (λ xs told. let f = stays.at xs told in (
+        xs,
+        f.0,
+        record {
+          none = not_empty xs l.budget f.2 empty;
+          stops = may_read_nothing f.1 f.2 empty refl refl;
+          begins = may_read_nothing f.1 f.2 empty refl refl;
+        },
+      ))
+
+  -- a part is refused
+  pub place_part : {E : Type 0} (name : List ℕ) {l m b : View} {e : DecodeError E}
+      → IsTrue s.never_empty → Stands l m → Decodes s m b (Err e)
+      → Decodes (place_spelling name s) l b (Err e)
+  place_part name {l = l} some stays t =
+      err_behind s (place_spelling name s) stays.kept (λ xs told.
+      let f = stays.at xs told in (
+        xs,
+        f.0,
+        record {
+          none = not_part xs l.budget f.2;
+          stops = λ z zs. part_refused f.1 f.2 some;
+          begins = λ z zs. part_refused f.1 f.2 some;
+        },
+      )) (λ o. o) (λ takes. takes) t

@@ -2,11 +2,8 @@
 use Rattle.std.proofs.Common.{◌≡◌, ℕ, ◌<◌, ◌≤◌, ◌⊎◌, inl, inr, List, [], ◌∷◌, ◌++◌, length, drop}
 use Rattle.std.proofs.Common.{take, Bool, true, false, IsTrue, refl, sym, ap, ◌∙◌, subst, arith}
 use Rattle.std.proofs.Common.{max}
-use Rattle.std.specs.Prelude.{◌&&◌, ◌||◌}
+use Rattle.std.specs.Prelude.{◌||◌, codes}
 use Rattle.std.proofs.lemmas.List.{length-drop}
-use Rattle.std.specs.declared.alloc.Global.{Global}
-use Rattle.std.specs.declared.vec.Vec.{Vec}
-use Rattle.cbor4ii_items.specs.declared.types.Map.{Map}
 use Rattle.cbor4ii_items.specs.Head.{break}
 use Rattle.cbor4ii_items.specs.Heads.{ReadsHead}
 use Rattle.cbor4ii_items.specs.Laws.Heads.{head_one, head_read, head_alone}
@@ -15,9 +12,10 @@ use Rattle.cbor4ii_items.specs.Laws.Containers.{both, first_kept}
 use Rattle.cbor4ii_items.specs.Laws.Fronts.{drop_more, two_fronts, behind_front}
 use Rattle.cbor4ii_items.specs.Sequences.{ReadsParts, Unbroken, ReadsUpToBreak, ReadsCountedParts}
 use Rattle.cbor4ii_items.specs.Sequences.{ReadsOpenParts, ReadsInside, ReadsSequence, SameParts}
-use Rattle.cbor4ii_items.specs.Sequences.{ReadsArray, SameArray, ReadsPair, SamePair, ReadsMap}
-use Rattle.cbor4ii_items.specs.Sequences.{SameMap}
-use Rattle.cbor4ii_items.specs.Decoding.{Reads}
+use Rattle.cbor4ii_items.specs.Sequences.{ReadsPair, SamePair, sequence_spelling, array_spelling}
+use Rattle.cbor4ii_items.specs.Sequences.{pair_spelling, map_spelling}
+use Rattle.cbor4ii_items.specs.Decoding.{Reads, Spelling, IsLawful}
+use Rattle.cbor4ii_items.specs.Laws.Spellings.{lawful_by}
 
 pub not_less : (m n : ℕ) → (n < m → ⊥) → m ≤ n
 not_less m n h = omega arith
@@ -342,46 +340,26 @@ module _ {P : Type 0} (major : ℕ) (small : major < 8) (reads : Reads P) (never
         → ReadsSequence major reads never_empty (take n xs ++ ys) ps n c
     sequence_alone xs ys ps n c h = (h.0, inside_alone xs ys ps n h.0 h.1, h.2)
 
--- ---- arrays
+-- ---- the laws, as one
 
-four_small : 4 < 8
-four_small = omega arith
+pub sequence_lawful : {P : Type 0} (name : List ℕ) (major : ℕ) → major < 8 → (s : Spelling P)
+    → IsLawful s → IsLawful (sequence_spelling name major s)
+sequence_lawful name major small s h = record {
+  one = λ xs v w.
+      sequence_one major small s.reads s.never_empty s.same h.one xs v.items w.items;
+  within = λ xs v. sequence_within major small s.reads s.never_empty h.within xs v.items;
+  positive = λ some xs v. sequence_positive major small s.reads s.never_empty xs v.items;
+  alone = λ closed xs ys v.
+      sequence_alone major small s.reads s.never_empty h.within (h.alone closed) h.positive xs ys
+      v.items;
+}
 
-module _ {V : Type 0} (reads : Reads V) where
-  pub array_one : (same : V → V → Type 0) (never_empty : Bool) → ((xs : List ℕ) (v w : V)
-      (n m c d : ℕ) → reads xs v n c → reads xs w m d → (n ≡ m) × (c ≡ d) × same v w)
-      → (xs : List ℕ) (v w : Vec V Global) (n m c d : ℕ) → ReadsArray reads never_empty xs v n c
-      → ReadsArray reads never_empty xs w m d → (n ≡ m) × (c ≡ d) × SameArray same v w
-  array_one same never_empty one xs v w n m c d g h =
-      sequence_one 4 four_small reads never_empty same one xs v.items w.items n m c d g h
+pub array_lawful : {V : Type 0} (s : Spelling V) → IsLawful s → IsLawful (array_spelling s)
+array_lawful s h = sequence_lawful (codes "array") 4 (omega arith) s h
 
-  pub array_within : (never_empty : Bool)
-      → ((xs : List ℕ) (v : V) (n c : ℕ) → reads xs v n c → n ≤ length xs) → (xs : List ℕ)
-      (v : Vec V Global) (n c : ℕ) → ReadsArray reads never_empty xs v n c → n ≤ length xs
-  array_within never_empty within xs v n c h =
-      sequence_within 4 four_small reads never_empty within xs v.items n c h
+-- ---- pairs
 
-  pub array_positive : (never_empty : Bool) (xs : List ℕ) (v : Vec V Global) (n c : ℕ)
-      → ReadsArray reads never_empty xs v n c → 1 ≤ n
-  array_positive never_empty xs v n c h =
-      sequence_positive 4 four_small reads never_empty xs v.items n c h
-
-  pub array_alone : (never_empty closed : Bool)
-      → ((xs : List ℕ) (v : V) (n c : ℕ) → reads xs v n c → n ≤ length xs)
-      → (IsTrue never_empty → (xs : List ℕ) (v : V) (n c : ℕ) → reads xs v n c → 1 ≤ n)
-      → (IsTrue closed → (xs ys : List ℕ) (v : V) (n c : ℕ) → reads xs v n c
-      → reads (take n xs ++ ys) v n c) → IsTrue closed
-      → (xs ys : List ℕ) (v : Vec V Global) (n c : ℕ) → ReadsArray reads never_empty xs v n c
-      → ReadsArray reads never_empty (take n xs ++ ys) v n c
-  array_alone never_empty closed within positive alone e xs ys v n c h =
-      sequence_alone 4 four_small reads never_empty within (alone e) positive xs ys v.items n c h
-
--- ---- maps
-
-five_small : 5 < 8
-five_small = omega arith
-
-either : (a b : Bool) → IsTrue (a || b) → IsTrue a ⊎ IsTrue b
+pub either : (a b : Bool) → IsTrue (a || b) → IsTrue a ⊎ IsTrue b
 either true b e = inl refl
 either false b e = inr e
 
@@ -404,16 +382,6 @@ module _ {K V : Type 0} (key_reads : Reads K) (value_reads : Reads V) where
             h.value_cost g.cost h.cost k.1 v.1,
         (k.2, v.2),
       )
-
-  pub pair_size : (same_key : K → K → Type 0) (same_value : V → V → Type 0)
-      → ((xs : List ℕ) (v w : K) (n m c d : ℕ) → key_reads xs v n c → key_reads xs w m d
-      → (n ≡ m) × (c ≡ d) × same_key v w)
-      → ((xs : List ℕ) (v w : V) (n m c d : ℕ) → value_reads xs v n c → value_reads xs w m d
-      → (n ≡ m) × (c ≡ d) × same_value v w)
-      → (xs : List ℕ) (p q : K × V) (n m c d : ℕ) → ReadsPair key_reads value_reads xs p n c
-      → ReadsPair key_reads value_reads xs q m d → n ≡ m
-  pair_size same_key same_value one_key one_value xs p q n m c d g h =
-      (pair_one same_key same_value one_key one_value xs p q n m c d g h).0
 
   pub pair_within : ((xs : List ℕ) (v : K) (n c : ℕ) → key_reads xs v n c → n ≤ length xs)
       → ((xs : List ℕ) (v : V) (n c : ℕ) → value_reads xs v n c → n ≤ length xs)
@@ -473,50 +441,19 @@ module _ {K V : Type 0} (key_reads : Reads K) (value_reads : Reads V) where
         cost = h.cost;
       }
 
-  pub map_one : (same_key : K → K → Type 0) (same_value : V → V → Type 0) (never_empty : Bool)
-      → ((xs : List ℕ) (v w : K) (n m c d : ℕ) → key_reads xs v n c → key_reads xs w m d
-      → (n ≡ m) × (c ≡ d) × same_key v w)
-      → ((xs : List ℕ) (v w : V) (n m c d : ℕ) → value_reads xs v n c → value_reads xs w m d
-      → (n ≡ m) × (c ≡ d) × same_value v w)
-      → (xs : List ℕ) (v w : Map (Vec (K × V) Global)) (n m c d : ℕ)
-      → ReadsMap key_reads value_reads never_empty xs v n c
-      → ReadsMap key_reads value_reads never_empty xs w m d
-      → (n ≡ m) × (c ≡ d) × SameMap same_key same_value v w
-  map_one same_key same_value never_empty one_key one_value xs v w n m c d g h =
-      sequence_one 5 five_small (ReadsPair key_reads value_reads) never_empty
-      (SamePair same_key same_value)
-      (pair_one same_key same_value one_key one_value) xs v.0.items w.0.items n m c d g h
+pub pair_lawful : {K V : Type 0} (k : Spelling K) (v : Spelling V) → IsLawful k → IsLawful v
+    → IsLawful (pair_spelling k v)
+pair_lawful k v g h = record {
+  one = pair_one k.reads v.reads k.same v.same g.one h.one;
+  within = pair_within k.reads v.reads g.within h.within;
+  positive = pair_positive k.reads v.reads k.never_empty v.never_empty g.positive h.positive;
+  alone = λ closed.
+      let e = both k.closed v.closed closed in
+      pair_alone k.reads v.reads g.within (g.alone e.0) (h.alone e.1);
+}
 
-  pub map_within : (never_empty : Bool)
-      → ((xs : List ℕ) (v : K) (n c : ℕ) → key_reads xs v n c → n ≤ length xs)
-      → ((xs : List ℕ) (v : V) (n c : ℕ) → value_reads xs v n c → n ≤ length xs)
-      → (xs : List ℕ) (v : Map (Vec (K × V) Global)) (n c : ℕ)
-      → ReadsMap key_reads value_reads never_empty xs v n c → n ≤ length xs
-  map_within never_empty key_within value_within xs v n c h =
-      sequence_within 5 five_small (ReadsPair key_reads value_reads) never_empty
-      (pair_within key_within value_within) xs v.0.items n c h
-
-  pub map_positive : (never_empty : Bool) (xs : List ℕ) (v : Map (Vec (K × V) Global)) (n c : ℕ)
-      → ReadsMap key_reads value_reads never_empty xs v n c → 1 ≤ n
-  map_positive never_empty xs v n c h =
-      sequence_positive 5 five_small (ReadsPair key_reads value_reads) never_empty xs v.0.items n c
-      h
-
-  pub map_alone : (key_some value_some key_closed value_closed : Bool)
-      → ((xs : List ℕ) (v : K) (n c : ℕ) → key_reads xs v n c → n ≤ length xs)
-      → ((xs : List ℕ) (v : V) (n c : ℕ) → value_reads xs v n c → n ≤ length xs)
-      → (IsTrue key_some → (xs : List ℕ) (v : K) (n c : ℕ) → key_reads xs v n c → 1 ≤ n)
-      → (IsTrue value_some → (xs : List ℕ) (v : V) (n c : ℕ) → value_reads xs v n c → 1 ≤ n)
-      → (IsTrue key_closed → (xs ys : List ℕ) (v : K) (n c : ℕ) → key_reads xs v n c
-      → key_reads (take n xs ++ ys) v n c) → (IsTrue value_closed → (xs ys : List ℕ) (v : V)
-      (n c : ℕ) → value_reads xs v n c → value_reads (take n xs ++ ys) v n c)
-      → IsTrue (key_closed && value_closed) → (xs ys : List ℕ) (v : Map (Vec (K × V) Global))
-      (n c : ℕ) → ReadsMap key_reads value_reads (key_some || value_some) xs v n c
-      → ReadsMap key_reads value_reads (key_some || value_some) (take n xs ++ ys) v n c
-  map_alone key_some value_some key_closed value_closed key_within value_within key_positive
-      value_positive key_alone value_alone e xs ys v n c h =
-      let closed = both key_closed value_closed e in
-      sequence_alone 5 five_small (ReadsPair key_reads value_reads) (key_some || value_some)
-      (pair_within key_within value_within)
-      (pair_alone key_within (key_alone closed.0) (value_alone closed.1))
-      (pair_positive key_some value_some key_positive value_positive) xs ys v.0.items n c h
+pub map_lawful : {K V : Type 0} (k : Spelling K) (v : Spelling V) → IsLawful k → IsLawful v
+    → IsLawful (map_spelling k v)
+map_lawful k v g h =
+    lawful_by (λ m. m.0) (sequence_spelling (codes "map") 5 (pair_spelling k v))
+    (sequence_lawful (codes "map") 5 (omega arith) (pair_spelling k v) (pair_lawful k v g h))

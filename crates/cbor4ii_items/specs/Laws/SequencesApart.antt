@@ -2,10 +2,7 @@
 use Rattle.std.proofs.Common.{◌≡◌, ℕ, ◌+◌, ◌<◌, ◌≤◌, ◌⊎◌, inl, inr, List, [], length, take, drop}
 use Rattle.std.proofs.Common.{Option, Some, None, Bool, IsTrue, sym, ap, ◌∙◌, subst, arith}
 use Rattle.std.specs.Prelude.{◌||◌, codes}
-use Rattle.std.specs.declared.alloc.Global.{Global}
-use Rattle.std.specs.declared.vec.Vec.{Vec}
-use Rattle.cbor4ii_items.specs.declared.types.Map.{Map}
-use Rattle.cbor4ii_items.specs.Decoding.{Reads, StopsAt, CostFits}
+use Rattle.cbor4ii_items.specs.Decoding.{Reads, StopsAt, CostFits, Spelling, IsLawful}
 use Rattle.cbor4ii_items.specs.Head.{break}
 use Rattle.cbor4ii_items.specs.NeverBoth.{NeverBoth}
 use Rattle.cbor4ii_items.specs.Refusal.{Refusal}
@@ -14,13 +11,12 @@ use Rattle.cbor4ii_items.specs.Sequences.{ReadsSequence, StopsCount, StopsPlace,
 use Rattle.cbor4ii_items.specs.Sequences.{may_read_nothing, part_refused, StopsUpToBreak}
 use Rattle.cbor4ii_items.specs.Sequences.{StopsInside, length_refused, counted_refused}
 use Rattle.cbor4ii_items.specs.Sequences.{open_refused, after_step, StopsSequence, no_step}
-use Rattle.cbor4ii_items.specs.Sequences.{under_step, ReadsPair, StopsPair, ReadsArray, StopsArray}
-use Rattle.cbor4ii_items.specs.Sequences.{ReadsMap, StopsMap}
+use Rattle.cbor4ii_items.specs.Sequences.{under_step, ReadsPair, StopsPair, array_spelling}
+use Rattle.cbor4ii_items.specs.Sequences.{map_spelling}
 use Rattle.cbor4ii_items.specs.Laws.Heads.{head_one}
 use Rattle.cbor4ii_items.specs.Laws.LeavesApart.{head_apart}
 use Rattle.cbor4ii_items.specs.Laws.Sequences.{next_part, parts_size, unbroken_size, ends_at_break}
-use Rattle.cbor4ii_items.specs.Laws.Sequences.{not_less, one_byte, pair_size, pair_within}
-use Rattle.cbor4ii_items.specs.Laws.Sequences.{pair_positive}
+use Rattle.cbor4ii_items.specs.Laws.Sequences.{not_less, one_byte, pair_lawful}
 use Rattle.cbor4ii_items.specs.Laws.Strings.{BeginsWith, head_not_open}
 
 -- ---- budgets
@@ -31,7 +27,8 @@ fits_less None e d less fits = tt
 fits_less (Some left) e d less fits = omega (arith, less, fits)
 
 -- what fits under a step fits what is left behind it
-pub fits_after : (budget : Option ℕ) (d : ℕ) → CostFits (1 + d) budget → CostFits d (after_step budget)
+pub fits_after : (budget : Option ℕ) (d : ℕ) → CostFits (1 + d) budget
+    → CostFits d (after_step budget)
 fits_after None d fits = tt
 fits_after (Some left) d fits = omega (arith, fits)
 
@@ -127,54 +124,34 @@ module _ {P : Type 0} (reads : Reads P) (stops : StopsAt) (apart : NeverBoth rea
 
 -- ---- arrays
 
-module _ {V : Type 0} (reads : Reads V) (same : V → V → Type 0) (stops : StopsAt)
-    (never_empty : Bool) where
-  pub array_apart : ((xs : List ℕ) (v w : V) (n m c d : ℕ) → reads xs v n c → reads xs w m d
-      → (n ≡ m) × (c ≡ d) × same v w)
-      → ((xs : List ℕ) (v : V) (n c : ℕ) → reads xs v n c → n ≤ length xs)
-      → (IsTrue never_empty → (xs : List ℕ) (v : V) (n c : ℕ) → reads xs v n c → 1 ≤ n)
-      → NeverBoth reads stops → (xs : List ℕ) (budget : Option ℕ) (refusal : Refusal)
-      (rest : List ℕ) → StopsArray reads stops never_empty xs budget refusal rest
-      → (v : Vec V Global) (n c : ℕ) → ReadsArray reads never_empty xs v n c → CostFits c budget
-      → ⊥
-  array_apart one within positive apart xs budget refusal rest s v =
-      sequence_apart reads stops apart (λ ys p q n m c d g h. (one ys p q n m c d g h).0) within
-      never_empty positive (codes "array") 4 (omega arith) xs budget refusal rest s v.items
+pub array_apart : {V : Type 0} (s : Spelling V) (stops : StopsAt) → IsLawful s
+    → NeverBoth s.reads stops → NeverBoth (array_spelling s).reads
+    (StopsSequence (codes "array") 4 s.reads stops s.never_empty)
+array_apart s stops h apart xs budget refusal rest f v =
+    sequence_apart s.reads stops apart (λ ys p q n m c d g k. (h.one ys p q n m c d g k).0) h.within
+    s.never_empty h.positive (codes "array") 4 (omega arith) xs budget refusal rest f v.items
 
 -- ---- maps
 
-module _ {K V : Type 0} (key_reads : Reads K) (value_reads : Reads V) (same_key : K → K → Type 0)
-    (same_value : V → V → Type 0) (key_stops value_stops : StopsAt)
-    (one_key : (xs : List ℕ) (v w : K) (n m c d : ℕ) → key_reads xs v n c → key_reads xs w m d
-    → (n ≡ m) × (c ≡ d) × same_key v w)
-    (one_value : (xs : List ℕ) (v w : V) (n m c d : ℕ) → value_reads xs v n c
-    → value_reads xs w m d → (n ≡ m) × (c ≡ d) × same_value v w)
-    (key_apart : NeverBoth key_reads key_stops)
-    (value_apart : NeverBoth value_reads value_stops) where
-  pub pair_apart : NeverBoth (ReadsPair key_reads value_reads)
-      (StopsPair key_reads key_stops value_stops)
-  pair_apart xs budget refusal rest (inl s) p n c h fits =
-      key_apart xs budget refusal rest s p.0 h.key_size h.key_cost h.key
-      (fits_less budget h.key_cost c (omega (arith, h.cost)) fits)
-  pair_apart xs budget refusal rest (inr s) p n c h fits =
-      let same = (one_key xs s.whole p.0 s.size h.key_size s.cost h.key_cost s.key h.key).0 in
-      value_apart (drop s.size xs) budget refusal rest s.stop p.1 h.value_size h.value_cost
-      (subst (λ j. value_reads (drop j xs) p.1 h.value_size h.value_cost) (sym same) h.value)
-      (fits_less budget h.value_cost c (omega (arith, h.cost)) fits)
+module _ {K V : Type 0} (k : Spelling K) (v : Spelling V) (key_stops value_stops : StopsAt)
+    (g : IsLawful k) (h : IsLawful v) (key_apart : NeverBoth k.reads key_stops)
+    (value_apart : NeverBoth v.reads value_stops) where
+  pair_apart : NeverBoth (ReadsPair k.reads v.reads) (StopsPair k.reads key_stops value_stops)
+  pair_apart xs budget refusal rest (inl s) p n c f fits =
+      key_apart xs budget refusal rest s p.0 f.key_size f.key_cost f.key
+      (fits_less budget f.key_cost c (omega (arith, f.cost)) fits)
+  pair_apart xs budget refusal rest (inr s) p n c f fits =
+      let same = (g.one xs s.whole p.0 s.size f.key_size s.cost f.key_cost s.key f.key).0 in
+      value_apart (drop s.size xs) budget refusal rest s.stop p.1 f.value_size f.value_cost
+      (subst (λ j. v.reads (drop j xs) p.1 f.value_size f.value_cost) (sym same) f.value)
+      (fits_less budget f.value_cost c (omega (arith, f.cost)) fits)
 
-  pub map_apart : (key_some value_some : Bool)
-      → ((xs : List ℕ) (v : K) (n c : ℕ) → key_reads xs v n c → n ≤ length xs)
-      → ((xs : List ℕ) (v : V) (n c : ℕ) → value_reads xs v n c → n ≤ length xs)
-      → (IsTrue key_some → (xs : List ℕ) (v : K) (n c : ℕ) → key_reads xs v n c → 1 ≤ n)
-      → (IsTrue value_some → (xs : List ℕ) (v : V) (n c : ℕ) → value_reads xs v n c → 1 ≤ n)
-      → (xs : List ℕ) (budget : Option ℕ) (refusal : Refusal) (rest : List ℕ)
-      → StopsMap key_reads value_reads key_stops value_stops (key_some || value_some) xs budget
-      refusal rest → (v : Map (Vec (K × V) Global)) (n c : ℕ)
-      → ReadsMap key_reads value_reads (key_some || value_some) xs v n c → CostFits c budget → ⊥
-  map_apart key_some value_some key_within value_within key_positive value_positive xs budget
-      refusal rest s v =
-      sequence_apart (ReadsPair key_reads value_reads) (StopsPair key_reads key_stops value_stops)
-      pair_apart (pair_size key_reads value_reads same_key same_value one_key one_value)
-      (pair_within key_reads value_reads key_within value_within) (key_some || value_some)
-      (pair_positive key_reads value_reads key_some value_some key_positive value_positive)
-      (codes "map") 5 (omega arith) xs budget refusal rest s v.0.items
+  pub map_apart : NeverBoth (map_spelling k v).reads (StopsSequence (codes "map") 5
+      (ReadsPair k.reads v.reads) (StopsPair k.reads key_stops value_stops)
+      (k.never_empty || v.never_empty))
+  map_apart xs budget refusal rest s m =
+      let l = pair_lawful k v g h in
+      sequence_apart (ReadsPair k.reads v.reads) (StopsPair k.reads key_stops value_stops)
+      pair_apart (λ ys p q n o c d a b. (l.one ys p q n o c d a b).0) l.within
+      (k.never_empty || v.never_empty) l.positive (codes "map") 5 (omega arith) xs budget refusal
+      rest s m.0.items

@@ -8,7 +8,8 @@ use Rattle.cbor4ii_items.specs.Reading.{peek_at, go_on, ◌>=>◌}
 use Rattle.cbor4ii_items.specs.Heads.{ReadsHead}
 use Rattle.cbor4ii_items.specs.ReadNumber.{below, head_below_at, as_positive, as_negative}
 use Rattle.cbor4ii_items.specs.ReadNumber.{signed_by, signed_at}
-use Rattle.cbor4ii_items.specs.Numbers.{ReadsSigned}
+use Rattle.cbor4ii_items.specs.Numbers.{ReadsSigned, signed_spelling}
+use Rattle.cbor4ii_items.specs.Decoding.{IsLawful}
 use Rattle.cbor4ii_items.specs.Laws.Heads.{head_read, head_alone, additional-lt}
 use Rattle.cbor4ii_items.specs.Laws.Arguments.{ReadBy, leaf_one, leaf_within, leaf_positive}
 
@@ -109,3 +110,12 @@ pub signed_alone : (width limit : ℕ) (xs ys : List ℕ) (v : ℤ) (n c : ℕ)
     → ReadsSigned width limit xs v n c → ReadsSigned width limit (take n xs ++ ys) v n c
 signed_alone width limit xs ys (pos k) n c p = (head_alone 0 width xs ys k n p.0, p.1, p.2)
 signed_alone width limit xs ys (negsuc k) n c p = (head_alone 1 width xs ys k n p.0, p.1, p.2)
+
+pub signed_lawful : (name plus minus : List ℕ) (width limit : ℕ)
+    → IsLawful (signed_spelling name plus minus width limit)
+signed_lawful name plus minus width limit = record {
+  one = signed_one width limit;
+  within = signed_within width limit;
+  positive = λ some. signed_positive width limit;
+  alone = λ closed. signed_alone width limit;
+}

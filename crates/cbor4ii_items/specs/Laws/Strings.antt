@@ -6,7 +6,7 @@ use Rattle.std.specs.Int.{bytes_high_first}
 use Rattle.std.proofs.lemmas.List.{length-drop, append-nil, length-take}
 use Rattle.cbor4ii_items.specs.Head.{byte_count, additional, break, open_head}
 use Rattle.cbor4ii_items.specs.Reading.{give, go_on}
-use Rattle.cbor4ii_items.specs.Decoding.{CostFits}
+use Rattle.cbor4ii_items.specs.Decoding.{CostFits, IsLawful}
 use Rattle.cbor4ii_items.specs.Laws.Outcome.{same_value}
 use Rattle.cbor4ii_items.specs.Heads.{ReadsHead}
 use Rattle.cbor4ii_items.specs.Laws.Heads.{head_read, head_alone, additional-lt}
@@ -18,6 +18,7 @@ use Rattle.cbor4ii_items.specs.Laws.CountedContent.{content_whole}
 use Rattle.cbor4ii_items.specs.Laws.Fronts.{drop_more, two_fronts, behind_front, the_front}
 use Rattle.cbor4ii_items.specs.Strings.{ReadsCountedString, ReadsChunks, joined, chunk_cost}
 use Rattle.cbor4ii_items.specs.Strings.{ReadsOpenString, ReadsString, ReadsAs, ReadsTextAs}
+use Rattle.cbor4ii_items.specs.Strings.{as_spelling, text_spelling}
 
 -- ---- the first byte
 
@@ -392,3 +393,21 @@ module _ {V : Type 0} (content : V → List ℕ) where
   pub text_alone : (xs ys : List ℕ) (v : V) (n c : ℕ) → ReadsTextAs content xs v n c
       → ReadsTextAs content (take n xs ++ ys) v n c
   text_alone xs ys v n c p = (string_alone 3 xs ys (content v) n c three_small p.0, p.1)
+
+pub as_lawful : {V : Type 0} (name : List ℕ) (major : ℕ) → major < 8 → (content : V → List ℕ)
+    → IsLawful (as_spelling name major content)
+as_lawful name major small content = record {
+  one = as_one major small content;
+  within = as_within major small content;
+  positive = λ some. as_positive major small content;
+  alone = λ closed. as_alone major small content;
+}
+
+pub text_lawful : {V : Type 0} (name : List ℕ) (content : V → List ℕ)
+    → IsLawful (text_spelling name content)
+text_lawful name content = record {
+  one = text_one content;
+  within = text_within content;
+  positive = λ some. text_positive content;
+  alone = λ closed. text_alone content;
+}

@@ -11,6 +11,7 @@ ghost use Rattle.cbor4ii_items.specs.Numbers.{unsigned_bytes, signed_bytes};
 ghost use Rattle.cbor4ii_items.specs.Laws.Bignums.{u128_one, u128_within, u128_positive};
 ghost use Rattle.cbor4ii_items.specs.Laws.Bignums.{u128_alone, i128_one, i128_within};
 ghost use Rattle.cbor4ii_items.specs.Laws.Bignums.{i128_positive, i128_alone};
+ghost use Rattle.cbor4ii_items.specs.Decoding.{leaf_spelling};
 
 use crate::decode::{Decode, Spelled};
 use crate::encode::Encode;
@@ -186,25 +187,18 @@ fn negative(n: u128) -> i128
 }
 
 impl Spelled for u128 {
-    ghost reads = { ReadsU128 };
-
-    ghost same = { λ v w. v ≡ w };
-
-    ghost stops = { λ xs budget. StopsU128 xs };
-
-    ghost begins = { λ xs budget. StopsU128 xs };
-
-    ghost never_empty = { true };
-
-    ghost owned = { true };
-
-    ghost takes_memory = { false };
-
-    ghost closed = { true };
+    ghost spelling = { leaf_spelling ReadsU128 (λ xs budget. StopsU128 xs) };
 
     fn is_never_empty() -> bool {
         true
     }
+
+    ghost lawful = { record {
+      one = u128_one;
+      within = u128_within;
+      positive = λ _. u128_positive;
+      alone = λ _. u128_alone;
+    } };
 }
 
 /// An unsigned integer of any head, or a bignum of tag 2: a byte string of known length, of at most
@@ -230,14 +224,6 @@ impl<S: Source> Decode<S> for u128 {
     fn decode(alloc: Global, reader: &mut S) -> Result<u128, DecodeError<S::Error>> {
         take_u128(reader)
     }
-
-    ghost one = { u128_one };
-
-    ghost within = { u128_within };
-
-    ghost positive = { λ _. u128_positive };
-
-    ghost alone = { λ _. u128_alone };
 }
 
 /// Below 2^64 the shortest head of major type 0 with this argument (RFC 8949 sections 3.1 and 4.1),
@@ -252,25 +238,18 @@ impl Encode for u128 {
 }
 
 impl Spelled for i128 {
-    ghost reads = { ReadsI128 };
-
-    ghost same = { λ v w. v ≡ w };
-
-    ghost stops = { λ xs budget. StopsI128 xs };
-
-    ghost begins = { λ xs budget. StopsI128 xs };
-
-    ghost never_empty = { true };
-
-    ghost owned = { true };
-
-    ghost takes_memory = { false };
-
-    ghost closed = { true };
+    ghost spelling = { leaf_spelling ReadsI128 (λ xs budget. StopsI128 xs) };
 
     fn is_never_empty() -> bool {
         true
     }
+
+    ghost lawful = { record {
+      one = i128_one;
+      within = i128_within;
+      positive = λ _. i128_positive;
+      alone = λ _. i128_alone;
+    } };
 }
 
 /// An integer of any head, or a bignum of tag 2, or of tag 3 for a negative one: a byte string of
@@ -293,14 +272,6 @@ impl<S: Source> Decode<S> for i128 {
     fn decode(alloc: Global, reader: &mut S) -> Result<i128, DecodeError<S::Error>> {
         take_i128(reader)
     }
-
-    ghost one = { i128_one };
-
-    ghost within = { i128_within };
-
-    ghost positive = { λ _. i128_positive };
-
-    ghost alone = { λ _. i128_alone };
 }
 
 /// From 0 on as a `u128`. Of -1 - n the shortest head of major type 1 with the argument n where n

@@ -1,9 +1,8 @@
 //! Negative integers of at most eight bytes, as -1 - n for the unsigned n.
-ghost use Rattle.std.specs.Prelude.{◌≡◌, true, false, codes};
+ghost use Rattle.std.specs.Prelude.{codes};
 ghost use Rattle.cbor4ii_items.specs.Writing.{WritesWhole};
-ghost use Rattle.cbor4ii_items.specs.Numbers.{ReadsNegative, StopsNegative, shortest_head};
-ghost use Rattle.cbor4ii_items.specs.Laws.Arguments.{negative_one, negative_within};
-ghost use Rattle.cbor4ii_items.specs.Laws.Arguments.{negative_positive, negative_alone};
+ghost use Rattle.cbor4ii_items.specs.Numbers.{negative_spelling, shortest_head};
+ghost use Rattle.cbor4ii_items.specs.Laws.Arguments.{negative_lawful};
 
 use crate::decode::{Decode, Spelled};
 use crate::encode::Encode;
@@ -17,25 +16,13 @@ use cbor4ii_rw::write::Write;
 use std::alloc::Global;
 
 impl Spelled for Negative<u8> {
-    ghost reads = { ReadsNegative 1 };
-
-    ghost same = { λ v w. v ≡ w };
-
-    ghost stops = { StopsNegative (codes "-u8") 1 };
-
-    ghost begins = { StopsNegative (codes "-u8") 1 };
-
-    ghost never_empty = { true };
-
-    ghost owned = { true };
-
-    ghost takes_memory = { false };
-
-    ghost closed = { true };
+    ghost spelling = { negative_spelling (codes "-u8") 1 };
 
     fn is_never_empty() -> bool {
         true
     }
+
+    ghost lawful = { negative_lawful (codes "-u8") 1 };
 }
 
 /// A negative integer whose argument has at most one byte, whether or not in its shortest head (RFC
@@ -49,14 +36,6 @@ impl<S: Source> Decode<S> for Negative<u8> {
     fn decode(alloc: Global, reader: &mut S) -> Result<Negative<u8>, DecodeError<S::Error>> {
         Ok(Negative(lone_head(reader, "-u8", major::NEGATIVE, 1)? as u8))
     }
-
-    ghost one = { negative_one 1 };
-
-    ghost within = { negative_within 1 };
-
-    ghost positive = { λ _. negative_positive 1 };
-
-    ghost alone = { λ _. negative_alone 1 };
 }
 
 /// The shortest head of major type 1 with the number that it holds as its argument (RFC 8949
@@ -74,25 +53,13 @@ impl Encode for Negative<u8> {
 }
 
 impl Spelled for Negative<u16> {
-    ghost reads = { ReadsNegative 2 };
-
-    ghost same = { λ v w. v ≡ w };
-
-    ghost stops = { StopsNegative (codes "-u16") 2 };
-
-    ghost begins = { StopsNegative (codes "-u16") 2 };
-
-    ghost never_empty = { true };
-
-    ghost owned = { true };
-
-    ghost takes_memory = { false };
-
-    ghost closed = { true };
+    ghost spelling = { negative_spelling (codes "-u16") 2 };
 
     fn is_never_empty() -> bool {
         true
     }
+
+    ghost lawful = { negative_lawful (codes "-u16") 2 };
 }
 
 /// A negative integer whose argument has at most two bytes, whether or not in its shortest head
@@ -106,14 +73,6 @@ impl<S: Source> Decode<S> for Negative<u16> {
     fn decode(alloc: Global, reader: &mut S) -> Result<Negative<u16>, DecodeError<S::Error>> {
         Ok(Negative(lone_head(reader, "-u16", major::NEGATIVE, 2)? as u16))
     }
-
-    ghost one = { negative_one 2 };
-
-    ghost within = { negative_within 2 };
-
-    ghost positive = { λ _. negative_positive 2 };
-
-    ghost alone = { λ _. negative_alone 2 };
 }
 
 /// The shortest head of major type 1 with the number that it holds, in one push, as of a
@@ -131,25 +90,13 @@ impl Encode for Negative<u16> {
 }
 
 impl Spelled for Negative<u32> {
-    ghost reads = { ReadsNegative 4 };
-
-    ghost same = { λ v w. v ≡ w };
-
-    ghost stops = { StopsNegative (codes "-u32") 4 };
-
-    ghost begins = { StopsNegative (codes "-u32") 4 };
-
-    ghost never_empty = { true };
-
-    ghost owned = { true };
-
-    ghost takes_memory = { false };
-
-    ghost closed = { true };
+    ghost spelling = { negative_spelling (codes "-u32") 4 };
 
     fn is_never_empty() -> bool {
         true
     }
+
+    ghost lawful = { negative_lawful (codes "-u32") 4 };
 }
 
 /// A negative integer whose argument has at most four bytes, whether or not in its shortest head
@@ -163,14 +110,6 @@ impl<S: Source> Decode<S> for Negative<u32> {
     fn decode(alloc: Global, reader: &mut S) -> Result<Negative<u32>, DecodeError<S::Error>> {
         Ok(Negative(lone_head(reader, "-u32", major::NEGATIVE, 4)? as u32))
     }
-
-    ghost one = { negative_one 4 };
-
-    ghost within = { negative_within 4 };
-
-    ghost positive = { λ _. negative_positive 4 };
-
-    ghost alone = { λ _. negative_alone 4 };
 }
 
 /// The shortest head of major type 1 with the number that it holds, in one push, as of a
@@ -188,25 +127,13 @@ impl Encode for Negative<u32> {
 }
 
 impl Spelled for Negative<u64> {
-    ghost reads = { ReadsNegative 8 };
-
-    ghost same = { λ v w. v ≡ w };
-
-    ghost stops = { StopsNegative (codes "-u64") 8 };
-
-    ghost begins = { StopsNegative (codes "-u64") 8 };
-
-    ghost never_empty = { true };
-
-    ghost owned = { true };
-
-    ghost takes_memory = { false };
-
-    ghost closed = { true };
+    ghost spelling = { negative_spelling (codes "-u64") 8 };
 
     fn is_never_empty() -> bool {
         true
     }
+
+    ghost lawful = { negative_lawful (codes "-u64") 8 };
 }
 
 /// A negative integer whose argument has at most eight bytes, whether or not in its shortest head
@@ -220,14 +147,6 @@ impl<S: Source> Decode<S> for Negative<u64> {
     fn decode(alloc: Global, reader: &mut S) -> Result<Negative<u64>, DecodeError<S::Error>> {
         Ok(Negative(lone_head(reader, "-u64", major::NEGATIVE, 8)?))
     }
-
-    ghost one = { negative_one 8 };
-
-    ghost within = { negative_within 8 };
-
-    ghost positive = { λ _. negative_positive 8 };
-
-    ghost alone = { λ _. negative_alone 8 };
 }
 
 /// The shortest head of major type 1 with the number that it holds, in one push, as of a

@@ -3,12 +3,11 @@ ghost use Rattle.std.specs.Prelude.{◌≡◌, ◌+◌, ◌<◌, ◌≤◌, ◌^
 ghost use Rattle.std.specs.Prelude.{pos, negsuc};
 ghost use Rattle.cbor4ii_items.specs.Reading.{Runs};
 ghost use Rattle.cbor4ii_items.specs.Refusal.{is_out_of_memory};
-ghost use Rattle.cbor4ii_items.specs.Decoding.{Sound, Refuses, Stops};
 ghost use Rattle.cbor4ii_items.specs.ReadNumber.{head_below_at, signed_at};
-ghost use Rattle.cbor4ii_items.specs.Numbers.{ReadsSigned, StopsSigned, IsWithin, signed_head};
-ghost use Rattle.cbor4ii_items.specs.Laws.Signed.{signed_one, signed_within, signed_positive};
-ghost use Rattle.cbor4ii_items.specs.Laws.Signed.{signed_alone};
 ghost use Rattle.cbor4ii_items.specs.Writing.{WritesWhole};
+ghost use Rattle.cbor4ii_items.specs.Decoding.{Decodes};
+ghost use Rattle.cbor4ii_items.specs.Numbers.{IsWithin, signed_head, signed_spelling};
+ghost use Rattle.cbor4ii_items.specs.Laws.Signed.{signed_lawful};
 
 use crate::decode::{Decode, Spelled};
 use crate::encode::Encode;
@@ -160,43 +159,23 @@ fn lone_signed<S: Source>(
     limit: u64,
 ) -> Result<i64, DecodeError<S::Error>>
     requires { limit ≤ 2 ^ 63 }
-    ensures runs { Runs (signed_at name.now plus.now minus.now width limit)
-        (S.view reader.old) (S.view reader.new) result }
-    ensures memory { IfErr result (λ error. is_out_of_memory error ≡ false) }
     ensures range { IfOk result (IsWithin limit) }
-    ensures progress { OnOk result ((S.view reader.new).bound + 1 ≤ (S.view reader.old).bound) }
-    ensures sound { IfOk result
-        (Sound (ReadsSigned width limit) (S.view reader.old) (S.view reader.new)) }
-    ensures complete { IfErr result (Refuses (ReadsSigned width limit) (S.view reader.old)) }
-    ensures stops { IfErr result (Stops
-        (λ xs budget. StopsSigned name.now plus.now minus.now width limit xs)
-        (S.view reader.old) (S.view reader.new)) }
+    ensures decodes { Decodes (signed_spelling name.now plus.now minus.now width limit)
+        (S.view reader.old) (S.view reader.new) result }
 {
     signed(reader, name, plus, minus, width, limit)
 }
 
 impl Spelled for i8 {
-    ghost reads = { ReadsSigned 1 (2 ^ 7) };
-
-    ghost same = { λ v w. v ≡ w };
-
-    ghost stops = { λ xs budget.
-        StopsSigned (codes "i8") (codes "+i8") (codes "-i8") 1 (2 ^ 7) xs };
-
-    ghost begins = { λ xs budget.
-        StopsSigned (codes "i8") (codes "+i8") (codes "-i8") 1 (2 ^ 7) xs };
-
-    ghost never_empty = { true };
-
-    ghost owned = { true };
-
-    ghost takes_memory = { false };
-
-    ghost closed = { true };
+    ghost spelling = { signed_spelling (codes "i8") (codes "+i8") (codes "-i8") 1
+        (2 ^ 7) };
 
     fn is_never_empty() -> bool {
         true
     }
+
+    ghost lawful = { signed_lawful (codes "i8") (codes "+i8") (codes "-i8") 1
+        (2 ^ 7) };
 }
 
 /// An integer of major type 0, or a negative one of major type 1, whose argument has at most one
@@ -213,14 +192,6 @@ impl<S: Source> Decode<S> for i8 {
     fn decode(alloc: Global, reader: &mut S) -> Result<i8, DecodeError<S::Error>> {
         Ok(lone_signed(reader, "i8", "+i8", "-i8", 1, 0x80)? as i8)
     }
-
-    ghost one = { signed_one 1 (2 ^ 7) };
-
-    ghost within = { signed_within 1 (2 ^ 7) };
-
-    ghost positive = { λ _. signed_positive 1 (2 ^ 7) };
-
-    ghost alone = { λ _. signed_alone 1 (2 ^ 7) };
 }
 
 /// From 0 on the shortest head of major type 0 with this argument, and of -1 - n that of major type
@@ -239,27 +210,15 @@ impl Encode for i8 {
 }
 
 impl Spelled for i16 {
-    ghost reads = { ReadsSigned 2 (2 ^ 15) };
-
-    ghost same = { λ v w. v ≡ w };
-
-    ghost stops = { λ xs budget.
-        StopsSigned (codes "i16") (codes "+i16") (codes "-i16") 2 (2 ^ 15) xs };
-
-    ghost begins = { λ xs budget.
-        StopsSigned (codes "i16") (codes "+i16") (codes "-i16") 2 (2 ^ 15) xs };
-
-    ghost never_empty = { true };
-
-    ghost owned = { true };
-
-    ghost takes_memory = { false };
-
-    ghost closed = { true };
+    ghost spelling = { signed_spelling (codes "i16") (codes "+i16") (codes "-i16") 2
+        (2 ^ 15) };
 
     fn is_never_empty() -> bool {
         true
     }
+
+    ghost lawful = { signed_lawful (codes "i16") (codes "+i16") (codes "-i16") 2
+        (2 ^ 15) };
 }
 
 /// An integer of major type 0, or a negative one of major type 1, whose argument has at most two
@@ -277,14 +236,6 @@ impl<S: Source> Decode<S> for i16 {
     fn decode(alloc: Global, reader: &mut S) -> Result<i16, DecodeError<S::Error>> {
         Ok(lone_signed(reader, "i16", "+i16", "-i16", 2, 0x8000)? as i16)
     }
-
-    ghost one = { signed_one 2 (2 ^ 15) };
-
-    ghost within = { signed_within 2 (2 ^ 15) };
-
-    ghost positive = { λ _. signed_positive 2 (2 ^ 15) };
-
-    ghost alone = { λ _. signed_alone 2 (2 ^ 15) };
 }
 
 /// The shortest head of major type 0 or 1, in one push, as of an `i8`.
@@ -301,27 +252,15 @@ impl Encode for i16 {
 }
 
 impl Spelled for i32 {
-    ghost reads = { ReadsSigned 4 (2 ^ 31) };
-
-    ghost same = { λ v w. v ≡ w };
-
-    ghost stops = { λ xs budget.
-        StopsSigned (codes "i32") (codes "+i32") (codes "-i32") 4 (2 ^ 31) xs };
-
-    ghost begins = { λ xs budget.
-        StopsSigned (codes "i32") (codes "+i32") (codes "-i32") 4 (2 ^ 31) xs };
-
-    ghost never_empty = { true };
-
-    ghost owned = { true };
-
-    ghost takes_memory = { false };
-
-    ghost closed = { true };
+    ghost spelling = { signed_spelling (codes "i32") (codes "+i32") (codes "-i32") 4
+        (2 ^ 31) };
 
     fn is_never_empty() -> bool {
         true
     }
+
+    ghost lawful = { signed_lawful (codes "i32") (codes "+i32") (codes "-i32") 4
+        (2 ^ 31) };
 }
 
 /// An integer of major type 0, or a negative one of major type 1, whose argument has at most four
@@ -339,14 +278,6 @@ impl<S: Source> Decode<S> for i32 {
     fn decode(alloc: Global, reader: &mut S) -> Result<i32, DecodeError<S::Error>> {
         Ok(lone_signed(reader, "i32", "+i32", "-i32", 4, 0x8000_0000)? as i32)
     }
-
-    ghost one = { signed_one 4 (2 ^ 31) };
-
-    ghost within = { signed_within 4 (2 ^ 31) };
-
-    ghost positive = { λ _. signed_positive 4 (2 ^ 31) };
-
-    ghost alone = { λ _. signed_alone 4 (2 ^ 31) };
 }
 
 /// The shortest head of major type 0 or 1, in one push, as of an `i8`.
@@ -363,27 +294,15 @@ impl Encode for i32 {
 }
 
 impl Spelled for i64 {
-    ghost reads = { ReadsSigned 8 (2 ^ 63) };
-
-    ghost same = { λ v w. v ≡ w };
-
-    ghost stops = { λ xs budget.
-        StopsSigned (codes "i64") (codes "+i64") (codes "-i64") 8 (2 ^ 63) xs };
-
-    ghost begins = { λ xs budget.
-        StopsSigned (codes "i64") (codes "+i64") (codes "-i64") 8 (2 ^ 63) xs };
-
-    ghost never_empty = { true };
-
-    ghost owned = { true };
-
-    ghost takes_memory = { false };
-
-    ghost closed = { true };
+    ghost spelling = { signed_spelling (codes "i64") (codes "+i64") (codes "-i64") 8
+        (2 ^ 63) };
 
     fn is_never_empty() -> bool {
         true
     }
+
+    ghost lawful = { signed_lawful (codes "i64") (codes "+i64") (codes "-i64") 8
+        (2 ^ 63) };
 }
 
 /// An integer of major type 0, or a negative one of major type 1, whose argument has at most eight
@@ -401,14 +320,6 @@ impl<S: Source> Decode<S> for i64 {
     fn decode(alloc: Global, reader: &mut S) -> Result<i64, DecodeError<S::Error>> {
         lone_signed(reader, "i64", "+i64", "-i64", 8, 0x8000_0000_0000_0000)
     }
-
-    ghost one = { signed_one 8 (2 ^ 63) };
-
-    ghost within = { signed_within 8 (2 ^ 63) };
-
-    ghost positive = { λ _. signed_positive 8 (2 ^ 63) };
-
-    ghost alone = { λ _. signed_alone 8 (2 ^ 63) };
 }
 
 /// The shortest head of major type 0 or 1, in one push, as of an `i8`.

@@ -1,9 +1,8 @@
 //! Unsigned integers of at most eight bytes.
-ghost use Rattle.std.specs.Prelude.{◌≡◌, true, false, codes};
+ghost use Rattle.std.specs.Prelude.{codes};
 ghost use Rattle.cbor4ii_items.specs.Writing.{WritesWhole};
-ghost use Rattle.cbor4ii_items.specs.Numbers.{ReadsUnsigned, StopsUnsigned, shortest_head};
-ghost use Rattle.cbor4ii_items.specs.Laws.Arguments.{unsigned_one, unsigned_within};
-ghost use Rattle.cbor4ii_items.specs.Laws.Arguments.{unsigned_positive, unsigned_alone};
+ghost use Rattle.cbor4ii_items.specs.Numbers.{argument_spelling, shortest_head};
+ghost use Rattle.cbor4ii_items.specs.Laws.Arguments.{argument_lawful, zero_small};
 
 use crate::decode::{Decode, Spelled};
 use crate::encode::Encode;
@@ -16,25 +15,13 @@ use cbor4ii_rw::write::Write;
 use std::alloc::Global;
 
 impl Spelled for u8 {
-    ghost reads = { ReadsUnsigned 1 };
-
-    ghost same = { λ v w. v ≡ w };
-
-    ghost stops = { StopsUnsigned (codes "u8") 1 };
-
-    ghost begins = { StopsUnsigned (codes "u8") 1 };
-
-    ghost never_empty = { true };
-
-    ghost owned = { true };
-
-    ghost takes_memory = { false };
-
-    ghost closed = { true };
+    ghost spelling = { argument_spelling (codes "u8") 0 1 };
 
     fn is_never_empty() -> bool {
         true
     }
+
+    ghost lawful = { argument_lawful (codes "u8") 0 1 zero_small };
 }
 
 /// An unsigned integer whose argument has at most one byte, whether or not in its shortest head
@@ -48,14 +35,6 @@ impl<S: Source> Decode<S> for u8 {
     fn decode(alloc: Global, reader: &mut S) -> Result<u8, DecodeError<S::Error>> {
         Ok(lone_head(reader, "u8", major::UNSIGNED, 1)? as u8)
     }
-
-    ghost one = { unsigned_one 1 };
-
-    ghost within = { unsigned_within 1 };
-
-    ghost positive = { λ _. unsigned_positive 1 };
-
-    ghost alone = { λ _. unsigned_alone 1 };
 }
 
 /// The shortest head of major type 0 with this argument (RFC 8949 sections 3.1 and 4.1), in one
@@ -73,25 +52,13 @@ impl Encode for u8 {
 }
 
 impl Spelled for u16 {
-    ghost reads = { ReadsUnsigned 2 };
-
-    ghost same = { λ v w. v ≡ w };
-
-    ghost stops = { StopsUnsigned (codes "u16") 2 };
-
-    ghost begins = { StopsUnsigned (codes "u16") 2 };
-
-    ghost never_empty = { true };
-
-    ghost owned = { true };
-
-    ghost takes_memory = { false };
-
-    ghost closed = { true };
+    ghost spelling = { argument_spelling (codes "u16") 0 2 };
 
     fn is_never_empty() -> bool {
         true
     }
+
+    ghost lawful = { argument_lawful (codes "u16") 0 2 zero_small };
 }
 
 /// An unsigned integer whose argument has at most two bytes, whether or not in its shortest head
@@ -105,14 +72,6 @@ impl<S: Source> Decode<S> for u16 {
     fn decode(alloc: Global, reader: &mut S) -> Result<u16, DecodeError<S::Error>> {
         Ok(lone_head(reader, "u16", major::UNSIGNED, 2)? as u16)
     }
-
-    ghost one = { unsigned_one 2 };
-
-    ghost within = { unsigned_within 2 };
-
-    ghost positive = { λ _. unsigned_positive 2 };
-
-    ghost alone = { λ _. unsigned_alone 2 };
 }
 
 /// The shortest head of major type 0 with this argument, in one push, as of a `u8`.
@@ -129,25 +88,13 @@ impl Encode for u16 {
 }
 
 impl Spelled for u32 {
-    ghost reads = { ReadsUnsigned 4 };
-
-    ghost same = { λ v w. v ≡ w };
-
-    ghost stops = { StopsUnsigned (codes "u32") 4 };
-
-    ghost begins = { StopsUnsigned (codes "u32") 4 };
-
-    ghost never_empty = { true };
-
-    ghost owned = { true };
-
-    ghost takes_memory = { false };
-
-    ghost closed = { true };
+    ghost spelling = { argument_spelling (codes "u32") 0 4 };
 
     fn is_never_empty() -> bool {
         true
     }
+
+    ghost lawful = { argument_lawful (codes "u32") 0 4 zero_small };
 }
 
 /// An unsigned integer whose argument has at most four bytes, whether or not in its shortest head
@@ -161,14 +108,6 @@ impl<S: Source> Decode<S> for u32 {
     fn decode(alloc: Global, reader: &mut S) -> Result<u32, DecodeError<S::Error>> {
         Ok(lone_head(reader, "u32", major::UNSIGNED, 4)? as u32)
     }
-
-    ghost one = { unsigned_one 4 };
-
-    ghost within = { unsigned_within 4 };
-
-    ghost positive = { λ _. unsigned_positive 4 };
-
-    ghost alone = { λ _. unsigned_alone 4 };
 }
 
 /// The shortest head of major type 0 with this argument, in one push, as of a `u8`.
@@ -185,25 +124,13 @@ impl Encode for u32 {
 }
 
 impl Spelled for u64 {
-    ghost reads = { ReadsUnsigned 8 };
-
-    ghost same = { λ v w. v ≡ w };
-
-    ghost stops = { StopsUnsigned (codes "u64") 8 };
-
-    ghost begins = { StopsUnsigned (codes "u64") 8 };
-
-    ghost never_empty = { true };
-
-    ghost owned = { true };
-
-    ghost takes_memory = { false };
-
-    ghost closed = { true };
+    ghost spelling = { argument_spelling (codes "u64") 0 8 };
 
     fn is_never_empty() -> bool {
         true
     }
+
+    ghost lawful = { argument_lawful (codes "u64") 0 8 zero_small };
 }
 
 /// An unsigned integer whose argument has at most eight bytes, whether or not in its shortest head
@@ -217,14 +144,6 @@ impl<S: Source> Decode<S> for u64 {
     fn decode(alloc: Global, reader: &mut S) -> Result<u64, DecodeError<S::Error>> {
         lone_head(reader, "u64", major::UNSIGNED, 8)
     }
-
-    ghost one = { unsigned_one 8 };
-
-    ghost within = { unsigned_within 8 };
-
-    ghost positive = { λ _. unsigned_positive 8 };
-
-    ghost alone = { λ _. unsigned_alone 8 };
 }
 
 /// The shortest head of major type 0 with this argument, in one push, as of a `u8`.

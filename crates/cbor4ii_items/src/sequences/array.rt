@@ -1,8 +1,6 @@
 //! Arrays, read (RFC 8949 sections 3.1 and 3.2.2).
-ghost use Rattle.std.specs.Prelude.{true};
-ghost use Rattle.cbor4ii_items.specs.Sequences.{ReadsArray, SameArray, StopsArray};
-ghost use Rattle.cbor4ii_items.specs.Laws.Sequences.{array_one, array_within, array_positive};
-ghost use Rattle.cbor4ii_items.specs.Laws.Sequences.{array_alone};
+ghost use Rattle.cbor4ii_items.specs.Sequences.{array_spelling};
+ghost use Rattle.cbor4ii_items.specs.Laws.Sequences.{array_lawful};
 
 use crate::decode::{Decode, Spelled};
 use crate::major;
@@ -12,39 +10,19 @@ use cbor4ii_rw::read::Source;
 use std::alloc::Global;
 
 impl<T: Spelled> Spelled for Vec<T> {
-    ghost reads = { ReadsArray T.reads T.never_empty };
-
-    ghost same = { SameArray T.same };
-
-    ghost stops = { StopsArray T.reads T.stops T.never_empty };
-
-    ghost begins = { StopsArray T.reads T.begins T.never_empty };
-
-    ghost never_empty = { true };
-
-    ghost owned = { T.owned };
-
-    ghost takes_memory = { true };
-
-    ghost closed = { T.closed };
+    ghost spelling = { array_spelling T.spelling };
 
     fn is_never_empty() -> bool {
         true
     }
+
+    ghost lawful = { array_lawful T.spelling T.lawful };
 }
 
 impl<S: Source, T: Decode<S> + Drop> Sequence<S> for Vec<T> {
     type Part = T;
 
-    ghost reads = { T.reads };
-
-    ghost stops = { T.stops };
-
-    ghost begins = { T.begins };
-
-    ghost never_empty = { T.never_empty };
-
-    ghost owned = { T.owned };
+    ghost part = { T.spelling };
 
     fn is_part_never_empty() -> bool {
         T::is_never_empty()
@@ -55,11 +33,7 @@ impl<S: Source, T: Decode<S> + Drop> Sequence<S> for Vec<T> {
         T::decode(alloc, reader)
     }
 
-    ghost one = { λ xs v w n m c d p q. (T.one xs v w n m c d p q).0 };
-
-    ghost within = { T.within };
-
-    ghost positive = { T.positive };
+    ghost lawful = { T.lawful };
 }
 
 /// An array of items, counted or up to a break (RFC 8949 sections 3.1 and 3.2.2), under one step of
@@ -85,12 +59,4 @@ impl<S: Source, T: Decode<S> + Drop> Decode<S> for Vec<T> {
     fn decode(alloc: Global, reader: &mut S) -> Result<Vec<T>, DecodeError<S::Error>> {
         take_sequence::<S, Vec<T>>(alloc, reader, "array", major::ARRAY)
     }
-
-    ghost one = { array_one T.reads T.same T.never_empty T.one };
-
-    ghost within = { array_within T.reads T.never_empty T.within };
-
-    ghost positive = { λ _. array_positive T.reads T.never_empty };
-
-    ghost alone = { array_alone T.reads T.never_empty T.closed T.within T.positive T.alone };
 }

@@ -1,13 +1,11 @@
 //! Arrays and maps that are written in parts, and their lengths alone (RFC 8949 sections 3.1 and
 //! 3.2.2).
-ghost use Rattle.std.specs.Prelude.{◌≡◌, ◌+◌, ◌≤◌, OnOk, IfOk, IfErr, codes, false};
-ghost use Rattle.cbor4ii_items.specs.Decoding.{Sound, Refuses, Stops};
-ghost use Rattle.cbor4ii_items.specs.Lengths.{ReadsLength, StopsLength};
-ghost use Rattle.cbor4ii_items.specs.Moves.{Moves};
+ghost use Rattle.std.specs.Prelude.{codes};
 ghost use Rattle.cbor4ii_items.specs.Numbers.{shortest_head};
-ghost use Rattle.cbor4ii_items.specs.Refusal.{is_out_of_memory};
 ghost use Rattle.cbor4ii_items.specs.Strings.{opening, closing};
 ghost use Rattle.cbor4ii_items.specs.Writing.{WritesWhole};
+ghost use Rattle.cbor4ii_items.specs.Decoding.{Decodes};
+ghost use Rattle.cbor4ii_items.specs.Lengths.{length_spelling};
 
 use crate::head::lone_length;
 use crate::major;
@@ -25,14 +23,8 @@ impl Array<()> {
     /// and with k where the length has k bytes and fewer are left, nothing being left then;
     /// `Mismatch` with the first byte, which is taken, where it begins no array. The budget stays.
     pub fn len<S: Source>(reader: &mut S) -> Result<Option<usize>, DecodeError<S::Error>>
-        ensures moves { Moves (S.view reader.old) (S.view reader.new) result }
-        ensures memory { IfErr result (λ error. is_out_of_memory error ≡ false) }
-        ensures progress { OnOk result ((S.view reader.new).bound + 1 ≤ (S.view reader.old).bound) }
-        ensures sound { IfOk result
-            (Sound (ReadsLength 4) (S.view reader.old) (S.view reader.new)) }
-        ensures complete { IfErr result (Refuses (ReadsLength 4) (S.view reader.old)) }
-        ensures stops { IfErr result
-            (Stops (StopsLength (codes "array") 4) (S.view reader.old) (S.view reader.new)) }
+        ensures { Decodes (length_spelling (codes "array") 4)
+            (S.view reader.old) (S.view reader.new) result }
     {
         lone_length(reader, "array", major::ARRAY)
     }
@@ -78,14 +70,8 @@ impl Map<()> {
     /// with k where the length has k bytes and fewer are left, nothing being left then; `Mismatch`
     /// with the first byte, which is taken, where it begins no map. The budget stays.
     pub fn len<S: Source>(reader: &mut S) -> Result<Option<usize>, DecodeError<S::Error>>
-        ensures moves { Moves (S.view reader.old) (S.view reader.new) result }
-        ensures memory { IfErr result (λ error. is_out_of_memory error ≡ false) }
-        ensures progress { OnOk result ((S.view reader.new).bound + 1 ≤ (S.view reader.old).bound) }
-        ensures sound { IfOk result
-            (Sound (ReadsLength 5) (S.view reader.old) (S.view reader.new)) }
-        ensures complete { IfErr result (Refuses (ReadsLength 5) (S.view reader.old)) }
-        ensures stops { IfErr result
-            (Stops (StopsLength (codes "map") 5) (S.view reader.old) (S.view reader.new)) }
+        ensures { Decodes (length_spelling (codes "map") 5)
+            (S.view reader.old) (S.view reader.new) result }
     {
         lone_length(reader, "map", major::MAP)
     }

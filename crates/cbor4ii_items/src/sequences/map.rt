@@ -1,8 +1,6 @@
 //! Maps, read (RFC 8949 sections 3.1 and 3.2.2).
-ghost use Rattle.std.specs.Prelude.{◌&&◌, ◌||◌, true};
-ghost use Rattle.cbor4ii_items.specs.Sequences.{ReadsPair, StopsPair, ReadsMap, SameMap, StopsMap};
-ghost use Rattle.cbor4ii_items.specs.Laws.Sequences.{pair_size, pair_within, pair_positive};
-ghost use Rattle.cbor4ii_items.specs.Laws.Sequences.{map_one, map_within, map_positive, map_alone};
+ghost use Rattle.cbor4ii_items.specs.Sequences.{pair_spelling, map_spelling};
+ghost use Rattle.cbor4ii_items.specs.Laws.Sequences.{pair_lawful, map_lawful};
 
 use crate::decode::{Decode, Spelled};
 use crate::major;
@@ -13,39 +11,19 @@ use cbor4ii_rw::read::Source;
 use std::alloc::Global;
 
 impl<K: Spelled, V: Spelled> Spelled for Map<Vec<(K, V)>> {
-    ghost reads = { ReadsMap K.reads V.reads (K.never_empty || V.never_empty) };
-
-    ghost same = { SameMap K.same V.same };
-
-    ghost stops = { StopsMap K.reads V.reads K.stops V.stops (K.never_empty || V.never_empty) };
-
-    ghost begins = { StopsMap K.reads V.reads K.begins V.begins (K.never_empty || V.never_empty) };
-
-    ghost never_empty = { true };
-
-    ghost owned = { K.owned && V.owned };
-
-    ghost takes_memory = { true };
-
-    ghost closed = { K.closed && V.closed };
+    ghost spelling = { map_spelling K.spelling V.spelling };
 
     fn is_never_empty() -> bool {
         true
     }
+
+    ghost lawful = { map_lawful K.spelling V.spelling K.lawful V.lawful };
 }
 
 impl<S: Source, K: Decode<S> + Drop, V: Decode<S> + Drop> Sequence<S> for Map<Vec<(K, V)>> {
     type Part = (K, V);
 
-    ghost reads = { ReadsPair K.reads V.reads };
-
-    ghost stops = { StopsPair K.reads K.stops V.stops };
-
-    ghost begins = { StopsPair K.reads K.begins V.begins };
-
-    ghost never_empty = { K.never_empty || V.never_empty };
-
-    ghost owned = { K.owned && V.owned };
+    ghost part = { pair_spelling K.spelling V.spelling };
 
     fn is_part_never_empty() -> bool {
         K::is_never_empty() || V::is_never_empty()
@@ -58,12 +36,7 @@ impl<S: Source, K: Decode<S> + Drop, V: Decode<S> + Drop> Sequence<S> for Map<Ve
         Ok((key, value))
     }
 
-    ghost one = { pair_size K.reads V.reads K.same V.same K.one V.one };
-
-    ghost within = { pair_within K.reads V.reads K.within V.within };
-
-    ghost positive = { pair_positive K.reads V.reads K.never_empty V.never_empty
-        K.positive V.positive };
+    ghost lawful = { pair_lawful K.spelling V.spelling K.lawful V.lawful };
 }
 
 /// A map of pairs, read as an array is, each part being a key and its value (RFC 8949 sections 3.1
@@ -81,15 +54,4 @@ impl<S: Source, K: Decode<S> + Drop, V: Decode<S> + Drop> Decode<S> for Map<Vec<
     fn decode(alloc: Global, reader: &mut S) -> Result<Map<Vec<(K, V)>>, DecodeError<S::Error>> {
         Ok(Map(take_sequence::<S, Map<Vec<(K, V)>>>(alloc, reader, "map", major::MAP)?))
     }
-
-    ghost one = { map_one K.reads V.reads K.same V.same (K.never_empty || V.never_empty)
-        K.one V.one };
-
-    ghost within = { map_within K.reads V.reads (K.never_empty || V.never_empty)
-        K.within V.within };
-
-    ghost positive = { λ _. map_positive K.reads V.reads (K.never_empty || V.never_empty) };
-
-    ghost alone = { map_alone K.reads V.reads K.never_empty V.never_empty K.closed V.closed
-        K.within V.within K.positive V.positive K.alone V.alone };
 }

@@ -1,12 +1,9 @@
 //! What arrays and maps share: a head that counts parts, or parts up to a break (RFC 8949
 //! sections 3.1 and 3.2.2). A part of an array is an item, and one of a map a key and its value.
-ghost use Rattle.std.specs.Prelude.{◌≡◌, ℕ, ◌+◌, ◌≤◌, ◌<◌, List, Bool, length, OnOk, IfOk, IfErr};
-ghost use Rattle.std.specs.Prelude.{IsTrue};
-ghost use Rattle.cbor4ii_items.specs.Moves.{Moves};
-ghost use Rattle.cbor4ii_items.specs.Decoding.{Reads, StopsAt, IsExact, Sound, Refuses, Stops};
-ghost use Rattle.cbor4ii_items.specs.Sequences.{ReadsCount, ReadsUpToBreak, ReadsInside};
-ghost use Rattle.cbor4ii_items.specs.Sequences.{ReadsSequence, StopsCount, StopsUpToBreak};
-ghost use Rattle.cbor4ii_items.specs.Sequences.{StopsInside, StopsSequence, AddsPart};
+ghost use Rattle.std.specs.Prelude.{◌≡◌, ◌<◌};
+ghost use Rattle.cbor4ii_items.specs.Decoding.{Spelling, IsLawful, Decodes};
+ghost use Rattle.cbor4ii_items.specs.Sequences.{count_spelling, open_spelling, inside_spelling};
+ghost use Rattle.cbor4ii_items.specs.Sequences.{sequence_spelling};
 
 use crate::head::length;
 use crate::indefinite::take_break;
@@ -20,46 +17,18 @@ pub(crate) trait Sequence<S: Source>: Sized {
     /// An item, or a key and its value.
     type Part: Drop;
 
-    // What a part is read as, and how it is refused.
-    ghost reads: { Reads Self.Part };
-
-    ghost stops: { StopsAt };
-
-    // As `stops`, over any reader.
-    ghost begins: { StopsAt };
-
-    // No part is empty.
-    ghost never_empty: { Bool };
-
-    // A part needs no borrowed part of the input.
-    ghost owned: { Bool };
+    // How a part is spelled.
+    ghost part: { Spelling Self.Part };
 
     /// Whether a part always reads a byte.
     fn is_part_never_empty() -> bool
-        ensures { result ≡ never_empty };
+        ensures { result ≡ part.never_empty };
 
     /// Reads one part.
     fn take_part(alloc: Global, reader: &mut S) -> Result<Self::Part, DecodeError<S::Error>>
-        ensures moves { Moves (S.view reader.old) (S.view reader.new) result }
-        ensures progress { IsTrue Self.never_empty →
-            OnOk result ((S.view reader.new).bound + 1 ≤ (S.view reader.old).bound) }
-        ensures sound { IfOk result (Sound Self.reads (S.view reader.old) (S.view reader.new)) }
-        ensures complete { IsExact Self.owned (S.view reader.old) →
-            IfErr result (Refuses Self.reads (S.view reader.old)) }
-        ensures stops { IsExact Self.owned (S.view reader.old) →
-            IfErr result (Stops Self.stops (S.view reader.old) (S.view reader.new)) }
-        ensures begins { IfErr result (Stops Self.begins (S.view reader.old) (S.view reader.new)) };
+        ensures { Decodes Self.part (S.view reader.old) (S.view reader.new) result };
 
-    // One input is read in one way.
-    ghost one: { (xs : List ℕ) (p q : Self.Part) (n m c d : ℕ) → Self.reads xs p n c →
-        Self.reads xs q m d → n ≡ m };
-
-    // What is read stands in the input.
-    ghost within: { (xs : List ℕ) (p : Self.Part) (n c : ℕ) → Self.reads xs p n c → n ≤ length xs };
-
-    // Where no part is empty, a part reads a byte.
-    ghost positive: { IsTrue Self.never_empty → (xs : List ℕ) (p : Self.Part) (n c : ℕ) →
-        Self.reads xs p n c → 1 ≤ n };
+    ghost lawful: { IsLawful part };
 }
 
 /// Reads a sequence under one step.
@@ -70,18 +39,8 @@ pub(crate) fn take_sequence<S: Source, Q: Sequence<S>>(
     major: u8,
 ) -> Result<Vec<Q::Part>, DecodeError<S::Error>>
     requires { major < 8 }
-    ensures moves { Moves (S.view reader.old) (S.view reader.new) result }
-    ensures progress { OnOk result ((S.view reader.new).bound + 1 ≤ (S.view reader.old).bound) }
-    ensures sound { IfOk result (λ parts. Sound (ReadsSequence major Q.reads Q.never_empty)
-        (S.view reader.old) (S.view reader.new) parts.items) }
-    ensures complete { IsExact Q.owned (S.view reader.old) →
-        IfErr result (Refuses (ReadsSequence major Q.reads Q.never_empty) (S.view reader.old)) }
-    ensures stops { IsExact Q.owned (S.view reader.old) →
-        IfErr result (Stops (StopsSequence name.now major Q.reads Q.stops Q.never_empty)
-        (S.view reader.old) (S.view reader.new)) }
-    ensures begins { IfErr result
-        (Stops (StopsSequence name.now major Q.reads Q.begins Q.never_empty)
-        (S.view reader.old) (S.view reader.new)) }
+    ensures { Decodes (sequence_spelling name.now major Q.part)
+        (S.view reader.old) (S.view reader.new) result }
 {
     if !reader.step_in() {
         return Err(DecodeError::DepthOverflow { name });
@@ -99,17 +58,8 @@ fn take_inside<S: Source, Q: Sequence<S>>(
     major: u8,
 ) -> Result<Vec<Q::Part>, DecodeError<S::Error>>
     requires { major < 8 }
-    ensures moves { Moves (S.view reader.old) (S.view reader.new) result }
-    ensures progress { OnOk result ((S.view reader.new).bound + 1 ≤ (S.view reader.old).bound) }
-    ensures sound { IfOk result (λ parts. Sound (ReadsInside major Q.reads Q.never_empty)
-        (S.view reader.old) (S.view reader.new) parts.items) }
-    ensures complete { IsExact Q.owned (S.view reader.old) →
-        IfErr result (Refuses (ReadsInside major Q.reads Q.never_empty) (S.view reader.old)) }
-    ensures stops { IsExact Q.owned (S.view reader.old) →
-        IfErr result (Stops (StopsInside name.now major Q.reads Q.stops Q.never_empty)
-        (S.view reader.old) (S.view reader.new)) }
-    ensures begins { IfErr result (Stops (StopsInside name.now major Q.reads Q.begins Q.never_empty)
-        (S.view reader.old) (S.view reader.new)) }
+    ensures { Decodes (inside_spelling name.now major Q.part)
+        (S.view reader.old) (S.view reader.new) result }
 {
     match length(reader, name, major)? {
         Some(count) => take_counted::<S, Q>(alloc, reader, count),
@@ -123,23 +73,18 @@ fn take_counted<S: Source, Q: Sequence<S>>(
     reader: &mut S,
     count: u64,
 ) -> Result<Vec<Q::Part>, DecodeError<S::Error>>
-    ensures moves { Moves (S.view reader.old) (S.view reader.new) result }
-    ensures sound { IfOk result (λ parts. Sound (ReadsCount Q.reads count)
-        (S.view reader.old) (S.view reader.new) parts.items) }
-    ensures complete { IsExact Q.owned (S.view reader.old) →
-        IfErr result (Refuses (ReadsCount Q.reads count) (S.view reader.old)) }
-    ensures stops { IsExact Q.owned (S.view reader.old) →
-        IfErr result (Stops (StopsCount Q.reads Q.stops count)
-        (S.view reader.old) (S.view reader.new)) }
-    ensures begins { IfErr result (Stops (StopsCount Q.reads Q.begins count)
-        (S.view reader.old) (S.view reader.new)) }
+    ensures { Decodes (count_spelling Q.part count)
+        (S.view reader.old) (S.view reader.new) result }
 {
     let mut parts = Vec::new(alloc);
     if parts.reserve(items_ahead(count as usize)).is_err() {
         return Err(DecodeError::OutOfMemory);
     }
     for i in 0..count {
-        add_part::<S, Q>(alloc, reader, &mut parts)?;
+        let part = Q::take_part(alloc, reader)?;
+        if parts.push(part).is_err() {
+            return Err(DecodeError::OutOfMemory);
+        }
     }
     Ok(parts)
 }
@@ -150,16 +95,8 @@ fn take_open<S: Source, Q: Sequence<S>>(
     reader: &mut S,
     name: StaticStr,
 ) -> Result<Vec<Q::Part>, DecodeError<S::Error>>
-    ensures moves { Moves (S.view reader.old) (S.view reader.new) result }
-    ensures sound { IfOk result (λ parts. Sound (ReadsUpToBreak Q.reads Q.never_empty)
-        (S.view reader.old) (S.view reader.new) parts.items) }
-    ensures complete { IsExact Q.owned (S.view reader.old) →
-        IfErr result (Refuses (ReadsUpToBreak Q.reads Q.never_empty) (S.view reader.old)) }
-    ensures stops { IsExact Q.owned (S.view reader.old) →
-        IfErr result (Stops (StopsUpToBreak name.now Q.reads Q.stops Q.never_empty)
-        (S.view reader.old) (S.view reader.new)) }
-    ensures begins { IfErr result (Stops (StopsUpToBreak name.now Q.reads Q.begins Q.never_empty)
-        (S.view reader.old) (S.view reader.new)) }
+    ensures { Decodes (open_spelling name.now Q.part)
+        (S.view reader.old) (S.view reader.new) result }
 {
     let mut parts = Vec::new(alloc);
     while !take_break(reader)? {
@@ -169,32 +106,10 @@ fn take_open<S: Source, Q: Sequence<S>>(
                 found: Len::Indefinite,
             });
         }
-        add_part::<S, Q>(alloc, reader, &mut parts)?;
+        let part = Q::take_part(alloc, reader)?;
+        if parts.push(part).is_err() {
+            return Err(DecodeError::OutOfMemory);
+        }
     }
     Ok(parts)
-}
-
-/// Reads one part, behind those that `parts` holds.
-#[inline(always)]
-fn add_part<S: Source, Q: Sequence<S>>(
-    alloc: Global,
-    reader: &mut S,
-    parts: &mut Vec<Q::Part>,
-) -> Result<(), DecodeError<S::Error>>
-    ensures moves { Moves (S.view reader.old) (S.view reader.new) result }
-    ensures progress { IsTrue Q.never_empty →
-        OnOk result ((S.view reader.new).bound + 1 ≤ (S.view reader.old).bound) }
-    ensures sound { OnOk result
-        (AddsPart Q.reads parts.old.items parts.new.items (S.view reader.old) (S.view reader.new)) }
-    ensures complete { IsExact Q.owned (S.view reader.old) →
-        IfErr result (Refuses Q.reads (S.view reader.old)) }
-    ensures stops { IsExact Q.owned (S.view reader.old) →
-        IfErr result (Stops Q.stops (S.view reader.old) (S.view reader.new)) }
-    ensures begins { IfErr result (Stops Q.begins (S.view reader.old) (S.view reader.new)) }
-{
-    let part = Q::take_part(alloc, reader)?;
-    match parts.push(part) {
-        Ok(()) => Ok(()),
-        Err(_) => Err(DecodeError::OutOfMemory),
-    }
 }

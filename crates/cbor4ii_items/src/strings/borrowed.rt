@@ -1,12 +1,10 @@
 //! Borrowed strings, read: parts of the input, with no copy (RFC 8949 section 3.1).
-ghost use Rattle.std.specs.Prelude.{◌≡◌, ◌+◌, ◌≤◌, true, false, codes, OnOk, IfOk, IfErr, IsTrue};
-ghost use Rattle.cbor4ii_items.specs.Decoding.{IsExact, Sound, Refuses, Stops};
-ghost use Rattle.cbor4ii_items.specs.Lent.{ReadsLent, StopsLent, BeginsLent, lent_str, lent_bytes};
+ghost use Rattle.std.specs.Prelude.{◌≡◌, true, false, codes, IfOk};
+ghost use Rattle.cbor4ii_items.specs.Decoding.{Decodes};
+ghost use Rattle.cbor4ii_items.specs.Lent.{lent_spelling, lent_str, lent_bytes};
 ghost use Rattle.cbor4ii_items.specs.Lent.{lent_unchecked, IsOfInput, stands_anywhere};
 ghost use Rattle.cbor4ii_items.specs.Lent.{bytes_stand, unchecked_stands};
-ghost use Rattle.cbor4ii_items.specs.Moves.{Moves};
-ghost use Rattle.cbor4ii_items.specs.Refusal.{is_out_of_memory};
-ghost use Rattle.cbor4ii_items.specs.Laws.Lent.{lent_one, lent_within, lent_positive, lent_alone};
+ghost use Rattle.cbor4ii_items.specs.Laws.Lent.{lent_lawful};
 ghost use Rattle.cbor4ii_items.specs.Laws.Strings.{two_small, three_small};
 
 use crate::decode::{Decode, Spelled};
@@ -18,27 +16,15 @@ use cbor4ii_rw::read::Read;
 use std::alloc::Global;
 
 impl<'de> Spelled for &'de str {
-    ghost reads = { ReadsLent 3 true lent_str };
-
-    ghost same = { λ v w. lent_str v ≡ lent_str w };
-
-    ghost stops = { StopsLent (codes "str") 3 true };
-
-    ghost begins = { BeginsLent (codes "str") 3 true };
-
-    ghost never_empty = { true };
-
-    ghost owned = { false };
-
-    ghost takes_memory = { false };
-
-    ghost closed = { true };
+    ghost spelling = { lent_spelling (codes "str") 3 true lent_str };
 
     fn is_never_empty() -> bool
         ensures { result ≡ true }
     {
         true
     }
+
+    ghost lawful = { lent_lawful (codes "str") 3 three_small true lent_str };
 }
 
 impl<'de, R: Read<'de>> Lend<R> for &'de str {
@@ -80,38 +66,18 @@ impl<'de, R: Read<'de>> Decode<R> for &'de str {
     fn decode(alloc: Global, reader: &mut R) -> Result<&'de str, DecodeError<R::Error>> {
         take_lent(alloc, reader)
     }
-
-    ghost one = { lent_one 3 three_small true lent_str };
-
-    ghost within = { lent_within 3 three_small true lent_str };
-
-    ghost positive = { λ _. lent_positive 3 three_small true lent_str };
-
-    ghost alone = { λ _. lent_alone 3 three_small true lent_str };
 }
 
 impl<'de> Spelled for Bytes<&'de [u8]> {
-    ghost reads = { ReadsLent 2 false lent_bytes };
-
-    ghost same = { λ v w. lent_bytes v ≡ lent_bytes w };
-
-    ghost stops = { StopsLent (codes "bytes") 2 false };
-
-    ghost begins = { BeginsLent (codes "bytes") 2 false };
-
-    ghost never_empty = { true };
-
-    ghost owned = { false };
-
-    ghost takes_memory = { false };
-
-    ghost closed = { true };
+    ghost spelling = { lent_spelling (codes "bytes") 2 false lent_bytes };
 
     fn is_never_empty() -> bool
         ensures { result ≡ true }
     {
         true
     }
+
+    ghost lawful = { lent_lawful (codes "bytes") 2 two_small false lent_bytes };
 }
 
 impl<'de, R: Read<'de>> Lend<R> for Bytes<&'de [u8]> {
@@ -155,54 +121,23 @@ impl<'de, R: Read<'de>> Lend<R> for Bytes<&'de [u8]> {
 impl<'de, R: Read<'de>> Decode<R> for Bytes<&'de [u8]> {
     fn decode(alloc: Global, reader: &mut R) -> Result<Bytes<&'de [u8]>, DecodeError<R::Error>>
         ensures place { IfOk result (λ v. IsOfInput v.0 (R.view reader.old) (R.view reader.new)) }
-        ensures moves { Moves (R.view reader.old) (R.view reader.new) result }
-        ensures progress { IsTrue true →
-            OnOk result ((R.view reader.new).bound + 1 ≤ (R.view reader.old).bound) }
-        ensures memory { IfErr result (λ error. IsTrue (is_out_of_memory error) → IsTrue false) }
-        ensures sound { IfOk result
-            (Sound (ReadsLent 2 false lent_bytes) (R.view reader.old) (R.view reader.new)) }
-        ensures complete { IsExact false (R.view reader.old) →
-            IfErr result (Refuses (ReadsLent 2 false lent_bytes) (R.view reader.old)) }
-        ensures stops { IsExact false (R.view reader.old) →
-            IfErr result (Stops (StopsLent (codes "bytes") 2 false)
-            (R.view reader.old) (R.view reader.new)) }
-        ensures begins { IfErr result (Stops (BeginsLent (codes "bytes") 2 false)
-            (R.view reader.old) (R.view reader.new)) }
+        ensures decodes { Decodes (lent_spelling (codes "bytes") 2 false lent_bytes)
+            (R.view reader.old) (R.view reader.new) result }
     {
         take_lent(alloc, reader)
     }
-
-    ghost one = { lent_one 2 two_small false lent_bytes };
-
-    ghost within = { lent_within 2 two_small false lent_bytes };
-
-    ghost positive = { λ _. lent_positive 2 two_small false lent_bytes };
-
-    ghost alone = { λ _. lent_alone 2 two_small false lent_bytes };
 }
 
 impl<'de> Spelled for UncheckedStr<&'de [u8]> {
-    ghost reads = { ReadsLent 3 false lent_unchecked };
-
-    ghost same = { λ v w. lent_unchecked v ≡ lent_unchecked w };
-
-    ghost stops = { StopsLent (codes "str") 3 false };
-
-    ghost begins = { BeginsLent (codes "str") 3 false };
-
-    ghost never_empty = { true };
-
-    ghost owned = { false };
-
-    ghost takes_memory = { false };
-
-    ghost closed = { true };
+    ghost spelling = { lent_spelling (codes "str") 3 false lent_unchecked };
 
     fn is_never_empty() -> bool
         ensures { result ≡ true }
     {
         true
     }
+
+    ghost lawful = { lent_lawful (codes "str") 3 three_small false lent_unchecked };
 }
 
 impl<'de, R: Read<'de>> Lend<R> for UncheckedStr<&'de [u8]> {
@@ -248,28 +183,9 @@ impl<'de, R: Read<'de>> Decode<R> for UncheckedStr<&'de [u8]> {
         reader: &mut R,
     ) -> Result<UncheckedStr<&'de [u8]>, DecodeError<R::Error>>
         ensures place { IfOk result (λ v. IsOfInput v.0 (R.view reader.old) (R.view reader.new)) }
-        ensures moves { Moves (R.view reader.old) (R.view reader.new) result }
-        ensures progress { IsTrue true →
-            OnOk result ((R.view reader.new).bound + 1 ≤ (R.view reader.old).bound) }
-        ensures memory { IfErr result (λ error. IsTrue (is_out_of_memory error) → IsTrue false) }
-        ensures sound { IfOk result
-            (Sound (ReadsLent 3 false lent_unchecked) (R.view reader.old) (R.view reader.new)) }
-        ensures complete { IsExact false (R.view reader.old) →
-            IfErr result (Refuses (ReadsLent 3 false lent_unchecked) (R.view reader.old)) }
-        ensures stops { IsExact false (R.view reader.old) →
-            IfErr result (Stops (StopsLent (codes "str") 3 false)
-            (R.view reader.old) (R.view reader.new)) }
-        ensures begins { IfErr result (Stops (BeginsLent (codes "str") 3 false)
-            (R.view reader.old) (R.view reader.new)) }
+        ensures decodes { Decodes (lent_spelling (codes "str") 3 false lent_unchecked)
+            (R.view reader.old) (R.view reader.new) result }
     {
         take_lent(alloc, reader)
     }
-
-    ghost one = { lent_one 3 three_small false lent_unchecked };
-
-    ghost within = { lent_within 3 three_small false lent_unchecked };
-
-    ghost positive = { λ _. lent_positive 3 three_small false lent_unchecked };
-
-    ghost alone = { λ _. lent_alone 3 three_small false lent_unchecked };
 }

@@ -1,12 +1,10 @@
 //! The content of strings of known or of indefinite length, taken off a reader.
-ghost use Rattle.std.specs.Prelude.{◌+◌, ◌≤◌, ◌<◌, OnOk, IfOk, IfErr, []};
-ghost use Rattle.cbor4ii_items.specs.Decoding.{Sound, Refuses, Stops};
+ghost use Rattle.std.specs.Prelude.{◌+◌, ◌≤◌, ◌<◌, OnOk, []};
 ghost use Rattle.cbor4ii_items.specs.Contents.{listed};
 ghost use Rattle.cbor4ii_items.specs.Reading.{Runs};
-ghost use Rattle.cbor4ii_items.specs.Moves.{Moves};
 ghost use Rattle.cbor4ii_items.specs.ReadStrings.{content_on, string_at};
-ghost use Rattle.cbor4ii_items.specs.Strings.{ReadsString, StopsString, ReadsTextAs, StopsText};
-ghost use Rattle.cbor4ii_items.specs.Strings.{text_content};
+ghost use Rattle.cbor4ii_items.specs.Decoding.{Decodes};
+ghost use Rattle.cbor4ii_items.specs.Strings.{string_spelling, text_spelling, text_content};
 
 use crate::head::length;
 use crate::major;
@@ -23,13 +21,8 @@ pub(crate) fn take_text<S: Source>(
     reader: &mut S,
     name: StaticStr,
 ) -> Result<String, DecodeError<S::Error>>
-    ensures moves { Moves (S.view reader.old) (S.view reader.new) result }
-    ensures progress { OnOk result ((S.view reader.new).bound + 1 ≤ (S.view reader.old).bound) }
-    ensures sound { IfOk result
-        (Sound (ReadsTextAs text_content) (S.view reader.old) (S.view reader.new)) }
-    ensures complete { IfErr result (Refuses (ReadsTextAs text_content) (S.view reader.old)) }
-    ensures stops { IfErr result
-        (Stops (StopsText name.now) (S.view reader.old) (S.view reader.new)) }
+    ensures { Decodes (text_spelling name.now text_content)
+        (S.view reader.old) (S.view reader.new) result }
 {
     match String::from_utf8(lone_string(alloc, reader, name, major::STRING)?) {
         Ok(text) => Ok(text),
@@ -46,13 +39,8 @@ pub(crate) fn lone_string<S: Source>(
     major: u8,
 ) -> Result<Vec<u8>, DecodeError<S::Error>>
     requires { major < 8 }
-    ensures moves { Moves (S.view reader.old) (S.view reader.new) result }
-    ensures progress { OnOk result ((S.view reader.new).bound + 1 ≤ (S.view reader.old).bound) }
-    ensures sound { IfOk result (λ content. Sound (ReadsString major)
-        (S.view reader.old) (S.view reader.new) content.items) }
-    ensures complete { IfErr result (Refuses (ReadsString major) (S.view reader.old)) }
-    ensures stops { IfErr result
-        (Stops (StopsString name.now major) (S.view reader.old) (S.view reader.new)) }
+    ensures { Decodes (string_spelling name.now major)
+        (S.view reader.old) (S.view reader.new) (listed result) }
 {
     take_string(alloc, reader, name, major)
 }

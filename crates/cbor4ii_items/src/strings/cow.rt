@@ -1,5 +1,5 @@
 //! Strings that are borrowed from the input or owned, read (RFC 8949 sections 3.1 and 3.2.3).
-ghost use Rattle.std.specs.Prelude.{◌≡◌, ◌+◌, ◌≤◌, true, false, codes, OnOk, IfOk, IfErr, IsTrue};
+ghost use Rattle.std.specs.Prelude.{◌≡◌, true, false, codes, IfOk};
 ghost use mathlib.Core.Path.{refl};
 ghost use Rattle.std.specs.Cow.{IsBorrowedStr, IsOwnedStr};
 ghost use Rattle.cbor4ii_items.specs.Cow.{BorrowsWhereCounted, cow_text, cow_bytes, cow_unchecked};
@@ -8,13 +8,9 @@ ghost use Rattle.cbor4ii_items.specs.Cow.{IsOwnedUnchecked, nothing_to_test, cow
 ghost use Rattle.cbor4ii_items.specs.Cow.{cow_unchecked_stands, owned_stands};
 ghost use Rattle.cbor4ii_items.specs.Lent.{stands_anywhere};
 ghost use Rattle.cbor4ii_rw.specs.View.{Told};
-ghost use Rattle.cbor4ii_items.specs.Decoding.{IsExact, Sound, Refuses, Stops};
-ghost use Rattle.cbor4ii_items.specs.Moves.{Moves};
-ghost use Rattle.cbor4ii_items.specs.Refusal.{is_out_of_memory};
-ghost use Rattle.cbor4ii_items.specs.Strings.{ReadsAs, ReadsTextAs, StopsString, StopsText};
-ghost use Rattle.cbor4ii_items.specs.Laws.Strings.{two_small, three_small, as_one, as_within};
-ghost use Rattle.cbor4ii_items.specs.Laws.Strings.{as_positive, as_alone, text_one, text_within};
-ghost use Rattle.cbor4ii_items.specs.Laws.Strings.{text_positive, text_alone};
+ghost use Rattle.cbor4ii_items.specs.Decoding.{Decodes};
+ghost use Rattle.cbor4ii_items.specs.Strings.{as_spelling, text_spelling};
+ghost use Rattle.cbor4ii_items.specs.Laws.Strings.{two_small, three_small, as_lawful, text_lawful};
 
 use crate::decode::{Decode, Spelled};
 use crate::major;
@@ -27,27 +23,15 @@ use std::alloc::Global;
 use std::borrow::{CowSlice, CowStr};
 
 impl<'de> Spelled for CowStr<'de, Global> {
-    ghost reads = { ReadsTextAs cow_text };
-
-    ghost same = { λ v w. cow_text v ≡ cow_text w };
-
-    ghost stops = { StopsText (codes "str") };
-
-    ghost begins = { StopsText (codes "str") };
-
-    ghost never_empty = { true };
-
-    ghost owned = { true };
-
-    ghost takes_memory = { true };
-
-    ghost closed = { true };
+    ghost spelling = { text_spelling (codes "str") cow_text };
 
     fn is_never_empty() -> bool
         ensures { result ≡ true }
     {
         true
     }
+
+    ghost lawful = { text_lawful (codes "str") cow_text };
 }
 
 impl<'de, R: Read<'de>> LendOrOwn<R> for CowStr<'de, Global> {
@@ -112,55 +96,25 @@ impl<'de, R: Read<'de>> LendOrOwn<R> for CowStr<'de, Global> {
 /// - it is not UTF-8: `RequireUtf8`, and the whole item is taken
 impl<'de, R: Read<'de>> Decode<R> for CowStr<'de, Global> {
     fn decode(alloc: Global, reader: &mut R) -> Result<CowStr<'de, Global>, DecodeError<R::Error>>
-        ensures moves { Moves (R.view reader.old) (R.view reader.new) result }
-        ensures progress { IsTrue true →
-            OnOk result ((R.view reader.new).bound + 1 ≤ (R.view reader.old).bound) }
-        ensures memory { IfErr result (λ error. IsTrue (is_out_of_memory error) → IsTrue true) }
-        ensures sound { IfOk result
-            (Sound (ReadsTextAs cow_text) (R.view reader.old) (R.view reader.new)) }
-        ensures complete { IsExact true (R.view reader.old) →
-            IfErr result (Refuses (ReadsTextAs cow_text) (R.view reader.old)) }
-        ensures stops { IsExact true (R.view reader.old) →
-            IfErr result (Stops (StopsText (codes "str")) (R.view reader.old) (R.view reader.new)) }
-        ensures begins { IfErr result
-            (Stops (StopsText (codes "str")) (R.view reader.old) (R.view reader.new)) }
+        ensures decodes { Decodes (text_spelling (codes "str") cow_text)
+            (R.view reader.old) (R.view reader.new) result }
         ensures borrows { IfOk result
             (BorrowsWhereCounted 3 IsBorrowedStr IsOwnedStr (R.view reader.old)) }
     {
         take_cow(alloc, reader)
     }
-
-    ghost one = { text_one cow_text };
-
-    ghost within = { text_within cow_text };
-
-    ghost positive = { λ _. text_positive cow_text };
-
-    ghost alone = { λ _. text_alone cow_text };
 }
 
 impl<'de> Spelled for Bytes<CowSlice<'de, u8, Global>> {
-    ghost reads = { ReadsAs 2 cow_bytes };
-
-    ghost same = { λ v w. cow_bytes v ≡ cow_bytes w };
-
-    ghost stops = { StopsString (codes "bytes") 2 };
-
-    ghost begins = { StopsString (codes "bytes") 2 };
-
-    ghost never_empty = { true };
-
-    ghost owned = { true };
-
-    ghost takes_memory = { true };
-
-    ghost closed = { true };
+    ghost spelling = { as_spelling (codes "bytes") 2 cow_bytes };
 
     fn is_never_empty() -> bool
         ensures { result ≡ true }
     {
         true
     }
+
+    ghost lawful = { as_lawful (codes "bytes") 2 two_small cow_bytes };
 }
 
 impl<'de, R: Read<'de>> LendOrOwn<R> for Bytes<CowSlice<'de, u8, Global>> {
@@ -229,56 +183,25 @@ impl<'de, R: Read<'de>> Decode<R> for Bytes<CowSlice<'de, u8, Global>> {
     ) -> Result<Bytes<CowSlice<'de, u8, Global>>, DecodeError<R::Error>>
         ensures place { IfOk result (λ v. Told (R.view reader.old).told
             (λ _. cow_bytes_stand v (R.view reader.new))) }
-        ensures moves { Moves (R.view reader.old) (R.view reader.new) result }
-        ensures progress { IsTrue true →
-            OnOk result ((R.view reader.new).bound + 1 ≤ (R.view reader.old).bound) }
-        ensures memory { IfErr result (λ error. IsTrue (is_out_of_memory error) → IsTrue true) }
-        ensures sound { IfOk result
-            (Sound (ReadsAs 2 cow_bytes) (R.view reader.old) (R.view reader.new)) }
-        ensures complete { IsExact true (R.view reader.old) →
-            IfErr result (Refuses (ReadsAs 2 cow_bytes) (R.view reader.old)) }
-        ensures stops { IsExact true (R.view reader.old) →
-            IfErr result (Stops (StopsString (codes "bytes") 2)
-            (R.view reader.old) (R.view reader.new)) }
-        ensures begins { IfErr result
-            (Stops (StopsString (codes "bytes") 2) (R.view reader.old) (R.view reader.new)) }
+        ensures decodes { Decodes (as_spelling (codes "bytes") 2 cow_bytes)
+            (R.view reader.old) (R.view reader.new) result }
         ensures borrows { IfOk result
             (BorrowsWhereCounted 2 IsBorrowedBytes IsOwnedBytes (R.view reader.old)) }
     {
         take_cow(alloc, reader)
     }
-
-    ghost one = { as_one 2 two_small cow_bytes };
-
-    ghost within = { as_within 2 two_small cow_bytes };
-
-    ghost positive = { λ _. as_positive 2 two_small cow_bytes };
-
-    ghost alone = { λ _. as_alone 2 two_small cow_bytes };
 }
 
 impl<'de> Spelled for UncheckedStr<CowSlice<'de, u8, Global>> {
-    ghost reads = { ReadsAs 3 cow_unchecked };
-
-    ghost same = { λ v w. cow_unchecked v ≡ cow_unchecked w };
-
-    ghost stops = { StopsString (codes "str") 3 };
-
-    ghost begins = { StopsString (codes "str") 3 };
-
-    ghost never_empty = { true };
-
-    ghost owned = { true };
-
-    ghost takes_memory = { true };
-
-    ghost closed = { true };
+    ghost spelling = { as_spelling (codes "str") 3 cow_unchecked };
 
     fn is_never_empty() -> bool
         ensures { result ≡ true }
     {
         true
     }
+
+    ghost lawful = { as_lawful (codes "str") 3 three_small cow_unchecked };
 }
 
 impl<'de, R: Read<'de>> LendOrOwn<R> for UncheckedStr<CowSlice<'de, u8, Global>> {
@@ -347,30 +270,11 @@ impl<'de, R: Read<'de>> Decode<R> for UncheckedStr<CowSlice<'de, u8, Global>> {
     ) -> Result<UncheckedStr<CowSlice<'de, u8, Global>>, DecodeError<R::Error>>
         ensures place { IfOk result (λ v. Told (R.view reader.old).told
             (λ _. cow_unchecked_stands v (R.view reader.new))) }
-        ensures moves { Moves (R.view reader.old) (R.view reader.new) result }
-        ensures progress { IsTrue true →
-            OnOk result ((R.view reader.new).bound + 1 ≤ (R.view reader.old).bound) }
-        ensures memory { IfErr result (λ error. IsTrue (is_out_of_memory error) → IsTrue true) }
-        ensures sound { IfOk result
-            (Sound (ReadsAs 3 cow_unchecked) (R.view reader.old) (R.view reader.new)) }
-        ensures complete { IsExact true (R.view reader.old) →
-            IfErr result (Refuses (ReadsAs 3 cow_unchecked) (R.view reader.old)) }
-        ensures stops { IsExact true (R.view reader.old) →
-            IfErr result (Stops (StopsString (codes "str") 3)
-            (R.view reader.old) (R.view reader.new)) }
-        ensures begins { IfErr result
-            (Stops (StopsString (codes "str") 3) (R.view reader.old) (R.view reader.new)) }
+        ensures decodes { Decodes (as_spelling (codes "str") 3 cow_unchecked)
+            (R.view reader.old) (R.view reader.new) result }
         ensures borrows { IfOk result
             (BorrowsWhereCounted 3 IsBorrowedUnchecked IsOwnedUnchecked (R.view reader.old)) }
     {
         take_cow(alloc, reader)
     }
-
-    ghost one = { as_one 3 three_small cow_unchecked };
-
-    ghost within = { as_within 3 three_small cow_unchecked };
-
-    ghost positive = { λ _. as_positive 3 three_small cow_unchecked };
-
-    ghost alone = { λ _. as_alone 3 three_small cow_unchecked };
 }

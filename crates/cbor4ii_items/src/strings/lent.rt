@@ -1,13 +1,10 @@
 //! Content that is lent: parts of the input that live as long as it.
-ghost use Rattle.std.specs.Prelude.{◌≡◌, ℕ, ◌+◌, ◌≤◌, ◌<◌, List, Bool, length, take, OnOk, IfOk};
+ghost use Rattle.std.specs.Prelude.{◌≡◌, ℕ, ◌≤◌, ◌<◌, List, Bool, length, take, IfOk};
 ghost use Rattle.std.specs.Prelude.{IfErr, IsTrue, IsUtf8, true, false};
-ghost use Rattle.cbor4ii_items.specs.Decoding.{IsExact, Sound, Refuses, Stops};
-ghost use Rattle.cbor4ii_items.specs.Lent.{ReadsLent, StopsLent, BeginsLent, Lends, LacksContent};
-ghost use Rattle.cbor4ii_items.specs.Lent.{Named, IsOfInput};
 ghost use Rattle.cbor4ii_items.specs.Head.{IsBytes};
-ghost use Rattle.cbor4ii_items.specs.Moves.{Moves};
-ghost use Rattle.cbor4ii_items.specs.Refusal.{is_out_of_memory};
 ghost use Rattle.cbor4ii_rw.specs.View.{View, Told, place_of};
+ghost use Rattle.cbor4ii_items.specs.Decoding.{Decodes};
+ghost use Rattle.cbor4ii_items.specs.Lent.{lent_spelling, Lends, LacksContent, Named, IsOfInput};
 
 use crate::head::lone_head;
 use cbor4ii_rw::ask::lend;
@@ -71,19 +68,8 @@ pub(crate) fn take_lent<T: Lend<S>, S: Source>(
 ) -> Result<T, DecodeError<S::Error>>
     ensures place { IfOk result
         (λ v. Told (S.view reader.old).told (λ _. T.stands v (S.view reader.new))) }
-    ensures moves { Moves (S.view reader.old) (S.view reader.new) result }
-    ensures progress { IsTrue true →
-        OnOk result ((S.view reader.new).bound + 1 ≤ (S.view reader.old).bound) }
-    ensures memory { IfErr result (λ error. IsTrue (is_out_of_memory error) → IsTrue false) }
-    ensures sound { IfOk result (Sound (ReadsLent T.major T.is_text T.content)
-        (S.view reader.old) (S.view reader.new)) }
-    ensures complete { IsExact false (S.view reader.old) →
-        IfErr result (Refuses (ReadsLent T.major T.is_text T.content) (S.view reader.old)) }
-    ensures stops { IsExact false (S.view reader.old) →
-        IfErr result (Stops (StopsLent T.name T.major T.is_text)
-        (S.view reader.old) (S.view reader.new)) }
-    ensures begins { IfErr result (Stops (BeginsLent T.name T.major T.is_text)
-        (S.view reader.old) (S.view reader.new)) }
+    ensures decodes { Decodes (lent_spelling T.name T.major T.is_text T.content)
+        (S.view reader.old) (S.view reader.new) result }
 {
     let count = lone_head(reader, T::name(), T::major(), 8)?;
     named(T::lend_from(reader, count), T::name())

@@ -1,14 +1,12 @@
 //! Content that is lent where the reader lends all of it, and copied otherwise.
 ghost use Rattle.std.specs.Prelude.{◌≡◌, ℕ, ◌+◌, ◌≤◌, ◌<◌, List, [], Bool, OnOk, IfOk, IfErr};
-ghost use Rattle.std.specs.Prelude.{IfSome, IsTrue, IsUtf8, true};
-ghost use Rattle.cbor4ii_items.specs.Cow.{ReadsEither, StopsEither, TakesContent};
-ghost use Rattle.cbor4ii_items.specs.Cow.{BorrowsWhereCounted, IsBorrowedWhereWhole, Holds};
-ghost use Rattle.cbor4ii_items.specs.Decoding.{Sound, Refuses, Stops, IsExact};
+ghost use Rattle.std.specs.Prelude.{IfSome, IsTrue, IsUtf8};
 ghost use Rattle.cbor4ii_items.specs.Lent.{Lends, LacksContent};
-ghost use Rattle.cbor4ii_items.specs.Moves.{Moves};
 ghost use Rattle.cbor4ii_items.specs.ReadStrings.{content_on, string_at};
-ghost use Rattle.cbor4ii_items.specs.Refusal.{is_out_of_memory};
 ghost use Rattle.cbor4ii_rw.specs.View.{View, Told};
+ghost use Rattle.cbor4ii_items.specs.Cow.{either_spelling, TakesContent, BorrowsWhereCounted};
+ghost use Rattle.cbor4ii_items.specs.Cow.{IsBorrowedWhereWhole, Holds};
+ghost use Rattle.cbor4ii_items.specs.Decoding.{Decodes};
 
 use crate::head::length;
 use crate::strings::chunks::take_chunks;
@@ -81,19 +79,8 @@ pub(crate) fn take_cow<T: LendOrOwn<S>, S: Source>(
 ) -> Result<T, DecodeError<S::Error>>
     ensures place { IfOk result
         (λ v. Told (S.view reader.old).told (λ _. T.stands v (S.view reader.new))) }
-    ensures moves { Moves (S.view reader.old) (S.view reader.new) result }
-    ensures progress { IsTrue true →
-        OnOk result ((S.view reader.new).bound + 1 ≤ (S.view reader.old).bound) }
-    ensures memory { IfErr result (λ error. IsTrue (is_out_of_memory error) → IsTrue true) }
-    ensures sound { IfOk result (Sound (ReadsEither T.is_text T.major T.content)
-        (S.view reader.old) (S.view reader.new)) }
-    ensures complete { IsExact true (S.view reader.old) →
-        IfErr result (Refuses (ReadsEither T.is_text T.major T.content) (S.view reader.old)) }
-    ensures stops { IsExact true (S.view reader.old) →
-        IfErr result (Stops (StopsEither T.is_text T.name T.major)
-        (S.view reader.old) (S.view reader.new)) }
-    ensures begins { IfErr result (Stops (StopsEither T.is_text T.name T.major)
-        (S.view reader.old) (S.view reader.new)) }
+    ensures decodes { Decodes (either_spelling T.is_text T.name T.major T.content)
+        (S.view reader.old) (S.view reader.new) result }
     ensures borrows { IfOk result
         (BorrowsWhereCounted T.major T.IsBorrowed T.IsOwned (S.view reader.old)) }
 {

@@ -1,10 +1,8 @@
 //! Owned strings, read (RFC 8949 sections 3.1 and 3.2.3).
-ghost use Rattle.std.specs.Prelude.{◌≡◌, true, codes};
-ghost use Rattle.cbor4ii_items.specs.Strings.{ReadsAs, ReadsTextAs, StopsString, StopsText};
-ghost use Rattle.cbor4ii_items.specs.Strings.{bytes_content, unchecked_content, text_content};
-ghost use Rattle.cbor4ii_items.specs.Laws.Strings.{two_small, three_small, as_one, as_within};
-ghost use Rattle.cbor4ii_items.specs.Laws.Strings.{as_positive, as_alone, text_one, text_within};
-ghost use Rattle.cbor4ii_items.specs.Laws.Strings.{text_positive, text_alone};
+ghost use Rattle.std.specs.Prelude.{true, codes};
+ghost use Rattle.cbor4ii_items.specs.Strings.{as_spelling, text_spelling, bytes_content};
+ghost use Rattle.cbor4ii_items.specs.Strings.{unchecked_content, text_content};
+ghost use Rattle.cbor4ii_items.specs.Laws.Strings.{two_small, three_small, as_lawful, text_lawful};
 
 use crate::decode::{Decode, Spelled};
 use crate::major;
@@ -15,25 +13,13 @@ use cbor4ii_rw::read::Source;
 use std::alloc::Global;
 
 impl Spelled for Bytes<Vec<u8>> {
-    ghost reads = { ReadsAs 2 bytes_content };
-
-    ghost same = { λ v w. bytes_content v ≡ bytes_content w };
-
-    ghost stops = { StopsString (codes "bytes") 2 };
-
-    ghost begins = { StopsString (codes "bytes") 2 };
-
-    ghost never_empty = { true };
-
-    ghost owned = { true };
-
-    ghost takes_memory = { true };
-
-    ghost closed = { true };
+    ghost spelling = { as_spelling (codes "bytes") 2 bytes_content };
 
     fn is_never_empty() -> bool {
         true
     }
+
+    ghost lawful = { as_lawful (codes "bytes") 2 two_small bytes_content };
 }
 
 /// A byte string, of known or of indefinite length (RFC 8949 sections 3.1 and 3.2.3). Each chunk is
@@ -54,36 +40,16 @@ impl<S: Source> Decode<S> for Bytes<Vec<u8>> {
     fn decode(alloc: Global, reader: &mut S) -> Result<Bytes<Vec<u8>>, DecodeError<S::Error>> {
         Ok(Bytes(lone_string(alloc, reader, "bytes", major::BYTES)?))
     }
-
-    ghost one = { as_one 2 two_small bytes_content };
-
-    ghost within = { as_within 2 two_small bytes_content };
-
-    ghost positive = { λ _. as_positive 2 two_small bytes_content };
-
-    ghost alone = { λ _. as_alone 2 two_small bytes_content };
 }
 
 impl Spelled for UncheckedStr<Vec<u8>> {
-    ghost reads = { ReadsAs 3 unchecked_content };
-
-    ghost same = { λ v w. unchecked_content v ≡ unchecked_content w };
-
-    ghost stops = { StopsString (codes "str") 3 };
-
-    ghost begins = { StopsString (codes "str") 3 };
-
-    ghost never_empty = { true };
-
-    ghost owned = { true };
-
-    ghost takes_memory = { true };
-
-    ghost closed = { true };
+    ghost spelling = { as_spelling (codes "str") 3 unchecked_content };
 
     fn is_never_empty() -> bool {
         true
     }
+
+    ghost lawful = { as_lawful (codes "str") 3 three_small unchecked_content };
 }
 
 /// A text string, whatever its bytes, of known or of indefinite length (RFC 8949 sections 3.1 and
@@ -107,36 +73,16 @@ impl<S: Source> Decode<S> for UncheckedStr<Vec<u8>> {
     ) -> Result<UncheckedStr<Vec<u8>>, DecodeError<S::Error>> {
         Ok(UncheckedStr(lone_string(alloc, reader, "str", major::STRING)?))
     }
-
-    ghost one = { as_one 3 three_small unchecked_content };
-
-    ghost within = { as_within 3 three_small unchecked_content };
-
-    ghost positive = { λ _. as_positive 3 three_small unchecked_content };
-
-    ghost alone = { λ _. as_alone 3 three_small unchecked_content };
 }
 
 impl Spelled for String {
-    ghost reads = { ReadsTextAs text_content };
-
-    ghost same = { λ v w. text_content v ≡ text_content w };
-
-    ghost stops = { StopsText (codes "str") };
-
-    ghost begins = { StopsText (codes "str") };
-
-    ghost never_empty = { true };
-
-    ghost owned = { true };
-
-    ghost takes_memory = { true };
-
-    ghost closed = { true };
+    ghost spelling = { text_spelling (codes "str") text_content };
 
     fn is_never_empty() -> bool {
         true
     }
+
+    ghost lawful = { text_lawful (codes "str") text_content };
 }
 
 /// A text string that is UTF-8, of known or of indefinite length (RFC 8949 sections 3.1 and 3.2.3).
@@ -159,12 +105,4 @@ impl<S: Source> Decode<S> for String {
     fn decode(alloc: Global, reader: &mut S) -> Result<String, DecodeError<S::Error>> {
         take_text(alloc, reader, "str")
     }
-
-    ghost one = { text_one text_content };
-
-    ghost within = { text_within text_content };
-
-    ghost positive = { λ _. text_positive text_content };
-
-    ghost alone = { λ _. text_alone text_content };
 }

@@ -1,6 +1,7 @@
 -- What is put together of items is an item.
 use Rattle.std.proofs.Common.{◌≡◌, ◌≢◌, ℕ, suc, ◌^◌, ◌<◌, ◌≤◌, List, [], ◌∷◌, ◌++◌, length, Bool}
-use Rattle.std.proofs.Common.{true, false, Option, Some, None, refl, sym, ap, ap₂, ◌∙◌, subst, arith}
+use Rattle.std.proofs.Common.{true, false, Option, Some, None, refl, sym, ap, ap₂, ◌∙◌, subst}
+use Rattle.std.proofs.Common.{arith}
 use Rattle.std.proofs.Common.{append_assoc, ltb, ltb-true, encode_utf8}
 use Rattle.std.specs.Prelude.{All, IsUtf8, string_bytes, ℤ, pos, negsuc}
 use Rattle.std.specs.Char.{IsScalar}

@@ -110,7 +110,7 @@ string_of major content xs n c r =
     (h.0, h.1 ∙ ap (λ z. head major k (shortest k) ++ z) left)
 
 pub reached_string : {E : Type 0} (major : ℕ) (v : Vec ℕ Global) {a m : View}
-    → Moves {E = E} a m (Ok v) → Sound (ReadsShortestString major) a m v.items
+    → Moves {E = E} a m (Ok v.items) → Sound (ReadsShortestString major) a m v.items
     → Reached (StringAt major v.items) a m
 reached_string {E = E} major v {a = a} {m = m} moves s = record {
   kept = moves.by;

@@ -1,6 +1,6 @@
 -- Reading a value from its canonical spelling, as a decoding call, and what its answer says.
 use Rattle.std.proofs.Common.{◌≡◌, ℕ, List, [], ◌++◌, length, take, drop, None, Some, Ok, Err, inl}
-use Rattle.std.proofs.Common.{inr, refl, sym, ap, ◌∙◌, subst, arith, IfSome, append_assoc}
+use Rattle.std.proofs.Common.{◌+◌, ◌≤◌, inr, refl, sym, ap, ◌∙◌, subst, arith, IfSome, append_assoc}
 use Rattle.std.proofs.Common.{append-nil, length-append, take-append-drop}
 use Rattle.std.specs.Prelude.{◌⊎◌}
 use Rattle.std.proofs.Math.Seq.{drop-append_seam, take-append_seam}
@@ -8,6 +8,9 @@ use Rattle.cbor4ii_rw.specs.View.{View}
 use Rattle.cbor4ii_rw.specs.declared.error.DecodeError.{DecodeError}
 use Rattle.cbor4ii_items.specs.Refusal.{Refusal, refusal_of}
 use Rattle.cbor4ii_items.specs.Decoding.{CostFits, Sound, Refuses, Stops, NoneRead}
+use Rattle.cbor4ii_items.specs.Decoding.{Decodes}
+use Rattle.cbor4ii_items.specs.Laws.Calls.{ok}
+use Rattle.cbor4ii_items.specs.Laws.Steps.{moves_err}
 use Rattle.cbor4ii_tree.specs.declared.value.Value.{Value}
 use Rattle.cbor4ii_tree.specs.declared.decode_canonical.Canonical.{Canonical}
 use Rattle.cbor4ii_tree.specs.Tree.{bytes}
@@ -24,7 +27,7 @@ use Rattle.cbor4ii_tree.specs.Canonically.{ReadsCanonical, StopsCanonical, IsNot
 use Rattle.cbor4ii_tree.specs.Canonically.{OnlyCanonical, AllCanonical, TakesSpelling}
 use Rattle.cbor4ii_tree.specs.Canonically.{EverySpelling, FrontCanonical, DepthCanonical}
 use Rattle.cbor4ii_tree.specs.Canonically.{NeverCanonical, OthersCanonical, ValueCanonical}
-use Rattle.cbor4ii_tree.specs.Canonically.{ExactCanonical}
+use Rattle.cbor4ii_tree.specs.Canonically.{ExactCanonical, canonical_spelling}
 use Rattle.cbor4ii_tree.specs.Promises.{EofReads}
 use Rattle.cbor4ii_tree.specs.View.{view}
 use Rattle.cbor4ii_tree.specs.Does.{Does}
@@ -110,7 +113,7 @@ may_stop budget xs e rest h = elim (strictly_as_value xs budget e rest h) [
 
 module _ {E : Type 0} {a b : View} {v : Value}
     (d : Does {E = E} (ReadsExactly a.budget) (StopsExactly a.budget) a b (Ok v)) where
-  pub canonical_sound : Sound ReadsCanonical a b (record { 0 = v })
+  canonical_sound : Sound ReadsCanonical a b (record { 0 = v })
   canonical_sound = record {
     at = λ xs told.
         let s = d.ok xs told in
@@ -136,6 +139,10 @@ module _ {E : Type 0} {a b : View} {v : Value}
         };
   }
 
+  pub canonical_ok : b.bound + 1 ≤ a.bound
+      → Decodes {E = E} canonical_spelling a b (Ok (record { 0 = v }))
+  canonical_ok progress = ok canonical_spelling d.moves.by (λ some. progress) canonical_sound
+
   pub canonical_only : OnlyCanonical {E = E} a b (Ok (record { 0 = v }))
   canonical_only = λ xs told. let s = d.ok xs told in (s.0, s.1, as_strictly a.budget xs v s.0 s.2)
 
@@ -148,8 +155,8 @@ module _ {E : Type 0} {a b : View} {v : Value}
       (sym s.2.3 ∙ r.begins ∙ ap (λ z. z ++ rest) (sym c.bytes_are)) in
       (sym s.2.2 ∙ ap value same.0 ∙ c.value_is, s.1 ∙ ap Some same.1)
 
-  pub canonical_spelling : TakesSpelling {E = E} a b (Ok (record { 0 = v }))
-  canonical_spelling = λ xs told.
+  pub takes_spelling : TakesSpelling {E = E} a b (Ok (record { 0 = v }))
+  takes_spelling = λ xs told.
       let s = d.ok xs told in
       let r = (reads_strictly_iff xs a.budget (view v) s.0).0 (as_strictly a.budget xs v s.0 s.2) in
       (s.0, s.1, r.0, r.1, r.2)
@@ -191,7 +198,7 @@ module _ {E : Type 0} {a b : View} {e : DecodeError E}
   says xs Q told f =
       stopped xs Q told (λ z ys is left h. f z ys left (strictly_lacks a.budget xs z ys h))
 
-  pub canonical_refuses : Refuses ReadsCanonical a e
+  canonical_refuses : Refuses ReadsCanonical a e
   canonical_refuses = record {
     at = λ xs told.
         says xs (λ z. NoneRead ReadsCanonical xs a.budget) told (λ z ys left h v n c r fits.
@@ -204,8 +211,19 @@ module _ {E : Type 0} {a b : View} {e : DecodeError E}
         ));
   }
 
-  pub canonical_stops : Stops StopsCanonical a b e
+  canonical_stops : Stops StopsCanonical a b e
   canonical_stops = record { at = λ xs told. d.err xs told }
+
+  pub canonical_err : Decodes canonical_spelling a b (Err e)
+  canonical_err = record {
+    moves = moves_err d.moves;
+    progress = λ some. tt;
+    memory = λ out. refl;
+    sound = tt;
+    complete = λ exact. canonical_refuses;
+    stops = λ exact. canonical_stops;
+    begins = canonical_stops;
+  }
 
   pub refused_all : AllCanonical {E = E} a b (Err e)
   refused_all = λ xs told w rest r. says xs (λ _. ⊥) told

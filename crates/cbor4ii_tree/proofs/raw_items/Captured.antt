@@ -16,6 +16,7 @@ use Rattle.cbor4ii_rw.specs.Long.{FillsLong, LendsNone}
 use Rattle.cbor4ii_rw.specs.declared.error.DecodeError.{DecodeError}
 use Rattle.cbor4ii_items.specs.Moves.{Kept, Broke, Moves}
 use Rattle.cbor4ii_items.specs.Decoding.{CostFits, IsExact, Sound, NoneRead, Refuses, Stops}
+use Rattle.cbor4ii_items.specs.Decoding.{Decodes}
 use Rattle.cbor4ii_items.specs.Refusal.{refusal_of, is_read, is_out_of_memory}
 use Rattle.cbor4ii_items.specs.Laws.Contents.{lends_front}
 use Rattle.cbor4ii_items.specs.Laws.Running.{shows_kept}
@@ -37,7 +38,7 @@ use Rattle.cbor4ii_tree.specs.Promises.{Answered, Refused}
 use Rattle.cbor4ii_tree.specs.Raw.{ReadsRaw, StopsRaw, BeginsRaw, RefusedFront, Unmoved}
 use Rattle.cbor4ii_tree.specs.Raw.{LeftAsTheyWere, raw_value, most}
 use Rattle.cbor4ii_tree.specs.Raw.{SkipsFront, StopsFront, Captured, NotCaptured, failed, not_lent}
-use Rattle.cbor4ii_tree.specs.Raw.{stopped, Captures}
+use Rattle.cbor4ii_tree.specs.Raw.{stopped, Captures, raw_spelling}
 
 -- ---- skipping in bytes that are lent
 
@@ -335,6 +336,18 @@ module _ {V E : Type 0} (content : V → List ℕ) (a b : View) where
         (λ z. (b.told ≡ Some xs) × ((left : List ℕ) × StopsSkipping xs a.budget z left))
         (λ z. (rest : List ℕ) × (b.told ≡ Some rest) × StopsRaw xs a.budget z rest)
         (λ z h. (xs, h.0, (refl, h.1))) (exact_stop e c exact xs told);
+  }
+
+  pub raw_decodes : (r : Result V (DecodeError E)) → Captures content a b r
+      → Decodes (raw_spelling content) a b r
+  raw_decodes r c = record {
+    moves = raw_moves r c;
+    progress = λ some. raw_progress r c;
+    memory = raw_memory r c;
+    sound = raw_sound r c;
+    complete = λ exact. raw_refuses r c exact;
+    stops = λ exact. raw_stops r c exact;
+    begins = raw_begins r c;
   }
 
   pub raw_whole : (r : Result V (DecodeError E)) → Captures content a b r → IsExact false a

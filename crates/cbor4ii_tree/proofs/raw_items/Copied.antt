@@ -1,11 +1,11 @@
 -- What a copied item says of the bytes.
-use Rattle.std.proofs.Common.{◌≡◌, ℕ, ◌+◌, ◌≤◌, inl, inr, List, [], drop, Some, Result, Ok, Err}
-use Rattle.std.proofs.Common.{true, false, refl, sym, subst, IfOk, IfErr, OnOk}
+use Rattle.std.proofs.Common.{◌≡◌, ℕ, inl, inr, List, [], drop, Some, Result, Ok, Err}
+use Rattle.std.proofs.Common.{true, false, refl, sym, subst, IfErr}
 use Rattle.std.proofs.Common.{IsTrue}
 use Rattle.cbor4ii_rw.specs.View.{View, Told}
 use Rattle.cbor4ii_rw.specs.declared.error.DecodeError.{DecodeError}
-use Rattle.cbor4ii_items.specs.Decoding.{IsExact, Sound, Refuses, Stops}
-use Rattle.cbor4ii_items.specs.Moves.{Moves}
+use Rattle.cbor4ii_items.specs.Decoding.{IsExact, Decodes}
+use Rattle.cbor4ii_items.specs.Laws.Calls.{in_memory, out_of_memory}
 use Rattle.cbor4ii_items.specs.Refusal.{is_out_of_memory}
 use Rattle.cbor4ii_tree.specs.declared.boxed_raw.BoxedRawValue.{BoxedRawValue}
 use Rattle.cbor4ii_tree.specs.Tree.{Tree, bytes}
@@ -14,14 +14,12 @@ use Rattle.cbor4ii_tree.specs.Refusal.{Refusal}
 use Rattle.cbor4ii_tree.specs.Spelling.{Skips}
 use Rattle.cbor4ii_tree.specs.StopsSkipping.{StopsSkipping}
 use Rattle.cbor4ii_tree.specs.Promises.{Answered, Refused}
-use Rattle.cbor4ii_tree.specs.Raw.{ReadsRaw, StopsRaw, BeginsRaw, RefusedFront, SkipsFront}
+use Rattle.cbor4ii_tree.specs.Raw.{raw_spelling, RefusedFront, SkipsFront}
 use Rattle.cbor4ii_tree.specs.BoxedRaw.{boxed_content, CapturesCopy, UnmovedOrLacks, SkippedTo}
-use Rattle.cbor4ii_tree.specs.BoxedRaw.{CopiesItem}
+use Rattle.cbor4ii_tree.specs.BoxedRaw.{CopiesItem, boxed_raw_spelling}
 use Rattle.cbor4ii_tree.proofs.raw_items.Unlent.{no_item}
-use Rattle.cbor4ii_tree.proofs.raw_items.Captured.{item_at, skips_read, raw_moves, raw_progress}
-use Rattle.cbor4ii_tree.proofs.raw_items.Captured.{raw_memory, raw_unmoved, raw_refused, raw_sound}
-use Rattle.cbor4ii_tree.proofs.raw_items.Captured.{raw_refuses, raw_stops, raw_begins, raw_whole}
-use Rattle.cbor4ii_tree.proofs.raw_items.Captured.{raw_exact}
+use Rattle.cbor4ii_tree.proofs.raw_items.Captured.{item_at, skips_read, raw_decodes, raw_memory}
+use Rattle.cbor4ii_tree.proofs.raw_items.Captured.{raw_unmoved, raw_refused, raw_whole, raw_exact}
 
 -- ---- a copy of what was lent
 
@@ -33,46 +31,15 @@ none_read none is item = absurd (no_item none is item)
 -- ---- what a copied item says of the bytes
 
 module _ {E : Type 0} (a b : View) where
-  copy_moves : (r : Result BoxedRawValue (DecodeError E)) → CapturesCopy a b r → Moves a b r
-  copy_moves (Ok v) c = raw_moves boxed_content a b (Ok v) c
-  copy_moves (Err e) (inl n) = raw_moves boxed_content a b (Err e) n
-  copy_moves (Err e) (inr l) =
-      subst (λ (z : DecodeError E). Moves {V = BoxedRawValue} a b (Err z)) (sym l.lacks)
-      (record { by = l.captured.lends.kept; depth = λ none. refl })
-
-  copy_progress : (r : Result BoxedRawValue (DecodeError E)) → CapturesCopy a b r
-      → OnOk r (b.bound + 1 ≤ a.bound)
-  copy_progress (Ok v) c = raw_progress {E = E} boxed_content a b (Ok v) c
-  copy_progress (Err e) c = tt
-
-  copy_sound : (r : Result BoxedRawValue (DecodeError E)) → CapturesCopy a b r
-      → IfOk r (Sound (ReadsRaw boxed_content) a b)
-  copy_sound (Ok v) c = raw_sound {E = E} boxed_content a b (Ok v) c
-  copy_sound (Err e) c = tt
-
-  copy_refuses : (r : Result BoxedRawValue (DecodeError E)) → CapturesCopy a b r → IsExact false a
-      → IfErr r (Refuses (ReadsRaw boxed_content) a)
-  copy_refuses (Ok v) c exact = tt
-  copy_refuses (Err e) (inl n) exact = raw_refuses boxed_content a b (Err e) n exact
-  copy_refuses (Err e) (inr l) exact =
-      subst (λ (z : DecodeError E). Refuses (ReadsRaw boxed_content) a z) (sym l.lacks)
-      (record { at = λ xs told. tt })
-
-  copy_stops : (r : Result BoxedRawValue (DecodeError E)) → CapturesCopy a b r → IsExact false a
-      → IfErr r (Stops StopsRaw a b)
-  copy_stops (Ok v) c exact = tt
-  copy_stops (Err e) (inl n) exact = raw_stops boxed_content a b (Err e) n exact
-  copy_stops (Err e) (inr l) exact =
-      subst (λ (z : DecodeError E). Stops StopsRaw a b z) (sym l.lacks)
-      (record { at = λ xs told. tt })
-
-  copy_begins : (r : Result BoxedRawValue (DecodeError E)) → CapturesCopy a b r
-      → IfErr r (Stops BeginsRaw a b)
-  copy_begins (Ok v) c = tt
-  copy_begins (Err e) (inl n) = raw_begins boxed_content a b (Err e) n
-  copy_begins (Err e) (inr l) =
-      subst (λ (z : DecodeError E). Stops BeginsRaw a b z) (sym l.lacks)
-      (record { at = λ xs told. tt })
+  copy_decodes : (r : Result BoxedRawValue (DecodeError E)) → CapturesCopy a b r
+      → Decodes boxed_raw_spelling a b r
+  copy_decodes (Ok v) c =
+      in_memory (raw_spelling boxed_content) (Ok v) (raw_decodes boxed_content a b (Ok v) c)
+  copy_decodes (Err e) (inl n) =
+      in_memory (raw_spelling boxed_content) (Err e) (raw_decodes boxed_content a b (Err e) n)
+  copy_decodes (Err e) (inr l) =
+      subst (λ (z : DecodeError E). Decodes boxed_raw_spelling a b (Err z)) (sym l.lacks)
+      (out_of_memory boxed_raw_spelling refl l.captured.lends.kept)
 
   copy_whole : (r : Result BoxedRawValue (DecodeError E)) → CapturesCopy a b r → IsExact false a
       → Told a.told (λ xs. (t : Tree) (rest : List ℕ) → Skips xs a.budget t rest
@@ -123,24 +90,13 @@ module _ {E : Type 0} (a b : View) where
         (c.lends.at xs told).1,
       )
 
-  may_lack : (r : Result BoxedRawValue (DecodeError E))
-      → IfErr r (λ e. IsTrue (is_out_of_memory e) → IsTrue true)
-  may_lack (Ok v) = tt
-  may_lack (Err e) = λ lacks. refl
-
   pub copies_item : (r : Result BoxedRawValue (DecodeError E)) → CapturesCopy a b r
       → CopiesItem a b r
   copies_item r c = record {
-    moves = copy_moves r c;
-    progress = copy_progress r c;
-    sound = copy_sound r c;
-    memory = may_lack r;
-    begins = copy_begins r c;
+    decodes = copy_decodes r c;
     unmoved = copy_unmoved r c;
     refuses = copy_refused r c;
     behind = copy_behind r c;
-    complete = copy_refuses r c;
-    stops = copy_stops r c;
     whole = copy_whole r c;
     exact = copy_exact r c;
   }

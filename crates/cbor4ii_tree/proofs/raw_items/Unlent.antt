@@ -1,20 +1,17 @@
 -- What is said of an item that is to be kept, where the reader lends nothing.
-use Rattle.std.proofs.Common.{◌≡◌, ℕ, inl, inr, List, [], length, drop, Some, false, refl, ap}
+use Rattle.std.proofs.Common.{◌≡◌, ℕ, inr, List, [], length, drop, Some, false, refl, ap}
 use Rattle.std.proofs.Common.{◌∙◌, subst, arith, length-append}
-use denote.Ref.{Bor}
 use Rattle.cbor4ii_rw.specs.View.{View}
-use Rattle.cbor4ii_rw.specs.Long.{FillsLong, LendsNone}
+use Rattle.cbor4ii_rw.specs.Long.{FillsLong}
 use Rattle.cbor4ii_rw.specs.Reader.{KeepsAllButBudget}
 use Rattle.cbor4ii_rw.specs.declared.error.DecodeError.{DecodeError}
-use Rattle.cbor4ii_rw.specs.declared.error.DecodeError.TheVariants.{RequireBorrowed}
 use Rattle.cbor4ii_items.specs.Decoding.{Stops}
 use Rattle.cbor4ii_items.specs.Refusal.{refusal_of, is_out_of_memory}
 use Rattle.cbor4ii_tree.specs.Tree.{bytes}
 use Rattle.cbor4ii_tree.specs.Cost.{Budget}
 use Rattle.cbor4ii_tree.specs.Laws.Initials.{length-bytes-pos}
-use Rattle.cbor4ii_tree.specs.Refusal.{require_borrowed}
 use Rattle.cbor4ii_tree.specs.StopsSkipping.{StopsSkipping}
-use Rattle.cbor4ii_tree.specs.Raw.{raw_value, most, SkipsFront, StopsFront}
+use Rattle.cbor4ii_tree.specs.Raw.{most, SkipsFront, StopsFront}
 use Rattle.cbor4ii_tree.specs.BoxedRaw.{StopsRawUnlent}
 use Rattle.cbor4ii_tree.proofs.raw_items.Captured.{if_some}
 
@@ -29,14 +26,6 @@ no_item {budget = budget} {n = n} none is item =
       length-append (bytes i.skipped) (drop n []),
       length-bytes-pos i.skipped,
     ))
-
--- some bytes are left
-pub some_stops : {E : Type 0} {a b : View} (name : Bor (List ℕ)) → name.now ≡ raw_value
-    → LendsNone a b → Stops {E = E} StopsRawUnlent a b (RequireBorrowed name)
-some_stops name named n = record {
-  at = λ xs told.
-      (xs, n.stays.told xs told, (refl, inl (n.some xs told, ap require_borrowed named)));
-}
 
 -- no byte is left
 pub none_stops : {E : Type 0} {shown lent : List ℕ} {a m k : View} {e : DecodeError E} → lent ≡ []

@@ -1,21 +1,24 @@
 -- Skipping, as a decoding call.
 use Rattle.std.proofs.Common.{◌≡◌, ℕ, List, ◌++◌, length, drop, Option, None, Some, Ok, Err, refl}
-use Rattle.std.proofs.Common.{sym, ap, ◌∙◌, subst, IfSome}
+use Rattle.std.proofs.Common.{◌+◌, ◌≤◌, false, sym, ap, ◌∙◌, subst, IfSome}
 use Rattle.std.proofs.Math.Seq.{drop-append_seam}
 use Rattle.cbor4ii_rw.specs.View.{View}
 use Rattle.cbor4ii_rw.specs.declared.error.DecodeError.{DecodeError}
-use Rattle.cbor4ii_items.specs.Refusal.{Refusal, refusal_of}
-use Rattle.cbor4ii_items.specs.Decoding.{Sound, Refuses, NoneRead, CostFits}
+use Rattle.cbor4ii_items.specs.Refusal.{Refusal, refusal_of, is_out_of_memory}
+use Rattle.cbor4ii_items.specs.Decoding.{Sound, Refuses, NoneRead, CostFits, Decodes}
+use Rattle.cbor4ii_items.specs.Decoding.{leaf_spelling}
+use Rattle.cbor4ii_items.specs.Laws.Calls.{ok, no_memory}
+use Rattle.cbor4ii_items.specs.Laws.Steps.{moves_err}
 use Rattle.cbor4ii_tree.specs.declared.ignored.IgnoredAny.{IgnoredAny}
 use Rattle.cbor4ii_tree.specs.Tree.{bytes}
 use Rattle.cbor4ii_tree.specs.Cost.{skip_cost}
 use Rattle.cbor4ii_tree.specs.Does.{Does}
-use Rattle.cbor4ii_tree.specs.Ignored.{ReadsIgnored}
+use Rattle.cbor4ii_tree.specs.Ignored.{ReadsIgnored, StopsIgnored}
 use Rattle.cbor4ii_tree.specs.Skipping.{SkipsOne, StopsSkippingOne}
 use Rattle.cbor4ii_tree.specs.StopsSkipping.{StopsSkipping}
 use Rattle.cbor4ii_tree.proofs.skipping.Answer.{not_both}
 
-pub ignored_sound : {E : Type 0} (v : IgnoredAny) {u : Unit {0}} {a b : View}
+ignored_sound : {E : Type 0} (v : IgnoredAny) {u : Unit {0}} {a b : View}
     → Does {E = E} (λ xs _ ys. SkipsOne a.budget xs ys) (StopsSkippingOne a.budget) a b (Ok u)
     → Sound ReadsIgnored a b v
 ignored_sound v d = record {
@@ -50,8 +53,27 @@ none_skipped (Some z) xs budget new h =
       begins = r.begins;
     }) h.2
 
-pub ignored_refuses : {U E : Type 0} {e : DecodeError E} {a b : View}
+ignored_refuses : {U E : Type 0} {e : DecodeError E} {a b : View}
     → Does {V = U} (λ xs _ ys. SkipsOne a.budget xs ys) (StopsSkippingOne a.budget) a b (Err e)
     → Refuses ReadsIgnored a e
 ignored_refuses {e = e} {a = a} {b = b} d =
     record { at = λ xs told. none_skipped (refusal_of e) xs a.budget b.told (d.err xs told) }
+
+pub ignored_ok : {E : Type 0} (v : IgnoredAny) {u : Unit {0}} {a b : View}
+    → Does {E = E} (λ xs _ ys. SkipsOne a.budget xs ys) (StopsSkippingOne a.budget) a b (Ok u)
+    → b.bound + 1 ≤ a.bound → Decodes {E = E} (leaf_spelling ReadsIgnored StopsIgnored) a b (Ok v)
+ignored_ok v d progress =
+    ok (leaf_spelling ReadsIgnored StopsIgnored) d.moves.by (λ some. progress) (ignored_sound v d)
+
+pub ignored_err : {U E : Type 0} {e : DecodeError E} {a b : View}
+    → Does {V = U} (λ xs _ ys. SkipsOne a.budget xs ys) (StopsSkippingOne a.budget) a b (Err e)
+    → is_out_of_memory e ≡ false → Decodes (leaf_spelling ReadsIgnored StopsIgnored) a b (Err e)
+ignored_err {e = e} d spares = record {
+  moves = moves_err d.moves;
+  progress = λ some. tt;
+  memory = no_memory {V = IgnoredAny} (Err e) spares;
+  sound = tt;
+  complete = λ exact. ignored_refuses d;
+  stops = λ exact. record { at = d.err };
+  begins = record { at = d.err };
+}

@@ -13,6 +13,7 @@ use Rattle.cbor4ii_items.specs.Laws.Steps.{counts_more}
 use Rattle.cbor4ii_items.specs.Moves.{Kept}
 use Rattle.cbor4ii_items.specs.Reading.{Runs, peek_at}
 use Rattle.cbor4ii_tree.specs.Cost.{Budget}
+use Rattle.cbor4ii_tree.specs.Deeper.{budgeted}
 use Rattle.cbor4ii_tree.specs.Does.{Accepting, Does}
 use Rattle.cbor4ii_tree.specs.Front.{Offers}
 use Rattle.cbor4ii_tree.specs.Leaf.{HeadStands, SeesLeaf, SeesNext, ShowsHead}
@@ -159,35 +160,8 @@ module _ {exact : Type 0} {major n size : ℕ} {a m : View} (s : ShowsHead exact
 
 -- ---- under a step
 
-pub with_budget : View → Budget → View
-with_budget a budget = record {
-  told = a.told;
-  bound = a.bound;
-  advanceable = a.advanceable;
-  budget = budget;
-  failures = a.failures;
-  taken = a.taken;
-  lends_whole = a.lends_whole;
-  remembers = a.remembers;
-  ends_at = a.ends_at;
-}
-
-pub budget_alone : (a : View) (budget : Budget) → KeepsAllButBudget a (with_budget a budget)
-unfolding with_budget
-budget_alone a budget = record {
-  told = refl;
-  bound = refl;
-  advanceable = refl;
-  failures = refl;
-  taken = refl;
-  lends_whole = refl;
-  remembers = refl;
-  ends_at = refl;
-}
-
 kept_stepped : {a m b : View} → Kept a m → KeepsAllButBudget m b
-    → Kept (with_budget a b.budget) b
-unfolding with_budget
+    → Kept (budgeted b.budget a) b
 kept_stepped {a = a} {m = m} {b = b} h k = record {
   rest = λ xs told.
       let t = h.rest xs told in
@@ -204,8 +178,7 @@ kept_stepped {a = a} {m = m} {b = b} h k = record {
 
 pub head_stepped : {exact : Type 0} {major n size : ℕ} {a m b : View}
     → ShowsHead exact major n size a m → KeepsAllButBudget m b
-    → ShowsHead exact major n size (with_budget a b.budget) b
-unfolding with_budget
+    → ShowsHead exact major n size (budgeted b.budget a) b
 head_stepped {a = a} {m = m} {b = b} s k = record {
   kept = kept_stepped s.kept k;
   can = omega (arith, s.can, k.advanceable);
@@ -243,8 +216,7 @@ module _ (first : ℕ) {E : Type 0} {a m : View}
       (λ xs ys p. sym p.2) (reached_peek value_name 1 first s)) d
 
   pub peek_stepped : {b : View} → KeepsAllButBudget m b
-      → Runs {V = ℕ} {E = E} (peek_at value_name 1) (with_budget a b.budget) b (Ok first)
-  unfolding with_budget
+      → Runs {V = ℕ} {E = E} (peek_at value_name 1) (budgeted b.budget a) b (Ok first)
   peek_stepped k = record {
     moves = record { by = kept_stepped s.moves.by k; depth = λ e. refl };
     answers = λ xs told.
@@ -252,8 +224,7 @@ module _ (first : ℕ) {E : Type 0} {a m : View}
   }
 
   pub peek_step : (b : View) → StepsIn m.budget b.budget true
-      → StepsIn a.budget (with_budget a b.budget).budget true
-  unfolding with_budget
+      → StepsIn a.budget (budgeted b.budget a).budget true
   peek_step b h = subst (λ o. StepsIn o b.budget true) s.moves.by.budget h
 
 -- ---- what a look has shown
@@ -271,7 +242,7 @@ module _ {E exact : Type 0} (n : Next) {a m : View} (s : ShowsNext E exact n a m
 
   -- under a step
   pub next_stepped : {b : View} → KeepsAllButBudget m b
-      → ShowsNext E exact n (with_budget a b.budget) b
+      → ShowsNext E exact n (budgeted b.budget a) b
   next_stepped k = record {
     first = record {
       runs = peek_stepped n.first s.first.runs k;
@@ -282,7 +253,7 @@ module _ {E exact : Type 0} (n : Next) {a m : View} (s : ShowsNext E exact n a m
 
   -- the step is one of the view before the look
   pub next_step : (b : View) → StepsIn m.budget b.budget true
-      → StepsIn a.budget (with_budget a b.budget).budget true
+      → StepsIn a.budget (budgeted b.budget a).budget true
   next_step b h = peek_step n.first s.first.runs b h
 
   -- its head

@@ -1,12 +1,15 @@
 -- Reading a value, as a decoding call, and what its answer says of the bytes.
 use Rattle.std.proofs.Common.{◌≡◌, ℕ, List, length, take, drop, Option, None, Some, Result, Ok, Err}
-use Rattle.std.proofs.Common.{refl, sym, ap, ◌∙◌, IfSome, IfOk, IfErr, arith, length-append}
+use Rattle.std.proofs.Common.{refl, sym, ap, ◌∙◌, IfSome, IfOk, IfErr, OnOk, ◌+◌, ◌≤◌, arith}
+use Rattle.std.proofs.Common.{length-append}
 use Rattle.std.proofs.Common.{take-append-drop}
 use Rattle.std.proofs.Math.Seq.{drop-append_seam, take-append_seam}
 use Rattle.cbor4ii_rw.specs.View.{View}
 use Rattle.cbor4ii_rw.specs.declared.error.DecodeError.{DecodeError}
 use Rattle.cbor4ii_items.specs.Refusal.{Refusal, refusal_of}
 use Rattle.cbor4ii_items.specs.Decoding.{Sound, Refuses, Stops, NoneRead, CostFits}
+use Rattle.cbor4ii_items.specs.Decoding.{Decodes}
+use Rattle.cbor4ii_items.specs.Laws.Calls.{any_memory}
 use Rattle.cbor4ii_tree.specs.declared.value.Value.{Value}
 use Rattle.cbor4ii_tree.specs.Tree.{bytes}
 use Rattle.cbor4ii_tree.specs.Item.{Item}
@@ -14,7 +17,7 @@ use Rattle.cbor4ii_tree.specs.Cost.{Budget, cost}
 use Rattle.cbor4ii_tree.specs.Spelling.{ReadsPlainly}
 use Rattle.cbor4ii_tree.specs.View.{view}
 use Rattle.cbor4ii_tree.specs.Does.{Does}
-use Rattle.cbor4ii_tree.specs.Promises.{ReadsValue}
+use Rattle.cbor4ii_tree.specs.Promises.{ReadsValue, value_spelling}
 use Rattle.cbor4ii_tree.specs.Valuing.{ReadsOneValue, StopsOneValue}
 use Rattle.cbor4ii_tree.specs.StopsReading.{StopsReading}
 use Rattle.cbor4ii_tree.proofs.reading.Answer.{not_both}
@@ -39,7 +42,7 @@ by_refusal (Some z) P Q f h = f z h
 -- ---- what a decoding call promises
 
 module _ {E : Type 0} {a b : View} where
-  pub value_sound : (r : Result Value (DecodeError E)) → Does (ReadsOneValue a.budget)
+  value_sound : (r : Result Value (DecodeError E)) → Does (ReadsOneValue a.budget)
       (StopsOneValue a.budget) a b r → IfOk r (Sound (λ xs (v : Value). ReadsValue xs (view v)) a b)
   value_sound (Err e) d = tt
   value_sound (Ok v) d = record {
@@ -67,7 +70,7 @@ module _ {E : Type 0} {a b : View} where
         };
   }
 
-  pub value_refuses : (r : Result Value (DecodeError E))
+  value_refuses : (r : Result Value (DecodeError E))
       → Does (ReadsOneValue a.budget) (StopsOneValue a.budget) a b r
       → IfErr r (Refuses (λ xs (v : Value). ReadsValue xs (view v)) a)
   value_refuses (Ok v) d = tt
@@ -80,7 +83,19 @@ module _ {E : Type 0} {a b : View} where
         (d.err xs told);
   }
 
-  pub value_stops : (r : Result Value (DecodeError E)) → Does (ReadsOneValue a.budget)
+  value_stops : (r : Result Value (DecodeError E)) → Does (ReadsOneValue a.budget)
       (StopsOneValue a.budget) a b r → IfErr r (Stops StopsReading a b)
   value_stops (Ok v) d = tt
   value_stops (Err e) d = record { at = λ xs told. d.err xs told }
+
+  pub value_decodes : (r : Result Value (DecodeError E)) → Does (ReadsOneValue a.budget)
+      (StopsOneValue a.budget) a b r → OnOk r (b.bound + 1 ≤ a.bound) → Decodes value_spelling a b r
+  value_decodes r d progress = record {
+    moves = d.moves;
+    progress = λ some. progress;
+    memory = any_memory r;
+    sound = value_sound r d;
+    complete = λ exact. value_refuses r d;
+    stops = λ exact. value_stops r d;
+    begins = value_stops r d;
+  }

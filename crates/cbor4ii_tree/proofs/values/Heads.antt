@@ -45,7 +45,7 @@ use Rattle.cbor4ii_tree.specs.Does.{Accepting, Does, answered}
 use Rattle.cbor4ii_tree.specs.Valuing.{HeadAt, ReadsOneValue, ReadsTagged, StopsOneValue}
 use Rattle.cbor4ii_tree.specs.Valuing.{ReadsUnder, StopsUnder, TakesTag}
 use Rattle.cbor4ii_tree.specs.Valuing.{StopsFirst, StopsOf, SimpleOf, TakesSimple}
-use Rattle.cbor4ii_tree.proofs.skip_calls.Doing.{Reached, reached_start, reached_by, reached_then}
+use Rattle.cbor4ii_tree.proofs.skip_calls.Doing.{Reached, reached_start, reached_by}
 use Rattle.cbor4ii_tree.proofs.skip_calls.Doing.{reached_as, does_ok, does_err, does_after}
 use Rattle.cbor4ii_tree.proofs.skip_calls.Doing.{does_refuse, does_stops, call_stops, reached_peek}
 use Rattle.cbor4ii_tree.proofs.skip_calls.Doing.{reached_first, reached_sound}
@@ -63,25 +63,6 @@ at_row inner i b bs e rest is h =
 
 module _ (b : ℕ) {E : Type 0} {a m : View}
     (first : Runs {E = E} (peek_at value_name 1) a m (Ok b)) where
-  pub arm_ok : {V : Type 0} (A : Accepting V) (S : Stopping) {v : V} {c : View} (w : Value)
-      → ((bs ys : List ℕ) → A (b ∷ bs) v ys → ReadsUnder a.budget (b ∷ bs) w ys)
-      → Does {E = E} A S m c (Ok v)
-      → Does {E = E} (ReadsUnder a.budget) (StopsUnder a.budget) a c (Ok w)
-  arm_ok A S {v = v} w f d = does_ok (ReadsUnder a.budget) (StopsUnder a.budget)
-      (reached_then (Peeked b) (λ xs ys. A xs v ys) (λ xs ys. ReadsUnder a.budget xs w ys)
-      (λ xs ys zs p h. subst (λ x. ReadsUnder a.budget x w zs) (sym p.1)
-      (f p.0 zs (subst (λ x. A x v zs) (p.2 ∙ p.1) h))) (reached_peek value_name 1 b first)
-      (reached_by d))
-
-  pub arm_err : {V : Type 0} (A : Accepting V) (S : Stopping) {e : DecodeError E} {c : View}
-      → ((bs : List ℕ) (z : Refusal) (rest : List ℕ) → S (b ∷ bs) z rest
-      → StopsUnder a.budget (b ∷ bs) z rest) → Does {V = V} A S m c (Err e)
-      → Does {V = Value} (ReadsUnder a.budget) (StopsUnder a.budget) a c (Err e)
-  arm_err A S f d = does_err (Peeked b) A (ReadsUnder a.budget) S (StopsUnder a.budget)
-      (λ xs ys z rest p h. subst (λ x. StopsUnder a.budget x z rest) (sym p.1)
-      (f p.0 z rest (subst (λ x. S x z rest) (p.2 ∙ p.1) h)))
-      (reached_peek value_name 1 b first) d
-
   pub arm_does : (A : Accepting Value) (S : Stopping) {r : Result Value (DecodeError E)} {c : View}
       → ((bs ys : List ℕ) (v : Value) → A (b ∷ bs) v ys → ReadsUnder a.budget (b ∷ bs) v ys)
       → ((bs : List ℕ) (z : Refusal) (rest : List ℕ) → S (b ∷ bs) z rest

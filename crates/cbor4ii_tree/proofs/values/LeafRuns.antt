@@ -4,7 +4,7 @@ use Rattle.std.proofs.Common.{◌++◌}
 use Rattle.std.proofs.Common.{length, take, drop, Option, Some, None, refl, sym, ap, ap₂, ◌∙◌}
 use Rattle.std.proofs.Common.{subst, arith, append_assoc, length-append, length-drop}
 use Rattle.std.proofs.Common.{take-append-drop, Vec, Global, nat_lt, Bool, true, false, not, OnSome}
-use Rattle.std.proofs.Common.{IfSome, IfNone, Result}
+use Rattle.std.proofs.Common.{IfNone, Result}
 use Rattle.std.proofs.Common.{Ok, Err, inl, inr}
 use Rattle.std.specs.Option.{is_some}
 use Rattle.std.proofs.Math.Seq.{take-add}
@@ -742,10 +742,6 @@ pub run_before : {E : Type 0} (exact : Type 0) (Whole : Budget → Tree → Type
     → RunsBefore E exact Whole n before after a b
 run_before exact Whole before after {a = a} {b = b} n failure is t =
     subst (λ o. TakesBy exact Whole before after a b (Some o) failure) is t
-
-pub run_can : {A : Type 0} (P : A → Type 0) {found : Option A} (v : A) → found ≡ Some v
-    → IfSome found P → P v
-run_can P v is h = subst (λ o. IfSome o P) is h
 
 pub on_found : {A : Type 0} {P : Type 0} {found : Option A} (v : A) → found ≡ Some v
     → OnSome found P → P

@@ -29,7 +29,7 @@ use Rattle.cbor4ii_tree.specs.Does.{Accepting, Does}
 use Rattle.cbor4ii_tree.specs.Front.{Offers}
 use Rattle.cbor4ii_tree.specs.Item.{integer, float, IsItem}
 use Rattle.cbor4ii_tree.specs.Laws.Binds.{step_up}
-use Rattle.cbor4ii_tree.specs.Leaf.{CanTake, DoesBehindNext, ExactHead, HeadStands, StandsAhead}
+use Rattle.cbor4ii_tree.specs.Leaf.{CanTake, DoesBehindNext, ExactHead, StandsAhead}
 use Rattle.cbor4ii_tree.specs.Leaf.{SeesLeaf, ShowsFirst, ShowsNext, TakesLeaf, WantsContent}
 use Rattle.cbor4ii_tree.specs.Meaning.{number, simple_item, content_item}
 use Rattle.cbor4ii_tree.specs.Refusal.{value_name}
@@ -165,23 +165,6 @@ module _ (b n k : ℕ) (bs : List ℕ) (small : b < 256) (fresh : IsBytes bs)
             ap (λ c. c ∷ take k bs) is
             ∙ ap (λ r. precision_byte p ∷ r)
             (argument ∙ ap (λ j. bytes_high_first j n) t.0);
-      })
-
-  pub head_stands : (size : ℕ) → size ≡ suc k → 4 ≤ b / 32 → b / 32 ≤ 6
-      → HeadStands (ExactHead b n k) (b / 32) n size (b ∷ bs)
-  head_stands size e low high =
-      subst (λ j. HeadStands (ExactHead b n k) (b / 32) n j (b ∷ bs)) (sym e) (record {
-        nests = (low, high);
-        within = omega (arith, stands);
-        some = omega arith;
-        fresh = (small, IsBytes-take k bs fresh);
-        width = a.width;
-        fits = a.fits;
-        least = λ exact. least exact (λ e7. absurd (omega (arith, e7, high)));
-        is =
-            let first : b ≡ 32 * (b / 32) + additional a.width n = omega (arith, a.says) in
-            ap (λ c. c ∷ take k bs) first
-            ∙ ap (λ r. (32 * (b / 32) + additional a.width n) ∷ r) argument;
       })
 
   pub string_ahead : (kind : Kind) (v : Value) (size : ℕ) (content : List ℕ) → size ≡ suc (k + n)
@@ -358,11 +341,3 @@ shown_can E exact n a m s = record {
   first = s.first.can;
   head = some_as n.head (λ h shown. (shown.stands.some, shown.can)) s.head;
 }
-
--- what was shown may be taken
-pub look_can : {E : Type 0} (exact : Type 0) (A : Budget → Accepting Value)
-    (S : Budget → Stopping) (a m : View) {seen : Looked} (n : Next)
-    (failure : Option (DecodeError E)) → seen ≡ looked.Begins n
-    → TakesLeaf exact A S a m (Some seen) failure → CanTake n m
-look_can {E = E} exact A S a m n failure is t =
-    shown_can E exact n a m (subst (λ o. TakesLeaf exact A S a m (Some o) failure) is t)

@@ -9,6 +9,8 @@ use Rattle.cbor4ii_tree.specs.Strict.{SpellsStrictly}
 use Rattle.cbor4ii_tree.specs.View.{view}
 use Rattle.cbor4ii_tree.specs.Promises.{ReadsValue}
 use Rattle.cbor4ii_tree.specs.Canonically.{ReadsCanonicalItem, ReadsCanonical}
+use Rattle.cbor4ii_tree.specs.Canonically.{canonical_spelling}
+use Rattle.cbor4ii_items.specs.Decoding.{IsLawful}
 use Rattle.cbor4ii_tree.specs.Laws.Values.{value_one, value_positive}
 
 -- what is read canonically is read as a value
@@ -47,3 +49,11 @@ canonical_alone e xs ys v n c p =
       within = omega (arith, length-append (take n xs) ys, long);
       spells = subst (λ z. SpellsStrictly z (view v.0) c) (sym front) p.spells;
     }
+
+pub canonical_lawful : IsLawful canonical_spelling
+canonical_lawful = record {
+  one = canonical_one;
+  within = canonical_within;
+  positive = canonical_positive;
+  alone = canonical_alone;
+}

@@ -3,7 +3,10 @@ use Rattle.std.proofs.Common.{◌≡◌, ℕ, ◌≤◌, List, ◌++◌, length,
 use Rattle.std.proofs.lemmas.List.{length-take-le}
 use Rattle.std.proofs.Math.Seq.{take-append_seam}
 use Rattle.cbor4ii_tree.specs.Laws.Ignoring.{tree_one, tree_within, tree_positive, tree_alone}
-use Rattle.cbor4ii_tree.specs.Raw.{ReadsRaw}
+use Rattle.cbor4ii_tree.specs.Raw.{ReadsRaw, raw_spelling}
+use Rattle.cbor4ii_items.specs.Laws.Spellings.{lawful_in_memory}
+use Rattle.cbor4ii_tree.specs.BoxedRaw.{boxed_content, boxed_raw_spelling}
+use Rattle.cbor4ii_items.specs.Decoding.{IsLawful}
 
 pub raw_one : {V : Type 0} (content : V → List ℕ) (xs : List ℕ) (v w : V) (n m c d : ℕ)
     → ReadsRaw content xs v n c → ReadsRaw content xs w m d
@@ -28,3 +31,14 @@ raw_alone content xs ys v n c p =
       tree_alone xs ys n c p.0,
       p.1 ∙ (sym (take-append_seam t ys) ∙ ap (λ j. take j (t ++ ys)) size),
     )
+
+pub raw_lawful : {V : Type 0} (content : V → List ℕ) → IsLawful (raw_spelling content)
+raw_lawful content = record {
+  one = raw_one content;
+  within = raw_within content;
+  positive = λ some. raw_positive content;
+  alone = λ closed. raw_alone content;
+}
+
+pub boxed_raw_lawful : IsLawful boxed_raw_spelling
+boxed_raw_lawful = lawful_in_memory (raw_spelling boxed_content) (raw_lawful boxed_content)

@@ -5,7 +5,8 @@ use Rattle.std.proofs.Math.Seq.{take-append_seam, drop-append_seam}
 use Rattle.cbor4ii_tree.specs.declared.ignored.IgnoredAny.{IgnoredAny}
 use Rattle.cbor4ii_tree.specs.Tree.{Tree, bytes, Loose}
 use Rattle.cbor4ii_tree.specs.Cost.{skip_cost}
-use Rattle.cbor4ii_tree.specs.Ignored.{ReadsTree, ReadsIgnored}
+use Rattle.cbor4ii_tree.specs.Ignored.{ReadsTree, ReadsIgnored, StopsIgnored}
+use Rattle.cbor4ii_items.specs.Decoding.{IsLawful, leaf_spelling}
 use Rattle.cbor4ii_tree.specs.Laws.SkippingAgain.{skip_again}
 use Rattle.cbor4ii_tree.specs.Skip.{skip}
 use Rattle.cbor4ii_tree.specs.Laws.Binds.{parts}
@@ -74,3 +75,11 @@ ignored_positive e xs v n c p = tree_positive xs n c p
 pub ignored_alone : IsTrue true → (xs ys : List ℕ) (v : IgnoredAny) (n c : ℕ)
     → ReadsIgnored xs v n c → ReadsIgnored (take n xs ++ ys) v n c
 ignored_alone e xs ys v n c p = tree_alone xs ys n c p
+
+pub ignored_lawful : IsLawful (leaf_spelling ReadsIgnored StopsIgnored)
+ignored_lawful = record {
+  one = ignored_one;
+  within = ignored_within;
+  positive = ignored_positive;
+  alone = ignored_alone;
+}

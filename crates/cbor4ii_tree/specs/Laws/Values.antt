@@ -10,7 +10,8 @@ use Rattle.cbor4ii_tree.specs.Meaning.{value}
 use Rattle.cbor4ii_tree.specs.Cost.{cost}
 use Rattle.cbor4ii_tree.specs.Spelling.{Spells}
 use Rattle.cbor4ii_tree.specs.View.{view}
-use Rattle.cbor4ii_tree.specs.Promises.{ReadsValue}
+use Rattle.cbor4ii_tree.specs.Promises.{ReadsValue, value_spelling}
+use Rattle.cbor4ii_items.specs.Decoding.{IsLawful}
 use Rattle.cbor4ii_tree.specs.Laws.Ignoring.{one_spelling}
 use Rattle.cbor4ii_tree.specs.Laws.Initials.{length-bytes-pos}
 
@@ -53,4 +54,13 @@ value_alone e xs ys v n c p =
     record {
       within = omega (arith, length-append (take n xs) ys, long);
       spells = subst (λ z. Spells z (view v) c) (sym front) p.spells;
+    }
+
+pub value_lawful : IsLawful value_spelling
+value_lawful =
+    record {
+      one = value_one;
+      within = value_within;
+      positive = value_positive;
+      alone = value_alone;
     }

@@ -203,14 +203,14 @@ fn take_as<S: Source, T: Decode<S> + AsValue>(
     de: &mut Deserializer<S>,
 ) -> Result<Value, DecodeError<S::Error>>
     ensures moves { Moves (input S.view de.old) (input S.view de.new) (answer_of result) }
-    ensures progress { IsTrue T.never_empty →
+    ensures progress { IsTrue T.spelling.never_empty →
         OnOk result ((input S.view de.new).bound + 1 ≤ (input S.view de.old).bound) }
     ensures sound { IfOk result
-        (Sound (Formed T.reads T.form) (input S.view de.old) (input S.view de.new)) }
-    ensures complete { IsTrue T.owned → IfErr result
-        (λ error. Refuses (Formed T.reads T.form) (input S.view de.old) (as_core error)) }
-    ensures stops { IsTrue T.owned → IfErr result (λ error.
-        Stops T.stops (input S.view de.old) (input S.view de.new) (as_core error)) }
+        (Sound (Formed T.spelling.reads T.form) (input S.view de.old) (input S.view de.new)) }
+    ensures complete { IsTrue T.spelling.owned → IfErr result
+        (λ error. Refuses (Formed T.spelling.reads T.form) (input S.view de.old) (as_core error)) }
+    ensures stops { IsTrue T.spelling.owned → IfErr result (λ error.
+        Stops T.spelling.stops (input S.view de.old) (input S.view de.new) (as_core error)) }
 {
     match take_item::<S, T>(alloc, de) {
         Ok(item) => Ok(item.as_value()),

@@ -33,11 +33,11 @@ use std::io;
 use std::io::BufRead;
 
 impl<'de> Typed for &'de str {
-    ghost reads = { ⟦<&'de str as Spelled>⟧.reads };
+    ghost reads = { ⟦<&'de str as Spelled>⟧.spelling.reads };
 
     ghost stops = { StopsUnlent (codes "str") (ReadsTextAs cow_text) (StopsText (codes "str")) };
 
-    ghost same = { ⟦<&'de str as Spelled>⟧.same };
+    ghost same = { ⟦<&'de str as Spelled>⟧.spelling.same };
 
     ghost owned = { false };
 
@@ -120,12 +120,12 @@ fn lent_text<'de, E>(
 }
 
 impl<'de> Typed for Bytes<&'de [u8]> {
-    ghost reads = { ⟦<Bytes<&'de [u8]> as Spelled>⟧.reads };
+    ghost reads = { ⟦<Bytes<&'de [u8]> as Spelled>⟧.spelling.reads };
 
     ghost stops = { StopsUnlent (codes "bytes") (ReadsAs 2 cow_bytes)
         (StopsString (codes "bytes") 2) };
 
-    ghost same = { ⟦<Bytes<&'de [u8]> as Spelled>⟧.same };
+    ghost same = { ⟦<Bytes<&'de [u8]> as Spelled>⟧.spelling.same };
 
     ghost owned = { false };
 

@@ -27,15 +27,15 @@ use std::io;
 use std::io::BufRead;
 
 impl<'de> Typed for CowStr<'de, Global> {
-    ghost reads = { ⟦<CowStr<'de, Global> as Spelled>⟧.reads };
+    ghost reads = { ⟦<CowStr<'de, Global> as Spelled>⟧.spelling.reads };
 
-    ghost stops = { ⟦<CowStr<'de, Global> as Spelled>⟧.stops };
+    ghost stops = { ⟦<CowStr<'de, Global> as Spelled>⟧.spelling.stops };
 
-    ghost same = { ⟦<CowStr<'de, Global> as Spelled>⟧.same };
+    ghost same = { ⟦<CowStr<'de, Global> as Spelled>⟧.spelling.same };
 
     ghost owned = { true };
 
-    ghost takes_memory = { ⟦<CowStr<'de, Global> as Spelled>⟧.takes_memory };
+    ghost takes_memory = { ⟦<CowStr<'de, Global> as Spelled>⟧.spelling.takes_memory };
 
     ghost exact = { true };
 
@@ -116,15 +116,15 @@ impl<'de, R: BufRead + Drop> Deserialize<IoReader<R>> for CowStr<'de, Global> {
 }
 
 impl<'de> Typed for Bytes<CowSlice<'de, u8, Global>> {
-    ghost reads = { ⟦<Bytes<CowSlice<'de, u8, Global>> as Spelled>⟧.reads };
+    ghost reads = { ⟦<Bytes<CowSlice<'de, u8, Global>> as Spelled>⟧.spelling.reads };
 
-    ghost stops = { ⟦<Bytes<CowSlice<'de, u8, Global>> as Spelled>⟧.stops };
+    ghost stops = { ⟦<Bytes<CowSlice<'de, u8, Global>> as Spelled>⟧.spelling.stops };
 
-    ghost same = { ⟦<Bytes<CowSlice<'de, u8, Global>> as Spelled>⟧.same };
+    ghost same = { ⟦<Bytes<CowSlice<'de, u8, Global>> as Spelled>⟧.spelling.same };
 
     ghost owned = { true };
 
-    ghost takes_memory = { ⟦<Bytes<CowSlice<'de, u8, Global>> as Spelled>⟧.takes_memory };
+    ghost takes_memory = { ⟦<Bytes<CowSlice<'de, u8, Global>> as Spelled>⟧.spelling.takes_memory };
 
     ghost exact = { true };
 

@@ -38,8 +38,8 @@ pub(crate) fn take_item<S: Source, T: Decode<S>>(
     alloc: Global,
     de: &mut Deserializer<S>,
 ) -> Result<T, DecodeError<S::Error>>
-    ensures { ReadsItem T.reads T.stops T.never_empty T.owned T.takes_memory
-        (input S.view de.old) (input S.view de.new) result }
+    ensures { ReadsItem T.spelling.reads T.spelling.stops T.spelling.never_empty T.spelling.owned
+        T.spelling.takes_memory (input S.view de.old) (input S.view de.new) result }
 {
     typed(T::decode(alloc, &mut de.reader))
 }

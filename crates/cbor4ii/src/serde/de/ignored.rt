@@ -16,15 +16,15 @@ use cbor4ii_tree::IgnoredAny;
 use std::alloc::Global;
 
 impl Typed for IgnoredAny {
-    ghost reads = { ⟦<IgnoredAny as Spelled>⟧.reads };
+    ghost reads = { ⟦<IgnoredAny as Spelled>⟧.spelling.reads };
 
-    ghost stops = { ⟦<IgnoredAny as Spelled>⟧.stops };
+    ghost stops = { ⟦<IgnoredAny as Spelled>⟧.spelling.stops };
 
-    ghost same = { ⟦<IgnoredAny as Spelled>⟧.same };
+    ghost same = { ⟦<IgnoredAny as Spelled>⟧.spelling.same };
 
     ghost owned = { true };
 
-    ghost takes_memory = { ⟦<IgnoredAny as Spelled>⟧.takes_memory };
+    ghost takes_memory = { ⟦<IgnoredAny as Spelled>⟧.spelling.takes_memory };
 
     ghost exact = { true };
 

@@ -1,7 +1,7 @@
 //! Integers, read as the codec reads them.
 ghost use Rattle.std.specs.Prelude.{◌^◌, true};
-ghost use Rattle.cbor4ii_items.specs.Laws.Arguments.{unsigned_one, unsigned_within};
-ghost use Rattle.cbor4ii_items.specs.Laws.Arguments.{unsigned_positive};
+ghost use Rattle.cbor4ii_items.specs.Laws.Arguments.{argument_one, argument_within, zero_small};
+ghost use Rattle.cbor4ii_items.specs.Laws.Arguments.{argument_positive};
 ghost use Rattle.cbor4ii_items.specs.Laws.Signed.{signed_one, signed_within, signed_positive};
 ghost use Rattle.cbor4ii_items.specs.Laws.Bignums.{u128_one, u128_within, u128_positive, i128_one};
 ghost use Rattle.cbor4ii_items.specs.Laws.Bignums.{i128_within, i128_positive};
@@ -14,22 +14,22 @@ use cbor4ii_rw::read::Source;
 use std::alloc::Global;
 
 impl Typed for u8 {
-    ghost reads = { ⟦<u8 as Spelled>⟧.reads };
+    ghost reads = { ⟦<u8 as Spelled>⟧.spelling.reads };
 
-    ghost stops = { ⟦<u8 as Spelled>⟧.stops };
+    ghost stops = { ⟦<u8 as Spelled>⟧.spelling.stops };
 
-    ghost same = { ⟦<u8 as Spelled>⟧.same };
+    ghost same = { ⟦<u8 as Spelled>⟧.spelling.same };
 
     ghost owned = { true };
 
-    ghost takes_memory = { ⟦<u8 as Spelled>⟧.takes_memory };
+    ghost takes_memory = { ⟦<u8 as Spelled>⟧.spelling.takes_memory };
 
     ghost exact = { true };
 
     ghost laws = { λ _. record {
-      one = unsigned_one 1;
-      within = unsigned_within 1;
-      positive = λ _. unsigned_positive 1;
+      one = argument_one 0 1 zero_small;
+      within = argument_within 0 1 zero_small;
+      positive = λ _. argument_positive 0 1 zero_small;
     } };
 }
 
@@ -47,22 +47,22 @@ impl<S: Source> Deserialize<S> for u8 {
 }
 
 impl Typed for u16 {
-    ghost reads = { ⟦<u16 as Spelled>⟧.reads };
+    ghost reads = { ⟦<u16 as Spelled>⟧.spelling.reads };
 
-    ghost stops = { ⟦<u16 as Spelled>⟧.stops };
+    ghost stops = { ⟦<u16 as Spelled>⟧.spelling.stops };
 
-    ghost same = { ⟦<u16 as Spelled>⟧.same };
+    ghost same = { ⟦<u16 as Spelled>⟧.spelling.same };
 
     ghost owned = { true };
 
-    ghost takes_memory = { ⟦<u16 as Spelled>⟧.takes_memory };
+    ghost takes_memory = { ⟦<u16 as Spelled>⟧.spelling.takes_memory };
 
     ghost exact = { true };
 
     ghost laws = { λ _. record {
-      one = unsigned_one 2;
-      within = unsigned_within 2;
-      positive = λ _. unsigned_positive 2;
+      one = argument_one 0 2 zero_small;
+      within = argument_within 0 2 zero_small;
+      positive = λ _. argument_positive 0 2 zero_small;
     } };
 }
 
@@ -76,22 +76,22 @@ impl<S: Source> Deserialize<S> for u16 {
 }
 
 impl Typed for u32 {
-    ghost reads = { ⟦<u32 as Spelled>⟧.reads };
+    ghost reads = { ⟦<u32 as Spelled>⟧.spelling.reads };
 
-    ghost stops = { ⟦<u32 as Spelled>⟧.stops };
+    ghost stops = { ⟦<u32 as Spelled>⟧.spelling.stops };
 
-    ghost same = { ⟦<u32 as Spelled>⟧.same };
+    ghost same = { ⟦<u32 as Spelled>⟧.spelling.same };
 
     ghost owned = { true };
 
-    ghost takes_memory = { ⟦<u32 as Spelled>⟧.takes_memory };
+    ghost takes_memory = { ⟦<u32 as Spelled>⟧.spelling.takes_memory };
 
     ghost exact = { true };
 
     ghost laws = { λ _. record {
-      one = unsigned_one 4;
-      within = unsigned_within 4;
-      positive = λ _. unsigned_positive 4;
+      one = argument_one 0 4 zero_small;
+      within = argument_within 0 4 zero_small;
+      positive = λ _. argument_positive 0 4 zero_small;
     } };
 }
 
@@ -105,22 +105,22 @@ impl<S: Source> Deserialize<S> for u32 {
 }
 
 impl Typed for u64 {
-    ghost reads = { ⟦<u64 as Spelled>⟧.reads };
+    ghost reads = { ⟦<u64 as Spelled>⟧.spelling.reads };
 
-    ghost stops = { ⟦<u64 as Spelled>⟧.stops };
+    ghost stops = { ⟦<u64 as Spelled>⟧.spelling.stops };
 
-    ghost same = { ⟦<u64 as Spelled>⟧.same };
+    ghost same = { ⟦<u64 as Spelled>⟧.spelling.same };
 
     ghost owned = { true };
 
-    ghost takes_memory = { ⟦<u64 as Spelled>⟧.takes_memory };
+    ghost takes_memory = { ⟦<u64 as Spelled>⟧.spelling.takes_memory };
 
     ghost exact = { true };
 
     ghost laws = { λ _. record {
-      one = unsigned_one 8;
-      within = unsigned_within 8;
-      positive = λ _. unsigned_positive 8;
+      one = argument_one 0 8 zero_small;
+      within = argument_within 0 8 zero_small;
+      positive = λ _. argument_positive 0 8 zero_small;
     } };
 }
 
@@ -134,15 +134,15 @@ impl<S: Source> Deserialize<S> for u64 {
 }
 
 impl Typed for u128 {
-    ghost reads = { ⟦<u128 as Spelled>⟧.reads };
+    ghost reads = { ⟦<u128 as Spelled>⟧.spelling.reads };
 
-    ghost stops = { ⟦<u128 as Spelled>⟧.stops };
+    ghost stops = { ⟦<u128 as Spelled>⟧.spelling.stops };
 
-    ghost same = { ⟦<u128 as Spelled>⟧.same };
+    ghost same = { ⟦<u128 as Spelled>⟧.spelling.same };
 
     ghost owned = { true };
 
-    ghost takes_memory = { ⟦<u128 as Spelled>⟧.takes_memory };
+    ghost takes_memory = { ⟦<u128 as Spelled>⟧.spelling.takes_memory };
 
     ghost exact = { true };
 
@@ -167,15 +167,15 @@ impl<S: Source> Deserialize<S> for u128 {
 }
 
 impl Typed for i8 {
-    ghost reads = { ⟦<i8 as Spelled>⟧.reads };
+    ghost reads = { ⟦<i8 as Spelled>⟧.spelling.reads };
 
-    ghost stops = { ⟦<i8 as Spelled>⟧.stops };
+    ghost stops = { ⟦<i8 as Spelled>⟧.spelling.stops };
 
-    ghost same = { ⟦<i8 as Spelled>⟧.same };
+    ghost same = { ⟦<i8 as Spelled>⟧.spelling.same };
 
     ghost owned = { true };
 
-    ghost takes_memory = { ⟦<i8 as Spelled>⟧.takes_memory };
+    ghost takes_memory = { ⟦<i8 as Spelled>⟧.spelling.takes_memory };
 
     ghost exact = { true };
 
@@ -204,15 +204,15 @@ impl<S: Source> Deserialize<S> for i8 {
 }
 
 impl Typed for i16 {
-    ghost reads = { ⟦<i16 as Spelled>⟧.reads };
+    ghost reads = { ⟦<i16 as Spelled>⟧.spelling.reads };
 
-    ghost stops = { ⟦<i16 as Spelled>⟧.stops };
+    ghost stops = { ⟦<i16 as Spelled>⟧.spelling.stops };
 
-    ghost same = { ⟦<i16 as Spelled>⟧.same };
+    ghost same = { ⟦<i16 as Spelled>⟧.spelling.same };
 
     ghost owned = { true };
 
-    ghost takes_memory = { ⟦<i16 as Spelled>⟧.takes_memory };
+    ghost takes_memory = { ⟦<i16 as Spelled>⟧.spelling.takes_memory };
 
     ghost exact = { true };
 
@@ -234,15 +234,15 @@ impl<S: Source> Deserialize<S> for i16 {
 }
 
 impl Typed for i32 {
-    ghost reads = { ⟦<i32 as Spelled>⟧.reads };
+    ghost reads = { ⟦<i32 as Spelled>⟧.spelling.reads };
 
-    ghost stops = { ⟦<i32 as Spelled>⟧.stops };
+    ghost stops = { ⟦<i32 as Spelled>⟧.spelling.stops };
 
-    ghost same = { ⟦<i32 as Spelled>⟧.same };
+    ghost same = { ⟦<i32 as Spelled>⟧.spelling.same };
 
     ghost owned = { true };
 
-    ghost takes_memory = { ⟦<i32 as Spelled>⟧.takes_memory };
+    ghost takes_memory = { ⟦<i32 as Spelled>⟧.spelling.takes_memory };
 
     ghost exact = { true };
 
@@ -264,15 +264,15 @@ impl<S: Source> Deserialize<S> for i32 {
 }
 
 impl Typed for i64 {
-    ghost reads = { ⟦<i64 as Spelled>⟧.reads };
+    ghost reads = { ⟦<i64 as Spelled>⟧.spelling.reads };
 
-    ghost stops = { ⟦<i64 as Spelled>⟧.stops };
+    ghost stops = { ⟦<i64 as Spelled>⟧.spelling.stops };
 
-    ghost same = { ⟦<i64 as Spelled>⟧.same };
+    ghost same = { ⟦<i64 as Spelled>⟧.spelling.same };
 
     ghost owned = { true };
 
-    ghost takes_memory = { ⟦<i64 as Spelled>⟧.takes_memory };
+    ghost takes_memory = { ⟦<i64 as Spelled>⟧.spelling.takes_memory };
 
     ghost exact = { true };
 
@@ -294,15 +294,15 @@ impl<S: Source> Deserialize<S> for i64 {
 }
 
 impl Typed for i128 {
-    ghost reads = { ⟦<i128 as Spelled>⟧.reads };
+    ghost reads = { ⟦<i128 as Spelled>⟧.spelling.reads };
 
-    ghost stops = { ⟦<i128 as Spelled>⟧.stops };
+    ghost stops = { ⟦<i128 as Spelled>⟧.spelling.stops };
 
-    ghost same = { ⟦<i128 as Spelled>⟧.same };
+    ghost same = { ⟦<i128 as Spelled>⟧.spelling.same };
 
     ghost owned = { true };
 
-    ghost takes_memory = { ⟦<i128 as Spelled>⟧.takes_memory };
+    ghost takes_memory = { ⟦<i128 as Spelled>⟧.spelling.takes_memory };
 
     ghost exact = { true };
 

@@ -13,15 +13,15 @@ use cbor4ii_rw::read::Source;
 use std::alloc::Global;
 
 impl Typed for String {
-    ghost reads = { ⟦<String as Spelled>⟧.reads };
+    ghost reads = { ⟦<String as Spelled>⟧.spelling.reads };
 
-    ghost stops = { ⟦<String as Spelled>⟧.stops };
+    ghost stops = { ⟦<String as Spelled>⟧.spelling.stops };
 
-    ghost same = { ⟦<String as Spelled>⟧.same };
+    ghost same = { ⟦<String as Spelled>⟧.spelling.same };
 
     ghost owned = { true };
 
-    ghost takes_memory = { ⟦<String as Spelled>⟧.takes_memory };
+    ghost takes_memory = { ⟦<String as Spelled>⟧.spelling.takes_memory };
 
     ghost exact = { true };
 
@@ -57,15 +57,15 @@ impl<S: Source> Deserialize<S> for String {
 }
 
 impl Typed for Bytes<Vec<u8>> {
-    ghost reads = { ⟦<Bytes<Vec<u8>> as Spelled>⟧.reads };
+    ghost reads = { ⟦<Bytes<Vec<u8>> as Spelled>⟧.spelling.reads };
 
-    ghost stops = { ⟦<Bytes<Vec<u8>> as Spelled>⟧.stops };
+    ghost stops = { ⟦<Bytes<Vec<u8>> as Spelled>⟧.spelling.stops };
 
-    ghost same = { ⟦<Bytes<Vec<u8>> as Spelled>⟧.same };
+    ghost same = { ⟦<Bytes<Vec<u8>> as Spelled>⟧.spelling.same };
 
     ghost owned = { true };
 
-    ghost takes_memory = { ⟦<Bytes<Vec<u8>> as Spelled>⟧.takes_memory };
+    ghost takes_memory = { ⟦<Bytes<Vec<u8>> as Spelled>⟧.spelling.takes_memory };
 
     ghost exact = { true };
 

@@ -2,14 +2,15 @@
 ghost use Rattle.std.specs.Prelude.{◌≡◌, ℕ, ◌+◌, ◌≤◌, ◌<◌, List, Bool, true, false, Option, OnOk};
 ghost use Rattle.std.specs.Prelude.{IfOk, IfErr, IsTrue};
 ghost use Rattle.cbor4ii_items.specs.Moves.{Moves};
-ghost use Rattle.cbor4ii_items.specs.Decoding.{StopsAt, IsExact, Sound, Refuses, Stops};
-ghost use Rattle.cbor4ii_items.specs.Lengths.{ReadsLength, StopsLength};
+ghost use Rattle.cbor4ii_items.specs.Decoding.{StopsAt, IsExact, Sound, Refuses, Stops, Decodes};
+ghost use Rattle.cbor4ii_items.specs.Lengths.{length_spelling};
 ghost use Rattle.cbor4ii_items.specs.Reading.{Runs};
 ghost use Rattle.cbor4ii_items.specs.ReadStrings.{break_at};
 ghost use Rattle.cbor4ii_items.specs.Refusal.{is_out_of_memory};
 ghost use Rattle.cbor4ii_items.specs.Sequences.{ReadsCount, ReadsUpToBreak, ReadsInside};
 ghost use Rattle.cbor4ii_items.specs.Sequences.{ReadsSequence, StopsCount, StopsUpToBreak};
-ghost use Rattle.cbor4ii_items.specs.Sequences.{StopsInside, AddsPart};
+ghost use Rattle.cbor4ii_items.specs.Sequences.{StopsInside};
+ghost use Rattle.cbor4ii.specs.ItemRead.{AddsPart};
 ghost use Rattle.cbor4ii.specs.Beginning.{StopsParts};
 ghost use Rattle.cbor4ii.specs.Typed.{input, answer_of, as_core, Lawful};
 
@@ -47,13 +48,8 @@ pub(crate) trait Sequence<S: Source>: Sized {
 
     /// Takes the head.
     fn take_length(reader: &mut S) -> Result<Option<usize>, core_error::DecodeError<S::Error>>
-        ensures moves { Moves (S.view reader.old) (S.view reader.new) result }
-        ensures progress { OnOk result ((S.view reader.new).bound + 1 ≤ (S.view reader.old).bound) }
-        ensures sound { IfOk result
-            (Sound (ReadsLength Self.major) (S.view reader.old) (S.view reader.new)) }
-        ensures complete { IfErr result (Refuses (ReadsLength Self.major) (S.view reader.old)) }
-        ensures stops { IfErr result
-            (Stops (StopsLength Self.name Self.major) (S.view reader.old) (S.view reader.new)) };
+        ensures { Decodes (length_spelling Self.name Self.major)
+            (S.view reader.old) (S.view reader.new) result };
 
     /// Reads one part.
     fn take_part(

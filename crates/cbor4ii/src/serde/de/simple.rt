@@ -12,15 +12,15 @@ use cbor4ii_rw::read::Source;
 use std::alloc::Global;
 
 impl Typed for bool {
-    ghost reads = { ⟦<bool as Spelled>⟧.reads };
+    ghost reads = { ⟦<bool as Spelled>⟧.spelling.reads };
 
-    ghost stops = { ⟦<bool as Spelled>⟧.stops };
+    ghost stops = { ⟦<bool as Spelled>⟧.spelling.stops };
 
-    ghost same = { ⟦<bool as Spelled>⟧.same };
+    ghost same = { ⟦<bool as Spelled>⟧.spelling.same };
 
     ghost owned = { true };
 
-    ghost takes_memory = { ⟦<bool as Spelled>⟧.takes_memory };
+    ghost takes_memory = { ⟦<bool as Spelled>⟧.spelling.takes_memory };
 
     ghost exact = { true };
 
@@ -43,15 +43,15 @@ impl<S: Source> Deserialize<S> for bool {
 }
 
 impl Typed for F16 {
-    ghost reads = { ⟦<F16 as Spelled>⟧.reads };
+    ghost reads = { ⟦<F16 as Spelled>⟧.spelling.reads };
 
-    ghost stops = { ⟦<F16 as Spelled>⟧.stops };
+    ghost stops = { ⟦<F16 as Spelled>⟧.spelling.stops };
 
-    ghost same = { ⟦<F16 as Spelled>⟧.same };
+    ghost same = { ⟦<F16 as Spelled>⟧.spelling.same };
 
     ghost owned = { true };
 
-    ghost takes_memory = { ⟦<F16 as Spelled>⟧.takes_memory };
+    ghost takes_memory = { ⟦<F16 as Spelled>⟧.spelling.takes_memory };
 
     ghost exact = { true };
 
@@ -75,15 +75,15 @@ impl<S: Source> Deserialize<S> for F16 {
 }
 
 impl Typed for F32 {
-    ghost reads = { ⟦<F32 as Spelled>⟧.reads };
+    ghost reads = { ⟦<F32 as Spelled>⟧.spelling.reads };
 
-    ghost stops = { ⟦<F32 as Spelled>⟧.stops };
+    ghost stops = { ⟦<F32 as Spelled>⟧.spelling.stops };
 
-    ghost same = { ⟦<F32 as Spelled>⟧.same };
+    ghost same = { ⟦<F32 as Spelled>⟧.spelling.same };
 
     ghost owned = { true };
 
-    ghost takes_memory = { ⟦<F32 as Spelled>⟧.takes_memory };
+    ghost takes_memory = { ⟦<F32 as Spelled>⟧.spelling.takes_memory };
 
     ghost exact = { true };
 
@@ -107,15 +107,15 @@ impl<S: Source> Deserialize<S> for F32 {
 }
 
 impl Typed for F64 {
-    ghost reads = { ⟦<F64 as Spelled>⟧.reads };
+    ghost reads = { ⟦<F64 as Spelled>⟧.spelling.reads };
 
-    ghost stops = { ⟦<F64 as Spelled>⟧.stops };
+    ghost stops = { ⟦<F64 as Spelled>⟧.spelling.stops };
 
-    ghost same = { ⟦<F64 as Spelled>⟧.same };
+    ghost same = { ⟦<F64 as Spelled>⟧.spelling.same };
 
     ghost owned = { true };
 
-    ghost takes_memory = { ⟦<F64 as Spelled>⟧.takes_memory };
+    ghost takes_memory = { ⟦<F64 as Spelled>⟧.spelling.takes_memory };
 
     ghost exact = { true };
 

@@ -3,11 +3,9 @@ ghost use Rattle.std.specs.Prelude.{◌+◌, ◌≤◌, true, codes, OnOk, IfOk,
 ghost use Rattle.cbor4ii_items.specs.Decoding.{IsExact, Sound, Refuses, Stops};
 ghost use Rattle.cbor4ii_items.specs.Moves.{Moves};
 ghost use Rattle.cbor4ii_items.specs.Refusal.{is_out_of_memory};
-ghost use Rattle.cbor4ii_items.specs.Sequences.{ReadsArray, SameArray};
 ghost use Rattle.cbor4ii.specs.Beginning.{StopsParts};
 ghost use Rattle.cbor4ii.specs.Typed.{input, answer_of, as_core, said};
-ghost use Rattle.cbor4ii.specs.Sequence.{four_small};
-ghost use Rattle.cbor4ii_items.specs.Laws.Sequences.{array_one, array_within, array_positive};
+ghost use Rattle.cbor4ii.specs.Sequence.{ReadsArray, SameArray, array_laws, four_small};
 
 use crate::serde::de::deserialize::{Deserialize, Typed};
 use crate::serde::de::deserializer::Deserializer;
@@ -19,7 +17,7 @@ use cbor4ii_rw::read::Source;
 use std::alloc::Global;
 
 impl<T: Typed> Typed for Vec<T> {
-    ghost reads = { ReadsArray T.reads true };
+    ghost reads = { ReadsArray T.reads };
 
     ghost stops = { StopsParts (codes "seq") (codes "array") 4 T.reads (said T.exact T.stops) };
 
@@ -31,11 +29,7 @@ impl<T: Typed> Typed for Vec<T> {
 
     ghost exact = { T.exact };
 
-    ghost laws = { λ e. record {
-      one = array_one T.reads T.same true (T.laws e).one;
-      within = array_within T.reads true (T.laws e).within;
-      positive = λ _. array_positive T.reads true;
-    } };
+    ghost laws = { λ e. array_laws T.reads T.same (T.laws e) };
 }
 
 impl<S: Source, T: Deserialize<S> + Drop> Sequence<S> for Vec<T> {
@@ -89,10 +83,10 @@ impl<S: Source, T: Deserialize<S> + Drop> Deserialize<S> for Vec<T> {
             ((input S.view de.new).bound + 1 ≤ (input S.view de.old).bound) }
         ensures memory { IfErr result
             (λ error. IsTrue (is_out_of_memory (as_core error)) → IsTrue true) }
-        ensures sound { IfOk result (Sound (ReadsArray T.reads true)
+        ensures sound { IfOk result (Sound (ReadsArray T.reads)
             (input S.view de.old) (input S.view de.new)) }
         ensures complete { IsTrue T.exact → IsExact T.owned (input S.view de.old) →
-            IfErr result (λ error. Refuses (ReadsArray T.reads true)
+            IfErr result (λ error. Refuses (ReadsArray T.reads)
             (input S.view de.old) (as_core error)) }
         ensures stops { IfErr result (λ error.
             Stops (StopsParts (codes "seq") (codes "array") 4 T.reads (said T.exact T.stops))

@@ -1,11 +1,6 @@
-use Rattle.cbor4ii_items.specs.Laws.Breaks.{break_sound, break_refuses, break_stops}
+use Rattle.cbor4ii_items.specs.Laws.Breaks.{break_decodes}
 use Rattle.cbor4ii_items.proofs.indefinite.is_break.Goals as goal
 
-pub returns-clause-sound : goal.returns-clause-sound
-returns-clause-sound g c = break_sound _ c.take_break.ensures.runs
-
-pub returns-clause-complete : goal.returns-clause-complete
-returns-clause-complete g c = break_refuses _ c.take_break.ensures.runs
-
-pub returns-clause-stops : goal.returns-clause-stops
-returns-clause-stops g c = break_stops _ c.take_break.ensures.runs
+pub returns-clause-decodes : goal.returns-clause-decodes
+returns-clause-decodes g c =
+    break_decodes _ c.take_break.ensures.runs c.take_break.ensures.memory

@@ -6,7 +6,7 @@ use Rattle.cbor4ii_items.proofs.maybe.take_few.Goals as goal
 pub returns-in-Some-eq1-clause-runs : goal.returns-in-Some-eq1-clause-runs
 returns-in-Some-eq1-clause-runs g c = search rules
 
-pub returns-in_err-lone_length-clause-runs : goal.returns-in_err-lone_length-clause-runs
-returns-in_err-lone_length-clause-runs g c =
+pub returns-in_err-length-clause-runs : goal.returns-in_err-length-clause-runs
+returns-in_err-length-clause-runs g c =
     let p = err_from_is_err_and c.from_residual.result c.from_residual.ensures.1 in
-    rw (p.1, p.2) (runs_err _ c.in_err-lone_length.ensures.runs)
+    rw (p.1, p.2) (runs_err _ c.in_err-length.ensures.runs)

@@ -1,4 +1,4 @@
-use Rattle.std.proofs.Common.{◌≡◌, true, false, Bool, refl, inl, arith}
+use Rattle.std.proofs.Common.{◌≡◌, true, false, Bool, refl, arith}
 use Rattle.cbor4ii_tool.specs.declared.integer.Integer.TheVariants.{Unsigned, Negative}
 use Rattle.cbor4ii_tool.proofs.Decoded.{only_negative, only_unsigned, accepted, refused}
 use Rattle.cbor4ii_tool.proofs.Items.{shown_kept, is_steady}
@@ -22,7 +22,7 @@ returns-in-Err-clause-refuses g c =
     (λ xs told. only_negative xs
     ((c.in_ok-is_negative_next.ensures.negative xs told).0 c.if-branch.true))
     c.in_ok-is_negative_next.ensures.shows c.in-Err.ensures.moves c.in-Err.ensures.memory
-    (c.in-Err.ensures.stops (inl refl)))
+    c.in-Err.ensures.begins)
 
 both : (t : Bool) → t ≡ true → t ≡ false → ⊥
 both t p q = cc
@@ -34,7 +34,7 @@ returns-in-Err-decode-clause-refuses g c =
     (λ xs told. only_unsigned xs
     (λ n. both _ ((c.in_ok-is_negative_next.ensures.negative xs told).1 n) c.if-branch.false))
     c.in_ok-is_negative_next.ensures.shows c.in-Err-decode.ensures.moves
-    c.in-Err-decode.ensures.memory (c.in-Err-decode.ensures.stops (inl refl)))
+    c.in-Err-decode.ensures.memory c.in-Err-decode.ensures.begins)
 
 pub returns-in-Ok-clause-kept : goal.returns-in-Ok-clause-kept
 returns-in-Ok-clause-kept g c =

@@ -1,6 +1,7 @@
 use Rattle.std.proofs.Common.{refl, ap, inl, arith, ◌∙◌, ◌-◌, ◌*◌}
 use Rattle.std.proofs.Common.{length, Vec, Global}
 use Rattle.cbor4ii_tree.specs.StopsStrictly.{Exactly}
+use Rattle.cbor4ii_tree.specs.Deeper.{budgeted}
 use Rattle.cbor4ii_tree.specs.declared.value.Value.{Value, Array, Map, Tag}
 use Rattle.cbor4ii_tree.specs.Item.{tag}
 use Rattle.cbor4ii_tree.specs.View.{view}
@@ -26,8 +27,8 @@ use Rattle.cbor4ii_tree.proofs.canonical.Calls.{array_exact, map_exact}
 use Rattle.cbor4ii_items.specs.Laws.Running.{kept_alike}
 use Rattle.cbor4ii_tree.proofs.values.Answered.{went_on, around}
 use Rattle.cbor4ii_tree.proofs.values.Leaves.{after_look, found_leaf}
-use Rattle.cbor4ii_tree.proofs.values.ByHead.{behind_next, budget_alone, next_step, next_stepped}
-use Rattle.cbor4ii_tree.proofs.values.ByHead.{peeks_next, with_budget}
+use Rattle.cbor4ii_tree.proofs.skip_calls.Deeper.{alike_within}
+use Rattle.cbor4ii_tree.proofs.values.ByHead.{behind_next, next_step, next_stepped, peeks_next}
 use Rattle.cbor4ii_tree.specs.LeafRuns.{flat, flat_values, ReadsEach}
 use Rattle.cbor4ii_tree.proofs.skip_calls.Doing.{reached_as}
 use Rattle.cbor4ii_tree.proofs.values.LeafRuns.{none_yet, none_too_many, ran, run_stops, stop_alone}
@@ -73,9 +74,9 @@ read_array-returns-clause-does g t c before shows =
     v.items ys)
     (StrictArrayStops StopsExactly)
     (next_step c.args.next shows (g.S.Source.view c.step_in.new.self)
-    c.if-not-step_in.ensures.budget) (budget_alone before _)
+    c.if-not-step_in.ensures.budget) (alike_within _ before)
     (c.array_inside-outcome.ensures.does
-    (with_budget before (g.S.Source.view c.step_in.new.self).budget)
+    (budgeted (g.S.Source.view c.step_in.new.self).budget before)
     (next_stepped c.args.next shows c.step_in.ensures.others)) c.step_out.ensures.budget
     c.step_out.ensures.others
 
@@ -142,9 +143,9 @@ read_map-returns-clause-does g t c before shows =
     xs v.items ys)
     (StrictMapStops StopsExactly)
     (next_step c.args.next shows (g.S.Source.view c.step_in.new.self)
-    c.if-not-step_in.ensures.budget) (budget_alone before _)
+    c.if-not-step_in.ensures.budget) (alike_within _ before)
     (c.map_inside-outcome.ensures.does
-    (with_budget before (g.S.Source.view c.step_in.new.self).budget)
+    (budgeted (g.S.Source.view c.step_in.new.self).budget before)
     (next_stepped c.args.next shows c.step_in.ensures.others)) c.step_out.ensures.budget
     c.step_out.ensures.others
 

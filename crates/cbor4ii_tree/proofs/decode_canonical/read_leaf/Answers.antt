@@ -1,4 +1,4 @@
-use Rattle.std.proofs.Common.{◌/◌, ◌≡◌, arith}
+use Rattle.std.proofs.Common.{◌/◌, ◌≡◌, arith, refl}
 use Rattle.std.proofs.lemmas.Result.{err_from_is_err_and}
 use Rattle.std.proofs.lemmas.Str.{IsUtf8-string_bytes}
 use Rattle.cbor4ii_items.specs.Initial.{unsigned, negative, byte_string}
@@ -19,7 +19,7 @@ returns-in_err-canonical_head-in-0-clause-does g c =
     let p = err_from_is_err_and c.from_residual.result c.from_residual.ensures.1 in
     rw (p.1, p.2) (leaf_stops c.args.first 0 (StopsShortest (sign_name unsigned) 0) c.in-0.is
     (λ bs z rest h. h) c.in_err-canonical_head-in-0.ensures.moves
-    c.in_err-canonical_head-in-0.ensures.stops)
+    c.in_err-canonical_head-in-0.ensures.begins)
 
 pub returns-in_err-number-in-1-clause-does : goal.returns-in_err-number-in-1-clause-does
 returns-in_err-number-in-1-clause-does g c =
@@ -27,7 +27,7 @@ returns-in_err-number-in-1-clause-does g c =
     c.from_residual-in_err-number-in-1.ensures.1 in
     rw (p.1, p.2)
     (leaf_stops c.args.first 1 (StopsShortest (sign_name negative) 1) c.in-1.is (λ bs z rest h.
-    h) c.in_err-number-in-1.ensures.moves c.in_err-number-in-1.ensures.stops)
+    h) c.in_err-number-in-1.ensures.moves c.in_err-number-in-1.ensures.begins)
 
 pub returns-in_err-canonical_buf-in-2-clause-does :
     goal.returns-in_err-canonical_buf-in-2-clause-does
@@ -36,7 +36,7 @@ returns-in_err-canonical_buf-in-2-clause-does g c =
     c.from_residual-in_err-canonical_buf-in-2.ensures.1 in
     rw (p.1, p.2) (leaf_stops c.args.first 2 (StopsShortestString (kind_name byte_string) 2)
     c.in-2.is (λ bs z rest h. h) c.in_err-canonical_buf-in-2.ensures.moves
-    c.in_err-canonical_buf-in-2.ensures.stops)
+    c.in_err-canonical_buf-in-2.ensures.begins)
 
 pub returns-in_err-read_text-in_default-clause-does :
     goal.returns-in_err-read_text-in_default-clause-does
@@ -110,13 +110,15 @@ returns-in_err-read_text-in_default-clause-progress g c =
 pub returns-in_ok-canonical_head-in-0-clause-progress :
     goal.returns-in_ok-canonical_head-in-0-clause-progress
 returns-in_ok-canonical_head-in-0-clause-progress g c = c.in_ok-canonical_head-in-0.ensures.progress
+    refl
 
 pub returns-in_ok-number-in-1-clause-progress : goal.returns-in_ok-number-in-1-clause-progress
-returns-in_ok-number-in-1-clause-progress g c = c.in_ok-number-in-1.ensures.progress
+returns-in_ok-number-in-1-clause-progress g c = c.in_ok-number-in-1.ensures.progress refl
 
 pub returns-in_ok-canonical_buf-in-2-clause-progress :
     goal.returns-in_ok-canonical_buf-in-2-clause-progress
 returns-in_ok-canonical_buf-in-2-clause-progress g c = c.in_ok-canonical_buf-in-2.ensures.progress
+    refl
 
 pub returns-in_ok-read_text-in_default-clause-progress :
     goal.returns-in_ok-read_text-in_default-clause-progress

@@ -16,7 +16,7 @@ returns-in_err-canonical_buf-clause-does g c =
     rw (p.1, p.2) (call_stops (TextAt (g.S.Source.view c.args.reader.now).budget)
     (StopsShortestString (kind_name text_string) 3)
     (StrictTextStops (g.S.Source.view c.args.reader.now).budget) (λ xs z rest h. inl h)
-    c.in_err-canonical_buf.ensures.moves c.in_err-canonical_buf.ensures.stops)
+    c.in_err-canonical_buf.ensures.moves c.in_err-canonical_buf.ensures.begins)
 
 pub returns-in-Ok-clause-does : goal.returns-in-Ok-clause-does
 returns-in-Ok-clause-does g c =

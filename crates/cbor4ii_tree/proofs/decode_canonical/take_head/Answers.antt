@@ -16,4 +16,4 @@ returns-in-None-clause-does g c before shows =
     behind_next c.args.next shows (TakesShortest c.args.major)
     (StopsAtShortest c.args.name.now c.args.major)
     (head_taken c.args.name.now c.args.major c.head_of.result _ c.head_of.ensures.moves
-    c.head_of.ensures.sound c.head_of.ensures.stops)
+    c.head_of.ensures.sound c.head_of.ensures.begins)

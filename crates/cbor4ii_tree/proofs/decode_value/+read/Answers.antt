@@ -7,7 +7,8 @@ use Rattle.cbor4ii_tree.specs.Valuing.{ReadsTagged, StopsMembers, ReadsStepped, 
 use Rattle.cbor4ii_tree.specs.Valuing.{ReadsArrayInside, ReadsMapInside, StopsMajor}
 use Rattle.cbor4ii_tree.specs.Valuing.{ReadsMembers, ReadsOpenItems, StopsOpenItems}
 use Rattle.cbor4ii_tree.specs.Valuing.{ReadsOpenMembers, StopsOpenMembers, ReadsUnder, StopsUnder}
-use Rattle.cbor4ii_tree.specs.declared.value.Value.{Array, Map, Tag}
+use Rattle.cbor4ii_tree.specs.Deeper.{budgeted}
+use Rattle.cbor4ii_tree.specs.declared.value.Value.{Tag}
 use Rattle.cbor4ii_tree.specs.Item.{tag}
 use Rattle.cbor4ii_tree.specs.View.{view}
 use Rattle.cbor4ii_tree.specs.Refusal.{array_name, map_name, value_name}
@@ -17,7 +18,7 @@ use Rattle.cbor4ii_tree.proofs.skip_calls.Doing.{does_no_memory, does_no_step}
 use Rattle.cbor4ii_tree.proofs.skip_calls.Calls.{Before, broke, other, at_end}
 use Rattle.cbor4ii_tree.proofs.values.Parts.{ReadEach, ReadPairs}
 use Rattle.cbor4ii_tree.proofs.values.Calls.{stepped}
-use Rattle.cbor4ii_tree.proofs.values.Heads.{arm_ok, arm_err, arm_does, alone_does}
+use Rattle.cbor4ii_tree.proofs.values.Heads.{arm_does, alone_does}
 use Rattle.cbor4ii_tree.proofs.values.Heads.{tag_does, tagged_err, tagged_ok}
 use Rattle.cbor4ii_tree.proofs.values.Heads.{view-Tag}
 use Rattle.cbor4ii_tree.proofs.values.Sequences.{major_stepped, array_no_step, map_no_step}
@@ -35,8 +36,8 @@ use Rattle.cbor4ii_tree.proofs.values.Items.{array_item, map_item}
 use Rattle.cbor4ii_items.specs.Laws.Running.{kept_alike}
 use Rattle.cbor4ii_tree.proofs.values.Answered.{went_on, around}
 use Rattle.cbor4ii_tree.proofs.values.Leaves.{after_look}
-use Rattle.cbor4ii_tree.proofs.values.ByHead.{behind_next, budget_alone, next_step, next_stepped}
-use Rattle.cbor4ii_tree.proofs.values.ByHead.{peeks_next, with_budget}
+use Rattle.cbor4ii_tree.proofs.skip_calls.Deeper.{alike_within}
+use Rattle.cbor4ii_tree.proofs.values.ByHead.{behind_next, next_step, next_stepped, peeks_next}
 use Rattle.cbor4ii_tree.specs.StopsReading.{Readable}
 use Rattle.cbor4ii_tree.specs.LeafRuns.{flat, flat_values, ReadsEach}
 use Rattle.cbor4ii_tree.proofs.skip_calls.Doing.{reached_as}
@@ -73,8 +74,11 @@ array_inside-returns-in_ok-counted_items-in-Some-clause-item g t c =
 pub array_inside-returns-in_ok-counted_items-in-Some-clause-progress :
     goal.array_inside-returns-in_ok-counted_items-in-Some-clause-progress
 array_inside-returns-in_ok-counted_items-in-Some-clause-progress g t c =
-    omega (arith, c.in_ok-take_array.ensures.progress,
-    c.in_ok-counted_items-in-Some.ensures.does.moves.by.bound)
+    omega (
+      arith,
+      c.in_ok-take_array.ensures.progress,
+      c.in_ok-counted_items-in-Some.ensures.does.moves.by.bound,
+    )
 
 pub array_inside-returns-in_err-counted_items-in-Some-clause-does :
     goal.array_inside-returns-in_err-counted_items-in-Some-clause-does
@@ -102,8 +106,11 @@ array_inside-returns-in_ok-open_items-in-None-clause-item g t c =
 pub array_inside-returns-in_ok-open_items-in-None-clause-progress :
     goal.array_inside-returns-in_ok-open_items-in-None-clause-progress
 array_inside-returns-in_ok-open_items-in-None-clause-progress g t c =
-    omega (arith, c.in_ok-take_array.ensures.progress,
-    c.in_ok-open_items-in-None.ensures.does.moves.by.bound)
+    omega (
+      arith,
+      c.in_ok-take_array.ensures.progress,
+      c.in_ok-open_items-in-None.ensures.does.moves.by.bound,
+    )
 
 pub array_inside-returns-in_err-open_items-in-None-clause-does :
     goal.array_inside-returns-in_err-open_items-in-None-clause-does
@@ -127,9 +134,9 @@ pub read_array-returns-clause-does : goal.read_array-returns-clause-does
 read_array-returns-clause-does g t c before shows =
     major_stepped (MakesArray ReadsArrayInside) 4
     (next_step c.args.next shows (g.S.Source.view c.step_in.new.self)
-    c.if-not-step_in.ensures.budget) (budget_alone before _)
+    c.if-not-step_in.ensures.budget) (alike_within _ before)
     (c.array_inside-outcome.ensures.does
-    (with_budget before (g.S.Source.view c.step_in.new.self).budget)
+    (budgeted (g.S.Source.view c.step_in.new.self).budget before)
     (next_stepped c.args.next shows c.step_in.ensures.others)) c.step_out.ensures.budget
     c.step_out.ensures.others
 
@@ -198,8 +205,11 @@ map_inside-returns-in_ok-counted_members-in-Some-clause-item g t c =
 pub map_inside-returns-in_ok-counted_members-in-Some-clause-progress :
     goal.map_inside-returns-in_ok-counted_members-in-Some-clause-progress
 map_inside-returns-in_ok-counted_members-in-Some-clause-progress g t c =
-    omega (arith, c.in_ok-take_map.ensures.progress,
-    c.in_ok-counted_members-in-Some.ensures.does.moves.by.bound)
+    omega (
+      arith,
+      c.in_ok-take_map.ensures.progress,
+      c.in_ok-counted_members-in-Some.ensures.does.moves.by.bound,
+    )
 
 pub map_inside-returns-in_err-counted_members-in-Some-clause-does :
     goal.map_inside-returns-in_err-counted_members-in-Some-clause-does
@@ -227,8 +237,11 @@ map_inside-returns-in_ok-open_members-in-None-clause-item g t c =
 pub map_inside-returns-in_ok-open_members-in-None-clause-progress :
     goal.map_inside-returns-in_ok-open_members-in-None-clause-progress
 map_inside-returns-in_ok-open_members-in-None-clause-progress g t c =
-    omega (arith, c.in_ok-take_map.ensures.progress,
-    c.in_ok-open_members-in-None.ensures.does.moves.by.bound)
+    omega (
+      arith,
+      c.in_ok-take_map.ensures.progress,
+      c.in_ok-open_members-in-None.ensures.does.moves.by.bound,
+    )
 
 pub map_inside-returns-in_err-open_members-in-None-clause-does :
     goal.map_inside-returns-in_err-open_members-in-None-clause-does
@@ -252,9 +265,9 @@ pub read_map-returns-clause-does : goal.read_map-returns-clause-does
 read_map-returns-clause-does g t c before shows =
     major_stepped (MakesMap ReadsMapInside) 5
     (next_step c.args.next shows (g.S.Source.view c.step_in.new.self)
-    c.if-not-step_in.ensures.budget) (budget_alone before _)
+    c.if-not-step_in.ensures.budget) (alike_within _ before)
     (c.map_inside-outcome.ensures.does
-    (with_budget before (g.S.Source.view c.step_in.new.self).budget)
+    (budgeted (g.S.Source.view c.step_in.new.self).budget before)
     (next_stepped c.args.next shows c.step_in.ensures.others)) c.step_out.ensures.budget
     c.step_out.ensures.others
 
@@ -353,8 +366,8 @@ open_items-loop-items-preserved g t c = record {
       more ReadsOneValue StopsOneValue
       (Before (ReadEach c.loop-items.items.items) (g.S.Source.view c.args.reader.now).budget)
       (other (ReadEach c.loop-items.items.items) c.loop-items.invariant.reached
-      c.if-not-branch.true (rw c.in_ok-part.ensures at c.is_break.ensures.moves) (rw
-      c.in_ok-part.ensures at c.is_break.ensures.sound))
+      c.if-not-branch.true (rw c.in_ok-part.ensures at c.is_break.ensures.decodes.moves) (rw
+      c.in_ok-part.ensures at c.is_break.ensures.decodes.sound))
       (ReadEach _ (g.S.Source.view c.args.reader.now).budget)
       (λ xs ys zs h s. each_more (g.S.Source.view c.args.reader.now).budget
       c.loop-items.items.items _ c.in_ok-value.value xs ys zs c.in_ok-keep.ensures.kept h.0
@@ -372,8 +385,8 @@ open_items-returns-clause-does g t c =
     (λ xs ys. ReadsOpenItems (g.S.Source.view c.args.reader.now).budget xs
     c.loop-items.items.items ys) (λ xs ys zs h e. open_done
     (g.S.Source.view c.args.reader.now).budget c.loop-items.items.items xs ys zs h e)
-    c.if-not-branch.false (rw c.in_ok-part.ensures at c.is_break.ensures.moves) (rw
-    c.in_ok-part.ensures at c.is_break.ensures.sound)))
+    c.if-not-branch.false (rw c.in_ok-part.ensures at c.is_break.ensures.decodes.moves) (rw
+    c.in_ok-part.ensures at c.is_break.ensures.decodes.sound)))
 
 pub open_items-returns-in_err-part-clause-does :
     goal.open_items-returns-in_err-part-clause-does
@@ -383,16 +396,16 @@ open_items-returns-in_err-part-clause-does g t c =
     (λ xs v ys. ReadsOpenItems (g.S.Source.view c.args.reader.now).budget xs v.items ys)
     (StopsOpenItems (g.S.Source.view c.args.reader.now).budget) (λ xs ys h e.
     open_end (g.S.Source.view c.args.reader.now).budget c.loop-items.items.items xs ys h e)
-    (rw c.in_err-part.ensures at c.is_break.ensures.moves) (rw c.in_err-part.ensures at
-    c.is_break.ensures.stops))
+    (rw c.in_err-part.ensures at c.is_break.ensures.decodes.moves) (rw c.in_err-part.ensures at
+    c.is_break.ensures.decodes.begins))
 
 pub open_items-returns-in_err-value-clause-does : goal.open_items-returns-in_err-value-clause-does
 open_items-returns-in_err-value-clause-does g t c =
     rw c.from_residual-in_err-value.ensures (ends ReadsOneValue StopsOneValue
     (Before (ReadEach c.loop-items.items.items) (g.S.Source.view c.args.reader.now).budget)
     (other (ReadEach c.loop-items.items.items) c.loop-items.invariant.reached
-    c.if-not-branch.true (rw c.in_ok-part.ensures at c.is_break.ensures.moves) (rw
-    c.in_ok-part.ensures at c.is_break.ensures.sound))
+    c.if-not-branch.true (rw c.in_ok-part.ensures at c.is_break.ensures.decodes.moves) (rw
+    c.in_ok-part.ensures at c.is_break.ensures.decodes.sound))
     (λ xs v ys. ReadsOpenItems (g.S.Source.view c.args.reader.now).budget xs v.items ys)
     (StopsOpenItems (g.S.Source.view c.args.reader.now).budget)
     (λ xs ys z rest h s. open_stop (g.S.Source.view c.args.reader.now).budget
@@ -412,8 +425,8 @@ open_members-loop-members-preserved g t c = record {
       more ReadsMember StopsMember (Before (ReadPairs c.loop-members.members.items)
       (g.S.Source.view c.args.reader.now).budget)
       (other (ReadPairs c.loop-members.members.items) c.loop-members.invariant.reached
-      c.if-not-branch.true (rw c.in_ok-part.ensures at c.is_break.ensures.moves) (rw
-      c.in_ok-part.ensures at c.is_break.ensures.sound))
+      c.if-not-branch.true (rw c.in_ok-part.ensures at c.is_break.ensures.decodes.moves) (rw
+      c.in_ok-part.ensures at c.is_break.ensures.decodes.sound))
       (ReadPairs _ (g.S.Source.view c.args.reader.now).budget)
       (λ xs ys zs h s. pairs_more (g.S.Source.view c.args.reader.now).budget
       c.loop-members.members.items _ c.in_ok-member.member xs ys zs
@@ -432,8 +445,8 @@ open_members-returns-clause-does g t c =
     (λ xs ys. ReadsOpenMembers (g.S.Source.view c.args.reader.now).budget xs
     c.loop-members.members.items ys) (λ xs ys zs h e. members_done
     (g.S.Source.view c.args.reader.now).budget c.loop-members.members.items xs ys zs h e)
-    c.if-not-branch.false (rw c.in_ok-part.ensures at c.is_break.ensures.moves) (rw
-    c.in_ok-part.ensures at c.is_break.ensures.sound)))
+    c.if-not-branch.false (rw c.in_ok-part.ensures at c.is_break.ensures.decodes.moves) (rw
+    c.in_ok-part.ensures at c.is_break.ensures.decodes.sound)))
 
 pub open_members-returns-in_err-part-clause-does :
     goal.open_members-returns-in_err-part-clause-does
@@ -443,8 +456,8 @@ open_members-returns-in_err-part-clause-does g t c =
     (λ xs v ys. ReadsOpenMembers (g.S.Source.view c.args.reader.now).budget xs v.items ys)
     (StopsOpenMembers (g.S.Source.view c.args.reader.now).budget) (λ xs ys h e. members_end
     (g.S.Source.view c.args.reader.now).budget c.loop-members.members.items xs ys h e)
-    (rw c.in_err-part.ensures at c.is_break.ensures.moves) (rw c.in_err-part.ensures at
-    c.is_break.ensures.stops))
+    (rw c.in_err-part.ensures at c.is_break.ensures.decodes.moves) (rw c.in_err-part.ensures at
+    c.is_break.ensures.decodes.begins))
 
 pub open_members-returns-in_err-member-clause-does :
     goal.open_members-returns-in_err-member-clause-does
@@ -453,8 +466,8 @@ open_members-returns-in_err-member-clause-does g t c =
     c.loop-members.members.items)
     (g.S.Source.view c.args.reader.now).budget)
     (other (ReadPairs c.loop-members.members.items) c.loop-members.invariant.reached
-    c.if-not-branch.true (rw c.in_ok-part.ensures at c.is_break.ensures.moves) (rw
-    c.in_ok-part.ensures at c.is_break.ensures.sound))
+    c.if-not-branch.true (rw c.in_ok-part.ensures at c.is_break.ensures.decodes.moves) (rw
+    c.in_ok-part.ensures at c.is_break.ensures.decodes.sound))
     (λ xs v ys. ReadsOpenMembers (g.S.Source.view c.args.reader.now).budget xs v.items ys)
     (StopsOpenMembers (g.S.Source.view c.args.reader.now).budget)
     (λ xs ys z rest h s. pair_stop (g.S.Source.view c.args.reader.now).budget
@@ -501,7 +514,8 @@ open_items-returns-in_err-keep-clause-does g t c =
     (StopsOpenItems (g.S.Source.view c.args.reader.now).budget) (ap refusal_left
     c.in_err-keep.ensures.memory)
     (kept_then (kept_then c.loop-items.invariant.reached.kept
-    (rw c.in_ok-part.ensures at c.is_break.ensures.moves).by) c.in_ok-value.ensures.does.moves.by))
+    (rw c.in_ok-part.ensures at c.is_break.ensures.decodes.moves).by)
+    c.in_ok-value.ensures.does.moves.by))
 
 pub open_members-returns-in_err-keep-clause-does : goal.open_members-returns-in_err-keep-clause-does
 open_members-returns-in_err-keep-clause-does g t c =
@@ -510,7 +524,8 @@ open_members-returns-in_err-keep-clause-does g t c =
     (StopsOpenMembers (g.S.Source.view c.args.reader.now).budget)
     (ap refusal_left c.in_err-keep.ensures.memory) (kept_then (kept_then
     c.loop-members.invariant.reached.kept
-    (rw c.in_ok-part.ensures at c.is_break.ensures.moves).by) c.in_ok-member.ensures.does.moves.by))
+    (rw c.in_ok-part.ensures at c.is_break.ensures.decodes.moves).by)
+    c.in_ok-member.ensures.does.moves.by))
 
 pub open_items-returns-in_err-part-clause-items :
     goal.open_items-returns-in_err-part-clause-items
@@ -618,7 +633,7 @@ pub open_items-loop-items-smaller : goal.open_items-loop-items-smaller
 open_items-loop-items-smaller g t c =
     omega (
       arith,
-      (rw c.in_ok-part.ensures at c.is_break.ensures.moves).by.bound,
+      (rw c.in_ok-part.ensures at c.is_break.ensures.decodes.moves).by.bound,
       c.in_ok-value.ensures.progress,
     )
 
@@ -626,7 +641,7 @@ pub open_members-loop-members-smaller : goal.open_members-loop-members-smaller
 open_members-loop-members-smaller g t c =
     omega (
       arith,
-      (rw c.in_ok-part.ensures at c.is_break.ensures.moves).by.bound,
+      (rw c.in_ok-part.ensures at c.is_break.ensures.decodes.moves).by.bound,
       c.in_ok-member.ensures.progress,
     )
 

@@ -1,4 +1,4 @@
-use Rattle.std.proofs.Common.{◌/◌, ◌≡◌, arith, inl, refl}
+use Rattle.std.proofs.Common.{◌/◌, ◌≡◌, arith, refl}
 use Rattle.std.proofs.lemmas.Result.{err_from_is_err_and}
 use Rattle.cbor4ii_items.specs.Initial.{unsigned, negative, byte_string, text_string}
 use Rattle.cbor4ii_items.specs.Numbers.{ReadsUnsigned, StopsUnsigned, ReadsNegative, StopsNegative}
@@ -18,7 +18,7 @@ returns-in_err-decode-in-0-clause-does g c =
     rw (p.1, p.2)
     (leaf_refused c.args.first (StopsUnsigned (sign_name unsigned) 8) (λ bs z rest h. int_stops
     (g.S.Source.view c.args.reader.now).budget unsigned c.args.first bs z rest c.in-0.is h)
-    c.in_err-decode-in-0.ensures.moves (c.in_err-decode-in-0.ensures.stops (inl refl)))
+    c.in_err-decode-in-0.ensures.moves c.in_err-decode-in-0.ensures.begins)
 
 pub returns-in_err-number-in-1-clause-does : goal.returns-in_err-number-in-1-clause-does
 returns-in_err-number-in-1-clause-does g c =
@@ -27,7 +27,7 @@ returns-in_err-number-in-1-clause-does g c =
     rw (p.1, p.2)
     (leaf_refused c.args.first (StopsNegative (sign_name negative) 8) (λ bs z rest h. int_stops
     (g.S.Source.view c.args.reader.now).budget negative c.args.first bs z rest c.in-1.is h)
-    c.in_err-number-in-1.ensures.moves (c.in_err-number-in-1.ensures.stops (inl refl)))
+    c.in_err-number-in-1.ensures.moves c.in_err-number-in-1.ensures.begins)
 
 pub returns-in_err-decode-in-2-clause-does : goal.returns-in_err-decode-in-2-clause-does
 returns-in_err-decode-in-2-clause-does g c =
@@ -36,7 +36,7 @@ returns-in_err-decode-in-2-clause-does g c =
     rw (p.1, p.2) (leaf_refused c.args.first (StopsString (kind_name byte_string) 2)
     (λ bs z rest h. string_stops (g.S.Source.view c.args.reader.now).budget byte_string
     c.args.first bs z rest c.in-2.is h) c.in_err-decode-in-2.ensures.moves
-    (c.in_err-decode-in-2.ensures.stops (inl refl)))
+    c.in_err-decode-in-2.ensures.begins)
 
 pub returns-in_err-decode-in_default-clause-does : goal.returns-in_err-decode-in_default-clause-does
 returns-in_err-decode-in_default-clause-does g c =
@@ -46,7 +46,7 @@ returns-in_err-decode-in_default-clause-does g c =
     rw (p.1, p.2) (leaf_refused c.args.first (StopsText (kind_name text_string))
     (λ bs z rest h. text_stops (g.S.Source.view c.args.reader.now).budget c.args.first bs z
     rest major h) c.in_err-decode-in_default.ensures.moves
-    (c.in_err-decode-in_default.ensures.stops (inl refl)))
+    c.in_err-decode-in_default.ensures.begins)
 
 pub returns-in_ok-decode-in-0-clause-does : goal.returns-in_ok-decode-in-0-clause-does
 returns-in_ok-decode-in-0-clause-does g c =

@@ -27,4 +27,4 @@ returns-in-None-2-clause-does g c before shows =
     (length_does array_name 4 (StopsMajor 4) c.array_length.result _
     (λ xs z rest. array_length_stops m.budget xs m.budget z rest) c.array_length.ensures.moves
     c.array_length.ensures.sound
-    c.array_length.ensures.stops)
+    c.array_length.ensures.begins)

@@ -27,4 +27,4 @@ returns-in-None-2-clause-does g c before shows =
     (length_does map_name 5 (StopsMajor 5) c.map_length.result _
     (λ xs z rest. map_length_stops m.budget xs m.budget z rest) c.map_length.ensures.moves
     c.map_length.ensures.sound
-    c.map_length.ensures.stops)
+    c.map_length.ensures.begins)

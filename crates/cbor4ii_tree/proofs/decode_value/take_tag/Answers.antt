@@ -14,4 +14,4 @@ pub returns-in-None-clause-does : goal.returns-in-None-clause-does
 returns-in-None-clause-does g c before shows =
     behind_next c.args.next shows TakesTag (StopsOf 6)
     (tag_taken c.tag_number.result _ c.tag_number.ensures.moves c.tag_number.ensures.sound
-    c.tag_number.ensures.stops)
+    c.tag_number.ensures.begins)

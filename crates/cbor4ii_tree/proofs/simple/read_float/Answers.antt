@@ -1,4 +1,4 @@
-use Rattle.std.proofs.Common.{arith, inl, refl, w8}
+use Rattle.std.proofs.Common.{arith, refl, w8}
 use Rattle.std.proofs.lemmas.Result.{err_from_is_err_and}
 use Rattle.std.proofs.Math.Facts.{Fits-lt-pow}
 use Rattle.cbor4ii_items.specs.Initial.{half, single, double}
@@ -35,21 +35,21 @@ pub returns-in_err-decode-in-249-clause-does : goal.returns-in_err-decode-in-249
 returns-in_err-decode-in-249-clause-does g c =
     let p = err_from_is_err_and c.from_residual.result c.from_residual.ensures.1 in
     rw (p.1, p.2) (float_refused half c.args.first c.in-249.is c.in_err-decode-in-249.ensures.moves
-    (c.in_err-decode-in-249.ensures.stops (inl refl)))
+    c.in_err-decode-in-249.ensures.begins)
 
 pub returns-in_err-decode-in-250-clause-does : goal.returns-in_err-decode-in-250-clause-does
 returns-in_err-decode-in-250-clause-does g c =
     let p = err_from_is_err_and c.from_residual-in_err-decode-in-250.result
     c.from_residual-in_err-decode-in-250.ensures.1 in
     rw (p.1, p.2) (float_refused single c.args.first c.in-250.is
-    c.in_err-decode-in-250.ensures.moves (c.in_err-decode-in-250.ensures.stops (inl refl)))
+    c.in_err-decode-in-250.ensures.moves c.in_err-decode-in-250.ensures.begins)
 
 pub returns-in_err-decode-in-251-clause-does : goal.returns-in_err-decode-in-251-clause-does
 returns-in_err-decode-in-251-clause-does g c =
     let p = err_from_is_err_and c.from_residual-in_err-decode-in-251.result
     c.from_residual-in_err-decode-in-251.ensures.1 in
     rw (p.1, p.2) (float_refused double c.args.first c.in-251.is
-    c.in_err-decode-in-251.ensures.moves (c.in_err-decode-in-251.ensures.stops (inl refl)))
+    c.in_err-decode-in-251.ensures.moves c.in_err-decode-in-251.ensures.begins)
 
 pub returns-in_default-clause-does : goal.returns-in_default-clause-does
 returns-in_default-clause-does g c =
@@ -68,7 +68,7 @@ pub returns-in_err-decode-in-249-clause-exactly : goal.returns-in_err-decode-in-
 returns-in_err-decode-in-249-clause-exactly g c =
     let p = err_from_is_err_and c.from_residual.result c.from_residual.ensures.1 in
     rw (p.1, p.2) (strict.float_stops half c.args.first c.in-249.is
-    c.in_err-decode-in-249.ensures.moves (c.in_err-decode-in-249.ensures.stops (inl refl)))
+    c.in_err-decode-in-249.ensures.moves c.in_err-decode-in-249.ensures.begins)
 
 pub returns-in_ok-decode-in-250-clause-exactly : goal.returns-in_ok-decode-in-250-clause-exactly
 returns-in_ok-decode-in-250-clause-exactly g c =
@@ -81,7 +81,7 @@ returns-in_err-decode-in-250-clause-exactly g c =
     let p = err_from_is_err_and c.from_residual-in_err-decode-in-250.result
     c.from_residual-in_err-decode-in-250.ensures.1 in
     rw (p.1, p.2) (strict.float_stops single c.args.first c.in-250.is
-    c.in_err-decode-in-250.ensures.moves (c.in_err-decode-in-250.ensures.stops (inl refl)))
+    c.in_err-decode-in-250.ensures.moves c.in_err-decode-in-250.ensures.begins)
 
 pub returns-in_ok-decode-in-251-clause-exactly : goal.returns-in_ok-decode-in-251-clause-exactly
 returns-in_ok-decode-in-251-clause-exactly g c =
@@ -94,7 +94,7 @@ returns-in_err-decode-in-251-clause-exactly g c =
     let p = err_from_is_err_and c.from_residual-in_err-decode-in-251.result
     c.from_residual-in_err-decode-in-251.ensures.1 in
     rw (p.1, p.2) (strict.float_stops double c.args.first c.in-251.is
-    c.in_err-decode-in-251.ensures.moves (c.in_err-decode-in-251.ensures.stops (inl refl)))
+    c.in_err-decode-in-251.ensures.moves c.in_err-decode-in-251.ensures.begins)
 
 pub returns-in_default-clause-exactly : goal.returns-in_default-clause-exactly
 returns-in_default-clause-exactly g c =

@@ -1,112 +1,50 @@
-use Rattle.std.proofs.Common.{refl, sym}
+use Rattle.std.proofs.Common.{refl, sym, rules}
 use Rattle.std.proofs.lemmas.Result.{err_from_is_err_and}
-use Rattle.cbor4ii_items.specs.Laws.Steps.{moves_then, moves_err, kept_then}
-use Rattle.cbor4ii_items.specs.Laws.SequenceParts.{stands, open_more, open_done, open_refuses}
-use Rattle.cbor4ii_items.specs.Laws.SequenceParts.{nothing_refuses, end_refuses, open_stops}
-use Rattle.cbor4ii_items.specs.Laws.SequenceParts.{nothing_stops, end_stops}
+use Rattle.cbor4ii_items.specs.Laws.Calls.{out_of_memory}
+use Rattle.cbor4ii_items.specs.Laws.SequenceParts.{stands, open_more, open_done, open_err}
+use Rattle.cbor4ii_items.specs.Laws.SequenceParts.{place_end, place_nothing, place_part}
+use Rattle.cbor4ii_items.specs.Laws.Steps.{kept_then}
+use Rattle.cbor4ii_items.specs.Sequences.{open_spelling}
 use Rattle.cbor4ii_items.proofs.sequences.parts.take_open.Goals as goal
-use Rattle.cbor4ii_items.specs.Laws.Answering.{exact_kept}
 
-pub returns-in_err-take_break-clause-moves : goal.returns-in_err-take_break-clause-moves
-returns-in_err-take_break-clause-moves g c =
+pub returns-in_err-take_break : goal.returns-in_err-take_break
+returns-in_err-take_break g c =
     let p = err_from_is_err_and c.from_residual.result c.from_residual.ensures.1 in
-    rw (p.1, p.2)
-    (moves_then c.loop-parts.invariant.kept (moves_err c.in_err-take_break.ensures.runs.moves))
+    let s = g.Q.Sequence.part in
+    rw (p.1, p.2) (open_err c.args.name.now s g.met.Q.Sequence.lawful
+    c.loop-parts.invariant
+    (place_end s c.args.name.now g.met.Q.Sequence.lawful c.in_err-take_break.ensures.runs
+    c.in_err-take_break.ensures.memory))
 
-pub returns-in_err-take_break-clause-complete : goal.returns-in_err-take_break-clause-complete
-returns-in_err-take_break-clause-complete g c exact =
-    let p = err_from_is_err_and c.from_residual.result c.from_residual.ensures.1 in
-    rw (p.1, p.2) (end_refuses _ _ g.met.Q.Sequence.one g.met.Q.Sequence.within
-    g.met.Q.Sequence.positive c.loop-parts.invariant c.in_err-take_break.ensures.runs)
+pub returns-then-not-is_part_never_empty : goal.returns-then-not-is_part_never_empty
+returns-then-not-is_part_never_empty g c =
+    let s = g.Q.Sequence.part in
+    open_err c.args.name.now s g.met.Q.Sequence.lawful c.loop-parts.invariant
+    (place_nothing s c.args.name (sym c.if-not-is_part_never_empty.ensures)
+    (stands c.if-not-branch.true c.in_ok-take_break.ensures.runs))
 
-pub returns-in_err-take_break-clause-stops : goal.returns-in_err-take_break-clause-stops
-returns-in_err-take_break-clause-stops g c exact =
-    let p = err_from_is_err_and c.from_residual.result c.from_residual.ensures.1 in
-    rw (p.1, p.2) (end_stops _ _ _ _ c.loop-parts.invariant c.in_err-take_break.ensures.runs)
+pub returns-in_err-part : goal.returns-in_err-part
+returns-in_err-part g c =
+    let p = err_from_is_err_and c.from_residual-in_err-part.result
+    c.from_residual-in_err-part.ensures.1 in
+    let s = g.Q.Sequence.part in
+    rw (p.1, p.2) (open_err c.args.name.now s g.met.Q.Sequence.lawful c.loop-parts.invariant
+    (place_part s c.args.name.now (sym c.if-not-is_part_never_empty.ensures)
+    (stands c.if-not-branch.true c.in_ok-take_break.ensures.runs) c.in_err-part.ensures))
 
-pub returns-then-not-is_part_never_empty-clause-moves :
-    goal.returns-then-not-is_part_never_empty-clause-moves
-returns-then-not-is_part_never_empty-clause-moves g c =
-    record {
-      by = kept_then c.loop-parts.invariant.kept c.in_ok-take_break.ensures.runs.moves.by;
-      depth = λ e. refl;
-    }
-
-pub returns-then-not-is_part_never_empty-clause-complete :
-    goal.returns-then-not-is_part_never_empty-clause-complete
-returns-then-not-is_part_never_empty-clause-complete g c exact =
-    nothing_refuses _ _ g.met.Q.Sequence.one (sym c.if-not-is_part_never_empty.ensures)
-    c.loop-parts.invariant (stands c.if-not-branch.true c.in_ok-take_break.ensures.runs)
-
-pub returns-then-not-is_part_never_empty-clause-stops :
-    goal.returns-then-not-is_part_never_empty-clause-stops
-returns-then-not-is_part_never_empty-clause-stops g c exact =
-    nothing_stops _ _ c.args.name _ (sym c.if-not-is_part_never_empty.ensures)
-    c.loop-parts.invariant (stands c.if-not-branch.true c.in_ok-take_break.ensures.runs)
+pub returns-then-is_err : goal.returns-then-is_err
+returns-then-is_err g c =
+    out_of_memory (open_spelling c.args.name.now g.Q.Sequence.part) refl
+    (kept_then (kept_then c.loop-parts.invariant.kept c.in_ok-take_break.ensures.runs.moves.by)
+    c.in_ok-part.ensures.moves.by)
 
 pub loop-parts-preserved : goal.loop-parts-preserved
 loop-parts-preserved g c =
-    open_more _ _ (sym c.if-not-is_part_never_empty.ensures) c.loop-parts.invariant
-    (stands c.if-not-branch.true c.in_ok-take_break.ensures.runs) c.in_ok-add_part.ensures.sound
-    c.in_ok-add_part.ensures.moves
+    open_more g.Q.Sequence.part (sym c.if-not-is_part_never_empty.ensures) c.loop-parts.invariant
+    (stands c.if-not-branch.true c.in_ok-take_break.ensures.runs) c.in_ok-part.ensures
+    (search rules)
 
-pub returns-in_err-add_part-clause-moves : goal.returns-in_err-add_part-clause-moves
-returns-in_err-add_part-clause-moves g c =
-    let p = err_from_is_err_and c.from_residual-in_err-add_part.result
-    c.from_residual-in_err-add_part.ensures.1 in
-    rw (p.1, p.2)
-    (moves_then (kept_then c.loop-parts.invariant.kept c.in_ok-take_break.ensures.runs.moves.by)
-    (moves_err c.in_err-add_part.ensures.moves))
-
-pub returns-in_err-add_part-clause-complete : goal.returns-in_err-add_part-clause-complete
-returns-in_err-add_part-clause-complete g c exact =
-    let p = err_from_is_err_and c.from_residual-in_err-add_part.result
-    c.from_residual-in_err-add_part.ensures.1 in
-    let kept = kept_then c.loop-parts.invariant.kept c.in_ok-take_break.ensures.runs.moves.by in
-    rw (p.1, p.2) (open_refuses _ _ g.met.Q.Sequence.one c.loop-parts.invariant
-    (stands c.if-not-branch.true c.in_ok-take_break.ensures.runs)
-    (λ xs told. c.in_err-add_part.ensures.complete (exact_kept _ _ _ xs told kept exact)))
-
-pub returns-in_err-add_part-clause-stops : goal.returns-in_err-add_part-clause-stops
-returns-in_err-add_part-clause-stops g c exact =
-    let p = err_from_is_err_and c.from_residual-in_err-add_part.result
-    c.from_residual-in_err-add_part.ensures.1 in
-    let kept = kept_then c.loop-parts.invariant.kept c.in_ok-take_break.ensures.runs.moves.by in
-    rw (p.1, p.2) (open_stops _ _ _ _ (sym c.if-not-is_part_never_empty.ensures)
-    c.loop-parts.invariant (stands c.if-not-branch.true c.in_ok-take_break.ensures.runs)
-    (λ xs told. c.in_err-add_part.ensures.stops (exact_kept _ _ _ xs told kept exact)))
-
-pub returns-clause-moves : goal.returns-clause-moves
-returns-clause-moves g c =
-    record {
-      by = kept_then c.loop-parts.invariant.kept c.in_ok-take_break.ensures.runs.moves.by;
-      depth = λ e. refl;
-    }
-
-pub returns-clause-sound : goal.returns-clause-sound
-returns-clause-sound g c =
-    open_done _ _ c.if-not-branch.false c.loop-parts.invariant c.in_ok-take_break.ensures.runs
-
-pub returns-in_err-take_break-clause-begins : goal.returns-in_err-take_break-clause-begins
-returns-in_err-take_break-clause-begins g c =
-    let p = err_from_is_err_and c.from_residual.result c.from_residual.ensures.1 in
-    rw (p.1, p.2) (end_stops _ _ _ _ c.loop-parts.invariant c.in_err-take_break.ensures.runs)
-
-pub returns-then-not-is_part_never_empty-clause-begins :
-    goal.returns-then-not-is_part_never_empty-clause-begins
-returns-then-not-is_part_never_empty-clause-begins g c =
-    nothing_stops _ _ c.args.name _ (sym c.if-not-is_part_never_empty.ensures)
-    c.loop-parts.invariant (stands c.if-not-branch.true c.in_ok-take_break.ensures.runs)
-
-pub returns-in_err-add_part-clause-begins : goal.returns-in_err-add_part-clause-begins
-returns-in_err-add_part-clause-begins g c =
-    let p = err_from_is_err_and c.from_residual-in_err-add_part.result
-    c.from_residual-in_err-add_part.ensures.1 in
-    let kept = kept_then c.loop-parts.invariant.kept c.in_ok-take_break.ensures.runs.moves.by in
-    rw (p.1, p.2) (open_stops _ _ _ _ (sym c.if-not-is_part_never_empty.ensures)
-    c.loop-parts.invariant (stands c.if-not-branch.true c.in_ok-take_break.ensures.runs)
-    (λ xs told. c.in_err-add_part.ensures.begins))
-
-pub returns-then-not-is_part_never_empty-clause-sound :
-    goal.returns-then-not-is_part_never_empty-clause-sound
-returns-then-not-is_part_never_empty-clause-sound g c = tt
+pub returns : goal.returns
+returns g c =
+    open_done c.args.name.now g.Q.Sequence.part c.if-not-branch.false c.loop-parts.invariant
+    c.in_ok-take_break.ensures.runs

@@ -1,4 +1,5 @@
-use Rattle.std.proofs.Common.{rules, arith, ◌≡◌, Some, length, take, nat_lt, refl, sym, ap, subst, ◌∙◌}
+use Rattle.std.proofs.Common.{rules, arith, ◌≡◌, Some, length, take, nat_lt, refl, sym, ap, subst}
+use Rattle.std.proofs.Common.{◌∙◌}
 use Rattle.std.specs.Prelude.{IsTrue}
 use Rattle.cbor4ii_rw.specs.Segments.{joined_segments, rest_of, full_of, shown_segment}
 use Rattle.cbor4ii_rw.specs.Reader.{IsFront, IsEnough}

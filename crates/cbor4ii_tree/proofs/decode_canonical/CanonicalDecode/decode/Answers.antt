@@ -1,12 +1,12 @@
 use Rattle.std.proofs.Common.{◌≡◌, Option, Ok, OnOk, OnSome, sym, subst}
 use Rattle.std.proofs.lemmas.Result.{err_from_is_err_and}
 use Rattle.cbor4ii_rw.specs.declared.error.DecodeError.{DecodeError}
-use Rattle.cbor4ii_items.specs.Laws.Steps.{moves_ok, moves_err}
 use Rattle.cbor4ii_tree.specs.Does.{answered}
-use Rattle.cbor4ii_tree.proofs.canonical.Decoding.{canonical_sound, canonical_only, canonical_all}
-use Rattle.cbor4ii_tree.proofs.canonical.Decoding.{canonical_spelling, canonical_every}
+use Rattle.cbor4ii_tree.proofs.canonical.Decoding.{canonical_ok, canonical_err, canonical_only}
+use Rattle.cbor4ii_tree.proofs.canonical.Decoding.{canonical_all}
+use Rattle.cbor4ii_tree.proofs.canonical.Decoding.{takes_spelling, canonical_every}
 use Rattle.cbor4ii_tree.proofs.canonical.Decoding.{canonical_front, canonical_exact}
-use Rattle.cbor4ii_tree.proofs.canonical.Decoding.{canonical_refuses, canonical_stops, refused_all}
+use Rattle.cbor4ii_tree.proofs.canonical.Decoding.{refused_all}
 use Rattle.cbor4ii_tree.proofs.canonical.Decoding.{refused_every, refused_front, refused_eof}
 use Rattle.cbor4ii_tree.proofs.canonical.Decoding.{refused_depth, refused_never, refused_others}
 use Rattle.cbor4ii_tree.proofs.canonical.Decoding.{refused_value, refused_exact}
@@ -17,13 +17,15 @@ was_there : {V E : Type 0} (r : Option V) (failure : Option (DecodeError E)) {v 
     → Ok v ≡ answered r failure → OnSome r P → P
 was_there r failure P e h = subst (λ z. OnOk z P) (sym e) (told_on r failure P h)
 
-pub returns-clause-progress : goal.returns-clause-progress
-returns-clause-progress g c =
-    was_there c.read_one-value.result _ _ c.in_ok-whole.ensures c.read_one-value.ensures.progress
+pub returns-clause-decodes : goal.returns-clause-decodes
+returns-clause-decodes g c =
+    canonical_ok (rw (sym c.in_ok-whole.ensures) at c.read_one-value.ensures.does)
+    (was_there c.read_one-value.result _ _ c.in_ok-whole.ensures c.read_one-value.ensures.progress)
 
-pub returns-clause-sound : goal.returns-clause-sound
-returns-clause-sound g c =
-    canonical_sound (rw (sym c.in_ok-whole.ensures) at c.read_one-value.ensures.does)
+pub returns-in_err-whole-clause-decodes : goal.returns-in_err-whole-clause-decodes
+returns-in_err-whole-clause-decodes g c =
+    let p = err_from_is_err_and c.from_residual.result c.from_residual.ensures.1 in
+    rw (p.1, p.2) (canonical_err (rw (sym c.in_err-whole.ensures) at c.read_one-value.ensures.does))
 
 pub returns-clause-only : goal.returns-clause-only
 returns-clause-only g c =
@@ -36,18 +38,6 @@ returns-clause-all g c =
 pub returns-clause-front : goal.returns-clause-front
 returns-clause-front g c =
     canonical_front (rw (sym c.in_ok-whole.ensures) at c.read_one-value.ensures.does)
-
-pub returns-in_err-whole-clause-complete : goal.returns-in_err-whole-clause-complete
-returns-in_err-whole-clause-complete g c =
-    let p = err_from_is_err_and c.from_residual.result c.from_residual.ensures.1 in
-    rw (p.1, p.2) (canonical_refuses (rw (sym c.in_err-whole.ensures) at
-    c.read_one-value.ensures.does))
-
-pub returns-in_err-whole-clause-stops : goal.returns-in_err-whole-clause-stops
-returns-in_err-whole-clause-stops g c =
-    let p = err_from_is_err_and c.from_residual.result c.from_residual.ensures.1 in
-    rw (p.1, p.2) (canonical_stops (rw (sym c.in_err-whole.ensures) at
-    c.read_one-value.ensures.does))
 
 pub returns-in_err-whole-clause-all : goal.returns-in_err-whole-clause-all
 returns-in_err-whole-clause-all g c =
@@ -94,19 +84,9 @@ returns-in_err-whole-clause-exact g c =
     let p = err_from_is_err_and c.from_residual.result c.from_residual.ensures.1 in
     rw (p.1, p.2) (refused_exact (rw (sym c.in_err-whole.ensures) at c.read_one-value.ensures.does))
 
-pub returns-clause-moves : goal.returns-clause-moves
-returns-clause-moves g c =
-    moves_ok (rw (sym c.in_ok-whole.ensures) at c.read_one-value.ensures.does).moves
-
-pub returns-in_err-whole-clause-moves : goal.returns-in_err-whole-clause-moves
-returns-in_err-whole-clause-moves g c =
-    let p = err_from_is_err_and c.from_residual.result c.from_residual.ensures.1 in
-    rw (p.1, p.2) (moves_err (rw (sym c.in_err-whole.ensures) at
-    c.read_one-value.ensures.does).moves)
-
 pub returns-clause-spelling : goal.returns-clause-spelling
 returns-clause-spelling g c =
-    canonical_spelling (rw (sym c.in_ok-whole.ensures) at c.read_one-value.ensures.does)
+    takes_spelling (rw (sym c.in_ok-whole.ensures) at c.read_one-value.ensures.does)
 
 pub returns-clause-every : goal.returns-clause-every
 returns-clause-every g c =

@@ -1,34 +1,19 @@
-use Rattle.cbor4ii_tree.proofs.values.Decoding.{value_sound, value_refuses, value_stops}
+use Rattle.cbor4ii_tree.proofs.values.Decoding.{value_decodes}
 use Rattle.cbor4ii_tree.proofs.answers.Promises.{only_reads, all_reads, front_reads, eof_reads}
 use Rattle.cbor4ii_tree.proofs.answers.Promises.{depth_reads, final_reads, others_reads, size_reads}
 use Rattle.cbor4ii_tree.proofs.answers.Promises.{exact_reads, skips_reads, canonical_reads}
 use Rattle.cbor4ii_tree.proofs.values.Answered.{told_if, told_on}
 use Rattle.cbor4ii_tree.proofs.decode_value.ValueDecode.decode.Goals as goal
 
-pub returns-clause-moves : goal.returns-clause-moves
-returns-clause-moves g c = rw c.whole.ensures c.read_outermost-value.ensures.does.moves
-
-pub returns-clause-progress : goal.returns-clause-progress
-returns-clause-progress g c =
-    rw c.whole.ensures (told_on c.read_outermost-value.result _ _
-    c.read_outermost-value.ensures.progress)
+pub returns-clause-decodes : goal.returns-clause-decodes
+returns-clause-decodes g c =
+    rw c.whole.ensures (value_decodes _ c.read_outermost-value.ensures.does
+    (told_on c.read_outermost-value.result _ _ c.read_outermost-value.ensures.progress))
 
 pub returns-clause-item : goal.returns-clause-item
 returns-clause-item g c =
     rw c.whole.ensures (told_if c.read_outermost-value.result _ _
     c.read_outermost-value.ensures.item)
-
-pub returns-clause-sound : goal.returns-clause-sound
-returns-clause-sound g c =
-    rw c.whole.ensures (value_sound _ c.read_outermost-value.ensures.does)
-
-pub returns-clause-complete : goal.returns-clause-complete
-returns-clause-complete g c =
-    rw c.whole.ensures (value_refuses _ c.read_outermost-value.ensures.does)
-
-pub returns-clause-stops : goal.returns-clause-stops
-returns-clause-stops g c =
-    rw c.whole.ensures (value_stops _ c.read_outermost-value.ensures.does)
 
 pub returns-clause-only : goal.returns-clause-only
 returns-clause-only g c =

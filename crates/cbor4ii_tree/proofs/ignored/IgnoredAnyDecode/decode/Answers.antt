@@ -1,20 +1,14 @@
-use Rattle.cbor4ii_tree.proofs.skip_calls.Ignoring.{ignored_sound, ignored_refuses}
-use Rattle.std.proofs.Common.{Ok, Err, refl}
+use Rattle.cbor4ii_tree.proofs.skip_calls.Ignoring.{ignored_ok, ignored_err}
+use Rattle.std.proofs.Common.{Ok, Err}
 use Rattle.cbor4ii_tree.proofs.answers.Promises.{all_skips, front_skips, eof_skips, depth_skips}
 use Rattle.cbor4ii_tree.proofs.answers.Promises.{final_skips, others_skips, exact_skips}
 use Rattle.cbor4ii_tree.proofs.ignored.IgnoredAnyDecode.decode.Goals as goal
 
-pub returns-in-Ok-clause-moves : goal.returns-in-Ok-clause-moves
-returns-in-Ok-clause-moves g c = record { by = c.in-Ok.ensures.does.moves.by; depth = λ _. refl }
+pub returns-in-Ok-clause-decodes : goal.returns-in-Ok-clause-decodes
+returns-in-Ok-clause-decodes g c = ignored_ok _ c.in-Ok.ensures.does c.in-Ok.ensures.progress
 
-pub returns-in-Ok-clause-progress : goal.returns-in-Ok-clause-progress
-returns-in-Ok-clause-progress g c = λ _. c.in-Ok.ensures.progress
-
-pub returns-in-Ok-clause-sound : goal.returns-in-Ok-clause-sound
-returns-in-Ok-clause-sound g c = ignored_sound _ c.in-Ok.ensures.does
-
-pub returns-in-Err-clause-complete : goal.returns-in-Err-clause-complete
-returns-in-Err-clause-complete g c exact = ignored_refuses c.in-Err.ensures.does
+pub returns-in-Err-clause-decodes : goal.returns-in-Err-clause-decodes
+returns-in-Err-clause-decodes g c = ignored_err c.in-Err.ensures.does c.in-Err.ensures.spares
 
 pub returns-in-Ok-clause-only : goal.returns-in-Ok-clause-only
 returns-in-Ok-clause-only g c xs told =
@@ -29,16 +23,6 @@ returns-in-Ok-clause-front g c = front_skips (Ok c.in-Ok.field-0) c.in-Ok.ensure
 
 pub returns-in-Ok-clause-exact : goal.returns-in-Ok-clause-exact
 returns-in-Ok-clause-exact g c = exact_skips (Ok c.in-Ok.field-0) c.in-Ok.ensures.does
-
-pub returns-in-Err-clause-moves : goal.returns-in-Err-clause-moves
-returns-in-Err-clause-moves g c =
-    record { by = c.in-Err.ensures.does.moves.by; depth = c.in-Err.ensures.does.moves.depth }
-
-pub returns-in-Err-clause-stops : goal.returns-in-Err-clause-stops
-returns-in-Err-clause-stops g c exact = record { at = c.in-Err.ensures.does.err }
-
-pub returns-in-Err-clause-begins : goal.returns-in-Err-clause-begins
-returns-in-Err-clause-begins g c = record { at = c.in-Err.ensures.does.err }
 
 pub returns-in-Err-clause-all : goal.returns-in-Err-clause-all
 returns-in-Err-clause-all g c = all_skips (Err c.in-Err.error) c.in-Err.ensures.does

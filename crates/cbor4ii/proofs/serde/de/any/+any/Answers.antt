@@ -1,3 +1,4 @@
+use Rattle.cbor4ii.proofs.Items.{gone_on}
 use Rattle.cbor4ii_items.specs.Laws.Running.{kept_alike}
 use Rattle.cbor4ii_items.specs.Laws.Answering.{fits_zero}
 use Rattle.std.proofs.Common.{true, refl, arith, inl}
@@ -18,11 +19,12 @@ use Rattle.cbor4ii.proofs.AnyStopping.{end_stops, length_stops, counted_stops, o
 use Rattle.cbor4ii.proofs.AnyStopping.{key_stops, value_stops, next_stops, kind_stops}
 use Rattle.cbor4ii.proofs.AnyStopping.{kind_stops_by, other_stops}
 use Rattle.cbor4ii.proofs.Looking.{saw}
-use Rattle.cbor4ii_items.specs.Laws.Pairs.{pair_sound, key_refuses, value_refuses}
-use Rattle.cbor4ii_items.specs.Laws.SequenceParts.{count_more, count_done, count_refuses, stands}
-use Rattle.cbor4ii_items.specs.Laws.SequenceParts.{open_more, open_done, open_refuses, end_refuses}
+use Rattle.cbor4ii.specs.Laws.PairsRead.{pair_sound, key_refuses, value_refuses}
+use Rattle.cbor4ii_items.specs.Laws.SequenceParts.{stands}
+use Rattle.cbor4ii.specs.Laws.PartsRead.{count_more, count_done, count_refuses}
+use Rattle.cbor4ii.specs.Laws.PartsRead.{open_more, open_done, open_refuses, end_refuses}
 use Rattle.cbor4ii.proofs.Sequences.{counted_sound, counted_refuses, opened_sound, opened_refuses}
-use Rattle.cbor4ii_items.specs.Laws.SequenceInside.{counts_of, opens_of, no_length}
+use Rattle.cbor4ii.specs.Laws.SequencesRead.{counts_of, opens_of, no_length}
 use Rattle.cbor4ii.proofs.Steps.{formed_sound, step_sound, step_refuses, stops_no_step}
 use Rattle.cbor4ii.specs.Sequence.{four_small, five_small}
 use Rattle.cbor4ii.proofs.serde.de.any.+any.Goals as goal
@@ -46,69 +48,74 @@ read_any-returns-clause-complete g t c =
     c.step_in.ensures.others c.any_inside-outcome.ensures.complete)
 
 pub any_inside-returns-in-Err-clause-complete : goal.any_inside-returns-in-Err-clause-complete
-any_inside-returns-in-Err-clause-complete g t c = no_byte_refuses c.in-Err.ensures.complete
+any_inside-returns-in-Err-clause-complete g t c =
+    no_byte_refuses (c.in-Err.ensures.decodes.complete (inl refl))
 
 pub any_inside-returns-in-Leaf-clause-moves : goal.any_inside-returns-in-Leaf-clause-moves
 any_inside-returns-in-Leaf-clause-moves g t c =
-    moves_then c.in-Ok.ensures.moves.by c.take_leaf.ensures.moves
+    moves_then c.in-Ok.ensures.decodes.moves.by c.take_leaf.ensures.moves
 
 pub any_inside-returns-in-Leaf-clause-sound : goal.any_inside-returns-in-Leaf-clause-sound
 any_inside-returns-in-Leaf-clause-sound g t c =
-    kind_ok c.take_leaf.result _ (saw c.in-Ok.ensures.moves c.in-Ok.ensures.sound) c.in-Leaf.ensures
+    kind_ok c.take_leaf.result _ (saw c.in-Ok.ensures.decodes.moves c.in-Ok.ensures.decodes.sound)
+    c.in-Leaf.ensures
     c.take_leaf.ensures.sound
 
 pub any_inside-returns-in-Leaf-clause-complete : goal.any_inside-returns-in-Leaf-clause-complete
 any_inside-returns-in-Leaf-clause-complete g t c =
-    kind_err c.take_leaf.result (saw c.in-Ok.ensures.moves c.in-Ok.ensures.sound) c.in-Leaf.ensures
+    kind_err c.take_leaf.result (saw c.in-Ok.ensures.decodes.moves c.in-Ok.ensures.decodes.sound)
+    c.in-Leaf.ensures
     c.take_leaf.ensures.complete
 
 pub any_inside-returns-in-Ok-any_array-clause-moves :
     goal.any_inside-returns-in-Ok-any_array-clause-moves
 any_inside-returns-in-Ok-any_array-clause-moves g t c =
-    moves_then c.in-Ok.ensures.moves.by (moves_ok c.in-Ok-any_array.ensures.moves)
+    moves_then c.in-Ok.ensures.decodes.moves.by (moves_ok c.in-Ok-any_array.ensures.moves)
 
 pub any_inside-returns-in-Ok-any_array-clause-sound :
     goal.any_inside-returns-in-Ok-any_array-clause-sound
 any_inside-returns-in-Ok-any_array-clause-sound g t c =
-    kind_sound (saw c.in-Ok.ensures.moves c.in-Ok.ensures.sound) c.in-Array.ensures
+    kind_sound (saw c.in-Ok.ensures.decodes.moves c.in-Ok.ensures.decodes.sound) c.in-Array.ensures
     (parts_sound _ of_array c.in-Ok-any_array.ensures.sound)
 
 pub any_inside-returns-in-Err-any_array-clause-moves :
     goal.any_inside-returns-in-Err-any_array-clause-moves
 any_inside-returns-in-Err-any_array-clause-moves g t c =
-    moves_then c.in-Ok.ensures.moves.by (moves_err c.in-Err-any_array.ensures.moves)
+    moves_then c.in-Ok.ensures.decodes.moves.by (moves_err c.in-Err-any_array.ensures.moves)
 
 pub any_inside-returns-in-Err-any_array-clause-complete :
     goal.any_inside-returns-in-Err-any_array-clause-complete
 any_inside-returns-in-Err-any_array-clause-complete g t c =
-    kind_refuses (saw c.in-Ok.ensures.moves c.in-Ok.ensures.sound) c.in-Array.ensures
+    kind_refuses (saw c.in-Ok.ensures.decodes.moves c.in-Ok.ensures.decodes.sound)
+    c.in-Array.ensures
     (parts_refuse _ of_array c.in-Err-any_array.ensures.complete)
 
 pub any_inside-returns-in-Ok-any_map-clause-moves :
     goal.any_inside-returns-in-Ok-any_map-clause-moves
 any_inside-returns-in-Ok-any_map-clause-moves g t c =
-    moves_then c.in-Ok.ensures.moves.by (moves_ok c.in-Ok-any_map.ensures.moves)
+    moves_then c.in-Ok.ensures.decodes.moves.by (moves_ok c.in-Ok-any_map.ensures.moves)
 
 pub any_inside-returns-in-Ok-any_map-clause-sound :
     goal.any_inside-returns-in-Ok-any_map-clause-sound
 any_inside-returns-in-Ok-any_map-clause-sound g t c =
-    kind_sound (saw c.in-Ok.ensures.moves c.in-Ok.ensures.sound) c.in-Map.ensures
+    kind_sound (saw c.in-Ok.ensures.decodes.moves c.in-Ok.ensures.decodes.sound) c.in-Map.ensures
     (parts_sound _ of_map c.in-Ok-any_map.ensures.sound)
 
 pub any_inside-returns-in-Err-any_map-clause-moves :
     goal.any_inside-returns-in-Err-any_map-clause-moves
 any_inside-returns-in-Err-any_map-clause-moves g t c =
-    moves_then c.in-Ok.ensures.moves.by (moves_err c.in-Err-any_map.ensures.moves)
+    moves_then c.in-Ok.ensures.decodes.moves.by (moves_err c.in-Err-any_map.ensures.moves)
 
 pub any_inside-returns-in-Err-any_map-clause-complete :
     goal.any_inside-returns-in-Err-any_map-clause-complete
 any_inside-returns-in-Err-any_map-clause-complete g t c =
-    kind_refuses (saw c.in-Ok.ensures.moves c.in-Ok.ensures.sound) c.in-Map.ensures
+    kind_refuses (saw c.in-Ok.ensures.decodes.moves c.in-Ok.ensures.decodes.sound) c.in-Map.ensures
     (parts_refuse _ of_map c.in-Err-any_map.ensures.complete)
 
 pub any_inside-returns-in-Other-clause-complete : goal.any_inside-returns-in-Other-clause-complete
 any_inside-returns-in-Other-clause-complete g t c =
-    other_refuses (saw c.in-Ok.ensures.moves c.in-Ok.ensures.sound) c.in-Other.ensures
+    other_refuses (saw c.in-Ok.ensures.decodes.moves c.in-Ok.ensures.decodes.sound)
+    c.in-Other.ensures
 
 pub any_array-returns-clause-moves : goal.any_array-returns-clause-moves
 any_array-returns-clause-moves g t c =
@@ -159,7 +166,8 @@ array_inside-returns-in-Ok-None-clause-complete g t c =
     (λ xs told. c.open_values.ensures.complete)
 
 pub array_inside-returns-in-Err-clause-complete : goal.array_inside-returns-in-Err-clause-complete
-array_inside-returns-in-Err-clause-complete g t c = no_length _ _ _ c.in-Err.ensures.complete
+array_inside-returns-in-Err-clause-complete g t c = no_length _ _ _ (c.in-Err.ensures.complete
+    (inl refl))
 
 pub counted_values-returns-in_err-add_value-clause-moves :
     goal.counted_values-returns-in_err-add_value-clause-moves
@@ -279,7 +287,8 @@ map_inside-returns-in-Ok-None-clause-complete g t c =
     (λ xs told. c.open_pairs.ensures.complete)
 
 pub map_inside-returns-in-Err-clause-complete : goal.map_inside-returns-in-Err-clause-complete
-map_inside-returns-in-Err-clause-complete g t c = no_length _ _ _ c.in-Err.ensures.complete
+map_inside-returns-in-Err-clause-complete g t c = no_length _ _ _ (c.in-Err.ensures.complete
+    (inl refl))
 
 pub counted_pairs-returns-in_err-add_pair-clause-moves :
     goal.counted_pairs-returns-in_err-add_pair-clause-moves
@@ -392,21 +401,23 @@ read_any-returns-clause-stops g t c =
     c.step_in.ensures.others c.step_out.ensures.others c.any_inside-outcome.ensures.stops)
 
 pub any_inside-returns-in-Err-clause-stops : goal.any_inside-returns-in-Err-clause-stops
-any_inside-returns-in-Err-clause-stops g t c = next_stops c.in-Err.ensures.stops
+any_inside-returns-in-Err-clause-stops g t c = next_stops c.in-Err.ensures.decodes.begins
 
 pub any_inside-returns-in-Leaf-clause-stops : goal.any_inside-returns-in-Leaf-clause-stops
 any_inside-returns-in-Leaf-clause-stops g t c =
-    kind_stops_by c.take_leaf.result _ (saw c.in-Ok.ensures.moves c.in-Ok.ensures.sound)
+    kind_stops_by c.take_leaf.result _ (saw c.in-Ok.ensures.decodes.moves
+    c.in-Ok.ensures.decodes.sound)
     c.in-Leaf.ensures c.take_leaf.ensures.stops
 
 pub any_inside-returns-in-Other-clause-stops : goal.any_inside-returns-in-Other-clause-stops
 any_inside-returns-in-Other-clause-stops g t c =
-    other_stops _ refl (saw c.in-Ok.ensures.moves c.in-Ok.ensures.sound) c.in-Other.ensures
+    other_stops _ refl (saw c.in-Ok.ensures.decodes.moves c.in-Ok.ensures.decodes.sound)
+    c.in-Other.ensures
 
 pub any_inside-returns-in-Err-any_array-clause-stops :
     goal.any_inside-returns-in-Err-any_array-clause-stops
 any_inside-returns-in-Err-any_array-clause-stops g t c =
-    kind_stops (saw c.in-Ok.ensures.moves c.in-Ok.ensures.sound) c.in-Array.ensures
+    kind_stops (saw c.in-Ok.ensures.decodes.moves c.in-Ok.ensures.decodes.sound) c.in-Array.ensures
     c.in-Err-any_array.ensures.stops
 
 pub any_array-returns-then-not-step_in-clause-stops :
@@ -432,7 +443,7 @@ array_inside-returns-in-Ok-None-clause-stops g t c =
 
 pub array_inside-returns-in-Err-clause-stops : goal.array_inside-returns-in-Err-clause-stops
 array_inside-returns-in-Err-clause-stops g t c =
-    length_stops _ _ (codes "array") 4 c.in-Err.ensures.stops
+    length_stops _ _ (codes "array") 4 c.in-Err.ensures.begins
 
 pub counted_values-returns-in_err-add_value-clause-stops :
     goal.counted_values-returns-in_err-add_value-clause-stops
@@ -459,7 +470,7 @@ open_values-returns-in_err-add_value-clause-stops g t c =
 pub any_inside-returns-in-Err-any_map-clause-stops :
     goal.any_inside-returns-in-Err-any_map-clause-stops
 any_inside-returns-in-Err-any_map-clause-stops g t c =
-    kind_stops (saw c.in-Ok.ensures.moves c.in-Ok.ensures.sound) c.in-Map.ensures
+    kind_stops (saw c.in-Ok.ensures.decodes.moves c.in-Ok.ensures.decodes.sound) c.in-Map.ensures
     c.in-Err-any_map.ensures.stops
 
 pub any_map-returns-then-not-step_in-clause-stops :
@@ -485,7 +496,7 @@ map_inside-returns-in-Ok-None-clause-stops g t c =
 
 pub map_inside-returns-in-Err-clause-stops : goal.map_inside-returns-in-Err-clause-stops
 map_inside-returns-in-Err-clause-stops g t c =
-    length_stops _ _ (codes "map") 5 c.in-Err.ensures.stops
+    length_stops _ _ (codes "map") 5 c.in-Err.ensures.begins
 
 pub counted_pairs-returns-in_err-add_pair-clause-stops :
     goal.counted_pairs-returns-in_err-add_pair-clause-stops
@@ -675,7 +686,7 @@ read_any-returns-clause-progress g t c =
     c.any_inside-outcome.ensures.progress
 
 pub any_inside-returns-in-Err-clause-moves : goal.any_inside-returns-in-Err-clause-moves
-any_inside-returns-in-Err-clause-moves g t c = moves_err c.in-Err.ensures.moves
+any_inside-returns-in-Err-clause-moves g t c = moves_err c.in-Err.ensures.decodes.moves
 
 pub any_inside-returns-in-Err-clause-progress : goal.any_inside-returns-in-Err-clause-progress
 any_inside-returns-in-Err-clause-progress g t c = tt
@@ -686,7 +697,7 @@ any_inside-returns-in-Err-clause-sound g t c = tt
 pub any_inside-returns-in-Ok-any_array-clause-progress :
     goal.any_inside-returns-in-Ok-any_array-clause-progress
 any_inside-returns-in-Ok-any_array-clause-progress g t c =
-    omega (arith, c.in-Ok-any_array.ensures.progress, c.in-Ok.ensures.moves.by.bound)
+    omega (arith, c.in-Ok-any_array.ensures.progress, c.in-Ok.ensures.decodes.moves.by.bound)
 
 pub any_inside-returns-in-Ok-any_array-clause-complete :
     goal.any_inside-returns-in-Ok-any_array-clause-complete
@@ -707,7 +718,7 @@ any_inside-returns-in-Err-any_array-clause-sound g t c = tt
 pub any_inside-returns-in-Ok-any_map-clause-progress :
     goal.any_inside-returns-in-Ok-any_map-clause-progress
 any_inside-returns-in-Ok-any_map-clause-progress g t c =
-    omega (arith, c.in-Ok-any_map.ensures.progress, c.in-Ok.ensures.moves.by.bound)
+    omega (arith, c.in-Ok-any_map.ensures.progress, c.in-Ok.ensures.decodes.moves.by.bound)
 
 pub any_inside-returns-in-Ok-any_map-clause-complete :
     goal.any_inside-returns-in-Ok-any_map-clause-complete
@@ -727,7 +738,7 @@ any_inside-returns-in-Err-any_map-clause-sound g t c = tt
 
 pub any_inside-returns-in-Other-clause-moves : goal.any_inside-returns-in-Other-clause-moves
 any_inside-returns-in-Other-clause-moves g t c =
-    record { by = c.in-Ok.ensures.moves.by; depth = λ e. refl }
+    record { by = c.in-Ok.ensures.decodes.moves.by; depth = λ e. refl }
 
 pub any_inside-returns-in-Other-clause-progress : goal.any_inside-returns-in-Other-clause-progress
 any_inside-returns-in-Other-clause-progress g t c = tt
@@ -957,3 +968,25 @@ read_pair-returns-in-Err-clause-progress g t c = tt
 
 pub read_pair-returns-in-Err-clause-sound : goal.read_pair-returns-in-Err-clause-sound
 read_pair-returns-in-Err-clause-sound g t c = tt
+
+pub array_inside-returns-in-Ok-Some-clause-progress :
+    goal.array_inside-returns-in-Ok-Some-clause-progress
+array_inside-returns-in-Ok-Some-clause-progress g t c =
+    gone_on _ c.counted_values.result (c.in-Ok-Some.ensures.progress refl)
+    c.counted_values.ensures.moves
+
+pub array_inside-returns-in-Ok-None-clause-progress :
+    goal.array_inside-returns-in-Ok-None-clause-progress
+array_inside-returns-in-Ok-None-clause-progress g t c =
+    gone_on _ c.open_values.result (c.in-Ok-None.ensures.progress refl) c.open_values.ensures.moves
+
+pub map_inside-returns-in-Ok-Some-clause-progress :
+    goal.map_inside-returns-in-Ok-Some-clause-progress
+map_inside-returns-in-Ok-Some-clause-progress g t c =
+    gone_on _ c.counted_pairs.result (c.in-Ok-Some.ensures.progress refl)
+    c.counted_pairs.ensures.moves
+
+pub map_inside-returns-in-Ok-None-clause-progress :
+    goal.map_inside-returns-in-Ok-None-clause-progress
+map_inside-returns-in-Ok-None-clause-progress g t c =
+    gone_on _ c.open_pairs.result (c.in-Ok-None.ensures.progress refl) c.open_pairs.ensures.moves

@@ -1,7 +1,7 @@
 use Rattle.std.proofs.Common.{◌+◌, ◌*◌, true}
 use Rattle.cbor4ii_items.specs.Sequences.{ReadsPair}
 use Rattle.cbor4ii.specs.Any.{ReadsAny}
-use Rattle.cbor4ii_items.specs.Laws.SequenceParts.{Begun, Opened}
+use Rattle.cbor4ii.specs.Laws.PartsRead.{Begun, Opened}
 use Rattle.cbor4ii.proofs.serde.de.any.+any.Given as goal
 
 abbrev pub decreases-read_any : goal.decreases-read_any

@@ -2,7 +2,7 @@ use Rattle.std.proofs.Common.{arith, refl}
 use Rattle.std.proofs.lemmas.Result.{err_from_is_err_and}
 use Rattle.cbor4ii_items.specs.Laws.Steps.{moves_then, moves_err}
 use Rattle.cbor4ii_items.specs.Laws.Answering.{exact_kept}
-use Rattle.cbor4ii_items.specs.Laws.SequenceParts.{count_refuses}
+use Rattle.cbor4ii.specs.Laws.PartsRead.{count_refuses}
 use Rattle.cbor4ii.specs.Fields.{StopsEntry, ReadsEntry, entry_laws}
 use Rattle.cbor4ii.specs.Typed.{size_of}
 use Rattle.cbor4ii.proofs.PartStops.{count_stops}

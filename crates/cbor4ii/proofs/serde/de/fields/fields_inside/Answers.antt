@@ -1,8 +1,11 @@
+use Rattle.cbor4ii.proofs.Items.{gone_on}
+use Rattle.std.proofs.Common.{inl}
+use Rattle.std.proofs.Common.{refl}
 use Rattle.std.proofs.Common.{true}
 use Rattle.std.specs.Prelude.{codes}
 use Rattle.cbor4ii_items.specs.Laws.Steps.{moves_then, moves_err}
 use Rattle.cbor4ii_items.specs.Laws.Answering.{exact_kept}
-use Rattle.cbor4ii_items.specs.Laws.SequenceInside.{counts_of, opens_of, no_length}
+use Rattle.cbor4ii.specs.Laws.SequencesRead.{counts_of, opens_of, no_length}
 use Rattle.cbor4ii.specs.Fields.{StopsEntry, ReadsEntry}
 use Rattle.cbor4ii.proofs.PartStops.{head_stops, counted_stops, opened_stops}
 use Rattle.cbor4ii.proofs.Filling.{counted_fills, counted_refuses, opened_fills, opened_refuses}
@@ -62,12 +65,13 @@ returns-in-Ok-None-clause-stops g c =
 
 pub returns-in-Err-clause-complete : goal.returns-in-Err-clause-complete
 returns-in-Err-clause-complete g c said exact =
-    no_length 5 (ReadsEntry (g.V.Values.named c.args.names.now)) true c.in-Err.ensures.complete
+    no_length 5 (ReadsEntry (g.V.Values.named c.args.names.now)) true
+    (c.in-Err.ensures.complete (inl refl))
 
 pub returns-in-Err-clause-stops : goal.returns-in-Err-clause-stops
 returns-in-Err-clause-stops g c =
     head_stops (ReadsEntry (g.V.Values.named c.args.names.now))
-    (StopsEntry (g.V.Values.stops c.args.names.now)) true (codes "map") 5 c.in-Err.ensures.stops
+    (StopsEntry (g.V.Values.stops c.args.names.now)) true (codes "map") 5 c.in-Err.ensures.begins
 
 pub returns-in-Err-clause-moves : goal.returns-in-Err-clause-moves
 returns-in-Err-clause-moves g c = moves_err c.in-Err.ensures.moves
@@ -77,3 +81,12 @@ returns-in-Err-clause-progress g c = tt
 
 pub returns-in-Err-clause-sound : goal.returns-in-Err-clause-sound
 returns-in-Err-clause-sound g c = tt
+
+pub returns-in-Ok-Some-clause-progress : goal.returns-in-Ok-Some-clause-progress
+returns-in-Ok-Some-clause-progress g c =
+    gone_on _ c.counted_fields.result (c.in-Ok-Some.ensures.progress refl)
+    c.counted_fields.ensures.moves
+
+pub returns-in-Ok-None-clause-progress : goal.returns-in-Ok-None-clause-progress
+returns-in-Ok-None-clause-progress g c =
+    gone_on _ c.open_fields.result (c.in-Ok-None.ensures.progress refl) c.open_fields.ensures.moves

@@ -3,7 +3,8 @@ use Rattle.std.specs.Prelude.{codes}
 use Rattle.std.proofs.lemmas.Result.{err_from_is_err_and}
 use Rattle.cbor4ii_items.specs.Laws.Steps.{moves_then, moves_err, kept_then}
 use Rattle.cbor4ii_items.specs.Laws.Answering.{exact_kept}
-use Rattle.cbor4ii_items.specs.Laws.SequenceParts.{stands, open_refuses, end_refuses}
+use Rattle.cbor4ii_items.specs.Laws.SequenceParts.{stands}
+use Rattle.cbor4ii.specs.Laws.PartsRead.{open_refuses, end_refuses}
 use Rattle.cbor4ii.specs.Fields.{StopsEntry, ReadsEntry, entry_laws}
 use Rattle.cbor4ii.specs.Typed.{size_of}
 use Rattle.cbor4ii.proofs.PartStops.{open_stops, end_stops}

@@ -1,3 +1,5 @@
+use Rattle.cbor4ii.proofs.Items.{spares}
+use Rattle.std.proofs.Common.{inl}
 use Rattle.cbor4ii_items.specs.Lengths.{StopsLength}
 use Rattle.std.proofs.Common.{ap, sym, arith, Err, codes, refl}
 use Rattle.cbor4ii_items.specs.Laws.Steps.{moves_err}
@@ -15,12 +17,12 @@ returns-in-Err-clause-moves g c =
 pub returns-in-Err-clause-complete : goal.returns-in-Err-clause-complete
 returns-in-Err-clause-complete g c =
     refuses_stepped _ c.if-not-step_in.ensures.budget c.step_in.ensures.others
-    c.in-Err.ensures.complete
+    (c.in-Err.ensures.complete (inl refl))
 
 pub returns-in-Err-clause-stops : goal.returns-in-Err-clause-stops
 returns-in-Err-clause-stops g c =
     stops_stepped _ _ c.if-not-step_in.ensures.budget c.step_in.ensures.others
-    c.step_out.ensures.others c.in-Err.ensures.stops
+    c.step_out.ensures.others c.in-Err.ensures.begins
 
 pub returns-in-Ok-Some-clause-opened : goal.returns-in-Ok-Some-clause-opened
 returns-in-Ok-Some-clause-opened g c = record {
@@ -28,7 +30,7 @@ returns-in-Ok-Some-clause-opened g c = record {
   step = c.if-not-step_in.ensures.budget;
   others = c.step_in.ensures.others;
   kept = c.in-Ok-Some.ensures.moves.by;
-  progress = omega (arith, c.in-Ok-Some.ensures.progress, c.step_in.ensures.others.bound);
+  progress = omega (arith, (c.in-Ok-Some.ensures.progress refl), c.step_in.ensures.others.bound);
   length = c.in-Ok-Some.field-0;
   head = c.in-Ok-Some.ensures.sound;
   begun = sym (ap left_behind c.in-Ok-Some.field-0-is);
@@ -40,7 +42,7 @@ returns-in-Ok-None-clause-opened g c = record {
   step = c.if-not-step_in.ensures.budget;
   others = c.step_in.ensures.others;
   kept = c.in-Ok-None.ensures.moves.by;
-  progress = omega (arith, c.in-Ok-None.ensures.progress, c.step_in.ensures.others.bound);
+  progress = omega (arith, (c.in-Ok-None.ensures.progress refl), c.step_in.ensures.others.bound);
   length = c.in-Ok-None.field-0;
   head = c.in-Ok-None.ensures.sound;
   begun = sym (ap left_behind c.in-Ok-None.field-0-is);
@@ -61,7 +63,7 @@ pub returns-in-Err-clause-opened : goal.returns-in-Err-clause-opened
 returns-in-Err-clause-opened g c = tt
 
 pub returns-in-Err-clause-memory : goal.returns-in-Err-clause-memory
-returns-in-Err-clause-memory g c = c.in-Err.ensures.memory
+returns-in-Err-clause-memory g c = spares _ c.in-Err.ensures.memory
 
 pub returns-in-Ok-Some-clause-moves : goal.returns-in-Ok-Some-clause-moves
 returns-in-Ok-Some-clause-moves g c = tt

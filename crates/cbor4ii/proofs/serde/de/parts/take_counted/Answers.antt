@@ -3,7 +3,7 @@ use Rattle.std.proofs.Common.{arith, refl}
 use Rattle.std.proofs.lemmas.Result.{err_from_is_err_and}
 use Rattle.cbor4ii_items.specs.Laws.Steps.{moves_then, moves_err}
 use Rattle.cbor4ii_items.specs.Laws.Answering.{exact_kept, fits_zero}
-use Rattle.cbor4ii_items.specs.Laws.SequenceParts.{count_more, count_done, count_refuses}
+use Rattle.cbor4ii.specs.Laws.PartsRead.{count_more, count_done, count_refuses}
 use Rattle.cbor4ii.specs.Typed.{size_of}
 use Rattle.cbor4ii.proofs.PartStops.{count_stops}
 use Rattle.cbor4ii.proofs.serde.de.parts.take_counted.Goals as goal

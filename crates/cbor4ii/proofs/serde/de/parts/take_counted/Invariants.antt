@@ -1,4 +1,4 @@
-use Rattle.cbor4ii_items.specs.Laws.SequenceParts.{Begun}
+use Rattle.cbor4ii.specs.Laws.PartsRead.{Begun}
 use Rattle.cbor4ii.proofs.serde.de.parts.take_counted.Given as goal
 
 abbrev pub invariant-loop-i : goal.invariant-loop-i

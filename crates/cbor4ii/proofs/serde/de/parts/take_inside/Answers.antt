@@ -1,7 +1,10 @@
+use Rattle.cbor4ii.proofs.Items.{gone_on}
+use Rattle.std.proofs.Common.{inl}
+use Rattle.std.proofs.Common.{refl}
 use Rattle.cbor4ii_items.specs.Laws.Steps.{moves_then, moves_err}
 use Rattle.cbor4ii_items.specs.Laws.Answering.{exact_kept}
 use Rattle.cbor4ii.proofs.Sequences.{counted_sound, counted_refuses, opened_sound, opened_refuses}
-use Rattle.cbor4ii_items.specs.Laws.SequenceInside.{counts_of, opens_of, no_length}
+use Rattle.cbor4ii.specs.Laws.SequencesRead.{counts_of, opens_of, no_length}
 use Rattle.cbor4ii.proofs.PartStops.{head_stops, counted_stops, opened_stops}
 use Rattle.cbor4ii.proofs.serde.de.parts.take_inside.Goals as goal
 
@@ -38,7 +41,8 @@ returns-in-Ok-None-clause-complete g c said exact =
     (exact_kept _ _ _ xs told c.in-Ok-None.ensures.moves.by exact)))
 
 pub returns-in-Err-clause-complete : goal.returns-in-Err-clause-complete
-returns-in-Err-clause-complete g c said exact = no_length _ _ _ c.in-Err.ensures.complete
+returns-in-Err-clause-complete g c said exact = no_length _ _ _ (c.in-Err.ensures.complete (inl
+    refl))
 
 pub returns-in-Ok-Some-clause-stops : goal.returns-in-Ok-Some-clause-stops
 returns-in-Ok-Some-clause-stops g c =
@@ -51,7 +55,7 @@ returns-in-Ok-None-clause-stops g c =
     c.in-Ok-None.ensures.moves.by c.in-Ok-None.ensures.sound) c.take_open.ensures.stops
 
 pub returns-in-Err-clause-stops : goal.returns-in-Err-clause-stops
-returns-in-Err-clause-stops g c = head_stops _ _ _ _ _ c.in-Err.ensures.stops
+returns-in-Err-clause-stops g c = head_stops _ _ _ _ _ c.in-Err.ensures.begins
 
 pub returns-in-Err-clause-moves : goal.returns-in-Err-clause-moves
 returns-in-Err-clause-moves g c = moves_err c.in-Err.ensures.moves
@@ -61,3 +65,12 @@ returns-in-Err-clause-progress g c = tt
 
 pub returns-in-Err-clause-sound : goal.returns-in-Err-clause-sound
 returns-in-Err-clause-sound g c = tt
+
+pub returns-in-Ok-Some-clause-progress : goal.returns-in-Ok-Some-clause-progress
+returns-in-Ok-Some-clause-progress g c =
+    gone_on _ c.take_counted.result (c.in-Ok-Some.ensures.progress refl)
+    c.take_counted.ensures.moves
+
+pub returns-in-Ok-None-clause-progress : goal.returns-in-Ok-None-clause-progress
+returns-in-Ok-None-clause-progress g c =
+    gone_on _ c.take_open.result (c.in-Ok-None.ensures.progress refl) c.take_open.ensures.moves

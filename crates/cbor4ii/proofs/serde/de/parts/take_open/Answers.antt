@@ -3,8 +3,9 @@ use Rattle.std.proofs.Common.{true, refl, arith, inl}
 use Rattle.std.proofs.lemmas.Result.{err_from_is_err_and}
 use Rattle.cbor4ii_items.specs.Laws.Steps.{moves_then, moves_err, kept_then}
 use Rattle.cbor4ii_items.specs.Laws.Answering.{exact_kept, fits_zero}
-use Rattle.cbor4ii_items.specs.Laws.SequenceParts.{stands, open_more, open_done, open_refuses}
-use Rattle.cbor4ii_items.specs.Laws.SequenceParts.{end_refuses}
+use Rattle.cbor4ii_items.specs.Laws.SequenceParts.{stands}
+use Rattle.cbor4ii.specs.Laws.PartsRead.{open_more, open_done, open_refuses}
+use Rattle.cbor4ii.specs.Laws.PartsRead.{end_refuses}
 use Rattle.cbor4ii.specs.Typed.{size_of}
 use Rattle.cbor4ii.proofs.PartStops.{open_stops, end_stops}
 use Rattle.cbor4ii.proofs.serde.de.parts.take_open.Goals as goal

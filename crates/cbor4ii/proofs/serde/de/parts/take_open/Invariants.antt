@@ -1,5 +1,5 @@
 use Rattle.std.proofs.Common.{true}
-use Rattle.cbor4ii_items.specs.Laws.SequenceParts.{Opened}
+use Rattle.cbor4ii.specs.Laws.PartsRead.{Opened}
 use Rattle.cbor4ii.proofs.serde.de.parts.take_open.Given as goal
 
 abbrev pub invariant-loop-parts : goal.invariant-loop-parts

@@ -1,3 +1,4 @@
+use Rattle.cbor4ii.proofs.Items.{spares}
 use Rattle.cbor4ii_items.specs.Laws.Steps.{moves_err}
 use Rattle.std.proofs.Common.{refl, inl, inr, arith}
 use Rattle.cbor4ii.proofs.Looking.{kept_next, saw, option_refuses}
@@ -8,11 +9,12 @@ use Rattle.cbor4ii.proofs.serde.de.some_accessor.begin_option.Goals as goal
 
 pub returns-then-first-clause-opened : goal.returns-then-first-clause-opened
 returns-then-first-clause-opened g c =
-    let seen = saw c.in-Ok.ensures.moves c.in-Ok.ensures.sound in
+    let seen = saw c.in-Ok.ensures.decodes.moves c.in-Ok.ensures.decodes.sound in
     record {
       within = g.S.Source.view c.advance.new.self;
       kept =
-          kept_next c.in-Ok.ensures.moves c.in-Ok.ensures.sound (elim c.then-first.branch [
+          kept_next c.in-Ok.ensures.decodes.moves c.in-Ok.ensures.decodes.sound (elim
+          c.then-first.branch [
             | then-first-via-then-first w ↦ omega (arith, w.if-first.true)
             | then-first-via-else-first+then-first-2 w ↦ omega (arith, w.if-first-2.true)
           ])
@@ -22,32 +24,40 @@ returns-then-first-clause-opened g c =
         | then-first-via-else-first+then-first-2 w ↦
             null_coming seen (inr w.if-first-2.true) c.advance.ensures
       ];
-      progress = λ e. omega (arith, c.advance.ensures.bound, c.in-Ok.ensures.moves.by.bound);
+      progress = λ e. omega (
+        arith,
+        c.advance.ensures.bound,
+        c.in-Ok.ensures.decodes.moves.by.bound,
+      );
       held = refl;
     }
 
 pub returns-then-not-step_in-clause-complete : goal.returns-then-not-step_in-clause-complete
 returns-then-not-step_in-clause-complete g c =
-    no_step_refuses _ (saw c.in-Ok.ensures.moves c.in-Ok.ensures.sound) c.if-first.false
+    no_step_refuses _ (saw c.in-Ok.ensures.decodes.moves c.in-Ok.ensures.decodes.sound)
+    c.if-first.false
     c.if-first-2.false c.if-not-step_in.ensures.budget
 
 pub returns-then-not-step_in-clause-stops : goal.returns-then-not-step_in-clause-stops
 returns-then-not-step_in-clause-stops g c =
-    no_step_stops refl (saw c.in-Ok.ensures.moves c.in-Ok.ensures.sound) c.if-first.false
+    no_step_stops refl (saw c.in-Ok.ensures.decodes.moves c.in-Ok.ensures.decodes.sound)
+    c.if-first.false
     c.if-first-2.false c.if-not-step_in.ensures.budget c.step_in.ensures.others
 
 pub returns-in-Err-clause-complete : goal.returns-in-Err-clause-complete
-returns-in-Err-clause-complete g c = option_refuses _ c.in-Err.ensures.complete
+returns-in-Err-clause-complete g c = option_refuses _ (c.in-Err.ensures.decodes.complete (inl
+    refl))
 
 pub returns-in-Err-clause-stops : goal.returns-in-Err-clause-stops
-returns-in-Err-clause-stops g c = presence_ended c.in-Err.ensures.stops
+returns-in-Err-clause-stops g c = presence_ended c.in-Err.ensures.decodes.begins
 
 pub returns-else-not-step_in-clause-opened : goal.returns-else-not-step_in-clause-opened
 returns-else-not-step_in-clause-opened g c = record {
   within = g.S.Source.view c.peek.new.reader;
-  kept = c.in-Ok.ensures.moves.by;
+  kept = c.in-Ok.ensures.decodes.moves.by;
   coming =
-      value_coming (saw c.in-Ok.ensures.moves c.in-Ok.ensures.sound) c.if-first.false
+      value_coming (saw c.in-Ok.ensures.decodes.moves c.in-Ok.ensures.decodes.sound)
+      c.if-first.false
       c.if-first-2.false;
   progress = λ e. absurd (no_null e);
   held = (c.if-not-step_in.ensures.budget, c.step_in.ensures.others);
@@ -96,10 +106,10 @@ pub returns-in-Err-clause-opened : goal.returns-in-Err-clause-opened
 returns-in-Err-clause-opened g c = tt
 
 pub returns-in-Err-clause-moves : goal.returns-in-Err-clause-moves
-returns-in-Err-clause-moves g c = moves_err c.in-Err.ensures.moves
+returns-in-Err-clause-moves g c = moves_err c.in-Err.ensures.decodes.moves
 
 pub returns-in-Err-clause-memory : goal.returns-in-Err-clause-memory
-returns-in-Err-clause-memory g c = c.in-Err.ensures.memory
+returns-in-Err-clause-memory g c = spares _ c.in-Err.ensures.decodes.memory
 
 pub returns-in-Err-clause-failed : goal.returns-in-Err-clause-failed
 returns-in-Err-clause-failed g c = c.in-Err.ensures.failed

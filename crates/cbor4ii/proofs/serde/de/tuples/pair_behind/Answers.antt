@@ -1,7 +1,7 @@
 use Rattle.cbor4ii_items.specs.Laws.Steps.{moves_then, moves_err}
 use Rattle.cbor4ii_items.specs.Laws.Answering.{exact_kept}
 use Rattle.cbor4ii.proofs.Tupled.{behind_sound, behind_refuses, behind_no_head}
-use Rattle.cbor4ii_items.specs.Laws.Pairs.{key_stops_pair}
+use Rattle.cbor4ii.specs.Laws.PairsRead.{key_stops_pair}
 use Rattle.cbor4ii.proofs.Beginnings.{behind_stops}
 use Rattle.cbor4ii.proofs.serde.de.tuples.pair_behind.Goals as goal
 

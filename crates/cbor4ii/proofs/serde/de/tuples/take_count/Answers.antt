@@ -1,3 +1,5 @@
+use Rattle.cbor4ii.proofs.Items.{spares}
+use Rattle.std.proofs.Common.{inl}
 use Rattle.cbor4ii_items.specs.Laws.Steps.{moves_err}
 use Rattle.std.proofs.Common.{refl}
 use Rattle.cbor4ii.proofs.Tupled.{count_sound, count_other, count_none, not_count, not_open}
@@ -18,7 +20,7 @@ returns-in-Ok-None-clause-complete g c =
     count_other (not_open c.in-Ok-None.field-0-is) c.in-Ok-None.ensures.sound
 
 pub returns-in-Err-clause-complete : goal.returns-in-Err-clause-complete
-returns-in-Err-clause-complete g c = count_none c.in-Err.ensures.complete
+returns-in-Err-clause-complete g c = count_none (c.in-Err.ensures.complete (inl refl))
 
 pub returns-else-found-count-clause-stops : goal.returns-else-found-count-clause-stops
 returns-else-found-count-clause-stops g c =
@@ -32,14 +34,14 @@ returns-in-Ok-None-clause-stops g c =
     (open_len c.in-Ok-None.field-0-is) c.in-Ok-None.ensures.sound
 
 pub returns-in-Err-clause-stops : goal.returns-in-Err-clause-stops
-returns-in-Err-clause-stops g c = count_missing c.in-Err.ensures.stops
+returns-in-Err-clause-stops g c = count_missing c.in-Err.ensures.begins
 
 pub returns-then-found-count-clause-moves : goal.returns-then-found-count-clause-moves
 returns-then-found-count-clause-moves g c =
     record { by = c.in-Ok-Some.ensures.moves.by; depth = λ e. refl }
 
 pub returns-then-found-count-clause-progress : goal.returns-then-found-count-clause-progress
-returns-then-found-count-clause-progress g c = c.in-Ok-Some.ensures.progress
+returns-then-found-count-clause-progress g c = (c.in-Ok-Some.ensures.progress refl)
 
 pub returns-then-found-count-clause-memory : goal.returns-then-found-count-clause-memory
 returns-then-found-count-clause-memory g c = tt
@@ -80,7 +82,7 @@ pub returns-in-Err-clause-moves : goal.returns-in-Err-clause-moves
 returns-in-Err-clause-moves g c = moves_err c.in-Err.ensures.moves
 
 pub returns-in-Err-clause-memory : goal.returns-in-Err-clause-memory
-returns-in-Err-clause-memory g c = c.in-Err.ensures.memory
+returns-in-Err-clause-memory g c = spares _ c.in-Err.ensures.memory
 
 pub returns-in-Err-clause-progress : goal.returns-in-Err-clause-progress
 returns-in-Err-clause-progress g c = tt

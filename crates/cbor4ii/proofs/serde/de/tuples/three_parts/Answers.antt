@@ -1,7 +1,7 @@
 use Rattle.std.proofs.lemmas.Result.{err_from_is_err_and}
 use Rattle.cbor4ii_items.specs.Laws.Steps.{moves_then, moves_ok, moves_err}
 use Rattle.cbor4ii_items.specs.Laws.Answering.{exact_kept}
-use Rattle.cbor4ii_items.specs.Laws.Pairs.{exact_both, key_stops_pair, value_stops_pair}
+use Rattle.cbor4ii.specs.Laws.PairsRead.{exact_both, key_stops_pair, value_stops_pair}
 use Rattle.cbor4ii.proofs.Triples.{triple_sound, first_refuses, others_refuse}
 use Rattle.cbor4ii_items.specs.Laws.Containers.{both}
 use Rattle.cbor4ii.proofs.Beginnings.{said_left}

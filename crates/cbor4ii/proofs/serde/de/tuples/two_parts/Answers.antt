@@ -2,8 +2,8 @@ use Rattle.std.proofs.Common.{arith}
 use Rattle.std.proofs.lemmas.Result.{err_from_is_err_and}
 use Rattle.cbor4ii_items.specs.Laws.Steps.{moves_then, moves_ok, moves_err}
 use Rattle.cbor4ii_items.specs.Laws.Answering.{exact_kept}
-use Rattle.cbor4ii_items.specs.Laws.Pairs.{exact_both, pair_sound, key_refuses, value_refuses}
-use Rattle.cbor4ii_items.specs.Laws.Pairs.{key_stops_pair, value_stops_pair}
+use Rattle.cbor4ii.specs.Laws.PairsRead.{exact_both, pair_sound, key_refuses, value_refuses}
+use Rattle.cbor4ii.specs.Laws.PairsRead.{key_stops_pair, value_stops_pair}
 use Rattle.cbor4ii_items.specs.Laws.Containers.{both}
 use Rattle.cbor4ii.proofs.Beginnings.{said_left}
 use Rattle.cbor4ii.proofs.serde.de.tuples.two_parts.Goals as goal

@@ -1,16 +1,8 @@
-use Rattle.cbor4ii_items.proofs.Leaves.{leaf_sound, leaf_complete, leaf_stops}
+use Rattle.cbor4ii_items.proofs.Leaves.{decodes_of_runs}
 use Rattle.cbor4ii_items.proofs.BigLeaf.{u128_leaf}
 use Rattle.cbor4ii_items.proofs.numbers.big.U128Decode.decode.Goals as goal
 
-pub returns-clause-sound : goal.returns-clause-sound
-returns-clause-sound g c = leaf_sound u128_leaf c.take_u128.result c.take_u128.ensures.runs
-
-pub returns-clause-complete : goal.returns-clause-complete
-returns-clause-complete g c exact =
-    leaf_complete u128_leaf c.take_u128.result c.take_u128.ensures.runs
-
-pub returns-clause-stops : goal.returns-clause-stops
-returns-clause-stops g c exact = leaf_stops u128_leaf c.take_u128.result c.take_u128.ensures.runs
-
-pub returns-clause-begins : goal.returns-clause-begins
-returns-clause-begins g c = leaf_stops u128_leaf c.take_u128.result c.take_u128.ensures.runs
+pub returns : goal.returns
+returns g c =
+    decodes_of_runs u128_leaf c.take_u128.result c.take_u128.ensures.runs c.take_u128.ensures.memory
+    c.take_u128.ensures.progress

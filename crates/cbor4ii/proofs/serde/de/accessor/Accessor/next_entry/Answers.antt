@@ -1,7 +1,7 @@
 use Rattle.cbor4ii_items.specs.Laws.Containers.{both}
 use Rattle.cbor4ii_items.specs.Laws.Answering.{exact_kept}
 use Rattle.cbor4ii_items.specs.Laws.Steps.{moves_then, moves_ok, moves_err}
-use Rattle.cbor4ii_items.specs.Laws.Pairs.{exact_both}
+use Rattle.cbor4ii.specs.Laws.PairsRead.{exact_both}
 use Rattle.cbor4ii.proofs.Entries.{entry_sound, entry_none, entry_no_key, entry_no_value}
 use Rattle.cbor4ii.proofs.Entries.{entry_key_stops, entry_value_stops}
 use Rattle.cbor4ii.proofs.Beginnings.{said_left}

@@ -1,3 +1,5 @@
+use Rattle.cbor4ii.proofs.Items.{spares}
+use Rattle.std.proofs.Common.{inl}
 use Rattle.cbor4ii_items.specs.Laws.Running.{kept_alike}
 use Rattle.std.proofs.Common.{refl}
 use Rattle.cbor4ii.proofs.Going.{start_break, start_other, start_refuses}
@@ -5,17 +7,20 @@ use Rattle.cbor4ii.proofs.serde.de.accessor.Accessor.starts_element.Goals as goa
 
 pub returns-in-Ok-true-clause-sound : goal.returns-in-Ok-true-clause-sound
 returns-in-Ok-true-clause-sound g c =
-    rw c.in-Open.is (start_break (rw c.in-Ok-true.field-0-test at c.in-Ok-true.ensures.sound))
+    rw c.in-Open.is (start_break (rw c.in-Ok-true.field-0-test at
+    c.in-Ok-true.ensures.decodes.sound))
 
 pub returns-in-Ok-false-clause-sound : goal.returns-in-Ok-false-clause-sound
 returns-in-Ok-false-clause-sound g c =
-    rw c.in-Open.is (start_other (rw c.in-Ok-false.field-0-test at c.in-Ok-false.ensures.sound))
+    rw c.in-Open.is (start_other (rw c.in-Ok-false.field-0-test at
+    c.in-Ok-false.ensures.decodes.sound))
 
 pub returns-in-Err-clause-complete : goal.returns-in-Err-clause-complete
-returns-in-Err-clause-complete g c = rw c.in-Open.is (start_refuses c.in-Err.ensures.complete)
+returns-in-Err-clause-complete g c = rw c.in-Open.is (start_refuses
+    (c.in-Err.ensures.decodes.complete (inl refl)))
 
 pub returns-in-Err-clause-stops : goal.returns-in-Err-clause-stops
-returns-in-Err-clause-stops g c = rw c.in-Open.is c.in-Err.ensures.stops
+returns-in-Err-clause-stops g c = rw c.in-Open.is c.in-Err.ensures.decodes.begins
 
 pub returns-in-Ok-true-clause-still : goal.returns-in-Ok-true-clause-still
 returns-in-Ok-true-clause-still g c not = absurd (not c.in-Open.is)
@@ -76,24 +81,24 @@ returns-in-Counted-clause-still g c not = refl
 
 pub returns-in-Ok-true-clause-moves : goal.returns-in-Ok-true-clause-moves
 returns-in-Ok-true-clause-moves g c =
-    record { by = c.in-Ok-true.ensures.moves.by; depth = λ e. refl }
+    record { by = c.in-Ok-true.ensures.decodes.moves.by; depth = λ e. refl }
 
 pub returns-in-Ok-true-clause-failed : goal.returns-in-Ok-true-clause-failed
 returns-in-Ok-true-clause-failed g c is = cc
 
 pub returns-in-Ok-false-clause-moves : goal.returns-in-Ok-false-clause-moves
 returns-in-Ok-false-clause-moves g c =
-    record { by = c.in-Ok-false.ensures.moves.by; depth = λ e. refl }
+    record { by = c.in-Ok-false.ensures.decodes.moves.by; depth = λ e. refl }
 
 pub returns-in-Ok-false-clause-failed : goal.returns-in-Ok-false-clause-failed
 returns-in-Ok-false-clause-failed g c is = cc
 
 pub returns-in-Err-clause-moves : goal.returns-in-Err-clause-moves
 returns-in-Err-clause-moves g c =
-    record { by = c.in-Err.ensures.moves.by; depth = c.in-Err.ensures.moves.depth }
+    record { by = c.in-Err.ensures.decodes.moves.by; depth = c.in-Err.ensures.decodes.moves.depth }
 
 pub returns-in-Err-clause-memory : goal.returns-in-Err-clause-memory
-returns-in-Err-clause-memory g c = c.in-Err.ensures.memory
+returns-in-Err-clause-memory g c = spares _ c.in-Err.ensures.decodes.memory
 
 pub returns-in-Err-clause-failed : goal.returns-in-Err-clause-failed
 returns-in-Err-clause-failed g c = c.in-Err.ensures.failed

@@ -6,4 +6,4 @@ pub returns : goal.returns
 returns g c =
     (let d = c.decode.ensures in
     bare_item (λ v. v.items) c.decode.result c.unwrapped.result _ _ c.unwrapped.ensures
-    d.moves (d.progress refl) d.sound (d.complete (inl refl)) (d.stops (inl refl)))
+    d.moves (d.progress refl) d.sound (d.complete (inl refl)) d.begins)

@@ -8,23 +8,23 @@ use Rattle.cbor4ii.proofs.serde.de.deserializer.Deserializer.deserialize_ignored
 
 pub returns-in-Ok-clause-item : goal.returns-in-Ok-clause-item
 returns-in-Ok-clause-item g c = record {
-  moves = moves_ok c.in-Ok.ensures.moves;
-  progress = c.in-Ok.ensures.progress;
+  moves = moves_ok c.in-Ok.ensures.decodes.moves;
+  progress = c.in-Ok.ensures.decodes.progress;
   memory = tt;
-  sound = sound_as ReadsIgnored (λ _. c.in-Ok.field-0) refl c.in-Ok.ensures.sound;
+  sound = sound_as ReadsIgnored (λ _. c.in-Ok.field-0) refl c.in-Ok.ensures.decodes.sound;
   complete = λ e. tt;
   stopped = λ e. tt;
 }
 
 pub returns-in-Err-clause-item : goal.returns-in-Err-clause-item
 returns-in-Err-clause-item g c = record {
-  moves = moves_err c.in-Err.ensures.moves;
+  moves = moves_err c.in-Err.ensures.decodes.moves;
   progress = λ e. tt;
-  memory = c.in-Err.ensures.memory;
+  memory = c.in-Err.ensures.decodes.memory;
   sound = tt;
   complete = λ e. refuses_as ReadsIgnored ReadsSkipped (λ xs budget none v. none record {})
-      (c.in-Err.ensures.complete (inl refl));
-  stopped = λ e. c.in-Err.ensures.stops (inl refl);
+      (c.in-Err.ensures.decodes.complete (inl refl));
+  stopped = λ e. c.in-Err.ensures.decodes.begins;
 }
 
 pub returns-in-Ok-clause-only : goal.returns-in-Ok-clause-only

@@ -1,3 +1,4 @@
+use Rattle.std.proofs.Common.{inl}
 use Rattle.std.proofs.Common.{refl, rules, arith}
 use Rattle.cbor4ii_items.specs.Laws.Steps.{moves_err}
 use Rattle.cbor4ii.proofs.Looking.{kept_next, saw}
@@ -7,14 +8,14 @@ use Rattle.cbor4ii.proofs.serde.de.deserializer.Deserializer.deserialize_unit.Go
 pub returns-then-first : goal.returns-then-first
 returns-then-first g c = record {
   moves = record {
-    by = kept_next c.in-Ok.ensures.moves c.in-Ok.ensures.sound
+    by = kept_next c.in-Ok.ensures.decodes.moves c.in-Ok.ensures.decodes.sound
         (omega (arith, c.if-first.true)) c.advance.ensures;
     depth = λ e. refl;
   };
-  progress = λ e. omega (arith, c.advance.ensures.bound, c.in-Ok.ensures.moves.by.bound);
+  progress = λ e. omega (arith, c.advance.ensures.bound, c.in-Ok.ensures.decodes.moves.by.bound);
   memory = tt;
   sound =
-      unit_sound (saw c.in-Ok.ensures.moves c.in-Ok.ensures.sound) c.if-first.true
+      unit_sound (saw c.in-Ok.ensures.decodes.moves c.in-Ok.ensures.decodes.sound) c.if-first.true
       c.advance.ensures;
   complete = λ e. tt;
   stopped = λ e. tt;
@@ -23,24 +24,26 @@ returns-then-first g c = record {
 pub returns-else-first : goal.returns-else-first
 returns-else-first g c = record {
   moves = record {
-    by = kept_next c.in-Ok.ensures.moves c.in-Ok.ensures.sound (search rules)
+    by = kept_next c.in-Ok.ensures.decodes.moves c.in-Ok.ensures.decodes.sound (search rules)
         c.advance.ensures;
     depth = λ e. refl;
   };
   progress = λ e. tt;
   memory = λ no. cc;
   sound = tt;
-  complete = λ e. unit_other (saw c.in-Ok.ensures.moves c.in-Ok.ensures.sound) c.if-first.false;
-  stopped = λ e. unit_mismatch (saw c.in-Ok.ensures.moves c.in-Ok.ensures.sound) c.if-first.false
+  complete = λ e. unit_other (saw c.in-Ok.ensures.decodes.moves c.in-Ok.ensures.decodes.sound)
+      c.if-first.false;
+  stopped = λ e. unit_mismatch (saw c.in-Ok.ensures.decodes.moves c.in-Ok.ensures.decodes.sound)
+      c.if-first.false
       c.advance.ensures refl;
 }
 
 pub returns-in-Err : goal.returns-in-Err
 returns-in-Err g c = record {
-  moves = moves_err c.in-Err.ensures.moves;
+  moves = moves_err c.in-Err.ensures.decodes.moves;
   progress = λ e. tt;
-  memory = λ no. let never = c.in-Err.ensures.memory in cc;
+  memory = λ no. let never = c.in-Err.ensures.decodes.memory no in cc;
   sound = tt;
-  complete = λ e. unit_missing c.in-Err.ensures.complete;
-  stopped = λ e. unit_ended c.in-Err.ensures.stops;
+  complete = λ e. unit_missing (c.in-Err.ensures.decodes.complete (inl refl));
+  stopped = λ e. unit_ended c.in-Err.ensures.decodes.begins;
 }

@@ -1,7 +1,7 @@
 use Rattle.std.proofs.Common.{inl, refl}
 use Rattle.cbor4ii_items.specs.Laws.Steps.{moves_ok, moves_err}
 use Rattle.cbor4ii_items.specs.Laws.Containers.{both}
-use Rattle.cbor4ii_items.specs.Laws.Pairs.{exact_both}
+use Rattle.cbor4ii.specs.Laws.PairsRead.{exact_both}
 use Rattle.cbor4ii.proofs.Filling.{first_here, another, none_has, first_refuses}
 use Rattle.cbor4ii.proofs.Filling.{another_refuses, none_refuses}
 use Rattle.cbor4ii.specs.Typed.{said}

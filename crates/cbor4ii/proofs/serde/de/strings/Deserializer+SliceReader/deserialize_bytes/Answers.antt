@@ -5,6 +5,6 @@ use Rattle.cbor4ii.proofs.serde.de.strings.Deserializer+SliceReader.deserialize_
 
 pub returns-clause-item : goal.returns-clause-item
 returns-clause-item c =
-    (let d = c.decode.ensures in
+    (let d = c.decode.ensures.decodes in
     bare_item cow_slice_items c.decode.result c.unwrapped.result _ _ c.unwrapped.ensures
-    d.moves (d.progress refl) d.sound (d.complete (inl refl)) (d.stops (inl refl)))
+    d.moves (d.progress refl) d.sound (d.complete (inl refl)) d.begins)

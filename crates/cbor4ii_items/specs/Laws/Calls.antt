@@ -1,0 +1,235 @@
+-- What a call that decodes one type answers for another one.
+use Rattle.std.proofs.Common.{◌≡◌, ℕ, ◌+◌, ◌≤◌, inl, inr, List, drop, Option, Some, None}
+use Rattle.std.proofs.Common.{Result, Ok, Err, IsTrue, false, refl, sym, ap, ◌∙◌, subst, arith}
+use Rattle.std.proofs.Common.{Bool, true, IfSome, IfErr}
+use Rattle.cbor4ii_rw.specs.View.{View, Told}
+use Rattle.cbor4ii_rw.specs.declared.error.DecodeError.{DecodeError}
+use Rattle.cbor4ii_rw.specs.declared.error.DecodeError.TheVariants.{OutOfMemory}
+use Rattle.cbor4ii_items.specs.Decoding.{CostFits, IsExact, NoneRead, Sound, Spelling, Decodes}
+use Rattle.cbor4ii_items.specs.Decoding.{spelling_by, taking_memory}
+use Rattle.cbor4ii_items.specs.Moves.{Kept, Moves}
+use Rattle.cbor4ii_items.specs.Reading.{Reading, Runs}
+use Rattle.cbor4ii_items.specs.Refusal.{Refusal, refusal_of, is_out_of_memory}
+use Rattle.cbor4ii_items.specs.Laws.Answering.{Found, exact_kept, if_some, refuses_as}
+use Rattle.cbor4ii_items.specs.Laws.Steps.{moves_then, moves_err, kept_then}
+
+-- another relation says why, where the first one does
+pub stops_as : (o : Option Refusal) (left : Option (List ℕ)) (f g : Refusal → List ℕ → Type 0)
+    → ((z : Refusal) (ys : List ℕ) → f z ys → g z ys)
+    → IfSome o (λ z. (ys : List ℕ) × (left ≡ Some ys) × f z ys)
+    → IfSome o (λ z. (ys : List ℕ) × (left ≡ Some ys) × g z ys)
+stops_as None left f g means h = tt
+stops_as (Some z) left f g means h = (h.0, h.1, means z h.0 h.2)
+
+-- ---- memory
+
+-- a call that takes none
+pub no_memory : {V E : Type 0} (r : Result V (DecodeError E))
+    → IfErr r (λ e. is_out_of_memory e ≡ false)
+    → IfErr r (λ e. IsTrue (is_out_of_memory e) → IsTrue false)
+no_memory (Ok v) q = tt
+no_memory (Err e) q = λ h. sym q ∙ h
+
+-- a call that may take some
+pub any_memory : {V E : Type 0} (r : Result V (DecodeError E))
+    → IfErr r (λ e. IsTrue (is_out_of_memory e) → IsTrue true)
+any_memory (Ok v) = tt
+any_memory (Err e) = λ out. refl
+
+-- ---- a value, and an error
+
+-- how bytes are refused, over any reader: no reading of the type that fits begins them
+pub record Refused {V : Type 0} (s : Spelling V) (xs : List ℕ) (budget : Option ℕ) (z : Refusal)
+    (ys : List ℕ) : Type 0 where
+  pub none : NoneRead s.reads xs budget
+  pub stops : s.stops xs budget z ys
+  pub begins : s.begins xs budget z ys
+
+none_of : {P : Type 0} (o : Option Refusal) (left : Option (List ℕ)) {f : Refusal → List ℕ → Type 0}
+    → ((z : Refusal) (ys : List ℕ) → f z ys → P)
+    → IfSome o (λ z. (ys : List ℕ) × (left ≡ Some ys) × f z ys) → IfSome o (λ z. P)
+none_of None left means h = tt
+none_of (Some z) left means h = means z h.0 h.2
+
+module _ {V E : Type 0} (s : Spelling V) {a b : View} where
+  pub ok : {v : V} → Kept a b → (IsTrue s.never_empty → b.bound + 1 ≤ a.bound) → Sound s.reads a b v
+      → Decodes {E = E} s a b (Ok v)
+  ok kept progress sound = record {
+    moves = record { by = kept; depth = λ none. refl };
+    progress = progress;
+    memory = tt;
+    sound = sound;
+    complete = λ exact. tt;
+    stops = λ exact. tt;
+    begins = tt;
+  }
+
+  -- an error of which all is known over any reader
+  pub err : {e : DecodeError E} → Moves {V = V} a b (Err e)
+      → (IsTrue (is_out_of_memory e) → IsTrue s.takes_memory)
+      → Told a.told (λ xs. IfSome (refusal_of e)
+      (λ z. (ys : List ℕ) × (b.told ≡ Some ys) × Refused s xs a.budget z ys))
+      → Decodes s a b (Err e)
+  err {e = e} moves memory says = record {
+    moves = moves;
+    progress = λ some. tt;
+    memory = memory;
+    sound = tt;
+    complete = λ exact. record {
+      at = λ xs told. none_of (refusal_of e) b.told {f = Refused s xs a.budget}
+          (λ z ys r. r.none) (says xs told);
+    };
+    stops = λ exact. record {
+      at = λ xs told. stops_as (refusal_of e) b.told (Refused s xs a.budget)
+          (s.stops xs a.budget) (λ z ys r. r.stops) (says xs told);
+    };
+    begins = record {
+      at = λ xs told. stops_as (refusal_of e) b.told (Refused s xs a.budget)
+          (s.begins xs a.budget) (λ z ys r. r.begins) (says xs told);
+    };
+  }
+
+  pub out_of_memory : IsTrue s.takes_memory → Kept a b → Decodes {E = E} s a b (Err OutOfMemory)
+  out_of_memory takes kept =
+      err (record { by = kept; depth = λ none. refl }) (λ out. takes) (λ xs told. tt)
+
+  -- an error of a program
+  pub err_of : {U : Type 0} {program : Reading U} {e : DecodeError E}
+      → Runs {V = U} program a b (Err e) → is_out_of_memory e ≡ false
+      → ((xs : List ℕ) (z : Refusal) (ys : List ℕ) → program xs ≡ Err (z, ys)
+      → Refused s xs a.budget z ys) → Decodes s a b (Err e)
+  err_of {program = program} {e = e} p memory says =
+      err (moves_err p.moves) (λ out. absurd (let f = sym memory ∙ out in cc))
+      (λ xs told. stops_as (refusal_of e) b.told (λ z ys. program xs ≡ Err (z, ys))
+      (Refused s xs a.budget) (says xs) (p.answers xs told))
+
+-- ---- a part behind what was read
+
+-- a refusal of the part at ys is one of the whole at xs
+pub record Behind {U V : Type 0} (part : Spelling U) (whole : Spelling V) (xs ys : List ℕ)
+    (budget : Option ℕ) : Type 0 where
+  pub none : NoneRead part.reads ys budget → NoneRead whole.reads xs budget
+  pub stops : (z : Refusal) (zs : List ℕ) → part.stops ys budget z zs → whole.stops xs budget z zs
+  pub begins : (z : Refusal) (zs : List ℕ) → part.begins ys budget z zs
+      → whole.begins xs budget z zs
+
+exact_as : (o p : Bool) (v : View) → (IsTrue o → IsTrue p) → IsExact o v → IsExact p v
+exact_as o p v f (inl e) = inl (f e)
+exact_as o p v f (inr e) = inr e
+
+module _ {U V E : Type 0} (part : Spelling U) (whole : Spelling V) {a m b : View} where
+  pub err_behind : {e : DecodeError E} → Kept a m
+      → Told a.told (λ xs. (ys : List ℕ) × (m.told ≡ Some ys) × Behind part whole xs ys a.budget)
+      → (IsTrue whole.owned → IsTrue part.owned)
+      → (IsTrue part.takes_memory → IsTrue whole.takes_memory)
+      → Decodes part m b (Err e) → Decodes whole a b (Err e)
+  err_behind {e = e} kept at owned memory d = record {
+    moves = moves_then kept (moves_err d.moves);
+    progress = λ some. tt;
+    memory = λ out. memory (d.memory out);
+    sound = tt;
+    complete = λ exact. record {
+      at = λ xs told.
+          let h = at xs told in
+          if_some (refusal_of e) h.2.none
+          (subst (λ k. IfSome (refusal_of e) (λ z. NoneRead part.reads h.0 k)) kept.budget
+          ((d.complete (exact_kept part.owned a m xs told kept
+          (exact_as whole.owned part.owned a owned exact))).at h.0 h.1));
+    };
+    stops = λ exact. record {
+      at = λ xs told.
+          let h = at xs told in
+          stops_as (refusal_of e) b.told (part.stops h.0 m.budget) (whole.stops xs a.budget)
+          (λ z zs s. h.2.stops z zs (subst (λ k. part.stops h.0 k z zs) kept.budget s))
+          ((d.stops (exact_kept part.owned a m xs told kept
+          (exact_as whole.owned part.owned a owned exact))).at h.0 h.1);
+    };
+    begins = record {
+      at = λ xs told.
+          let h = at xs told in
+          stops_as (refusal_of e) b.told (part.begins h.0 m.budget) (whole.begins xs a.budget)
+          (λ z zs s. h.2.begins z zs (subst (λ k. part.begins h.0 k z zs) kept.budget s))
+          (d.begins.at h.0 h.1);
+    };
+  }
+
+  -- what was read of the part is a reading of the whole
+  pub ok_behind : {u : U} {v : V} → Kept a m
+      → Told a.told (λ xs. (ys : List ℕ) × (m.told ≡ Some ys) × ((n c : ℕ) → part.reads ys u n c
+      → CostFits c a.budget → Found whole.reads a.budget xs v (drop n ys)))
+      → (IsTrue whole.never_empty → b.bound + 1 ≤ a.bound)
+      → Decodes {E = E} part m b (Ok u) → Decodes {E = E} whole a b (Ok v)
+  ok_behind kept at progress d = ok whole (kept_then kept d.moves.by) progress (record {
+    at = λ xs told.
+        let h = at xs told in
+        let t = d.sound.at h.0 h.1 in
+        let r = h.2 t.count t.cost t.read (subst (CostFits t.cost) kept.budget t.fits) in
+        record {
+          count = r.count;
+          cost = r.cost;
+          read = r.read;
+          fits = r.fits;
+          left = t.left ∙ ap Some r.left;
+        };
+  })
+
+-- what stands before the part was taken, and the whole is then read and refused as the part is
+pub record Leads {V : Type 0} (part whole : Spelling V) (a m : View) : Type 0 where
+  pub kept : Kept a m
+  pub progress : IsTrue whole.never_empty → m.bound + 1 ≤ a.bound
+  pub owned : IsTrue whole.owned → IsTrue part.owned
+  pub memory : IsTrue part.takes_memory → IsTrue whole.takes_memory
+  pub at : Told a.told (λ xs. (ys : List ℕ) × (m.told ≡ Some ys)
+      × ((v : V) (n c : ℕ) → part.reads ys v n c → CostFits c a.budget
+      → Found whole.reads a.budget xs v (drop n ys))
+      × Behind part whole xs ys a.budget)
+
+pub behind : {V E : Type 0} (part whole : Spelling V) {a m b : View} (r : Result V (DecodeError E))
+    → Leads part whole a m → Decodes part m b r → Decodes whole a b r
+behind part whole {b = b} (Ok v) l d =
+    ok_behind part whole l.kept (λ xs told. let h = l.at xs told in (h.0, h.1, h.2 v))
+    (λ some. omega (arith, l.progress some, d.moves.by.bound)) d
+behind part whole {b = b} (Err e) l d =
+    err_behind part whole l.kept
+    (λ xs told. let h = l.at xs told in (h.0, h.1, h.3)) l.owned l.memory d
+
+-- ---- one type as another
+
+module _ {U V E : Type 0} (part : V → U) (s : Spelling U) {a b : View} where
+  pub by_ok : {v : V} {u : U} → part v ≡ u → Decodes {E = E} s a b (Ok u)
+      → Decodes {E = E} (spelling_by part s) a b (Ok v)
+  by_ok {v = v} same d = ok (spelling_by part s) d.moves.by d.progress (record {
+    at = λ xs told. let t = d.sound.at xs told in record {
+      count = t.count;
+      cost = t.cost;
+      read = subst (λ u. s.reads xs u t.count t.cost) (sym same) t.read;
+      fits = t.fits;
+      left = t.left;
+    };
+  })
+
+  pub by_err : {e : DecodeError E} → Decodes s a b (Err e)
+      → Decodes (spelling_by part s) a b (Err e)
+  by_err d = record {
+    moves = moves_err d.moves;
+    progress = λ some. tt;
+    memory = d.memory;
+    sound = tt;
+    complete = λ exact. refuses_as s.reads (spelling_by part s).reads
+        (λ xs budget none v. none (part v)) (d.complete exact);
+    stops = d.stops;
+    begins = d.begins;
+  }
+
+pub in_memory : {V E : Type 0} (s : Spelling V) {a b : View} (r : Result V (DecodeError E))
+    → Decodes s a b r → Decodes (taking_memory s) a b r
+in_memory s (Ok v) d = ok (taking_memory s) d.moves.by d.progress d.sound
+in_memory s (Err e) d = record {
+  moves = d.moves;
+  progress = d.progress;
+  memory = λ out. refl;
+  sound = tt;
+  complete = d.complete;
+  stops = d.stops;
+  begins = d.begins;
+}
