@@ -110,8 +110,8 @@ impl<S: Source> Decode<S> for Value {
     }
 }
 
-/// Reads one value that stands in no other. What is under its step stays out of line, so that a
-/// caller takes the step and the answer in its own frame.
+/// Reads one value that stands in no other. What is under its step is a function apart, so that of
+/// several callers each takes the step and the answer in its own frame, and a lone one takes all.
 #[inline(always)]
 fn read_outermost<S: Source>(
     alloc: Global,
@@ -133,7 +133,6 @@ fn read_outermost<S: Source>(
 }
 
 /// Reads one value under a step that was taken.
-#[inline(never)]
 fn read_apart<S: Source>(
     alloc: Global,
     reader: &mut S,
