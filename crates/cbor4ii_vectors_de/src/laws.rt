@@ -1,7 +1,7 @@
 //! The laws of what is written and read are called.
 ghost use Rattle.std.specs.Prelude.{◌≡◌, codes};
 ghost use Rattle.std.proofs.Common.{◌∙◌, sym};
-ghost use Rattle.cbor4ii_items.specs.Laws.Arguments.{unsigned_one, unsigned_within};
+ghost use Rattle.cbor4ii_items.specs.Laws.Arguments.{argument_one, argument_within, zero_small};
 ghost use Rattle.cbor4ii_items.specs.Numbers.{ReadsUnsigned};
 ghost use Rattle.cbor4ii.specs.Typed.{not_exact};
 
@@ -45,8 +45,8 @@ impl EnumValues for Lamp {
     ghost unit_one = { λ _ _ _ p q. p.1 ∙ sym q.1 };
 
     ghost content_laws = { λ _. record {
-      one = λ xs v w n m c d p q. unsigned_one 1 xs v.0 w.0 n m c d p.0 q.0;
-      within = λ xs v n c p. unsigned_within 1 xs v.0 n c p.0;
+      one = λ xs v w n m c d p q. argument_one 0 1 zero_small xs v.0 w.0 n m c d p.0 q.0;
+      within = λ xs v n c p. argument_within 0 1 zero_small xs v.0 n c p.0;
       positive = not_exact;
     } };
 }
