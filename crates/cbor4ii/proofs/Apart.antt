@@ -1,13 +1,12 @@
 -- What is refused under one step, or where a value may be absent, is not read.
 use Rattle.std.proofs.Common.{ℕ, List, inl, inr, Bool, subst}
 use Rattle.std.specs.Prelude.{IsTrue, codes}
-use Rattle.cbor4ii_items.specs.Containers.{ReadsOption}
+use Rattle.cbor4ii_items.specs.Containers.{ReadsOption, StopsOption}
 use Rattle.cbor4ii_items.specs.Decoding.{Reads, StopsAt, CostFits}
 use Rattle.cbor4ii_items.specs.NeverBoth.{NeverBoth}
 use Rattle.cbor4ii_items.specs.Sequences.{after_step}
 use Rattle.cbor4ii_items.specs.Laws.ContainersApart.{option_apart}
 use Rattle.cbor4ii_items.specs.Laws.SequencesApart.{none_left, fits_after}
-use Rattle.cbor4ii.specs.Beginning.{StopsPresent}
 use Rattle.cbor4ii.specs.Optional.{ReadsPresence, StopsPresence, ReadsNoByte, never_stops}
 use Rattle.cbor4ii.specs.Stepped.{Stepped, StopsStepped}
 use Rattle.cbor4ii.specs.Typed.{said}
@@ -21,21 +20,22 @@ stepped_apart name reads stops apart xs budget refusal rest (inr s) v n c p fits
     (fits_after budget p.0 (subst (λ k. CostFits k budget) p.2 fits))
 
 absent_apart : {V : Type 0} (reads : Reads V) (stops : StopsAt) → NeverBoth reads stops
-    → NeverBoth (ReadsOption (Stepped reads)) (StopsPresent stops)
+    → NeverBoth (ReadsOption (Stepped reads)) (StopsOption (StopsStepped (codes "option") stops))
 absent_apart reads stops apart =
     option_apart (Stepped reads) (StopsStepped (codes "option") stops)
     (stepped_apart (codes "option") reads stops apart)
 
-said_apart : {V : Type 0} (exact : Bool) (reads : Reads V) (stops : StopsAt) → IsTrue exact
-    → NeverBoth reads stops → NeverBoth reads (said exact stops)
-said_apart exact reads stops is apart xs budget refusal rest s =
+said_apart : {V : Type 0} (told : Bool) (reads : Reads V) (stops : StopsAt) → IsTrue told
+    → NeverBoth reads stops → NeverBoth reads (said told stops)
+said_apart told reads stops is apart xs budget refusal rest s =
     apart xs budget refusal rest (s is)
 
-pub present_apart : {V : Type 0} (exact : Bool) (reads : Reads V) (stops : StopsAt)
-    → IsTrue exact → NeverBoth reads stops
-    → NeverBoth (ReadsOption (Stepped reads)) (StopsPresent (said exact stops))
-present_apart exact reads stops is apart =
-    absent_apart reads (said exact stops) (said_apart exact reads stops is apart)
+pub present_apart : {V : Type 0} (told : Bool) (reads : Reads V) (stops : StopsAt)
+    → IsTrue told → NeverBoth reads stops
+    → NeverBoth (ReadsOption (Stepped reads)) (StopsOption
+    (StopsStepped (codes "option") (said told stops)))
+present_apart told reads stops is apart =
+    absent_apart reads (said told stops) (said_apart told reads stops is apart)
 
 pub presence_apart : NeverBoth ReadsPresence StopsPresence
 presence_apart =

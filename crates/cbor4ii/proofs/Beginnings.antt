@@ -6,18 +6,16 @@ use Rattle.cbor4ii_rw.specs.View.{View}
 use Rattle.cbor4ii_rw.specs.Reader.{StepsIn, KeepsAllButBudget}
 use Rattle.cbor4ii_rw.specs.declared.error.DecodeError.{DecodeError}
 use Rattle.cbor4ii_items.specs.Containers.{StopsOption}
-use Rattle.cbor4ii_items.specs.Decoding.{Reads, StopsAt, Sound, Stops}
-use Rattle.cbor4ii_items.specs.Moves.{Kept, Moves}
+use Rattle.cbor4ii_items.specs.Decoding.{StopsAt, Stops}
+use Rattle.cbor4ii_items.specs.Moves.{Moves}
 use Rattle.cbor4ii_items.specs.Next.{StopsNext}
 use Rattle.cbor4ii_items.specs.Refusal.{Refusal, refusal_of, is_read}
-use Rattle.cbor4ii_items.specs.Sequences.{StopsPair}
 use Rattle.cbor4ii_items.specs.Laws.Containers.{not_null}
-use Rattle.cbor4ii.specs.Laws.PairsRead.{value_stops_pair}
 use Rattle.cbor4ii_items.specs.Laws.Calls.{stops_as}
 use Rattle.cbor4ii_items.specs.Laws.Answering.{not_read, kept_of}
 use Rattle.cbor4ii.specs.declared.serde.de.error.DecodeError.{DecodeError as Typed}
 use Rattle.cbor4ii.specs.Stepped.{StopsStepped}
-use Rattle.cbor4ii.specs.Typed.{as_core, answer_of, not_exact, unsaid_stops, said}
+use Rattle.cbor4ii.specs.Typed.{as_core, not_exact, unsaid_stops, said}
 use Rattle.cbor4ii.proofs.Looking.{Saw}
 use Rattle.cbor4ii.proofs.Steps.{stops_stepped}
 use Rattle.cbor4ii.proofs.Stopped.{stopped_as}
@@ -46,23 +44,6 @@ pub said_left : {V E : Type 0} (exact : Bool) (stops : StopsAt) {e : DecodeError
 said_left true stops m s = stopped_as stops (said true stops) (λ xs budget z ys h is. h) (s refl)
 said_left false stops m s =
     stopped_as unsaid_stops (said false stops) (λ xs budget z ys h is. not_exact is) (unsaid_left m)
-
-pub said_stops : {V E : Type 0} (exact : Bool) (stops : StopsAt) (r : Result V (Typed E))
-    {a b : View} → Moves a b (answer_of r)
-    → (IsTrue exact → IfErr r (λ e. Stops stops a b (as_core e)))
-    → IfErr r (λ e. Stops (said exact stops) a b (as_core e))
-said_stops exact stops (Ok v) m s = tt
-said_stops exact stops (Err e) m s = said_left exact stops m s
-
--- ---- a head
-
--- what stands behind a whole head is refused
-pub behind_stops : {V W E : Type 0} (reads : Reads V) (head stops : StopsAt)
-    (r : Result W (Typed E)) (b : View) {a m : View} {v : V} → Kept a m → Sound reads a m v
-    → IfErr r (λ e. Stops stops m b (as_core e))
-    → IfErr r (λ e. Stops (StopsPair reads head stops) a b (as_core e))
-behind_stops reads head stops (Ok w) b k h s = tt
-behind_stops reads head stops (Err e) b k h s = value_stops_pair reads head stops k h (λ xs told. s)
 
 -- ---- a step
 

@@ -1,7 +1,7 @@
 -- Strings that are borrowed from the input, read as those that may be.
 use Rattle.std.proofs.Common.{◌≡◌, ℕ, ◌<◌, ◌⊎◌, inl, inr, List, [], ◌∷◌, length, take, drop, Bool}
 use Rattle.std.proofs.Common.{true, false, Result, Ok, Err, refl, sym, ap, subst, IfOk, IfErr}
-use Rattle.std.specs.Prelude.{OnOk, IsOkAnd, IsTrue, IsUtf8}
+use Rattle.std.specs.Prelude.{OnOk, IsOkAnd, IsTrue, IsUtf8, codes}
 use denote.Ref.{Bor}
 use Rattle.std.specs.declared.alloc.Global.{Global}
 use Rattle.std.specs.declared.borrow.CowStr.{CowStr}
@@ -18,16 +18,18 @@ use Rattle.cbor4ii_items.specs.Refusal.{refusal_of, require_borrowed}
 use Rattle.cbor4ii_items.specs.Moves.{Moves}
 use Rattle.cbor4ii_items.specs.Cow.{BorrowsWhereCounted, cow_text, cow_bytes, IsBorrowedBytes}
 use Rattle.cbor4ii_items.specs.Cow.{IsOwnedBytes, slice_stands, cow_bytes_stand}
-use Rattle.cbor4ii_items.specs.Strings.{ReadsCountedString, ReadsAs, ReadsTextAs}
-use Rattle.cbor4ii_items.specs.Decoding.{Reads, StopsAt, IsExact, Sound, Refuses, Stops}
+use Rattle.cbor4ii_items.specs.Strings.{ReadsCountedString, ReadsAs, ReadsTextAs, as_spelling}
+use Rattle.cbor4ii_items.specs.Strings.{text_spelling}
+use Rattle.cbor4ii_items.specs.Decoding.{Reads, StopsAt, IsExact, Sound, Refuses, Stops, Decodes}
 use Rattle.cbor4ii_items.specs.Lent.{ReadsLent, IsOfInput, lent_str, lent_bytes}
-use Rattle.cbor4ii_items.specs.Laws.Strings.{head_not_open}
+use Rattle.cbor4ii_items.specs.Laws.Strings.{head_not_open, two_small, three_small}
 use Rattle.cbor4ii_items.specs.Laws.Answering.{refuses_as}
 use Rattle.cbor4ii_items.specs.Laws.Steps.{moves_ok, moves_err}
 use Rattle.cbor4ii.specs.Laws.PartsRead.{always}
 use Rattle.cbor4ii.specs.declared.serde.de.error.DecodeError.{DecodeError}
-use Rattle.cbor4ii.specs.Borrowed.{Borrows, LacksLoan, StopsUnlent}
-use Rattle.cbor4ii.specs.Typed.{as_core, answer_of, not_exact}
+use Rattle.cbor4ii.specs.Borrowed.{Borrows, LacksLoan, StopsUnlent, unlent_text, unlent_bytes}
+use Rattle.cbor4ii.specs.Typed.{Deserializes, as_core, answer_of, not_exact}
+use Rattle.cbor4ii.proofs.Told.{told, may_take}
 use Rattle.cbor4ii.proofs.Stopped.{stopped_as}
 
 pub unlent : {V W E : Type 0} {a b : View} {v : V} (found : Bor (List ℕ)) → Moves {E = E} a b (Ok v)
@@ -181,6 +183,37 @@ bytes_lent w = record { 0 = slice.Borrowed w.0 }
 pub bytes_spelled : (xs : List ℕ) (w : Bytes (Bor (List ℕ))) (n c : ℕ)
     → ReadsLent 2 false lent_bytes xs w n c → ReadsAs 2 cow_bytes xs (bytes_lent w) n c
 bytes_spelled xs w n c r = inl (r.0, r.1)
+
+-- ---- what is answered
+
+module _ {E : Type 0} {a b : View} where
+  pub text_answer : (r : Result (CowStr Global) (CoreError E))
+      (q : Result (Bor (List ℕ)) (DecodeError E))
+      → Borrows cow_text lent_str IsBorrowedStr IsOwnedStr (codes "str") r q
+      → Decodes (text_spelling (codes "str") cow_text) a b r
+      → IfOk r (BorrowsWhereCounted 3 IsBorrowedStr IsOwnedStr a)
+      → Deserializes unlent_text a b (answer_of q)
+  text_answer r q h d k =
+      told unlent_text q (lent_moves _ _ _ _ _ r q a b h d.moves)
+      (lent_progress _ _ _ _ _ r q _ h (d.progress refl)) (may_take q)
+      (lent_sound _ _ _ _ _ _ _ _ text_counted text_apart r q a b h d.sound k)
+      (λ is sure. lent_refuses _ _ _ _ _ _ _ _ text_counted three_small text_apart text_lent
+      text_spelled r q a h (d.complete (inl refl)) k sure)
+      (λ is. lent_stops _ _ _ _ _ _ _ r q a b h d.sound d.begins)
+
+  pub bytes_answer : (r : Result (Bytes (CowSlice ℕ Global)) (CoreError E))
+      (q : Result (Bytes (Bor (List ℕ))) (DecodeError E))
+      → Borrows cow_bytes lent_bytes IsBorrowedBytes IsOwnedBytes (codes "bytes") r q
+      → Decodes (as_spelling (codes "bytes") 2 cow_bytes) a b r
+      → IfOk r (BorrowsWhereCounted 2 IsBorrowedBytes IsOwnedBytes a)
+      → Deserializes unlent_bytes a b (answer_of q)
+  bytes_answer r q h d k =
+      told unlent_bytes q (lent_moves _ _ _ _ _ r q a b h d.moves)
+      (lent_progress _ _ _ _ _ r q _ h (d.progress refl)) (may_take q)
+      (lent_sound _ _ _ _ _ _ _ _ bytes_counted bytes_apart r q a b h d.sound k)
+      (λ is sure. lent_refuses _ _ _ _ _ _ _ _ bytes_counted two_small bytes_apart bytes_lent
+      bytes_spelled r q a h (d.complete (inl refl)) k sure)
+      (λ is. lent_stops _ _ _ _ _ _ _ r q a b h d.sound d.begins)
 
 -- bytes that are handed on stand where they stood
 pub lent_place : {E : Type 0} (found : Result (Bytes (CowSlice ℕ Global)) (CoreError E))

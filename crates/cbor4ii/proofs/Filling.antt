@@ -1,14 +1,14 @@
 -- What becomes of a struct's values, entry by entry.
 use Rattle.std.proofs.Common.{◌-◌, ◌≤◌, length, take, drop, get_or, ◌≡◌, ◌≢◌, inl, inr, ℕ, ◌+◌}
 use Rattle.std.proofs.Common.{◌<◌, List, [], ◌∷◌, ◌++◌, Option, Some, Result, Ok, Err, Bool, true}
-use Rattle.std.proofs.Common.{IfOk, IfErr, OnOk, refl, sym, ap, ◌∙◌, subst, arith}
+use Rattle.std.proofs.Common.{IfOk, IfErr, OnOk, IsTrue, refl, sym, ap, ◌∙◌, subst, arith}
 use denote.Ref.{Bor}
 use Rattle.std.proofs.Math.Seq.{take-length}
 use Rattle.std.specs.declared.alloc.Global.{Global}
 use Rattle.std.specs.declared.string.String.{String}
 use Rattle.cbor4ii_rw.specs.View.{View}
 use Rattle.cbor4ii_rw.specs.declared.error.DecodeError.{DecodeError}
-use Rattle.cbor4ii_items.specs.Decoding.{Reads, Sound, Refuses}
+use Rattle.cbor4ii_items.specs.Decoding.{Reads, IsExact, Sound, Refuses, Stops}
 use Rattle.cbor4ii_items.specs.Moves.{Kept, Moves}
 use Rattle.cbor4ii_items.specs.Refusal.{refusal_of}
 use Rattle.cbor4ii_items.specs.Sequences.{ReadsPair, ReadsCount, ReadsUpToBreak, ReadsInside}
@@ -28,12 +28,15 @@ use Rattle.cbor4ii.specs.Laws.SequencesRead.{opened_not_read}
 use Rattle.cbor4ii_rw.specs.Reader.{StepsIn, KeepsAllButBudget}
 use Rattle.cbor4ii.specs.declared.serde.de.error.DecodeError.{DecodeError as Typed}
 use Rattle.cbor4ii.specs.Fields.{ReadsNamed, no_field, named_field, fields_by, ReadsName, SameName}
-use Rattle.cbor4ii.specs.Fields.{ReadsEntry, ReadsFields, Changes, Fills, changed, name_laws}
+use Rattle.cbor4ii.specs.Fields.{ReadsEntry, Changes, Fills, changed, name_laws, StopsFields}
+use Rattle.cbor4ii.specs.Structs.{Fields, struct_of}
 use Rattle.cbor4ii.specs.ItemRead.{ReadsSkipped}
 use Rattle.cbor4ii.specs.Sequence.{five_small}
 use Rattle.cbor4ii.specs.Stepped.{Stepped}
-use Rattle.cbor4ii.specs.Typed.{as_core}
-use Rattle.cbor4ii.proofs.Steps.{step_sound}
+use Rattle.cbor4ii.specs.Typed.{Deserializes, as_core}
+use Rattle.cbor4ii.proofs.Promised.{ok}
+use Rattle.cbor4ii.proofs.Steps.{sound_stepped}
+use Rattle.cbor4ii_items.specs.Laws.Steps.{moves_err}
 
 pub on_ok : {U E P Q : Type 0} (r : Result U E) → (P → Q) → OnOk r P → OnOk r Q
 on_ok (Ok u) f p = f p
@@ -369,12 +372,6 @@ module _ {V : Type 0} (named : ReadsNamed V) {U E : Type 0} (r : Result U (Typed
       (λ e. Refuses (ReadsInside 5 (ReadsEntry named) true) a (as_core e))
       (λ e s. opened_not_read 5 (ReadsEntry named) true five_small h s)
 
-sound_stepped : {W : Type 0} (reads : Reads W) (w : W) {a b c d : View}
-    → StepsIn a.budget b.budget true → KeepsAllButBudget a b → KeepsAllButBudget c d
-    → Sound reads b c w → Sound (Stepped reads) a d w
-sound_stepped {W = W} reads w {a = a} {b = b} {c = c} {d = d} takes inward outward s =
-    step_sound {E = W} (Ok w) reads a b takes inward c d outward s
-
 -- under a step
 pub step_fills : {V U E : Type 0} (reads : Reads (List (V → V))) (r : Result U E) (first last : V)
     {a b c d : View} → StepsIn a.budget b.budget true → KeepsAllButBudget a b
@@ -383,17 +380,17 @@ pub step_fills : {V U E : Type 0} (reads : Reads (List (V → V))) (r : Result U
 step_fills reads r first last {a = a} {b = b} {c = c} {d = d} takes inward outward =
     on_ok r (λ f. record {
       changes = f.changes;
-      read = sound_stepped reads f.changes takes inward outward f.read;
+      read = sound_stepped reads takes inward outward f.read;
       is = f.is;
     })
 
 -- ---- the values
 
-module _ {V : Type 0} (named : ReadsNamed V) (first : V) where
-  pub fields_sound : {a b : View} {last : V}
-      → Fills (ReadsSequence 5 (ReadsEntry named) true) first last a b
-      → Sound (ReadsFields first named) a b last
-  fields_sound h = record {
+module _ {V W : Type 0} (values : W → V) (f : Fields V) where
+  pub struct_ok : {E : Type 0} {a b : View} {w : W} → Kept a b → b.bound + 1 ≤ a.bound
+      → Fills (ReadsSequence 5 (ReadsEntry f.named) true) f.first (values w) a b
+      → Deserializes {E = E} (struct_of values f) a b (Ok w)
+  struct_ok kept some h = ok (struct_of values f) kept some (record {
     at = λ xs told. (let p = h.read.at xs told in record {
       count = p.count;
       cost = p.cost;
@@ -401,12 +398,20 @@ module _ {V : Type 0} (named : ReadsNamed V) (first : V) where
       fits = p.fits;
       left = p.left;
     });
-  }
+  })
 
-  pub fields_refuse : {E : Type 0} {a : View} {e : DecodeError E}
-      → Refuses (ReadsSequence 5 (ReadsEntry named) true) a e
-      → Refuses (ReadsFields first named) a e
-  fields_refuse {e = e} s = record {
-    at = λ xs told. if_some (refusal_of e)
-        (λ none values n c h fits. none h.0 n c h.1 fits) (s.at xs told);
+  pub struct_err : {E : Type 0} {a b : View} {e : DecodeError E} → Moves {V = Unit {0}} a b (Err e)
+      → (IsTrue f.exact → IsExact f.owned a
+      → Refuses (ReadsSequence 5 (ReadsEntry f.named) true) a e)
+      → Stops (StopsFields f.named f.stops) a b e → Deserializes (struct_of values f) a b (Err e)
+  struct_err {e = e} moves complete stops = record {
+    moves = moves_err moves;
+    progress = tt;
+    memory = λ out. refl;
+    sound = tt;
+    complete = λ is sure. record {
+      at = λ xs told. if_some (refusal_of e)
+          (λ none w n c h fits. none h.0 n c h.1 fits) ((complete is sure).at xs told);
+    };
+    begins = λ is. stops;
   }

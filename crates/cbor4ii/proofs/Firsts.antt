@@ -3,12 +3,13 @@ use Rattle.std.proofs.Common.{◌≡◌, ℕ, ◌<◌, ◌≤◌, ◌^◌, ◌�
 use Rattle.std.proofs.Common.{None, Result, Ok, Err, Bool, true, sym, subst}
 use Rattle.std.specs.Prelude.{IfOk, IfErr, IfSome, IsTrue}
 use Rattle.cbor4ii_rw.specs.View.{View, Told}
-use Rattle.cbor4ii_items.specs.Refusal.{Refusal, refusal_of, is_out_of_memory}
+use Rattle.cbor4ii_items.specs.Refusal.{Refusal, refusal_of}
 use Rattle.cbor4ii_items.specs.Decoding.{StopsAt, CostFits, NoneRead, Sound, IsExact, Refuses}
 use Rattle.cbor4ii_items.specs.Decoding.{Stops}
 use Rattle.cbor4ii.specs.declared.serde.de.error.DecodeError.{DecodeError}
 use Rattle.cbor4ii.specs.First.{First, FirstOf, limit}
-use Rattle.cbor4ii.specs.Typed.{as_core}
+use Rattle.cbor4ii.specs.Typed.{Promise, Deserializes, as_core, answer_of}
+use Rattle.cbor4ii.proofs.Told.{if_ok, if_err}
 
 whole : (owned : Bool) (view : View) (bytes : List ℕ) → view.told ≡ Some bytes
     → view.lends_whole ≡ true → IsTrue owned ⊎ (length bytes < 2 ^ 64) → IsExact owned view
@@ -50,48 +51,45 @@ module _ {V E : Type 0} (reads : List ℕ → V → ℕ → ℕ → Type 0) wher
     stopped_at (Err e) a b is s =
         λ xs told. if_stopped stops (refusal_of (as_core e)) b.told xs a.budget is (s.at xs told)
 
-    module _ (exact owned memory : Bool) (r : Result V (DecodeError E)) where
-      -- the first value of what a reader has left
-      pub first_of : (a b view : View) → a ≡ view → IfOk r (Sound reads a b)
-          → IfErr r (λ e. IsTrue (is_out_of_memory (as_core e)) → IsTrue memory)
-          → (IsTrue exact → IsExact owned a → IfErr r (λ e. Refuses reads a (as_core e)))
-          → (IsTrue exact → IfErr r (λ e. Stops stops a b (as_core e))) → view.budget ≡ Some limit
-          → FirstOf reads stops exact owned memory view r
-      first_of a b view e s m t u is =
-          let at = subst (λ w. w.budget ≡ Some limit) (sym e) is in
-          subst (λ w. FirstOf reads stops exact owned memory w r) e
-          (record {
-            first = record {
-              accepts = accepts_at r a b at s;
-              memory = m;
-              refuses = λ said sure. refuses_at r a at (t said sure);
-              stopped = λ said. stopped_at r a b at (u said);
-            };
-          })
+module _ {V E : Type 0} (p : Promise V) (r : Result V (DecodeError E)) where
+  -- the first value of what a reader has left
+  pub first_of : (a b view : View) → a ≡ view → Deserializes p a b (answer_of r)
+      → view.budget ≡ Some limit → FirstOf p view r
+  first_of a b view e d is =
+      let at = subst (λ w. w.budget ≡ Some limit) (sym e) is in
+      subst (λ w. FirstOf p w r) e
+      (record {
+        first = record {
+          accepts = accepts_at p.spelling.reads r a b at (if_ok _ r d.sound);
+          memory = if_err _ r d.memory;
+          refuses = λ is sure. refuses_at p.spelling.reads r a at (if_err _ r (d.complete is sure));
+          stopped = λ is. stopped_at p.spelling.reads p.spelling.begins r a b at
+              (if_err _ r (d.begins is));
+        };
+      })
 
-      as_told : (sure other : Type 0) (told left : Option (List ℕ)) → (other → sure) → told ≡ left
-          → First reads stops exact memory sure told r → First reads stops exact memory other left r
-      as_told sure other told left means e f =
-          subst (λ w. First reads stops exact memory other w r) e
-          (record {
-            accepts = f.accepts;
-            memory = f.memory;
-            refuses = λ said wanted. f.refuses said (means wanted);
-            stopped = f.stopped;
-          })
+  as_told : (sure other : Type 0) (told left : Option (List ℕ)) → (other → sure) → told ≡ left
+      → First p sure told r → First p other left r
+  as_told sure other told left means e f =
+      subst (λ w. First p other w r) e
+      (record {
+        accepts = f.accepts;
+        memory = f.memory;
+        refuses = λ is wanted. f.refuses is (means wanted);
+        stopped = f.stopped;
+      })
 
-      -- that of a slice, and of a stream
-      pub first_lent : {view : View} (bytes : List ℕ)
-          → FirstOf reads stops exact owned memory view r → view.told ≡ Some bytes
-          → view.lends_whole ≡ true
-          → First reads stops exact memory (IsTrue owned ⊎ (length bytes < 2 ^ 64)) (Some bytes) r
-      first_lent {view = view} bytes f told lends =
-          as_told (IsExact owned view)
-          (IsTrue owned ⊎ (length bytes < 2 ^ 64)) view.told (Some bytes)
-          (whole owned view bytes told lends) told f.first
+  -- that of a slice, and of a stream
+  pub first_lent : {view : View} (bytes : List ℕ) → FirstOf p view r → view.told ≡ Some bytes
+      → view.lends_whole ≡ true
+      → First p (IsTrue p.spelling.owned ⊎ (length bytes < 2 ^ 64)) (Some bytes) r
+  first_lent {view = view} bytes f told lends =
+      as_told (IsExact p.spelling.owned view)
+      (IsTrue p.spelling.owned ⊎ (length bytes < 2 ^ 64)) view.told (Some bytes)
+      (whole p.spelling.owned view bytes told lends) told f.first
 
-      pub first_streamed : {view : View} (left : Option (List ℕ))
-          → FirstOf reads stops exact owned memory view r → view.told ≡ left
-          → First reads stops exact memory (IsTrue owned) left r
-      first_streamed {view = view} left f told =
-          as_told (IsExact owned view) (IsTrue owned) view.told left (λ is. inl is) told f.first
+  pub first_streamed : {view : View} (left : Option (List ℕ)) → FirstOf p view r → view.told ≡ left
+      → First p (IsTrue p.spelling.owned) left r
+  first_streamed {view = view} left f told =
+      as_told (IsExact p.spelling.owned view) (IsTrue p.spelling.owned) view.told left
+      (λ is. inl is) told f.first

@@ -1,3 +1,5 @@
+pub mod Told
+pub mod Promised
 pub mod Items
 pub mod Firsts
 pub mod Forms
@@ -6,19 +8,17 @@ pub mod Ends
 pub mod Steps
 pub mod Stopped
 pub mod Tupled
-pub mod Triples
 pub mod Mapped
 pub mod Looking
 pub mod Units
 pub mod Going
 pub mod Presence
 pub mod Contents
-pub mod Copying
+pub mod Handed
 pub mod Entries
 pub mod Borrowing
 pub mod Unlending
 pub mod Characters
-pub mod Unwrapping
 pub mod Backs
 pub mod FieldsBack
 pub mod VariantsBack

@@ -1,5 +1,5 @@
 -- Whether a value comes, and that value.
-use Rattle.std.proofs.Common.{◌≡◌, ◌≢◌, ◌⊎◌, inl, ℕ, ◌+◌, ◌≤◌, List, [], ◌∷◌, length, take, Option}
+use Rattle.std.proofs.Common.{◌≡◌, ◌≢◌, ◌⊎◌, inl, ℕ, ◌≤◌, List, [], ◌∷◌, length, take, Option}
 use Rattle.std.proofs.Common.{Some, None, Bool, true, false, refl, sym, ap, ◌∙◌, subst, arith}
 use Rattle.std.specs.Prelude.{codes}
 use denote.Ref.{Bor}
@@ -17,6 +17,7 @@ use Rattle.cbor4ii_items.specs.Laws.Containers.{not_null}
 use Rattle.cbor4ii.specs.Accessing.{Closes}
 use Rattle.cbor4ii.specs.Optional.{ReadsPresence, StopsPresence, ReadsComing, ReadsComingValue}
 use Rattle.cbor4ii.specs.Optional.{steps_of_some}
+use Rattle.cbor4ii.proofs.Steps.{over_none}
 use Rattle.cbor4ii.proofs.Looking.{Saw, begins_null}
 use Rattle.cbor4ii.proofs.Stopped.{stopped_as}
 
@@ -52,10 +53,6 @@ pub no_null : true ≡ false → ⊥
 no_null e = cc
 
 -- ---- no step is left
-
-over_none : (budget : Option ℕ) (c : ℕ) → budget ≡ Some 0 → CostFits (1 + c) budget → ⊥
-over_none None c e fits = cc
-over_none (Some left) c e fits = let z : left ≡ 0 = cc in omega (arith, z, fits)
 
 none_present : (xs : List ℕ) (b : ℕ) (budget : Option ℕ) → take 1 xs ≡ b ∷ [] → b ≢ 0xf6 → b ≢ 0xf7
     → budget ≡ Some 0 → NoneRead ReadsPresence xs budget

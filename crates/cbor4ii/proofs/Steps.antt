@@ -44,28 +44,30 @@ refuses_stepped reads {a = a} {b = b} {e = e} takes inward w = record {
       (subst (λ k. CostFits k a.budget) read.2 fits))) (w.at xs (inward.told ∙ told));
 }
 
+-- a reading under the step that was taken
+pub sound_stepped : {V : Type 0} (reads : List ℕ → V → ℕ → ℕ → Type 0) {a b c d : View} {v : V}
+    → StepsIn a.budget b.budget true → KeepsAllButBudget a b → KeepsAllButBudget c d
+    → Sound reads b c v → Sound (Stepped reads) a d v
+sound_stepped reads {a = a} {b = b} takes inward outward w = record {
+  at = λ xs told.
+      let t = w.at xs (inward.told ∙ told) in
+      record {
+        count = t.count;
+        cost = 1 + t.cost;
+        read = (t.cost, t.read, refl);
+        fits = fits_step a.budget b.budget t.cost takes t.fits;
+        left = outward.told ∙ t.left;
+      };
+}
+
 module _ {V W E : Type 0} (r : Result W (Typed E)) (form : W → V)
     (reads : List ℕ → V → ℕ → ℕ → Type 0) (a b : View) (takes : StepsIn a.budget b.budget true)
     (inward : KeepsAllButBudget a b) where
-  sound_at : (c d : View) (v : V) → KeepsAllButBudget c d → Sound reads b c v
-      → Sound (Stepped reads) a d v
-  sound_at c d v outward w = record {
-    at = λ xs told.
-        let t = w.at xs (inward.told ∙ told) in
-        record {
-          count = t.count;
-          cost = 1 + t.cost;
-          read = (t.cost, t.read, refl);
-          fits = fits_step a.budget b.budget t.cost takes t.fits;
-          left = outward.told ∙ t.left;
-        };
-  }
-
   pub formed_sound : (c d : View) → KeepsAllButBudget c d → IfOk r (λ w. Sound reads b c (form w))
       → IfOk r (λ w. Sound (Stepped reads) a d (form w))
   formed_sound c d outward s = elim r as (λ t. IfOk t (λ w. Sound reads b c (form w))
       → IfOk t (λ w. Sound (Stepped reads) a d (form w))) [
-        | Ok v ↦ (λ w. sound_at c d (form v) outward w)
+        | Ok v ↦ (λ w. sound_stepped reads takes inward outward w)
         | Err e ↦ (λ w. tt)
       ] s
 
@@ -110,3 +112,15 @@ pub stops_no_step : {E : Type 0} (name : Bor (List ℕ))
     → Stops {E = E} (StopsStepped name.now stops) a b (DepthOverflow name)
 stops_no_step name stops {a = a} {b = b} h k =
     record { at = λ xs told. (xs, k.told ∙ told, inl (none_left a.budget b.budget h, refl, refl)) }
+
+pub over_none : (budget : Option ℕ) (c : ℕ) → budget ≡ Some 0 → CostFits (1 + c) budget → ⊥
+over_none None c e fits = cc
+over_none (Some left) c e fits = let z : left ≡ 0 = cc in omega (arith, z, fits)
+
+pub refuses_no_step : {V E : Type 0} (reads : List ℕ → V → ℕ → ℕ → Type 0) (name : Bor (List ℕ))
+    (a b : View) → StepsIn a.budget b.budget false
+    → Refuses {E = E} (Stepped reads) a (DepthOverflow name)
+refuses_no_step reads name a b h = record {
+  at = λ xs told v n c read fits. over_none a.budget read.0 (none_left a.budget b.budget h)
+      (subst (λ k. CostFits k a.budget) read.2 fits);
+}

@@ -1,6 +1,6 @@
 -- A head that counts so many, and what stands behind it.
 use Rattle.std.proofs.Common.{◌≡◌, ℕ, ◌+◌, ◌<◌, ◌≤◌, inl, inr, List, drop, Option, Some, None, Bool}
-use Rattle.std.proofs.Common.{true, false, Result, Ok, Err, refl, sym, ap, ◌∙◌, subst, IfOk, IfErr}
+use Rattle.std.proofs.Common.{true, false, refl, sym, ap, ◌∙◌, subst}
 use Rattle.std.proofs.Common.{ltb, ltb-true, ltb-false}
 use Rattle.std.specs.Prelude.{codes}
 use denote.Ref.{Bor}
@@ -9,8 +9,6 @@ use Rattle.cbor4ii_rw.specs.declared.error.Len.TheVariants.{Small, Big, Indefini
 use Rattle.cbor4ii_rw.specs.declared.error.DecodeError.TheVariants.{RequireLength}
 use Rattle.cbor4ii_rw.specs.View.{View}
 use Rattle.cbor4ii_rw.specs.declared.error.DecodeError.{DecodeError}
-use Rattle.cbor4ii.specs.declared.serde.de.error.DecodeError.{DecodeError as Typed}
-use Rattle.cbor4ii.specs.Typed.{as_core}
 use Rattle.cbor4ii.specs.Sequence.{four_small}
 use Rattle.cbor4ii.specs.Tuples.{ReadsBehind, ReadsCountOf, StopsCountOf, told_length}
 use Rattle.cbor4ii_items.specs.Refusal.{refusal_of, len_of}
@@ -119,7 +117,7 @@ module _ {V : Type 0} (count : ℕ) (reads : List ℕ → V → ℕ → ℕ → 
   behind_no_head {a = a} {e = e} s =
       record { at = λ xs told. if_some (refusal_of e) (no_head xs a.budget) (s.at xs told) }
 
-  behind_at : {a m b : View} {v : V} → Kept a m → Sound (ReadsCountOf count) a m tt
+  pub behind_at : {a m b : View} {v : V} → Kept a m → Sound (ReadsCountOf count) a m tt
       → Sound reads m b v → Sound (ReadsBehind count reads) a b v
   behind_at {a = a} kept h s = record {
     at = λ xs told.
@@ -147,7 +145,7 @@ module _ {V : Type 0} (count : ℕ) (reads : List ℕ → V → ℕ → ℕ → 
       none v r.between d (subst (λ j. reads (drop j xs) v r.between d) same r.parts)
       (subst (CostFits d) (sym e) fits)
 
-  refused_at : {E : Type 0} {a m : View} {e : DecodeError E} → Kept a m
+  pub refused_at : {E : Type 0} {a m : View} {e : DecodeError E} → Kept a m
       → Sound (ReadsCountOf count) a m tt → ((xs : List ℕ) → a.told ≡ Some xs → Refuses reads m e)
       → Refuses (ReadsBehind count reads) a e
   refused_at {a = a} {m = m} {e = e} kept h s = record {
@@ -156,22 +154,3 @@ module _ {V : Type 0} (count : ℕ) (reads : List ℕ → V → ℕ → ℕ → 
         if_some (refusal_of e) (no_parts xs p.count p.cost a.budget m.budget p.read kept.budget)
         ((s xs told).at (drop p.count xs) p.left);
   }
-
-  module _ {E : Type 0} (r : Result V (Typed E)) where
-    pub behind_sound : {a m : View} (b : View) → Kept a m → Sound (ReadsCountOf count) a m tt
-        → IfOk r (Sound reads m b) → IfOk r (Sound (ReadsBehind count reads) a b)
-    behind_sound {a = a} {m = m} b kept h s =
-        elim r as (λ t. IfOk t (Sound reads m b) → IfOk t (Sound (ReadsBehind count reads) a b)) [
-          | Ok v ↦ (λ w. behind_at kept h w)
-          | Err e ↦ (λ w. tt)
-        ] s
-
-    pub behind_refuses : {a m : View} → Kept a m → Sound (ReadsCountOf count) a m tt
-        → ((xs : List ℕ) → a.told ≡ Some xs → IfErr r (λ e. Refuses reads m (as_core e)))
-        → IfErr r (λ e. Refuses (ReadsBehind count reads) a (as_core e))
-    behind_refuses {a = a} {m = m} kept h s = elim r as (λ t.
-        ((xs : List ℕ) → a.told ≡ Some xs → IfErr t (λ e. Refuses reads m (as_core e)))
-        → IfErr t (λ e. Refuses (ReadsBehind count reads) a (as_core e))) [
-          | Ok v ↦ (λ w. tt)
-          | Err e ↦ (λ w. refused_at kept h w)
-        ] s

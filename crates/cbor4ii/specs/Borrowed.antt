@@ -1,15 +1,21 @@
 -- Strings that are borrowed from the input.
-use Rattle.std.specs.Prelude.{◌≡◌, ◌⊎◌, ℕ, List, drop, Result, IfOk, IfErr, IsErr, IsOkAnd}
-use Rattle.std.specs.Prelude.{IsErrAnd, MatchResult}
+use Rattle.std.specs.Prelude.{ℕ, ◌≡◌, ◌⊎◌, List, drop, true, false, codes, refl, Result, IfOk}
+use Rattle.std.specs.Prelude.{IfErr}
+use Rattle.std.specs.Prelude.{IsErr, IsOkAnd, IsErrAnd, MatchResult}
 use denote.Ref.{Bor}
 use Rattle.cbor4ii_rw.specs.declared.error.DecodeError.{DecodeError as CoreError}
 use Rattle.cbor4ii_rw.specs.declared.error.DecodeError.TheVariants.{RequireBorrowed, OutOfMemory}
 use Rattle.cbor4ii_items.specs.declared.types.Bytes.{Bytes}
+use Rattle.cbor4ii_items.specs.Cow.{cow_text, cow_bytes}
 use Rattle.cbor4ii_items.specs.Decoding.{Reads, StopsAt, CostFits}
+use Rattle.cbor4ii_items.specs.Laws.Lent.{lent_lawful}
+use Rattle.cbor4ii_items.specs.Laws.Strings.{two_small, three_small}
+use Rattle.cbor4ii_items.specs.Lent.{lent_str, lent_bytes}
+use Rattle.cbor4ii_items.specs.Strings.{ReadsAs, ReadsTextAs, StopsString, StopsText}
 use Rattle.cbor4ii_items.specs.Refusal.{require_borrowed}
 use Rattle.cbor4ii.specs.declared.serde.de.error.DecodeError.{DecodeError}
 use Rattle.cbor4ii.specs.declared.serde.de.error.DecodeError.TheVariants.{Core}
-use Rattle.cbor4ii.specs.Typed.{as_core}
+use Rattle.cbor4ii.specs.Typed.{as_core, Promise, typed_by, laws_of}
 
 -- the reader does not lend the bytes
 abbrev pub LacksLoan : {E : Type 0} → List ℕ → CoreError E → Type 0
@@ -21,6 +27,16 @@ abbrev pub StopsUnlent : {V : Type 0} → List ℕ → Reads V → StopsAt → S
 StopsUnlent {V} name reads stops xs budget refusal rest =
     stops xs budget refusal rest ⊎ ((v : V) × (n c : ℕ) × reads xs v n c × CostFits c budget
     × (refusal ≡ require_borrowed name) × (rest ≡ drop n xs))
+
+-- a text of known length, and a byte string
+abbrev pub unlent_text : Promise (Bor (List ℕ))
+unlent_text = typed_by (StopsUnlent (codes "str") (ReadsTextAs cow_text) (StopsText (codes "str")))
+    false true (laws_of refl (lent_lawful (codes "str") 3 three_small true lent_str))
+
+abbrev pub unlent_bytes : Promise (Bytes (Bor (List ℕ)))
+unlent_bytes = typed_by
+    (StopsUnlent (codes "bytes") (ReadsAs 2 cow_bytes) (StopsString (codes "bytes") 2)) false true
+    (laws_of refl (lent_lawful (codes "bytes") 2 two_small false lent_bytes))
 
 -- A string that was borrowed is handed on with its content. One that was copied is refused, and so
 -- is what was refused before.

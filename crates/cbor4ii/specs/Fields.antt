@@ -99,11 +99,6 @@ abbrev pub StopsFields : {V : Type 0} → ReadsNamed V → StopsNamed → StopsA
 StopsFields named stops =
     StopsParts (codes "map") (codes "map") 5 (ReadsEntry named) (StopsEntry stops)
 
--- each of them is so
-abbrev pub every : List Bool → Bool
-every [] = true
-every (b ∷ bs) = b && every bs
-
 -- ---- what calls make of the values
 
 -- a change was read, and made

@@ -18,6 +18,8 @@ pub mod Any
 pub mod AnyCost
 pub mod AnyStops
 pub mod Beginning
+pub mod TypedParts
+pub mod Structs
 pub mod ReadBack
 pub mod Names
 -- ---- laws

@@ -1,11 +1,14 @@
 -- What reading a typed value answers, told in the codec's own words.
-use Rattle.std.specs.Prelude.{◌≡◌, ℕ, ◌^◌, ◌≤◌, List, length, Bool, true, false, IsTrue, Result, Ok}
-use Rattle.std.specs.Prelude.{Err}
+use Rattle.std.specs.Prelude.{ℕ, ◌≡◌, ◌+◌, ◌^◌, ◌≤◌, List, length, Bool, true, false, IsTrue}
+use Rattle.std.specs.Prelude.{Result}
+use Rattle.std.specs.Prelude.{Ok, Err, OnOk, IfOk, IfErr, refl}
 use Rattle.cbor4ii_rw.specs.View.{View}
 use Rattle.cbor4ii_rw.specs.declared.error.DecodeError.{DecodeError as CoreError}
 use Rattle.cbor4ii_rw.specs.declared.error.DecodeError.TheVariants.{Custom as CoreCustom}
-use Rattle.cbor4ii_items.specs.Decoding.{Reads, StopsAt}
-use Rattle.cbor4ii_items.specs.Refusal.{Refusal, custom}
+use Rattle.cbor4ii_items.specs.Decoding.{Reads, StopsAt, Spelling, IsLawful, IsExact, Sound}
+use Rattle.cbor4ii_items.specs.Decoding.{Refuses, Stops}
+use Rattle.cbor4ii_items.specs.Moves.{Moves}
+use Rattle.cbor4ii_items.specs.Refusal.{Refusal, custom, is_out_of_memory}
 use Rattle.cbor4ii.specs.declared.serde.de.error.DecodeError.{DecodeError}
 use Rattle.cbor4ii.specs.declared.serde.de.error.DecodeError.TheVariants.{Core, Custom}
 use Rattle.cbor4ii.specs.declared.serde.de.deserializer.Deserializer.{Deserializer}
@@ -32,21 +35,103 @@ abbrev pub answer_of : {V E : Type 0} → Result V (DecodeError E) → Result V 
 answer_of (Ok v) = Ok v
 answer_of (Err error) = Err (as_core error)
 
--- a reading of which nothing is said, for a type that is not exact
-abbrev pub unsaid : {V : Type 0} → Reads V
-unsaid xs v n c = Unit {0}
+-- ---- what a type promises
 
--- a refusal of which nothing is said, likewise
-abbrev pub unsaid_stops : StopsAt
-unsaid_stops xs budget refusal rest = Unit {0}
+-- a spelling that is refused alike over every reader, and reads a byte
+abbrev pub typed_spelling : {V : Type 0} → Reads V → (V → V → Type 0) → StopsAt → (owned : Bool)
+    → (takes_memory : Bool) → Spelling V
+typed_spelling reads same stops owned takes_memory = record {
+  reads = reads;
+  same = same;
+  stops = stops;
+  begins = stops;
+  never_empty = true;
+  owned = owned;
+  takes_memory = takes_memory;
+  closed = false;
+}
 
--- what an exact type says of its refusals; of a type that is not exact nothing is said
-abbrev pub said : Bool → StopsAt → StopsAt
-said exact stops xs budget refusal rest = IsTrue exact → stops xs budget refusal rest
+-- What a type promises of the bytes. How they are refused is what `begins` of its spelling says.
+pub record Promise (V : Type 0) : Type 1 where
+  pub spelling : Spelling V
+  -- the spelling says exactly what is accepted
+  pub exact : Bool
+  -- it says how all else is refused, which an exact type does
+  pub told : Bool
+  pub tells : IsTrue exact → IsTrue told
+  -- a value takes a byte
+  pub some : IsTrue spelling.never_empty
+  -- one input is read in one way, and what is read stands in it
+  pub lawful : IsTrue exact → IsLawful spelling
+
+-- a type that reads exactly what its spelling says
+abbrev pub exactly : {V : Type 0} {spelling : Spelling V} → IsTrue spelling.never_empty
+    → IsLawful spelling → Promise V
+exactly {spelling = spelling} some lawful = record {
+  spelling = spelling;
+  exact = true;
+  told = true;
+  tells = λ _. refl;
+  some = some;
+  lawful = λ _. lawful;
+}
 
 -- any two values
 abbrev pub any_two : {V : Type 0} → V → V → Type 0
 any_two v w = Unit {0}
+
+-- a reading of which nothing is said
+abbrev pub unsaid : {V : Type 0} → Reads V
+unsaid xs v n c = Unit {0}
+
+-- a refusal of which nothing is said
+abbrev pub unsaid_stops : StopsAt
+unsaid_stops xs budget refusal rest = Unit {0}
+
+-- what is asked of an exact type is owed by no other
+pub not_exact : {Q : Type 0} → IsTrue false → Q
+not_exact h = let no : false ≡ true = h in cc
+
+-- nothing is promised of the bytes
+abbrev pub nothing : {V : Type 0} → Promise V
+nothing = record {
+  spelling = typed_spelling unsaid any_two unsaid_stops true true;
+  exact = false;
+  told = false;
+  tells = not_exact;
+  some = refl;
+  lawful = not_exact;
+}
+
+-- what a type that tells its refusals says of them; of any other nothing is said
+abbrev pub said : Bool → StopsAt → StopsAt
+said told stops xs budget refusal rest = IsTrue told → stops xs budget refusal rest
+
+abbrev pub said_by : {V : Type 0} → Promise V → StopsAt
+said_by promise = said promise.told promise.spelling.begins
+
+-- A call that reads one value, as its type promises.
+pub record Deserializes {V E : Type 0} (promise : Promise V) (old new : View)
+    (answer : Result V (CoreError E)) : Type 0 where
+  -- The budget is as before, the bytes that are left are an end of those that were there, and no
+  -- more can come than before.
+  pub moves : Moves old new answer
+  -- an accepted value took a byte
+  pub progress : OnOk answer (new.bound + 1 ≤ old.bound)
+  -- want of memory is told only by a type that may take memory
+  pub memory : IfErr answer (λ error. IsTrue (is_out_of_memory error)
+      → IsTrue promise.spelling.takes_memory)
+  -- an accepted value is one that the bytes begin with
+  pub sound : IfOk answer (Sound promise.spelling.reads old new)
+  -- Of an exact type, where acceptance is exact, an error that speaks of the bytes comes only where
+  -- no value whose steps fit the budget begins them.
+  pub complete : IsTrue promise.exact → IsExact promise.spelling.owned old
+      → IfErr answer (Refuses promise.spelling.reads old)
+  -- Of a type that tells its refusals, an error that speaks of the bytes is the one that the type
+  -- gives there, and leaves what the type leaves then.
+  pub begins : IsTrue promise.told → IfErr answer (Stops promise.spelling.begins old new)
+
+-- ---- laws
 
 -- One input is read in one way, what is read stands in the input, and where no reading is empty a
 -- byte is read.
@@ -57,12 +142,38 @@ pub record Lawful {V : Type 0} (reads : List ℕ → V → ℕ → ℕ → Type 
   pub within : (xs : List ℕ) (v : V) (n c : ℕ) → reads xs v n c → n ≤ length xs
   pub positive : IsTrue never_empty → (xs : List ℕ) (v : V) (n c : ℕ) → reads xs v n c → 1 ≤ n
 
--- what is asked of an exact type is owed by no other
-pub not_exact : {Q : Type 0} → IsTrue false → Q
-not_exact h = let no : false ≡ true = h in cc
+-- the laws of a spelling that reads a byte
+pub laws_of : {V : Type 0} {spelling : Spelling V} → IsTrue spelling.never_empty
+    → IsLawful spelling → Lawful spelling.reads spelling.same true
+laws_of some h = record {
+  one = h.one;
+  within = h.within;
+  positive = λ _. h.positive some;
+}
+
+pub typed_laws : {V : Type 0} (promise : Promise V) → IsTrue promise.exact
+    → Lawful promise.spelling.reads promise.spelling.same true
+typed_laws promise is = laws_of promise.some (promise.lawful is)
+
+-- a type that has these laws
+pub lawful_as : {V : Type 0} {reads : Reads V} {same : V → V → Type 0} {stops : StopsAt}
+    {owned takes_memory : Bool} → Lawful reads same true
+    → IsLawful (typed_spelling reads same stops owned takes_memory)
+lawful_as h = record {
+  one = h.one;
+  within = h.within;
+  positive = h.positive;
+  alone = not_exact;
+}
 
 -- one input is read to one end
 pub size_of : {V : Type 0} {reads : Reads V} {same : V → V → Type 0} {never_empty : Bool}
     → Lawful reads same never_empty → (xs : List ℕ) (p q : V) (n m c d : ℕ) → reads xs p n c
     → reads xs q m d → n ≡ m
 size_of h xs p q n m c d r s = (h.one xs p q n m c d r s).0
+
+-- an exact type that has these laws
+abbrev pub typed_by : {V : Type 0} {reads : Reads V} {same : V → V → Type 0} → StopsAt
+    → (owned takes_memory : Bool) → Lawful reads same true → Promise V
+typed_by {reads = reads} {same = same} stops owned takes_memory laws = exactly
+    {spelling = typed_spelling reads same stops owned takes_memory} refl (lawful_as laws)

@@ -1,7 +1,6 @@
 //! Records of a log as values of a type of their own, read and written one by one.
-ghost use Rattle.std.specs.Prelude.{◌∷◌, [], codes, true, false};
+ghost use Rattle.std.specs.Prelude.{◌∷◌, [], codes};
 ghost use Rattle.cbor4ii_ser.specs.Item.{field, struct_item};
-ghost use Rattle.cbor4ii.specs.Typed.{any_two, not_exact, unsaid, unsaid_stops};
 
 use crate::digest::Digest;
 use crate::fault::Fault;
@@ -80,37 +79,9 @@ impl Serialize for Record {
     }
 }
 
-impl Typed for Context {
-    ghost reads = { unsaid };
+impl Typed for Context {}
 
-    ghost stops = { unsaid_stops };
-
-    ghost same = { any_two };
-
-    ghost owned = { true };
-
-    ghost takes_memory = { true };
-
-    ghost exact = { false };
-
-    ghost laws = { not_exact };
-}
-
-impl Typed for Record {
-    ghost reads = { unsaid };
-
-    ghost stops = { unsaid_stops };
-
-    ghost same = { any_two };
-
-    ghost owned = { true };
-
-    ghost takes_memory = { true };
-
-    ghost exact = { false };
-
-    ghost laws = { not_exact };
-}
+impl Typed for Record {}
 
 impl<S: Source> Deserialize<S> for Context {
     fn deserialize(

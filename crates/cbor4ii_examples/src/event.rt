@@ -1,10 +1,10 @@
 //! An enum that is written and read inside other types, as in a vector or a map.
-ghost use Rattle.std.specs.Prelude.{◌∷◌, [], codes, true, false};
+ghost use Rattle.std.specs.Prelude.{◌∷◌, [], codes};
 ghost use Rattle.cbor4ii_items.specs.Strings.{counted_string};
 ghost use Rattle.cbor4ii_ser.specs.Item.{encoded, field, struct_item, tuple_variant_item};
 ghost use Rattle.cbor4ii_ser.specs.Item.{variant_item};
 ghost use Rattle.cbor4ii.specs.Accessing.{Finishes};
-ghost use Rattle.cbor4ii.specs.Typed.{any_two, not_exact, unsaid, unsaid_stops, input, answer_of};
+ghost use Rattle.cbor4ii.specs.Typed.{input, answer_of};
 ghost use Rattle.cbor4ii.specs.Variants.{inside_enum};
 ghost use Rattle.cbor4ii_examples.specs.declared.event.Event.TheVariants.{Started, Sampled, Moved};
 ghost use Rattle.cbor4ii_examples.specs.declared.event.Event.TheVariants.{Named};
@@ -76,21 +76,7 @@ impl<S: Source> Deserialize<S> for Event {
     }
 }
 
-impl Typed for Event {
-    ghost reads = { unsaid };
-
-    ghost stops = { unsaid_stops };
-
-    ghost same = { any_two };
-
-    ghost owned = { true };
-
-    ghost takes_memory = { true };
-
-    ghost exact = { false };
-
-    ghost laws = { not_exact };
-}
+impl Typed for Event {}
 
 /// Reads what the variant of this name holds. What holds items without names is read as a tuple,
 /// and what holds named fields as a struct.
@@ -142,21 +128,7 @@ impl<S: Source> Deserialize<S> for Name {
     }
 }
 
-impl Typed for Name {
-    ghost reads = { unsaid };
-
-    ghost stops = { unsaid_stops };
-
-    ghost same = { any_two };
-
-    ghost owned = { true };
-
-    ghost takes_memory = { true };
-
-    ghost exact = { false };
-
-    ghost laws = { not_exact };
-}
+impl Typed for Name {}
 
 #[cfg(test)]
 mod tests;

@@ -1,7 +1,6 @@
 //! A struct that borrows from the input.
-ghost use Rattle.std.specs.Prelude.{◌∷◌, [], codes, true, false};
+ghost use Rattle.std.specs.Prelude.{◌∷◌, [], codes};
 ghost use Rattle.cbor4ii_ser.specs.Item.{field, struct_item};
-ghost use Rattle.cbor4ii.specs.Typed.{any_two, not_exact, unsaid, unsaid_stops};
 
 use cbor4ii::serde::{
     DecodeError, Deserialize, Deserializer, EncodeError, Serialize, Serializer, Typed,
@@ -45,21 +44,7 @@ impl<'a> Deserialize<SliceReader<'a>> for Label<'a> {
     }
 }
 
-impl<'a> Typed for Label<'a> {
-    ghost reads = { unsaid };
-
-    ghost stops = { unsaid_stops };
-
-    ghost same = { any_two };
-
-    ghost owned = { false };
-
-    ghost takes_memory = { true };
-
-    ghost exact = { false };
-
-    ghost laws = { not_exact };
-}
+impl<'a> Typed for Label<'a> {}
 
 #[cfg(test)]
 mod tests;

@@ -1,6 +1,6 @@
 //! A struct with an optional field, written and read in one call each, and its laws.
 ghost use Rattle.std.specs.Prelude.{◌≡◌, ◌∷◌, ◌++◌, ◌<◌, ◌^◌, [], ℕ, ℤ, List, Option, Some, None};
-ghost use Rattle.std.specs.Prelude.{codes, option_map, string_bytes, true, false};
+ghost use Rattle.std.specs.Prelude.{codes, option_map, string_bytes};
 ghost use Rattle.std.specs.declared.alloc.Global.{Global};
 ghost use Rattle.std.specs.declared.string.String.{String};
 ghost use Rattle.cbor4ii_rw.specs.View.{View};
@@ -11,7 +11,6 @@ ghost use Rattle.cbor4ii_items.specs.Refusal.{refusal_of};
 ghost use Rattle.cbor4ii_ser.specs.Item.{encoded, field, struct_item};
 ghost use Rattle.cbor4ii_ser.specs.OneItem.{IsOneItem, canonical};
 ghost use Rattle.cbor4ii.specs.Fields.{ReadsFields, named_field, no_fields, no_values};
-ghost use Rattle.cbor4ii.specs.Typed.{any_two, not_exact, unsaid, unsaid_stops};
 
 use cbor4ii::serde::{
     DecodeError, Deserialize, Deserializer, EncodeError, Serialize, Serializer, Typed, laws,
@@ -62,21 +61,7 @@ impl<S: Source> Deserialize<S> for Point {
     }
 }
 
-impl Typed for Point {
-    ghost reads = { unsaid };
-
-    ghost stops = { unsaid_stops };
-
-    ghost same = { any_two };
-
-    ghost owned = { true };
-
-    ghost takes_memory = { true };
-
-    ghost exact = { false };
-
-    ghost laws = { not_exact };
-}
+impl Typed for Point {}
 
 /// What a `Point` writes is one canonical item.
 pub fn point_is_one_item(point: &Point)
@@ -93,9 +78,9 @@ pub fn point_is_read_back<E>(alloc: Global, point: &Point)
         (name : Option (String Global)) (y : Option (Option ℤ)) →
         ⟦<Point as Serialize>⟧.item point.now ≡ encoded bytes → old.told ≡ Some (bytes ++ rest) →
         Sound (ReadsFields (None, (None, (None, no_values)))
-        (named_field (codes "x") ⟦<u32 as Typed>⟧.reads
-        (named_field (codes "name") ⟦<String as Typed>⟧.reads
-        (named_field (codes "y") ⟦<Option<i32> as Typed>⟧.reads no_fields))))
+        (named_field (codes "x") ⟦<u32 as Typed>⟧.promise.spelling.reads
+        (named_field (codes "name") ⟦<String as Typed>⟧.promise.spelling.reads
+        (named_field (codes "y") ⟦<Option<i32> as Typed>⟧.promise.spelling.reads no_fields))))
         old new (x, (name, (y, no_values))) →
         (x ≡ Some point.now.x) × (y ≡ Some point.now.y)
         × (option_map string_bytes name ≡ Some (string_bytes point.now.name))
@@ -104,10 +89,10 @@ pub fn point_is_read_back<E>(alloc: Global, point: &Point)
         ⟦<Point as Serialize>⟧.item point.now ≡ encoded bytes → old.told ≡ Some (bytes ++ rest) →
         CostFits 2 old.budget →
         Refuses (ReadsFields (None, (None, (None, no_values)))
-        (named_field (codes "x") ⟦<u32 as Typed>⟧.reads
-        (named_field (codes "name") ⟦<String as Typed>⟧.reads
-        (named_field (codes "y") ⟦<Option<i32> as Typed>⟧.reads no_fields)))) old error →
-        refusal_of error ≡ None }
+        (named_field (codes "x") ⟦<u32 as Typed>⟧.promise.spelling.reads
+        (named_field (codes "name") ⟦<String as Typed>⟧.promise.spelling.reads
+        (named_field (codes "y") ⟦<Option<i32> as Typed>⟧.promise.spelling.reads no_fields))))
+        old error → refusal_of error ≡ None }
 {
     numbers_are_in_range(point.x, point.y);
     laws::numbers_are_read_back();

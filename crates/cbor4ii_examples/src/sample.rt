@@ -1,7 +1,6 @@
 //! A struct that is written part by part, and read in one call.
-ghost use Rattle.std.specs.Prelude.{◌∷◌, [], codes, true, false};
+ghost use Rattle.std.specs.Prelude.{◌∷◌, [], codes};
 ghost use Rattle.cbor4ii_ser.specs.Item.{field, struct_item};
-ghost use Rattle.cbor4ii.specs.Typed.{any_two, not_exact, unsaid, unsaid_stops};
 
 use cbor4ii::serde::{
     DecodeError, Deserialize, Deserializer, EncodeError, Serialize, Serializer, Typed,
@@ -56,21 +55,7 @@ impl<S: Source> Deserialize<S> for Sample {
     }
 }
 
-impl Typed for Sample {
-    ghost reads = { unsaid };
-
-    ghost stops = { unsaid_stops };
-
-    ghost same = { any_two };
-
-    ghost owned = { true };
-
-    ghost takes_memory = { true };
-
-    ghost exact = { false };
-
-    ghost laws = { not_exact };
-}
+impl Typed for Sample {}
 
 #[cfg(test)]
 mod tests;

@@ -1,6 +1,6 @@
 -- A key, and its value behind it.
-use Rattle.std.proofs.Common.{◌≡◌, ℕ, ◌+◌, ◌≤◌, inl, inr, List, drop, Option, Some, Bool, refl, sym}
-use Rattle.std.proofs.Common.{ap, ◌∙◌, subst, arith, max}
+use Rattle.std.proofs.Common.{◌≡◌, ℕ, ◌+◌, inl, inr, List, drop, Option, Some, Bool, refl, sym}
+use Rattle.std.proofs.Common.{ap, ◌∙◌, subst, max}
 use Rattle.std.specs.Prelude.{◌&&◌}
 use Rattle.cbor4ii_rw.specs.View.{View}
 use Rattle.cbor4ii_rw.specs.declared.error.DecodeError.{DecodeError}

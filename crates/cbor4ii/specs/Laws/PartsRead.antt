@@ -1,12 +1,9 @@
 -- Parts, read one behind another.
-use Rattle.std.proofs.Common.{◌≡◌, ◌≢◌, ℕ, ◌+◌, ◌<◌, ◌≤◌, ◌⊎◌, inl, inr, List, [], ◌∷◌, ◌++◌}
-use Rattle.std.proofs.Common.{length, drop, take, Option, Some, None, Ok, Err, Bool, true, false}
+use Rattle.std.proofs.Common.{◌≡◌, ℕ, ◌+◌, ◌<◌, ◌≤◌, ◌⊎◌, inl, inr, List, [], ◌∷◌, ◌++◌}
+use Rattle.std.proofs.Common.{length, drop, take, Option, Some, None, Ok, Err, Bool, true}
 use Rattle.std.proofs.Common.{IsTrue, refl, sym, ap, ◌∙◌, subst, arith, max, IfSome, length-append}
-use Rattle.cbor4ii_rw.specs.View.{View, Told}
+use Rattle.cbor4ii_rw.specs.View.{View}
 use Rattle.cbor4ii_rw.specs.declared.error.DecodeError.{DecodeError}
-use Rattle.cbor4ii_rw.specs.declared.error.DecodeError.TheVariants.{RequireLength}
-use Rattle.cbor4ii_rw.specs.declared.error.Len.TheVariants.{Indefinite}
-use denote.Ref.{Bor}
 use Rattle.cbor4ii_items.specs.Head.{break}
 use Rattle.cbor4ii_items.specs.Refusal.{Refusal, refusal_of}
 use Rattle.cbor4ii_items.specs.Moves.{Kept, Moves}
@@ -14,12 +11,12 @@ use Rattle.cbor4ii_items.specs.Reading.{Runs}
 use Rattle.cbor4ii_items.specs.Decoding.{Reads, StopsAt, CostFits, Sound, NoneRead, Refuses, Stops}
 use Rattle.cbor4ii_items.specs.Laws.Fronts.{drop_more}
 use Rattle.cbor4ii_items.specs.ReadStrings.{break_at}
-use Rattle.cbor4ii_items.specs.Laws.ProgramEnds.{break_yes, break_no, break_refused}
+use Rattle.cbor4ii_items.specs.Laws.ProgramEnds.{break_yes, break_refused}
 use Rattle.cbor4ii_items.specs.Sequences.{ReadsParts, ReadsCount, Unbroken, ReadsUpToBreak}
-use Rattle.cbor4ii_items.specs.Sequences.{StopsCount, StopsPlace, no_byte, may_read_nothing}
+use Rattle.cbor4ii_items.specs.Sequences.{StopsCount, StopsPlace, no_byte}
 use Rattle.cbor4ii_items.specs.Sequences.{part_refused, StopsUpToBreak}
 use Rattle.cbor4ii.specs.ItemRead.{AddsPart}
-use Rattle.cbor4ii_items.specs.Laws.SequenceParts.{fits_less, fits_max, Stands, stands}
+use Rattle.cbor4ii_items.specs.Laws.SequenceParts.{fits_less, fits_max, Stands}
 use Rattle.cbor4ii_items.specs.Laws.Calls.{stops_as}
 use Rattle.cbor4ii_items.specs.Laws.Sequences.{not_less, next_part, parts_size, unbroken_size}
 use Rattle.cbor4ii_items.specs.Laws.Sequences.{ends_at_break}

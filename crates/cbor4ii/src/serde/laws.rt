@@ -1,6 +1,6 @@
 //! Laws of what is written and read, each the contract of a function that does nothing. An item is
 //! the one that `Serialize` writes, where it writes one.
-ghost use Rattle.std.specs.Prelude.{◌≡◌, ◌+◌, ◌<◌, ◌≤◌, ◌^◌, ◌++◌, ℕ, ℤ, List, Bool, true, Some};
+ghost use Rattle.std.specs.Prelude.{ℕ, ℤ, ◌≡◌, ◌+◌, ◌<◌, ◌≤◌, ◌^◌, ◌++◌, List, Bool, true, Some};
 ghost use Rattle.std.specs.Prelude.{◌&&◌, None, All, length, max, false, IsTrue, IsUtf8};
 ghost use Rattle.std.specs.Borrow.{Bor};
 ghost use Rattle.std.specs.BTreeMap.{IsOrdered};
@@ -10,13 +10,13 @@ ghost use Rattle.std.specs.declared.borrow.CowStr.{CowStr};
 ghost use Rattle.std.specs.declared.boxed.Box.{Box};
 ghost use Rattle.std.specs.declared.string.String.{String};
 ghost use Rattle.std.specs.declared.vec.Vec.{Vec};
+ghost use Rattle.cbor4ii_rw.specs.Reader.{KeepsAllButBudget};
+ghost use Rattle.cbor4ii_rw.specs.View.{View};
+ghost use Rattle.cbor4ii_rw.specs.declared.error.DecodeError.{DecodeError};
 ghost use Rattle.cbor4ii_items.specs.declared.types.Bytes.{Bytes};
 ghost use Rattle.cbor4ii_items.specs.declared.types.F16.{F16};
 ghost use Rattle.cbor4ii_items.specs.declared.types.F32.{F32};
 ghost use Rattle.cbor4ii_items.specs.declared.types.F64.{F64};
-ghost use Rattle.cbor4ii_rw.specs.Reader.{KeepsAllButBudget};
-ghost use Rattle.cbor4ii_rw.specs.View.{View};
-ghost use Rattle.cbor4ii_rw.specs.declared.error.DecodeError.{DecodeError};
 ghost use Rattle.cbor4ii_items.specs.Cow.{cow_text};
 ghost use Rattle.cbor4ii_items.specs.Decoding.{Reads, CostFits, Sound, Refuses};
 ghost use Rattle.cbor4ii_items.specs.NeverBoth.{NeverBoth};
@@ -39,7 +39,7 @@ ghost use Rattle.cbor4ii.specs.Laws.FieldsBack.{none_back, before_back};
 ghost use Rattle.cbor4ii.specs.Optional.{ReadsPresence, StopsPresence};
 ghost use Rattle.cbor4ii.specs.ReadBack.{IsReadBack, BeginsOther, IsNullItem, NamedItems, names_of};
 ghost use Rattle.cbor4ii.specs.ReadBack.{fields_of, FieldsBack, NoField, FieldBefore, IsName};
-ghost use Rattle.cbor4ii.specs.Typed.{Lawful, any_two};
+ghost use Rattle.cbor4ii.specs.Typed.{Lawful, typed_laws, any_two};
 ghost use Rattle.cbor4ii.specs.Variants.{OpensEnum, ReadsContent, ReadsVariant};
 
 use crate::serde::de::deserialize::Typed;
@@ -54,48 +54,49 @@ use std::collections::BTreeMap;
 /// a step.
 pub fn numbers_are_read_back()
     ensures bool { (v : Bool) →
-        IsReadBack ⟦<bool as Typed>⟧.reads (⟦<bool as Serialize>⟧.item v) v 0 }
+        IsReadBack ⟦<bool as Typed>⟧.promise.spelling.reads (⟦<bool as Serialize>⟧.item v) v 0 }
     ensures u8 { (v : ℕ) → v < 2 ^ 8 →
-        IsReadBack ⟦<u8 as Typed>⟧.reads (⟦<u8 as Serialize>⟧.item v) v 0 }
+        IsReadBack ⟦<u8 as Typed>⟧.promise.spelling.reads (⟦<u8 as Serialize>⟧.item v) v 0 }
     ensures u16 { (v : ℕ) → v < 2 ^ 16 →
-        IsReadBack ⟦<u16 as Typed>⟧.reads (⟦<u16 as Serialize>⟧.item v) v 0 }
+        IsReadBack ⟦<u16 as Typed>⟧.promise.spelling.reads (⟦<u16 as Serialize>⟧.item v) v 0 }
     ensures u32 { (v : ℕ) → v < 2 ^ 32 →
-        IsReadBack ⟦<u32 as Typed>⟧.reads (⟦<u32 as Serialize>⟧.item v) v 0 }
+        IsReadBack ⟦<u32 as Typed>⟧.promise.spelling.reads (⟦<u32 as Serialize>⟧.item v) v 0 }
     ensures u64 { (v : ℕ) → v < 2 ^ 64 →
-        IsReadBack ⟦<u64 as Typed>⟧.reads (⟦<u64 as Serialize>⟧.item v) v 0 }
+        IsReadBack ⟦<u64 as Typed>⟧.promise.spelling.reads (⟦<u64 as Serialize>⟧.item v) v 0 }
     ensures u128 { (v : ℕ) → v < 2 ^ 128 →
-        IsReadBack ⟦<u128 as Typed>⟧.reads (⟦<u128 as Serialize>⟧.item v) v 0 }
+        IsReadBack ⟦<u128 as Typed>⟧.promise.spelling.reads (⟦<u128 as Serialize>⟧.item v) v 0 }
     ensures i8 { (v : ℤ) → IsWithin (2 ^ 7) v →
-        IsReadBack ⟦<i8 as Typed>⟧.reads (⟦<i8 as Serialize>⟧.item v) v 0 }
+        IsReadBack ⟦<i8 as Typed>⟧.promise.spelling.reads (⟦<i8 as Serialize>⟧.item v) v 0 }
     ensures i16 { (v : ℤ) → IsWithin (2 ^ 15) v →
-        IsReadBack ⟦<i16 as Typed>⟧.reads (⟦<i16 as Serialize>⟧.item v) v 0 }
+        IsReadBack ⟦<i16 as Typed>⟧.promise.spelling.reads (⟦<i16 as Serialize>⟧.item v) v 0 }
     ensures i32 { (v : ℤ) → IsWithin (2 ^ 31) v →
-        IsReadBack ⟦<i32 as Typed>⟧.reads (⟦<i32 as Serialize>⟧.item v) v 0 }
+        IsReadBack ⟦<i32 as Typed>⟧.promise.spelling.reads (⟦<i32 as Serialize>⟧.item v) v 0 }
     ensures i64 { (v : ℤ) → IsWithin (2 ^ 63) v →
-        IsReadBack ⟦<i64 as Typed>⟧.reads (⟦<i64 as Serialize>⟧.item v) v 0 }
+        IsReadBack ⟦<i64 as Typed>⟧.promise.spelling.reads (⟦<i64 as Serialize>⟧.item v) v 0 }
     ensures i128 { (v : ℤ) → IsWithin (2 ^ 127) v →
-        IsReadBack ⟦<i128 as Typed>⟧.reads (⟦<i128 as Serialize>⟧.item v) v 0 }
+        IsReadBack ⟦<i128 as Typed>⟧.promise.spelling.reads (⟦<i128 as Serialize>⟧.item v) v 0 }
     ensures f16 { (v : F16) → v.0 < 2 ^ 16 →
-        IsReadBack ⟦<F16 as Typed>⟧.reads (⟦<F16 as Serialize>⟧.item v) v 0 }
+        IsReadBack ⟦<F16 as Typed>⟧.promise.spelling.reads (⟦<F16 as Serialize>⟧.item v) v 0 }
     ensures f32 { (v : F32) → v.0 < 2 ^ 32 →
-        IsReadBack ⟦<F32 as Typed>⟧.reads (⟦<F32 as Serialize>⟧.item v) v 0 }
+        IsReadBack ⟦<F32 as Typed>⟧.promise.spelling.reads (⟦<F32 as Serialize>⟧.item v) v 0 }
     ensures f64 { (v : F64) → v.0 < 2 ^ 64 →
-        IsReadBack ⟦<F64 as Typed>⟧.reads (⟦<F64 as Serialize>⟧.item v) v 0 }
+        IsReadBack ⟦<F64 as Typed>⟧.promise.spelling.reads (⟦<F64 as Serialize>⟧.item v) v 0 }
 {}
 
 /// A character and a string are read from their own item, whatever follows it, and without a step.
 pub fn strings_are_read_back()
     ensures character { (v : ℕ) → IsScalar v →
-        IsReadBack ⟦<char as Typed>⟧.reads (⟦<char as Serialize>⟧.item v) v 0 }
+        IsReadBack ⟦<char as Typed>⟧.promise.spelling.reads (⟦<char as Serialize>⟧.item v) v 0 }
     ensures text { (v : Bor (List ℕ)) → length v.now < 2 ^ 64 → IsUtf8 v.now →
-        IsReadBack ⟦<&'static str as Typed>⟧.reads (⟦<&'static str as Serialize>⟧.item v) v 0 }
+        IsReadBack ⟦<&'static str as Typed>⟧.promise.spelling.reads
+        (⟦<&'static str as Serialize>⟧.item v) v 0 }
     ensures owned_text { (v : String Global) →
-        IsReadBack ⟦<String as Typed>⟧.reads (⟦<String as Serialize>⟧.item v) v 0 }
+        IsReadBack ⟦<String as Typed>⟧.promise.spelling.reads (⟦<String as Serialize>⟧.item v) v 0 }
     ensures cow_text { (v : CowStr Global) → length (cow_text v) < 2 ^ 64 → IsUtf8 (cow_text v) →
-        IsReadBack ⟦<CowStr<'static, Global> as Typed>⟧.reads
+        IsReadBack ⟦<CowStr<'static, Global> as Typed>⟧.promise.spelling.reads
         (⟦<CowStr<'static, Global> as Serialize>⟧.item v) v 0 }
     ensures bytes { (v : Bytes (Bor (List ℕ))) → length v.0.now < 2 ^ 64 →
-        IsReadBack ⟦<Bytes<&'static [u8]> as Typed>⟧.reads
+        IsReadBack ⟦<Bytes<&'static [u8]> as Typed>⟧.promise.spelling.reads
         (⟦<Bytes<&'static [u8]> as Serialize>⟧.item v) v 0 }
 {}
 
@@ -104,30 +105,37 @@ pub fn strings_are_read_back()
 /// item is null or undefined is read as none.
 pub fn wrapped_values_are_read_back<T: Typed + Serialize>()
     ensures boxed { (v : Box T Global) (cost : ℕ) →
-        IsReadBack T.reads (T.item v.value) v.value cost →
-        IsReadBack ⟦<Box<T> as Typed>⟧.reads (⟦<Box<T> as Serialize>⟧.item v) v cost }
-    ensures none { IsReadBack ⟦<Option<T> as Typed>⟧.reads
+        IsReadBack T.promise.spelling.reads (T.item v.value) v.value cost →
+        IsReadBack ⟦<Box<T> as Typed>⟧.promise.spelling.reads (⟦<Box<T> as Serialize>⟧.item v) v
+        cost }
+    ensures none { IsReadBack ⟦<Option<T> as Typed>⟧.promise.spelling.reads
         (⟦<Option<T> as Serialize>⟧.item None) None 0 }
-    ensures some { (v : T) (cost : ℕ) → IsReadBack T.reads (T.item v) v cost →
+    ensures some { (v : T) (cost : ℕ) → IsReadBack T.promise.spelling.reads (T.item v) v cost →
         BeginsOther (T.item v) →
-        IsReadBack ⟦<Option<T> as Typed>⟧.reads (⟦<Option<T> as Serialize>⟧.item (Some v))
+        IsReadBack ⟦<Option<T> as Typed>⟧.promise.spelling.reads
+        (⟦<Option<T> as Serialize>⟧.item (Some v))
         (Some v) (1 + cost) }
     ensures null { (v : T) → IsNullItem (T.item v) →
-        IsReadBack ⟦<Option<T> as Typed>⟧.reads (⟦<Option<T> as Serialize>⟧.item (Some v)) None 0 }
+        IsReadBack ⟦<Option<T> as Typed>⟧.promise.spelling.reads
+        (⟦<Option<T> as Serialize>⟧.item (Some v)) None 0 }
 {}
 
 /// The unit is read from its own item without a step, and a pair and a triple wherever each part
 /// is, whatever follows it: at one step and the greatest cost of a part.
 pub fn tuples_are_read_back<A: Typed + Serialize, B: Typed + Serialize, C: Typed + Serialize>()
-    ensures unit { IsReadBack ⟦<() as Typed>⟧.reads (⟦<() as Serialize>⟧.item tt) tt 0 }
+    ensures unit { IsReadBack ⟦<() as Typed>⟧.promise.spelling.reads (⟦<() as Serialize>⟧.item tt)
+        tt 0 }
     ensures pair { (p : A × B) (first second : ℕ) →
-        IsReadBack A.reads (A.item p.0) p.0 first → IsReadBack B.reads (B.item p.1) p.1 second →
-        IsReadBack ⟦<(A, B) as Typed>⟧.reads (⟦<(A, B) as Serialize>⟧.item p) p
+        IsReadBack A.promise.spelling.reads (A.item p.0) p.0 first →
+        IsReadBack B.promise.spelling.reads (B.item p.1) p.1 second →
+        IsReadBack ⟦<(A, B) as Typed>⟧.promise.spelling.reads (⟦<(A, B) as Serialize>⟧.item p) p
         (1 + max first second) }
     ensures triple { (p : A × B × C) (first second third : ℕ) →
-        IsReadBack A.reads (A.item p.0) p.0 first → IsReadBack B.reads (B.item p.1) p.1 second →
-        IsReadBack C.reads (C.item p.2) p.2 third →
-        IsReadBack ⟦<(A, B, C) as Typed>⟧.reads (⟦<(A, B, C) as Serialize>⟧.item p) p
+        IsReadBack A.promise.spelling.reads (A.item p.0) p.0 first →
+        IsReadBack B.promise.spelling.reads (B.item p.1) p.1 second →
+        IsReadBack C.promise.spelling.reads (C.item p.2) p.2 third →
+        IsReadBack ⟦<(A, B, C) as Typed>⟧.promise.spelling.reads (⟦<(A, B, C) as Serialize>⟧.item p)
+        p
         (1 + max first (max second third)) }
 {}
 
@@ -135,8 +143,8 @@ pub fn tuples_are_read_back<A: Typed + Serialize, B: Typed + Serialize, C: Typed
 /// step and the greatest cost of a value.
 pub fn vectors_are_read_back<T: Typed + Serialize>()
     ensures { (v : Vec T Global) (cost : T → ℕ) →
-        All (λ item. IsReadBack T.reads (T.item item) item (cost item)) v.items →
-        IsReadBack ⟦<Vec<T> as Typed>⟧.reads (⟦<Vec<T> as Serialize>⟧.item v) v
+        All (λ item. IsReadBack T.promise.spelling.reads (T.item item) item (cost item)) v.items →
+        IsReadBack ⟦<Vec<T> as Typed>⟧.promise.spelling.reads (⟦<Vec<T> as Serialize>⟧.item v) v
         (1 + greatest_cost cost v.items) }
 {}
 
@@ -146,9 +154,10 @@ pub fn vectors_are_read_back<T: Typed + Serialize>()
 pub fn maps_are_read_back<K: Typed + Serialize + Ord, V: Typed + Serialize>()
     ensures { (m : BTreeMap K V Global) (key_cost : K → ℕ) (value_cost : V → ℕ) →
         IsOrdered K.cmp m → length m.entries < 2 ^ 64 →
-        All (λ p. IsReadBack K.reads (K.item p.0) p.0 (key_cost p.0)) m.entries →
-        All (λ p. IsReadBack V.reads (V.item p.1) p.1 (value_cost p.1)) m.entries →
-        IsReadBack ⟦<BTreeMap<K, V> as Typed>⟧.reads (⟦<BTreeMap<K, V> as Serialize>⟧.item m) m
+        All (λ p. IsReadBack K.promise.spelling.reads (K.item p.0) p.0 (key_cost p.0)) m.entries →
+        All (λ p. IsReadBack V.promise.spelling.reads (V.item p.1) p.1 (value_cost p.1)) m.entries →
+        IsReadBack ⟦<BTreeMap<K, V> as Typed>⟧.promise.spelling.reads
+        (⟦<BTreeMap<K, V> as Serialize>⟧.item m) m
         (1 + greatest_cost (pair_cost key_cost value_cost) m.entries) }
 {}
 
@@ -157,7 +166,8 @@ pub fn maps_are_read_back<K: Typed + Serialize + Ord, V: Typed + Serialize>()
 /// takes a step, an array or a map one more, and no more than its canonical spelling costs.
 pub fn values_are_read_back()
     ensures read { (v : AnyValue) → IsItem (view v) →
-        IsReadBack ⟦<Value as Typed>⟧.reads (⟦<Value as Serialize>⟧.item v) v (any_cost (view v)) }
+        IsReadBack ⟦<Value as Typed>⟧.promise.spelling.reads (⟦<Value as Serialize>⟧.item v) v
+        (any_cost (view v)) }
     ensures cost { (v : Item) → any_cost v ≤ canon_cost v }
 {}
 
@@ -215,22 +225,23 @@ impl FieldValues for () {
 
 /// A field, and those behind it.
 impl<T: Typed + Serialize, V: FieldValues> FieldValues for (Option<T>, V) {
-    ghost named = { fields_named T.reads V.named };
+    ghost named = { fields_named T.promise.spelling.reads V.named };
 
     ghost none = { (None, V.none) };
 
-    ghost stand = { FieldBefore T.reads T.item V.stand };
+    ghost stand = { FieldBefore T.promise.spelling.reads T.item V.stand };
 
-    ghost same = { SameField T.same V.same };
+    ghost same = { SameField T.promise.spelling.same V.same };
 
-    ghost exact = { T.exact && V.exact };
+    ghost exact = { T.promise.exact && V.exact };
 
-    ghost back = { before_back T.reads T.item V.named V.none V.stand V.back };
+    ghost back = { before_back T.promise.spelling.reads T.item V.named V.none V.stand V.back };
 
     ghost none_same = { (tt, V.none_same) };
 
     ghost laws = { λ e. fields_named_laws V.named V.same
-        (T.Typed.laws (both T.exact V.exact e).0) (V.laws (both T.exact V.exact e).1) };
+        (typed_laws T.promise (both T.promise.exact V.exact e).0)
+        (V.laws (both T.promise.exact V.exact e).1) };
 }
 
 /// A struct is read from its own item, that of `serialize_1_field` to `_6_fields`, wherever each
@@ -266,10 +277,12 @@ pub fn written_structs_are_read<V: FieldValues, E>()
 /// mean the same one by one. A struct that is made of them may be exact by it, as one of two fields
 /// here and one of more by the same lemmas, `fields_laws` and `field_laws`.
 pub fn fields_are_read_in_one_way<A: Typed, B: Typed>()
-    ensures { IsTrue A.exact → IsTrue B.exact → (first second : List ℕ) → Lawful (ReadsFields
+    ensures { IsTrue A.promise.exact → IsTrue B.promise.exact → (first second : List ℕ) →
+        Lawful (ReadsFields
         (None, (None, no_values))
-        (named_field first A.reads (named_field second B.reads no_fields)))
-        (SameField A.same (SameField B.same any_two)) true }
+        (named_field first A.promise.spelling.reads
+        (named_field second B.promise.spelling.reads no_fields)))
+        (SameField A.promise.spelling.same (SameField B.promise.spelling.same any_two)) true }
 {}
 
 /// An enum, by the names of its variants: what the laws of variants speak of. It has no call.
@@ -328,20 +341,24 @@ pub fn variants_are_read_back<V: EnumValues>()
 /// something behind them: a value that means the same, with what stands behind left, and where the
 /// budget has the cost, no refusal of the bytes.
 pub fn what_is_written_is_read<T: Typed + Serialize, E>()
-    ensures accepted { IsTrue T.exact → (bytes rest : List ℕ) (v w : T) (cost : ℕ)
-        (old new : View) → T.item v ≡ encoded bytes → IsReadBack T.reads (T.item v) v cost →
-        old.told ≡ Some (bytes ++ rest) → Sound T.reads old new w →
-        T.same v w × (new.told ≡ Some rest) }
+    ensures accepted { IsTrue T.promise.exact → (bytes rest : List ℕ) (v w : T) (cost : ℕ)
+        (old new : View) → T.item v ≡ encoded bytes → IsReadBack T.promise.spelling.reads (T.item v)
+        v cost →
+        old.told ≡ Some (bytes ++ rest) → Sound T.promise.spelling.reads old new w →
+        T.promise.spelling.same v w × (new.told ≡ Some rest) }
     ensures not_refused { (bytes rest : List ℕ) (v : T) (cost : ℕ) (old : View)
         (error : DecodeError E) → T.item v ≡ encoded bytes →
-        IsReadBack T.reads (T.item v) v cost → CostFits cost old.budget →
-        old.told ≡ Some (bytes ++ rest) → Refuses T.reads old error → refusal_of error ≡ None }
+        IsReadBack T.promise.spelling.reads (T.item v) v cost → CostFits cost old.budget →
+        old.told ≡ Some (bytes ++ rest) → Refuses T.promise.spelling.reads old error →
+        refusal_of error ≡ None }
 {}
 
 /// A value that may be absent and is refused is not read, where its type is exact and so are its
 /// refusals. Of whether one comes the same holds.
 pub fn refused_options_are_not_read<T: Typed>()
-    ensures value { IsTrue T.exact → NeverBoth T.reads T.stops →
-        NeverBoth ⟦<Option<T> as Typed>⟧.reads ⟦<Option<T> as Typed>⟧.stops }
+    ensures value { IsTrue T.promise.told → NeverBoth T.promise.spelling.reads
+        T.promise.spelling.begins →
+        NeverBoth ⟦<Option<T> as Typed>⟧.promise.spelling.reads
+        ⟦<Option<T> as Typed>⟧.promise.spelling.begins }
     ensures presence { NeverBoth ReadsPresence StopsPresence }
 {}

@@ -1,8 +1,8 @@
 //! Rows of enums, read by a function, and written and read by the calls for one value.
-ghost use Rattle.std.specs.Prelude.{codes, true, false};
+ghost use Rattle.std.specs.Prelude.{codes};
 ghost use Rattle.cbor4ii_ser.specs.Item.{variant_item};
 ghost use Rattle.cbor4ii.specs.Accessing.{Finishes};
-ghost use Rattle.cbor4ii.specs.Typed.{any_two, not_exact, unsaid, unsaid_stops, input, answer_of};
+ghost use Rattle.cbor4ii.specs.Typed.{input, answer_of};
 ghost use Rattle.cbor4ii.specs.Variants.{inside_enum};
 ghost use Rattle.cbor4ii_examples.specs.declared.enumeration.tests.Letters.TheVariants.{A};
 
@@ -53,21 +53,7 @@ fn variants_are_written_and_read(rt: HostRuntime) -> Result<(), Fail> {
     tells::<Answer<Enum>>(rt.alloc(), VARIANTS, VARIANTS_READ, VARIANTS_WITHIN)
 }
 
-impl Typed for Enum {
-    ghost reads = { unsaid };
-
-    ghost stops = { unsaid_stops };
-
-    ghost same = { any_two };
-
-    ghost owned = { true };
-
-    ghost takes_memory = { true };
-
-    ghost exact = { false };
-
-    ghost laws = { not_exact };
-}
+impl Typed for Enum {}
 
 const ENUM: [StaticStr; 4] = ["Unit", "NewType", "Tuple", "Struct"];
 
@@ -120,21 +106,7 @@ struct Fields {
     y: i32,
 }
 
-impl Typed for Fields {
-    ghost reads = { unsaid };
-
-    ghost stops = { unsaid_stops };
-
-    ghost same = { any_two };
-
-    ghost owned = { true };
-
-    ghost takes_memory = { true };
-
-    ghost exact = { false };
-
-    ghost laws = { not_exact };
-}
+impl Typed for Fields {}
 
 impl<S: Source> Deserialize<S> for Fields {
     fn deserialize(
@@ -181,21 +153,7 @@ impl Serialize for Letters {
     }
 }
 
-impl Typed for Letters {
-    ghost reads = { unsaid };
-
-    ghost stops = { unsaid_stops };
-
-    ghost same = { any_two };
-
-    ghost owned = { true };
-
-    ghost takes_memory = { true };
-
-    ghost exact = { false };
-
-    ghost laws = { not_exact };
-}
+impl Typed for Letters {}
 
 impl<S: Source> Deserialize<S> for Letters {
     fn deserialize(

@@ -1,7 +1,6 @@
 //! Rows of structs that borrow from the input.
-ghost use Rattle.std.specs.Prelude.{◌∷◌, [], codes, true, false};
+ghost use Rattle.std.specs.Prelude.{◌∷◌, [], codes};
 ghost use Rattle.cbor4ii_ser.specs.Item.{field, struct_item};
-ghost use Rattle.cbor4ii.specs.Typed.{any_two, not_exact, unsaid, unsaid_stops};
 
 use crate::enumeration::Enum;
 use crate::label::Label;
@@ -116,21 +115,7 @@ impl<'a> Deserialize<SliceReader<'a>> for Record<'a> {
     }
 }
 
-impl<'a> Typed for Record<'a> {
-    ghost reads = { unsaid };
-
-    ghost stops = { unsaid_stops };
-
-    ghost same = { any_two };
-
-    ghost owned = { false };
-
-    ghost takes_memory = { true };
-
-    ghost exact = { false };
-
-    ghost laws = { not_exact };
-}
+impl<'a> Typed for Record<'a> {}
 
 const RECORD: &[u8] = b"\xa6\x64name\x61G\
 \x67objects\xa2\x63obj\x80\x64obj2\x83\x64obj3\x64obj4\x60\

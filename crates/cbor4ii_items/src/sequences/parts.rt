@@ -82,8 +82,9 @@ fn take_counted<S: Source, Q: Sequence<S>>(
     }
     for i in 0..count {
         let part = Q::take_part(alloc, reader)?;
-        if parts.push(part).is_err() {
-            return Err(DecodeError::OutOfMemory);
+        match parts.push(part) {
+            Ok(()) => {}
+            Err(_) => return Err(DecodeError::OutOfMemory),
         }
     }
     Ok(parts)
@@ -107,8 +108,9 @@ fn take_open<S: Source, Q: Sequence<S>>(
             });
         }
         let part = Q::take_part(alloc, reader)?;
-        if parts.push(part).is_err() {
-            return Err(DecodeError::OutOfMemory);
+        match parts.push(part) {
+            Ok(()) => {}
+            Err(_) => return Err(DecodeError::OutOfMemory),
         }
     }
     Ok(parts)

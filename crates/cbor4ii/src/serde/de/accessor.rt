@@ -18,7 +18,7 @@ ghost use Rattle.cbor4ii.specs.Accessing.{LeftAfterStart, ReadsStart, StopsStart
 ghost use Rattle.cbor4ii.specs.Accessing.{MayGoOn, left_then, left_tried, fuel, hint};
 ghost use Rattle.cbor4ii.specs.Stepped.{Stepped, StopsStepped};
 ghost use Rattle.cbor4ii.specs.Tuples.{ReadsCountOf, StopsCountOf};
-ghost use Rattle.cbor4ii.specs.Typed.{input, answer_of, as_core, said};
+ghost use Rattle.cbor4ii.specs.Typed.{input, answer_of, as_core, said_by};
 
 use crate::serde::de::deserialize::Deserialize;
 use crate::serde::de::deserializer::Deserializer;
@@ -297,18 +297,20 @@ impl<'a, S: Source> Accessor<'a, S> {
         ensures moves { Moves (inside S.view self.old) (inside S.view self.new)
             (answer_of result) }
         ensures memory { IfErr result
-            (λ error. IsTrue (is_out_of_memory (as_core error)) → IsTrue T.takes_memory) }
-        ensures sound { IfOk result (Sound (Next T.reads (left_in self.old))
+            (λ error. IsTrue (is_out_of_memory (as_core error)) →
+            IsTrue T.promise.spelling.takes_memory) }
+        ensures sound { IfOk result (Sound (Next T.promise.spelling.reads (left_in self.old))
             (inside S.view self.old) (inside S.view self.new)) }
         ensures left { IfOk result
             (λ part. left_in self.new ≡ left_then (left_in self.old) part) }
         ensures tried { OnErr result (left_in self.new ≡ left_tried (left_in self.old)) }
         ensures asked { OnErr result (MayGoOn (left_in self.old)) }
-        ensures complete { IsTrue T.exact → IsExact T.owned (inside S.view self.old) →
-            IfErr result (λ error. Refuses (Next T.reads (left_in self.old))
+        ensures complete { IsTrue T.promise.exact → IsExact T.promise.spelling.owned
+            (inside S.view self.old) →
+            IfErr result (λ error. Refuses (Next T.promise.spelling.reads (left_in self.old))
             (inside S.view self.old) (as_core error)) }
         ensures stops { IfErr result (λ error. Stops
-            (StopsElement (said T.exact T.stops) (left_in self.old))
+            (StopsElement (said_by T.promise) (left_in self.old))
             (inside S.view self.old) (inside S.view self.new) (as_core error)) }
         ensures still { left_in self.old ≢ Open → IfOk result
             (λ part. part ≡ None → inside S.view self.new ≡ inside S.view self.old) }
@@ -336,18 +338,20 @@ impl<'a, S: Source> Accessor<'a, S> {
         ensures moves { Moves (inside S.view self.old) (inside S.view self.new)
             (answer_of result) }
         ensures memory { IfErr result
-            (λ error. IsTrue (is_out_of_memory (as_core error)) → IsTrue K.takes_memory) }
-        ensures sound { IfOk result (Sound (Next K.reads (left_in self.old))
+            (λ error. IsTrue (is_out_of_memory (as_core error)) →
+            IsTrue K.promise.spelling.takes_memory) }
+        ensures sound { IfOk result (Sound (Next K.promise.spelling.reads (left_in self.old))
             (inside S.view self.old) (inside S.view self.new)) }
         ensures left { IfOk result
             (λ part. left_in self.new ≡ left_then (left_in self.old) part) }
         ensures tried { OnErr result (left_in self.new ≡ left_tried (left_in self.old)) }
         ensures asked { OnErr result (MayGoOn (left_in self.old)) }
-        ensures complete { IsTrue K.exact → IsExact K.owned (inside S.view self.old) →
-            IfErr result (λ error. Refuses (Next K.reads (left_in self.old))
+        ensures complete { IsTrue K.promise.exact → IsExact K.promise.spelling.owned
+            (inside S.view self.old) →
+            IfErr result (λ error. Refuses (Next K.promise.spelling.reads (left_in self.old))
             (inside S.view self.old) (as_core error)) }
         ensures stops { IfErr result (λ error. Stops
-            (StopsElement (said K.exact K.stops) (left_in self.old))
+            (StopsElement (said_by K.promise) (left_in self.old))
             (inside S.view self.old) (inside S.view self.new) (as_core error)) }
         ensures still { left_in self.old ≢ Open → IfOk result
             (λ part. part ≡ None → inside S.view self.new ≡ inside S.view self.old) }
@@ -373,14 +377,17 @@ impl<'a, S: Source> Accessor<'a, S> {
         ensures moves { Moves (inside S.view self.old) (inside S.view self.new)
             (answer_of result) }
         ensures memory { IfErr result
-            (λ error. IsTrue (is_out_of_memory (as_core error)) → IsTrue V.takes_memory) }
+            (λ error. IsTrue (is_out_of_memory (as_core error)) →
+            IsTrue V.promise.spelling.takes_memory) }
         ensures sound { IfOk result
-            (Sound V.reads (inside S.view self.old) (inside S.view self.new)) }
-        ensures complete { IsTrue V.exact → IsExact V.owned (inside S.view self.old) →
+            (Sound V.promise.spelling.reads (inside S.view self.old) (inside S.view self.new)) }
+        ensures complete { IsTrue V.promise.exact → IsExact V.promise.spelling.owned
+            (inside S.view self.old) →
             IfErr result (λ error.
-            Refuses V.reads (inside S.view self.old) (as_core error)) }
-        ensures stops { IsTrue V.exact → IfErr result (λ error.
-            Stops V.stops (inside S.view self.old) (inside S.view self.new) (as_core error)) }
+            Refuses V.promise.spelling.reads (inside S.view self.old) (as_core error)) }
+        ensures stops { IsTrue V.promise.told → IfErr result (λ error.
+            Stops V.promise.spelling.begins (inside S.view self.old) (inside S.view self.new)
+            (as_core error)) }
     {
         V::deserialize(alloc, self.de)
     }
@@ -401,19 +408,23 @@ impl<'a, S: Source> Accessor<'a, S> {
         ensures moves { Moves (inside S.view self.old) (inside S.view self.new)
             (answer_of result) }
         ensures memory { IfErr result (λ error. IsTrue (is_out_of_memory (as_core error)) →
-            IsTrue (K.takes_memory || V.takes_memory)) }
-        ensures sound { IfOk result (Sound (Next (ReadsPair K.reads V.reads) (left_in self.old))
+            IsTrue (K.promise.spelling.takes_memory || V.promise.spelling.takes_memory)) }
+        ensures sound { IfOk result (Sound (Next
+            (ReadsPair K.promise.spelling.reads V.promise.spelling.reads) (left_in self.old))
             (inside S.view self.old) (inside S.view self.new)) }
         ensures left { IfOk result
             (λ part. left_in self.new ≡ left_then (left_in self.old) part) }
         ensures tried { OnErr result (left_in self.new ≡ left_tried (left_in self.old)) }
         ensures asked { OnErr result (MayGoOn (left_in self.old)) }
-        ensures complete { IsTrue (K.exact && V.exact) →
-            IsExact (K.owned && V.owned) (inside S.view self.old) → IfErr result (λ error.
-            Refuses (Next (ReadsPair K.reads V.reads) (left_in self.old))
+        ensures complete { IsTrue (K.promise.exact && V.promise.exact) →
+            IsExact (K.promise.spelling.owned && V.promise.spelling.owned) (inside S.view self.old)
+            → IfErr result (λ error.
+            Refuses (Next (ReadsPair K.promise.spelling.reads V.promise.spelling.reads)
+            (left_in self.old))
             (inside S.view self.old) (as_core error)) }
         ensures stops { IfErr result (λ error. Stops (StopsElement
-            (StopsPair K.reads (said K.exact K.stops) (said V.exact V.stops)) (left_in self.old))
+            (StopsPair K.promise.spelling.reads (said_by K.promise) (said_by V.promise))
+            (left_in self.old))
             (inside S.view self.old) (inside S.view self.new) (as_core error)) }
         ensures still { left_in self.old ≢ Open → IfOk result
             (λ part. part ≡ None → inside S.view self.new ≡ inside S.view self.old) }

@@ -4,15 +4,15 @@ ghost use Rattle.std.specs.Prelude.{codes};
 ghost use Rattle.cbor4ii_items.specs.Moves.{Moves};
 ghost use Rattle.cbor4ii_items.specs.Decoding.{Sound, Refuses, Stops};
 ghost use Rattle.cbor4ii_items.specs.Sequences.{ReadsPair, ReadsCount, ReadsUpToBreak, ReadsInside};
-ghost use Rattle.cbor4ii_items.specs.Sequences.{ReadsSequence, StopsCount};
+ghost use Rattle.cbor4ii_items.specs.Sequences.{ReadsSequence, StopsCount, StopsUpToBreak};
+ghost use Rattle.cbor4ii_items.specs.Sequences.{StopsInside};
 ghost use Rattle.cbor4ii.specs.ItemRead.{AddsPart};
-ghost use Rattle.cbor4ii_items.specs.Sequences.{StopsUpToBreak, StopsInside};
-ghost use Rattle.cbor4ii.specs.Any.{ReadsAny, AnyInside, SameView};
+ghost use Rattle.cbor4ii.specs.Any.{ReadsAny, AnyInside};
 ghost use Rattle.cbor4ii.specs.Laws.Any.{any_laws};
 ghost use Rattle.cbor4ii.specs.AnyStops.{AnyStops, KindStops, StopsAny, StopsAnyPair};
 ghost use Rattle.cbor4ii.specs.declared.serde.de.any_leaf.AnyKind.TheVariants.{Array as array_kind};
 ghost use Rattle.cbor4ii.specs.declared.serde.de.any_leaf.AnyKind.TheVariants.{Map as map_kind};
-ghost use Rattle.cbor4ii.specs.Typed.{input, answer_of, as_core};
+ghost use Rattle.cbor4ii.specs.Typed.{input, answer_of, as_core, typed_by};
 
 use crate::serde::de::any_leaf::{AnyKind, kind_of, take_leaf};
 use crate::serde::de::deserialize::{Deserialize, Typed};
@@ -66,19 +66,7 @@ impl<S: Source> Deserializer<S> {
 }
 
 impl Typed for Value {
-    ghost reads = { ReadsAny };
-
-    ghost stops = { StopsAny };
-
-    ghost same = { SameView };
-
-    ghost owned = { true };
-
-    ghost takes_memory = { true };
-
-    ghost exact = { true };
-
-    ghost laws = { λ _. any_laws };
+    ghost promise = { typed_by StopsAny true true any_laws };
 }
 
 /// As `Deserializer::deserialize_any`.

@@ -1,9 +1,8 @@
 //! Characters.
 ghost use Rattle.std.specs.Prelude.{◌≡◌, true, IfSome, IsNone};
 ghost use Rattle.std.specs.Char.{encode_utf8};
-ghost use Rattle.cbor4ii.specs.Character.{ReadsChar, StopsChar, NoCharacter, char_laws};
-ghost use Rattle.cbor4ii.specs.ItemRead.{ReadsItem};
-ghost use Rattle.cbor4ii.specs.Typed.{input};
+ghost use Rattle.cbor4ii.specs.Character.{StopsChar, NoCharacter, char_laws};
+ghost use Rattle.cbor4ii.specs.Typed.{input, answer_of, typed_by, Deserializes};
 
 use crate::serde::de::deserialize::{Deserialize, Typed};
 use crate::serde::de::deserializer::{Deserializer, take_item};
@@ -12,19 +11,7 @@ use cbor4ii_rw::read::Source;
 use std::alloc::Global;
 
 impl Typed for char {
-    ghost reads = { ReadsChar };
-
-    ghost stops = { StopsChar };
-
-    ghost same = { λ v w. v ≡ w };
-
-    ghost owned = { true };
-
-    ghost takes_memory = { true };
-
-    ghost exact = { true };
-
-    ghost laws = { λ _. char_laws };
+    ghost promise = { typed_by StopsChar true true char_laws };
 }
 
 /// A text of exactly one character, read as `Deserializer::deserialize_char` reads it.
@@ -46,8 +33,8 @@ impl<S: Source> Deserializer<S> {
     /// Those of `String`, with what they leave. Where the text is whole and has no character, or
     /// more than one, `Custom` of "expected one character", and the whole item is taken.
     pub fn deserialize_char(&mut self, alloc: Global) -> Result<char, DecodeError<S::Error>>
-        ensures { ReadsItem ReadsChar StopsChar true true true
-            (input S.view self.old) (input S.view self.new) result }
+        ensures { Deserializes ⟦<char as Typed>⟧.promise
+            (input S.view self.old) (input S.view self.new) (answer_of result) }
     {
         match take_item::<S, String>(alloc, self) {
             Ok(text) => match only_char(text.as_str()) {

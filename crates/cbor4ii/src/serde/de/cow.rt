@@ -1,20 +1,17 @@
 //! Strings that are borrowed from the input where the reader lends them, and owned otherwise. Each
 //! reader of `cbor4ii_rw` has them by name.
-ghost use Rattle.std.specs.Prelude.{◌+◌, ◌≤◌, true, codes, OnOk, IfOk, IfErr};
+ghost use Rattle.std.specs.Prelude.{codes, IfOk};
+ghost use Rattle.std.proofs.Common.{refl};
 ghost use Rattle.std.specs.Cow.{IsBorrowedStr, IsOwnedStr};
-ghost use Rattle.cbor4ii_items.specs.Decoding.{Stops};
 ghost use Rattle.cbor4ii_items.specs.Cow.{BorrowsWhereCounted, cow_text, cow_bytes};
 ghost use Rattle.cbor4ii_items.specs.Cow.{IsBorrowedBytes, IsOwnedBytes};
-ghost use Rattle.cbor4ii_items.specs.Strings.{ReadsAs, ReadsTextAs, StopsString, StopsText};
-ghost use Rattle.cbor4ii_items.specs.Laws.Strings.{two_small, as_one, as_within, as_positive};
-ghost use Rattle.cbor4ii_items.specs.Laws.Strings.{text_one, text_within, text_positive};
-ghost use Rattle.cbor4ii.specs.ItemRead.{ReadsItem};
-ghost use Rattle.cbor4ii.specs.Typed.{input, as_core};
+ghost use Rattle.cbor4ii_items.specs.Laws.Strings.{two_small, text_lawful, as_lawful};
+ghost use Rattle.cbor4ii.specs.Typed.{input, answer_of, exactly, Deserializes};
 
 use crate::serde::de::deserialize::{Deserialize, Typed};
 use crate::serde::de::deserializer::Deserializer;
 use crate::serde::de::error::{DecodeError, typed};
-use cbor4ii_items::decode::{Decode, Spelled};
+use cbor4ii_items::decode::Decode;
 use cbor4ii_items::types::Bytes;
 use cbor4ii_rw::error::Never;
 use cbor4ii_rw::io_reader::IoReader;
@@ -27,23 +24,7 @@ use std::io;
 use std::io::BufRead;
 
 impl<'de> Typed for CowStr<'de, Global> {
-    ghost reads = { ⟦<CowStr<'de, Global> as Spelled>⟧.spelling.reads };
-
-    ghost stops = { ⟦<CowStr<'de, Global> as Spelled>⟧.spelling.stops };
-
-    ghost same = { ⟦<CowStr<'de, Global> as Spelled>⟧.spelling.same };
-
-    ghost owned = { true };
-
-    ghost takes_memory = { ⟦<CowStr<'de, Global> as Spelled>⟧.spelling.takes_memory };
-
-    ghost exact = { true };
-
-    ghost laws = { λ _. record {
-      one = text_one cow_text;
-      within = text_within cow_text;
-      positive = λ _. text_positive cow_text;
-    } };
+    ghost promise = { exactly refl (text_lawful (codes "str") cow_text) };
 }
 
 /// A text: a part of the input where its length is known, a copy of its chunks where it is not.
@@ -53,16 +34,9 @@ impl<'de> Deserialize<SliceReader<'de>> for CowStr<'de, Global> {
         alloc: Global,
         de: &mut Deserializer<SliceReader<'de>>,
     ) -> Result<CowStr<'de, Global>, DecodeError<Never>>
-        ensures item { ReadsItem (ReadsTextAs cow_text) (StopsText (codes "str")) true true true
+        ensures item { Deserializes ⟦<CowStr<'de, Global> as Typed>⟧.promise
             (input ⟦<SliceReader<'de> as Source>⟧.view de.old)
-            (input ⟦<SliceReader<'de> as Source>⟧.view de.new) result }
-        ensures progress { OnOk result
-            ((input ⟦<SliceReader<'de> as Source>⟧.view de.new).bound + 1
-            ≤ (input ⟦<SliceReader<'de> as Source>⟧.view de.old).bound) }
-        ensures stops { IfErr result (λ error. Stops (StopsText (codes "str"))
-            (input ⟦<SliceReader<'de> as Source>⟧.view de.old)
-            (input ⟦<SliceReader<'de> as Source>⟧.view de.new)
-            (as_core error)) }
+            (input ⟦<SliceReader<'de> as Source>⟧.view de.new) (answer_of result) }
         ensures borrows { IfOk result (BorrowsWhereCounted 3 IsBorrowedStr IsOwnedStr
             (input ⟦<SliceReader<'de> as Source>⟧.view de.old)) }
     {
@@ -76,16 +50,9 @@ impl<'de> Deserialize<SegmentReader<'de>> for CowStr<'de, Global> {
         alloc: Global,
         de: &mut Deserializer<SegmentReader<'de>>,
     ) -> Result<CowStr<'de, Global>, DecodeError<Never>>
-        ensures item { ReadsItem (ReadsTextAs cow_text) (StopsText (codes "str")) true true true
+        ensures item { Deserializes ⟦<CowStr<'de, Global> as Typed>⟧.promise
             (input ⟦<SegmentReader<'de> as Source>⟧.view de.old)
-            (input ⟦<SegmentReader<'de> as Source>⟧.view de.new) result }
-        ensures progress { OnOk result
-            ((input ⟦<SegmentReader<'de> as Source>⟧.view de.new).bound + 1
-            ≤ (input ⟦<SegmentReader<'de> as Source>⟧.view de.old).bound) }
-        ensures stops { IfErr result (λ error. Stops (StopsText (codes "str"))
-            (input ⟦<SegmentReader<'de> as Source>⟧.view de.old)
-            (input ⟦<SegmentReader<'de> as Source>⟧.view de.new)
-            (as_core error)) }
+            (input ⟦<SegmentReader<'de> as Source>⟧.view de.new) (answer_of result) }
         ensures borrows { IfOk result (BorrowsWhereCounted 3 IsBorrowedStr IsOwnedStr
             (input ⟦<SegmentReader<'de> as Source>⟧.view de.old)) }
     {
@@ -99,16 +66,9 @@ impl<'de, R: BufRead + Drop> Deserialize<IoReader<R>> for CowStr<'de, Global> {
         alloc: Global,
         de: &mut Deserializer<IoReader<R>>,
     ) -> Result<CowStr<'de, Global>, DecodeError<io::Error>>
-        ensures item { ReadsItem (ReadsTextAs cow_text) (StopsText (codes "str")) true true true
+        ensures item { Deserializes ⟦<CowStr<'de, Global> as Typed>⟧.promise
             (input ⟦<IoReader<R> as Source>⟧.view de.old)
-            (input ⟦<IoReader<R> as Source>⟧.view de.new) result }
-        ensures progress { OnOk result
-            ((input ⟦<IoReader<R> as Source>⟧.view de.new).bound + 1
-            ≤ (input ⟦<IoReader<R> as Source>⟧.view de.old).bound) }
-        ensures stops { IfErr result (λ error. Stops (StopsText (codes "str"))
-            (input ⟦<IoReader<R> as Source>⟧.view de.old)
-            (input ⟦<IoReader<R> as Source>⟧.view de.new)
-            (as_core error)) }
+            (input ⟦<IoReader<R> as Source>⟧.view de.new) (answer_of result) }
         ensures copied { IfOk result IsOwnedStr }
     {
         de.deserialize_str(alloc)
@@ -116,23 +76,7 @@ impl<'de, R: BufRead + Drop> Deserialize<IoReader<R>> for CowStr<'de, Global> {
 }
 
 impl<'de> Typed for Bytes<CowSlice<'de, u8, Global>> {
-    ghost reads = { ⟦<Bytes<CowSlice<'de, u8, Global>> as Spelled>⟧.spelling.reads };
-
-    ghost stops = { ⟦<Bytes<CowSlice<'de, u8, Global>> as Spelled>⟧.spelling.stops };
-
-    ghost same = { ⟦<Bytes<CowSlice<'de, u8, Global>> as Spelled>⟧.spelling.same };
-
-    ghost owned = { true };
-
-    ghost takes_memory = { ⟦<Bytes<CowSlice<'de, u8, Global>> as Spelled>⟧.spelling.takes_memory };
-
-    ghost exact = { true };
-
-    ghost laws = { λ _. record {
-      one = as_one 2 two_small cow_bytes;
-      within = as_within 2 two_small cow_bytes;
-      positive = λ _. as_positive 2 two_small cow_bytes;
-    } };
+    ghost promise = { exactly refl (as_lawful (codes "bytes") 2 two_small cow_bytes) };
 }
 
 /// A byte string: a part of the input where its length is known, a copy of its chunks where it is
@@ -143,17 +87,10 @@ impl<'de> Deserialize<SliceReader<'de>> for Bytes<CowSlice<'de, u8, Global>> {
         alloc: Global,
         de: &mut Deserializer<SliceReader<'de>>,
     ) -> Result<Bytes<CowSlice<'de, u8, Global>>, DecodeError<Never>>
-        ensures item { ReadsItem (ReadsAs 2 cow_bytes) (StopsString (codes "bytes") 2)
-            true true true
+        ensures item { Deserializes
+            ⟦<Bytes<CowSlice<'de, u8, Global>> as Typed>⟧.promise
             (input ⟦<SliceReader<'de> as Source>⟧.view de.old)
-            (input ⟦<SliceReader<'de> as Source>⟧.view de.new) result }
-        ensures progress { OnOk result
-            ((input ⟦<SliceReader<'de> as Source>⟧.view de.new).bound + 1
-            ≤ (input ⟦<SliceReader<'de> as Source>⟧.view de.old).bound) }
-        ensures stops { IfErr result (λ error. Stops (StopsString (codes "bytes") 2)
-            (input ⟦<SliceReader<'de> as Source>⟧.view de.old)
-            (input ⟦<SliceReader<'de> as Source>⟧.view de.new)
-            (as_core error)) }
+            (input ⟦<SliceReader<'de> as Source>⟧.view de.new) (answer_of result) }
         ensures borrows { IfOk result (BorrowsWhereCounted 2 IsBorrowedBytes IsOwnedBytes
             (input ⟦<SliceReader<'de> as Source>⟧.view de.old)) }
     {
@@ -167,17 +104,10 @@ impl<'de> Deserialize<SegmentReader<'de>> for Bytes<CowSlice<'de, u8, Global>> {
         alloc: Global,
         de: &mut Deserializer<SegmentReader<'de>>,
     ) -> Result<Bytes<CowSlice<'de, u8, Global>>, DecodeError<Never>>
-        ensures item { ReadsItem (ReadsAs 2 cow_bytes) (StopsString (codes "bytes") 2)
-            true true true
+        ensures item { Deserializes
+            ⟦<Bytes<CowSlice<'de, u8, Global>> as Typed>⟧.promise
             (input ⟦<SegmentReader<'de> as Source>⟧.view de.old)
-            (input ⟦<SegmentReader<'de> as Source>⟧.view de.new) result }
-        ensures progress { OnOk result
-            ((input ⟦<SegmentReader<'de> as Source>⟧.view de.new).bound + 1
-            ≤ (input ⟦<SegmentReader<'de> as Source>⟧.view de.old).bound) }
-        ensures stops { IfErr result (λ error. Stops (StopsString (codes "bytes") 2)
-            (input ⟦<SegmentReader<'de> as Source>⟧.view de.old)
-            (input ⟦<SegmentReader<'de> as Source>⟧.view de.new)
-            (as_core error)) }
+            (input ⟦<SegmentReader<'de> as Source>⟧.view de.new) (answer_of result) }
         ensures borrows { IfOk result (BorrowsWhereCounted 2 IsBorrowedBytes IsOwnedBytes
             (input ⟦<SegmentReader<'de> as Source>⟧.view de.old)) }
     {
@@ -191,17 +121,10 @@ impl<'de, R: BufRead + Drop> Deserialize<IoReader<R>> for Bytes<CowSlice<'de, u8
         alloc: Global,
         de: &mut Deserializer<IoReader<R>>,
     ) -> Result<Bytes<CowSlice<'de, u8, Global>>, DecodeError<io::Error>>
-        ensures item { ReadsItem (ReadsAs 2 cow_bytes) (StopsString (codes "bytes") 2)
-            true true true
+        ensures item { Deserializes
+            ⟦<Bytes<CowSlice<'de, u8, Global>> as Typed>⟧.promise
             (input ⟦<IoReader<R> as Source>⟧.view de.old)
-            (input ⟦<IoReader<R> as Source>⟧.view de.new) result }
-        ensures progress { OnOk result
-            ((input ⟦<IoReader<R> as Source>⟧.view de.new).bound + 1
-            ≤ (input ⟦<IoReader<R> as Source>⟧.view de.old).bound) }
-        ensures stops { IfErr result (λ error. Stops (StopsString (codes "bytes") 2)
-            (input ⟦<IoReader<R> as Source>⟧.view de.old)
-            (input ⟦<IoReader<R> as Source>⟧.view de.new)
-            (as_core error)) }
+            (input ⟦<IoReader<R> as Source>⟧.view de.new) (answer_of result) }
         ensures copied { IfOk result IsOwnedBytes }
     {
         match de.deserialize_bytes(alloc) {

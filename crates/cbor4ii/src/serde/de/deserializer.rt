@@ -1,7 +1,7 @@
 //! A reader of typed values.
 ghost use Rattle.std.specs.Prelude.{◌≡◌};
-ghost use Rattle.cbor4ii.specs.ItemRead.{ReadsItem};
-ghost use Rattle.cbor4ii.specs.Typed.{input};
+ghost use Rattle.cbor4ii_items.specs.Decoding.{Decodes};
+ghost use Rattle.cbor4ii.specs.Typed.{input, answer_of};
 
 use crate::serde::de::error::{DecodeError, typed};
 use cbor4ii_items::decode::Decode;
@@ -38,8 +38,8 @@ pub(crate) fn take_item<S: Source, T: Decode<S>>(
     alloc: Global,
     de: &mut Deserializer<S>,
 ) -> Result<T, DecodeError<S::Error>>
-    ensures { ReadsItem T.spelling.reads T.spelling.stops T.spelling.never_empty T.spelling.owned
-        T.spelling.takes_memory (input S.view de.old) (input S.view de.new) result }
+    ensures { Decodes T.spelling
+        (input S.view de.old) (input S.view de.new) (answer_of result) }
 {
     typed(T::decode(alloc, &mut de.reader))
 }

@@ -15,7 +15,7 @@ ghost use Rattle.cbor4ii.specs.Accessing.{inside, lender_of, left_in, steps_held
 ghost use Rattle.cbor4ii.specs.Accessing.{Closes, Finishes};
 ghost use Rattle.cbor4ii.specs.Stepped.{Stepped, StopsStepped};
 ghost use Rattle.cbor4ii.specs.Tuples.{ReadsCountOf, StopsCountOf};
-ghost use Rattle.cbor4ii.specs.Typed.{input, answer_of, as_core, said};
+ghost use Rattle.cbor4ii.specs.Typed.{input, answer_of, as_core, said_by};
 ghost use Rattle.cbor4ii.specs.Variants.{inside_enum, reference_of_enum, deserializer_of_enum};
 ghost use Rattle.cbor4ii.specs.Variants.{lender_of_enum, form_of, with_content, ReadsForm};
 ghost use Rattle.cbor4ii.specs.Variants.{StopsForm, OpensEnum, ReadsContent, StopsContent};
@@ -239,15 +239,19 @@ impl<'a, S: Source> EnumAccessor<'a, S> {
         ensures moves { Moves (inside_enum S.view self.old) (inside_enum S.view self.new)
             (answer_of result) }
         ensures memory { IfErr result
-            (λ error. IsTrue (is_out_of_memory (as_core error)) → IsTrue V.takes_memory) }
+            (λ error. IsTrue (is_out_of_memory (as_core error)) →
+            IsTrue V.promise.spelling.takes_memory) }
         ensures progress { OnOk result
             ((inside_enum S.view self.new).bound + 1 ≤ (inside_enum S.view self.old).bound) }
         ensures sound { IfOk result
-            (Sound V.reads (inside_enum S.view self.old) (inside_enum S.view self.new)) }
-        ensures complete { IsTrue V.exact → IsExact V.owned (inside_enum S.view self.old) →
+            (Sound V.promise.spelling.reads (inside_enum S.view self.old)
+            (inside_enum S.view self.new)) }
+        ensures complete { IsTrue V.promise.exact → IsExact V.promise.spelling.owned
+            (inside_enum S.view self.old) →
             IfErr result (λ error.
-            Refuses V.reads (inside_enum S.view self.old) (as_core error)) }
-        ensures stops { IsTrue V.exact → IfErr result (λ error. Stops V.stops
+            Refuses V.promise.spelling.reads (inside_enum S.view self.old) (as_core error)) }
+        ensures stops { IsTrue V.promise.told → IfErr result
+            (λ error. Stops V.promise.spelling.begins
             (inside_enum S.view self.old) (inside_enum S.view self.new) (as_core error)) }
     {
         V::deserialize(alloc, self.de)
@@ -308,17 +312,21 @@ impl<'a, S: Source> EnumAccessor<'a, S> {
             SaysOther (form_of self.entry).1 (answer_of result)
             × Closes 1 (inside_enum S.view self.entry) (input S.view self.exit.0.now) }
         ensures memory { IfErr result
-            (λ error. IsTrue (is_out_of_memory (as_core error)) → IsTrue T.takes_memory) }
+            (λ error. IsTrue (is_out_of_memory (as_core error)) →
+            IsTrue T.promise.spelling.takes_memory) }
         ensures progress { OnOk result
             ((input S.view self.exit.0.now).bound + 1
             ≤ (inside_enum S.view self.entry).bound) }
-        ensures sound { IfOk result (Sound (ReadsContent (form_of self.entry).0 T.reads)
+        ensures sound { IfOk result (Sound (ReadsContent (form_of self.entry).0
+            T.promise.spelling.reads)
             (inside_enum S.view self.entry) (input S.view self.exit.0.now)) }
-        ensures complete { IsTrue T.exact → IsExact T.owned (inside_enum S.view self.entry) →
-            IfErr result (λ error. Refuses (ReadsContent (form_of self.entry).0 T.reads)
+        ensures complete { IsTrue T.promise.exact → IsExact T.promise.spelling.owned
+            (inside_enum S.view self.entry) →
+            IfErr result (λ error. Refuses (ReadsContent (form_of self.entry).0
+            T.promise.spelling.reads)
             (inside_enum S.view self.entry) (as_core error)) }
         ensures stops { IfErr result (λ error. Stops
-            (StopsContent (form_of self.entry) (said T.exact T.stops))
+            (StopsContent (form_of self.entry) (said_by T.promise))
             (inside_enum S.view self.entry) (input S.view self.exit.0.now) (as_core error)) }
     {
         if !self.content {

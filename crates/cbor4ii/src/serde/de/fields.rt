@@ -1,22 +1,23 @@
 //! Structs that are read from their named fields in one call.
-ghost use Rattle.std.specs.Prelude.{◌+◌, ◌≤◌, ◌&&◌, ℕ, List, [], ◌∷◌, Bool, true, Some, None};
-ghost use Rattle.std.specs.Prelude.{codes, OnOk, IfOk, IfErr, IsTrue};
+ghost use Rattle.std.specs.Prelude.{ℕ, ◌+◌, ◌≤◌, ◌&&◌, List, Bool, true, codes, OnOk, IfErr};
+ghost use Rattle.std.specs.Prelude.{IsTrue};
 ghost use Rattle.std.specs.Borrow.{Bor};
-ghost use Rattle.cbor4ii_items.specs.Decoding.{IsExact, Sound, Refuses, Stops};
+ghost use Rattle.cbor4ii_items.specs.Decoding.{IsExact, Refuses, Stops};
 ghost use Rattle.cbor4ii_items.specs.Laws.Containers.{both};
 ghost use Rattle.cbor4ii_items.specs.Moves.{Moves};
 ghost use Rattle.cbor4ii_items.specs.Sequences.{ReadsCount, ReadsUpToBreak, ReadsInside};
 ghost use Rattle.cbor4ii_items.specs.Sequences.{ReadsSequence, StopsCount, StopsUpToBreak};
 ghost use Rattle.cbor4ii_items.specs.Sequences.{StopsInside};
-ghost use Rattle.cbor4ii.specs.Fields.{ReadsNamed, no_field, no_fields, no_values, named_field};
-ghost use Rattle.cbor4ii.specs.Fields.{ReadsEntry, ReadsFields, Changes, Fills, fields_by};
-ghost use Rattle.cbor4ii.specs.Fields.{NamedLaws, SameField, no_field_laws, every, StopsNamed};
-ghost use Rattle.cbor4ii.specs.Fields.{no_field_stops, field_stops, stops_by, StopsEntry};
-ghost use Rattle.cbor4ii.specs.Fields.{StopsFields, fields_by_laws};
+ghost use Rattle.cbor4ii.specs.Fields.{ReadsNamed, no_field, no_values, ReadsEntry, Changes, Fills};
+ghost use Rattle.cbor4ii.specs.Fields.{fields_by, NamedLaws, SameField, no_field_laws, StopsNamed};
+ghost use Rattle.cbor4ii.specs.Fields.{no_field_stops, stops_by, StopsEntry, StopsFields};
+ghost use Rattle.cbor4ii.specs.Fields.{fields_by_laws};
 ghost use Rattle.cbor4ii.specs.Names.{StandsAt};
-ghost use Rattle.cbor4ii.specs.Typed.{input, answer_of, any_two, as_core, said};
+ghost use Rattle.cbor4ii.specs.Structs.{struct_of, field, no_more};
+ghost use Rattle.cbor4ii.specs.Typed.{input, answer_of, any_two, as_core, said_by, typed_laws};
+ghost use Rattle.cbor4ii.specs.Typed.{Deserializes};
 
-use crate::serde::de::deserialize::{Deserialize, Typed};
+use crate::serde::de::deserialize::Deserialize;
 use crate::serde::de::deserializer::Deserializer;
 use crate::serde::de::error::DecodeError;
 use crate::serde::de::names::take_name;
@@ -95,15 +96,15 @@ impl<S: Source> Values<S> for () {
 
 /// A field, and those behind it.
 impl<S: Source, T: Deserialize<S> + Drop, V: Values<S>> Values<S> for (Option<T>, V) {
-    ghost named = { fields_by T.reads V.named };
+    ghost named = { fields_by T.promise.spelling.reads V.named };
 
-    ghost stops = { stops_by (said T.exact T.stops) V.stops };
+    ghost stops = { stops_by (said_by T.promise) V.stops };
 
-    ghost same = { SameField T.same V.same };
+    ghost same = { SameField T.promise.spelling.same V.same };
 
-    ghost owned = { T.owned && V.owned };
+    ghost owned = { T.promise.spelling.owned && V.owned };
 
-    ghost exact = { T.exact && V.exact };
+    ghost exact = { T.promise.exact && V.exact };
 
     #[inline(always)]
     fn take(
@@ -131,7 +132,8 @@ impl<S: Source, T: Deserialize<S> + Drop, V: Values<S>> Values<S> for (Option<T>
     }
 
     ghost laws = { λ e. fields_by_laws V.named V.same
-        (T.Typed.laws (both T.exact V.exact e).0) (V.laws (both T.exact V.exact e).1) };
+        (typed_laws T.promise (both T.promise.exact V.exact e).0)
+        (V.laws (both T.promise.exact V.exact e).1) };
 }
 
 /// Reads a name and what stands behind it.
@@ -283,21 +285,9 @@ impl<S: Source> Deserializer<S> {
         name: StaticStr,
         first: StaticStr,
     ) -> Result<Option<A>, DecodeError<S::Error>>
-        ensures moves { Moves (input S.view self.old) (input S.view self.new) (answer_of result) }
-        ensures progress { OnOk result
-            ((input S.view self.new).bound + 1 ≤ (input S.view self.old).bound) }
-        ensures sound { IfOk result (λ values. Sound
-            (ReadsFields (None, no_values) (named_field first.now A.reads no_fields))
-            (input S.view self.old) (input S.view self.new) (values, no_values)) }
-        ensures complete { IsTrue (every (A.exact ∷ [])) →
-            IsExact (every (A.owned ∷ [])) (input S.view self.old) →
-            IfErr result (λ error. Refuses
-            (ReadsFields (None, no_values) (named_field first.now A.reads no_fields))
-            (input S.view self.old) (as_core error)) }
-        ensures stops { IfErr result (λ error. Stops
-            (StopsFields (named_field first.now A.reads no_fields)
-            (field_stops first.now (said A.exact A.stops) no_field_stops))
-            (input S.view self.old) (input S.view self.new) (as_core error)) }
+        ensures { Deserializes (struct_of (λ v. (v, no_values))
+            (field first.now A.promise no_more))
+            (input S.view self.old) (input S.view self.new) (answer_of result) }
     {
         let mut values = (None, ());
         match take_fields(alloc, self, &[first], &mut values) {
@@ -317,24 +307,9 @@ impl<S: Source> Deserializer<S> {
         first: StaticStr,
         second: StaticStr,
     ) -> Result<(Option<A>, Option<B>), DecodeError<S::Error>>
-        ensures moves { Moves (input S.view self.old) (input S.view self.new) (answer_of result) }
-        ensures progress { OnOk result
-            ((input S.view self.new).bound + 1 ≤ (input S.view self.old).bound) }
-        ensures sound { IfOk result (λ values. Sound
-            (ReadsFields (None, (None, no_values)) (named_field first.now A.reads (named_field
-            second.now B.reads no_fields)))
-            (input S.view self.old) (input S.view self.new) (values.0, (values.1, no_values))) }
-        ensures complete { IsTrue (every (A.exact ∷ B.exact ∷ [])) →
-            IsExact (every (A.owned ∷ B.owned ∷ [])) (input S.view self.old) →
-            IfErr result (λ error. Refuses
-            (ReadsFields (None, (None, no_values)) (named_field first.now A.reads (named_field
-            second.now B.reads no_fields)))
-            (input S.view self.old) (as_core error)) }
-        ensures stops { IfErr result (λ error. Stops
-            (StopsFields (named_field first.now A.reads (named_field second.now B.reads no_fields))
-            (field_stops first.now (said A.exact A.stops) (field_stops second.now (said B.exact
-            B.stops) no_field_stops)))
-            (input S.view self.old) (input S.view self.new) (as_core error)) }
+        ensures { Deserializes (struct_of (λ v. (v.0, (v.1, no_values)))
+            (field first.now A.promise (field second.now B.promise no_more)))
+            (input S.view self.old) (input S.view self.new) (answer_of result) }
     {
         let mut values = (None, (None, ()));
         match take_fields(alloc, self, &[first, second], &mut values) {
@@ -359,34 +334,10 @@ impl<S: Source> Deserializer<S> {
         second: StaticStr,
         third: StaticStr,
     ) -> Result<(Option<A>, Option<B>, Option<C>), DecodeError<S::Error>>
-        ensures moves { Moves (input S.view self.old) (input S.view self.new) (answer_of result) }
-        ensures progress { OnOk result
-            ((input S.view self.new).bound + 1 ≤ (input S.view self.old).bound) }
-        ensures sound { IfOk result (λ values. Sound
-            (ReadsFields (None, (None, (None, no_values))) (named_field first.now A.reads
-            (named_field second.now B.reads (named_field third.now C.reads no_fields))))
-            (input S.view self.old) (input S.view self.new) (
-              values.0,
-              (
-                values.1,
-                (
-                  values.2,
-                  no_values,
-                ),
-              ),
-            )) }
-        ensures complete { IsTrue (every (A.exact ∷ B.exact ∷ C.exact ∷ [])) →
-            IsExact (every (A.owned ∷ B.owned ∷ C.owned ∷ [])) (input S.view self.old) →
-            IfErr result (λ error. Refuses
-            (ReadsFields (None, (None, (None, no_values))) (named_field first.now A.reads
-            (named_field second.now B.reads (named_field third.now C.reads no_fields))))
-            (input S.view self.old) (as_core error)) }
-        ensures stops { IfErr result (λ error. Stops
-            (StopsFields (named_field first.now A.reads (named_field second.now B.reads
-            (named_field third.now C.reads no_fields)))
-            (field_stops first.now (said A.exact A.stops) (field_stops second.now (said B.exact
-            B.stops) (field_stops third.now (said C.exact C.stops) no_field_stops))))
-            (input S.view self.old) (input S.view self.new) (as_core error)) }
+        ensures { Deserializes (struct_of (λ v. (v.0, (v.1, (v.2, no_values))))
+            (field first.now A.promise (field second.now B.promise (field third.now C.promise
+            no_more))))
+            (input S.view self.old) (input S.view self.new) (answer_of result) }
     {
         let mut values = (None, (None, (None, ())));
         match take_fields(alloc, self, &[first, second, third], &mut values) {
@@ -413,37 +364,10 @@ impl<S: Source> Deserializer<S> {
         third: StaticStr,
         fourth: StaticStr,
     ) -> Result<(Option<A>, Option<B>, Option<C>, Option<D>), DecodeError<S::Error>>
-        ensures moves { Moves (input S.view self.old) (input S.view self.new) (answer_of result) }
-        ensures progress { OnOk result
-            ((input S.view self.new).bound + 1 ≤ (input S.view self.old).bound) }
-        ensures sound { IfOk result (λ values. Sound
-            (ReadsFields (None, (None, (None, (None, no_values)))) (named_field first.now A.reads
-            (named_field second.now B.reads (named_field third.now C.reads (named_field fourth.now
-            D.reads no_fields)))))
-            (input S.view self.old) (input S.view self.new) (
-              values.0,
-              (
-                values.1,
-                (
-                  values.2,
-                  (values.3, no_values),
-                ),
-              ),
-            )) }
-        ensures complete { IsTrue (every (A.exact ∷ B.exact ∷ C.exact ∷ D.exact ∷ [])) →
-            IsExact (every (A.owned ∷ B.owned ∷ C.owned ∷ D.owned ∷ [])) (input S.view self.old) →
-            IfErr result (λ error. Refuses
-            (ReadsFields (None, (None, (None, (None, no_values)))) (named_field first.now A.reads
-            (named_field second.now B.reads (named_field third.now C.reads (named_field fourth.now
-            D.reads no_fields)))))
-            (input S.view self.old) (as_core error)) }
-        ensures stops { IfErr result (λ error. Stops
-            (StopsFields (named_field first.now A.reads (named_field second.now B.reads
-            (named_field third.now C.reads (named_field fourth.now D.reads no_fields))))
-            (field_stops first.now (said A.exact A.stops) (field_stops second.now (said B.exact
-            B.stops) (field_stops third.now (said C.exact C.stops) (field_stops fourth.now (said
-            D.exact D.stops) no_field_stops)))))
-            (input S.view self.old) (input S.view self.new) (as_core error)) }
+        ensures { Deserializes (struct_of (λ v. (v.0, (v.1, (v.2, (v.3, no_values)))))
+            (field first.now A.promise (field second.now B.promise (field third.now C.promise
+            (field fourth.now D.promise no_more)))))
+            (input S.view self.old) (input S.view self.new) (answer_of result) }
     {
         let mut values = (None, (None, (None, (None, ()))));
         match take_fields(alloc, self, &[first, second, third, fourth], &mut values) {
@@ -472,39 +396,10 @@ impl<S: Source> Deserializer<S> {
         fourth: StaticStr,
         fifth: StaticStr,
     ) -> Result<(Option<A>, Option<B>, Option<C>, Option<D>, Option<E>), DecodeError<S::Error>>
-        ensures moves { Moves (input S.view self.old) (input S.view self.new) (answer_of result) }
-        ensures progress { OnOk result
-            ((input S.view self.new).bound + 1 ≤ (input S.view self.old).bound) }
-        ensures sound { IfOk result (λ values. Sound
-            (ReadsFields (None, (None, (None, (None, (None, no_values))))) (named_field first.now
-            A.reads (named_field second.now B.reads (named_field third.now C.reads (named_field
-            fourth.now D.reads (named_field fifth.now E.reads no_fields))))))
-            (input S.view self.old) (input S.view self.new) (
-              values.0,
-              (
-                values.1,
-                (
-                  values.2,
-                  (values.3, (values.4, no_values)),
-                ),
-              ),
-            )) }
-        ensures complete { IsTrue (every (A.exact ∷ B.exact ∷ C.exact ∷ D.exact ∷ E.exact ∷ [])) →
-            IsExact (every (A.owned ∷ B.owned ∷ C.owned ∷ D.owned ∷ E.owned ∷ [])) (input S.view
-            self.old) →
-            IfErr result (λ error. Refuses
-            (ReadsFields (None, (None, (None, (None, (None, no_values))))) (named_field first.now
-            A.reads (named_field second.now B.reads (named_field third.now C.reads (named_field
-            fourth.now D.reads (named_field fifth.now E.reads no_fields))))))
-            (input S.view self.old) (as_core error)) }
-        ensures stops { IfErr result (λ error. Stops
-            (StopsFields (named_field first.now A.reads (named_field second.now B.reads
-            (named_field third.now C.reads (named_field fourth.now D.reads (named_field fifth.now
-            E.reads no_fields)))))
-            (field_stops first.now (said A.exact A.stops) (field_stops second.now (said B.exact
-            B.stops) (field_stops third.now (said C.exact C.stops) (field_stops fourth.now (said
-            D.exact D.stops) (field_stops fifth.now (said E.exact E.stops) no_field_stops))))))
-            (input S.view self.old) (input S.view self.new) (as_core error)) }
+        ensures { Deserializes (struct_of (λ v. (v.0, (v.1, (v.2, (v.3, (v.4, no_values))))))
+            (field first.now A.promise (field second.now B.promise (field third.now C.promise
+            (field fourth.now D.promise (field fifth.now E.promise no_more))))))
+            (input S.view self.old) (input S.view self.new) (answer_of result) }
     {
         let mut values = (None, (None, (None, (None, (None, ())))));
         match take_fields(
@@ -550,43 +445,11 @@ impl<S: Source> Deserializer<S> {
         ),
         DecodeError<S::Error>,
     >
-        ensures moves { Moves (input S.view self.old) (input S.view self.new) (answer_of result) }
-        ensures progress { OnOk result
-            ((input S.view self.new).bound + 1 ≤ (input S.view self.old).bound) }
-        ensures sound { IfOk result (λ values. Sound
-            (ReadsFields (None, (None, (None, (None, (None, (None, no_values)))))) (named_field
-            first.now A.reads (named_field second.now B.reads (named_field third.now C.reads
-            (named_field fourth.now D.reads (named_field fifth.now E.reads (named_field sixth.now
-            F.reads no_fields)))))))
-            (input S.view self.old) (input S.view self.new) (
-              values.0,
-              (
-                values.1,
-                (
-                  values.2,
-                  (values.3, (values.4, (values.5, no_values))),
-                ),
-              ),
-            )) }
-        ensures complete { IsTrue (every (A.exact ∷ B.exact ∷ C.exact ∷ D.exact ∷ E.exact ∷
-            F.exact ∷ [])) →
-            IsExact (every (A.owned ∷ B.owned ∷ C.owned ∷ D.owned ∷ E.owned ∷ F.owned ∷ []))
-            (input S.view self.old) →
-            IfErr result (λ error. Refuses
-            (ReadsFields (None, (None, (None, (None, (None, (None, no_values)))))) (named_field
-            first.now A.reads (named_field second.now B.reads (named_field third.now C.reads
-            (named_field fourth.now D.reads (named_field fifth.now E.reads (named_field sixth.now
-            F.reads no_fields)))))))
-            (input S.view self.old) (as_core error)) }
-        ensures stops { IfErr result (λ error. Stops
-            (StopsFields (named_field first.now A.reads (named_field second.now B.reads
-            (named_field third.now C.reads (named_field fourth.now D.reads (named_field fifth.now
-            E.reads (named_field sixth.now F.reads no_fields))))))
-            (field_stops first.now (said A.exact A.stops) (field_stops second.now (said B.exact
-            B.stops) (field_stops third.now (said C.exact C.stops) (field_stops fourth.now (said
-            D.exact D.stops) (field_stops fifth.now (said E.exact E.stops) (field_stops sixth.now
-            (said F.exact F.stops) no_field_stops)))))))
-            (input S.view self.old) (input S.view self.new) (as_core error)) }
+        ensures { Deserializes (struct_of (λ v. (v.0, (v.1, (v.2, (v.3, (v.4, (v.5, no_values)))))))
+            (field first.now A.promise (field second.now B.promise (field third.now C.promise
+            (field fourth.now D.promise (field fifth.now E.promise (field sixth.now F.promise
+            no_more)))))))
+            (input S.view self.old) (input S.view self.new) (answer_of result) }
     {
         let mut values = (None, (None, (None, (None, (None, (None, ()))))));
         match take_fields(

@@ -1,5 +1,5 @@
 //! The value at the front of an input.
-ghost use Rattle.std.specs.Prelude.{◌≡◌, ◌<◌, ◌^◌, ◌⊎◌, List, ℕ, length, Some, true, IsTrue};
+ghost use Rattle.std.specs.Prelude.{ℕ, ◌≡◌, ◌<◌, ◌^◌, ◌⊎◌, List, length, Some, true, IsTrue};
 ghost use Rattle.cbor4ii_rw.specs.Stream.{most_bytes, cut_known};
 ghost use Rattle.cbor4ii.specs.First.{First, FirstOf, limit};
 
@@ -46,14 +46,15 @@ impl<'a> Input for &'a [u8] {
 ///
 /// `Core` of `OutOfMemory` where a growth was refused, of a type that takes memory; of `Read` only
 /// over an input of a user's own whose reader may fail. Any other error comes, of an exact type,
-/// only where no value of the type whose steps are at most 256 begins the slice, and is the one
-/// that the type's `stops` says.
+/// only where no value of the type whose steps are at most 256 begins the slice. Of a type that
+/// tells its refusals it is the one that `begins` of its spelling says.
 pub fn from_slice<I: Input, T: Deserialize<I::Reader>>(
     alloc: Global,
     input: I,
 ) -> Result<T, DecodeError<<I::Reader as Source>::Error>>
-    ensures { First T.reads T.stops T.exact T.takes_memory
-        (IsTrue T.owned ⊎ (length (I.bytes input) < 2 ^ 64)) (Some (I.bytes input)) result }
+    ensures { First T.promise
+        (IsTrue T.promise.spelling.owned ⊎ (length (I.bytes input) < 2 ^ 64)) (Some (I.bytes input))
+        result }
 {
     read_first(alloc, input.reader())
 }
@@ -65,14 +66,14 @@ pub fn from_slice<I: Input, T: Deserialize<I::Reader>>(
 /// # Errors
 ///
 /// `Core` of `Read` where the stream failed, and of `OutOfMemory` where a growth was refused, of a
-/// type that takes memory. Any other error is, of an exact type, the one that the type's `stops`
-/// says, and comes, if the type needs no borrowed part, only where no value of the type whose steps
-/// are at most 256 begins these bytes.
+/// type that takes memory. Of a type that tells its refusals, any other error is the one that
+/// `begins` of its spelling says. Of an exact type that needs no borrowed part, it comes only where
+/// no value of the type whose steps are at most 256 begins these bytes.
 pub fn from_reader<R: BufRead + Drop, T: Deserialize<IoReader<R>>>(
     alloc: Global,
     reader: R,
 ) -> Result<T, DecodeError<io::Error>>
-    ensures { First T.reads T.stops T.exact T.takes_memory (IsTrue T.owned)
+    ensures { First T.promise (IsTrue T.promise.spelling.owned)
         (cut_known most_bytes (R.Read.remaining reader)) result }
 {
     read_first(alloc, IoReader::new(reader))
@@ -84,7 +85,7 @@ fn read_first<S: Source + Drop, T: Deserialize<S>>(
     reader: S,
 ) -> Result<T, DecodeError<S::Error>>
     ensures { (S.view reader).budget ≡ Some limit →
-        FirstOf T.reads T.stops T.exact T.owned T.takes_memory (S.view reader) result }
+        FirstOf T.promise (S.view reader) result }
 {
     let mut de = Deserializer::new(reader);
     T::deserialize(alloc, &mut de)

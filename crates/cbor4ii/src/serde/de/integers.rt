@@ -1,10 +1,12 @@
 //! Integers, read as the codec reads them.
-ghost use Rattle.std.specs.Prelude.{◌^◌, true};
-ghost use Rattle.cbor4ii_items.specs.Laws.Arguments.{argument_one, argument_within, zero_small};
-ghost use Rattle.cbor4ii_items.specs.Laws.Arguments.{argument_positive};
-ghost use Rattle.cbor4ii_items.specs.Laws.Signed.{signed_one, signed_within, signed_positive};
-ghost use Rattle.cbor4ii_items.specs.Laws.Bignums.{u128_one, u128_within, u128_positive, i128_one};
-ghost use Rattle.cbor4ii_items.specs.Laws.Bignums.{i128_within, i128_positive};
+ghost use Rattle.std.specs.Prelude.{◌^◌, codes};
+ghost use Rattle.std.proofs.Common.{refl};
+ghost use Rattle.cbor4ii_items.specs.Laws.Arguments.{zero_small, argument_lawful};
+ghost use Rattle.cbor4ii_items.specs.Laws.Bignums.{u128_one, u128_within, u128_positive};
+ghost use Rattle.cbor4ii_items.specs.Laws.Bignums.{u128_alone, i128_one, i128_within};
+ghost use Rattle.cbor4ii_items.specs.Laws.Bignums.{i128_positive, i128_alone};
+ghost use Rattle.cbor4ii_items.specs.Laws.Signed.{signed_lawful};
+ghost use Rattle.cbor4ii.specs.Typed.{exactly};
 
 use crate::serde::de::deserialize::{Deserialize, Typed};
 use crate::serde::de::deserializer::{Deserializer, take_item};
@@ -14,23 +16,7 @@ use cbor4ii_rw::read::Source;
 use std::alloc::Global;
 
 impl Typed for u8 {
-    ghost reads = { ⟦<u8 as Spelled>⟧.spelling.reads };
-
-    ghost stops = { ⟦<u8 as Spelled>⟧.spelling.stops };
-
-    ghost same = { ⟦<u8 as Spelled>⟧.spelling.same };
-
-    ghost owned = { true };
-
-    ghost takes_memory = { ⟦<u8 as Spelled>⟧.spelling.takes_memory };
-
-    ghost exact = { true };
-
-    ghost laws = { λ _. record {
-      one = argument_one 0 1 zero_small;
-      within = argument_within 0 1 zero_small;
-      positive = λ _. argument_positive 0 1 zero_small;
-    } };
+    ghost promise = { exactly refl (argument_lawful (codes "u8") 0 1 zero_small) };
 }
 
 /// An unsigned integer whose argument has at most one byte, whether or not in its shortest head
@@ -47,23 +33,7 @@ impl<S: Source> Deserialize<S> for u8 {
 }
 
 impl Typed for u16 {
-    ghost reads = { ⟦<u16 as Spelled>⟧.spelling.reads };
-
-    ghost stops = { ⟦<u16 as Spelled>⟧.spelling.stops };
-
-    ghost same = { ⟦<u16 as Spelled>⟧.spelling.same };
-
-    ghost owned = { true };
-
-    ghost takes_memory = { ⟦<u16 as Spelled>⟧.spelling.takes_memory };
-
-    ghost exact = { true };
-
-    ghost laws = { λ _. record {
-      one = argument_one 0 2 zero_small;
-      within = argument_within 0 2 zero_small;
-      positive = λ _. argument_positive 0 2 zero_small;
-    } };
+    ghost promise = { exactly refl (argument_lawful (codes "u16") 0 2 zero_small) };
 }
 
 /// An unsigned integer whose argument has at most two bytes: read and refused as a `u8` is, by the
@@ -76,23 +46,7 @@ impl<S: Source> Deserialize<S> for u16 {
 }
 
 impl Typed for u32 {
-    ghost reads = { ⟦<u32 as Spelled>⟧.spelling.reads };
-
-    ghost stops = { ⟦<u32 as Spelled>⟧.spelling.stops };
-
-    ghost same = { ⟦<u32 as Spelled>⟧.spelling.same };
-
-    ghost owned = { true };
-
-    ghost takes_memory = { ⟦<u32 as Spelled>⟧.spelling.takes_memory };
-
-    ghost exact = { true };
-
-    ghost laws = { λ _. record {
-      one = argument_one 0 4 zero_small;
-      within = argument_within 0 4 zero_small;
-      positive = λ _. argument_positive 0 4 zero_small;
-    } };
+    ghost promise = { exactly refl (argument_lawful (codes "u32") 0 4 zero_small) };
 }
 
 /// An unsigned integer whose argument has at most four bytes: read and refused as a `u8` is, by the
@@ -105,23 +59,7 @@ impl<S: Source> Deserialize<S> for u32 {
 }
 
 impl Typed for u64 {
-    ghost reads = { ⟦<u64 as Spelled>⟧.spelling.reads };
-
-    ghost stops = { ⟦<u64 as Spelled>⟧.spelling.stops };
-
-    ghost same = { ⟦<u64 as Spelled>⟧.spelling.same };
-
-    ghost owned = { true };
-
-    ghost takes_memory = { ⟦<u64 as Spelled>⟧.spelling.takes_memory };
-
-    ghost exact = { true };
-
-    ghost laws = { λ _. record {
-      one = argument_one 0 8 zero_small;
-      within = argument_within 0 8 zero_small;
-      positive = λ _. argument_positive 0 8 zero_small;
-    } };
+    ghost promise = { exactly refl (argument_lawful (codes "u64") 0 8 zero_small) };
 }
 
 /// An unsigned integer whose argument has at most eight bytes: read and refused as a `u8` is, by
@@ -134,23 +72,12 @@ impl<S: Source> Deserialize<S> for u64 {
 }
 
 impl Typed for u128 {
-    ghost reads = { ⟦<u128 as Spelled>⟧.spelling.reads };
-
-    ghost stops = { ⟦<u128 as Spelled>⟧.spelling.stops };
-
-    ghost same = { ⟦<u128 as Spelled>⟧.spelling.same };
-
-    ghost owned = { true };
-
-    ghost takes_memory = { ⟦<u128 as Spelled>⟧.spelling.takes_memory };
-
-    ghost exact = { true };
-
-    ghost laws = { λ _. record {
+    ghost promise = { exactly {spelling = ⟦<u128 as Spelled>⟧.spelling} refl (record {
       one = u128_one;
       within = u128_within;
       positive = λ _. u128_positive;
-    } };
+      alone = λ _. u128_alone;
+    }) };
 }
 
 /// An unsigned integer of any head, or a bignum of tag 2, of at most 16 bytes (RFC 8949 sections
@@ -167,23 +94,8 @@ impl<S: Source> Deserialize<S> for u128 {
 }
 
 impl Typed for i8 {
-    ghost reads = { ⟦<i8 as Spelled>⟧.spelling.reads };
-
-    ghost stops = { ⟦<i8 as Spelled>⟧.spelling.stops };
-
-    ghost same = { ⟦<i8 as Spelled>⟧.spelling.same };
-
-    ghost owned = { true };
-
-    ghost takes_memory = { ⟦<i8 as Spelled>⟧.spelling.takes_memory };
-
-    ghost exact = { true };
-
-    ghost laws = { λ _. record {
-      one = signed_one 1 (2 ^ 7);
-      within = signed_within 1 (2 ^ 7);
-      positive = λ _. signed_positive 1 (2 ^ 7);
-    } };
+    ghost promise = { exactly refl
+        (signed_lawful (codes "i8") (codes "+i8") (codes "-i8") 1 (2 ^ 7)) };
 }
 
 /// An integer of major type 0, or a negative one of major type 1, whose argument has at most one
@@ -204,23 +116,8 @@ impl<S: Source> Deserialize<S> for i8 {
 }
 
 impl Typed for i16 {
-    ghost reads = { ⟦<i16 as Spelled>⟧.spelling.reads };
-
-    ghost stops = { ⟦<i16 as Spelled>⟧.spelling.stops };
-
-    ghost same = { ⟦<i16 as Spelled>⟧.spelling.same };
-
-    ghost owned = { true };
-
-    ghost takes_memory = { ⟦<i16 as Spelled>⟧.spelling.takes_memory };
-
-    ghost exact = { true };
-
-    ghost laws = { λ _. record {
-      one = signed_one 2 (2 ^ 15);
-      within = signed_within 2 (2 ^ 15);
-      positive = λ _. signed_positive 2 (2 ^ 15);
-    } };
+    ghost promise = { exactly refl
+        (signed_lawful (codes "i16") (codes "+i16") (codes "-i16") 2 (2 ^ 15)) };
 }
 
 /// An integer whose argument has at most two bytes and is below 2^15: read and refused as an `i8`
@@ -234,23 +131,8 @@ impl<S: Source> Deserialize<S> for i16 {
 }
 
 impl Typed for i32 {
-    ghost reads = { ⟦<i32 as Spelled>⟧.spelling.reads };
-
-    ghost stops = { ⟦<i32 as Spelled>⟧.spelling.stops };
-
-    ghost same = { ⟦<i32 as Spelled>⟧.spelling.same };
-
-    ghost owned = { true };
-
-    ghost takes_memory = { ⟦<i32 as Spelled>⟧.spelling.takes_memory };
-
-    ghost exact = { true };
-
-    ghost laws = { λ _. record {
-      one = signed_one 4 (2 ^ 31);
-      within = signed_within 4 (2 ^ 31);
-      positive = λ _. signed_positive 4 (2 ^ 31);
-    } };
+    ghost promise = { exactly refl
+        (signed_lawful (codes "i32") (codes "+i32") (codes "-i32") 4 (2 ^ 31)) };
 }
 
 /// An integer whose argument has at most four bytes and is below 2^31: read and refused as an `i8`
@@ -264,23 +146,8 @@ impl<S: Source> Deserialize<S> for i32 {
 }
 
 impl Typed for i64 {
-    ghost reads = { ⟦<i64 as Spelled>⟧.spelling.reads };
-
-    ghost stops = { ⟦<i64 as Spelled>⟧.spelling.stops };
-
-    ghost same = { ⟦<i64 as Spelled>⟧.spelling.same };
-
-    ghost owned = { true };
-
-    ghost takes_memory = { ⟦<i64 as Spelled>⟧.spelling.takes_memory };
-
-    ghost exact = { true };
-
-    ghost laws = { λ _. record {
-      one = signed_one 8 (2 ^ 63);
-      within = signed_within 8 (2 ^ 63);
-      positive = λ _. signed_positive 8 (2 ^ 63);
-    } };
+    ghost promise = { exactly refl
+        (signed_lawful (codes "i64") (codes "+i64") (codes "-i64") 8 (2 ^ 63)) };
 }
 
 /// An integer whose argument has at most eight bytes and is below 2^63: read and refused as an `i8`
@@ -294,23 +161,12 @@ impl<S: Source> Deserialize<S> for i64 {
 }
 
 impl Typed for i128 {
-    ghost reads = { ⟦<i128 as Spelled>⟧.spelling.reads };
-
-    ghost stops = { ⟦<i128 as Spelled>⟧.spelling.stops };
-
-    ghost same = { ⟦<i128 as Spelled>⟧.spelling.same };
-
-    ghost owned = { true };
-
-    ghost takes_memory = { ⟦<i128 as Spelled>⟧.spelling.takes_memory };
-
-    ghost exact = { true };
-
-    ghost laws = { λ _. record {
+    ghost promise = { exactly {spelling = ⟦<i128 as Spelled>⟧.spelling} refl (record {
       one = i128_one;
       within = i128_within;
       positive = λ _. i128_positive;
-    } };
+      alone = λ _. i128_alone;
+    }) };
 }
 
 /// An integer of any head, or a bignum of tag 2, or of tag 3 for a negative one, of at most 16

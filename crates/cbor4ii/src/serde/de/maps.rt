@@ -1,17 +1,10 @@
 //! Maps, read as ordered maps.
-ghost use Rattle.std.specs.Prelude.{◌≡◌, ◌+◌, ◌≤◌, true, codes, ◌&&◌, IfOk, IfErr, OnOk, IsTrue};
+ghost use Rattle.std.specs.Prelude.{◌≡◌, codes, IfOk, OnOk};
+ghost use Rattle.std.proofs.Common.{refl};
 ghost use Rattle.std.specs.BTreeMap.{insert_entry};
-ghost use Rattle.std.specs.declared.alloc.Global.{Global};
-ghost use Rattle.cbor4ii_items.specs.Laws.Containers.{both};
-ghost use Rattle.cbor4ii_items.specs.Decoding.{IsExact, Sound, Refuses, Stops};
-ghost use Rattle.cbor4ii_items.specs.Moves.{Moves};
-ghost use Rattle.cbor4ii_items.specs.Refusal.{is_out_of_memory};
-ghost use Rattle.cbor4ii_items.specs.Sequences.{ReadsPair, StopsPair, SamePair};
-ghost use Rattle.cbor4ii.specs.Beginning.{StopsParts};
-ghost use Rattle.cbor4ii.specs.Typed.{input, answer_of, as_core, said};
-ghost use Rattle.cbor4ii.specs.Built.{built, ReadsBTreeMap, SameBTreeMap, btree_laws};
-ghost use Rattle.cbor4ii.specs.Tuples.{pair_laws};
+ghost use Rattle.cbor4ii.specs.Built.{built};
 ghost use Rattle.cbor4ii.specs.Sequence.{five_small};
+ghost use Rattle.cbor4ii.specs.TypedParts.{telling, two_of, typed_map};
 
 use crate::serde::de::deserialize::{Deserialize, Typed};
 use crate::serde::de::deserializer::Deserializer;
@@ -25,37 +18,14 @@ use std::alloc::{AllocError, Global};
 use std::collections::BTreeMap;
 
 impl<K: Typed + Ord, V: Typed> Typed for BTreeMap<K, V> {
-    ghost reads = { ReadsBTreeMap (λ m. m.entries) K.cmp K.reads V.reads };
-
-    ghost stops = { StopsParts (codes "map") (codes "map") 5 (ReadsPair K.reads V.reads)
-        (StopsPair K.reads (said K.exact K.stops) (said V.exact V.stops)) };
-
-    ghost same = { SameBTreeMap (λ m. m.entries) K.cmp K.same V.same };
-
-    ghost owned = { K.owned && V.owned };
-
-    ghost takes_memory = { true };
-
-    ghost exact = { K.exact && V.exact };
-
-    ghost laws = { λ e. btree_laws (λ m. m.entries) K.cmp K.reads V.reads K.same V.same
-        (pair_laws K.reads V.reads K.same V.same true true
-        (K.Typed.laws (both K.exact V.exact e).0) (V.laws (both K.exact V.exact e).1)) };
+    ghost promise = { typed_map (λ m. m.entries) K.cmp K.promise V.promise };
 }
 
 impl<S: Source, K: Deserialize<S> + Ord + Drop, V: Deserialize<S> + Drop> Sequence<S>
     for BTreeMap<K, V> {
     type Part = (K, V);
 
-    ghost reads = { ReadsPair K.reads V.reads };
-
-    ghost stops = { StopsPair K.reads (said K.exact K.stops) (said V.exact V.stops) };
-
-    ghost same = { SamePair K.same V.same };
-
-    ghost owned = { K.owned && V.owned };
-
-    ghost exact = { K.exact && V.exact };
+    ghost part = { two_of (telling K.promise) (telling V.promise) };
 
     ghost major = { 5 };
 
@@ -71,8 +41,7 @@ impl<S: Source, K: Deserialize<S> + Ord + Drop, V: Deserialize<S> + Drop> Sequen
         two_parts::<S, K, V>(alloc, de)
     }
 
-    ghost laws = { λ e. pair_laws K.reads V.reads K.same V.same true true
-        (K.Typed.laws (both K.exact V.exact e).0) (V.laws (both K.exact V.exact e).1) };
+    ghost told = { refl };
 
     ghost small = { five_small };
 }
@@ -91,25 +60,7 @@ impl<S: Source, K: Deserialize<S> + Ord + Drop, V: Deserialize<S> + Drop> Deseri
     fn deserialize(
         alloc: Global,
         de: &mut Deserializer<S>,
-    ) -> Result<BTreeMap<K, V>, DecodeError<S::Error>>
-        ensures moves { Moves (input S.view de.old) (input S.view de.new) (answer_of result) }
-        ensures progress { OnOk result
-            ((input S.view de.new).bound + 1 ≤ (input S.view de.old).bound) }
-        ensures memory { IfErr result
-            (λ error. IsTrue (is_out_of_memory (as_core error)) → IsTrue true) }
-        ensures sound { IfOk result (Sound
-            (ReadsBTreeMap (λ (m : BTreeMap K V Global). m.entries) K.cmp K.reads V.reads)
-            (input S.view de.old) (input S.view de.new)) }
-        ensures complete { IsTrue (K.exact && V.exact) →
-            IsExact (K.owned && V.owned) (input S.view de.old) → IfErr result
-            (λ error. Refuses
-            (ReadsBTreeMap (λ (m : BTreeMap K V Global). m.entries) K.cmp K.reads V.reads)
-            (input S.view de.old) (as_core error)) }
-        ensures stops { IfErr result (λ error. Stops (StopsParts (codes "map") (codes "map") 5
-            (ReadsPair K.reads V.reads)
-            (StopsPair K.reads (said K.exact K.stops) (said V.exact V.stops)))
-            (input S.view de.old) (input S.view de.new) (as_core error)) }
-    {
+    ) -> Result<BTreeMap<K, V>, DecodeError<S::Error>> {
         match take_sequence::<S, BTreeMap<K, V>>(alloc, de, "map") {
             Ok(pairs) => match put_all(alloc, pairs) {
                 Ok(map) => Ok(map),

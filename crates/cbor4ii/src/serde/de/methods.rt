@@ -1,10 +1,7 @@
 //! What a deserializer reads by name: one item each, as the codec's own types read it.
-ghost use Rattle.std.specs.Prelude.{◌≡◌, ◌+◌, ◌≤◌, true, false, OnOk, IfOk, IfErr, IsTrue};
-ghost use Rattle.cbor4ii_items.specs.Moves.{Moves};
-ghost use Rattle.cbor4ii_items.specs.Decoding.{IsExact, Sound, Refuses, Stops};
-ghost use Rattle.cbor4ii_items.specs.Refusal.{is_out_of_memory};
-ghost use Rattle.cbor4ii.specs.ItemRead.{ReadsItem};
-ghost use Rattle.cbor4ii.specs.Typed.{input, answer_of, as_core};
+ghost use Rattle.std.specs.Prelude.{◌≡◌, false};
+ghost use Rattle.cbor4ii_items.specs.Decoding.{Decodes};
+ghost use Rattle.cbor4ii.specs.Typed.{input, answer_of, Deserializes};
 
 use crate::serde::de::deserialize::Deserialize;
 use crate::serde::de::deserializer::{Deserializer, take_item};
@@ -23,9 +20,8 @@ impl<S: Source> Deserializer<S> {
     /// False or true. Refused by the name "bool": `Eof` with 1 where no byte is left, and
     /// `Mismatch` with the next byte, which stays, where it is neither.
     pub fn deserialize_bool(&mut self, alloc: Global) -> Result<bool, DecodeError<S::Error>>
-        ensures { ReadsItem ⟦<bool as Spelled>⟧.spelling.reads
-            ⟦<bool as Spelled>⟧.spelling.stops true true ⟦<bool as Spelled>⟧.spelling.takes_memory
-            (input S.view self.old) (input S.view self.new) result }
+        ensures { Decodes ⟦<bool as Spelled>⟧.spelling
+            (input S.view self.old) (input S.view self.new) (answer_of result) }
     {
         take_item(alloc, self)
     }
@@ -33,9 +29,8 @@ impl<S: Source> Deserializer<S> {
     /// An unsigned integer whose argument has at most one byte, refused by the name "u8":
     /// `Eof` or `Mismatch`, as for every head.
     pub fn deserialize_u8(&mut self, alloc: Global) -> Result<u8, DecodeError<S::Error>>
-        ensures { ReadsItem ⟦<u8 as Spelled>⟧.spelling.reads
-            ⟦<u8 as Spelled>⟧.spelling.stops true true ⟦<u8 as Spelled>⟧.spelling.takes_memory
-            (input S.view self.old) (input S.view self.new) result }
+        ensures { Decodes ⟦<u8 as Spelled>⟧.spelling
+            (input S.view self.old) (input S.view self.new) (answer_of result) }
     {
         take_item(alloc, self)
     }
@@ -43,9 +38,8 @@ impl<S: Source> Deserializer<S> {
     /// An unsigned integer whose argument has at most two bytes, refused by the name "u16":
     /// `Eof` or `Mismatch`, as for every head.
     pub fn deserialize_u16(&mut self, alloc: Global) -> Result<u16, DecodeError<S::Error>>
-        ensures { ReadsItem ⟦<u16 as Spelled>⟧.spelling.reads
-            ⟦<u16 as Spelled>⟧.spelling.stops true true ⟦<u16 as Spelled>⟧.spelling.takes_memory
-            (input S.view self.old) (input S.view self.new) result }
+        ensures { Decodes ⟦<u16 as Spelled>⟧.spelling
+            (input S.view self.old) (input S.view self.new) (answer_of result) }
     {
         take_item(alloc, self)
     }
@@ -53,9 +47,8 @@ impl<S: Source> Deserializer<S> {
     /// An unsigned integer whose argument has at most four bytes, refused by the name "u32":
     /// `Eof` or `Mismatch`, as for every head.
     pub fn deserialize_u32(&mut self, alloc: Global) -> Result<u32, DecodeError<S::Error>>
-        ensures { ReadsItem ⟦<u32 as Spelled>⟧.spelling.reads
-            ⟦<u32 as Spelled>⟧.spelling.stops true true ⟦<u32 as Spelled>⟧.spelling.takes_memory
-            (input S.view self.old) (input S.view self.new) result }
+        ensures { Decodes ⟦<u32 as Spelled>⟧.spelling
+            (input S.view self.old) (input S.view self.new) (answer_of result) }
     {
         take_item(alloc, self)
     }
@@ -63,63 +56,56 @@ impl<S: Source> Deserializer<S> {
     /// An unsigned integer whose argument has at most eight bytes, refused by the name "u64":
     /// `Eof` or `Mismatch`, as for every head.
     pub fn deserialize_u64(&mut self, alloc: Global) -> Result<u64, DecodeError<S::Error>>
-        ensures { ReadsItem ⟦<u64 as Spelled>⟧.spelling.reads
-            ⟦<u64 as Spelled>⟧.spelling.stops true true ⟦<u64 as Spelled>⟧.spelling.takes_memory
-            (input S.view self.old) (input S.view self.new) result }
+        ensures { Decodes ⟦<u64 as Spelled>⟧.spelling
+            (input S.view self.old) (input S.view self.new) (answer_of result) }
     {
         take_item(alloc, self)
     }
 
     /// An unsigned integer, or a bignum below 2^128 (tag 2), refused as `u128` is.
     pub fn deserialize_u128(&mut self, alloc: Global) -> Result<u128, DecodeError<S::Error>>
-        ensures { ReadsItem ⟦<u128 as Spelled>⟧.spelling.reads
-            ⟦<u128 as Spelled>⟧.spelling.stops true true ⟦<u128 as Spelled>⟧.spelling.takes_memory
-            (input S.view self.old) (input S.view self.new) result }
+        ensures { Decodes ⟦<u128 as Spelled>⟧.spelling
+            (input S.view self.old) (input S.view self.new) (answer_of result) }
     {
         take_item(alloc, self)
     }
 
     /// An integer whose argument has at most one byte, in the range of i8, refused as `i8` is.
     pub fn deserialize_i8(&mut self, alloc: Global) -> Result<i8, DecodeError<S::Error>>
-        ensures { ReadsItem ⟦<i8 as Spelled>⟧.spelling.reads
-            ⟦<i8 as Spelled>⟧.spelling.stops true true ⟦<i8 as Spelled>⟧.spelling.takes_memory
-            (input S.view self.old) (input S.view self.new) result }
+        ensures { Decodes ⟦<i8 as Spelled>⟧.spelling
+            (input S.view self.old) (input S.view self.new) (answer_of result) }
     {
         take_item(alloc, self)
     }
 
     /// An integer whose argument has at most two bytes, in the range of i16, refused as `i16` is.
     pub fn deserialize_i16(&mut self, alloc: Global) -> Result<i16, DecodeError<S::Error>>
-        ensures { ReadsItem ⟦<i16 as Spelled>⟧.spelling.reads
-            ⟦<i16 as Spelled>⟧.spelling.stops true true ⟦<i16 as Spelled>⟧.spelling.takes_memory
-            (input S.view self.old) (input S.view self.new) result }
+        ensures { Decodes ⟦<i16 as Spelled>⟧.spelling
+            (input S.view self.old) (input S.view self.new) (answer_of result) }
     {
         take_item(alloc, self)
     }
 
     /// An integer whose argument has at most four bytes, in the range of i32, refused as `i32` is.
     pub fn deserialize_i32(&mut self, alloc: Global) -> Result<i32, DecodeError<S::Error>>
-        ensures { ReadsItem ⟦<i32 as Spelled>⟧.spelling.reads
-            ⟦<i32 as Spelled>⟧.spelling.stops true true ⟦<i32 as Spelled>⟧.spelling.takes_memory
-            (input S.view self.old) (input S.view self.new) result }
+        ensures { Decodes ⟦<i32 as Spelled>⟧.spelling
+            (input S.view self.old) (input S.view self.new) (answer_of result) }
     {
         take_item(alloc, self)
     }
 
     /// An integer whose argument has at most eight bytes, in the range of i64, refused as `i64` is.
     pub fn deserialize_i64(&mut self, alloc: Global) -> Result<i64, DecodeError<S::Error>>
-        ensures { ReadsItem ⟦<i64 as Spelled>⟧.spelling.reads
-            ⟦<i64 as Spelled>⟧.spelling.stops true true ⟦<i64 as Spelled>⟧.spelling.takes_memory
-            (input S.view self.old) (input S.view self.new) result }
+        ensures { Decodes ⟦<i64 as Spelled>⟧.spelling
+            (input S.view self.old) (input S.view self.new) (answer_of result) }
     {
         take_item(alloc, self)
     }
 
     /// An integer, or a bignum (tags 2 and 3) in the range of i128, refused as `i128` is.
     pub fn deserialize_i128(&mut self, alloc: Global) -> Result<i128, DecodeError<S::Error>>
-        ensures { ReadsItem ⟦<i128 as Spelled>⟧.spelling.reads
-            ⟦<i128 as Spelled>⟧.spelling.stops true true ⟦<i128 as Spelled>⟧.spelling.takes_memory
-            (input S.view self.old) (input S.view self.new) result }
+        ensures { Decodes ⟦<i128 as Spelled>⟧.spelling
+            (input S.view self.old) (input S.view self.new) (answer_of result) }
     {
         take_item(alloc, self)
     }
@@ -128,9 +114,8 @@ impl<S: Source> Deserializer<S> {
     /// left; `Mismatch` with the next byte, which stays, where it begins no such float; `Eof` with
     /// 2 where fewer than two bytes follow it, nothing being left then.
     pub fn deserialize_f16(&mut self, alloc: Global) -> Result<F16, DecodeError<S::Error>>
-        ensures { ReadsItem ⟦<F16 as Spelled>⟧.spelling.reads
-            ⟦<F16 as Spelled>⟧.spelling.stops true true ⟦<F16 as Spelled>⟧.spelling.takes_memory
-            (input S.view self.old) (input S.view self.new) result }
+        ensures { Decodes ⟦<F16 as Spelled>⟧.spelling
+            (input S.view self.old) (input S.view self.new) (answer_of result) }
     {
         take_item(alloc, self)
     }
@@ -138,9 +123,8 @@ impl<S: Source> Deserializer<S> {
     /// A float of four bytes, as its bits, refused as `deserialize_f16` is, by the name "f32" and
     /// with 4 in the place of 2.
     pub fn deserialize_f32(&mut self, alloc: Global) -> Result<F32, DecodeError<S::Error>>
-        ensures { ReadsItem ⟦<F32 as Spelled>⟧.spelling.reads
-            ⟦<F32 as Spelled>⟧.spelling.stops true true ⟦<F32 as Spelled>⟧.spelling.takes_memory
-            (input S.view self.old) (input S.view self.new) result }
+        ensures { Decodes ⟦<F32 as Spelled>⟧.spelling
+            (input S.view self.old) (input S.view self.new) (answer_of result) }
     {
         take_item(alloc, self)
     }
@@ -148,9 +132,8 @@ impl<S: Source> Deserializer<S> {
     /// A float of eight bytes, as its bits, refused as `deserialize_f16` is, by the name "f64" and
     /// with 8 in the place of 2.
     pub fn deserialize_f64(&mut self, alloc: Global) -> Result<F64, DecodeError<S::Error>>
-        ensures { ReadsItem ⟦<F64 as Spelled>⟧.spelling.reads
-            ⟦<F64 as Spelled>⟧.spelling.stops true true ⟦<F64 as Spelled>⟧.spelling.takes_memory
-            (input S.view self.old) (input S.view self.new) result }
+        ensures { Decodes ⟦<F64 as Spelled>⟧.spelling
+            (input S.view self.old) (input S.view self.new) (answer_of result) }
     {
         take_item(alloc, self)
     }
@@ -158,10 +141,8 @@ impl<S: Source> Deserializer<S> {
     /// A text, of known or indefinite length; one of indefinite length needs a step for its chunks.
     /// Refused as `String` is, by the name "str" where that has no other.
     pub fn deserialize_string(&mut self, alloc: Global) -> Result<String, DecodeError<S::Error>>
-        ensures { ReadsItem ⟦<String as Spelled>⟧.spelling.reads
-            ⟦<String as Spelled>⟧.spelling.stops true true
-            ⟦<String as Spelled>⟧.spelling.takes_memory
-            (input S.view self.old) (input S.view self.new) result }
+        ensures { Decodes ⟦<String as Spelled>⟧.spelling
+            (input S.view self.old) (input S.view self.new) (answer_of result) }
     {
         take_item(alloc, self)
     }
@@ -172,18 +153,8 @@ impl<S: Source> Deserializer<S> {
         alloc: Global,
         name: StaticStr,
     ) -> Result<T, DecodeError<S::Error>>
-        ensures moves { Moves (input S.view self.old) (input S.view self.new) (answer_of result) }
-        ensures progress { OnOk result
-            ((input S.view self.new).bound + 1 ≤ (input S.view self.old).bound) }
-        ensures memory { IfErr result
-            (λ error. IsTrue (is_out_of_memory (as_core error)) → IsTrue T.takes_memory) }
-        ensures sound { IfOk result
-            (Sound T.reads (input S.view self.old) (input S.view self.new)) }
-        ensures complete { IsTrue T.exact → IsExact T.owned (input S.view self.old) →
-            IfErr result
-            (λ error. Refuses T.reads (input S.view self.old) (as_core error)) }
-        ensures stops { IsTrue T.exact → IfErr result (λ error.
-            Stops T.stops (input S.view self.old) (input S.view self.new) (as_core error)) }
+        ensures { Deserializes T.promise
+            (input S.view self.old) (input S.view self.new) (answer_of result) }
     {
         T::deserialize(alloc, self)
     }

@@ -1,12 +1,5 @@
 //! Values that may be absent.
-ghost use Rattle.std.specs.Prelude.{◌+◌, ◌≤◌, OnOk, IfOk, IfErr, IsTrue};
-ghost use Rattle.cbor4ii_items.specs.Containers.{ReadsOption, SameOption};
-ghost use Rattle.cbor4ii_items.specs.Decoding.{IsExact, Sound, Refuses, Stops};
-ghost use Rattle.cbor4ii_items.specs.Moves.{Moves};
-ghost use Rattle.cbor4ii_items.specs.Refusal.{is_out_of_memory};
-ghost use Rattle.cbor4ii.specs.Beginning.{StopsPresent};
-ghost use Rattle.cbor4ii.specs.Typed.{input, answer_of, as_core, said};
-ghost use Rattle.cbor4ii.specs.Stepped.{Stepped, stepped_laws, option_laws};
+ghost use Rattle.cbor4ii.specs.TypedParts.{typed_option};
 
 use crate::serde::de::deserialize::{Deserialize, Typed};
 use crate::serde::de::deserializer::Deserializer;
@@ -18,19 +11,7 @@ use cbor4ii_rw::read::Source;
 use std::alloc::Global;
 
 impl<T: Typed> Typed for Option<T> {
-    ghost reads = { ReadsOption (Stepped T.reads) };
-
-    ghost stops = { StopsPresent (said T.exact T.stops) };
-
-    ghost same = { SameOption T.same };
-
-    ghost owned = { T.owned };
-
-    ghost takes_memory = { T.takes_memory };
-
-    ghost exact = { T.exact };
-
-    ghost laws = { λ e. option_laws (Stepped T.reads) T.same (stepped_laws (T.laws e)) };
+    ghost promise = { typed_option T.promise };
 }
 
 /// Null and undefined are none, and take no step. Before any other byte a value is read, under a
@@ -44,20 +25,7 @@ impl<S: Source, T: Deserialize<S>> Deserialize<S> for Option<T> {
     fn deserialize(
         alloc: Global,
         de: &mut Deserializer<S>,
-    ) -> Result<Option<T>, DecodeError<S::Error>>
-        ensures moves { Moves (input S.view de.old) (input S.view de.new) (answer_of result) }
-        ensures progress { OnOk result
-            ((input S.view de.new).bound + 1 ≤ (input S.view de.old).bound) }
-        ensures memory { IfErr result
-            (λ error. IsTrue (is_out_of_memory (as_core error)) → IsTrue T.takes_memory) }
-        ensures sound { IfOk result (Sound (ReadsOption (Stepped T.reads))
-            (input S.view de.old) (input S.view de.new)) }
-        ensures complete { IsTrue T.exact → IsExact T.owned (input S.view de.old) →
-            IfErr result (λ error. Refuses (ReadsOption (Stepped T.reads))
-            (input S.view de.old) (as_core error)) }
-        ensures stops { IfErr result (λ error. Stops (StopsPresent (said T.exact T.stops))
-            (input S.view de.old) (input S.view de.new) (as_core error)) }
-    {
+    ) -> Result<Option<T>, DecodeError<S::Error>> {
         match peek(&mut de.reader, "option") {
             Ok(first) => {
                 if first == marker::NULL || first == marker::UNDEFINED {

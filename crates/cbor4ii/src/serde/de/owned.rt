@@ -1,35 +1,19 @@
 //! Owned texts and byte strings.
-ghost use Rattle.std.specs.Prelude.{true};
+ghost use Rattle.std.specs.Prelude.{codes};
+ghost use Rattle.std.proofs.Common.{refl};
 ghost use Rattle.cbor4ii_items.specs.Strings.{text_content, bytes_content};
-ghost use Rattle.cbor4ii_items.specs.Laws.Strings.{two_small, as_one, as_within, as_positive};
-ghost use Rattle.cbor4ii_items.specs.Laws.Strings.{text_one, text_within, text_positive};
+ghost use Rattle.cbor4ii_items.specs.Laws.Strings.{two_small, text_lawful, as_lawful};
+ghost use Rattle.cbor4ii.specs.Typed.{exactly};
 
 use crate::serde::de::deserialize::{Deserialize, Typed};
 use crate::serde::de::deserializer::{Deserializer, take_item};
 use crate::serde::de::error::DecodeError;
-use cbor4ii_items::decode::Spelled;
 use cbor4ii_items::types::Bytes;
 use cbor4ii_rw::read::Source;
 use std::alloc::Global;
 
 impl Typed for String {
-    ghost reads = { ⟦<String as Spelled>⟧.spelling.reads };
-
-    ghost stops = { ⟦<String as Spelled>⟧.spelling.stops };
-
-    ghost same = { ⟦<String as Spelled>⟧.spelling.same };
-
-    ghost owned = { true };
-
-    ghost takes_memory = { ⟦<String as Spelled>⟧.spelling.takes_memory };
-
-    ghost exact = { true };
-
-    ghost laws = { λ _. record {
-      one = text_one text_content;
-      within = text_within text_content;
-      positive = λ _. text_positive text_content;
-    } };
+    ghost promise = { exactly refl (text_lawful (codes "str") text_content) };
 }
 
 /// A text that is UTF-8, of known or of indefinite length (RFC 8949 sections 3.1 and 3.2.3). Each
@@ -57,23 +41,7 @@ impl<S: Source> Deserialize<S> for String {
 }
 
 impl Typed for Bytes<Vec<u8>> {
-    ghost reads = { ⟦<Bytes<Vec<u8>> as Spelled>⟧.spelling.reads };
-
-    ghost stops = { ⟦<Bytes<Vec<u8>> as Spelled>⟧.spelling.stops };
-
-    ghost same = { ⟦<Bytes<Vec<u8>> as Spelled>⟧.spelling.same };
-
-    ghost owned = { true };
-
-    ghost takes_memory = { ⟦<Bytes<Vec<u8>> as Spelled>⟧.spelling.takes_memory };
-
-    ghost exact = { true };
-
-    ghost laws = { λ _. record {
-      one = as_one 2 two_small bytes_content;
-      within = as_within 2 two_small bytes_content;
-      positive = λ _. as_positive 2 two_small bytes_content;
-    } };
+    ghost promise = { exactly refl (as_lawful (codes "bytes") 2 two_small bytes_content) };
 }
 
 /// A byte string, of known or of indefinite length (RFC 8949 sections 3.1 and 3.2.3): read and

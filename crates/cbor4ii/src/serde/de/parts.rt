@@ -1,8 +1,8 @@
 //! What arrays and maps share, read into a vector of their parts.
-ghost use Rattle.std.specs.Prelude.{◌≡◌, ℕ, ◌+◌, ◌≤◌, ◌<◌, List, Bool, true, false, Option, OnOk};
-ghost use Rattle.std.specs.Prelude.{IfOk, IfErr, IsTrue};
+ghost use Rattle.std.specs.Prelude.{ℕ, ◌≡◌, ◌+◌, ◌≤◌, ◌<◌, List, true, false, OnOk, IfOk, IfErr};
+ghost use Rattle.std.specs.Prelude.{IsTrue};
 ghost use Rattle.cbor4ii_items.specs.Moves.{Moves};
-ghost use Rattle.cbor4ii_items.specs.Decoding.{StopsAt, IsExact, Sound, Refuses, Stops, Decodes};
+ghost use Rattle.cbor4ii_items.specs.Decoding.{IsExact, Sound, Refuses, Stops, Decodes};
 ghost use Rattle.cbor4ii_items.specs.Lengths.{length_spelling};
 ghost use Rattle.cbor4ii_items.specs.Reading.{Runs};
 ghost use Rattle.cbor4ii_items.specs.ReadStrings.{break_at};
@@ -12,7 +12,7 @@ ghost use Rattle.cbor4ii_items.specs.Sequences.{ReadsSequence, StopsCount, Stops
 ghost use Rattle.cbor4ii_items.specs.Sequences.{StopsInside};
 ghost use Rattle.cbor4ii.specs.ItemRead.{AddsPart};
 ghost use Rattle.cbor4ii.specs.Beginning.{StopsParts};
-ghost use Rattle.cbor4ii.specs.Typed.{input, answer_of, as_core, Lawful};
+ghost use Rattle.cbor4ii.specs.Typed.{input, answer_of, as_core, Deserializes, Promise};
 
 use crate::serde::de::deserializer::Deserializer;
 use crate::serde::de::error::DecodeError;
@@ -28,17 +28,8 @@ pub(crate) trait Sequence<S: Source>: Sized {
     /// An item, or a key and its value.
     type Part: Drop;
 
-    // What a part is read as.
-    ghost reads: { List ℕ → Self.Part → ℕ → ℕ → Type 0 };
-
-    // How a part is refused.
-    ghost stops: { StopsAt };
-
-    ghost same: { Self.Part → Self.Part → Type 0 };
-
-    ghost owned: { Bool };
-
-    ghost exact: { Bool };
+    // What a part promises. It tells its refusals.
+    ghost part: { Promise Self.Part };
 
     // The major type.
     ghost major: { ℕ };
@@ -56,17 +47,11 @@ pub(crate) trait Sequence<S: Source>: Sized {
         alloc: Global,
         de: &mut Deserializer<S>,
     ) -> Result<Self::Part, DecodeError<S::Error>>
-        ensures moves { Moves (input S.view de.old) (input S.view de.new) (answer_of result) }
-        ensures progress { OnOk result
-            ((input S.view de.new).bound + 1 ≤ (input S.view de.old).bound) }
-        ensures sound { IfOk result (Sound Self.reads (input S.view de.old) (input S.view de.new)) }
-        ensures complete { IsTrue Self.exact → IsExact Self.owned (input S.view de.old) →
-            IfErr result
-            (λ error. Refuses Self.reads (input S.view de.old) (as_core error)) }
-        ensures stops { IfErr result (λ error.
-            Stops Self.stops (input S.view de.old) (input S.view de.new) (as_core error)) };
+        ensures { Deserializes Self.part
+            (input S.view de.old) (input S.view de.new) (answer_of result) };
 
-    ghost laws: { IsTrue Self.exact → Lawful Self.reads Self.same true };
+    // It does so whatever its own parts tell.
+    ghost told: { IsTrue Self.part.told };
 
     ghost small: { Self.major < 8 };
 }
@@ -80,13 +65,13 @@ pub(crate) fn take_sequence<S: Source, Q: Sequence<S>>(
 ) -> Result<Vec<Q::Part>, DecodeError<S::Error>>
     ensures moves { Moves (input S.view de.old) (input S.view de.new) (answer_of result) }
     ensures progress { OnOk result ((input S.view de.new).bound + 1 ≤ (input S.view de.old).bound) }
-    ensures sound { IfOk result (λ parts. Sound (ReadsSequence Q.major Q.reads true)
+    ensures sound { IfOk result (λ parts. Sound (ReadsSequence Q.major Q.part.spelling.reads true)
         (input S.view de.old) (input S.view de.new) parts.items) }
-    ensures complete { IsTrue Q.exact → IsExact Q.owned (input S.view de.old) →
-        IfErr result (λ error. Refuses (ReadsSequence Q.major Q.reads true)
+    ensures complete { IsTrue Q.part.exact → IsExact Q.part.spelling.owned (input S.view de.old) →
+        IfErr result (λ error. Refuses (ReadsSequence Q.major Q.part.spelling.reads true)
         (input S.view de.old) (as_core error)) }
     ensures stops { IfErr result (λ error.
-        Stops (StopsParts step.now Q.name Q.major Q.reads Q.stops)
+        Stops (StopsParts step.now Q.name Q.major Q.part.spelling.reads Q.part.spelling.begins)
         (input S.view de.old) (input S.view de.new) (as_core error)) }
 {
     if !de.reader.step_in() {
@@ -105,13 +90,14 @@ fn take_inside<S: Source, Q: Sequence<S>>(
 ) -> Result<Vec<Q::Part>, DecodeError<S::Error>>
     ensures moves { Moves (input S.view de.old) (input S.view de.new) (answer_of result) }
     ensures progress { OnOk result ((input S.view de.new).bound + 1 ≤ (input S.view de.old).bound) }
-    ensures sound { IfOk result (λ parts. Sound (ReadsInside Q.major Q.reads true)
+    ensures sound { IfOk result (λ parts. Sound (ReadsInside Q.major Q.part.spelling.reads true)
         (input S.view de.old) (input S.view de.new) parts.items) }
-    ensures complete { IsTrue Q.exact → IsExact Q.owned (input S.view de.old) →
+    ensures complete { IsTrue Q.part.exact → IsExact Q.part.spelling.owned (input S.view de.old) →
         IfErr result (λ error.
-        Refuses (ReadsInside Q.major Q.reads true) (input S.view de.old) (as_core error)) }
+        Refuses (ReadsInside Q.major Q.part.spelling.reads true) (input S.view de.old)
+        (as_core error)) }
     ensures stops { IfErr result (λ error.
-        Stops (StopsInside Q.name Q.major Q.reads Q.stops true)
+        Stops (StopsInside Q.name Q.major Q.part.spelling.reads Q.part.spelling.begins true)
         (input S.view de.old) (input S.view de.new) (as_core error)) }
 {
     match Q::take_length(&mut de.reader) {
@@ -129,12 +115,13 @@ fn take_counted<S: Source, Q: Sequence<S>>(
     count: usize,
 ) -> Result<Vec<Q::Part>, DecodeError<S::Error>>
     ensures moves { Moves (input S.view de.old) (input S.view de.new) (answer_of result) }
-    ensures sound { IfOk result (λ parts. Sound (ReadsCount Q.reads count)
+    ensures sound { IfOk result (λ parts. Sound (ReadsCount Q.part.spelling.reads count)
         (input S.view de.old) (input S.view de.new) parts.items) }
-    ensures complete { IsTrue Q.exact → IsExact Q.owned (input S.view de.old) →
+    ensures complete { IsTrue Q.part.exact → IsExact Q.part.spelling.owned (input S.view de.old) →
         IfErr result (λ error.
-        Refuses (ReadsCount Q.reads count) (input S.view de.old) (as_core error)) }
-    ensures stops { IfErr result (λ error. Stops (StopsCount Q.reads Q.stops count)
+        Refuses (ReadsCount Q.part.spelling.reads count) (input S.view de.old) (as_core error)) }
+    ensures stops { IfErr result (λ error. Stops
+        (StopsCount Q.part.spelling.reads Q.part.spelling.begins count)
         (input S.view de.old) (input S.view de.new) (as_core error)) }
 {
     let mut parts = Vec::new(alloc);
@@ -153,13 +140,13 @@ fn take_open<S: Source, Q: Sequence<S>>(
     de: &mut Deserializer<S>,
 ) -> Result<Vec<Q::Part>, DecodeError<S::Error>>
     ensures moves { Moves (input S.view de.old) (input S.view de.new) (answer_of result) }
-    ensures sound { IfOk result (λ parts. Sound (ReadsUpToBreak Q.reads true)
+    ensures sound { IfOk result (λ parts. Sound (ReadsUpToBreak Q.part.spelling.reads true)
         (input S.view de.old) (input S.view de.new) parts.items) }
-    ensures complete { IsTrue Q.exact → IsExact Q.owned (input S.view de.old) →
+    ensures complete { IsTrue Q.part.exact → IsExact Q.part.spelling.owned (input S.view de.old) →
         IfErr result (λ error.
-        Refuses (ReadsUpToBreak Q.reads true) (input S.view de.old) (as_core error)) }
+        Refuses (ReadsUpToBreak Q.part.spelling.reads true) (input S.view de.old) (as_core error)) }
     ensures stops { IfErr result (λ error.
-        Stops (StopsUpToBreak Q.name Q.reads Q.stops true)
+        Stops (StopsUpToBreak Q.name Q.part.spelling.reads Q.part.spelling.begins true)
         (input S.view de.old) (input S.view de.new) (as_core error)) }
 {
     let mut parts = Vec::new(alloc);
@@ -193,12 +180,13 @@ fn add_part<S: Source, Q: Sequence<S>>(
     ensures moves { Moves (input S.view de.old) (input S.view de.new) (answer_of result) }
     ensures progress { OnOk result ((input S.view de.new).bound + 1 ≤ (input S.view de.old).bound) }
     ensures sound { OnOk result
-        (AddsPart Q.reads parts.old.items parts.new.items
+        (AddsPart Q.part.spelling.reads parts.old.items parts.new.items
         (input S.view de.old) (input S.view de.new)) }
-    ensures complete { IsTrue Q.exact → IsExact Q.owned (input S.view de.old) →
-        IfErr result (λ error. Refuses Q.reads (input S.view de.old) (as_core error)) }
+    ensures complete { IsTrue Q.part.exact → IsExact Q.part.spelling.owned (input S.view de.old) →
+        IfErr result (λ error.
+        Refuses Q.part.spelling.reads (input S.view de.old) (as_core error)) }
     ensures stops { IfErr result (λ error.
-        Stops Q.stops (input S.view de.old) (input S.view de.new) (as_core error)) }
+        Stops Q.part.spelling.begins (input S.view de.old) (input S.view de.new) (as_core error)) }
 {
     let part = Q::take_part(alloc, de)?;
     match parts.push(part) {

@@ -1,34 +1,20 @@
 //! Booleans, and floats as their bits.
-ghost use Rattle.std.specs.Prelude.{true};
-ghost use Rattle.cbor4ii_items.specs.Simple.{bool_one, bool_within, bool_positive};
-ghost use Rattle.cbor4ii_items.specs.Floats.{float_one, float_within, float_positive};
+ghost use Rattle.std.specs.Prelude.{codes};
+ghost use Rattle.std.proofs.Common.{refl};
+ghost use Rattle.cbor4ii_items.specs.Simple.{bool_lawful};
+ghost use Rattle.cbor4ii_items.specs.Floats.{float_spelling, float_lawful};
+ghost use Rattle.cbor4ii_items.specs.Laws.Spellings.{lawful_by};
+ghost use Rattle.cbor4ii.specs.Typed.{exactly};
 
 use crate::serde::de::deserialize::{Deserialize, Typed};
 use crate::serde::de::deserializer::{Deserializer, take_item};
 use crate::serde::de::error::DecodeError;
-use cbor4ii_items::decode::Spelled;
 use cbor4ii_items::types::{F16, F32, F64};
 use cbor4ii_rw::read::Source;
 use std::alloc::Global;
 
 impl Typed for bool {
-    ghost reads = { ⟦<bool as Spelled>⟧.spelling.reads };
-
-    ghost stops = { ⟦<bool as Spelled>⟧.spelling.stops };
-
-    ghost same = { ⟦<bool as Spelled>⟧.spelling.same };
-
-    ghost owned = { true };
-
-    ghost takes_memory = { ⟦<bool as Spelled>⟧.spelling.takes_memory };
-
-    ghost exact = { true };
-
-    ghost laws = { λ _. record {
-      one = bool_one;
-      within = bool_within;
-      positive = λ _. bool_positive;
-    } };
+    ghost promise = { exactly refl bool_lawful };
 }
 
 /// False or true, in one byte (RFC 8949 section 3.3). It takes no step.
@@ -43,23 +29,8 @@ impl<S: Source> Deserialize<S> for bool {
 }
 
 impl Typed for F16 {
-    ghost reads = { ⟦<F16 as Spelled>⟧.spelling.reads };
-
-    ghost stops = { ⟦<F16 as Spelled>⟧.spelling.stops };
-
-    ghost same = { ⟦<F16 as Spelled>⟧.spelling.same };
-
-    ghost owned = { true };
-
-    ghost takes_memory = { ⟦<F16 as Spelled>⟧.spelling.takes_memory };
-
-    ghost exact = { true };
-
-    ghost laws = { λ _. record {
-      one = λ xs v w. float_one 0xf9 2 xs v.0 w.0;
-      within = λ xs v. float_within 0xf9 2 xs v.0;
-      positive = λ _ xs v. float_positive 0xf9 2 xs v.0;
-    } };
+    ghost promise = { exactly refl (lawful_by (λ v. v.0)
+        (float_spelling (codes "f16") 0xf9 2) (float_lawful (codes "f16") 0xf9 2)) };
 }
 
 /// A float of two bytes, as its bits (RFC 8949 section 3.3). It takes no step.
@@ -75,23 +46,8 @@ impl<S: Source> Deserialize<S> for F16 {
 }
 
 impl Typed for F32 {
-    ghost reads = { ⟦<F32 as Spelled>⟧.spelling.reads };
-
-    ghost stops = { ⟦<F32 as Spelled>⟧.spelling.stops };
-
-    ghost same = { ⟦<F32 as Spelled>⟧.spelling.same };
-
-    ghost owned = { true };
-
-    ghost takes_memory = { ⟦<F32 as Spelled>⟧.spelling.takes_memory };
-
-    ghost exact = { true };
-
-    ghost laws = { λ _. record {
-      one = λ xs v w. float_one 0xfa 4 xs v.0 w.0;
-      within = λ xs v. float_within 0xfa 4 xs v.0;
-      positive = λ _ xs v. float_positive 0xfa 4 xs v.0;
-    } };
+    ghost promise = { exactly refl (lawful_by (λ v. v.0)
+        (float_spelling (codes "f32") 0xfa 4) (float_lawful (codes "f32") 0xfa 4)) };
 }
 
 /// A float of four bytes, as its bits (RFC 8949 section 3.3). It takes no step.
@@ -107,23 +63,8 @@ impl<S: Source> Deserialize<S> for F32 {
 }
 
 impl Typed for F64 {
-    ghost reads = { ⟦<F64 as Spelled>⟧.spelling.reads };
-
-    ghost stops = { ⟦<F64 as Spelled>⟧.spelling.stops };
-
-    ghost same = { ⟦<F64 as Spelled>⟧.spelling.same };
-
-    ghost owned = { true };
-
-    ghost takes_memory = { ⟦<F64 as Spelled>⟧.spelling.takes_memory };
-
-    ghost exact = { true };
-
-    ghost laws = { λ _. record {
-      one = λ xs v w. float_one 0xfb 8 xs v.0 w.0;
-      within = λ xs v. float_within 0xfb 8 xs v.0;
-      positive = λ _ xs v. float_positive 0xfb 8 xs v.0;
-    } };
+    ghost promise = { exactly refl (lawful_by (λ v. v.0)
+        (float_spelling (codes "f64") 0xfb 8) (float_lawful (codes "f64") 0xfb 8)) };
 }
 
 /// A float of eight bytes, as its bits (RFC 8949 section 3.3). It takes no step.

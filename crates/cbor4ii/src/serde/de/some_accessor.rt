@@ -1,6 +1,6 @@
 //! Values that may be absent, of which first is read whether one comes.
-ghost use Rattle.std.specs.Prelude.{[], ◌≡◌, ◌≤◌, ◌+◌, false, Ok, None, IfOk, IfErr, IsTrue};
-ghost use Rattle.std.specs.Prelude.{OnErr, OnSome};
+ghost use Rattle.std.specs.Prelude.{[], ◌≡◌, ◌≤◌, ◌+◌, false, Ok, None, IfOk, IfErr, IsTrue, OnErr};
+ghost use Rattle.std.specs.Prelude.{OnSome};
 ghost use Rattle.std.specs.Borrow.{sem, Lends, RestsIfErr};
 ghost use mir.Syntax.{named};
 ghost use Rattle.cbor4ii_rw.specs.Reader.{Breaks};
@@ -133,16 +133,21 @@ impl<'a, S: Source> SomeAccessor<'a, S> {
         ensures absent { comes self.entry ≡ false → (result ≡ Ok None)
             × (input S.view self.exit.0.now ≡ inside_some S.view self.entry) }
         ensures memory { IfErr result
-            (λ error. IsTrue (is_out_of_memory (as_core error)) → IsTrue T.takes_memory) }
+            (λ error. IsTrue (is_out_of_memory (as_core error)) →
+            IsTrue T.promise.spelling.takes_memory) }
         ensures progress { IfOk result (λ value. OnSome value
             ((input S.view self.exit.0.now).bound + 1
             ≤ (inside_some S.view self.entry).bound)) }
-        ensures sound { IfOk result (Sound (ReadsComingValue (comes self.entry) T.reads)
+        ensures sound { IfOk result (Sound (ReadsComingValue (comes self.entry)
+            T.promise.spelling.reads)
             (inside_some S.view self.entry) (input S.view self.exit.0.now)) }
-        ensures complete { IsTrue T.exact → IsExact T.owned (inside_some S.view self.entry) →
-            IfErr result (λ error. Refuses (ReadsComingValue (comes self.entry) T.reads)
+        ensures complete { IsTrue T.promise.exact → IsExact T.promise.spelling.owned
+            (inside_some S.view self.entry) →
+            IfErr result (λ error. Refuses (ReadsComingValue (comes self.entry)
+            T.promise.spelling.reads)
             (inside_some S.view self.entry) (as_core error)) }
-        ensures stops { IsTrue T.exact → IfErr result (λ error. Stops T.stops
+        ensures stops { IsTrue T.promise.told → IfErr result
+            (λ error. Stops T.promise.spelling.begins
             (inside_some S.view self.entry) (input S.view self.exit.0.now) (as_core error)) }
     {
         if !self.some {

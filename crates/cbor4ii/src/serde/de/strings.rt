@@ -1,13 +1,13 @@
 //! What a deserializer reads as texts and byte strings by name. Those that may be borrowed are
 //! there for each reader of `cbor4ii_rw` by name.
-ghost use Rattle.std.specs.Prelude.{true, codes, IfOk};
+ghost use Rattle.std.specs.Prelude.{codes, IfOk};
 ghost use Rattle.std.specs.Cow.{IsBorrowedStr, IsOwnedStr, cow_slice_items, IsBorrowedSlice};
 ghost use Rattle.std.specs.Cow.{IsOwnedSlice};
 ghost use Rattle.cbor4ii_items.specs.Cow.{BorrowsWhereCounted, cow_text, cow_bytes};
-ghost use Rattle.cbor4ii_items.specs.Strings.{ReadsAs, ReadsTextAs, StopsString, StopsText};
+ghost use Rattle.cbor4ii_items.specs.Strings.{as_spelling, text_spelling};
+ghost use Rattle.cbor4ii_items.specs.Decoding.{Decodes};
 ghost use Rattle.cbor4ii.specs.Borrowed.{Copies, Unwraps};
-ghost use Rattle.cbor4ii.specs.ItemRead.{ReadsItem};
-ghost use Rattle.cbor4ii.specs.Typed.{input};
+ghost use Rattle.cbor4ii.specs.Typed.{input, answer_of};
 
 use crate::serde::de::deserializer::{Deserializer, take_item};
 use crate::serde::de::error::{DecodeError, typed};
@@ -28,8 +28,8 @@ impl<S: Source> Deserializer<S> {
     /// A byte string, of known or indefinite length; one of indefinite length needs a step for its
     /// chunks. Refused as `Bytes<Vec<u8>>` is, by the name "bytes" where that has no other.
     pub fn deserialize_byte_buf(&mut self, alloc: Global) -> Result<Vec<u8>, DecodeError<S::Error>>
-        ensures { ReadsItem (ReadsAs 2 (λ v. v.items)) (StopsString (codes "bytes") 2)
-            true true true (input S.view self.old) (input S.view self.new) result }
+        ensures { Decodes (as_spelling (codes "bytes") 2 (λ v. v.items))
+            (input S.view self.old) (input S.view self.new) (answer_of result) }
     {
         unwrapped(<Bytes<Vec<u8>>>::decode(alloc, &mut self.reader))
     }
@@ -53,9 +53,9 @@ impl<'de> Deserializer<SliceReader<'de>> {
         &mut self,
         alloc: Global,
     ) -> Result<CowStr<'de, Global>, DecodeError<Never>>
-        ensures item { ReadsItem (ReadsTextAs cow_text) (StopsText (codes "str")) true true true
+        ensures item { Decodes (text_spelling (codes "str") cow_text)
             (input ⟦<SliceReader<'de> as Source>⟧.view self.old)
-            (input ⟦<SliceReader<'de> as Source>⟧.view self.new) result }
+            (input ⟦<SliceReader<'de> as Source>⟧.view self.new) (answer_of result) }
         ensures borrows { IfOk result (BorrowsWhereCounted 3 IsBorrowedStr IsOwnedStr
             (input ⟦<SliceReader<'de> as Source>⟧.view self.old)) }
     {
@@ -67,9 +67,9 @@ impl<'de> Deserializer<SliceReader<'de>> {
         &mut self,
         alloc: Global,
     ) -> Result<CowStr<'de, Global>, DecodeError<Never>>
-        ensures item { ReadsItem (ReadsTextAs cow_text) (StopsText (codes "str")) true true true
+        ensures item { Decodes (text_spelling (codes "str") cow_text)
             (input ⟦<SliceReader<'de> as Source>⟧.view self.old)
-            (input ⟦<SliceReader<'de> as Source>⟧.view self.new) result }
+            (input ⟦<SliceReader<'de> as Source>⟧.view self.new) (answer_of result) }
         ensures borrows { IfOk result (BorrowsWhereCounted 3 IsBorrowedStr IsOwnedStr
             (input ⟦<SliceReader<'de> as Source>⟧.view self.old)) }
     {
@@ -83,10 +83,9 @@ impl<'de> Deserializer<SliceReader<'de>> {
         &mut self,
         alloc: Global,
     ) -> Result<CowSlice<'de, u8, Global>, DecodeError<Never>>
-        ensures item { ReadsItem (ReadsAs 2 cow_slice_items) (StopsString (codes "bytes") 2)
-            true true true
+        ensures item { Decodes (as_spelling (codes "bytes") 2 cow_slice_items)
             (input ⟦<SliceReader<'de> as Source>⟧.view self.old)
-            (input ⟦<SliceReader<'de> as Source>⟧.view self.new) result }
+            (input ⟦<SliceReader<'de> as Source>⟧.view self.new) (answer_of result) }
         ensures borrows { IfOk result (BorrowsWhereCounted 2 IsBorrowedSlice IsOwnedSlice
             (input ⟦<SliceReader<'de> as Source>⟧.view self.old)) }
     {
@@ -102,9 +101,9 @@ impl<'de> Deserializer<SegmentReader<'de>> {
         &mut self,
         alloc: Global,
     ) -> Result<CowStr<'de, Global>, DecodeError<Never>>
-        ensures item { ReadsItem (ReadsTextAs cow_text) (StopsText (codes "str")) true true true
+        ensures item { Decodes (text_spelling (codes "str") cow_text)
             (input ⟦<SegmentReader<'de> as Source>⟧.view self.old)
-            (input ⟦<SegmentReader<'de> as Source>⟧.view self.new) result }
+            (input ⟦<SegmentReader<'de> as Source>⟧.view self.new) (answer_of result) }
         ensures borrows { IfOk result (BorrowsWhereCounted 3 IsBorrowedStr IsOwnedStr
             (input ⟦<SegmentReader<'de> as Source>⟧.view self.old)) }
     {
@@ -116,9 +115,9 @@ impl<'de> Deserializer<SegmentReader<'de>> {
         &mut self,
         alloc: Global,
     ) -> Result<CowStr<'de, Global>, DecodeError<Never>>
-        ensures item { ReadsItem (ReadsTextAs cow_text) (StopsText (codes "str")) true true true
+        ensures item { Decodes (text_spelling (codes "str") cow_text)
             (input ⟦<SegmentReader<'de> as Source>⟧.view self.old)
-            (input ⟦<SegmentReader<'de> as Source>⟧.view self.new) result }
+            (input ⟦<SegmentReader<'de> as Source>⟧.view self.new) (answer_of result) }
         ensures borrows { IfOk result (BorrowsWhereCounted 3 IsBorrowedStr IsOwnedStr
             (input ⟦<SegmentReader<'de> as Source>⟧.view self.old)) }
     {
@@ -131,10 +130,9 @@ impl<'de> Deserializer<SegmentReader<'de>> {
         &mut self,
         alloc: Global,
     ) -> Result<CowSlice<'de, u8, Global>, DecodeError<Never>>
-        ensures item { ReadsItem (ReadsAs 2 cow_slice_items) (StopsString (codes "bytes") 2)
-            true true true
+        ensures item { Decodes (as_spelling (codes "bytes") 2 cow_slice_items)
             (input ⟦<SegmentReader<'de> as Source>⟧.view self.old)
-            (input ⟦<SegmentReader<'de> as Source>⟧.view self.new) result }
+            (input ⟦<SegmentReader<'de> as Source>⟧.view self.new) (answer_of result) }
         ensures borrows { IfOk result (BorrowsWhereCounted 2 IsBorrowedSlice IsOwnedSlice
             (input ⟦<SegmentReader<'de> as Source>⟧.view self.old)) }
     {
@@ -149,9 +147,9 @@ impl<R: BufRead + Drop> Deserializer<IoReader<R>> {
         &mut self,
         alloc: Global,
     ) -> Result<CowStr<'de, Global>, DecodeError<io::Error>>
-        ensures item { ReadsItem (ReadsTextAs cow_text) (StopsText (codes "str")) true true true
+        ensures item { Decodes (text_spelling (codes "str") cow_text)
             (input ⟦<IoReader<R> as Source>⟧.view self.old)
-            (input ⟦<IoReader<R> as Source>⟧.view self.new) result }
+            (input ⟦<IoReader<R> as Source>⟧.view self.new) (answer_of result) }
         ensures copied { IfOk result IsOwnedStr }
     {
         let found = take_item::<IoReader<R>, CowStr<'de, Global>>(alloc, self);
@@ -163,9 +161,9 @@ impl<R: BufRead + Drop> Deserializer<IoReader<R>> {
         &mut self,
         alloc: Global,
     ) -> Result<CowStr<'de, Global>, DecodeError<io::Error>>
-        ensures item { ReadsItem (ReadsTextAs cow_text) (StopsText (codes "str")) true true true
+        ensures item { Decodes (text_spelling (codes "str") cow_text)
             (input ⟦<IoReader<R> as Source>⟧.view self.old)
-            (input ⟦<IoReader<R> as Source>⟧.view self.new) result }
+            (input ⟦<IoReader<R> as Source>⟧.view self.new) (answer_of result) }
         ensures copied { IfOk result IsOwnedStr }
     {
         self.deserialize_str(alloc)
@@ -177,10 +175,9 @@ impl<R: BufRead + Drop> Deserializer<IoReader<R>> {
         &mut self,
         alloc: Global,
     ) -> Result<CowSlice<'de, u8, Global>, DecodeError<io::Error>>
-        ensures item { ReadsItem (ReadsAs 2 cow_slice_items) (StopsString (codes "bytes") 2)
-            true true true
+        ensures item { Decodes (as_spelling (codes "bytes") 2 cow_slice_items)
             (input ⟦<IoReader<R> as Source>⟧.view self.old)
-            (input ⟦<IoReader<R> as Source>⟧.view self.new) result }
+            (input ⟦<IoReader<R> as Source>⟧.view self.new) (answer_of result) }
         ensures copied { IfOk result IsOwnedSlice }
     {
         let found = take_item::<IoReader<R>, Bytes<CowSlice<'de, u8, Global>>>(alloc, self);

@@ -1,16 +1,12 @@
 //! Pairs and triples.
-ghost use Rattle.std.specs.Prelude.{◌≡◌, ◌+◌, ◌≤◌, ◌&&◌, ◌||◌, OnOk, IfOk, IfErr, IsTrue, true};
-ghost use Rattle.std.specs.Prelude.{false};
+ghost use Rattle.std.specs.Prelude.{◌≡◌, ◌+◌, ◌≤◌, OnOk, IfOk, IfErr, false};
 ghost use Rattle.cbor4ii_items.specs.Moves.{Moves};
 ghost use Rattle.cbor4ii_items.specs.Refusal.{is_out_of_memory};
-ghost use Rattle.cbor4ii_items.specs.Decoding.{IsExact, Sound, Refuses, Stops};
-ghost use Rattle.cbor4ii_items.specs.Sequences.{ReadsPair, StopsPair, SamePair};
-ghost use Rattle.cbor4ii_items.specs.Laws.Containers.{both};
-ghost use Rattle.cbor4ii.specs.Typed.{input, answer_of, as_core, said};
-ghost use Rattle.cbor4ii.specs.Beginning.{StopsTuple};
-ghost use Rattle.cbor4ii.specs.Stepped.{Stepped, stepped_laws};
-ghost use Rattle.cbor4ii.specs.Tuples.{ReadsBehind, ReadsCountOf, StopsCountOf, ReadsTriple};
-ghost use Rattle.cbor4ii.specs.Tuples.{SameTriple, behind_laws, pair_laws, triple_laws};
+ghost use Rattle.cbor4ii_items.specs.Decoding.{Sound, Refuses, Stops};
+ghost use Rattle.cbor4ii.specs.Typed.{input, answer_of, Deserializes};
+ghost use Rattle.cbor4ii.specs.Tuples.{ReadsCountOf, StopsCountOf};
+ghost use Rattle.cbor4ii.specs.TypedParts.{behind_head, three_of, two_of, typed_pair, typed_triple};
+ghost use Rattle.cbor4ii.specs.TypedParts.{telling};
 
 use crate::serde::de::deserialize::{Deserialize, Typed};
 use crate::serde::de::deserializer::Deserializer;
@@ -22,22 +18,7 @@ use cbor4ii_rw::read::Source;
 use std::alloc::Global;
 
 impl<A: Typed, B: Typed> Typed for (A, B) {
-    ghost reads = { Stepped (ReadsBehind 2 (ReadsPair A.reads B.reads)) };
-
-    ghost stops = { StopsTuple 2
-        (StopsPair A.reads (said A.exact A.stops) (said B.exact B.stops)) };
-
-    ghost same = { SamePair A.same B.same };
-
-    ghost owned = { A.owned && B.owned };
-
-    ghost takes_memory = { A.takes_memory || B.takes_memory };
-
-    ghost exact = { A.exact && B.exact };
-
-    ghost laws = { λ e. stepped_laws (behind_laws 2 (pair_laws A.reads B.reads A.same B.same
-        true true (A.laws (both A.exact B.exact e).0)
-        (B.laws (both A.exact B.exact e).1))) };
+    ghost promise = { typed_pair A.promise B.promise };
 }
 
 /// An array of a known length of 2, under one step, which is given back.
@@ -48,22 +29,10 @@ impl<A: Typed, B: Typed> Typed for (A, B) {
 /// is, and a part as the part is.
 impl<S: Source, A: Deserialize<S> + Drop, B: Deserialize<S>> Deserialize<S> for (A, B) {
     #[inline(always)]
-    fn deserialize(alloc: Global, de: &mut Deserializer<S>) -> Result<(A, B), DecodeError<S::Error>>
-        ensures moves { Moves (input S.view de.old) (input S.view de.new) (answer_of result) }
-        ensures progress { OnOk result
-            ((input S.view de.new).bound + 1 ≤ (input S.view de.old).bound) }
-        ensures memory { IfErr result (λ error. IsTrue (is_out_of_memory (as_core error)) →
-            IsTrue (A.takes_memory || B.takes_memory)) }
-        ensures sound { IfOk result (Sound (Stepped (ReadsBehind 2 (ReadsPair A.reads B.reads)))
-            (input S.view de.old) (input S.view de.new)) }
-        ensures complete { IsTrue (A.exact && B.exact) →
-            IsExact (A.owned && B.owned) (input S.view de.old) → IfErr result
-            (λ error. Refuses (Stepped (ReadsBehind 2 (ReadsPair A.reads B.reads)))
-            (input S.view de.old) (as_core error)) }
-        ensures stops { IfErr result (λ error. Stops (StopsTuple 2
-            (StopsPair A.reads (said A.exact A.stops) (said B.exact B.stops)))
-            (input S.view de.old) (input S.view de.new) (as_core error)) }
-    {
+    fn deserialize(
+        alloc: Global,
+        de: &mut Deserializer<S>,
+    ) -> Result<(A, B), DecodeError<S::Error>> {
         if !de.reader.step_in() {
             return Err(DecodeError::Core(core_error::DecodeError::DepthOverflow { name: "tuple" }));
         }
@@ -79,20 +48,8 @@ fn pair_behind<S: Source, A: Deserialize<S> + Drop, B: Deserialize<S>>(
     alloc: Global,
     de: &mut Deserializer<S>,
 ) -> Result<(A, B), DecodeError<S::Error>>
-    ensures moves { Moves (input S.view de.old) (input S.view de.new) (answer_of result) }
-    ensures progress { OnOk result
-        ((input S.view de.new).bound + 1 ≤ (input S.view de.old).bound) }
-    ensures memory { IfErr result (λ error. IsTrue (is_out_of_memory (as_core error)) →
-        IsTrue (A.takes_memory || B.takes_memory)) }
-    ensures sound { IfOk result (Sound (ReadsBehind 2 (ReadsPair A.reads B.reads))
-        (input S.view de.old) (input S.view de.new)) }
-    ensures complete { IsTrue (A.exact && B.exact) →
-        IsExact (A.owned && B.owned) (input S.view de.old) → IfErr result
-        (λ error. Refuses (ReadsBehind 2 (ReadsPair A.reads B.reads))
-        (input S.view de.old) (as_core error)) }
-    ensures stops { IfErr result (λ error. Stops (StopsPair (ReadsCountOf 2) (StopsCountOf 2)
-        (StopsPair A.reads (said A.exact A.stops) (said B.exact B.stops)))
-        (input S.view de.old) (input S.view de.new) (as_core error)) }
+    ensures { Deserializes (behind_head 2 (two_of (telling A.promise) (telling B.promise)))
+        (input S.view de.old) (input S.view de.new) (answer_of result) }
 {
     match take_count(&mut de.reader, 2) {
         Ok(()) => two_parts::<S, A, B>(alloc, de),
@@ -106,18 +63,8 @@ pub(crate) fn two_parts<S: Source, A: Deserialize<S> + Drop, B: Deserialize<S>>(
     alloc: Global,
     de: &mut Deserializer<S>,
 ) -> Result<(A, B), DecodeError<S::Error>>
-    ensures moves { Moves (input S.view de.old) (input S.view de.new) (answer_of result) }
-    ensures progress { OnOk result ((input S.view de.new).bound + 1 ≤ (input S.view de.old).bound) }
-    ensures memory { IfErr result (λ error. IsTrue (is_out_of_memory (as_core error)) →
-        IsTrue (A.takes_memory || B.takes_memory)) }
-    ensures sound { IfOk result
-        (Sound (ReadsPair A.reads B.reads) (input S.view de.old) (input S.view de.new)) }
-    ensures complete { IsTrue (A.exact && B.exact) →
-        IsExact (A.owned && B.owned) (input S.view de.old) → IfErr result (λ error.
-        Refuses (ReadsPair A.reads B.reads) (input S.view de.old) (as_core error)) }
-    ensures stops { IfErr result (λ error. Stops
-        (StopsPair A.reads (said A.exact A.stops) (said B.exact B.stops))
-        (input S.view de.old) (input S.view de.new) (as_core error)) }
+    ensures { Deserializes (two_of (telling A.promise) (telling B.promise))
+        (input S.view de.old) (input S.view de.new) (answer_of result) }
 {
     let first = A::deserialize(alloc, de)?;
     match B::deserialize(alloc, de) {
@@ -160,24 +107,7 @@ pub(crate) fn take_count<S: Source>(
 }
 
 impl<A: Typed, B: Typed, C: Typed> Typed for (A, B, C) {
-    ghost reads = { Stepped (ReadsBehind 3 (ReadsTriple A.reads B.reads C.reads)) };
-
-    ghost stops = { StopsTuple 3 (StopsPair A.reads (said A.exact A.stops)
-        (StopsPair B.reads (said B.exact B.stops) (said C.exact C.stops))) };
-
-    ghost same = { SameTriple A.same B.same C.same };
-
-    ghost owned = { A.owned && (B.owned && C.owned) };
-
-    ghost takes_memory = { A.takes_memory || (B.takes_memory || C.takes_memory) };
-
-    ghost exact = { A.exact && (B.exact && C.exact) };
-
-    ghost laws = { λ e. stepped_laws (behind_laws 3 (triple_laws A.reads B.reads C.reads
-        A.same B.same C.same true true true
-        (A.laws (both A.exact (B.exact && C.exact) e).0)
-        (B.laws (both B.exact C.exact (both A.exact (B.exact && C.exact) e).1).0)
-        (C.laws (both B.exact C.exact (both A.exact (B.exact && C.exact) e).1).1))) };
+    ghost promise = { typed_triple A.promise B.promise C.promise };
 }
 
 /// As a pair, with a length of 3.
@@ -188,24 +118,7 @@ impl<S: Source, A: Deserialize<S> + Drop, B: Deserialize<S> + Drop, C: Deseriali
     fn deserialize(
         alloc: Global,
         de: &mut Deserializer<S>,
-    ) -> Result<(A, B, C), DecodeError<S::Error>>
-        ensures moves { Moves (input S.view de.old) (input S.view de.new) (answer_of result) }
-        ensures progress { OnOk result
-            ((input S.view de.new).bound + 1 ≤ (input S.view de.old).bound) }
-        ensures memory { IfErr result (λ error. IsTrue (is_out_of_memory (as_core error)) →
-            IsTrue (A.takes_memory || (B.takes_memory || C.takes_memory))) }
-        ensures sound { IfOk result
-            (Sound (Stepped (ReadsBehind 3 (ReadsTriple A.reads B.reads C.reads)))
-            (input S.view de.old) (input S.view de.new)) }
-        ensures complete { IsTrue (A.exact && (B.exact && C.exact)) →
-            IsExact (A.owned && (B.owned && C.owned)) (input S.view de.old) → IfErr result
-            (λ error. Refuses (Stepped (ReadsBehind 3 (ReadsTriple A.reads B.reads C.reads)))
-            (input S.view de.old) (as_core error)) }
-        ensures stops { IfErr result (λ error. Stops (StopsTuple 3
-            (StopsPair A.reads (said A.exact A.stops)
-            (StopsPair B.reads (said B.exact B.stops) (said C.exact C.stops))))
-            (input S.view de.old) (input S.view de.new) (as_core error)) }
-    {
+    ) -> Result<(A, B, C), DecodeError<S::Error>> {
         if !de.reader.step_in() {
             return Err(DecodeError::Core(core_error::DecodeError::DepthOverflow { name: "tuple" }));
         }
@@ -221,21 +134,9 @@ fn triple_behind<S: Source, A: Deserialize<S> + Drop, B: Deserialize<S> + Drop, 
     alloc: Global,
     de: &mut Deserializer<S>,
 ) -> Result<(A, B, C), DecodeError<S::Error>>
-    ensures moves { Moves (input S.view de.old) (input S.view de.new) (answer_of result) }
-    ensures progress { OnOk result
-        ((input S.view de.new).bound + 1 ≤ (input S.view de.old).bound) }
-    ensures memory { IfErr result (λ error. IsTrue (is_out_of_memory (as_core error)) →
-        IsTrue (A.takes_memory || (B.takes_memory || C.takes_memory))) }
-    ensures sound { IfOk result (Sound (ReadsBehind 3 (ReadsTriple A.reads B.reads C.reads))
-        (input S.view de.old) (input S.view de.new)) }
-    ensures complete { IsTrue (A.exact && (B.exact && C.exact)) →
-        IsExact (A.owned && (B.owned && C.owned)) (input S.view de.old) → IfErr result
-        (λ error. Refuses (ReadsBehind 3 (ReadsTriple A.reads B.reads C.reads))
-        (input S.view de.old) (as_core error)) }
-    ensures stops { IfErr result (λ error. Stops (StopsPair (ReadsCountOf 3) (StopsCountOf 3)
-        (StopsPair A.reads (said A.exact A.stops)
-        (StopsPair B.reads (said B.exact B.stops) (said C.exact C.stops))))
-        (input S.view de.old) (input S.view de.new) (as_core error)) }
+    ensures { Deserializes (behind_head 3
+        (three_of (telling A.promise) (telling B.promise) (telling C.promise)))
+        (input S.view de.old) (input S.view de.new) (answer_of result) }
 {
     match take_count(&mut de.reader, 3) {
         Ok(()) => three_parts::<S, A, B, C>(alloc, de),
@@ -249,18 +150,8 @@ fn three_parts<S: Source, A: Deserialize<S> + Drop, B: Deserialize<S> + Drop, C:
     alloc: Global,
     de: &mut Deserializer<S>,
 ) -> Result<(A, B, C), DecodeError<S::Error>>
-    ensures moves { Moves (input S.view de.old) (input S.view de.new) (answer_of result) }
-    ensures memory { IfErr result (λ error. IsTrue (is_out_of_memory (as_core error)) →
-        IsTrue (A.takes_memory || (B.takes_memory || C.takes_memory))) }
-    ensures sound { IfOk result (Sound (ReadsTriple A.reads B.reads C.reads)
-        (input S.view de.old) (input S.view de.new)) }
-    ensures complete { IsTrue (A.exact && (B.exact && C.exact)) →
-        IsExact (A.owned && (B.owned && C.owned)) (input S.view de.old) → IfErr result
-        (λ error. Refuses (ReadsTriple A.reads B.reads C.reads)
-        (input S.view de.old) (as_core error)) }
-    ensures stops { IfErr result (λ error. Stops (StopsPair A.reads (said A.exact A.stops)
-        (StopsPair B.reads (said B.exact B.stops) (said C.exact C.stops)))
-        (input S.view de.old) (input S.view de.new) (as_core error)) }
+    ensures { Deserializes (three_of (telling A.promise) (telling B.promise) (telling C.promise))
+        (input S.view de.old) (input S.view de.new) (answer_of result) }
 {
     let first = A::deserialize(alloc, de)?;
     match two_parts::<S, B, C>(alloc, de) {

@@ -1,11 +1,8 @@
 //! Arrays, read as vectors.
-ghost use Rattle.std.specs.Prelude.{◌+◌, ◌≤◌, true, codes, OnOk, IfOk, IfErr, IsTrue};
-ghost use Rattle.cbor4ii_items.specs.Decoding.{IsExact, Sound, Refuses, Stops};
-ghost use Rattle.cbor4ii_items.specs.Moves.{Moves};
-ghost use Rattle.cbor4ii_items.specs.Refusal.{is_out_of_memory};
-ghost use Rattle.cbor4ii.specs.Beginning.{StopsParts};
-ghost use Rattle.cbor4ii.specs.Typed.{input, answer_of, as_core, said};
-ghost use Rattle.cbor4ii.specs.Sequence.{ReadsArray, SameArray, array_laws, four_small};
+ghost use Rattle.std.specs.Prelude.{codes};
+ghost use Rattle.std.proofs.Common.{refl};
+ghost use Rattle.cbor4ii.specs.Sequence.{four_small};
+ghost use Rattle.cbor4ii.specs.TypedParts.{telling, typed_vector};
 
 use crate::serde::de::deserialize::{Deserialize, Typed};
 use crate::serde::de::deserializer::Deserializer;
@@ -17,33 +14,13 @@ use cbor4ii_rw::read::Source;
 use std::alloc::Global;
 
 impl<T: Typed> Typed for Vec<T> {
-    ghost reads = { ReadsArray T.reads };
-
-    ghost stops = { StopsParts (codes "seq") (codes "array") 4 T.reads (said T.exact T.stops) };
-
-    ghost same = { SameArray T.same };
-
-    ghost owned = { T.owned };
-
-    ghost takes_memory = { true };
-
-    ghost exact = { T.exact };
-
-    ghost laws = { λ e. array_laws T.reads T.same (T.laws e) };
+    ghost promise = { typed_vector T.promise };
 }
 
 impl<S: Source, T: Deserialize<S> + Drop> Sequence<S> for Vec<T> {
     type Part = T;
 
-    ghost reads = { T.reads };
-
-    ghost stops = { said T.exact T.stops };
-
-    ghost same = { T.same };
-
-    ghost owned = { T.owned };
-
-    ghost exact = { T.exact };
+    ghost part = { telling T.promise };
 
     ghost major = { 4 };
 
@@ -59,7 +36,7 @@ impl<S: Source, T: Deserialize<S> + Drop> Sequence<S> for Vec<T> {
         T::deserialize(alloc, de)
     }
 
-    ghost laws = { T.laws };
+    ghost told = { refl };
 
     ghost small = { four_small };
 }
@@ -77,21 +54,10 @@ impl<S: Source, T: Deserialize<S> + Drop> Sequence<S> for Vec<T> {
 /// - a value is refused: its own refusal, and what it leaves
 impl<S: Source, T: Deserialize<S> + Drop> Deserialize<S> for Vec<T> {
     #[inline(always)]
-    fn deserialize(alloc: Global, de: &mut Deserializer<S>) -> Result<Vec<T>, DecodeError<S::Error>>
-        ensures moves { Moves (input S.view de.old) (input S.view de.new) (answer_of result) }
-        ensures progress { OnOk result
-            ((input S.view de.new).bound + 1 ≤ (input S.view de.old).bound) }
-        ensures memory { IfErr result
-            (λ error. IsTrue (is_out_of_memory (as_core error)) → IsTrue true) }
-        ensures sound { IfOk result (Sound (ReadsArray T.reads)
-            (input S.view de.old) (input S.view de.new)) }
-        ensures complete { IsTrue T.exact → IsExact T.owned (input S.view de.old) →
-            IfErr result (λ error. Refuses (ReadsArray T.reads)
-            (input S.view de.old) (as_core error)) }
-        ensures stops { IfErr result (λ error.
-            Stops (StopsParts (codes "seq") (codes "array") 4 T.reads (said T.exact T.stops))
-            (input S.view de.old) (input S.view de.new) (as_core error)) }
-    {
+    fn deserialize(
+        alloc: Global,
+        de: &mut Deserializer<S>,
+    ) -> Result<Vec<T>, DecodeError<S::Error>> {
         take_sequence::<S, Vec<T>>(alloc, de, "seq")
     }
 }

@@ -8,9 +8,12 @@ use Rattle.cbor4ii.proofs.serde.laws.maps_are_read_back.Goals as goal
 pub returns : goal.returns
 returns g c m key_cost value_cost ordered small keys values =
     let item = entry_item g.K.Serialize.item g.V.Serialize.item in
-    let entries = entries_back g.K.Typed.reads g.V.Typed.reads g.K.Serialize.item g.V.Serialize.item
+    let entries = entries_back g.K.Typed.promise.spelling.reads g.V.Typed.promise.spelling.reads
+    g.K.Serialize.item g.V.Serialize.item
     key_cost value_cost m.entries keys values in
-    let read = sequence_read_back (ReadsPair g.K.Typed.reads g.V.Typed.reads) item
+    let read = sequence_read_back (ReadsPair g.K.Typed.promise.spelling.reads
+    g.V.Typed.promise.spelling.reads) item
     (pair_cost key_cost value_cost) 5 true m.entries small entries in
-    map_read_back (λ map. map.entries) g.K.Ord.cmp g.K.Typed.reads g.V.Typed.reads _ m _
+    map_read_back (λ map. map.entries) g.K.Ord.cmp g.K.Typed.promise.spelling.reads
+    g.V.Typed.promise.spelling.reads _ m _
     (built_again g.K.Ord.cmp g.met.K.Ord.total m.entries ordered) read

@@ -2,7 +2,9 @@ use Rattle.cbor4ii.proofs.Apart.{present_apart, presence_apart}
 use Rattle.cbor4ii.proofs.serde.laws.refused_options_are_not_read.Goals as goal
 
 pub returns-clause-value : goal.returns-clause-value
-returns-clause-value g c = present_apart g.T.Typed.exact g.T.Typed.reads g.T.Typed.stops
+returns-clause-value g c =
+    present_apart g.T.Typed.promise.told g.T.Typed.promise.spelling.reads
+    g.T.Typed.promise.spelling.begins
 
 pub returns-clause-presence : goal.returns-clause-presence
 returns-clause-presence g c = presence_apart

@@ -7,10 +7,12 @@ returns-clause-unit g c rest = (refl, refl, refl)
 
 pub returns-clause-pair : goal.returns-clause-pair
 returns-clause-pair g c p first second =
-    pair_read_back g.A.Typed.reads g.B.Typed.reads (g.A.Serialize.item p.0)
+    pair_read_back g.A.Typed.promise.spelling.reads g.B.Typed.promise.spelling.reads
+    (g.A.Serialize.item p.0)
     (g.B.Serialize.item p.1) p first second
 
 pub returns-clause-triple : goal.returns-clause-triple
 returns-clause-triple g c p first second third =
-    triple_read_back g.A.Typed.reads g.B.Typed.reads g.C.Typed.reads (g.A.Serialize.item p.0)
+    triple_read_back g.A.Typed.promise.spelling.reads g.B.Typed.promise.spelling.reads
+    g.C.Typed.promise.spelling.reads (g.A.Serialize.item p.0)
     (g.B.Serialize.item p.1) (g.C.Serialize.item p.2) p first second third

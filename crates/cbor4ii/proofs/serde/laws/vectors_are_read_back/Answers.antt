@@ -4,5 +4,5 @@ use Rattle.cbor4ii.proofs.serde.laws.vectors_are_read_back.Goals as goal
 
 pub returns : goal.returns
 returns g c v cost back =
-    sequence_read_back g.T.Typed.reads g.T.Serialize.item cost 4 true v.items
+    sequence_read_back g.T.Typed.promise.spelling.reads g.T.Serialize.item cost 4 true v.items
     (omega (arith, v.ok.0, v.ok.1, v.small)) back

@@ -10,7 +10,8 @@ returns-clause-none g c rest = (inl refl, refl, refl)
 
 pub returns-clause-some : goal.returns-clause-some
 returns-clause-some g c v cost back other =
-    some_read_back g.T.Typed.reads (g.T.Serialize.item v) v cost back other
+    some_read_back g.T.Typed.promise.spelling.reads (g.T.Serialize.item v) v cost back other
 
 pub returns-clause-null : goal.returns-clause-null
-returns-clause-null g c v null = null_read_back g.T.Typed.reads (g.T.Serialize.item v) null
+returns-clause-null g c v null = null_read_back g.T.Typed.promise.spelling.reads
+    (g.T.Serialize.item v) null

@@ -12,8 +12,8 @@ returns-in_err-part g c =
     rw (p.1, p.2) (count_err g.Q.Sequence.part g.met.Q.Sequence.lawful c.loop-i.invariant
     c.loop-i-test.true c.in_err-part.ensures)
 
-pub returns-then-is_err-2 : goal.returns-then-is_err-2
-returns-then-is_err-2 g c =
+pub returns-in-Err : goal.returns-in-Err
+returns-in-Err g c =
     out_of_memory (count_spelling g.Q.Sequence.part c.args.count) refl
     (kept_then c.loop-i.invariant.kept c.in_ok-part.ensures.moves.by)
 

@@ -32,8 +32,8 @@ returns-in_err-part g c =
     (place_part s c.args.name.now (sym c.if-not-is_part_never_empty.ensures)
     (stands c.if-not-branch.true c.in_ok-take_break.ensures.runs) c.in_err-part.ensures))
 
-pub returns-then-is_err : goal.returns-then-is_err
-returns-then-is_err g c =
+pub returns-in-Err : goal.returns-in-Err
+returns-in-Err g c =
     out_of_memory (open_spelling c.args.name.now g.Q.Sequence.part) refl
     (kept_then (kept_then c.loop-parts.invariant.kept c.in_ok-take_break.ensures.runs.moves.by)
     c.in_ok-part.ensures.moves.by)

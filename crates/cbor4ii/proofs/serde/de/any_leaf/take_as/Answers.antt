@@ -14,7 +14,7 @@ returns-in-Err-clause-complete g c owned =
     owned))
 
 pub returns-in-Err-clause-stops : goal.returns-in-Err-clause-stops
-returns-in-Err-clause-stops g c owned = c.in-Err.ensures.stopped (inl owned)
+returns-in-Err-clause-stops g c owned = c.in-Err.ensures.stops (inl owned)
 
 pub returns-in-Ok-clause-moves : goal.returns-in-Ok-clause-moves
 returns-in-Ok-clause-moves g c = moves_ok c.in-Ok.ensures.moves

@@ -20,7 +20,7 @@ returns-else-number-clause-stops g c =
     too_great_stops _ refl (omega (arith, c.if-number.false)) c.in-Ok.ensures.sound
 
 pub returns-in-Err-clause-stops : goal.returns-in-Err-clause-stops
-returns-in-Err-clause-stops g c = bignum_stops (c.in-Err.ensures.stopped (inl refl))
+returns-in-Err-clause-stops g c = bignum_stops c.in-Err.ensures.begins
 
 pub returns-then-number-clause-moves : goal.returns-then-number-clause-moves
 returns-then-number-clause-moves g c = moves_ok c.in-Ok.ensures.moves

@@ -3,5 +3,4 @@ use Rattle.cbor4ii.proofs.serde.de.first.read_first.Goals as goal
 
 pub returns : goal.returns
 returns g c =
-    first_of _ _ _ _ _ c.deserialize.result _ _ _ c.new-de.ensures c.deserialize.ensures.sound
-    c.deserialize.ensures.memory c.deserialize.ensures.complete c.deserialize.ensures.stops
+    first_of g.T.Typed.promise c.deserialize.result _ _ _ c.new-de.ensures c.deserialize.ensures

@@ -4,7 +4,7 @@ use Rattle.std.proofs.lemmas.Result.{err_from_is_err_and}
 use Rattle.cbor4ii_items.specs.Laws.Steps.{moves_then, moves_err}
 use Rattle.cbor4ii_items.specs.Laws.Answering.{exact_kept, fits_zero}
 use Rattle.cbor4ii.specs.Laws.PartsRead.{count_more, count_done, count_refuses}
-use Rattle.cbor4ii.specs.Typed.{size_of}
+use Rattle.cbor4ii.specs.Typed.{size_of, typed_laws}
 use Rattle.cbor4ii.proofs.PartStops.{count_stops}
 use Rattle.cbor4ii.proofs.serde.de.parts.take_counted.Goals as goal
 
@@ -16,7 +16,7 @@ returns-in_err-add_part-clause-moves g c =
 pub returns-in_err-add_part-clause-complete : goal.returns-in_err-add_part-clause-complete
 returns-in_err-add_part-clause-complete g c said exact =
     let p = err_from_is_err_and c.from_residual.result c.from_residual.ensures.1 in
-    rw (p.1, p.2) (count_refuses _ (size_of (g.met.Q.Sequence.laws said)) c.loop-i.invariant
+    rw (p.1, p.2) (count_refuses _ (size_of (typed_laws g.Q.Sequence.part said)) c.loop-i.invariant
     c.loop-i-test.true (λ xs told. c.in_err-add_part.ensures.complete said
     (exact_kept _ _ _ xs told c.loop-i.invariant.kept exact)))
 

@@ -3,5 +3,5 @@ use Rattle.cbor4ii.proofs.serde.de.parts.take_counted.Given as goal
 
 abbrev pub invariant-loop-i : goal.invariant-loop-i
 invariant-loop-i g l =
-    Begun g.Q.Sequence.reads l.i (g.S.Source.view l.fn.de.reader)
+    Begun g.Q.Sequence.part.spelling.reads l.i (g.S.Source.view l.fn.de.reader)
     (g.S.Source.view l.de.reader) l.parts.items

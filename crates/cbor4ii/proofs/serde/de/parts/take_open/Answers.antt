@@ -6,7 +6,7 @@ use Rattle.cbor4ii_items.specs.Laws.Answering.{exact_kept, fits_zero}
 use Rattle.cbor4ii_items.specs.Laws.SequenceParts.{stands}
 use Rattle.cbor4ii.specs.Laws.PartsRead.{open_more, open_done, open_refuses}
 use Rattle.cbor4ii.specs.Laws.PartsRead.{end_refuses}
-use Rattle.cbor4ii.specs.Typed.{size_of}
+use Rattle.cbor4ii.specs.Typed.{size_of, typed_laws}
 use Rattle.cbor4ii.proofs.PartStops.{open_stops, end_stops}
 use Rattle.cbor4ii.proofs.serde.de.parts.take_open.Goals as goal
 
@@ -19,7 +19,7 @@ returns-in_err-takes_break-clause-moves g c =
 pub returns-in_err-takes_break-clause-complete : goal.returns-in_err-takes_break-clause-complete
 returns-in_err-takes_break-clause-complete g c said exact =
     let p = err_from_is_err_and c.from_residual.result c.from_residual.ensures.1 in
-    rw (p.1, p.2) (let laws = g.met.Q.Sequence.laws said in end_refuses _ _ (size_of laws)
+    rw (p.1, p.2) (let laws = typed_laws g.Q.Sequence.part said in end_refuses _ _ (size_of laws)
     laws.within laws.positive c.loop-parts.invariant c.in_err-takes_break.ensures.runs)
 
 pub loop-parts-preserved : goal.loop-parts-preserved
@@ -40,7 +40,8 @@ returns-in_err-add_part-clause-complete g c said exact =
     let p = err_from_is_err_and c.from_residual-in_err-add_part.result
     c.from_residual-in_err-add_part.ensures.1 in
     let kept = kept_then c.loop-parts.invariant.kept c.in_ok-takes_break.ensures.runs.moves.by in
-    rw (p.1, p.2) (open_refuses _ _ (size_of (g.met.Q.Sequence.laws said)) c.loop-parts.invariant
+    rw (p.1, p.2) (open_refuses _ _ (size_of (typed_laws g.Q.Sequence.part said))
+    c.loop-parts.invariant
     (stands c.if-not-branch.true c.in_ok-takes_break.ensures.runs) (λ xs told.
     c.in_err-add_part.ensures.complete said (exact_kept _ _ _ xs told kept exact)))
 
@@ -58,14 +59,16 @@ returns-clause-sound g c =
 pub returns-in_err-takes_break-clause-stops : goal.returns-in_err-takes_break-clause-stops
 returns-in_err-takes_break-clause-stops g c =
     let p = err_from_is_err_and c.from_residual.result c.from_residual.ensures.1 in
-    rw (p.1, p.2) (end_stops g.Q.Sequence.reads g.Q.Sequence.stops true g.Q.Sequence.name
+    rw (p.1, p.2) (end_stops g.Q.Sequence.part.spelling.reads g.Q.Sequence.part.spelling.begins true
+    g.Q.Sequence.name
     c.loop-parts.invariant c.in_err-takes_break.ensures.runs)
 
 pub returns-in_err-add_part-clause-stops : goal.returns-in_err-add_part-clause-stops
 returns-in_err-add_part-clause-stops g c =
     let p = err_from_is_err_and c.from_residual-in_err-add_part.result
     c.from_residual-in_err-add_part.ensures.1 in
-    rw (p.1, p.2) (open_stops g.Q.Sequence.reads g.Q.Sequence.stops true g.Q.Sequence.name refl
+    rw (p.1, p.2) (open_stops g.Q.Sequence.part.spelling.reads g.Q.Sequence.part.spelling.begins
+    true g.Q.Sequence.name refl
     c.loop-parts.invariant (stands c.if-not-branch.true c.in_ok-takes_break.ensures.runs)
     c.in_err-add_part.ensures.stops)
 

@@ -4,7 +4,7 @@ use Rattle.cbor4ii.proofs.serde.de.parts.take_open.Given as goal
 
 abbrev pub invariant-loop-parts : goal.invariant-loop-parts
 invariant-loop-parts g l =
-    Opened g.Q.Sequence.reads true (g.S.Source.view l.fn.de.reader)
+    Opened g.Q.Sequence.part.spelling.reads true (g.S.Source.view l.fn.de.reader)
     (g.S.Source.view l.de.reader) l.parts.items
 
 abbrev pub decreases-loop-parts : goal.decreases-loop-parts

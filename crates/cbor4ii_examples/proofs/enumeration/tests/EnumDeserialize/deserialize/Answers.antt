@@ -1,20 +1,15 @@
-use Rattle.std.proofs.Common.{rules}
+use Rattle.std.proofs.Common.{rules, Err}
 use Rattle.cbor4ii_items.specs.Laws.Steps.{moves_err}
-use Rattle.cbor4ii.specs.Laws.Accessors.{moves_at}
-use Rattle.cbor4ii_examples.proofs.Variants.{with_content, without_name, said_nothing}
+use Rattle.cbor4ii.specs.Laws.Accessors.{moves_at, nothing_owed}
+use Rattle.cbor4ii_examples.proofs.Variants.{with_content, without_name}
 use Rattle.cbor4ii_examples.proofs.enumeration.tests.EnumDeserialize.deserialize.Goals as goal
 
-pub returns-in-Ok-variant-clause-moves : goal.returns-in-Ok-variant-clause-moves
-returns-in-Ok-variant-clause-moves g c =
-    moves_at (with_content c.in-Ok.ensures.opened c.in-Ok-variant.ensures.moves.by
-    c.read_content.ensures) (search rules)
+pub returns-in-Ok-variant : goal.returns-in-Ok-variant
+returns-in-Ok-variant g c =
+    nothing_owed c.read_content.result (moves_at (with_content c.in-Ok.ensures.opened
+    c.in-Ok-variant.ensures.moves.by c.read_content.ensures) (search rules)) (search rules)
 
-pub returns-in-Ok-variant-clause-sound : goal.returns-in-Ok-variant-clause-sound
-returns-in-Ok-variant-clause-sound g c =
-    said_nothing c.read_content.result (moves_at (with_content c.in-Ok.ensures.opened
-    c.in-Ok-variant.ensures.moves.by c.read_content.ensures) (search rules))
-
-pub returns-in-Err-variant-clause-moves : goal.returns-in-Err-variant-clause-moves
-returns-in-Err-variant-clause-moves g c =
-    moves_at (without_name c.in-Ok.ensures.opened (moves_err c.in-Err-variant.ensures.moves)
-    c.drop-variant.ensures) (search rules)
+pub returns-in-Err-variant : goal.returns-in-Err-variant
+returns-in-Err-variant g c =
+    nothing_owed (Err c.in-Err-variant.error) (moves_at (without_name c.in-Ok.ensures.opened
+    (moves_err c.in-Err-variant.ensures.moves) c.drop-variant.ensures) (search rules)) tt

@@ -28,7 +28,7 @@ returns-in-Err-deserialize-clause-complete g c said exact =
 pub returns-in-Err-deserialize-clause-stops : goal.returns-in-Err-deserialize-clause-stops
 returns-in-Err-deserialize-clause-stops g c =
     let part =
-    said_left _ _ c.in-Err-deserialize.ensures.moves c.in-Err-deserialize.ensures.stops in
+    said_left _ _ c.in-Err-deserialize.ensures.moves c.in-Err-deserialize.ensures.begins in
     part_stops _ _ c.in-Ok-true.ensures.moves.by
     (rw c.in-Ok-true.field-0-test at c.in-Ok-true.ensures.sound) part
 

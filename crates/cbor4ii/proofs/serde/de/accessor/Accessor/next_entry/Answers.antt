@@ -2,6 +2,7 @@ use Rattle.cbor4ii_items.specs.Laws.Containers.{both}
 use Rattle.cbor4ii_items.specs.Laws.Answering.{exact_kept}
 use Rattle.cbor4ii_items.specs.Laws.Steps.{moves_then, moves_ok, moves_err}
 use Rattle.cbor4ii.specs.Laws.PairsRead.{exact_both}
+use Rattle.cbor4ii.specs.Typed.{typed_laws}
 use Rattle.cbor4ii.proofs.Entries.{entry_sound, entry_none, entry_no_key, entry_no_value}
 use Rattle.cbor4ii.proofs.Entries.{entry_key_stops, entry_value_stops}
 use Rattle.cbor4ii.proofs.Beginnings.{said_left}
@@ -23,9 +24,9 @@ returns-in-Err-deserialize-clause-moves g c =
 
 pub returns-in-Err-deserialize-clause-complete : goal.returns-in-Err-deserialize-clause-complete
 returns-in-Err-deserialize-clause-complete g c said exact =
-    let b = both g.K.Typed.exact g.V.Typed.exact said in
+    let b = both g.K.Typed.promise.exact g.V.Typed.promise.exact said in
     let key = rw c.in-Ok-Some.field-0-is at c.in-Ok-Some.ensures.sound in
-    entry_no_value _ _ _ _ (g.K.Typed.laws b.0).one c.in-Ok-Some.ensures.moves.by key
+    entry_no_value _ _ _ _ (typed_laws g.K.Typed.promise b.0).one c.in-Ok-Some.ensures.moves.by key
     (λ xs told. c.in-Err-deserialize.ensures.complete b.1
     (exact_kept _ _ _ xs told c.in-Ok-Some.ensures.moves.by
     (exact_both _ _ (g.S.Source.view c.args.self.now.de.now.reader) exact).1))
@@ -36,7 +37,7 @@ returns-in-Ok-None-clause-sound g c =
 
 pub returns-in-Err-clause-complete : goal.returns-in-Err-clause-complete
 returns-in-Err-clause-complete g c said exact =
-    let b = both g.K.Typed.exact g.V.Typed.exact said in
+    let b = both g.K.Typed.promise.exact g.V.Typed.promise.exact said in
     entry_no_key _ _ _ (c.in-Err.ensures.complete b.0
     (exact_both _ _ (g.S.Source.view c.args.self.now.de.now.reader) exact).0)
 
@@ -49,7 +50,7 @@ returns-in-Ok-None-clause-still g c not is = c.in-Ok-None.ensures.still not c.in
 pub returns-in-Err-deserialize-clause-stops : goal.returns-in-Err-deserialize-clause-stops
 returns-in-Err-deserialize-clause-stops g c =
     let value =
-    said_left _ _ c.in-Err-deserialize.ensures.moves c.in-Err-deserialize.ensures.stops in
+    said_left _ _ c.in-Err-deserialize.ensures.moves c.in-Err-deserialize.ensures.begins in
     entry_value_stops _ _ _ _ c.in-Ok-Some.ensures.moves.by
     (rw c.in-Ok-Some.field-0-is at c.in-Ok-Some.ensures.sound) value
 

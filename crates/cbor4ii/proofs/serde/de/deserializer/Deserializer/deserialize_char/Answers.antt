@@ -8,11 +8,11 @@ use Rattle.cbor4ii.proofs.serde.de.deserializer.Deserializer.deserialize_char.Go
 pub returns-in-Some : goal.returns-in-Some
 returns-in-Some g c = record {
   moves = moves_ok c.in-Ok.ensures.moves;
-  progress = λ e. c.in-Ok.ensures.progress e;
+  progress = c.in-Ok.ensures.progress refl;
   memory = tt;
   sound = char_sound (sym c.as_str.ensures.value ∙ c.in-Some.ensures.one) c.in-Ok.ensures.sound;
-  complete = λ e. tt;
-  stopped = λ e. tt;
+  complete = λ is sure. tt;
+  begins = λ is. tt;
 }
 
 pub returns-in-Ok : goal.returns-in-Ok
@@ -20,23 +20,24 @@ returns-in-Ok g c = record {
   moves =
       other_moves _ (subst NoCharacter c.as_str.ensures.value (c.in-None.ensures.other refl))
       c.in-Ok.ensures.moves;
-  progress = λ e. tt;
+  progress = tt;
   memory = λ no. refl;
   sound = tt;
   complete =
-      λ e. other_refuses _ (subst NoCharacter c.as_str.ensures.value (c.in-None.ensures.other refl))
+      λ is sure. other_refuses _ (subst NoCharacter c.as_str.ensures.value
+      (c.in-None.ensures.other refl))
       c.in-Ok.ensures.sound;
-  stopped =
-      λ e. other_stops _ (subst NoCharacter c.as_str.ensures.value (c.in-None.ensures.other refl))
+  begins =
+      λ is. other_stops _ (subst NoCharacter c.as_str.ensures.value (c.in-None.ensures.other refl))
       refl c.in-Ok.ensures.sound;
 }
 
 pub returns : goal.returns
 returns g c = record {
   moves = moves_err c.in-Err.ensures.moves;
-  progress = λ e. tt;
+  progress = tt;
   memory = λ some. refl;
   sound = tt;
-  complete = λ e. char_refuses c.args.alloc (c.in-Err.ensures.complete (inl refl));
-  stopped = λ e. char_stops (c.in-Err.ensures.stopped (inl refl));
+  complete = λ is sure. char_refuses c.args.alloc (c.in-Err.ensures.complete (inl refl));
+  begins = λ is. char_stops c.in-Err.ensures.begins;
 }

@@ -1,4 +1,4 @@
-use Rattle.std.proofs.Common.{refl, inl}
+use Rattle.std.proofs.Common.{refl}
 use Rattle.cbor4ii_items.specs.Laws.Answering.{refuses_as}
 use Rattle.cbor4ii_items.specs.Laws.Steps.{moves_ok, moves_err}
 use Rattle.cbor4ii_tree.specs.Ignored.{ReadsIgnored}
@@ -13,7 +13,8 @@ returns-in-Ok-clause-item g c = record {
   memory = tt;
   sound = sound_as ReadsIgnored (λ _. c.in-Ok.field-0) refl c.in-Ok.ensures.decodes.sound;
   complete = λ e. tt;
-  stopped = λ e. tt;
+  stops = λ e. tt;
+  begins = tt;
 }
 
 pub returns-in-Err-clause-item : goal.returns-in-Err-clause-item
@@ -23,8 +24,9 @@ returns-in-Err-clause-item g c = record {
   memory = c.in-Err.ensures.decodes.memory;
   sound = tt;
   complete = λ e. refuses_as ReadsIgnored ReadsSkipped (λ xs budget none v. none record {})
-      (c.in-Err.ensures.decodes.complete (inl refl));
-  stopped = λ e. c.in-Err.ensures.decodes.begins;
+      (c.in-Err.ensures.decodes.complete e);
+  stops = c.in-Err.ensures.decodes.stops;
+  begins = c.in-Err.ensures.decodes.begins;
 }
 
 pub returns-in-Ok-clause-only : goal.returns-in-Ok-clause-only

@@ -12,13 +12,13 @@ returns-then-first g c = record {
         (omega (arith, c.if-first.true)) c.advance.ensures;
     depth = λ e. refl;
   };
-  progress = λ e. omega (arith, c.advance.ensures.bound, c.in-Ok.ensures.decodes.moves.by.bound);
+  progress = omega (arith, c.advance.ensures.bound, c.in-Ok.ensures.decodes.moves.by.bound);
   memory = tt;
   sound =
       unit_sound (saw c.in-Ok.ensures.decodes.moves c.in-Ok.ensures.decodes.sound) c.if-first.true
       c.advance.ensures;
-  complete = λ e. tt;
-  stopped = λ e. tt;
+  complete = λ is sure. tt;
+  begins = λ is. tt;
 }
 
 pub returns-else-first : goal.returns-else-first
@@ -28,12 +28,12 @@ returns-else-first g c = record {
         c.advance.ensures;
     depth = λ e. refl;
   };
-  progress = λ e. tt;
+  progress = tt;
   memory = λ no. cc;
   sound = tt;
-  complete = λ e. unit_other (saw c.in-Ok.ensures.decodes.moves c.in-Ok.ensures.decodes.sound)
+  complete = λ is sure. unit_other (saw c.in-Ok.ensures.decodes.moves c.in-Ok.ensures.decodes.sound)
       c.if-first.false;
-  stopped = λ e. unit_mismatch (saw c.in-Ok.ensures.decodes.moves c.in-Ok.ensures.decodes.sound)
+  begins = λ is. unit_mismatch (saw c.in-Ok.ensures.decodes.moves c.in-Ok.ensures.decodes.sound)
       c.if-first.false
       c.advance.ensures refl;
 }
@@ -41,9 +41,9 @@ returns-else-first g c = record {
 pub returns-in-Err : goal.returns-in-Err
 returns-in-Err g c = record {
   moves = moves_err c.in-Err.ensures.decodes.moves;
-  progress = λ e. tt;
+  progress = tt;
   memory = λ no. let never = c.in-Err.ensures.decodes.memory no in cc;
   sound = tt;
-  complete = λ e. unit_missing (c.in-Err.ensures.decodes.complete (inl refl));
-  stopped = λ e. unit_ended c.in-Err.ensures.decodes.begins;
+  complete = λ is sure. unit_missing (c.in-Err.ensures.decodes.complete (inl refl));
+  begins = λ is. unit_ended c.in-Err.ensures.decodes.begins;
 }

@@ -1,20 +1,22 @@
+use Rattle.cbor4ii.proofs.Told.{on_ok, if_ok, if_err}
 use Rattle.cbor4ii.proofs.Contents.{content_ok, content_err, content_said}
 use Rattle.cbor4ii.proofs.serde.de.enum_accessor.EnumAccessor.newtype_variant.Goals as goal
 
 pub returns-clause-sound : goal.returns-clause-sound
 returns-clause-sound g c =
     content_ok _ c.deserialize.result _ _ _ c.if-not-self.false c.drop-self-2.ensures.others
-    c.deserialize.ensures.sound
+    (if_ok _ c.deserialize.result c.deserialize.ensures.sound)
 
 pub returns-clause-complete : goal.returns-clause-complete
 returns-clause-complete g c said exact =
     content_err _ c.deserialize.result _ c.if-not-self.false
-    (c.deserialize.ensures.complete said exact)
+    (if_err _ c.deserialize.result (c.deserialize.ensures.complete said exact))
 
 pub returns-clause-stops : goal.returns-clause-stops
 returns-clause-stops g c =
     content_said _ _ _ c.deserialize.result _ _ _ c.if-not-self.false c.drop-self-2.ensures.others
-    c.deserialize.ensures.moves c.deserialize.ensures.stops
+    c.deserialize.ensures.moves (λ is. if_err _ c.deserialize.result
+    (c.deserialize.ensures.begins is))
 
 pub returns-clause-finishes : goal.returns-clause-finishes
 returns-clause-finishes g c =
@@ -24,7 +26,9 @@ pub returns-clause-wrong : goal.returns-clause-wrong
 returns-clause-wrong g c is = let has = c.if-not-self.false in cc
 
 pub returns-clause-memory : goal.returns-clause-memory
-returns-clause-memory g c = c.deserialize.ensures.memory
+returns-clause-memory g c = if_err _ c.deserialize.result c.deserialize.ensures.memory
 
 pub returns-clause-progress : goal.returns-clause-progress
-returns-clause-progress g c = rw c.drop-self-2.ensures.others.bound c.deserialize.ensures.progress
+returns-clause-progress g c =
+    rw c.drop-self-2.ensures.others.bound
+    (on_ok _ c.deserialize.result c.deserialize.ensures.progress)

@@ -13,7 +13,7 @@ returns-clause-complete g c said exact =
 
 pub returns-clause-stops : goal.returns-clause-stops
 returns-clause-stops g c said =
-    stopped_behind _ c.drop-self-2.ensures.others (c.in-Err.ensures.stops said)
+    stopped_behind _ c.drop-self-2.ensures.others (c.in-Err.ensures.begins said)
 
 pub returns-in-Ok-clause-memory : goal.returns-in-Ok-clause-memory
 returns-in-Ok-clause-memory g c = tt

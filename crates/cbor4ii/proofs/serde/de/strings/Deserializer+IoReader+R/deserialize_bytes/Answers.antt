@@ -1,12 +1,13 @@
 use Rattle.std.proofs.Common.{refl}
 use Rattle.std.specs.Cow.{cow_slice_items, IsOwnedSlice}
+use Rattle.std.specs.Prelude.{codes}
 use Rattle.cbor4ii_items.specs.Cow.{cow_bytes}
-use Rattle.cbor4ii_items.specs.Strings.{ReadsString}
-use Rattle.cbor4ii.proofs.Copying.{copied_item}
+use Rattle.cbor4ii_items.specs.Strings.{string_spelling}
+use Rattle.cbor4ii.proofs.Handed.{copied}
 use Rattle.cbor4ii.proofs.serde.de.strings.Deserializer+IoReader+R.deserialize_bytes.Goals as goal
 
 pub returns-clause-item : goal.returns-clause-item
 returns-clause-item g c =
-    copied_item (ReadsString 2) cow_bytes cow_slice_items IsOwnedSlice
+    copied (string_spelling (codes "bytes") 2) cow_bytes cow_slice_items IsOwnedSlice refl
     (λ w. (record { 0 = w }, refl)) c.take_item-found.result c.copied_bytes.result
     c.copied_bytes.ensures c.take_item-found.ensures

@@ -1,10 +1,10 @@
-use Rattle.std.proofs.Common.{refl, inl}
 use Rattle.std.specs.Cow.{cow_slice_items}
-use Rattle.cbor4ii.proofs.Unwrapping.{bare_item}
+use Rattle.std.specs.Prelude.{codes}
+use Rattle.cbor4ii_items.specs.Strings.{string_spelling}
+use Rattle.cbor4ii.proofs.Handed.{unwrapped}
 use Rattle.cbor4ii.proofs.serde.de.strings.Deserializer+SliceReader.deserialize_bytes.Goals as goal
 
 pub returns-clause-item : goal.returns-clause-item
 returns-clause-item c =
-    (let d = c.decode.ensures.decodes in
-    bare_item cow_slice_items c.decode.result c.unwrapped.result _ _ c.unwrapped.ensures
-    d.moves (d.progress refl) d.sound (d.complete (inl refl)) d.begins)
+    unwrapped (string_spelling (codes "bytes") 2) cow_slice_items c.decode.result
+    c.unwrapped.result c.unwrapped.ensures c.decode.ensures.decodes

@@ -1,18 +1,11 @@
+use Rattle.cbor4ii.specs.TypedParts.{typed_vector}
 use Rattle.cbor4ii.proofs.Sequences.{vec_sound, vec_refuses}
+use Rattle.cbor4ii.proofs.Told.{told, may_take}
 use Rattle.cbor4ii.proofs.serde.de.vector.VecDeserialize.deserialize.Goals as goal
 
-pub returns-clause-sound : goal.returns-clause-sound
-returns-clause-sound g c = vec_sound c.take_sequence.result _ _ _ c.take_sequence.ensures.sound
-
-pub returns-clause-complete : goal.returns-clause-complete
-returns-clause-complete g c said exact =
-    vec_refuses c.take_sequence.result _ _ (c.take_sequence.ensures.complete said exact)
-
-pub returns-clause-moves : goal.returns-clause-moves
-returns-clause-moves g c = c.take_sequence.ensures.moves
-
-pub returns-clause-progress : goal.returns-clause-progress
-returns-clause-progress g c = c.take_sequence.ensures.progress
-
-pub returns-clause-stops : goal.returns-clause-stops
-returns-clause-stops g c = c.take_sequence.ensures.stops
+pub returns : goal.returns
+returns g c =
+    let d = c.take_sequence.ensures in
+    let r = c.take_sequence.result in
+    told (typed_vector g.T.Typed.promise) r d.moves d.progress (may_take r)
+    (vec_sound r _ _ _ d.sound) (λ is sure. vec_refuses r _ _ (d.complete is sure)) (λ is. d.stops)

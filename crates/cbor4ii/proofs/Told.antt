@@ -1,0 +1,69 @@
+-- What a call promises of a typed value, told of the codec's answer and of its own.
+use Rattle.std.proofs.Common.{◌+◌, ◌≤◌, Result, Ok, Err, IfOk, IfErr, IsTrue, true, refl}
+use Rattle.std.specs.Prelude.{OnOk}
+use Rattle.cbor4ii_rw.specs.View.{View}
+use Rattle.cbor4ii_rw.specs.declared.error.DecodeError.{DecodeError as CoreError}
+use Rattle.cbor4ii_items.specs.Decoding.{IsExact, Sound, Refuses, Stops, Decodes}
+use Rattle.cbor4ii_items.specs.Moves.{Moves}
+use Rattle.cbor4ii_items.specs.Refusal.{is_out_of_memory}
+use Rattle.cbor4ii.specs.declared.serde.de.error.DecodeError.{DecodeError}
+use Rattle.cbor4ii.specs.Typed.{Promise, Deserializes, as_core, answer_of}
+
+-- what is told of the codec's answer, of the call's own
+module _ {V E : Type 0} where
+  pub on_ok : (P : Type 0) (r : Result V (DecodeError E)) → OnOk (answer_of r) P → OnOk r P
+  on_ok P (Ok v) h = h
+  on_ok P (Err e) h = tt
+
+  pub if_ok : (F : V → Type 0) (r : Result V (DecodeError E)) → IfOk (answer_of r) F → IfOk r F
+  if_ok F (Ok v) h = h
+  if_ok F (Err e) h = tt
+
+  pub if_err : (F : CoreError E → Type 0) (r : Result V (DecodeError E))
+      → IfErr (answer_of r) F → IfErr r (λ e. F (as_core e))
+  if_err F (Ok v) h = tt
+  if_err F (Err e) h = h
+
+-- what is told of the call's own answer, of the codec's
+pub told : {V E : Type 0} (p : Promise V) {a b : View} (r : Result V (DecodeError E))
+    → Moves a b (answer_of r) → OnOk r (b.bound + 1 ≤ a.bound)
+    → IfErr r (λ e. IsTrue (is_out_of_memory (as_core e)) → IsTrue p.spelling.takes_memory)
+    → IfOk r (Sound p.spelling.reads a b)
+    → (IsTrue p.exact → IsExact p.spelling.owned a
+    → IfErr r (λ e. Refuses p.spelling.reads a (as_core e)))
+    → (IsTrue p.told → IfErr r (λ e. Stops p.spelling.begins a b (as_core e)))
+    → Deserializes p a b (answer_of r)
+told p (Ok v) moves progress memory sound complete begins = record {
+  moves = moves;
+  progress = progress;
+  memory = memory;
+  sound = sound;
+  complete = complete;
+  begins = begins;
+}
+told p (Err e) moves progress memory sound complete begins = record {
+  moves = moves;
+  progress = progress;
+  memory = memory;
+  sound = sound;
+  complete = complete;
+  begins = begins;
+}
+
+-- a call of the codec
+pub decoded : {V E : Type 0} (p : Promise V) {a b : View} {r : Result V (CoreError E)}
+    → Decodes p.spelling a b r → Deserializes p a b r
+decoded p d = record {
+  moves = d.moves;
+  progress = d.progress p.some;
+  memory = d.memory;
+  sound = d.sound;
+  complete = λ is. d.complete;
+  begins = λ is. d.begins;
+}
+
+-- a call that may take memory
+pub may_take : {V E : Type 0} (r : Result V (DecodeError E))
+    → IfErr r (λ e. IsTrue (is_out_of_memory (as_core e)) → IsTrue true)
+may_take (Ok v) = tt
+may_take (Err e) = λ out. refl

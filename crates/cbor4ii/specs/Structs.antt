@@ -1,0 +1,66 @@
+-- What a struct that is read from its named fields promises, by what its fields do.
+use Rattle.std.specs.Prelude.{List, ℕ, ◌&&◌, Bool, true, None, Option, IsTrue, refl}
+use Rattle.cbor4ii_items.specs.Decoding.{Spelling, spelling_by}
+use Rattle.cbor4ii_items.specs.Laws.Containers.{both}
+use Rattle.cbor4ii_items.specs.Laws.Spellings.{lawful_by}
+use Rattle.cbor4ii.specs.Fields.{ReadsNamed, StopsNamed, NamedLaws, ReadsFields, StopsFields}
+use Rattle.cbor4ii.specs.Fields.{SameField}
+use Rattle.cbor4ii.specs.Fields.{no_field, no_values, named_field, no_field_stops, field_stops}
+use Rattle.cbor4ii.specs.Fields.{no_field_laws, field_laws, fields_laws}
+use Rattle.cbor4ii.specs.Typed.{Promise, typed_spelling, typed_laws, lawful_as, said_by, any_two}
+
+-- the named fields of a struct, one behind another
+pub record Fields (V : Type 0) : Type 1 where
+  -- what stands behind a name, and how it is refused
+  pub named : ReadsNamed V
+  pub stops : StopsNamed
+  pub same : V → V → Type 0
+  -- the values of no entry
+  pub first : V
+  pub owned : Bool
+  pub exact : Bool
+  pub alike : same first first
+  pub laws : IsTrue exact → NamedLaws same named
+
+abbrev pub no_more : Fields (Unit {0})
+no_more = record {
+  named = no_field;
+  stops = no_field_stops;
+  same = any_two;
+  first = no_values;
+  owned = true;
+  exact = true;
+  alike = tt;
+  laws = λ is. no_field_laws any_two;
+}
+
+-- a field of this name, and others behind it
+abbrev pub field : {T V : Type 0} → List ℕ → Promise T → Fields V → Fields (Option T × V)
+field name p others = record {
+  named = named_field name p.spelling.reads others.named;
+  stops = field_stops name (said_by p) others.stops;
+  same = SameField p.spelling.same others.same;
+  first = (None, others.first);
+  owned = p.spelling.owned && others.owned;
+  exact = p.exact && others.exact;
+  alike = (tt, others.alike);
+  laws = λ is. (let h = both p.exact others.exact is in
+      field_laws name others.named (typed_laws p h.0) (others.laws h.1));
+}
+
+abbrev pub fields_spelling : {V : Type 0} → Fields V → Spelling V
+fields_spelling fields =
+    typed_spelling (ReadsFields fields.first fields.named) fields.same
+    (StopsFields fields.named fields.stops) fields.owned true
+
+-- a struct that has these values of its fields
+abbrev pub struct_of : {V W : Type 0} → (W → V) → Fields V → Promise W
+struct_of values fields = record {
+  spelling = spelling_by values (fields_spelling fields);
+  exact = fields.exact;
+  told = true;
+  tells = λ _. refl;
+  some = refl;
+  lawful = λ is. lawful_by values (fields_spelling fields)
+      (lawful_as (fields_laws fields.same fields.first fields.named fields.alike (fields.laws is)));
+}
