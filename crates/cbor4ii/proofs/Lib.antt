@@ -25,8 +25,8 @@ pub mod VariantsBack
 pub mod VariantsRead
 pub mod Beginnings
 pub mod PartStops
-pub mod AnyForms
-pub mod AnyStopping
+pub mod SequenceHeads
+pub mod AnyAnswers
 pub mod ValuesBack
 pub mod FieldStops
 pub mod Filling

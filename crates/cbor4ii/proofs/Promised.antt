@@ -1,22 +1,22 @@
 -- What calls promise together of a typed value.
-use Rattle.std.proofs.Common.{◌≡◌, ℕ, ◌+◌, ◌≤◌, List, Bool, true, false}
-use Rattle.std.proofs.Common.{Result, Ok, Err, IsTrue, refl, sym, ◌∙◌, arith}
+use Rattle.std.proofs.Common.{◌≡◌, ℕ, ◌+◌, ◌≤◌, List, Bool, true, false, Result, Ok, Err, IsTrue}
+use Rattle.std.proofs.Common.{inl}
+use Rattle.std.proofs.Common.{refl, arith}
 use Rattle.std.specs.Prelude.{◌||◌}
 use denote.Ref.{Bor}
 use Rattle.cbor4ii_rw.specs.View.{View}
 use Rattle.cbor4ii_rw.specs.Reader.{StepsIn, KeepsAllButBudget, step_back}
 use Rattle.cbor4ii_rw.specs.declared.error.DecodeError.{DecodeError}
 use Rattle.cbor4ii_rw.specs.declared.error.DecodeError.TheVariants.{DepthOverflow, OutOfMemory}
-use Rattle.cbor4ii_items.specs.Decoding.{Sound, Refuses, Stops}
+use Rattle.cbor4ii_items.specs.Decoding.{Sound, Decodes}
 use Rattle.cbor4ii_items.specs.Moves.{Kept, Moves}
-use Rattle.cbor4ii_items.specs.Refusal.{is_out_of_memory}
 use Rattle.cbor4ii_items.specs.Laws.Answering.{exact_kept, refuses_as}
 use Rattle.cbor4ii_items.specs.Laws.Containers.{both}
 use Rattle.cbor4ii_items.specs.Laws.Steps.{kept_then, moves_then, moves_err}
 use Rattle.cbor4ii_items.specs.Laws.UnderStep.{exact_step, moves_stepped}
 use Rattle.cbor4ii.specs.Laws.PairsRead.{exact_both, pair_sound, key_refuses, value_refuses}
 use Rattle.cbor4ii.specs.Laws.PairsRead.{key_stops_pair, value_stops_pair}
-use Rattle.cbor4ii.specs.Tuples.{ReadsCountOf, StopsCountOf}
+use Rattle.cbor4ii.specs.Tuples.{ReadsCountOf, StopsCountOf, counted_head}
 use Rattle.cbor4ii.specs.Typed.{Promise, Deserializes, typed_laws}
 use Rattle.cbor4ii.specs.TypedParts.{telling, one_step, two_of, three_of, behind_head}
 use Rattle.cbor4ii.proofs.Beginnings.{said_left}
@@ -174,31 +174,32 @@ module _ {A B C E : Type 0} (p : Promise A) (q : Promise B) (s : Promise C) {a b
 -- ---- a head that counts so many
 
 module _ {V E : Type 0} (count : ℕ) (p : Promise V) {a m : View} where
-  pub head_err : {e : DecodeError E} → Moves {V = Unit {0}} a m (Err e) → is_out_of_memory e ≡ false
-      → Refuses (ReadsCountOf count) a e → Stops (StopsCountOf count) a m e
+  pub head_err : {e : DecodeError E} → Decodes (counted_head count) a m (Err e)
       → Deserializes (behind_head count p) a m (Err e)
-  head_err moves never none stops = record {
-    moves = moves_err moves;
+  head_err d = record {
+    moves = moves_err d.moves;
     progress = tt;
-    memory = λ out. absurd (let no = sym never ∙ out in cc);
+    memory = λ out. absurd (let no : false ≡ true = d.memory out in cc);
     sound = tt;
-    complete = λ is sure. behind_no_head count p.spelling.reads none;
-    begins = λ is. key_stops_pair (ReadsCountOf count) (StopsCountOf count) p.spelling.begins stops;
+    complete = λ is sure. behind_no_head count p.spelling.reads (d.complete (inl refl));
+    begins = λ is. key_stops_pair (ReadsCountOf count) (StopsCountOf count) p.spelling.begins
+        d.begins;
   }
 
-  pub head_behind : {b : View} → Kept a m → m.bound + 1 ≤ a.bound
-      → Sound (ReadsCountOf count) a m tt → (r : Result V (DecodeError E)) → Deserializes p m b r
+  pub head_behind : {b : View} → Decodes {E = E} (counted_head count) a m (Ok tt)
+      → (r : Result V (DecodeError E)) → Deserializes p m b r
       → Deserializes (behind_head count p) a b r
-  head_behind kept some head (Ok v) t =
-      ok (behind_head count p) (kept_then kept t.moves.by)
-      (omega (arith, some, t.progress)) (behind_at count p.spelling.reads kept head t.sound)
-  head_behind kept some head (Err e) t = record {
-    moves = moves_then kept (moves_err t.moves);
+  head_behind d (Ok v) t =
+      ok (behind_head count p) (kept_then d.moves.by t.moves.by)
+      (omega (arith, d.progress refl, t.progress))
+      (behind_at count p.spelling.reads d.moves.by d.sound t.sound)
+  head_behind d (Err e) t = record {
+    moves = moves_then d.moves.by (moves_err t.moves);
     progress = tt;
     memory = t.memory;
     sound = tt;
-    complete = λ is sure. refused_at count p.spelling.reads kept head
-        (λ xs told. t.complete is (exact_kept p.spelling.owned a m xs told kept sure));
-    begins = λ is. value_stops_pair (ReadsCountOf count) (StopsCountOf count) p.spelling.begins kept
-        head (λ xs told. t.begins is);
+    complete = λ is sure. refused_at count p.spelling.reads d.moves.by d.sound
+        (λ xs told. t.complete is (exact_kept p.spelling.owned a m xs told d.moves.by sure));
+    begins = λ is. value_stops_pair (ReadsCountOf count) (StopsCountOf count) p.spelling.begins
+        d.moves.by d.sound (λ xs told. t.begins is);
   }

@@ -7,12 +7,14 @@ use Rattle.cbor4ii_rw.specs.Reader.{Breaks, Failed, StepsIn, KeepsAllButBudget, 
 use Rattle.cbor4ii_rw.specs.declared.error.DecodeError.{DecodeError}
 use Rattle.cbor4ii.specs.declared.serde.de.error.DecodeError.{DecodeError as Typed}
 use Rattle.cbor4ii.specs.Typed.{as_core}
-use Rattle.cbor4ii.specs.Stepped.{Stepped, StopsStepped}
+use Rattle.cbor4ii.specs.Stepped.{Stepped, StopsStepped, stepped_spelling}
 use Rattle.cbor4ii_items.specs.Refusal.{Refusal, refusal_of}
-use Rattle.cbor4ii_items.specs.Decoding.{CostFits, Sound, Refuses, Stops}
+use Rattle.cbor4ii_items.specs.Decoding.{CostFits, Sound, Refuses, Stops, Spelling, Decodes}
+use Rattle.cbor4ii_items.specs.Moves.{Moves}
 use Rattle.cbor4ii_items.specs.Laws.Answering.{if_some}
 use Rattle.cbor4ii_items.specs.Laws.UnderStep.{step_again, fits_step, fits_inside, stepped}
-use Rattle.cbor4ii_items.specs.Laws.Calls.{stops_as}
+use Rattle.cbor4ii_items.specs.Laws.UnderStep.{exact_step, moves_stepped}
+use Rattle.cbor4ii_items.specs.Laws.Calls.{stops_as, ok as all_ok}
 use Rattle.cbor4ii_rw.specs.declared.error.DecodeError.TheVariants.{DepthOverflow}
 use denote.Ref.{Bor}
 
@@ -81,12 +83,6 @@ module _ {V W E : Type 0} (r : Result W (Typed E)) (reads : List ℕ → V → �
         | Err e ↦ (λ w. refuses_stepped reads takes inward w)
       ] s
 
-module _ {V E : Type 0} (r : Result V (Typed E)) (reads : List ℕ → V → ℕ → ℕ → Type 0) (a b : View)
-    (takes : StepsIn a.budget b.budget true) (inward : KeepsAllButBudget a b) where
-  pub step_sound : (c d : View) → KeepsAllButBudget c d → IfOk r (Sound reads b c)
-      → IfOk r (Sound (Stepped reads) a d)
-  step_sound c d outward s = formed_sound r (λ v. v) reads a b takes inward c d outward s
-
 pub stops_stepped : {E : Type 0} (name : List ℕ)
     (stops : List ℕ → Option ℕ → Refusal → List ℕ → Type 0) {a b c d : View} {e : DecodeError E}
     → StepsIn a.budget b.budget true → KeepsAllButBudget a b → KeepsAllButBudget c d
@@ -124,3 +120,38 @@ refuses_no_step reads name a b h = record {
   at = λ xs told v n c read fits. over_none a.budget read.0 (none_left a.budget b.budget h)
       (subst (λ k. CostFits k a.budget) read.2 fits);
 }
+
+module _ {V E : Type 0} (s : Spelling V) where
+  pub no_step_left : (name : Bor (List ℕ)) {a b : View}
+      → Moves {V = V} {E = E} a b (Err (DepthOverflow name)) → StepsIn a.budget b.budget false
+      → KeepsAllButBudget a b
+      → Decodes {E = E} (stepped_spelling name.now s) a b (Err (DepthOverflow name))
+  no_step_left name {a = a} {b = b} moves takes inward = record {
+    moves = moves;
+    progress = λ some. tt;
+    memory = λ out. cc;
+    sound = tt;
+    complete = λ sure. refuses_no_step s.reads name a b takes;
+    stops = λ sure. stops_no_step name s.stops takes inward;
+    begins = stops_no_step name s.begins takes inward;
+  }
+
+  pub under : (name : List ℕ) {a b c d : View} → StepsIn a.budget b.budget true
+      → KeepsAllButBudget a b → KeepsAllButBudget c d → (r : Result V (DecodeError E))
+      → d.budget ≡ step_back c.budget → Decodes s b c r → Decodes (stepped_spelling name s) a d r
+  under name {a = a} {b = b} {c = c} {d = d} takes inward outward (Ok v) gives t =
+      all_ok (stepped_spelling name s)
+      (moves_stepped (Ok v) a b c d takes inward t.moves gives outward).by
+      (λ some. omega (arith, t.progress some, inward.bound, outward.bound))
+      (sound_stepped s.reads takes inward outward t.sound)
+  under name {a = a} {b = b} {c = c} {d = d} takes inward outward (Err e) gives t = record {
+    moves = moves_stepped (Err e) a b c d takes inward t.moves gives outward;
+    progress = λ some. tt;
+    memory = t.memory;
+    sound = tt;
+    complete = λ sure. refuses_stepped s.reads takes inward
+        (t.complete (exact_step s.owned a b inward sure));
+    stops = λ sure. stops_stepped name s.stops takes inward outward
+        (t.stops (exact_step s.owned a b inward sure));
+    begins = stops_stepped name s.begins takes inward outward t.begins;
+  }

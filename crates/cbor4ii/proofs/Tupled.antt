@@ -1,7 +1,7 @@
 -- A head that counts so many, and what stands behind it.
 use Rattle.std.proofs.Common.{◌≡◌, ℕ, ◌+◌, ◌<◌, ◌≤◌, inl, inr, List, drop, Option, Some, None, Bool}
-use Rattle.std.proofs.Common.{true, false, refl, sym, ap, ◌∙◌, subst}
-use Rattle.std.proofs.Common.{ltb, ltb-true, ltb-false}
+use Rattle.std.proofs.Common.{true, false, Ok, Err, refl, sym, ap, ◌∙◌, subst, ltb, ltb-true}
+use Rattle.std.proofs.Common.{ltb-false}
 use Rattle.std.specs.Prelude.{codes}
 use denote.Ref.{Bor}
 use Rattle.cbor4ii_rw.specs.declared.error.Len.{Len}
@@ -9,31 +9,32 @@ use Rattle.cbor4ii_rw.specs.declared.error.Len.TheVariants.{Small, Big, Indefini
 use Rattle.cbor4ii_rw.specs.declared.error.DecodeError.TheVariants.{RequireLength}
 use Rattle.cbor4ii_rw.specs.View.{View}
 use Rattle.cbor4ii_rw.specs.declared.error.DecodeError.{DecodeError}
+use Rattle.cbor4ii_items.specs.Laws.Calls.{ok, err, err_behind}
+use Rattle.cbor4ii_items.specs.Laws.Running.{kept_alike}
 use Rattle.cbor4ii.specs.Sequence.{four_small}
-use Rattle.cbor4ii.specs.Tuples.{ReadsBehind, ReadsCountOf, StopsCountOf, told_length}
-use Rattle.cbor4ii_items.specs.Refusal.{refusal_of, len_of}
+use Rattle.cbor4ii.specs.Tuples.{ReadsBehind, ReadsCountOf, StopsCountOf, counted_head, told_length}
+use Rattle.cbor4ii_items.specs.Refusal.{refusal_of, len_of, require_length}
 use Rattle.cbor4ii_items.specs.Moves.{Kept}
 use Rattle.cbor4ii_items.specs.Laws.Fronts.{drop_more}
 use Rattle.cbor4ii_items.specs.Laws.Heads.{head_one}
 use Rattle.cbor4ii_items.specs.Laws.Strings.{head_not_open}
-use Rattle.cbor4ii_items.specs.Lengths.{ReadsLength, StopsLength}
-use Rattle.cbor4ii_items.specs.Decoding.{CostFits, Sound, NoneRead, Refuses, Stops}
-use Rattle.cbor4ii_items.specs.Laws.Answering.{if_some}
-use Rattle.cbor4ii_items.specs.Laws.Answering.{fits_zero}
-use Rattle.cbor4ii.specs.Laws.PartsRead.{always}
-use Rattle.cbor4ii.proofs.Stopped.{stopped_as}
+use Rattle.cbor4ii_items.specs.Lengths.{ReadsLength, length_spelling}
+use Rattle.cbor4ii_items.specs.Decoding.{CostFits, Sound, NoneRead, Refuses, Decodes}
+use Rattle.cbor4ii_items.specs.Laws.Answering.{if_some, fits_zero}
 
-so_many : {count : ℕ} {a m : View} → Sound (ReadsLength 4) a m (Some count)
-    → Sound (ReadsCountOf count) a m tt
-so_many s = record {
-  at = λ xs told. (let p = s.at xs told in
-      record { count = p.count; cost = p.cost; read = p.read; fits = p.fits; left = p.left });
-}
-
-pub count_sound : {count found : ℕ} {l : Option ℕ} {a m : View} → l ≡ Some found → found ≡ count
-    → Sound (ReadsLength 4) a m l → Sound (ReadsCountOf count) a m tt
-count_sound {a = a} {m = m} is same s =
-    so_many (subst (Sound (ReadsLength 4) a m) (is ∙ ap Some same) s)
+pub head_counts : {E : Type 0} {count found : ℕ} {l : Option ℕ} {a m : View} → l ≡ Some found
+    → found ≡ count → Decodes {E = E} (length_spelling (codes "array") 4) a m (Ok l)
+    → Decodes {E = E} (counted_head count) a m (Ok tt)
+head_counts {count = count} {a = a} is same d =
+    ok (counted_head count) d.moves.by d.progress (record {
+      at = λ xs told. (let p = d.sound.at xs told in record {
+        count = p.count;
+        cost = p.cost;
+        read = subst (λ k. ReadsLength 4 xs k p.count p.cost) (is ∙ ap Some same) p.read;
+        fits = p.fits;
+        left = p.left;
+      });
+    })
 
 other : (count : ℕ) (l : Option ℕ) (xs : List ℕ) (n c : ℕ) (budget : Option ℕ)
     → (l ≡ Some count → ⊥) → ReadsLength 4 xs l n c → NoneRead (ReadsCountOf count) xs budget
@@ -41,25 +42,20 @@ other count None xs n c budget not h v k d r fits = head_not_open 4 xs count k f
 other count (Some found) xs n c budget not h v k d r fits =
     not (ap Some (head_one 4 8 xs found count n k four_small h.0 r.0).1)
 
-pub count_other : {E : Type 0} {count : ℕ} {l : Option ℕ} {a m : View} {e : DecodeError E}
-    → (l ≡ Some count → ⊥) → Sound (ReadsLength 4) a m l → Refuses (ReadsCountOf count) a e
-count_other {count = count} {l = l} {a = a} {e = e} not s =
-    record {
-      at = λ xs told. (let p = s.at xs told in
-          always (refusal_of e) (other count l xs p.count p.cost a.budget not p.read));
-    }
-
-pub count_none : {E : Type 0} {count : ℕ} {a : View} {e : DecodeError E}
-    → Refuses (ReadsLength 4) a e → Refuses (ReadsCountOf count) a e
-count_none {count = count} {e = e} s = record {
-  at = λ xs told. if_some (refusal_of e)
-      (λ none v n c r fits. none (Some count) n c r fits) (s.at xs told);
-}
-
-pub count_missing : {E : Type 0} {count : ℕ} {a m : View} {e : DecodeError E}
-    → Stops (StopsLength (codes "array") 4) a m e → Stops (StopsCountOf count) a m e
-count_missing {count = count} s =
-    stopped_as (StopsLength (codes "array") 4) (StopsCountOf count) (λ xs budget z ys h. inl h) s
+pub head_missing : {E : Type 0} {count : ℕ} {a m : View} {e : DecodeError E}
+    → Decodes (length_spelling (codes "array") 4) a m (Err e)
+    → Decodes (counted_head count) a m (Err e)
+head_missing {count = count} {a = a} d =
+    err_behind (length_spelling (codes "array") 4) (counted_head count) (kept_alike a)
+    (λ xs told. (
+      xs,
+      told,
+      record {
+        none = λ none v n c r fits. none (Some count) n c r fits;
+        stops = λ z ys h. inl h;
+        begins = λ z ys h. inl h;
+      },
+    )) (λ owned. owned) (λ takes. takes) d
 
 len_by : (t : Bool) (n : ℕ) (l : Len) → ltb n 65536 ≡ t → (n < 65536 → l ≡ Small n)
     → (65536 ≤ n → l ≡ Big) → l ≡ len_of n
@@ -74,13 +70,15 @@ counted_len {found = found} {len = len} is small big =
 pub open_len : {l : Option ℕ} → l ≡ None → Indefinite ≡ told_length l
 open_len is = rw is refl
 
-pub count_differs : {E : Type 0} {count : ℕ} {l : Option ℕ} {len : Len} {name : Bor (List ℕ)}
+pub head_differs : {E : Type 0} {count : ℕ} {l : Option ℕ} {len : Len} {name : Bor (List ℕ)}
     {a m : View} → name.now ≡ codes "tuple" → (l ≡ Some count → ⊥) → len ≡ told_length l
-    → Sound (ReadsLength 4) a m l → Stops {E = E} (StopsCountOf count) a m (RequireLength name len)
-count_differs {count = count} {l = l} named not is s = record {
-  at = λ xs told. (let p = s.at xs told in (
-    drop p.count xs,
-    p.left,
+    → Decodes {E = E} (length_spelling (codes "array") 4) a m (Ok l)
+    → Decodes {E = E} (counted_head count) a m (Err (RequireLength name len))
+head_differs {count = count} {l = l} {len = len} {name = name} {a = a} named not is d =
+    err (counted_head count) (record { by = d.moves.by; depth = λ none. refl }) (λ out. cc)
+    (λ xs told. (
+    let p = d.sound.at xs told in
+    let stop : StopsCountOf count xs a.budget (require_length name.now len) (drop p.count xs) =
     inr (record {
       found = l;
       size = p.count;
@@ -89,9 +87,15 @@ count_differs {count = count} {l = l} named not is s = record {
       other = not;
       refused = rw (named, is) refl;
       left = refl;
-    }),
-  ));
-}
+    }) in (
+      drop p.count xs,
+      p.left,
+      record {
+        none = other count l xs p.count p.cost a.budget not p.read;
+        stops = stop;
+        begins = stop;
+      },
+    )))
 
 pub count_length : {count : ℕ} {a m : View} → Sound (ReadsCountOf count) a m tt
     → Sound (ReadsLength 4) a m (Some count)

@@ -1,11 +1,11 @@
 -- How an accessor goes over the parts of an array or a map.
 use Rattle.std.specs.Prelude.{◌≡◌, ℕ, zero, suc, ◌+◌, ◌-◌, ◌<◌, ◌≤◌, ◌⊎◌, Bool, true, false, not}
-use Rattle.std.specs.Prelude.{if◌then◌else◌, Option, Some, None, Result}
+use Rattle.std.specs.Prelude.{if◌then◌else◌, Option, Some, None, Result, Ok, Err}
 use Rattle.cbor4ii_rw.specs.View.{View}
 use Rattle.cbor4ii_rw.specs.Reader.{StepsIn, KeepsAllButBudget, step_back}
 use Rattle.cbor4ii_rw.specs.declared.error.DecodeError.{DecodeError}
 use Rattle.cbor4ii_items.specs.Moves.{Kept, Moves}
-use Rattle.cbor4ii_items.specs.Decoding.{Reads, StopsAt, Sound}
+use Rattle.cbor4ii_items.specs.Decoding.{Reads, StopsAt, Sound, Spelling, Decodes}
 use Rattle.cbor4ii_items.specs.Lengths.{ReadsLength}
 use Rattle.cbor4ii_items.specs.Strings.{ReadsBreak, StopsBreak}
 use Rattle.cbor4ii.specs.declared.serde.de.deserializer.Deserializer.{Deserializer}
@@ -52,6 +52,12 @@ pub record OpensParts (major : ℕ) (old new : View) (left : Left) : Type 0 wher
   pub length : Option ℕ
   pub head : Sound (ReadsLength major) within new length
   pub begun : left ≡ left_behind length
+
+-- it was refused, as what is spelled so
+abbrev pub RefusedAs : {U V E : Type 0} → Spelling U → View → View → Result V (DecodeError E) →
+    Type 0
+RefusedAs s old new (Ok v) = Unit {0}
+RefusedAs s old new (Err error) = Decodes s old new (Err error)
 
 -- so many steps more
 abbrev pub steps_back : ℕ → Option ℕ → Option ℕ

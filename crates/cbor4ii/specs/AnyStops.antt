@@ -73,7 +73,3 @@ AnyStopsAt (suc k) xs budget refusal rest =
 -- however deep items nest
 abbrev pub StopsAny : StopsAt
 StopsAny xs budget refusal rest = (k : ℕ) × AnyStopsAt k xs budget refusal rest
-
--- a key's refusal, or behind a whole key its value's
-abbrev pub StopsAnyPair : StopsAt
-StopsAnyPair = StopsPair ReadsAny StopsAny StopsAny

@@ -3,7 +3,7 @@ use Rattle.std.proofs.Common.{◌≡◌, ◌≢◌, ◌⊎◌, inl, inr, ℕ, �
 use Rattle.std.proofs.Common.{Some, Bool, true, false, sym, subst}
 use denote.Ref.{Bor}
 use Rattle.cbor4ii_rw.specs.View.{View}
-use Rattle.std.specs.Prelude.{◌&&◌, codes}
+use Rattle.std.specs.Prelude.{codes}
 use Rattle.cbor4ii_items.specs.Decoding.{Reads, StopsAt, CostFits, Sound}
 use Rattle.cbor4ii.specs.Beginning.{StopsParts}
 use Rattle.cbor4ii_items.specs.Containers.{SameOption}

@@ -17,6 +17,7 @@ pub mod Character
 pub mod Any
 pub mod AnyCost
 pub mod AnyStops
+pub mod AnySpelling
 pub mod Beginning
 pub mod TypedParts
 pub mod Structs

@@ -4,7 +4,7 @@ use Rattle.std.specs.Prelude.{Some, None, codes}
 use Rattle.cbor4ii_rw.specs.View.{View}
 use Rattle.cbor4ii_rw.specs.Reader.{StepsIn, KeepsAllButBudget}
 use Rattle.cbor4ii_items.specs.Moves.{Kept}
-use Rattle.cbor4ii_items.specs.Decoding.{Reads, StopsAt, Sound}
+use Rattle.cbor4ii_items.specs.Decoding.{Reads, StopsAt, Sound, Spelling, looking_spelling}
 use Rattle.cbor4ii_items.specs.Containers.{BeginsNull, ReadsOption, StopsOption}
 use Rattle.cbor4ii.specs.declared.serde.de.deserializer.Deserializer.{Deserializer}
 use Rattle.cbor4ii.specs.declared.serde.de.some_accessor.SomeAccessor.{SomeAccessor}
@@ -49,6 +49,9 @@ never_stops xs budget refusal rest = ⊥
 -- no byte is left, or no step where a value comes
 abbrev pub StopsPresence : StopsAt
 StopsPresence = StopsOption (StopsStepped (codes "option") never_stops)
+
+abbrev pub presence_spelling : Spelling (Option (Unit {0}))
+presence_spelling = looking_spelling ReadsPresence StopsPresence
 
 -- null and undefined are taken, and another byte stays
 abbrev pub ReadsComing : Reads Bool

@@ -5,7 +5,7 @@ use Rattle.std.proofs.lemmas.List.{length-drop}
 use Rattle.std.specs.Prelude.{◌||◌, ◌≢◌, ◌⊎◌, Option, Some, None, codes}
 use Rattle.cbor4ii_rw.specs.declared.error.Len.{Len}
 use Rattle.cbor4ii_rw.specs.declared.error.Len.TheVariants.{Small, Indefinite}
-use Rattle.cbor4ii_items.specs.Decoding.{Reads, StopsAt}
+use Rattle.cbor4ii_items.specs.Decoding.{Reads, StopsAt, Spelling, leaf_spelling}
 use Rattle.cbor4ii_items.specs.Refusal.{Refusal, eof, mismatch, require_length, len_of}
 use Rattle.cbor4ii_items.specs.Lengths.{ReadsLength, StopsLength}
 use Rattle.cbor4ii_items.specs.Heads.{ReadsHead}
@@ -107,6 +107,9 @@ pub record OtherLength (count : ℕ) (xs : List ℕ) (refusal : Refusal) (rest :
 abbrev pub StopsCountOf : ℕ → StopsAt
 StopsCountOf count xs budget refusal rest =
     StopsLength (codes "array") 4 xs budget refusal rest ⊎ OtherLength count xs refusal rest
+
+abbrev pub counted_head : ℕ → Spelling (Unit {0})
+counted_head count = leaf_spelling (ReadsCountOf count) (StopsCountOf count)
 
 -- ---- three parts
 

@@ -7,7 +7,7 @@ use Rattle.cbor4ii_rw.specs.Reader.{StepsIn, KeepsAllButBudget}
 use Rattle.cbor4ii_rw.specs.declared.error.DecodeError.{DecodeError}
 use Rattle.cbor4ii_rw.specs.declared.error.Len.TheVariants.{Small}
 use Rattle.cbor4ii_items.specs.Moves.{Kept}
-use Rattle.cbor4ii_items.specs.Decoding.{Reads, StopsAt, Sound}
+use Rattle.cbor4ii_items.specs.Decoding.{Reads, StopsAt, Sound, Spelling, looking_spelling}
 use Rattle.cbor4ii_items.specs.Refusal.{refusal_of, eof, mismatch}
 use Rattle.cbor4ii_items.specs.Sequences.{ReadsPair}
 use Rattle.cbor4ii_items.specs.Strings.{ReadsText}
@@ -52,6 +52,9 @@ abbrev pub StopsForm : StopsAt
 StopsForm [] budget refusal rest = (refusal ≡ eof (codes "enum") (Small 1)) × (rest ≡ [])
 StopsForm (b ∷ bs) budget refusal rest =
     (b ≢ 0xa1) × (b / 32 ≢ 3) × (refusal ≡ mismatch (codes "enum") b) × (rest ≡ b ∷ bs)
+
+abbrev pub form_spelling : Spelling (Bool × ℕ)
+form_spelling = looking_spelling ReadsForm StopsForm
 
 -- A step was taken, and then it was read which form the variant has.
 pub record OpensEnum (old new : View) (form : Bool × ℕ) : Type 0 where

@@ -1,18 +1,13 @@
 //! Any item, read as a value.
-ghost use Rattle.std.specs.Prelude.{◌≡◌, ◌+◌, ◌≤◌, [], ◌∷◌, ◌++◌, true, OnOk, IfOk, IfErr, IsTrue};
-ghost use Rattle.std.specs.Prelude.{codes};
-ghost use Rattle.cbor4ii_items.specs.Moves.{Moves};
-ghost use Rattle.cbor4ii_items.specs.Decoding.{Sound, Refuses, Stops};
-ghost use Rattle.cbor4ii_items.specs.Sequences.{ReadsPair, ReadsCount, ReadsUpToBreak, ReadsInside};
-ghost use Rattle.cbor4ii_items.specs.Sequences.{ReadsSequence, StopsCount, StopsUpToBreak};
-ghost use Rattle.cbor4ii_items.specs.Sequences.{StopsInside};
-ghost use Rattle.cbor4ii.specs.ItemRead.{AddsPart};
-ghost use Rattle.cbor4ii.specs.Any.{ReadsAny, AnyInside};
+ghost use Rattle.std.specs.Prelude.{◌≡◌, [], ◌∷◌, ◌++◌, true, IsTrue, codes};
+ghost use Rattle.cbor4ii_items.specs.Decoding.{Decodes};
+ghost use Rattle.cbor4ii_items.specs.Sequences.{count_spelling, open_spelling};
+ghost use Rattle.cbor4ii.specs.AnySpelling.{any_spelling, any_inside, values_inside};
+ghost use Rattle.cbor4ii.specs.AnySpelling.{values_spelling, any_pair, pairs_inside};
+ghost use Rattle.cbor4ii.specs.AnySpelling.{pairs_spelling, AddsOne};
+ghost use Rattle.cbor4ii.specs.AnyStops.{StopsAny};
 ghost use Rattle.cbor4ii.specs.Laws.Any.{any_laws};
-ghost use Rattle.cbor4ii.specs.AnyStops.{AnyStops, KindStops, StopsAny, StopsAnyPair};
-ghost use Rattle.cbor4ii.specs.declared.serde.de.any_leaf.AnyKind.TheVariants.{Array as array_kind};
-ghost use Rattle.cbor4ii.specs.declared.serde.de.any_leaf.AnyKind.TheVariants.{Map as map_kind};
-ghost use Rattle.cbor4ii.specs.Typed.{input, answer_of, as_core, typed_by};
+ghost use Rattle.cbor4ii.specs.Typed.{input, answer_of, Deserializes, typed_by};
 
 use crate::serde::de::any_leaf::{AnyKind, kind_of, take_leaf};
 use crate::serde::de::deserialize::{Deserialize, Typed};
@@ -51,15 +46,8 @@ impl<S: Source> Deserializer<S> {
     /// - `c2` stands before a number of 2^127 or more: `Custom` of "integer out of range", and the
     ///   item is taken
     pub fn deserialize_any(&mut self, alloc: Global) -> Result<Value, DecodeError<S::Error>>
-        ensures moves { Moves (input S.view self.old) (input S.view self.new) (answer_of result) }
-        ensures progress { OnOk result
-            ((input S.view self.new).bound + 1 ≤ (input S.view self.old).bound) }
-        ensures sound { IfOk result
-            (Sound ReadsAny (input S.view self.old) (input S.view self.new)) }
-        ensures complete { IfErr result
-            (λ error. Refuses ReadsAny (input S.view self.old) (as_core error)) }
-        ensures stops { IfErr result (λ error. Stops StopsAny
-            (input S.view self.old) (input S.view self.new) (as_core error)) }
+        ensures { Deserializes ⟦<Value as Typed>⟧.promise
+            (input S.view self.old) (input S.view self.new) (answer_of result) }
     {
         read_any(alloc, self)
     }
@@ -85,13 +73,8 @@ fn read_any<S: Source>(
     alloc: Global,
     de: &mut Deserializer<S>,
 ) -> Result<Value, DecodeError<S::Error>>
-    ensures moves { Moves (input S.view de.old) (input S.view de.new) (answer_of result) }
-    ensures progress { OnOk result ((input S.view de.new).bound + 1 ≤ (input S.view de.old).bound) }
-    ensures sound { IfOk result (Sound ReadsAny (input S.view de.old) (input S.view de.new)) }
-    ensures complete { IfErr result
-        (λ error. Refuses ReadsAny (input S.view de.old) (as_core error)) }
-    ensures stops { IfErr result (λ error. Stops StopsAny
-        (input S.view de.old) (input S.view de.new) (as_core error)) }
+    ensures { Decodes any_spelling
+        (input S.view de.old) (input S.view de.new) (answer_of result) }
 {
     if !de.reader.step_in() {
         return Err(DecodeError::Core(core_error::DecodeError::DepthOverflow { name: "any" }));
@@ -107,14 +90,8 @@ fn any_inside<S: Source>(
     alloc: Global,
     de: &mut Deserializer<S>,
 ) -> Result<Value, DecodeError<S::Error>>
-    ensures moves { Moves (input S.view de.old) (input S.view de.new) (answer_of result) }
-    ensures progress { OnOk result ((input S.view de.new).bound + 1 ≤ (input S.view de.old).bound) }
-    ensures sound { IfOk result
-        (Sound (AnyInside ReadsAny) (input S.view de.old) (input S.view de.new)) }
-    ensures complete { IfErr result
-        (λ error. Refuses (AnyInside ReadsAny) (input S.view de.old) (as_core error)) }
-    ensures stops { IfErr result (λ error. Stops (AnyStops StopsAny)
-        (input S.view de.old) (input S.view de.new) (as_core error)) }
+    ensures { Decodes any_inside
+        (input S.view de.old) (input S.view de.new) (answer_of result) }
 {
     let first = match peek(&mut de.reader, "any") {
         Ok(first) => first,
@@ -143,14 +120,8 @@ fn any_array<S: Source>(
     alloc: Global,
     de: &mut Deserializer<S>,
 ) -> Result<Vec<Value>, DecodeError<S::Error>>
-    ensures moves { Moves (input S.view de.old) (input S.view de.new) (answer_of result) }
-    ensures progress { OnOk result ((input S.view de.new).bound + 1 ≤ (input S.view de.old).bound) }
-    ensures sound { IfOk result (λ values. Sound (ReadsSequence 4 ReadsAny true)
-        (input S.view de.old) (input S.view de.new) values.items) }
-    ensures complete { IfErr result
-        (λ error. Refuses (ReadsSequence 4 ReadsAny true) (input S.view de.old) (as_core error)) }
-    ensures stops { IfErr result (λ error. Stops (KindStops StopsAny array_kind)
-        (input S.view de.old) (input S.view de.new) (as_core error)) }
+    ensures { Decodes values_spelling
+        (input S.view de.old) (input S.view de.new) (answer_of result) }
 {
     if !de.reader.step_in() {
         return Err(DecodeError::Core(core_error::DecodeError::DepthOverflow { name: "seq" }));
@@ -165,15 +136,8 @@ fn array_inside<S: Source>(
     alloc: Global,
     de: &mut Deserializer<S>,
 ) -> Result<Vec<Value>, DecodeError<S::Error>>
-    ensures moves { Moves (input S.view de.old) (input S.view de.new) (answer_of result) }
-    ensures progress { OnOk result ((input S.view de.new).bound + 1 ≤ (input S.view de.old).bound) }
-    ensures sound { IfOk result (λ values. Sound (ReadsInside 4 ReadsAny true)
-        (input S.view de.old) (input S.view de.new) values.items) }
-    ensures complete { IfErr result
-        (λ error. Refuses (ReadsInside 4 ReadsAny true) (input S.view de.old) (as_core error)) }
-    ensures stops { IfErr result (λ error. Stops
-        (StopsInside (codes "array") 4 ReadsAny StopsAny true)
-        (input S.view de.old) (input S.view de.new) (as_core error)) }
+    ensures { Decodes values_inside
+        (input S.view de.old) (input S.view de.new) (answer_of result) }
 {
     match Array::<()>::len(&mut de.reader) {
         Ok(Some(count)) => counted_values(alloc, de, count),
@@ -188,13 +152,8 @@ fn counted_values<S: Source>(
     de: &mut Deserializer<S>,
     count: usize,
 ) -> Result<Vec<Value>, DecodeError<S::Error>>
-    ensures moves { Moves (input S.view de.old) (input S.view de.new) (answer_of result) }
-    ensures sound { IfOk result (λ values. Sound (ReadsCount ReadsAny count)
-        (input S.view de.old) (input S.view de.new) values.items) }
-    ensures complete { IfErr result
-        (λ error. Refuses (ReadsCount ReadsAny count) (input S.view de.old) (as_core error)) }
-    ensures stops { IfErr result (λ error. Stops (StopsCount ReadsAny StopsAny count)
-        (input S.view de.old) (input S.view de.new) (as_core error)) }
+    ensures { Decodes (count_spelling any_spelling count)
+        (input S.view de.old) (input S.view de.new) (answer_of result) }
 {
     let mut values = Vec::new(alloc);
     if values.reserve(items_ahead(count)).is_err() {
@@ -211,14 +170,8 @@ fn open_values<S: Source>(
     alloc: Global,
     de: &mut Deserializer<S>,
 ) -> Result<Vec<Value>, DecodeError<S::Error>>
-    ensures moves { Moves (input S.view de.old) (input S.view de.new) (answer_of result) }
-    ensures sound { IfOk result (λ values. Sound (ReadsUpToBreak ReadsAny true)
-        (input S.view de.old) (input S.view de.new) values.items) }
-    ensures complete { IfErr result
-        (λ error. Refuses (ReadsUpToBreak ReadsAny true) (input S.view de.old) (as_core error)) }
-    ensures stops { IfErr result (λ error. Stops
-        (StopsUpToBreak (codes "array") ReadsAny StopsAny true)
-        (input S.view de.old) (input S.view de.new) (as_core error)) }
+    ensures { Decodes (open_spelling (codes "array") any_spelling)
+        (input S.view de.old) (input S.view de.new) (answer_of result) }
 {
     let mut values = Vec::new(alloc);
     while !takes_break(de)? {
@@ -234,15 +187,8 @@ fn add_value<S: Source>(
     de: &mut Deserializer<S>,
     values: &mut Vec<Value>,
 ) -> Result<(), DecodeError<S::Error>>
-    ensures moves { Moves (input S.view de.old) (input S.view de.new) (answer_of result) }
-    ensures progress { OnOk result ((input S.view de.new).bound + 1 ≤ (input S.view de.old).bound) }
-    ensures sound { OnOk result
-        (AddsPart ReadsAny values.old.items values.new.items
-        (input S.view de.old) (input S.view de.new)) }
-    ensures complete { IfErr result
-        (λ error. Refuses ReadsAny (input S.view de.old) (as_core error)) }
-    ensures stops { IfErr result (λ error. Stops StopsAny
-        (input S.view de.old) (input S.view de.new) (as_core error)) }
+    ensures { AddsOne any_spelling values.old.items values.new.items
+        (input S.view de.old) (input S.view de.new) (answer_of result) }
 {
     let value = read_any(alloc, de)?;
     if !keep(values, value) {
@@ -257,15 +203,8 @@ fn any_map<S: Source>(
     alloc: Global,
     de: &mut Deserializer<S>,
 ) -> Result<Vec<(Value, Value)>, DecodeError<S::Error>>
-    ensures moves { Moves (input S.view de.old) (input S.view de.new) (answer_of result) }
-    ensures progress { OnOk result ((input S.view de.new).bound + 1 ≤ (input S.view de.old).bound) }
-    ensures sound { IfOk result (λ pairs. Sound (ReadsSequence 5 (ReadsPair ReadsAny ReadsAny) true)
-        (input S.view de.old) (input S.view de.new) pairs.items) }
-    ensures complete { IfErr result
-        (λ error. Refuses (ReadsSequence 5 (ReadsPair ReadsAny ReadsAny) true)
-        (input S.view de.old) (as_core error)) }
-    ensures stops { IfErr result (λ error. Stops (KindStops StopsAny map_kind)
-        (input S.view de.old) (input S.view de.new) (as_core error)) }
+    ensures { Decodes pairs_spelling
+        (input S.view de.old) (input S.view de.new) (answer_of result) }
 {
     if !de.reader.step_in() {
         return Err(DecodeError::Core(core_error::DecodeError::DepthOverflow { name: "map" }));
@@ -280,16 +219,8 @@ fn map_inside<S: Source>(
     alloc: Global,
     de: &mut Deserializer<S>,
 ) -> Result<Vec<(Value, Value)>, DecodeError<S::Error>>
-    ensures moves { Moves (input S.view de.old) (input S.view de.new) (answer_of result) }
-    ensures progress { OnOk result ((input S.view de.new).bound + 1 ≤ (input S.view de.old).bound) }
-    ensures sound { IfOk result (λ pairs. Sound (ReadsInside 5 (ReadsPair ReadsAny ReadsAny) true)
-        (input S.view de.old) (input S.view de.new) pairs.items) }
-    ensures complete { IfErr result
-        (λ error. Refuses (ReadsInside 5 (ReadsPair ReadsAny ReadsAny) true)
-        (input S.view de.old) (as_core error)) }
-    ensures stops { IfErr result (λ error. Stops
-        (StopsInside (codes "map") 5 (ReadsPair ReadsAny ReadsAny) StopsAnyPair true)
-        (input S.view de.old) (input S.view de.new) (as_core error)) }
+    ensures { Decodes pairs_inside
+        (input S.view de.old) (input S.view de.new) (answer_of result) }
 {
     match Map::<()>::len(&mut de.reader) {
         Ok(Some(count)) => counted_pairs(alloc, de, count),
@@ -304,15 +235,8 @@ fn counted_pairs<S: Source>(
     de: &mut Deserializer<S>,
     count: usize,
 ) -> Result<Vec<(Value, Value)>, DecodeError<S::Error>>
-    ensures moves { Moves (input S.view de.old) (input S.view de.new) (answer_of result) }
-    ensures sound { IfOk result (λ pairs. Sound (ReadsCount (ReadsPair ReadsAny ReadsAny) count)
-        (input S.view de.old) (input S.view de.new) pairs.items) }
-    ensures complete { IfErr result
-        (λ error. Refuses (ReadsCount (ReadsPair ReadsAny ReadsAny) count)
-        (input S.view de.old) (as_core error)) }
-    ensures stops { IfErr result (λ error. Stops
-        (StopsCount (ReadsPair ReadsAny ReadsAny) StopsAnyPair count)
-        (input S.view de.old) (input S.view de.new) (as_core error)) }
+    ensures { Decodes (count_spelling any_pair count)
+        (input S.view de.old) (input S.view de.new) (answer_of result) }
 {
     let mut pairs = Vec::new(alloc);
     if pairs.reserve(items_ahead(count)).is_err() {
@@ -329,16 +253,8 @@ fn open_pairs<S: Source>(
     alloc: Global,
     de: &mut Deserializer<S>,
 ) -> Result<Vec<(Value, Value)>, DecodeError<S::Error>>
-    ensures moves { Moves (input S.view de.old) (input S.view de.new) (answer_of result) }
-    ensures sound { IfOk result
-        (λ pairs. Sound (ReadsUpToBreak (ReadsPair ReadsAny ReadsAny) true)
-        (input S.view de.old) (input S.view de.new) pairs.items) }
-    ensures complete { IfErr result
-        (λ error. Refuses (ReadsUpToBreak (ReadsPair ReadsAny ReadsAny) true)
-        (input S.view de.old) (as_core error)) }
-    ensures stops { IfErr result (λ error. Stops
-        (StopsUpToBreak (codes "map") (ReadsPair ReadsAny ReadsAny) StopsAnyPair true)
-        (input S.view de.old) (input S.view de.new) (as_core error)) }
+    ensures { Decodes (open_spelling (codes "map") any_pair)
+        (input S.view de.old) (input S.view de.new) (answer_of result) }
 {
     let mut pairs = Vec::new(alloc);
     while !takes_break(de)? {
@@ -354,15 +270,8 @@ fn add_pair<S: Source>(
     de: &mut Deserializer<S>,
     pairs: &mut Vec<(Value, Value)>,
 ) -> Result<(), DecodeError<S::Error>>
-    ensures moves { Moves (input S.view de.old) (input S.view de.new) (answer_of result) }
-    ensures progress { OnOk result ((input S.view de.new).bound + 1 ≤ (input S.view de.old).bound) }
-    ensures sound { OnOk result
-        (AddsPart (ReadsPair ReadsAny ReadsAny) pairs.old.items pairs.new.items
-        (input S.view de.old) (input S.view de.new)) }
-    ensures complete { IfErr result (λ error. Refuses (ReadsPair ReadsAny ReadsAny)
-        (input S.view de.old) (as_core error)) }
-    ensures stops { IfErr result (λ error. Stops StopsAnyPair
-        (input S.view de.old) (input S.view de.new) (as_core error)) }
+    ensures { AddsOne any_pair pairs.old.items pairs.new.items
+        (input S.view de.old) (input S.view de.new) (answer_of result) }
 {
     let pair = read_pair(alloc, de)?;
     if !keep(pairs, pair) {
@@ -377,14 +286,8 @@ fn read_pair<S: Source>(
     alloc: Global,
     de: &mut Deserializer<S>,
 ) -> Result<(Value, Value), DecodeError<S::Error>>
-    ensures moves { Moves (input S.view de.old) (input S.view de.new) (answer_of result) }
-    ensures progress { OnOk result ((input S.view de.new).bound + 1 ≤ (input S.view de.old).bound) }
-    ensures sound { IfOk result
-        (Sound (ReadsPair ReadsAny ReadsAny) (input S.view de.old) (input S.view de.new)) }
-    ensures complete { IfErr result (λ error. Refuses (ReadsPair ReadsAny ReadsAny)
-        (input S.view de.old) (as_core error)) }
-    ensures stops { IfErr result (λ error. Stops StopsAnyPair
-        (input S.view de.old) (input S.view de.new) (as_core error)) }
+    ensures { Decodes any_pair
+        (input S.view de.old) (input S.view de.new) (answer_of result) }
 {
     let key = read_any(alloc, de)?;
     match read_any(alloc, de) {

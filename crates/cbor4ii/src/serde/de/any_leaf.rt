@@ -1,13 +1,12 @@
 //! Items that hold no other, read as values.
-ghost use Rattle.std.specs.Prelude.{◌≡◌, ◌+◌, ◌≤◌, OnOk, IfOk, IfErr, IsTrue};
-ghost use Rattle.cbor4ii_items.specs.Moves.{Moves};
-ghost use Rattle.cbor4ii_items.specs.Decoding.{Sound, Refuses, Stops};
+ghost use Rattle.std.specs.Prelude.{◌≡◌};
+ghost use Rattle.cbor4ii_items.specs.Decoding.{Decodes};
 ghost use Rattle.cbor4ii_tree.specs.declared.value.Value.{Value as AnyValue};
-ghost use Rattle.cbor4ii.specs.Any.{kind, tag_kind, simple_kind, Formed, LeafAs, of_integer};
-ghost use Rattle.cbor4ii.specs.Any.{of_bytes, of_text, of_bool, of_null, of_f16, of_f32, of_f64};
-ghost use Rattle.cbor4ii.specs.AnyStops.{LeafStops, StopsBignum};
+ghost use Rattle.cbor4ii.specs.Any.{kind, tag_kind, simple_kind, of_integer, of_bytes, of_text};
+ghost use Rattle.cbor4ii.specs.Any.{of_bool, of_null, of_f16, of_f32, of_f64};
+ghost use Rattle.cbor4ii.specs.AnySpelling.{any_leaf, formed_spelling};
 ghost use Rattle.cbor4ii.specs.declared.serde.de.any_leaf.AnyLeaf.TheVariants.{Bignum};
-ghost use Rattle.cbor4ii.specs.Typed.{input, answer_of, as_core};
+ghost use Rattle.cbor4ii.specs.Typed.{input, answer_of};
 
 use crate::serde::de::deserializer::{Deserializer, take_item};
 use crate::serde::de::error::DecodeError;
@@ -175,14 +174,8 @@ pub(crate) fn take_leaf<S: Source>(
     de: &mut Deserializer<S>,
     leaf: AnyLeaf,
 ) -> Result<Value, DecodeError<S::Error>>
-    ensures moves { Moves (input S.view de.old) (input S.view de.new) (answer_of result) }
-    ensures progress { OnOk result ((input S.view de.new).bound + 1 ≤ (input S.view de.old).bound) }
-    ensures sound { IfOk result
-        (Sound (LeafAs leaf) (input S.view de.old) (input S.view de.new)) }
-    ensures complete { IfErr result
-        (λ error. Refuses (LeafAs leaf) (input S.view de.old) (as_core error)) }
-    ensures stops { IfErr result (λ error.
-        Stops (LeafStops leaf) (input S.view de.old) (input S.view de.new) (as_core error)) }
+    ensures { Decodes (any_leaf leaf)
+        (input S.view de.old) (input S.view de.new) (answer_of result) }
 {
     match leaf {
         AnyLeaf::Integer => take_as::<S, i128>(alloc, de),
@@ -202,15 +195,8 @@ fn take_as<S: Source, T: Decode<S> + AsValue>(
     alloc: Global,
     de: &mut Deserializer<S>,
 ) -> Result<Value, DecodeError<S::Error>>
-    ensures moves { Moves (input S.view de.old) (input S.view de.new) (answer_of result) }
-    ensures progress { IsTrue T.spelling.never_empty →
-        OnOk result ((input S.view de.new).bound + 1 ≤ (input S.view de.old).bound) }
-    ensures sound { IfOk result
-        (Sound (Formed T.spelling.reads T.form) (input S.view de.old) (input S.view de.new)) }
-    ensures complete { IsTrue T.spelling.owned → IfErr result
-        (λ error. Refuses (Formed T.spelling.reads T.form) (input S.view de.old) (as_core error)) }
-    ensures stops { IsTrue T.spelling.owned → IfErr result (λ error.
-        Stops T.spelling.stops (input S.view de.old) (input S.view de.new) (as_core error)) }
+    ensures { Decodes (formed_spelling T.form T.spelling)
+        (input S.view de.old) (input S.view de.new) (answer_of result) }
 {
     match take_item::<S, T>(alloc, de) {
         Ok(item) => Ok(item.as_value()),
@@ -223,14 +209,8 @@ fn take_bignum<S: Source>(
     alloc: Global,
     de: &mut Deserializer<S>,
 ) -> Result<Value, DecodeError<S::Error>>
-    ensures moves { Moves (input S.view de.old) (input S.view de.new) (answer_of result) }
-    ensures progress { OnOk result ((input S.view de.new).bound + 1 ≤ (input S.view de.old).bound) }
-    ensures sound { IfOk result
-        (Sound (LeafAs Bignum) (input S.view de.old) (input S.view de.new)) }
-    ensures complete { IfErr result
-        (λ error. Refuses (LeafAs Bignum) (input S.view de.old) (as_core error)) }
-    ensures stops { IfErr result (λ error.
-        Stops StopsBignum (input S.view de.old) (input S.view de.new) (as_core error)) }
+    ensures { Decodes (any_leaf Bignum)
+        (input S.view de.old) (input S.view de.new) (answer_of result) }
 {
     match take_item::<S, u128>(alloc, de) {
         Ok(number) => {

@@ -5,21 +5,21 @@ ghost use Rattle.std.specs.Borrow.{sem, LendsIfOk, RestsIfErr};
 ghost use mir.Syntax.{named};
 ghost use Rattle.cbor4ii_rw.specs.Reader.{Breaks};
 ghost use Rattle.cbor4ii_items.specs.Moves.{Moves, OnRead};
-ghost use Rattle.cbor4ii_items.specs.Decoding.{IsExact, Sound, Refuses, Stops};
+ghost use Rattle.cbor4ii_items.specs.Decoding.{IsExact, Sound, Refuses, Stops, Decodes};
 ghost use Rattle.cbor4ii_items.specs.Lengths.{ReadsLength, StopsLength};
 ghost use Rattle.cbor4ii_items.specs.Refusal.{is_out_of_memory};
 ghost use Rattle.cbor4ii.specs.contracts.serde.de.deserializer.Deserializer.{the_row};
 ghost use Rattle.cbor4ii.specs.contracts.serde.de.enum_accessor.EnumAccessor.{the_row as the_enum};
 ghost use Rattle.cbor4ii.specs.declared.serde.de.accessor.Left.TheVariants.{Counted};
 ghost use Rattle.cbor4ii.specs.Accessing.{inside, lender_of, left_in, steps_held, OpensParts};
-ghost use Rattle.cbor4ii.specs.Accessing.{Closes, Finishes};
-ghost use Rattle.cbor4ii.specs.Stepped.{Stepped, StopsStepped};
+ghost use Rattle.cbor4ii.specs.Accessing.{Closes, Finishes, RefusedAs};
+ghost use Rattle.cbor4ii.specs.Stepped.{Stepped, StopsStepped, stepped_spelling};
 ghost use Rattle.cbor4ii.specs.Tuples.{ReadsCountOf, StopsCountOf};
 ghost use Rattle.cbor4ii.specs.Typed.{input, answer_of, as_core, said_by};
 ghost use Rattle.cbor4ii.specs.Variants.{inside_enum, reference_of_enum, deserializer_of_enum};
 ghost use Rattle.cbor4ii.specs.Variants.{lender_of_enum, form_of, with_content, ReadsForm};
 ghost use Rattle.cbor4ii.specs.Variants.{StopsForm, OpensEnum, ReadsContent, StopsContent};
-ghost use Rattle.cbor4ii.specs.Variants.{SaysOther};
+ghost use Rattle.cbor4ii.specs.Variants.{SaysOther, form_spelling};
 
 use crate::serde::de::accessor::{Accessor, Left};
 use crate::serde::de::deserialize::Deserialize;
@@ -106,12 +106,9 @@ impl<S: Source> Deserializer<S> {
 #[inline(always)]
 fn begin_enum<S: Source>(reader: &mut S) -> Result<(bool, u8), core_error::DecodeError<S::Error>>
     ensures opened { IfOk result (OpensEnum (S.view reader.old) (S.view reader.new)) }
-    ensures moves { OnErr result (Moves (S.view reader.old) (S.view reader.new) result) }
-    ensures memory { IfErr result (λ error. is_out_of_memory error ≡ false) }
+    ensures refused { RefusedAs (stepped_spelling (codes "enum") form_spelling)
+        (S.view reader.old) (S.view reader.new) result }
     ensures failed { OnRead result (Breaks (S.view reader.old) (S.view reader.new)) }
-    ensures complete { IfErr result (Refuses (Stepped ReadsForm) (S.view reader.old)) }
-    ensures stops { IfErr result (Stops (StopsStepped (codes "enum") StopsForm)
-        (S.view reader.old) (S.view reader.new)) }
 {
     if !reader.step_in() {
         return Err(core_error::DecodeError::DepthOverflow { name: "enum" });
@@ -128,13 +125,8 @@ fn begin_enum<S: Source>(reader: &mut S) -> Result<(bool, u8), core_error::Decod
 /// Whether a content follows the name, and the first byte.
 #[inline(always)]
 fn take_form<S: Source>(reader: &mut S) -> Result<(bool, u8), core_error::DecodeError<S::Error>>
-    ensures moves { Moves (S.view reader.old) (S.view reader.new) result }
-    ensures memory { IfErr result (λ error. is_out_of_memory error ≡ false) }
+    ensures decodes { Decodes form_spelling (S.view reader.old) (S.view reader.new) result }
     ensures failed { OnRead result (Breaks (S.view reader.old) (S.view reader.new)) }
-    ensures sound { IfOk result (Sound ReadsForm (S.view reader.old) (S.view reader.new)) }
-    ensures complete { IfErr result (Refuses ReadsForm (S.view reader.old)) }
-    ensures stops { IfErr result
-        (Stops StopsForm (S.view reader.old) (S.view reader.new)) }
 {
     match peek(reader, "enum") {
         Ok(first) => {

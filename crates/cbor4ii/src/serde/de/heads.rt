@@ -1,13 +1,10 @@
 //! A step, and then the head of what is read part by part.
-ghost use Rattle.std.specs.Prelude.{◌≡◌, false, OnErr, OnOk, IfOk, IfErr, codes};
-ghost use Rattle.cbor4ii_items.specs.Moves.{Moves};
-ghost use Rattle.cbor4ii_items.specs.Decoding.{Refuses, Stops};
-ghost use Rattle.cbor4ii_items.specs.Lengths.{ReadsLength, StopsLength};
-ghost use Rattle.cbor4ii_items.specs.Refusal.{is_out_of_memory};
+ghost use Rattle.std.specs.Prelude.{OnOk, IfOk, codes};
+ghost use Rattle.cbor4ii_items.specs.Lengths.{length_spelling};
 ghost use Rattle.cbor4ii.specs.declared.serde.de.accessor.Left.TheVariants.{Counted};
-ghost use Rattle.cbor4ii.specs.Accessing.{OpensParts};
-ghost use Rattle.cbor4ii.specs.Stepped.{Stepped, StopsStepped};
-ghost use Rattle.cbor4ii.specs.Tuples.{ReadsCountOf, StopsCountOf};
+ghost use Rattle.cbor4ii.specs.Accessing.{OpensParts, RefusedAs};
+ghost use Rattle.cbor4ii.specs.Stepped.{stepped_spelling};
+ghost use Rattle.cbor4ii.specs.Tuples.{counted_head};
 
 use crate::serde::de::accessor::Left;
 use crate::serde::de::tuples::take_count;
@@ -19,12 +16,9 @@ use cbor4ii_rw::read::Source;
 pub(crate) fn begin_array<S: Source>(reader: &mut S) -> Result<Left, DecodeError<S::Error>>
     ensures opened { IfOk result (λ left.
         OpensParts 4 (S.view reader.old) (S.view reader.new) left) }
-    ensures moves { OnErr result (Moves (S.view reader.old) (S.view reader.new) result) }
-    ensures memory { IfErr result (λ error. is_out_of_memory error ≡ false) }
-    ensures complete { IfErr result (Refuses (Stepped (ReadsLength 4)) (S.view reader.old)) }
-    ensures stops { IfErr result
-        (Stops (StopsStepped (codes "seq") (StopsLength (codes "array") 4))
-        (S.view reader.old) (S.view reader.new)) }
+    ensures refused { RefusedAs
+        (stepped_spelling (codes "seq") (length_spelling (codes "array") 4))
+        (S.view reader.old) (S.view reader.new) result }
 {
     if !reader.step_in() {
         return Err(DecodeError::DepthOverflow { name: "seq" });
@@ -43,12 +37,9 @@ pub(crate) fn begin_array<S: Source>(reader: &mut S) -> Result<Left, DecodeError
 pub(crate) fn begin_map<S: Source>(reader: &mut S) -> Result<Left, DecodeError<S::Error>>
     ensures opened { IfOk result (λ left.
         OpensParts 5 (S.view reader.old) (S.view reader.new) left) }
-    ensures moves { OnErr result (Moves (S.view reader.old) (S.view reader.new) result) }
-    ensures memory { IfErr result (λ error. is_out_of_memory error ≡ false) }
-    ensures complete { IfErr result (Refuses (Stepped (ReadsLength 5)) (S.view reader.old)) }
-    ensures stops { IfErr result
-        (Stops (StopsStepped (codes "map") (StopsLength (codes "map") 5))
-        (S.view reader.old) (S.view reader.new)) }
+    ensures refused { RefusedAs
+        (stepped_spelling (codes "map") (length_spelling (codes "map") 5))
+        (S.view reader.old) (S.view reader.new) result }
 {
     if !reader.step_in() {
         return Err(DecodeError::DepthOverflow { name: "map" });
@@ -70,11 +61,8 @@ pub(crate) fn begin_tuple<S: Source>(
 ) -> Result<(), DecodeError<S::Error>>
     ensures opened { OnOk result
         (OpensParts 4 (S.view reader.old) (S.view reader.new) (Counted len)) }
-    ensures moves { OnErr result (Moves (S.view reader.old) (S.view reader.new) result) }
-    ensures memory { IfErr result (λ error. is_out_of_memory error ≡ false) }
-    ensures complete { IfErr result (Refuses (Stepped (ReadsCountOf len)) (S.view reader.old)) }
-    ensures stops { IfErr result (Stops (StopsStepped (codes "tuple") (StopsCountOf len))
-        (S.view reader.old) (S.view reader.new)) }
+    ensures refused { RefusedAs (stepped_spelling (codes "tuple") (counted_head len))
+        (S.view reader.old) (S.view reader.new) result }
 {
     if !reader.step_in() {
         return Err(DecodeError::DepthOverflow { name: "tuple" });

@@ -1,7 +1,7 @@
 //! Names of fields, read and found among some names. No memory is taken for one that stands whole
 //! in what the reader shows, behind its length in one byte.
-ghost use Rattle.std.specs.Prelude.{◌≡◌, ◌≢◌, ◌+◌, ◌≤◌, ◌<◌, length, true, false, None, Ok};
-ghost use Rattle.std.specs.Prelude.{codes, IsUtf8, OnOk, OnSome, IfOk, IfErr, IfSome};
+ghost use Rattle.std.specs.Prelude.{◌≡◌, ◌≢◌, ◌+◌, ◌≤◌, ◌<◌, length, true, false, None, Ok, codes};
+ghost use Rattle.std.specs.Prelude.{IsUtf8, OnOk, OnSome, IfOk, IfErr, IfSome};
 ghost use Rattle.cbor4ii_items.specs.Decoding.{Refuses, Stops};
 ghost use Rattle.cbor4ii_items.specs.Lent.{Stays};
 ghost use Rattle.cbor4ii_items.specs.Moves.{Moves};

@@ -1,5 +1,5 @@
 //! Values that may be absent, of which first is read whether one comes.
-ghost use Rattle.std.specs.Prelude.{[], ◌≡◌, ◌≤◌, ◌+◌, false, Ok, None, IfOk, IfErr, IsTrue, OnErr};
+ghost use Rattle.std.specs.Prelude.{[], ◌≡◌, ◌≤◌, ◌+◌, false, Ok, None, IfOk, IfErr, IsTrue};
 ghost use Rattle.std.specs.Prelude.{OnSome};
 ghost use Rattle.std.specs.Borrow.{sem, Lends, RestsIfErr};
 ghost use mir.Syntax.{named};
@@ -9,10 +9,11 @@ ghost use Rattle.cbor4ii_items.specs.Decoding.{IsExact, Sound, Refuses, Stops};
 ghost use Rattle.cbor4ii_items.specs.Refusal.{is_out_of_memory};
 ghost use Rattle.cbor4ii.specs.contracts.serde.de.deserializer.Deserializer.{the_row};
 ghost use Rattle.cbor4ii.specs.contracts.serde.de.some_accessor.SomeAccessor.{the_row as the_some};
-ghost use Rattle.cbor4ii.specs.Accessing.{Closes, Finishes};
+ghost use Rattle.cbor4ii.specs.Accessing.{Closes, Finishes, RefusedAs};
 ghost use Rattle.cbor4ii.specs.Optional.{inside_some, deserializer_of_some, lender_of_some, comes};
 ghost use Rattle.cbor4ii.specs.Optional.{steps_of_some, with_value_from, ReadsPresence};
 ghost use Rattle.cbor4ii.specs.Optional.{StopsPresence, OpensOption, ReadsComingValue};
+ghost use Rattle.cbor4ii.specs.Optional.{presence_spelling};
 ghost use Rattle.cbor4ii.specs.Typed.{input, answer_of, as_core};
 
 use crate::serde::de::deserialize::Deserialize;
@@ -78,12 +79,8 @@ impl<S: Source> Deserializer<S> {
 /// Whether a value comes. Where one does a step is taken.
 fn begin_option<S: Source>(reader: &mut S) -> Result<bool, core_error::DecodeError<S::Error>>
     ensures opened { IfOk result (OpensOption (S.view reader.old) (S.view reader.new)) }
-    ensures moves { OnErr result (Moves (S.view reader.old) (S.view reader.new) result) }
-    ensures memory { IfErr result (λ error. is_out_of_memory error ≡ false) }
+    ensures refused { RefusedAs presence_spelling (S.view reader.old) (S.view reader.new) result }
     ensures failed { OnRead result (Breaks (S.view reader.old) (S.view reader.new)) }
-    ensures complete { IfErr result (Refuses ReadsPresence (S.view reader.old)) }
-    ensures stops { IfErr result
-        (Stops StopsPresence (S.view reader.old) (S.view reader.new)) }
 {
     match peek(reader, "option") {
         Ok(first) => {

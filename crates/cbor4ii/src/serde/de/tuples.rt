@@ -1,10 +1,7 @@
 //! Pairs and triples.
-ghost use Rattle.std.specs.Prelude.{◌≡◌, ◌+◌, ◌≤◌, OnOk, IfOk, IfErr, false};
-ghost use Rattle.cbor4ii_items.specs.Moves.{Moves};
-ghost use Rattle.cbor4ii_items.specs.Refusal.{is_out_of_memory};
-ghost use Rattle.cbor4ii_items.specs.Decoding.{Sound, Refuses, Stops};
+ghost use Rattle.cbor4ii_items.specs.Decoding.{Decodes};
 ghost use Rattle.cbor4ii.specs.Typed.{input, answer_of, Deserializes};
-ghost use Rattle.cbor4ii.specs.Tuples.{ReadsCountOf, StopsCountOf};
+ghost use Rattle.cbor4ii.specs.Tuples.{counted_head};
 ghost use Rattle.cbor4ii.specs.TypedParts.{behind_head, three_of, two_of, typed_pair, typed_triple};
 ghost use Rattle.cbor4ii.specs.TypedParts.{telling};
 
@@ -79,14 +76,7 @@ pub(crate) fn take_count<S: Source>(
     reader: &mut S,
     count: usize,
 ) -> Result<(), core_error::DecodeError<S::Error>>
-    ensures moves { Moves (S.view reader.old) (S.view reader.new) result }
-    ensures memory { IfErr result (λ error. is_out_of_memory error ≡ false) }
-    ensures progress { OnOk result ((S.view reader.new).bound + 1 ≤ (S.view reader.old).bound) }
-    ensures sound { IfOk result
-        (Sound (ReadsCountOf count) (S.view reader.old) (S.view reader.new)) }
-    ensures complete { IfErr result (Refuses (ReadsCountOf count) (S.view reader.old)) }
-    ensures stops { IfErr result
-        (Stops (StopsCountOf count) (S.view reader.old) (S.view reader.new)) }
+    ensures { Decodes (counted_head count) (S.view reader.old) (S.view reader.new) result }
 {
     match Array::<()>::len(reader) {
         Ok(Some(found)) => {

@@ -1,992 +1,284 @@
-use Rattle.cbor4ii.proofs.Items.{gone_on}
-use Rattle.cbor4ii_items.specs.Laws.Running.{kept_alike}
-use Rattle.cbor4ii_items.specs.Laws.Answering.{fits_zero}
-use Rattle.std.proofs.Common.{true, refl, arith, inl}
-use Rattle.std.proofs.lemmas.Result.{err_from_is_err_and}
-use Rattle.cbor4ii_items.specs.Laws.Steps.{moves_then, moves_ok, moves_err, kept_then}
-use Rattle.cbor4ii_items.specs.Laws.UnderStep.{moves_stepped}
-use Rattle.cbor4ii.specs.Any.{ReadsAny, of_array, of_map}
-use Rattle.cbor4ii.specs.Laws.Any.{any_laws}
-use Rattle.cbor4ii.specs.Typed.{answer_of, size_of}
-use Rattle.cbor4ii.proofs.AnyForms.{parts_sound, parts_refuse, pairs_laws, kind_sound, kind_refuses}
-use Rattle.cbor4ii.proofs.AnyForms.{other_refuses, no_byte_refuses, kind_ok, kind_err, any_ok}
-use Rattle.cbor4ii.proofs.AnyForms.{any_err}
+use Rattle.std.proofs.Common.{refl, arith, rules, Ok, Err}
 use Rattle.std.specs.Prelude.{codes}
-use Rattle.cbor4ii_items.specs.Sequences.{ReadsPair, StopsInside}
-use Rattle.cbor4ii.specs.AnyStops.{AnyStops, StopsAny, StopsAnyPair}
-use Rattle.cbor4ii.proofs.AnyStopping.{any_stops, any_stops_by, step_stops, count_stops, open_stops}
-use Rattle.cbor4ii.proofs.AnyStopping.{end_stops, length_stops, counted_stops, opened_stops}
-use Rattle.cbor4ii.proofs.AnyStopping.{key_stops, value_stops, next_stops, kind_stops}
-use Rattle.cbor4ii.proofs.AnyStopping.{kind_stops_by, other_stops}
-use Rattle.cbor4ii.proofs.Looking.{saw}
-use Rattle.cbor4ii.specs.Laws.PairsRead.{pair_sound, key_refuses, value_refuses}
-use Rattle.cbor4ii_items.specs.Laws.SequenceParts.{stands}
-use Rattle.cbor4ii.specs.Laws.PartsRead.{count_more, count_done, count_refuses}
-use Rattle.cbor4ii.specs.Laws.PartsRead.{open_more, open_done, open_refuses, end_refuses}
-use Rattle.cbor4ii.proofs.Sequences.{counted_sound, counted_refuses, opened_sound, opened_refuses}
-use Rattle.cbor4ii.specs.Laws.SequencesRead.{counts_of, opens_of, no_length}
-use Rattle.cbor4ii.proofs.Steps.{formed_sound, step_sound, step_refuses, stops_no_step}
+use Rattle.std.proofs.lemmas.Result.{err_from_is_err_and}
+use Rattle.cbor4ii_items.specs.Laws.Calls.{behind, out_of_memory}
+use Rattle.cbor4ii_items.specs.Laws.Pairs.{pair_ok, key_err, value_err}
+use Rattle.cbor4ii_items.specs.Laws.SequenceParts.{count_more, count_done, count_err, stands}
+use Rattle.cbor4ii_items.specs.Laws.SequenceParts.{open_more, open_done, open_err, place_end}
+use Rattle.cbor4ii_items.specs.Laws.SequenceParts.{place_part}
+use Rattle.cbor4ii_items.specs.Sequences.{count_spelling, open_spelling}
+use Rattle.cbor4ii.specs.AnySpelling.{any_spelling, any_inside, kind_spelling, values_inside}
+use Rattle.cbor4ii.specs.AnySpelling.{values_spelling, any_pair, pairs_inside, pairs_spelling}
+use Rattle.cbor4ii.specs.declared.serde.de.any_leaf.AnyKind.TheVariants.{Leaf, Array, Map}
+use Rattle.cbor4ii.specs.Any.{of_array, of_map}
 use Rattle.cbor4ii.specs.Sequence.{four_small, five_small}
+use Rattle.cbor4ii.specs.Typed.{answer_of}
+use Rattle.cbor4ii.proofs.AnyAnswers.{any_lawful, pair_is_lawful, as_ok, as_err, an_array, a_map}
+use Rattle.cbor4ii.proofs.AnyAnswers.{any_of, of_kind, of_other, of_end}
+use Rattle.cbor4ii.proofs.Looking.{saw}
+use Rattle.cbor4ii.proofs.SequenceHeads.{head_err, counts, opens}
+use Rattle.cbor4ii.proofs.Steps.{no_step_left, under}
 use Rattle.cbor4ii.proofs.serde.de.any.+any.Goals as goal
 
-pub read_any-returns-clause-moves : goal.read_any-returns-clause-moves
-read_any-returns-clause-moves g t c =
-    moves_stepped (answer_of c.any_inside-outcome.result) _ _ _ _ c.if-not-step_in.ensures.budget
-    c.step_in.ensures.others c.any_inside-outcome.ensures.moves c.step_out.ensures.budget
-    c.step_out.ensures.others
+pub read_any-returns-then-not-step_in : goal.read_any-returns-then-not-step_in
+read_any-returns-then-not-step_in g t c =
+    any_of (Err _) (no_step_left any_inside _ (search rules) c.if-not-step_in.ensures.budget
+    c.step_in.ensures.others)
 
-pub read_any-returns-clause-sound : goal.read_any-returns-clause-sound
-read_any-returns-clause-sound g t c =
-    any_ok c.any_inside-outcome.result _ _ (step_sound c.any_inside-outcome.result _ _ _
-    c.if-not-step_in.ensures.budget c.step_in.ensures.others _ _ c.step_out.ensures.others
-    c.any_inside-outcome.ensures.sound)
+pub read_any-returns : goal.read_any-returns
+read_any-returns g t c =
+    let r = answer_of c.any_inside-outcome.result in
+    any_of r (under any_inside (codes "any") c.if-not-step_in.ensures.budget
+    c.step_in.ensures.others c.step_out.ensures.others r c.step_out.ensures.budget
+    c.any_inside-outcome.ensures)
 
-pub read_any-returns-clause-complete : goal.read_any-returns-clause-complete
-read_any-returns-clause-complete g t c =
-    any_err c.any_inside-outcome.result _
-    (step_refuses c.any_inside-outcome.result _ _ _ c.if-not-step_in.ensures.budget
-    c.step_in.ensures.others c.any_inside-outcome.ensures.complete)
+-- ---- by the first byte
 
-pub any_inside-returns-in-Err-clause-complete : goal.any_inside-returns-in-Err-clause-complete
-any_inside-returns-in-Err-clause-complete g t c =
-    no_byte_refuses (c.in-Err.ensures.decodes.complete (inl refl))
+pub any_inside-returns-in-Err : goal.any_inside-returns-in-Err
+any_inside-returns-in-Err g t c = of_end c.in-Err.ensures.decodes
 
-pub any_inside-returns-in-Leaf-clause-moves : goal.any_inside-returns-in-Leaf-clause-moves
-any_inside-returns-in-Leaf-clause-moves g t c =
-    moves_then c.in-Ok.ensures.decodes.moves.by c.take_leaf.ensures.moves
+pub any_inside-returns-in-Leaf : goal.any_inside-returns-in-Leaf
+any_inside-returns-in-Leaf g t c =
+    let d = c.in-Ok.ensures.decodes in
+    of_kind (Leaf _) d.moves.by (saw d.moves d.sound) c.in-Leaf.ensures
+    (answer_of c.take_leaf.result) c.take_leaf.ensures
 
-pub any_inside-returns-in-Leaf-clause-sound : goal.any_inside-returns-in-Leaf-clause-sound
-any_inside-returns-in-Leaf-clause-sound g t c =
-    kind_ok c.take_leaf.result _ (saw c.in-Ok.ensures.decodes.moves c.in-Ok.ensures.decodes.sound)
-    c.in-Leaf.ensures
-    c.take_leaf.ensures.sound
+pub any_inside-returns-in-Ok-any_array : goal.any_inside-returns-in-Ok-any_array
+any_inside-returns-in-Ok-any_array g t c =
+    let d = c.in-Ok.ensures.decodes in
+    of_kind Array d.moves.by (saw d.moves d.sound) c.in-Array.ensures (Ok _)
+    (as_ok values_spelling (kind_spelling Array) of_array an_array c.in-Ok-any_array.ensures)
 
-pub any_inside-returns-in-Leaf-clause-complete : goal.any_inside-returns-in-Leaf-clause-complete
-any_inside-returns-in-Leaf-clause-complete g t c =
-    kind_err c.take_leaf.result (saw c.in-Ok.ensures.decodes.moves c.in-Ok.ensures.decodes.sound)
-    c.in-Leaf.ensures
-    c.take_leaf.ensures.complete
+pub any_inside-returns-in-Err-any_array : goal.any_inside-returns-in-Err-any_array
+any_inside-returns-in-Err-any_array g t c =
+    let d = c.in-Ok.ensures.decodes in
+    of_kind Array d.moves.by (saw d.moves d.sound) c.in-Array.ensures (Err _)
+    (as_err values_spelling (kind_spelling Array) of_array an_array c.in-Err-any_array.ensures)
 
-pub any_inside-returns-in-Ok-any_array-clause-moves :
-    goal.any_inside-returns-in-Ok-any_array-clause-moves
-any_inside-returns-in-Ok-any_array-clause-moves g t c =
-    moves_then c.in-Ok.ensures.decodes.moves.by (moves_ok c.in-Ok-any_array.ensures.moves)
+pub any_inside-returns-in-Ok-any_map : goal.any_inside-returns-in-Ok-any_map
+any_inside-returns-in-Ok-any_map g t c =
+    let d = c.in-Ok.ensures.decodes in
+    of_kind Map d.moves.by (saw d.moves d.sound) c.in-Map.ensures (Ok _)
+    (as_ok pairs_spelling (kind_spelling Map) of_map a_map c.in-Ok-any_map.ensures)
 
-pub any_inside-returns-in-Ok-any_array-clause-sound :
-    goal.any_inside-returns-in-Ok-any_array-clause-sound
-any_inside-returns-in-Ok-any_array-clause-sound g t c =
-    kind_sound (saw c.in-Ok.ensures.decodes.moves c.in-Ok.ensures.decodes.sound) c.in-Array.ensures
-    (parts_sound _ of_array c.in-Ok-any_array.ensures.sound)
+pub any_inside-returns-in-Err-any_map : goal.any_inside-returns-in-Err-any_map
+any_inside-returns-in-Err-any_map g t c =
+    let d = c.in-Ok.ensures.decodes in
+    of_kind Map d.moves.by (saw d.moves d.sound) c.in-Map.ensures (Err _)
+    (as_err pairs_spelling (kind_spelling Map) of_map a_map c.in-Err-any_map.ensures)
 
-pub any_inside-returns-in-Err-any_array-clause-moves :
-    goal.any_inside-returns-in-Err-any_array-clause-moves
-any_inside-returns-in-Err-any_array-clause-moves g t c =
-    moves_then c.in-Ok.ensures.decodes.moves.by (moves_err c.in-Err-any_array.ensures.moves)
+pub any_inside-returns-in-Other : goal.any_inside-returns-in-Other
+any_inside-returns-in-Other g t c =
+    let d = c.in-Ok.ensures.decodes in
+    of_other _ d.moves.by refl (saw d.moves d.sound) c.in-Other.ensures
 
-pub any_inside-returns-in-Err-any_array-clause-complete :
-    goal.any_inside-returns-in-Err-any_array-clause-complete
-any_inside-returns-in-Err-any_array-clause-complete g t c =
-    kind_refuses (saw c.in-Ok.ensures.decodes.moves c.in-Ok.ensures.decodes.sound)
-    c.in-Array.ensures
-    (parts_refuse _ of_array c.in-Err-any_array.ensures.complete)
+-- ---- arrays
 
-pub any_inside-returns-in-Ok-any_map-clause-moves :
-    goal.any_inside-returns-in-Ok-any_map-clause-moves
-any_inside-returns-in-Ok-any_map-clause-moves g t c =
-    moves_then c.in-Ok.ensures.decodes.moves.by (moves_ok c.in-Ok-any_map.ensures.moves)
+pub any_array-returns-then-not-step_in : goal.any_array-returns-then-not-step_in
+any_array-returns-then-not-step_in g t c =
+    no_step_left values_inside _ (search rules) c.if-not-step_in.ensures.budget
+    c.step_in.ensures.others
 
-pub any_inside-returns-in-Ok-any_map-clause-sound :
-    goal.any_inside-returns-in-Ok-any_map-clause-sound
-any_inside-returns-in-Ok-any_map-clause-sound g t c =
-    kind_sound (saw c.in-Ok.ensures.decodes.moves c.in-Ok.ensures.decodes.sound) c.in-Map.ensures
-    (parts_sound _ of_map c.in-Ok-any_map.ensures.sound)
+pub any_array-returns : goal.any_array-returns
+any_array-returns g t c =
+    under values_inside (codes "seq") c.if-not-step_in.ensures.budget c.step_in.ensures.others
+    c.step_out.ensures.others (answer_of c.array_inside-outcome.result) c.step_out.ensures.budget
+    c.array_inside-outcome.ensures
 
-pub any_inside-returns-in-Err-any_map-clause-moves :
-    goal.any_inside-returns-in-Err-any_map-clause-moves
-any_inside-returns-in-Err-any_map-clause-moves g t c =
-    moves_then c.in-Ok.ensures.decodes.moves.by (moves_err c.in-Err-any_map.ensures.moves)
+pub array_inside-returns-in-Err : goal.array_inside-returns-in-Err
+array_inside-returns-in-Err g t c =
+    head_err (codes "array") 4 any_spelling four_small c.in-Err.ensures
 
-pub any_inside-returns-in-Err-any_map-clause-complete :
-    goal.any_inside-returns-in-Err-any_map-clause-complete
-any_inside-returns-in-Err-any_map-clause-complete g t c =
-    kind_refuses (saw c.in-Ok.ensures.decodes.moves c.in-Ok.ensures.decodes.sound) c.in-Map.ensures
-    (parts_refuse _ of_map c.in-Err-any_map.ensures.complete)
+pub array_inside-returns-in-Ok-Some : goal.array_inside-returns-in-Ok-Some
+array_inside-returns-in-Ok-Some g t c =
+    behind (count_spelling any_spelling _) values_inside (answer_of c.counted_values.result)
+    (counts (codes "array") 4 any_spelling four_small c.in-Ok-Some.field-0-is c.in-Ok-Some.ensures)
+    c.counted_values.ensures
 
-pub any_inside-returns-in-Other-clause-complete : goal.any_inside-returns-in-Other-clause-complete
-any_inside-returns-in-Other-clause-complete g t c =
-    other_refuses (saw c.in-Ok.ensures.decodes.moves c.in-Ok.ensures.decodes.sound)
-    c.in-Other.ensures
+pub array_inside-returns-in-Ok-None : goal.array_inside-returns-in-Ok-None
+array_inside-returns-in-Ok-None g t c =
+    behind (open_spelling (codes "array") any_spelling) values_inside
+    (answer_of c.open_values.result)
+    (opens (codes "array") 4 any_spelling four_small c.in-Ok-None.field-0-is c.in-Ok-None.ensures)
+    c.open_values.ensures
 
-pub any_array-returns-clause-moves : goal.any_array-returns-clause-moves
-any_array-returns-clause-moves g t c =
-    moves_stepped (answer_of c.array_inside-outcome.result) _ _ _ _ c.if-not-step_in.ensures.budget
-    c.step_in.ensures.others c.array_inside-outcome.ensures.moves c.step_out.ensures.budget
-    c.step_out.ensures.others
+pub counted_values-returns-then-is_err : goal.counted_values-returns-then-is_err
+counted_values-returns-then-is_err g t c =
+    out_of_memory (count_spelling any_spelling c.args.count) refl (search rules)
 
-pub any_array-returns-clause-sound : goal.any_array-returns-clause-sound
-any_array-returns-clause-sound g t c =
-    formed_sound c.array_inside-outcome.result (λ v. v.items) _ _ _ c.if-not-step_in.ensures.budget
-    c.step_in.ensures.others _ _ c.step_out.ensures.others c.array_inside-outcome.ensures.sound
-
-pub any_array-returns-clause-complete : goal.any_array-returns-clause-complete
-any_array-returns-clause-complete g t c =
-    step_refuses c.array_inside-outcome.result _ _ _ c.if-not-step_in.ensures.budget
-    c.step_in.ensures.others c.array_inside-outcome.ensures.complete
-
-pub array_inside-returns-in-Ok-Some-clause-moves : goal.array_inside-returns-in-Ok-Some-clause-moves
-array_inside-returns-in-Ok-Some-clause-moves g t c =
-    moves_then c.in-Ok-Some.ensures.moves.by c.counted_values.ensures.moves
-
-pub array_inside-returns-in-Ok-Some-clause-sound : goal.array_inside-returns-in-Ok-Some-clause-sound
-array_inside-returns-in-Ok-Some-clause-sound g t c =
-    counted_sound _ _ _ c.counted_values.result _ _ _ (counts_of c.in-Ok-Some.field-0-is
-    c.in-Ok-Some.ensures.moves.by c.in-Ok-Some.ensures.sound) c.counted_values.ensures.sound
-
-pub array_inside-returns-in-Ok-Some-clause-complete :
-    goal.array_inside-returns-in-Ok-Some-clause-complete
-array_inside-returns-in-Ok-Some-clause-complete g t c =
-    counted_refuses _ _ _ c.counted_values.result _ _ four_small
-    (counts_of c.in-Ok-Some.field-0-is c.in-Ok-Some.ensures.moves.by c.in-Ok-Some.ensures.sound)
-    (λ xs told. c.counted_values.ensures.complete)
-
-pub array_inside-returns-in-Ok-None-clause-moves : goal.array_inside-returns-in-Ok-None-clause-moves
-array_inside-returns-in-Ok-None-clause-moves g t c =
-    moves_then c.in-Ok-None.ensures.moves.by c.open_values.ensures.moves
-
-pub array_inside-returns-in-Ok-None-clause-sound : goal.array_inside-returns-in-Ok-None-clause-sound
-array_inside-returns-in-Ok-None-clause-sound g t c =
-    opened_sound _ _ _ c.open_values.result _ _ _ (opens_of c.in-Ok-None.field-0-is
-    c.in-Ok-None.ensures.moves.by c.in-Ok-None.ensures.sound) c.open_values.ensures.sound
-
-pub array_inside-returns-in-Ok-None-clause-complete :
-    goal.array_inside-returns-in-Ok-None-clause-complete
-array_inside-returns-in-Ok-None-clause-complete g t c =
-    opened_refuses _ _ _ c.open_values.result _ _ four_small
-    (opens_of c.in-Ok-None.field-0-is c.in-Ok-None.ensures.moves.by c.in-Ok-None.ensures.sound)
-    (λ xs told. c.open_values.ensures.complete)
-
-pub array_inside-returns-in-Err-clause-complete : goal.array_inside-returns-in-Err-clause-complete
-array_inside-returns-in-Err-clause-complete g t c = no_length _ _ _ (c.in-Err.ensures.complete
-    (inl refl))
-
-pub counted_values-returns-in_err-add_value-clause-moves :
-    goal.counted_values-returns-in_err-add_value-clause-moves
-counted_values-returns-in_err-add_value-clause-moves g t c =
+pub counted_values-returns-in_err-add_value : goal.counted_values-returns-in_err-add_value
+counted_values-returns-in_err-add_value g t c =
     let p = err_from_is_err_and c.from_residual.result c.from_residual.ensures.1 in
-    rw (p.1, p.2) (moves_then c.loop-i.invariant.kept (moves_err c.in_err-add_value.ensures.moves))
-
-pub counted_values-returns-in_err-add_value-clause-complete :
-    goal.counted_values-returns-in_err-add_value-clause-complete
-counted_values-returns-in_err-add_value-clause-complete g t c =
-    let p = err_from_is_err_and c.from_residual.result c.from_residual.ensures.1 in
-    rw (p.1, p.2) (count_refuses _ (size_of any_laws) c.loop-i.invariant c.loop-i-test.true
-    (λ xs told. c.in_err-add_value.ensures.complete))
+    rw (p.1, p.2) (count_err any_spelling any_lawful c.loop-i.invariant c.loop-i-test.true
+    c.in_err-add_value.ensures)
 
 pub counted_values-loop-i-preserved : goal.counted_values-loop-i-preserved
 counted_values-loop-i-preserved g t c =
-    count_more _ c.loop-i.invariant c.in_ok-add_value.ensures.sound c.in_ok-add_value.ensures.moves
+    count_more any_spelling c.loop-i.invariant c.in_ok-add_value.ensures.read
+    c.in_ok-add_value.ensures.added
 
-pub counted_values-returns-clause-sound : goal.counted_values-returns-clause-sound
-counted_values-returns-clause-sound g t c =
-    count_done _ c.loop-i.invariant (omega (arith, c.loop-i-test.false, c.loop-i.auto.i-end))
+pub counted_values-returns : goal.counted_values-returns
+counted_values-returns g t c =
+    count_done any_spelling c.loop-i.invariant
+    (omega (arith, c.loop-i-test.false, c.loop-i.auto.i-end))
 
-pub open_values-returns-in_err-takes_break-clause-moves :
-    goal.open_values-returns-in_err-takes_break-clause-moves
-open_values-returns-in_err-takes_break-clause-moves g t c =
+pub open_values-returns-in_err-takes_break : goal.open_values-returns-in_err-takes_break
+open_values-returns-in_err-takes_break g t c =
     let p = err_from_is_err_and c.from_residual.result c.from_residual.ensures.1 in
-    rw (p.1, p.2) (moves_then c.loop-values.invariant.kept
-    (moves_err c.in_err-takes_break.ensures.runs.moves))
+    rw (p.1, p.2) (open_err (codes "array") any_spelling any_lawful c.loop-values.invariant
+    (place_end any_spelling (codes "array") any_lawful c.in_err-takes_break.ensures.runs
+    c.in_err-takes_break.ensures.memory))
 
-pub open_values-returns-in_err-takes_break-clause-complete :
-    goal.open_values-returns-in_err-takes_break-clause-complete
-open_values-returns-in_err-takes_break-clause-complete g t c =
-    let p = err_from_is_err_and c.from_residual.result c.from_residual.ensures.1 in
-    rw (p.1, p.2) (end_refuses _ _ (size_of any_laws) any_laws.within any_laws.positive
-    c.loop-values.invariant c.in_err-takes_break.ensures.runs)
+pub open_values-returns-in_err-add_value : goal.open_values-returns-in_err-add_value
+open_values-returns-in_err-add_value g t c =
+    let p = err_from_is_err_and c.from_residual-in_err-add_value.result
+    c.from_residual-in_err-add_value.ensures.1 in
+    rw (p.1, p.2) (open_err (codes "array") any_spelling any_lawful c.loop-values.invariant
+    (place_part any_spelling (codes "array") refl
+    (stands c.if-not-branch.true c.in_ok-takes_break.ensures.runs) c.in_err-add_value.ensures))
 
 pub open_values-loop-values-preserved : goal.open_values-loop-values-preserved
 open_values-loop-values-preserved g t c =
-    open_more _ _ refl c.loop-values.invariant
-    (stands c.if-not-branch.true c.in_ok-takes_break.ensures.runs)
-    c.in_ok-add_value.ensures.sound c.in_ok-add_value.ensures.moves
-
-pub open_values-returns-in_err-add_value-clause-moves :
-    goal.open_values-returns-in_err-add_value-clause-moves
-open_values-returns-in_err-add_value-clause-moves g t c =
-    let p = err_from_is_err_and c.from_residual-in_err-add_value.result
-    c.from_residual-in_err-add_value.ensures.1 in
-    rw (p.1, p.2) (moves_then (kept_then c.loop-values.invariant.kept
-    c.in_ok-takes_break.ensures.runs.moves.by) (moves_err c.in_err-add_value.ensures.moves))
-
-pub open_values-returns-in_err-add_value-clause-complete :
-    goal.open_values-returns-in_err-add_value-clause-complete
-open_values-returns-in_err-add_value-clause-complete g t c =
-    let p = err_from_is_err_and c.from_residual-in_err-add_value.result
-    c.from_residual-in_err-add_value.ensures.1 in
-    rw (p.1, p.2) (open_refuses _ _ (size_of any_laws) c.loop-values.invariant
-    (stands c.if-not-branch.true c.in_ok-takes_break.ensures.runs)
-    (λ xs told. c.in_err-add_value.ensures.complete))
-
-pub open_values-returns-clause-moves : goal.open_values-returns-clause-moves
-open_values-returns-clause-moves g t c =
-    record {
-      by = kept_then c.loop-values.invariant.kept c.in_ok-takes_break.ensures.runs.moves.by;
-      depth = λ e. refl;
-    }
-
-pub open_values-returns-clause-sound : goal.open_values-returns-clause-sound
-open_values-returns-clause-sound g t c =
-    open_done _ _ c.if-not-branch.false c.loop-values.invariant c.in_ok-takes_break.ensures.runs
-
-pub any_map-returns-clause-moves : goal.any_map-returns-clause-moves
-any_map-returns-clause-moves g t c =
-    moves_stepped (answer_of c.map_inside-outcome.result) _ _ _ _ c.if-not-step_in.ensures.budget
-    c.step_in.ensures.others c.map_inside-outcome.ensures.moves c.step_out.ensures.budget
-    c.step_out.ensures.others
-
-pub any_map-returns-clause-sound : goal.any_map-returns-clause-sound
-any_map-returns-clause-sound g t c =
-    formed_sound c.map_inside-outcome.result (λ v. v.items) _ _ _ c.if-not-step_in.ensures.budget
-    c.step_in.ensures.others _ _ c.step_out.ensures.others c.map_inside-outcome.ensures.sound
-
-pub any_map-returns-clause-complete : goal.any_map-returns-clause-complete
-any_map-returns-clause-complete g t c =
-    step_refuses c.map_inside-outcome.result _ _ _ c.if-not-step_in.ensures.budget
-    c.step_in.ensures.others c.map_inside-outcome.ensures.complete
-
-pub map_inside-returns-in-Ok-Some-clause-moves : goal.map_inside-returns-in-Ok-Some-clause-moves
-map_inside-returns-in-Ok-Some-clause-moves g t c =
-    moves_then c.in-Ok-Some.ensures.moves.by c.counted_pairs.ensures.moves
-
-pub map_inside-returns-in-Ok-Some-clause-sound : goal.map_inside-returns-in-Ok-Some-clause-sound
-map_inside-returns-in-Ok-Some-clause-sound g t c =
-    counted_sound _ _ _ c.counted_pairs.result _ _ _ (counts_of c.in-Ok-Some.field-0-is
-    c.in-Ok-Some.ensures.moves.by c.in-Ok-Some.ensures.sound) c.counted_pairs.ensures.sound
-
-pub map_inside-returns-in-Ok-Some-clause-complete :
-    goal.map_inside-returns-in-Ok-Some-clause-complete
-map_inside-returns-in-Ok-Some-clause-complete g t c =
-    counted_refuses _ _ _ c.counted_pairs.result _ _ five_small
-    (counts_of c.in-Ok-Some.field-0-is c.in-Ok-Some.ensures.moves.by c.in-Ok-Some.ensures.sound)
-    (λ xs told. c.counted_pairs.ensures.complete)
-
-pub map_inside-returns-in-Ok-None-clause-moves : goal.map_inside-returns-in-Ok-None-clause-moves
-map_inside-returns-in-Ok-None-clause-moves g t c =
-    moves_then c.in-Ok-None.ensures.moves.by c.open_pairs.ensures.moves
-
-pub map_inside-returns-in-Ok-None-clause-sound : goal.map_inside-returns-in-Ok-None-clause-sound
-map_inside-returns-in-Ok-None-clause-sound g t c =
-    opened_sound _ _ _ c.open_pairs.result _ _ _ (opens_of c.in-Ok-None.field-0-is
-    c.in-Ok-None.ensures.moves.by c.in-Ok-None.ensures.sound) c.open_pairs.ensures.sound
-
-pub map_inside-returns-in-Ok-None-clause-complete :
-    goal.map_inside-returns-in-Ok-None-clause-complete
-map_inside-returns-in-Ok-None-clause-complete g t c =
-    opened_refuses _ _ _ c.open_pairs.result _ _ five_small
-    (opens_of c.in-Ok-None.field-0-is c.in-Ok-None.ensures.moves.by c.in-Ok-None.ensures.sound)
-    (λ xs told. c.open_pairs.ensures.complete)
-
-pub map_inside-returns-in-Err-clause-complete : goal.map_inside-returns-in-Err-clause-complete
-map_inside-returns-in-Err-clause-complete g t c = no_length _ _ _ (c.in-Err.ensures.complete
-    (inl refl))
-
-pub counted_pairs-returns-in_err-add_pair-clause-moves :
-    goal.counted_pairs-returns-in_err-add_pair-clause-moves
-counted_pairs-returns-in_err-add_pair-clause-moves g t c =
-    let p = err_from_is_err_and c.from_residual.result c.from_residual.ensures.1 in
-    rw (p.1, p.2) (moves_then c.loop-i.invariant.kept (moves_err c.in_err-add_pair.ensures.moves))
-
-pub counted_pairs-returns-in_err-add_pair-clause-complete :
-    goal.counted_pairs-returns-in_err-add_pair-clause-complete
-counted_pairs-returns-in_err-add_pair-clause-complete g t c =
-    let p = err_from_is_err_and c.from_residual.result c.from_residual.ensures.1 in
-    rw (p.1, p.2) (count_refuses _ (size_of pairs_laws) c.loop-i.invariant c.loop-i-test.true
-    (λ xs told. c.in_err-add_pair.ensures.complete))
-
-pub counted_pairs-loop-i-preserved : goal.counted_pairs-loop-i-preserved
-counted_pairs-loop-i-preserved g t c =
-    count_more _ c.loop-i.invariant c.in_ok-add_pair.ensures.sound c.in_ok-add_pair.ensures.moves
-
-pub counted_pairs-returns-clause-sound : goal.counted_pairs-returns-clause-sound
-counted_pairs-returns-clause-sound g t c =
-    count_done _ c.loop-i.invariant (omega (arith, c.loop-i-test.false, c.loop-i.auto.i-end))
-
-pub open_pairs-returns-in_err-takes_break-clause-moves :
-    goal.open_pairs-returns-in_err-takes_break-clause-moves
-open_pairs-returns-in_err-takes_break-clause-moves g t c =
-    let p = err_from_is_err_and c.from_residual.result c.from_residual.ensures.1 in
-    rw (p.1, p.2)
-    (moves_then c.loop-pairs.invariant.kept (moves_err c.in_err-takes_break.ensures.runs.moves))
-
-pub open_pairs-returns-in_err-takes_break-clause-complete :
-    goal.open_pairs-returns-in_err-takes_break-clause-complete
-open_pairs-returns-in_err-takes_break-clause-complete g t c =
-    let p = err_from_is_err_and c.from_residual.result c.from_residual.ensures.1 in
-    rw (p.1, p.2) (end_refuses _ _ (size_of pairs_laws) pairs_laws.within pairs_laws.positive
-    c.loop-pairs.invariant c.in_err-takes_break.ensures.runs)
-
-pub open_pairs-loop-pairs-preserved : goal.open_pairs-loop-pairs-preserved
-open_pairs-loop-pairs-preserved g t c =
-    open_more _ _ refl c.loop-pairs.invariant
-    (stands c.if-not-branch.true c.in_ok-takes_break.ensures.runs)
-    c.in_ok-add_pair.ensures.sound c.in_ok-add_pair.ensures.moves
-
-pub open_pairs-returns-in_err-add_pair-clause-moves :
-    goal.open_pairs-returns-in_err-add_pair-clause-moves
-open_pairs-returns-in_err-add_pair-clause-moves g t c =
-    let p = err_from_is_err_and c.from_residual-in_err-add_pair.result
-    c.from_residual-in_err-add_pair.ensures.1 in
-    rw (p.1, p.2) (moves_then (kept_then c.loop-pairs.invariant.kept
-    c.in_ok-takes_break.ensures.runs.moves.by) (moves_err c.in_err-add_pair.ensures.moves))
-
-pub open_pairs-returns-in_err-add_pair-clause-complete :
-    goal.open_pairs-returns-in_err-add_pair-clause-complete
-open_pairs-returns-in_err-add_pair-clause-complete g t c =
-    let p = err_from_is_err_and c.from_residual-in_err-add_pair.result
-    c.from_residual-in_err-add_pair.ensures.1 in
-    rw (p.1, p.2) (open_refuses _ _ (size_of pairs_laws) c.loop-pairs.invariant
-    (stands c.if-not-branch.true c.in_ok-takes_break.ensures.runs)
-    (λ xs told. c.in_err-add_pair.ensures.complete))
-
-pub open_pairs-returns-clause-moves : goal.open_pairs-returns-clause-moves
-open_pairs-returns-clause-moves g t c =
-    record {
-      by = kept_then c.loop-pairs.invariant.kept c.in_ok-takes_break.ensures.runs.moves.by;
-      depth = λ e. refl;
-    }
-
-pub open_pairs-returns-clause-sound : goal.open_pairs-returns-clause-sound
-open_pairs-returns-clause-sound g t c =
-    open_done _ _ c.if-not-branch.false c.loop-pairs.invariant c.in_ok-takes_break.ensures.runs
-
-pub read_pair-returns-in_err-key-clause-complete : goal.read_pair-returns-in_err-key-clause-complete
-read_pair-returns-in_err-key-clause-complete g t c =
-    let p = err_from_is_err_and c.from_residual.result c.from_residual.ensures.1 in
-    rw (p.1, p.2) (key_refuses _ _ c.in_err-key.ensures.complete)
-
-pub read_pair-returns-in-Ok-clause-moves : goal.read_pair-returns-in-Ok-clause-moves
-read_pair-returns-in-Ok-clause-moves g t c =
-    moves_then c.in_ok-key.ensures.moves.by (moves_ok c.in-Ok.ensures.moves)
-
-pub read_pair-returns-in-Ok-clause-sound : goal.read_pair-returns-in-Ok-clause-sound
-read_pair-returns-in-Ok-clause-sound g t c =
-    pair_sound _ _ c.in_ok-key.ensures.moves.by c.in_ok-key.ensures.sound c.in-Ok.ensures.sound
-
-pub read_pair-returns-in-Err-clause-moves : goal.read_pair-returns-in-Err-clause-moves
-read_pair-returns-in-Err-clause-moves g t c =
-    moves_then c.in_ok-key.ensures.moves.by (moves_err c.in-Err.ensures.moves)
-
-pub read_pair-returns-in-Err-clause-complete : goal.read_pair-returns-in-Err-clause-complete
-read_pair-returns-in-Err-clause-complete g t c =
-    value_refuses _ _ _ any_laws.one c.in_ok-key.ensures.moves.by c.in_ok-key.ensures.sound
-    (λ xs told. c.in-Err.ensures.complete)
-
-pub add_pair-returns-clause-sound : goal.add_pair-returns-clause-sound
-add_pair-returns-clause-sound g t c = record {
-  part = c.in_ok-pair.pair;
-  read = c.in_ok-pair.ensures.sound;
-  added = c.if-not-keep.ensures refl;
-}
-
-pub read_any-returns-then-not-step_in-clause-stops :
-    goal.read_any-returns-then-not-step_in-clause-stops
-read_any-returns-then-not-step_in-clause-stops g t c =
-    any_stops (stops_no_step _ (AnyStops StopsAny) c.if-not-step_in.ensures.budget
-    c.step_in.ensures.others)
-
-pub read_any-returns-clause-stops : goal.read_any-returns-clause-stops
-read_any-returns-clause-stops g t c =
-    any_stops_by c.any_inside-outcome.result _ _ (step_stops c.any_inside-outcome.result
-    (codes "any") (AnyStops StopsAny) _ _ _ _ c.if-not-step_in.ensures.budget
-    c.step_in.ensures.others c.step_out.ensures.others c.any_inside-outcome.ensures.stops)
-
-pub any_inside-returns-in-Err-clause-stops : goal.any_inside-returns-in-Err-clause-stops
-any_inside-returns-in-Err-clause-stops g t c = next_stops c.in-Err.ensures.decodes.begins
-
-pub any_inside-returns-in-Leaf-clause-stops : goal.any_inside-returns-in-Leaf-clause-stops
-any_inside-returns-in-Leaf-clause-stops g t c =
-    kind_stops_by c.take_leaf.result _ (saw c.in-Ok.ensures.decodes.moves
-    c.in-Ok.ensures.decodes.sound)
-    c.in-Leaf.ensures c.take_leaf.ensures.stops
-
-pub any_inside-returns-in-Other-clause-stops : goal.any_inside-returns-in-Other-clause-stops
-any_inside-returns-in-Other-clause-stops g t c =
-    other_stops _ refl (saw c.in-Ok.ensures.decodes.moves c.in-Ok.ensures.decodes.sound)
-    c.in-Other.ensures
-
-pub any_inside-returns-in-Err-any_array-clause-stops :
-    goal.any_inside-returns-in-Err-any_array-clause-stops
-any_inside-returns-in-Err-any_array-clause-stops g t c =
-    kind_stops (saw c.in-Ok.ensures.decodes.moves c.in-Ok.ensures.decodes.sound) c.in-Array.ensures
-    c.in-Err-any_array.ensures.stops
-
-pub any_array-returns-then-not-step_in-clause-stops :
-    goal.any_array-returns-then-not-step_in-clause-stops
-any_array-returns-then-not-step_in-clause-stops g t c =
-    stops_no_step _ (StopsInside (codes "array") 4 ReadsAny StopsAny true)
-    c.if-not-step_in.ensures.budget c.step_in.ensures.others
-
-pub any_array-returns-clause-stops : goal.any_array-returns-clause-stops
-any_array-returns-clause-stops g t c =
-    step_stops c.array_inside-outcome.result (codes "seq") _ _ _ _ _ c.if-not-step_in.ensures.budget
-    c.step_in.ensures.others c.step_out.ensures.others c.array_inside-outcome.ensures.stops
-
-pub array_inside-returns-in-Ok-Some-clause-stops : goal.array_inside-returns-in-Ok-Some-clause-stops
-array_inside-returns-in-Ok-Some-clause-stops g t c =
-    counted_stops _ _ c.counted_values.result (codes "array") 4 _ (counts_of c.in-Ok-Some.field-0-is
-    c.in-Ok-Some.ensures.moves.by c.in-Ok-Some.ensures.sound) c.counted_values.ensures.stops
-
-pub array_inside-returns-in-Ok-None-clause-stops : goal.array_inside-returns-in-Ok-None-clause-stops
-array_inside-returns-in-Ok-None-clause-stops g t c =
-    opened_stops _ _ c.open_values.result (codes "array") 4 _ (opens_of c.in-Ok-None.field-0-is
-    c.in-Ok-None.ensures.moves.by c.in-Ok-None.ensures.sound) c.open_values.ensures.stops
-
-pub array_inside-returns-in-Err-clause-stops : goal.array_inside-returns-in-Err-clause-stops
-array_inside-returns-in-Err-clause-stops g t c =
-    length_stops _ _ (codes "array") 4 c.in-Err.ensures.begins
-
-pub counted_values-returns-in_err-add_value-clause-stops :
-    goal.counted_values-returns-in_err-add_value-clause-stops
-counted_values-returns-in_err-add_value-clause-stops g t c =
-    let p = err_from_is_err_and c.from_residual.result c.from_residual.ensures.1 in
-    rw (p.1, p.2)
-    (count_stops _ _ c.loop-i.invariant c.loop-i-test.true c.in_err-add_value.ensures.stops)
-
-pub open_values-returns-in_err-takes_break-clause-stops :
-    goal.open_values-returns-in_err-takes_break-clause-stops
-open_values-returns-in_err-takes_break-clause-stops g t c =
-    let p = err_from_is_err_and c.from_residual.result c.from_residual.ensures.1 in
-    rw (p.1, p.2)
-    (end_stops _ _ (codes "array") c.loop-values.invariant c.in_err-takes_break.ensures.runs)
-
-pub open_values-returns-in_err-add_value-clause-stops :
-    goal.open_values-returns-in_err-add_value-clause-stops
-open_values-returns-in_err-add_value-clause-stops g t c =
-    let p = err_from_is_err_and c.from_residual-in_err-add_value.result
-    c.from_residual-in_err-add_value.ensures.1 in
-    rw (p.1, p.2) (open_stops _ _ (codes "array") c.loop-values.invariant (stands
-    c.if-not-branch.true c.in_ok-takes_break.ensures.runs) c.in_err-add_value.ensures.stops)
-
-pub any_inside-returns-in-Err-any_map-clause-stops :
-    goal.any_inside-returns-in-Err-any_map-clause-stops
-any_inside-returns-in-Err-any_map-clause-stops g t c =
-    kind_stops (saw c.in-Ok.ensures.decodes.moves c.in-Ok.ensures.decodes.sound) c.in-Map.ensures
-    c.in-Err-any_map.ensures.stops
-
-pub any_map-returns-then-not-step_in-clause-stops :
-    goal.any_map-returns-then-not-step_in-clause-stops
-any_map-returns-then-not-step_in-clause-stops g t c =
-    stops_no_step _ (StopsInside (codes "map") 5 (ReadsPair ReadsAny ReadsAny) StopsAnyPair true)
-    c.if-not-step_in.ensures.budget c.step_in.ensures.others
-
-pub any_map-returns-clause-stops : goal.any_map-returns-clause-stops
-any_map-returns-clause-stops g t c =
-    step_stops c.map_inside-outcome.result (codes "map") _ _ _ _ _ c.if-not-step_in.ensures.budget
-    c.step_in.ensures.others c.step_out.ensures.others c.map_inside-outcome.ensures.stops
-
-pub map_inside-returns-in-Ok-Some-clause-stops : goal.map_inside-returns-in-Ok-Some-clause-stops
-map_inside-returns-in-Ok-Some-clause-stops g t c =
-    counted_stops _ _ c.counted_pairs.result (codes "map") 5 _ (counts_of c.in-Ok-Some.field-0-is
-    c.in-Ok-Some.ensures.moves.by c.in-Ok-Some.ensures.sound) c.counted_pairs.ensures.stops
-
-pub map_inside-returns-in-Ok-None-clause-stops : goal.map_inside-returns-in-Ok-None-clause-stops
-map_inside-returns-in-Ok-None-clause-stops g t c =
-    opened_stops _ _ c.open_pairs.result (codes "map") 5 _ (opens_of c.in-Ok-None.field-0-is
-    c.in-Ok-None.ensures.moves.by c.in-Ok-None.ensures.sound) c.open_pairs.ensures.stops
-
-pub map_inside-returns-in-Err-clause-stops : goal.map_inside-returns-in-Err-clause-stops
-map_inside-returns-in-Err-clause-stops g t c =
-    length_stops _ _ (codes "map") 5 c.in-Err.ensures.begins
-
-pub counted_pairs-returns-in_err-add_pair-clause-stops :
-    goal.counted_pairs-returns-in_err-add_pair-clause-stops
-counted_pairs-returns-in_err-add_pair-clause-stops g t c =
-    let p = err_from_is_err_and c.from_residual.result c.from_residual.ensures.1 in
-    rw (p.1, p.2)
-    (count_stops _ _ c.loop-i.invariant c.loop-i-test.true c.in_err-add_pair.ensures.stops)
-
-pub open_pairs-returns-in_err-takes_break-clause-stops :
-    goal.open_pairs-returns-in_err-takes_break-clause-stops
-open_pairs-returns-in_err-takes_break-clause-stops g t c =
-    let p = err_from_is_err_and c.from_residual.result c.from_residual.ensures.1 in
-    rw (p.1, p.2)
-    (end_stops _ _ (codes "map") c.loop-pairs.invariant c.in_err-takes_break.ensures.runs)
-
-pub open_pairs-returns-in_err-add_pair-clause-stops :
-    goal.open_pairs-returns-in_err-add_pair-clause-stops
-open_pairs-returns-in_err-add_pair-clause-stops g t c =
-    let p = err_from_is_err_and c.from_residual-in_err-add_pair.result
-    c.from_residual-in_err-add_pair.ensures.1 in
-    rw (p.1, p.2) (open_stops _ _ (codes "map") c.loop-pairs.invariant (stands c.if-not-branch.true
-    c.in_ok-takes_break.ensures.runs) c.in_err-add_pair.ensures.stops)
-
-pub read_pair-returns-in_err-key-clause-stops : goal.read_pair-returns-in_err-key-clause-stops
-read_pair-returns-in_err-key-clause-stops g t c =
-    let p = err_from_is_err_and c.from_residual.result c.from_residual.ensures.1 in
-    rw (p.1, p.2) (key_stops c.in_err-key.ensures.stops)
-
-pub read_pair-returns-in-Err-clause-stops : goal.read_pair-returns-in-Err-clause-stops
-read_pair-returns-in-Err-clause-stops g t c =
-    value_stops c.in_ok-key.ensures.moves.by c.in_ok-key.ensures.sound c.in-Err.ensures.stops
-
-pub add_pair-returns-in_err-pair-clause-moves : goal.add_pair-returns-in_err-pair-clause-moves
-add_pair-returns-in_err-pair-clause-moves g t c =
-    let p = err_from_is_err_and c.from_residual.result c.from_residual.ensures.1 in
-    rw (p.1, p.2) (moves_err c.in_err-pair.ensures.moves)
-
-pub add_pair-returns-in_err-pair-clause-progress : goal.add_pair-returns-in_err-pair-clause-progress
-add_pair-returns-in_err-pair-clause-progress g t c =
-    rw (err_from_is_err_and c.from_residual.result c.from_residual.ensures.1).1 tt
-
-pub add_pair-returns-in_err-pair-clause-sound : goal.add_pair-returns-in_err-pair-clause-sound
-add_pair-returns-in_err-pair-clause-sound g t c =
-    rw (err_from_is_err_and c.from_residual.result c.from_residual.ensures.1).1 tt
-
-pub add_pair-returns-in_err-pair-clause-complete : goal.add_pair-returns-in_err-pair-clause-complete
-add_pair-returns-in_err-pair-clause-complete g t c =
-    let p = err_from_is_err_and c.from_residual.result c.from_residual.ensures.1 in
-    rw (p.1, p.2) c.in_err-pair.ensures.complete
-
-pub add_pair-returns-in_err-pair-clause-stops : goal.add_pair-returns-in_err-pair-clause-stops
-add_pair-returns-in_err-pair-clause-stops g t c =
-    let p = err_from_is_err_and c.from_residual.result c.from_residual.ensures.1 in
-    rw (p.1, p.2) c.in_err-pair.ensures.stops
-
-pub add_pair-returns-then-not-keep-clause-moves : goal.add_pair-returns-then-not-keep-clause-moves
-add_pair-returns-then-not-keep-clause-moves g t c =
-    record { by = c.in_ok-pair.ensures.moves.by; depth = λ e. refl }
-
-pub add_pair-returns-then-not-keep-clause-progress :
-    goal.add_pair-returns-then-not-keep-clause-progress
-add_pair-returns-then-not-keep-clause-progress g t c = tt
-
-pub add_pair-returns-then-not-keep-clause-sound : goal.add_pair-returns-then-not-keep-clause-sound
-add_pair-returns-then-not-keep-clause-sound g t c = tt
-
-pub add_pair-returns-then-not-keep-clause-complete :
-    goal.add_pair-returns-then-not-keep-clause-complete
-add_pair-returns-then-not-keep-clause-complete g t c = record { at = λ xs told. tt }
-
-pub add_pair-returns-then-not-keep-clause-stops : goal.add_pair-returns-then-not-keep-clause-stops
-add_pair-returns-then-not-keep-clause-stops g t c = record { at = λ xs told. tt }
-
-pub add_pair-returns-clause-moves : goal.add_pair-returns-clause-moves
-add_pair-returns-clause-moves g t c =
-    record { by = c.in_ok-pair.ensures.moves.by; depth = λ e. refl }
-
-pub add_pair-returns-clause-progress : goal.add_pair-returns-clause-progress
-add_pair-returns-clause-progress g t c = c.in_ok-pair.ensures.progress
-
-pub add_pair-returns-clause-complete : goal.add_pair-returns-clause-complete
-add_pair-returns-clause-complete g t c = tt
-
-pub add_pair-returns-clause-stops : goal.add_pair-returns-clause-stops
-add_pair-returns-clause-stops g t c = tt
-
-pub add_value-returns-in_err-value-clause-moves : goal.add_value-returns-in_err-value-clause-moves
-add_value-returns-in_err-value-clause-moves g t c =
-    let p = err_from_is_err_and c.from_residual.result c.from_residual.ensures.1 in
-    rw (p.1, p.2) (moves_err c.in_err-value.ensures.moves)
-
-pub add_value-returns-in_err-value-clause-progress :
-    goal.add_value-returns-in_err-value-clause-progress
-add_value-returns-in_err-value-clause-progress g t c =
-    rw (err_from_is_err_and c.from_residual.result c.from_residual.ensures.1).1 tt
-
-pub add_value-returns-in_err-value-clause-sound : goal.add_value-returns-in_err-value-clause-sound
-add_value-returns-in_err-value-clause-sound g t c =
-    rw (err_from_is_err_and c.from_residual.result c.from_residual.ensures.1).1 tt
-
-pub add_value-returns-in_err-value-clause-complete :
-    goal.add_value-returns-in_err-value-clause-complete
-add_value-returns-in_err-value-clause-complete g t c =
-    let p = err_from_is_err_and c.from_residual.result c.from_residual.ensures.1 in
-    rw (p.1, p.2) c.in_err-value.ensures.complete
-
-pub add_value-returns-in_err-value-clause-stops : goal.add_value-returns-in_err-value-clause-stops
-add_value-returns-in_err-value-clause-stops g t c =
-    let p = err_from_is_err_and c.from_residual.result c.from_residual.ensures.1 in
-    rw (p.1, p.2) c.in_err-value.ensures.stops
-
-pub add_value-returns-then-not-keep-clause-moves : goal.add_value-returns-then-not-keep-clause-moves
-add_value-returns-then-not-keep-clause-moves g t c =
-    record { by = c.in_ok-value.ensures.moves.by; depth = λ e. refl }
-
-pub add_value-returns-then-not-keep-clause-progress :
-    goal.add_value-returns-then-not-keep-clause-progress
-add_value-returns-then-not-keep-clause-progress g t c = tt
-
-pub add_value-returns-then-not-keep-clause-sound : goal.add_value-returns-then-not-keep-clause-sound
-add_value-returns-then-not-keep-clause-sound g t c = tt
-
-pub add_value-returns-then-not-keep-clause-complete :
-    goal.add_value-returns-then-not-keep-clause-complete
-add_value-returns-then-not-keep-clause-complete g t c = record { at = λ xs told. tt }
-
-pub add_value-returns-then-not-keep-clause-stops : goal.add_value-returns-then-not-keep-clause-stops
-add_value-returns-then-not-keep-clause-stops g t c = record { at = λ xs told. tt }
-
-pub add_value-returns-clause-moves : goal.add_value-returns-clause-moves
-add_value-returns-clause-moves g t c =
-    record { by = c.in_ok-value.ensures.moves.by; depth = λ e. refl }
-
-pub add_value-returns-clause-progress : goal.add_value-returns-clause-progress
-add_value-returns-clause-progress g t c = c.in_ok-value.ensures.progress
-
-pub add_value-returns-clause-complete : goal.add_value-returns-clause-complete
-add_value-returns-clause-complete g t c = tt
-
-pub add_value-returns-clause-stops : goal.add_value-returns-clause-stops
-add_value-returns-clause-stops g t c = tt
-
-pub add_value-returns-clause-sound : goal.add_value-returns-clause-sound
-add_value-returns-clause-sound g t c = record {
-  part = c.in_ok-value.value;
-  read = c.in_ok-value.ensures.sound;
-  added = c.if-not-keep.ensures refl;
-}
-
-pub any_array-returns-then-not-step_in-clause-progress :
-    goal.any_array-returns-then-not-step_in-clause-progress
-any_array-returns-then-not-step_in-clause-progress g t c = tt
-
-pub any_array-returns-then-not-step_in-clause-sound :
-    goal.any_array-returns-then-not-step_in-clause-sound
-any_array-returns-then-not-step_in-clause-sound g t c = tt
-
-pub any_array-returns-clause-progress : goal.any_array-returns-clause-progress
-any_array-returns-clause-progress g t c =
-    rw (c.step_out.ensures.others.bound, ← c.step_in.ensures.others.bound)
-    c.array_inside-outcome.ensures.progress
-
-pub any_map-returns-then-not-step_in-clause-progress :
-    goal.any_map-returns-then-not-step_in-clause-progress
-any_map-returns-then-not-step_in-clause-progress g t c = tt
-
-pub any_map-returns-then-not-step_in-clause-sound :
-    goal.any_map-returns-then-not-step_in-clause-sound
-any_map-returns-then-not-step_in-clause-sound g t c = tt
-
-pub any_map-returns-clause-progress : goal.any_map-returns-clause-progress
-any_map-returns-clause-progress g t c =
-    rw (c.step_out.ensures.others.bound, ← c.step_in.ensures.others.bound)
-    c.map_inside-outcome.ensures.progress
-
-pub read_any-returns-then-not-step_in-clause-progress :
-    goal.read_any-returns-then-not-step_in-clause-progress
-read_any-returns-then-not-step_in-clause-progress g t c = tt
-
-pub read_any-returns-then-not-step_in-clause-sound :
-    goal.read_any-returns-then-not-step_in-clause-sound
-read_any-returns-then-not-step_in-clause-sound g t c = tt
-
-pub read_any-returns-clause-progress : goal.read_any-returns-clause-progress
-read_any-returns-clause-progress g t c =
-    rw (c.step_out.ensures.others.bound, ← c.step_in.ensures.others.bound)
-    c.any_inside-outcome.ensures.progress
-
-pub any_inside-returns-in-Err-clause-moves : goal.any_inside-returns-in-Err-clause-moves
-any_inside-returns-in-Err-clause-moves g t c = moves_err c.in-Err.ensures.decodes.moves
-
-pub any_inside-returns-in-Err-clause-progress : goal.any_inside-returns-in-Err-clause-progress
-any_inside-returns-in-Err-clause-progress g t c = tt
-
-pub any_inside-returns-in-Err-clause-sound : goal.any_inside-returns-in-Err-clause-sound
-any_inside-returns-in-Err-clause-sound g t c = tt
-
-pub any_inside-returns-in-Ok-any_array-clause-progress :
-    goal.any_inside-returns-in-Ok-any_array-clause-progress
-any_inside-returns-in-Ok-any_array-clause-progress g t c =
-    omega (arith, c.in-Ok-any_array.ensures.progress, c.in-Ok.ensures.decodes.moves.by.bound)
-
-pub any_inside-returns-in-Ok-any_array-clause-complete :
-    goal.any_inside-returns-in-Ok-any_array-clause-complete
-any_inside-returns-in-Ok-any_array-clause-complete g t c = tt
-
-pub any_inside-returns-in-Ok-any_array-clause-stops :
-    goal.any_inside-returns-in-Ok-any_array-clause-stops
-any_inside-returns-in-Ok-any_array-clause-stops g t c = tt
-
-pub any_inside-returns-in-Err-any_array-clause-progress :
-    goal.any_inside-returns-in-Err-any_array-clause-progress
-any_inside-returns-in-Err-any_array-clause-progress g t c = tt
-
-pub any_inside-returns-in-Err-any_array-clause-sound :
-    goal.any_inside-returns-in-Err-any_array-clause-sound
-any_inside-returns-in-Err-any_array-clause-sound g t c = tt
-
-pub any_inside-returns-in-Ok-any_map-clause-progress :
-    goal.any_inside-returns-in-Ok-any_map-clause-progress
-any_inside-returns-in-Ok-any_map-clause-progress g t c =
-    omega (arith, c.in-Ok-any_map.ensures.progress, c.in-Ok.ensures.decodes.moves.by.bound)
-
-pub any_inside-returns-in-Ok-any_map-clause-complete :
-    goal.any_inside-returns-in-Ok-any_map-clause-complete
-any_inside-returns-in-Ok-any_map-clause-complete g t c = tt
-
-pub any_inside-returns-in-Ok-any_map-clause-stops :
-    goal.any_inside-returns-in-Ok-any_map-clause-stops
-any_inside-returns-in-Ok-any_map-clause-stops g t c = tt
-
-pub any_inside-returns-in-Err-any_map-clause-progress :
-    goal.any_inside-returns-in-Err-any_map-clause-progress
-any_inside-returns-in-Err-any_map-clause-progress g t c = tt
-
-pub any_inside-returns-in-Err-any_map-clause-sound :
-    goal.any_inside-returns-in-Err-any_map-clause-sound
-any_inside-returns-in-Err-any_map-clause-sound g t c = tt
-
-pub any_inside-returns-in-Other-clause-moves : goal.any_inside-returns-in-Other-clause-moves
-any_inside-returns-in-Other-clause-moves g t c =
-    record { by = c.in-Ok.ensures.decodes.moves.by; depth = λ e. refl }
-
-pub any_inside-returns-in-Other-clause-progress : goal.any_inside-returns-in-Other-clause-progress
-any_inside-returns-in-Other-clause-progress g t c = tt
-
-pub any_inside-returns-in-Other-clause-sound : goal.any_inside-returns-in-Other-clause-sound
-any_inside-returns-in-Other-clause-sound g t c = tt
-
-pub array_inside-returns-in-Err-clause-moves : goal.array_inside-returns-in-Err-clause-moves
-array_inside-returns-in-Err-clause-moves g t c = moves_err c.in-Err.ensures.moves
-
-pub array_inside-returns-in-Err-clause-progress : goal.array_inside-returns-in-Err-clause-progress
-array_inside-returns-in-Err-clause-progress g t c = tt
-
-pub array_inside-returns-in-Err-clause-sound : goal.array_inside-returns-in-Err-clause-sound
-array_inside-returns-in-Err-clause-sound g t c = tt
-
-pub map_inside-returns-in-Err-clause-moves : goal.map_inside-returns-in-Err-clause-moves
-map_inside-returns-in-Err-clause-moves g t c = moves_err c.in-Err.ensures.moves
-
-pub map_inside-returns-in-Err-clause-progress : goal.map_inside-returns-in-Err-clause-progress
-map_inside-returns-in-Err-clause-progress g t c = tt
-
-pub map_inside-returns-in-Err-clause-sound : goal.map_inside-returns-in-Err-clause-sound
-map_inside-returns-in-Err-clause-sound g t c = tt
-
-pub counted_pairs-returns-then-is_err-clause-moves :
-    goal.counted_pairs-returns-then-is_err-clause-moves
-counted_pairs-returns-then-is_err-clause-moves g t c =
-    record { by = kept_alike _; depth = λ e. refl }
-
-pub counted_pairs-returns-then-is_err-clause-sound :
-    goal.counted_pairs-returns-then-is_err-clause-sound
-counted_pairs-returns-then-is_err-clause-sound g t c = tt
-
-pub counted_pairs-returns-then-is_err-clause-complete :
-    goal.counted_pairs-returns-then-is_err-clause-complete
-counted_pairs-returns-then-is_err-clause-complete g t c = record { at = λ xs told. tt }
-
-pub counted_pairs-returns-then-is_err-clause-stops :
-    goal.counted_pairs-returns-then-is_err-clause-stops
-counted_pairs-returns-then-is_err-clause-stops g t c = record { at = λ xs told. tt }
-
-pub counted_pairs-loop-i-init : goal.counted_pairs-loop-i-init
-counted_pairs-loop-i-init g t c =
-    rw (c.reserve.ensures.items, c.new-pairs.ensures.items)
-    (record {
-      count = refl;
-      parts = record {
-        at = λ xs told. record {
-          count = 0;
-          cost = 0;
-          read = (refl, refl);
-          fits = fits_zero _;
-          left = told;
-        };
-      };
-      kept = kept_alike _;
-    })
-
-pub open_pairs-loop-pairs-init : goal.open_pairs-loop-pairs-init
-open_pairs-loop-pairs-init g t c =
-    rw c.new-pairs.ensures.items
-    (record {
-      allowed = inl refl;
-      parts = record {
-        at = λ xs told. record {
-          count = 0;
-          cost = 0;
-          read = (refl, refl);
-          fits = fits_zero _;
-          left = told;
-        };
-      };
-      kept = kept_alike _;
-    })
-
-pub counted_pairs-returns-in_err-add_pair-clause-sound :
-    goal.counted_pairs-returns-in_err-add_pair-clause-sound
-counted_pairs-returns-in_err-add_pair-clause-sound g t c =
-    rw (err_from_is_err_and c.from_residual.result c.from_residual.ensures.1).1 tt
-
-pub counted_pairs-returns-clause-moves : goal.counted_pairs-returns-clause-moves
-counted_pairs-returns-clause-moves g t c =
-    record { by = c.loop-i.invariant.kept; depth = λ e. refl }
-
-pub counted_pairs-returns-clause-complete : goal.counted_pairs-returns-clause-complete
-counted_pairs-returns-clause-complete g t c = tt
-
-pub counted_pairs-returns-clause-stops : goal.counted_pairs-returns-clause-stops
-counted_pairs-returns-clause-stops g t c = tt
-
-pub open_pairs-returns-in_err-takes_break-clause-sound :
-    goal.open_pairs-returns-in_err-takes_break-clause-sound
-open_pairs-returns-in_err-takes_break-clause-sound g t c =
-    rw (err_from_is_err_and c.from_residual.result c.from_residual.ensures.1).1 tt
-
-pub open_pairs-returns-in_err-add_pair-clause-sound :
-    goal.open_pairs-returns-in_err-add_pair-clause-sound
-open_pairs-returns-in_err-add_pair-clause-sound g t c =
-    rw (err_from_is_err_and c.from_residual-in_err-add_pair.result
-    c.from_residual-in_err-add_pair.ensures.1).1 tt
-
-pub open_pairs-returns-clause-complete : goal.open_pairs-returns-clause-complete
-open_pairs-returns-clause-complete g t c = tt
-
-pub open_pairs-returns-clause-stops : goal.open_pairs-returns-clause-stops
-open_pairs-returns-clause-stops g t c = tt
-
-pub open_pairs-loop-pairs-smaller : goal.open_pairs-loop-pairs-smaller
-open_pairs-loop-pairs-smaller g t c =
-    omega
-    (arith, c.in_ok-add_pair.ensures.progress, c.in_ok-takes_break.ensures.runs.moves.by.bound)
-
-pub counted_values-returns-then-is_err-clause-moves :
-    goal.counted_values-returns-then-is_err-clause-moves
-counted_values-returns-then-is_err-clause-moves g t c =
-    record { by = kept_alike _; depth = λ e. refl }
-
-pub counted_values-returns-then-is_err-clause-sound :
-    goal.counted_values-returns-then-is_err-clause-sound
-counted_values-returns-then-is_err-clause-sound g t c = tt
-
-pub counted_values-returns-then-is_err-clause-complete :
-    goal.counted_values-returns-then-is_err-clause-complete
-counted_values-returns-then-is_err-clause-complete g t c = record { at = λ xs told. tt }
-
-pub counted_values-returns-then-is_err-clause-stops :
-    goal.counted_values-returns-then-is_err-clause-stops
-counted_values-returns-then-is_err-clause-stops g t c = record { at = λ xs told. tt }
-
-pub counted_values-loop-i-init : goal.counted_values-loop-i-init
-counted_values-loop-i-init g t c =
-    rw (c.reserve.ensures.items, c.new-values.ensures.items)
-    (record {
-      count = refl;
-      parts = record {
-        at = λ xs told. record {
-          count = 0;
-          cost = 0;
-          read = (refl, refl);
-          fits = fits_zero _;
-          left = told;
-        };
-      };
-      kept = kept_alike _;
-    })
-
-pub open_values-loop-values-init : goal.open_values-loop-values-init
-open_values-loop-values-init g t c =
-    rw c.new-values.ensures.items
-    (record {
-      allowed = inl refl;
-      parts = record {
-        at = λ xs told. record {
-          count = 0;
-          cost = 0;
-          read = (refl, refl);
-          fits = fits_zero _;
-          left = told;
-        };
-      };
-      kept = kept_alike _;
-    })
-
-pub counted_values-returns-in_err-add_value-clause-sound :
-    goal.counted_values-returns-in_err-add_value-clause-sound
-counted_values-returns-in_err-add_value-clause-sound g t c =
-    rw (err_from_is_err_and c.from_residual.result c.from_residual.ensures.1).1 tt
-
-pub counted_values-returns-clause-moves : goal.counted_values-returns-clause-moves
-counted_values-returns-clause-moves g t c =
-    record { by = c.loop-i.invariant.kept; depth = λ e. refl }
-
-pub counted_values-returns-clause-complete : goal.counted_values-returns-clause-complete
-counted_values-returns-clause-complete g t c = tt
-
-pub counted_values-returns-clause-stops : goal.counted_values-returns-clause-stops
-counted_values-returns-clause-stops g t c = tt
-
-pub open_values-returns-in_err-takes_break-clause-sound :
-    goal.open_values-returns-in_err-takes_break-clause-sound
-open_values-returns-in_err-takes_break-clause-sound g t c =
-    rw (err_from_is_err_and c.from_residual.result c.from_residual.ensures.1).1 tt
-
-pub open_values-returns-in_err-add_value-clause-sound :
-    goal.open_values-returns-in_err-add_value-clause-sound
-open_values-returns-in_err-add_value-clause-sound g t c =
-    rw (err_from_is_err_and c.from_residual-in_err-add_value.result
-    c.from_residual-in_err-add_value.ensures.1).1 tt
-
-pub open_values-returns-clause-complete : goal.open_values-returns-clause-complete
-open_values-returns-clause-complete g t c = tt
-
-pub open_values-returns-clause-stops : goal.open_values-returns-clause-stops
-open_values-returns-clause-stops g t c = tt
+    open_more any_spelling refl c.loop-values.invariant
+    (stands c.if-not-branch.true c.in_ok-takes_break.ensures.runs) c.in_ok-add_value.ensures.read
+    c.in_ok-add_value.ensures.added
 
 pub open_values-loop-values-smaller : goal.open_values-loop-values-smaller
 open_values-loop-values-smaller g t c =
-    omega
-    (arith, c.in_ok-add_value.ensures.progress, c.in_ok-takes_break.ensures.runs.moves.by.bound)
+    omega (
+      arith,
+      c.in_ok-add_value.ensures.read.progress refl,
+      c.in_ok-takes_break.ensures.runs.moves.by.bound,
+    )
 
-pub read_pair-returns-in_err-key-clause-moves : goal.read_pair-returns-in_err-key-clause-moves
-read_pair-returns-in_err-key-clause-moves g t c =
+pub open_values-returns : goal.open_values-returns
+open_values-returns g t c =
+    open_done (codes "array") any_spelling c.if-not-branch.false c.loop-values.invariant
+    c.in_ok-takes_break.ensures.runs
+
+pub add_value-returns-in_err-value : goal.add_value-returns-in_err-value
+add_value-returns-in_err-value g t c =
     let p = err_from_is_err_and c.from_residual.result c.from_residual.ensures.1 in
-    rw (p.1, p.2) (moves_err c.in_err-key.ensures.moves)
+    rw (p.1, p.2) c.in_err-value.ensures
 
-pub read_pair-returns-in_err-key-clause-progress : goal.read_pair-returns-in_err-key-clause-progress
-read_pair-returns-in_err-key-clause-progress g t c =
-    rw (err_from_is_err_and c.from_residual.result c.from_residual.ensures.1).1 tt
+pub add_value-returns-then-not-keep : goal.add_value-returns-then-not-keep
+add_value-returns-then-not-keep g t c = out_of_memory any_spelling refl
+    c.in_ok-value.ensures.moves.by
 
-pub read_pair-returns-in_err-key-clause-sound : goal.read_pair-returns-in_err-key-clause-sound
-read_pair-returns-in_err-key-clause-sound g t c =
-    rw (err_from_is_err_and c.from_residual.result c.from_residual.ensures.1).1 tt
+pub add_value-returns : goal.add_value-returns
+add_value-returns g t c = record {
+  part = _;
+  read = c.in_ok-value.ensures;
+  added = search rules;
+}
 
-pub read_pair-returns-in-Ok-clause-progress : goal.read_pair-returns-in-Ok-clause-progress
-read_pair-returns-in-Ok-clause-progress g t c =
-    omega (arith, c.in-Ok.ensures.progress, c.in_ok-key.ensures.progress)
+-- ---- maps
 
-pub read_pair-returns-in-Ok-clause-complete : goal.read_pair-returns-in-Ok-clause-complete
-read_pair-returns-in-Ok-clause-complete g t c = tt
+pub any_map-returns-then-not-step_in : goal.any_map-returns-then-not-step_in
+any_map-returns-then-not-step_in g t c =
+    no_step_left pairs_inside _ (search rules) c.if-not-step_in.ensures.budget
+    c.step_in.ensures.others
 
-pub read_pair-returns-in-Ok-clause-stops : goal.read_pair-returns-in-Ok-clause-stops
-read_pair-returns-in-Ok-clause-stops g t c = tt
+pub any_map-returns : goal.any_map-returns
+any_map-returns g t c =
+    under pairs_inside (codes "map") c.if-not-step_in.ensures.budget c.step_in.ensures.others
+    c.step_out.ensures.others (answer_of c.map_inside-outcome.result) c.step_out.ensures.budget
+    c.map_inside-outcome.ensures
 
-pub read_pair-returns-in-Err-clause-progress : goal.read_pair-returns-in-Err-clause-progress
-read_pair-returns-in-Err-clause-progress g t c = tt
+pub map_inside-returns-in-Err : goal.map_inside-returns-in-Err
+map_inside-returns-in-Err g t c =
+    head_err (codes "map") 5 any_pair five_small c.in-Err.ensures
 
-pub read_pair-returns-in-Err-clause-sound : goal.read_pair-returns-in-Err-clause-sound
-read_pair-returns-in-Err-clause-sound g t c = tt
+pub map_inside-returns-in-Ok-Some : goal.map_inside-returns-in-Ok-Some
+map_inside-returns-in-Ok-Some g t c =
+    behind (count_spelling any_pair _) pairs_inside (answer_of c.counted_pairs.result)
+    (counts (codes "map") 5 any_pair five_small c.in-Ok-Some.field-0-is c.in-Ok-Some.ensures)
+    c.counted_pairs.ensures
 
-pub array_inside-returns-in-Ok-Some-clause-progress :
-    goal.array_inside-returns-in-Ok-Some-clause-progress
-array_inside-returns-in-Ok-Some-clause-progress g t c =
-    gone_on _ c.counted_values.result (c.in-Ok-Some.ensures.progress refl)
-    c.counted_values.ensures.moves
+pub map_inside-returns-in-Ok-None : goal.map_inside-returns-in-Ok-None
+map_inside-returns-in-Ok-None g t c =
+    behind (open_spelling (codes "map") any_pair) pairs_inside (answer_of c.open_pairs.result)
+    (opens (codes "map") 5 any_pair five_small c.in-Ok-None.field-0-is c.in-Ok-None.ensures)
+    c.open_pairs.ensures
 
-pub array_inside-returns-in-Ok-None-clause-progress :
-    goal.array_inside-returns-in-Ok-None-clause-progress
-array_inside-returns-in-Ok-None-clause-progress g t c =
-    gone_on _ c.open_values.result (c.in-Ok-None.ensures.progress refl) c.open_values.ensures.moves
+pub counted_pairs-returns-then-is_err : goal.counted_pairs-returns-then-is_err
+counted_pairs-returns-then-is_err g t c =
+    out_of_memory (count_spelling any_pair c.args.count) refl (search rules)
 
-pub map_inside-returns-in-Ok-Some-clause-progress :
-    goal.map_inside-returns-in-Ok-Some-clause-progress
-map_inside-returns-in-Ok-Some-clause-progress g t c =
-    gone_on _ c.counted_pairs.result (c.in-Ok-Some.ensures.progress refl)
-    c.counted_pairs.ensures.moves
+pub counted_pairs-returns-in_err-add_pair : goal.counted_pairs-returns-in_err-add_pair
+counted_pairs-returns-in_err-add_pair g t c =
+    let p = err_from_is_err_and c.from_residual.result c.from_residual.ensures.1 in
+    rw (p.1, p.2) (count_err any_pair pair_is_lawful c.loop-i.invariant c.loop-i-test.true
+    c.in_err-add_pair.ensures)
 
-pub map_inside-returns-in-Ok-None-clause-progress :
-    goal.map_inside-returns-in-Ok-None-clause-progress
-map_inside-returns-in-Ok-None-clause-progress g t c =
-    gone_on _ c.open_pairs.result (c.in-Ok-None.ensures.progress refl) c.open_pairs.ensures.moves
+pub counted_pairs-loop-i-preserved : goal.counted_pairs-loop-i-preserved
+counted_pairs-loop-i-preserved g t c =
+    count_more any_pair c.loop-i.invariant c.in_ok-add_pair.ensures.read
+    c.in_ok-add_pair.ensures.added
+
+pub counted_pairs-returns : goal.counted_pairs-returns
+counted_pairs-returns g t c =
+    count_done any_pair c.loop-i.invariant
+    (omega (arith, c.loop-i-test.false, c.loop-i.auto.i-end))
+
+pub open_pairs-returns-in_err-takes_break : goal.open_pairs-returns-in_err-takes_break
+open_pairs-returns-in_err-takes_break g t c =
+    let p = err_from_is_err_and c.from_residual.result c.from_residual.ensures.1 in
+    rw (p.1, p.2) (open_err (codes "map") any_pair pair_is_lawful c.loop-pairs.invariant
+    (place_end any_pair (codes "map") pair_is_lawful c.in_err-takes_break.ensures.runs
+    c.in_err-takes_break.ensures.memory))
+
+pub open_pairs-returns-in_err-add_pair : goal.open_pairs-returns-in_err-add_pair
+open_pairs-returns-in_err-add_pair g t c =
+    let p = err_from_is_err_and c.from_residual-in_err-add_pair.result
+    c.from_residual-in_err-add_pair.ensures.1 in
+    rw (p.1, p.2) (open_err (codes "map") any_pair pair_is_lawful c.loop-pairs.invariant
+    (place_part any_pair (codes "map") refl
+    (stands c.if-not-branch.true c.in_ok-takes_break.ensures.runs) c.in_err-add_pair.ensures))
+
+pub open_pairs-loop-pairs-preserved : goal.open_pairs-loop-pairs-preserved
+open_pairs-loop-pairs-preserved g t c =
+    open_more any_pair refl c.loop-pairs.invariant
+    (stands c.if-not-branch.true c.in_ok-takes_break.ensures.runs) c.in_ok-add_pair.ensures.read
+    c.in_ok-add_pair.ensures.added
+
+pub open_pairs-loop-pairs-smaller : goal.open_pairs-loop-pairs-smaller
+open_pairs-loop-pairs-smaller g t c =
+    omega (
+      arith,
+      c.in_ok-add_pair.ensures.read.progress refl,
+      c.in_ok-takes_break.ensures.runs.moves.by.bound,
+    )
+
+pub open_pairs-returns : goal.open_pairs-returns
+open_pairs-returns g t c =
+    open_done (codes "map") any_pair c.if-not-branch.false c.loop-pairs.invariant
+    c.in_ok-takes_break.ensures.runs
+
+pub add_pair-returns-in_err-pair : goal.add_pair-returns-in_err-pair
+add_pair-returns-in_err-pair g t c =
+    let p = err_from_is_err_and c.from_residual.result c.from_residual.ensures.1 in
+    rw (p.1, p.2) c.in_err-pair.ensures
+
+pub add_pair-returns-then-not-keep : goal.add_pair-returns-then-not-keep
+add_pair-returns-then-not-keep g t c = out_of_memory any_pair refl c.in_ok-pair.ensures.moves.by
+
+pub add_pair-returns : goal.add_pair-returns
+add_pair-returns g t c = record {
+  part = _;
+  read = c.in_ok-pair.ensures;
+  added = search rules;
+}
+
+pub read_pair-returns-in_err-key : goal.read_pair-returns-in_err-key
+read_pair-returns-in_err-key g t c =
+    let p = err_from_is_err_and c.from_residual.result c.from_residual.ensures.1 in
+    rw (p.1, p.2) (key_err any_spelling any_spelling c.in_err-key.ensures)
+
+pub read_pair-returns-in-Ok : goal.read_pair-returns-in-Ok
+read_pair-returns-in-Ok g t c =
+    pair_ok any_spelling any_spelling c.in_ok-key.ensures c.in-Ok.ensures
+
+pub read_pair-returns-in-Err : goal.read_pair-returns-in-Err
+read_pair-returns-in-Err g t c =
+    value_err any_spelling any_spelling any_lawful c.in_ok-key.ensures c.in-Err.ensures

@@ -1,7 +1,6 @@
-use Rattle.std.proofs.Common.{◌+◌, ◌*◌, true}
-use Rattle.cbor4ii_items.specs.Sequences.{ReadsPair}
-use Rattle.cbor4ii.specs.Any.{ReadsAny}
-use Rattle.cbor4ii.specs.Laws.PartsRead.{Begun, Opened}
+use Rattle.std.proofs.Common.{◌+◌, ◌*◌}
+use Rattle.cbor4ii_items.specs.Laws.SequenceParts.{Begun, Opened}
+use Rattle.cbor4ii.specs.AnySpelling.{any_spelling, any_pair}
 use Rattle.cbor4ii.proofs.serde.de.any.+any.Given as goal
 
 abbrev pub decreases-read_any : goal.decreases-read_any
@@ -45,25 +44,22 @@ decreases-read_pair g l = 7 * (g.S.Source.view l.de.now.reader).bound + 4
 
 abbrev pub invariant-counted_values-loop-i : goal.invariant-counted_values-loop-i
 invariant-counted_values-loop-i g l =
-    Begun ReadsAny l.i (g.S.Source.view l.fn.de.reader) (g.S.Source.view l.de.reader) l.values.items
+    Begun any_spelling l.i (g.S.Source.view l.fn.de.reader) (g.S.Source.view l.de.reader) l.values
 
 abbrev pub invariant-counted_pairs-loop-i : goal.invariant-counted_pairs-loop-i
 invariant-counted_pairs-loop-i g l =
-    Begun (ReadsPair ReadsAny ReadsAny) l.i (g.S.Source.view l.fn.de.reader)
-    (g.S.Source.view l.de.reader) l.pairs.items
+    Begun any_pair l.i (g.S.Source.view l.fn.de.reader) (g.S.Source.view l.de.reader) l.pairs
 
 abbrev pub invariant-open_values-loop-values : goal.invariant-open_values-loop-values
 invariant-open_values-loop-values g l =
-    Opened ReadsAny true (g.S.Source.view l.fn.de.reader)
-    (g.S.Source.view l.de.reader) l.values.items
+    Opened any_spelling (g.S.Source.view l.fn.de.reader) (g.S.Source.view l.de.reader) l.values
 
 abbrev pub decreases-open_values-loop-values : goal.decreases-open_values-loop-values
 decreases-open_values-loop-values g l = (g.S.Source.view l.de.reader).bound
 
 abbrev pub invariant-open_pairs-loop-pairs : goal.invariant-open_pairs-loop-pairs
 invariant-open_pairs-loop-pairs g l =
-    Opened (ReadsPair ReadsAny ReadsAny) true (g.S.Source.view l.fn.de.reader)
-    (g.S.Source.view l.de.reader) l.pairs.items
+    Opened any_pair (g.S.Source.view l.fn.de.reader) (g.S.Source.view l.de.reader) l.pairs
 
 abbrev pub decreases-open_pairs-loop-pairs : goal.decreases-open_pairs-loop-pairs
 decreases-open_pairs-loop-pairs g l = (g.S.Source.view l.de.reader).bound

@@ -1,4 +1,5 @@
-use Rattle.std.proofs.Common.{refl}
+use Rattle.std.proofs.Common.{refl, inl}
+use Rattle.cbor4ii.proofs.Items.{spares}
 use Rattle.cbor4ii_items.specs.Laws.Steps.{moves_err}
 use Rattle.cbor4ii_items.specs.Laws.Running.{kept_alike}
 use Rattle.cbor4ii.proofs.Contents.{content_refuses, content_stops}
@@ -6,11 +7,12 @@ use Rattle.cbor4ii.proofs.serde.de.enum_accessor.begin_map_content.Goals as goal
 
 pub returns-in-Err-clause-complete : goal.returns-in-Err-clause-complete
 returns-in-Err-clause-complete g c =
-    content_refuses _ c.if-not-content.false c.in-Err.ensures.complete
+    content_refuses _ c.if-not-content.false (c.in-Err.ensures.refused.complete (inl refl))
 
 pub returns-in-Err-clause-stops : goal.returns-in-Err-clause-stops
 returns-in-Err-clause-stops g c =
-    content_stops _ _ c.if-not-content.false c.step_out-in-Err.ensures.others c.in-Err.ensures.stops
+    content_stops _ _ c.if-not-content.false c.step_out-in-Err.ensures.others
+    c.in-Err.ensures.refused.begins
 
 pub returns-then-not-content-clause-opened : goal.returns-then-not-content-clause-opened
 returns-then-not-content-clause-opened g c = tt
@@ -51,13 +53,13 @@ pub returns-in-Err-clause-wrong : goal.returns-in-Err-clause-wrong
 returns-in-Err-clause-wrong g c is = let has = c.if-not-content.false in cc
 
 pub returns-in-Err-clause-memory : goal.returns-in-Err-clause-memory
-returns-in-Err-clause-memory g c = c.in-Err.ensures.memory
+returns-in-Err-clause-memory g c = spares _ c.in-Err.ensures.refused.memory
 
 pub returns-in-Err-clause-finishes : goal.returns-in-Err-clause-finishes
 returns-in-Err-clause-finishes g c =
     record {
       within = _;
-      moves = moves_err c.in-Err.ensures.moves;
+      moves = moves_err c.in-Err.ensures.refused.moves;
       closes = record {
         budget =
             c.step_out-in-Err.ensures.budget;

@@ -1,6 +1,5 @@
-use Rattle.cbor4ii.proofs.Items.{spares}
 use Rattle.cbor4ii_items.specs.Laws.Steps.{moves_err}
-use Rattle.std.proofs.Common.{refl, inl, inr, arith}
+use Rattle.std.proofs.Common.{refl, inl, inr, arith, rules}
 use Rattle.cbor4ii.proofs.Looking.{kept_next, saw, option_refuses}
 use Rattle.cbor4ii.proofs.Presence.{null_coming, value_coming, no_step_refuses, no_step_stops}
 use Rattle.cbor4ii.proofs.Presence.{presence_ended, no_null}
@@ -32,25 +31,6 @@ returns-then-first-clause-opened g c =
       held = refl;
     }
 
-pub returns-then-not-step_in-clause-complete : goal.returns-then-not-step_in-clause-complete
-returns-then-not-step_in-clause-complete g c =
-    no_step_refuses _ (saw c.in-Ok.ensures.decodes.moves c.in-Ok.ensures.decodes.sound)
-    c.if-first.false
-    c.if-first-2.false c.if-not-step_in.ensures.budget
-
-pub returns-then-not-step_in-clause-stops : goal.returns-then-not-step_in-clause-stops
-returns-then-not-step_in-clause-stops g c =
-    no_step_stops refl (saw c.in-Ok.ensures.decodes.moves c.in-Ok.ensures.decodes.sound)
-    c.if-first.false
-    c.if-first-2.false c.if-not-step_in.ensures.budget c.step_in.ensures.others
-
-pub returns-in-Err-clause-complete : goal.returns-in-Err-clause-complete
-returns-in-Err-clause-complete g c = option_refuses _ (c.in-Err.ensures.decodes.complete (inl
-    refl))
-
-pub returns-in-Err-clause-stops : goal.returns-in-Err-clause-stops
-returns-in-Err-clause-stops g c = presence_ended c.in-Err.ensures.decodes.begins
-
 pub returns-else-not-step_in-clause-opened : goal.returns-else-not-step_in-clause-opened
 returns-else-not-step_in-clause-opened g c = record {
   within = g.S.Source.view c.peek.new.reader;
@@ -63,32 +43,8 @@ returns-else-not-step_in-clause-opened g c = record {
   held = (c.if-not-step_in.ensures.budget, c.step_in.ensures.others);
 }
 
-pub returns-then-first-clause-moves : goal.returns-then-first-clause-moves
-returns-then-first-clause-moves g c = tt
-
-pub returns-then-first-clause-memory : goal.returns-then-first-clause-memory
-returns-then-first-clause-memory g c = tt
-
-pub returns-then-first-clause-complete : goal.returns-then-first-clause-complete
-returns-then-first-clause-complete g c = tt
-
-pub returns-then-first-clause-stops : goal.returns-then-first-clause-stops
-returns-then-first-clause-stops g c = tt
-
 pub returns-then-first-clause-failed : goal.returns-then-first-clause-failed
 returns-then-first-clause-failed g c is = cc
-
-pub returns-else-not-step_in-clause-moves : goal.returns-else-not-step_in-clause-moves
-returns-else-not-step_in-clause-moves g c = tt
-
-pub returns-else-not-step_in-clause-memory : goal.returns-else-not-step_in-clause-memory
-returns-else-not-step_in-clause-memory g c = tt
-
-pub returns-else-not-step_in-clause-complete : goal.returns-else-not-step_in-clause-complete
-returns-else-not-step_in-clause-complete g c = tt
-
-pub returns-else-not-step_in-clause-stops : goal.returns-else-not-step_in-clause-stops
-returns-else-not-step_in-clause-stops g c = tt
 
 pub returns-else-not-step_in-clause-failed : goal.returns-else-not-step_in-clause-failed
 returns-else-not-step_in-clause-failed g c is = cc
@@ -96,20 +52,46 @@ returns-else-not-step_in-clause-failed g c is = cc
 pub returns-then-not-step_in-clause-opened : goal.returns-then-not-step_in-clause-opened
 returns-then-not-step_in-clause-opened g c = tt
 
-pub returns-then-not-step_in-clause-memory : goal.returns-then-not-step_in-clause-memory
-returns-then-not-step_in-clause-memory g c = refl
-
 pub returns-then-not-step_in-clause-failed : goal.returns-then-not-step_in-clause-failed
 returns-then-not-step_in-clause-failed g c is = cc
 
 pub returns-in-Err-clause-opened : goal.returns-in-Err-clause-opened
 returns-in-Err-clause-opened g c = tt
 
-pub returns-in-Err-clause-moves : goal.returns-in-Err-clause-moves
-returns-in-Err-clause-moves g c = moves_err c.in-Err.ensures.decodes.moves
-
-pub returns-in-Err-clause-memory : goal.returns-in-Err-clause-memory
-returns-in-Err-clause-memory g c = spares _ c.in-Err.ensures.decodes.memory
-
 pub returns-in-Err-clause-failed : goal.returns-in-Err-clause-failed
 returns-in-Err-clause-failed g c = c.in-Err.ensures.failed
+
+pub returns-then-first-clause-refused : goal.returns-then-first-clause-refused
+returns-then-first-clause-refused g c = tt
+
+pub returns-else-not-step_in-clause-refused : goal.returns-else-not-step_in-clause-refused
+returns-else-not-step_in-clause-refused g c = tt
+
+pub returns-then-not-step_in-clause-refused : goal.returns-then-not-step_in-clause-refused
+returns-then-not-step_in-clause-refused g c =
+    let seen = saw c.in-Ok.ensures.decodes.moves c.in-Ok.ensures.decodes.sound in
+    let stops = no_step_stops refl seen c.if-first.false c.if-first-2.false
+    c.if-not-step_in.ensures.budget c.step_in.ensures.others in
+    record {
+      moves = search rules;
+      progress = λ some. tt;
+      memory = λ out. cc;
+      sound = tt;
+      complete = λ sure. no_step_refuses _ seen c.if-first.false c.if-first-2.false
+          c.if-not-step_in.ensures.budget;
+      stops = λ sure. stops;
+      begins = stops;
+    }
+
+pub returns-in-Err-clause-refused : goal.returns-in-Err-clause-refused
+returns-in-Err-clause-refused g c =
+    let d = c.in-Err.ensures.decodes in
+    record {
+      moves = moves_err d.moves;
+      progress = λ some. tt;
+      memory = d.memory;
+      sound = tt;
+      complete = λ sure. option_refuses _ (d.complete (inl refl));
+      stops = λ sure. presence_ended d.begins;
+      begins = presence_ended d.begins;
+    }

@@ -1,0 +1,379 @@
+-- What reading any item as a value answers, by its parts.
+use Rattle.std.proofs.Common.{◌≡◌, ◌<◌, ◌≤◌, ◌^◌, inl, inr, ℕ, pos, suc, List, [], ◌∷◌, take, drop}
+use Rattle.std.proofs.Common.{true, Option, Result, Ok, Err, IsTrue, refl, sym, ap, subst, ◌∙◌}
+use Rattle.std.proofs.Common.{arith}
+use Rattle.std.specs.Prelude.{codes}
+use Rattle.std.proofs.lemmas.Int.{to_z-of_z}
+use denote.Ref.{Bor}
+use mir.Val.{to_z}
+use mir.Syntax.{w128}
+use Rattle.cbor4ii_rw.specs.View.{View}
+use Rattle.cbor4ii_rw.specs.declared.error.DecodeError.{DecodeError}
+use Rattle.cbor4ii_rw.specs.declared.error.DecodeError.TheVariants.{Custom, Unsupported}
+use Rattle.cbor4ii_items.specs.Decoding.{Reads, StopsAt, CostFits, Sound, NoneRead, Refuses, Stops}
+use Rattle.cbor4ii_items.specs.Decoding.{Spelling, IsLawful, Decodes, leaf_spelling}
+use Rattle.cbor4ii_items.specs.Moves.{Kept}
+use Rattle.cbor4ii_items.specs.Next.{next_spelling}
+use Rattle.cbor4ii_items.specs.Numbers.{ReadsU128, StopsU128}
+use Rattle.cbor4ii_items.specs.Refusal.{Refusal, refusal_of, unsupported}
+use Rattle.cbor4ii_items.specs.Sequences.{StopsPlace, no_byte, may_read_nothing, part_refused}
+use Rattle.cbor4ii_items.specs.Sequences.{StopsInside, length_refused, counted_refused}
+use Rattle.cbor4ii_items.specs.Sequences.{open_refused, StopsPair, ReadsPair}
+use Rattle.cbor4ii_items.specs.Laws.Bignums.{u128_one}
+use Rattle.cbor4ii_items.specs.Laws.Calls.{err, ok_behind, err_behind}
+use Rattle.cbor4ii_items.specs.Laws.Running.{kept_alike}
+use Rattle.cbor4ii_items.specs.Laws.Sequences.{pair_lawful}
+use Rattle.cbor4ii_tree.specs.declared.value.Value.{Value}
+use Rattle.cbor4ii.specs.declared.serde.de.any_leaf.AnyKind.{AnyKind}
+use Rattle.cbor4ii.specs.declared.serde.de.any_leaf.AnyKind.TheVariants.{Leaf, Array, Map, Other}
+use Rattle.cbor4ii.specs.declared.serde.de.any_leaf.AnyLeaf.{AnyLeaf}
+use Rattle.cbor4ii.specs.declared.serde.de.any_leaf.AnyLeaf.TheVariants.{Bignum}
+use Rattle.cbor4ii.specs.Any.{kind, Formed, ReadsSmallU128, of_bignum, of_array, of_map, KindAs}
+use Rattle.cbor4ii.specs.Any.{AnyInside, ReadsAny}
+use Rattle.cbor4ii.specs.AnySpelling.{any_spelling, any_inside, kind_spelling, formed_spelling}
+use Rattle.cbor4ii.specs.AnySpelling.{any_leaf, values_spelling, any_pair, pairs_spelling}
+use Rattle.cbor4ii.specs.AnyStops.{StopsBignum, KindStops, AnyStops, AnyStopsAt, StopsAny}
+use Rattle.cbor4ii.specs.Laws.Any.{any_laws, any_of_inside, inside_of_any}
+use Rattle.cbor4ii.specs.Laws.PartsRead.{always}
+use Rattle.cbor4ii.specs.Stepped.{StopsStepped, stepped_spelling}
+use Rattle.cbor4ii.specs.Typed.{lawful_as, no_number}
+use Rattle.cbor4ii.proofs.Looking.{Saw, none_begins}
+use Rattle.cbor4ii_tree.specs.declared.value.Value as values
+
+pub any_lawful : IsLawful any_spelling
+any_lawful = lawful_as any_laws
+
+pub pair_is_lawful : IsLawful any_pair
+pair_is_lawful = pair_lawful any_spelling any_spelling any_lawful any_lawful
+
+-- ---- what is read of one type, read as another
+
+-- the same bytes are read and refused of both
+pub record Means {U V : Type 0} (s : Spelling U) (t : Spelling V) (form : U → V) : Type 0 where
+  pub to : (xs : List ℕ) (u : U) (n c : ℕ) → s.reads xs u n c → t.reads xs (form u) n c
+  pub from : (xs : List ℕ) (v : V) (n c : ℕ) → t.reads xs v n c → (u : U) × s.reads xs u n c
+  pub stops : (xs : List ℕ) (budget : Option ℕ) (z : Refusal) (ys : List ℕ)
+      → s.stops xs budget z ys → t.stops xs budget z ys
+  pub begins : (xs : List ℕ) (budget : Option ℕ) (z : Refusal) (ys : List ℕ)
+      → s.begins xs budget z ys → t.begins xs budget z ys
+  pub some : IsTrue t.never_empty → IsTrue s.never_empty
+  pub owned : IsTrue t.owned → IsTrue s.owned
+  pub memory : IsTrue s.takes_memory → IsTrue t.takes_memory
+
+module _ {U V E : Type 0} (s : Spelling U) (t : Spelling V) (form : U → V) (m : Means s t form)
+    {a b : View} where
+  pub as_ok : {u : U} → Decodes {E = E} s a b (Ok u) → Decodes {E = E} t a b (Ok (form u))
+  as_ok {u = u} d =
+      ok_behind s t (kept_alike a) (λ xs told. (
+        xs,
+        told,
+        λ n c r fits. record {
+          count = n;
+          cost = c;
+          read = m.to xs u n c r;
+          fits = fits;
+          left = refl;
+        },
+      )) (λ some. d.progress (m.some some)) d
+
+  pub as_err : {e : DecodeError E} → Decodes s a b (Err e) → Decodes t a b (Err e)
+  as_err d =
+      err_behind s t (kept_alike a) (λ xs told. (
+        xs,
+        told,
+        record {
+          none = λ none v n c r fits. (let u = m.from xs v n c r in none u.0 n c u.1 fits);
+          stops = m.stops xs a.budget;
+          begins = m.begins xs a.budget;
+        },
+      )) m.owned m.memory d
+
+pub formed : {W : Type 0} (form : W → Value) (s : Spelling W)
+    → Means s (formed_spelling form s) form
+formed form s = record {
+  to = λ xs w n c r. (w, r, refl);
+  from = λ xs v n c r. (r.0, r.1);
+  stops = λ xs budget z ys h. h;
+  begins = λ xs budget z ys h. h;
+  some = λ some. some;
+  owned = λ owned. owned;
+  memory = λ takes. takes;
+}
+
+pub an_array : Means values_spelling (kind_spelling Array) of_array
+an_array = record {
+  to = λ xs w n c r. (w, r, refl);
+  from = λ xs v n c r. (r.0, r.1);
+  stops = λ xs budget z ys h. h;
+  begins = λ xs budget z ys h. h;
+  some = λ some. some;
+  owned = λ owned. owned;
+  memory = λ takes. takes;
+}
+
+pub a_map : Means pairs_spelling (kind_spelling Map) of_map
+a_map = record {
+  to = λ xs w n c r. (w, r, refl);
+  from = λ xs v n c r. (r.0, r.1);
+  stops = λ xs budget z ys h. h;
+  begins = λ xs budget z ys h. h;
+  some = λ some. some;
+  owned = λ owned. owned;
+  memory = λ takes. takes;
+}
+
+-- ---- however deep the refused item stands
+
+module _ {P : Type 0} (name : List ℕ) (major : ℕ) (reads : Reads P) (stops : StopsAt)
+    (to : ℕ → StopsAt) (bound : (xs : List ℕ) (budget : Option ℕ) (z : Refusal) (ys : List ℕ)
+    → stops xs budget z ys → (k : ℕ) × to k xs budget z ys) where
+  place_in : (xs : List ℕ) (budget : Option ℕ) (z : Refusal) (ys : List ℕ)
+      → StopsPlace name stops true xs budget z ys
+      → (k : ℕ) × StopsPlace name (to k) true xs budget z ys
+  place_in xs budget z ys (no_byte e is left) = (0, no_byte e is left)
+  place_in xs budget z ys (may_read_nothing e f none is left) =
+      (0, may_read_nothing e f none is left)
+  place_in xs budget z ys (part_refused e f some s) =
+      let r = bound xs budget z ys s in (r.0, part_refused e f some r.1)
+
+  inside_in : (xs : List ℕ) (budget : Option ℕ) (z : Refusal) (ys : List ℕ)
+      → StopsInside name major reads stops true xs budget z ys
+      → (k : ℕ) × StopsInside name major reads (to k) true xs budget z ys
+  inside_in xs budget z ys (length_refused e h) = (0, length_refused e h)
+  inside_in xs budget z ys (counted_refused count before h s) =
+      let r = bound (drop s.between (drop before xs)) budget z ys s.stop in (
+        r.0,
+        counted_refused count before h (record {
+          whole = s.whole;
+          fewer = s.fewer;
+          between = s.between;
+          cost = s.cost;
+          parts = s.parts;
+          fits = s.fits;
+          stop = r.1;
+        }),
+      )
+  inside_in xs budget z ys (open_refused e s) =
+      let r = place_in (drop s.between (drop 1 xs)) budget z ys s.stop in (
+        r.0,
+        open_refused e (record {
+          whole = s.whole;
+          allowed = s.allowed;
+          between = s.between;
+          cost = s.cost;
+          parts = s.parts;
+          fits = s.fits;
+          stop = r.1;
+        }),
+      )
+
+pair_in : (xs : List ℕ) (budget : Option ℕ) (z : Refusal) (ys : List ℕ)
+    → StopsPair ReadsAny StopsAny StopsAny xs budget z ys
+    → (k : ℕ) × StopsPair ReadsAny (AnyStopsAt k) (AnyStopsAt k) xs budget z ys
+pair_in xs budget z ys (inl s) = (s.0, inl s.1)
+pair_in xs budget z ys (inr s) = (
+  s.stop.0,
+  inr (record {
+    whole = s.whole;
+    size = s.size;
+    cost = s.cost;
+    key = s.key;
+    fits = s.fits;
+    stop = s.stop.1;
+  }),
+)
+
+kind_in : (k : AnyKind) (xs : List ℕ) (budget : Option ℕ) (z : Refusal) (ys : List ℕ)
+    → KindStops StopsAny k xs budget z ys → (j : ℕ) × KindStops (AnyStopsAt j) k xs budget z ys
+kind_in (Leaf leaf) xs budget z ys h = (0, h)
+kind_in Array xs budget z ys (inl h) = (0, inl h)
+kind_in Array xs budget z ys (inr h) =
+    let r =
+    inside_in (codes "array") 4 ReadsAny StopsAny AnyStopsAt (λ ys b y zs s. s) xs _ z ys h.1 in
+    (r.0, inr (h.0, r.1))
+kind_in Map xs budget z ys (inl h) = (0, inl h)
+kind_in Map xs budget z ys (inr h) =
+    let r = inside_in (codes "map") 5 (ReadsPair ReadsAny ReadsAny)
+    (StopsPair ReadsAny StopsAny StopsAny)
+    (λ k. StopsPair ReadsAny (AnyStopsAt k) (AnyStopsAt k)) pair_in xs _ z ys h.1 in
+    (r.0, inr (h.0, r.1))
+kind_in Other xs budget z ys h = (0, h)
+
+behind_in : (xs : List ℕ) (budget : Option ℕ) (z : Refusal) (ys : List ℕ)
+    → AnyStops StopsAny xs budget z ys → (k : ℕ) × AnyStops (AnyStopsAt k) xs budget z ys
+behind_in xs budget z ys (inl h) = (0, inl h)
+behind_in xs budget z ys (inr h) =
+    let r = kind_in (kind h.0) xs budget z ys h.2 in (r.0, inr (h.0, h.1, r.1))
+
+any_in : (xs : List ℕ) (budget : Option ℕ) (z : Refusal) (ys : List ℕ)
+    → StopsStepped (codes "any") (AnyStops StopsAny) xs budget z ys → StopsAny xs budget z ys
+any_in xs budget z ys (inl h) = (1, inl h)
+any_in xs budget z ys (inr h) = let r = behind_in xs _ z ys h.1 in (suc r.0, inr (h.0, r.1))
+
+any_means : Means (stepped_spelling (codes "any") any_inside) any_spelling (λ v. v)
+any_means = record {
+  to = any_of_inside;
+  from = λ xs v n c r. (v, inside_of_any xs v n c r);
+  stops = any_in;
+  begins = any_in;
+  some = λ some. some;
+  owned = λ owned. owned;
+  memory = λ takes. takes;
+}
+
+pub any_of : {E : Type 0} (r : Result Value (DecodeError E)) {a b : View}
+    → Decodes (stepped_spelling (codes "any") any_inside) a b r → Decodes any_spelling a b r
+any_of (Ok v) d = as_ok (stepped_spelling (codes "any") any_inside) any_spelling (λ w. w) any_means
+    d
+any_of (Err e) d = as_err (stepped_spelling (codes "any") any_inside) any_spelling (λ w. w)
+    any_means d
+
+-- ---- by the first byte
+
+none_of_kind : (xs : List ℕ) (first : ℕ) (k : AnyKind) (old mid : Option ℕ) → take 1 xs ≡ first ∷ []
+    → k ≡ kind first → mid ≡ old → NoneRead (KindAs ReadsAny k) xs mid
+    → NoneRead (AnyInside ReadsAny) xs old
+none_of_kind xs first k old mid e is same none v n c p fits =
+    let b : p.0 ≡ first = cc (p.1, e) in
+    none v n c (subst (λ k. KindAs ReadsAny k xs v n c) (ap kind b ∙ sym is) p.2)
+    (subst (CostFits c) (sym same) fits)
+
+pub of_kind : {E : Type 0} (k : AnyKind) {a m b : View} {first : ℕ} → Kept a m → Saw a m first
+    → k ≡ kind first → (r : Result Value (DecodeError E)) → Decodes (kind_spelling k) m b r
+    → Decodes any_inside a b r
+of_kind k {a = a} {first = first} kept s is (Ok v) d =
+    ok_behind (kind_spelling k) any_inside kept (λ xs told. (let f = s.first xs told in (
+      xs,
+      f.0,
+      λ n c r fits. record {
+        count = n;
+        cost = c;
+        read = (first, f.1, subst (λ j. KindAs ReadsAny j xs v n c) is r);
+        fits = fits;
+        left = refl;
+      },
+    ))) (λ some. omega (arith, d.progress refl, kept.bound)) d
+of_kind k {a = a} {first = first} kept s is (Err e) d =
+    err_behind (kind_spelling k) any_inside kept (λ xs told. (
+    let f = s.first xs told in
+    let stop : (z : Refusal) (ys : List ℕ) → KindStops StopsAny k xs a.budget z ys
+    → AnyStops StopsAny xs a.budget z ys =
+    λ z ys h. inr (first, f.1, subst (λ j. KindStops StopsAny j xs a.budget z ys) is h) in (
+      xs,
+      f.0,
+      record {
+        none = none_of_kind xs first k a.budget a.budget f.1 is refl;
+        stops = stop;
+        begins
+            = stop;
+      },
+    ))) (λ owned. owned) (λ takes. takes) d
+
+-- a byte that begins no value stays
+pub of_other : {E : Type 0} (name : Bor (List ℕ)) {a m : View} {first : ℕ} → Kept a m
+    → name.now ≡ codes "any" → Saw a m first → Other ≡ kind first
+    → Decodes {E = E} any_inside a m (Err (Unsupported name first))
+of_other name {a = a} {first = first} kept any s is =
+    err any_inside (record { by = kept; depth = λ none. refl }) (λ out. cc) (λ xs told. (
+    let f = s.first xs told in
+    let stop : AnyStops StopsAny xs a.budget (unsupported name.now first) xs =
+    inr (
+      first,
+      f.1,
+      subst
+          (λ j. KindStops StopsAny j xs a.budget (unsupported name.now first) xs) is
+          (first, f.1, ap (λ l. unsupported l first) any, refl),
+    ) in (
+      xs,
+      f.0,
+      record {
+        none = none_of_kind xs first Other a.budget a.budget f.1 is refl (λ v n c p fits. p);
+        stops = stop;
+        begins = stop;
+      },
+    )))
+
+-- no byte is left
+pub of_end : {E : Type 0} {a m : View} {e : DecodeError E}
+    → Decodes (next_spelling (codes "any")) a m (Err e) → Decodes any_inside a m (Err e)
+of_end {a = a} d =
+    err_behind (next_spelling (codes "any")) any_inside (kept_alike a) (λ xs told. (
+      xs,
+      told,
+      record {
+        none = λ none v n c p fits. none_begins xs p.0 a.budget none p.1;
+        stops = λ z ys h. inl h;
+        begins = λ z ys h. inl h;
+      },
+    )) (λ owned. owned) (λ takes. refl) d
+
+-- ---- a bignum
+
+pub bignum_sound : {a b : View} {k : ℕ} → k < 2 ^ 127 → Sound ReadsU128 a b k
+    → Sound (Formed ReadsSmallU128 of_bignum) a b (values.Integer (to_z w128 k))
+bignum_sound {k = k} less s = record {
+  at = λ xs told.
+      let p = s.at xs told in
+      record {
+        count = p.count;
+        cost = p.cost;
+        read = (
+          k,
+          (p.read, less),
+          ap (λ z. values.Integer z)
+              (to_z-of_z w128 (pos k) (record { sfits = less })),
+        );
+        fits = p.fits;
+        left = p.left;
+      };
+}
+
+-- the number that stands there is the only one
+pub too_great : {E : Type 0} {a b : View} {k : ℕ} {e : DecodeError E} → 2 ^ 127 ≤ k
+    → Sound ReadsU128 a b k → Refuses (Formed ReadsSmallU128 of_bignum) a e
+too_great {k = k} {e = e} great s = record {
+  at = λ xs told.
+      let p = s.at xs told in
+      always (refusal_of e) (λ v n c q fits. (
+      let same = (u128_one xs q.0 k n p.count c p.cost q.1.0 p.read).2 in
+      omega (arith, same, great, q.1.1)));
+}
+
+pub too_great_stops : {E : Type 0} {a b : View} {k : ℕ} (text : Bor (List ℕ))
+    → text.now ≡ codes "integer out of range" → 2 ^ 127 ≤ k → Sound ReadsU128 a b k
+    → Stops {E = E} StopsBignum a b (Custom text no_number)
+too_great_stops {k = k} text is great s = record {
+  at = λ xs told.
+      let p = s.at xs told in (
+        drop p.count xs,
+        p.left,
+        inr (record {
+          number = k;
+          size = p.count;
+          read = (p.read.0, refl);
+          great = great;
+          refused = cc (is);
+          left = refl;
+        }),
+      );
+}
+
+pub bignum_err : {E : Type 0} {a b : View} {e : DecodeError E}
+    → Decodes (leaf_spelling ReadsU128 (λ xs budget. StopsU128 xs)) a b (Err e)
+    → Decodes (any_leaf Bignum) a b (Err e)
+bignum_err {a = a} d =
+    err_behind (leaf_spelling ReadsU128 (λ xs budget. StopsU128 xs)) (any_leaf Bignum)
+    (kept_alike a) (λ xs told. (
+      xs,
+      told,
+      record {
+        none = λ none v n c r fits. none r.0 n c r.1.0 fits;
+        stops = λ z ys h. inl h;
+        begins = λ z ys h. inl h;
+      },
+    )) (λ owned. refl) (λ takes. refl) d
+
+-- an item that holds no other, by what it is
+pub leaf_is : {E : Type 0} {l k : AnyLeaf} {a b : View} {r : Result Value (DecodeError E)} → l ≡ k
+    → Decodes (any_leaf k) a b r → Decodes (any_leaf l) a b r
+leaf_is {a = a} {b = b} {r = r} is d = subst (λ j. Decodes (any_leaf j) a b r) (sym is) d
