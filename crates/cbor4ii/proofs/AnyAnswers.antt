@@ -20,7 +20,7 @@ use Rattle.cbor4ii_items.specs.Sequences.{StopsPlace, no_byte, may_read_nothing,
 use Rattle.cbor4ii_items.specs.Sequences.{StopsInside, length_refused, counted_refused}
 use Rattle.cbor4ii_items.specs.Sequences.{open_refused, StopsPair, ReadsPair}
 use Rattle.cbor4ii_items.specs.Laws.Bignums.{u128_one}
-use Rattle.cbor4ii_items.specs.Laws.Calls.{err, ok_behind, err_behind}
+use Rattle.cbor4ii_items.specs.Laws.Calls.{err, ok_behind, err_behind, of_exact, exactly}
 use Rattle.cbor4ii_items.specs.Laws.Running.{kept_alike}
 use Rattle.cbor4ii_items.specs.Laws.Sequences.{pair_lawful}
 use Rattle.cbor4ii_tree.specs.declared.value.Value.{Value}
@@ -34,7 +34,7 @@ use Rattle.cbor4ii.specs.AnySpelling.{any_spelling, any_inside, kind_spelling, f
 use Rattle.cbor4ii.specs.AnySpelling.{any_leaf, values_spelling, any_pair, pairs_spelling}
 use Rattle.cbor4ii.specs.AnyStops.{StopsBignum, KindStops, AnyStops, AnyStopsAt, StopsAny}
 use Rattle.cbor4ii.specs.Laws.Any.{any_laws, any_of_inside, inside_of_any}
-use Rattle.cbor4ii.specs.Laws.PartsRead.{always}
+use Rattle.cbor4ii_items.specs.Laws.Answering.{always}
 use Rattle.cbor4ii.specs.Stepped.{StopsStepped, stepped_spelling}
 use Rattle.cbor4ii.specs.Typed.{lawful_as, no_number}
 use Rattle.cbor4ii.proofs.Looking.{Saw, none_begins}
@@ -78,15 +78,15 @@ module _ {U V E : Type 0} (s : Spelling U) (t : Spelling V) (form : U → V) (m 
 
   pub as_err : {e : DecodeError E} → Decodes s a b (Err e) → Decodes t a b (Err e)
   as_err d =
-      err_behind s t (kept_alike a) (λ xs told. (
+      exactly (err_behind s t (kept_alike a) (λ xs told. (
         xs,
         told,
         record {
-          none = λ none v n c r fits. (let u = m.from xs v n c r in none u.0 n c u.1 fits);
+          none = λ is none v n c r fits. (let u = m.from xs v n c r in none u.0 n c u.1 fits);
           stops = m.stops xs a.budget;
           begins = m.begins xs a.budget;
         },
-      )) m.owned m.memory d
+      )) m.owned m.memory (of_exact d))
 
 pub formed : {W : Type 0} (form : W → Value) (s : Spelling W)
     → Means s (formed_spelling form s) form
@@ -254,7 +254,7 @@ of_kind k {a = a} {first = first} kept s is (Ok v) d =
       },
     ))) (λ some. omega (arith, d.progress refl, kept.bound)) d
 of_kind k {a = a} {first = first} kept s is (Err e) d =
-    err_behind (kind_spelling k) any_inside kept (λ xs told. (
+    exactly (err_behind (kind_spelling k) any_inside kept (λ xs told. (
     let f = s.first xs told in
     let stop : (z : Refusal) (ys : List ℕ) → KindStops StopsAny k xs a.budget z ys
     → AnyStops StopsAny xs a.budget z ys =
@@ -262,12 +262,12 @@ of_kind k {a = a} {first = first} kept s is (Err e) d =
       xs,
       f.0,
       record {
-        none = none_of_kind xs first k a.budget a.budget f.1 is refl;
+        none = λ sure. none_of_kind xs first k a.budget a.budget f.1 is refl;
         stops = stop;
         begins
             = stop;
       },
-    ))) (λ owned. owned) (λ takes. takes) d
+    ))) (λ owned. owned) (λ takes. takes) (of_exact d))
 
 -- a byte that begins no value stays
 pub of_other : {E : Type 0} (name : Bor (List ℕ)) {a m : View} {first : ℕ} → Kept a m
@@ -287,7 +287,8 @@ of_other name {a = a} {first = first} kept any s is =
       xs,
       f.0,
       record {
-        none = none_of_kind xs first Other a.budget a.budget f.1 is refl (λ v n c p fits. p);
+        none = λ sure. none_of_kind xs first Other a.budget a.budget f.1 is refl
+            (λ v n c p fits. p);
         stops = stop;
         begins = stop;
       },
@@ -297,15 +298,15 @@ of_other name {a = a} {first = first} kept any s is =
 pub of_end : {E : Type 0} {a m : View} {e : DecodeError E}
     → Decodes (next_spelling (codes "any")) a m (Err e) → Decodes any_inside a m (Err e)
 of_end {a = a} d =
-    err_behind (next_spelling (codes "any")) any_inside (kept_alike a) (λ xs told. (
+    exactly (err_behind (next_spelling (codes "any")) any_inside (kept_alike a) (λ xs told. (
       xs,
       told,
       record {
-        none = λ none v n c p fits. none_begins xs p.0 a.budget none p.1;
+        none = λ is none v n c p fits. none_begins xs p.0 a.budget none p.1;
         stops = λ z ys h. inl h;
         begins = λ z ys h. inl h;
       },
-    )) (λ owned. owned) (λ takes. refl) d
+    )) (λ owned. owned) (λ takes. refl) (of_exact d))
 
 -- ---- a bignum
 
@@ -362,16 +363,16 @@ pub bignum_err : {E : Type 0} {a b : View} {e : DecodeError E}
     → Decodes (leaf_spelling ReadsU128 (λ xs budget. StopsU128 xs)) a b (Err e)
     → Decodes (any_leaf Bignum) a b (Err e)
 bignum_err {a = a} d =
-    err_behind (leaf_spelling ReadsU128 (λ xs budget. StopsU128 xs)) (any_leaf Bignum)
+    exactly (err_behind (leaf_spelling ReadsU128 (λ xs budget. StopsU128 xs)) (any_leaf Bignum)
     (kept_alike a) (λ xs told. (
       xs,
       told,
       record {
-        none = λ none v n c r fits. none r.0 n c r.1.0 fits;
+        none = λ is none v n c r fits. none r.0 n c r.1.0 fits;
         stops = λ z ys h. inl h;
         begins = λ z ys h. inl h;
       },
-    )) (λ owned. refl) (λ takes. refl) d
+    )) (λ owned. refl) (λ takes. refl) (of_exact d))
 
 -- an item that holds no other, by what it is
 pub leaf_is : {E : Type 0} {l k : AnyLeaf} {a b : View} {r : Result Value (DecodeError E)} → l ≡ k

@@ -1,7 +1,7 @@
 -- What stands for a typed value is read back.
 use Rattle.std.proofs.Common.{◌≡◌, ◌⊎◌, inl, inr, ℕ, ◌+◌, ◌<◌, ◌≤◌, ◌^◌, List, [], ◌∷◌, ◌++◌}
-use Rattle.std.proofs.Common.{length, max, Bool, true, Some, None, refl, sym, ap, ◌∙◌, subst}
-use Rattle.std.proofs.Common.{arith, append_assoc, append-nil, length-append, All}
+use Rattle.std.proofs.Common.{length, max, Bool, Some, None, refl, sym, ap, ◌∙◌, subst, arith}
+use Rattle.std.proofs.Common.{append_assoc, append-nil, length-append, All}
 use Rattle.std.proofs.lemmas.List.Elements.{All-head, All-tail}
 use Rattle.std.specs.declared.cmp.Ordering.{Ordering}
 use Rattle.std.specs.declared.cmp.Ordering.TheVariants.{Less, Greater}
@@ -18,7 +18,7 @@ use Rattle.cbor4ii_items.specs.ReadBack.{ReadsBack, greatest_cost, pair_cost}
 use Rattle.cbor4ii_items.specs.Sequences.{ReadsParts, ReadsCountedParts, ReadsSequence, ReadsPair}
 use Rattle.cbor4ii_items.specs.Laws.PartsBack.{pair_back, behind, headed}
 use Rattle.cbor4ii_ser.specs.Item.{Encoding, encoded, refused, followed, each_item, entry_item}
-use Rattle.cbor4ii.specs.Built.{built, put_all, ReadsBTreeMap}
+use Rattle.cbor4ii.specs.Built.{built, put_all, ReadsBuilt}
 use Rattle.cbor4ii.specs.ReadBack.{IsReadBack, BeginsOther, IsNullItem}
 use Rattle.cbor4ii.specs.Stepped.{Stepped}
 use Rattle.cbor4ii.specs.Tuples.{ReadsBehind, ReadsTriple}
@@ -231,9 +231,8 @@ module _ {K V : Type 0} (cmp : K → K → Ordering) (total : IsTotalOrder cmp) 
   built_again es h = put_again [] es h
 
 pub map_read_back : {K V M : Type 0} (entries : M → List (K × V)) (cmp : K → K → Ordering)
-    (key : Reads K) (value : Reads V) (o : Encoding) (m : M) (cost : ℕ)
-    → built cmp (entries m) ≡ entries m
-    → IsReadBack (ReadsSequence 5 (ReadsPair key value) true) o (entries m) cost
-    → IsReadBack (ReadsBTreeMap entries cmp key value) o m cost
-map_read_back entries cmp key value (refused bytes words) m cost e h = tt
-map_read_back entries cmp key value (encoded bytes) m cost e h = λ rest. (entries m, h rest, sym e)
+    (reads : Reads (List (K × V))) (o : Encoding) (m : M) (cost : ℕ)
+    → built cmp (entries m) ≡ entries m → IsReadBack reads o (entries m) cost
+    → IsReadBack (ReadsBuilt entries cmp reads) o m cost
+map_read_back entries cmp reads (refused bytes words) m cost e h = tt
+map_read_back entries cmp reads (encoded bytes) m cost e h = λ rest. (entries m, h rest, sym e)

@@ -1,9 +1,8 @@
 -- How a value of several parts is refused.
-use Rattle.std.proofs.Common.{◌≡◌, ◌≢◌, ℕ, List, [], ◌∷◌, drop, take, Option, Some, None, Result}
-use Rattle.std.proofs.Common.{Ok, Err, Bool, true, false, refl, subst, IfSome, IfErr}
+use Rattle.std.proofs.Common.{◌≡◌, ◌≢◌, ℕ, List, [], ◌∷◌, drop, take, Option, Some, None, Err, Bool}
+use Rattle.std.proofs.Common.{true, false, refl, subst, IfSome}
 use Rattle.std.specs.Prelude.{IsTrue, codes}
 use Rattle.cbor4ii_rw.specs.View.{View}
-use Rattle.cbor4ii_rw.specs.Reader.{StepsIn, KeepsAllButBudget}
 use Rattle.cbor4ii_rw.specs.declared.error.DecodeError.{DecodeError}
 use Rattle.cbor4ii_items.specs.Containers.{StopsOption}
 use Rattle.cbor4ii_items.specs.Decoding.{StopsAt, Stops}
@@ -13,11 +12,8 @@ use Rattle.cbor4ii_items.specs.Refusal.{Refusal, refusal_of, is_read}
 use Rattle.cbor4ii_items.specs.Laws.Containers.{not_null}
 use Rattle.cbor4ii_items.specs.Laws.Calls.{stops_as}
 use Rattle.cbor4ii_items.specs.Laws.Answering.{not_read, kept_of}
-use Rattle.cbor4ii.specs.declared.serde.de.error.DecodeError.{DecodeError as Typed}
-use Rattle.cbor4ii.specs.Stepped.{StopsStepped}
-use Rattle.cbor4ii.specs.Typed.{as_core, not_exact, unsaid_stops, said}
+use Rattle.cbor4ii.specs.Typed.{not_exact, unsaid_stops, said}
 use Rattle.cbor4ii.proofs.Looking.{Saw}
-use Rattle.cbor4ii.proofs.Steps.{stops_stepped}
 use Rattle.cbor4ii.proofs.Stopped.{stopped_as}
 
 -- a refusal of which no more is asked than that an end of the bytes is left
@@ -44,17 +40,6 @@ pub said_left : {V E : Type 0} (exact : Bool) (stops : StopsAt) {e : DecodeError
 said_left true stops m s = stopped_as stops (said true stops) (λ xs budget z ys h is. h) (s refl)
 said_left false stops m s =
     stopped_as unsaid_stops (said false stops) (λ xs budget z ys h is. not_exact is) (unsaid_left m)
-
--- ---- a step
-
--- what is refused under the step that was taken
-pub step_stops : {V E : Type 0} (name : List ℕ) (stops : StopsAt) (r : Result V (Typed E))
-    {a b c d : View} → StepsIn a.budget b.budget true → KeepsAllButBudget a b
-    → KeepsAllButBudget c d → IfErr r (λ e. Stops stops b c (as_core e))
-    → IfErr r (λ e. Stops (StopsStepped name stops) a d (as_core e))
-step_stops name stops (Ok v) takes inward outward s = tt
-step_stops name stops (Err e) takes inward outward s =
-    stops_stepped name stops takes inward outward s
 
 -- ---- a value that may be absent
 

@@ -25,7 +25,7 @@ use Rattle.cbor4ii_items.specs.Lent.{ReadsLent, IsOfInput, lent_str, lent_bytes}
 use Rattle.cbor4ii_items.specs.Laws.Strings.{head_not_open, two_small, three_small}
 use Rattle.cbor4ii_items.specs.Laws.Answering.{refuses_as}
 use Rattle.cbor4ii_items.specs.Laws.Steps.{moves_ok, moves_err}
-use Rattle.cbor4ii.specs.Laws.PartsRead.{always}
+use Rattle.cbor4ii_items.specs.Laws.Answering.{always}
 use Rattle.cbor4ii.specs.declared.serde.de.error.DecodeError.{DecodeError}
 use Rattle.cbor4ii.specs.Borrowed.{Borrows, LacksLoan, StopsUnlent, unlent_text, unlent_bytes}
 use Rattle.cbor4ii.specs.Typed.{Deserializes, as_core, answer_of, not_exact}

@@ -1,270 +1,267 @@
 -- What becomes of a struct's values, entry by entry.
-use Rattle.std.proofs.Common.{◌-◌, ◌≤◌, length, take, drop, get_or, ◌≡◌, ◌≢◌, inl, inr, ℕ, ◌+◌}
-use Rattle.std.proofs.Common.{◌<◌, List, [], ◌∷◌, ◌++◌, Option, Some, Result, Ok, Err, Bool, true}
-use Rattle.std.proofs.Common.{IfOk, IfErr, OnOk, IsTrue, refl, sym, ap, ◌∙◌, subst, arith}
+use Rattle.std.proofs.Common.{true}
+use Rattle.std.proofs.Common.{◌-◌, ◌≤◌, length, take, drop, get_or, ◌≡◌, ◌≢◌, inl, inr, ℕ, ◌+◌, ◌<◌}
+use Rattle.std.proofs.Common.{List, [], ◌∷◌, ◌++◌, Option, Some, Result, Ok, Err, Bool, max, refl}
+use Rattle.std.proofs.Common.{sym, ap, ◌∙◌, subst, arith}
 use denote.Ref.{Bor}
 use Rattle.std.proofs.Math.Seq.{take-length}
+use Rattle.std.specs.Prelude.{◌&&◌}
 use Rattle.std.specs.declared.alloc.Global.{Global}
 use Rattle.std.specs.declared.string.String.{String}
 use Rattle.cbor4ii_rw.specs.View.{View}
 use Rattle.cbor4ii_rw.specs.declared.error.DecodeError.{DecodeError}
-use Rattle.cbor4ii_items.specs.Decoding.{Reads, IsExact, Sound, Refuses, Stops}
-use Rattle.cbor4ii_items.specs.Moves.{Kept, Moves}
-use Rattle.cbor4ii_items.specs.Refusal.{refusal_of}
-use Rattle.cbor4ii_items.specs.Sequences.{ReadsPair, ReadsCount, ReadsUpToBreak, ReadsInside}
-use Rattle.cbor4ii_items.specs.Sequences.{ReadsSequence}
-use Rattle.cbor4ii.specs.ItemRead.{AddsPart}
-use Rattle.cbor4ii_items.specs.Strings.{text_content}
+use Rattle.cbor4ii_rw.specs.Reader.{StepsIn, KeepsAllButBudget, step_back}
+use Rattle.cbor4ii_items.specs.Decoding.{NoneRead, Spelling, Decodes, DecodesIf}
 use Rattle.cbor4ii_items.specs.Reading.{Runs}
 use Rattle.cbor4ii_items.specs.ReadStrings.{break_at}
-use Rattle.cbor4ii_items.specs.Laws.Answering.{if_some, refuses_as}
-use Rattle.cbor4ii.specs.Laws.PairsRead.{pair_sound, key_less, value_refuses}
-use Rattle.cbor4ii_items.specs.Laws.SequenceParts.{Stands}
-use Rattle.cbor4ii.specs.Laws.PartsRead.{Begun, count_more, count_done, Opened}
-use Rattle.cbor4ii.specs.Laws.PartsRead.{open_more, open_done}
-use Rattle.cbor4ii.specs.Laws.SequencesRead.{if_err, if_err_told, Counts, Opens}
-use Rattle.cbor4ii.specs.Laws.SequencesRead.{counted_read, opened_read, counted_not_read}
-use Rattle.cbor4ii.specs.Laws.SequencesRead.{opened_not_read}
-use Rattle.cbor4ii_rw.specs.Reader.{StepsIn, KeepsAllButBudget}
-use Rattle.cbor4ii.specs.declared.serde.de.error.DecodeError.{DecodeError as Typed}
-use Rattle.cbor4ii.specs.Fields.{ReadsNamed, no_field, named_field, fields_by, ReadsName, SameName}
-use Rattle.cbor4ii.specs.Fields.{ReadsEntry, Changes, Fills, changed, name_laws, StopsFields}
-use Rattle.cbor4ii.specs.Structs.{Fields, struct_of}
-use Rattle.cbor4ii.specs.ItemRead.{ReadsSkipped}
-use Rattle.cbor4ii.specs.Sequence.{five_small}
-use Rattle.cbor4ii.specs.Stepped.{Stepped}
-use Rattle.cbor4ii.specs.Typed.{Deserializes, as_core}
-use Rattle.cbor4ii.proofs.Promised.{ok}
-use Rattle.cbor4ii.proofs.Steps.{sound_stepped}
-use Rattle.cbor4ii_items.specs.Laws.Steps.{moves_err}
-
-pub on_ok : {U E P Q : Type 0} (r : Result U E) → (P → Q) → OnOk r P → OnOk r Q
-on_ok (Ok u) f p = f p
-on_ok (Err e) f p = tt
+use Rattle.cbor4ii_items.specs.Strings.{text_content}
+use Rattle.cbor4ii_items.specs.Sequences.{count_of, open_of, in_list}
+use Rattle.cbor4ii_items.specs.Laws.Calls.{ok as decoded_ok, ok_behind, err_behind, behind, Leads}
+use Rattle.cbor4ii_items.specs.Laws.Calls.{of_exact, exact_less, accepted}
+use Rattle.cbor4ii_items.specs.Laws.Containers.{both}
+use Rattle.cbor4ii_items.specs.Laws.Fronts.{drop_more}
+use Rattle.cbor4ii_items.specs.Laws.Pairs.{less_max_left, less_max_right}
+use Rattle.cbor4ii_items.specs.Laws.Running.{kept_alike}
+use Rattle.cbor4ii_items.specs.Laws.SequenceParts.{fits_less, fits_max, Begun, count_more}
+use Rattle.cbor4ii_items.specs.Laws.SequenceParts.{count_done, Stands, Opened, open_more, open_done}
+use Rattle.cbor4ii.specs.Fields.{no_field, no_field_stops, changed, name_laws, name_spelling, made}
+use Rattle.cbor4ii.specs.Fields.{all_made, Altered, Alters}
+use Rattle.cbor4ii.specs.ItemRead.{skipped_spelling}
+use Rattle.cbor4ii.specs.Stepped.{stepped_spelling}
+use Rattle.cbor4ii.specs.Structs.{Fields, field, fields_by, unnamed, behind_name, entry_of}
+use Rattle.cbor4ii.specs.Structs.{entries_of, struct_of}
+use Rattle.cbor4ii.specs.Typed.{Promise, Deserializes}
+use Rattle.cbor4ii.specs.TypedParts.{part_of}
+use Rattle.cbor4ii.proofs.Promised.{ok, promised, tell}
+use Rattle.cbor4ii.proofs.Steps.{under_if}
 
 -- ---- behind a name
 
-skipped : {V : Type 0} {a b : View} {u : Unit {0}} (name : List ℕ) (values : V)
-    → Sound ReadsSkipped a b u → Changes (no_field name) values values a b
-skipped name values s = record {
-  change = λ v. v;
-  read = record {
-    at = λ xs told. (let p = s.at xs told in record {
-      count = p.count;
-      cost = p.cost;
-      read = (p.read, refl);
-      fits = p.fits;
-      left = p.left;
-    });
-  };
-  is = refl;
-}
-
-module _ {T V : Type 0} (own : List ℕ) (reads : Reads T) (others : ReadsNamed V) {name : List ℕ}
-    {a b : View} where
-  -- the field itself
-  pub field_here : {v : T} {first last : Option T × V} → name ≡ own → Sound reads a b v
-      → last ≡ (Some v, first.1) → Changes (named_field own reads others name) first last a b
-  field_here {v = v} is s filled = record {
-    change = λ values. (Some v, values.1);
-    read = record {
-      at = λ xs told. (let p = s.at xs told in record {
+-- no field has it
+module _ {V : Type 0} (f : Fields V) (name : List ℕ) (values : V) {a b : View} where
+  pub skips : {E : Type 0} (exact : Bool) (r : Result (Unit {0}) (DecodeError E))
+      → f.named ≡ no_field → f.stops ≡ no_field_stops → Decodes skipped_spelling a b r
+      → Alters made exact (behind_name f name) values values a b r
+  skips exact (Ok u) none stops d = record {
+    what = λ v. v;
+    read = decoded_ok (behind_name f name) d.moves.by (λ some. cc) (record {
+      at = λ xs told. let p = d.sound.at xs told in record {
         count = p.count;
         cost = p.cost;
-        read = inl (is, v, p.read, refl);
+        read = subst (λ named. named name xs (λ v. v) p.count p.cost) (sym none) (p.read, refl);
         fits = p.fits;
         left = p.left;
-      });
-    };
+      };
+    });
+    is = refl;
+  }
+  skips exact (Err e) none stops d =
+      err_behind skipped_spelling (behind_name f name) (kept_alike a) (λ xs told. (
+        xs,
+        told,
+        record {
+          none = λ is skipped g n c q fits.
+              skipped tt n c (subst (λ named. named name xs g n c) none q).0 fits;
+          stops = λ z ys h. subst (λ at. at name xs a.budget z ys) (sym stops) h;
+          begins = λ z ys h. subst (λ at. at name xs a.budget z ys) (sym stops) h;
+        },
+      )) (λ owned. refl) (λ takes. refl) (of_exact d)
+
+module _ {T V E : Type 0} (own : List ℕ) (p : Promise T) (others : Fields V) {name : List ℕ}
+    (a b : View) where
+  -- the field itself
+  pub field_ok : {v : T} {first last : Option T × V} → name ≡ own → last ≡ (Some v, first.1)
+      → Deserializes {E = E} p a b (Ok v)
+      → Altered E made (behind_name (field own p others) name) first last a b
+  field_ok {v = v} same filled d = record {
+    what = λ values. (Some v, values.1);
+    read = decoded_ok (behind_name (field own p others) name) d.moves.by (λ some. cc) (record {
+      at = λ xs told. let q = d.sound.at xs told in record {
+        count = q.count;
+        cost = q.cost;
+        read = inl (same, v, q.read, refl);
+        fits = q.fits;
+        left = q.left;
+      };
+    });
     is = filled;
   }
 
+  pub field_err : {e : DecodeError E} → name ≡ own → Deserializes p a b (Err e)
+      → DecodesIf (field own p others).exact (behind_name (field own p others) name) a b (Err e)
+  field_err same d =
+      err_behind (part_of p) (behind_name (field own p others) name) (kept_alike a) (λ xs told. (
+        xs,
+        told,
+        record {
+          none = λ is none change n c q fits. elim q
+              [ inl w ↦ none w.1 n c w.2 fits | inr w ↦ absurd (w.0 same) ];
+          stops = λ z ys h. inl (same, h);
+          begins = λ z ys h. inl (same, h);
+        },
+      )) (λ owned. (both p.spelling.owned others.owned owned).0) (λ takes. refl)
+      (exact_less (λ is. (both p.exact others.exact is).0) (tell p (Err _) d))
+
   -- one of the others
-  pub field_below : {first last : Option T × V} {below : V} → name ≢ own
-      → Changes (others name) first.1 below a b → last ≡ (first.0, below)
-      → Changes (named_field own reads others name) first last a b
-  field_below {first = first} not h filled = record {
-    change = λ values. (values.0, h.change values.1);
-    read = record {
-      at = λ xs told. (let p = h.read.at xs told in record {
-        count = p.count;
-        cost =
-            p.cost;
-        read = inr (not, h.change, p.read, refl);
-        fits = p.fits;
-        left = p.left;
-      });
-    };
+  pub field_below : {U : Type 0} (r : Result U (DecodeError E)) (first last : Option T × V)
+      (below : V) → name ≢ own → last ≡ (first.0, below)
+      → Alters made others.exact (behind_name others name) first.1 below a b r
+      → Alters made (field own p others).exact (behind_name (field own p others) name) first last
+      a b r
+  field_below (Ok u) first last below not filled h = record {
+    what = λ values. (values.0, h.what values.1);
+    read = decoded_ok (behind_name (field own p others) name) h.read.moves.by (λ some. cc) (record {
+      at = λ xs told. let q = h.read.sound.at xs told in record {
+        count = q.count;
+        cost = q.cost;
+        read = inr (not, h.what, q.read, refl);
+        fits = q.fits;
+        left = q.left;
+      };
+    });
     is = filled ∙ ap (λ v. (first.0, v)) h.is;
   }
-
-module _ {T V E : Type 0} (own : List ℕ) (reads : Reads T) (others : ReadsNamed V) {name : List ℕ}
-    {a : View} {e : DecodeError E} where
-  pub none_here : name ≡ own → Refuses reads a e → Refuses (named_field own reads others name) a e
-  none_here is s = record {
-    at = λ xs told. if_some (refusal_of e) (λ none change n c h fits. elim h
-        [ inl p ↦ none p.1 n c p.2 fits | inr p ↦ absurd (p.0 is) ]) (s.at xs told);
-  }
-
-  pub none_below : name ≢ own → Refuses (others name) a e
-      → Refuses (named_field own reads others name) a e
-  none_below not s = record {
-    at = λ xs told. if_some (refusal_of e) (λ none change n c h fits.
-        elim h [ inl p ↦ absurd (not p.0) | inr p ↦ none p.1 n c p.2 fits ]) (s.at xs told);
-  }
-
-pub none_skipped : {V E : Type 0} {a : View} {e : DecodeError E} (name : List ℕ)
-    → Refuses ReadsSkipped a e → Refuses (no_field {V = V} name) a e
-none_skipped {e = e} name s = record {
-  at = λ xs told. if_some (refusal_of e)
-      (λ none change n c h fits. none tt n c h.0 fits) (s.at xs told);
-}
-
-pub skips : {V E : Type 0} (r : Result (Unit {0}) (Typed E)) (name : List ℕ) (a b : View)
-    (values : V) → IfOk r (Sound ReadsSkipped a b)
-    → OnOk r (Changes (no_field name) values values a b)
-skips (Ok u) name a b values s = skipped name values s
-skips (Err e) name a b values s = tt
-
-pub skips_none : {U E : Type 0} (V : Type 0) (r : Result U (Typed E)) (name : List ℕ) (a : View)
-    → IfErr r (λ e. Refuses ReadsSkipped a (as_core e))
-    → IfErr r (λ e. Refuses (no_field {V = V} name) a (as_core e))
-skips_none V (Ok u) name a s = tt
-skips_none V (Err e) name a s = none_skipped name s
+  field_below (Err e) first last below not filled h =
+      err_behind (behind_name others name) (behind_name (field own p others) name) (kept_alike a)
+      (λ xs told. (
+        xs,
+        told,
+        record {
+          none = λ is none change n c q fits. elim q
+              [ inl w ↦ absurd (not w.0) | inr w ↦ none w.1 n c w.2 fits ];
+          stops = λ z ys h. inr (not, h);
+          begins = λ z ys h. inr (not, h);
+        },
+      )) (λ owned. (both p.spelling.owned others.owned owned).1) (λ takes. refl)
+      (exact_less (λ is. (both p.exact others.exact is).1) h)
 
 -- ---- which field has a name
 
-module _ {T V : Type 0} (reads : Reads T) (others : List (Bor (List ℕ)) → ReadsNamed V) where
+module _ {T V : Type 0} (p : Promise T) (others : List (Bor (List ℕ)) → Fields V) where
   by_first : (names : List (Bor (List ℕ))) (d : Bor (List ℕ)) → 1 ≤ length names
-      → fields_by reads others names ≡ named_field (get_or names 0 d).now reads
+      → fields_by p others names ≡ field (get_or names 0 d).now p
       (others (take (length names - 1) (drop 1 names)))
   by_first [] d some = absurd (omega arith)
   by_first (own ∷ names) d some =
       let few : length (own ∷ names) - 1 ≡ length names = omega arith in
       let all : take (length (own ∷ names) - 1) names ≡ names =
       ap (λ j. take j names) few ∙ take-length names in
-      ap (λ zs. named_field own.now reads (others zs)) (sym all)
+      ap (λ zs. field own.now p (others zs)) (sym all)
 
   by_none : (names : List (Bor (List ℕ))) → length names < 1
-      → fields_by reads others names ≡ no_field
+      → fields_by p others names ≡ unnamed p (others [])
   by_none [] less = refl
   by_none (own ∷ names) less = absurd (omega arith)
 
-  module _ (names : List (Bor (List ℕ))) (name : List ℕ) (a b : View) where
-    pub first_here : (d : Bor (List ℕ)) {v : T} {first last : Option T × V} → 1 ≤ length names
-        → name ≡ (get_or names 0 d).now → Sound reads a b v → last ≡ (Some v, first.1)
-        → Changes (fields_by reads others names name) first last a b
-    first_here d {first = first} {last = last} some is s filled =
-        subst (λ f. Changes (f name) first last a b) (sym (by_first names d some))
-        (field_here (get_or names 0 d).now reads
-        (others (take (length names - 1) (drop 1 names))) is s filled)
+module _ {T V U E : Type 0} (p : Promise T) (others : List (Bor (List ℕ)) → Fields V)
+    (names : List (Bor (List ℕ))) (name : List ℕ) (before after : Option T × V) (a b : View)
+    (r : Result U (DecodeError E)) where
+  pub at_first : (d : Bor (List ℕ)) → 1 ≤ length names
+      → Alters made (p.exact && (others (take (length names - 1) (drop 1 names))).exact)
+      (behind_name (field (get_or names 0 d).now p
+      (others (take (length names - 1) (drop 1 names)))) name) before after a b r
+      → Alters made (fields_by p others names).exact
+      (behind_name (fields_by p others names) name) before after a b r
+  at_first d some h =
+      subst (λ f. Alters made f.exact (behind_name f name) before after a b r)
+      (sym (by_first p others names d some)) h
 
-    pub another : {U E : Type 0} (r : Result U E) (d : Bor (List ℕ)) (first last : Option T × V)
-        (below : V) → 1 ≤ length names → name ≢ (get_or names 0 d).now → last ≡ (first.0, below)
-        → OnOk r (Changes (others (take (length names - 1) (drop 1 names)) name) first.1 below a b)
-        → OnOk r (Changes (fields_by reads others names name) first last a b)
-    another r d first last below some not filled =
-        on_ok r (λ h. subst (λ f. Changes (f name) first last a b) (sym (by_first names d some))
-        (field_below (get_or names 0 d).now reads
-        (others (take (length names - 1) (drop 1 names))) not h filled))
-
-    pub none_has : {E : Type 0} (r : Result (Unit {0}) (Typed E)) (values : Option T × V)
-        → length names < 1 → IfOk r (Sound ReadsSkipped a b)
-        → OnOk r (Changes (fields_by reads others names name) values values a b)
-    none_has r values less s =
-        subst (λ f. OnOk r (Changes (f name) values values a b)) (sym (by_none names less))
-        (skips r name a b values s)
-
-  module _ (names : List (Bor (List ℕ))) (name : List ℕ) (a : View) where
-    pub first_refuses : {E : Type 0} {e : DecodeError E} (d : Bor (List ℕ)) → 1 ≤ length names
-        → name ≡ (get_or names 0 d).now → Refuses reads a e
-        → Refuses (fields_by reads others names name) a e
-    first_refuses {e = e} d some is s =
-        subst (λ f. Refuses (f name) a e) (sym (by_first names d some)) (none_here
-        (get_or names 0 d).now reads (others (take (length names - 1) (drop 1 names))) is s)
-
-    pub another_refuses : {U E : Type 0} (r : Result U (Typed E)) (d : Bor (List ℕ))
-        → 1 ≤ length names → name ≢ (get_or names 0 d).now → IfErr r
-        (λ e. Refuses (others (take (length names - 1) (drop 1 names)) name) a (as_core e))
-        → IfErr r (λ e. Refuses (fields_by reads others names name) a (as_core e))
-    another_refuses r d some not =
-        if_err r (λ e. Refuses (others (take (length names - 1) (drop 1 names)) name) a (as_core e))
-        (λ e. Refuses (fields_by reads others names name) a (as_core e))
-        (λ e s. subst (λ f. Refuses (f name) a (as_core e)) (sym (by_first names d some))
-        (none_below (get_or names 0 d).now reads
-        (others (take (length names - 1) (drop 1 names))) not s))
-
-    pub none_refuses : {U E : Type 0} (r : Result U (Typed E)) → length names < 1
-        → IfErr r (λ e. Refuses ReadsSkipped a (as_core e))
-        → IfErr r (λ e. Refuses (fields_by reads others names name) a (as_core e))
-    none_refuses r less s =
-        subst (λ f. IfErr r (λ e. Refuses (f name) a (as_core e))) (sym (by_none names less))
-        (skips_none (Option T × V) r name a s)
+  pub at_none : length names < 1
+      → Alters made (p.exact && (others []).exact) (behind_name (unnamed p (others [])) name) before
+      after a b r
+      → Alters made (fields_by p others names).exact
+      (behind_name (fields_by p others names) name) before after a b r
+  at_none less h =
+      subst (λ f. Alters made f.exact (behind_name f name) before after a b r)
+      (sym (by_none p others names less)) h
 
 -- ---- an entry
 
-module _ {V : Type 0} (named : ReadsNamed V) where
-  pair_entry : {a b : View} {name : String Global} {change : V → V}
-      → Sound (ReadsPair ReadsName (named (text_content name))) a b (name, change)
-      → Sound (ReadsEntry named) a b change
-  pair_entry {name = name} s =
-      record {
-        at = λ xs told. (let p = s.at xs told in record {
-          count = p.count;
-          cost = p.cost;
-          read = (name, p.read);
-          fits = p.fits;
-          left = p.left;
-        });
-      }
+module _ {V E : Type 0} (f : Fields V) {a m : View} where
+  pub name_err : {e : DecodeError E} → Decodes name_spelling a m (Err e)
+      → DecodesIf f.exact (entry_of f) a m (Err e)
+  name_err d =
+      err_behind name_spelling (entry_of f) (kept_alike a) (λ xs told. (
+        xs,
+        told,
+        record {
+          none = λ is none g n c q fits. none q.0 q.1.key_size q.1.key_cost q.1.key
+              (fits_less q.1.key_cost c a.budget
+              (less_max_left c q.1.key_cost q.1.value_cost q.1.cost) fits);
+          stops = λ z ys. inl;
+          begins = λ z ys. inl;
+        },
+      )) (λ owned. refl) (λ takes. takes) (of_exact d)
 
-  entry_at : {a m b : View} {name : String Global} {first last : V} → Kept a m
-      → Sound ReadsName a m name → Changes (named (text_content name)) first last m b
-      → Changes (ReadsEntry named) first last a b
-  entry_at {name = name} kept s h = record {
-    change = h.change;
-    read =
-        pair_entry (pair_sound ReadsName (named (text_content name)) kept s h.read);
-    is = h.is;
-  }
+  module _ {name : String Global} (d : Decodes {E = E} name_spelling a m (Ok name)) where
+    no_value : (xs : List ℕ) (i k : ℕ) → name_spelling.reads xs name i k
+        → NoneRead (f.named (text_content name)) (drop i xs) a.budget
+        → NoneRead (entry_of f).reads xs a.budget
+    no_value xs i k read none g n c q fits =
+        let is = name_laws.one xs q.0 name q.1.key_size i q.1.key_cost k q.1.key read in
+        none g q.1.value_size q.1.value_cost
+        (subst (λ z. f.named z (drop i xs) g q.1.value_size q.1.value_cost) is.2
+        (subst (λ j. f.named (text_content q.0) (drop j xs) g q.1.value_size q.1.value_cost) is.0
+        q.1.value))
+        (fits_less q.1.value_cost c a.budget
+        (less_max_right c q.1.key_cost q.1.value_cost q.1.cost) fits)
 
-  pub entry_changes : {U E : Type 0} (r : Result U E) {a m : View} (b : View) {name : String Global}
-      {told_name : List ℕ} (first last : V) → told_name ≡ text_content name → Kept a m
-      → Sound ReadsName a m name → OnOk r (Changes (named told_name) first last m b)
-      → OnOk r (Changes (ReadsEntry named) first last a b)
-  entry_changes r {m = m} b first last is kept s =
-      on_ok r (λ h. entry_at kept s (subst (λ z. Changes (named z) first last m b) is h))
-
-  pub no_name : {E : Type 0} {a : View} {e : DecodeError E} → Refuses ReadsName a e
-      → Refuses (ReadsEntry named) a e
-  no_name s =
-      refuses_as ReadsName (ReadsEntry named)
-      (λ xs budget none change n c p fits. none p.0 p.1.key_size p.1.key_cost p.1.key (key_less
-      ReadsName (named (text_content p.0)) xs (p.0, change) n c budget p.1 fits)) s
-
-  no_value_at : {E : Type 0} {a m : View} {name : String Global} {e : DecodeError E} → Kept a m
-      → Sound ReadsName a m name
-      → ((xs : List ℕ) → a.told ≡ Some xs → Refuses (named (text_content name)) m e)
-      → Refuses (ReadsEntry named) a e
-  no_value_at {a = a} {name = name} {e = e} kept s h = record {
-    at = λ xs told.
-        let p = s.at xs told in
-        if_some (refusal_of e) (λ none change n c q fits. (
-        let same =
-        (name_laws.one xs q.0 name q.1.key_size p.count q.1.key_cost p.cost q.1.key p.read).2 in
-        none (q.0, change) n c
-        (subst (λ z. ReadsPair ReadsName (named z) xs (q.0, change) n c) same q.1) fits))
-        ((value_refuses ReadsName (named (text_content name)) SameName name_laws.one kept s h).at xs
-        told);
-  }
-
-  pub no_value : {U E : Type 0} (r : Result U (Typed E)) {a m : View} {name : String Global}
-      {told_name : List ℕ} → told_name ≡ text_content name → Kept a m → Sound ReadsName a m name
-      → ((xs : List ℕ) → a.told ≡ Some xs → IfErr r (λ e. Refuses (named told_name) m (as_core e)))
-      → IfErr r (λ e. Refuses (ReadsEntry named) a (as_core e))
-  no_value (Ok u) is kept s h = tt
-  no_value (Err e) {m = m} is kept s h =
-      no_value_at kept s (λ xs told. subst (λ z. Refuses (named z) m (as_core e)) is (h xs told))
+    pub entry_alters : {U : Type 0} (r : Result U (DecodeError E)) (b : View) (first last : V)
+        → Alters made f.exact (behind_name f (text_content name)) first last m b r
+        → Alters made f.exact (entry_of f) first last a b r
+    entry_alters (Ok u) b first last h = record {
+      what = h.what;
+      read = ok_behind (behind_name f (text_content name)) (entry_of f) d.moves.by (λ xs told.
+          let p = d.sound.at xs told in (
+            drop p.count xs,
+            p.left,
+            λ n c r fits. record {
+              count = p.count + n;
+              cost = max p.cost c;
+              read = (
+                name,
+                record {
+                  key_size = p.count;
+                  key_cost = p.cost;
+                  key = p.read;
+                  value_size = n;
+                  value_cost = c;
+                  value = r;
+                  size = refl;
+                  cost = refl;
+                },
+              );
+              fits = fits_max p.cost c a.budget p.fits fits;
+              left = drop_more n p.count xs;
+            },
+          )) (λ some. omega (arith, d.progress refl, h.read.moves.by.bound)) h.read;
+      is = h.is;
+    }
+    entry_alters (Err e) b first last h =
+        err_behind (behind_name f (text_content name)) (entry_of f) d.moves.by (λ xs told.
+        let p = d.sound.at xs told in (
+          drop p.count xs,
+          p.left,
+          record {
+            none = λ is. no_value xs p.count p.cost p.read;
+            stops = λ z ys h. inr (record {
+              whole = name;
+              size = p.count;
+              cost = p.cost;
+              name = p.read;
+              fits = p.fits;
+              stop = h;
+            });
+            begins = λ z ys h. inr (record {
+              whole = name;
+              size = p.count;
+              cost = p.cost;
+              name = p.read;
+              fits = p.fits;
+              stop = h;
+            });
+          },
+        )) (λ o. o) (λ takes. refl) h
 
 -- ---- entries, one behind another
 
@@ -273,145 +270,114 @@ changed_last : {V : Type 0} (values : V) (changes : List (V → V)) (change : V 
 changed_last values [] change = refl
 changed_last values (g ∷ changes) change = changed_last (g values) changes change
 
-module _ {V : Type 0} (named : ReadsNamed V) where
+module _ {V E : Type 0} (f : Fields V) where
+  made_more : (first : V) {m b : View} {middle last : V} (changes : List (V → V))
+      → middle ≡ changed first changes → (t : Altered E made (entry_of f) middle last m b)
+      → last ≡ changed first (changes ++ t.what ∷ [])
+  made_more first changes is t = t.is ∙ (ap t.what is ∙ sym (changed_last first changes t.what))
+
+module _ {V : Type 0} (f : Fields V) where
   -- so many entries
   pub record Counted (i : ℕ) (a m : View) (first last : V) : Type 0 where
     pub changes : List (V → V)
-    pub begun : Begun (ReadsEntry named) i a m changes
+    pub begun : Begun (entry_of f) i a m changes
     pub is : last ≡ changed first changes
 
-  adds : {m b : View} {middle last : V} (changes : List (V → V))
-      → (t : Changes (ReadsEntry named) middle last m b)
-      → AddsPart (ReadsEntry named) changes (changes ++ t.change ∷ []) m b
-  adds changes t = record { part = t.change; read = t.read; added = refl }
-
-  made : (first : V) {m b : View} {middle last : V} (changes : List (V → V))
-      → middle ≡ changed first changes → (t : Changes (ReadsEntry named) middle last m b)
-      → last ≡ changed first (changes ++ t.change ∷ [])
-  made first changes is t = t.is ∙ (ap t.change is ∙ sym (changed_last first changes t.change))
-
   pub counted_more : {E : Type 0} {i : ℕ} {a m b : View} {first middle last : V}
-      → Counted i a m first middle → Changes (ReadsEntry named) middle last m b
-      → Moves {V = Unit {0}} {E = E} m b (Ok tt) → Counted (i + 1) a b first last
-  counted_more {first = first} h t moves =
-      record {
-        changes = h.changes ++ t.change ∷ [];
-        begun = count_more (ReadsEntry named) h.begun
-            (adds h.changes t) moves;
-        is = made first h.changes h.is t;
-      }
+      → Counted i a m first middle → Altered E made (entry_of f) middle last m b
+      → Counted (i + 1) a b first last
+  counted_more {first = first} h t = record {
+    changes = h.changes ++ t.what ∷ [];
+    begun = count_more (entry_of f) h.begun t.read.moves.by t.read.sound refl;
+    is = made_more f first h.changes h.is t;
+  }
 
-  pub counted_done : {i count : ℕ} {a m : View} {first last : V} → Counted i a m first last
-      → i ≡ count → Fills (ReadsCount (ReadsEntry named) count) first last a m
-  counted_done h e =
-      record { changes = h.changes; read = count_done (ReadsEntry named) h.begun e; is = h.is }
+  pub counted_done : {E : Type 0} {i count : ℕ} {a m : View} {first last : V}
+      → Counted i a m first last → i ≡ count
+      → Altered E all_made (count_of in_list (entry_of f) count) first last a m
+  counted_done h all = record {
+    what = h.changes;
+    read = count_done in_list (entry_of f) h.begun all;
+    is = h.is;
+  }
 
   -- entries, with a break in the place of none of them
   pub record Unended (a m : View) (first last : V) : Type 0 where
     pub changes : List (V → V)
-    pub opened : Opened (ReadsEntry named) true a m changes
+    pub opened : Opened (entry_of f) a m changes
     pub is : last ≡ changed first changes
 
   pub unended_more : {E : Type 0} {a l m b : View} {first middle last : V}
-      → Unended a l first middle → Stands l m → Changes (ReadsEntry named) middle last m b
-      → Moves {V = Unit {0}} {E = E} m b (Ok tt) → Unended a b first last
-  unended_more {first = first} h s t moves =
-      record {
-        changes = h.changes ++ t.change ∷ [];
-        opened = open_more (ReadsEntry named) true refl
-            h.opened s (adds h.changes t) moves;
-        is = made first h.changes h.is t;
-      }
+      → Unended a l first middle → Stands l m → Altered E made (entry_of f) middle last m b
+      → Unended a b first last
+  unended_more {first = first} h s t = record {
+    changes = h.changes ++ t.what ∷ [];
+    opened = open_more (entry_of f) refl h.opened s t.read.moves.by t.read.sound refl;
+    is = made_more f first h.changes h.is t;
+  }
 
-  pub unended_done : {E : Type 0} {ended : Bool} {a l b : View} {first last : V} → ended ≡ true
-      → Unended a l first last → Runs {E = E} break_at l b (Ok ended)
-      → Fills (ReadsUpToBreak (ReadsEntry named) true) first last a b
-  unended_done is h q = record {
-    changes = h.changes;
-    read = open_done (ReadsEntry named) true is h.opened q;
+  pub unended_done : {E : Type 0} (name : List ℕ) {ended : Bool} {a l b : View} {first last : V}
+      → ended ≡ true → Unended a l first last → Runs {E = E} break_at l b (Ok ended)
+      → Altered E all_made (open_of in_list name (entry_of f)) first last a b
+  unended_done name is h q = record {
+    what = h.changes;
+    read = open_done in_list name (entry_of f) is h.opened q;
     is = h.is;
   }
 
--- ---- the head and the entries
+-- ---- the head, and the step
 
-module _ {V : Type 0} (named : ReadsNamed V) {U E : Type 0} (r : Result U (Typed E))
-    (a m : View) where
-  pub counted_fills : (b : View) (first last : V) {count : ℕ} → Counts 5 a m count
-      → OnOk r (Fills (ReadsCount (ReadsEntry named) count) first last m b)
-      → OnOk r (Fills (ReadsInside 5 (ReadsEntry named) true) first last a b)
-  counted_fills b first last h =
-      on_ok r (λ f. record {
-        changes = f.changes;
-        read = counted_read 5 (ReadsEntry named) true h f.read;
-        is = f.is;
-      })
+module _ {W V U E : Type 0} (makes : W → V → V) (exact : Bool) (before after : V) where
+  pub alters_behind : (part whole : Spelling W) {a m : View} (b : View)
+      (r : Result U (DecodeError E))
+      → Leads exact part whole a m → Alters makes exact part before after m b r
+      → Alters makes exact whole before after a b r
+  alters_behind part whole b (Ok u) l h = record {
+    what = h.what;
+    read = accepted (behind part whole (Ok h.what) l (of_exact h.read));
+    is = h.is;
+  }
+  alters_behind part whole b (Err e) l d = behind part whole (Err e) l d
 
-  pub opened_fills : (b : View) (first last : V) → Opens 5 a m
-      → OnOk r (Fills (ReadsUpToBreak (ReadsEntry named) true) first last m b)
-      → OnOk r (Fills (ReadsInside 5 (ReadsEntry named) true) first last a b)
-  opened_fills b first last h =
-      on_ok r (λ f. record {
-        changes = f.changes;
-        read = opened_read 5 (ReadsEntry named) true h f.read;
-        is = f.is;
-      })
-
-  pub counted_refuses : {count : ℕ} → Counts 5 a m count → ((xs : List ℕ) → a.told ≡ Some xs
-      → IfErr r (λ e. Refuses (ReadsCount (ReadsEntry named) count) m (as_core e)))
-      → IfErr r (λ e. Refuses (ReadsInside 5 (ReadsEntry named) true) a (as_core e))
-  counted_refuses {count = count} h =
-      if_err_told r a.told (λ e. Refuses (ReadsCount (ReadsEntry named) count) m (as_core e))
-      (λ e. Refuses (ReadsInside 5 (ReadsEntry named) true) a (as_core e))
-      (λ e s. counted_not_read 5 (ReadsEntry named) true five_small h s)
-
-  pub opened_refuses : Opens 5 a m → ((xs : List ℕ) → a.told ≡ Some xs
-      → IfErr r (λ e. Refuses (ReadsUpToBreak (ReadsEntry named) true) m (as_core e)))
-      → IfErr r (λ e. Refuses (ReadsInside 5 (ReadsEntry named) true) a (as_core e))
-  opened_refuses h =
-      if_err_told r a.told (λ e. Refuses (ReadsUpToBreak (ReadsEntry named) true) m (as_core e))
-      (λ e. Refuses (ReadsInside 5 (ReadsEntry named) true) a (as_core e))
-      (λ e s. opened_not_read 5 (ReadsEntry named) true five_small h s)
-
--- under a step
-pub step_fills : {V U E : Type 0} (reads : Reads (List (V → V))) (r : Result U E) (first last : V)
-    {a b c d : View} → StepsIn a.budget b.budget true → KeepsAllButBudget a b
-    → KeepsAllButBudget c d → OnOk r (Fills reads first last b c)
-    → OnOk r (Fills (Stepped reads) first last a d)
-step_fills reads r first last {a = a} {b = b} {c = c} {d = d} takes inward outward =
-    on_ok r (λ f. record {
-      changes = f.changes;
-      read = sound_stepped reads takes inward outward f.read;
-      is = f.is;
-    })
+  pub alters_under : (s : Spelling W) (name : List ℕ) {a b c d : View}
+      (r : Result U (DecodeError E))
+      → StepsIn a.budget b.budget true → KeepsAllButBudget a b → KeepsAllButBudget c d
+      → d.budget ≡ step_back c.budget → Alters makes exact s before after b c r
+      → Alters makes exact (stepped_spelling name s) before after a d r
+  alters_under s name (Ok u) takes inward outward gives h = record {
+    what = h.what;
+    read = accepted (under_if s {exact = exact} name takes inward outward (Ok h.what) gives
+        (of_exact h.read));
+    is = h.is;
+  }
+  alters_under s name (Err e) takes inward outward gives d =
+      under_if s name takes inward outward (Err e) gives d
 
 -- ---- the values
 
-module _ {V W : Type 0} (values : W → V) (f : Fields V) where
-  pub struct_ok : {E : Type 0} {a b : View} {w : W} → Kept a b → b.bound + 1 ≤ a.bound
-      → Fills (ReadsSequence 5 (ReadsEntry f.named) true) f.first (values w) a b
+module _ {V W E : Type 0} (values : W → V) (f : Fields V) {a b : View} where
+  pub struct_ok : {w : W} → Altered E all_made (entries_of f) f.first (values w) a b
       → Deserializes {E = E} (struct_of values f) a b (Ok w)
-  struct_ok kept some h = ok (struct_of values f) kept some (record {
-    at = λ xs told. (let p = h.read.at xs told in record {
+  struct_ok h = ok (struct_of values f) h.read.moves.by (h.read.progress refl) (record {
+    at = λ xs told. let p = h.read.sound.at xs told in record {
       count = p.count;
       cost = p.cost;
-      read = (h.changes, p.read, h.is);
+      read = (h.what, p.read, h.is);
       fits = p.fits;
       left = p.left;
-    });
+    };
   })
 
-  pub struct_err : {E : Type 0} {a b : View} {e : DecodeError E} → Moves {V = Unit {0}} a b (Err e)
-      → (IsTrue f.exact → IsExact f.owned a
-      → Refuses (ReadsSequence 5 (ReadsEntry f.named) true) a e)
-      → Stops (StopsFields f.named f.stops) a b e → Deserializes (struct_of values f) a b (Err e)
-  struct_err {e = e} moves complete stops = record {
-    moves = moves_err moves;
-    progress = tt;
-    memory = λ out. refl;
-    sound = tt;
-    complete = λ is sure. record {
-      at = λ xs told. if_some (refusal_of e)
-          (λ none w n c h fits. none h.0 n c h.1 fits) ((complete is sure).at xs told);
-    };
-    begins = λ is. stops;
-  }
+  pub struct_err : {e : DecodeError E} → DecodesIf f.exact (entries_of f) a b (Err e)
+      → Deserializes (struct_of values f) a b (Err e)
+  struct_err d =
+      promised (struct_of values f) (err_behind (entries_of f) (struct_of values f).spelling
+      (kept_alike a) (λ xs told. (
+        xs,
+        told,
+        record {
+          none = λ is none w n c q fits. none q.0 n c q.1 fits;
+          stops = λ z ys h. h;
+          begins = λ z ys h. h;
+        },
+      )) (λ o. o) (λ takes. refl) d)

@@ -1,42 +1,57 @@
 -- What an accessor's next part is.
 use Rattle.std.proofs.Common.{◌≡◌, inl, inr, ℕ, zero, suc, List, drop, Option, Some, None, refl}
-use Rattle.std.proofs.Common.{◌+◌, ◌≤◌, subst, true, false, arith}
+use Rattle.std.proofs.Common.{◌+◌, ◌-◌, ◌≤◌, ◌∙◌, sym, ap, subst, true, false, arith, Bool, Ok, Err}
+use Rattle.std.specs.Prelude.{not}
 use Rattle.cbor4ii_rw.specs.View.{View}
 use Rattle.cbor4ii_rw.specs.declared.error.DecodeError.{DecodeError}
-use Rattle.cbor4ii_items.specs.Moves.{Kept}
-use Rattle.cbor4ii_items.specs.Decoding.{Reads, StopsAt, CostFits, Sound, NoneRead, Refuses, Stops}
-use Rattle.cbor4ii_items.specs.Refusal.{refusal_of}
-use Rattle.cbor4ii_items.specs.Strings.{ReadsBreak}
-use Rattle.cbor4ii_items.specs.Laws.Answering.{if_some, fits_zero, refuses_as}
-use Rattle.cbor4ii_items.specs.Laws.Calls.{stops_as}
+use Rattle.cbor4ii_items.specs.Decoding.{Reads, Sound, NoneRead, Spelling, Decodes, DecodesIf}
+use Rattle.cbor4ii_items.specs.Strings.{ReadsBreak, break_spelling}
+use Rattle.cbor4ii_items.specs.Laws.Answering.{fits_zero, refuses_as}
+use Rattle.cbor4ii_items.specs.Laws.Calls.{ok, ok_behind, err_behind, of_exact}
+use Rattle.cbor4ii_items.specs.Laws.Running.{kept_alike}
+use Rattle.cbor4ii_items.specs.Laws.Steps.{moves_err}
 use Rattle.cbor4ii.specs.declared.serde.de.accessor.Left.{Left}
 use Rattle.cbor4ii.specs.declared.serde.de.accessor.Left.TheVariants.{Counted, Open, Ended}
-use Rattle.cbor4ii.specs.Accessing.{Next, ReadsStart, StopsStart, StopsElement, LeftAfterStart}
-use Rattle.cbor4ii.specs.Accessing.{MayGoOn, fuel}
-use Rattle.cbor4ii.proofs.Stopped.{stopped_as}
+use Rattle.cbor4ii.specs.Accessing.{Next, ReadsStart, LeftAfterStart, MayGoOn, fuel, left_then}
+use Rattle.cbor4ii.specs.Accessing.{left_tried}
+use Rattle.cbor4ii.specs.Accessing.{start_spelling, next_spelling}
 
 -- ---- whether a part comes
-
-pub start_break : {a b : View} → Sound ReadsBreak a b true → Sound (ReadsStart Open) a b false
-start_break s = record {
-  at = λ xs told. let p = s.at xs told in
-      record { count = p.count; cost = p.cost; read = p.read; fits = p.fits; left = p.left };
-}
-
-pub start_other : {a b : View} → Sound ReadsBreak a b false → Sound (ReadsStart Open) a b true
-start_other s = record {
-  at = λ xs told. let p = s.at xs told in
-      record { count = p.count; cost = p.cost; read = p.read; fits = p.fits; left = p.left };
-}
 
 no_start : (xs : List ℕ) (budget : Option ℕ) → NoneRead ReadsBreak xs budget
     → NoneRead (ReadsStart Open) xs budget
 no_start xs budget none true n c r f = none false n c r f
 no_start xs budget none false n c r f = none true n c r f
 
-pub start_refuses : {E : Type 0} {a : View} {e : DecodeError E} → Refuses ReadsBreak a e
-    → Refuses (ReadsStart Open) a e
-start_refuses s = refuses_as ReadsBreak (ReadsStart Open) no_start s
+started : (ended : Bool) (xs : List ℕ) (n c : ℕ) → ReadsBreak xs ended n c
+    → ReadsStart Open xs (not ended) n c
+started true xs n c r = r
+started false xs n c r = r
+
+module _ {E : Type 0} {a b : View} where
+  pub start_open : {ended : Bool} → Decodes {E = E} break_spelling a b (Ok ended)
+      → Decodes {E = E} (start_spelling Open) a b (Ok (not ended))
+  start_open {ended = ended} d = ok (start_spelling Open) d.moves.by (λ some. cc) (record {
+    at = λ xs told. let p = d.sound.at xs told in record {
+      count = p.count;
+      cost = p.cost;
+      read = started ended xs p.count p.cost p.read;
+      fits = p.fits;
+      left = p.left;
+    };
+  })
+
+  pub start_refused : {e : DecodeError E} → Decodes break_spelling a b (Err e)
+      → Decodes (start_spelling Open) a b (Err e)
+  start_refused d = record {
+    moves = moves_err d.moves;
+    progress = λ some. tt;
+    memory = d.memory;
+    sound = tt;
+    complete = λ sure. refuses_as ReadsBreak (ReadsStart Open) no_start (d.complete sure);
+    stops = d.stops;
+    begins = d.begins;
+  }
 
 -- where a part was begun, one could come
 pub may_go_on : (old new : Left) → LeftAfterStart old new true → MayGoOn old
@@ -102,19 +117,6 @@ start_size (Counted (suc k)) xs n c h = h.0
 start_size Open xs n c h = h.2
 start_size Ended xs n c h = absurd h
 
-pub next_end : {V : Type 0} (reads : Reads V) (left : Left) {a b : View}
-    → Sound (ReadsStart left) a b false → Sound (Next reads left) a b None
-next_end reads left s =
-    record {
-      at = λ xs told. let p = s.at xs told in record {
-        count = p.count;
-        cost = p.cost;
-        read = end_read reads left xs p.count p.cost p.read;
-        fits = p.fits;
-        left = p.left;
-      };
-    }
-
 -- the bytes stay where a part comes
 start_stays : (left : Left) {a m : View} → Sound (ReadsStart left) a m true → (xs : List ℕ)
     → a.told ≡ Some xs → m.told ≡ Some xs
@@ -122,49 +124,17 @@ start_stays left {m = m} s xs told =
     let p = s.at xs told in
     subst (λ n. m.told ≡ Some (drop n xs)) (start_size left xs p.count p.cost p.read) p.left
 
-pub next_part : {V : Type 0} (reads : Reads V) (left : Left) {a m b : View} {v : V} → Kept a m
-    → Sound (ReadsStart left) a m true → Sound reads m b v → Sound (Next reads left) a b (Some v)
-next_part reads left {v = v} k s t = record {
-  at = λ xs told.
-      let p = s.at xs told in
-      let q = t.at xs (start_stays left s xs told) in
-      record {
-        count = q.count;
-        cost = q.cost;
-        read = part_read reads left xs v p.count p.cost q.count q.cost p.read q.read;
-        fits = subst (CostFits q.cost) k.budget q.fits;
-        left = q.left;
-      };
-}
-
 none_next : {V : Type 0} (reads : Reads V) (left : Left) (xs : List ℕ) (budget : Option ℕ)
     → NoneRead (ReadsStart left) xs budget → NoneRead (Next reads left) xs budget
 none_next reads left xs budget none None n c r f = none false n c (end_start reads left xs n c r) f
 none_next reads left xs budget none (Some v) n c r f =
     none true 0 0 (part_start reads left xs v n c r) (fits_zero budget)
 
-pub next_no_start : {V E : Type 0} (reads : Reads V) (left : Left) {a : View} {e : DecodeError E}
-    → Refuses (ReadsStart left) a e → Refuses (Next reads left) a e
-next_no_start reads left s = refuses_as (ReadsStart left) (Next reads left) (none_next reads left) s
-
 none_part : {V : Type 0} (reads : Reads V) (left : Left) (xs : List ℕ) (budget : Option ℕ) (n c : ℕ)
     → ReadsStart left xs true n c → NoneRead reads xs budget → NoneRead (Next reads left) xs budget
 none_part reads left xs budget m d start none None n c r f = not_both reads left xs m d n c start r
 none_part reads left xs budget m d start none (Some v) n c r f =
     none v n c (part_of reads left xs v n c r) f
-
-pub next_no_part : {V E : Type 0} (reads : Reads V) (left : Left) {a m : View} {e : DecodeError E}
-    → Kept a m → Sound (ReadsStart left) a m true
-    → ((xs : List ℕ) → a.told ≡ Some xs → Refuses reads m e) → Refuses (Next reads left) a e
-next_no_part reads left {a = a} {m = m} {e = e} k s t = record {
-  at = λ xs told.
-      let p = s.at xs told in
-      if_some (refusal_of e) (λ none. none_part reads left xs a.budget p.count p.cost p.read
-      (subst (NoneRead reads xs) k.budget none))
-      ((t xs told).at xs (start_stays left s xs told));
-}
-
--- ---- how it is refused
 
 start_free : (left : Left) (xs : List ℕ) (n c : ℕ) → ReadsStart left xs true n c
     → ReadsStart left xs true 0 0
@@ -173,21 +143,111 @@ start_free (Counted (suc k)) xs n c h = (refl, refl)
 start_free Open xs n c h = (h.0, h.1, refl, refl)
 start_free Ended xs n c h = h
 
-module _ (stops : StopsAt) (left : Left) where
-  pub none_stops : {E : Type 0} {a b : View} {e : DecodeError E} → Stops (StopsStart left) a b e
-      → Stops (StopsElement stops left) a b e
-  none_stops s =
-      stopped_as (StopsStart left) (StopsElement stops left) (λ xs budget z ys h. inl h) s
+module _ {V E : Type 0} (left : Left) (s : Spelling V) {a m : View} where
+  pub next_end : Decodes {E = E} (start_spelling left) a m (Ok false)
+      → Decodes {E = E} (next_spelling left s) a m (Ok None)
+  next_end d = ok (next_spelling left s) d.moves.by (λ some. cc) (record {
+    at = λ xs told. let p = d.sound.at xs told in record {
+      count = p.count;
+      cost = p.cost;
+      read = end_read s.reads left xs p.count p.cost p.read;
+      fits = p.fits;
+      left = p.left;
+    };
+  })
 
-  pub part_stops : {E : Type 0} {a m b : View} {e : DecodeError E} → Kept a m
-      → Sound (ReadsStart left) a m true → Stops stops m b e → Stops (StopsElement stops left) a b e
-  part_stops {a = a} {m = m} {b = b} {e = e} k s r = record {
-    at = λ xs told.
-        let p = s.at xs told in
-        stops_as (refusal_of e) b.told (stops xs m.budget) (StopsElement stops left xs a.budget)
-        (λ z ys h. inr (
-          start_free left xs p.count p.cost p.read,
-          subst (λ budget. stops xs budget z ys) k.budget h,
-        ))
-        (r.at xs (start_stays left s xs told));
-  }
+  pub next_refused : {exact : Bool} {e : DecodeError E} → Decodes (start_spelling left) a m (Err e)
+      → DecodesIf exact (next_spelling left s) a m (Err e)
+  next_refused d =
+      err_behind (start_spelling left) (next_spelling left s) (kept_alike a) (λ xs told. (
+        xs,
+        told,
+        record {
+          none = λ is. none_next s.reads left xs a.budget;
+          stops = λ z ys. inl;
+          begins = λ z ys. inl;
+        },
+      )) (λ owned. refl) (λ takes. (let no : false ≡ _ = takes in cc)) (of_exact d)
+
+  module _ {b : View} (d : Decodes {E = E} (start_spelling left) a m (Ok true)) where
+    pub next_part : {v : V} → Decodes {E = E} s m b (Ok v)
+        → Decodes {E = E} (next_spelling left s) a b (Ok (Some v))
+    next_part {v = v} t = ok_behind s (next_spelling left s) d.moves.by (λ xs told.
+        let p = d.sound.at xs told in (
+          xs,
+          start_stays left d.sound xs told,
+          λ n c r fits. record {
+            count = n;
+            cost = c;
+            read = part_read s.reads left xs v p.count p.cost n c p.read r;
+            fits = fits;
+            left = refl;
+          },
+        )) (λ some. cc) t
+
+    pub next_err : {exact : Bool} {e : DecodeError E} → DecodesIf exact s m b (Err e)
+        → DecodesIf exact (next_spelling left s) a b (Err e)
+    next_err t = err_behind s (next_spelling left s) d.moves.by (λ xs told.
+        let p = d.sound.at xs told in
+        let free = start_free left xs p.count p.cost p.read in (
+          xs,
+          start_stays left d.sound xs told,
+          record {
+            none = λ is. none_part s.reads left xs a.budget p.count p.cost p.read;
+            stops = λ z ys h. inr (free, h);
+            begins = λ z ys h. inr (free, h);
+          },
+        )) (λ owned. owned) (λ takes. takes) t
+
+-- ---- what is left
+
+-- it does not matter which part comes
+pub same_left : {V W : Type 0} (left : Left) (v : V) (w : W)
+    → left_then left (Some v) ≡ left_then left (Some w)
+same_left (Counted k) v w = refl
+same_left Open v w = refl
+same_left Ended v w = refl
+
+pub less_fuel : (left : Left) (bound rest most : ℕ) → fuel left bound + 1 ≤ most → rest ≤ bound
+    → fuel left rest + 1 ≤ most
+less_fuel (Counted k) bound rest most less room = less
+less_fuel Open bound rest most less room = omega (arith, less, room)
+less_fuel Ended bound rest most less room = less
+
+-- behind a start that says so
+pub left_started : {V : Type 0} (old new : Left) (v : V) → LeftAfterStart old new true
+    → new ≡ left_then old (Some v)
+left_started (Counted k) new v h = h.1
+left_started Open new v h = h
+left_started Ended new v h = absurd h
+
+pub left_ended : (V : Type 0) (old new : Left) → LeftAfterStart old new false
+    → new ≡ left_then {V = V} old None
+left_ended V (Counted k) new h =
+    h.1 ∙ ap Counted (let e : 0 ≡ k - 1 = omega (arith, h.0) in e)
+left_ended V Open new h = h
+left_ended V Ended new h = h
+
+pub tried_started : (old new : Left) → LeftAfterStart old new true → new ≡ left_tried old
+tried_started (Counted k) new h = h.1
+tried_started Open new h = h
+tried_started Ended new h = absurd h
+
+pub tried_left : {V : Type 0} (left : Left) (v : V) → left_then left (Some v) ≡ left_tried left
+tried_left (Counted k) v = refl
+tried_left Open v = refl
+tried_left Ended v = refl
+
+pub same_ended : (V W : Type 0) (left : Left)
+    → left_then {V = V} left None ≡ left_then {V = W} left None
+same_ended V W (Counted k) = refl
+same_ended V W Open = refl
+same_ended V W Ended = refl
+
+pub shrinks_by : (old new : Left) (most bound rest : ℕ) → LeftAfterStart old new true
+    → bound ≤ most → rest + 1 ≤ bound → fuel new rest + 1 ≤ fuel old most
+shrinks_by (Counted k) new most bound rest h less room =
+    subst (λ l. fuel l rest + 1 ≤ k) (sym h.1) (omega (arith, h.0))
+shrinks_by Open new most bound rest h less room =
+    subst (λ l. fuel l rest + 1 ≤ most) (sym h) (omega (arith, less, room))
+shrinks_by Ended new most bound rest h less room = absurd h

@@ -1,9 +1,8 @@
 -- Names of fields, found among some names and taken.
 use Rattle.std.proofs.Common.{◌-◌, ◌≡◌, ◌≢◌, inl, ℕ, zero, suc, ◌+◌, ◌<◌, ◌≤◌, ◌/◌, ◌%◌, List, []}
 use Rattle.std.proofs.Common.{◌∷◌, length, take, drop, get_or, slice_index_or, Result, Ok, Err}
-use Rattle.std.proofs.Common.{IfOk}
-use Rattle.std.proofs.Common.{IfErr, IfSome, Some, Bool, true, false, ltb, ltb-true, ltb-false}
-use Rattle.std.proofs.Common.{refl, sym, ap, ◌∙◌, subst, arith}
+use Rattle.std.proofs.Common.{Bool, true, false, ltb, ltb-true, ltb-false, refl, sym, ap, ◌∙◌}
+use Rattle.std.proofs.Common.{subst, arith}
 use Rattle.std.proofs.Math.Seq.{take-length}
 use Rattle.std.proofs.lemmas.List.{length-take-le}
 use Rattle.std.proofs.lemmas.Str.{IsUtf8-string_bytes}
@@ -14,19 +13,16 @@ use denote.Ref.{Bor}
 use Rattle.cbor4ii_rw.specs.View.{View, Told}
 use Rattle.cbor4ii_rw.specs.Reader.{Shows, Advances, IsFront}
 use Rattle.cbor4ii_rw.specs.declared.error.DecodeError.{DecodeError}
-use Rattle.cbor4ii_items.specs.Decoding.{Reads, StopsAt, CostFits, Sound, NoneRead, Refuses, Stops}
+use Rattle.cbor4ii_items.specs.Decoding.{CostFits, Decodes}
 use Rattle.cbor4ii_items.specs.Head.{in_first}
 use Rattle.cbor4ii_items.specs.Lent.{Stays}
-use Rattle.cbor4ii_items.specs.Moves.{Moves}
-use Rattle.cbor4ii_items.specs.Refusal.{refusal_of}
 use Rattle.cbor4ii_items.specs.Strings.{ReadsCountedString, text_content}
 use Rattle.cbor4ii_items.specs.Laws.Answering.{fits_zero}
+use Rattle.cbor4ii_items.specs.Laws.Calls.{ok, err_behind, of_exact, exactly}
 use Rattle.cbor4ii_items.specs.Laws.Contents.{lends_front, first_bytes}
 use Rattle.cbor4ii_items.specs.Laws.Steps.{kept_then}
-use Rattle.cbor4ii.specs.declared.serde.de.error.DecodeError.{DecodeError as Typed}
-use Rattle.cbor4ii.specs.Fields.{ReadsName}
-use Rattle.cbor4ii.specs.Names.{StandsAt, IsWholeName, TakesName}
-use Rattle.cbor4ii.specs.Typed.{as_core}
+use Rattle.cbor4ii.specs.Fields.{name_spelling}
+use Rattle.cbor4ii.specs.Names.{StandsAt, IsWholeName, NameAt, TakesName}
 use Rattle.cbor4ii.proofs.Characters.{text_of}
 
 -- ---- the place
@@ -176,13 +172,14 @@ counted_name xs name n few size stands =
 
 pub takes_shown : {names : List (Bor (List ℕ))} {shown : List ℕ} {at n want : ℕ} {a m b : View}
     → Shows shown a m → Told a.told (IsFront want shown) → IsWholeName names shown at n
-    → Advances n m b → TakesName names at a b
+    → Advances n m b → NameAt names at a b
 takes_shown {n = n} {a = a} s front w adv =
     let l = lends_front s front w.within w.bytes refl adv in
     record {
       name = w.name;
       is = (w.utf8, omega (arith, w.few));
       kept = l.kept;
+      progress = omega (arith, w.size, adv.bound, s.bound);
       read = record {
         at = λ xs told. (let p = l.at xs told in record {
           count = n;
@@ -200,19 +197,20 @@ takes_shown {n = n} {a = a} s front w adv =
 
 -- ---- a name that was read as a text
 
-pub takes_text : {V E : Type 0} {names : List (Bor (List ℕ))} {at : ℕ} {a b : View} {v : V}
-    (name : String Global) (told_name : List ℕ) → told_name ≡ text_content name
-    → Moves {E = E} a b (Ok v) → Sound ReadsName a b name → StandsAt told_name names at
-    → TakesName names at a b
-takes_text {names = names} {at = at} name told_name is m s which = record {
+pub takes_text : {E : Type 0} {names : List (Bor (List ℕ))} {at : ℕ} {a b : View}
+    {name : String Global} (told_name : List ℕ) → told_name ≡ text_content name
+    → Decodes {E = E} name_spelling a b (Ok name) → StandsAt told_name names at
+    → NameAt names at a b
+takes_text {names = names} {at = at} {name = name} told_name is d which = record {
   name = text_content name;
   is = (
     IsUtf8-string_bytes name,
     omega (arith, name.bytes.ok.0, name.bytes.ok.1, name.bytes.small),
   );
-  kept = m.by;
+  kept = d.moves.by;
+  progress = d.progress refl;
   read = record {
-    at = λ xs told. (let p = s.at xs told in record {
+    at = λ xs told. (let p = d.sound.at xs told in record {
       count = p.count;
       cost = p.cost;
       read = p.read;
@@ -223,9 +221,10 @@ takes_text {names = names} {at = at} name told_name is m s which = record {
   which = subst (λ zs. StandsAt zs names at) is which;
 }
 
-pub text_taken : {names : List (Bor (List ℕ))} {at : ℕ} {a b : View} (alloc : Global)
-    → (h : TakesName names at a b) → Sound ReadsName a b (text_of alloc h.name h.is.0 h.is.1)
-text_taken alloc h = record {
+pub text_taken : {E : Type 0} {names : List (Bor (List ℕ))} {at : ℕ} {a b : View} (alloc : Global)
+    → (h : NameAt names at a b)
+    → Decodes {E = E} name_spelling a b (Ok (text_of alloc h.name h.is.0 h.is.1))
+text_taken alloc h = ok name_spelling h.kept (λ some. h.progress) (record {
   at = λ xs told. (let p = h.read.at xs told in record {
     count = p.count;
     cost = p.cost;
@@ -233,16 +232,17 @@ text_taken alloc h = record {
     fits = p.fits;
     left = p.left;
   });
-}
+})
 
 -- ---- after a look that took nothing
 
-pub stays_takes : {names : List (Bor (List ℕ))} {at : ℕ} {a m b : View} → Stays a m
-    → TakesName names at m b → TakesName names at a b
+stays_takes : {names : List (Bor (List ℕ))} {at : ℕ} {a m b : View} → Stays a m
+    → NameAt names at m b → NameAt names at a b
 stays_takes s h = record {
   name = h.name;
   is = h.is;
   kept = kept_then s.kept h.kept;
+  progress = omega (arith, s.kept.bound, h.progress);
   read = record {
     at = λ xs told. (let p = h.read.at xs (s.told xs told) in record {
       count = p.count;
@@ -255,35 +255,12 @@ stays_takes s h = record {
   which = h.which;
 }
 
-stays_refuses : {V E : Type 0} {e : DecodeError E} {a m : View} (reads : Reads V) → Stays a m
-    → Refuses reads m e → Refuses reads a e
-stays_refuses {e = e} reads s h = record {
-  at = λ xs told. subst (λ k. IfSome (refusal_of e) (λ z. NoneRead reads xs k)) s.kept.budget
-      (h.at xs (s.told xs told));
-}
-
-stays_stops : {E : Type 0} {e : DecodeError E} {a m b : View} (stops : StopsAt) → Stays a m
-    → Stops stops m b e → Stops stops a b e
-stays_stops {e = e} {b = b} stops s h = record {
-  at = λ xs told. subst (λ k. IfSome (refusal_of e)
-      (λ z. (rest : List ℕ) × (b.told ≡ Some rest) × stops xs k z rest)) s.kept.budget
-      (h.at xs (s.told xs told));
-}
-
 pub then_takes : {E : Type 0} (names : List (Bor (List ℕ))) {a m : View} (b : View)
-    (r : Result ℕ E) → Stays a m → IfOk r (λ at. TakesName names at m b)
-    → IfOk r (λ at. TakesName names at a b)
+    (r : Result ℕ (DecodeError E)) → Stays a m → TakesName names m b r → TakesName names a b r
 then_takes names b (Ok at) s h = stays_takes s h
-then_takes names b (Err e) s h = tt
-
-pub then_refuses : {U V E : Type 0} {a m : View} (r : Result U (Typed E)) (reads : Reads V)
-    → Stays a m → IfErr r (λ e. Refuses reads m (as_core e))
-    → IfErr r (λ e. Refuses reads a (as_core e))
-then_refuses (Ok u) reads s h = tt
-then_refuses (Err e) reads s h = stays_refuses reads s h
-
-pub then_stops : {U E : Type 0} {a m : View} (b : View) (r : Result U (Typed E))
-    (stops : StopsAt) → Stays a m → IfErr r (λ e. Stops stops m b (as_core e))
-    → IfErr r (λ e. Stops stops a b (as_core e))
-then_stops b (Ok u) stops s h = tt
-then_stops b (Err e) stops s h = stays_stops stops s h
+then_takes names b (Err e) s h =
+    exactly (err_behind name_spelling name_spelling s.kept (λ xs told. (
+      xs,
+      s.told xs told,
+      record { none = λ is none. none; stops = λ z ys stop. stop; begins = λ z ys stop. stop },
+    )) (λ owned. owned) (λ takes. takes) (of_exact h))

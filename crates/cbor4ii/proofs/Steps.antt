@@ -1,20 +1,18 @@
 -- What is read under one step, and what is not.
-use Rattle.std.proofs.Common.{◌≡◌, IsTrue, inl, inr, false, ℕ, ◌+◌, true, List}
-use Rattle.std.proofs.Common.{Option, Some, None, Result, Ok, Err, refl, sym, ap, ◌∙◌, subst, arith}
-use Rattle.std.proofs.Common.{IfSome, IfOk, IfErr}
+use Rattle.std.proofs.Common.{◌≡◌, IsTrue, inl, inr, false, ℕ, ◌+◌, true, List, Option, Some, None}
+use Rattle.std.proofs.Common.{Result, Ok, Err, refl, sym, ap, ◌∙◌, subst, arith, IfSome, Bool}
 use Rattle.cbor4ii_rw.specs.View.{View}
 use Rattle.cbor4ii_rw.specs.Reader.{Breaks, Failed, StepsIn, KeepsAllButBudget, step_back}
 use Rattle.cbor4ii_rw.specs.declared.error.DecodeError.{DecodeError}
-use Rattle.cbor4ii.specs.declared.serde.de.error.DecodeError.{DecodeError as Typed}
-use Rattle.cbor4ii.specs.Typed.{as_core}
 use Rattle.cbor4ii.specs.Stepped.{Stepped, StopsStepped, stepped_spelling}
 use Rattle.cbor4ii_items.specs.Refusal.{Refusal, refusal_of}
 use Rattle.cbor4ii_items.specs.Decoding.{CostFits, Sound, Refuses, Stops, Spelling, Decodes}
+use Rattle.cbor4ii_items.specs.Decoding.{DecodesIf}
 use Rattle.cbor4ii_items.specs.Moves.{Moves}
 use Rattle.cbor4ii_items.specs.Laws.Answering.{if_some}
 use Rattle.cbor4ii_items.specs.Laws.UnderStep.{step_again, fits_step, fits_inside, stepped}
 use Rattle.cbor4ii_items.specs.Laws.UnderStep.{exact_step, moves_stepped}
-use Rattle.cbor4ii_items.specs.Laws.Calls.{stops_as, ok as all_ok}
+use Rattle.cbor4ii_items.specs.Laws.Calls.{stops_as, ok as all_ok, of_exact, exactly}
 use Rattle.cbor4ii_rw.specs.declared.error.DecodeError.TheVariants.{DepthOverflow}
 use denote.Ref.{Bor}
 
@@ -61,27 +59,6 @@ sound_stepped reads {a = a} {b = b} takes inward outward w = record {
         left = outward.told ∙ t.left;
       };
 }
-
-module _ {V W E : Type 0} (r : Result W (Typed E)) (form : W → V)
-    (reads : List ℕ → V → ℕ → ℕ → Type 0) (a b : View) (takes : StepsIn a.budget b.budget true)
-    (inward : KeepsAllButBudget a b) where
-  pub formed_sound : (c d : View) → KeepsAllButBudget c d → IfOk r (λ w. Sound reads b c (form w))
-      → IfOk r (λ w. Sound (Stepped reads) a d (form w))
-  formed_sound c d outward s = elim r as (λ t. IfOk t (λ w. Sound reads b c (form w))
-      → IfOk t (λ w. Sound (Stepped reads) a d (form w))) [
-        | Ok v ↦ (λ w. sound_stepped reads takes inward outward w)
-        | Err e ↦ (λ w. tt)
-      ] s
-
-module _ {V W E : Type 0} (r : Result W (Typed E)) (reads : List ℕ → V → ℕ → ℕ → Type 0)
-    (a b : View) (takes : StepsIn a.budget b.budget true) (inward : KeepsAllButBudget a b) where
-  pub step_refuses : IfErr r (λ e. Refuses reads b (as_core e))
-      → IfErr r (λ e. Refuses (Stepped reads) a (as_core e))
-  step_refuses s = elim r as (λ t. IfErr t (λ e. Refuses reads b (as_core e))
-      → IfErr t (λ e. Refuses (Stepped reads) a (as_core e))) [
-        | Ok v ↦ (λ w. tt)
-        | Err e ↦ (λ w. refuses_stepped reads takes inward w)
-      ] s
 
 pub stops_stepped : {E : Type 0} (name : List ℕ)
     (stops : List ℕ → Option ℕ → Refusal → List ℕ → Type 0) {a b c d : View} {e : DecodeError E}
@@ -136,22 +113,29 @@ module _ {V E : Type 0} (s : Spelling V) where
     begins = stops_no_step name s.begins takes inward;
   }
 
-  pub under : (name : List ℕ) {a b c d : View} → StepsIn a.budget b.budget true
+  pub under_if : {exact : Bool} (name : List ℕ) {a b c d : View} → StepsIn a.budget b.budget true
       → KeepsAllButBudget a b → KeepsAllButBudget c d → (r : Result V (DecodeError E))
-      → d.budget ≡ step_back c.budget → Decodes s b c r → Decodes (stepped_spelling name s) a d r
-  under name {a = a} {b = b} {c = c} {d = d} takes inward outward (Ok v) gives t =
-      all_ok (stepped_spelling name s)
+      → d.budget ≡ step_back c.budget → DecodesIf exact s b c r
+      → DecodesIf exact (stepped_spelling name s) a d r
+  under_if name {a = a} {b = b} {c = c} {d = d} takes inward outward (Ok v) gives t =
+      of_exact (all_ok (stepped_spelling name s)
       (moves_stepped (Ok v) a b c d takes inward t.moves gives outward).by
       (λ some. omega (arith, t.progress some, inward.bound, outward.bound))
-      (sound_stepped s.reads takes inward outward t.sound)
-  under name {a = a} {b = b} {c = c} {d = d} takes inward outward (Err e) gives t = record {
+      (sound_stepped s.reads takes inward outward t.sound))
+  under_if name {a = a} {b = b} {c = c} {d = d} takes inward outward (Err e) gives t = record {
     moves = moves_stepped (Err e) a b c d takes inward t.moves gives outward;
     progress = λ some. tt;
     memory = t.memory;
     sound = tt;
-    complete = λ sure. refuses_stepped s.reads takes inward
-        (t.complete (exact_step s.owned a b inward sure));
-    stops = λ sure. stops_stepped name s.stops takes inward outward
-        (t.stops (exact_step s.owned a b inward sure));
+    complete = λ is sure. refuses_stepped s.reads takes inward
+        (t.complete is (exact_step s.owned a b inward sure));
+    stops = λ is sure. stops_stepped name s.stops takes inward outward
+        (t.stops is (exact_step s.owned a b inward sure));
     begins = stops_stepped name s.begins takes inward outward t.begins;
   }
+
+  pub under : (name : List ℕ) {a b c d : View} → StepsIn a.budget b.budget true
+      → KeepsAllButBudget a b → KeepsAllButBudget c d → (r : Result V (DecodeError E))
+      → d.budget ≡ step_back c.budget → Decodes s b c r → Decodes (stepped_spelling name s) a d r
+  under name takes inward outward r gives t =
+      exactly (under_if name takes inward outward r gives (of_exact t))

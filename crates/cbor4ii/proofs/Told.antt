@@ -7,7 +7,9 @@ use Rattle.cbor4ii_items.specs.Decoding.{IsExact, Sound, Refuses, Stops, Decodes
 use Rattle.cbor4ii_items.specs.Moves.{Moves}
 use Rattle.cbor4ii_items.specs.Refusal.{is_out_of_memory}
 use Rattle.cbor4ii.specs.declared.serde.de.error.DecodeError.{DecodeError}
+use Rattle.cbor4ii_items.specs.Laws.Calls.{of_exact}
 use Rattle.cbor4ii.specs.Typed.{Promise, Deserializes, as_core, answer_of}
+use Rattle.cbor4ii.proofs.Promised.{promised}
 
 -- what is told of the codec's answer, of the call's own
 module _ {V E : Type 0} where
@@ -53,14 +55,7 @@ told p (Err e) moves progress memory sound complete begins = record {
 -- a call of the codec
 pub decoded : {V E : Type 0} (p : Promise V) {a b : View} {r : Result V (CoreError E)}
     → Decodes p.spelling a b r → Deserializes p a b r
-decoded p d = record {
-  moves = d.moves;
-  progress = d.progress p.some;
-  memory = d.memory;
-  sound = d.sound;
-  complete = λ is. d.complete;
-  begins = λ is. d.begins;
-}
+decoded p d = promised p (of_exact d)
 
 -- a call that may take memory
 pub may_take : {V E : Type 0} (r : Result V (DecodeError E))

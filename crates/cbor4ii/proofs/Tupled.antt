@@ -1,7 +1,6 @@
 -- A head that counts so many, and what stands behind it.
 use Rattle.std.proofs.Common.{◌≡◌, ℕ, ◌+◌, ◌<◌, ◌≤◌, inl, inr, List, drop, Option, Some, None, Bool}
-use Rattle.std.proofs.Common.{true, false, Ok, Err, refl, sym, ap, ◌∙◌, subst, ltb, ltb-true}
-use Rattle.std.proofs.Common.{ltb-false}
+use Rattle.std.proofs.Common.{true, false, Ok, Err, refl, ap, ◌∙◌, subst, ltb, ltb-true, ltb-false}
 use Rattle.std.specs.Prelude.{codes}
 use denote.Ref.{Bor}
 use Rattle.cbor4ii_rw.specs.declared.error.Len.{Len}
@@ -9,18 +8,20 @@ use Rattle.cbor4ii_rw.specs.declared.error.Len.TheVariants.{Small, Big, Indefini
 use Rattle.cbor4ii_rw.specs.declared.error.DecodeError.TheVariants.{RequireLength}
 use Rattle.cbor4ii_rw.specs.View.{View}
 use Rattle.cbor4ii_rw.specs.declared.error.DecodeError.{DecodeError}
-use Rattle.cbor4ii_items.specs.Laws.Calls.{ok, err, err_behind}
+use Rattle.cbor4ii_items.specs.Laws.Calls.{ok, err, err_behind, Leads, of_exact, exactly}
 use Rattle.cbor4ii_items.specs.Laws.Running.{kept_alike}
 use Rattle.cbor4ii.specs.Sequence.{four_small}
 use Rattle.cbor4ii.specs.Tuples.{ReadsBehind, ReadsCountOf, StopsCountOf, counted_head, told_length}
-use Rattle.cbor4ii_items.specs.Refusal.{refusal_of, len_of, require_length}
-use Rattle.cbor4ii_items.specs.Moves.{Kept}
+use Rattle.cbor4ii.specs.Tuples.{behind_spelling}
+use Rattle.cbor4ii_items.specs.Heads.{ReadsHead}
+use Rattle.cbor4ii_items.specs.Refusal.{Refusal, len_of, require_length}
+use Rattle.cbor4ii_items.specs.Sequences.{StopsBehindKey}
 use Rattle.cbor4ii_items.specs.Laws.Fronts.{drop_more}
 use Rattle.cbor4ii_items.specs.Laws.Heads.{head_one}
 use Rattle.cbor4ii_items.specs.Laws.Strings.{head_not_open}
 use Rattle.cbor4ii_items.specs.Lengths.{ReadsLength, length_spelling}
-use Rattle.cbor4ii_items.specs.Decoding.{CostFits, Sound, NoneRead, Refuses, Decodes}
-use Rattle.cbor4ii_items.specs.Laws.Answering.{if_some, fits_zero}
+use Rattle.cbor4ii_items.specs.Decoding.{StopsAt, Sound, NoneRead, Spelling, Decodes, DecodesIf}
+use Rattle.cbor4ii_items.specs.Laws.Answering.{fits_zero}
 
 pub head_counts : {E : Type 0} {count found : ℕ} {l : Option ℕ} {a m : View} → l ≡ Some found
     → found ≡ count → Decodes {E = E} (length_spelling (codes "array") 4) a m (Ok l)
@@ -46,16 +47,16 @@ pub head_missing : {E : Type 0} {count : ℕ} {a m : View} {e : DecodeError E}
     → Decodes (length_spelling (codes "array") 4) a m (Err e)
     → Decodes (counted_head count) a m (Err e)
 head_missing {count = count} {a = a} d =
-    err_behind (length_spelling (codes "array") 4) (counted_head count) (kept_alike a)
+    exactly (err_behind (length_spelling (codes "array") 4) (counted_head count) (kept_alike a)
     (λ xs told. (
       xs,
       told,
       record {
-        none = λ none v n c r fits. none (Some count) n c r fits;
+        none = λ is none v n c r fits. none (Some count) n c r fits;
         stops = λ z ys h. inl h;
         begins = λ z ys h. inl h;
       },
-    )) (λ owned. owned) (λ takes. takes) d
+    )) (λ owned. owned) (λ takes. takes) (of_exact d))
 
 len_by : (t : Bool) (n : ℕ) (l : Len) → ltb n 65536 ≡ t → (n < 65536 → l ≡ Small n)
     → (65536 ≤ n → l ≡ Big) → l ≡ len_of n
@@ -91,7 +92,7 @@ head_differs {count = count} {l = l} {len = len} {name = name} {a = a} named not
       drop p.count xs,
       p.left,
       record {
-        none = other count l xs p.count p.cost a.budget not p.read;
+        none = λ is. other count l xs p.count p.cost a.budget not p.read;
         stops = stop;
         begins = stop;
       },
@@ -111,50 +112,71 @@ not_count {found = found} {count = count} is not e = let f : found ≡ count = c
 pub not_open : {count : ℕ} {l : Option ℕ} → l ≡ None → l ≡ Some count → ⊥
 not_open is e = cc
 
-module _ {V : Type 0} (count : ℕ) (reads : List ℕ → V → ℕ → ℕ → Type 0) where
+module _ {V : Type 0} (count : ℕ) (s : Spelling V) where
   no_head : (xs : List ℕ) (budget : Option ℕ) → NoneRead (ReadsCountOf count) xs budget
-      → NoneRead (ReadsBehind count reads) xs budget
+      → NoneRead (ReadsBehind count s.reads) xs budget
   no_head xs budget none v n c r fits = none tt r.before 0 (r.head, refl) (fits_zero budget)
 
-  pub behind_no_head : {E : Type 0} {a : View} {e : DecodeError E}
-      → Refuses (ReadsCountOf count) a e → Refuses (ReadsBehind count reads) a e
-  behind_no_head {a = a} {e = e} s =
-      record { at = λ xs told. if_some (refusal_of e) (no_head xs a.budget) (s.at xs told) }
+  no_parts : (xs : List ℕ) (n : ℕ) (budget : Option ℕ) → ReadsHead 4 8 xs count n
+      → NoneRead s.reads (drop n xs) budget → NoneRead (ReadsBehind count s.reads) xs budget
+  no_parts xs n budget h none v k d r fits =
+      let same = (head_one 4 8 xs count count r.before n four_small r.head h).0 in
+      none v r.between d (subst (λ j. s.reads (drop j xs) v r.between d) same r.parts) fits
 
-  pub behind_at : {a m b : View} {v : V} → Kept a m → Sound (ReadsCountOf count) a m tt
-      → Sound reads m b v → Sound (ReadsBehind count reads) a b v
-  behind_at {a = a} kept h s = record {
-    at = λ xs told.
-        let p = h.at xs told in
-        let q = s.at (drop p.count xs) p.left in
+  pub head_err : {E : Type 0} {exact : Bool} {a m : View} {e : DecodeError E}
+      → DecodesIf exact (counted_head count) a m (Err e)
+      → DecodesIf exact (behind_spelling count s) a m (Err e)
+  head_err {a = a} d =
+      err_behind (counted_head count) (behind_spelling count s) (kept_alike a) (λ xs told. (
+        xs,
+        told,
         record {
-          count = p.count + q.count;
-          cost = q.cost;
-          read = record {
-            before = p.count;
-            head = p.read.0;
-            between = q.count;
-            parts = q.read;
-            size = refl;
-          };
-          fits = subst (CostFits q.cost) kept.budget q.fits;
-          left = q.left ∙ ap Some (drop_more q.count p.count xs);
-        };
-  }
+          none = λ is. no_head xs a.budget;
+          stops = λ z ys. inl;
+          begins = λ z ys. inl;
+        },
+      )) (λ owned. refl) (λ takes. (let no : false ≡ _ = takes in cc)) d
 
-  no_parts : (xs : List ℕ) (n c : ℕ) (old mid : Option ℕ) → ReadsCountOf count xs tt n c → mid ≡ old
-      → NoneRead reads (drop n xs) mid → NoneRead (ReadsBehind count reads) xs old
-  no_parts xs n c old mid h e none v k d r fits =
-      let same = (head_one 4 8 xs count count r.before n four_small r.head h.0).0 in
-      none v r.between d (subst (λ j. reads (drop j xs) v r.between d) same r.parts)
-      (subst (CostFits d) (sym e) fits)
-
-  pub refused_at : {E : Type 0} {a m : View} {e : DecodeError E} → Kept a m
-      → Sound (ReadsCountOf count) a m tt → ((xs : List ℕ) → a.told ≡ Some xs → Refuses reads m e)
-      → Refuses (ReadsBehind count reads) a e
-  refused_at {a = a} {m = m} {e = e} kept h s = record {
+  pub head_behind : {E : Type 0} {exact : Bool} {a m : View}
+      → Decodes {E = E} (counted_head count) a m (Ok tt)
+      → Leads exact s (behind_spelling count s) a m
+  head_behind {a = a} d = record {
+    kept = d.moves.by;
+    progress = λ some. d.progress refl;
+    owned = λ o. o;
+    memory = λ takes. takes;
     at = λ xs told.
-        let p = h.at xs told in
-        if_some (refusal_of e) (no_parts xs p.count p.cost a.budget m.budget p.read kept.budget)
-        ((s xs told).at (drop p.count xs) p.left);
+        let p = d.sound.at xs told in
+        let stop : (stops : StopsAt) (z : Refusal) (zs : List ℕ)
+        → stops (drop p.count xs) a.budget z zs
+        → StopsBehindKey (ReadsCountOf count) stops xs a.budget z zs =
+        λ stops z zs h. record {
+          whole = tt;
+          size = p.count;
+          cost = p.cost;
+          key = p.read;
+          fits = p.fits;
+          stop = h;
+        } in (
+          drop p.count xs,
+          p.left,
+          (λ v n c r fits. record {
+            count = p.count + n;
+            cost = c;
+            read = record {
+              before = p.count;
+              head = p.read.0;
+              between = n;
+              parts = r;
+              size = refl;
+            };
+            fits = fits;
+            left = drop_more n p.count xs;
+          }),
+          record {
+            none = λ is. no_parts xs p.count a.budget p.read.0;
+            stops = λ z zs h. inr (stop s.stops z zs h);
+            begins = λ z zs h. inr (stop s.begins z zs h);
+          },
+        );
   }

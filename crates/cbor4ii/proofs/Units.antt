@@ -10,7 +10,7 @@ use Rattle.cbor4ii_items.specs.Refusal.{Refusal, refusal_of, mismatch}
 use Rattle.cbor4ii_items.specs.Next.{ReadsNext, StopsNext}
 use Rattle.cbor4ii_items.specs.Decoding.{NoneRead, Sound, Refuses, Stops}
 use Rattle.cbor4ii_items.specs.Laws.Answering.{fits_zero, refuses_as}
-use Rattle.cbor4ii.specs.Laws.PartsRead.{always}
+use Rattle.cbor4ii_items.specs.Laws.Answering.{always}
 use Rattle.cbor4ii.specs.Tuples.{ReadsUnit, StopsUnit}
 use Rattle.cbor4ii.proofs.Looking.{Saw, none_begins}
 use Rattle.cbor4ii.proofs.Stopped.{stopped_as}

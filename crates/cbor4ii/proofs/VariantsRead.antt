@@ -7,7 +7,7 @@ use Rattle.cbor4ii_items.specs.Decoding.{Reads, CostFits, Sound}
 use Rattle.cbor4ii_items.specs.Moves.{Kept}
 use Rattle.cbor4ii_items.specs.Strings.{ReadsText, ReadsTextAs}
 use Rattle.cbor4ii_items.specs.Laws.Fronts.{drop_more}
-use Rattle.cbor4ii.specs.Laws.PairsRead.{pair_sound}
+use Rattle.cbor4ii_items.specs.Laws.Pairs.{pair_sound}
 use Rattle.cbor4ii_items.specs.Laws.UnderStep.{fits_step}
 use Rattle.cbor4ii.specs.Variants.{IsForm, OpensEnum, ReadsContent, ReadsVariant}
 

@@ -1,11 +1,14 @@
 -- How an accessor goes over the parts of an array or a map.
 use Rattle.std.specs.Prelude.{◌≡◌, ℕ, zero, suc, ◌+◌, ◌-◌, ◌<◌, ◌≤◌, ◌⊎◌, Bool, true, false, not}
-use Rattle.std.specs.Prelude.{if◌then◌else◌, Option, Some, None, Result, Ok, Err}
+use Rattle.std.specs.Prelude.{if◌then◌else◌, Option, Some, None, Result, Ok, Err, ◌≢◌}
+use Rattle.std.specs.Prelude.{IfOk, OnErr, OnSome}
 use Rattle.cbor4ii_rw.specs.View.{View}
 use Rattle.cbor4ii_rw.specs.Reader.{StepsIn, KeepsAllButBudget, step_back}
 use Rattle.cbor4ii_rw.specs.declared.error.DecodeError.{DecodeError}
 use Rattle.cbor4ii_items.specs.Moves.{Kept, Moves}
 use Rattle.cbor4ii_items.specs.Decoding.{Reads, StopsAt, Sound, Spelling, Decodes}
+use Rattle.cbor4ii_items.specs.Decoding.{looking_spelling}
+use Rattle.cbor4ii_items.specs.Containers.{SameOption}
 use Rattle.cbor4ii_items.specs.Lengths.{ReadsLength}
 use Rattle.cbor4ii_items.specs.Strings.{ReadsBreak, StopsBreak}
 use Rattle.cbor4ii.specs.declared.serde.de.deserializer.Deserializer.{Deserializer}
@@ -145,6 +148,58 @@ abbrev pub fuel : Left → ℕ → ℕ
 fuel (Counted count) bound = count
 fuel Open bound = bound
 fuel Ended bound = 0
+
+-- ---- what calls promise
+
+-- whether a part comes
+abbrev pub start_spelling : Left → Spelling Bool
+start_spelling left = looking_spelling (ReadsStart left) (StopsStart left)
+
+-- the next part, or the end
+abbrev pub next_spelling : {V : Type 0} → Left → Spelling V → Spelling (Option V)
+next_spelling left s = record {
+  reads = Next s.reads left;
+  same = SameOption s.same;
+  stops = StopsElement s.stops left;
+  begins = StopsElement s.begins left;
+  never_empty = false;
+  owned = s.owned;
+  takes_memory = s.takes_memory;
+  closed = false;
+}
+
+-- What an accessor holds behind a call that says whether a part comes.
+pub record Starts {S E F : Type 0} (view : S → View) (old new : Accessor S E)
+    (answer : Result Bool F) : Type 0 where
+  -- it reads from the same deserializer, and holds the same steps
+  pub same_reference : lender_of new ≡ lender_of old
+  pub same_steps : steps_held new ≡ steps_held old
+  -- a part that comes is counted off, and a break is taken
+  pub left : IfOk answer (λ more. LeftAfterStart (left_in old) (left_in new) more)
+  -- an error comes at an indefinite length alone, which stays
+  pub asked : OnErr answer (left_in old ≡ Open)
+  pub kept : OnErr answer (left_in new ≡ Open)
+  -- at a known length the reader is not asked
+  pub still : (left_in old ≢ Open) → inside view new ≡ inside view old
+
+-- What an accessor holds behind a call that reads the next part.
+pub record GoesOn {S E V F : Type 0} (view : S → View) (old new : Accessor S E)
+    (answer : Result (Option V) F) : Type 0 where
+  -- it reads from the same deserializer, and holds the same steps
+  pub same_reference : lender_of new ≡ lender_of old
+  pub same_steps : steps_held new ≡ steps_held old
+  -- the part is counted off, and a break is the end
+  pub left : IfOk answer (λ part. left_in new ≡ left_then (left_in old) part)
+  -- a refused part is counted off too, and one comes only where one may
+  pub tried : OnErr answer (left_in new ≡ left_tried (left_in old))
+  pub asked : OnErr answer (MayGoOn (left_in old))
+  -- at the end of a known length the reader is not asked
+  pub still : (left_in old ≢ Open) → IfOk answer (λ part. part ≡ None
+      → inside view new ≡ inside view old)
+  -- with each part less is left
+  pub shrinks : IfOk answer (λ part. OnSome part
+      (fuel (left_in new) (inside view new).bound + 1
+      ≤ fuel (left_in old) (inside view old).bound))
 
 -- what is left of a count
 abbrev pub hint : Left → Option ℕ

@@ -1,6 +1,5 @@
 -- Strings that are borrowed from the input.
-use Rattle.std.specs.Prelude.{ℕ, ◌≡◌, ◌⊎◌, List, drop, true, false, codes, refl, Result, IfOk}
-use Rattle.std.specs.Prelude.{IfErr}
+use Rattle.std.specs.Prelude.{ℕ, ◌≡◌, ◌⊎◌, List, drop, true, false, codes, Result, IfOk, IfErr}
 use Rattle.std.specs.Prelude.{IsErr, IsOkAnd, IsErrAnd, MatchResult}
 use denote.Ref.{Bor}
 use Rattle.cbor4ii_rw.specs.declared.error.DecodeError.{DecodeError as CoreError}
@@ -31,12 +30,12 @@ StopsUnlent {V} name reads stops xs budget refusal rest =
 -- a text of known length, and a byte string
 abbrev pub unlent_text : Promise (Bor (List ℕ))
 unlent_text = typed_by (StopsUnlent (codes "str") (ReadsTextAs cow_text) (StopsText (codes "str")))
-    false true (laws_of refl (lent_lawful (codes "str") 3 three_small true lent_str))
+    false true (laws_of (lent_lawful (codes "str") 3 three_small true lent_str))
 
 abbrev pub unlent_bytes : Promise (Bytes (Bor (List ℕ)))
 unlent_bytes = typed_by
     (StopsUnlent (codes "bytes") (ReadsAs 2 cow_bytes) (StopsString (codes "bytes") 2)) false true
-    (laws_of refl (lent_lawful (codes "bytes") 2 two_small false lent_bytes))
+    (laws_of (lent_lawful (codes "bytes") 2 two_small false lent_bytes))
 
 -- A string that was borrowed is handed on with its content. One that was copied is refused, and so
 -- is what was refused before.

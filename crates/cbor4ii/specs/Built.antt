@@ -1,11 +1,9 @@
 -- The map that pairs build.
-use Rattle.std.specs.Prelude.{◌≡◌, ℕ, List, [], ◌∷◌, true}
+use Rattle.std.specs.Prelude.{◌≡◌, List, [], ◌∷◌, true, false}
 use Rattle.std.specs.declared.cmp.Ordering.{Ordering}
 use Rattle.std.specs.BTreeMap.{insert_entry}
-use Rattle.cbor4ii_items.specs.Sequences.{ReadsSequence, ReadsPair, SamePair, SameParts}
-use Rattle.cbor4ii_items.specs.Laws.Sequences.{sequence_one, sequence_within, sequence_positive}
-use Rattle.cbor4ii.specs.Typed.{Lawful}
-use Rattle.cbor4ii.specs.Sequence.{five_small}
+use Rattle.cbor4ii_items.specs.Decoding.{Reads, Spelling, IsLawful}
+use Rattle.cbor4ii.specs.Typed.{not_exact}
 
 -- pairs put into entries, one behind another
 abbrev pub put_all : {K V : Type 0} → (K → K → Ordering) → List (K × V) → List (K × V)
@@ -18,32 +16,32 @@ abbrev pub built : {K V : Type 0} → (K → K → Ordering) → List (K × V) �
 built cmp ps = put_all cmp [] ps
 
 -- pairs are read, and the map is what they build
-abbrev pub ReadsBTreeMap : {K V M : Type 0} → (M → List (K × V)) → (K → K → Ordering)
-    → (List ℕ → K → ℕ → ℕ → Type 0) → (List ℕ → V → ℕ → ℕ → Type 0) → List ℕ → M → ℕ → ℕ → Type 0
-ReadsBTreeMap {K} {V} entries cmp key value xs m n c =
-    (ps : List (K × V)) × ReadsSequence 5 (ReadsPair key value) true xs ps n c
-    × (entries m ≡ built cmp ps)
+abbrev pub ReadsBuilt : {K V M : Type 0} → (M → List (K × V)) → (K → K → Ordering)
+    → Reads (List (K × V)) → Reads M
+ReadsBuilt {K} {V} entries cmp reads xs m n c =
+    (ps : List (K × V)) × reads xs ps n c × (entries m ≡ built cmp ps)
 
--- both are what the same pairs build
-abbrev pub SameBTreeMap : {K V M : Type 0} → (M → List (K × V)) → (K → K → Ordering)
-    → (K → K → Type 0) → (V → V → Type 0) → M → M → Type 0
-SameBTreeMap {K} {V} entries cmp same_key same_value m w =
-    (ps qs : List (K × V)) × SameParts (SamePair same_key same_value) ps qs
-    × (entries m ≡ built cmp ps) × (entries w ≡ built cmp qs)
+-- the same of a spelling; two maps are the same where the same pairs build both
+abbrev pub map_of : {K V M : Type 0} → (M → List (K × V)) → (K → K → Ordering)
+    → Spelling (List (K × V)) → Spelling M
+map_of {K} {V} entries cmp s = record {
+  reads = ReadsBuilt entries cmp s.reads;
+  same = λ m w. (ps qs : List (K × V)) × s.same ps qs
+      × (entries m ≡ built cmp ps) × (entries w ≡ built cmp qs);
+  stops = s.stops;
+  begins = s.begins;
+  never_empty = s.never_empty;
+  owned = s.owned;
+  takes_memory = true;
+  closed = false;
+}
 
-pub btree_laws : {K V M : Type 0} (entries : M → List (K × V)) (cmp : K → K → Ordering)
-    (key : List ℕ → K → ℕ → ℕ → Type 0) (value : List ℕ → V → ℕ → ℕ → Type 0)
-    (same_key : K → K → Type 0) (same_value : V → V → Type 0)
-    → Lawful (ReadsPair key value) (SamePair same_key same_value) true
-    → Lawful (ReadsBTreeMap entries cmp key value)
-    (SameBTreeMap entries cmp same_key same_value) true
-btree_laws entries cmp key value same_key same_value h = record {
-  one = λ xs v w n m c d p q. (
-      let e = sequence_one 5 five_small (ReadsPair key value) true (SamePair same_key same_value)
-      h.one xs p.0 q.0 n m c d p.1 q.1 in
+pub map_of_lawful : {K V M : Type 0} (entries : M → List (K × V)) (cmp : K → K → Ordering)
+    (s : Spelling (List (K × V))) → IsLawful s → IsLawful (map_of entries cmp s)
+map_of_lawful entries cmp s h = record {
+  one = λ xs v w n m c d p q. (let e = h.one xs p.0 q.0 n m c d p.1 q.1 in
       (e.0, e.1, (p.0, q.0, e.2, p.2, q.2)));
-  within =
-      λ xs v n c p. sequence_within 5 five_small (ReadsPair key value) true h.within xs p.0 n c p.1;
-  positive =
-      λ e xs v n c p. sequence_positive 5 five_small (ReadsPair key value) true xs p.0 n c p.1;
+  within = λ xs v n c p. h.within xs p.0 n c p.1;
+  positive = λ e xs v n c p. h.positive e xs p.0 n c p.1;
+  alone = not_exact;
 }

@@ -7,7 +7,7 @@ use Rattle.cbor4ii_items.specs.Decoding.{Reads, CostFits}
 use Rattle.cbor4ii_items.specs.Refusal.{Refusal}
 use Rattle.cbor4ii_items.specs.Strings.{ReadsText, ReadsTextAs, StopsText}
 use Rattle.cbor4ii_items.specs.Laws.Strings.{text_one, text_within, text_positive}
-use Rattle.cbor4ii.specs.Typed.{Lawful, in_words}
+use Rattle.cbor4ii.specs.Typed.{Lawful, in_words, not_exact}
 
 -- a text of one character
 abbrev pub ReadsChar : Reads ℕ
@@ -34,4 +34,5 @@ char_laws = record {
       (let e = text_one encode_utf8 xs v w n m c d p q in (e.0, e.1, char_same v w e.2));
   within = text_within encode_utf8;
   positive = λ _. text_positive encode_utf8;
+  alone = not_exact;
 }

@@ -1,10 +1,10 @@
 -- Structs that are read from their named fields: maps from names to values, in any order.
 use Rattle.std.proofs.Common.{◌≡◌, ◌≢◌, ◌⊎◌, inl, inr, ℕ, ◌≤◌, List, [], ◌∷◌, length, drop, Option}
-use Rattle.std.proofs.Common.{Some, Bool, true, false, sym, subst}
-use denote.Ref.{Bor}
+use Rattle.std.proofs.Common.{Some, Bool, true, false, Result, Ok, Err, sym, subst}
 use Rattle.cbor4ii_rw.specs.View.{View}
 use Rattle.std.specs.Prelude.{codes}
-use Rattle.cbor4ii_items.specs.Decoding.{Reads, StopsAt, CostFits, Sound}
+use Rattle.cbor4ii_rw.specs.declared.error.DecodeError.{DecodeError}
+use Rattle.cbor4ii_items.specs.Decoding.{Reads, StopsAt, CostFits, Spelling, Decodes, DecodesIf}
 use Rattle.cbor4ii.specs.Beginning.{StopsParts}
 use Rattle.cbor4ii_items.specs.Containers.{SameOption}
 use Rattle.cbor4ii_items.specs.Sequences.{ReadsSequence, ReadsPair, SamePair, SameParts}
@@ -18,7 +18,7 @@ use Rattle.cbor4ii_tree.specs.Ignored.{ReadsTree, StopsIgnored}
 use Rattle.cbor4ii_tree.specs.Laws.Ignoring.{tree_one, tree_within}
 use Rattle.cbor4ii.specs.Sequence.{five_small}
 use Rattle.cbor4ii.specs.Tuples.{pair_laws}
-use Rattle.cbor4ii.specs.Typed.{Lawful, not_exact}
+use Rattle.cbor4ii.specs.Typed.{Lawful, not_exact, typed_spelling}
 
 -- what stands behind a name, read as what becomes of a struct's values
 abbrev pub ReadsNamed : Type 0 → Type 1
@@ -101,30 +101,27 @@ StopsFields named stops =
 
 -- ---- what calls make of the values
 
--- a change was read, and made
-pub record Changes {V : Type 0} (reads : Reads (V → V)) (first last : V)
-    (old new : View) : Type 0 where
-  pub change : V → V
-  pub read : Sound reads old new change
-  pub is : last ≡ change first
+-- a change of the values, and changes one behind another
+abbrev pub made : {V : Type 0} → (V → V) → V → V
+made change values = change values
 
--- changes were read, and made one behind another
-pub record Fills {V : Type 0} (reads : Reads (List (V → V))) (first last : V)
-    (old new : View) : Type 0 where
-  pub changes : List (V → V)
-  pub read : Sound reads old new changes
-  pub is : last ≡ changed first changes
+abbrev pub all_made : {V : Type 0} → List (V → V) → V → V
+all_made changes values = changed values changes
 
--- fields by their names: of a type, and then others
-abbrev pub fields_by : {T V : Type 0} → Reads T → (List (Bor (List ℕ)) → ReadsNamed V)
-    → List (Bor (List ℕ)) → ReadsNamed (Option T × V)
-fields_by reads others [] = no_field
-fields_by reads others (own ∷ behind) = named_field own.now reads (others behind)
+-- it was read what becomes of the values, and that was made of them
+pub record Altered {W V : Type 0} (E : Type 0) (makes : W → V → V) (s : Spelling W)
+    (before after : V) (old new : View) : Type 0 where
+  pub what : W
+  pub read : Decodes {E = E} s old new (Ok what)
+  pub is : after ≡ makes what before
 
-abbrev pub stops_by : StopsAt → (List (Bor (List ℕ)) → StopsNamed) → List (Bor (List ℕ))
-    → StopsNamed
-stops_by stops others [] = no_field_stops
-stops_by stops others (own ∷ behind) = field_stops own.now stops (others behind)
+-- that, or it was refused
+abbrev pub Alters : {W V U E : Type 0} → (W → V → V) → Bool → Spelling W → V → V → View → View
+    → Result U (DecodeError E) → Type 0
+Alters {E = E} makes exact s before after old new (Ok u) = Altered E makes s before after old new
+Alters makes exact s before after old new (Err e) = DecodesIf exact s old new (Err e)
+
+-- ---- fields by their names
 
 -- the same by names alone
 abbrev pub fields_named : {T V : Type 0} → Reads T → (List (List ℕ) → ReadsNamed V)
@@ -159,6 +156,7 @@ no_field_laws same name = record {
       (let e = tree_one xs n m c d p.0 q.0 in (e.0, e.1, unchanged same g h p.1 q.1));
   within = λ xs g n c p. tree_within xs n c p.0;
   positive = λ e xs g n c p. not_exact e;
+  alone = not_exact;
 }
 
 module _ {T V : Type 0} (own : List ℕ) {reads : Reads T} {same : T → T → Type 0}
@@ -196,18 +194,8 @@ module _ {T V : Type 0} (own : List ℕ) {reads : Reads T} {same : T → T → T
     one = field_one name;
     within = field_within name;
     positive = λ e xs g n c p. not_exact e;
+    alone = not_exact;
   }
-
-pub fields_by_laws : {T V : Type 0} {reads : Reads T} {same : T → T → Type 0} {never_empty : Bool}
-    (others : List (Bor (List ℕ)) → ReadsNamed V) (same_others : V → V → Type 0)
-    → Lawful reads same never_empty
-    → ((names : List (Bor (List ℕ))) → NamedLaws same_others (others names))
-    → (names : List (Bor (List ℕ)))
-    → NamedLaws (SameField same same_others) (fields_by reads others names)
-fields_by_laws {same = same} others same_others laws behind [] =
-    no_field_laws (SameField same same_others)
-fields_by_laws others same_others laws behind (own ∷ names) =
-    field_laws own.now (others names) laws (behind names)
 
 pub fields_named_laws : {T V : Type 0} {reads : Reads T} {same : T → T → Type 0}
     {never_empty : Bool} (others : List (List ℕ) → ReadsNamed V) (same_others : V → V → Type 0)
@@ -227,7 +215,11 @@ name_laws = record {
   one = text_one text_content;
   within = text_within text_content;
   positive = λ e. text_positive text_content;
+  alone = not_exact;
 }
+
+abbrev pub name_spelling : Spelling (String Global)
+name_spelling = typed_spelling ReadsName SameName (StopsText (codes "str")) true true
 
 pub entry_laws : {V : Type 0} (same : V → V → Type 0) (named : ReadsNamed V) → NamedLaws same named
     → Lawful (ReadsEntry named) (SameChange same) true
@@ -244,6 +236,7 @@ entry_laws {V} same named laws =
           (e.0, e.1, e.2.1));
       within = λ xs g n c p. (pair (text_content p.0)).within xs (p.0, g) n c p.1;
       positive = λ e xs g n c p. (pair (text_content p.0)).positive e xs (p.0, g) n c p.1;
+      alone = not_exact;
     }
 
 -- the same changes of the same values make the same values
@@ -274,4 +267,5 @@ fields_laws {V} same first named is laws =
           sequence_within 5 five_small (ReadsEntry named) true entry.within xs p.0 n c p.1;
       positive =
           λ e xs v n c p. sequence_positive 5 five_small (ReadsEntry named) true xs p.0 n c p.1;
+      alone = not_exact;
     }

@@ -4,6 +4,3 @@ pub mod Accessors
 pub mod Any
 pub mod FieldsBack
 pub mod Variants
-pub mod PartsRead
-pub mod PairsRead
-pub mod SequencesRead

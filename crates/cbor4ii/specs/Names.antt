@@ -1,11 +1,15 @@
 -- Names of fields, found among some names.
 use Rattle.std.specs.Prelude.{◌≡◌, ◌≢◌, ℕ, zero, suc, ◌+◌, ◌≤◌, List, [], ◌∷◌, length, take, IsUtf8}
+use Rattle.std.specs.Prelude.{Option, Some, None, Result, Ok, Err}
 use denote.Ref.{Bor}
 use Rattle.cbor4ii_rw.specs.View.{View}
-use Rattle.cbor4ii_items.specs.Decoding.{Sound}
+use Rattle.cbor4ii_rw.specs.declared.error.DecodeError.{DecodeError}
+use Rattle.cbor4ii_items.specs.Decoding.{Sound, Decodes}
 use Rattle.cbor4ii_items.specs.Head.{IsBytes}
+use Rattle.cbor4ii_items.specs.Lent.{Stays}
 use Rattle.cbor4ii_items.specs.Moves.{Kept}
 use Rattle.cbor4ii_items.specs.Strings.{ReadsText}
+use Rattle.cbor4ii.specs.Fields.{name_spelling}
 use Rattle.cbor4ii.specs.ReadBack.{IsName}
 
 -- the first of the names that is this one stands at this place, which is behind them all where
@@ -28,9 +32,23 @@ pub record IsWholeName (names : List (Bor (List ℕ))) (shown : List ℕ) (at n 
   pub which : StandsAt name names at
 
 -- a name was taken, and has this place among the names
-pub record TakesName (names : List (Bor (List ℕ))) (at : ℕ) (old new : View) : Type 0 where
+pub record NameAt (names : List (Bor (List ℕ))) (at : ℕ) (old new : View) : Type 0 where
   pub name : List ℕ
   pub is : IsName name
   pub kept : Kept old new
+  pub progress : new.bound + 1 ≤ old.bound
   pub read : Sound ReadsText old new name
   pub which : StandsAt name names at
+
+-- that, or it was refused as a text is
+abbrev pub TakesName : {E : Type 0} → List (Bor (List ℕ)) → View → View
+    → Result ℕ (DecodeError E) → Type 0
+TakesName names old new (Ok at) = NameAt names at old new
+TakesName names old new (Err e) = Decodes name_spelling old new (Err e)
+
+-- the same of a name that is shown; where none is, nothing is taken
+abbrev pub TakesShown : {E : Type 0} → List (Bor (List ℕ)) → View → View
+    → Result (Option ℕ) (DecodeError E) → Type 0
+TakesShown names old new (Ok (Some at)) = NameAt names at old new
+TakesShown names old new (Ok None) = Stays old new
+TakesShown names old new (Err e) = Decodes name_spelling old new (Err e)

@@ -1,11 +1,10 @@
 -- What arrays and maps share, and arrays that are read as vectors.
-use Rattle.std.proofs.Common.{◌<◌, arith, true}
-use Rattle.std.specs.declared.alloc.Global.{Global}
-use Rattle.std.specs.declared.vec.Vec.{Vec}
-use Rattle.cbor4ii_items.specs.Decoding.{Reads}
-use Rattle.cbor4ii_items.specs.Sequences.{ReadsSequence, SameParts}
+use Rattle.std.proofs.Common.{ℕ, ◌<◌, arith, List}
+use Rattle.cbor4ii_items.specs.Decoding.{Spelling, IsLawful}
+use Rattle.cbor4ii_items.specs.Sequences.{inside_of}
 use Rattle.cbor4ii_items.specs.Laws.Sequences.{sequence_one, sequence_within, sequence_positive}
-use Rattle.cbor4ii.specs.Typed.{Lawful}
+use Rattle.cbor4ii.specs.Stepped.{stepped_spelling}
+use Rattle.cbor4ii.specs.Typed.{not_exact}
 
 -- the major types of arrays and maps
 pub four_small : 4 < 8
@@ -14,16 +13,17 @@ four_small = omega arith
 pub five_small : 5 < 8
 five_small = omega arith
 
-abbrev pub ReadsArray : {V : Type 0} → Reads V → Reads (Vec V Global)
-ReadsArray reads xs v n c = ReadsSequence 4 reads true xs v.items n c
+-- parts behind a head, under a step by this name
+abbrev pub sequence_of : {P W : Type 0} → (W → List P) → List ℕ → List ℕ → ℕ → Spelling P
+    → Spelling W
+sequence_of items step name major s = stepped_spelling step (inside_of items name major s)
 
-abbrev pub SameArray : {V : Type 0} → (V → V → Type 0) → Vec V Global → Vec V Global → Type 0
-SameArray same v w = SameParts same v.items w.items
-
-pub array_laws : {V : Type 0} (reads : Reads V) (same : V → V → Type 0) → Lawful reads same true
-    → Lawful (ReadsArray reads) (SameArray same) true
-array_laws reads same h = record {
-  one = λ xs v w. sequence_one 4 four_small reads true same h.one xs v.items w.items;
-  within = λ xs v. sequence_within 4 four_small reads true h.within xs v.items;
-  positive = λ some xs v. sequence_positive 4 four_small reads true xs v.items;
+pub sequence_of_lawful : {P W : Type 0} (items : W → List P) (step name : List ℕ) (major : ℕ)
+    → major < 8 → (s : Spelling P) → IsLawful s → IsLawful (sequence_of items step name major s)
+sequence_of_lawful items step name major small s h = record {
+  one = λ xs v w.
+      sequence_one major small s.reads s.never_empty s.same h.one xs (items v) (items w);
+  within = λ xs v. sequence_within major small s.reads s.never_empty h.within xs (items v);
+  positive = λ e xs v. sequence_positive major small s.reads s.never_empty xs (items v);
+  alone = not_exact;
 }

@@ -1,12 +1,16 @@
 -- What a struct that is read from its named fields promises, by what its fields do.
-use Rattle.std.specs.Prelude.{List, ℕ, ◌&&◌, Bool, true, None, Option, IsTrue, refl}
-use Rattle.cbor4ii_items.specs.Decoding.{Spelling, spelling_by}
+use Rattle.std.specs.Prelude.{List, [], ◌∷◌, ℕ, ◌&&◌, Bool, true, false, None, Option, IsTrue}
+use Rattle.std.specs.Prelude.{refl, codes}
+use denote.Ref.{Bor}
+use Rattle.cbor4ii_items.specs.Decoding.{Spelling, IsLawful, spelling_by}
+use Rattle.cbor4ii_items.specs.Sequences.{in_list}
 use Rattle.cbor4ii_items.specs.Laws.Containers.{both}
 use Rattle.cbor4ii_items.specs.Laws.Spellings.{lawful_by}
 use Rattle.cbor4ii.specs.Fields.{ReadsNamed, StopsNamed, NamedLaws, ReadsFields, StopsFields}
-use Rattle.cbor4ii.specs.Fields.{SameField}
+use Rattle.cbor4ii.specs.Fields.{SameField, SameChange, ReadsEntry, StopsEntry, entry_laws}
 use Rattle.cbor4ii.specs.Fields.{no_field, no_values, named_field, no_field_stops, field_stops}
 use Rattle.cbor4ii.specs.Fields.{no_field_laws, field_laws, fields_laws}
+use Rattle.cbor4ii.specs.Sequence.{sequence_of}
 use Rattle.cbor4ii.specs.Typed.{Promise, typed_spelling, typed_laws, lawful_as, said_by, any_two}
 
 -- the named fields of a struct, one behind another
@@ -47,6 +51,54 @@ field name p others = record {
   laws = λ is. (let h = both p.exact others.exact is in
       field_laws name others.named (typed_laws p h.0) (others.laws h.1));
 }
+
+-- none of them has a name
+abbrev pub unnamed : {T V : Type 0} → Promise T → Fields V → Fields (Option T × V)
+unnamed p others = record {
+  named = no_field;
+  stops = no_field_stops;
+  same = SameField p.spelling.same others.same;
+  first = (None, others.first);
+  owned = p.spelling.owned && others.owned;
+  exact = p.exact && others.exact;
+  alike = (tt, others.alike);
+  laws = λ is. no_field_laws (SameField p.spelling.same others.same);
+}
+
+-- fields by their names: of a type, and then others
+abbrev pub fields_by : {T V : Type 0} → Promise T → (List (Bor (List ℕ)) → Fields V)
+    → List (Bor (List ℕ)) → Fields (Option T × V)
+fields_by p others [] = unnamed p (others [])
+fields_by p others (own ∷ behind) = field own.now p (others behind)
+
+-- ---- how they are spelled
+
+-- what stands behind a name, as what becomes of the values
+abbrev pub behind_name : {V : Type 0} → Fields V → List ℕ → Spelling (V → V)
+behind_name fields name = record {
+  reads = fields.named name;
+  same = SameChange fields.same;
+  stops = fields.stops name;
+  begins = fields.stops name;
+  never_empty = false;
+  owned = fields.owned;
+  takes_memory = true;
+  closed = false;
+}
+
+-- a name, and what stands behind it
+abbrev pub entry_of : {V : Type 0} → Fields V → Spelling (V → V)
+entry_of fields =
+    typed_spelling (ReadsEntry fields.named) (SameChange fields.same) (StopsEntry fields.stops)
+    fields.owned true
+
+pub entry_lawful : {V : Type 0} (fields : Fields V) → IsTrue fields.exact
+    → IsLawful (entry_of fields)
+entry_lawful fields is = lawful_as (entry_laws fields.same fields.named (fields.laws is))
+
+-- a map of entries
+abbrev pub entries_of : {V : Type 0} → Fields V → Spelling (List (V → V))
+entries_of fields = sequence_of in_list (codes "map") (codes "map") 5 (entry_of fields)
 
 abbrev pub fields_spelling : {V : Type 0} → Fields V → Spelling V
 fields_spelling fields =

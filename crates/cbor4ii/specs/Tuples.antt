@@ -1,19 +1,21 @@
 -- Units and tuples.
-use Rattle.std.proofs.Common.{◌≡◌, ℕ, ◌+◌, List, [], ◌∷◌, take, drop, max, Bool, true}
-use Rattle.std.proofs.Common.{sym, ap, ◌∙◌, subst, arith}
+use Rattle.std.proofs.Common.{◌≡◌, ℕ, ◌+◌, List, [], ◌∷◌, take, drop, Bool, true, false, sym, ◌∙◌}
+use Rattle.std.proofs.Common.{subst, arith}
 use Rattle.std.proofs.lemmas.List.{length-drop}
 use Rattle.std.specs.Prelude.{◌||◌, ◌≢◌, ◌⊎◌, Option, Some, None, codes}
 use Rattle.cbor4ii_rw.specs.declared.error.Len.{Len}
 use Rattle.cbor4ii_rw.specs.declared.error.Len.TheVariants.{Small, Indefinite}
-use Rattle.cbor4ii_items.specs.Decoding.{Reads, StopsAt, Spelling, leaf_spelling}
+use Rattle.cbor4ii_items.specs.Decoding.{Reads, StopsAt, Spelling, IsLawful, leaf_spelling}
+use Rattle.cbor4ii_items.specs.Decoding.{spelling_by}
 use Rattle.cbor4ii_items.specs.Refusal.{Refusal, eof, mismatch, require_length, len_of}
 use Rattle.cbor4ii_items.specs.Lengths.{ReadsLength, StopsLength}
 use Rattle.cbor4ii_items.specs.Heads.{ReadsHead}
 use Rattle.cbor4ii_items.specs.Laws.Heads.{head_one, head_read}
-use Rattle.cbor4ii_items.specs.Sequences.{ReadsPair, SamePair}
-use Rattle.cbor4ii_items.specs.Laws.Sequences.{pair_within, pair_positive, one_byte}
+use Rattle.cbor4ii_items.specs.Sequences.{ReadsPair, SamePair, StopsPair, pair_spelling}
+use Rattle.cbor4ii_items.specs.Laws.Sequences.{pair_lawful, one_byte}
+use Rattle.cbor4ii_items.specs.Laws.Spellings.{lawful_by}
 use Rattle.cbor4ii.specs.Sequence.{four_small}
-use Rattle.cbor4ii.specs.Typed.{Lawful, any_two}
+use Rattle.cbor4ii.specs.Typed.{Lawful, reading, laws_of, any_two, not_exact}
 
 -- an array of no item, in one byte
 abbrev pub ReadsUnit : List ℕ → Unit {0} → ℕ → ℕ → Type 0
@@ -30,6 +32,7 @@ unit_laws = record {
   one = λ xs v w n m c d p q. (p.1 ∙ sym q.1, p.2 ∙ sym q.2, tt);
   within = λ xs v n c p. omega (arith, p.1, one_byte xs 0x80 p.0);
   positive = λ e xs v n c p. omega (arith, p.1);
+  alone = not_exact;
 }
 
 -- a head that counts so many, and what stands behind it
@@ -41,48 +44,15 @@ pub record ReadsBehind {V : Type 0} (count : ℕ) (reads : List ℕ → V → �
   pub parts : reads (drop before xs) v between c
   pub size : n ≡ before + between
 
-pub behind_laws : {V : Type 0} (count : ℕ) {reads : List ℕ → V → ℕ → ℕ → Type 0}
-    {same : V → V → Type 0} {never_empty : Bool} → Lawful reads same never_empty
-    → Lawful (ReadsBehind count reads) same true
-behind_laws count {reads = reads} h = record {
-  one = λ xs v w n m c d p q. (
-      let s = (head_one 4 8 xs count count p.before q.before four_small p.head q.head).0 in
-      let e = h.one (drop q.before xs) v w p.between q.between c d
-      (subst (λ j. reads (drop j xs) v p.between c) s p.parts) q.parts in
-      (omega (arith, s, p.size, q.size, e.0), e.1, e.2));
-  within = λ xs v n c p. (
-      let s = head_read [] 4 8 xs count p.before four_small p.head in
-      omega (
-        arith,
-        s.1,
-        p.size,
-        length-drop p.before xs,
-        h.within (drop p.before xs) v p.between c p.parts,
-      ));
-  positive = λ e xs v n c p. (
-      let s = head_read [] 4 8 xs count p.before four_small p.head in
-      omega (arith, s.2, p.size));
-}
-
 -- two parts, one behind the other
 pub pair_laws : {A B : Type 0} (first : List ℕ → A → ℕ → ℕ → Type 0)
     (second : List ℕ → B → ℕ → ℕ → Type 0) (same_first : A → A → Type 0)
     (same_second : B → B → Type 0) (some_first some_second : Bool)
     → Lawful first same_first some_first → Lawful second same_second some_second
     → Lawful (ReadsPair first second) (SamePair same_first same_second) (some_first || some_second)
-pair_laws first second same_first same_second some_first some_second h k = record {
-  one = λ xs v w n m c d p q. (
-      let e = h.one xs v.0 w.0 p.key_size q.key_size p.key_cost q.key_cost p.key q.key in
-      let f = k.one (drop q.key_size xs) v.1 w.1 p.value_size q.value_size p.value_cost q.value_cost
-      (subst (λ j. second (drop j xs) v.1 p.value_size p.value_cost) e.0 p.value) q.value in (
-        omega (arith, p.size, q.size, e.0, f.0),
-        p.cost ∙ (ap (λ j. max j p.value_cost) e.1
-            ∙ (ap (λ j. max q.key_cost j) f.1 ∙ sym q.cost)),
-        (e.2, f.2),
-      ));
-  within = pair_within first second h.within k.within;
-  positive = pair_positive first second some_first some_second h.positive k.positive;
-}
+pair_laws first second same_first same_second some_first some_second h k =
+    laws_of (pair_lawful (reading first same_first some_first)
+    (reading second same_second some_second) h k)
 
 -- a length, as a refusal tells it
 abbrev pub told_length : Option ℕ → Len
@@ -111,30 +81,57 @@ StopsCountOf count xs budget refusal rest =
 abbrev pub counted_head : ℕ → Spelling (Unit {0})
 counted_head count = leaf_spelling (ReadsCountOf count) (StopsCountOf count)
 
+-- a head that counts so many, and what stands behind it
+abbrev pub behind_spelling : {V : Type 0} → ℕ → Spelling V → Spelling V
+behind_spelling count s = record {
+  reads = ReadsBehind count s.reads;
+  same = s.same;
+  stops = StopsPair (ReadsCountOf count) (StopsCountOf count) s.stops;
+  begins = StopsPair (ReadsCountOf count) (StopsCountOf count) s.begins;
+  never_empty = true;
+  owned = s.owned;
+  takes_memory = s.takes_memory;
+  closed = false;
+}
+
+pub behind_lawful : {V : Type 0} (count : ℕ) (s : Spelling V) → IsLawful s
+    → IsLawful (behind_spelling count s)
+behind_lawful count s h = record {
+  one = λ xs v w n m c d p q. (
+      let i = (head_one 4 8 xs count count p.before q.before four_small p.head q.head).0 in
+      let e = h.one (drop q.before xs) v w p.between q.between c d
+      (subst (λ j. s.reads (drop j xs) v p.between c) i p.parts) q.parts in
+      (omega (arith, i, p.size, q.size, e.0), e.1, e.2));
+  within = λ xs v n c p. (
+      let i = head_read [] 4 8 xs count p.before four_small p.head in
+      omega (
+        arith,
+        i.1,
+        p.size,
+        length-drop p.before xs,
+        h.within (drop p.before xs) v p.between c p.parts,
+      ));
+  positive = λ e xs v n c p. (
+      let i = head_read [] 4 8 xs count p.before four_small p.head in
+      omega (arith, i.2, p.size));
+  alone = not_exact;
+}
+
 -- ---- three parts
 
--- three parts, one behind another
+abbrev pub three : {A B C : Type 0} → A × B × C → A × (B × C)
+three t = (t.0, (t.1, t.2))
+
 abbrev pub ReadsTriple : {A B C : Type 0} → Reads A → Reads B → Reads C → Reads (A × B × C)
-ReadsTriple first second third xs t n c =
-    ReadsPair first (ReadsPair second third) xs (t.0, (t.1, t.2)) n c
+ReadsTriple first second third xs t = ReadsPair first (ReadsPair second third) xs (three t)
 
-abbrev pub SameTriple : {A B C : Type 0} → (A → A → Type 0) → (B → B → Type 0) → (C → C → Type 0)
-    → A × B × C → A × B × C → Type 0
-SameTriple first second third t u = first t.0 u.0 × (second t.1 u.1 × third t.2 u.2)
+-- three parts, one behind another
+abbrev pub triple_spelling : {A B C : Type 0} → Spelling A → Spelling B → Spelling C
+    → Spelling (A × B × C)
+triple_spelling a b c = spelling_by three (pair_spelling a (pair_spelling b c))
 
-pub triple_laws : {A B C : Type 0} (first : Reads A) (second : Reads B) (third : Reads C)
-    (same_first : A → A → Type 0) (same_second : B → B → Type 0) (same_third : C → C → Type 0)
-    (some_first some_second some_third : Bool)
-    → Lawful first same_first some_first → Lawful second same_second some_second
-    → Lawful third same_third some_third → Lawful (ReadsTriple first second third)
-    (SameTriple same_first same_second same_third) (some_first || (some_second || some_third))
-triple_laws first second third same_first same_second same_third some_first some_second some_third f
-    s t =
-    let inner = pair_laws second third same_second same_third some_second some_third s t in
-    let whole = pair_laws first (ReadsPair second third) same_first
-    (SamePair same_second same_third) some_first (some_second || some_third) f inner in
-    record {
-      one = λ xs v w. whole.one xs (v.0, (v.1, v.2)) (w.0, (w.1, w.2));
-      within = λ xs v. whole.within xs (v.0, (v.1, v.2));
-      positive = λ e xs v. whole.positive e xs (v.0, (v.1, v.2));
-    }
+pub triple_lawful : {A B C : Type 0} (a : Spelling A) (b : Spelling B) (c : Spelling C)
+    → IsLawful a → IsLawful b → IsLawful c → IsLawful (triple_spelling a b c)
+triple_lawful a b c f g h =
+    lawful_by three (pair_spelling a (pair_spelling b c))
+    (pair_lawful a (pair_spelling b c) f (pair_lawful b c g h))

@@ -1,7 +1,8 @@
 -- What reading a typed value answers, told in the codec's own words.
-use Rattle.std.specs.Prelude.{ℕ, ◌≡◌, ◌+◌, ◌^◌, ◌≤◌, List, length, Bool, true, false, IsTrue}
-use Rattle.std.specs.Prelude.{Result}
-use Rattle.std.specs.Prelude.{Ok, Err, OnOk, IfOk, IfErr, refl}
+use Rattle.std.specs.Prelude.{ℕ, ◌≡◌, ◌+◌, ◌^◌, ◌≤◌, List, Bool, true, false, IsTrue, Result, Ok}
+use Rattle.std.specs.Prelude.{Err, OnOk, IfOk, IfErr, refl}
+use Rattle.std.specs.declared.alloc.Global.{Global}
+use Rattle.std.specs.declared.vec.Vec.{Vec}
 use Rattle.cbor4ii_rw.specs.View.{View}
 use Rattle.cbor4ii_rw.specs.declared.error.DecodeError.{DecodeError as CoreError}
 use Rattle.cbor4ii_rw.specs.declared.error.DecodeError.TheVariants.{Custom as CoreCustom}
@@ -34,6 +35,12 @@ as_core (Custom text) = CoreCustom text no_number
 abbrev pub answer_of : {V E : Type 0} → Result V (DecodeError E) → Result V (CoreError E)
 answer_of (Ok v) = Ok v
 answer_of (Err error) = Err (as_core error)
+
+-- the same of a vector, by its parts
+abbrev pub parts_answer : {P E : Type 0} → Result (Vec P Global) (DecodeError E)
+    → Result (List P) (CoreError E)
+parts_answer (Ok v) = Ok v.items
+parts_answer (Err error) = Err (as_core error)
 
 -- ---- what a type promises
 
@@ -133,27 +140,44 @@ pub record Deserializes {V E : Type 0} (promise : Promise V) (old new : View)
 
 -- ---- laws
 
+-- a reading alone, of whose refusals nothing is said
+abbrev pub reading : {V : Type 0} → Reads V → (V → V → Type 0) → (never_empty : Bool) → Spelling V
+reading reads same never_empty = record {
+  reads = reads;
+  same = same;
+  stops = unsaid_stops;
+  begins = unsaid_stops;
+  never_empty = never_empty;
+  owned = true;
+  takes_memory = true;
+  closed = false;
+}
+
 -- One input is read in one way, what is read stands in the input, and where no reading is empty a
 -- byte is read.
-pub record Lawful {V : Type 0} (reads : List ℕ → V → ℕ → ℕ → Type 0) (same : V → V → Type 0)
-    (never_empty : Bool) : Type 0 where
-  pub one : (xs : List ℕ) (v w : V) (n m c d : ℕ) → reads xs v n c → reads xs w m d
-      → (n ≡ m) × (c ≡ d) × same v w
-  pub within : (xs : List ℕ) (v : V) (n c : ℕ) → reads xs v n c → n ≤ length xs
-  pub positive : IsTrue never_empty → (xs : List ℕ) (v : V) (n c : ℕ) → reads xs v n c → 1 ≤ n
+abbrev pub Lawful : {V : Type 0} → Reads V → (V → V → Type 0) → (never_empty : Bool) → Type 0
+Lawful reads same never_empty = IsLawful (reading reads same never_empty)
 
--- the laws of a spelling that reads a byte
-pub laws_of : {V : Type 0} {spelling : Spelling V} → IsTrue spelling.never_empty
-    → IsLawful spelling → Lawful spelling.reads spelling.same true
-laws_of some h = record {
+-- a spelling that says nothing else of what is read has these laws too
+pub laws_of : {V : Type 0} {spelling : Spelling V} → IsLawful spelling
+    → Lawful spelling.reads spelling.same spelling.never_empty
+laws_of h = record {
   one = h.one;
   within = h.within;
-  positive = λ _. h.positive some;
+  positive = h.positive;
+  alone = not_exact;
 }
 
 pub typed_laws : {V : Type 0} (promise : Promise V) → IsTrue promise.exact
     → Lawful promise.spelling.reads promise.spelling.same true
-typed_laws promise is = laws_of promise.some (promise.lawful is)
+typed_laws promise is =
+    let h = promise.lawful is in
+    record {
+      one = h.one;
+      within = h.within;
+      positive = λ _. h.positive promise.some;
+      alone = not_exact;
+    }
 
 -- a type that has these laws
 pub lawful_as : {V : Type 0} {reads : Reads V} {same : V → V → Type 0} {stops : StopsAt}
@@ -165,12 +189,6 @@ lawful_as h = record {
   positive = h.positive;
   alone = not_exact;
 }
-
--- one input is read to one end
-pub size_of : {V : Type 0} {reads : Reads V} {same : V → V → Type 0} {never_empty : Bool}
-    → Lawful reads same never_empty → (xs : List ℕ) (p q : V) (n m c d : ℕ) → reads xs p n c
-    → reads xs q m d → n ≡ m
-size_of h xs p q n m c d r s = (h.one xs p q n m c d r s).0
 
 -- an exact type that has these laws
 abbrev pub typed_by : {V : Type 0} {reads : Reads V} {same : V → V → Type 0} → StopsAt

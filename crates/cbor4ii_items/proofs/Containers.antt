@@ -1,6 +1,7 @@
 -- Optional and tagged items, one part after another.
 use Rattle.std.proofs.Common.{◌≡◌, ◌≢◌, ℕ, ◌+◌, ◌≤◌, inl, inr, List, [], ◌∷◌, length, take, drop}
-use Rattle.std.proofs.Common.{Option, Some, None, Ok, Err, false, refl, sym, ap, ◌∙◌, subst, arith}
+use Rattle.std.proofs.Common.{Option, Some, None, Ok, Err, true, false, refl, sym, ap, ◌∙◌, subst}
+use Rattle.std.proofs.Common.{arith}
 use Rattle.std.specs.Prelude.{codes}
 use Rattle.cbor4ii_rw.specs.View.{View, Told}
 use Rattle.cbor4ii_rw.specs.declared.error.DecodeError.{DecodeError}
@@ -8,7 +9,8 @@ use Rattle.cbor4ii_items.specs.Refusal.{Refusal, is_out_of_memory}
 use Rattle.cbor4ii_items.specs.Reading.{Runs, peek_at}
 use Rattle.cbor4ii_items.specs.Decoding.{Reads, StopsAt, NoneRead, Spelling, Decodes}
 use Rattle.cbor4ii_items.specs.Containers.{BeginsNull, ReadsOption, StopsOption}
-use Rattle.cbor4ii_items.specs.Laws.Calls.{Refused, err_of, ok_behind, err_behind}
+use Rattle.cbor4ii_items.specs.Laws.Calls.{Refused, err_of, ok_behind, err_behind, of_exact}
+use Rattle.cbor4ii_items.specs.Laws.Calls.{exactly}
 use Rattle.cbor4ii_items.specs.Laws.Containers.{option_spelling, not_null, no_option}
 use Rattle.cbor4ii_items.specs.Laws.Outcome.{same_refusal}
 use Rattle.cbor4ii_items.specs.Laws.Running.{peeked, kept_alike}
@@ -52,11 +54,11 @@ no_bytes reads budget (Some v) n c r fits = absurd (omega (arith, r.1))
 
 refused_end : {V : Type 0} (s : Spelling V) (xs : List ℕ) (budget : Option ℕ) (z : Refusal)
     (ys : List ℕ) → peek_at (codes "option") 1 xs ≡ Err (z, ys)
-    → Refused (option_spelling s) xs budget z ys
+    → Refused true (option_spelling s) xs budget z ys
 refused_end s (x ∷ xs) budget z ys e = cc
 refused_end s [] budget z ys e =
     let r = same_refusal (peek_at (codes "option") 1 []) refl e in record {
-      none = no_bytes s.reads budget;
+      none = λ is. no_bytes s.reads budget;
       stops = (sym r.0, sym r.1);
       begins = (sym r.0, sym r.1);
     }
@@ -71,7 +73,7 @@ module _ {V E : Type 0} (s : Spelling V) {a m : View} where
   pub option_end : {e : DecodeError E} → Runs {V = ℕ} (peek_at (codes "option") 1) a m (Err e)
       → is_out_of_memory e ≡ false → Decodes (option_spelling s) a m (Err e)
   option_end p memory =
-      err_of (option_spelling s) p memory (λ xs. refused_end s xs a.budget)
+      exactly (err_of (option_spelling s) p memory (λ xs. refused_end s xs a.budget))
 
   module _ {b : View} {first : ℕ} (p : Runs {E = E} (peek_at (codes "option") 1) a m (Ok first))
       (not_null_byte : first ≢ 0xf6) (not_undefined : first ≢ 0xf7) where
@@ -92,17 +94,17 @@ module _ {V E : Type 0} (s : Spelling V) {a m : View} where
 
     pub option_err : {e : DecodeError E} → Decodes s m b (Err e)
         → Decodes (option_spelling s) a b (Err e)
-    option_err d = err_behind s (option_spelling s) p.moves.by (λ xs told.
+    option_err d = exactly (err_behind s (option_spelling s) p.moves.by (λ xs told.
         let f = (saw _ _ _ p).first xs told in
         let other = not_null xs first f.1 not_null_byte not_undefined in (
           xs,
           f.0,
           record {
-            none = no_option s.reads xs a.budget a.budget refl other;
+            none = λ is. no_option s.reads xs a.budget a.budget refl other;
             stops = λ z ys. stops_some s.stops xs a.budget z ys f.2 other;
             begins = λ z ys. stops_some s.begins xs a.budget z ys f.2 other;
           },
-        )) (λ owned. owned) (λ takes. takes) d
+        )) (λ owned. owned) (λ takes. takes) (of_exact d))
 
 -- ---- a tagged item
 
@@ -118,16 +120,16 @@ module _ {V E : Type 0} (s : Spelling V) {a m : View} where
       → Decodes (argument_spelling (codes "tag") 6 8) a m (Err e)
       → Decodes (tag_spelling s) a m (Err e)
   tag_head_err d =
-      err_behind (argument_spelling (codes "tag") 6 8) (tag_spelling s) (kept_alike a)
+      exactly (err_behind (argument_spelling (codes "tag") 6 8) (tag_spelling s) (kept_alike a)
       (λ xs told. (
         xs,
         told,
         record {
-          none = λ none t n c q fits. none t.0 q.before 0 (q.head, refl) (fits_zero a.budget);
+          none = λ is none t n c q fits. none t.0 q.before 0 (q.head, refl) (fits_zero a.budget);
           stops = λ z ys. inl;
           begins = λ z ys. inl;
         },
-      )) (λ owned. refl) (λ takes. cc) d
+      )) (λ owned. refl) (λ takes. cc) (of_exact d))
 
   module _ {b : View} {k : ℕ}
       (d : Decodes {E = E} (argument_spelling (codes "tag") 6 8) a m (Ok k)) where
@@ -154,7 +156,7 @@ module _ {V E : Type 0} (s : Spelling V) {a m : View} where
 
     pub tag_err : {e : DecodeError E} → Decodes s m b (Err e)
         → Decodes (tag_spelling s) a b (Err e)
-    tag_err h = err_behind s (tag_spelling s) d.moves.by (λ xs told.
+    tag_err h = exactly (err_behind s (tag_spelling s) d.moves.by (λ xs told.
         let p = d.sound.at xs told in
         let stop : (stops : StopsAt) (z : Refusal) (ys : List ℕ)
         → stops (drop p.count xs) a.budget z ys → StopsBehindTag stops xs a.budget z ys =
@@ -162,8 +164,8 @@ module _ {V E : Type 0} (s : Spelling V) {a m : View} where
           drop p.count xs,
           p.left,
           record {
-            none = no_tag s xs k p.count a.budget p.read.0;
+            none = λ is. no_tag s xs k p.count a.budget p.read.0;
             stops = λ z ys f. inr (stop s.stops z ys f);
             begins = λ z ys f. inr (stop s.begins z ys f);
           },
-        )) (λ owned. owned) (λ takes. takes) h
+        )) (λ owned. owned) (λ takes. takes) (of_exact h))

@@ -1,6 +1,6 @@
 -- A call that does what a program does reads what the program reads.
 use Rattle.std.proofs.Common.{◌≡◌, ℕ, ◌≤◌, List, length, drop, take, Option, Result, Ok, Err, refl}
-use Rattle.std.proofs.Common.{sym, IfOk, IfErr}
+use Rattle.std.proofs.Common.{IfOk, IfErr}
 use Rattle.cbor4ii_rw.specs.View.{View}
 use Rattle.cbor4ii_rw.specs.declared.error.DecodeError.{DecodeError}
 use Rattle.cbor4ii_items.specs.Head.{IsBytes}

@@ -1,7 +1,7 @@
 -- Arrays of no item or one, one part after another.
 use Rattle.std.proofs.Common.{◌≡◌, ℕ, zero, suc, ◌+◌, ◌≤◌, inl, inr, List, [], length, drop, take}
 use Rattle.std.proofs.Common.{Option, Some, None, Ok, Err, Bool, true, false, refl, sym, ap, ◌∙◌}
-use Rattle.std.proofs.Common.{subst, arith, IfSome}
+use Rattle.std.proofs.Common.{subst, arith}
 use Rattle.std.specs.Prelude.{codes}
 use Rattle.cbor4ii_rw.specs.View.{View}
 use Rattle.cbor4ii_rw.specs.declared.error.DecodeError.{DecodeError}
@@ -18,10 +18,10 @@ use Rattle.cbor4ii_items.specs.Laws.Strings.{length_known}
 use Rattle.cbor4ii_items.specs.Laws.Fronts.{drop_more}
 use Rattle.cbor4ii_items.specs.Laws.Arguments.{ReadBy}
 use Rattle.cbor4ii_items.specs.Maybe.{ReadsFew, ReadsMaybe, StopsFew, few_head_refused, few_open}
-use Rattle.cbor4ii_items.specs.Maybe.{few_other, maybe_head_refused, maybe_item_refused}
-use Rattle.cbor4ii_items.specs.Maybe.{few_by, few_at, few_spelling}
+use Rattle.cbor4ii_items.specs.Maybe.{few_other, maybe_head_refused, maybe_item_refused, few_by}
+use Rattle.cbor4ii_items.specs.Maybe.{few_at, few_spelling}
 use Rattle.cbor4ii_items.specs.Laws.Maybe.{two_counts, maybe_spelling}
-use Rattle.cbor4ii_items.specs.Laws.Calls.{ok, ok_behind, err_behind}
+use Rattle.cbor4ii_items.specs.Laws.Calls.{ok, ok_behind, err_behind, of_exact, exactly}
 use Rattle.cbor4ii_items.specs.Laws.Running.{kept_alike}
 use Rattle.cbor4ii_items.specs.Laws.Answering.{fits_zero}
 use Rattle.cbor4ii_items.proofs.Leaves.{IsLeaf}
@@ -111,15 +111,16 @@ module _ {V : Type 0} (s : Spelling V) where
 module _ {V E : Type 0} (s : Spelling V) {a m : View} where
   pub maybe_head_err : {e : DecodeError E} → Decodes few_spelling a m (Err e)
       → Decodes (maybe_spelling s) a m (Err e)
-  maybe_head_err d = err_behind few_spelling (maybe_spelling s) (kept_alike a) (λ xs told. (
-    xs,
-    told,
-    record {
-      none = λ none v. no_few s xs a.budget none v.0;
-      stops = λ z ys. maybe_head_refused;
-      begins = λ z ys. maybe_head_refused;
-    },
-  )) (λ owned. refl) (λ takes. cc) d
+  maybe_head_err d =
+      exactly (err_behind few_spelling (maybe_spelling s) (kept_alike a) (λ xs told. (
+        xs,
+        told,
+        record {
+          none = λ is none v. no_few s xs a.budget none v.0;
+          stops = λ z ys. maybe_head_refused;
+          begins = λ z ys. maybe_head_refused;
+        },
+      )) (λ owned. refl) (λ takes. cc) (of_exact d))
 
   module _ {follows : Bool} (d : Decodes {E = E} few_spelling a m (Ok follows)) where
     pub maybe_none : follows ≡ false
@@ -161,14 +162,14 @@ module _ {V E : Type 0} (s : Spelling V) {a m : View} where
 
       pub maybe_err : {e : DecodeError E} → Decodes s m b (Err e)
           → Decodes (maybe_spelling s) a b (Err e)
-      maybe_err h = err_behind s (maybe_spelling s) d.moves.by (λ xs told.
+      maybe_err h = exactly (err_behind s (maybe_spelling s) d.moves.by (λ xs told.
           let p = d.sound.at xs told in
           let one = subst (λ w. ReadsFew xs w p.count p.cost) yes p.read in (
             drop p.count xs,
             p.left,
             record {
-              none = λ none v. no_item s xs p.count a.budget one.0 none v.0;
+              none = λ is none v. no_item s xs p.count a.budget one.0 none v.0;
               stops = λ z ys. maybe_item_refused p.count one.0;
               begins = λ z ys. maybe_item_refused p.count one.0;
             },
-          )) (λ owned. owned) (λ takes. takes) h
+          )) (λ owned. owned) (λ takes. takes) (of_exact h))

@@ -1,7 +1,6 @@
--- What a sequence's head, its parts and its step answer together.
-use Rattle.std.proofs.Common.{◌≡◌, ℕ, ◌+◌, ◌<◌, ◌≤◌, inl, inr, List, [], ◌∷◌, length, drop, take}
-use Rattle.std.proofs.Common.{Option, Some, None, Result, Ok, Err, true, false, refl, sym, ap}
-use Rattle.std.proofs.Common.{◌∙◌, subst, arith, IfSome}
+-- A sequence under its step.
+use Rattle.std.proofs.Common.{◌≡◌, ℕ, ◌+◌, List, Option, Some, Result, Ok, Err, true, false, refl}
+use Rattle.std.proofs.Common.{sym, ◌∙◌, subst, arith, IfSome}
 use Rattle.std.specs.declared.alloc.Global.{Global}
 use Rattle.std.specs.declared.vec.Vec.{Vec}
 use Rattle.cbor4ii_rw.specs.View.{View}
@@ -9,138 +8,15 @@ use Rattle.cbor4ii_rw.specs.Reader.{KeepsAllButBudget, StepsIn, step_back}
 use Rattle.cbor4ii_rw.specs.declared.error.DecodeError.{DecodeError}
 use Rattle.cbor4ii_rw.specs.declared.error.DecodeError.TheVariants.{DepthOverflow}
 use denote.Ref.{Bor}
-use Rattle.cbor4ii_items.specs.Head.{open_head}
-use Rattle.cbor4ii_items.specs.Heads.{ReadsHead}
-use Rattle.cbor4ii_items.specs.Refusal.{Refusal, refusal_of, is_out_of_memory}
+use Rattle.cbor4ii_items.specs.Refusal.{Refusal, refusal_of}
 use Rattle.cbor4ii_items.specs.Moves.{Moves}
-use Rattle.cbor4ii_items.specs.Reading.{Runs}
-use Rattle.cbor4ii_items.specs.ReadHead.{length_at}
-use Rattle.cbor4ii_items.specs.Decoding.{StopsAt, CostFits, NoneRead, Spelling, Decodes}
-use Rattle.cbor4ii_items.specs.Sequences.{ReadsParts}
-use Rattle.cbor4ii_items.specs.Sequences.{StopsInside, StopsSequence}
-use Rattle.cbor4ii_items.specs.Sequences.{counted_refused, open_refused, length_refused}
-use Rattle.cbor4ii_items.specs.Sequences.{no_step, under_step}
-use Rattle.cbor4ii_items.specs.Sequences.{count_spelling, open_spelling, inside_spelling}
-use Rattle.cbor4ii_items.specs.Sequences.{sequence_spelling}
-use Rattle.cbor4ii_items.specs.Laws.Answering.{same_some, if_some}
-use Rattle.cbor4ii_items.specs.Laws.Calls.{stops_as, err, err_of, Leads}
-use Rattle.cbor4ii_items.specs.Laws.Fronts.{drop_more}
-use Rattle.cbor4ii_items.specs.Laws.Heads.{head_one, read_head}
-use Rattle.cbor4ii_items.specs.Laws.ProgramEnds.{length_some, length_none}
-use Rattle.cbor4ii_items.specs.Laws.Strings.{head_not_open, length_known, length_open}
+use Rattle.cbor4ii_items.specs.Decoding.{StopsAt, CostFits, Spelling, Decodes}
+use Rattle.cbor4ii_items.specs.Sequences.{StopsInside, StopsSequence, no_step, under_step}
+use Rattle.cbor4ii_items.specs.Sequences.{inside_spelling, sequence_spelling}
+use Rattle.cbor4ii_items.specs.Laws.Answering.{if_some}
+use Rattle.cbor4ii_items.specs.Laws.Calls.{stops_as, err}
 use Rattle.cbor4ii_items.specs.Laws.UnderStep.{exact_step, fits_inside, fits_step, moves_stepped}
 use Rattle.cbor4ii_items.specs.Laws.UnderStep.{no_step as none_left, stepped}
-use Rattle.cbor4ii_items.proofs.StringsRead.{no_length}
-
--- ---- the head
-
-module _ {P : Type 0} (name : List ℕ) (major : ℕ) (s : Spelling P) (small : major < 8) where
-  counted_none : (xs : List ℕ) (count n : ℕ) (budget : Option ℕ) → ReadsHead major 8 xs count n
-      → NoneRead (count_spelling s count).reads (drop n xs) budget
-      → NoneRead (inside_spelling name major s).reads xs budget
-  counted_none xs count n budget h none v k c read fits = elim read [
-    | inl r ↦ (let same = head_one major 8 xs (length v.items) count r.before n small r.head h in
-        none v r.between c
-        (same.1, subst (λ i. ReadsParts s.reads (drop i xs) v.items r.between c) same.0 r.parts)
-        fits)
-    | inr r ↦ head_not_open major xs count n small h r.begins
-  ]
-
-  opened_none : (xs : List ℕ) (budget : Option ℕ) → take 1 xs ≡ open_head major ∷ []
-      → NoneRead (open_spelling name s).reads (drop 1 xs) budget
-      → NoneRead (inside_spelling name major s).reads xs budget
-  opened_none xs budget h none v k c read fits = elim read [
-    | inl r ↦ head_not_open major xs (length v.items) r.before small r.head h
-    | inr r ↦ none v r.between c r.parts fits
-  ]
-
-  no_head : (xs : List ℕ) (z : Refusal) (ys : List ℕ) (budget : Option ℕ)
-      → length_at name major xs ≡ Err (z, ys)
-      → NoneRead (inside_spelling name major s).reads xs budget
-  no_head xs z ys budget g v n c read fits = elim read [
-    | inl r ↦ (let f = length_known name major xs (length v.items) r.before small r.head in cc)
-    | inr r ↦ (let f = length_open name major xs r.begins in cc)
-  ]
-
-  pub head_err : {E : Type 0} {a m : View} {e : DecodeError E}
-      → Runs {V = Option ℕ} (length_at name major) a m (Err e) → is_out_of_memory e ≡ false
-      → Decodes (inside_spelling name major s) a m (Err e)
-  head_err {a = a} p memory = err_of (inside_spelling name major s) p memory (λ xs z ys f.
-      let h = no_length name major xs z ys f in record {
-        none = no_head xs z ys a.budget f;
-        stops = length_refused h.0 h.1;
-        begins = length_refused h.0 h.1;
-      })
-
-  -- a head that counts
-  pub counts : {E : Type 0} {a m : View} {l : Option ℕ} {count : ℕ} → l ≡ Some count
-      → Runs {E = E} (length_at name major) a m (Ok l) → m.bound + 1 ≤ a.bound
-      → Leads (count_spelling s count) (inside_spelling name major s) a m
-  counts {a = a} {m = m} {count = count} is p progress = record {
-    kept = p.moves.by;
-    progress = λ some. progress;
-    owned = λ o. o;
-    memory = λ takes. takes;
-    at = λ xs told.
-        let h = p.answers xs told in
-        let t = p.moves.by.rest xs told in
-        let e : h.0 ≡ drop t.0 xs = same_some _ _ m.told h.1 t.1.left in
-        let f = length_some name major count xs h.0 (h.2 ∙ ap (λ (o : Option ℕ). Ok (o, h.0)) is)
-        ∙ ap (λ (zs : List ℕ). Ok (count, zs)) e in
-        let head = read_head name major 8 xs count t.0 f t.1.within t.1.bytes in (
-          drop t.0 xs,
-          t.1.left,
-          (λ v n c r fits. record {
-            count = t.0 + n;
-            cost = c;
-            read = inl (record {
-              before = t.0;
-              head = subst (λ j. ReadsHead major 8 xs j t.0) (sym r.0) head;
-              between = n;
-              parts = r.1;
-              size = refl;
-            });
-            fits = fits;
-            left = drop_more n t.0 xs;
-          }),
-          record {
-            none = counted_none xs count t.0 a.budget head;
-            stops = λ z zs. counted_refused count t.0 head;
-            begins = λ z zs. counted_refused count t.0 head;
-          },
-        );
-  }
-
-  -- the first byte of an indefinite length
-  pub opens : {E : Type 0} {a m : View} {l : Option ℕ} → l ≡ None
-      → Runs {E = E} (length_at name major) a m (Ok l) → m.bound + 1 ≤ a.bound
-      → Leads (open_spelling name s) (inside_spelling name major s) a m
-  opens {a = a} is p progress = record {
-    kept = p.moves.by;
-    progress = λ some. progress;
-    owned = λ o. o;
-    memory = λ takes. takes;
-    at = λ xs told.
-        let h = p.answers xs told in
-        let f = length_none name major xs h.0 (h.2 ∙ ap (λ (o : Option ℕ). Ok (o, h.0)) is) in (
-          drop 1 xs,
-          h.1 ∙ ap Some f.1,
-          (λ v n c r fits. record {
-            count = 1 + n;
-            cost = c;
-            read = inr (record { begins = f.0; between = n; parts = r; size = refl });
-            fits = fits;
-            left = drop_more n 1 xs;
-          }),
-          record {
-            none = opened_none xs a.budget f.0;
-            stops = λ z zs. open_refused f.0;
-            begins = λ z zs. open_refused f.0;
-          },
-        );
-  }
-
--- ---- the step
 
 module _ {P : Type 0} (major : ℕ) (s : Spelling P) where
   -- no step is left
@@ -155,7 +31,7 @@ module _ {P : Type 0} (major : ℕ) (s : Spelling P) where
         xs,
         inward.told ∙ told,
         record {
-          none = λ v n c read fits.
+          none = λ is v n c read fits.
               let f : CostFits c (Some 0) = subst (CostFits c) none fits in
               omega (arith, read.2, f);
           stops = no_step none refl refl;

@@ -143,3 +143,18 @@ pub record Decodes {V E : Type 0} (spelling : Spelling V) (old new : View)
   pub complete : IsExact spelling.owned old → IfErr answer (Refuses spelling.reads old)
   pub stops : IsExact spelling.owned old → IfErr answer (Stops spelling.stops old new)
   pub begins : IfErr answer (Stops spelling.begins old new)
+
+-- The same of a type that may not be exact. Where it is not, what is refused by a reading of its
+-- own, or over one kind of reader, is not told.
+pub record DecodesIf {V E : Type 0} (exact : Bool) (spelling : Spelling V) (old new : View)
+    (answer : Result V (DecodeError E)) : Type 0 where
+  pub moves : Moves old new answer
+  pub progress : IsTrue spelling.never_empty → OnOk answer (new.bound + 1 ≤ old.bound)
+  pub memory : IfErr answer (λ error. IsTrue (is_out_of_memory error)
+      → IsTrue spelling.takes_memory)
+  pub sound : IfOk answer (Sound spelling.reads old new)
+  pub complete : IsTrue exact → IsExact spelling.owned old
+      → IfErr answer (Refuses spelling.reads old)
+  pub stops : IsTrue exact → IsExact spelling.owned old
+      → IfErr answer (Stops spelling.stops old new)
+  pub begins : IfErr answer (Stops spelling.begins old new)

@@ -17,6 +17,7 @@ pub mod NumbersBack
 pub mod LeavesBack
 pub mod PartsBack
 pub mod SequenceParts
+pub mod SequenceHeads
 pub mod Pairs
 pub mod Heads
 pub mod Bignums

@@ -138,14 +138,14 @@ pub data StopsSequence {P : Type 0} (name : List ℕ) (major : ℕ) (reads : Rea
       → StopsInside name major reads stops never_empty xs (after_step budget) refusal rest
       → StopsSequence name major reads stops never_empty xs budget refusal rest
 
--- ---- the parts in a vector
+-- ---- values that hold parts
 
 -- parts that are read and refused so
-abbrev pub parts_spelling : {P : Type 0} → Spelling P → Reads (List P) → StopsAt → StopsAt → Bool
-    → Spelling (Vec P Global)
-parts_spelling s reads stops begins never_empty = record {
-  reads = λ xs v. reads xs v.items;
-  same = λ v w. SameParts s.same v.items w.items;
+abbrev pub parts_spelling : {P W : Type 0} → (W → List P) → Spelling P → Reads (List P) → StopsAt
+    → StopsAt → Bool → Spelling W
+parts_spelling items s reads stops begins never_empty = record {
+  reads = λ xs v. reads xs (items v);
+  same = λ v w. SameParts s.same (items v) (items w);
   stops = stops;
   begins = begins;
   never_empty = never_empty;
@@ -154,26 +154,43 @@ parts_spelling s reads stops begins never_empty = record {
   closed = s.closed;
 }
 
-abbrev pub count_spelling : {P : Type 0} → Spelling P → ℕ → Spelling (Vec P Global)
-count_spelling s count =
-    parts_spelling s (ReadsCount s.reads count) (StopsCount s.reads s.stops count)
+abbrev pub count_of : {P W : Type 0} → (W → List P) → Spelling P → ℕ → Spelling W
+count_of items s count =
+    parts_spelling items s (ReadsCount s.reads count) (StopsCount s.reads s.stops count)
     (StopsCount s.reads s.begins count) false
 
-abbrev pub open_spelling : {P : Type 0} → List ℕ → Spelling P → Spelling (Vec P Global)
-open_spelling name s =
-    parts_spelling s (ReadsUpToBreak s.reads s.never_empty)
+abbrev pub open_of : {P W : Type 0} → (W → List P) → List ℕ → Spelling P → Spelling W
+open_of items name s =
+    parts_spelling items s (ReadsUpToBreak s.reads s.never_empty)
     (StopsUpToBreak name s.reads s.stops s.never_empty)
     (StopsUpToBreak name s.reads s.begins s.never_empty) false
 
-abbrev pub inside_spelling : {P : Type 0} → List ℕ → ℕ → Spelling P → Spelling (Vec P Global)
-inside_spelling name major s =
-    parts_spelling s (ReadsInside major s.reads s.never_empty)
+abbrev pub inside_of : {P W : Type 0} → (W → List P) → List ℕ → ℕ → Spelling P → Spelling W
+inside_of items name major s =
+    parts_spelling items s (ReadsInside major s.reads s.never_empty)
     (StopsInside name major s.reads s.stops s.never_empty)
     (StopsInside name major s.reads s.begins s.never_empty) true
 
+abbrev pub in_list : {P : Type 0} → List P → List P
+in_list parts = parts
+
+-- ---- the parts in a vector
+
+abbrev pub in_vector : {P : Type 0} → Vec P Global → List P
+in_vector v = v.items
+
+abbrev pub count_spelling : {P : Type 0} → Spelling P → ℕ → Spelling (Vec P Global)
+count_spelling = count_of in_vector
+
+abbrev pub open_spelling : {P : Type 0} → List ℕ → Spelling P → Spelling (Vec P Global)
+open_spelling = open_of in_vector
+
+abbrev pub inside_spelling : {P : Type 0} → List ℕ → ℕ → Spelling P → Spelling (Vec P Global)
+inside_spelling = inside_of in_vector
+
 abbrev pub sequence_spelling : {P : Type 0} → List ℕ → ℕ → Spelling P → Spelling (Vec P Global)
 sequence_spelling name major s =
-    parts_spelling s (ReadsSequence major s.reads s.never_empty)
+    parts_spelling in_vector s (ReadsSequence major s.reads s.never_empty)
     (StopsSequence name major s.reads s.stops s.never_empty)
     (StopsSequence name major s.reads s.begins s.never_empty) true
 
@@ -220,7 +237,7 @@ pair_spelling k v = record {
   begins = StopsPair k.reads k.begins v.begins;
   never_empty = k.never_empty || v.never_empty;
   owned = k.owned && v.owned;
-  takes_memory = true;
+  takes_memory = k.takes_memory || v.takes_memory;
   closed = k.closed && v.closed;
 }
 

@@ -1,6 +1,6 @@
 -- Simple values, and the laws of their spellings (RFC 8949 section 3.3).
 use Rattle.std.proofs.Common.{◌≡◌, ℕ, ◌≤◌, List, [], ◌∷◌, ◌++◌, length, take, Bool, true, false}
-use Rattle.std.proofs.Common.{refl, sym, ap, ◌∙◌, arith}
+use Rattle.std.proofs.Common.{refl, sym, ◌∙◌, arith}
 use Rattle.std.specs.Prelude.{codes, ◌==◌}
 use Rattle.cbor4ii_items.specs.declared.types.Simple.{Simple}
 use Rattle.cbor4ii_items.specs.Initial.{simple_byte, simple_false, simple_true}

@@ -48,6 +48,7 @@ impl EnumValues for Lamp {
       one = λ xs v w n m c d p q. argument_one 0 1 zero_small xs v.0 w.0 n m c d p.0 q.0;
       within = λ xs v n c p. argument_within 0 1 zero_small xs v.0 n c p.0;
       positive = not_exact;
+      alone = not_exact;
     } };
 }
 

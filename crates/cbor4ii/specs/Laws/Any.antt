@@ -30,7 +30,7 @@ use Rattle.cbor4ii.specs.Any.{ReadsValues, ReadsPairs, KindAs, AnyInside, AnyAt,
 use Rattle.cbor4ii.specs.Sequence.{four_small, five_small}
 use Rattle.cbor4ii.specs.Stepped.{Stepped, stepped_laws}
 use Rattle.cbor4ii.specs.Tuples.{pair_laws}
-use Rattle.cbor4ii.specs.Typed.{Lawful}
+use Rattle.cbor4ii.specs.Typed.{Lawful, not_exact}
 
 -- ---- equal contents, equal values
 
@@ -84,6 +84,7 @@ formed_laws form alike h = record {
       (e.0, e.1, ap view p.2 ∙ alike p.0 q.0 e.2 ∙ ap view (sym q.2)));
   within = λ xs v n c p. h.within xs p.0 n c p.1;
   positive = λ e xs v n c p. h.positive e xs p.0 n c p.1;
+  alone = not_exact;
 }
 
 formed_by : {W : Type 0} {reads : Reads W} (form : W → Value) → Lawful reads (λ v w. v ≡ w) true
@@ -93,12 +94,18 @@ formed_by form h = formed_laws form (λ v w e. ap (λ z. view (form z)) e) h
 leaf_laws : (leaf : AnyLeaf) → Lawful (LeafAs leaf) SameView true
 leaf_laws Integer =
     formed_by of_integer
-    (record { one = i128_one; within = i128_within; positive = λ _. i128_positive })
+    (record {
+      one = i128_one;
+      within = i128_within;
+      positive = λ _. i128_positive;
+      alone = not_exact;
+    })
 leaf_laws Bignum =
     formed_by of_bignum (record {
       one = λ xs v w n m c d p q. u128_one xs v w n m c d p.0 q.0;
       within = λ xs v n c p. u128_within xs v n c p.0;
       positive = λ _ xs v n c p. u128_positive xs v n c p.0;
+      alone = not_exact;
     })
 leaf_laws Bytes =
     formed_laws of_bytes view_bytes
@@ -107,22 +114,30 @@ leaf_laws Bytes =
       within = as_within 2 two_small
           bytes_content;
       positive = λ _. as_positive 2 two_small bytes_content;
+      alone = not_exact;
     })
 leaf_laws Text =
     formed_laws of_text view_text (record {
       one = text_one text_content;
       within = text_within text_content;
       positive = λ _. text_positive text_content;
+      alone = not_exact;
     })
 leaf_laws Flag =
     formed_by of_bool
-    (record { one = bool_one; within = bool_within; positive = λ _. bool_positive })
+    (record {
+      one = bool_one;
+      within = bool_within;
+      positive = λ _. bool_positive;
+      alone = not_exact;
+    })
 leaf_laws Null =
     formed_laws of_null (λ v w e. ap (λ k. view (of_null (record { 0 = k }))) e)
     (record {
       one = simple_lawful.one;
       within = simple_lawful.within;
       positive = simple_lawful.positive;
+      alone = not_exact;
     })
 leaf_laws F16 =
     formed_laws of_f16 (λ v w e. ap (λ k. view (of_f16 (record { 0 = k }))) e)
@@ -131,6 +146,7 @@ leaf_laws F16 =
       within = λ xs v.
           float_within 0xf9 2 xs v.0;
       positive = λ _ xs v. float_positive 0xf9 2 xs v.0;
+      alone = not_exact;
     })
 leaf_laws F32 =
     formed_laws of_f32 (λ v w e. ap (λ k. view (of_f32 (record { 0 = k }))) e)
@@ -139,6 +155,7 @@ leaf_laws F32 =
       within = λ xs v.
           float_within 0xfa 4 xs v.0;
       positive = λ _ xs v. float_positive 0xfa 4 xs v.0;
+      alone = not_exact;
     })
 leaf_laws F64 =
     formed_laws of_f64 (λ v w e. ap (λ k. view (of_f64 (record { 0 = k }))) e)
@@ -147,6 +164,7 @@ leaf_laws F64 =
       within = λ xs v.
           float_within 0xfb 8 xs v.0;
       positive = λ _ xs v. float_positive 0xfb 8 xs v.0;
+      alone = not_exact;
     })
 
 -- ---- items that hold others
@@ -160,6 +178,7 @@ module _ {inner : Reads Value} (h : Lawful inner SameView true) where
         one = λ xs v w. sequence_one 4 four_small inner true SameView h.one xs v.items w.items;
         within = λ xs v. sequence_within 4 four_small inner true h.within xs v.items;
         positive = λ _ xs v. sequence_positive 4 four_small inner true xs v.items;
+        alone = not_exact;
       })
   kind_laws Map =
       let pair = pair_laws inner inner SameView SameView true true h h in
@@ -170,11 +189,13 @@ module _ {inner : Reads Value} (h : Lawful inner SameView true) where
         within = λ xs v.
             sequence_within 5 five_small (ReadsPair inner inner) true pair.within xs v.items;
         positive = λ _ xs v. sequence_positive 5 five_small (ReadsPair inner inner) true xs v.items;
+        alone = not_exact;
       })
   kind_laws Other = record {
     one = λ xs v w n m c d p q. absurd p;
     within = λ xs v n c p. absurd p;
     positive = λ e xs v n c p. absurd p;
+    alone = not_exact;
   }
 
   -- the first byte is one
@@ -189,6 +210,7 @@ module _ {inner : Reads Value} (h : Lawful inner SameView true) where
         (kind_laws (kind q.0)).one xs v w n m c d (same_kind xs v n c p.0 q.0 p.1 q.1 p.2) q.2;
     within = λ xs v n c p. (kind_laws (kind p.0)).within xs v n c p.2;
     positive = λ e xs v n c p. (kind_laws (kind p.0)).positive e xs v n c p.2;
+    alone = not_exact;
   }
 
 at_laws : (k : ℕ) → Lawful (AnyAt k) SameView true
@@ -196,6 +218,7 @@ at_laws zero = record {
   one = λ xs v w n m c d p q. absurd p;
   within = λ xs v n c p. absurd p;
   positive = λ e xs v n c p. absurd p;
+  alone = not_exact;
 }
 at_laws (suc k) = stepped_laws (inside_laws (at_laws k))
 
@@ -287,6 +310,7 @@ any_laws = record {
       (deeper q.0 (p.0 + q.0) (omega arith) xs w m d q.1);
   within = λ xs v n c p. (at_laws p.0).within xs v n c p.1;
   positive = λ e xs v n c p. (at_laws p.0).positive e xs v n c p.1;
+  alone = not_exact;
 }
 
 -- ---- parts that nest, each so deep, nest no deeper than some depth

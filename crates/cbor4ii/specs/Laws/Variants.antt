@@ -10,7 +10,7 @@ use Rattle.cbor4ii_items.specs.Laws.Heads.{additional-lt}
 use Rattle.cbor4ii_items.specs.Laws.Strings.{text_one, text_within, text_positive}
 use Rattle.cbor4ii.specs.Stepped.{stepped_laws}
 use Rattle.cbor4ii.specs.Tuples.{pair_laws}
-use Rattle.cbor4ii.specs.Typed.{Lawful}
+use Rattle.cbor4ii.specs.Typed.{Lawful, not_exact}
 use Rattle.cbor4ii.specs.Variants.{ReadsUnitVariant, ReadsEntryVariant, ReadsVariant}
 
 -- a text does not begin as a map of one entry
@@ -31,6 +31,7 @@ text_laws = record {
   one = text_one (λ (name : List ℕ). name);
   within = text_within (λ (name : List ℕ). name);
   positive = λ e. text_positive (λ (name : List ℕ). name);
+  alone = not_exact;
 }
 
 module _ {V : Type 0} (units : List ℕ → V → Type 0) (contents : List ℕ → Reads V)
@@ -92,4 +93,5 @@ module _ {V : Type 0} (units : List ℕ → V → Type 0) (contents : List ℕ �
     one = variant_one;
     within = variant_within;
     positive = λ e. variant_positive;
+    alone = not_exact;
   })

@@ -141,6 +141,11 @@ pub if_some : (o : Option Refusal) {P Q : Type 0} → (P → Q) → IfSome o (λ
 if_some None f h = tt
 if_some (Some z) f h = f h
 
+-- what holds whatever is refused
+pub always : {Q : Type 0} (o : Option Refusal) → Q → IfSome o (λ z. Q)
+always None q = tt
+always (Some z) q = q
+
 pub refuses_as : {U V E : Type 0} {e : DecodeError E} {a : View} (f : Reads U) (g : Reads V)
     → ((xs : List ℕ) (budget : Option ℕ) → NoneRead f xs budget → NoneRead g xs budget)
     → Refuses f a e → Refuses g a e

@@ -6,7 +6,7 @@ use Rattle.cbor4ii_rw.specs.View.{View, Told}
 use Rattle.cbor4ii_rw.specs.declared.error.DecodeError.{DecodeError}
 use Rattle.cbor4ii_rw.specs.declared.error.DecodeError.TheVariants.{OutOfMemory}
 use Rattle.cbor4ii_items.specs.Decoding.{CostFits, IsExact, NoneRead, Sound, Spelling, Decodes}
-use Rattle.cbor4ii_items.specs.Decoding.{spelling_by, taking_memory}
+use Rattle.cbor4ii_items.specs.Decoding.{DecodesIf, spelling_by, taking_memory}
 use Rattle.cbor4ii_items.specs.Moves.{Kept, Moves}
 use Rattle.cbor4ii_items.specs.Reading.{Reading, Runs}
 use Rattle.cbor4ii_items.specs.Refusal.{Refusal, refusal_of, is_out_of_memory}
@@ -38,10 +38,10 @@ any_memory (Err e) = λ out. refl
 
 -- ---- a value, and an error
 
--- how bytes are refused, over any reader: no reading of the type that fits begins them
-pub record Refused {V : Type 0} (s : Spelling V) (xs : List ℕ) (budget : Option ℕ) (z : Refusal)
-    (ys : List ℕ) : Type 0 where
-  pub none : NoneRead s.reads xs budget
+-- how bytes are refused, over any reader: of an exact type, no reading that fits begins them
+pub record Refused {V : Type 0} (exact : Bool) (s : Spelling V) (xs : List ℕ) (budget : Option ℕ)
+    (z : Refusal) (ys : List ℕ) : Type 0 where
+  pub none : IsTrue exact → NoneRead s.reads xs budget
   pub stops : s.stops xs budget z ys
   pub begins : s.begins xs budget z ys
 
@@ -51,6 +51,58 @@ none_of : {P : Type 0} (o : Option Refusal) (left : Option (List ℕ)) {f : Refu
 none_of None left means h = tt
 none_of (Some z) left means h = means z h.0 h.2
 
+-- an exact type promises more
+pub of_exact : {V E : Type 0} {exact : Bool} {s : Spelling V} {a b : View}
+    {r : Result V (DecodeError E)} → Decodes s a b r → DecodesIf exact s a b r
+of_exact d = record {
+  moves = d.moves;
+  progress = d.progress;
+  memory = d.memory;
+  sound = d.sound;
+  complete = λ is. d.complete;
+  stops = λ is. d.stops;
+  begins = d.begins;
+}
+
+pub exactly : {V E : Type 0} {s : Spelling V} {a b : View} {r : Result V (DecodeError E)}
+    → DecodesIf true s a b r → Decodes s a b r
+exactly d = record {
+  moves = d.moves;
+  progress = d.progress;
+  memory = d.memory;
+  sound = d.sound;
+  complete = d.complete refl;
+  stops = d.stops refl;
+  begins = d.begins;
+}
+
+-- and what is exact under one condition is so under a narrower one
+pub exact_less : {V E : Type 0} {x y : Bool} {s : Spelling V} {a b : View}
+    {r : Result V (DecodeError E)} → (IsTrue y → IsTrue x) → DecodesIf x s a b r
+    → DecodesIf y s a b r
+exact_less less d = record {
+  moves = d.moves;
+  progress = d.progress;
+  memory = d.memory;
+  sound = d.sound;
+  complete = λ is. d.complete (less is);
+  stops = λ is. d.stops (less is);
+  begins = d.begins;
+}
+
+-- of what is accepted, every type says the same
+pub accepted : {V E : Type 0} {exact : Bool} {s : Spelling V} {a b : View} {v : V}
+    → DecodesIf {E = E} exact s a b (Ok v) → Decodes {E = E} s a b (Ok v)
+accepted d = record {
+  moves = d.moves;
+  progress = d.progress;
+  memory = d.memory;
+  sound = d.sound;
+  complete = λ sure. tt;
+  stops = λ sure. tt;
+  begins = tt;
+}
+
 module _ {V E : Type 0} (s : Spelling V) {a b : View} where
   pub ok : {v : V} → Kept a b → (IsTrue s.never_empty → b.bound + 1 ≤ a.bound) → Sound s.reads a b v
       → Decodes {E = E} s a b (Ok v)
@@ -59,56 +111,63 @@ module _ {V E : Type 0} (s : Spelling V) {a b : View} where
     progress = progress;
     memory = tt;
     sound = sound;
-    complete = λ exact. tt;
-    stops = λ exact. tt;
+    complete = λ sure. tt;
+    stops = λ sure. tt;
     begins = tt;
   }
 
   -- an error of which all is known over any reader
-  pub err : {e : DecodeError E} → Moves {V = V} a b (Err e)
+  pub err_if : {exact : Bool} {e : DecodeError E} → Moves {V = V} a b (Err e)
       → (IsTrue (is_out_of_memory e) → IsTrue s.takes_memory)
       → Told a.told (λ xs. IfSome (refusal_of e)
-      (λ z. (ys : List ℕ) × (b.told ≡ Some ys) × Refused s xs a.budget z ys))
-      → Decodes s a b (Err e)
-  err {e = e} moves memory says = record {
+      (λ z. (ys : List ℕ) × (b.told ≡ Some ys) × Refused exact s xs a.budget z ys))
+      → DecodesIf exact s a b (Err e)
+  err_if {exact = exact} {e = e} moves memory says = record {
     moves = moves;
     progress = λ some. tt;
     memory = memory;
     sound = tt;
-    complete = λ exact. record {
-      at = λ xs told. none_of (refusal_of e) b.told {f = Refused s xs a.budget}
-          (λ z ys r. r.none) (says xs told);
+    complete = λ is sure. record {
+      at = λ xs told. none_of (refusal_of e) b.told {f = Refused exact s xs a.budget}
+          (λ z ys r. r.none is) (says xs told);
     };
-    stops = λ exact. record {
-      at = λ xs told. stops_as (refusal_of e) b.told (Refused s xs a.budget)
+    stops = λ is sure. record {
+      at = λ xs told. stops_as (refusal_of e) b.told (Refused exact s xs a.budget)
           (s.stops xs a.budget) (λ z ys r. r.stops) (says xs told);
     };
     begins = record {
-      at = λ xs told. stops_as (refusal_of e) b.told (Refused s xs a.budget)
+      at = λ xs told. stops_as (refusal_of e) b.told (Refused exact s xs a.budget)
           (s.begins xs a.budget) (λ z ys r. r.begins) (says xs told);
     };
   }
+
+  pub err : {e : DecodeError E} → Moves {V = V} a b (Err e)
+      → (IsTrue (is_out_of_memory e) → IsTrue s.takes_memory)
+      → Told a.told (λ xs. IfSome (refusal_of e)
+      (λ z. (ys : List ℕ) × (b.told ≡ Some ys) × Refused true s xs a.budget z ys))
+      → Decodes s a b (Err e)
+  err moves memory says = exactly (err_if moves memory says)
 
   pub out_of_memory : IsTrue s.takes_memory → Kept a b → Decodes {E = E} s a b (Err OutOfMemory)
   out_of_memory takes kept =
       err (record { by = kept; depth = λ none. refl }) (λ out. takes) (λ xs told. tt)
 
   -- an error of a program
-  pub err_of : {U : Type 0} {program : Reading U} {e : DecodeError E}
+  pub err_of : {U : Type 0} {exact : Bool} {program : Reading U} {e : DecodeError E}
       → Runs {V = U} program a b (Err e) → is_out_of_memory e ≡ false
       → ((xs : List ℕ) (z : Refusal) (ys : List ℕ) → program xs ≡ Err (z, ys)
-      → Refused s xs a.budget z ys) → Decodes s a b (Err e)
-  err_of {program = program} {e = e} p memory says =
-      err (moves_err p.moves) (λ out. absurd (let f = sym memory ∙ out in cc))
+      → Refused exact s xs a.budget z ys) → DecodesIf exact s a b (Err e)
+  err_of {exact = exact} {program = program} {e = e} p memory says =
+      err_if (moves_err p.moves) (λ out. absurd (let f = sym memory ∙ out in cc))
       (λ xs told. stops_as (refusal_of e) b.told (λ z ys. program xs ≡ Err (z, ys))
-      (Refused s xs a.budget) (says xs) (p.answers xs told))
+      (Refused exact s xs a.budget) (says xs) (p.answers xs told))
 
 -- ---- a part behind what was read
 
 -- a refusal of the part at ys is one of the whole at xs
-pub record Behind {U V : Type 0} (part : Spelling U) (whole : Spelling V) (xs ys : List ℕ)
-    (budget : Option ℕ) : Type 0 where
-  pub none : NoneRead part.reads ys budget → NoneRead whole.reads xs budget
+pub record Behind {U V : Type 0} (exact : Bool) (part : Spelling U) (whole : Spelling V)
+    (xs ys : List ℕ) (budget : Option ℕ) : Type 0 where
+  pub none : IsTrue exact → NoneRead part.reads ys budget → NoneRead whole.reads xs budget
   pub stops : (z : Refusal) (zs : List ℕ) → part.stops ys budget z zs → whole.stops xs budget z zs
   pub begins : (z : Refusal) (zs : List ℕ) → part.begins ys budget z zs
       → whole.begins xs budget z zs
@@ -118,31 +177,32 @@ exact_as o p v f (inl e) = inl (f e)
 exact_as o p v f (inr e) = inr e
 
 module _ {U V E : Type 0} (part : Spelling U) (whole : Spelling V) {a m b : View} where
-  pub err_behind : {e : DecodeError E} → Kept a m
-      → Told a.told (λ xs. (ys : List ℕ) × (m.told ≡ Some ys) × Behind part whole xs ys a.budget)
+  pub err_behind : {exact : Bool} {e : DecodeError E} → Kept a m
+      → Told a.told (λ xs. (ys : List ℕ) × (m.told ≡ Some ys)
+      × Behind exact part whole xs ys a.budget)
       → (IsTrue whole.owned → IsTrue part.owned)
       → (IsTrue part.takes_memory → IsTrue whole.takes_memory)
-      → Decodes part m b (Err e) → Decodes whole a b (Err e)
+      → DecodesIf exact part m b (Err e) → DecodesIf exact whole a b (Err e)
   err_behind {e = e} kept at owned memory d = record {
     moves = moves_then kept (moves_err d.moves);
     progress = λ some. tt;
     memory = λ out. memory (d.memory out);
     sound = tt;
-    complete = λ exact. record {
+    complete = λ is sure. record {
       at = λ xs told.
           let h = at xs told in
-          if_some (refusal_of e) h.2.none
+          if_some (refusal_of e) (h.2.none is)
           (subst (λ k. IfSome (refusal_of e) (λ z. NoneRead part.reads h.0 k)) kept.budget
-          ((d.complete (exact_kept part.owned a m xs told kept
-          (exact_as whole.owned part.owned a owned exact))).at h.0 h.1));
+          ((d.complete is (exact_kept part.owned a m xs told kept
+          (exact_as whole.owned part.owned a owned sure))).at h.0 h.1));
     };
-    stops = λ exact. record {
+    stops = λ is sure. record {
       at = λ xs told.
           let h = at xs told in
           stops_as (refusal_of e) b.told (part.stops h.0 m.budget) (whole.stops xs a.budget)
           (λ z zs s. h.2.stops z zs (subst (λ k. part.stops h.0 k z zs) kept.budget s))
-          ((d.stops (exact_kept part.owned a m xs told kept
-          (exact_as whole.owned part.owned a owned exact))).at h.0 h.1);
+          ((d.stops is (exact_kept part.owned a m xs told kept
+          (exact_as whole.owned part.owned a owned sure))).at h.0 h.1);
     };
     begins = record {
       at = λ xs told.
@@ -174,7 +234,7 @@ module _ {U V E : Type 0} (part : Spelling U) (whole : Spelling V) {a m b : View
   })
 
 -- what stands before the part was taken, and the whole is then read and refused as the part is
-pub record Leads {V : Type 0} (part whole : Spelling V) (a m : View) : Type 0 where
+pub record Leads {V : Type 0} (exact : Bool) (part whole : Spelling V) (a m : View) : Type 0 where
   pub kept : Kept a m
   pub progress : IsTrue whole.never_empty → m.bound + 1 ≤ a.bound
   pub owned : IsTrue whole.owned → IsTrue part.owned
@@ -182,13 +242,14 @@ pub record Leads {V : Type 0} (part whole : Spelling V) (a m : View) : Type 0 wh
   pub at : Told a.told (λ xs. (ys : List ℕ) × (m.told ≡ Some ys)
       × ((v : V) (n c : ℕ) → part.reads ys v n c → CostFits c a.budget
       → Found whole.reads a.budget xs v (drop n ys))
-      × Behind part whole xs ys a.budget)
+      × Behind exact part whole xs ys a.budget)
 
-pub behind : {V E : Type 0} (part whole : Spelling V) {a m b : View} (r : Result V (DecodeError E))
-    → Leads part whole a m → Decodes part m b r → Decodes whole a b r
+pub behind : {V E : Type 0} {exact : Bool} (part whole : Spelling V) {a m b : View}
+    (r : Result V (DecodeError E)) → Leads exact part whole a m → DecodesIf exact part m b r
+    → DecodesIf exact whole a b r
 behind part whole {b = b} (Ok v) l d =
-    ok_behind part whole l.kept (λ xs told. let h = l.at xs told in (h.0, h.1, h.2 v))
-    (λ some. omega (arith, l.progress some, d.moves.by.bound)) d
+    of_exact (ok_behind part whole l.kept (λ xs told. let h = l.at xs told in (h.0, h.1, h.2 v))
+    (λ some. omega (arith, l.progress some, d.moves.by.bound)) (accepted d))
 behind part whole {b = b} (Err e) l d =
     err_behind part whole l.kept
     (λ xs told. let h = l.at xs told in (h.0, h.1, h.3)) l.owned l.memory d
@@ -208,18 +269,22 @@ module _ {U V E : Type 0} (part : V → U) (s : Spelling U) {a b : View} where
     };
   })
 
-  pub by_err : {e : DecodeError E} → Decodes s a b (Err e)
-      → Decodes (spelling_by part s) a b (Err e)
-  by_err d = record {
+  pub by_err_if : {exact : Bool} {e : DecodeError E} → DecodesIf exact s a b (Err e)
+      → DecodesIf exact (spelling_by part s) a b (Err e)
+  by_err_if d = record {
     moves = moves_err d.moves;
     progress = λ some. tt;
     memory = d.memory;
     sound = tt;
-    complete = λ exact. refuses_as s.reads (spelling_by part s).reads
-        (λ xs budget none v. none (part v)) (d.complete exact);
+    complete = λ is sure. refuses_as s.reads (spelling_by part s).reads
+        (λ xs budget none v. none (part v)) (d.complete is sure);
     stops = d.stops;
     begins = d.begins;
   }
+
+  pub by_err : {e : DecodeError E} → Decodes s a b (Err e)
+      → Decodes (spelling_by part s) a b (Err e)
+  by_err d = exactly (by_err_if (of_exact d))
 
 pub in_memory : {V E : Type 0} (s : Spelling V) {a b : View} (r : Result V (DecodeError E))
     → Decodes s a b r → Decodes (taking_memory s) a b r

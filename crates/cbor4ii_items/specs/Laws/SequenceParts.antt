@@ -3,8 +3,6 @@ use Rattle.std.proofs.Common.{◌≡◌, ◌≢◌, ℕ, ◌+◌, ◌<◌, ◌�
 use Rattle.std.proofs.Common.{length, drop, take, Option, Some, None, Ok, Err, Bool, true, false}
 use Rattle.std.proofs.Common.{IsTrue, refl, sym, ap, ◌∙◌, subst, arith, max, length-append}
 use Rattle.std.proofs.Math.Nat.{max-le}
-use Rattle.std.specs.declared.alloc.Global.{Global}
-use Rattle.std.specs.declared.vec.Vec.{Vec}
 use Rattle.cbor4ii_rw.specs.View.{View, Told}
 use Rattle.cbor4ii_rw.specs.declared.error.DecodeError.{DecodeError}
 use Rattle.cbor4ii_rw.specs.declared.error.DecodeError.TheVariants.{RequireLength}
@@ -15,14 +13,14 @@ use Rattle.cbor4ii_items.specs.Refusal.{Refusal, is_out_of_memory}
 use Rattle.cbor4ii_items.specs.Moves.{Kept}
 use Rattle.cbor4ii_items.specs.Reading.{Runs}
 use Rattle.cbor4ii_items.specs.Decoding.{Reads, StopsAt, CostFits, Sound, NoneRead, Spelling}
-use Rattle.cbor4ii_items.specs.Decoding.{IsLawful, Decodes}
+use Rattle.cbor4ii_items.specs.Decoding.{IsLawful, Decodes, DecodesIf}
 use Rattle.cbor4ii_items.specs.ReadStrings.{break_at}
 use Rattle.cbor4ii_items.specs.Sequences.{ReadsParts, ReadsCount, Unbroken, ReadsUpToBreak}
 use Rattle.cbor4ii_items.specs.Sequences.{StopsPlace, no_byte, may_read_nothing, part_refused}
 use Rattle.cbor4ii_items.specs.Sequences.{StopsCount, StopsUpToBreak}
-use Rattle.cbor4ii_items.specs.Sequences.{count_spelling, open_spelling}
+use Rattle.cbor4ii_items.specs.Sequences.{count_of, open_of}
 use Rattle.cbor4ii_items.specs.Laws.Answering.{fits_zero}
-use Rattle.cbor4ii_items.specs.Laws.Calls.{ok, err, err_of, err_behind}
+use Rattle.cbor4ii_items.specs.Laws.Calls.{ok, err_if, err_of, err_behind}
 use Rattle.cbor4ii_items.specs.Laws.Fronts.{drop_more}
 use Rattle.cbor4ii_items.specs.Laws.ProgramEnds.{break_yes, break_no, break_refused}
 use Rattle.cbor4ii_items.specs.Laws.Sequences.{not_less, next_part, parts_size, unbroken_size}
@@ -80,57 +78,73 @@ module _ {P : Type 0} (s : Spelling P) (lawful : IsLawful s) where
   one_size : (xs : List ℕ) (p q : P) (n m c d : ℕ) → s.reads xs p n c → s.reads xs q m d → n ≡ m
   one_size xs p q n m c d g h = (lawful.one xs p q n m c d g h).0
 
+-- no part was read yet
+pub no_part : {P : Type 0} (reads : Reads P) {a m : View} {ps : List P} → m.told ≡ a.told → ps ≡ []
+    → Sound (ReadsParts reads) a m ps
+no_part reads {a = a} {m = m} same none =
+    subst (λ qs. Sound (ReadsParts reads) a m qs) (sym none) (record {
+      at = λ xs told. record {
+        count = 0;
+        cost = 0;
+        read = (refl, refl);
+        fits = fits_zero a.budget;
+        left = same ∙ told;
+      };
+    })
+
 -- ---- so many parts
 
 module _ {P : Type 0} (s : Spelling P) where
   -- the first so many parts
-  pub record Begun (i : ℕ) (a m : View) (v : Vec P Global) : Type 0 where
+  pub record Begun (i : ℕ) (a m : View) (ps : List P) : Type 0 where
     pub kept : Kept a m
-    pub count : length v.items ≡ i
-    pub parts : Sound (ReadsParts s.reads) a m v.items
+    pub count : length ps ≡ i
+    pub parts : Sound (ReadsParts s.reads) a m ps
 
-  pub count_more : {E : Type 0} {a m b : View} {i : ℕ} {v w : Vec P Global} {p : P}
-      → Begun i a m v → Decodes {E = E} s m b (Ok p) → w.items ≡ v.items ++ p ∷ []
-      → Begun (i + 1) a b w
-  count_more {v = v} {p = p} h t added = record {
-    kept = kept_then h.kept t.moves.by;
-    count = ap length added ∙ (length-append v.items (p ∷ []) ∙ ap (λ j. j + 1) h.count);
-    parts = parts_then s.reads h.kept.budget h.parts t.sound added;
+  pub count_more : {a m b : View} {i : ℕ} {ps qs : List P} {p : P} → Begun i a m ps → Kept m b
+      → Sound s.reads m b p → qs ≡ ps ++ p ∷ [] → Begun (i + 1) a b qs
+  count_more {ps = ps} {p = p} h kept t added = record {
+    kept = kept_then h.kept kept;
+    count = ap length added ∙ (length-append ps (p ∷ []) ∙ ap (λ j. j + 1) h.count);
+    parts = parts_then s.reads h.kept.budget h.parts t added;
   }
 
-  pub count_done : {E : Type 0} {a m : View} {v : Vec P Global} {i count : ℕ} → Begun i a m v
-      → i ≡ count → Decodes {E = E} (count_spelling s count) a m (Ok v)
-  count_done {count = count} h all = ok (count_spelling s count) h.kept (λ some. cc) (record {
-    at = λ xs told. let u = h.parts.at xs told in record {
-      count = u.count;
-      cost = u.cost;
-      read = (h.count ∙ all, u.read);
-      fits = u.fits;
-      left = u.left;
-    };
-  })
+  none_more : IsLawful s → (xs : List ℕ) (ps : List P) (n c count : ℕ) (budget : Option ℕ)
+      → ReadsParts s.reads xs ps n c → length ps < count → NoneRead s.reads (drop n xs) budget
+      → NoneRead (ReadsCount s.reads count) xs budget
+  none_more lawful xs ps n c count budget h less none qs m d r fits =
+      let a = next_part s.reads (one_size s lawful) xs ps qs n c m d h r.1
+      (omega (arith, less, r.0)) in
+      none a.0 a.1 a.2 a.3 (fits_less a.2 d budget a.4 fits)
 
-  module _ (lawful : IsLawful s) where
-    none_more : (xs : List ℕ) (ps : List P) (n c count : ℕ) (budget : Option ℕ)
-        → ReadsParts s.reads xs ps n c → length ps < count → NoneRead s.reads (drop n xs) budget
-        → NoneRead (ReadsCount s.reads count) xs budget
-    none_more xs ps n c count budget h less none qs m d r fits =
-        let a = next_part s.reads (one_size s lawful) xs ps qs n c m d h r.1
-        (omega (arith, less, r.0)) in
-        none a.0 a.1 a.2 a.3 (fits_less a.2 d budget a.4 fits)
+module _ {P W : Type 0} (items : W → List P) (s : Spelling P) where
+  pub count_done : {E : Type 0} {a m : View} {v : W} {i count : ℕ} → Begun s i a m (items v)
+      → i ≡ count → Decodes {E = E} (count_of items s count) a m (Ok v)
+  count_done {count = count} h all =
+      ok (count_of items s count) h.kept (λ some. cc) (record {
+        at = λ xs told. let u = h.parts.at xs told in record {
+          count = u.count;
+          cost = u.cost;
+          read = (h.count ∙ all, u.read);
+          fits = u.fits;
+          left = u.left;
+        };
+      })
 
   -- what is refused behind some parts
-  pub count_err : {E : Type 0} → IsLawful s
-      → {a m b : View} {i count : ℕ} {v : Vec P Global} {e : DecodeError E} → Begun i a m v
-      → i < count → Decodes s m b (Err e) → Decodes (count_spelling s count) a b (Err e)
-  count_err lawful {a = a} {count = count} {v = v} h less t =
-      err_behind s (count_spelling s count) h.kept (λ xs told.
+  pub count_err : {E : Type 0} {exact : Bool} → (IsTrue exact → IsLawful s)
+      → {a m b : View} {i count : ℕ} {ps : List P} {e : DecodeError E} → Begun s i a m ps
+      → i < count → DecodesIf exact s m b (Err e) → DecodesIf exact (count_of items s count) a b
+      (Err
+      e)
+  count_err lawful {a = a} {count = count} {ps = ps} h less t =
+      err_behind s (count_of items s count) h.kept (λ xs told.
       let u = h.parts.at xs told in
-      let fewer : length v.items < count = omega (arith, less, h.count) in
+      let fewer : length ps < count = omega (arith, less, h.count) in
       let stop : (stops : StopsAt) (z : Refusal) (zs : List ℕ)
       → stops (drop u.count xs) a.budget z zs → StopsCount s.reads stops count xs a.budget z zs =
       λ stops z zs f. record {
-        whole = v.items;
+        whole = ps;
         fewer = fewer;
         between = u.count;
         cost = u.cost;
@@ -141,9 +155,8 @@ module _ {P : Type 0} (s : Spelling P) where
         drop u.count xs,
         u.left,
         record {
-          none = λ none w n c.
-              none_more lawful xs v.items u.count u.cost count a.budget u.read fewer none
-              w.items n c;
+          none = λ is none v n c. none_more s (lawful is) xs ps u.count u.cost count a.budget u.read
+              fewer none (items v) n c;
           stops = stop s.stops;
           begins = stop s.begins;
         },
@@ -185,20 +198,20 @@ place_spelling name s = record {
 
 module _ {P : Type 0} (s : Spelling P) where
   -- some parts, none of them with a break in its place
-  pub record Opened (a m : View) (v : Vec P Global) : Type 0 where
-    pub allowed : IsTrue s.never_empty ⊎ (v.items ≡ [])
-    pub parts : Sound (ReadsParts (Unbroken s.reads)) a m v.items
+  pub record Opened (a m : View) (ps : List P) : Type 0 where
+    pub allowed : IsTrue s.never_empty ⊎ (ps ≡ [])
+    pub parts : Sound (ReadsParts (Unbroken s.reads)) a m ps
     pub kept : Kept a m
 
-  pub open_more : {E : Type 0} {a l m b : View} {v w : Vec P Global} {p : P} → IsTrue s.never_empty
-      → Opened a l v → Stands l m → Decodes {E = E} s m b (Ok p) → w.items ≡ v.items ++ p ∷ []
-      → Opened a b w
-  open_more {l = l} {b = b} {p = p} some h stays t added =
+  pub open_more : {a l m b : View} {ps qs : List P} {p : P} → IsTrue s.never_empty
+      → Opened a l ps → Stands l m → Kept m b → Sound s.reads m b p → qs ≡ ps ++ p ∷ []
+      → Opened a b qs
+  open_more {l = l} {b = b} {p = p} some h stays kept t added =
       let part : Sound (Unbroken s.reads) l b p =
       record {
         at = λ xs told.
             let f = stays.at xs told in
-            let u = t.sound.at xs f.0 in
+            let u = t.at xs f.0 in
             record {
               count = u.count;
               cost = u.cost;
@@ -210,33 +223,8 @@ module _ {P : Type 0} (s : Spelling P) where
       record {
         allowed = inl some;
         parts = parts_then (Unbroken s.reads) h.kept.budget h.parts part added;
-        kept = kept_then (kept_then h.kept stays.kept) t.moves.by;
+        kept = kept_then (kept_then h.kept stays.kept) kept;
       }
-
-module _ {P : Type 0} (name : List ℕ) (s : Spelling P) where
-  pub open_done : {E : Type 0} {ended : Bool} {a l b : View} {v : Vec P Global} → ended ≡ true
-      → Opened s a l v → Runs {E = E} break_at l b (Ok ended)
-      → Decodes {E = E} (open_spelling name s) a b (Ok v)
-  open_done {ended = ended} is h q =
-      ok (open_spelling name s) (kept_then h.kept q.moves.by) (λ some. cc) (record {
-        at = λ xs told.
-            let u = h.parts.at xs told in
-            let r = q.answers (drop u.count xs) u.left in
-            let b = break_yes (drop u.count xs) r.0 (r.2 ∙ ap (λ (t : Bool). Ok (t, r.0)) is) in
-            record {
-              count = u.count + 1;
-              cost = u.cost;
-              read = record {
-                allowed = h.allowed;
-                between = u.count;
-                parts = u.read;
-                ends = b.0;
-                size = refl;
-              };
-              fits = u.fits;
-              left = r.1 ∙ ap Some (b.1 ∙ drop_more 1 u.count xs);
-            };
-      })
 
   module _ (lawful : IsLawful s) where
     -- where neither a break nor a part stands, nothing is read
@@ -259,18 +247,44 @@ module _ {P : Type 0} (name : List ℕ) (s : Spelling P) where
         none None 0 0
         (subst (λ j. take 1 (drop j xs) ≡ break ∷ []) (sym size) r.ends, refl) (fits_zero budget)
 
+module _ {P W : Type 0} (items : W → List P) (name : List ℕ) (s : Spelling P) where
+  pub open_done : {E : Type 0} {ended : Bool} {a l b : View} {v : W} → ended ≡ true
+      → Opened s a l (items v) → Runs {E = E} break_at l b (Ok ended)
+      → Decodes {E = E} (open_of items name s) a b (Ok v)
+  open_done {ended = ended} is h q =
+      ok (open_of items name s) (kept_then h.kept q.moves.by) (λ some. cc) (record {
+        at = λ xs told.
+            let u = h.parts.at xs told in
+            let r = q.answers (drop u.count xs) u.left in
+            let b = break_yes (drop u.count xs) r.0 (r.2 ∙ ap (λ (t : Bool). Ok (t, r.0)) is) in
+            record {
+              count = u.count + 1;
+              cost = u.cost;
+              read = record {
+                allowed = h.allowed;
+                between = u.count;
+                parts = u.read;
+                ends = b.0;
+                size = refl;
+              };
+              fits = u.fits;
+              left = r.1 ∙ ap Some (b.1 ∙ drop_more 1 u.count xs);
+            };
+      })
+
   -- what is refused behind some parts
-  pub open_err : {E : Type 0} → IsLawful s
-      → {a l b : View} {v : Vec P Global} {e : DecodeError E} → Opened s a l v
-      → Decodes (place_spelling name s) l b (Err e) → Decodes (open_spelling name s) a b (Err e)
-  open_err lawful {a = a} {v = v} h t =
-      err_behind (place_spelling name s) (open_spelling name s) h.kept (λ xs told.
+  pub open_err : {E : Type 0} {exact : Bool} → (IsTrue exact → IsLawful s)
+      → {a l b : View} {ps : List P} {e : DecodeError E} → Opened s a l ps
+      → DecodesIf exact (place_spelling name s) l b (Err e)
+      → DecodesIf exact (open_of items name s) a b (Err e)
+  open_err lawful {a = a} {ps = ps} h t =
+      err_behind (place_spelling name s) (open_of items name s) h.kept (λ xs told.
       let u = h.parts.at xs told in
       let stop : (stops : StopsAt) (z : Refusal) (zs : List ℕ)
       → StopsPlace name stops s.never_empty (drop u.count xs) a.budget z zs
       → StopsUpToBreak name s.reads stops s.never_empty xs a.budget z zs =
       λ stops z zs f. record {
-        whole = v.items;
+        whole = ps;
         allowed = h.allowed;
         between = u.count;
         cost = u.cost;
@@ -281,8 +295,8 @@ module _ {P : Type 0} (name : List ℕ) (s : Spelling P) where
         drop u.count xs,
         u.left,
         record {
-          none = λ none w n c.
-              none_open lawful xs v.items u.count u.cost a.budget u.read none w.items n c;
+          none = λ is none v n c.
+              none_open s (lawful is) xs ps u.count u.cost a.budget u.read none (items v) n c;
           stops = stop s.stops;
           begins = stop s.begins;
         },
@@ -309,45 +323,46 @@ module _ {P : Type 0} (s : Spelling P) where
   not_part xs budget other none (Some p) n c r fits = none p n c r.0.1 fits
 
   -- the end of the input
-  pub place_end : {E : Type 0} (name : List ℕ) {l m : View} {e : DecodeError E}
-      → IsLawful s
+  pub place_end : {E : Type 0} {exact : Bool} (name : List ℕ) {l m : View} {e : DecodeError E}
+      → (IsTrue exact → IsLawful s)
       → Runs {V = Bool} break_at l m (Err e) → is_out_of_memory e ≡ false
-      → Decodes (place_spelling name s) l m (Err e)
+      → DecodesIf exact (place_spelling name s) l m (Err e)
   place_end name {l = l} lawful q memory =
       err_of (place_spelling name s) q memory (λ xs z ys t. let b = break_refused xs ys z t in
       record {
-        none = not_at_end lawful xs l.budget b.0;
+        none = λ is. not_at_end (lawful is) xs l.budget b.0;
         stops = no_byte b.0 b.1 b.2;
         begins = no_byte b.0 b.1 b.2;
       })
 
   -- parts may read nothing
-  pub place_nothing : {E : Type 0} (name : Bor (List ℕ)) {l m : View} → s.never_empty ≡ false
-      → Stands l m
-      → Decodes {E = E} (place_spelling name.now s) l m (Err (RequireLength name Indefinite))
+  pub place_nothing : {E : Type 0} {exact : Bool} (name : Bor (List ℕ)) {l m : View}
+      → s.never_empty ≡ false → Stands l m
+      → DecodesIf {E = E} exact (place_spelling name.now s) l m (Err (RequireLength name
+      Indefinite))
   place_nothing name {l = l} empty stays =
-      err (place_spelling name.now s) (record { by = stays.kept; depth = λ none. refl })
+      err_if (place_spelling name.now s) (record { by = stays.kept; depth = λ none. refl })
       (λ out. cc) (λ xs told. let f = stays.at xs told in (
         xs,
         f.0,
         record {
-          none = not_empty xs l.budget f.2 empty;
+          none = λ is. not_empty xs l.budget f.2 empty;
           stops = may_read_nothing f.1 f.2 empty refl refl;
           begins = may_read_nothing f.1 f.2 empty refl refl;
         },
       ))
 
   -- a part is refused
-  pub place_part : {E : Type 0} (name : List ℕ) {l m b : View} {e : DecodeError E}
-      → IsTrue s.never_empty → Stands l m → Decodes s m b (Err e)
-      → Decodes (place_spelling name s) l b (Err e)
+  pub place_part : {E : Type 0} {exact : Bool} (name : List ℕ) {l m b : View} {e : DecodeError E}
+      → IsTrue s.never_empty → Stands l m → DecodesIf exact s m b (Err e)
+      → DecodesIf exact (place_spelling name s) l b (Err e)
   place_part name {l = l} some stays t =
       err_behind s (place_spelling name s) stays.kept (λ xs told.
       let f = stays.at xs told in (
         xs,
         f.0,
         record {
-          none = not_part xs l.budget f.2;
+          none = λ is. not_part xs l.budget f.2;
           stops = λ z zs. part_refused f.1 f.2 some;
           begins = λ z zs. part_refused f.1 f.2 some;
         },

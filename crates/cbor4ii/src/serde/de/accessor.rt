@@ -1,24 +1,21 @@
 //! Arrays and maps that are read part by part.
-ghost use Rattle.std.specs.Prelude.{[], ◌≡◌, ◌≢◌, None, ◌≤◌, ◌+◌, ◌&&◌, ◌||◌, IfOk, IfErr, codes};
-ghost use Rattle.std.specs.Prelude.{false, IsTrue, OnSome, OnErr};
+ghost use Rattle.std.specs.Prelude.{[], ◌≡◌, ◌&&◌, IfOk, codes};
 ghost use Rattle.std.specs.Borrow.{sem, Lends, RestsIfErr};
 ghost use mir.Syntax.{named};
 ghost use Rattle.cbor4ii_rw.specs.Reader.{Breaks};
-ghost use Rattle.cbor4ii_items.specs.Moves.{Moves, OnRead};
-ghost use Rattle.cbor4ii_items.specs.Decoding.{IsExact, Sound, Refuses, Stops};
-ghost use Rattle.cbor4ii_items.specs.Lengths.{ReadsLength, StopsLength};
-ghost use Rattle.cbor4ii_items.specs.Refusal.{is_out_of_memory};
-ghost use Rattle.cbor4ii_items.specs.Sequences.{ReadsPair, StopsPair};
+ghost use Rattle.cbor4ii_items.specs.Moves.{OnRead};
+ghost use Rattle.cbor4ii_items.specs.Decoding.{Decodes, DecodesIf};
+ghost use Rattle.cbor4ii_items.specs.Lengths.{length_spelling};
 ghost use Rattle.cbor4ii.specs.contracts.serde.de.accessor.Accessor.{the_row as the_accessor};
 ghost use Rattle.cbor4ii.specs.contracts.serde.de.deserializer.Deserializer.{the_row};
-ghost use Rattle.cbor4ii.specs.declared.serde.de.accessor.Left.TheVariants.{Counted, Open};
+ghost use Rattle.cbor4ii.specs.declared.serde.de.accessor.Left.TheVariants.{Counted};
 ghost use Rattle.cbor4ii.specs.Accessing.{inside, deserializer_of, lender_of, left_in, steps_held};
-ghost use Rattle.cbor4ii.specs.Accessing.{with_deserializer, OpensParts, Closes, Next};
-ghost use Rattle.cbor4ii.specs.Accessing.{LeftAfterStart, ReadsStart, StopsStart, StopsElement};
-ghost use Rattle.cbor4ii.specs.Accessing.{MayGoOn, left_then, left_tried, fuel, hint};
-ghost use Rattle.cbor4ii.specs.Stepped.{Stepped, StopsStepped};
-ghost use Rattle.cbor4ii.specs.Tuples.{ReadsCountOf, StopsCountOf};
-ghost use Rattle.cbor4ii.specs.Typed.{input, answer_of, as_core, said_by};
+ghost use Rattle.cbor4ii.specs.Accessing.{with_deserializer, OpensParts, RefusedAs, Closes, hint};
+ghost use Rattle.cbor4ii.specs.Accessing.{start_spelling, next_spelling, Starts, GoesOn};
+ghost use Rattle.cbor4ii.specs.Stepped.{stepped_spelling};
+ghost use Rattle.cbor4ii.specs.Tuples.{counted_head};
+ghost use Rattle.cbor4ii.specs.Typed.{input, answer_of, Deserializes};
+ghost use Rattle.cbor4ii.specs.TypedParts.{part_of, two_of};
 
 use crate::serde::de::deserialize::Deserialize;
 use crate::serde::de::deserializer::Deserializer;
@@ -81,18 +78,13 @@ impl<S: Source> Deserializer<S> {
     /// budget is as before then.
     pub fn deserialize_seq(&mut self) -> Result<Accessor<'_, S>, DecodeError<S::Error>>
         ensures* refused { sem 𝓛 (RestsIfErr (the_row S.row) self.entry lender_of result (λ new.
-            Moves (input S.view self.old) (input S.view new) (answer_of result) ×
-            IfErr result (λ error. Stops
-            (StopsStepped (codes "seq") (StopsLength (codes "array") 4))
-            (input S.view self.old) (input S.view new) (as_core error)))) }
+            RefusedAs (stepped_spelling (codes "seq") (length_spelling (codes "array") 4))
+            (input S.view self.old) (input S.view new) (answer_of result))) }
         ensures same_reference { IfOk result
             (λ accessor. lender_of accessor ≡ self.entry.ghost_name) }
         ensures opened { IfOk result (λ accessor. OpensParts 4 (input S.view self.old)
             (inside S.view accessor) (left_in accessor)) }
         ensures steps { IfOk result (λ accessor. steps_held accessor ≡ 1) }
-        ensures memory { IfErr result (λ error. is_out_of_memory (as_core error) ≡ false) }
-        ensures complete { IfErr result (λ error.
-            Refuses (Stepped (ReadsLength 4)) (input S.view self.old) (as_core error)) }
     {
         match begin_array(&mut self.reader) {
             Ok(left) => Ok(Accessor {
@@ -116,18 +108,14 @@ impl<S: Source> Deserializer<S> {
         len: usize,
     ) -> Result<Accessor<'_, S>, DecodeError<S::Error>>
         ensures* refused { sem 𝓛 (RestsIfErr (the_row S.row) self.entry lender_of result (λ new.
-            Moves (input S.view self.old) (input S.view new) (answer_of result) ×
-            IfErr result (λ error. Stops (StopsStepped (codes "tuple") (StopsCountOf len))
-            (input S.view self.old) (input S.view new) (as_core error)))) }
+            RefusedAs (stepped_spelling (codes "tuple") (counted_head len))
+            (input S.view self.old) (input S.view new) (answer_of result))) }
         ensures same_reference { IfOk result
             (λ accessor. lender_of accessor ≡ self.entry.ghost_name) }
         ensures opened { IfOk result (λ accessor. OpensParts 4 (input S.view self.old)
             (inside S.view accessor) (left_in accessor)) }
         ensures steps { IfOk result (λ accessor. steps_held accessor ≡ 1) }
         ensures left { IfOk result (λ accessor. left_in accessor ≡ Counted len) }
-        ensures memory { IfErr result (λ error. is_out_of_memory (as_core error) ≡ false) }
-        ensures complete { IfErr result (λ error.
-            Refuses (Stepped (ReadsCountOf len)) (input S.view self.old) (as_core error)) }
     {
         match begin_tuple(&mut self.reader, len) {
             Ok(()) => Ok(Accessor {
@@ -146,17 +134,13 @@ impl<S: Source> Deserializer<S> {
     /// As `deserialize_seq`, by the name "map" in the place of "seq" and "array".
     pub fn deserialize_map(&mut self) -> Result<Accessor<'_, S>, DecodeError<S::Error>>
         ensures* refused { sem 𝓛 (RestsIfErr (the_row S.row) self.entry lender_of result (λ new.
-            Moves (input S.view self.old) (input S.view new) (answer_of result) ×
-            IfErr result (λ error. Stops (StopsStepped (codes "map") (StopsLength (codes "map") 5))
-            (input S.view self.old) (input S.view new) (as_core error)))) }
+            RefusedAs (stepped_spelling (codes "map") (length_spelling (codes "map") 5))
+            (input S.view self.old) (input S.view new) (answer_of result))) }
         ensures same_reference { IfOk result
             (λ accessor. lender_of accessor ≡ self.entry.ghost_name) }
         ensures opened { IfOk result (λ accessor. OpensParts 5 (input S.view self.old)
             (inside S.view accessor) (left_in accessor)) }
         ensures steps { IfOk result (λ accessor. steps_held accessor ≡ 1) }
-        ensures memory { IfErr result (λ error. is_out_of_memory (as_core error) ≡ false) }
-        ensures complete { IfErr result (λ error.
-            Refuses (Stepped (ReadsLength 5)) (input S.view self.old) (as_core error)) }
     {
         match begin_map(&mut self.reader) {
             Ok(left) => Ok(Accessor {
@@ -175,18 +159,14 @@ impl<S: Source> Deserializer<S> {
         len: usize,
     ) -> Result<Accessor<'_, S>, DecodeError<S::Error>>
         ensures* refused { sem 𝓛 (RestsIfErr (the_row S.row) self.entry lender_of result (λ new.
-            Moves (input S.view self.old) (input S.view new) (answer_of result) ×
-            IfErr result (λ error. Stops (StopsStepped (codes "tuple") (StopsCountOf len))
-            (input S.view self.old) (input S.view new) (as_core error)))) }
+            RefusedAs (stepped_spelling (codes "tuple") (counted_head len))
+            (input S.view self.old) (input S.view new) (answer_of result))) }
         ensures same_reference { IfOk result
             (λ accessor. lender_of accessor ≡ self.entry.ghost_name) }
         ensures opened { IfOk result (λ accessor. OpensParts 4 (input S.view self.old)
             (inside S.view accessor) (left_in accessor)) }
         ensures steps { IfOk result (λ accessor. steps_held accessor ≡ 1) }
         ensures left { IfOk result (λ accessor. left_in accessor ≡ Counted len) }
-        ensures memory { IfErr result (λ error. is_out_of_memory (as_core error) ≡ false) }
-        ensures complete { IfErr result (λ error.
-            Refuses (Stepped (ReadsCountOf len)) (input S.view self.old) (as_core error)) }
     {
         self.deserialize_tuple(len)
     }
@@ -199,17 +179,13 @@ impl<S: Source> Deserializer<S> {
         fields: &[StaticStr],
     ) -> Result<Accessor<'_, S>, DecodeError<S::Error>>
         ensures* refused { sem 𝓛 (RestsIfErr (the_row S.row) self.entry lender_of result (λ new.
-            Moves (input S.view self.old) (input S.view new) (answer_of result) ×
-            IfErr result (λ error. Stops (StopsStepped (codes "map") (StopsLength (codes "map") 5))
-            (input S.view self.old) (input S.view new) (as_core error)))) }
+            RefusedAs (stepped_spelling (codes "map") (length_spelling (codes "map") 5))
+            (input S.view self.old) (input S.view new) (answer_of result))) }
         ensures same_reference { IfOk result
             (λ accessor. lender_of accessor ≡ self.entry.ghost_name) }
         ensures opened { IfOk result (λ accessor. OpensParts 5 (input S.view self.old)
             (inside S.view accessor) (left_in accessor)) }
         ensures steps { IfOk result (λ accessor. steps_held accessor ≡ 1) }
-        ensures memory { IfErr result (λ error. is_out_of_memory (as_core error) ≡ false) }
-        ensures complete { IfErr result (λ error.
-            Refuses (Stepped (ReadsLength 5)) (input S.view self.old) (as_core error)) }
     {
         self.deserialize_map()
     }
@@ -230,25 +206,11 @@ impl<'a, S: Source> Accessor<'a, S> {
     /// name "break" with 1 where no byte is left. Nothing is taken then, and the length stays
     /// indefinite, so that a further call asks again. The budget is as before.
     pub fn starts_element(&mut self) -> Result<bool, DecodeError<S::Error>>
-        ensures same_reference { lender_of self.new ≡ lender_of self.old }
-        ensures same_steps { steps_held self.new ≡ steps_held self.old }
-        ensures moves { Moves (inside S.view self.old) (inside S.view self.new)
-            (answer_of result) }
-        ensures memory { IfErr result (λ error. is_out_of_memory (as_core error) ≡ false) }
+        ensures decodes { Decodes (start_spelling (left_in self.old))
+            (inside S.view self.old) (inside S.view self.new) (answer_of result) }
         ensures failed { OnRead (answer_of result)
             (Breaks (inside S.view self.old) (inside S.view self.new)) }
-        ensures sound { IfOk result (Sound (ReadsStart (left_in self.old))
-            (inside S.view self.old) (inside S.view self.new)) }
-        ensures answer { IfOk result (λ more.
-            LeftAfterStart (left_in self.old) (left_in self.new) more) }
-        ensures asked { OnErr result (left_in self.old ≡ Open) }
-        ensures kept { OnErr result (left_in self.new ≡ Open) }
-        ensures complete { IfErr result (λ error. Refuses (ReadsStart (left_in self.old))
-            (inside S.view self.old) (as_core error)) }
-        ensures still { left_in self.old ≢ Open →
-            inside S.view self.new ≡ inside S.view self.old }
-        ensures stops { IfErr result (λ error. Stops (StopsStart (left_in self.old))
-            (inside S.view self.old) (inside S.view self.new) (as_core error)) }
+        ensures starts { Starts S.view self.old self.new result }
     {
         match self.left {
             Left::Counted(0) => Ok(false),
@@ -292,31 +254,10 @@ impl<'a, S: Source> Accessor<'a, S> {
         &mut self,
         alloc: Global,
     ) -> Result<Option<T>, DecodeError<S::Error>>
-        ensures same_reference { lender_of self.new ≡ lender_of self.old }
-        ensures same_steps { steps_held self.new ≡ steps_held self.old }
-        ensures moves { Moves (inside S.view self.old) (inside S.view self.new)
-            (answer_of result) }
-        ensures memory { IfErr result
-            (λ error. IsTrue (is_out_of_memory (as_core error)) →
-            IsTrue T.promise.spelling.takes_memory) }
-        ensures sound { IfOk result (Sound (Next T.promise.spelling.reads (left_in self.old))
-            (inside S.view self.old) (inside S.view self.new)) }
-        ensures left { IfOk result
-            (λ part. left_in self.new ≡ left_then (left_in self.old) part) }
-        ensures tried { OnErr result (left_in self.new ≡ left_tried (left_in self.old)) }
-        ensures asked { OnErr result (MayGoOn (left_in self.old)) }
-        ensures complete { IsTrue T.promise.exact → IsExact T.promise.spelling.owned
-            (inside S.view self.old) →
-            IfErr result (λ error. Refuses (Next T.promise.spelling.reads (left_in self.old))
-            (inside S.view self.old) (as_core error)) }
-        ensures stops { IfErr result (λ error. Stops
-            (StopsElement (said_by T.promise) (left_in self.old))
-            (inside S.view self.old) (inside S.view self.new) (as_core error)) }
-        ensures still { left_in self.old ≢ Open → IfOk result
-            (λ part. part ≡ None → inside S.view self.new ≡ inside S.view self.old) }
-        ensures shrinks { IfOk result (λ part. OnSome part
-            (fuel (left_in self.new) (inside S.view self.new).bound + 1
-            ≤ fuel (left_in self.old) (inside S.view self.old).bound)) }
+        ensures decodes { DecodesIf T.promise.exact
+            (next_spelling (left_in self.old) (part_of T.promise))
+            (inside S.view self.old) (inside S.view self.new) (answer_of result) }
+        ensures goes_on { GoesOn S.view self.old self.new result }
     {
         match self.starts_element() {
             Ok(true) => match T::deserialize(alloc, self.de) {
@@ -333,31 +274,10 @@ impl<'a, S: Source> Accessor<'a, S> {
         &mut self,
         alloc: Global,
     ) -> Result<Option<K>, DecodeError<S::Error>>
-        ensures same_reference { lender_of self.new ≡ lender_of self.old }
-        ensures same_steps { steps_held self.new ≡ steps_held self.old }
-        ensures moves { Moves (inside S.view self.old) (inside S.view self.new)
-            (answer_of result) }
-        ensures memory { IfErr result
-            (λ error. IsTrue (is_out_of_memory (as_core error)) →
-            IsTrue K.promise.spelling.takes_memory) }
-        ensures sound { IfOk result (Sound (Next K.promise.spelling.reads (left_in self.old))
-            (inside S.view self.old) (inside S.view self.new)) }
-        ensures left { IfOk result
-            (λ part. left_in self.new ≡ left_then (left_in self.old) part) }
-        ensures tried { OnErr result (left_in self.new ≡ left_tried (left_in self.old)) }
-        ensures asked { OnErr result (MayGoOn (left_in self.old)) }
-        ensures complete { IsTrue K.promise.exact → IsExact K.promise.spelling.owned
-            (inside S.view self.old) →
-            IfErr result (λ error. Refuses (Next K.promise.spelling.reads (left_in self.old))
-            (inside S.view self.old) (as_core error)) }
-        ensures stops { IfErr result (λ error. Stops
-            (StopsElement (said_by K.promise) (left_in self.old))
-            (inside S.view self.old) (inside S.view self.new) (as_core error)) }
-        ensures still { left_in self.old ≢ Open → IfOk result
-            (λ part. part ≡ None → inside S.view self.new ≡ inside S.view self.old) }
-        ensures shrinks { IfOk result (λ part. OnSome part
-            (fuel (left_in self.new) (inside S.view self.new).bound + 1
-            ≤ fuel (left_in self.old) (inside S.view self.old).bound)) }
+        ensures decodes { DecodesIf K.promise.exact
+            (next_spelling (left_in self.old) (part_of K.promise))
+            (inside S.view self.old) (inside S.view self.new) (answer_of result) }
+        ensures goes_on { GoesOn S.view self.old self.new result }
     {
         self.next_element::<K>(alloc)
     }
@@ -374,20 +294,8 @@ impl<'a, S: Source> Accessor<'a, S> {
         ensures same_reference { lender_of self.new ≡ lender_of self.old }
         ensures same_steps { steps_held self.new ≡ steps_held self.old }
         ensures left { left_in self.new ≡ left_in self.old }
-        ensures moves { Moves (inside S.view self.old) (inside S.view self.new)
-            (answer_of result) }
-        ensures memory { IfErr result
-            (λ error. IsTrue (is_out_of_memory (as_core error)) →
-            IsTrue V.promise.spelling.takes_memory) }
-        ensures sound { IfOk result
-            (Sound V.promise.spelling.reads (inside S.view self.old) (inside S.view self.new)) }
-        ensures complete { IsTrue V.promise.exact → IsExact V.promise.spelling.owned
-            (inside S.view self.old) →
-            IfErr result (λ error.
-            Refuses V.promise.spelling.reads (inside S.view self.old) (as_core error)) }
-        ensures stops { IsTrue V.promise.told → IfErr result (λ error.
-            Stops V.promise.spelling.begins (inside S.view self.old) (inside S.view self.new)
-            (as_core error)) }
+        ensures decodes { Deserializes V.promise
+            (inside S.view self.old) (inside S.view self.new) (answer_of result) }
     {
         V::deserialize(alloc, self.de)
     }
@@ -403,34 +311,10 @@ impl<'a, S: Source> Accessor<'a, S> {
         &mut self,
         alloc: Global,
     ) -> Result<Option<(K, V)>, DecodeError<S::Error>>
-        ensures same_reference { lender_of self.new ≡ lender_of self.old }
-        ensures same_steps { steps_held self.new ≡ steps_held self.old }
-        ensures moves { Moves (inside S.view self.old) (inside S.view self.new)
-            (answer_of result) }
-        ensures memory { IfErr result (λ error. IsTrue (is_out_of_memory (as_core error)) →
-            IsTrue (K.promise.spelling.takes_memory || V.promise.spelling.takes_memory)) }
-        ensures sound { IfOk result (Sound (Next
-            (ReadsPair K.promise.spelling.reads V.promise.spelling.reads) (left_in self.old))
-            (inside S.view self.old) (inside S.view self.new)) }
-        ensures left { IfOk result
-            (λ part. left_in self.new ≡ left_then (left_in self.old) part) }
-        ensures tried { OnErr result (left_in self.new ≡ left_tried (left_in self.old)) }
-        ensures asked { OnErr result (MayGoOn (left_in self.old)) }
-        ensures complete { IsTrue (K.promise.exact && V.promise.exact) →
-            IsExact (K.promise.spelling.owned && V.promise.spelling.owned) (inside S.view self.old)
-            → IfErr result (λ error.
-            Refuses (Next (ReadsPair K.promise.spelling.reads V.promise.spelling.reads)
-            (left_in self.old))
-            (inside S.view self.old) (as_core error)) }
-        ensures stops { IfErr result (λ error. Stops (StopsElement
-            (StopsPair K.promise.spelling.reads (said_by K.promise) (said_by V.promise))
-            (left_in self.old))
-            (inside S.view self.old) (inside S.view self.new) (as_core error)) }
-        ensures still { left_in self.old ≢ Open → IfOk result
-            (λ part. part ≡ None → inside S.view self.new ≡ inside S.view self.old) }
-        ensures shrinks { IfOk result (λ part. OnSome part
-            (fuel (left_in self.new) (inside S.view self.new).bound + 1
-            ≤ fuel (left_in self.old) (inside S.view self.old).bound)) }
+        ensures decodes { DecodesIf (K.promise.exact && V.promise.exact)
+            (next_spelling (left_in self.old) (two_of K.promise V.promise))
+            (inside S.view self.old) (inside S.view self.new) (answer_of result) }
+        ensures goes_on { GoesOn S.view self.old self.new result }
     {
         match self.next_element::<K>(alloc) {
             Ok(Some(key)) => match V::deserialize(alloc, self.de) {

@@ -4,7 +4,7 @@ ghost use Rattle.std.specs.Prelude.{OnOk, IsOk, codes};
 ghost use Rattle.std.specs.Borrow.{sem, LendsIfOk, RestsIfErr};
 ghost use mir.Syntax.{named};
 ghost use Rattle.cbor4ii_rw.specs.Reader.{Breaks};
-ghost use Rattle.cbor4ii_items.specs.Moves.{Moves, OnRead};
+ghost use Rattle.cbor4ii_items.specs.Moves.{OnRead};
 ghost use Rattle.cbor4ii_items.specs.Decoding.{IsExact, Sound, Refuses, Stops, Decodes};
 ghost use Rattle.cbor4ii_items.specs.Lengths.{ReadsLength, StopsLength};
 ghost use Rattle.cbor4ii_items.specs.Refusal.{is_out_of_memory};
@@ -15,11 +15,10 @@ ghost use Rattle.cbor4ii.specs.Accessing.{inside, lender_of, left_in, steps_held
 ghost use Rattle.cbor4ii.specs.Accessing.{Closes, Finishes, RefusedAs};
 ghost use Rattle.cbor4ii.specs.Stepped.{Stepped, StopsStepped, stepped_spelling};
 ghost use Rattle.cbor4ii.specs.Tuples.{ReadsCountOf, StopsCountOf};
-ghost use Rattle.cbor4ii.specs.Typed.{input, answer_of, as_core, said_by};
+ghost use Rattle.cbor4ii.specs.Typed.{input, answer_of, as_core, said_by, Deserializes};
 ghost use Rattle.cbor4ii.specs.Variants.{inside_enum, reference_of_enum, deserializer_of_enum};
-ghost use Rattle.cbor4ii.specs.Variants.{lender_of_enum, form_of, with_content, ReadsForm};
-ghost use Rattle.cbor4ii.specs.Variants.{StopsForm, OpensEnum, ReadsContent, StopsContent};
-ghost use Rattle.cbor4ii.specs.Variants.{SaysOther, form_spelling};
+ghost use Rattle.cbor4ii.specs.Variants.{lender_of_enum, form_of, with_content, OpensEnum};
+ghost use Rattle.cbor4ii.specs.Variants.{ReadsContent, StopsContent, SaysOther, form_spelling};
 
 use crate::serde::de::accessor::{Accessor, Left};
 use crate::serde::de::deserialize::Deserialize;
@@ -79,17 +78,13 @@ impl<S: Source> Deserializer<S> {
     ) -> Result<EnumAccessor<'_, S>, DecodeError<S::Error>>
         ensures* refused { sem 𝓛 (RestsIfErr (the_row S.row) self.entry
             lender_of_enum result (λ new.
-            Moves (input S.view self.old) (input S.view new) (answer_of result) ×
-            OnRead (answer_of result) (Breaks (input S.view self.old) (input S.view new)) ×
-            IfErr result (λ error. Stops (StopsStepped (codes "enum") StopsForm)
-            (input S.view self.old) (input S.view new) (as_core error)))) }
+            RefusedAs (stepped_spelling (codes "enum") form_spelling)
+            (input S.view self.old) (input S.view new) (answer_of result) ×
+            OnRead (answer_of result) (Breaks (input S.view self.old) (input S.view new)))) }
         ensures same_reference { IfOk result
             (λ accessor. lender_of_enum accessor ≡ self.entry.ghost_name) }
         ensures opened { IfOk result (λ accessor. OpensEnum (input S.view self.old)
             (inside_enum S.view accessor) (form_of accessor)) }
-        ensures memory { IfErr result (λ error. is_out_of_memory (as_core error) ≡ false) }
-        ensures complete { IfErr result (λ error.
-            Refuses (Stepped ReadsForm) (input S.view self.old) (as_core error)) }
     {
         match begin_enum(&mut self.reader) {
             Ok((content, found)) => Ok(EnumAccessor {
@@ -228,23 +223,8 @@ impl<'a, S: Source> EnumAccessor<'a, S> {
     pub fn variant<V: Deserialize<S>>(&mut self, alloc: Global) -> Result<V, DecodeError<S::Error>>
         ensures same_reference { lender_of_enum self.new ≡ lender_of_enum self.old }
         ensures same_form { form_of self.new ≡ form_of self.old }
-        ensures moves { Moves (inside_enum S.view self.old) (inside_enum S.view self.new)
-            (answer_of result) }
-        ensures memory { IfErr result
-            (λ error. IsTrue (is_out_of_memory (as_core error)) →
-            IsTrue V.promise.spelling.takes_memory) }
-        ensures progress { OnOk result
-            ((inside_enum S.view self.new).bound + 1 ≤ (inside_enum S.view self.old).bound) }
-        ensures sound { IfOk result
-            (Sound V.promise.spelling.reads (inside_enum S.view self.old)
-            (inside_enum S.view self.new)) }
-        ensures complete { IsTrue V.promise.exact → IsExact V.promise.spelling.owned
-            (inside_enum S.view self.old) →
-            IfErr result (λ error.
-            Refuses V.promise.spelling.reads (inside_enum S.view self.old) (as_core error)) }
-        ensures stops { IsTrue V.promise.told → IfErr result
-            (λ error. Stops V.promise.spelling.begins
-            (inside_enum S.view self.old) (inside_enum S.view self.new) (as_core error)) }
+        ensures decodes { Deserializes V.promise (inside_enum S.view self.old)
+            (inside_enum S.view self.new) (answer_of result) }
     {
         V::deserialize(alloc, self.de)
     }

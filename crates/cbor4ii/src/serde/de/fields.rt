@@ -1,21 +1,12 @@
 //! Structs that are read from their named fields in one call.
-ghost use Rattle.std.specs.Prelude.{ℕ, ◌+◌, ◌≤◌, ◌&&◌, List, Bool, true, codes, OnOk, IfErr};
-ghost use Rattle.std.specs.Prelude.{IsTrue};
+ghost use Rattle.std.specs.Prelude.{ℕ, List, codes};
 ghost use Rattle.std.specs.Borrow.{Bor};
-ghost use Rattle.cbor4ii_items.specs.Decoding.{IsExact, Refuses, Stops};
-ghost use Rattle.cbor4ii_items.specs.Laws.Containers.{both};
-ghost use Rattle.cbor4ii_items.specs.Moves.{Moves};
-ghost use Rattle.cbor4ii_items.specs.Sequences.{ReadsCount, ReadsUpToBreak, ReadsInside};
-ghost use Rattle.cbor4ii_items.specs.Sequences.{ReadsSequence, StopsCount, StopsUpToBreak};
-ghost use Rattle.cbor4ii_items.specs.Sequences.{StopsInside};
-ghost use Rattle.cbor4ii.specs.Fields.{ReadsNamed, no_field, no_values, ReadsEntry, Changes, Fills};
-ghost use Rattle.cbor4ii.specs.Fields.{fields_by, NamedLaws, SameField, no_field_laws, StopsNamed};
-ghost use Rattle.cbor4ii.specs.Fields.{no_field_stops, stops_by, StopsEntry, StopsFields};
-ghost use Rattle.cbor4ii.specs.Fields.{fields_by_laws};
+ghost use Rattle.cbor4ii_items.specs.Sequences.{count_of, open_of, inside_of, in_list};
+ghost use Rattle.cbor4ii.specs.Fields.{no_values, made, all_made, Alters};
 ghost use Rattle.cbor4ii.specs.Names.{StandsAt};
-ghost use Rattle.cbor4ii.specs.Structs.{struct_of, field, no_more};
-ghost use Rattle.cbor4ii.specs.Typed.{input, answer_of, any_two, as_core, said_by, typed_laws};
-ghost use Rattle.cbor4ii.specs.Typed.{Deserializes};
+ghost use Rattle.cbor4ii.specs.Structs.{Fields, no_more, field, fields_by, behind_name, entry_of};
+ghost use Rattle.cbor4ii.specs.Structs.{entries_of, struct_of};
+ghost use Rattle.cbor4ii.specs.Typed.{input, answer_of, Deserializes};
 
 use crate::serde::de::deserialize::Deserialize;
 use crate::serde::de::deserializer::Deserializer;
@@ -30,18 +21,8 @@ use std::alloc::Global;
 
 /// The values of named fields, in the order of their names.
 trait Values<S: Source>: Sized {
-    // What stands behind a name, where the fields have these names.
-    ghost named: { List (Bor (List ℕ)) → ReadsNamed Self };
-
-    // How it is refused.
-    ghost stops: { List (Bor (List ℕ)) → StopsNamed };
-
-    // The values of both mean the same, one by one.
-    ghost same: { Self → Self → Type 0 };
-
-    ghost owned: { Bool };
-
-    ghost exact: { Bool };
+    // The fields that have these names.
+    ghost fields: { List (Bor (List ℕ)) → Fields Self };
 
     /// Reads the value of the field whose name stands at this place, and skips one of another name.
     #[inline(always)]
@@ -52,33 +33,14 @@ trait Values<S: Source>: Sized {
         at: usize,
         de: &mut Deserializer<S>,
     ) -> Result<(), DecodeError<S::Error>>
-        ensures moves { Moves (input S.view de.old) (input S.view de.new) (answer_of result) }
-        ensures sound { (name : List ℕ) → StandsAt name names.now at →
-            OnOk result (Changes (Self.named names.now name) self.old self.new
-            (input S.view de.old) (input S.view de.new)) }
-        ensures complete { (name : List ℕ) → StandsAt name names.now at →
-            IsTrue Self.exact → IsExact Self.owned (input S.view de.old) →
-            IfErr result (λ error. Refuses (Self.named names.now name)
-            (input S.view de.old) (as_core error)) }
-        ensures stops { (name : List ℕ) → StandsAt name names.now at →
-            IfErr result (λ error. Stops (Self.stops names.now name)
-            (input S.view de.old) (input S.view de.new) (as_core error)) };
-
-    ghost laws: { IsTrue Self.exact → (names : List (Bor (List ℕ))) → NamedLaws
-        Self.same (Self.named names) };
+        ensures { (name : List ℕ) → StandsAt name names.now at →
+            Alters made (Self.fields names.now).exact (behind_name (Self.fields names.now) name)
+            self.old self.new (input S.view de.old) (input S.view de.new) (answer_of result) };
 }
 
 /// No field.
 impl<S: Source> Values<S> for () {
-    ghost named = { λ names. no_field };
-
-    ghost stops = { λ names. no_field_stops };
-
-    ghost same = { any_two };
-
-    ghost owned = { true };
-
-    ghost exact = { true };
+    ghost fields = { λ names. no_more };
 
     #[inline(always)]
     fn take(
@@ -90,21 +52,11 @@ impl<S: Source> Values<S> for () {
     ) -> Result<(), DecodeError<S::Error>> {
         de.deserialize_ignored_any(alloc)
     }
-
-    ghost laws = { λ e names. no_field_laws any_two };
 }
 
 /// A field, and those behind it.
 impl<S: Source, T: Deserialize<S> + Drop, V: Values<S>> Values<S> for (Option<T>, V) {
-    ghost named = { fields_by T.promise.spelling.reads V.named };
-
-    ghost stops = { stops_by (said_by T.promise) V.stops };
-
-    ghost same = { SameField T.promise.spelling.same V.same };
-
-    ghost owned = { T.promise.spelling.owned && V.owned };
-
-    ghost exact = { T.promise.exact && V.exact };
+    ghost fields = { fields_by T.promise V.fields };
 
     #[inline(always)]
     fn take(
@@ -130,10 +82,6 @@ impl<S: Source, T: Deserialize<S> + Drop, V: Values<S>> Values<S> for (Option<T>
             [] => de.deserialize_ignored_any(alloc),
         }
     }
-
-    ghost laws = { λ e. fields_by_laws V.named V.same
-        (typed_laws T.promise (both T.promise.exact V.exact e).0)
-        (V.laws (both T.promise.exact V.exact e).1) };
 }
 
 /// Reads a name and what stands behind it.
@@ -144,14 +92,9 @@ fn take_field<S: Source, V: Values<S>>(
     names: &[StaticStr],
     values: &mut V,
 ) -> Result<(), DecodeError<S::Error>>
-    ensures moves { Moves (input S.view de.old) (input S.view de.new) (answer_of result) }
-    ensures progress { OnOk result ((input S.view de.new).bound + 1 ≤ (input S.view de.old).bound) }
-    ensures sound { OnOk result (Changes (ReadsEntry (V.named names.now)) values.old values.new
-        (input S.view de.old) (input S.view de.new)) }
-    ensures complete { IsTrue V.exact → IsExact V.owned (input S.view de.old) → IfErr result
-        (λ error. Refuses (ReadsEntry (V.named names.now)) (input S.view de.old) (as_core error)) }
-    ensures stops { IfErr result (λ error. Stops (StopsEntry (V.stops names.now))
-        (input S.view de.old) (input S.view de.new) (as_core error)) }
+    ensures { Alters made (V.fields names.now).exact
+        (entry_of (V.fields names.now)) values.old values.new
+        (input S.view de.old) (input S.view de.new) (answer_of result) }
 {
     match take_name(alloc, de, names) {
         Ok(at) => values.take(alloc, names, at, de),
@@ -167,16 +110,9 @@ fn take_fields<S: Source, V: Values<S>>(
     names: &[StaticStr],
     values: &mut V,
 ) -> Result<(), DecodeError<S::Error>>
-    ensures moves { Moves (input S.view de.old) (input S.view de.new) (answer_of result) }
-    ensures progress { OnOk result ((input S.view de.new).bound + 1 ≤ (input S.view de.old).bound) }
-    ensures sound { OnOk result (Fills (ReadsSequence 5 (ReadsEntry (V.named names.now)) true)
-        values.old values.new (input S.view de.old) (input S.view de.new)) }
-    ensures complete { IsTrue V.exact → IsExact V.owned (input S.view de.old) → IfErr result
-        (λ error. Refuses (ReadsSequence 5 (ReadsEntry (V.named names.now)) true)
-        (input S.view de.old) (as_core error)) }
-    ensures stops { IfErr result (λ error. Stops
-        (StopsFields (V.named names.now) (V.stops names.now))
-        (input S.view de.old) (input S.view de.new) (as_core error)) }
+    ensures { Alters all_made (V.fields names.now).exact
+        (entries_of (V.fields names.now)) values.old values.new
+        (input S.view de.old) (input S.view de.new) (answer_of result) }
 {
     if !de.reader.step_in() {
         return Err(DecodeError::Core(core_error::DecodeError::DepthOverflow { name: "map" }));
@@ -194,17 +130,9 @@ fn fields_inside<S: Source, V: Values<S>>(
     names: &[StaticStr],
     values: &mut V,
 ) -> Result<(), DecodeError<S::Error>>
-    ensures moves { Moves (input S.view de.old) (input S.view de.new) (answer_of result) }
-    ensures progress { OnOk result ((input S.view de.new).bound + 1 ≤ (input S.view de.old).bound) }
-    ensures sound { OnOk result (Fills (ReadsInside 5 (ReadsEntry (V.named names.now)) true)
-        values.old values.new (input S.view de.old) (input S.view de.new)) }
-    ensures complete { IsTrue V.exact → IsExact V.owned (input S.view de.old) → IfErr result
-        (λ error. Refuses (ReadsInside 5 (ReadsEntry (V.named names.now)) true)
-        (input S.view de.old) (as_core error)) }
-    ensures stops { IfErr result (λ error. Stops
-        (StopsInside (codes "map") 5 (ReadsEntry (V.named names.now))
-        (StopsEntry (V.stops names.now)) true)
-        (input S.view de.old) (input S.view de.new) (as_core error)) }
+    ensures { Alters all_made (V.fields names.now).exact
+        (inside_of in_list (codes "map") 5 (entry_of (V.fields names.now))) values.old values.new
+        (input S.view de.old) (input S.view de.new) (answer_of result) }
 {
     match Map::<()>::len(&mut de.reader) {
         Ok(Some(count)) => counted_fields(alloc, de, names, values, count),
@@ -222,15 +150,9 @@ fn counted_fields<S: Source, V: Values<S>>(
     values: &mut V,
     count: usize,
 ) -> Result<(), DecodeError<S::Error>>
-    ensures moves { Moves (input S.view de.old) (input S.view de.new) (answer_of result) }
-    ensures sound { OnOk result (Fills (ReadsCount (ReadsEntry (V.named names.now)) count)
-        values.old values.new (input S.view de.old) (input S.view de.new)) }
-    ensures complete { IsTrue V.exact → IsExact V.owned (input S.view de.old) → IfErr result
-        (λ error. Refuses (ReadsCount (ReadsEntry (V.named names.now)) count)
-        (input S.view de.old) (as_core error)) }
-    ensures stops { IfErr result (λ error. Stops
-        (StopsCount (ReadsEntry (V.named names.now)) (StopsEntry (V.stops names.now)) count)
-        (input S.view de.old) (input S.view de.new) (as_core error)) }
+    ensures { Alters all_made (V.fields names.now).exact
+        (count_of in_list (entry_of (V.fields names.now)) count) values.old values.new
+        (input S.view de.old) (input S.view de.new) (answer_of result) }
 {
     for i in 0..count {
         take_field(alloc, de, names, values)?;
@@ -245,16 +167,9 @@ fn open_fields<S: Source, V: Values<S>>(
     names: &[StaticStr],
     values: &mut V,
 ) -> Result<(), DecodeError<S::Error>>
-    ensures moves { Moves (input S.view de.old) (input S.view de.new) (answer_of result) }
-    ensures sound { OnOk result (Fills (ReadsUpToBreak (ReadsEntry (V.named names.now)) true)
-        values.old values.new (input S.view de.old) (input S.view de.new)) }
-    ensures complete { IsTrue V.exact → IsExact V.owned (input S.view de.old) → IfErr result
-        (λ error. Refuses (ReadsUpToBreak (ReadsEntry (V.named names.now)) true)
-        (input S.view de.old) (as_core error)) }
-    ensures stops { IfErr result (λ error. Stops
-        (StopsUpToBreak (codes "map") (ReadsEntry (V.named names.now))
-        (StopsEntry (V.stops names.now)) true)
-        (input S.view de.old) (input S.view de.new) (as_core error)) }
+    ensures { Alters all_made (V.fields names.now).exact
+        (open_of in_list (codes "map") (entry_of (V.fields names.now))) values.old values.new
+        (input S.view de.old) (input S.view de.new) (answer_of result) }
 {
     while !takes_break(de)? {
         take_field(alloc, de, names, values)?;

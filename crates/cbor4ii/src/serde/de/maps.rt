@@ -1,10 +1,10 @@
 //! Maps, read as ordered maps.
-ghost use Rattle.std.specs.Prelude.{◌≡◌, codes, IfOk, OnOk};
+ghost use Rattle.std.specs.Prelude.{◌≡◌, ◌&&◌, codes, IfOk, OnOk};
 ghost use Rattle.std.proofs.Common.{refl};
 ghost use Rattle.std.specs.BTreeMap.{insert_entry};
 ghost use Rattle.cbor4ii.specs.Built.{built};
 ghost use Rattle.cbor4ii.specs.Sequence.{five_small};
-ghost use Rattle.cbor4ii.specs.TypedParts.{telling, two_of, typed_map};
+ghost use Rattle.cbor4ii.specs.TypedParts.{two_of, two_lawful, typed_map};
 
 use crate::serde::de::deserialize::{Deserialize, Typed};
 use crate::serde::de::deserializer::Deserializer;
@@ -25,7 +25,9 @@ impl<S: Source, K: Deserialize<S> + Ord + Drop, V: Deserialize<S> + Drop> Sequen
     for BTreeMap<K, V> {
     type Part = (K, V);
 
-    ghost part = { two_of (telling K.promise) (telling V.promise) };
+    ghost part = { two_of K.promise V.promise };
+
+    ghost exact = { K.promise.exact && V.promise.exact };
 
     ghost major = { 5 };
 
@@ -41,7 +43,9 @@ impl<S: Source, K: Deserialize<S> + Ord + Drop, V: Deserialize<S> + Drop> Sequen
         two_parts::<S, K, V>(alloc, de)
     }
 
-    ghost told = { refl };
+    ghost some = { refl };
+
+    ghost lawful = { two_lawful K.promise V.promise };
 
     ghost small = { five_small };
 }

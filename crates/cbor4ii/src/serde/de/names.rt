@@ -1,14 +1,8 @@
 //! Names of fields, read and found among some names. No memory is taken for one that stands whole
 //! in what the reader shows, behind its length in one byte.
-ghost use Rattle.std.specs.Prelude.{◌≡◌, ◌≢◌, ◌+◌, ◌≤◌, ◌<◌, length, true, false, None, Ok, codes};
-ghost use Rattle.std.specs.Prelude.{IsUtf8, OnOk, OnSome, IfOk, IfErr, IfSome};
-ghost use Rattle.cbor4ii_items.specs.Decoding.{Refuses, Stops};
-ghost use Rattle.cbor4ii_items.specs.Lent.{Stays};
-ghost use Rattle.cbor4ii_items.specs.Moves.{Moves};
-ghost use Rattle.cbor4ii_items.specs.Strings.{StopsText};
-ghost use Rattle.cbor4ii.specs.Fields.{ReadsName};
-ghost use Rattle.cbor4ii.specs.Names.{StandsAt, IsWholeName, TakesName};
-ghost use Rattle.cbor4ii.specs.Typed.{input, answer_of, as_core};
+ghost use Rattle.std.specs.Prelude.{◌≡◌, ◌≢◌, ◌≤◌, ◌<◌, length, true, false, IsUtf8, IfSome};
+ghost use Rattle.cbor4ii.specs.Names.{StandsAt, IsWholeName, TakesName, TakesShown};
+ghost use Rattle.cbor4ii.specs.Typed.{input, answer_of};
 
 use crate::serde::de::deserialize::Deserialize;
 use crate::serde::de::deserializer::Deserializer;
@@ -31,14 +25,8 @@ pub(crate) fn take_name<S: Source>(
     de: &mut Deserializer<S>,
     names: &[StaticStr],
 ) -> Result<usize, DecodeError<S::Error>>
-    ensures moves { Moves (input S.view de.old) (input S.view de.new) (answer_of result) }
-    ensures progress { OnOk result ((input S.view de.new).bound + 1 ≤ (input S.view de.old).bound) }
-    ensures sound { IfOk result (λ at.
-        TakesName names.now at (input S.view de.old) (input S.view de.new)) }
-    ensures complete { IfErr result (λ error.
-        Refuses ReadsName (input S.view de.old) (as_core error)) }
-    ensures stops { IfErr result (λ error. Stops (StopsText (codes "str"))
-        (input S.view de.old) (input S.view de.new) (as_core error)) }
+    ensures { TakesName names.now (input S.view de.old) (input S.view de.new)
+        (answer_of result) }
 {
     match take_shown_name(de, names) {
         Ok(Some(at)) => Ok(at),
@@ -55,14 +43,8 @@ fn take_any_name<S: Source>(
     de: &mut Deserializer<S>,
     names: &[StaticStr],
 ) -> Result<usize, DecodeError<S::Error>>
-    ensures moves { Moves (input S.view de.old) (input S.view de.new) (answer_of result) }
-    ensures progress { OnOk result ((input S.view de.new).bound + 1 ≤ (input S.view de.old).bound) }
-    ensures sound { IfOk result (λ at.
-        TakesName names.now at (input S.view de.old) (input S.view de.new)) }
-    ensures complete { IfErr result (λ error.
-        Refuses ReadsName (input S.view de.old) (as_core error)) }
-    ensures stops { IfErr result (λ error. Stops (StopsText (codes "str"))
-        (input S.view de.old) (input S.view de.new) (as_core error)) }
+    ensures { TakesName names.now (input S.view de.old) (input S.view de.new)
+        (answer_of result) }
 {
     match String::deserialize(alloc, de) {
         Ok(name) => Ok(place(names, name.as_bytes())),
@@ -78,16 +60,8 @@ fn take_shown_name<S: Source>(
     de: &mut Deserializer<S>,
     names: &[StaticStr],
 ) -> Result<Option<usize>, DecodeError<S::Error>>
-    ensures moves { Moves (input S.view de.old) (input S.view de.new) (answer_of result) }
-    ensures progress { IfOk result (λ found.
-        OnSome found ((input S.view de.new).bound + 1 ≤ (input S.view de.old).bound)) }
-    ensures sound { IfOk result (λ found. IfSome found (λ at.
-        TakesName names.now at (input S.view de.old) (input S.view de.new))) }
-    ensures none { result ≡ Ok None → Stays (input S.view de.old) (input S.view de.new) }
-    ensures complete { IfErr result (λ error.
-        Refuses ReadsName (input S.view de.old) (as_core error)) }
-    ensures stops { IfErr result (λ error. Stops (StopsText (codes "str"))
-        (input S.view de.old) (input S.view de.new) (as_core error)) }
+    ensures { TakesShown names.now (input S.view de.old) (input S.view de.new)
+        (answer_of result) }
 {
     let mut failure = None;
     let found = match look(&mut de.reader, LONGEST, &mut failure) {

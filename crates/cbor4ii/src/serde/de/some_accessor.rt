@@ -4,16 +4,15 @@ ghost use Rattle.std.specs.Prelude.{OnSome};
 ghost use Rattle.std.specs.Borrow.{sem, Lends, RestsIfErr};
 ghost use mir.Syntax.{named};
 ghost use Rattle.cbor4ii_rw.specs.Reader.{Breaks};
-ghost use Rattle.cbor4ii_items.specs.Moves.{Moves, OnRead};
+ghost use Rattle.cbor4ii_items.specs.Moves.{OnRead};
 ghost use Rattle.cbor4ii_items.specs.Decoding.{IsExact, Sound, Refuses, Stops};
 ghost use Rattle.cbor4ii_items.specs.Refusal.{is_out_of_memory};
 ghost use Rattle.cbor4ii.specs.contracts.serde.de.deserializer.Deserializer.{the_row};
 ghost use Rattle.cbor4ii.specs.contracts.serde.de.some_accessor.SomeAccessor.{the_row as the_some};
 ghost use Rattle.cbor4ii.specs.Accessing.{Closes, Finishes, RefusedAs};
 ghost use Rattle.cbor4ii.specs.Optional.{inside_some, deserializer_of_some, lender_of_some, comes};
-ghost use Rattle.cbor4ii.specs.Optional.{steps_of_some, with_value_from, ReadsPresence};
-ghost use Rattle.cbor4ii.specs.Optional.{StopsPresence, OpensOption, ReadsComingValue};
-ghost use Rattle.cbor4ii.specs.Optional.{presence_spelling};
+ghost use Rattle.cbor4ii.specs.Optional.{steps_of_some, with_value_from, OpensOption};
+ghost use Rattle.cbor4ii.specs.Optional.{ReadsComingValue, presence_spelling};
 ghost use Rattle.cbor4ii.specs.Typed.{input, answer_of, as_core};
 
 use crate::serde::de::deserialize::Deserialize;
@@ -57,17 +56,13 @@ impl<S: Source> Deserializer<S> {
     pub fn deserialize_option(&mut self) -> Result<SomeAccessor<'_, S>, DecodeError<S::Error>>
         ensures* refused { sem 𝓛 (RestsIfErr (the_row S.row) self.entry
             lender_of_some result (λ new.
-            Moves (input S.view self.old) (input S.view new) (answer_of result) ×
-            OnRead (answer_of result) (Breaks (input S.view self.old) (input S.view new)) ×
-            IfErr result (λ error. Stops StopsPresence
-            (input S.view self.old) (input S.view new) (as_core error)))) }
+            RefusedAs presence_spelling
+            (input S.view self.old) (input S.view new) (answer_of result) ×
+            OnRead (answer_of result) (Breaks (input S.view self.old) (input S.view new)))) }
         ensures same_reference { IfOk result
             (λ accessor. lender_of_some accessor ≡ self.entry.ghost_name) }
         ensures opened { IfOk result (λ accessor. OpensOption (input S.view self.old)
             (inside_some S.view accessor) (comes accessor)) }
-        ensures memory { IfErr result (λ error. is_out_of_memory (as_core error) ≡ false) }
-        ensures complete { IfErr result (λ error.
-            Refuses ReadsPresence (input S.view self.old) (as_core error)) }
     {
         match begin_option(&mut self.reader) {
             Ok(some) => Ok(SomeAccessor { de: self, some }),

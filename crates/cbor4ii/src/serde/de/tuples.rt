@@ -1,9 +1,9 @@
 //! Pairs and triples.
-ghost use Rattle.cbor4ii_items.specs.Decoding.{Decodes};
-ghost use Rattle.cbor4ii.specs.Typed.{input, answer_of, Deserializes};
-ghost use Rattle.cbor4ii.specs.Tuples.{counted_head};
-ghost use Rattle.cbor4ii.specs.TypedParts.{behind_head, three_of, two_of, typed_pair, typed_triple};
-ghost use Rattle.cbor4ii.specs.TypedParts.{telling};
+ghost use Rattle.std.specs.Prelude.{◌&&◌};
+ghost use Rattle.cbor4ii_items.specs.Decoding.{Decodes, DecodesIf};
+ghost use Rattle.cbor4ii.specs.Typed.{input, answer_of};
+ghost use Rattle.cbor4ii.specs.Tuples.{counted_head, behind_spelling};
+ghost use Rattle.cbor4ii.specs.TypedParts.{two_of, three_of, typed_pair, typed_triple};
 
 use crate::serde::de::deserialize::{Deserialize, Typed};
 use crate::serde::de::deserializer::Deserializer;
@@ -45,7 +45,8 @@ fn pair_behind<S: Source, A: Deserialize<S> + Drop, B: Deserialize<S>>(
     alloc: Global,
     de: &mut Deserializer<S>,
 ) -> Result<(A, B), DecodeError<S::Error>>
-    ensures { Deserializes (behind_head 2 (two_of (telling A.promise) (telling B.promise)))
+    ensures { DecodesIf (A.promise.exact && B.promise.exact)
+        (behind_spelling 2 (two_of A.promise B.promise))
         (input S.view de.old) (input S.view de.new) (answer_of result) }
 {
     match take_count(&mut de.reader, 2) {
@@ -60,7 +61,7 @@ pub(crate) fn two_parts<S: Source, A: Deserialize<S> + Drop, B: Deserialize<S>>(
     alloc: Global,
     de: &mut Deserializer<S>,
 ) -> Result<(A, B), DecodeError<S::Error>>
-    ensures { Deserializes (two_of (telling A.promise) (telling B.promise))
+    ensures { DecodesIf (A.promise.exact && B.promise.exact) (two_of A.promise B.promise)
         (input S.view de.old) (input S.view de.new) (answer_of result) }
 {
     let first = A::deserialize(alloc, de)?;
@@ -124,8 +125,8 @@ fn triple_behind<S: Source, A: Deserialize<S> + Drop, B: Deserialize<S> + Drop, 
     alloc: Global,
     de: &mut Deserializer<S>,
 ) -> Result<(A, B, C), DecodeError<S::Error>>
-    ensures { Deserializes (behind_head 3
-        (three_of (telling A.promise) (telling B.promise) (telling C.promise)))
+    ensures { DecodesIf (A.promise.exact && (B.promise.exact && C.promise.exact))
+        (behind_spelling 3 (three_of A.promise B.promise C.promise))
         (input S.view de.old) (input S.view de.new) (answer_of result) }
 {
     match take_count(&mut de.reader, 3) {
@@ -140,7 +141,8 @@ fn three_parts<S: Source, A: Deserialize<S> + Drop, B: Deserialize<S> + Drop, C:
     alloc: Global,
     de: &mut Deserializer<S>,
 ) -> Result<(A, B, C), DecodeError<S::Error>>
-    ensures { Deserializes (three_of (telling A.promise) (telling B.promise) (telling C.promise))
+    ensures { DecodesIf (A.promise.exact && (B.promise.exact && C.promise.exact))
+        (three_of A.promise B.promise C.promise)
         (input S.view de.old) (input S.view de.new) (answer_of result) }
 {
     let first = A::deserialize(alloc, de)?;

@@ -2,7 +2,7 @@
 ghost use Rattle.std.specs.Prelude.{codes};
 ghost use Rattle.std.proofs.Common.{refl};
 ghost use Rattle.cbor4ii.specs.Sequence.{four_small};
-ghost use Rattle.cbor4ii.specs.TypedParts.{telling, typed_vector};
+ghost use Rattle.cbor4ii.specs.TypedParts.{part_of, part_lawful, typed_vector};
 
 use crate::serde::de::deserialize::{Deserialize, Typed};
 use crate::serde::de::deserializer::Deserializer;
@@ -20,7 +20,9 @@ impl<T: Typed> Typed for Vec<T> {
 impl<S: Source, T: Deserialize<S> + Drop> Sequence<S> for Vec<T> {
     type Part = T;
 
-    ghost part = { telling T.promise };
+    ghost part = { part_of T.promise };
+
+    ghost exact = { T.promise.exact };
 
     ghost major = { 4 };
 
@@ -36,7 +38,9 @@ impl<S: Source, T: Deserialize<S> + Drop> Sequence<S> for Vec<T> {
         T::deserialize(alloc, de)
     }
 
-    ghost told = { refl };
+    ghost some = { refl };
+
+    ghost lawful = { part_lawful T.promise };
 
     ghost small = { four_small };
 }

@@ -1,6 +1,6 @@
 use Rattle.std.proofs.Common.{true}
 use Rattle.cbor4ii_items.specs.ReadBack.{pair_cost}
-use Rattle.cbor4ii_items.specs.Sequences.{ReadsPair}
+use Rattle.cbor4ii_items.specs.Sequences.{ReadsPair, ReadsSequence}
 use Rattle.cbor4ii_ser.specs.Item.{entry_item}
 use Rattle.cbor4ii.proofs.Backs.{sequence_read_back, entries_back, built_again, map_read_back}
 use Rattle.cbor4ii.proofs.serde.laws.maps_are_read_back.Goals as goal
@@ -14,6 +14,6 @@ returns g c m key_cost value_cost ordered small keys values =
     let read = sequence_read_back (ReadsPair g.K.Typed.promise.spelling.reads
     g.V.Typed.promise.spelling.reads) item
     (pair_cost key_cost value_cost) 5 true m.entries small entries in
-    map_read_back (λ map. map.entries) g.K.Ord.cmp g.K.Typed.promise.spelling.reads
-    g.V.Typed.promise.spelling.reads _ m _
+    map_read_back (λ map. map.entries) g.K.Ord.cmp (ReadsSequence 5
+    (ReadsPair g.K.Typed.promise.spelling.reads g.V.Typed.promise.spelling.reads) true) _ m _
     (built_again g.K.Ord.cmp g.met.K.Ord.total m.entries ordered) read

@@ -1,16 +1,16 @@
 use Rattle.std.proofs.Common.{arith, refl, rules}
 use Rattle.std.proofs.lemmas.Result.{err_from_is_err_and}
-use Rattle.cbor4ii_items.specs.Laws.Calls.{out_of_memory}
+use Rattle.cbor4ii_items.specs.Laws.Calls.{out_of_memory, of_exact, exactly}
 use Rattle.cbor4ii_items.specs.Laws.SequenceParts.{count_more, count_done, count_err}
 use Rattle.cbor4ii_items.specs.Laws.Steps.{kept_then}
-use Rattle.cbor4ii_items.specs.Sequences.{count_spelling}
+use Rattle.cbor4ii_items.specs.Sequences.{count_spelling, in_vector}
 use Rattle.cbor4ii_items.proofs.sequences.parts.take_counted.Goals as goal
 
 pub returns-in_err-part : goal.returns-in_err-part
 returns-in_err-part g c =
     let p = err_from_is_err_and c.from_residual.result c.from_residual.ensures.1 in
-    rw (p.1, p.2) (count_err g.Q.Sequence.part g.met.Q.Sequence.lawful c.loop-i.invariant
-    c.loop-i-test.true c.in_err-part.ensures)
+    rw (p.1, p.2) (exactly (count_err in_vector g.Q.Sequence.part (λ is. g.met.Q.Sequence.lawful)
+    c.loop-i.invariant c.loop-i-test.true (of_exact c.in_err-part.ensures)))
 
 pub returns-in-Err : goal.returns-in-Err
 returns-in-Err g c =
@@ -19,9 +19,10 @@ returns-in-Err g c =
 
 pub loop-i-preserved : goal.loop-i-preserved
 loop-i-preserved g c =
-    count_more g.Q.Sequence.part c.loop-i.invariant c.in_ok-part.ensures (search rules)
+    count_more g.Q.Sequence.part c.loop-i.invariant c.in_ok-part.ensures.moves.by
+    c.in_ok-part.ensures.sound (search rules)
 
 pub returns : goal.returns
 returns g c =
-    count_done g.Q.Sequence.part c.loop-i.invariant
+    count_done in_vector g.Q.Sequence.part c.loop-i.invariant
     (omega (arith, c.loop-i-test.false, c.loop-i.auto.i-end))

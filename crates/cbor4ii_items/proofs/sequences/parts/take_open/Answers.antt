@@ -1,36 +1,39 @@
 use Rattle.std.proofs.Common.{refl, sym, rules}
 use Rattle.std.proofs.lemmas.Result.{err_from_is_err_and}
-use Rattle.cbor4ii_items.specs.Laws.Calls.{out_of_memory}
+use Rattle.cbor4ii_items.specs.Laws.Calls.{out_of_memory, of_exact, exactly}
 use Rattle.cbor4ii_items.specs.Laws.SequenceParts.{stands, open_more, open_done, open_err}
 use Rattle.cbor4ii_items.specs.Laws.SequenceParts.{place_end, place_nothing, place_part}
 use Rattle.cbor4ii_items.specs.Laws.Steps.{kept_then}
-use Rattle.cbor4ii_items.specs.Sequences.{open_spelling}
+use Rattle.cbor4ii_items.specs.Sequences.{open_spelling, in_vector}
 use Rattle.cbor4ii_items.proofs.sequences.parts.take_open.Goals as goal
 
 pub returns-in_err-take_break : goal.returns-in_err-take_break
 returns-in_err-take_break g c =
     let p = err_from_is_err_and c.from_residual.result c.from_residual.ensures.1 in
     let s = g.Q.Sequence.part in
-    rw (p.1, p.2) (open_err c.args.name.now s g.met.Q.Sequence.lawful
+    rw (p.1, p.2) (exactly (open_err in_vector c.args.name.now s (λ is. g.met.Q.Sequence.lawful)
     c.loop-parts.invariant
-    (place_end s c.args.name.now g.met.Q.Sequence.lawful c.in_err-take_break.ensures.runs
-    c.in_err-take_break.ensures.memory))
+    (place_end s c.args.name.now (λ is. g.met.Q.Sequence.lawful) c.in_err-take_break.ensures.runs
+    c.in_err-take_break.ensures.memory)))
 
 pub returns-then-not-is_part_never_empty : goal.returns-then-not-is_part_never_empty
 returns-then-not-is_part_never_empty g c =
     let s = g.Q.Sequence.part in
-    open_err c.args.name.now s g.met.Q.Sequence.lawful c.loop-parts.invariant
+    exactly (open_err in_vector c.args.name.now s (λ is. g.met.Q.Sequence.lawful)
+    c.loop-parts.invariant
     (place_nothing s c.args.name (sym c.if-not-is_part_never_empty.ensures)
-    (stands c.if-not-branch.true c.in_ok-take_break.ensures.runs))
+    (stands c.if-not-branch.true c.in_ok-take_break.ensures.runs)))
 
 pub returns-in_err-part : goal.returns-in_err-part
 returns-in_err-part g c =
     let p = err_from_is_err_and c.from_residual-in_err-part.result
     c.from_residual-in_err-part.ensures.1 in
     let s = g.Q.Sequence.part in
-    rw (p.1, p.2) (open_err c.args.name.now s g.met.Q.Sequence.lawful c.loop-parts.invariant
+    rw (p.1, p.2) (exactly (open_err in_vector c.args.name.now s
+    (λ is. g.met.Q.Sequence.lawful) c.loop-parts.invariant
     (place_part s c.args.name.now (sym c.if-not-is_part_never_empty.ensures)
-    (stands c.if-not-branch.true c.in_ok-take_break.ensures.runs) c.in_err-part.ensures))
+    (stands c.if-not-branch.true c.in_ok-take_break.ensures.runs)
+    (of_exact c.in_err-part.ensures))))
 
 pub returns-in-Err : goal.returns-in-Err
 returns-in-Err g c =
@@ -41,10 +44,11 @@ returns-in-Err g c =
 pub loop-parts-preserved : goal.loop-parts-preserved
 loop-parts-preserved g c =
     open_more g.Q.Sequence.part (sym c.if-not-is_part_never_empty.ensures) c.loop-parts.invariant
-    (stands c.if-not-branch.true c.in_ok-take_break.ensures.runs) c.in_ok-part.ensures
-    (search rules)
+    (stands c.if-not-branch.true c.in_ok-take_break.ensures.runs)
+    c.in_ok-part.ensures.moves.by c.in_ok-part.ensures.sound (search rules)
 
 pub returns : goal.returns
 returns g c =
-    open_done c.args.name.now g.Q.Sequence.part c.if-not-branch.false c.loop-parts.invariant
+    open_done in_vector c.args.name.now g.Q.Sequence.part c.if-not-branch.false
+    c.loop-parts.invariant
     c.in_ok-take_break.ensures.runs

@@ -3,6 +3,8 @@ use Rattle.std.specs.Prelude.{codes}
 use Rattle.std.proofs.lemmas.Result.{err_from_is_err_and}
 use Rattle.cbor4ii_items.specs.Laws.Calls.{behind, out_of_memory}
 use Rattle.cbor4ii_items.specs.Laws.Pairs.{pair_ok, key_err, value_err}
+use Rattle.cbor4ii_items.specs.Laws.Calls.{of_exact, exactly}
+use Rattle.cbor4ii_items.specs.Sequences.{in_vector}
 use Rattle.cbor4ii_items.specs.Laws.SequenceParts.{count_more, count_done, count_err, stands}
 use Rattle.cbor4ii_items.specs.Laws.SequenceParts.{open_more, open_done, open_err, place_end}
 use Rattle.cbor4ii_items.specs.Laws.SequenceParts.{place_part}
@@ -16,7 +18,7 @@ use Rattle.cbor4ii.specs.Typed.{answer_of}
 use Rattle.cbor4ii.proofs.AnyAnswers.{any_lawful, pair_is_lawful, as_ok, as_err, an_array, a_map}
 use Rattle.cbor4ii.proofs.AnyAnswers.{any_of, of_kind, of_other, of_end}
 use Rattle.cbor4ii.proofs.Looking.{saw}
-use Rattle.cbor4ii.proofs.SequenceHeads.{head_err, counts, opens}
+use Rattle.cbor4ii_items.specs.Laws.SequenceHeads.{head_err, counts, opens}
 use Rattle.cbor4ii.proofs.Steps.{no_step_left, under}
 use Rattle.cbor4ii.proofs.serde.de.any.+any.Goals as goal
 
@@ -87,20 +89,24 @@ any_array-returns g t c =
 
 pub array_inside-returns-in-Err : goal.array_inside-returns-in-Err
 array_inside-returns-in-Err g t c =
-    head_err (codes "array") 4 any_spelling four_small c.in-Err.ensures
+    exactly (head_err in_vector (codes "array") 4 any_spelling four_small
+    (of_exact c.in-Err.ensures))
 
 pub array_inside-returns-in-Ok-Some : goal.array_inside-returns-in-Ok-Some
 array_inside-returns-in-Ok-Some g t c =
-    behind (count_spelling any_spelling _) values_inside (answer_of c.counted_values.result)
-    (counts (codes "array") 4 any_spelling four_small c.in-Ok-Some.field-0-is c.in-Ok-Some.ensures)
-    c.counted_values.ensures
+    exactly (behind (count_spelling any_spelling _) values_inside
+    (answer_of c.counted_values.result)
+    (counts in_vector (codes "array") 4 any_spelling four_small c.in-Ok-Some.field-0-is
+    c.in-Ok-Some.ensures)
+    (of_exact c.counted_values.ensures))
 
 pub array_inside-returns-in-Ok-None : goal.array_inside-returns-in-Ok-None
 array_inside-returns-in-Ok-None g t c =
-    behind (open_spelling (codes "array") any_spelling) values_inside
+    exactly (behind (open_spelling (codes "array") any_spelling) values_inside
     (answer_of c.open_values.result)
-    (opens (codes "array") 4 any_spelling four_small c.in-Ok-None.field-0-is c.in-Ok-None.ensures)
-    c.open_values.ensures
+    (opens in_vector (codes "array") 4 any_spelling four_small c.in-Ok-None.field-0-is
+    c.in-Ok-None.ensures)
+    (of_exact c.open_values.ensures))
 
 pub counted_values-returns-then-is_err : goal.counted_values-returns-then-is_err
 counted_values-returns-then-is_err g t c =
@@ -109,38 +115,44 @@ counted_values-returns-then-is_err g t c =
 pub counted_values-returns-in_err-add_value : goal.counted_values-returns-in_err-add_value
 counted_values-returns-in_err-add_value g t c =
     let p = err_from_is_err_and c.from_residual.result c.from_residual.ensures.1 in
-    rw (p.1, p.2) (count_err any_spelling any_lawful c.loop-i.invariant c.loop-i-test.true
-    c.in_err-add_value.ensures)
+    rw (p.1, p.2) (exactly (count_err in_vector any_spelling (λ is. any_lawful) c.loop-i.invariant
+    c.loop-i-test.true
+    (of_exact c.in_err-add_value.ensures)))
 
 pub counted_values-loop-i-preserved : goal.counted_values-loop-i-preserved
 counted_values-loop-i-preserved g t c =
-    count_more any_spelling c.loop-i.invariant c.in_ok-add_value.ensures.read
+    count_more any_spelling c.loop-i.invariant c.in_ok-add_value.ensures.read.moves.by
+    c.in_ok-add_value.ensures.read.sound
     c.in_ok-add_value.ensures.added
 
 pub counted_values-returns : goal.counted_values-returns
 counted_values-returns g t c =
-    count_done any_spelling c.loop-i.invariant
+    count_done in_vector any_spelling c.loop-i.invariant
     (omega (arith, c.loop-i-test.false, c.loop-i.auto.i-end))
 
 pub open_values-returns-in_err-takes_break : goal.open_values-returns-in_err-takes_break
 open_values-returns-in_err-takes_break g t c =
     let p = err_from_is_err_and c.from_residual.result c.from_residual.ensures.1 in
-    rw (p.1, p.2) (open_err (codes "array") any_spelling any_lawful c.loop-values.invariant
-    (place_end any_spelling (codes "array") any_lawful c.in_err-takes_break.ensures.runs
-    c.in_err-takes_break.ensures.memory))
+    rw (p.1, p.2) (exactly (open_err in_vector (codes "array") any_spelling (λ is. any_lawful)
+    c.loop-values.invariant
+    (place_end any_spelling (codes "array") (λ is. any_lawful) c.in_err-takes_break.ensures.runs
+    c.in_err-takes_break.ensures.memory)))
 
 pub open_values-returns-in_err-add_value : goal.open_values-returns-in_err-add_value
 open_values-returns-in_err-add_value g t c =
     let p = err_from_is_err_and c.from_residual-in_err-add_value.result
     c.from_residual-in_err-add_value.ensures.1 in
-    rw (p.1, p.2) (open_err (codes "array") any_spelling any_lawful c.loop-values.invariant
+    rw (p.1, p.2) (exactly (open_err in_vector (codes "array") any_spelling (λ is. any_lawful)
+    c.loop-values.invariant
     (place_part any_spelling (codes "array") refl
-    (stands c.if-not-branch.true c.in_ok-takes_break.ensures.runs) c.in_err-add_value.ensures))
+    (stands c.if-not-branch.true c.in_ok-takes_break.ensures.runs)
+    (of_exact c.in_err-add_value.ensures))))
 
 pub open_values-loop-values-preserved : goal.open_values-loop-values-preserved
 open_values-loop-values-preserved g t c =
     open_more any_spelling refl c.loop-values.invariant
-    (stands c.if-not-branch.true c.in_ok-takes_break.ensures.runs) c.in_ok-add_value.ensures.read
+    (stands c.if-not-branch.true c.in_ok-takes_break.ensures.runs)
+    c.in_ok-add_value.ensures.read.moves.by c.in_ok-add_value.ensures.read.sound
     c.in_ok-add_value.ensures.added
 
 pub open_values-loop-values-smaller : goal.open_values-loop-values-smaller
@@ -153,7 +165,7 @@ open_values-loop-values-smaller g t c =
 
 pub open_values-returns : goal.open_values-returns
 open_values-returns g t c =
-    open_done (codes "array") any_spelling c.if-not-branch.false c.loop-values.invariant
+    open_done in_vector (codes "array") any_spelling c.if-not-branch.false c.loop-values.invariant
     c.in_ok-takes_break.ensures.runs
 
 pub add_value-returns-in_err-value : goal.add_value-returns-in_err-value
@@ -187,19 +199,22 @@ any_map-returns g t c =
 
 pub map_inside-returns-in-Err : goal.map_inside-returns-in-Err
 map_inside-returns-in-Err g t c =
-    head_err (codes "map") 5 any_pair five_small c.in-Err.ensures
+    exactly (head_err in_vector (codes "map") 5 any_pair five_small (of_exact c.in-Err.ensures))
 
 pub map_inside-returns-in-Ok-Some : goal.map_inside-returns-in-Ok-Some
 map_inside-returns-in-Ok-Some g t c =
-    behind (count_spelling any_pair _) pairs_inside (answer_of c.counted_pairs.result)
-    (counts (codes "map") 5 any_pair five_small c.in-Ok-Some.field-0-is c.in-Ok-Some.ensures)
-    c.counted_pairs.ensures
+    exactly (behind (count_spelling any_pair _) pairs_inside (answer_of c.counted_pairs.result)
+    (counts in_vector (codes "map") 5 any_pair five_small c.in-Ok-Some.field-0-is
+    c.in-Ok-Some.ensures)
+    (of_exact c.counted_pairs.ensures))
 
 pub map_inside-returns-in-Ok-None : goal.map_inside-returns-in-Ok-None
 map_inside-returns-in-Ok-None g t c =
-    behind (open_spelling (codes "map") any_pair) pairs_inside (answer_of c.open_pairs.result)
-    (opens (codes "map") 5 any_pair five_small c.in-Ok-None.field-0-is c.in-Ok-None.ensures)
-    c.open_pairs.ensures
+    exactly (behind (open_spelling (codes "map") any_pair) pairs_inside
+    (answer_of c.open_pairs.result)
+    (opens in_vector (codes "map") 5 any_pair five_small c.in-Ok-None.field-0-is
+    c.in-Ok-None.ensures)
+    (of_exact c.open_pairs.ensures))
 
 pub counted_pairs-returns-then-is_err : goal.counted_pairs-returns-then-is_err
 counted_pairs-returns-then-is_err g t c =
@@ -208,38 +223,44 @@ counted_pairs-returns-then-is_err g t c =
 pub counted_pairs-returns-in_err-add_pair : goal.counted_pairs-returns-in_err-add_pair
 counted_pairs-returns-in_err-add_pair g t c =
     let p = err_from_is_err_and c.from_residual.result c.from_residual.ensures.1 in
-    rw (p.1, p.2) (count_err any_pair pair_is_lawful c.loop-i.invariant c.loop-i-test.true
-    c.in_err-add_pair.ensures)
+    rw (p.1, p.2) (exactly (count_err in_vector any_pair (λ is. pair_is_lawful) c.loop-i.invariant
+    c.loop-i-test.true
+    (of_exact c.in_err-add_pair.ensures)))
 
 pub counted_pairs-loop-i-preserved : goal.counted_pairs-loop-i-preserved
 counted_pairs-loop-i-preserved g t c =
-    count_more any_pair c.loop-i.invariant c.in_ok-add_pair.ensures.read
+    count_more any_pair c.loop-i.invariant c.in_ok-add_pair.ensures.read.moves.by
+    c.in_ok-add_pair.ensures.read.sound
     c.in_ok-add_pair.ensures.added
 
 pub counted_pairs-returns : goal.counted_pairs-returns
 counted_pairs-returns g t c =
-    count_done any_pair c.loop-i.invariant
+    count_done in_vector any_pair c.loop-i.invariant
     (omega (arith, c.loop-i-test.false, c.loop-i.auto.i-end))
 
 pub open_pairs-returns-in_err-takes_break : goal.open_pairs-returns-in_err-takes_break
 open_pairs-returns-in_err-takes_break g t c =
     let p = err_from_is_err_and c.from_residual.result c.from_residual.ensures.1 in
-    rw (p.1, p.2) (open_err (codes "map") any_pair pair_is_lawful c.loop-pairs.invariant
-    (place_end any_pair (codes "map") pair_is_lawful c.in_err-takes_break.ensures.runs
-    c.in_err-takes_break.ensures.memory))
+    rw (p.1, p.2) (exactly (open_err in_vector (codes "map") any_pair (λ is. pair_is_lawful)
+    c.loop-pairs.invariant
+    (place_end any_pair (codes "map") (λ is. pair_is_lawful) c.in_err-takes_break.ensures.runs
+    c.in_err-takes_break.ensures.memory)))
 
 pub open_pairs-returns-in_err-add_pair : goal.open_pairs-returns-in_err-add_pair
 open_pairs-returns-in_err-add_pair g t c =
     let p = err_from_is_err_and c.from_residual-in_err-add_pair.result
     c.from_residual-in_err-add_pair.ensures.1 in
-    rw (p.1, p.2) (open_err (codes "map") any_pair pair_is_lawful c.loop-pairs.invariant
+    rw (p.1, p.2) (exactly (open_err in_vector (codes "map") any_pair (λ is. pair_is_lawful)
+    c.loop-pairs.invariant
     (place_part any_pair (codes "map") refl
-    (stands c.if-not-branch.true c.in_ok-takes_break.ensures.runs) c.in_err-add_pair.ensures))
+    (stands c.if-not-branch.true c.in_ok-takes_break.ensures.runs)
+    (of_exact c.in_err-add_pair.ensures))))
 
 pub open_pairs-loop-pairs-preserved : goal.open_pairs-loop-pairs-preserved
 open_pairs-loop-pairs-preserved g t c =
     open_more any_pair refl c.loop-pairs.invariant
-    (stands c.if-not-branch.true c.in_ok-takes_break.ensures.runs) c.in_ok-add_pair.ensures.read
+    (stands c.if-not-branch.true c.in_ok-takes_break.ensures.runs)
+    c.in_ok-add_pair.ensures.read.moves.by c.in_ok-add_pair.ensures.read.sound
     c.in_ok-add_pair.ensures.added
 
 pub open_pairs-loop-pairs-smaller : goal.open_pairs-loop-pairs-smaller
@@ -252,7 +273,7 @@ open_pairs-loop-pairs-smaller g t c =
 
 pub open_pairs-returns : goal.open_pairs-returns
 open_pairs-returns g t c =
-    open_done (codes "map") any_pair c.if-not-branch.false c.loop-pairs.invariant
+    open_done in_vector (codes "map") any_pair c.if-not-branch.false c.loop-pairs.invariant
     c.in_ok-takes_break.ensures.runs
 
 pub add_pair-returns-in_err-pair : goal.add_pair-returns-in_err-pair
@@ -273,7 +294,7 @@ add_pair-returns g t c = record {
 pub read_pair-returns-in_err-key : goal.read_pair-returns-in_err-key
 read_pair-returns-in_err-key g t c =
     let p = err_from_is_err_and c.from_residual.result c.from_residual.ensures.1 in
-    rw (p.1, p.2) (key_err any_spelling any_spelling c.in_err-key.ensures)
+    rw (p.1, p.2) (exactly (key_err any_spelling any_spelling (of_exact c.in_err-key.ensures)))
 
 pub read_pair-returns-in-Ok : goal.read_pair-returns-in-Ok
 read_pair-returns-in-Ok g t c =
@@ -281,4 +302,5 @@ read_pair-returns-in-Ok g t c =
 
 pub read_pair-returns-in-Err : goal.read_pair-returns-in-Err
 read_pair-returns-in-Err g t c =
-    value_err any_spelling any_spelling any_lawful c.in_ok-key.ensures c.in-Err.ensures
+    exactly (value_err any_spelling any_spelling (λ is. any_lawful) c.in_ok-key.ensures
+    (of_exact c.in-Err.ensures))

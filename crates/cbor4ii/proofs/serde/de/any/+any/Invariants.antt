@@ -44,22 +44,24 @@ decreases-read_pair g l = 7 * (g.S.Source.view l.de.now.reader).bound + 4
 
 abbrev pub invariant-counted_values-loop-i : goal.invariant-counted_values-loop-i
 invariant-counted_values-loop-i g l =
-    Begun any_spelling l.i (g.S.Source.view l.fn.de.reader) (g.S.Source.view l.de.reader) l.values
+    Begun any_spelling l.i (g.S.Source.view l.fn.de.reader) (g.S.Source.view l.de.reader)
+    l.values.items
 
 abbrev pub invariant-counted_pairs-loop-i : goal.invariant-counted_pairs-loop-i
 invariant-counted_pairs-loop-i g l =
-    Begun any_pair l.i (g.S.Source.view l.fn.de.reader) (g.S.Source.view l.de.reader) l.pairs
+    Begun any_pair l.i (g.S.Source.view l.fn.de.reader) (g.S.Source.view l.de.reader) l.pairs.items
 
 abbrev pub invariant-open_values-loop-values : goal.invariant-open_values-loop-values
 invariant-open_values-loop-values g l =
-    Opened any_spelling (g.S.Source.view l.fn.de.reader) (g.S.Source.view l.de.reader) l.values
+    Opened any_spelling (g.S.Source.view l.fn.de.reader) (g.S.Source.view l.de.reader)
+    l.values.items
 
 abbrev pub decreases-open_values-loop-values : goal.decreases-open_values-loop-values
 decreases-open_values-loop-values g l = (g.S.Source.view l.de.reader).bound
 
 abbrev pub invariant-open_pairs-loop-pairs : goal.invariant-open_pairs-loop-pairs
 invariant-open_pairs-loop-pairs g l =
-    Opened any_pair (g.S.Source.view l.fn.de.reader) (g.S.Source.view l.de.reader) l.pairs
+    Opened any_pair (g.S.Source.view l.fn.de.reader) (g.S.Source.view l.de.reader) l.pairs.items
 
 abbrev pub decreases-open_pairs-loop-pairs : goal.decreases-open_pairs-loop-pairs
 decreases-open_pairs-loop-pairs g l = (g.S.Source.view l.de.reader).bound

@@ -1,110 +1,56 @@
-use Rattle.cbor4ii_items.specs.Laws.Running.{kept_alike}
-use Rattle.std.proofs.Common.{true, refl, arith, inl}
+use Rattle.std.proofs.Common.{arith, refl, inl, rules}
 use Rattle.std.proofs.lemmas.Result.{err_from_is_err_and}
-use Rattle.cbor4ii_items.specs.Laws.Steps.{moves_then, moves_err, kept_then}
-use Rattle.cbor4ii_items.specs.Laws.Answering.{exact_kept, fits_zero}
-use Rattle.cbor4ii_items.specs.Laws.SequenceParts.{stands}
-use Rattle.cbor4ii.specs.Laws.PartsRead.{open_more, open_done, open_refuses}
-use Rattle.cbor4ii.specs.Laws.PartsRead.{end_refuses}
-use Rattle.cbor4ii.specs.Typed.{size_of, typed_laws}
-use Rattle.cbor4ii.proofs.PartStops.{open_stops, end_stops}
+use Rattle.cbor4ii_items.specs.Laws.Calls.{out_of_memory, of_exact}
+use Rattle.cbor4ii_items.specs.Laws.Running.{kept_alike}
+use Rattle.cbor4ii_items.specs.Laws.SequenceParts.{no_part, stands, open_more, open_done, open_err}
+use Rattle.cbor4ii_items.specs.Laws.SequenceParts.{place_end, place_part}
+use Rattle.cbor4ii_items.specs.Laws.Steps.{kept_then}
+use Rattle.cbor4ii_items.specs.Sequences.{Unbroken, open_of, in_list}
 use Rattle.cbor4ii.proofs.serde.de.parts.take_open.Goals as goal
 
-pub returns-in_err-takes_break-clause-moves : goal.returns-in_err-takes_break-clause-moves
-returns-in_err-takes_break-clause-moves g c =
+pub returns-in_err-takes_break : goal.returns-in_err-takes_break
+returns-in_err-takes_break g c =
     let p = err_from_is_err_and c.from_residual.result c.from_residual.ensures.1 in
-    rw (p.1, p.2)
-    (moves_then c.loop-parts.invariant.kept (moves_err c.in_err-takes_break.ensures.runs.moves))
+    rw (p.1, p.2) (open_err in_list g.Q.Sequence.name g.Q.Sequence.part g.met.Q.Sequence.lawful
+    c.loop-parts.invariant (place_end g.Q.Sequence.part g.Q.Sequence.name g.met.Q.Sequence.lawful
+    c.in_err-takes_break.ensures.runs c.in_err-takes_break.ensures.memory))
 
-pub returns-in_err-takes_break-clause-complete : goal.returns-in_err-takes_break-clause-complete
-returns-in_err-takes_break-clause-complete g c said exact =
-    let p = err_from_is_err_and c.from_residual.result c.from_residual.ensures.1 in
-    rw (p.1, p.2) (let laws = typed_laws g.Q.Sequence.part said in end_refuses _ _ (size_of laws)
-    laws.within laws.positive c.loop-parts.invariant c.in_err-takes_break.ensures.runs)
+pub returns-in_err-part : goal.returns-in_err-part
+returns-in_err-part g c =
+    let p = err_from_is_err_and c.from_residual-in_err-part.result
+    c.from_residual-in_err-part.ensures.1 in
+    rw (p.1, p.2) (open_err in_list g.Q.Sequence.name g.Q.Sequence.part g.met.Q.Sequence.lawful
+    c.loop-parts.invariant (place_part g.Q.Sequence.part g.Q.Sequence.name g.met.Q.Sequence.some
+    (stands c.if-not-branch.true c.in_ok-takes_break.ensures.runs) c.in_err-part.ensures))
+
+pub returns-in-Err : goal.returns-in-Err
+returns-in-Err g c =
+    of_exact (out_of_memory (open_of in_list g.Q.Sequence.name g.Q.Sequence.part) refl
+    (kept_then (kept_then c.loop-parts.invariant.kept c.in_ok-takes_break.ensures.runs.moves.by)
+    c.in_ok-part.ensures.moves.by))
+
+pub loop-parts-init : goal.loop-parts-init
+loop-parts-init g c = record {
+  allowed = inl g.met.Q.Sequence.some;
+  parts = no_part (Unbroken g.Q.Sequence.part.reads) refl (search rules);
+  kept = kept_alike _;
+}
 
 pub loop-parts-preserved : goal.loop-parts-preserved
 loop-parts-preserved g c =
-    open_more _ _ refl c.loop-parts.invariant
+    open_more g.Q.Sequence.part g.met.Q.Sequence.some c.loop-parts.invariant
     (stands c.if-not-branch.true c.in_ok-takes_break.ensures.runs)
-    c.in_ok-add_part.ensures.sound c.in_ok-add_part.ensures.moves
+    c.in_ok-part.ensures.moves.by c.in_ok-part.ensures.sound (search rules)
 
-pub returns-in_err-add_part-clause-moves : goal.returns-in_err-add_part-clause-moves
-returns-in_err-add_part-clause-moves g c =
-    let p = err_from_is_err_and c.from_residual-in_err-add_part.result
-    c.from_residual-in_err-add_part.ensures.1 in
-    rw (p.1, p.2) (moves_then (kept_then c.loop-parts.invariant.kept
-    c.in_ok-takes_break.ensures.runs.moves.by) (moves_err c.in_err-add_part.ensures.moves))
-
-pub returns-in_err-add_part-clause-complete : goal.returns-in_err-add_part-clause-complete
-returns-in_err-add_part-clause-complete g c said exact =
-    let p = err_from_is_err_and c.from_residual-in_err-add_part.result
-    c.from_residual-in_err-add_part.ensures.1 in
-    let kept = kept_then c.loop-parts.invariant.kept c.in_ok-takes_break.ensures.runs.moves.by in
-    rw (p.1, p.2) (open_refuses _ _ (size_of (typed_laws g.Q.Sequence.part said))
-    c.loop-parts.invariant
-    (stands c.if-not-branch.true c.in_ok-takes_break.ensures.runs) (λ xs told.
-    c.in_err-add_part.ensures.complete said (exact_kept _ _ _ xs told kept exact)))
-
-pub returns-clause-moves : goal.returns-clause-moves
-returns-clause-moves g c =
-    record {
-      by = kept_then c.loop-parts.invariant.kept c.in_ok-takes_break.ensures.runs.moves.by;
-      depth = λ e. refl;
-    }
-
-pub returns-clause-sound : goal.returns-clause-sound
-returns-clause-sound g c =
-    open_done _ _ c.if-not-branch.false c.loop-parts.invariant c.in_ok-takes_break.ensures.runs
-
-pub returns-in_err-takes_break-clause-stops : goal.returns-in_err-takes_break-clause-stops
-returns-in_err-takes_break-clause-stops g c =
-    let p = err_from_is_err_and c.from_residual.result c.from_residual.ensures.1 in
-    rw (p.1, p.2) (end_stops g.Q.Sequence.part.spelling.reads g.Q.Sequence.part.spelling.begins true
-    g.Q.Sequence.name
-    c.loop-parts.invariant c.in_err-takes_break.ensures.runs)
-
-pub returns-in_err-add_part-clause-stops : goal.returns-in_err-add_part-clause-stops
-returns-in_err-add_part-clause-stops g c =
-    let p = err_from_is_err_and c.from_residual-in_err-add_part.result
-    c.from_residual-in_err-add_part.ensures.1 in
-    rw (p.1, p.2) (open_stops g.Q.Sequence.part.spelling.reads g.Q.Sequence.part.spelling.begins
-    true g.Q.Sequence.name refl
-    c.loop-parts.invariant (stands c.if-not-branch.true c.in_ok-takes_break.ensures.runs)
-    c.in_err-add_part.ensures.stops)
-
-pub loop-parts-init : goal.loop-parts-init
-loop-parts-init g c =
-    rw c.new-parts.ensures.items
-    (record {
-      allowed = inl refl;
-      parts = record {
-        at = λ xs told. record {
-          count = 0;
-          cost = 0;
-          read = (refl, refl);
-          fits = fits_zero _;
-          left = told;
-        };
-      };
-      kept = kept_alike _;
-    })
-
-pub returns-in_err-takes_break-clause-sound : goal.returns-in_err-takes_break-clause-sound
-returns-in_err-takes_break-clause-sound g c =
-    rw (err_from_is_err_and c.from_residual.result c.from_residual.ensures.1).1 tt
-
-pub returns-in_err-add_part-clause-sound : goal.returns-in_err-add_part-clause-sound
-returns-in_err-add_part-clause-sound g c =
-    rw (err_from_is_err_and c.from_residual-in_err-add_part.result
-    c.from_residual-in_err-add_part.ensures.1).1 tt
-
-pub returns-clause-complete : goal.returns-clause-complete
-returns-clause-complete g c said exact = tt
-
-pub returns-clause-stops : goal.returns-clause-stops
-returns-clause-stops g c = tt
+pub returns : goal.returns
+returns g c =
+    of_exact (open_done in_list g.Q.Sequence.name g.Q.Sequence.part c.if-not-branch.false
+    c.loop-parts.invariant c.in_ok-takes_break.ensures.runs)
 
 pub loop-parts-smaller : goal.loop-parts-smaller
 loop-parts-smaller g c =
-    omega
-    (arith, c.in_ok-add_part.ensures.progress, c.in_ok-takes_break.ensures.runs.moves.by.bound)
+    omega (
+      arith,
+      c.in_ok-part.ensures.progress g.met.Q.Sequence.some,
+      c.in_ok-takes_break.ensures.runs.moves.by.bound,
+    )

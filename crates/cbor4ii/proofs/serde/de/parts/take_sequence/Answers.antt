@@ -1,38 +1,19 @@
-use Rattle.cbor4ii_items.specs.Laws.UnderStep.{exact_step, moves_stepped}
-use Rattle.cbor4ii.specs.Typed.{answer_of}
-use Rattle.cbor4ii.proofs.Steps.{formed_sound, step_refuses}
-use Rattle.cbor4ii.proofs.Beginnings.{step_stops}
+use Rattle.std.proofs.Common.{rules}
+use Rattle.cbor4ii_items.specs.Laws.Calls.{of_exact}
+use Rattle.cbor4ii_items.specs.Sequences.{inside_of, in_list}
+use Rattle.cbor4ii.specs.Typed.{parts_answer}
+use Rattle.cbor4ii.proofs.Steps.{no_step_left, under_if}
 use Rattle.cbor4ii.proofs.serde.de.parts.take_sequence.Goals as goal
 
-pub returns-clause-moves : goal.returns-clause-moves
-returns-clause-moves g c =
-    moves_stepped (answer_of c.take_inside-outcome.result) _ _ _ _ c.if-not-step_in.ensures.budget
-    c.step_in.ensures.others c.take_inside-outcome.ensures.moves c.step_out.ensures.budget
-    c.step_out.ensures.others
+pub returns-then-not-step_in : goal.returns-then-not-step_in
+returns-then-not-step_in g c =
+    let inside = inside_of in_list g.Q.Sequence.name g.Q.Sequence.major g.Q.Sequence.part in
+    of_exact (no_step_left inside c.args.step (search rules) c.if-not-step_in.ensures.budget
+    c.step_in.ensures.others)
 
-pub returns-clause-sound : goal.returns-clause-sound
-returns-clause-sound g c =
-    formed_sound c.take_inside-outcome.result (λ v. v.items) _ _ _ c.if-not-step_in.ensures.budget
-    c.step_in.ensures.others _ _ c.step_out.ensures.others c.take_inside-outcome.ensures.sound
-
-pub returns-clause-complete : goal.returns-clause-complete
-returns-clause-complete g c said exact =
-    step_refuses c.take_inside-outcome.result _ _ _ c.if-not-step_in.ensures.budget
-    c.step_in.ensures.others (c.take_inside-outcome.ensures.complete said
-    (exact_step _ _ _ c.step_in.ensures.others exact))
-
-pub returns-clause-stops : goal.returns-clause-stops
-returns-clause-stops g c =
-    step_stops _ _ c.take_inside-outcome.result c.if-not-step_in.ensures.budget
-    c.step_in.ensures.others c.step_out.ensures.others c.take_inside-outcome.ensures.stops
-
-pub returns-then-not-step_in-clause-progress : goal.returns-then-not-step_in-clause-progress
-returns-then-not-step_in-clause-progress g c = tt
-
-pub returns-then-not-step_in-clause-sound : goal.returns-then-not-step_in-clause-sound
-returns-then-not-step_in-clause-sound g c = tt
-
-pub returns-clause-progress : goal.returns-clause-progress
-returns-clause-progress g c =
-    rw (c.step_out.ensures.others.bound, ← c.step_in.ensures.others.bound)
-    c.take_inside-outcome.ensures.progress
+pub returns : goal.returns
+returns g c =
+    let inside = inside_of in_list g.Q.Sequence.name g.Q.Sequence.major g.Q.Sequence.part in
+    under_if inside c.args.step.now c.if-not-step_in.ensures.budget c.step_in.ensures.others
+    c.step_out.ensures.others (parts_answer c.take_inside-outcome.result)
+    c.step_out.ensures.budget c.take_inside-outcome.ensures

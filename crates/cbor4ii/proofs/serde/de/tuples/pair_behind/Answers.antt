@@ -1,15 +1,16 @@
+use Rattle.cbor4ii_items.specs.Laws.Calls.{behind, of_exact}
+use Rattle.cbor4ii.specs.Tuples.{behind_spelling}
 use Rattle.cbor4ii.specs.Typed.{answer_of}
-use Rattle.cbor4ii.specs.TypedParts.{telling, two_of}
-use Rattle.cbor4ii.proofs.Promised.{head_err, head_behind}
+use Rattle.cbor4ii.specs.TypedParts.{two_of}
+use Rattle.cbor4ii.proofs.Tupled.{head_err, head_behind}
 use Rattle.cbor4ii.proofs.serde.de.tuples.pair_behind.Goals as goal
 
 pub returns-in-Ok : goal.returns-in-Ok
 returns-in-Ok g c =
-    head_behind 2 (two_of (telling g.A.Typed.promise) (telling g.B.Typed.promise))
-    c.in-Ok.ensures (answer_of c.two_parts.result)
-    c.two_parts.ensures
+    let parts = two_of g.A.Typed.promise g.B.Typed.promise in
+    behind parts (behind_spelling 2 parts) (answer_of c.two_parts.result)
+    (head_behind 2 parts c.in-Ok.ensures) c.two_parts.ensures
 
 pub returns-in-Err : goal.returns-in-Err
 returns-in-Err g c =
-    head_err 2 (two_of (telling g.A.Typed.promise) (telling g.B.Typed.promise))
-    c.in-Err.ensures
+    head_err 2 (two_of g.A.Typed.promise g.B.Typed.promise) (of_exact c.in-Err.ensures)

@@ -1,23 +1,25 @@
-use Rattle.std.proofs.Common.{Ok, Err, refl}
+use Rattle.std.proofs.Common.{Ok, Err}
 use Rattle.std.proofs.lemmas.Result.{err_from_is_err_and}
-use Rattle.cbor4ii.specs.TypedParts.{telling}
-use Rattle.cbor4ii.proofs.Promised.{tell, two_ok, first_err, second_err}
+use Rattle.cbor4ii.specs.TypedParts.{part_of, part_lawful}
+use Rattle.cbor4ii.proofs.Pairs.{two_ok, first_err, second_err}
+use Rattle.cbor4ii.proofs.Promised.{tell}
 use Rattle.cbor4ii.proofs.serde.de.tuples.two_parts.Goals as goal
 
 pub returns-in_err-first : goal.returns-in_err-first
 returns-in_err-first g c =
     let p = err_from_is_err_and c.from_residual.result c.from_residual.ensures.1 in
-    rw (p.1, p.2) (first_err (telling g.A.Typed.promise) (telling g.B.Typed.promise) refl
+    rw (p.1, p.2) (first_err (part_of g.A.Typed.promise) (part_of g.B.Typed.promise) _
     (tell g.A.Typed.promise (Err _) c.in_err-first.ensures))
 
 pub returns-in-Ok : goal.returns-in-Ok
 returns-in-Ok g c =
-    two_ok (telling g.A.Typed.promise) (telling g.B.Typed.promise)
+    two_ok (part_of g.A.Typed.promise) (part_of g.B.Typed.promise)
     (tell g.A.Typed.promise (Ok _) c.in_ok-first.ensures)
     (tell g.B.Typed.promise (Ok _) c.in-Ok.ensures)
 
 pub returns-in-Err : goal.returns-in-Err
 returns-in-Err g c =
-    second_err (telling g.A.Typed.promise) (telling g.B.Typed.promise) refl
+    second_err (part_of g.A.Typed.promise) (part_of g.B.Typed.promise)
+    (part_lawful g.A.Typed.promise)
     (tell g.A.Typed.promise (Ok _) c.in_ok-first.ensures)
     (tell g.B.Typed.promise (Err _) c.in-Err.ensures)

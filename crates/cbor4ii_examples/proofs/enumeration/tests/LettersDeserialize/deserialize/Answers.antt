@@ -7,9 +7,9 @@ use Rattle.cbor4ii_examples.proofs.enumeration.tests.LettersDeserialize.deserial
 pub returns-in-Ok-variant : goal.returns-in-Ok-variant
 returns-in-Ok-variant g c =
     nothing_owed c.read_letters.result (moves_at (with_content c.in-Ok.ensures.opened
-    c.in-Ok-variant.ensures.moves.by c.read_letters.ensures) (search rules)) (search rules)
+    c.in-Ok-variant.ensures.decodes.moves.by c.read_letters.ensures) (search rules)) (search rules)
 
 pub returns-in-Err-variant : goal.returns-in-Err-variant
 returns-in-Err-variant g c =
     nothing_owed (Err c.in-Err-variant.error) (moves_at (without_name c.in-Ok.ensures.opened
-    (moves_err c.in-Err-variant.ensures.moves) c.drop-variant.ensures) (search rules)) tt
+    (moves_err c.in-Err-variant.ensures.decodes.moves) c.drop-variant.ensures) (search rules)) tt

@@ -1,153 +1,81 @@
-use Rattle.cbor4ii_items.specs.Laws.Answering.{exact_kept}
-use Rattle.cbor4ii_items.specs.Laws.Steps.{moves_then, moves_ok, moves_err}
-use Rattle.cbor4ii.proofs.Going.{next_end, next_part, next_no_start, next_no_part, none_stops}
-use Rattle.cbor4ii.proofs.Going.{part_stops, may_go_on}
-use Rattle.cbor4ii.proofs.Beginnings.{said_left}
+use Rattle.std.proofs.Common.{Ok, Err}
+use Rattle.cbor4ii_items.specs.Laws.Calls.{of_exact, accepted}
+use Rattle.cbor4ii.specs.TypedParts.{part_of}
+use Rattle.cbor4ii.proofs.Going.{next_end, next_part, next_refused, next_err, may_go_on}
+use Rattle.cbor4ii.proofs.Going.{left_started, left_ended, tried_started, shrinks_by}
+use Rattle.cbor4ii.proofs.Promised.{tell}
 use Rattle.cbor4ii.proofs.serde.de.accessor.Accessor.next_element.Goals as goal
 
-pub returns-in-Ok-clause-moves : goal.returns-in-Ok-clause-moves
-returns-in-Ok-clause-moves g c =
-    moves_then c.in-Ok-true.ensures.moves.by (moves_ok c.in-Ok.ensures.moves)
+pub returns-in-Ok-clause-decodes : goal.returns-in-Ok-clause-decodes
+returns-in-Ok-clause-decodes g c =
+    of_exact (next_part _ (part_of g.T.Typed.promise)
+    (rw c.in-Ok-true.field-0-test at c.in-Ok-true.ensures.decodes)
+    (accepted (tell g.T.Typed.promise (Ok _) c.in-Ok.ensures)))
 
-pub returns-in-Ok-clause-sound : goal.returns-in-Ok-clause-sound
-returns-in-Ok-clause-sound g c =
-    next_part _ _ c.in-Ok-true.ensures.moves.by
-    (rw c.in-Ok-true.field-0-test at c.in-Ok-true.ensures.sound) c.in-Ok.ensures.sound
+pub returns-in-Err-deserialize-clause-decodes : goal.returns-in-Err-deserialize-clause-decodes
+returns-in-Err-deserialize-clause-decodes g c =
+    next_err _ (part_of g.T.Typed.promise)
+    (rw c.in-Ok-true.field-0-test at c.in-Ok-true.ensures.decodes)
+    (tell g.T.Typed.promise (Err _) c.in-Err-deserialize.ensures)
 
-pub returns-in-Err-deserialize-clause-moves : goal.returns-in-Err-deserialize-clause-moves
-returns-in-Err-deserialize-clause-moves g c =
-    moves_then c.in-Ok-true.ensures.moves.by (moves_err c.in-Err-deserialize.ensures.moves)
+pub returns-in-Ok-false-clause-decodes : goal.returns-in-Ok-false-clause-decodes
+returns-in-Ok-false-clause-decodes g c =
+    of_exact (next_end _ (part_of g.T.Typed.promise)
+    (rw c.in-Ok-false.field-0-test at c.in-Ok-false.ensures.decodes))
 
-pub returns-in-Err-deserialize-clause-complete : goal.returns-in-Err-deserialize-clause-complete
-returns-in-Err-deserialize-clause-complete g c said exact =
-    let stands = rw c.in-Ok-true.field-0-test at c.in-Ok-true.ensures.sound in
-    next_no_part _ _ c.in-Ok-true.ensures.moves.by stands
-    (λ xs told. c.in-Err-deserialize.ensures.complete said
-    (exact_kept _ _ _ xs told c.in-Ok-true.ensures.moves.by exact))
+pub returns-in-Err-clause-decodes : goal.returns-in-Err-clause-decodes
+returns-in-Err-clause-decodes g c =
+    next_refused _ (part_of g.T.Typed.promise) c.in-Err.ensures.decodes
 
-pub returns-in-Err-deserialize-clause-stops : goal.returns-in-Err-deserialize-clause-stops
-returns-in-Err-deserialize-clause-stops g c =
-    let part =
-    said_left _ _ c.in-Err-deserialize.ensures.moves c.in-Err-deserialize.ensures.begins in
-    part_stops _ _ c.in-Ok-true.ensures.moves.by
-    (rw c.in-Ok-true.field-0-test at c.in-Ok-true.ensures.sound) part
+pub returns-in-Ok-clause-goes_on : goal.returns-in-Ok-clause-goes_on
+returns-in-Ok-clause-goes_on g c =
+    let starts = rw c.in-Ok-true.field-0-test at c.in-Ok-true.ensures.starts in
+    record {
+      same_reference = starts.same_reference;
+      same_steps = starts.same_steps;
+      left = left_started _ _ _ starts.left;
+      tried = tt;
+      asked = tt;
+      still = λ not is. cc;
+      shrinks = shrinks_by _ _ _ _ _ starts.left c.in-Ok-true.ensures.decodes.moves.by.bound
+          c.in-Ok.ensures.progress;
+    }
 
-pub returns-in-Err-clause-stops : goal.returns-in-Err-clause-stops
-returns-in-Err-clause-stops g c = none_stops _ _ c.in-Err.ensures.stops
+pub returns-in-Err-deserialize-clause-goes_on : goal.returns-in-Err-deserialize-clause-goes_on
+returns-in-Err-deserialize-clause-goes_on g c =
+    let starts = rw c.in-Ok-true.field-0-test at c.in-Ok-true.ensures.starts in
+    record {
+      same_reference = starts.same_reference;
+      same_steps = starts.same_steps;
+      left = tt;
+      tried = tried_started _ _ starts.left;
+      asked = may_go_on _ _ starts.left;
+      still = λ not. tt;
+      shrinks = tt;
+    }
 
-pub returns-in-Ok-false-clause-sound : goal.returns-in-Ok-false-clause-sound
-returns-in-Ok-false-clause-sound g c =
-    next_end _ _ (rw c.in-Ok-false.field-0-test at c.in-Ok-false.ensures.sound)
+pub returns-in-Ok-false-clause-goes_on : goal.returns-in-Ok-false-clause-goes_on
+returns-in-Ok-false-clause-goes_on g c =
+    let starts = rw c.in-Ok-false.field-0-test at c.in-Ok-false.ensures.starts in
+    record {
+      same_reference = starts.same_reference;
+      same_steps = starts.same_steps;
+      left = left_ended _ _ _ starts.left;
+      tried = tt;
+      asked = tt;
+      still = λ not is. starts.still not;
+      shrinks = tt;
+    }
 
-pub returns-in-Err-clause-complete : goal.returns-in-Err-clause-complete
-returns-in-Err-clause-complete g c said exact = next_no_start _ _ c.in-Err.ensures.complete
-
-pub returns-in-Ok-clause-still : goal.returns-in-Ok-clause-still
-returns-in-Ok-clause-still g c not is = cc
-
-pub returns-in-Ok-false-clause-still : goal.returns-in-Ok-false-clause-still
-returns-in-Ok-false-clause-still g c not is = c.in-Ok-false.ensures.still not
-
-pub returns-in-Ok-clause-same_reference : goal.returns-in-Ok-clause-same_reference
-returns-in-Ok-clause-same_reference g c = c.in-Ok-true.ensures.same_reference
-
-pub returns-in-Ok-clause-same_steps : goal.returns-in-Ok-clause-same_steps
-returns-in-Ok-clause-same_steps g c = c.in-Ok-true.ensures.same_steps
-
-pub returns-in-Ok-clause-memory : goal.returns-in-Ok-clause-memory
-returns-in-Ok-clause-memory g c = tt
-
-pub returns-in-Ok-clause-tried : goal.returns-in-Ok-clause-tried
-returns-in-Ok-clause-tried g c = tt
-
-pub returns-in-Ok-clause-complete : goal.returns-in-Ok-clause-complete
-returns-in-Ok-clause-complete g c said exact = tt
-
-pub returns-in-Ok-clause-stops : goal.returns-in-Ok-clause-stops
-returns-in-Ok-clause-stops g c = tt
-
-pub returns-in-Err-deserialize-clause-same_reference :
-    goal.returns-in-Err-deserialize-clause-same_reference
-returns-in-Err-deserialize-clause-same_reference g c = c.in-Ok-true.ensures.same_reference
-
-pub returns-in-Err-deserialize-clause-same_steps : goal.returns-in-Err-deserialize-clause-same_steps
-returns-in-Err-deserialize-clause-same_steps g c = c.in-Ok-true.ensures.same_steps
-
-pub returns-in-Err-deserialize-clause-memory : goal.returns-in-Err-deserialize-clause-memory
-returns-in-Err-deserialize-clause-memory g c = c.in-Err-deserialize.ensures.memory
-
-pub returns-in-Err-deserialize-clause-sound : goal.returns-in-Err-deserialize-clause-sound
-returns-in-Err-deserialize-clause-sound g c = tt
-
-pub returns-in-Err-deserialize-clause-left : goal.returns-in-Err-deserialize-clause-left
-returns-in-Err-deserialize-clause-left g c = tt
-
-pub returns-in-Err-deserialize-clause-still : goal.returns-in-Err-deserialize-clause-still
-returns-in-Err-deserialize-clause-still g c not = tt
-
-pub returns-in-Err-deserialize-clause-shrinks : goal.returns-in-Err-deserialize-clause-shrinks
-returns-in-Err-deserialize-clause-shrinks g c = tt
-
-pub returns-in-Ok-false-clause-same_reference : goal.returns-in-Ok-false-clause-same_reference
-returns-in-Ok-false-clause-same_reference g c = c.in-Ok-false.ensures.same_reference
-
-pub returns-in-Ok-false-clause-same_steps : goal.returns-in-Ok-false-clause-same_steps
-returns-in-Ok-false-clause-same_steps g c = c.in-Ok-false.ensures.same_steps
-
-pub returns-in-Ok-false-clause-moves : goal.returns-in-Ok-false-clause-moves
-returns-in-Ok-false-clause-moves g c = moves_ok c.in-Ok-false.ensures.moves
-
-pub returns-in-Ok-false-clause-memory : goal.returns-in-Ok-false-clause-memory
-returns-in-Ok-false-clause-memory g c = tt
-
-pub returns-in-Ok-false-clause-tried : goal.returns-in-Ok-false-clause-tried
-returns-in-Ok-false-clause-tried g c = tt
-
-pub returns-in-Ok-false-clause-complete : goal.returns-in-Ok-false-clause-complete
-returns-in-Ok-false-clause-complete g c said exact = tt
-
-pub returns-in-Ok-false-clause-stops : goal.returns-in-Ok-false-clause-stops
-returns-in-Ok-false-clause-stops g c = tt
-
-pub returns-in-Ok-false-clause-shrinks : goal.returns-in-Ok-false-clause-shrinks
-returns-in-Ok-false-clause-shrinks g c = tt
-
-pub returns-in-Err-clause-same_reference : goal.returns-in-Err-clause-same_reference
-returns-in-Err-clause-same_reference g c = c.in-Err.ensures.same_reference
-
-pub returns-in-Err-clause-same_steps : goal.returns-in-Err-clause-same_steps
-returns-in-Err-clause-same_steps g c = c.in-Err.ensures.same_steps
-
-pub returns-in-Err-clause-moves : goal.returns-in-Err-clause-moves
-returns-in-Err-clause-moves g c = moves_err c.in-Err.ensures.moves
-
-pub returns-in-Err-clause-memory : goal.returns-in-Err-clause-memory
-returns-in-Err-clause-memory g c is = let no = c.in-Err.ensures.memory in cc
-
-pub returns-in-Err-clause-sound : goal.returns-in-Err-clause-sound
-returns-in-Err-clause-sound g c = tt
-
-pub returns-in-Err-clause-left : goal.returns-in-Err-clause-left
-returns-in-Err-clause-left g c = tt
-
-pub returns-in-Err-clause-tried : goal.returns-in-Err-clause-tried
-returns-in-Err-clause-tried g c = rw c.in-Err.ensures.asked c.in-Err.ensures.kept
-
-pub returns-in-Err-clause-still : goal.returns-in-Err-clause-still
-returns-in-Err-clause-still g c not = tt
-
-pub returns-in-Err-clause-shrinks : goal.returns-in-Err-clause-shrinks
-returns-in-Err-clause-shrinks g c = tt
-
-pub returns-in-Ok-clause-asked : goal.returns-in-Ok-clause-asked
-returns-in-Ok-clause-asked g c = tt
-
-pub returns-in-Err-deserialize-clause-asked : goal.returns-in-Err-deserialize-clause-asked
-returns-in-Err-deserialize-clause-asked g c =
-    may_go_on _ _ (rw c.in-Ok-true.field-0-test at c.in-Ok-true.ensures.answer)
-
-pub returns-in-Ok-false-clause-asked : goal.returns-in-Ok-false-clause-asked
-returns-in-Ok-false-clause-asked g c = tt
-
-pub returns-in-Err-clause-asked : goal.returns-in-Err-clause-asked
-returns-in-Err-clause-asked g c = rw c.in-Err.ensures.asked tt
+pub returns-in-Err-clause-goes_on : goal.returns-in-Err-clause-goes_on
+returns-in-Err-clause-goes_on g c =
+    let starts = c.in-Err.ensures.starts in
+    record {
+      same_reference = starts.same_reference;
+      same_steps = starts.same_steps;
+      left = tt;
+      tried = rw starts.asked starts.kept;
+      asked = rw starts.asked tt;
+      still = λ not. tt;
+      shrinks = tt;
+    }

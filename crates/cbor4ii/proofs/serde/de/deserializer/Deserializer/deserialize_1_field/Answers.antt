@@ -5,9 +5,9 @@ use Rattle.cbor4ii.proofs.serde.de.deserializer.Deserializer.deserialize_1_field
 pub returns-in-Ok : goal.returns-in-Ok
 returns-in-Ok g c =
     let fields = field c.args.first.now g.A.Typed.promise no_more in
-    struct_ok _ fields c.in-Ok.ensures.moves.by c.in-Ok.ensures.progress c.in-Ok.ensures.sound
+    struct_ok _ fields c.in-Ok.ensures
 
 pub returns-in-Err : goal.returns-in-Err
 returns-in-Err g c =
     let fields = field c.args.first.now g.A.Typed.promise no_more in
-    struct_err _ fields c.in-Err.ensures.moves c.in-Err.ensures.complete c.in-Err.ensures.stops
+    struct_err _ fields c.in-Err.ensures

@@ -6,10 +6,10 @@ pub returns-in-Ok : goal.returns-in-Ok
 returns-in-Ok g c =
     let fields = field c.args.first.now g.A.Typed.promise
     (field c.args.second.now g.B.Typed.promise no_more) in
-    struct_ok _ fields c.in-Ok.ensures.moves.by c.in-Ok.ensures.progress c.in-Ok.ensures.sound
+    struct_ok _ fields c.in-Ok.ensures
 
 pub returns-in-Err : goal.returns-in-Err
 returns-in-Err g c =
     let fields = field c.args.first.now g.A.Typed.promise
     (field c.args.second.now g.B.Typed.promise no_more) in
-    struct_err _ fields c.in-Err.ensures.moves c.in-Err.ensures.complete c.in-Err.ensures.stops
+    struct_err _ fields c.in-Err.ensures

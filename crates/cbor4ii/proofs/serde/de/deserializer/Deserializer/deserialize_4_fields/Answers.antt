@@ -8,7 +8,7 @@ returns-in-Ok g c =
     (field c.args.second.now g.B.Typed.promise
     (field c.args.third.now g.C.Typed.promise
     (field c.args.fourth.now g.D.Typed.promise no_more))) in
-    struct_ok _ fields c.in-Ok.ensures.moves.by c.in-Ok.ensures.progress c.in-Ok.ensures.sound
+    struct_ok _ fields c.in-Ok.ensures
 
 pub returns-in-Err : goal.returns-in-Err
 returns-in-Err g c =
@@ -16,4 +16,4 @@ returns-in-Err g c =
     (field c.args.second.now g.B.Typed.promise
     (field c.args.third.now g.C.Typed.promise
     (field c.args.fourth.now g.D.Typed.promise no_more))) in
-    struct_err _ fields c.in-Err.ensures.moves c.in-Err.ensures.complete c.in-Err.ensures.stops
+    struct_err _ fields c.in-Err.ensures

@@ -9,7 +9,7 @@ returns-in-Ok g c =
     (field c.args.third.now g.C.Typed.promise
     (field c.args.fourth.now g.D.Typed.promise
     (field c.args.fifth.now g.E.Typed.promise no_more)))) in
-    struct_ok _ fields c.in-Ok.ensures.moves.by c.in-Ok.ensures.progress c.in-Ok.ensures.sound
+    struct_ok _ fields c.in-Ok.ensures
 
 pub returns-in-Err : goal.returns-in-Err
 returns-in-Err g c =
@@ -18,4 +18,4 @@ returns-in-Err g c =
     (field c.args.third.now g.C.Typed.promise
     (field c.args.fourth.now g.D.Typed.promise
     (field c.args.fifth.now g.E.Typed.promise no_more)))) in
-    struct_err _ fields c.in-Err.ensures.moves c.in-Err.ensures.complete c.in-Err.ensures.stops
+    struct_err _ fields c.in-Err.ensures

@@ -38,7 +38,7 @@ returns-in-Ok-under_step g c = record {
   moves = moves_then c.in-Ok.ensures.decodes.moves.by (moves_ok c.in-Ok-under_step.ensures.moves);
   progress = omega (
     arith,
-    c.in-Ok-under_step.ensures.progress,
+    c.in-Ok-under_step.ensures.progress refl,
     c.in-Ok.ensures.decodes.moves.by.bound,
   );
   memory = tt;
@@ -62,7 +62,7 @@ returns-in-Err-under_step g c = record {
       (exact_kept _ _ _ xs told c.in-Ok.ensures.decodes.moves.by exact));
   begins = λ _. option_stops _ (saw c.in-Ok.ensures.decodes.moves c.in-Ok.ensures.decodes.sound)
       c.if-first.false
-      c.if-first-2.false (c.in-Err-under_step.ensures.begins refl);
+      c.if-first-2.false c.in-Err-under_step.ensures.begins;
 }
 
 pub returns-in-Err : goal.returns-in-Err

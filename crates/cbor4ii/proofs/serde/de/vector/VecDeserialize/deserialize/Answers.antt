@@ -1,11 +1,11 @@
-use Rattle.cbor4ii.specs.TypedParts.{typed_vector}
-use Rattle.cbor4ii.proofs.Sequences.{vec_sound, vec_refuses}
-use Rattle.cbor4ii.proofs.Told.{told, may_take}
+use Rattle.std.specs.Prelude.{codes}
+use Rattle.cbor4ii.specs.TypedParts.{part_of, typed_vector}
+use Rattle.cbor4ii.proofs.Parts.{vector_of}
+use Rattle.cbor4ii.proofs.Promised.{promised}
 use Rattle.cbor4ii.proofs.serde.de.vector.VecDeserialize.deserialize.Goals as goal
 
 pub returns : goal.returns
 returns g c =
-    let d = c.take_sequence.ensures in
-    let r = c.take_sequence.result in
-    told (typed_vector g.T.Typed.promise) r d.moves d.progress (may_take r)
-    (vec_sound r _ _ _ d.sound) (λ is sure. vec_refuses r _ _ (d.complete is sure)) (λ is. d.stops)
+    promised (typed_vector g.T.Typed.promise)
+    (vector_of (codes "seq") (codes "array") 4 (part_of g.T.Typed.promise) c.take_sequence.result
+    c.take_sequence.ensures)

@@ -1,14 +1,14 @@
 -- What a sequence answers, by its head and by the parts behind it.
 use Rattle.std.proofs.Common.{◌≡◌, ℕ, ◌+◌, ◌<◌, inl, inr, List, [], ◌∷◌, length, drop, take, Option}
-use Rattle.std.proofs.Common.{Some, None, Ok, Err, false, refl, sym, ap, ◌∙◌, subst}
+use Rattle.std.proofs.Common.{Some, None, Ok, Err, Bool, false, refl, sym, ap, ◌∙◌, subst}
 use Rattle.cbor4ii_rw.specs.View.{View}
 use Rattle.cbor4ii_rw.specs.declared.error.DecodeError.{DecodeError}
 use Rattle.cbor4ii_items.specs.Head.{open_head}
 use Rattle.cbor4ii_items.specs.Heads.{ReadsHead}
-use Rattle.cbor4ii_items.specs.Decoding.{NoneRead, Spelling, Decodes}
+use Rattle.cbor4ii_items.specs.Decoding.{NoneRead, Spelling, Decodes, DecodesIf}
 use Rattle.cbor4ii_items.specs.Lengths.{ReadsLength, length_spelling}
 use Rattle.cbor4ii_items.specs.Sequences.{ReadsParts, counted_refused, open_refused, length_refused}
-use Rattle.cbor4ii_items.specs.Sequences.{count_spelling, open_spelling, inside_spelling}
+use Rattle.cbor4ii_items.specs.Sequences.{count_of, open_of, inside_of}
 use Rattle.cbor4ii_items.specs.Laws.Answering.{fits_zero}
 use Rattle.cbor4ii_items.specs.Laws.Calls.{err_behind, Leads}
 use Rattle.cbor4ii_items.specs.Laws.Fronts.{drop_more}
@@ -16,52 +16,53 @@ use Rattle.cbor4ii_items.specs.Laws.Heads.{head_one}
 use Rattle.cbor4ii_items.specs.Laws.Running.{kept_alike}
 use Rattle.cbor4ii_items.specs.Laws.Strings.{head_not_open}
 
-module _ {P : Type 0} (name : List ℕ) (major : ℕ) (s : Spelling P) (small : major < 8) where
+module _ {P W : Type 0} (items : W → List P) (name : List ℕ) (major : ℕ) (s : Spelling P)
+    (small : major < 8) where
   counted_none : (xs : List ℕ) (count n : ℕ) (budget : Option ℕ) → ReadsHead major 8 xs count n
-      → NoneRead (count_spelling s count).reads (drop n xs) budget
-      → NoneRead (inside_spelling name major s).reads xs budget
+      → NoneRead (count_of items s count).reads (drop n xs) budget
+      → NoneRead (inside_of items name major s).reads xs budget
   counted_none xs count n budget h none v k c read fits = elim read [
-    | inl r ↦ (let same = head_one major 8 xs (length v.items) count r.before n small r.head h in
+    | inl r ↦ (let same = head_one major 8 xs (length (items v)) count r.before n small r.head h in
         none v r.between c
-        (same.1, subst (λ i. ReadsParts s.reads (drop i xs) v.items r.between c) same.0 r.parts)
+        (same.1, subst (λ i. ReadsParts s.reads (drop i xs) (items v) r.between c) same.0 r.parts)
         fits)
     | inr r ↦ head_not_open major xs count n small h r.begins
   ]
 
   opened_none : (xs : List ℕ) (budget : Option ℕ) → take 1 xs ≡ open_head major ∷ []
-      → NoneRead (open_spelling name s).reads (drop 1 xs) budget
-      → NoneRead (inside_spelling name major s).reads xs budget
+      → NoneRead (open_of items name s).reads (drop 1 xs) budget
+      → NoneRead (inside_of items name major s).reads xs budget
   opened_none xs budget h none v k c read fits = elim read [
-    | inl r ↦ head_not_open major xs (length v.items) r.before small r.head h
+    | inl r ↦ head_not_open major xs (length (items v)) r.before small r.head h
     | inr r ↦ none v r.between c r.parts fits
   ]
 
   no_head : (xs : List ℕ) (budget : Option ℕ) → NoneRead (ReadsLength major) xs budget
-      → NoneRead (inside_spelling name major s).reads xs budget
+      → NoneRead (inside_of items name major s).reads xs budget
   no_head xs budget none v n c read fits = elim read [
-    | inl r ↦ none (Some (length v.items)) r.before 0 (r.head, refl) (fits_zero budget)
+    | inl r ↦ none (Some (length (items v))) r.before 0 (r.head, refl) (fits_zero budget)
     | inr r ↦ none None 1 0 (r.begins, refl, refl) (fits_zero budget)
   ]
 
-  pub head_err : {E : Type 0} {a m : View} {e : DecodeError E}
-      → Decodes (length_spelling name major) a m (Err e)
-      → Decodes (inside_spelling name major s) a m (Err e)
+  pub head_err : {E : Type 0} {exact : Bool} {a m : View} {e : DecodeError E}
+      → DecodesIf exact (length_spelling name major) a m (Err e)
+      → DecodesIf exact (inside_of items name major s) a m (Err e)
   head_err {a = a} d =
-      err_behind (length_spelling name major) (inside_spelling name major s) (kept_alike a)
+      err_behind (length_spelling name major) (inside_of items name major s) (kept_alike a)
       (λ xs told. (
         xs,
         told,
         record {
-          none = no_head xs a.budget;
+          none = λ is. no_head xs a.budget;
           stops = λ z ys h. length_refused h.0 h.1;
           begins = λ z ys h. length_refused h.0 h.1;
         },
       )) (λ owned. refl) (λ takes. (let no : false ≡ _ = takes in cc)) d
 
   -- a head that counts
-  pub counts : {E : Type 0} {a m : View} {l : Option ℕ} {count : ℕ} → l ≡ Some count
+  pub counts : {E : Type 0} {exact : Bool} {a m : View} {l : Option ℕ} {count : ℕ} → l ≡ Some count
       → Decodes {E = E} (length_spelling name major) a m (Ok l)
-      → Leads (count_spelling s count) (inside_spelling name major s) a m
+      → Leads exact (count_of items s count) (inside_of items name major s) a m
   counts {a = a} {count = count} is d = record {
     kept = d.moves.by;
     progress = λ some. d.progress refl;
@@ -87,7 +88,7 @@ module _ {P : Type 0} (name : List ℕ) (major : ℕ) (s : Spelling P) (small : 
             left = drop_more n p.count xs;
           }),
           record {
-            none = counted_none xs count p.count a.budget head;
+            none = λ is. counted_none xs count p.count a.budget head;
             stops = λ z zs. counted_refused count p.count head;
             begins = λ z zs. counted_refused count p.count head;
           },
@@ -95,9 +96,9 @@ module _ {P : Type 0} (name : List ℕ) (major : ℕ) (s : Spelling P) (small : 
   }
 
   -- the first byte of an indefinite length
-  pub opens : {E : Type 0} {a m : View} {l : Option ℕ} → l ≡ None
+  pub opens : {E : Type 0} {exact : Bool} {a m : View} {l : Option ℕ} → l ≡ None
       → Decodes {E = E} (length_spelling name major) a m (Ok l)
-      → Leads (open_spelling name s) (inside_spelling name major s) a m
+      → Leads exact (open_of items name s) (inside_of items name major s) a m
   opens {a = a} is d = record {
     kept = d.moves.by;
     progress = λ some. d.progress refl;
@@ -116,7 +117,7 @@ module _ {P : Type 0} (name : List ℕ) (major : ℕ) (s : Spelling P) (small : 
             left = drop_more n 1 xs;
           }),
           record {
-            none = opened_none xs a.budget f.0;
+            none = λ is. opened_none xs a.budget f.0;
             stops = λ z zs. open_refused f.0;
             begins = λ z zs. open_refused f.0;
           },
