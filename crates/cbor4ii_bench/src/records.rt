@@ -49,11 +49,16 @@ impl Serialize for Context {
     fn serialize<W: Write>(&self, ser: &mut Serializer<W>) -> Result<(), EncodeError<W::Error>> {
         ser.serialize_5_fields(
             "Context",
-            ("user", &self.user),
-            ("path", &self.path),
-            ("status", &self.status),
-            ("args", &self.args),
-            ("admin", &self.admin),
+            "user",
+            &self.user,
+            "path",
+            &self.path,
+            "status",
+            &self.status,
+            "args",
+            &self.args,
+            "admin",
+            &self.admin,
         )
     }
 }
@@ -69,12 +74,18 @@ impl Serialize for Record {
     fn serialize<W: Write>(&self, ser: &mut Serializer<W>) -> Result<(), EncodeError<W::Error>> {
         ser.serialize_6_fields(
             "Record",
-            ("ts", &self.ts),
-            ("msg", &self.msg),
-            ("ok", &self.ok),
-            ("tags", &self.tags),
-            ("ctx", &self.ctx),
-            ("parent", &self.parent),
+            "ts",
+            &self.ts,
+            "msg",
+            &self.msg,
+            "ok",
+            &self.ok,
+            "tags",
+            &self.tags,
+            "ctx",
+            &self.ctx,
+            "parent",
+            &self.parent,
         )
     }
 }

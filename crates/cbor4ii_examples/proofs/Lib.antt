@@ -1,7 +1,5 @@
 -- What a variant leaves that was read.
 pub mod Variants
--- A type that holds values of its own kind.
-pub mod Nests
 -- The fields of a struct, as they are written and read back.
 pub mod Points
 -- One decoding call behind another, and what a station is made of.

@@ -3,3 +3,4 @@ pub mod Then
 pub mod Station
 pub mod StationLaws
 pub mod Nest
+pub mod Tree

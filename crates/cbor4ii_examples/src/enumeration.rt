@@ -37,7 +37,7 @@ impl Serialize for Enum {
             Enum::NewType(n) => ser.serialize_newtype_variant("Enum", 1, "NewType", n),
             Enum::Tuple(s, b) => ser.serialize_variant_of_2_items("Enum", 2, "Tuple", s, b),
             Enum::Struct { x, y } => {
-                ser.serialize_variant_of_2_fields("Enum", 3, "Struct", ("x", x), ("y", y))
+                ser.serialize_variant_of_2_fields("Enum", 3, "Struct", "x", x, "y", y)
             }
         }
     }

@@ -53,7 +53,7 @@ impl Serialize for Event {
                 ser.serialize_variant_of_2_items("Event", 2, "Moved", east, north)
             }
             Event::Named { id, name } => {
-                ser.serialize_variant_of_2_fields("Event", 3, "Named", ("id", id), ("name", name))
+                ser.serialize_variant_of_2_fields("Event", 3, "Named", "id", id, "name", name)
             }
         }
     }

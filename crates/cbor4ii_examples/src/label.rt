@@ -24,7 +24,7 @@ impl<'a> Serialize for Label<'a> {
         ∷ field (codes "text") (⟦<&'a str as Serialize>⟧.item l.text) ∷ []) };
 
     fn serialize<W: Write>(&self, ser: &mut Serializer<W>) -> Result<(), EncodeError<W::Error>> {
-        ser.serialize_2_fields("Label", ("id", &self.id), ("text", &self.text))
+        ser.serialize_2_fields("Label", "id", &self.id, "text", &self.text)
     }
 }
 

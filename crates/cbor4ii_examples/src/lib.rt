@@ -12,6 +12,7 @@
 //! | `enumeration` | an enum with variants of each kind, which a function reads |
 //! | `event` | an enum that is read inside other types, as in a vector or a map |
 //! | `nest` | a type that holds values of its own kind |
+//! | `tree` | a struct that holds values of its own kind, written in one call |
 //! | `station` | a type that is read and written by hand, each refusal proved |
 //!
 //! The rows' values come from RFC 8949 and from worked examples, never from this codec's own
@@ -33,3 +34,4 @@ mod refusal;
 pub mod sample;
 pub mod station;
 pub mod texts;
+pub mod tree;

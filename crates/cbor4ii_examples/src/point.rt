@@ -33,12 +33,7 @@ impl Serialize for Point {
         ∷ field (codes "y") (⟦<Option<i32> as Serialize>⟧.item p.y) ∷ []) };
 
     fn serialize<W: Write>(&self, ser: &mut Serializer<W>) -> Result<(), EncodeError<W::Error>> {
-        ser.serialize_3_fields(
-            "Point",
-            ("x", &self.x),
-            ("name", &self.name),
-            ("y", &self.y),
-        )
+        ser.serialize_3_fields("Point", "x", &self.x, "name", &self.name, "y", &self.y)
     }
 }
 

@@ -22,16 +22,22 @@ enum Struct {
 
 impl Put for Struct {
     fn put<W: Write>(&self, ser: &mut Serializer<W>) -> Result<(), EncodeError<W::Error>> {
-        let [a, b, c, d] = [("a", &1u8), ("b", &2), ("c", &3), ("d", &4)];
+        let [one, two, three, four] = &[1u8, 2, 3, 4];
         match self {
-            Struct::One => ser.serialize_1_field("One", a),
-            Struct::Two => ser.serialize_2_fields("Two", a, b),
+            Struct::One => ser.serialize_1_field("One", "a", one),
+            Struct::Two => ser.serialize_2_fields("Two", "a", one, "b", two),
             Struct::Three => {
-                ser.serialize_3_fields("Fields", ("a", &5u8), ("b", &"text"), ("c", &Some(-1i8)))
+                ser.serialize_3_fields("Fields", "a", &5u8, "b", &"text", "c", &Some(-1i8))
             }
-            Struct::Four => ser.serialize_4_fields("Four", a, b, c, d),
-            Struct::Five => ser.serialize_5_fields("Five", a, b, c, d, ("e", &5u8)),
-            Struct::Six => ser.serialize_6_fields("Six", a, b, c, d, ("e", &5u8), ("f", &6u8)),
+            Struct::Four => ser.serialize_4_fields(
+                "Four", "a", one, "b", two, "c", three, "d", four,
+            ),
+            Struct::Five => ser.serialize_5_fields(
+                "Five", "a", one, "b", two, "c", three, "d", four, "e", &5u8,
+            ),
+            Struct::Six => ser.serialize_6_fields(
+                "Six", "a", one, "b", two, "c", three, "d", four, "e", &5u8, "f", &6u8,
+            ),
         }
     }
 }
@@ -62,12 +68,18 @@ enum Variant {
 
 impl Put for Variant {
     fn put<W: Write>(&self, ser: &mut Serializer<W>) -> Result<(), EncodeError<W::Error>> {
-        let [a, b, c, d] = [("a", &1u8), ("b", &2), ("c", &3), ("d", &4)];
+        let [one, two, three, four] = &[1u8, 2, 3, 4];
         match self {
-            Variant::OneField => ser.serialize_variant_of_1_field("Enum", 0, "V", a),
-            Variant::TwoFields => ser.serialize_variant_of_2_fields("Enum", 1, "V", a, b),
-            Variant::ThreeFields => ser.serialize_variant_of_3_fields("Enum", 2, "V", a, b, c),
-            Variant::FourFields => ser.serialize_variant_of_4_fields("Enum", 3, "V", a, b, c, d),
+            Variant::OneField => ser.serialize_variant_of_1_field("Enum", 0, "V", "a", one),
+            Variant::TwoFields => {
+                ser.serialize_variant_of_2_fields("Enum", 1, "V", "a", one, "b", two)
+            }
+            Variant::ThreeFields => {
+                ser.serialize_variant_of_3_fields("Enum", 2, "V", "a", one, "b", two, "c", three)
+            }
+            Variant::FourFields => ser.serialize_variant_of_4_fields(
+                "Enum", 3, "V", "a", one, "b", two, "c", three, "d", four,
+            ),
             Variant::TwoItems => ser.serialize_variant_of_2_items("Enum", 4, "V", &1u8, &2u8),
             Variant::ThreeItems => {
                 ser.serialize_variant_of_3_items("Enum", 5, "V", &1u8, &2u8, &3u8)

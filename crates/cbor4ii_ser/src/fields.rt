@@ -1,6 +1,6 @@
-//! Structs and variants that are written from their fields or items in one call.
+//! Structs that are written from their fields in one call.
 ghost use Rattle.std.specs.Prelude.{◌∷◌, []};
-ghost use Rattle.cbor4ii_ser.specs.Item.{field, struct_item, tuple_variant_item, variant_item};
+ghost use Rattle.cbor4ii_ser.specs.Item.{field, struct_item};
 ghost use Rattle.cbor4ii_ser.specs.Serializing.{Serializes, output};
 
 use crate::bounded::put_field;
@@ -9,23 +9,25 @@ use crate::serialize::Serialize;
 use crate::serializer::Serializer;
 use cbor4ii_rw::write::Write;
 
-// A call for each number of parts, since a list of them would be a type argument that names
-// several lifetimes, and the borrow checker does not cover one.
+// A call for each number of fields, since a list of them would be a type argument that names
+// several lifetimes, and the borrow checker does not cover one. A name stands beside its value, and
+// in no pair with it: of a type that holds values of its own kind, a call that is given a pair has
+// no proof.
 impl<W: Write> Serializer<W> {
-    /// Writes a struct of one field, a name and a value: a map, in this order. The struct's
-    /// name is not written. It fails as the `serialize` of a value does, or where the writer failed
-    /// before.
+    /// Writes a struct of one field, a name and a value: a map, in this order. The struct's name is
+    /// not written. It fails as the `serialize` of a value does, or where the writer failed before.
     pub fn serialize_1_field<A: Serialize>(
         &mut self,
         _name: &str,
-        first: (&str, &A),
+        first_name: &str,
+        first: &A,
     ) -> Result<(), EncodeError<W::Error>>
         ensures { Serializes W.whole (struct_item
-            (field first.entry.0.now (A.item first.entry.1.now) ∷ []))
+            (field first_name.now (A.item first.now) ∷ []))
             (output W.view self.old) (output W.view self.new) result }
     {
         self.map_head(1)?;
-        put_field(self, first.0, first.1)
+        put_field(self, first_name, first)
     }
 
     /// Writes a struct of two fields, each a name and a value: a map, in this order. The struct's
@@ -34,17 +36,19 @@ impl<W: Write> Serializer<W> {
     pub fn serialize_2_fields<A: Serialize, B: Serialize>(
         &mut self,
         _name: &str,
-        first: (&str, &A),
-        second: (&str, &B),
+        first_name: &str,
+        first: &A,
+        second_name: &str,
+        second: &B,
     ) -> Result<(), EncodeError<W::Error>>
         ensures { Serializes W.whole (struct_item
-            (field first.entry.0.now (A.item first.entry.1.now)
-            ∷ field second.entry.0.now (B.item second.entry.1.now) ∷ []))
+            (field first_name.now (A.item first.now)
+            ∷ field second_name.now (B.item second.now) ∷ []))
             (output W.view self.old) (output W.view self.new) result }
     {
         self.map_head(2)?;
-        put_field(self, first.0, first.1)?;
-        put_field(self, second.0, second.1)
+        put_field(self, first_name, first)?;
+        put_field(self, second_name, second)
     }
 
     /// Writes a struct of three fields, each a name and a value: a map, in this order. The struct's
@@ -53,20 +57,23 @@ impl<W: Write> Serializer<W> {
     pub fn serialize_3_fields<A: Serialize, B: Serialize, C: Serialize>(
         &mut self,
         _name: &str,
-        first: (&str, &A),
-        second: (&str, &B),
-        third: (&str, &C),
+        first_name: &str,
+        first: &A,
+        second_name: &str,
+        second: &B,
+        third_name: &str,
+        third: &C,
     ) -> Result<(), EncodeError<W::Error>>
         ensures { Serializes W.whole (struct_item
-            (field first.entry.0.now (A.item first.entry.1.now)
-            ∷ field second.entry.0.now (B.item second.entry.1.now)
-            ∷ field third.entry.0.now (C.item third.entry.1.now) ∷ []))
+            (field first_name.now (A.item first.now)
+            ∷ field second_name.now (B.item second.now)
+            ∷ field third_name.now (C.item third.now) ∷ []))
             (output W.view self.old) (output W.view self.new) result }
     {
         self.map_head(3)?;
-        put_field(self, first.0, first.1)?;
-        put_field(self, second.0, second.1)?;
-        put_field(self, third.0, third.1)
+        put_field(self, first_name, first)?;
+        put_field(self, second_name, second)?;
+        put_field(self, third_name, third)
     }
 
     /// Writes a struct of four fields, each a name and a value: a map, in this order. The struct's
@@ -75,23 +82,27 @@ impl<W: Write> Serializer<W> {
     pub fn serialize_4_fields<A: Serialize, B: Serialize, C: Serialize, D: Serialize>(
         &mut self,
         _name: &str,
-        first: (&str, &A),
-        second: (&str, &B),
-        third: (&str, &C),
-        fourth: (&str, &D),
+        first_name: &str,
+        first: &A,
+        second_name: &str,
+        second: &B,
+        third_name: &str,
+        third: &C,
+        fourth_name: &str,
+        fourth: &D,
     ) -> Result<(), EncodeError<W::Error>>
         ensures { Serializes W.whole (struct_item
-            (field first.entry.0.now (A.item first.entry.1.now)
-            ∷ field second.entry.0.now (B.item second.entry.1.now)
-            ∷ field third.entry.0.now (C.item third.entry.1.now)
-            ∷ field fourth.entry.0.now (D.item fourth.entry.1.now) ∷ []))
+            (field first_name.now (A.item first.now)
+            ∷ field second_name.now (B.item second.now)
+            ∷ field third_name.now (C.item third.now)
+            ∷ field fourth_name.now (D.item fourth.now) ∷ []))
             (output W.view self.old) (output W.view self.new) result }
     {
         self.map_head(4)?;
-        put_field(self, first.0, first.1)?;
-        put_field(self, second.0, second.1)?;
-        put_field(self, third.0, third.1)?;
-        put_field(self, fourth.0, fourth.1)
+        put_field(self, first_name, first)?;
+        put_field(self, second_name, second)?;
+        put_field(self, third_name, third)?;
+        put_field(self, fourth_name, fourth)
     }
 
     /// Writes a struct of five fields, each a name and a value: a map, in this order. The struct's
@@ -100,26 +111,31 @@ impl<W: Write> Serializer<W> {
     pub fn serialize_5_fields<A: Serialize, B: Serialize, C: Serialize, D: Serialize, E: Serialize>(
         &mut self,
         _name: &str,
-        first: (&str, &A),
-        second: (&str, &B),
-        third: (&str, &C),
-        fourth: (&str, &D),
-        fifth: (&str, &E),
+        first_name: &str,
+        first: &A,
+        second_name: &str,
+        second: &B,
+        third_name: &str,
+        third: &C,
+        fourth_name: &str,
+        fourth: &D,
+        fifth_name: &str,
+        fifth: &E,
     ) -> Result<(), EncodeError<W::Error>>
         ensures { Serializes W.whole (struct_item
-            (field first.entry.0.now (A.item first.entry.1.now)
-            ∷ field second.entry.0.now (B.item second.entry.1.now)
-            ∷ field third.entry.0.now (C.item third.entry.1.now)
-            ∷ field fourth.entry.0.now (D.item fourth.entry.1.now)
-            ∷ field fifth.entry.0.now (E.item fifth.entry.1.now) ∷ []))
+            (field first_name.now (A.item first.now)
+            ∷ field second_name.now (B.item second.now)
+            ∷ field third_name.now (C.item third.now)
+            ∷ field fourth_name.now (D.item fourth.now)
+            ∷ field fifth_name.now (E.item fifth.now) ∷ []))
             (output W.view self.old) (output W.view self.new) result }
     {
         self.map_head(5)?;
-        put_field(self, first.0, first.1)?;
-        put_field(self, second.0, second.1)?;
-        put_field(self, third.0, third.1)?;
-        put_field(self, fourth.0, fourth.1)?;
-        put_field(self, fifth.0, fifth.1)
+        put_field(self, first_name, first)?;
+        put_field(self, second_name, second)?;
+        put_field(self, third_name, third)?;
+        put_field(self, fourth_name, fourth)?;
+        put_field(self, fifth_name, fifth)
     }
 
     /// Writes a struct of six fields, each a name and a value: a map, in this order. The struct's
@@ -135,154 +151,403 @@ impl<W: Write> Serializer<W> {
     >(
         &mut self,
         _name: &str,
-        first: (&str, &A),
-        second: (&str, &B),
-        third: (&str, &C),
-        fourth: (&str, &D),
-        fifth: (&str, &E),
-        sixth: (&str, &F),
+        first_name: &str,
+        first: &A,
+        second_name: &str,
+        second: &B,
+        third_name: &str,
+        third: &C,
+        fourth_name: &str,
+        fourth: &D,
+        fifth_name: &str,
+        fifth: &E,
+        sixth_name: &str,
+        sixth: &F,
     ) -> Result<(), EncodeError<W::Error>>
         ensures { Serializes W.whole (struct_item
-            (field first.entry.0.now (A.item first.entry.1.now)
-            ∷ field second.entry.0.now (B.item second.entry.1.now)
-            ∷ field third.entry.0.now (C.item third.entry.1.now)
-            ∷ field fourth.entry.0.now (D.item fourth.entry.1.now)
-            ∷ field fifth.entry.0.now (E.item fifth.entry.1.now)
-            ∷ field sixth.entry.0.now (F.item sixth.entry.1.now) ∷ []))
+            (field first_name.now (A.item first.now)
+            ∷ field second_name.now (B.item second.now)
+            ∷ field third_name.now (C.item third.now)
+            ∷ field fourth_name.now (D.item fourth.now)
+            ∷ field fifth_name.now (E.item fifth.now)
+            ∷ field sixth_name.now (F.item sixth.now) ∷ []))
             (output W.view self.old) (output W.view self.new) result }
     {
         self.map_head(6)?;
-        put_field(self, first.0, first.1)?;
-        put_field(self, second.0, second.1)?;
-        put_field(self, third.0, third.1)?;
-        put_field(self, fourth.0, fourth.1)?;
-        put_field(self, fifth.0, fifth.1)?;
-        put_field(self, sixth.0, sixth.1)
+        put_field(self, first_name, first)?;
+        put_field(self, second_name, second)?;
+        put_field(self, third_name, third)?;
+        put_field(self, fourth_name, fourth)?;
+        put_field(self, fifth_name, fifth)?;
+        put_field(self, sixth_name, sixth)
     }
 
-    /// Writes a variant of one field, a name and a value: a map of one entry, the variant's
-    /// name and a map of the fields in this order. The enum's name and the variant's index are not
-    /// written. It fails as the `serialize` of a value does, or where the writer failed before.
-    pub fn serialize_variant_of_1_field<A: Serialize>(
-        &mut self,
-        name: &str,
-        _variant_index: u32,
-        variant: &str,
-        first: (&str, &A),
-    ) -> Result<(), EncodeError<W::Error>>
-        ensures { Serializes W.whole (variant_item variant.now (struct_item
-            (field first.entry.0.now (A.item first.entry.1.now) ∷ [])))
-            (output W.view self.old) (output W.view self.new) result }
-    {
-        self.variant_head(variant)?;
-        self.serialize_1_field(name, first)
-    }
-
-    /// Writes a variant of two fields, each a name and a value: a map of one entry, the variant's
-    /// name and a map of the fields in this order. The enum's name and the variant's index are not
-    /// written. It fails as the `serialize` of a value does, or where the writer failed before.
-    pub fn serialize_variant_of_2_fields<A: Serialize, B: Serialize>(
-        &mut self,
-        name: &str,
-        _variant_index: u32,
-        variant: &str,
-        first: (&str, &A),
-        second: (&str, &B),
-    ) -> Result<(), EncodeError<W::Error>>
-        ensures { Serializes W.whole (variant_item variant.now (struct_item
-            (field first.entry.0.now (A.item first.entry.1.now)
-            ∷ field second.entry.0.now (B.item second.entry.1.now) ∷ [])))
-            (output W.view self.old) (output W.view self.new) result }
-    {
-        self.variant_head(variant)?;
-        self.serialize_2_fields(name, first, second)
-    }
-
-    /// Writes a variant of three fields, each a name and a value: a map of one entry, the variant's
-    /// name and a map of the fields in this order. The enum's name and the variant's index are not
-    /// written. It fails as the `serialize` of a value does, or where the writer failed before.
-    pub fn serialize_variant_of_3_fields<A: Serialize, B: Serialize, C: Serialize>(
-        &mut self,
-        name: &str,
-        _variant_index: u32,
-        variant: &str,
-        first: (&str, &A),
-        second: (&str, &B),
-        third: (&str, &C),
-    ) -> Result<(), EncodeError<W::Error>>
-        ensures { Serializes W.whole (variant_item variant.now (struct_item
-            (field first.entry.0.now (A.item first.entry.1.now)
-            ∷ field second.entry.0.now (B.item second.entry.1.now)
-            ∷ field third.entry.0.now (C.item third.entry.1.now) ∷ [])))
-            (output W.view self.old) (output W.view self.new) result }
-    {
-        self.variant_head(variant)?;
-        self.serialize_3_fields(name, first, second, third)
-    }
-
-    /// Writes a variant of four fields, each a name and a value: a map of one entry, the variant's
-    /// name and a map of the fields in this order. The enum's name and the variant's index are not
-    /// written. It fails as the `serialize` of a value does, or where the writer failed before.
-    pub fn serialize_variant_of_4_fields<A: Serialize, B: Serialize, C: Serialize, D: Serialize>(
-        &mut self,
-        name: &str,
-        _variant_index: u32,
-        variant: &str,
-        first: (&str, &A),
-        second: (&str, &B),
-        third: (&str, &C),
-        fourth: (&str, &D),
-    ) -> Result<(), EncodeError<W::Error>>
-        ensures { Serializes W.whole (variant_item variant.now (struct_item
-            (field first.entry.0.now (A.item first.entry.1.now)
-            ∷ field second.entry.0.now (B.item second.entry.1.now)
-            ∷ field third.entry.0.now (C.item third.entry.1.now)
-            ∷ field fourth.entry.0.now (D.item fourth.entry.1.now) ∷ [])))
-            (output W.view self.old) (output W.view self.new) result }
-    {
-        self.variant_head(variant)?;
-        self.serialize_4_fields(name, first, second, third, fourth)
-    }
-
-    /// Writes a variant of two items: a map of one entry, the variant's name and an array of
-    /// the items in this order. The enum's name and the variant's index are not written. It fails
-    /// as the `serialize` of an item does, or where the writer failed before.
-    pub fn serialize_variant_of_2_items<A: Serialize, B: Serialize>(
+    /// Writes a struct of seven fields, each a name and a value: a map, in this order. The struct's
+    /// name is not written. It fails as the `serialize` of a value does, or where the writer failed
+    /// before.
+    pub fn serialize_7_fields<
+        A: Serialize,
+        B: Serialize,
+        C: Serialize,
+        D: Serialize,
+        E: Serialize,
+        F: Serialize,
+        G: Serialize,
+    >(
         &mut self,
         _name: &str,
-        _variant_index: u32,
-        variant: &str,
+        first_name: &str,
         first: &A,
+        second_name: &str,
         second: &B,
-    ) -> Result<(), EncodeError<W::Error>>
-        ensures { Serializes W.whole (tuple_variant_item variant.now
-            (A.item first.now ∷ B.item second.now ∷ []))
-            (output W.view self.old) (output W.view self.new) result }
-    {
-        self.tuple_variant_head(variant, 2)?;
-        first.serialize(self)?;
-        second.serialize(self)
-    }
-
-    /// Writes a variant of three items: a map of one entry, the variant's name and an array of
-    /// the items in this order. The enum's name and the variant's index are not written. It fails
-    /// as the `serialize` of an item does, or where the writer failed before.
-    pub fn serialize_variant_of_3_items<A: Serialize, B: Serialize, C: Serialize>(
-        &mut self,
-        _name: &str,
-        _variant_index: u32,
-        variant: &str,
-        first: &A,
-        second: &B,
+        third_name: &str,
         third: &C,
+        fourth_name: &str,
+        fourth: &D,
+        fifth_name: &str,
+        fifth: &E,
+        sixth_name: &str,
+        sixth: &F,
+        seventh_name: &str,
+        seventh: &G,
     ) -> Result<(), EncodeError<W::Error>>
-        ensures { Serializes W.whole (tuple_variant_item variant.now
-            (A.item first.now ∷ B.item second.now ∷ C.item third.now ∷ []))
+        ensures { Serializes W.whole (struct_item
+            (field first_name.now (A.item first.now)
+            ∷ field second_name.now (B.item second.now)
+            ∷ field third_name.now (C.item third.now)
+            ∷ field fourth_name.now (D.item fourth.now)
+            ∷ field fifth_name.now (E.item fifth.now)
+            ∷ field sixth_name.now (F.item sixth.now)
+            ∷ field seventh_name.now (G.item seventh.now) ∷ []))
             (output W.view self.old) (output W.view self.new) result }
     {
-        self.tuple_variant_head(variant, 3)?;
-        first.serialize(self)?;
-        second.serialize(self)?;
-        third.serialize(self)
+        self.map_head(7)?;
+        put_field(self, first_name, first)?;
+        put_field(self, second_name, second)?;
+        put_field(self, third_name, third)?;
+        put_field(self, fourth_name, fourth)?;
+        put_field(self, fifth_name, fifth)?;
+        put_field(self, sixth_name, sixth)?;
+        put_field(self, seventh_name, seventh)
+    }
+
+    /// Writes a struct of eight fields, each a name and a value: a map, in this order. The struct's
+    /// name is not written. It fails as the `serialize` of a value does, or where the writer failed
+    /// before.
+    pub fn serialize_8_fields<
+        A: Serialize,
+        B: Serialize,
+        C: Serialize,
+        D: Serialize,
+        E: Serialize,
+        F: Serialize,
+        G: Serialize,
+        H: Serialize,
+    >(
+        &mut self,
+        _name: &str,
+        first_name: &str,
+        first: &A,
+        second_name: &str,
+        second: &B,
+        third_name: &str,
+        third: &C,
+        fourth_name: &str,
+        fourth: &D,
+        fifth_name: &str,
+        fifth: &E,
+        sixth_name: &str,
+        sixth: &F,
+        seventh_name: &str,
+        seventh: &G,
+        eighth_name: &str,
+        eighth: &H,
+    ) -> Result<(), EncodeError<W::Error>>
+        ensures { Serializes W.whole (struct_item
+            (field first_name.now (A.item first.now)
+            ∷ field second_name.now (B.item second.now)
+            ∷ field third_name.now (C.item third.now)
+            ∷ field fourth_name.now (D.item fourth.now)
+            ∷ field fifth_name.now (E.item fifth.now)
+            ∷ field sixth_name.now (F.item sixth.now)
+            ∷ field seventh_name.now (G.item seventh.now)
+            ∷ field eighth_name.now (H.item eighth.now) ∷ []))
+            (output W.view self.old) (output W.view self.new) result }
+    {
+        self.map_head(8)?;
+        put_field(self, first_name, first)?;
+        put_field(self, second_name, second)?;
+        put_field(self, third_name, third)?;
+        put_field(self, fourth_name, fourth)?;
+        put_field(self, fifth_name, fifth)?;
+        put_field(self, sixth_name, sixth)?;
+        put_field(self, seventh_name, seventh)?;
+        put_field(self, eighth_name, eighth)
+    }
+
+    /// Writes a struct of nine fields, each a name and a value: a map, in this order. The struct's
+    /// name is not written. It fails as the `serialize` of a value does, or where the writer failed
+    /// before.
+    pub fn serialize_9_fields<
+        A: Serialize,
+        B: Serialize,
+        C: Serialize,
+        D: Serialize,
+        E: Serialize,
+        F: Serialize,
+        G: Serialize,
+        H: Serialize,
+        I: Serialize,
+    >(
+        &mut self,
+        _name: &str,
+        first_name: &str,
+        first: &A,
+        second_name: &str,
+        second: &B,
+        third_name: &str,
+        third: &C,
+        fourth_name: &str,
+        fourth: &D,
+        fifth_name: &str,
+        fifth: &E,
+        sixth_name: &str,
+        sixth: &F,
+        seventh_name: &str,
+        seventh: &G,
+        eighth_name: &str,
+        eighth: &H,
+        ninth_name: &str,
+        ninth: &I,
+    ) -> Result<(), EncodeError<W::Error>>
+        ensures { Serializes W.whole (struct_item
+            (field first_name.now (A.item first.now)
+            ∷ field second_name.now (B.item second.now)
+            ∷ field third_name.now (C.item third.now)
+            ∷ field fourth_name.now (D.item fourth.now)
+            ∷ field fifth_name.now (E.item fifth.now)
+            ∷ field sixth_name.now (F.item sixth.now)
+            ∷ field seventh_name.now (G.item seventh.now)
+            ∷ field eighth_name.now (H.item eighth.now)
+            ∷ field ninth_name.now (I.item ninth.now) ∷ []))
+            (output W.view self.old) (output W.view self.new) result }
+    {
+        self.map_head(9)?;
+        put_field(self, first_name, first)?;
+        put_field(self, second_name, second)?;
+        put_field(self, third_name, third)?;
+        put_field(self, fourth_name, fourth)?;
+        put_field(self, fifth_name, fifth)?;
+        put_field(self, sixth_name, sixth)?;
+        put_field(self, seventh_name, seventh)?;
+        put_field(self, eighth_name, eighth)?;
+        put_field(self, ninth_name, ninth)
+    }
+
+    /// Writes a struct of ten fields, each a name and a value: a map, in this order. The struct's
+    /// name is not written. It fails as the `serialize` of a value does, or where the writer failed
+    /// before.
+    pub fn serialize_10_fields<
+        A: Serialize,
+        B: Serialize,
+        C: Serialize,
+        D: Serialize,
+        E: Serialize,
+        F: Serialize,
+        G: Serialize,
+        H: Serialize,
+        I: Serialize,
+        J: Serialize,
+    >(
+        &mut self,
+        _name: &str,
+        first_name: &str,
+        first: &A,
+        second_name: &str,
+        second: &B,
+        third_name: &str,
+        third: &C,
+        fourth_name: &str,
+        fourth: &D,
+        fifth_name: &str,
+        fifth: &E,
+        sixth_name: &str,
+        sixth: &F,
+        seventh_name: &str,
+        seventh: &G,
+        eighth_name: &str,
+        eighth: &H,
+        ninth_name: &str,
+        ninth: &I,
+        tenth_name: &str,
+        tenth: &J,
+    ) -> Result<(), EncodeError<W::Error>>
+        ensures { Serializes W.whole (struct_item
+            (field first_name.now (A.item first.now)
+            ∷ field second_name.now (B.item second.now)
+            ∷ field third_name.now (C.item third.now)
+            ∷ field fourth_name.now (D.item fourth.now)
+            ∷ field fifth_name.now (E.item fifth.now)
+            ∷ field sixth_name.now (F.item sixth.now)
+            ∷ field seventh_name.now (G.item seventh.now)
+            ∷ field eighth_name.now (H.item eighth.now)
+            ∷ field ninth_name.now (I.item ninth.now)
+            ∷ field tenth_name.now (J.item tenth.now) ∷ []))
+            (output W.view self.old) (output W.view self.new) result }
+    {
+        self.map_head(10)?;
+        put_field(self, first_name, first)?;
+        put_field(self, second_name, second)?;
+        put_field(self, third_name, third)?;
+        put_field(self, fourth_name, fourth)?;
+        put_field(self, fifth_name, fifth)?;
+        put_field(self, sixth_name, sixth)?;
+        put_field(self, seventh_name, seventh)?;
+        put_field(self, eighth_name, eighth)?;
+        put_field(self, ninth_name, ninth)?;
+        put_field(self, tenth_name, tenth)
+    }
+
+    /// Writes a struct of eleven fields, each a name and a value: a map, in this order. The
+    /// struct's name is not written. It fails as the `serialize` of a value does, or where the
+    /// writer failed before.
+    pub fn serialize_11_fields<
+        A: Serialize,
+        B: Serialize,
+        C: Serialize,
+        D: Serialize,
+        E: Serialize,
+        F: Serialize,
+        G: Serialize,
+        H: Serialize,
+        I: Serialize,
+        J: Serialize,
+        K: Serialize,
+    >(
+        &mut self,
+        _name: &str,
+        first_name: &str,
+        first: &A,
+        second_name: &str,
+        second: &B,
+        third_name: &str,
+        third: &C,
+        fourth_name: &str,
+        fourth: &D,
+        fifth_name: &str,
+        fifth: &E,
+        sixth_name: &str,
+        sixth: &F,
+        seventh_name: &str,
+        seventh: &G,
+        eighth_name: &str,
+        eighth: &H,
+        ninth_name: &str,
+        ninth: &I,
+        tenth_name: &str,
+        tenth: &J,
+        eleventh_name: &str,
+        eleventh: &K,
+    ) -> Result<(), EncodeError<W::Error>>
+        ensures { Serializes W.whole (struct_item
+            (field first_name.now (A.item first.now)
+            ∷ field second_name.now (B.item second.now)
+            ∷ field third_name.now (C.item third.now)
+            ∷ field fourth_name.now (D.item fourth.now)
+            ∷ field fifth_name.now (E.item fifth.now)
+            ∷ field sixth_name.now (F.item sixth.now)
+            ∷ field seventh_name.now (G.item seventh.now)
+            ∷ field eighth_name.now (H.item eighth.now)
+            ∷ field ninth_name.now (I.item ninth.now)
+            ∷ field tenth_name.now (J.item tenth.now)
+            ∷ field eleventh_name.now (K.item eleventh.now) ∷ []))
+            (output W.view self.old) (output W.view self.new) result }
+    {
+        self.map_head(11)?;
+        put_field(self, first_name, first)?;
+        put_field(self, second_name, second)?;
+        put_field(self, third_name, third)?;
+        put_field(self, fourth_name, fourth)?;
+        put_field(self, fifth_name, fifth)?;
+        put_field(self, sixth_name, sixth)?;
+        put_field(self, seventh_name, seventh)?;
+        put_field(self, eighth_name, eighth)?;
+        put_field(self, ninth_name, ninth)?;
+        put_field(self, tenth_name, tenth)?;
+        put_field(self, eleventh_name, eleventh)
+    }
+
+    /// Writes a struct of twelve fields, each a name and a value: a map, in this order. The
+    /// struct's name is not written. It fails as the `serialize` of a value does, or where the
+    /// writer failed before.
+    pub fn serialize_12_fields<
+        A: Serialize,
+        B: Serialize,
+        C: Serialize,
+        D: Serialize,
+        E: Serialize,
+        F: Serialize,
+        G: Serialize,
+        H: Serialize,
+        I: Serialize,
+        J: Serialize,
+        K: Serialize,
+        L: Serialize,
+    >(
+        &mut self,
+        _name: &str,
+        first_name: &str,
+        first: &A,
+        second_name: &str,
+        second: &B,
+        third_name: &str,
+        third: &C,
+        fourth_name: &str,
+        fourth: &D,
+        fifth_name: &str,
+        fifth: &E,
+        sixth_name: &str,
+        sixth: &F,
+        seventh_name: &str,
+        seventh: &G,
+        eighth_name: &str,
+        eighth: &H,
+        ninth_name: &str,
+        ninth: &I,
+        tenth_name: &str,
+        tenth: &J,
+        eleventh_name: &str,
+        eleventh: &K,
+        twelfth_name: &str,
+        twelfth: &L,
+    ) -> Result<(), EncodeError<W::Error>>
+        ensures { Serializes W.whole (struct_item
+            (field first_name.now (A.item first.now)
+            ∷ field second_name.now (B.item second.now)
+            ∷ field third_name.now (C.item third.now)
+            ∷ field fourth_name.now (D.item fourth.now)
+            ∷ field fifth_name.now (E.item fifth.now)
+            ∷ field sixth_name.now (F.item sixth.now)
+            ∷ field seventh_name.now (G.item seventh.now)
+            ∷ field eighth_name.now (H.item eighth.now)
+            ∷ field ninth_name.now (I.item ninth.now)
+            ∷ field tenth_name.now (J.item tenth.now)
+            ∷ field eleventh_name.now (K.item eleventh.now)
+            ∷ field twelfth_name.now (L.item twelfth.now) ∷ []))
+            (output W.view self.old) (output W.view self.new) result }
+    {
+        self.map_head(12)?;
+        put_field(self, first_name, first)?;
+        put_field(self, second_name, second)?;
+        put_field(self, third_name, third)?;
+        put_field(self, fourth_name, fourth)?;
+        put_field(self, fifth_name, fifth)?;
+        put_field(self, sixth_name, sixth)?;
+        put_field(self, seventh_name, seventh)?;
+        put_field(self, eighth_name, eighth)?;
+        put_field(self, ninth_name, ninth)?;
+        put_field(self, tenth_name, tenth)?;
+        put_field(self, eleventh_name, eleventh)?;
+        put_field(self, twelfth_name, twelfth)
     }
 }

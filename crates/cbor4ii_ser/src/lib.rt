@@ -22,4 +22,5 @@ pub mod serializer;
 pub mod text;
 mod tuples;
 mod value;
+mod variants;
 pub mod write_all;

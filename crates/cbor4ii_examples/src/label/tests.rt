@@ -77,12 +77,18 @@ impl<'a> Serialize for Record<'a> {
     fn serialize<W: Write>(&self, ser: &mut Serializer<W>) -> Result<(), EncodeError<W::Error>> {
         ser.serialize_6_fields(
             "Record",
-            ("name", &self.name),
-            ("objects", &self.objects),
-            ("bytes", &self.bytes),
-            ("variants", &self.variants),
-            ("unit", &self.unit),
-            ("text", &self.text),
+            "name",
+            &self.name,
+            "objects",
+            &self.objects,
+            "bytes",
+            &self.bytes,
+            "variants",
+            &self.variants,
+            "unit",
+            &self.unit,
+            "text",
+            &self.text,
         )
     }
 }

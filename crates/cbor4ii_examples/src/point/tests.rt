@@ -102,11 +102,7 @@ impl Serialize for Whole {
 
     fn serialize<W: Write>(&self, ser: &mut Serializer<W>) -> Result<(), EncodeError<W::Error>> {
         ser.serialize_4_fields(
-            "Whole",
-            ("a", &self.a),
-            ("b", &self.b),
-            ("c", &self.c),
-            ("d", &self.d),
+            "Whole", "a", &self.a, "b", &self.b, "c", &self.c, "d", &self.d,
         )
     }
 }

@@ -116,6 +116,13 @@ serializes_then (encoded xs) b {old = old} {mid = mid} {new = new} (Err e) p q =
   front = λ whole. begins_then xs b old.written mid.written new.written p.appends (q.front whole);
 }
 
+-- the same, where many parts follow one another
+infixr 5 ◌⨾◌
+pub ◌⨾◌ : {T U E : Type 0} {whole : Bool} {a b : Encoding} {old mid new : Output} {t : T}
+    {r : Result U (EncodeError E)} → Serializes {E = E} whole a old mid (Ok t)
+    → Serializes whole b mid new r → Serializes whole (followed a b) old new r
+p ⨾ q = serializes_then _ _ _ p q
+
 pub serializes_as : {T E : Type 0} {whole : Bool} {a b : Encoding} {old new : Output}
     (r : Result T (EncodeError E)) → a ≡ b → Serializes whole a old new r
     → Serializes whole b old new r

@@ -1,4 +1,4 @@
-use Rattle.cbor4ii_ser.specs.Laws.Joining.{serializes_then, serializes_out, serializes_last}
+use Rattle.cbor4ii_ser.specs.Laws.Joining.{◌⨾◌, serializes_out, serializes_last}
 use Rattle.cbor4ii_ser.proofs.serializer.Serializer.serialize_5_fields.Goals as goal
 
 pub returns-in_err-map_head : goal.returns-in_err-map_head
@@ -6,33 +6,27 @@ returns-in_err-map_head g c = serializes_out _ c.from_residual.ensures.1 c.in_er
 
 pub returns-in_err-put_field : goal.returns-in_err-put_field
 returns-in_err-put_field g c =
-    serializes_then _ _ _ c.in_ok-map_head.ensures
-    (serializes_out _ c.from_residual-in_err-put_field.ensures.1 c.in_err-put_field.ensures)
+    c.in_ok-map_head.ensures
+    ⨾ serializes_out _ c.from_residual-in_err-put_field.ensures.1 c.in_err-put_field.ensures
 
 pub returns-in_err-put_field-2 : goal.returns-in_err-put_field-2
 returns-in_err-put_field-2 g c =
-    serializes_then _ _ _ c.in_ok-map_head.ensures
-    (serializes_then _ _ _ c.in_ok-put_field.ensures (serializes_out _
-    c.from_residual-in_err-put_field-2.ensures.1 c.in_err-put_field-2.ensures))
+    c.in_ok-map_head.ensures ⨾ c.in_ok-put_field.ensures
+    ⨾ serializes_out _ c.from_residual-in_err-put_field-2.ensures.1 c.in_err-put_field-2.ensures
 
 pub returns-in_err-put_field-3 : goal.returns-in_err-put_field-3
 returns-in_err-put_field-3 g c =
-    serializes_then _ _ _ c.in_ok-map_head.ensures (serializes_then _ _ _ c.in_ok-put_field.ensures
-    (serializes_then _ _ _ c.in_ok-put_field-2.ensures (serializes_out _
-    c.from_residual-in_err-put_field-3.ensures.1 c.in_err-put_field-3.ensures)))
+    c.in_ok-map_head.ensures ⨾ c.in_ok-put_field.ensures ⨾ c.in_ok-put_field-2.ensures
+    ⨾ serializes_out _ c.from_residual-in_err-put_field-3.ensures.1 c.in_err-put_field-3.ensures
 
 pub returns-in_err-put_field-4 : goal.returns-in_err-put_field-4
 returns-in_err-put_field-4 g c =
-    serializes_then _ _ _ c.in_ok-map_head.ensures (serializes_then _ _ _ c.in_ok-put_field.ensures
-    (serializes_then _ _ _ c.in_ok-put_field-2.ensures
-    (serializes_then _ _ _ c.in_ok-put_field-3.ensures (serializes_out _
-    c.from_residual-in_err-put_field-4.ensures.1 c.in_err-put_field-4.ensures))))
+    c.in_ok-map_head.ensures ⨾ c.in_ok-put_field.ensures ⨾ c.in_ok-put_field-2.ensures
+    ⨾ c.in_ok-put_field-3.ensures
+    ⨾ serializes_out _ c.from_residual-in_err-put_field-4.ensures.1 c.in_err-put_field-4.ensures
 
 pub returns : goal.returns
 returns g c =
-    serializes_then _ _ c.put_field-5.result c.in_ok-map_head.ensures
-    (serializes_then _ _ c.put_field-5.result c.in_ok-put_field.ensures
-    (serializes_then _ _ c.put_field-5.result c.in_ok-put_field-2.ensures
-    (serializes_then _ _ c.put_field-5.result c.in_ok-put_field-3.ensures
-    (serializes_then _ _ c.put_field-5.result c.in_ok-put_field-4.ensures
-    (serializes_last c.put_field-5.result c.put_field-5.ensures)))))
+    c.in_ok-map_head.ensures ⨾ c.in_ok-put_field.ensures ⨾ c.in_ok-put_field-2.ensures
+    ⨾ c.in_ok-put_field-3.ensures ⨾ c.in_ok-put_field-4.ensures
+    ⨾ serializes_last _ c.put_field-5.ensures

@@ -1,2 +1,0 @@
--- Values that hold values of their own kind.
-pub mod Nodes

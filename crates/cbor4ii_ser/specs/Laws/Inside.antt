@@ -1,0 +1,34 @@
+-- Values in a list or a map, written by what is written for a part of each.
+--
+-- A type that holds values of its own kind says by a fold what is written for it, with what is
+-- written for each value inside in that value's place. `values_inside` is what joins the two.
+use Rattle.std.proofs.Common.{◌≡◌, List, [], ◌∷◌, length, map, refl, ap, ◌∙◌}
+use Rattle.std.proofs.lemmas.List.{length-map}
+use Rattle.cbor4ii_items.specs.Numbers.{shortest_head}
+use Rattle.cbor4ii_ser.specs.Item.{Encoding, encoded, followed, each_item, array_item, entry_item}
+use Rattle.cbor4ii_ser.specs.Item.{map_item}
+
+each_mapped : {U V : Type 0} (f : U → V) (item : V → Encoding) (us : List U)
+    → each_item item (map f us) ≡ each_item (λ u. item (f u)) us
+each_mapped f item [] = refl
+each_mapped f item (u ∷ us) = ap (followed (item (f u))) (each_mapped f item us)
+
+-- the values of an array
+pub array_mapped : {U V : Type 0} (f : U → V) (item : V → Encoding) (us : List U)
+    → array_item item (map f us) ≡ array_item (λ u. item (f u)) us
+array_mapped f item us =
+    ap (λ n. followed (encoded (shortest_head 4 n)) (each_item item (map f us))) (length-map us f)
+    ∙ ap (followed (encoded (shortest_head 4 (length us)))) (each_mapped f item us)
+
+-- the entries of a map
+pub map_mapped : {K V L U : Type 0} (f : K × V → L × U) (key : L → Encoding) (value : U → Encoding)
+    (es : List (K × V)) → map_item key value (map f es)
+    ≡ followed (encoded (shortest_head 5 (length es)))
+    (each_item (λ e. followed (key (f e).0) (value (f e).1)) es)
+map_mapped f key value es =
+    ap (λ n. followed (encoded (shortest_head 5 n)) (each_item (entry_item key value) (map f es)))
+    (length-map es f)
+    ∙ ap (followed (encoded (shortest_head 5 (length es)))) (each_mapped f (entry_item key value) es)
+
+-- what a recursive type's `serialize` names by `using`, beside `the_lemmas` of the type
+pub ruleset values_inside = (array_mapped, map_mapped)

@@ -1,0 +1,165 @@
+//! Variants that are written from their fields or items in one call.
+ghost use Rattle.std.specs.Prelude.{◌∷◌, []};
+ghost use Rattle.cbor4ii_ser.specs.Item.{field, struct_item, tuple_variant_item, variant_item};
+ghost use Rattle.cbor4ii_ser.specs.Serializing.{Serializes, output};
+
+use crate::error::EncodeError;
+use crate::serialize::Serialize;
+use crate::serializer::Serializer;
+use cbor4ii_rw::write::Write;
+
+impl<W: Write> Serializer<W> {
+    /// Writes a variant of one field, a name and a value: a map of one entry, the variant's name
+    /// and a map of the fields in this order. The enum's name and the variant's index are not
+    /// written. It fails as the `serialize` of a value does, or where the writer failed before.
+    pub fn serialize_variant_of_1_field<A: Serialize>(
+        &mut self,
+        name: &str,
+        _variant_index: u32,
+        variant: &str,
+        first_name: &str,
+        first: &A,
+    ) -> Result<(), EncodeError<W::Error>>
+        ensures { Serializes W.whole (variant_item variant.now (struct_item
+            (field first_name.now (A.item first.now) ∷ [])))
+            (output W.view self.old) (output W.view self.new) result }
+    {
+        self.variant_head(variant)?;
+        self.serialize_1_field(name, first_name, first)
+    }
+
+    /// Writes a variant of two fields, each a name and a value: a map of one entry, the variant's
+    /// name and a map of the fields in this order. The enum's name and the variant's index are not
+    /// written. It fails as the `serialize` of a value does, or where the writer failed before.
+    pub fn serialize_variant_of_2_fields<A: Serialize, B: Serialize>(
+        &mut self,
+        name: &str,
+        _variant_index: u32,
+        variant: &str,
+        first_name: &str,
+        first: &A,
+        second_name: &str,
+        second: &B,
+    ) -> Result<(), EncodeError<W::Error>>
+        ensures { Serializes W.whole (variant_item variant.now (struct_item
+            (field first_name.now (A.item first.now)
+            ∷ field second_name.now (B.item second.now) ∷ [])))
+            (output W.view self.old) (output W.view self.new) result }
+    {
+        self.variant_head(variant)?;
+        self.serialize_2_fields(name, first_name, first, second_name, second)
+    }
+
+    /// Writes a variant of three fields, each a name and a value: a map of one entry, the variant's
+    /// name and a map of the fields in this order. The enum's name and the variant's index are not
+    /// written. It fails as the `serialize` of a value does, or where the writer failed before.
+    pub fn serialize_variant_of_3_fields<A: Serialize, B: Serialize, C: Serialize>(
+        &mut self,
+        name: &str,
+        _variant_index: u32,
+        variant: &str,
+        first_name: &str,
+        first: &A,
+        second_name: &str,
+        second: &B,
+        third_name: &str,
+        third: &C,
+    ) -> Result<(), EncodeError<W::Error>>
+        ensures { Serializes W.whole (variant_item variant.now (struct_item
+            (field first_name.now (A.item first.now)
+            ∷ field second_name.now (B.item second.now)
+            ∷ field third_name.now (C.item third.now) ∷ [])))
+            (output W.view self.old) (output W.view self.new) result }
+    {
+        self.variant_head(variant)?;
+        self.serialize_3_fields(
+            name,
+            first_name,
+            first,
+            second_name,
+            second,
+            third_name,
+            third,
+        )
+    }
+
+    /// Writes a variant of four fields, each a name and a value: a map of one entry, the variant's
+    /// name and a map of the fields in this order. The enum's name and the variant's index are not
+    /// written. It fails as the `serialize` of a value does, or where the writer failed before.
+    pub fn serialize_variant_of_4_fields<A: Serialize, B: Serialize, C: Serialize, D: Serialize>(
+        &mut self,
+        name: &str,
+        _variant_index: u32,
+        variant: &str,
+        first_name: &str,
+        first: &A,
+        second_name: &str,
+        second: &B,
+        third_name: &str,
+        third: &C,
+        fourth_name: &str,
+        fourth: &D,
+    ) -> Result<(), EncodeError<W::Error>>
+        ensures { Serializes W.whole (variant_item variant.now (struct_item
+            (field first_name.now (A.item first.now)
+            ∷ field second_name.now (B.item second.now)
+            ∷ field third_name.now (C.item third.now)
+            ∷ field fourth_name.now (D.item fourth.now) ∷ [])))
+            (output W.view self.old) (output W.view self.new) result }
+    {
+        self.variant_head(variant)?;
+        self.serialize_4_fields(
+            name,
+            first_name,
+            first,
+            second_name,
+            second,
+            third_name,
+            third,
+            fourth_name,
+            fourth,
+        )
+    }
+
+    /// Writes a variant of two items: a map of one entry, the variant's name and an array of
+    /// the items in this order. The enum's name and the variant's index are not written. It fails
+    /// as the `serialize` of an item does, or where the writer failed before.
+    pub fn serialize_variant_of_2_items<A: Serialize, B: Serialize>(
+        &mut self,
+        _name: &str,
+        _variant_index: u32,
+        variant: &str,
+        first: &A,
+        second: &B,
+    ) -> Result<(), EncodeError<W::Error>>
+        ensures { Serializes W.whole (tuple_variant_item variant.now
+            (A.item first.now ∷ B.item second.now ∷ []))
+            (output W.view self.old) (output W.view self.new) result }
+    {
+        self.tuple_variant_head(variant, 2)?;
+        first.serialize(self)?;
+        second.serialize(self)
+    }
+
+    /// Writes a variant of three items: a map of one entry, the variant's name and an array of
+    /// the items in this order. The enum's name and the variant's index are not written. It fails
+    /// as the `serialize` of an item does, or where the writer failed before.
+    pub fn serialize_variant_of_3_items<A: Serialize, B: Serialize, C: Serialize>(
+        &mut self,
+        _name: &str,
+        _variant_index: u32,
+        variant: &str,
+        first: &A,
+        second: &B,
+        third: &C,
+    ) -> Result<(), EncodeError<W::Error>>
+        ensures { Serializes W.whole (tuple_variant_item variant.now
+            (A.item first.now ∷ B.item second.now ∷ C.item third.now ∷ []))
+            (output W.view self.old) (output W.view self.new) result }
+    {
+        self.tuple_variant_head(variant, 3)?;
+        first.serialize(self)?;
+        second.serialize(self)?;
+        third.serialize(self)
+    }
+}
