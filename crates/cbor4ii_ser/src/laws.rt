@@ -112,6 +112,8 @@ pub fn strings_are_items()
         IsOneItem form (⟦<CowStr<'static, Global> as Serialize>⟧.item v) }
     ensures bytes { (form : Form) (v : Bytes (Bor (List ℕ))) → length v.0.now < 2 ^ 64 →
         IsOneItem form (⟦<Bytes<&'static [u8]> as Serialize>⟧.item v) }
+    ensures owned_bytes { (form : Form) (v : Bytes (Vec ℕ Global)) →
+        IsOneItem form (⟦<Bytes<Vec<u8>> as Serialize>⟧.item v) }
 {}
 
 /// A box, a reference and an option are written as one item wherever the value in them is,

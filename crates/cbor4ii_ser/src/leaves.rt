@@ -207,6 +207,16 @@ impl<'a> Serialize for Bytes<&'a [u8]> {
     }
 }
 
+/// A byte string.
+impl Serialize for Bytes<Vec<u8>> {
+    ghost item = { λ v. encoded (counted_string 2 v.0.items) };
+
+    #[inline]
+    fn serialize<W: Write>(&self, ser: &mut Serializer<W>) -> Result<(), EncodeError<W::Error>> {
+        ser.serialize_bytes(self.0.as_slice())
+    }
+}
+
 /// An array of no item.
 impl Serialize for () {
     ghost item = { λ _. encoded (shortest_head 4 0) };

@@ -1,7 +1,7 @@
 //! Rows of the types that are one head or string, and of boxes, references and options.
 use crate::tagged::{is_refused_behind, tagged};
 use crate::typed::Typed;
-use cbor4ii_items::types::{F16, F32, F64};
+use cbor4ii_items::types::{Bytes, F16, F32, F64};
 use cbor4ii_ser::error::EncodeError;
 use cbor4ii_ser::serialize::Serialize;
 use cbor4ii_ser::serializer::Serializer;
@@ -27,6 +27,14 @@ fn a_text_that_may_be_borrowed_and_is_owned(rt: HostRuntime) -> Result<(), Fail>
     let alloc = rt.alloc();
     let text: CowStr<'_, Global> = CowStr::Owned(String::from_str(alloc, "123")?);
     writes(alloc, &Typed(text), b"\x63123")?;
+    Ok(())
+}
+
+#[test]
+fn bytes_that_are_owned(rt: HostRuntime) -> Result<(), Fail> {
+    let alloc = rt.alloc();
+    let bytes = Bytes(vec![in alloc; 1u8, 2, 3, 4]?);
+    writes(alloc, &Typed(bytes), b"\x44\x01\x02\x03\x04")?;
     Ok(())
 }
 

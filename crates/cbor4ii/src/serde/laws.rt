@@ -98,6 +98,9 @@ pub fn strings_are_read_back()
     ensures bytes { (v : Bytes (Bor (List ℕ))) → length v.0.now < 2 ^ 64 →
         IsReadBack ⟦<Bytes<&'static [u8]> as Typed>⟧.promise.spelling.reads
         (⟦<Bytes<&'static [u8]> as Serialize>⟧.item v) v 0 }
+    ensures owned_bytes { (v : Bytes (Vec ℕ Global)) →
+        IsReadBack ⟦<Bytes<Vec<u8>> as Typed>⟧.promise.spelling.reads
+        (⟦<Bytes<Vec<u8>> as Serialize>⟧.item v) v 0 }
 {}
 
 /// A value in a box, and one that may be absent, are read from their own item wherever the value

@@ -1,12 +1,13 @@
--- Values in a list or a map, written by what is written for a part of each.
+-- Values in an array, a map or an option, written by what is written for a part of each.
 --
 -- A type that holds values of its own kind says by a fold what is written for it, with what is
 -- written for each value inside in that value's place. `values_inside` is what joins the two.
-use Rattle.std.proofs.Common.{◌≡◌, List, [], ◌∷◌, length, map, refl, ap, ◌∙◌}
+use Rattle.std.proofs.Common.{◌≡◌, ◌⊎◌, inl, inr, List, [], ◌∷◌, length, map, Option, None, Some}
+use Rattle.std.proofs.Common.{refl, ap, ◌∙◌}
 use Rattle.std.proofs.lemmas.List.{length-map}
 use Rattle.cbor4ii_items.specs.Numbers.{shortest_head}
 use Rattle.cbor4ii_ser.specs.Item.{Encoding, encoded, followed, each_item, array_item, entry_item}
-use Rattle.cbor4ii_ser.specs.Item.{map_item}
+use Rattle.cbor4ii_ser.specs.Item.{map_item, option_item}
 
 each_mapped : {U V : Type 0} (f : U → V) (item : V → Encoding) (us : List U)
     → each_item item (map f us) ≡ each_item (λ u. item (f u)) us
@@ -30,5 +31,12 @@ map_mapped f key value es =
     (length-map es f)
     ∙ ap (followed (encoded (shortest_head 5 (length es)))) (each_mapped f (entry_item key value) es)
 
+-- the value that an option holds
+pub option_cases : {V : Type 0} (item : V → Encoding) (o : Option V)
+    → ((o ≡ None) × (option_item item o ≡ encoded (0xf6 ∷ [])))
+    ⊎ ((v : V) × (o ≡ Some v) × (option_item item o ≡ item v))
+option_cases item None = inl (refl, refl)
+option_cases item (Some v) = inr (v, refl, refl)
+
 -- what a recursive type's `serialize` names by `using`, beside `the_lemmas` of the type
-pub ruleset values_inside = (array_mapped, map_mapped)
+pub ruleset values_inside = (array_mapped, map_mapped, option_cases)

@@ -1,3 +1,4 @@
+use Rattle.std.proofs.Common.{arith}
 use Rattle.cbor4ii_items.specs.Cow.{cow_text}
 use Rattle.cbor4ii_ser.specs.Laws.OneItem.{text_is_item, owned_text_is_item, character_is_item}
 use Rattle.cbor4ii_ser.specs.Laws.OneItem.{bytes_are_item}
@@ -17,3 +18,7 @@ returns-clause-cow_text c form v = text_is_item form (cow_text v)
 
 pub returns-clause-bytes : goal.returns-clause-bytes
 returns-clause-bytes c form v = bytes_are_item form v.0.now
+
+pub returns-clause-owned_bytes : goal.returns-clause-owned_bytes
+returns-clause-owned_bytes c form v =
+    bytes_are_item form v.0.items (omega (arith, v.0.ok.0, v.0.ok.1, v.0.small))

@@ -2,8 +2,8 @@ use Rattle.std.proofs.Common.{false, true, arith, encode_utf8}
 use Rattle.std.proofs.lemmas.Str.{IsUtf8-encode, IsUtf8-string_bytes}
 use Rattle.cbor4ii_items.specs.Cow.{cow_text}
 use Rattle.cbor4ii_items.specs.Lent.{lent_str, lent_bytes}
-use Rattle.cbor4ii_items.specs.Strings.{text_content}
-use Rattle.cbor4ii_items.specs.Laws.LeavesBack.{text_back, lent_back}
+use Rattle.cbor4ii_items.specs.Strings.{text_content, bytes_content}
+use Rattle.cbor4ii_items.specs.Laws.LeavesBack.{string_back, text_back, lent_back}
 use Rattle.cbor4ii.specs.Typed.{not_exact}
 use Rattle.cbor4ii.proofs.Characters.{few_bytes}
 use Rattle.cbor4ii.proofs.serde.laws.strings_are_read_back.Goals as goal
@@ -25,3 +25,7 @@ returns-clause-cow_text c = text_back cow_text
 
 pub returns-clause-bytes : goal.returns-clause-bytes
 returns-clause-bytes c v h = lent_back lent_bytes v h 2 false not_exact
+
+pub returns-clause-owned_bytes : goal.returns-clause-owned_bytes
+returns-clause-owned_bytes c v =
+    string_back bytes_content v (omega (arith, v.0.ok.0, v.0.ok.1, v.0.small)) 2
