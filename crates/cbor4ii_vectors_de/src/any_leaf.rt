@@ -1,10 +1,9 @@
 //! Rows of items that hold no other, read as values.
-use crate::growth::{LETTERS, grows_by_letters};
+use crate::growth::{LETTERS, grows_by_letters, text_of};
 use crate::typed::Answer::{self, Is};
 use crate::typed::{BothTold, Refused, RowTold, RowToldWithin, refuses, tells};
 use cbor4ii::Value;
 use cbor4ii_vectors::{cast_overflow, eof, mismatch, require_length, require_utf8, table};
-use cbor4ii_vectors_ser::pieces::letters;
 use std::test::Fail;
 
 // The greatest and the least number of 128 bits.
@@ -97,5 +96,5 @@ fn leaves_that_are_refused(rt: HostRuntime) -> Result<(), Fail> {
 #[test]
 fn a_text_of_more_bytes_than_are_reserved(rt: HostRuntime) -> Result<(), Fail> {
     let alloc = rt.alloc();
-    grows_by_letters(alloc, Is(Value::Text(letters(alloc, LETTERS)?)))
+    grows_by_letters(alloc, Is(Value::Text(text_of(alloc, LETTERS)?)))
 }

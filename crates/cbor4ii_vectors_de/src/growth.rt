@@ -1,6 +1,7 @@
 //! Bytes of more parts than are reserved before the first of them is read.
 use cbor4ii_vectors::rows::{ReadFrom, reads_by_each};
 use cbor4ii_vectors::table;
+use cbor4ii_vectors_ser::pieces;
 use std::alloc::Global;
 use std::fmt::Debug;
 use std::test::Fail;
@@ -59,14 +60,21 @@ const TEXTS: &[Shape] = table! {
     (b"\x7f", b"\x61", b"\xff"),
 };
 
-/// The bytes of so many letters of this shape.
+/// A text of so many letters: each is an a, but the last one is a z.
+pub fn text_of(alloc: Global, letters: usize) -> Result<String, Fail> {
+    let mut text = pieces::letters(alloc, letters.saturating_sub(1))?;
+    text.push_str("z")?;
+    Ok(text)
+}
+
+/// The bytes of the text of so many letters in this shape.
 pub fn lettered(alloc: Global, shape: &Shape, letters: usize) -> Result<&'static [u8], Fail> {
     let (front, at_each, end) = *shape;
     let mut bytes = Vec::new(alloc);
     bytes.extend_from_slice(front)?;
-    for _ in 0..letters {
+    for letter in text_of(alloc, letters)?.as_bytes() {
         bytes.extend_from_slice(at_each)?;
-        bytes.push(b'a')?;
+        bytes.push(*letter)?;
     }
     bytes.extend_from_slice(end)?;
     Ok(bytes.leak())

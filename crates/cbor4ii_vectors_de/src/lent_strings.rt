@@ -1,5 +1,5 @@
 //! Rows of strings that are borrowed where the reader lends them, by each way to read.
-use crate::growth::{Shape, lettered};
+use crate::growth::{LETTERS, Shape, lettered};
 use cbor4ii::serde::{DecodeError, Deserialize, Deserializer};
 use cbor4ii::types::Bytes;
 use cbor4ii_rw::error as core_error;
@@ -187,10 +187,8 @@ fn reads_counted(
     let end = bytes.len().saturating_sub(rest.len());
     let head = end.saturating_sub(content.len());
     for cut in 1..bytes.len() {
-        let parts = vec![in alloc; &bytes[..cut], &bytes[cut..]]?.leak();
         let is_borrowed = cut <= head || end <= cut;
-        let reader = SegmentReader::new(parts);
-        reads(kind, alloc, reader, bytes, Ok((content, is_borrowed)), rest)?;
+        reads_cut(kind, alloc, bytes, cut, Ok((content, is_borrowed)), rest)?;
     }
     reads_by_byte(kind, alloc, bytes, Ok((content, content.len() <= 1)), rest)?;
     reads_of_streams(kind, alloc, bytes, Ok((content, false)), rest)
@@ -206,11 +204,42 @@ fn reads_alike(
 ) -> Result<(), Fail> {
     reads(kind, alloc, SliceReader::new(bytes), bytes, want, rest)?;
     for cut in 1..bytes.len() {
-        let parts = vec![in alloc; &bytes[..cut], &bytes[cut..]]?.leak();
-        reads(kind, alloc, SegmentReader::new(parts), bytes, want, rest)?;
+        reads_cut(kind, alloc, bytes, cut, want, rest)?;
     }
     reads_by_byte(kind, alloc, bytes, want, rest)?;
     reads_of_streams(kind, alloc, bytes, want, rest)
+}
+
+/// A string of too many bytes to try each cut and each fault: over a slice, over segments of which
+/// one holds it all, over two that each hold a half of it, and out of streams. `lent` is what it is
+/// read as where all of it is lent.
+fn reads_many(
+    kind: Kind,
+    alloc: Global,
+    bytes: &'static [u8],
+    lent: Want,
+    copied: Want,
+    rest: &'static [u8],
+) -> Result<(), Fail> {
+    let end = bytes.len().saturating_sub(rest.len());
+    reads(kind, alloc, SliceReader::new(bytes), bytes, lent, rest)?;
+    reads_cut(kind, alloc, bytes, end, lent, rest)?;
+    reads_cut(kind, alloc, bytes, end / 2, copied, rest)?;
+    reads_streamed(kind, alloc, bytes, copied, rest)
+}
+
+/// Over two segments that are cut here.
+fn reads_cut(
+    kind: Kind,
+    alloc: Global,
+    bytes: &'static [u8],
+    cut: usize,
+    want: Want,
+    rest: &'static [u8],
+) -> Result<(), Fail> {
+    let (first, second) = bytes.split_at(cut.min(bytes.len()));
+    let parts = vec![in alloc; first, second]?.leak();
+    reads(kind, alloc, SegmentReader::new(parts), bytes, want, rest)
 }
 
 /// Over segments of one byte each, so that each byte is shown alone, and lent.
@@ -235,8 +264,25 @@ fn reads_by_byte(
     )
 }
 
-/// Out of streams that show a byte at a time, and all that is left, and of one that fails at one
-/// look or another, which is the answer then.
+/// How many bytes a stream with a buffer shows at once.
+const BUFFER: usize = 4_096;
+
+/// Out of streams that show a byte at a time, as many as a buffer holds, and all that is left.
+fn reads_streamed(
+    kind: Kind,
+    alloc: Global,
+    bytes: &'static [u8],
+    want: Want,
+    rest: &'static [u8],
+) -> Result<(), Fail> {
+    for most in [1, BUFFER, usize::MAX] {
+        let stream = FailingStream::new(bytes, most, usize::MAX);
+        reads(kind, alloc, IoReader::new(stream), bytes, want, rest)?;
+    }
+    Ok(())
+}
+
+/// The same, and out of a stream that fails at one look or another, which is the answer then.
 fn reads_of_streams(
     kind: Kind,
     alloc: Global,
@@ -244,10 +290,7 @@ fn reads_of_streams(
     want: Want,
     rest: &'static [u8],
 ) -> Result<(), Fail> {
-    for most in [1, usize::MAX] {
-        let stream = FailingStream::new(bytes, most, usize::MAX);
-        reads(kind, alloc, IoReader::new(stream), bytes, want, rest)?;
-    }
+    reads_streamed(kind, alloc, bytes, want, rest)?;
     for looks in 0..bytes.len().saturating_mul(4).max(64) {
         if !fails_at_look(kind, alloc, bytes, looks)? {
             return Ok(());
@@ -318,8 +361,11 @@ fn reads_with_no_step(kinds: &[Kind], alloc: Global, row: Alike) -> Result<(), F
     Ok(())
 }
 
-/// How many letters a long string has: 0x012c.
-const LETTERS: usize = 300;
+/// How many letters a long string has: 0x012c. It is cut at each place, and read with each fault.
+const FEW: usize = 300;
+
+/// What is left behind a long string.
+const BEHIND: &[u8] = b"\x01";
 
 /// Strings of 300 letters, by each way to read: one that is counted, and others in chunks.
 fn reads_long(
@@ -328,15 +374,37 @@ fn reads_long(
     counted: &Shape,
     in_chunks: &[Shape],
 ) -> Result<(), Fail> {
+    let content = lettered(alloc, &(b"", b"", b""), FEW)?;
+    let bytes = lettered(alloc, counted, FEW)?;
+    for kind in kinds {
+        reads_counted(*kind, alloc, bytes, content, BEHIND)?;
+    }
+    for shape in in_chunks {
+        let bytes = lettered(alloc, shape, FEW)?;
+        for kind in kinds {
+            reads_alike(*kind, alloc, bytes, Ok((content, false)), BEHIND)?;
+        }
+    }
+    Ok(())
+}
+
+/// As `reads_long`, of 20,000 letters, more than are reserved before any came.
+fn reads_longer(
+    kinds: &[Kind],
+    alloc: Global,
+    counted: &Shape,
+    in_chunks: &[Shape],
+) -> Result<(), Fail> {
     let content = lettered(alloc, &(b"", b"", b""), LETTERS)?;
     let bytes = lettered(alloc, counted, LETTERS)?;
+    let copied = Ok((content, false));
     for kind in kinds {
-        reads_counted(*kind, alloc, bytes, content, b"")?;
+        reads_many(*kind, alloc, bytes, Ok((content, true)), copied, BEHIND)?;
     }
     for shape in in_chunks {
         let bytes = lettered(alloc, shape, LETTERS)?;
         for kind in kinds {
-            reads_alike(*kind, alloc, bytes, Ok((content, false)), b"")?;
+            reads_many(*kind, alloc, bytes, copied, copied, BEHIND)?;
         }
     }
     Ok(())
@@ -356,12 +424,19 @@ const TEXTS_ALIKE: &[Alike] = table! {
     (b"\x62\xff\xff\x01", Err(require_utf8!("str")), b"\x01"),
 };
 
-const LONG_TEXT: Shape = (b"\x79\x01\x2c", b"", b"");
+const LONG_TEXT: Shape = (b"\x79\x01\x2c", b"", b"\x01");
 
 // One chunk of all letters, and a chunk for each.
 const LONG_TEXTS_IN_CHUNKS: &[Shape] = table! {
-    (b"\x7f\x79\x01\x2c", b"", b"\xff"),
-    (b"\x7f", b"\x61", b"\xff"),
+    (b"\x7f\x79\x01\x2c", b"", b"\xff\x01"),
+    (b"\x7f", b"\x61", b"\xff\x01"),
+};
+
+const LONGER_TEXT: Shape = (b"\x79\x4e\x20", b"", b"\x01");
+
+const LONGER_TEXTS_IN_CHUNKS: &[Shape] = table! {
+    (b"\x7f\x79\x4e\x20", b"", b"\xff\x01"),
+    (b"\x7f", b"\x61", b"\xff\x01"),
 };
 
 const TEXT_WITH_NO_STEP: Alike = (b"\x7f\x61a\xff", Err(no_step!("str")), b"\x61a\xff");
@@ -370,7 +445,8 @@ const TEXT_WITH_NO_STEP: Alike = (b"\x7f\x61a\xff", Err(no_step!("str")), b"\x61
 pub fn reads_texts(kinds: &[Kind], alloc: Global) -> Result<(), Fail> {
     reads_rows(kinds, alloc, TEXTS_COUNTED, TEXTS_ALIKE)?;
     reads_with_no_step(kinds, alloc, TEXT_WITH_NO_STEP)?;
-    reads_long(kinds, alloc, &LONG_TEXT, LONG_TEXTS_IN_CHUNKS)
+    reads_long(kinds, alloc, &LONG_TEXT, LONG_TEXTS_IN_CHUNKS)?;
+    reads_longer(kinds, alloc, &LONGER_TEXT, LONGER_TEXTS_IN_CHUNKS)
 }
 
 const BYTE_STRINGS_COUNTED: &[Counted] = table! {
@@ -384,12 +460,19 @@ const BYTE_STRINGS_ALIKE: &[Alike] = table! {
     (b"\x61\x61a", Err(mismatch!("bytes", 0x61)), b"\x61a"),
 };
 
-const LONG_BYTE_STRING: Shape = (b"\x59\x01\x2c", b"", b"");
+const LONG_BYTE_STRING: Shape = (b"\x59\x01\x2c", b"", b"\x01");
 
 // One chunk of all bytes, and a chunk for each.
 const LONG_BYTE_STRINGS_IN_CHUNKS: &[Shape] = table! {
-    (b"\x5f\x59\x01\x2c", b"", b"\xff"),
-    (b"\x5f", b"\x41", b"\xff"),
+    (b"\x5f\x59\x01\x2c", b"", b"\xff\x01"),
+    (b"\x5f", b"\x41", b"\xff\x01"),
+};
+
+const LONGER_BYTE_STRING: Shape = (b"\x59\x4e\x20", b"", b"\x01");
+
+const LONGER_BYTE_STRINGS_IN_CHUNKS: &[Shape] = table! {
+    (b"\x5f\x59\x4e\x20", b"", b"\xff\x01"),
+    (b"\x5f", b"\x41", b"\xff\x01"),
 };
 
 const BYTE_STRING_WITH_NO_STEP: Alike = (b"\x5f\x41a\xff", Err(no_step!("bytes")), b"\x41a\xff");
@@ -398,5 +481,11 @@ const BYTE_STRING_WITH_NO_STEP: Alike = (b"\x5f\x41a\xff", Err(no_step!("bytes")
 pub fn reads_byte_strings(kinds: &[Kind], alloc: Global) -> Result<(), Fail> {
     reads_rows(kinds, alloc, BYTE_STRINGS_COUNTED, BYTE_STRINGS_ALIKE)?;
     reads_with_no_step(kinds, alloc, BYTE_STRING_WITH_NO_STEP)?;
-    reads_long(kinds, alloc, &LONG_BYTE_STRING, LONG_BYTE_STRINGS_IN_CHUNKS)
+    reads_long(kinds, alloc, &LONG_BYTE_STRING, LONG_BYTE_STRINGS_IN_CHUNKS)?;
+    reads_longer(
+        kinds,
+        alloc,
+        &LONGER_BYTE_STRING,
+        LONGER_BYTE_STRINGS_IN_CHUNKS,
+    )
 }

@@ -1,11 +1,10 @@
 //! Rows of texts and byte strings that are owned.
-use crate::growth::{LETTERS, grows_by_letters};
+use crate::growth::{LETTERS, grows_by_letters, text_of};
 use crate::typed::Answer::{self, Is};
 use crate::typed::{BothTold, Refused, RowTold, RowToldWithin, refuses, tells, tells_all};
 use cbor4ii::types::Bytes;
 use cbor4ii_vectors::rows::writes;
 use cbor4ii_vectors::{eof, mismatch, no_step, require_length, require_utf8, table};
-use cbor4ii_vectors_ser::pieces::letters;
 use std::alloc::Global;
 use std::test::Fail;
 
@@ -78,5 +77,5 @@ fn owned_byte_strings(rt: HostRuntime) -> Result<(), Fail> {
 #[test]
 fn a_text_of_more_bytes_than_are_reserved(rt: HostRuntime) -> Result<(), Fail> {
     let alloc = rt.alloc();
-    grows_by_letters(alloc, Is(letters(alloc, LETTERS)?))
+    grows_by_letters(alloc, Is(text_of(alloc, LETTERS)?))
 }
