@@ -1,5 +1,6 @@
 //! One item that is read, with what is left of it. `.ci/memory` counts its requests for memory, and
 //! refuses each of them.
+use crate::typed::{Numbers, Typed};
 use crate::values::Item;
 use cbor4ii_rw::error::DecodeError;
 use cbor4ii_rw::io_reader::IoReader;
@@ -32,6 +33,12 @@ pub fn read_alone(alloc: Global, input: &[u8]) -> Option<Alone> {
     }
     if let Some(item) = input.strip_prefix(b"canonical of a stream:".as_slice()) {
         return Some(of_stream::<Item<Canonical>>(alloc, item));
+    }
+    if let Some(item) = input.strip_prefix(b"fields of a slice:".as_slice()) {
+        return Some(of_slice::<Typed<Numbers>>(alloc, item));
+    }
+    if let Some(item) = input.strip_prefix(b"fields of a stream:".as_slice()) {
+        return Some(of_stream::<Typed<Numbers>>(alloc, item));
     }
     None
 }

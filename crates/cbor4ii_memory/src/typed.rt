@@ -131,6 +131,18 @@ impl ReadFrom for Typed<Fields> {
     }
 }
 
+/// Two numbers.
+pub type Numbers = (Option<u8>, Option<u8>);
+
+/// The longest name that is compared where it stands: of 23 bytes.
+const LONGEST: &str = "abcdefghijklmnopqrstuvw";
+
+impl ReadFrom for Typed<Numbers> {
+    fn read_from<S: Source>(alloc: Global, reader: &mut S) -> Result<Self, DecodeError<S::Error>> {
+        answer(Deserializer::new(reader).deserialize_2_fields(alloc, "Numbers", "a", LONGEST))
+    }
+}
+
 /// A variant of an enum.
 #[derive(Debug, Drop)]
 struct Variant {

@@ -2,9 +2,9 @@
 //! where each allocation is refused.
 use crate::answer::{Answer, flag, great, number, unit};
 use crate::in_place::{DOUBLE, GREAT, Kind, LEAST, LESS, MUCH, SINGLE};
-use crate::read::{CallRow, Calls, Left, makes_calls};
+use crate::read::{CallRow, Calls, Left, Row, makes_calls, reads_in_place};
 use crate::tally::{Broken, Tally};
-use crate::typed::as_core;
+use crate::typed::{Numbers, Typed, as_core};
 use cbor4ii::dec::IgnoredAny;
 use cbor4ii::serde::{self, Deserialize, Deserializer};
 use cbor4ii::types::{F16, F32, F64};
@@ -239,10 +239,18 @@ const VARIANTS: &[CallRow<Variant>] = table! {
     ("struct_variant", Variant::Struct, b"\xa1\x61A\xbf\x01", "None", b"\x01"),
 };
 
+// Structs of two fields, of which each reader shows each name whole. A field of no known name is
+// skipped.
+const NUMBERS: &[Row] = table! {
+    (b"\xbf\x61a\x01\xff\x00", "Typed((Some(1), None))", b"\x00"),
+    (b"\xa2\x61z\x81\x05\x61a\x02", "Typed((Some(2), None))", b""),
+};
+
 /// Typed values and calls that take no memory.
 pub fn typed(tally: &mut Tally) -> Result<(), Broken> {
     makes_calls(tally, Left::Never, OWN_ROWS)?;
     makes_calls(tally, Left::Never, NAMED_ROWS)?;
     makes_calls(tally, Left::Never, OPENED_ROWS)?;
-    makes_calls(tally, Left::Never, VARIANTS)
+    makes_calls(tally, Left::Never, VARIANTS)?;
+    reads_in_place::<Typed<Numbers>>(tally, "deserialize_2_fields", NUMBERS)
 }
