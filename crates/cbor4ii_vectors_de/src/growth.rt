@@ -70,9 +70,10 @@ pub fn text_of(alloc: Global, letters: usize) -> Result<String, Fail> {
 /// The bytes of the text of so many letters in this shape.
 pub fn lettered(alloc: Global, shape: &Shape, letters: usize) -> Result<&'static [u8], Fail> {
     let (front, at_each, end) = *shape;
+    let text = text_of(alloc, letters)?;
     let mut bytes = Vec::new(alloc);
     bytes.extend_from_slice(front)?;
-    for letter in text_of(alloc, letters)?.as_bytes() {
+    for letter in text.as_bytes() {
         bytes.extend_from_slice(at_each)?;
         bytes.push(*letter)?;
     }
