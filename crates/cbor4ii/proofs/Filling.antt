@@ -1,30 +1,27 @@
 -- What becomes of a struct's values, entry by entry.
 use Rattle.std.proofs.Common.{true}
 use Rattle.std.proofs.Common.{◌-◌, ◌≤◌, length, take, drop, get_or, ◌≡◌, ◌≢◌, inl, inr, ℕ, ◌+◌, ◌<◌}
-use Rattle.std.proofs.Common.{List, [], ◌∷◌, ◌++◌, Option, Some, Result, Ok, Err, Bool, max, refl}
-use Rattle.std.proofs.Common.{sym, ap, ◌∙◌, subst, arith}
+use Rattle.std.proofs.Common.{List, [], ◌∷◌, ◌++◌, Option, Some, Result, Ok, Err, Bool, refl}
+use Rattle.std.proofs.Common.{sym, ap, ◌∙◌, subst}
 use denote.Ref.{Bor}
-use Rattle.std.proofs.Math.Seq.{take-length}
 use Rattle.std.specs.Prelude.{◌&&◌}
 use Rattle.std.specs.declared.alloc.Global.{Global}
 use Rattle.std.specs.declared.string.String.{String}
 use Rattle.cbor4ii_rw.specs.View.{View}
 use Rattle.cbor4ii_rw.specs.declared.error.DecodeError.{DecodeError}
 use Rattle.cbor4ii_rw.specs.Reader.{StepsIn, KeepsAllButBudget, step_back}
-use Rattle.cbor4ii_items.specs.Decoding.{NoneRead, Spelling, Decodes, DecodesIf}
+use Rattle.cbor4ii_items.specs.Decoding.{Spelling, Decodes, DecodesIf}
 use Rattle.cbor4ii_items.specs.Reading.{Runs}
 use Rattle.cbor4ii_items.specs.ReadStrings.{break_at}
 use Rattle.cbor4ii_items.specs.Strings.{text_content}
 use Rattle.cbor4ii_items.specs.Sequences.{count_of, open_of, in_list}
-use Rattle.cbor4ii_items.specs.Laws.Calls.{ok as decoded_ok, ok_behind, err_behind, behind, Leads}
+use Rattle.cbor4ii_items.specs.Laws.Calls.{ok as decoded_ok, err_behind, behind, Leads}
 use Rattle.cbor4ii_items.specs.Laws.Calls.{of_exact, exact_less, accepted}
 use Rattle.cbor4ii_items.specs.Laws.Containers.{both}
-use Rattle.cbor4ii_items.specs.Laws.Fronts.{drop_more}
-use Rattle.cbor4ii_items.specs.Laws.Pairs.{less_max_left, less_max_right}
 use Rattle.cbor4ii_items.specs.Laws.Running.{kept_alike}
-use Rattle.cbor4ii_items.specs.Laws.SequenceParts.{fits_less, fits_max, Begun, count_more}
+use Rattle.cbor4ii_items.specs.Laws.SequenceParts.{Begun, count_more}
 use Rattle.cbor4ii_items.specs.Laws.SequenceParts.{count_done, Stands, Opened, open_more, open_done}
-use Rattle.cbor4ii.specs.Fields.{no_field, no_field_stops, changed, name_laws, name_spelling, made}
+use Rattle.cbor4ii.specs.Fields.{no_field, no_field_stops, changed, name_spelling, made, SameChange}
 use Rattle.cbor4ii.specs.Fields.{all_made, Altered, Alters}
 use Rattle.cbor4ii.specs.ItemRead.{skipped_spelling}
 use Rattle.cbor4ii.specs.Stepped.{stepped_spelling}
@@ -32,7 +29,9 @@ use Rattle.cbor4ii.specs.Structs.{Fields, field, fields_by, unnamed, behind_name
 use Rattle.cbor4ii.specs.Structs.{entries_of, struct_of}
 use Rattle.cbor4ii.specs.Typed.{Promise, Deserializes}
 use Rattle.cbor4ii.specs.TypedParts.{part_of}
-use Rattle.cbor4ii.proofs.Promised.{ok, promised, tell}
+use Rattle.cbor4ii.proofs.Named.{entry_then}
+use Rattle.cbor4ii.proofs.Names.{names_split, names_none}
+use Rattle.cbor4ii.proofs.Promised.{promised, tell}
 use Rattle.cbor4ii.proofs.Steps.{under_if}
 
 -- ---- behind a name
@@ -137,22 +136,6 @@ module _ {T V E : Type 0} (own : List ℕ) (p : Promise T) (others : Fields V) {
 
 -- ---- which field has a name
 
-module _ {T V : Type 0} (p : Promise T) (others : List (Bor (List ℕ)) → Fields V) where
-  by_first : (names : List (Bor (List ℕ))) (d : Bor (List ℕ)) → 1 ≤ length names
-      → fields_by p others names ≡ field (get_or names 0 d).now p
-      (others (take (length names - 1) (drop 1 names)))
-  by_first [] d some = absurd (omega arith)
-  by_first (own ∷ names) d some =
-      let few : length (own ∷ names) - 1 ≡ length names = omega arith in
-      let all : take (length (own ∷ names) - 1) names ≡ names =
-      ap (λ j. take j names) few ∙ take-length names in
-      ap (λ zs. field own.now p (others zs)) (sym all)
-
-  by_none : (names : List (Bor (List ℕ))) → length names < 1
-      → fields_by p others names ≡ unnamed p (others [])
-  by_none [] less = refl
-  by_none (own ∷ names) less = absurd (omega arith)
-
 module _ {T V U E : Type 0} (p : Promise T) (others : List (Bor (List ℕ)) → Fields V)
     (names : List (Bor (List ℕ))) (name : List ℕ) (before after : Option T × V) (a b : View)
     (r : Result U (DecodeError E)) where
@@ -164,7 +147,7 @@ module _ {T V U E : Type 0} (p : Promise T) (others : List (Bor (List ℕ)) → 
       (behind_name (fields_by p others names) name) before after a b r
   at_first d some h =
       subst (λ f. Alters made f.exact (behind_name f name) before after a b r)
-      (sym (by_first p others names d some)) h
+      (ap (fields_by p others) (sym (names_split names d some))) h
 
   pub at_none : length names < 1
       → Alters made (p.exact && (others []).exact) (behind_name (unnamed p (others [])) name) before
@@ -173,95 +156,23 @@ module _ {T V U E : Type 0} (p : Promise T) (others : List (Bor (List ℕ)) → 
       (behind_name (fields_by p others names) name) before after a b r
   at_none less h =
       subst (λ f. Alters made f.exact (behind_name f name) before after a b r)
-      (sym (by_none p others names less)) h
+      (ap (fields_by p others) (sym (names_none names less))) h
 
 -- ---- an entry
 
-module _ {V E : Type 0} (f : Fields V) {a m : View} where
-  pub name_err : {e : DecodeError E} → Decodes name_spelling a m (Err e)
-      → DecodesIf f.exact (entry_of f) a m (Err e)
-  name_err d =
-      err_behind name_spelling (entry_of f) (kept_alike a) (λ xs told. (
-        xs,
-        told,
-        record {
-          none = λ is none g n c q fits. none q.0 q.1.key_size q.1.key_cost q.1.key
-              (fits_less q.1.key_cost c a.budget
-              (less_max_left c q.1.key_cost q.1.value_cost q.1.cost) fits);
-          stops = λ z ys. inl;
-          begins = λ z ys. inl;
-        },
-      )) (λ owned. refl) (λ takes. takes) (of_exact d)
-
-  module _ {name : String Global} (d : Decodes {E = E} name_spelling a m (Ok name)) where
-    no_value : (xs : List ℕ) (i k : ℕ) → name_spelling.reads xs name i k
-        → NoneRead (f.named (text_content name)) (drop i xs) a.budget
-        → NoneRead (entry_of f).reads xs a.budget
-    no_value xs i k read none g n c q fits =
-        let is = name_laws.one xs q.0 name q.1.key_size i q.1.key_cost k q.1.key read in
-        none g q.1.value_size q.1.value_cost
-        (subst (λ z. f.named z (drop i xs) g q.1.value_size q.1.value_cost) is.2
-        (subst (λ j. f.named (text_content q.0) (drop j xs) g q.1.value_size q.1.value_cost) is.0
-        q.1.value))
-        (fits_less q.1.value_cost c a.budget
-        (less_max_right c q.1.key_cost q.1.value_cost q.1.cost) fits)
-
-    pub entry_alters : {U : Type 0} (r : Result U (DecodeError E)) (b : View) (first last : V)
-        → Alters made f.exact (behind_name f (text_content name)) first last m b r
-        → Alters made f.exact (entry_of f) first last a b r
-    entry_alters (Ok u) b first last h = record {
-      what = h.what;
-      read = ok_behind (behind_name f (text_content name)) (entry_of f) d.moves.by (λ xs told.
-          let p = d.sound.at xs told in (
-            drop p.count xs,
-            p.left,
-            λ n c r fits. record {
-              count = p.count + n;
-              cost = max p.cost c;
-              read = (
-                name,
-                record {
-                  key_size = p.count;
-                  key_cost = p.cost;
-                  key = p.read;
-                  value_size = n;
-                  value_cost = c;
-                  value = r;
-                  size = refl;
-                  cost = refl;
-                },
-              );
-              fits = fits_max p.cost c a.budget p.fits fits;
-              left = drop_more n p.count xs;
-            },
-          )) (λ some. omega (arith, d.progress refl, h.read.moves.by.bound)) h.read;
-      is = h.is;
-    }
-    entry_alters (Err e) b first last h =
-        err_behind (behind_name f (text_content name)) (entry_of f) d.moves.by (λ xs told.
-        let p = d.sound.at xs told in (
-          drop p.count xs,
-          p.left,
-          record {
-            none = λ is. no_value xs p.count p.cost p.read;
-            stops = λ z ys h. inr (record {
-              whole = name;
-              size = p.count;
-              cost = p.cost;
-              name = p.read;
-              fits = p.fits;
-              stop = h;
-            });
-            begins = λ z ys h. inr (record {
-              whole = name;
-              size = p.count;
-              cost = p.cost;
-              name = p.read;
-              fits = p.fits;
-              stop = h;
-            });
-          },
-        )) (λ o. o) (λ takes. refl) h
+module _ {V E : Type 0} (f : Fields V) {a m : View} {name : String Global}
+    (d : Decodes {E = E} name_spelling a m (Ok name)) where
+  pub entry_alters : {U : Type 0} (r : Result U (DecodeError E)) (b : View) (first last : V)
+      → Alters made f.exact (behind_name f (text_content name)) first last m b r
+      → Alters made f.exact (entry_of f) first last a b r
+  entry_alters (Ok u) b first last h = record {
+    what = h.what;
+    read = accepted (entry_then f.named f.stops (SameChange f.same) f.owned d (Ok h.what)
+        (of_exact {exact = f.exact} h.read));
+    is = h.is;
+  }
+  entry_alters (Err e) b first last h =
+      entry_then f.named f.stops (SameChange f.same) f.owned d (Err e) h
 
 -- ---- entries, one behind another
 
@@ -355,24 +266,32 @@ module _ {W V U E : Type 0} (makes : W → V → V) (exact : Bool) (before after
 
 -- ---- the values
 
-module _ {V W E : Type 0} (values : W → V) (f : Fields V) {a b : View} where
-  pub struct_ok : {w : W} → Altered E all_made (entries_of f) f.first (values w) a b
-      → Deserializes {E = E} (struct_of values f) a b (Ok w)
-  struct_ok h = ok (struct_of values f) h.read.moves.by (h.read.progress refl) (record {
-    at = λ xs told. let p = h.read.sound.at xs told in record {
-      count = p.count;
-      cost = p.cost;
-      read = (h.what, p.read, h.is);
-      fits = p.fits;
-      left = p.left;
-    };
-  })
+-- what was there before any entry
+pub from_first : {V E : Type 0} (f : Fields V) {before after : V} {a b : View} → before ≡ f.first
+    → Altered E all_made (entries_of f) before after a b
+    → Altered E all_made (entries_of f) f.first after a b
+from_first {E = E} f {after = after} {a = a} {b = b} is =
+    subst (λ (first : _). Altered E all_made (entries_of f) first after a b) is
 
-  pub struct_err : {e : DecodeError E} → DecodesIf f.exact (entries_of f) a b (Err e)
-      → Deserializes (struct_of values f) a b (Err e)
-  struct_err d =
-      promised (struct_of values f) (err_behind (entries_of f) (struct_of values f).spelling
-      (kept_alike a) (λ xs told. (
+module _ {V W E : Type 0} (values : W → V) (f : Fields V) {a b : View} where
+  pub filled_ok : {w : W} → Altered E all_made (entries_of f) f.first (values w) a b
+      → Decodes {E = E} (struct_of values f).spelling a b (Ok w)
+  filled_ok h =
+      decoded_ok (struct_of values f).spelling h.read.moves.by (λ some. h.read.progress refl)
+      (record {
+        at = λ xs told. let p = h.read.sound.at xs told in record {
+          count = p.count;
+          cost = p.cost;
+          read = (h.what, p.read, h.is);
+          fits = p.fits;
+          left = p.left;
+        };
+      })
+
+  pub filled_err : {e : DecodeError E} → DecodesIf f.exact (entries_of f) a b (Err e)
+      → DecodesIf f.exact (struct_of values f).spelling a b (Err e)
+  filled_err =
+      err_behind (entries_of f) (struct_of values f).spelling (kept_alike a) (λ xs told. (
         xs,
         told,
         record {
@@ -380,4 +299,12 @@ module _ {V W E : Type 0} (values : W → V) (f : Fields V) {a b : View} where
           stops = λ z ys h. h;
           begins = λ z ys h. h;
         },
-      )) (λ o. o) (λ takes. refl) d)
+      )) (λ o. o) (λ takes. refl)
+
+  pub struct_ok : {w : W} → Altered E all_made (entries_of f) f.first (values w) a b
+      → Deserializes {E = E} (struct_of values f) a b (Ok w)
+  struct_ok h = promised (struct_of values f) (of_exact (filled_ok h))
+
+  pub struct_err : {e : DecodeError E} → DecodesIf f.exact (entries_of f) a b (Err e)
+      → Deserializes (struct_of values f) a b (Err e)
+  struct_err d = promised (struct_of values f) (filled_err d)

@@ -26,6 +26,9 @@ pub mod VariantsRead
 pub mod Beginnings
 pub mod AnyAnswers
 pub mod ValuesBack
+pub mod Named
 pub mod Filling
+pub mod Making
 pub mod Names
+pub mod Casing
 pub mod Apart

@@ -83,6 +83,18 @@ pub some_name : (names : List (Bor (List ℕ))) → 1 ≤ length names → Bor (
 some_name [] some = absurd (omega (arith, some))
 some_name (own ∷ names) some = own
 
+-- the first, and those behind it
+pub names_split : (names : List (Bor (List ℕ))) (d : Bor (List ℕ)) → 1 ≤ length names
+    → names ≡ get_or names 0 d ∷ take (length names - 1) (drop 1 names)
+names_split [] d some = absurd (omega (arith, some))
+names_split (own ∷ names) d some =
+    let few : length (own ∷ names) - 1 ≡ length names = omega arith in
+    ap (λ zs. own ∷ zs) (sym (ap (λ j. take j names) few ∙ take-length names))
+
+pub names_none : (names : List (Bor (List ℕ))) → length names < 1 → names ≡ []
+names_none [] less = refl
+names_none (own ∷ names) less = absurd (omega arith)
+
 pub is_first : (name : List ℕ) (names : List (Bor (List ℕ))) (at : ℕ) (d : Bor (List ℕ))
     → 1 ≤ length names → at ≤ 0 → StandsAt name names at → name ≡ (get_or names 0 d).now
 is_first name [] at d some none h = absurd (omega (arith, some))

@@ -49,9 +49,9 @@ named_field {T} {V} own reads others name xs change n c =
 abbrev pub ReadsName : Reads (String Global)
 ReadsName = ReadsTextAs text_content
 
-abbrev pub ReadsEntry : {V : Type 0} → ReadsNamed V → Reads (V → V)
-ReadsEntry named xs change n c =
-    (name : String Global) × ReadsPair ReadsName (named (text_content name)) xs (name, change) n c
+abbrev pub ReadsEntry : {W : Type 0} → (List ℕ → Reads W) → Reads W
+ReadsEntry named xs w n c =
+    (name : String Global) × ReadsPair ReadsName (named (text_content name)) xs (name, w) n c
 
 -- changes, one behind another
 abbrev pub changed : {V : Type 0} → V → List (V → V) → V
@@ -221,12 +221,32 @@ name_laws = record {
 abbrev pub name_spelling : Spelling (String Global)
 name_spelling = typed_spelling ReadsName SameName (StopsText (codes "str")) true true
 
-pub entry_laws : {V : Type 0} (same : V → V → Type 0) (named : ReadsNamed V) → NamedLaws same named
-    → Lawful (ReadsEntry named) (SameChange same) true
-entry_laws {V} same named laws =
+-- what stands behind a name, and may take no byte
+abbrev pub named_part : {W : Type 0} → (List ℕ → Reads W) → StopsNamed → (W → W → Type 0)
+    → (owned : Bool) → List ℕ → Spelling W
+named_part named stops same owned name = record {
+  reads = named name;
+  same = same;
+  stops = stops name;
+  begins = stops name;
+  never_empty = false;
+  owned = owned;
+  takes_memory = true;
+  closed = false;
+}
+
+-- a name, and what stands behind it
+abbrev pub named_entry : {W : Type 0} → (List ℕ → Reads W) → StopsNamed → (W → W → Type 0)
+    → (owned : Bool) → Spelling W
+named_entry named stops same owned =
+    typed_spelling (ReadsEntry named) same (StopsEntry stops) owned true
+
+pub entry_laws : {W : Type 0} (same : W → W → Type 0) (named : List ℕ → Reads W)
+    → ((name : List ℕ) → Lawful (named name) same false) → Lawful (ReadsEntry named) same true
+entry_laws same named laws =
     let pair : (name : List ℕ) → Lawful (ReadsPair ReadsName (named name))
-    (SamePair SameName (SameChange same)) true = λ name. pair_laws ReadsName (named name)
-    SameName (SameChange same) true false name_laws (laws name) in
+    (SamePair SameName same) true = λ name. pair_laws ReadsName (named name)
+    SameName same true false name_laws (laws name) in
     record {
       one = λ xs g h n m c d p q. (
           let is = (name_laws.one xs p.0 q.0 p.1.key_size q.1.key_size p.1.key_cost q.1.key_cost
@@ -252,7 +272,7 @@ changed_same same v w (g ∷ gs) (h ∷ hs) s p = changed_same same (g v) (h w) 
 pub fields_laws : {V : Type 0} (same : V → V → Type 0) (first : V) (named : ReadsNamed V)
     → same first first → NamedLaws same named → Lawful (ReadsFields first named) same true
 fields_laws {V} same first named is laws =
-    let entry = entry_laws same named laws in
+    let entry = entry_laws (SameChange same) named laws in
     record {
       one = λ xs v w n m c d p q. (
           let e = sequence_one 5 five_small (ReadsEntry named) true (SameChange same) entry.one xs

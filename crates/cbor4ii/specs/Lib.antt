@@ -21,6 +21,9 @@ pub mod AnySpelling
 pub mod Beginning
 pub mod TypedParts
 pub mod Structs
+pub mod Made
+pub mod Presence
+pub mod Cases
 pub mod ReadBack
 pub mod Names
 -- ---- laws

@@ -1,5 +1,5 @@
 -- What a struct that is read from its named fields promises, by what its fields do.
-use Rattle.std.specs.Prelude.{List, [], ◌∷◌, ℕ, ◌&&◌, Bool, true, false, None, Option, IsTrue}
+use Rattle.std.specs.Prelude.{List, [], ◌∷◌, ℕ, ◌&&◌, Bool, true, None, Option, IsTrue}
 use Rattle.std.specs.Prelude.{refl, codes}
 use denote.Ref.{Bor}
 use Rattle.cbor4ii_items.specs.Decoding.{Spelling, IsLawful, spelling_by}
@@ -7,7 +7,7 @@ use Rattle.cbor4ii_items.specs.Sequences.{in_list}
 use Rattle.cbor4ii_items.specs.Laws.Containers.{both}
 use Rattle.cbor4ii_items.specs.Laws.Spellings.{lawful_by}
 use Rattle.cbor4ii.specs.Fields.{ReadsNamed, StopsNamed, NamedLaws, ReadsFields, StopsFields}
-use Rattle.cbor4ii.specs.Fields.{SameField, SameChange, ReadsEntry, StopsEntry, entry_laws}
+use Rattle.cbor4ii.specs.Fields.{SameField, SameChange, entry_laws, named_part, named_entry}
 use Rattle.cbor4ii.specs.Fields.{no_field, no_values, named_field, no_field_stops, field_stops}
 use Rattle.cbor4ii.specs.Fields.{no_field_laws, field_laws, fields_laws}
 use Rattle.cbor4ii.specs.Sequence.{sequence_of}
@@ -75,26 +75,16 @@ fields_by p others (own ∷ behind) = field own.now p (others behind)
 
 -- what stands behind a name, as what becomes of the values
 abbrev pub behind_name : {V : Type 0} → Fields V → List ℕ → Spelling (V → V)
-behind_name fields name = record {
-  reads = fields.named name;
-  same = SameChange fields.same;
-  stops = fields.stops name;
-  begins = fields.stops name;
-  never_empty = false;
-  owned = fields.owned;
-  takes_memory = true;
-  closed = false;
-}
+behind_name fields = named_part fields.named fields.stops (SameChange fields.same) fields.owned
 
 -- a name, and what stands behind it
 abbrev pub entry_of : {V : Type 0} → Fields V → Spelling (V → V)
-entry_of fields =
-    typed_spelling (ReadsEntry fields.named) (SameChange fields.same) (StopsEntry fields.stops)
-    fields.owned true
+entry_of fields = named_entry fields.named fields.stops (SameChange fields.same) fields.owned
 
 pub entry_lawful : {V : Type 0} (fields : Fields V) → IsTrue fields.exact
     → IsLawful (entry_of fields)
-entry_lawful fields is = lawful_as (entry_laws fields.same fields.named (fields.laws is))
+entry_lawful fields is =
+    lawful_as (entry_laws (SameChange fields.same) fields.named (fields.laws is))
 
 -- a map of entries
 abbrev pub entries_of : {V : Type 0} → Fields V → Spelling (List (V → V))

@@ -1,5 +1,4 @@
 -- What a variant leaves that was read.
-pub mod Variants
 -- The fields of a struct, as they are written and read back.
 pub mod Points
 -- One decoding call behind another, and what a station is made of.

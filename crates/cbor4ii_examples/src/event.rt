@@ -1,19 +1,23 @@
 //! An enum that is written and read inside other types, as in a vector or a map.
-ghost use Rattle.std.specs.Prelude.{◌∷◌, [], codes};
+ghost use Rattle.std.specs.Prelude.{◌≡◌, ◌∷◌, [], codes};
 ghost use Rattle.cbor4ii_items.specs.Strings.{counted_string};
 ghost use Rattle.cbor4ii_ser.specs.Item.{encoded, field, struct_item, tuple_variant_item};
 ghost use Rattle.cbor4ii_ser.specs.Item.{variant_item};
-ghost use Rattle.cbor4ii.specs.Accessing.{Finishes};
-ghost use Rattle.cbor4ii.specs.Typed.{input, answer_of};
-ghost use Rattle.cbor4ii.specs.Variants.{inside_enum};
+ghost use Rattle.cbor4ii.specs.Cases.{enum_of, case, unit_case, held_case, otherwise};
+ghost use Rattle.cbor4ii.specs.Fields.{no_values};
+ghost use Rattle.cbor4ii.specs.Made.{made_from};
+ghost use Rattle.cbor4ii.specs.Presence.{struct_from, required, no_others};
+ghost use Rattle.cbor4ii.specs.declared.serde.de.cases.Choice.TheVariants.{First, Other};
 ghost use Rattle.cbor4ii_examples.specs.declared.event.Event.TheVariants.{Started, Sampled, Moved};
 ghost use Rattle.cbor4ii_examples.specs.declared.event.Event.TheVariants.{Named};
 
 use crate::sample::Sample;
+use cbor4ii::serde::Choice::{First, Other};
 use cbor4ii::serde::{
-    DecodeError, Deserialize, Deserializer, EncodeError, EnumAccessor, Serialize, Serializer, Typed,
+    Choice, DecodeError, Deserialize, Deserializer, EncodeError, Holds, Otherwise, Required,
+    Serialize, Serializer, Typed, Unit,
 };
-use cbor4ii_rw::error::StaticStr;
+use cbor4ii_rw::error::{Never, StaticStr};
 use cbor4ii_rw::read::Source;
 use cbor4ii_rw::write::Write;
 use std::alloc::Global;
@@ -66,47 +70,38 @@ impl<S: Source> Deserialize<S> for Event {
         alloc: Global,
         de: &mut Deserializer<S>,
     ) -> Result<Event, DecodeError<S::Error>> {
-        match de.deserialize_enum("Event", &EVENTS) {
-            Ok(mut variant) => match variant.variant::<String>(alloc) {
-                Ok(name) => read_content(alloc, variant, name.as_str()),
-                Err(error) => Err(error),
-            },
-            Err(error) => Err(error),
+        let cases = (Unit, (Holds, (Holds, (Holds, Otherwise("no such event")))));
+        de.deserialize_variant(alloc, "Event", &EVENTS, cases)
+    }
+}
+
+type Events = Choice<(), Choice<Sample, Choice<(i32, i32), Choice<Name, Never>>>>;
+
+impl From<Events> for Event {
+    ghost from_gives = { λ c e. c ≡ elim e [
+      | Started ↦ First tt
+      | Sampled s ↦ Other (First s)
+      | Moved x y ↦ Other (Other (First (x, y)))
+      | Named n t ↦ Other (Other (Other (First (record { id = n; name = t }))))
+    ] };
+
+    fn from(events: Events) -> Event {
+        match events {
+            First(()) => Event::Started,
+            Other(First(sample)) => Event::Sampled(sample),
+            Other(Other(First((east, north)))) => Event::Moved(east, north),
+            Other(Other(Other(First(Name { id, name })))) => Event::Named { id, name },
         }
     }
 }
 
-impl Typed for Event {}
-
-/// Reads what the variant of this name holds. What holds items without names is read as a tuple,
-/// and what holds named fields as a struct.
-fn read_content<S: Source>(
-    alloc: Global,
-    variant: EnumAccessor<'_, S>,
-    name: &str,
-) -> Result<Event, DecodeError<S::Error>>
-    ensures { Finishes 1 (inside_enum S.view variant.entry) (input S.view variant.exit.0.now)
-        (answer_of result) }
-{
-    match name {
-        "Started" => match variant.unit_variant() {
-            Ok(()) => Ok(Event::Started),
-            Err(error) => Err(error),
-        },
-        "Sampled" => match variant.newtype_variant(alloc) {
-            Ok(sample) => Ok(Event::Sampled(sample)),
-            Err(error) => Err(error),
-        },
-        "Moved" => match variant.newtype_variant(alloc) {
-            Ok((east, north)) => Ok(Event::Moved(east, north)),
-            Err(error) => Err(error),
-        },
-        "Named" => match variant.newtype_variant(alloc) {
-            Ok(Name { id, name }) => Ok(Event::Named { id, name }),
-            Err(error) => Err(error),
-        },
-        _ => Err(DecodeError::Custom("no such event")),
-    }
+impl Typed for Event {
+    ghost promise = { made_from ⟦<Event as From<Events>>⟧.from_gives
+        (enum_of (case (codes "Started") unit_case
+        (case (codes "Sampled") (held_case ⟦<Sample as Typed>⟧.promise)
+        (case (codes "Moved") (held_case ⟦<(i32, i32) as Typed>⟧.promise)
+        (case (codes "Named") (held_case ⟦<Name as Typed>⟧.promise)
+        (otherwise (codes "no such event"))))))) };
 }
 
 /// What a station is named.
@@ -118,17 +113,27 @@ struct Name {
 
 impl<S: Source> Deserialize<S> for Name {
     fn deserialize(alloc: Global, de: &mut Deserializer<S>) -> Result<Name, DecodeError<S::Error>> {
-        match de.deserialize_2_fields(alloc, "Named", "id", "name") {
-            Ok((id, name)) => match (id, name) {
-                (Some(id), Some(name)) => Ok(Name { id, name }),
-                _ => Err(DecodeError::Custom("a name has no id or no text")),
-            },
-            Err(error) => Err(error),
-        }
+        let missing = ["a name has no id", "a name has no text"];
+        let presences = (Required, (Required, ()));
+        de.deserialize_fields(alloc, "Named", &["id", "name"], &missing, presences)
     }
 }
 
-impl Typed for Name {}
+impl From<(u32, (String, ()))> for Name {
+    ghost from_gives = { λ values n. values ≡ (n.id, (n.name, no_values)) };
+
+    fn from(values: (u32, (String, ()))) -> Name {
+        let (id, (name, ())) = values;
+        Name { id, name }
+    }
+}
+
+impl Typed for Name {
+    ghost promise = { made_from (λ values n. values ≡ (n.id, (n.name, no_values)))
+        (struct_from (required (codes "id") (codes "a name has no id") ⟦<u32 as Typed>⟧.promise
+        (required (codes "name") (codes "a name has no text") ⟦<String as Typed>⟧.promise
+        no_others))) };
+}
 
 #[cfg(test)]
 mod tests;

@@ -1,9 +1,12 @@
 //! A struct that borrows from the input.
-ghost use Rattle.std.specs.Prelude.{◌∷◌, [], codes};
+ghost use Rattle.std.specs.Prelude.{◌≡◌, ◌∷◌, [], codes};
 ghost use Rattle.cbor4ii_ser.specs.Item.{field, struct_item};
+ghost use Rattle.cbor4ii.specs.Fields.{no_values};
+ghost use Rattle.cbor4ii.specs.Made.{made_from};
+ghost use Rattle.cbor4ii.specs.Presence.{struct_from, required, no_others};
 
 use cbor4ii::serde::{
-    DecodeError, Deserialize, Deserializer, EncodeError, Serialize, Serializer, Typed,
+    DecodeError, Deserialize, Deserializer, EncodeError, Required, Serialize, Serializer, Typed,
 };
 use cbor4ii_rw::error::Never;
 use cbor4ii_rw::slice_reader::SliceReader;
@@ -34,17 +37,27 @@ impl<'a> Deserialize<SliceReader<'a>> for Label<'a> {
         alloc: Global,
         de: &mut Deserializer<SliceReader<'a>>,
     ) -> Result<Label<'a>, DecodeError<Never>> {
-        match de.deserialize_2_fields(alloc, "Label", "id", "text") {
-            Ok((id, text)) => match (id, text) {
-                (Some(id), Some(text)) => Ok(Label { id, text }),
-                _ => Err(DecodeError::Custom("a field is missing")),
-            },
-            Err(error) => Err(error),
-        }
+        let missing = ["a label has no id", "a label has no text"];
+        let presences = (Required, (Required, ()));
+        de.deserialize_fields(alloc, "Label", &["id", "text"], &missing, presences)
     }
 }
 
-impl<'a> Typed for Label<'a> {}
+impl<'a> From<(u8, (&'a str, ()))> for Label<'a> {
+    ghost from_gives = { λ values l. values ≡ (l.id, (l.text, no_values)) };
+
+    fn from(values: (u8, (&'a str, ()))) -> Label<'a> {
+        let (id, (text, ())) = values;
+        Label { id, text }
+    }
+}
+
+impl<'a> Typed for Label<'a> {
+    ghost promise = { made_from (λ values l. values ≡ (l.id, (l.text, no_values)))
+        (struct_from (required (codes "id") (codes "a label has no id") ⟦<u8 as Typed>⟧.promise
+        (required (codes "text") (codes "a label has no text") ⟦<&'a str as Typed>⟧.promise
+        no_others))) };
+}
 
 #[cfg(test)]
 mod tests;

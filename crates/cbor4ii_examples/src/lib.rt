@@ -11,6 +11,7 @@
 //! | `label` | a struct that borrows from the input |
 //! | `enumeration` | an enum with variants of each kind, which a function reads |
 //! | `event` | an enum that is read inside other types, as in a vector or a map |
+//! | `meters` | a newtype, read and written as what it holds |
 //! | `nest` | a type that holds values of its own kind |
 //! | `tree` | a struct that holds values of its own kind, written in one call |
 //! | `station` | a type that is read and written by hand, each refusal proved |
@@ -26,6 +27,7 @@ pub mod event;
 #[cfg(test)]
 mod failures;
 pub mod label;
+pub mod meters;
 pub mod nest;
 pub mod point;
 pub mod raw_items;

@@ -11,10 +11,14 @@ ghost use Rattle.cbor4ii_items.specs.Refusal.{refusal_of};
 ghost use Rattle.cbor4ii_ser.specs.Item.{encoded, field, struct_item};
 ghost use Rattle.cbor4ii_ser.specs.OneItem.{IsOneItem, canonical};
 ghost use Rattle.cbor4ii.specs.Fields.{ReadsFields, named_field, no_fields, no_values};
+ghost use Rattle.cbor4ii.specs.Made.{made_from};
+ghost use Rattle.cbor4ii.specs.Presence.{struct_from, required, or_else, no_others};
 
 use cbor4ii::serde::{
-    DecodeError, Deserialize, Deserializer, EncodeError, Serialize, Serializer, Typed, laws,
+    DecodeError, Deserialize, Deserializer, EncodeError, Or, Required, Serialize, Serializer,
+    Typed, laws,
 };
+use cbor4ii_rw::error::StaticStr;
 use cbor4ii_rw::read::Source;
 use cbor4ii_rw::write::Write;
 use std::alloc::Global;
@@ -37,26 +41,35 @@ impl Serialize for Point {
     }
 }
 
+const FIELDS: [StaticStr; 3] = ["x", "name", "y"];
+
+const MISSING: [StaticStr; 3] = ["a point has no x", "a point has no name", ""];
+
 impl<S: Source> Deserialize<S> for Point {
     fn deserialize(
         alloc: Global,
         de: &mut Deserializer<S>,
     ) -> Result<Point, DecodeError<S::Error>> {
-        match de.deserialize_3_fields(alloc, "Point", "x", "name", "y") {
-            Ok((x, name, y)) => match (x, name) {
-                (Some(x), Some(name)) => Ok(Point {
-                    x,
-                    name,
-                    y: y.unwrap_or(None),
-                }),
-                _ => Err(DecodeError::Custom("a field is missing")),
-            },
-            Err(error) => Err(error),
-        }
+        let presences = (Required, (Required, (Or(None), ())));
+        de.deserialize_fields(alloc, "Point", &FIELDS, &MISSING, presences)
     }
 }
 
-impl Typed for Point {}
+impl From<(u32, (String, (Option<i32>, ())))> for Point {
+    ghost from_gives = { λ values p. values ≡ (p.x, (p.name, (p.y, no_values))) };
+
+    fn from(values: (u32, (String, (Option<i32>, ())))) -> Point {
+        let (x, (name, (y, ()))) = values;
+        Point { x, name, y }
+    }
+}
+
+impl Typed for Point {
+    ghost promise = { made_from (λ values p. values ≡ (p.x, (p.name, (p.y, no_values))))
+        (struct_from (required (codes "x") (codes "a point has no x") ⟦<u32 as Typed>⟧.promise
+        (required (codes "name") (codes "a point has no name") ⟦<String as Typed>⟧.promise
+        (or_else (codes "y") None ⟦<Option<i32> as Typed>⟧.promise no_others)))) };
+}
 
 /// What a `Point` writes is one canonical item.
 pub fn point_is_one_item(point: &Point)

@@ -1,10 +1,14 @@
 //! A struct that is written part by part, and read in one call.
-ghost use Rattle.std.specs.Prelude.{◌∷◌, [], codes};
+ghost use Rattle.std.specs.Prelude.{◌≡◌, ◌∷◌, [], None, codes};
 ghost use Rattle.cbor4ii_ser.specs.Item.{field, struct_item};
+ghost use Rattle.cbor4ii.specs.Fields.{no_values};
+ghost use Rattle.cbor4ii.specs.Made.{made_from};
+ghost use Rattle.cbor4ii.specs.Presence.{struct_from, required, or_else, no_others};
 
 use cbor4ii::serde::{
-    DecodeError, Deserialize, Deserializer, EncodeError, Serialize, Serializer, Typed,
+    DecodeError, Deserialize, Deserializer, EncodeError, Or, Required, Serialize, Serializer, Typed,
 };
+use cbor4ii_rw::error::StaticStr;
 use cbor4ii_rw::read::Source;
 use cbor4ii_rw::write::Write;
 use std::alloc::Global;
@@ -41,21 +45,35 @@ impl<S: Source> Deserialize<S> for Sample {
         alloc: Global,
         de: &mut Deserializer<S>,
     ) -> Result<Sample, DecodeError<S::Error>> {
-        match de.deserialize_3_fields(alloc, "Sample", "sensor", "value", "note") {
-            Ok((sensor, value, note)) => match (sensor, value) {
-                (Some(sensor), Some(value)) => Ok(Sample {
-                    sensor,
-                    value,
-                    note: note.unwrap_or(None),
-                }),
-                _ => Err(DecodeError::Custom("a sample has no sensor or no value")),
-            },
-            Err(error) => Err(error),
+        let presences = (Required, (Required, (Or(None), ())));
+        de.deserialize_fields(alloc, "Sample", &FIELDS, &MISSING, presences)
+    }
+}
+
+const FIELDS: [StaticStr; 3] = ["sensor", "value", "note"];
+
+const MISSING: [StaticStr; 3] = ["a sample has no sensor", "a sample has no value", ""];
+
+impl From<(String, (i64, (Option<String>, ())))> for Sample {
+    ghost from_gives = { λ values s. values ≡ (s.sensor, (s.value, (s.note, no_values))) };
+
+    fn from(values: (String, (i64, (Option<String>, ())))) -> Sample {
+        let (sensor, (value, (note, ()))) = values;
+        Sample {
+            sensor,
+            value,
+            note,
         }
     }
 }
 
-impl Typed for Sample {}
+impl Typed for Sample {
+    ghost promise = { made_from (λ values s. values ≡ (s.sensor, (s.value, (s.note, no_values))))
+        (struct_from
+        (required (codes "sensor") (codes "a sample has no sensor") ⟦<String as Typed>⟧.promise
+        (required (codes "value") (codes "a sample has no value") ⟦<i64 as Typed>⟧.promise
+        (or_else (codes "note") None ⟦<Option<String> as Typed>⟧.promise no_others)))) };
+}
 
 #[cfg(test)]
 mod tests;

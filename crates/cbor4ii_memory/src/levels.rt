@@ -32,7 +32,7 @@ enum Node {
 impl Serialize for Node {
     ghost item = { node_item };
 
-    #[tactic(auto, using(crate::specs::declared::levels::Node::the_lemmas, cbor4ii_ser::specs::Laws::Inside::values_inside))]
+    #[tactic(auto, using(crate::specs::declared::levels::Node::the_lemmas, cbor4ii_ser::specs::Laws::Inside::values_inside,))]
     fn serialize<W: Write>(&self, ser: &mut Serializer<W>) -> Result<(), EncodeError<W::Error>> {
         match self {
             Node::Null => ser.serialize_none(),

@@ -1,17 +1,15 @@
 //! Rows of enums, read by a function, and written and read by the calls for one value.
 ghost use Rattle.std.specs.Prelude.{codes};
 ghost use Rattle.cbor4ii_ser.specs.Item.{variant_item};
-ghost use Rattle.cbor4ii.specs.Accessing.{Finishes};
-ghost use Rattle.cbor4ii.specs.Typed.{input, answer_of};
-ghost use Rattle.cbor4ii.specs.Variants.{inside_enum};
 ghost use Rattle.cbor4ii_examples.specs.declared.enumeration.tests.Letters.TheVariants.{A};
 
 use crate::enumeration::{Enum, read_enum};
+use cbor4ii::serde::Choice::{First, Other};
 use cbor4ii::serde::{
-    DecodeError, Deserialize, Deserializer, EncodeError, EnumAccessor, Serialize, Serializer,
-    Typed, to_writer,
+    Choice, DecodeError, Deserialize, Deserializer, EncodeError, Holds, Otherwise, Serialize,
+    Serializer, Typed, Unit, to_writer,
 };
-use cbor4ii_rw::error::StaticStr;
+use cbor4ii_rw::error::{Never, StaticStr};
 use cbor4ii_rw::read::Source;
 use cbor4ii_rw::write::Write;
 use cbor4ii_vectors::{mismatch, no_step, table};
@@ -59,43 +57,24 @@ const ENUM: [StaticStr; 4] = ["Unit", "NewType", "Tuple", "Struct"];
 
 impl<S: Source> Deserialize<S> for Enum {
     fn deserialize(alloc: Global, de: &mut Deserializer<S>) -> Result<Enum, DecodeError<S::Error>> {
-        match de.deserialize_enum("Enum", &ENUM) {
-            Ok(mut variant) => match variant.variant::<String>(alloc) {
-                Ok(name) => read_content(alloc, variant, name.as_str()),
-                Err(error) => Err(error),
-            },
-            Err(error) => Err(error),
-        }
+        let cases = (
+            Unit,
+            (Holds, (Holds, (Holds, Otherwise("another variant")))),
+        );
+        de.deserialize_variant(alloc, "Enum", &ENUM, cases)
     }
 }
 
-/// Reads what the variant of this name holds, each content in one call.
-fn read_content<S: Source>(
-    alloc: Global,
-    variant: EnumAccessor<'_, S>,
-    name: &str,
-) -> Result<Enum, DecodeError<S::Error>>
-    ensures { Finishes 1 (inside_enum S.view variant.entry) (input S.view variant.exit.0.now)
-        (answer_of result) }
-{
-    match name {
-        "Unit" => match variant.unit_variant() {
-            Ok(()) => Ok(Enum::Unit),
-            Err(error) => Err(error),
-        },
-        "NewType" => match variant.newtype_variant(alloc) {
-            Ok(number) => Ok(Enum::NewType(number)),
-            Err(error) => Err(error),
-        },
-        "Tuple" => match variant.newtype_variant(alloc) {
-            Ok((text, flag)) => Ok(Enum::Tuple(text, flag)),
-            Err(error) => Err(error),
-        },
-        "Struct" => match variant.newtype_variant(alloc) {
-            Ok(Fields { x, y }) => Ok(Enum::Struct { x, y }),
-            Err(error) => Err(error),
-        },
-        _ => Err(DecodeError::Custom("another variant")),
+type Variants = Choice<(), Choice<u32, Choice<(String, bool), Choice<Fields, Never>>>>;
+
+impl From<Variants> for Enum {
+    fn from(variants: Variants) -> Enum {
+        match variants {
+            First(()) => Enum::Unit,
+            Other(First(number)) => Enum::NewType(number),
+            Other(Other(First((text, flag)))) => Enum::Tuple(text, flag),
+            Other(Other(Other(First(Fields { x, y })))) => Enum::Struct { x, y },
+        }
     }
 }
 
@@ -155,36 +134,21 @@ impl Serialize for Letters {
 
 impl Typed for Letters {}
 
+impl From<Choice<String, Never>> for Letters {
+    fn from(letters: Choice<String, Never>) -> Letters {
+        match letters {
+            First(text) => Letters::A(text),
+        }
+    }
+}
+
 impl<S: Source> Deserialize<S> for Letters {
     fn deserialize(
         alloc: Global,
         de: &mut Deserializer<S>,
     ) -> Result<Letters, DecodeError<S::Error>> {
-        match de.deserialize_enum("Letters", &["A"]) {
-            Ok(mut variant) => match variant.variant::<String>(alloc) {
-                Ok(name) => read_letters(alloc, variant, name.as_str()),
-                Err(error) => Err(error),
-            },
-            Err(error) => Err(error),
-        }
-    }
-}
-
-/// Reads what the variant of this name holds.
-fn read_letters<S: Source>(
-    alloc: Global,
-    variant: EnumAccessor<'_, S>,
-    name: &str,
-) -> Result<Letters, DecodeError<S::Error>>
-    ensures { Finishes 1 (inside_enum S.view variant.entry) (input S.view variant.exit.0.now)
-        (answer_of result) }
-{
-    match name {
-        "A" => match variant.newtype_variant(alloc) {
-            Ok(text) => Ok(Letters::A(text)),
-            Err(error) => Err(error),
-        },
-        _ => Err(DecodeError::Custom("another variant")),
+        let cases = (Holds, Otherwise("another variant"));
+        de.deserialize_variant(alloc, "Letters", &["A"], cases)
     }
 }
 

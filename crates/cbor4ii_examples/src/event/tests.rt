@@ -49,7 +49,7 @@ const EVENTS: &[BothTold] = table! {
 
 const EVENTS_READ: &[RowTold] = table! {
     (b"\x67Stopped\x00", Ok("Custom(\"no such event\")"), b"\x00"),
-    (b"\xa1\x65Named\xa0\x00", Ok("Custom(\"a name has no id or no text\")"), b"\x00"),
+    (b"\xa1\x65Named\xa0\x00", Ok("Custom(\"a name has no id\")"), b"\x00"),
 };
 
 const EVENTS_WITHIN: &[RowToldWithin] = table! {

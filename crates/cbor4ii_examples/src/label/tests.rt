@@ -43,7 +43,7 @@ fn a_text_outlives_the_struct_that_borrowed_it(rt: HostRuntime) -> Result<(), Fa
 #[test]
 fn a_label_without_a_text_is_refused(rt: HostRuntime) -> Result<(), Fail> {
     let refusal = text_of(rt.alloc(), b"\xa1\x62id\x05").err();
-    assert_eq!(rt; refusal, Some(DecodeError::Custom("a field is missing")));
+    assert_eq!(rt; refusal, Some(DecodeError::Custom("a label has no text")));
     Ok(())
 }
 

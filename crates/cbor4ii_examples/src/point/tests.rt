@@ -69,8 +69,9 @@ const POINTS_READ: &[RowTold] = table! {
     (b"\xa4\x61x\x04\x61y\x20\x61x\x05\x64name\x61a\xff", Ok(WITH_Y), b"\xff"),
     // Only y may be missing.
     (b"\xa2\x61x\x05\x64name\x61a", Ok(WITHOUT_Y), b""),
-    (b"\xa2\x61x\x05\x61y\xf6", Ok("Custom(\"a field is missing\")"), b""),
-    (b"\xa2\x64name\x61a\x61y\x20", Ok("Custom(\"a field is missing\")"), b""),
+    (b"\xa2\x61x\x05\x61y\xf6", Ok("Custom(\"a point has no name\")"), b""),
+    (b"\xa2\x64name\x61a\x61y\x20", Ok("Custom(\"a point has no x\")"), b""),
+    (b"\xa0\x00", Ok("Custom(\"a point has no x\")"), b"\x00"),
 };
 
 const POINTS_WITHIN: &[RowToldWithin] = table! {

@@ -24,7 +24,7 @@ const SAMPLES: &[RowTold] = table! {
     // A note that is missing, and fields that are not known.
     (b"\xbf\x65value\x38\x63\x66sensor\x62t1\xff\x01", Ok(WITHOUT_NOTE), b"\x01"),
     (b"\xa4\x64unit\x61K\x66sensor\x62t1\x65value\x38\x63\x64note\x64cold", Ok(WITH_NOTE), b""),
-    (b"\xa1\x65value\x38\x63\x01", Ok("Custom(\"a sample has no sensor or no value\")"), b"\x01"),
+    (b"\xa1\x65value\x38\x63\x01", Ok("Custom(\"a sample has no sensor\")"), b"\x01"),
     (b"\x81\x00", Err(mismatch!("map", 129)), b"\x00"),
     (b"\xa1\x66sensor\x05", Err(mismatch!("str", 5)), b""),
     (b"\xa1\x65value\x61a", Err(mismatch!("i64", 97)), b"\x61a"),

@@ -1,8 +1,10 @@
 //! A reader of typed values.
 ghost use Rattle.std.specs.Prelude.{◌≡◌};
 ghost use Rattle.cbor4ii_items.specs.Decoding.{Decodes};
-ghost use Rattle.cbor4ii.specs.Typed.{input, answer_of};
+ghost use Rattle.cbor4ii.specs.Made.{made_from};
+ghost use Rattle.cbor4ii.specs.Typed.{input, answer_of, Deserializes};
 
+use crate::serde::de::deserialize::Deserialize;
 use crate::serde::de::error::{DecodeError, typed};
 use cbor4ii_items::decode::Decode;
 use cbor4ii_rw::read::Source;
@@ -29,6 +31,40 @@ impl<S: Source> Deserializer<S> {
         ensures { S.view result ≡ input S.view self }
     {
         self.reader
+    }
+
+    /// A value that is made of one of another type, as a newtype is of what it holds.
+    ///
+    /// # Errors
+    ///
+    /// Those of the other type, with what they leave.
+    pub fn deserialize_from<V: Deserialize<S>, T: From<V>>(
+        &mut self,
+        alloc: Global,
+    ) -> Result<T, DecodeError<S::Error>>
+        ensures { Deserializes (made_from T.from_gives V.promise)
+            (input S.view self.old) (input S.view self.new) (answer_of result) }
+    {
+        match V::deserialize(alloc, self) {
+            Ok(value) => Ok(T::from(value)),
+            Err(error) => Err(error),
+        }
+    }
+
+    /// One item of the codec, of any type that is decoded: `Simple`, `Tag`, `CowStr` or `RawValue`,
+    /// over every reader that it is decoded over.
+    ///
+    /// # Errors
+    ///
+    /// Those of its `decode`, each as `Core`, with what they leave.
+    pub fn deserialize_item<T: Decode<S>>(
+        &mut self,
+        alloc: Global,
+    ) -> Result<T, DecodeError<S::Error>>
+        ensures { Decodes T.spelling
+            (input S.view self.old) (input S.view self.new) (answer_of result) }
+    {
+        take_item(alloc, self)
     }
 }
 

@@ -119,7 +119,9 @@ fn begin_enum<S: Source>(reader: &mut S) -> Result<(bool, u8), core_error::Decod
 
 /// Whether a content follows the name, and the first byte.
 #[inline(always)]
-fn take_form<S: Source>(reader: &mut S) -> Result<(bool, u8), core_error::DecodeError<S::Error>>
+pub(crate) fn take_form<S: Source>(
+    reader: &mut S,
+) -> Result<(bool, u8), core_error::DecodeError<S::Error>>
     ensures decodes { Decodes form_spelling (S.view reader.old) (S.view reader.new) result }
     ensures failed { OnRead result (Breaks (S.view reader.old) (S.view reader.new)) }
 {

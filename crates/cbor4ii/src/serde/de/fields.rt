@@ -1,29 +1,57 @@
 //! Structs that are read from their named fields in one call.
-ghost use Rattle.std.specs.Prelude.{ℕ, List, codes};
+ghost use Rattle.std.specs.Prelude.{◌≡◌, ℕ, List, codes};
 ghost use Rattle.std.specs.Borrow.{Bor};
 ghost use Rattle.cbor4ii_items.specs.Sequences.{count_of, open_of, inside_of, in_list};
 ghost use Rattle.cbor4ii.specs.Fields.{no_values, made, all_made, Alters};
 ghost use Rattle.cbor4ii.specs.Names.{StandsAt};
+ghost use Rattle.cbor4ii.specs.Made.{made_from};
+ghost use Rattle.cbor4ii.specs.Presence.{made_struct};
 ghost use Rattle.cbor4ii.specs.Structs.{Fields, no_more, field, fields_by, behind_name, entry_of};
 ghost use Rattle.cbor4ii.specs.Structs.{entries_of, struct_of};
 ghost use Rattle.cbor4ii.specs.Typed.{input, answer_of, Deserializes};
 
-use crate::serde::de::deserialize::Deserialize;
+use crate::serde::de::deserialize::{Deserialize, Typed};
 use crate::serde::de::deserializer::Deserializer;
 use crate::serde::de::error::DecodeError;
 use crate::serde::de::names::take_name;
 use crate::serde::de::parts::takes_break;
+use crate::serde::de::presence::Presences;
 use cbor4ii_items::types::Map;
 use cbor4ii_rw::error as core_error;
 use cbor4ii_rw::error::StaticStr;
 use cbor4ii_rw::read::Source;
 use std::alloc::Global;
 
-/// The values of named fields, in the order of their names.
-trait Values<S: Source>: Sized {
+/// The values of named fields while they are read: nested pairs, in the order of their names.
+pub trait Places: Sized {
     // The fields that have these names.
     ghost fields: { List (Bor (List ℕ)) → Fields Self };
 
+    /// The values of no entry.
+    fn none() -> Self
+        ensures { (names : List (Bor (List ℕ))) → result ≡ (Self.fields names).first };
+}
+
+/// No field.
+impl Places for () {
+    ghost fields = { λ names. no_more };
+
+    #[inline(always)]
+    fn none() {}
+}
+
+/// A field, and those behind it.
+impl<T: Typed, V: Places> Places for (Option<T>, V) {
+    ghost fields = { fields_by T.promise V.fields };
+
+    #[inline(always)]
+    fn none() -> (Option<T>, V) {
+        (None, V::none())
+    }
+}
+
+/// The values of named fields, as they are read.
+pub trait Values<S: Source>: Places {
     /// Reads the value of the field whose name stands at this place, and skips one of another name.
     #[inline(always)]
     fn take(
@@ -40,8 +68,6 @@ trait Values<S: Source>: Sized {
 
 /// No field.
 impl<S: Source> Values<S> for () {
-    ghost fields = { λ names. no_more };
-
     #[inline(always)]
     fn take(
         &mut self,
@@ -56,8 +82,6 @@ impl<S: Source> Values<S> for () {
 
 /// A field, and those behind it.
 impl<S: Source, T: Deserialize<S> + Drop, V: Values<S>> Values<S> for (Option<T>, V) {
-    ghost fields = { fields_by T.promise V.fields };
-
     #[inline(always)]
     fn take(
         &mut self,
@@ -193,6 +217,37 @@ fn open_fields<S: Source, V: Values<S>>(
 /// of the field for its value, and those of `IgnoredAny` for what is skipped. What was read before
 /// is let go then, and what stands behind it is left.
 impl<S: Source> Deserializer<S> {
+    /// A struct of any number of fields, which have these names. `presences` says of each whether
+    /// it has to be there, and what stands in its place else. `missing` has the words of each, in
+    /// the order of the names, with which a struct is refused that lacks it. The struct is made of
+    /// the values, nested pairs in the order of the names.
+    ///
+    /// # Errors
+    ///
+    /// Besides, `Custom` in the words of the first field that is missing and has to be there. The
+    /// whole struct was taken then.
+    pub fn deserialize_fields<T: From<P::Values>, V: Values<S> + Drop, P: Presences<V>>(
+        &mut self,
+        alloc: Global,
+        name: StaticStr,
+        names: &[StaticStr],
+        missing: &[StaticStr],
+        presences: P,
+    ) -> Result<T, DecodeError<S::Error>>
+        ensures { Deserializes (made_from T.from_gives
+            (made_struct (V.fields names.now) (P.made presences missing.now)))
+            (input S.view self.old) (input S.view self.new) (answer_of result) }
+    {
+        let mut values = V::none();
+        match take_fields(alloc, self, names, &mut values) {
+            Ok(()) => match presences.values(missing, values) {
+                Ok(values) => Ok(T::from(values)),
+                Err(words) => Err(DecodeError::Custom(words)),
+            },
+            Err(error) => Err(error),
+        }
+    }
+
     /// A struct of one field. Of several entries of one name the last counts.
     pub fn deserialize_1_field<A: Deserialize<S> + Drop>(
         &mut self,

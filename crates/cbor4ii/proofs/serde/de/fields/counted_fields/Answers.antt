@@ -10,7 +10,7 @@ use Rattle.cbor4ii.proofs.serde.de.fields.counted_fields.Goals as goal
 pub returns-in_err-take_field : goal.returns-in_err-take_field
 returns-in_err-take_field g c =
     let p = err_from_is_err_and c.from_residual.result c.from_residual.ensures.1 in
-    let fields = g.V.Values.fields c.args.names.now in
+    let fields = g.V.Places.fields c.args.names.now in
     rw (p.1, p.2) (count_err in_list (entry_of fields) (entry_lawful fields)
     c.loop-i.invariant.begun c.loop-i-test.true c.in_err-take_field.ensures)
 
@@ -20,17 +20,17 @@ loop-i-init g c = record {
   begun = record {
     kept = kept_alike _;
     count = refl;
-    parts = no_part (entry_of (g.V.Values.fields c.args.names.now)).reads refl refl;
+    parts = no_part (entry_of (g.V.Places.fields c.args.names.now)).reads refl refl;
   };
   is = refl;
 }
 
 pub loop-i-preserved : goal.loop-i-preserved
 loop-i-preserved g c =
-    counted_more (g.V.Values.fields c.args.names.now) c.loop-i.invariant
+    counted_more (g.V.Places.fields c.args.names.now) c.loop-i.invariant
     c.in_ok-take_field.ensures
 
 pub returns : goal.returns
 returns g c =
-    counted_done (g.V.Values.fields c.args.names.now) c.loop-i.invariant
+    counted_done (g.V.Places.fields c.args.names.now) c.loop-i.invariant
     (omega (arith, c.loop-i-test.false, c.loop-i.auto.i-end))

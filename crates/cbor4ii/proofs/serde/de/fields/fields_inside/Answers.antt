@@ -11,16 +11,16 @@ use Rattle.cbor4ii.proofs.serde.de.fields.fields_inside.Goals as goal
 
 pub returns-in-Ok-Some : goal.returns-in-Ok-Some
 returns-in-Ok-Some g c =
-    let entry = entry_of (g.V.Values.fields c.args.names.now) in
-    alters_behind all_made (g.V.Values.fields c.args.names.now).exact _ _
+    let entry = entry_of (g.V.Places.fields c.args.names.now) in
+    alters_behind all_made (g.V.Places.fields c.args.names.now).exact _ _
     (count_of in_list entry _) (inside_of in_list (codes "map") 5 entry) _
     (answer_of c.counted_fields.result) (counts in_list (codes "map") 5 entry five_small
     c.in-Ok-Some.field-0-is c.in-Ok-Some.ensures) c.counted_fields.ensures
 
 pub returns-in-Ok-None : goal.returns-in-Ok-None
 returns-in-Ok-None g c =
-    let entry = entry_of (g.V.Values.fields c.args.names.now) in
-    alters_behind all_made (g.V.Values.fields c.args.names.now).exact _ _
+    let entry = entry_of (g.V.Places.fields c.args.names.now) in
+    alters_behind all_made (g.V.Places.fields c.args.names.now).exact _ _
     (open_of in_list (codes "map") entry)
     (inside_of in_list (codes "map") 5 entry) _ (answer_of c.open_fields.result)
     (opens in_list (codes "map") 5 entry five_small c.in-Ok-None.field-0-is c.in-Ok-None.ensures)
@@ -28,5 +28,5 @@ returns-in-Ok-None g c =
 
 pub returns-in-Err : goal.returns-in-Err
 returns-in-Err g c =
-    head_err in_list (codes "map") 5 (entry_of (g.V.Values.fields c.args.names.now)) five_small
+    head_err in_list (codes "map") 5 (entry_of (g.V.Places.fields c.args.names.now)) five_small
     (of_exact c.in-Err.ensures)

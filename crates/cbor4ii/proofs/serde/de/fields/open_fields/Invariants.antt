@@ -3,7 +3,7 @@ use Rattle.cbor4ii.proofs.serde.de.fields.open_fields.Given as goal
 
 abbrev pub invariant-loop-alloc : goal.invariant-loop-alloc
 invariant-loop-alloc g l =
-    Unended (g.V.Values.fields l.fn.names) (g.S.Source.view l.fn.de.reader)
+    Unended (g.V.Places.fields l.fn.names) (g.S.Source.view l.fn.de.reader)
     (g.S.Source.view l.de.reader) l.fn.values l.values
 
 abbrev pub decreases-loop-alloc : goal.decreases-loop-alloc

@@ -12,14 +12,14 @@ use Rattle.cbor4ii.proofs.serde.de.fields.take_fields.Goals as goal
 pub returns-then-not-step_in : goal.returns-then-not-step_in
 returns-then-not-step_in g c =
     of_exact (no_step_left (inside_of in_list (codes "map") 5
-    (entry_of (g.V.Values.fields c.args.names.now))) _ (search rules)
+    (entry_of (g.V.Places.fields c.args.names.now))) _ (search rules)
     c.if-not-step_in.ensures.budget c.step_in.ensures.others)
 
 pub returns : goal.returns
 returns g c =
-    alters_under all_made (g.V.Values.fields c.args.names.now).exact _ _
+    alters_under all_made (g.V.Places.fields c.args.names.now).exact _ _
     (inside_of in_list (codes "map") 5
-    (entry_of (g.V.Values.fields c.args.names.now))) (codes "map")
+    (entry_of (g.V.Places.fields c.args.names.now))) (codes "map")
     (answer_of c.fields_inside-outcome.result) c.if-not-step_in.ensures.budget
     c.step_in.ensures.others c.step_out.ensures.others c.step_out.ensures.budget
     c.fields_inside-outcome.ensures

@@ -11,9 +11,9 @@ returns-then-at-gt0 g c name which =
     let some = c.in-len1-up.len_at_least in
     let d = some_name names some in
     let h = is_behind name names c.args.at d some c.if-at-gt0.true which in
-    at_first g.T.Typed.promise g.V.Values.fields names name _ _ _ _ (answer_of c.take.result) d some
+    at_first g.T.Typed.promise g.V.Places.fields names name _ _ _ _ (answer_of c.take.result) d some
     (field_below _ g.T.Typed.promise
-    (g.V.Values.fields (take (length names - 1) (drop 1 names))) _ _ (answer_of c.take.result) _ _
+    (g.V.Places.fields (take (length names - 1) (drop 1 names))) _ _ (answer_of c.take.result) _ _
     _ h.0 refl
     (c.take.ensures name h.1))
 
@@ -23,9 +23,9 @@ returns-in-Ok g c name which =
     let some = c.in-len1-up.len_at_least in
     let d = some_name names some in
     let h = is_first name names c.args.at d some c.if-at-gt0.false which in
-    at_first {U = Unit {0}} g.T.Typed.promise g.V.Values.fields names name _ _ _ _ (Ok tt) d some
+    at_first {U = Unit {0}} g.T.Typed.promise g.V.Places.fields names name _ _ _ _ (Ok tt) d some
     (field_ok _ g.T.Typed.promise
-    (g.V.Values.fields (take (length names - 1) (drop 1 names))) _ _ h refl c.in-Ok.ensures)
+    (g.V.Places.fields (take (length names - 1) (drop 1 names))) _ _ h refl c.in-Ok.ensures)
 
 pub returns-in-Err : goal.returns-in-Err
 returns-in-Err g c name which =
@@ -33,14 +33,14 @@ returns-in-Err g c name which =
     let some = c.in-len1-up.len_at_least in
     let d = some_name names some in
     let h = is_first name names c.args.at d some c.if-at-gt0.false which in
-    at_first {U = Unit {0}} g.T.Typed.promise g.V.Values.fields names name c.args.self.now
+    at_first {U = Unit {0}} g.T.Typed.promise g.V.Places.fields names name c.args.self.now
     c.args.self.now _ _ (Err _) d some
     (field_err _ g.T.Typed.promise
-    (g.V.Values.fields (take (length names - 1) (drop 1 names))) _ _ h c.in-Err.ensures)
+    (g.V.Places.fields (take (length names - 1) (drop 1 names))) _ _ h c.in-Err.ensures)
 
 pub returns-in-empty : goal.returns-in-empty
 returns-in-empty g c name which =
-    at_none g.T.Typed.promise g.V.Values.fields c.args.names.now name _ _ _ _
+    at_none g.T.Typed.promise g.V.Places.fields c.args.names.now name _ _ _ _
     (answer_of c.deserialize_ignored_any.result) c.in-empty.len_below
-    (skips (unnamed g.T.Typed.promise (g.V.Values.fields [])) name c.args.self.now _
+    (skips (unnamed g.T.Typed.promise (g.V.Places.fields [])) name c.args.self.now _
     (answer_of c.deserialize_ignored_any.result) refl refl c.deserialize_ignored_any.ensures.item)

@@ -1,0 +1,302 @@
+-- A variant: its form, its name, and what it holds.
+use Rattle.std.proofs.Common.{◌≡◌, ◌≢◌, ◌-◌, ◌+◌, ◌≤◌, ◌<◌, inl, inr, ℕ, List, drop, take}
+use Rattle.std.proofs.Common.{length, get_or, Bool, true, false, Result, Ok, Err, refl, sym}
+use Rattle.std.proofs.Common.{ap, subst, Option, arith}
+use Rattle.std.specs.Prelude.{◌&&◌, not}
+use denote.Ref.{Bor}
+use Rattle.cbor4ii_rw.specs.View.{View}
+use Rattle.cbor4ii_rw.specs.declared.error.DecodeError.{DecodeError}
+use Rattle.cbor4ii_items.specs.Decoding.{NoneRead, Decodes, DecodesIf}
+use Rattle.cbor4ii_items.specs.Laws.Answering.{fits_zero}
+use Rattle.cbor4ii_items.specs.Laws.Calls.{ok, ok_behind, err_behind, of_exact, accepted}
+use Rattle.cbor4ii_items.specs.Laws.Calls.{exact_less}
+use Rattle.cbor4ii_items.specs.Laws.Containers.{both}
+use Rattle.cbor4ii_items.specs.Laws.Fronts.{drop_more}
+use Rattle.cbor4ii_items.specs.Laws.Running.{kept_alike}
+use Rattle.cbor4ii.specs.declared.serde.de.cases.Choice.{Choice}
+use Rattle.cbor4ii.specs.declared.serde.de.cases.Choice.TheVariants.{First, Other}
+use Rattle.cbor4ii.specs.Cases.{Cases, Holding, reads_by, holding_spelling, case_spelling, case}
+use Rattle.cbor4ii.specs.Cases.{held_case, unnamed_case, cases_by, first_all}
+use Rattle.cbor4ii.specs.Cases.{other_all, reads_named, named_spelling, inside_spelling, form_one}
+use Rattle.cbor4ii.specs.Typed.{Promise, Deserializes}
+use Rattle.cbor4ii.specs.TypedParts.{part_of}
+use Rattle.cbor4ii.specs.Variants.{form_spelling}
+use Rattle.cbor4ii.proofs.Names.{names_split, names_none}
+use Rattle.cbor4ii.proofs.Promised.{tell}
+
+-- ---- what one variant holds
+
+module _ {T E : Type 0} (p : Promise T) {a b : View} where
+  pub held_then : (form : Bool × ℕ) → not form.0 ≡ false → (r : Result T (DecodeError E))
+      → Deserializes p a b r → DecodesIf p.exact (holding_spelling (held_case p) form) a b r
+  held_then (false, first) is r d = cc
+  held_then (true, first) is (Ok v) d =
+      of_exact (ok (holding_spelling (held_case p) (true, first)) d.moves.by (λ some. cc) (record {
+        at = λ xs told. let q = d.sound.at xs told in record {
+          count = q.count;
+          cost = q.cost;
+          read = q.read;
+          fits = q.fits;
+          left = q.left;
+        };
+      }))
+  held_then (true, first) is (Err e) d =
+      err_behind (part_of p) (holding_spelling (held_case p) (true, first)) (kept_alike a)
+      (λ xs told. (
+        xs,
+        told,
+        record {
+          none = λ is none v n c r fits. none v n c r fits;
+          stops = λ z ys h. h;
+          begins = λ z ys h. h;
+        },
+      )) (λ owned. owned) (λ takes. refl) (tell p (Err e) d)
+
+-- ---- one variant, and those behind it
+
+module _ {A B : Type 0} (own : List ℕ) (h : Holding A) (others : Cases B) {name : List ℕ} where
+  none_first : (form : Bool × ℕ) → name ≡ own → (xs : List ℕ) (budget : Option ℕ)
+      → NoneRead (reads_by form h.unit h.content) xs budget
+      → NoneRead (reads_named (case own h others) form name) xs budget
+  none_first (true, first) same xs budget none w n c (inl p) fits =
+      first_all (λ v q. none v n c q fits) w p.1
+  none_first (true, first) same xs budget none w n c (inr p) fits = absurd (p.0 same)
+  none_first (false, first) same xs budget none w n c (inl p, e, f) fits =
+      first_all (λ v q. none v n c (q, e, f) fits) w p.1
+  none_first (false, first) same xs budget none w n c (inr p, e, f) fits = absurd (p.0 same)
+
+  none_other : (form : Bool × ℕ) → name ≢ own → (xs : List ℕ) (budget : Option ℕ)
+      → NoneRead (reads_named others form name) xs budget
+      → NoneRead (reads_named (case own h others) form name) xs budget
+  none_other (true, first) apart xs budget none w n c (inl p) fits = absurd (apart p.0)
+  none_other (true, first) apart xs budget none w n c (inr p) fits =
+      other_all (λ v q. none v n c q fits) w p.1
+  none_other (false, first) apart xs budget none w n c (inl p, e, f) fits = absurd (apart p.0)
+  none_other (false, first) apart xs budget none w n c (inr p, e, f) fits =
+      other_all (λ v q. none v n c (q, e, f) fits) w p.1
+
+  first_read : (form : Bool × ℕ) → name ≡ own → (xs : List ℕ) (v : A) (n c : ℕ)
+      → reads_by form h.unit h.content xs v n c
+      → reads_named (case own h others) form name xs (First v) n c
+  first_read (true, first) same xs v n c r = inl (same, r)
+  first_read (false, first) same xs v n c r = (inl (same, r.0), r.1, r.2)
+
+  other_read : (form : Bool × ℕ) → name ≢ own → (xs : List ℕ) (v : B) (n c : ℕ)
+      → reads_named others form name xs v n c
+      → reads_named (case own h others) form name xs (Other v) n c
+  other_read (true, first) apart xs v n c r = inr (apart, r)
+  other_read (false, first) apart xs v n c r = (inr (apart, r.0), r.1, r.2)
+
+  module _ {E : Type 0} (form : Bool × ℕ) {a b : View} where
+    pub first_ok : {x y : Bool} {v : A} → name ≡ own
+        → DecodesIf {E = E} x (holding_spelling h form) a b (Ok v)
+        → DecodesIf {E = E} y (case_spelling (case own h others) form name) a b (Ok (First v))
+    first_ok {v = v} same d =
+        of_exact (ok (case_spelling (case own h others) form name) d.moves.by (λ some. cc)
+        (record {
+          at = λ xs told. let q = d.sound.at xs told in record {
+            count = q.count;
+            cost = q.cost;
+            read = first_read form same xs v q.count q.cost q.read;
+            fits = q.fits;
+            left = q.left;
+          };
+        }))
+
+    pub first_err : {e : DecodeError E} → name ≡ own
+        → DecodesIf h.exact (holding_spelling h form) a b (Err e)
+        → DecodesIf (h.exact && others.exact) (case_spelling (case own h others) form name) a b
+        (Err e)
+    first_err same d =
+        err_behind (holding_spelling h form) (case_spelling (case own h others) form name)
+        (kept_alike a) (λ xs told. (
+          xs,
+          told,
+          record {
+            none = λ is. none_first form same xs a.budget;
+            stops = λ z ys s. inl (same, s);
+            begins = λ z ys s. inl (same, s);
+          },
+        )) (λ owned. (both h.owned others.owned owned).0) (λ takes. refl)
+        (exact_less (λ is. (both h.exact others.exact is).0) d)
+
+    pub other_ok : {x y : Bool} {v : B} → name ≢ own
+        → DecodesIf {E = E} x (case_spelling others form name) a b (Ok v)
+        → DecodesIf {E = E} y (case_spelling (case own h others) form name) a b (Ok (Other v))
+    other_ok {v = v} apart d =
+        of_exact (ok (case_spelling (case own h others) form name) d.moves.by (λ some. cc)
+        (record {
+          at = λ xs told. let q = d.sound.at xs told in record {
+            count = q.count;
+            cost = q.cost;
+            read = other_read form apart xs v q.count q.cost q.read;
+            fits = q.fits;
+            left = q.left;
+          };
+        }))
+
+    pub other_err : {e : DecodeError E} → name ≢ own
+        → DecodesIf others.exact (case_spelling others form name) a b (Err e)
+        → DecodesIf (h.exact && others.exact) (case_spelling (case own h others) form name) a b
+        (Err e)
+    other_err apart d =
+        err_behind (case_spelling others form name) (case_spelling (case own h others) form name)
+        (kept_alike a) (λ xs told. (
+          xs,
+          told,
+          record {
+            none = λ is. none_other form apart xs a.budget;
+            stops = λ z ys s. inr (apart, s);
+            begins = λ z ys s. inr (apart, s);
+          },
+        )) (λ owned. (both h.owned others.owned owned).1) (λ takes. refl)
+        (exact_less (λ is. (both h.exact others.exact is).1) d)
+
+-- no variant of these names
+module _ {A B : Type 0} (h : Holding A) (others : Cases B) (name : List ℕ) where
+  none_unnamed : (form : Bool × ℕ) (xs : List ℕ) (budget : Option ℕ)
+      → NoneRead (reads_named others form name) xs budget
+      → NoneRead (reads_named (unnamed_case h others) form name) xs budget
+  none_unnamed (true, first) xs budget none w n c r fits =
+      other_all (λ v q. none v n c q fits) w r
+  none_unnamed (false, first) xs budget none w n c (r, e, f) fits =
+      other_all (λ v q. none v n c (q, e, f) fits) w r
+
+  unnamed_read : (form : Bool × ℕ) (xs : List ℕ) (v : B) (n c : ℕ)
+      → reads_named others form name xs v n c
+      → reads_named (unnamed_case h others) form name xs (Other v) n c
+  unnamed_read (true, first) xs v n c r = r
+  unnamed_read (false, first) xs v n c r = r
+
+  module _ {E : Type 0} (form : Bool × ℕ) {a b : View} where
+    pub unnamed_ok : {x y : Bool} {v : B}
+        → DecodesIf {E = E} x (case_spelling others form name) a b (Ok v)
+        → DecodesIf {E = E} y (case_spelling (unnamed_case h others) form name) a b
+        (Ok (Other v))
+    unnamed_ok {v = v} d =
+        of_exact (ok (case_spelling (unnamed_case h others) form name) d.moves.by (λ some. cc)
+        (record {
+          at = λ xs told. let q = d.sound.at xs told in record {
+            count = q.count;
+            cost = q.cost;
+            read = unnamed_read form xs v q.count q.cost q.read;
+            fits = q.fits;
+            left = q.left;
+          };
+        }))
+
+    pub unnamed_err : {e : DecodeError E}
+        → DecodesIf others.exact (case_spelling others form name) a b (Err e)
+        → DecodesIf (h.exact && others.exact) (case_spelling (unnamed_case h others) form name)
+        a b (Err e)
+    unnamed_err d =
+        err_behind (case_spelling others form name)
+        (case_spelling (unnamed_case h others) form name) (kept_alike a) (λ xs told. (
+          xs,
+          told,
+          record {
+            none = λ is. none_unnamed form xs a.budget;
+            stops = λ z ys s. s;
+            begins = λ z ys s. s;
+          },
+        )) (λ owned. (both h.owned others.owned owned).1) (λ takes. refl)
+        (exact_less (λ is. (both h.exact others.exact is).1) d)
+
+-- ---- the form, and what comes behind it
+
+module _ {V E : Type 0} (cases : Cases V) {a m : View} where
+  pub form_err : {x : Bool} {e : DecodeError E} → Decodes form_spelling a m (Err e)
+      → DecodesIf x (inside_spelling cases) a m (Err e)
+  form_err d =
+      err_behind form_spelling (inside_spelling cases) (kept_alike a) (λ xs told. (
+        xs,
+        told,
+        record {
+          none = λ is none v n c q fits. none q.form q.size 0 q.seen (fits_zero a.budget);
+          stops = λ z ys. inl;
+          begins = λ z ys. inl;
+        },
+      )) (λ owned. refl) (λ takes. refl) (of_exact d)
+
+  module _ (form : Bool × ℕ) (d : Decodes {E = E} form_spelling a m (Ok form)) where
+    no_named : (xs : List ℕ) (i k : ℕ) → form_spelling.reads xs form i k
+        → NoneRead (named_spelling cases form).reads (drop i xs) a.budget
+        → NoneRead (inside_spelling cases).reads xs a.budget
+    no_named xs i k seen none v n c q fits =
+        let e = form_one xs q.form form q.size i q.seen (seen.0, seen.1, refl) in
+        none v q.between c
+        (subst (λ (f : Bool × ℕ). (named_spelling cases f).reads (drop i xs) v q.between c) e.0
+        (subst (λ j. (named_spelling cases q.form).reads (drop j xs) v q.between c) e.1 q.named))
+        fits
+
+    pub form_then : {x : Bool} {b : View} (r : Result V (DecodeError E))
+        → DecodesIf x (named_spelling cases form) m b r
+        → DecodesIf x (inside_spelling cases) a b r
+    form_then (Ok v) h = of_exact (
+        ok_behind (named_spelling cases form) (inside_spelling cases) d.moves.by (λ xs told.
+        let p = d.sound.at xs told in (
+          drop p.count xs,
+          p.left,
+          λ n c r fits. record {
+            count = p.count + n;
+            cost = c;
+            read = record {
+              form = form;
+              size = p.count;
+              seen = (p.read.0, p.read.1, refl);
+              between = n;
+              named = r;
+              whole = refl;
+            };
+            fits = fits;
+            left = drop_more n p.count xs;
+          },
+        )) (λ some. omega (arith, h.progress refl, d.moves.by.bound)) (accepted h))
+    form_then (Err e) h =
+        err_behind (named_spelling cases form) (inside_spelling cases) d.moves.by (λ xs told.
+        let p = d.sound.at xs told in (
+          drop p.count xs,
+          p.left,
+          record {
+            none = λ is. no_named xs p.count p.cost p.read;
+            stops = λ z ys s. inr (record {
+              form = form;
+              size = p.count;
+              seen = (p.read.0, p.read.1, refl);
+              stop = s;
+            });
+            begins = λ z ys s. inr (record {
+              form = form;
+              size = p.count;
+              seen = (p.read.0, p.read.1, refl);
+              stop = s;
+            });
+          },
+        )) (λ owned. owned) (λ takes. refl) h
+
+-- ---- by the names
+
+module _ {A B E : Type 0} (h : Holding A) (others : List (Bor (List ℕ)) → Cases B)
+    (names : List (Bor (List ℕ))) (form : Bool × ℕ) (name : List ℕ) {a b : View}
+    {r : Result (Choice A B) (DecodeError E)} where
+  pub cases_first : (d : Bor (List ℕ)) → 1 ≤ length names
+      → DecodesIf (h.exact && (others (take (length names - 1) (drop 1 names))).exact)
+      (case_spelling (case (get_or names 0 d).now h
+      (others (take (length names - 1) (drop 1 names)))) form name) a b r
+      → DecodesIf (cases_by h others names).exact
+      (case_spelling (cases_by h others names) form name) a b r
+  cases_first d some =
+      subst (λ (cases : Cases (Choice A B)). DecodesIf cases.exact (case_spelling cases form name) a
+      b r) (ap (cases_by h others) (sym (names_split names d some)))
+
+  pub cases_none : length names < 1
+      → DecodesIf (h.exact && (others names).exact)
+      (case_spelling (unnamed_case h (others names)) form name) a b r
+      → DecodesIf (cases_by h others names).exact
+      (case_spelling (cases_by h others names) form name) a b r
+  cases_none less =
+      subst (λ (zs : List (Bor (List ℕ))). DecodesIf (h.exact && (others zs).exact)
+      (case_spelling (unnamed_case h (others zs)) form name) a b r
+      → DecodesIf (cases_by h others zs).exact (case_spelling (cases_by h others zs) form name) a b
+      r)
+      (sym (names_none names less)) (λ d. d)

@@ -1,0 +1,101 @@
+-- A name, and what stands behind it.
+use Rattle.std.proofs.Common.{◌+◌, inl, inr, ℕ, List, drop, Result, Ok, Err, Bool, max, refl}
+use Rattle.std.proofs.Common.{subst, arith}
+use Rattle.std.specs.declared.alloc.Global.{Global}
+use Rattle.std.specs.declared.string.String.{String}
+use Rattle.cbor4ii_rw.specs.View.{View}
+use Rattle.cbor4ii_rw.specs.declared.error.DecodeError.{DecodeError}
+use Rattle.cbor4ii_items.specs.Decoding.{Reads, NoneRead, Decodes, DecodesIf}
+use Rattle.cbor4ii_items.specs.Strings.{text_content}
+use Rattle.cbor4ii_items.specs.Laws.Calls.{ok_behind, err_behind, of_exact, accepted}
+use Rattle.cbor4ii_items.specs.Laws.Fronts.{drop_more}
+use Rattle.cbor4ii_items.specs.Laws.Pairs.{less_max_left, less_max_right}
+use Rattle.cbor4ii_items.specs.Laws.Running.{kept_alike}
+use Rattle.cbor4ii_items.specs.Laws.SequenceParts.{fits_less, fits_max}
+use Rattle.cbor4ii.specs.Fields.{StopsNamed, name_laws, name_spelling, named_part, named_entry}
+
+module _ {W E : Type 0} (named : List ℕ → Reads W) (stops : StopsNamed) (same : W → W → Type 0)
+    (owned : Bool) {a m : View} where
+  pub name_err : {exact : Bool} {e : DecodeError E} → Decodes name_spelling a m (Err e)
+      → DecodesIf exact (named_entry named stops same owned) a m (Err e)
+  name_err d =
+      err_behind name_spelling (named_entry named stops same owned) (kept_alike a) (λ xs told. (
+        xs,
+        told,
+        record {
+          none = λ is none g n c q fits. none q.0 q.1.key_size q.1.key_cost q.1.key
+              (fits_less q.1.key_cost c a.budget
+              (less_max_left c q.1.key_cost q.1.value_cost q.1.cost) fits);
+          stops = λ z ys. inl;
+          begins = λ z ys. inl;
+        },
+      )) (λ owned. refl) (λ takes. takes) (of_exact d)
+
+  module _ {name : String Global} (d : Decodes {E = E} name_spelling a m (Ok name)) where
+    no_value : (xs : List ℕ) (i k : ℕ) → name_spelling.reads xs name i k
+        → NoneRead (named (text_content name)) (drop i xs) a.budget
+        → NoneRead (named_entry named stops same owned).reads xs a.budget
+    no_value xs i k read none g n c q fits =
+        let is = name_laws.one xs q.0 name q.1.key_size i q.1.key_cost k q.1.key read in
+        none g q.1.value_size q.1.value_cost
+        (subst (λ z. named z (drop i xs) g q.1.value_size q.1.value_cost) is.2
+        (subst (λ j. named (text_content q.0) (drop j xs) g q.1.value_size q.1.value_cost) is.0
+        q.1.value))
+        (fits_less q.1.value_cost c a.budget
+        (less_max_right c q.1.key_cost q.1.value_cost q.1.cost) fits)
+
+    pub entry_then : {exact : Bool} {b : View} (r : Result W (DecodeError E))
+        → DecodesIf exact (named_part named stops same owned (text_content name)) m b r
+        → DecodesIf exact (named_entry named stops same owned) a b r
+    entry_then {b = b} (Ok w) h = of_exact (
+        ok_behind (named_part named stops same owned (text_content name))
+        (named_entry named stops same owned) d.moves.by (λ xs told.
+        let p = d.sound.at xs told in (
+          drop p.count xs,
+          p.left,
+          λ n c r fits. record {
+            count = p.count + n;
+            cost = max p.cost c;
+            read = (
+              name,
+              record {
+                key_size = p.count;
+                key_cost = p.cost;
+                key = p.read;
+                value_size = n;
+                value_cost = c;
+                value = r;
+                size = refl;
+                cost = refl;
+              },
+            );
+            fits = fits_max p.cost c a.budget p.fits fits;
+            left = drop_more n p.count xs;
+          },
+        )) (λ some. omega (arith, d.progress refl, h.moves.by.bound)) (accepted h))
+    entry_then (Err e) h =
+        err_behind (named_part named stops same owned (text_content name))
+        (named_entry named stops same owned) d.moves.by (λ xs told.
+        let p = d.sound.at xs told in (
+          drop p.count xs,
+          p.left,
+          record {
+            none = λ is. no_value xs p.count p.cost p.read;
+            stops = λ z ys h. inr (record {
+              whole = name;
+              size = p.count;
+              cost = p.cost;
+              name = p.read;
+              fits = p.fits;
+              stop = h;
+            });
+            begins = λ z ys h. inr (record {
+              whole = name;
+              size = p.count;
+              cost = p.cost;
+              name = p.read;
+              fits = p.fits;
+              stop = h;
+            });
+          },
+        )) (λ o. o) (λ takes. refl) h

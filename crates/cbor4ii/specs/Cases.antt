@@ -1,0 +1,370 @@
+-- What an enum that is read in one call promises, by what its variants hold.
+use Rattle.std.proofs.Common.{◌≡◌, ◌≢◌, ◌⊎◌, inl, inr, ℕ, List, [], ◌∷◌, drop, length, ◌≤◌}
+use Rattle.std.proofs.Common.{Option, Bool, true, false, IsTrue, refl, sym, subst, ap, ◌∙◌, ◌+◌}
+use Rattle.std.proofs.Common.{arith}
+use Rattle.std.proofs.lemmas.List.{length-drop}
+use Rattle.std.specs.Prelude.{◌&&◌, codes}
+use denote.Ref.{Bor}
+use Rattle.cbor4ii_items.specs.Decoding.{Reads, StopsAt, Spelling, IsLawful}
+use Rattle.cbor4ii_items.specs.Laws.Containers.{both}
+use Rattle.cbor4ii_items.specs.Laws.Sequences.{one_byte}
+use Rattle.cbor4ii_items.specs.Refusal.{Refusal, mismatch}
+use Rattle.cbor4ii.specs.declared.serde.de.cases.Choice.{Choice}
+use Rattle.cbor4ii.specs.declared.serde.de.cases.Choice.TheVariants.{First, Other}
+use Rattle.cbor4ii.specs.Fields.{ReadsEntry, StopsEntry, StopsNamed, entry_laws, named_part}
+use Rattle.cbor4ii.specs.Fields.{named_entry}
+use Rattle.cbor4ii.specs.Stepped.{stepped_spelling, stepped_lawful}
+use Rattle.cbor4ii.specs.Typed.{Promise, Lawful, typed_spelling, lawful_as, typed_laws, said_by}
+use Rattle.cbor4ii.specs.Typed.{any_two, in_words, not_exact}
+use Rattle.cbor4ii.specs.TypedParts.{container}
+use Rattle.cbor4ii.specs.Variants.{ReadsForm, StopsForm, StopsContent}
+
+-- ---- one variant
+
+-- what a variant holds, as a value of this type
+pub record Holding (V : Type 0) : Type 1 where
+  -- its name alone stands for the value
+  pub unit : V → Type 0
+  -- the content that stands for it
+  pub content : Reads V
+  -- how it is refused behind its name, by the form of the variant
+  pub stops : Bool × ℕ → StopsAt
+  pub same : V → V → Type 0
+  pub owned : Bool
+  pub exact : Bool
+  pub unit_one : (v w : V) → unit v → unit w → same v w
+  pub lawful : IsTrue exact → Lawful content same false
+
+-- behind a name, by the form: nothing, or a content
+abbrev pub reads_by : {V : Type 0} → Bool × ℕ → (V → Type 0) → Reads V → Reads V
+reads_by form unit content xs v n c = elim form.0 [
+  | true ↦ content xs v n c
+  | false ↦ unit v × (n ≡ 0) × (c ≡ 0)
+]
+
+abbrev pub holding_spelling : {V : Type 0} → Holding V → Bool × ℕ → Spelling V
+holding_spelling h form = named_part (λ name. reads_by form h.unit h.content)
+    (λ name. h.stops form) h.same h.owned []
+
+-- a content that no variant has
+abbrev pub no_content : {V : Type 0} → Reads V
+no_content xs v n c = ⊥
+
+pub no_content_laws : {V : Type 0} (same : V → V → Type 0) → Lawful (no_content {V = V}) same false
+no_content_laws same = record {
+  one = λ xs v w n m c d p q. absurd p;
+  within = λ xs v n c p. absurd p;
+  positive = not_exact;
+  alone = not_exact;
+}
+
+-- it has a content, and is refused by its first byte; nothing is taken
+abbrev pub StopsUnitCase : Bool × ℕ → StopsAt
+StopsUnitCase form xs budget refusal rest =
+    IsTrue form.0 × (refusal ≡ mismatch (codes "enum") form.1) × (rest ≡ xs)
+
+-- its name alone
+abbrev pub unit_case : Holding (Unit {0})
+unit_case = record {
+  unit = λ v. Unit {0};
+  content = no_content;
+  stops = StopsUnitCase;
+  same = any_two;
+  owned = true;
+  exact = true;
+  unit_one = λ v w p q. tt;
+  lawful = λ is. no_content_laws any_two;
+}
+
+pub some_laws : {V : Type 0} {reads : Reads V} {same : V → V → Type 0} → Lawful reads same true
+    → Lawful reads same false
+some_laws h = record { one = h.one; within = h.within; positive = not_exact; alone = not_exact }
+
+-- a value of this type
+abbrev pub held_case : {V : Type 0} → Promise V → Holding V
+held_case p = record {
+  unit = λ v. ⊥;
+  content = p.spelling.reads;
+  stops = λ form. StopsContent form (said_by p);
+  same = p.spelling.same;
+  owned = p.spelling.owned;
+  exact = p.exact;
+  unit_one = λ v w q r. absurd q;
+  lawful = λ is. some_laws (typed_laws p is);
+}
+
+-- ---- all variants
+
+-- the variants of an enum, by their names
+pub record Cases (V : Type 0) : Type 1 where
+  pub units : List ℕ → V → Type 0
+  pub contents : List ℕ → Reads V
+  pub stops : List ℕ → Bool × ℕ → StopsAt
+  pub same : V → V → Type 0
+  pub owned : Bool
+  pub exact : Bool
+  pub unit_one : (name : List ℕ) (v w : V) → units name v → units name w → same v w
+  pub laws : IsTrue exact → (name : List ℕ) → Lawful (contents name) same false
+
+-- what stands behind each name, by the form
+abbrev pub reads_named : {V : Type 0} → Cases V → Bool × ℕ → List ℕ → Reads V
+reads_named cases form name = reads_by form (cases.units name) (cases.contents name)
+
+abbrev pub stops_named : {V : Type 0} → Cases V → Bool × ℕ → StopsNamed
+stops_named cases form name = cases.stops name form
+
+abbrev pub case_spelling : {V : Type 0} → Cases V → Bool × ℕ → List ℕ → Spelling V
+case_spelling cases form =
+    named_part (reads_named cases form) (stops_named cases form) cases.same cases.owned
+
+-- every name is refused in these words, and what stands behind it stays
+abbrev pub otherwise : {V : Type 0} → List ℕ → Cases V
+otherwise words = record {
+  units = λ name v. ⊥;
+  contents = λ name. no_content;
+  stops = λ name form xs budget refusal rest. (refusal ≡ in_words words) × (rest ≡ xs);
+  same = any_two;
+  owned = true;
+  exact = true;
+  unit_one = λ name v w p q. tt;
+  laws = λ is name. no_content_laws any_two;
+}
+
+-- it is of the first variant, and such
+abbrev pub FirstAnd : {A B : Type 0} → (A → Type 0) → Choice A B → Type 0
+FirstAnd P (First v) = P v
+FirstAnd P (Other v) = ⊥
+
+-- it is of another one, and such
+abbrev pub OtherAnd : {A B : Type 0} → (B → Type 0) → Choice A B → Type 0
+OtherAnd P (First v) = ⊥
+OtherAnd P (Other v) = P v
+
+abbrev pub SameChoice : {A B : Type 0} → (A → A → Type 0) → (B → B → Type 0) → Choice A B
+    → Choice A B → Type 0
+SameChoice same others (First v) (First w) = same v w
+SameChoice same others (First v) (Other w) = ⊥
+SameChoice same others (Other v) (First w) = ⊥
+SameChoice same others (Other v) (Other w) = others v w
+
+pub first_one : {A B : Type 0} (P Q : A → Type 0) (same : A → A → Type 0) (others : B → B → Type 0)
+    → ((v w : A) → P v → Q w → same v w) → (v w : Choice A B) → FirstAnd P v → FirstAnd Q w
+    → SameChoice same others v w
+first_one P Q same others one (First v) (First w) p q = one v w p q
+first_one P Q same others one (First v) (Other w) p q = absurd q
+first_one P Q same others one (Other v) w p q = absurd p
+
+pub other_one : {A B : Type 0} (P Q : B → Type 0) (same : A → A → Type 0) (others : B → B → Type 0)
+    → ((v w : B) → P v → Q w → others v w) → (v w : Choice A B) → OtherAnd P v → OtherAnd Q w
+    → SameChoice same others v w
+other_one P Q same others one (Other v) (Other w) p q = one v w p q
+other_one P Q same others one (Other v) (First w) p q = absurd q
+other_one P Q same others one (First v) w p q = absurd p
+
+pub first_all : {A B : Type 0} {P : A → Type 0} {R : Type 0} → ((v : A) → P v → R)
+    → (v : Choice A B) → FirstAnd P v → R
+first_all all (First v) p = all v p
+first_all all (Other v) p = absurd p
+
+pub other_all : {A B : Type 0} {P : B → Type 0} {R : Type 0} → ((v : B) → P v → R)
+    → (v : Choice A B) → OtherAnd P v → R
+other_all all (First v) p = absurd p
+other_all all (Other v) p = all v p
+
+-- where the name is this one the first holds, and behind any other the second
+abbrev pub ByName : List ℕ → List ℕ → Type 0 → Type 0 → Type 0
+ByName own name P Q = ((name ≡ own) × P) ⊎ ((name ≢ own) × Q)
+
+module _ {A B : Type 0} (own : List ℕ) (h : Holding A) (others : Cases B) where
+  pub contents_one : IsTrue (h.exact && others.exact) → (name xs : List ℕ) (v w : Choice A B)
+      (n m c d : ℕ)
+      → ByName own name (FirstAnd (λ a. h.content xs a n c) v)
+      (OtherAnd (λ b. others.contents name xs b n c) v)
+      → ByName own name (FirstAnd (λ a. h.content xs a m d) w)
+      (OtherAnd (λ b. others.contents name xs b m d) w)
+      → (n ≡ m) × (c ≡ d) × SameChoice h.same others.same v w
+  contents_one is name xs (First v) (First w) n m c d (inl p) (inl q) =
+      (h.lawful (both h.exact others.exact is).0).one xs v w n m c d p.1 q.1
+  contents_one is name xs (First v) (Other w) n m c d (inl p) (inl q) = absurd q.1
+  contents_one is name xs (Other v) w n m c d (inl p) (inl q) = absurd p.1
+  contents_one is name xs v w n m c d (inl p) (inr q) = absurd (q.0 p.0)
+  contents_one is name xs v w n m c d (inr p) (inl q) = absurd (p.0 q.0)
+  contents_one is name xs (Other v) (Other w) n m c d (inr p) (inr q) =
+      (others.laws (both h.exact others.exact is).1 name).one xs v w n m c d p.1 q.1
+  contents_one is name xs (Other v) (First w) n m c d (inr p) (inr q) = absurd q.1
+  contents_one is name xs (First v) w n m c d (inr p) (inr q) = absurd p.1
+
+  pub contents_within : IsTrue (h.exact && others.exact) → (name xs : List ℕ) (v : Choice A B)
+      (n c : ℕ) → ByName own name (FirstAnd (λ a. h.content xs a n c) v)
+      (OtherAnd (λ b. others.contents name xs b n c) v) → n ≤ length xs
+  contents_within is name xs v n c (inl p) =
+      first_all (λ a q. (h.lawful (both h.exact others.exact is).0).within xs a n c q) v p.1
+  contents_within is name xs v n c (inr p) =
+      other_all (λ b q. (others.laws (both h.exact others.exact is).1 name).within xs b n c q) v p.1
+
+  pub units_one : (name : List ℕ) (v w : Choice A B)
+      → ByName own name (FirstAnd h.unit v) (OtherAnd (others.units name) v)
+      → ByName own name (FirstAnd h.unit w) (OtherAnd (others.units name) w)
+      → SameChoice h.same others.same v w
+  units_one name v w (inl p) (inl q) =
+      first_one h.unit h.unit h.same others.same h.unit_one v w p.1 q.1
+  units_one name v w (inl p) (inr q) = absurd (q.0 p.0)
+  units_one name v w (inr p) (inl q) = absurd (p.0 q.0)
+  units_one name v w (inr p) (inr q) =
+      other_one (others.units name) (others.units name) h.same others.same (others.unit_one name) v
+      w p.1 q.1
+
+  -- a variant of this name, and others behind it
+  abbrev pub case : Cases (Choice A B)
+  case = record {
+    units = λ name v. ByName own name (FirstAnd h.unit v) (OtherAnd (others.units name) v);
+    contents = λ name xs v n c. ByName own name (FirstAnd (λ a. h.content xs a n c) v)
+        (OtherAnd (λ b. others.contents name xs b n c) v);
+    stops = λ name form xs budget refusal rest. ByName own name
+        (h.stops form xs budget refusal rest) (others.stops name form xs budget refusal rest);
+    same = SameChoice h.same others.same;
+    owned = h.owned && others.owned;
+    exact = h.exact && others.exact;
+    unit_one = units_one;
+    laws = λ is name. record {
+      one = contents_one is name;
+      within = contents_within is name;
+      positive = not_exact;
+      alone = not_exact;
+    };
+  }
+
+module _ {A B : Type 0} (h : Holding A) (others : Cases B) where
+  pub lifted_one : IsTrue (h.exact && others.exact) → (name xs : List ℕ) (v w : Choice A B)
+      (n m c d : ℕ) → OtherAnd (λ b. others.contents name xs b n c) v
+      → OtherAnd (λ b. others.contents name xs b m d) w
+      → (n ≡ m) × (c ≡ d) × SameChoice h.same others.same v w
+  lifted_one is name xs (Other v) (Other w) n m c d p q =
+      (others.laws (both h.exact others.exact is).1 name).one xs v w n m c d p q
+  lifted_one is name xs (Other v) (First w) n m c d p q = absurd q
+  lifted_one is name xs (First v) w n m c d p q = absurd p
+
+  -- the others alone: a variant that no name has
+  abbrev pub unnamed_case : Cases (Choice A B)
+  unnamed_case = record {
+    units = λ name. OtherAnd (others.units name);
+    contents = λ name xs v n c. OtherAnd (λ b. others.contents name xs b n c) v;
+    stops = others.stops;
+    same = SameChoice h.same others.same;
+    owned = h.owned && others.owned;
+    exact = h.exact && others.exact;
+    unit_one = λ name. other_one (others.units name) (others.units name) h.same others.same
+        (others.unit_one name);
+    laws = λ is name. record {
+      one = lifted_one is name;
+      within = λ xs v n c p.
+          other_all (λ b q.
+          (others.laws (both h.exact others.exact is).1 name).within xs b n c q) v p;
+      positive = not_exact;
+      alone = not_exact;
+    };
+  }
+
+-- variants by their names: one, and then others
+abbrev pub cases_by : {A B : Type 0} → Holding A → (List (Bor (List ℕ)) → Cases B)
+    → List (Bor (List ℕ)) → Cases (Choice A B)
+cases_by h others [] = unnamed_case h (others [])
+cases_by h others (own ∷ names) = case own.now h (others names)
+
+-- ---- a whole variant
+
+-- a name, and what stands behind it, by the form
+abbrev pub named_spelling : {V : Type 0} → Cases V → Bool × ℕ → Spelling V
+named_spelling cases form =
+    named_entry (reads_named cases form) (stops_named cases form) cases.same cases.owned
+
+-- its form is seen, and then its name and what stands behind that are read
+pub record ReadsCase {V : Type 0} (cases : Cases V) (xs : List ℕ) (v : V) (n c : ℕ) : Type 0 where
+  pub form : Bool × ℕ
+  pub size : ℕ
+  pub seen : ReadsForm xs form size 0
+  pub between : ℕ
+  pub named : ReadsEntry (reads_named cases form) (drop size xs) v between c
+  pub whole : n ≡ size + between
+
+-- its form is seen, and its name, or what stands behind that, is refused
+pub record StopsBehindForm {V : Type 0} (cases : Cases V) (xs : List ℕ) (budget : Option ℕ)
+    (refusal : Refusal) (rest : List ℕ) : Type 0 where
+  pub form : Bool × ℕ
+  pub size : ℕ
+  pub seen : ReadsForm xs form size 0
+  pub stop : StopsEntry (stops_named cases form) (drop size xs) budget refusal rest
+
+-- it has neither form, or what comes behind its form is refused
+abbrev pub StopsCase : {V : Type 0} → Cases V → StopsAt
+StopsCase cases xs budget refusal rest =
+    StopsForm xs budget refusal rest ⊎ StopsBehindForm cases xs budget refusal rest
+
+abbrev pub inside_spelling : {V : Type 0} → Cases V → Spelling V
+inside_spelling cases =
+    typed_spelling (ReadsCase cases) cases.same (StopsCase cases) cases.owned true
+
+-- one form is seen in one way
+pub form_one : (xs : List ℕ) (f g : Bool × ℕ) (n m : ℕ) → ReadsForm xs f n 0 → ReadsForm xs g m 0
+    → (f ≡ g) × (n ≡ m)
+form_one xs (true, a) (true, b) n m p q =
+    let same : a ≡ b = cc in (ap (λ k. (true, k)) same, p.1.1 ∙ sym q.1.1)
+form_one xs (true, a) (false, b) n m p q =
+    let same : a ≡ b = cc in absurd (omega (arith, p.1.0, q.1.0, same))
+form_one xs (false, a) (true, b) n m p q =
+    let same : a ≡ b = cc in absurd (omega (arith, p.1.0, q.1.0, same))
+form_one xs (false, a) (false, b) n m p q =
+    let same : a ≡ b = cc in (ap (λ k. (false, k)) same, p.1.1 ∙ sym q.1.1)
+
+form_within : (xs : List ℕ) (f : Bool × ℕ) (n : ℕ) → ReadsForm xs f n 0 → n ≤ length xs
+form_within xs (true, a) n p = omega (arith, p.1.1, one_byte xs a p.0)
+form_within xs (false, a) n p = omega (arith, p.1.1)
+
+module _ {V : Type 0} (cases : Cases V) (is : IsTrue cases.exact) where
+  behind_laws : (form : Bool × ℕ) (name : List ℕ)
+      → Lawful (reads_named cases form name) cases.same false
+  behind_laws (true, first) name = cases.laws is name
+  behind_laws (false, first) name = record {
+    one = λ xs v w n m c d p q.
+        (p.1 ∙ sym q.1, p.2 ∙ sym q.2, cases.unit_one name v w p.0 q.0);
+    within = λ xs v n c p. omega (arith, p.1);
+    positive = not_exact;
+    alone = not_exact;
+  }
+
+  named_laws : (form : Bool × ℕ) → Lawful (ReadsEntry (reads_named cases form)) cases.same true
+  named_laws form = entry_laws cases.same (reads_named cases form) (behind_laws form)
+
+  case_one : (xs : List ℕ) (v w : V) (n m c d : ℕ) → ReadsCase cases xs v n c
+      → ReadsCase cases xs w m d → (n ≡ m) × (c ≡ d) × cases.same v w
+  case_one xs v w n m c d p q =
+      let f = form_one xs p.form q.form p.size q.size p.seen q.seen in
+      let moved = subst (λ (form : Bool × ℕ). ReadsEntry (reads_named cases form)
+      (drop p.size xs) v p.between c) f.0 p.named in
+      let e = (named_laws q.form).one (drop q.size xs) v w p.between q.between c d
+      (subst (λ j. ReadsEntry (reads_named cases q.form) (drop j xs) v p.between c) f.1 moved)
+      q.named in
+      (omega (arith, p.whole, q.whole, f.1, e.0), e.1, e.2)
+
+  pub case_lawful : IsLawful (inside_spelling cases)
+  case_lawful = lawful_as (record {
+    one = case_one;
+    within = λ xs v n c p. omega (
+      arith,
+      p.whole,
+      form_within xs p.form p.size p.seen,
+      (named_laws p.form).within (drop p.size xs) v p.between c p.named,
+      length-drop p.size xs,
+    );
+    positive = λ e xs v n c p. omega (
+      arith,
+      p.whole,
+      (named_laws p.form).positive e (drop p.size xs) v p.between c p.named,
+    );
+    alone = not_exact;
+  })
+
+-- an enum of these variants, under a step
+abbrev pub enum_of : {V : Type 0} → Cases V → Promise V
+enum_of cases = container cases.exact (stepped_spelling (codes "enum") (inside_spelling cases)) refl
+    (λ is. stepped_lawful (codes "enum") (inside_spelling cases) (case_lawful cases is))

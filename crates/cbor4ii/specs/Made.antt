@@ -1,0 +1,93 @@
+-- Values that are made of other values, or refused in words.
+use Rattle.std.proofs.Common.{◌≡◌, ◌⊎◌, ℕ, List, drop, Option, Result, Ok, Err, refl}
+use Rattle.cbor4ii_items.specs.Decoding.{Reads, StopsAt, CostFits, Spelling, IsLawful}
+use Rattle.cbor4ii_items.specs.Refusal.{Refusal}
+use Rattle.cbor4ii.specs.Typed.{Promise, typed_spelling, in_words, not_exact}
+
+-- a value is read, and this is made of it; `gives` says what may be
+pub record ReadsMade {V W : Type 0} (reads : Reads V) (gives : V → W → Type 0) (xs : List ℕ) (w : W)
+    (n c : ℕ) : Type 0 where
+  pub part : V
+  pub read : reads xs part n c
+  pub made : gives part w
+
+-- both are made of values that mean the same
+pub record SameMade {V W : Type 0} (same : V → V → Type 0) (gives : V → W → Type 0)
+    (first second : W) : Type 0 where
+  pub first_part : V
+  pub second_part : V
+  pub alike : same first_part second_part
+  pub first_made : gives first_part first
+  pub second_made : gives second_part second
+
+-- what is made of values of this spelling
+abbrev pub made_spelling : {V W : Type 0} → Spelling V → (V → W → Type 0) → StopsAt → Spelling W
+made_spelling s gives stops = typed_spelling (ReadsMade s.reads gives) (SameMade s.same gives) stops
+    s.owned s.takes_memory
+
+pub made_lawful : {V W : Type 0} (p : Promise V) (gives : V → W → Type 0) (stops : StopsAt)
+    → IsLawful p.spelling → IsLawful (made_spelling p.spelling gives stops)
+made_lawful p gives stops h = record {
+  one = λ xs v w n m c d q r. (
+      let e = h.one xs q.part r.part n m c d q.read r.read in (
+        e.0,
+        e.1,
+        record {
+          first_part = q.part;
+          second_part = r.part;
+          alike = e.2;
+          first_made = q.made;
+          second_made = r.made;
+        },
+      ));
+  within = λ xs w n c q. h.within xs q.part n c q.read;
+  positive = λ e xs w n c q. h.positive p.some xs q.part n c q.read;
+  alone = not_exact;
+}
+
+-- a type whose values are made of those of another, and refused as they are
+abbrev pub made_from : {V W : Type 0} → (V → W → Type 0) → Promise V → Promise W
+made_from gives p = record {
+  spelling = made_spelling p.spelling gives p.spelling.begins;
+  exact = p.exact;
+  told = p.told;
+  tells = p.tells;
+  some = refl;
+  lawful = λ is. made_lawful p gives p.spelling.begins (p.lawful is);
+}
+
+-- ---- or refused in words
+
+-- this is made of it, and no words refuse it
+abbrev pub gives_ok : {V W : Type 0} → (V → Result W (List ℕ)) → V → W → Type 0
+gives_ok value v w = value v ≡ Ok w
+
+-- a value is whole, and nothing is made of it
+pub record StopsUnmade {V W : Type 0} (reads : Reads V) (value : V → Result W (List ℕ))
+    (xs : List ℕ) (budget : Option ℕ) (refusal : Refusal) (rest : List ℕ) : Type 0 where
+  pub part : V
+  pub count : ℕ
+  pub cost : ℕ
+  pub read : reads xs part count cost
+  pub fits : CostFits cost budget
+  pub words : List ℕ
+  pub unmade : value part ≡ Err words
+  pub is : refusal ≡ in_words words
+  pub left : rest ≡ drop count xs
+
+-- the part's refusal, or that of a whole part
+abbrev pub StopsMade : {V W : Type 0} → Spelling V → (V → Result W (List ℕ)) → StopsAt
+StopsMade s value xs budget refusal rest =
+    s.begins xs budget refusal rest ⊎ StopsUnmade s.reads value xs budget refusal rest
+
+-- a type whose values are made of those of another, or refused in words
+abbrev pub made_or_refused : {V W : Type 0} → (V → Result W (List ℕ)) → Promise V → Promise W
+made_or_refused value p = record {
+  spelling = made_spelling p.spelling (gives_ok value) (StopsMade p.spelling value);
+  exact = p.exact;
+  told = p.told;
+  tells = p.tells;
+  some = refl;
+  lawful = λ is.
+      made_lawful p (gives_ok value) (StopsMade p.spelling value) (p.lawful is);
+}

@@ -1,0 +1,242 @@
+//! Enums that are read in one call, by what each of their variants holds.
+ghost use Rattle.std.specs.Prelude.{ℕ, List};
+ghost use Rattle.std.specs.Borrow.{Bor};
+ghost use Rattle.cbor4ii_items.specs.Decoding.{DecodesIf};
+ghost use Rattle.cbor4ii.specs.Cases.{Cases as Variants, Holding, holding_spelling, case_spelling};
+ghost use Rattle.cbor4ii.specs.Cases.{unit_case, held_case, otherwise, cases_by, enum_of};
+ghost use Rattle.cbor4ii.specs.Cases.{inside_spelling, named_spelling};
+ghost use Rattle.cbor4ii.specs.Made.{made_from};
+ghost use Rattle.cbor4ii.specs.Names.{StandsAt};
+ghost use Rattle.cbor4ii.specs.Typed.{input, answer_of, Deserializes};
+
+use crate::serde::de::deserialize::Deserialize;
+use crate::serde::de::deserializer::Deserializer;
+use crate::serde::de::enum_accessor::take_form;
+use crate::serde::de::error::DecodeError;
+use crate::serde::de::names::take_name;
+use cbor4ii_rw::error as core_error;
+use cbor4ii_rw::error::{Never, StaticStr};
+use cbor4ii_rw::read::Source;
+use std::alloc::Global;
+
+/// One of two: the value of a variant, or of one behind it.
+#[derive(Debug, PartialEq, Eq, Drop)]
+pub enum Choice<A, B> {
+    /// Of this one.
+    First(A),
+    /// Of one behind it.
+    Other(B),
+}
+
+/// What a variant holds, as a value of type `T`.
+pub trait Case<S: Source, T>: Sized + Drop {
+    // What stands for the value, behind the name and alone.
+    ghost holding: { Holding T };
+
+    /// Reads it behind the name. `form` says whether a content stands there, and the first byte of
+    /// the variant.
+    fn take(
+        self,
+        alloc: Global,
+        form: (bool, u8),
+        de: &mut Deserializer<S>,
+    ) -> Result<T, DecodeError<S::Error>>
+        ensures { DecodesIf holding.exact (holding_spelling holding form)
+            (input S.view de.old) (input S.view de.new) (answer_of result) };
+}
+
+/// A variant that is its name alone.
+#[derive(Debug, Drop)]
+pub struct Unit;
+
+impl<S: Source> Case<S, ()> for Unit {
+    ghost holding = { unit_case };
+
+    #[inline(always)]
+    fn take(
+        self,
+        alloc: Global,
+        form: (bool, u8),
+        de: &mut Deserializer<S>,
+    ) -> Result<(), DecodeError<S::Error>> {
+        if form.0 {
+            return Err(DecodeError::Core(core_error::DecodeError::Mismatch {
+                name: "enum",
+                found: form.1,
+            }));
+        }
+        Ok(())
+    }
+}
+
+/// A variant that holds a value: a tuple where it holds several without names, and a struct where
+/// they have names.
+#[derive(Debug, Drop)]
+pub struct Holds;
+
+impl<S: Source, T: Deserialize<S>> Case<S, T> for Holds {
+    ghost holding = { held_case T.promise };
+
+    #[inline(always)]
+    fn take(
+        self,
+        alloc: Global,
+        form: (bool, u8),
+        de: &mut Deserializer<S>,
+    ) -> Result<T, DecodeError<S::Error>> {
+        if !form.0 {
+            return Err(DecodeError::Core(core_error::DecodeError::Mismatch {
+                name: "enum",
+                found: form.1,
+            }));
+        }
+        T::deserialize(alloc, de)
+    }
+}
+
+/// What the variants of an enum hold, one behind another, in the order of their names: nested
+/// pairs, and behind them `Otherwise`.
+pub trait Cases<S: Source, R>: Sized + Drop {
+    // The variants that have these names.
+    ghost cases: { Self → List (Bor (List ℕ)) → Variants R };
+
+    /// Reads what the variant holds whose name stands at this place among the names.
+    fn take(
+        self,
+        alloc: Global,
+        names: &[StaticStr],
+        at: usize,
+        form: (bool, u8),
+        de: &mut Deserializer<S>,
+    ) -> Result<R, DecodeError<S::Error>>
+        ensures { (name : List ℕ) → StandsAt name names.now at →
+            DecodesIf (cases self names.now).exact (case_spelling (cases self names.now) form name)
+            (input S.view de.old) (input S.view de.new) (answer_of result) };
+}
+
+/// No other variant: every other name is refused in these words.
+#[derive(Debug, Drop)]
+pub struct Otherwise(pub StaticStr);
+
+impl<S: Source> Cases<S, Never> for Otherwise {
+    ghost cases = { λ words names. otherwise words.0.now };
+
+    #[inline(always)]
+    fn take(
+        self,
+        alloc: Global,
+        names: &[StaticStr],
+        at: usize,
+        form: (bool, u8),
+        de: &mut Deserializer<S>,
+    ) -> Result<Never, DecodeError<S::Error>> {
+        Err(DecodeError::Custom(self.0))
+    }
+}
+
+/// A variant, and those behind it.
+impl<S: Source, A: Drop, B: Drop, C: Case<S, A>, D: Cases<S, B>> Cases<S, Choice<A, B>> for (C, D) {
+    ghost cases = { λ cases. cases_by C.holding (D.cases cases.1) };
+
+    #[inline(always)]
+    fn take(
+        self,
+        alloc: Global,
+        names: &[StaticStr],
+        at: usize,
+        form: (bool, u8),
+        de: &mut Deserializer<S>,
+    ) -> Result<Choice<A, B>, DecodeError<S::Error>> {
+        let (case, cases) = self;
+        match names {
+            [_, behind @ ..] => {
+                if at > 0 {
+                    match cases.take(alloc, behind, at - 1, form, de) {
+                        Ok(value) => Ok(Choice::Other(value)),
+                        Err(error) => Err(error),
+                    }
+                } else {
+                    match case.take(alloc, form, de) {
+                        Ok(value) => Ok(Choice::First(value)),
+                        Err(error) => Err(error),
+                    }
+                }
+            }
+            [] => match cases.take(alloc, names, at, form, de) {
+                Ok(value) => Ok(Choice::Other(value)),
+                Err(error) => Err(error),
+            },
+        }
+    }
+}
+
+impl<S: Source> Deserializer<S> {
+    /// An enum: a text, which is the name of a variant that holds nothing, or a map of one entry,
+    /// from the name of a variant to what it holds. `cases` says what each variant holds, in the
+    /// order of the names. The enum's own name is not spelled.
+    ///
+    /// A name is read as a `String`. It takes no memory where it stands whole in what the reader
+    /// shows, behind its length in one byte. The budget is as before, whatever the answer is.
+    ///
+    /// # Errors
+    ///
+    /// Those of `deserialize_enum`. Behind the form, as they come: those of `String` for the name;
+    /// `Custom` in the words of `Otherwise` for another name, which is taken; `Core` of `Mismatch`
+    /// by the name "enum" with the variant's first byte, behind the name, where the variant has the
+    /// other form; and those of what it holds.
+    pub fn deserialize_variant<T: From<R>, R: Drop, C: Cases<S, R>>(
+        &mut self,
+        alloc: Global,
+        name: StaticStr,
+        variants: &[StaticStr],
+        cases: C,
+    ) -> Result<T, DecodeError<S::Error>>
+        ensures { Deserializes (made_from T.from_gives (enum_of (C.cases cases variants.now)))
+            (input S.view self.old) (input S.view self.new) (answer_of result) }
+    {
+        if !self.reader.step_in() {
+            return Err(DecodeError::Core(core_error::DecodeError::DepthOverflow { name: "enum" }));
+        }
+        let outcome = variant_inside(alloc, self, variants, cases);
+        self.reader.step_out();
+        match outcome {
+            Ok(value) => Ok(T::from(value)),
+            Err(error) => Err(error),
+        }
+    }
+}
+
+/// A variant whose step was taken.
+fn variant_inside<S: Source, R: Drop, C: Cases<S, R>>(
+    alloc: Global,
+    de: &mut Deserializer<S>,
+    variants: &[StaticStr],
+    cases: C,
+) -> Result<R, DecodeError<S::Error>>
+    ensures { DecodesIf (C.cases cases variants.now).exact
+        (inside_spelling (C.cases cases variants.now))
+        (input S.view de.old) (input S.view de.new) (answer_of result) }
+{
+    match take_form(&mut de.reader) {
+        Ok(form) => named_variant(alloc, de, variants, form, cases),
+        Err(error) => Err(DecodeError::Core(error)),
+    }
+}
+
+/// The same of a variant whose form was seen.
+fn named_variant<S: Source, R: Drop, C: Cases<S, R>>(
+    alloc: Global,
+    de: &mut Deserializer<S>,
+    variants: &[StaticStr],
+    form: (bool, u8),
+    cases: C,
+) -> Result<R, DecodeError<S::Error>>
+    ensures { DecodesIf (C.cases cases variants.now).exact
+        (named_spelling (C.cases cases variants.now) form)
+        (input S.view de.old) (input S.view de.new) (answer_of result) }
+{
+    match take_name(alloc, de, variants) {
+        Ok(at) => cases.take(alloc, variants, at, form, de),
+        Err(error) => Err(error),
+    }
+}

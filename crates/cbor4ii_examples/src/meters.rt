@@ -1,0 +1,46 @@
+//! A newtype, which is read and written as what it holds.
+ghost use Rattle.std.specs.Prelude.{◌≡◌};
+ghost use Rattle.cbor4ii.specs.Made.{made_from};
+
+use cbor4ii::serde::{
+    DecodeError, Deserialize, Deserializer, EncodeError, Serialize, Serializer, Typed,
+};
+use cbor4ii_rw::read::Source;
+use cbor4ii_rw::write::Write;
+use std::alloc::Global;
+
+/// A length in meters.
+#[derive(Debug, PartialEq, Eq, Drop)]
+pub struct Meters(pub u32);
+
+impl Serialize for Meters {
+    ghost item = { λ m. ⟦<u32 as Serialize>⟧.item m.0 };
+
+    fn serialize<W: Write>(&self, ser: &mut Serializer<W>) -> Result<(), EncodeError<W::Error>> {
+        self.0.serialize(ser)
+    }
+}
+
+impl From<u32> for Meters {
+    ghost from_gives = { λ n m. n ≡ m.0 };
+
+    fn from(meters: u32) -> Meters {
+        Meters(meters)
+    }
+}
+
+impl<S: Source> Deserialize<S> for Meters {
+    fn deserialize(
+        alloc: Global,
+        de: &mut Deserializer<S>,
+    ) -> Result<Meters, DecodeError<S::Error>> {
+        de.deserialize_from::<u32, Meters>(alloc)
+    }
+}
+
+impl Typed for Meters {
+    ghost promise = { made_from (λ n m. n ≡ m.0) ⟦<u32 as Typed>⟧.promise };
+}
+
+#[cfg(test)]
+mod tests;

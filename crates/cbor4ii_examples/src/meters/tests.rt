@@ -1,0 +1,37 @@
+//! Rows of a newtype.
+use crate::meters::Meters;
+use cbor4ii::serde::{DecodeError, Deserialize, Deserializer};
+use cbor4ii_rw::read::Source;
+use cbor4ii_vectors::{mismatch, table};
+use cbor4ii_vectors_de::typed::{Answer, BothTold, Refused, Take, comes_back, refuses, tells};
+use std::alloc::Global;
+use std::test::Fail;
+
+impl Take for Meters {
+    fn take<S: Source>(
+        alloc: Global,
+        de: &mut Deserializer<S>,
+    ) -> Result<Self, DecodeError<S::Error>> {
+        Self::deserialize(alloc, de)
+    }
+}
+
+const LENGTHS: &[BothTold] = table! {
+    (b"\x17", "Is(Meters(23))"),
+    (b"\x19\x01\xf4", "Is(Meters(500))"),
+};
+
+const LENGTHS_REFUSED: &[Refused] = table! {
+    (b"\x20", mismatch!("u32", 32), b""),
+};
+
+#[test]
+fn lengths_are_written_and_read(rt: HostRuntime) -> Result<(), Fail> {
+    tells::<Answer<Meters>>(rt.alloc(), LENGTHS, &[], &[])?;
+    refuses::<Answer<Meters>>(rt.alloc(), LENGTHS_REFUSED)
+}
+
+#[test]
+fn a_vector_of_lengths_comes_back(rt: HostRuntime) -> Result<(), Fail> {
+    comes_back::<Vec<Meters>>(rt.alloc(), b"\x82\x00\x17", "[Meters(0), Meters(23)]")
+}
